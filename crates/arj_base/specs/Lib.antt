@@ -1,0 +1,4 @@
+pub mod Mode
+pub mod Rows
+pub mod State
+pub mod Uid

@@ -1,0 +1,72 @@
+// Small lists that contracts see as lists.
+ghost use Rattle.std.specs.Prelude.{◌≡◌, [], ◌∷◌, ◌++◌, List, OnOk, OnErr};
+
+use crate::Uid;
+use std::alloc::{AllocError, Global};
+use std::marker::Model;
+
+/// A list in the order in which its items were pushed. Contracts see it as that list.
+#[derive(Drop)]
+pub struct Seq<T> {
+    items: Vec<T>,
+}
+
+impl<T> Model for Seq<T> {
+    ghost Value = { List T };
+
+    ghost view = { λ s. s.items.items };
+}
+
+impl<T> Seq<T> {
+    /// No items. It allocates nothing.
+    pub fn new(alloc: Global) -> Self
+        ensures { result ≡ [] }
+    {
+        Seq {
+            items: Vec::new(alloc),
+        }
+    }
+
+    /// The items, first pushed first.
+    pub fn as_slice(&self) -> &[T]
+        ensures { result.now ≡ self.now }
+    {
+        self.items.as_slice()
+    }
+}
+
+impl<T: Drop> Seq<T> {
+    /// Puts an item at the end.
+    pub fn push(&mut self, item: T) -> Result<(), AllocError>
+        ensures ok { OnOk result (self.new ≡ self.old ++ item ∷ []) }
+        ensures err { OnErr result (self.new ≡ self.old) }
+    {
+        self.items.push(item)?;
+        Ok(())
+    }
+}
+
+impl Seq<u8> {
+    /// Puts bytes at the end.
+    pub fn extend(&mut self, bytes: &[u8]) -> Result<(), AllocError>
+        ensures ok { OnOk result (self.new ≡ self.old ++ bytes.now) }
+        ensures err { OnErr result (self.new ≡ self.old) }
+    {
+        self.items.extend_from_slice(bytes)
+    }
+}
+
+/// Bytes, as of a file, a line or a message.
+pub type Bytes = Seq<u8>;
+
+/// Numbers of 64 bits.
+pub type Numbers = Seq<u64>;
+
+/// Keys with their values.
+pub type Pairs = Seq<(u64, u64)>;
+
+/// Nodes, each 1 to 16.
+pub type NodeList = Seq<u8>;
+
+/// Uids of actions or objects.
+pub type Uids = Seq<Uid>;

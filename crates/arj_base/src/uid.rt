@@ -1,0 +1,73 @@
+// Uids: the names of actions, objects and naming entries.
+ghost use Rattle.std.specs.Prelude.{◌≡◌, IfOk};
+ghost use Rattle.arj_base.specs.Uid.{uid_bytes, uid_text, object, entry};
+
+use crate::Bytes;
+use byteorder::{BigEndian, ByteOrder};
+use std::alloc::{AllocError, Global};
+
+/// A unique identifier: the node and its incarnation that made it, and a count within that incarnation.
+/// Object x is `0.0.x` and its naming entry `0.1.x`. Ordered by its fields.
+#[derive(Clone, Copy, Debug, PartialEq, Eq, PartialOrd, Ord)]
+pub struct Uid {
+    pub node: u32,
+    pub inc: u32,
+    pub num: u64,
+}
+
+impl Uid {
+    /// The 16 bytes of a Uid in files and messages: node, incarnation and number, high byte first.
+    pub fn to_bytes(&self) -> [u8; 16]
+        ensures { result ≡ uid_bytes self.now }
+    {
+        let mut bytes = [0; 16];
+        BigEndian::write_u32(&mut bytes[0..4], self.node);
+        BigEndian::write_u32(&mut bytes[4..8], self.inc);
+        BigEndian::write_u64(&mut bytes[8..16], self.num);
+        bytes
+    }
+
+    /// The Uid with these bytes: every 16 bytes are those of one.
+    pub fn from_bytes(bytes: &[u8; 16]) -> Uid
+        ensures { uid_bytes result ≡ bytes.now }
+    {
+        let [a, b, c, d, e, f, g, h, i, j, k, l, m, n, o, p] = *bytes;
+        Uid {
+            node: u32::from_be_bytes([a, b, c, d]),
+            inc: u32::from_be_bytes([e, f, g, h]),
+            num: u64::from_be_bytes([i, j, k, l, m, n, o, p]),
+        }
+    }
+
+    /// The printed form `node.inc.num`, in decimal.
+    pub fn text(&self, alloc: Global) -> Result<Bytes, AllocError>
+        ensures { IfOk result (λ text. text ≡ uid_text self.now) }
+    {
+        let mut text = Bytes::new(alloc);
+        let printed = format!(in alloc; "{}.{}.{}", self.node, self.inc, self.num)?;
+        text.extend(printed.as_bytes())?;
+        Ok(text)
+    }
+}
+
+/// The Uid of object x.
+pub fn object_uid(x: u16) -> Uid
+    ensures { result ≡ object x }
+{
+    Uid {
+        node: 0,
+        inc: 0,
+        num: u64::from(x),
+    }
+}
+
+/// The Uid of the naming entry of object x.
+pub fn entry_uid(x: u16) -> Uid
+    ensures { result ≡ entry x }
+{
+    Uid {
+        node: 0,
+        inc: 1,
+        num: u64::from(x),
+    }
+}
