@@ -1,3 +1,4 @@
+pub mod Count
 pub mod Mode
 pub mod Rows
 pub mod State
