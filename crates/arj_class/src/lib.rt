@@ -1,0 +1,22 @@
+//! What users store: the operations and answers of five classes (counter, register, account, queue and table), and
+//! values of them.
+//!
+//! It stands on `arj_base`. What it gives upward: `Value::mode` and `Value::apply` are the class table of
+//! `specs/Table.antt`, one case for each row of it, and a read operation changes nothing.
+#![tactic(auto)]
+
+mod account;
+mod counter;
+mod op;
+mod queue;
+mod register;
+mod table;
+mod value;
+
+pub use account::Account;
+pub use counter::Counter;
+pub use op::{Answer, ApplyFault, Op};
+pub use queue::Queue;
+pub use register::Register;
+pub use table::Table;
+pub use value::Value;
