@@ -1,0 +1,4 @@
+pub mod Label
+pub mod LineText
+pub mod ScriptText
+pub mod Words

@@ -1,0 +1,101 @@
+-- The words that scripts and journals share: numbers, bytes, lists of nodes, operations, answers and values.
+use Rattle.std.specs.Prelude.{ℕ, ◌+◌, ◌/◌, ◌%◌, List, [], ◌∷◌, ◌++◌, codes, nat_lt, if◌then◌else◌}
+use Rattle.std.specs.List.{flat_map}
+use Rattle.std.specs.Fmt.{decimal}
+use Rattle.arj_base.specs.declared.mode.Mode.{Mode}
+use Rattle.arj_base.specs.declared.mode.Mode.TheVariants as mode
+use Rattle.arj_base.specs.declared.mode.End.{End}
+use Rattle.arj_base.specs.declared.mode.End.TheVariants as ending
+use Rattle.arj_class.specs.declared.op.Op.{Op}
+use Rattle.arj_class.specs.declared.op.Op.TheVariants.{Get, Add, Set, Put, Deposit, Withdraw, Len, Push, Pop, GetKey, PutPair, Remove}
+use Rattle.arj_class.specs.declared.op.Answer.{Answer}
+use Rattle.arj_class.specs.declared.op.Answer.TheVariants.{Done, Number, Text, Over, Short, Full, Nothing}
+use Rattle.arj_class.specs.declared.value.Value.{Value}
+use Rattle.arj_class.specs.declared.value.Value.TheVariants.{Counter, Register, Account, Queue, Table}
+
+-- a space, and a number behind it
+abbrev pub space : List ℕ
+space = codes " "
+
+abbrev pub number_word : ℕ → List ℕ
+number_word n = space ++ decimal n
+
+-- a hexadecimal digit, in lower case
+abbrev pub hex_digit : ℕ → ℕ
+hex_digit n = if nat_lt n 10 then 48 + n else 87 + n
+
+abbrev pub hex_pair : ℕ → List ℕ
+hex_pair n = hex_digit (n / 16) ∷ hex_digit (n % 16) ∷ []
+
+-- two digits a byte, or `-` for no bytes
+abbrev pub hex : List ℕ → List ℕ
+hex [] = codes "-"
+hex (b ∷ bs) = hex_pair b ++ flat_map hex_pair bs
+
+-- pieces joined by commas
+abbrev pub behind_comma : List ℕ → List ℕ
+behind_comma piece = codes "," ++ piece
+
+abbrev pub commas : List (List ℕ) → List ℕ
+commas [] = []
+commas (piece ∷ pieces) = piece ++ flat_map behind_comma pieces
+
+abbrev pub decimals : List ℕ → List (List ℕ)
+decimals [] = []
+decimals (n ∷ ns) = decimal n ∷ decimals ns
+
+abbrev pub list_text : List ℕ → List ℕ
+list_text ns = commas (decimals ns)
+
+-- a list that may be empty, then `-`
+abbrev pub numbers_text : List ℕ → List ℕ
+numbers_text [] = codes "-"
+numbers_text (n ∷ ns) = list_text (n ∷ ns)
+
+abbrev pub pair_texts : List (ℕ × ℕ) → List (List ℕ)
+pair_texts [] = []
+pair_texts (p ∷ ps) = (decimal p.0 ++ (codes ":" ++ decimal p.1)) ∷ pair_texts ps
+
+abbrev pub pairs_text : List (ℕ × ℕ) → List ℕ
+pairs_text [] = codes "-"
+pairs_text (p ∷ ps) = commas (pair_texts (p ∷ ps))
+
+abbrev pub mode_text : Mode → List ℕ
+mode_text mode.Read = codes "read"
+mode_text mode.Exclude = codes "exclude"
+mode_text mode.Write = codes "write"
+
+abbrev pub end_text : End → List ℕ
+end_text ending.Abort = codes "abort"
+end_text ending.Commit = codes "commit"
+
+abbrev pub op_text : Op → List ℕ
+op_text Get = codes "get"
+op_text (Add n) = codes "add" ++ number_word n
+op_text (Set n) = codes "set" ++ number_word n
+op_text (Put bytes) = codes "put " ++ hex bytes
+op_text (Deposit n) = codes "deposit" ++ number_word n
+op_text (Withdraw n) = codes "withdraw" ++ number_word n
+op_text Len = codes "len"
+op_text (Push n) = codes "push" ++ number_word n
+op_text Pop = codes "pop"
+op_text (GetKey k) = codes "get" ++ number_word k
+op_text (PutPair k v) = codes "put" ++ (number_word k ++ number_word v)
+op_text (Remove k) = codes "remove" ++ number_word k
+
+abbrev pub answer_text : Answer → List ℕ
+answer_text Done = codes "done"
+answer_text (Number n) = decimal n
+answer_text (Text bytes) = hex bytes
+answer_text Over = codes "over"
+answer_text Short = codes "short"
+answer_text Full = codes "full"
+answer_text Nothing = codes "none"
+
+-- the class and the value of an object line
+abbrev pub value_text : Value → List ℕ
+value_text (Counter n) = codes "counter" ++ number_word n
+value_text (Register bytes) = codes "register " ++ hex bytes
+value_text (Account n) = codes "account" ++ number_word n
+value_text (Queue ns) = codes "queue " ++ numbers_text ns
+value_text (Table ps) = codes "table " ++ pairs_text ps

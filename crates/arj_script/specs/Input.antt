@@ -1,0 +1,74 @@
+-- What the lines of a source's bytes are, and how far they were read as a script.
+use Rattle.std.specs.Prelude.{◌≡◌, ℕ, List, [], ◌∷◌, ◌++◌, length, ⊤, Bool, true, false, ◌==◌, ◌||◌, nat_lt, if◌then◌else◌, Option, Some, None}
+use Rattle.std.specs.List.{list_any}
+use Rattle.arj_journal.specs.declared.event.Event.{Event}
+use Rattle.arj_journal.specs.declared.header.Header.{Header}
+use Rattle.arj_journal.specs.declared.header.ObjectLine.{ObjectLine}
+use Rattle.arj_script.specs.declared.reader.Item.{Item}
+use Rattle.arj_script.specs.declared.reader.Item.TheVariants as item
+use Rattle.arj_script.specs.Grammar.{Form, Blank, Nodes, Object, Run, Asks, Place, Start, Objects, Running, next_place, HasForm}
+
+-- Lines that a line feed ends; what stands behind the last line feed. `front` is what has come of the line in hand.
+abbrev pub ended_from : List ℕ → List ℕ → List (List ℕ)
+ended_from front [] = []
+ended_from front (b ∷ bs) = if b == 10 then front ∷ ended_from [] bs else ended_from (front ++ b ∷ []) bs
+
+abbrev pub rest_from : List ℕ → List ℕ → List ℕ
+rest_from front [] = front
+rest_from front (b ∷ bs) = if b == 10 then rest_from [] bs else rest_from (front ++ b ∷ []) bs
+
+abbrev pub ended_lines : List ℕ → List (List ℕ)
+ended_lines bytes = ended_from [] bytes
+
+abbrev pub rest_line : List ℕ → List ℕ
+rest_line bytes = rest_from [] bytes
+
+-- a line of more than 200 bytes
+abbrev pub is_too_long : List ℕ → Bool
+is_too_long line = nat_lt 200 (length line)
+
+-- Reading need not go on: a line is too long, or the line past the 100,000th has ended.
+abbrev pub is_enough : List ℕ → Bool
+is_enough bytes = nat_lt 100000 (length (ended_lines bytes)) || (list_any is_too_long (ended_lines bytes) || is_too_long (rest_line bytes))
+
+-- How the reading of the source ended: at the input's end, at a read that failed, or because it need not go on.
+pub data Stopped : Type 0 where
+  AtEnd : Stopped
+  AtFault : Stopped
+  AtLimit : Stopped
+
+-- The last line counts without its end where the input ended, or where it is too long already.
+abbrev pub last_line : Stopped → List ℕ → List (List ℕ)
+last_line AtEnd [] = []
+last_line AtEnd (b ∷ bs) = (b ∷ bs) ∷ []
+last_line AtFault line = []
+last_line AtLimit line = if is_too_long line then line ∷ [] else []
+
+-- the lines that are there to be run
+abbrev pub lines_of : Stopped → List ℕ → List (List ℕ)
+lines_of stopped bytes = ended_lines bytes ++ last_line stopped (rest_line bytes)
+
+-- The lines have these forms, one after another, from a place to a place.
+abbrev pub HaveForms : Place → List (List ℕ) → List Form → Place → Type 0
+HaveForms place [] [] end = place ≡ end
+HaveForms place (line ∷ lines) (form ∷ forms) end = HasForm place line form × HaveForms (next_place place form) lines forms end
+HaveForms place [] (form ∷ forms) end = ⊥
+HaveForms place (line ∷ lines) [] end = ⊥
+
+-- the events among the forms
+abbrev pub events_of : List Form → List Event
+events_of [] = []
+events_of (Asks e ∷ forms) = e ∷ events_of forms
+events_of (Blank ∷ forms) = events_of forms
+events_of (Nodes n ∷ forms) = events_of forms
+events_of (Object o ∷ forms) = events_of forms
+events_of (Run ∷ forms) = events_of forms
+
+-- What the reader tells of a form at its place.
+abbrev pub Tells : Place → Form → Item → Type 0
+Tells place Blank item.Blank = ⊤
+Tells place (Nodes n) item.Part = ⊤
+Tells place (Object o) item.Part = ⊤
+Tells (Objects n os) Run (item.Run header) = (header.nodes ≡ n) × (header.objects ≡ os)
+Tells place (Asks e) (item.Event told) = told ≡ e
+Tells _ _ _ = ⊥
