@@ -1,0 +1,59 @@
+-- A run so far: how many events were run, those of them that were accepted, and the lines.
+use Rattle.std.specs.Prelude.{◌≡◌, ℕ, ◌+◌, List, [], ◌∷◌, ◌++◌, map, Bool, true, false, if◌then◌else◌}
+use Rattle.arj_journal.specs.declared.body.Body.{Body}
+use Rattle.arj_journal.specs.declared.body.Body.TheVariants as body
+use Rattle.arj_journal.specs.declared.body.Line.{Line}
+use Rattle.arj_journal.specs.declared.event.Event.{Event}
+use Rattle.arj_journal.specs.declared.event.Event.TheVariants as event
+use Rattle.arj_journal.specs.Label.{name}
+use Rattle.arj_model.specs.Actions.{Act, acts, path}
+
+-- An accepted event that names an action, with that action's path.
+pub record Asked : Type 0 where
+  pub path : List Act
+  pub event : Event
+
+-- A run so far.
+pub record Past : Type 0 where
+  pub count : ℕ
+  pub accepted : List Asked
+  pub lines : List Line
+
+abbrev pub nothing_yet : Past
+nothing_yet = record { count = 0; accepted = []; lines = [] }
+
+-- the action that an event asks something of, by its label
+abbrev pub label_of : Event → List ℕ
+label_of (event.Call l x op) = name l
+label_of (event.Include l x n) = name l
+label_of (event.Commit l) = name l
+label_of (event.Abort l) = name l
+label_of (event.GiveUp l) = name l
+label_of _ = []
+
+abbrev pub asked_of : Past → Event → Asked
+asked_of past e = record { path = path (acts past.lines) (label_of e); event = e }
+
+-- the lines of one event
+abbrev pub block : ℕ → List Body → List Line
+block n bodies = map (λ b. record { event = n; body = b }) bodies
+
+-- a refused event has one line
+abbrev pub is_refused : List Body → Bool
+is_refused (body.Refused c ∷ []) = true
+is_refused _ = false
+
+-- the run with one event more, which wrote these lines
+abbrev pub next : Past → Event → List Body → Past
+next past e bodies = record {
+  count = past.count + 1;
+  accepted = (if is_refused bodies then past.accepted else past.accepted ++ asked_of past e ∷ []);
+  lines = past.lines ++ block (past.count + 1) bodies;
+}
+
+-- The lines are those of the events, one event after another, and at each event this holds of what was there
+-- before it and of what it wrote.
+abbrev pub Along : (Past → Event → List Body → Type 0) → Past → List Event → List Line → Type 0
+Along P past [] lines = lines ≡ []
+Along P past (e ∷ es) lines =
+    (bodies : List Body) × (rest : List Line) × (lines ≡ block (past.count + 1) bodies ++ rest) × P past e bodies × Along P (next past e bodies) es rest
