@@ -3,6 +3,7 @@ use Rattle.std.specs.Prelude.{ℕ, ◌≤◌, ◌<◌, List, [], ◌∷◌, ◌+
 use Rattle.std.specs.List.{flat_map}
 use Rattle.std.specs.Fmt.{decimal}
 use Rattle.byteorder.specs.Endian.{big_bytes}
+use Rattle.arj_class.specs.Keys.{pair_bytes}
 use Rattle.arj_class.specs.declared.op.Op.{Op}
 use Rattle.arj_class.specs.declared.op.Op.TheVariants.{Get, Add, Set, Put, Deposit, Withdraw, Len, Push, Pop, GetKey, PutPair, Remove}
 use Rattle.arj_class.specs.declared.op.Answer.{Answer}
@@ -16,7 +17,7 @@ payload_of (Counter n) = big_bytes 8 n
 payload_of (Register bytes) = bytes
 payload_of (Account n) = big_bytes 8 n
 payload_of (Queue ns) = flat_map (big_bytes 8) ns
-payload_of (Table ps) = flat_map (λ p. big_bytes 8 p.0 ++ big_bytes 8 p.1) ps
+payload_of (Table ps) = flat_map pair_bytes ps
 
 -- an operation is in form: only the bytes of a put are limited
 abbrev pub OpInForm : Op → Type 0

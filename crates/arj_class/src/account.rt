@@ -1,6 +1,12 @@
 // A balance that is deposited to and withdrawn from.
-ghost use Rattle.std.specs.Prelude.{ℕ};
+ghost use Rattle.std.specs.Prelude.{◌≡◌, IfOk};
+ghost use Rattle.arj_base.specs.declared.state.Class.TheVariants as class_variant;
+ghost use Rattle.arj_class.specs.declared.value.Value.TheVariants as variant;
 
+use crate::payload::put_number;
+use crate::{Answer, ApplyFault, ObjectClass, Op};
+use arj_base::{Bytes, Mode};
+use std::alloc::{AllocError, Global};
 use std::marker::Model;
 
 /// A balance that is deposited to and withdrawn from. Contracts see it as that number.
@@ -10,7 +16,68 @@ pub struct Account {
 }
 
 impl Model for Account {
+    ghost use Rattle.std.specs.Prelude.{ℕ};
+
     ghost Value = { ℕ };
 
     ghost view = { λ v. v.balance };
+}
+
+impl Account {
+    /// An account with this balance.
+    pub fn new(balance: u64) -> Account
+        ensures { result ≡ balance }
+    {
+        Account { balance }
+    }
+
+    /// Another account with the same balance.
+    pub fn copy(&self) -> Account
+        ensures { result ≡ self.now }
+    {
+        Account {
+            balance: self.balance,
+        }
+    }
+}
+
+impl ObjectClass for Account {
+    ghost class = { class_variant.Account };
+
+    ghost value = { variant.Account };
+
+    fn mode(op: &Op) -> Option<Mode> {
+        match op {
+            Op::Get => Some(Mode::Read),
+            Op::Deposit(_) | Op::Withdraw(_) => Some(Mode::Write),
+            _ => None,
+        }
+    }
+
+    fn apply(&mut self, op: &Op) -> Result<Answer, ApplyFault> {
+        match op {
+            Op::Get => Ok(Answer::Number(self.balance)),
+            Op::Deposit(n) => match self.balance.checked_add(*n) {
+                Some(sum) => {
+                    self.balance = sum;
+                    Ok(Answer::Done)
+                }
+                None => Ok(Answer::Over),
+            },
+            Op::Withdraw(n) => match self.balance.checked_sub(*n) {
+                Some(rest) => {
+                    self.balance = rest;
+                    Ok(Answer::Done)
+                }
+                None => Ok(Answer::Short),
+            },
+            _ => Err(ApplyFault::WrongOp),
+        }
+    }
+
+    fn save_state(&self, alloc: Global) -> Result<Bytes, AllocError> {
+        let mut payload = Bytes::new(alloc);
+        put_number(&mut payload, self.balance)?;
+        Ok(payload)
+    }
 }

@@ -1,6 +1,12 @@
 // A number that is added to and set.
-ghost use Rattle.std.specs.Prelude.{ℕ};
+ghost use Rattle.std.specs.Prelude.{◌≡◌, IfOk};
+ghost use Rattle.arj_base.specs.declared.state.Class.TheVariants as class_variant;
+ghost use Rattle.arj_class.specs.declared.value.Value.TheVariants as variant;
 
+use crate::payload::put_number;
+use crate::{Answer, ApplyFault, ObjectClass, Op};
+use arj_base::{Bytes, Mode};
+use std::alloc::{AllocError, Global};
 use std::marker::Model;
 
 /// A number that is added to and set. Contracts see it as that number.
@@ -10,7 +16,65 @@ pub struct Counter {
 }
 
 impl Model for Counter {
+    ghost use Rattle.std.specs.Prelude.{ℕ};
+
     ghost Value = { ℕ };
 
     ghost view = { λ v. v.number };
+}
+
+impl Counter {
+    /// A counter at this number.
+    pub fn new(number: u64) -> Counter
+        ensures { result ≡ number }
+    {
+        Counter { number }
+    }
+
+    /// Another counter at the same number.
+    pub fn copy(&self) -> Counter
+        ensures { result ≡ self.now }
+    {
+        Counter {
+            number: self.number,
+        }
+    }
+}
+
+impl ObjectClass for Counter {
+    ghost class = { class_variant.Counter };
+
+    ghost value = { variant.Counter };
+
+    fn mode(op: &Op) -> Option<Mode> {
+        match op {
+            Op::Get => Some(Mode::Read),
+            Op::Add(_) | Op::Set(_) => Some(Mode::Write),
+            _ => None,
+        }
+    }
+
+    fn apply(&mut self, op: &Op) -> Result<Answer, ApplyFault> {
+        match op {
+            Op::Get => Ok(Answer::Number(self.number)),
+            Op::Add(n) => match self.number.checked_add(*n) {
+                Some(sum) => {
+                    self.number = sum;
+                    Ok(Answer::Done)
+                }
+                None => Ok(Answer::Over),
+            },
+            Op::Set(n) => {
+                self.number = *n;
+                Ok(Answer::Done)
+            }
+            _ => Err(ApplyFault::WrongOp),
+        }
+    }
+
+    fn save_state(&self, alloc: Global) -> Result<Bytes, AllocError> {
+        let mut payload = Bytes::new(alloc);
+        put_number(&mut payload, self.number)?;
+        Ok(payload)
+    }
 }

@@ -7,7 +7,9 @@
 
 mod account;
 mod counter;
+mod object_class;
 mod op;
+mod payload;
 mod queue;
 mod register;
 mod table;
@@ -15,6 +17,7 @@ mod value;
 
 pub use account::Account;
 pub use counter::Counter;
+pub use object_class::ObjectClass;
 pub use op::{Answer, ApplyFault, Op};
 pub use queue::Queue;
 pub use register::Register;

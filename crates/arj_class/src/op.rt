@@ -1,5 +1,6 @@
 // Operations, and what they answer.
 use arj_base::Bytes;
+use std::alloc::{AllocError, AllocFailed};
 use thiserror::Error;
 
 /// An operation with its arguments. Which class has which, and what each answers, is the class table
@@ -60,4 +61,26 @@ pub enum ApplyFault {
     /// Memory is wanting.
     #[error("out of memory")]
     Memory,
+}
+
+impl From<AllocError> for ApplyFault {
+    ghost use Rattle.std.specs.Prelude.{◌≡◌};
+    ghost use Rattle.arj_class.specs.declared.op.ApplyFault.TheVariants.{Memory};
+
+    ghost from_gives = { λ _ e. e ≡ Memory };
+
+    fn from(_: AllocError) -> ApplyFault {
+        ApplyFault::Memory
+    }
+}
+
+impl<T: Drop> From<AllocFailed<T>> for ApplyFault {
+    ghost use Rattle.std.specs.Prelude.{◌≡◌};
+    ghost use Rattle.arj_class.specs.declared.op.ApplyFault.TheVariants.{Memory};
+
+    ghost from_gives = { λ _ e. e ≡ Memory };
+
+    fn from(_: AllocFailed<T>) -> ApplyFault {
+        ApplyFault::Memory
+    }
 }

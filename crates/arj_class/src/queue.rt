@@ -1,17 +1,94 @@
 // At most 32 numbers, first in, first out.
-ghost use Rattle.std.specs.Prelude.{ℕ, List};
+ghost use Rattle.std.specs.Prelude.{◌≡◌, ◌≤◌, length, IfOk};
+ghost use Rattle.arj_base.specs.declared.state.Class.TheVariants as class_variant;
+ghost use Rattle.arj_class.specs.declared.value.Value.TheVariants as variant;
 
-use arj_base::Numbers;
+use crate::payload::put_numbers;
+use crate::{Answer, ApplyFault, ObjectClass, Op};
+use arj_base::{Bytes, Mode, Numbers};
+use std::alloc::{AllocError, Global};
+use std::collections::VecDeque;
 use std::marker::Model;
+
+/// How many numbers a queue holds at most.
+const CAPACITY: usize = 32;
 
 /// At most 32 numbers, first in, first out. Contracts see it as the list, front first.
 #[derive(Drop)]
 pub struct Queue {
-    numbers: Numbers,
+    numbers: VecDeque<u64>,
 }
 
 impl Model for Queue {
+    ghost use Rattle.std.specs.Prelude.{ℕ, ◌≤◌, List, length};
+
     ghost Value = { List ℕ };
 
-    ghost view = { λ v. v.numbers };
+    ghost view = { λ v. v.numbers.items };
+
+    ghost invariant = { λ v. length v.numbers.items ≤ 32 };
+}
+
+impl Queue {
+    /// A queue of these numbers, at most 32, front first.
+    pub fn new(numbers: Numbers) -> Queue
+        requires { length numbers ≤ 32 }
+        ensures { result ≡ numbers }
+    {
+        Queue {
+            numbers: VecDeque::from_vec(numbers.into_vec()),
+        }
+    }
+
+    /// Another queue of the same numbers.
+    pub fn copy(&self, alloc: Global) -> Result<Queue, AllocError>
+        ensures { IfOk result (λ copied. copied ≡ self.now) }
+    {
+        let (front, back) = self.numbers.as_slices();
+        let mut numbers = Vec::from_slice(alloc, front)?;
+        numbers.extend_from_slice(back)?;
+        Ok(Queue {
+            numbers: VecDeque::from_vec(numbers),
+        })
+    }
+}
+
+impl ObjectClass for Queue {
+    ghost class = { class_variant.Queue };
+
+    ghost value = { variant.Queue };
+
+    fn mode(op: &Op) -> Option<Mode> {
+        match op {
+            Op::Len => Some(Mode::Read),
+            Op::Push(_) | Op::Pop => Some(Mode::Write),
+            _ => None,
+        }
+    }
+
+    fn apply(&mut self, op: &Op) -> Result<Answer, ApplyFault> {
+        match op {
+            Op::Len => Ok(Answer::Number(self.numbers.len() as u64)),
+            Op::Push(n) => {
+                if self.numbers.len() == CAPACITY {
+                    return Ok(Answer::Full);
+                }
+                self.numbers.push_back(*n)?;
+                Ok(Answer::Done)
+            }
+            Op::Pop => match self.numbers.pop_front() {
+                Some(n) => Ok(Answer::Number(n)),
+                None => Ok(Answer::Nothing),
+            },
+            _ => Err(ApplyFault::WrongOp),
+        }
+    }
+
+    fn save_state(&self, alloc: Global) -> Result<Bytes, AllocError> {
+        let mut payload = Bytes::new(alloc);
+        let (front, back) = self.numbers.as_slices();
+        put_numbers(&mut payload, front)?;
+        put_numbers(&mut payload, back)?;
+        Ok(payload)
+    }
 }

@@ -1,7 +1,11 @@
 // Bytes that are put and got, at most 64.
-ghost use Rattle.std.specs.Prelude.{ℕ, List};
+ghost use Rattle.std.specs.Prelude.{◌≡◌, ◌≤◌, length, IfOk};
+ghost use Rattle.arj_base.specs.declared.state.Class.TheVariants as class_variant;
+ghost use Rattle.arj_class.specs.declared.value.Value.TheVariants as variant;
 
-use arj_base::Bytes;
+use crate::{Answer, ApplyFault, ObjectClass, Op};
+use arj_base::{Bytes, Mode};
+use std::alloc::{AllocError, Global};
 use std::marker::Model;
 
 /// Bytes that are put and got, at most 64. Contracts see it as those bytes.
@@ -11,7 +15,61 @@ pub struct Register {
 }
 
 impl Model for Register {
+    ghost use Rattle.std.specs.Prelude.{ℕ, ◌≤◌, List, length};
+
     ghost Value = { List ℕ };
 
     ghost view = { λ v. v.bytes };
+
+    ghost invariant = { λ v. length v.bytes ≤ 64 };
+}
+
+impl Register {
+    /// A register with these bytes, at most 64.
+    pub fn new(bytes: Bytes) -> Register
+        requires { length bytes ≤ 64 }
+        ensures { result ≡ bytes }
+    {
+        Register { bytes }
+    }
+
+    /// Another register with the same bytes.
+    pub fn copy(&self, alloc: Global) -> Result<Register, AllocError>
+        ensures { IfOk result (λ copied. copied ≡ self.now) }
+    {
+        let mut bytes = Bytes::new(alloc);
+        bytes.extend(self.bytes.as_slice())?;
+        Ok(Register { bytes })
+    }
+}
+
+impl ObjectClass for Register {
+    ghost class = { class_variant.Register };
+
+    ghost value = { variant.Register };
+
+    fn mode(op: &Op) -> Option<Mode> {
+        match op {
+            Op::Get => Some(Mode::Read),
+            Op::Put(_) => Some(Mode::Write),
+            _ => None,
+        }
+    }
+
+    fn apply(&mut self, op: &Op) -> Result<Answer, ApplyFault> {
+        match op {
+            Op::Get => Ok(Answer::Text(self.bytes.copy()?)),
+            Op::Put(bytes) => {
+                self.bytes = bytes.copy()?;
+                Ok(Answer::Done)
+            }
+            _ => Err(ApplyFault::WrongOp),
+        }
+    }
+
+    fn save_state(&self, alloc: Global) -> Result<Bytes, AllocError> {
+        let mut payload = Bytes::new(alloc);
+        payload.extend(self.bytes.as_slice())?;
+        Ok(payload)
+    }
 }

@@ -1,7 +1,7 @@
 // A value of any class.
-ghost use Rattle.std.specs.Prelude.{◌≡◌, ◌↔◌, Option, None, IfOk, OnOk, OnErr, IsErrOf};
+ghost use Rattle.std.specs.Prelude.{◌≡◌, ◌↔◌, None, IfOk, OnOk, OnErr, IsErrOf};
 
-use crate::{Account, Answer, ApplyFault, Counter, Op, Queue, Register, Table};
+use crate::{Account, Answer, ApplyFault, Counter, ObjectClass, Op, Queue, Register, Table};
 use arj_base::{Bytes, Class, Mode};
 use std::alloc::{AllocError, Global};
 
@@ -16,6 +16,7 @@ pub enum Value {
 }
 
 impl Value {
+    ghost use Rattle.arj_class.specs.declared.op.ApplyFault.TheVariants.{WrongOp};
     ghost use Rattle.arj_class.specs.Table.{class_of, mode_of, answer_of, value_after};
     ghost use Rattle.arj_class.specs.Forms.{OpInForm, payload_of};
 
@@ -29,6 +30,65 @@ impl Value {
             Value::Account(_) => Class::Account,
             Value::Queue(_) => Class::Queue,
             Value::Table(_) => Class::Table,
+        }
+    }
+
+    /// The lock mode of an operation on objects of a class, None exactly where the class lacks it. A naming entry
+    /// has no operation.
+    pub fn mode(class: Class, op: &Op) -> Option<Mode>
+        ensures { result ≡ mode_of class op.now }
+    {
+        match class {
+            Class::Entry => None,
+            Class::Counter => Counter::mode(op),
+            Class::Register => Register::mode(op),
+            Class::Account => Account::mode(op),
+            Class::Queue => Queue::mode(op),
+            Class::Table => Table::mode(op),
+        }
+    }
+
+    /// Does an operation and answers it, as the class of the value does.
+    pub fn apply(&mut self, op: &Op) -> Result<Answer, ApplyFault>
+        requires { OpInForm op.now }
+        ensures answer { IfOk result (λ a. a ≡ answer_of op.now self.old) }
+        ensures value { OnOk result (self.new ≡ value_after op.now self.old) }
+        ensures wrong_op { IsErrOf result WrongOp ↔ (mode_of (class_of self.old) op.now ≡ None) }
+        ensures err { OnErr result (self.new ≡ self.old) }
+        ensures class { class_of self.new ≡ class_of self.old }
+    {
+        match self {
+            Value::Counter(counter) => counter.apply(op),
+            Value::Register(register) => register.apply(op),
+            Value::Account(account) => account.apply(op),
+            Value::Queue(queue) => queue.apply(op),
+            Value::Table(table) => table.apply(op),
+        }
+    }
+
+    /// The payload of the value's packed state.
+    pub fn save_state(&self, alloc: Global) -> Result<Bytes, AllocError>
+        ensures { IfOk result (λ payload. payload ≡ payload_of self.now) }
+    {
+        match self {
+            Value::Counter(counter) => counter.save_state(alloc),
+            Value::Register(register) => register.save_state(alloc),
+            Value::Account(account) => account.save_state(alloc),
+            Value::Queue(queue) => queue.save_state(alloc),
+            Value::Table(table) => table.save_state(alloc),
+        }
+    }
+
+    /// Another value, equal to this one.
+    pub fn copy(&self, alloc: Global) -> Result<Value, AllocError>
+        ensures { IfOk result (λ value. value ≡ self.now) }
+    {
+        match self {
+            Value::Counter(counter) => Ok(Value::Counter(counter.copy())),
+            Value::Register(register) => Ok(Value::Register(register.copy(alloc)?)),
+            Value::Account(account) => Ok(Value::Account(account.copy())),
+            Value::Queue(queue) => Ok(Value::Queue(queue.copy(alloc)?)),
+            Value::Table(table) => Ok(Value::Table(table.copy(alloc)?)),
         }
     }
 }

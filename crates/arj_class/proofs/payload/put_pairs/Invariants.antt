@@ -1,0 +1,7 @@
+use Rattle.std.proofs.Common.{◌≡◌, ◌++◌, take}
+use Rattle.std.specs.List.{flat_map}
+use Rattle.arj_class.specs.Keys.{pair_bytes}
+use Rattle.arj_class.proofs.payload.put_pairs.Given as goal
+
+abbrev pub invariant-loop-pair : goal.invariant-loop-pair
+invariant-loop-pair l = l.payload ≡ l.fn.payload ++ flat_map pair_bytes (take l.pair-index l.pairs)

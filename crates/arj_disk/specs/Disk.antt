@@ -1,0 +1,55 @@
+-- What a disk call changes: relations between the files before it and after it, and how the counts go on.
+use Rattle.std.specs.Prelude.{◌≡◌, ◌≢◌, ◌⊎◌, ℕ, ◌+◌, ◌≤◌, List, Option, None, Some, Result, IsSome, IfErr, IsErrOf, OnOk, Contains, ◌↔◌}
+use Rattle.std.specs.List.Sorted.{IsStrictlySortedBy}
+use Rattle.arj_base.specs.Count.{Rose}
+use Rattle.arj_disk.specs.declared.slot.Slot.{Slot}
+use Rattle.arj_disk.specs.declared.slot.Slot.TheVariants.{Tmp}
+use Rattle.arj_disk.specs.Files.{FileMap}
+use Rattle.arj_disk.specs.Slot.{slot_order}
+
+-- each file is as before
+abbrev pub Same : FileMap → FileMap → Type 0
+Same old new = (q : Slot) → new q ≡ old q
+
+-- each file but this one is as before
+abbrev pub SameBut : FileMap → FileMap → Slot → Type 0
+SameBut old new slot = (q : Slot) → q ≢ slot → new q ≡ old q
+
+-- this file has the bytes, and every other is as before
+pub record Writes (old new : FileMap) (slot : Slot) (bytes : List ℕ) : Type 0 where
+  pub here : new slot ≡ Some bytes
+  pub others : SameBut old new slot
+
+-- this file is gone, and every other is as before
+pub record Removes (old new : FileMap) (slot : Slot) : Type 0 where
+  pub gone : new slot ≡ None
+  pub others : SameBut old new slot
+
+-- the second name has the file of the first, which is gone; every other is as before
+pub record Renames (old new : FileMap) (from to : Slot) : Type 0 where
+  pub here : new to ≡ old from
+  pub gone : from ≢ to → new from ≡ None
+  pub others : (q : Slot) → q ≢ from → q ≢ to → new q ≡ old q
+
+-- this file has the bytes, Tmp is gone, and every other is as before
+pub record Puts (old new : FileMap) (slot : Slot) (bytes : List ℕ) : Type 0 where
+  pub here : new slot ≡ Some bytes
+  pub gone : new Tmp ≡ None
+  pub others : (q : Slot) → q ≢ slot → q ≢ Tmp → new q ≡ old q
+
+-- this file is as before or has the bytes, and every other but Tmp is as before
+pub record PutsOrNot (old new : FileMap) (slot : Slot) (bytes : List ℕ) : Type 0 where
+  pub here : (new slot ≡ old slot) ⊎ (new slot ≡ Some bytes)
+  pub others : (q : Slot) → q ≢ slot → q ≢ Tmp → new q ≡ old q
+
+-- the names are those that have a file, each once, increasing
+pub record Lists (file : FileMap) (names : List Slot) : Type 0 where
+  pub there : (q : Slot) → IsSome (file q) ↔ Contains names q
+  pub increasing : IsStrictlySortedBy slot_order names
+
+-- The count of stops over a call with this result: it rose where the call was stopped, and stays where it wasn't.
+pub record CountsStops {T E : Type 0} (old new : ℕ) (result : Result T E) (stopped : E) : Type 0 where
+  pub rose : IsErrOf result stopped → Rose old new
+  pub later : old ≤ new
+  pub ok : OnOk result (new ≡ old)
+  pub other : IfErr result (λ e. e ≢ stopped → new ≡ old)

@@ -1,0 +1,21 @@
+//! A disk: files under names, each call stable once it has returned, and stops that leave a call undone, done or,
+//! for a write, torn.
+//!
+//! It stands on `arj_base`. What it gives upward: the contract of the trait `Disk`, which says what each call leaves
+//! also where it was stopped (`specs/Disk.antt`); `put`, the one way in which files are put, old or new and nothing
+//! between; disks in memory; and a rack of sixteen.
+#![tactic(auto)]
+
+mod disk;
+mod files;
+mod memory;
+mod rack;
+mod slot;
+
+pub use disk::{Disk, DiskFault, put};
+pub use memory::{MemDisk, SureDisk};
+pub use rack::Rack;
+pub use slot::{Outcome, Role, Slot, Slots};
+
+#[cfg(test)]
+mod tests;

@@ -1,0 +1,37 @@
+// The names of files, and how a stopped call ends.
+use arj_base::{Bytes, Seq, Uid};
+
+/// Whose a file is: the object store's or the naming service's.
+#[derive(Clone, Copy, Debug, PartialEq, Eq, PartialOrd, Ord)]
+pub enum Role {
+    Store,
+    Names,
+}
+
+/// The name of a file. Ordered by the kinds as they stand here, and then by what they hold.
+#[derive(Clone, Copy, Debug, PartialEq, Eq, PartialOrd, Ord)]
+pub enum Slot {
+    /// How often the node has been started.
+    Incarnation,
+    /// What is written before it gets its name.
+    Tmp,
+    /// The committed state of an object or a naming entry.
+    Committed(Uid),
+    /// The state that a prepared action will commit.
+    Shadow(Uid),
+    /// What this action has prepared.
+    Prepared(Role, Uid),
+    /// The intentions record of this action.
+    Intent(Uid),
+}
+
+/// Names of files.
+pub type Slots = Seq<Slot>;
+
+/// What a stopped call leaves: nothing done, all done, or, for a write, these bytes under its name.
+#[derive(Drop)]
+pub enum Outcome {
+    Undone,
+    Done,
+    Torn(Bytes),
+}

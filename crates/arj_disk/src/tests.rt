@@ -1,0 +1,251 @@
+// Disks in memory, and `put` over a disk that stops.
+ghost use Rattle.std.specs.Prelude.{◌≡◌, ◌≢◌, ◌⊎◌, ◌+◌, ◌-◌, ◌≤◌, ℕ, length, slice_get, slice_set, IfOk, OnOk, IsErrOf, IsSome};
+ghost use Rattle.std.specs.Bool.{OnTrue, OnFalse};
+ghost use Rattle.arj_base.specs.Count.{Rose};
+ghost use Rattle.arj_disk.specs.Disk.{Same, Renames};
+ghost use Rattle.arj_disk.specs.Stored.{stored};
+
+use super::*;
+use crate::files::{Arms, Files};
+use arj_base::{Bytes, Uid, object_uid};
+use std::alloc::{AllocError, Global};
+use std::test::Fail;
+
+/// Counts calls down to the one that is stopped, and the stops.
+#[derive(Drop)]
+struct Countdown {
+    left: u32,
+    stops: u64,
+}
+
+impl Countdown {
+    fn is_due(&mut self) -> bool
+        ensures stopped { OnTrue result (Rose self.old.stops self.new.stops) }
+        ensures later { self.old.stops ≤ self.new.stops }
+        ensures calm { OnFalse result (self.new.stops ≡ self.old.stops) }
+    {
+        if self.left == 1 {
+            self.left = 0;
+            self.stops = self.stops.saturating_add(1);
+            return true;
+        }
+        self.left = self.left.saturating_sub(1);
+        false
+    }
+}
+
+/// A disk in memory that stops at one call: a write leaves no file, and a rename is done or not.
+#[derive(Drop)]
+struct StoppingDisk {
+    files: Files,
+    arms: Arms,
+    countdown: Countdown,
+    renames: bool,
+}
+
+fn rename_if(files: &mut Files, renames: bool, from: Slot, to: Slot)
+    requires { IsSome (stored files.old from) }
+    ensures { Same (stored files.old) (stored files.new) ⊎ Renames (stored files.old) (stored files.new) from to }
+{
+    if renames {
+        let _done = files.rename(from, to);
+    }
+}
+
+impl Disk for StoppingDisk {
+    ghost file = { λ d. stored d.files };
+
+    ghost stops = { λ d. d.countdown.stops };
+
+    ghost arms = { λ d. d.arms.count };
+
+    ghost last_arm = { λ d. d.arms.last };
+
+    fn read(&mut self, alloc: Global, slot: Slot) -> Result<Option<Bytes>, DiskFault> {
+        if self.countdown.is_due() {
+            return Err(DiskFault::Stopped);
+        }
+        Ok(self.files.read(alloc, slot)?)
+    }
+
+    fn write(&mut self, slot: Slot, bytes: &[u8]) -> Result<(), DiskFault> {
+        if self.countdown.is_due() {
+            self.files.remove(slot);
+            return Err(DiskFault::Stopped);
+        }
+        self.files.write(slot, bytes)?;
+        Ok(())
+    }
+
+    fn rename(&mut self, from: Slot, to: Slot) -> Result<(), DiskFault> {
+        if self.countdown.is_due() {
+            rename_if(&mut self.files, self.renames, from, to);
+            return Err(DiskFault::Stopped);
+        }
+        self.files.rename(from, to)?;
+        Ok(())
+    }
+
+    fn remove(&mut self, slot: Slot) -> Result<(), DiskFault> {
+        if self.countdown.is_due() {
+            return Err(DiskFault::Stopped);
+        }
+        self.files.remove(slot);
+        Ok(())
+    }
+
+    fn names(&mut self, alloc: Global) -> Result<Slots, DiskFault> {
+        if self.countdown.is_due() {
+            return Err(DiskFault::Stopped);
+        }
+        Ok(self.files.names(alloc)?)
+    }
+
+    fn arm(&mut self, calls: u32, outcome: Outcome) {
+        self.arms.add(calls, outcome);
+    }
+}
+
+// The bytes of a file, or one byte 0 where there is none.
+fn bytes_at<D: Disk>(alloc: Global, disk: &mut D, slot: Slot) -> Result<Bytes, DiskFault> {
+    if let Some(bytes) = disk.read(alloc, slot)? {
+        return Ok(bytes);
+    }
+    let mut none = Bytes::new(alloc);
+    none.push(0)?;
+    Ok(none)
+}
+
+// A removal at one node is known in the rack: its disk lacks the file, and every other disk is as it was.
+fn remove_at<D: Disk>(rack: &mut Rack<D>, node: u8, slot: Slot) -> Result<(), DiskFault>
+    requires least { 1 ≤ node }
+    requires greatest { node ≤ 16 }
+    ensures { (d : D) × (rack.new ≡ slice_set rack.old (node - 1) d) × OnOk result (D.file d slot ≡ None) }
+{
+    rack.disk(node).remove(slot)
+}
+
+fn sixteen(alloc: Global) -> Result<Vec<MemDisk>, AllocError>
+    ensures { IfOk result (λ disks. length disks.items ≡ 16) }
+{
+    let mut disks = Vec::new(alloc);
+    for _ in 0..16u8 {
+        disks.push(MemDisk::new(alloc))?;
+    }
+    Ok(disks)
+}
+
+#[test]
+fn calls_in_a_row(rt: HostRuntime) -> Result<(), Fail> {
+    let alloc = rt.alloc();
+    let one = object_uid(1);
+    let two = object_uid(2);
+    let action = Uid {
+        node: 3,
+        inc: 2,
+        num: 1,
+    };
+    let slots = [
+        Slot::Incarnation,
+        Slot::Committed(one),
+        Slot::Committed(two),
+        Slot::Shadow(one),
+        Slot::Prepared(Role::Store, action),
+        Slot::Prepared(Role::Names, action),
+        Slot::Intent(action),
+    ];
+    let mut disk = MemDisk::new(alloc);
+    for slot in slots.iter().rev() {
+        disk.write(*slot, b"old".as_slice())?;
+    }
+    assert_eq!(rt; disk.names(alloc)?.as_slice(), slots.as_slice());
+
+    disk.write(Slot::Shadow(one), b"new".as_slice())?;
+    disk.rename(Slot::Shadow(one), Slot::Committed(one))?;
+    disk.remove(Slot::Prepared(Role::Store, action))?;
+    disk.remove(Slot::Tmp)?;
+    assert_eq!(rt;
+        bytes_at(alloc, &mut disk, Slot::Committed(one))?.as_slice(),
+        b"new".as_slice()
+    );
+    assert_eq!(rt;
+        bytes_at(alloc, &mut disk, Slot::Committed(two))?.as_slice(),
+        b"old".as_slice()
+    );
+    assert_eq!(rt;
+        bytes_at(alloc, &mut disk, Slot::Shadow(one))?.as_slice(),
+        [0].as_slice()
+    );
+    assert_eq!(rt;
+        disk.names(alloc)?.as_slice(),
+        [slots[0], slots[1], slots[2], slots[5], slots[6]].as_slice()
+    );
+    Ok(())
+}
+
+#[test]
+fn a_put_is_done_or_not(rt: HostRuntime) -> Result<(), Fail> {
+    let alloc = rt.alloc();
+    let slot = Slot::Committed(object_uid(1));
+    // The call of `put` that is stopped, whether a stopped rename is done, and the file after it.
+    let cases = [
+        (1, false, b"old"),
+        (2, false, b"old"),
+        (2, true, b"new"),
+        (3, false, b"new"),
+    ];
+    for (left, renames, want) in cases {
+        let mut files = Files::new(alloc);
+        files.write(slot, b"old".as_slice())?;
+        let mut disk = StoppingDisk {
+            files,
+            arms: Arms::new(),
+            countdown: Countdown { left, stops: 0 },
+            renames,
+        };
+        let done = put(&mut disk, slot, b"new".as_slice()).is_ok();
+        assert_eq!(rt; done, left == 3);
+        assert_eq!(rt; disk.countdown.stops, u64::from(!done));
+        disk.countdown.left = 0;
+        assert_eq!(rt;
+            bytes_at(alloc, &mut disk, slot)?.as_slice(),
+            want.as_slice()
+        );
+    }
+    Ok(())
+}
+
+#[test]
+fn one_disk_of_a_rack(rt: HostRuntime) -> Result<(), Fail> {
+    let alloc = rt.alloc();
+    let mut rack = Rack::new(sixteen(alloc)?);
+    for node in [1u8, 2, 16] {
+        put(rack.disk(node), Slot::Incarnation, [node].as_slice())?;
+    }
+    remove_at(&mut rack, 2, Slot::Incarnation)?;
+    for (node, want) in [(1u8, 1), (2, 0), (3, 0), (16, 16)] {
+        let bytes = bytes_at(alloc, rack.disk(node), Slot::Incarnation)?;
+        assert_eq!(rt; bytes.as_slice(), [want].as_slice());
+    }
+    Ok(())
+}
+
+#[test]
+fn a_sure_disk_does_not_stop(rt: HostRuntime) -> Result<(), Fail> {
+    let alloc = rt.alloc();
+    let mut disk = SureDisk::new(alloc);
+    disk.arm(1, Outcome::Undone);
+    put(&mut disk, Slot::Incarnation, b"1".as_slice())?;
+    disk.rename(Slot::Incarnation, Slot::Incarnation)?;
+    assert_eq!(rt;
+        bytes_at(alloc, &mut disk, Slot::Incarnation)?.as_slice(),
+        b"1".as_slice()
+    );
+    assert_eq!(rt;
+        disk.names(alloc)?.as_slice(),
+        [Slot::Incarnation].as_slice()
+    );
+    disk.remove(Slot::Incarnation)?;
+    assert_eq!(rt; disk.names(alloc)?.as_slice().len(), 0);
+    Ok(())
+}
