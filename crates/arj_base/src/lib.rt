@@ -13,7 +13,7 @@ mod state;
 mod uid;
 
 pub use binding::Binding;
-pub use mode::{End, Mode, conflicts};
+pub use mode::{End, Mode, conflicts, stronger};
 pub use seq::{Bytes, NodeList, Numbers, Pairs, Seq, Uids};
 pub use state::{Class, ObjectState, pack};
 pub use uid::{Uid, entry_uid, object_uid};

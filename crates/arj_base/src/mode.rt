@@ -1,6 +1,6 @@
 // Lock modes and the two ways in which an action ends.
 ghost use Rattle.std.specs.Prelude.{◌≡◌};
-ghost use Rattle.arj_base.specs.Mode.{conflicting};
+ghost use Rattle.arj_base.specs.Mode.{conflicting, stronger as stronger_of};
 
 /// A lock mode, weakest first. Read goes with read and exclude, exclude with read alone, write with none.
 /// Exclude is the naming service's exclude-write lock, held by an action that takes stores out of an entry.
@@ -19,6 +19,17 @@ pub fn conflicts(a: Mode, b: Mode) -> bool
         Mode::Read => b == Mode::Write,
         Mode::Exclude => b != Mode::Read,
         Mode::Write => true,
+    }
+}
+
+/// The stronger of two modes.
+pub fn stronger(a: Mode, b: Mode) -> Mode
+    ensures { result ≡ stronger_of a b }
+{
+    match (a, b) {
+        (Mode::Write, _) | (_, Mode::Write) => Mode::Write,
+        (Mode::Exclude, _) | (_, Mode::Exclude) => Mode::Exclude,
+        _ => Mode::Read,
     }
 }
 

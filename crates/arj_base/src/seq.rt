@@ -1,5 +1,5 @@
 // Small lists that contracts see as lists.
-ghost use Rattle.std.specs.Prelude.{◌≡◌, ◌<◌, [], ◌∷◌, ◌++◌, List, OnOk, OnErr, length, slice_set};
+ghost use Rattle.std.specs.Prelude.{◌≡◌, ◌<◌, [], ◌∷◌, ◌++◌, List, IfOk, OnOk, OnErr, length, slice_set};
 
 use crate::Uid;
 use std::alloc::{AllocError, Global};
@@ -32,6 +32,24 @@ impl<T> Seq<T> {
         ensures { result.now ≡ self.now }
     {
         self.items.as_slice()
+    }
+
+    /// The items as a vector. It keeps their memory.
+    pub fn into_vec(self) -> Vec<T>
+        ensures { result.items ≡ self }
+    {
+        self.items
+    }
+}
+
+impl<T: Copy> Seq<T> {
+    /// Another list with the same items, in memory from the same allocator.
+    pub fn copy(&self) -> Result<Self, AllocError>
+        ensures { IfOk result (λ copied. copied ≡ self.now) }
+    {
+        let alloc = *self.items.allocator();
+        let items = Vec::from_slice(alloc, self.items.as_slice())?;
+        Ok(Seq { items })
     }
 }
 

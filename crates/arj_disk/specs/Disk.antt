@@ -1,7 +1,8 @@
 -- What a disk call changes: relations between the files before it and after it, and how the counts go on.
-use Rattle.std.specs.Prelude.{◌≡◌, ◌≢◌, ◌⊎◌, ℕ, ◌+◌, ◌≤◌, List, Option, None, Some, Result, IsSome, IfErr, IsErrOf, OnOk, Contains, ◌↔◌}
+use Rattle.std.specs.Prelude.{◌≡◌, ◌≢◌, ◌⊎◌, ℕ, ◌≤◌, List, Option, None, Some, Result, IsSome, IfErr, IsErrOf, OnOk, Contains, ◌↔◌}
 use Rattle.std.specs.List.Sorted.{IsStrictlySortedBy}
 use Rattle.arj_base.specs.Count.{Rose}
+use Rattle.arj_disk.specs.declared.slot.Outcome.{Outcome}
 use Rattle.arj_disk.specs.declared.slot.Slot.{Slot}
 use Rattle.arj_disk.specs.declared.slot.Slot.TheVariants.{Tmp}
 use Rattle.arj_disk.specs.Files.{FileMap}
@@ -53,3 +54,8 @@ pub record CountsStops {T E : Type 0} (old new : ℕ) (result : Result T E) (sto
   pub later : old ≤ new
   pub ok : OnOk result (new ≡ old)
   pub other : IfErr result (λ e. e ≢ stopped → new ≡ old)
+
+-- no arm came: their number and the last one are as before
+pub record SameArms {D : Type 0} (arms : D → ℕ) (last_arm : D → Option (ℕ × Outcome)) (old new : D) : Type 0 where
+  pub number : arms new ≡ arms old
+  pub last : last_arm new ≡ last_arm old

@@ -1,5 +1,4 @@
 -- The files that a disk in memory keeps.
-use Rattle.std.specs.Prelude.{ℕ, List, Option}
 use Rattle.std.specs.BTreeMap.{get}
 use Rattle.arj_disk.specs.Slot.{slot_order}
 use Rattle.arj_disk.specs.Files.{FileMap}

@@ -1,6 +1,6 @@
 // The disk as the layers above see it, and the putting of a file.
 ghost use Rattle.std.specs.Prelude.{◌≡◌, ◌≢◌, ◌⊎◌, ◌+◌, ◌<◌, ◌≤◌, ℕ, List, Option, IfOk, OnOk, IsErrOf, IsSome};
-ghost use Rattle.arj_disk.specs.Disk.{Same, SameBut, Writes, Removes, Renames, Puts, PutsOrNot, Lists, CountsStops};
+ghost use Rattle.arj_disk.specs.Disk.{Same, SameBut, Writes, Removes, Renames, Puts, PutsOrNot, Lists, CountsStops, SameArms};
 ghost use Rattle.arj_disk.specs.declared.slot.Slot.{Slot};
 ghost use Rattle.arj_disk.specs.declared.slot.Outcome.{Outcome};
 
@@ -58,47 +58,40 @@ pub trait Disk {
         ensures bytes { IfOk result (λ found. found ≡ file self.old slot) }
         ensures files { Same (file self.old) (file self.new) }
         ensures stops { CountsStops (stops self.old) (stops self.new) result DiskFault.Stopped }
-        ensures arms { arms self.new ≡ arms self.old }
-        ensures last_arm { last_arm self.new ≡ last_arm self.old };
+        ensures arms { SameArms arms last_arm self.old self.new };
 
     /// Writes a whole file over what is there. Stopped, it leaves any bytes under the name, or no file.
     fn write(&mut self, slot: Slot, bytes: &[u8]) -> Result<(), DiskFault>
         ensures ok { OnOk result (Writes (file self.old) (file self.new) slot bytes.now) }
-        ensures stopped { IsErrOf result DiskFault.Stopped → SameBut (file self.old) (file self.new) slot }
+        ensures files { SameBut (file self.old) (file self.new) slot }
         ensures memory { IsErrOf result DiskFault.Memory → Same (file self.old) (file self.new) }
         ensures stops { CountsStops (stops self.old) (stops self.new) result DiskFault.Stopped }
-        ensures arms { arms self.new ≡ arms self.old }
-        ensures last_arm { last_arm self.new ≡ last_arm self.old };
+        ensures arms { SameArms arms last_arm self.old self.new };
 
     /// Gives a file another name, in the place of what has it. Stopped, it leaves the files before it or after it.
     fn rename(&mut self, from: Slot, to: Slot) -> Result<(), DiskFault>
         requires { IsSome (file self.old from) }
         ensures ok { OnOk result (Renames (file self.old) (file self.new) from to) }
-        ensures stopped { IsErrOf result DiskFault.Stopped
-            → Same (file self.old) (file self.new) ⊎ Renames (file self.old) (file self.new) from to }
+        ensures files { Same (file self.old) (file self.new) ⊎ Renames (file self.old) (file self.new) from to }
         ensures memory { IsErrOf result DiskFault.Memory → Same (file self.old) (file self.new) }
         ensures stops { CountsStops (stops self.old) (stops self.new) result DiskFault.Stopped }
-        ensures arms { arms self.new ≡ arms self.old }
-        ensures last_arm { last_arm self.new ≡ last_arm self.old };
+        ensures arms { SameArms arms last_arm self.old self.new };
 
     /// Removes a file; one that isn't there is no change. It takes no memory. Stopped, it leaves the files before
     /// it or after it.
     fn remove(&mut self, slot: Slot) -> Result<(), DiskFault>
         ensures ok { OnOk result (Removes (file self.old) (file self.new) slot) }
-        ensures stopped { IsErrOf result DiskFault.Stopped
-            → Same (file self.old) (file self.new) ⊎ Removes (file self.old) (file self.new) slot }
+        ensures files { Same (file self.old) (file self.new) ⊎ Removes (file self.old) (file self.new) slot }
         ensures memory { IsErrOf result DiskFault.Memory → ⊥ }
         ensures stops { CountsStops (stops self.old) (stops self.new) result DiskFault.Stopped }
-        ensures arms { arms self.new ≡ arms self.old }
-        ensures last_arm { last_arm self.new ≡ last_arm self.old };
+        ensures arms { SameArms arms last_arm self.old self.new };
 
     /// The names that have a file, in increasing order.
     fn names(&mut self, alloc: Global) -> Result<Slots, DiskFault>
         ensures names { IfOk result (λ names. Lists (file self.old) names) }
         ensures files { Same (file self.old) (file self.new) }
         ensures stops { CountsStops (stops self.old) (stops self.new) result DiskFault.Stopped }
-        ensures arms { arms self.new ≡ arms self.old }
-        ensures last_arm { last_arm self.new ≡ last_arm self.old };
+        ensures arms { SameArms arms last_arm self.old self.new };
 
     /// Asks for a stop: of the `calls`-th call from now, with this outcome. It replaces an earlier arm. Whether the
     /// disk then stops is the disk's own.
@@ -116,11 +109,10 @@ pub trait Disk {
 pub fn put<D: Disk>(disk: &mut D, slot: Slot, bytes: &[u8]) -> Result<(), DiskFault>
     requires { slot ≢ Slot.Tmp }
     ensures ok { OnOk result (Puts (D.file disk.old) (D.file disk.new) slot bytes.now) }
-    ensures stopped { IsErrOf result DiskFault.Stopped → PutsOrNot (D.file disk.old) (D.file disk.new) slot bytes.now }
+    ensures files { PutsOrNot (D.file disk.old) (D.file disk.new) slot bytes.now }
     ensures memory { IsErrOf result DiskFault.Memory → SameBut (D.file disk.old) (D.file disk.new) Slot.Tmp }
     ensures stops { CountsStops (D.stops disk.old) (D.stops disk.new) result DiskFault.Stopped }
-    ensures arms { D.arms disk.new ≡ D.arms disk.old }
-    ensures last_arm { D.last_arm disk.new ≡ D.last_arm disk.old }
+    ensures arms { SameArms D.arms D.last_arm disk.old disk.new }
 {
     disk.write(Slot::Tmp, bytes)?;
     disk.rename(Slot::Tmp, slot)

@@ -1,11 +1,11 @@
 // The files of a disk in memory, and its record of arms.
-ghost use Rattle.std.specs.Prelude.{◌≡◌, ◌+◌, ◌<◌, ◌↔◌, OnOk, OnErr, IfOk, IsSome};
+ghost use Rattle.std.specs.Prelude.{◌≡◌, ◌+◌, ◌<◌, OnOk, OnErr, IfOk, IsSome};
 ghost use Rattle.arj_disk.specs.Disk.{Same, Writes, Removes, Renames, Lists};
 ghost use Rattle.arj_disk.specs.Stored.{stored};
 
 use crate::{Outcome, Slot, Slots};
 use arj_base::Bytes;
-use std::alloc::{AllocError, AllocFailed, Global};
+use std::alloc::{AllocError, Global};
 use std::collections::BTreeMap;
 
 /// Files in memory, ordered by their names.

@@ -1,5 +1,5 @@
 // Disks in memory.
-ghost use Rattle.std.specs.Prelude.{◌≡◌, ℕ, None};
+ghost use Rattle.std.specs.Prelude.{◌≡◌, None};
 ghost use Rattle.arj_disk.specs.Stored.{stored};
 
 use crate::files::{Arms, Files};
@@ -79,6 +79,7 @@ impl SureDisk {
     /// No file and no arm.
     pub fn new(alloc: Global) -> SureDisk
         ensures empty { (q : Slot) → ⟦<SureDisk as Disk>⟧.file result q ≡ None }
+        ensures stops { ⟦<SureDisk as Disk>⟧.stops result ≡ 0 }
         ensures arms { ⟦<SureDisk as Disk>⟧.arms result ≡ 0 }
         ensures last_arm { ⟦<SureDisk as Disk>⟧.last_arm result ≡ None }
     {

@@ -1,5 +1,5 @@
 // Disks in memory, and `put` over a disk that stops.
-ghost use Rattle.std.specs.Prelude.{◌≡◌, ◌≢◌, ◌⊎◌, ◌+◌, ◌-◌, ◌≤◌, ℕ, length, slice_get, slice_set, IfOk, OnOk, IsErrOf, IsSome};
+ghost use Rattle.std.specs.Prelude.{◌≢◌, IsErrOf, ◌≡◌, ◌⊎◌, ◌-◌, ◌≤◌, length, slice_set, IfOk, OnOk, IsSome};
 ghost use Rattle.std.specs.Bool.{OnTrue, OnFalse};
 ghost use Rattle.arj_base.specs.Count.{Rose};
 ghost use Rattle.arj_disk.specs.Disk.{Same, Renames};
@@ -106,6 +106,18 @@ impl Disk for StoppingDisk {
     }
 }
 
+// A disk with one file, of the object 1, whose call with this number is stopped.
+fn stopping_at(alloc: Global, left: u32, renames: bool) -> Result<StoppingDisk, AllocError> {
+    let mut files = Files::new(alloc);
+    files.write(Slot::Committed(object_uid(1)), b"old".as_slice())?;
+    Ok(StoppingDisk {
+        files,
+        arms: Arms::new(),
+        countdown: Countdown { left, stops: 0 },
+        renames,
+    })
+}
+
 // The bytes of a file, or one byte 0 where there is none.
 fn bytes_at<D: Disk>(alloc: Global, disk: &mut D, slot: Slot) -> Result<Bytes, DiskFault> {
     if let Some(bytes) = disk.read(alloc, slot)? {
@@ -123,6 +135,23 @@ fn remove_at<D: Disk>(rack: &mut Rack<D>, node: u8, slot: Slot) -> Result<(), Di
     ensures { (d : D) × (rack.new ≡ slice_set rack.old (node - 1) d) × OnOk result (D.file d slot ≡ None) }
 {
     rack.disk(node).remove(slot)
+}
+
+// A disk whose count of stops can't rise never stops.
+fn put_surely(disk: &mut SureDisk, slot: Slot, bytes: &[u8]) -> Result<(), DiskFault>
+    requires { slot ≢ Slot.Tmp }
+    ensures { IsErrOf result DiskFault.Stopped → ⊥ }
+{
+    put(disk, slot, bytes)
+}
+
+// Whether a call was done, or else stopped.
+fn was_done(ended: Result<(), DiskFault>) -> Result<bool, AllocError> {
+    match ended {
+        Ok(()) => Ok(true),
+        Err(DiskFault::Stopped) => Ok(false),
+        Err(DiskFault::Memory) => Err(AllocError),
+    }
 }
 
 fn sixteen(alloc: Global) -> Result<Vec<MemDisk>, AllocError>
@@ -195,15 +224,8 @@ fn a_put_is_done_or_not(rt: HostRuntime) -> Result<(), Fail> {
         (3, false, b"new"),
     ];
     for (left, renames, want) in cases {
-        let mut files = Files::new(alloc);
-        files.write(slot, b"old".as_slice())?;
-        let mut disk = StoppingDisk {
-            files,
-            arms: Arms::new(),
-            countdown: Countdown { left, stops: 0 },
-            renames,
-        };
-        let done = put(&mut disk, slot, b"new".as_slice()).is_ok();
+        let mut disk = stopping_at(alloc, left, renames)?;
+        let done = was_done(put(&mut disk, slot, b"new".as_slice()))?;
         assert_eq!(rt; done, left == 3);
         assert_eq!(rt; disk.countdown.stops, u64::from(!done));
         disk.countdown.left = 0;
@@ -237,6 +259,8 @@ fn a_sure_disk_does_not_stop(rt: HostRuntime) -> Result<(), Fail> {
     disk.arm(1, Outcome::Undone);
     put(&mut disk, Slot::Incarnation, b"1".as_slice())?;
     disk.rename(Slot::Incarnation, Slot::Incarnation)?;
+    put_surely(&mut disk, Slot::Intent(object_uid(1)), b"2".as_slice())?;
+    disk.remove(Slot::Intent(object_uid(1)))?;
     assert_eq!(rt;
         bytes_at(alloc, &mut disk, Slot::Incarnation)?.as_slice(),
         b"1".as_slice()

@@ -12,7 +12,7 @@ counted n = if nat_lt n 18446744073709551615 then n + 1 else n
 
 -- a source in memory: the bytes left, the most that a read gives, the numbers of the reads that fail, how many
 -- reads were made, and how many of them failed
-pub record Planned : Type 0 where
+pub record PlannedSource : Type 0 where
   pub left : List ℕ
   pub chunk : ℕ
   pub failing : List ℕ
@@ -20,7 +20,7 @@ pub record Planned : Type 0 where
   pub faults : ℕ
 
 -- how many bytes a read of such a source gives into a buffer of this length
-abbrev pub given_count : Planned → ℕ → ℕ
+abbrev pub given_count : PlannedSource → ℕ → ℕ
 given_count source length_of_buffer = min source.chunk (min length_of_buffer (length source.left))
 
 -- a sink in memory: its room, and the bytes taken, where they are told

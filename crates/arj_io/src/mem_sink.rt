@@ -23,7 +23,10 @@ impl Model for SureSink {
 
     ghost Value = { Filled };
 
-    ghost view = { λ s. record { room = length s.room; taken = option_map (λ n. take n s.room) s.used } };
+    ghost view = { λ s. record {
+      room = length s.room;
+      taken = option_map (λ n. take n s.room) s.used;
+    } };
 
     ghost invariant = { λ s. ForSome s.used (λ n. n ≤ length s.room) };
 }
@@ -59,7 +62,8 @@ impl Sink for SureSink {
     fn write(&mut self, bytes: &[u8]) -> Result<usize, Failed>
         requires { 0 < length bytes.now }
         ensures whole { result ≡ Ok (length bytes.now) }
-        ensures took { self.new ≡ record self.old { taken = taken_with self.old.room self.old.taken bytes.now } }
+        ensures took { self.new
+            ≡ record self.old { taken = taken_with self.old.room self.old.taken bytes.now } }
     {
         self.used = match self.used {
             Some(used) => keep(&mut self.room, used, bytes),
@@ -74,7 +78,8 @@ fn keep(room: &mut Bytes, used: usize, piece: &[u8]) -> Option<usize>
     requires { used ≤ length room.old }
     ensures room { length room.new ≡ length room.old }
     ensures within { IfSome result (λ n. n ≤ length room.new) }
-    ensures kept { option_map (λ n. take n room.new) result ≡ taken_with (length room.old) (Some (take used room.old)) piece.now }
+    ensures kept { option_map (λ n. take n room.new) result
+        ≡ taken_with (length room.old) (Some (take used room.old)) piece.now }
 {
     if piece.len() > room.as_slice().len() - used {
         return None;
@@ -108,13 +113,25 @@ impl Model for MemSink {
 
     ghost Value = { PlannedSink };
 
-    ghost view = { λ s. record { room = s.sink.room; taken = s.sink.taken; failing = s.plan.failing; calls = s.plan.calls; faults = s.plan.faults } };
+    ghost view = { λ s. record {
+      room = s.sink.room;
+      taken = s.sink.taken;
+      failing = s.plan.failing;
+      calls = s.plan.calls;
+      faults = s.plan.faults;
+    } };
 }
 
 impl MemSink {
     /// A sink with the room of these bytes, which it writes over. Nothing is taken, and no write was made.
     pub fn new(room: Bytes, failing: Numbers) -> MemSink
-        ensures { result ≡ record { room = length room; taken = Some []; failing = failing; calls = 0; faults = 0 } }
+        ensures { result ≡ record {
+          room = length room;
+          taken = Some [];
+          failing = failing;
+          calls = 0;
+          faults = 0;
+        } }
     {
         MemSink {
             sink: SureSink::new(room),
@@ -124,7 +141,8 @@ impl MemSink {
 
     /// The bytes taken, or None where they aren't told.
     pub fn taken(&self) -> Option<&[u8]>
-        ensures { option_copied result ≡ self.now.taken }
+        ensures told { option_copied result ≡ self.now.taken }
+        ensures within { IfSome result (λ bytes. length bytes.now ≤ self.now.room) }
     {
         self.sink.taken()
     }
@@ -139,8 +157,12 @@ impl Sink for MemSink {
         requires { 0 < length bytes.now }
         ensures planned { is_err result ≡ is_planned self.old.failing (self.old.calls + 1) }
         ensures whole { IfOk result (λ n. n ≡ length bytes.now) }
-        ensures ok { OnOk result (self.new ≡ record self.old { taken = taken_with self.old.room self.old.taken bytes.now; calls = counted self.old.calls }) }
-        ensures err { OnErr result (self.new ≡ record self.old { calls = counted self.old.calls; faults = counted self.old.faults }) }
+        ensures ok { OnOk result (self.new ≡ record self.old {
+          taken = taken_with self.old.room self.old.taken bytes.now;
+          calls = counted self.old.calls;
+        }) }
+        ensures err { OnErr result (self.new
+            ≡ record self.old { calls = counted self.old.calls; faults = counted self.old.faults }) }
     {
         self.plan.call()?;
         self.sink.write(bytes)

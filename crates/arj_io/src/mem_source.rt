@@ -45,7 +45,7 @@ impl Source for SureSource {
         ensures within { IfOk result (λ n. n ≤ length buf.new) }
         ensures end { IfOk result (λ n. (n ≡ 0) ↔ (self.old ≡ [])) }
         ensures given { result ≡ Ok (min (length buf.old) (length self.old)) }
-        ensures moved { self.old ≡ take (min (length buf.old) (length self.old)) buf.new ++ self.new }
+        ensures moved { IfOk result (λ n. self.old ≡ take n buf.new ++ self.new) }
     {
         let count = copy_front(&self.bytes.as_slice()[self.at..], buf);
         self.at += count;
@@ -74,11 +74,17 @@ pub struct MemSource {
 
 impl Model for MemSource {
     ghost use Rattle.std.specs.Prelude.{◌<◌};
-    ghost use Rattle.arj_io.specs.InMemory.{Planned};
+    ghost use Rattle.arj_io.specs.InMemory.{PlannedSource};
 
-    ghost Value = { Planned };
+    ghost Value = { PlannedSource };
 
-    ghost view = { λ s. record { left = s.source; chunk = s.chunk; failing = s.plan.failing; calls = s.plan.calls; faults = s.plan.faults } };
+    ghost view = { λ s. record {
+      left = s.source;
+      chunk = s.chunk;
+      failing = s.plan.failing;
+      calls = s.plan.calls;
+      faults = s.plan.faults;
+    } };
 
     ghost invariant = { λ s. 0 < s.chunk };
 }
@@ -87,7 +93,8 @@ impl MemSource {
     /// A source of these bytes, of which no read was made. The chunk is at least 1.
     pub fn new(bytes: Bytes, chunk: usize, failing: Numbers) -> MemSource
         requires { 0 < chunk }
-        ensures { result ≡ record { left = bytes; chunk = chunk; failing = failing; calls = 0; faults = 0 } }
+        ensures { result
+            ≡ record { left = bytes; chunk = chunk; failing = failing; calls = 0; faults = 0 } }
     {
         MemSource {
             source: SureSource::new(bytes),
@@ -111,8 +118,10 @@ impl Source for MemSource {
         ensures planned { is_err result ≡ is_planned self.old.failing (self.old.calls + 1) }
         ensures count { IfOk result (λ n. n ≡ given_count self.old (length buf.old)) }
         ensures moved { IfOk result (λ n. self.old.left ≡ take n buf.new ++ self.new.left) }
-        ensures ok { OnOk result (self.new ≡ record self.old { left = self.new.left; calls = counted self.old.calls }) }
-        ensures err { OnErr result (self.new ≡ record self.old { calls = counted self.old.calls; faults = counted self.old.faults }) }
+        ensures ok { OnOk result (self.new
+            ≡ record self.old { left = self.new.left; calls = counted self.old.calls }) }
+        ensures err { OnErr result (self.new
+            ≡ record self.old { calls = counted self.old.calls; faults = counted self.old.faults }) }
     {
         self.plan.call()?;
         let most = self.chunk.min(buf.len());

@@ -30,7 +30,8 @@ impl CallPlan {
     pub fn call(&mut self) -> Result<(), Failed>
         ensures planned { is_err result ≡ is_planned self.old.failing (self.old.calls + 1) }
         ensures ok { OnOk result (self.new ≡ record self.old { calls = counted self.old.calls }) }
-        ensures err { OnErr result (self.new ≡ record self.old { calls = counted self.old.calls; faults = counted self.old.faults }) }
+        ensures err { OnErr result (self.new
+            ≡ record self.old { calls = counted self.old.calls; faults = counted self.old.faults }) }
     {
         let before = self.calls;
         self.calls = before.saturating_add(1);

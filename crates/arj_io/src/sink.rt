@@ -30,7 +30,8 @@ pub trait Sink {
 pub fn write_all<K: Sink>(sink: &mut K, bytes: &[u8]) -> Result<(), Failed>
     ensures took { OnOk result (Takes (K.taken sink.old) bytes.now (K.taken sink.new)) }
     ensures steady { OnOk result (K.faults sink.new ≡ K.faults sink.old) }
-    ensures front { OnErr result ((n : ℕ) × (n < length bytes.now) × Takes (K.taken sink.old) (take n bytes.now) (K.taken sink.new)) }
+    ensures front { OnErr result ((n : ℕ) × (n < length bytes.now)
+        × Takes (K.taken sink.old) (take n bytes.now) (K.taken sink.new)) }
     ensures failed { OnErr result (Rose (K.faults sink.old) (K.faults sink.new)) }
     ensures later { K.faults sink.old ≤ K.faults sink.new }
     // with no bytes there is no call

@@ -1,10 +1,11 @@
-// The real ends, over std's readers and writers. What they tell stands on the word of the system alone.
+// The real ends, over std's readers and writers. They are trusted: no clause says which bytes the system moves.
 ghost use Rattle.std.specs.Prelude.{◌≡◌};
 
 use crate::{Failed, Sink, Source};
 use std::io::{Read, Write};
 
-/// A source over a reader. It tells nothing of bytes, and each error of the reader counts as a fault.
+/// A source over a reader. It tells nothing of bytes. Each error of the reader counts as a fault, that of an
+/// interrupted read too.
 #[derive(Drop)]
 pub struct StdSource<R> {
     inner: R,

@@ -1,10 +1,17 @@
 -- Labels, seen as their bytes.
 use Rattle.std.specs.Prelude.{◌≡◌, ℕ, List, [], ◌∷◌, take, Bool, true, false, ◌&&◌, ◌||◌, nat_le}
 use Rattle.std.specs.List.{list_all}
+use Rattle.std.specs.declared.cmp.Ordering.{Ordering}
+use Rattle.std.specs.Ordering.{nat_cmp, on}
+use Rattle.std.specs.Cmp.Lexicographic.{slice_cmp}
 use Rattle.arj_journal.specs.declared.label.Label.{Label}
 
 abbrev pub name : Label → List ℕ
 name l = take l.len l.text
+
+-- the order of labels, that of their bytes
+abbrev pub label_cmp : Label → Label → Ordering
+label_cmp = on name (slice_cmp nat_cmp)
 
 -- ASCII letters and digits
 abbrev pub is_letter : ℕ → Bool

@@ -1,4 +1,4 @@
--- The spelling of journal lines. No two lines have one spelling.
+-- The spelling of journal lines. No two lines whose labels are in form have one spelling.
 use Rattle.std.specs.Prelude.{ℕ, List, [], ◌∷◌, ◌++◌, codes, Bool, true, false, Option, Some, None}
 use Rattle.std.specs.List.{flat_map}
 use Rattle.std.specs.Fmt.{decimal}

@@ -1,6 +1,6 @@
 -- The calls that were answered, and those of them that survive: made by a committed top, or below it by actions
 -- whose nested ends up to the top are all commits.
-use Rattle.std.specs.Prelude.{ℕ, List, [], ◌∷◌, map, Bool, ◌&&◌, ◌==◌, Option, Some, None, if◌then◌else◌}
+use Rattle.std.specs.Prelude.{ℕ, List, [], ◌∷◌, map, filter, Bool, ◌&&◌, ◌==◌, Option, Some, None, if◌then◌else◌}
 use Rattle.std.specs.List.{list_all, filter_map}
 use Rattle.arj_base.specs.declared.uid.Uid.{Uid}
 use Rattle.arj_class.specs.declared.op.Op.{Op}
@@ -66,6 +66,17 @@ kept ends found s = kept_in ends found s (top_in s.it.path)
 -- the surviving calls of committed tops, in the order of their lines
 abbrev pub committed_calls : List Line → List Call
 committed_calls lines = filter_map (kept (committed lines) (recovered lines)) (said lines)
+
+-- all answered calls of tops and below them, also those of actions that are open or aborted
+abbrev pub made_in : Placed Said → Option Act → Option Call
+made_in s None = None
+made_in s (Some top) = Some (call_of s top)
+
+abbrev pub made : List Line → List Call
+made lines = filter_map (λ s. made_in s (top_in s.it.path)) (said lines)
+
+abbrev pub made_by : List Line → ℕ → List Call
+made_by lines id = filter (λ c. c.top == id) (made lines)
 
 -- the number of the root of a path that isn't empty
 abbrev pub root_or : ℕ → Option ℕ → ℕ

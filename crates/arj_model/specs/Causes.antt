@@ -1,6 +1,7 @@
 -- Why a line stands in a journal, and that every call and commit is answered in its own event.
-use Rattle.std.specs.Prelude.{◌≡◌, ℕ, ◌+◌, List, [], ◌∷◌, filter, length, Bool, true, false, ◌==◌, ◌||◌, Option, Some, None, MatchOption, ⊤}
+use Rattle.std.specs.Prelude.{◌≡◌, ℕ, ◌+◌, List, [], ◌∷◌, filter, length, Bool, true, false, ◌==◌, ◌||◌, nat_le, Option, Some, None, MatchOption, ⊤}
 use Rattle.std.specs.List.{list_any}
+use Rattle.std.specs.Str.{bytes_eq}
 use Rattle.arj_base.specs.declared.uid.Uid.{Uid}
 use Rattle.arj_base.specs.Uid.{object}
 use Rattle.arj_base.specs.Rows.{Row, first_conflict, last_uid}
@@ -14,10 +15,10 @@ use Rattle.arj_journal.specs.declared.event.Event.TheVariants as event
 use Rattle.arj_journal.specs.declared.header.Header.{Header}
 use Rattle.arj_journal.specs.declared.label.Label.{Label}
 use Rattle.arj_journal.specs.Label.{name}
-use Rattle.arj_model.specs.Actions.{acts, path, uids}
+use Rattle.arj_model.specs.Actions.{Act, acts, act_in, path, uids}
 use Rattle.arj_model.specs.Table.{table}
 use Rattle.arj_model.specs.Past.{Past}
-use Rattle.arj_model.specs.Follows.{refusal, is_answer_to}
+use Rattle.arj_model.specs.Follows.{refusal, is_answer_to, Step}
 
 abbrev pub is_conflict : Body → Bool
 is_conflict (body.Conflict l holder mode n) = true
@@ -41,20 +42,25 @@ ConflictsHaveCause past _ bodies = filter is_conflict bodies ≡ []
 abbrev pub HasCauseConflict : Header → Past → Event → List Body → Type 0
 HasCauseConflict header past e bodies = MatchOption (refusal header past e) (ConflictsHaveCause past e bodies) (λ c. filter is_conflict bodies ≡ [])
 
--- the end of a commit: `committed`, or the halt of its node
-abbrev pub is_commit_end : Body → Bool
-is_commit_end (body.Committed l) = true
-is_commit_end (body.Halted n) = true
-is_commit_end _ = false
+-- the action's node
+abbrev pub is_node_of : Option Act → ℕ → Bool
+is_node_of None n = false
+is_node_of (Some a) n = n == a.uid.node
+
+-- the end of the action's commit: its own `committed`, or the halt of its node
+abbrev pub is_commit_end : List Line → List ℕ → Body → Bool
+is_commit_end lines l (body.Committed m) = bytes_eq (name m) l
+is_commit_end lines l (body.Halted n) = is_node_of (act_in (acts lines) l) n
+is_commit_end lines l _ = false
 
 -- an accepted call and an accepted commit are answered in their own event
-abbrev pub IsAnswered : Event → List Body → Type 0
-IsAnswered (event.Call l x op) bodies = list_any (is_answer_to (name l)) bodies ≡ true
-IsAnswered (event.Commit l) bodies = list_any is_commit_end bodies ≡ true
-IsAnswered _ bodies = ⊤
+abbrev pub IsAnswered : List Line → Event → List Body → Type 0
+IsAnswered lines (event.Call l x op) bodies = list_any (is_answer_to (name l)) bodies ≡ true
+IsAnswered lines (event.Commit l) bodies = list_any (is_commit_end lines (name l)) bodies ≡ true
+IsAnswered lines _ bodies = ⊤
 
 abbrev pub Prompt : Header → Past → Event → List Body → Type 0
-Prompt header past e bodies = MatchOption (refusal header past e) (IsAnswered e bodies) (λ c. ⊤)
+Prompt header past e bodies = MatchOption (refusal header past e) (IsAnswered past.lines e bodies) (λ c. ⊤)
 
 -- the `halted` lines of a node
 abbrev pub is_halt : ℕ → Body → Bool
@@ -63,3 +69,32 @@ is_halt n _ = false
 
 abbrev pub count_halts : List Line → ℕ → ℕ
 count_halts lines n = length (filter (λ line. is_halt n line.body) lines)
+
+-- a label that is new when 4,096 were given is no event that is run, but a limit
+abbrev pub is_full : Past → Bool
+is_full past = nat_le 4096 (length (acts past.lines))
+
+abbrev pub HasRoomFor : Past → Event → Type 0
+HasRoomFor past (event.Begin l n) = is_full past ≡ false
+HasRoomFor past _ = ⊤
+
+-- an accepted event that gives a label finds room for it
+abbrev pub HasRoom : Header → Past → Event → List Body → Type 0
+HasRoom header past e bodies = MatchOption (refusal header past e) (HasRoomFor past e) (λ c. ⊤)
+
+abbrev pub GivesLabel : Event → Type 0
+GivesLabel (event.Begin l n) = ⊤
+GivesLabel _ = ⊥
+
+-- the event, which isn't refused, would give one label too many
+pub record IsPastLabels (header : Header) (past : Past) (e : Event) : Type 0 where
+  pub gives : GivesLabel e
+  pub accepted : refusal header past e ≡ None
+  pub full : is_full past ≡ true
+
+-- All that holds at one event.
+pub record Moment (header : Header) (past : Past) (e : Event) (bodies : List Body) : Type 0 where
+  pub step : Step header past e bodies
+  pub conflict : HasCauseConflict header past e bodies
+  pub prompt : Prompt header past e bodies
+  pub room : HasRoom header past e bodies

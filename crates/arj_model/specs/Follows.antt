@@ -1,11 +1,12 @@
 -- What it is for a journal to follow the events of a script: which events are refused and by which cause, which line
 -- is an accepted event's own, which lines may stand in it, and which lines answer what was asked.
 use Rattle.std.specs.Prelude.{◌≡◌, ◌⊎◌, ◌<◌, ℕ, ◌+◌, List, [], ◌∷◌, ◌++◌, length, map, filter, Bool, true, false, ◌==◌, ◌&&◌, ◌||◌, not, nat_lt, nat_le, if◌then◌else◌, Option, Some, None, is_some, is_none, MatchOption, ⊤}
-use Rattle.std.specs.List.{list_any, list_all, filter_map}
+use Rattle.std.specs.List.{list_any, list_all}
 use Rattle.std.specs.Option.{option_map}
 use Rattle.std.specs.Str.{bytes_eq}
 use Rattle.arj_base.specs.declared.uid.Uid.{Uid}
 use Rattle.arj_class.specs.declared.op.Op.{Op}
+use Rattle.arj_class.specs.declared.op.Answer.{Answer}
 use Rattle.arj_class.specs.Table.{class_of, has_op}
 use Rattle.arj_journal.specs.declared.body.Body.{Body}
 use Rattle.arj_journal.specs.declared.body.Body.TheVariants as body
@@ -19,8 +20,9 @@ use Rattle.arj_journal.specs.declared.header.Header.{Header}
 use Rattle.arj_journal.specs.declared.header.ObjectLine.{ObjectLine}
 use Rattle.arj_journal.specs.declared.label.Label.{Label}
 use Rattle.arj_journal.specs.Label.{name}
+use Rattle.arj_journal.specs.Words.{answer_text}
 use Rattle.arj_model.specs.Actions.{Act, acts, act_in, is_begun, is_over, root_in, path}
-use Rattle.arj_model.specs.Last.{object_line, is_among}
+use Rattle.arj_model.specs.Last.{object_line, is_among, insert_number}
 use Rattle.arj_model.specs.Past.{Past, Asked, asked_of, block, next, Along, nothing_yet}
 
 -- Nodes.
@@ -79,16 +81,21 @@ abbrev pub is_root : Option ℕ → Option ℕ → Bool
 is_root (Some a) (Some b) = a == b
 is_root _ _ = false
 
-abbrev pub use_by : Option ℕ → Asked → Option ℕ
-use_by root a = if is_root (root_in a.path) root then object_used a.event else None
+-- the list with the object in its place, if it isn't there yet
+abbrev pub with_object : List ℕ → Option ℕ → List ℕ
+with_object used None = used
+with_object used (Some x) = insert_number x used
 
--- the objects that a root's accepted calls and includes have used, each at its last use
-abbrev pub each_once : List ℕ → List ℕ
-each_once [] = []
-each_once (n ∷ ns) = if is_among ns n then each_once ns else n ∷ each_once ns
+abbrev pub used_by : Option ℕ → Asked → List ℕ → List ℕ
+used_by root a used = if is_root (root_in a.path) root then with_object used (object_used a.event) else used
 
+abbrev pub objects_from : Option ℕ → List ℕ → List Asked → List ℕ
+objects_from root used [] = used
+objects_from root used (a ∷ rest) = objects_from root (used_by root a used) rest
+
+-- the objects that a root's accepted calls and includes have used, whatever was answered, in increasing order
 abbrev pub objects_of : Past → Option ℕ → List ℕ
-objects_of past root = each_once (filter_map (use_by root) past.accepted)
+objects_of past root = objects_from root [] past.accepted
 
 -- the object would be the root's seventeenth
 abbrev pub is_too_many : Past → List ℕ → ℕ → Bool
@@ -203,10 +210,15 @@ abbrev pub IsIncludeOf : ℕ → ℕ → Option Event → Type 0
 IsIncludeOf x n (Some (event.Include m y asked)) = (y ≡ x) × (asked ≡ n)
 IsIncludeOf x n _ = ⊥
 
+-- An `ok` line ends with the text of an answer. With any other bytes there, its text could show lines that aren't in
+-- the journal.
+abbrev pub IsAnswerText : List ℕ → Type 0
+IsAnswerText answer = (a : Answer) × (answer ≡ answer_text a)
+
 -- An answer is to what was asked and isn't answered yet, with its own object and operation; a top's end is to its
 -- commit.
 abbrev pub AnswerFits : List Asked → List Line → Body → Type 0
-AnswerFits accepted lines (body.Ok l x op answer) = IsCallOf x op (pending accepted lines (name l))
+AnswerFits accepted lines (body.Ok l x op answer) = IsCallOf x op (pending accepted lines (name l)) × IsAnswerText answer
 AnswerFits accepted lines (body.Includes l x n) = IsIncludeOf x n (pending accepted lines (name l))
 AnswerFits accepted lines (body.Conflict l holder mode n) = is_some (pending accepted lines (name l)) ≡ true
 AnswerFits accepted lines (body.Lost l n) = is_some (pending accepted lines (name l)) ≡ true
@@ -240,9 +252,10 @@ AreEnding n [] = ⊤
 AreEnding n (line ∷ []) = (line.event ≡ n) × (is_ending line.body ≡ true)
 AreEnding n _ = ⊥
 
--- At each event this holds, and behind the events stand at most one line outside them.
+-- The journal is that of a run over these events, at each of which this holds. Behind the events stands at most one
+-- line outside them.
 abbrev pub Runs : (Past → Event → List Body → Type 0) → List Event → List Line → Type 0
-Runs P es lines = (core : List Line) × (ending : List Line) × (lines ≡ core ++ ending) × Along P nothing_yet es core × AreEnding (length es) ending
+Runs P es lines = (end : Past) × (ending : List Line) × Along P nothing_yet es end × (lines ≡ end.lines ++ ending) × AreEnding (length es) ending
 
 -- The journal follows the events.
 abbrev pub Follows : Header → List Event → List Line → Type 0

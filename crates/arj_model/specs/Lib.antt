@@ -6,3 +6,5 @@ pub mod Table
 pub mod Past
 pub mod Follows
 pub mod Causes
+pub mod Clean
+pub mod Seen

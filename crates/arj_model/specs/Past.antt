@@ -51,9 +51,8 @@ next past e bodies = record {
   lines = past.lines ++ block (past.count + 1) bodies;
 }
 
--- The lines are those of the events, one event after another, and at each event this holds of what was there
--- before it and of what it wrote.
-abbrev pub Along : (Past → Event → List Body → Type 0) → Past → List Event → List Line → Type 0
-Along P past [] lines = lines ≡ []
-Along P past (e ∷ es) lines =
-    (bodies : List Body) × (rest : List Line) × (lines ≡ block (past.count + 1) bodies ++ rest) × P past e bodies × Along P (next past e bodies) es rest
+-- The run goes on over these events to its end: at each of them this holds of what was there before it and of the
+-- lines that it wrote.
+abbrev pub Along : (Past → Event → List Body → Type 0) → Past → List Event → Past → Type 0
+Along P past [] end = past ≡ end
+Along P past (e ∷ es) end = (bodies : List Body) × P past e bodies × Along P (next past e bodies) es end

@@ -1,4 +1,4 @@
-use Rattle.std.proofs.Common.{◌≡◌, rules, sym, subst}
+use Rattle.std.proofs.Common.{◌≡◌, rules, subst}
 use Rattle.std.specs.BTreeMap.{keys}
 use Rattle.arj_disk.specs.Disk.{Lists}
 use Rattle.arj_disk.specs.Stored.{stored}

@@ -1,0 +1,5 @@
+pub mod Journals
+pub mod Order
+pub mod Read
+mod Rows
+pub mod Seen

@@ -1,0 +1,304 @@
+-- The definitions tried on the worked runs: each value is known beforehand, and another one would be refused.
+use Rattle.std.specs.Prelude.{◌≡◌, refl, ℕ, ◌+◌, List, [], ◌∷◌, ◌++◌, length, map, filter, take, codes, Bool, true, false, Some, None, ⊤}
+use Rattle.std.specs.List.{list_all}
+use Rattle.std.proofs.Common.{arith, sym}
+use Rattle.std.proofs.lemmas.Fmt.{decimal_digit}
+use Rattle.arj_base.specs.declared.uid.Uid.{Uid}
+use Rattle.arj_base.specs.declared.mode.Mode.{Mode}
+use Rattle.arj_base.specs.declared.mode.Mode.TheVariants.{Read, Write}
+use Rattle.arj_base.specs.declared.state.Class.TheVariants as class
+use Rattle.arj_base.specs.declared.state.ObjectState.{ObjectState}
+use Rattle.arj_base.specs.Uid.{object, entry, nobody}
+use Rattle.arj_base.specs.Rows.{Row}
+use Rattle.arj_class.specs.declared.op.Op.TheVariants.{Get, Add, Set}
+use Rattle.arj_class.specs.declared.op.Answer.TheVariants.{Done, Number}
+use Rattle.arj_class.specs.declared.value.Value.TheVariants.{Counter, Register}
+use Rattle.arj_journal.specs.declared.body.Body.{Body}
+use Rattle.arj_journal.specs.declared.body.Body.TheVariants as body
+use Rattle.arj_journal.specs.declared.body.Cause.TheVariants as cause
+use Rattle.arj_journal.specs.declared.body.Kind.TheVariants as kind
+use Rattle.arj_journal.specs.declared.body.Line.{Line}
+use Rattle.arj_journal.specs.declared.event.Event.{Event}
+use Rattle.arj_journal.specs.declared.event.Event.TheVariants as event
+use Rattle.arj_journal.specs.declared.header.Header.{Header}
+use Rattle.arj_model.specs.Actions.{acts, is_over}
+use Rattle.arj_model.specs.Calls.{tops, committed_calls}
+use Rattle.arj_model.specs.Serial.{Serial, serial_calls}
+use Rattle.arj_model.specs.Last.{first_values, last_state, listed, entry_state}
+use Rattle.arj_model.specs.Table.{table}
+use Rattle.arj_model.specs.Past.{Past, nothing_yet, asked_of, next, block, Along}
+use Rattle.arj_model.specs.Follows.{refusal, is_own, own_lines, may_stand, AnswersFit, Step, Accepted, AreEnding, Follows, Runs}
+use Rattle.arj_model.specs.Causes.{HasCauseConflict, Prompt}
+use Rattle.arj_model.proofs.Journals.{A, B, C, N, uid, counter, began, ok, lines_from, lines_of, one_node, three_nodes, smallest_bodies, conflict_bodies, smallest, conflict, nested_abort, older_image, independent, serializing, to_inclusion, exclusion, inclusion, stop_at_decision_done, unit_round_a_top, many_includes}
+
+-- What a journal shows: the numbers of the committed tops; of each action, the newest first, whether it is over; the
+-- places of the surviving calls of committed tops; their answers in serial order; and of object 1 the last state, the
+-- listed stores and the naming entry.
+record Shown : Type 0 where
+  committed : List ℕ
+  over : List Bool
+  calls : List ℕ
+  answers : List (List ℕ)
+  last : ObjectState
+  stores : List ℕ
+  naming : ObjectState
+
+abbrev shown : Header → List Line → Shown
+shown header lines = record {
+  committed = map (λ t. t.id) (tops lines);
+  over = map (is_over lines) (acts lines);
+  calls = map (λ c. c.at) (committed_calls lines);
+  answers = map (λ c. c.answer) (serial_calls lines);
+  last = last_state header lines 1;
+  stores = listed header lines 1;
+  naming = entry_state header lines 1;
+}
+
+abbrev shows : List ℕ → List Bool → List ℕ → List (List ℕ) → ObjectState → List ℕ → ObjectState → Shown
+shows committed over calls answers last stores naming =
+    record { committed = committed; over = over; calls = calls; answers = answers; last = last; stores = stores; naming = naming }
+
+-- version, writer and value of the counter; version, writer and payload of the entry
+abbrev last_is : ℕ → Uid → ℕ → ObjectState
+last_is version writer value = record { uid = object 1; class = class.Counter; version = version; writer = writer; payload = counter value }
+
+abbrev entry_is : ℕ → Uid → List ℕ → ObjectState
+entry_is version writer payload = record { uid = entry 1; class = class.Entry; version = version; writer = writer; payload = payload }
+
+abbrev first_entry : ObjectState
+first_entry = entry_is 0 nobody (1 ∷ 1 ∷ 1 ∷ 1 ∷ [])
+
+abbrev done : List ℕ
+done = codes "done"
+
+smallest_shows :
+    shown (one_node 0) smallest ≡ shows (0 ∷ 1 ∷ []) (true ∷ true ∷ []) (6 ∷ 16 ∷ []) (done ∷ codes "5" ∷ []) (last_is 1 (uid 1) 5) (1 ∷ []) first_entry
+smallest_shows = refl
+
+conflict_shows :
+    shown (one_node 0) conflict ≡ shows (0 ∷ 1 ∷ []) (true ∷ true ∷ []) (6 ∷ 17 ∷ []) (done ∷ done ∷ []) (last_is 2 (uid 2) 5) (1 ∷ []) first_entry
+conflict_shows = refl
+
+nested_abort_shows :
+    shown (one_node 0) nested_abort ≡ shows (0 ∷ []) (true ∷ true ∷ []) (6 ∷ 12 ∷ []) (done ∷ codes "4" ∷ []) (last_is 1 (uid 1) 4) (1 ∷ []) first_entry
+nested_abort_shows = refl
+
+older_image_shows : shown (one_node 7) older_image ≡ shows [] (false ∷ true ∷ true ∷ true ∷ []) [] [] (last_is 0 nobody 7) (1 ∷ []) first_entry
+older_image_shows = refl
+
+independent_shows : shown (one_node 0) independent ≡ shows [] (true ∷ false ∷ []) [] [] (last_is 0 nobody 0) (1 ∷ []) first_entry
+independent_shows = refl
+
+serializing_shows :
+    shown (one_node 0) serializing ≡ shows (1 ∷ 3 ∷ []) (true ∷ false ∷ true ∷ true ∷ []) (7 ∷ 19 ∷ []) (done ∷ done ∷ []) (last_is 2 (uid 4) 2) (1 ∷ []) first_entry
+serializing_shows = refl
+
+exclusion_shows :
+    shown three_nodes exclusion ≡ shows (0 ∷ []) (true ∷ []) (10 ∷ []) (done ∷ []) (last_is 1 (uid 1) 1) (2 ∷ []) (entry_is 1 (uid 1) (1 ∷ 1 ∷ 1 ∷ 2 ∷ []))
+exclusion_shows = refl
+
+inclusion_shows :
+    shown three_nodes (lines_of to_inclusion)
+    ≡ shows (0 ∷ 1 ∷ []) (true ∷ true ∷ []) (10 ∷ []) (done ∷ []) (last_is 1 (uid 1) 1) (2 ∷ 3 ∷ []) (entry_is 2 (uid 2) (1 ∷ 1 ∷ 2 ∷ 2 ∷ 3 ∷ []))
+inclusion_shows = refl
+
+second_inclusion_shows :
+    shown three_nodes inclusion
+    ≡ shows (0 ∷ 1 ∷ []) (true ∷ true ∷ true ∷ []) (10 ∷ []) (done ∷ []) (last_is 1 (uid 1) 1) (2 ∷ 3 ∷ []) (entry_is 2 (uid 2) (1 ∷ 1 ∷ 2 ∷ 2 ∷ 3 ∷ []))
+second_inclusion_shows = refl
+
+stop_at_decision_done_shows :
+    shown three_nodes stop_at_decision_done
+    ≡ shows (0 ∷ []) (true ∷ []) (10 ∷ []) (done ∷ []) (last_is 1 (uid 1) 1) (2 ∷ 3 ∷ []) (entry_is 0 nobody (1 ∷ 1 ∷ 2 ∷ 2 ∷ 3 ∷ []))
+stop_at_decision_done_shows = refl
+
+-- The unit of S stands at its last constituent's commit, so B comes first; what an aborted action's child did is gone.
+unit_round_a_top_shows :
+    shown (one_node 0) unit_round_a_top
+    ≡ shows (1 ∷ 2 ∷ 3 ∷ []) (true ∷ true ∷ true ∷ true ∷ true ∷ false ∷ []) (2 ∷ 6 ∷ 15 ∷ []) (codes "0" ∷ done ∷ codes "1" ∷ []) (last_is 1 (uid 2) 1) (1 ∷ []) first_entry
+unit_round_a_top_shows = refl
+
+-- Stores go first; those that are left of the surviving includes follow in increasing order, each once.
+many_includes_show :
+    shown three_nodes many_includes
+    ≡ shows (0 ∷ []) (true ∷ true ∷ true ∷ []) [] [] (last_is 0 nobody 0) (3 ∷ 1 ∷ 5 ∷ []) (entry_is 1 (uid 1) (1 ∷ 1 ∷ 3 ∷ 3 ∷ 1 ∷ 5 ∷ []))
+many_includes_show = refl
+
+-- Each is serial.
+
+infixr 20 ◌&◌
+◌&◌ : {P Q : Type 0} → P → Q → P × Q
+p & q = (p, q)
+
+smallest_serial : Serial (first_values (one_node 0)) smallest
+smallest_serial = refl & decimal_digit 5 (omega arith) & tt
+
+conflict_serial : Serial (first_values (one_node 0)) conflict
+conflict_serial = refl & refl & tt
+
+nested_abort_serial : Serial (first_values (one_node 0)) nested_abort
+nested_abort_serial = refl & decimal_digit 4 (omega arith) & tt
+
+none_serial : Serial (first_values (one_node 7)) older_image × Serial (first_values (one_node 0)) independent
+none_serial = (tt, tt)
+
+serializing_serial : Serial (first_values (one_node 0)) serializing × Serial (first_values (one_node 0)) unit_round_a_top
+serializing_serial = (refl & refl & tt, decimal_digit 0 (omega arith) & refl & decimal_digit 1 (omega arith) & tt)
+
+stores_serial : Serial (first_values three_nodes) exclusion × Serial (first_values three_nodes) inclusion × Serial (first_values three_nodes) stop_at_decision_done
+stores_serial = (refl & tt, refl & tt, refl & tt)
+
+-- Runs on one node, with the lines that such a run writes today: events, and the lines of each.
+
+abbrev is_built : Body → Bool
+is_built (body.Began l k u p) = true
+is_built (body.Ok l x op answer) = true
+is_built (body.Conflict l holder mode n) = true
+is_built (body.Committing l) = true
+is_built (body.Committed l) = true
+is_built _ = false
+
+-- what holds at each event, of the lines that it wrote
+abbrev Steps : (Past → Event → List Body → Type 0) → Past → List Event → List (List Body) → Type 0
+Steps P past [] [] = ⊤
+Steps P past (e ∷ es) (bodies ∷ rest) = P past e bodies × Steps P (next past e bodies) es rest
+Steps P past _ _ = ⊥
+
+-- the run after these events
+abbrev past_from : Past → List Event → List (List Body) → Past
+past_from past (e ∷ es) (bodies ∷ rest) = past_from (next past e bodies) es rest
+past_from past _ _ = past
+
+along :
+    (P : Past → Event → List Body → Type 0) (past : Past) (es : List Event) (blocks : List (List Body))
+    → Steps P past es blocks → Along P past es (past_from past es blocks)
+along P past [] [] steps = refl
+along P past [] (bodies ∷ rest) steps = elim steps [ ]
+along P past (e ∷ es) [] steps = elim steps [ ]
+along P past (e ∷ es) (bodies ∷ rest) steps = (bodies, steps.0, along P (next past e bodies) es rest steps.1)
+
+runs :
+    (P : Past → Event → List Body → Type 0) (es : List Event) (blocks : List (List Body)) (ending : List Line)
+    → Steps P nothing_yet es blocks → AreEnding (length es) ending → Runs P es ((past_from nothing_yet es blocks).lines ++ ending)
+runs P es blocks ending steps last = (past_from nothing_yet es blocks, ending, along P nothing_yet es blocks steps, refl, last)
+
+accepted :
+    {header : Header} {past : Past} {e : Event} {bodies : List Body}
+    → filter is_own bodies ≡ own_lines header past e → list_all (may_stand e) bodies ≡ true
+    → AnswersFit (past.accepted ++ asked_of past e ∷ []) past.lines (past.count + 1) bodies → Accepted header past e bodies
+accepted own only answers = record { own = own; only = only; answers = answers }
+
+abbrev smallest_events : List Event
+smallest_events = event.Begin A 1 ∷ event.Call A 1 (Add 5) ∷ event.Commit A ∷ event.Begin B 1 ∷ event.Call B 1 Get ∷ event.Commit B ∷ []
+
+abbrev first_smallest : List (List Body)
+first_smallest = map (filter is_built) smallest_bodies
+
+smallest_follows : Follows (one_node 0) smallest_events (lines_of first_smallest)
+smallest_follows = runs (Step (one_node 0)) smallest_events first_smallest [] (
+    accepted refl refl (tt & tt) & accepted refl refl (((refl, refl), (Done, refl)), tt) & accepted refl refl (tt & refl & tt)
+    & accepted refl refl (tt & tt) & accepted refl refl (((refl, refl), (Number 5, sym (decimal_digit 5 (omega arith)))), tt) & accepted refl refl (tt & refl & tt) & tt) tt
+
+smallest_conflicts : Runs (HasCauseConflict (one_node 0)) smallest_events (lines_of first_smallest)
+smallest_conflicts = runs (HasCauseConflict (one_node 0)) smallest_events first_smallest [] (refl & refl & refl & refl & refl & refl & tt) tt
+
+smallest_prompt : Runs (Prompt (one_node 0)) smallest_events (lines_of first_smallest)
+smallest_prompt = runs (Prompt (one_node 0)) smallest_events first_smallest [] (tt & refl & refl & tt & refl & refl & tt) tt
+
+abbrev conflict_events : List Event
+conflict_events =
+    event.Begin A 1 ∷ event.Call A 1 (Add 2) ∷ event.Begin B 1 ∷ event.Call B 1 (Add 3) ∷ event.Commit A ∷ event.Call B 1 (Add 3) ∷ event.Commit B ∷ []
+
+abbrev first_conflict : List (List Body)
+first_conflict = map (filter is_built) (take 7 conflict_bodies)
+
+conflict_follows : Follows (one_node 0) conflict_events (lines_of first_conflict)
+conflict_follows = runs (Step (one_node 0)) conflict_events first_conflict [] (
+    accepted refl refl (tt & tt) & accepted refl refl (((refl, refl), (Done, refl)), tt) & accepted refl refl (tt & tt)
+    & accepted refl refl (refl & tt) & accepted refl refl (tt & refl & tt) & accepted refl refl (((refl, refl), (Done, refl)), tt)
+    & accepted refl refl (tt & refl & tt) & tt) tt
+
+conflict_conflicts : Runs (HasCauseConflict (one_node 0)) conflict_events (lines_of first_conflict)
+conflict_conflicts = runs (HasCauseConflict (one_node 0)) conflict_events first_conflict [] (refl & refl & refl & refl & refl & refl & refl & tt) tt
+
+conflict_prompt : Runs (Prompt (one_node 0)) conflict_events (lines_of first_conflict)
+conflict_prompt = runs (Prompt (one_node 0)) conflict_events first_conflict [] (tt & refl & tt & refl & refl & refl & refl & tt) tt
+
+-- A write is refused while another reads, a raised lock keeps its place, and an end lets the locks go.
+abbrev raise_events : List Event
+raise_events =
+    event.Begin A 1 ∷ event.Begin B 1 ∷ event.Call A 1 Get ∷ event.Call B 1 Get ∷ event.Call A 1 (Set 1) ∷ event.Begin C 1 ∷ event.Abort B ∷ event.Call A 1 (Set 1) ∷ event.Call C 1 Get ∷ []
+
+abbrev raise : List (List Body)
+raise =
+    (began A kind.Top 1 None ∷ []) ∷ (began B kind.Top 2 None ∷ []) ∷ (ok A Get (codes "0") ∷ []) ∷ (ok B Get (codes "0") ∷ []) ∷ (body.Conflict A (uid 2) Read 1 ∷ [])
+    ∷ (began C kind.Top 3 None ∷ []) ∷ (body.Aborted B cause.Asked ∷ []) ∷ (ok A (Set 1) done ∷ []) ∷ (body.Conflict C (uid 1) Write 1 ∷ []) ∷ []
+
+raise_follows : Follows (one_node 0) raise_events (lines_of raise)
+raise_follows = runs (Step (one_node 0)) raise_events raise [] (
+    accepted refl refl (tt & tt) & accepted refl refl (tt & tt) & accepted refl refl (((refl, refl), (Number 0, sym (decimal_digit 0 (omega arith)))), tt)
+    & accepted refl refl (((refl, refl), (Number 0, sym (decimal_digit 0 (omega arith)))), tt) & accepted refl refl (refl & tt) & accepted refl refl (tt & tt)
+    & accepted refl refl (tt & tt) & accepted refl refl (((refl, refl), (Done, refl)), tt) & accepted refl refl (refl & tt) & tt) tt
+
+raise_conflicts : Runs (HasCauseConflict (one_node 0)) raise_events (lines_of raise)
+raise_conflicts = runs (HasCauseConflict (one_node 0)) raise_events raise [] (refl & refl & refl & refl & refl & refl & refl & refl & refl & tt) tt
+
+abbrev row : ℕ → Mode → Row
+row k m = record { object = object 1; holder = uid k ∷ []; mode = m }
+
+-- the table after so many events
+abbrev tables : List (List Body) → List ℕ → List (List Row)
+tables blocks counts = map (λ n. table (lines_of (take n blocks))) counts
+
+raise_tables :
+    tables raise (2 ∷ 3 ∷ 4 ∷ 7 ∷ 8 ∷ []) ≡ [] ∷ (row 1 Read ∷ []) ∷ (row 1 Read ∷ row 2 Read ∷ []) ∷ (row 1 Read ∷ []) ∷ (row 1 Write ∷ []) ∷ []
+raise_tables = refl
+
+conflict_tables : tables first_conflict (4 ∷ 5 ∷ 6 ∷ 7 ∷ []) ≡ (row 1 Write ∷ []) ∷ [] ∷ (row 2 Write ∷ []) ∷ [] ∷ []
+conflict_tables = refl
+
+-- Refused events, a halt in a commit, and a bad line behind the events.
+abbrev refused_events : List Event
+refused_events =
+    event.Begin A 2 ∷ event.Begin A 1 ∷ event.Begin A 1 ∷ event.Call B 1 Get ∷ event.Call A 9 Get ∷ event.Abort A ∷ event.Commit A ∷ event.Call A 9 Get ∷ event.Begin B 1
+    ∷ event.Call B 1 (Set 7) ∷ event.Commit B ∷ event.Begin B 1 ∷ event.Call B 1 Get ∷ event.Commit C ∷ []
+
+abbrev refused : List (List Body)
+refused =
+    (body.Refused 1 ∷ []) ∷ (began A kind.Top 1 None ∷ []) ∷ (body.Refused 4 ∷ []) ∷ (body.Refused 5 ∷ []) ∷ (body.Refused 13 ∷ []) ∷ (body.Aborted A cause.Asked ∷ [])
+    ∷ (body.Refused 6 ∷ []) ∷ (body.Refused 6 ∷ []) ∷ (began B kind.Top 2 None ∷ []) ∷ (ok B (Set 7) done ∷ []) ∷ (body.Committing B ∷ body.Halted 1 ∷ [])
+    ∷ (body.Refused 2 ∷ []) ∷ (body.Refused 6 ∷ []) ∷ (body.Refused 5 ∷ []) ∷ []
+
+refused_follows : Follows (one_node 0) refused_events (lines_of refused ++ block 14 (body.Bad 20 ∷ []))
+refused_follows = runs (Step (one_node 0)) refused_events refused (block 14 (body.Bad 20 ∷ [])) (
+    refl & accepted refl refl (tt & tt) & refl & refl & refl & accepted refl refl (tt & tt) & refl & refl & accepted refl refl (tt & tt)
+    & accepted refl refl (((refl, refl), (Done, refl)), tt) & accepted refl refl (tt & tt & tt) & refl & refl & refl & tt) (refl & refl)
+
+refused_prompt : Runs (Prompt (one_node 0)) refused_events (lines_of refused ++ block 14 (body.Bad 20 ∷ []))
+refused_prompt = runs (Prompt (one_node 0)) refused_events refused (block 14 (body.Bad 20 ∷ [])) (
+    tt & tt & tt & tt & tt & tt & tt & tt & tt & refl & refl & tt & tt & tt & tt) (refl & refl)
+
+refused_shows : shown (one_node 0) (lines_of refused) ≡ shows [] (true ∷ true ∷ []) [] [] (last_is 0 nobody 0) (1 ∷ []) first_entry
+refused_shows = refl
+
+-- Sixteen objects of a root are enough, also where one of its nested actions asks; a register has no counter's operation.
+abbrev sixteen : List ℕ
+sixteen = 1 ∷ 2 ∷ 3 ∷ 4 ∷ 5 ∷ 6 ∷ 7 ∷ 8 ∷ 9 ∷ 10 ∷ 11 ∷ 12 ∷ 13 ∷ 14 ∷ 15 ∷ 16 ∷ []
+
+abbrev wide : Header
+wide = record {
+  nodes = 1;
+  objects =
+      map (λ x. record { x = x; value = Counter 0; servers = 1 ∷ []; stores = 1 ∷ [] }) (sixteen ++ 17 ∷ [])
+      ++ record { x = 18; value = Register []; servers = 1 ∷ []; stores = 1 ∷ [] } ∷ [];
+}
+
+abbrev used : Past
+used = past_from nothing_yet
+    (event.Begin A 1 ∷ event.BeginIn N A ∷ event.Begin B 1 ∷ map (λ x. event.Call A x Get) sixteen)
+    ((began A kind.Top 1 None ∷ []) ∷ (began N kind.Nested 2 (Some A) ∷ []) ∷ (began B kind.Top 3 None ∷ []) ∷ map (λ x. body.Conflict A (uid 9) Write 1 ∷ []) sixteen)
+
+too_many :
+    map (refusal wide used) (event.Call A 17 Get ∷ event.Call N 17 Get ∷ event.Call A 16 Get ∷ event.Call B 17 Get ∷ event.Call B 18 Get ∷ event.Call B 18 (Add 1) ∷ event.Call A 18 (Add 1) ∷ [])
+    ≡ Some 16 ∷ Some 16 ∷ None ∷ None ∷ None ∷ Some 14 ∷ Some 14 ∷ []
+too_many = refl
