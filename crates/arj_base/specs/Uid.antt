@@ -1,5 +1,5 @@
 -- Uids: their bytes, their text, and the names of objects and entries.
-use Rattle.std.specs.Prelude.{ℕ, List, ◌++◌, codes, Bool, ◌==◌, ◌&&◌}
+use Rattle.std.specs.Prelude.{ℕ, List, ◌++◌, codes, Bool, ◌==◌, ◌&&◌, ◌<◌}
 use Rattle.std.specs.Fmt.{decimal}
 use Rattle.byteorder.specs.Endian.{big_bytes}
 use Rattle.arj_base.specs.declared.uid.Uid.{Uid}
@@ -8,6 +8,10 @@ use Rattle.arj_base.specs.declared.binding.Binding.{Binding}
 -- node, incarnation and number, high byte first
 abbrev pub uid_bytes : Uid → List ℕ
 uid_bytes u = big_bytes 4 u.node ++ (big_bytes 4 u.inc ++ big_bytes 8 u.num)
+
+-- each part of a Uid fits its bytes
+abbrev pub UidFits : Uid → Type 0
+UidFits u = (u.node < 4294967296) × (u.inc < 4294967296) × (u.num < 18446744073709551616)
 
 -- three decimals with points between them
 abbrev pub uid_text : Uid → List ℕ

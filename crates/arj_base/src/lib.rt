@@ -2,7 +2,7 @@
 //! matrix, small lists, and packed object states.
 //!
 //! It stands on std and `byteorder` alone. What it gives upward: a packed state has one spelling, `state_bytes`,
-//! which `pack` writes; `conflicts` is the lock matrix; and a lock table is a list of rows in order of granting
+//! which `pack` writes and `unpack` alone accepts; `conflicts` is the lock matrix; and a lock table is a list of rows in order of granting
 //! (`specs/Rows.antt`).
 #![tactic(auto)]
 
@@ -14,6 +14,6 @@ mod uid;
 
 pub use binding::Binding;
 pub use mode::{End, Mode, conflicts, stronger};
-pub use seq::{Bytes, NodeList, Numbers, Pairs, Seq, Uids};
-pub use state::{Class, ObjectState, pack};
+pub use seq::{Bytes, Ends, NodeList, Numbers, Pairs, Seq, Uids};
+pub use state::{Class, ObjectState, StateFault, pack, unpack};
 pub use uid::{Uid, entry_uid, object_uid};

@@ -1,7 +1,8 @@
 // Small lists that contracts see as lists.
 ghost use Rattle.std.specs.Prelude.{◌≡◌, ◌<◌, [], ◌∷◌, ◌++◌, List, IfOk, OnOk, OnErr, length, slice_set};
+ghost use Rattle.std.specs.Fmt.{decimal};
 
-use crate::Uid;
+use crate::{End, Uid};
 use std::alloc::{AllocError, Global};
 use std::marker::Model;
 
@@ -80,6 +81,15 @@ impl Seq<u8> {
     {
         self.items.extend_from_slice(bytes)
     }
+
+    /// Puts a number at the end, in decimal.
+    pub fn extend_decimal(&mut self, n: u64) -> Result<(), AllocError>
+        ensures ok { OnOk result (self.new ≡ self.old ++ decimal n) }
+        ensures err { OnErr result (self.new ≡ self.old) }
+    {
+        let digits = n.to_string(*self.items.allocator())?;
+        self.items.extend_from_slice(digits.as_bytes())
+    }
 }
 
 /// Bytes, as of a file, a line or a message.
@@ -96,3 +106,6 @@ pub type NodeList = Seq<u8>;
 
 /// Uids of actions or objects.
 pub type Uids = Seq<Uid>;
+
+/// Actions with how they ended.
+pub type Ends = Seq<(Uid, End)>;

@@ -1,11 +1,14 @@
 // Object states, packed for a disk or a message.
-ghost use Rattle.std.specs.Prelude.{◌≡◌, ◌<◌, ◌^◌, length, IfOk};
-ghost use Rattle.arj_base.specs.State.{state_bytes, class_code_of};
+ghost use Rattle.std.specs.Prelude.{◌≡◌, ◌≢◌, ◌+◌, ◌<◌, ◌≤◌, ◌^◌, length, take, drop, IfOk, IfErr, OnOk, MatchOption};
+ghost use Rattle.arj_base.specs.State.{state_bytes, class_code_of, state_fault, named_fault, StateInForm};
+ghost use Rattle.arj_base.specs.declared.state.ObjectState.{ObjectState};
+ghost use Rattle.arj_base.specs.declared.state.StateFault.TheVariants as fault;
 ghost use Rattle.byteorder.specs.Endian.{big_bytes};
 
 use crate::{Bytes, Uid};
 use byteorder::{BigEndian, ByteOrder};
-use std::alloc::{AllocError, Global};
+use std::alloc::{AllocError, AllocFailed, Global};
+use thiserror::Error;
 
 /// The class of an object, or of a naming entry. Its code in a packed state is its place here, from 0.
 #[derive(Clone, Copy, Debug, PartialEq, Eq)]
@@ -29,11 +32,54 @@ pub struct ObjectState {
     pub payload: Bytes,
 }
 
+/// Why bytes are no packed state, in the order in which they are tested.
+#[derive(Debug, Drop, Error)]
+pub enum StateFault {
+    /// Too few bytes for the fixed fields.
+    #[error("too few bytes")]
+    Short,
+    /// They don't begin with `ARJ1`.
+    #[error("not a packed state")]
+    Magic,
+    /// There is no class with this code.
+    #[error("no such class")]
+    Class,
+    /// The length of the payload isn't the number of bytes that follow.
+    #[error("wrong length of payload")]
+    Length,
+    /// Memory is wanting.
+    #[error("out of memory")]
+    Memory,
+}
+
+impl From<AllocError> for StateFault {
+    ghost use Rattle.std.specs.Prelude.{◌≡◌};
+    ghost use Rattle.arj_base.specs.declared.state.StateFault.TheVariants.{Memory};
+
+    ghost from_gives = { λ _ e. e ≡ Memory };
+
+    fn from(_: AllocError) -> StateFault {
+        StateFault::Memory
+    }
+}
+
+impl<T: Drop> From<AllocFailed<T>> for StateFault {
+    ghost use Rattle.std.specs.Prelude.{◌≡◌};
+    ghost use Rattle.arj_base.specs.declared.state.StateFault.TheVariants.{Memory};
+
+    ghost from_gives = { λ _ e. e ≡ Memory };
+
+    fn from(_: AllocFailed<T>) -> StateFault {
+        StateFault::Memory
+    }
+}
+
 /// Packs a state: the one spelling of a state in files and messages; the payload has at most 65,535 bytes.
 #[tactic(auto, using(std::proofs::lemmas::List::append_assoc))]
 pub fn pack(alloc: Global, state: &ObjectState) -> Result<Bytes, AllocError>
     requires { length state.now.payload < 2 ^ 16 }
-    ensures { IfOk result (λ bytes. bytes ≡ state_bytes state.now) }
+    ensures bytes { IfOk result (λ bytes. bytes ≡ state_bytes state.now) }
+    ensures in_form { OnOk result (StateInForm state.now) }
 {
     let length = state.payload.as_slice().len() as u16;
     let mut packed = Bytes::new(alloc);
@@ -45,6 +91,69 @@ pub fn pack(alloc: Global, state: &ObjectState) -> Result<Bytes, AllocError>
     packed.extend(&two(length))?;
     packed.extend(state.payload.as_slice())?;
     Ok(packed)
+}
+
+/// How many bytes stand before the payload.
+const HEAD: usize = 47;
+
+/// Reads a packed state: exactly what `pack` writes, and nothing behind it.
+pub fn unpack(alloc: Global, bytes: &[u8]) -> Result<ObjectState, StateFault>
+    ensures packed { IfOk result (λ s. bytes.now ≡ state_bytes s) }
+    ensures in_form { IfOk result (λ s. StateInForm s) }
+    ensures only { IfOk result (λ s. (t : ObjectState) → StateInForm t → state_bytes t ≡ bytes.now → t ≡ s) }
+    ensures fault { named_fault result ≡ state_fault bytes.now }
+    ensures none { IfErr result (λ e. e ≢ fault.Memory → (s : ObjectState) → length s.payload < 2 ^ 16 → state_bytes s ≢ bytes.now) }
+{
+    if bytes.len() < 4 {
+        return Err(StateFault::Short);
+    }
+    if !bytes.starts_with(b"ARJ1") {
+        return Err(StateFault::Magic);
+    }
+    if bytes.len() < HEAD {
+        return Err(StateFault::Short);
+    }
+    let Some(class) = class_of_code(bytes[20]) else {
+        return Err(StateFault::Class);
+    };
+    let length = from_two(&field::<2>(bytes, 45));
+    if usize::from(length) != bytes.len() - HEAD {
+        return Err(StateFault::Length);
+    }
+    let mut payload = Bytes::new(alloc);
+    payload.extend(&bytes[HEAD..])?;
+    Ok(ObjectState {
+        uid: Uid::from_bytes(&field::<16>(bytes, 4)),
+        class,
+        version: from_eight(&field::<8>(bytes, 21)),
+        writer: Uid::from_bytes(&field::<16>(bytes, 29)),
+        payload,
+    })
+}
+
+/// The N bytes from a place on.
+fn field<const N: usize>(bytes: &[u8], at: usize) -> [u8; N]
+    requires { at + N ≤ length bytes.now }
+    ensures { result ≡ take N (drop at bytes.now) }
+{
+    let mut field = [0; N];
+    field.copy_from_slice(&bytes[at..at + N]);
+    field
+}
+
+/// The class with this code.
+fn class_of_code(code: u8) -> Option<Class>
+    ensures { MatchOption result (5 < code) (λ class. class_code_of class ≡ code) }
+{
+    match code {
+        0 => Some(Class::Entry),
+        1 => Some(Class::Counter),
+        2 => Some(Class::Register),
+        3 => Some(Class::Account),
+        4 => Some(Class::Queue),
+        5 => Some(Class::Table),
+        _ => None,
+    }
 }
 
 /// The code of a class in a packed state.
@@ -77,4 +186,89 @@ fn two(n: u16) -> [u8; 2]
     let mut bytes = [0; 2];
     BigEndian::write_u16(&mut bytes, n);
     bytes
+}
+
+// The number with these eight bytes.
+#[tactic(auto, using(std::proofs::lemmas::Nat::be_bytes_8))]
+fn from_eight(bytes: &[u8; 8]) -> u64
+    ensures { big_bytes 8 result ≡ bytes.now }
+{
+    u64::from_be_bytes(*bytes)
+}
+
+// The number with these two bytes.
+#[tactic(auto, using(std::proofs::lemmas::Nat::be_bytes_2))]
+fn from_two(bytes: &[u8; 2]) -> u16
+    ensures { big_bytes 2 result ≡ bytes.now }
+{
+    u16::from_be_bytes(*bytes)
+}
+
+#[cfg(test)]
+mod tests {
+    use super::*;
+    use crate::object_uid;
+    use std::test::Fail;
+
+    // Object 1, a counter of value 5, in its first version, written by the action 1.1.1.
+    const PACKED: [u8; 55] = [
+        0x41, 0x52, 0x4a, 0x31, 0, 0, 0, 0, 0, 0, 0, 0, 0, 0, 0, 0, 0, 0, 0, 1, 1, 0, 0, 0, 0, 0,
+        0, 0, 1, 0, 0, 0, 1, 0, 0, 0, 1, 0, 0, 0, 0, 0, 0, 0, 1, 0, 8, 0, 0, 0, 0, 0, 0, 0, 5,
+    ];
+
+    #[test]
+    fn packs_and_unpacks(rt: HostRuntime) -> Result<(), Fail> {
+        let writer = Uid {
+            node: 1,
+            inc: 1,
+            num: 1,
+        };
+        let mut payload = Bytes::new(rt.alloc());
+        payload.extend(&[0, 0, 0, 0, 0, 0, 0, 5])?;
+        let state = ObjectState {
+            uid: object_uid(1),
+            class: Class::Counter,
+            version: 1,
+            writer,
+            payload,
+        };
+        assert_eq!(rt; state.payload.copy()?.as_slice(), &PACKED[47..]);
+        assert_eq!(rt; pack(rt.alloc(), &state)?.as_slice(), PACKED.as_slice());
+        let read = unpack(rt.alloc(), &PACKED)?;
+        assert_eq!(rt; read.uid, object_uid(1));
+        assert_eq!(rt; read.class, Class::Counter);
+        assert_eq!(rt; read.version, 1);
+        assert_eq!(rt; read.writer, writer);
+        assert_eq!(rt; read.payload.as_slice(), &PACKED[47..]);
+        assert_eq!(rt;
+            read.writer.text(rt.alloc())?.as_slice(),
+            b"1.1.1".as_slice()
+        );
+        Ok(())
+    }
+
+    #[test]
+    fn names_the_first_fault(rt: HostRuntime) -> Result<(), Fail> {
+        let mut other_magic = PACKED;
+        other_magic[0] = 0x42;
+        let mut other_class = PACKED;
+        other_class[20] = 6;
+        let mut longer = PACKED.to_vec(rt.alloc())?;
+        longer.push(0)?;
+        let faults = [
+            (&PACKED[..0], "too few bytes"),
+            (&PACKED[..46], "too few bytes"),
+            (other_magic.as_slice(), "not a packed state"),
+            (other_class.as_slice(), "no such class"),
+            (longer.as_slice(), "wrong length of payload"),
+            (&PACKED[..47], "wrong length of payload"),
+        ];
+        for (bytes, want) in faults {
+            let Err(fault) = unpack(rt.alloc(), bytes) else {
+                return Err(Fail::new("unpacked"));
+            };
+            assert_eq!(rt; format!(in rt.alloc(); "{fault}")?.as_str(), want);
+        }
+        Ok(())
+    }
 }

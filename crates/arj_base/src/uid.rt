@@ -1,6 +1,6 @@
 // Uids: the names of actions, objects and naming entries.
 ghost use Rattle.std.specs.Prelude.{◌≡◌, IfOk};
-ghost use Rattle.arj_base.specs.Uid.{uid_bytes, uid_text, object, entry};
+ghost use Rattle.arj_base.specs.Uid.{uid_bytes, UidFits, uid_text, object, entry};
 
 use crate::Bytes;
 use byteorder::{BigEndian, ByteOrder};
@@ -18,18 +18,21 @@ pub struct Uid {
 impl Uid {
     /// The 16 bytes of a Uid in files and messages: node, incarnation and number, high byte first.
     pub fn to_bytes(&self) -> [u8; 16]
-        ensures { result ≡ uid_bytes self.now }
+        ensures bytes { result ≡ uid_bytes self.now }
+        ensures fits { UidFits self.now }
     {
+        let Uid { node, inc, num } = *self;
         let mut bytes = [0; 16];
-        BigEndian::write_u32(&mut bytes[0..4], self.node);
-        BigEndian::write_u32(&mut bytes[4..8], self.inc);
-        BigEndian::write_u64(&mut bytes[8..16], self.num);
+        BigEndian::write_u32(&mut bytes[0..4], node);
+        BigEndian::write_u32(&mut bytes[4..8], inc);
+        BigEndian::write_u64(&mut bytes[8..16], num);
         bytes
     }
 
     /// The Uid with these bytes: every 16 bytes are those of one.
     pub fn from_bytes(bytes: &[u8; 16]) -> Uid
-        ensures { uid_bytes result ≡ bytes.now }
+        ensures bytes { uid_bytes result ≡ bytes.now }
+        ensures fits { UidFits result }
     {
         let [a, b, c, d, e, f, g, h, i, j, k, l, m, n, o, p] = *bytes;
         Uid {

@@ -1,13 +1,15 @@
 -- What a search finds among pairs whose keys rise, and what an edit at that place does.
 use Rattle.std.proofs.Common.{◌≡◌, ℕ, ◌+◌, ◌-◌, ◌<◌, ◌≤◌, zero, suc, List, [], ◌∷◌, ◌++◌, length, get_or, set, take, drop, Some, None, Option, Result, Ok, Err, MatchResult, sym, ap, subst, refl, arith, Bool, true, false, ◌==◌, nat_lt, cond, is_some, nat_le, if◌then◌else◌}
-use Rattle.std.specs.List.{insert, remove}
+use Rattle.std.specs.Prelude.{IsTrue}
+use Rattle.std.specs.List.{insert, remove, slice_get}
+use Rattle.std.proofs.lemmas.Option.{get_or_from_slice_get, slice_get_within}
 use Rattle.std.specs.List.Sorted.{IsSearchInRange, IsBinarySearchResult, IsNonDecreasingBy}
 use Rattle.std.specs.Ordering.{nat_cmp, ordering_index}
 use Rattle.std.proofs.lemmas.Cmp.{ranked}
 use Rattle.std.proofs.lemmas.List.Sorted.{IsNonDecreasingBy-from_default}
 use Rattle.std.proofs.lemmas.Bool.Decides.{nat_tests}
 use Rattle.std.proofs.lemmas.Grind.{common_steps}
-use Rattle.arj_class.specs.Keys.{KeysAbove, KeysRise, key_at, IsPlace, IsGap}
+use Rattle.arj_class.specs.Keys.{KeysAbove, KeysBelow, KeysRise, key_at, IsPlace, IsGap}
 use Rattle.arj_class.specs.Table.{value_at, put_pair, remove_pair, is_full_for}
 
 -- a key above all keys is above each
@@ -22,6 +24,29 @@ rise_at [] rise i j less within = omega arith
 rise_at (p ∷ ps) rise i zero less within = omega arith
 rise_at (p ∷ ps) rise zero (suc j) less within = above_at p.0 ps rise.0 j (omega arith)
 rise_at (p ∷ ps) rise (suc i) (suc j) less within = rise_at ps rise.1 i j (omega arith) (omega arith)
+
+-- keys below another, by place
+below_at : (k : ℕ) (ps : List (ℕ × ℕ)) → KeysBelow k ps → (j : ℕ) → j < length ps → key_at ps j < k
+below_at k [] below j within = omega arith
+below_at k (p ∷ ps) below zero within = below.0
+below_at k (p ∷ ps) below (suc j) within = below_at k ps below.1 j (omega arith)
+
+below_from_at : (k : ℕ) (ps : List (ℕ × ℕ)) → ((j : ℕ) → j < length ps → key_at ps j < k) → KeysBelow k ps
+below_from_at k [] each = tt
+below_from_at k (p ∷ ps) each = (each 0 (omega arith), below_from_at k ps (λ j within. each (suc j) (omega arith)))
+
+-- where the last of rising keys is below another, all are
+below_last : (k : ℕ) (ps : List (ℕ × ℕ)) → KeysRise ps → key_at ps (length ps - 1) < k → KeysBelow k ps
+below_last k ps rise last = below_from_at k ps (λ j within. grind (arith, rise_at ps rise j (length ps - 1), last, λ (same : j ≡ length ps - 1). ap (key_at ps) same))
+
+-- what comparing the last key with another says of all
+pub above_last : (k : ℕ) (ps : List (ℕ × ℕ)) (last : ℕ × ℕ) → KeysRise ps → Some last ≡ slice_get ps (length ps - 1) → (IsTrue (nat_lt last.0 k) → KeysBelow k ps) × (KeysBelow k ps → IsTrue (nat_lt last.0 k))
+above_last k ps last rise is =
+    let same : key_at ps (length ps - 1) ≡ last.0 = ap (λ p. p.0) (get_or_from_slice_get ps (length ps - 1) last (0, 0) (sym is)) in
+    let within : length ps - 1 < length ps = slice_get_within ps (length ps - 1) last (sym is) in (
+      (λ less. let smaller : key_at ps (length ps - 1) < k = grind (arith, nat_tests) in below_last k ps rise smaller),
+      (λ below. let smaller = below_at k ps below (length ps - 1) within in grind (arith, nat_tests)),
+    )
 
 module _ (ps : List (ℕ × ℕ)) (rise : KeysRise ps) (k : ℕ) where
   -- the comparisons with k rise along the list, as a binary search asks

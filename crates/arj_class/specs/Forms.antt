@@ -1,13 +1,10 @@
--- Values as payloads of packed states, values and operations and answers as texts, and which of them are in form.
-use Rattle.std.specs.Prelude.{ℕ, ◌≤◌, ◌<◌, List, [], ◌∷◌, ◌++◌, length, codes, ◌≡◌, ⊤}
+-- Values as payloads of packed states, and which values and operations are in form.
+use Rattle.std.specs.Prelude.{ℕ, ◌≤◌, ◌<◌, List, [], ◌∷◌, length, ⊤}
 use Rattle.std.specs.List.{flat_map}
-use Rattle.std.specs.Fmt.{decimal}
 use Rattle.byteorder.specs.Endian.{big_bytes}
-use Rattle.arj_class.specs.Keys.{pair_bytes}
+use Rattle.arj_class.specs.Keys.{KeysRise, pair_bytes}
 use Rattle.arj_class.specs.declared.op.Op.{Op}
 use Rattle.arj_class.specs.declared.op.Op.TheVariants.{Get, Add, Set, Put, Deposit, Withdraw, Len, Push, Pop, GetKey, PutPair, Remove}
-use Rattle.arj_class.specs.declared.op.Answer.{Answer}
-use Rattle.arj_class.specs.declared.op.Answer.TheVariants.{Done, Number, Text, Over, Short, Full, Nothing}
 use Rattle.arj_class.specs.declared.value.Value.{Value}
 use Rattle.arj_class.specs.declared.value.Value.TheVariants.{Counter, Register, Account, Queue, Table}
 
@@ -23,3 +20,21 @@ payload_of (Table ps) = flat_map pair_bytes ps
 abbrev pub OpInForm : Op → Type 0
 OpInForm (Put bytes) = length bytes ≤ 64
 OpInForm _ = ⊤
+
+-- each number fits 64 bits
+abbrev pub NumbersFit : List ℕ → Type 0
+NumbersFit [] = ⊤
+NumbersFit (n ∷ ns) = (n < 18446744073709551616) × NumbersFit ns
+
+-- each key and each value fits 64 bits
+abbrev pub PairsFit : List (ℕ × ℕ) → Type 0
+PairsFit [] = ⊤
+PairsFit (p ∷ ps) = (p.0 < 18446744073709551616) × (p.1 < 18446744073709551616) × PairsFit ps
+
+-- a value is in form: numbers of 64 bits, and no more of anything than its class holds
+abbrev pub ValueInForm : Value → Type 0
+ValueInForm (Counter n) = n < 18446744073709551616
+ValueInForm (Register bytes) = length bytes ≤ 64
+ValueInForm (Account n) = n < 18446744073709551616
+ValueInForm (Queue ns) = (length ns ≤ 32) × NumbersFit ns
+ValueInForm (Table ps) = (length ps ≤ 16) × KeysRise ps × PairsFit ps

@@ -7,6 +7,11 @@ abbrev pub KeysAbove : ℕ → List (ℕ × ℕ) → Type 0
 KeysAbove k [] = ⊤
 KeysAbove k (p ∷ ps) = (k < p.0) × KeysAbove k ps
 
+-- each key is below this one
+abbrev pub KeysBelow : ℕ → List (ℕ × ℕ) → Type 0
+KeysBelow k [] = ⊤
+KeysBelow k (p ∷ ps) = (p.0 < k) × KeysBelow k ps
+
 -- each key is above those before it
 abbrev pub KeysRise : List (ℕ × ℕ) → Type 0
 KeysRise [] = ⊤

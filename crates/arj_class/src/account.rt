@@ -1,10 +1,10 @@
 // A balance that is deposited to and withdrawn from.
-ghost use Rattle.std.specs.Prelude.{◌≡◌, IfOk};
+ghost use Rattle.std.specs.Prelude.{◌≡◌, refl};
 ghost use Rattle.arj_base.specs.declared.state.Class.TheVariants as class_variant;
 ghost use Rattle.arj_class.specs.declared.value.Value.TheVariants as variant;
 
-use crate::payload::put_number;
-use crate::{Answer, ApplyFault, ObjectClass, Op};
+use crate::payload::{put_number, take_number};
+use crate::{Answer, ApplyFault, ClassFault, ObjectClass, Op};
 use arj_base::{Bytes, Mode};
 use std::alloc::{AllocError, Global};
 use std::marker::Model;
@@ -80,4 +80,13 @@ impl ObjectClass for Account {
         put_number(&mut payload, self.balance)?;
         Ok(payload)
     }
+
+    fn restore_state(_: Global, payload: &[u8]) -> Result<Account, ClassFault> {
+        match take_number(payload) {
+            Some((balance, [])) => Ok(Account { balance }),
+            _ => Err(ClassFault::Payload),
+        }
+    }
+
+    ghost of_class = { λ v. refl };
 }

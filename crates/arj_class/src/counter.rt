@@ -1,10 +1,10 @@
 // A number that is added to and set.
-ghost use Rattle.std.specs.Prelude.{◌≡◌, IfOk};
+ghost use Rattle.std.specs.Prelude.{◌≡◌, refl};
 ghost use Rattle.arj_base.specs.declared.state.Class.TheVariants as class_variant;
 ghost use Rattle.arj_class.specs.declared.value.Value.TheVariants as variant;
 
-use crate::payload::put_number;
-use crate::{Answer, ApplyFault, ObjectClass, Op};
+use crate::payload::{put_number, take_number};
+use crate::{Answer, ApplyFault, ClassFault, ObjectClass, Op};
 use arj_base::{Bytes, Mode};
 use std::alloc::{AllocError, Global};
 use std::marker::Model;
@@ -77,4 +77,13 @@ impl ObjectClass for Counter {
         put_number(&mut payload, self.number)?;
         Ok(payload)
     }
+
+    fn restore_state(_: Global, payload: &[u8]) -> Result<Counter, ClassFault> {
+        match take_number(payload) {
+            Some((number, [])) => Ok(Counter { number }),
+            _ => Err(ClassFault::Payload),
+        }
+    }
+
+    ghost of_class = { λ v. refl };
 }

@@ -7,6 +7,7 @@
 
 mod account;
 mod counter;
+mod laws;
 mod object_class;
 mod op;
 mod payload;
@@ -17,9 +18,13 @@ mod value;
 
 pub use account::Account;
 pub use counter::Counter;
-pub use object_class::ObjectClass;
+pub use laws::{operations_keep, payloads_tell_values_apart};
+pub use object_class::{ClassFault, ObjectClass};
 pub use op::{Answer, ApplyFault, Op};
 pub use queue::Queue;
 pub use register::Register;
 pub use table::Table;
 pub use value::Value;
+
+#[cfg(test)]
+mod tests;

@@ -33,6 +33,21 @@ pub enum Op {
     Remove(u64),
 }
 
+impl Op {
+    ghost use Rattle.std.specs.Prelude.{◌↔◌, IsTrue};
+    ghost use Rattle.arj_class.specs.Forms.{OpInForm};
+
+    /// Whether the operation may be applied: a register takes at most 64 bytes.
+    pub fn is_in_form(&self) -> bool
+        ensures { IsTrue result ↔ OpInForm self.now }
+    {
+        match self {
+            Op::Put(bytes) => bytes.as_slice().len() <= 64,
+            _ => true,
+        }
+    }
+}
+
 /// What an operation answers.
 #[derive(Drop)]
 pub enum Answer {

@@ -1,6 +1,7 @@
-// Numbers in payloads.
-ghost use Rattle.std.specs.Prelude.{◌≡◌, ◌++◌, OnOk};
+// Numbers in payloads: eight bytes each, high byte first.
+ghost use Rattle.std.specs.Prelude.{◌≡◌, [], ◌∷◌, ◌++◌, ◌<◌, length, OnOk, IfSome, MatchOption};
 ghost use Rattle.std.specs.List.{flat_map};
+ghost use Rattle.arj_class.specs.Forms.{NumbersFit, PairsFit};
 ghost use Rattle.arj_class.specs.Keys.{pair_bytes};
 ghost use Rattle.byteorder.specs.Endian.{big_bytes};
 
@@ -8,7 +9,7 @@ use arj_base::Bytes;
 use byteorder::{BigEndian, ByteOrder};
 use std::alloc::AllocError;
 
-/// Puts a number at the end, in eight bytes, high byte first.
+/// Puts a number at the end.
 pub(crate) fn put_number(payload: &mut Bytes, number: u64) -> Result<(), AllocError>
     ensures { OnOk result (payload.new ≡ payload.old ++ big_bytes 8 number) }
 {
@@ -17,9 +18,10 @@ pub(crate) fn put_number(payload: &mut Bytes, number: u64) -> Result<(), AllocEr
     payload.extend(&bytes)
 }
 
-/// Puts numbers at the end, each in eight bytes.
+/// Puts numbers at the end.
 pub(crate) fn put_numbers(payload: &mut Bytes, numbers: &[u64]) -> Result<(), AllocError>
-    ensures { OnOk result (payload.new ≡ payload.old ++ flat_map (big_bytes 8) numbers.now) }
+    ensures bytes { OnOk result (payload.new ≡ payload.old ++ flat_map (big_bytes 8) numbers.now) }
+    ensures fit { OnOk result (NumbersFit numbers.now) }
 {
     for number in numbers {
         put_number(payload, *number)?;
@@ -28,20 +30,43 @@ pub(crate) fn put_numbers(payload: &mut Bytes, numbers: &[u64]) -> Result<(), Al
 }
 
 /// Puts a pair at the end: the key, then the value.
-pub(crate) fn put_pair(payload: &mut Bytes, pair: &(u64, u64)) -> Result<(), AllocError>
-    ensures { OnOk result (payload.new ≡ payload.old ++ pair_bytes pair.now) }
+pub(crate) fn put_pair(payload: &mut Bytes, pair: (u64, u64)) -> Result<(), AllocError>
+    ensures bytes { OnOk result (payload.new ≡ payload.old ++ pair_bytes pair) }
+    ensures fit { PairsFit (pair ∷ []) }
 {
-    put_number(payload, pair.0)?;
-    put_number(payload, pair.1)?;
+    let (key, value) = pair;
+    put_number(payload, key)?;
+    put_number(payload, value)?;
     Ok(())
 }
 
 /// Puts pairs at the end.
 pub(crate) fn put_pairs(payload: &mut Bytes, pairs: &[(u64, u64)]) -> Result<(), AllocError>
-    ensures { OnOk result (payload.new ≡ payload.old ++ flat_map pair_bytes pairs.now) }
+    ensures bytes { OnOk result (payload.new ≡ payload.old ++ flat_map pair_bytes pairs.now) }
+    ensures fit { OnOk result (PairsFit pairs.now) }
 {
     for pair in pairs {
-        put_pair(payload, pair)?;
+        put_pair(payload, *pair)?;
     }
     Ok(())
+}
+
+#[tactic(auto, using(std::proofs::lemmas::Nat::be_bytes_8))]
+/// The first number and the bytes behind it, None where fewer than eight are left.
+pub(crate) fn take_number(payload: &[u8]) -> Option<(u64, &[u8])>
+    ensures bytes { MatchOption result (length payload.now < 8) (λ p. payload.now ≡ big_bytes 8 p.0 ++ p.1.now) }
+    ensures fit { IfSome result (λ p. NumbersFit (p.0 ∷ [])) }
+{
+    let (bytes, behind) = payload.split_first_chunk::<8>()?;
+    Some((u64::from_be_bytes(*bytes), behind))
+}
+
+/// The first pair and the bytes behind it, None where fewer than sixteen are left.
+pub(crate) fn take_pair(payload: &[u8]) -> Option<((u64, u64), &[u8])>
+    ensures bytes { MatchOption result (length payload.now < 16) (λ p. payload.now ≡ pair_bytes p.0 ++ p.1.now) }
+    ensures fit { IfSome result (λ p. PairsFit (p.0 ∷ [])) }
+{
+    let (key, behind) = take_number(payload)?;
+    let (value, behind) = take_number(behind)?;
+    Some(((key, value), behind))
 }

@@ -1,10 +1,10 @@
 // At most 32 numbers, first in, first out.
-ghost use Rattle.std.specs.Prelude.{◌≡◌, ◌≤◌, length, IfOk};
+ghost use Rattle.std.specs.Prelude.{◌≡◌, ◌≤◌, length, refl, IfOk};
 ghost use Rattle.arj_base.specs.declared.state.Class.TheVariants as class_variant;
 ghost use Rattle.arj_class.specs.declared.value.Value.TheVariants as variant;
 
-use crate::payload::put_numbers;
-use crate::{Answer, ApplyFault, ObjectClass, Op};
+use crate::payload::{put_numbers, take_number};
+use crate::{Answer, ApplyFault, ClassFault, ObjectClass, Op};
 use arj_base::{Bytes, Mode, Numbers};
 use std::alloc::{AllocError, Global};
 use std::collections::VecDeque;
@@ -91,4 +91,24 @@ impl ObjectClass for Queue {
         put_numbers(&mut payload, back)?;
         Ok(payload)
     }
+
+    fn restore_state(alloc: Global, payload: &[u8]) -> Result<Queue, ClassFault> {
+        let mut numbers = Vec::new(alloc);
+        let mut rest = payload;
+        while let Some((number, behind)) = take_number(rest) {
+            if numbers.len() == CAPACITY {
+                return Err(ClassFault::Payload);
+            }
+            numbers.push(number)?;
+            rest = behind;
+        }
+        if !rest.is_empty() {
+            return Err(ClassFault::Payload);
+        }
+        Ok(Queue {
+            numbers: VecDeque::from_vec(numbers),
+        })
+    }
+
+    ghost of_class = { λ v. refl };
 }

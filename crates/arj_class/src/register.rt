@@ -1,9 +1,9 @@
 // Bytes that are put and got, at most 64.
-ghost use Rattle.std.specs.Prelude.{◌≡◌, ◌≤◌, length, IfOk};
+ghost use Rattle.std.specs.Prelude.{◌≡◌, ◌≤◌, length, refl, IfOk};
 ghost use Rattle.arj_base.specs.declared.state.Class.TheVariants as class_variant;
 ghost use Rattle.arj_class.specs.declared.value.Value.TheVariants as variant;
 
-use crate::{Answer, ApplyFault, ObjectClass, Op};
+use crate::{Answer, ApplyFault, ClassFault, ObjectClass, Op};
 use arj_base::{Bytes, Mode};
 use std::alloc::{AllocError, Global};
 use std::marker::Model;
@@ -72,4 +72,15 @@ impl ObjectClass for Register {
         payload.extend(self.bytes.as_slice())?;
         Ok(payload)
     }
+
+    fn restore_state(alloc: Global, payload: &[u8]) -> Result<Register, ClassFault> {
+        if payload.len() > 64 {
+            return Err(ClassFault::Payload);
+        }
+        let mut bytes = Bytes::new(alloc);
+        bytes.extend(payload)?;
+        Ok(Register { bytes })
+    }
+
+    ghost of_class = { λ v. refl };
 }

@@ -1,12 +1,12 @@
 // At most 16 keys with their values.
-ghost use Rattle.std.specs.Prelude.{◌≡◌, ◌≤◌, length, not, if◌then◌else◌, IfOk, OnOk, OnErr, MatchResult};
+ghost use Rattle.std.specs.Prelude.{◌≡◌, ◌≤◌, ◌↔◌, IsTrue, length, not, refl, if◌then◌else◌, IfOk, OnOk, OnErr, MatchResult};
 ghost use Rattle.arj_base.specs.declared.state.Class.TheVariants as class_variant;
 ghost use Rattle.arj_class.specs.declared.value.Value.TheVariants as variant;
-ghost use Rattle.arj_class.specs.Keys.{KeysRise, IsPlace, IsGap};
+ghost use Rattle.arj_class.specs.Keys.{KeysRise, KeysBelow, IsPlace, IsGap};
 ghost use Rattle.arj_class.specs.Table.{value_at, put_pair, remove_pair, is_full_for, number_or_nothing};
 
-use crate::payload::put_pairs;
-use crate::{Answer, ApplyFault, ObjectClass, Op};
+use crate::payload::{put_pairs, take_pair};
+use crate::{Answer, ApplyFault, ClassFault, ObjectClass, Op};
 use arj_base::{Bytes, Mode, Pairs};
 use std::alloc::{AllocError, Global};
 use std::marker::Model;
@@ -105,6 +105,17 @@ fn remove(pairs: &mut Vec<(u64, u64)>, key: u64) -> Option<u64>
     }
 }
 
+/// Whether a key is above all keys.
+fn is_above(pairs: &[(u64, u64)], key: u64) -> bool
+    requires { KeysRise pairs.now }
+    ensures { IsTrue result ↔ KeysBelow key pairs.now }
+{
+    match pairs.last() {
+        Some((last, _)) => *last < key,
+        None => true,
+    }
+}
+
 /// The number that there is, or nothing.
 fn number_answer(number: Option<u64>) -> Answer
     ensures { result ≡ number_or_nothing number }
@@ -149,4 +160,22 @@ impl ObjectClass for Table {
         put_pairs(&mut payload, self.pairs.as_slice())?;
         Ok(payload)
     }
+
+    fn restore_state(alloc: Global, payload: &[u8]) -> Result<Table, ClassFault> {
+        let mut pairs: Vec<(u64, u64)> = Vec::new(alloc);
+        let mut rest = payload;
+        while let Some((pair, behind)) = take_pair(rest) {
+            if pairs.len() == CAPACITY || !is_above(pairs.as_slice(), pair.0) {
+                return Err(ClassFault::Payload);
+            }
+            pairs.push(pair)?;
+            rest = behind;
+        }
+        if !rest.is_empty() {
+            return Err(ClassFault::Payload);
+        }
+        Ok(Table { pairs })
+    }
+
+    ghost of_class = { λ v. refl };
 }

@@ -118,14 +118,25 @@ fn stopping_at(alloc: Global, left: u32, renames: bool) -> Result<StoppingDisk, 
     })
 }
 
-// The bytes of a file, or one byte 0 where there is none.
-fn bytes_at<D: Disk>(alloc: Global, disk: &mut D, slot: Slot) -> Result<Bytes, DiskFault> {
-    if let Some(bytes) = disk.read(alloc, slot)? {
-        return Ok(bytes);
+// Whether a file is there and has these bytes.
+fn has<D: Disk>(alloc: Global, disk: &mut D, slot: Slot, bytes: &[u8]) -> Result<bool, DiskFault> {
+    match disk.read(alloc, slot)? {
+        Some(found) => Ok(found.as_slice() == bytes),
+        None => Ok(false),
     }
-    let mut none = Bytes::new(alloc);
-    none.push(0)?;
-    Ok(none)
+}
+
+// Whether these are the names, in this order.
+fn has_names<D: Disk>(alloc: Global, disk: &mut D, slots: &[Slot]) -> Result<bool, DiskFault> {
+    Ok(disk.names(alloc)?.as_slice() == slots)
+}
+
+// Writes these files, the last first.
+fn write_each<D: Disk>(disk: &mut D, slots: &[Slot]) -> Result<(), DiskFault> {
+    for slot in slots.iter().rev() {
+        disk.write(*slot, b"old".as_slice())?;
+    }
+    Ok(())
 }
 
 // A removal at one node is known in the rack: its disk lacks the file, and every other disk is as it was.
@@ -184,31 +195,17 @@ fn calls_in_a_row(rt: HostRuntime) -> Result<(), Fail> {
         Slot::Intent(action),
     ];
     let mut disk = MemDisk::new(alloc);
-    for slot in slots.iter().rev() {
-        disk.write(*slot, b"old".as_slice())?;
-    }
-    assert_eq!(rt; disk.names(alloc)?.as_slice(), slots.as_slice());
+    write_each(&mut disk, slots.as_slice())?;
+    assert!(rt; has_names(alloc, &mut disk, slots.as_slice())?);
 
     disk.write(Slot::Shadow(one), b"new".as_slice())?;
     disk.rename(Slot::Shadow(one), Slot::Committed(one))?;
     disk.remove(Slot::Prepared(Role::Store, action))?;
     disk.remove(Slot::Tmp)?;
-    assert_eq!(rt;
-        bytes_at(alloc, &mut disk, Slot::Committed(one))?.as_slice(),
-        b"new".as_slice()
-    );
-    assert_eq!(rt;
-        bytes_at(alloc, &mut disk, Slot::Committed(two))?.as_slice(),
-        b"old".as_slice()
-    );
-    assert_eq!(rt;
-        bytes_at(alloc, &mut disk, Slot::Shadow(one))?.as_slice(),
-        [0].as_slice()
-    );
-    assert_eq!(rt;
-        disk.names(alloc)?.as_slice(),
-        [slots[0], slots[1], slots[2], slots[5], slots[6]].as_slice()
-    );
+    assert!(rt; has(alloc, &mut disk, Slot::Committed(one), b"new".as_slice())?);
+    assert!(rt; has(alloc, &mut disk, Slot::Committed(two), b"old".as_slice())?);
+    let left = [slots[0], slots[1], slots[2], slots[5], slots[6]];
+    assert!(rt; has_names(alloc, &mut disk, left.as_slice())?);
     Ok(())
 }
 
@@ -229,10 +226,7 @@ fn a_put_is_done_or_not(rt: HostRuntime) -> Result<(), Fail> {
         assert_eq!(rt; done, left == 3);
         assert_eq!(rt; disk.countdown.stops, u64::from(!done));
         disk.countdown.left = 0;
-        assert_eq!(rt;
-            bytes_at(alloc, &mut disk, slot)?.as_slice(),
-            want.as_slice()
-        );
+        assert!(rt; has(alloc, &mut disk, slot, want.as_slice())?);
     }
     Ok(())
 }
@@ -245,9 +239,9 @@ fn one_disk_of_a_rack(rt: HostRuntime) -> Result<(), Fail> {
         put(rack.disk(node), Slot::Incarnation, [node].as_slice())?;
     }
     remove_at(&mut rack, 2, Slot::Incarnation)?;
-    for (node, want) in [(1u8, 1), (2, 0), (3, 0), (16, 16)] {
-        let bytes = bytes_at(alloc, rack.disk(node), Slot::Incarnation)?;
-        assert_eq!(rt; bytes.as_slice(), [want].as_slice());
+    for (node, want) in [(1u8, true), (2, false), (3, false), (16, true)] {
+        let found = has(alloc, rack.disk(node), Slot::Incarnation, [node].as_slice())?;
+        assert_eq!(rt; found, want);
     }
     Ok(())
 }
@@ -261,15 +255,7 @@ fn a_sure_disk_does_not_stop(rt: HostRuntime) -> Result<(), Fail> {
     disk.rename(Slot::Incarnation, Slot::Incarnation)?;
     put_surely(&mut disk, Slot::Intent(object_uid(1)), b"2".as_slice())?;
     disk.remove(Slot::Intent(object_uid(1)))?;
-    assert_eq!(rt;
-        bytes_at(alloc, &mut disk, Slot::Incarnation)?.as_slice(),
-        b"1".as_slice()
-    );
-    assert_eq!(rt;
-        disk.names(alloc)?.as_slice(),
-        [Slot::Incarnation].as_slice()
-    );
-    disk.remove(Slot::Incarnation)?;
-    assert_eq!(rt; disk.names(alloc)?.as_slice().len(), 0);
+    assert!(rt; has(alloc, &mut disk, Slot::Incarnation, b"1".as_slice())?);
+    assert!(rt; has_names(alloc, &mut disk, [Slot::Incarnation].as_slice())?);
     Ok(())
 }

@@ -1,7 +1,7 @@
 //! Scripts and journals as types, and the text of each journal line: what a script can say (`Header`, `Event`), what a
 //! journal can say (`Line`), and labels.
 //!
-//! It stands on `arj_base` and `arj_class`, and on `itoa` for decimals. What it gives upward: `put_line` appends
+//! It stands on `arj_base` and `arj_class`. What it gives upward: `put_line` appends
 //! exactly `line_text` of a line, the one spelling of it (`specs/LineText.antt`); the spelling of script lines is
 //! `specs/ScriptText.antt`.
 #![tactic(auto)]

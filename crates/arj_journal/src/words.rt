@@ -7,7 +7,6 @@ ghost use Rattle.arj_journal.specs.Words.{list_text, mode_text, end_text, op_tex
 
 use arj_base::{Bytes, End, Mode};
 use arj_class::{Answer, Op};
-use itoa::Buffer;
 use std::alloc::{AllocError, Global};
 
 /// Puts the text of an answer at the end.
@@ -101,8 +100,7 @@ pub fn put_word(out: &mut Bytes, word: &[u8]) -> Result<(), AllocError>
 pub fn put_decimal(out: &mut Bytes, n: u64) -> Result<(), AllocError>
     ensures { OnOk result (out.new ≡ out.old ++ decimal n) }
 {
-    let mut digits = Buffer::new();
-    out.extend(digits.format(n).as_bytes())
+    out.extend_decimal(n)
 }
 
 // Two digits a byte, or `-` for no bytes.

@@ -1,7 +1,7 @@
 -- The grammar of a script: which form a line may have at its place. A form is what a line says; the spelling of each
 -- form stands in `arj_journal`.
-use Rattle.std.specs.Prelude.{◌≡◌, ◌⊎◌, ◌<◌, ◌≤◌, ◌^◌, ℕ, List, [], ◌∷◌, ◌++◌, length, codes, ⊤, Bool, true, false, ◌==◌, ◌&&◌, nat_lt, nat_le, if◌then◌else◌, not}
-use Rattle.std.specs.List.{list_any, list_all, AllByRecursion, starts_with}
+use Rattle.std.specs.Prelude.{◌≡◌, ◌<◌, ◌≤◌, ◌^◌, ℕ, List, [], ◌∷◌, length, codes, ⊤, Bool, true, false, ◌==◌, ◌&&◌, nat_lt, nat_le, if◌then◌else◌, not}
+use Rattle.std.specs.List.{list_any, list_all, AllByRecursion}
 use Rattle.arj_class.specs.declared.op.Op.{Op}
 use Rattle.arj_class.specs.declared.op.Op.TheVariants as op
 use Rattle.arj_class.specs.declared.value.Value.{Value}

@@ -1,12 +1,10 @@
 -- What the lines of a source's bytes are, and how far they were read as a script.
-use Rattle.std.specs.Prelude.{◌≡◌, ℕ, List, [], ◌∷◌, ◌++◌, length, ⊤, Bool, true, false, ◌==◌, ◌||◌, nat_lt, if◌then◌else◌, Option, Some, None}
+use Rattle.std.specs.Prelude.{◌≡◌, ℕ, List, [], ◌∷◌, ◌++◌, length, ⊤, Bool, ◌==◌, ◌||◌, nat_lt, if◌then◌else◌}
 use Rattle.std.specs.List.{list_any}
 use Rattle.arj_journal.specs.declared.event.Event.{Event}
-use Rattle.arj_journal.specs.declared.header.Header.{Header}
-use Rattle.arj_journal.specs.declared.header.ObjectLine.{ObjectLine}
 use Rattle.arj_script.specs.declared.reader.Item.{Item}
 use Rattle.arj_script.specs.declared.reader.Item.TheVariants as item
-use Rattle.arj_script.specs.Grammar.{Form, Blank, Nodes, Object, Run, Asks, Place, Start, Objects, Running, next_place, HasForm}
+use Rattle.arj_script.specs.Grammar.{Form, Blank, Nodes, Object, Run, Asks, Place, Objects, next_place, HasForm}
 
 -- Lines that a line feed ends; what stands behind the last line feed. `front` is what has come of the line in hand.
 abbrev pub ended_from : List ℕ → List ℕ → List (List ℕ)

@@ -1,2 +1,4 @@
+pub mod Fields
 pub mod Grammar
 pub mod Input
+pub mod Stage

@@ -1,6 +1,11 @@
 // The reader of a script.
+use crate::ScriptFault;
+use crate::field::is_text;
+use crate::place::{event_line, first_line, header_of, is_blank, object_line};
+use crate::stage::Stage;
 use arj_journal::{Event, Header};
-use thiserror::Error;
+use std::alloc::Global;
+use std::marker::Model;
 
 /// What a line was.
 #[derive(Drop)]
@@ -14,25 +19,72 @@ pub enum Item {
     Event(Event),
 }
 
-/// Why a line was not taken. The reader is as it was.
-#[derive(Debug, Drop, Error)]
-pub enum ScriptFault {
-    #[error("the line isn't in the grammar at its place")]
-    Bad,
-    #[error("out of memory")]
-    Memory,
-}
-
-// Where the reader stands: before `nodes`, in the header, or behind `run`.
-#[derive(Drop)]
-enum Stage {
-    Start,
-    Objects(Header),
-    Running,
-}
-
-/// Reads a script, a line at a time.
+/// Reads a script, a line at a time. Contracts see it as the place where it stands.
 #[derive(Drop)]
 pub struct Reader {
+    alloc: Global,
     stage: Stage,
+}
+
+impl Model for Reader {
+    ghost use Rattle.arj_script.specs.Grammar.{Place};
+    ghost use Rattle.arj_script.specs.Stage.{place_of};
+
+    ghost Value = { Place };
+
+    ghost view = { λ r. place_of r.stage };
+}
+
+impl Reader {
+    ghost use Rattle.std.specs.Prelude.{◌≡◌, IfOk, OnErr, IsErrOf};
+    ghost use Rattle.arj_script.specs.Grammar.{Form, Start, next_place, HasForm, IsBadLine};
+    ghost use Rattle.arj_script.specs.Input.{Tells};
+    ghost use Rattle.arj_script.specs.declared.fault.ScriptFault.TheVariants as script_fault;
+
+    /// A reader before the first line.
+    pub fn new(alloc: Global) -> Reader
+        ensures { result ≡ Start }
+    {
+        Reader {
+            alloc,
+            stage: Stage::Start,
+        }
+    }
+
+    /// Takes a line of at most 200 bytes, without its end, and tells what it was. A line that is refused changes nothing.
+    pub fn line(&mut self, bytes: &[u8]) -> Result<Item, ScriptFault>
+        // What is taken has this form at its place.
+        ensures taken { IfOk result (λ item. (form : Form) × HasForm self.old bytes.now form
+            × Tells self.old form item × (self.new ≡ next_place self.old form)) }
+        // A line is bad exactly where it has no form at its place.
+        ensures bad { IsErrOf result script_fault.Bad → IsBadLine self.old bytes.now }
+        ensures err { OnErr result (self.new ≡ self.old) }
+    {
+        if bytes.len() > 200 {
+            return Err(ScriptFault::Bad);
+        }
+        if is_blank(bytes) {
+            return Ok(Item::Blank);
+        }
+        match &mut self.stage {
+            Stage::Start => {
+                first_line(self.alloc, bytes)?;
+                self.stage = Stage::Objects(Vec::new(self.alloc));
+                Ok(Item::Part)
+            }
+            Stage::Objects(declared) => {
+                if is_text(bytes, b"run") {
+                    let header = header_of(self.alloc, declared)?;
+                    self.stage = Stage::Running;
+                    return Ok(Item::Run(header));
+                }
+                object_line(self.alloc, declared, bytes)?;
+                Ok(Item::Part)
+            }
+            Stage::Running => {
+                let event = event_line(self.alloc, bytes)?;
+                Ok(Item::Event(event))
+            }
+        }
+    }
 }

@@ -4,7 +4,7 @@ use Rattle.byteorder.specs.Endian.{big_bytes}
 use Rattle.arj_class.proofs.payload.put_pair.Goals as goal
 
 -- the two numbers, one behind the other
-pub returns : goal.returns
-returns c =
-    c.in_ok-put_number-2.ensures ∙ ap (λ bytes. bytes ++ big_bytes 8 c.args.pair.now.1) c.in_ok-put_number.ensures
-    ∙ append_assoc c.args.payload.now (big_bytes 8 c.args.pair.now.0) (big_bytes 8 c.args.pair.now.1)
+pub returns-clause-bytes : goal.returns-clause-bytes
+returns-clause-bytes c =
+    c.in_ok-put_number-2.ensures ∙ ap (λ bytes. bytes ++ big_bytes 8 c.args.pair.1) c.in_ok-put_number.ensures
+    ∙ append_assoc c.args.payload.now (big_bytes 8 c.args.pair.0) (big_bytes 8 c.args.pair.1)

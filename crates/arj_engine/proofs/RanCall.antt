@@ -1,0 +1,231 @@
+-- From what an event changes in memory to what holds of the run that is longer by it: calls. And what the code needs so
+-- as to be safe.
+use Rattle.std.proofs.Common.{◌≡◌, ◌<◌, ◌≤◌, ◌⊎◌, inl, inr, ◌^◌, ℕ, suc, ◌+◌, List, [], ◌∷◌, ◌++◌, length, map, filter, Bool, true, false, cond, not, ◌==◌, ◌&&◌, ◌||◌, nat_lt, Option, Some, None, is_some, is_none, MatchOption, IfSome, refl, sym, ◌∙◌, ap, subst, arith}
+use Rattle.std.proofs.lemmas.Bool.Decides.{nat_tests}
+use Rattle.std.proofs.lemmas.List.Elements.{filter-append}
+use Rattle.std.specs.List.{list_any, list_all, AllByRecursion}
+use Rattle.std.specs.Option.{option_map}
+use Rattle.std.specs.Str.{bytes_eq}
+use Rattle.arj_base.specs.Count.{Rose}
+use Rattle.arj_base.specs.State.{state_bytes}
+use Rattle.arj_base.specs.Rows.{Row, first_conflict, last_uid}
+use Rattle.arj_base.specs.Uid.{object}
+use Rattle.arj_class.specs.Table.{class_of, op_mode, answer_of, writes}
+use Rattle.arj_class.specs.declared.op.Op.{Op}
+use Rattle.arj_class.specs.declared.op.Answer.{Answer}
+use Rattle.arj_disk.specs.Files.{FileMap, held}
+use Rattle.arj_journal.specs.declared.body.Body.{Body}
+use Rattle.arj_journal.specs.declared.body.Body.TheVariants as body
+use Rattle.arj_journal.specs.declared.body.Line.{Line}
+use Rattle.arj_journal.specs.declared.event.Event.{Event}
+use Rattle.arj_journal.specs.declared.event.Event.TheVariants as event
+use Rattle.arj_journal.specs.declared.header.Header.{Header}
+use Rattle.arj_journal.specs.declared.label.Label.{Label}
+use Rattle.arj_journal.specs.Label.{name}
+use Rattle.arj_journal.specs.Words.{answer_text}
+use Rattle.arj_model.specs.Actions.{Act, acts, act_in, path, uids, has_end}
+use Rattle.arj_model.specs.Last.{object_line}
+use Rattle.arj_model.specs.Past.{Past, Asked, asked_of, block, next}
+use Rattle.arj_model.specs.Follows.{refusal, Accepted, first_cause, answers_to, asks_by, is_ask_by, is_answer_to, last_asked, pending, AnswersFit, AnswerFits, IsCallOf, is_own, may_stand}
+use Rattle.arj_model.specs.Causes.{Moment, ConflictsHaveCause, conflicts_by, conflict_of, is_conflict, IsAnswered, HasRoomFor, count_halts, is_halt}
+use Rattle.arj_model.specs.Seen.{Seen, seen, see}
+use Rattle.arj_engine.specs.declared.object.Row.{Row as Lock}
+use Rattle.arj_engine.specs.Object.{Obj, against, called, current}
+use Rattle.arj_engine.specs.Keeps.{Keeps, Up, Machine, IsOpen, ObjectStands, ident, row_at, serial_seen, last_seen}
+use Rattle.arj_engine.specs.Change.{IsUsed}
+use Rattle.arj_engine.specs.Engine.{Stands, Ran, machine_of, stepped}
+use Rattle.arj_engine.specs.Events.{Refuses, Calls, Accepts_call, Answers_call, Writes, call_refusal, is_over_by, is_too_many_by, lacks_op_in, Ready}
+use Rattle.arj_engine.specs.declared.engine.Engine.{Engine}
+use Rattle.arj_engine.proofs.Steps.{later, with_call, see_ok, see_conflict}
+use Rattle.arj_engine.proofs.Known.{known}
+use Rattle.arj_engine.proofs.Refusals.{call_same}
+use Rattle.arj_engine.proofs.Call.{keeps_call, keeps_met}
+use Rattle.arj_engine.proofs.Locks.{conflict_is}
+use Rattle.arj_engine.proofs.Disk.{last_call}
+use Rattle.arj_engine.proofs.Ran.{Shows, see_all, stands_after, refused_ran, count_more, answers_more, asks_more}
+use Rattle.arj_engine.proofs.RanEnds.{Found, found, same_name, plain_sum}
+
+-- What the code needs follows from what the engine keeps.
+pub ready : (header : Header) (past : Past) (engine : Engine) (file : FileMap) → Stands header past engine file → stepped engine < 200000 → Ready (machine_of engine)
+ready header past engine file st few = record {
+  in_range = λ l i number. in_range l i number (act_in s.acts (name l)) refl;
+  most = st.keeps.most;
+  versions = λ up x. small x (m.object x) refl up;
+  working = λ up x. working x (m.object x) refl up;
+}
+  where
+    m : Machine
+    m = machine_of engine
+
+    s : Seen
+    s = seen past.lines
+
+    in_range : (l : Label) (i : ℕ) → m.number l ≡ Some i → (a : Option Act) → act_in s.acts (name l) ≡ a → i < m.count
+    in_range l i number None e = let never : None ≡ Some i = sym (st.keeps.number l ∙ ap (option_map (λ b. b.id)) e) ∙ number in cc
+    in_range l i number (Some a) e =
+        let same : Some a.id ≡ Some i = sym (st.keeps.number l ∙ ap (option_map (λ b. b.id)) e) ∙ number in
+        let id : a.id ≡ i = cc in
+        let within = (known s.acts (name l) a st.keeps.plain e).within in
+        omega (arith, within, id, st.keeps.count)
+
+    small : (x : ℕ) (o : Option Obj) → m.object x ≡ o → m.down ≡ false → IfSome o (λ p. p.version < 2 ^ 62)
+    small x None e up = tt
+    small x (Some o) e up = let le = ((st.keeps.up (sym st.keeps.down ∙ up)).objects x o e).small in omega (arith, le, few)
+
+    working : (x : ℕ) (o : Option Obj) → m.object x ≡ o → m.down ≡ false → IfSome o (λ p. IfSome p.working (λ w. class_of w ≡ class_of p.value))
+    working x None e up = tt
+    working x (Some o) e up = by o.working ((st.keeps.up (sym st.keeps.down ∙ up)).objects x o e).class
+      where
+        by : (w : Option _) → MatchOption w (Unit {0}) (λ v. class_of v ≡ class_of o.value) → IfSome w (λ v. class_of v ≡ class_of o.value)
+        by None c = tt
+        by (Some v) c = c
+
+-- The call that waits is the one that was just asked.
+last_push : (xs : List Asked) (a : Asked) → last_asked (xs ++ a ∷ []) ≡ Some a.event
+last_push [] a = refl
+last_push (x ∷ []) a = refl
+last_push (x ∷ y ∷ xs) a = last_push (y ∷ xs) a
+
+waits : (accepted : List Asked) (lines : List Line) (a : Asked) (l : List ℕ) → length (answers_to lines l) ≡ length (asks_by accepted l) → is_ask_by l a.event ≡ true → pending (accepted ++ a ∷ []) lines l ≡ Some a.event
+waits accepted lines a l same asks =
+    let new : asks_by (accepted ++ a ∷ []) l ≡ asks_by accepted l ++ a ∷ [] = filter-append (λ q. is_ask_by l q.event) accepted (a ∷ []) ∙ ap (λ b. asks_by accepted l ++ cond b (a ∷ []) []) asks in
+    let more : length (asks_by accepted l ++ a ∷ []) ≡ length (asks_by accepted l) + 1 = sym (ap length new) ∙ asks_more accepted a l ∙ ap (λ b. length (asks_by accepted l) + length (cond b (a ∷ []) [])) asks in
+    let lt : nat_lt (length (answers_to lines l)) (length (asks_by accepted l ++ a ∷ [])) ≡ true = grind (arith, nat_tests, same, more) in
+    (λ i. cond (nat_lt (length (answers_to lines l)) (length (new i))) (last_asked (new i)) None)
+    ∙ (λ i. cond (lt i) (last_push (asks_by accepted l) a i) None)
+
+-- an accepted call is of an action that is open
+pub accepted_call : (m : Machine) (l : Label) (x : ℕ) (op : Op) (i : ℕ) → call_refusal m l x op ≡ None → m.number l ≡ Some i → is_over_by m (Some i) ≡ false
+accepted_call m l x op i is number = by (is_over_by m (Some i)) refl
+  where
+    rest : Option ℕ → Option ℕ
+    rest o = first_cause ((13, is_none (m.object x)) ∷ (14, lacks_op_in (m.object x) op) ∷ (16, is_too_many_by m o x) ∷ [])
+
+    here : call_refusal m l x op ≡ cond (is_over_by m (Some i)) (Some 6) (rest (Some i))
+    here = ap (λ o. first_cause ((5, is_none o) ∷ (6, is_over_by m o) ∷ (13, is_none (m.object x)) ∷ (14, lacks_op_in (m.object x) op) ∷ (16, is_too_many_by m o x) ∷ [])) number
+
+    by : (b : Bool) → is_over_by m (Some i) ≡ b → is_over_by m (Some i) ≡ false
+    by true e = let never : Some 6 ≡ None = sym (ap (λ b. cond b (Some 6) (rest (Some i))) e) ∙ sym here ∙ is in cc
+    by false e = e
+
+module _ (header : Header) (past : Past) (l : Label) (x : ℕ) (op : Op) (old new : Engine) (file : FileMap) (stops : ℕ) (before after : List Line) (st : Stands header past old file) where
+  abbrev m : Machine
+  m = machine_of old
+
+  abbrev s : Seen
+  s = seen past.lines
+
+  abbrev asked : Asked
+  asked = asked_of past (event.Call l x op)
+
+  -- the lock that the call meets, by the journal and by the object
+  conflict_same : (i : ℕ) (o : Obj) → Found s l i → m.object x ≡ Some o → conflict_of past l x op ≡ option_map (row_at x) (against (ident i) (op_mode op) o.rows)
+  conflict_same i o f there =
+      let us : uids (path (acts past.lines) (name l)) ≡ ident i ∷ [] = ap uids f.path_is ∙ ap (λ u. u ∷ []) f.uid in
+      ap (λ us. first_conflict us (object x) (op_mode op) s.rows) us ∙ conflict_is x i (op_mode op) s.rows o.rows ((st.keeps.up f.up).objects x o there).rows
+
+  moment_of : (b : Body) → refusal header past (event.Call l x op) ≡ None → is_own b ≡ false → may_stand (event.Call l x op) b ≡ true → AnswerFits (past.accepted ++ asked ∷ []) past.lines b
+      → filter is_conflict (b ∷ []) ≡ conflicts_by l (conflict_of past l x op) → is_answer_to (name l) b ≡ true → Moment header past (event.Call l x op) (b ∷ [])
+  moment_of b is own stand fits cause answers = record {
+    step = (let P : Option ℕ → Type 0 = λ o. MatchOption o (Accepted header past (event.Call l x op) (b ∷ [])) (λ d. b ∷ [] ≡ body.Refused d ∷ []) in
+        subst P (sym is) (record { own = ap (λ t. cond t (b ∷ []) []) own; only = (λ j. stand j && true); answers = (fits, tt) }));
+    conflict = (let P : Option ℕ → Type 0 = λ o. MatchOption o (ConflictsHaveCause past (event.Call l x op) (b ∷ [])) (λ d. filter is_conflict (b ∷ []) ≡ []) in subst P (sym is) cause);
+    prompt = (let P : Option ℕ → Type 0 = λ o. MatchOption o (IsAnswered past.lines (event.Call l x op) (b ∷ [])) (λ d. Unit {0}) in subst P (sym is) (ap (λ t. t || false) answers));
+    room = (let P : Option ℕ → Type 0 = λ o. MatchOption o (HasRoomFor past (event.Call l x op)) (λ d. Unit {0}) in subst P (sym is) tt);
+  }
+
+  -- one answer more, to one question more
+  answered_more : (b : Body) → ((q : List ℕ) → is_answer_to q b ≡ bytes_eq (name l) q) → (q : List ℕ) → length (answers_to (past.lines ++ block (past.count + 1) (b ∷ [])) q) ≡ length (asks_by (past.accepted ++ asked ∷ []) q)
+  answered_more b is q =
+      answers_more past.lines (past.count + 1) (b ∷ []) q
+      ∙ (λ i. st.answered q i + both i)
+      ∙ sym (asks_more past.accepted asked q)
+    where
+      line : Line
+      line = record { event = past.count + 1; body = b }
+
+      by : (t : Bool) → length (cond t (line ∷ []) []) ≡ length (cond t (asked ∷ []) [])
+      by true = refl
+      by false = refl
+
+      both : length (answers_to (block (past.count + 1) (b ∷ [])) q) ≡ length (asks_by (asked ∷ []) q)
+      both = ap (λ t. length (cond t (line ∷ []) [])) (is q) ∙ by (bytes_eq (name l) q)
+
+  answered_ran : (i : ℕ) (o : Obj) → refusal header past (event.Call l x op) ≡ None → (f : Found s l i) → m.object x ≡ Some o → against (ident i) (op_mode op) o.rows ≡ None
+      → IsUsed m (machine_of new) i x (Some (called (ident i) (op_mode op) op o)) → Writes m (body.Ok l x op (answer_text (answer_of op (current o))) ∷ []) before after → Ran header past (event.Call l x op) new file stops stops before after
+  answered_ran i o is f there free used lines =
+      let answer : Answer = answer_of op (current o) in
+      let b : Body = body.Ok l x op (answer_text answer) in
+      let k = keeps_call header past.accepted s m (machine_of new) asked f.act i x op o answer st.keeps f.going f.id f.kind f.uid f.path_is refl there free refl used in
+      let up = k.up f.up in
+      let fits : AnswerFits (past.accepted ++ asked ∷ []) past.lines b = (subst (IsCallOf x op) (sym (waits past.accepted past.lines asked (name l) (st.answered (name l)) (same_name l))) (refl, refl), (answer, refl)) in
+      let cause : [] ≡ conflicts_by l (conflict_of past l x op) = sym (ap (conflicts_by l) (conflict_same i o f there ∙ ap (option_map (row_at x)) free)) in
+      let off : has_end s.committed f.act.id ≡ false = ap (has_end s.committed) f.id ∙ (st.keeps.up f.up).uncommitted i f.going in
+      record {
+        bodies = b ∷ [];
+        lines = lines ∙ ap (λ c. before ++ block (c + 1) (b ∷ [])) st.count;
+        moment = moment_of b is refl refl fits cause (same_name l);
+        stands = stands_after header past (event.Call l x op) (b ∷ []) new file (with_call s (f.act ∷ []) x op (answer_text answer))
+            (see_ok s l x op (answer_text answer) ∙ ap (λ p. with_call s p x op (answer_text answer)) f.path_is)
+            (used.event ∙ ap (λ c. c + 1) st.count) k
+            (record {
+              serial = up.serial;
+              holds = λ d y is_there. st.holds d y is_there ∙ sym (ap (λ t. Some (state_bytes t)) (last_call header s f.act x op (answer_text answer) y off st.keeps.found));
+              holds_or_next = λ y is_there. inl (st.holds f.up y is_there ∙ sym (ap (λ t. Some (state_bytes t)) (last_call header s f.act x op (answer_text answer) y off st.keeps.found)));
+            })
+            (count_more past.lines (past.count + 1) (b ∷ []) ∙ plain_sum (count_halts past.lines 1) ∙ st.halts)
+            st.alone (λ n apart. refl)
+            (answered_more b (λ q. refl));
+        halted = λ g. absurd_false g;
+        steady = λ g. refl;
+      }
+    where
+      absurd_false : false ≡ true → Rose stops stops
+      absurd_false g = cc
+
+  met_ran : (i : ℕ) (o : Obj) (row : Lock) → refusal header past (event.Call l x op) ≡ None → (f : Found s l i) → m.object x ≡ Some o → against (ident i) (op_mode op) o.rows ≡ Some row
+      → IsUsed m (machine_of new) i x (m.object x) → Writes m (body.Conflict l row.holder row.mode 1 ∷ []) before after → Ran header past (event.Call l x op) new file stops stops before after
+  met_ran i o row is f there against_it used lines =
+      let b : Body = body.Conflict l row.holder row.mode 1 in
+      let k = keeps_met header past.accepted s m (machine_of new) asked f.act i x st.keeps f.going f.id f.kind f.uid f.path_is refl used in
+      let fits : AnswerFits (past.accepted ++ asked ∷ []) past.lines b = ap is_some (waits past.accepted past.lines asked (name l) (st.answered (name l)) (same_name l)) in
+      let cause : b ∷ [] ≡ conflicts_by l (conflict_of past l x op) = sym (ap (conflicts_by l) (conflict_same i o f there ∙ ap (option_map (row_at x)) against_it)) in
+      record {
+        bodies = b ∷ [];
+        lines = lines ∙ ap (λ c. before ++ block (c + 1) (b ∷ [])) st.count;
+        moment = moment_of b is refl refl fits cause (same_name l);
+        stands = stands_after header past (event.Call l x op) (b ∷ []) new file (later s) (see_conflict s l row.holder row.mode 1)
+            (used.event ∙ ap (λ c. c + 1) st.count) k
+            (record { serial = st.serial; holds = st.holds; holds_or_next = st.holds_or_next })
+            (count_more past.lines (past.count + 1) (b ∷ []) ∙ plain_sum (count_halts past.lines 1) ∙ st.halts)
+            st.alone (λ n apart. refl)
+            (answered_more b (λ q. refl));
+        halted = λ g. absurd_false g;
+        steady = λ g. refl;
+      }
+    where
+      absurd_false : false ≡ true → Rose stops stops
+      absurd_false g = cc
+
+  pub call_ran : Calls m (machine_of new) l x op before after → Ran header past (event.Call l x op) new file stops stops before after
+  call_ran calls = by (call_refusal m l x op) refl calls
+    where
+      same : refusal header past (event.Call l x op) ≡ call_refusal m l x op
+      same = call_same header past m l x op st.keeps
+
+      accepted : call_refusal m l x op ≡ None → Accepts_call m (machine_of new) l x op before after → Ran header past (event.Call l x op) new file stops stops before after
+      accepted is a = which (against (ident a.action) (op_mode op) a.target.rows) refl a.answers
+        where
+          f : Found s l a.action
+          f = found header past.accepted s m l a.action st.keeps a.known (accepted_call m l x op a.action is a.known)
+
+          which : (o : Option Lock) → against (ident a.action) (op_mode op) a.target.rows ≡ o
+              → MatchOption o (IsUsed m (machine_of new) a.action x (Some (called (ident a.action) (op_mode op) op a.target)) × Writes m (body.Ok l x op (answer_text (answer_of op (current a.target))) ∷ []) before after)
+              (λ row. IsUsed m (machine_of new) a.action x (m.object x) × Writes m (body.Conflict l row.holder row.mode 1 ∷ []) before after)
+              → Ran header past (event.Call l x op) new file stops stops before after
+          which None e h = answered_ran a.action a.target (same ∙ is) f a.there e h.0 h.1
+          which (Some row) e h = met_ran a.action a.target row (same ∙ is) f a.there e h.0 h.1
+
+      by : (o : Option ℕ) → call_refusal m l x op ≡ o → MatchOption o (Accepts_call m (machine_of new) l x op before after) (λ c. Refuses m (machine_of new) c before after) → Ran header past (event.Call l x op) new file stops stops before after
+      by None is a = accepted is a
+      by (Some c) is r = refused_ran header past (event.Call l x op) old new file stops before after c st (same ∙ is) r

@@ -1,0 +1,389 @@
+-- From what an event changes in memory to what holds of the run that is longer by it: aborts and commits.
+use Rattle.std.proofs.Common.{◌≡◌, ◌<◌, ◌≤◌, ◌⊎◌, inl, inr, ◌^◌, ℕ, suc, ◌+◌, List, [], ◌∷◌, ◌++◌, length, map, filter, Bool, true, false, cond, not, ◌==◌, ◌&&◌, ◌||◌, nat_lt, Option, Some, None, is_some, is_none, MatchOption, IfSome, option_and_then, refl, sym, ◌∙◌, ap, subst, arith}
+use Rattle.std.proofs.lemmas.Bool.{eqb-true}
+use Rattle.std.proofs.lemmas.Bool.Decides.{nat_tests}
+use Rattle.std.proofs.lemmas.List.Folds.{list_any-append}
+use Rattle.std.specs.List.{list_any, list_all, AllByRecursion}
+use Rattle.std.specs.Option.{option_map}
+use Rattle.std.specs.Str.{bytes_eq}
+use Rattle.std.proofs.lemmas.Slice.Eq.{bytes_eq-Decides}
+use Rattle.arj_base.specs.Count.{Rose}
+use Rattle.arj_base.specs.State.{state_bytes}
+use Rattle.arj_base.specs.declared.uid.Uid.{Uid}
+use Rattle.arj_base.specs.declared.state.ObjectState.{ObjectState}
+use Rattle.arj_base.specs.Rows.{last_uid}
+use Rattle.arj_class.specs.Table.{class_of, writes}
+use Rattle.arj_class.specs.declared.value.Value.{Value}
+use Rattle.arj_disk.specs.Files.{FileMap, held}
+use Rattle.arj_journal.specs.declared.body.Body.{Body}
+use Rattle.arj_journal.specs.declared.body.Body.TheVariants as body
+use Rattle.arj_journal.specs.declared.body.Cause.TheVariants as cause
+use Rattle.arj_journal.specs.declared.body.Kind.TheVariants as kind
+use Rattle.arj_journal.specs.declared.body.Line.{Line}
+use Rattle.arj_journal.specs.declared.event.Event.{Event}
+use Rattle.arj_journal.specs.declared.event.Event.TheVariants as event
+use Rattle.arj_journal.specs.declared.header.Header.{Header}
+use Rattle.arj_journal.specs.declared.label.Label.{Label}
+use Rattle.arj_journal.specs.Label.{name}
+use Rattle.arj_model.specs.Actions.{Act, Placed, Halt, acts, act_in, id_in, path, uids, has_end}
+use Rattle.arj_model.specs.Serial.{Answers}
+use Rattle.arj_model.specs.Last.{first_values, object_line, is_among}
+use Rattle.arj_model.specs.Past.{Past, Asked, asked_of, block, next}
+use Rattle.arj_model.specs.Follows.{refusal, Accepted, first_cause, is_committing, is_committing_line, has_ended, is_over_act, answers_to, asks_by, object_used, is_own, may_stand, AnswersFit}
+use Rattle.arj_model.specs.Causes.{Moment, ConflictsHaveCause, is_conflict, IsAnswered, HasRoomFor, count_halts, is_halt, is_commit_end, is_node_of}
+use Rattle.arj_model.specs.Seen.{Seen, seen, see}
+use Rattle.arj_engine.specs.Object.{Obj, new_state, put_over}
+use Rattle.arj_engine.specs.Keeps.{Keeps, Up, Machine, IsOpen, ObjectStands, ident, serial_seen, last_seen, next_seen, undecided_seen, calls_by}
+use Rattle.arj_engine.specs.Change.{IsCounted, IsEnded, IsDown}
+use Rattle.arj_engine.specs.Engine.{Stands, Ran, machine_of, stepped}
+use Rattle.arj_engine.specs.Events.{Refuses, Aborts, Accepts_abort, Commits, Accepts_commit, Commits_whole, Commits_halted, PutsAll, PutsSome, state_by, end_refusal, is_over_by, Ready, Untouched}
+use Rattle.arj_engine.specs.declared.engine.Engine.{Engine}
+use Rattle.arj_engine.proofs.Steps.{later, with_committing, with_commit, with_abort, with_halt, see_committing, see_committed, see_aborted, see_halted}
+use Rattle.arj_engine.proofs.Known.{known, path_plain, one_or_none}
+use Rattle.arj_engine.proofs.Refusals.{commit_same, abort_same, over_same}
+use Rattle.arj_engine.proofs.End.{AsksEnd, committed_seen, lines_of_begun}
+use Rattle.arj_engine.proofs.Abort.{keeps_abort}
+use Rattle.arj_engine.proofs.Commit.{keeps_commit}
+use Rattle.arj_engine.proofs.Halt.{keeps_halt}
+use Rattle.arj_engine.proofs.Disk.{committed_state, halted_seen, halted_state, last_halt, serial_halt}
+use Rattle.arj_engine.proofs.Ran.{Shows, see_all, seen_block, stands_after, refused_ran, count_more, answers_more, asks_more}
+
+-- What is known of the action that an accepted event names.
+pub record Found (s : Seen) (l : Label) (i : ℕ) : Type 0 where
+  pub act : Act
+  pub in_is : act_in s.acts (name l) ≡ Some act
+  pub path_is : path s.acts (name l) ≡ act ∷ []
+  pub id : act.id ≡ i
+  pub kind : act.kind ≡ kind.Top
+  pub uid : act.uid ≡ ident i
+  pub up : s.down ≡ false
+  pub going : IsOpen s i
+
+open_by : (m : Machine) (i : ℕ) → is_over_by m (Some i) ≡ false → (m.down ≡ false) × (m.is_open i ≡ true)
+open_by m i over = by m.down refl (m.is_open i) refl over
+  where
+    by : (d : Bool) → m.down ≡ d → (o : Bool) → m.is_open i ≡ o → cond d true (not o) ≡ false → (m.down ≡ false) × (m.is_open i ≡ true)
+    by true e o f over = cc
+    by false e true f over = (e, f)
+    by false e false f over = cc
+
+pub found : (header : Header) (accepted : List Asked) (s : Seen) (m : Machine) (l : Label) (i : ℕ) → Keeps header accepted s m → m.number l ≡ Some i → is_over_by m (Some i) ≡ false → Found s l i
+found header accepted s m l i k number over = by (act_in s.acts (name l)) refl (sym (k.number l) ∙ number)
+  where
+    o : (m.down ≡ false) × (m.is_open i ≡ true)
+    o = open_by m i over
+
+    by : (a : Option Act) → act_in s.acts (name l) ≡ a → option_map (λ b. b.id) a ≡ Some i → Found s l i
+    by None e is = cc
+    by (Some a) e is =
+        let id : a.id ≡ i = cc in
+        let kn = known s.acts (name l) a k.plain e in
+        let begun : i < length s.acts = subst (λ j. j < length s.acts) id kn.within in
+        let still : not (has_end s.ended i) ≡ true = sym (k.is_open i begun) ∙ o.1 in
+        record {
+          act = a;
+          in_is = e;
+          path_is = path_plain s.acts (name l) k.plain ∙ ap one_or_none e;
+          id = id;
+          kind = kn.kind;
+          uid = kn.uid ∙ ap ident id;
+          up = sym k.down ∙ o.0;
+          going = record { begun = begun; going = turned (has_end s.ended i) still };
+        }
+      where
+        turned : (b : Bool) → not b ≡ true → b ≡ false
+        turned true e = cc
+        turned false e = refl
+
+-- an end that isn't refused is of an action that is open
+pub accepted_end : (m : Machine) (l : Label) (i : ℕ) → end_refusal m l ≡ None → m.number l ≡ Some i → is_over_by m (Some i) ≡ false
+accepted_end m l i is number = by (is_over_by m (Some i)) refl
+  where
+    here : end_refusal m l ≡ first_cause ((6, is_over_by m (Some i)) ∷ [])
+    here = ap (λ o. first_cause ((5, is_none o) ∷ (6, is_over_by m o) ∷ [])) number
+
+    by : (b : Bool) → is_over_by m (Some i) ≡ b → is_over_by m (Some i) ≡ false
+    by true e = let never : Some 6 ≡ None = sym (ap (λ b. first_cause ((6, b) ∷ [])) e) ∙ sym here ∙ is in cc
+    by false e = e
+
+pub same_name : (l : Label) → bytes_eq (name l) (name l) ≡ true
+same_name l = (bytes_eq-Decides (name l) (name l)).1 refl
+
+pub asks_of : (past : Past) (l : Label) (i : ℕ) (e : Event) (f : Found (seen past.lines) l i) → (asked_of past e).path ≡ path (acts past.lines) (name l) → object_used e ≡ None → AsksEnd (seen past.lines) i f.act (asked_of past e)
+asks_of past l i e f is used = record { up = f.up; going = f.going; id = f.id; kind = f.kind; uid = f.uid; path = is ∙ f.path_is; used = used }
+
+pub plain_sum : (n : ℕ) → n + 0 ≡ n
+plain_sum n = omega arith
+
+-- Aborts.
+
+abort_moment : (header : Header) (past : Past) (l : Label) → refusal header past (event.Abort l) ≡ None → Moment header past (event.Abort l) (body.Aborted l cause.Asked ∷ [])
+abort_moment header past l is = record {
+  step = (let P : Option ℕ → Type 0 = λ o. MatchOption o (Accepted header past (event.Abort l) bodies) (λ d. bodies ≡ body.Refused d ∷ []) in subst P (sym is) (record { own = refl; only = refl; answers = (tt, tt) }));
+  conflict = (let P : Option ℕ → Type 0 = λ o. MatchOption o (ConflictsHaveCause past (event.Abort l) bodies) (λ d. filter is_conflict bodies ≡ []) in subst P (sym is) refl);
+  prompt = (let P : Option ℕ → Type 0 = λ o. MatchOption o (IsAnswered past.lines (event.Abort l) bodies) (λ d. Unit {0}) in subst P (sym is) tt);
+  room = (let P : Option ℕ → Type 0 = λ o. MatchOption o (HasRoomFor past (event.Abort l)) (λ d. Unit {0}) in subst P (sym is) tt);
+}
+  where
+    bodies : List Body
+    bodies = body.Aborted l cause.Asked ∷ []
+
+pub abort_ran : (header : Header) (past : Past) (l : Label) (old new : Engine) (file : FileMap) (stops : ℕ) (before after : List Line)
+    → Stands header past old file → Aborts (machine_of old) (machine_of new) l before after → Ran header past (event.Abort l) new file stops stops before after
+abort_ran header past l old new file stops before after st aborts = by (end_refusal (machine_of old) l) refl aborts
+  where
+    m : Machine
+    m = machine_of old
+
+    s : Seen
+    s = seen past.lines
+
+    same : refusal header past (event.Abort l) ≡ end_refusal m l
+    same = abort_same header past m l st.keeps
+
+    accepted : end_refusal m l ≡ None → Accepts_abort m (machine_of new) l before after → Ran header past (event.Abort l) new file stops stops before after
+    accepted is a =
+        let i : ℕ = a.action in
+        let f = found header past.accepted s m l i st.keeps a.known (accepted_end m l i is a.known) in
+        let e = asks_of past l i (event.Abort l) f refl refl in
+        let bodies : List Body = body.Aborted l cause.Asked ∷ [] in
+        let asked : Asked = asked_of past (event.Abort l) in
+        let k = keeps_abort header past.accepted s m (machine_of new) i f.act asked st.keeps e a.ended in
+        let uid : last_uid (uids (path s.acts (name l))) ≡ ident i = ap (λ p. last_uid (uids p)) f.path_is ∙ f.uid in
+        let known : id_in s.acts (name l) ≡ Some i = ap (option_map (λ b. b.id)) f.in_is ∙ ap Some f.id in
+        record {
+          bodies = bodies;
+          lines = a.lines ∙ ap (λ c. before ++ block (c + 1) bodies) st.count;
+          moment = abort_moment header past l (same ∙ is);
+          stands = stands_after header past (event.Abort l) bodies new file (with_abort s i (ident i))
+              (see_aborted s l i known ∙ ap (with_abort s i) uid)
+              (a.ended.event ∙ ap (λ c. c + 1) st.count)
+              k
+              (record { serial = st.serial; holds = st.holds; holds_or_next = λ x there. inl (st.holds f.up x there) })
+              (count_more past.lines (past.count + 1) bodies ∙ plain_sum (count_halts past.lines 1) ∙ st.halts)
+              st.alone (λ n apart. refl)
+              (λ q. answers_more past.lines (past.count + 1) bodies q ∙ plain_sum (length (answers_to past.lines q)) ∙ st.answered q ∙ sym (asks_more past.accepted asked q ∙ plain_sum (length (asks_by past.accepted q))));
+          halted = λ g. absurd_false g;
+          steady = λ g. refl;
+        }
+      where
+        absurd_false : false ≡ true → Rose stops stops
+        absurd_false g = cc
+
+    by : (o : Option ℕ) → end_refusal m l ≡ o → MatchOption o (Accepts_abort m (machine_of new) l before after) (λ c. Refuses m (machine_of new) c before after) → Ran header past (event.Abort l) new file stops stops before after
+    by None is a = accepted is a
+    by (Some c) is r = refused_ran header past (event.Abort l) old new file stops before after c st (same ∙ is) r
+
+-- Commits.
+
+-- whether the action with a label has ended, of what is read
+abbrev over_in : List (Placed ℕ) → List (Placed Halt) → Option Act → Bool
+over_in ends hs None = false
+over_in ends hs (Some a) = has_end ends a.id || list_any (λ h. (h.it.node == a.uid.node) && nat_lt a.id h.it.begun) hs
+
+over_is : (lines : List Line) (l : List ℕ) → has_ended lines l ≡ over_in (seen lines).ended (seen lines).halts (act_in (seen lines).acts l)
+over_is lines l = by (act_in (acts lines) l)
+  where
+    by : (o : Option Act) → is_over_act lines o ≡ over_in (seen lines).ended (seen lines).halts o
+    by None = refl
+    by (Some a) = refl
+
+-- behind the line that calls its commit the action is committing
+called_commit : (header : Header) (past : Past) (m : Machine) (l : Label) (i n : ℕ) → Keeps header past.accepted (seen past.lines) m → m.number l ≡ Some i → is_over_by m (Some i) ≡ false
+    → is_committing (past.lines ++ block n (body.Committing l ∷ [])) (name l) ≡ true
+called_commit header past m l i n k number over = (λ j. any j && not (over_now j))
+  where
+    lines : List Line
+    lines = past.lines ++ block n (body.Committing l ∷ [])
+
+    any : list_any (λ line. is_committing_line (name l) line.body) lines ≡ true
+    any = list_any-append (λ line. is_committing_line (name l) line.body) past.lines (block n (body.Committing l ∷ []))
+        ∙ by (list_any (λ line. is_committing_line (name l) line.body) past.lines) (bytes_eq (name l) (name l)) (same_name l)
+      where
+        by : (b c : Bool) → c ≡ true → (b || (c || false)) ≡ true
+        by true c e = refl
+        by false true e = refl
+        by false false e = e
+
+    s' : Seen
+    s' = see (seen past.lines) (body.Committing l)
+
+    at : seen lines ≡ s'
+    at = seen_block past.lines n (body.Committing l ∷ [])
+
+    over_now : has_ended lines (name l) ≡ false
+    over_now =
+        over_is lines (name l)
+        ∙ ap (λ (t : Seen). over_in t.ended t.halts (act_in t.acts (name l))) (at ∙ see_committing (seen past.lines) l)
+        ∙ sym (over_is past.lines (name l))
+        ∙ over_same header past m l k ∙ ap (is_over_by m) number ∙ over
+
+commit_own : (header : Header) (past : Past) (l : Label) (b : Body) → refusal header past (event.Commit l) ≡ None → AnswersFit (past.accepted ++ asked_of past (event.Commit l) ∷ []) past.lines (past.count + 1) (body.Committing l ∷ b ∷ [])
+    → is_own b ≡ false → may_stand (event.Commit l) b ≡ true → is_conflict b ≡ false → list_any (is_commit_end past.lines (name l)) (body.Committing l ∷ b ∷ []) ≡ true
+    → Moment header past (event.Commit l) (body.Committing l ∷ b ∷ [])
+commit_own header past l b is answers own stand calm ends = record {
+  step = (let P : Option ℕ → Type 0 = λ o. MatchOption o (Accepted header past (event.Commit l) bodies) (λ d. bodies ≡ body.Refused d ∷ []) in
+      subst P (sym is) (record { own = ap (λ t. body.Committing l ∷ cond t (b ∷ []) []) own; only = (λ j. stand j && true); answers = answers }));
+  conflict = (let P : Option ℕ → Type 0 = λ o. MatchOption o (ConflictsHaveCause past (event.Commit l) bodies) (λ d. filter is_conflict bodies ≡ []) in subst P (sym is) (ap (λ t. cond t (b ∷ []) []) calm));
+  prompt = (let P : Option ℕ → Type 0 = λ o. MatchOption o (IsAnswered past.lines (event.Commit l) bodies) (λ d. Unit {0}) in subst P (sym is) ends);
+  room = (let P : Option ℕ → Type 0 = λ o. MatchOption o (HasRoomFor past (event.Commit l)) (λ d. Unit {0}) in subst P (sym is) tt);
+}
+  where
+    bodies : List Body
+    bodies = body.Committing l ∷ b ∷ []
+
+module _ (header : Header) (past : Past) (l : Label) (old new : Engine) (file file' : FileMap) (stops stops' : ℕ) (before after : List Line) (st : Stands header past old file) where
+  abbrev m : Machine
+  m = machine_of old
+
+  abbrev s : Seen
+  s = seen past.lines
+
+  abbrev asked : Asked
+  asked = asked_of past (event.Commit l)
+
+  -- where something of an object is held, it is the last state, and the object is there
+  object_of : (x : ℕ) → is_some (object_line header x) ≡ true → (o : Obj) × (m.object x ≡ Some o)
+  object_of x there = by (m.object x) refl (st.keeps.there x ∙ there)
+    where
+      by : (o : Option Obj) → m.object x ≡ o → is_some o ≡ true → (p : Obj) × (m.object x ≡ Some p)
+      by None e is = cc
+      by (Some p) e is = (p, e)
+
+  some_lines : (i : ℕ) → IsOpen s i → 0 < s.count
+  some_lines i going = lines_of_begun past.lines i going.begun
+
+  no_more_answers : (bodies : List Body) → ((q : List ℕ) → length (answers_to (block (past.count + 1) bodies) q) ≡ 0) → (q : List ℕ)
+      → length (answers_to (past.lines ++ block (past.count + 1) bodies) q) ≡ length (asks_by (past.accepted ++ asked ∷ []) q)
+  no_more_answers bodies none q =
+      answers_more past.lines (past.count + 1) bodies q ∙ ap (λ n. length (answers_to past.lines q) + n) (none q) ∙ plain_sum (length (answers_to past.lines q))
+      ∙ st.answered q ∙ sym (asks_more past.accepted asked q ∙ plain_sum (length (asks_by past.accepted q)))
+
+  whole_ran : (i : ℕ) → refusal header past (event.Commit l) ≡ None → m.number l ≡ Some i → is_over_by m (Some i) ≡ false
+      → Commits_whole m (machine_of new) l i file file' stops stops' before after → Ran header past (event.Commit l) new file' stops stops' before after
+  whole_ran i is number over w =
+      let f = found header past.accepted s m l i st.keeps number over in
+      let e = asks_of past l i (event.Commit l) f refl refl in
+      let some = some_lines i f.going in
+      let bodies : List Body = body.Committing l ∷ body.Committed l ∷ [] in
+      let k = keeps_commit header past.accepted s m (machine_of new) i f.act asked st.keeps e some w.ended in
+      let uid : last_uid (uids (path s.acts (name l))) ≡ ident i = ap (λ p. last_uid (uids p)) f.path_is ∙ f.uid in
+      let known : id_in s.acts (name l) ≡ Some i = ap (option_map (λ b. b.id)) f.in_is ∙ ap Some f.id in
+      let called : see s (body.Committing l) ≡ with_committing s (f.act ∷ []) = see_committing s l ∙ ap (with_committing s) f.path_is in
+      let read : see_all s bodies ≡ committed_seen s f.act i =
+      ap (λ t. see t (body.Committed l)) called ∙ see_committed (with_committing s (f.act ∷ [])) l i known ∙ ap (with_commit (with_committing s (f.act ∷ [])) i) uid in
+      let up = k.up f.up in
+      record {
+        bodies = bodies;
+        lines = w.lines ∙ ap (λ c. before ++ block (c + 1) bodies) st.count;
+        moment = commit_own header past l (body.Committed l) is (tt, (called_commit header past m l i (past.count + 1) st.keeps number over, tt)) refl refl refl (ap (λ b. b || false) (same_name l));
+        stands = stands_after header past (event.Commit l) bodies new file' (committed_seen s f.act i) read
+            (w.ended.event ∙ ap (λ c. c + 1) st.count) k
+            (record { serial = up.serial; holds = λ d x there. held_now i f e some w x there; holds_or_next = λ x there. inl (held_now i f e some w x there) })
+            (count_more past.lines (past.count + 1) bodies ∙ plain_sum (count_halts past.lines 1) ∙ st.halts)
+            st.alone (λ n apart. refl)
+            (no_more_answers bodies (λ q. refl));
+        halted = λ g. absurd_false g;
+        steady = λ g. w.steady;
+      }
+    where
+      absurd_false : false ≡ true → Rose stops stops'
+      absurd_false g = cc
+
+      held_now : (i : ℕ) (f : Found s l i) (e : AsksEnd s i f.act asked) → 0 < s.count → Commits_whole m (machine_of new) l i file file' stops stops' before after → (x : ℕ) → is_some (object_line header x) ≡ true
+          → held file' x ≡ Some (state_bytes (last_seen header (committed_seen s f.act i) x))
+      held_now i f e some w x there =
+          let o = object_of x there in
+          let was : held file x ≡ Some (state_bytes (last_seen header s x)) = st.holds f.up x there in
+          w.puts x
+          ∙ (λ j. cond (is_among (m.used i) x) (put_over (option_and_then (new_state (ident i) x) (o.1 j)) (was j)) (was j))
+          ∙ committed_state header past.accepted s m i f.act asked x st.keeps e some o.0 o.1
+
+  halted_ran : (i : ℕ) → refusal header past (event.Commit l) ≡ None → m.number l ≡ Some i → is_over_by m (Some i) ≡ false
+      → Commits_halted m (machine_of new) l i file file' stops stops' before after → Ran header past (event.Commit l) new file' stops stops' before after
+  halted_ran i is number over w =
+      let f = found header past.accepted s m l i st.keeps number over in
+      let e = asks_of past l i (event.Commit l) f refl refl in
+      let bodies : List Body = body.Committing l ∷ body.Halted 1 ∷ [] in
+      let k = keeps_halt header past.accepted s m (machine_of new) i f.act asked st.keeps e w.halted in
+      let called : see s (body.Committing l) ≡ with_committing s (f.act ∷ []) = see_committing s l ∙ ap (with_committing s) f.path_is in
+      let read : see_all s bodies ≡ halted_seen s f.act = ap (λ t. see t (body.Halted 1)) called ∙ see_halted (with_committing s (f.act ∷ [])) in
+      let node : is_node_of (act_in (acts past.lines) (name l)) 1 ≡ true = ap (λ a. is_node_of a 1) f.in_is ∙ ap (λ u. 1 == u.node) f.uid in
+      let none : count_halts past.lines 1 ≡ 0 = st.halts ∙ ap (λ d. cond d 1 0) f.up in
+      record {
+        bodies = bodies;
+        lines = w.lines ∙ ap (λ c. before ++ block (c + 1) bodies) st.count;
+        moment = commit_own header past l (body.Halted 1) is (tt, (tt, tt)) refl refl refl (ap (λ b. b || false) node);
+        stands = stands_after header past (event.Commit l) bodies new file' (halted_seen s f.act) read
+            (w.halted.event ∙ ap (λ c. c + 1) st.count) k
+            (record {
+              serial = subst (Answers (first_values header)) (sym (serial_halt header past.accepted s m i f.act asked 0 st.keeps e)) st.serial;
+              holds = λ d. absurd_true d;
+              holds_or_next = λ x there. held_then i f e w x there;
+            })
+            (count_more past.lines (past.count + 1) bodies ∙ ap (λ n. n + 1) none)
+            st.alone (λ n apart. ap (λ b. length (cond b (halt_line ∷ []) [])) (other_node n apart))
+            (no_more_answers bodies (λ q. refl));
+        halted = λ g. w.rose;
+        steady = λ g. absurd_steady g;
+      }
+    where
+      halt_line : Line
+      halt_line = record { event = past.count + 1; body = body.Halted 1 }
+
+      other_node : (n : ℕ) → (n ≡ 1 → ⊥) → (1 == n) ≡ false
+      other_node n apart = by (1 == n) refl
+        where
+          by : (b : Bool) → (1 == n) ≡ b → (1 == n) ≡ false
+          by true e = absurd (apart (sym (eqb-true 1 n e)))
+          by false e = e
+
+      absurd_true : {P : Type 0} → true ≡ false → P
+      absurd_true {P} d = cc
+
+      absurd_steady : true ≡ false → stops' ≡ stops
+      absurd_steady d = cc
+
+      held_then : (i : ℕ) (f : Found s l i) (e : AsksEnd s i f.act asked) → Commits_halted m (machine_of new) l i file file' stops stops' before after → (x : ℕ) → is_some (object_line header x) ≡ true
+          → (held file' x ≡ Some (state_bytes (last_seen header (halted_seen s f.act) x)))
+          ⊎ ((id : ℕ) × (is_among (undecided_seen (halted_seen s f.act)) id ≡ true) × (list_any (λ c. (c.x == x) && writes c.op) (calls_by (halted_seen s f.act) id) ≡ true) × (held file' x ≡ Some (state_bytes (next_seen header (halted_seen s f.act) id x))))
+      held_then i f e w x there = by (w.puts x)
+        where
+          o : (p : Obj) × (m.object x ≡ Some p)
+          o = object_of x there
+
+          by : (held file' x ≡ held file x) ⊎ ((is_among (m.used i) x ≡ true) × (q : ObjectState) × (state_by m i x ≡ Some q) × (held file' x ≡ Some (state_bytes q)))
+              → (held file' x ≡ Some (state_bytes (last_seen header (halted_seen s f.act) x)))
+              ⊎ ((id : ℕ) × (is_among (undecided_seen (halted_seen s f.act)) id ≡ true) × (list_any (λ c. (c.x == x) && writes c.op) (calls_by (halted_seen s f.act) id) ≡ true) × (held file' x ≡ Some (state_bytes (next_seen header (halted_seen s f.act) id x))))
+          by (inl same) = inl (same ∙ st.holds f.up x there ∙ sym (ap (λ t. Some (state_bytes t)) (last_halt header past.accepted s m i f.act asked x st.keeps e)))
+          by (inr put) =
+              let state : new_state (ident i) x o.0 ≡ Some put.1 = ap (option_and_then (new_state (ident i) x)) (sym o.1) ∙ put.2 in
+              let h = halted_state header past.accepted s m i f.act asked x st.keeps e o.0 put.1 o.1 state in
+              inr (i, h.2, h.1, put.3 ∙ ap (λ t. Some (state_bytes t)) h.0)
+
+  pub commit_ran : Commits m (machine_of new) l file file' stops stops' before after → Ran header past (event.Commit l) new file' stops stops' before after
+  commit_ran commits = by (end_refusal m l) refl commits
+    where
+      same : refusal header past (event.Commit l) ≡ end_refusal m l
+      same = commit_same header past m l st.keeps
+
+      accepted : end_refusal m l ≡ None → (a : Accepts_commit m (machine_of new) l file file' stops stops' before after) → Ran header past (event.Commit l) new file' stops stops' before after
+      accepted is a = which a.done
+        where
+          over : is_over_by m (Some a.action) ≡ false
+          over = accepted_end m l a.action is a.known
+
+          which : Commits_whole m (machine_of new) l a.action file file' stops stops' before after ⊎ Commits_halted m (machine_of new) l a.action file file' stops stops' before after → Ran header past (event.Commit l) new file' stops stops' before after
+          which (inl w) = whole_ran a.action (same ∙ is) a.known over w
+          which (inr w) = halted_ran a.action (same ∙ is) a.known over w
+
+      refused : (c : ℕ) → end_refusal m l ≡ Some c → Refuses m (machine_of new) c before after × Untouched file file' stops stops' → Ran header past (event.Commit l) new file' stops stops' before after
+      refused c is r =
+          let P : FileMap → Type 0 = λ g. Ran header past (event.Commit l) new g stops stops' before after in
+          let Q : ℕ → Type 0 = λ t. Ran header past (event.Commit l) new file stops t before after in
+          subst P (sym r.1.0) (subst Q (sym r.1.1) (refused_ran header past (event.Commit l) old new file stops before after c st (same ∙ is) r.0))
+
+      by : (o : Option ℕ) → end_refusal m l ≡ o → MatchOption o (Accepts_commit m (machine_of new) l file file' stops stops' before after) (λ c. Refuses m (machine_of new) c before after × Untouched file file' stops stops')
+          → Ran header past (event.Commit l) new file' stops stops' before after
+      by None is a = accepted is a
+      by (Some c) is r = refused c is r

@@ -1,0 +1,6 @@
+pub mod Form
+pub mod Object
+pub mod Keeps
+pub mod Change
+pub mod Events
+pub mod Engine

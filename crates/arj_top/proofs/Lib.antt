@@ -1,0 +1,9 @@
+pub mod Bytes
+pub mod Cuts
+pub mod Ends
+pub mod Places
+pub mod Quiet
+pub mod Stages
+pub mod Statuses
+pub mod Steps
+pub mod Whole

@@ -1,0 +1,392 @@
+-- One line more of a run.
+use Rattle.std.proofs.Common.{◌≡◌, ℕ, ◌+◌, ◌-◌, ◌≤◌, ◌<◌, ◌⊎◌, inl, inr, List, [], ◌∷◌, ◌++◌, length, length-append, slice_get, slice_set, filter, Bool, true, false, Option, Some, None, Result, Ok, Err, OnOk, IsOk, refl, sym, ◌∙◌, ap, subst, arith}
+use Rattle.std.specs.List.{list_any, AllByRecursion}
+use Rattle.std.specs.Prelude.{if◌then◌else◌}
+use Rattle.std.proofs.Math.Logic.{⊎_elim}
+use Rattle.std.proofs.lemmas.List.{append-nil}
+use Rattle.std.proofs.lemmas.List.Elements.{filter-append}
+use Rattle.std.proofs.lemmas.Bool.{cases_Bool, cases_lt, or_parts, cond-false}
+use Rattle.arj_base.specs.Count.{Rose}
+use Rattle.arj_disk.specs.Files.{FileMap}
+use Rattle.arj_engine.specs.declared.engine.Engine.{Engine}
+use Rattle.arj_engine.specs.Engine.{Stands, Ran}
+use Rattle.arj_engine.specs.Form.{HeaderInForm, LineInForm, is_rising}
+use Rattle.arj_journal.specs.declared.header.ObjectLine.{ObjectLine}
+use Rattle.arj_journal.specs.declared.body.Body.{Body}
+use Rattle.arj_journal.specs.declared.body.Line.{Line}
+use Rattle.arj_journal.specs.declared.event.Event.{Event}
+use Rattle.arj_journal.specs.declared.header.Header.{Header}
+use Rattle.arj_model.specs.Causes.{Moment, count_halts, is_halt}
+use Rattle.arj_model.specs.Follows.{is_down}
+use Rattle.arj_model.specs.Past.{Past, Along, nothing_yet, next, block}
+use Rattle.arj_script.specs.declared.reader.Item.{Item}
+use Rattle.arj_script.specs.declared.reader.Item.TheVariants as item
+use Rattle.arj_script.specs.Grammar.{Form, Blank, Nodes, Object, Run, Asks, Place, Start, Objects, Running, next_place, HasForm}
+use Rattle.arj_script.specs.Input.{HaveForms, events_of, Tells}
+use Rattle.arj_script.proofs.Lines.{HaveForms-snoc, events_of-append}
+use Rattle.arj_top.specs.Input.{header_from}
+use Rattle.arj_top.specs.Running.{Engaged, EngineStands, Stage, Started, Stepped, Refused, IsStanding, AsksTooMany}
+use Rattle.arj_top.proofs.Steps.{header_then, header_stays, along_more, along_count, events_within}
+use Rattle.arj_top.proofs.Places.{PlaceInForm, place_in_form}
+
+-- the reader's answer
+abbrev pub Taken : Place → List ℕ → Item → Place → Type 0
+Taken place line i after = (form : Form) × HasForm place line form × Tells place form i × (after ≡ next_place place form)
+
+-- A form that is no event and no end of the header.
+record IsQuiet (place : Place) (form : Form) : Type 0 where
+  events : events_of (form ∷ []) ≡ []
+  header : header_from place (form ∷ []) ≡ None
+  running : place ≡ Running → next_place place form ≡ Running
+  waiting : (place ≡ Running → ⊥) → next_place place form ≡ Running → ⊥
+
+quiet_blank : (place : Place) → IsQuiet place Blank
+quiet_blank Start = record { events = refl; header = refl; running = λ e. e; waiting = λ no e. no e }
+quiet_blank (Objects n os) = record { events = refl; header = refl; running = λ e. e; waiting = λ no e. no e }
+quiet_blank Running = record { events = refl; header = refl; running = λ e. e; waiting = λ no e. no e }
+
+not_objects : (n : ℕ) (os : List ObjectLine) → Objects n os ≡ Running → ⊥
+not_objects n os e = cc
+
+quiet_of : (place : Place) (line : List ℕ) (form : Form) → HasForm place line form → Tells place form item.Blank ⊎ Tells place form item.Part → IsQuiet place form
+quiet_of place line Blank h told = quiet_blank place
+quiet_of Start line (Nodes n) h told = record { events = refl; header = refl; running = λ e. absurd (let never : Start ≡ Running = e in cc); waiting = λ no e. not_objects n [] e }
+quiet_of (Objects n os) line (Nodes m) h told = absurd h.fits
+quiet_of Running line (Nodes m) h told = absurd h.fits
+quiet_of Start line (Object o) h told = absurd h.fits
+quiet_of (Objects n os) line (Object o) h told = record { events = refl; header = refl; running = λ e. absurd (not_objects n os e); waiting = λ no e. not_objects n _ e }
+quiet_of Running line (Object o) h told = absurd h.fits
+quiet_of Start line Run h told = absurd h.fits
+quiet_of (Objects n os) line Run h told = absurd (⊎_elim (λ t. t) (λ t. t) told)
+quiet_of Running line Run h told = absurd h.fits
+quiet_of Start line (Asks e) h told = absurd h.fits
+quiet_of (Objects n os) line (Asks e) h told = absurd h.fits
+quiet_of Running line (Asks e) h told = absurd (⊎_elim (λ t. t) (λ t. t) told)
+
+engine_quiet : {D : Type 0} (file : D → FileMap) (stops arms : D → ℕ) (first rack : List D) (lines : List (List ℕ)) (forms : List Form) (place : Place) (form : Form) (header : Header) (past : Past) (engine : Option Engine)
+    → HaveForms Start lines forms place → IsQuiet place form → EngineStands file stops arms first rack forms place header past engine → EngineStands file stops arms first rack (forms ++ form ∷ []) (next_place place form) header past engine
+engine_quiet file stops arms first rack lines forms place form header past None read q h =
+    let events : events_of (forms ++ form ∷ []) ≡ [] = events_of-append forms (form ∷ []) ∙ (λ i. h.3 i ++ q.events i) in
+    (q.waiting h.0, h.1, header_then Start forms (form ∷ []) lines place read h.2 ∙ q.header, events)
+engine_quiet file stops arms first rack lines forms place form header past (Some engine) read q h =
+    (q.running h.0, header_stays Start forms (form ∷ []) (header.nodes, header.objects) h.1, h.2)
+
+count_more : (forms : List Form) (form : Form) (count : ℕ) → count ≡ length forms → count + 1 ≡ length (forms ++ form ∷ [])
+count_more forms form count is = omega (arith, is, length-append forms (form ∷ []))
+
+-- a line that is no event and no end of the header
+pub stage_quiet : {D : Type 0} (file : D → FileMap) (stops arms : D → ℕ) (first rack : List D) (lines : List (List ℕ)) (line : List ℕ) (place after : Place) (engine : Option Engine) (count : ℕ) (journal : List Line)
+    → (form : Form) × HasForm place line form × (Tells place form item.Blank ⊎ Tells place form item.Part) × (after ≡ next_place place form) → count < 100000
+    → Stage file stops arms first rack lines place engine count journal → Stage file stops arms first rack (lines ++ line ∷ []) after engine (count + 1) journal
+stage_quiet file stops arms first rack lines line place after engine count journal taken room s =
+    let form = taken.0 in
+    let q = quiet_of place line form taken.1 taken.2 in
+    let events : events_of (s.forms ++ form ∷ []) ≡ events_of s.forms = events_of-append s.forms (form ∷ []) ∙ ((λ j. events_of s.forms ++ q.events j) ∙ append-nil (events_of s.forms)) in
+    let made : Stage file stops arms first rack (lines ++ line ∷ []) (next_place place form) engine (count + 1) journal = record {
+      forms = s.forms ++ form ∷ [];
+      header = s.header;
+      past = s.past;
+      read = HaveForms-snoc Start place lines s.forms line form s.read taken.1;
+      counted = count_more s.forms form count s.counted;
+      within = omega (arith, room);
+      moments = subst (λ es. Along (Moment s.header) nothing_yet es s.past) (sym events) s.moments;
+      journal_is = s.journal_is;
+      engine_is = engine_quiet file stops arms first rack lines s.forms place form s.header s.past engine s.read q s.engine_is;
+    } in
+    subst (λ p. Stage file stops arms first rack (lines ++ line ∷ []) p engine (count + 1) journal) (sym taken.3) made
+
+-- the line `run`: the header that it ends
+record IsRun (place : Place) (form : Form) (header : Header) : Type 0 where
+  nodes : ℕ
+  objects : List ObjectLine
+  place_is : place ≡ Objects nodes objects
+  form_is : form ≡ Run
+  nodes_are : header.nodes ≡ nodes
+  objects_are : header.objects ≡ objects
+
+run_of : (place : Place) (line : List ℕ) (form : Form) (header : Header) → HasForm place line form → Tells place form (item.Run header) → IsRun place form header
+run_of Start line Blank header h told = absurd told
+run_of (Objects n os) line Blank header h told = absurd told
+run_of Running line Blank header h told = absurd told
+run_of Start line (Nodes n) header h told = absurd told
+run_of (Objects n os) line (Nodes m) header h told = absurd told
+run_of Running line (Nodes m) header h told = absurd told
+run_of Start line (Object o) header h told = absurd told
+run_of (Objects n os) line (Object o) header h told = absurd told
+run_of Running line (Object o) header h told = absurd told
+run_of Start line Run header h told = absurd h.fits
+run_of (Objects n os) line Run header h told = record { nodes = n; objects = os; place_is = refl; form_is = refl; nodes_are = told.0; objects_are = told.1 }
+run_of Running line Run header h told = absurd h.fits
+run_of Start line (Asks e) header h told = absurd h.fits
+run_of (Objects n os) line (Asks e) header h told = absurd h.fits
+run_of Running line (Asks e) header h told = absurd told
+
+-- the header that the reader hands out is in the engine's form
+pub header_in_form : (lines : List (List ℕ)) (line : List ℕ) (forms : List Form) (place after : Place) (header : Header) → HaveForms Start lines forms place → Taken place line (item.Run header) after → HeaderInForm header
+header_in_form lines line forms place after header read taken =
+    let run = run_of place line taken.0 header taken.1 taken.2 in
+    let good = subst PlaceInForm run.place_is (place_in_form Start lines forms place tt read) in
+    record {
+      nodes = run.nodes_are ∙ good.0;
+      lines = subst (λ os. AllByRecursion LineInForm os) (sym run.objects_are) good.1;
+      rising = ap is_rising run.objects_are ∙ good.2;
+    }
+
+stage_run_at : {D : Type 0} (file : D → FileMap) (stops arms : D → ℕ) (first rack after_rack : List D) (lines : List (List ℕ)) (line : List ℕ) (n : ℕ) (os : List ObjectLine) (header : Header) (engine after_engine : Option Engine) (count : ℕ) (journal : List Line)
+    → header.nodes ≡ n → header.objects ≡ os → HasForm (Objects n os) line Run → HeaderInForm header → count < 100000 → Started file stops arms rack after_rack header after_engine
+    → Stage file stops arms first rack lines (Objects n os) engine count journal → Stage file stops arms first after_rack (lines ++ line ∷ []) Running after_engine (count + 1) journal
+stage_run_at file stops arms first rack after_rack lines line n os header (Some engine) after_engine count journal nodes objects has form room st s = absurd (not_objects n os s.engine_is.0)
+stage_run_at {D} file stops arms first rack after_rack lines line n os header None after_engine count journal nodes objects has form room st s =
+    let h = s.engine_is in
+    let none : nothing_yet ≡ s.past = subst (λ es. Along (Moment s.header) nothing_yet es s.past) h.3 s.moments in
+    let events : events_of (s.forms ++ Run ∷ []) ≡ [] = events_of-append s.forms (Run ∷ []) ∙ (λ i. h.3 i ++ []) in
+    let was : slice_get first 0 ≡ Some st.old = subst (λ r. slice_get r 0 ≡ Some st.old) h.1 st.was in
+    let now : after_rack ≡ slice_set first 0 st.new = st.now ∙ ap (λ r. slice_set r 0 st.new) h.1 in
+    let stands : EngineStands file stops arms first after_rack (s.forms ++ Run ∷ []) Running header nothing_yet (Some st.made) = (
+      refl,
+      header_then Start s.forms (Run ∷ []) lines (Objects n os) s.read h.2 ∙ (λ i. Some (sym nodes i, sym objects i)),
+      record {
+        old = st.old;
+        new = st.new;
+        was = was;
+        now = now;
+        form = form;
+        stands = st.stands;
+        later = omega (arith, st.steady);
+        halted = inl (omega arith);
+        unarmed = st.unarmed;
+      },
+    )
+    in
+    record {
+      forms = s.forms ++ Run ∷ [];
+      header = header;
+      past = nothing_yet;
+      read = HaveForms-snoc Start (Objects n os) lines s.forms line Run s.read has;
+      counted = count_more s.forms Run count s.counted;
+      within = omega (arith, room);
+      moments = subst (λ es. Along (Moment header) nothing_yet es nothing_yet) (sym events) refl;
+      journal_is = s.journal_is ∙ ap (λ p. p.lines) (sym none);
+      engine_is = subst (λ en. EngineStands file stops arms first after_rack (s.forms ++ Run ∷ []) Running header nothing_yet en) (sym st.engine_is) stands;
+    }
+
+-- the line `run`, with which the engine starts
+pub stage_run : {D : Type 0} (file : D → FileMap) (stops arms : D → ℕ) (first rack after_rack : List D) (lines : List (List ℕ)) (line : List ℕ) (place after : Place) (header : Header) (engine after_engine : Option Engine) (count : ℕ) (journal : List Line)
+    → Taken place line (item.Run header) after → count < 100000 → Started file stops arms rack after_rack header after_engine
+    → Stage file stops arms first rack lines place engine count journal → Stage file stops arms first after_rack (lines ++ line ∷ []) after after_engine (count + 1) journal
+stage_run file stops arms first rack after_rack lines line place after header engine after_engine count journal taken room st s =
+    let form = header_in_form lines line s.forms place after header s.read taken in
+    let run = run_of place line taken.0 header taken.1 taken.2 in
+    let has : HasForm (Objects run.nodes run.objects) line Run = subst (λ p. HasForm p line Run) run.place_is (subst (λ f. HasForm place line f) run.form_is taken.1) in
+    let ends : Running ≡ after = sym (taken.3 ∙ (λ i. next_place (run.place_is i) (run.form_is i))) in
+    subst (λ p. Stage file stops arms first after_rack (lines ++ line ∷ []) p after_engine (count + 1) journal) ends
+    (stage_run_at file stops arms first rack after_rack lines line run.nodes run.objects header engine after_engine count journal run.nodes_are run.objects_are has form room st
+    (subst (λ p. Stage file stops arms first rack lines p engine count journal) run.place_is s))
+
+-- an event: its form at its place
+record IsEvent (place : Place) (form : Form) (told : Event) : Type 0 where
+  place_is : place ≡ Running
+  form_is : form ≡ Asks told
+
+event_of : (place : Place) (line : List ℕ) (form : Form) (told : Event) → HasForm place line form → Tells place form (item.Event told) → IsEvent place form told
+event_of Start line Blank e h told = absurd told
+event_of (Objects n os) line Blank e h told = absurd told
+event_of Running line Blank e h told = absurd told
+event_of Start line (Nodes n) e h told = absurd told
+event_of (Objects n os) line (Nodes m) e h told = absurd told
+event_of Running line (Nodes m) e h told = absurd told
+event_of Start line (Object o) e h told = absurd told
+event_of (Objects n os) line (Object o) e h told = absurd told
+event_of Running line (Object o) e h told = absurd told
+event_of Start line Run e h told = absurd h.fits
+event_of (Objects n os) line Run e h told = absurd told
+event_of Running line Run e h told = absurd h.fits
+event_of Start line (Asks asked) e h told = absurd h.fits
+event_of (Objects n os) line (Asks asked) e h told = absurd h.fits
+event_of Running line (Asks asked) e h told = record { place_is = refl; form_is = ap Asks (sym told) }
+
+-- where the first disk was replaced
+pub get_set : {D : Type 0} (disks : List D) (old new : D) → slice_get disks 0 ≡ Some old → slice_get (slice_set disks 0 new) 0 ≡ Some new
+get_set [] old new h = absurd (let never : None ≡ Some old = h in cc)
+get_set (d ∷ disks) old new h = refl
+
+set_set : {D : Type 0} (disks : List D) (a b : D) → slice_set (slice_set disks 0 a) 0 b ≡ slice_set disks 0 b
+set_set [] a b = refl
+set_set (d ∷ disks) a b = refl
+
+pub some_is : {A : Type 0} (a b : A) → Some a ≡ Some b → a ≡ b
+some_is a b h = cc
+
+-- halts of a block
+no_halts : (k n : ℕ) (bodies : List Body) → list_any (is_halt k) bodies ≡ false → filter (λ line. is_halt k line.body) (block n bodies) ≡ []
+no_halts k n [] h = refl
+no_halts k n (b ∷ bodies) h =
+    let parts = or_parts (is_halt k b) (list_any (is_halt k) bodies) h in
+    cond-false (is_halt k b) _ _ parts.0 ∙ no_halts k n bodies parts.1
+
+count_block : (k n : ℕ) (lines : List Line) (bodies : List Body) → list_any (is_halt k) bodies ≡ false → count_halts (lines ++ block n bodies) k ≡ count_halts lines k
+count_block k n lines bodies h =
+    ap length (filter-append (λ line. is_halt k line.body) lines (block n bodies) ∙ (ap (λ ls. filter (λ line. is_halt k line.body) lines ++ ls) (no_halts k n bodies h) ∙ append-nil _))
+
+-- the halts are counted by the disk
+halted_next : (header : Header) (past : Past) (e : Event) (engine : Engine) (file : FileMap) (old mid new : ℕ) (before after : List Line) → (r : Ran header past e engine file mid new before after) → old ≤ mid → mid ≤ new
+    → (count_halts past.lines 1 ≤ mid - old) ⊎ (18446744073709551615 ≤ mid) → (count_halts (next past e r.bodies).lines 1 ≤ new - old) ⊎ (18446744073709551615 ≤ new)
+halted_next header past e engine file old mid new before after r first later h =
+    ⊎_elim
+    (λ halt.
+    let rose : Rose mid new = r.halted halt in
+    let one : count_halts (next past e r.bodies).lines 1 ≤ 1 = small (is_down (next past e r.bodies).lines 1) (count_halts (next past e r.bodies).lines 1) r.stands.halts in
+    ⊎_elim (λ less. inl (omega (arith, one, rose less, first))) (λ most. inr (omega (arith, most, later))) (cases_lt mid 18446744073709551615))
+    (λ none.
+    let same : new ≡ mid = r.steady none in
+    let count = count_block 1 (past.count + 1) past.lines r.bodies none in
+    ⊎_elim (λ few. inl (omega (arith, few, same, count))) (λ most. inr (omega (arith, most, same))) h)
+    (cases_Bool (list_any (is_halt 1) r.bodies))
+  where
+    small : (b : Bool) (n : ℕ) → n ≡ (if b then 1 else 0) → n ≤ 1
+    small true n is = omega (arith, is)
+    small false n is = omega (arith, is)
+
+stage_event_at : {D : Type 0} (file : D → FileMap) (stops arms : D → ℕ) (first rack after_rack : List D) (lines : List (List ℕ)) (line : List ℕ) (e : Event) (engine after_engine : Option Engine) (count : ℕ) (journal after_journal : List Line)
+    → HasForm Running line (Asks e) → count < 100000 → Stepped file stops arms rack after_rack engine after_engine e journal after_journal
+    → Stage file stops arms first rack lines Running engine count journal → Stage file stops arms first after_rack (lines ++ line ∷ []) Running after_engine (count + 1) after_journal
+stage_event_at file stops arms first rack after_rack lines line e None after_engine count journal after_journal has room st s = absurd (s.engine_is.0 refl)
+stage_event_at file stops arms first rack after_rack lines line e (Some engine) after_engine count journal after_journal has room st s =
+    let h = s.engine_is in
+    let g = h.2 in
+    let same : engine ≡ st.before = some_is engine st.before st.engine_was in
+    let disk : g.new ≡ st.old = some_is g.new st.old (sym (get_set first g.old g.new g.was) ∙ (ap (λ r. slice_get r 0) (sym g.now) ∙ st.was)) in
+    let stood : Stands s.header s.past st.before (file st.old) = subst (λ en. Stands s.header s.past en (file st.old)) same (subst (λ d. Stands s.header s.past engine (file d)) disk g.stands) in
+    let r = st.ran s.header s.past stood in
+    let first_later : stops g.old ≤ stops st.old = omega (arith, g.later, ap stops disk) in
+    let events : events_of (s.forms ++ Asks e ∷ []) ≡ events_of s.forms ++ e ∷ [] = events_of-append s.forms (Asks e ∷ []) in
+    let now : after_rack ≡ slice_set first 0 st.new = st.now ∙ (ap (λ ds. slice_set ds 0 st.new) g.now ∙ set_set first g.new st.new) in
+    let before_halted : (count_halts s.past.lines 1 ≤ stops st.old - stops g.old) ⊎ (18446744073709551615 ≤ stops st.old) = subst (λ d. (count_halts s.past.lines 1 ≤ stops d - stops g.old) ⊎ (18446744073709551615 ≤ stops d)) disk g.halted in
+    let stands : EngineStands file stops arms first after_rack (s.forms ++ Asks e ∷ []) Running s.header (next s.past e r.bodies) (Some st.after) = (
+      refl,
+      header_stays Start s.forms (Asks e ∷ []) (s.header.nodes, s.header.objects) h.1,
+      record {
+        old = g.old;
+        new = st.new;
+        was = g.was;
+        now = now;
+        form = g.form;
+        stands = r.stands;
+        later = omega (arith, first_later, st.later);
+        halted = halted_next s.header s.past e st.after (file st.new) (stops g.old) (stops st.old) (stops st.new) journal after_journal r first_later st.later before_halted;
+        unarmed = st.unarmed ∙ (ap arms (sym disk) ∙ g.unarmed);
+      },
+    )
+    in
+    record {
+      forms = s.forms ++ Asks e ∷ [];
+      header = s.header;
+      past = next s.past e r.bodies;
+      read = HaveForms-snoc Start Running lines s.forms line (Asks e) s.read has;
+      counted = count_more s.forms (Asks e) count s.counted;
+      within = omega (arith, room);
+      moments = subst (λ es. Along (Moment s.header) nothing_yet es (next s.past e r.bodies)) (sym events) (along_more (Moment s.header) nothing_yet (events_of s.forms) s.past e r.bodies s.moments r.moment);
+      journal_is = r.lines ∙ ap (λ ls. ls ++ block (s.past.count + 1) r.bodies) s.journal_is;
+      engine_is = subst (λ en. EngineStands file stops arms first after_rack (s.forms ++ Asks e ∷ []) Running s.header (next s.past e r.bodies) en) (sym st.engine_is) stands;
+    }
+
+-- an event that the engine ran
+pub stage_event : {D : Type 0} (file : D → FileMap) (stops arms : D → ℕ) (first rack after_rack : List D) (lines : List (List ℕ)) (line : List ℕ) (place after : Place) (e : Event) (engine after_engine : Option Engine) (count : ℕ) (journal after_journal : List Line)
+    → Taken place line (item.Event e) after → count < 100000 → Stepped file stops arms rack after_rack engine after_engine e journal after_journal
+    → Stage file stops arms first rack lines place engine count journal → Stage file stops arms first after_rack (lines ++ line ∷ []) after after_engine (count + 1) after_journal
+stage_event file stops arms first rack after_rack lines line place after e engine after_engine count journal after_journal taken room st s =
+    let is = event_of place line taken.0 e taken.1 taken.2 in
+    let has : HasForm Running line (Asks e) = subst (λ p. HasForm p line (Asks e)) is.place_is (subst (λ f. HasForm place line f) is.form_is taken.1) in
+    let ends : Running ≡ after = sym (taken.3 ∙ (λ i. next_place (is.place_is i) (is.form_is i))) in
+    subst (λ p. Stage file stops arms first after_rack (lines ++ line ∷ []) p after_engine (count + 1) after_journal) ends
+    (stage_event_at file stops arms first rack after_rack lines line e engine after_engine count journal after_journal has room st
+    (subst (λ p. Stage file stops arms first rack lines p engine count journal) is.place_is s))
+
+-- behind `run` the engine stands, with room for an event more
+pub standing : {D : Type 0} (file : D → FileMap) (stops arms : D → ℕ) (first rack : List D) (lines : List (List ℕ)) (line : List ℕ) (place after : Place) (e : Event) (engine : Option Engine) (count : ℕ) (journal : List Line)
+    → Taken place line (item.Event e) after → Stage file stops arms first rack lines place engine count journal → IsStanding file rack engine
+standing file stops arms first rack lines line place after e None count journal taken s = absurd (s.engine_is.0 (event_of place line taken.0 e taken.1 taken.2).place_is)
+standing file stops arms first rack lines line place after e (Some engine) count journal taken s =
+    let g = s.engine_is.2 in
+    let events = along_count (Moment s.header) nothing_yet (events_of s.forms) s.past s.moments in
+    let few = events_within s.forms in
+    (omega (arith, g.stands.count, events, few, s.counted, s.within), (s.header, s.past, g.new, ap (λ r. slice_get r 0) g.now ∙ get_set first g.old g.new g.was, g.stands))
+
+-- an event that the engine refused for want of labels
+pub stage_labels : {D : Type 0} (file : D → FileMap) (stops arms : D → ℕ) (first rack after_rack : List D) (lines : List (List ℕ)) (line : List ℕ) (place after : Place) (e : Event) (engine after_engine : Option Engine) (count : ℕ) (journal : List Line)
+    → Taken place line (item.Event e) after → Refused file stops arms rack after_rack engine after_engine e
+    → Stage file stops arms first rack lines place engine count journal
+    → (now : Stage file stops arms first after_rack lines after after_engine count journal) × AsksTooMany now.header now.past after line
+stage_labels file stops arms first rack after_rack lines line place after e None after_engine count journal taken st s = absurd (let never : None ≡ Some st.engine = st.engine_was in cc)
+stage_labels file stops arms first rack after_rack lines line place after e (Some engine) after_engine count journal taken st s =
+    let is = event_of place line taken.0 e taken.1 taken.2 in
+    let has : HasForm Running line (Asks e) = subst (λ p. HasForm p line (Asks e)) is.place_is (subst (λ f. HasForm place line f) is.form_is taken.1) in
+    let ends : Running ≡ after = sym (taken.3 ∙ (λ i. next_place (is.place_is i) (is.form_is i))) in
+    let h = s.engine_is in
+    let g = h.2 in
+    let same : engine ≡ st.engine = some_is engine st.engine st.engine_was in
+    let disk : g.new ≡ st.old = some_is g.new st.old (sym (get_set first g.old g.new g.was) ∙ (ap (λ r. slice_get r 0) (sym g.now) ∙ st.was)) in
+    let files : file g.new ≡ file st.new = ap file disk ∙ sym st.files in
+    let counts : stops g.new ≡ stops st.new = ap stops disk ∙ sym st.steady in
+    let stood : Stands s.header s.past st.engine (file st.old) = subst (λ en. Stands s.header s.past en (file st.old)) same (subst (λ d. Stands s.header s.past engine (file d)) disk g.stands) in
+    let engaged : Engaged file stops arms first after_rack s.header s.past st.engine = record {
+      old = g.old;
+      new = st.new;
+      was = g.was;
+      now = st.now ∙ (ap (λ ds. slice_set ds 0 st.new) g.now ∙ set_set first g.new st.new);
+      form = g.form;
+      stands = subst (λ f. Stands s.header s.past st.engine f) (sym st.files) stood;
+      later = omega (arith, g.later, counts);
+      halted = subst (λ n. (count_halts s.past.lines 1 ≤ n - stops g.old) ⊎ (18446744073709551615 ≤ n)) counts g.halted;
+      unarmed = st.unarmed ∙ (ap arms (sym disk) ∙ g.unarmed);
+    } in
+    let stands : EngineStands file stops arms first after_rack s.forms Running s.header s.past (Some st.engine) = (refl, h.1, engaged) in
+    let at_after : EngineStands file stops arms first after_rack s.forms after s.header s.past after_engine =
+    subst (λ en. EngineStands file stops arms first after_rack s.forms after s.header s.past en) (sym st.engine_is)
+    (subst (λ p. EngineStands file stops arms first after_rack s.forms p s.header s.past (Some st.engine)) ends stands)
+    in (
+      record {
+        forms = s.forms;
+        header = s.header;
+        past = s.past;
+        read = subst (λ p. HaveForms Start lines s.forms p) (is.place_is ∙ ends) s.read;
+        counted = s.counted;
+        within = s.within;
+        moments = s.moments;
+        journal_is = s.journal_is;
+        engine_is = at_after;
+      },
+      (e, subst (λ p. HasForm p line (Asks e)) ends has, st.full s.header s.past stood),
+    )
+
+-- the stop of a first disk
+pub first_rose : {D : Type 0} (stops : D → ℕ) (rack : List D) (a b old new : D) → slice_get rack 0 ≡ Some a → Rose (stops a) (stops b) → slice_get rack 0 ≡ Some old → slice_get (slice_set rack 0 b) 0 ≡ Some new → Rose (stops old) (stops new)
+first_rose stops rack a b old new got rose was now =
+    let same : a ≡ old = some_is a old (sym got ∙ was) in
+    let after : b ≡ new = some_is b new (sym (get_set rack a b got) ∙ now) in
+    subst (λ d. Rose (stops d) (stops new)) same (subst (λ d. Rose (stops a) (stops d)) after rose)
+
+pub both_ok : {T E P Q R : Type 0} (r : Result T E) → (P → Q → R) → OnOk r P → OnOk r Q → OnOk r R
+both_ok (Ok x) f p q = f p q
+both_ok (Err e) f p q = tt
+
+pub ok_from : {T E P : Type 0} (r : Result T E) → (IsOk r → P) → OnOk r P
+ok_from (Ok x) f = f refl
+ok_from (Err e) f = tt
+
+-- the same stage, at a place and a count that are the same
+pub stage_moved : {D : Type 0} (file : D → FileMap) (stops arms : D → ℕ) (first rack : List D) (lines : List (List ℕ)) (p q : Place) (engine : Option Engine) (m n : ℕ) (journal : List Line)
+    → q ≡ p → n ≡ m → Stage file stops arms first rack lines p engine m journal → Stage file stops arms first rack lines q engine n journal
+stage_moved file stops arms first rack lines p q engine m n journal place count s =
+    subst (λ k. Stage file stops arms first rack lines q engine k journal) (sym count) (subst (λ r. Stage file stops arms first rack lines r engine m journal) (sym place) s)
+
+abbrev pub Limited : {D : Type 0} (file : D → FileMap) (stops arms : D → ℕ) (first rack : List D) (lines : List (List ℕ)) (place : Place) (engine : Option Engine) (count : ℕ) (journal : List Line) (line : List ℕ) → Type 0
+Limited file stops arms first rack lines place engine count journal line =
+    (now : Stage file stops arms first rack lines place engine count journal) × (count < 100000) × AsksTooMany now.header now.past place line
+
+pub limited_moved : {D : Type 0} (file : D → FileMap) (stops arms : D → ℕ) (first rack : List D) (lines : List (List ℕ)) (p q : Place) (engine : Option Engine) (m n : ℕ) (js ks : List Line) (line : List ℕ)
+    → q ≡ p → n ≡ m → ks ≡ js → Limited file stops arms first rack lines p engine m js line → Limited file stops arms first rack lines q engine n ks line
+limited_moved file stops arms first rack lines p q engine m n js ks line place count journal h =
+    subst (λ ls. Limited file stops arms first rack lines q engine n ls line) (sym journal)
+    (subst (λ k. Limited file stops arms first rack lines q engine k js line) (sym count)
+    (subst (λ r. Limited file stops arms first rack lines r engine m js line) (sym place) h))

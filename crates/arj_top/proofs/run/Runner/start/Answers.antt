@@ -1,0 +1,21 @@
+-- what the formatting did to the first disk
+use Rattle.std.proofs.Common.{refl, ap, Err}
+use Rattle.arj_top.proofs.Stages.{first_rose}
+use Rattle.arj_top.proofs.run.Runner.start.Goals as goal
+
+pub returns-in-Ok-clause-started : goal.returns-in-Ok-clause-started
+returns-in-Ok-clause-started g c = record {
+  old = c.disk.result.now;
+  new = c.format.new.disk;
+  made = c.in-Ok.engine;
+  was = c.disk.ensures.value;
+  now = refl;
+  engine_is = refl;
+  stands = c.in-Ok.ensures.stands;
+  steady = c.in-Ok.ensures.steady (λ e. cc);
+  unarmed = c.format.ensures.arms;
+}
+
+pub returns-in-Err-Stopped-clause-format : goal.returns-in-Err-Stopped-clause-format
+returns-in-Err-Stopped-clause-format g c _ old new was now =
+    first_rose g.D.Disk.stops c.args.rack.now c.disk.result.now c.format.new.disk old new c.disk.ensures.value (c.in-Err-Stopped.ensures.stopped (ap Err c.in-Err-Stopped.field-0-is)) was now

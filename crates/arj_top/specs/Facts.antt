@@ -1,0 +1,45 @@
+-- What a journal shows, and what the disks hold beside it.
+use Rattle.std.specs.Prelude.{◌≡◌, ◌⊎◌, ◌≤◌, ◌<◌, ℕ, ◌+◌, ◌-◌, List, Some, slice_get, option_and_then}
+use Rattle.arj_disk.specs.Files.{FileMap, held}
+use Rattle.arj_journal.specs.declared.body.Line.{Line}
+use Rattle.arj_journal.specs.declared.event.Event.{Event}
+use Rattle.arj_journal.specs.declared.header.Header.{Header}
+use Rattle.arj_model.specs.Serial.{Serial}
+use Rattle.arj_model.specs.Last.{first_values}
+use Rattle.arj_model.specs.Follows.{Follows, Runs}
+use Rattle.arj_model.specs.Causes.{HasCauseConflict, Prompt, HasRoom, count_halts}
+use Rattle.arj_model.specs.Clean.{Held, ListedStoresHoldLast, ListedStoresHoldLastOrNext}
+
+-- What the journal shows of these events.
+pub record Facts (header : Header) (events : List Event) (journal : List Line) : Type 0 where
+  -- its lines are those of the events, each refused one refused by its first cause
+  pub follows : Follows header events journal
+  -- the committed tops got the replies of running them alone, in the order in which their commits were called
+  pub serial : Serial (first_values header) journal
+  -- a conflict is told exactly where a lock stands against the call, and names the first such lock
+  pub conflicts : Runs (HasCauseConflict header) events journal
+  -- an accepted call and an accepted commit are answered in their own event
+  pub prompt : Runs (Prompt header) events journal
+  -- at most 4,096 labels are given
+  pub labels : Runs (HasRoom header) events journal
+
+-- the packed state of each object at each node
+abbrev pub held_in : {D : Type 0} → (D → FileMap) → List D → Held
+held_in file rack node x = option_and_then (λ disk. held (file disk) x) (slice_get rack (node - 1))
+
+-- no count of stops rose; one that stands at its last value counts as risen
+abbrev pub NoDiskRose : {D : Type 0} → (D → ℕ) → List D → List D → Type 0
+NoDiskRose {D} stops before after =
+    (node : ℕ) (old new : D) → slice_get before node ≡ Some old → slice_get after node ≡ Some new → (stops new ≡ stops old) × (stops new < 18446744073709551615)
+
+-- What the disks hold beside the journal.
+pub record DiskFacts {D : Type 0} (file : D → FileMap) (stops arms : D → ℕ) (before after : List D) (header : Header) (journal : List Line) : Type 0 where
+  -- where no disk stopped, every listed store holds its last committed state
+  pub listed : NoDiskRose stops before after → ListedStoresHoldLast header journal (held_in file after)
+  -- after a stop in a commit, it holds that or the new state of the one top whose commit was called and not answered
+  pub stopped : ListedStoresHoldLastOrNext header journal (held_in file after)
+  -- a node halts only where its disk's count of stops rose, or stands at its last value
+  pub halted : (node : ℕ) (old new : D) → slice_get before node ≡ Some old → slice_get after node ≡ Some new →
+      (count_halts journal (node + 1) ≤ stops new - stops old) ⊎ (18446744073709551615 ≤ stops new)
+  -- no disk was armed
+  pub armed : (node : ℕ) (old new : D) → slice_get before node ≡ Some old → slice_get after node ≡ Some new → arms new ≡ arms old

@@ -1,0 +1,5 @@
+pub mod Collect
+pub mod Facts
+pub mod Input
+pub mod Outcome
+pub mod Running
