@@ -19,4 +19,6 @@ pub use rack::empty_rack;
 pub use top::arjuna;
 
 #[cfg(test)]
+mod stopping;
+#[cfg(test)]
 mod tests;

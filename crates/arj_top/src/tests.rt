@@ -1,8 +1,12 @@
 // Whole runs over sources and sinks in memory.
+ghost use Rattle.std.specs.Prelude.{◌≡◌, All, IfOk, None};
+ghost use Rattle.arj_disk.specs.declared.slot.Slot.{Slot};
 
+use crate::stopping::StoppingDisk;
 use crate::{arjuna, empty_rack};
-use arj_base::{Bytes, Numbers};
-use arj_io::{MemSink, MemSource};
+use arj_base::{Bytes, Numbers, object_uid};
+use arj_disk::{Disk, MemDisk, Rack, Slot};
+use arj_io::{MemSink, MemSource, SureSink, SureSource};
 use arj_journal::Lines;
 use std::alloc::{AllocError, Global};
 use std::test::Fail;
@@ -97,5 +101,106 @@ fn no_command_line(rt: HostRuntime) -> Result<(), Fail> {
     let (status, sink) = replay(alloc, "help", script, None, None)?;
     assert_eq!(rt; status, 1);
     assert_eq!(rt; sink.taken(), Some(b"".as_slice()));
+    Ok(())
+}
+
+// Sixteen empty disks, the first of which stops at its call with this number.
+fn stopping_rack(alloc: Global, call: u32) -> Result<Rack<StoppingDisk>, AllocError>
+    ensures { IfOk result (λ rack. All (λ disk. (slot : Slot) → ⟦<StoppingDisk as Disk>⟧.file disk slot ≡ None) rack) }
+{
+    let mut disks = Vec::new(alloc);
+    for node in 0..16u8 {
+        disks.push(StoppingDisk {
+            disk: MemDisk::new(alloc),
+            left: if node == 0 { call } else { 0 },
+            stops: 0,
+        })?;
+    }
+    Ok(Rack::new(disks))
+}
+
+const TWO_OBJECTS: &[u8] = b"nodes 1
+object 1 counter 0 servers 1 stores 1
+object 2 counter 0 servers 1 stores 1
+run
+begin A at 1
+call A 1 add 5
+call A 2 add 6
+commit A
+begin B at 1
+call A 1 get
+";
+
+const HALTED: &[u8] = b"1 began A top 1.1.1 -
+2 ok A 1 add 5 = done
+3 ok A 2 add 6 = done
+4 committing A
+4 halted 1
+5 refused 2
+6 refused 6
+";
+
+// The last byte of the version and of the value of an object's committed state on disk 1.
+fn version_and_value(
+    alloc: Global,
+    rack: &mut Rack<StoppingDisk>,
+    x: u16,
+) -> Result<Option<(u8, u8)>, AllocError> {
+    let Ok(Some(state)) = rack.disk(1).read(alloc, Slot::Committed(object_uid(x))) else {
+        return Ok(None);
+    };
+    let state = state.as_slice();
+    Ok(match (state.get(28), state.get(54)) {
+        (Some(version), Some(value)) => Some((*version, *value)),
+        _ => None,
+    })
+}
+
+// The status of a run of the script above whose first disk stops at this call, whether the journal is as it must be, and
+// what is committed of the two objects.
+fn stopped_run(
+    alloc: Global,
+    call: u32,
+    output: &[u8],
+) -> Result<(u8, bool, Option<(u8, u8)>, Option<(u8, u8)>), AllocError> {
+    let mut source = SureSource::new(bytes(alloc, [TWO_OBJECTS].as_slice())?);
+    let mut sink = SureSink::new(bytes(alloc, [[0u8; 512].as_slice()].as_slice())?);
+    let mut rack = stopping_rack(alloc, call)?;
+    let mut journal = Lines::new(alloc);
+    let mut words = Vec::new(alloc);
+    words.push(String::from_str(alloc, "replay")?)?;
+    let status = arjuna(
+        alloc,
+        words.as_slice(),
+        &mut source,
+        &mut sink,
+        &mut rack,
+        &mut journal,
+    );
+    let first = version_and_value(alloc, &mut rack, 1)?;
+    let second = version_and_value(alloc, &mut rack, 2)?;
+    Ok((status, sink.taken() == Some(output), first, second))
+}
+
+#[test]
+fn a_disk_that_stops(rt: HostRuntime) -> Result<(), Fail> {
+    let alloc = rt.alloc();
+    let none = b"".as_slice();
+    let (new, other) = (Some((1, 5)), Some((0, 0)));
+    // The two objects are put by four calls, and so are their new states.
+    for (call, output, status, first, second) in [
+        (1, none, 7, None, None),
+        (4, none, 7, other, None),
+        (5, HALTED, 0, other, other),
+        (6, HALTED, 0, other, other),
+        (7, HALTED, 0, new, other),
+        (8, HALTED, 0, new, other),
+    ] {
+        let (answer, same, one, two) = stopped_run(alloc, call, output)?;
+        assert_eq!(rt; answer, status);
+        assert!(rt; same);
+        assert_eq!(rt; one, first);
+        assert_eq!(rt; two, second);
+    }
     Ok(())
 }
