@@ -1,19 +1,21 @@
-//! The names that everything else is written in: Uids of actions and objects, bindings, lock modes with their
-//! matrix, small lists, and packed object states.
+//! The names that everything else is written in: Uids of actions and objects, paths of actions, bindings, lock modes
+//! with their matrix, small lists, and packed object states.
 //!
 //! It stands on std and `byteorder` alone. What it gives upward: a packed state has one spelling, `state_bytes`,
-//! which `pack` writes and `unpack` alone accepts; `conflicts` is the lock matrix; and a lock table is a list of rows in order of granting
-//! (`specs/Rows.antt`).
+//! which `pack` writes and `unpack` alone accepts; `conflicts` is the lock matrix; and a lock table is a list of rows
+//! in order of granting (`specs/Rows.antt`).
 #![tactic(auto)]
 
 mod binding;
 mod mode;
+mod path;
 mod seq;
 mod state;
 mod uid;
 
 pub use binding::Binding;
 pub use mode::{End, Mode, conflicts, stronger};
+pub use path::Path;
 pub use seq::{Bytes, Ends, NodeList, Numbers, Pairs, Seq, Uids};
 pub use state::{Class, ObjectState, StateFault, pack, unpack};
 pub use uid::{Uid, entry_uid, object_uid};

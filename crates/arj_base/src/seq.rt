@@ -1,5 +1,5 @@
 // Small lists that contracts see as lists.
-ghost use Rattle.std.specs.Prelude.{◌≡◌, ◌<◌, [], ◌∷◌, ◌++◌, List, IfOk, OnOk, OnErr, length, slice_set};
+ghost use Rattle.std.specs.Prelude.{◌≡◌, ◌<◌, [], ◌∷◌, ◌++◌, List, IfOk, OnOk, OnErr, ◌==◌, length, slice_set, filter, not};
 ghost use Rattle.std.specs.Fmt.{decimal};
 
 use crate::{End, Uid};
@@ -82,6 +82,13 @@ impl Seq<u8> {
         self.items.extend_from_slice(bytes)
     }
 
+    /// Takes out each place of this byte, or of this node.
+    pub fn remove_all(&mut self, byte: u8)
+        ensures { self.new ≡ filter (λ b. not (b == byte)) self.old }
+    {
+        remove_from(&mut self.items, byte);
+    }
+
     /// Puts a number at the end, in decimal.
     pub fn extend_decimal(&mut self, n: u64) -> Result<(), AllocError>
         ensures ok { OnOk result (self.new ≡ self.old ++ decimal n) }
@@ -89,6 +96,20 @@ impl Seq<u8> {
     {
         let digits = n.to_string(*self.items.allocator())?;
         self.items.extend_from_slice(digits.as_bytes())
+    }
+}
+
+// Takes out each place of the byte.
+fn remove_from(bytes: &mut Vec<u8>, byte: u8)
+    ensures { bytes.new.items ≡ filter (λ b. not (b == byte)) bytes.old.items }
+{
+    let mut i = 0;
+    while i < bytes.len() {
+        if bytes[i] == byte {
+            bytes.remove(i);
+        } else {
+            i += 1;
+        }
     }
 }
 

@@ -188,9 +188,9 @@ fn two(n: u16) -> [u8; 2]
     bytes
 }
 
-// The number with these eight bytes.
+/// The number with these eight bytes.
 #[tactic(auto, using(std::proofs::lemmas::Nat::be_bytes_8))]
-fn from_eight(bytes: &[u8; 8]) -> u64
+pub fn from_eight(bytes: &[u8; 8]) -> u64
     ensures { big_bytes 8 result ≡ bytes.now }
 {
     u64::from_be_bytes(*bytes)

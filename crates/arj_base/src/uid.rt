@@ -1,8 +1,10 @@
 // Uids: the names of actions, objects and naming entries.
 ghost use Rattle.std.specs.Prelude.{◌≡◌, IfOk};
+ghost use Rattle.byteorder.specs.Endian.{big_bytes};
 ghost use Rattle.arj_base.specs.Uid.{uid_bytes, UidFits, uid_text, object, entry};
 
 use crate::Bytes;
+use crate::state::from_eight;
 use byteorder::{BigEndian, ByteOrder};
 use std::alloc::{AllocError, Global};
 
@@ -36,9 +38,9 @@ impl Uid {
     {
         let [a, b, c, d, e, f, g, h, i, j, k, l, m, n, o, p] = *bytes;
         Uid {
-            node: u32::from_be_bytes([a, b, c, d]),
-            inc: u32::from_be_bytes([e, f, g, h]),
-            num: u64::from_be_bytes([i, j, k, l, m, n, o, p]),
+            node: from_four(&[a, b, c, d]),
+            inc: from_four(&[e, f, g, h]),
+            num: from_eight(&[i, j, k, l, m, n, o, p]),
         }
     }
 
@@ -73,4 +75,12 @@ pub fn entry_uid(x: u16) -> Uid
         inc: 1,
         num: u64::from(x),
     }
+}
+
+// The number with these four bytes.
+#[tactic(auto, using(std::proofs::lemmas::Nat::be_bytes_4))]
+fn from_four(bytes: &[u8; 4]) -> u32
+    ensures { big_bytes 4 result ≡ bytes.now }
+{
+    u32::from_be_bytes(*bytes)
 }

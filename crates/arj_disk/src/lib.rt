@@ -11,11 +11,12 @@ mod files;
 mod memory;
 mod rack;
 mod slot;
+mod trigger;
 
 pub use disk::{Disk, DiskFault, put};
 pub use memory::{MemDisk, SureDisk};
 pub use rack::Rack;
-pub use slot::{Outcome, Role, Slot, Slots};
+pub use slot::{Outcome, Role, Slot, Slots, role_of_uid};
 
 #[cfg(test)]
 mod tests;

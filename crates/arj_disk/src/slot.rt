@@ -1,4 +1,7 @@
 // The names of files, and how a stopped call ends.
+ghost use Rattle.std.specs.Prelude.{◌≡◌};
+ghost use Rattle.arj_disk.specs.Says.{role_of};
+
 use arj_base::{Bytes, Seq, Uid};
 
 /// Whose a file is: the object store's or the naming service's.
@@ -6,6 +9,17 @@ use arj_base::{Bytes, Seq, Uid};
 pub enum Role {
     Store,
     Names,
+}
+
+/// Whose an object or entry is: a Uid with node 0 and incarnation 1 is a naming entry's, every other the store's.
+pub fn role_of_uid(uid: Uid) -> Role
+    ensures { result ≡ role_of uid }
+{
+    if uid.node == 0 && uid.inc == 1 {
+        Role::Names
+    } else {
+        Role::Store
+    }
 }
 
 /// The name of a file. Ordered by the kinds as they stand here, and then by what they hold.

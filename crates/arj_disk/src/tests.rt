@@ -1,122 +1,10 @@
-// Disks in memory, and `put` over a disk that stops.
-ghost use Rattle.std.specs.Prelude.{◌≢◌, IsErrOf, ◌≡◌, ◌⊎◌, ◌-◌, ◌≤◌, length, slice_set, IfOk, OnOk, IsSome};
-ghost use Rattle.std.specs.Bool.{OnTrue, OnFalse};
-ghost use Rattle.arj_base.specs.Count.{Rose};
-ghost use Rattle.arj_disk.specs.Disk.{Same, Renames};
-ghost use Rattle.arj_disk.specs.Stored.{stored};
+// Disks in memory, and `put` over one that stops.
+ghost use Rattle.std.specs.Prelude.{◌≢◌, IsErrOf, ◌≡◌, ◌-◌, ◌≤◌, length, slice_set, IfOk, OnOk};
 
 use super::*;
-use crate::files::{Arms, Files};
 use arj_base::{Bytes, Uid, object_uid};
 use std::alloc::{AllocError, Global};
 use std::test::Fail;
-
-/// Counts calls down to the one that is stopped, and the stops.
-#[derive(Drop)]
-struct Countdown {
-    left: u32,
-    stops: u64,
-}
-
-impl Countdown {
-    fn is_due(&mut self) -> bool
-        ensures stopped { OnTrue result (Rose self.old.stops self.new.stops) }
-        ensures later { self.old.stops ≤ self.new.stops }
-        ensures calm { OnFalse result (self.new.stops ≡ self.old.stops) }
-    {
-        if self.left == 1 {
-            self.left = 0;
-            self.stops = self.stops.saturating_add(1);
-            return true;
-        }
-        self.left = self.left.saturating_sub(1);
-        false
-    }
-}
-
-/// A disk in memory that stops at one call: a write leaves no file, and a rename is done or not.
-#[derive(Drop)]
-struct StoppingDisk {
-    files: Files,
-    arms: Arms,
-    countdown: Countdown,
-    renames: bool,
-}
-
-fn rename_if(files: &mut Files, renames: bool, from: Slot, to: Slot)
-    requires { IsSome (stored files.old from) }
-    ensures { Same (stored files.old) (stored files.new) ⊎ Renames (stored files.old) (stored files.new) from to }
-{
-    if renames {
-        let _done = files.rename(from, to);
-    }
-}
-
-impl Disk for StoppingDisk {
-    ghost file = { λ d. stored d.files };
-
-    ghost stops = { λ d. d.countdown.stops };
-
-    ghost arms = { λ d. d.arms.count };
-
-    ghost last_arm = { λ d. d.arms.last };
-
-    fn read(&mut self, alloc: Global, slot: Slot) -> Result<Option<Bytes>, DiskFault> {
-        if self.countdown.is_due() {
-            return Err(DiskFault::Stopped);
-        }
-        Ok(self.files.read(alloc, slot)?)
-    }
-
-    fn write(&mut self, slot: Slot, bytes: &[u8]) -> Result<(), DiskFault> {
-        if self.countdown.is_due() {
-            self.files.remove(slot);
-            return Err(DiskFault::Stopped);
-        }
-        self.files.write(slot, bytes)?;
-        Ok(())
-    }
-
-    fn rename(&mut self, from: Slot, to: Slot) -> Result<(), DiskFault> {
-        if self.countdown.is_due() {
-            rename_if(&mut self.files, self.renames, from, to);
-            return Err(DiskFault::Stopped);
-        }
-        self.files.rename(from, to)?;
-        Ok(())
-    }
-
-    fn remove(&mut self, slot: Slot) -> Result<(), DiskFault> {
-        if self.countdown.is_due() {
-            return Err(DiskFault::Stopped);
-        }
-        self.files.remove(slot);
-        Ok(())
-    }
-
-    fn names(&mut self, alloc: Global) -> Result<Slots, DiskFault> {
-        if self.countdown.is_due() {
-            return Err(DiskFault::Stopped);
-        }
-        Ok(self.files.names(alloc)?)
-    }
-
-    fn arm(&mut self, calls: u32, outcome: Outcome) {
-        self.arms.add(calls, outcome);
-    }
-}
-
-// A disk with one file, of the object 1, whose call with this number is stopped.
-fn stopping_at(alloc: Global, left: u32, renames: bool) -> Result<StoppingDisk, AllocError> {
-    let mut files = Files::new(alloc);
-    files.write(Slot::Committed(object_uid(1)), b"old".as_slice())?;
-    Ok(StoppingDisk {
-        files,
-        arms: Arms::new(),
-        countdown: Countdown { left, stops: 0 },
-        renames,
-    })
-}
 
 // Whether a file is there and has these bytes.
 fn has<D: Disk>(alloc: Global, disk: &mut D, slot: Slot, bytes: &[u8]) -> Result<bool, DiskFault> {
@@ -209,24 +97,46 @@ fn calls_in_a_row(rt: HostRuntime) -> Result<(), Fail> {
     Ok(())
 }
 
+// An outcome by its number, of a write torn to `xy`.
+fn outcome(alloc: Global, kind: u8) -> Result<Outcome, AllocError> {
+    let mut torn = Bytes::new(alloc);
+    torn.extend(b"xy")?;
+    match kind {
+        0 => Ok(Outcome::Undone),
+        1 => Ok(Outcome::Done),
+        _ => Ok(Outcome::Torn(torn)),
+    }
+}
+
 #[test]
 fn a_put_is_done_or_not(rt: HostRuntime) -> Result<(), Fail> {
     let alloc = rt.alloc();
     let slot = Slot::Committed(object_uid(1));
-    // The call of `put` that is stopped, whether a stopped rename is done, and the file after it.
+    // The call that the arm names, counted from it, its outcome, and the two files after a put: a write and a rename.
     let cases = [
-        (1, false, b"old"),
-        (2, false, b"old"),
-        (2, true, b"new"),
-        (3, false, b"new"),
+        (1, 0, b"old".as_slice(), b"".as_slice()),
+        (1, 1, b"old".as_slice(), b"new".as_slice()),
+        (1, 2, b"old".as_slice(), b"xy".as_slice()),
+        (2, 0, b"old".as_slice(), b"new".as_slice()),
+        (2, 1, b"new".as_slice(), b"".as_slice()),
+        (2, 2, b"old".as_slice(), b"new".as_slice()),
+        (3, 0, b"new".as_slice(), b"".as_slice()),
     ];
-    for (left, renames, want) in cases {
-        let mut disk = stopping_at(alloc, left, renames)?;
+    for (calls, kind, want, tmp) in cases {
+        let mut disk = MemDisk::new(alloc);
+        disk.write(slot, b"old".as_slice())?;
+        disk.arm(calls, outcome(alloc, kind)?);
         let done = was_done(put(&mut disk, slot, b"new".as_slice()))?;
-        assert_eq!(rt; done, left == 3);
-        assert_eq!(rt; disk.countdown.stops, u64::from(!done));
-        disk.countdown.left = 0;
-        assert!(rt; has(alloc, &mut disk, slot, want.as_slice())?);
+        assert_eq!(rt; done, calls == 3);
+        if done {
+            // The arm still waits, for this call.
+            assert!(rt; !was_done(disk.remove(slot))?);
+        }
+        assert!(rt; has(alloc, &mut disk, slot, want)?);
+        assert_eq!(rt;
+            has(alloc, &mut disk, Slot::Tmp, tmp)?,
+            tmp != b"".as_slice()
+        );
     }
     Ok(())
 }

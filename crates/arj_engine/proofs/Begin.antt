@@ -1,27 +1,25 @@
 -- What the engine keeps where an event changes nothing but its count, and where an action begins.
-use Rattle.std.proofs.Common.{◌≡◌, ◌<◌, ◌≤◌, ℕ, suc, ◌+◌, List, [], ◌∷◌, ◌++◌, length, map, filter, Bool, true, false, cond, not, ◌==◌, ◌&&◌, ◌||◌, Option, Some, None, is_some, refl, sym, ◌∙◌, ap, subst, arith}
-use Rattle.std.proofs.lemmas.Bool.{eqb-true, eq-eqb}
+use Rattle.std.proofs.Common.{◌≡◌, ◌<◌, ◌≤◌, ℕ, suc, ◌+◌, List, [], ◌∷◌, ◌++◌, length, filter, Bool, true, false, cond, not, ◌==◌, ◌&&◌, ◌||◌, Option, Some, None, is_some, refl, sym, ◌∙◌, ap, subst, arith}
+use Rattle.std.proofs.lemmas.Bool.{eqb-true}
 use Rattle.std.proofs.lemmas.Bool.Decides.{nat_tests}
 use Rattle.std.specs.Option.{option_map}
-use Rattle.std.specs.List.{list_any, filter_map, cons_option, AllByRecursion}
+use Rattle.std.specs.List.{list_any, cons_option, AllByRecursion}
 use Rattle.std.specs.Str.{bytes_eq}
-use Rattle.arj_base.specs.declared.uid.Uid.{Uid}
 use Rattle.arj_base.specs.Rows.{Row, is_row_of, last_uid}
 use Rattle.arj_base.specs.Uid.{uid_eq, object}
 use Rattle.arj_class.specs.declared.value.Value.{Value}
 use Rattle.arj_journal.specs.declared.header.Header.{Header}
-use Rattle.arj_journal.specs.declared.body.Kind.TheVariants as kind
 use Rattle.arj_journal.specs.declared.label.Label.{Label}
 use Rattle.arj_journal.specs.Label.{name}
 use Rattle.arj_model.specs.Actions.{Act, Placed, Halt, act_in, has_end, root_in, top_in, is_serial}
-use Rattle.arj_model.specs.Calls.{Said, Call, made_in, call_of}
+use Rattle.arj_model.specs.Calls.{Said, made_in, call_of}
 use Rattle.arj_model.specs.Serial.{Answers, writes_on, touches}
 use Rattle.arj_model.specs.Last.{is_among}
 use Rattle.arj_model.specs.Past.{Asked}
 use Rattle.arj_model.specs.Follows.{objects_from, used_by, is_root, object_used, with_object}
 use Rattle.arj_model.specs.Seen.{Seen}
 use Rattle.arj_engine.specs.Object.{Obj}
-use Rattle.arj_engine.specs.Keeps.{Keeps, Up, Machine, IsOpen, IsAlone, IsAsked, IsPlain, IsBelow, IsHeldBelow, ObjectStands, WorkingFits, HaltsFit, calls_by, calls_made, row_mode, calls_mode, now, ident}
+use Rattle.arj_engine.specs.Keeps.{Keeps, Up, Machine, IsOpen, IsAlone, IsAsked, IsBelow, IsHeldBelow, ObjectStands, WorkingFits, HaltsFit, calls_by, calls_made, row_mode, calls_mode, now, ident}
 use Rattle.arj_engine.specs.Change.{IsCounted, IsBegun}
 use Rattle.arj_engine.proofs.Steps.{later, with_act, new_act}
 

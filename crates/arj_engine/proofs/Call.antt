@@ -392,7 +392,7 @@ module _ (header : Header) (accepted : List Asked) (s : Seen) (m new : Machine) 
       let alone : IsAlone (length s.acts) (plain l parent i ∷ []) = record { act = plain l parent i; path_is = refl; kind = refl; uid = refl; within = running.begun } in
       keeps_used header accepted s m new a l parent i x (Some left) keeps running path uses to
       (s.said ++ saying s (plain l parent i ∷ []) x op text ∷ [])
-      (grant_row (record { object = object x; holder = ident i ∷ []; mode = op_mode op }) s.rows)
+      (grant_row (record { object = object x; holder = ident i ∷ []; tops = 1; mode = op_mode op }) s.rows)
       (all_more (λ p. IsAlone (length s.acts) p.it.path) s.said (saying s (plain l parent i ∷ []) x op text) keeps.said alone)
       (ap is_some (sym there))
       (λ p line is of. subst (λ q. class_of q.value ≡ class_of line.value) (some_is left p is) (ap class_of (called_value (ident i) (op_mode op) op o) ∙ keeps.class x o line there of))

@@ -1,5 +1,5 @@
 -- The engine at the beginning of a run, on a disk that was just formatted.
-use Rattle.std.proofs.Common.{◌≡◌, ◌<◌, ◌≤◌, inl, ℕ, List, [], length, Bool, true, false, Option, Some, None, is_some, MatchOption, refl, sym, ◌∙◌, ap, subst, arith}
+use Rattle.std.proofs.Common.{◌≡◌, ◌<◌, ◌≤◌, inl, ℕ, [], length, true, false, Option, Some, None, is_some, refl, sym, ◌∙◌, ap, subst, arith}
 use Rattle.std.specs.Option.{option_map}
 use Rattle.std.specs.BTreeMap.{get}
 use Rattle.arj_base.specs.State.{state_bytes}
@@ -14,8 +14,8 @@ use Rattle.arj_model.specs.Last.{object_line, value_of_line, first_values}
 use Rattle.arj_model.specs.Past.{nothing_yet}
 use Rattle.arj_model.specs.Seen.{Seen, seen}
 use Rattle.arj_engine.specs.Form.{HeaderInForm}
-use Rattle.arj_engine.specs.Object.{Obj, object_in, views, first_object, old_state, put_first, PutsFirsts}
-use Rattle.arj_engine.specs.Keeps.{Keeps, Up, Machine, IsOpen, ObjectStands, last_seen}
+use Rattle.arj_engine.specs.Object.{Obj, object_in, views, first_object, put_first, PutsFirsts}
+use Rattle.arj_engine.specs.Keeps.{Keeps, Machine, IsOpen, ObjectStands, last_seen}
 use Rattle.arj_engine.specs.Engine.{Stands, machine_of}
 use Rattle.arj_engine.specs.declared.engine.Engine.{Engine}
 use Rattle.arj_engine.proofs.Actions.{label_order}

@@ -1,13 +1,9 @@
 -- What is known of an action by its label.
-use Rattle.std.proofs.Common.{◌≡◌, ◌<◌, ℕ, ◌+◌, List, [], ◌∷◌, ◌++◌, length, Bool, true, false, cond, not, Option, Some, None, is_some, refl, sym, ◌∙◌, ap, subst, arith}
-use Rattle.std.specs.Option.{option_map}
-use Rattle.std.specs.List.{list_any}
+use Rattle.std.proofs.Common.{◌≡◌, ◌<◌, ℕ, List, [], ◌∷◌, ◌++◌, length, Bool, true, false, cond, Option, Some, None, refl, sym, subst, arith}
 use Rattle.std.specs.Str.{bytes_eq}
-use Rattle.arj_base.specs.declared.uid.Uid.{Uid}
-use Rattle.arj_journal.specs.declared.body.Kind.{Kind}
 use Rattle.arj_journal.specs.declared.body.Kind.TheVariants as kind
-use Rattle.arj_model.specs.Actions.{Act, Placed, Halt, act_in, id_in, path, upwards, uids, root_in, has_end}
-use Rattle.arj_engine.specs.Keeps.{ArePlain, IsPlain, HaltsFit, IsBelow, ident}
+use Rattle.arj_model.specs.Actions.{Act, act_in, path, upwards, root_in}
+use Rattle.arj_engine.specs.Keeps.{ArePlain, IsBelow, ident}
 
 -- an action of the list
 pub record IsKnown (count : ℕ) (a : Act) : Type 0 where

@@ -88,7 +88,7 @@ none_against u w mode held (l ∷ ls) free other e = by (none_against u w mode h
 -- What a grant does.
 
 abbrev pub grant_of : ℕ → Uid → Mode → Row
-grant_of x u mode = record { object = object x; holder = u ∷ []; mode = mode }
+grant_of x u mode = record { object = object x; holder = u ∷ []; tops = 1; mode = mode }
 
 -- the rows of the object change as if they were all
 pub grant_here : (x : ℕ) (u : Uid) (mode : Mode) (rows : List Row) → filter (is_at x) (grant_row (grant_of x u mode) rows) ≡ grant_row (grant_of x u mode) (filter (is_at x) rows)
@@ -135,7 +135,7 @@ grant_locks x u mode [] = refl
 grant_locks x u mode (l ∷ ls) = by (grant_locks x u mode ls) (uid_eq l.holder u) ∙ (λ k. cond (sym (eq_same x) k && uid_eq l.holder u) (raised ∷ map (row_at x) ls) (row_at x l ∷ grant_row (grant_of x u mode) (map (row_at x) ls)))
   where
     raised : Row
-    raised = record { object = object x; holder = l.holder ∷ []; mode = stronger l.mode mode }
+    raised = record { object = object x; holder = l.holder ∷ []; tops = 1; mode = stronger l.mode mode }
 
     by : map (row_at x) (granted u mode ls) ≡ grant_row (grant_of x u mode) (map (row_at x) ls) → (t : Bool)
         → map (row_at x) (cond t (record { holder = l.holder; mode = stronger l.mode mode } ∷ ls) (l ∷ granted u mode ls)) ≡ cond (true && t) (raised ∷ map (row_at x) ls) (row_at x l ∷ grant_row (grant_of x u mode) (map (row_at x) ls))

@@ -1,11 +1,10 @@
 -- From what an event changes in memory to what holds of the run that is longer by it: refused events and beginnings.
-use Rattle.std.proofs.Common.{◌≡◌, ◌<◌, ◌≤◌, ◌⊎◌, inl, inr, ℕ, suc, ◌+◌, List, [], ◌∷◌, ◌++◌, length, map, filter, Bool, true, false, cond, not, ◌==◌, ◌&&◌, ◌||◌, nat_le, Option, Some, None, is_some, is_none, MatchOption, refl, sym, ◌∙◌, ap, subst, arith}
-use Rattle.std.proofs.lemmas.Bool.{eqb-true, eq-eqb}
+use Rattle.std.proofs.Common.{◌≡◌, ◌<◌, ◌≤◌, ◌⊎◌, ℕ, ◌+◌, List, [], ◌∷◌, ◌++◌, length, filter, Bool, true, false, cond, not, ◌==◌, ◌&&◌, Option, Some, None, is_some, MatchOption, refl, sym, ◌∙◌, ap, subst, arith}
+use Rattle.std.proofs.lemmas.Bool.{eqb-true}
 use Rattle.std.proofs.lemmas.Bool.Decides.{nat_tests}
 use Rattle.std.proofs.lemmas.List.{append-nil, append_assoc}
 use Rattle.std.proofs.lemmas.List.Elements.{filter-append}
-use Rattle.std.specs.List.{list_any, list_all, AllByRecursion}
-use Rattle.std.specs.Option.{option_map}
+use Rattle.std.specs.List.{list_any}
 use Rattle.arj_base.specs.Count.{Rose}
 use Rattle.arj_base.specs.State.{state_bytes}
 use Rattle.arj_disk.specs.Files.{FileMap, held}
@@ -17,21 +16,18 @@ use Rattle.arj_journal.specs.declared.event.Event.{Event}
 use Rattle.arj_journal.specs.declared.event.Event.TheVariants as event
 use Rattle.arj_journal.specs.declared.header.Header.{Header}
 use Rattle.arj_journal.specs.declared.label.Label.{Label}
-use Rattle.arj_journal.specs.Label.{name}
-use Rattle.arj_model.specs.Actions.{Act, acts, act_in}
-use Rattle.arj_model.specs.Serial.{Serial, Answers}
-use Rattle.arj_model.specs.Last.{first_values, last_state, object_line, is_among}
-use Rattle.arj_model.specs.Clean.{HoldsLastOrNext}
-use Rattle.arj_model.specs.Past.{Past, Asked, asked_of, block, next, is_refused}
-use Rattle.arj_model.specs.Follows.{refusal, Step, Accepted, first_cause, next_uid, incarnation, is_down, answers_to, asks_by, is_answer_to, is_ask_by, own_lines}
-use Rattle.arj_model.specs.Causes.{Moment, HasCauseConflict, ConflictsHaveCause, is_conflict, IsAnswered, Prompt, HasRoom, HasRoomFor, IsPastLabels, count_halts, is_halt, is_full}
+use Rattle.arj_model.specs.Actions.{Act, acts}
+use Rattle.arj_model.specs.Serial.{Answers}
+use Rattle.arj_model.specs.Last.{first_values, object_line, is_among}
+use Rattle.arj_model.specs.Past.{Past, Asked, asked_of, block, next}
+use Rattle.arj_model.specs.Follows.{refusal, Accepted, first_cause, next_uid, incarnation, answers_to, asks_by, is_answer_to, is_ask_by}
+use Rattle.arj_model.specs.Causes.{Moment, ConflictsHaveCause, is_conflict, IsAnswered, HasRoomFor, IsPastLabels, count_halts, is_halt, is_full}
 use Rattle.arj_class.specs.Table.{writes}
 use Rattle.arj_model.specs.Seen.{Seen, seen, see}
 use Rattle.arj_model.proofs.Seen.{seen-append}
 use Rattle.arj_engine.specs.Keeps.{Keeps, Machine, ArePlain, ident, serial_seen, last_seen, next_seen, undecided_seen, calls_by}
-use Rattle.arj_engine.specs.Change.{IsCounted, IsBegun}
 use Rattle.arj_engine.specs.Engine.{Stands, Ran, machine_of}
-use Rattle.arj_engine.specs.Events.{Begins, Refuses, Accepts_begin, Writes, begin_refusal}
+use Rattle.arj_engine.specs.Events.{Begins, Refuses, Accepts_begin, begin_refusal}
 use Rattle.arj_engine.specs.declared.engine.Engine.{Engine}
 use Rattle.arj_engine.proofs.Steps.{later, with_act, new_act, see_refused, see_began}
 use Rattle.arj_engine.proofs.Refusals.{begin_same}

@@ -1,40 +1,37 @@
 -- From what an event changes in memory to what holds of the run that is longer by it: calls. And what the code needs so
 -- as to be safe.
-use Rattle.std.proofs.Common.{◌≡◌, ◌<◌, ◌≤◌, ◌⊎◌, inl, inr, ◌^◌, ℕ, suc, ◌+◌, List, [], ◌∷◌, ◌++◌, length, map, filter, Bool, true, false, cond, not, ◌==◌, ◌&&◌, ◌||◌, nat_lt, Option, Some, None, is_some, is_none, MatchOption, IfSome, refl, sym, ◌∙◌, ap, subst, arith}
+use Rattle.std.proofs.Common.{◌≡◌, ◌<◌, inl, ◌^◌, ℕ, ◌+◌, List, [], ◌∷◌, ◌++◌, length, filter, Bool, true, false, cond, ◌&&◌, ◌||◌, nat_lt, Option, Some, None, is_some, is_none, MatchOption, IfSome, refl, sym, ◌∙◌, ap, subst, arith}
 use Rattle.std.proofs.lemmas.Bool.Decides.{nat_tests}
 use Rattle.std.proofs.lemmas.List.Elements.{filter-append}
-use Rattle.std.specs.List.{list_any, list_all, AllByRecursion}
 use Rattle.std.specs.Option.{option_map}
 use Rattle.std.specs.Str.{bytes_eq}
 use Rattle.arj_base.specs.Count.{Rose}
 use Rattle.arj_base.specs.State.{state_bytes}
-use Rattle.arj_base.specs.Rows.{Row, first_conflict, last_uid}
+use Rattle.arj_base.specs.Rows.{first_conflict}
 use Rattle.arj_base.specs.Uid.{object}
-use Rattle.arj_class.specs.Table.{class_of, op_mode, answer_of, writes}
+use Rattle.arj_class.specs.Table.{class_of, op_mode, answer_of}
 use Rattle.arj_class.specs.declared.op.Op.{Op}
 use Rattle.arj_class.specs.declared.op.Answer.{Answer}
-use Rattle.arj_disk.specs.Files.{FileMap, held}
+use Rattle.arj_disk.specs.Files.{FileMap}
 use Rattle.arj_journal.specs.declared.body.Body.{Body}
 use Rattle.arj_journal.specs.declared.body.Body.TheVariants as body
 use Rattle.arj_journal.specs.declared.body.Line.{Line}
-use Rattle.arj_journal.specs.declared.event.Event.{Event}
 use Rattle.arj_journal.specs.declared.event.Event.TheVariants as event
 use Rattle.arj_journal.specs.declared.header.Header.{Header}
 use Rattle.arj_journal.specs.declared.label.Label.{Label}
 use Rattle.arj_journal.specs.Label.{name}
 use Rattle.arj_journal.specs.Words.{answer_text}
 use Rattle.arj_model.specs.Actions.{Act, acts, act_in, path, uids, has_end}
-use Rattle.arj_model.specs.Last.{object_line}
-use Rattle.arj_model.specs.Past.{Past, Asked, asked_of, block, next}
-use Rattle.arj_model.specs.Follows.{refusal, Accepted, first_cause, answers_to, asks_by, is_ask_by, is_answer_to, last_asked, pending, AnswersFit, AnswerFits, IsCallOf, is_own, may_stand}
-use Rattle.arj_model.specs.Causes.{Moment, ConflictsHaveCause, conflicts_by, conflict_of, is_conflict, IsAnswered, HasRoomFor, count_halts, is_halt}
-use Rattle.arj_model.specs.Seen.{Seen, seen, see}
+use Rattle.arj_model.specs.Past.{Past, Asked, asked_of, block}
+use Rattle.arj_model.specs.Follows.{refusal, Accepted, first_cause, answers_to, asks_by, is_ask_by, is_answer_to, last_asked, pending, AnswerFits, IsCallOf, is_own, may_stand}
+use Rattle.arj_model.specs.Causes.{Moment, ConflictsHaveCause, conflicts_by, conflict_of, is_conflict, IsAnswered, HasRoomFor, count_halts}
+use Rattle.arj_model.specs.Seen.{Seen, seen}
 use Rattle.arj_engine.specs.declared.object.Row.{Row as Lock}
 use Rattle.arj_engine.specs.Object.{Obj, against, called, current}
-use Rattle.arj_engine.specs.Keeps.{Keeps, Up, Machine, IsOpen, ObjectStands, ident, row_at, serial_seen, last_seen}
+use Rattle.arj_engine.specs.Keeps.{Machine, ident, row_at}
 use Rattle.arj_engine.specs.Change.{IsUsed}
 use Rattle.arj_engine.specs.Engine.{Stands, Ran, machine_of, stepped}
-use Rattle.arj_engine.specs.Events.{Refuses, Calls, Accepts_call, Answers_call, Writes, call_refusal, is_over_by, is_too_many_by, lacks_op_in, Ready}
+use Rattle.arj_engine.specs.Events.{Refuses, Calls, Accepts_call, Writes, call_refusal, is_over_by, is_too_many_by, lacks_op_in, Ready}
 use Rattle.arj_engine.specs.declared.engine.Engine.{Engine}
 use Rattle.arj_engine.proofs.Steps.{later, with_call, see_ok, see_conflict}
 use Rattle.arj_engine.proofs.Known.{known}
@@ -42,7 +39,7 @@ use Rattle.arj_engine.proofs.Refusals.{call_same}
 use Rattle.arj_engine.proofs.Call.{keeps_call, keeps_met}
 use Rattle.arj_engine.proofs.Locks.{conflict_is}
 use Rattle.arj_engine.proofs.Disk.{last_call}
-use Rattle.arj_engine.proofs.Ran.{Shows, see_all, stands_after, refused_ran, count_more, answers_more, asks_more}
+use Rattle.arj_engine.proofs.Ran.{stands_after, refused_ran, count_more, answers_more, asks_more}
 use Rattle.arj_engine.proofs.RanEnds.{Found, found, same_name, plain_sum}
 
 -- What the code needs follows from what the engine keeps.

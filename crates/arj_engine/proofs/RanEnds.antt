@@ -1,19 +1,16 @@
 -- From what an event changes in memory to what holds of the run that is longer by it: aborts and commits.
-use Rattle.std.proofs.Common.{◌≡◌, ◌<◌, ◌≤◌, ◌⊎◌, inl, inr, ◌^◌, ℕ, suc, ◌+◌, List, [], ◌∷◌, ◌++◌, length, map, filter, Bool, true, false, cond, not, ◌==◌, ◌&&◌, ◌||◌, nat_lt, Option, Some, None, is_some, is_none, MatchOption, IfSome, option_and_then, refl, sym, ◌∙◌, ap, subst, arith}
+use Rattle.std.proofs.Common.{◌≡◌, ◌<◌, ◌⊎◌, inl, inr, ℕ, ◌+◌, List, [], ◌∷◌, ◌++◌, length, filter, Bool, true, false, cond, not, ◌==◌, ◌&&◌, ◌||◌, nat_lt, Option, Some, None, is_some, is_none, MatchOption, option_and_then, refl, sym, ◌∙◌, ap, subst, arith}
 use Rattle.std.proofs.lemmas.Bool.{eqb-true}
-use Rattle.std.proofs.lemmas.Bool.Decides.{nat_tests}
 use Rattle.std.proofs.lemmas.List.Folds.{list_any-append}
-use Rattle.std.specs.List.{list_any, list_all, AllByRecursion}
+use Rattle.std.specs.List.{list_any}
 use Rattle.std.specs.Option.{option_map}
 use Rattle.std.specs.Str.{bytes_eq}
 use Rattle.std.proofs.lemmas.Slice.Eq.{bytes_eq-Decides}
 use Rattle.arj_base.specs.Count.{Rose}
 use Rattle.arj_base.specs.State.{state_bytes}
-use Rattle.arj_base.specs.declared.uid.Uid.{Uid}
 use Rattle.arj_base.specs.declared.state.ObjectState.{ObjectState}
 use Rattle.arj_base.specs.Rows.{last_uid}
-use Rattle.arj_class.specs.Table.{class_of, writes}
-use Rattle.arj_class.specs.declared.value.Value.{Value}
+use Rattle.arj_class.specs.Table.{writes}
 use Rattle.arj_disk.specs.Files.{FileMap, held}
 use Rattle.arj_journal.specs.declared.body.Body.{Body}
 use Rattle.arj_journal.specs.declared.body.Body.TheVariants as body
@@ -28,17 +25,16 @@ use Rattle.arj_journal.specs.Label.{name}
 use Rattle.arj_model.specs.Actions.{Act, Placed, Halt, acts, act_in, id_in, path, uids, has_end}
 use Rattle.arj_model.specs.Serial.{Answers}
 use Rattle.arj_model.specs.Last.{first_values, object_line, is_among}
-use Rattle.arj_model.specs.Past.{Past, Asked, asked_of, block, next}
+use Rattle.arj_model.specs.Past.{Past, Asked, asked_of, block}
 use Rattle.arj_model.specs.Follows.{refusal, Accepted, first_cause, is_committing, is_committing_line, has_ended, is_over_act, answers_to, asks_by, object_used, is_own, may_stand, AnswersFit}
-use Rattle.arj_model.specs.Causes.{Moment, ConflictsHaveCause, is_conflict, IsAnswered, HasRoomFor, count_halts, is_halt, is_commit_end, is_node_of}
+use Rattle.arj_model.specs.Causes.{Moment, ConflictsHaveCause, is_conflict, IsAnswered, HasRoomFor, count_halts, is_commit_end, is_node_of}
 use Rattle.arj_model.specs.Seen.{Seen, seen, see}
 use Rattle.arj_engine.specs.Object.{Obj, new_state, put_over}
-use Rattle.arj_engine.specs.Keeps.{Keeps, Up, Machine, IsOpen, ObjectStands, ident, serial_seen, last_seen, next_seen, undecided_seen, calls_by}
-use Rattle.arj_engine.specs.Change.{IsCounted, IsEnded, IsDown}
-use Rattle.arj_engine.specs.Engine.{Stands, Ran, machine_of, stepped}
-use Rattle.arj_engine.specs.Events.{Refuses, Aborts, Accepts_abort, Commits, Accepts_commit, Commits_whole, Commits_halted, PutsAll, PutsSome, state_by, end_refusal, is_over_by, Ready, Untouched}
+use Rattle.arj_engine.specs.Keeps.{Keeps, Machine, IsOpen, ident, last_seen, next_seen, undecided_seen, calls_by}
+use Rattle.arj_engine.specs.Engine.{Stands, Ran, machine_of}
+use Rattle.arj_engine.specs.Events.{Refuses, Aborts, Accepts_abort, Commits, Accepts_commit, Commits_whole, Commits_halted, state_by, end_refusal, is_over_by, Untouched}
 use Rattle.arj_engine.specs.declared.engine.Engine.{Engine}
-use Rattle.arj_engine.proofs.Steps.{later, with_committing, with_commit, with_abort, with_halt, see_committing, see_committed, see_aborted, see_halted}
+use Rattle.arj_engine.proofs.Steps.{with_committing, with_commit, with_abort, see_committing, see_committed, see_aborted, see_halted}
 use Rattle.arj_engine.proofs.Known.{known, path_plain, one_or_none}
 use Rattle.arj_engine.proofs.Refusals.{commit_same, abort_same, over_same}
 use Rattle.arj_engine.proofs.End.{AsksEnd, committed_seen, lines_of_begun}
@@ -46,7 +42,7 @@ use Rattle.arj_engine.proofs.Abort.{keeps_abort}
 use Rattle.arj_engine.proofs.Commit.{keeps_commit}
 use Rattle.arj_engine.proofs.Halt.{keeps_halt}
 use Rattle.arj_engine.proofs.Disk.{committed_state, halted_seen, halted_state, last_halt, serial_halt}
-use Rattle.arj_engine.proofs.Ran.{Shows, see_all, seen_block, stands_after, refused_ran, count_more, answers_more, asks_more}
+use Rattle.arj_engine.proofs.Ran.{see_all, seen_block, stands_after, refused_ran, count_more, answers_more, asks_more}
 
 -- What is known of the action that an accepted event names.
 pub record Found (s : Seen) (l : Label) (i : ℕ) : Type 0 where
@@ -219,7 +215,7 @@ called_commit header past m l i n k number over = (λ j. any j && not (over_now 
         ∙ over_same header past m l k ∙ ap (is_over_by m) number ∙ over
 
 commit_own : (header : Header) (past : Past) (l : Label) (b : Body) → refusal header past (event.Commit l) ≡ None → AnswersFit (past.accepted ++ asked_of past (event.Commit l) ∷ []) past.lines (past.count + 1) (body.Committing l ∷ b ∷ [])
-    → is_own b ≡ false → may_stand (event.Commit l) b ≡ true → is_conflict b ≡ false → list_any (is_commit_end past.lines (name l)) (body.Committing l ∷ b ∷ []) ≡ true
+    → is_own b ≡ false → may_stand (event.Commit l) b ≡ true → is_conflict b ≡ false → length (filter (is_commit_end past.lines (name l)) (body.Committing l ∷ b ∷ [])) ≡ 1
     → Moment header past (event.Commit l) (body.Committing l ∷ b ∷ [])
 commit_own header past l b is answers own stand calm ends = record {
   step = (let P : Option ℕ → Type 0 = λ o. MatchOption o (Accepted header past (event.Commit l) bodies) (λ d. bodies ≡ body.Refused d ∷ []) in
@@ -276,7 +272,7 @@ module _ (header : Header) (past : Past) (l : Label) (old new : Engine) (file fi
       record {
         bodies = bodies;
         lines = w.lines ∙ ap (λ c. before ++ block (c + 1) bodies) st.count;
-        moment = commit_own header past l (body.Committed l) is (tt, (called_commit header past m l i (past.count + 1) st.keeps number over, tt)) refl refl refl (ap (λ b. b || false) (same_name l));
+        moment = commit_own header past l (body.Committed l) is (tt, (called_commit header past m l i (past.count + 1) st.keeps number over, tt)) refl refl refl (ap (λ t. length (cond t (body.Committed l ∷ []) [])) (same_name l));
         stands = stands_after header past (event.Commit l) bodies new file' (committed_seen s f.act i) read
             (w.ended.event ∙ ap (λ c. c + 1) st.count) k
             (record { serial = up.serial; holds = λ d x there. held_now i f e some w x there; holds_or_next = λ x there. inl (held_now i f e some w x there) })
@@ -313,7 +309,7 @@ module _ (header : Header) (past : Past) (l : Label) (old new : Engine) (file fi
       record {
         bodies = bodies;
         lines = w.lines ∙ ap (λ c. before ++ block (c + 1) bodies) st.count;
-        moment = commit_own header past l (body.Halted 1) is (tt, (tt, tt)) refl refl refl (ap (λ b. b || false) node);
+        moment = commit_own header past l (body.Halted 1) is (tt, (tt, tt)) refl refl refl (ap (λ t. length (cond t (body.Halted 1 ∷ []) [])) node);
         stands = stands_after header past (event.Commit l) bodies new file' (halted_seen s f.act) read
             (w.halted.event ∙ ap (λ c. c + 1) st.count) k
             (record {

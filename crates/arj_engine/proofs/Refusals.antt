@@ -1,24 +1,23 @@
 -- The engine refuses exactly what the journal refuses, by the same cause.
-use Rattle.std.proofs.Common.{◌≡◌, ◌<◌, ◌≤◌, ℕ, zero, suc, ◌+◌, List, [], ◌∷◌, ◌++◌, length, Bool, true, false, cond, not, ◌==◌, ◌&&◌, ◌||◌, nat_le, nat_lt, Option, Some, None, is_some, is_none, refl, sym, ◌∙◌, ap, subst, arith}
+use Rattle.std.proofs.Common.{◌≡◌, ℕ, List, [], ◌∷◌, length, Bool, true, false, cond, not, ◌==◌, ◌&&◌, ◌||◌, nat_le, nat_lt, Option, Some, None, is_some, is_none, refl, sym, ◌∙◌, ap, subst, arith}
 use Rattle.std.proofs.lemmas.Bool.{eqb-true}
 use Rattle.std.proofs.lemmas.Bool.Decides.{nat_tests}
 use Rattle.std.specs.Option.{option_map}
 use Rattle.std.specs.List.{list_any}
 use Rattle.arj_class.specs.declared.op.Op.{Op}
 use Rattle.arj_class.specs.Table.{class_of, has_op}
-use Rattle.arj_journal.specs.declared.event.Event.{Event}
 use Rattle.arj_journal.specs.declared.event.Event.TheVariants as event
 use Rattle.arj_journal.specs.declared.header.Header.{Header}
 use Rattle.arj_journal.specs.declared.header.ObjectLine.{ObjectLine}
 use Rattle.arj_journal.specs.declared.label.Label.{Label}
 use Rattle.arj_journal.specs.Label.{name}
-use Rattle.arj_model.specs.Actions.{Act, Placed, Halt, acts, act_in, is_begun, path, root_in, has_end, is_over, halts}
-use Rattle.arj_model.specs.Last.{object_line, is_among}
+use Rattle.arj_model.specs.Actions.{Act, Placed, Halt, acts, act_in, is_begun, path, root_in, has_end, halts}
+use Rattle.arj_model.specs.Last.{object_line}
 use Rattle.arj_model.specs.Past.{Past, Asked}
-use Rattle.arj_model.specs.Follows.{first_cause, refusal, causes, is_node, is_down, has_ended, is_over_act, lacks_op, is_too_many, objects_of, objects_from, used_by, is_root, with_object, object_used}
+use Rattle.arj_model.specs.Follows.{refusal, is_node, is_down, has_ended, is_over_act, lacks_op, is_too_many, objects_of, objects_from, is_root, with_object, object_used}
 use Rattle.arj_model.specs.Seen.{Seen, seen}
 use Rattle.arj_engine.specs.Object.{Obj}
-use Rattle.arj_engine.specs.Keeps.{Keeps, Machine, HaltsFit, ident}
+use Rattle.arj_engine.specs.Keeps.{Keeps, Machine, HaltsFit}
 use Rattle.arj_engine.specs.Events.{begin_refusal, end_refusal, call_refusal, is_over_by, is_too_many_by, is_too_many_for, lacks_op_in}
 use Rattle.arj_engine.proofs.Known.{IsKnown, known, path_plain, one_or_none}
 

@@ -1,20 +1,17 @@
 -- What each kind of line that the engine writes changes in what is read of the journal.
-use Rattle.std.proofs.Common.{◌≡◌, ℕ, ◌+◌, List, [], ◌∷◌, ◌++◌, length, Bool, true, false, Option, Some, None, refl, sym, ◌∙◌, ap}
+use Rattle.std.proofs.Common.{◌≡◌, ℕ, ◌+◌, List, [], ◌∷◌, ◌++◌, length, true, Some, None}
 use Rattle.std.proofs.lemmas.List.{append-nil}
-use Rattle.std.specs.Option.{option_map}
 use Rattle.arj_base.specs.declared.mode.Mode.{Mode}
 use Rattle.arj_base.specs.declared.uid.Uid.{Uid}
-use Rattle.arj_base.specs.Rows.{Row, grant_row, drop_rows, last_uid}
-use Rattle.arj_base.specs.Uid.{object}
+use Rattle.arj_base.specs.Rows.{grant_row, drop_rows, last_uid}
 use Rattle.arj_class.specs.declared.op.Op.{Op}
-use Rattle.arj_class.specs.Table.{op_mode}
-use Rattle.arj_journal.specs.declared.body.Body.{Body}
 use Rattle.arj_journal.specs.declared.body.Body.TheVariants as body
 use Rattle.arj_journal.specs.declared.body.Cause.TheVariants as cause
 use Rattle.arj_journal.specs.declared.body.Kind.TheVariants as kind
 use Rattle.arj_journal.specs.declared.label.Label.{Label}
 use Rattle.arj_journal.specs.Label.{name}
-use Rattle.arj_model.specs.Actions.{Act, Placed, Halt, put, act_in, id_in, path, uids}
+use Rattle.arj_model.specs.Table.{row_of}
+use Rattle.arj_model.specs.Actions.{Act, Placed, put, id_in, path, uids}
 use Rattle.arj_model.specs.Calls.{Said}
 use Rattle.arj_model.specs.Seen.{Seen, see}
 
@@ -84,7 +81,7 @@ saying s p x op answer = record { at = s.count; it = record { path = p; x = x; o
 
 abbrev pub with_call : Seen → List Act → ℕ → Op → List ℕ → Seen
 with_call s p x op answer =
-    record (later s) { said = s.said ++ saying s p x op answer ∷ []; rows = grant_row (record { object = object x; holder = uids p; mode = op_mode op }) s.rows }
+    record (later s) { said = s.said ++ saying s p x op answer ∷ []; rows = grant_row (row_of p x op) s.rows }
 
 pub see_ok : (s : Seen) (l : Label) (x : ℕ) (op : Op) (answer : List ℕ) → see s (body.Ok l x op answer) ≡ with_call s (path s.acts (name l)) x op answer
 see_ok s l x op answer = λ i. record {
@@ -95,7 +92,7 @@ see_ok s l x op answer = λ i. record {
   ended = stays s.count s.ended i;
   halts = stays s.count s.halts i;
   recovered = stays s.count s.recovered i;
-  rows = grant_row (record { object = object x; holder = uids (path s.acts (name l)); mode = op_mode op }) s.rows;
+  rows = grant_row (row_of (path s.acts (name l)) x op) s.rows;
   down = s.down;
   inc = s.inc;
   count = s.count + 1;

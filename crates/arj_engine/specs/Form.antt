@@ -1,5 +1,5 @@
 -- Which headers and events the engine takes.
-use Rattle.std.specs.Prelude.{◌≡◌, ◌≤◌, ◌<◌, ℕ, List, [], ◌∷◌, Bool, true, ◌&&◌, nat_lt, ⊤}
+use Rattle.std.specs.Prelude.{◌≡◌, ◌≤◌, List, [], ◌∷◌, Bool, true, ◌&&◌, nat_lt, ⊤}
 use Rattle.std.specs.List.{AllByRecursion}
 use Rattle.arj_class.specs.Forms.{OpInForm}
 use Rattle.arj_journal.specs.declared.event.Event.{Event}

@@ -1,5 +1,5 @@
 -- What the engine keeps, over what is read of the journal so far. Every action is a plain top-level one of node 1.
-use Rattle.std.specs.Prelude.{◌≡◌, ◌<◌, ◌≤◌, ℕ, ◌+◌, List, [], ◌∷◌, ◌++◌, length, map, filter, Bool, true, false, ◌==◌, ◌&&◌, not, if◌then◌else◌, Option, Some, None, is_some, MatchOption, ⊤}
+use Rattle.std.specs.Prelude.{◌≡◌, ◌<◌, ◌≤◌, ℕ, ◌+◌, List, [], ◌∷◌, ◌++◌, length, map, filter, Bool, true, false, ◌==◌, not, if◌then◌else◌, Option, Some, None, is_some, MatchOption, ⊤}
 use Rattle.std.specs.List.{list_any, filter_map, AllByRecursion}
 use Rattle.std.specs.Option.{option_map}
 use Rattle.arj_base.specs.declared.mode.Mode.{Mode}
@@ -112,7 +112,7 @@ IsHeldBelow n row = (j : ℕ) × (j < n) × (row.holder ≡ ident j ∷ [])
 
 -- the rows of an object, as they stand in the lock table
 abbrev pub row_at : ℕ → Lock → Row
-row_at x lock = record { object = object x; holder = lock.holder ∷ []; mode = lock.mode }
+row_at x lock = record { object = object x; holder = lock.holder ∷ []; tops = 1; mode = lock.mode }
 
 abbrev pub writes_seen : Seen → ℕ → List Call
 writes_seen s x = filter (writes_on x) (serial_seen s)

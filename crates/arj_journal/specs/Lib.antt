@@ -1,4 +1,11 @@
+pub mod Fields
+pub mod Form
 pub mod Label
+pub mod LineForm
+pub mod LineKinds
 pub mod LineText
+pub mod Reading
 pub mod ScriptText
+pub mod Spellings
+pub mod Stepping
 pub mod Words

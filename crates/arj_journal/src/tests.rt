@@ -1,12 +1,13 @@
-// Lines, operations and answers with their texts, as worked scripts and the table of line kinds have them.
-ghost use Rattle.std.specs.Prelude.{◌≡◌, OnOk, Some, if◌then◌else◌};
+// Lines, operations and answers with their texts, as worked scripts and the table of line kinds have them, read back
+// and printed again; and texts that are no lines.
+ghost use Rattle.std.specs.Prelude.{◌≡◌, ◌<◌, [], OnOk, Some, if◌then◌else◌};
 ghost use Rattle.std.specs.Str.{bytes_eq};
 ghost use Rattle.std.specs.BTreeMap.{get};
 ghost use Rattle.arj_journal.specs.Label.{name, label_cmp};
 
 use crate::{
-    Body, Cause, Difference, FrameKind, Kind, Label, Line, Part, Role, Which, answer_text,
-    line_text,
+    Body, Cause, Difference, Event, FrameKind, Kind, Label, Line, LineFault, Lines, Part, Role,
+    StepFault, Stepper, Which, answer_text, line_text, read_line,
 };
 use arj_base::{Binding, Bytes, End, Mode, Uid, entry_uid, object_uid};
 use arj_class::{Answer, Op};
@@ -402,7 +403,130 @@ fn has_text(alloc: Global, body: Body, want: &str) -> Result<bool, AllocError> {
     let line = Line { event: 20, body };
     let text = line_text(alloc, &line)?;
     let want = format!(in alloc; "20 {want}\n")?;
-    Ok(text.as_slice() == want.as_bytes())
+    Ok(text.as_slice() == want.as_bytes() && is_read_back(alloc, want.as_bytes())?)
+}
+
+// Whether the line that is read from the text has it.
+fn is_read_back(alloc: Global, text: &[u8]) -> Result<bool, AllocError> {
+    match read_line(alloc, text) {
+        Ok(line) => {
+            let again = line_text(alloc, &line)?;
+            Ok(line.event == 20 && again.as_slice() == text)
+        }
+        Err(_) => Ok(false),
+    }
+}
+
+const NOT_LINES: [&str; 40] = [
+    "",
+    "\n",
+    "20\n",
+    "20 got 1",
+    "20 got 1\n\n",
+    "20 got 01\n",
+    "020 got 1\n",
+    "4294967296 got 1\n",
+    " 20 got 1\n",
+    "20  got 1\n",
+    "20 got  1\n",
+    "20 got 1 \n",
+    "20 got1\n",
+    "20 got\n",
+    "20 got 4294967296\n",
+    "20 got +1\n",
+    "20 went 1\n",
+    "20 Got 1\n",
+    "20 halted 0\n",
+    "20 halted 17\n",
+    "20 sent 1 0 1 bind\n",
+    "20 sent 1 1 2 junk\n",
+    "20 refused 19\n",
+    "20 includes A 257 1\n",
+    "20 committing 1A\n",
+    "20 committing Abcdefghij0123456\n",
+    "20 began A top 1.1 -\n",
+    "20 began A top 1.1.1\n",
+    "20 changed A 2 bind 1 2\n",
+    "20 aborted A asked 1\n",
+    "20 aborted A lost\n",
+    "20 entry 1 2 1 2,2\n",
+    "20 entry 1 2 1 2,\n",
+    "20 copy 4 1 0 0.0.0 \n",
+    "20 copy 4 1 0 0.0.0 0\n",
+    "20 copy 4 1 0 0.0.0 0F\n",
+    "20 ok B 2 add 1 = 00ff\n",
+    "20 ok B 2 get 1 = -\n",
+    "20 ok B 2 get 12\n",
+    "20 quiet maybe\n",
+];
+
+#[test]
+fn other_texts_are_refused(rt: HostRuntime) -> Result<(), Fail> {
+    for text in NOT_LINES {
+        assert!(rt; is_refused(rt.alloc(), text), "{text}");
+    }
+    Ok(())
+}
+
+fn is_refused(alloc: Global, text: &str) -> bool {
+    matches!(read_line(alloc, text.as_bytes()), Err(LineFault::NotALine))
+}
+
+// A stepper that has met the limit of labels.
+#[derive(Drop)]
+struct Full {
+    journal: Lines,
+}
+
+impl Stepper for Full {
+    ghost events = { λ _. [] };
+
+    ghost journal = { λ s. s.journal };
+
+    ghost steps = { λ _. 0 };
+
+    fn step(&mut self, _event: &Event, out: &mut Lines) -> Result<(), StepFault> {
+        self.journal.push(labels_limit())?;
+        out.push(labels_limit())?;
+        Err(StepFault::Limit(Which::Labels))
+    }
+}
+
+fn labels_limit() -> Line
+    ensures { (result.event ≡ 3) × (result.body ≡ Body.Limit Which.Labels) }
+{
+    Line {
+        event: 3,
+        body: Body::Limit {
+            which: Which::Labels,
+        },
+    }
+}
+
+#[test]
+fn a_step_tells_the_limit(rt: HostRuntime) -> Result<(), Fail> {
+    let mut stepper = Full {
+        journal: Lines::new(rt.alloc()),
+    };
+    let mut out = Lines::new(rt.alloc());
+    assert!(rt; is_full(&mut stepper, &mut out));
+    let [line] = out.as_slice() else {
+        assert!(rt; false, "one line");
+        return Ok(());
+    };
+    let text = line_text(rt.alloc(), line)?;
+    assert!(rt; text.as_slice() == b"3 limit labels\n".as_slice());
+    Ok(())
+}
+
+// Whether a step meets the limit of labels.
+fn is_full<S: Stepper>(stepper: &mut S, out: &mut Lines) -> bool
+    requires { S.steps stepper.old < 200000 }
+{
+    matches!(
+        stepper.step(&Event::Settle, out),
+        Err(StepFault::Limit(Which::Labels))
+    )
 }
 
 // Labels as keys of a map.

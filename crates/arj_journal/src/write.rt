@@ -501,7 +501,7 @@ fn put_limit(out: &mut Bytes, which: Which) -> Result<(), AllocError>
 
 // The names of kinds, parts, roles and limits.
 
-fn kind_word(kind: Kind) -> &'static [u8]
+pub fn kind_word(kind: Kind) -> &'static [u8]
     ensures { result.now ≡ kind_text kind }
 {
     match kind {
@@ -513,7 +513,7 @@ fn kind_word(kind: Kind) -> &'static [u8]
     }
 }
 
-fn part_word(part: Part) -> &'static [u8]
+pub fn part_word(part: Part) -> &'static [u8]
     ensures { result.now ≡ part_text part }
 {
     match part {
@@ -522,7 +522,7 @@ fn part_word(part: Part) -> &'static [u8]
     }
 }
 
-fn role_word(role: Role) -> &'static [u8]
+pub fn role_word(role: Role) -> &'static [u8]
     ensures { result.now ≡ role_text role }
 {
     match role {
@@ -531,7 +531,7 @@ fn role_word(role: Role) -> &'static [u8]
     }
 }
 
-fn which_word(which: Which) -> &'static [u8]
+pub fn which_word(which: Which) -> &'static [u8]
     ensures { result.now ≡ which_text which }
 {
     match which {
@@ -547,7 +547,7 @@ fn quiet_line(yes: bool) -> &'static [u8]
     if yes { b"quiet yes" } else { b"quiet no" }
 }
 
-fn frame_word(kind: FrameKind) -> &'static [u8]
+pub fn frame_word(kind: FrameKind) -> &'static [u8]
     ensures { result.now ≡ frame_text kind }
 {
     match kind {

@@ -1,5 +1,5 @@
 -- What a stable sort does with items that belong behind all others.
-use Rattle.std.proofs.Common.{◌≡◌, ℕ, List, [], ◌∷◌, ◌++◌, Bool, true, false, cond, not, refl, sym, ◌∙◌, ap, subst, filter, arith}
+use Rattle.std.proofs.Common.{◌≡◌, List, [], ◌∷◌, ◌++◌, Bool, true, false, cond, not, refl, sym, ◌∙◌, ap, subst, filter}
 use Rattle.std.specs.List.{AllByRecursion}
 use Rattle.arj_model.specs.Serial.{insert, arrange}
 

@@ -1,11 +1,10 @@
 -- A journal with one line more.
-use Rattle.std.proofs.Common.{◌≡◌, ℕ, ◌+◌, List, [], ◌∷◌, ◌++◌, length, Bool, true, false, Option, Some, None, refl, sym, ◌∙◌, ap, subst, arith, filter, map}
-use Rattle.std.specs.List.{list_any, filter_map}
+use Rattle.std.proofs.Common.{◌≡◌, ℕ, ◌+◌, List, [], ◌∷◌, ◌++◌, length, Bool, Option, Some, None, refl, ◌∙◌, ap, arith}
 use Rattle.arj_base.specs.Rows.{Row}
 use Rattle.arj_journal.specs.declared.body.Body.{Body}
 use Rattle.arj_journal.specs.declared.body.Line.{Line}
-use Rattle.arj_model.specs.Actions.{Act, Placed, acts, acts_from, acts_after, read, put}
-use Rattle.arj_model.specs.Table.{table, table_from, table_step}
+use Rattle.arj_model.specs.Actions.{Act, Placed, acts_from, acts_after, read, put}
+use Rattle.arj_model.specs.Table.{table_from, table_step}
 use Rattle.arj_model.specs.Follows.{down_from, down_step, inc_from, inc_step}
 
 pub put-append : {A : Type 0} (n : ℕ) (o : Option A) (xs ys : List (Placed A)) → put n o (xs ++ ys) ≡ put n o xs ++ ys

@@ -29,7 +29,7 @@ use Rattle.arj_model.specs.Table.{table}
 use Rattle.arj_model.specs.Past.{Past, nothing_yet, asked_of, next, block, Along}
 use Rattle.arj_model.specs.Follows.{refusal, is_own, own_lines, may_stand, AnswersFit, Step, Accepted, AreEnding, Follows, Runs}
 use Rattle.arj_model.specs.Causes.{HasCauseConflict, Prompt}
-use Rattle.arj_model.proofs.Journals.{A, B, C, N, uid, counter, began, ok, lines_from, lines_of, one_node, three_nodes, smallest_bodies, conflict_bodies, smallest, conflict, nested_abort, older_image, independent, serializing, to_inclusion, exclusion, inclusion, stop_at_decision_done, unit_round_a_top, many_includes}
+use Rattle.arj_model.proofs.Journals.{A, B, C, N, uid, counter, began, ok, lines_of, one_node, three_nodes, smallest_bodies, conflict_bodies, smallest, conflict, nested_abort, older_image, independent, serializing, to_inclusion, exclusion, inclusion, stop_at_decision_done, unit_round_a_top, many_includes}
 
 -- What a journal shows: the numbers of the committed tops; of each action, the newest first, whether it is over; the
 -- places of the surviving calls of committed tops; their answers in serial order; and of object 1 the last state, the
@@ -244,7 +244,7 @@ raise_conflicts : Runs (HasCauseConflict (one_node 0)) raise_events (lines_of ra
 raise_conflicts = runs (HasCauseConflict (one_node 0)) raise_events raise [] (refl & refl & refl & refl & refl & refl & refl & refl & refl & tt) tt
 
 abbrev row : ℕ → Mode → Row
-row k m = record { object = object 1; holder = uid k ∷ []; mode = m }
+row k m = record { object = object 1; holder = uid k ∷ []; tops = 1; mode = m }
 
 -- the table after so many events
 abbrev tables : List (List Body) → List ℕ → List (List Row)

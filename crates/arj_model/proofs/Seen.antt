@@ -1,14 +1,10 @@
 -- What is read of a journal with one line more.
-use Rattle.std.proofs.Common.{◌≡◌, ℕ, ◌+◌, List, [], ◌∷◌, ◌++◌, length, Bool, true, false, Option, Some, None, refl, sym, ◌∙◌, ap, arith}
-use Rattle.arj_base.specs.declared.uid.Uid.{Uid}
-use Rattle.arj_base.specs.Rows.{Row}
+use Rattle.std.proofs.Common.{◌≡◌, ◌+◌, List, [], ◌∷◌, ◌++◌, length, false, Option, refl, ◌∙◌, ap, arith}
 use Rattle.arj_journal.specs.declared.body.Body.{Body}
 use Rattle.arj_journal.specs.declared.body.Line.{Line}
-use Rattle.arj_model.specs.Actions.{Act, Placed, Halt, acts, acts_from, acts_after, read, put, committed_of, ended_of, halt_of, recovered_of, committed, ended, halts, recovered}
-use Rattle.arj_model.specs.Calls.{Said, said_of, committing_of, said, committings}
-use Rattle.arj_model.specs.Table.{table, table_from, table_step}
-use Rattle.arj_model.specs.Follows.{down_from, down_step, is_down, inc_from, inc_step, incarnation}
-use Rattle.arj_model.specs.Seen.{Seen, seen, see}
+use Rattle.arj_model.specs.Actions.{Act, acts, read, put, committed_of, ended_of, halt_of, recovered_of}
+use Rattle.arj_model.specs.Calls.{said_of, committing_of}
+use Rattle.arj_model.specs.Seen.{seen, see}
 use Rattle.arj_model.proofs.Read.{read-append, acts-append, table-append, down-append, inc-append}
 
 length-more : (ls : List Line) (l : Line) → length (ls ++ l ∷ []) ≡ length ls + 1

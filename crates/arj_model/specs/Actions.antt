@@ -1,6 +1,6 @@
 -- The actions of a journal. A journal is read once, line by line, carrying the actions begun so far, the newest
 -- first; an action's number is the count of actions begun before it.
-use Rattle.std.specs.Prelude.{ℕ, ◌+◌, List, [], ◌∷◌, ◌++◌, length, map, Bool, true, false, ◌==◌, ◌&&◌, ◌||◌, nat_lt, if◌then◌else◌, Option, Some, None, is_some, find, filter}
+use Rattle.std.specs.Prelude.{ℕ, ◌+◌, List, [], ◌∷◌, ◌++◌, length, map, Bool, true, false, ◌==◌, ◌&&◌, ◌||◌, nat_lt, if◌then◌else◌, Option, Some, None, is_some, find}
 use Rattle.std.specs.List.{list_any}
 use Rattle.std.specs.Option.{option_map}
 use Rattle.std.specs.Str.{bytes_eq}
@@ -11,7 +11,6 @@ use Rattle.arj_journal.specs.declared.body.Body.TheVariants as body
 use Rattle.arj_journal.specs.declared.body.Kind.{Kind}
 use Rattle.arj_journal.specs.declared.body.Kind.TheVariants as kind
 use Rattle.arj_journal.specs.declared.body.Line.{Line}
-use Rattle.arj_journal.specs.declared.label.Label.{Label}
 use Rattle.arj_journal.specs.Label.{name}
 
 -- what a `began` line says
@@ -95,6 +94,11 @@ behind_first (a ∷ rest) = rest
 abbrev pub chain_in : List Act → List Act
 chain_in [] = []
 chain_in (a ∷ rest) = if is_serial a.kind then behind_first rest else rest
+
+-- how many leading actions of a path end with its top
+abbrev pub tops_in : List Act → ℕ
+tops_in (a ∷ b ∷ rest) = if is_serial a.kind then 2 else 1
+tops_in _ = 1
 
 -- the number of the root
 abbrev pub root_in : List Act → Option ℕ

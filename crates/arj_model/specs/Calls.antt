@@ -1,6 +1,6 @@
 -- The calls that were answered, and those of them that survive: made by a committed top, or below it by actions
 -- whose nested ends up to the top are all commits.
-use Rattle.std.specs.Prelude.{ℕ, List, [], ◌∷◌, map, filter, Bool, ◌&&◌, ◌==◌, Option, Some, None, if◌then◌else◌}
+use Rattle.std.specs.Prelude.{ℕ, List, [], map, filter, ◌&&◌, ◌==◌, Option, Some, None, if◌then◌else◌}
 use Rattle.std.specs.List.{list_all, filter_map}
 use Rattle.arj_base.specs.declared.uid.Uid.{Uid}
 use Rattle.arj_class.specs.declared.op.Op.{Op}
@@ -8,7 +8,7 @@ use Rattle.arj_journal.specs.declared.body.Body.{Body}
 use Rattle.arj_journal.specs.declared.body.Body.TheVariants as body
 use Rattle.arj_journal.specs.declared.body.Line.{Line}
 use Rattle.arj_journal.specs.Label.{name}
-use Rattle.arj_model.specs.Actions.{Act, Placed, read, path, top_in, chain_in, root_in, has_end, is_committed, committed, recovered, id_in}
+use Rattle.arj_model.specs.Actions.{Act, Placed, read, path, top_in, chain_in, root_in, has_end, is_committed, committed, recovered}
 
 -- what an `ok` line says, with the path of its action
 pub record Said : Type 0 where

@@ -1,8 +1,7 @@
 -- Why a line stands in a journal, and that every call and commit is answered in its own event.
-use Rattle.std.specs.Prelude.{◌≡◌, ℕ, ◌+◌, List, [], ◌∷◌, filter, length, Bool, true, false, ◌==◌, ◌||◌, nat_le, Option, Some, None, MatchOption, ⊤}
+use Rattle.std.specs.Prelude.{◌≡◌, ℕ, List, [], ◌∷◌, filter, length, Bool, true, false, ◌==◌, nat_le, Option, Some, None, MatchOption, ⊤}
 use Rattle.std.specs.List.{list_any}
 use Rattle.std.specs.Str.{bytes_eq}
-use Rattle.arj_base.specs.declared.uid.Uid.{Uid}
 use Rattle.arj_base.specs.Uid.{object}
 use Rattle.arj_base.specs.Rows.{Row, first_conflict, last_uid}
 use Rattle.arj_class.specs.declared.op.Op.{Op}
@@ -53,10 +52,11 @@ is_commit_end lines l (body.Committed m) = bytes_eq (name m) l
 is_commit_end lines l (body.Halted n) = is_node_of (act_in (acts lines) l) n
 is_commit_end lines l _ = false
 
--- an accepted call and an accepted commit are answered in their own event
+-- An accepted call is answered in its own event, and an accepted commit ends there, once: by `committed`, or in its
+-- place by the halt.
 abbrev pub IsAnswered : List Line → Event → List Body → Type 0
 IsAnswered lines (event.Call l x op) bodies = list_any (is_answer_to (name l)) bodies ≡ true
-IsAnswered lines (event.Commit l) bodies = list_any (is_commit_end lines (name l)) bodies ≡ true
+IsAnswered lines (event.Commit l) bodies = length (filter (is_commit_end lines (name l)) bodies) ≡ 1
 IsAnswered lines _ bodies = ⊤
 
 abbrev pub Prompt : Header → Past → Event → List Body → Type 0

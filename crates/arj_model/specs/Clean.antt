@@ -1,5 +1,5 @@
 -- What stands on the disks at the end of a journal.
-use Rattle.std.specs.Prelude.{◌≡◌, ◌⊎◌, ℕ, List, [], ◌∷◌, ◌++◌, filter, Bool, true, false, Option, if◌then◌else◌, Some, None}
+use Rattle.std.specs.Prelude.{◌≡◌, ◌⊎◌, ℕ, List, ◌++◌, filter, Bool, true, false, Option, if◌then◌else◌, Some, None}
 use Rattle.std.specs.List.{list_any, filter_map}
 use Rattle.arj_base.specs.declared.state.ObjectState.{ObjectState}
 use Rattle.arj_base.specs.State.{state_bytes}

@@ -1,8 +1,7 @@
 -- What it is for a journal to follow the events of a script: which events are refused and by which cause, which line
 -- is an accepted event's own, which lines may stand in it, and which lines answer what was asked.
-use Rattle.std.specs.Prelude.{◌≡◌, ◌⊎◌, ◌<◌, ℕ, ◌+◌, List, [], ◌∷◌, ◌++◌, length, map, filter, Bool, true, false, ◌==◌, ◌&&◌, ◌||◌, not, nat_lt, nat_le, if◌then◌else◌, Option, Some, None, is_some, is_none, MatchOption, ⊤}
+use Rattle.std.specs.Prelude.{◌≡◌, ℕ, ◌+◌, List, [], ◌∷◌, ◌++◌, length, filter, Bool, true, false, ◌==◌, ◌&&◌, not, nat_lt, nat_le, if◌then◌else◌, Option, Some, None, is_some, is_none, MatchOption, ⊤}
 use Rattle.std.specs.List.{list_any, list_all}
-use Rattle.std.specs.Option.{option_map}
 use Rattle.std.specs.Str.{bytes_eq}
 use Rattle.arj_base.specs.declared.uid.Uid.{Uid}
 use Rattle.arj_class.specs.declared.op.Op.{Op}
@@ -10,7 +9,6 @@ use Rattle.arj_class.specs.declared.op.Answer.{Answer}
 use Rattle.arj_class.specs.Table.{class_of, has_op}
 use Rattle.arj_journal.specs.declared.body.Body.{Body}
 use Rattle.arj_journal.specs.declared.body.Body.TheVariants as body
-use Rattle.arj_journal.specs.declared.body.Cause.{Cause}
 use Rattle.arj_journal.specs.declared.body.Cause.TheVariants as cause
 use Rattle.arj_journal.specs.declared.body.Kind.TheVariants as kind
 use Rattle.arj_journal.specs.declared.body.Line.{Line}
@@ -18,12 +16,11 @@ use Rattle.arj_journal.specs.declared.event.Event.{Event}
 use Rattle.arj_journal.specs.declared.event.Event.TheVariants as event
 use Rattle.arj_journal.specs.declared.header.Header.{Header}
 use Rattle.arj_journal.specs.declared.header.ObjectLine.{ObjectLine}
-use Rattle.arj_journal.specs.declared.label.Label.{Label}
 use Rattle.arj_journal.specs.Label.{name}
 use Rattle.arj_journal.specs.Words.{answer_text}
 use Rattle.arj_model.specs.Actions.{Act, acts, act_in, is_begun, is_over, root_in, path}
 use Rattle.arj_model.specs.Last.{object_line, is_among, insert_number}
-use Rattle.arj_model.specs.Past.{Past, Asked, asked_of, block, next, Along, nothing_yet}
+use Rattle.arj_model.specs.Past.{Past, Asked, asked_of, block, Along, nothing_yet}
 
 -- Nodes.
 

@@ -1,12 +1,11 @@
 -- What stands at the end of a journal: the last state of each object, the stores that are listed for it, and its
 -- naming entry.
-use Rattle.std.specs.Prelude.{◌≡◌, ℕ, ◌+◌, List, [], ◌∷◌, ◌++◌, length, map, filter, find, Bool, true, false, ◌==◌, ◌&&◌, not, nat_lt, if◌then◌else◌, Option, Some, None, unwrap_or}
+use Rattle.std.specs.Prelude.{ℕ, ◌+◌, List, [], ◌∷◌, ◌++◌, length, map, filter, find, Bool, true, false, ◌==◌, ◌&&◌, not, nat_lt, if◌then◌else◌, Option, Some, None}
 use Rattle.std.specs.List.{list_any, list_all, filter_map}
-use Rattle.std.specs.Option.{option_map}
 use Rattle.arj_base.specs.declared.uid.Uid.{Uid}
 use Rattle.arj_base.specs.declared.state.Class.TheVariants as class
 use Rattle.arj_base.specs.declared.state.ObjectState.{ObjectState}
-use Rattle.arj_base.specs.Uid.{object, entry, nobody, uid_eq}
+use Rattle.arj_base.specs.Uid.{object, entry, nobody}
 use Rattle.arj_class.specs.declared.value.Value.{Value}
 use Rattle.arj_class.specs.declared.value.Value.TheVariants.{Counter}
 use Rattle.arj_class.specs.Table.{class_of}
@@ -17,7 +16,7 @@ use Rattle.arj_journal.specs.declared.body.Line.{Line}
 use Rattle.arj_journal.specs.declared.header.Header.{Header}
 use Rattle.arj_journal.specs.declared.header.ObjectLine.{ObjectLine}
 use Rattle.arj_journal.specs.Label.{name}
-use Rattle.arj_model.specs.Actions.{Act, Placed, read, path, top_in, chain_in, has_end, is_committed, committed, recovered, acts}
+use Rattle.arj_model.specs.Actions.{Act, Placed, read, path, top_in, chain_in, has_end, committed, acts}
 use Rattle.arj_model.specs.Calls.{Call, Top, tops}
 use Rattle.arj_model.specs.Serial.{Values, run, serial_calls, writes_on, arrange, serial_key, lex}
 

@@ -1,7 +1,6 @@
 -- The serial order of surviving calls, and what it means that a journal is serial.
-use Rattle.std.specs.Prelude.{◌≡◌, ℕ, List, [], ◌∷◌, Bool, true, false, ◌==◌, ◌&&◌, nat_lt, max, if◌then◌else◌, Option, ⊤}
+use Rattle.std.specs.Prelude.{◌≡◌, ℕ, List, [], ◌∷◌, Bool, true, false, ◌==◌, ◌&&◌, nat_lt, max, if◌then◌else◌, ⊤}
 use Rattle.arj_class.specs.declared.value.Value.{Value}
-use Rattle.arj_class.specs.declared.op.Op.{Op}
 use Rattle.arj_class.specs.Table.{answer_of, value_after, writes}
 use Rattle.arj_journal.specs.declared.body.Line.{Line}
 use Rattle.arj_journal.specs.Words.{answer_text}

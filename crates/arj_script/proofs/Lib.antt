@@ -1,4 +1,4 @@
-pub mod Texts
 pub mod Lines
+pub mod Events
 pub mod Forms
 pub mod Places

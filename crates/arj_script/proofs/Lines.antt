@@ -1,11 +1,11 @@
 -- Lines one after another: splitting off the first, one byte more at the end, and one form more.
-use Rattle.std.proofs.Common.{◌≡◌, ℕ, List, [], ◌∷◌, ◌++◌, true, false, refl, sym, ◌∙◌, ap, subst, append_assoc}
+use Rattle.std.proofs.Common.{◌≡◌, ℕ, List, [], ◌∷◌, ◌++◌, true, false, refl, sym, ◌∙◌, ap, append_assoc}
 use Rattle.std.specs.Prelude.{◌==◌, if◌then◌else◌}
 use Rattle.std.specs.List.{list_any}
 use Rattle.std.proofs.lemmas.List.{append-nil}
 use Rattle.std.proofs.lemmas.Bool.{or_parts, cond-false}
-use Rattle.arj_script.specs.Grammar.{Form, Blank, Nodes, Object, Run, Asks, Place, next_place, HasForm}
-use Rattle.arj_script.specs.Input.{ended_from, rest_from, HaveForms, events_of}
+use Rattle.arj_script.specs.Grammar.{Form, Blank, Nodes, Object, Run, Asks}
+use Rattle.arj_script.specs.Input.{ended_from, rest_from, events_of}
 
 -- no byte of it is a line feed
 abbrev pub HasNoEnd : List ℕ → Type 0
@@ -53,13 +53,6 @@ rest_from-push front (a ∷ bytes) b =
     let on = rest_from-push (front ++ a ∷ []) bytes b in
     elim (a == 10) as (λ t. (if t then rest_from [] (bytes ++ b ∷ []) else rest_from (front ++ a ∷ []) (bytes ++ b ∷ [])) ≡ (if b == 10 then [] else (if t then rest_from [] bytes else rest_from (front ++ a ∷ []) bytes) ++ b ∷ []))
     [ true ↦ cut | false ↦ on ]
-
--- One line more.
-pub HaveForms-snoc : (p q : Place) (lines : List (List ℕ)) (forms : List Form) (line : List ℕ) (form : Form) → HaveForms p lines forms q → HasForm q line form → HaveForms p (lines ++ line ∷ []) (forms ++ form ∷ []) (next_place q form)
-HaveForms-snoc p q [] [] line form here has = (subst (λ r. HasForm r line form) (sym here) has, ap (λ r. next_place r form) here)
-HaveForms-snoc p q (l ∷ lines) (f ∷ forms) line form h has = (h.0, HaveForms-snoc (next_place p f) q lines forms line form h.1 has)
-HaveForms-snoc p q [] (f ∷ forms) line form h has = absurd h
-HaveForms-snoc p q (l ∷ lines) [] line form h has = absurd h
 
 -- the events of forms, one list after another
 pub events_of-append : (fs gs : List Form) → events_of (fs ++ gs) ≡ events_of fs ++ events_of gs

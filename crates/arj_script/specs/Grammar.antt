@@ -1,11 +1,7 @@
 -- The grammar of a script: which form a line may have at its place. A form is what a line says; the spelling of each
--- form stands in `arj_journal`.
-use Rattle.std.specs.Prelude.{◌≡◌, ◌<◌, ◌≤◌, ◌^◌, ℕ, List, [], ◌∷◌, length, codes, ⊤, Bool, true, false, ◌==◌, ◌&&◌, nat_lt, nat_le, if◌then◌else◌, not}
-use Rattle.std.specs.List.{list_any, list_all, AllByRecursion}
-use Rattle.arj_class.specs.declared.op.Op.{Op}
-use Rattle.arj_class.specs.declared.op.Op.TheVariants as op
-use Rattle.arj_class.specs.declared.value.Value.{Value}
-use Rattle.arj_class.specs.declared.value.Value.TheVariants as value
+-- form stands in `arj_journal`, and there too which fields are in form.
+use Rattle.std.specs.Prelude.{◌≡◌, ◌≤◌, ℕ, List, [], ◌∷◌, length, codes, ⊤, Bool, false, ◌==◌, nat_lt, if◌then◌else◌, Option, Some, None}
+use Rattle.std.specs.List.{list_any}
 use Rattle.arj_journal.specs.declared.event.Event.{Event}
 use Rattle.arj_journal.specs.declared.event.Event.TheVariants as event
 use Rattle.arj_journal.specs.declared.event.FrameNo.{FrameNo}
@@ -13,6 +9,7 @@ use Rattle.arj_journal.specs.declared.event.FrameNo.TheVariants as frame_no
 use Rattle.arj_journal.specs.declared.header.ObjectLine.{ObjectLine}
 use Rattle.arj_journal.specs.declared.event.StopKind.{StopKind}
 use Rattle.arj_journal.specs.declared.event.StopKind.TheVariants as stop_kind
+use Rattle.arj_journal.specs.Fields.{AreBytes, NodesInForm, ObjectInForm, OpHasForm, ValueHasForm, WordInForm}
 use Rattle.arj_journal.specs.Label.{LabelInForm}
 use Rattle.arj_journal.specs.ScriptText.{event_text, object_text, nodes_text}
 
@@ -41,69 +38,25 @@ next_place (Objects n os) (Object o) = Objects n (insert_object o os)
 next_place (Objects n os) Run = Running
 next_place place _ = place
 
--- a list of distinct nodes from 1 to n, between 1 and most of them
-abbrev pub is_distinct : List ℕ → Bool
-is_distinct [] = true
-is_distinct (n ∷ ns) = not (list_any (λ m. m == n) ns) && is_distinct ns
-
-abbrev pub are_nodes : ℕ → ℕ → List ℕ → Bool
-are_nodes n most ns =
-    (nat_le 1 (length ns) && nat_le (length ns) most) && (list_all (λ m. nat_le 1 m && nat_le m n) ns && is_distinct ns)
-
--- numbers of 64 bits
-abbrev pub NumberInForm : ℕ → Type 0
-NumberInForm n = n < 2 ^ 64
-
--- the numbers of an operation have 64 bits, and a put at most 64 bytes
-abbrev pub OpHasForm : Op → Type 0
-OpHasForm (op.Add n) = NumberInForm n
-OpHasForm (op.Set n) = NumberInForm n
-OpHasForm (op.Put bytes) = (length bytes ≤ 64) × AllByRecursion (λ b. b < 256) bytes
-OpHasForm (op.Deposit n) = NumberInForm n
-OpHasForm (op.Withdraw n) = NumberInForm n
-OpHasForm (op.Push n) = NumberInForm n
-OpHasForm (op.GetKey k) = NumberInForm k
-OpHasForm (op.PutPair k v) = NumberInForm k × NumberInForm v
-OpHasForm (op.Remove k) = NumberInForm k
-OpHasForm _ = ⊤
-
--- a key and a value, and keys strictly increasing
-abbrev pub PairHasForm : ℕ × ℕ → Type 0
-PairHasForm p = NumberInForm p.0 × NumberInForm p.1
-
-abbrev pub is_rising : List (ℕ × ℕ) → Bool
-is_rising [] = true
-is_rising (p ∷ []) = true
-is_rising (p ∷ q ∷ ps) = nat_lt p.0 q.0 && is_rising (q ∷ ps)
-
--- a first value within the limits of its class
-abbrev pub ValueHasForm : Value → Type 0
-ValueHasForm (value.Counter n) = NumberInForm n
-ValueHasForm (value.Register bytes) = (length bytes ≤ 64) × AllByRecursion (λ b. b < 256) bytes
-ValueHasForm (value.Account n) = NumberInForm n
-ValueHasForm (value.Queue ns) = (length ns ≤ 32) × AllByRecursion NumberInForm ns
-ValueHasForm (value.Table ps) = (length ps ≤ 16) × AllByRecursion PairHasForm ps × (is_rising ps ≡ true)
+-- the count of nodes, in a header
+abbrev pub nodes_at : Place → Option ℕ
+nodes_at (Objects n os) = Some n
+nodes_at _ = None
 
 -- the object's number, value, servers and stores are in form, among that many nodes
 pub record ObjectHasForm (nodes : ℕ) (o : ObjectLine) : Type 0 where
   pub number : (1 ≤ o.x) × (o.x ≤ 256)
   pub value : ValueHasForm o.value
-  pub servers : are_nodes nodes 8 o.servers ≡ true
-  pub stores : are_nodes nodes 16 o.stores ≡ true
+  pub servers : NodesInForm nodes 8 o.servers
+  pub stores : NodesInForm nodes 16 o.stores
 
 -- a node or a frame in an event is any number of 32 bits, an object any of 16
-abbrev pub WordInForm : ℕ → Type 0
-WordInForm n = n < 2 ^ 32
-
-abbrev pub ObjectInForm : ℕ → Type 0
-ObjectInForm x = x < 2 ^ 16
-
 abbrev pub FrameNoHasForm : FrameNo → Type 0
 FrameNoHasForm (frame_no.Number k) = WordInForm k
 FrameNoHasForm frame_no.Last = ⊤
 
 abbrev pub StopKindHasForm : StopKind → Type 0
-StopKindHasForm (stop_kind.Torn bytes) = AllByRecursion (λ b. b < 256) bytes
+StopKindHasForm (stop_kind.Torn bytes) = AreBytes bytes
 StopKindHasForm _ = ⊤
 
 abbrev pub EventHasForm : Event → Type 0
@@ -124,7 +77,7 @@ EventHasForm event.Quiesce = ⊤
 EventHasForm (event.Crash n) = WordInForm n
 EventHasForm (event.Restart n) = WordInForm n
 EventHasForm (event.Stop n calls kind) = WordInForm n × ((1 ≤ calls) × (calls ≤ 1000000)) × StopKindHasForm kind
-EventHasForm (event.Junk n bytes) = WordInForm n × AllByRecursion (λ b. b < 256) bytes
+EventHasForm (event.Junk n bytes) = WordInForm n × AreBytes bytes
 EventHasForm (event.Show x) = ObjectInForm x
 
 -- some object of the list has the number
@@ -139,31 +92,6 @@ Fits (Objects n os) (Object o) = ObjectHasForm n o × (has_object o.x os ≡ fal
 Fits (Objects n os) Run = ⊤
 Fits Running (Asks e) = EventHasForm e
 Fits _ _ = ⊥
-
--- the operations of a counter
-abbrev pub is_built_op : Op → Bool
-is_built_op op.Get = true
-is_built_op (op.Add n) = true
-is_built_op (op.Set n) = true
-is_built_op _ = false
-
--- What runs today: one node, counters, and four kinds of event. Any other form is a bad line for now.
-abbrev pub is_built_event : Event → Bool
-is_built_event (event.Begin l n) = true
-is_built_event (event.Call l x op) = is_built_op op
-is_built_event (event.Commit l) = true
-is_built_event (event.Abort l) = true
-is_built_event _ = false
-
-abbrev pub is_built_value : Value → Bool
-is_built_value (value.Counter n) = true
-is_built_value _ = false
-
-abbrev pub is_built : Form → Bool
-is_built (Nodes n) = n == 1
-is_built (Object o) = is_built_value o.value
-is_built (Asks e) = is_built_event e
-is_built _ = true
 
 -- a comment begins with `#`
 abbrev pub IsBlank : List ℕ → Type 0
@@ -182,7 +110,6 @@ Spells bytes (Asks e) = bytes ≡ event_text e
 pub record HasForm (place : Place) (bytes : List ℕ) (form : Form) : Type 0 where
   pub short : length bytes ≤ 200
   pub fits : Fits place form
-  pub built : is_built form ≡ true
   pub spells : Spells bytes form
 
 -- the line isn't in the grammar at this place

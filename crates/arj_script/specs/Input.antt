@@ -4,7 +4,7 @@ use Rattle.std.specs.List.{list_any}
 use Rattle.arj_journal.specs.declared.event.Event.{Event}
 use Rattle.arj_script.specs.declared.reader.Item.{Item}
 use Rattle.arj_script.specs.declared.reader.Item.TheVariants as item
-use Rattle.arj_script.specs.Grammar.{Form, Blank, Nodes, Object, Run, Asks, Place, Objects, next_place, HasForm}
+use Rattle.arj_script.specs.Grammar.{Form, Blank, Nodes, Object, Run, Asks, Place, Objects}
 
 -- Lines that a line feed ends; what stands behind the last line feed. `front` is what has come of the line in hand.
 abbrev pub ended_from : List ℕ → List ℕ → List (List ℕ)
@@ -45,13 +45,6 @@ last_line AtLimit line = if is_too_long line then line ∷ [] else []
 -- the lines that are there to be run
 abbrev pub lines_of : Stopped → List ℕ → List (List ℕ)
 lines_of stopped bytes = ended_lines bytes ++ last_line stopped (rest_line bytes)
-
--- The lines have these forms, one after another, from a place to a place.
-abbrev pub HaveForms : Place → List (List ℕ) → List Form → Place → Type 0
-HaveForms place [] [] end = place ≡ end
-HaveForms place (line ∷ lines) (form ∷ forms) end = HasForm place line form × HaveForms (next_place place form) lines forms end
-HaveForms place [] (form ∷ forms) end = ⊥
-HaveForms place (line ∷ lines) [] end = ⊥
 
 -- the events among the forms
 abbrev pub events_of : List Form → List Event

@@ -1,4 +1,4 @@
-pub mod Fields
+pub mod Events
 pub mod Grammar
 pub mod Input
 pub mod Stage

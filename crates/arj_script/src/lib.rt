@@ -1,16 +1,20 @@
 //! Scripts, line by line.
 //!
-//! It stands on `arj_journal`, whose `ScriptText` spells each form. What it gives upward: `Reader::line` accepts a
-//! line exactly where it has a form of the grammar at its place (`specs/Grammar.antt`), and otherwise says so and
-//! stays as it was. A reader is seen as the place where it stands. `specs/Input.antt` says what the lines
-//! of a source's bytes are, and `proofs/Lines.antt` how they grow.
+//! It stands on `arj_journal`, which reads the fields of a line and spells each form. What it gives upward:
+//! `Reader::line` takes a line exactly where it has a form of the grammar at its place (`specs/Grammar.antt`), tells what
+//! it says, and otherwise answers that it is bad and stays as it was. A reader is seen as the place where it stands.
+//! `specs/Input.antt` says what the lines of a source's bytes are, and `proofs/Lines.antt` how they grow.
+//! `specs/Built.antt` names the forms that the program runs today.
 #![tactic(auto)]
 
+mod event;
+mod event_part;
 mod fault;
-mod field;
 mod form;
 mod place;
 mod reader;
+#[cfg(test)]
+mod scripts;
 mod stage;
 #[cfg(test)]
 mod tests;

@@ -1,18 +1,15 @@
 // What a line says at its place.
-ghost use Rattle.std.specs.Prelude.{◌≡◌, ◌≢◌, ◌≤◌, false, length, IfOk, OnOk, OnErr, IsErrOf, MatchBool, insert};
-ghost use Rattle.arj_journal.specs.ScriptText.{event_text, nodes_text};
-ghost use Rattle.arj_script.specs.Fields.{IsBuiltEvent, DeclaredInForm, declared_text};
-ghost use Rattle.arj_script.specs.Grammar.{IsBlank, has_object, insert_object};
-ghost use Rattle.arj_script.specs.Stage.{object_line, object_lines};
+ghost use Rattle.std.specs.Prelude.{◌≡◌, ◌≢◌, ◌≤◌, ℕ, false, length, IfOk, OnOk, OnErr, IsErrOf, MatchBool, insert};
+ghost use Rattle.arj_journal.specs.Fields.{IsWithin};
+ghost use Rattle.arj_journal.specs.ScriptText.{event_text, nodes_text, object_text};
 ghost use Rattle.arj_journal.specs.declared.event.Event.{Event};
+ghost use Rattle.arj_journal.specs.declared.header.ObjectLine.{ObjectLine};
+ghost use Rattle.arj_script.specs.Grammar.{EventHasForm, IsBlank, ObjectHasForm, has_object, insert_object};
 ghost use Rattle.arj_script.specs.declared.fault.ScriptFault.TheVariants as script_fault;
-ghost use Rattle.arj_script.specs.declared.stage.Declared.{Declared};
 
 use crate::ScriptFault;
-use crate::form::{event, nodes, object};
-use crate::stage::Declared;
-use arj_base::NodeList;
-use arj_class::{Counter, Value};
+use crate::event::event;
+use crate::form::{nodes_line, object};
 use arj_journal::{Event, Header, ObjectLine, ObjectLines};
 use std::alloc::{AllocError, Global};
 
@@ -26,51 +23,47 @@ pub fn is_blank(bytes: &[u8]) -> bool
     }
 }
 
-/// The first line that says something: there is one node.
-pub fn first_line(alloc: Global, bytes: &[u8]) -> Result<(), ScriptFault>
-    ensures ok { OnOk result (bytes.now ≡ nodes_text 1) }
-    ensures bad { IsErrOf result script_fault.Bad → bytes.now ≢ nodes_text 1 }
+/// The first line that says something: how many nodes there are.
+pub fn first_line(alloc: Global, bytes: &[u8]) -> Result<u8, ScriptFault>
+    ensures ok { IfOk result (λ n. IsWithin 1 16 n × (bytes.now ≡ nodes_text n)) }
+    ensures bad { IsErrOf result script_fault.Bad → (n : ℕ) → IsWithin 1 16 n → bytes.now ≢ nodes_text n }
 {
-    let Some(n) = nodes(alloc, bytes)? else {
-        return Err(ScriptFault::Bad);
-    };
-    if n == 1 {
-        Ok(())
-    } else {
-        Err(ScriptFault::Bad)
+    match nodes_line(alloc, bytes)? {
+        Some(n) => Ok(n as u8),
+        None => Err(ScriptFault::Bad),
     }
 }
 
 /// An object line: the object goes among those before it, which have other numbers.
 pub fn object_line(
     alloc: Global,
-    declared: &mut Vec<Declared>,
+    nodes: u8,
+    objects: &mut Vec<ObjectLine>,
     bytes: &[u8],
 ) -> Result<(), ScriptFault>
-    ensures ok { OnOk result ((d : Declared) × DeclaredInForm d × (bytes.now ≡ declared_text d)
-        × (has_object d.x (object_lines declared.old.items) ≡ false)
-        × (object_lines declared.new.items
-        ≡ insert_object (object_line d) (object_lines declared.old.items))) }
-    ensures bad { IsErrOf result script_fault.Bad → (d : Declared) → DeclaredInForm d
-        → has_object d.x (object_lines declared.old.items) ≡ false → bytes.now ≢ declared_text d }
-    ensures err { OnErr result (declared.new.items ≡ declared.old.items) }
+    ensures ok { OnOk result ((o : ObjectLine) × ObjectHasForm nodes o × (bytes.now ≡ object_text o)
+        × (has_object o.x objects.old.items ≡ false)
+        × (objects.new.items ≡ insert_object o objects.old.items)) }
+    ensures bad { IsErrOf result script_fault.Bad → (o : ObjectLine) → ObjectHasForm nodes o
+        → has_object o.x objects.old.items ≡ false → bytes.now ≢ object_text o }
+    ensures err { OnErr result (objects.new.items ≡ objects.old.items) }
 {
-    let Some(new) = object(alloc, bytes)? else {
+    let Some(new) = object(alloc, bytes, nodes)? else {
         return Err(ScriptFault::Bad);
     };
-    if has_number(declared, new.x) {
+    if has_number(objects, new.x) {
         return Err(ScriptFault::Bad);
     }
-    let at = place_among(declared, new.x);
-    declared.insert(at, new)?;
+    let at = place_among(objects, new.x);
+    objects.insert(at, new)?;
     Ok(())
 }
 
-// Whether an object of this number was declared.
-fn has_number(declared: &[Declared], x: u16) -> bool
-    ensures { result ≡ has_object x (object_lines declared.now) }
+// Whether an object has this number.
+fn has_number(objects: &[ObjectLine], x: u16) -> bool
+    ensures { result ≡ has_object x objects.now }
 {
-    for other in declared {
+    for other in objects {
         if other.x == x {
             return true;
         }
@@ -79,53 +72,50 @@ fn has_number(declared: &[Declared], x: u16) -> bool
 }
 
 // Where an object of this number belongs among the others.
-fn place_among(declared: &[Declared], x: u16) -> usize
-    ensures within { result ≤ length declared.now }
-    ensures place { (d : Declared) → d.x ≡ x
-        → object_lines (insert declared.now result d)
-        ≡ insert_object (object_line d) (object_lines declared.now) }
+fn place_among(objects: &[ObjectLine], x: u16) -> usize
+    ensures within { result ≤ length objects.now }
+    ensures place { (o : ObjectLine) → o.x ≡ x → insert objects.now result o ≡ insert_object o objects.now }
 {
-    for (at, other) in declared.iter().enumerate() {
+    for (at, other) in objects.iter().enumerate() {
         if x < other.x {
             return at;
         }
     }
-    declared.len()
+    objects.len()
 }
 
 /// The header with these objects.
-pub fn header_of(alloc: Global, declared: &[Declared]) -> Result<Header, AllocError>
+pub fn header_of(alloc: Global, nodes: u8, objects: &[ObjectLine]) -> Result<Header, AllocError>
     ensures { IfOk result
-        (λ header. (header.nodes ≡ 1) × (header.objects ≡ object_lines declared.now)) }
+        (λ header. (header.nodes ≡ nodes) × (header.objects ≡ objects.now)) }
 {
-    let mut objects = ObjectLines::new(alloc);
-    for object in declared {
-        objects.push(counter_line(alloc, *object)?)?;
+    let mut copies = ObjectLines::new(alloc);
+    for object in objects {
+        copies.push(copy_of(alloc, object)?)?;
     }
-    Ok(Header { nodes: 1, objects })
+    Ok(Header {
+        nodes,
+        objects: copies,
+    })
 }
 
-// An object of a header.
-fn counter_line(alloc: Global, object: Declared) -> Result<ObjectLine, AllocError>
-    ensures { IfOk result (λ line. line ≡ object_line object) }
+// Another object line that says the same.
+fn copy_of(alloc: Global, object: &ObjectLine) -> Result<ObjectLine, AllocError>
+    ensures { IfOk result (λ copied. copied ≡ object.now) }
 {
-    let mut servers = NodeList::new(alloc);
-    servers.push(1)?;
-    let mut stores = NodeList::new(alloc);
-    stores.push(1)?;
     Ok(ObjectLine {
         x: object.x,
-        value: Value::Counter(Counter::new(object.number)),
-        servers,
-        stores,
+        value: object.value.copy(alloc)?,
+        servers: object.servers.copy()?,
+        stores: object.stores.copy()?,
     })
 }
 
 /// An event line.
 pub fn event_line(alloc: Global, bytes: &[u8]) -> Result<Event, ScriptFault>
-    ensures ok { IfOk result (λ e. IsBuiltEvent e × (bytes.now ≡ event_text e)) }
+    ensures ok { IfOk result (λ e. EventHasForm e × (bytes.now ≡ event_text e)) }
     ensures bad { IsErrOf result script_fault.Bad
-        → (e : Event) → IsBuiltEvent e → bytes.now ≢ event_text e }
+        → (e : Event) → EventHasForm e → bytes.now ≢ event_text e }
 {
     match event(alloc, bytes)? {
         Some(event) => Ok(event),

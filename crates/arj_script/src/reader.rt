@@ -1,8 +1,8 @@
 // The reader of a script.
 use crate::ScriptFault;
-use crate::field::is_text;
 use crate::place::{event_line, first_line, header_of, is_blank, object_line};
 use crate::stage::Stage;
+use arj_journal::field::is_text;
 use arj_journal::{Event, Header};
 use std::alloc::Global;
 use std::marker::Model;
@@ -37,7 +37,7 @@ impl Model for Reader {
 
 impl Reader {
     ghost use Rattle.std.specs.Prelude.{◌≡◌, IfOk, OnErr, IsErrOf};
-    ghost use Rattle.arj_script.specs.Grammar.{Form, Start, next_place, HasForm, IsBadLine};
+    ghost use Rattle.arj_script.specs.Grammar.{Form, Start, next_place, nodes_at, HasForm, IsBadLine};
     ghost use Rattle.arj_script.specs.Input.{Tells};
     ghost use Rattle.arj_script.specs.declared.fault.ScriptFault.TheVariants as script_fault;
 
@@ -48,6 +48,16 @@ impl Reader {
         Reader {
             alloc,
             stage: Stage::Start,
+        }
+    }
+
+    /// The count of nodes, from the line `nodes` on until `run`.
+    pub fn nodes(&self) -> Option<u8>
+        ensures { result ≡ nodes_at self.now }
+    {
+        match &self.stage {
+            Stage::Objects { nodes, .. } => Some(*nodes),
+            Stage::Start | Stage::Running => None,
         }
     }
 
@@ -68,17 +78,18 @@ impl Reader {
         }
         match &mut self.stage {
             Stage::Start => {
-                first_line(self.alloc, bytes)?;
-                self.stage = Stage::Objects(Vec::new(self.alloc));
+                let nodes = first_line(self.alloc, bytes)?;
+                let objects = Vec::new(self.alloc);
+                self.stage = Stage::Objects { nodes, objects };
                 Ok(Item::Part)
             }
-            Stage::Objects(declared) => {
+            Stage::Objects { nodes, objects } => {
                 if is_text(bytes, b"run") {
-                    let header = header_of(self.alloc, declared)?;
+                    let header = header_of(self.alloc, *nodes, objects)?;
                     self.stage = Stage::Running;
                     return Ok(Item::Run(header));
                 }
-                object_line(self.alloc, declared, bytes)?;
+                object_line(self.alloc, *nodes, objects, bytes)?;
                 Ok(Item::Part)
             }
             Stage::Running => {

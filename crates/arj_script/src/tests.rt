@@ -1,8 +1,10 @@
 // Which lines are taken where, and what is told of them.
 
+use crate::scripts::SCRIPTS;
 use crate::{Item, Reader, ScriptFault};
-use arj_class::Op;
-use arj_journal::{Event, Header};
+use arj_base::Bytes;
+use arj_class::Value;
+use arj_journal::{ObjectLine, put_event, put_nodes};
 use std::alloc::Global;
 use std::test::Fail;
 
@@ -22,7 +24,7 @@ fn told(outcome: Result<Item, ScriptFault>) -> &'static str {
 fn reader_behind(alloc: Global, count: usize) -> Result<Reader, ScriptFault> {
     let mut reader = Reader::new(alloc);
     if count > 0 {
-        reader.line(b"nodes 1")?;
+        reader.line(b"nodes 4")?;
     }
     if count > 1 {
         reader.line(b"object 3 counter 0 servers 1 stores 1")?;
@@ -39,10 +41,13 @@ const LINES: &str = "\
 0|# a comment|blank
 0| # no comment|bad
 0|nodes 1|part
-0|nodes 2|bad
+0|nodes 16|part
+0|nodes 0|bad
+0|nodes 17|bad
 0|nodes 01|bad
 0|nodes 1 |bad
 0|nodes|bad
+0|format 1|bad
 0|run|bad
 0|begin A at 1|bad
 1|nodes 1|bad
@@ -50,16 +55,39 @@ const LINES: &str = "\
 1|begin A at 1|bad
 2|object 4 counter 18446744073709551615 servers 1 stores 1|part
 2|object 4 counter 18446744073709551616 servers 1 stores 1|bad
-2|object 1 counter 0 servers 1 stores 1|part
-2|object 256 counter 0 servers 1 stores 1|part
+2|object 1 account 0 servers 1 stores 1|part
+2|object 256 account 7 servers 4,1,3 stores 2,3|part
 2|object 0 counter 0 servers 1 stores 1|bad
 2|object 257 counter 0 servers 1 stores 1|bad
-2|object 3 counter 5 servers 1 stores 1|bad
-2|object 4 counter 0 servers 1 stores 2|bad
+2|object 3 register - servers 1 stores 1|bad
+2|object 4 counter 0 servers 5 stores 1|bad
+2|object 4 counter 0 servers 0 stores 1|bad
 2|object 4 counter 0 servers 1,1 stores 1|bad
-2|object 4 account 0 servers 1 stores 1|bad
+2|object 4 counter 0 servers 1, stores 1|bad
+2|object 4 counter 0 servers ,1 stores 1|bad
+2|object 4 counter 0 servers  stores 1|bad
+2|object 4 counter 0 servers 1 stores |bad
+2|object 4 counter 0 servers 1 stores 1,2,3,4|part
+2|object 4 counter 0 stores 1 servers 1|bad
 2|object 4 counter -1 servers 1 stores 1|bad
+2|object 4 counter - servers 1 stores 1|bad
 2|object 4  counter 0 servers 1 stores 1|bad
+2|object 4 entry 0 servers 1 stores 1|bad
+2|object 4 register 00ff servers 1 stores 1|part
+2|object 4 register 00FF servers 1 stores 1|bad
+2|object 4 register 00f servers 1 stores 1|bad
+2|object 4 register  servers 1 stores 1|bad
+2|object 4 queue - servers 1 stores 1|part
+2|object 4 queue 3,1,3 servers 1 stores 1|part
+2|object 4 queue 3,01 servers 1 stores 1|bad
+2|object 4 queue 0,1,2,3,4,5,6,7,8,9,0,1,2,3,4,5,6,7,8,9,0,1,2,3,4,5,6,7,8,9,0,1 servers 1 stores 1|part
+2|object 4 queue 0,1,2,3,4,5,6,7,8,9,0,1,2,3,4,5,6,7,8,9,0,1,2,3,4,5,6,7,8,9,0,1,2 servers 1 stores 1|bad
+2|object 4 table - servers 1 stores 1|part
+2|object 4 table 1:5,2:5 servers 1 stores 1|part
+2|object 4 table 2:5,1:5 servers 1 stores 1|bad
+2|object 4 table 1:5,1:6 servers 1 stores 1|bad
+2|object 4 table 1:5:6 servers 1 stores 1|bad
+2|object 4 table 1 servers 1 stores 1|bad
 2| run|bad
 2|run|run
 3||blank
@@ -75,31 +103,76 @@ const LINES: &str = "\
 3| begin A at 1|bad
 3|begin A at|bad
 3|begin A|bad
-3|begin A in B|bad
+3|begin A in B|event
+3|begin A in 1|bad
 3|Begin A at 1|bad
 3|begin abcdefgh12345678 at 1|event
 3|begin abcdefgh123456789 at 1|bad
 3|begin 1A at 1|bad
 3|begin A_B at 1|bad
 3|begin  at 1|bad
+3|top A in B|event
+3|top A at 1|bad
+3|serial A at 1|event
+3|serial A in B|bad
 3|call A 1 get|event
 3|call A 65535 add 18446744073709551615|event
 3|call A 65536 add 1|bad
 3|call A 0 set 0|event
 3|call A 1 add 18446744073709551616|bad
 3|call A 1 add|bad
-3|call A 1 get 1|bad
-3|call A 1 pop|bad
+3|call A 1 get 1|event
+3|call A 1 get 1 2|bad
+3|call A 1 pop|event
+3|call A 1 len|event
+3|call A 1 push 3|event
+3|call A 1 push|bad
+3|call A 1 deposit 3|event
+3|call A 1 withdraw 3|event
+3|call A 1 remove 3|event
+3|call A 1 put -|event
+3|call A 1 put |bad
+3|call A 1 put 12|event
+3|call A 1 put 1|bad
+3|call A 1 put 1 2|event
+3|call A 1 put 12 345|event
+3|call A 1 put 1 2 3|bad
 3|call A get|bad
+3|include A 1 2|event
+3|include A 1|bad
 3|commit Z9|event
 3|commit|bad
 3|commit |bad
 3|commit A B|bad
 3|abort a|event
 3|abort a |bad
+3|giveup a|event
+3|deliver 0|event
+3|deliver last|event
+3|deliver 4294967296|bad
+3|lose last|event
+3|lose first|bad
+3|tick 1|event
+3|settle|event
+3|settle |bad
+3|quiesce|event
+3|crash 1|event
+3|restart 70000|event
+3|stop 1 1 none|event
+3|stop 1 0 none|bad
+3|stop 1 1000000 done|event
+3|stop 1 1000001 done|bad
+3|stop 1 1 torn 41524a|event
+3|stop 1 1 torn -|event
+3|stop 1 1 torn|bad
+3|stop 1 1 torn |bad
+3|junk 1 ff|event
+3|junk 1 -|event
+3|junk 1|bad
+3|show 1|event
+3|show 65536|bad
 3|run|bad
 3|nodes 1|bad
-3|settle|bad
 ";
 
 // A row of the table, taken apart.
@@ -129,42 +202,104 @@ fn a_line_has_at_most_200_bytes(rt: HostRuntime) -> Result<(), Fail> {
     Ok(())
 }
 
-// The numbers of a header's objects.
-fn numbers(header: &Header) -> Option<(u16, u16, u16)> {
-    match header.objects.as_slice() {
-        [first, second, third] => Some((first.x, second.x, third.x)),
-        _ => None,
+// What was read of a line, printed; nothing for an object and for the end of a header.
+fn printed(alloc: Global, item: Item) -> Result<Bytes, Fail> {
+    let mut text = Bytes::new(alloc);
+    match item {
+        Item::Event(event) => put_event(&mut text, &event)?,
+        Item::Run(header) => put_nodes(&mut text, header.nodes)?,
+        Item::Blank | Item::Part => {}
     }
+    Ok(text)
+}
+
+// What a line is printed as: nothing for a part of the header, the number of nodes for its end.
+fn wanted<'a>(line: &'a [u8], nodes: &'a [u8]) -> &'a [u8] {
+    if line == b"run".as_slice() {
+        return nodes;
+    }
+    for front in [b"nodes ".as_slice(), b"object ".as_slice(), b"#".as_slice()] {
+        if line.starts_with(front) {
+            return b"";
+        }
+    }
+    line
 }
 
 #[test]
-fn what_is_told_of_a_script(rt: HostRuntime) -> Result<(), Fail> {
+fn scripts_are_read_and_printed(rt: HostRuntime) -> Result<(), Fail> {
+    let mut reader = Reader::new(rt.alloc());
+    let mut nodes = b"".as_slice();
+    for row in SCRIPTS.lines() {
+        let line = row.as_bytes();
+        if line.starts_with(b"== ") {
+            reader = Reader::new(rt.alloc());
+            continue;
+        }
+        if line.starts_with(b"nodes ") {
+            nodes = line;
+        }
+        let item = reader.line(line)?;
+        let text = printed(rt.alloc(), item)?;
+        assert_eq!(rt; text.as_slice(), wanted(line, nodes), "{row}");
+    }
+    Ok(())
+}
+
+// Whether the object has this number and these nodes, and its value this payload.
+fn is_object(
+    alloc: Global,
+    object: &ObjectLine,
+    x: u16,
+    nodes: (&[u8], &[u8]),
+    payload: &[u8],
+) -> Result<bool, Fail> {
+    let saved = object.value.save_state(alloc)?;
+    let (servers, stores) = nodes;
+    Ok(
+        object.x == x
+            && object.servers.as_slice() == servers
+            && object.stores.as_slice() == stores
+            && saved.as_slice() == payload,
+    )
+}
+
+#[test]
+fn a_header_has_its_objects_in_order(rt: HostRuntime) -> Result<(), Fail> {
     let mut reader = reader_behind(rt.alloc(), 2)?;
-    assert_eq!(rt;
-        told(reader.line(b"object 9 counter 1 servers 1 stores 1")),
-        "part"
-    );
-    assert_eq!(rt;
-        told(reader.line(b"object 4 counter 2 servers 1 stores 1")),
-        "part"
-    );
+    reader.line(b"object 9 account 258 servers 4,1 stores 2,3,1")?;
+    reader.line(b"object 4 table 1:2 servers 1 stores 1")?;
+    reader.line(b"object 2 queue 5 servers 2 stores 4")?;
+    reader.line(b"object 7 register 00ff servers 3 stores 3")?;
     let Item::Run(header) = reader.line(b"run")? else {
         return Err(Fail::from("no header"));
     };
-    assert_eq!(rt; header.nodes, 1);
-    assert_eq!(rt; numbers(&header), Some((3, 4, 9)));
-    let Item::Event(Event::Begin { label, node }) = reader.line(b"begin A at 7")? else {
-        return Err(Fail::from("no begin"));
+    assert_eq!(rt; header.nodes, 4);
+    let [second, third, fourth, seventh, ninth] = header.objects.as_slice() else {
+        return Err(Fail::from("not five objects"));
     };
-    assert_eq!(rt; (label.as_bytes(), node), (b"A".as_slice(), 7));
-    let Item::Event(Event::Call { label, x, op }) = reader.line(b"call B2 300 add 5")? else {
-        return Err(Fail::from("no call"));
-    };
-    assert_eq!(rt; (label.as_bytes(), x), (b"B2".as_slice(), 300));
-    assert!(rt; matches!(op, Op::Add(5)));
-    let Item::Event(Event::Abort { label }) = reader.line(b"abort C")? else {
-        return Err(Fail::from("no abort"));
-    };
-    assert_eq!(rt; label.as_bytes(), b"C".as_slice());
+    let alloc = rt.alloc();
+    assert!(rt; is_object(alloc, second, 2, (&[2], &[4]), &[0, 0, 0, 0, 0, 0, 0, 5])?);
+    assert!(rt; is_object(alloc, third, 3, (&[1], &[1]), &[0; 8])?);
+    assert!(rt;
+        is_object(
+            alloc,
+            fourth,
+            4,
+            (&[1], &[1]),
+            &[0, 0, 0, 0, 0, 0, 0, 1, 0, 0, 0, 0, 0, 0, 0, 2]
+        )?
+    );
+    assert!(rt; is_object(alloc, seventh, 7, (&[3], &[3]), &[0, 255])?);
+    assert!(rt;
+        is_object(
+            alloc,
+            ninth,
+            9,
+            (&[4, 1], &[2, 3, 1]),
+            &[0, 0, 0, 0, 0, 0, 1, 2]
+        )?
+    );
+    assert!(rt; matches!(&ninth.value, Value::Account(_)));
     Ok(())
 }

@@ -1,6 +1,6 @@
 -- What a run shows at its end.
 use Rattle.std.proofs.Common.{◌≡◌, ◌⊎◌, inl, inr, ℕ, ◌+◌, ◌-◌, ◌≤◌, ◌<◌, List, [], ◌∷◌, ◌++◌, length, length-append, take, slice_get, slice_set, filter, zero, suc, Bool, true, false, Option, Some, None, refl, sym, ◌∙◌, ap, subst, arith}
-use Rattle.std.specs.Prelude.{◌==◌, is_some, option_and_then, if◌then◌else◌, find}
+use Rattle.std.specs.Prelude.{nat_le, ◌&&◌, ◌==◌, is_some, option_and_then, if◌then◌else◌, find}
 use Rattle.std.specs.List.{AllByRecursion}
 use Rattle.std.proofs.Math.Logic.{⊎_elim}
 use Rattle.std.proofs.lemmas.List.{append-nil}
@@ -17,7 +17,7 @@ use Rattle.arj_journal.specs.declared.header.Header.{Header}
 use Rattle.arj_journal.specs.declared.header.ObjectLine.{ObjectLine}
 use Rattle.arj_model.specs.Causes.{Moment, HasCauseConflict, Prompt, HasRoom, count_halts}
 use Rattle.arj_model.specs.Clean.{HoldsLastOrNext}
-use Rattle.arj_model.specs.Follows.{Step, Runs, AreEnding, is_down}
+use Rattle.arj_model.specs.Follows.{Step, Runs, AreEnding, is_down, is_node}
 use Rattle.arj_model.specs.Last.{first_values, stores_of_line, is_among, state_after}
 use Rattle.arj_model.specs.Past.{Past, Along, nothing_yet}
 use Rattle.arj_model.specs.Serial.{Serial, run, writes_on}
@@ -27,7 +27,8 @@ use Rattle.arj_journal.specs.LineText.{text}
 use Rattle.arj_journal.specs.declared.body.Body.TheVariants as body
 use Rattle.arj_journal.specs.declared.body.Which.TheVariants as which
 use Rattle.arj_script.specs.Grammar.{Form, Place, Start}
-use Rattle.arj_script.specs.Input.{Stopped, HaveForms, events_of}
+use Rattle.arj_script.specs.Input.{Stopped, events_of}
+use Rattle.arj_top.specs.Built.{HaveForms}
 use Rattle.arj_top.specs.declared.ending.End.{End}
 use Rattle.arj_top.specs.declared.ending.End.TheVariants as ending
 use Rattle.arj_top.specs.Input.{header_from, IsHeader}
@@ -92,6 +93,8 @@ disks_of {D} file stops arms first rack header past engine journal g same = reco
       let one = listed_one x s header.objects g.form.lines among in
       subst (λ found. HoldsLastOrNext header journal found x) (sym (held_at x s one.0)) (holds_same header journal past.lines (held (file g.new) x) x same (g.stands.holds_or_next x one.1));
   halted = halted_at;
+  steady = steady_at;
+  elsewhere = λ n no. same.halts n ∙ g.stands.alone n (λ e. absurd (both_ways (is_node header n) no (λ i. nat_le 1 (e i) && nat_le (e i) (g.form.nodes i))));
   armed = armed_at;
 }
   where
@@ -112,6 +115,15 @@ disks_of {D} file stops arms first rack header past engine journal g same = reco
     halted_at (suc n) old new was now =
         let none : count_halts journal (suc n + 1) ≡ 0 = same.halts (suc n + 1) ∙ g.stands.alone (suc n + 1) (λ e. absurd (omega (arith, e))) in
         inl (omega (arith, none))
+
+    steady_at : (node : ℕ) (old new : D) → slice_get first node ≡ Some old → slice_get rack node ≡ Some new → count_halts journal (node + 1) ≡ 0 → stops new ≡ stops old
+    steady_at zero old new was now none =
+        let a : g.old ≡ old = some_is g.old old (sym g.was ∙ was) in
+        let b : g.new ≡ new = some_is g.new new (sym got ∙ now) in
+        let calm : count_halts past.lines 1 ≡ 0 = sym (same.halts 1) ∙ none in
+        ap stops (sym b) ∙ (g.steady calm ∙ ap stops a)
+    steady_at (suc n) old new was now none =
+        ap stops (some_is new old (sym now ∙ (ap (λ r. slice_get r (suc n)) g.now ∙ (get_other first g.new n ∙ was))))
 
     armed_at : (node : ℕ) (old new : D) → slice_get first node ≡ Some old → slice_get rack node ≡ Some new → arms new ≡ arms old
     armed_at zero old new was now =
@@ -149,7 +161,11 @@ pub record StageFacts {D : Type 0} (file : D → FileMap) (stops arms : D → �
   pub serial : Serial (first_values header) past.lines
   pub disks : (journal : List Line) → SaysSame journal past.lines → is_some (header_from Start forms) ≡ true → DiskFacts file stops arms first rack header journal
   pub waits : engine ≡ None → is_some (header_from Start forms) ≡ false
+  pub untouched : header_from Start forms ≡ None → rack ≡ first
   pub nothing : engine ≡ None → past.lines ≡ []
+
+some_none : {A : Type 0} (a : A) → Some a ≡ None → ⊥
+some_none a e = cc
 
 pub stage_facts : {D : Type 0} (file : D → FileMap) (stops arms : D → ℕ) (first rack : List D) (header : Header) (forms : List Form) (place : Place) (past : Past) (engine : Option Engine)
     → Along (Moment header) nothing_yet (events_of forms) past → EngineStands file stops arms first rack forms place header past engine → StageFacts file stops arms first rack header forms past engine
@@ -162,6 +178,7 @@ stage_facts file stops arms first rack header forms place past None moments h =
       serial = subst (λ p. Serial (first_values header) p.lines) none tt;
       disks = λ journal same yes_run. absurd (both_ways _ waits yes_run);
       waits = λ _. waits;
+      untouched = λ _. h.1;
       nothing = λ _. ap (λ p. p.lines) (sym none);
     }
 stage_facts file stops arms first rack header forms place past (Some engine) moments h = record {
@@ -170,6 +187,7 @@ stage_facts file stops arms first rack header forms place past (Some engine) mom
   serial = h.2.stands.serial;
   disks = λ journal same _. disks_of file stops arms first rack header past engine journal h.2 same;
   waits = λ e. absurd (let never : Some engine ≡ None = e in cc);
+  untouched = λ e. absurd (some_none (header.nodes, header.objects) (sym h.1 ∙ e));
   nothing = λ e. absurd (let never : Some engine ≡ None = e in cc);
 }
 
@@ -181,12 +199,13 @@ get_middle : {A : Type 0} (a : List A) (x : A) (b : List A) → slice_get (a ++ 
 get_middle [] x b = refl
 get_middle (y ∷ a) x b = get_middle a x b
 
-pub was_run_of : (lines done rest : List (List ℕ)) (forms : List Form) (place : Place) → lines ≡ done ++ rest → HaveForms Start done forms place → WasRun lines forms place
-was_run_of lines done rest forms place whole read =
+pub was_run_of : (lines done rest : List (List ℕ)) (forms : List Form) (place : Place) → lines ≡ done ++ rest → HaveForms Start done forms place → length forms ≤ 100000 → WasRun lines forms place
+was_run_of lines done rest forms place whole read few =
     let size = forms_length Start done forms place read in
     let front : take (length forms) lines ≡ done = (λ i. take (size i) (whole i)) ∙ take_front done rest in
     record {
       within = omega (arith, size, ap length whole, length-append done rest);
+      few = few;
       forms_fit = subst (λ ls. HaveForms Start ls forms place) (sym front) read;
     }
 
@@ -249,18 +268,19 @@ ended_of ending.Format stopped lines done rest forms place engine count header p
   bad = λ e. absurd (omega (arith, e));
   fault = λ e. absurd (omega (arith, e));
   limit = λ e. absurd (omega (arith, e));
-  format = λ _. (why.0, next_of lines done rest forms place why.0 why.1 whole read why.2, why.3, nothing why.4, refl);
+  format = λ _. (why.0, next_of lines done rest forms place why.0 why.1 whole read why.2, why.3, omega (arith, counted, why.4), nothing why.5, refl);
 }
 ended_of ending.Write stopped lines done rest forms place engine count header past whole read counted nothing why = absurd why
 ended_of ending.Memory stopped lines done rest forms place engine count header past whole read counted nothing why = absurd why
 
 -- What a run shows that has come to its end. The rack may have changed since, where the engine never stood.
-pub shows_of : {D : Type 0} (file : D → FileMap) (stops arms : D → ℕ) (first rack after_rack : List D) (stopped : Stopped) (lines : List (List ℕ)) (place : Place) (engine : Option Engine) (count : ℕ) (journal after_journal : List Line) (end : End) (taken_before taken_after : Option (List ℕ))
-    → Reached file stops arms first rack stopped lines place engine count journal end → (engine ≡ None) ⊎ (after_rack ≡ rack)
+pub shows_of : {D : Type 0} (file : D → FileMap) (stops arms : D → ℕ) (first rack after_rack : List D) (stopped : Stopped) (lines : List (List ℕ)) (engine : Option Engine) (count : ℕ) (journal after_journal : List Line) (end : End) (taken_before taken_after : Option (List ℕ))
+    → Reached file stops arms first rack stopped lines engine count journal end → ((end ≡ ending.Format) × (engine ≡ None)) ⊎ (after_rack ≡ rack)
     → after_journal ≡ journal ++ last_lines (last_body end count) (events_run engine) → Takes taken_before (text after_journal) taken_after
     → Shows file stops arms stopped lines taken_before taken_after first after_rack after_journal (status_of end)
-shows_of file stops arms first rack after_rack stopped lines place engine count journal after_journal end taken_before taken_after reached racks is wrote =
+shows_of file stops arms first rack after_rack stopped lines engine count journal after_journal end taken_before taken_after reached racks is wrote =
     let s = reached.stage in
+    let place = reached.place in
     let f = stage_facts file stops arms first rack s.header s.forms place s.past engine s.moments s.engine_is in
     let last = last_lines (last_body end count) s.past.count in
     let journal_is : after_journal ≡ s.past.lines ++ last = is ∙ (λ i. s.journal_is i ++ last_lines (last_body end count) (f.events i)) in
@@ -272,22 +292,23 @@ shows_of file stops arms first rack after_rack stopped lines place engine count 
       header = s.header;
       past = s.past;
       ending = last;
-      was_run = was_run_of lines reached.done reached.rest s.forms place reached.whole s.read;
+      was_run = was_run_of lines reached.done reached.rest s.forms place reached.whole s.read (omega (arith, s.counted, s.within));
       is_header = f.is_header;
       moments = s.moments;
       journal_is = journal_is;
       ended = ended_of end stopped lines reached.done reached.rest s.forms place engine count s.header s.past reached.whole s.read s.counted f.nothing reached.why;
       facts = facts_of s.header (events_of s.forms) s.past last after_journal s.moments (serial_same (first_values s.header) after_journal s.past.lines same f.serial) journal_is (subst (λ n. AreEnding n last) size (ends_well end count s.past.count));
       wrote = wrote;
+      untouched = λ none seven. ⊎_elim (λ format. absurd (seven (ap status_of format.0))) (λ same_rack. same_rack ∙ f.untouched none) racks;
       disks = λ yes_run. ⊎_elim
-          (λ none. absurd (both_ways _ (f.waits none) yes_run))
+          (λ none. absurd (both_ways _ (f.waits none.1) yes_run))
           (λ same_rack. subst (λ r. DiskFacts file stops arms first r s.header after_journal) (sym same_rack) (f.disks after_journal same yes_run)) racks;
     }
 
 -- What still holds where a write failed or memory was wanting.
-pub front_of : {D : Type 0} (file : D → FileMap) (stops arms : D → ℕ) (first rack : List D) (lines done rest : List (List ℕ)) (place : Place) (engine : Option Engine) (count : ℕ) (journal : List Line) (size : ℕ) (taken_before taken_after : Option (List ℕ))
-    → lines ≡ done ++ rest → Stage file stops arms first rack done place engine count journal → Takes taken_before (take size (text journal)) taken_after → ShowsFront lines taken_before taken_after
-front_of file stops arms first rack lines done rest place engine count journal size taken_before taken_after whole s wrote =
+pub front_of : {D : Type 0} (file : D → FileMap) (stops arms : D → ℕ) (first rack : List D) (lines done rest : List (List ℕ)) (place : Place) (engine : Option Engine) (count : ℕ) (journal : List Line) (size : ℕ) (taken_before taken_after : Option (List ℕ)) (status : ℕ)
+    → lines ≡ done ++ rest → Stage file stops arms first rack done place engine count journal → Takes taken_before (take size (text journal)) taken_after → (status ≡ 5 → size ≡ length (text journal)) → ShowsFront lines taken_before taken_after status
+front_of file stops arms first rack lines done rest place engine count journal size taken_before taken_after status whole s wrote all =
     let f = stage_facts file stops arms first rack s.header s.forms place s.past engine s.moments s.engine_is in
     let same : SaysSame journal s.past.lines = subst (λ js. SaysSame js s.past.lines) (sym s.journal_is) (same_itself s.past.lines) in
     record {
@@ -296,18 +317,26 @@ front_of file stops arms first rack lines done rest place engine count journal s
       header = s.header;
       journal = journal;
       count = size;
-      was_run = was_run_of lines done rest s.forms place whole s.read;
+      was_run = was_run_of lines done rest s.forms place whole s.read (omega (arith, s.counted, s.within));
       is_header = f.is_header;
       facts = facts_of s.header (events_of s.forms) s.past [] journal s.moments (serial_same (first_values s.header) journal s.past.lines same f.serial) (s.journal_is ∙ sym (append-nil s.past.lines)) tt;
       wrote = wrote;
+      whole = all;
     }
 
+-- of these forms
+pub front_forms : {D : Type 0} (file : D → FileMap) (stops arms : D → ℕ) (first rack : List D) (lines done rest : List (List ℕ)) (place : Place) (engine : Option Engine) (count : ℕ) (journal : List Line) (size : ℕ) (taken_before taken_after : Option (List ℕ)) (status : ℕ)
+    (whole : lines ≡ done ++ rest) (s : Stage file stops arms first rack done place engine count journal) (wrote : Takes taken_before (take size (text journal)) taken_after) (all : status ≡ 5 → size ≡ length (text journal))
+    → (let front = front_of file stops arms first rack lines done rest place engine count journal size taken_before taken_after status whole s wrote all in front.forms) ≡ s.forms
+unfolding front_of
+front_forms file stops arms first rack lines done rest place engine count journal size taken_before taken_after status whole s wrote all = refl
+
 -- The same, with the line outside events in it.
-pub front_last : {D : Type 0} (file : D → FileMap) (stops arms : D → ℕ) (first rack : List D) (stopped : Stopped) (lines : List (List ℕ)) (place : Place) (engine : Option Engine) (count : ℕ) (journal after_journal : List Line) (end : End) (size : ℕ) (taken_before taken_after : Option (List ℕ))
-    → Reached file stops arms first rack stopped lines place engine count journal end
-    → after_journal ≡ journal ++ last_lines (last_body end count) (events_run engine) → Takes taken_before (take size (text after_journal)) taken_after → ShowsFront lines taken_before taken_after
-front_last file stops arms first rack stopped lines place engine count journal after_journal end size taken_before taken_after reached is wrote =
-    let shows = shows_of file stops arms first rack rack stopped lines place engine count journal after_journal end taken_before None reached (inr refl) is tt in
+pub front_last : {D : Type 0} (file : D → FileMap) (stops arms : D → ℕ) (first rack : List D) (stopped : Stopped) (lines : List (List ℕ)) (engine : Option Engine) (count : ℕ) (journal after_journal : List Line) (end : End) (size : ℕ) (taken_before taken_after : Option (List ℕ)) (status : ℕ)
+    → Reached file stops arms first rack stopped lines engine count journal end
+    → after_journal ≡ journal ++ last_lines (last_body end count) (events_run engine) → Takes taken_before (take size (text after_journal)) taken_after → (status ≡ 5 → size ≡ length (text after_journal)) → ShowsFront lines taken_before taken_after status
+front_last file stops arms first rack stopped lines engine count journal after_journal end size taken_before taken_after status reached is wrote all =
+    let shows = shows_of file stops arms first rack rack stopped lines engine count journal after_journal end taken_before None reached (inr refl) is tt in
     record {
       forms = shows.forms;
       place = shows.place;
@@ -318,4 +347,5 @@ front_last file stops arms first rack stopped lines place engine count journal a
       is_header = shows.is_header;
       facts = shows.facts;
       wrote = wrote;
+      whole = all;
     }

@@ -1,3 +1,4 @@
+pub mod BuiltForms
 pub mod Bytes
 pub mod Cuts
 pub mod Ends

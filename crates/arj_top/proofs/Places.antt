@@ -5,8 +5,9 @@ use Rattle.std.specs.List.{list_any, list_all, AllByRecursion}
 use Rattle.std.proofs.Math.Logic.{⊎_elim}
 use Rattle.std.proofs.lemmas.Bool.{and_parts, and_from, or_parts, cases_Bool, cond-true, cond-false, ltb-false, lt-ltb, leb-true, eqb-true, eqb-false, eq-eqb, both_ways, not-true}
 use Rattle.arj_journal.specs.declared.header.ObjectLine.{ObjectLine}
-use Rattle.arj_script.specs.Grammar.{Form, Blank, Nodes, Object, Run, Asks, Place, Start, Objects, Running, next_place, insert_object, has_object, are_nodes, is_distinct, HasForm}
-use Rattle.arj_script.specs.Input.{HaveForms}
+use Rattle.arj_script.specs.Grammar.{Form, Blank, Nodes, Object, Run, Asks, Place, Start, Objects, Running, next_place, insert_object, has_object}
+use Rattle.arj_journal.specs.Fields.{are_nodes, is_distinct}
+use Rattle.arj_top.specs.Built.{HasBuiltForm, HaveForms, HasOneNode}
 use Rattle.arj_engine.specs.Form.{LineInForm, is_rising}
 
 -- what the test of a list of nodes says
@@ -78,7 +79,7 @@ PlaceInForm (Objects n os) = (n ≡ 1) × AllByRecursion LineInForm os × (is_ri
 PlaceInForm Start = ⊤
 PlaceInForm Running = ⊤
 
-next_in_form : (p : Place) (line : List ℕ) (form : Form) → PlaceInForm p → HasForm p line form → PlaceInForm (next_place p form)
+next_in_form : (p : Place) (line : List ℕ) (form : Form) → PlaceInForm p → HasBuiltForm p line form → PlaceInForm (next_place p form)
 next_in_form Start line Blank g h = tt
 next_in_form Start line (Nodes n) g h = (eqb-true n 1 h.built, tt, refl)
 next_in_form Start line (Object o) g h = tt
@@ -87,9 +88,9 @@ next_in_form Start line (Asks e) g h = tt
 next_in_form (Objects n os) line Blank g h = g
 next_in_form (Objects n os) line (Nodes m) g h = g
 next_in_form (Objects n os) line (Object o) g h =
-    let has = h.fits.0 in
+    let has = h.has.fits.0 in
     let stores : o.stores ≡ 1 ∷ [] = one_node o.stores (subst (λ m. are_nodes m 16 o.stores ≡ true) g.0 has.stores) in
-    (g.0, insert_all o os (has.number.0, has.number.1, stores) g.1, rising_insert o os g.2 h.fits.1)
+    (g.0, insert_all o os (has.number.0, has.number.1, stores) g.1, rising_insert o os g.2 h.has.fits.1)
 next_in_form (Objects n os) line Run g h = tt
 next_in_form (Objects n os) line (Asks e) g h = g
 next_in_form Running line Blank g h = tt
@@ -103,3 +104,8 @@ place_in_form p [] [] q g h = subst PlaceInForm h g
 place_in_form p [] (f ∷ forms) q g h = absurd h
 place_in_form p (l ∷ lines) [] q g h = absurd h
 place_in_form p (l ∷ lines) (f ∷ forms) q g h = place_in_form (next_place p f) lines forms q (next_in_form p l f g h.0) h.1
+
+pub one_node_of : (p : Place) → PlaceInForm p → HasOneNode p
+one_node_of Start g = tt
+one_node_of (Objects n os) g = g.0
+one_node_of Running g = tt

@@ -1,11 +1,11 @@
 -- One line more of a run.
-use Rattle.std.proofs.Common.{◌≡◌, ℕ, ◌+◌, ◌-◌, ◌≤◌, ◌<◌, ◌⊎◌, inl, inr, List, [], ◌∷◌, ◌++◌, length, length-append, slice_get, slice_set, filter, Bool, true, false, Option, Some, None, Result, Ok, Err, OnOk, IsOk, refl, sym, ◌∙◌, ap, subst, arith}
+use Rattle.std.proofs.Common.{◌≡◌, ℕ, ◌+◌, ◌-◌, ◌≤◌, ◌<◌, ◌⊎◌, inl, inr, List, [], ◌∷◌, ◌++◌, length, length-append, slice_get, slice_set, filter, Bool, true, false, Option, Some, None, Result, Ok, Err, OnOk, IsOk, refl, sym, ◌||◌, ◌∙◌, ap, subst, arith}
 use Rattle.std.specs.List.{list_any, AllByRecursion}
-use Rattle.std.specs.Prelude.{if◌then◌else◌}
+use Rattle.std.specs.Prelude.{if◌then◌else◌, map}
 use Rattle.std.proofs.Math.Logic.{⊎_elim}
 use Rattle.std.proofs.lemmas.List.{append-nil}
 use Rattle.std.proofs.lemmas.List.Elements.{filter-append}
-use Rattle.std.proofs.lemmas.Bool.{cases_Bool, cases_lt, or_parts, cond-false}
+use Rattle.std.proofs.lemmas.Bool.{cases_Bool, cases_lt, or_parts, cond-false, cond-true, both_ways}
 use Rattle.arj_base.specs.Count.{Rose}
 use Rattle.arj_disk.specs.Files.{FileMap}
 use Rattle.arj_engine.specs.declared.engine.Engine.{Engine}
@@ -21,9 +21,12 @@ use Rattle.arj_model.specs.Follows.{is_down}
 use Rattle.arj_model.specs.Past.{Past, Along, nothing_yet, next, block}
 use Rattle.arj_script.specs.declared.reader.Item.{Item}
 use Rattle.arj_script.specs.declared.reader.Item.TheVariants as item
-use Rattle.arj_script.specs.Grammar.{Form, Blank, Nodes, Object, Run, Asks, Place, Start, Objects, Running, next_place, HasForm}
-use Rattle.arj_script.specs.Input.{HaveForms, events_of, Tells}
-use Rattle.arj_script.proofs.Lines.{HaveForms-snoc, events_of-append}
+use Rattle.arj_script.specs.Grammar.{Form, Blank, Nodes, Object, Run, Asks, Place, Start, Objects, Running, next_place}
+use Rattle.arj_script.specs.Input.{events_of, Tells}
+use Rattle.arj_script.proofs.Lines.{events_of-append}
+use Rattle.arj_top.specs.Facts.{TouchesFirstAlone}
+use Rattle.arj_top.specs.Built.{HasBuiltForm, HaveForms}
+use Rattle.arj_top.proofs.BuiltForms.{HaveForms-snoc}
 use Rattle.arj_top.specs.Input.{header_from}
 use Rattle.arj_top.specs.Running.{Engaged, EngineStands, Stage, Started, Stepped, Refused, IsStanding, AsksTooMany}
 use Rattle.arj_top.proofs.Steps.{header_then, header_stays, along_more, along_count, events_within}
@@ -31,7 +34,7 @@ use Rattle.arj_top.proofs.Places.{PlaceInForm, place_in_form}
 
 -- the reader's answer
 abbrev pub Taken : Place → List ℕ → Item → Place → Type 0
-Taken place line i after = (form : Form) × HasForm place line form × Tells place form i × (after ≡ next_place place form)
+Taken place line i after = (form : Form) × HasBuiltForm place line form × Tells place form i × (after ≡ next_place place form)
 
 -- A form that is no event and no end of the header.
 record IsQuiet (place : Place) (form : Form) : Type 0 where
@@ -48,19 +51,19 @@ quiet_blank Running = record { events = refl; header = refl; running = λ e. e; 
 not_objects : (n : ℕ) (os : List ObjectLine) → Objects n os ≡ Running → ⊥
 not_objects n os e = cc
 
-quiet_of : (place : Place) (line : List ℕ) (form : Form) → HasForm place line form → Tells place form item.Blank ⊎ Tells place form item.Part → IsQuiet place form
+quiet_of : (place : Place) (line : List ℕ) (form : Form) → HasBuiltForm place line form → Tells place form item.Blank ⊎ Tells place form item.Part → IsQuiet place form
 quiet_of place line Blank h told = quiet_blank place
 quiet_of Start line (Nodes n) h told = record { events = refl; header = refl; running = λ e. absurd (let never : Start ≡ Running = e in cc); waiting = λ no e. not_objects n [] e }
-quiet_of (Objects n os) line (Nodes m) h told = absurd h.fits
-quiet_of Running line (Nodes m) h told = absurd h.fits
-quiet_of Start line (Object o) h told = absurd h.fits
+quiet_of (Objects n os) line (Nodes m) h told = absurd h.has.fits
+quiet_of Running line (Nodes m) h told = absurd h.has.fits
+quiet_of Start line (Object o) h told = absurd h.has.fits
 quiet_of (Objects n os) line (Object o) h told = record { events = refl; header = refl; running = λ e. absurd (not_objects n os e); waiting = λ no e. not_objects n _ e }
-quiet_of Running line (Object o) h told = absurd h.fits
-quiet_of Start line Run h told = absurd h.fits
+quiet_of Running line (Object o) h told = absurd h.has.fits
+quiet_of Start line Run h told = absurd h.has.fits
 quiet_of (Objects n os) line Run h told = absurd (⊎_elim (λ t. t) (λ t. t) told)
-quiet_of Running line Run h told = absurd h.fits
-quiet_of Start line (Asks e) h told = absurd h.fits
-quiet_of (Objects n os) line (Asks e) h told = absurd h.fits
+quiet_of Running line Run h told = absurd h.has.fits
+quiet_of Start line (Asks e) h told = absurd h.has.fits
+quiet_of (Objects n os) line (Asks e) h told = absurd h.has.fits
 quiet_of Running line (Asks e) h told = absurd (⊎_elim (λ t. t) (λ t. t) told)
 
 engine_quiet : {D : Type 0} (file : D → FileMap) (stops arms : D → ℕ) (first rack : List D) (lines : List (List ℕ)) (forms : List Form) (place : Place) (form : Form) (header : Header) (past : Past) (engine : Option Engine)
@@ -76,7 +79,7 @@ count_more forms form count is = omega (arith, is, length-append forms (form ∷
 
 -- a line that is no event and no end of the header
 pub stage_quiet : {D : Type 0} (file : D → FileMap) (stops arms : D → ℕ) (first rack : List D) (lines : List (List ℕ)) (line : List ℕ) (place after : Place) (engine : Option Engine) (count : ℕ) (journal : List Line)
-    → (form : Form) × HasForm place line form × (Tells place form item.Blank ⊎ Tells place form item.Part) × (after ≡ next_place place form) → count < 100000
+    → (form : Form) × HasBuiltForm place line form × (Tells place form item.Blank ⊎ Tells place form item.Part) × (after ≡ next_place place form) → count < 100000
     → Stage file stops arms first rack lines place engine count journal → Stage file stops arms first rack (lines ++ line ∷ []) after engine (count + 1) journal
 stage_quiet file stops arms first rack lines line place after engine count journal taken room s =
     let form = taken.0 in
@@ -104,7 +107,7 @@ record IsRun (place : Place) (form : Form) (header : Header) : Type 0 where
   nodes_are : header.nodes ≡ nodes
   objects_are : header.objects ≡ objects
 
-run_of : (place : Place) (line : List ℕ) (form : Form) (header : Header) → HasForm place line form → Tells place form (item.Run header) → IsRun place form header
+run_of : (place : Place) (line : List ℕ) (form : Form) (header : Header) → HasBuiltForm place line form → Tells place form (item.Run header) → IsRun place form header
 run_of Start line Blank header h told = absurd told
 run_of (Objects n os) line Blank header h told = absurd told
 run_of Running line Blank header h told = absurd told
@@ -114,11 +117,11 @@ run_of Running line (Nodes m) header h told = absurd told
 run_of Start line (Object o) header h told = absurd told
 run_of (Objects n os) line (Object o) header h told = absurd told
 run_of Running line (Object o) header h told = absurd told
-run_of Start line Run header h told = absurd h.fits
+run_of Start line Run header h told = absurd h.has.fits
 run_of (Objects n os) line Run header h told = record { nodes = n; objects = os; place_is = refl; form_is = refl; nodes_are = told.0; objects_are = told.1 }
-run_of Running line Run header h told = absurd h.fits
-run_of Start line (Asks e) header h told = absurd h.fits
-run_of (Objects n os) line (Asks e) header h told = absurd h.fits
+run_of Running line Run header h told = absurd h.has.fits
+run_of Start line (Asks e) header h told = absurd h.has.fits
+run_of (Objects n os) line (Asks e) header h told = absurd h.has.fits
 run_of Running line (Asks e) header h told = absurd told
 
 -- the header that the reader hands out is in the engine's form
@@ -133,7 +136,7 @@ header_in_form lines line forms place after header read taken =
     }
 
 stage_run_at : {D : Type 0} (file : D → FileMap) (stops arms : D → ℕ) (first rack after_rack : List D) (lines : List (List ℕ)) (line : List ℕ) (n : ℕ) (os : List ObjectLine) (header : Header) (engine after_engine : Option Engine) (count : ℕ) (journal : List Line)
-    → header.nodes ≡ n → header.objects ≡ os → HasForm (Objects n os) line Run → HeaderInForm header → count < 100000 → Started file stops arms rack after_rack header after_engine
+    → header.nodes ≡ n → header.objects ≡ os → HasBuiltForm (Objects n os) line Run → HeaderInForm header → count < 100000 → Started file stops arms rack after_rack header after_engine
     → Stage file stops arms first rack lines (Objects n os) engine count journal → Stage file stops arms first after_rack (lines ++ line ∷ []) Running after_engine (count + 1) journal
 stage_run_at file stops arms first rack after_rack lines line n os header (Some engine) after_engine count journal nodes objects has form room st s = absurd (not_objects n os s.engine_is.0)
 stage_run_at {D} file stops arms first rack after_rack lines line n os header None after_engine count journal nodes objects has form room st s =
@@ -153,6 +156,7 @@ stage_run_at {D} file stops arms first rack after_rack lines line n os header No
         form = form;
         stands = st.stands;
         later = omega (arith, st.steady);
+        steady = λ _. st.steady;
         halted = inl (omega arith);
         unarmed = st.unarmed;
       },
@@ -177,7 +181,7 @@ pub stage_run : {D : Type 0} (file : D → FileMap) (stops arms : D → ℕ) (fi
 stage_run file stops arms first rack after_rack lines line place after header engine after_engine count journal taken room st s =
     let form = header_in_form lines line s.forms place after header s.read taken in
     let run = run_of place line taken.0 header taken.1 taken.2 in
-    let has : HasForm (Objects run.nodes run.objects) line Run = subst (λ p. HasForm p line Run) run.place_is (subst (λ f. HasForm place line f) run.form_is taken.1) in
+    let has : HasBuiltForm (Objects run.nodes run.objects) line Run = subst (λ p. HasBuiltForm p line Run) run.place_is (subst (λ f. HasBuiltForm place line f) run.form_is taken.1) in
     let ends : Running ≡ after = sym (taken.3 ∙ (λ i. next_place (run.place_is i) (run.form_is i))) in
     subst (λ p. Stage file stops arms first after_rack (lines ++ line ∷ []) p after_engine (count + 1) journal) ends
     (stage_run_at file stops arms first rack after_rack lines line run.nodes run.objects header engine after_engine count journal run.nodes_are run.objects_are has form room st
@@ -188,7 +192,7 @@ record IsEvent (place : Place) (form : Form) (told : Event) : Type 0 where
   place_is : place ≡ Running
   form_is : form ≡ Asks told
 
-event_of : (place : Place) (line : List ℕ) (form : Form) (told : Event) → HasForm place line form → Tells place form (item.Event told) → IsEvent place form told
+event_of : (place : Place) (line : List ℕ) (form : Form) (told : Event) → HasBuiltForm place line form → Tells place form (item.Event told) → IsEvent place form told
 event_of Start line Blank e h told = absurd told
 event_of (Objects n os) line Blank e h told = absurd told
 event_of Running line Blank e h told = absurd told
@@ -198,11 +202,11 @@ event_of Running line (Nodes m) e h told = absurd told
 event_of Start line (Object o) e h told = absurd told
 event_of (Objects n os) line (Object o) e h told = absurd told
 event_of Running line (Object o) e h told = absurd told
-event_of Start line Run e h told = absurd h.fits
+event_of Start line Run e h told = absurd h.has.fits
 event_of (Objects n os) line Run e h told = absurd told
-event_of Running line Run e h told = absurd h.fits
-event_of Start line (Asks asked) e h told = absurd h.fits
-event_of (Objects n os) line (Asks asked) e h told = absurd h.fits
+event_of Running line Run e h told = absurd h.has.fits
+event_of Start line (Asks asked) e h told = absurd h.has.fits
+event_of (Objects n os) line (Asks asked) e h told = absurd h.has.fits
 event_of Running line (Asks asked) e h told = record { place_is = refl; form_is = ap Asks (sym told) }
 
 -- where the first disk was replaced
@@ -247,8 +251,31 @@ halted_next header past e engine file old mid new before after r first later h =
     small true n is = omega (arith, is)
     small false n is = omega (arith, is)
 
+some_halt : (k n : ℕ) (bodies : List Body) → list_any (is_halt k) bodies ≡ true → 1 ≤ length (filter (λ line. is_halt k line.body) (block n bodies))
+some_halt k n [] h = absurd (both_ways false refl h)
+some_halt k n (b ∷ bodies) h =
+    ⊎_elim
+    (λ here. omega (arith, ap length (cond-true (is_halt k b) (record { event = n; body = b } ∷ filter (λ line. is_halt k line.body) (block n bodies)) (filter (λ line. is_halt k line.body) (block n bodies)) here)))
+    (λ away. (let more = some_halt k n bodies (or_later (is_halt k b) (list_any (is_halt k) bodies) away h) in omega (arith, more, ap length (cond-false (is_halt k b) (record { event = n; body = b } ∷ filter (λ line. is_halt k line.body) (block n bodies)) (filter (λ line. is_halt k line.body) (block n bodies)) away))))
+    (cases_Bool (is_halt k b))
+  where
+    or_later : (a c : Bool) → a ≡ false → (a || c) ≡ true → c ≡ true
+    or_later false c away h = h
+    or_later true c away h = absurd (both_ways true away refl)
+
+steady_next : (header : Header) (past : Past) (e : Event) (engine : Engine) (file : FileMap) (old mid new : ℕ) (before after : List Line) → (r : Ran header past e engine file mid new before after)
+    → (count_halts past.lines 1 ≡ 0 → mid ≡ old) → count_halts (next past e r.bodies).lines 1 ≡ 0 → new ≡ old
+steady_next header past e engine file old mid new before after r h none =
+    let more = block (past.count + 1) r.bodies in
+    let grown : count_halts (past.lines ++ more) 1 ≡ count_halts past.lines 1 + length (filter (λ line. is_halt 1 line.body) more) =
+    ap length (filter-append (λ line. is_halt 1 line.body) past.lines more) ∙ length-append (filter (λ line. is_halt 1 line.body) past.lines) (filter (λ line. is_halt 1 line.body) more) in
+    ⊎_elim
+    (λ halt. absurd (let some = some_halt 1 (past.count + 1) r.bodies halt in omega (arith, some, none, grown)))
+    (λ calm. r.steady calm ∙ h (sym (count_block 1 (past.count + 1) past.lines r.bodies calm) ∙ none))
+    (cases_Bool (list_any (is_halt 1) r.bodies))
+
 stage_event_at : {D : Type 0} (file : D → FileMap) (stops arms : D → ℕ) (first rack after_rack : List D) (lines : List (List ℕ)) (line : List ℕ) (e : Event) (engine after_engine : Option Engine) (count : ℕ) (journal after_journal : List Line)
-    → HasForm Running line (Asks e) → count < 100000 → Stepped file stops arms rack after_rack engine after_engine e journal after_journal
+    → HasBuiltForm Running line (Asks e) → count < 100000 → Stepped file stops arms rack after_rack engine after_engine e journal after_journal
     → Stage file stops arms first rack lines Running engine count journal → Stage file stops arms first after_rack (lines ++ line ∷ []) Running after_engine (count + 1) after_journal
 stage_event_at file stops arms first rack after_rack lines line e None after_engine count journal after_journal has room st s = absurd (s.engine_is.0 refl)
 stage_event_at file stops arms first rack after_rack lines line e (Some engine) after_engine count journal after_journal has room st s =
@@ -273,6 +300,7 @@ stage_event_at file stops arms first rack after_rack lines line e (Some engine) 
         form = g.form;
         stands = r.stands;
         later = omega (arith, first_later, st.later);
+        steady = steady_next s.header s.past e st.after (file st.new) (stops g.old) (stops st.old) (stops st.new) journal after_journal r (λ n. ap stops (sym disk) ∙ g.steady n);
         halted = halted_next s.header s.past e st.after (file st.new) (stops g.old) (stops st.old) (stops st.new) journal after_journal r first_later st.later before_halted;
         unarmed = st.unarmed ∙ (ap arms (sym disk) ∙ g.unarmed);
       },
@@ -296,7 +324,7 @@ pub stage_event : {D : Type 0} (file : D → FileMap) (stops arms : D → ℕ) (
     → Stage file stops arms first rack lines place engine count journal → Stage file stops arms first after_rack (lines ++ line ∷ []) after after_engine (count + 1) after_journal
 stage_event file stops arms first rack after_rack lines line place after e engine after_engine count journal after_journal taken room st s =
     let is = event_of place line taken.0 e taken.1 taken.2 in
-    let has : HasForm Running line (Asks e) = subst (λ p. HasForm p line (Asks e)) is.place_is (subst (λ f. HasForm place line f) is.form_is taken.1) in
+    let has : HasBuiltForm Running line (Asks e) = subst (λ p. HasBuiltForm p line (Asks e)) is.place_is (subst (λ f. HasBuiltForm place line f) is.form_is taken.1) in
     let ends : Running ≡ after = sym (taken.3 ∙ (λ i. next_place (is.place_is i) (is.form_is i))) in
     subst (λ p. Stage file stops arms first after_rack (lines ++ line ∷ []) p after_engine (count + 1) after_journal) ends
     (stage_event_at file stops arms first rack after_rack lines line e engine after_engine count journal after_journal has room st
@@ -320,7 +348,7 @@ pub stage_labels : {D : Type 0} (file : D → FileMap) (stops arms : D → ℕ) 
 stage_labels file stops arms first rack after_rack lines line place after e None after_engine count journal taken st s = absurd (let never : None ≡ Some st.engine = st.engine_was in cc)
 stage_labels file stops arms first rack after_rack lines line place after e (Some engine) after_engine count journal taken st s =
     let is = event_of place line taken.0 e taken.1 taken.2 in
-    let has : HasForm Running line (Asks e) = subst (λ p. HasForm p line (Asks e)) is.place_is (subst (λ f. HasForm place line f) is.form_is taken.1) in
+    let has : HasBuiltForm Running line (Asks e) = subst (λ p. HasBuiltForm p line (Asks e)) is.place_is (subst (λ f. HasBuiltForm place line f) is.form_is taken.1) in
     let ends : Running ≡ after = sym (taken.3 ∙ (λ i. next_place (is.place_is i) (is.form_is i))) in
     let h = s.engine_is in
     let g = h.2 in
@@ -337,6 +365,7 @@ stage_labels file stops arms first rack after_rack lines line place after e (Som
       form = g.form;
       stands = subst (λ f. Stands s.header s.past st.engine f) (sym st.files) stood;
       later = omega (arith, g.later, counts);
+      steady = λ n. sym counts ∙ g.steady n;
       halted = subst (λ n. (count_halts s.past.lines 1 ≤ n - stops g.old) ⊎ (18446744073709551615 ≤ n)) counts g.halted;
       unarmed = st.unarmed ∙ (ap arms (sym disk) ∙ g.unarmed);
     } in
@@ -356,7 +385,7 @@ stage_labels file stops arms first rack after_rack lines line place after e (Som
         journal_is = s.journal_is;
         engine_is = at_after;
       },
-      (e, subst (λ p. HasForm p line (Asks e)) ends has, st.full s.header s.past stood),
+      (e, subst (λ p. HasBuiltForm p line (Asks e)) ends has, st.full s.header s.past stood),
     )
 
 -- the stop of a first disk
@@ -390,3 +419,12 @@ limited_moved file stops arms first rack lines p q engine m n js ks line place c
     subst (λ ls. Limited file stops arms first rack lines q engine n ls line) (sym journal)
     (subst (λ k. Limited file stops arms first rack lines q engine k js line) (sym count)
     (subst (λ r. Limited file stops arms first rack lines r engine m js line) (sym place) h))
+
+-- a change of the first disk that arms nothing
+pub first_alone : {D : Type 0} (arms : D → ℕ) (rack : List D) (old new : D) → slice_get rack 0 ≡ Some old → arms new ≡ arms old → TouchesFirstAlone arms rack (slice_set rack 0 new)
+first_alone arms [] old new was same = (refl, refl)
+first_alone arms (d ∷ ds) old new was same = ((λ i. (same ∙ ap arms (some_is old d (sym was))) i ∷ map arms ds), refl)
+
+-- and a change behind it
+pub alone_more : {D : Type 0} (arms : D → ℕ) (a b c : List D) → TouchesFirstAlone arms a b → TouchesFirstAlone arms b c → TouchesFirstAlone arms a c
+alone_more arms a b c first more = (more.0 ∙ first.0, more.1 ∙ first.1)

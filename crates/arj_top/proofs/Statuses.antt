@@ -1,5 +1,5 @@
 -- What each status shows.
-use Rattle.std.proofs.Common.{◌≡◌, ◌≢◌, inl, inr, ℕ, ◌≤◌, ◌<◌, List, [], ◌++◌, length, take, Option, Some, None, refl, sym, ◌∙◌, ap, arith}
+use Rattle.std.proofs.Common.{◌⊎◌, ◌≡◌, ◌≢◌, inl, inr, ℕ, ◌≤◌, ◌<◌, List, [], ◌++◌, length, take, Option, Some, None, refl, sym, ◌∙◌, ap, arith}
 use Rattle.std.proofs.lemmas.List.{append-nil}
 use Rattle.std.proofs.lemmas.Bool.{cases_lt}
 use Rattle.std.proofs.Math.Logic.{⊎_elim}
@@ -10,7 +10,6 @@ use Rattle.arj_io.specs.Told.{Takes, Gives}
 use Rattle.arj_journal.specs.declared.body.Body.{Body}
 use Rattle.arj_journal.specs.declared.body.Line.{Line}
 use Rattle.arj_journal.specs.LineText.{text}
-use Rattle.arj_script.specs.Grammar.{Place}
 use Rattle.arj_script.specs.Input.{Stopped, lines_of}
 use Rattle.arj_top.specs.declared.ending.End.{End}
 use Rattle.arj_top.specs.declared.ending.End.TheVariants as ending
@@ -81,63 +80,63 @@ writes_last ending.Memory count b e = absurd (none_some b e)
 writes_last ending.Format count b e = absurd (none_some b e)
 
 -- an end without a line
-pub shows_none : {D : Type 0} (file : D → FileMap) (stops arms : D → ℕ) (first rack : List D) (stopped : Stopped) (lines : List (List ℕ)) (place : Place) (engine : Option Engine) (count : ℕ) (journal : List Line) (end : End) (t u : Option (List ℕ))
+pub shows_none : {D : Type 0} (file : D → FileMap) (stops arms : D → ℕ) (first rack : List D) (stopped : Stopped) (lines : List (List ℕ)) (engine : Option Engine) (count : ℕ) (journal : List Line) (end : End) (t u : Option (List ℕ))
     → last_body end count ≡ None
-    → (end ≢ ending.Write → end ≢ ending.Memory → end ≢ ending.Format → Reached file stops arms first rack stopped lines place engine count journal end)
+    → (end ≢ ending.Write → end ≢ ending.Memory → end ≢ ending.Format → Reached file stops arms first rack stopped lines engine count journal end)
     → (end ≡ ending.Format → ReachedFormat file stops arms first stopped lines journal)
     → (end ≢ ending.Write → end ≢ ending.Memory → Wrote [] journal t u)
     → status_of end ≢ 4 → status_of end ≢ 5 → Shows file stops arms stopped lines t u first rack journal (status_of end)
-shows_none file stops arms first rack stopped lines place engine count journal ending.Whole t u none reached format wrote four five =
+shows_none file stops arms first rack stopped lines engine count journal ending.Whole t u none reached format wrote four five =
     let w : ending.Whole ≢ ending.Write = λ n. cc in
     let m : ending.Whole ≢ ending.Memory = λ n. cc in
     let f : ending.Whole ≢ ending.Format = λ n. cc in
-    shows_of file stops arms first rack rack stopped lines place engine count journal journal ending.Whole t u (reached w m f) (inr refl) (sym (append-nil journal)) (wrote_whole journal t u (wrote w m))
-shows_none file stops arms first rack stopped lines place engine count journal ending.Fault t u none reached format wrote four five =
+    shows_of file stops arms first rack rack stopped lines engine count journal journal ending.Whole t u (reached w m f) (inr refl) (sym (append-nil journal)) (wrote_whole journal t u (wrote w m))
+shows_none file stops arms first rack stopped lines engine count journal ending.Fault t u none reached format wrote four five =
     let w : ending.Fault ≢ ending.Write = λ n. cc in
     let m : ending.Fault ≢ ending.Memory = λ n. cc in
     let f : ending.Fault ≢ ending.Format = λ n. cc in
-    shows_of file stops arms first rack rack stopped lines place engine count journal journal ending.Fault t u (reached w m f) (inr refl) (sym (append-nil journal)) (wrote_whole journal t u (wrote w m))
-shows_none file stops arms first rack stopped lines place engine count journal ending.Format t u none reached format wrote four five =
+    shows_of file stops arms first rack rack stopped lines engine count journal journal ending.Fault t u (reached w m f) (inr refl) (sym (append-nil journal)) (wrote_whole journal t u (wrote w m))
+shows_none file stops arms first rack stopped lines engine count journal ending.Format t u none reached format wrote four five =
     let w : ending.Format ≢ ending.Write = λ n. cc in
     let m : ending.Format ≢ ending.Memory = λ n. cc in
     let at = format refl in
-    shows_of file stops arms first first rack stopped lines at.place None at.count journal journal ending.Format t u at.reached (inl refl) (sym (append-nil journal)) (wrote_whole journal t u (wrote w m))
-shows_none file stops arms first rack stopped lines place engine count journal ending.Write t u none reached format wrote four five = absurd (four refl)
-shows_none file stops arms first rack stopped lines place engine count journal ending.Memory t u none reached format wrote four five = absurd (five refl)
-shows_none file stops arms first rack stopped lines place engine count journal ending.Bad t u none reached format wrote four five = absurd (none_some _ (sym none))
-shows_none file stops arms first rack stopped lines place engine count journal ending.Lines t u none reached format wrote four five = absurd (none_some _ (sym none))
-shows_none file stops arms first rack stopped lines place engine count journal ending.Labels t u none reached format wrote four five = absurd (none_some _ (sym none))
+    shows_of file stops arms first first rack stopped lines None at.count journal journal ending.Format t u at.reached (inl (refl, refl)) (sym (append-nil journal)) (wrote_whole journal t u (wrote w m))
+shows_none file stops arms first rack stopped lines engine count journal ending.Write t u none reached format wrote four five = absurd (four refl)
+shows_none file stops arms first rack stopped lines engine count journal ending.Memory t u none reached format wrote four five = absurd (five refl)
+shows_none file stops arms first rack stopped lines engine count journal ending.Bad t u none reached format wrote four five = absurd (none_some _ (sym none))
+shows_none file stops arms first rack stopped lines engine count journal ending.Lines t u none reached format wrote four five = absurd (none_some _ (sym none))
+shows_none file stops arms first rack stopped lines engine count journal ending.Labels t u none reached format wrote four five = absurd (none_some _ (sym none))
 
 -- an end with a line
-pub shows_some : {D : Type 0} (file : D → FileMap) (stops arms : D → ℕ) (first rack : List D) (stopped : Stopped) (lines : List (List ℕ)) (place : Place) (engine : Option Engine) (count : ℕ) (journal after_journal : List Line) (end : End) (b : Body) (t u v : Option (List ℕ))
-    → Some b ≡ last_body end count → Reached file stops arms first rack stopped lines place engine count journal end → Wrote [] journal t u
+pub shows_some : {D : Type 0} (file : D → FileMap) (stops arms : D → ℕ) (first rack : List D) (stopped : Stopped) (lines : List (List ℕ)) (engine : Option Engine) (count : ℕ) (journal after_journal : List Line) (end : End) (b : Body) (t u v : Option (List ℕ))
+    → Some b ≡ last_body end count → Reached file stops arms first rack stopped lines engine count journal end → Wrote [] journal t u
     → after_journal ≡ journal ++ last_lines (Some b) (events_run engine) → Takes u (text (last_lines (Some b) (events_run engine))) v
     → Shows file stops arms stopped lines t v first rack after_journal (status_of end)
-shows_some file stops arms first rack stopped lines place engine count journal after_journal end b t u v body reached wrote put more =
+shows_some file stops arms first rack stopped lines engine count journal after_journal end b t u v body reached wrote put more =
     let last = last_lines (Some b) (events_run engine) in
-    shows_of file stops arms first rack rack stopped lines place engine count journal after_journal end t v reached (inr refl) (put ∙ ap (λ found. journal ++ last_lines found (events_run engine)) body)
+    shows_of file stops arms first rack rack stopped lines engine count journal after_journal end t v reached (inr refl) (put ∙ ap (λ found. journal ++ last_lines found (events_run engine)) body)
     (wrote_whole after_journal t v (wrote_more [] journal after_journal t u v wrote (last, put, more)))
 
 -- where its text wasn't all taken
-pub front_some : {D : Type 0} (file : D → FileMap) (stops arms : D → ℕ) (first rack : List D) (stopped : Stopped) (lines : List (List ℕ)) (place : Place) (engine : Option Engine) (count : ℕ) (journal after_journal : List Line) (end : End) (b : Body) (size : ℕ) (t u v : Option (List ℕ))
-    → Some b ≡ last_body end count → Reached file stops arms first rack stopped lines place engine count journal end → Wrote [] journal t u
+pub front_some : {D : Type 0} (file : D → FileMap) (stops arms : D → ℕ) (first rack : List D) (stopped : Stopped) (lines : List (List ℕ)) (engine : Option Engine) (count : ℕ) (journal after_journal : List Line) (end : End) (b : Body) (size : ℕ) (t u v : Option (List ℕ))
+    → Some b ≡ last_body end count → Reached file stops arms first rack stopped lines engine count journal end → Wrote [] journal t u
     → after_journal ≡ journal ++ last_lines (Some b) (events_run engine) → Takes u (take size (text (last_lines (Some b) (events_run engine)))) v
-    → ShowsFront lines t v
-front_some file stops arms first rack stopped lines place engine count journal after_journal end b size t u v body reached wrote put more =
+    → ShowsFront lines t v 4
+front_some file stops arms first rack stopped lines engine count journal after_journal end b size t u v body reached wrote put more =
     let last = last_lines (Some b) (events_run engine) in
     let front = wrote_front journal after_journal t u v wrote (last, size, put, more) in
-    front_last file stops arms first rack stopped lines place engine count journal after_journal end front.0 t v reached (put ∙ ap (λ found. journal ++ last_lines found (events_run engine)) body) front.1
+    front_last file stops arms first rack stopped lines engine count journal after_journal end front.0 t v 4 reached (put ∙ ap (λ found. journal ++ last_lines found (events_run engine)) body) front.1 (λ e. absurd (omega (arith, e)))
 
-pub front_reached : {D : Type 0} (file : D → FileMap) (stops arms : D → ℕ) (first rack : List D) (stopped : Stopped) (lines : List (List ℕ)) (place : Place) (engine : Option Engine) (count : ℕ) (journal : List Line) (end : End) (t u : Option (List ℕ))
-    → Reached file stops arms first rack stopped lines place engine count journal end → Wrote [] journal t u → ShowsFront lines t u
-front_reached file stops arms first rack stopped lines place engine count journal end t u reached wrote =
-    front_of file stops arms first rack lines reached.done reached.rest place engine count journal (length (text journal)) t u reached.whole reached.stage (whole_front journal t u wrote)
+pub front_reached : {D : Type 0} (file : D → FileMap) (stops arms : D → ℕ) (first rack : List D) (stopped : Stopped) (lines : List (List ℕ)) (engine : Option Engine) (count : ℕ) (journal : List Line) (end : End) (t u : Option (List ℕ))
+    → Reached file stops arms first rack stopped lines engine count journal end → Wrote [] journal t u → ShowsFront lines t u 5
+front_reached file stops arms first rack stopped lines engine count journal end t u reached wrote =
+    front_of file stops arms first rack lines reached.done reached.rest reached.place engine count journal (length (text journal)) t u 5 reached.whole reached.stage (whole_front journal t u wrote) (λ _. refl)
 
 -- nothing was written before the line `run`
 pub format_empty : {D : Type 0} (file : D → FileMap) (stops arms : D → ℕ) (first : List D) (stopped : Stopped) (lines : List (List ℕ)) (journal : List Line) → ReachedFormat file stops arms first stopped lines journal → journal ≡ []
 format_empty file stops arms first stopped lines journal at =
     let s = at.reached.stage in
-    s.journal_is ∙ (stage_facts file stops arms first first s.header s.forms at.place s.past None s.moments s.engine_is).nothing refl
+    s.journal_is ∙ (stage_facts file stops arms first first s.header s.forms at.reached.place s.past None s.moments s.engine_is).nothing refl
 
 -- a count that rose later
 pub rose_later : (a b c : ℕ) → a ≤ b → b ≤ c → Rose b c → Rose a c
@@ -163,11 +162,14 @@ headline_of file stops arms left_before left_after faults_before faults_after ca
   ended = s.ended;
   facts = s.facts;
   wrote = s.wrote;
+  untouched = s.untouched;
   disks = s.disks;
 }
 
-pub shown_of : (left_before left_after t u : Option (List ℕ)) (came : List ℕ) (stopped : Stopped) → Gives left_before came left_after → ShowsFront (lines_of stopped came) t u → Shown left_before left_after t u
-shown_of left_before left_after t u came stopped given s = record {
+pub shown_of : (left_before left_after : Option (List ℕ)) (faults_before faults_after : ℕ) (t u : Option (List ℕ)) (came : List ℕ) (stopped : Stopped) (status : ℕ) → Gives left_before came left_after
+    → (s : ShowsFront (lines_of stopped came) t u status) → (s.forms ≡ []) ⊎ Came left_before left_after faults_before faults_after came stopped
+    → Shown left_before left_after faults_before faults_after t u status
+shown_of left_before left_after faults_before faults_after t u came stopped status given s reads = record {
   came = came;
   stopped = stopped;
   forms = s.forms;
@@ -176,8 +178,10 @@ shown_of left_before left_after t u came stopped given s = record {
   journal = s.journal;
   count = s.count;
   given = given;
+  reads = reads;
   was_run = s.was_run;
   is_header = s.is_header;
   facts = s.facts;
   wrote = s.wrote;
+  whole = s.whole;
 }

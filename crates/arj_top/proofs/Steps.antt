@@ -5,7 +5,8 @@ use Rattle.arj_journal.specs.declared.event.Event.{Event}
 use Rattle.arj_journal.specs.declared.header.ObjectLine.{ObjectLine}
 use Rattle.arj_model.specs.Past.{Past, next, Along}
 use Rattle.arj_script.specs.Grammar.{Form, Blank, Nodes, Object, Run, Asks, Place, Objects, next_place}
-use Rattle.arj_script.specs.Input.{HaveForms, events_of}
+use Rattle.arj_script.specs.Input.{events_of}
+use Rattle.arj_top.specs.Built.{HaveForms}
 use Rattle.arj_top.specs.Input.{header_from}
 
 -- where no header was ended, one may be ended by the forms behind

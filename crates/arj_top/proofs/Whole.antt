@@ -16,7 +16,7 @@ use Rattle.arj_journal.specs.declared.body.Line.{Line}
 use Rattle.arj_journal.specs.LineText.{text, line_text}
 use Rattle.arj_model.specs.Past.{nothing_yet}
 use Rattle.arj_script.specs.Grammar.{Form, Place, Start, Running, next_place}
-use Rattle.arj_script.specs.Input.{Stopped, AtLimit, is_too_long, is_enough, ended_lines, rest_line, last_line, lines_of, HaveForms}
+use Rattle.arj_script.specs.Input.{Stopped, AtLimit, is_too_long, is_enough, ended_lines, rest_line, last_line, lines_of}
 use Rattle.arj_top.specs.Running.{Stage, StageOf, Reached, Wrote, WroteFront, end_of}
 use Rattle.arj_top.specs.declared.collect.Stop.{Stop}
 use Rattle.arj_top.specs.declared.collect.Stop.TheVariants as stop
@@ -25,7 +25,7 @@ use Rattle.arj_top.specs.declared.ending.End.TheVariants as ending
 use Rattle.arj_top.specs.declared.run.Runner.{Runner}
 use Rattle.arj_top.specs.Collect.{stopped_at}
 use Rattle.arj_top.proofs.Stages.{Limited}
-use Rattle.arj_script.specs.Grammar.{IsBadLine}
+use Rattle.arj_top.specs.Built.{HaveForms, IsBadLine}
 use Rattle.arj_top.proofs.Steps.{forms_length}
 
 -- where it begins
@@ -77,7 +77,7 @@ wrote_whole b t u first = subst (λ js. Takes t (text js) u) (sym first.1) first
 all_short : (p : Place) (lines : List (List ℕ)) (forms : List Form) (q : Place) → HaveForms p lines forms q → list_any is_too_long lines ≡ false
 all_short p [] forms q h = refl
 all_short p (l ∷ lines) [] q h = absurd h
-all_short p (l ∷ lines) (f ∷ forms) q h = or_from (is_too_long l) (list_any is_too_long lines) (le-ltb 200 (length l) h.0.short) (all_short (next_place p f) lines forms q h.1)
+all_short p (l ∷ lines) (f ∷ forms) q h = or_from (is_too_long l) (list_any is_too_long lines) (le-ltb 200 (length l) h.0.has.short) (all_short (next_place p f) lines forms q h.1)
 
 -- where what has come is enough, not every line was run
 pub never_all : (bytes : List ℕ) (forms : List Form) (place : Place) → is_enough bytes ≡ true → HaveForms Start (lines_of AtLimit bytes) forms place → length forms ≤ 100000 → ⊥
@@ -98,6 +98,10 @@ never_all bytes forms place enough read few =
     (or_cases (list_any is_too_long (ended_lines bytes)) (is_too_long (rest_line bytes)) long))
     (or_cases (nat_lt 100000 (length (ended_lines bytes))) (list_any is_too_long (ended_lines bytes) || is_too_long (rest_line bytes)) enough)
 
+pub stage_first_forms : {D : Type 0} (file : D → FileMap) (stops arms : D → ℕ) (rack : List D) → (let s = stage_first file stops arms rack in s.forms) ≡ []
+unfolding stage_first
+stage_first_forms file stops arms rack = refl
+
 pub stage_start : {D : Type 0} (file : D → FileMap) (stops arms : D → ℕ) (rack : List D) (place : Place) (engine : Option Engine) (count : ℕ) (journal : List Line) → place ≡ Start → engine ≡ None → count ≡ 0 → journal ≡ [] → Stage file stops arms rack rack [] place engine count journal
 stage_start file stops arms rack place engine count journal p e n j =
     subst (λ js. Stage file stops arms rack rack [] place engine count js) (sym j)
@@ -115,10 +119,10 @@ whole_next lines done rest line tail whole cut = whole ∙ (ap (λ ls. done ++ l
 -- why the run ends where every line was run
 pub end_reached : {D : Type 0} (file : D → FileMap) (stops arms : D → ℕ) (first rack : List D) (how : Stop) (bytes : List ℕ) (done rest : List (List ℕ)) (place : Place) (engine : Option Engine) (count : ℕ) (journal : List Line)
     → (stopped_at how ≡ AtLimit → is_enough bytes ≡ true) → lines_of (stopped_at how) bytes ≡ done ++ rest → rest ≡ []
-    → Stage file stops arms first rack done place engine count journal → Reached file stops arms first rack (stopped_at how) (lines_of (stopped_at how) bytes) place engine count journal (end_of how engine)
-end_reached file stops arms first rack stop.Fault bytes done rest place engine count journal enough whole none s = record { done = done; rest = rest; whole = whole; stage = s; why = (refl, none) }
-end_reached file stops arms first rack stop.End bytes done rest place (Some engine) count journal enough whole none s = record { done = done; rest = rest; whole = whole; stage = s; why = (refl, none, s.engine_is.0) }
-end_reached file stops arms first rack stop.End bytes done rest place None count journal enough whole none s = record { done = done; rest = rest; whole = whole; stage = s; why = inr (none, refl, s.engine_is.0) }
+    → Stage file stops arms first rack done place engine count journal → Reached file stops arms first rack (stopped_at how) (lines_of (stopped_at how) bytes) engine count journal (end_of how engine)
+end_reached file stops arms first rack stop.Fault bytes done rest place engine count journal enough whole none s = record { place = place; done = done; rest = rest; whole = whole; stage = s; why = (refl, none) }
+end_reached file stops arms first rack stop.End bytes done rest place (Some engine) count journal enough whole none s = record { place = place; done = done; rest = rest; whole = whole; stage = s; why = (refl, none, s.engine_is.0) }
+end_reached file stops arms first rack stop.End bytes done rest place None count journal enough whole none s = record { place = place; done = done; rest = rest; whole = whole; stage = s; why = inr (none, refl, s.engine_is.0) }
 end_reached file stops arms first rack stop.Limit bytes done rest place engine count journal enough whole none s =
     let all : done ≡ lines_of AtLimit bytes = sym (whole ∙ (ap (λ ls. done ++ ls) none ∙ append-nil done)) in
     absurd (never_all bytes s.forms place (enough refl) (subst (λ ls. HaveForms Start ls s.forms place) all s.read) (omega (arith, s.counted, s.within)))
@@ -131,27 +135,29 @@ pub line_reached : {D : Type 0} (file : D → FileMap) (stops arms : D → ℕ) 
     → lines ≡ done ++ rest → rest ≡ line ∷ tail → StageOf file stops arms first rack done before journal
     → (IsEnd end ending.Bad → (before.lines < 100000 ⊎ (200 < length line)) × IsBadLine before.reader line)
     → (IsEnd end ending.Lines → (100000 ≤ before.lines) × (length line ≤ 200))
-    → ((IsEnd end ending.Bad ⊎ IsEnd end ending.Lines) → (after ≡ before) × (after_rack ≡ rack) × (after_journal ≡ journal))
+    → ((IsEnd end ending.Bad ⊎ IsEnd end ending.Lines) → (after.engine ≡ before.engine) × (after.lines ≡ before.lines) × (after_rack ≡ rack) × (after_journal ≡ journal))
     → (IsEnd end ending.Labels → Limited file stops arms first after_rack done after.reader after.engine after.lines after_journal line)
     → (end ≡ ending.Write → ⊥) → (end ≡ ending.Memory → ⊥) → (end ≡ ending.Format → ⊥) → (end ≡ ending.Whole → ⊥) → (end ≡ ending.Fault → ⊥)
-    → Reached file stops arms first after_rack stopped lines after.reader after.engine after.lines after_journal end
+    → Reached file stops arms first after_rack stopped lines after.engine after.lines after_journal end
 line_reached file stops arms first rack after_rack stopped lines done rest line tail before after journal after_journal ending.Bad whole cut s bad many kept labels a b c d e =
     let k = kept (inl refl) in
     let w = bad refl in
-    subst (λ js. Reached file stops arms first after_rack stopped lines after.reader after.engine after.lines js ending.Bad) (sym k.2)
-    (subst (λ r. Reached file stops arms first r stopped lines after.reader after.engine after.lines journal ending.Bad) (sym k.1)
-    (subst (λ r. Reached file stops arms first rack stopped lines r.reader r.engine r.lines journal ending.Bad) (sym k.0)
-    (record { done = done; rest = rest; whole = whole; stage = s; why = inl (line, tail, cut, w.0, w.1) })))
+    subst (λ js. Reached file stops arms first after_rack stopped lines after.engine after.lines js ending.Bad) (sym k.3)
+    (subst (λ r. Reached file stops arms first r stopped lines after.engine after.lines journal ending.Bad) (sym k.2)
+    (subst (λ n. Reached file stops arms first rack stopped lines after.engine n journal ending.Bad) (sym k.1)
+    (subst (λ en. Reached file stops arms first rack stopped lines en before.lines journal ending.Bad) (sym k.0)
+    (record { place = before.reader; done = done; rest = rest; whole = whole; stage = s; why = inl (line, tail, cut, w.0, w.1) }))))
 line_reached file stops arms first rack after_rack stopped lines done rest line tail before after journal after_journal ending.Lines whole cut s bad many kept labels a b c d e =
     let k = kept (inr refl) in
     let w = many refl in
-    subst (λ js. Reached file stops arms first after_rack stopped lines after.reader after.engine after.lines js ending.Lines) (sym k.2)
-    (subst (λ r. Reached file stops arms first r stopped lines after.reader after.engine after.lines journal ending.Lines) (sym k.1)
-    (subst (λ r. Reached file stops arms first rack stopped lines r.reader r.engine r.lines journal ending.Lines) (sym k.0)
-    (record { done = done; rest = rest; whole = whole; stage = s; why = (line, tail, cut, omega (arith, w.0, s.within), w.1) })))
+    subst (λ js. Reached file stops arms first after_rack stopped lines after.engine after.lines js ending.Lines) (sym k.3)
+    (subst (λ r. Reached file stops arms first r stopped lines after.engine after.lines journal ending.Lines) (sym k.2)
+    (subst (λ n. Reached file stops arms first rack stopped lines after.engine n journal ending.Lines) (sym k.1)
+    (subst (λ en. Reached file stops arms first rack stopped lines en before.lines journal ending.Lines) (sym k.0)
+    (record { place = before.reader; done = done; rest = rest; whole = whole; stage = s; why = (line, tail, cut, omega (arith, w.0, s.within), w.1) }))))
 line_reached file stops arms first rack after_rack stopped lines done rest line tail before after journal after_journal ending.Labels whole cut s bad many kept labels a b c d e =
     let w = labels refl in
-    record { done = done; rest = rest; whole = whole; stage = w.0; why = (line, tail, cut, w.1, w.2) }
+    record { place = after.reader; done = done; rest = rest; whole = whole; stage = w.0; why = (line, tail, cut, w.1, w.2) }
 line_reached file stops arms first rack after_rack stopped lines done rest line tail before after journal after_journal ending.Write whole cut s bad many kept labels a b c d e = absurd (a refl)
 line_reached file stops arms first rack after_rack stopped lines done rest line tail before after journal after_journal ending.Memory whole cut s bad many kept labels a b c d e = absurd (b refl)
 line_reached file stops arms first rack after_rack stopped lines done rest line tail before after journal after_journal ending.Format whole cut s bad many kept labels a b c d e = absurd (c refl)

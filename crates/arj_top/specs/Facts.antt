@@ -1,12 +1,12 @@
 -- What a journal shows, and what the disks hold beside it.
-use Rattle.std.specs.Prelude.{◌≡◌, ◌⊎◌, ◌≤◌, ◌<◌, ℕ, ◌+◌, ◌-◌, List, Some, slice_get, option_and_then}
+use Rattle.std.specs.Prelude.{false, map, drop, ◌≡◌, ◌⊎◌, ◌≤◌, ◌<◌, ℕ, ◌+◌, ◌-◌, List, Some, slice_get, option_and_then}
 use Rattle.arj_disk.specs.Files.{FileMap, held}
 use Rattle.arj_journal.specs.declared.body.Line.{Line}
 use Rattle.arj_journal.specs.declared.event.Event.{Event}
 use Rattle.arj_journal.specs.declared.header.Header.{Header}
 use Rattle.arj_model.specs.Serial.{Serial}
 use Rattle.arj_model.specs.Last.{first_values}
-use Rattle.arj_model.specs.Follows.{Follows, Runs}
+use Rattle.arj_model.specs.Follows.{Follows, Runs, is_node}
 use Rattle.arj_model.specs.Causes.{HasCauseConflict, Prompt, HasRoom, count_halts}
 use Rattle.arj_model.specs.Clean.{Held, ListedStoresHoldLast, ListedStoresHoldLastOrNext}
 
@@ -27,6 +27,10 @@ pub record Facts (header : Header) (events : List Event) (journal : List Line) :
 abbrev pub held_in : {D : Type 0} → (D → FileMap) → List D → Held
 held_in file rack node x = option_and_then (λ disk. held (file disk) x) (slice_get rack (node - 1))
 
+-- no disk but the first was touched, and none was armed
+abbrev pub TouchesFirstAlone : {D : Type 0} → (D → ℕ) → List D → List D → Type 0
+TouchesFirstAlone arms before after = (map arms after ≡ map arms before) × (drop 1 after ≡ drop 1 before)
+
 -- no count of stops rose; one that stands at its last value counts as risen
 abbrev pub NoDiskRose : {D : Type 0} → (D → ℕ) → List D → List D → Type 0
 NoDiskRose {D} stops before after =
@@ -41,5 +45,9 @@ pub record DiskFacts {D : Type 0} (file : D → FileMap) (stops arms : D → ℕ
   -- a node halts only where its disk's count of stops rose, or stands at its last value
   pub halted : (node : ℕ) (old new : D) → slice_get before node ≡ Some old → slice_get after node ≡ Some new →
       (count_halts journal (node + 1) ≤ stops new - stops old) ⊎ (18446744073709551615 ≤ stops new)
+  -- and where it doesn't, the count stays
+  pub steady : (node : ℕ) (old new : D) → slice_get before node ≡ Some old → slice_get after node ≡ Some new → count_halts journal (node + 1) ≡ 0 → stops new ≡ stops old
+  -- and no other node does
+  pub elsewhere : (n : ℕ) → is_node header n ≡ false → count_halts journal n ≡ 0
   -- no disk was armed
   pub armed : (node : ℕ) (old new : D) → slice_get before node ≡ Some old → slice_get after node ≡ Some new → arms new ≡ arms old

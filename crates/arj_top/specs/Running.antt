@@ -1,5 +1,5 @@
 -- What holds while a script is run, line by line, and where the run ends.
-use Rattle.std.specs.Prelude.{◌≡◌, ◌⊎◌, ◌≤◌, ◌<◌, ℕ, ◌+◌, ◌-◌, List, [], ◌∷◌, ◌++◌, length, take, slice_get, slice_set, Option, Some, None, is_some, true}
+use Rattle.std.specs.Prelude.{◌≡◌, ◌≢◌, ◌⊎◌, ◌≤◌, ◌<◌, ℕ, ◌+◌, ◌-◌, List, [], ◌∷◌, ◌++◌, length, take, slice_get, slice_set, Option, Some, None, is_some, true}
 use Rattle.arj_base.specs.Count.{Rose}
 use Rattle.arj_disk.specs.Files.{FileMap}
 use Rattle.arj_engine.specs.declared.engine.Engine.{Engine}
@@ -15,13 +15,14 @@ use Rattle.arj_journal.specs.declared.header.Header.{Header}
 use Rattle.arj_journal.specs.LineText.{text}
 use Rattle.arj_model.specs.Causes.{IsPastLabels, Moment, count_halts}
 use Rattle.arj_model.specs.Past.{Past, Along, nothing_yet}
-use Rattle.arj_script.specs.Grammar.{Form, Run, Asks, Place, Start, Running, HasForm, IsBadLine}
-use Rattle.arj_script.specs.Input.{Stopped, AtEnd, AtFault, HaveForms, events_of}
+use Rattle.arj_script.specs.Grammar.{Form, Run, Asks, Place, Start, Running}
+use Rattle.arj_script.specs.Input.{Stopped, AtEnd, AtFault, events_of}
 use Rattle.arj_top.specs.declared.collect.Stop.{Stop}
 use Rattle.arj_top.specs.declared.collect.Stop.TheVariants as stop
 use Rattle.arj_top.specs.declared.ending.End.{End}
 use Rattle.arj_top.specs.declared.ending.End.TheVariants as ending
 use Rattle.arj_top.specs.declared.run.Runner.{Runner}
+use Rattle.arj_top.specs.Built.{HasBuiltForm, HaveForms, IsBadLine}
 use Rattle.arj_top.specs.Facts.{Facts, DiskFacts}
 use Rattle.arj_top.specs.Input.{header_from, IsHeader}
 use Rattle.arj_top.specs.Outcome.{WasRun, Ended}
@@ -35,6 +36,7 @@ pub record Engaged {D : Type 0} (file : D → FileMap) (stops arms : D → ℕ) 
   pub form : HeaderInForm header
   pub stands : Stands header past engine (file new)
   pub later : stops old ≤ stops new
+  pub steady : count_halts past.lines 1 ≡ 0 → stops new ≡ stops old
   pub halted : (count_halts past.lines 1 ≤ stops new - stops old) ⊎ (18446744073709551615 ≤ stops new)
   pub unarmed : arms new ≡ arms old
 
@@ -109,7 +111,7 @@ IsStanding {D} file rack (Some engine) =
 
 -- The line asks for an event that would give one label too many.
 abbrev pub AsksTooMany : Header → Past → Place → List ℕ → Type 0
-AsksTooMany header past place line = (e : Event) × HasForm place line (Asks e) × IsPastLabels header past e
+AsksTooMany header past place line = (e : Event) × HasBuiltForm place line (Asks e) × IsPastLabels header past e
 
 -- lines more, and their text was taken, or a front of it
 abbrev pub Wrote : List Line → List Line → Option (List ℕ) → Option (List ℕ) → Type 0
@@ -134,12 +136,13 @@ Why ending.Lines stopped rest place engine count header past = (line : List ℕ)
 Why ending.Labels stopped rest place engine count header past =
     (line : List ℕ) × (tail : List (List ℕ)) × (rest ≡ line ∷ tail) × (count < 100000) × AsksTooMany header past place line
 Why ending.Format stopped rest place engine count header past =
-    (line : List ℕ) × (tail : List (List ℕ)) × (rest ≡ line ∷ tail) × HasForm place line Run × (engine ≡ None)
+    (line : List ℕ) × (tail : List (List ℕ)) × (rest ≡ line ∷ tail) × HasBuiltForm place line Run × (count < 100000) × (engine ≡ None)
 Why ending.Write stopped rest place engine count header past = ⊥
 Why ending.Memory stopped rest place engine count header past = ⊥
 
 -- The run of these lines has come to its end.
-pub record Reached {D : Type 0} (file : D → FileMap) (stops arms : D → ℕ) (first rack : List D) (stopped : Stopped) (lines : List (List ℕ)) (place : Place) (engine : Option Engine) (count : ℕ) (journal : List Line) (end : End) : Type 0 where
+pub record Reached {D : Type 0} (file : D → FileMap) (stops arms : D → ℕ) (first rack : List D) (stopped : Stopped) (lines : List (List ℕ)) (engine : Option Engine) (count : ℕ) (journal : List Line) (end : End) : Type 0 where
+  pub place : Place
   pub done : List (List ℕ)
   pub rest : List (List ℕ)
   pub whole : lines ≡ done ++ rest
@@ -148,9 +151,8 @@ pub record Reached {D : Type 0} (file : D → FileMap) (stops arms : D → ℕ) 
 
 -- The run has come to a line `run` at which the first disk was stopped. Before it no disk had changed.
 pub record ReachedFormat {D : Type 0} (file : D → FileMap) (stops arms : D → ℕ) (first : List D) (stopped : Stopped) (lines : List (List ℕ)) (journal : List Line) : Type 0 where
-  pub place : Place
   pub count : ℕ
-  pub reached : Reached file stops arms first first stopped lines place None count journal ending.Format
+  pub reached : Reached file stops arms first first stopped lines None count journal ending.Format
 
 -- how the run ends where every line was run
 abbrev pub end_of : Stop → Option Engine → End
@@ -201,10 +203,11 @@ pub record Shows {D : Type 0} (file : D → FileMap) (stops arms : D → ℕ) (s
   pub ended : Ended status header stopped lines forms place past ending
   pub facts : Facts header (events_of forms) journal
   pub wrote : Takes taken_before (text journal) taken_after
+  pub untouched : header_from Start forms ≡ None → status ≢ 7 → rack_after ≡ rack_before
   pub disks : is_some (header_from Start forms) ≡ true → DiskFacts file stops arms rack_before rack_after header journal
 
 -- What still holds of it where a write failed or memory was wanting.
-pub record ShowsFront (lines : List (List ℕ)) (taken_before taken_after : Option (List ℕ)) : Type 0 where
+pub record ShowsFront (lines : List (List ℕ)) (taken_before taken_after : Option (List ℕ)) (status : ℕ) : Type 0 where
   pub forms : List Form
   pub place : Place
   pub header : Header
@@ -214,3 +217,4 @@ pub record ShowsFront (lines : List (List ℕ)) (taken_before taken_after : Opti
   pub is_header : IsHeader header (header_from Start forms)
   pub facts : Facts header (events_of forms) journal
   pub wrote : Takes taken_before (take count (text journal)) taken_after
+  pub whole : status ≡ 5 → count ≡ length (text journal)

@@ -2,9 +2,10 @@
 //!
 //! It stands on `arj_script`, which reads, `arj_engine`, which runs, and `arj_journal`, which writes. The contract of
 //! `arjuna` is what the whole project promises: `specs/Outcome.antt` says what each status means, `specs/Facts.antt`
-//! what the journal shows and the disks hold.
+//! what the journal shows and the disks hold, and `specs/Built.antt` which forms of the script run today.
 #![tactic(auto)]
 
+mod built;
 mod collect;
 mod ending;
 mod lines;

@@ -5,9 +5,12 @@ ghost use Rattle.arj_journal.specs.declared.body.Line.{Line};
 ghost use Rattle.arj_engine.specs.Form.{HeaderInForm, EventInForm};
 ghost use Rattle.arj_io.specs.Told.{Takes};
 ghost use Rattle.arj_journal.specs.LineText.{text};
-ghost use Rattle.arj_script.specs.Grammar.{Run, Start, HasForm, IsBadLine};
+ghost use Rattle.arj_script.specs.Grammar.{Run, Start};
+ghost use Rattle.arj_top.specs.Built.{HasBuiltForm, IsBadLine};
+ghost use Rattle.arj_top.specs.Facts.{TouchesFirstAlone};
 ghost use Rattle.arj_top.specs.Running.{StageOf, Started, Stepped, Refused, IsStanding, AsksTooMany, Wrote, WroteFront, FirstRose, end_of, events_run, last_body, last_lines};
 
+use crate::built::read_built;
 use crate::collect::Stop;
 use crate::ending::End;
 use crate::write::write_lines;
@@ -56,10 +59,11 @@ impl Runner {
         ensures wrote { OnOk result (Wrote journal.old journal.new (K.taken sink.old) (K.taken sink.new)) }
         ensures bad { IsErrOf result End.Bad → (self.old.lines < 100000 ⊎ (200 < length line.now)) × IsBadLine self.old.reader line.now }
         ensures many { IsErrOf result End.Lines → (100000 ≤ self.old.lines) × (length line.now ≤ 200) }
-        ensures kept { (IsErrOf result End.Bad ⊎ IsErrOf result End.Lines) → (self.new ≡ self.old) × (rack.new ≡ rack.old) × (journal.new ≡ journal.old) }
+        ensures kept { (IsErrOf result End.Bad ⊎ IsErrOf result End.Lines) → (self.new.engine ≡ self.old.engine) × (self.new.lines ≡ self.old.lines)
+            × (rack.new ≡ rack.old) × (journal.new ≡ journal.old) }
         ensures labels { IsErrOf result End.Labels → (first : List D) (lines : List (List ℕ)) → StageOf D.file D.stops D.arms first rack.old lines self.old journal.old
             → (now : StageOf D.file D.stops D.arms first rack.new lines self.new journal.new) × (self.new.lines < 100000) × AsksTooMany now.header now.past self.new.reader line.now }
-        ensures format { IsErrOf result End.Format → HasForm self.old.reader line.now Run × (self.old.engine ≡ None) × (journal.new ≡ journal.old) × FirstRose D.stops rack.old rack.new }
+        ensures format { IsErrOf result End.Format → HasBuiltForm self.old.reader line.now Run × (self.old.lines < 100000) × (self.old.engine ≡ None) × (journal.new ≡ journal.old) × FirstRose D.stops rack.old rack.new }
         ensures write { IsErrOf result End.Write → (first : List D) (lines : List (List ℕ)) → StageOf D.file D.stops D.arms first rack.old lines self.old journal.old
             → StageOf D.file D.stops D.arms first rack.new (lines ++ line.now ∷ []) self.new journal.new }
         ensures front { IsErrOf result End.Write → WroteFront journal.old journal.new (K.taken sink.old) (K.taken sink.new) }
@@ -68,11 +72,13 @@ impl Runner {
         ensures still { IfErr result (λ end. end ≢ End.Write → end ≢ End.Memory → journal.new ≡ journal.old) }
         ensures only { IfErr result (λ end. (end ≢ End.Whole) × (end ≢ End.Fault)) }
         ensures later { K.faults sink.old ≤ K.faults sink.new }
+        ensures steady { OnOk result (K.faults sink.new ≡ K.faults sink.old) }
+        ensures others { TouchesFirstAlone D.arms rack.old rack.new }
     {
         if self.is_full(line) {
             return Err(End::Lines);
         }
-        match self.reader.line(line) {
+        match read_built(&mut self.reader, line) {
             Err(ScriptFault::Bad) => Err(End::Bad),
             Err(ScriptFault::Memory) => Err(End::Memory),
             Ok(Item::Blank) => self.pass(),
@@ -109,6 +115,7 @@ impl Runner {
         ensures memory { IsErrOf result End.Memory → sink.new ≡ sink.old }
         ensures only { IfErr result (λ end. (end ≡ End.Write) ⊎ (end ≡ End.Memory)) }
         ensures later { K.faults sink.old ≤ K.faults sink.new }
+        ensures steady { OnOk result (K.faults sink.new ≡ K.faults sink.old) }
     {
         let before = journal.as_slice().len();
         journal.push(Line {
@@ -172,6 +179,7 @@ impl Runner {
         ensures line { OnOk result ((self.new.reader ≡ self.old.reader) × (self.new.lines ≡ self.old.lines + 1)) }
         ensures format { IsErrOf result End.Format → FirstRose D.stops rack.old rack.new }
         ensures only { IfErr result (λ end. (end ≡ End.Format) ⊎ (end ≡ End.Memory)) }
+        ensures others { TouchesFirstAlone D.arms rack.old rack.new }
     {
         match Engine::format(self.alloc, header, rack.disk(1)) {
             Ok(engine) => {
@@ -205,6 +213,8 @@ impl Runner {
         ensures quiet { IfErr result (λ end. end ≢ End.Write → sink.new ≡ sink.old) }
         ensures only { IfErr result (λ end. (end ≡ End.Labels) ⊎ ((end ≡ End.Write) ⊎ (end ≡ End.Memory))) }
         ensures later { K.faults sink.old ≤ K.faults sink.new }
+        ensures steady { OnOk result (K.faults sink.new ≡ K.faults sink.old) }
+        ensures others { TouchesFirstAlone D.arms rack.old rack.new }
     {
         let before = journal.as_slice().len();
         self.step(event, rack, journal)?;
@@ -228,6 +238,7 @@ impl Runner {
         ensures kept { IsErrOf result End.Labels → (journal.new ≡ journal.old) × (self.new.reader ≡ self.old.reader) × (self.new.lines ≡ self.old.lines) }
         ensures only { IfErr result (λ end. (end ≡ End.Labels) ⊎ (end ≡ End.Memory)) }
         ensures alloc { self.new.alloc ≡ self.old.alloc }
+        ensures others { TouchesFirstAlone D.arms rack.old rack.new }
     {
         let Some(engine) = &mut self.engine else {
             unreachable!()

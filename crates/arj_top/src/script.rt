@@ -4,7 +4,8 @@ ghost use Rattle.arj_base.specs.Count.{Rose};
 ghost use Rattle.arj_script.specs.Grammar.{Place, Start};
 ghost use Rattle.arj_script.specs.Input.{AtLimit, is_enough, lines_of};
 ghost use Rattle.arj_top.specs.Collect.{stopped_at};
-ghost use Rattle.arj_top.specs.Running.{FirstRose, Reached, ReachedFormat, ShowsFront, Wrote};
+ghost use Rattle.arj_top.specs.Facts.{TouchesFirstAlone};
+ghost use Rattle.arj_top.specs.Running.{FirstRose, Reached, ReachedFormat, ShowsFront, Wrote, status_of};
 
 use crate::collect::Input;
 use crate::ending::End;
@@ -28,12 +29,14 @@ pub fn run_lines<K: Sink, D: Disk>(
     requires fresh { journal.old ≡ [] }
     requires enough { stopped_at input.now.stop ≡ AtLimit → is_enough input.now.bytes ≡ true }
     ensures reached { result ≢ End.Write → result ≢ End.Memory → result ≢ End.Format → Reached D.file D.stops D.arms rack.old rack.new (stopped_at input.now.stop)
-        (lines_of (stopped_at input.now.stop) input.now.bytes) runner.new.reader runner.new.engine runner.new.lines journal.new result }
+        (lines_of (stopped_at input.now.stop) input.now.bytes) runner.new.engine runner.new.lines journal.new result }
     ensures format { result ≡ End.Format → ReachedFormat D.file D.stops D.arms rack.old (stopped_at input.now.stop) (lines_of (stopped_at input.now.stop) input.now.bytes) journal.new }
     ensures rose { result ≡ End.Format → FirstRose D.stops rack.old rack.new }
     ensures wrote { result ≢ End.Write → result ≢ End.Memory → Wrote [] journal.new (K.taken sink.old) (K.taken sink.new) }
-    ensures shown { (result ≡ End.Write) ⊎ (result ≡ End.Memory) → ShowsFront (lines_of (stopped_at input.now.stop) input.now.bytes) (K.taken sink.old) (K.taken sink.new) }
+    ensures shown { (result ≡ End.Write) ⊎ (result ≡ End.Memory) → ShowsFront (lines_of (stopped_at input.now.stop) input.now.bytes) (K.taken sink.old) (K.taken sink.new) (status_of result) }
     ensures fault { result ≡ End.Write → Rose (K.faults sink.old) (K.faults sink.new) }
+    ensures steady { result ≢ End.Write → K.faults sink.new ≡ K.faults sink.old }
+    ensures others { TouchesFirstAlone D.arms rack.old rack.new }
     ensures later { K.faults sink.old ≤ K.faults sink.new }
 {
     let mut rest = input.bytes.as_slice();

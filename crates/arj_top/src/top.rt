@@ -6,6 +6,7 @@ ghost use Rattle.arj_script.specs.Input.{AtLimit, is_enough, lines_of};
 ghost use Rattle.arj_top.specs.Collect.{stopped_at};
 ghost use Rattle.arj_top.specs.Input.{IsReplay};
 ghost use Rattle.arj_top.specs.Running.{FirstRose, Shows, ShowsFront};
+ghost use Rattle.arj_top.specs.Facts.{TouchesFirstAlone};
 ghost use Rattle.arj_top.specs.Outcome.{Headline, Shown};
 
 use crate::collect::{Input, collect};
@@ -37,7 +38,9 @@ pub fn arjuna<S: Source, K: Sink, D: Disk>(
     ensures headline { result ≢ 1 → result ≢ 4 → result ≢ 5 → Headline D.file D.stops D.arms (S.left source.old) (S.left source.new)
         (S.faults source.old) (S.faults source.new) (K.taken sink.old) (K.taken sink.new) rack.old rack.new journal.new result }
     // What still holds after a write that failed, or where memory was wanting.
-    ensures shown { (result ≡ 4) ⊎ (result ≡ 5) → Shown (S.left source.old) (S.left source.new) (K.taken sink.old) (K.taken sink.new) }
+    ensures shown { (result ≡ 4) ⊎ (result ≡ 5) → Shown (S.left source.old) (S.left source.new) (S.faults source.old) (S.faults source.new) (K.taken sink.old) (K.taken sink.new) result }
+    // At every status: no disk but the first is touched, and none is armed.
+    ensures others { TouchesFirstAlone D.arms rack.old rack.new }
 
     // Which status, where no field above says it: 5 alone is free.
     ensures statuses { result ≤ 7 }
@@ -46,6 +49,7 @@ pub fn arjuna<S: Source, K: Sink, D: Disk>(
     ensures usage { result ≡ 1 → (journal.new ≡ []) × (source.new ≡ source.old) × (sink.new ≡ sink.old) × (rack.new ≡ rack.old) }
     ensures read_fault { result ≡ 3 → Rose (S.faults source.old) (S.faults source.new) }
     ensures write_fault { result ≡ 4 → Rose (K.faults sink.old) (K.faults sink.new) }
+    ensures no_write_fault { result ≢ 4 → K.faults sink.new ≡ K.faults sink.old }
     ensures format_stop { result ≡ 7 → (journal.new ≡ []) × ((old new : D) → slice_get rack.old 0 ≡ Some old → slice_get rack.new 0 ≡ Some new
         → Rose (D.stops old) (D.stops new)) }
 {
@@ -73,9 +77,11 @@ fn replay<K: Sink, D: Disk>(
     requires enough { stopped_at input.now.stop ≡ AtLimit → is_enough input.now.bytes ≡ true }
     ensures shows { result ≢ 4 → result ≢ 5 → Shows D.file D.stops D.arms (stopped_at input.now.stop) (lines_of (stopped_at input.now.stop) input.now.bytes)
         (K.taken sink.old) (K.taken sink.new) rack.old rack.new journal.new result }
-    ensures front { (result ≡ 4) ⊎ (result ≡ 5) → ShowsFront (lines_of (stopped_at input.now.stop) input.now.bytes) (K.taken sink.old) (K.taken sink.new) }
+    ensures front { (result ≡ 4) ⊎ (result ≡ 5) → ShowsFront (lines_of (stopped_at input.now.stop) input.now.bytes) (K.taken sink.old) (K.taken sink.new) result }
+    ensures others { TouchesFirstAlone D.arms rack.old rack.new }
     ensures statuses { (result ≤ 7) × (result ≢ 1) }
     ensures write_fault { result ≡ 4 → Rose (K.faults sink.old) (K.faults sink.new) }
+    ensures no_write_fault { result ≢ 4 → K.faults sink.new ≡ K.faults sink.old }
     ensures format_stop { result ≡ 7 → (journal.new ≡ []) × FirstRose D.stops rack.old rack.new }
 {
     let mut runner = Runner::new(alloc);

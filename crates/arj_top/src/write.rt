@@ -17,6 +17,7 @@ pub fn write_lines<K: Sink>(alloc: Global, lines: &[Line], sink: &mut K) -> Resu
     ensures fault { IsErrOf result End.Write → Rose (K.faults sink.old) (K.faults sink.new) }
     ensures memory { IsErrOf result End.Memory → sink.new ≡ sink.old }
     ensures only { IfErr result (λ end. (end ≡ End.Write) ⊎ (end ≡ End.Memory)) }
+    ensures steady { OnOk result (K.faults sink.new ≡ K.faults sink.old) }
     ensures later { K.faults sink.old ≤ K.faults sink.new }
 {
     let written = text_of(alloc, lines)?;

@@ -1,8 +1,7 @@
--- Whether it is declared is asked of those that are left.
+-- Whether one has the number is asked of those that are left.
 use Rattle.std.proofs.Common.{◌≡◌, drop}
 use Rattle.arj_script.specs.Grammar.{has_object}
-use Rattle.arj_script.specs.Stage.{object_lines}
 use Rattle.arj_script.proofs.place.has_number.Given as goal
 
 abbrev pub invariant-loop-other : goal.invariant-loop-other
-invariant-loop-other l = has_object l.x (object_lines (drop l.other-index l.declared)) ≡ has_object l.x (object_lines l.declared)
+invariant-loop-other l = has_object l.x (drop l.other-index l.objects) ≡ has_object l.x l.objects

@@ -1,4 +1,4 @@
-use Rattle.std.proofs.Common.{◌≡◌, ◌+◌, refl, rules}
+use Rattle.std.proofs.Common.{◌+◌, refl, rules}
 use Rattle.arj_engine.proofs.Actions.{halted_commit}
 use Rattle.arj_engine.specs.Engine.{machine_of}
 use Rattle.arj_engine.proofs.engine.Engine.commit.Goals as goal

@@ -1,4 +1,4 @@
-use Rattle.std.proofs.Common.{◌≡◌, ◌<◌, ◌+◌, ◌∙◌, false, length, refl, ap, sym, subst, arith}
+use Rattle.std.proofs.Common.{◌≡◌, ◌+◌, ◌∙◌, false, refl, ap}
 use Rattle.std.specs.Vec.{with_item}
 use Rattle.arj_engine.specs.declared.engine.Action.{Action}
 use Rattle.arj_engine.proofs.Actions.{ended_is, get_here}

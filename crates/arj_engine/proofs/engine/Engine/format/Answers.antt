@@ -1,4 +1,4 @@
-use Rattle.std.proofs.Common.{◌≡◌, List, Option, false, refl, ap, subst}
+use Rattle.std.proofs.Common.{List, Option, false, refl, ap, subst}
 use Rattle.std.specs.Map.{lookup}
 use Rattle.std.specs.BTreeMap.{is_at}
 use Rattle.arj_engine.specs.declared.object.Object.{Object}

@@ -1,4 +1,4 @@
-use Rattle.std.proofs.Common.{◌≡◌, List, Option, subst, OnOk}
+use Rattle.std.proofs.Common.{List, Option, subst, OnOk}
 use Rattle.arj_engine.specs.declared.object.Object.{Object}
 use Rattle.arj_engine.specs.Object.{views, PutsStates, PutsSomeStates}
 use Rattle.arj_engine.proofs.Actions.{puts_all, puts_some, get_here, on_ok_to}

@@ -1,4 +1,4 @@
-use Rattle.std.proofs.Common.{◌≡◌, ◌+◌, refl}
+use Rattle.std.proofs.Common.{◌+◌, refl}
 use Rattle.std.specs.Vec.{with_item}
 use Rattle.arj_engine.specs.declared.engine.Action.{Action}
 use Rattle.arj_engine.proofs.Actions.{met_is, get_here}

@@ -1,6 +1,6 @@
 -- what the formatting did to the first disk
 use Rattle.std.proofs.Common.{refl, ap, Err}
-use Rattle.arj_top.proofs.Stages.{first_rose}
+use Rattle.arj_top.proofs.Stages.{first_rose, first_alone}
 use Rattle.arj_top.proofs.run.Runner.start.Goals as goal
 
 pub returns-in-Ok-clause-started : goal.returns-in-Ok-clause-started
@@ -19,3 +19,12 @@ returns-in-Ok-clause-started g c = record {
 pub returns-in-Err-Stopped-clause-format : goal.returns-in-Err-Stopped-clause-format
 returns-in-Err-Stopped-clause-format g c _ old new was now =
     first_rose g.D.Disk.stops c.args.rack.now c.disk.result.now c.format.new.disk old new c.disk.ensures.value (c.in-Err-Stopped.ensures.stopped (ap Err c.in-Err-Stopped.field-0-is)) was now
+
+pub returns-in-Ok-clause-others : goal.returns-in-Ok-clause-others
+returns-in-Ok-clause-others g c = first_alone g.D.Disk.arms c.args.rack.now c.disk.result.now c.format.new.disk c.disk.ensures.value c.format.ensures.arms
+
+pub returns-in-Err-Stopped-clause-others : goal.returns-in-Err-Stopped-clause-others
+returns-in-Err-Stopped-clause-others g c = first_alone g.D.Disk.arms c.args.rack.now c.disk.result.now c.format.new.disk c.disk.ensures.value c.format.ensures.arms
+
+pub returns-in-Err-Memory-clause-others : goal.returns-in-Err-Memory-clause-others
+returns-in-Err-Memory-clause-others g c = first_alone g.D.Disk.arms c.args.rack.now c.disk.result.now c.format.new.disk c.disk.ensures.value c.format.ensures.arms

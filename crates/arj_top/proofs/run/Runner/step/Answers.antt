@@ -3,7 +3,7 @@ use Rattle.std.proofs.Common.{◌≡◌, ◌+◌, ◌∙◌, sym, subst, refl, a
 use Rattle.arj_engine.specs.Engine.{Stands}
 use Rattle.arj_model.specs.Past.{block}
 use Rattle.arj_top.specs.Running.{IsStanding}
-use Rattle.arj_top.proofs.Stages.{some_is}
+use Rattle.arj_top.proofs.Stages.{some_is, first_alone}
 use Rattle.arj_top.proofs.run.Runner.step.Goals as goal
 
 pub returns-in-Ok-clause-grown : goal.returns-in-Ok-clause-grown
@@ -45,3 +45,12 @@ returns-in-Err-Labels-clause-labels g c _ =
       steady = kept.3;
       unarmed = c.step.ensures.arms;
     }
+
+pub returns-in-Ok-clause-others : goal.returns-in-Ok-clause-others
+returns-in-Ok-clause-others g c = first_alone g.D.Disk.arms c.args.rack.now c.disk.result.now c.step.new.disk c.disk.ensures.value c.step.ensures.arms
+
+pub returns-in-Err-Labels-clause-others : goal.returns-in-Err-Labels-clause-others
+returns-in-Err-Labels-clause-others g c = first_alone g.D.Disk.arms c.args.rack.now c.disk.result.now c.step.new.disk c.disk.ensures.value c.step.ensures.arms
+
+pub returns-in-Err-Memory-clause-others : goal.returns-in-Err-Memory-clause-others
+returns-in-Err-Memory-clause-others g c = first_alone g.D.Disk.arms c.args.rack.now c.disk.result.now c.step.new.disk c.disk.ensures.value c.step.ensures.arms
