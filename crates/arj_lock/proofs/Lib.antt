@@ -1,0 +1,13 @@
+pub mod Exclusion
+pub mod Grants
+pub mod Handed
+pub mod Holders
+pub mod Locks
+pub mod Members
+pub mod OneEach
+pub mod Passes
+pub mod Passing
+pub mod Paths
+pub mod Steps
+pub mod Uids
+pub mod Uniqueness

@@ -1,0 +1,6 @@
+pub mod Exclusion
+pub mod Held
+pub mod Locks
+pub mod Passing
+pub mod Removal
+pub mod Requests

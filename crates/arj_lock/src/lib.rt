@@ -1,0 +1,23 @@
+//! The lock table of a node: which action holds which object in which mode, under nested atomic actions (after Moss).
+//!
+//! It stands on `arj_base`, whose `specs/Rows.antt` says what a lock table is: a list of rows in order of granting, and
+//! what each step makes of it. What it gives upward: a `LockTable` is that list, and each call is its step; and two laws
+//! of the steps: `rows_exclude`, for which there are locks, that no two rows of one object conflict unless one holder is
+//! on the other's path, and `rows_are_one_each`, that no action has two rows of one object.
+#![tactic(auto)]
+
+mod fault;
+mod laws;
+mod lock;
+mod meet;
+mod pass;
+mod remove;
+mod table;
+mod tops;
+
+pub use fault::LockFault;
+pub use laws::{rows_are_one_each, rows_exclude};
+pub use table::LockTable;
+
+#[cfg(test)]
+mod tests;

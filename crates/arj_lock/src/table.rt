@@ -1,0 +1,129 @@
+// The lock table.
+ghost use Rattle.std.specs.Prelude.{◌≡◌, [], List, Some, IfOk, OnOk, OnErr, IfSome, IsErrOf};
+ghost use Rattle.arj_base.specs.declared.mode.Mode.{Mode};
+ghost use Rattle.arj_base.specs.declared.uid.Uid.{Uid};
+ghost use Rattle.arj_base.specs.Path.{uids_of};
+ghost use Rattle.arj_base.specs.Rows.{Row, last_uid, grant_row, pass_rows, drop_rows, close_rows, lower_row};
+ghost use Rattle.arj_lock.specs.Exclusion.{IsOneEach};
+ghost use Rattle.arj_lock.specs.Held.{has_any, AreTops};
+ghost use Rattle.arj_lock.specs.Locks.{rows_of};
+ghost use Rattle.arj_lock.specs.Requests.{asked, conflict_with, mode_of, is_rise};
+
+use crate::LockFault;
+use crate::lock::Lock;
+use crate::meet::{Met, lower, meet, strengthen};
+use crate::pass::pass;
+use crate::remove::{Gone, remove};
+use crate::tops::{is_any_below, list_tops};
+use arj_base::{Mode, Path, Uid, Uids};
+use std::alloc::{AllocError, Global};
+use std::marker::Model;
+
+/// Which action holds which object in which mode. Contracts see the rows, in order of granting, each with the path of
+/// its holder. Strict two-phase locking under nested actions (Moss): a lock is granted where every conflicting holder is
+/// the asking action or one of its ancestors, and is held until its holder ends.
+#[derive(Drop)]
+pub struct LockTable {
+    locks: Vec<Lock>,
+}
+
+impl Model for LockTable {
+    ghost use Rattle.std.specs.Prelude.{List};
+    ghost use Rattle.arj_base.specs.Rows.{Row};
+    ghost use Rattle.arj_lock.specs.Exclusion.{IsOneEach};
+    ghost use Rattle.arj_lock.specs.Locks.{rows_of};
+
+    ghost Value = { List Row };
+
+    ghost view = { λ t. rows_of t.locks.items };
+
+    ghost invariant = { λ t. IsOneEach (rows_of t.locks.items) };
+}
+
+impl LockTable {
+    /// No lock. It allocates nothing.
+    pub fn new(alloc: Global) -> LockTable
+        ensures { result ≡ [] }
+    {
+        LockTable {
+            locks: Vec::new(alloc),
+        }
+    }
+
+    /// Asks a lock for the action with this path, and answers whether the action's mode on the object rose. Conflict
+    /// exactly where a row conflicts, and it names the first one in order of granting.
+    pub fn request(&mut self, path: &Path, object: Uid, mode: Mode) -> Result<bool, LockFault>
+        ensures conflict { IfSome (conflict_with (uids_of path.now) object mode self.old) (λ met. IsErrOf result (LockFault.Conflict met.0 met.1)) }
+        ensures named { (holder : Uid) (held : Mode) → IsErrOf result (LockFault.Conflict holder held) → conflict_with (uids_of path.now) object mode self.old ≡ Some (holder, held) }
+        ensures granted { OnOk result (self.new ≡ grant_row (asked path.now object mode) self.old) }
+        ensures rose { IfOk result (λ rose. rose ≡ is_rise (mode_of object (last_uid (uids_of path.now)) self.old) mode) }
+        ensures kept { OnErr result (self.new ≡ self.old) }
+    {
+        match meet(self.locks.as_slice(), path, object, mode) {
+            Met::Against { holder, mode } => Err(LockFault::Conflict { holder, mode }),
+            Met::Own(at) => Ok(strengthen(&mut self.locks, at, mode)),
+            Met::Free => {
+                self.locks.push(Lock {
+                    object,
+                    path: *path,
+                    mode,
+                })?;
+                Ok(true)
+            }
+        }
+    }
+
+    /// Passes an action's locks to its parent, or a constituent's to its serializing action, each in its place. A lock
+    /// that the parent has already takes the stronger mode. The locks of an action without a parent go. It takes no
+    /// memory.
+    pub fn pass_to_parent(&mut self, action: Uid)
+        ensures { self.new ≡ pass_rows action self.old }
+    {
+        pass(&mut self.locks, action);
+    }
+
+    /// Drops the locks of an action and of its descendants.
+    pub fn drop_action(&mut self, action: Uid)
+        ensures { self.new ≡ drop_rows action self.old }
+    {
+        remove(&mut self.locks, Gone::Action(action));
+    }
+
+    /// Drops all locks on an object.
+    pub fn close(&mut self, object: Uid)
+        ensures { self.new ≡ close_rows object self.old }
+    {
+        remove(&mut self.locks, Gone::Object(object));
+    }
+
+    /// Lowers an action's lock on an object to read, in its place.
+    pub fn lower(&mut self, action: Uid, object: Uid)
+        ensures { self.new ≡ lower_row action object self.old }
+    {
+        lower(&mut self.locks, action, object);
+    }
+
+    /// Holder and mode of the lock that a request would name as conflicting. None exactly where it would meet none.
+    pub fn conflict(&self, path: &Path, object: Uid, mode: Mode) -> Option<(Uid, Mode)>
+        ensures { result ≡ conflict_with (uids_of path.now) object mode self.now }
+    {
+        match meet(self.locks.as_slice(), path, object, mode) {
+            Met::Against { holder, mode } => Some((holder, mode)),
+            Met::Own(_) | Met::Free => None,
+        }
+    }
+
+    /// Whether an action or a descendant of it has a lock.
+    pub fn holds(&self, action: Uid) -> bool
+        ensures { result ≡ has_any action self.now }
+    {
+        is_any_below(self.locks.as_slice(), action)
+    }
+
+    /// The tops of all holders, each once, in increasing order.
+    pub fn held(&self, alloc: Global) -> Result<Uids, AllocError>
+        ensures { IfOk result (λ tops. AreTops self.now tops) }
+    {
+        list_tops(alloc, self.locks.as_slice())
+    }
+}

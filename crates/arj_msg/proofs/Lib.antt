@@ -1,0 +1,12 @@
+pub mod CaseLaws
+pub mod DecodeLaws
+pub mod FieldLaws
+pub mod HeadLaws
+pub mod Laws
+pub mod Loop
+pub mod MessageLaws
+pub mod PathLaws
+pub mod ReplyLaws
+pub mod Sizes
+pub mod StateLaws
+pub mod TextLaws

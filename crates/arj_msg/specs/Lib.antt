@@ -1,0 +1,9 @@
+pub mod Answers
+pub mod Fields
+pub mod Format
+pub mod Head
+pub mod Layout
+pub mod Operation
+pub mod Replies
+pub mod Requests
+pub mod State

@@ -1,0 +1,34 @@
+//! The twenty messages between nodes, in bytes: eight requests with their answers, and four messages of their own
+//! (told, acked, query, hello).
+//!
+//! It stands on `arj_base` and `arj_class`. What it gives upward: a message has one spelling, `message_bytes`, which
+//! `encode` writes and `decode` alone accepts; what is encoded is read back. A layout is written once, as a format of
+//! `specs/` (`Format`, `Layout`): how a value is spelled, its fields, which values are in form, and how it is read.
+#![tactic(auto)]
+
+mod answer;
+mod codec;
+mod fault;
+mod field;
+mod head;
+mod message;
+mod number;
+mod operation;
+mod other;
+mod reply;
+mod request;
+mod spelling;
+mod state;
+
+pub use codec::{decode, encode};
+pub use fault::MsgFault;
+pub use message::{
+    Acked, Activate, Activated, Asked, Bind, Binds, Bound, BoundReply, Confirm, Confirmed,
+    ConfirmedReply, Grants, Head, Hello, Invoke, Invoked, InvokedReply, Load, Loaded, LoadedReply,
+    Marks, Message, Prepare, Prepared, PreparedReply, Query, RecordMsg, Recorded, RecordedReply,
+    States, Told, Vote, Voted, VotedReply, What,
+};
+pub use spelling::one_spelling;
+
+#[cfg(test)]
+mod tests;

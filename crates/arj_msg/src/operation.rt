@@ -1,0 +1,162 @@
+// Operations of objects and what they answer.
+ghost use Rattle.std.specs.Prelude.{◌≡◌, ◌≤◌, ◌∷◌, ◌++◌, length, OnOk};
+ghost use Rattle.arj_msg.specs.Format.{Gives};
+ghost use Rattle.arj_msg.specs.Fields.{number8};
+ghost use Rattle.arj_msg.specs.Operation.{text, operation, answer};
+
+use crate::fault::ReadFault;
+use crate::field::Field;
+use arj_base::Bytes;
+use arj_class::{Answer, Op};
+use std::alloc::{AllocError, Global};
+
+/// Reads at most 64 bytes behind their length.
+#[tactic(auto, unfolding(crate::specs::Operation::text))]
+fn read_text(alloc: Global, bytes: &[u8]) -> Result<(Bytes, &[u8]), ReadFault>
+    ensures { Gives (λ x. (x.0, x.1.now)) result (text.read bytes.now) }
+{
+    let Some((length, behind)) = bytes.split_first() else {
+        return Err(ReadFault::Left(bytes.len()));
+    };
+    let length = usize::from(*length);
+    if 64 < length || behind.len() < length {
+        return Err(ReadFault::Left(bytes.len()));
+    }
+    let (front, rest) = behind.split_at(length);
+    let mut text = Bytes::new(alloc);
+    text.extend(front)?;
+    Ok((text, rest))
+}
+
+/// Puts bytes behind their length.
+#[tactic(auto, using(std::proofs::lemmas::List::append_assoc), unfolding(crate::specs::Operation::text))]
+fn put_text(bytes: &Bytes, out: &mut Bytes) -> Result<(), AllocError>
+    requires { text.Fits bytes.now }
+    ensures { OnOk result (out.new ≡ out.old ++ text.spell bytes.now) }
+{
+    out.push(bytes.as_slice().len() as u8)?;
+    out.extend(bytes.as_slice())
+}
+
+// Puts a code and a number behind it.
+#[tactic(auto, using(std::proofs::lemmas::List::append_assoc), unfolding(crate::specs::Fields::number8))]
+fn put_with_number(code: u8, number: u64, out: &mut Bytes) -> Result<(), AllocError>
+    ensures { OnOk result (out.new ≡ out.old ++ code ∷ number8.spell number) }
+{
+    out.push(code)?;
+    number.put(out)
+}
+
+impl Field for Op {
+    ghost format = { operation };
+
+    #[tactic(auto, unfolding(crate::specs::Operation::operation, crate::specs::Format::nothing, crate::specs::Format::byte))]
+    fn read(alloc: Global, bytes: &[u8]) -> Result<(Op, &[u8]), ReadFault> {
+        match bytes {
+            [1, rest @ ..] => Ok((Op::Get, rest)),
+            [2, rest @ ..] => {
+                let (n, rest) = u64::read(alloc, rest)?;
+                Ok((Op::Add(n), rest))
+            }
+            [3, rest @ ..] => {
+                let (n, rest) = u64::read(alloc, rest)?;
+                Ok((Op::Set(n), rest))
+            }
+            [4, rest @ ..] => {
+                let (bytes, rest) = read_text(alloc, rest)?;
+                Ok((Op::Put(bytes), rest))
+            }
+            [5, rest @ ..] => {
+                let (n, rest) = u64::read(alloc, rest)?;
+                Ok((Op::Deposit(n), rest))
+            }
+            [6, rest @ ..] => {
+                let (n, rest) = u64::read(alloc, rest)?;
+                Ok((Op::Withdraw(n), rest))
+            }
+            [7, rest @ ..] => Ok((Op::Len, rest)),
+            [8, rest @ ..] => {
+                let (n, rest) = u64::read(alloc, rest)?;
+                Ok((Op::Push(n), rest))
+            }
+            [9, rest @ ..] => Ok((Op::Pop, rest)),
+            [10, rest @ ..] => {
+                let (key, rest) = u64::read(alloc, rest)?;
+                Ok((Op::GetKey(key), rest))
+            }
+            [11, rest @ ..] => {
+                let ((key, value), rest) = <(u64, u64)>::read(alloc, rest)?;
+                Ok((Op::PutPair(key, value), rest))
+            }
+            [12, rest @ ..] => {
+                let (key, rest) = u64::read(alloc, rest)?;
+                Ok((Op::Remove(key), rest))
+            }
+            _ => Err(ReadFault::Left(bytes.len())),
+        }
+    }
+
+    #[tactic(auto, using(std::proofs::lemmas::List::append_assoc), unfolding(crate::specs::Operation::operation, crate::specs::Format::nothing, crate::specs::Format::byte))]
+    fn put(&self, out: &mut Bytes) -> Result<(), AllocError> {
+        match self {
+            Op::Get => out.push(1),
+            Op::Add(n) => put_with_number(2, *n, out),
+            Op::Set(n) => put_with_number(3, *n, out),
+            Op::Put(bytes) => {
+                out.push(4)?;
+                put_text(bytes, out)
+            }
+            Op::Deposit(n) => put_with_number(5, *n, out),
+            Op::Withdraw(n) => put_with_number(6, *n, out),
+            Op::Len => out.push(7),
+            Op::Push(n) => put_with_number(8, *n, out),
+            Op::Pop => out.push(9),
+            Op::GetKey(key) => put_with_number(10, *key, out),
+            Op::PutPair(key, value) => {
+                put_with_number(11, *key, out)?;
+                value.put(out)
+            }
+            Op::Remove(key) => put_with_number(12, *key, out),
+        }
+    }
+}
+
+impl Field for Answer {
+    ghost format = { answer };
+
+    #[tactic(auto, unfolding(crate::specs::Operation::answer, crate::specs::Format::nothing, crate::specs::Format::byte))]
+    fn read(alloc: Global, bytes: &[u8]) -> Result<(Answer, &[u8]), ReadFault> {
+        match bytes {
+            [0, rest @ ..] => Ok((Answer::Done, rest)),
+            [1, rest @ ..] => {
+                let (n, rest) = u64::read(alloc, rest)?;
+                Ok((Answer::Number(n), rest))
+            }
+            [2, rest @ ..] => {
+                let (bytes, rest) = read_text(alloc, rest)?;
+                Ok((Answer::Text(bytes), rest))
+            }
+            [3, rest @ ..] => Ok((Answer::Over, rest)),
+            [4, rest @ ..] => Ok((Answer::Short, rest)),
+            [5, rest @ ..] => Ok((Answer::Full, rest)),
+            [6, rest @ ..] => Ok((Answer::Nothing, rest)),
+            _ => Err(ReadFault::Left(bytes.len())),
+        }
+    }
+
+    #[tactic(auto, using(std::proofs::lemmas::List::append_assoc), unfolding(crate::specs::Operation::answer, crate::specs::Format::nothing, crate::specs::Format::byte))]
+    fn put(&self, out: &mut Bytes) -> Result<(), AllocError> {
+        match self {
+            Answer::Done => out.push(0),
+            Answer::Number(n) => put_with_number(1, *n, out),
+            Answer::Text(bytes) => {
+                out.push(2)?;
+                put_text(bytes, out)
+            }
+            Answer::Over => out.push(3),
+            Answer::Short => out.push(4),
+            Answer::Full => out.push(5),
+            Answer::Nothing => out.push(6),
+        }
+    }
+}

@@ -1,0 +1,5 @@
+pub mod Added
+pub mod Merged
+pub mod Passes
+pub mod Same
+pub mod Undone

@@ -1,0 +1,4 @@
+pub mod Ends
+pub mod Record
+pub mod Records
+pub mod Scene

@@ -1,0 +1,258 @@
+// Ends of actions, against a scene that writes down which calls it gets. Values are numbers.
+ghost use Rattle.std.specs.Prelude.{◌≡◌, false, [], ◌∷◌, ◌++◌};
+
+use crate::{AbstractRecord, Record, RecordList, Scene};
+use arj_base::{Mode, Uid, object_uid};
+use std::alloc::{AllocError, Global};
+use std::test::Fail;
+
+/// One call of a scene.
+#[derive(Clone, Copy, Debug, PartialEq, Eq)]
+enum Got {
+    Restore(Uid, u64),
+    Pass(Uid),
+    Release(Uid),
+    Raise(Uid, Uid),
+}
+
+/// Writes its calls down, while there is memory for it.
+#[derive(Drop)]
+struct Recorder {
+    calls: Vec<Got>,
+    lost: bool,
+}
+
+impl Recorder {
+    fn new(alloc: Global) -> Recorder {
+        Recorder {
+            calls: Vec::new(alloc),
+            lost: false,
+        }
+    }
+
+    fn note(&mut self, call: Got)
+        ensures { self.new.lost ≡ false → self.new.calls.items ≡ self.old.calls.items ++ call ∷ [] }
+    {
+        let noted = self.calls.push(call).is_ok();
+        self.lost = self.lost || !noted;
+    }
+}
+
+impl Scene<u64> for Recorder {
+    ghost use Rattle.std.specs.Prelude.{◌≡◌, false, [], ◌∷◌, ◌++◌};
+    ghost use Rattle.arj_record.specs.Scene.{restore, pass, release, raise};
+    ghost use Rattle.arj_record.specs.declared.tests.Got.TheVariants.{Restore, Pass, Release, Raise};
+
+    ghost step = { λ old call new. new.lost ≡ false → new.calls.items ≡ old.calls.items ++ (elim call [ restore x v ↦ Restore x v | pass a ↦ Pass a | release a ↦ Release a | raise x w ↦ Raise x w ]) ∷ [] };
+
+    fn restore(&mut self, object: Uid, before: u64) {
+        self.note(Got::Restore(object, before));
+    }
+
+    fn pass(&mut self, action: Uid) {
+        self.note(Got::Pass(action));
+    }
+
+    fn release(&mut self, action: Uid) {
+        self.note(Got::Release(action));
+    }
+
+    fn raise(&mut self, object: Uid, writer: Uid) {
+        self.note(Got::Raise(object, writer));
+    }
+}
+
+fn action(num: u64) -> Uid {
+    Uid {
+        node: 1,
+        inc: 1,
+        num,
+    }
+}
+
+// What an action did to an object: it read it, or wrote it first where it had a value.
+#[derive(Clone, Copy)]
+enum Did {
+    Read(u16),
+    Write(u16, u64),
+}
+
+// The list with the records of one thing that was done.
+fn noted(mut list: RecordList<u64>, did: Did) -> Result<RecordList<u64>, AllocError> {
+    if list.reserve(3).is_err() {
+        list.abandon();
+        return Err(AllocError);
+    }
+    match did {
+        Did::Read(x) => list.add(Record::Lock {
+            object: object_uid(x),
+            mode: Mode::Read,
+        }),
+        Did::Write(x, before) => {
+            let object = object_uid(x);
+            list.add(Record::Persistence { object });
+            list.add(Record::Lock {
+                object,
+                mode: Mode::Write,
+            });
+            list.add(Record::Recovery { object, before });
+        }
+    }
+    Ok(list)
+}
+
+fn list_of(alloc: Global, dids: &[Did]) -> Result<RecordList<u64>, AllocError> {
+    let mut list = RecordList::new(alloc);
+    for did in dids {
+        list = noted(list, *did)?;
+    }
+    Ok(list)
+}
+
+// The parent's list after a nested commit of the child's.
+fn merged(
+    child: RecordList<u64>,
+    mut parent: RecordList<u64>,
+) -> Result<RecordList<u64>, AllocError> {
+    if parent.reserve(child.len()).is_err() {
+        child.abandon();
+        parent.abandon();
+        return Err(AllocError);
+    }
+    child.merge_into(&mut parent);
+    Ok(parent)
+}
+
+// A list into which two children were merged, which both wrote object 1. The second wrote what the first had read.
+fn merged_twice(alloc: Global) -> Result<RecordList<u64>, AllocError> {
+    let first = list_of(alloc, &[Did::Read(2), Did::Write(1, 7)])?;
+    let parent = merged(first, RecordList::new(alloc))?;
+    match list_of(alloc, &[Did::Write(2, 20), Did::Write(1, 8)]) {
+        Ok(second) => merged(second, parent),
+        Err(refused) => {
+            parent.abandon();
+            Err(refused)
+        }
+    }
+}
+
+// Whether the only lock on an object is a write lock.
+fn is_write_locked(records: &[Record<u64>], x: u16) -> bool {
+    records.iter().all(|record| match record {
+        Record::Lock { object, mode } => *object != object_uid(x) || *mode == Mode::Write,
+        _ => true,
+    })
+}
+
+// The calls that a scene gets where a list ends.
+fn calls_of(alloc: Global, list: RecordList<u64>, commits: bool) -> Vec<Got> {
+    let mut scene = Recorder::new(alloc);
+    if commits {
+        list.keep(action(1), &mut scene);
+    } else {
+        list.undo(action(1), &mut scene);
+    }
+    scene.calls
+}
+
+#[test]
+fn two_merges_and_an_end(rt: HostRuntime) -> Result<(), Fail> {
+    let alloc = rt.alloc();
+    let one = object_uid(1);
+    let two = object_uid(2);
+    let top = action(1);
+    // The object that is forgotten before the end, 0 for none; whether the end is a commit; and what the scene gets.
+    let cases: [(u16, bool, &[Got]); 4] = [
+        (
+            0,
+            false,
+            &[
+                Got::Restore(one, 7),
+                Got::Restore(two, 20),
+                Got::Release(top),
+            ],
+        ),
+        (
+            0,
+            true,
+            &[Got::Pass(top), Got::Raise(one, top), Got::Raise(two, top)],
+        ),
+        (1, false, &[Got::Restore(two, 20), Got::Release(top)]),
+        (1, true, &[Got::Pass(top), Got::Raise(two, top)]),
+    ];
+    for (gone, commits, want) in cases {
+        let mut list = merged_twice(alloc)?;
+        assert_eq!(rt; list.len(), 6);
+        assert!(rt; is_write_locked(list.as_slice(), 2));
+        list.forget(object_uid(gone));
+        let calls = calls_of(alloc, list, commits);
+        assert_eq!(rt; calls.as_slice(), want);
+    }
+    assert!(rt; calls_of(alloc, RecordList::new(alloc), false).is_empty());
+    assert!(rt; calls_of(alloc, RecordList::new(alloc), true).is_empty());
+    Ok(())
+}
+
+// A record of the kind with this order, of object x.
+fn record_of(order: u8, x: u16) -> Record<u64> {
+    let object = object_uid(x);
+    match order {
+        1 => Record::Recovery { object, before: 5 },
+        2 => Record::Lock {
+            object,
+            mode: Mode::Read,
+        },
+        _ => Record::Persistence { object },
+    }
+}
+
+fn merges_with(one: &Record<u64>, order: u8, x: u16) -> bool {
+    let other = record_of(order, x);
+    let merges = one.may_merge(&other);
+    other.discard();
+    merges
+}
+
+// The calls that a scene gets where a record ends: at a nested abort, a top-level abort, a top-level commit.
+fn calls_of_one<R: AbstractRecord<u64>>(alloc: Global, one: R, operation: u8) -> Vec<Got> {
+    let mut scene = Recorder::new(alloc);
+    match operation {
+        0 => one.nested_abort(action(1), &mut scene),
+        1 => one.top_abort(action(1), &mut scene),
+        _ => one.top_commit(action(1), &mut scene),
+    }
+    scene.calls
+}
+
+#[test]
+fn each_record_by_itself(rt: HostRuntime) -> Result<(), Fail> {
+    let alloc = rt.alloc();
+    let object = object_uid(1);
+    let top = action(1);
+    // The order; what a top-level commit stores; and what the scene gets at an abort and at a top-level commit.
+    let cases: [(u8, Option<Uid>, &[Got], &[Got]); 3] = [
+        (1, None, &[Got::Restore(object, 5)], &[]),
+        (2, None, &[Got::Release(top)], &[Got::Pass(top)]),
+        (3, Some(object), &[], &[Got::Raise(object, top)]),
+    ];
+    for (order, stores, undone, kept) in cases {
+        let one = record_of(order, 1);
+        assert_eq!(rt; one.order(), order);
+        assert_eq!(rt; one.top_prepare(), stores);
+        assert!(rt; one.nested_prepare());
+        for other in 1..4u8 {
+            assert_eq!(rt; merges_with(&one, other, 1), other == order);
+            assert!(rt; !merges_with(&one, other, 2));
+        }
+        assert_eq!(rt; calls_of_one(alloc, one, 0).as_slice(), undone);
+        assert_eq!(rt;
+            calls_of_one(alloc, record_of(order, 1), 1).as_slice(),
+            undone
+        );
+        assert_eq!(rt;
+            calls_of_one(alloc, record_of(order, 1), 2).as_slice(),
+            kept
+        );
+    }
+    Ok(())
+}

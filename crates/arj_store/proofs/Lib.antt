@@ -1,0 +1,16 @@
+pub mod Bytes
+pub mod Changes
+pub mod Ends
+pub mod Files
+pub mod Formatted
+pub mod Keeping
+pub mod Lists
+pub mod Loops
+pub mod Pairs
+pub mod Prepared
+pub mod Prepares
+pub mod Puts
+pub mod Readings
+pub mod Recovering
+pub mod Refusals
+pub mod Uids

@@ -1,0 +1,81 @@
+-- Why a state is refused, by the committed state and by who has prepared the object.
+use Rattle.std.proofs.Common.{◌≡◌, ◌≢◌, ◌⊎◌, ◌∙◌, true, false, List, [], ◌∷◌, ℕ, zero, suc, ◌<◌, take, get_or, length, arith, refl, sym, ap, subst, inl, inr, ⊎_elim, Option, Some, None}
+use Rattle.std.specs.Prelude.{is_some, IfSome, option_map, MatchOption}
+use Rattle.std.specs.List.{AllByRecursion}
+use Rattle.arj_base.specs.State.{state_bytes, StateInForm}
+use Rattle.arj_base.specs.declared.state.ObjectState.{ObjectState}
+use Rattle.arj_base.specs.declared.uid.Uid.{Uid}
+use Rattle.arj_disk.specs.declared.slot.Role.{Role}
+use Rattle.arj_disk.specs.declared.slot.Slot.TheVariants as slot
+use Rattle.arj_disk.specs.Files.{FileMap}
+use Rattle.arj_disk.specs.Formed.{FormedFor, IsStateOf}
+use Rattle.arj_disk.specs.Says.{role_of, pend, names, InDoubt}
+use Rattle.arj_store.specs.declared.answer.Prep.{Prep}
+use Rattle.arj_store.specs.declared.answer.Prep.TheVariants as prep
+use Rattle.arj_store.specs.declared.memory.Holding.{Holding}
+use Rattle.arj_store.specs.Pair.{IsHeld, IsWrittenBy, IsOld, Refuses, IsClear, IsRefused}
+use Rattle.arj_store.specs.Shadow.{HeldRefuses, IsBelow}
+use Rattle.arj_store.proofs.Pairs.{held_own}
+
+-- the answer where the committed state allows the new one: by who has prepared the object
+pub by_holder : (file : FileMap) (role : Role) (act : Uid) (s : ObjectState) (h : Option Holding) → MatchOption h (InDoubt file role s.uid → ⊥) (λ h. names (pend file role h.act) s.uid)
+    → (IsWrittenBy file role act s.uid → ⊥) → ((v : ℕ) → IsOld file role s v → ⊥)
+    → MatchOption (option_map (λ h. prep.InDoubt s.uid h.act) h) (IsClear file role act s) (Refuses file role act s)
+by_holder file role act s None free unwritten newer = record { unwritten = unwritten; newer = newer; free = free }
+by_holder file role act s (Some h) named unwritten newer = (refl, unwritten, newer, named)
+
+module _ (file : FileMap) (role : Role) (act : Uid) (s : ObjectState) (own : role_of s.uid ≡ role) where
+  -- nothing is committed
+  pub unheld : file (slot.Committed s.uid) ≡ None → (t : ObjectState) → IsHeld file role s.uid t → ⊥
+  unheld none t is = let never : None ≡ Some (state_bytes t) = sym none ∙ sym (held_own file role s.uid own) ∙ is.bytes in cc
+
+  pub unwritten_of_none : file (slot.Committed s.uid) ≡ None → IsWrittenBy file role act s.uid → ⊥
+  unwritten_of_none none is = unheld none is.0 is.1
+
+  pub newer_of_none : file (slot.Committed s.uid) ≡ None → (v : ℕ) → IsOld file role s v → ⊥
+  newer_of_none none v is = unheld none is.0 is.1
+
+  module _ (t : ObjectState) (bytes : file (slot.Committed s.uid) ≡ Some (state_bytes t)) (form : StateInForm t) (only : (r : ObjectState) → StateInForm r → file (slot.Committed s.uid) ≡ Some (state_bytes r) → r ≡ t)
+      (formed : FormedFor file role) where
+    own_state : t.uid ≡ s.uid
+    own_state = by (subst (λ o. IfSome o (IsStateOf s.uid)) bytes (formed.committed s.uid own))
+      where
+        by : IsStateOf s.uid (state_bytes t) → t.uid ≡ s.uid
+        by is = ap (λ r. r.uid) (sym (only is.0 is.1 (bytes ∙ ap Some is.3))) ∙ is.2
+
+    pub held_is : IsHeld file role s.uid t
+    held_is = record { bytes = held_own file role s.uid own ∙ bytes; in_form = form; own = own_state }
+
+    pub held_only : (r : ObjectState) → IsHeld file role s.uid r → r ≡ t
+    held_only r is = only r is.in_form (sym (held_own file role s.uid own) ∙ is.bytes)
+
+    pub unwritten : t.writer ≢ act → IsWrittenBy file role act s.uid → ⊥
+    unwritten other is = other (ap (λ r. r.writer) (sym (held_only is.0 is.1)) ∙ is.2)
+
+    pub newer : (IsBelow s t → ⊥) → (v : ℕ) → IsOld file role s v → ⊥
+    newer above v is = above (subst (λ r. IsBelow s r) (held_only is.0 is.1) (below is.3))
+      where
+        below : (s.version < v) ⊎ ((s.version ≡ v) × (state_bytes s ≢ state_bytes is.0)) → IsBelow s is.0
+        below = ⊎_elim (λ (h : s.version < v). inl (omega (arith, is.2))) (λ (h : (s.version ≡ v) × (state_bytes s ≢ state_bytes is.0)). inr (h.0 ∙ sym is.2, h.1))
+
+    -- the refusal by the committed state is that of the state
+    pub by_held : (refusal : Prep) → HeldRefuses act s t (Some refusal) → Refuses file role act s refusal
+    by_held prep.Prepared is = is
+    by_held (prep.Already uid by) is = (is.0, is.1, (t, held_is, is.2))
+    by_held (prep.Old uid v) is = (is.0, unwritten is.1, (t, held_is, sym is.2, subst (λ n. (s.version < n) ⊎ ((s.version ≡ n) × (state_bytes s ≢ state_bytes t))) (sym is.2) is.3))
+    by_held (prep.InDoubt uid holder) is = absurd is
+
+-- the refusal of the first state after clear ones
+pub refused_at : (file : FileMap) (role : Role) (act : Uid) (states : List ObjectState) (i : ℕ) (d : ObjectState) (refusal : Prep) → i < length states → AllByRecursion (IsClear file role act) (take i states)
+    → Refuses file role act (get_or states i d) refusal → IsRefused file role act states refusal
+refused_at file role act [] i d refusal within clear one = let never : ⊥ = omega arith in absurd never
+refused_at file role act (s ∷ ss) zero d refusal within clear one = inl one
+refused_at file role act (s ∷ ss) (suc i) d refusal within clear one = inr (clear.0, refused_at file role act ss i d refusal (omega arith) clear.1 one)
+
+-- the loop's exit with the refusal of the state at a place
+pub refused_first : (old now : FileMap) (role : Role) (act : Uid) (states : List ObjectState) (i : ℕ) (s : ObjectState) (refusal : Option Prep) → i < length states → s ≡ get_or states i s → now ≡ old
+    → AllByRecursion (IsClear old role act) (take i states) → MatchOption refusal (IsClear now role act s) (Refuses now role act s) → is_some refusal ≡ true
+    → MatchOption refusal (AllByRecursion (IsClear old role act) states) (IsRefused old role act states)
+refused_first old now role act states i s None within is same clear answer some = let never : false ≡ true = some in cc
+refused_first old now role act states i s (Some refusal) within is same clear answer some =
+    refused_at old role act states i s refusal within clear (subst (λ r. Refuses old role act r refusal) is (subst (λ file. Refuses file role act s refusal) same answer))

@@ -1,0 +1,77 @@
+-- Uids, lists of them, and tables under them.
+use Rattle.std.proofs.Common.{◌≡◌, ◌≢◌, ◌⊎◌, ◌∙◌, true, false, ◌==◌, ◌&&◌, ◌||◌, List, [], ◌∷◌, ◌++◌, rules, arith, refl, sym, ap, inl, inr, ⊎_elim, None, length}
+use Rattle.std.specs.BTreeMap.{is_at}
+use Rattle.std.specs.Map.{lookup}
+use Rattle.std.specs.declared.cmp.Ordering.{Ordering}
+use Rattle.std.specs.declared.cmp.Ordering.TheVariants.{Less, Equal, Greater}
+use Rattle.std.proofs.lemmas.Bool.{eq-eqb, eqb-true, and_parts, cases_Bool}
+use Rattle.std.proofs.lemmas.Cmp.{tied_itself}
+use Rattle.std.proofs.lemmas.List.Folds.{list_any-append}
+use Rattle.arj_base.specs.Uid.{uid_eq}
+use Rattle.arj_base.specs.declared.uid.Uid.{Uid}
+use Rattle.arj_base.specs.contracts.uid.UidOrd.TheImpl.Laws.{total-law}
+use Rattle.arj_disk.specs.declared.slot.Slot.{Slot}
+use Rattle.arj_disk.specs.contracts.slot.SlotOrd.TheImpl.Laws.{total-law as slot-law}
+use Rattle.arj_disk.specs.Slot.{slot_order}
+use Rattle.arj_store.specs.Pair.{uid_order}
+use Rattle.arj_store.specs.Shadow.{is_in}
+
+pub uid_same : (u : Uid) → uid_eq u u ≡ true
+uid_same u = λ i. eq-eqb u.node u.node refl i && (eq-eqb u.inc u.inc refl i && eq-eqb u.num u.num refl i)
+
+pub uid_is : (u w : Uid) → uid_eq u w ≡ true → u ≡ w
+uid_is u w e =
+    let p = and_parts (u.node == w.node) ((u.inc == w.inc) && (u.num == w.num)) e in
+    let q = and_parts (u.inc == w.inc) (u.num == w.num) p.1 in
+    λ i. record { node = eqb-true u.node w.node p.0 i; inc = eqb-true u.inc w.inc q.0 i; num = eqb-true u.num w.num q.1 i }
+
+pub uid_isnt : (u w : Uid) → uid_eq u w ≡ false → u ≢ w
+uid_isnt u w e same = let never : true ≡ false = sym (uid_same u) ∙ ap (uid_eq u) same ∙ e in cc
+
+-- two Uids are the same or not
+pub uid_cases : (u w : Uid) → (u ≡ w) ⊎ (u ≢ w)
+uid_cases u w = ⊎_elim (λ (yes : uid_eq u w ≡ true). inl (uid_is u w yes)) (λ (no : uid_eq u w ≡ false). inr (uid_isnt u w no)) (cases_Bool (uid_eq u w))
+
+-- the order ties a Uid with itself alone
+pub order_exact : (u w : Uid) → uid_order u w ≡ Equal → u ≡ w
+order_exact u w e = search rules
+
+pub order_itself : (u : Uid) → uid_order u u ≡ Equal
+order_itself u = tied_itself total-law u
+
+-- a map that has nothing under any Uid has no entry
+pub no_entries : {V : Type 0} (es : List (Uid × V)) → ((q : Uid) → lookup (is_at (uid_order q)) es ≡ None) → es ≡ []
+no_entries [] none = refl
+no_entries (e ∷ es) none = let never = none e.0 in let tied = order_itself e.0 in search rules
+
+pub nothing_in_none : {V : Type 0} (es : List (Uid × V)) → length es ≡ 0 → (q : Uid) → lookup (is_at (uid_order q)) es ≡ None
+nothing_in_none [] empty q = refl
+nothing_in_none (e ∷ es) empty q = let never : ⊥ = omega arith in absurd never
+
+-- a list with one more
+pub in_more : (us : List Uid) (u w : Uid) → is_in (us ++ u ∷ []) w ≡ (is_in us w || (uid_eq w u || false))
+in_more us u w = list_any-append (uid_eq w) us (u ∷ [])
+
+pub in_or_last : (us : List Uid) (u w : Uid) → is_in (us ++ u ∷ []) w ≡ true → (w ≡ u) ⊎ ((w ≢ u) × (is_in us w ≡ true))
+in_or_last us u w is = ⊎_elim (λ (e : uid_eq w u ≡ true). inl (uid_is w u e)) (λ (e : uid_eq w u ≡ false). inr (uid_isnt w u e, found e)) (cases_Bool (uid_eq w u))
+  where
+    found : uid_eq w u ≡ false → is_in us w ≡ true
+    found e = grind (arith, in_more us u w)
+
+pub out_of_more : (us : List Uid) (u w : Uid) → is_in (us ++ u ∷ []) w ≡ false → (w ≢ u) × (is_in us w ≡ false)
+out_of_more us u w is = (uid_isnt w u (grind (arith, in_more us u w)), grind (arith, in_more us u w))
+
+-- two names of files are the same or not
+slot_apart : (a b : Slot) (o : Ordering) → slot_order a b ≡ o → o ≢ Equal → a ≢ b
+slot_apart a b o is unequal same = unequal (sym is ∙ ap (slot_order a) (sym same) ∙ tied_itself slot-law a)
+
+slot_tied : (a b : Slot) → slot_order a b ≡ Equal → a ≡ b
+slot_tied a b e = search rules
+
+pub slot_cases : (a b : Slot) → (a ≡ b) ⊎ (a ≢ b)
+slot_cases a b = by (slot_order a b) refl
+  where
+    by : (o : Ordering) → slot_order a b ≡ o → (a ≡ b) ⊎ (a ≢ b)
+    by Less is = inr (slot_apart a b Less is (λ never. cc))
+    by Equal is = inl (slot_tied a b is)
+    by Greater is = inr (slot_apart a b Greater is (λ never. cc))

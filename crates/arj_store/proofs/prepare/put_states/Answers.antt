@@ -1,0 +1,21 @@
+use Rattle.std.proofs.Common.{◌<◌, ◌∙◌, arith, length}
+use Rattle.arj_store.proofs.Puts.{step_puts, step_has}
+use Rattle.arj_store.proofs.prepare.put_states.Goals as goal
+
+pub returns-in_err-put_state-clause-files : goal.returns-in_err-put_state-clause-files
+returns-in_err-put_state-clause-files g c =
+    let within : c.loop-state.state-index < length c.args.states.now = omega arith in
+    step_puts c.args.place c.args.states.now c.loop-state.state-index c.state-item.result c.slot.result (g.D.Disk.file c.args.disk.now) (g.D.Disk.file c.loop-state.disk) (g.D.Disk.file c.put_state.new.disk)
+    within c.state-item.is c.slot.ensures c.put_state.ensures.files c.loop-state.invariant.puts c.put_state.ensures.form
+
+pub loop-state-preserved : goal.loop-state-preserved
+loop-state-preserved g c =
+    let within : c.loop-state.state-index < length c.args.states.now = omega arith in
+    record {
+      puts = step_puts c.args.place c.args.states.now c.loop-state.state-index c.state-item.result c.slot.result (g.D.Disk.file c.args.disk.now) (g.D.Disk.file c.loop-state.disk) (g.D.Disk.file c.put_state.new.disk)
+          within c.state-item.is c.slot.ensures c.put_state.ensures.files c.loop-state.invariant.puts c.put_state.ensures.form;
+      has = step_has c.args.place c.args.states.now c.loop-state.state-index c.state-item.result c.slot.result (g.D.Disk.file c.args.disk.now) (g.D.Disk.file c.loop-state.disk) (g.D.Disk.file c.put_state.new.disk)
+          within c.state-item.is c.slot.ensures c.put_state.ensures.files c.requires.distinct c.loop-state.invariant.has c.in_ok-put_state.ensures.ok;
+      stops = c.in_ok-put_state.ensures.stops.ok ∙ c.loop-state.invariant.stops;
+      arms = record { number = c.put_state.ensures.arms.number ∙ c.loop-state.invariant.arms.number; last = c.put_state.ensures.arms.last ∙ c.loop-state.invariant.arms.last };
+    }

@@ -1,0 +1,9 @@
+-- A disk's fault as a store's.
+use Rattle.arj_disk.specs.declared.disk.DiskFault.{DiskFault}
+use Rattle.arj_disk.specs.declared.disk.DiskFault.TheVariants as disk
+use Rattle.arj_store.specs.declared.answer.StoreFault.{StoreFault}
+use Rattle.arj_store.specs.declared.answer.StoreFault.TheVariants.{Stopped, Memory}
+
+abbrev pub fault_of : DiskFault → StoreFault
+fault_of disk.Stopped = Stopped
+fault_of disk.Memory = Memory

@@ -1,0 +1,15 @@
+-- What the shadow store keeps of the files of its role.
+use Rattle.arj_disk.specs.declared.slot.Role.{Role}
+use Rattle.arj_disk.specs.Files.{FileMap}
+use Rattle.arj_store.specs.declared.answer.Found.{Found}
+use Rattle.arj_store.specs.declared.shadow.ShadowStore.{ShadowStore}
+use Rattle.arj_store.specs.Shadow.{PendingKeeps}
+
+abbrev pub role_kept : ShadowStore → Role
+role_kept store = store.role
+
+abbrev pub found_kept : ShadowStore → Found
+found_kept store = store.found
+
+abbrev pub StoreKeeps : ShadowStore → FileMap → Type 0
+StoreKeeps store file = PendingKeeps store.role store.pending file

@@ -1,0 +1,64 @@
+-- What a recovery of the shadow store reads and removes, name by name.
+use Rattle.std.specs.Prelude.{◌≡◌, ◌≢◌, ◌⊎◌, true, false, List, Contains, Option, Some, None, IsSome, is_some, MatchOption}
+use Rattle.arj_base.specs.declared.uid.Uid.{Uid}
+use Rattle.arj_disk.specs.declared.slot.Role.{Role}
+use Rattle.arj_disk.specs.declared.slot.Slot.{Slot}
+use Rattle.arj_disk.specs.declared.slot.Slot.TheVariants.{Shadow, Prepared}
+use Rattle.arj_disk.specs.Disk.{Removes}
+use Rattle.arj_disk.specs.Files.{FileMap}
+use Rattle.arj_disk.specs.Says.{role_of}
+use Rattle.arj_store.specs.declared.memory.Holding.{Holding}
+use Rattle.arj_store.specs.declared.prepare.Place.TheVariants as place
+use Rattle.arj_store.specs.Shadow.{is_named, has_shadow, objects_of, HoldsAll, ChangesStates}
+use Rattle.arj_store.specs.Table.{Sets, SameTable}
+
+-- the action is kept with the objects of its file, if that is there
+abbrev pub ReadsAction : Role → FileMap → Uid → (Uid → Option (List Uid)) → (Uid → Option Holding) → (Uid → Option (List Uid)) → (Uid → Option Holding) → Type 0
+ReadsAction role file act actions holdings actions' holdings' =
+    MatchOption (objects_of file role act) (SameTable actions actions' × SameTable holdings holdings') (λ us. Sets actions actions' act (Some us) × HoldsAll us act false holdings holdings')
+
+-- so is the action whose file this is, if it is one of the role
+abbrev pub ReadsSlot : Role → FileMap → Slot → (Uid → Option (List Uid)) → (Uid → Option Holding) → (Uid → Option (List Uid)) → (Uid → Option Holding) → Type 0
+ReadsSlot role file q actions holdings actions' holdings' =
+    ((act : Uid) × (q ≡ Prepared role act) × ReadsAction role file act actions holdings actions' holdings')
+    ⊎ (((act : Uid) → q ≢ Prepared role act) × SameTable actions actions' × SameTable holdings holdings')
+
+-- of these names the prepared actions of the role are kept, and no others
+pub record ReadsActions (seen : List Slot) (role : Role) (file : FileMap) (actions : Uid → Option (List Uid)) (holdings : Uid → Option Holding) : Type 0 where
+  pub sound : (act : Uid) (us : List Uid) → actions act ≡ Some us → objects_of file role act ≡ Some us
+  pub complete : (act : Uid) → Contains seen (Prepared role act) → actions act ≡ objects_of file role act
+  pub held : (u : Uid) → MatchOption (holdings u) ((act : Uid) → is_named (actions act) u ≡ false) (λ h. (is_named (actions h.act) u ≡ true) × (h.shadow ≡ false))
+
+-- the shadow of an object is kept where an action holds the object, and else is removed
+abbrev pub SortsShadow : Uid → FileMap → (Uid → Option Holding) → FileMap → (Uid → Option Holding) → Type 0
+SortsShadow u file holdings file' holdings' =
+    MatchOption (holdings u) (Sets holdings holdings' u None × Removes file file' (Shadow u)) (λ h. Sets holdings holdings' u (Some (record { act = h.act; shadow = true })) × (file' ≡ file))
+
+abbrev pub SortsSlot : Role → Slot → FileMap → (Uid → Option Holding) → FileMap → (Uid → Option Holding) → Type 0
+SortsSlot role q file holdings file' holdings' =
+    ((u : Uid) × (q ≡ Shadow u) × (role_of u ≡ role) × SortsShadow u file holdings file' holdings')
+    ⊎ (((u : Uid) → q ≡ Shadow u → role_of u ≢ role) × SameTable holdings holdings' × (file' ≡ file))
+
+-- at most one shadow goes, of an object of the role that no action holds
+abbrev pub DropsShadow : Role → (Uid → Option Holding) → FileMap → FileMap → Type 0
+DropsShadow role holdings old new = (new ≡ old) ⊎ ((u : Uid) × (role_of u ≡ role) × (holdings u ≡ None) × Removes old new (Shadow u))
+
+-- only shadows of objects of the role that no action holds are gone
+abbrev pub IsUnheld : Role → (Uid → Option Holding) → Uid → Type 0
+IsUnheld role holdings u = (role_of u ≡ role) × (holdings u ≡ None)
+
+abbrev pub DropsShadows : Role → (Uid → Option Holding) → FileMap → FileMap → Type 0
+DropsShadows role holdings old new = ChangesStates place.Shadow (IsUnheld role holdings) old new
+
+-- the action that holds an object, if one does
+abbrev pub act_of : Option Holding → Option Uid
+act_of None = None
+act_of (Some h) = Some h.act
+
+-- of these names the shadows are sorted
+pub record SortsShadows (seen : List Slot) (role : Role) (old : FileMap) (before : Uid → Option Holding) (new : FileMap) (after : Uid → Option Holding) : Type 0 where
+  pub files : DropsShadows role before old new
+  pub fewer : (u : Uid) → IsSome (new (Shadow u)) → IsSome (old (Shadow u))
+  pub acts : (u : Uid) → act_of (after u) ≡ act_of (before u)
+  pub flags : (u : Uid) → role_of u ≡ role → Contains seen (Shadow u) → is_some (new (Shadow u)) ≡ has_shadow (after u)
+  pub only : (u : Uid) → role_of u ≡ role → has_shadow (after u) ≡ true → IsSome (new (Shadow u))

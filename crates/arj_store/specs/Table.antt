@@ -1,0 +1,17 @@
+-- Values under Uids, as functions.
+use Rattle.std.specs.Prelude.{◌≡◌, ◌≢◌, Option}
+use Rattle.std.specs.BTreeMap.{get}
+use Rattle.arj_base.specs.declared.uid.Uid.{Uid}
+use Rattle.arj_store.specs.declared.table.Table.{Table}
+use Rattle.arj_store.specs.Pair.{uid_order}
+
+abbrev pub at : {V : Type 0} → Table V → Uid → Option V
+at table u = get uid_order table.map u
+
+-- this Uid has the value, and every other has what it had
+pub record Sets {V : Type 0} (old new : Uid → Option V) (u : Uid) (value : Option V) : Type 0 where
+  pub here : new u ≡ value
+  pub others : (q : Uid) → q ≢ u → new q ≡ old q
+
+abbrev pub SameTable : {V : Type 0} → (Uid → Option V) → (Uid → Option V) → Type 0
+SameTable old new = (q : Uid) → new q ≡ old q

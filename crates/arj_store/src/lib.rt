@@ -1,0 +1,20 @@
+//! The object store of a node: the committed states of its objects and the new states that actions have prepared.
+//!
+//! It stands on `arj_disk` and `arj_base`. What it gives upward: the contract of the trait `ObjectStore` on the pair
+//! of committed and prepared states that a disk says, at each exit of each call (`specs/Pair.antt`); and
+//! `ShadowStore`, which keeps a new state beside the committed one until its action commits.
+#![tactic(auto)]
+
+mod answer;
+mod memory;
+mod moves;
+mod packed;
+mod prepare;
+mod recovery;
+mod shadow;
+mod store;
+mod table;
+
+pub use answer::{Found, Pends, Prep, Read, States, StoreFault};
+pub use shadow::ShadowStore;
+pub use store::ObjectStore;

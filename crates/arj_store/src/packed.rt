@@ -1,0 +1,89 @@
+// Files of the store: packed states, and the files of prepared actions.
+ghost use Rattle.std.specs.Prelude.{◌≡◌, ◌++◌, ◌+◌, ◌≤◌, Some, None, length, flat_map, IfOk, OnOk, OnErr, IfSome, MatchOption, take, drop};
+ghost use Rattle.std.specs.List.{AllByRecursion};
+ghost use Rattle.arj_base.specs.State.{state_bytes, StateInForm};
+ghost use Rattle.arj_base.specs.Uid.{uid_bytes, UidFits};
+ghost use Rattle.arj_base.specs.declared.uid.Uid.{Uid};
+ghost use Rattle.arj_disk.specs.Disk.{CountsStops, SameArms};
+ghost use Rattle.arj_base.specs.declared.state.ObjectState.{ObjectState};
+ghost use Rattle.arj_disk.specs.Formed.{IsPreparedOf, prepared_bytes};
+ghost use Rattle.arj_disk.specs.Says.{named_in};
+
+use crate::StoreFault;
+use arj_base::{Bytes, ObjectState, Uid, Uids, unpack};
+use arj_disk::{Disk, Slot};
+use std::alloc::{AllocError, Global};
+
+/// The state in a file. The files of a formed disk that have states unpack, so that only memory can be wanting.
+pub fn read_state<D: Disk>(
+    alloc: Global,
+    disk: &mut D,
+    slot: Slot,
+) -> Result<Option<ObjectState>, StoreFault>
+    ensures state { IfOk result (λ found. MatchOption found (D.file disk.old slot ≡ None) (λ s. (D.file disk.old slot ≡ Some (state_bytes s)) × StateInForm s)) }
+    ensures only { IfOk result (λ found. IfSome found (λ s. (t : ObjectState) → StateInForm t → D.file disk.old slot ≡ Some (state_bytes t) → t ≡ s)) }
+    ensures files { D.file disk.new ≡ D.file disk.old }
+    ensures stops { CountsStops (D.stops disk.old) (D.stops disk.new) result StoreFault.Stopped }
+    ensures arms { SameArms D.arms D.last_arm disk.old disk.new }
+{
+    let Some(bytes) = disk.read(alloc, slot)? else {
+        return Ok(None);
+    };
+    match unpack(alloc, bytes.as_slice()) {
+        Ok(state) => Ok(Some(state)),
+        Err(_) => Err(StoreFault::Memory),
+    }
+}
+
+/// The file of a prepared action: `ARJP`, the action, the count of its objects, and the objects.
+#[tactic(auto, using(std::proofs::lemmas::List::append_assoc))]
+pub fn prepared_file(alloc: Global, act: Uid, objects: &[Uid]) -> Result<Bytes, AllocError>
+    requires { length objects.now ≤ 255 }
+    ensures bytes { IfOk result (λ bytes. bytes ≡ prepared_bytes act objects.now) }
+    ensures form { IfOk result (IsPreparedOf act) }
+    ensures fit { OnOk result (AllByRecursion UidFits objects.now) }
+{
+    let count = objects.len() as u8;
+    let mut bytes = Bytes::new(alloc);
+    bytes.extend(b"ARJP")?;
+    bytes.extend(&act.to_bytes())?;
+    bytes.push(count)?;
+    put_uids(&mut bytes, objects)?;
+    Ok(bytes)
+}
+
+// Puts Uids at the end, one behind the other.
+#[tactic(auto, using(std::proofs::lemmas::List::append_assoc))]
+fn put_uids(bytes: &mut Bytes, uids: &[Uid]) -> Result<(), AllocError>
+    ensures ok { OnOk result (bytes.new ≡ bytes.old ++ flat_map uid_bytes uids.now) }
+    ensures fit { OnOk result (AllByRecursion UidFits uids.now) }
+{
+    for uid in uids {
+        bytes.extend(&uid.to_bytes())?;
+    }
+    Ok(())
+}
+
+/// The objects that a prepared file names, in its order.
+pub fn objects_in(alloc: Global, bytes: &[u8]) -> Result<Uids, AllocError>
+    requires { (a : Uid) × IsPreparedOf a bytes.now }
+    ensures { IfOk result (λ objects. objects ≡ named_in bytes.now) }
+{
+    let mut objects = Uids::new(alloc);
+    let count = usize::from(bytes[20]);
+    for i in 0..count {
+        objects.push(uid_at(bytes, 21 + 16 * i))?;
+    }
+    Ok(objects)
+}
+
+// The Uid in the 16 bytes from a place on.
+fn uid_at(bytes: &[u8], at: usize) -> Uid
+    requires { at + 16 ≤ length bytes.now }
+    ensures bytes { uid_bytes result ≡ take 16 (drop at bytes.now) }
+    ensures fits { UidFits result }
+{
+    let mut field = [0; 16];
+    field.copy_from_slice(&bytes[at..at + 16]);
+    Uid::from_bytes(&field)
+}

@@ -1,0 +1,330 @@
+// What a recovery reads and removes.
+ghost use Rattle.std.specs.Prelude.{◌≡◌, ◌⊎◌, false, None, Contains, IsSome, IfOk, OnOk};
+ghost use Rattle.arj_base.specs.declared.uid.Uid.{Uid};
+ghost use Rattle.arj_disk.specs.Disk.{Lists, Removes, CountsStops, SameArms};
+ghost use Rattle.arj_disk.specs.Says.{OnlyOfRole};
+ghost use Rattle.arj_disk.specs.Formed.{FormedFor};
+ghost use Rattle.arj_disk.specs.declared.slot.Role.{Role};
+ghost use Rattle.arj_disk.specs.declared.slot.Slot.{Slot};
+ghost use Rattle.arj_store.specs.Recovery.{ReadsAction, ReadsSlot, ReadsActions, SortsShadow, SortsSlot, SortsShadows, DropsShadow, DropsShadows};
+ghost use Rattle.arj_store.specs.Pair.{SamePair, FindsNothing};
+ghost use Rattle.arj_store.specs.Shadow.{has_shadow, PendingKeeps};
+ghost use Rattle.arj_store.specs.Table.{at};
+
+use crate::memory::{Holding, Pending};
+use crate::packed::{objects_in, read_state};
+use crate::prepare::Place;
+use crate::table::Table;
+use crate::{Found, Pends, States, StoreFault};
+use arj_base::{ObjectState, Uid, Uids};
+use arj_disk::{Disk, Role, Slot, role_of_uid};
+use std::alloc::{AllocError, Global};
+
+/// What a disk with these names has prepared. Shadows of the role that no prepared action names are removed.
+pub fn recover_pending<D: Disk>(
+    alloc: Global,
+    disk: &mut D,
+    role: Role,
+    names: &[Slot],
+) -> Result<Pending, StoreFault>
+    requires formed { FormedFor (D.file disk.old) role }
+    requires lists { Lists (D.file disk.old) names.now }
+    ensures keeps { IfOk result (λ pending. PendingKeeps role pending (D.file disk.new)) }
+    ensures pair { SamePair role (D.file disk.old) (D.file disk.new) }
+    ensures formed { FormedFor (D.file disk.new) role }
+    ensures others { OnlyOfRole role (D.file disk.old) (D.file disk.new) }
+    ensures stops { CountsStops (D.stops disk.old) (D.stops disk.new) result StoreFault.Stopped }
+    ensures arms { SameArms D.arms D.last_arm disk.old disk.new }
+{
+    let mut pending = read_actions(alloc, disk, role, names)?;
+    sort_shadows(disk, role, names, &mut pending.holdings)?;
+    Ok(pending)
+}
+
+/// Reads the file of each prepared action of the role, in the order of the names. No shadow counts as there.
+pub fn read_actions<D: Disk>(
+    alloc: Global,
+    disk: &mut D,
+    role: Role,
+    names: &[Slot],
+) -> Result<Pending, StoreFault>
+    requires { FormedFor (D.file disk.old) role }
+    ensures read { IfOk result (λ pending. ReadsActions names.now role (D.file disk.old) (at pending.actions) (at pending.holdings)) }
+    ensures files { D.file disk.new ≡ D.file disk.old }
+    ensures stops { CountsStops (D.stops disk.old) (D.stops disk.new) result StoreFault.Stopped }
+    ensures arms { SameArms D.arms D.last_arm disk.old disk.new }
+{
+    let mut pending = Pending::new(alloc);
+    for slot in names {
+        read_slot(alloc, disk, role, *slot, &mut pending)?;
+    }
+    Ok(pending)
+}
+
+// Reads the file of this name, if it is a prepared action's.
+fn read_slot<D: Disk>(
+    alloc: Global,
+    disk: &mut D,
+    role: Role,
+    slot: Slot,
+    pending: &mut Pending,
+) -> Result<(), StoreFault>
+    requires { FormedFor (D.file disk.old) role }
+    ensures ok { OnOk result (ReadsSlot role (D.file disk.old) slot (at pending.old.actions) (at pending.old.holdings) (at pending.new.actions) (at pending.new.holdings)) }
+    ensures files { D.file disk.new ≡ D.file disk.old }
+    ensures stops { CountsStops (D.stops disk.old) (D.stops disk.new) result StoreFault.Stopped }
+    ensures arms { SameArms D.arms D.last_arm disk.old disk.new }
+{
+    match slot {
+        Slot::Prepared(of, act) if of == role => read_action(alloc, disk, role, act, pending),
+        _ => Ok(()),
+    }
+}
+
+// Reads the file of one action.
+fn read_action<D: Disk>(
+    alloc: Global,
+    disk: &mut D,
+    role: Role,
+    act: Uid,
+    pending: &mut Pending,
+) -> Result<(), StoreFault>
+    requires { FormedFor (D.file disk.old) role }
+    ensures ok { OnOk result (ReadsAction role (D.file disk.old) act (at pending.old.actions) (at pending.old.holdings) (at pending.new.actions) (at pending.new.holdings)) }
+    ensures files { D.file disk.new ≡ D.file disk.old }
+    ensures stops { CountsStops (D.stops disk.old) (D.stops disk.new) result StoreFault.Stopped }
+    ensures arms { SameArms D.arms D.last_arm disk.old disk.new }
+{
+    let Some(bytes) = disk.read(alloc, Slot::Prepared(role, act))? else {
+        return Ok(());
+    };
+    let objects = objects_in(alloc, bytes.as_slice())?;
+    pending.add(act, false, objects)?;
+    Ok(())
+}
+
+/// Keeps each shadow of the role that a prepared action names, and removes each other.
+pub fn sort_shadows<D: Disk>(
+    disk: &mut D,
+    role: Role,
+    names: &[Slot],
+    holdings: &mut Table<Holding>,
+) -> Result<(), StoreFault>
+    requires there { (q : Slot) → Contains names.now q → IsSome (D.file disk.old q) }
+    requires none { (u : Uid) → has_shadow (at holdings.old u) ≡ false }
+    ensures ok { OnOk result (SortsShadows names.now role (D.file disk.old) (at holdings.old) (D.file disk.new) (at holdings.new)) }
+    ensures files { DropsShadows role (at holdings.old) (D.file disk.old) (D.file disk.new) }
+    ensures stops { CountsStops (D.stops disk.old) (D.stops disk.new) result StoreFault.Stopped }
+    ensures arms { SameArms D.arms D.last_arm disk.old disk.new }
+{
+    for slot in names {
+        sort_slot(disk, role, *slot, holdings)?;
+    }
+    Ok(())
+}
+
+// Keeps or removes the file of this name, if it is a shadow of the role.
+fn sort_slot<D: Disk>(
+    disk: &mut D,
+    role: Role,
+    slot: Slot,
+    holdings: &mut Table<Holding>,
+) -> Result<(), StoreFault>
+    ensures ok { OnOk result (SortsSlot role slot (D.file disk.old) (at holdings.old) (D.file disk.new) (at holdings.new)) }
+    ensures files { DropsShadow role (at holdings.old) (D.file disk.old) (D.file disk.new) }
+    ensures stops { CountsStops (D.stops disk.old) (D.stops disk.new) result StoreFault.Stopped }
+    ensures arms { SameArms D.arms D.last_arm disk.old disk.new }
+{
+    match slot {
+        Slot::Shadow(uid) if role_of_uid(uid) == role => sort_shadow(disk, uid, holdings),
+        _ => Ok(()),
+    }
+}
+
+// Keeps or removes one shadow.
+fn sort_shadow<D: Disk>(
+    disk: &mut D,
+    uid: Uid,
+    holdings: &mut Table<Holding>,
+) -> Result<(), StoreFault>
+    ensures ok { OnOk result (SortsShadow uid (D.file disk.old) (at holdings.old) (D.file disk.new) (at holdings.new)) }
+    ensures files { (D.file disk.new ≡ D.file disk.old) ⊎ ((at holdings.old uid ≡ None) × Removes (D.file disk.old) (D.file disk.new) (Slot.Shadow uid)) }
+    ensures stops { CountsStops (D.stops disk.old) (D.stops disk.new) result StoreFault.Stopped }
+    ensures arms { SameArms D.arms D.last_arm disk.old disk.new }
+{
+    match holdings.take(uid) {
+        Some(holding) => {
+            let act = holding.act;
+            holdings.set(uid, Holding { act, shadow: true })?;
+        }
+        None => disk.remove(Slot::Shadow(uid))?,
+    }
+    Ok(())
+}
+
+// The object whose shadow of the role this is.
+fn shadow_of(role: Role, slot: Slot) -> Option<Uid> {
+    match slot {
+        Slot::Shadow(uid) if role_of_uid(uid) == role => Some(uid),
+        _ => None,
+    }
+}
+
+/// What the recovery tells: for the object store nothing.
+pub fn find<D: Disk>(
+    alloc: Global,
+    disk: &mut D,
+    role: Role,
+    names: &[Slot],
+    pending: &Pending,
+) -> Result<Found, StoreFault>
+    ensures found { IfOk result (λ found. role ≡ Role.Store → FindsNothing found) }
+    ensures files { D.file disk.new ≡ D.file disk.old }
+    ensures stops { CountsStops (D.stops disk.old) (D.stops disk.new) result StoreFault.Stopped }
+    ensures arms { SameArms D.arms D.last_arm disk.old disk.new }
+{
+    match role {
+        Role::Store => Ok(Found::new(alloc)),
+        Role::Names => find_entries(alloc, disk, names, pending),
+    }
+}
+
+// Reads each shadow that is left, then each committed entry, and tells what is committed and what is prepared.
+fn find_entries<D: Disk>(
+    alloc: Global,
+    disk: &mut D,
+    names: &[Slot],
+    pending: &Pending,
+) -> Result<Found, StoreFault>
+    ensures files { D.file disk.new ≡ D.file disk.old }
+    ensures stops { CountsStops (D.stops disk.old) (D.stops disk.new) result StoreFault.Stopped }
+    ensures arms { SameArms D.arms D.last_arm disk.old disk.new }
+{
+    let left = shadows_left(alloc, names, &pending.holdings)?;
+    let shadows = read_each(alloc, disk, Place::Shadow, left.as_slice())?;
+    let entries = entries_of(alloc, names)?;
+    let committed = read_each(alloc, disk, Place::Committed, entries.as_slice())?;
+    let prepared = prepared_states(alloc, pending, shadows.as_slice(), committed.as_slice())?;
+    Ok(Found {
+        committed,
+        prepared,
+    })
+}
+
+// The entries whose shadows were kept, in the order of the names.
+fn shadows_left(
+    alloc: Global,
+    names: &[Slot],
+    holdings: &Table<Holding>,
+) -> Result<Uids, AllocError> {
+    let mut left = Uids::new(alloc);
+    for slot in names {
+        if let Some(uid) = shadow_of(Role::Names, *slot) {
+            if holdings.get(uid).is_some() {
+                left.push(uid)?;
+            }
+        }
+    }
+    Ok(left)
+}
+
+// The entries that are committed, in the order of the names.
+fn entries_of(alloc: Global, names: &[Slot]) -> Result<Uids, AllocError> {
+    let mut entries = Uids::new(alloc);
+    for slot in names {
+        if let Some(uid) = entry_of(*slot) {
+            entries.push(uid)?;
+        }
+    }
+    Ok(entries)
+}
+
+// The entry whose committed file this is.
+fn entry_of(slot: Slot) -> Option<Uid> {
+    match slot {
+        Slot::Committed(uid) if role_of_uid(uid) == Role::Names => Some(uid),
+        _ => None,
+    }
+}
+
+// Reads a file of this kind of each object.
+fn read_each<D: Disk>(
+    alloc: Global,
+    disk: &mut D,
+    place: Place,
+    objects: &[Uid],
+) -> Result<States, StoreFault>
+    ensures files { D.file disk.new ≡ D.file disk.old }
+    ensures stops { CountsStops (D.stops disk.old) (D.stops disk.new) result StoreFault.Stopped }
+    ensures arms { SameArms D.arms D.last_arm disk.old disk.new }
+{
+    let mut states = States::new(alloc);
+    for uid in objects {
+        if let Some(state) = read_state(alloc, disk, place.slot(*uid))? {
+            states.push(state)?;
+        }
+    }
+    Ok(states)
+}
+
+// The prepared actions with their new states, by Uid.
+fn prepared_states(
+    alloc: Global,
+    pending: &Pending,
+    shadows: &[ObjectState],
+    committed: &[ObjectState],
+) -> Result<Pends, AllocError> {
+    let mut prepared = Pends::new(alloc);
+    let actions = pending.actions.uids(alloc)?;
+    for act in actions.as_slice() {
+        if let Some(objects) = pending.actions.get(*act) {
+            let states = new_states(alloc, objects.as_slice(), shadows, committed)?;
+            prepared.push((*act, states))?;
+        }
+    }
+    Ok(prepared)
+}
+
+// The new states of objects: the shadow where there is one, else the committed state.
+fn new_states(
+    alloc: Global,
+    objects: &[Uid],
+    shadows: &[ObjectState],
+    committed: &[ObjectState],
+) -> Result<States, AllocError> {
+    let mut states = States::new(alloc);
+    for uid in objects {
+        if let Some(state) = either(state_of(shadows, *uid), state_of(committed, *uid)) {
+            states.push(copied(state)?)?;
+        }
+    }
+    Ok(states)
+}
+
+// The first of two states that is there.
+fn either<'a>(
+    first: Option<&'a ObjectState>,
+    second: Option<&'a ObjectState>,
+) -> Option<&'a ObjectState> {
+    match first {
+        Some(state) => Some(state),
+        None => second,
+    }
+}
+
+// The state of an object among these.
+fn state_of(states: &[ObjectState], uid: Uid) -> Option<&ObjectState> {
+    states.iter().find(|state| state.uid == uid)
+}
+
+// A copy of a state.
+fn copied(state: &ObjectState) -> Result<ObjectState, AllocError> {
+    let payload = state.payload.copy()?;
+    Ok(ObjectState {
+        uid: state.uid,
+        class: state.class,
+        version: state.version,
+        writer: state.writer,
+        payload,
+    })
+}

@@ -1,0 +1,167 @@
+// The store as the layers above see it.
+ghost use Rattle.std.specs.Prelude.{◌≡◌, ◌⊎◌, ◌+◌, ◌≤◌, ◌↔◌, ℕ, List, Option, None, Some, true, map, Contains, length, IsSome, MatchOption, IfOk, OnOk, OnErr, IsErrOf};
+ghost use Rattle.std.specs.List.{AllByRecursion};
+ghost use Rattle.arj_base.specs.State.{state_bytes};
+ghost use Rattle.arj_disk.specs.Disk.{Same, CountsStops, SameArms};
+ghost use Rattle.arj_disk.specs.Formed.{FormedFor, AtMost, IsKnown};
+ghost use Rattle.arj_disk.specs.Says.{pend, names, slot_role, OnlyOfRole, SameOfRole, InDoubt};
+ghost use Rattle.arj_disk.specs.declared.slot.Role.{Role};
+ghost use Rattle.arj_disk.specs.declared.slot.Slot.{Slot};
+ghost use Rattle.arj_store.specs.Pair.{SamePair, Adds, Drops, Moves, MovesSome, Reads, Prepares, AnswersPrepare, HasOnly, AreDistinct, FindsNothing, ListsActions, uid_of};
+ghost use Rattle.arj_store.specs.declared.answer.Found.{Found};
+
+use crate::{Found, Prep, Read, States, StoreFault};
+use arj_base::{Uid, Uids};
+use arj_disk::{Disk, Role};
+use std::alloc::{AllocError, Global};
+
+/// An object store over a disk, for the files of one role. A prepared action is in doubt here until it is committed or
+/// aborted. A call that answers `Stopped` halts the node, and the store is then recovered from the disk; nor is it used
+/// again after `Memory`.
+pub trait ObjectStore: Sized {
+    /// Whose files the store keeps.
+    ghost own_role: { Self → Role };
+
+    /// The store answers by these files.
+    ghost keeps: { Self → (Slot → Option (List ℕ)) → Type 0 };
+
+    /// How many more numbers the files of a role leave for commits, of which each takes two at most.
+    ghost room: { (Slot → Option (List ℕ)) → Role → ℕ };
+
+    /// What the store's recovery found.
+    ghost finding: { Self → Found };
+
+    /// Puts the first states on a disk without files of the role. Of a disk that was stopped nothing is said.
+    fn format<D: Disk>(
+        alloc: Global,
+        disk: &mut D,
+        role: Role,
+        states: &States,
+    ) -> Result<Self, StoreFault>
+        requires empty { (q : Slot) → slot_role q ≡ Some role → D.file disk.old q ≡ None }
+        requires states { AreDistinct role states.now }
+        requires count { length states.now ≤ 65535 }
+        requires sizes { AllByRecursion (λ s. length (state_bytes s) ≤ 65535) states.now }
+        ensures role { IfOk result (λ store. own_role store ≡ role) }
+        ensures keeps { IfOk result (λ store. keeps store (D.file disk.new)) }
+        ensures pair { OnOk result (HasOnly role (D.file disk.new) states.now) }
+        ensures found { IfOk result (λ store. FindsNothing (finding store)) }
+        ensures room { OnOk result (18446744073709551614 ≤ room (D.file disk.new) role) }
+        ensures formed { OnOk result (FormedFor (D.file disk.new) role) }
+        ensures others { OnlyOfRole role (D.file disk.old) (D.file disk.new) }
+        ensures stops { CountsStops (D.stops disk.old) (D.stops disk.new) result StoreFault.Stopped }
+        ensures arms { SameArms D.arms D.last_arm disk.old disk.new };
+
+    /// The store that a disk has. What no prepared action needs is removed; what is committed and prepared stays.
+    fn recover<D: Disk>(alloc: Global, disk: &mut D, role: Role) -> Result<Self, StoreFault>
+        requires { FormedFor (D.file disk.old) role }
+        ensures role { IfOk result (λ store. own_role store ≡ role) }
+        ensures keeps { IfOk result (λ store. keeps store (D.file disk.new)) }
+        ensures pair { SamePair role (D.file disk.old) (D.file disk.new) }
+        ensures found { IfOk result (λ store. role ≡ Role.Store → FindsNothing (finding store)) }
+        ensures room { room (D.file disk.old) role ≤ room (D.file disk.new) role }
+        ensures formed { FormedFor (D.file disk.new) role }
+        ensures others { OnlyOfRole role (D.file disk.old) (D.file disk.new) }
+        ensures stops { CountsStops (D.stops disk.old) (D.stops disk.new) result StoreFault.Stopped }
+        ensures arms { SameArms D.arms D.last_arm disk.old disk.new };
+
+    /// The committed state of an object, unless the object is in doubt.
+    fn read_committed<D: Disk>(
+        &self,
+        alloc: Global,
+        disk: &mut D,
+        uid: Uid,
+    ) -> Result<Read, StoreFault>
+        requires keeps { keeps self.now (D.file disk.old) }
+        requires formed { FormedFor (D.file disk.old) (own_role self.now) }
+        ensures answer { IfOk result (λ answer. Reads (D.file disk.old) (own_role self.now) uid answer) }
+        ensures files { Same (D.file disk.old) (D.file disk.new) }
+        ensures stops { CountsStops (D.stops disk.old) (D.stops disk.new) result StoreFault.Stopped }
+        ensures arms { SameArms D.arms D.last_arm disk.old disk.new };
+
+    /// Prepares new states, all of them or, where one is refused, none. Stopped, the action is prepared or isn't.
+    fn prepare<D: Disk>(
+        &mut self,
+        disk: &mut D,
+        act: Uid,
+        states: &States,
+    ) -> Result<Prep, StoreFault>
+        requires keeps { keeps self.old (D.file disk.old) }
+        requires formed { FormedFor (D.file disk.old) (own_role self.old) }
+        requires states { AreDistinct (own_role self.old) states.now }
+        requires count { length states.now ≤ 255 }
+        requires sizes { AllByRecursion (λ s. length (state_bytes s) ≤ 65535) states.now }
+        requires few { AtMost 65535 (λ u. IsKnown (D.file disk.old) (own_role self.old) u ⊎ Contains (map uid_of states.now) u) }
+        ensures answer { IfOk result (AnswersPrepare (own_role self.old) (D.file disk.old) (D.file disk.new) act states.now) }
+        ensures fault { OnErr result (SamePair (own_role self.old) (D.file disk.old) (D.file disk.new)
+            ⊎ Prepares (own_role self.old) (D.file disk.old) (D.file disk.new) act states.now) }
+        ensures keeps { OnOk result (keeps self.new (D.file disk.new)) }
+        ensures role { own_role self.new ≡ own_role self.old }
+        ensures found { finding self.new ≡ finding self.old }
+        ensures room { room (D.file disk.old) (own_role self.old) ≤ room (D.file disk.new) (own_role self.old) }
+        ensures formed { FormedFor (D.file disk.new) (own_role self.old) }
+        ensures others { OnlyOfRole (own_role self.old) (D.file disk.old) (D.file disk.new) }
+        ensures stops { CountsStops (D.stops disk.old) (D.stops disk.new) result StoreFault.Stopped }
+        ensures arms { SameArms D.arms D.last_arm disk.old disk.new };
+
+    /// Commits what the action has prepared; true where it was prepared. Stopped, some of its states may be committed
+    /// while it is still prepared.
+    fn commit<D: Disk>(&mut self, disk: &mut D, act: Uid) -> Result<bool, StoreFault>
+        requires keeps { keeps self.old (D.file disk.old) }
+        requires formed { FormedFor (D.file disk.old) (own_role self.old) }
+        requires room { 2 ≤ room (D.file disk.old) (own_role self.old) }
+        ensures answer { IfOk result (λ was. (was ≡ true) ↔ IsSome (pend (D.file disk.old) (own_role self.old) act)) }
+        ensures moved { OnOk result (Moves (own_role self.old) (D.file disk.old) (D.file disk.new) act) }
+        ensures fault { OnErr result (MovesSome (own_role self.old) (D.file disk.old) (D.file disk.new) act
+            ⊎ Moves (own_role self.old) (D.file disk.old) (D.file disk.new) act) }
+        ensures keeps { OnOk result (keeps self.new (D.file disk.new)) }
+        ensures role { own_role self.new ≡ own_role self.old }
+        ensures found { finding self.new ≡ finding self.old }
+        ensures room { room (D.file disk.old) (own_role self.old) ≤ room (D.file disk.new) (own_role self.old) + 2 }
+        ensures formed { FormedFor (D.file disk.new) (own_role self.old) }
+        ensures others { OnlyOfRole (own_role self.old) (D.file disk.old) (D.file disk.new) }
+        ensures stops { CountsStops (D.stops disk.old) (D.stops disk.new) result StoreFault.Stopped }
+        ensures arms { SameArms D.arms D.last_arm disk.old disk.new };
+
+    /// Drops what the action has prepared; true where it was prepared. It takes no memory. States that a stopped commit
+    /// of the action has committed stay.
+    fn abort<D: Disk>(&mut self, disk: &mut D, act: Uid) -> Result<bool, StoreFault>
+        requires keeps { keeps self.old (D.file disk.old) }
+        requires formed { FormedFor (D.file disk.old) (own_role self.old) }
+        ensures answer { IfOk result (λ was. (was ≡ true) ↔ IsSome (pend (D.file disk.old) (own_role self.old) act)) }
+        ensures dropped { OnOk result (Drops (own_role self.old) (D.file disk.old) (D.file disk.new) act) }
+        ensures fault { OnErr result (SamePair (own_role self.old) (D.file disk.old) (D.file disk.new)
+            ⊎ Drops (own_role self.old) (D.file disk.old) (D.file disk.new) act) }
+        ensures memory { IsErrOf result StoreFault.Memory → ⊥ }
+        ensures keeps { OnOk result (keeps self.new (D.file disk.new)) }
+        ensures role { own_role self.new ≡ own_role self.old }
+        ensures found { finding self.new ≡ finding self.old }
+        ensures room { room (D.file disk.old) (own_role self.old) ≤ room (D.file disk.new) (own_role self.old) }
+        ensures formed { FormedFor (D.file disk.new) (own_role self.old) }
+        ensures others { OnlyOfRole (own_role self.old) (D.file disk.old) (D.file disk.new) }
+        ensures stops { CountsStops (D.stops disk.old) (D.stops disk.new) result StoreFault.Stopped }
+        ensures arms { SameArms D.arms D.last_arm disk.old disk.new };
+
+    /// The action that has prepared a new state of the object.
+    fn holder(&self, uid: Uid) -> Option<Uid>
+        ensures { (file : Slot → Option (List ℕ)) → keeps self.now file → MatchOption result (InDoubt file (own_role self.now) uid → ⊥)
+            (λ act. names (pend file (own_role self.now) act) uid) };
+
+    /// The prepared actions, in increasing order.
+    fn actions(&self, alloc: Global) -> Result<Uids, AllocError>
+        ensures { IfOk result (λ actions. (file : Slot → Option (List ℕ)) → keeps self.now file → ListsActions (own_role self.now) file actions) };
+
+    /// Whether no action is prepared.
+    fn is_clear(&self) -> bool
+        ensures { (file : Slot → Option (List ℕ)) → keeps self.now file → (result ≡ true) ↔ ((a : Uid) → pend file (own_role self.now) a ≡ None) };
+
+    /// What the recovery found for the naming service; for the object store, and after a format, nothing.
+    fn found(&self) -> &Found
+        ensures { result.now ≡ finding self.now };
+
+    /// The store goes on answering by its files while those of other roles change.
+    ghost keeps_on: { (store : Self) (old new : Slot → Option (List ℕ)) → SameOfRole (own_role store) old new → keeps store old → keeps store new };
+
+    /// Room is told from the files of the role.
+    ghost room_of_role: { (r : Role) (old new : Slot → Option (List ℕ)) → SameOfRole r old new → room new r ≡ room old r };
+}
