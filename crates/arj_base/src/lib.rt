@@ -1,7 +1,7 @@
 //! The names that everything else is written in: Uids of actions and objects, paths of actions, bindings, lock modes
 //! with their matrix, small lists, and packed object states.
 //!
-//! It stands on std and `byteorder` alone. What it gives upward: a packed state has one spelling, `state_bytes`,
+//! It stands on std, `byteorder` and `thiserror` alone. What it gives upward: a packed state has one spelling, `state_bytes`,
 //! which `pack` writes and `unpack` alone accepts; `conflicts` is the lock matrix; and a lock table is a list of rows
 //! in order of granting (`specs/Rows.antt`).
 #![tactic(auto)]

@@ -1,5 +1,5 @@
 // Paths of actions.
-ghost use Rattle.std.specs.Prelude.{◌≡◌, ◌≤◌, ◌-◌, drop, replicate, if◌then◌else◌};
+ghost use Rattle.std.specs.Prelude.{◌≡◌, ◌≤◌, ◌-◌, drop, length, replicate, if◌then◌else◌};
 ghost use Rattle.arj_base.specs.Uid.{nobody};
 
 use crate::Uid;
@@ -22,6 +22,7 @@ pub struct Path {
     uids: [Uid; 16],
     len: u8,
     tops: u8,
+    ghost whole: { length uids ≡ 16 },
     ghost some: { 1 ≤ len },
     ghost most: { len ≤ 16 },
     ghost padded: { drop len uids ≡ replicate (16 - len) nobody },
@@ -31,9 +32,9 @@ pub struct Path {
 }
 
 impl Path {
-    ghost use Rattle.std.specs.Prelude.{◌≡◌, ◌++◌, ◌∷◌, [], true, length, if◌then◌else◌, MatchOption};
+    ghost use Rattle.std.specs.Prelude.{◌≡◌, ◌++◌, ◌∷◌, [], true, length, min, if◌then◌else◌, MatchOption, Some, None};
     ghost use Rattle.arj_base.specs.Path.{uids_of, tops_of, first_uid, top_uid, before_last};
-    ghost use Rattle.arj_base.specs.Rows.{last_uid, is_on};
+    ghost use Rattle.arj_base.specs.Rows.{last_uid, front, is_on};
 
     /// The path of an action that has no parent, or of a serializing action.
     pub fn new(root: Uid) -> Path
@@ -121,6 +122,28 @@ impl Path {
         } else {
             Some(self.uids[usize::from(self.len - 2)])
         }
+    }
+
+    /// The path of the parent, or of the serializing action of a constituent: the path without its last Uid. None
+    /// exactly at length 1.
+    pub fn parent_path(&self) -> Option<Path>
+        ensures { MatchOption result
+            (before_last (uids_of self.now) ≡ None)
+            (λ path. (uids_of path ≡ front (uids_of self.now))
+            × (before_last (uids_of self.now) ≡ Some (last_uid (uids_of path)))
+            × (tops_of path ≡ min (tops_of self.now) (length (uids_of path)))) }
+    {
+        if self.len == 1 {
+            return None;
+        }
+        let len = self.len - 1;
+        let mut uids = self.uids;
+        uids[usize::from(len)] = NOBODY;
+        Some(Path {
+            uids,
+            len,
+            tops: self.tops.min(len),
+        })
     }
 
     /// Whether the Uid is on the path.

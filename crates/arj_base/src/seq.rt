@@ -28,6 +28,13 @@ impl<T> Seq<T> {
         }
     }
 
+    /// The items of a vector. It keeps their memory.
+    pub fn from_vec(items: Vec<T>) -> Self
+        ensures { result ≡ items.items }
+    {
+        Seq { items }
+    }
+
     /// The items, first pushed first.
     pub fn as_slice(&self) -> &[T]
         ensures { result.now ≡ self.now }

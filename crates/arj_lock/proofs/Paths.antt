@@ -1,6 +1,5 @@
 -- Paths that agree.
-use Rattle.std.proofs.Common.{◌≡◌, ◌⊎◌, ℕ, zero, suc, ◌<◌, ◌≤◌, ◌+◌, take, get_or, nat_lt, if◌then◌else◌, List, [], ◌∷◌, length, Bool, true, false, cond, ◌||◌, Some, refl, sym, ◌∙◌, ap, inl, inr, arith}
-use Rattle.std.proofs.lemmas.Bool.Decides.{nat_tests}
+use Rattle.std.proofs.Common.{◌≡◌, ◌⊎◌, ◌≤◌, List, [], ◌∷◌, length, Bool, true, false, cond, ◌||◌, Some, refl, sym, ◌∙◌, ap, inl, inr, arith}
 use Rattle.arj_base.specs.declared.uid.Uid.{Uid}
 use Rattle.arj_base.specs.Path.{before_last}
 use Rattle.arj_base.specs.Rows.{is_on, front, last_uid}
@@ -125,25 +124,3 @@ agree_sym p q agree = λ u on also. sym (agree u also on)
 
 pub agree_front : (p q : List Uid) → Agree p q → Agree (front p) q
 agree_front p q agree = λ u on also. before_front p u on ∙ agree u (on_front p u on) also
-
--- the path without its last Uid, by number
-
-pub front_length : (us : List Uid) (heir : Uid) → before_last us ≡ Some heir → length (front us) + 1 ≡ length us
-front_length [] heir e = cc
-front_length (u ∷ []) heir e = cc
-front_length (u ∷ w ∷ []) heir e = omega arith
-front_length (u ∷ w ∷ v ∷ us) heir e = let r = front_length (w ∷ v ∷ us) heir e in omega (arith, r)
-
-pub front_taken : (us : List Uid) (n : ℕ) → n + 1 ≡ length us → take n us ≡ front us
-front_taken [] n e = let never : ◌≡◌ {A = ℕ} 0 1 = omega (arith, e) in cc
-front_taken (u ∷ []) n e = let zero_is : n ≡ 0 = omega (arith, e) in ap (λ n. take n (u ∷ [])) zero_is
-front_taken (u ∷ w ∷ us) zero e = let never : ◌≡◌ {A = ℕ} 0 1 = omega (arith, e) in cc
-front_taken (u ∷ w ∷ us) (suc n) e = ap (λ us. u ∷ us) (front_taken (w ∷ us) n (omega (arith, e)))
-
--- the first Uid of a path, and how many of its leading Uids end with the top
-pub first_taken : (us : List Uid) (d : Uid) → 0 < length us → get_or us 0 d ∷ [] ≡ take 1 us
-first_taken [] d le = none_long (omega (arith, le))
-first_taken (u ∷ us) d le = refl
-
-pub first_tops : (tops : ℕ) → 1 ≤ tops → 1 ≡ (if nat_lt 1 tops then 1 else tops)
-first_tops tops le = grind (arith, nat_tests)

@@ -1,11 +1,10 @@
 -- One row of an action handed on to its heir.
-use Rattle.std.specs.Prelude.{◌≡◌, ℕ, ◌+◌, List, ◌∷◌, ◌++◌, take, drop, map, Bool, false, if◌then◌else◌, Option, Some, None, slice_set, not, nat_lt, length}
+use Rattle.std.specs.Prelude.{◌≡◌, ℕ, ◌+◌, List, ◌∷◌, ◌++◌, take, drop, map, Bool, false, if◌then◌else◌, Option, Some, None, slice_set, not}
 use Rattle.arj_base.specs.declared.mode.Mode.{Mode}
 use Rattle.arj_base.specs.declared.uid.Uid.{Uid}
 use Rattle.arj_base.specs.Mode.{stronger}
-use Rattle.arj_base.specs.declared.path.Path.{Path}
-use Rattle.arj_base.specs.Path.{before_last, uids_of, tops_of}
-use Rattle.arj_base.specs.Rows.{Row, has_row, is_row_of, last_uid, front, renamed}
+use Rattle.arj_base.specs.Path.{before_last}
+use Rattle.arj_base.specs.Rows.{Row, has_row, is_row_of, last_uid, renamed}
 
 -- the heir's row of the object takes the stronger mode
 abbrev pub raised : Uid → Uid → Mode → Row → Row
@@ -15,13 +14,6 @@ raised object heir mode row = if is_row_of object heir row then record row { mod
 abbrev pub IsHandedUp : Row → Option Row → Type 0
 IsHandedUp row None = before_last row.holder ≡ None
 IsHandedUp row (Some up) = (up ≡ renamed row) × (before_last row.holder ≡ Some (last_uid up.holder))
-
--- the path without its last Uid, if it has another
-abbrev pub IsAbove : Path → Option Path → Type 0
-IsAbove path None = before_last (uids_of path) ≡ None
-IsAbove path (Some up) =
-    (uids_of up ≡ front (uids_of path)) × (before_last (uids_of path) ≡ Some (last_uid (uids_of up)))
-    × (tops_of up ≡ (if nat_lt (length (front (uids_of path))) (tops_of path) then length (front (uids_of path)) else tops_of path))
 
 -- What becomes of the row at a place: its heir's row takes its mode, or it goes to its heir, or it has none; and whether
 -- it stays.

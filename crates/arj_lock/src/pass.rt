@@ -1,47 +1,20 @@
 // Passing locks to the parent.
-ghost use Rattle.std.specs.Prelude.{◌≡◌, ◌+◌, ◌-◌, ◌<◌, ◌≤◌, ◌++◌, ◌∷◌, [], true, false, length, map, take, if◌then◌else◌};
+ghost use Rattle.std.specs.Prelude.{◌≡◌, ◌-◌, ◌<◌, ◌≤◌, false, length, map, take};
 ghost use Rattle.std.specs.List.{list_any};
 ghost use Rattle.std.specs.Option.{option_map};
-ghost use Rattle.arj_base.specs.Path.{uids_of, tops_of};
 ghost use Rattle.arj_base.specs.Rows.{has_row, is_held_by, is_row_of, pass_rows};
 ghost use Rattle.arj_lock.specs.Exclusion.{IsOneEach};
 ghost use Rattle.arj_lock.specs.Locks.{shown, rows_of};
-ghost use Rattle.arj_lock.specs.Passing.{raised, IsHandedOn, IsHandedUp, IsAbove};
+ghost use Rattle.arj_lock.specs.Passing.{raised, IsHandedOn, IsHandedUp};
 
 use crate::lock::Lock;
-use arj_base::{Mode, Path, Uid};
-
-/// A path with one more Uid, where it has fewer than 16.
-fn below(path: &Path, uid: Uid, top: bool) -> Path
-    requires short { length (uids_of path.now) < 16 }
-    requires top { top ≡ true → length (uids_of path.now) ≡ 1 }
-    ensures uids { uids_of result ≡ uids_of path.now ++ uid ∷ [] }
-    ensures tops { tops_of result ≡ (if top then 2 else tops_of path.now) }
-{
-    match path.push(uid, top) {
-        Some(longer) => longer,
-        None => unreachable!(),
-    }
-}
-
-/// The path of the parent, or of a constituent's serializing action: the path without its last Uid.
-fn above(path: &Path) -> Option<Path>
-    ensures { IsAbove path.now result }
-{
-    path.parent()?;
-    let uids = path.as_slice();
-    let mut above = Path::new(uids[0]);
-    for i in 1..uids.len() - 1 {
-        above = below(&above, uids[i], i == 1 && path.tops() == 2);
-    }
-    Some(above)
-}
+use arj_base::{Mode, Uid};
 
 /// The lock in the hands of the holder's parent, if it has one.
 fn handed_up(lock: &Lock) -> Option<Lock>
     ensures { IsHandedUp (shown lock.now) (option_map shown result) }
 {
-    let path = above(&lock.path)?;
+    let path = lock.path.parent_path()?;
     Some(Lock {
         object: lock.object,
         path,

@@ -36,11 +36,11 @@ unfolding path
 path_forth p fits =
     let is = path_made_is p fits in
     let there : path_parts (path_made p) ≡ p = λ i. ((ap length is.0.has ∙ is.1) i, (is.0.has i, is.0.ends_with i)) in
-    ((is.0.whole, subst path_form.Fits (sym there) fits), ap path_form.spell there, ap path_form.fields there)
+    (subst path_form.Fits (sym there) fits, ap path_form.spell there, ap path_form.fields there)
 
 path_back : (p : Path) → path.Fits p → (q : (count : ℕ) × (List Uid × ℕ)) × path_form.Fits q × (path_made q ≡ p)
 unfolding path
-path_back p fits = (path_parts p, fits.1, sym (path_again p (uids_of p) (tops_of p) fits.0 refl refl))
+path_back p fits = (path_parts p, fits, sym (path_again p (uids_of p) (tops_of p) refl refl))
 
 path_reads : (bytes : List ℕ) → path.read bytes ≡ made path_made (path_form.read bytes)
 unfolding path

@@ -1,7 +1,7 @@
 -- Two paths are one where their Uids and their numbers of tops are, and each list of 1 to 16 Uids is that of a path.
 use Rattle.std.proofs.Common.{◌≡◌, ℕ, ◌-◌, ◌<◌, ◌≤◌, zero, suc, List, [], ◌∷◌, ◌++◌, length, take, drop, replicate, sym, ap, refl, ◌∙◌, arith, Bool, true, false, nat_le, if◌then◌else◌}
 use Rattle.std.proofs.Props.{props}
-use Rattle.std.proofs.lemmas.List.{take-append-drop, take_at, length-take-le, length-append, length-replicate}
+use Rattle.std.proofs.lemmas.List.{take-append-drop, take_at, length-take-le}
 use mathlib.Core.HLevel.{is_prop→PathP}
 use Rattle.std.proofs.lemmas.Bool.{le-leb, leb-false}
 use Rattle.std.proofs.Math.Bridge.{le_prop}
@@ -11,6 +11,9 @@ use Rattle.arj_base.specs.Path.{uids_of, tops_of}
 use Rattle.arj_base.specs.Uid.{nobody}
 use Rattle.arj_msg.specs.Head.{path_of, path_if}
 
+whole_prop : (us : List Uid) → IsProp (length us ≡ 16)
+whole_prop us = Prim.hlevel props
+
 padded_prop : (len : ℕ) (us : List Uid) → IsProp (drop len us ≡ replicate (16 - len) nobody)
 padded_prop len us = Prim.hlevel props
 
@@ -19,6 +22,7 @@ same_fields p q us len tops = λ i. record {
   uids = us i;
   len = len i;
   tops = tops i;
+  whole = is_prop→PathP (λ j. length (us j) ≡ 16) (λ j. whole_prop (us j)) p.whole q.whole i;
   some = is_prop→PathP (λ j. 1 ≤ len j) (λ j. le_prop) p.some q.some i;
   most = is_prop→PathP (λ j. len j ≤ 16) (λ j. le_prop) p.most q.most i;
   padded = is_prop→PathP (λ j. drop (len j) (us j) ≡ replicate (16 - len j) nobody) (λ j. padded_prop (len j) (us j)) p.padded q.padded i;
@@ -37,7 +41,6 @@ pub record Makes (p : Path) (us : List Uid) (tops : ℕ) : Type 0 where
   pub has : uids_of p ≡ us
   pub ends_with : tops_of p ≡ tops
   pub len : p.len ≡ length us
-  pub whole : length p.uids ≡ 16
 
 is_made : (us : List Uid) (tops : ℕ) (a b c d e : Bool) (some : nat_le 1 (length us) ≡ a) (most : nat_le (length us) 16 ≡ b) (one : nat_le 1 tops ≡ c) (two : nat_le tops 2 ≡ d) (within : nat_le tops (length us) ≡ e)
     → 1 ≤ length us → length us ≤ 16 → 1 ≤ tops → tops ≤ 2 → tops ≤ length us → Makes (path_if us tops a b c d e some most one two within) us tops
@@ -45,7 +48,6 @@ is_made us tops true true true true true some most one two within h1 h2 h3 h4 h5
   has = take_at us (replicate (16 - length us) nobody) (length us) refl;
   ends_with = refl;
   len = refl;
-  whole = omega (arith, length-append us (replicate (16 - length us) nobody), length-replicate (16 - length us) nobody, h2);
 }
 is_made us tops false b c d e some most one two within h1 h2 h3 h4 h5 = let no : true ≡ false = sym (le-leb _ _ h1) ∙ some in absurd cc
 is_made us tops true false c d e some most one two within h1 h2 h3 h4 h5 = let no : true ≡ false = sym (le-leb _ _ h2) ∙ most in absurd cc
@@ -56,14 +58,14 @@ is_made us tops true true true true false some most one two within h1 h2 h3 h4 h
 pub path_is : (us : List Uid) (tops : ℕ) → 1 ≤ length us → length us ≤ 16 → 1 ≤ tops → tops ≤ 2 → tops ≤ length us → Makes (path_of us tops) us tops
 path_is us tops h1 h2 h3 h4 h5 = is_made us tops _ _ _ _ _ refl refl refl refl refl h1 h2 h3 h4 h5
 
--- an array of 16 holds as many Uids as the path has
-pub long_as : (p : Path) → length p.uids ≡ 16 → length (uids_of p) ≡ p.len
-long_as p whole = length-take-le p.len p.uids (omega (arith, whole, p.most))
+-- the array holds as many Uids as the path has
+long_as : (p : Path) → length (uids_of p) ≡ p.len
+long_as p = length-take-le p.len p.uids (omega (arith, p.whole, p.most))
 
 -- a path is the one of its Uids and of its number of tops
-pub path_again : (p : Path) (us : List Uid) (tops : ℕ) → length p.uids ≡ 16 → uids_of p ≡ us → tops_of p ≡ tops → p ≡ path_of us tops
-path_again p us tops whole uids tops_is =
-    let size : length us ≡ p.len = ap length (sym uids) ∙ long_as p whole in
+pub path_again : (p : Path) (us : List Uid) (tops : ℕ) → uids_of p ≡ us → tops_of p ≡ tops → p ≡ path_of us tops
+path_again p us tops uids tops_is =
+    let size : length us ≡ p.len = ap length (sym uids) ∙ long_as p in
     let is = path_is us tops (omega (arith, size, p.some)) (omega (arith, size, p.most)) (omega (arith, tops_is, p.one_top)) (omega (arith, tops_is, p.two_tops)) (omega (arith, tops_is, size, p.within)) in
     same_path p (path_of us tops) (sym (is.len ∙ size)) (uids ∙ sym is.has) (tops_is ∙ sym is.ends_with)
 

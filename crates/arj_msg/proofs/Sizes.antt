@@ -128,8 +128,8 @@ path_most : AtMost path 6500
 unfolding path byte
 path_most = record {
   most = λ p fits.
-      let uids = items_most uid (wider (omega arith) uid_most) (uids_of p) fits.1.1.0.1 in
-      omega (arith, uids, (between_le 1 16 (length (uids_of p)) fits.1.0).1, length-append (flat_map uid.spell (uids_of p)) ((path_parts p).1.1 ∷ []));
+      let uids = items_most uid (wider (omega arith) uid_most) (uids_of p) fits.1.0.1 in
+      omega (arith, uids, (between_le 1 16 (length (uids_of p)) fits.0).1, length-append (flat_map uid.spell (uids_of p)) ((path_parts p).1.1 ∷ []));
 }
 
 head_most : AtMost head 7000

@@ -60,10 +60,6 @@ shaped whole parts f = record {
   read = λ bytes. f.read bytes >>= λ x. Ok (whole x.0, x.1);
 }
 
--- values of which this holds besides
-abbrev pub restricted : {A : Type 0} → (A → Type 0) → Format A → Format A
-restricted Holds f = record { spell = f.spell; fields = f.fields; Fits = λ a. Holds a × f.Fits a; read = f.read }
-
 abbrev pub read_many : {A : Type 0} → Format A → ℕ → List ℕ → Result (List A × List ℕ) ℕ
 read_many f zero bytes = Ok ([], bytes)
 read_many f (suc n) bytes = f.read bytes >>= λ x. read_many f n x.1 >>= λ y. Ok (x.0 ∷ y.0, y.1)

@@ -1,15 +1,16 @@
 -- Paths, and the heads of requests and answers.
-use Rattle.std.specs.Prelude.{◌≡◌, ℕ, ◌-◌, ◌≤◌, List, [], ◌∷◌, ◌++◌, length, replicate, min, Bool, true, nat_le}
-use Rattle.std.proofs.Common.{refl}
+use Rattle.std.specs.Prelude.{◌≡◌, ℕ, ◌+◌, ◌-◌, ◌≤◌, List, [], ◌∷◌, ◌++◌, length, replicate, min, Bool, true, nat_le}
+use Rattle.std.proofs.Common.{refl, ap, ◌∙◌}
 use Rattle.std.proofs.lemmas.Bool.{leb-true}
-use Rattle.std.proofs.lemmas.List.{drop_at}
+use Rattle.std.proofs.lemmas.List.{drop_at, length-append, length-replicate}
+use Rattle.std.proofs.Math.Nat.{add-sub_of_le}
 use Rattle.arj_base.specs.declared.uid.Uid.{Uid}
 use Rattle.arj_base.specs.declared.path.Path.{Path}
 use Rattle.arj_base.specs.Path.{uids_of, tops_of}
 use Rattle.arj_base.specs.Uid.{nobody}
 use Rattle.arj_msg.specs.declared.message.Head.{Head}
 use Rattle.arj_msg.specs.declared.message.Asked.{Asked}
-use Rattle.arj_msg.specs.Format.{Format, byte, both, chain, many, shaped, restricted}
+use Rattle.arj_msg.specs.Format.{Format, byte, both, chain, many, shaped}
 use Rattle.arj_msg.specs.Fields.{number4, uid}
 
 abbrev pub path_with : (us : List Uid) (tops : ℕ) → 1 ≤ length us → length us ≤ 16 → 1 ≤ tops → tops ≤ 2 → tops ≤ length us → Path
@@ -17,6 +18,7 @@ path_with us tops some most one two within = record {
   uids = us ++ replicate (16 - length us) nobody;
   len = length us;
   tops = tops;
+  whole = length-append us (replicate (16 - length us) nobody) ∙ ap (λ n. length us + n) (length-replicate (16 - length us) nobody) ∙ add-sub_of_le most;
   some = some;
   most = most;
   padded = drop_at us (replicate (16 - length us) nobody) (length us) refl;
@@ -44,9 +46,8 @@ path_form = chain (byte 1 16) (λ count. both (many uid count) (byte 1 (min coun
 abbrev pub path_made : (count : ℕ) × (List Uid × ℕ) → Path
 path_made p = path_of p.1.0 p.1.1
 
--- The Uids of a path stand in an array of 16.
 unfoldable pub path : Format Path
-path = restricted (λ p. length p.uids ≡ 16) (shaped path_made path_parts path_form)
+path = shaped path_made path_parts path_form
 
 unfoldable pub head : Format Head
 head = shaped (λ p. record { path = p.0; req = p.1 }) (λ h. (h.path, h.req)) (both path number4)
