@@ -31,6 +31,13 @@ impl Account {
         Account { balance }
     }
 
+    /// The balance.
+    pub fn balance(&self) -> u64
+        ensures { result ≡ self.now }
+    {
+        self.balance
+    }
+
     /// Another account with the same balance.
     pub fn copy(&self) -> Account
         ensures { result ≡ self.now }

@@ -31,6 +31,13 @@ impl Counter {
         Counter { number }
     }
 
+    /// The number that it stands at.
+    pub fn number(&self) -> u64
+        ensures { result ≡ self.now }
+    {
+        self.number
+    }
+
     /// Another counter at the same number.
     pub fn copy(&self) -> Counter
         ensures { result ≡ self.now }

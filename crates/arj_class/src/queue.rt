@@ -1,5 +1,5 @@
 // At most 32 numbers, first in, first out.
-ghost use Rattle.std.specs.Prelude.{◌≡◌, ◌≤◌, length, refl, IfOk};
+ghost use Rattle.std.specs.Prelude.{◌≡◌, ◌≤◌, [], ◌++◌, length, refl, IfOk};
 ghost use Rattle.arj_base.specs.declared.state.Class.TheVariants as class_variant;
 ghost use Rattle.arj_class.specs.declared.value.Value.TheVariants as variant;
 
@@ -38,6 +38,14 @@ impl Queue {
         Queue {
             numbers: VecDeque::from_vec(numbers.into_vec()),
         }
+    }
+
+    /// The numbers, front first, in two parts. The first part is empty only where the queue is.
+    pub fn as_slices(&self) -> (&[u64], &[u64])
+        ensures items { result.0.now ++ result.1.now ≡ self.now }
+        ensures front { length result.0.now ≡ 0 → self.now ≡ [] }
+    {
+        self.numbers.as_slices()
     }
 
     /// Another queue of the same numbers.

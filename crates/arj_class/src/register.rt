@@ -33,6 +33,13 @@ impl Register {
         Register { bytes }
     }
 
+    /// The bytes that it holds.
+    pub fn bytes(&self) -> &[u8]
+        ensures { result.now ≡ self.now }
+    {
+        self.bytes.as_slice()
+    }
+
     /// Another register with the same bytes.
     pub fn copy(&self, alloc: Global) -> Result<Register, AllocError>
         ensures { IfOk result (λ copied. copied ≡ self.now) }

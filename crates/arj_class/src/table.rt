@@ -43,6 +43,13 @@ impl Table {
         }
     }
 
+    /// The pairs, keys strictly increasing.
+    pub fn pairs(&self) -> &[(u64, u64)]
+        ensures { result.now ≡ self.now }
+    {
+        self.pairs.as_slice()
+    }
+
     /// Another table of the same pairs.
     pub fn copy(&self, alloc: Global) -> Result<Table, AllocError>
         ensures { IfOk result (λ copied. copied ≡ self.now) }

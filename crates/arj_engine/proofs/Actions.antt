@@ -18,8 +18,8 @@ use Rattle.arj_class.specs.Table.{op_mode}
 use Rattle.arj_disk.specs.Files.{FileMap}
 use Rattle.arj_journal.specs.declared.body.Body.TheVariants as body
 use Rattle.arj_journal.specs.declared.body.Line.{Line}
-use Rattle.arj_journal.specs.declared.label.Label.{Label}
-use Rattle.arj_journal.specs.Label.{name}
+use Rattle.arj_text.specs.declared.label.Label.{Label}
+use Rattle.arj_text.specs.Label.{name}
 use Rattle.arj_model.specs.Last.{is_among, insert_number}
 use Rattle.arj_model.specs.Past.{block}
 use Rattle.arj_engine.specs.Object.{Obj, object_in, views, end_from, ended_by, IsMetAt, PutsStates, PutsSomeStates}

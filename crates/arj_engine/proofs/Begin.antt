@@ -9,8 +9,8 @@ use Rattle.arj_base.specs.Rows.{Row, is_row_of, last_uid}
 use Rattle.arj_base.specs.Uid.{uid_eq, object}
 use Rattle.arj_class.specs.declared.value.Value.{Value}
 use Rattle.arj_journal.specs.declared.header.Header.{Header}
-use Rattle.arj_journal.specs.declared.label.Label.{Label}
-use Rattle.arj_journal.specs.Label.{name}
+use Rattle.arj_text.specs.declared.label.Label.{Label}
+use Rattle.arj_text.specs.Label.{name}
 use Rattle.arj_model.specs.Actions.{Act, Placed, Halt, act_in, has_end, root_in, top_in, is_serial}
 use Rattle.arj_model.specs.Calls.{Said, made_in, call_of}
 use Rattle.arj_model.specs.Serial.{Answers, writes_on, touches}

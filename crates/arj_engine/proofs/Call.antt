@@ -18,7 +18,7 @@ use Rattle.arj_class.specs.declared.value.Value.{Value}
 use Rattle.arj_class.specs.Table.{class_of, op_mode, writes, answer_of, value_after, is_write}
 use Rattle.arj_journal.specs.declared.body.Kind.TheVariants as kind
 use Rattle.arj_journal.specs.declared.header.Header.{Header}
-use Rattle.arj_journal.specs.Words.{answer_text}
+use Rattle.arj_text.specs.Words.{answer_text}
 use Rattle.arj_model.specs.Actions.{Act, Placed, has_end, top_in}
 use Rattle.arj_model.specs.Calls.{Said, Call, made_in, kept}
 use Rattle.arj_model.specs.Follows.{object_used, objects_from}

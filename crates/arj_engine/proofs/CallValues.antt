@@ -10,7 +10,7 @@ use Rattle.arj_class.specs.declared.op.Op.TheVariants.{Get, Add, Set, Put, Depos
 use Rattle.arj_class.specs.declared.value.Value.{Value}
 use Rattle.arj_class.specs.declared.value.Value.TheVariants.{Counter, Register, Account, Queue, Table}
 use Rattle.arj_class.specs.Table.{class_of, op_mode, writes, answer_of, value_after, is_full_for, put_pair, is_write}
-use Rattle.arj_journal.specs.Words.{answer_text}
+use Rattle.arj_text.specs.Words.{answer_text}
 use Rattle.arj_model.specs.Calls.{Call}
 use Rattle.arj_model.specs.Serial.{Values, Answers, after, run, touches, writes_on}
 use Rattle.arj_engine.specs.Keeps.{calls_mode}

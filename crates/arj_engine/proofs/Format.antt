@@ -9,7 +9,7 @@ use Rattle.arj_base.specs.Uid.{object}
 use Rattle.arj_disk.specs.Files.{FileMap, held}
 use Rattle.arj_journal.specs.declared.header.Header.{Header}
 use Rattle.arj_journal.specs.declared.header.ObjectLine.{ObjectLine}
-use Rattle.arj_journal.specs.declared.label.Label.{Label}
+use Rattle.arj_text.specs.declared.label.Label.{Label}
 use Rattle.arj_model.specs.Last.{object_line, value_of_line, first_values}
 use Rattle.arj_model.specs.Past.{nothing_yet}
 use Rattle.arj_model.specs.Seen.{Seen, seen}

@@ -18,9 +18,9 @@ use Rattle.arj_journal.specs.declared.body.Body.TheVariants as body
 use Rattle.arj_journal.specs.declared.body.Line.{Line}
 use Rattle.arj_journal.specs.declared.event.Event.TheVariants as event
 use Rattle.arj_journal.specs.declared.header.Header.{Header}
-use Rattle.arj_journal.specs.declared.label.Label.{Label}
-use Rattle.arj_journal.specs.Label.{name}
-use Rattle.arj_journal.specs.Words.{answer_text}
+use Rattle.arj_text.specs.declared.label.Label.{Label}
+use Rattle.arj_text.specs.Label.{name}
+use Rattle.arj_text.specs.Words.{answer_text}
 use Rattle.arj_model.specs.Actions.{Act, acts, act_in, path, uids, has_end}
 use Rattle.arj_model.specs.Past.{Past, Asked, asked_of, block}
 use Rattle.arj_model.specs.Follows.{refusal, Accepted, first_cause, answers_to, asks_by, is_ask_by, is_answer_to, last_asked, pending, AnswerFits, IsCallOf, is_own, may_stand}

@@ -9,8 +9,8 @@ use Rattle.arj_class.specs.Table.{class_of, has_op}
 use Rattle.arj_journal.specs.declared.event.Event.TheVariants as event
 use Rattle.arj_journal.specs.declared.header.Header.{Header}
 use Rattle.arj_journal.specs.declared.header.ObjectLine.{ObjectLine}
-use Rattle.arj_journal.specs.declared.label.Label.{Label}
-use Rattle.arj_journal.specs.Label.{name}
+use Rattle.arj_text.specs.declared.label.Label.{Label}
+use Rattle.arj_text.specs.Label.{name}
 use Rattle.arj_model.specs.Actions.{Act, Placed, Halt, acts, act_in, is_begun, path, root_in, has_end, halts}
 use Rattle.arj_model.specs.Last.{object_line}
 use Rattle.arj_model.specs.Past.{Past, Asked}

@@ -8,8 +8,8 @@ use Rattle.arj_class.specs.declared.op.Op.{Op}
 use Rattle.arj_journal.specs.declared.body.Body.TheVariants as body
 use Rattle.arj_journal.specs.declared.body.Cause.TheVariants as cause
 use Rattle.arj_journal.specs.declared.body.Kind.TheVariants as kind
-use Rattle.arj_journal.specs.declared.label.Label.{Label}
-use Rattle.arj_journal.specs.Label.{name}
+use Rattle.arj_text.specs.declared.label.Label.{Label}
+use Rattle.arj_text.specs.Label.{name}
 use Rattle.arj_model.specs.Table.{row_of}
 use Rattle.arj_model.specs.Actions.{Act, Placed, put, id_in, path, uids}
 use Rattle.arj_model.specs.Calls.{Said}

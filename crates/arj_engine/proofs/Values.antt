@@ -8,7 +8,7 @@ use Rattle.arj_class.specs.declared.op.Op.{Op}
 use Rattle.arj_class.specs.declared.op.Op.TheVariants.{Get, Add, Set, Put, Deposit, Withdraw, Len, Push, Pop, GetKey, PutPair, Remove}
 use Rattle.arj_class.specs.declared.value.Value.{Value}
 use Rattle.arj_class.specs.Table.{answer_of, value_after, writes}
-use Rattle.arj_journal.specs.Words.{answer_text}
+use Rattle.arj_text.specs.Words.{answer_text}
 use Rattle.arj_model.specs.Calls.{Call}
 use Rattle.arj_model.specs.Serial.{Values, Answers, after, run, touches, writes_on}
 use Rattle.arj_model.specs.Last.{count_tops, last_writer}

@@ -2,8 +2,8 @@
 use Rattle.std.specs.Prelude.{◌≡◌, ℕ, ◌+◌, [], Bool, true, false, ◌==◌, if◌then◌else◌, Option, Some}
 use Rattle.std.specs.Option.{option_map}
 use Rattle.std.specs.Str.{bytes_eq}
-use Rattle.arj_journal.specs.declared.label.Label.{Label}
-use Rattle.arj_journal.specs.Label.{name}
+use Rattle.arj_text.specs.declared.label.Label.{Label}
+use Rattle.arj_text.specs.Label.{name}
 use Rattle.arj_model.specs.Last.{is_among, insert_number}
 use Rattle.arj_engine.specs.Object.{Obj, ended_by}
 use Rattle.arj_engine.specs.Keeps.{Machine, ident}

@@ -11,7 +11,7 @@ use Rattle.arj_journal.specs.declared.body.Body.{Body}
 use Rattle.arj_journal.specs.declared.body.Line.{Line}
 use Rattle.arj_journal.specs.declared.event.Event.{Event}
 use Rattle.arj_journal.specs.declared.header.Header.{Header}
-use Rattle.arj_journal.specs.Label.{name}
+use Rattle.arj_text.specs.Label.{name}
 use Rattle.arj_model.specs.Past.{Past, next, block}
 use Rattle.arj_model.specs.Serial.{Serial}
 use Rattle.arj_model.specs.Last.{first_values, last_state, object_line}

@@ -12,8 +12,8 @@ use Rattle.arj_journal.specs.declared.body.Body.TheVariants as body
 use Rattle.arj_journal.specs.declared.body.Cause.TheVariants as cause
 use Rattle.arj_journal.specs.declared.body.Kind.TheVariants as kind
 use Rattle.arj_journal.specs.declared.body.Line.{Line}
-use Rattle.arj_journal.specs.declared.label.Label.{Label}
-use Rattle.arj_journal.specs.Words.{answer_text}
+use Rattle.arj_text.specs.declared.label.Label.{Label}
+use Rattle.arj_text.specs.Words.{answer_text}
 use Rattle.arj_model.specs.Last.{is_among}
 use Rattle.arj_model.specs.Past.{block}
 use Rattle.arj_model.specs.Follows.{first_cause}

@@ -7,6 +7,7 @@ use Rattle.arj_journal.specs.declared.event.Event.TheVariants as event
 use Rattle.arj_journal.specs.declared.header.Header.{Header}
 use Rattle.arj_journal.specs.declared.header.ObjectLine.{ObjectLine}
 
+-- objects by strictly increasing number (`is_rising` of arj_text says it of pairs, by their keys)
 abbrev pub is_rising : List ObjectLine → Bool
 is_rising [] = true
 is_rising (o ∷ []) = true

@@ -13,8 +13,8 @@ use Rattle.arj_class.specs.Table.{class_of}
 use Rattle.arj_journal.specs.declared.header.Header.{Header}
 use Rattle.arj_journal.specs.declared.header.ObjectLine.{ObjectLine}
 use Rattle.arj_journal.specs.declared.body.Kind.TheVariants as kind
-use Rattle.arj_journal.specs.declared.label.Label.{Label}
-use Rattle.arj_journal.specs.Label.{name}
+use Rattle.arj_text.specs.declared.label.Label.{Label}
+use Rattle.arj_text.specs.Label.{name}
 use Rattle.arj_model.specs.Actions.{Act, Placed, Halt, act_in, top_in, root_in, has_end}
 use Rattle.arj_model.specs.Calls.{Said, Call, Top, made_in, kept, top_of}
 use Rattle.arj_model.specs.Serial.{Values, Answers, run, arrange, serial_less, writes_on, touches}

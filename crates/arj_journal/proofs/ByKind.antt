@@ -5,10 +5,10 @@ use Rattle.std.proofs.lemmas.Bool.{or_from}
 use Rattle.std.proofs.lemmas.List.Folds.{list_any-append}
 use Rattle.arj_journal.specs.declared.fault.LineFault.{LineFault}
 use Rattle.arj_journal.specs.declared.fault.LineFault.TheVariants.{NotALine, Memory}
-use Rattle.arj_journal.specs.Fields.{has_byte, has_space}
+use Rattle.arj_text.specs.Fields.{has_byte, has_space}
 use Rattle.arj_journal.specs.Form.{Form, ◌▸◌, kept, Kinds, IsOfKind}
 use Rattle.arj_journal.specs.Reading.{IsTaken}
-use Rattle.arj_journal.proofs.Texts.{cut_once, no_cut}
+use Rattle.arj_text.proofs.Texts.{cut_once, no_cut}
 
 -- Values in form with one text are one value.
 abbrev pub Once : {A : Type 0} → (A → Type 0) → (A → List ℕ) → Type 0

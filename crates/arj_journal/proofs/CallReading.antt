@@ -6,10 +6,10 @@ use Rattle.arj_class.specs.declared.op.Op.{Op}
 use Rattle.arj_journal.specs.declared.call.Call.{Call}
 use Rattle.arj_journal.specs.declared.fault.LineFault.{LineFault}
 use Rattle.arj_journal.specs.declared.fault.LineFault.TheVariants.{NotALine, Memory}
-use Rattle.arj_journal.specs.Fields.{IsAnswer, IsRead, OpHasForm, has_space}
+use Rattle.arj_text.specs.Fields.{IsAnswer, IsRead, OpHasForm, has_space}
 use Rattle.arj_journal.specs.LineKinds.{call}
 use Rattle.arj_journal.specs.Reading.{IsTaken, as_taken}
-use Rattle.arj_journal.specs.Words.{op_text}
+use Rattle.arj_text.specs.Words.{op_text}
 use Rattle.arj_journal.proofs.Calls.{cut_last, op_facts, spaceless_answer}
 
 -- the text of a call, cut at its last space

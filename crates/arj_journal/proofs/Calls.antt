@@ -9,15 +9,15 @@ use Rattle.arj_class.specs.declared.op.Op.{Op}
 use Rattle.arj_class.specs.declared.op.Op.TheVariants as op
 use Rattle.arj_class.specs.declared.op.Answer.{Answer}
 use Rattle.arj_class.specs.declared.op.Answer.TheVariants as answer
-use Rattle.arj_journal.specs.Fields.{AnswerHasForm, AreBytesUpTo, IsAnswer, NumberInForm, OpHasForm, has_byte, has_space}
+use Rattle.arj_text.specs.Fields.{AnswerHasForm, AreBytesUpTo, IsAnswer, NumberInForm, OpHasForm, has_byte, has_space}
 use Rattle.arj_journal.specs.Form.{Form, Kinds}
 use Rattle.arj_journal.specs.LineKinds.{call}
-use Rattle.arj_journal.specs.Words.{answer_text, hex, op_text}
+use Rattle.arj_text.specs.Words.{answer_text, hex, op_text}
 use Rattle.arj_journal.specs.Spellings.{IsKnown}
 use Rattle.arj_journal.proofs.ByKind.{AreOfKinds, Lacks, LacksIn, Once, OnceIn, Seen, lacks_both}
 use Rattle.arj_journal.proofs.Facts.{HaveWords, PieceFacts, form_of, kinds_facts, mixed_facts, spaceless_words}
 use Rattle.arj_journal.proofs.Leaves.{IsApart, end_apart, hex_lacks, hex_once, known_once, space_apart}
-use Rattle.arj_journal.proofs.Texts.{cut_once, digits_only, no_cut}
+use Rattle.arj_text.proofs.Texts.{cut_once, digits_only, no_cut}
 
 -- A text is cut at the last space in one way.
 pub cut_last : (r s w v : List ℕ) → has_space w ≡ false → has_space v ≡ false → r ++ 32 ∷ w ≡ s ++ 32 ∷ v → (r ≡ s) × (w ≡ v)

@@ -2,9 +2,9 @@
 use Rattle.std.proofs.Common.{◌≡◌, ◌≢◌, ℕ, List, true, false, refl, sym, ◌∙◌, ap, ⊎_elim, ◌⊎◌}
 use Rattle.std.specs.Prelude.{⊤}
 use Rattle.std.specs.List.{list_all}
-use Rattle.arj_journal.specs.Fields.{has_byte, has_space}
+use Rattle.arj_text.specs.Fields.{has_byte, has_space}
 use Rattle.arj_journal.specs.Form.{Form, ◌▸◌, kept, Kinds}
-use Rattle.arj_journal.specs.Label.{is_letter}
+use Rattle.arj_text.specs.Label.{is_letter}
 use Rattle.arj_journal.specs.Spellings.{IsKnown}
 use Rattle.arj_journal.proofs.ByKind.{AreOfKinds, Lacks, LacksIn, Once, OnceIn, kept_once, kinds_lack, kinds_once, one_word, pair_lacks, pair_once}
 use Rattle.arj_journal.proofs.Leaves.{IsApart, end_apart, known_once, known_passes, letters_lack, space_apart}

@@ -4,13 +4,13 @@ use Rattle.std.specs.List.{AllByRecursion}
 use Rattle.std.specs.Fmt.{decimal}
 use Rattle.std.proofs.lemmas.List.{append_cancel_right}
 use Rattle.arj_journal.specs.declared.body.Line.{Line}
-use Rattle.arj_journal.specs.Fields.{has_byte}
+use Rattle.arj_text.specs.Fields.{has_byte}
 use Rattle.arj_journal.specs.LineForm.{LineInForm}
 use Rattle.arj_journal.specs.LineText.{body_text, line_text, text}
 use Rattle.arj_journal.proofs.ByKind.{Once, lacks_behind}
 use Rattle.arj_journal.proofs.Leaves.{end_apart, number_lacks, number_once, space_apart}
 use Rattle.arj_journal.proofs.LineFacts.{bodies_facts}
-use Rattle.arj_journal.proofs.Texts.{cut_once, no_cut}
+use Rattle.arj_text.proofs.Texts.{cut_once, no_cut}
 
 -- a line without its end
 abbrev front : Line → List ℕ

@@ -11,14 +11,14 @@ use Rattle.arj_journal.specs.declared.pieces.Sender.{Sender}
 use Rattle.arj_journal.specs.declared.pieces.Word.{Word}
 use Rattle.arj_journal.specs.declared.fault.LineFault.{LineFault}
 use Rattle.arj_journal.specs.declared.fault.LineFault.TheVariants.{NotALine, Memory}
-use Rattle.arj_journal.specs.Fields.{has_space}
+use Rattle.arj_text.specs.Fields.{has_space}
 use Rattle.arj_journal.specs.Form.{◌▸◌, Kinds, IsOfKind}
 use Rattle.arj_journal.specs.LineForm.{CauseFits, is_junk}
 use Rattle.arj_journal.specs.LineKinds.{OneWordCause, WordedCause, cause_words, causes, frame, line_form, node, sender, word}
 use Rattle.arj_journal.specs.Reading.{IsTaken}
 use Rattle.arj_journal.proofs.ByKind.{one_word}
 use Rattle.arj_journal.proofs.LineFacts.{BareCause, BareAsked, BareDoomed, bare_cause, causes_are, either, sent_facts}
-use Rattle.arj_journal.proofs.Texts.{no_cut}
+use Rattle.arj_text.proofs.Texts.{no_cut}
 
 -- What isn't taken is of no kind.
 pub not_of_kind : (ks : Kinds) (k : ks.Kind) (bytes : List ℕ) (y : LineFault) → IsTaken (ks.form k).InForm (ks.form k).text bytes (Err y) → IsOfKind ks k bytes (Err y)

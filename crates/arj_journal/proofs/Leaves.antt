@@ -11,15 +11,15 @@ use Rattle.std.proofs.lemmas.Bool.Decides.{nat_tests}
 use Rattle.std.proofs.lemmas.Fmt.{decimal_injective}
 use Rattle.std.proofs.lemmas.List.{length-take, take-append-drop}
 use Rattle.arj_base.specs.Uid.{UidFits, binding_text, uid_text}
-use Rattle.arj_journal.specs.declared.label.Label.{Label}
-use Rattle.arj_journal.specs.Fields.{AreBytes, BindingInForm, has_byte}
-use Rattle.arj_journal.specs.Label.{is_digit, is_label, is_letter, name}
+use Rattle.arj_text.specs.declared.label.Label.{Label}
+use Rattle.arj_text.specs.Fields.{AreBytes, BindingInForm, has_byte}
+use Rattle.arj_text.specs.Label.{is_digit, is_label, is_letter, name}
 use Rattle.arj_journal.specs.LineForm.{LabelFits, ParentFits}
 use Rattle.arj_journal.specs.LineText.{parent_text}
 use Rattle.arj_journal.specs.Spellings.{IsKnown}
-use Rattle.arj_journal.specs.Words.{hex, hex_digit, hex_pair}
+use Rattle.arj_text.specs.Words.{hex, hex_digit, hex_pair}
 use Rattle.arj_journal.proofs.ByKind.{Once, Lacks, lacks_both, lacks_behind}
-use Rattle.arj_journal.proofs.Texts.{cut_once, digits_only}
+use Rattle.arj_text.proofs.Texts.{cut_once, digits_only}
 
 -- a byte that no word has: a space or the end of a line
 pub record IsApart (k : ℕ) : Type 0 where

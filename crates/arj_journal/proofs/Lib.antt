@@ -2,17 +2,10 @@ pub mod ByKind
 pub mod CallReading
 pub mod Calls
 pub mod Facts
-pub mod Hex
-pub mod Items
 pub mod Journals
 pub mod KindReading
-pub mod Labels
 pub mod Leaves
 pub mod LineFacts
 pub mod LineReading
-pub mod ListItems
 pub mod NodeLists
-pub mod Spaceless
 pub mod Taking
-pub mod Texts
-pub mod Values

@@ -15,12 +15,12 @@ use Rattle.arj_journal.specs.declared.causes.DifferenceKind.TheVariants as diffe
 use Rattle.arj_journal.specs.declared.line_kind.LineKind.{LineKind}
 use Rattle.arj_journal.specs.declared.line_kind.LineKind.TheVariants as line
 use Rattle.arj_journal.specs.Form.{◌▸◌}
-use Rattle.arj_journal.specs.Label.{name}
+use Rattle.arj_text.specs.Label.{name}
 use Rattle.arj_journal.specs.LineForm.{BodyFits, CauseFits, DifferenceFits, is_junk}
 use Rattle.arj_journal.specs.LineKinds.{node, sender, refusal, object, word, version, label, parent, uid, binding, hex_bytes, nodes, kind, part, role, frame, which, mode, ending, yes_no, difference_form, make_difference, differences, difference_words, difference_piece, WordedCause, cause_form, make_cause, causes, cause_words, cause_piece, line_form, make_body, lines, yes_text}
 use Rattle.arj_journal.specs.LineText.{body_text, cause_text, difference_text, frame_text, kind_text, part_text, role_text, which_text}
 use Rattle.arj_journal.specs.Spellings.{IsKnown, cause_kinds, cause_word, difference_kinds, difference_word, ends, frame_kinds, kinds, known_cause_kinds, known_difference_kinds, known_ends, known_frame_kinds, known_kinds, known_limits, known_line_kinds, known_modes, known_parts, known_roles, limits, line_kinds, line_word, modes, parts, roles}
-use Rattle.arj_journal.specs.Words.{end_text, mode_text, number_word}
+use Rattle.arj_text.specs.Words.{end_text, mode_text, number_word}
 use Rattle.arj_journal.proofs.ByKind.{AreOfKinds, Seen}
 use Rattle.arj_journal.proofs.Calls.{call_facts}
 use Rattle.arj_journal.proofs.Facts.{HaveWords, PieceFacts, WordFacts, alone, behind, form_of, kinds_facts, known_facts, mixed_facts, narrowed, spaceless, spaceless_words}

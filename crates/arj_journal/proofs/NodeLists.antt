@@ -6,12 +6,12 @@ use Rattle.std.specs.Fmt.{decimal}
 use Rattle.std.proofs.lemmas.Bool.{and_parts, both_ways, leb-true, or_from}
 use Rattle.std.proofs.lemmas.Fmt.{decimal_injective}
 use Rattle.std.proofs.lemmas.List.{append-nil}
-use Rattle.arj_journal.specs.Fields.{has_byte, is_distinct}
+use Rattle.arj_text.specs.Fields.{has_byte, is_distinct}
 use Rattle.arj_journal.specs.LineForm.{NodesFit}
-use Rattle.arj_journal.specs.Words.{behind_comma, decimals, list_text}
+use Rattle.arj_text.specs.Words.{behind_comma, decimals, list_text}
 use Rattle.arj_journal.proofs.ByKind.{Once, Lacks, lacks_both}
 use Rattle.arj_journal.proofs.Leaves.{IsApart}
-use Rattle.arj_journal.proofs.Texts.{cut_once, digits_only, no_cut}
+use Rattle.arj_text.proofs.Texts.{cut_once, digits_only, no_cut}
 
 -- each is a node
 abbrev AreNodes : List ℕ → Type 0

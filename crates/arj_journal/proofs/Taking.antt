@@ -2,10 +2,10 @@
 use Rattle.std.proofs.Common.{◌≡◌, ℕ, List, ◌∷◌, ◌++◌, false, Err, sym, ◌∙◌}
 use Rattle.arj_journal.specs.declared.fault.LineFault.{LineFault}
 use Rattle.arj_journal.specs.declared.fault.LineFault.TheVariants.{NotALine, Memory}
-use Rattle.arj_journal.specs.Fields.{has_space}
+use Rattle.arj_text.specs.Fields.{has_space}
 use Rattle.arj_journal.specs.Form.{PairInForm, pair_text}
 use Rattle.arj_journal.specs.Reading.{IsTaken}
-use Rattle.arj_journal.proofs.Texts.{cut_once}
+use Rattle.arj_text.proofs.Texts.{cut_once}
 
 -- Where the first word isn't taken, no pair is there.
 pub first_fails : {A B : Type 0} (P : A → Type 0) (s : A → List ℕ) (Q : B → Type 0) (t : B → List ℕ) (bytes word rest : List ℕ) (y : LineFault) → has_space word ≡ false → bytes ≡ word ++ 32 ∷ rest → IsTaken P s word (Err y) → IsTaken (PairInForm P s Q) (pair_text s t) bytes (Err y)

@@ -2,7 +2,7 @@
 use Rattle.std.specs.Prelude.{◌≡◌, ◌≢◌, ℕ, List, ◌∷◌, ◌++◌, false, ⊤, Result, Ok, Err}
 use Rattle.arj_journal.specs.declared.fault.LineFault.{LineFault}
 use Rattle.arj_journal.specs.declared.fault.LineFault.TheVariants.{NotALine, Memory}
-use Rattle.arj_journal.specs.Fields.{has_space}
+use Rattle.arj_text.specs.Fields.{has_space}
 
 pub record Form : Type 1 where
   pub Value : Type 0

@@ -1,6 +1,4 @@
-pub mod Fields
 pub mod Form
-pub mod Label
 pub mod LineForm
 pub mod LineKinds
 pub mod LineText
@@ -8,4 +6,3 @@ pub mod Reading
 pub mod ScriptText
 pub mod Spellings
 pub mod Stepping
-pub mod Words

@@ -10,9 +10,9 @@ use Rattle.arj_journal.specs.declared.body.Cause.{Cause}
 use Rattle.arj_journal.specs.declared.body.Cause.TheVariants as cause
 use Rattle.arj_journal.specs.declared.body.FrameKind.{FrameKind}
 use Rattle.arj_journal.specs.declared.body.FrameKind.TheVariants as frame
-use Rattle.arj_journal.specs.declared.label.Label.{Label}
-use Rattle.arj_journal.specs.Fields.{IsWithin, BindingInForm, AreBytes, NodesInForm, OpHasForm, IsAnswer}
-use Rattle.arj_journal.specs.Label.{LabelInForm}
+use Rattle.arj_text.specs.declared.label.Label.{Label}
+use Rattle.arj_text.specs.Fields.{IsWithin, BindingInForm, AreBytes, NodesInForm, OpHasForm, IsAnswer}
+use Rattle.arj_text.specs.Label.{LabelInForm}
 
 -- a label with its 16 bytes
 abbrev pub LabelFits : Label → Type 0

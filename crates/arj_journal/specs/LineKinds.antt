@@ -21,7 +21,7 @@ use Rattle.arj_journal.specs.declared.causes.CauseKind.{CauseKind}
 use Rattle.arj_journal.specs.declared.causes.CauseKind.TheVariants as cause_kind
 use Rattle.arj_journal.specs.declared.causes.DifferenceKind.{DifferenceKind}
 use Rattle.arj_journal.specs.declared.causes.DifferenceKind.TheVariants as difference_kind
-use Rattle.arj_journal.specs.declared.label.Label.{Label}
+use Rattle.arj_text.specs.declared.label.Label.{Label}
 use Rattle.arj_journal.specs.declared.line_kind.LineKind.{LineKind}
 use Rattle.arj_journal.specs.declared.line_kind.LineKind.TheVariants as line
 use Rattle.arj_journal.specs.declared.call.Call.{Call}
@@ -34,13 +34,13 @@ use Rattle.arj_journal.specs.declared.pieces.Refusal.{Refusal}
 use Rattle.arj_journal.specs.declared.pieces.Sender.{Sender}
 use Rattle.arj_journal.specs.declared.pieces.Version.{Version}
 use Rattle.arj_journal.specs.declared.pieces.Word.{Word}
-use Rattle.arj_journal.specs.Fields.{AreBytes, BindingInForm, IsAnswer, IsWithin, OpHasForm}
+use Rattle.arj_text.specs.Fields.{AreBytes, BindingInForm, IsAnswer, IsWithin, OpHasForm}
 use Rattle.arj_journal.specs.Form.{Form, ◌▸◌, kept, Kinds}
-use Rattle.arj_journal.specs.Label.{name}
+use Rattle.arj_text.specs.Label.{name}
 use Rattle.arj_journal.specs.LineForm.{CauseFits, DifferenceFits, LabelFits, NodeFits, NodesFit, NumberFits, ObjectFits, ParentFits, WordFits, is_junk}
 use Rattle.arj_journal.specs.LineText.{binding_word, conflict_words, frame_text, kind_text, parent_text, part_text, role_text, which_text}
 use Rattle.arj_journal.specs.Spellings.{cause_word, difference_word, line_word}
-use Rattle.arj_journal.specs.Words.{end_text, hex, list_text, mode_text, number_word, op_text}
+use Rattle.arj_text.specs.Words.{end_text, hex, list_text, mode_text, number_word, op_text}
 
 -- the pieces that are one word
 abbrev pub node : Form

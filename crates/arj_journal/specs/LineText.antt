@@ -22,10 +22,10 @@ use Rattle.arj_journal.specs.declared.body.FrameKind.{FrameKind}
 use Rattle.arj_journal.specs.declared.body.FrameKind.TheVariants as frame
 use Rattle.arj_journal.specs.declared.body.Which.{Which}
 use Rattle.arj_journal.specs.declared.body.Which.TheVariants as which
-use Rattle.arj_journal.specs.declared.label.Label.{Label}
-use Rattle.arj_journal.specs.Label.{name}
+use Rattle.arj_text.specs.declared.label.Label.{Label}
+use Rattle.arj_text.specs.Label.{name}
 use Rattle.arj_journal.specs.ScriptText.{labelled}
-use Rattle.arj_journal.specs.Words.{space, number_word, hex, list_text, mode_text, end_text, op_text}
+use Rattle.arj_text.specs.Words.{space, number_word, hex, list_text, mode_text, end_text, op_text}
 
 abbrev pub uid_word : Uid → List ℕ
 uid_word u = space ++ uid_text u

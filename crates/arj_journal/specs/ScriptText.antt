@@ -8,9 +8,9 @@ use Rattle.arj_journal.specs.declared.event.FrameNo.TheVariants as frame_no
 use Rattle.arj_journal.specs.declared.event.StopKind.{StopKind}
 use Rattle.arj_journal.specs.declared.event.StopKind.TheVariants as stop_kind
 use Rattle.arj_journal.specs.declared.header.ObjectLine.{ObjectLine}
-use Rattle.arj_journal.specs.declared.label.Label.{Label}
-use Rattle.arj_journal.specs.Label.{name}
-use Rattle.arj_journal.specs.Words.{number_word, space, hex, list_text, op_text, value_text}
+use Rattle.arj_text.specs.declared.label.Label.{Label}
+use Rattle.arj_text.specs.Label.{name}
+use Rattle.arj_text.specs.Words.{number_word, space, hex, list_text, op_text, value_text}
 
 abbrev pub frame_no_text : FrameNo → List ℕ
 frame_no_text (frame_no.Number k) = decimal k

@@ -22,7 +22,7 @@ use Rattle.arj_journal.specs.declared.causes.CauseKind.TheVariants as cause
 use Rattle.arj_journal.specs.declared.causes.DifferenceKind.{DifferenceKind}
 use Rattle.arj_journal.specs.declared.causes.DifferenceKind.TheVariants as difference
 use Rattle.arj_journal.specs.LineText.{kind_text, part_text, role_text, frame_text, which_text}
-use Rattle.arj_journal.specs.Words.{mode_text, end_text}
+use Rattle.arj_text.specs.Words.{mode_text, end_text}
 
 -- Each of them is found by its word.
 abbrev pub IsKnown : {K : Type 0} → (K → List ℕ) → List K → Type 0

@@ -1,14 +1,14 @@
 // Operations with their answers.
 ghost use Rattle.std.specs.Prelude.{◌≡◌, ◌∷◌, ◌++◌, codes, false, MatchOption};
-ghost use Rattle.arj_journal.specs.Fields.{IsAnswer, OpHasForm, has_space};
+ghost use Rattle.arj_text.specs.Fields.{IsAnswer, OpHasForm, has_space};
 ghost use Rattle.arj_journal.specs.Reading.{IsTaken};
-ghost use Rattle.arj_journal.specs.Words.{op_text};
+ghost use Rattle.arj_text.specs.Words.{op_text};
 
 use crate::LineFault;
-use crate::field_value::{is_answer, operation};
 use crate::piece::{Piece, before, taken};
 use arj_base::Bytes;
 use arj_class::Op;
+use arj_text::field_value::{is_answer, operation};
 use std::alloc::Global;
 
 /// An operation and the text of its answer, with ` = ` between them.

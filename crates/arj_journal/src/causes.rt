@@ -5,12 +5,12 @@ ghost use Rattle.arj_journal.specs.LineKinds.{OneWordCause, cause_words, causes,
 ghost use Rattle.arj_journal.specs.Reading.{IsTaken};
 ghost use Rattle.arj_journal.specs.Spellings.{cause_kinds, cause_word, difference_kinds, difference_word, known_cause_kinds, known_difference_kinds};
 
-use crate::field::{cut, is_text};
 use crate::piece::Piece;
 use crate::pieces::{Node, Object, Version, Word};
 use crate::spelled::{Spelled, one_of};
 use crate::{Cause, Difference, LineFault};
 use arj_base::{Binding, Mode, Uid};
+use arj_text::field::{cut, is_text};
 use std::alloc::Global;
 
 /// What differs.

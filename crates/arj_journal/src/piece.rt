@@ -4,7 +4,7 @@ ghost use Rattle.arj_journal.specs.Form.{PairInForm, pair_text};
 ghost use Rattle.arj_journal.specs.Reading.{IsTaken, as_taken};
 
 use crate::LineFault;
-use crate::field::cut;
+use arj_text::field::cut;
 use std::alloc::Global;
 
 /// What may stand in a line.

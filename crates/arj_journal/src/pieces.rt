@@ -2,18 +2,19 @@
 ghost use Rattle.std.specs.Prelude.{⊤};
 ghost use Rattle.std.specs.Fmt.{decimal};
 ghost use Rattle.arj_base.specs.Uid.{UidFits, binding_text, uid_text};
-ghost use Rattle.arj_journal.specs.Fields.{AreBytes, BindingInForm, IsWithin};
-ghost use Rattle.arj_journal.specs.Label.{name};
+ghost use Rattle.arj_text.specs.Fields.{AreBytes, BindingInForm, IsWithin};
+ghost use Rattle.arj_text.specs.Label.{name};
 ghost use Rattle.arj_journal.specs.LineForm.{LabelFits, NodeFits, NodesFit, NumberFits, ObjectFits, ParentFits, WordFits};
 ghost use Rattle.arj_journal.specs.LineKinds.{yes_text};
 ghost use Rattle.arj_journal.specs.LineText.{parent_text};
-ghost use Rattle.arj_journal.specs.Words.{hex, list_text};
+ghost use Rattle.arj_text.specs.Words.{hex, list_text};
 
-use crate::field::{is_text, label_of, number};
-use crate::field_list::nodes;
 use crate::piece::{Piece, taken};
-use crate::{Label, LineFault, field_hex, field_uid};
+use crate::{Label, LineFault};
 use arj_base::{Binding, Bytes, NodeList, Uid};
+use arj_text::field::{is_text, label_of, number};
+use arj_text::field_list::nodes;
+use arj_text::{field_hex, field_uid};
 use std::alloc::Global;
 
 /// A node, 1 to 16.

@@ -8,12 +8,12 @@ ghost use Rattle.arj_journal.specs.LineKinds.{lines};
 ghost use Rattle.arj_journal.specs.LineText.{body_text, line_text as text_of_line};
 ghost use Rattle.arj_journal.specs.Reading.{IsTaken};
 
-use crate::field::cut;
 use crate::line_kind::LineKind;
 use crate::piece::{Piece, before};
 use crate::pieces::Word;
 use crate::spelled::one_of;
 use crate::{Body, Line, LineFault, action_lines, node_lines};
+use arj_text::field::cut;
 use std::alloc::Global;
 
 /// Reads a journal line, its line feed included: exactly what `line_text` writes of a line in form.

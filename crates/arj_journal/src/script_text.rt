@@ -1,13 +1,15 @@
 // Writers of script lines, without their ends. Each puts its text at the end of what is there.
 ghost use Rattle.std.specs.Prelude.{◌≡◌, ◌++◌, OnOk, codes};
 ghost use Rattle.arj_journal.specs.declared.event.StopKind.TheVariants.{Torn};
-ghost use Rattle.arj_journal.specs.ScriptText.{event_text, frame_no_text, labelled, nodes_text, stop_kind_text};
-ghost use Rattle.arj_journal.specs.Words.{hex, number_word, op_text, space};
+ghost use Rattle.arj_journal.specs.ScriptText.{event_text, frame_no_text, labelled, nodes_text, object_text, stop_kind_text};
+ghost use Rattle.arj_text.specs.Words.{hex, number_word, op_text, space};
 
-use crate::words::{put_decimal, put_hex, put_number, put_numbered, put_op, put_word};
-use crate::{Event, FrameNo, Label, StopKind};
+use crate::{Event, FrameNo, Label, ObjectLine, StopKind};
 use arj_base::Bytes;
 use arj_class::Op;
+use arj_text::words::{
+    put_decimal, put_hex, put_list, put_number, put_numbered, put_op, put_value, put_word,
+};
 use std::alloc::AllocError;
 
 /// Puts the line that says how many nodes there are.
@@ -15,6 +17,20 @@ pub fn put_nodes(out: &mut Bytes, nodes: u8) -> Result<(), AllocError>
     ensures { OnOk result (out.new ≡ out.old ++ nodes_text nodes) }
 {
     put_numbered(out, b"nodes", u64::from(nodes))
+}
+
+/// Puts the line of an object.
+#[tactic(auto, using(std::proofs::lemmas::List::append_assoc))]
+pub fn put_object(out: &mut Bytes, object: &ObjectLine) -> Result<(), AllocError>
+    ensures { OnOk result (out.new ≡ out.old ++ object_text object.now) }
+{
+    put_numbered(out, b"object", u64::from(object.x))?;
+    out.extend(b" ")?;
+    put_value(out, &object.value)?;
+    out.extend(b" servers ")?;
+    put_list(out, object.servers.as_slice())?;
+    out.extend(b" stores ")?;
+    put_list(out, object.stores.as_slice())
 }
 
 /// Puts the line of an event.

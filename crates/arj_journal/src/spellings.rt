@@ -2,14 +2,14 @@
 ghost use Rattle.std.specs.Prelude.{⊤};
 ghost use Rattle.arj_journal.specs.LineText.{frame_text, kind_text, part_text, role_text, which_text};
 ghost use Rattle.arj_journal.specs.Spellings.{ends, frame_kinds, kinds as kinds_of_action, known_ends, known_frame_kinds, known_kinds, known_limits, known_modes, known_parts, known_roles, limits, modes, parts, roles};
-ghost use Rattle.arj_journal.specs.Words.{end_text, mode_text};
+ghost use Rattle.arj_text.specs.Words.{end_text, mode_text};
 
 use crate::piece::Piece;
 use crate::spelled::{Spelled, one_of};
-use crate::words::{end_word, mode_word};
 use crate::write::{frame_word, kind_word, part_word, role_word, which_word};
 use crate::{FrameKind, Kind, LineFault, Part, Role, Which};
 use arj_base::{End, Mode};
+use arj_text::words::{end_word, mode_word};
 use std::alloc::Global;
 
 impl Spelled for Kind {

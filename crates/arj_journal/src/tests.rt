@@ -1,9 +1,6 @@
-// Lines, operations and answers with their texts, as worked scripts and the table of line kinds have them, read back
-// and printed again; and texts that are no lines.
-ghost use Rattle.std.specs.Prelude.{◌≡◌, ◌<◌, [], OnOk, Some, if◌then◌else◌};
-ghost use Rattle.std.specs.Str.{bytes_eq};
-ghost use Rattle.std.specs.BTreeMap.{get};
-ghost use Rattle.arj_journal.specs.Label.{name, label_cmp};
+// Lines with their texts, as worked scripts and the table of line kinds have them, read back and printed again; and
+// texts that are no lines.
+ghost use Rattle.std.specs.Prelude.{◌≡◌, ◌<◌, []};
 
 use crate::{
     Body, Cause, Difference, Event, FrameKind, Kind, Label, Line, LineFault, Lines, Part, Role,
@@ -12,7 +9,6 @@ use crate::{
 use arj_base::{Binding, Bytes, End, Mode, Uid, entry_uid, object_uid};
 use arj_class::{Answer, Op};
 use std::alloc::{AllocError, Global};
-use std::collections::BTreeMap;
 use std::test::Fail;
 
 #[test]
@@ -20,7 +16,7 @@ fn lines_have_their_texts(rt: HostRuntime) -> Result<(), Fail> {
     for place in 0..46usize {
         assert!(rt; line_is_right(rt.alloc(), place)?, "line {place}");
     }
-    for place in 0..14usize {
+    for place in 0..4usize {
         assert!(rt; call_is_right(rt.alloc(), place)?, "call {place}");
     }
     Ok(())
@@ -345,38 +341,18 @@ fn line_is_right(alloc: Global, place: usize) -> Result<bool, AllocError> {
     }
 }
 
-// The table of operations with their answers.
+// Calls with their answers.
 fn call_is_right(alloc: Global, place: usize) -> Result<bool, AllocError> {
     match place {
-        0 => call_has_text(alloc, Op::Get, Answer::Number(12), "get = 12"),
-        1 => call_has_text(
+        0 => call_has_text(
             alloc,
             Op::Get,
             Answer::Text(bytes(alloc, &[0, 255])?),
             "get = 00ff",
         ),
-        2 => call_has_text(alloc, Op::Get, Answer::Text(Bytes::new(alloc)), "get = -"),
-        3 => call_has_text(alloc, Op::Add(1), Answer::Over, "add 1 = over"),
-        4 => call_has_text(
-            alloc,
-            Op::Set(18446744073709551615),
-            Answer::Done,
-            "set 18446744073709551615 = done",
-        ),
-        5 => call_has_text(
-            alloc,
-            Op::Put(bytes(alloc, &[0, 255])?),
-            Answer::Done,
-            "put 00ff = done",
-        ),
-        6 => call_has_text(alloc, Op::Deposit(5), Answer::Done, "deposit 5 = done"),
-        7 => call_has_text(alloc, Op::Withdraw(6), Answer::Short, "withdraw 6 = short"),
-        8 => call_has_text(alloc, Op::Len, Answer::Number(0), "len = 0"),
-        9 => call_has_text(alloc, Op::Push(1), Answer::Full, "push 1 = full"),
-        10 => call_has_text(alloc, Op::Pop, Answer::Nothing, "pop = none"),
-        11 => call_has_text(alloc, Op::GetKey(1), Answer::Number(2), "get 1 = 2"),
-        12 => call_has_text(alloc, Op::PutPair(1, 2), Answer::Done, "put 1 2 = done"),
-        13 => call_has_text(alloc, Op::Remove(1), Answer::Nothing, "remove 1 = none"),
+        1 => call_has_text(alloc, Op::Add(1), Answer::Over, "add 1 = over"),
+        2 => call_has_text(alloc, Op::Pop, Answer::Nothing, "pop = none"),
+        3 => call_has_text(alloc, Op::PutPair(1, 2), Answer::Done, "put 1 2 = done"),
         _ => Ok(false),
     }
 }
@@ -527,27 +503,6 @@ fn is_full<S: Stepper>(stepper: &mut S, out: &mut Lines) -> bool
         stepper.step(&Event::Settle, out),
         Err(StepFault::Limit(Which::Labels))
     )
-}
-
-// Labels as keys of a map.
-#[tactic(auto, using(crate::proofs::Labels::get_updates))]
-fn put_place(places: &mut BTreeMap<Label, usize>, label: Label, place: usize) -> Result<(), Fail>
-    ensures { OnOk result ((other : Label) → get label_cmp places.new other
-        ≡ (if bytes_eq (name label) (name other) then Some place else get label_cmp places.old other)) }
-{
-    places.insert(label, place)?;
-    Ok(())
-}
-
-#[test]
-fn labels_are_keys(rt: HostRuntime) -> Result<(), Fail> {
-    let mut places = BTreeMap::new(rt.alloc());
-    put_place(&mut places, Label::new(b"A"), 1)?;
-    put_place(&mut places, Label::new(b"B"), 2)?;
-    put_place(&mut places, Label::new(b"A"), 3)?;
-    assert_eq!(rt; places.get(&Label::new(b"A")).copied(), Some(3));
-    assert_eq!(rt; places.get(&Label::new(b"AB")).copied(), None);
-    Ok(())
 }
 
 fn inc() -> Difference {

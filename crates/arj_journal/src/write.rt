@@ -1,17 +1,17 @@
 // Writers of journal lines. Each puts its text at the end of what is there.
 ghost use Rattle.std.specs.Prelude.{◌≡◌, ◌++◌, OnOk, IfOk};
 ghost use Rattle.arj_journal.specs.ScriptText.{labelled};
-ghost use Rattle.arj_journal.specs.Words.{space, number_word, mode_text};
+ghost use Rattle.arj_text.specs.Words.{space, number_word, mode_text};
 ghost use Rattle.arj_journal.specs.LineText.{uid_word, binding_word, kind_text, parent_text, part_text, role_text};
 ghost use Rattle.arj_journal.specs.LineText.{which_text, frame_text, difference_text, conflict_words, cause_text};
 ghost use Rattle.arj_journal.specs.LineText.{quiet_text, body_text, line_text as text_of_line};
 
-use crate::words::{
-    end_word, mode_word, put_decimal, put_hex, put_list, put_number, put_numbered, put_op, put_word,
-};
 use crate::{Body, Cause, Difference, FrameKind, Kind, Label, Line, Part, Role, Which};
 use arj_base::{Binding, Bytes, End, Mode, NodeList, Uid};
 use arj_class::Op;
+use arj_text::words::{
+    end_word, mode_word, put_decimal, put_hex, put_list, put_number, put_numbered, put_op, put_word,
+};
 use std::alloc::{AllocError, Global};
 
 /// Puts a journal line at the end: the number of its event, a space, what it says, and a line feed.

@@ -11,7 +11,7 @@ use Rattle.arj_base.specs.Uid.{object, entry, nobody}
 use Rattle.arj_class.specs.declared.op.Op.{Op}
 use Rattle.arj_class.specs.declared.op.Op.TheVariants.{Get, Add}
 use Rattle.arj_class.specs.declared.value.Value.TheVariants.{Counter}
-use Rattle.arj_journal.specs.declared.label.Label.{Label}
+use Rattle.arj_text.specs.declared.label.Label.{Label}
 use Rattle.arj_journal.specs.declared.body.Body.{Body}
 use Rattle.arj_journal.specs.declared.body.Body.TheVariants as body
 use Rattle.arj_journal.specs.declared.body.Cause.TheVariants as cause

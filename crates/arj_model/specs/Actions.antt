@@ -11,7 +11,7 @@ use Rattle.arj_journal.specs.declared.body.Body.TheVariants as body
 use Rattle.arj_journal.specs.declared.body.Kind.{Kind}
 use Rattle.arj_journal.specs.declared.body.Kind.TheVariants as kind
 use Rattle.arj_journal.specs.declared.body.Line.{Line}
-use Rattle.arj_journal.specs.Label.{name}
+use Rattle.arj_text.specs.Label.{name}
 
 -- what a `began` line says
 pub record Begun : Type 0 where

@@ -7,7 +7,7 @@ use Rattle.arj_class.specs.declared.op.Op.{Op}
 use Rattle.arj_journal.specs.declared.body.Body.{Body}
 use Rattle.arj_journal.specs.declared.body.Body.TheVariants as body
 use Rattle.arj_journal.specs.declared.body.Line.{Line}
-use Rattle.arj_journal.specs.Label.{name}
+use Rattle.arj_text.specs.Label.{name}
 use Rattle.arj_model.specs.Actions.{Act, Placed, read, path, top_in, chain_in, root_in, has_end, is_committed, committed, recovered}
 
 -- what an `ok` line says, with the path of its action

@@ -12,8 +12,8 @@ use Rattle.arj_journal.specs.declared.body.Line.{Line}
 use Rattle.arj_journal.specs.declared.event.Event.{Event}
 use Rattle.arj_journal.specs.declared.event.Event.TheVariants as event
 use Rattle.arj_journal.specs.declared.header.Header.{Header}
-use Rattle.arj_journal.specs.declared.label.Label.{Label}
-use Rattle.arj_journal.specs.Label.{name}
+use Rattle.arj_text.specs.declared.label.Label.{Label}
+use Rattle.arj_text.specs.Label.{name}
 use Rattle.arj_model.specs.Actions.{Act, acts, act_in, path, uids}
 use Rattle.arj_model.specs.Table.{table}
 use Rattle.arj_model.specs.Past.{Past}

@@ -16,8 +16,8 @@ use Rattle.arj_journal.specs.declared.event.Event.{Event}
 use Rattle.arj_journal.specs.declared.event.Event.TheVariants as event
 use Rattle.arj_journal.specs.declared.header.Header.{Header}
 use Rattle.arj_journal.specs.declared.header.ObjectLine.{ObjectLine}
-use Rattle.arj_journal.specs.Label.{name}
-use Rattle.arj_journal.specs.Words.{answer_text}
+use Rattle.arj_text.specs.Label.{name}
+use Rattle.arj_text.specs.Words.{answer_text}
 use Rattle.arj_model.specs.Actions.{Act, acts, act_in, is_begun, is_over, root_in, path}
 use Rattle.arj_model.specs.Last.{object_line, is_among, insert_number}
 use Rattle.arj_model.specs.Past.{Past, Asked, asked_of, block, Along, nothing_yet}

@@ -3,7 +3,7 @@ use Rattle.std.specs.Prelude.{◌≡◌, ℕ, List, [], ◌∷◌, Bool, true, f
 use Rattle.arj_class.specs.declared.value.Value.{Value}
 use Rattle.arj_class.specs.Table.{answer_of, value_after, writes}
 use Rattle.arj_journal.specs.declared.body.Line.{Line}
-use Rattle.arj_journal.specs.Words.{answer_text}
+use Rattle.arj_text.specs.Words.{answer_text}
 use Rattle.arj_model.specs.Calls.{Call, Top, tops, committed_calls}
 
 -- a value of each object

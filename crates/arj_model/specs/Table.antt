@@ -8,7 +8,7 @@ use Rattle.arj_class.specs.Table.{op_mode}
 use Rattle.arj_journal.specs.declared.body.Body.{Body}
 use Rattle.arj_journal.specs.declared.body.Body.TheVariants as body
 use Rattle.arj_journal.specs.declared.body.Line.{Line}
-use Rattle.arj_journal.specs.Label.{name}
+use Rattle.arj_text.specs.Label.{name}
 use Rattle.arj_model.specs.Actions.{Act, acts_after, path, uids, tops_in}
 
 -- the row of an answered call by the action with this path

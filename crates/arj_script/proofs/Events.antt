@@ -4,8 +4,8 @@ use Rattle.std.specs.Fmt.{decimal}
 use Rattle.std.proofs.lemmas.Bool.{both_ways}
 use Rattle.arj_journal.specs.declared.event.Event.{Event}
 use Rattle.arj_journal.specs.declared.event.Event.TheVariants as event
-use Rattle.arj_journal.specs.Fields.{IsRead, ObjectInForm, WordInForm, behind}
-use Rattle.arj_journal.specs.Label.{LabelInForm, name}
+use Rattle.arj_text.specs.Fields.{IsRead, ObjectInForm, WordInForm, behind}
+use Rattle.arj_text.specs.Label.{LabelInForm, name}
 use Rattle.arj_journal.specs.ScriptText.{event_text}
 use Rattle.arj_script.specs.Events.{CallInForm, IncludeInForm, IsBeginning, IsOutside, IsWorking, JunkInForm, LabelAtInForm, LabelInLabel, StopInForm, call_text, include_text, junk_text, label_at_text, label_in_text, stop_text}
 

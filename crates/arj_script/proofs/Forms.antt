@@ -4,10 +4,10 @@ use Rattle.std.specs.Fmt.{decimal}
 use Rattle.std.proofs.lemmas.Bool.{both_ways}
 use Rattle.std.proofs.lemmas.Fmt.{decimal_injective}
 use Rattle.arj_journal.specs.declared.header.ObjectLine.{ObjectLine}
-use Rattle.arj_journal.specs.Fields.{IsRead}
+use Rattle.arj_text.specs.Fields.{IsRead}
 use Rattle.arj_journal.specs.ScriptText.{object_text}
-use Rattle.arj_journal.specs.Words.{list_text, value_text}
-use Rattle.arj_journal.proofs.Texts.{cut_once, digits_only, same_rest}
+use Rattle.arj_text.specs.Words.{list_text, value_text}
+use Rattle.arj_text.proofs.Texts.{cut_once, digits_only, same_rest}
 use Rattle.arj_script.specs.Grammar.{ObjectHasForm, has_object}
 
 -- what stands behind the number of an object line

@@ -2,7 +2,7 @@
 use Rattle.std.proofs.Common.{◌≡◌, ℕ, ◌≤◌, List, [], length, false, refl, sym, ap, subst}
 use Rattle.arj_journal.specs.declared.event.Event.{Event}
 use Rattle.arj_journal.specs.declared.header.ObjectLine.{ObjectLine}
-use Rattle.arj_journal.specs.Fields.{IsWithin}
+use Rattle.arj_text.specs.Fields.{IsWithin}
 use Rattle.arj_journal.specs.ScriptText.{event_text, nodes_text, object_text}
 use Rattle.arj_script.specs.declared.reader.Item.{Item}
 use Rattle.arj_script.specs.declared.reader.Item.TheVariants as item

@@ -3,12 +3,12 @@ use Rattle.std.specs.Prelude.{◌≡◌, ◌≤◌, ℕ, List, ◌++◌, codes, 
 use Rattle.std.specs.Fmt.{decimal}
 use Rattle.arj_journal.specs.declared.event.Event.{Event}
 use Rattle.arj_journal.specs.declared.event.Event.TheVariants as event
-use Rattle.arj_journal.specs.declared.label.Label.{Label}
+use Rattle.arj_text.specs.declared.label.Label.{Label}
 use Rattle.arj_class.specs.declared.op.Op.{Op}
 use Rattle.arj_journal.specs.declared.event.StopKind.{StopKind}
 use Rattle.arj_journal.specs.ScriptText.{event_text}
-use Rattle.arj_journal.specs.Fields.{AreBytes, ObjectInForm, OpHasForm, WordInForm}
-use Rattle.arj_journal.specs.Label.{LabelInForm, name}
+use Rattle.arj_text.specs.Fields.{AreBytes, ObjectInForm, OpHasForm, WordInForm}
+use Rattle.arj_text.specs.Label.{LabelInForm, name}
 use Rattle.arj_script.specs.Grammar.{EventHasForm, StopKindHasForm}
 
 -- actions begin

@@ -9,8 +9,8 @@ use Rattle.arj_journal.specs.declared.event.FrameNo.TheVariants as frame_no
 use Rattle.arj_journal.specs.declared.header.ObjectLine.{ObjectLine}
 use Rattle.arj_journal.specs.declared.event.StopKind.{StopKind}
 use Rattle.arj_journal.specs.declared.event.StopKind.TheVariants as stop_kind
-use Rattle.arj_journal.specs.Fields.{AreBytes, NodesInForm, ObjectInForm, OpHasForm, ValueHasForm, WordInForm}
-use Rattle.arj_journal.specs.Label.{LabelInForm}
+use Rattle.arj_text.specs.Fields.{AreBytes, NodesInForm, ObjectInForm, OpHasForm, ValueHasForm, WordInForm}
+use Rattle.arj_text.specs.Label.{LabelInForm}
 use Rattle.arj_journal.specs.ScriptText.{event_text, object_text, nodes_text}
 
 -- What a line says.

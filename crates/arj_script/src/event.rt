@@ -1,7 +1,7 @@
 // Events. Each reader tells exactly which event has this text.
 ghost use Rattle.std.specs.Prelude.{IfOk};
 ghost use Rattle.arj_journal.specs.ScriptText.{event_text};
-ghost use Rattle.arj_journal.specs.Fields.{IsRead};
+ghost use Rattle.arj_text.specs.Fields.{IsRead};
 ghost use Rattle.arj_script.specs.Events.{IsBeginning, IsOutside, IsPassing, IsWorking};
 ghost use Rattle.arj_script.specs.Grammar.{EventHasForm};
 
@@ -10,7 +10,7 @@ use crate::event_part::{
     word_behind,
 };
 use arj_journal::Event;
-use arj_journal::field::is_text;
+use arj_text::field::is_text;
 use std::alloc::{AllocError, Global};
 
 /// Any event.

@@ -1,8 +1,8 @@
 // What stands behind the first word of an event.
 ghost use Rattle.std.specs.Prelude.{IfOk};
 ghost use Rattle.std.specs.Fmt.{decimal};
-ghost use Rattle.arj_journal.specs.Fields.{IsRead, ObjectInForm, WordInForm, behind};
-ghost use Rattle.arj_journal.specs.Label.{LabelInForm, name};
+ghost use Rattle.arj_text.specs.Fields.{IsRead, ObjectInForm, WordInForm, behind};
+ghost use Rattle.arj_text.specs.Label.{LabelInForm, name};
 ghost use Rattle.arj_journal.specs.ScriptText.{frame_no_text, stop_kind_text};
 ghost use Rattle.arj_script.specs.Events.{LabelAtInForm, LabelInLabel, label_at_text, label_in_text};
 ghost use Rattle.arj_script.specs.Events.{CallInForm, IncludeInForm, JunkInForm, StopInForm, call_text, include_text, junk_text, stop_text};
@@ -10,10 +10,10 @@ ghost use Rattle.arj_script.specs.Grammar.{FrameNoHasForm, StopKindHasForm};
 
 use arj_base::Bytes;
 use arj_class::Op;
-use arj_journal::field::{after, is_text, label_first, label_of, number, number_first};
-use arj_journal::field_hex::hex;
-use arj_journal::field_value::operation;
 use arj_journal::{FrameNo, Label, StopKind};
+use arj_text::field::{after, is_text, label_first, label_of, number, number_first};
+use arj_text::field_hex::hex;
+use arj_text::field_value::operation;
 use std::alloc::{AllocError, Global};
 
 /// The largest number of 32 bits, and of 16.

@@ -1,13 +1,13 @@
 // The lines of a header.
 ghost use Rattle.std.specs.Prelude.{IfOk};
-ghost use Rattle.arj_journal.specs.Fields.{IsRead, IsWithin};
+ghost use Rattle.arj_text.specs.Fields.{IsRead, IsWithin};
 ghost use Rattle.arj_journal.specs.ScriptText.{nodes_text, object_text};
 ghost use Rattle.arj_script.specs.Grammar.{ObjectHasForm};
 
 use arj_journal::ObjectLine;
-use arj_journal::field::{after, number, number_first};
-use arj_journal::field_list::{nodes, nodes_first};
-use arj_journal::field_value::value_first;
+use arj_text::field::{after, number, number_first};
+use arj_text::field_list::{nodes, nodes_first};
+use arj_text::field_value::value_first;
 use std::alloc::{AllocError, Global};
 
 /// How many servers and how many stores an object has at most.

@@ -1,10 +1,10 @@
 //! Scripts, line by line.
 //!
-//! It stands on `arj_journal`, which reads the fields of a line and spells each form. What it gives upward:
-//! `Reader::line` takes a line exactly where it has a form of the grammar at its place (`specs/Grammar.antt`), tells what
-//! it says, and otherwise answers that it is bad and stays as it was. A reader is seen as the place where it stands.
-//! `specs/Input.antt` says what the lines of a source's bytes are, and `proofs/Lines.antt` how they grow.
-//! `specs/Built.antt` names the forms that the program runs today.
+//! It stands on `arj_text`, which reads the fields of a line, and on `arj_journal`, which spells each form. What it
+//! gives upward: `Reader::line` takes a line exactly where it has a form of the grammar at its place
+//! (`specs/Grammar.antt`), tells what it says, and otherwise answers that it is bad and stays as it was. A reader is
+//! seen as the place where it stands. `specs/Input.antt` says what the lines of a source's bytes are, and
+//! `proofs/Lines.antt` how they grow.
 #![tactic(auto)]
 
 mod event;
@@ -14,7 +14,7 @@ mod form;
 mod place;
 mod reader;
 #[cfg(test)]
-mod scripts;
+mod runs;
 mod stage;
 #[cfg(test)]
 mod tests;

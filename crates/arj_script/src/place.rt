@@ -1,6 +1,6 @@
 // What a line says at its place.
 ghost use Rattle.std.specs.Prelude.{◌≡◌, ◌≢◌, ◌≤◌, ℕ, false, length, IfOk, OnOk, OnErr, IsErrOf, MatchBool, insert};
-ghost use Rattle.arj_journal.specs.Fields.{IsWithin};
+ghost use Rattle.arj_text.specs.Fields.{IsWithin};
 ghost use Rattle.arj_journal.specs.ScriptText.{event_text, nodes_text, object_text};
 ghost use Rattle.arj_journal.specs.declared.event.Event.{Event};
 ghost use Rattle.arj_journal.specs.declared.header.ObjectLine.{ObjectLine};
@@ -10,8 +10,8 @@ ghost use Rattle.arj_script.specs.declared.fault.ScriptFault.TheVariants as scri
 use crate::ScriptFault;
 use crate::event::event;
 use crate::form::{nodes_line, object};
-use arj_journal::{Event, Header, ObjectLine, ObjectLines};
-use std::alloc::{AllocError, Global};
+use arj_journal::{Event, ObjectLine};
+use std::alloc::Global;
 
 /// Whether the line is empty or a comment.
 pub fn is_blank(bytes: &[u8]) -> bool
@@ -82,33 +82,6 @@ fn place_among(objects: &[ObjectLine], x: u16) -> usize
         }
     }
     objects.len()
-}
-
-/// The header with these objects.
-pub fn header_of(alloc: Global, nodes: u8, objects: &[ObjectLine]) -> Result<Header, AllocError>
-    ensures { IfOk result
-        (λ header. (header.nodes ≡ nodes) × (header.objects ≡ objects.now)) }
-{
-    let mut copies = ObjectLines::new(alloc);
-    for object in objects {
-        copies.push(copy_of(alloc, object)?)?;
-    }
-    Ok(Header {
-        nodes,
-        objects: copies,
-    })
-}
-
-// Another object line that says the same.
-fn copy_of(alloc: Global, object: &ObjectLine) -> Result<ObjectLine, AllocError>
-    ensures { IfOk result (λ copied. copied ≡ object.now) }
-{
-    Ok(ObjectLine {
-        x: object.x,
-        value: object.value.copy(alloc)?,
-        servers: object.servers.copy()?,
-        stores: object.stores.copy()?,
-    })
 }
 
 /// An event line.

@@ -1,11 +1,12 @@
 // The reader of a script.
 use crate::ScriptFault;
-use crate::place::{event_line, first_line, header_of, is_blank, object_line};
+use crate::place::{event_line, first_line, is_blank, object_line};
 use crate::stage::Stage;
-use arj_journal::field::is_text;
-use arj_journal::{Event, Header};
+use arj_journal::{Event, Header, ObjectLines};
+use arj_text::field::is_text;
 use std::alloc::Global;
 use std::marker::Model;
+use std::mem::replace;
 
 /// What a line was.
 #[derive(Drop)]
@@ -85,7 +86,10 @@ impl Reader {
             }
             Stage::Objects { nodes, objects } => {
                 if is_text(bytes, b"run") {
-                    let header = header_of(self.alloc, *nodes, objects)?;
+                    let header = Header {
+                        nodes: *nodes,
+                        objects: ObjectLines::from_vec(replace(objects, Vec::new(self.alloc))),
+                    };
                     self.stage = Stage::Running;
                     return Ok(Item::Run(header));
                 }

@@ -1,10 +1,8 @@
 // Which lines are taken where, and what is told of them.
 
-use crate::scripts::SCRIPTS;
 use crate::{Item, Reader, ScriptFault};
-use arj_base::Bytes;
 use arj_class::Value;
-use arj_journal::{ObjectLine, put_event, put_nodes};
+use arj_journal::ObjectLine;
 use std::alloc::Global;
 use std::test::Fail;
 
@@ -199,50 +197,6 @@ fn a_line_has_at_most_200_bytes(rt: HostRuntime) -> Result<(), Fail> {
     let mut reader = reader_behind(rt.alloc(), 0)?;
     assert_eq!(rt; told(reader.line(&comment[..200])), "blank");
     assert_eq!(rt; told(reader.line(&comment)), "bad");
-    Ok(())
-}
-
-// What was read of a line, printed; nothing for an object and for the end of a header.
-fn printed(alloc: Global, item: Item) -> Result<Bytes, Fail> {
-    let mut text = Bytes::new(alloc);
-    match item {
-        Item::Event(event) => put_event(&mut text, &event)?,
-        Item::Run(header) => put_nodes(&mut text, header.nodes)?,
-        Item::Blank | Item::Part => {}
-    }
-    Ok(text)
-}
-
-// What a line is printed as: nothing for a part of the header, the number of nodes for its end.
-fn wanted<'a>(line: &'a [u8], nodes: &'a [u8]) -> &'a [u8] {
-    if line == b"run".as_slice() {
-        return nodes;
-    }
-    for front in [b"nodes ".as_slice(), b"object ".as_slice(), b"#".as_slice()] {
-        if line.starts_with(front) {
-            return b"";
-        }
-    }
-    line
-}
-
-#[test]
-fn scripts_are_read_and_printed(rt: HostRuntime) -> Result<(), Fail> {
-    let mut reader = Reader::new(rt.alloc());
-    let mut nodes = b"".as_slice();
-    for row in SCRIPTS.lines() {
-        let line = row.as_bytes();
-        if line.starts_with(b"== ") {
-            reader = Reader::new(rt.alloc());
-            continue;
-        }
-        if line.starts_with(b"nodes ") {
-            nodes = line;
-        }
-        let item = reader.line(line)?;
-        let text = printed(rt.alloc(), item)?;
-        assert_eq!(rt; text.as_slice(), wanted(line, nodes), "{row}");
-    }
     Ok(())
 }
 

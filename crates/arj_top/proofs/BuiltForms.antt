@@ -10,10 +10,10 @@ use Rattle.std.proofs.lemmas.Slice.Eq.{bytes_eq-Decides}
 use Rattle.std.specs.Str.{bytes_eq}
 use Rattle.arj_journal.specs.declared.event.Event.{Event}
 use Rattle.arj_journal.specs.declared.event.Event.TheVariants as event
-use Rattle.arj_journal.specs.declared.label.Label.{Label}
-use Rattle.arj_journal.specs.Label.{LabelInForm, is_label, is_letter, is_digit, name}
+use Rattle.arj_text.specs.declared.label.Label.{Label}
+use Rattle.arj_text.specs.Label.{LabelInForm, is_label, is_letter, is_digit, name}
 use Rattle.arj_journal.specs.ScriptText.{event_text, nodes_text}
-use Rattle.arj_journal.specs.Words.{number_word, space}
+use Rattle.arj_text.specs.Words.{number_word, space}
 use Rattle.arj_script.specs.Grammar.{Form, Blank, Nodes, Object, Run, Asks, Place, Start, Objects, Running, next_place, nodes_at, EventHasForm, Fits, HasForm, IsBlank}
 use Rattle.arj_script.specs.Input.{Tells}
 use Rattle.arj_script.specs.declared.reader.Item.{Item}

@@ -6,7 +6,7 @@ use Rattle.std.proofs.Math.Logic.{⊎_elim}
 use Rattle.std.proofs.lemmas.Bool.{and_parts, and_from, or_parts, cases_Bool, cond-true, cond-false, ltb-false, lt-ltb, leb-true, eqb-true, eqb-false, eq-eqb, both_ways, not-true}
 use Rattle.arj_journal.specs.declared.header.ObjectLine.{ObjectLine}
 use Rattle.arj_script.specs.Grammar.{Form, Blank, Nodes, Object, Run, Asks, Place, Start, Objects, Running, next_place, insert_object, has_object}
-use Rattle.arj_journal.specs.Fields.{are_nodes, is_distinct}
+use Rattle.arj_text.specs.Fields.{are_nodes, is_distinct}
 use Rattle.arj_top.specs.Built.{HasBuiltForm, HaveForms, HasOneNode}
 use Rattle.arj_engine.specs.Form.{LineInForm, is_rising}
 

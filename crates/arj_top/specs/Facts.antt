@@ -40,7 +40,8 @@ NoDiskRose {D} stops before after =
 pub record DiskFacts {D : Type 0} (file : D → FileMap) (stops arms : D → ℕ) (before after : List D) (header : Header) (journal : List Line) : Type 0 where
   -- where no disk stopped, every listed store holds its last committed state
   pub listed : NoDiskRose stops before after → ListedStoresHoldLast header journal (held_in file after)
-  -- after a stop in a commit, it holds that or the new state of the one top whose commit was called and not answered
+  -- in any case it holds that, or the state that the object would have if one more top had committed: one that wrote it,
+  -- whose commit was called, and that neither committed nor aborted; for each object at each store it may be another top
   pub stopped : ListedStoresHoldLastOrNext header journal (held_in file after)
   -- a node halts only where its disk's count of stops rose, or stands at its last value
   pub halted : (node : ℕ) (old new : D) → slice_get before node ≡ Some old → slice_get after node ≡ Some new →

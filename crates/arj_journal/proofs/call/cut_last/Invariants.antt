@@ -1,6 +1,6 @@
 -- No space stands from the place in hand on.
 use Rattle.std.proofs.Common.{◌≡◌, ◌≤◌, false, drop, length}
-use Rattle.arj_journal.specs.Fields.{has_space}
+use Rattle.arj_text.specs.Fields.{has_space}
 use Rattle.arj_journal.proofs.call.cut_last.Given as goal
 
 abbrev pub invariant-loop-at : goal.invariant-loop-at

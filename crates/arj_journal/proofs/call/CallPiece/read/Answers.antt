@@ -1,8 +1,8 @@
 -- The answer is the last word, and ` =` stands before it.
 use Rattle.std.proofs.Common.{sym, ◌∙◌}
 use Rattle.std.proofs.lemmas.Result.{err_from_is_err_and}
-use Rattle.arj_journal.specs.Fields.{OpHasForm}
-use Rattle.arj_journal.specs.Words.{op_text}
+use Rattle.arj_text.specs.Fields.{OpHasForm}
+use Rattle.arj_text.specs.Words.{op_text}
 use Rattle.arj_journal.proofs.CallReading.{no_answer, no_equals, no_operation, none_taken, some_taken}
 use Rattle.arj_journal.proofs.call.CallPiece.read.Goals as goal
 

@@ -1,7 +1,0 @@
--- No separator stands before the byte in hand.
-use Rattle.std.proofs.Common.{◌≡◌, false, take}
-use Rattle.arj_journal.specs.Fields.{has_byte}
-use Rattle.arj_journal.proofs.field.cut.Given as goal
-
-abbrev pub invariant-loop-at : goal.invariant-loop-at
-invariant-loop-at l = has_byte l.separator (take l.at l.bytes) ≡ false

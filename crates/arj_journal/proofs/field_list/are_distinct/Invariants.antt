@@ -1,7 +1,0 @@
--- Whether none stands twice is asked of those that are left.
-use Rattle.std.proofs.Common.{◌≡◌, drop}
-use Rattle.arj_journal.specs.Fields.{is_distinct}
-use Rattle.arj_journal.proofs.field_list.are_distinct.Given as goal
-
-abbrev pub invariant-loop-at : goal.invariant-loop-at
-invariant-loop-at l = is_distinct (drop l.at l.nodes) ≡ is_distinct l.nodes

@@ -1,0 +1,177 @@
+-- What reading a field of a line means, and which values are in form: within their widths and limits.
+use Rattle.std.specs.Prelude.{◌≡◌, ◌≢◌, ◌≤◌, ◌<◌, ◌^◌, ℕ, List, [], ◌∷◌, ◌++◌, length, map, ⊤, Bool, true, false, ◌==◌, ◌&&◌, nat_lt, nat_le, not, Option, Some, None}
+use Rattle.std.specs.List.{list_any, list_all, AllByRecursion}
+use Rattle.std.specs.Fmt.{decimal}
+use Rattle.arj_base.specs.declared.binding.Binding.{Binding}
+use Rattle.arj_class.specs.declared.op.Op.{Op}
+use Rattle.arj_class.specs.declared.op.Op.TheVariants as op
+use Rattle.arj_class.specs.declared.op.Answer.{Answer}
+use Rattle.arj_class.specs.declared.op.Answer.TheVariants as answer
+use Rattle.arj_class.specs.declared.value.Value.{Value}
+use Rattle.arj_class.specs.declared.value.Value.TheVariants as value
+use Rattle.arj_text.specs.Words.{answer_text, commas}
+
+-- None: nothing in form has this text. Some: this is in form, and has it.
+abbrev pub IsRead : {A : Type 0} → (A → Type 0) → (A → List ℕ) → List ℕ → Option A → Type 0
+IsRead {A = A} InForm text bytes None = (a : A) → InForm a → bytes ≢ text a
+IsRead {A = A} InForm text bytes (Some a) = InForm a × (bytes ≡ text a)
+
+-- Nothing in form stands before a separator at the front of the bytes.
+abbrev pub HasNoFirst : {A : Type 0} → ℕ → (A → Type 0) → (A → List ℕ) → List ℕ → Type 0
+HasNoFirst {A = A} separator InForm text bytes = (a : A) (rest : List ℕ) → InForm a → bytes ≢ text a ++ separator ∷ rest
+
+-- This is in form and stands before a separator at the front of the bytes, this rest stands behind that, and the bytes
+-- can be taken apart in no other way.
+pub record IsFirst {A : Type 0} (separator : ℕ) (InForm : A → Type 0) (text : A → List ℕ) (bytes : List ℕ) (a : A) (rest : List ℕ) : Type 0 where
+  pub in_form : InForm a
+  pub parts : bytes ≡ text a ++ separator ∷ rest
+  pub only : (b : A) (r : List ℕ) → InForm b → bytes ≡ text b ++ separator ∷ r → (text a ≡ text b) × (rest ≡ r)
+
+-- whether the byte stands among the bytes
+abbrev pub has_byte : ℕ → List ℕ → Bool
+has_byte k bytes = list_any (λ b. b == k) bytes
+
+abbrev pub has_space : List ℕ → Bool
+has_space bytes = has_byte 32 bytes
+
+-- a number within these limits
+abbrev pub IsWithin : ℕ → ℕ → ℕ → Type 0
+IsWithin low high n = (low ≤ n) × (n ≤ high)
+
+-- a number of 64, of 32 and of 16 bits
+abbrev pub NumberInForm : ℕ → Type 0
+NumberInForm n = n < 2 ^ 64
+
+abbrev pub WordInForm : ℕ → Type 0
+WordInForm n = n < 2 ^ 32
+
+abbrev pub ObjectInForm : ℕ → Type 0
+ObjectInForm x = x < 2 ^ 16
+
+-- both parts of a binding have 32 bits
+abbrev pub BindingInForm : Binding → Type 0
+BindingInForm b = WordInForm b.inc × WordInForm b.count
+
+-- bytes, and at most so many of them
+abbrev pub AreBytes : List ℕ → Type 0
+AreBytes bytes = AllByRecursion (λ b. b < 256) bytes
+
+abbrev pub AreBytesUpTo : ℕ → List ℕ → Type 0
+AreBytesUpTo most bytes = (length bytes ≤ most) × AreBytes bytes
+
+-- items in form, at least one and at most so many, and their texts joined by commas
+abbrev pub ItemsInForm : {A : Type 0} → (A → Type 0) → ℕ → List A → Type 0
+ItemsInForm InForm most items = (1 ≤ length items) × (length items ≤ most) × AllByRecursion InForm items
+
+abbrev pub items_text : {A : Type 0} → (A → List ℕ) → List A → List ℕ
+items_text text items = commas (map text items)
+
+-- a list of distinct nodes from 1 to n, between 1 and most of them
+abbrev pub is_distinct : List ℕ → Bool
+is_distinct [] = true
+is_distinct (n ∷ ns) = not (list_any (λ m. m == n) ns) && is_distinct ns
+
+abbrev pub are_nodes : ℕ → ℕ → List ℕ → Bool
+are_nodes n most ns =
+    (nat_le 1 (length ns) && nat_le (length ns) most) && (list_all (λ m. nat_le 1 m && nat_le m n) ns && is_distinct ns)
+
+abbrev pub NodesInForm : ℕ → ℕ → List ℕ → Type 0
+NodesInForm n most ns = are_nodes n most ns ≡ true
+
+-- the numbers of an operation have 64 bits, and a put at most 64 bytes
+-- (the widths too, which `OpInForm` of arj_class leaves out, since the operations of the program have them anyway)
+abbrev pub OpHasForm : Op → Type 0
+OpHasForm (op.Add n) = NumberInForm n
+OpHasForm (op.Set n) = NumberInForm n
+OpHasForm (op.Put bytes) = (length bytes ≤ 64) × AllByRecursion (λ b. b < 256) bytes
+OpHasForm (op.Deposit n) = NumberInForm n
+OpHasForm (op.Withdraw n) = NumberInForm n
+OpHasForm (op.Push n) = NumberInForm n
+OpHasForm (op.GetKey k) = NumberInForm k
+OpHasForm (op.PutPair k v) = NumberInForm k × NumberInForm v
+OpHasForm (op.Remove k) = NumberInForm k
+OpHasForm _ = ⊤
+
+-- an answer to that operation: the bytes of a register are answered to a `get` without a key alone
+abbrev pub is_get : Op → Bool
+is_get op.Get = true
+is_get _ = false
+
+abbrev pub AnswerHasForm : Op → Answer → Type 0
+AnswerHasForm asked (answer.Number n) = NumberInForm n
+AnswerHasForm asked (answer.Text bytes) = (is_get asked ≡ true) × AreBytesUpTo 64 bytes
+AnswerHasForm asked _ = ⊤
+
+-- a key and a value, and keys strictly increasing
+abbrev pub PairHasForm : ℕ × ℕ → Type 0
+PairHasForm p = NumberInForm p.0 × NumberInForm p.1
+
+abbrev pub is_below_first : ℕ → List (ℕ × ℕ) → Bool
+is_below_first key [] = true
+is_below_first key (p ∷ ps) = nat_lt key p.0
+
+abbrev pub is_rising : List (ℕ × ℕ) → Bool
+is_rising [] = true
+is_rising (p ∷ ps) = is_below_first p.0 ps && is_rising ps
+
+-- a first value within the limits of its class
+-- (as `ValueInForm` of arj_class, and besides that what a register holds are bytes)
+abbrev pub ValueHasForm : Value → Type 0
+ValueHasForm (value.Counter n) = NumberInForm n
+ValueHasForm (value.Register bytes) = (length bytes ≤ 64) × AllByRecursion (λ b. b < 256) bytes
+ValueHasForm (value.Account n) = NumberInForm n
+ValueHasForm (value.Queue ns) = (length ns ≤ 32) × AllByRecursion NumberInForm ns
+ValueHasForm (value.Table ps) = (length ps ≤ 16) × AllByRecursion PairHasForm ps × (is_rising ps ≡ true)
+
+-- a pair, its key before a colon
+abbrev pub pair_text : ℕ × ℕ → List ℕ
+pair_text p = decimal p.0 ++ 58 ∷ decimal p.1
+
+-- at most so many numbers, and pairs whose keys rise
+abbrev pub NumbersInForm : ℕ → List ℕ → Type 0
+NumbersInForm most ns = (length ns ≤ most) × AllByRecursion NumberInForm ns
+
+abbrev pub PairsInForm : ℕ → List (ℕ × ℕ) → Type 0
+PairsInForm most ps = (length ps ≤ most) × AllByRecursion PairHasForm ps × (is_rising ps ≡ true)
+
+-- the text behind a front
+abbrev pub behind : {A : Type 0} → List ℕ → (A → List ℕ) → A → List ℕ
+behind front text a = front ++ text a
+
+-- two numbers with a space between them
+abbrev pub two_text : ℕ × ℕ → List ℕ
+two_text p = decimal p.0 ++ 32 ∷ decimal p.1
+
+-- operations of one word, those with one number, and the two that put
+abbrev pub is_word_op : Op → Bool
+is_word_op op.Get = true
+is_word_op op.Len = true
+is_word_op op.Pop = true
+is_word_op _ = false
+
+abbrev pub is_put_op : Op → Bool
+is_put_op (op.Put bytes) = true
+is_put_op (op.PutPair k v) = true
+is_put_op _ = false
+
+abbrev pub IsWordOp : Op → Type 0
+IsWordOp op = OpHasForm op × (is_word_op op ≡ true)
+
+abbrev pub IsPutOp : Op → Type 0
+IsPutOp op = OpHasForm op × (is_put_op op ≡ true)
+
+abbrev pub IsNumberOp : Op → Type 0
+IsNumberOp op = OpHasForm op × ((is_word_op op ≡ false) × (is_put_op op ≡ false))
+
+-- the answers that are a word
+abbrev pub is_word_answer : Answer → Bool
+is_word_answer (answer.Number n) = false
+is_word_answer (answer.Text bytes) = false
+is_word_answer _ = true
+
+abbrev pub IsAnswerWord : List ℕ → Type 0
+IsAnswerWord bytes = (a : Answer) × (is_word_answer a ≡ true) × (bytes ≡ answer_text a)
+
+-- some answer to that operation in form has the text
+abbrev pub IsAnswer : Op → List ℕ → Type 0
+IsAnswer asked bytes = (a : Answer) × AnswerHasForm asked a × (bytes ≡ answer_text a)

@@ -1,0 +1,77 @@
+// Uids and bindings in a line: decimals with points between them.
+ghost use Rattle.std.specs.Prelude.{IfOk, MatchOption};
+ghost use Rattle.arj_base.specs.Uid.{UidFits, binding_text, uid_text};
+ghost use Rattle.arj_text.specs.Fields.{IsRead, HasNoFirst, IsFirst, BindingInForm};
+
+use crate::field::{cut, number, number_first};
+use arj_base::{Binding, Uid};
+use std::alloc::{AllocError, Global};
+
+/// The largest number of 32 bits.
+const WORD_MAX: u64 = 0xffff_ffff;
+
+/// A Uid, printed `node.inc.num`.
+pub fn uid(alloc: Global, bytes: &[u8]) -> Result<Option<Uid>, AllocError>
+    ensures { IfOk result (λ found. IsRead UidFits uid_text bytes.now found) }
+{
+    let Some((node, rest)) = number_first(alloc, bytes, b'.', 0, WORD_MAX)? else {
+        return Ok(None);
+    };
+    let Some((inc, digits)) = number_first(alloc, rest, b'.', 0, WORD_MAX)? else {
+        return Ok(None);
+    };
+    let Some(num) = number(alloc, digits, 0, u64::MAX)? else {
+        return Ok(None);
+    };
+    Ok(Some(Uid {
+        node: node as u32,
+        inc: inc as u32,
+        num,
+    }))
+}
+
+/// A Uid before a space, and what stands behind that.
+pub fn uid_first(alloc: Global, bytes: &[u8]) -> Result<Option<(Uid, &[u8])>, AllocError>
+    ensures { IfOk result (λ found. MatchOption found
+        (HasNoFirst 32 UidFits uid_text bytes.now)
+        (λ p. IsFirst 32 UidFits uid_text bytes.now p.0 p.1.now)) }
+{
+    let Some((word, rest)) = cut(bytes, b' ') else {
+        return Ok(None);
+    };
+    match uid(alloc, word)? {
+        Some(found) => Ok(Some((found, rest))),
+        None => Ok(None),
+    }
+}
+
+/// A binding, printed `inc.count`.
+pub fn binding(alloc: Global, bytes: &[u8]) -> Result<Option<Binding>, AllocError>
+    ensures { IfOk result (λ found. IsRead BindingInForm binding_text bytes.now found) }
+{
+    let Some((inc, digits)) = number_first(alloc, bytes, b'.', 0, WORD_MAX)? else {
+        return Ok(None);
+    };
+    let Some(count) = number(alloc, digits, 0, WORD_MAX)? else {
+        return Ok(None);
+    };
+    Ok(Some(Binding {
+        inc: inc as u32,
+        count: count as u32,
+    }))
+}
+
+/// A binding before a space, and what stands behind that.
+pub fn binding_first(alloc: Global, bytes: &[u8]) -> Result<Option<(Binding, &[u8])>, AllocError>
+    ensures { IfOk result (λ found. MatchOption found
+        (HasNoFirst 32 BindingInForm binding_text bytes.now)
+        (λ p. IsFirst 32 BindingInForm binding_text bytes.now p.0 p.1.now)) }
+{
+    let Some((word, rest)) = cut(bytes, b' ') else {
+        return Ok(None);
+    };
+    match binding(alloc, word)? {
+        Some(found) => Ok(Some((found, rest))),
+        None => Ok(None),
+    }
+}

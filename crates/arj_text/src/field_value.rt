@@ -1,0 +1,235 @@
+// Operations, answers and first values in a line.
+ghost use Rattle.std.specs.Prelude.{◌≡◌, IfOk, MatchBool, MatchOption, codes};
+ghost use Rattle.std.specs.Fmt.{decimal};
+ghost use Rattle.arj_text.specs.Fields.{AreBytesUpTo, HasNoFirst, IsAnswer, IsAnswerWord, IsFirst, IsNumberOp, IsPutOp, IsRead, IsWordOp, NumberInForm, NumbersInForm, OpHasForm, PairHasForm, PairsInForm, ValueHasForm, behind, is_get, two_text};
+ghost use Rattle.arj_text.specs.Words.{hex, numbers_text, op_text, pairs_text, value_text};
+
+use crate::field::{after, cut, is_text, number, number_first};
+use crate::field_hex::hex_up_to;
+use crate::field_list::{numbers, pairs};
+use arj_base::{Bytes, Numbers, Pairs};
+use arj_class::{Account, Counter, Op, Queue, Register, Table, Value};
+use std::alloc::{AllocError, Global};
+
+/// How many bytes a register holds at most.
+const REGISTER_BYTES: usize = 64;
+
+/// How many numbers a queue holds at most.
+const QUEUE_NUMBERS: usize = 32;
+
+/// How many pairs a table holds at most.
+const TABLE_PAIRS: usize = 16;
+
+/// A number of 64 bits behind a front.
+pub fn number_behind(alloc: Global, front: &[u8], bytes: &[u8]) -> Result<Option<u64>, AllocError>
+    ensures { IfOk result (λ found. IsRead NumberInForm (behind front.now decimal) bytes.now found) }
+{
+    let Some(digits) = after(bytes, front) else {
+        return Ok(None);
+    };
+    number(alloc, digits, 0, u64::MAX)
+}
+
+/// An operation with its arguments.
+pub fn operation(alloc: Global, bytes: &[u8]) -> Result<Option<Op>, AllocError>
+    ensures { IfOk result (λ found. IsRead OpHasForm op_text bytes.now found) }
+{
+    if let Some(op) = word_op(bytes) {
+        return Ok(Some(op));
+    }
+    if let Some(op) = put_op(alloc, bytes)? {
+        return Ok(Some(op));
+    }
+    number_op(alloc, bytes)
+}
+
+// An operation without arguments.
+fn word_op(bytes: &[u8]) -> Option<Op>
+    ensures { IsRead IsWordOp op_text bytes.now result }
+{
+    if is_text(bytes, b"get") {
+        return Some(Op::Get);
+    }
+    if is_text(bytes, b"len") {
+        return Some(Op::Len);
+    }
+    if is_text(bytes, b"pop") {
+        return Some(Op::Pop);
+    }
+    None
+}
+
+// An operation with one number.
+fn number_op(alloc: Global, bytes: &[u8]) -> Result<Option<Op>, AllocError>
+    ensures { IfOk result (λ found. IsRead IsNumberOp op_text bytes.now found) }
+{
+    if let Some(n) = number_behind(alloc, b"add ", bytes)? {
+        return Ok(Some(Op::Add(n)));
+    }
+    if let Some(n) = number_behind(alloc, b"set ", bytes)? {
+        return Ok(Some(Op::Set(n)));
+    }
+    if let Some(n) = number_behind(alloc, b"deposit ", bytes)? {
+        return Ok(Some(Op::Deposit(n)));
+    }
+    if let Some(n) = number_behind(alloc, b"withdraw ", bytes)? {
+        return Ok(Some(Op::Withdraw(n)));
+    }
+    if let Some(n) = number_behind(alloc, b"push ", bytes)? {
+        return Ok(Some(Op::Push(n)));
+    }
+    if let Some(key) = number_behind(alloc, b"get ", bytes)? {
+        return Ok(Some(Op::GetKey(key)));
+    }
+    if let Some(key) = number_behind(alloc, b"remove ", bytes)? {
+        return Ok(Some(Op::Remove(key)));
+    }
+    Ok(None)
+}
+
+// A put of a register, which has one argument, or of a table, which has two.
+fn put_op(alloc: Global, bytes: &[u8]) -> Result<Option<Op>, AllocError>
+    ensures { IfOk result (λ found. IsRead IsPutOp op_text bytes.now found) }
+{
+    let Some(arguments) = after(bytes, b"put ") else {
+        return Ok(None);
+    };
+    if let Some(value) = hex_up_to(alloc, arguments, REGISTER_BYTES)? {
+        return Ok(Some(Op::Put(value)));
+    }
+    match two_numbers(alloc, arguments)? {
+        Some((key, value)) => Ok(Some(Op::PutPair(key, value))),
+        None => Ok(None),
+    }
+}
+
+// Two numbers with a space between them.
+fn two_numbers(alloc: Global, bytes: &[u8]) -> Result<Option<(u64, u64)>, AllocError>
+    ensures { IfOk result (λ found. IsRead PairHasForm two_text bytes.now found) }
+{
+    let Some((first, rest)) = number_first(alloc, bytes, b' ', 0, u64::MAX)? else {
+        return Ok(None);
+    };
+    match number(alloc, rest, 0, u64::MAX)? {
+        Some(second) => Ok(Some((first, second))),
+        None => Ok(None),
+    }
+}
+
+/// Whether the bytes are an answer to that operation: `done`, `over`, `short`, `full`, `none` or a number, and after a
+/// `get` without a key also at most 64 bytes as digits.
+pub fn is_answer(alloc: Global, asked: &Op, bytes: &[u8]) -> Result<bool, AllocError>
+    ensures { IfOk result (λ yes. MatchBool yes (IsAnswer asked.now bytes.now) (IsAnswer asked.now bytes.now → ⊥)) }
+{
+    if is_answer_word(bytes) {
+        return Ok(true);
+    }
+    if let Some(_number) = number(alloc, bytes, 0, u64::MAX)? {
+        return Ok(true);
+    }
+    if !is_get(asked) {
+        return Ok(false);
+    }
+    match hex_up_to(alloc, bytes, REGISTER_BYTES)? {
+        Some(_value) => Ok(true),
+        None => Ok(false),
+    }
+}
+
+// Whether the bytes are one of the answers that are a word.
+fn is_answer_word(bytes: &[u8]) -> bool
+    ensures { MatchBool result (IsAnswerWord bytes.now) (IsAnswerWord bytes.now → ⊥) }
+{
+    if is_text(bytes, b"done") {
+        return true;
+    }
+    if is_text(bytes, b"over") {
+        return true;
+    }
+    if is_text(bytes, b"short") {
+        return true;
+    }
+    if is_text(bytes, b"full") {
+        return true;
+    }
+    if is_text(bytes, b"none") {
+        return true;
+    }
+    false
+}
+
+fn is_get(op: &Op) -> bool
+    ensures { result ≡ is_get op.now }
+{
+    matches!(op, Op::Get)
+}
+
+/// A class and a first value of it.
+pub fn value(alloc: Global, bytes: &[u8]) -> Result<Option<Value>, AllocError>
+    ensures { IfOk result (λ found. IsRead ValueHasForm value_text bytes.now found) }
+{
+    if let Some(n) = number_behind(alloc, b"counter ", bytes)? {
+        return Ok(Some(Value::Counter(Counter::new(n))));
+    }
+    if let Some(n) = number_behind(alloc, b"account ", bytes)? {
+        return Ok(Some(Value::Account(Account::new(n))));
+    }
+    if let Some(first) = register(alloc, bytes)? {
+        return Ok(Some(Value::Register(Register::new(first))));
+    }
+    if let Some(first) = queue(alloc, bytes)? {
+        return Ok(Some(Value::Queue(Queue::new(first))));
+    }
+    if let Some(first) = table(alloc, bytes)? {
+        return Ok(Some(Value::Table(Table::new(first))));
+    }
+    Ok(None)
+}
+
+/// A class and a first value before a space, and what stands behind that.
+pub fn value_first(alloc: Global, bytes: &[u8]) -> Result<Option<(Value, &[u8])>, AllocError>
+    ensures { IfOk result (λ found. MatchOption found
+        (HasNoFirst 32 ValueHasForm value_text bytes.now)
+        (λ p. IsFirst 32 ValueHasForm value_text bytes.now p.0 p.1.now)) }
+{
+    let Some((class, fields)) = cut(bytes, b' ') else {
+        return Ok(None);
+    };
+    let Some((word, rest)) = cut(fields, b' ') else {
+        return Ok(None);
+    };
+    match value(alloc, &bytes[..class.len() + 1 + word.len()])? {
+        Some(found) => Ok(Some((found, rest))),
+        None => Ok(None),
+    }
+}
+
+// A register's bytes.
+fn register(alloc: Global, bytes: &[u8]) -> Result<Option<Bytes>, AllocError>
+    ensures { IfOk result (λ found. IsRead (AreBytesUpTo 64) (behind (codes "register ") hex) bytes.now found) }
+{
+    let Some(digits) = after(bytes, b"register ") else {
+        return Ok(None);
+    };
+    hex_up_to(alloc, digits, REGISTER_BYTES)
+}
+
+// A queue's numbers, front first.
+fn queue(alloc: Global, bytes: &[u8]) -> Result<Option<Numbers>, AllocError>
+    ensures { IfOk result (λ found. IsRead (NumbersInForm 32) (behind (codes "queue ") numbers_text) bytes.now found) }
+{
+    let Some(list) = after(bytes, b"queue ") else {
+        return Ok(None);
+    };
+    numbers(alloc, list, QUEUE_NUMBERS)
+}
+
+// A table's pairs.
+fn table(alloc: Global, bytes: &[u8]) -> Result<Option<Pairs>, AllocError>
+    ensures { IfOk result (λ found. IsRead (PairsInForm 16) (behind (codes "table ") pairs_text) bytes.now found) }
+{
+    let Some(list) = after(bytes, b"table ") else {
+        return Ok(None);
+    };
+    pairs(alloc, list, TABLE_PAIRS)
+}

@@ -1,0 +1,304 @@
+// Words with their texts, as worked scripts and journals have them, read back and printed again; and texts that are no
+// such words.
+ghost use Rattle.std.specs.Prelude.{◌≡◌, OnOk, Some, if◌then◌else◌};
+ghost use Rattle.std.specs.Str.{bytes_eq};
+ghost use Rattle.std.specs.BTreeMap.{get};
+ghost use Rattle.arj_text.specs.Label.{name, label_cmp};
+
+use crate::field::{cut, is_text, label_first, label_of, number, number_first};
+use crate::field_hex::{hex, hex_up_to};
+use crate::field_list::{nodes, nodes_first, numbers, pairs};
+use crate::field_uid::{binding, binding_first, uid, uid_first};
+use crate::field_value::{is_answer, operation, value, value_first};
+use crate::words::{put_hex, put_list, put_op};
+use crate::{Label, answer_text};
+use arj_base::{Binding, Bytes, Uid};
+use arj_class::{Answer, Op};
+use std::alloc::{AllocError, Global};
+use std::collections::BTreeMap;
+use std::test::Fail;
+
+// Each with the word for its reader before it.
+const WORDS: [&str; 30] = [
+    "label A",
+    "label Abcdefghij012345",
+    "label_first A 2",
+    "number 0",
+    "number 255",
+    "number_first 7:8",
+    "hex -",
+    "hex 00ff",
+    "hex_up_to 00ff",
+    "nodes 3",
+    "nodes 1,3,2",
+    "nodes_first 1,2 1",
+    "numbers -",
+    "numbers 0",
+    "numbers 18446744073709551615,1,1",
+    "pairs -",
+    "pairs 1:9,2:0",
+    "uid 0.0.1",
+    "uid 4294967295.1.18446744073709551615",
+    "uid_first 1.1.1 x",
+    "binding 4294967295.8",
+    "binding_first 1.7 1.8",
+    "value counter 7",
+    "value account 100",
+    "value register -",
+    "value queue 1,2,1",
+    "value table 1:10,3:30",
+    "value_first counter 7 1,2",
+    "operation get",
+    "operation put -",
+];
+
+const NOT_WORDS: [&str; 34] = [
+    "label ",
+    "label 1A",
+    "label A-",
+    "label Abcdefghij0123456",
+    "label_first A",
+    "number ",
+    "number 00",
+    "number 07",
+    "number +1",
+    "number -1",
+    "number 256",
+    "number 18446744073709551616",
+    "number_first 7",
+    "hex ",
+    "hex 0",
+    "hex 0F",
+    "hex --",
+    "hex_up_to 000102",
+    "nodes ",
+    "nodes 0",
+    "nodes 4",
+    "nodes 1,1",
+    "nodes 1,",
+    "numbers ",
+    "numbers -,1",
+    "pairs 2:0,1:9",
+    "pairs 1:9,1:9",
+    "pairs 1",
+    "uid 1.1",
+    "uid 4294967296.1.1",
+    "binding 1.1.1",
+    "value table 2:0,1:9",
+    "value counter",
+    "operation put 1",
+];
+
+#[test]
+fn words_are_read(rt: HostRuntime) -> Result<(), Fail> {
+    for text in WORDS {
+        assert!(rt; is_read(rt.alloc(), text.as_bytes())?, "{text}");
+    }
+    for text in NOT_WORDS {
+        assert!(rt; !is_read(rt.alloc(), text.as_bytes())?, "{text}");
+    }
+    for place in 0..7usize {
+        assert!(rt; has_value(rt.alloc(), place)?, "word {place}");
+    }
+    for place in 0..14usize {
+        assert!(rt; call_is_right(rt.alloc(), place)?, "call {place}");
+    }
+    Ok(())
+}
+
+// Whether the reader of that name takes what stands behind it: numbers up to 255, bytes up to two, nodes up to 3.
+fn is_read(alloc: Global, line: &[u8]) -> Result<bool, AllocError> {
+    let Some((reader, text)) = cut(line, b' ') else {
+        return Ok(false);
+    };
+    if is_text(reader, b"label") {
+        return Ok(label_of(text).is_some());
+    }
+    if is_text(reader, b"label_first") {
+        return Ok(label_first(text).is_some());
+    }
+    if is_text(reader, b"number") {
+        return Ok(number(alloc, text, 0, 255)?.is_some());
+    }
+    if is_text(reader, b"number_first") {
+        return Ok(number_first(alloc, text, b':', 0, 255)?.is_some());
+    }
+    if is_text(reader, b"hex") {
+        return Ok(hex(alloc, text)?.is_some());
+    }
+    if is_text(reader, b"hex_up_to") {
+        return Ok(hex_up_to(alloc, text, 2)?.is_some());
+    }
+    is_list_read(alloc, reader, text)
+}
+
+fn is_list_read(alloc: Global, reader: &[u8], text: &[u8]) -> Result<bool, AllocError> {
+    if is_text(reader, b"nodes") {
+        return Ok(nodes(alloc, text, 3, 3)?.is_some());
+    }
+    if is_text(reader, b"nodes_first") {
+        return Ok(nodes_first(alloc, text, 3, 3)?.is_some());
+    }
+    if is_text(reader, b"numbers") {
+        return Ok(numbers(alloc, text, 3)?.is_some());
+    }
+    if is_text(reader, b"pairs") {
+        return Ok(pairs(alloc, text, 2)?.is_some());
+    }
+    is_other_read(alloc, reader, text)
+}
+
+fn is_other_read(alloc: Global, reader: &[u8], text: &[u8]) -> Result<bool, AllocError> {
+    if is_text(reader, b"uid") {
+        return Ok(uid(alloc, text)?.is_some());
+    }
+    if is_text(reader, b"uid_first") {
+        return Ok(uid_first(alloc, text)?.is_some());
+    }
+    if is_text(reader, b"binding") {
+        return Ok(binding(alloc, text)?.is_some());
+    }
+    if is_text(reader, b"binding_first") {
+        return Ok(binding_first(alloc, text)?.is_some());
+    }
+    if is_text(reader, b"value") {
+        return Ok(value(alloc, text)?.is_some());
+    }
+    if is_text(reader, b"value_first") {
+        return Ok(value_first(alloc, text)?.is_some());
+    }
+    Ok(is_text(reader, b"operation") && operation(alloc, text)?.is_some())
+}
+
+// Texts with what they say.
+fn has_value(alloc: Global, place: usize) -> Result<bool, AllocError> {
+    match place {
+        0 => Ok(number(alloc, b"18446744073709551615", 0, u64::MAX)? == Some(u64::MAX)),
+        1 => Ok(
+            uid(alloc, b"2.1.7")?
+                == Some(Uid {
+                    node: 2,
+                    inc: 1,
+                    num: 7,
+                }),
+        ),
+        2 => Ok(binding(alloc, b"1.7")? == Some(Binding { inc: 1, count: 7 })),
+        3 => has_bytes(alloc, "00ff", &[0, 255]),
+        4 => has_bytes(alloc, "-", &[]),
+        5 => has_nodes(alloc, "3", &[3]),
+        6 => has_nodes(alloc, "1,3,2", &[1, 3, 2]),
+        _ => Ok(false),
+    }
+}
+
+fn has_bytes(alloc: Global, text: &str, want: &[u8]) -> Result<bool, AllocError> {
+    let Some(found) = hex(alloc, text.as_bytes())? else {
+        return Ok(false);
+    };
+    let mut again = Bytes::new(alloc);
+    put_hex(&mut again, found.as_slice())?;
+    Ok(found.as_slice() == want && again.as_slice() == text.as_bytes())
+}
+
+fn has_nodes(alloc: Global, text: &str, want: &[u8]) -> Result<bool, AllocError> {
+    let Some(found) = nodes(alloc, text.as_bytes(), 3, 3)? else {
+        return Ok(false);
+    };
+    let mut again = Bytes::new(alloc);
+    put_list(&mut again, found.as_slice())?;
+    Ok(found.as_slice() == want && again.as_slice() == text.as_bytes())
+}
+
+// The table of operations with their answers.
+fn call_is_right(alloc: Global, place: usize) -> Result<bool, AllocError> {
+    match place {
+        0 => call_has_text(alloc, Op::Get, "get", Answer::Number(12), "12"),
+        1 => call_has_text(
+            alloc,
+            Op::Get,
+            "get",
+            Answer::Text(bytes(alloc, &[0, 255])?),
+            "00ff",
+        ),
+        2 => call_has_text(alloc, Op::Get, "get", Answer::Text(Bytes::new(alloc)), "-"),
+        3 => call_has_text(alloc, Op::Add(1), "add 1", Answer::Over, "over"),
+        4 => call_has_text(
+            alloc,
+            Op::Set(18446744073709551615),
+            "set 18446744073709551615",
+            Answer::Done,
+            "done",
+        ),
+        5 => call_has_text(
+            alloc,
+            Op::Put(bytes(alloc, &[0, 255])?),
+            "put 00ff",
+            Answer::Done,
+            "done",
+        ),
+        6 => call_has_text(alloc, Op::Deposit(5), "deposit 5", Answer::Done, "done"),
+        7 => call_has_text(alloc, Op::Withdraw(6), "withdraw 6", Answer::Short, "short"),
+        8 => call_has_text(alloc, Op::Len, "len", Answer::Number(0), "0"),
+        9 => call_has_text(alloc, Op::Push(1), "push 1", Answer::Full, "full"),
+        10 => call_has_text(alloc, Op::Pop, "pop", Answer::Nothing, "none"),
+        11 => call_has_text(alloc, Op::GetKey(1), "get 1", Answer::Number(2), "2"),
+        12 => call_has_text(alloc, Op::PutPair(1, 2), "put 1 2", Answer::Done, "done"),
+        13 => call_has_text(alloc, Op::Remove(1), "remove 1", Answer::Nothing, "none"),
+        _ => Ok(false),
+    }
+}
+
+fn call_has_text(
+    alloc: Global,
+    op: Op,
+    asked: &str,
+    answer: Answer,
+    answered: &str,
+) -> Result<bool, AllocError> {
+    let mut text = Bytes::new(alloc);
+    put_op(&mut text, &op)?;
+    let said = answer_text(alloc, &answer)?;
+    Ok(
+        text.as_slice() == asked.as_bytes()
+            && said.as_slice() == answered.as_bytes()
+            && is_read_back(alloc, asked)?
+            && is_answer(alloc, &op, answered.as_bytes())?,
+    )
+}
+
+// Whether the operation that is read from the text has it.
+fn is_read_back(alloc: Global, asked: &str) -> Result<bool, AllocError> {
+    let Some(op) = operation(alloc, asked.as_bytes())? else {
+        return Ok(false);
+    };
+    let mut again = Bytes::new(alloc);
+    put_op(&mut again, &op)?;
+    Ok(again.as_slice() == asked.as_bytes())
+}
+
+fn bytes(alloc: Global, items: &[u8]) -> Result<Bytes, AllocError> {
+    let mut made = Bytes::new(alloc);
+    made.extend(items)?;
+    Ok(made)
+}
+
+// Labels as keys of a map.
+#[tactic(auto, using(crate::proofs::Labels::get_updates))]
+fn put_place(places: &mut BTreeMap<Label, usize>, label: Label, place: usize) -> Result<(), Fail>
+    ensures { OnOk result ((other : Label) → get label_cmp places.new other
+        ≡ (if bytes_eq (name label) (name other) then Some place else get label_cmp places.old other)) }
+{
+    places.insert(label, place)?;
+    Ok(())
+}
+
+#[test]
+fn labels_are_keys(rt: HostRuntime) -> Result<(), Fail> {
+    let mut places = BTreeMap::new(rt.alloc());
+    put_place(&mut places, Label::new(b"A"), 1)?;
+    put_place(&mut places, Label::new(b"B"), 2)?;
+    put_place(&mut places, Label::new(b"A"), 3)?;
+    assert_eq!(rt; places.get(&Label::new(b"A")).copied(), Some(3));
+    assert_eq!(rt; places.get(&Label::new(b"AB")).copied(), None);
+    Ok(())
+}
