@@ -27,7 +27,7 @@ use Rattle.std.proofs.lemmas.Map.Made.{length-le_from_is_member}
 eq_sym : (a b : ℕ) → (a == b) ≡ (b == a)
 eq_sym a b = grind (arith, nat_tests)
 
-uid_equivalence : IsEquivalence uid_eq
+pub uid_equivalence : IsEquivalence uid_eq
 uid_equivalence = record {
   refl = uid_same;
   symm = λ u w i. eq_sym u.node w.node i && (eq_sym u.inc w.inc i && eq_sym u.num w.num i);

@@ -1,7 +1,9 @@
 pub mod Bytes
 pub mod Changes
 pub mod Ends
+pub mod Few
 pub mod Files
+pub mod Finding
 pub mod Formatted
 pub mod Keeping
 pub mod Lists

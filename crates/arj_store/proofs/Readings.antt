@@ -1,16 +1,15 @@
 -- The answer to a read, and what a store answers of what is prepared.
-use Rattle.std.proofs.Common.{◌≡◌, ◌∙◌, List, sym, ap, subst, Option, Some, None}
-use Rattle.std.specs.Prelude.{IfSome, MatchOption}
-use Rattle.arj_base.specs.State.{state_bytes, StateInForm}
+use Rattle.std.proofs.Common.{◌≡◌, ◌∙◌, List, subst, Option, Some, None}
+use Rattle.std.specs.Prelude.{MatchOption}
 use Rattle.arj_base.specs.declared.state.ObjectState.{ObjectState}
 use Rattle.arj_base.specs.declared.uid.Uid.{Uid}
 use Rattle.arj_disk.specs.declared.slot.Role.{Role}
-use Rattle.arj_disk.specs.declared.slot.Slot.TheVariants as slot
 use Rattle.arj_disk.specs.Files.{FileMap}
-use Rattle.arj_disk.specs.Formed.{FormedFor, IsStateOf}
 use Rattle.arj_disk.specs.Says.{role_of, pend, names, InDoubt}
 use Rattle.arj_store.specs.declared.memory.Holding.{Holding}
+use Rattle.arj_store.specs.declared.prepare.Place.TheVariants as place
 use Rattle.arj_store.specs.Pair.{IsHeld}
+use Rattle.arj_store.specs.Recovery.{IsStateAt}
 use Rattle.arj_store.specs.Shadow.{Keeps}
 use Rattle.arj_store.proofs.Keeping.{holder_named}
 use Rattle.arj_store.proofs.Pairs.{held_own}
@@ -24,9 +23,5 @@ pub not_in_doubt : (role : Role) (actions : Uid → Option (List Uid)) (holdings
 not_in_doubt role actions holdings file keeps u is = subst (λ o. MatchOption o (InDoubt file role u → ⊥) (λ h. names (pend file role h.act) u)) is (holder_named role actions holdings file keeps u)
 
 -- the state that was read is the committed one
-pub is_held : (file : FileMap) (role : Role) (u : Uid) (s : ObjectState) → FormedFor file role → role_of u ≡ role → file (slot.Committed u) ≡ Some (state_bytes s) → StateInForm s
-    → ((t : ObjectState) → StateInForm t → file (slot.Committed u) ≡ Some (state_bytes t) → t ≡ s) → IsHeld file role u s
-is_held file role u s formed own bytes form only = record { bytes = held_own file role u own ∙ bytes; in_form = form; own = by (subst (λ o. IfSome o (IsStateOf u)) bytes (formed.committed u own)) }
-  where
-    by : IsStateOf u (state_bytes s) → s.uid ≡ u
-    by is = ap (λ r. r.uid) (sym (only is.0 is.1 (bytes ∙ ap Some is.3))) ∙ is.2
+pub is_held : (file : FileMap) (role : Role) (u : Uid) (s : ObjectState) → role_of u ≡ role → IsStateAt place.Committed file u s → IsHeld file role u s
+is_held file role u s own at = record { bytes = held_own file role u own ∙ at.bytes; in_form = at.in_form; own = at.own }

@@ -1,6 +1,6 @@
 -- Why a state is refused, by the committed state and by who has prepared the object.
 use Rattle.std.proofs.Common.{◌≡◌, ◌≢◌, ◌⊎◌, ◌∙◌, true, false, List, [], ◌∷◌, ℕ, zero, suc, ◌<◌, take, get_or, length, arith, refl, sym, ap, subst, inl, inr, ⊎_elim, Option, Some, None}
-use Rattle.std.specs.Prelude.{is_some, IfSome, option_map, MatchOption}
+use Rattle.std.specs.Prelude.{is_some, option_map, MatchOption}
 use Rattle.std.specs.List.{AllByRecursion}
 use Rattle.arj_base.specs.State.{state_bytes, StateInForm}
 use Rattle.arj_base.specs.declared.state.ObjectState.{ObjectState}
@@ -8,14 +8,16 @@ use Rattle.arj_base.specs.declared.uid.Uid.{Uid}
 use Rattle.arj_disk.specs.declared.slot.Role.{Role}
 use Rattle.arj_disk.specs.declared.slot.Slot.TheVariants as slot
 use Rattle.arj_disk.specs.Files.{FileMap}
-use Rattle.arj_disk.specs.Formed.{FormedFor, IsStateOf}
 use Rattle.arj_disk.specs.Says.{role_of, pend, names, InDoubt}
 use Rattle.arj_store.specs.declared.answer.Prep.{Prep}
 use Rattle.arj_store.specs.declared.answer.Prep.TheVariants as prep
 use Rattle.arj_store.specs.declared.memory.Holding.{Holding}
+use Rattle.arj_store.specs.declared.prepare.Place.TheVariants as place
 use Rattle.arj_store.specs.Pair.{IsHeld, IsWrittenBy, IsOld, Refuses, IsClear, IsRefused}
+use Rattle.arj_store.specs.Recovery.{IsStateAt}
 use Rattle.arj_store.specs.Shadow.{HeldRefuses, IsBelow}
 use Rattle.arj_store.proofs.Pairs.{held_own}
+use Rattle.arj_store.proofs.Readings.{is_held}
 
 -- the answer where the committed state allows the new one: by who has prepared the object
 pub by_holder : (file : FileMap) (role : Role) (act : Uid) (s : ObjectState) (h : Option Holding) → MatchOption h (InDoubt file role s.uid → ⊥) (λ h. names (pend file role h.act) s.uid)
@@ -35,16 +37,9 @@ module _ (file : FileMap) (role : Role) (act : Uid) (s : ObjectState) (own : rol
   pub newer_of_none : file (slot.Committed s.uid) ≡ None → (v : ℕ) → IsOld file role s v → ⊥
   newer_of_none none v is = unheld none is.0 is.1
 
-  module _ (t : ObjectState) (bytes : file (slot.Committed s.uid) ≡ Some (state_bytes t)) (form : StateInForm t) (only : (r : ObjectState) → StateInForm r → file (slot.Committed s.uid) ≡ Some (state_bytes r) → r ≡ t)
-      (formed : FormedFor file role) where
-    own_state : t.uid ≡ s.uid
-    own_state = by (subst (λ o. IfSome o (IsStateOf s.uid)) bytes (formed.committed s.uid own))
-      where
-        by : IsStateOf s.uid (state_bytes t) → t.uid ≡ s.uid
-        by is = ap (λ r. r.uid) (sym (only is.0 is.1 (bytes ∙ ap Some is.3))) ∙ is.2
-
+  module _ (t : ObjectState) (at : IsStateAt place.Committed file s.uid t) (only : (r : ObjectState) → StateInForm r → file (slot.Committed s.uid) ≡ Some (state_bytes r) → r ≡ t) where
     pub held_is : IsHeld file role s.uid t
-    held_is = record { bytes = held_own file role s.uid own ∙ bytes; in_form = form; own = own_state }
+    held_is = is_held file role s.uid t own at
 
     pub held_only : (r : ObjectState) → IsHeld file role s.uid r → r ≡ t
     held_only r is = only r is.in_form (sym (held_own file role s.uid own) ∙ is.bytes)

@@ -1,11 +1,13 @@
 -- Uids, lists of them, and tables under them.
-use Rattle.std.proofs.Common.{◌≡◌, ◌≢◌, ◌⊎◌, ◌∙◌, true, false, ◌==◌, ◌&&◌, ◌||◌, List, [], ◌∷◌, ◌++◌, rules, arith, refl, sym, ap, inl, inr, ⊎_elim, None, length}
+use Rattle.std.proofs.Common.{◌≡◌, ◌≢◌, ◌⊎◌, ◌∙◌, true, false, ◌==◌, ◌&&◌, ◌||◌, List, [], ◌∷◌, ◌++◌, rules, arith, refl, sym, ap, inl, inr, ⊎_elim, map, Option, None, Some, length}
 use Rattle.std.specs.BTreeMap.{is_at}
-use Rattle.std.specs.Map.{lookup}
+use Rattle.std.specs.List.{All}
+use Rattle.std.specs.Map.{lookup, keys_of, values_of}
 use Rattle.std.specs.declared.cmp.Ordering.{Ordering}
 use Rattle.std.specs.declared.cmp.Ordering.TheVariants.{Less, Equal, Greater}
 use Rattle.std.proofs.lemmas.Bool.{eq-eqb, eqb-true, and_parts, cases_Bool}
 use Rattle.std.proofs.lemmas.Cmp.{tied_itself}
+use Rattle.std.proofs.lemmas.List.Elements.{All-head, All-tail}
 use Rattle.std.proofs.lemmas.List.Folds.{list_any-append}
 use Rattle.arj_base.specs.Uid.{uid_eq}
 use Rattle.arj_base.specs.declared.uid.Uid.{Uid}
@@ -28,6 +30,9 @@ uid_is u w e =
 pub uid_isnt : (u w : Uid) → uid_eq u w ≡ false → u ≢ w
 uid_isnt u w e same = let never : true ≡ false = sym (uid_same u) ∙ ap (uid_eq u) same ∙ e in cc
 
+pub uid_other : (u w : Uid) → u ≢ w → uid_eq u w ≡ false
+uid_other u w other = ⊎_elim (λ (e : uid_eq u w ≡ true). absurd (other (uid_is u w e))) (λ (e : uid_eq u w ≡ false). e) (cases_Bool (uid_eq u w))
+
 -- two Uids are the same or not
 pub uid_cases : (u w : Uid) → (u ≡ w) ⊎ (u ≢ w)
 uid_cases u w = ⊎_elim (λ (yes : uid_eq u w ≡ true). inl (uid_is u w yes)) (λ (no : uid_eq u w ≡ false). inr (uid_isnt u w no)) (cases_Bool (uid_eq u w))
@@ -43,6 +48,11 @@ order_itself u = tied_itself total-law u
 pub no_entries : {V : Type 0} (es : List (Uid × V)) → ((q : Uid) → lookup (is_at (uid_order q)) es ≡ None) → es ≡ []
 no_entries [] none = refl
 no_entries (e ∷ es) none = let never = none e.0 in let tied = order_itself e.0 in search rules
+
+-- the values are those under the keys
+pub values_under : {V : Type 0} (f : Uid → Option V) (es : List (Uid × V)) → All (λ e. f e.0 ≡ Some e.1) es → map f (keys_of es) ≡ map Some (values_of es)
+values_under f [] found = refl
+values_under f (e ∷ es) found = λ i. All-head (λ e. f e.0 ≡ Some e.1) e es found i ∷ values_under f es (All-tail (λ e. f e.0 ≡ Some e.1) e es found) i
 
 pub nothing_in_none : {V : Type 0} (es : List (Uid × V)) → length es ≡ 0 → (q : Uid) → lookup (is_at (uid_order q)) es ≡ None
 nothing_in_none [] empty q = refl

@@ -1,15 +1,22 @@
--- What a recovery of the shadow store reads and removes, name by name.
-use Rattle.std.specs.Prelude.{◌≡◌, ◌≢◌, ◌⊎◌, true, false, List, Contains, Option, Some, None, IsSome, is_some, MatchOption}
+-- What a recovery of the shadow store reads and removes, name by name, and what it finds for the naming service.
+use Rattle.std.specs.Prelude.{◌≡◌, ◌≢◌, ◌⊎◌, ◌↔◌, true, false, List, [], ◌∷◌, map, flat_map, Contains, Option, Some, None, IsSome, is_some, option_map, MatchOption, if◌then◌else◌}
+use Rattle.std.specs.List.{AllByRecursion}
+use Rattle.std.specs.List.Sorted.{IsStrictlySortedBy}
+use Rattle.arj_base.specs.State.{state_bytes, StateInForm}
+use Rattle.arj_base.specs.declared.state.ObjectState.{ObjectState}
 use Rattle.arj_base.specs.declared.uid.Uid.{Uid}
 use Rattle.arj_disk.specs.declared.slot.Role.{Role}
+use Rattle.arj_disk.specs.declared.slot.Role.TheVariants.{Names}
 use Rattle.arj_disk.specs.declared.slot.Slot.{Slot}
-use Rattle.arj_disk.specs.declared.slot.Slot.TheVariants.{Shadow, Prepared}
+use Rattle.arj_disk.specs.declared.slot.Slot.TheVariants.{Committed, Shadow, Prepared}
 use Rattle.arj_disk.specs.Disk.{Removes}
 use Rattle.arj_disk.specs.Files.{FileMap}
-use Rattle.arj_disk.specs.Says.{role_of}
+use Rattle.arj_disk.specs.Says.{role_of, role_eq, held}
 use Rattle.arj_store.specs.declared.memory.Holding.{Holding}
+use Rattle.arj_store.specs.declared.prepare.Place.{Place}
 use Rattle.arj_store.specs.declared.prepare.Place.TheVariants as place
-use Rattle.arj_store.specs.Shadow.{is_named, has_shadow, objects_of, HoldsAll, ChangesStates}
+use Rattle.arj_store.specs.Pair.{uid_order}
+use Rattle.arj_store.specs.Shadow.{is_in, is_named, has_shadow, objects_of, slot_at, HoldsAll, ChangesStates}
 use Rattle.arj_store.specs.Table.{Sets, SameTable}
 
 -- the action is kept with the objects of its file, if that is there
@@ -62,3 +69,53 @@ pub record SortsShadows (seen : List Slot) (role : Role) (old : FileMap) (before
   pub acts : (u : Uid) → act_of (after u) ≡ act_of (before u)
   pub flags : (u : Uid) → role_of u ≡ role → Contains seen (Shadow u) → is_some (new (Shadow u)) ≡ has_shadow (after u)
   pub only : (u : Uid) → role_of u ≡ role → has_shadow (after u) ≡ true → IsSome (new (Shadow u))
+
+-- ---- what is found for the naming service
+
+-- the object's file of this kind has this state
+pub record IsStateAt (kind : Place) (file : FileMap) (u : Uid) (s : ObjectState) : Type 0 where
+  pub bytes : file (slot_at kind u) ≡ Some (state_bytes s)
+  pub in_form : StateInForm s
+  pub own : s.uid ≡ u
+
+-- the objects of the role that have a committed state are those whose committed files are among the names
+abbrev pub ListsHeld : Role → FileMap → List Slot → Type 0
+ListsHeld role file names = (u : Uid) → IsSome (held file role u) ↔ ((role_of u ≡ role) × Contains names (Committed u))
+
+-- the entry whose committed file this is, and all of these names
+abbrev pub entry_at : Slot → List Uid
+entry_at (Committed u) = if role_eq (role_of u) Names then u ∷ [] else []
+entry_at q = []
+
+abbrev pub entries_in : List Slot → List Uid
+entries_in names = flat_map entry_at names
+
+-- it is an entry, and has a file of this kind
+abbrev pub HasEntry : Place → FileMap → Uid → Type 0
+HasEntry kind file u = (role_of u ≡ Names) × IsSome (file (slot_at kind u))
+
+-- each entry that has a file of this kind has here the file's state, and no other has one
+abbrev pub HasRead : Place → FileMap → (Uid → Option ObjectState) → Type 0
+HasRead kind file states = (u : Uid) → MatchOption (states u) (HasEntry kind file u → ⊥) (λ s. (role_of u ≡ Names) × IsStateAt kind file u s)
+
+-- each of these has here the state of its file of this kind, and no other has one
+abbrev pub HasReadOf : Place → FileMap → List Uid → (Uid → Option ObjectState) → Type 0
+HasReadOf kind file us states = (u : Uid) → MatchOption (states u) (is_in us u ≡ false) (λ s. (is_in us u ≡ true) × IsStateAt kind file u s)
+
+-- the state of the shadow, or where there is none the committed one
+abbrev pub first_state : Option ObjectState → Option ObjectState → Option ObjectState
+first_state (Some s) other = Some s
+first_state None other = other
+
+abbrev pub newest : (Uid → Option ObjectState) → (Uid → Option ObjectState) → Uid → Option ObjectState
+newest shadows committed u = first_state (shadows u) (committed u)
+
+-- the action is paired with the states of its objects, in their order
+abbrev pub HasStatesOf : (Uid → Option (List Uid)) → (Uid → Option ObjectState) → Uid × List ObjectState → Type 0
+HasStatesOf actions state p = option_map (map state) (actions p.0) ≡ Some (map Some p.1)
+
+-- each action with the states of its objects, by Uid
+pub record ListsPrepared (actions : Uid → Option (List Uid)) (state : Uid → Option ObjectState) (prepared : List (Uid × List ObjectState)) : Type 0 where
+  pub increasing : IsStrictlySortedBy uid_order (map (λ p. p.0) prepared)
+  pub every : (a : Uid) → IsSome (actions a) → Contains (map (λ p. p.0) prepared) a
+  pub each : AllByRecursion (HasStatesOf actions state) prepared

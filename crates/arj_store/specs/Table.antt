@@ -1,5 +1,6 @@
 -- Values under Uids, as functions.
-use Rattle.std.specs.Prelude.{◌≡◌, ◌≢◌, Option}
+use Rattle.std.specs.Prelude.{◌≡◌, ◌≢◌, ◌↔◌, List, map, Contains, Option, Some, IsSome}
+use Rattle.std.specs.List.Sorted.{IsStrictlySortedBy}
 use Rattle.std.specs.BTreeMap.{get}
 use Rattle.arj_base.specs.declared.uid.Uid.{Uid}
 use Rattle.arj_store.specs.declared.table.Table.{Table}
@@ -15,3 +16,10 @@ pub record Sets {V : Type 0} (old new : Uid → Option V) (u : Uid) (value : Opt
 
 abbrev pub SameTable : {V : Type 0} → (Uid → Option V) → (Uid → Option V) → Type 0
 SameTable old new = (q : Uid) → new q ≡ old q
+
+-- these are the values, in the order of their Uids
+pub record AreValuesOf {V : Type 0} (table : Uid → Option V) (values : List V) : Type 0 where
+  pub uids : List Uid
+  pub increasing : IsStrictlySortedBy uid_order uids
+  pub there : (q : Uid) → IsSome (table q) ↔ Contains uids q
+  pub each : map table uids ≡ map Some values

@@ -18,3 +18,10 @@ mod table;
 pub use answer::{Found, Pends, Prep, Read, States, StoreFault};
 pub use shadow::ShadowStore;
 pub use store::ObjectStore;
+
+#[cfg(test)]
+mod recorder;
+#[cfg(test)]
+mod tables;
+#[cfg(test)]
+mod tests;

@@ -6,32 +6,50 @@ ghost use Rattle.arj_base.specs.Uid.{uid_bytes, UidFits};
 ghost use Rattle.arj_base.specs.declared.uid.Uid.{Uid};
 ghost use Rattle.arj_disk.specs.Disk.{CountsStops, SameArms};
 ghost use Rattle.arj_base.specs.declared.state.ObjectState.{ObjectState};
-ghost use Rattle.arj_disk.specs.Formed.{IsPreparedOf, prepared_bytes};
+ghost use Rattle.arj_disk.specs.Formed.{IsStateOf, IsPreparedOf, prepared_bytes};
 ghost use Rattle.arj_disk.specs.Says.{named_in};
+ghost use Rattle.arj_store.specs.Recovery.{IsStateAt};
+ghost use Rattle.arj_store.specs.Shadow.{slot_at};
 
 use crate::StoreFault;
-use arj_base::{Bytes, ObjectState, Uid, Uids, unpack};
-use arj_disk::{Disk, Slot};
+use crate::prepare::Place;
+use arj_base::{Bytes, ObjectState, StateFault, Uid, Uids, unpack};
+use arj_disk::Disk;
 use std::alloc::{AllocError, Global};
 
-/// The state in a file. The files of a formed disk that have states unpack, so that only memory can be wanting.
+/// The state in a file, which packs the Uid of its name, as each of a formed disk does. Only memory can be wanting.
 pub fn read_state<D: Disk>(
     alloc: Global,
     disk: &mut D,
-    slot: Slot,
+    place: Place,
+    uid: Uid,
 ) -> Result<Option<ObjectState>, StoreFault>
-    ensures state { IfOk result (λ found. MatchOption found (D.file disk.old slot ≡ None) (λ s. (D.file disk.old slot ≡ Some (state_bytes s)) × StateInForm s)) }
-    ensures only { IfOk result (λ found. IfSome found (λ s. (t : ObjectState) → StateInForm t → D.file disk.old slot ≡ Some (state_bytes t) → t ≡ s)) }
+    requires { IfSome (D.file disk.old (slot_at place uid)) (IsStateOf uid) }
+    ensures state { IfOk result (λ found. MatchOption found (D.file disk.old (slot_at place uid) ≡ None) (IsStateAt place (D.file disk.old) uid)) }
+    ensures only { IfOk result (λ found. IfSome found (λ s. (t : ObjectState) → StateInForm t → D.file disk.old (slot_at place uid) ≡ Some (state_bytes t) → t ≡ s)) }
     ensures files { D.file disk.new ≡ D.file disk.old }
     ensures stops { CountsStops (D.stops disk.old) (D.stops disk.new) result StoreFault.Stopped }
     ensures arms { SameArms D.arms D.last_arm disk.old disk.new }
 {
-    let Some(bytes) = disk.read(alloc, slot)? else {
+    let Some(bytes) = disk.read(alloc, place.slot(uid))? else {
         return Ok(None);
     };
-    match unpack(alloc, bytes.as_slice()) {
-        Ok(state) => Ok(Some(state)),
-        Err(_) => Err(StoreFault::Memory),
+    let state = unpack_formed(alloc, uid, bytes.as_slice())?;
+    Ok(Some(state))
+}
+
+// The state that these bytes pack.
+fn unpack_formed(alloc: Global, uid: Uid, bytes: &[u8]) -> Result<ObjectState, AllocError>
+    requires { IsStateOf uid bytes.now }
+    ensures packed { IfOk result (λ s. bytes.now ≡ state_bytes s) }
+    ensures in_form { IfOk result StateInForm }
+    ensures only { IfOk result (λ s. (t : ObjectState) → StateInForm t → state_bytes t ≡ bytes.now → t ≡ s) }
+    ensures own { IfOk result (λ s. s.uid ≡ uid) }
+{
+    match unpack(alloc, bytes) {
+        Ok(state) => Ok(state),
+        Err(StateFault::Memory) => Err(AllocError),
+        Err(_) => unreachable!(),
     }
 }
 

@@ -82,7 +82,7 @@ fn refusal_of<D: Disk>(
     ensures stops { CountsStops (D.stops disk.old) (D.stops disk.new) result StoreFault.Stopped }
     ensures arms { SameArms D.arms D.last_arm disk.old disk.new }
 {
-    let Some(held) = read_state(alloc, disk, Slot::Committed(state.uid))? else {
+    let Some(held) = read_state(alloc, disk, Place::Committed, state.uid)? else {
         return Ok(in_doubt(pending, state.uid));
     };
     match refused_by(alloc, act, state, &held)? {

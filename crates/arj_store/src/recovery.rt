@@ -1,14 +1,16 @@
-// What a recovery reads and removes.
-ghost use Rattle.std.specs.Prelude.{◌≡◌, ◌⊎◌, false, None, Contains, IsSome, IfOk, OnOk};
+// What a recovery reads and removes, and what it finds.
+ghost use Rattle.std.specs.Prelude.{◌≡◌, ◌⊎◌, ◌↔◌, true, false, map, None, Some, Contains, IsSome, IfSome, MatchOption, IfOk, OnOk};
+ghost use Rattle.std.specs.List.{AllByRecursion};
+ghost use Rattle.std.specs.Option.{option_to_list};
 ghost use Rattle.arj_base.specs.declared.uid.Uid.{Uid};
 ghost use Rattle.arj_disk.specs.Disk.{Lists, Removes, CountsStops, SameArms};
 ghost use Rattle.arj_disk.specs.Says.{OnlyOfRole};
 ghost use Rattle.arj_disk.specs.Formed.{FormedFor};
 ghost use Rattle.arj_disk.specs.declared.slot.Role.{Role};
 ghost use Rattle.arj_disk.specs.declared.slot.Slot.{Slot};
-ghost use Rattle.arj_store.specs.Recovery.{ReadsAction, ReadsSlot, ReadsActions, SortsShadow, SortsSlot, SortsShadows, DropsShadow, DropsShadows};
-ghost use Rattle.arj_store.specs.Pair.{SamePair, FindsNothing};
-ghost use Rattle.arj_store.specs.Shadow.{has_shadow, PendingKeeps};
+ghost use Rattle.arj_store.specs.Recovery.{ReadsAction, ReadsSlot, ReadsActions, SortsShadow, SortsSlot, SortsShadows, DropsShadow, DropsShadows, ListsHeld, HasEntry, IsStateAt, HasRead, entry_at, entries_in, newest, ListsPrepared};
+ghost use Rattle.arj_store.specs.Pair.{SamePair, Finds, FindsPair};
+ghost use Rattle.arj_store.specs.Shadow.{has_shadow, is_in, PendingKeeps};
 ghost use Rattle.arj_store.specs.Table.{at};
 
 use crate::memory::{Holding, Pending};
@@ -162,14 +164,6 @@ fn sort_shadow<D: Disk>(
     Ok(())
 }
 
-// The object whose shadow of the role this is.
-fn shadow_of(role: Role, slot: Slot) -> Option<Uid> {
-    match slot {
-        Slot::Shadow(uid) if role_of_uid(uid) == role => Some(uid),
-        _ => None,
-    }
-}
-
 /// What the recovery tells: for the object store nothing.
 pub fn find<D: Disk>(
     alloc: Global,
@@ -178,7 +172,10 @@ pub fn find<D: Disk>(
     names: &[Slot],
     pending: &Pending,
 ) -> Result<Found, StoreFault>
-    ensures found { IfOk result (λ found. role ≡ Role.Store → FindsNothing found) }
+    requires formed { FormedFor (D.file disk.old) role }
+    requires keeps { PendingKeeps role pending.now (D.file disk.old) }
+    requires lists { ListsHeld role (D.file disk.old) names.now }
+    ensures found { IfOk result (Finds role (D.file disk.old)) }
     ensures files { D.file disk.new ≡ D.file disk.old }
     ensures stops { CountsStops (D.stops disk.old) (D.stops disk.new) result StoreFault.Stopped }
     ensures arms { SameArms D.arms D.last_arm disk.old disk.new }
@@ -196,40 +193,54 @@ fn find_entries<D: Disk>(
     names: &[Slot],
     pending: &Pending,
 ) -> Result<Found, StoreFault>
+    requires formed { FormedFor (D.file disk.old) Role.Names }
+    requires keeps { PendingKeeps Role.Names pending.now (D.file disk.old) }
+    requires lists { ListsHeld Role.Names (D.file disk.old) names.now }
+    ensures found { IfOk result (FindsPair Role.Names (D.file disk.old)) }
     ensures files { D.file disk.new ≡ D.file disk.old }
     ensures stops { CountsStops (D.stops disk.old) (D.stops disk.new) result StoreFault.Stopped }
     ensures arms { SameArms D.arms D.last_arm disk.old disk.new }
 {
-    let left = shadows_left(alloc, names, &pending.holdings)?;
+    let left = shadows_left(alloc, &pending.holdings)?;
     let shadows = read_each(alloc, disk, Place::Shadow, left.as_slice())?;
     let entries = entries_of(alloc, names)?;
     let committed = read_each(alloc, disk, Place::Committed, entries.as_slice())?;
-    let prepared = prepared_states(alloc, pending, shadows.as_slice(), committed.as_slice())?;
+    let prepared = prepared_states(alloc, &pending.actions, &shadows, &committed)?;
+    let committed = committed.into_values(alloc)?;
     Ok(Found {
         committed,
         prepared,
     })
 }
 
-// The entries whose shadows were kept, in the order of the names.
-fn shadows_left(
-    alloc: Global,
-    names: &[Slot],
-    holdings: &Table<Holding>,
-) -> Result<Uids, AllocError> {
+// The entries whose shadows are there, in increasing order.
+fn shadows_left(alloc: Global, holdings: &Table<Holding>) -> Result<Uids, AllocError>
+    ensures { IfOk result (λ left. (u : Uid) → is_in left u ≡ has_shadow (at holdings.now u)) }
+{
     let mut left = Uids::new(alloc);
-    for slot in names {
-        if let Some(uid) = shadow_of(Role::Names, *slot) {
-            if holdings.get(uid).is_some() {
-                left.push(uid)?;
-            }
+    let held = holdings.uids(alloc)?;
+    for uid in held.as_slice() {
+        if is_left(holdings, *uid) {
+            left.push(*uid)?;
         }
     }
     Ok(left)
 }
 
+// Whether the entry's shadow is there.
+fn is_left(holdings: &Table<Holding>, uid: Uid) -> bool
+    ensures { result ≡ has_shadow (at holdings.now uid) }
+{
+    match holdings.get(uid) {
+        Some(holding) => holding.shadow,
+        None => false,
+    }
+}
+
 // The entries that are committed, in the order of the names.
-fn entries_of(alloc: Global, names: &[Slot]) -> Result<Uids, AllocError> {
+fn entries_of(alloc: Global, names: &[Slot]) -> Result<Uids, AllocError>
+    ensures { IfOk result (λ entries. entries ≡ entries_in names.now) }
+{
     let mut entries = Uids::new(alloc);
     for slot in names {
         if let Some(uid) = entry_of(*slot) {
@@ -240,85 +251,119 @@ fn entries_of(alloc: Global, names: &[Slot]) -> Result<Uids, AllocError> {
 }
 
 // The entry whose committed file this is.
-fn entry_of(slot: Slot) -> Option<Uid> {
+fn entry_of(slot: Slot) -> Option<Uid>
+    ensures { option_to_list result ≡ entry_at slot }
+{
     match slot {
         Slot::Committed(uid) if role_of_uid(uid) == Role::Names => Some(uid),
         _ => None,
     }
 }
 
-// Reads a file of this kind of each object.
+// Reads the file of this kind of each entry.
 fn read_each<D: Disk>(
     alloc: Global,
     disk: &mut D,
     place: Place,
-    objects: &[Uid],
-) -> Result<States, StoreFault>
+    entries: &[Uid],
+) -> Result<Table<ObjectState>, StoreFault>
+    requires formed { FormedFor (D.file disk.old) Role.Names }
+    requires there { (u : Uid) → (is_in entries.now u ≡ true) ↔ HasEntry place (D.file disk.old) u }
+    ensures read { IfOk result (λ states. HasRead place (D.file disk.old) (at states)) }
     ensures files { D.file disk.new ≡ D.file disk.old }
     ensures stops { CountsStops (D.stops disk.old) (D.stops disk.new) result StoreFault.Stopped }
     ensures arms { SameArms D.arms D.last_arm disk.old disk.new }
 {
-    let mut states = States::new(alloc);
-    for uid in objects {
-        if let Some(state) = read_state(alloc, disk, place.slot(*uid))? {
-            states.push(state)?;
-        }
+    let mut states = Table::new(alloc);
+    for uid in entries {
+        let state = read_entry(alloc, disk, place, *uid)?;
+        states.set(*uid, state)?;
     }
     Ok(states)
+}
+
+// Reads a file that is there.
+fn read_entry<D: Disk>(
+    alloc: Global,
+    disk: &mut D,
+    place: Place,
+    uid: Uid,
+) -> Result<ObjectState, StoreFault>
+    requires formed { FormedFor (D.file disk.old) Role.Names }
+    requires there { HasEntry place (D.file disk.old) uid }
+    ensures state { IfOk result (IsStateAt place (D.file disk.old) uid) }
+    ensures files { D.file disk.new ≡ D.file disk.old }
+    ensures stops { CountsStops (D.stops disk.old) (D.stops disk.new) result StoreFault.Stopped }
+    ensures arms { SameArms D.arms D.last_arm disk.old disk.new }
+{
+    match read_state(alloc, disk, place, uid)? {
+        Some(state) => Ok(state),
+        None => unreachable!(),
+    }
 }
 
 // The prepared actions with their new states, by Uid.
 fn prepared_states(
     alloc: Global,
-    pending: &Pending,
-    shadows: &[ObjectState],
-    committed: &[ObjectState],
-) -> Result<Pends, AllocError> {
+    actions: &Table<Uids>,
+    shadows: &Table<ObjectState>,
+    committed: &Table<ObjectState>,
+) -> Result<Pends, AllocError>
+    requires { (a : Uid) → IfSome (at actions.now a) (AllByRecursion (λ u. IsSome (newest (at shadows.now) (at committed.now) u))) }
+    ensures { IfOk result (ListsPrepared (at actions.now) (newest (at shadows.now) (at committed.now))) }
+{
     let mut prepared = Pends::new(alloc);
-    let actions = pending.actions.uids(alloc)?;
-    for act in actions.as_slice() {
-        if let Some(objects) = pending.actions.get(*act) {
-            let states = new_states(alloc, objects.as_slice(), shadows, committed)?;
-            prepared.push((*act, states))?;
-        }
+    let acts = actions.uids(alloc)?;
+    for act in acts.as_slice() {
+        let Some(objects) = actions.get(*act) else {
+            unreachable!();
+        };
+        let states = new_states(alloc, objects.as_slice(), shadows, committed)?;
+        prepared.push((*act, states))?;
     }
     Ok(prepared)
 }
 
-// The new states of objects: the shadow where there is one, else the committed state.
+// The new states of objects, in their order.
 fn new_states(
     alloc: Global,
     objects: &[Uid],
-    shadows: &[ObjectState],
-    committed: &[ObjectState],
-) -> Result<States, AllocError> {
+    shadows: &Table<ObjectState>,
+    committed: &Table<ObjectState>,
+) -> Result<States, AllocError>
+    requires { AllByRecursion (λ u. IsSome (newest (at shadows.now) (at committed.now) u)) objects.now }
+    ensures { IfOk result (λ states. map (newest (at shadows.now) (at committed.now)) objects.now ≡ map Some states) }
+{
     let mut states = States::new(alloc);
     for uid in objects {
-        if let Some(state) = either(state_of(shadows, *uid), state_of(committed, *uid)) {
-            states.push(copied(state)?)?;
-        }
+        let state = new_state(shadows, committed, *uid)?;
+        states.push(state)?;
     }
     Ok(states)
 }
 
-// The first of two states that is there.
-fn either<'a>(
-    first: Option<&'a ObjectState>,
-    second: Option<&'a ObjectState>,
-) -> Option<&'a ObjectState> {
-    match first {
-        Some(state) => Some(state),
-        None => second,
+// A copy of the new state of an object: the shadow where there is one, else the committed state.
+fn new_state(
+    shadows: &Table<ObjectState>,
+    committed: &Table<ObjectState>,
+    uid: Uid,
+) -> Result<ObjectState, AllocError>
+    requires { IsSome (newest (at shadows.now) (at committed.now) uid) }
+    ensures { IfOk result (λ state. newest (at shadows.now) (at committed.now) uid ≡ Some state) }
+{
+    match shadows.get(uid) {
+        Some(state) => copied(state),
+        None => match committed.get(uid) {
+            Some(state) => copied(state),
+            None => unreachable!(),
+        },
     }
 }
 
-// The state of an object among these.
-fn state_of(states: &[ObjectState], uid: Uid) -> Option<&ObjectState> {
-    states.iter().find(|state| state.uid == uid)
-}
-
 // A copy of a state.
-fn copied(state: &ObjectState) -> Result<ObjectState, AllocError> {
+fn copied(state: &ObjectState) -> Result<ObjectState, AllocError>
+    ensures { IfOk result (λ copied. copied ≡ state.now) }
+{
     let payload = state.payload.copy()?;
     Ok(ObjectState {
         uid: state.uid,

@@ -75,7 +75,7 @@ impl ObjectStore for ShadowStore {
         if role_of_uid(uid) != self.role {
             return Ok(Read::Absent);
         }
-        match read_state(alloc, disk, Slot::Committed(uid))? {
+        match read_state(alloc, disk, Place::Committed, uid)? {
             Some(state) => Ok(Read::State(state)),
             None => Ok(Read::Absent),
         }
@@ -114,7 +114,8 @@ impl ObjectStore for ShadowStore {
         let Some(objects) = self.pending.actions.take(act) else {
             return Ok(false);
         };
-        disk.remove(Slot::Prepared(self.role, act))?;
+        let prepared = Slot::Prepared(self.role, act);
+        disk.remove(prepared)?;
         remove_shadows(&mut self.pending.holdings, disk, objects.as_slice())?;
         Ok(true)
     }

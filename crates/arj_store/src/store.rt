@@ -7,7 +7,7 @@ ghost use Rattle.arj_disk.specs.Formed.{FormedFor, AtMost, IsKnown};
 ghost use Rattle.arj_disk.specs.Says.{pend, names, slot_role, OnlyOfRole, SameOfRole, InDoubt};
 ghost use Rattle.arj_disk.specs.declared.slot.Role.{Role};
 ghost use Rattle.arj_disk.specs.declared.slot.Slot.{Slot};
-ghost use Rattle.arj_store.specs.Pair.{SamePair, Adds, Drops, Moves, MovesSome, Reads, Prepares, AnswersPrepare, HasOnly, AreDistinct, FindsNothing, ListsActions, uid_of};
+ghost use Rattle.arj_store.specs.Pair.{SamePair, Adds, Drops, Moves, MovesSome, Reads, Prepares, AnswersPrepare, HasOnly, AreDistinct, Finds, FindsNothing, ListsActions, uid_of};
 ghost use Rattle.arj_store.specs.declared.answer.Found.{Found};
 
 use crate::{Found, Prep, Read, States, StoreFault};
@@ -58,7 +58,7 @@ pub trait ObjectStore: Sized {
         ensures role { IfOk result (λ store. own_role store ≡ role) }
         ensures keeps { IfOk result (λ store. keeps store (D.file disk.new)) }
         ensures pair { SamePair role (D.file disk.old) (D.file disk.new) }
-        ensures found { IfOk result (λ store. role ≡ Role.Store → FindsNothing (finding store)) }
+        ensures found { IfOk result (λ store. Finds role (D.file disk.new) (finding store)) }
         ensures room { room (D.file disk.old) role ≤ room (D.file disk.new) role }
         ensures formed { FormedFor (D.file disk.new) role }
         ensures others { OnlyOfRole role (D.file disk.old) (D.file disk.new) }

@@ -2,10 +2,10 @@
 ghost use Rattle.std.specs.Prelude.{◌≡◌, ◌↔◌, true, None, Some, IsSome, Contains, IfOk, OnOk, OnErr, option_copied};
 ghost use Rattle.std.specs.List.Sorted.{IsStrictlySortedBy};
 ghost use Rattle.arj_store.specs.Pair.{uid_order};
-ghost use Rattle.arj_store.specs.Table.{at, Sets, SameTable};
+ghost use Rattle.arj_store.specs.Table.{at, Sets, SameTable, AreValuesOf};
 ghost use Rattle.arj_base.specs.declared.uid.Uid.{Uid};
 
-use arj_base::{Uid, Uids};
+use arj_base::{Seq, Uid, Uids};
 use std::alloc::{AllocError, Global};
 use std::collections::BTreeMap;
 
@@ -53,6 +53,17 @@ impl<V> Table<V> {
 }
 
 impl<V: Drop> Table<V> {
+    /// The values, in the order of their Uids.
+    pub fn into_values(self, alloc: Global) -> Result<Seq<V>, AllocError>
+        ensures { IfOk result (AreValuesOf (at self)) }
+    {
+        let mut values = Seq::new(alloc);
+        for entry in self.map {
+            values.push(entry.1)?;
+        }
+        Ok(values)
+    }
+
     /// Puts a value under the Uid, in the place of what is there.
     pub fn set(&mut self, uid: Uid, value: V) -> Result<(), AllocError>
         ensures ok { OnOk result (Sets (at self.old) (at self.new) uid (Some value)) }

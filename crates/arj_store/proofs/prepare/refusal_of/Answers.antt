@@ -20,7 +20,7 @@ pub returns-in-Some-2-clause-answer : goal.returns-in-Some-2-clause-answer
 returns-in-Some-2-clause-answer g c =
     let state = rw c.in-Some.is at c.in_ok-held.ensures.state in
     let only = rw c.in-Some.is at c.in_ok-held.ensures.only in
-    by_held (g.D.Disk.file c.args.disk.now) c.args.role c.args.act c.args.state.now c.requires.own c.in-Some.held state.0 state.1 only c.requires.formed c.in-Some-2.refusal (rw c.in-Some-2.is at c.in_ok-refusal.ensures)
+    by_held (g.D.Disk.file c.args.disk.now) c.args.role c.args.act c.args.state.now c.requires.own c.in-Some.held state only c.in-Some-2.refusal (rw c.in-Some-2.is at c.in_ok-refusal.ensures)
 
 -- it allows it
 pub returns-clause-answer : goal.returns-clause-answer
@@ -31,5 +31,5 @@ returns-clause-answer g c =
     let named = holder_named c.args.role (at c.args.pending.now.actions) (at c.args.pending.now.holdings) (g.D.Disk.file c.args.disk.now) c.requires.keeps c.args.state.now.uid in
     subst (λ o. MatchOption o (IsClear (g.D.Disk.file c.args.disk.now) c.args.role c.args.act c.args.state.now) (Refuses (g.D.Disk.file c.args.disk.now) c.args.role c.args.act c.args.state.now)) (sym c.in_doubt-in-None.ensures)
     (by_holder (g.D.Disk.file c.args.disk.now) c.args.role c.args.act c.args.state.now (at c.args.pending.now.holdings c.args.state.now.uid) named
-    (unwritten (g.D.Disk.file c.args.disk.now) c.args.role c.args.act c.args.state.now c.requires.own c.in-Some.held state.0 state.1 only c.requires.formed allows.0)
-    (newer (g.D.Disk.file c.args.disk.now) c.args.role c.args.act c.args.state.now c.requires.own c.in-Some.held state.0 state.1 only c.requires.formed allows.1))
+    (unwritten (g.D.Disk.file c.args.disk.now) c.args.role c.args.act c.args.state.now c.requires.own c.in-Some.held state only allows.0)
+    (newer (g.D.Disk.file c.args.disk.now) c.args.role c.args.act c.args.state.now c.requires.own c.in-Some.held state only allows.1))

@@ -13,5 +13,4 @@ returns-in-Some-2-clause-answer g c =
     let own : role_of c.args.uid ≡ c.args.self.now.role = search rules in
     let none : at c.args.self.now.pending.holdings c.args.uid ≡ None = search rules in
     let state = rw c.in-Some-2.is at c.in_ok-state.ensures.state in
-    let only = rw c.in-Some-2.is at c.in_ok-state.ensures.only in
-    (not_in_doubt c.args.self.now.role (at c.args.self.now.pending.actions) (at c.args.self.now.pending.holdings) (g.D.Disk.file c.args.disk.now) c.requires.keeps c.args.uid none, is_held (g.D.Disk.file c.args.disk.now) c.args.self.now.role c.args.uid c.in-Some-2.state c.requires.formed own state.0 state.1 only)
+    (not_in_doubt c.args.self.now.role (at c.args.self.now.pending.actions) (at c.args.self.now.pending.holdings) (g.D.Disk.file c.args.disk.now) c.requires.keeps c.args.uid none, is_held (g.D.Disk.file c.args.disk.now) c.args.self.now.role c.args.uid c.in-Some-2.state own state)

@@ -1,0 +1,14 @@
+use Rattle.std.proofs.Common.{◌≡◌}
+use Rattle.arj_disk.specs.Armed.{files_of, arms_of}
+use Rattle.arj_disk.specs.Formed.{FormedFor}
+use Rattle.arj_disk.specs.declared.slot.Role.TheVariants.{Store}
+use Rattle.arj_store.specs.Kept.{role_kept, StoreKeeps}
+use Rattle.arj_store.proofs.tests.calls_in_a_row.Given as goal
+
+abbrev pub invariant-loop-call : goal.invariant-loop-call
+invariant-loop-call g l = record {
+  role : role_kept l.store ≡ Store;
+  keeps : StoreKeeps l.store (files_of l.disk.disk);
+  formed : FormedFor (files_of l.disk.disk) Store;
+  arms : arms_of l.disk.disk ≡ 0;
+}

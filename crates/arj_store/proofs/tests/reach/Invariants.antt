@@ -1,0 +1,13 @@
+use Rattle.std.proofs.Common.{◌≡◌}
+use Rattle.arj_disk.specs.Armed.{files_of, arms_of}
+use Rattle.arj_disk.specs.Formed.{FormedFor}
+use Rattle.arj_store.specs.Kept.{role_kept, StoreKeeps}
+use Rattle.arj_store.proofs.tests.reach.Given as goal
+
+abbrev pub invariant-loop-call : goal.invariant-loop-call
+invariant-loop-call l = record {
+  role : role_kept l.store ≡ l.fn.role;
+  keeps : StoreKeeps l.store (files_of l.disk.disk);
+  formed : FormedFor (files_of l.disk.disk) l.fn.role;
+  arms : arms_of l.disk.disk ≡ 0;
+}

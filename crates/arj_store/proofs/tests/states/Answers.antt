@@ -1,0 +1,28 @@
+-- the states are these
+use Rattle.std.proofs.Common.{◌≡◌, ◌∙◌, sym, ap, subst, List, [], ◌∷◌, ◌++◌}
+use Rattle.arj_base.specs.declared.state.ObjectState.{ObjectState}
+use Rattle.arj_store.specs.Pair.{AreDistinct}
+use Rattle.arj_store.proofs.Few.{distinct_none, distinct_one, distinct_two}
+use Rattle.arj_store.proofs.tests.states.Goals as goal
+
+one : (s : ObjectState) (none some : List ObjectState) → none ≡ [] → some ≡ none ++ s ∷ [] → s ∷ [] ≡ some
+one s none some e is = sym (is ∙ ap (λ ss. ss ++ s ∷ []) e)
+
+two : (s t : ObjectState) (none some more : List ObjectState) → none ≡ [] → some ≡ none ++ s ∷ [] → more ≡ some ++ t ∷ [] → s ∷ t ∷ [] ≡ more
+two s t none some more e is be = sym (be ∙ ap (λ ss. ss ++ t ∷ []) (sym (one s none some e is)))
+
+pub returns-in-None-clause-distinct : goal.returns-in-None-clause-distinct
+returns-in-None-clause-distinct c = subst (AreDistinct c.args.role) (sym c.new-states.ensures) (distinct_none c.args.role)
+
+pub returns-in_ok-push-in-None-2-clause-distinct : goal.returns-in_ok-push-in-None-2-clause-distinct
+returns-in_ok-push-in-None-2-clause-distinct c = subst (AreDistinct c.args.role) (one c.in_ok-state-in-None-2.field-0 c.new-states.result c.push.new.self c.new-states.ensures c.in_ok-push-in-None-2.ensures.ok)
+    (distinct_one c.args.role c.in_ok-state-in-None-2.field-0 c.in_ok-state-in-None-2.ensures.own)
+
+pub returns-in_ok-push-in-Some-clause-distinct : goal.returns-in_ok-push-in-Some-clause-distinct
+returns-in_ok-push-in-Some-clause-distinct c = subst (AreDistinct c.args.role) (one c.in_ok-state-in-Some.field-0 c.new-states.result c.push-in-Some.new.self c.new-states.ensures c.in_ok-push-in-Some.ensures.ok)
+    (distinct_one c.args.role c.in_ok-state-in-Some.field-0 c.in_ok-state-in-Some.ensures.own)
+
+pub returns-in_ok-push-in-Some-2-2-clause-distinct : goal.returns-in_ok-push-in-Some-2-2-clause-distinct
+returns-in_ok-push-in-Some-2-2-clause-distinct c = subst (AreDistinct c.args.role)
+    (two c.in_ok-state-in-Some-2.field-0 c.in_ok-state-in-Some-2-2.field-0 c.new-states.result c.push-in-Some-2.new.self c.push-in-Some-2-2.new.self c.new-states.ensures c.in_ok-push-in-Some-2.ensures.ok c.in_ok-push-in-Some-2-2.ensures.ok)
+    (distinct_two c.args.role c.in_ok-state-in-Some-2.field-0 c.in_ok-state-in-Some-2-2.field-0 c.in_ok-state-in-Some-2.ensures.own c.in_ok-state-in-Some-2-2.ensures.own c.in_ok-state-in-Some-2.ensures.num c.in_ok-state-in-Some-2-2.ensures.num)

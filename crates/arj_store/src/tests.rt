@@ -1,0 +1,543 @@
+// The store over disks that write down their calls and stop at one of them.
+ghost use Rattle.std.specs.Prelude.{◌≡◌, ◌⊎◌, ◌+◌, ◌<◌, ◌≤◌, None, Some, true, map, length, Contains, IfOk, OnOk};
+ghost use Rattle.std.specs.List.{AllByRecursion};
+ghost use Rattle.arj_base.specs.State.{state_bytes};
+ghost use Rattle.arj_disk.specs.Formed.{AtMost, FormedFor, IsKnown};
+ghost use Rattle.arj_disk.specs.Says.{role_of, slot_role};
+ghost use Rattle.arj_disk.specs.declared.slot.Slot.{Slot};
+ghost use Rattle.arj_store.specs.Kept.{role_kept, StoreKeeps};
+ghost use Rattle.arj_store.specs.Pair.{AreDistinct, uid_of};
+
+use crate::recorder::{Did, Recorder};
+use crate::tables::{
+    Answers, CALLS, CASES, COMMITTED_ONE, COMMITTED_TWO, Call, Case, Content, FINDINGS, FIRST,
+    Files, Finding, Last, Left, NOBODY, Seen, TORN, Told, WRITE_TMP,
+};
+use crate::{Found, ObjectStore, Read, ShadowStore, States, StoreFault};
+use arj_base::{Bytes, Class, ObjectState, Uid, entry_uid, object_uid};
+use arj_disk::{Disk, DiskFault, MemDisk, Outcome, Role, Slot};
+use std::alloc::{AllocError, Global};
+use std::process::Abort;
+use std::test::Fail;
+
+fn uid(role: Role, x: u16) -> Uid
+    ensures own { role_of result ≡ role }
+    ensures num { result.num ≡ x }
+{
+    match role {
+        Role::Store => object_uid(x),
+        Role::Names => entry_uid(x),
+    }
+}
+
+fn class(role: Role) -> Class {
+    match role {
+        Role::Store => Class::Counter,
+        Role::Names => Class::Entry,
+    }
+}
+
+// The payload of a counter with this value, or of an entry with server 1 and this store.
+fn payload(alloc: Global, role: Role, value: u8) -> Result<Bytes, AllocError>
+    ensures { IfOk result (λ payload. length payload ≤ 8) }
+{
+    let mut payload = Bytes::new(alloc);
+    let head = match role {
+        Role::Store => [0, 0, 0, 0, 0, 0, 0].as_slice(),
+        Role::Names => [1, 1, 1].as_slice(),
+    };
+    payload.extend(head)?;
+    payload.push(value)?;
+    Ok(payload)
+}
+
+fn state(
+    alloc: Global,
+    role: Role,
+    x: u16,
+    version: u64,
+    writer: Uid,
+    value: u8,
+) -> Result<ObjectState, AllocError>
+    ensures own { IfOk result (λ s. role_of s.uid ≡ role) }
+    ensures num { IfOk result (λ s. s.uid.num ≡ x) }
+    ensures size { IfOk result (λ s. length (state_bytes s) ≤ 65535) }
+{
+    Ok(ObjectState {
+        uid: uid(role, x),
+        class: class(role),
+        version,
+        writer,
+        payload: payload(alloc, role, value)?,
+    })
+}
+
+// States of objects 1 and 2 with these values, where they are given.
+fn states(
+    alloc: Global,
+    role: Role,
+    version: u64,
+    writer: Uid,
+    values: [Option<u8>; 2],
+) -> Result<States, AllocError>
+    ensures distinct { IfOk result (AreDistinct role) }
+    ensures count { IfOk result (λ states. length states ≤ 2) }
+    ensures sizes { IfOk result (AllByRecursion (λ s. length (state_bytes s) ≤ 65535)) }
+{
+    let mut states = States::new(alloc);
+    match values {
+        [None, None] => Ok(states),
+        [Some(one), None] => {
+            states.push(state(alloc, role, 1, version, writer, one)?)?;
+            Ok(states)
+        }
+        [None, Some(two)] => {
+            states.push(state(alloc, role, 2, version, writer, two)?)?;
+            Ok(states)
+        }
+        [Some(one), Some(two)] => {
+            states.push(state(alloc, role, 1, version, writer, one)?)?;
+            states.push(state(alloc, role, 2, version, writer, two)?)?;
+            Ok(states)
+        }
+    }
+}
+
+// Whether the disk has so few files that two states more are not too many.
+fn fit(alloc: Global, disk: &mut MemDisk, role: Role, states: &States) -> Result<bool, DiskFault>
+    requires formed { FormedFor (⟦<MemDisk as Disk>⟧.file disk.old) role }
+    requires count { length states.now ≤ 2 }
+    ensures few { IfOk result (λ fit. fit ≡ true → AtMost 65535 (λ u. IsKnown (⟦<MemDisk as Disk>⟧.file disk.old) role u ⊎ Contains (map uid_of states.now) u)) }
+    ensures files { ⟦<MemDisk as Disk>⟧.file disk.new ≡ ⟦<MemDisk as Disk>⟧.file disk.old }
+    ensures arms { ⟦<MemDisk as Disk>⟧.arms disk.new ≡ ⟦<MemDisk as Disk>⟧.arms disk.old }
+{
+    let names = disk.names(alloc)?;
+    if names.as_slice().len() > 1000 {
+        return Ok(false);
+    }
+    Ok(true)
+}
+
+fn seen_of(state: &ObjectState) -> Seen {
+    let value = match state.payload.as_slice() {
+        [.., last] => *last,
+        [] => 0,
+    };
+    Seen {
+        uid: state.uid,
+        version: state.version,
+        writer: state.writer,
+        value,
+    }
+}
+
+fn told_of(read: Read) -> Told {
+    match read {
+        Read::State(state) => Told::State(seen_of(&state)),
+        Read::Absent => Told::Absent,
+        Read::InDoubt { holder } => Told::InDoubt(holder),
+    }
+}
+
+// Forgets the calls so far, and arms the disk, if there is a stop.
+fn begin(disk: &mut Recorder, stop: Option<(u32, Outcome)>)
+    requires { ⟦<Recorder as Disk>⟧.arms disk.old < 9 }
+    ensures files { ⟦<Recorder as Disk>⟧.file disk.new ≡ ⟦<Recorder as Disk>⟧.file disk.old }
+    ensures arms { ⟦<Recorder as Disk>⟧.arms disk.new ≤ ⟦<Recorder as Disk>⟧.arms disk.old + 1 }
+    ensures none { stop ≡ None → ⟦<Recorder as Disk>⟧.arms disk.new ≡ ⟦<Recorder as Disk>⟧.arms disk.old }
+{
+    disk.calls.clear();
+    if let Some((calls, outcome)) = stop {
+        disk.disk.arm(calls.max(1), outcome);
+    }
+}
+
+fn read(
+    alloc: Global,
+    disk: &mut Recorder,
+    store: &ShadowStore,
+    uid: Uid,
+) -> Result<Told, StoreFault>
+    requires keeps { StoreKeeps store.now (⟦<Recorder as Disk>⟧.file disk.old) }
+    requires formed { FormedFor (⟦<Recorder as Disk>⟧.file disk.old) (role_kept store.now) }
+    ensures files { ⟦<Recorder as Disk>⟧.file disk.new ≡ ⟦<Recorder as Disk>⟧.file disk.old }
+    ensures arms { ⟦<Recorder as Disk>⟧.arms disk.new ≡ ⟦<Recorder as Disk>⟧.arms disk.old }
+{
+    Ok(told_of(store.read_committed(alloc, disk, uid)?))
+}
+
+// One call over a disk that stops so.
+fn ask(
+    alloc: Global,
+    disk: &mut Recorder,
+    store: &mut ShadowStore,
+    role: Role,
+    call: Call,
+    stop: Option<(u32, Outcome)>,
+) -> Result<Told, StoreFault>
+    requires role { role_kept store.old ≡ role }
+    requires keeps { StoreKeeps store.old (⟦<Recorder as Disk>⟧.file disk.old) }
+    requires formed { FormedFor (⟦<Recorder as Disk>⟧.file disk.old) role }
+    requires arms { ⟦<Recorder as Disk>⟧.arms disk.old < 9 }
+    ensures role { role_kept store.new ≡ role }
+    ensures keeps { OnOk result (StoreKeeps store.new (⟦<Recorder as Disk>⟧.file disk.new)) }
+    ensures formed { FormedFor (⟦<Recorder as Disk>⟧.file disk.new) role }
+    ensures arms { ⟦<Recorder as Disk>⟧.arms disk.new ≤ ⟦<Recorder as Disk>⟧.arms disk.old + 1 }
+    ensures none { stop ≡ None → ⟦<Recorder as Disk>⟧.arms disk.new ≡ ⟦<Recorder as Disk>⟧.arms disk.old }
+{
+    match call {
+        Call::Read(x) => {
+            begin(disk, stop);
+            read(alloc, disk, store, uid(role, x))
+        }
+        Call::Prepare(act, one, two) => {
+            let states = states(alloc, role, 1, act, [one, two])?;
+            if !fit(alloc, &mut disk.disk, role, &states)? {
+                return Err(StoreFault::Memory);
+            }
+            begin(disk, stop);
+            Ok(Told::Prep(store.prepare(disk, act, &states)?))
+        }
+        Call::Commit(act) => {
+            begin(disk, stop);
+            Ok(Told::Ended(store.commit(disk, act)?))
+        }
+        Call::Abort(act) => {
+            begin(disk, stop);
+            Ok(Told::Ended(store.abort(disk, act)?))
+        }
+    }
+}
+
+fn other(role: Role) -> Role
+    ensures { result ≡ role → ⊥ }
+{
+    match role {
+        Role::Store => Role::Names,
+        Role::Names => Role::Store,
+    }
+}
+
+// Files of the other role and of none. No call of the role's store touches them, whatever they have.
+fn others(role: Role) -> [(Slot, Content); 4]
+    ensures { AllByRecursion (λ p. slot_role p.0 ≡ Some role → ⊥) result }
+{
+    let of = other(role);
+    [
+        (Slot::Incarnation, b"first".as_slice()),
+        (Slot::Committed(uid(of, 1)), b"second".as_slice()),
+        (Slot::Shadow(uid(of, 1)), b"third".as_slice()),
+        (Slot::Prepared(of, FIRST), b"fourth".as_slice()),
+    ]
+}
+
+fn beside(disk: &mut Recorder, role: Role) -> Result<(), DiskFault>
+    ensures role { OnOk result ((q : Slot) → slot_role q ≡ Some role → ⟦<Recorder as Disk>⟧.file disk.new q ≡ ⟦<Recorder as Disk>⟧.file disk.old q) }
+    ensures arms { ⟦<Recorder as Disk>⟧.arms disk.new ≡ ⟦<Recorder as Disk>⟧.arms disk.old }
+{
+    for (slot, bytes) in others(role) {
+        disk.write(slot, bytes)?;
+    }
+    disk.calls.clear();
+    Ok(())
+}
+
+// A disk with files of the other role, and on it a store with objects 1 and 2 as far as there are values.
+fn start(
+    alloc: Global,
+    role: Role,
+    values: [Option<u8>; 2],
+) -> Result<(Recorder, ShadowStore), StoreFault>
+    ensures role { IfOk result (λ made. role_kept made.1 ≡ role) }
+    ensures keeps { IfOk result (λ made. StoreKeeps made.1 (⟦<Recorder as Disk>⟧.file made.0)) }
+    ensures formed { IfOk result (λ made. FormedFor (⟦<Recorder as Disk>⟧.file made.0) role) }
+    ensures arms { IfOk result (λ made. ⟦<Recorder as Disk>⟧.arms made.0 ≡ 0) }
+{
+    let mut disk = Recorder {
+        disk: MemDisk::new(alloc),
+        calls: Vec::new(alloc),
+    };
+    beside(&mut disk, role)?;
+    let states = states(alloc, role, 0, NOBODY, values)?;
+    let store = ShadowStore::format(alloc, &mut disk, role, &states)?;
+    Ok((disk, store))
+}
+
+// The store, or the one that the disk has.
+fn again(
+    alloc: Global,
+    disk: &mut Recorder,
+    store: ShadowStore,
+    role: Role,
+    recovers: bool,
+) -> Result<ShadowStore, StoreFault>
+    requires role { role_kept store ≡ role }
+    requires keeps { StoreKeeps store (⟦<Recorder as Disk>⟧.file disk.old) }
+    requires formed { FormedFor (⟦<Recorder as Disk>⟧.file disk.old) role }
+    ensures role { IfOk result (λ store. role_kept store ≡ role) }
+    ensures keeps { IfOk result (λ store. StoreKeeps store (⟦<Recorder as Disk>⟧.file disk.new)) }
+    ensures formed { FormedFor (⟦<Recorder as Disk>⟧.file disk.new) role }
+    ensures arms { ⟦<Recorder as Disk>⟧.arms disk.new ≡ ⟦<Recorder as Disk>⟧.arms disk.old }
+{
+    if recovers {
+        return ShadowStore::recover(alloc, disk, role);
+    }
+    Ok(store)
+}
+
+#[test]
+fn calls_in_a_row(rt: HostRuntime) -> Result<(), Fail> {
+    let alloc = rt.alloc();
+    let (disk, _) = start(alloc, Role::Store, [Some(0), Some(0)])?;
+    let puts = [
+        WRITE_TMP,
+        Did::Rename(Slot::Tmp, COMMITTED_ONE),
+        WRITE_TMP,
+        Did::Rename(Slot::Tmp, COMMITTED_TWO),
+    ];
+    assert_eq!(rt; disk.calls.as_slice(), puts.as_slice());
+    for recovers in [false, true] {
+        let (mut disk, mut store) = start(alloc, Role::Store, [Some(0), None])?;
+        for (call, want, calls) in CALLS {
+            let answer = ask(alloc, &mut disk, &mut store, Role::Store, *call, None)?;
+            assert_eq!(rt; answer, *want);
+            assert_eq!(rt; disk.calls.as_slice(), *calls);
+            store = again(alloc, &mut disk, store, Role::Store, recovers)?;
+        }
+    }
+    Ok(())
+}
+
+#[derive(Clone, Copy, Debug, PartialEq, Eq)]
+enum Ending {
+    Undone,
+    Done,
+    Torn,
+}
+
+fn outcome(alloc: Global, ending: Ending) -> Result<Outcome, AllocError> {
+    let mut torn = Bytes::new(alloc);
+    torn.extend(TORN)?;
+    match ending {
+        Ending::Undone => Ok(Outcome::Undone),
+        Ending::Done => Ok(Outcome::Done),
+        Ending::Torn => Ok(Outcome::Torn(torn)),
+    }
+}
+
+// What a stopped call leaves: all as it was or, where it was done, as after it; a torn write leaves those bytes.
+fn left_by(ending: Ending, did: Did, before: Left, after: Left) -> Left {
+    match (ending, did) {
+        (Ending::Done, _) => after,
+        (Ending::Torn, Did::Write(_)) => (Some(TORN), before.1, before.2),
+        _ => before,
+    }
+}
+
+fn has(alloc: Global, disk: &mut MemDisk, slot: Slot, want: &[u8]) -> Result<bool, DiskFault>
+    ensures files { ⟦<MemDisk as Disk>⟧.file disk.new ≡ ⟦<MemDisk as Disk>⟧.file disk.old }
+    ensures arms { ⟦<MemDisk as Disk>⟧.arms disk.new ≡ ⟦<MemDisk as Disk>⟧.arms disk.old }
+{
+    match disk.read(alloc, slot)? {
+        Some(bytes) => Ok(bytes.as_slice() == want),
+        None => Ok(false),
+    }
+}
+
+fn has_each(alloc: Global, disk: &mut MemDisk, files: &[(Slot, Content)]) -> Result<bool, DiskFault>
+    ensures files { ⟦<MemDisk as Disk>⟧.file disk.new ≡ ⟦<MemDisk as Disk>⟧.file disk.old }
+    ensures arms { ⟦<MemDisk as Disk>⟧.arms disk.new ≡ ⟦<MemDisk as Disk>⟧.arms disk.old }
+{
+    for (slot, bytes) in files {
+        if !has(alloc, disk, *slot, bytes)? {
+            return Ok(false);
+        }
+    }
+    Ok(true)
+}
+
+fn has_count(alloc: Global, disk: &mut MemDisk, count: usize) -> Result<bool, DiskFault>
+    ensures files { ⟦<MemDisk as Disk>⟧.file disk.new ≡ ⟦<MemDisk as Disk>⟧.file disk.old }
+    ensures arms { ⟦<MemDisk as Disk>⟧.arms disk.new ≡ ⟦<MemDisk as Disk>⟧.arms disk.old }
+{
+    Ok(disk.names(alloc)?.as_slice().len() == count)
+}
+
+// Whether the disk has this Tmp, these files of the role, and those of the other as they were.
+fn has_left(
+    alloc: Global,
+    disk: &mut MemDisk,
+    role: Role,
+    tmp: Option<Content>,
+    files: Files,
+) -> Result<bool, DiskFault>
+    ensures files { ⟦<MemDisk as Disk>⟧.file disk.new ≡ ⟦<MemDisk as Disk>⟧.file disk.old }
+    ensures arms { ⟦<MemDisk as Disk>⟧.arms disk.new ≡ ⟦<MemDisk as Disk>⟧.arms disk.old }
+{
+    let others = others(role);
+    let count = files
+        .len()
+        .saturating_add(others.len())
+        .saturating_add(usize::from(tmp.is_some()));
+    if !has_count(alloc, disk, count)? {
+        return Ok(false);
+    }
+    if !has_each(alloc, disk, others.as_slice())? {
+        return Ok(false);
+    }
+    if !has_each(alloc, disk, files)? {
+        return Ok(false);
+    }
+    match tmp {
+        Some(bytes) => has(alloc, disk, Slot::Tmp, bytes),
+        None => Ok(true),
+    }
+}
+
+// A store with objects 1 and 2, or with their entries, after these calls.
+fn reach(alloc: Global, role: Role, calls: &[Call]) -> Result<(Recorder, ShadowStore), StoreFault>
+    ensures role { IfOk result (λ made. role_kept made.1 ≡ role) }
+    ensures keeps { IfOk result (λ made. StoreKeeps made.1 (⟦<Recorder as Disk>⟧.file made.0)) }
+    ensures formed { IfOk result (λ made. FormedFor (⟦<Recorder as Disk>⟧.file made.0) role) }
+    ensures arms { IfOk result (λ made. ⟦<Recorder as Disk>⟧.arms made.0 ≡ 0) }
+{
+    let value = match role {
+        Role::Store => 0,
+        Role::Names => 1,
+    };
+    let (mut disk, mut store) = start(alloc, role, [Some(value), Some(value)])?;
+    for call in calls {
+        ask(alloc, &mut disk, &mut store, role, *call, None)?;
+    }
+    Ok((disk, store))
+}
+
+// The last call, over a disk that stops so.
+fn finish(
+    alloc: Global,
+    disk: &mut Recorder,
+    store: &mut ShadowStore,
+    case: &Case,
+    stop: Option<(u32, Outcome)>,
+) -> Result<(), StoreFault>
+    requires role { role_kept store.old ≡ case.now.role }
+    requires keeps { StoreKeeps store.old (⟦<Recorder as Disk>⟧.file disk.old) }
+    requires formed { FormedFor (⟦<Recorder as Disk>⟧.file disk.old) case.now.role }
+    requires arms { ⟦<Recorder as Disk>⟧.arms disk.old ≡ 0 }
+    ensures formed { FormedFor (⟦<Recorder as Disk>⟧.file disk.new) case.now.role }
+    ensures arms { ⟦<Recorder as Disk>⟧.arms disk.new ≤ 2 }
+{
+    match case.last {
+        Last::Call(call) => {
+            ask(alloc, disk, store, case.role, call, stop)?;
+            Ok(())
+        }
+        Last::Recovery { cut, at } => {
+            let torn = outcome(alloc, Ending::Torn)?;
+            let _ = ask(alloc, disk, store, case.role, cut, Some((at, torn)));
+            begin(disk, stop);
+            let _ = ShadowStore::recover(alloc, disk, case.role)?;
+            Ok(())
+        }
+    }
+}
+
+// What a recovered store answers to reads of 1 and of 2.
+fn answers(alloc: Global, disk: &mut Recorder, role: Role) -> Result<Answers, StoreFault>
+    requires formed { FormedFor (⟦<Recorder as Disk>⟧.file disk.old) role }
+    requires arms { ⟦<Recorder as Disk>⟧.arms disk.old < 9 }
+{
+    let mut store = ShadowStore::recover(alloc, disk, role)?;
+    let one = ask(alloc, disk, &mut store, role, Call::Read(1), None)?;
+    let two = ask(alloc, disk, &mut store, role, Call::Read(2), None)?;
+    Ok((one, two))
+}
+
+// The last call with this stop, or with none, makes these calls of the disk and leaves this.
+fn leaves(
+    rt: &impl Abort,
+    alloc: Global,
+    case: &Case,
+    stop: Option<(u32, Outcome)>,
+    dids: &[Did],
+    left: Left,
+) -> Result<(), StoreFault> {
+    let (tmp, files, told) = left;
+    let (mut disk, mut store) = reach(alloc, case.role, case.calls)?;
+    let stops = stop.is_some();
+    match finish(alloc, &mut disk, &mut store, case, stop) {
+        Ok(()) => assert!(rt; !stops),
+        Err(StoreFault::Stopped) => assert!(rt; stops),
+        Err(StoreFault::Memory) => return Err(StoreFault::Memory),
+    }
+    assert_eq!(rt; disk.calls.as_slice(), dids);
+    assert!(rt; has_left(alloc, &mut disk.disk, case.role, tmp, files)?);
+    assert_eq!(rt; answers(alloc, &mut disk, case.role)?, told);
+    Ok(())
+}
+
+// Stops a call at each of its calls of the disk, in each way.
+fn follow(rt: &impl Abort, alloc: Global, case: &Case) -> Result<(), StoreFault> {
+    let mut dids = Vec::new(alloc);
+    let mut at = 0u32;
+    let mut before = case.before;
+    for (did, after) in case.steps {
+        dids.push(*did)?;
+        at = at.saturating_add(1);
+        for ending in [Ending::Undone, Ending::Done, Ending::Torn] {
+            let stop = Some((at, outcome(alloc, ending)?));
+            let left = left_by(ending, *did, before, *after);
+            leaves(rt, alloc, case, stop, dids.as_slice(), left)?;
+        }
+        before = *after;
+    }
+    leaves(rt, alloc, case, None, dids.as_slice(), before)
+}
+
+#[test]
+fn stopped_at_each_call(rt: HostRuntime) -> Result<(), Fail> {
+    for case in CASES {
+        follow(&rt, rt.alloc(), case)?;
+    }
+    Ok(())
+}
+
+fn recover_after(alloc: Global, finding: &Finding) -> Result<ShadowStore, StoreFault> {
+    let role = Role::Names;
+    let (mut disk, mut store) = reach(alloc, role, finding.calls)?;
+    let stop = Some((finding.at, outcome(alloc, Ending::Torn)?));
+    let _ = ask(alloc, &mut disk, &mut store, role, finding.cut, stop);
+    ShadowStore::recover(alloc, &mut disk, role)
+}
+
+fn committed_in(alloc: Global, found: &Found) -> Result<Vec<Seen>, AllocError> {
+    let mut committed = Vec::new(alloc);
+    for state in found.committed.as_slice() {
+        committed.push(seen_of(state))?;
+    }
+    Ok(committed)
+}
+
+fn prepared_in(alloc: Global, found: &Found) -> Result<Vec<(Uid, Seen)>, AllocError> {
+    let mut prepared = Vec::new(alloc);
+    for (act, states) in found.prepared.as_slice() {
+        for state in states.as_slice() {
+            prepared.push((*act, seen_of(state)))?;
+        }
+    }
+    Ok(prepared)
+}
+
+#[test]
+fn a_naming_store_is_found(rt: HostRuntime) -> Result<(), Fail> {
+    let alloc = rt.alloc();
+    for finding in FINDINGS {
+        let store = recover_after(alloc, finding)?;
+        let committed = committed_in(alloc, store.found())?;
+        assert_eq!(rt; committed.as_slice(), finding.committed);
+        let prepared = prepared_in(alloc, store.found())?;
+        assert_eq!(rt; prepared.as_slice(), finding.prepared);
+        assert_eq!(rt; store.actions(alloc)?.as_slice(), finding.actions);
+    }
+    Ok(())
+}
