@@ -1,0 +1,144 @@
+-- Messages as the protocol looks at them: a request is who asks and what, an answer is who had asked and what is
+-- answered; four kinds stand alone.
+use Rattle.arj_protocol.specs.Words.{ℕ, Bool, List, [], ◌∷◌, Option, Some, None, Uid, Binding, Path, End, ObjectState, Op, uids_of, tops_of, last_uid, take, Message, Head, Asked, What, Difference, BoundReply, LoadedReply, RecordedReply, InvokedReply, VotedReply, PreparedReply, ConfirmedReply, FrameKind}
+use Rattle.arj_protocol.specs.Words.message
+use Rattle.arj_protocol.specs.Words.what
+use Rattle.arj_protocol.specs.Words.difference
+use Rattle.arj_protocol.specs.Words.frame
+
+-- what is asked
+pub data Ask : Type 0 where
+  Bind : ℕ → Bool → Binding → Ask
+  Load : ℕ → Ask
+  Activate : Binding → ObjectState → Ask
+  Note : ℕ → Binding → ℕ → ℕ → Ask
+  Invoke : ℕ → Binding → ℕ → List (Uid × End) → Op → Ask
+  Vote : ℕ → List (ℕ × Binding) → List (Uid × End) → Ask
+  Prepare : List ObjectState → Ask
+  Confirm : List (ℕ × ℕ) → List (ℕ × ℕ) → List (ℕ × ℕ) → Ask
+
+-- what is answered
+pub data Reply : Type 0 where
+  Bound : BoundReply → Reply
+  Loaded : LoadedReply → Reply
+  Activated : ℕ → Reply
+  Noted : RecordedReply → Reply
+  Invoked : InvokedReply → Reply
+  Voted : VotedReply → Reply
+  Prepared : PreparedReply → Reply
+  Confirmed : ConfirmedReply → Reply
+
+-- the request of a message
+abbrev pub asks : Message → Option (Head × Ask)
+asks (message.Bind m) = Some (m.head, Bind m.x m.include m.avoid)
+asks (message.Load m) = Some (m.head, Load m.x)
+asks (message.Activate m) = Some (m.head, Activate m.binding m.state)
+asks (message.RecordMsg m) = Some (m.head, Note m.x m.binding m.server_inc m.naming_inc)
+asks (message.Invoke m) = Some (m.head, Invoke m.x m.binding m.server_inc m.ends m.op)
+asks (message.Vote m) = Some (m.head, Vote m.server_inc m.objects m.ends)
+asks (message.Prepare m) = Some (m.head, Prepare m.states)
+asks (message.Confirm m) = Some (m.head, Confirm m.objects m.excluded m.included)
+asks _ = None
+
+-- the answer of a message
+abbrev pub answers : Message → Option (Asked × Reply)
+answers (message.Bound m) = Some (m.asked, Bound m.reply)
+answers (message.Loaded m) = Some (m.asked, Loaded m.reply)
+answers (message.Activated m) = Some (m.asked, Activated m.server_inc)
+answers (message.Recorded m) = Some (m.asked, Noted m.reply)
+answers (message.Invoked m) = Some (m.asked, Invoked m.reply)
+answers (message.Voted m) = Some (m.asked, Voted m.reply)
+answers (message.Prepared m) = Some (m.asked, Prepared m.reply)
+answers (message.Confirmed m) = Some (m.asked, Confirmed m.reply)
+answers _ = None
+
+-- a request as a message
+abbrev pub request : Head → Ask → Message
+request h (Bind x include avoid) = message.Bind (record { head = h; x = x; include = include; avoid = avoid })
+request h (Load x) = message.Load (record { head = h; x = x })
+request h (Activate b s) = message.Activate (record { head = h; binding = b; state = s })
+request h (Note x b i g) = message.RecordMsg (record { head = h; x = x; binding = b; server_inc = i; naming_inc = g })
+request h (Invoke x b i ends op) = message.Invoke (record { head = h; x = x; binding = b; server_inc = i; ends = ends; op = op })
+request h (Vote i objects ends) = message.Vote (record { head = h; server_inc = i; objects = objects; ends = ends })
+request h (Prepare states) = message.Prepare (record { head = h; states = states })
+request h (Confirm objects excluded included) = message.Confirm (record { head = h; objects = objects; excluded = excluded; included = included })
+
+-- an answer as a message
+abbrev pub response : Asked → Reply → Message
+response a (Bound r) = message.Bound (record { asked = a; reply = r })
+response a (Loaded r) = message.Loaded (record { asked = a; reply = r })
+response a (Activated i) = message.Activated (record { asked = a; server_inc = i })
+response a (Noted r) = message.Recorded (record { asked = a; reply = r })
+response a (Invoked r) = message.Invoked (record { asked = a; reply = r })
+response a (Voted r) = message.Voted (record { asked = a; reply = r })
+response a (Prepared r) = message.Prepared (record { asked = a; reply = r })
+response a (Confirmed r) = message.Confirmed (record { asked = a; reply = r })
+
+-- the action that asks, and its answer's head
+abbrev pub actor : Path → Uid
+actor p = last_uid (uids_of p)
+
+abbrev pub asked_by : Head → Asked
+asked_by h = record { act = actor h.path; req = h.req }
+
+-- the leading Uids of a path that end with its top, and the top
+abbrev pub top_path : Path → List Uid
+top_path p = take (tops_of p) (uids_of p)
+
+abbrev pub top_of : Path → Uid
+top_of p = last_uid (top_path p)
+
+-- the kind of answer that a request waits for, and the kind of an answer
+abbrev pub ask_kind : Ask → ℕ
+ask_kind (Bind x include avoid) = 1
+ask_kind (Load x) = 2
+ask_kind (Activate b s) = 3
+ask_kind (Note x b i g) = 4
+ask_kind (Invoke x b i ends op) = 5
+ask_kind (Vote i objects ends) = 6
+ask_kind (Prepare states) = 7
+ask_kind (Confirm objects excluded included) = 8
+
+abbrev pub reply_kind : Reply → ℕ
+reply_kind (Bound r) = 1
+reply_kind (Loaded r) = 2
+reply_kind (Activated i) = 3
+reply_kind (Noted r) = 4
+reply_kind (Invoked r) = 5
+reply_kind (Voted r) = 6
+reply_kind (Prepared r) = 7
+reply_kind (Confirmed r) = 8
+
+-- the kind of a message in the line of its frame
+abbrev pub frame_kind : Message → FrameKind
+frame_kind (message.Bind m) = frame.Bind
+frame_kind (message.Bound m) = frame.Bound
+frame_kind (message.Load m) = frame.Load
+frame_kind (message.Loaded m) = frame.Loaded
+frame_kind (message.Activate m) = frame.Activate
+frame_kind (message.Activated m) = frame.Activated
+frame_kind (message.RecordMsg m) = frame.Record
+frame_kind (message.Recorded m) = frame.Recorded
+frame_kind (message.Invoke m) = frame.Invoke
+frame_kind (message.Invoked m) = frame.Invoked
+frame_kind (message.Vote m) = frame.Vote
+frame_kind (message.Voted m) = frame.Voted
+frame_kind (message.Prepare m) = frame.Prepare
+frame_kind (message.Prepared m) = frame.Prepared
+frame_kind (message.Confirm m) = frame.Confirm
+frame_kind (message.Confirmed m) = frame.Confirmed
+frame_kind (message.Told m) = frame.Told
+frame_kind (message.Acked m) = frame.Acked
+frame_kind (message.Query m) = frame.Query
+frame_kind (message.Hello m) = frame.Hello
+
+-- what changed, as a line says it
+abbrev pub differs : What → Difference
+differs (what.Inc had now) = difference.Inc had now
+differs (what.Bind had now) = difference.Bind had now
+
+-- An end that is told: the last one of a list.
+abbrev pub last_end : List (Uid × End) → Option (Uid × End)
+last_end [] = None
+last_end (e ∷ []) = Some e
+last_end (e ∷ f ∷ es) = last_end (f ∷ es)

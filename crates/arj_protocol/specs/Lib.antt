@@ -1,0 +1,10 @@
+pub mod Ask
+pub mod Confirm
+pub mod Copy
+pub mod Effect
+pub mod Named
+pub mod Naming
+pub mod Order
+pub mod Server
+pub mod Values
+pub mod Words

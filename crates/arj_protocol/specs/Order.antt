@@ -1,0 +1,82 @@
+-- How Uids, bindings and versions compare, and finite maps and sets: sorted lists, as an ordered map or set has its
+-- entries.
+use Rattle.arj_protocol.specs.Words.{ℕ, ◌+◌, ◌*◌, Bool, ◌==◌, nat_lt, if◌then◌else◌, List, [], ◌∷◌, filter, map, Option, list_any, not, Ordering, nat_cmp, ordering_then, lookup, remove_entry, insert_entry, insert_key, is_at, Uid, Binding, uid_eq, min}
+
+-- by node, then incarnation, then number
+abbrev pub uid_cmp : Uid → Uid → Ordering
+uid_cmp u w = ordering_then (nat_cmp u.node w.node) (ordering_then (nat_cmp u.inc w.inc) (nat_cmp u.num w.num))
+
+-- A binding as a number: naming incarnations and counts have 32 bits.
+abbrev pub binding_number : Binding → ℕ
+binding_number b = b.inc * 4294967296 + b.count
+
+abbrev pub binding_eq : Binding → Binding → Bool
+binding_eq b c = binding_number b == binding_number c
+
+abbrev pub binding_less : Binding → Binding → Bool
+binding_less b c = nat_lt (binding_number b) (binding_number c)
+
+-- no binding
+abbrev pub unbound : Binding
+unbound = record { inc = 0; count = 0 }
+
+-- the lesser and the greater of two bindings
+abbrev pub lesser_binding : Binding → Binding → Binding
+lesser_binding b c = if binding_less c b then c else b
+
+abbrev pub greater_binding : Binding → Binding → Binding
+greater_binding b c = if binding_less c b then b else c
+
+-- the version after this one; the last one of 64 bits stands still
+abbrev pub next_version : ℕ → ℕ
+next_version v = min (v + 1) 18446744073709551615
+
+-- ---- maps by number
+
+abbrev pub at_number : {X : Type 0} → ℕ → List (ℕ × X) → Option X
+at_number k m = lookup (is_at (nat_cmp k)) m
+
+abbrev pub put_number : {X : Type 0} → ℕ → X → List (ℕ × X) → List (ℕ × X)
+put_number k v m = insert_entry nat_cmp m k v
+
+-- each value changed by its key
+abbrev pub each : {X : Type 0} → (ℕ → X → X) → List (ℕ × X) → List (ℕ × X)
+each {X} f m = map {A = ℕ × X} {B = ℕ × X} (λ e. (e.0, f e.0 e.1)) m
+
+-- ---- maps and sets by Uid
+
+abbrev pub at_uid : {X : Type 0} → Uid → List (Uid × X) → Option X
+at_uid u m = lookup (is_at (uid_cmp u)) m
+
+abbrev pub put_uid : {X : Type 0} → Uid → X → List (Uid × X) → List (Uid × X)
+put_uid u v m = insert_entry uid_cmp m u v
+
+abbrev pub without_uid : {X : Type 0} → Uid → List (Uid × X) → List (Uid × X)
+without_uid u m = remove_entry (is_at (uid_cmp u)) m
+
+abbrev pub with_uid : Uid → List Uid → List Uid
+with_uid u us = insert_key uid_cmp us u
+
+abbrev pub drop_uid : Uid → List Uid → List Uid
+drop_uid u us = filter (λ w. not (uid_eq w u)) us
+
+-- these Uids in increasing order, each once
+abbrev pub uid_set : List Uid → List Uid
+uid_set [] = []
+uid_set (u ∷ us) = with_uid u (uid_set us)
+
+-- ---- sets of numbers, as of nodes
+
+abbrev pub has : List ℕ → ℕ → Bool
+has ns n = list_any (λ m. m == n) ns
+
+abbrev pub with_number : ℕ → List ℕ → List ℕ
+with_number n ns = insert_key nat_cmp ns n
+
+-- these numbers in increasing order, each once
+abbrev pub number_set : List ℕ → List ℕ
+number_set [] = []
+number_set (n ∷ ns) = with_number n (number_set ns)
+
+abbrev pub without_number : ℕ → List ℕ → List ℕ
+without_number n ns = filter (λ m. not (m == n)) ns

@@ -1,0 +1,46 @@
+-- Payloads of packed states as values, and as naming entries: what `payload_of` and `entry_payload` spell, read back.
+use Rattle.arj_protocol.specs.Words.{ℕ, ◌+◌, ◌*◌, List, [], ◌∷◌, take, drop, Class, Value, Entry, ObjectState}
+use Rattle.arj_protocol.specs.Words.class
+use Rattle.arj_protocol.specs.Words.value
+
+-- a number, high byte first
+abbrev pub big_number : ℕ → List ℕ → ℕ
+big_number n [] = n
+big_number n (b ∷ bs) = big_number (n * 256 + b) bs
+
+abbrev pub number_in : List ℕ → ℕ
+number_in bytes = big_number 0 bytes
+
+-- numbers of eight bytes, one behind the other
+abbrev pub numbers_in : List ℕ → List ℕ
+numbers_in (a ∷ b ∷ c ∷ d ∷ e ∷ f ∷ g ∷ h ∷ rest) = number_in (a ∷ b ∷ c ∷ d ∷ e ∷ f ∷ g ∷ h ∷ []) ∷ numbers_in rest
+numbers_in _ = []
+
+-- a list of numbers, two by two
+abbrev pub in_pairs : List ℕ → List (ℕ × ℕ)
+in_pairs (k ∷ v ∷ rest) = (k, v) ∷ in_pairs rest
+in_pairs _ = []
+
+-- The value of a class with this payload. What no value of the class is spelled as gives some value.
+abbrev pub value_in : Class → List ℕ → Value
+value_in class.Entry bytes = value.Counter 0
+value_in class.Counter bytes = value.Counter (number_in bytes)
+value_in class.Register bytes = value.Register bytes
+value_in class.Account bytes = value.Account (number_in bytes)
+value_in class.Queue bytes = value.Queue (numbers_in bytes)
+value_in class.Table bytes = value.Table (in_pairs (numbers_in bytes))
+
+abbrev pub state_value : ObjectState → Value
+state_value s = value_in s.class s.payload
+
+-- a naming entry as its payload spells it: servers and stores, each list behind its length
+abbrev pub stores_in : List ℕ → List ℕ
+stores_in [] = []
+stores_in (n ∷ bytes) = take n bytes
+
+abbrev pub entry_in : List ℕ → Entry
+entry_in [] = record { servers = []; stores = [] }
+entry_in (n ∷ bytes) = record { servers = take n bytes; stores = stores_in (drop n bytes) }
+
+abbrev pub state_entry : ObjectState → Entry
+state_entry s = entry_in s.payload
