@@ -2,10 +2,9 @@
 ghost use Rattle.std.specs.Prelude.{◌≡◌, ◌++◌, OnOk, IfOk};
 ghost use Rattle.arj_journal.specs.ScriptText.{labelled};
 ghost use Rattle.arj_text.specs.Words.{space, number_word, mode_text};
-ghost use Rattle.arj_journal.specs.LineText.{uid_word, binding_word, kind_text, parent_text, part_text, role_text};
-ghost use Rattle.arj_journal.specs.LineText.{which_text, frame_text, difference_text, conflict_words, cause_text};
-ghost use Rattle.arj_journal.specs.LineText.{quiet_text, body_text, line_text as text_of_line};
+ghost use Rattle.arj_journal.specs.LineText.{binding_word, body_text, cause_text, conflict_words, difference_text, line_text as text_of_line, parent_text, quiet_text, uid_word};
 
+use crate::words::{frame_word, kind_word, part_word, role_word, which_word};
 use crate::{Body, Cause, Difference, FrameKind, Kind, Label, Line, Part, Role, Which};
 use arj_base::{Binding, Bytes, End, Mode, NodeList, Uid};
 use arj_class::Op;
@@ -499,78 +498,8 @@ fn put_limit(out: &mut Bytes, which: Which) -> Result<(), AllocError>
     out.extend(which_word(which))
 }
 
-// The names of kinds, parts, roles and limits.
-
-pub fn kind_word(kind: Kind) -> &'static [u8]
-    ensures { result.now ≡ kind_text kind }
-{
-    match kind {
-        Kind::Top => b"top",
-        Kind::Nested => b"nested",
-        Kind::Independent => b"independent",
-        Kind::Serial => b"serial",
-        Kind::Constituent => b"constituent",
-    }
-}
-
-pub fn part_word(part: Part) -> &'static [u8]
-    ensures { result.now ≡ part_text part }
-{
-    match part {
-        Part::Naming => b"naming",
-        Part::Server => b"server",
-    }
-}
-
-pub fn role_word(role: Role) -> &'static [u8]
-    ensures { result.now ≡ role_text role }
-{
-    match role {
-        Role::Store => b"store",
-        Role::Names => b"names",
-    }
-}
-
-pub fn which_word(which: Which) -> &'static [u8]
-    ensures { result.now ≡ which_text which }
-{
-    match which {
-        Which::Lines => b"lines",
-        Which::Labels => b"labels",
-        Which::Frames => b"frames",
-    }
-}
-
 fn quiet_line(yes: bool) -> &'static [u8]
     ensures { result.now ≡ quiet_text yes }
 {
     if yes { b"quiet yes" } else { b"quiet no" }
-}
-
-pub fn frame_word(kind: FrameKind) -> &'static [u8]
-    ensures { result.now ≡ frame_text kind }
-{
-    match kind {
-        FrameKind::Bind => b"bind",
-        FrameKind::Bound => b"bound",
-        FrameKind::Load => b"load",
-        FrameKind::Loaded => b"loaded",
-        FrameKind::Activate => b"activate",
-        FrameKind::Activated => b"activated",
-        FrameKind::Record => b"record",
-        FrameKind::Recorded => b"recorded",
-        FrameKind::Invoke => b"invoke",
-        FrameKind::Invoked => b"invoked",
-        FrameKind::Vote => b"vote",
-        FrameKind::Voted => b"voted",
-        FrameKind::Prepare => b"prepare",
-        FrameKind::Prepared => b"prepared",
-        FrameKind::Confirm => b"confirm",
-        FrameKind::Confirmed => b"confirmed",
-        FrameKind::Told => b"told",
-        FrameKind::Acked => b"acked",
-        FrameKind::Query => b"query",
-        FrameKind::Hello => b"hello",
-        FrameKind::Junk => b"junk",
-    }
 }

@@ -13,11 +13,7 @@ mod fault;
 mod form;
 mod place;
 mod reader;
-#[cfg(test)]
-mod runs;
 mod stage;
-#[cfg(test)]
-mod tests;
 
 pub use fault::ScriptFault;
 pub use reader::{Item, Reader};

@@ -1,0 +1,4 @@
+pub mod Form
+pub mod LineKinds
+pub mod Reading
+pub mod Spellings

@@ -1,0 +1,15 @@
+-- What reading a piece of a line means.
+use Rattle.std.specs.Prelude.{◌≡◌, ◌≢◌, ℕ, List, ⊤, Option, Some, None, Result, Ok, Err}
+use Rattle.arj_journal_reader.specs.declared.fault.LineFault.{LineFault}
+use Rattle.arj_journal_reader.specs.declared.fault.LineFault.TheVariants.{NotALine, Memory}
+
+-- This is in form and has this text; or nothing in form has it; or memory is wanting.
+abbrev pub IsTaken : {A : Type 0} → (A → Type 0) → (A → List ℕ) → List ℕ → Result A LineFault → Type 0
+IsTaken {A = A} InForm text bytes (Ok a) = InForm a × (bytes ≡ text a)
+IsTaken {A = A} InForm text bytes (Err NotALine) = (a : A) → InForm a → bytes ≢ text a
+IsTaken {A = A} InForm text bytes (Err Memory) = ⊤
+
+-- what was read, or the fault that there is nothing
+abbrev pub as_taken : {A : Type 0} → Option A → Result A LineFault
+as_taken None = Err NotALine
+as_taken (Some a) = Ok a

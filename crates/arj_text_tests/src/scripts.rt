@@ -1,0 +1,259 @@
+// Which lines are taken where, and what is told of them.
+
+use arj_class::Value;
+use arj_journal::ObjectLine;
+use arj_script::{Item, Reader, ScriptFault};
+use std::alloc::Global;
+use std::test::Fail;
+
+// What the reader tells of a line, in a word.
+fn told(outcome: Result<Item, ScriptFault>) -> &'static str {
+    match outcome {
+        Ok(Item::Blank) => "blank",
+        Ok(Item::Part) => "part",
+        Ok(Item::Run(_)) => "run",
+        Ok(Item::Event(_)) => "event",
+        Err(ScriptFault::Bad) => "bad",
+        Err(ScriptFault::Memory) => "memory",
+    }
+}
+
+// A reader that has taken the first lines of a script, up to three of them.
+fn reader_behind(alloc: Global, count: usize) -> Result<Reader, ScriptFault> {
+    let mut reader = Reader::new(alloc);
+    if count > 0 {
+        reader.line(b"nodes 4")?;
+    }
+    if count > 1 {
+        reader.line(b"object 3 counter 0 servers 1 stores 1")?;
+    }
+    if count > 2 {
+        reader.line(b"run")?;
+    }
+    Ok(reader)
+}
+
+// How many lines of a script the reader has taken, the line that it is given then, and what it tells.
+const LINES: &str = "\
+0||blank
+0|# a comment|blank
+0| # no comment|bad
+0|nodes 1|part
+0|nodes 16|part
+0|nodes 0|bad
+0|nodes 17|bad
+0|nodes 01|bad
+0|nodes 1 |bad
+0|nodes|bad
+0|format 1|bad
+0|run|bad
+0|begin A at 1|bad
+1|nodes 1|bad
+1|run|run
+1|begin A at 1|bad
+2|object 4 counter 18446744073709551615 servers 1 stores 1|part
+2|object 4 counter 18446744073709551616 servers 1 stores 1|bad
+2|object 1 account 0 servers 1 stores 1|part
+2|object 256 account 7 servers 4,1,3 stores 2,3|part
+2|object 0 counter 0 servers 1 stores 1|bad
+2|object 257 counter 0 servers 1 stores 1|bad
+2|object 3 register - servers 1 stores 1|bad
+2|object 4 counter 0 servers 5 stores 1|bad
+2|object 4 counter 0 servers 0 stores 1|bad
+2|object 4 counter 0 servers 1,1 stores 1|bad
+2|object 4 counter 0 servers 1, stores 1|bad
+2|object 4 counter 0 servers ,1 stores 1|bad
+2|object 4 counter 0 servers  stores 1|bad
+2|object 4 counter 0 servers 1 stores |bad
+2|object 4 counter 0 servers 1 stores 1,2,3,4|part
+2|object 4 counter 0 stores 1 servers 1|bad
+2|object 4 counter -1 servers 1 stores 1|bad
+2|object 4 counter - servers 1 stores 1|bad
+2|object 4  counter 0 servers 1 stores 1|bad
+2|object 4 entry 0 servers 1 stores 1|bad
+2|object 4 register 00ff servers 1 stores 1|part
+2|object 4 register 00FF servers 1 stores 1|bad
+2|object 4 register 00f servers 1 stores 1|bad
+2|object 4 register  servers 1 stores 1|bad
+2|object 4 queue - servers 1 stores 1|part
+2|object 4 queue 3,1,3 servers 1 stores 1|part
+2|object 4 queue 3,01 servers 1 stores 1|bad
+2|object 4 queue 0,1,2,3,4,5,6,7,8,9,0,1,2,3,4,5,6,7,8,9,0,1,2,3,4,5,6,7,8,9,0,1 servers 1 stores 1|part
+2|object 4 queue 0,1,2,3,4,5,6,7,8,9,0,1,2,3,4,5,6,7,8,9,0,1,2,3,4,5,6,7,8,9,0,1,2 servers 1 stores 1|bad
+2|object 4 table - servers 1 stores 1|part
+2|object 4 table 1:5,2:5 servers 1 stores 1|part
+2|object 4 table 2:5,1:5 servers 1 stores 1|bad
+2|object 4 table 1:5,1:6 servers 1 stores 1|bad
+2|object 4 table 1:5:6 servers 1 stores 1|bad
+2|object 4 table 1 servers 1 stores 1|bad
+2| run|bad
+2|run|run
+3||blank
+3|begin A at 1|event
+3|begin A at 0|event
+3|begin A at 4294967295|event
+3|begin A at 4294967296|bad
+3|begin A at 01|bad
+3|begin A at +1|bad
+3|begin A  at 1|bad
+3|begin A at  1|bad
+3|begin A at 1 |bad
+3| begin A at 1|bad
+3|begin A at|bad
+3|begin A|bad
+3|begin A in B|event
+3|begin A in 1|bad
+3|Begin A at 1|bad
+3|begin abcdefgh12345678 at 1|event
+3|begin abcdefgh123456789 at 1|bad
+3|begin 1A at 1|bad
+3|begin A_B at 1|bad
+3|begin  at 1|bad
+3|top A in B|event
+3|top A at 1|bad
+3|serial A at 1|event
+3|serial A in B|bad
+3|call A 1 get|event
+3|call A 65535 add 18446744073709551615|event
+3|call A 65536 add 1|bad
+3|call A 0 set 0|event
+3|call A 1 add 18446744073709551616|bad
+3|call A 1 add|bad
+3|call A 1 get 1|event
+3|call A 1 get 1 2|bad
+3|call A 1 pop|event
+3|call A 1 len|event
+3|call A 1 push 3|event
+3|call A 1 push|bad
+3|call A 1 deposit 3|event
+3|call A 1 withdraw 3|event
+3|call A 1 remove 3|event
+3|call A 1 put -|event
+3|call A 1 put |bad
+3|call A 1 put 12|event
+3|call A 1 put 1|bad
+3|call A 1 put 1 2|event
+3|call A 1 put 12 345|event
+3|call A 1 put 1 2 3|bad
+3|call A get|bad
+3|include A 1 2|event
+3|include A 1|bad
+3|commit Z9|event
+3|commit|bad
+3|commit |bad
+3|commit A B|bad
+3|abort a|event
+3|abort a |bad
+3|giveup a|event
+3|deliver 0|event
+3|deliver last|event
+3|deliver 4294967296|bad
+3|lose last|event
+3|lose first|bad
+3|tick 1|event
+3|settle|event
+3|settle |bad
+3|quiesce|event
+3|crash 1|event
+3|restart 70000|event
+3|stop 1 1 none|event
+3|stop 1 0 none|bad
+3|stop 1 1000000 done|event
+3|stop 1 1000001 done|bad
+3|stop 1 1 torn 41524a|event
+3|stop 1 1 torn -|event
+3|stop 1 1 torn|bad
+3|stop 1 1 torn |bad
+3|junk 1 ff|event
+3|junk 1 -|event
+3|junk 1|bad
+3|show 1|event
+3|show 65536|bad
+3|run|bad
+3|nodes 1|bad
+";
+
+// A row of the table, taken apart.
+fn parts(row: &str) -> Option<(usize, &str, &str)> {
+    let (count, rest) = row.split_once('|')?;
+    let (line, want) = rest.split_once('|')?;
+    let count = count.parse::<usize>().ok()?;
+    Some((count, line, want))
+}
+
+#[test]
+fn lines_at_their_places(rt: HostRuntime) -> Result<(), Fail> {
+    for row in LINES.lines() {
+        let (count, line, want) = parts(row).ok_or("no row")?;
+        let mut reader = reader_behind(rt.alloc(), count)?;
+        assert_eq!(rt; told(reader.line(line.as_bytes())), want, "{row}");
+    }
+    Ok(())
+}
+
+#[test]
+fn a_line_has_at_most_200_bytes(rt: HostRuntime) -> Result<(), Fail> {
+    let comment = [b'#'; 201];
+    let mut reader = reader_behind(rt.alloc(), 0)?;
+    assert_eq!(rt; told(reader.line(&comment[..200])), "blank");
+    assert_eq!(rt; told(reader.line(&comment)), "bad");
+    Ok(())
+}
+
+// Whether the object has this number and these nodes, and its value this payload.
+fn is_object(
+    alloc: Global,
+    object: &ObjectLine,
+    x: u16,
+    nodes: (&[u8], &[u8]),
+    payload: &[u8],
+) -> Result<bool, Fail> {
+    let saved = object.value.save_state(alloc)?;
+    let (servers, stores) = nodes;
+    Ok(
+        object.x == x
+            && object.servers.as_slice() == servers
+            && object.stores.as_slice() == stores
+            && saved.as_slice() == payload,
+    )
+}
+
+#[test]
+fn a_header_has_its_objects_in_order(rt: HostRuntime) -> Result<(), Fail> {
+    let mut reader = reader_behind(rt.alloc(), 2)?;
+    reader.line(b"object 9 account 258 servers 4,1 stores 2,3,1")?;
+    reader.line(b"object 4 table 1:2 servers 1 stores 1")?;
+    reader.line(b"object 2 queue 5 servers 2 stores 4")?;
+    reader.line(b"object 7 register 00ff servers 3 stores 3")?;
+    let Item::Run(header) = reader.line(b"run")? else {
+        return Err(Fail::from("no header"));
+    };
+    assert_eq!(rt; header.nodes, 4);
+    let [second, third, fourth, seventh, ninth] = header.objects.as_slice() else {
+        return Err(Fail::from("not five objects"));
+    };
+    let alloc = rt.alloc();
+    assert!(rt; is_object(alloc, second, 2, (&[2], &[4]), &[0, 0, 0, 0, 0, 0, 0, 5])?);
+    assert!(rt; is_object(alloc, third, 3, (&[1], &[1]), &[0; 8])?);
+    assert!(rt;
+        is_object(
+            alloc,
+            fourth,
+            4,
+            (&[1], &[1]),
+            &[0, 0, 0, 0, 0, 0, 0, 1, 0, 0, 0, 0, 0, 0, 0, 2]
+        )?
+    );
+    assert!(rt; is_object(alloc, seventh, 7, (&[3], &[3]), &[0, 255])?);
+    assert!(rt;
+        is_object(
+            alloc,
+            ninth,
+            9,
+            (&[4, 1], &[2, 3, 1]),
+            &[0, 0, 0, 0, 0, 0, 1, 2]
+        )?
+    );
+    assert!(rt; matches!(&ninth.value, Value::Account(_)));
+    Ok(())
+}
