@@ -1,0 +1,6 @@
+mod Answers
+mod Common
+mod Depths
+mod Moves
+mod Nested
+mod Order
