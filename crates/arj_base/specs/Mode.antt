@@ -1,5 +1,5 @@
 -- The lock matrix.
-use Rattle.std.specs.Prelude.{ℕ, Bool, true, false, nat_le, if◌then◌else◌}
+use Rattle.std.specs.Prelude.{ℕ, Bool, true, false, nat_le, if◌then◌else◌, Option, Some, None}
 use Rattle.arj_base.specs.declared.mode.Mode.{Mode}
 use Rattle.arj_base.specs.declared.mode.Mode.TheVariants.{Read, Exclude, Write}
 
@@ -17,5 +17,12 @@ mode_code Read = 0
 mode_code Exclude = 1
 mode_code Write = 2
 
+-- the one of greater strength
 abbrev pub stronger : Mode → Mode → Mode
 stronger a b = if nat_le (mode_code b) (mode_code a) then a else b
+
+-- the stronger of two modes, where each may be missing
+abbrev pub strongest : Option Mode → Option Mode → Option Mode
+strongest None b = b
+strongest (Some a) None = Some a
+strongest (Some a) (Some b) = Some (stronger a b)

@@ -4,6 +4,7 @@ use Rattle.arj_base.specs.declared.uid.Uid.{Uid}
 use Rattle.arj_base.specs.declared.path.Path.{Path}
 use Rattle.arj_base.specs.Uid.{nobody}
 
+-- the Uids of a path, from the root to the action itself
 abbrev pub uids_of : Path → List Uid
 uids_of p = take p.len p.uids
 
@@ -11,6 +12,7 @@ uids_of p = take p.len p.uids
 abbrev pub tops_of : Path → ℕ
 tops_of p = p.tops
 
+-- the root
 abbrev pub first_uid : List Uid → Uid
 first_uid [] = nobody
 first_uid (u ∷ us) = u

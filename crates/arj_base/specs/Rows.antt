@@ -2,6 +2,7 @@
 -- lock, from its root to itself, and `tops` says how many leading Uids of it end with its top.
 use Rattle.std.specs.Prelude.{ℕ, List, [], ◌∷◌, length, Bool, false, ◌&&◌, if◌then◌else◌, filter, map, find, Option, Some, None, not, nat_lt}
 use Rattle.std.specs.List.{list_any, filter_map}
+use Rattle.std.specs.Option.{option_map}
 use Rattle.arj_base.specs.declared.mode.Mode.{Mode}
 use Rattle.arj_base.specs.declared.mode.Mode.TheVariants.{Read}
 use Rattle.arj_base.specs.declared.uid.Uid.{Uid}
@@ -27,6 +28,7 @@ front [] = []
 front (u ∷ []) = []
 front (u ∷ w ∷ us) = u ∷ front (w ∷ us)
 
+-- the Uid is on the path
 abbrev pub is_on : List Uid → Uid → Bool
 is_on us u = list_any (λ w. uid_eq w u) us
 
@@ -60,10 +62,22 @@ is_held_by action row = uid_eq (last_uid row.holder) action
 abbrev pub has_row : Uid → Uid → List Row → Bool
 has_row object action rows = list_any (is_row_of object action) rows
 
+-- the action's row of the object, and the mode that it has on it
+abbrev pub row_of : Uid → Uid → List Row → Option Row
+row_of object action rows = find (is_row_of object action) rows
+
+abbrev pub mode_of : Uid → Uid → List Row → Option Mode
+mode_of object action rows = option_map (λ row. row.mode) (row_of object action rows)
+
+-- the action or a descendant of it has a row
+abbrev pub has_any : Uid → List Row → Bool
+has_any action rows = list_any (λ row. is_on row.holder action) rows
+
 -- the row in the name of the Uid before its holder
 abbrev pub renamed : Row → Row
 renamed row = record row { holder = front row.holder; tops = if nat_lt (length (front row.holder)) row.tops then length (front row.holder) else row.tops }
 
+-- this holder is the heir, if there is one
 abbrev pub is_heir : Option Uid → Uid → Bool
 is_heir None holder = false
 is_heir (Some heir) holder = uid_eq heir holder
@@ -72,10 +86,12 @@ is_heir (Some heir) holder = uid_eq heir holder
 abbrev pub goes_to : Uid → Row → Row → Bool
 goes_to action row passing = is_row_of row.object action passing && is_heir (before_last passing.holder) (last_uid row.holder)
 
+-- the row in the stronger mode of its own and of what passes to it
 abbrev pub strengthened : Row → Option Row → Row
 strengthened row None = row
 strengthened row (Some passing) = record row { mode = stronger row.mode passing.mode }
 
+-- what a passing row becomes: it goes where it has no heir, or where its heir has a row already
 abbrev pub handed_on : List Row → Row → Option Uid → Option Row
 handed_on rows row None = None
 handed_on rows row (Some heir) = if has_row row.object heir rows then None else Some (renamed row)

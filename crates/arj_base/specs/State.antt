@@ -7,8 +7,11 @@ use Rattle.arj_base.specs.declared.state.Class.TheVariants.{Entry, Counter, Regi
 use Rattle.arj_base.specs.declared.state.ObjectState.{ObjectState}
 use Rattle.arj_base.specs.declared.state.StateFault.{StateFault}
 use Rattle.arj_base.specs.declared.state.StateFault.TheVariants as fault
+use Rattle.arj_base.specs.declared.limits.TheConstants.{MOST_BYTES, LAST_VERSION}
+use Rattle.arj_base.specs.declared.state.TheConstants.{PACKED_HEAD}
 use Rattle.arj_base.specs.Uid.{uid_bytes, UidFits}
 
+-- the code of a class in a packed state
 abbrev pub class_code_of : Class → ℕ
 class_code_of Entry = 0
 class_code_of Counter = 1
@@ -24,10 +27,14 @@ state_bytes s =
 
 -- A state is in form: each number fits its bytes, and so does the length of the payload.
 abbrev pub StateInForm : ObjectState → Type 0
-StateInForm s = UidFits s.uid × (s.version < 18446744073709551616) × UidFits s.writer × (length s.payload < 65536)
+StateInForm s = UidFits s.uid × (s.version < 18446744073709551616) × UidFits s.writer × (length s.payload < MOST_BYTES + 1)
 
--- Why bytes are no packed state, tested in this order. The head takes 47 bytes: byte 20 is the class, and bytes 45 and
--- 46 give the length of the payload.
+-- The version after this one, of the state that the next commit writes. The last version stands still.
+abbrev pub version_after : ℕ → ℕ
+version_after version = if nat_lt version LAST_VERSION then version + 1 else LAST_VERSION
+
+-- Why bytes are no packed state, tested in this order. Byte 20 of the head is the class, and bytes 45 and 46 give the
+-- length of the payload.
 abbrev pub state_fault : List ℕ → Option StateFault
 state_fault bytes =
     if nat_lt (length bytes) 4 then Some fault.Short
@@ -35,9 +42,9 @@ state_fault bytes =
   where
     head_fault : List ℕ → Option StateFault
     head_fault bytes =
-        if nat_lt (length bytes) 47 then Some fault.Short
+        if nat_lt (length bytes) PACKED_HEAD then Some fault.Short
         else (if nat_lt 5 (slice_index bytes 20) then Some fault.Class
-        else (if slice_index bytes 45 * 256 + slice_index bytes 46 == length bytes - 47 then None else Some fault.Length))
+        else (if slice_index bytes 45 * 256 + slice_index bytes 46 == length bytes - PACKED_HEAD then None else Some fault.Length))
 
 -- the fault that an answer names, other than want of memory
 abbrev pub named_fault : Result ObjectState StateFault → Option StateFault

@@ -21,6 +21,7 @@ uid_text u = decimal u.node ++ (codes "." ++ (decimal u.inc ++ (codes "." ++ dec
 abbrev pub binding_text : Binding → List ℕ
 binding_text b = decimal b.inc ++ (codes "." ++ decimal b.count)
 
+-- they are one and the same, part by part
 abbrev pub uid_eq : Uid → Uid → Bool
 uid_eq u w = (u.node == w.node) && ((u.inc == w.inc) && (u.num == w.num))
 

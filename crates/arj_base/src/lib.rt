@@ -7,6 +7,8 @@
 #![tactic(auto)]
 
 mod binding;
+mod laws;
+mod limits;
 mod mode;
 mod path;
 mod seq;
@@ -14,8 +16,16 @@ mod state;
 mod uid;
 
 pub use binding::Binding;
+pub use laws::{orders_are_by_fields, uids_are_told_apart};
+pub use limits::{LAST_VERSION, MOST_ACTIONS, MOST_BYTES, MOST_OBJECTS, MOST_UIDS};
 pub use mode::{End, Mode, conflicts, stronger};
 pub use path::Path;
 pub use seq::{Bytes, Ends, NodeList, Numbers, Pairs, Seq, Uids};
-pub use state::{Class, ObjectState, StateFault, pack, unpack};
+pub use state::{
+    Class, ObjectState, PACKED_HEAD, StateFault, class_code, class_of_code, next_version, pack,
+    unpack,
+};
 pub use uid::{Uid, entry_uid, object_uid};
+
+#[cfg(test)]
+mod tests;

@@ -1,11 +1,9 @@
 // Paths of actions.
 ghost use Rattle.std.specs.Prelude.{◌≡◌, ◌≤◌, ◌-◌, drop, length, replicate, if◌then◌else◌};
 ghost use Rattle.arj_base.specs.Uid.{nobody};
+ghost use Rattle.arj_base.specs.declared.limits.TheConstants.{MOST_UIDS};
 
-use crate::Uid;
-
-/// The most Uids that a path has.
-const LONGEST: u8 = 16;
+use crate::{MOST_UIDS, Uid};
 
 // What stands behind the last Uid.
 const NOBODY: Uid = Uid {
@@ -24,15 +22,15 @@ pub struct Path {
     tops: u8,
     ghost whole: { length uids ≡ 16 },
     ghost some: { 1 ≤ len },
-    ghost most: { len ≤ 16 },
-    ghost padded: { drop len uids ≡ replicate (16 - len) nobody },
+    ghost most: { len ≤ MOST_UIDS },
+    ghost padded: { drop len uids ≡ replicate (MOST_UIDS - len) nobody },
     ghost one_top: { 1 ≤ tops },
     ghost two_tops: { tops ≤ 2 },
     ghost within: { tops ≤ len },
 }
 
 impl Path {
-    ghost use Rattle.std.specs.Prelude.{◌≡◌, ◌++◌, ◌∷◌, [], true, length, min, if◌then◌else◌, MatchOption, Some, None};
+    ghost use Rattle.std.specs.Prelude.{◌≡◌, ◌++◌, ◌∷◌, [], true, length, min, take, if◌then◌else◌, MatchOption, Some, None};
     ghost use Rattle.arj_base.specs.Path.{uids_of, tops_of, first_uid, top_uid, before_last};
     ghost use Rattle.arj_base.specs.Rows.{last_uid, front, is_on};
 
@@ -51,15 +49,15 @@ impl Path {
     }
 
     /// The path of an action begun in the last one; `top` is for a constituent of a serializing action, whose path has
-    /// length 1. None exactly where the path has 16 Uids already.
+    /// length 1. None exactly where the path has as many Uids as a path may have.
     pub fn push(&self, uid: Uid, top: bool) -> Option<Path>
         requires { top ≡ true → length (uids_of self.now) ≡ 1 }
         ensures { MatchOption result
-            (length (uids_of self.now) ≡ 16)
+            (length (uids_of self.now) ≡ MOST_UIDS)
             (λ path. (uids_of path ≡ uids_of self.now ++ uid ∷ [])
             × (tops_of path ≡ (if top then 2 else tops_of self.now))) }
     {
-        if self.len == LONGEST {
+        if self.len == MOST_UIDS {
             return None;
         }
         let mut uids = self.uids;
@@ -144,6 +142,26 @@ impl Path {
             len,
             tops: self.tops.min(len),
         })
+    }
+
+    /// The path of the top: from the root to the top.
+    pub fn top_path(&self) -> Path
+        ensures uids { uids_of result ≡ take (tops_of self.now) (uids_of self.now) }
+        ensures tops { tops_of result ≡ tops_of self.now }
+        ensures last { last_uid (uids_of result) ≡ top_uid (tops_of self.now) (uids_of self.now) }
+        ensures len { length (uids_of result) ≡ tops_of self.now }
+        ensures on { is_on (uids_of self.now) (last_uid (uids_of result)) ≡ true }
+    {
+        let mut uids = [NOBODY; 16];
+        uids[0] = self.uids[0];
+        if self.tops == 2 {
+            uids[1] = self.uids[1];
+        }
+        Path {
+            uids,
+            len: self.tops,
+            tops: self.tops,
+        }
     }
 
     /// Whether the Uid is on the path.

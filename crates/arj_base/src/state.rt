@@ -1,11 +1,11 @@
 // Object states, packed for a disk or a message.
 ghost use Rattle.std.specs.Prelude.{◌≡◌, ◌≢◌, ◌+◌, ◌<◌, ◌≤◌, ◌^◌, length, take, drop, IfOk, IfErr, OnOk, MatchOption};
-ghost use Rattle.arj_base.specs.State.{state_bytes, class_code_of, state_fault, named_fault, StateInForm};
+ghost use Rattle.arj_base.specs.State.{state_bytes, version_after, class_code_of, state_fault, named_fault, StateInForm};
 ghost use Rattle.arj_base.specs.declared.state.ObjectState.{ObjectState};
 ghost use Rattle.arj_base.specs.declared.state.StateFault.TheVariants as fault;
 ghost use Rattle.byteorder.specs.Endian.{big_bytes};
 
-use crate::{Bytes, Uid};
+use crate::{Bytes, LAST_VERSION, MOST_BYTES, Uid};
 use byteorder::{BigEndian, ByteOrder};
 use std::alloc::{AllocError, AllocFailed, Global};
 use thiserror::Error;
@@ -74,10 +74,19 @@ impl<T: Drop> From<AllocFailed<T>> for StateFault {
     }
 }
 
-/// Packs a state: the one spelling of a state in files and messages; the payload has at most 65,535 bytes.
+/// The version of the state that the next commit writes: the last version stands still.
+pub fn next_version(version: u64) -> u64
+    ensures after { result ≡ version_after version }
+    ensures rises { version < LAST_VERSION → result ≡ version + 1 }
+    ensures later { version ≤ result }
+{
+    version.saturating_add(1)
+}
+
+/// Packs a state: the one spelling of a state in files and messages.
 #[tactic(auto, using(std::proofs::lemmas::List::append_assoc))]
 pub fn pack(alloc: Global, state: &ObjectState) -> Result<Bytes, AllocError>
-    requires { length state.now.payload < 2 ^ 16 }
+    requires { length state.now.payload < MOST_BYTES + 1 }
     ensures bytes { IfOk result (λ bytes. bytes ≡ state_bytes state.now) }
     ensures in_form { OnOk result (StateInForm state.now) }
 {
@@ -93,8 +102,8 @@ pub fn pack(alloc: Global, state: &ObjectState) -> Result<Bytes, AllocError>
     Ok(packed)
 }
 
-/// How many bytes stand before the payload.
-const HEAD: usize = 47;
+/// How many bytes of a packed state stand before its payload.
+pub const PACKED_HEAD: usize = 47;
 
 /// Reads a packed state: exactly what `pack` writes, and nothing behind it.
 pub fn unpack(alloc: Global, bytes: &[u8]) -> Result<ObjectState, StateFault>
@@ -102,7 +111,7 @@ pub fn unpack(alloc: Global, bytes: &[u8]) -> Result<ObjectState, StateFault>
     ensures in_form { IfOk result (λ s. StateInForm s) }
     ensures only { IfOk result (λ s. (t : ObjectState) → StateInForm t → state_bytes t ≡ bytes.now → t ≡ s) }
     ensures fault { named_fault result ≡ state_fault bytes.now }
-    ensures none { IfErr result (λ e. e ≢ fault.Memory → (s : ObjectState) → length s.payload < 2 ^ 16 → state_bytes s ≢ bytes.now) }
+    ensures none { IfErr result (λ e. e ≢ fault.Memory → (s : ObjectState) → length s.payload < MOST_BYTES + 1 → state_bytes s ≢ bytes.now) }
 {
     if bytes.len() < 4 {
         return Err(StateFault::Short);
@@ -110,18 +119,18 @@ pub fn unpack(alloc: Global, bytes: &[u8]) -> Result<ObjectState, StateFault>
     if !bytes.starts_with(b"ARJ1") {
         return Err(StateFault::Magic);
     }
-    if bytes.len() < HEAD {
+    if bytes.len() < PACKED_HEAD {
         return Err(StateFault::Short);
     }
     let Some(class) = class_of_code(bytes[20]) else {
         return Err(StateFault::Class);
     };
     let length = from_two(&field::<2>(bytes, 45));
-    if usize::from(length) != bytes.len() - HEAD {
+    if usize::from(length) != bytes.len() - PACKED_HEAD {
         return Err(StateFault::Length);
     }
     let mut payload = Bytes::new(alloc);
-    payload.extend(&bytes[HEAD..])?;
+    payload.extend(&bytes[PACKED_HEAD..])?;
     Ok(ObjectState {
         uid: Uid::from_bytes(&field::<16>(bytes, 4)),
         class,
@@ -141,8 +150,8 @@ fn field<const N: usize>(bytes: &[u8], at: usize) -> [u8; N]
     field
 }
 
-/// The class with this code.
-fn class_of_code(code: u8) -> Option<Class>
+/// The class with this code in a packed state, None exactly where no class has it.
+pub fn class_of_code(code: u8) -> Option<Class>
     ensures { MatchOption result (5 < code) (λ class. class_code_of class ≡ code) }
 {
     match code {
@@ -156,8 +165,8 @@ fn class_of_code(code: u8) -> Option<Class>
     }
 }
 
-/// The code of a class in a packed state.
-fn class_code(class: Class) -> u8
+/// The code of a class in a packed state, from 0 to 5.
+pub fn class_code(class: Class) -> u8
     ensures { result ≡ class_code_of class }
 {
     match class {
