@@ -91,10 +91,12 @@ impl Write for Broken {
     }
 }
 
+// Each error is a fault, also one behind another.
 #[test]
 fn a_reader_is_a_source(rt: HostRuntime) {
     let mut source = StdSource::new(b"abc".as_slice().chain(Broken));
     assert_eq!(rt; next(&mut source), Ok((3, *b"abc.")));
+    assert_eq!(rt; next(&mut source), Err(Failed));
     assert_eq!(rt; next(&mut source), Err(Failed));
 }
 
