@@ -1,0 +1,13 @@
+pub mod Base
+pub mod Beginning
+pub mod Confirming
+pub mod Deciding
+pub mod Entries
+pub mod History
+pub mod Keeps
+pub mod Listing
+pub mod Mail
+pub mod Results
+pub mod Stages
+pub mod Stores
+pub mod Taking
