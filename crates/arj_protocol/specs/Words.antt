@@ -71,6 +71,7 @@ pub use Rattle.arj_journal.specs.declared.body.FrameKind.TheVariants as frame
 pub use Rattle.arj_journal.specs.declared.body.Which.TheVariants as which
 pub use Rattle.arj_journal.specs.declared.event.Event.TheVariants as event
 pub use Rattle.arj_journal.specs.declared.event.FrameNo.TheVariants as frame_no
+pub use Rattle.arj_journal.specs.declared.event.StopKind.TheVariants as stop_kind
 pub use Rattle.arj_msg.specs.declared.message.Message.TheVariants as message
 pub use Rattle.arj_msg.specs.declared.message.What.TheVariants as what
 pub use Rattle.arj_msg.specs.declared.message.BoundReply.TheVariants as bound
@@ -80,3 +81,9 @@ pub use Rattle.arj_msg.specs.declared.message.InvokedReply.TheVariants as invoke
 pub use Rattle.arj_msg.specs.declared.message.VotedReply.TheVariants as voted
 pub use Rattle.arj_msg.specs.declared.message.PreparedReply.TheVariants as prepared
 pub use Rattle.arj_msg.specs.declared.message.ConfirmedReply.TheVariants as confirmed
+use Rattle.arj_msg.specs.Layout.{message as message_format}
+
+-- a message read from the front of bytes
+unfoldable pub read_message : List ℕ → Result (Message × List ℕ) ℕ
+unfolding message_format
+read_message bytes = message_format.read bytes

@@ -1,0 +1,229 @@
+-- One node: its disk, and while it is up its parts. How a message is handled, with all messages that the node sends to
+-- itself by that.
+use Rattle.arj_protocol.specs.Words.{ℕ, zero, suc, Bool, ◌&&◌, ◌==◌, nat_lt, if◌then◌else◌, List, [], ◌∷◌, ◌++◌, map, filter, Option, Some, None, option_map, Uid, Head, Asked, End, ObjectState, Message, object}
+use Rattle.arj_protocol.specs.Words.ending
+use Rattle.arj_protocol.specs.Words.body
+use Rattle.arj_protocol.specs.Words.role
+use Rattle.arj_protocol.specs.Words.message
+use Rattle.arj_protocol.specs.Words.loaded
+use Rattle.arj_protocol.specs.Words.prepared
+use Rattle.arj_protocol.specs.Order.{uid_set}
+use Rattle.arj_protocol.specs.Effect.{Effect, Say, Send, Do, Look, Prepare, Commit, Abort, worked, Disk, Pair, Served, Did, did_nothing, held_at, holder_of, is_prepared, Prep, Ready, Already, Old, InDoubt, prepare_answer}
+use Rattle.arj_protocol.specs.Ask.{Ask, Reply, asks, answers, response, asked_by, actor, last_end}
+use Rattle.arj_protocol.specs.Server as server
+use Rattle.arj_protocol.specs.Server.{Server, server_holders}
+use Rattle.arj_protocol.specs.Naming as naming
+use Rattle.arj_protocol.specs.Naming.{Naming, naming_holders}
+use Rattle.arj_protocol.specs.Confirm.{confirm}
+use Rattle.arj_protocol.specs.Coord.{Coord}
+use Rattle.arj_protocol.specs.Asking.{heard}
+use Rattle.arj_protocol.specs.Ending.{acked, answer_query}
+
+-- what a node that is up has in memory; the naming part is at node 1 alone
+pub record Parts : Type 0 where
+  pub server : Server
+  pub naming : Option Naming
+  pub coord : Coord
+
+-- A void message changes nothing and sends nothing, but its test may have read the disk.
+pub data Handled : Type 0 where
+  Void : List Effect → Handled
+  Took : Parts → List Effect → Handled
+
+-- ---- requests
+
+-- the part is put back, and the answer goes to who asked; without an answer the message is void
+abbrev pub sends_answer : ℕ → Head → Parts → List Effect → Option Reply → Handled
+sends_answer from h t outs None = Void outs
+sends_answer from h t outs (Some r) = Took t (outs ++ Send from (response (asked_by h) r) ∷ [])
+
+abbrev pub served : {S R : Type 0} → ℕ → Head → (S → Parts) → (R → Reply) → Served S R → Handled
+served from h put say r = sends_answer from h (put r.part) r.outs (option_map say r.reply)
+
+abbrev pub with_server : Parts → Server → Parts
+with_server t s = record t { server = s }
+
+abbrev pub with_naming : Parts → Naming → Parts
+with_naming t n = record t { naming = Some n }
+
+abbrev pub with_coord : Parts → Coord → Parts
+with_coord t c = record t { coord = c }
+
+-- a request to naming is void at any other node
+abbrev pub if_naming : (Naming → Handled) → Option Naming → Handled
+if_naming f None = Void []
+if_naming f (Some n) = f n
+
+-- a committed state is read, where no action has prepared the object
+abbrev pub load_held : ℕ → Head → Parts → Option ObjectState → Handled
+load_held from h t None = Void (Do Look ∷ [])
+load_held from h t (Some s) = sends_answer from h t (Do Look ∷ []) (Some (Reply.Loaded (loaded.State s)))
+
+abbrev pub load_by : ℕ → Pair → ℕ → Head → Parts → Option Uid → Handled
+load_by x d from h t (Some holder) = sends_answer from h t [] (Some (Reply.Loaded (loaded.InDoubt holder)))
+load_by x d from h t None = load_held from h t (held_at (object x) d)
+
+-- a store prepares states
+abbrev pub prepare_by : ℕ → List ObjectState → ℕ → Head → Parts → Prep → Handled
+prepare_by n states from h t Ready =
+    sends_answer from h t (Do Look ∷ Do (Prepare role.Store (actor h.path) states) ∷ Say (body.Prepared n (actor h.path) role.Store) ∷ []) (Some (Reply.Prepared prepared.Yes))
+prepare_by n states from h t (Already u) = Void (Do Look ∷ [])
+prepare_by n states from h t (Old u v) = sends_answer from h t (Do Look ∷ []) (Some (Reply.Prepared (prepared.Old u.num v)))
+prepare_by n states from h t (InDoubt u holder) = sends_answer from h t (Do Look ∷ []) (Some (Reply.Prepared (prepared.InDoubt u.num holder)))
+
+-- what is prepared already is answered Yes again
+abbrev pub prepare_states : ℕ → Pair → List ObjectState → ℕ → Head → Parts → Handled
+prepare_states n d states from h t =
+    if is_prepared (actor h.path) d then sends_answer from h t [] (Some (Reply.Prepared prepared.Yes))
+    else prepare_by n states from h t (prepare_answer (actor h.path) states d)
+
+-- a request by its kind
+abbrev pub serve : ℕ → Disk → Parts → ℕ → Head → Ask → Handled
+serve n d t from h (Ask.Bind x include avoid) = if_naming (λ o. served from h (with_naming t) Reply.Bound (naming.bind h.path x include avoid d.names o)) t.naming
+serve n d t from h (Ask.Load x) = load_by x d.store from h t (holder_of (object x) d.store)
+serve n d t from h (Ask.Activate b st) = served from h (with_server t) Reply.Activated (server.activate n h.path b st t.server)
+serve n d t from h (Ask.Note x b i g) = if_naming (λ o. served from h (with_naming t) Reply.Noted (naming.note h.path x b i g o)) t.naming
+serve n d t from h (Ask.Invoke x b i ends op) = served from h (with_server t) Reply.Invoked (server.invoke n h x b i ends op t.server)
+serve n d t from h (Ask.Vote i ties ends) = served from h (with_server t) Reply.Voted (server.vote n h.path i ties ends t.server)
+serve n d t from h (Ask.Prepare states) = prepare_states n d.store states from h t
+serve n d t from h (Ask.Confirm grants excluded included) = if_naming (λ o. served from h (with_naming t) Reply.Confirmed (confirm h.path grants excluded included d.names o)) t.naming
+
+-- ---- told
+
+-- what a store has prepared of an action ends
+abbrev pub end_states : ℕ → Uid → End → List Effect
+end_states n u ending.Commit = Do (Commit role.Store u) ∷ Say (body.Done n u role.Store ending.Commit) ∷ []
+end_states n u ending.Abort = Do (Abort role.Store u) ∷ Say (body.Done n u role.Store ending.Abort) ∷ []
+
+abbrev pub store_told : ℕ → Uid → End → Pair → List Effect
+store_told n u e d = if is_prepared u d then end_states n u e else []
+
+abbrev pub naming_told : Uid → End → Pair → Option Naming → Did (Option Naming)
+naming_told u e d None = did_nothing None
+naming_told u e d (Some n) = let t = naming.told u e d n in record { part = Some t.part; outs = t.outs }
+
+abbrev pub ack_told : ℕ → Uid → Bool → List Effect
+ack_told from u ack = if ack then Send from (message.Acked (record { act = u })) ∷ [] else []
+
+-- the store, naming, the server, and the acknowledgement
+abbrev pub handle_told : ℕ → Disk → Parts → ℕ → Bool → List (Uid × End) → Uid → End → Handled
+handle_told n d t from ack ends u e =
+    let o = naming_told u e d.names t.naming in
+    let s = server.told n ends t.server in
+    Took (record { server = s.part; naming = o.part; coord = t.coord }) (store_told n u e d.store ++ o.outs ++ s.outs ++ ack_told from u ack)
+
+-- of a list of ends the store and naming act on the last one
+abbrev pub handle_ends : ℕ → Disk → Parts → ℕ → Bool → List (Uid × End) → Option (Uid × End) → Handled
+handle_ends n d t from ack ends None = Took t []
+handle_ends n d t from ack ends (Some e) = handle_told n d t from ack ends e.0 e.1
+
+-- ---- who is asked about
+
+abbrev pub prepared_actions : Pair → List Uid
+prepared_actions d = map (λ (p : Uid × List ObjectState). p.0) d.pend
+
+abbrev pub locks_of : Option Naming → List Uid
+locks_of None = []
+locks_of (Some n) = naming_holders n
+
+-- the actions that hold a lock of server or naming, or are prepared, in increasing order; for a nested one its top
+abbrev pub holders : Disk → Parts → List Uid
+holders d t = uid_set (server_holders t.server ++ locks_of t.naming ++ prepared_actions d.store ++ prepared_actions d.names)
+
+abbrev pub query_about : Uid → Effect
+query_about u = Send u.node (message.Query (record { act = u }))
+
+abbrev pub is_earlier : ℕ → ℕ → Uid → Bool
+is_earlier node inc u = (u.node == node) && nat_lt u.inc inc
+
+abbrev pub naming_hello : ℕ → ℕ → Option Naming → Option Naming
+naming_hello node inc None = None
+naming_hello node inc (Some n) = Some (naming.hello node inc n)
+
+-- a node is up again: its earlier actions are asked about, and naming drops its live bindings
+abbrev pub handle_hello : Disk → Parts → ℕ → ℕ → Handled
+handle_hello d t node inc = Took (record t { naming = naming_hello node inc t.naming }) (map query_about (filter (is_earlier node inc) (holders d t)))
+
+-- ---- one message
+
+-- without a reply it is void
+abbrev pub by_reply : Parts → List Effect → Option (Unit {0}) → Handled
+by_reply t outs None = Void outs
+by_reply t outs (Some u) = Took t outs
+
+abbrev pub coord_heard : Parts → Served Coord (Unit {0}) → Handled
+coord_heard t r = by_reply (with_coord t r.part) r.outs r.reply
+
+abbrev pub handle_other : ℕ → Disk → Parts → ℕ → Message → Handled
+handle_other n d t from (message.Told m) = handle_ends n d t from m.ack m.ends (last_end m.ends)
+handle_other n d t from (message.Acked m) = coord_heard t (acked from m.act d.intents t.coord)
+handle_other n d t from (message.Query m) = Took t (answer_query from m.act d.intents t.coord)
+handle_other n d t from (message.Hello m) = handle_hello d t m.node m.inc
+handle_other n d t from m = Void []
+
+abbrev pub handle_answer : ℕ → Disk → Parts → ℕ → Message → Option (Asked × Reply) → Handled
+handle_answer n d t from m None = handle_other n d t from m
+handle_answer n d t from m (Some a) = coord_heard t (heard from a.0 a.1 d.intents t.coord)
+
+abbrev pub handle_ask : ℕ → Disk → Parts → ℕ → Message → Option (Head × Ask) → Handled
+handle_ask n d t from m None = handle_answer n d t from m (answers m)
+handle_ask n d t from m (Some a) = serve n d t from a.0 a.1
+
+abbrev pub handle : ℕ → Disk → Parts → ℕ → Message → Handled
+handle n d t from m = handle_ask n d t from m (asks m)
+
+-- ---- messages to itself
+
+-- a node within a step
+pub record Here : Type 0 where
+  pub disk : Disk
+  pub parts : Parts
+
+-- what was done so far, and the messages to itself that wait, first sent first
+pub record Ran : Type 0 where
+  pub here : Here
+  pub outs : List Effect
+  pub queue : List Message
+
+abbrev pub first_done : Effect → Ran → Ran
+first_done e r = record r { outs = e ∷ r.outs }
+
+abbrev pub first_queued : Message → Ran → Ran
+first_queued m r = record r { queue = m ∷ r.queue }
+
+-- A handler's effects: work is done on the disk, and what goes to the node itself waits.
+abbrev pub ran : ℕ → Parts → List Effect → Disk → Ran
+ran n t [] d = record { here = record { disk = d; parts = t }; outs = []; queue = [] }
+ran n t (Say b ∷ es) d = first_done (Say b) (ran n t es d)
+ran n t (Do w ∷ es) d = first_done (Do w) (ran n t es (worked w d))
+ran n t (Send to m ∷ es) d = let r = ran n t es d in if to == n then first_queued m r else first_done (Send to m) r
+
+abbrev pub ran_handled : ℕ → Here → Handled → Ran
+ran_handled n h (Void outs) = ran n h.parts outs h.disk
+ran_handled n h (Took t outs) = ran n t outs h.disk
+
+-- the messages that wait, one after another
+abbrev pub handle_all : ℕ → List Message → Here → Ran
+handle_all n [] h = record { here = h; outs = []; queue = [] }
+handle_all n (m ∷ ms) h =
+    let r = ran_handled n h (handle n h.disk h.parts n m) in
+    let t = handle_all n ms r.here in
+    record { here = t.here; outs = r.outs ++ t.outs; queue = r.queue ++ t.queue }
+
+abbrev pub next_round : ℕ → Ran → Ran
+next_round n r =
+    let t = handle_all n r.queue r.here in
+    record { here = t.here; outs = r.outs ++ t.outs; queue = t.queue }
+
+-- First sent first handled is round by round. What a message leads to stands further on in the protocol, so 24 rounds are
+-- more than enough.
+abbrev pub rounds : ℕ → ℕ → Ran → Ran
+rounds n zero r = r
+rounds n (suc k) r = elim r.queue [ [] ↦ r | m ∷ ms ↦ rounds n k (next_round n r) ]
+
+abbrev pub most_rounds : ℕ
+most_rounds = 24
+
+-- what a node did, with all messages to itself
+abbrev pub whole : ℕ → Parts → List Effect → Disk → Ran
+whole n t outs d = rounds n most_rounds (ran n t outs d)
