@@ -4,7 +4,7 @@ use Rattle.arj_journal.specs.declared.header.Header.{Header}
 use Rattle.arj_model.specs.Actions.{Act}
 use Rattle.arj_model.specs.Last.{is_among}
 use Rattle.arj_model.specs.Past.{Asked}
-use Rattle.arj_model.specs.Seen.{Seen}
+use Rattle.arj_engine.specs.Seen.{Seen}
 use Rattle.arj_engine.specs.Object.{Obj, ended_by}
 use Rattle.arj_engine.specs.Change.{IsEnded}
 use Rattle.arj_engine.specs.Keeps.{Machine, Keeps, ObjectStands, ident}

@@ -12,8 +12,8 @@ use Rattle.arj_model.specs.Actions.{Act, Placed, has_end}
 use Rattle.arj_model.specs.Serial.{Answers, writes_on}
 use Rattle.arj_model.specs.Last.{first_values, count_tops, last_writer, is_among}
 use Rattle.arj_model.specs.Past.{Asked}
-use Rattle.arj_model.specs.Follows.{object_used}
-use Rattle.arj_model.specs.Seen.{Seen}
+use Rattle.arj_model.specs.Refusals.{object_used}
+use Rattle.arj_engine.specs.Seen.{Seen}
 use Rattle.arj_engine.specs.Object.{Obj, ended_by}
 use Rattle.arj_engine.specs.Change.{IsEnded}
 use Rattle.arj_engine.specs.Keeps.{Machine, Keeps, Up, IsAsked, IsSingle, IsHeldBelow, ObjectStands, WorkingFits, IsOpen, ident, calls_by, serial_seen, writes_seen, now}
@@ -35,6 +35,8 @@ end_seen s committings committed at count i = record {
   ended = s.ended ++ record { at = at; it = i } ∷ [];
   halts = s.halts;
   recovered = s.recovered;
+  excluded = s.excluded;
+  included = s.included;
   rows = drop_rows (ident i) s.rows;
   down = s.down;
   inc = s.inc;
@@ -135,6 +137,7 @@ keeps_after header accepted s m m' i act a commit committings committed at count
   ended_below = all_append (λ f. f.it < length s.acts) s.ended (record { at = at; it = i } ∷ []) k.ended_below (e.going.begun, tt);
   committed_below = below;
   found = k.found;
+  stores = k.stores;
   inc = k.inc;
   halts = k.halts;
   roots = roots_more s accepted i act a e k.roots;

@@ -16,8 +16,8 @@ use Rattle.arj_model.specs.Calls.{Said, made_in, call_of}
 use Rattle.arj_model.specs.Serial.{Answers, writes_on, touches}
 use Rattle.arj_model.specs.Last.{is_among}
 use Rattle.arj_model.specs.Past.{Asked}
-use Rattle.arj_model.specs.Follows.{objects_from, used_by, is_root, object_used, with_object}
-use Rattle.arj_model.specs.Seen.{Seen}
+use Rattle.arj_model.specs.Refusals.{objects_from, used_by, is_root, object_used, with_object}
+use Rattle.arj_engine.specs.Seen.{Seen}
 use Rattle.arj_engine.specs.Object.{Obj}
 use Rattle.arj_engine.specs.Keeps.{Keeps, Up, Machine, IsOpen, IsAlone, IsAsked, IsBelow, IsHeldBelow, ObjectStands, WorkingFits, HaltsFit, calls_by, calls_made, row_mode, calls_mode, now, ident}
 use Rattle.arj_engine.specs.Change.{IsCounted, IsBegun}
@@ -61,6 +61,7 @@ keeps_later header accepted s m n c k = record {
   ended_below = k.ended_below;
   committed_below = k.committed_below;
   found = k.found;
+  stores = k.stores;
   inc = k.inc;
   halts = k.halts;
   roots = k.roots;
@@ -209,6 +210,7 @@ keeps_begin header accepted s m n l asked k up unknown room c no_use root_below 
   ended_below = all_map (λ e. e.it < length s.acts) (λ e. e.it < length (a ∷ s.acts)) (λ e lt. omega (arith, lt)) s.ended k.ended_below;
   committed_below = all_map (λ e. e.it < length s.acts) (λ e. e.it < length (a ∷ s.acts)) (λ e lt. omega (arith, lt)) s.committed k.committed_below;
   found = k.found;
+  stores = k.stores;
   inc = k.inc;
   halts = halts_up s.down (length s.acts) (length (a ∷ s.acts)) s.halts up k.halts;
   roots = all_push (λ q. IsBelow (length (a ∷ s.acts)) (root_in q.path)) accepted asked

@@ -21,10 +21,10 @@ use Rattle.arj_journal.specs.declared.header.Header.{Header}
 use Rattle.arj_text.specs.Words.{answer_text}
 use Rattle.arj_model.specs.Actions.{Act, Placed, has_end, top_in}
 use Rattle.arj_model.specs.Calls.{Said, Call, made_in, kept}
-use Rattle.arj_model.specs.Follows.{object_used, objects_from}
+use Rattle.arj_model.specs.Refusals.{object_used, objects_from}
 use Rattle.arj_model.specs.Last.{first_values, is_among, count_tops, last_writer}
 use Rattle.arj_model.specs.Past.{Asked}
-use Rattle.arj_model.specs.Seen.{Seen}
+use Rattle.arj_engine.specs.Seen.{Seen}
 use Rattle.arj_model.specs.Serial.{Answers, run, arrange, serial_less, touches, writes_on}
 use Rattle.arj_engine.specs.declared.object.Row.{Row as Lock}
 use Rattle.arj_engine.specs.Change.{IsUsed}

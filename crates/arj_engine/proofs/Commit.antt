@@ -10,7 +10,7 @@ use Rattle.arj_model.specs.Calls.{Call, kept}
 use Rattle.arj_model.specs.Serial.{Answers, serial_less, writes_on, touches}
 use Rattle.arj_model.specs.Last.{first_values, count_tops, last_writer, is_among}
 use Rattle.arj_model.specs.Past.{Asked}
-use Rattle.arj_model.specs.Seen.{Seen}
+use Rattle.arj_engine.specs.Seen.{Seen}
 use Rattle.arj_model.proofs.Order.{all_arrange}
 use Rattle.arj_engine.specs.Object.{Obj, ended_by}
 use Rattle.arj_engine.specs.Change.{IsEnded}

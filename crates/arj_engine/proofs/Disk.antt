@@ -19,10 +19,10 @@ use Rattle.arj_model.specs.Calls.{Said, Call, kept, kept_in, call_of, top_of}
 use Rattle.arj_model.specs.Clean.{undecided_by}
 use Rattle.arj_model.specs.Last.{first_values, is_among, count_tops, state_after}
 use Rattle.arj_model.specs.Past.{Asked}
-use Rattle.arj_model.specs.Seen.{Seen}
+use Rattle.arj_engine.specs.Seen.{Seen}
 use Rattle.arj_model.specs.Serial.{arrange, run, serial_less, writes_on, touches}
 use Rattle.arj_engine.specs.Object.{Obj, has_write, new_state, old_state, put_over, state_with}
-use Rattle.arj_engine.specs.Keeps.{Machine, Keeps, ObjectStands, IsOpen, ident, calls_by, serial_seen, tops_seen, writes_seen, last_seen, next_seen, undecided_seen}
+use Rattle.arj_engine.specs.Keeps.{Machine, Keeps, ObjectStands, IsOpen, ident, calls_by, serial_seen, tops_seen, writes_seen, last_seen, next_with, next_made, next_seen, surviving_seen, undecided_seen}
 use Rattle.arj_engine.proofs.Steps.{later, with_act, with_abort, with_call, with_committing, with_halt, saying}
 use Rattle.arj_engine.proofs.Parts.{never, and_no, same_number}
 use Rattle.arj_engine.proofs.Alone.{top_alone}
@@ -30,6 +30,7 @@ use Rattle.arj_engine.proofs.Serials.{alone_top, top_of_is}
 use Rattle.arj_engine.proofs.Values.{unwritten}
 use Rattle.arj_engine.proofs.End.{AsksEnd, alone_act, call_line, committed_seen, now_commit, writes_commit}
 use Rattle.arj_engine.proofs.Ended.{Writes, Reads, writes_or_reads}
+use Rattle.arj_engine.proofs.Survive.{all_survive}
 use Rattle.arj_engine.proofs.Commit.{count_own, last_own, value_other, writes_other}
 
 -- The object's committed state is its last state.
@@ -97,17 +98,17 @@ module _ (header : Header) (accepted : List Asked) (s : Seen) (m : Machine) (i x
   stands : ObjectStands header s m.event x o
   stands = (k.up still).objects x o f
 
-  state_is_next : (w : Writes header s i x o) → state_with (ident i) x o w.value ≡ next_seen header s i x
+  state_is_next : (w : Writes header s i x o) → state_with (ident i) x o w.value ≡ next_made header s i x
   state_is_next w =
       let version : o.version + 1 ≡ count_tops (writes_seen s x ++ filter (writes_on x) (calls_by s i)) =
       ap (λ n. n + 1) stands.version ∙ sym (count_own header accepted s m k i x w.writes ((k.up still).uncommitted i going)) in
       (λ j. record { uid = object x; class = class_of (w.value_is j); version = version j; writer = sym (last_own header accepted s m k i x w.writes) j; payload = payload_of (w.value_is j) })
 
   -- it is the next state of an object that it wrote
-  pub new_is_next : (st : ObjectState) → new_state (ident i) x o ≡ Some st → (list_any (writes_on x) (calls_by s i) ≡ true) × (st ≡ next_seen header s i x)
+  pub new_is_next : (st : ObjectState) → new_state (ident i) x o ≡ Some st → (list_any (writes_on x) (calls_by s i) ≡ true) × (st ≡ next_made header s i x)
   new_is_next st e = by (writes_or_reads header accepted s m (k.up still) i x o going stands)
     where
-      by : Writes header s i x o ⊎ Reads s i x o → (list_any (writes_on x) (calls_by s i) ≡ true) × (st ≡ next_seen header s i x)
+      by : Writes header s i x o ⊎ Reads s i x o → (list_any (writes_on x) (calls_by s i) ≡ true) × (st ≡ next_made header s i x)
       by (inl w) = let n : new_state (ident i) x o ≡ Some (state_with (ident i) x o w.value) = new_of_writes header s i x o w in let same : st ≡ state_with (ident i) x o w.value = cc in (w.writes, same ∙ state_is_next w)
       by (inr r) = let n : new_state (ident i) x o ≡ None = new_of_reads s i x o r in cc
 
@@ -122,7 +123,7 @@ module _ (header : Header) (accepted : List Asked) (s : Seen) (m : Machine) (i x
 -- After a commit each object that the action used and changed has its new state as the last one, and each other the one
 -- that it had.
 module _ (header : Header) (accepted : List Asked) (s : Seen) (m : Machine) (i : ℕ) (act : Act) (a : Asked) (x : ℕ) (k : Keeps header accepted s m) (e : AsksEnd s i act a) (some : 0 < s.count) where
-  next_is_last : next_seen header s i x ≡ last_seen header (committed_seen s act i) x
+  next_is_last : next_made header s i x ≡ last_seen header (committed_seen s act i) x
   next_is_last = (λ j. state_after x (sym (now_commit header accepted s m i act a k e some) j x) (sym (writes_commit header accepted s m i act a x k e some) j))
 
   last_kept : list_any (writes_on x) (calls_by s i) ≡ false → last_seen header (committed_seen s act i) x ≡ last_seen header s x
@@ -174,20 +175,25 @@ module _ (header : Header) (accepted : List Asked) (s : Seen) (m : Machine) (i :
   pub last_halt : last_seen header (halted_seen s act) x ≡ last_seen header s x
   last_halt = last_same header s (halted_seen s act) x serial_halt
 
-  next_halt : next_seen header (halted_seen s act) i x ≡ next_seen header s i x
+  next_halt : next_made header (halted_seen s act) i x ≡ next_made header s i x
   next_halt = (λ j. state_after x (run (run (first_values header) (serial_halt j)) (calls_by s i) x) (filter (writes_on x) (serial_halt j) ++ filter (writes_on x) (calls_by s i)))
 
   pub undecided_halt : is_among (undecided_seen (halted_seen s act)) i ≡ true
   undecided_halt =
-      let here : undecided_by s.ended (top_in (act ∷ [])) ≡ Some i =
-      ap (undecided_by s.ended) (top_alone act e.kind) ∙ (λ j. cond (has_end s.ended (e.id j)) None (Some (e.id j))) ∙ (λ j. cond (e.going.going j) None (Some i)) in
-      let before : List ℕ = filter_map (λ (p : Placed (List Act)). undecided_by s.ended (top_in p.it)) s.committings in
-      ap (λ ns. is_among ns i) (filter_map-append (λ (p : Placed (List Act)). undecided_by s.ended (top_in p.it)) s.committings (call_line s act ∷ []) ∙ (λ j. before ++ cons_option (here j) []))
+      let here : undecided_by s.ended s.recovered (top_in (act ∷ [])) ≡ Some i =
+      (λ j. undecided_by s.ended (k.found j) (top_in (act ∷ []))) ∙ ap (undecided_by s.ended []) (top_alone act e.kind)
+      ∙ (λ j. cond (has_end s.ended (e.id j) || false) None (Some (e.id j))) ∙ (λ j. cond (e.going.going j || false) None (Some i)) in
+      let before : List ℕ = filter_map (λ (p : Placed (List Act)). undecided_by s.ended s.recovered (top_in p.it)) s.committings in
+      ap (λ ns. is_among ns i) (filter_map-append (λ (p : Placed (List Act)). undecided_by s.ended s.recovered (top_in p.it)) s.committings (call_line s act ∷ []) ∙ (λ j. before ++ cons_option (here j) []))
       ∙ list_any-append (λ n. n == i) before (i ∷ [])
       ∙ or_right (is_among before i) ((i == i) || false) (or_left (i == i) false (same_number i))
 
+  -- all its calls survive
+  survive_halt : surviving_seen (halted_seen s act) i ≡ calls_by s i
+  survive_halt = all_survive (length s.acts) s.committed s.said i k.said
+
   pub halted_state : (o : Obj) (st : ObjectState) → m.object x ≡ Some o → new_state (ident i) x o ≡ Some st
-      → (st ≡ next_seen header (halted_seen s act) i x) × (list_any (writes_on x) (calls_by (halted_seen s act) i) ≡ true) × (is_among (undecided_seen (halted_seen s act)) i ≡ true)
+      → (st ≡ next_seen header (halted_seen s act) i x) × (list_any (writes_on x) (surviving_seen (halted_seen s act) i) ≡ true) × (is_among (undecided_seen (halted_seen s act)) i ≡ true)
   halted_state o st f new =
       let n = new_is_next header accepted s m i x o k e.up e.going f st new in
-      (n.1 ∙ sym next_halt, n.0, undecided_halt)
+      (n.1 ∙ sym next_halt ∙ ap (λ cs. next_with header (halted_seen s act) cs x) (sym survive_halt), ap (list_any (writes_on x)) survive_halt ∙ n.0, undecided_halt)

@@ -10,8 +10,8 @@ use Rattle.arj_model.specs.Calls.{Call, Top, kept, top_of}
 use Rattle.arj_model.specs.Serial.{Values, after, run, arrange, serial_less, writes_on}
 use Rattle.arj_model.specs.Last.{first_values}
 use Rattle.arj_model.specs.Past.{Asked}
-use Rattle.arj_model.specs.Follows.{object_used}
-use Rattle.arj_model.specs.Seen.{Seen}
+use Rattle.arj_model.specs.Refusals.{object_used}
+use Rattle.arj_engine.specs.Seen.{Seen}
 use Rattle.arj_model.proofs.Order.{arrange_last}
 use Rattle.arj_engine.specs.Keeps.{Machine, Keeps, IsOpen, IsAlone, ident, calls_by, tops_seen, serial_seen, now, writes_seen}
 use Rattle.arj_engine.proofs.Steps.{with_committing, with_commit}

@@ -10,7 +10,7 @@ use Rattle.arj_journal.specs.declared.header.Header.{Header}
 use Rattle.arj_model.specs.Serial.{run, writes_on, touches}
 use Rattle.arj_model.specs.Last.{is_among}
 use Rattle.arj_model.specs.Past.{Asked}
-use Rattle.arj_model.specs.Seen.{Seen}
+use Rattle.arj_engine.specs.Seen.{Seen}
 use Rattle.arj_engine.specs.Object.{Obj, released, has_write, with_committed, ended_by}
 use Rattle.arj_engine.specs.Change.{IsEnded}
 use Rattle.arj_engine.specs.Keeps.{Machine, Keeps, Up, ObjectStands, WorkingFits, IsOpen, ident, calls_by, calls_mode, now}

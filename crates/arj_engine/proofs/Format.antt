@@ -6,13 +6,14 @@ use Rattle.arj_base.specs.State.{state_bytes}
 use Rattle.arj_class.specs.Table.{class_of}
 use Rattle.arj_class.specs.Forms.{payload_of}
 use Rattle.arj_base.specs.Uid.{object}
-use Rattle.arj_disk.specs.Files.{FileMap, held}
+use Rattle.arj_disk.specs.Files.{FileMap}
+use Rattle.arj_engine.specs.Object.{object_held}
 use Rattle.arj_journal.specs.declared.header.Header.{Header}
 use Rattle.arj_journal.specs.declared.header.ObjectLine.{ObjectLine}
 use Rattle.arj_text.specs.declared.label.Label.{Label}
 use Rattle.arj_model.specs.Last.{object_line, value_of_line, first_values}
 use Rattle.arj_model.specs.Past.{nothing_yet}
-use Rattle.arj_model.specs.Seen.{Seen, seen}
+use Rattle.arj_engine.specs.Seen.{Seen, seen}
 use Rattle.arj_engine.specs.Form.{HeaderInForm}
 use Rattle.arj_engine.specs.Object.{Obj, object_in, views, first_object, put_first, PutsFirsts}
 use Rattle.arj_engine.specs.Keeps.{Keeps, Machine, IsOpen, ObjectStands, last_seen}
@@ -56,17 +57,17 @@ module _ (header : Header) (engine : Engine) (old new : FileMap) (form : HeaderI
   no_one : {P : Type 0} (i : ℕ) → IsOpen s i → P
   no_one i going = absurd (let lt : i < 0 = going.begun in omega arith)
 
-  held_first : (x : ℕ) → is_some (object_line header x) ≡ true → held new x ≡ Some (state_bytes (last_seen header s x))
+  held_first : (x : ℕ) → is_some (object_line header x) ≡ true → object_held new x ≡ Some (state_bytes (last_seen header s x))
   held_first x there = by (m.object x) refl (some_same x ∙ there)
     where
-      by : (o : Option Obj) → m.object x ≡ o → is_some o ≡ true → held new x ≡ Some (state_bytes (last_seen header s x))
+      by : (o : Option Obj) → m.object x ≡ o → is_some o ≡ true → object_held new x ≡ Some (state_bytes (last_seen header s x))
       by None e is = cc
       by (Some o) e is =
           let f = first_of x o e in
           let value : o.value ≡ first_values header x = ap (λ (p : Obj). p.value) f.2 ∙ sym (ap value_of_line f.1) in
           let version : o.version ≡ 0 = ap (λ (p : Obj). p.version) f.2 in
           let writer = ap (λ (p : Obj). p.writer) f.2 in
-          puts x ∙ ap (λ o. put_first x o (held old x)) e
+          puts x ∙ ap (λ o. put_first x o (object_held old x)) e
           ∙ (λ i. Some (state_bytes (record { uid = object x; class = class_of (value i); version = version i; writer = writer i; payload = payload_of (value i) })))
 
   keeps_first : Keeps header [] s m
@@ -78,6 +79,7 @@ module _ (header : Header) (engine : Engine) (old new : FileMap) (form : HeaderI
     ended_below = tt;
     committed_below = tt;
     found = refl;
+    stores = (refl, refl);
     inc = refl;
     halts = refl;
     roots = tt;

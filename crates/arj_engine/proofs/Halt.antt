@@ -4,8 +4,8 @@ use Rattle.std.specs.List.{AllByRecursion}
 use Rattle.arj_journal.specs.declared.header.Header.{Header}
 use Rattle.arj_model.specs.Actions.{Act, Placed, root_in}
 use Rattle.arj_model.specs.Past.{Asked}
-use Rattle.arj_model.specs.Follows.{objects_from, used_by, object_used, is_root, with_object}
-use Rattle.arj_model.specs.Seen.{Seen}
+use Rattle.arj_model.specs.Refusals.{objects_from, used_by, object_used, is_root, with_object}
+use Rattle.arj_engine.specs.Seen.{Seen}
 use Rattle.arj_engine.specs.Change.{IsDown}
 use Rattle.arj_engine.specs.Keeps.{Machine, Keeps, IsAsked, HaltsFit, IsBelow}
 use Rattle.arj_engine.proofs.Steps.{with_committing, with_halt}
@@ -53,6 +53,7 @@ keeps_halt header accepted s m m' i act a k e d =
       ended_below = k.ended_below;
       committed_below = k.committed_below;
       found = k.found;
+      stores = k.stores;
       inc = k.inc;
       halts = (s.count + 1, λ j. none j ++ record { at = s.count + 1; it = record { node = 1; begun = length s.acts } } ∷ []);
       roots = roots_more s accepted i act a e k.roots;

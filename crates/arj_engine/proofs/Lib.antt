@@ -1,4 +1,5 @@
 pub mod Abort
+pub mod Aborted
 pub mod Actions
 pub mod After
 pub mod Alone
@@ -23,7 +24,9 @@ pub mod RanCall
 pub mod RanEnds
 pub mod Refusals
 pub mod Rows
+pub mod Seen
 pub mod Serials
 pub mod Steps
+pub mod Survive
 pub mod Used
 pub mod Values

@@ -11,7 +11,8 @@ use Rattle.arj_base.specs.declared.mode.Mode.{Mode}
 use Rattle.arj_base.specs.declared.uid.Uid.{Uid}
 use Rattle.arj_base.specs.declared.state.ObjectState.{ObjectState}
 use Rattle.arj_base.specs.State.{state_bytes}
-use Rattle.arj_disk.specs.Files.{FileMap, held}
+use Rattle.arj_disk.specs.Files.{FileMap}
+use Rattle.arj_engine.specs.Object.{object_held}
 use Rattle.arj_model.specs.Last.{is_among}
 use Rattle.arj_class.specs.declared.op.Op.{Op}
 use Rattle.arj_class.specs.Table.{class_of, value_after, is_write}
@@ -93,7 +94,7 @@ pub puts_more : (action : Uid) (os : List (Option Obj)) (used : List ℕ) (i : �
 puts_more action os used i a b c lt before here y =
     here y
     ∙ (ap (λ f. if is_among (get_or used i 0 ∷ []) y then put_over (new_state_in action os y) f else f) (before y)
-    ∙ (joined (is_among (take i used) y) (is_among (get_or used i 0 ∷ []) y) (new_state_in action os y) (held a y) ∙ ap (λ q. if q then put_over (new_state_in action os y) (held a y) else held a y) (sym among)))
+    ∙ (joined (is_among (take i used) y) (is_among (get_or used i 0 ∷ []) y) (new_state_in action os y) (object_held a y) ∙ ap (λ q. if q then put_over (new_state_in action os y) (object_held a y) else object_held a y) (sym among)))
   where
     joined : (p q : Bool) (s : Option ObjectState) (f : Option (List ℕ)) → (if q then put_over s (if p then put_over s f else f) else (if p then put_over s f else f)) ≡ (if p || q then put_over s f else f)
     joined true true None f = refl
@@ -115,8 +116,8 @@ pub some_put : (action : Uid) (os : List (Option Obj)) (used : List ℕ) (i : �
     → PutsStates action os (take i used) a b → PutsSomeStates action os (get_or used i 0 ∷ []) b c → PutsSomeStates action os used a c
 some_put action os used i a b c lt before here y =
     ⊎_elim
-    (λ (same : held c y ≡ held b y). earlier (is_among (take i used) y) refl (new_state_in action os y) refl (same ∙ before y))
-    (λ (put : (is_among (get_or used i 0 ∷ []) y ≡ true) × (s : ObjectState) × (new_state_in action os y ≡ Some s) × (held c y ≡ Some (state_bytes s))).
+    (λ (same : object_held c y ≡ object_held b y). earlier (is_among (take i used) y) refl (new_state_in action os y) refl (same ∙ before y))
+    (λ (put : (is_among (get_or used i 0 ∷ []) y ≡ true) × (s : ObjectState) × (new_state_in action os y ≡ Some s) × (object_held c y ≡ Some (state_bytes s))).
     inr (list_any_at (λ m. m == y) used i 0 lt (one (get_or used i 0 == y) put.0), put.1, put.2, put.3))
     (here y)
   where
@@ -127,8 +128,8 @@ some_put action os used i a b c lt before here y =
     within : is_among (take i used) y ≡ true → is_among used y ≡ true
     within e = ap (λ ns. is_among ns y) (sym (take-append-drop i used)) ∙ (list_any-append (λ m. m == y) (take i used) (drop i used) ∙ or_left _ _ e)
 
-    earlier : (q : Bool) → is_among (take i used) y ≡ q → (n : Option ObjectState) → new_state_in action os y ≡ n → held c y ≡ (if q then put_over n (held a y) else held a y)
-        → (held c y ≡ held a y) ⊎ ((is_among used y ≡ true) × (s : ObjectState) × (new_state_in action os y ≡ Some s) × (held c y ≡ Some (state_bytes s)))
+    earlier : (q : Bool) → is_among (take i used) y ≡ q → (n : Option ObjectState) → new_state_in action os y ≡ n → object_held c y ≡ (if q then put_over n (object_held a y) else object_held a y)
+        → (object_held c y ≡ object_held a y) ⊎ ((is_among used y ≡ true) × (s : ObjectState) × (new_state_in action os y ≡ Some s) × (object_held c y ≡ Some (state_bytes s)))
     earlier false among n new e = inl e
     earlier true among None new e = inl e
     earlier true among (Some s) new e = inr (within among, s, new, e)
@@ -137,8 +138,8 @@ some_put action os used i a b c lt before here y =
 pub firsts_more : (os : List (Option Object)) (i : ℕ) (place : Option Object) (a b c : FileMap) → i < length os → place ≡ get_or os i place
     → PutsFirsts (views (take i os)) a b → PutsFirst i (option_map view place) b c → PutsFirsts (views (take (i + 1) os)) a c
 firsts_more os i place a b c lt read before here y =
-    here y ∙ (by_number y i (λ q. (if q then put_first i (option_map view place) (held b i) else held b y) ≡ put_first y (if q then option_map view place else object_in us y) (held a y)) at_i (λ n. before y)
-    ∙ ap (λ o. put_first y o (held a y)) (sym pushed))
+    here y ∙ (by_number y i (λ q. (if q then put_first i (option_map view place) (object_held b i) else object_held b y) ≡ put_first y (if q then option_map view place else object_in us y) (object_held a y)) at_i (λ n. before y)
+    ∙ ap (λ o. put_first y o (object_held a y)) (sym pushed))
   where
     us : List (Option Obj)
     us = views (take i os)
@@ -146,10 +147,10 @@ firsts_more os i place a b c lt read before here y =
     long : length (views (take i os)) ≡ i
     long = views-length (take i os) ∙ length-take-le i os (omega arith)
 
-    at_i : y ≡ i → put_first i (option_map view place) (held b i) ≡ put_first y (option_map view place) (held a y)
+    at_i : y ≡ i → put_first i (option_map view place) (object_held b i) ≡ put_first y (option_map view place) (object_held a y)
     at_i e =
-        ap (λ f. put_first i (option_map view place) f) (before i ∙ ap (λ o. put_first i o (held a i)) (object_in_past (views (take i os)) i (omega (arith, long))))
-        ∙ ap (λ z. put_first z (option_map view place) (held a z)) (sym e)
+        ap (λ f. put_first i (option_map view place) f) (before i ∙ ap (λ o. put_first i o (object_held a i)) (object_in_past (views (take i os)) i (omega (arith, long))))
+        ∙ ap (λ z. put_first z (option_map view place) (object_held a z)) (sym e)
 
     pushed : object_in (views (take (i + 1) os)) y ≡ (if y == i then option_map view place else object_in (views (take i os)) y)
     pushed =

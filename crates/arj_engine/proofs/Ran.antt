@@ -1,13 +1,14 @@
 -- From what an event changes in memory to what holds of the run that is longer by it: refused events and beginnings.
-use Rattle.std.proofs.Common.{◌≡◌, ◌<◌, ◌≤◌, ◌⊎◌, ℕ, ◌+◌, List, [], ◌∷◌, ◌++◌, length, filter, Bool, true, false, cond, not, ◌==◌, ◌&&◌, Option, Some, None, is_some, MatchOption, refl, sym, ◌∙◌, ap, subst, arith}
+use Rattle.std.proofs.Common.{◌≡◌, ◌<◌, ◌≤◌, ◌⊎◌, inl, ℕ, ◌+◌, List, [], ◌∷◌, ◌++◌, length, filter, Bool, true, false, cond, not, ◌==◌, ◌&&◌, Option, Some, None, is_some, MatchOption, refl, sym, ◌∙◌, ap, subst, arith}
 use Rattle.std.proofs.lemmas.Bool.{eqb-true}
 use Rattle.std.proofs.lemmas.Bool.Decides.{nat_tests}
 use Rattle.std.proofs.lemmas.List.{append-nil, append_assoc}
 use Rattle.std.proofs.lemmas.List.Elements.{filter-append}
-use Rattle.std.specs.List.{list_any}
+use Rattle.std.specs.List.{list_any, list_all}
 use Rattle.arj_base.specs.Count.{Rose}
 use Rattle.arj_base.specs.State.{state_bytes}
-use Rattle.arj_disk.specs.Files.{FileMap, held}
+use Rattle.arj_disk.specs.Files.{FileMap}
+use Rattle.arj_engine.specs.Object.{object_held}
 use Rattle.arj_journal.specs.declared.body.Body.{Body}
 use Rattle.arj_journal.specs.declared.body.Body.TheVariants as body
 use Rattle.arj_journal.specs.declared.body.Kind.TheVariants as kind
@@ -20,12 +21,13 @@ use Rattle.arj_model.specs.Actions.{Act, acts}
 use Rattle.arj_model.specs.Serial.{Answers}
 use Rattle.arj_model.specs.Last.{first_values, object_line, is_among}
 use Rattle.arj_model.specs.Past.{Past, Asked, asked_of, block, next}
-use Rattle.arj_model.specs.Follows.{refusal, Accepted, first_cause, next_uid, incarnation, answers_to, asks_by, is_answer_to, is_ask_by}
-use Rattle.arj_model.specs.Causes.{Moment, ConflictsHaveCause, is_conflict, IsAnswered, HasRoomFor, IsPastLabels, count_halts, is_halt, is_full}
+use Rattle.arj_model.specs.Refusals.{refusal, first_cause, next_uid, incarnation, answers_to, asks_by, is_answer_to, is_ask_by}
+use Rattle.arj_model.specs.Follows.{Accepted}
+use Rattle.arj_model.specs.Causes.{Moment, ConflictsHaveCause, is_conflict, IsAnswered, HasRoom, IsPastLabels, count_halts, is_halt, is_full, is_late, is_of_one}
 use Rattle.arj_class.specs.Table.{writes}
-use Rattle.arj_model.specs.Seen.{Seen, seen, see}
-use Rattle.arj_model.proofs.Seen.{seen-append}
-use Rattle.arj_engine.specs.Keeps.{Keeps, Machine, ArePlain, ident, serial_seen, last_seen, next_seen, undecided_seen, calls_by}
+use Rattle.arj_engine.specs.Seen.{Seen, seen, see}
+use Rattle.arj_engine.proofs.Seen.{seen-append}
+use Rattle.arj_engine.specs.Keeps.{Keeps, Machine, ArePlain, ident, serial_seen, last_seen, next_seen, undecided_seen, surviving_seen}
 use Rattle.arj_engine.specs.Engine.{Stands, Ran, machine_of}
 use Rattle.arj_engine.specs.Events.{Begins, Refuses, Accepts_begin, begin_refusal}
 use Rattle.arj_engine.specs.declared.engine.Engine.{Engine}
@@ -67,9 +69,9 @@ asks_more accepted a l = ap length (filter-append (λ q. is_ask_by l q.event) ac
 -- What is shown of a run, over what is read of its journal.
 pub record Shows (header : Header) (s : Seen) (file : FileMap) : Type 0 where
   pub serial : Answers (first_values header) (serial_seen s)
-  pub holds : s.down ≡ false → (x : ℕ) → is_some (object_line header x) ≡ true → held file x ≡ Some (state_bytes (last_seen header s x))
-  pub holds_or_next : (x : ℕ) → is_some (object_line header x) ≡ true → (held file x ≡ Some (state_bytes (last_seen header s x)))
-      ⊎ ((id : ℕ) × (is_among (undecided_seen s) id ≡ true) × (list_any (λ c. (c.x == x) && writes c.op) (calls_by s id) ≡ true) × (held file x ≡ Some (state_bytes (next_seen header s id x))))
+  pub holds : s.down ≡ false → (x : ℕ) → is_some (object_line header x) ≡ true → object_held file x ≡ Some (state_bytes (last_seen header s x))
+  pub holds_or_next : (x : ℕ) → is_some (object_line header x) ≡ true → (object_held file x ≡ Some (state_bytes (last_seen header s x)))
+      ⊎ ((id : ℕ) × (is_among (undecided_seen s) id ≡ true) × (list_any (λ c. (c.x == x) && writes c.op) (surviving_seen s id) ≡ true) × (object_held file x ≡ Some (state_bytes (next_seen header s id x))))
 
 pub shows_of : (header : Header) (past : Past) (engine : Engine) (file : FileMap) → Stands header past engine file → Shows header (seen past.lines) file
 shows_of header past engine file st = record { serial = st.serial; holds = st.holds; holds_or_next = st.holds_or_next }
@@ -94,12 +96,13 @@ stands_after header past e bodies engine file s is count keeps shows halts alone
 
 -- Refused events.
 
-pub refused_moment : (header : Header) (past : Past) (e : Event) (c : ℕ) → refusal header past e ≡ Some c → Moment header past e (body.Refused c ∷ [])
-refused_moment header past e c is = record {
-  step = (let P : Option ℕ → Type 0 = λ o. MatchOption o (Accepted header past e (body.Refused c ∷ [])) (λ d. body.Refused c ∷ [] ≡ body.Refused d ∷ []) in subst P (sym is) refl);
+pub refused_moment : (header : Header) (past : Past) (e : Event) (c : ℕ) → refusal header past e ≡ Some c → HasRoom header past e (body.Refused c ∷ []) → Moment header past e (body.Refused c ∷ [])
+refused_moment header past e c is room = record {
+  step = inl (let P : Option ℕ → Type 0 = λ o. MatchOption o (Accepted header past e (body.Refused c ∷ [])) (λ d. body.Refused c ∷ [] ≡ body.Refused d ∷ []) in subst P (sym is) refl);
+  alone = (let P : Option ℕ → Type 0 = λ o. MatchOption o (list_all (is_of_one e) (body.Refused c ∷ []) ≡ true) (λ d. Unit {0}) in subst P (sym is) tt);
   conflict = matched (refusal header past e) is;
   prompt = (let P : Option ℕ → Type 0 = λ o. MatchOption o (IsAnswered past.lines e (body.Refused c ∷ [])) (λ d. Unit {0}) in subst P (sym is) tt);
-  room = (let P : Option ℕ → Type 0 = λ o. MatchOption o (HasRoomFor past e) (λ d. Unit {0}) in subst P (sym is) tt);
+  room = room;
 }
   where
     matched : (o : Option ℕ) → o ≡ Some c → MatchOption o (ConflictsHaveCause past e (body.Refused c ∷ [])) (λ d. filter is_conflict (body.Refused c ∷ []) ≡ [])
@@ -107,11 +110,11 @@ refused_moment header past e c is = record {
     matched (Some d) e = refl
 
 pub refused_ran : (header : Header) (past : Past) (e : Event) (old new : Engine) (file : FileMap) (stops : ℕ) (before after : List Line) (c : ℕ)
-    → Stands header past old file → refusal header past e ≡ Some c → Refuses (machine_of old) (machine_of new) c before after → Ran header past e new file stops stops before after
-refused_ran header past e old new file stops before after c st is r = record {
+    → Stands header past old file → refusal header past e ≡ Some c → HasRoom header past e (body.Refused c ∷ []) → Refuses (machine_of old) (machine_of new) c before after → Ran header past e new file stops stops before after
+refused_ran header past e old new file stops before after c st is room r = record {
   bodies = body.Refused c ∷ [];
   lines = r.1 ∙ ap (λ n. before ++ block (n + 1) (body.Refused c ∷ [])) st.count;
-  moment = refused_moment header past e c is;
+  moment = refused_moment header past e c is room;
   stands = stands_after header past e (body.Refused c ∷ []) new file (later (seen past.lines)) (see_refused (seen past.lines) c)
       (r.0.event ∙ ap (λ n. n + 1) st.count)
       (keeps_later header past.accepted (seen past.lines) (machine_of old) (machine_of new) r.0 st.keeps)
@@ -159,11 +162,12 @@ accepted_begin m l n is = by (n == 1) refl m.down refl (m.number l) refl is
 pub begin_moment : (header : Header) (past : Past) (m : Machine) (l : Label) (n : ℕ) → Keeps header past.accepted (seen past.lines) m → refusal header past (event.Begin l n) ≡ None → n ≡ 1 → m.count < 4096
     → Moment header past (event.Begin l n) (body.Began l kind.Top (ident m.count) None ∷ [])
 begin_moment header past m l n k is one room = record {
-  step = (let P : Option ℕ → Type 0 = λ o. MatchOption o (Accepted header past (event.Begin l n) bodies) (λ d. bodies ≡ body.Refused d ∷ []) in
-      subst P (sym is) (record { own = ap (λ u. body.Began l kind.Top u None ∷ []) uid; only = refl; answers = (tt, tt) }));
+  step = inl (let P : Option ℕ → Type 0 = λ o. MatchOption o (Accepted header past (event.Begin l n) bodies) (λ d. bodies ≡ body.Refused d ∷ []) in
+      subst P (sym is) (record { own = bodies; others = []; last = []; parts = refl; begins = ap (λ u. body.Began l kind.Top u None ∷ []) uid; ends = refl; only = refl; halts = refl; answers = tt }));
+  alone = (let P : Option ℕ → Type 0 = λ o. MatchOption o (list_all (is_of_one (event.Begin l n)) bodies ≡ true) (λ d. Unit {0}) in subst P (sym is) refl);
   conflict = (let P : Option ℕ → Type 0 = λ o. MatchOption o (ConflictsHaveCause past (event.Begin l n) bodies) (λ d. filter is_conflict bodies ≡ []) in subst P (sym is) refl);
   prompt = (let P : Option ℕ → Type 0 = λ o. MatchOption o (IsAnswered past.lines (event.Begin l n) bodies) (λ d. Unit {0}) in subst P (sym is) tt);
-  room = (let P : Option ℕ → Type 0 = λ o. MatchOption o (HasRoomFor past (event.Begin l n)) (λ d. Unit {0}) in subst P (sym is) not_full);
+  room = λ g late. not_full;
 }
   where
     bodies : List Body
@@ -219,8 +223,17 @@ begin_ran header past l n old new file stops before after st begins = by (begin_
 
     by : (o : Option ℕ) → begin_refusal m l n ≡ o → MatchOption o (Accepts_begin m (machine_of new) l before after) (λ c. Refuses m (machine_of new) c before after) → Ran header past (event.Begin l n) new file stops stops before after
     by None is a = accepted is a
-    by (Some c) is r = refused_ran header past (event.Begin l n) old new file stops before after c st (same ∙ is) r
+    by (Some c) is r = refused_ran header past (event.Begin l n) old new file stops before after c st (same ∙ is) (λ g late. early_begin (ap is_late (sym same) ∙ late)) r
+      where
+        early_begin : is_late (begin_refusal m l n) ≡ true → is_full past ≡ false
+        early_begin = by_tests (not (n == 1)) m.down (is_some (m.number l)) is
+          where
+            by_tests : (p q t : Bool) → first_cause ((1, p) ∷ (2, q) ∷ (4, t) ∷ []) ≡ Some c → is_late (first_cause ((1, p) ∷ (2, q) ∷ (4, t) ∷ [])) ≡ true → is_full past ≡ false
+            by_tests true q t is late = cc
+            by_tests false true t is late = cc
+            by_tests false false true is late = cc
+            by_tests false false false is late = cc
 
 -- one label too many
 pub begin_labels : (header : Header) (past : Past) (l : Label) (n : ℕ) (old : Engine) (file : FileMap) → Stands header past old file → begin_refusal (machine_of old) l n ≡ None → 4096 ≤ (machine_of old).count → IsPastLabels header past (event.Begin l n)
-begin_labels header past l n old file st is full = record { gives = tt; accepted = begin_same header past (machine_of old) l n st.keeps ∙ is; full = grind (arith, nat_tests, st.keeps.count, full) }
+begin_labels header past l n old file st is full = record { gives = refl; late = ap is_late (begin_same header past (machine_of old) l n st.keeps ∙ is); full = grind (arith, nat_tests, st.keeps.count, full) }

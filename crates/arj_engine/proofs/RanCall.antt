@@ -1,16 +1,19 @@
 -- From what an event changes in memory to what holds of the run that is longer by it: calls. And what the code needs so
 -- as to be safe.
-use Rattle.std.proofs.Common.{◌≡◌, ◌<◌, inl, ◌^◌, ℕ, ◌+◌, List, [], ◌∷◌, ◌++◌, length, filter, Bool, true, false, cond, ◌&&◌, ◌||◌, nat_lt, Option, Some, None, is_some, is_none, MatchOption, IfSome, refl, sym, ◌∙◌, ap, subst, arith}
+use Rattle.std.proofs.Common.{◌≡◌, ◌<◌, inl, ◌^◌, ℕ, ◌+◌, List, [], ◌∷◌, ◌++◌, length, filter, Bool, true, false, cond, ◌&&◌, ◌||◌, nat_lt, not, Option, Some, None, unwrap_or, is_some, is_none, MatchOption, IfSome, refl, sym, ◌∙◌, ap, subst, arith}
 use Rattle.std.proofs.lemmas.Bool.Decides.{nat_tests}
+use Rattle.std.proofs.lemmas.List.{append-nil}
 use Rattle.std.proofs.lemmas.List.Elements.{filter-append}
 use Rattle.std.specs.Option.{option_map}
 use Rattle.std.specs.Str.{bytes_eq}
+use Rattle.std.specs.List.{list_all}
 use Rattle.arj_base.specs.Count.{Rose}
 use Rattle.arj_base.specs.State.{state_bytes}
 use Rattle.arj_base.specs.Rows.{first_conflict}
 use Rattle.arj_base.specs.Uid.{object}
-use Rattle.arj_class.specs.Table.{class_of, op_mode, answer_of}
+use Rattle.arj_class.specs.Table.{has_op, class_of, op_mode, answer_of}
 use Rattle.arj_class.specs.declared.op.Op.{Op}
+use Rattle.arj_class.specs.declared.value.Value.{Value}
 use Rattle.arj_class.specs.declared.op.Answer.{Answer}
 use Rattle.arj_disk.specs.Files.{FileMap}
 use Rattle.arj_journal.specs.declared.body.Body.{Body}
@@ -23,9 +26,11 @@ use Rattle.arj_text.specs.Label.{name}
 use Rattle.arj_text.specs.Words.{answer_text}
 use Rattle.arj_model.specs.Actions.{Act, acts, act_in, path, uids, has_end}
 use Rattle.arj_model.specs.Past.{Past, Asked, asked_of, block}
-use Rattle.arj_model.specs.Follows.{refusal, Accepted, first_cause, answers_to, asks_by, is_ask_by, is_answer_to, last_asked, pending, AnswerFits, IsCallOf, is_own, may_stand}
-use Rattle.arj_model.specs.Causes.{Moment, ConflictsHaveCause, conflicts_by, conflict_of, is_conflict, IsAnswered, HasRoomFor, count_halts}
-use Rattle.arj_model.specs.Seen.{Seen, seen}
+use Rattle.arj_model.specs.Refusals.{waits_for, has_ended, refusal, first_cause, answers_to, asks_by, is_ask_by, is_answer_to, last_asked, pending}
+use Rattle.arj_model.specs.Follows.{Accepted, AnswerFits, IsCallOf}
+use Rattle.arj_model.specs.Own.{may_stand, halts_last, node_of}
+use Rattle.arj_model.specs.Causes.{Moment, ConflictsHaveCause, conflicts_by, conflict_of, is_conflict, IsAnswered, count_halts, is_of_one}
+use Rattle.arj_engine.specs.Seen.{Seen, seen}
 use Rattle.arj_engine.specs.declared.object.Row.{Row as Lock}
 use Rattle.arj_engine.specs.Object.{Obj, against, called, current}
 use Rattle.arj_engine.specs.Keeps.{Machine, ident, row_at}
@@ -40,7 +45,7 @@ use Rattle.arj_engine.proofs.Call.{keeps_call, keeps_met}
 use Rattle.arj_engine.proofs.Locks.{conflict_is}
 use Rattle.arj_engine.proofs.Disk.{last_call}
 use Rattle.arj_engine.proofs.Ran.{stands_after, refused_ran, count_more, answers_more, asks_more}
-use Rattle.arj_engine.proofs.RanEnds.{Found, found, same_name, plain_sum}
+use Rattle.arj_engine.proofs.RanEnds.{Found, found, open_ended, same_name, plain_sum}
 
 -- What the code needs follows from what the engine keeps.
 pub ready : (header : Header) (past : Past) (engine : Engine) (file : FileMap) → Stands header past engine file → stepped engine < 200000 → Ready (machine_of engine)
@@ -105,6 +110,29 @@ accepted_call m l x op i is number = by (is_over_by m (Some i)) refl
     by true e = let never : Some 6 ≡ None = sym (ap (λ b. cond b (Some 6) (rest (Some i))) e) ∙ sym here ∙ is in cc
     by false e = e
 
+-- and of an operation that the object's class has
+pub accepted_op : (m : Machine) (l : Label) (x : ℕ) (op : Op) (i : ℕ) (o : Obj) → call_refusal m l x op ≡ None → m.number l ≡ Some i → m.object x ≡ Some o → has_op (class_of o.value) op ≡ true
+accepted_op m l x op i o is number there = by (has_op (class_of o.value) op) (is_over_by m (Some i)) (is_too_many_by m (Some i) x) (sym here ∙ is)
+  where
+    here : call_refusal m l x op ≡ first_cause ((5, false) ∷ (6, is_over_by m (Some i)) ∷ (13, false) ∷ (14, not (has_op (class_of o.value) op)) ∷ (16, is_too_many_by m (Some i) x) ∷ [])
+    here = λ j. first_cause ((5, is_none (number j)) ∷ (6, is_over_by m (number j)) ∷ (13, is_none (there j)) ∷ (14, lacks_op_in (there j) op) ∷ (16, is_too_many_by m (number j) x) ∷ [])
+
+    by : (h over many : Bool) → first_cause ((5, false) ∷ (6, over) ∷ (13, false) ∷ (14, not h) ∷ (16, many) ∷ []) ≡ None → h ≡ true
+    by true over many e = refl
+    by false true many e = cc
+    by false false many e = cc
+
+-- the value of an object as it stands is of the object's class
+class_now : (o : Obj) → MatchOption o.working (Unit {0}) (λ w. class_of w ≡ class_of o.value) → class_of (current o) ≡ class_of o.value
+class_now o fits = by o.working fits
+  where
+    by : (w : Option Value) → MatchOption w (Unit {0}) (λ v. class_of v ≡ class_of o.value) → class_of (unwrap_or w o.value) ≡ class_of o.value
+    by None f = refl
+    by (Some v) f = f
+
+no_label : {P : Type 0} → false ≡ true → P
+no_label {P} g = cc
+
 module _ (header : Header) (past : Past) (l : Label) (x : ℕ) (op : Op) (old new : Engine) (file : FileMap) (stops : ℕ) (before after : List Line) (st : Stands header past old file) where
   abbrev m : Machine
   m = machine_of old
@@ -121,14 +149,31 @@ module _ (header : Header) (past : Past) (l : Label) (x : ℕ) (op : Op) (old ne
       let us : uids (path (acts past.lines) (name l)) ≡ ident i ∷ [] = ap uids f.path_is ∙ ap (λ u. u ∷ []) f.uid in
       ap (λ us. first_conflict us (object x) (op_mode op) s.rows) us ∙ conflict_is x i (op_mode op) s.rows o.rows ((st.keeps.up f.up).objects x o there).rows
 
-  moment_of : (b : Body) → refusal header past (event.Call l x op) ≡ None → is_own b ≡ false → may_stand (event.Call l x op) b ≡ true → AnswerFits (past.accepted ++ asked ∷ []) past.lines b
-      → filter is_conflict (b ∷ []) ≡ conflicts_by l (conflict_of past l x op) → is_answer_to (name l) b ≡ true → Moment header past (event.Call l x op) (b ∷ [])
-  moment_of b is own stand fits cause answers = record {
-    step = (let P : Option ℕ → Type 0 = λ o. MatchOption o (Accepted header past (event.Call l x op) (b ∷ [])) (λ d. b ∷ [] ≡ body.Refused d ∷ []) in
-        subst P (sym is) (record { own = ap (λ t. cond t (b ∷ []) []) own; only = (λ j. stand j && true); answers = (fits, tt) }));
+  -- what is waited for, of an action that is open
+  waits_open : (i : ℕ) → Found s l i → waits_for (past.accepted ++ asked ∷ []) past.lines (name l) ≡ Some (event.Call l x op)
+  waits_open i f =
+      let over : has_ended past.lines (name l) ≡ false = open_ended past l i f in
+      ap (λ b. cond b None (pending (past.accepted ++ asked ∷ []) past.lines (name l))) over ∙ waits past.accepted past.lines asked (name l) (st.answered (name l)) (same_name l)
+
+  moment_of : (b : Body) → refusal header past (event.Call l x op) ≡ None → is_of_one (event.Call l x op) b ≡ true → may_stand (event.Call l x op) b ≡ true → halts_last (node_of past.lines (name l)) (b ∷ []) ≡ true
+      → AnswerFits (past.accepted ++ asked ∷ []) past.lines b → filter is_conflict (b ∷ []) ≡ conflicts_by l (conflict_of past l x op) → is_answer_to (name l) b ≡ true → Moment header past (event.Call l x op) (b ∷ [])
+  moment_of b is one stand halts fits cause answers = record {
+    step = inl (let P : Option ℕ → Type 0 = λ o. MatchOption o (Accepted header past (event.Call l x op) (b ∷ [])) (λ d. b ∷ [] ≡ body.Refused d ∷ []) in
+        subst P (sym is) (record {
+          own = [];
+          others = b ∷ [];
+          last = [];
+          parts = refl;
+          begins = refl;
+          ends = inl refl;
+          only = (λ j. stand j && true);
+          halts = halts;
+          answers = (subst (λ ls. AnswerFits (past.accepted ++ asked ∷ []) ls b) (sym (append-nil past.lines)) fits, tt);
+        }));
+    alone = (let P : Option ℕ → Type 0 = λ o. MatchOption o (list_all (is_of_one (event.Call l x op)) (b ∷ []) ≡ true) (λ d. Unit {0}) in subst P (sym is) (λ j. one j && true));
     conflict = (let P : Option ℕ → Type 0 = λ o. MatchOption o (ConflictsHaveCause past (event.Call l x op) (b ∷ [])) (λ d. filter is_conflict (b ∷ []) ≡ []) in subst P (sym is) cause);
     prompt = (let P : Option ℕ → Type 0 = λ o. MatchOption o (IsAnswered past.lines (event.Call l x op) (b ∷ [])) (λ d. Unit {0}) in subst P (sym is) (ap (λ t. t || false) answers));
-    room = (let P : Option ℕ → Type 0 = λ o. MatchOption o (HasRoomFor past (event.Call l x op)) (λ d. Unit {0}) in subst P (sym is) tt);
+    room = λ g late. no_label g;
   }
 
   -- one answer more, to one question more
@@ -148,20 +193,21 @@ module _ (header : Header) (past : Past) (l : Label) (x : ℕ) (op : Op) (old ne
       both : length (answers_to (block (past.count + 1) (b ∷ [])) q) ≡ length (asks_by (asked ∷ []) q)
       both = ap (λ t. length (cond t (line ∷ []) [])) (is q) ∙ by (bytes_eq (name l) q)
 
-  answered_ran : (i : ℕ) (o : Obj) → refusal header past (event.Call l x op) ≡ None → (f : Found s l i) → m.object x ≡ Some o → against (ident i) (op_mode op) o.rows ≡ None
+  answered_ran : (i : ℕ) (o : Obj) → refusal header past (event.Call l x op) ≡ None → has_op (class_of o.value) op ≡ true → (f : Found s l i) → m.object x ≡ Some o → against (ident i) (op_mode op) o.rows ≡ None
       → IsUsed m (machine_of new) i x (Some (called (ident i) (op_mode op) op o)) → Writes m (body.Ok l x op (answer_text (answer_of op (current o))) ∷ []) before after → Ran header past (event.Call l x op) new file stops stops before after
-  answered_ran i o is f there free used lines =
+  answered_ran i o is has f there free used lines =
       let answer : Answer = answer_of op (current o) in
       let b : Body = body.Ok l x op (answer_text answer) in
       let k = keeps_call header past.accepted s m (machine_of new) asked f.act i x op o answer st.keeps f.going f.id f.kind f.uid f.path_is refl there free refl used in
       let up = k.up f.up in
-      let fits : AnswerFits (past.accepted ++ asked ∷ []) past.lines b = (subst (IsCallOf x op) (sym (waits past.accepted past.lines asked (name l) (st.answered (name l)) (same_name l))) (refl, refl), (answer, refl)) in
+      let class : class_of (current o) ≡ class_of o.value = class_now o ((st.keeps.up f.up).objects x o there).class in
+      let fits : AnswerFits (past.accepted ++ asked ∷ []) past.lines b = (subst (IsCallOf x op) (sym (waits_open i f)) (refl, refl), (current o, ap (λ c. has_op c op) class ∙ has, refl)) in
       let cause : [] ≡ conflicts_by l (conflict_of past l x op) = sym (ap (conflicts_by l) (conflict_same i o f there ∙ ap (option_map (row_at x)) free)) in
       let off : has_end s.committed f.act.id ≡ false = ap (has_end s.committed) f.id ∙ (st.keeps.up f.up).uncommitted i f.going in
       record {
         bodies = b ∷ [];
         lines = lines ∙ ap (λ c. before ++ block (c + 1) (b ∷ [])) st.count;
-        moment = moment_of b is refl refl fits cause (same_name l);
+        moment = moment_of b is refl refl refl fits cause (same_name l);
         stands = stands_after header past (event.Call l x op) (b ∷ []) new file (with_call s (f.act ∷ []) x op (answer_text answer))
             (see_ok s l x op (answer_text answer) ∙ ap (λ p. with_call s p x op (answer_text answer)) f.path_is)
             (used.event ∙ ap (λ c. c + 1) st.count) k
@@ -185,12 +231,12 @@ module _ (header : Header) (past : Past) (l : Label) (x : ℕ) (op : Op) (old ne
   met_ran i o row is f there against_it used lines =
       let b : Body = body.Conflict l row.holder row.mode 1 in
       let k = keeps_met header past.accepted s m (machine_of new) asked f.act i x st.keeps f.going f.id f.kind f.uid f.path_is refl used in
-      let fits : AnswerFits (past.accepted ++ asked ∷ []) past.lines b = ap is_some (waits past.accepted past.lines asked (name l) (st.answered (name l)) (same_name l)) in
+      let fits : AnswerFits (past.accepted ++ asked ∷ []) past.lines b = ap is_some (waits_open i f) in
       let cause : b ∷ [] ≡ conflicts_by l (conflict_of past l x op) = sym (ap (conflicts_by l) (conflict_same i o f there ∙ ap (option_map (row_at x)) against_it)) in
       record {
         bodies = b ∷ [];
         lines = lines ∙ ap (λ c. before ++ block (c + 1) (b ∷ [])) st.count;
-        moment = moment_of b is refl refl fits cause (same_name l);
+        moment = moment_of b is refl refl refl fits cause (same_name l);
         stands = stands_after header past (event.Call l x op) (b ∷ []) new file (later s) (see_conflict s l row.holder row.mode 1)
             (used.event ∙ ap (λ c. c + 1) st.count) k
             (record { serial = st.serial; holds = st.holds; holds_or_next = st.holds_or_next })
@@ -220,9 +266,9 @@ module _ (header : Header) (past : Past) (l : Label) (x : ℕ) (op : Op) (old ne
               → MatchOption o (IsUsed m (machine_of new) a.action x (Some (called (ident a.action) (op_mode op) op a.target)) × Writes m (body.Ok l x op (answer_text (answer_of op (current a.target))) ∷ []) before after)
               (λ row. IsUsed m (machine_of new) a.action x (m.object x) × Writes m (body.Conflict l row.holder row.mode 1 ∷ []) before after)
               → Ran header past (event.Call l x op) new file stops stops before after
-          which None e h = answered_ran a.action a.target (same ∙ is) f a.there e h.0 h.1
+          which None e h = answered_ran a.action a.target (same ∙ is) (accepted_op m l x op a.action a.target is a.known a.there) f a.there e h.0 h.1
           which (Some row) e h = met_ran a.action a.target row (same ∙ is) f a.there e h.0 h.1
 
       by : (o : Option ℕ) → call_refusal m l x op ≡ o → MatchOption o (Accepts_call m (machine_of new) l x op before after) (λ c. Refuses m (machine_of new) c before after) → Ran header past (event.Call l x op) new file stops stops before after
       by None is a = accepted is a
-      by (Some c) is r = refused_ran header past (event.Call l x op) old new file stops before after c st (same ∙ is) r
+      by (Some c) is r = refused_ran header past (event.Call l x op) old new file stops before after c st (same ∙ is) (λ g late. no_label g) r

@@ -2,7 +2,7 @@
 use Rattle.std.proofs.Common.{◌≡◌, ◌<◌, ◌⊎◌, inl, inr, ℕ, ◌+◌, List, [], ◌∷◌, ◌++◌, length, filter, Bool, true, false, cond, not, ◌==◌, ◌&&◌, ◌||◌, nat_lt, Option, Some, None, is_some, is_none, MatchOption, option_and_then, refl, sym, ◌∙◌, ap, subst, arith}
 use Rattle.std.proofs.lemmas.Bool.{eqb-true}
 use Rattle.std.proofs.lemmas.List.Folds.{list_any-append}
-use Rattle.std.specs.List.{list_any}
+use Rattle.std.specs.List.{list_any, list_all}
 use Rattle.std.specs.Option.{option_map}
 use Rattle.std.specs.Str.{bytes_eq}
 use Rattle.std.proofs.lemmas.Slice.Eq.{bytes_eq-Decides}
@@ -11,7 +11,8 @@ use Rattle.arj_base.specs.State.{state_bytes}
 use Rattle.arj_base.specs.declared.state.ObjectState.{ObjectState}
 use Rattle.arj_base.specs.Rows.{last_uid}
 use Rattle.arj_class.specs.Table.{writes}
-use Rattle.arj_disk.specs.Files.{FileMap, held}
+use Rattle.arj_disk.specs.Files.{FileMap}
+use Rattle.arj_engine.specs.Object.{object_held}
 use Rattle.arj_journal.specs.declared.body.Body.{Body}
 use Rattle.arj_journal.specs.declared.body.Body.TheVariants as body
 use Rattle.arj_journal.specs.declared.body.Cause.TheVariants as cause
@@ -22,15 +23,17 @@ use Rattle.arj_journal.specs.declared.event.Event.TheVariants as event
 use Rattle.arj_journal.specs.declared.header.Header.{Header}
 use Rattle.arj_text.specs.declared.label.Label.{Label}
 use Rattle.arj_text.specs.Label.{name}
-use Rattle.arj_model.specs.Actions.{Act, Placed, Halt, acts, act_in, id_in, path, uids, has_end}
+use Rattle.arj_model.specs.Actions.{Act, Placed, Halt, acts, act_in, id_in, path, uids, has_end, ended, halts, is_halted, is_over}
 use Rattle.arj_model.specs.Serial.{Answers}
 use Rattle.arj_model.specs.Last.{first_values, object_line, is_among}
 use Rattle.arj_model.specs.Past.{Past, Asked, asked_of, block}
-use Rattle.arj_model.specs.Follows.{refusal, Accepted, first_cause, is_committing, is_committing_line, has_ended, is_over_act, answers_to, asks_by, object_used, is_own, may_stand, AnswersFit}
-use Rattle.arj_model.specs.Causes.{Moment, ConflictsHaveCause, is_conflict, IsAnswered, HasRoomFor, count_halts, is_commit_end, is_node_of}
-use Rattle.arj_model.specs.Seen.{Seen, seen, see}
+use Rattle.arj_model.specs.Refusals.{refusal, first_cause, is_down, is_committing, is_committing_line, has_ended, is_over_act, answers_to, asks_by, object_used}
+use Rattle.arj_model.specs.Follows.{Accepted, AnswersFit}
+use Rattle.arj_model.specs.Own.{may_stand, halts_last, is_node_in, node_of, commit_line, BeginsCommit, AreAborted, aborted_of}
+use Rattle.arj_model.specs.Causes.{Moment, ConflictsHaveCause, is_conflict, IsAnswered, count_halts, is_commit_end, is_node_of, is_of_one}
+use Rattle.arj_engine.specs.Seen.{Seen, seen, see}
 use Rattle.arj_engine.specs.Object.{Obj, new_state, put_over}
-use Rattle.arj_engine.specs.Keeps.{Keeps, Machine, IsOpen, ident, last_seen, next_seen, undecided_seen, calls_by}
+use Rattle.arj_engine.specs.Keeps.{Keeps, Machine, IsOpen, ArePlain, HaltsFit, ident, last_seen, next_seen, undecided_seen, surviving_seen}
 use Rattle.arj_engine.specs.Engine.{Stands, Ran, machine_of}
 use Rattle.arj_engine.specs.Events.{Refuses, Aborts, Accepts_abort, Commits, Accepts_commit, Commits_whole, Commits_halted, state_by, end_refusal, is_over_by, Untouched}
 use Rattle.arj_engine.specs.declared.engine.Engine.{Engine}
@@ -38,6 +41,8 @@ use Rattle.arj_engine.proofs.Steps.{with_committing, with_commit, with_abort, se
 use Rattle.arj_engine.proofs.Known.{known, path_plain, one_or_none}
 use Rattle.arj_engine.proofs.Refusals.{commit_same, abort_same, over_same}
 use Rattle.arj_engine.proofs.End.{AsksEnd, committed_seen, lines_of_begun}
+use Rattle.arj_model.proofs.Read.{down-append}
+use Rattle.arj_engine.proofs.Aborted.{aborted_only, label_found}
 use Rattle.arj_engine.proofs.Abort.{keeps_abort}
 use Rattle.arj_engine.proofs.Commit.{keeps_commit}
 use Rattle.arj_engine.proofs.Halt.{keeps_halt}
@@ -54,6 +59,10 @@ pub record Found (s : Seen) (l : Label) (i : ℕ) : Type 0 where
   pub uid : act.uid ≡ ident i
   pub up : s.down ≡ false
   pub going : IsOpen s i
+  pub unhalted : s.halts ≡ []
+
+no_label : {P : Type 0} → false ≡ true → P
+no_label {P} g = cc
 
 open_by : (m : Machine) (i : ℕ) → is_over_by m (Some i) ≡ false → (m.down ≡ false) × (m.is_open i ≡ true)
 open_by m i over = by m.down refl (m.is_open i) refl over
@@ -84,12 +93,27 @@ found header accepted s m l i k number over = by (act_in s.acts (name l)) refl (
           kind = kn.kind;
           uid = kn.uid ∙ ap ident id;
           up = sym k.down ∙ o.0;
+          unhalted = subst (λ b. HaltsFit b (length s.acts) s.halts) (sym k.down ∙ o.0) k.halts;
           going = record { begun = begun; going = turned (has_end s.ended i) still };
         }
       where
         turned : (b : Bool) → not b ≡ true → b ≡ false
         turned true e = cc
         turned false e = refl
+
+-- The action is open by the journal.
+pub open_over : (past : Past) (l : Label) (i : ℕ) (f : Found (seen past.lines) l i) → is_over past.lines f.act ≡ false
+open_over past l i f = (λ j. has_end (ended past.lines) (f.id j) || is_halted (f.unhalted j) f.act) ∙ ap (λ b. b || false) f.going.going
+
+pub open_ended : (past : Past) (l : Label) (i : ℕ) (f : Found (seen past.lines) l i) → has_ended past.lines (name l) ≡ false
+open_ended past l i f = ap (is_over_act past.lines) f.in_is ∙ open_over past l i f
+
+-- its abort ends it alone
+aborted_alone : (past : Past) (l : Label) (i : ℕ) → ArePlain (acts past.lines) → Found (seen past.lines) l i → AreAborted (aborted_of past.lines (act_in (acts past.lines) (name l))) (body.Aborted l cause.Asked ∷ [])
+aborted_alone past l i plain f =
+    let label : name l ≡ f.act.label = sym ((bytes_eq-Decides f.act.label (name l)).0 (label_found (acts past.lines) (name l) f.act f.in_is)) in
+    subst (λ o. AreAborted (aborted_of past.lines o) (body.Aborted l cause.Asked ∷ [])) (sym f.in_is)
+    (subst (λ as_begun. AreAborted as_begun (body.Aborted l cause.Asked ∷ [])) (sym (aborted_only past.lines (acts past.lines) (name l) f.act plain f.in_is (open_over past l i f))) (label, tt))
 
 -- an end that isn't refused is of an action that is open
 pub accepted_end : (m : Machine) (l : Label) (i : ℕ) → end_refusal m l ≡ None → m.number l ≡ Some i → is_over_by m (Some i) ≡ false
@@ -113,12 +137,15 @@ plain_sum n = omega arith
 
 -- Aborts.
 
-abort_moment : (header : Header) (past : Past) (l : Label) → refusal header past (event.Abort l) ≡ None → Moment header past (event.Abort l) (body.Aborted l cause.Asked ∷ [])
-abort_moment header past l is = record {
-  step = (let P : Option ℕ → Type 0 = λ o. MatchOption o (Accepted header past (event.Abort l) bodies) (λ d. bodies ≡ body.Refused d ∷ []) in subst P (sym is) (record { own = refl; only = refl; answers = (tt, tt) }));
+abort_moment : (header : Header) (past : Past) (l : Label) → refusal header past (event.Abort l) ≡ None → AreAborted (aborted_of past.lines (act_in (acts past.lines) (name l))) (body.Aborted l cause.Asked ∷ [])
+    → Moment header past (event.Abort l) (body.Aborted l cause.Asked ∷ [])
+abort_moment header past l is all = record {
+  step = inl (let P : Option ℕ → Type 0 = λ o. MatchOption o (Accepted header past (event.Abort l) bodies) (λ d. bodies ≡ body.Refused d ∷ []) in
+      subst P (sym is) (record { own = bodies; others = []; last = []; parts = refl; begins = all; ends = inl refl; only = refl; halts = refl; answers = tt }));
+  alone = (let P : Option ℕ → Type 0 = λ o. MatchOption o (list_all (is_of_one (event.Abort l)) bodies ≡ true) (λ d. Unit {0}) in subst P (sym is) refl);
   conflict = (let P : Option ℕ → Type 0 = λ o. MatchOption o (ConflictsHaveCause past (event.Abort l) bodies) (λ d. filter is_conflict bodies ≡ []) in subst P (sym is) refl);
   prompt = (let P : Option ℕ → Type 0 = λ o. MatchOption o (IsAnswered past.lines (event.Abort l) bodies) (λ d. Unit {0}) in subst P (sym is) tt);
-  room = (let P : Option ℕ → Type 0 = λ o. MatchOption o (HasRoomFor past (event.Abort l)) (λ d. Unit {0}) in subst P (sym is) tt);
+  room = λ g late. no_label g;
 }
   where
     bodies : List Body
@@ -150,7 +177,7 @@ abort_ran header past l old new file stops before after st aborts = by (end_refu
         record {
           bodies = bodies;
           lines = a.lines ∙ ap (λ c. before ++ block (c + 1) bodies) st.count;
-          moment = abort_moment header past l (same ∙ is);
+          moment = abort_moment header past l (same ∙ is) (aborted_alone past l i st.keeps.plain f);
           stands = stands_after header past (event.Abort l) bodies new file (with_abort s i (ident i))
               (see_aborted s l i known ∙ ap (with_abort s i) uid)
               (a.ended.event ∙ ap (λ c. c + 1) st.count)
@@ -168,7 +195,7 @@ abort_ran header past l old new file stops before after st aborts = by (end_refu
 
     by : (o : Option ℕ) → end_refusal m l ≡ o → MatchOption o (Accepts_abort m (machine_of new) l before after) (λ c. Refuses m (machine_of new) c before after) → Ran header past (event.Abort l) new file stops stops before after
     by None is a = accepted is a
-    by (Some c) is r = refused_ran header past (event.Abort l) old new file stops before after c st (same ∙ is) r
+    by (Some c) is r = refused_ran header past (event.Abort l) old new file stops before after c st (same ∙ is) (λ g late. no_label g) r
 
 -- Commits.
 
@@ -214,15 +241,28 @@ called_commit header past m l i n k number over = (λ j. any j && not (over_now 
         ∙ sym (over_is past.lines (name l))
         ∙ over_same header past m l k ∙ ap (is_over_by m) number ∙ over
 
-commit_own : (header : Header) (past : Past) (l : Label) (b : Body) → refusal header past (event.Commit l) ≡ None → AnswersFit (past.accepted ++ asked_of past (event.Commit l) ∷ []) past.lines (past.count + 1) (body.Committing l ∷ b ∷ [])
-    → is_own b ≡ false → may_stand (event.Commit l) b ≡ true → is_conflict b ≡ false → length (filter (is_commit_end past.lines (name l)) (body.Committing l ∷ b ∷ [])) ≡ 1
+commit_own : (header : Header) (past : Past) (l : Label) (b : Body) (i : ℕ) → Found (seen past.lines) l i → refusal header past (event.Commit l) ≡ None
+    → AnswersFit (past.accepted ++ asked_of past (event.Commit l) ∷ []) (past.lines ++ block (past.count + 1) (body.Committing l ∷ [])) (past.count + 1) (b ∷ [])
+    → is_of_one (event.Commit l) b ≡ true → may_stand (event.Commit l) b ≡ true → halts_last (node_of past.lines (name l)) (b ∷ []) ≡ true → is_conflict b ≡ false
+    → length (filter (is_commit_end past.lines (name l)) (body.Committing l ∷ b ∷ [])) ≡ 1
     → Moment header past (event.Commit l) (body.Committing l ∷ b ∷ [])
-commit_own header past l b is answers own stand calm ends = record {
-  step = (let P : Option ℕ → Type 0 = λ o. MatchOption o (Accepted header past (event.Commit l) bodies) (λ d. bodies ≡ body.Refused d ∷ []) in
-      subst P (sym is) (record { own = ap (λ t. body.Committing l ∷ cond t (b ∷ []) []) own; only = (λ j. stand j && true); answers = answers }));
+commit_own header past l b i f is answers one stand halts calm ends = record {
+  step = inl (let P : Option ℕ → Type 0 = λ o. MatchOption o (Accepted header past (event.Commit l) bodies) (λ d. bodies ≡ body.Refused d ∷ []) in
+      subst P (sym is) (record {
+        own = body.Committing l ∷ [];
+        others = b ∷ [];
+        last = [];
+        parts = refl;
+        begins = subst (λ o. BeginsCommit past.lines l o (body.Committing l ∷ [])) (sym f.in_is) (inl (sym (ap (λ k. commit_line k l ∷ []) f.kind)));
+        ends = inl refl;
+        only = (λ j. stand j && true);
+        halts = halts;
+        answers = answers;
+      }));
+  alone = (let P : Option ℕ → Type 0 = λ o. MatchOption o (list_all (is_of_one (event.Commit l)) bodies ≡ true) (λ d. Unit {0}) in subst P (sym is) (λ j. one j && true));
   conflict = (let P : Option ℕ → Type 0 = λ o. MatchOption o (ConflictsHaveCause past (event.Commit l) bodies) (λ d. filter is_conflict bodies ≡ []) in subst P (sym is) (ap (λ t. cond t (b ∷ []) []) calm));
   prompt = (let P : Option ℕ → Type 0 = λ o. MatchOption o (IsAnswered past.lines (event.Commit l) bodies) (λ d. Unit {0}) in subst P (sym is) ends);
-  room = (let P : Option ℕ → Type 0 = λ o. MatchOption o (HasRoomFor past (event.Commit l)) (λ d. Unit {0}) in subst P (sym is) tt);
+  room = λ g late. no_label g;
 }
   where
     bodies : List Body
@@ -272,7 +312,7 @@ module _ (header : Header) (past : Past) (l : Label) (old new : Engine) (file fi
       record {
         bodies = bodies;
         lines = w.lines ∙ ap (λ c. before ++ block (c + 1) bodies) st.count;
-        moment = commit_own header past l (body.Committed l) is (tt, (called_commit header past m l i (past.count + 1) st.keeps number over, tt)) refl refl refl (ap (λ t. length (cond t (body.Committed l ∷ []) [])) (same_name l));
+        moment = commit_own header past l (body.Committed l) i f is (called_commit header past m l i (past.count + 1) st.keeps number over, tt) refl refl refl refl (ap (λ t. length (cond t (body.Committed l ∷ []) [])) (same_name l));
         stands = stands_after header past (event.Commit l) bodies new file' (committed_seen s f.act i) read
             (w.ended.event ∙ ap (λ c. c + 1) st.count) k
             (record { serial = up.serial; holds = λ d x there. held_now i f e some w x there; holds_or_next = λ x there. inl (held_now i f e some w x there) })
@@ -287,10 +327,10 @@ module _ (header : Header) (past : Past) (l : Label) (old new : Engine) (file fi
       absurd_false g = cc
 
       held_now : (i : ℕ) (f : Found s l i) (e : AsksEnd s i f.act asked) → 0 < s.count → Commits_whole m (machine_of new) l i file file' stops stops' before after → (x : ℕ) → is_some (object_line header x) ≡ true
-          → held file' x ≡ Some (state_bytes (last_seen header (committed_seen s f.act i) x))
+          → object_held file' x ≡ Some (state_bytes (last_seen header (committed_seen s f.act i) x))
       held_now i f e some w x there =
           let o = object_of x there in
-          let was : held file x ≡ Some (state_bytes (last_seen header s x)) = st.holds f.up x there in
+          let was : object_held file x ≡ Some (state_bytes (last_seen header s x)) = st.holds f.up x there in
           w.puts x
           ∙ (λ j. cond (is_among (m.used i) x) (put_over (option_and_then (new_state (ident i) x) (o.1 j)) (was j)) (was j))
           ∙ committed_state header past.accepted s m i f.act asked x st.keeps e some o.0 o.1
@@ -305,11 +345,13 @@ module _ (header : Header) (past : Past) (l : Label) (old new : Engine) (file fi
       let called : see s (body.Committing l) ≡ with_committing s (f.act ∷ []) = see_committing s l ∙ ap (with_committing s) f.path_is in
       let read : see_all s bodies ≡ halted_seen s f.act = ap (λ t. see t (body.Halted 1)) called ∙ see_halted (with_committing s (f.act ∷ [])) in
       let node : is_node_of (act_in (acts past.lines) (name l)) 1 ≡ true = ap (λ a. is_node_of a 1) f.in_is ∙ ap (λ u. 1 == u.node) f.uid in
+      let here : is_node_in (node_of past.lines (name l)) 1 ≡ true = ap (λ a. is_node_in (option_map (λ b. b.uid.node) a) 1) f.in_is ∙ ap (λ u. u.node == 1) f.uid in
+      let still_up : is_down (past.lines ++ block (past.count + 1) (body.Committing l ∷ [])) 1 ≡ false = down-append 1 false past.lines (record { event = past.count + 1; body = body.Committing l }) ∙ f.up in
       let none : count_halts past.lines 1 ≡ 0 = st.halts ∙ ap (λ d. cond d 1 0) f.up in
       record {
         bodies = bodies;
         lines = w.lines ∙ ap (λ c. before ++ block (c + 1) bodies) st.count;
-        moment = commit_own header past l (body.Halted 1) is (tt, (tt, tt)) refl refl refl (ap (λ t. length (cond t (body.Halted 1 ∷ []) [])) node);
+        moment = commit_own header past l (body.Halted 1) i f is (still_up, tt) refl refl here refl (ap (λ t. length (cond t (body.Halted 1 ∷ []) [])) node);
         stands = stands_after header past (event.Commit l) bodies new file' (halted_seen s f.act) read
             (w.halted.event ∙ ap (λ c. c + 1) st.count) k
             (record {
@@ -341,16 +383,16 @@ module _ (header : Header) (past : Past) (l : Label) (old new : Engine) (file fi
       absurd_steady d = cc
 
       held_then : (i : ℕ) (f : Found s l i) (e : AsksEnd s i f.act asked) → Commits_halted m (machine_of new) l i file file' stops stops' before after → (x : ℕ) → is_some (object_line header x) ≡ true
-          → (held file' x ≡ Some (state_bytes (last_seen header (halted_seen s f.act) x)))
-          ⊎ ((id : ℕ) × (is_among (undecided_seen (halted_seen s f.act)) id ≡ true) × (list_any (λ c. (c.x == x) && writes c.op) (calls_by (halted_seen s f.act) id) ≡ true) × (held file' x ≡ Some (state_bytes (next_seen header (halted_seen s f.act) id x))))
+          → (object_held file' x ≡ Some (state_bytes (last_seen header (halted_seen s f.act) x)))
+          ⊎ ((id : ℕ) × (is_among (undecided_seen (halted_seen s f.act)) id ≡ true) × (list_any (λ c. (c.x == x) && writes c.op) (surviving_seen (halted_seen s f.act) id) ≡ true) × (object_held file' x ≡ Some (state_bytes (next_seen header (halted_seen s f.act) id x))))
       held_then i f e w x there = by (w.puts x)
         where
           o : (p : Obj) × (m.object x ≡ Some p)
           o = object_of x there
 
-          by : (held file' x ≡ held file x) ⊎ ((is_among (m.used i) x ≡ true) × (q : ObjectState) × (state_by m i x ≡ Some q) × (held file' x ≡ Some (state_bytes q)))
-              → (held file' x ≡ Some (state_bytes (last_seen header (halted_seen s f.act) x)))
-              ⊎ ((id : ℕ) × (is_among (undecided_seen (halted_seen s f.act)) id ≡ true) × (list_any (λ c. (c.x == x) && writes c.op) (calls_by (halted_seen s f.act) id) ≡ true) × (held file' x ≡ Some (state_bytes (next_seen header (halted_seen s f.act) id x))))
+          by : (object_held file' x ≡ object_held file x) ⊎ ((is_among (m.used i) x ≡ true) × (q : ObjectState) × (state_by m i x ≡ Some q) × (object_held file' x ≡ Some (state_bytes q)))
+              → (object_held file' x ≡ Some (state_bytes (last_seen header (halted_seen s f.act) x)))
+              ⊎ ((id : ℕ) × (is_among (undecided_seen (halted_seen s f.act)) id ≡ true) × (list_any (λ c. (c.x == x) && writes c.op) (surviving_seen (halted_seen s f.act) id) ≡ true) × (object_held file' x ≡ Some (state_bytes (next_seen header (halted_seen s f.act) id x))))
           by (inl same) = inl (same ∙ st.holds f.up x there ∙ sym (ap (λ t. Some (state_bytes t)) (last_halt header past.accepted s m i f.act asked x st.keeps e)))
           by (inr put) =
               let state : new_state (ident i) x o.0 ≡ Some put.1 = ap (option_and_then (new_state (ident i) x)) (sym o.1) ∙ put.2 in
@@ -377,7 +419,7 @@ module _ (header : Header) (past : Past) (l : Label) (old new : Engine) (file fi
       refused c is r =
           let P : FileMap → Type 0 = λ g. Ran header past (event.Commit l) new g stops stops' before after in
           let Q : ℕ → Type 0 = λ t. Ran header past (event.Commit l) new file stops t before after in
-          subst P (sym r.1.0) (subst Q (sym r.1.1) (refused_ran header past (event.Commit l) old new file stops before after c st (same ∙ is) r.0))
+          subst P (sym r.1.0) (subst Q (sym r.1.1) (refused_ran header past (event.Commit l) old new file stops before after c st (same ∙ is) (λ g late. no_label g) r.0))
 
       by : (o : Option ℕ) → end_refusal m l ≡ o → MatchOption o (Accepts_commit m (machine_of new) l file file' stops stops' before after) (λ c. Refuses m (machine_of new) c before after × Untouched file file' stops stops')
           → Ran header past (event.Commit l) new file' stops stops' before after

@@ -14,8 +14,8 @@ use Rattle.arj_text.specs.Label.{name}
 use Rattle.arj_model.specs.Actions.{Act, Placed, Halt, acts, act_in, is_begun, path, root_in, has_end, halts}
 use Rattle.arj_model.specs.Last.{object_line}
 use Rattle.arj_model.specs.Past.{Past, Asked}
-use Rattle.arj_model.specs.Follows.{refusal, is_node, is_down, has_ended, is_over_act, lacks_op, is_too_many, objects_of, objects_from, is_root, with_object, object_used}
-use Rattle.arj_model.specs.Seen.{Seen, seen}
+use Rattle.arj_model.specs.Refusals.{refusal, is_node, is_down, has_ended, is_over_act, lacks_op, is_too_many, objects_of, objects_from, is_root, with_object, object_used}
+use Rattle.arj_engine.specs.Seen.{Seen, seen}
 use Rattle.arj_engine.specs.Object.{Obj}
 use Rattle.arj_engine.specs.Keeps.{Keeps, Machine, HaltsFit}
 use Rattle.arj_engine.specs.Events.{begin_refusal, end_refusal, call_refusal, is_over_by, is_too_many_by, is_too_many_for, lacks_op_in}

@@ -10,10 +10,10 @@ use Rattle.arj_journal.specs.declared.body.Cause.TheVariants as cause
 use Rattle.arj_journal.specs.declared.body.Kind.TheVariants as kind
 use Rattle.arj_text.specs.declared.label.Label.{Label}
 use Rattle.arj_text.specs.Label.{name}
-use Rattle.arj_model.specs.Table.{row_of}
+use Rattle.arj_model.specs.OkTable.{ok_row}
 use Rattle.arj_model.specs.Actions.{Act, Placed, put, id_in, path, uids}
 use Rattle.arj_model.specs.Calls.{Said}
-use Rattle.arj_model.specs.Seen.{Seen, see}
+use Rattle.arj_engine.specs.Seen.{Seen, see}
 
 -- one line more, and nothing else
 abbrev pub later : Seen → Seen
@@ -32,6 +32,8 @@ see_refused s c = λ i. record {
   ended = stays s.count s.ended i;
   halts = stays s.count s.halts i;
   recovered = stays s.count s.recovered i;
+  excluded = stays s.count s.excluded i;
+  included = stays s.count s.included i;
   rows = s.rows;
   down = s.down;
   inc = s.inc;
@@ -47,6 +49,8 @@ see_conflict s l holder mode n = λ i. record {
   ended = stays s.count s.ended i;
   halts = stays s.count s.halts i;
   recovered = stays s.count s.recovered i;
+  excluded = stays s.count s.excluded i;
+  included = stays s.count s.included i;
   rows = s.rows;
   down = s.down;
   inc = s.inc;
@@ -69,6 +73,8 @@ see_began s l u = λ i. record {
   ended = stays s.count s.ended i;
   halts = stays s.count s.halts i;
   recovered = stays s.count s.recovered i;
+  excluded = stays s.count s.excluded i;
+  included = stays s.count s.included i;
   rows = s.rows;
   down = s.down;
   inc = s.inc;
@@ -81,7 +87,7 @@ saying s p x op answer = record { at = s.count; it = record { path = p; x = x; o
 
 abbrev pub with_call : Seen → List Act → ℕ → Op → List ℕ → Seen
 with_call s p x op answer =
-    record (later s) { said = s.said ++ saying s p x op answer ∷ []; rows = grant_row (row_of p x op) s.rows }
+    record (later s) { said = s.said ++ saying s p x op answer ∷ []; rows = grant_row (ok_row p x op) s.rows }
 
 pub see_ok : (s : Seen) (l : Label) (x : ℕ) (op : Op) (answer : List ℕ) → see s (body.Ok l x op answer) ≡ with_call s (path s.acts (name l)) x op answer
 see_ok s l x op answer = λ i. record {
@@ -92,7 +98,9 @@ see_ok s l x op answer = λ i. record {
   ended = stays s.count s.ended i;
   halts = stays s.count s.halts i;
   recovered = stays s.count s.recovered i;
-  rows = grant_row (row_of (path s.acts (name l)) x op) s.rows;
+  excluded = stays s.count s.excluded i;
+  included = stays s.count s.included i;
+  rows = grant_row (ok_row (path s.acts (name l)) x op) s.rows;
   down = s.down;
   inc = s.inc;
   count = s.count + 1;
@@ -111,6 +119,8 @@ see_committing s l = λ i. record {
   ended = stays s.count s.ended i;
   halts = stays s.count s.halts i;
   recovered = stays s.count s.recovered i;
+  excluded = stays s.count s.excluded i;
+  included = stays s.count s.included i;
   rows = s.rows;
   down = s.down;
   inc = s.inc;
@@ -134,6 +144,8 @@ see_committed s l id known = λ i. record {
   ended = s.ended ++ put s.count (known i) [];
   halts = stays s.count s.halts i;
   recovered = stays s.count s.recovered i;
+  excluded = stays s.count s.excluded i;
+  included = stays s.count s.included i;
   rows = drop_rows (last_uid (uids (path s.acts (name l)))) s.rows;
   down = s.down;
   inc = s.inc;
@@ -152,6 +164,8 @@ see_aborted s l id known = λ i. record {
   ended = s.ended ++ put s.count (known i) [];
   halts = stays s.count s.halts i;
   recovered = stays s.count s.recovered i;
+  excluded = stays s.count s.excluded i;
+  included = stays s.count s.included i;
   rows = drop_rows (last_uid (uids (path s.acts (name l)))) s.rows;
   down = s.down;
   inc = s.inc;
@@ -171,6 +185,8 @@ see_halted s = λ i. record {
   ended = stays s.count s.ended i;
   halts = s.halts ++ record { at = s.count; it = record { node = 1; begun = length s.acts } } ∷ [];
   recovered = stays s.count s.recovered i;
+  excluded = stays s.count s.excluded i;
+  included = stays s.count s.included i;
   rows = [];
   down = true;
   inc = s.inc;

@@ -9,10 +9,10 @@ use Rattle.arj_journal.specs.declared.header.Header.{Header}
 use Rattle.arj_journal.specs.declared.header.ObjectLine.{ObjectLine}
 use Rattle.arj_model.specs.Actions.{Act, Placed, root_in}
 use Rattle.arj_model.specs.Calls.{Said}
-use Rattle.arj_model.specs.Follows.{objects_from, used_by, object_used, is_root, with_object}
+use Rattle.arj_model.specs.Refusals.{objects_from, used_by, object_used, is_root, with_object}
 use Rattle.arj_model.specs.Last.{insert_number, is_among, object_line}
 use Rattle.arj_model.specs.Past.{Asked}
-use Rattle.arj_model.specs.Seen.{Seen}
+use Rattle.arj_engine.specs.Seen.{Seen}
 use Rattle.arj_engine.specs.Change.{IsUsed}
 use Rattle.arj_engine.specs.Keeps.{Machine, Keeps, Up, IsAlone, IsAsked, IsBelow, IsOpen, ident}
 use Rattle.arj_engine.specs.Object.{Obj}
@@ -144,6 +144,7 @@ module _ (header : Header) (accepted : List Asked) (s : Seen) (m new : Machine) 
     ended_below = keeps.ended_below;
     committed_below = keeps.committed_below;
     found = keeps.found;
+    stores = keeps.stores;
     inc = keeps.inc;
     halts = keeps.halts;
     roots = roots_new;

@@ -6,7 +6,10 @@ use Rattle.std.specs.Cmp.Lexicographic.{slice_cmp}
 use Rattle.std.specs.Ordering.{nat_cmp, on}
 use Rattle.arj_base.specs.Count.{Rose}
 use Rattle.arj_base.specs.State.{state_bytes}
-use Rattle.arj_disk.specs.Files.{FileMap, held}
+use Rattle.arj_disk.specs.Files.{FileMap}
+use Rattle.arj_disk.specs.Says.{held}
+use Rattle.arj_disk.specs.declared.slot.Role.TheVariants.{Store}
+use Rattle.arj_base.specs.Uid.{object}
 use Rattle.arj_journal.specs.declared.body.Body.{Body}
 use Rattle.arj_journal.specs.declared.body.Line.{Line}
 use Rattle.arj_journal.specs.declared.event.Event.{Event}
@@ -16,9 +19,9 @@ use Rattle.arj_model.specs.Past.{Past, next, block}
 use Rattle.arj_model.specs.Serial.{Serial}
 use Rattle.arj_model.specs.Last.{first_values, last_state, object_line}
 use Rattle.arj_model.specs.Clean.{HoldsLastOrNext}
-use Rattle.arj_model.specs.Follows.{is_down, answers_to, asks_by}
+use Rattle.arj_model.specs.Refusals.{is_down, answers_to, asks_by}
 use Rattle.arj_model.specs.Causes.{Moment, is_halt, count_halts}
-use Rattle.arj_model.specs.Seen.{seen}
+use Rattle.arj_engine.specs.Seen.{seen}
 use Rattle.arj_engine.specs.Object.{object_in, views}
 use Rattle.arj_engine.specs.Keeps.{Machine, Keeps}
 use Rattle.arj_engine.specs.declared.engine.Engine.{Engine}
@@ -53,9 +56,9 @@ pub record Stands (header : Header) (past : Past) (engine : Engine) (file : File
   -- the committed tops so far got the replies of running them alone
   pub serial : Serial (first_values header) past.lines
   -- while the node is up, the disk holds the last state of each object
-  pub holds : is_down past.lines 1 ≡ false → (x : ℕ) → is_some (object_line header x) ≡ true → held file x ≡ Some (state_bytes (last_state header past.lines x))
+  pub holds : is_down past.lines 1 ≡ false → (x : ℕ) → is_some (object_line header x) ≡ true → held file Store (object x) ≡ Some (state_bytes (last_state header past.lines x))
   -- a commit that was stopped may have put some of its states
-  pub holds_or_next : (x : ℕ) → is_some (object_line header x) ≡ true → HoldsLastOrNext header past.lines (held file x) x
+  pub holds_or_next : (x : ℕ) → is_some (object_line header x) ≡ true → HoldsLastOrNext header past.lines (held file Store (object x)) x
   -- the node halts at most once
   pub halts : count_halts past.lines 1 ≡ (if is_down past.lines 1 then 1 else 0)
   -- and no other node does

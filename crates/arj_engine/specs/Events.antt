@@ -6,7 +6,8 @@ use Rattle.arj_base.specs.State.{state_bytes}
 use Rattle.arj_base.specs.declared.state.ObjectState.{ObjectState}
 use Rattle.arj_class.specs.declared.op.Op.{Op}
 use Rattle.arj_class.specs.Table.{class_of, has_op, op_mode, mode_of, answer_of}
-use Rattle.arj_disk.specs.Files.{FileMap, held}
+use Rattle.arj_disk.specs.Files.{FileMap}
+use Rattle.arj_engine.specs.Object.{object_held}
 use Rattle.arj_journal.specs.declared.body.Body.{Body}
 use Rattle.arj_journal.specs.declared.body.Body.TheVariants as body
 use Rattle.arj_journal.specs.declared.body.Cause.TheVariants as cause
@@ -16,7 +17,7 @@ use Rattle.arj_text.specs.declared.label.Label.{Label}
 use Rattle.arj_text.specs.Words.{answer_text}
 use Rattle.arj_model.specs.Last.{is_among}
 use Rattle.arj_model.specs.Past.{block}
-use Rattle.arj_model.specs.Follows.{first_cause}
+use Rattle.arj_model.specs.Refusals.{first_cause}
 use Rattle.arj_engine.specs.Object.{Obj, against, called, current, new_state, put_over}
 use Rattle.arj_engine.specs.declared.object.Met.{Met}
 use Rattle.arj_engine.specs.declared.object.Met.TheVariants.{Against, Answered}
@@ -89,11 +90,11 @@ abbrev pub state_by : Machine → ℕ → ℕ → Option ObjectState
 state_by m i x = option_and_then (new_state (ident i) x) (m.object x)
 
 abbrev pub PutsAll : Machine → ℕ → FileMap → FileMap → Type 0
-PutsAll m i old new = (x : ℕ) → held new x ≡ (if is_among (m.used i) x then put_over (state_by m i x) (held old x) else held old x)
+PutsAll m i old new = (x : ℕ) → object_held new x ≡ (if is_among (m.used i) x then put_over (state_by m i x) (object_held old x) else object_held old x)
 
 abbrev pub PutsSome : Machine → ℕ → FileMap → FileMap → Type 0
 PutsSome m i old new =
-    (x : ℕ) → (held new x ≡ held old x) ⊎ ((is_among (m.used i) x ≡ true) × (s : ObjectState) × (state_by m i x ≡ Some s) × (held new x ≡ Some (state_bytes s)))
+    (x : ℕ) → (object_held new x ≡ object_held old x) ⊎ ((is_among (m.used i) x ≡ true) × (s : ObjectState) × (state_by m i x ≡ Some s) × (object_held new x ≡ Some (state_bytes s)))
 
 pub record Commits_whole (old new : Machine) (l : Label) (i : ℕ) (file_old file_new : FileMap) (stops_old stops_new : ℕ) (before after : List Line) : Type 0 where
   pub ended : IsEnded true old new i

@@ -16,13 +16,13 @@ use Rattle.arj_journal.specs.declared.body.Kind.TheVariants as kind
 use Rattle.arj_text.specs.declared.label.Label.{Label}
 use Rattle.arj_text.specs.Label.{name}
 use Rattle.arj_model.specs.Actions.{Act, Placed, Halt, act_in, top_in, root_in, has_end}
-use Rattle.arj_model.specs.Calls.{Said, Call, Top, made_in, kept, top_of}
+use Rattle.arj_model.specs.Calls.{Said, Call, Top, made_in, kept, top_of, survivors}
 use Rattle.arj_model.specs.Serial.{Values, Answers, run, arrange, serial_less, writes_on, touches}
 use Rattle.arj_model.specs.Last.{first_values, object_line, count_tops, last_writer, is_among, state_after}
 use Rattle.arj_model.specs.Clean.{undecided_by}
 use Rattle.arj_model.specs.Past.{Asked}
-use Rattle.arj_model.specs.Follows.{objects_from}
-use Rattle.arj_model.specs.Seen.{Seen}
+use Rattle.arj_model.specs.Refusals.{objects_from}
+use Rattle.arj_engine.specs.Seen.{Seen}
 use Rattle.arj_engine.specs.Object.{Obj}
 use Rattle.arj_engine.specs.declared.object.Row.{Row as Lock}
 
@@ -157,6 +157,7 @@ pub record Keeps (header : Header) (accepted : List Asked) (s : Seen) (m : Machi
   pub ended_below : AllByRecursion (λ e. e.it < length s.acts) s.ended
   pub committed_below : AllByRecursion (λ e. e.it < length s.acts) s.committed
   pub found : s.recovered ≡ []
+  pub stores : (s.excluded ≡ []) × (s.included ≡ [])
   pub inc : s.inc ≡ 1
   pub halts : HaltsFit s.down (length s.acts) s.halts
   pub roots : AllByRecursion (λ a. IsBelow (length s.acts) (root_in a.path)) accepted
@@ -170,12 +171,24 @@ pub record Keeps (header : Header) (accepted : List Asked) (s : Seen) (m : Machi
   pub class : (x : ℕ) (o : Obj) (line : ObjectLine) → m.object x ≡ Some o → object_line header x ≡ Some line → class_of o.value ≡ class_of line.value
   pub up : s.down ≡ false → Up header accepted s m
 
--- the last state of an object, and the one that it would have if this action had committed, of what is read
+-- an action's surviving calls, of what is read
+abbrev pub surviving_seen : Seen → ℕ → List Call
+surviving_seen s i = survivors s.committed (calls_by s i)
+
+-- the last state of an object, the one that it would have if this action had committed with all its calls, and with its
+-- surviving ones
 abbrev pub last_seen : Header → Seen → ℕ → ObjectState
 last_seen header s x = state_after x (now header s x) (writes_seen s x)
 
-abbrev pub next_seen : Header → Seen → ℕ → ℕ → ObjectState
-next_seen header s i x = state_after x (run (now header s) (calls_by s i) x) (writes_seen s x ++ filter (writes_on x) (calls_by s i))
+abbrev pub next_with : Header → Seen → List Call → ℕ → ObjectState
+next_with header s cs x = state_after x (run (now header s) cs x) (writes_seen s x ++ filter (writes_on x) cs)
 
+abbrev pub next_made : Header → Seen → ℕ → ℕ → ObjectState
+next_made header s i x = next_with header s (calls_by s i) x
+
+abbrev pub next_seen : Header → Seen → ℕ → ℕ → ObjectState
+next_seen header s i x = next_with header s (surviving_seen s i) x
+
+-- the undecided tops, of what is read
 abbrev pub undecided_seen : Seen → List ℕ
-undecided_seen s = filter_map (λ p. undecided_by s.ended (top_in p.it)) s.committings
+undecided_seen s = filter_map (λ p. undecided_by s.ended s.recovered (top_in p.it)) s.committings

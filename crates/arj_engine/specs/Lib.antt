@@ -1,5 +1,6 @@
 pub mod Form
 pub mod Object
+pub mod Seen
 pub mod Keeps
 pub mod Change
 pub mod Events

@@ -8,7 +8,9 @@ use Rattle.arj_base.specs.declared.state.ObjectState.{ObjectState}
 use Rattle.arj_base.specs.Mode.{conflicting, stronger}
 use Rattle.arj_base.specs.Uid.{uid_eq, object, nobody}
 use Rattle.arj_base.specs.State.{state_bytes}
-use Rattle.arj_disk.specs.Files.{FileMap, held}
+use Rattle.arj_disk.specs.Files.{FileMap}
+use Rattle.arj_disk.specs.Says.{held}
+use Rattle.arj_disk.specs.declared.slot.Role.TheVariants.{Store}
 use Rattle.arj_journal.specs.declared.header.ObjectLine.{ObjectLine}
 use Rattle.arj_model.specs.Last.{is_among}
 use Rattle.arj_class.specs.declared.value.Value.{Value}
@@ -124,22 +126,26 @@ abbrev pub put_over : Option ObjectState → Option (List ℕ) → Option (List 
 put_over None found = found
 put_over (Some s) found = Some (state_bytes s)
 
+-- what is held of object x
+abbrev pub object_held : FileMap → ℕ → Option (List ℕ)
+object_held file x = held file Store (object x)
+
 -- the state is held of object x, and of each other what was
 abbrev pub PutsState : ℕ → ObjectState → FileMap → FileMap → Type 0
-PutsState x s old new = (y : ℕ) → held new y ≡ (if y == x then Some (state_bytes s) else held old y)
+PutsState x s old new = (y : ℕ) → object_held new y ≡ (if y == x then Some (state_bytes s) else object_held old y)
 
 -- of object x the state is held or what was, and of each other what was
 abbrev pub PutsStateOrNot : ℕ → ObjectState → FileMap → FileMap → Type 0
-PutsStateOrNot x s old new = (y : ℕ) → (held new y ≡ held old y) ⊎ ((y ≡ x) × (held new y ≡ Some (state_bytes s)))
+PutsStateOrNot x s old new = (y : ℕ) → (object_held new y ≡ object_held old y) ⊎ ((y ≡ x) × (object_held new y ≡ Some (state_bytes s)))
 
 -- of each object that is used and changed the new state is held, and of each other what was
 abbrev pub PutsStates : Uid → List (Option Obj) → List ℕ → FileMap → FileMap → Type 0
-PutsStates action os used old new = (x : ℕ) → held new x ≡ (if is_among used x then put_over (new_state_in action os x) (held old x) else held old x)
+PutsStates action os used old new = (x : ℕ) → object_held new x ≡ (if is_among used x then put_over (new_state_in action os x) (object_held old x) else object_held old x)
 
 -- of each object what was held is held, or the new state where it is used and changed
 abbrev pub PutsSomeStates : Uid → List (Option Obj) → List ℕ → FileMap → FileMap → Type 0
 PutsSomeStates action os used old new =
-    (x : ℕ) → (held new x ≡ held old x) ⊎ ((is_among used x ≡ true) × (s : ObjectState) × (new_state_in action os x ≡ Some s) × (held new x ≡ Some (state_bytes s)))
+    (x : ℕ) → (object_held new x ≡ object_held old x) ⊎ ((is_among used x ≡ true) × (s : ObjectState) × (new_state_in action os x ≡ Some s) × (object_held new x ≡ Some (state_bytes s)))
 
 abbrev pub put_first : ℕ → Option Obj → Option (List ℕ) → Option (List ℕ)
 put_first x None found = found
@@ -147,8 +153,8 @@ put_first x (Some o) found = Some (state_bytes (old_state x o))
 
 -- the committed state of object x is held, if there is one, and of each other what was
 abbrev pub PutsFirst : ℕ → Option Obj → FileMap → FileMap → Type 0
-PutsFirst x o old new = (y : ℕ) → held new y ≡ (if y == x then put_first x o (held old x) else held old y)
+PutsFirst x o old new = (y : ℕ) → object_held new y ≡ (if y == x then put_first x o (object_held old x) else object_held old y)
 
 -- of each object its committed state is held
 abbrev pub PutsFirsts : List (Option Obj) → FileMap → FileMap → Type 0
-PutsFirsts os old new = (x : ℕ) → held new x ≡ put_first x (object_in os x) (held old x)
+PutsFirsts os old new = (x : ℕ) → object_held new x ≡ put_first x (object_in os x) (object_held old x)

@@ -124,6 +124,7 @@ impl Engine {
         ensures steady { result ≢ Err FormatFault.Stopped → D.stops disk.new ≡ D.stops disk.old }
         ensures later { D.stops disk.old ≤ D.stops disk.new }
         ensures arms { D.arms disk.new ≡ D.arms disk.old }
+        ensures last_arm { D.last_arm disk.new ≡ D.last_arm disk.old }
     {
         let objects = objects_of(alloc, header)?;
         match put_firsts(alloc, disk, &objects) {
@@ -167,6 +168,7 @@ impl Engine {
             × (D.file disk.new ≡ D.file disk.old) × (D.stops disk.new ≡ D.stops disk.old) }
         ensures later { D.stops disk.old ≤ D.stops disk.new }
         ensures arms { D.arms disk.new ≡ D.arms disk.old }
+        ensures last_arm { D.last_arm disk.new ≡ D.last_arm disk.old }
     {
         match event {
             Event::Begin { label, node } => self.begin(label, node, journal),
@@ -394,6 +396,7 @@ impl Engine {
         ensures steady { OnOk result (D.stops disk.new ≡ D.stops disk.old) }
         ensures later { D.stops disk.old ≤ D.stops disk.new }
         ensures arms { D.arms disk.new ≡ D.arms disk.old }
+        ensures last_arm { D.last_arm disk.new ≡ D.last_arm disk.old }
     {
         let used = self.actions[number].used.as_slice();
         put_states(
@@ -418,6 +421,7 @@ impl Engine {
         ensures labels { IsErrOf result StepFault.Labels → ⊥ }
         ensures later { D.stops disk.old ≤ D.stops disk.new }
         ensures arms { D.arms disk.new ≡ D.arms disk.old }
+        ensures last_arm { D.last_arm disk.new ≡ D.last_arm disk.old }
     {
         if let Some(cause) = self.refusal_of_end(label) {
             return self.refuse(cause, journal);

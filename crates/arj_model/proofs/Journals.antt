@@ -138,8 +138,8 @@ conflict_bodies =
 abbrev pub conflict : List Line
 conflict = lines_of conflict_bodies
 
-abbrev pub nested_abort : List Line
-nested_abort = lines_of (
+abbrev pub nested_abort_bodies : List (List Body)
+nested_abort_bodies =
     (began A kind.Top 1 None ∷ [])
     ∷ (first_use 1 ++ on_object 1 Write ∷ ok A (Add 4) (codes "done") ∷ [])
     ∷ (began N kind.Nested 2 (Some A) ∷ [])
@@ -147,10 +147,13 @@ nested_abort = lines_of (
     ∷ (body.Aborted N cause.Asked ∷ told 2 Abort part.Server ∷ [])
     ∷ (ok A Get (codes "4") ∷ [])
     ∷ (body.Committing A ∷ commit_end A 1)
-    ∷ [])
+    ∷ []
 
-abbrev pub older_image : List Line
-older_image = lines_of (
+abbrev pub nested_abort : List Line
+nested_abort = lines_of nested_abort_bodies
+
+abbrev pub older_image_bodies : List (List Body)
+older_image_bodies =
     (began A kind.Top 1 None ∷ [])
     ∷ (began C kind.Nested 2 (Some A) ∷ [])
     ∷ (first_use 1 ++ on_object 2 Write ∷ ok C (Add 1) (codes "done") ∷ [])
@@ -161,19 +164,25 @@ older_image = lines_of (
     ∷ (body.Aborted A cause.Asked ∷ told 1 Abort part.Naming ∷ told 1 Abort part.Server ∷ [])
     ∷ (began B kind.Top 4 None ∷ [])
     ∷ (on_entry 4 Read ∷ on_object 4 Read ∷ ok B Get (codes "7") ∷ [])
-    ∷ [])
+    ∷ []
 
-abbrev pub independent : List Line
-independent = lines_of (
+abbrev pub older_image : List Line
+older_image = lines_of older_image_bodies
+
+abbrev pub independent_bodies : List (List Body)
+independent_bodies =
     (began A kind.Top 1 None ∷ [])
     ∷ (first_use 1 ++ on_object 1 Read ∷ ok A Get (codes "0") ∷ [])
     ∷ (began T kind.Independent 2 (Some A) ∷ [])
     ∷ (on_entry 2 Read ∷ body.Conflict T (uid 1) Read 1 ∷ [])
     ∷ (body.Aborted T cause.Asked ∷ told 2 Abort part.Naming ∷ [])
-    ∷ [])
+    ∷ []
 
-abbrev pub serializing : List Line
-serializing = lines_of (
+abbrev pub independent : List Line
+independent = lines_of independent_bodies
+
+abbrev pub serializing_bodies : List (List Body)
+serializing_bodies =
     (began S kind.Serial 1 None ∷ [])
     ∷ (began C kind.Constituent 2 (Some S) ∷ [])
     ∷ (first_use 2 ++ on_object 2 Write ∷ ok C (Add 1) (codes "done") ∷ [])
@@ -185,7 +194,10 @@ serializing = lines_of (
     ∷ (body.Committing D ∷ prepared 1 4 role.Store ∷ body.Committed D ∷ done 1 4 role.Store Commit ∷ told 4 Commit part.Server ∷ [])
     ∷ (body.Aborted S cause.Asked ∷ told 1 Abort part.Naming ∷ told 1 Abort part.Server ∷ [])
     ∷ (on_object 3 Read ∷ ok B Get (codes "2") ∷ [])
-    ∷ [])
+    ∷ []
+
+abbrev pub serializing : List Line
+serializing = lines_of serializing_bodies
 
 -- Three nodes, the server at 1 and the stores at 2 and 3: a call of A, and its commit up to the prepares.
 abbrev pub to_prepares : List (List Body)
@@ -230,15 +242,18 @@ inclusion = lines_of (to_inclusion ++ (
     ∷ told 3 Abort part.Naming ∷ body.Got 20 ∷ body.Got 21 ∷ done 3 3 role.Store Abort ∷ [])
     ∷ []))
 
-abbrev pub stop_at_decision_done : List Line
-stop_at_decision_done = lines_of (to_prepares ++ (
+abbrev pub stop_at_decision_done_bodies : List (List Body)
+stop_at_decision_done_bodies = to_prepares ++ (
     (body.Armed 1 ∷ [])
     ∷ (body.Got 3 ∷ prepared 2 1 role.Store ∷ sent 5 2 1 frame.Prepared ∷ body.Got 4 ∷ prepared 3 1 role.Store ∷ sent 6 3 1 frame.Prepared ∷ body.Got 5 ∷ body.Got 6 ∷ body.Halted 1 ∷ [])
     ∷ (body.Up 1 2 ∷ body.Recovered 1 (uid 1) ∷ sent 7 1 2 frame.Told ∷ sent 8 1 3 frame.Told ∷ sent 9 1 2 frame.Hello ∷ sent 10 1 3 frame.Hello ∷ [])
     ∷ (body.Got 7 ∷ done 2 1 role.Store Commit ∷ sent 11 2 1 frame.Acked ∷ body.Got 8 ∷ done 3 1 role.Store Commit ∷ sent 12 3 1 frame.Acked ∷ body.Got 9 ∷ body.Got 10 ∷ body.Got 11
     ∷ body.Got 12 ∷ body.Quiet true ∷ [])
     ∷ (body.Entry 1 0 (1 ∷ []) (2 ∷ 3 ∷ []) ∷ body.Copy 2 1 1 (uid 1) (counter 1) ∷ body.Copy 3 1 1 (uid 1) (counter 1) ∷ [])
-    ∷ []))
+    ∷ [])
+
+abbrev pub stop_at_decision_done : List Line
+stop_at_decision_done = lines_of stop_at_decision_done_bodies
 
 abbrev pub one_node : ℕ → Header
 one_node v = record { nodes = 1; objects = record { x = 1; value = Counter v; servers = 1 ∷ []; stores = 1 ∷ [] } ∷ [] }
@@ -267,3 +282,35 @@ many_includes = lines_of (
     ∷ (began C kind.Nested 3 (Some A) ∷ body.Includes C 1 6 ∷ body.Aborted C cause.Asked ∷ [])
     ∷ (body.Committing A ∷ body.Excluded A 1 2 ∷ body.Excluded A 1 4 ∷ body.Committed A ∷ [])
     ∷ [])
+
+-- Four nodes, naming at 1, the server at 2 and the stores at 3 and 4: naming is stopped while an exclusion is in doubt.
+abbrev pub uid_at : ℕ → ℕ → Uid
+uid_at n k = record { node = n; inc = 1; num = k }
+
+abbrev pub four_nodes : Header
+four_nodes = record { nodes = 4; objects = record { x = 1; value = Counter 0; servers = 2 ∷ []; stores = 3 ∷ 4 ∷ [] } ∷ [] }
+
+abbrev pub naming_stopped_bodies : List (List Body)
+naming_stopped_bodies =
+    (body.Began A kind.Top (uid_at 2 1) None ∷ [])
+    ∷ (sent 1 2 1 frame.Bind ∷ [])
+    ∷ (body.Got 1 ∷ body.Granted 1 (uid_at 2 1) (entry 1) Write ∷ body.Bound 1 first_binding 2 ∷ sent 2 1 2 frame.Bound ∷ body.Got 2 ∷ sent 3 2 3 frame.Load ∷ body.Got 3 ∷ sent 4 3 2 frame.Loaded ∷ body.Got 4 ∷ body.Active 2 1 first_binding ∷ sent 5 2 1 frame.Record ∷ body.Got 5 ∷ body.Lowered 1 (uid_at 2 1) (entry 1) ∷ sent 6 1 2 frame.Recorded ∷ body.Got 6 ∷ body.Granted 2 (uid_at 2 1) (object 1) Write ∷ ok A (Add 1) (codes "done") ∷ [])
+    ∷ (body.Committing A ∷ sent 7 2 3 frame.Prepare ∷ sent 8 2 4 frame.Prepare ∷ [])
+    ∷ (body.Dropped 8 ∷ [])
+    ∷ (body.Got 7 ∷ body.Prepared 3 (uid_at 2 1) role.Store ∷ sent 9 3 2 frame.Prepared ∷ body.Got 9 ∷ [])
+    ∷ (body.GaveUp A 4 ∷ body.Excluded A 1 4 ∷ sent 10 2 1 frame.Confirm ∷ [])
+    ∷ (body.Got 10 ∷ body.Granted 1 (uid_at 2 1) (entry 1) Exclude ∷ body.Prepared 1 (uid_at 2 1) role.Names ∷ sent 11 1 2 frame.Confirmed ∷ [])
+    ∷ (body.Halted 1 ∷ [])
+    ∷ (body.Got 11 ∷ body.Committed A ∷ sent 12 2 1 frame.Told ∷ sent 13 2 3 frame.Told ∷ sent 14 2 4 frame.Told ∷ body.Told 2 (uid_at 2 1) Commit part.Server ∷ [])
+    ∷ (body.Void 12 ∷ body.Got 13 ∷ body.Done 3 (uid_at 2 1) role.Store Commit ∷ sent 15 3 2 frame.Acked ∷ body.Got 14 ∷ body.Got 15 ∷ [])
+    ∷ (body.Up 1 2 ∷ body.Granted 1 (uid_at 2 1) (entry 1) Exclude ∷ sent 16 1 2 frame.Query ∷ sent 17 1 2 frame.Hello ∷ sent 18 1 3 frame.Hello ∷ sent 19 1 4 frame.Hello ∷ [])
+    ∷ (body.Began B kind.Top (uid_at 3 1) None ∷ [])
+    ∷ (sent 20 3 1 frame.Bind ∷ [])
+    ∷ (body.Got 20 ∷ sent 21 1 3 frame.Bound ∷ [])
+    ∷ (body.Got 21 ∷ body.Conflict B (uid_at 2 1) Exclude 1 ∷ [])
+    ∷ (body.Got 16 ∷ sent 22 2 1 frame.Told ∷ body.Got 17 ∷ body.Got 18 ∷ body.Got 19 ∷ body.Got 22 ∷ body.Done 1 (uid_at 2 1) role.Names Commit ∷ body.Told 1 (uid_at 2 1) Commit part.Naming ∷ sent 23 1 2 frame.Acked ∷ body.Got 23 ∷ body.Quiet true ∷ [])
+    ∷ (body.Entry 1 1 (2 ∷ []) (3 ∷ []) ∷ body.Copy 3 1 1 (uid_at 2 1) (counter 1) ∷ body.Copy 4 1 0 (nobody) (counter 0) ∷ [])
+    ∷ []
+
+abbrev pub naming_stopped : List Line
+naming_stopped = lines_of naming_stopped_bodies

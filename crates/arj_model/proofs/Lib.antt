@@ -1,5 +1,7 @@
 pub mod Journals
+pub mod Listed
 pub mod Order
 pub mod Read
-mod Rows
-pub mod Seen
+mod NodeRows
+pub mod Rows
+mod Wrong

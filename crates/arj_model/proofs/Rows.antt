@@ -1,7 +1,7 @@
 -- The definitions tried on the worked runs: each value is known beforehand, and another one would be refused.
 use Rattle.std.specs.Prelude.{◌≡◌, refl, ℕ, ◌+◌, List, [], ◌∷◌, ◌++◌, length, map, filter, take, codes, Bool, true, false, Some, None, ⊤}
 use Rattle.std.specs.List.{list_all}
-use Rattle.std.proofs.Common.{arith, sym}
+use Rattle.std.proofs.Common.{arith, sym, inl}
 use Rattle.std.proofs.lemmas.Fmt.{decimal_digit}
 use Rattle.arj_base.specs.declared.uid.Uid.{Uid}
 use Rattle.arj_base.specs.declared.mode.Mode.{Mode}
@@ -10,8 +10,10 @@ use Rattle.arj_base.specs.declared.state.Class.TheVariants as class
 use Rattle.arj_base.specs.declared.state.ObjectState.{ObjectState}
 use Rattle.arj_base.specs.Uid.{object, entry, nobody}
 use Rattle.arj_base.specs.Rows.{Row}
+use Rattle.arj_class.specs.declared.op.Op.{Op}
 use Rattle.arj_class.specs.declared.op.Op.TheVariants.{Get, Add, Set}
-use Rattle.arj_class.specs.declared.op.Answer.TheVariants.{Done, Number}
+use Rattle.arj_class.specs.Table.{class_of, has_op, answer_of}
+use Rattle.arj_text.specs.Words.{answer_text}
 use Rattle.arj_class.specs.declared.value.Value.TheVariants.{Counter, Register}
 use Rattle.arj_journal.specs.declared.body.Body.{Body}
 use Rattle.arj_journal.specs.declared.body.Body.TheVariants as body
@@ -25,10 +27,12 @@ use Rattle.arj_model.specs.Actions.{acts, is_over}
 use Rattle.arj_model.specs.Calls.{tops, committed_calls}
 use Rattle.arj_model.specs.Serial.{Serial, serial_calls}
 use Rattle.arj_model.specs.Last.{first_values, last_state, listed, entry_state}
-use Rattle.arj_model.specs.Table.{table}
+use Rattle.arj_model.specs.OkTable.{ok_table}
 use Rattle.arj_model.specs.Past.{Past, nothing_yet, asked_of, next, block, Along}
-use Rattle.arj_model.specs.Follows.{refusal, is_own, own_lines, may_stand, AnswersFit, Step, Accepted, AreEnding, Follows, Runs}
-use Rattle.arj_model.specs.Causes.{HasCauseConflict, Prompt}
+use Rattle.arj_model.specs.Refusals.{refusal}
+use Rattle.arj_model.specs.Follows.{IsAnswerOf, AnswersFit, Step, Accepted, AreEnding, Follows, Runs}
+use Rattle.arj_model.specs.Own.{Begins, Ends, may_stand, halts_fit}
+use Rattle.arj_model.specs.Causes.{HasCauseConflict, Prompt, Alone}
 use Rattle.arj_model.proofs.Journals.{A, B, C, N, uid, counter, began, ok, lines_of, one_node, three_nodes, smallest_bodies, conflict_bodies, smallest, conflict, nested_abort, older_image, independent, serializing, to_inclusion, exclusion, inclusion, stop_at_decision_done, unit_round_a_top, many_includes}
 
 -- What a journal shows: the numbers of the committed tops; of each action, the newest first, whether it is over; the
@@ -127,7 +131,7 @@ many_includes_show = refl
 -- Each is serial.
 
 infixr 20 ◌&◌
-◌&◌ : {P Q : Type 0} → P → Q → P × Q
+pub ◌&◌ : {P Q : Type 0} → P → Q → P × Q
 p & q = (p, q)
 
 smallest_serial : Serial (first_values (one_node 0)) smallest
@@ -159,13 +163,13 @@ is_built (body.Committed l) = true
 is_built _ = false
 
 -- what holds at each event, of the lines that it wrote
-abbrev Steps : (Past → Event → List Body → Type 0) → Past → List Event → List (List Body) → Type 0
+abbrev pub Steps : (Past → Event → List Body → Type 0) → Past → List Event → List (List Body) → Type 0
 Steps P past [] [] = ⊤
 Steps P past (e ∷ es) (bodies ∷ rest) = P past e bodies × Steps P (next past e bodies) es rest
 Steps P past _ _ = ⊥
 
 -- the run after these events
-abbrev past_from : Past → List Event → List (List Body) → Past
+abbrev pub past_from : Past → List Event → List (List Body) → Past
 past_from past (e ∷ es) (bodies ∷ rest) = past_from (next past e bodies) es rest
 past_from past _ _ = past
 
@@ -177,16 +181,22 @@ along P past [] (bodies ∷ rest) steps = elim steps [ ]
 along P past (e ∷ es) [] steps = elim steps [ ]
 along P past (e ∷ es) (bodies ∷ rest) steps = (bodies, steps.0, along P (next past e bodies) es rest steps.1)
 
-runs :
+pub runs :
     (P : Past → Event → List Body → Type 0) (es : List Event) (blocks : List (List Body)) (ending : List Line)
     → Steps P nothing_yet es blocks → AreEnding (length es) ending → Runs P es ((past_from nothing_yet es blocks).lines ++ ending)
 runs P es blocks ending steps last = (past_from nothing_yet es blocks, ending, along P nothing_yet es blocks steps, refl, last)
 
-accepted :
-    {header : Header} {past : Past} {e : Event} {bodies : List Body}
-    → filter is_own bodies ≡ own_lines header past e → list_all (may_stand e) bodies ≡ true
-    → AnswersFit (past.accepted ++ asked_of past e ∷ []) past.lines (past.count + 1) bodies → Accepted header past e bodies
-accepted own only answers = record { own = own; only = only; answers = answers }
+pub accepted :
+    {header : Header} {past : Past} {e : Event} (own others last : List Body)
+    → Begins header past e own → Ends e own last → list_all (may_stand e) others ≡ true → halts_fit past.lines e others ≡ true
+    → AnswersFit (past.accepted ++ asked_of past e ∷ []) (past.lines ++ block (past.count + 1) own) (past.count + 1) others
+    → Accepted header past e (own ++ (others ++ last))
+accepted own others last begins ends only halts answers =
+    record { own = own; others = others; last = last; parts = refl; begins = begins; ends = ends; only = only; halts = halts; answers = answers }
+
+-- an answer to a call of the counter, at this value
+pub at : {op : Op} {answer : List ℕ} (n : ℕ) → has_op (class_of (Counter n)) op ≡ true → answer ≡ answer_text (answer_of op (Counter n)) → IsAnswerOf op answer
+at n has is = (Counter n, has, is)
 
 abbrev smallest_events : List Event
 smallest_events = event.Begin A 1 ∷ event.Call A 1 (Add 5) ∷ event.Commit A ∷ event.Begin B 1 ∷ event.Call B 1 Get ∷ event.Commit B ∷ []
@@ -196,8 +206,13 @@ first_smallest = map (filter is_built) smallest_bodies
 
 smallest_follows : Follows (one_node 0) smallest_events (lines_of first_smallest)
 smallest_follows = runs (Step (one_node 0)) smallest_events first_smallest [] (
-    accepted refl refl (tt & tt) & accepted refl refl (((refl, refl), (Done, refl)), tt) & accepted refl refl (tt & refl & tt)
-    & accepted refl refl (tt & tt) & accepted refl refl (((refl, refl), (Number 5, sym (decimal_digit 5 (omega arith)))), tt) & accepted refl refl (tt & refl & tt) & tt) tt
+    inl (accepted (began A kind.Top 1 None ∷ []) [] [] refl refl refl refl tt)
+    & inl (accepted [] (ok A (Add 5) done ∷ []) [] refl (inl refl) refl refl (((refl, refl), at 0 refl refl), tt))
+    & inl (accepted (body.Committing A ∷ []) (body.Committed A ∷ []) [] (inl refl) (inl refl) refl refl (refl, tt))
+    & inl (accepted (began B kind.Top 2 None ∷ []) [] [] refl refl refl refl tt)
+    & inl (accepted [] (ok B Get (codes "5") ∷ []) [] refl (inl refl) refl refl (((refl, refl), at 5 refl (sym (decimal_digit 5 (omega arith)))), tt))
+    & inl (accepted (body.Committing B ∷ []) (body.Committed B ∷ []) [] (inl refl) (inl refl) refl refl (refl, tt))
+    & tt) tt
 
 smallest_conflicts : Runs (HasCauseConflict (one_node 0)) smallest_events (lines_of first_smallest)
 smallest_conflicts = runs (HasCauseConflict (one_node 0)) smallest_events first_smallest [] (refl & refl & refl & refl & refl & refl & tt) tt
@@ -205,18 +220,15 @@ smallest_conflicts = runs (HasCauseConflict (one_node 0)) smallest_events first_
 smallest_prompt : Runs (Prompt (one_node 0)) smallest_events (lines_of first_smallest)
 smallest_prompt = runs (Prompt (one_node 0)) smallest_events first_smallest [] (tt & refl & refl & tt & refl & refl & tt) tt
 
+smallest_alone : Runs (Alone (one_node 0)) smallest_events (lines_of first_smallest)
+smallest_alone = runs (Alone (one_node 0)) smallest_events first_smallest [] (refl & refl & refl & refl & refl & refl & tt) tt
+
 abbrev conflict_events : List Event
 conflict_events =
     event.Begin A 1 ∷ event.Call A 1 (Add 2) ∷ event.Begin B 1 ∷ event.Call B 1 (Add 3) ∷ event.Commit A ∷ event.Call B 1 (Add 3) ∷ event.Commit B ∷ []
 
 abbrev first_conflict : List (List Body)
 first_conflict = map (filter is_built) (take 7 conflict_bodies)
-
-conflict_follows : Follows (one_node 0) conflict_events (lines_of first_conflict)
-conflict_follows = runs (Step (one_node 0)) conflict_events first_conflict [] (
-    accepted refl refl (tt & tt) & accepted refl refl (((refl, refl), (Done, refl)), tt) & accepted refl refl (tt & tt)
-    & accepted refl refl (refl & tt) & accepted refl refl (tt & refl & tt) & accepted refl refl (((refl, refl), (Done, refl)), tt)
-    & accepted refl refl (tt & refl & tt) & tt) tt
 
 conflict_conflicts : Runs (HasCauseConflict (one_node 0)) conflict_events (lines_of first_conflict)
 conflict_conflicts = runs (HasCauseConflict (one_node 0)) conflict_events first_conflict [] (refl & refl & refl & refl & refl & refl & refl & tt) tt
@@ -236,9 +248,16 @@ raise =
 
 raise_follows : Follows (one_node 0) raise_events (lines_of raise)
 raise_follows = runs (Step (one_node 0)) raise_events raise [] (
-    accepted refl refl (tt & tt) & accepted refl refl (tt & tt) & accepted refl refl (((refl, refl), (Number 0, sym (decimal_digit 0 (omega arith)))), tt)
-    & accepted refl refl (((refl, refl), (Number 0, sym (decimal_digit 0 (omega arith)))), tt) & accepted refl refl (refl & tt) & accepted refl refl (tt & tt)
-    & accepted refl refl (tt & tt) & accepted refl refl (((refl, refl), (Done, refl)), tt) & accepted refl refl (refl & tt) & tt) tt
+    inl (accepted (began A kind.Top 1 None ∷ []) [] [] refl refl refl refl tt)
+    & inl (accepted (began B kind.Top 2 None ∷ []) [] [] refl refl refl refl tt)
+    & inl (accepted [] (ok A Get (codes "0") ∷ []) [] refl (inl refl) refl refl (((refl, refl), at 0 refl (sym (decimal_digit 0 (omega arith)))), tt))
+    & inl (accepted [] (ok B Get (codes "0") ∷ []) [] refl (inl refl) refl refl (((refl, refl), at 0 refl (sym (decimal_digit 0 (omega arith)))), tt))
+    & inl (accepted [] (body.Conflict A (uid 2) Read 1 ∷ []) [] refl (inl refl) refl refl (refl, tt))
+    & inl (accepted (began C kind.Top 3 None ∷ []) [] [] refl refl refl refl tt)
+    & inl (accepted (body.Aborted B cause.Asked ∷ []) [] [] (refl, tt) (inl refl) refl refl tt)
+    & inl (accepted [] (ok A (Set 1) done ∷ []) [] refl (inl refl) refl refl (((refl, refl), at 0 refl refl), tt))
+    & inl (accepted [] (body.Conflict C (uid 1) Write 1 ∷ []) [] refl (inl refl) refl refl (refl, tt))
+    & tt) tt
 
 raise_conflicts : Runs (HasCauseConflict (one_node 0)) raise_events (lines_of raise)
 raise_conflicts = runs (HasCauseConflict (one_node 0)) raise_events raise [] (refl & refl & refl & refl & refl & refl & refl & refl & refl & tt) tt
@@ -246,9 +265,9 @@ raise_conflicts = runs (HasCauseConflict (one_node 0)) raise_events raise [] (re
 abbrev row : ℕ → Mode → Row
 row k m = record { object = object 1; holder = uid k ∷ []; tops = 1; mode = m }
 
--- the table after so many events
+-- the ok_table after so many events
 abbrev tables : List (List Body) → List ℕ → List (List Row)
-tables blocks counts = map (λ n. table (lines_of (take n blocks))) counts
+tables blocks counts = map (λ n. ok_table (lines_of (take n blocks))) counts
 
 raise_tables :
     tables raise (2 ∷ 3 ∷ 4 ∷ 7 ∷ 8 ∷ []) ≡ [] ∷ (row 1 Read ∷ []) ∷ (row 1 Read ∷ row 2 Read ∷ []) ∷ (row 1 Read ∷ []) ∷ (row 1 Write ∷ []) ∷ []
@@ -271,8 +290,12 @@ refused =
 
 refused_follows : Follows (one_node 0) refused_events (lines_of refused ++ block 14 (body.Bad 20 ∷ []))
 refused_follows = runs (Step (one_node 0)) refused_events refused (block 14 (body.Bad 20 ∷ [])) (
-    refl & accepted refl refl (tt & tt) & refl & refl & refl & accepted refl refl (tt & tt) & refl & refl & accepted refl refl (tt & tt)
-    & accepted refl refl (((refl, refl), (Done, refl)), tt) & accepted refl refl (tt & tt & tt) & refl & refl & refl & tt) (refl & refl)
+    inl refl & inl (accepted (began A kind.Top 1 None ∷ []) [] [] refl refl refl refl tt) & inl refl & inl refl & inl refl
+    & inl (accepted (body.Aborted A cause.Asked ∷ []) [] [] (refl, tt) (inl refl) refl refl tt) & inl refl & inl refl
+    & inl (accepted (began B kind.Top 2 None ∷ []) [] [] refl refl refl refl tt)
+    & inl (accepted [] (ok B (Set 7) done ∷ []) [] refl (inl refl) refl refl (((refl, refl), at 0 refl refl), tt))
+    & inl (accepted (body.Committing B ∷ []) (body.Halted 1 ∷ []) [] (inl refl) (inl refl) refl refl (refl, tt))
+    & inl refl & inl refl & inl refl & tt) (refl & refl)
 
 refused_prompt : Runs (Prompt (one_node 0)) refused_events (lines_of refused ++ block 14 (body.Bad 20 ∷ []))
 refused_prompt = runs (Prompt (one_node 0)) refused_events refused (block 14 (body.Bad 20 ∷ [])) (

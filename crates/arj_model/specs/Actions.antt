@@ -28,10 +28,12 @@ pub record Act : Type 0 where
   pub uid : Uid
   pub parent : Option (List ℕ)
 
+-- what a line says of an action that began
 abbrev pub begun_of : Body → Option Begun
 begun_of (body.Began l k u p) = Some (record { label = name l; kind = k; uid = u; parent = option_map name p })
 begun_of _ = None
 
+-- the actions with one more, where one began: its number is the count of those before it
 abbrev pub numbered : List Act → Option Begun → List Act
 numbered acts None = acts
 numbered acts (Some b) = record { id = length acts; label = b.label; kind = b.kind; uid = b.uid; parent = b.parent } ∷ acts
@@ -40,6 +42,7 @@ numbered acts (Some b) = record { id = length acts; label = b.label; kind = b.ki
 abbrev pub acts_after : List Act → Body → List Act
 acts_after acts b = numbered acts (begun_of b)
 
+-- the actions after these lines, from these on
 abbrev pub acts_from : List Act → List Line → List Act
 acts_from acts [] = acts
 acts_from acts (line ∷ lines) = acts_from (acts_after acts line.body) lines
@@ -53,6 +56,7 @@ pub record Placed (A : Type 0) : Type 0 where
   pub at : ℕ
   pub it : A
 
+-- the items with the one of this place in front, where there is one
 abbrev pub put : {A : Type 0} → ℕ → Option A → List (Placed A) → List (Placed A)
 put n None rest = rest
 put n (Some a) rest = record { at = n; it = a } ∷ rest
@@ -62,7 +66,7 @@ abbrev pub read : {A : Type 0} → (List Act → Body → Option A) → List Act
 read f acts n [] = []
 read f acts n (line ∷ lines) = put n (f acts line.body) (read f (acts_after acts line.body) (n + 1) lines)
 
--- A nested action's path is its parent's and itself; a top-level and an independent one's is itself.
+-- The path above an action: its parent's, or nothing where it has no parent or is independent of it.
 abbrev pub upwards : Option (List ℕ) → Kind → (List ℕ → List Act) → List Act
 upwards None k paths = []
 upwards (Some p) kind.Independent paths = []
@@ -73,9 +77,15 @@ abbrev pub path : List Act → List ℕ → List Act
 path [] l = []
 path (a ∷ older) l = if bytes_eq a.label l then upwards a.parent a.kind (path older) ++ a ∷ [] else path older l
 
+-- the same of an action, with those begun before it
+abbrev pub path_in : List Act → Act → List Act
+path_in older a = upwards a.parent a.kind (path older) ++ a ∷ []
+
+-- the Uids of a path
 abbrev pub uids : List Act → List Uid
 uids path = map (λ a. a.uid) path
 
+-- the kind of a serializing action
 abbrev pub is_serial : Kind → Bool
 is_serial kind.Serial = true
 is_serial _ = false
@@ -86,6 +96,7 @@ top_in [] = None
 top_in (a ∷ []) = if is_serial a.kind then None else Some a
 top_in (a ∷ b ∷ rest) = if is_serial a.kind then Some b else Some a
 
+-- the list without its first item
 abbrev pub behind_first : {A : Type 0} → List A → List A
 behind_first [] = []
 behind_first (a ∷ rest) = rest
@@ -109,17 +120,20 @@ root_in (a ∷ rest) = Some a.id
 abbrev pub act_in : List Act → List ℕ → Option Act
 act_in acts l = find (λ a. bytes_eq a.label l) acts
 
+-- its number
 abbrev pub id_in : List Act → List ℕ → Option ℕ
 id_in acts l = option_map (λ a. a.id) (act_in acts l)
 
+-- an action with this label began
 abbrev pub is_begun : List Line → List ℕ → Bool
 is_begun lines l = is_some (act_in (acts lines) l)
 
--- the numbers of the actions that end in a line: by commit, or by any end
+-- the number of the action that commits in a line
 abbrev pub committed_of : List Act → Body → Option ℕ
 committed_of acts (body.Committed l) = id_in acts (name l)
 committed_of acts _ = None
 
+-- the number of the action that ends in a line, by any end
 abbrev pub ended_of : List Act → Body → Option ℕ
 ended_of acts (body.Committed l) = id_in acts (name l)
 ended_of acts (body.Ended l) = id_in acts (name l)
@@ -131,14 +145,18 @@ pub record Halt : Type 0 where
   pub node : ℕ
   pub begun : ℕ
 
+-- what a line says of a halt
 abbrev pub halt_of : List Act → Body → Option Halt
 halt_of acts (body.Halted n) = Some (record { node = n; begun = length acts })
 halt_of acts _ = None
 
+-- the Uid whose record a restart found
 abbrev pub recovered_of : List Act → Body → Option Uid
 recovered_of acts (body.Recovered n u) = Some u
 recovered_of acts _ = None
 
+-- the commits of a journal, its ends of any kind, its halts, and the Uids of the records that its restarts found, each
+-- with its place
 abbrev pub committed : List Line → List (Placed ℕ)
 committed lines = read committed_of [] 0 lines
 
@@ -151,12 +169,17 @@ halts lines = read halt_of [] 0 lines
 abbrev pub recovered : List Line → List (Placed Uid)
 recovered lines = read recovered_of [] 0 lines
 
+-- the action with this number is among these ends
 abbrev pub has_end : List (Placed ℕ) → ℕ → Bool
 has_end ends id = list_any (λ e. e.it == id) ends
 
+-- the node of an action halted since it began
+abbrev pub is_halted : List (Placed Halt) → Act → Bool
+is_halted hs a = list_any (λ h. (h.it.node == a.uid.node) && nat_lt a.id h.it.begun) hs
+
 -- an action is over from its end, or from its node's halt
 abbrev pub is_over : List Line → Act → Bool
-is_over lines a = has_end (ended lines) a.id || list_any (λ h. (h.it.node == a.uid.node) && nat_lt a.id h.it.begun) (halts lines)
+is_over lines a = has_end (ended lines) a.id || is_halted (halts lines) a
 
 -- a top is committed by its `committed` line, or by a `recovered` line of its Uid
 abbrev pub is_committed : List (Placed ℕ) → List (Placed Uid) → Act → Bool

@@ -24,6 +24,7 @@ use Rattle.arj_model.specs.Serial.{Values, run, serial_calls, writes_on, arrange
 abbrev pub object_line : Header → ℕ → Option ObjectLine
 object_line header x = find (λ o. o.x == x) header.objects
 
+-- its first value, its stores and its servers
 abbrev pub value_of_line : Option ObjectLine → Value
 value_of_line None = Counter 0
 value_of_line (Some o) = o.value
@@ -65,21 +66,24 @@ state_after x v writes =
 abbrev pub last_state : Header → List Line → ℕ → ObjectState
 last_state header lines x = state_after x (run (first_values header) (serial_calls lines) x) (writes_of lines x)
 
--- An exclusion that a top's commit set out to make; an include that was answered.
+-- An exclusion that a top's commit set out to make.
 pub record Exclusion : Type 0 where
   pub top : ℕ
   pub x : ℕ
   pub node : ℕ
 
+-- An include that was answered.
 pub record Inclusion : Type 0 where
   pub path : List Act
   pub x : ℕ
   pub node : ℕ
 
+-- an exclusion of this top
 abbrev pub exclusion_by : ℕ → ℕ → Option Act → Option Exclusion
 exclusion_by x n None = None
 exclusion_by x n (Some top) = Some (record { top = top.id; x = x; node = n })
 
+-- what an `excluded` line says, and an `includes` line
 abbrev pub excluded_of : List Act → Body → Option Exclusion
 excluded_of acts (body.Excluded l x n) = exclusion_by x n (top_in (path acts (name l)))
 excluded_of acts _ = None
@@ -88,6 +92,7 @@ abbrev pub included_of : List Act → Body → Option Inclusion
 included_of acts (body.Includes l x n) = Some (record { path = path acts (name l); x = x; node = n })
 included_of acts _ = None
 
+-- the exclusions and the answered includes of a journal, each with its place
 abbrev pub excluded : List Line → List (Placed Exclusion)
 excluded lines = read excluded_of [] 0 lines
 
@@ -100,25 +105,30 @@ joins_by ends id x i None = None
 joins_by ends id x i (Some top) =
     if (top.id == id) && ((i.it.x == x) && list_all (λ a. has_end ends a.id) (chain_in i.it.path)) then Some i.it.node else None
 
+-- the nodes that a top's surviving includes of object x name
 abbrev pub joins_of : List Line → ℕ → ℕ → List ℕ
 joins_of lines id x = filter_map (λ i. joins_by (committed lines) id x i (top_in i.it.path)) (included lines)
 
+-- the nodes that a top excluded for object x
 abbrev pub leaves_of : List Line → ℕ → ℕ → List ℕ
 leaves_of lines id x = map (λ e. e.it.node) (filter (λ e. (e.it.top == id) && (e.it.x == x)) (excluded lines))
 
--- a list in increasing order, each number once
+-- an increasing list with this number in its place, if it isn't there yet
 abbrev pub insert_number : ℕ → List ℕ → List ℕ
 insert_number n [] = n ∷ []
 insert_number n (m ∷ ms) = if n == m then m ∷ ms else (if nat_lt n m then n ∷ m ∷ ms else m ∷ insert_number n ms)
 
+-- these numbers in increasing order, each once
 abbrev pub increasing : List ℕ → List ℕ
 increasing [] = []
 increasing (n ∷ ns) = insert_number n (increasing ns)
 
+-- the number stands in the list
 abbrev pub is_among : List ℕ → ℕ → Bool
 is_among ns n = list_any (λ m. m == n) ns
 
--- a top takes out the stores that it excluded, and appends those that it included and didn't exclude
+-- A top takes out the stores that it excluded, and appends those that it included and didn't exclude, in increasing
+-- order.
 abbrev pub listed_after : List Line → ℕ → List ℕ → Top → List ℕ
 listed_after lines x stores t =
     filter (λ s. not (is_among (leaves_of lines t.id x) s)) stores ++ increasing (filter (λ s. not (is_among (leaves_of lines t.id x) s)) (joins_of lines t.id x))
@@ -127,6 +137,7 @@ listed_after lines x stores t =
 abbrev pub serial_tops : List Line → List Top
 serial_tops lines = arrange (λ t u. lex (serial_key (tops lines) t.id) (serial_key (tops lines) u.id)) (tops lines)
 
+-- the list after these tops
 abbrev pub listed_from : List Line → ℕ → List ℕ → List Top → List ℕ
 listed_from lines x stores [] = stores
 listed_from lines x stores (t ∷ ts) = listed_from lines x (listed_after lines x stores t) ts
@@ -135,6 +146,7 @@ listed_from lines x stores (t ∷ ts) = listed_from lines x (listed_after lines 
 abbrev pub listed : Header → List Line → ℕ → List ℕ
 listed header lines x = listed_from lines x (stores_of_line (object_line header x)) (serial_tops lines)
 
+-- two lists are the same
 abbrev pub same_list : List ℕ → List ℕ → Bool
 same_list [] [] = true
 same_list (m ∷ ms) (n ∷ ns) = (m == n) && same_list ms ns
@@ -146,15 +158,18 @@ changers lines x stores [] = []
 changers lines x stores (t ∷ ts) =
     if same_list (listed_after lines x stores t) stores then changers lines x stores ts else t ∷ changers lines x (listed_after lines x stores t) ts
 
+-- the Uid of the action with this number
 abbrev pub uid_of_id : List Act → ℕ → Uid
 uid_of_id [] id = nobody
 uid_of_id (a ∷ older) id = if a.id == id then a.uid else uid_of_id older id
 
+-- the Uid of the last of these tops
 abbrev pub last_changer : List Act → List Top → Uid
 last_changer as_begun [] = nobody
 last_changer as_begun (t ∷ []) = uid_of_id as_begun t.id
 last_changer as_begun (t ∷ u ∷ ts) = last_changer as_begun (u ∷ ts)
 
+-- an entry's payload: its servers and its stores, each list behind its length
 abbrev pub entry_payload : List ℕ → List ℕ → List ℕ
 entry_payload servers stores = length servers ∷ (servers ++ (length stores ∷ stores))
 

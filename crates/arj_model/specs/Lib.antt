@@ -1,10 +1,13 @@
+pub mod Limits
 pub mod Actions
 pub mod Calls
 pub mod Serial
 pub mod Last
+pub mod OkTable
 pub mod Table
 pub mod Past
+pub mod Refusals
+pub mod Own
 pub mod Follows
 pub mod Causes
 pub mod Clean
-pub mod Seen

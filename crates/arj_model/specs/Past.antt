@@ -13,12 +13,13 @@ pub record Asked : Type 0 where
   pub path : List Act
   pub event : Event
 
--- A run so far.
+-- A run so far: how many events were run, those of them that were accepted, and the lines.
 pub record Past : Type 0 where
   pub count : ℕ
   pub accepted : List Asked
   pub lines : List Line
 
+-- before the first event
 abbrev pub nothing_yet : Past
 nothing_yet = record { count = 0; accepted = []; lines = [] }
 
@@ -31,6 +32,7 @@ label_of (event.Abort l) = name l
 label_of (event.GiveUp l) = name l
 label_of _ = []
 
+-- the event, with the path of the action that it names, as it is when the event comes
 abbrev pub asked_of : Past → Event → Asked
 asked_of past e = record { path = path (acts past.lines) (label_of e); event = e }
 

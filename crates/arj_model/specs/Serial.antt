@@ -14,6 +14,7 @@ Values = ℕ → Value
 abbrev pub with_value : Values → ℕ → Value → Values
 with_value values x v = λ y. if y == x then v else values y
 
+-- the values after a call
 abbrev pub after : Values → Call → Values
 after values c = with_value values c.x (value_after c.op (values c.x))
 
@@ -27,11 +28,13 @@ abbrev pub run : Values → List Call → Values
 run values [] = values
 run values (c ∷ cs) = run (after values c) cs
 
--- A sort that keeps the order of what doesn't differ: each item goes before the first that it isn't less than.
+-- A sort that keeps the order of what doesn't differ. An item goes behind those at the front that are less than it, and
+-- before the first that isn't.
 abbrev pub insert : {A : Type 0} → (A → A → Bool) → A → List A → List A
 insert less a [] = a ∷ []
 insert less a (b ∷ bs) = if less b a then b ∷ insert less a bs else a ∷ b ∷ bs
 
+-- the list in order: each item is put into the arranged rest
 abbrev pub arrange : {A : Type 0} → (A → A → Bool) → List A → List A
 arrange less [] = []
 arrange less (a ∷ rest) = insert less a (arrange less rest)
@@ -49,10 +52,12 @@ abbrev pub unit_place : List Top → ℕ → ℕ
 unit_place [] root = 0
 unit_place (t ∷ ts) root = if t.root == root then max t.at (unit_place ts root) else unit_place ts root
 
+-- the root of a committed top, by its number
 abbrev pub root_of : List Top → ℕ → ℕ
 root_of [] id = id
 root_of (t ∷ ts) id = if t.id == id then t.root else root_of ts id
 
+-- the place of a committed top, by its number
 abbrev pub top_place : List Top → ℕ → ℕ
 top_place [] id = 0
 top_place (t ∷ ts) id = if t.id == id then t.at else top_place ts id
@@ -61,6 +66,7 @@ top_place (t ∷ ts) id = if t.id == id then t.at else top_place ts id
 abbrev pub serial_key : List Top → ℕ → List ℕ
 serial_key ts id = unit_place ts (root_of ts id) ∷ top_place ts id ∷ []
 
+-- the order of two calls, by their tops alone
 abbrev pub serial_less : List Top → Call → Call → Bool
 serial_less ts c d = lex (serial_key ts c.top) (serial_key ts d.top)
 

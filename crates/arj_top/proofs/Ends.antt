@@ -6,7 +6,10 @@ use Rattle.std.proofs.Math.Logic.{⊎_elim}
 use Rattle.std.proofs.lemmas.List.{append-nil}
 use Rattle.std.proofs.lemmas.Bool.{or_cases, eqb-true, both_ways, false_from_ne_true}
 use Rattle.arj_base.specs.State.{state_bytes}
-use Rattle.arj_disk.specs.Files.{FileMap, held}
+use Rattle.arj_base.specs.Uid.{object}
+use Rattle.arj_disk.specs.declared.slot.Role.TheVariants.{Store}
+use Rattle.arj_disk.specs.Files.{FileMap}
+use Rattle.arj_disk.specs.Says.{held}
 use Rattle.arj_engine.specs.declared.engine.Engine.{Engine}
 use Rattle.arj_engine.specs.Engine.{Stands}
 use Rattle.arj_engine.specs.Form.{LineInForm}
@@ -15,13 +18,15 @@ use Rattle.arj_journal.specs.declared.body.Line.{Line}
 use Rattle.arj_journal.specs.declared.event.Event.{Event}
 use Rattle.arj_journal.specs.declared.header.Header.{Header}
 use Rattle.arj_journal.specs.declared.header.ObjectLine.{ObjectLine}
-use Rattle.arj_model.specs.Causes.{Moment, HasCauseConflict, Prompt, HasRoom, count_halts}
+use Rattle.arj_model.specs.Causes.{Moment, HasCauseConflict, Prompt, HasRoom, Alone, count_halts}
 use Rattle.arj_model.specs.Clean.{HoldsLastOrNext}
-use Rattle.arj_model.specs.Follows.{Step, Runs, AreEnding, is_down, is_node}
-use Rattle.arj_model.specs.Last.{first_values, stores_of_line, is_among, state_after}
+use Rattle.arj_model.specs.Follows.{Step, Runs, AreEnding}
+use Rattle.arj_model.specs.Refusals.{is_down, is_node}
+use Rattle.arj_model.specs.Last.{first_values, stores_of_line, object_line, listed, is_among, state_after}
+use Rattle.arj_model.proofs.Listed.{listed_plain}
 use Rattle.arj_model.specs.Past.{Past, Along, nothing_yet}
 use Rattle.arj_model.specs.Serial.{Serial, run, writes_on}
-use Rattle.arj_top.specs.Facts.{Facts, DiskFacts, held_in}
+use Rattle.arj_top.specs.Facts.{Facts, DiskFacts, disks_in, files_on}
 use Rattle.arj_io.specs.Told.{Takes}
 use Rattle.arj_journal.specs.LineText.{text}
 use Rattle.arj_journal.specs.declared.body.Body.TheVariants as body
@@ -46,6 +51,7 @@ runs_of header P es past ending journal part moments is ends = (past, ending, al
 pub facts_of : (header : Header) (es : List Event) (past : Past) (ending journal : List Line) → Along (Moment header) nothing_yet es past → Serial (first_values header) journal → journal ≡ past.lines ++ ending → AreEnding (length es) ending → Facts header es journal
 facts_of header es past ending journal moments serial is ends = record {
   follows = runs_of header (Step header) es past ending journal (λ p e bodies m. m.step) moments is ends;
+  alone = runs_of header (Alone header) es past ending journal (λ p e bodies m. m.alone) moments is ends;
   serial = serial;
   conflicts = runs_of header (HasCauseConflict header) es past ending journal (λ p e bodies m. m.conflict) moments is ends;
   prompt = runs_of header (Prompt header) es past ending journal (λ p e bodies m. m.prompt) moments is ends;
@@ -84,14 +90,14 @@ up_while header past engine file old new stands halted same room =
 pub disks_of : {D : Type 0} (file : D → FileMap) (stops arms : D → ℕ) (first rack : List D) (header : Header) (past : Past) (engine : Engine) (journal : List Line)
     → Engaged file stops arms first rack header past engine → SaysSame journal past.lines → DiskFacts file stops arms first rack header journal
 disks_of {D} file stops arms first rack header past engine journal g same = record {
-  listed = λ calm x s among doubt.
-      let one = listed_one x s header.objects g.form.lines among in
+  listed = λ calm x s among entry_doubt doubt.
+      let one = listed_one x s header.objects g.form.lines (among_stores x s among) in
       let still = calm 0 g.old g.new g.was got in
       let up = up_while header past engine (file g.new) (stops g.old) (stops g.new) g.stands g.halted still.0 still.1 in
       held_at x s one.0 ∙ (g.stands.holds up x one.1 ∙ ap (λ cs. Some (state_bytes (state_after x (run (first_values header) cs x) (filter (writes_on x) cs)))) (sym same.calls));
   stopped = λ x s among.
-      let one = listed_one x s header.objects g.form.lines among in
-      subst (λ found. HoldsLastOrNext header journal found x) (sym (held_at x s one.0)) (holds_same header journal past.lines (held (file g.new) x) x same (g.stands.holds_or_next x one.1));
+      let one = listed_one x s header.objects g.form.lines (among_stores x s among) in
+      subst (λ found. HoldsLastOrNext header journal found x) (sym (held_at x s one.0)) (holds_same header journal past.lines (held (file g.new) Store (object x)) x same (g.stands.holds_or_next x one.1));
   halted = halted_at;
   steady = steady_at;
   elsewhere = λ n no. same.halts n ∙ g.stands.alone n (λ e. absurd (both_ways (is_node header n) no (λ i. nat_le 1 (e i) && nat_le (e i) (g.form.nodes i))));
@@ -101,8 +107,12 @@ disks_of {D} file stops arms first rack header past engine journal g same = reco
     got : slice_get rack 0 ≡ Some g.new
     got = ap (λ r. slice_get r 0) g.now ∙ get_set first g.old g.new g.was
 
-    held_at : (x s : ℕ) → s ≡ 1 → held_in file rack s x ≡ held (file g.new) x
-    held_at x s one = ap (λ n. held_in file rack n x) one ∙ ap (λ d. option_and_then (λ disk. held (file disk) x) d) got
+    among_stores : (x s : ℕ) → is_among (listed header journal x) s ≡ true → is_among (stores_of_line (object_line header x)) s ≡ true
+    among_stores x s among =
+        ap (λ ns. is_among ns s) (sym (listed_plain header journal x (same.excluded_is ∙ g.stands.keeps.stores.0) (same.included_is ∙ g.stands.keeps.stores.1))) ∙ among
+
+    held_at : (x s : ℕ) → s ≡ 1 → held (disks_in file rack s) Store (object x) ≡ held (file g.new) Store (object x)
+    held_at x s one = ap (λ n. held (disks_in file rack n) Store (object x)) one ∙ ap (λ d. held (files_on file d) Store (object x)) got
 
     halted_at : (node : ℕ) (old new : D) → slice_get first node ≡ Some old → slice_get rack node ≡ Some new → (count_halts journal (node + 1) ≤ stops new - stops old) ⊎ (18446744073709551615 ≤ stops new)
     halted_at zero old new was now =

@@ -17,7 +17,7 @@ use Rattle.arj_journal.specs.declared.body.Line.{Line}
 use Rattle.arj_journal.specs.declared.event.Event.{Event}
 use Rattle.arj_journal.specs.declared.header.Header.{Header}
 use Rattle.arj_model.specs.Causes.{Moment, count_halts, is_halt}
-use Rattle.arj_model.specs.Follows.{is_down}
+use Rattle.arj_model.specs.Refusals.{is_down}
 use Rattle.arj_model.specs.Past.{Past, Along, nothing_yet, next, block}
 use Rattle.arj_script.specs.declared.reader.Item.{Item}
 use Rattle.arj_script.specs.declared.reader.Item.TheVariants as item

@@ -6,8 +6,9 @@ use Rattle.arj_journal.specs.declared.body.Body.{Body}
 use Rattle.arj_journal.specs.declared.body.Line.{Line}
 use Rattle.arj_model.specs.Actions.{Act, Placed, Halt, acts, acts_after, put, committed_of, ended_of, halt_of, recovered_of, committed, ended, halts, recovered}
 use Rattle.arj_model.specs.Calls.{Said, said_of, committing_of, said, committings}
-use Rattle.arj_model.specs.Table.{table, table_step}
-use Rattle.arj_model.specs.Follows.{down_step, is_down, inc_step, incarnation}
+use Rattle.arj_model.specs.Last.{Exclusion, Inclusion, excluded_of, included_of, excluded, included}
+use Rattle.arj_model.specs.OkTable.{ok_table, ok_table_step}
+use Rattle.arj_model.specs.Refusals.{down_step, is_down, inc_step, incarnation}
 
 -- what is read of a journal, with what is known of node 1
 pub record Seen : Type 0 where
@@ -18,11 +19,14 @@ pub record Seen : Type 0 where
   pub ended : List (Placed ℕ)
   pub halts : List (Placed Halt)
   pub recovered : List (Placed Uid)
+  pub excluded : List (Placed Exclusion)
+  pub included : List (Placed Inclusion)
   pub rows : List Row
   pub down : Bool
   pub inc : ℕ
   pub count : ℕ
 
+-- what is read of these lines
 abbrev pub seen : List Line → Seen
 seen ls = record {
   acts = acts ls;
@@ -32,7 +36,9 @@ seen ls = record {
   ended = ended ls;
   halts = halts ls;
   recovered = recovered ls;
-  rows = table ls;
+  excluded = excluded ls;
+  included = included ls;
+  rows = ok_table ls;
   down = is_down ls 1;
   inc = incarnation ls 1;
   count = length ls;
@@ -48,7 +54,9 @@ see s b = record {
   ended = s.ended ++ put s.count (ended_of s.acts b) [];
   halts = s.halts ++ put s.count (halt_of s.acts b) [];
   recovered = s.recovered ++ put s.count (recovered_of s.acts b) [];
-  rows = table_step s.acts b s.rows;
+  excluded = s.excluded ++ put s.count (excluded_of s.acts b) [];
+  included = s.included ++ put s.count (included_of s.acts b) [];
+  rows = ok_table_step s.acts b s.rows;
   down = down_step 1 b s.down;
   inc = inc_step 1 b s.inc;
   count = s.count + 1;

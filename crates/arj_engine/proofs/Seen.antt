@@ -4,7 +4,8 @@ use Rattle.arj_journal.specs.declared.body.Body.{Body}
 use Rattle.arj_journal.specs.declared.body.Line.{Line}
 use Rattle.arj_model.specs.Actions.{Act, acts, read, put, committed_of, ended_of, halt_of, recovered_of}
 use Rattle.arj_model.specs.Calls.{said_of, committing_of}
-use Rattle.arj_model.specs.Seen.{seen, see}
+use Rattle.arj_model.specs.Last.{excluded_of, included_of}
+use Rattle.arj_engine.specs.Seen.{seen, see}
 use Rattle.arj_model.proofs.Read.{read-append, acts-append, table-append, down-append, inc-append}
 
 length-more : (ls : List Line) (l : Line) → length (ls ++ l ∷ []) ≡ length ls + 1
@@ -24,8 +25,10 @@ seen-append ls l =
     let e = read-more ended_of ls l in
     let f = read-more halt_of ls l in
     let g = read-more recovered_of ls l in
+    let m = read-more excluded_of ls l in
+    let n = read-more included_of ls l in
     let r = table-append [] [] ls l in
     let h = down-append 1 false ls l in
     let j = inc-append 1 1 ls l in
     let k = length-more ls l in
-    λ i. record { acts = a i; said = b i; committings = c i; committed = d i; ended = e i; halts = f i; recovered = g i; rows = r i; down = h i; inc = j i; count = k i }
+    λ i. record { acts = a i; said = b i; committings = c i; committed = d i; ended = e i; halts = f i; recovered = g i; excluded = m i; included = n i; rows = r i; down = h i; inc = j i; count = k i }

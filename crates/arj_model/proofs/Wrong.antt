@@ -1,0 +1,135 @@
+-- Small wrong journals that the definitions refuse, each beside a right one.
+use Rattle.std.specs.Prelude.{◌≡◌, ◌⊎◌, refl, ℕ, ◌+◌, List, [], ◌∷◌, ◌++◌, map, take, replicate, get_or, codes, Bool, true, false, cond, nat_lt, Option, Some, None}
+use Rattle.std.proofs.Common.{arith, inl, inr, ap, ◌∙◌}
+use Rattle.arj_base.specs.declared.state.Class.TheVariants as class
+use Rattle.arj_base.specs.declared.state.ObjectState.{ObjectState}
+use Rattle.arj_base.specs.Uid.{object}
+use Rattle.arj_class.specs.declared.op.Op.TheVariants.{Get, Add}
+use Rattle.arj_class.specs.declared.op.Answer.TheVariants.{Done, Over}
+use Rattle.arj_class.specs.declared.value.Value.{Value}
+use Rattle.arj_class.specs.declared.value.Value.TheVariants.{Counter, Register, Account, Queue, Table}
+use Rattle.arj_class.specs.Table.{class_of, has_op, answer_of}
+use Rattle.arj_journal.specs.declared.body.Body.{Body}
+use Rattle.arj_journal.specs.declared.body.Body.TheVariants as body
+use Rattle.arj_journal.specs.declared.body.Cause.TheVariants as cause
+use Rattle.arj_journal.specs.declared.body.FrameKind.TheVariants as frame
+use Rattle.arj_journal.specs.declared.body.Kind.TheVariants as kind
+use Rattle.arj_journal.specs.declared.body.Line.{Line}
+use Rattle.arj_journal.specs.declared.event.Event.{Event}
+use Rattle.arj_journal.specs.declared.event.Event.TheVariants as event
+use Rattle.arj_journal.specs.declared.event.FrameNo.TheVariants.{Number}
+use Rattle.arj_text.specs.Label.{name}
+use Rattle.arj_text.specs.Words.{answer_text}
+use Rattle.arj_model.specs.Actions.{acts, act_in}
+use Rattle.arj_model.specs.Past.{Past, nothing_yet, block}
+use Rattle.arj_model.specs.Refusals.{refusal}
+use Rattle.arj_model.specs.Own.{Begins, AreAborted, aborted_of, may_stand, halts_fit}
+use Rattle.arj_model.specs.Follows.{Accepted, AnswerFits, IsAnswerOf}
+use Rattle.arj_model.specs.Causes.{is_full, is_late}
+use Rattle.arj_model.specs.Clean.{undecided, next_state}
+use Rattle.arj_model.proofs.Journals.{A, B, C, D, N, S, T, uid, began, counter, lines_of, one_node, three_nodes, nested_abort_bodies, stop_at_decision_done_bodies, to_prepares}
+use Rattle.arj_model.proofs.Rows.{past_from}
+
+-- An addition isn't answered by bytes.
+no_such_answer : IsAnswerOf (Add 5) (codes "00ff") → ⊥
+no_such_answer f = by f.0 f.1 f.2
+  where
+    which : (b : Bool) → codes "00ff" ≡ answer_text (cond b Done Over) → ⊥
+    which true is = let h : 48 ≡ 100 = ap (λ bs. get_or bs 0 0) is in omega (arith, h)
+    which false is = let h : 48 ≡ 111 = ap (λ bs. get_or bs 0 0) is in omega (arith, h)
+
+    by : (v : Value) → has_op (class_of v) (Add 5) ≡ true → codes "00ff" ≡ answer_text (answer_of (Add 5) v) → ⊥
+    by (Counter m) has is = which (nat_lt (m + 5) 18446744073709551616) is
+    by (Register bytes) has is = cc
+    by (Account m) has is = cc
+    by (Queue ns) has is = cc
+    by (Table ps) has is = cc
+
+-- one action of node 1 began
+abbrev begun : Past
+begun = past_from nothing_yet (event.Begin A 1 ∷ []) ((began A kind.Top 1 None ∷ []) ∷ [])
+
+-- A commit begins with its own line, and not with a halt.
+no_halt_first : Accepted (one_node 0) begun (event.Commit A) (body.Halted 1 ∷ body.Committing A ∷ []) → ⊥
+no_halt_first a = by a.begins
+  where
+    by : Begins (one_node 0) begun (event.Commit A) a.own → ⊥
+    by (inl e) = let h : body.Halted 1 ∷ body.Committing A ∷ [] ≡ (body.Committing A ∷ []) ++ (a.others ++ a.last) = a.parts ∙ ap (λ (own : List Body). own ++ (a.others ++ a.last)) e in cc
+    by (inr e) = let h : body.Halted 1 ∷ body.Committing A ∷ [] ≡ (body.Aborted A cause.Doomed ∷ []) ++ (a.others ++ a.last) = a.parts ∙ ap (λ (own : List Body). own ++ (a.others ++ a.last)) e.0 in cc
+
+-- The halt is that of the action's node, and nothing stands behind it.
+commit_halts : map (halts_fit begun.lines (event.Commit A)) ((body.Halted 1 ∷ []) ∷ (body.Halted 2 ∷ []) ∷ (body.Halted 1 ∷ body.Committed A ∷ []) ∷ []) ≡ true ∷ false ∷ false ∷ []
+commit_halts = refl
+
+-- A delivery halts the node that the frame is for; a settle may halt any, and goes on.
+delivery_halts :
+    map (halts_fit (lines_of to_prepares) (event.Deliver (Number 3))) ((body.Halted 2 ∷ []) ∷ (body.Halted 1 ∷ []) ∷ [])
+    ++ map (halts_fit (lines_of to_prepares) event.Settle) ((body.Halted 2 ∷ body.Got 4 ∷ []) ∷ []) ≡ true ∷ false ∷ true ∷ []
+delivery_halts = refl
+
+-- A node that is down doesn't halt again.
+no_second_halt : AnswerFits [] (begun.lines ++ block 2 (body.Halted 1 ∷ [])) (body.Halted 1) → ⊥
+no_second_halt h = cc
+
+-- Lines in an event of another kind.
+no_foreign_lines :
+    map (may_stand (event.Begin A 1)) (body.Halted 1 ∷ body.Committing A ∷ []) ++ map (may_stand (event.Call A 1 Get)) (body.Lost A 1 ∷ body.Up 1 2 ∷ body.Sent 1 0 1 frame.Junk ∷ [])
+    ++ map (may_stand (event.GiveUp A)) (body.Lost B 1 ∷ body.Aborted B (cause.Lost 1) ∷ body.Got 1 ∷ []) ++ map (may_stand (event.Restart 2)) (body.Recovered 1 (uid 1) ∷ [])
+    ++ map (may_stand (event.Show 1)) (body.Entry 2 0 [] [] ∷ body.Got 1 ∷ [])
+    ≡ replicate 11 false
+no_foreign_lines = refl
+
+-- A commit of a serializing action isn't called, it ends; a nested one's isn't called either.
+abbrev nested : Past
+nested = past_from nothing_yet
+    (event.Serial S 1 ∷ event.BeginIn D S ∷ event.BeginIn N D ∷ event.BeginIn C N ∷ event.Top T D ∷ [])
+    ((began S kind.Serial 1 None ∷ []) ∷ (began D kind.Constituent 2 (Some S) ∷ []) ∷ (began N kind.Nested 3 (Some D) ∷ []) ∷ (began C kind.Nested 4 (Some N) ∷ [])
+    ∷ (began T kind.Independent 5 (Some D) ∷ []) ∷ [])
+
+commits_begin :
+    Begins (one_node 0) nested (event.Commit S) (body.Ended S ∷ []) × Begins (one_node 0) nested (event.Commit D) (body.Committing D ∷ [])
+    × Begins (one_node 0) nested (event.Commit N) (body.Committed N ∷ []) × Begins (one_node 0) nested (event.Commit T) (body.Committing T ∷ [])
+commits_begin = (inl refl, inl refl, inl refl, inl refl)
+
+no_call_of_serial : Begins (one_node 0) nested (event.Commit S) (body.Committing S ∷ []) → ⊥
+no_call_of_serial (inl e) = cc
+no_call_of_serial (inr e) = let h = e.0 in cc
+
+no_call_of_nested : Begins (one_node 0) nested (event.Commit N) (body.Committing N ∷ []) → ⊥
+no_call_of_nested (inl e) = cc
+no_call_of_nested (inr e) = let h = e.0 in cc
+
+-- An abort ends the action with all below it, the latest first, and no independent one.
+abort_ends : map (λ a. a.label) (aborted_of nested.lines (act_in (acts nested.lines) (name D))) ≡ name C ∷ name N ∷ name D ∷ []
+abort_ends = refl
+
+aborts_begin : Begins (one_node 0) nested (event.Abort D) (body.Aborted C cause.Asked ∷ body.Aborted N cause.Asked ∷ body.Aborted D cause.Asked ∷ [])
+aborts_begin = (refl, (refl, (refl, tt)))
+
+no_child_left : Begins (one_node 0) nested (event.Abort D) (body.Aborted D cause.Asked ∷ []) → ⊥
+no_child_left h = let same : 68 ≡ 67 = ap (λ bs. get_or bs 0 0) h.0 in omega (arith, same)
+
+-- A top that a restart found committed isn't undecided; before that it was.
+decided : map (λ n. undecided (lines_of (take n stop_at_decision_done_bodies))) (4 ∷ 6 ∷ 7 ∷ []) ≡ (0 ∷ []) ∷ (0 ∷ []) ∷ [] ∷ []
+decided = refl
+
+-- What an undecided top would put has nothing of its aborted nested actions.
+next_without_aborted :
+    next_state (one_node 0) (lines_of (take 6 nested_abort_bodies ++ (body.Committing A ∷ body.Halted 1 ∷ []) ∷ [])) 0 1
+    ≡ record { uid = object 1; class = class.Counter; version = 1; writer = uid 1; payload = counter 4 }
+next_without_aborted = refl
+
+-- The limit of labels is tested behind the causes 1 to 5 and before all others: A's node has halted.
+abbrev full : Past
+full = record { count = 4096; accepted = []; lines = block 1 (replicate 4095 (began B kind.Top 2 None) ++ began A kind.Top 1 None ∷ body.Halted 1 ∷ []) }
+
+full_is : is_full full ≡ true
+full_is = refl
+
+late_causes :
+    map (refusal (one_node 0) full) (event.Begin C 1 ∷ event.Serial C 2 ∷ event.BeginIn C A ∷ event.Top C A ∷ event.BeginIn A A ∷ event.BeginIn C D ∷ [])
+    ≡ Some 2 ∷ Some 1 ∷ Some 6 ∷ Some 6 ∷ Some 4 ∷ Some 5 ∷ []
+late_causes = refl
+
+past_labels : map is_late (None ∷ Some 5 ∷ Some 6 ∷ []) ≡ true ∷ false ∷ true ∷ []
+past_labels = refl

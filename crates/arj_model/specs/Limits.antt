@@ -1,0 +1,18 @@
+-- The limits of a run.
+use Rattle.std.specs.Prelude.{ℕ}
+
+-- the most labels that a run gives
+abbrev pub most_labels : ℕ
+most_labels = 4096
+
+-- the most objects that the actions of one root use
+abbrev pub most_objects : ℕ
+most_objects = 16
+
+-- the most actions that one root begins, itself among them
+abbrev pub most_actions : ℕ
+most_actions = 64
+
+-- the most actions of a path
+abbrev pub most_on_path : ℕ
+most_on_path = 16

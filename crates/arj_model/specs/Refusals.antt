@@ -1,0 +1,265 @@
+-- Which events are refused: the nodes that are up, the actions that wait, and the causes by number.
+use Rattle.std.specs.Prelude.{ℕ, ◌+◌, List, [], ◌∷◌, length, filter, Bool, true, false, ◌==◌, ◌&&◌, ◌||◌, not, nat_lt, nat_le, if◌then◌else◌, Option, Some, None, is_some, is_none}
+use Rattle.std.specs.List.{list_any}
+use Rattle.std.specs.Str.{bytes_eq}
+use Rattle.arj_base.specs.declared.uid.Uid.{Uid}
+use Rattle.arj_class.specs.declared.op.Op.{Op}
+use Rattle.arj_class.specs.Table.{class_of, has_op}
+use Rattle.arj_journal.specs.declared.body.Body.{Body}
+use Rattle.arj_journal.specs.declared.body.Body.TheVariants as body
+use Rattle.arj_journal.specs.declared.body.Line.{Line}
+use Rattle.arj_journal.specs.declared.event.Event.{Event}
+use Rattle.arj_journal.specs.declared.event.Event.TheVariants as event
+use Rattle.arj_journal.specs.declared.event.FrameNo.{FrameNo}
+use Rattle.arj_journal.specs.declared.event.FrameNo.TheVariants.{Number, Last}
+use Rattle.arj_journal.specs.declared.header.Header.{Header}
+use Rattle.arj_journal.specs.declared.header.ObjectLine.{ObjectLine}
+use Rattle.arj_text.specs.Label.{name}
+use Rattle.arj_model.specs.Actions.{Act, acts, act_in, is_begun, is_over, is_serial, root_in, path}
+use Rattle.arj_model.specs.Limits.{most_objects, most_actions, most_on_path}
+use Rattle.arj_model.specs.Last.{object_line, is_among, insert_number}
+use Rattle.arj_model.specs.Past.{Past, Asked}
+
+-- Nodes.
+
+-- the header has this node
+abbrev pub is_node : Header → ℕ → Bool
+is_node header n = nat_le 1 n && nat_le n header.nodes
+
+-- a node is down from its `halted` line to its next `up` line
+abbrev pub down_step : ℕ → Body → Bool → Bool
+down_step n (body.Halted m) down = if m == n then true else down
+down_step n (body.Up m i) down = if m == n then false else down
+down_step n _ down = down
+
+-- whether the node is down after these lines
+abbrev pub down_from : ℕ → Bool → List Line → Bool
+down_from n down [] = down
+down_from n down (line ∷ lines) = down_from n (down_step n line.body down) lines
+
+abbrev pub is_down : List Line → ℕ → Bool
+is_down lines n = down_from n false lines
+
+-- a node's incarnation is that of its last `up` line, or 1
+abbrev pub inc_step : ℕ → Body → ℕ → ℕ
+inc_step n (body.Up m i) inc = if m == n then i else inc
+inc_step n _ inc = inc
+
+-- the incarnation after these lines
+abbrev pub inc_from : ℕ → ℕ → List Line → ℕ
+inc_from n inc [] = inc
+inc_from n inc (line ∷ lines) = inc_from n (inc_step n line.body inc) lines
+
+abbrev pub incarnation : List Line → ℕ → ℕ
+incarnation lines n = inc_from n 1 lines
+
+-- an action's Uid: its node, the node's incarnation, and the count of actions begun there in it
+abbrev pub next_uid : List Line → ℕ → Uid
+next_uid lines n =
+    let inc = incarnation lines n in
+    record { node = n; inc = inc; num = length (filter (λ a. (a.uid.node == n) && (a.uid.inc == inc)) (acts lines)) + 1 }
+
+-- Refusals.
+
+-- the action, if there is one, is over
+abbrev pub is_over_act : List Line → Option Act → Bool
+is_over_act lines None = false
+is_over_act lines (Some a) = is_over lines a
+
+-- the action with this label has ended, or its node halted since it began
+abbrev pub has_ended : List Line → List ℕ → Bool
+has_ended lines l = is_over_act lines (act_in (acts lines) l)
+
+-- Answers, and what waits for one.
+
+-- a call or include of the action with this label
+abbrev pub is_ask_by : List ℕ → Event → Bool
+is_ask_by l (event.Call m x op) = bytes_eq (name m) l
+is_ask_by l (event.Include m x n) = bytes_eq (name m) l
+is_ask_by l _ = false
+
+-- a line that answers one
+abbrev pub is_answer_to : List ℕ → Body → Bool
+is_answer_to l (body.Ok m x op answer) = bytes_eq (name m) l
+is_answer_to l (body.Includes m x n) = bytes_eq (name m) l
+is_answer_to l (body.Conflict m holder mode n) = bytes_eq (name m) l
+is_answer_to l (body.Lost m n) = bytes_eq (name m) l
+is_answer_to l (body.Changed m n difference) = bytes_eq (name m) l
+is_answer_to l _ = false
+
+-- the last of these events
+abbrev pub last_asked : List Asked → Option Event
+last_asked [] = None
+last_asked (a ∷ []) = Some a.event
+last_asked (a ∷ b ∷ rest) = last_asked (b ∷ rest)
+
+-- the accepted calls and includes of the action, and the lines that answer one
+abbrev pub asks_by : List Asked → List ℕ → List Asked
+asks_by accepted l = filter (λ a. is_ask_by l a.event) accepted
+
+abbrev pub answers_to : List Line → List ℕ → List Line
+answers_to lines l = filter (λ line. is_answer_to l line.body) lines
+
+-- the accepted call or include of the action that isn't answered yet
+abbrev pub pending : List Asked → List Line → List ℕ → Option Event
+pending accepted lines l = if nat_lt (length (answers_to lines l)) (length (asks_by accepted l)) then last_asked (asks_by accepted l) else None
+
+-- the line calls the action's commit
+abbrev pub is_committing_line : List ℕ → Body → Bool
+is_committing_line l (body.Committing m) = bytes_eq (name m) l
+is_committing_line l _ = false
+
+-- the action's commit was called, and it hasn't ended since
+abbrev pub is_committing : List Line → List ℕ → Bool
+is_committing lines l = list_any (λ line. is_committing_line l line.body) lines && not (has_ended lines l)
+
+-- what the action waits for, while it is open: a call or include of its own
+abbrev pub waits_for : List Asked → List Line → List ℕ → Option Event
+waits_for accepted lines l = if has_ended lines l then None else pending accepted lines l
+
+-- the action waits: its call or include, or its commit, isn't answered
+abbrev pub is_waiting : Past → List ℕ → Bool
+is_waiting past l = is_some (waits_for past.accepted past.lines l) || is_committing past.lines l
+
+-- the action or one above it on its path waits
+abbrev pub waits_above : Past → List ℕ → Bool
+waits_above past l = list_any (λ a. is_waiting past a.label) (path (acts past.lines) l)
+
+-- the action or one with it on its path waits
+abbrev pub waits_below : Past → List ℕ → Bool
+waits_below past l = list_any (λ a. list_any (λ b. bytes_eq b.label l) (path (acts past.lines) a.label) && is_waiting past a.label) (acts past.lines)
+
+-- What is used.
+
+-- the object that an accepted event of this root used
+abbrev pub object_used : Event → Option ℕ
+object_used (event.Call l x op) = Some x
+object_used (event.Include l x n) = Some x
+object_used _ = None
+
+-- two roots are the same
+abbrev pub is_root : Option ℕ → Option ℕ → Bool
+is_root (Some a) (Some b) = a == b
+is_root _ _ = false
+
+-- the list with the object in its place, if it isn't there yet
+abbrev pub with_object : List ℕ → Option ℕ → List ℕ
+with_object used None = used
+with_object used (Some x) = insert_number x used
+
+-- the objects that a root used, with that of one event more
+abbrev pub used_by : Option ℕ → Asked → List ℕ → List ℕ
+used_by root a used = if is_root (root_in a.path) root then with_object used (object_used a.event) else used
+
+-- the same, of accepted events
+abbrev pub objects_from : Option ℕ → List ℕ → List Asked → List ℕ
+objects_from root used [] = used
+objects_from root used (a ∷ rest) = objects_from root (used_by root a used) rest
+
+-- the objects that a root's accepted calls and includes have used, whatever was answered, in increasing order
+abbrev pub objects_of : Past → Option ℕ → List ℕ
+objects_of past root = objects_from root [] past.accepted
+
+-- the object would be the root's seventeenth
+abbrev pub is_too_many : Past → List ℕ → ℕ → Bool
+is_too_many past l x =
+    let used = objects_of past (root_in (path (acts past.lines) l)) in
+    not (is_among used x) && nat_le most_objects (length used)
+
+-- the class of the object lacks the operation
+abbrev pub lacks_op : Option ObjectLine → Op → Bool
+lacks_op None op = false
+lacks_op (Some o) op = not (has_op (class_of o.value) op)
+
+-- A Bool of an action, false where there is none.
+abbrev pub holds_of : (Act → Bool) → Option Act → Bool
+holds_of test None = false
+holds_of test (Some a) = test a
+
+-- the action with this label is a serializing one
+abbrev pub is_serializing : List Line → List ℕ → Bool
+is_serializing lines l = holds_of (λ a. is_serial a.kind) (act_in (acts lines) l)
+
+-- the path of the action with this label has as many actions as a path may have
+abbrev pub is_deep : List Line → List ℕ → Bool
+is_deep lines l = nat_le most_on_path (length (path (acts lines) l))
+
+-- the root of this action has begun as many actions as it may, itself and independent ones below it not counted with it
+abbrev pub has_all_actions : List Line → List ℕ → Bool
+has_all_actions lines l =
+    nat_le most_actions (length (filter (λ a. is_root (root_in (path (acts lines) a.label)) (root_in (path (acts lines) l))) (acts lines)))
+
+-- the frame's number stands in a `sent` line
+abbrev pub is_sent : ℕ → Body → Bool
+is_sent k (body.Sent j from to carried) = j == k
+is_sent k _ = false
+
+abbrev pub has_frame : List Line → ℕ → Bool
+has_frame lines k = list_any (λ line. is_sent k line.body) lines
+
+-- the number of the last frame, 0 before the first
+abbrev pub frame_step : Body → ℕ → ℕ
+frame_step (body.Sent j from to carried) last = j
+frame_step _ last = last
+
+abbrev pub frame_from : ℕ → List Line → ℕ
+frame_from last [] = last
+frame_from last (line ∷ lines) = frame_from (frame_step line.body last) lines
+
+abbrev pub last_frame : List Line → ℕ
+last_frame lines = frame_from 0 lines
+
+-- the number of the frame that a script names
+abbrev pub frame_no : List Line → FrameNo → ℕ
+frame_no lines (Number k) = k
+frame_no lines Last = last_frame lines
+
+-- Causes.
+
+-- The conditions of the causes 5 and 6: no accepted event gave the label; its action is over.
+abbrev pub asks_known : Past → List ℕ → List (ℕ × Bool) → List (ℕ × Bool)
+asks_known past l rest = (5, not (is_begun past.lines l)) ∷ (6, has_ended past.lines l) ∷ rest
+
+-- The causes for which an event may be refused, by number, each with its condition on the run so far: 1 unknown node,
+-- 2 node down, 3 node up, 4 label used, 5 unknown label, 6 ended, 7 waiting, 8 not waiting, 10 wrong parent, 11 no calls,
+-- 13 unknown object, 14 wrong operation, 15 too deep, 16 too many, 17 no message. Three kinds stand here in the form that
+-- they have where every action is a plain top-level one and is answered in its event: a call, a commit and an abort,
+-- which then neither wait nor have children. Cause 12 is told apart, and that a junk event's bytes are a message (18)
+-- isn't told here.
+abbrev pub causes : Header → Past → Event → List (ℕ × Bool)
+causes header past (event.Begin l n) = (1, not (is_node header n)) ∷ (2, is_down past.lines n) ∷ (4, is_begun past.lines (name l)) ∷ []
+causes header past (event.Serial l n) = (1, not (is_node header n)) ∷ (2, is_down past.lines n) ∷ (4, is_begun past.lines (name l)) ∷ []
+causes header past (event.BeginIn l p) =
+    (4, is_begun past.lines (name l))
+    ∷ asks_known past (name p) ((7, waits_above past (name p)) ∷ (15, is_deep past.lines (name p)) ∷ (16, has_all_actions past.lines (name p)) ∷ [])
+causes header past (event.Top l p) =
+    (4, is_begun past.lines (name l)) ∷ asks_known past (name p) ((7, waits_above past (name p)) ∷ (10, is_serializing past.lines (name p)) ∷ [])
+causes header past (event.Call l x op) =
+    (5, not (is_begun past.lines (name l))) ∷ (6, has_ended past.lines (name l)) ∷ (13, is_none (object_line header x)) ∷ (14, lacks_op (object_line header x) op)
+    ∷ (16, is_too_many past (name l) x) ∷ []
+causes header past (event.Include l x n) =
+    (1, not (is_node header n))
+    ∷ asks_known past (name l) (
+    (7, waits_above past (name l) || waits_below past (name l)) ∷ (11, is_serializing past.lines (name l)) ∷ (13, is_none (object_line header x))
+    ∷ (16, is_too_many past (name l) x) ∷ [])
+causes header past (event.Commit l) = (5, not (is_begun past.lines (name l))) ∷ (6, has_ended past.lines (name l)) ∷ []
+causes header past (event.Abort l) = (5, not (is_begun past.lines (name l))) ∷ (6, has_ended past.lines (name l)) ∷ []
+causes header past (event.GiveUp l) = asks_known past (name l) ((8, not (is_waiting past (name l))) ∷ [])
+causes header past (event.Deliver k) = (17, not (has_frame past.lines (frame_no past.lines k))) ∷ []
+causes header past (event.Lose k) = (17, not (has_frame past.lines (frame_no past.lines k))) ∷ []
+causes header past (event.Tick n) = (1, not (is_node header n)) ∷ (2, is_down past.lines n) ∷ []
+causes header past (event.Crash n) = (1, not (is_node header n)) ∷ (2, is_down past.lines n) ∷ []
+causes header past (event.Restart n) = (1, not (is_node header n)) ∷ (3, not (is_down past.lines n)) ∷ []
+causes header past (event.Stop n calls k) = (1, not (is_node header n)) ∷ []
+causes header past (event.Junk n bytes) = (1, not (is_node header n)) ∷ []
+causes header past (event.Show x) = (13, is_none (object_line header x)) ∷ []
+causes header past _ = []
+
+-- the first of these numbers whose condition holds
+abbrev pub first_cause : List (ℕ × Bool) → Option ℕ
+first_cause [] = None
+first_cause (c ∷ cs) = if c.1 then Some c.0 else first_cause cs
+
+-- the cause for which the event is refused: the first number whose condition holds
+abbrev pub refusal : Header → Past → Event → Option ℕ
+refusal header past e = first_cause (causes header past e)
