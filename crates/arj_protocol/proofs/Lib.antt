@@ -1,1 +1,5 @@
+mod RowsOfLimits
+mod RowsOfNodes
 mod RowsOfOneNode
+mod RowsOfRestarts
+mod RowsOfStops
