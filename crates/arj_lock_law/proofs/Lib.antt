@@ -1,0 +1,16 @@
+pub mod Paths
+pub mod Rows
+pub mod Claims
+pub mod Later
+pub mod Lasts
+pub mod NamingSteps
+pub mod NamingMore
+pub mod ServerSteps
+pub mod ActionSteps
+pub mod CallSteps
+pub mod CommitSteps
+pub mod Core
+pub mod Order
+pub mod AnswerStep
+pub mod Roots
+pub mod Ordered

@@ -1,0 +1,6 @@
+pub mod Actions
+pub mod Rows
+pub mod State
+pub mod Steps
+pub mod Machine
+pub mod Laws

@@ -1,0 +1,32 @@
+// Laws of every run.
+ghost use Rattle.std.specs.Prelude.{◌≡◌, ℕ};
+ghost use Rattle.arj_lock_law.specs.Actions.{Act, In};
+ghost use Rattle.arj_lock_law.specs.State.{State, Call, Include};
+ghost use Rattle.arj_lock_law.specs.Steps.{Survives};
+ghost use Rattle.arj_lock_law.specs.Machine.{start, Run};
+ghost use Rattle.arj_lock_law.specs.Laws.{IsInOrder, IsNested, IsAtOneNode, IsHeld, IsEntryWritten, CountsFor};
+
+/// Order: the ok lines of two conflicting surviving calls stand in the serial order of their tops, whatever restarts, lost
+/// locks, replaced bindings and old messages come between. It does nothing when it runs.
+pub fn calls_stand_in_order()
+    ensures order { (v : ℕ) (s : State) → Run (start v) s → IsInOrder s }
+{}
+
+/// Nesting: of two conflicting surviving calls of one unit the earlier one's actions were committed, up to what both stand
+/// below, before the later one's line. It does nothing when it runs.
+pub fn calls_of_a_unit_are_nested()
+    ensures nested { (v : ℕ) (s : State) → Run (start v) s → IsNested s }
+{}
+
+/// One node: surviving calls of two units whose stretches overlap ran under one binding. It does nothing when it runs.
+pub fn overlapping_calls_ran_at_one_node()
+    ensures node { (v : ℕ) (s : State) → Run (start v) s → IsAtOneNode s }
+{}
+
+/// Held: for each surviving call a row of its mode stands at one node, and one on the object's entry, in each state from
+/// its line on to the commit call of each committed top that it counts for, the last of its unit among them; and for each
+/// surviving include the write row on the entry. It does nothing when it runs.
+pub fn rows_are_held()
+    ensures calls { (v : ℕ) (s t : State) → Run (start v) s → Run s t → (c : Call) (m : Act) → In c s.calls → Survives t c.act → CountsFor t m c.act → (s.action m).stage ≡ 0 → IsHeld s t c }
+    ensures includes { (v : ℕ) (s t : State) → Run (start v) s → Run s t → (c : Include) (m : Act) → In c s.includes → Survives t c.act → CountsFor t m c.act → (s.action m).stage ≡ 0 → IsEntryWritten s c }
+{}
