@@ -1,15 +1,14 @@
 -- Calls that are each answered by all writes before them give these answers one after another.
-use Rattle.std.proofs.Common.{◌≡◌, ◌<◌, ℕ, List, [], ◌∷◌, ◌++◌, Bool, true, false, cond, ◌&&◌, ◌==◌, nat_lt, refl, sym, ◌∙◌, ap, subst, filter, append_assoc, arith}
+use Rattle.std.proofs.Common.{◌≡◌, ◌<◌, ℕ, List, [], ◌∷◌, ◌++◌, Bool, true, false, cond, ◌&&◌, ◌==◌, nat_lt, refl, sym, ◌∙◌, ap, subst, filter, append_assoc}
 use Rattle.std.specs.List.{AllByRecursion}
-use Rattle.std.proofs.lemmas.Bool.{eqb-true, eq-eqb, lt-ltb, and_parts, and_cases, false_from_ne_true}
+use Rattle.std.proofs.lemmas.Bool.{eqb-true, lt-ltb, and_parts, and_cases}
 use Rattle.std.proofs.Common.{⊎_elim}
 use Rattle.arj_class.specs.Table.{answer_of, value_after, writes}
-use Rattle.arj_class.specs.declared.value.Value.{Value}
 use Rattle.arj_text.specs.Words.{answer_text}
 use Rattle.arj_model.specs.Calls.{Call}
 use Rattle.arj_model.specs.Serial.{Values, Answers, after, run, writes_on}
 use Rattle.arj_law.specs.Book.{writes_before, IsAnsweredBy}
-use Rattle.arj_law.proofs.Common.{never, turned, not_below_itself, not_below_back, Pairwise, pairwise_before, pairwise_behind, filter_none, all_map}
+use Rattle.arj_law.proofs.Common.{turned, not_below_itself, not_below_back, Pairwise, pairwise_before, pairwise_behind, filter_none, all_map}
 use Rattle.arj_law.proofs.Moves.{other_stays, all_stay}
 
 -- what doesn't write an object leaves its value

@@ -1,12 +1,12 @@
 -- Small facts on tests, lists and places.
-use Rattle.std.proofs.Common.{◌≡◌, ◌<◌, ◌≤◌, ℕ, ◌+◌, List, [], ◌∷◌, ◌++◌, Bool, true, false, cond, not, ◌&&◌, ◌||◌, nat_lt, ◌==◌, ⊎_elim, ◌⊎◌, inl, inr, refl, sym, ◌∙◌, ap, subst, filter, map, Option, Some, None, true≢false, arith, le_trans}
+use Rattle.std.proofs.Common.{◌≡◌, ◌<◌, ◌≤◌, ℕ, ◌+◌, List, [], ◌∷◌, ◌++◌, Bool, true, false, cond, ◌&&◌, nat_lt, ◌==◌, refl, sym, ◌∙◌, subst, filter, Option, Some, None, true≢false, arith}
 use Rattle.std.specs.List.{AllByRecursion, filter_map, cons_option}
-use Rattle.std.proofs.lemmas.Bool.{eq-eqb, eqb-true, ltb-true, lt-ltb, false_from_ne_true}
+use Rattle.std.proofs.lemmas.Bool.{eq-eqb, eqb-true, false_from_ne_true}
 use Rattle.std.proofs.lemmas.Bool.Decides.{nat_tests}
 use Rattle.arj_journal.specs.declared.body.Body.{Body}
 use Rattle.arj_journal.specs.declared.body.Line.{Line}
 use Rattle.arj_model.specs.Actions.{Act, Placed, acts_after, read, put}
-use Rattle.arj_model.specs.Serial.{insert, arrange, lex}
+use Rattle.arj_model.specs.Serial.{lex}
 
 -- Tests.
 

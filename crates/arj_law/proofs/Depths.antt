@@ -1,9 +1,8 @@
 -- Where an action stands on the paths of one journal: at one depth on all of them, whenever they were read.
-use Rattle.std.proofs.Common.{◌≡◌, ◌<◌, ◌≤◌, ℕ, suc, ◌+◌, List, [], ◌∷◌, ◌++◌, length, map, Bool, true, false, cond, ◌&&◌, ◌||◌, ◌==◌, Option, Some, None, refl, sym, ◌∙◌, ap, subst, arith, length-append}
+use Rattle.std.proofs.Common.{◌≡◌, ◌<◌, ◌≤◌, ℕ, suc, ◌+◌, List, [], ◌∷◌, ◌++◌, length, Bool, true, false, cond, ◌&&◌, ◌==◌, Option, Some, None, refl, sym, ◌∙◌, ap, subst, arith, length-append}
 use Rattle.std.specs.List.{AllByRecursion, list_all}
 use Rattle.std.specs.Str.{bytes_eq}
 use Rattle.std.proofs.lemmas.Bool.{eq-eqb, eqb-true, false_from_ne_true}
-use Rattle.std.proofs.lemmas.Bool.Decides.{nat_tests}
 use Rattle.arj_base.specs.declared.uid.Uid.{Uid}
 use Rattle.arj_journal.specs.declared.body.Body.{Body}
 use Rattle.arj_journal.specs.declared.body.Body.TheVariants as body
@@ -11,9 +10,9 @@ use Rattle.arj_journal.specs.declared.body.Kind.{Kind}
 use Rattle.arj_journal.specs.declared.body.Kind.TheVariants as kind
 use Rattle.arj_journal.specs.declared.body.Line.{Line}
 use Rattle.arj_text.specs.Label.{name}
-use Rattle.arj_model.specs.Actions.{Act, Begun, Placed, begun_of, numbered, acts, acts_after, acts_from, read, put, path, upwards, is_serial, top_in, chain_in, behind_first, has_end, is_committed, committed, recovered}
+use Rattle.arj_model.specs.Actions.{Act, Begun, Placed, begun_of, numbered, acts, acts_after, acts_from, read, put, path, upwards, is_serial, top_in, chain_in, has_end, is_committed, committed, recovered}
 use Rattle.arj_model.specs.Calls.{Call, Said, said, said_of, ids, call_of, kept, kept_in, committed_calls}
-use Rattle.arj_law.proofs.Common.{never, all_map, all_both, all_filter_map}
+use Rattle.arj_law.proofs.Common.{all_map, all_filter_map}
 
 -- each action's number is the count of those before it
 abbrev pub AreNumbered : List Act → Type 0

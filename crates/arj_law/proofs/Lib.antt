@@ -1,6 +1,12 @@
 mod Answers
+mod Commit
 mod Common
 mod Depths
+mod Held
+mod Last
+mod Listed
 mod Moves
 mod Nested
 mod Order
+mod Reading
+mod Rows

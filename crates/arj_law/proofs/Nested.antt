@@ -1,5 +1,5 @@
 -- Nested order gives the answers of running each nested action whole at its commit.
-use Rattle.std.proofs.Common.{◌≡◌, ◌<◌, ◌≤◌, ℕ, ◌+◌, List, [], ◌∷◌, ◌++◌, map, Bool, true, false, cond, ◌&&◌, ◌||◌, ◌==◌, nat_lt, refl, sym, ◌∙◌, ap, subst, arith}
+use Rattle.std.proofs.Common.{◌≡◌, ◌<◌, ℕ, ◌+◌, List, [], ◌∷◌, ◌++◌, map, Bool, true, false, cond, ◌&&◌, ◌||◌, ◌==◌, nat_lt, refl, sym, ◌∙◌, ap, subst, arith}
 use Rattle.std.specs.List.{AllByRecursion}
 use Rattle.std.proofs.lemmas.Bool.{eq-eqb, eqb-true, false_from_ne_true}
 use Rattle.std.proofs.lemmas.Bool.Decides.{nat_tests}
@@ -10,7 +10,7 @@ use Rattle.arj_model.specs.Serial.{Values, Serial, Answers, insert, arrange, lex
 use Rattle.arj_model.specs.Last.{is_among}
 use Rattle.arj_law.specs.Book.{is_conflict}
 use Rattle.arj_law.specs.Nested.{commit_place, nested_key, nested_less, nested_calls, IsFreedFor, FreedInOrder, AnsweredInTime}
-use Rattle.arj_law.proofs.Common.{never, turned, not_below_back, Pairwise, all_map, all_both, pairwise_of, pairwise_both, pairwise_map}
+use Rattle.arj_law.proofs.Common.{never, turned, Pairwise, all_map, all_both, pairwise_of, pairwise_both, pairwise_map}
 use Rattle.arj_law.proofs.Depths.{depth, StandAt, ChainStands, chains_stand}
 use Rattle.arj_law.proofs.Moves.{MayPass, arrange_answers, all_insert, all_arrange}
 use Rattle.arj_law.proofs.Order.{rises, same_top_stays}

@@ -1,5 +1,5 @@
 -- The lock book: in which order the surviving calls of committed tops stand, and what each of them is answered.
-use Rattle.std.specs.Prelude.{◌≡◌, ◌<◌, ℕ, List, filter, Bool, true, false, ◌==◌, ◌&&◌, ◌||◌, nat_lt}
+use Rattle.std.specs.Prelude.{◌≡◌, ◌<◌, List, filter, Bool, true, false, ◌==◌, ◌&&◌, ◌||◌, nat_lt}
 use Rattle.std.specs.List.{AllByRecursion}
 use Rattle.arj_class.specs.Table.{answer_of, writes}
 use Rattle.arj_journal.specs.declared.body.Line.{Line}

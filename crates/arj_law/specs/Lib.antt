@@ -1,2 +1,4 @@
 pub mod Book
+pub mod Growth
+pub mod Held
 pub mod Nested

@@ -6,5 +6,10 @@
 #![tactic(auto)]
 
 mod book;
+mod growth;
 
-pub use book::{nested_actions_run_whole, order_and_values_give_serial};
+pub use book::{held_locks_give_order, nested_actions_run_whole, order_and_values_give_serial};
+pub use growth::{
+    a_commit_appends_its_calls, a_commit_changes_one_entry, a_commit_makes_the_next_state,
+    entries_go_by_decisions, quiet_lines_change_nothing,
+};

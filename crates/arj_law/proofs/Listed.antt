@@ -1,0 +1,232 @@
+-- The listed stores and the entry of an object, by the order of decisions, and after the next commit.
+use Rattle.std.proofs.Common.{◌≡◌, ℕ, ◌+◌, List, [], ◌∷◌, ◌++◌, length, map, Bool, true, false, cond, not, ◌&&◌, ◌==◌, Option, Some, None, refl, sym, ◌∙◌, ap, filter, length-append, append-nil}
+use Rattle.std.specs.List.{AllByRecursion, list_all, filter_map, cons_option}
+use Rattle.std.proofs.lemmas.Bool.{eq-eqb, eqb-true, and_parts}
+use Rattle.std.proofs.lemmas.List.Folds.{list_all-map}
+use Rattle.std.proofs.lemmas.List.Elements.{filter-append}
+use Rattle.arj_base.specs.declared.state.Class.TheVariants as class
+use Rattle.arj_base.specs.declared.state.ObjectState.{ObjectState}
+use Rattle.arj_base.specs.Uid.{entry}
+use Rattle.arj_journal.specs.declared.body.Body.{Body}
+use Rattle.arj_journal.specs.declared.body.Body.TheVariants as body
+use Rattle.arj_journal.specs.declared.body.Line.{Line}
+use Rattle.arj_journal.specs.declared.header.Header.{Header}
+use Rattle.arj_model.specs.Actions.{Act, Placed, acts, acts_after, acts_from, committed, committed_of, has_end, top_in, chain_in}
+use Rattle.arj_model.specs.Calls.{Top, ids}
+use Rattle.arj_model.specs.Last.{Inclusion, included, included_of, excluded_of, joins_by, joins_of, leaves_of, is_among, increasing, object_line, servers_of_line, listed, listed_after, listed_from, serial_tops, changers, last_changer, uid_of_id, same_list, entry_payload, entry_state}
+use Rattle.arj_law.specs.Growth.{more, CommitsTop, IdleInPlace, first_stores, AreDecidedInOrder, entry_by, entry_after, IncludesNoneBelow}
+use Rattle.arj_law.proofs.Common.{never, all_map}
+use Rattle.arj_law.proofs.Reading.{read_none, read_some}
+use Rattle.arj_law.proofs.Commit.{chain_stays}
+
+same_is : (ms ns : List ℕ) → same_list ms ns ≡ true → ms ≡ ns
+same_is [] [] e = refl
+same_is [] (n ∷ ns) e = never false e refl
+same_is (m ∷ ms) [] e = never false e refl
+same_is (m ∷ ms) (n ∷ ns) e = let p = and_parts (m == n) (same_list ms ns) e in (λ i. eqb-true m n p.0 i ∷ same_is ms ns p.1 i)
+
+same_itself : (ns : List ℕ) → same_list ns ns ≡ true
+same_itself [] = refl
+same_itself (n ∷ ns) = (λ i. eq-eqb n n refl i && same_list ns ns) ∙ same_itself ns
+
+-- Tops that change nothing may be left out.
+module _ (lines : List Line) (x : ℕ) (counts : Top → Bool) where
+  only_those : (stores : List ℕ) (ts : List Top) → IdleInPlace lines x counts stores ts → listed_from lines x stores ts ≡ listed_from lines x stores (filter counts ts)
+  only_those stores [] h = refl
+  only_those stores (t ∷ ts) h = by (only_those (listed_after lines x stores t) ts h.1) (counts t) refl
+    where
+      next : List ℕ
+      next = listed_after lines x stores t
+
+      by : listed_from lines x next ts ≡ listed_from lines x next (filter counts ts) → (b : Bool) → counts t ≡ b → listed_from lines x next ts ≡ listed_from lines x stores (cond b (t ∷ filter counts ts) (filter counts ts))
+      by ih true e = ih
+      by ih false e = ih ∙ (λ i. listed_from lines x (h.0 e i) (filter counts ts))
+
+  only_changers : (stores : List ℕ) (ts : List Top) → IdleInPlace lines x counts stores ts → changers lines x stores ts ≡ changers lines x stores (filter counts ts)
+  only_changers stores [] h = refl
+  only_changers stores (t ∷ ts) h = by (only_changers (listed_after lines x stores t) ts h.1) (counts t) refl
+    where
+      next : List ℕ
+      next = listed_after lines x stores t
+
+      rest : List Top
+      rest = filter counts ts
+
+      changed : (b : Bool) → same_list next stores ≡ b → changers lines x next ts ≡ changers lines x next rest → cond b (changers lines x stores ts) (t ∷ changers lines x next ts) ≡ cond b (changers lines x stores rest) (t ∷ changers lines x next rest)
+      changed true e ih = (λ i. changers lines x (sym (same_is next stores e) i) ts) ∙ ih ∙ (λ i. changers lines x (same_is next stores e i) rest)
+      changed false e ih = ap (λ us. t ∷ us) ih
+
+      by : changers lines x next ts ≡ changers lines x next rest → (b : Bool) → counts t ≡ b
+          → cond (same_list next stores) (changers lines x stores ts) (t ∷ changers lines x next ts) ≡ changers lines x stores (cond b (t ∷ rest) rest)
+      by ih true e = changed (same_list next stores) refl ih
+      by ih false e =
+          let idle : next ≡ stores = h.0 e in
+          (λ i. cond (same_list (idle i) stores) (changers lines x stores ts) (t ∷ changers lines x next ts)) ∙ (λ i. cond (same_itself stores i) (changers lines x stores ts) (t ∷ changers lines x next ts))
+          ∙ (λ i. changers lines x (sym idle i) ts) ∙ ih ∙ (λ i. changers lines x (idle i) rest)
+
+pub listed_decided : (header : Header) (lines : List Line) (x : ℕ) (counts : Top → Bool) (decided : List Top) → AreDecidedInOrder header lines x counts decided
+    → listed header lines x ≡ listed_from lines x (first_stores header x) (filter counts decided)
+listed_decided header lines x counts decided h = only_those lines x counts (first_stores header x) (serial_tops lines) h.idle ∙ ap (listed_from lines x (first_stores header x)) h.order
+
+pub entry_decided : (header : Header) (lines : List Line) (x : ℕ) (counts : Top → Bool) (decided : List Top) → AreDecidedInOrder header lines x counts decided
+    → entry_state header lines x ≡ entry_by header lines x (filter counts decided)
+entry_decided header lines x counts decided h =
+    let changed = only_changers lines x counts (first_stores header x) (serial_tops lines) h.idle ∙ ap (changers lines x (first_stores header x)) h.order in
+    (λ i. record {
+      uid = entry x;
+      class = class.Entry;
+      version = length (changed i);
+      writer = last_changer (acts lines) (changed i);
+      payload = entry_payload (servers_of_line (object_line header x)) (listed_decided header lines x counts decided h i);
+    })
+
+-- What a commit leaves of the stores that earlier tops excluded and included.
+
+filter_map_same : {A B : Type 0} (f g : A → Option B) (xs : List A) → AllByRecursion (λ a. f a ≡ g a) xs → filter_map f xs ≡ filter_map g xs
+filter_map_same f g [] h = refl
+filter_map_same f g (x ∷ xs) h = (λ i. cons_option (h.0 i) (filter_map_same f g xs h.1 i))
+
+module _ (lines : List Line) (event top : ℕ) where
+  join_stays : (id x : ℕ) (i : Placed Inclusion) (o : Option Act) → is_among (ids (chain_in i.it.path)) top ≡ false
+      → joins_by (committed lines ++ (record { at = 0 + length lines; it = top }) ∷ []) id x i o ≡ joins_by (committed lines) id x i o
+  join_stays id x i None e = refl
+  join_stays id x i (Some t) e =
+      let after : List (Placed ℕ) = committed lines ++ (record { at = 0 + length lines; it = top }) ∷ [] in
+      let same : list_all (λ a. has_end after a.id) (chain_in i.it.path) ≡ list_all (λ a. has_end (committed lines) a.id) (chain_in i.it.path) =
+      sym (list_all-map (has_end after) (λ a. a.id) (chain_in i.it.path)) ∙ chain_stays (committed lines) (0 + length lines) top (ids (chain_in i.it.path)) e
+      ∙ list_all-map (has_end (committed lines)) (λ a. a.id) (chain_in i.it.path) in
+      (λ k. cond ((t.id == id) && ((i.it.x == x) && same k)) (Some i.it.node) None)
+
+  joins_stay : (b : Body) → CommitsTop lines top b → IncludesNoneBelow lines top → (id x : ℕ) → joins_of (more lines (record { event = event; body = b })) id x ≡ joins_of lines id x
+  joins_stay (body.Committed l) commits h id x =
+      (λ k. filter_map (λ i. joins_by (read_some committed_of lines (record { event = event; body = body.Committed l }) top commits k) id x i (top_in i.it.path)) (read_none included_of lines (record { event = event; body = body.Committed l }) refl k))
+      ∙ filter_map_same (λ i. joins_by (committed lines ++ (record { at = 0 + length lines; it = top }) ∷ []) id x i (top_in i.it.path)) (λ i. joins_by (committed lines) id x i (top_in i.it.path)) (included lines)
+      (all_map (λ i. is_among (ids (chain_in i.it.path)) top ≡ false) (λ i. joins_by (committed lines ++ (record { at = 0 + length lines; it = top }) ∷ []) id x i (top_in i.it.path) ≡ joins_by (committed lines) id x i (top_in i.it.path))
+      (λ i e. join_stays id x i (top_in i.it.path) e) (included lines) h)
+  joins_stay (body.Recovered n u) commits h id x =
+      (λ k. filter_map (λ i. joins_by (read_none committed_of lines (record { event = event; body = body.Recovered n u }) refl k) id x i (top_in i.it.path)) (read_none included_of lines (record { event = event; body = body.Recovered n u }) refl k))
+  joins_stay b commits h id x = absurd commits
+
+  leaves_stay : (b : Body) → CommitsTop lines top b → (id x : ℕ) → leaves_of (more lines (record { event = event; body = b })) id x ≡ leaves_of lines id x
+  leaves_stay (body.Committed l) commits id x = (λ k. map (λ e. e.it.node) (filter (λ e. (e.it.top == id) && (e.it.x == x)) (read_none excluded_of lines (record { event = event; body = body.Committed l }) refl k)))
+  leaves_stay (body.Recovered n u) commits id x = (λ k. map (λ e. e.it.node) (filter (λ e. (e.it.top == id) && (e.it.x == x)) (read_none excluded_of lines (record { event = event; body = body.Recovered n u }) refl k)))
+  leaves_stay b commits id x = absurd commits
+
+acts_append : (us : List Act) (ls : List Line) (l : Line) → acts_from us (ls ++ l ∷ []) ≡ acts_after (acts_from us ls) l.body
+acts_append us [] l = refl
+acts_append us (k ∷ ls) l = acts_append (acts_after us k.body) ls l
+
+begins_nothing : (us : List Act) (lines : List Line) (top : ℕ) (b : Body) → CommitsTop lines top b → acts_after us b ≡ us
+begins_nothing us lines top (body.Committed l) commits = refl
+begins_nothing us lines top (body.Recovered n u) commits = refl
+begins_nothing us lines top b commits = absurd commits
+
+listed_append : (lines : List Line) (x : ℕ) (stores : List ℕ) (ts : List Top) (t : Top) → listed_from lines x stores (ts ++ t ∷ []) ≡ listed_after lines x (listed_from lines x stores ts) t
+listed_append lines x stores [] t = refl
+listed_append lines x stores (u ∷ ts) t = listed_append lines x (listed_after lines x stores u) ts t
+
+changers_append : (lines : List Line) (x : ℕ) (stores : List ℕ) (ts us : List Top) → changers lines x stores (ts ++ us) ≡ changers lines x stores ts ++ changers lines x (listed_from lines x stores ts) us
+changers_append lines x stores [] us = refl
+changers_append lines x stores (t ∷ ts) us = by (changers_append lines x stores ts us) (changers_append lines x next ts us) (same_list next stores) refl
+  where
+    next : List ℕ
+    next = listed_after lines x stores t
+
+    by : changers lines x stores (ts ++ us) ≡ changers lines x stores ts ++ changers lines x (listed_from lines x stores ts) us → changers lines x next (ts ++ us) ≡ changers lines x next ts ++ changers lines x (listed_from lines x next ts) us
+        → (b : Bool) → same_list next stores ≡ b
+        → cond b (changers lines x stores (ts ++ us)) (t ∷ changers lines x next (ts ++ us)) ≡ cond b (changers lines x stores ts) (t ∷ changers lines x next ts) ++ changers lines x (listed_from lines x next ts) us
+    by ih own true e = ih ∙ (λ i. changers lines x stores ts ++ changers lines x (listed_from lines x (sym (same_is next stores e) i) ts) us)
+    by ih own false e = ap (λ vs. t ∷ vs) own
+
+last_of_append : (us : List Act) (ts : List Top) (t : Top) → last_changer us (ts ++ t ∷ []) ≡ uid_of_id us t.id
+last_of_append us [] t = refl
+last_of_append us (u ∷ []) t = refl
+last_of_append us (u ∷ v ∷ ts) t = last_of_append us (v ∷ ts) t
+
+-- The list and the entry after the commit of this top.
+module _ (header : Header) (lines : List Line) (event : ℕ) (b : Body) (t : Top) (x : ℕ) (commits : CommitsTop lines t.id b) (h : IncludesNoneBelow lines t.id) where
+  abbrev pub others : List Line
+  others = more lines (record { event = event; body = b })
+
+  abbrev first : List ℕ
+  first = first_stores header x
+
+  after_same : (stores : List ℕ) (u : Top) → listed_after others x stores u ≡ listed_after lines x stores u
+  after_same stores u =
+      (λ i. filter (λ s. not (is_among (leaves_stay lines event t.id b commits u.id x i) s)) stores
+      ++ increasing (filter (λ s. not (is_among (leaves_stay lines event t.id b commits u.id x i) s)) (joins_stay lines event t.id b commits h u.id x i)))
+
+  from_same : (stores : List ℕ) (ts : List Top) → listed_from others x stores ts ≡ listed_from lines x stores ts
+  from_same stores [] = refl
+  from_same stores (u ∷ ts) = from_same (listed_after others x stores u) ts ∙ (λ i. listed_from lines x (after_same stores u i) ts)
+
+  changers_same : (stores : List ℕ) (ts : List Top) → changers others x stores ts ≡ changers lines x stores ts
+  changers_same stores [] = refl
+  changers_same stores (u ∷ ts) =
+      (λ i. cond (same_list (after_same stores u i) stores) (changers_same stores ts i) (u ∷ changers_same (listed_after others x stores u) ts i))
+      ∙ (λ i. cond (same_list (listed_after lines x stores u) stores) (changers lines x stores ts) (u ∷ changers lines x (after_same stores u i) ts))
+
+  module _ (counts : Top → Bool) (decided : List Top) (before : AreDecidedInOrder header lines x counts decided) (after : AreDecidedInOrder header others x counts (decided ++ t ∷ [])) where
+    abbrev front : List Top
+    front = filter counts decided
+
+    abbrev own : List Top
+    own = cond (counts t) (t ∷ []) []
+
+    lists : listed_from lines x first front ≡ listed header lines x
+    lists = sym (listed_decided header lines x counts decided before)
+
+    whole : filter counts (decided ++ t ∷ []) ≡ front ++ own
+    whole = filter-append counts decided (t ∷ [])
+
+    pub listed_more : listed header others x ≡ cond (counts t) (listed_after lines x (listed header lines x) t) (listed header lines x)
+    listed_more = listed_decided header others x counts (decided ++ t ∷ []) after ∙ ap (listed_from others x first) whole ∙ from_same first (front ++ own) ∙ by (counts t)
+      where
+        by : (c : Bool) → listed_from lines x first (front ++ cond c (t ∷ []) []) ≡ cond c (listed_after lines x (listed header lines x) t) (listed header lines x)
+        by true = listed_append lines x first front t ∙ (λ i. listed_after lines x (lists i) t)
+        by false = ap (listed_from lines x first) (append-nil front) ∙ lists
+
+    changed : changers others x first (filter counts (decided ++ t ∷ [])) ≡ changers lines x first front ++ changers lines x (listed header lines x) own
+    changed = ap (changers others x first) whole ∙ changers_same first (front ++ own) ∙ changers_append lines x first front own ∙ (λ i. changers lines x first front ++ changers lines x (lists i) own)
+
+    -- an entry of these changers and this list
+    abbrev made_of : List Act → List Top → List ℕ → ObjectState
+    made_of us ts stores =
+        record { uid = entry x; class = class.Entry; version = length ts; writer = last_changer us ts; payload = entry_payload (servers_of_line (object_line header x)) stores }
+
+    now : entry_state header lines x ≡ made_of (acts lines) (changers lines x first front) (listed header lines x)
+    now =
+        (λ i. made_of (acts lines) ((only_changers lines x counts first (serial_tops lines) before.idle ∙ ap (changers lines x first) before.order) i) (listed header lines x))
+
+    stays : made_of (acts lines) (changers lines x first front ++ []) (listed header lines x) ≡ entry_state header lines x
+    stays = (λ i. made_of (acts lines) (append-nil (changers lines x first front) i) (listed header lines x)) ∙ sym now
+
+    grows : (next : List ℕ) → made_of (acts lines) (changers lines x first front ++ t ∷ []) next
+        ≡ record { uid = entry x; class = class.Entry; version = (entry_state header lines x).version + 1; writer = uid_of_id (acts lines) t.id; payload = entry_payload (servers_of_line (object_line header x)) next }
+    grows next =
+        (λ i. record {
+          uid = entry x;
+          class = class.Entry;
+          version = (length-append (changers lines x first front) (t ∷ []) ∙ ap (λ n. n + 1) (ap (λ (s : ObjectState). s.version) (sym now))) i;
+          writer = last_of_append (acts lines) (changers lines x first front) t i;
+          payload = entry_payload (servers_of_line (object_line header x)) next;
+        })
+
+    pub entry_more : entry_state header others x ≡ cond (counts t) (entry_after header lines x t) (entry_state header lines x)
+    entry_more =
+        entry_decided header others x counts (decided ++ t ∷ []) after
+        ∙ (λ i. made_of ((acts_append [] lines (record { event = event; body = b }) ∙ begins_nothing (acts lines) lines t.id b commits) i) (changed i) ((sym (listed_decided header others x counts (decided ++ t ∷ []) after) ∙ listed_more) i))
+        ∙ by (counts t)
+      where
+        next : List ℕ
+        next = listed_after lines x (listed header lines x) t
+
+        one : (s : Bool) → same_list next (listed header lines x) ≡ s
+            → made_of (acts lines) (changers lines x first front ++ cond s [] (t ∷ [])) next
+            ≡ cond s (entry_state header lines x) (record { uid = entry x; class = class.Entry; version = (entry_state header lines x).version + 1; writer = uid_of_id (acts lines) t.id; payload = entry_payload (servers_of_line (object_line header x)) next })
+        one true e = (λ i. made_of (acts lines) (changers lines x first front ++ []) (same_is next (listed header lines x) e i)) ∙ stays
+        one false e = grows next
+
+        by : (c : Bool) → made_of (acts lines) (changers lines x first front ++ changers lines x (listed header lines x) (cond c (t ∷ []) [])) (cond c next (listed header lines x)) ≡ cond c (entry_after header lines x t) (entry_state header lines x)
+        by true = one (same_list next (listed header lines x)) refl
+        by false = stays

@@ -1,0 +1,84 @@
+-- A journal with one line more, as what is read of it.
+use Rattle.std.proofs.Common.{◌≡◌, ℕ, ◌+◌, List, [], ◌∷◌, ◌++◌, length, Bool, true, false, cond, ◌&&◌, ◌||◌, Option, Some, None, refl, sym, ◌∙◌, ap, arith, filter, append-nil}
+use Rattle.std.specs.List.{list_all, list_any, filter_map, cons_option}
+use Rattle.std.proofs.lemmas.List.Folds.{list_all-map}
+use Rattle.arj_base.specs.declared.uid.Uid.{Uid}
+use Rattle.arj_base.specs.Uid.{uid_eq}
+use Rattle.arj_journal.specs.declared.body.Body.{Body}
+use Rattle.arj_journal.specs.declared.body.Body.TheVariants as body
+use Rattle.arj_journal.specs.declared.body.Line.{Line}
+use Rattle.arj_model.specs.Actions.{Act, Placed, acts, acts_after, acts_from, read, put, top_in, chain_in, has_end, is_committed, committed_of, recovered_of}
+use Rattle.arj_model.specs.Calls.{Call, Said, said_of, committing_of, call_of, kept, kept_in, made_in, committed_calls, tops, top_of}
+use Rattle.arj_model.specs.Serial.{arrange, serial_less, serial_calls}
+use Rattle.arj_law.specs.Growth.{more, is_quiet}
+use Rattle.arj_law.proofs.Common.{never}
+
+put-append : {A : Type 0} (n : ℕ) (o : Option A) (xs ys : List (Placed A)) → put n o (xs ++ ys) ≡ put n o xs ++ ys
+put-append n None xs ys = refl
+put-append n (Some a) xs ys = refl
+
+-- what is read of the journal so far stays, and at most one item comes, stamped with the actions so far
+read-append : {A : Type 0} (f : List Act → Body → Option A) (us : List Act) (n : ℕ) (ls : List Line) (l : Line) → read f us n (ls ++ l ∷ []) ≡ read f us n ls ++ put (n + length ls) (f (acts_from us ls) l.body) []
+read-append f us n [] l = ap (λ m. put m (f us l.body) []) (omega arith)
+read-append {A} f us n (k ∷ ls) l =
+    let e : n + 1 + length ls ≡ n + length (k ∷ ls) = omega arith in
+    let ih = read-append f (acts_after us k.body) (n + 1) ls l in
+    ap (put n (f us k.body)) (ih ∙ ap (λ m. read f (acts_after us k.body) (n + 1) ls ++ put m (f (acts_from (acts_after us k.body) ls) l.body) []) e)
+    ∙ put-append n (f us k.body) (read f (acts_after us k.body) (n + 1) ls) (put (n + length (k ∷ ls)) (f (acts_from us (k ∷ ls)) l.body) [])
+
+-- where the line says nothing of the kind, nothing changes
+pub read_none : {A : Type 0} (f : List Act → Body → Option A) (lines : List Line) (line : Line) → f (acts lines) line.body ≡ None → read f [] 0 (more lines line) ≡ read f [] 0 lines
+read_none f lines line e = read-append f [] 0 lines line ∙ ap (λ o. read f [] 0 lines ++ put (0 + length lines) o []) e ∙ append-nil (read f [] 0 lines)
+
+pub read_some : {A : Type 0} (f : List Act → Body → Option A) (lines : List Line) (line : Line) (a : A) → f (acts lines) line.body ≡ Some a
+    → read f [] 0 (more lines line) ≡ read f [] 0 lines ++ (record { at = 0 + length lines; it = a }) ∷ []
+read_some f lines line a e = read-append f [] 0 lines line ∙ ap (λ o. read f [] 0 lines ++ put (0 + length lines) o []) e
+
+-- A quiet line.
+pub record IsUnread (us : List Act) (b : Body) : Type 0 where
+  pub answer : said_of us b ≡ None
+  pub called : committing_of us b ≡ None
+  pub commit : committed_of us b ≡ None
+  pub found : recovered_of us b ≡ None
+
+quiet_unread : (us : List Act) (b : Body) → is_quiet b ≡ true → IsUnread us b
+quiet_unread us (body.Ok l x op answer) e = never false e refl
+quiet_unread us (body.Committing l) e = never false e refl
+quiet_unread us (body.Committed l) e = never false e refl
+quiet_unread us (body.Recovered n u) e = never false e refl
+quiet_unread us b e = record { answer = refl; called = refl; commit = refl; found = refl }
+
+pub quiet_calls : (lines : List Line) (line : Line) → is_quiet line.body ≡ true → committed_calls (more lines line) ≡ committed_calls lines
+quiet_calls lines line e =
+    let u = quiet_unread (acts lines) line.body e in
+    (λ i. filter_map (kept (read_none committed_of lines line u.commit i) (read_none recovered_of lines line u.found i)) (read_none said_of lines line u.answer i))
+
+pub quiet_tops : (lines : List Line) (line : Line) → is_quiet line.body ≡ true → tops (more lines line) ≡ tops lines
+quiet_tops lines line e =
+    let u = quiet_unread (acts lines) line.body e in
+    (λ i. filter_map (top_of (read_none committed_of lines line u.commit i) (read_none recovered_of lines line u.found i)) (read_none committing_of lines line u.called i))
+
+pub quiet_serial : (lines : List Line) (line : Line) → is_quiet line.body ≡ true → serial_calls (more lines line) ≡ serial_calls lines
+quiet_serial lines line e = (λ i. arrange (serial_less (quiet_tops lines line e i)) (quiet_calls lines line e i))
+
+-- Kept calls as a filter of all that were made.
+abbrev pub is_kept : List (Placed ℕ) → List (Placed Uid) → Call → Bool
+is_kept ends found c = list_all (has_end ends) c.chain && (has_end ends c.top || list_any (λ u. uid_eq u.it c.writer) found)
+
+pub kept_are : (ends : List (Placed ℕ)) (found : List (Placed Uid)) (ss : List (Placed Said)) → filter_map (kept ends found) ss ≡ filter (is_kept ends found) (filter_map (λ s. made_in s (top_in s.it.path)) ss)
+kept_are ends found [] = refl
+kept_are ends found (s ∷ ss) = by (kept_are ends found ss) (top_in s.it.path)
+  where
+    rest : List Call
+    rest = filter_map (λ s. made_in s (top_in s.it.path)) ss
+
+    one : filter_map (kept ends found) ss ≡ filter (is_kept ends found) rest → (top : Act) (b : Bool)
+        → cons_option (cond b (Some (call_of s top)) None) (filter_map (kept ends found) ss) ≡ cond b (call_of s top ∷ filter (is_kept ends found) rest) (filter (is_kept ends found) rest)
+    one ih top true = ap (λ cs. call_of s top ∷ cs) ih
+    one ih top false = ih
+
+    by : filter_map (kept ends found) ss ≡ filter (is_kept ends found) rest → (o : Option Act) → cons_option (kept_in ends found s o) (filter_map (kept ends found) ss) ≡ filter (is_kept ends found) (cons_option (made_in s o) rest)
+    by ih None = ih
+    by ih (Some top) =
+        ap (λ b. cons_option (cond (b && is_committed ends found top) (Some (call_of s top)) None) (filter_map (kept ends found) ss)) (sym (list_all-map (has_end ends) (λ a. a.id) (chain_in s.it.path)))
+        ∙ one ih top (is_kept ends found (call_of s top))

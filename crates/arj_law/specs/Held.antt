@@ -1,0 +1,75 @@
+-- Locks that are held to the commit, by the tables of the nodes.
+use Rattle.std.specs.Prelude.{◌≡◌, ◌<◌, ◌≤◌, ℕ, List, [], ◌∷◌, take, Bool, true, false, ◌==◌, ◌&&◌, if◌then◌else◌}
+use Rattle.std.specs.List.{AllByRecursion, list_any}
+use Rattle.arj_base.specs.declared.uid.Uid.{Uid}
+use Rattle.arj_base.specs.Mode.{conflicting}
+use Rattle.arj_base.specs.Rows.{Row}
+use Rattle.arj_base.specs.Uid.{object, nobody, uid_eq}
+use Rattle.arj_class.specs.Table.{is_write, writes}
+use Rattle.arj_journal.specs.declared.body.Line.{Line}
+use Rattle.arj_model.specs.Actions.{acts}
+use Rattle.arj_model.specs.Calls.{Call, tops, committed_calls}
+use Rattle.arj_model.specs.Last.{uid_of_id}
+use Rattle.arj_model.specs.Serial.{root_of, unit_place, serial_less}
+use Rattle.arj_model.specs.Table.{table}
+use Rattle.arj_law.specs.Book.{is_conflict}
+
+-- the rows of each node's lock table after so many lines
+abbrev pub Tables : Type 0
+Tables = ℕ → ℕ → List Row
+
+-- the number of the root of a call's top, and its Uid
+abbrev pub root_of_call : List Line → Call → ℕ
+root_of_call lines c = root_of (tops lines) c.top
+
+abbrev pub root_uid : List Line → Call → Uid
+root_uid lines c = uid_of_id (acts lines) (root_of_call lines c)
+
+-- the place at which the commit of the last member of a call's unit was called
+abbrev pub unit_end : List Line → Call → ℕ
+unit_end lines c = unit_place (tops lines) (root_of_call lines c)
+
+-- the first Uid of a path: its root
+abbrev pub first_of : List Uid → Uid
+first_of [] = nobody
+first_of (u ∷ us) = u
+
+abbrev pub holder_root : Row → Uid
+holder_root row = first_of row.holder
+
+-- the row locks the call's object for its root, in a mode that the call needs
+abbrev pub locks_for : List Line → Call → Row → Bool
+locks_for lines c row = uid_eq row.object (object c.x) && (uid_eq (holder_root row) (root_uid lines c) && (if writes c.op then is_write row.mode else true))
+
+-- From its `ok` line to the `committing` line of the last member of its unit a call is locked for at this node.
+pub record IsHeldAt (lines : List Line) (tables : Tables) (n : ℕ) (c : Call) : Type 0 where
+  pub answered : c.at < unit_end lines c
+  pub locked : (p : ℕ) → c.at < p → p ≤ unit_end lines c → list_any (locks_for lines c) (tables n p) ≡ true
+
+-- so each surviving call of a committed top, at a node of its own
+abbrev pub AreHeld : List Line → Tables → (Call → ℕ) → Type 0
+AreHeld lines tables node = AllByRecursion (λ c. IsHeldAt lines tables (node c) c) (committed_calls lines)
+
+-- calls of one object and of different units, the second of which was answered while the first was held, are held at one
+-- node
+abbrev pub AreAtOneNode : List Line → (Call → ℕ) → Call → Call → Type 0
+AreAtOneNode lines node c d = (root_of_call lines c == root_of_call lines d) ≡ false → c.x ≡ d.x → c.at < d.at → d.at < unit_end lines c → node c ≡ node d
+
+-- roots have Uids of their own
+abbrev pub HaveOwnRoots : List Line → Call → Call → Type 0
+HaveOwnRoots lines c d = (root_of_call lines c == root_of_call lines d) ≡ false → uid_eq (root_uid lines c) (root_uid lines d) ≡ false
+
+-- two rows of one object whose holders have different roots are in modes that go together
+abbrev pub GoTogether : Row → Row → Type 0
+GoTogether r s = uid_eq r.object s.object ≡ true → uid_eq (holder_root r) (holder_root s) ≡ false → conflicting r.mode s.mode ≡ false
+
+abbrev pub RowsGoTogether : Tables → Type 0
+RowsGoTogether tables = (n p : ℕ) → AllByRecursion (λ r. AllByRecursion (GoTogether r) (tables n p)) (tables n p)
+
+-- of two conflicting calls of different units, the one that was answered first stands first in the serial order
+abbrev pub UnitsStandInOrder : List Line → Call → Call → Type 0
+UnitsStandInOrder lines c d = c.at < d.at → (root_of_call lines c == root_of_call lines d) ≡ false → is_conflict c d ≡ true → serial_less (tops lines) c d ≡ true
+
+-- the lock tables that the journal shows
+abbrev pub tables_of : List Line → Tables
+tables_of lines n p = table n (take p lines)
