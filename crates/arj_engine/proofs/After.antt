@@ -131,6 +131,8 @@ pub keeps_after : (header : Header) (accepted : List Asked) (s : Seen) (m m' : M
     → Up header (accepted ++ a ∷ []) (end_seen s committings committed at count i) m' → Keeps header (accepted ++ a ∷ []) (end_seen s committings committed at count i) m'
 keeps_after header accepted s m m' i act a commit committings committed at count k e d asked below up = record {
   nodes = k.nodes;
+  lines = k.lines;
+  ops = k.ops;
   plain = k.plain;
   said = k.said;
   asked = asked;

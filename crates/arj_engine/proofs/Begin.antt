@@ -55,6 +55,8 @@ up_later header accepted s m n c up = record {
 pub keeps_later : (header : Header) (accepted : List Asked) (s : Seen) (m n : Machine) → IsCounted m n → Keeps header accepted s m → Keeps header accepted (later s) n
 keeps_later header accepted s m n c k = record {
   nodes = k.nodes;
+  lines = k.lines;
+  ops = k.ops;
   plain = k.plain;
   said = k.said;
   asked = all_map (IsAsked (length s.acts) s.count) (IsAsked (length s.acts) (s.count + 1)) (λ p a. record { alone = a.alone; before = omega (arith, a.before) }) s.committings k.asked;
@@ -204,6 +206,8 @@ pub keeps_begin : (header : Header) (accepted : List Asked) (s : Seen) (m n : Ma
     → IsBegun m n l → object_used asked.event ≡ None → IsBelow (length s.acts) (root_in asked.path) → Keeps header (accepted ++ asked ∷ []) (with_act s (new_act s l (ident (length s.acts)))) n
 keeps_begin header accepted s m n l asked k up unknown room c no_use root_below = record {
   nodes = k.nodes;
+  lines = k.lines;
+  ops = k.ops;
   plain = (record { id = refl; kind = refl; parent = refl; uid = refl; fresh = fresh }, k.plain);
   said = all_map (λ p. IsAlone (length s.acts) p.it.path) (λ p. IsAlone (length (a ∷ s.acts)) p.it.path) (λ p r. alone_more p.it.path r) s.said k.said;
   asked = all_map (IsAsked (length s.acts) s.count) (IsAsked (length (a ∷ s.acts)) (s.count + 1)) (λ p r. record { alone = alone_more p.it r.alone; before = omega (arith, r.before) }) s.committings k.asked;

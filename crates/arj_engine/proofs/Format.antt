@@ -73,6 +73,8 @@ module _ (header : Header) (engine : Engine) (old new : FileMap) (form : HeaderI
   keeps_first : Keeps header [] s m
   keeps_first = record {
     nodes = form.nodes;
+    lines = form.lines;
+    ops = tt;
     plain = tt;
     said = tt;
     asked = tt;

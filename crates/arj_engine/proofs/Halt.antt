@@ -47,6 +47,8 @@ keeps_halt header accepted s m m' i act a k e d =
     let none : s.halts ≡ [] = subst (λ b. HaltsFit b (length s.acts) s.halts) e.up k.halts in
     record {
       nodes = k.nodes;
+      lines = k.lines;
+      ops = k.ops;
       plain = k.plain;
       said = k.said;
       asked = asked_more s i act a e k.asked;

@@ -11,6 +11,7 @@ pub mod Disk
 pub mod End
 pub mod Ended
 pub mod Ends
+pub mod Fits
 pub mod Format
 pub mod Halt
 pub mod Holders

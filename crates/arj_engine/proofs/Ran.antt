@@ -4,7 +4,7 @@ use Rattle.std.proofs.lemmas.Bool.{eqb-true}
 use Rattle.std.proofs.lemmas.Bool.Decides.{nat_tests}
 use Rattle.std.proofs.lemmas.List.{append-nil, append_assoc}
 use Rattle.std.proofs.lemmas.List.Elements.{filter-append}
-use Rattle.std.specs.List.{list_any, list_all}
+use Rattle.std.specs.List.{list_any, list_all, AllByRecursion}
 use Rattle.arj_base.specs.Count.{Rose}
 use Rattle.arj_base.specs.State.{state_bytes}
 use Rattle.arj_disk.specs.Files.{FileMap}
@@ -16,6 +16,9 @@ use Rattle.arj_journal.specs.declared.body.Line.{Line}
 use Rattle.arj_journal.specs.declared.event.Event.{Event}
 use Rattle.arj_journal.specs.declared.event.Event.TheVariants as event
 use Rattle.arj_journal.specs.declared.header.Header.{Header}
+use Rattle.arj_base.specs.Uid.{UidFits}
+use Rattle.arj_journal.specs.LineForm.{LabelFits}
+use Rattle.arj_text.specs.Fields.{IsWithin}
 use Rattle.arj_text.specs.declared.label.Label.{Label}
 use Rattle.arj_model.specs.Actions.{Act, acts}
 use Rattle.arj_model.specs.Serial.{Answers}
@@ -110,11 +113,12 @@ refused_moment header past e c is room = record {
     matched (Some d) e = refl
 
 pub refused_ran : (header : Header) (past : Past) (e : Event) (old new : Engine) (file : FileMap) (stops : ℕ) (before after : List Line) (c : ℕ)
-    → Stands header past old file → refusal header past e ≡ Some c → HasRoom header past e (body.Refused c ∷ []) → Refuses (machine_of old) (machine_of new) c before after → Ran header past e new file stops stops before after
-refused_ran header past e old new file stops before after c st is room r = record {
+    → Stands header past old file → refusal header past e ≡ Some c → HasRoom header past e (body.Refused c ∷ []) → IsWithin 1 18 c → Refuses (machine_of old) (machine_of new) c before after → Ran header past e new file stops stops before after
+refused_ran header past e old new file stops before after c st is room fits r = record {
   bodies = body.Refused c ∷ [];
   lines = r.1 ∙ ap (λ n. before ++ block (n + 1) (body.Refused c ∷ [])) st.count;
   moment = refused_moment header past e c is room;
+  in_form = (fits, tt);
   stands = stands_after header past e (body.Refused c ∷ []) new file (later (seen past.lines)) (see_refused (seen past.lines) c)
       (r.0.event ∙ ap (λ n. n + 1) st.count)
       (keeps_later header past.accepted (seen past.lines) (machine_of old) (machine_of new) r.0 st.keeps)
@@ -131,6 +135,19 @@ refused_ran header past e old new file stops before after c st is room r = recor
 
     absurd_false : false ≡ true → Rose stops stops
     absurd_false f = cc
+
+-- the number of a cause is that of one of these conditions
+pub cause_fits : (cs : List (ℕ × Bool)) → AllByRecursion (λ p. IsWithin 1 18 p.0) cs → (c : ℕ) → first_cause cs ≡ Some c → IsWithin 1 18 c
+cause_fits [] all c is = cc
+cause_fits (p ∷ cs) all c is = by (cause_fits cs all.1 c) p.1 is
+  where
+    by : (first_cause cs ≡ Some c → IsWithin 1 18 c) → (t : Bool) → cond t (Some p.0) (first_cause cs) ≡ Some c → IsWithin 1 18 c
+    by ih true e = let same : p.0 ≡ c = cc in subst (IsWithin 1 18) same all.0
+    by ih false e = ih e
+
+-- the Uid of an action fits its bytes
+pub ident_fits : (i : ℕ) → i < 4096 → UidFits (ident i)
+ident_fits i lt = (omega arith, omega arith, omega (arith, lt))
 
 -- Beginnings.
 
@@ -180,8 +197,8 @@ begin_moment header past m l n k is one room = record {
     not_full = grind (arith, nat_tests, k.count, room)
 
 pub begin_ran : (header : Header) (past : Past) (l : Label) (n : ℕ) (old new : Engine) (file : FileMap) (stops : ℕ) (before after : List Line)
-    → Stands header past old file → Begins (machine_of old) (machine_of new) l n before after → Ran header past (event.Begin l n) new file stops stops before after
-begin_ran header past l n old new file stops before after st begins = by (begin_refusal (machine_of old) l n) refl begins
+    → Stands header past old file → LabelFits l → Begins (machine_of old) (machine_of new) l n before after → Ran header past (event.Begin l n) new file stops stops before after
+begin_ran header past l n old new file stops before after st label begins = by (begin_refusal (machine_of old) l n) refl begins
   where
     m : Machine
     m = machine_of old
@@ -203,6 +220,7 @@ begin_ran header past l n old new file stops before after st begins = by (begin_
           bodies = bodies;
           lines = a.lines ∙ ap (λ c. before ++ block (c + 1) bodies) st.count;
           moment = begin_moment header past m l n st.keeps (same ∙ is) at.0 a.room;
+          in_form = ((label, ident_fits m.count a.room, tt), tt);
           stands = stands_after header past (event.Begin l n) bodies new file (with_act s (new_act s l (ident (length s.acts))))
               (see_began s l (ident m.count) ∙ ap (λ u. with_act s (new_act s l u)) uid)
               (a.begun.event ∙ ap (λ c. c + 1) st.count)
@@ -223,7 +241,8 @@ begin_ran header past l n old new file stops before after st begins = by (begin_
 
     by : (o : Option ℕ) → begin_refusal m l n ≡ o → MatchOption o (Accepts_begin m (machine_of new) l before after) (λ c. Refuses m (machine_of new) c before after) → Ran header past (event.Begin l n) new file stops stops before after
     by None is a = accepted is a
-    by (Some c) is r = refused_ran header past (event.Begin l n) old new file stops before after c st (same ∙ is) (λ g late. early_begin (ap is_late (sym same) ∙ late)) r
+    by (Some c) is r = refused_ran header past (event.Begin l n) old new file stops before after c st (same ∙ is) (λ g late. early_begin (ap is_late (sym same) ∙ late))
+        (cause_fits ((1, not (n == 1)) ∷ (2, m.down) ∷ (4, is_some (m.number l)) ∷ []) ((omega arith, omega arith), ((omega arith, omega arith), ((omega arith, omega arith), tt))) c is) r
       where
         early_begin : is_late (begin_refusal m l n) ≡ true → is_full past ≡ false
         early_begin = by_tests (not (n == 1)) m.down (is_some (m.number l)) is

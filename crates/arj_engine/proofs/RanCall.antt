@@ -1,16 +1,18 @@
 -- From what an event changes in memory to what holds of the run that is longer by it: calls. And what the code needs so
 -- as to be safe.
-use Rattle.std.proofs.Common.{◌≡◌, ◌<◌, inl, ◌^◌, ℕ, ◌+◌, List, [], ◌∷◌, ◌++◌, length, filter, Bool, true, false, cond, ◌&&◌, ◌||◌, nat_lt, not, Option, Some, None, unwrap_or, is_some, is_none, MatchOption, IfSome, refl, sym, ◌∙◌, ap, subst, arith}
+use Rattle.std.proofs.Common.{◌≡◌, ◌<◌, ◌≤◌, map, find, inl, ◌^◌, ℕ, ◌+◌, List, [], ◌∷◌, ◌++◌, length, filter, Bool, true, false, cond, ◌&&◌, ◌||◌, nat_lt, not, Option, Some, None, unwrap_or, is_some, is_none, MatchOption, IfSome, refl, sym, ◌∙◌, ap, subst, arith}
 use Rattle.std.proofs.lemmas.Bool.Decides.{nat_tests}
 use Rattle.std.proofs.lemmas.List.{append-nil}
 use Rattle.std.proofs.lemmas.List.Elements.{filter-append}
 use Rattle.std.specs.Option.{option_map}
 use Rattle.std.specs.Str.{bytes_eq}
-use Rattle.std.specs.List.{list_all}
+use Rattle.std.specs.List.{list_all, AllByRecursion}
 use Rattle.arj_base.specs.Count.{Rose}
 use Rattle.arj_base.specs.State.{state_bytes}
+use Rattle.arj_base.specs.declared.uid.Uid.{Uid}
+use Rattle.arj_base.specs.Mode.{conflicting}
 use Rattle.arj_base.specs.Rows.{first_conflict}
-use Rattle.arj_base.specs.Uid.{object}
+use Rattle.arj_base.specs.Uid.{object, UidFits, uid_eq}
 use Rattle.arj_class.specs.Table.{has_op, class_of, op_mode, answer_of}
 use Rattle.arj_class.specs.declared.op.Op.{Op}
 use Rattle.arj_class.specs.declared.value.Value.{Value}
@@ -23,6 +25,8 @@ use Rattle.arj_journal.specs.declared.event.Event.TheVariants as event
 use Rattle.arj_journal.specs.declared.header.Header.{Header}
 use Rattle.arj_text.specs.declared.label.Label.{Label}
 use Rattle.arj_text.specs.Label.{name}
+use Rattle.arj_journal.specs.LineForm.{LabelFits}
+use Rattle.arj_text.specs.Fields.{OpHasForm}
 use Rattle.arj_text.specs.Words.{answer_text}
 use Rattle.arj_model.specs.Actions.{Act, acts, act_in, path, uids, has_end}
 use Rattle.arj_model.specs.Past.{Past, Asked, asked_of, block}
@@ -33,18 +37,20 @@ use Rattle.arj_model.specs.Causes.{Moment, ConflictsHaveCause, conflicts_by, con
 use Rattle.arj_engine.specs.Seen.{Seen, seen}
 use Rattle.arj_engine.specs.declared.object.Row.{Row as Lock}
 use Rattle.arj_engine.specs.Object.{Obj, against, called, current}
-use Rattle.arj_engine.specs.Keeps.{Machine, ident, row_at}
+use Rattle.arj_engine.specs.Keeps.{Machine, IsHeldBelow, ident, row_at}
 use Rattle.arj_engine.specs.Change.{IsUsed}
 use Rattle.arj_engine.specs.Engine.{Stands, Ran, machine_of, stepped}
 use Rattle.arj_engine.specs.Events.{Refuses, Calls, Accepts_call, Writes, call_refusal, is_over_by, is_too_many_by, lacks_op_in, Ready}
 use Rattle.arj_engine.specs.declared.engine.Engine.{Engine}
+use Rattle.arj_engine.proofs.Parts.{all_filter}
+use Rattle.arj_engine.proofs.Fits.{answer_fits, current_bounded, object_fits}
 use Rattle.arj_engine.proofs.Steps.{later, with_call, see_ok, see_conflict}
 use Rattle.arj_engine.proofs.Known.{known}
 use Rattle.arj_engine.proofs.Refusals.{call_same}
 use Rattle.arj_engine.proofs.Call.{keeps_call, keeps_met}
 use Rattle.arj_engine.proofs.Locks.{conflict_is}
 use Rattle.arj_engine.proofs.Disk.{last_call}
-use Rattle.arj_engine.proofs.Ran.{stands_after, refused_ran, count_more, answers_more, asks_more}
+use Rattle.arj_engine.proofs.Ran.{stands_after, cause_fits, ident_fits, refused_ran, count_more, answers_more, asks_more}
 use Rattle.arj_engine.proofs.RanEnds.{Found, found, open_ended, same_name, plain_sum}
 
 -- What the code needs follows from what the engine keeps.
@@ -133,7 +139,23 @@ class_now o fits = by o.working fits
 no_label : {P : Type 0} → false ≡ true → P
 no_label {P} g = cc
 
-module _ (header : Header) (past : Past) (l : Label) (x : ℕ) (op : Op) (old new : Engine) (file : FileMap) (stops : ℕ) (before after : List Line) (st : Stands header past old file) where
+-- what holds of each mapped item, and what holds of the item that is found
+unmapped : {A B : Type 0} (P : B → Type 0) (f : A → B) (xs : List A) → AllByRecursion P (map f xs) → AllByRecursion (λ a. P (f a)) xs
+unmapped P f [] all = tt
+unmapped P f (x ∷ xs) all = (all.0, unmapped P f xs all.1)
+
+found_one : {A : Type 0} (P : A → Type 0) (t : A → Bool) (xs : List A) → AllByRecursion P xs → (a : A) → find t xs ≡ Some a → P a
+found_one P t [] all a is = cc
+found_one {A} P t (x ∷ xs) all a is = by (found_one P t xs all.1 a) (t x) is
+  where
+    by : (find t xs ≡ Some a → P a) → (b : Bool) → cond b (Some x) (find t xs) ≡ Some a → P a
+    by ih true e = let same : x ≡ a = cc in subst P same all.0
+    by ih false e = ih e
+
+head_same : (u w : Uid) → u ∷ [] ≡ w ∷ [] → u ≡ w
+head_same u w e = cc
+
+module _ (header : Header) (past : Past) (l : Label) (x : ℕ) (op : Op) (old new : Engine) (file : FileMap) (stops : ℕ) (before after : List Line) (st : Stands header past old file) (label : LabelFits l) (form : OpHasForm op) where
   abbrev m : Machine
   m = machine_of old
 
@@ -154,6 +176,20 @@ module _ (header : Header) (past : Past) (l : Label) (x : ℕ) (op : Op) (old ne
   waits_open i f =
       let over : has_ended past.lines (name l) ≡ false = open_ended past l i f in
       ap (λ b. cond b None (pending (past.accepted ++ asked ∷ []) past.lines (name l))) over ∙ waits past.accepted past.lines asked (name l) (st.answered (name l)) (same_name l)
+
+  -- the object is one of the header's
+  in_header : (o : Obj) → m.object x ≡ Some o → (1 ≤ x) × (x ≤ 256)
+  in_header o there = object_fits header x st.keeps.lines (sym (st.keeps.there x) ∙ ap is_some there)
+
+  -- the holder of a lock is an action
+  holder_fits : (i : ℕ) (o : Obj) (row : Lock) → Found s l i → m.object x ≡ Some o → against (ident i) (op_mode op) o.rows ≡ Some row → UidFits row.holder
+  holder_fits i o row f there against_it =
+      let up = st.keeps.up f.up in
+      let held = subst (AllByRecursion (IsHeldBelow (length s.acts))) (sym ((up.objects x o there).rows)) (all_filter (IsHeldBelow (length s.acts)) (λ r. uid_eq r.object (object x)) s.rows up.held) in
+      let one = found_one (λ r. IsHeldBelow (length s.acts) (row_at x r)) (λ r. not (uid_eq r.holder (ident i)) && conflicting r.mode (op_mode op)) o.rows (unmapped (IsHeldBelow (length s.acts)) (row_at x) o.rows held) row against_it in
+      let same : row.holder ≡ ident one.0 = head_same row.holder (ident one.0) one.2 in
+      let few : one.0 < 4096 = omega (arith, one.1, st.keeps.count, st.keeps.most) in
+      subst UidFits (sym same) (ident_fits one.0 few)
 
   moment_of : (b : Body) → refusal header past (event.Call l x op) ≡ None → is_of_one (event.Call l x op) b ≡ true → may_stand (event.Call l x op) b ≡ true → halts_last (node_of past.lines (name l)) (b ∷ []) ≡ true
       → AnswerFits (past.accepted ++ asked ∷ []) past.lines b → filter is_conflict (b ∷ []) ≡ conflicts_by l (conflict_of past l x op) → is_answer_to (name l) b ≡ true → Moment header past (event.Call l x op) (b ∷ [])
@@ -198,7 +234,7 @@ module _ (header : Header) (past : Past) (l : Label) (x : ℕ) (op : Op) (old ne
   answered_ran i o is has f there free used lines =
       let answer : Answer = answer_of op (current o) in
       let b : Body = body.Ok l x op (answer_text answer) in
-      let k = keeps_call header past.accepted s m (machine_of new) asked f.act i x op o answer st.keeps f.going f.id f.kind f.uid f.path_is refl there free refl used in
+      let k = keeps_call header past.accepted s m (machine_of new) asked f.act i x op o answer st.keeps f.going f.id f.kind f.uid f.path_is refl there free refl used form in
       let up = k.up f.up in
       let class : class_of (current o) ≡ class_of o.value = class_now o ((st.keeps.up f.up).objects x o there).class in
       let fits : AnswerFits (past.accepted ++ asked ∷ []) past.lines b = (subst (IsCallOf x op) (sym (waits_open i f)) (refl, refl), (current o, ap (λ c. has_op c op) class ∙ has, refl)) in
@@ -208,6 +244,7 @@ module _ (header : Header) (past : Past) (l : Label) (x : ℕ) (op : Op) (old ne
         bodies = b ∷ [];
         lines = lines ∙ ap (λ c. before ++ block (c + 1) (b ∷ [])) st.count;
         moment = moment_of b is refl refl refl fits cause (same_name l);
+        in_form = ((label, in_header o there, form, (answer, answer_fits op (current o) (current_bounded header s m.event x o st.keeps.lines st.keeps.ops ((st.keeps.up f.up).objects x o there)), refl)), tt);
         stands = stands_after header past (event.Call l x op) (b ∷ []) new file (with_call s (f.act ∷ []) x op (answer_text answer))
             (see_ok s l x op (answer_text answer) ∙ ap (λ p. with_call s p x op (answer_text answer)) f.path_is)
             (used.event ∙ ap (λ c. c + 1) st.count) k
@@ -237,6 +274,7 @@ module _ (header : Header) (past : Past) (l : Label) (x : ℕ) (op : Op) (old ne
         bodies = b ∷ [];
         lines = lines ∙ ap (λ c. before ++ block (c + 1) (b ∷ [])) st.count;
         moment = moment_of b is refl refl refl fits cause (same_name l);
+        in_form = ((label, holder_fits i o row f there against_it, (omega arith, omega arith)), tt);
         stands = stands_after header past (event.Call l x op) (b ∷ []) new file (later s) (see_conflict s l row.holder row.mode 1)
             (used.event ∙ ap (λ c. c + 1) st.count) k
             (record { serial = st.serial; holds = st.holds; holds_or_next = st.holds_or_next })
@@ -271,4 +309,6 @@ module _ (header : Header) (past : Past) (l : Label) (x : ℕ) (op : Op) (old ne
 
       by : (o : Option ℕ) → call_refusal m l x op ≡ o → MatchOption o (Accepts_call m (machine_of new) l x op before after) (λ c. Refuses m (machine_of new) c before after) → Ran header past (event.Call l x op) new file stops stops before after
       by None is a = accepted is a
-      by (Some c) is r = refused_ran header past (event.Call l x op) old new file stops before after c st (same ∙ is) (λ g late. no_label g) r
+      by (Some c) is r = refused_ran header past (event.Call l x op) old new file stops before after c st (same ∙ is) (λ g late. no_label g)
+          (cause_fits ((5, is_none (m.number l)) ∷ (6, is_over_by m (m.number l)) ∷ (13, is_none (m.object x)) ∷ (14, lacks_op_in (m.object x) op) ∷ (16, is_too_many_by m (m.number l) x) ∷ [])
+          ((omega arith, omega arith), ((omega arith, omega arith), ((omega arith, omega arith), ((omega arith, omega arith), ((omega arith, omega arith), tt))))) c is) r

@@ -21,6 +21,8 @@ use Rattle.arj_journal.specs.declared.body.Line.{Line}
 use Rattle.arj_journal.specs.declared.event.Event.{Event}
 use Rattle.arj_journal.specs.declared.event.Event.TheVariants as event
 use Rattle.arj_journal.specs.declared.header.Header.{Header}
+use Rattle.arj_journal.specs.LineForm.{LabelFits}
+use Rattle.arj_text.specs.Fields.{IsWithin}
 use Rattle.arj_text.specs.declared.label.Label.{Label}
 use Rattle.arj_text.specs.Label.{name}
 use Rattle.arj_model.specs.Actions.{Act, Placed, Halt, acts, act_in, id_in, path, uids, has_end, ended, halts, is_halted, is_over}
@@ -47,7 +49,7 @@ use Rattle.arj_engine.proofs.Abort.{keeps_abort}
 use Rattle.arj_engine.proofs.Commit.{keeps_commit}
 use Rattle.arj_engine.proofs.Halt.{keeps_halt}
 use Rattle.arj_engine.proofs.Disk.{committed_state, halted_seen, halted_state, last_halt, serial_halt}
-use Rattle.arj_engine.proofs.Ran.{see_all, seen_block, stands_after, refused_ran, count_more, answers_more, asks_more}
+use Rattle.arj_engine.proofs.Ran.{see_all, seen_block, stands_after, cause_fits, refused_ran, count_more, answers_more, asks_more}
 
 -- What is known of the action that an accepted event names.
 pub record Found (s : Seen) (l : Label) (i : ℕ) : Type 0 where
@@ -135,6 +137,10 @@ asks_of past l i e f is used = record { up = f.up; going = f.going; id = f.id; k
 pub plain_sum : (n : ℕ) → n + 0 ≡ n
 plain_sum n = omega arith
 
+-- the causes of an end that is refused
+end_cause_fits : (m : Machine) (l : Label) (c : ℕ) → end_refusal m l ≡ Some c → IsWithin 1 18 c
+end_cause_fits m l c is = cause_fits ((5, is_none (m.number l)) ∷ (6, is_over_by m (m.number l)) ∷ []) ((omega arith, omega arith), ((omega arith, omega arith), tt)) c is
+
 -- Aborts.
 
 abort_moment : (header : Header) (past : Past) (l : Label) → refusal header past (event.Abort l) ≡ None → AreAborted (aborted_of past.lines (act_in (acts past.lines) (name l))) (body.Aborted l cause.Asked ∷ [])
@@ -152,8 +158,8 @@ abort_moment header past l is all = record {
     bodies = body.Aborted l cause.Asked ∷ []
 
 pub abort_ran : (header : Header) (past : Past) (l : Label) (old new : Engine) (file : FileMap) (stops : ℕ) (before after : List Line)
-    → Stands header past old file → Aborts (machine_of old) (machine_of new) l before after → Ran header past (event.Abort l) new file stops stops before after
-abort_ran header past l old new file stops before after st aborts = by (end_refusal (machine_of old) l) refl aborts
+    → Stands header past old file → LabelFits l → Aborts (machine_of old) (machine_of new) l before after → Ran header past (event.Abort l) new file stops stops before after
+abort_ran header past l old new file stops before after st label aborts = by (end_refusal (machine_of old) l) refl aborts
   where
     m : Machine
     m = machine_of old
@@ -178,6 +184,7 @@ abort_ran header past l old new file stops before after st aborts = by (end_refu
           bodies = bodies;
           lines = a.lines ∙ ap (λ c. before ++ block (c + 1) bodies) st.count;
           moment = abort_moment header past l (same ∙ is) (aborted_alone past l i st.keeps.plain f);
+          in_form = ((label, tt), tt);
           stands = stands_after header past (event.Abort l) bodies new file (with_abort s i (ident i))
               (see_aborted s l i known ∙ ap (with_abort s i) uid)
               (a.ended.event ∙ ap (λ c. c + 1) st.count)
@@ -195,7 +202,7 @@ abort_ran header past l old new file stops before after st aborts = by (end_refu
 
     by : (o : Option ℕ) → end_refusal m l ≡ o → MatchOption o (Accepts_abort m (machine_of new) l before after) (λ c. Refuses m (machine_of new) c before after) → Ran header past (event.Abort l) new file stops stops before after
     by None is a = accepted is a
-    by (Some c) is r = refused_ran header past (event.Abort l) old new file stops before after c st (same ∙ is) (λ g late. no_label g) r
+    by (Some c) is r = refused_ran header past (event.Abort l) old new file stops before after c st (same ∙ is) (λ g late. no_label g) (end_cause_fits m l c is) r
 
 -- Commits.
 
@@ -268,7 +275,7 @@ commit_own header past l b i f is answers one stand halts calm ends = record {
     bodies : List Body
     bodies = body.Committing l ∷ b ∷ []
 
-module _ (header : Header) (past : Past) (l : Label) (old new : Engine) (file file' : FileMap) (stops stops' : ℕ) (before after : List Line) (st : Stands header past old file) where
+module _ (header : Header) (past : Past) (l : Label) (old new : Engine) (file file' : FileMap) (stops stops' : ℕ) (before after : List Line) (st : Stands header past old file) (label : LabelFits l) where
   abbrev m : Machine
   m = machine_of old
 
@@ -313,6 +320,7 @@ module _ (header : Header) (past : Past) (l : Label) (old new : Engine) (file fi
         bodies = bodies;
         lines = w.lines ∙ ap (λ c. before ++ block (c + 1) bodies) st.count;
         moment = commit_own header past l (body.Committed l) i f is (called_commit header past m l i (past.count + 1) st.keeps number over, tt) refl refl refl refl (ap (λ t. length (cond t (body.Committed l ∷ []) [])) (same_name l));
+        in_form = (label, (label, tt));
         stands = stands_after header past (event.Commit l) bodies new file' (committed_seen s f.act i) read
             (w.ended.event ∙ ap (λ c. c + 1) st.count) k
             (record { serial = up.serial; holds = λ d x there. held_now i f e some w x there; holds_or_next = λ x there. inl (held_now i f e some w x there) })
@@ -352,6 +360,7 @@ module _ (header : Header) (past : Past) (l : Label) (old new : Engine) (file fi
         bodies = bodies;
         lines = w.lines ∙ ap (λ c. before ++ block (c + 1) bodies) st.count;
         moment = commit_own header past l (body.Halted 1) i f is (still_up, tt) refl refl here refl (ap (λ t. length (cond t (body.Halted 1 ∷ []) [])) node);
+        in_form = (label, ((omega arith, omega arith), tt));
         stands = stands_after header past (event.Commit l) bodies new file' (halted_seen s f.act) read
             (w.halted.event ∙ ap (λ c. c + 1) st.count) k
             (record {
@@ -419,7 +428,7 @@ module _ (header : Header) (past : Past) (l : Label) (old new : Engine) (file fi
       refused c is r =
           let P : FileMap → Type 0 = λ g. Ran header past (event.Commit l) new g stops stops' before after in
           let Q : ℕ → Type 0 = λ t. Ran header past (event.Commit l) new file stops t before after in
-          subst P (sym r.1.0) (subst Q (sym r.1.1) (refused_ran header past (event.Commit l) old new file stops before after c st (same ∙ is) (λ g late. no_label g) r.0))
+          subst P (sym r.1.0) (subst Q (sym r.1.1) (refused_ran header past (event.Commit l) old new file stops before after c st (same ∙ is) (λ g late. no_label g) (end_cause_fits m l c is) r.0))
 
       by : (o : Option ℕ) → end_refusal m l ≡ o → MatchOption o (Accepts_commit m (machine_of new) l file file' stops stops' before after) (λ c. Refuses m (machine_of new) c before after × Untouched file file' stops stops')
           → Ran header past (event.Commit l) new file' stops stops' before after

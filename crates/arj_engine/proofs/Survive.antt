@@ -1,9 +1,9 @@
 -- Every action is a top, so all its calls survive.
-use Rattle.std.proofs.Common.{◌≡◌, ℕ, List, [], ◌∷◌, Bool, true, false, cond, ◌==◌, ◌&&◌, filter, filter_map, Option, Some, None, refl, sym, ◌∙◌, ap, subst}
+use Rattle.std.proofs.Common.{◌≡◌, ℕ, List, [], ◌∷◌, Bool, true, false, cond, ◌==◌, filter, Option, Some, None, refl, ◌∙◌, ap}
 use Rattle.std.specs.List.{list_all, cons_option, AllByRecursion}
 use Rattle.arj_model.specs.Actions.{Act, Placed, top_in, chain_in, behind_first, has_end, is_serial}
 use Rattle.arj_model.specs.Calls.{Said, Call, ids, made_in, survivors}
-use Rattle.arj_engine.specs.Keeps.{IsAlone, calls_by, calls_made}
+use Rattle.arj_engine.specs.Keeps.{IsAlone, calls_made}
 
 abbrev IsUnchained : Call → Type 0
 IsUnchained c = c.chain ≡ []

@@ -1,6 +1,6 @@
 -- What holds of the engine, of the run so far and of its disk, and what one step does.
 use Rattle.std.specs.Prelude.{◌≡◌, ℕ, ◌+◌, List, [], ◌++◌, length, Bool, true, false, Option, Some, None, is_some, if◌then◌else◌, slice_get}
-use Rattle.std.specs.List.{list_any}
+use Rattle.std.specs.List.{list_any, AllByRecursion}
 use Rattle.std.specs.BTreeMap.{get}
 use Rattle.std.specs.Cmp.Lexicographic.{slice_cmp}
 use Rattle.std.specs.Ordering.{nat_cmp, on}
@@ -10,6 +10,7 @@ use Rattle.arj_disk.specs.Files.{FileMap}
 use Rattle.arj_disk.specs.Says.{held}
 use Rattle.arj_disk.specs.declared.slot.Role.TheVariants.{Store}
 use Rattle.arj_base.specs.Uid.{object}
+use Rattle.arj_journal.specs.LineForm.{BodyFits}
 use Rattle.arj_journal.specs.declared.body.Body.{Body}
 use Rattle.arj_journal.specs.declared.body.Line.{Line}
 use Rattle.arj_journal.specs.declared.event.Event.{Event}
@@ -74,6 +75,7 @@ pub record Ran (header : Header) (past : Past) (e : Event) (engine : Engine) (fi
   pub bodies : List Body
   pub lines : after ≡ before ++ block (past.count + 1) bodies
   pub moment : Moment header past e bodies
+  pub in_form : AllByRecursion BodyFits bodies
   pub stands : Stands header (next past e bodies) engine file
   pub halted : list_any (is_halt 1) bodies ≡ true → Rose stops_before stops_after
   pub steady : list_any (is_halt 1) bodies ≡ false → stops_after ≡ stops_before

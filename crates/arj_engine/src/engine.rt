@@ -1,5 +1,5 @@
 // The engine: what it keeps in memory, and one step of it.
-ghost use Rattle.std.specs.Prelude.{◌≡◌, ◌<◌, ◌≤◌, ◌+◌, ◌==◌, ◌∷◌, [], ◌++◌, IfOk, OnOk, OnErr, IsErrOf, ◌≢◌, Some, None, ◌^◌, IsSomeAnd, IfSome, option_and_then};
+ghost use Rattle.std.specs.Prelude.{◌≡◌, ◌<◌, ◌≤◌, ◌+◌, ◌==◌, ◌∷◌, [], ◌++◌, IfOk, OnOk, OnErr, IsErrOf, ◌≢◌, Some, None, ◌^◌, length, IsSomeAnd, IfSome, option_and_then};
 ghost use Rattle.arj_base.specs.Count.{Rose};
 ghost use Rattle.arj_class.specs.Forms.{OpInForm};
 ghost use Rattle.arj_class.specs.Table.{class_of, mode_of, op_mode};
@@ -295,6 +295,7 @@ impl Engine {
         ensures ok { OnOk result (Begins (machine_of self.old) (machine_of self.new) label node journal.old journal.new) }
         ensures labels { IsErrOf result StepFault.Labels → (begin_refusal (machine_of self.old) label node ≡ None) × (4096 ≤ (machine_of self.old).count) }
         ensures kept { IsErrOf result StepFault.Labels → (self.new ≡ self.old) × (journal.new ≡ journal.old) }
+        ensures sized { length label.text ≡ 16 }
     {
         if let Some(cause) = self.refusal_of_begin(label, node) {
             return self.refuse(cause, journal);
@@ -344,6 +345,7 @@ impl Engine {
         requires count { stepped self.old < 200000 }
         requires form { OpInForm op }
         requires ready { Ready (machine_of self.old) }
+        ensures sized { length label.text ≡ 16 }
         ensures ok { OnOk result (Calls (machine_of self.old) (machine_of self.new) label x op journal.old journal.new) }
         ensures labels { IsErrOf result StepFault.Labels → ⊥ }
     {
@@ -416,6 +418,7 @@ impl Engine {
     ) -> Result<(), StepFault>
         requires count { stepped self.old < 200000 }
         requires ready { Ready (machine_of self.old) }
+        ensures sized { length label.text ≡ 16 }
         ensures ok { OnOk result (Commits (machine_of self.old) (machine_of self.new) label (D.file disk.old) (D.file disk.new)
             (D.stops disk.old) (D.stops disk.new) journal.old journal.new) }
         ensures labels { IsErrOf result StepFault.Labels → ⊥ }
@@ -449,6 +452,7 @@ impl Engine {
     fn abort(&mut self, label: Label, journal: &mut Lines) -> Result<(), StepFault>
         requires count { stepped self.old < 200000 }
         requires ready { Ready (machine_of self.old) }
+        ensures sized { length label.text ≡ 16 }
         ensures ok { OnOk result (Aborts (machine_of self.old) (machine_of self.new) label journal.old journal.new) }
         ensures labels { IsErrOf result StepFault.Labels → ⊥ }
     {

@@ -90,7 +90,7 @@ next_in_form (Objects n os) line (Nodes m) g h = g
 next_in_form (Objects n os) line (Object o) g h =
     let has = h.has.fits.0 in
     let stores : o.stores ≡ 1 ∷ [] = one_node o.stores (subst (λ m. are_nodes m 16 o.stores ≡ true) g.0 has.stores) in
-    (g.0, insert_all o os (has.number.0, has.number.1, stores) g.1, rising_insert o os g.2 h.has.fits.1)
+    (g.0, insert_all o os (has.number.0, has.number.1, stores, has.value) g.1, rising_insert o os g.2 h.has.fits.1)
 next_in_form (Objects n os) line Run g h = tt
 next_in_form (Objects n os) line (Asks e) g h = g
 next_in_form Running line Blank g h = tt
