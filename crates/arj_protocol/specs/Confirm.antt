@@ -174,12 +174,12 @@ pending_of u [] = None
 pending_of u (p ∷ ps) = either (option_map (λ s. (p.0, s)) (find (λ s. uid_eq s.uid u) p.1)) (pending_of u ps)
 
 -- the row that a prepared entry gives back: it has its action alone as its path
-abbrev pub rows_back : ObjectState → Option (Uid × ObjectState) → List Row
-rows_back held None = []
-rows_back held (Some p) = row_for held.uid (p.0 ∷ []) 1 (mode_back (state_entry p.1).stores (state_entry held).stores) ∷ []
+abbrev pub rows_back : Uid → ObjectState → Option (Uid × ObjectState) → List Row
+rows_back u held None = []
+rows_back u held (Some p) = row_for u (p.0 ∷ []) 1 (mode_back (state_entry p.1).stores (state_entry held).stores) ∷ []
 
 abbrev pub named_back : Pair → Uid × ObjectState → ℕ × Named
-named_back d e = (e.0.num, unnamed (rows_back e.1 (pending_of e.0 d.pend)))
+named_back d e = (e.0.num, unnamed (rows_back e.0 e.1 (pending_of e.0 d.pend)))
 
 abbrev pub back_lines : Named → List Effect
 back_lines o = map (λ r. Say (body.Granted 1 (last_uid r.holder) r.object r.mode)) o.rows

@@ -66,9 +66,14 @@ other_inc had now = if had == now then None else Some (what.Inc had now)
 abbrev pub other_binding : Binding → Binding → Option What
 other_binding had now = if binding_eq had now then None else Some (what.Bind had now)
 
+-- an object without a copy has changed whatever the request has
+abbrev pub changed_copy : Binding → Option Copy → Option What
+changed_copy b None = Some (what.Bind b unbound)
+changed_copy b (Some c) = other_binding b c.binding
+
 -- the incarnation, and then the binding
 abbrev pub changed_by : ℕ → ℕ → Binding → Server → Option What
-changed_by i x b s = either (other_inc i s.inc) (other_binding b (active_binding x s))
+changed_by i x b s = either (other_inc i s.inc) (changed_copy b (at_number x s.objects))
 
 -- ---- ends
 
@@ -116,9 +121,9 @@ abbrev pub keeps : Uid → ℕ → Option InvokedReply → Server → Server
 keeps act req None s = s
 keeps act req (Some a) s = record s { kept = put_uid act (record { req = req; answer = a }) s.kept }
 
--- a call on one object's copy, put back
+-- A call on one object's copy, put back. There is a copy, since the binding is active.
 abbrev pub on_copy : ℕ → (Copy → Served Copy InvokedReply) → Server → Option Copy → Served Server InvokedReply
-on_copy x f s None = void s
+on_copy x f s None = reply s (invoked.Changed (what.Bind unbound unbound))
 on_copy x f s (Some c) = let r = f c in record { part = record s { objects = put_number x r.part s.objects }; outs = r.outs; reply = r.reply }
 
 abbrev pub kept_after : Head → Served Server InvokedReply → Served Server InvokedReply
@@ -159,7 +164,7 @@ invoke n h x b i ends op s =
 -- the first object whose active binding is another one
 abbrev pub first_unbound : List (ℕ × Binding) → Server → Option What
 first_unbound [] s = None
-first_unbound (t ∷ ts) s = either (other_binding t.1 (active_binding t.0 s)) (first_unbound ts s)
+first_unbound (t ∷ ts) s = either (changed_copy t.1 (at_number t.0 s.objects)) (first_unbound ts s)
 
 -- the states that a top made, by object
 abbrev pub changed_states : Uid → Server → List ObjectState

@@ -122,15 +122,18 @@ cut k how (Send to m ∷ es) d = behind_effect (Send to m) (cut k how es d)
 
 -- ---- a step of one node
 
-abbrev pub set_node : Node → World → World
-set_node n w = record w { nodes = set_place n.number n w.nodes }
+abbrev pub set_node : ℕ → Node → World → World
+set_node k n w = record w { nodes = set_place k n w.nodes }
 
-abbrev pub done_step : Node → Step → World → World
-done_step n s w = put n.number s.outs (set_node s.after w)
+abbrev pub done_step : ℕ → Step → World → World
+done_step k s w = put k s.outs (set_node k s.after w)
 
 -- a node that stopped is down, with the disk as the stop left it
-abbrev pub halted_at : Node → Cut → World → World
-halted_at n c w = put n.number (c.outs ++ Say (body.Halted n.number) ∷ []) (set_node (record n { disk = c.disk; live = None }) w)
+abbrev pub halted_outs : ℕ → Cut → List Effect
+halted_outs k c = c.outs ++ Say (body.Halted k) ∷ []
+
+abbrev pub halted_at : ℕ → Node → Cut → World → World
+halted_at k n c w = put k (halted_outs k c) (set_node k (record n { disk = c.disk; live = None }) w)
 
 abbrev pub disarmed : ℕ → World → World
 disarmed n w = record w { arms = filter (λ (a : ℕ × Arm). not (a.0 == n)) w.arms }
@@ -139,22 +142,22 @@ abbrev pub armed : ℕ → Arm → World → World
 armed n a w = record w { arms = put_number n a w.arms }
 
 -- an arm counts the works that are done
-abbrev pub step_armed : Node → Step → World → Arm → World
-step_armed n s w a =
-    if nat_lt (count_works s.halting) a.works then done_step n s (armed n.number (record a { works = a.works - count_works s.halting }) w)
-    else halted_at n (cut (a.works - 1) a.how s.halting n.disk) (disarmed n.number w)
+abbrev pub step_armed : ℕ → Node → Step → World → Arm → World
+step_armed k n s w a =
+    if nat_lt (count_works s.halting) a.works then done_step k s (armed k (record a { works = a.works - count_works s.halting }) w)
+    else halted_at k n (cut (a.works - 1) a.how s.halting n.disk) (disarmed k w)
 
-abbrev pub step_with : Node → Step → World → Option Arm → World
-step_with n s w None = done_step n s w
-step_with n s w (Some a) = step_armed n s w a
+abbrev pub step_with : ℕ → Node → Step → World → Option Arm → World
+step_with k n s w None = done_step k s w
+step_with k n s w (Some a) = step_armed k n s w a
 
-abbrev pub step_node : Input → World → Option Node → World
-step_node i w None = w
-step_node i w (Some n) = step_with n (step w.header n i) w (at_number n.number w.arms)
+abbrev pub step_node : ℕ → Input → World → Option Node → World
+step_node k i w None = w
+step_node k i w (Some n) = step_with k n (step w.header n i) w (at_number k w.arms)
 
--- the node takes the input
+-- the node at this place takes the input
 abbrev pub steps : ℕ → Input → World → World
-steps n i w = step_node i w (at_place n w.nodes)
+steps k i w = step_node k i w (at_place k w.nodes)
 
 -- ---- frames
 
