@@ -8,7 +8,7 @@ use Rattle.arj_base.specs.Mode.{conflicting, stronger, mode_code}
 use Rattle.arj_base.specs.Rows.{Row, is_on, last_uid, is_row_of, grant_row, drop_rows, close_rows, lower_row, is_against, first_conflict}
 use Rattle.arj_base.specs.Uid.{uid_eq}
 use Rattle.arj_lock.specs.Exclusion.{Agree, AgreesWithAll, GoTogether, Excluding}
-use Rattle.arj_lock.proofs.Uids.{uid_same, uid_is}
+use Rattle.arj_base.proofs.Uids.{uid_same, uid_is}
 use Rattle.arj_lock.proofs.Members.{In, in_from, in_to, in_filter, in_map, in_find_none}
 use Rattle.arj_lock.proofs.Paths.{on_last, between, agree_same, agree_sym}
 
@@ -89,14 +89,14 @@ close_excludes object rows e = excludes_to (close_rows object rows) (fewer (λ r
 
 -- A row that is lowered: it conflicts with nothing more.
 
-record IsLowered (rows : List Row) (y : Row) : Type 0 where
-  row : Row
-  there : In row rows
-  object : row.object ≡ y.object
-  holder : row.holder ≡ y.holder
-  conflicts : (m : Mode) → conflicting y.mode m ≡ true → conflicting row.mode m ≡ true
+pub record IsLowered (rows : List Row) (y : Row) : Type 0 where
+  pub row : Row
+  pub there : In row rows
+  pub object : row.object ≡ y.object
+  pub holder : row.holder ≡ y.holder
+  pub conflicts : (m : Mode) → conflicting y.mode m ≡ true → conflicting row.mode m ≡ true
 
-lowered : (action object : Uid) (y : Row) (rows : List Row) → In y (lower_row action object rows) → IsLowered rows y
+pub lowered : (action object : Uid) (y : Row) (rows : List Row) → In y (lower_row action object rows) → IsLowered rows y
 lowered action object y rows i = by (in_map (λ row. cond (is_row_of object action row) (record row { mode = Read }) row) y rows i)
   where
     at : (x : Row) → In x rows → (b : Bool) → cond b (record x { mode = Read }) x ≡ y → IsLowered rows y
@@ -184,7 +184,7 @@ granted new y (row ∷ rows) i = by (granted new y rows) (is_row_of new.object (
     by ih false own (inr i) = later (ih i)
 
 -- whoever conflicts with a request that meets no conflict is on its path
-on_path : (new z : Row) (rows : List Row) → first_conflict new.holder new.object new.mode rows ≡ None → In z rows → uid_eq z.object new.object ≡ true → conflicting z.mode new.mode ≡ true
+pub on_path : (new z : Row) (rows : List Row) → first_conflict new.holder new.object new.mode rows ≡ None → In z rows → uid_eq z.object new.object ≡ true → conflicting z.mode new.mode ≡ true
     → is_on new.holder (last_uid z.holder) ≡ true
 on_path new z rows free i same conflict =
     by (is_on new.holder (last_uid z.holder)) ((λ k. sym same k && (not (is_on new.holder (last_uid z.holder)) && sym conflict k)) ∙ in_find_none (is_against new.holder new.object new.mode) z rows free i)

@@ -1,13 +1,16 @@
+pub mod Apart
+pub mod Clear
 pub mod Exclusion
 pub mod Grants
 pub mod Handed
 pub mod Holders
+pub mod Leaves
 pub mod Locks
 pub mod Members
 pub mod OneEach
+pub mod PassLeaves
 pub mod Passes
 pub mod Passing
 pub mod Paths
 pub mod Steps
-pub mod Uids
 pub mod Uniqueness

@@ -6,7 +6,7 @@ use Rattle.arj_base.specs.Mode.{stronger}
 use Rattle.arj_base.specs.Rows.{Row, has_row, is_row_of, last_uid, grant_row}
 use Rattle.arj_lock.specs.Exclusion.{IsOneEach}
 use Rattle.arj_lock.proofs.Members.{In}
-use Rattle.arj_lock.proofs.Uids.{uid_sym}
+use Rattle.arj_base.proofs.Uids.{uid_sym}
 
 -- Tests over a list.
 

@@ -15,7 +15,7 @@ use Rattle.arj_lock.specs.Passing.{raised}
 use Rattle.arj_lock.proofs.Members.{In, in_map}
 use Rattle.arj_lock.proofs.OneEach.{none_in, any_same, any_more, apart_from, any_here}
 use Rattle.arj_lock.proofs.Paths.{heir_is}
-use Rattle.arj_lock.proofs.Uids.{uid_same, uid_sym, uid_is}
+use Rattle.arj_base.proofs.Uids.{uid_same, uid_sym, uid_is}
 
 -- Lists.
 
@@ -52,7 +52,7 @@ find_here : (p : Row → Bool) (xs : List Row) (x : Row) (ys : List Row) → p x
 find_here p [] x ys own others = λ i. cond (own i) (Some x) (find p ys)
 find_here p (y ∷ xs) x ys own others = (λ i. cond (others y (inl refl) i) (Some y) (find p (xs ++ x ∷ ys))) ∙ find_here p xs x ys own (λ z j. others z (inr j))
 
-find_none : (p : Row → Bool) (xs : List Row) → ((y : Row) → In y xs → p y ≡ false) → find p xs ≡ None
+pub find_none : (p : Row → Bool) (xs : List Row) → ((y : Row) → In y xs → p y ≡ false) → find p xs ≡ None
 find_none p [] others = refl
 find_none p (y ∷ xs) others = (λ i. cond (others y (inl refl) i) (Some y) (find p xs)) ∙ find_none p xs (λ z j. others z (inr j))
 
@@ -67,10 +67,10 @@ find_map p f (x ∷ xs) same kept = (λ i. cond (same x i) (Some (f x)) (find_ma
 
 -- What a row becomes.
 
-at_held : (action : Uid) (rows : List Row) (x : Row) → is_held_by action x ≡ true → passed action rows x ≡ handed_on rows x (before_last x.holder)
+pub at_held : (action : Uid) (rows : List Row) (x : Row) → is_held_by action x ≡ true → passed action rows x ≡ handed_on rows x (before_last x.holder)
 at_held action rows x own = λ i. cond (own i) (handed_on rows x (before_last x.holder)) (Some (strengthened x (find (goes_to action x) rows)))
 
-at_other : (action : Uid) (rows : List Row) (x : Row) → is_held_by action x ≡ false → passed action rows x ≡ Some (strengthened x (find (goes_to action x) rows))
+pub at_other : (action : Uid) (rows : List Row) (x : Row) → is_held_by action x ≡ false → passed action rows x ≡ Some (strengthened x (find (goes_to action x) rows))
 at_other action rows x other = λ i. cond (other i) (handed_on rows x (before_last x.holder)) (Some (strengthened x (find (goes_to action x) rows)))
 
 handed_same : (old new : List Row) (x : Row) (o : Option Uid) → ((heir : Uid) → has_row x.object heir new ≡ has_row x.object heir old) → handed_on new x o ≡ handed_on old x o

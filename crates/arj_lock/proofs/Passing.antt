@@ -11,32 +11,33 @@ use Rattle.arj_lock.specs.Exclusion.{Agree, GoTogether, Excluding, NoneBelow}
 use Rattle.arj_lock.proofs.Exclusion.{Excludes, excludes_from, excludes_to, conflict_sym, conflict_parts}
 use Rattle.arj_lock.proofs.Members.{In, in_to, in_filter_map, in_find}
 use Rattle.arj_lock.proofs.Paths.{on_last, on_parts, on_front, heir_is, before_last_is, between, agree_sym, agree_front}
-use Rattle.arj_lock.proofs.Uids.{uid_same, uid_is}
+use Rattle.arj_base.proofs.Uids.{uid_same, uid_is}
 
 -- Where a mode after the pass comes from: the row itself, or one of the action's rows, whose heir holds it then.
 
-abbrev IsOwn : Uid → Row → Row → Type 0
+abbrev pub IsOwn : Uid → Row → Row → Type 0
 IsOwn action c y = (is_held_by action c ≡ false) × (c.holder ≡ y.holder)
 
-record IsHeirs (action : Uid) (rows : List Row) (c y : Row) : Type 0 where
-  own : is_held_by action c ≡ true
-  heir : last_uid (front c.holder) ≡ last_uid y.holder
-  long : 1 ≤ length (front c.holder)
-  on : is_on c.holder (last_uid y.holder) ≡ true
-  path : (front c.holder ≡ y.holder) ⊎ ((x : Row) × In x rows × (x.holder ≡ y.holder))
+pub record IsHeirs (action : Uid) (rows : List Row) (c y : Row) : Type 0 where
+  pub own : is_held_by action c ≡ true
+  pub heir : last_uid (front c.holder) ≡ last_uid y.holder
+  pub parent : before_last c.holder ≡ Some (last_uid y.holder)
+  pub long : 1 ≤ length (front c.holder)
+  pub on : is_on c.holder (last_uid y.holder) ≡ true
+  pub path : (front c.holder ≡ y.holder) ⊎ ((x : Row) × In x rows × (x.holder ≡ y.holder))
 
-record Share (action : Uid) (rows : List Row) (c y : Row) : Type 0 where
-  there : In c rows
-  object : c.object ≡ y.object
-  kind : IsOwn action c y ⊎ IsHeirs action rows c y
+pub record Share (action : Uid) (rows : List Row) (c y : Row) : Type 0 where
+  pub there : In c rows
+  pub object : c.object ≡ y.object
+  pub kind : IsOwn action c y ⊎ IsHeirs action rows c y
 
 -- the holder of a row after the pass: that of an old row, or the path without its last
-abbrev HasHolder : List Row → Row → Type 0
+abbrev pub HasHolder : List Row → Row → Type 0
 HasHolder rows y = (x : Row) × In x rows × ((x.holder ≡ y.holder) ⊎ ((1 ≤ length (front x.holder)) × (front x.holder ≡ y.holder)))
 
-record IsPassed (action : Uid) (rows : List Row) (y : Row) : Type 0 where
-  holder : HasHolder rows y
-  shares : (m : Mode) → conflicting y.mode m ≡ true → (c : Row) × Share action rows c y × (conflicting c.mode m ≡ true)
+pub record IsPassed (action : Uid) (rows : List Row) (y : Row) : Type 0 where
+  pub holder : HasHolder rows y
+  pub shares : (m : Mode) → conflicting y.mode m ≡ true → (c : Row) × Share action rows c y × (conflicting c.mode m ≡ true)
 
 -- the heir of a path is on it
 heir_on : (us : List Uid) (heir : Uid) → before_last us ≡ Some heir → is_on us heir ≡ true
@@ -56,7 +57,7 @@ handed action rows x y i own (Some heir) before e = by (has_row x.object heir ro
         let holder : front x.holder ≡ y.holder = ap (λ r. r.holder) same in
         record {
           holder = (x, i, inr (h.1, holder));
-          shares = λ m c. (x, record { there = i; object = ap (λ r. r.object) same; kind = inr (record { own = own; heir = ap last_uid holder; long = h.1; on = ap (is_on x.holder) (ap last_uid (sym holder) ∙ h.0) ∙ heir_on x.holder heir before; path = inl holder }) }, ap (λ r. conflicting r.mode m) same ∙ c);
+          shares = λ m c. (x, record { there = i; object = ap (λ r. r.object) same; kind = inr (record { own = own; heir = ap last_uid holder; parent = before ∙ ap Some (sym h.0 ∙ ap last_uid holder); long = h.1; on = ap (is_on x.holder) (ap last_uid (sym holder) ∙ h.0) ∙ heir_on x.holder heir before; path = inl holder }) }, ap (λ r. conflicting r.mode m) same ∙ c);
         }
 
 heir_last : (us : List Uid) (o : Option Uid) (holder : Uid) → before_last us ≡ o → is_heir o holder ≡ true → before_last us ≡ Some holder
@@ -96,12 +97,12 @@ kept action rows x y i other (Some p) found e = record {
           record {
             there = f.0;
             object = uid_is p.object x.object own.0 ∙ ap (λ r. r.object) e;
-            kind = inr (record { own = own.1; heir = h.0 ∙ ap last_uid holder; long = h.1; on = ap (λ us. is_on p.holder (last_uid us)) (sym holder) ∙ heir_on p.holder (last_uid x.holder) heir; path = inr (x, i, holder) });
+            kind = inr (record { own = own.1; heir = h.0 ∙ ap last_uid holder; parent = heir ∙ ap (λ us. Some (last_uid us)) holder; long = h.1; on = ap (λ us. is_on p.holder (last_uid us)) (sym holder) ∙ heir_on p.holder (last_uid x.holder) heir; path = inr (x, i, holder) });
           },
           c,
         )
 
-is_passed : (action : Uid) (rows : List Row) (y : Row) → In y (pass_rows action rows) → IsPassed action rows y
+pub is_passed : (action : Uid) (rows : List Row) (y : Row) → In y (pass_rows action rows) → IsPassed action rows y
 is_passed action rows y i = by (in_filter_map (passed action rows) y rows i)
   where
     at : (x : Row) → In x rows → (b : Bool) → is_held_by action x ≡ b → cond b (handed_on rows x (before_last x.holder)) (Some (strengthened x (find (goes_to action x) rows))) ≡ Some y → IsPassed action rows y

@@ -5,7 +5,7 @@ use Rattle.arj_base.specs.Path.{before_last}
 use Rattle.arj_base.specs.Rows.{is_on, front, last_uid}
 use Rattle.arj_base.specs.Uid.{uid_eq}
 use Rattle.arj_lock.specs.Exclusion.{before, Agree}
-use Rattle.arj_lock.proofs.Uids.{uid_same, uid_is}
+use Rattle.arj_base.proofs.Uids.{uid_same, uid_is}
 
 none_long : {P : Type 0} → 1 ≤ 0 → P
 none_long le = absurd (omega (arith, le))

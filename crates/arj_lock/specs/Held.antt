@@ -1,26 +1,38 @@
 -- Whose locks a table has.
-use Rattle.std.specs.Prelude.{List, Bool, Contains, ◌↔◌, map}
-use Rattle.std.specs.List.{list_any}
+use Rattle.std.specs.Prelude.{List, Contains, ◌↔◌, map, filter}
 use Rattle.std.specs.List.Sorted.{IsStrictlySortedBy}
 use Rattle.std.specs.declared.cmp.Ordering.{Ordering}
 use Rattle.arj_base.specs.contracts.uid.UidOrd.TheImpl as uid_ord
+use Rattle.arj_base.specs.Order.{uid_order}
 use Rattle.arj_base.specs.declared.uid.Uid.{Uid}
 use Rattle.arj_base.specs.Path.{top_uid}
-use Rattle.arj_base.specs.Rows.{Row, is_on}
+use Rattle.arj_base.specs.Rows.{Row, is_on, last_uid}
 
--- the action or a descendant of it has a row
-abbrev pub has_any : Uid → List Row → Bool
-has_any action rows = list_any (λ row. is_on row.holder action) rows
+-- the order in which a set of Uids keeps them, the one of `cmp`: it is `uid_order`
+abbrev pub set_order : Uid → Uid → Ordering
+set_order = (uid_ord.ghosts).cmp
 
 -- the top of the holder's path
 abbrev pub top_of : Row → Uid
 top_of row = top_uid row.tops row.holder
 
--- by node, incarnation and number
-abbrev pub uid_order : Uid → Uid → Ordering
-uid_order = (uid_ord.ghosts).cmp
+-- the action that holds a row
+abbrev pub holder_of : Row → Uid
+holder_of row = last_uid row.holder
+
+-- these Uids, each once, in increasing order
+pub record AreListed (uids : List Uid) (listed : List Uid) : Type 0 where
+  pub each : (u : Uid) → Contains listed u ↔ Contains uids u
+  pub increasing : IsStrictlySortedBy uid_order listed
 
 -- the tops of these rows, each once, increasing
-pub record AreTops (rows : List Row) (tops : List Uid) : Type 0 where
-  pub each : (top : Uid) → Contains tops top ↔ Contains (map top_of rows) top
-  pub increasing : IsStrictlySortedBy uid_order tops
+abbrev pub AreTops : List Row → List Uid → Type 0
+AreTops rows tops = AreListed (map top_of rows) tops
+
+-- the holders of the rows of an action and of its descendants, in order of granting
+abbrev pub below : Uid → List Row → List Uid
+below action rows = map holder_of (filter (λ row. is_on row.holder action) rows)
+
+-- the holders of the rows that go where the action's rows and those of its descendants are dropped, each once, increasing
+abbrev pub AreBelow : Uid → List Row → List Uid → Type 0
+AreBelow action rows holders = AreListed (below action rows) holders

@@ -6,6 +6,7 @@
 //! on the other's path, and `rows_are_one_each`, that no action has two rows of one object.
 #![tactic(auto)]
 
+mod effects;
 mod fault;
 mod laws;
 mod lock;
@@ -15,8 +16,9 @@ mod remove;
 mod table;
 mod tops;
 
+pub use effects::{close_leaves, drop_leaves, grant_leaves, lower_leaves, pass_leaves};
 pub use fault::LockFault;
-pub use laws::{rows_are_one_each, rows_exclude};
+pub use laws::{rows_are_one_each, rows_exclude, rows_stay_apart};
 pub use table::LockTable;
 
 #[cfg(test)]

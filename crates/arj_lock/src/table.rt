@@ -1,20 +1,20 @@
 // The lock table.
-ghost use Rattle.std.specs.Prelude.{◌≡◌, [], List, Some, IfOk, OnOk, OnErr, IfSome, IsErrOf};
+ghost use Rattle.std.specs.Prelude.{◌≡◌, [], List, Some, None, IfOk, OnOk, OnErr, IfSome, IsErrOf};
 ghost use Rattle.arj_base.specs.declared.mode.Mode.{Mode};
 ghost use Rattle.arj_base.specs.declared.uid.Uid.{Uid};
 ghost use Rattle.arj_base.specs.Path.{uids_of};
-ghost use Rattle.arj_base.specs.Rows.{Row, last_uid, grant_row, pass_rows, drop_rows, close_rows, lower_row};
+ghost use Rattle.arj_base.specs.Rows.{Row, last_uid, grant_row, pass_rows, drop_rows, close_rows, lower_row, first_conflict, has_any, mode_of};
 ghost use Rattle.arj_lock.specs.Exclusion.{IsOneEach};
-ghost use Rattle.arj_lock.specs.Held.{has_any, AreTops};
+ghost use Rattle.arj_lock.specs.Held.{AreBelow, AreTops};
 ghost use Rattle.arj_lock.specs.Locks.{rows_of};
-ghost use Rattle.arj_lock.specs.Requests.{asked, conflict_with, mode_of, is_rise};
+ghost use Rattle.arj_lock.specs.Requests.{asked, conflict_with, is_rise, IsClear};
 
 use crate::LockFault;
 use crate::lock::Lock;
 use crate::meet::{Met, lower, meet, strengthen};
 use crate::pass::pass;
 use crate::remove::{Gone, remove};
-use crate::tops::{is_any_below, list_tops};
+use crate::tops::{is_any_below, list_below, list_tops};
 use arj_base::{Mode, Path, Uid, Uids};
 use std::alloc::{AllocError, Global};
 use std::marker::Model;
@@ -57,6 +57,8 @@ impl LockTable {
         ensures named { (holder : Uid) (held : Mode) → IsErrOf result (LockFault.Conflict holder held) → conflict_with (uids_of path.now) object mode self.old ≡ Some (holder, held) }
         ensures granted { OnOk result (self.new ≡ grant_row (asked path.now object mode) self.old) }
         ensures rose { IfOk result (λ rose. rose ≡ is_rise (mode_of object (last_uid (uids_of path.now)) self.old) mode) }
+        ensures free { OnOk result (first_conflict (uids_of path.now) object mode self.old ≡ None) }
+        ensures clear { OnOk result (IsClear (uids_of path.now) object mode self.old) }
         ensures kept { OnErr result (self.new ≡ self.old) }
     {
         match meet(self.locks.as_slice(), path, object, mode) {
@@ -105,25 +107,36 @@ impl LockTable {
 
     /// Holder and mode of the lock that a request would name as conflicting. None exactly where it would meet none.
     pub fn conflict(&self, path: &Path, object: Uid, mode: Mode) -> Option<(Uid, Mode)>
-        ensures { result ≡ conflict_with (uids_of path.now) object mode self.now }
+        ensures first { result ≡ conflict_with (uids_of path.now) object mode self.now }
+        ensures clear { result ≡ None → IsClear (uids_of path.now) object mode self.now }
     {
         match meet(self.locks.as_slice(), path, object, mode) {
             Met::Against { holder, mode } => Some((holder, mode)),
-            Met::Own(_) | Met::Free => None,
+            Met::Own(_) => None,
+            Met::Free => None,
         }
     }
 
     /// Whether an action or a descendant of it has a lock.
     pub fn holds(&self, action: Uid) -> bool
-        ensures { result ≡ has_any action self.now }
+        ensures any { result ≡ has_any action self.now }
+        ensures one_each { IsOneEach self.now }
     {
         is_any_below(self.locks.as_slice(), action)
     }
 
     /// The tops of all holders, each once, in increasing order.
     pub fn held(&self, alloc: Global) -> Result<Uids, AllocError>
-        ensures { IfOk result (λ tops. AreTops self.now tops) }
+        ensures tops { IfOk result (λ tops. AreTops self.now tops) }
+        ensures one_each { IsOneEach self.now }
     {
         list_tops(alloc, self.locks.as_slice())
+    }
+
+    /// The holders of the locks that `drop_action` would drop, each once, in increasing order.
+    pub fn holders_below(&self, alloc: Global, action: Uid) -> Result<Uids, AllocError>
+        ensures { IfOk result (λ holders. AreBelow action self.now holders) }
+    {
+        list_below(alloc, self.locks.as_slice(), action)
     }
 }

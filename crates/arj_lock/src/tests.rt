@@ -1,6 +1,14 @@
-// Requests and passes in a row, with their answers.
+// Requests and passes in a row, with their answers, and what callers get from the contracts.
+ghost use Rattle.std.specs.Prelude.{◌≡◌, IfOk, OnOk, OnErr, Bool, true, false};
+ghost use Rattle.arj_base.specs.declared.uid.Uid.{Uid};
+ghost use Rattle.arj_base.specs.Path.{uids_of};
+ghost use Rattle.arj_base.specs.Rows.{has_any, mode_of};
+ghost use Rattle.arj_lock.specs.Exclusion.{AreApart, IsOneEach, StandsBelow};
+ghost use Rattle.arj_lock.specs.Held.{AreBelow};
+ghost use Rattle.arj_lock.specs.Requests.{IsClear};
+
 use super::*;
-use arj_base::{Mode, Path, Uid, object_uid};
+use arj_base::{Mode, Path, Uid, Uids, object_uid};
 use std::alloc::{AllocError, Global};
 use std::test::Fail;
 
@@ -38,6 +46,62 @@ fn answer(
 // Whether these are the tops that hold locks.
 fn are_held(alloc: Global, table: &LockTable, tops: &[Uid]) -> Result<bool, AllocError> {
     Ok(table.held(alloc)?.as_slice() == tops)
+}
+
+// Asks a lock, and keeps conflicting rows with related holders, whatever stands above whom.
+fn ask(table: &mut LockTable, path: &Path, object: Uid, mode: Mode) -> Result<bool, LockFault>
+    ensures { OnOk result ((on : Uid → Uid → Bool) → StandsBelow on (uids_of path.now) → AreApart on table.old → AreApart on table.new) }
+{
+    rows_stay_apart();
+    let rose = table.request(path, object, mode)?;
+    Ok(rose)
+}
+
+// Whether a request would be granted: then whoever conflicts is on its path.
+fn is_free(table: &LockTable, path: &Path, object: Uid, mode: Mode) -> bool
+    ensures { result ≡ true → IsClear (uids_of path.now) object mode table.now }
+{
+    table.conflict(path, object, mode).is_none()
+}
+
+// Aborts an action, and answers whose locks went.
+fn abort(alloc: Global, table: &mut LockTable, action: Uid) -> Result<Uids, AllocError>
+    ensures told { IfOk result (λ told. AreBelow action table.old told) }
+    ensures gone { OnOk result (has_any action table.new ≡ false) }
+{
+    drop_leaves();
+    let told = table.holders_below(alloc, action)?;
+    table.drop_action(action);
+    Ok(told)
+}
+
+// Closes an object, and answers whether an action has a lock still: no more than one on each object.
+fn holds_after_close(table: &mut LockTable, object: Uid, action: Uid) -> bool
+    ensures any { result ≡ has_any action table.new }
+    ensures one_each { IsOneEach table.new }
+{
+    table.close(object);
+    table.holds(action)
+}
+
+#[test]
+fn callers_get_what_they_need(rt: HostRuntime) -> Result<(), Fail> {
+    let alloc = rt.alloc();
+    let mut table = LockTable::new(alloc);
+    let first = Path::new(action(1));
+    let below = nested(&first, 3, false)?;
+    let deeper = nested(&below, 2, false)?;
+    for (path, object) in [(&deeper, 1), (&below, 2), (&deeper, 3), (&first, 3)] {
+        assert!(rt; is_free(&table, path, object_uid(object), Mode::Write));
+        assert!(rt; ask(&mut table, path, object_uid(object), Mode::Write).is_ok());
+    }
+    let other = Path::new(action(4));
+    assert!(rt; !is_free(&table, &other, object_uid(1), Mode::Read));
+    let told = abort(alloc, &mut table, action(3))?;
+    assert_eq!(rt; told.as_slice(), [action(2), action(3)].as_slice());
+    assert!(rt; are_held(alloc, &table, [action(1)].as_slice())?);
+    assert!(rt; !holds_after_close(&mut table, object_uid(3), action(1)));
+    Ok(())
 }
 
 #[test]

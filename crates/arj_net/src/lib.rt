@@ -7,7 +7,7 @@
 
 mod net;
 
-pub use net::{Frame, Net, NetFault};
+pub use net::{Frame, MOST_FRAMES, Net, NetFault};
 
 #[cfg(test)]
 mod tests;

@@ -10,8 +10,8 @@ use std::alloc::{AllocFailed, Global};
 use std::marker::Model;
 use thiserror::Error;
 
-/// How many frames a net takes.
-const CAPACITY: usize = 100_000;
+/// The most frames that a net takes.
+pub const MOST_FRAMES: usize = 100_000;
 
 /// A message from one node to another. Nodes count from 1; the sender is 0 where nobody sent it.
 #[derive(Drop)]
@@ -32,7 +32,7 @@ struct Sent {
 /// Why a frame was not taken.
 #[derive(Debug, Drop, Error)]
 pub enum NetFault {
-    /// 100,000 frames are there.
+    /// As many frames are there as a net takes.
     #[error("too many frames")]
     Full,
     /// Memory is wanting.
@@ -87,11 +87,11 @@ impl Net {
     pub fn send(&mut self, from: u8, to: u8, bytes: Bytes) -> Result<u32, NetFault>
         ensures number { IfOk result (λ k. k ≡ length self.new) }
         ensures sent { OnOk result (self.new ≡ self.old ++ new_frame (record { from = from; to = to; bytes = bytes }) ∷ []) }
-        ensures full { IsErrOf result Full ↔ (length self.old ≡ 100000) }
-        ensures few { length self.new ≤ 100000 }
+        ensures full { IsErrOf result Full ↔ (length self.old ≡ MOST_FRAMES) }
+        ensures few { length self.new ≤ MOST_FRAMES }
         ensures err { OnErr result (self.new ≡ self.old) }
     {
-        if self.sent.len() == CAPACITY {
+        if self.sent.len() == MOST_FRAMES {
             return Err(NetFault::Full);
         }
         self.sent.push(Sent {
@@ -104,7 +104,8 @@ impl Net {
 
     /// The frame of a number, None exactly where no frame has it. A frame that was delivered or lost is still there.
     pub fn get(&self, k: u32) -> Option<&Frame>
-        ensures { option_copied result ≡ frame_of self.now k }
+        ensures frame { option_copied result ≡ frame_of self.now k }
+        ensures few { length self.now ≤ MOST_FRAMES }
     {
         let place = place_of(k, self.sent.len())?;
         Some(&self.sent[place].frame)
@@ -139,7 +140,8 @@ impl Net {
     /// The least number of a frame that was neither delivered nor lost, None exactly where there is none. Its time
     /// doesn't grow with the number of frames.
     pub fn lowest(&self) -> Option<u32>
-        ensures { MatchOption result ((k : ℕ) → is_open self.now k ≡ false) (IsLowest self.now) }
+        ensures least { MatchOption result ((k : ℕ) → is_open self.now k ≡ false) (IsLowest self.now) }
+        ensures few { length self.now ≤ MOST_FRAMES }
     {
         if self.closed == self.sent.len() {
             return None;

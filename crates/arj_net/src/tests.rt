@@ -1,4 +1,6 @@
 // Frames by number, and what is the lowest after each of a list of changes.
+ghost use Rattle.std.specs.Prelude.{◌≤◌, length};
+
 use crate::{Net, NetFault};
 use arj_base::Bytes;
 use std::alloc::{AllocError, Global};
@@ -8,6 +10,13 @@ fn bytes(alloc: Global, text: &[u8]) -> Result<Bytes, AllocError> {
     let mut bytes = Bytes::new(alloc);
     bytes.extend(text)?;
     Ok(bytes)
+}
+
+// Whether a frame waits; and there are no more frames than a net takes.
+fn has_open(net: &Net) -> bool
+    ensures { length net.now ≤ 100000 }
+{
+    net.lowest().is_some()
 }
 
 #[derive(Clone, Copy)]
@@ -21,7 +30,7 @@ enum Change {
 fn frames_are_told_apart_by_number(rt: HostRuntime) -> Result<(), Fail> {
     let alloc = rt.alloc();
     let mut net = Net::new(alloc);
-    assert_eq!(rt; net.lowest(), None);
+    assert!(rt; !has_open(&net));
     let rows = [
         (Change::Send(1, 2), Some(1)),
         (Change::Send(2, 1), Some(1)),

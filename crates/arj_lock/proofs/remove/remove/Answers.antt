@@ -9,7 +9,7 @@ use Rattle.arj_lock.proofs.remove.remove.Goals.{then-not-is_gone_lock, else-not-
 pub loop-i-preserved : goal.loop-i-preserved
 loop-i-preserved c =
     elim c.if-not-is_gone_lock.branch [
-      | then-not-is_gone_lock w ↦ rw (w.locks-is, w.kept-is) (FiltersInPlace-more_set c.loop-i.invariant (omega arith) (ap not (sym c.is_gone_lock.ensures ∙ w.if-not-is_gone_lock.true)) c.index.ensures)
+      | then-not-is_gone_lock w ↦ rw (w.locks-is, w.put.ensures, w.kept-is) (FiltersInPlace-more_set c.loop-i.invariant (omega arith) (ap not (sym c.is_gone_lock.ensures ∙ w.if-not-is_gone_lock.true)) c.index.ensures)
       | else-not-is_gone_lock w ↦ rw (w.locks-is, w.kept-is) (FiltersInPlace-more_no c.loop-i.invariant (omega arith) (ap not (sym c.is_gone_lock.ensures ∙ w.if-not-is_gone_lock.false)) c.index.ensures)
     ]
 
