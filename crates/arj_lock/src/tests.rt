@@ -91,7 +91,7 @@ fn callers_get_what_they_need(rt: HostRuntime) -> Result<(), Fail> {
     let first = Path::new(action(1));
     let below = nested(&first, 3, false)?;
     let deeper = nested(&below, 2, false)?;
-    for (path, object) in [(&deeper, 1), (&below, 2), (&deeper, 3), (&first, 3)] {
+    for (path, object) in [(&deeper, 1), (&below, 2), (&deeper, 3), (&first, 4)] {
         assert!(rt; is_free(&table, path, object_uid(object), Mode::Write));
         assert!(rt; ask(&mut table, path, object_uid(object), Mode::Write).is_ok());
     }
@@ -100,7 +100,7 @@ fn callers_get_what_they_need(rt: HostRuntime) -> Result<(), Fail> {
     let told = abort(alloc, &mut table, action(3))?;
     assert_eq!(rt; told.as_slice(), [action(2), action(3)].as_slice());
     assert!(rt; are_held(alloc, &table, [action(1)].as_slice())?);
-    assert!(rt; !holds_after_close(&mut table, object_uid(3), action(1)));
+    assert!(rt; !holds_after_close(&mut table, object_uid(4), action(1)));
     Ok(())
 }
 

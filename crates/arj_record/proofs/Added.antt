@@ -9,7 +9,8 @@ use Rattle.arj_base.specs.Uid.{uid_eq}
 use Rattle.arj_record.specs.declared.record.Record.{Record}
 use Rattle.arj_record.specs.Record.{object_of, order_of, is_of, is_like, joined}
 use Rattle.arj_record.specs.Records.{added, gathered, forgotten, found, combined, Precedes, IsArranged}
-use Rattle.arj_record.proofs.Same.{is_of_same, is_of_other, is_of_order, is_of_joined, is_of_parts, precedes_joined, precedes_to_joined, uid_is, uid_sym}
+use Rattle.arj_record.proofs.Same.{is_of_same, is_of_other, is_of_order, is_of_joined, is_of_parts, precedes_joined, precedes_to_joined}
+use Rattle.arj_base.proofs.Uids.{uid_is, uid_sym}
 
 -- the record at the index takes the new one in
 pub joined_here : {V : Type 0} → (rs : List (Record V)) (i : ℕ) (q r : Record V) → i < length rs → q ≡ get_or rs i q → is_like q r ≡ true

@@ -1,4 +1,5 @@
 pub mod Added
+pub mod Ended
 pub mod Merged
 pub mod Passes
 pub mod Same

@@ -5,7 +5,8 @@ use Rattle.std.proofs.lemmas.Bool.{ltb-true}
 use Rattle.arj_record.specs.declared.record.Record.{Record}
 use Rattle.arj_record.specs.Record.{object_of, order_of, is_like, joined}
 use Rattle.arj_record.specs.Records.{added, gathered, placed, with_placed, found, has_like, combined, joined_with, merged, Precedes, IsArranged}
-use Rattle.arj_record.proofs.Same.{is_of_parts, is_of_same, joined_order, joined_object, like_sym, eq_same, uid_same}
+use Rattle.arj_record.proofs.Same.{is_of_parts, is_of_same, joined_order, joined_object, like_sym, eq_same}
+use Rattle.arj_base.proofs.Uids.{uid_same}
 use Rattle.arj_record.proofs.Added.{found-added, arranged_added, none_like, none_above, combined-none}
 
 -- a parent's record with the child's one of its kind and object

@@ -4,6 +4,7 @@ use Rattle.std.proofs.lemmas.Bool.{eq-eqb, eqb-true, and_parts}
 use Rattle.std.proofs.lemmas.Bool.Decides.{nat_tests}
 use Rattle.arj_base.specs.declared.uid.Uid.{Uid}
 use Rattle.arj_base.specs.Uid.{uid_eq}
+use Rattle.arj_base.proofs.Uids.{uid_is, uid_same, uid_sym}
 use Rattle.arj_record.specs.declared.record.Record.{Record}
 use Rattle.arj_record.specs.declared.record.Record.TheVariants.{Recovery, Lock, Persistence}
 use Rattle.arj_record.specs.Record.{object_of, order_of, is_of, is_like, joined}
@@ -14,19 +15,6 @@ eq_same n = eq-eqb n n refl
 
 pub eq_sym : (a b : ℕ) → (a == b) ≡ (b == a)
 eq_sym a b = grind (arith, nat_tests)
-
-pub uid_sym : (u w : Uid) → uid_eq u w ≡ uid_eq w u
-uid_sym u w = λ i. eq_sym u.node w.node i && (eq_sym u.inc w.inc i && eq_sym u.num w.num i)
-
-pub uid_same : (u : Uid) → uid_eq u u ≡ true
-uid_same u = λ i. eq_same u.node i && (eq_same u.inc i && eq_same u.num i)
-
--- Uids are equal where the test says so
-pub uid_is : (u w : Uid) → uid_eq u w ≡ true → u ≡ w
-uid_is u w e =
-    let p = and_parts (u.node == w.node) ((u.inc == w.inc) && (u.num == w.num)) e in
-    let q = and_parts (u.inc == w.inc) (u.num == w.num) p.1 in
-    λ i. record { node = eqb-true u.node w.node p.0 i; inc = eqb-true u.inc w.inc q.0 i; num = eqb-true u.num w.num q.1 i }
 
 pub like_sym : {V : Type 0} → (r q : Record V) → is_like r q ≡ is_like q r
 like_sym r q = λ i. eq_sym (order_of r) (order_of q) i && uid_sym (object_of r) (object_of q) i

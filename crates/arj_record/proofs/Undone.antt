@@ -6,7 +6,8 @@ use Rattle.arj_base.specs.Uid.{uid_eq}
 use Rattle.arj_record.specs.declared.record.Record.{Record}
 use Rattle.arj_record.specs.declared.record.Record.TheVariants.{Recovery, Lock, Persistence}
 use Rattle.arj_record.specs.Record.{order_of, is_of, image_in, mode_in}
-use Rattle.arj_record.specs.Records.{added, gathered, merged, combined, found, image, lock_mode, stronger_of, is_changed, has_locks, restores, raises, undo_calls, keep_calls, restored, raised, IsArranged}
+use Rattle.arj_record.specs.Records.{added, gathered, merged, combined, found, image, lock_mode, is_changed, has_locks, restores, raises, undo_calls, keep_calls, restored, raised, IsArranged}
+use Rattle.arj_base.specs.Mode.{strongest}
 use Rattle.arj_record.specs.Scene.{Call, pass, release}
 use Rattle.arj_record.proofs.Added.{none_like, found-added, found-gathered, arranged_added, arranged_gathered}
 use Rattle.arj_record.proofs.Same.{is_of_parts}
@@ -110,7 +111,7 @@ image-gathered x (r ∷ items) rs p =
 
 -- where the older record is a lock, the stronger mode stays
 combined_mode : {V : Type 0} → (o p : Option (Record V)) → ((q : Record V) → o ≡ Some q → order_of q ≡ 2) → ((q : Record V) → p ≡ Some q → order_of q ≡ 2)
-    → option_and_then mode_in (combined o p) ≡ stronger_of (option_and_then mode_in o) (option_and_then mode_in p)
+    → option_and_then mode_in (combined o p) ≡ strongest (option_and_then mode_in o) (option_and_then mode_in p)
 combined_mode None p h k = refl
 combined_mode (Some (Lock x m)) None h k = refl
 combined_mode (Some (Lock x m)) (Some (Lock y n)) h k = refl
@@ -130,7 +131,7 @@ found-merged order x parent child p q = ap (λ rs. found order x rs) (sym (gathe
 pub image-merged : {V : Type 0} → (parent child : List (Record V)) (x : Uid) → IsArranged parent → IsArranged child → image x (merged parent child) ≡ option_or (image x parent) (image x child)
 image-merged parent child x p q = ap (option_and_then image_in) (found-merged 1 x parent child p q) ∙ combined_image (found 1 x parent) (found 1 x child) (order_found 1 x parent)
 
-pub mode-merged : {V : Type 0} → (parent child : List (Record V)) (x : Uid) → IsArranged parent → IsArranged child → lock_mode x (merged parent child) ≡ stronger_of (lock_mode x parent) (lock_mode x child)
+pub mode-merged : {V : Type 0} → (parent child : List (Record V)) (x : Uid) → IsArranged parent → IsArranged child → lock_mode x (merged parent child) ≡ strongest (lock_mode x parent) (lock_mode x child)
 mode-merged parent child x p q = ap (option_and_then mode_in) (found-merged 2 x parent child p q) ∙ combined_mode (found 2 x parent) (found 2 x child) (order_found 2 x parent) (order_found 2 x child)
 
 pub changed-merged : {V : Type 0} → (parent child : List (Record V)) (x : Uid) → IsArranged parent → IsArranged child → is_changed x (merged parent child) ≡ (is_changed x parent || is_changed x child)

@@ -3,7 +3,6 @@ use Rattle.std.specs.Prelude.{◌≡◌, ℕ, ◌≤◌, ◌++◌, nat_lt, not, 
 use Rattle.std.specs.List.{list_any, AllByRecursion}
 use Rattle.arj_base.specs.declared.mode.Mode.{Mode}
 use Rattle.arj_base.specs.declared.uid.Uid.{Uid}
-use Rattle.arj_base.specs.Mode.{stronger}
 use Rattle.arj_base.specs.Uid.{uid_eq}
 use Rattle.arj_record.specs.declared.record.Record.{Record}
 use Rattle.arj_record.specs.declared.record.Record.TheVariants.{Recovery, Persistence}
@@ -101,12 +100,6 @@ image x rs = option_and_then image_in (found recovery_order x rs)
 abbrev pub lock_mode : {V : Type 0} → Uid → List (Record V) → Option Mode
 lock_mode x rs = option_and_then mode_in (found lock_order x rs)
 
--- the stronger of two modes, where each may be missing
-abbrev pub stronger_of : Option Mode → Option Mode → Option Mode
-stronger_of None b = b
-stronger_of (Some a) None = Some a
-stronger_of (Some a) (Some b) = Some (stronger a b)
-
 -- the list has the object as a changed one
 abbrev pub is_changed : {V : Type 0} → Uid → List (Record V) → Bool
 is_changed x rs = is_some (found persistence_order x rs)
@@ -122,6 +115,17 @@ abbrev pub raised : {V : Type 0} → Uid → List (Call V) → List Uid
 raised x [] = []
 raised x (raise y writer ∷ calls) = if uid_eq y x then writer ∷ raised x calls else raised x calls
 raised x (call ∷ calls) = raised x calls
+
+-- the actions whose locks calls pass, and those whose locks they release, in their order
+abbrev pub passed : {V : Type 0} → List (Call V) → List Uid
+passed [] = []
+passed (pass action ∷ calls) = action ∷ passed calls
+passed (call ∷ calls) = passed calls
+
+abbrev pub released : {V : Type 0} → List (Call V) → List Uid
+released [] = []
+released (release action ∷ calls) = action ∷ released calls
+released (call ∷ calls) = released calls
 
 -- the list with these records added, the first one first
 abbrev pub gathered : {V : Type 0} → List (Record V) → List (Record V) → List (Record V)

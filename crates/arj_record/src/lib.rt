@@ -15,7 +15,9 @@ mod record;
 mod scene;
 
 pub use abstract_record::AbstractRecord;
-pub use laws::{merges_go_by_objects, undo_restores_the_oldest_image};
+pub use laws::{
+    ends_go_by_objects, forgets_one_object, merges_go_by_objects, undo_restores_the_oldest_image,
+};
 pub use list::RecordList;
 pub use record::Record;
 pub use scene::Scene;

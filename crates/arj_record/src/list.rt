@@ -6,7 +6,7 @@ ghost use Rattle.arj_base.specs.Uid.{uid_eq};
 ghost use Rattle.arj_base.specs.declared.uid.Uid.{Uid};
 ghost use Rattle.arj_record.specs.Ends.{calls_after, calls_from};
 ghost use Rattle.arj_record.specs.Record.{is_lock, undone_by, kept_by};
-ghost use Rattle.arj_record.specs.Records.{added, merged, forgotten, gathered, found, combined, undo_calls, keep_calls, image, is_changed, restored, raised, IsArranged};
+ghost use Rattle.arj_record.specs.Records.{added, merged, forgotten, gathered, found, combined, undo_calls, keep_calls, image, is_changed, has_locks, passed, released, restored, raised, IsArranged};
 ghost use Rattle.arj_record.specs.Scene.{Told};
 
 use crate::{AbstractRecord, Record, Scene};
@@ -53,7 +53,8 @@ impl<V> RecordList<V> {
 
     /// The records, in increasing order of their kinds.
     pub fn as_slice(&self) -> &[Record<V>]
-        ensures { result.now ≡ self.now.records }
+        ensures records { result.now ≡ self.now.records }
+        ensures arranged { IsArranged result.now }
     {
         self.items.as_slice()
     }
@@ -105,6 +106,8 @@ impl<V: Drop> RecordList<V> {
     pub fn undo<S: Scene<V>>(self, action: Uid, scene: &mut S)
         ensures calls { Told S.step scene.old (undo_calls action self.records) scene.new }
         ensures once { (x : Uid) → restored x (undo_calls action self.records) ≡ option_to_list (image x self.records) }
+        ensures locks { released (undo_calls action self.records) ≡ (if has_locks self.records then action ∷ [] else []) }
+        ensures no_more { (x : Uid) → (raised x (undo_calls action self.records) ≡ []) × (passed (undo_calls action self.records) ≡ []) }
     {
         let RecordList { items } = self;
         undo_all(items, action, scene);
@@ -115,6 +118,8 @@ impl<V: Drop> RecordList<V> {
     pub fn keep<S: Scene<V>>(self, action: Uid, scene: &mut S)
         ensures calls { Told S.step scene.old (keep_calls action self.records) scene.new }
         ensures once { (x : Uid) → raised x (keep_calls action self.records) ≡ (if is_changed x self.records then action ∷ [] else []) }
+        ensures locks { passed (keep_calls action self.records) ≡ (if has_locks self.records then action ∷ [] else []) }
+        ensures no_more { (x : Uid) → (restored x (keep_calls action self.records) ≡ []) × (released (keep_calls action self.records) ≡ []) }
     {
         let RecordList { items } = self;
         keep_all(items, action, scene);

@@ -22,7 +22,8 @@ pub trait Scene<V> {
     fn release(&mut self, action: Uid)
         ensures { step self.old (release action) self.new };
 
-    /// Makes an object's value in place its committed one, of the next version, written by `writer`.
+    /// Makes an object's value in place its committed one, written by `writer` and of the next version, where the last
+    /// version stands still (`arj_base::next_version`).
     fn raise(&mut self, object: Uid, writer: Uid)
         ensures { step self.old (raise object writer) self.new };
 }

@@ -1,8 +1,9 @@
 // Ends of actions, against a scene that writes down which calls it gets. Values are numbers.
 ghost use Rattle.std.specs.Prelude.{◌≡◌, false, [], ◌∷◌, ◌++◌};
+ghost use Rattle.arj_record.specs.Records.{IsArranged};
 
 use crate::{AbstractRecord, Record, RecordList, Scene};
-use arj_base::{Mode, Uid, object_uid};
+use arj_base::{LAST_VERSION, Mode, Uid, next_version, object_uid};
 use std::alloc::{AllocError, Global};
 use std::test::Fail;
 
@@ -15,11 +16,12 @@ enum Got {
     Raise(Uid, Uid),
 }
 
-/// Writes its calls down, while there is memory for it.
+/// Writes its calls down, while there is memory for it, and counts the version of what is raised.
 #[derive(Drop)]
 struct Recorder {
     calls: Vec<Got>,
     lost: bool,
+    version: u64,
 }
 
 impl Recorder {
@@ -27,11 +29,13 @@ impl Recorder {
         Recorder {
             calls: Vec::new(alloc),
             lost: false,
+            version: LAST_VERSION - 1,
         }
     }
 
     fn note(&mut self, call: Got)
-        ensures { self.new.lost ≡ false → self.new.calls.items ≡ self.old.calls.items ++ call ∷ [] }
+        ensures calls { self.new.lost ≡ false → self.new.calls.items ≡ self.old.calls.items ++ call ∷ [] }
+        ensures version { self.new.version ≡ self.old.version }
     {
         let noted = self.calls.push(call).is_ok();
         self.lost = self.lost || !noted;
@@ -40,10 +44,11 @@ impl Recorder {
 
 impl Scene<u64> for Recorder {
     ghost use Rattle.std.specs.Prelude.{◌≡◌, false, [], ◌∷◌, ◌++◌};
+    ghost use Rattle.arj_base.specs.State.{version_after};
     ghost use Rattle.arj_record.specs.Scene.{restore, pass, release, raise};
     ghost use Rattle.arj_record.specs.declared.tests.Got.TheVariants.{Restore, Pass, Release, Raise};
 
-    ghost step = { λ old call new. new.lost ≡ false → new.calls.items ≡ old.calls.items ++ (elim call [ restore x v ↦ Restore x v | pass a ↦ Pass a | release a ↦ Release a | raise x w ↦ Raise x w ]) ∷ [] };
+    ghost step = { λ old call new. (new.lost ≡ false → new.calls.items ≡ old.calls.items ++ (elim call [ restore x v ↦ Restore x v | pass a ↦ Pass a | release a ↦ Release a | raise x w ↦ Raise x w ]) ∷ []) × (new.version ≡ (elim call [ restore x v ↦ old.version | pass a ↦ old.version | release a ↦ old.version | raise x w ↦ version_after old.version ])) };
 
     fn restore(&mut self, object: Uid, before: u64) {
         self.note(Got::Restore(object, before));
@@ -59,6 +64,7 @@ impl Scene<u64> for Recorder {
 
     fn raise(&mut self, object: Uid, writer: Uid) {
         self.note(Got::Raise(object, writer));
+        self.version = next_version(self.version);
     }
 }
 
@@ -144,6 +150,14 @@ fn is_write_locked(records: &[Record<u64>], x: u16) -> bool {
     })
 }
 
+// Whether a list, in which each kind and object stands once, has a record of an object.
+fn has_record(list: &RecordList<u64>, object: Uid) -> bool
+    ensures { IsArranged list.now.records }
+{
+    let records = list.as_slice();
+    records.iter().any(|record| record.object() == object)
+}
+
 // The calls that a scene gets where a list ends.
 fn calls_of(alloc: Global, list: RecordList<u64>, commits: bool) -> Vec<Got> {
     let mut scene = Recorder::new(alloc);
@@ -185,6 +199,7 @@ fn two_merges_and_an_end(rt: HostRuntime) -> Result<(), Fail> {
         assert_eq!(rt; list.len(), 6);
         assert!(rt; is_write_locked(list.as_slice(), 2));
         list.forget(object_uid(gone));
+        assert!(rt; gone == 0 || !has_record(&list, object_uid(gone)));
         let calls = calls_of(alloc, list, commits);
         assert_eq!(rt; calls.as_slice(), want);
     }
