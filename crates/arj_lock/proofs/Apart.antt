@@ -1,18 +1,17 @@
 -- The row steps keep conflicting rows of one object with related holders, whatever relation the caller gives.
-use Rattle.std.proofs.Common.{◌≡◌, ◌≢◌, ◌⊎◌, List, Bool, true, false, cond, not, Some, None, refl, sym, ◌∙◌, ap, inl, inr, filter}
+use Rattle.std.proofs.Common.{◌≡◌, ◌≢◌, ◌⊎◌, List, Bool, true, false, Some, None, sym, ◌∙◌, ap, inl, inr, filter}
 use Rattle.std.proofs.lemmas.Bool.{and_parts}
-use Rattle.arj_base.specs.declared.mode.Mode.{Mode}
 use Rattle.arj_base.specs.declared.uid.Uid.{Uid}
 use Rattle.arj_base.specs.Mode.{conflicting, stronger}
 use Rattle.arj_base.specs.Path.{before_last}
-use Rattle.arj_base.specs.Rows.{Row, front, is_on, last_uid, is_row_of, is_held_by, grant_row, pass_rows, lower_row, first_conflict}
+use Rattle.arj_base.specs.Rows.{Row, last_uid, is_row_of, is_held_by, grant_row, pass_rows, lower_row, first_conflict}
 use Rattle.arj_base.specs.Uid.{uid_eq}
 use Rattle.arj_base.proofs.Uids.{uid_is, uid_same}
 use Rattle.arj_lock.specs.Exclusion.{AreRelated, AreApart, StandsBelow, IsRightAbove, MayPass}
 use Rattle.arj_lock.proofs.Leaves.{grant_each, IsRaised}
-use Rattle.arj_lock.proofs.Exclusion.{conflict_sym, conflict_parts, on_path, IsLowered, lowered}
+use Rattle.arj_lock.proofs.Exclusion.{conflict_sym, conflict_parts, on_path, lowered}
 use Rattle.arj_lock.proofs.Members.{In, in_from, in_to, in_filter}
-use Rattle.arj_lock.proofs.Passing.{IsOwn, IsHeirs, Share, IsPassed, is_passed}
+use Rattle.arj_lock.proofs.Passing.{IsOwn, IsHeirs, Share, is_passed}
 
 turned : (on : Uid → Uid → Bool) (a b : Uid) → AreRelated on b a → AreRelated on a b
 turned on a b (inl is) = inr is

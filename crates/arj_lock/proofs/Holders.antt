@@ -1,11 +1,11 @@
 -- Uids as a set, and in increasing order.
-use Rattle.std.proofs.Common.{◌≡◌, ℕ, ◌+◌, ◌<◌, List, [], ◌∷◌, ◌++◌, Bool, true, false, cond, length, map, filter, take, get_or, refl, sym, ◌∙◌, ap, rules}
+use Rattle.std.proofs.Common.{◌≡◌, ℕ, ◌+◌, ◌<◌, List, [], ◌∷◌, ◌++◌, Bool, cond, length, filter, take, get_or, sym, ◌∙◌, ap, rules}
 use Rattle.std.specs.BTreeSet.{BTreeSet, IsFromIterResult}
 use Rattle.std.specs.declared.cmp.Ordering.TheVariants.{Equal}
 use Rattle.std.proofs.lemmas.Map.Views.{btree_set_contains_iff, btree_set_contains_from_list}
 use Rattle.arj_base.specs.contracts.uid.UidOrd.TheImpl.Laws.{total-law}
 use Rattle.arj_base.specs.declared.uid.Uid.{Uid}
-use Rattle.std.proofs.lemmas.List.{append-nil, map-append, take_more}
+use Rattle.std.proofs.lemmas.List.{map-append, take_more}
 use Rattle.std.proofs.lemmas.List.Elements.{filter-append}
 use Rattle.arj_base.specs.Rows.{is_on}
 use Rattle.arj_lock.specs.Held.{AreListed, set_order}

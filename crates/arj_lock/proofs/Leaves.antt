@@ -10,7 +10,7 @@ use Rattle.arj_base.specs.declared.uid.Uid.{Uid}
 use Rattle.arj_base.specs.Mode.{conflicting, stronger, strongest}
 use Rattle.arj_base.specs.Rows.{Row, last_uid, is_on, is_row_of, has_any, has_row, mode_of, grant_row, drop_rows, close_rows, lower_row, is_against, first_conflict}
 use Rattle.arj_base.specs.Uid.{uid_eq}
-use Rattle.arj_base.proofs.Uids.{uid_is, uid_same}
+use Rattle.arj_base.proofs.Uids.{uid_is}
 use Rattle.arj_lock.specs.Exclusion.{IsOneEach}
 use Rattle.arj_lock.specs.Requests.{lowered}
 use Rattle.arj_lock.proofs.Grants.{lowered_object, lowered_holder}

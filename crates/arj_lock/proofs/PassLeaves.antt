@@ -2,17 +2,15 @@
 use Rattle.std.proofs.Common.{◌≡◌, ◌⊎◌, ◌≤◌, List, [], ◌∷◌, length, Bool, true, false, cond, not, ◌&&◌, ◌||◌, Option, Some, None, refl, sym, ◌∙◌, ap, inl, inr, find, Contains}
 use Rattle.std.specs.List.{list_any, filter_map, cons_option}
 use Rattle.std.specs.Option.{option_map}
-use Rattle.std.proofs.lemmas.Bool.{and_parts, or_parts, false_from_ne_true}
-use Rattle.arj_base.specs.declared.mode.Mode.{Mode}
+use Rattle.std.proofs.lemmas.Bool.{and_parts, false_from_ne_true}
 use Rattle.arj_base.specs.declared.uid.Uid.{Uid}
-use Rattle.arj_base.specs.Mode.{stronger, strongest}
+use Rattle.arj_base.specs.Mode.{strongest}
 use Rattle.arj_base.specs.Path.{before_last}
 use Rattle.arj_base.specs.Rows.{Row, last_uid, front, is_on, is_row_of, is_held_by, is_heir, goes_to, has_any, has_row, mode_of, strengthened, handed_on, renamed, passed, pass_rows}
 use Rattle.arj_base.specs.Uid.{uid_eq}
-use Rattle.arj_base.proofs.Uids.{uid_is, uid_same, uid_sym}
+use Rattle.arj_base.proofs.Uids.{uid_is, uid_same}
 use Rattle.arj_lock.specs.Exclusion.{IsOneEach, NoneBelow}
 use Rattle.arj_lock.specs.Passing.{passing, passing_mode, CameBy, stayed, passed_on, HeirsAgree}
-use Rattle.arj_lock.proofs.Leaves.{same_test}
 use Rattle.arj_lock.proofs.Members.{In, in_from, in_to, in_filter_map, in_find, in_find_none}
 use Rattle.arj_lock.proofs.OneEach.{none_in}
 use Rattle.arj_lock.proofs.Passes.{find_none, at_held, at_other}

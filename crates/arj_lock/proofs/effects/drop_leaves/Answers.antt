@@ -1,5 +1,5 @@
-use Rattle.std.proofs.Common.{◌≡◌, Bool, true, false, not, ap, refl}
-use Rattle.arj_base.specs.Rows.{drop_rows, is_on}
+use Rattle.std.proofs.Common.{not}
+use Rattle.arj_base.specs.Rows.{is_on}
 use Rattle.arj_lock.proofs.Leaves.{gone_any, kept_any, kept_found, kept_rows}
 use Rattle.arj_lock.proofs.effects.drop_leaves.Goals as goal
 

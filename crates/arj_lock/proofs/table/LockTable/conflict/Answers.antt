@@ -1,4 +1,4 @@
-use Rattle.std.proofs.Common.{◌≡◌, ◌∙◌, ap, sym, None}
+use Rattle.std.proofs.Common.{◌∙◌, ap, sym}
 use Rattle.arj_base.specs.Path.{uids_of}
 use Rattle.arj_lock.specs.Locks.{rows_of}
 use Rattle.arj_lock.specs.Requests.{conflict_with}
