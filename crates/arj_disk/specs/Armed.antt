@@ -5,7 +5,9 @@ use Rattle.arj_disk.specs.declared.disk.DiskFault.TheVariants.{Stopped, Memory}
 use Rattle.arj_disk.specs.declared.memory.MemDisk.{MemDisk}
 use Rattle.arj_disk.specs.declared.slot.Outcome.{Outcome}
 use Rattle.arj_disk.specs.declared.slot.Outcome.TheVariants.{Undone, Done, Torn}
-use Rattle.arj_disk.specs.Files.{FileMap}
+use Rattle.arj_disk.specs.declared.slot.Slot.{Slot}
+use Rattle.arj_disk.specs.Disk.{Counts, counted}
+use Rattle.arj_disk.specs.FileMap.{FileMap}
 use Rattle.arj_disk.specs.Stored.{stored}
 
 -- A disk in memory has files, a count of stops, and a record of its arms.
@@ -21,6 +23,9 @@ arms_of d = d.trigger.arms.count
 abbrev pub last_arm_of : MemDisk → Option (ℕ × Outcome)
 last_arm_of d = d.trigger.arms.last
 
+abbrev pub counts_of : MemDisk → Counts
+counts_of d = counted stops_of arms_of last_arm_of d
+
 -- The arm that waits: which call from now is stopped, and how it ends.
 abbrev pub armed_by : ℕ → Option (ℕ × Outcome) → Option (ℕ × Outcome)
 armed_by left None = None
@@ -28,6 +33,14 @@ armed_by left (Some arm) = if left == 0 then None else Some (left, arm.1)
 
 abbrev pub armed : MemDisk → Option (ℕ × Outcome)
 armed d = armed_by d.trigger.left d.trigger.arms.last
+
+-- a disk in memory as it is made: no file, no stop, no arm so far, and none that waits
+pub record IsNew (d : MemDisk) : Type 0 where
+  pub empty : (q : Slot) → files_of d q ≡ None
+  pub stops : stops_of d ≡ 0
+  pub arms : arms_of d ≡ 0
+  pub last_arm : last_arm_of d ≡ None
+  pub armed : armed d ≡ None
 
 -- the outcome of the next call where the arm stops it
 abbrev pub due : Option (ℕ × Outcome) → Option Outcome

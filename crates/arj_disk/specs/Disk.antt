@@ -5,7 +5,7 @@ use Rattle.arj_base.specs.Count.{Rose}
 use Rattle.arj_disk.specs.declared.slot.Outcome.{Outcome}
 use Rattle.arj_disk.specs.declared.slot.Slot.{Slot}
 use Rattle.arj_disk.specs.declared.slot.Slot.TheVariants.{Tmp}
-use Rattle.arj_disk.specs.Files.{FileMap}
+use Rattle.arj_disk.specs.FileMap.{FileMap}
 use Rattle.arj_disk.specs.Slot.{slot_order}
 
 -- each file is as before
@@ -48,6 +48,16 @@ pub record Lists (file : FileMap) (names : List Slot) : Type 0 where
   pub there : (q : Slot) → IsSome (file q) ↔ Contains names q
   pub increasing : IsStrictlySortedBy slot_order names
 
+-- How often a disk's calls were stopped; how often it was armed; and with what it was armed last.
+pub record Counts : Type 0 where
+  pub stops : ℕ
+  pub arms : ℕ
+  pub last_arm : Option (ℕ × Outcome)
+
+-- the counts of a disk, by the functions that tell them
+abbrev pub counted : {D : Type 0} → (D → ℕ) → (D → ℕ) → (D → Option (ℕ × Outcome)) → D → Counts
+counted stops arms last_arm d = record { stops = stops d; arms = arms d; last_arm = last_arm d }
+
 -- The count of stops over a call with this result: it rose where the call was stopped, and stays where it wasn't.
 pub record CountsStops {T E : Type 0} (old new : ℕ) (result : Result T E) (stopped : E) : Type 0 where
   pub rose : IsErrOf result stopped → Rose old new
@@ -55,7 +65,8 @@ pub record CountsStops {T E : Type 0} (old new : ℕ) (result : Result T E) (sto
   pub ok : OnOk result (new ≡ old)
   pub other : IfErr result (λ e. e ≢ stopped → new ≡ old)
 
--- no arm came: their number and the last one are as before
-pub record SameArms {D : Type 0} (arms : D → ℕ) (last_arm : D → Option (ℕ × Outcome)) (old new : D) : Type 0 where
-  pub number : arms new ≡ arms old
-  pub last : last_arm new ≡ last_arm old
+-- What a call with this result leaves of the counts: its stop is counted, where it was stopped, and no arm came.
+pub record CountsCall {T E : Type 0} (old new : Counts) (result : Result T E) (stopped : E) : Type 0 where
+  pub stops : CountsStops old.stops new.stops result stopped
+  pub arms : new.arms ≡ old.arms
+  pub last_arm : new.last_arm ≡ old.last_arm

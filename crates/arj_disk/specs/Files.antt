@@ -1,13 +1,9 @@
--- The files of a disk, and what they say.
+-- The committed state of an object by its number: `held` of `specs/Says.antt` under an older name, for what still has it.
 use Rattle.std.specs.Prelude.{ℕ, List, Option}
-use Rattle.arj_disk.specs.declared.slot.Slot.{Slot}
-use Rattle.arj_disk.specs.declared.slot.Slot.TheVariants.{Committed}
 use Rattle.arj_base.specs.Uid.{object}
+use Rattle.arj_disk.specs.declared.slot.Role.TheVariants.{Store}
+pub use Rattle.arj_disk.specs.FileMap.{FileMap}
+use Rattle.arj_disk.specs.Says as says
 
--- the bytes under each name; `None` where there is no file
-abbrev pub FileMap : Type 0
-FileMap = Slot → Option (List ℕ)
-
--- the committed state of object x, packed
 abbrev pub held : FileMap → ℕ → Option (List ℕ)
-held file x = file (Committed (object x))
+held file x = says.held file Store (object x)

@@ -1,5 +1,5 @@
 -- Forms of files, and disks that are formed: what every call finds and leaves.
-use Rattle.std.specs.Prelude.{◌≡◌, ◌⊎◌, ◌<◌, ◌≤◌, ℕ, List, ◌++◌, ◌∷◌, codes, length, flat_map, Contains, Option, IsSome, IfSome, Some}
+use Rattle.std.specs.Prelude.{◌≡◌, ◌⊎◌, ◌<◌, ◌≤◌, ℕ, List, ◌++◌, ◌∷◌, codes, length, flat_map, Contains, IsSome, IfSome, Some}
 use Rattle.std.specs.List.{IsDistinct, AllByRecursion}
 use Rattle.std.specs.List.Sorted.{IsStrictlySortedBy}
 use Rattle.std.specs.Ordering.{nat_cmp}
@@ -11,7 +11,7 @@ use Rattle.arj_base.specs.Uid.{uid_bytes, uid_eq, UidFits}
 use Rattle.arj_disk.specs.declared.slot.Role.{Role}
 use Rattle.arj_disk.specs.declared.slot.Role.TheVariants.{Store, Names}
 use Rattle.arj_disk.specs.declared.slot.Slot.TheVariants.{Incarnation, Committed, Shadow, Prepared, Intent}
-use Rattle.arj_disk.specs.Files.{FileMap}
+use Rattle.arj_disk.specs.FileMap.{FileMap}
 use Rattle.arj_disk.specs.Says.{role_of, held, pend, names}
 
 -- a packed state with this Uid

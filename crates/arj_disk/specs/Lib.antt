@@ -1,5 +1,7 @@
 pub mod Armed
+pub mod Counted
 pub mod Disk
+pub mod FileMap
 pub mod Files
 pub mod Formed
 pub mod Says

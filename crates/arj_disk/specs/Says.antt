@@ -1,7 +1,6 @@
 -- What a disk says: the committed states, what is prepared, the records of commits, and the incarnation. All that
 -- stands above reads disks by `held`, `pend`, `records` and `inc` alone.
-use Rattle.std.specs.Prelude.{◌≡◌, ◌≢◌, ◌==◌, ◌&&◌, ℕ, zero, suc, Bool, true, false, List, [], ◌∷◌, map, take, drop, get_or, Option, None, Some, IsSome, is_some, IsSomeAnd, option_map, unwrap_or, if◌then◌else◌}
-use Rattle.std.specs.List.{list_any}
+use Rattle.std.specs.Prelude.{◌≡◌, ◌≢◌, ◌==◌, ◌&&◌, ℕ, zero, suc, Bool, true, false, List, [], ◌∷◌, map, take, drop, get_or, Option, None, Some, IsSome, IsSomeAnd, option_map, unwrap_or, if◌then◌else◌}
 use Rattle.std.specs.Int.{w32, w64, from_be_bytes}
 use Rattle.std.specs.Map.{lookup}
 use Rattle.arj_base.specs.declared.uid.Uid.{Uid}
@@ -10,7 +9,7 @@ use Rattle.arj_disk.specs.declared.slot.Role.{Role}
 use Rattle.arj_disk.specs.declared.slot.Role.TheVariants.{Store, Names}
 use Rattle.arj_disk.specs.declared.slot.Slot.{Slot}
 use Rattle.arj_disk.specs.declared.slot.Slot.TheVariants.{Incarnation, Tmp, Committed, Shadow, Prepared, Intent}
-use Rattle.arj_disk.specs.Files.{FileMap}
+use Rattle.arj_disk.specs.FileMap.{FileMap}
 
 -- Naming entries have node 0 and incarnation 1. Every other Uid is the object store's.
 abbrev pub role_of : Uid → Role

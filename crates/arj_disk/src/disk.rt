@@ -1,6 +1,6 @@
-// The disk as the layers above see it, and the putting of a file.
+// The disk as the layers above see it.
 ghost use Rattle.std.specs.Prelude.{◌≡◌, ◌≢◌, ◌⊎◌, ◌+◌, ◌<◌, ◌≤◌, ℕ, List, Option, IfOk, OnOk, IsErrOf, IsSome};
-ghost use Rattle.arj_disk.specs.Disk.{Same, SameBut, Writes, Removes, Renames, Puts, PutsOrNot, Lists, CountsStops, SameArms};
+ghost use Rattle.arj_disk.specs.Disk.{Same, SameBut, Writes, Removes, Renames, Lists, CountsCall, counted};
 ghost use Rattle.arj_disk.specs.declared.slot.Slot.{Slot};
 ghost use Rattle.arj_disk.specs.declared.slot.Outcome.{Outcome};
 
@@ -57,16 +57,14 @@ pub trait Disk {
     fn read(&mut self, alloc: Global, slot: Slot) -> Result<Option<Bytes>, DiskFault>
         ensures bytes { IfOk result (λ found. found ≡ file self.old slot) }
         ensures files { Same (file self.old) (file self.new) }
-        ensures stops { CountsStops (stops self.old) (stops self.new) result DiskFault.Stopped }
-        ensures arms { SameArms arms last_arm self.old self.new };
+        ensures counts { CountsCall (counted stops arms last_arm self.old) (counted stops arms last_arm self.new) result DiskFault.Stopped };
 
     /// Writes a whole file over what is there. Stopped, it leaves any bytes under the name, or no file.
     fn write(&mut self, slot: Slot, bytes: &[u8]) -> Result<(), DiskFault>
         ensures ok { OnOk result (Writes (file self.old) (file self.new) slot bytes.now) }
         ensures files { SameBut (file self.old) (file self.new) slot }
         ensures memory { IsErrOf result DiskFault.Memory → Same (file self.old) (file self.new) }
-        ensures stops { CountsStops (stops self.old) (stops self.new) result DiskFault.Stopped }
-        ensures arms { SameArms arms last_arm self.old self.new };
+        ensures counts { CountsCall (counted stops arms last_arm self.old) (counted stops arms last_arm self.new) result DiskFault.Stopped };
 
     /// Gives a file another name, in the place of what has it. Stopped, it leaves the files before it or after it.
     fn rename(&mut self, from: Slot, to: Slot) -> Result<(), DiskFault>
@@ -74,8 +72,7 @@ pub trait Disk {
         ensures ok { OnOk result (Renames (file self.old) (file self.new) from to) }
         ensures files { Same (file self.old) (file self.new) ⊎ Renames (file self.old) (file self.new) from to }
         ensures memory { IsErrOf result DiskFault.Memory → Same (file self.old) (file self.new) }
-        ensures stops { CountsStops (stops self.old) (stops self.new) result DiskFault.Stopped }
-        ensures arms { SameArms arms last_arm self.old self.new };
+        ensures counts { CountsCall (counted stops arms last_arm self.old) (counted stops arms last_arm self.new) result DiskFault.Stopped };
 
     /// Removes a file; one that isn't there is no change. It takes no memory. Stopped, it leaves the files before
     /// it or after it.
@@ -83,15 +80,13 @@ pub trait Disk {
         ensures ok { OnOk result (Removes (file self.old) (file self.new) slot) }
         ensures files { Same (file self.old) (file self.new) ⊎ Removes (file self.old) (file self.new) slot }
         ensures memory { IsErrOf result DiskFault.Memory → ⊥ }
-        ensures stops { CountsStops (stops self.old) (stops self.new) result DiskFault.Stopped }
-        ensures arms { SameArms arms last_arm self.old self.new };
+        ensures counts { CountsCall (counted stops arms last_arm self.old) (counted stops arms last_arm self.new) result DiskFault.Stopped };
 
     /// The names that have a file, in increasing order.
     fn names(&mut self, alloc: Global) -> Result<Slots, DiskFault>
         ensures names { IfOk result (λ names. Lists (file self.old) names) }
         ensures files { Same (file self.old) (file self.new) }
-        ensures stops { CountsStops (stops self.old) (stops self.new) result DiskFault.Stopped }
-        ensures arms { SameArms arms last_arm self.old self.new };
+        ensures counts { CountsCall (counted stops arms last_arm self.old) (counted stops arms last_arm self.new) result DiskFault.Stopped };
 
     /// Asks for a stop: of the `calls`-th call from now, with this outcome. It replaces an earlier arm. Whether the
     /// disk then stops is the disk's own.
@@ -102,18 +97,4 @@ pub trait Disk {
         ensures stops { stops self.new ≡ stops self.old }
         ensures arms { arms self.new ≡ arms self.old + 1 }
         ensures last_arm { last_arm self.new ≡ Some (calls, outcome) };
-}
-
-/// Puts a file: a write of Tmp and a rename of Tmp to its name. So a stop at any moment leaves the old file or the
-/// new one. Every file but Tmp is put by it.
-pub fn put<D: Disk>(disk: &mut D, slot: Slot, bytes: &[u8]) -> Result<(), DiskFault>
-    requires { slot ≢ Slot.Tmp }
-    ensures ok { OnOk result (Puts (D.file disk.old) (D.file disk.new) slot bytes.now) }
-    ensures files { PutsOrNot (D.file disk.old) (D.file disk.new) slot bytes.now }
-    ensures memory { IsErrOf result DiskFault.Memory → SameBut (D.file disk.old) (D.file disk.new) Slot.Tmp }
-    ensures stops { CountsStops (D.stops disk.old) (D.stops disk.new) result DiskFault.Stopped }
-    ensures arms { SameArms D.arms D.last_arm disk.old disk.new }
-{
-    disk.write(Slot::Tmp, bytes)?;
-    disk.rename(Slot::Tmp, slot)
 }

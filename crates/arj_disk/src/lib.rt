@@ -8,13 +8,17 @@
 
 mod disk;
 mod files;
+mod laws;
 mod memory;
+mod putting;
 mod rack;
 mod slot;
 mod trigger;
 
-pub use disk::{Disk, DiskFault, put};
+pub use disk::{Disk, DiskFault};
+pub use laws::{among_so_many, orders, roles_apart};
 pub use memory::{MemDisk, SureDisk};
+pub use putting::put;
 pub use rack::Rack;
 pub use slot::{Outcome, Role, Slot, Slots, role_of_uid};
 

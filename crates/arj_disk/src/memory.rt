@@ -1,7 +1,7 @@
 // Disks in memory.
 ghost use Rattle.std.specs.Prelude.{◌≡◌, ◌⊎◌, ◌+◌, ◌<◌, ◌≤◌, None, Some, IfOk, OnOk, IsErrOf, IsSome};
-ghost use Rattle.arj_disk.specs.Armed.{armed, due, FollowsArm, LeftBy, files_of, stops_of, arms_of, last_arm_of};
-ghost use Rattle.arj_disk.specs.Disk.{Same, SameBut, Writes, Removes, Renames, Lists, CountsStops, SameArms};
+ghost use Rattle.arj_disk.specs.Armed.{armed, due, FollowsArm, LeftBy, IsNew, files_of, stops_of, arms_of, last_arm_of, counts_of};
+ghost use Rattle.arj_disk.specs.Disk.{Same, SameBut, Writes, Removes, Renames, Lists, CountsCall};
 ghost use Rattle.arj_disk.specs.Stored.{stored};
 
 use crate::files::{Arms, Files};
@@ -21,11 +21,7 @@ pub struct MemDisk {
 impl MemDisk {
     /// No file, no stop and no arm.
     pub fn new(alloc: Global) -> MemDisk
-        ensures empty { (q : Slot) → ⟦<MemDisk as Disk>⟧.file result q ≡ None }
-        ensures stops { ⟦<MemDisk as Disk>⟧.stops result ≡ 0 }
-        ensures arms { ⟦<MemDisk as Disk>⟧.arms result ≡ 0 }
-        ensures last_arm { ⟦<MemDisk as Disk>⟧.last_arm result ≡ None }
-        ensures armed { armed result ≡ None }
+        ensures { IsNew result }
     {
         MemDisk {
             files: Files::new(alloc),
@@ -46,8 +42,7 @@ impl Disk for MemDisk {
     fn read(&mut self, alloc: Global, slot: Slot) -> Result<Option<Bytes>, DiskFault>
         ensures bytes { IfOk result (λ found. found ≡ files_of self.old slot) }
         ensures files { Same (files_of self.old) (files_of self.new) }
-        ensures stops { CountsStops (stops_of self.old) (stops_of self.new) result DiskFault.Stopped }
-        ensures arms { SameArms arms_of last_arm_of self.old self.new }
+        ensures counts { CountsCall (counts_of self.old) (counts_of self.new) result DiskFault.Stopped }
         ensures armed { FollowsArm (armed self.old) (armed self.new) result }
     {
         if self.trigger.due().is_some() {
@@ -62,8 +57,7 @@ impl Disk for MemDisk {
         ensures ok { OnOk result (Writes (files_of self.old) (files_of self.new) slot bytes.now) }
         ensures files { SameBut (files_of self.old) (files_of self.new) slot }
         ensures memory { IsErrOf result DiskFault.Memory → Same (files_of self.old) (files_of self.new) }
-        ensures stops { CountsStops (stops_of self.old) (stops_of self.new) result DiskFault.Stopped }
-        ensures arms { SameArms arms_of last_arm_of self.old self.new }
+        ensures counts { CountsCall (counts_of self.old) (counts_of self.new) result DiskFault.Stopped }
         ensures armed { FollowsArm (armed self.old) (armed self.new) result }
         // Undone, the write of these bytes, or that of the arm's bytes.
         ensures outcome { IsErrOf result DiskFault.Stopped → LeftBy (due (armed self.old)) (Same (files_of self.old) (files_of self.new))
@@ -83,8 +77,7 @@ impl Disk for MemDisk {
         ensures ok { OnOk result (Renames (files_of self.old) (files_of self.new) from to) }
         ensures files { Same (files_of self.old) (files_of self.new) ⊎ Renames (files_of self.old) (files_of self.new) from to }
         ensures memory { IsErrOf result DiskFault.Memory → Same (files_of self.old) (files_of self.new) }
-        ensures stops { CountsStops (stops_of self.old) (stops_of self.new) result DiskFault.Stopped }
-        ensures arms { SameArms arms_of last_arm_of self.old self.new }
+        ensures counts { CountsCall (counts_of self.old) (counts_of self.new) result DiskFault.Stopped }
         ensures armed { FollowsArm (armed self.old) (armed self.new) result }
         ensures outcome { IsErrOf result DiskFault.Stopped → LeftBy (due (armed self.old)) (Same (files_of self.old) (files_of self.new))
             (Renames (files_of self.old) (files_of self.new) from to) (λ _. Same (files_of self.old) (files_of self.new)) }
@@ -102,8 +95,7 @@ impl Disk for MemDisk {
         ensures ok { OnOk result (Removes (files_of self.old) (files_of self.new) slot) }
         ensures files { Same (files_of self.old) (files_of self.new) ⊎ Removes (files_of self.old) (files_of self.new) slot }
         ensures memory { IsErrOf result DiskFault.Memory → ⊥ }
-        ensures stops { CountsStops (stops_of self.old) (stops_of self.new) result DiskFault.Stopped }
-        ensures arms { SameArms arms_of last_arm_of self.old self.new }
+        ensures counts { CountsCall (counts_of self.old) (counts_of self.new) result DiskFault.Stopped }
         ensures armed { FollowsArm (armed self.old) (armed self.new) result }
         ensures outcome { IsErrOf result DiskFault.Stopped → LeftBy (due (armed self.old)) (Same (files_of self.old) (files_of self.new))
             (Removes (files_of self.old) (files_of self.new) slot) (λ _. Same (files_of self.old) (files_of self.new)) }
@@ -120,8 +112,7 @@ impl Disk for MemDisk {
     fn names(&mut self, alloc: Global) -> Result<Slots, DiskFault>
         ensures names { IfOk result (λ names. Lists (files_of self.old) names) }
         ensures files { Same (files_of self.old) (files_of self.new) }
-        ensures stops { CountsStops (stops_of self.old) (stops_of self.new) result DiskFault.Stopped }
-        ensures arms { SameArms arms_of last_arm_of self.old self.new }
+        ensures counts { CountsCall (counts_of self.old) (counts_of self.new) result DiskFault.Stopped }
         ensures armed { FollowsArm (armed self.old) (armed self.new) result }
     {
         if self.trigger.due().is_some() {

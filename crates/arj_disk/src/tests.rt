@@ -1,8 +1,16 @@
 // Disks in memory, and `put` over one that stops.
-ghost use Rattle.std.specs.Prelude.{◌≢◌, IsErrOf, ◌≡◌, ◌-◌, ◌≤◌, length, slice_set, IfOk, OnOk};
+ghost use Rattle.std.specs.Prelude.{◌≢◌, IsErrOf, ◌≡◌, ◌-◌, ◌≤◌, length, slice_set, IfOk, OnOk, Some, [], ◌∷◌, Contains};
+ghost use Rattle.arj_base.specs.declared.uid.Uid.{Uid};
+ghost use Rattle.arj_disk.specs.FileMap.{FileMap};
+ghost use Rattle.arj_disk.specs.Formed.{AtMost, IsKnown};
+ghost use Rattle.arj_disk.specs.Says.{SameOfRole};
+ghost use Rattle.arj_disk.specs.declared.slot.Role.{Role};
+ghost use Rattle.std.specs.Ordering.{is_lt};
+ghost use Rattle.arj_disk.specs.Armed.{armed};
+ghost use Rattle.arj_disk.specs.Slot.{slot_order};
 
 use super::*;
-use arj_base::{Bytes, Uid, object_uid};
+use arj_base::{Bytes, Uid, entry_uid, object_uid};
 use std::alloc::{AllocError, Global};
 use std::test::Fail;
 
@@ -44,6 +52,40 @@ fn put_surely(disk: &mut SureDisk, slot: Slot, bytes: &[u8]) -> Result<(), DiskF
     put(disk, slot, bytes)
 }
 
+// The order of names that the definitions state decides a comparison in code.
+fn comes_first(p: Slot, q: Slot) -> bool
+    ensures { result ≡ is_lt (slot_order p q) }
+{
+    orders();
+    p < q
+}
+
+// Removing a naming entry leaves the store's files.
+fn remove_entry<D: Disk>(disk: &mut D, x: u16) -> Result<(), DiskFault>
+    ensures { SameOfRole Role.Store (D.file disk.old) (D.file disk.new) }
+{
+    roles_apart();
+    disk.remove(Slot::Committed(entry_uid(x)))
+}
+
+// Where two objects alone are known, there are at most two.
+fn few_known(one: Uid, two: Uid)
+    ensures { (file : FileMap) → ((u : Uid) → IsKnown file Role.Store u → Contains (one ∷ two ∷ []) u) → AtMost 2 (IsKnown file Role.Store) }
+{
+    among_so_many();
+}
+
+// A disk that is made for an arm has no other.
+fn new_armed(alloc: Global, outcome: Outcome) -> MemDisk
+    ensures arms { ⟦<MemDisk as Disk>⟧.arms result ≡ 1 }
+    ensures stops { ⟦<MemDisk as Disk>⟧.stops result ≡ 0 }
+    ensures armed { armed result ≡ Some (1, outcome) }
+{
+    let mut disk = MemDisk::new(alloc);
+    disk.arm(1, outcome);
+    disk
+}
+
 // Whether a call was done, or else stopped.
 fn was_done(ended: Result<(), DiskFault>) -> Result<bool, AllocError> {
     match ended {
@@ -82,8 +124,13 @@ fn calls_in_a_row(rt: HostRuntime) -> Result<(), Fail> {
         Slot::Prepared(Role::Names, action),
         Slot::Intent(action),
     ];
+    for pair in slots.as_slice().windows(2) {
+        assert!(rt; comes_first(pair[0], pair[1]));
+    }
     let mut disk = MemDisk::new(alloc);
+    few_known(one, two);
     write_each(&mut disk, slots.as_slice())?;
+    remove_entry(&mut disk, 1)?;
     assert!(rt; has_names(alloc, &mut disk, slots.as_slice())?);
 
     disk.write(Slot::Shadow(one), b"new".as_slice())?;
@@ -159,6 +206,8 @@ fn one_disk_of_a_rack(rt: HostRuntime) -> Result<(), Fail> {
 #[test]
 fn a_sure_disk_does_not_stop(rt: HostRuntime) -> Result<(), Fail> {
     let alloc = rt.alloc();
+    let mut stopping = new_armed(alloc, Outcome::Undone);
+    assert!(rt; !was_done(put(&mut stopping, Slot::Incarnation, b"1".as_slice()))?);
     let mut disk = SureDisk::new(alloc);
     disk.arm(1, Outcome::Undone);
     put(&mut disk, Slot::Incarnation, b"1".as_slice())?;

@@ -1,5 +1,6 @@
 pub mod Bytes
 pub mod Changes
+pub mod Counting
 pub mod Ends
 pub mod Few
 pub mod Files

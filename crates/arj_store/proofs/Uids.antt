@@ -14,9 +14,9 @@ use Rattle.arj_base.specs.declared.uid.Uid.{Uid}
 use Rattle.arj_base.specs.contracts.uid.UidOrd.TheImpl.Laws.{total-law}
 use Rattle.arj_disk.specs.declared.slot.Slot.{Slot}
 use Rattle.arj_disk.specs.contracts.slot.SlotOrd.TheImpl.Laws.{total-law as slot-law}
-use Rattle.arj_disk.specs.Slot.{slot_order}
-use Rattle.arj_store.specs.Pair.{uid_order}
+use Rattle.arj_disk.specs.Stored.{slot_cmp}
 use Rattle.arj_store.specs.Shadow.{is_in}
+use Rattle.arj_store.specs.Table.{uid_cmp}
 
 pub uid_same : (u : Uid) → uid_eq u u ≡ true
 uid_same u = λ i. eq-eqb u.node u.node refl i && (eq-eqb u.inc u.inc refl i && eq-eqb u.num u.num refl i)
@@ -38,14 +38,14 @@ pub uid_cases : (u w : Uid) → (u ≡ w) ⊎ (u ≢ w)
 uid_cases u w = ⊎_elim (λ (yes : uid_eq u w ≡ true). inl (uid_is u w yes)) (λ (no : uid_eq u w ≡ false). inr (uid_isnt u w no)) (cases_Bool (uid_eq u w))
 
 -- the order ties a Uid with itself alone
-pub order_exact : (u w : Uid) → uid_order u w ≡ Equal → u ≡ w
+pub order_exact : (u w : Uid) → uid_cmp u w ≡ Equal → u ≡ w
 order_exact u w e = search rules
 
-pub order_itself : (u : Uid) → uid_order u u ≡ Equal
+pub order_itself : (u : Uid) → uid_cmp u u ≡ Equal
 order_itself u = tied_itself total-law u
 
 -- a map that has nothing under any Uid has no entry
-pub no_entries : {V : Type 0} (es : List (Uid × V)) → ((q : Uid) → lookup (is_at (uid_order q)) es ≡ None) → es ≡ []
+pub no_entries : {V : Type 0} (es : List (Uid × V)) → ((q : Uid) → lookup (is_at (uid_cmp q)) es ≡ None) → es ≡ []
 no_entries [] none = refl
 no_entries (e ∷ es) none = let never = none e.0 in let tied = order_itself e.0 in search rules
 
@@ -54,7 +54,7 @@ pub values_under : {V : Type 0} (f : Uid → Option V) (es : List (Uid × V)) �
 values_under f [] found = refl
 values_under f (e ∷ es) found = λ i. All-head (λ e. f e.0 ≡ Some e.1) e es found i ∷ values_under f es (All-tail (λ e. f e.0 ≡ Some e.1) e es found) i
 
-pub nothing_in_none : {V : Type 0} (es : List (Uid × V)) → length es ≡ 0 → (q : Uid) → lookup (is_at (uid_order q)) es ≡ None
+pub nothing_in_none : {V : Type 0} (es : List (Uid × V)) → length es ≡ 0 → (q : Uid) → lookup (is_at (uid_cmp q)) es ≡ None
 nothing_in_none [] empty q = refl
 nothing_in_none (e ∷ es) empty q = let never : ⊥ = omega arith in absurd never
 
@@ -72,16 +72,16 @@ pub out_of_more : (us : List Uid) (u w : Uid) → is_in (us ++ u ∷ []) w ≡ f
 out_of_more us u w is = (uid_isnt w u (grind (arith, in_more us u w)), grind (arith, in_more us u w))
 
 -- two names of files are the same or not
-slot_apart : (a b : Slot) (o : Ordering) → slot_order a b ≡ o → o ≢ Equal → a ≢ b
-slot_apart a b o is unequal same = unequal (sym is ∙ ap (slot_order a) (sym same) ∙ tied_itself slot-law a)
+slot_apart : (a b : Slot) (o : Ordering) → slot_cmp a b ≡ o → o ≢ Equal → a ≢ b
+slot_apart a b o is unequal same = unequal (sym is ∙ ap (slot_cmp a) (sym same) ∙ tied_itself slot-law a)
 
-slot_tied : (a b : Slot) → slot_order a b ≡ Equal → a ≡ b
+slot_tied : (a b : Slot) → slot_cmp a b ≡ Equal → a ≡ b
 slot_tied a b e = search rules
 
 pub slot_cases : (a b : Slot) → (a ≡ b) ⊎ (a ≢ b)
-slot_cases a b = by (slot_order a b) refl
+slot_cases a b = by (slot_cmp a b) refl
   where
-    by : (o : Ordering) → slot_order a b ≡ o → (a ≡ b) ⊎ (a ≢ b)
+    by : (o : Ordering) → slot_cmp a b ≡ o → (a ≡ b) ⊎ (a ≢ b)
     by Less is = inr (slot_apart a b Less is (λ never. cc))
     by Equal is = inl (slot_tied a b is)
     by Greater is = inr (slot_apart a b Greater is (λ never. cc))

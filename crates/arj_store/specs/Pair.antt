@@ -3,24 +3,20 @@
 use Rattle.std.specs.Prelude.{◌≡◌, ◌≢◌, ◌⊎◌, ◌<◌, ℕ, List, [], ◌∷◌, map, Contains, Option, Some, None, IsSome, ◌↔◌}
 use Rattle.std.specs.List.{IsDistinct, AllByRecursion}
 use Rattle.std.specs.List.Sorted.{IsStrictlySortedBy}
-use Rattle.std.specs.declared.cmp.Ordering.{Ordering}
 use Rattle.arj_base.specs.State.{state_bytes, StateInForm}
 use Rattle.arj_base.specs.Uid.{uid_eq}
 use Rattle.arj_base.specs.declared.state.ObjectState.{ObjectState}
 use Rattle.arj_base.specs.declared.uid.Uid.{Uid}
-use Rattle.arj_base.specs.contracts.uid.UidOrd.TheImpl as uid_ord
 use Rattle.arj_disk.specs.declared.slot.Role.{Role}
 use Rattle.arj_disk.specs.declared.slot.Role.TheVariants.{Store, Names}
 use Rattle.arj_disk.specs.Files.{FileMap}
+pub use Rattle.arj_disk.specs.Slot.{uid_order}
 use Rattle.arj_disk.specs.Says.{held, pend, names, new_of, role_of, InDoubt}
 use Rattle.arj_store.specs.declared.answer.Read.{Read}
 use Rattle.arj_store.specs.declared.answer.Read.TheVariants as read
 use Rattle.arj_store.specs.declared.answer.Prep.{Prep}
 use Rattle.arj_store.specs.declared.answer.Prep.TheVariants as prep
 use Rattle.arj_store.specs.declared.answer.Found.{Found}
-
-abbrev pub uid_order : Uid → Uid → Ordering
-uid_order = (uid_ord.ghosts).cmp
 
 -- both maps are as before
 pub record SamePair (role : Role) (old new : FileMap) : Type 0 where

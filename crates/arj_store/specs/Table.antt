@@ -2,12 +2,18 @@
 use Rattle.std.specs.Prelude.{◌≡◌, ◌≢◌, ◌↔◌, List, map, Contains, Option, Some, IsSome}
 use Rattle.std.specs.List.Sorted.{IsStrictlySortedBy}
 use Rattle.std.specs.BTreeMap.{get}
+use Rattle.std.specs.declared.cmp.Ordering.{Ordering}
+use Rattle.arj_base.specs.contracts.uid.UidOrd.TheImpl as uid_ord
 use Rattle.arj_base.specs.declared.uid.Uid.{Uid}
 use Rattle.arj_store.specs.declared.table.Table.{Table}
 use Rattle.arj_store.specs.Pair.{uid_order}
 
+-- the comparison by which a map finds Uids
+abbrev pub uid_cmp : Uid → Uid → Ordering
+uid_cmp = (uid_ord.ghosts).cmp
+
 abbrev pub at : {V : Type 0} → Table V → Uid → Option V
-at table u = get uid_order table.map u
+at table u = get uid_cmp table.map u
 
 -- this Uid has the value, and every other has what it had
 pub record Sets {V : Type 0} (old new : Uid → Option V) (u : Uid) (value : Option V) : Type 0 where

@@ -1,7 +1,8 @@
 // The ends of a prepared action: its shadows become the committed files, or go.
 ghost use Rattle.std.specs.Prelude.{◌≡◌, ◌⊎◌, true, None, OnOk, IsErrOf, is_some};
 ghost use Rattle.arj_base.specs.declared.uid.Uid.{Uid};
-ghost use Rattle.arj_disk.specs.Disk.{Same, Removes, CountsStops, SameArms};
+ghost use Rattle.arj_disk.specs.Counted.{counts};
+ghost use Rattle.arj_disk.specs.Disk.{Same, Removes, CountsCall};
 ghost use Rattle.arj_disk.specs.declared.slot.Slot.{Slot};
 ghost use Rattle.arj_store.specs.Shadow.{is_in, has_shadow, Releases, MovesShadow, MovesShadows, HaveNoShadow, PutsStates};
 ghost use Rattle.arj_store.specs.Table.{at, Sets};
@@ -22,8 +23,7 @@ fn move_shadow<D: Disk>(
     ensures files { Same (D.file disk.old) (D.file disk.new) ⊎ MovesShadow (D.file disk.old) (D.file disk.new) uid }
     ensures ok { OnOk result (D.file disk.new (Slot.Shadow uid) ≡ None) }
     ensures taken { Sets (at holdings.old) (at holdings.new) uid None }
-    ensures stops { CountsStops (D.stops disk.old) (D.stops disk.new) result DiskFault.Stopped }
-    ensures arms { SameArms D.arms D.last_arm disk.old disk.new }
+    ensures counts { CountsCall (counts D.Disk disk.old) (counts D.Disk disk.new) result DiskFault.Stopped }
 {
     if release(holdings, uid) {
         return disk.rename(Slot::Shadow(uid), Slot::Committed(uid));
@@ -41,8 +41,7 @@ pub fn move_shadows<D: Disk>(
     ensures files { MovesShadows objects.now (D.file disk.old) (D.file disk.new) }
     ensures ok { OnOk result (HaveNoShadow objects.now (D.file disk.new)) }
     ensures released { OnOk result (Releases objects.now (at holdings.old) (at holdings.new)) }
-    ensures stops { CountsStops (D.stops disk.old) (D.stops disk.new) result DiskFault.Stopped }
-    ensures arms { SameArms D.arms D.last_arm disk.old disk.new }
+    ensures counts { CountsCall (counts D.Disk disk.old) (counts D.Disk disk.new) result DiskFault.Stopped }
 {
     for uid in objects {
         move_shadow(holdings, disk, *uid)?;
@@ -61,8 +60,7 @@ fn remove_shadow<D: Disk>(
     ensures ok { OnOk result (D.file disk.new (Slot.Shadow uid) ≡ None) }
     ensures memory { IsErrOf result DiskFault.Memory → ⊥ }
     ensures taken { Sets (at holdings.old) (at holdings.new) uid None }
-    ensures stops { CountsStops (D.stops disk.old) (D.stops disk.new) result DiskFault.Stopped }
-    ensures arms { SameArms D.arms D.last_arm disk.old disk.new }
+    ensures counts { CountsCall (counts D.Disk disk.old) (counts D.Disk disk.new) result DiskFault.Stopped }
 {
     if release(holdings, uid) {
         return disk.remove(Slot::Shadow(uid));
@@ -81,8 +79,7 @@ pub fn remove_shadows<D: Disk>(
     ensures ok { OnOk result (HaveNoShadow objects.now (D.file disk.new)) }
     ensures memory { IsErrOf result DiskFault.Memory → ⊥ }
     ensures released { OnOk result (Releases objects.now (at holdings.old) (at holdings.new)) }
-    ensures stops { CountsStops (D.stops disk.old) (D.stops disk.new) result DiskFault.Stopped }
-    ensures arms { SameArms D.arms D.last_arm disk.old disk.new }
+    ensures counts { CountsCall (counts D.Disk disk.old) (counts D.Disk disk.new) result DiskFault.Stopped }
 {
     for uid in objects {
         remove_shadow(holdings, disk, *uid)?;

@@ -4,7 +4,8 @@ ghost use Rattle.std.specs.List.{AllByRecursion};
 ghost use Rattle.arj_base.specs.State.{state_bytes, StateInForm};
 ghost use Rattle.arj_base.specs.Uid.{uid_bytes, UidFits};
 ghost use Rattle.arj_base.specs.declared.uid.Uid.{Uid};
-ghost use Rattle.arj_disk.specs.Disk.{CountsStops, SameArms};
+ghost use Rattle.arj_disk.specs.Counted.{counts};
+ghost use Rattle.arj_disk.specs.Disk.{CountsCall};
 ghost use Rattle.arj_base.specs.declared.state.ObjectState.{ObjectState};
 ghost use Rattle.arj_disk.specs.Formed.{IsStateOf, IsPreparedOf, prepared_bytes};
 ghost use Rattle.arj_disk.specs.Says.{named_in};
@@ -28,8 +29,7 @@ pub fn read_state<D: Disk>(
     ensures state { IfOk result (λ found. MatchOption found (D.file disk.old (slot_at place uid) ≡ None) (IsStateAt place (D.file disk.old) uid)) }
     ensures only { IfOk result (λ found. IfSome found (λ s. (t : ObjectState) → StateInForm t → D.file disk.old (slot_at place uid) ≡ Some (state_bytes t) → t ≡ s)) }
     ensures files { D.file disk.new ≡ D.file disk.old }
-    ensures stops { CountsStops (D.stops disk.old) (D.stops disk.new) result StoreFault.Stopped }
-    ensures arms { SameArms D.arms D.last_arm disk.old disk.new }
+    ensures counts { CountsCall (counts D.Disk disk.old) (counts D.Disk disk.new) result StoreFault.Stopped }
 {
     let Some(bytes) = disk.read(alloc, place.slot(uid))? else {
         return Ok(None);

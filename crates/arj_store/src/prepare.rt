@@ -3,7 +3,8 @@ ghost use Rattle.std.specs.Prelude.{◌≡◌, ◌≢◌, ◌⊎◌, ◌≤◌, 
 ghost use Rattle.std.specs.List.{AllByRecursion, IsDistinct};
 ghost use Rattle.arj_base.specs.State.{state_bytes, StateInForm};
 ghost use Rattle.arj_base.specs.Uid.{uid_eq};
-ghost use Rattle.arj_disk.specs.Disk.{CountsStops, SameArms, PutsOrNot};
+ghost use Rattle.arj_disk.specs.Counted.{counts};
+ghost use Rattle.arj_disk.specs.Disk.{CountsCall, PutsOrNot};
 ghost use Rattle.arj_disk.specs.Formed.{FormedFor, IsStateOf};
 ghost use Rattle.arj_disk.specs.Says.{role_of};
 ghost use Rattle.arj_store.specs.Pair.{Refuses, IsRefused, IsClear, uid_of};
@@ -52,8 +53,7 @@ pub fn refusal<D: Disk>(
     requires sizes { AllByRecursion (λ s. length (state_bytes s) ≤ 65535) states.now }
     ensures answer { IfOk result (λ refusal. MatchOption refusal (AllByRecursion (IsClear (D.file disk.old) role act) states.now) (IsRefused (D.file disk.old) role act states.now)) }
     ensures files { D.file disk.new ≡ D.file disk.old }
-    ensures stops { CountsStops (D.stops disk.old) (D.stops disk.new) result StoreFault.Stopped }
-    ensures arms { SameArms D.arms D.last_arm disk.old disk.new }
+    ensures counts { CountsCall (counts D.Disk disk.old) (counts D.Disk disk.new) result StoreFault.Stopped }
 {
     for state in states {
         let refusal = refusal_of(alloc, disk, role, pending, act, state)?;
@@ -79,8 +79,7 @@ fn refusal_of<D: Disk>(
     requires size { length (state_bytes state.now) ≤ 65535 }
     ensures answer { IfOk result (λ refusal. MatchOption refusal (IsClear (D.file disk.old) role act state.now) (Refuses (D.file disk.old) role act state.now)) }
     ensures files { D.file disk.new ≡ D.file disk.old }
-    ensures stops { CountsStops (D.stops disk.old) (D.stops disk.new) result StoreFault.Stopped }
-    ensures arms { SameArms D.arms D.last_arm disk.old disk.new }
+    ensures counts { CountsCall (counts D.Disk disk.old) (counts D.Disk disk.new) result StoreFault.Stopped }
 {
     let Some(held) = read_state(alloc, disk, Place::Committed, state.uid)? else {
         return Ok(in_doubt(pending, state.uid));
@@ -157,8 +156,7 @@ pub fn put_prepared<D: Disk>(
     requires sizes { AllByRecursion (λ s. length (state_bytes s) ≤ 65535) states.now }
     ensures ok { OnOk result (PutsAll role act states.now (D.file disk.old) (D.file disk.new)) }
     ensures files { PutsStates Place.Shadow (map uid_of states.now) (D.file disk.old) (D.file disk.new) ⊎ PutsAll role act states.now (D.file disk.old) (D.file disk.new) }
-    ensures stops { CountsStops (D.stops disk.old) (D.stops disk.new) result StoreFault.Stopped }
-    ensures arms { SameArms D.arms D.last_arm disk.old disk.new }
+    ensures counts { CountsCall (counts D.Disk disk.old) (counts D.Disk disk.new) result StoreFault.Stopped }
 {
     let file = prepared_file(alloc, act, objects)?;
     put_states(alloc, disk, Place::Shadow, states)?;
@@ -177,8 +175,7 @@ pub fn put_states<D: Disk>(
     requires sizes { AllByRecursion (λ s. length (state_bytes s) ≤ 65535) states.now }
     ensures ok { OnOk result (HasStates place states.now (D.file disk.new)) }
     ensures files { PutsStates place (map uid_of states.now) (D.file disk.old) (D.file disk.new) }
-    ensures stops { CountsStops (D.stops disk.old) (D.stops disk.new) result StoreFault.Stopped }
-    ensures arms { SameArms D.arms D.last_arm disk.old disk.new }
+    ensures counts { CountsCall (counts D.Disk disk.old) (counts D.Disk disk.new) result StoreFault.Stopped }
 {
     for state in states {
         put_state(alloc, disk, place.slot(state.uid), state)?;
@@ -198,8 +195,7 @@ fn put_state<D: Disk>(
     ensures ok { OnOk result (D.file disk.new slot ≡ Some (state_bytes state.now)) }
     ensures files { PutsOrNot (D.file disk.old) (D.file disk.new) slot (state_bytes state.now) }
     ensures form { D.file disk.new slot ≡ D.file disk.old slot ⊎ IfSome (D.file disk.new slot) (IsStateOf state.now.uid) }
-    ensures stops { CountsStops (D.stops disk.old) (D.stops disk.new) result StoreFault.Stopped }
-    ensures arms { SameArms D.arms D.last_arm disk.old disk.new }
+    ensures counts { CountsCall (counts D.Disk disk.old) (counts D.Disk disk.new) result StoreFault.Stopped }
 {
     let bytes = pack(alloc, state)?;
     put(disk, slot, bytes.as_slice())?;

@@ -3,7 +3,8 @@ ghost use Rattle.std.specs.Prelude.{◌≡◌, ◌⊎◌, ◌↔◌, true, false
 ghost use Rattle.std.specs.List.{AllByRecursion};
 ghost use Rattle.std.specs.Option.{option_to_list};
 ghost use Rattle.arj_base.specs.declared.uid.Uid.{Uid};
-ghost use Rattle.arj_disk.specs.Disk.{Lists, Removes, CountsStops, SameArms};
+ghost use Rattle.arj_disk.specs.Counted.{counts};
+ghost use Rattle.arj_disk.specs.Disk.{Lists, Removes, CountsCall};
 ghost use Rattle.arj_disk.specs.Says.{OnlyOfRole};
 ghost use Rattle.arj_disk.specs.Formed.{FormedFor};
 ghost use Rattle.arj_disk.specs.declared.slot.Role.{Role};
@@ -35,8 +36,7 @@ pub fn recover_pending<D: Disk>(
     ensures pair { SamePair role (D.file disk.old) (D.file disk.new) }
     ensures formed { FormedFor (D.file disk.new) role }
     ensures others { OnlyOfRole role (D.file disk.old) (D.file disk.new) }
-    ensures stops { CountsStops (D.stops disk.old) (D.stops disk.new) result StoreFault.Stopped }
-    ensures arms { SameArms D.arms D.last_arm disk.old disk.new }
+    ensures counts { CountsCall (counts D.Disk disk.old) (counts D.Disk disk.new) result StoreFault.Stopped }
 {
     let mut pending = read_actions(alloc, disk, role, names)?;
     sort_shadows(disk, role, names, &mut pending.holdings)?;
@@ -53,8 +53,7 @@ pub fn read_actions<D: Disk>(
     requires { FormedFor (D.file disk.old) role }
     ensures read { IfOk result (λ pending. ReadsActions names.now role (D.file disk.old) (at pending.actions) (at pending.holdings)) }
     ensures files { D.file disk.new ≡ D.file disk.old }
-    ensures stops { CountsStops (D.stops disk.old) (D.stops disk.new) result StoreFault.Stopped }
-    ensures arms { SameArms D.arms D.last_arm disk.old disk.new }
+    ensures counts { CountsCall (counts D.Disk disk.old) (counts D.Disk disk.new) result StoreFault.Stopped }
 {
     let mut pending = Pending::new(alloc);
     for slot in names {
@@ -74,8 +73,7 @@ fn read_slot<D: Disk>(
     requires { FormedFor (D.file disk.old) role }
     ensures ok { OnOk result (ReadsSlot role (D.file disk.old) slot (at pending.old.actions) (at pending.old.holdings) (at pending.new.actions) (at pending.new.holdings)) }
     ensures files { D.file disk.new ≡ D.file disk.old }
-    ensures stops { CountsStops (D.stops disk.old) (D.stops disk.new) result StoreFault.Stopped }
-    ensures arms { SameArms D.arms D.last_arm disk.old disk.new }
+    ensures counts { CountsCall (counts D.Disk disk.old) (counts D.Disk disk.new) result StoreFault.Stopped }
 {
     match slot {
         Slot::Prepared(of, act) if of == role => read_action(alloc, disk, role, act, pending),
@@ -94,8 +92,7 @@ fn read_action<D: Disk>(
     requires { FormedFor (D.file disk.old) role }
     ensures ok { OnOk result (ReadsAction role (D.file disk.old) act (at pending.old.actions) (at pending.old.holdings) (at pending.new.actions) (at pending.new.holdings)) }
     ensures files { D.file disk.new ≡ D.file disk.old }
-    ensures stops { CountsStops (D.stops disk.old) (D.stops disk.new) result StoreFault.Stopped }
-    ensures arms { SameArms D.arms D.last_arm disk.old disk.new }
+    ensures counts { CountsCall (counts D.Disk disk.old) (counts D.Disk disk.new) result StoreFault.Stopped }
 {
     let Some(bytes) = disk.read(alloc, Slot::Prepared(role, act))? else {
         return Ok(());
@@ -116,8 +113,7 @@ pub fn sort_shadows<D: Disk>(
     requires none { (u : Uid) → has_shadow (at holdings.old u) ≡ false }
     ensures ok { OnOk result (SortsShadows names.now role (D.file disk.old) (at holdings.old) (D.file disk.new) (at holdings.new)) }
     ensures files { DropsShadows role (at holdings.old) (D.file disk.old) (D.file disk.new) }
-    ensures stops { CountsStops (D.stops disk.old) (D.stops disk.new) result StoreFault.Stopped }
-    ensures arms { SameArms D.arms D.last_arm disk.old disk.new }
+    ensures counts { CountsCall (counts D.Disk disk.old) (counts D.Disk disk.new) result StoreFault.Stopped }
 {
     for slot in names {
         sort_slot(disk, role, *slot, holdings)?;
@@ -134,8 +130,7 @@ fn sort_slot<D: Disk>(
 ) -> Result<(), StoreFault>
     ensures ok { OnOk result (SortsSlot role slot (D.file disk.old) (at holdings.old) (D.file disk.new) (at holdings.new)) }
     ensures files { DropsShadow role (at holdings.old) (D.file disk.old) (D.file disk.new) }
-    ensures stops { CountsStops (D.stops disk.old) (D.stops disk.new) result StoreFault.Stopped }
-    ensures arms { SameArms D.arms D.last_arm disk.old disk.new }
+    ensures counts { CountsCall (counts D.Disk disk.old) (counts D.Disk disk.new) result StoreFault.Stopped }
 {
     match slot {
         Slot::Shadow(uid) if role_of_uid(uid) == role => sort_shadow(disk, uid, holdings),
@@ -151,8 +146,7 @@ fn sort_shadow<D: Disk>(
 ) -> Result<(), StoreFault>
     ensures ok { OnOk result (SortsShadow uid (D.file disk.old) (at holdings.old) (D.file disk.new) (at holdings.new)) }
     ensures files { (D.file disk.new ≡ D.file disk.old) ⊎ ((at holdings.old uid ≡ None) × Removes (D.file disk.old) (D.file disk.new) (Slot.Shadow uid)) }
-    ensures stops { CountsStops (D.stops disk.old) (D.stops disk.new) result StoreFault.Stopped }
-    ensures arms { SameArms D.arms D.last_arm disk.old disk.new }
+    ensures counts { CountsCall (counts D.Disk disk.old) (counts D.Disk disk.new) result StoreFault.Stopped }
 {
     match holdings.take(uid) {
         Some(holding) => {
@@ -177,8 +171,7 @@ pub fn find<D: Disk>(
     requires lists { ListsHeld role (D.file disk.old) names.now }
     ensures found { IfOk result (Finds role (D.file disk.old)) }
     ensures files { D.file disk.new ≡ D.file disk.old }
-    ensures stops { CountsStops (D.stops disk.old) (D.stops disk.new) result StoreFault.Stopped }
-    ensures arms { SameArms D.arms D.last_arm disk.old disk.new }
+    ensures counts { CountsCall (counts D.Disk disk.old) (counts D.Disk disk.new) result StoreFault.Stopped }
 {
     match role {
         Role::Store => Ok(Found::new(alloc)),
@@ -198,8 +191,7 @@ fn find_entries<D: Disk>(
     requires lists { ListsHeld Role.Names (D.file disk.old) names.now }
     ensures found { IfOk result (FindsPair Role.Names (D.file disk.old)) }
     ensures files { D.file disk.new ≡ D.file disk.old }
-    ensures stops { CountsStops (D.stops disk.old) (D.stops disk.new) result StoreFault.Stopped }
-    ensures arms { SameArms D.arms D.last_arm disk.old disk.new }
+    ensures counts { CountsCall (counts D.Disk disk.old) (counts D.Disk disk.new) result StoreFault.Stopped }
 {
     let left = shadows_left(alloc, &pending.holdings)?;
     let shadows = read_each(alloc, disk, Place::Shadow, left.as_slice())?;
@@ -271,8 +263,7 @@ fn read_each<D: Disk>(
     requires there { (u : Uid) → (is_in entries.now u ≡ true) ↔ HasEntry place (D.file disk.old) u }
     ensures read { IfOk result (λ states. HasRead place (D.file disk.old) (at states)) }
     ensures files { D.file disk.new ≡ D.file disk.old }
-    ensures stops { CountsStops (D.stops disk.old) (D.stops disk.new) result StoreFault.Stopped }
-    ensures arms { SameArms D.arms D.last_arm disk.old disk.new }
+    ensures counts { CountsCall (counts D.Disk disk.old) (counts D.Disk disk.new) result StoreFault.Stopped }
 {
     let mut states = Table::new(alloc);
     for uid in entries {
@@ -293,8 +284,7 @@ fn read_entry<D: Disk>(
     requires there { HasEntry place (D.file disk.old) uid }
     ensures state { IfOk result (IsStateAt place (D.file disk.old) uid) }
     ensures files { D.file disk.new ≡ D.file disk.old }
-    ensures stops { CountsStops (D.stops disk.old) (D.stops disk.new) result StoreFault.Stopped }
-    ensures arms { SameArms D.arms D.last_arm disk.old disk.new }
+    ensures counts { CountsCall (counts D.Disk disk.old) (counts D.Disk disk.new) result StoreFault.Stopped }
 {
     match read_state(alloc, disk, place, uid)? {
         Some(state) => Ok(state),

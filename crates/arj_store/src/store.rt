@@ -2,7 +2,8 @@
 ghost use Rattle.std.specs.Prelude.{◌≡◌, ◌⊎◌, ◌+◌, ◌≤◌, ◌↔◌, ℕ, List, Option, None, Some, true, map, Contains, length, IsSome, MatchOption, IfOk, OnOk, OnErr, IsErrOf};
 ghost use Rattle.std.specs.List.{AllByRecursion};
 ghost use Rattle.arj_base.specs.State.{state_bytes};
-ghost use Rattle.arj_disk.specs.Disk.{Same, CountsStops, SameArms};
+ghost use Rattle.arj_disk.specs.Counted.{counts};
+ghost use Rattle.arj_disk.specs.Disk.{Same, CountsCall};
 ghost use Rattle.arj_disk.specs.Formed.{FormedFor, AtMost, IsKnown};
 ghost use Rattle.arj_disk.specs.Says.{pend, names, slot_role, OnlyOfRole, SameOfRole, InDoubt};
 ghost use Rattle.arj_disk.specs.declared.slot.Role.{Role};
@@ -49,8 +50,7 @@ pub trait ObjectStore: Sized {
         ensures room { OnOk result (18446744073709551614 ≤ room (D.file disk.new) role) }
         ensures formed { OnOk result (FormedFor (D.file disk.new) role) }
         ensures others { OnlyOfRole role (D.file disk.old) (D.file disk.new) }
-        ensures stops { CountsStops (D.stops disk.old) (D.stops disk.new) result StoreFault.Stopped }
-        ensures arms { SameArms D.arms D.last_arm disk.old disk.new };
+        ensures counts { CountsCall (counts D.Disk disk.old) (counts D.Disk disk.new) result StoreFault.Stopped };
 
     /// The store that a disk has. What no prepared action needs is removed; what is committed and prepared stays.
     fn recover<D: Disk>(alloc: Global, disk: &mut D, role: Role) -> Result<Self, StoreFault>
@@ -62,8 +62,7 @@ pub trait ObjectStore: Sized {
         ensures room { room (D.file disk.old) role ≤ room (D.file disk.new) role }
         ensures formed { FormedFor (D.file disk.new) role }
         ensures others { OnlyOfRole role (D.file disk.old) (D.file disk.new) }
-        ensures stops { CountsStops (D.stops disk.old) (D.stops disk.new) result StoreFault.Stopped }
-        ensures arms { SameArms D.arms D.last_arm disk.old disk.new };
+        ensures counts { CountsCall (counts D.Disk disk.old) (counts D.Disk disk.new) result StoreFault.Stopped };
 
     /// The committed state of an object, unless the object is in doubt.
     fn read_committed<D: Disk>(
@@ -76,8 +75,7 @@ pub trait ObjectStore: Sized {
         requires formed { FormedFor (D.file disk.old) (own_role self.now) }
         ensures answer { IfOk result (λ answer. Reads (D.file disk.old) (own_role self.now) uid answer) }
         ensures files { Same (D.file disk.old) (D.file disk.new) }
-        ensures stops { CountsStops (D.stops disk.old) (D.stops disk.new) result StoreFault.Stopped }
-        ensures arms { SameArms D.arms D.last_arm disk.old disk.new };
+        ensures counts { CountsCall (counts D.Disk disk.old) (counts D.Disk disk.new) result StoreFault.Stopped };
 
     /// Prepares new states, all of them or, where one is refused, none. Stopped, the action is prepared or isn't.
     fn prepare<D: Disk>(
@@ -101,8 +99,7 @@ pub trait ObjectStore: Sized {
         ensures room { room (D.file disk.old) (own_role self.old) ≤ room (D.file disk.new) (own_role self.old) }
         ensures formed { FormedFor (D.file disk.new) (own_role self.old) }
         ensures others { OnlyOfRole (own_role self.old) (D.file disk.old) (D.file disk.new) }
-        ensures stops { CountsStops (D.stops disk.old) (D.stops disk.new) result StoreFault.Stopped }
-        ensures arms { SameArms D.arms D.last_arm disk.old disk.new };
+        ensures counts { CountsCall (counts D.Disk disk.old) (counts D.Disk disk.new) result StoreFault.Stopped };
 
     /// Commits what the action has prepared; true where it was prepared. Stopped, some of its states may be committed
     /// while it is still prepared.
@@ -120,8 +117,7 @@ pub trait ObjectStore: Sized {
         ensures room { room (D.file disk.old) (own_role self.old) ≤ room (D.file disk.new) (own_role self.old) + 2 }
         ensures formed { FormedFor (D.file disk.new) (own_role self.old) }
         ensures others { OnlyOfRole (own_role self.old) (D.file disk.old) (D.file disk.new) }
-        ensures stops { CountsStops (D.stops disk.old) (D.stops disk.new) result StoreFault.Stopped }
-        ensures arms { SameArms D.arms D.last_arm disk.old disk.new };
+        ensures counts { CountsCall (counts D.Disk disk.old) (counts D.Disk disk.new) result StoreFault.Stopped };
 
     /// Drops what the action has prepared; true where it was prepared. It takes no memory. States that a stopped commit
     /// of the action has committed stay.
@@ -139,8 +135,7 @@ pub trait ObjectStore: Sized {
         ensures room { room (D.file disk.old) (own_role self.old) ≤ room (D.file disk.new) (own_role self.old) }
         ensures formed { FormedFor (D.file disk.new) (own_role self.old) }
         ensures others { OnlyOfRole (own_role self.old) (D.file disk.old) (D.file disk.new) }
-        ensures stops { CountsStops (D.stops disk.old) (D.stops disk.new) result StoreFault.Stopped }
-        ensures arms { SameArms D.arms D.last_arm disk.old disk.new };
+        ensures counts { CountsCall (counts D.Disk disk.old) (counts D.Disk disk.new) result StoreFault.Stopped };
 
     /// The action that has prepared a new state of the object.
     fn holder(&self, uid: Uid) -> Option<Uid>

@@ -1,5 +1,6 @@
 use Rattle.std.proofs.Common.{◌<◌, ◌∙◌, arith, length}
 use Rattle.arj_store.proofs.Loops.{moves_more, no_shadow_more, releases_more, flags_more, in_at, move_others}
+use Rattle.arj_store.proofs.Counting.{counts_on}
 use Rattle.arj_store.proofs.moves.move_shadows.Goals as goal
 
 pub loop-uid-preserved : goal.loop-uid-preserved
@@ -11,8 +12,7 @@ loop-uid-preserved g c =
       gone = no_shadow_more c.args.objects.now c.loop-uid.uid-index (g.D.Disk.file c.loop-uid.disk) (g.D.Disk.file c.move_shadow.new.disk) _ within c.loop-uid.invariant.gone others c.in_ok-move_shadow.ensures.ok;
       released = releases_more c.args.objects.now c.loop-uid.uid-index _ _ _ _ within c.loop-uid.invariant.released c.move_shadow.ensures.taken;
       kept = flags_more c.args.objects.now (g.D.Disk.file c.loop-uid.disk) (g.D.Disk.file c.move_shadow.new.disk) _ _ _ c.loop-uid.invariant.kept c.move_shadow.ensures.taken c.in_ok-move_shadow.ensures.ok others;
-      stops = c.in_ok-move_shadow.ensures.stops.ok ∙ c.loop-uid.invariant.stops;
-      arms = record { number = c.move_shadow.ensures.arms.number ∙ c.loop-uid.invariant.arms.number; last = c.move_shadow.ensures.arms.last ∙ c.loop-uid.invariant.arms.last };
+      counts = counts_on c.in_ok-move_shadow.ensures.counts c.loop-uid.invariant.counts;
     }
 
 -- also where the call was stopped

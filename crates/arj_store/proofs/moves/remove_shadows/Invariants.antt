@@ -1,10 +1,11 @@
 use Rattle.std.proofs.Common.{◌≡◌, take, true}
 use Rattle.std.specs.Prelude.{is_some}
-use Rattle.arj_disk.specs.Disk.{SameArms}
 use Rattle.arj_disk.specs.declared.slot.Slot.TheVariants.{Shadow}
 use Rattle.arj_store.specs.Shadow.{is_in, has_shadow, Releases, PutsStates, HaveNoShadow}
 use Rattle.arj_store.specs.Table.{at}
 use Rattle.arj_store.specs.declared.prepare.Place.TheVariants as place
+use Rattle.arj_disk.specs.Counted.{counts}
+use Rattle.arj_store.proofs.Counting.{SameCounts}
 use Rattle.arj_store.proofs.moves.remove_shadows.Given as goal
 
 -- the objects so far have no shadow any more, and those of the others are as they are kept
@@ -14,6 +15,5 @@ invariant-loop-uid g l = record {
   gone : HaveNoShadow (take l.uid-index l.objects) (g.D.Disk.file l.disk);
   released : Releases (take l.uid-index l.objects) (at l.initial.holdings) (at l.holdings);
   kept : (u : _) → is_in l.objects u ≡ true → is_some (g.D.Disk.file l.disk (Shadow u)) ≡ has_shadow (at l.holdings u);
-  stops : g.D.Disk.stops l.disk ≡ g.D.Disk.stops l.initial.disk;
-  arms : SameArms g.D.Disk.arms g.D.Disk.last_arm l.initial.disk l.disk;
+  counts : SameCounts (counts g.D.Disk l.initial.disk) (counts g.D.Disk l.disk);
 }

@@ -1,5 +1,6 @@
 use Rattle.std.proofs.Common.{◌<◌, ◌∙◌, arith, length}
 use Rattle.arj_store.proofs.Puts.{step_puts, step_has}
+use Rattle.arj_store.proofs.Counting.{counts_on}
 use Rattle.arj_store.proofs.prepare.put_states.Goals as goal
 
 pub returns-in_err-put_state-clause-files : goal.returns-in_err-put_state-clause-files
@@ -16,6 +17,5 @@ loop-state-preserved g c =
           within c.state-item.is c.slot.ensures c.put_state.ensures.files c.loop-state.invariant.puts c.put_state.ensures.form;
       has = step_has c.args.place c.args.states.now c.loop-state.state-index c.state-item.result c.slot.result (g.D.Disk.file c.args.disk.now) (g.D.Disk.file c.loop-state.disk) (g.D.Disk.file c.put_state.new.disk)
           within c.state-item.is c.slot.ensures c.put_state.ensures.files c.requires.distinct c.loop-state.invariant.has c.in_ok-put_state.ensures.ok;
-      stops = c.in_ok-put_state.ensures.stops.ok ∙ c.loop-state.invariant.stops;
-      arms = record { number = c.put_state.ensures.arms.number ∙ c.loop-state.invariant.arms.number; last = c.put_state.ensures.arms.last ∙ c.loop-state.invariant.arms.last };
+      counts = counts_on c.in_ok-put_state.ensures.counts c.loop-state.invariant.counts;
     }

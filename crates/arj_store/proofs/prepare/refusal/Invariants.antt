@@ -1,7 +1,8 @@
 use Rattle.std.proofs.Common.{◌≡◌, take}
 use Rattle.std.specs.List.{AllByRecursion}
-use Rattle.arj_disk.specs.Disk.{SameArms}
 use Rattle.arj_store.specs.Pair.{IsClear}
+use Rattle.arj_disk.specs.Counted.{counts}
+use Rattle.arj_store.proofs.Counting.{SameCounts}
 use Rattle.arj_store.proofs.prepare.refusal.Given as goal
 
 -- nothing stands against the states so far
@@ -9,6 +10,5 @@ abbrev pub invariant-loop-state : goal.invariant-loop-state
 invariant-loop-state g l = record {
   clear : AllByRecursion (IsClear (g.D.Disk.file l.initial.disk) l.role l.act) (take l.state-index l.states);
   files : g.D.Disk.file l.disk ≡ g.D.Disk.file l.initial.disk;
-  stops : g.D.Disk.stops l.disk ≡ g.D.Disk.stops l.initial.disk;
-  arms : SameArms g.D.Disk.arms g.D.Disk.last_arm l.initial.disk l.disk;
+  counts : SameCounts (counts g.D.Disk l.initial.disk) (counts g.D.Disk l.disk);
 }

@@ -1,0 +1,6 @@
+-- The counts of any disk.
+use Rattle.arj_disk.specs.Disk.{Counts, counted}
+use Rattle.arj_disk.specs.declared.disk.Disk.{Ghosts}
+
+abbrev pub counts : {D : Type 0} → Ghosts D → D → Counts
+counts disk d = counted disk.stops disk.arms disk.last_arm d
