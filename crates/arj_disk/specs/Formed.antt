@@ -8,6 +8,7 @@ use Rattle.arj_base.specs.declared.state.ObjectState.{ObjectState}
 use Rattle.arj_base.specs.declared.uid.Uid.{Uid}
 use Rattle.arj_base.specs.State.{state_bytes, StateInForm}
 use Rattle.arj_base.specs.Uid.{uid_bytes, uid_eq, UidFits}
+use Rattle.arj_disk.specs.declared.limits.TheConstants.{MOST_KNOWN, MOST_PREPARED}
 use Rattle.arj_disk.specs.declared.slot.Role.{Role}
 use Rattle.arj_disk.specs.declared.slot.Role.TheVariants.{Store, Names}
 use Rattle.arj_disk.specs.declared.slot.Slot.TheVariants.{Incarnation, Committed, Shadow, Prepared, Intent}
@@ -23,7 +24,7 @@ abbrev pub prepared_bytes : Uid → List Uid → List ℕ
 prepared_bytes a us = codes "ARJP" ++ (uid_bytes a ++ (length us ∷ flat_map uid_bytes us))
 
 abbrev pub IsPreparedOf : Uid → List ℕ → Type 0
-IsPreparedOf a bytes = (us : List Uid) × UidFits a × AllByRecursion UidFits us × (length us < 256) × (bytes ≡ prepared_bytes a us)
+IsPreparedOf a bytes = (us : List Uid) × UidFits a × AllByRecursion UidFits us × (length us ≤ MOST_PREPARED) × (bytes ≡ prepared_bytes a us)
 
 -- `ARJI` and the incarnation
 abbrev pub incarnation_bytes : ℕ → List ℕ
@@ -57,7 +58,7 @@ pub record FormedFor (file : FileMap) (role : Role) : Type 0 where
   pub own : (a u : Uid) → names (pend file role a) u → role_of u ≡ role
   pub there : (a u : Uid) → names (pend file role a) u → IsSome (file (Shadow u)) ⊎ IsSome (file (Committed u))
   pub once : (a b u : Uid) → names (pend file role a) u → names (pend file role b) u → a ≡ b
-  pub few : AtMost 65535 (IsKnown file role)
+  pub few : AtMost MOST_KNOWN (IsKnown file role)
 
 -- A disk is formed: the files of both roles are, the incarnation is there, and it and each record are in their grammars
 -- and of their names.

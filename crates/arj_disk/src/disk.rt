@@ -3,6 +3,7 @@ ghost use Rattle.std.specs.Prelude.{◌≡◌, ◌≢◌, ◌⊎◌, ◌+◌, �
 ghost use Rattle.arj_disk.specs.Disk.{Same, SameBut, Writes, Removes, Renames, Lists, CountsCall, counted};
 ghost use Rattle.arj_disk.specs.declared.slot.Slot.{Slot};
 ghost use Rattle.arj_disk.specs.declared.slot.Outcome.{Outcome};
+ghost use Rattle.arj_disk.specs.declared.limits.TheConstants.{LAST_ARM};
 
 use crate::{Outcome, Slot, Slots};
 use arj_base::Bytes;
@@ -92,7 +93,7 @@ pub trait Disk {
     /// disk then stops is the disk's own.
     fn arm(&mut self, calls: u32, outcome: Outcome)
         requires calls { 1 ≤ calls }
-        requires arms { arms self.old < 4294967295 }
+        requires arms { arms self.old < LAST_ARM }
         ensures files { Same (file self.old) (file self.new) }
         ensures stops { stops self.new ≡ stops self.old }
         ensures arms { arms self.new ≡ arms self.old + 1 }

@@ -2,6 +2,7 @@
 ghost use Rattle.std.specs.Prelude.{◌≡◌, ◌+◌, ◌<◌, OnOk, OnErr, IfOk, IsSome};
 ghost use Rattle.arj_disk.specs.Disk.{Same, Writes, Removes, Renames, Lists};
 ghost use Rattle.arj_disk.specs.Stored.{stored};
+ghost use Rattle.arj_disk.specs.declared.limits.TheConstants.{LAST_ARM};
 
 use crate::{Outcome, Slot, Slots};
 use arj_base::Bytes;
@@ -117,7 +118,7 @@ impl Arms {
 
     /// One more, with these arguments.
     pub fn add(&mut self, calls: u32, outcome: Outcome)
-        requires { self.old.count < 4294967295 }
+        requires { self.old.count < LAST_ARM }
         ensures count { self.new.count ≡ self.old.count + 1 }
         ensures last { self.new.last ≡ Some (calls, outcome) }
     {

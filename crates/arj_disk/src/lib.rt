@@ -9,6 +9,7 @@
 mod disk;
 mod files;
 mod laws;
+mod limits;
 mod memory;
 mod putting;
 mod rack;
@@ -17,6 +18,7 @@ mod trigger;
 
 pub use disk::{Disk, DiskFault};
 pub use laws::{among_so_many, orders, roles_apart};
+pub use limits::{LAST_ARM, MOST_KNOWN, MOST_PREPARED};
 pub use memory::{MemDisk, SureDisk};
 pub use putting::put;
 pub use rack::Rack;

@@ -3,6 +3,7 @@ ghost use Rattle.std.specs.Prelude.{◌≡◌, ◌⊎◌, ◌+◌, ◌<◌, ◌�
 ghost use Rattle.arj_disk.specs.Armed.{armed, due, FollowsArm, LeftBy, IsNew, files_of, stops_of, arms_of, last_arm_of, counts_of};
 ghost use Rattle.arj_disk.specs.Disk.{Same, SameBut, Writes, Removes, Renames, Lists, CountsCall};
 ghost use Rattle.arj_disk.specs.Stored.{stored};
+ghost use Rattle.arj_disk.specs.declared.limits.TheConstants.{LAST_ARM};
 
 use crate::files::{Arms, Files};
 use crate::trigger::{Trigger, remove_stopped, rename_stopped, write_stopped};
@@ -125,7 +126,7 @@ impl Disk for MemDisk {
 
     fn arm(&mut self, calls: u32, outcome: Outcome)
         requires calls { 1 ≤ calls }
-        requires arms { arms_of self.old < 4294967295 }
+        requires arms { arms_of self.old < LAST_ARM }
         ensures files { Same (files_of self.old) (files_of self.new) }
         ensures stops { stops_of self.new ≡ stops_of self.old }
         ensures arms { arms_of self.new ≡ arms_of self.old + 1 }

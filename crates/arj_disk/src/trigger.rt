@@ -4,6 +4,7 @@ ghost use Rattle.arj_base.specs.Count.{Rose};
 ghost use Rattle.arj_disk.specs.Armed.{armed_by, due, one_less, LeftBy};
 ghost use Rattle.arj_disk.specs.Disk.{Same, Writes, Removes, Renames};
 ghost use Rattle.arj_disk.specs.Stored.{stored};
+ghost use Rattle.arj_disk.specs.declared.limits.TheConstants.{LAST_ARM};
 
 use crate::files::{Arms, Files};
 use crate::{DiskFault, Outcome, Slot};
@@ -68,7 +69,7 @@ impl Trigger {
 
     /// One more arm, in the place of the one that waits.
     pub fn set(&mut self, calls: u32, outcome: Outcome)
-        requires { self.old.arms.count < 4294967295 }
+        requires { self.old.arms.count < LAST_ARM }
         ensures count { self.new.arms.count ≡ self.old.arms.count + 1 }
         ensures last { self.new.arms.last ≡ Some (calls, outcome) }
         ensures stops { self.new.stops ≡ self.old.stops }

@@ -1,31 +1,17 @@
 -- Shadows of objects that no action names change neither map of the pair, and disks stay formed.
-use Rattle.std.proofs.Common.{◌≡◌, ◌⊎◌, ◌∙◌, Bool, true, false, ◌||◌, List, [], ◌∷◌, ℕ, refl, sym, ap, subst, inl, inr, ⊎_elim, Option, Some, None}
+use Rattle.std.proofs.Common.{◌≡◌, ◌⊎◌, ◌∙◌, true, List, refl, sym, ap, subst, inl, inr, ⊎_elim, Option, Some, None}
 use Rattle.std.specs.Prelude.{IsSome, is_some, IfSome, option_map}
-use Rattle.arj_base.specs.Uid.{uid_eq}
 use Rattle.arj_base.specs.declared.uid.Uid.{Uid}
 use Rattle.arj_disk.specs.declared.slot.Role.{Role}
 use Rattle.arj_disk.specs.declared.slot.Slot.TheVariants as slot
-use Rattle.arj_disk.specs.Files.{FileMap}
+use Rattle.arj_disk.specs.FileMap.{FileMap}
 use Rattle.arj_disk.specs.Formed.{FormedFor, IsStateOf, IsPreparedOf}
 use Rattle.arj_disk.specs.Says.{role_of, slot_role, held, pend, names, new_state, InDoubt, OnlyOfRole}
-use Rattle.arj_store.specs.Pair.{SamePair}
-use Rattle.arj_store.specs.Shadow.{is_in, is_named, objects_of, ChangesStates}
+use Rattle.arj_store.specs.OfFiles.{SamePair}
+use Rattle.arj_store.specs.Shadow.{is_named, objects_of, ChangesStates}
 use Rattle.arj_store.specs.declared.prepare.Place.TheVariants as place
-use Rattle.arj_store.proofs.Pairs.{names_if, pend_is, same_held, same_new, with_each}
+use Rattle.arj_store.specs.Named.{each_same, names_if, pend_is, same_held, same_new, with_each}
 use Rattle.arj_store.proofs.Files.{fewer}
-use Rattle.arj_store.proofs.Uids.{uid_same}
-
--- two functions that agree on the objects of a list give the same states
-pub each_same : (f g : Uid → List ℕ) (us : List Uid) → ((u : Uid) → is_in us u ≡ true → f u ≡ g u) → with_each f us ≡ with_each g us
-each_same f g [] same = refl
-each_same f g (u ∷ us) same = λ i. (u, same u (ap (λ b. b || is_in us u) (uid_same u)) i) ∷ each_same f g us (λ w is. same w (more w is)) i
-  where
-    more : (w : Uid) → is_in us w ≡ true → (uid_eq w u || is_in us w) ≡ true
-    more w is = by (uid_eq w u)
-      where
-        by : (b : Bool) → (b || is_in us w) ≡ true
-        by true = refl
-        by false = is
 
 -- where an action's file is the same, and so are the new states of what it names, so is what it has prepared
 pub same_named : (old new : FileMap) (role : Role) (a : Uid) → new (slot.Prepared role a) ≡ old (slot.Prepared role a)

@@ -5,18 +5,18 @@ use Rattle.arj_base.specs.declared.uid.Uid.{Uid}
 use Rattle.arj_disk.specs.declared.slot.Role.{Role}
 use Rattle.arj_disk.specs.declared.slot.Slot.TheVariants as slot
 use Rattle.arj_disk.specs.Disk.{Removes, Same}
-use Rattle.arj_disk.specs.Files.{FileMap}
+use Rattle.arj_disk.specs.FileMap.{FileMap}
 use Rattle.arj_disk.specs.Formed.{FormedFor, IsStateOf}
 use Rattle.arj_disk.specs.Says.{role_of, pend, names, InDoubt, OnlyOfRole}
 use Rattle.arj_store.specs.declared.memory.Holding.{Holding}
 use Rattle.arj_store.specs.declared.prepare.Place.TheVariants as place
-use Rattle.arj_store.specs.Pair.{SamePair, Drops, Moves, MovesSome}
+use Rattle.arj_store.specs.OfFiles.{SamePair, Drops, Moves, MovesSome}
 use Rattle.arj_store.specs.Shadow.{is_in, is_named, objects_of, has_shadow, Keeps, Releases, MovesShadows, HaveNoShadow, PutsStates}
 use Rattle.arj_store.specs.Table.{Sets}
 use Rattle.arj_store.proofs.Changes.{changed_pair, changed_formed, changed_of_role, shadow_cases, same_prepared}
 use Rattle.arj_store.proofs.Files.{moves_some, moves_all, moved_formed, moved_of_role, moved_pend, moved_file, removed_drops, removed_names, removed_formed, removed_of_role}
 use Rattle.arj_store.proofs.Keeping.{ended_keeps}
-use Rattle.arj_store.proofs.Pairs.{names_if}
+use Rattle.arj_store.specs.Named.{names_if}
 
 -- files that are the same everywhere are the same
 pub same_files : (old new : FileMap) → Same old new → old ≡ new

@@ -13,12 +13,12 @@ use Rattle.arj_disk.specs.declared.slot.Role.{Role}
 use Rattle.arj_disk.specs.declared.slot.Slot.{Slot}
 use Rattle.arj_disk.specs.declared.slot.Slot.TheVariants.{Incarnation, Tmp, Committed, Shadow, Prepared, Intent}
 use Rattle.arj_disk.specs.Disk.{Lists}
-use Rattle.arj_disk.specs.Files.{FileMap}
+use Rattle.arj_disk.specs.FileMap.{FileMap}
 use Rattle.arj_disk.specs.Formed.{FormedFor, IsKnown, AtMost}
 use Rattle.arj_disk.specs.Says.{role_of, held, pend, names}
 use Rattle.arj_store.specs.Pair.{AreDistinct, uid_of}
 use Rattle.arj_store.proofs.Formatted.{uid_equivalence}
-use Rattle.arj_store.proofs.Pairs.{held_of_role}
+use Rattle.arj_store.specs.Named.{held_of_role}
 use Rattle.arj_store.proofs.Prepared.{among}
 use Rattle.arj_store.proofs.Puts.{length_map}
 

@@ -6,12 +6,13 @@ use Rattle.arj_base.specs.declared.uid.Uid.{Uid}
 use Rattle.arj_disk.specs.declared.slot.Role.{Role}
 use Rattle.arj_disk.specs.declared.slot.Slot.TheVariants as slot
 use Rattle.arj_disk.specs.Disk.{Removes}
-use Rattle.arj_disk.specs.Files.{FileMap}
+use Rattle.arj_disk.specs.FileMap.{FileMap}
 use Rattle.arj_disk.specs.Formed.{FormedFor, IsStateOf, IsPreparedOf, IsKnown}
 use Rattle.arj_disk.specs.Says.{role_of, slot_role, held, pend, names, new_state, first_file, OnlyOfRole}
-use Rattle.arj_store.specs.Pair.{Drops, MovesSome, held_after, newer}
+use Rattle.arj_store.specs.OfFiles.{Drops, MovesSome}
+use Rattle.arj_store.specs.Pair.{held_after, newer}
 use Rattle.arj_store.specs.Shadow.{is_in, is_named, objects_of, MovesShadows, HaveNoShadow}
-use Rattle.arj_store.proofs.Pairs.{names_if, pend_of, same_pend, same_held, same_new, held_own, new_of_each, nothing_of_each, with_each}
+use Rattle.arj_store.specs.Named.{names_if, pend_of, same_pend, same_held, same_new, held_own, new_of_each, nothing_of_each, with_each}
 use Rattle.arj_store.proofs.Uids.{uid_cases}
 
 -- known objects of the new files were known before: then there are not too many

@@ -16,19 +16,20 @@ use Rattle.arj_disk.specs.declared.slot.Role.TheVariants.{Names}
 use Rattle.arj_disk.specs.declared.slot.Slot.{Slot}
 use Rattle.arj_disk.specs.declared.slot.Slot.TheVariants as slot
 use Rattle.arj_disk.specs.Disk.{Lists}
-use Rattle.arj_disk.specs.Files.{FileMap}
+use Rattle.arj_disk.specs.FileMap.{FileMap}
 use Rattle.arj_disk.specs.Formed.{FormedFor}
 use Rattle.arj_disk.specs.Says.{role_of, role_eq, held, pend, new_state, first_file}
 use Rattle.arj_store.specs.declared.memory.Holding.{Holding}
 use Rattle.arj_store.specs.declared.answer.Found.{Found}
 use Rattle.arj_store.specs.declared.prepare.Place.{Place}
 use Rattle.arj_store.specs.declared.prepare.Place.TheVariants as place
-use Rattle.arj_store.specs.Pair.{uid_order, SamePair, IsHeld, FindsPair, packed, uid_of}
+use Rattle.arj_store.specs.OfFiles.{SamePair, IsHeld, FindsPair}
+use Rattle.arj_store.specs.Pair.{uid_order, packed, uid_of}
 use Rattle.arj_store.specs.Recovery.{IsStateAt, ListsHeld, entry_at, entries_in, HasEntry, HasRead, HasReadOf, first_state, newest, HasStatesOf, ListsPrepared}
 use Rattle.arj_store.specs.Shadow.{is_in, is_named, objects_of, has_shadow, Keeps}
 use Rattle.arj_store.specs.Table.{Sets, AreValuesOf}
 use Rattle.arj_store.proofs.Lists.{all_more}
-use Rattle.arj_store.proofs.Pairs.{names_if, pend_of, pend_none, with_each, held_own, held_of_role, role_is}
+use Rattle.arj_store.specs.Named.{names_if, pend_of, pend_none, with_each, held_own, held_of_role, role_is}
 use Rattle.arj_store.proofs.Readings.{is_held}
 use Rattle.arj_store.proofs.Uids.{uid_is, uid_same, uid_other, uid_cases, in_more}
 

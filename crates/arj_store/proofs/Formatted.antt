@@ -9,14 +9,15 @@ use Rattle.arj_base.specs.declared.uid.Uid.{Uid}
 use Rattle.arj_disk.specs.declared.slot.Role.{Role}
 use Rattle.arj_disk.specs.declared.slot.Slot.{Slot}
 use Rattle.arj_disk.specs.declared.slot.Slot.TheVariants as slot
-use Rattle.arj_disk.specs.Files.{FileMap}
+use Rattle.arj_disk.specs.FileMap.{FileMap}
 use Rattle.arj_disk.specs.Formed.{FormedFor, IsStateOf, IsPreparedOf}
 use Rattle.arj_disk.specs.Says.{role_of, slot_role, held, pend, names, OnlyOfRole}
 use Rattle.arj_store.specs.declared.memory.Holding.{Holding}
 use Rattle.arj_store.specs.declared.prepare.Place.TheVariants as place
-use Rattle.arj_store.specs.Pair.{HasOnly, uid_of}
+use Rattle.arj_store.specs.OfFiles.{HasOnly}
+use Rattle.arj_store.specs.Pair.{uid_of}
 use Rattle.arj_store.specs.Shadow.{is_in, is_named, objects_of, has_shadow, Keeps, PutsStates, HasStates}
-use Rattle.arj_store.proofs.Pairs.{held_own, held_of_role}
+use Rattle.arj_store.specs.Named.{held_own, held_of_role}
 use Rattle.arj_store.proofs.Prepared.{all_in, among}
 use Rattle.arj_store.proofs.Puts.{length_map}
 use Rattle.arj_store.proofs.Uids.{uid_is, uid_same}

@@ -7,15 +7,16 @@ use Rattle.arj_base.specs.declared.uid.Uid.{Uid}
 use Rattle.arj_base.specs.declared.state.ObjectState.{ObjectState}
 use Rattle.arj_disk.specs.declared.slot.Role.{Role}
 use Rattle.arj_disk.specs.declared.slot.Slot.TheVariants as slot
-use Rattle.arj_disk.specs.Files.{FileMap}
+use Rattle.arj_disk.specs.FileMap.{FileMap}
 use Rattle.arj_disk.specs.Formed.{FormedFor, IsStateOf}
 use Rattle.arj_disk.specs.Says.{role_of, pend, names, named_in, InDoubt}
 use Rattle.arj_store.specs.declared.memory.Holding.{Holding}
 use Rattle.arj_store.specs.declared.prepare.Place.TheVariants as place
-use Rattle.arj_store.specs.Pair.{IsClear, uid_of}
+use Rattle.arj_store.specs.OfFiles.{IsClear}
+use Rattle.arj_store.specs.Pair.{uid_of}
 use Rattle.arj_store.specs.Shadow.{is_in, is_named, objects_of, has_shadow, Keeps, Releases, HoldsAll, MovesShadows, HaveNoShadow, PutsStates, PutsAll}
 use Rattle.arj_store.specs.Table.{Sets}
-use Rattle.arj_store.proofs.Pairs.{names_if, named_if}
+use Rattle.arj_store.specs.Named.{names_if, named_if}
 use Rattle.arj_store.proofs.Changes.{shadow_cases, same_prepared}
 use Rattle.arj_store.proofs.Prepared.{put_objects, own, free}
 use Rattle.arj_store.proofs.Uids.{uid_cases}

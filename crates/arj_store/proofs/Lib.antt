@@ -7,13 +7,14 @@ pub mod Files
 pub mod Finding
 pub mod Formatted
 pub mod Keeping
+pub mod Known
 pub mod Lists
 pub mod Loops
-pub mod Pairs
 pub mod Prepared
 pub mod Prepares
 pub mod Puts
 pub mod Readings
 pub mod Recovering
 pub mod Refusals
+pub mod Rows
 pub mod Uids

@@ -8,13 +8,14 @@ use Rattle.arj_base.specs.declared.state.ObjectState.{ObjectState}
 use Rattle.arj_base.specs.declared.uid.Uid.{Uid}
 use Rattle.arj_disk.specs.declared.slot.Role.{Role}
 use Rattle.arj_disk.specs.declared.slot.Slot.TheVariants as slot
-use Rattle.arj_disk.specs.Files.{FileMap}
+use Rattle.arj_disk.specs.FileMap.{FileMap}
 use Rattle.arj_disk.specs.Formed.{FormedFor, IsStateOf, IsPreparedOf, IsKnown, AtMost}
 use Rattle.arj_disk.specs.Says.{role_of, slot_role, held, pend, names, new_state, named_in, first_file, InDoubt, OnlyOfRole}
-use Rattle.arj_store.specs.Pair.{SamePair, Adds, IsClear, uid_of, packed}
+use Rattle.arj_store.specs.OfFiles.{SamePair, Adds, IsClear}
+use Rattle.arj_store.specs.Pair.{uid_of, packed}
 use Rattle.arj_store.specs.Shadow.{is_in, is_named, objects_of, PutsStates, PutsAll, HasStates}
 use Rattle.arj_store.specs.declared.prepare.Place.TheVariants as place
-use Rattle.arj_store.proofs.Pairs.{named_if, pend_of, same_pend, same_held, same_new, with_each}
+use Rattle.arj_store.specs.Named.{named_if, pend_of, same_pend, same_held, same_new, with_each}
 use Rattle.arj_store.proofs.Bytes.{named_back}
 use Rattle.arj_store.proofs.Changes.{changed_pair, changed_formed, changed_of_role}
 use Rattle.arj_store.proofs.Uids.{uid_is, uid_cases}

@@ -5,19 +5,20 @@ use Rattle.std.specs.List.{AllByRecursion}
 use Rattle.arj_base.specs.declared.state.ObjectState.{ObjectState}
 use Rattle.arj_base.specs.declared.uid.Uid.{Uid}
 use Rattle.arj_disk.specs.declared.slot.Role.{Role}
-use Rattle.arj_disk.specs.Files.{FileMap}
+use Rattle.arj_disk.specs.FileMap.{FileMap}
 use Rattle.arj_disk.specs.Formed.{FormedFor, IsKnown, AtMost}
 use Rattle.arj_disk.specs.Says.{role_of, pend, OnlyOfRole}
 use Rattle.arj_store.specs.declared.answer.Prep.{Prep}
 use Rattle.arj_store.specs.declared.answer.Prep.TheVariants as prep
 use Rattle.arj_store.specs.declared.memory.Holding.{Holding}
 use Rattle.arj_store.specs.declared.prepare.Place.TheVariants as place
-use Rattle.arj_store.specs.Pair.{SamePair, IsClear, IsRefused, Prepares, AnswersPrepare, uid_of}
+use Rattle.arj_store.specs.OfFiles.{SamePair, IsClear, IsRefused, Prepares, AnswersPrepare}
+use Rattle.arj_store.specs.Pair.{uid_of}
 use Rattle.arj_store.specs.Shadow.{objects_of, Keeps, HoldsAll, PutsStates, PutsAll}
 use Rattle.arj_store.specs.Table.{Sets}
 use Rattle.arj_store.proofs.Ends.{same_pair}
 use Rattle.arj_store.proofs.Keeping.{put_keeps}
-use Rattle.arj_store.proofs.Pairs.{pend_none}
+use Rattle.arj_store.specs.Named.{pend_none}
 use Rattle.arj_store.proofs.Prepared.{shadows_pair, shadows_formed, shadows_of_role, put_adds, put_formed, put_of_role}
 
 -- nothing is kept for the action

@@ -10,7 +10,7 @@ use Rattle.arj_disk.specs.Disk.{PutsOrNot}
 use Rattle.arj_disk.specs.declared.slot.Role.{Role}
 use Rattle.arj_disk.specs.declared.slot.Slot.{Slot}
 use Rattle.arj_disk.specs.declared.slot.Slot.TheVariants as slot
-use Rattle.arj_disk.specs.Files.{FileMap}
+use Rattle.arj_disk.specs.FileMap.{FileMap}
 use Rattle.arj_disk.specs.Formed.{IsStateOf, IsPreparedOf, prepared_bytes}
 use Rattle.arj_store.specs.declared.prepare.Place.{Place}
 use Rattle.arj_store.specs.declared.prepare.Place.TheVariants as place

@@ -4,15 +4,15 @@ use Rattle.std.specs.Prelude.{MatchOption}
 use Rattle.arj_base.specs.declared.state.ObjectState.{ObjectState}
 use Rattle.arj_base.specs.declared.uid.Uid.{Uid}
 use Rattle.arj_disk.specs.declared.slot.Role.{Role}
-use Rattle.arj_disk.specs.Files.{FileMap}
+use Rattle.arj_disk.specs.FileMap.{FileMap}
 use Rattle.arj_disk.specs.Says.{role_of, pend, names, InDoubt}
 use Rattle.arj_store.specs.declared.memory.Holding.{Holding}
 use Rattle.arj_store.specs.declared.prepare.Place.TheVariants as place
-use Rattle.arj_store.specs.Pair.{IsHeld}
+use Rattle.arj_store.specs.OfFiles.{IsHeld}
 use Rattle.arj_store.specs.Recovery.{IsStateAt}
 use Rattle.arj_store.specs.Shadow.{Keeps}
 use Rattle.arj_store.proofs.Keeping.{holder_named}
-use Rattle.arj_store.proofs.Pairs.{held_own}
+use Rattle.arj_store.specs.Named.{held_own}
 
 -- the object is held by this action
 pub named_holder : (role : Role) (actions : Uid → Option (List Uid)) (holdings : Uid → Option Holding) (file : FileMap) → Keeps role actions holdings file → (u : Uid) (h : Holding) → holdings u ≡ Some h → names (pend file role h.act) u

@@ -9,16 +9,16 @@ use Rattle.arj_disk.specs.declared.slot.Role.{Role}
 use Rattle.arj_disk.specs.declared.slot.Slot.{Slot}
 use Rattle.arj_disk.specs.declared.slot.Slot.TheVariants as slot
 use Rattle.arj_disk.specs.Disk.{Removes, Lists}
-use Rattle.arj_disk.specs.Files.{FileMap}
+use Rattle.arj_disk.specs.FileMap.{FileMap}
 use Rattle.arj_disk.specs.Formed.{FormedFor, IsStateOf}
 use Rattle.arj_disk.specs.Says.{role_of, named_in, InDoubt, OnlyOfRole}
 use Rattle.arj_store.specs.declared.memory.Holding.{Holding}
-use Rattle.arj_store.specs.Pair.{SamePair}
+use Rattle.arj_store.specs.OfFiles.{SamePair}
 use Rattle.arj_store.specs.Recovery.{ReadsAction, ReadsSlot, ReadsActions, SortsShadow, SortsSlot, SortsShadows, DropsShadow, DropsShadows, IsUnheld, act_of}
 use Rattle.arj_store.specs.Shadow.{is_in, is_named, objects_of, has_shadow, Keeps, HoldsAll}
 use Rattle.arj_store.specs.Table.{Sets, SameTable}
 use Rattle.arj_store.proofs.Changes.{changed_pair, changed_formed, changed_of_role, same_prepared}
-use Rattle.arj_store.proofs.Pairs.{named_if}
+use Rattle.arj_store.specs.Named.{named_if}
 use Rattle.arj_store.proofs.Uids.{uid_cases, slot_cases}
 
 -- a list of one

@@ -1,11 +1,11 @@
 -- Uids, lists of them, and tables under them.
-use Rattle.std.proofs.Common.{◌≡◌, ◌≢◌, ◌⊎◌, ◌∙◌, true, false, ◌==◌, ◌&&◌, ◌||◌, List, [], ◌∷◌, ◌++◌, rules, arith, refl, sym, ap, inl, inr, ⊎_elim, map, Option, None, Some, length}
+use Rattle.std.proofs.Common.{◌≡◌, ◌≢◌, ◌⊎◌, ◌∙◌, true, false, ◌||◌, List, [], ◌∷◌, ◌++◌, rules, arith, refl, sym, ap, inl, inr, ⊎_elim, map, Option, None, Some, length}
 use Rattle.std.specs.BTreeMap.{is_at}
 use Rattle.std.specs.List.{All}
 use Rattle.std.specs.Map.{lookup, keys_of, values_of}
 use Rattle.std.specs.declared.cmp.Ordering.{Ordering}
 use Rattle.std.specs.declared.cmp.Ordering.TheVariants.{Less, Equal, Greater}
-use Rattle.std.proofs.lemmas.Bool.{eq-eqb, eqb-true, and_parts, cases_Bool}
+use Rattle.std.proofs.lemmas.Bool.{cases_Bool}
 use Rattle.std.proofs.lemmas.Cmp.{tied_itself}
 use Rattle.std.proofs.lemmas.List.Elements.{All-head, All-tail}
 use Rattle.std.proofs.lemmas.List.Folds.{list_any-append}
@@ -15,17 +15,9 @@ use Rattle.arj_base.specs.contracts.uid.UidOrd.TheImpl.Laws.{total-law}
 use Rattle.arj_disk.specs.declared.slot.Slot.{Slot}
 use Rattle.arj_disk.specs.contracts.slot.SlotOrd.TheImpl.Laws.{total-law as slot-law}
 use Rattle.arj_disk.specs.Stored.{slot_cmp}
+pub use Rattle.arj_store.specs.Named.{uid_same, uid_is}
 use Rattle.arj_store.specs.Shadow.{is_in}
 use Rattle.arj_store.specs.Table.{uid_cmp}
-
-pub uid_same : (u : Uid) → uid_eq u u ≡ true
-uid_same u = λ i. eq-eqb u.node u.node refl i && (eq-eqb u.inc u.inc refl i && eq-eqb u.num u.num refl i)
-
-pub uid_is : (u w : Uid) → uid_eq u w ≡ true → u ≡ w
-uid_is u w e =
-    let p = and_parts (u.node == w.node) ((u.inc == w.inc) && (u.num == w.num)) e in
-    let q = and_parts (u.inc == w.inc) (u.num == w.num) p.1 in
-    λ i. record { node = eqb-true u.node w.node p.0 i; inc = eqb-true u.inc w.inc q.0 i; num = eqb-true u.num w.num q.1 i }
 
 pub uid_isnt : (u w : Uid) → uid_eq u w ≡ false → u ≢ w
 uid_isnt u w e same = let never : true ≡ false = sym (uid_same u) ∙ ap (uid_eq u) same ∙ e in cc

@@ -4,7 +4,7 @@ use Rattle.std.specs.Prelude.{true, false, List, Option, Some, None, is_some, op
 use Rattle.arj_base.specs.declared.uid.Uid.{Uid}
 use Rattle.arj_disk.specs.declared.slot.Role.{Role}
 use Rattle.arj_disk.specs.declared.slot.Slot.TheVariants as slot
-use Rattle.arj_disk.specs.Files.{FileMap}
+use Rattle.arj_disk.specs.FileMap.{FileMap}
 use Rattle.arj_disk.specs.Says.{SameOfRole, named_in}
 use Rattle.arj_store.specs.declared.memory.Holding.{Holding}
 use Rattle.arj_store.specs.declared.shadow.ShadowStore.{ShadowStore}

@@ -1,6 +1,6 @@
 -- What the shadow store keeps of the files of its role.
 use Rattle.arj_disk.specs.declared.slot.Role.{Role}
-use Rattle.arj_disk.specs.Files.{FileMap}
+use Rattle.arj_disk.specs.FileMap.{FileMap}
 use Rattle.arj_store.specs.declared.answer.Found.{Found}
 use Rattle.arj_store.specs.declared.shadow.ShadowStore.{ShadowStore}
 use Rattle.arj_store.specs.Shadow.{PendingKeeps}

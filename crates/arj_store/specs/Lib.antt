@@ -1,7 +1,11 @@
+pub mod Effects
 pub mod Fault
 pub mod Kept
 pub mod KeepsOn
+pub mod Named
+pub mod OfFiles
 pub mod Pair
 pub mod Recovery
 pub mod Shadow
+pub mod Stays
 pub mod Table

@@ -9,10 +9,10 @@ use Rattle.arj_disk.specs.declared.slot.Role.{Role}
 use Rattle.arj_disk.specs.declared.slot.Slot.{Slot}
 use Rattle.arj_disk.specs.declared.slot.Slot.TheVariants.{Tmp, Committed, Shadow, Prepared}
 use Rattle.arj_disk.specs.Disk.{Renames}
-use Rattle.arj_disk.specs.Files.{FileMap}
+use Rattle.arj_disk.specs.FileMap.{FileMap}
 use Rattle.arj_disk.specs.Formed.{IsStateOf, IsPreparedOf, prepared_bytes}
 use Rattle.arj_disk.specs.Says.{role_of, named_in}
-use Rattle.arj_store.specs.Pair.{uid_of}
+use Rattle.arj_store.specs.Pair.{uid_of, MayFollow}
 use Rattle.arj_store.specs.declared.answer.Prep.{Prep}
 use Rattle.arj_store.specs.declared.answer.Prep.TheVariants as prep
 use Rattle.arj_store.specs.declared.prepare.Place.{Place}
@@ -114,7 +114,7 @@ IsBelow s t = (s.version < t.version) ⊎ ((s.version ≡ t.version) × (state_b
 
 -- the answer by the committed state
 abbrev pub HeldRefuses : Uid → ObjectState → ObjectState → Option Prep → Type 0
-HeldRefuses act s t None = (t.writer ≢ act) × (IsBelow s t → ⊥)
+HeldRefuses act s t None = MayFollow act s t
 HeldRefuses act s t (Some prep.Prepared) = ⊥
 HeldRefuses act s t (Some (prep.Already uid by)) = (uid ≡ s.uid) × (by ≡ act) × (t.writer ≡ act)
 HeldRefuses act s t (Some (prep.Old uid v)) = (uid ≡ s.uid) × (t.writer ≢ act) × (v ≡ t.version) × IsBelow s t

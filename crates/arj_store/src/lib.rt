@@ -6,6 +6,8 @@
 #![tactic(auto)]
 
 mod answer;
+mod laws;
+mod limits;
 mod memory;
 mod moves;
 mod packed;
@@ -16,6 +18,8 @@ mod store;
 mod table;
 
 pub use answer::{Found, Pends, Prep, Read, States, StoreFault};
+pub use laws::{calls_are_effects, known_objects};
+pub use limits::MOST_ROOM;
 pub use shadow::ShadowStore;
 pub use store::ObjectStore;
 
@@ -25,3 +29,5 @@ mod recorder;
 mod tables;
 #[cfg(test)]
 mod tests;
+#[cfg(test)]
+mod uses;

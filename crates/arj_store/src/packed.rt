@@ -11,6 +11,7 @@ ghost use Rattle.arj_disk.specs.Formed.{IsStateOf, IsPreparedOf, prepared_bytes}
 ghost use Rattle.arj_disk.specs.Says.{named_in};
 ghost use Rattle.arj_store.specs.Recovery.{IsStateAt};
 ghost use Rattle.arj_store.specs.Shadow.{slot_at};
+ghost use Rattle.arj_disk.specs.declared.limits.TheConstants.{MOST_PREPARED};
 
 use crate::StoreFault;
 use crate::prepare::Place;
@@ -56,7 +57,7 @@ fn unpack_formed(alloc: Global, uid: Uid, bytes: &[u8]) -> Result<ObjectState, A
 /// The file of a prepared action: `ARJP`, the action, the count of its objects, and the objects.
 #[tactic(auto, using(std::proofs::lemmas::List::append_assoc))]
 pub fn prepared_file(alloc: Global, act: Uid, objects: &[Uid]) -> Result<Bytes, AllocError>
-    requires { length objects.now ≤ 255 }
+    requires { length objects.now ≤ MOST_PREPARED }
     ensures bytes { IfOk result (λ bytes. bytes ≡ prepared_bytes act objects.now) }
     ensures form { IfOk result (IsPreparedOf act) }
     ensures fit { OnOk result (AllByRecursion UidFits objects.now) }

@@ -1,5 +1,5 @@
 // The preparing of new states.
-ghost use Rattle.std.specs.Prelude.{◌≡◌, ◌≢◌, ◌⊎◌, ◌≤◌, true, None, Some, length, map, option_map, IfOk, OnOk, IfSome, MatchOption, ◌↔◌};
+ghost use Rattle.std.specs.Prelude.{◌≡◌, ◌≢◌, ◌⊎◌, ◌≤◌, true, false, None, Some, length, map, option_map, IfOk, OnOk, IfSome, MatchOption, ◌↔◌};
 ghost use Rattle.std.specs.List.{AllByRecursion, IsDistinct};
 ghost use Rattle.arj_base.specs.State.{state_bytes, StateInForm};
 ghost use Rattle.arj_base.specs.Uid.{uid_eq};
@@ -7,10 +7,13 @@ ghost use Rattle.arj_disk.specs.Counted.{counts};
 ghost use Rattle.arj_disk.specs.Disk.{CountsCall, PutsOrNot};
 ghost use Rattle.arj_disk.specs.Formed.{FormedFor, IsStateOf};
 ghost use Rattle.arj_disk.specs.Says.{role_of};
-ghost use Rattle.arj_store.specs.Pair.{Refuses, IsRefused, IsClear, uid_of};
+ghost use Rattle.arj_store.specs.OfFiles.{Refuses, IsRefused, IsClear};
+ghost use Rattle.arj_store.specs.Pair.{uid_of, IsNoOlder};
 ghost use Rattle.arj_store.specs.Shadow.{PendingKeeps, PutsStates, HasStates, PutsAll, IsBelow, HeldRefuses, slot_at};
 ghost use Rattle.arj_store.specs.Table.{at};
 ghost use Rattle.arj_disk.specs.declared.slot.Slot.{Slot};
+ghost use Rattle.arj_base.specs.declared.limits.TheConstants.{MOST_BYTES};
+ghost use Rattle.arj_disk.specs.declared.limits.TheConstants.{MOST_PREPARED};
 
 use crate::memory::Pending;
 use crate::packed::{prepared_file, read_state};
@@ -50,7 +53,7 @@ pub fn refusal<D: Disk>(
     requires formed { FormedFor (D.file disk.old) role }
     requires keeps { PendingKeeps role pending.now (D.file disk.old) }
     requires own { AllByRecursion (λ s. role_of s.uid ≡ role) states.now }
-    requires sizes { AllByRecursion (λ s. length (state_bytes s) ≤ 65535) states.now }
+    requires sizes { AllByRecursion (λ s. length (state_bytes s) ≤ MOST_BYTES) states.now }
     ensures answer { IfOk result (λ refusal. MatchOption refusal (AllByRecursion (IsClear (D.file disk.old) role act) states.now) (IsRefused (D.file disk.old) role act states.now)) }
     ensures files { D.file disk.new ≡ D.file disk.old }
     ensures counts { CountsCall (counts D.Disk disk.old) (counts D.Disk disk.new) result StoreFault.Stopped }
@@ -76,7 +79,7 @@ fn refusal_of<D: Disk>(
     requires formed { FormedFor (D.file disk.old) role }
     requires keeps { PendingKeeps role pending.now (D.file disk.old) }
     requires own { role_of state.now.uid ≡ role }
-    requires size { length (state_bytes state.now) ≤ 65535 }
+    requires size { length (state_bytes state.now) ≤ MOST_BYTES }
     ensures answer { IfOk result (λ refusal. MatchOption refusal (IsClear (D.file disk.old) role act state.now) (Refuses (D.file disk.old) role act state.now)) }
     ensures files { D.file disk.new ≡ D.file disk.old }
     ensures counts { CountsCall (counts D.Disk disk.old) (counts D.Disk disk.new) result StoreFault.Stopped }
@@ -110,7 +113,7 @@ fn refused_by(
     state: &ObjectState,
     held: &ObjectState,
 ) -> Result<Option<Prep>, AllocError>
-    requires size { length (state_bytes state.now) ≤ 65535 }
+    requires size { length (state_bytes state.now) ≤ MOST_BYTES }
     requires held { StateInForm held.now }
     ensures { IfOk result (HeldRefuses act state.now held.now) }
 {
@@ -129,9 +132,10 @@ fn refused_by(
 
 // Whether a state has a lower version than the one that is there, or the same and other bytes.
 fn is_below(alloc: Global, state: &ObjectState, held: &ObjectState) -> Result<bool, AllocError>
-    requires size { length (state_bytes state.now) ≤ 65535 }
+    requires size { length (state_bytes state.now) ≤ MOST_BYTES }
     requires held { StateInForm held.now }
-    ensures { IfOk result (λ below. (below ≡ true) ↔ IsBelow state.now held.now) }
+    ensures below { IfOk result (λ below. below ≡ true → IsBelow state.now held.now) }
+    ensures other { IfOk result (λ below. below ≡ false → IsNoOlder state.now held.now) }
 {
     if state.version != held.version {
         return Ok(state.version < held.version);
@@ -151,9 +155,9 @@ pub fn put_prepared<D: Disk>(
     objects: &[Uid],
 ) -> Result<(), StoreFault>
     requires objects { objects.now ≡ map uid_of states.now }
-    requires count { length objects.now ≤ 255 }
+    requires count { length objects.now ≤ MOST_PREPARED }
     requires distinct { IsDistinct uid_eq (map uid_of states.now) }
-    requires sizes { AllByRecursion (λ s. length (state_bytes s) ≤ 65535) states.now }
+    requires sizes { AllByRecursion (λ s. length (state_bytes s) ≤ MOST_BYTES) states.now }
     ensures ok { OnOk result (PutsAll role act states.now (D.file disk.old) (D.file disk.new)) }
     ensures files { PutsStates Place.Shadow (map uid_of states.now) (D.file disk.old) (D.file disk.new) ⊎ PutsAll role act states.now (D.file disk.old) (D.file disk.new) }
     ensures counts { CountsCall (counts D.Disk disk.old) (counts D.Disk disk.new) result StoreFault.Stopped }
@@ -172,7 +176,7 @@ pub fn put_states<D: Disk>(
     states: &[ObjectState],
 ) -> Result<(), StoreFault>
     requires distinct { IsDistinct uid_eq (map uid_of states.now) }
-    requires sizes { AllByRecursion (λ s. length (state_bytes s) ≤ 65535) states.now }
+    requires sizes { AllByRecursion (λ s. length (state_bytes s) ≤ MOST_BYTES) states.now }
     ensures ok { OnOk result (HasStates place states.now (D.file disk.new)) }
     ensures files { PutsStates place (map uid_of states.now) (D.file disk.old) (D.file disk.new) }
     ensures counts { CountsCall (counts D.Disk disk.old) (counts D.Disk disk.new) result StoreFault.Stopped }
@@ -191,7 +195,7 @@ fn put_state<D: Disk>(
     state: &ObjectState,
 ) -> Result<(), StoreFault>
     requires slot { slot ≢ Slot.Tmp }
-    requires size { length (state_bytes state.now) ≤ 65535 }
+    requires size { length (state_bytes state.now) ≤ MOST_BYTES }
     ensures ok { OnOk result (D.file disk.new slot ≡ Some (state_bytes state.now)) }
     ensures files { PutsOrNot (D.file disk.old) (D.file disk.new) slot (state_bytes state.now) }
     ensures form { D.file disk.new slot ≡ D.file disk.old slot ⊎ IfSome (D.file disk.new slot) (IsStateOf state.now.uid) }

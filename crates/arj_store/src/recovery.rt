@@ -10,7 +10,7 @@ ghost use Rattle.arj_disk.specs.Formed.{FormedFor};
 ghost use Rattle.arj_disk.specs.declared.slot.Role.{Role};
 ghost use Rattle.arj_disk.specs.declared.slot.Slot.{Slot};
 ghost use Rattle.arj_store.specs.Recovery.{ReadsAction, ReadsSlot, ReadsActions, SortsShadow, SortsSlot, SortsShadows, DropsShadow, DropsShadows, ListsHeld, HasEntry, IsStateAt, HasRead, entry_at, entries_in, newest, ListsPrepared};
-ghost use Rattle.arj_store.specs.Pair.{SamePair, Finds, FindsPair};
+ghost use Rattle.arj_store.specs.OfFiles.{SamePair, Finds, FindsPair};
 ghost use Rattle.arj_store.specs.Shadow.{has_shadow, is_in, PendingKeeps};
 ghost use Rattle.arj_store.specs.Table.{at};
 

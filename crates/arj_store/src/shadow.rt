@@ -24,13 +24,21 @@ pub struct ShadowStore {
 impl ObjectStore for ShadowStore {
     ghost use Rattle.arj_store.specs.Kept.{role_kept, found_kept, StoreKeeps};
     ghost use Rattle.arj_store.specs.KeepsOn.{store_keeps_on};
+    ghost use Rattle.arj_store.specs.OfFiles.{pair_of};
+    ghost use Rattle.arj_store.specs.Stays.{files_stay, files_sound};
+    ghost use Rattle.arj_disk.specs.Formed.{FormedFor};
     ghost use Rattle.std.specs.Prelude.{refl};
+    ghost use Rattle.arj_store.specs.declared.limits.TheConstants.{MOST_ROOM};
 
     ghost own_role = { role_kept };
 
+    ghost pair = { pair_of };
+
+    ghost formed = { FormedFor };
+
     ghost keeps = { StoreKeeps };
 
-    ghost room = { λ _ _. 18446744073709551615 };
+    ghost room = { λ _ _. MOST_ROOM };
 
     ghost finding = { found_kept };
 
@@ -131,6 +139,10 @@ impl ObjectStore for ShadowStore {
         self.pending.actions.uids(alloc)
     }
 
+    fn is_prepared(&self, act: Uid) -> bool {
+        self.pending.actions.get(act).is_some()
+    }
+
     fn is_clear(&self) -> bool {
         self.pending.actions.is_empty()
     }
@@ -140,6 +152,10 @@ impl ObjectStore for ShadowStore {
     }
 
     ghost keeps_on = { store_keeps_on };
+
+    ghost stays = { files_stay };
+
+    ghost sound = { files_sound };
 
     ghost room_of_role = { λ _ _ _ _. refl };
 }

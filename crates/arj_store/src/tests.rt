@@ -5,6 +5,8 @@ ghost use Rattle.arj_base.specs.State.{state_bytes};
 ghost use Rattle.arj_disk.specs.Formed.{AtMost, FormedFor, IsKnown};
 ghost use Rattle.arj_disk.specs.Says.{role_of, slot_role};
 ghost use Rattle.arj_disk.specs.declared.slot.Slot.{Slot};
+ghost use Rattle.arj_base.specs.declared.limits.TheConstants.{MOST_BYTES};
+ghost use Rattle.arj_disk.specs.declared.limits.TheConstants.{MOST_KNOWN};
 ghost use Rattle.arj_store.specs.Kept.{role_kept, StoreKeeps};
 ghost use Rattle.arj_store.specs.Pair.{AreDistinct, uid_of};
 
@@ -61,7 +63,7 @@ fn state(
 ) -> Result<ObjectState, AllocError>
     ensures own { IfOk result (λ s. role_of s.uid ≡ role) }
     ensures num { IfOk result (λ s. s.uid.num ≡ x) }
-    ensures size { IfOk result (λ s. length (state_bytes s) ≤ 65535) }
+    ensures size { IfOk result (λ s. length (state_bytes s) ≤ MOST_BYTES) }
 {
     Ok(ObjectState {
         uid: uid(role, x),
@@ -82,7 +84,7 @@ fn states(
 ) -> Result<States, AllocError>
     ensures distinct { IfOk result (AreDistinct role) }
     ensures count { IfOk result (λ states. length states ≤ 2) }
-    ensures sizes { IfOk result (AllByRecursion (λ s. length (state_bytes s) ≤ 65535)) }
+    ensures sizes { IfOk result (AllByRecursion (λ s. length (state_bytes s) ≤ MOST_BYTES)) }
 {
     let mut states = States::new(alloc);
     match values {
@@ -107,7 +109,7 @@ fn states(
 fn fit(alloc: Global, disk: &mut MemDisk, role: Role, states: &States) -> Result<bool, DiskFault>
     requires formed { FormedFor (⟦<MemDisk as Disk>⟧.file disk.old) role }
     requires count { length states.now ≤ 2 }
-    ensures few { IfOk result (λ fit. fit ≡ true → AtMost 65535 (λ u. IsKnown (⟦<MemDisk as Disk>⟧.file disk.old) role u ⊎ Contains (map uid_of states.now) u)) }
+    ensures few { IfOk result (λ fit. fit ≡ true → AtMost MOST_KNOWN (λ u. IsKnown (⟦<MemDisk as Disk>⟧.file disk.old) role u ⊎ Contains (map uid_of states.now) u)) }
     ensures files { ⟦<MemDisk as Disk>⟧.file disk.new ≡ ⟦<MemDisk as Disk>⟧.file disk.old }
     ensures arms { ⟦<MemDisk as Disk>⟧.arms disk.new ≡ ⟦<MemDisk as Disk>⟧.arms disk.old }
 {

@@ -1,4 +1,4 @@
-use Rattle.std.proofs.Common.{◌<◌, ◌∙◌, arith, length}
+use Rattle.std.proofs.Common.{◌<◌, arith, length}
 use Rattle.arj_store.proofs.Loops.{removes_more, no_shadow_more, releases_more, flags_more, in_at, remove_others}
 use Rattle.arj_store.proofs.Counting.{counts_on}
 use Rattle.arj_store.proofs.moves.remove_shadows.Goals as goal

@@ -1,4 +1,4 @@
-use Rattle.std.proofs.Common.{◌<◌, ◌∙◌, arith, length}
+use Rattle.std.proofs.Common.{◌<◌, arith, length}
 use Rattle.arj_store.proofs.Puts.{step_puts, step_has}
 use Rattle.arj_store.proofs.Counting.{counts_on}
 use Rattle.arj_store.proofs.prepare.put_states.Goals as goal

@@ -1,4 +1,4 @@
-use Rattle.std.proofs.Common.{◌≡◌, take, map}
+use Rattle.std.proofs.Common.{take, map}
 use Rattle.arj_store.specs.Pair.{uid_of}
 use Rattle.arj_store.specs.Shadow.{PutsStates, HasStates}
 use Rattle.arj_disk.specs.Counted.{counts}

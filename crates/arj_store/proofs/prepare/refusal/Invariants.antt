@@ -1,6 +1,6 @@
 use Rattle.std.proofs.Common.{◌≡◌, take}
 use Rattle.std.specs.List.{AllByRecursion}
-use Rattle.arj_store.specs.Pair.{IsClear}
+use Rattle.arj_store.specs.OfFiles.{IsClear}
 use Rattle.arj_disk.specs.Counted.{counts}
 use Rattle.arj_store.proofs.Counting.{SameCounts}
 use Rattle.arj_store.proofs.prepare.refusal.Given as goal

@@ -1,8 +1,8 @@
 use Rattle.std.proofs.Common.{sym, subst}
 use Rattle.std.specs.Prelude.{MatchOption}
-use Rattle.arj_store.specs.Pair.{IsClear, Refuses}
+use Rattle.arj_store.specs.OfFiles.{IsClear, Refuses}
 use Rattle.arj_store.specs.Table.{at}
-use Rattle.arj_store.proofs.Refusals.{by_holder, unwritten_of_none, newer_of_none, unwritten, newer, by_held}
+use Rattle.arj_store.proofs.Refusals.{by_holder, follows_none, follows_held, by_held}
 use Rattle.arj_store.proofs.Keeping.{holder_named}
 use Rattle.arj_store.proofs.prepare.refusal_of.Goals as goal
 
@@ -13,7 +13,7 @@ returns-in_default-clause-answer g c =
     let named = holder_named c.args.role (at c.args.pending.now.actions) (at c.args.pending.now.holdings) (g.D.Disk.file c.args.disk.now) c.requires.keeps c.args.state.now.uid in
     subst (λ o. MatchOption o (IsClear (g.D.Disk.file c.args.disk.now) c.args.role c.args.act c.args.state.now) (Refuses (g.D.Disk.file c.args.disk.now) c.args.role c.args.act c.args.state.now)) (sym c.in_doubt.ensures)
     (by_holder (g.D.Disk.file c.args.disk.now) c.args.role c.args.act c.args.state.now (at c.args.pending.now.holdings c.args.state.now.uid) named
-    (unwritten_of_none (g.D.Disk.file c.args.disk.now) c.args.role c.args.act c.args.state.now c.requires.own none) (newer_of_none (g.D.Disk.file c.args.disk.now) c.args.role c.args.act c.args.state.now c.requires.own none))
+    (follows_none (g.D.Disk.file c.args.disk.now) c.args.role c.args.act c.args.state.now c.requires.own none))
 
 -- the committed state refuses it
 pub returns-in-Some-2-clause-answer : goal.returns-in-Some-2-clause-answer
@@ -31,5 +31,4 @@ returns-clause-answer g c =
     let named = holder_named c.args.role (at c.args.pending.now.actions) (at c.args.pending.now.holdings) (g.D.Disk.file c.args.disk.now) c.requires.keeps c.args.state.now.uid in
     subst (λ o. MatchOption o (IsClear (g.D.Disk.file c.args.disk.now) c.args.role c.args.act c.args.state.now) (Refuses (g.D.Disk.file c.args.disk.now) c.args.role c.args.act c.args.state.now)) (sym c.in_doubt-in-None.ensures)
     (by_holder (g.D.Disk.file c.args.disk.now) c.args.role c.args.act c.args.state.now (at c.args.pending.now.holdings c.args.state.now.uid) named
-    (unwritten (g.D.Disk.file c.args.disk.now) c.args.role c.args.act c.args.state.now c.requires.own c.in-Some.held state only allows.0)
-    (newer (g.D.Disk.file c.args.disk.now) c.args.role c.args.act c.args.state.now c.requires.own c.in-Some.held state only allows.1))
+    (follows_held (g.D.Disk.file c.args.disk.now) c.args.role c.args.act c.args.state.now c.requires.own c.in-Some.held state only allows))

@@ -1,4 +1,4 @@
-use Rattle.std.proofs.Common.{◌<◌, ◌∙◌, arith, length, refl}
+use Rattle.std.proofs.Common.{◌<◌, arith, length, refl}
 use Rattle.arj_store.specs.Table.{at}
 use Rattle.arj_store.proofs.Recovering.{sort_step, drops_step}
 use Rattle.arj_store.proofs.Counting.{counts_on}

@@ -1,4 +1,4 @@
-use Rattle.std.proofs.Common.{◌≡◌, take}
+use Rattle.std.proofs.Common.{take}
 use Rattle.arj_store.specs.Recovery.{SortsShadows}
 use Rattle.arj_store.specs.Table.{at}
 use Rattle.arj_disk.specs.Counted.{counts}

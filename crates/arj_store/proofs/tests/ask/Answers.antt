@@ -3,7 +3,7 @@ use Rattle.std.proofs.Common.{◌≡◌, ◌⊎◌, ◌∙◌, sym, subst, List,
 use Rattle.std.specs.Prelude.{Contains}
 use Rattle.arj_base.specs.declared.state.ObjectState.{ObjectState}
 use Rattle.arj_disk.specs.declared.slot.Role.{Role}
-use Rattle.arj_disk.specs.Files.{FileMap}
+use Rattle.arj_disk.specs.FileMap.{FileMap}
 use Rattle.arj_disk.specs.Formed.{AtMost, IsKnown}
 use Rattle.arj_store.specs.Pair.{uid_of}
 use Rattle.arj_store.proofs.tests.ask.Goals as goal

@@ -1,22 +1,31 @@
 -- What is prepared, read as the objects that an action's file names.
-use Rattle.std.proofs.Common.{◌≡◌, ◌∙◌, Bool, true, false, ◌||◌, List, [], ◌∷◌, ℕ, refl, sym, ap, subst, map, cond, Option, Some, None}
+use Rattle.std.proofs.Common.{◌≡◌, ◌∙◌, Bool, true, false, ◌==◌, ◌&&◌, ◌||◌, List, [], ◌∷◌, ℕ, refl, sym, true≢false, ap, subst, map, cond, Option, Some, None}
 use Rattle.std.specs.Prelude.{IsSome, is_some, option_map, if◌then◌else◌}
+use Rattle.std.proofs.lemmas.Bool.{eq-eqb, eqb-true, and_parts}
 use Rattle.arj_base.specs.Uid.{uid_eq}
 use Rattle.arj_base.specs.declared.uid.Uid.{Uid}
 use Rattle.arj_disk.specs.declared.slot.Role.{Role}
 use Rattle.arj_disk.specs.declared.slot.Role.TheVariants.{Store, Names}
 use Rattle.arj_disk.specs.declared.slot.Slot.TheVariants.{Committed, Shadow, Prepared}
-use Rattle.arj_disk.specs.Files.{FileMap}
+use Rattle.arj_disk.specs.FileMap.{FileMap}
 use Rattle.arj_disk.specs.Says.{role_of, role_eq, held, pend, names, new_of, new_state, named_in, first_file}
 use Rattle.arj_store.specs.Shadow.{is_in, is_named, objects_of}
-use Rattle.arj_store.proofs.Uids.{uid_is}
+
+pub uid_same : (u : Uid) → uid_eq u u ≡ true
+uid_same u = λ i. eq-eqb u.node u.node refl i && (eq-eqb u.inc u.inc refl i && eq-eqb u.num u.num refl i)
+
+pub uid_is : (u w : Uid) → uid_eq u w ≡ true → u ≡ w
+uid_is u w e =
+    let p = and_parts (u.node == w.node) ((u.inc == w.inc) && (u.num == w.num)) e in
+    let q = and_parts (u.inc == w.inc) (u.num == w.num) p.1 in
+    λ i. record { node = eqb-true u.node w.node p.0 i; inc = eqb-true u.inc w.inc q.0 i; num = eqb-true u.num w.num q.1 i }
 
 -- each object with what f gives of it
 abbrev pub with_each : (Uid → List ℕ) → List Uid → List (Uid × List ℕ)
 with_each f us = map (λ u. (u, f u)) us
 
 pub new_of_each : (f : Uid → List ℕ) (us : List Uid) (u : Uid) → is_in us u ≡ true → new_of (with_each f us) u ≡ Some (f u)
-new_of_each f [] u is = let never : false ≡ true = is in cc
+new_of_each f [] u is = absurd (true≢false (sym is))
 new_of_each f (w ∷ ws) u is = by (uid_eq u w) refl (new_of_each f ws u)
   where
     by : (b : Bool) → uid_eq u w ≡ b → (is_in ws u ≡ true → new_of (with_each f ws) u ≡ Some (f u)) → cond (uid_eq u w) (Some (f w)) (new_of (with_each f ws) u) ≡ Some (f u)
@@ -28,8 +37,20 @@ nothing_of_each f [] u isnt = refl
 nothing_of_each f (w ∷ ws) u isnt = by (uid_eq u w) refl (nothing_of_each f ws u)
   where
     by : (b : Bool) → uid_eq u w ≡ b → (is_in ws u ≡ false → new_of (with_each f ws) u ≡ None) → cond (uid_eq u w) (Some (f w)) (new_of (with_each f ws) u) ≡ None
-    by true e rest = let never : true ≡ false = subst (λ (b : Bool). (b || is_in ws u) ≡ false) e isnt in cc
+    by true e rest = absurd (true≢false (subst (λ (b : Bool). (b || is_in ws u) ≡ false) e isnt))
     by false e rest = rw e (rest (subst (λ (b : Bool). (b || is_in ws u) ≡ false) e isnt))
+
+-- two functions that agree on the objects of a list give the same states
+pub each_same : (f g : Uid → List ℕ) (us : List Uid) → ((u : Uid) → is_in us u ≡ true → f u ≡ g u) → with_each f us ≡ with_each g us
+each_same f g [] same = refl
+each_same f g (u ∷ us) same = λ i. (u, same u (ap (λ b. b || is_in us u) (uid_same u)) i) ∷ each_same f g us (λ w is. same w (more w is)) i
+  where
+    more : (w : Uid) → is_in us w ≡ true → (uid_eq w u || is_in us w) ≡ true
+    more w is = by (uid_eq w u)
+      where
+        by : (b : Bool) → (b || is_in us w) ≡ true
+        by true = refl
+        by false = is
 
 -- the prepared states are the objects with their new states
 pub pend_is : (file : FileMap) (role : Role) (a : Uid) → pend file role a ≡ option_map (with_each (new_state file)) (objects_of file role a)
@@ -40,7 +61,7 @@ pend_is file role a = by (file (Prepared role a))
     by (Some bytes) = refl
 
 names_each : (f : Uid → List ℕ) (o : Option (List Uid)) (u : Uid) → is_named o u ≡ true → names (option_map (with_each f) o) u
-names_each f None u is = let never : false ≡ true = is in cc
+names_each f None u is = absurd (true≢false (sym is))
 names_each f (Some us) u is = ap is_some (new_of_each f us u is)
 
 each_names : (f : Uid → List ℕ) (o : Option (List Uid)) (u : Uid) → names (option_map (with_each f) o) u → is_named o u ≡ true
@@ -49,7 +70,7 @@ each_names f (Some us) u is = by (is_in us u) refl
   where
     by : (b : Bool) → is_in us u ≡ b → is_in us u ≡ true
     by true e = e
-    by false e = let never : true ≡ false = sym is ∙ ap is_some (nothing_of_each f us u e) in cc
+    by false e = absurd (true≢false (sym is ∙ ap is_some (nothing_of_each f us u e)))
 
 -- the action names the object where its file does
 pub names_if : (file : FileMap) (role : Role) (a u : Uid) → is_named (objects_of file role a) u ≡ true → names (pend file role a) u
@@ -95,8 +116,8 @@ held_own file role u own = subst (λ (r : Role). (if role_eq (role_of u) r then 
 -- an object of another role isn't committed here
 pub role_is : (a b : Role) → role_eq a b ≡ true → a ≡ b
 role_is Store Store e = refl
-role_is Store Names e = let never : false ≡ true = e in cc
-role_is Names Store e = let never : false ≡ true = e in cc
+role_is Store Names e = absurd (true≢false (sym e))
+role_is Names Store e = absurd (true≢false (sym e))
 role_is Names Names e = refl
 
 pub held_of_role : (file : FileMap) (role : Role) (u : Uid) → IsSome (held file role u) → (role_of u ≡ role) × IsSome (file (Committed u))
@@ -104,4 +125,4 @@ held_of_role file role u is = by (role_eq (role_of u) role) refl
   where
     by : (b : Bool) → role_eq (role_of u) role ≡ b → (role_of u ≡ role) × IsSome (file (Committed u))
     by true e = (role_is (role_of u) role e, subst (λ (b : Bool). IsSome (if b then file (Committed u) else None)) e is)
-    by false e = let never : false ≡ true = subst (λ (b : Bool). IsSome (if b then file (Committed u) else None)) e is in cc
+    by false e = absurd (true≢false (sym (subst (λ (b : Bool). IsSome (if b then file (Committed u) else None)) e is)))
