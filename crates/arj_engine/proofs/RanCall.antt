@@ -292,7 +292,7 @@ module _ (header : Header) (past : Past) (l : Label) (x : ℕ) (op : Op) (old ne
   call_ran calls = by (call_refusal m l x op) refl calls
     where
       same : refusal header past (event.Call l x op) ≡ call_refusal m l x op
-      same = call_same header past m l x op st.keeps
+      same = call_same header past m l x op st.keeps st.answered
 
       accepted : call_refusal m l x op ≡ None → Accepts_call m (machine_of new) l x op before after → Ran header past (event.Call l x op) new file stops stops before after
       accepted is a = which (against (ident a.action) (op_mode op) a.target.rows) refl a.answers

@@ -1,5 +1,5 @@
 -- From what an event changes in memory to what holds of the run that is longer by it: aborts and commits.
-use Rattle.std.proofs.Common.{◌≡◌, ◌<◌, ◌⊎◌, inl, inr, ℕ, ◌+◌, List, [], ◌∷◌, ◌++◌, length, filter, Bool, true, false, cond, not, ◌==◌, ◌&&◌, ◌||◌, nat_lt, Option, Some, None, is_some, is_none, MatchOption, option_and_then, refl, sym, ◌∙◌, ap, subst, arith}
+use Rattle.std.proofs.Common.{◌≡◌, ◌<◌, ◌⊎◌, inl, inr, ℕ, ◌+◌, List, [], ◌∷◌, ◌++◌, length, filter, Bool, true, false, cond, not, ◌==◌, ◌&&◌, ◌||◌, Option, Some, None, is_some, is_none, MatchOption, option_and_then, refl, sym, ◌∙◌, ap, subst, arith}
 use Rattle.std.proofs.lemmas.Bool.{eqb-true}
 use Rattle.std.proofs.lemmas.List.Folds.{list_any-append}
 use Rattle.std.specs.List.{list_any, list_all}
@@ -25,11 +25,11 @@ use Rattle.arj_journal.specs.LineForm.{LabelFits}
 use Rattle.arj_text.specs.Fields.{IsWithin}
 use Rattle.arj_text.specs.declared.label.Label.{Label}
 use Rattle.arj_text.specs.Label.{name}
-use Rattle.arj_model.specs.Actions.{Act, Placed, Halt, acts, act_in, id_in, path, uids, has_end, ended, halts, is_halted, is_over}
+use Rattle.arj_model.specs.Actions.{Act, Placed, acts, act_in, id_in, path, uids, has_end, ended, halts, is_halted, is_over, top_in}
 use Rattle.arj_model.specs.Serial.{Answers}
 use Rattle.arj_model.specs.Last.{first_values, object_line, is_among}
 use Rattle.arj_model.specs.Past.{Past, Asked, asked_of, block}
-use Rattle.arj_model.specs.Refusals.{refusal, first_cause, is_down, is_committing, is_committing_line, has_ended, is_over_act, answers_to, asks_by, object_used}
+use Rattle.arj_model.specs.Refusals.{refusal, first_cause, is_down, is_committing, has_ended, is_over_act, answers_to, asks_by, object_used, was_called, holds_of}
 use Rattle.arj_model.specs.Follows.{Accepted, AnswersFit}
 use Rattle.arj_model.specs.Own.{may_stand, halts_last, is_node_in, node_of, commit_line, BeginsCommit, AreAborted, aborted_of}
 use Rattle.arj_model.specs.Causes.{Moment, ConflictsHaveCause, is_conflict, IsAnswered, count_halts, is_commit_end, is_node_of, is_of_one}
@@ -41,10 +41,12 @@ use Rattle.arj_engine.specs.Events.{Refuses, Aborts, Accepts_abort, Commits, Acc
 use Rattle.arj_engine.specs.declared.engine.Engine.{Engine}
 use Rattle.arj_engine.proofs.Steps.{with_committing, with_commit, with_abort, see_committing, see_committed, see_aborted, see_halted}
 use Rattle.arj_engine.proofs.Known.{known, path_plain, one_or_none}
-use Rattle.arj_engine.proofs.Refusals.{commit_same, abort_same, over_same}
+use Rattle.arj_engine.proofs.Refusals.{commit_same, abort_same}
 use Rattle.arj_engine.proofs.End.{AsksEnd, committed_seen, lines_of_begun}
 use Rattle.arj_model.proofs.Read.{down-append}
 use Rattle.arj_engine.proofs.Aborted.{aborted_only, label_found}
+use Rattle.arj_engine.proofs.Parts.{same_number}
+use Rattle.arj_engine.proofs.Alone.{top_alone}
 use Rattle.arj_engine.proofs.Abort.{keeps_abort}
 use Rattle.arj_engine.proofs.Commit.{keeps_commit}
 use Rattle.arj_engine.proofs.Halt.{keeps_halt}
@@ -168,7 +170,7 @@ abort_ran header past l old new file stops before after st label aborts = by (en
     s = seen past.lines
 
     same : refusal header past (event.Abort l) ≡ end_refusal m l
-    same = abort_same header past m l st.keeps
+    same = abort_same header past m st.keeps st.answered l
 
     accepted : end_refusal m l ≡ None → Accepts_abort m (machine_of new) l before after → Ran header past (event.Abort l) new file stops stops before after
     accepted is a =
@@ -206,47 +208,32 @@ abort_ran header past l old new file stops before after st label aborts = by (en
 
 -- Commits.
 
--- whether the action with a label has ended, of what is read
-abbrev over_in : List (Placed ℕ) → List (Placed Halt) → Option Act → Bool
-over_in ends hs None = false
-over_in ends hs (Some a) = has_end ends a.id || list_any (λ h. (h.it.node == a.uid.node) && nat_lt a.id h.it.begun) hs
+or_yes : (b : Bool) → (b || true) ≡ true
+or_yes true = refl
+or_yes false = refl
 
-over_is : (lines : List Line) (l : List ℕ) → has_ended lines l ≡ over_in (seen lines).ended (seen lines).halts (act_in (seen lines).acts l)
-over_is lines l = by (act_in (acts lines) l)
-  where
-    by : (o : Option Act) → is_over_act lines o ≡ over_in (seen lines).ended (seen lines).halts o
-    by None = refl
-    by (Some a) = refl
+-- whether the commit of an action is called and not answered, of what is read
+abbrev committing_in : Seen → List ℕ → Bool
+committing_in t q = holds_of (λ a. was_called t.committings a.id && not (has_end t.ended a.id || is_halted t.halts a)) (act_in t.acts q)
 
 -- behind the line that calls its commit the action is committing
-called_commit : (header : Header) (past : Past) (m : Machine) (l : Label) (i n : ℕ) → Keeps header past.accepted (seen past.lines) m → m.number l ≡ Some i → is_over_by m (Some i) ≡ false
-    → is_committing (past.lines ++ block n (body.Committing l ∷ [])) (name l) ≡ true
-called_commit header past m l i n k number over = (λ j. any j && not (over_now j))
+called_commit : (past : Past) (l : Label) (i n : ℕ) → Found (seen past.lines) l i → is_committing (past.lines ++ block n (body.Committing l ∷ [])) (name l) ≡ true
+called_commit past l i n f =
+    ap (λ t. committing_in t (name l)) (seen_block past.lines n (body.Committing l ∷ []) ∙ see_committing s l ∙ ap (with_committing s) f.path_is)
+    ∙ ap (holds_of (λ a. was_called called a.id && not (has_end s.ended a.id || is_halted s.halts a))) f.in_is
+    ∙ (λ j. any j && not (open_over past l i f j))
   where
-    lines : List Line
-    lines = past.lines ++ block n (body.Committing l ∷ [])
+    s : Seen
+    s = seen past.lines
 
-    any : list_any (λ line. is_committing_line (name l) line.body) lines ≡ true
-    any = list_any-append (λ line. is_committing_line (name l) line.body) past.lines (block n (body.Committing l ∷ []))
-        ∙ by (list_any (λ line. is_committing_line (name l) line.body) past.lines) (bytes_eq (name l) (name l)) (same_name l)
-      where
-        by : (b c : Bool) → c ≡ true → (b || (c || false)) ≡ true
-        by true c e = refl
-        by false true e = refl
-        by false false e = e
+    called : List (Placed (List Act))
+    called = s.committings ++ record { at = s.count; it = f.act ∷ [] } ∷ []
 
-    s' : Seen
-    s' = see (seen past.lines) (body.Committing l)
-
-    at : seen lines ≡ s'
-    at = seen_block past.lines n (body.Committing l ∷ [])
-
-    over_now : has_ended lines (name l) ≡ false
-    over_now =
-        over_is lines (name l)
-        ∙ ap (λ (t : Seen). over_in t.ended t.halts (act_in t.acts (name l))) (at ∙ see_committing (seen past.lines) l)
-        ∙ sym (over_is past.lines (name l))
-        ∙ over_same header past m l k ∙ ap (is_over_by m) number ∙ over
+    any : was_called called f.act.id ≡ true
+    any =
+        list_any-append (λ m. holds_of (λ top. top.id == f.act.id) (top_in m.it)) s.committings (record { at = s.count; it = f.act ∷ [] } ∷ [])
+        ∙ (λ j. was_called s.committings f.act.id || (holds_of (λ top. top.id == f.act.id) (top_alone f.act f.kind j) || false))
+        ∙ (λ j. was_called s.committings f.act.id || (same_number f.act.id j || false)) ∙ or_yes (was_called s.committings f.act.id)
 
 commit_own : (header : Header) (past : Past) (l : Label) (b : Body) (i : ℕ) → Found (seen past.lines) l i → refusal header past (event.Commit l) ≡ None
     → AnswersFit (past.accepted ++ asked_of past (event.Commit l) ∷ []) (past.lines ++ block (past.count + 1) (body.Committing l ∷ [])) (past.count + 1) (b ∷ [])
@@ -319,7 +306,7 @@ module _ (header : Header) (past : Past) (l : Label) (old new : Engine) (file fi
       record {
         bodies = bodies;
         lines = w.lines ∙ ap (λ c. before ++ block (c + 1) bodies) st.count;
-        moment = commit_own header past l (body.Committed l) i f is (called_commit header past m l i (past.count + 1) st.keeps number over, tt) refl refl refl refl (ap (λ t. length (cond t (body.Committed l ∷ []) [])) (same_name l));
+        moment = commit_own header past l (body.Committed l) i f is (called_commit past l i (past.count + 1) f, tt) refl refl refl refl (ap (λ t. length (cond t (body.Committed l ∷ []) [])) (same_name l));
         in_form = (label, (label, tt));
         stands = stands_after header past (event.Commit l) bodies new file' (committed_seen s f.act i) read
             (w.ended.event ∙ ap (λ c. c + 1) st.count) k
@@ -412,7 +399,7 @@ module _ (header : Header) (past : Past) (l : Label) (old new : Engine) (file fi
   commit_ran commits = by (end_refusal m l) refl commits
     where
       same : refusal header past (event.Commit l) ≡ end_refusal m l
-      same = commit_same header past m l st.keeps
+      same = commit_same header past m st.keeps st.answered l
 
       accepted : end_refusal m l ≡ None → (a : Accepts_commit m (machine_of new) l file file' stops stops' before after) → Ran header past (event.Commit l) new file' stops stops' before after
       accepted is a = which a.done

@@ -48,6 +48,9 @@ C = letter 67
 abbrev pub D : Label
 D = letter 68
 
+abbrev pub M : Label
+M = letter 77
+
 abbrev pub N : Label
 N = letter 78
 
@@ -287,6 +290,9 @@ many_includes = lines_of (
 abbrev pub uid_at : ℕ → ℕ → Uid
 uid_at n k = record { node = n; inc = 1; num = k }
 
+abbrev pub two_servers : Header
+two_servers = record { nodes = 3; objects = record { x = 1; value = Counter 0; servers = 2 ∷ 3 ∷ []; stores = 1 ∷ [] } ∷ [] }
+
 abbrev pub four_nodes : Header
 four_nodes = record { nodes = 4; objects = record { x = 1; value = Counter 0; servers = 2 ∷ []; stores = 3 ∷ 4 ∷ [] } ∷ [] }
 
@@ -314,3 +320,25 @@ naming_stopped_bodies =
 
 abbrev pub naming_stopped : List Line
 naming_stopped = lines_of naming_stopped_bodies
+
+-- Three nodes, naming and the store at 1 and servers at 2 and 3: a doomed nested action, and the next binding for another.
+abbrev pub rebinding_bodies : List (List Body)
+rebinding_bodies =
+    (body.Began A kind.Top (uid_at 1 1) None ∷ [])
+    ∷ (body.Began N kind.Nested (uid_at 1 2) (Some A) ∷ [])
+    ∷ (body.Granted 1 (uid_at 1 1) (entry 1) Write ∷ body.Bound 1 first_binding 2 ∷ sent 1 1 2 frame.Activate ∷ [])
+    ∷ (body.Refused 7 ∷ [])
+    ∷ (body.Got 1 ∷ body.Active 2 1 first_binding ∷ sent 2 2 1 frame.Activated ∷ [])
+    ∷ (body.Got 2 ∷ body.Lowered 1 (uid_at 1 1) (entry 1) ∷ sent 3 1 2 frame.Invoke ∷ [])
+    ∷ (body.Dropped 3 ∷ [])
+    ∷ (body.GaveUp N 2 ∷ body.Lost N 2 ∷ [])
+    ∷ (body.Refused 12 ∷ [])
+    ∷ (body.Aborted N cause.Doomed ∷ sent 4 1 2 frame.Told ∷ [])
+    ∷ (body.Began M kind.Nested (uid_at 1 3) (Some A) ∷ [])
+    ∷ (body.Refused 14 ∷ [])
+    ∷ (body.Granted 1 (uid_at 1 1) (entry 1) Write ∷ body.Bound 1 (record { inc = 1; count = 2 }) 3 ∷ sent 5 1 3 frame.Activate ∷ [])
+    ∷ (body.Got 4 ∷ body.Got 5 ∷ body.Active 3 1 (record { inc = 1; count = 2 }) ∷ sent 6 3 1 frame.Activated ∷ body.Got 6 ∷ body.Lowered 1 (uid_at 1 1) (entry 1) ∷ sent 7 1 3 frame.Invoke ∷ body.Got 7 ∷ body.Granted 3 (uid_at 1 3) (object 1) Write ∷ sent 8 3 1 frame.Invoked ∷ body.Got 8 ∷ ok M (Add 1) (codes "done") ∷ [])
+    ∷ (body.Committed M ∷ sent 9 1 3 frame.Told ∷ [])
+    ∷ (body.Committing A ∷ sent 10 1 3 frame.Vote ∷ [])
+    ∷ (body.Got 9 ∷ body.Told 3 (uid_at 1 3) Commit part.Server ∷ body.Got 10 ∷ sent 11 3 1 frame.Voted ∷ body.Got 11 ∷ body.Prepared 1 (uid_at 1 1) role.Store ∷ body.Committed A ∷ sent 12 1 2 frame.Told ∷ sent 13 1 3 frame.Told ∷ body.Done 1 (uid_at 1 1) role.Store Commit ∷ body.Told 1 (uid_at 1 1) Commit part.Naming ∷ body.Got 12 ∷ body.Got 13 ∷ body.Told 3 (uid_at 1 1) Commit part.Server ∷ sent 14 3 1 frame.Acked ∷ body.Got 14 ∷ [])
+    ∷ []

@@ -1,13 +1,13 @@
 -- The definitions tried on worked runs with locks, messages and several nodes: what each event may write, and the lock
 -- table of a node.
 use Rattle.std.specs.Prelude.{◌≡◌, refl, ℕ, List, [], ◌∷◌, ◌++◌, ◌-◌, ◌==◌, if◌then◌else◌, map, take, drop, codes, true, Some, None}
-use Rattle.std.proofs.Common.{arith, sym, inl}
+use Rattle.std.proofs.Common.{arith, sym, inl, inr}
 use Rattle.std.proofs.lemmas.Fmt.{decimal_digit}
 use Rattle.arj_base.specs.declared.mode.Mode.{Mode}
 use Rattle.arj_base.specs.declared.mode.Mode.TheVariants.{Read, Exclude, Write}
 use Rattle.arj_base.specs.Uid.{object, entry}
 use Rattle.arj_base.specs.Rows.{Row}
-use Rattle.arj_class.specs.declared.op.Op.TheVariants.{Get, Add}
+use Rattle.arj_class.specs.declared.op.Op.TheVariants.{Get, Add, Push}
 use Rattle.arj_journal.specs.declared.body.Body.{Body}
 use Rattle.arj_journal.specs.declared.body.Body.TheVariants as body
 use Rattle.arj_journal.specs.declared.body.Cause.TheVariants as cause
@@ -21,8 +21,12 @@ use Rattle.arj_journal.specs.declared.event.FrameNo.TheVariants.{Number}
 use Rattle.arj_journal.specs.declared.event.StopKind.TheVariants as stop
 use Rattle.arj_model.specs.Follows.{Follows, Step}
 use Rattle.arj_model.specs.Table.{table}
-use Rattle.arj_model.proofs.Journals.{A, B, C, D, N, S, uid, began, ok, told, prepared, on_entry, on_object, first_use, commit_end, lines_of, one_node, three_nodes, nested_abort_bodies, serializing_bodies, smallest_bodies, conflict_bodies, older_image_bodies, to_exclusion, stop_at_decision_done_bodies, naming_stopped_bodies, uid_at, four_nodes}
-use Rattle.arj_model.proofs.Rows.{accepted, at, runs, ◌&◌}
+use Rattle.arj_model.proofs.Journals.{A, B, C, D, N, S, uid, began, ok, told, prepared, on_entry, on_object, first_use, commit_end, lines_of, one_node, three_nodes, nested_abort_bodies, serializing_bodies, smallest_bodies, conflict_bodies, older_image_bodies, to_exclusion, stop_at_decision_done_bodies, naming_stopped_bodies, rebinding_bodies, M, two_servers, uid_at, four_nodes}
+use Rattle.arj_disk.specs.declared.slot.Outcome.TheVariants as outcome
+use Rattle.arj_model.specs.Past.{nothing_yet}
+use Rattle.arj_text.specs.Label.{name}
+use Rattle.arj_model.specs.Arms.{count_armed, arms_at}
+use Rattle.arj_model.proofs.Rows.{past_from, accepted, at, runs, ◌&◌}
 
 -- rows of the only object and of its entry, by the numbers of actions on the path of the holder
 abbrev locked : List ℕ → ℕ → Mode → Row
@@ -155,7 +159,7 @@ serializing_follows = runs (Step (one_node 0)) serializing_events serializing_bo
     & tt) tt
 
 -- Messages, a lost frame, a giveup, and what is shown.
-abbrev exclusion_events : List Event
+abbrev pub exclusion_events : List Event
 exclusion_events =
     event.Begin A 1 ∷ event.Call A 1 (Add 1) ∷ event.Settle ∷ event.Commit A ∷ event.Lose (Number 4) ∷ event.Settle ∷ event.GiveUp A ∷ event.Settle ∷ event.Show 1 ∷ []
 
@@ -227,4 +231,36 @@ naming_stopped_follows = runs (Step four_nodes) naming_stopped_events naming_sto
     & inl (accepted (body.Got 21 ∷ []) (drop 1 (named_at 16)) [] (inl refl) (inl refl) refl refl (refl & tt))
     & inl (accepted [] (take 10 (named_at 17)) (body.Quiet true ∷ []) refl (inl (true, refl)) refl refl (refl & tt & refl & refl & refl & refl & tt & tt & tt & refl & tt))
     & inl (accepted [] (named_at 18) [] refl refl refl refl (tt & tt & tt & tt))
+    & tt) tt
+
+-- The stop is the disk's arm.
+stop_armed : (count_armed (lines_of stopped) 1 ≡ 1) × (arms_at 1 (past_from nothing_yet stop_at_decision_done_events stopped).accepted ≡ (2, outcome.Done) ∷ [])
+stop_armed = (refl, refl)
+
+-- A doomed action takes no more, and is aborted at its commit.
+abbrev rebinding_events : List Event
+rebinding_events = event.Begin A 1 ∷ event.BeginIn N A ∷ event.Call N 1 (Add 1) ∷ event.Call A 1 Get ∷ event.Deliver (Number 1) ∷ event.Deliver (Number 2) ∷ event.Lose (Number 3) ∷ event.GiveUp N ∷ event.Call N 1 Get ∷ event.Commit N ∷ event.BeginIn M A ∷ event.Call M 1 (Push 1) ∷ event.Call M 1 (Add 1) ∷ event.Settle ∷ event.Commit M ∷ event.Commit A ∷ event.Settle ∷ []
+
+abbrev rebound : ℕ → List Body
+rebound n = lines_at rebinding_bodies n
+
+rebinding_follows : Follows two_servers rebinding_events (lines_of rebinding_bodies)
+rebinding_follows = runs (Step two_servers) rebinding_events rebinding_bodies [] (
+    inl (accepted (take 1 (rebound 1)) (drop 1 (rebound 1)) [] refl refl refl refl (tt))
+    & inl (accepted (take 1 (rebound 2)) (drop 1 (rebound 2)) [] (1, refl, refl) refl refl refl (tt))
+    & inl (accepted [] (rebound 3) [] refl (inl refl) refl refl (tt & tt & tt & tt))
+    & inl refl
+    & inl (accepted (take 1 (rebound 5)) (drop 1 (rebound 5)) [] (inl refl) (inl refl) refl refl (tt & tt & tt))
+    & inl (accepted (take 1 (rebound 6)) (drop 1 (rebound 6)) [] (inl refl) (inl refl) refl refl (tt & tt & tt))
+    & inl (accepted (take 1 (rebound 7)) (drop 1 (rebound 7)) [] refl refl refl refl (tt))
+    & inl (accepted (take 1 (rebound 8)) (drop 1 (rebound 8)) [] refl (inl refl) refl refl (refl & tt))
+    & inr (record { label = name N; about = refl; lost = refl; lowest = refl; line = refl })
+    & inl (accepted (take 1 (rebound 10)) (drop 1 (rebound 10)) [] (inr (refl, refl, refl)) (inl refl) refl refl (tt & tt))
+    & inl (accepted (take 1 (rebound 11)) (drop 1 (rebound 11)) [] (1, refl, refl) refl refl refl (tt))
+    & inl refl
+    & inl (accepted [] (rebound 13) [] refl (inl refl) refl refl (tt & tt & tt & tt))
+    & inl (accepted [] (rebound 14) [] refl (inl refl) refl refl (refl & refl & tt & tt & refl & tt & tt & refl & tt & tt & refl & ((refl, refl), at 0 refl refl) & tt))
+    & inl (accepted (take 1 (rebound 15)) (drop 1 (rebound 15)) [] (inl refl) (inl refl) refl refl (tt & tt))
+    & inl (accepted (take 1 (rebound 16)) (drop 1 (rebound 16)) [] (inl refl) (inl refl) refl refl (tt & tt))
+    & inl (accepted [] (rebound 17) [] refl (inl refl) refl refl (refl & tt & refl & tt & refl & tt & refl & tt & tt & tt & tt & refl & refl & tt & tt & refl & tt))
     & tt) tt

@@ -1,8 +1,7 @@
 -- Small wrong journals that the definitions refuse, each beside a right one.
-use Rattle.std.specs.Prelude.{◌≡◌, ◌⊎◌, refl, ℕ, ◌+◌, List, [], ◌∷◌, ◌++◌, map, take, replicate, get_or, codes, Bool, true, false, cond, nat_lt, Option, Some, None}
+use Rattle.std.specs.Prelude.{◌≡◌, refl, ◌+◌, List, [], ◌∷◌, ◌++◌, map, take, replicate, get_or, codes, Bool, true, false, cond, nat_lt, Some, None}
 use Rattle.std.proofs.Common.{arith, inl, inr, ap, ◌∙◌}
 use Rattle.arj_base.specs.declared.state.Class.TheVariants as class
-use Rattle.arj_base.specs.declared.state.ObjectState.{ObjectState}
 use Rattle.arj_base.specs.Uid.{object}
 use Rattle.arj_class.specs.declared.op.Op.TheVariants.{Get, Add}
 use Rattle.arj_class.specs.declared.op.Answer.TheVariants.{Done, Over}
@@ -14,8 +13,6 @@ use Rattle.arj_journal.specs.declared.body.Body.TheVariants as body
 use Rattle.arj_journal.specs.declared.body.Cause.TheVariants as cause
 use Rattle.arj_journal.specs.declared.body.FrameKind.TheVariants as frame
 use Rattle.arj_journal.specs.declared.body.Kind.TheVariants as kind
-use Rattle.arj_journal.specs.declared.body.Line.{Line}
-use Rattle.arj_journal.specs.declared.event.Event.{Event}
 use Rattle.arj_journal.specs.declared.event.Event.TheVariants as event
 use Rattle.arj_journal.specs.declared.event.FrameNo.TheVariants.{Number}
 use Rattle.arj_text.specs.Label.{name}
@@ -23,12 +20,13 @@ use Rattle.arj_text.specs.Words.{answer_text}
 use Rattle.arj_model.specs.Actions.{acts, act_in}
 use Rattle.arj_model.specs.Past.{Past, nothing_yet, block}
 use Rattle.arj_model.specs.Refusals.{refusal}
-use Rattle.arj_model.specs.Own.{Begins, AreAborted, aborted_of, may_stand, halts_fit}
+use Rattle.arj_model.specs.Own.{Begins, aborted_of, may_stand, halts_fit}
 use Rattle.arj_model.specs.Follows.{Accepted, AnswerFits, IsAnswerOf}
 use Rattle.arj_model.specs.Causes.{is_full, is_late}
 use Rattle.arj_model.specs.Clean.{undecided, next_state}
 use Rattle.arj_model.proofs.Journals.{A, B, C, D, N, S, T, uid, began, counter, lines_of, one_node, three_nodes, nested_abort_bodies, stop_at_decision_done_bodies, to_prepares}
 use Rattle.arj_model.proofs.Rows.{past_from}
+use Rattle.arj_model.proofs.NodeRows.{exclusion_events}
 
 -- An addition isn't answered by bytes.
 no_such_answer : IsAnswerOf (Add 5) (codes "00ff") → ⊥
@@ -133,3 +131,23 @@ late_causes = refl
 
 past_labels : map is_late (None ∷ Some 5 ∷ Some 6 ∷ []) ≡ true ∷ false ∷ true ∷ []
 past_labels = refl
+
+-- Causes of events by what waits: a call of A, and then its commit.
+abbrev asking : Past
+asking = past_from nothing_yet (take 2 exclusion_events) (take 2 to_prepares)
+
+abbrev called : Past
+called = past_from nothing_yet (take 4 exclusion_events) to_prepares
+
+waiting_causes :
+    map (refusal three_nodes asking) (event.Call A 1 Get ∷ event.Include A 1 2 ∷ event.Commit A ∷ event.Abort A ∷ event.BeginIn N A ∷ event.Top T A ∷ event.GiveUp A ∷ event.Deliver (Number 2) ∷ [])
+    ++ map (refusal three_nodes called) (event.Call A 1 Get ∷ event.Commit A ∷ event.Abort A ∷ event.GiveUp A ∷ event.Deliver (Number 4) ∷ [])
+    ≡ Some 7 ∷ Some 7 ∷ Some 7 ∷ Some 7 ∷ Some 7 ∷ Some 7 ∷ None ∷ Some 17 ∷ Some 7 ∷ Some 7 ∷ Some 7 ∷ None ∷ None ∷ []
+waiting_causes = refl
+
+-- and by their kinds: S is serializing with D in it, N below D and C below N, and T is independent.
+kind_causes :
+    map (refusal (one_node 0) nested) (event.Commit S ∷ event.Commit D ∷ event.Commit N ∷ event.Commit C ∷ event.Call S 1 Get ∷ event.Top A S ∷ event.Top A D ∷ event.BeginIn A S ∷ event.GiveUp T
+    ∷ event.Restart 1 ∷ event.Tick 2 ∷ event.Show 9 ∷ event.Abort D ∷ [])
+    ≡ Some 9 ∷ Some 9 ∷ Some 9 ∷ None ∷ Some 11 ∷ Some 10 ∷ None ∷ None ∷ Some 8 ∷ Some 3 ∷ Some 1 ∷ Some 13 ∷ None ∷ []
+kind_causes = refl

@@ -10,4 +10,5 @@ pub mod Refusals
 pub mod Own
 pub mod Follows
 pub mod Causes
+pub mod Arms
 pub mod Clean

@@ -19,7 +19,8 @@ use Rattle.arj_text.specs.declared.label.Label.{Label}
 use Rattle.arj_text.specs.Label.{name}
 use Rattle.arj_model.specs.Actions.{Act, acts, act_in, is_over, is_serial, path_in}
 use Rattle.arj_model.specs.Past.{Past}
-use Rattle.arj_model.specs.Refusals.{next_uid, incarnation, is_serializing, frame_no, last_frame}
+use Rattle.arj_model.specs.Last.{is_among}
+use Rattle.arj_model.specs.Refusals.{holds_of, is_answer_to, next_uid, incarnation, is_serializing, frame_no, last_frame}
 
 -- Nodes of events.
 
@@ -73,14 +74,24 @@ AreAborted [] [] = ⊤
 AreAborted (a ∷ as_begun) (body.Aborted l cause.Asked ∷ own) = (name l ≡ a.label) × AreAborted as_begun own
 AreAborted _ _ = ⊥
 
--- A call or include of an action was given up. Whether its request had gone out by then, so that the action is doomed,
--- the journal doesn't tell.
-abbrev pub is_lost_of : List ℕ → Body → Bool
-is_lost_of l (body.Lost m n) = bytes_eq (name m) l
-is_lost_of l _ = false
+-- What the lines tell of dooms of an action: the servers to which its node has sent an Invoke since the action's last
+-- answer, and whether a call of it was lost at one of these. Whether that Invoke was the action's own they don't tell.
+pub record Doom : Type 0 where
+  pub servers : List ℕ
+  pub told : Bool
 
-abbrev pub was_lost : List Line → List ℕ → Bool
-was_lost lines l = list_any (λ line. is_lost_of l line.body) lines
+abbrev pub doom_step : ℕ → List ℕ → Body → Doom → Doom
+doom_step node l (body.Sent k from to frame.Invoke) d = if from == node then record d { servers = to ∷ d.servers } else d
+doom_step node l (body.Lost m n) d = if bytes_eq (name m) l then record { servers = []; told = d.told || is_among d.servers n } else d
+doom_step node l b d = if is_answer_to l b then record d { servers = [] } else d
+
+abbrev pub doom_from : ℕ → List ℕ → Doom → List Line → Doom
+doom_from node l d [] = d
+doom_from node l d (line ∷ lines) = doom_from node l (doom_step node l line.body d) lines
+
+-- the action with this label may be doomed: a call of it was given up after an Invoke had gone to the server
+abbrev pub may_be_doomed : List Line → List ℕ → Bool
+may_be_doomed lines l = holds_of (λ a. (doom_from a.uid.node l (record { servers = []; told = false }) lines).told) (act_in (acts lines) l)
 
 -- the line that a commit begins with, by the kind of the action
 abbrev pub commit_line : Kind → Label → Body
@@ -93,7 +104,7 @@ abbrev pub BeginsCommit : List Line → Label → Option Act → List Body → T
 BeginsCommit lines l None own = ⊥
 BeginsCommit lines l (Some a) own =
     (own ≡ commit_line a.kind l ∷ [])
-    ⊎ ((own ≡ body.Aborted l cause.Doomed ∷ []) × (is_serial a.kind ≡ false) × (was_lost lines (name l) ≡ true))
+    ⊎ ((own ≡ body.Aborted l cause.Doomed ∷ []) × (is_serial a.kind ≡ false) × (may_be_doomed lines (name l) ≡ true))
 
 -- one line or more, each that this action gave up a node, the nodes increasing
 abbrev pub AreGiveUps : Label → List Body → Type 0

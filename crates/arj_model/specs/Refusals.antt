@@ -7,6 +7,8 @@ use Rattle.arj_class.specs.declared.op.Op.{Op}
 use Rattle.arj_class.specs.Table.{class_of, has_op}
 use Rattle.arj_journal.specs.declared.body.Body.{Body}
 use Rattle.arj_journal.specs.declared.body.Body.TheVariants as body
+use Rattle.arj_journal.specs.declared.body.Kind.{Kind}
+use Rattle.arj_journal.specs.declared.body.Kind.TheVariants as kind
 use Rattle.arj_journal.specs.declared.body.Line.{Line}
 use Rattle.arj_journal.specs.declared.event.Event.{Event}
 use Rattle.arj_journal.specs.declared.event.Event.TheVariants as event
@@ -15,7 +17,8 @@ use Rattle.arj_journal.specs.declared.event.FrameNo.TheVariants.{Number, Last}
 use Rattle.arj_journal.specs.declared.header.Header.{Header}
 use Rattle.arj_journal.specs.declared.header.ObjectLine.{ObjectLine}
 use Rattle.arj_text.specs.Label.{name}
-use Rattle.arj_model.specs.Actions.{Act, acts, act_in, is_begun, is_over, is_serial, root_in, path}
+use Rattle.arj_model.specs.Actions.{Act, Placed, acts, act_in, is_begun, is_over, is_serial, root_in, top_in, path}
+use Rattle.arj_model.specs.Calls.{committings}
 use Rattle.arj_model.specs.Limits.{most_objects, most_actions, most_on_path}
 use Rattle.arj_model.specs.Last.{object_line, is_among, insert_number}
 use Rattle.arj_model.specs.Past.{Past, Asked}
@@ -104,14 +107,18 @@ answers_to lines l = filter (λ line. is_answer_to l line.body) lines
 abbrev pub pending : List Asked → List Line → List ℕ → Option Event
 pending accepted lines l = if nat_lt (length (answers_to lines l)) (length (asks_by accepted l)) then last_asked (asks_by accepted l) else None
 
--- the line calls the action's commit
-abbrev pub is_committing_line : List ℕ → Body → Bool
-is_committing_line l (body.Committing m) = bytes_eq (name m) l
-is_committing_line l _ = false
+-- A Bool of an action, false where there is none.
+abbrev pub holds_of : (Act → Bool) → Option Act → Bool
+holds_of test None = false
+holds_of test (Some a) = test a
 
--- the action's commit was called, and it hasn't ended since
+-- the commit of the action with this number was called
+abbrev pub was_called : List (Placed (List Act)) → ℕ → Bool
+was_called called id = list_any (λ m. holds_of (λ top. top.id == id) (top_in m.it)) called
+
+-- the commit of the action with this label was called, and the action isn't over since
 abbrev pub is_committing : List Line → List ℕ → Bool
-is_committing lines l = list_any (λ line. is_committing_line l line.body) lines && not (has_ended lines l)
+is_committing lines l = holds_of (λ a. was_called (committings lines) a.id && not (is_over lines a)) (act_in (acts lines) l)
 
 -- what the action waits for, while it is open: a call or include of its own
 abbrev pub waits_for : List Asked → List Line → List ℕ → Option Event
@@ -129,6 +136,36 @@ waits_above past l = list_any (λ a. is_waiting past a.label) (path (acts past.l
 abbrev pub waits_below : Past → List ℕ → Bool
 waits_below past l = list_any (λ a. list_any (λ b. bytes_eq b.label l) (path (acts past.lines) a.label) && is_waiting past a.label) (acts past.lines)
 
+-- the same, or one with it on its path: what a call, an include, a commit and an abort must not meet
+abbrev pub waits_near : Past → List ℕ → Bool
+waits_near past l = waits_above past l || waits_below past l
+
+-- a constituent of a serializing action
+abbrev pub is_constituent : Kind → Bool
+is_constituent kind.Constituent = true
+is_constituent _ = false
+
+-- two roots are the same
+abbrev pub is_root : Option ℕ → Option ℕ → Bool
+is_root (Some a) (Some b) = a == b
+is_root _ _ = false
+
+-- the action is a constituent, and the commit of one of its serializing action's constituents waits
+abbrev pub commits_beside : Past → List ℕ → Bool
+commits_beside past l =
+    holds_of (λ a. is_constituent a.kind) (act_in (acts past.lines) l)
+    && list_any (λ b. is_constituent b.kind && (is_root (root_in (path (acts past.lines) b.label)) (root_in (path (acts past.lines) l)) && is_committing past.lines b.label)) (acts past.lines)
+
+-- the parent of a nested action or of a constituent
+abbrev pub is_parent : List ℕ → Kind → Option (List ℕ) → Bool
+is_parent l kind.Independent parent = false
+is_parent l k None = false
+is_parent l k (Some p) = bytes_eq p l
+
+-- a nested action or constituent that was begun in the action is open
+abbrev pub has_children : List Line → List ℕ → Bool
+has_children lines l = list_any (λ b. is_parent l b.kind b.parent && not (is_over lines b)) (acts lines)
+
 -- What is used.
 
 -- the object that an accepted event of this root used
@@ -136,11 +173,6 @@ abbrev pub object_used : Event → Option ℕ
 object_used (event.Call l x op) = Some x
 object_used (event.Include l x n) = Some x
 object_used _ = None
-
--- two roots are the same
-abbrev pub is_root : Option ℕ → Option ℕ → Bool
-is_root (Some a) (Some b) = a == b
-is_root _ _ = false
 
 -- the list with the object in its place, if it isn't there yet
 abbrev pub with_object : List ℕ → Option ℕ → List ℕ
@@ -170,11 +202,6 @@ is_too_many past l x =
 abbrev pub lacks_op : Option ObjectLine → Op → Bool
 lacks_op None op = false
 lacks_op (Some o) op = not (has_op (class_of o.value) op)
-
--- A Bool of an action, false where there is none.
-abbrev pub holds_of : (Act → Bool) → Option Act → Bool
-holds_of test None = false
-holds_of test (Some a) = test a
 
 -- the action with this label is a serializing one
 abbrev pub is_serializing : List Line → List ℕ → Bool
@@ -221,11 +248,9 @@ abbrev pub asks_known : Past → List ℕ → List (ℕ × Bool) → List (ℕ �
 asks_known past l rest = (5, not (is_begun past.lines l)) ∷ (6, has_ended past.lines l) ∷ rest
 
 -- The causes for which an event may be refused, by number, each with its condition on the run so far: 1 unknown node,
--- 2 node down, 3 node up, 4 label used, 5 unknown label, 6 ended, 7 waiting, 8 not waiting, 10 wrong parent, 11 no calls,
--- 13 unknown object, 14 wrong operation, 15 too deep, 16 too many, 17 no message. Three kinds stand here in the form that
--- they have where every action is a plain top-level one and is answered in its event: a call, a commit and an abort,
--- which then neither wait nor have children. Cause 12 is told apart, and that a junk event's bytes are a message (18)
--- isn't told here.
+-- 2 node down, 3 node up, 4 label used, 5 unknown label, 6 ended, 7 waiting, 8 not waiting, 9 open children, 10 wrong
+-- parent, 11 no calls, 13 unknown object, 14 wrong operation, 15 too deep, 16 too many, 17 no message. Cause 12, doomed, is
+-- told apart, and that a junk event's bytes are a message (18) isn't told here.
 abbrev pub causes : Header → Past → Event → List (ℕ × Bool)
 causes header past (event.Begin l n) = (1, not (is_node header n)) ∷ (2, is_down past.lines n) ∷ (4, is_begun past.lines (name l)) ∷ []
 causes header past (event.Serial l n) = (1, not (is_node header n)) ∷ (2, is_down past.lines n) ∷ (4, is_begun past.lines (name l)) ∷ []
@@ -235,15 +260,16 @@ causes header past (event.BeginIn l p) =
 causes header past (event.Top l p) =
     (4, is_begun past.lines (name l)) ∷ asks_known past (name p) ((7, waits_above past (name p)) ∷ (10, is_serializing past.lines (name p)) ∷ [])
 causes header past (event.Call l x op) =
-    (5, not (is_begun past.lines (name l))) ∷ (6, has_ended past.lines (name l)) ∷ (13, is_none (object_line header x)) ∷ (14, lacks_op (object_line header x) op)
-    ∷ (16, is_too_many past (name l) x) ∷ []
+    asks_known past (name l) (
+    (7, waits_near past (name l)) ∷ (11, is_serializing past.lines (name l)) ∷ (13, is_none (object_line header x)) ∷ (14, lacks_op (object_line header x) op)
+    ∷ (16, is_too_many past (name l) x) ∷ [])
 causes header past (event.Include l x n) =
     (1, not (is_node header n))
     ∷ asks_known past (name l) (
-    (7, waits_above past (name l) || waits_below past (name l)) ∷ (11, is_serializing past.lines (name l)) ∷ (13, is_none (object_line header x))
-    ∷ (16, is_too_many past (name l) x) ∷ [])
-causes header past (event.Commit l) = (5, not (is_begun past.lines (name l))) ∷ (6, has_ended past.lines (name l)) ∷ []
-causes header past (event.Abort l) = (5, not (is_begun past.lines (name l))) ∷ (6, has_ended past.lines (name l)) ∷ []
+    (7, waits_near past (name l)) ∷ (11, is_serializing past.lines (name l)) ∷ (13, is_none (object_line header x)) ∷ (16, is_too_many past (name l) x) ∷ [])
+causes header past (event.Commit l) =
+    asks_known past (name l) ((7, waits_near past (name l) || commits_beside past (name l)) ∷ (9, has_children past.lines (name l)) ∷ [])
+causes header past (event.Abort l) = asks_known past (name l) ((7, waits_near past (name l)) ∷ [])
 causes header past (event.GiveUp l) = asks_known past (name l) ((8, not (is_waiting past (name l))) ∷ [])
 causes header past (event.Deliver k) = (17, not (has_frame past.lines (frame_no past.lines k))) ∷ []
 causes header past (event.Lose k) = (17, not (has_frame past.lines (frame_no past.lines k))) ∷ []
@@ -253,7 +279,8 @@ causes header past (event.Restart n) = (1, not (is_node header n)) ∷ (3, not (
 causes header past (event.Stop n calls k) = (1, not (is_node header n)) ∷ []
 causes header past (event.Junk n bytes) = (1, not (is_node header n)) ∷ []
 causes header past (event.Show x) = (13, is_none (object_line header x)) ∷ []
-causes header past _ = []
+causes header past event.Settle = []
+causes header past event.Quiesce = []
 
 -- the first of these numbers whose condition holds
 abbrev pub first_cause : List (ℕ × Bool) → Option ℕ
