@@ -8,7 +8,7 @@ use Rattle.arj_disk_law.specs.Words.{has}
 use Rattle.arj_disk_law.proofs.Base.{bool_cases, put_cases, put_same, or_cases, or_left, or_right, never, never_some}
 use Rattle.arj_disk_law.proofs.Entries.{last_listed}
 use Rattle.arj_disk_law.proofs.History.{effective_none, effective_open}
-use Rattle.arj_disk_law.proofs.Listing.{list_from, list_lacks, list_joins, list_same, same_list, entry_same, entry_content, plain_target}
+use Rattle.arj_disk_law.proofs.Listing.{list_from, list_lacks, list_joins, list_same, same_list, entry_same, entry_content, plain_target, find_true, list_is}
 
 -- who is marked was so before, or is the one whose outcome is open
 pub marked_cases : (S : State) (t : ℕ) (f : ℕ → Bool) (a : ℕ) → marked S t f a ≡ true → (f a ≡ true) ⊎ ((a ≡ t) × (undecided S t ≡ true))
@@ -77,9 +77,9 @@ loaded_conf S t locked c a s ca ua j = ⊎_elim
     (λ (n : (a ≡ t) × (undecided S t ≡ true)). ap (λ x. (S.plan x).loaded) n.0 ∙ (locked n.1).loaded s (ap (λ x. has s (S.plan x).joins) (sym n.0) ∙ j))
     (marked_cases S t S.conf a ca)
 
-pub core_entered : (S : State) (t : ℕ) → S.begun t ≡ true → is_sealed (S.stage t) ≡ true → S.entry_pend ≡ None → bytes_eq (new_list S t) S.entry.content ≡ false → (s : ℕ) × (has s (new_list S t) ≡ true) → decided S t ≡ false → (undecided S t ≡ true → Locked S t)
+pub core_entered : (S : State) (t : ℕ) → S.begun t ≡ true → is_sealed (S.stage t) ≡ true → S.entry_pend ≡ None → bytes_eq (new_list S t) S.entry.content ≡ false → (s : ℕ) × (has s (new_list S t) ≡ true) → decided S t ≡ false → IsUnlisted S t → (undecided S t ≡ true → Locked S t)
     → Core S → Core (changed S (Enter t))
-core_entered S t begun sealed free other stores undone locked c = record {
+core_entered S t begun sealed free other stores undone unlisted locked c = record {
   journal = journal_conf S t c.journal;
   coordinators = coordinators_conf S t sealed c.coordinators;
   fresh = record {
@@ -112,6 +112,10 @@ core_entered S t begun sealed free other stores undone locked c = record {
         (λ (o : S.conf a ≡ true). let x = c.covered.joins a s o u j g in absurd (never_some x.1 free))
         (λ (n : (a ≡ t) × (undecided S t ≡ true)). (entry_hold S t, refl, sym n.0))
         (marked_cases S t S.conf a ca);
+    plain = λ a ca u e. ⊎_elim
+      (λ (o : S.conf a ≡ true). c.covered.plain a o u e)
+      (λ (n : (a ≡ t) × (undecided S t ≡ true)). subst (λ x. (s : ℕ) × (has s (S.plan x).joins ≡ true) × (S.got x s ≡ true)) (sym n.0) (joined (ap (λ x. (S.plan x).writes) (sym n.0) ∙ e)))
+      (marked_cases S t S.conf a ca);
   };
   pending = record {
     sealed = λ h e. subst (λ (x : Hold). is_sealed (S.stage x.top) ≡ true) (is h e) sealed;
@@ -142,6 +146,14 @@ core_entered S t begun sealed free other stores undone locked c = record {
     new s i = ⊎_elim (λ (x : (has s S.entry.content ≡ true) × (target (S.plan t) s ≡ true → S.got t s ≡ true)). inl x.0) (λ (x : (has s (S.plan t).joins ≡ true) × (S.got t s ≡ true)). inr x.1)
         (list_from (S.plan t) (S.got t) S.entry.content s (subst (λ l. has s l ≡ true) content i))
 
+    -- a new list of one that didn't write has a store that it includes
+    joined : (S.plan t).writes ≡ None → (m : ℕ) × (has m (S.plan t).joins ≡ true) × (S.got t m ≡ true)
+    joined e = ⊎_elim
+      (λ (x : (m : ℕ) × (has m (S.plan t).joins ≡ true) × (S.got t m ≡ true)). x)
+      (λ (none : (m : ℕ) → has m (S.plan t).joins ≡ true → S.got t m ≡ false).
+        absurd (never (list_is (new_list S t) S.entry.content (list_same (S.plan t) (S.got t) S.entry.content (λ m i goal. absurd (never i (unlisted m (plain_target (S.plan t) m e goal)))) none)) other))
+      (find_true (S.got t) (S.plan t).joins)
+
     Fine : ℕ → ℕ → Type 0
     Fine s a = (S.got a s ≡ true) ⊎ IsExcused (changed S (Enter t)) a s
 
@@ -152,9 +164,9 @@ core_entered S t begun sealed free other stores undone locked c = record {
         (λ (g : S.got t s ≡ false). inr (record { by_entry = entry_hold S t; there = refl; whose = inl refl; lacks = ap (has s) content ∙ list_lacks (S.plan t) (S.got t) S.entry.content s goal g }))
         (bool_cases (S.got t s))
 
-pub core_agreed : (S : State) (t : ℕ) → S.begun t ≡ true → is_sealed (S.stage t) ≡ true → bytes_eq (new_list S t) S.entry.content ≡ true → IsUnlisted S t → IsClear S t → (undecided S t ≡ true → Locked S t)
+pub core_agreed : (S : State) (t : ℕ) → S.begun t ≡ true → is_sealed (S.stage t) ≡ true → is_some (S.plan t).writes ≡ true → bytes_eq (new_list S t) S.entry.content ≡ true → IsUnlisted S t → IsClear S t → (undecided S t ≡ true → Locked S t)
     → Core S → Core (changed S (Agree t))
-core_agreed S t begun sealed same unlisted clear locked c = record {
+core_agreed S t begun sealed wrote same unlisted clear locked c = record {
   journal = journal_conf S t c.journal;
   coordinators = coordinators_conf S t sealed c.coordinators;
   fresh = record {
@@ -190,6 +202,10 @@ core_agreed S t begun sealed same unlisted clear locked c = record {
         (λ (o : S.conf a ≡ true). c.covered.joins a s o u j g)
         (λ (n : (a ≡ t) × (undecided S t ≡ true)). absurd (never (ap (λ x. S.got x s) (sym n.0) ∙ g) (no_joins s (ap (λ x. has s (S.plan x).joins) (sym n.0) ∙ j))))
         (marked_cases S t S.conf a ca);
+    plain = λ a ca u e. ⊎_elim
+      (λ (o : S.conf a ≡ true). c.covered.plain a o u e)
+      (λ (n : (a ≡ t) × (undecided S t ≡ true)). absurd (never wrote (ap is_some (ap (λ x. (S.plan x).writes) (sym n.0) ∙ e))))
+      (marked_cases S t S.conf a ca);
   };
   pending = record {
     sealed = c.pending.sealed;

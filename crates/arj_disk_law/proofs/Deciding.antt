@@ -175,6 +175,7 @@ core_decided S t recorded undone c = by (bool_cases (S.light t)) (c.coordinators
         own = λ a h ca u pe top. c.covered.own a h ca (falls a u) pe top ∙ ap (entry_after a (S.plan a) (S.got a)) (sym same_entry);
         rest = λ a ca u non. ap (entry_after a (S.plan a) (S.got a)) same_entry ∙ (c.covered.rest a ca (falls a u) non ∙ sym same_entry);
         joins = λ a s ca u. c.covered.joins a s ca (falls a u);
+        plain = λ a ca u. c.covered.plain a ca (falls a u);
       };
       pending = pending;
       effective = record {
@@ -256,6 +257,7 @@ core_decided S t recorded undone c = by (bool_cases (S.light t)) (c.coordinators
         own = λ a h ca ua. absurd (vacuous a ca ua);
         rest = λ a ca ua. absurd (vacuous a ca ua);
         joins = λ a s ca ua. absurd (vacuous a ca ua);
+        plain = λ a ca ua. absurd (vacuous a ca ua);
       };
       pending = pending;
       effective = record {
@@ -378,6 +380,7 @@ core_removed S t nodes is done landed no_entry c = record {
     own = λ a h ca u. c.covered.own a h ca (falls a u);
     rest = λ a ca u. c.covered.rest a ca (falls a u);
     joins = λ a s ca u. c.covered.joins a s ca (falls a u);
+    plain = λ a ca u. c.covered.plain a ca (falls a u);
   };
   pending = record {
     sealed = c.pending.sealed;

@@ -40,7 +40,7 @@ core_entry_moved S h prepared done c = record {
   firm = c.firm;
   light = c.light;
   alone = c.alone;
-  covered = record { stores = λ a s ca act w l. c.covered.stores a s ca act w (listed s l); own = c.covered.own; rest = c.covered.rest; joins = c.covered.joins };
+  covered = record { stores = λ a s ca act w l. c.covered.stores a s ca act w (listed s l); own = c.covered.own; rest = c.covered.rest; joins = c.covered.joins; plain = c.covered.plain };
   pending = record {
     sealed = c.pending.sealed;
     open_conf = c.pending.open_conf;
@@ -88,6 +88,7 @@ core_entry_ended S h prepared unexcused closed entry c = record {
     own = λ a k ca u pe. none k pe;
     rest = λ a ca u non. c.covered.rest a ca u (λ k pe top. not_own a u k pe top);
     joins = λ a s ca u j g. let x = c.covered.joins a s ca u j g in absurd (not_own a u x.0 x.1 x.2);
+    plain = c.covered.plain;
   };
   pending = record {
     sealed = λ k pe. none k pe;

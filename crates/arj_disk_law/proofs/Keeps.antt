@@ -67,9 +67,9 @@ kept_by W (Effects.Keep t s) x w = let m = w.mail (Prepare t s) x.asked in recor
 kept_by W (Effects.Move s h) x w = record { core = core_moved W.disk s h x.0 (w.mail (ToldCommit h.top s) x.1) w.core; grows = grows_moved W.disk s h; bare = λ a b g. b }
 kept_by W (Effects.Finish s h) x w = let d = w.mail (ToldCommit h.top s) x.1 in record { core = core_finished W.disk s h x.0 d x.2 w.core; grows = grows_finished W.disk s h x.0 (closed W.disk h.top d); bare = λ a b g. b }
 kept_by W (Effects.Drop s h) x w = let m = w.mail (ToldAbort h.top s) x.1 in record { core = core_dropped W.disk s h x.0 m.1 m.2 w.core; grows = grows_dropped W.disk s h x.0 m.1; bare = λ a b g. b }
-kept_by W (Effects.Agree t) x w = let m = w.mail (Confirm t) x.asked in record { core = core_agreed W.disk t m.0 m.1 x.same x.unlisted x.clear x.locked w.core; grows = grows_agreed W.disk t; bare = λ a b g. b }
+kept_by W (Effects.Agree t) x w = let m = w.mail (Confirm t) x.asked in record { core = core_agreed W.disk t m.0 m.1 x.writes x.same x.unlisted x.clear x.locked w.core; grows = grows_agreed W.disk t; bare = λ a b g. b }
 kept_by W (Effects.Pass t) x w = let m = w.mail (Confirm t) x.asked in record { core = core_passed W.disk t m.0 m.1 x.plain x.none x.unlisted x.clear x.unconfirmed w.core; grows = grows_passed W.disk t; bare = λ a b g. b }
-kept_by W (Effects.Enter t) x w = let m = w.mail (Confirm t) x.asked in record { core = core_entered W.disk t m.0 m.1 x.free x.other x.stores x.undone x.locked w.core; grows = grows_entered W.disk t x.undone; bare = λ a b g. b }
+kept_by W (Effects.Enter t) x w = let m = w.mail (Confirm t) x.asked in record { core = core_entered W.disk t m.0 m.1 x.free x.other x.stores x.undone x.unlisted x.locked w.core; grows = grows_entered W.disk t x.undone; bare = λ a b g. b }
 kept_by W (Effects.MoveEntry h) x w = record { core = core_entry_moved W.disk h x.0 (w.mail (ToldCommit h.top naming) x.1) w.core; grows = grows_entry_moved W.disk h; bare = λ a b g. b }
 kept_by W (Effects.FinishEntry h) x w = record { core = core_entry_finished W.disk h x.0 (w.mail (ToldCommit h.top naming) x.1) x.2 w.core; grows = grows_entry_finished W.disk h; bare = λ a b g. b }
 kept_by W (Effects.DropEntry h) x w = let m = w.mail (ToldAbort h.top naming) x.1 in record { core = core_entry_dropped W.disk h x.0 m.1 m.2 w.core; grows = grows_entry_dropped W.disk h; bare = λ a b g. b }

@@ -55,6 +55,16 @@ pub filter_none : (f : ℕ → Bool) (l : List ℕ) → ((s : ℕ) → has s l �
 filter_none f [] all = refl
 filter_none f (x ∷ l) all = rw (all x (or_left (x == x) (has x l) (test_same x))) (filter_none f l (λ s h. all s (or_right (x == s) (has s l) h)))
 
+-- a number of the list that passes, or none does
+pub find_true : (f : ℕ → Bool) (l : List ℕ) → ((s : ℕ) × (has s l ≡ true) × (f s ≡ true)) ⊎ ((s : ℕ) → has s l ≡ true → f s ≡ false)
+find_true f [] = inr (λ s h. let n : false ≡ true = h in cc)
+find_true f (x ∷ l) = by (find_true f l) (f x) refl
+  where
+    by : ((s : ℕ) × (has s l ≡ true) × (f s ≡ true)) ⊎ ((s : ℕ) → has s l ≡ true → f s ≡ false) → (b : Bool) → f x ≡ b → ((s : ℕ) × (((x == s) || has s l) ≡ true) × (f s ≡ true)) ⊎ ((s : ℕ) → ((x == s) || has s l) ≡ true → f s ≡ false)
+    by rest true e = inl (x, or_left (x == x) (has x l) (test_same x), e)
+    by (inl found) false e = inl (found.0, or_right (x == found.0) (has found.0 l) found.1, found.2)
+    by (inr none) false e = inr (λ s h. ⊎_elim (λ (t : (x == s) ≡ true). ap f (sym (test_is x s t)) ∙ e) (λ (t : has s l ≡ true). none s t) (or_cases (x == s) (has s l) h))
+
 -- which stores stay
 abbrev stays : Plan → (ℕ → Bool) → ℕ → Bool
 stays p got s = not (target p s && not (got s))

@@ -69,7 +69,7 @@ decide_falls S t a = open_falls ((t == a) || decided S a) (decided S a) (put t G
     undone : ((t == a) || decided S a) ≡ false → decided S a ≡ false
     undone n = falls_to (decided S a) (λ d. never (or_right (t == a) (decided S a) d) n)
 
-stage_falls : (S : State) (g : ℕ → Stage) → Ages S.stage g → (a : ℕ) → open_by (decided S a) (g a) (S.intent a) ≡ true → undecided S a ≡ true
+pub stage_falls : (S : State) (g : ℕ → Stage) → Ages S.stage g → (a : ℕ) → open_by (decided S a) (g a) (S.intent a) ≡ true → undecided S a ≡ true
 stage_falls S g ages a = open_falls (decided S a) (decided S a) (g a) (S.stage a) (S.intent a) (S.intent a) (λ n. n) (λ n. ages.opens a) (λ i. inr i)
 
 pub grows_same : (S : State) → Grows S S

@@ -238,7 +238,7 @@ first_is_whole S f = record { core = core; mail = λ m i. absurd i }
       firm = record { kept = λ t s u g. none (f.none_got t s) g; done = λ t s d. undone t d; listed = λ t s d. undone t d; went = λ t s h. none (f.none_went t s) h };
       light = record { plain = λ t h. none (f.none_light t) h; none = λ t s h. none (f.none_light t) h; other = λ t h. none (f.none_light t) h; late = λ t s h l. none (f.none_light t) l };
       alone = record { one = λ t z h. none (f.none_conf t) h; next = λ t w h. none (f.none_conf t) h; loaded = λ t s h. none (f.none_conf t) h };
-      covered = record { stores = λ t s h. none (f.none_conf t) h; own = λ t h c. none (f.none_conf t) c; rest = λ t h. none (f.none_conf t) h; joins = λ t s h. none (f.none_conf t) h };
+      covered = record { stores = λ t s h. none (f.none_conf t) h; own = λ t h c. none (f.none_conf t) c; rest = λ t h. none (f.none_conf t) h; joins = λ t s h. none (f.none_conf t) h; plain = λ t h. none (f.none_conf t) h };
       pending = record {
         sealed = λ h p. none_some f.entry_free p;
         open_conf = λ h p. none_some f.entry_free p;

@@ -56,6 +56,7 @@ covered_falls S g i b falls c = record {
   own = λ t h ct ut. c.own t h ct (falls t ut);
   rest = λ t ct ut. c.rest t ct (falls t ut);
   joins = λ t s ct ut. c.joins t s ct (falls t ut);
+  plain = λ t ct ut. c.plain t ct (falls t ut);
 }
 
 pub pending_falls : (S : State) (g : ℕ → Stage) (i : ℕ → Option (List ℕ)) (b : ℕ → Bool) → Falls (at S g i b) S → ((a : ℕ) → is_sealed (S.stage a) ≡ true → is_sealed (g a) ≡ true)

@@ -180,6 +180,7 @@ pub record CanEnter (W : World) (t : ℕ) : Type 0 where
   pub other : bytes_eq (new_list W.disk t) W.disk.entry.content ≡ false
   pub stores : (s : ℕ) × (has s (new_list W.disk t) ≡ true)
   pub undone : decided W.disk t ≡ false
+  pub unlisted : IsUnlisted W.disk t
   pub locked : undecided W.disk t ≡ true → Locked W.disk t
 
 -- what a node looks at before an effect

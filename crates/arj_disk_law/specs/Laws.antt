@@ -1,7 +1,7 @@
 -- What follows from what holds at every moment: clean disks, exclusion in time, one outcome.
 use Rattle.std.specs.Prelude.{◌≡◌, ◌⊎◌, ℕ, ◌+◌, ◌<◌, ◌≤◌, List, [], ◌∷◌, take, map, true, false, ◌&&◌, not, Some, None, is_some, if◌then◌else◌, bytes_eq}
 use Rattle.arj_disk_law.specs.Effects.{World, Effect, Decide, Move, Finish, Drop, MoveEntry, FinishEntry, DropEntry, Forget, Allowed, Follows, Whole, run}
-use Rattle.arj_disk_law.specs.State.{State, Packed, Hold, Done, Idle, decided, target, state_for, list_after, entry_in, last, last_entry, Known, Below, is_latest, IsExcused}
+use Rattle.arj_disk_law.specs.State.{State, Packed, Hold, Done, Idle, decided, target, state_for, list_after, entry_in, last, last_entry, KnownIn, Below, is_latest, IsExcused}
 use Rattle.arj_disk_law.specs.Words.{has, In}
 
 -- The object as a format leaves it: each listed store holds the first state, and nothing has happened.
@@ -73,10 +73,13 @@ pub record VersionsCount (S : State) : Type 0 where
   pub entry : (last_entry S).version ≡ S.first_entry.version + changes_in S.first_entry S.tops
 
 -- A changed state is one version above a known one: what the servers give.
-pub record IsBased (S : State) (w : Packed) : Type 0 where
+pub record BasedIn (first : Packed) (tops : List Done) (w : Packed) : Type 0 where
   pub base : Packed
-  pub known : Known S base
+  pub known : KnownIn first tops base
   pub above : w.version ≡ base.version + 1
+
+abbrev pub IsBased : State → Packed → Type 0
+IsBased S w = BasedIn S.first S.tops w
 
 -- An answer that a store holds a version not below the one sent names one that was committed, and not the first.
 abbrev pub OldIsCommitted : State → Type 0

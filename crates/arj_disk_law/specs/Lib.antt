@@ -1,6 +1,10 @@
 pub mod Core
 pub mod Effects
+pub mod Guards
 pub mod Laws
 pub mod Messages
+pub mod Named
+pub mod Names
+pub mod NamingLaws
 pub mod State
 pub mod Words

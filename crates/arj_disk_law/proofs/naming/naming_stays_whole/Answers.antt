@@ -1,0 +1,8 @@
+use Rattle.arj_disk_law.proofs.NamingResults.{first_is_named, stops_stay_named}
+use Rattle.arj_disk_law.proofs.naming.naming_stays_whole.Goals as goal
+
+pub returns-clause-first : goal.returns-clause-first
+returns-clause-first c = first_is_named
+
+pub returns-clause-acts : goal.returns-clause-acts
+returns-clause-acts c = stops_stay_named

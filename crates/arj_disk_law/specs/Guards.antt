@@ -1,0 +1,189 @@
+-- What the naming node, and the coordinators towards it, look at before an act.
+use Rattle.std.specs.Prelude.{◌≡◌, ◌⊎◌, ℕ, ◌+◌, ◌≤◌, List, [], ◌∷◌, Bool, true, false, Option, Some, None, is_some, bytes_eq, ⊤}
+use Rattle.arj_disk_law.specs.Effects.{World, Effect, Begin, Take, Seal, Intend, Decide, Remove, EndBare, Halt, Keep, Move, Finish, Drop, Agree, Pass, Enter, MoveEntry, FinishEntry, DropEntry, Forget, Send, Allowed, MaySend, IsNot, IsUnlisted, new_list}
+use Rattle.arj_disk_law.specs.Laws.{IsBased}
+use Rattle.arj_disk_law.specs.Messages.{Message, Prepare, Prepared, Confirm, Confirmed, ToldCommit, ToldBare, ToldAbort, Acked, ToldSerial}
+use Rattle.arj_disk_law.specs.Names.{Names, Office, Kept, Answer, Bound, Loaded, Act, Do, Commit, CommitBare, Read, Write, Exclude, Lower, Unbind, EndTop, EndSerial, Restart, Hear, KeepList, AnswerLoad, acted, load_of}
+use Rattle.arj_disk_law.specs.State.{State, Packed, Plan, Hold, Idle, naming, is_idle, is_gone, undecided, target, last}
+use Rattle.arj_disk_law.specs.Words.{has, In}
+
+-- the holder has a lock of at least this mode
+abbrev pub HasRow : Names → ℕ → ℕ → Type 0
+HasRow N h m = (n : ℕ) × (N.row h ≡ Some n) × (m ≤ n)
+
+-- each lock that conflicts with the mode is the top's own, or its root's
+abbrev pub IsFree : State → Names → ℕ → ℕ → Type 0
+IsFree S N t m = (h n : ℕ) → N.row h ≡ Some n → 2 ≤ m + n → (h ≡ t) ⊎ (h ≡ S.root t)
+
+-- neither the action nor its root was told of
+abbrev pub IsUntold : State → Names → ℕ → Type 0
+IsUntold S N t = (N.told t ≡ false) × (N.told (S.root t) ≡ false)
+
+-- each grant that the top has, or that its root retains, is of the present incarnation
+abbrev pub IsPresent : State → Names → ℕ → Type 0
+IsPresent S N t = (i : ℕ) → (N.had t i ≡ true) ⊎ (N.had (S.root t) i ≡ true) → i ≡ N.inc
+
+-- and there is one
+abbrev pub IsGranted : State → Names → ℕ → Type 0
+IsGranted S N t = (N.had t N.inc ≡ true) ⊎ (N.had (S.root t) N.inc ≡ true)
+
+-- the top changed the object, or includes a store
+abbrev pub HasPart : Plan → Type 0
+HasPart p = (is_some p.writes ≡ true) ⊎ ((s : ℕ) × (has s p.joins ≡ true))
+
+-- Where a marked store is listed, or stands in an entry that another top has prepared, the exclude lock is the top's.
+abbrev pub MayExclude : State → Names → ℕ → Type 0
+MayExclude S N t = (s : ℕ) → target (S.plan t) s ≡ true → S.got t s ≡ false
+    → (has s S.entry.content ≡ true) ⊎ ((h : Hold) × (S.entry_pend ≡ Some h) × (has s h.new.content ≡ true)) → HasRow N t 1
+
+-- A commit begins: none of its root's outcomes is open; what it wrote is one version above a known state, by a new writer;
+-- its list is the kept one; what it includes was loaded, or its root has it newer.
+pub record MayBegin (A : Office) (t : ℕ) (p : Plan) : Type 0 where
+  pub idle : A.world.disk.stage t ≡ Idle
+  pub root : is_gone (A.world.disk.stage (A.world.disk.root t)) ≡ false
+  pub top : A.world.disk.serial t ≡ false
+  pub first : (z : ℕ) → A.world.disk.root z ≡ A.world.disk.root t → undecided A.world.disk z ≡ false
+  pub based : (w : Packed) → p.writes ≡ Some w → IsBased A.world.disk w
+  pub writer : (w : Packed) → p.writes ≡ Some w → (w.writer ≡ t) × (A.world.disk.first.writer ≡ t → ⊥)
+  pub list : is_some p.writes ≡ true → (h : ℕ) × ((h ≡ t) ⊎ (h ≡ A.world.disk.root t)) × (k : Kept) × (A.names.kept h ≡ Some k) × (p.list ≡ k.list)
+  pub loaded : (s : ℕ) → has s p.joins ≡ true → (i : ℕ) × (g : Packed) × In (Loaded t i g) A.names.answers × (A.names.had t i ≡ true) × (p.loaded ≡ load_of A.world.disk t g)
+
+-- what a confirmation looks at in each case
+pub record MayConfirm (A : Office) (t : ℕ) : Type 0 where
+  pub asked : In (Confirm t) A.world.sent
+  pub new : A.names.confd t ≡ false
+  pub untold : IsUntold A.world.disk A.names t
+  pub unlisted : IsUnlisted A.world.disk t
+  pub exclude : MayExclude A.world.disk A.names t
+
+pub record MayAgree (A : Office) (t : ℕ) : Type 0 where
+  pub confirm : MayConfirm A t
+  pub present : IsPresent A.world.disk A.names t
+  pub granted : IsGranted A.world.disk A.names t
+  pub writes : is_some (A.world.disk.plan t).writes ≡ true
+  pub same : bytes_eq (new_list A.world.disk t) A.world.disk.entry.content ≡ true
+
+pub record MayPass (A : Office) (t : ℕ) : Type 0 where
+  pub confirm : MayConfirm A t
+  pub present : HasPart (A.world.disk.plan t) → IsPresent A.world.disk A.names t × IsGranted A.world.disk A.names t
+  pub plain : (A.world.disk.plan t).writes ≡ None
+  pub none : (s : ℕ) → A.world.disk.got t s ≡ false
+
+-- The last condition is what the servers give where the top wrote and includes a store, and no store of the entry said Yes.
+pub record MayEnter (A : Office) (t : ℕ) : Type 0 where
+  pub confirm : MayConfirm A t
+  pub present : IsPresent A.world.disk A.names t
+  pub granted : IsGranted A.world.disk A.names t
+  pub free : A.world.disk.entry_pend ≡ None
+  pub other : bytes_eq (new_list A.world.disk t) A.world.disk.entry.content ≡ false
+  pub stores : (s : ℕ) × (has s (new_list A.world.disk t) ≡ true)
+  pub corner : (w : Packed) → (A.world.disk.plan t).writes ≡ Some w → ((s : ℕ) → has s A.world.disk.entry.content ≡ true → A.world.disk.got t s ≡ false) → w.version ≡ (last A.world.disk).version + 1
+
+-- who acknowledges at the naming node was told there
+abbrev pub IsToldFirst : Names → Message → Type 0
+IsToldFirst N (Acked t m) = m ≡ naming → N.told t ≡ true
+IsToldFirst N (Prepare t s) = ⊤
+IsToldFirst N (Prepared t s) = ⊤
+IsToldFirst N (Confirm t) = ⊤
+IsToldFirst N (Confirmed t) = ⊤
+IsToldFirst N (ToldCommit t m) = ⊤
+IsToldFirst N (ToldBare t m) = ⊤
+IsToldFirst N (ToldAbort t m) = ⊤
+IsToldFirst N (ToldSerial r m) = ⊤
+
+-- A decision by which nothing is retained: the top's own, or one that its root doesn't see, since its coordinator stopped.
+abbrev pub IsUnretained : State → ℕ → Type 0
+IsUnretained S t = (is_gone (S.stage (S.root t)) ≡ true) ⊎ (S.root t ≡ t)
+
+-- what is looked at before an effect, where the naming node's half is there
+abbrev pub MayDo : Office → Effect → Type 0
+MayDo A (Begin t p) = MayBegin A t p
+MayDo A (Agree t) = MayAgree A t
+MayDo A (Pass t) = MayPass A t
+MayDo A (Enter t) = MayEnter A t
+MayDo A (Decide t) = Allowed A.world (Decide t) × IsUnretained A.world.disk t
+MayDo A (Send m) = MaySend A.world m × IsToldFirst A.names m
+MayDo A (Take t s) = Allowed A.world (Take t s)
+MayDo A (Seal t) = Allowed A.world (Seal t)
+MayDo A (Intend t nodes) = Allowed A.world (Intend t nodes)
+MayDo A (Remove t nodes) = Allowed A.world (Remove t nodes)
+MayDo A (EndBare t) = Allowed A.world (EndBare t)
+MayDo A (Halt t) = ⊤
+MayDo A (Keep t s) = Allowed A.world (Keep t s)
+MayDo A (Move s h) = Allowed A.world (Move s h)
+MayDo A (Finish s h) = Allowed A.world (Finish s h)
+MayDo A (Drop s h) = Allowed A.world (Drop s h)
+MayDo A (MoveEntry h) = Allowed A.world (MoveEntry h)
+MayDo A (FinishEntry h) = Allowed A.world (FinishEntry h)
+MayDo A (DropEntry h) = Allowed A.world (DropEntry h)
+MayDo A (Forget r h) = Allowed A.world (Forget r h)
+
+-- a top that isn't known to have ended asks for a lock that is free for it
+pub record MayLock (A : Office) (t m : ℕ) : Type 0 where
+  pub top : A.world.disk.serial t ≡ false
+  pub untold : IsUntold A.world.disk A.names t
+  pub free : IsFree A.world.disk A.names t m
+
+-- A new binding is recorded once, by a top that took its grant, and not while an entry of it is prepared, unless it asked
+-- the lock by an include too.
+pub record MayLower (A : Office) (t : ℕ) : Type 0 where
+  pub held : A.names.row t ≡ Some 2
+  pub had : A.names.had t A.names.inc ≡ true
+  pub top : A.world.disk.serial t ≡ false
+  pub clear : A.names.asked t ≡ false → IsNot A.world.disk.entry_pend t
+
+pub record MayEndTop (A : Office) (t : ℕ) (commits : Bool) : Type 0 where
+  pub top : A.world.disk.serial t ≡ false
+  pub untold : A.names.told t ≡ false
+  pub clear : IsNot A.world.disk.entry_pend t
+  pub told : (commits ≡ true → In (ToldCommit t naming) A.world.sent ⊎ In (ToldBare t naming) A.world.sent) × (commits ≡ false → In (ToldAbort t naming) A.world.sent)
+
+-- the entries of those whose locks go were forgotten before
+pub record MayEndSerial (A : Office) (r : ℕ) : Type 0 where
+  pub serial : A.world.disk.serial r ≡ true
+  pub told : In (ToldSerial r naming) A.world.sent
+  pub clear : (h : Hold) → A.world.disk.entry_pend ≡ Some h → A.world.disk.root h.top ≡ r → A.names.given h.top ≡ true
+
+-- an answer is taken while the top works and its root is there
+pub record MayHear (A : Office) (t i : ℕ) (b : Bool) (l : List ℕ) : Type 0 where
+  pub answered : In (Bound t i b l) A.names.answers
+  pub idle : A.world.disk.stage t ≡ Idle
+  pub root : is_gone (A.world.disk.stage (A.world.disk.root t)) ≡ false
+
+-- an answer's list is kept for an action of the root that has a grant of that incarnation
+pub record MayKeepList (A : Office) (h t i : ℕ) (l : List ℕ) : Type 0 where
+  pub hears : MayHear A t i false l
+  pub family : A.world.disk.root h ≡ A.world.disk.root t
+  pub had : A.names.had h i ≡ true
+
+-- a store of an include's list, where the object isn't in doubt, answers with what it holds
+pub record MayAnswerLoad (A : Office) (t i s : ℕ) (l : List ℕ) (g : Packed) : Type 0 where
+  pub answered : In (Bound t i true l) A.names.answers
+  pub listed : has s l ≡ true
+  pub free : A.world.disk.pend s ≡ None
+  pub held : A.world.disk.held s ≡ Some g
+
+abbrev pub May : Office → Act → Type 0
+May A (Do e) = MayDo A e
+May A (Commit t) = Allowed A.world (Decide t)
+May A (CommitBare t) = Allowed A.world (EndBare t)
+May A (Read t) = MayLock A t 0 × (A.names.live ≡ true)
+May A (Write t b) = MayLock A t 2
+May A (Exclude t) = MayLock A t 1
+May A (Lower t) = MayLower A t
+May A Unbind = ⊤
+May A (EndTop t commits) = MayEndTop A t commits
+May A (EndSerial r) = MayEndSerial A r
+May A Restart = ⊤
+May A (Hear t i b l) = MayHear A t i b l
+May A (KeepList h t i l) = MayKeepList A h t i l
+May A (AnswerLoad t i s l g) = MayAnswerLoad A t i s l g
+
+-- each act of the list may be done when it comes
+abbrev pub Runs : Office → List Act → Type 0
+Runs A [] = ⊤
+Runs A (a ∷ acts) = May A a × Runs (acted A a) acts
+
+abbrev pub end_of : Office → List Act → Office
+end_of A [] = A
+end_of A (a ∷ acts) = end_of (acted A a) acts

@@ -1,0 +1,44 @@
+-- What follows with the naming node's half.
+use Rattle.std.specs.Prelude.{◌≡◌, ◌⊎◌, ◌≢◌, ℕ, ◌+◌, List, [], take, Bool, true, false, Option, Some, None, is_some}
+use Rattle.arj_disk_law.specs.Effects.{World, Whole, Locked}
+use Rattle.arj_disk_law.specs.Guards.{Runs, end_of, IsPresent, MayAgree, MayEnter}
+use Rattle.arj_disk_law.specs.Laws.{IsFirst}
+use Rattle.arj_disk_law.specs.Named.{Named}
+use Rattle.arj_disk_law.specs.Names.{Names, Office, Act}
+use Rattle.arj_disk_law.specs.State.{State, Packed, undecided, target, state_for, last, Below}
+
+-- Roots as actions have them: a serializing action is its own root, as are plain tops and independent ones.
+pub record IsForest (S : State) : Type 0 where
+  pub serial : (r : ℕ) → S.serial r ≡ true → S.root r ≡ r
+  pub plain : (t : ℕ) → S.serial (S.root t) ≡ false → S.root t ≡ t
+  pub idem : (t : ℕ) → S.root (S.root t) ≡ S.root t
+
+-- the naming node's half as a format leaves it
+pub record IsFirstNames (N : Names) : Type 0 where
+  pub row : (h : ℕ) → N.row h ≡ None
+  pub given : (t : ℕ) → N.given t ≡ false
+  pub told : (t : ℕ) → N.told t ≡ false
+  pub confd : (t : ℕ) → N.confd t ≡ false
+  pub asked : (t : ℕ) → N.asked t ≡ false
+  pub had : (t i : ℕ) → N.had t i ≡ false
+  pub kept : (h : ℕ) → N.kept h ≡ None
+  pub answers : N.answers ≡ []
+
+abbrev pub FirstIsNamed : Type 0
+FirstIsNamed = (S : State) (N : Names) → IsFirst S → IsForest S → IsFirstNames N → Named (record { world = record { disk = S; sent = [] }; names = N })
+
+-- a list of acts, stopped anywhere
+abbrev pub StopsStayNamed : Type 0
+StopsStayNamed = (A : Office) (acts : List Act) (n : ℕ) → Runs A acts → Named A → Named (end_of A (take n acts))
+
+-- The book of locks: what a confirmation counts on, from the naming node's half and the stores.
+pub record IsBooked (A : Office) : Type 0 where
+  pub agrees : (t : ℕ) → MayAgree A t → undecided A.world.disk t ≡ true → Locked A.world.disk t
+  pub enters : (t : ℕ) → MayEnter A t → undecided A.world.disk t ≡ true → Locked A.world.disk t
+
+-- A store refuses a state as not above what it holds only if a grant that the top counts on is of an earlier incarnation of
+-- the naming node, so that it has restarted since; for a changed state, as long as the servers give the next version.
+abbrev pub OldNeedsRestart : Office → Type 0
+OldNeedsRestart A = (t s : ℕ) (g : Packed) → undecided A.world.disk t ≡ true → target (A.world.disk.plan t) s ≡ true
+    → ((w : Packed) → (A.world.disk.plan t).writes ≡ Some w → w.version ≡ (last A.world.disk).version + 1)
+    → A.world.disk.held s ≡ Some g → (Below g (state_for (A.world.disk.plan t)) → ⊥) → IsPresent A.world.disk A.names t → ⊥

@@ -1,0 +1,20 @@
+// Laws with the naming node's half: locks, grants, kept lists.
+ghost use Rattle.arj_disk_law.specs.Named.{Named};
+ghost use Rattle.arj_disk_law.specs.Names.{Office};
+ghost use Rattle.arj_disk_law.specs.NamingLaws.{FirstIsNamed, IsBooked, OldNeedsRestart, StopsStayNamed};
+
+/// What holds of a formatted object with the naming node's half holds after every list of acts that may be done, stopped
+/// anywhere; for tops with locks of their own and for constituents that use what their serializing action retains. It does
+/// nothing when it runs.
+pub fn naming_stays_whole()
+    ensures first { FirstIsNamed }
+    ensures acts { StopsStayNamed }
+{}
+
+/// All that a confirmation counts on follows from the naming node's half and the stores, with no lock of a server: it is
+/// alone, its version is the next one, what it includes is the last state, and its list names each listed store. It does
+/// nothing when it runs.
+pub fn confirmations_are_booked()
+    ensures booked { (A : Office) → Named A → IsBooked A }
+    ensures old { (A : Office) → Named A → OldNeedsRestart A }
+{}
