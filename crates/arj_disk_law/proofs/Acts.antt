@@ -1,15 +1,14 @@
 -- Every act keeps what holds at every moment, and so does every list of acts.
-use Rattle.std.proofs.Common.{◌≡◌, ◌⊎◌, ℕ, zero, suc, List, [], ◌∷◌, take, Bool, true, false, Option, Some, None, is_some, refl, sym, ◌∙◌, ap, subst, inl, inr, ⊎_elim}
+use Rattle.std.proofs.Common.{◌≡◌, ◌⊎◌, ℕ, zero, suc, List, [], ◌∷◌, take, Bool, true, false, Some, sym, ◌∙◌, ap, subst, inl, inr, ⊎_elim}
 use Rattle.arj_disk_law.specs.Core.{Core}
 use Rattle.arj_disk_law.specs.Effects
 use Rattle.arj_disk_law.specs.Effects.{World, Whole, Allowed, changed}
-use Rattle.arj_disk_law.specs.Guards.{IsUntold, IsPresent, May, MayDo, Runs, end_of}
+use Rattle.arj_disk_law.specs.Guards.{IsPresent, May, MayDo, Runs, end_of}
 use Rattle.arj_disk_law.specs.Messages.{Acked, IsOver}
 use Rattle.arj_disk_law.specs.Named.{Named, IsHeld, IsWide, AnswerMeans}
 use Rattle.arj_disk_law.specs.Names
 use Rattle.arj_disk_law.specs.Names.{Names, Office, Act, Kept, Answer, Bound, Loaded, acted, retained, or_else}
 use Rattle.arj_disk_law.specs.State.{State, naming, decided, undecided, is_open, is_gone}
-use Rattle.arj_disk_law.specs.Words.{In, put}
 use Rattle.arj_disk_law.proofs.Base.{never, falls_to, open_made, put_same}
 use Rattle.arj_disk_law.proofs.Committing.{decide_named, commit_named}
 use Rattle.arj_disk_law.proofs.Confirmed.{agreed_named, passed_named, entered_named}
@@ -40,30 +39,30 @@ retain_named A t done untold c = record {
     past = λ a i h. ⊎_elim (λ (o : N.had a i ≡ true). c.grants.past a i o) (λ (o : (a ≡ S.root t) × (N.had t i ≡ true)). c.grants.past t i o.1) (had_cases S t N.had a i h);
     row = λ a s h u. c.grants.row a s (had_top S t N.had c.roots a N.inc s h) u;
     root = λ a s h u. ⊎_elim
-      (λ (y : N.had a N.inc ≡ true). held a (c.grants.root a s y u))
-      (λ (y : (a ≡ S.root t) × (N.had t N.inc ≡ true)). inr (inr (t, sym y.0, done, untold, more t N.inc y.1)))
-      (had_cases S t N.had a N.inc h);
+        (λ (y : N.had a N.inc ≡ true). held a (c.grants.root a s y u))
+        (λ (y : (a ≡ S.root t) × (N.had t N.inc ≡ true)). inr (inr (t, sym y.0, done, untold, more t N.inc y.1)))
+        (had_cases S t N.had a N.inc h);
     conf = λ a y h. c.grants.conf a y (had_top S t N.had c.roots a N.inc (taken_top a y) h);
     part = λ a y p. let z = c.grants.part a y p in (z.0, either a z.0 z.1, z.2);
     yes = c.grants.yes;
     listed = λ a d h u. c.grants.listed a d (had_top S t N.had c.roots a N.inc (taken_top a (core.coordinators.decided_taken a d)) h) u;
     acked = λ a m. ⊎_elim
-      (λ (h : N.told a ≡ true). inl h)
-      (λ (h : N.had a N.inc ≡ false). inr (falls_to (had a N.inc) (λ y. never (had_top S t N.had c.roots a N.inc (taken_top a (core.coordinators.decided_taken a (c.whole.mail (Acked a naming) m).0)) y) h)))
-      (c.grants.acked a m);
+        (λ (h : N.told a ≡ true). inl h)
+        (λ (h : N.had a N.inc ≡ false). inr (falls_to (had a N.inc) (λ y. never (had_top S t N.had c.roots a N.inc (taken_top a (core.coordinators.decided_taken a (c.whole.mail (Acked a naming) m).0)) y) h)))
+        (c.grants.acked a m);
     told = c.grants.told;
   };
   lists = record {
     had = λ h k e. ⊎_elim
-      (λ (y : N.kept h ≡ Some k). more h k.since (c.lists.had h k y))
-      (λ (y : (h ≡ S.root t) × (N.kept t ≡ Some k)). ap (λ n. had n k.since) y.0 ∙ had_root S t N.had k.since (c.lists.had t k y.1))
-      (kept_cases S t N.kept h k e);
+        (λ (y : N.kept h ≡ Some k). more h k.since (c.lists.had h k y))
+        (λ (y : (h ≡ S.root t) × (N.kept t ≡ Some k)). ap (λ n. had n k.since) y.0 ∙ had_root S t N.had k.since (c.lists.had t k y.1))
+        (kept_cases S t N.kept h k e);
     kept = λ h k e p u. ⊎_elim
-      (λ (y : N.kept h ≡ Some k). c.lists.kept h k y (present h p) u)
-      (λ (y : (h ≡ S.root t) × (N.kept t ≡ Some k)).
+        (λ (y : N.kept h ≡ Some k). c.lists.kept h k y (present h p) u)
+        (λ (y : (h ≡ S.root t) × (N.kept t ≡ Some k)).
         let f : S.root h ≡ S.root t = ap S.root y.0 ∙ c.roots.idem t in
         subst (λ n. IsOver S n ⊎ IsWide S n k.list) (sym f) (c.lists.kept t k y.1 (present_t h f p) (untold, ap N.told (sym f) ∙ u.1)))
-      (kept_cases S t N.kept h k e);
+        (kept_cases S t N.kept h k e);
     plan = λ a u w. let y = c.lists.plan a u w in (y.0, either a y.0 y.1, λ p. y.2 (present a p));
     light = λ a s l u p. c.lists.light a s l u (present a p);
   };

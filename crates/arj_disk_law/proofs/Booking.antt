@@ -1,27 +1,27 @@
 -- What a confirmation counts on follows from the locks, the lists and the stores: no lock of a server is needed.
-use Rattle.std.proofs.Common.{◌≡◌, ◌⊎◌, ℕ, ◌+◌, ◌<◌, ◌≤◌, List, [], ◌∷◌, Bool, true, false, cond, ◌==◌, ◌||◌, ◌&&◌, not, Option, Some, None, is_some, unwrap_or, refl, sym, ◌∙◌, ap, subst, inl, inr, ⊎_elim, arith}
+use Rattle.std.proofs.Common.{◌≡◌, ◌⊎◌, ℕ, ◌+◌, ◌≤◌, List, [], ◌∷◌, Bool, true, false, ◌==◌, ◌&&◌, not, Option, Some, None, is_some, unwrap_or, refl, sym, ◌∙◌, ap, subst, inl, inr, ⊎_elim, arith}
 use Rattle.std.specs.Str.{bytes_eq}
 use Rattle.arj_disk_law.specs.Core.{Core}
-use Rattle.arj_disk_law.specs.Effects.{World, Whole, Locked, IsClear, IsUnlisted, new_list}
-use Rattle.arj_disk_law.specs.Guards.{HasRow, IsUntold, IsPresent, IsGranted, HasPart, MayConfirm, MayAgree, MayEnter, MayPass}
+use Rattle.arj_disk_law.specs.Effects.{Locked, IsClear, new_list}
+use Rattle.arj_disk_law.specs.Guards.{HasRow, IsPresent, IsGranted, HasPart, MayConfirm}
 use Rattle.arj_disk_law.specs.Laws.{IsBased}
 use Rattle.arj_disk_law.specs.Messages.{Confirm, IsOver}
-use Rattle.arj_disk_law.specs.Named.{Named, Related, IsLeaving, IsWide}
+use Rattle.arj_disk_law.specs.Named.{Named, IsLeaving}
 use Rattle.arj_disk_law.specs.Names.{Names, Office}
-use Rattle.arj_disk_law.specs.State.{State, Packed, Plan, Hold, Done, decided, undecided, target, state_for, hold, list_after, entry_after, last, last_entry, last_in, KnownIn, Known, Below, Listed, Excused, IsExcused, effective_by}
+use Rattle.arj_disk_law.specs.State.{State, Packed, Plan, Hold, Done, decided, undecided, target, state_for, hold, list_after, last, last_entry, KnownIn, Below, Listed, IsExcused}
 use Rattle.arj_disk_law.specs.Words.{has, In}
-use Rattle.arj_disk_law.proofs.Base.{bool_cases, test_cases, differs, or_left, or_right, never, never_some, some_is, falls_to, open_done}
-use Rattle.arj_disk_law.proofs.Entries.{last_listed, pending_last}
+use Rattle.arj_disk_law.proofs.Base.{bool_cases, test_cases, differs, or_left, never, never_some, some_is, falls_to, open_done}
+use Rattle.arj_disk_law.proofs.Entries.{pending_last}
 use Rattle.arj_disk_law.proofs.History.{known_last, last_known, effective_none, effective_open, in_decided}
-use Rattle.arj_disk_law.proofs.Kin.{one_top, near, weaker_row, Kin, kin_granted, not_over, open_untold}
-use Rattle.arj_disk_law.proofs.Listing.{find_true, list_from, list_lacks, list_joins, list_same, list_is, same_list, entry_content, join_target, plain_target}
+use Rattle.arj_disk_law.proofs.Kin.{one_top, near, weaker_row, Kin, kin_granted, not_over}
+use Rattle.arj_disk_law.proofs.Listing.{find_true, list_from, list_lacks, list_joins, list_same, list_is, same_list, entry_content, plain_target}
 
 -- where the list stays, each listed target has prepared
 pub unchanged_got : (p : Plan) (got : ℕ → Bool) (l : List ℕ) (s : ℕ) → bytes_eq (list_after p got l) l ≡ true → has s l ≡ true → target p s ≡ true → got s ≡ true
 unchanged_got p got l s same i goal = ⊎_elim
-  (λ (g : got s ≡ true). g)
-  (λ (g : got s ≡ false). absurd (never (subst (λ k. has s k ≡ true) (sym (same_list (list_after p got l) l same)) i) (list_lacks p got l s goal g)))
-  (bool_cases (got s))
+    (λ (g : got s ≡ true). g)
+    (λ (g : got s ≡ false). absurd (never (subst (λ k. has s k ≡ true) (sym (same_list (list_after p got l) l same)) i) (list_lacks p got l s goal g)))
+    (bool_cases (got s))
 
 -- a known state is the first one, or what a decided top wrote
 known_cases : (first : Packed) (ds : List Done) (g : Packed) → KnownIn first ds g → (first ≡ g) ⊎ ((d : Done) × In d ds × (d.plan.writes ≡ Some g))
@@ -98,7 +98,7 @@ module _ (A : Office) (c : Named A) (t : ℕ) (may : MayConfirm A t) (present : 
 
       new : has joined.0 own.0.new.content ≡ true
       new = subst (λ l. has joined.0 l ≡ true) (sym (ap (λ (e : Packed). e.content) (core.covered.own z own.0 cz uz own.1 own.2) ∙ entry_content z (S.plan z) (S.got z) (last_entry S)))
-        (list_joins (S.plan z) (S.got z) (last_entry S).content joined.0 joined.1 joined.2)
+          (list_joins (S.plan z) (S.got z) (last_entry S).content joined.0 joined.1 joined.2)
 
       out : has joined.0 S.entry.content ≡ false
       out = c.rows.out own.0 joined.0 own.1 (ap (decided S) own.2 ∙ open_done (decided S z) (S.stage z) (S.intent z) uz) (subst (λ n. has joined.0 (S.plan n).joins ≡ true) (sym own.2) joined.1)
@@ -106,9 +106,9 @@ module _ (A : Office) (c : Named A) (t : ℕ) (may : MayConfirm A t) (present : 
   -- a store that has prepared for it and is listed, and isn't about to leave for the other, shows that there is no other
   by_store : HasPart (S.plan t) → undecided S t ≡ true → (z s : ℕ) → S.conf z ≡ true → undecided S z ≡ true → is_some (S.plan z).writes ≡ true → has s (last_entry S).content ≡ true → S.got t s ≡ true → (IsExcused S z s → ⊥) → ⊥
   by_store part u z s cz uz wrote listed got unexcused = ⊎_elim
-    (λ (g : S.got z s ≡ true). other_conf part z cz (ap (λ (h : Hold). h.top) (some_is (core.firm.kept z s uz g) (core.firm.kept t s u got))))
-    (λ (x : IsExcused S z s). unexcused x)
-    (core.covered.stores z s cz (inl uz) wrote (inr listed))
+      (λ (g : S.got z s ≡ true). other_conf part z cz (ap (λ (h : Hold). h.top) (some_is (core.firm.kept z s uz g) (core.firm.kept t s u got))))
+      (λ (x : IsExcused S z s). unexcused x)
+      (core.covered.stores z s cz (inl uz) wrote (inr listed))
 
   -- with such a store the version that it wrote is the next one
   pub next_by_store : undecided S t ≡ true → (s : ℕ) (w : Packed) → (S.plan t).writes ≡ Some w → has s (last_entry S).content ≡ true → S.got t s ≡ true → w.version ≡ (last S).version + 1
@@ -150,9 +150,9 @@ module _ (A : Office) (c : Named A) (t : ℕ) (may : MayConfirm A t) (present : 
   -- each listed store is in its list, or about to leave
   pub wide : HasPart (S.plan t) → undecided S t ≡ true → (s : ℕ) → is_some (S.plan t).writes ≡ true → Listed S s → (target (S.plan t) s ≡ true) ⊎ IsLeaving S.root (decided S) S.entry_pend (S.root t) s
   wide part u s wrote listed = ⊎_elim
-    (λ (i : has s (S.plan t).list ≡ true). inl (written_target (S.plan t) s wrote i))
-    (λ (x : IsLeaving S.root (decided S) S.entry_pend (S.root t) s). inr x)
-    ((c.lists.plan t u wrote).2 (present part).0 s listed)
+      (λ (i : has s (S.plan t).list ≡ true). inl (written_target (S.plan t) s wrote i))
+      (λ (x : IsLeaving S.root (decided S) S.entry_pend (S.root t) s). inr x)
+      ((c.lists.plan t u wrote).2 (present part).0 s listed)
 
   excuse : (s : ℕ) → IsLeaving S.root (decided S) S.entry_pend (S.root t) s → IsExcused S t s
   excuse s x = record { by_entry = x.by_entry; there = x.there; whose = inr (x.done_by, x.of_root); lacks = x.lacks }
@@ -165,9 +165,9 @@ module _ (A : Office) (c : Named A) (t : ℕ) (may : MayConfirm A t) (present : 
     unconfirmed = falls_to (S.conf t) (λ h. unconfirmed part (inl h));
     not_light = falls_to (S.light t) (λ h. unconfirmed part (inr h));
     alone = λ z cz uz. ⊎_elim
-      (λ (x : (s : ℕ) × (has s (S.plan t).joins ≡ true)). other_conf part z cz ((loaded part u x.0 x.1).1 z cz uz))
-      (λ (none : (s : ℕ) → has s (S.plan t).joins ≡ false). by none z cz uz (S.plan z).writes refl)
-      (some_or_none (S.plan t).joins);
+        (λ (x : (s : ℕ) × (has s (S.plan t).joins ≡ true)). other_conf part z cz ((loaded part u x.0 x.1).1 z cz uz))
+        (λ (none : (s : ℕ) → has s (S.plan t).joins ≡ false). by none z cz uz (S.plan z).writes refl)
+        (some_or_none (S.plan t).joins);
     next = next;
     loaded = λ s j. (loaded part u s j).0;
     wide = λ s wrote l. ⊎_elim (λ (g : target (S.plan t) s ≡ true). inl g) (λ (x : IsLeaving S.root (decided S) S.entry_pend (S.root t) s). inr (excuse s x)) (wide part u s wrote l);
@@ -186,16 +186,16 @@ module _ (A : Office) (c : Named A) (t : ℕ) (may : MayConfirm A t) (present : 
 
       held_got : (s : ℕ) → has s S.entry.content ≡ true → (IsLeaving S.root (decided S) S.entry_pend (S.root t) s → ⊥) → S.got t s ≡ true
       held_got s i stays = ⊎_elim
-        (λ (g : target (S.plan t) s ≡ true). unchanged_got (S.plan t) (S.got t) S.entry.content s same i g)
-        (λ (x : IsLeaving S.root (decided S) S.entry_pend (S.root t) s). absurd (stays x))
-        (wide part u s wrote (inl i))
+          (λ (g : target (S.plan t) s ≡ true). unchanged_got (S.plan t) (S.got t) S.entry.content s same i g)
+          (λ (x : IsLeaving S.root (decided S) S.entry_pend (S.root t) s). absurd (stays x))
+          (wide part u s wrote (inl i))
 
       -- with a decided top's prepared entry: a store of it
       of_pending : (h : Hold) (s : ℕ) → S.entry_pend ≡ Some h → has s h.new.content ≡ true → Listed S s → S.got t s ≡ true
       of_pending h s p i l = ⊎_elim
-        (λ (g : target (S.plan t) s ≡ true). clear h s p i g)
-        (λ (x : IsLeaving S.root (decided S) S.entry_pend (S.root t) s). absurd (never i (ap (λ (k : Hold). has s k.new.content) (some_is p x.there) ∙ x.lacks)))
-        (wide part u s wrote l)
+          (λ (g : target (S.plan t) s ≡ true). clear h s p i g)
+          (λ (x : IsLeaving S.root (decided S) S.entry_pend (S.root t) s). absurd (never i (ap (λ (k : Hold). has s k.new.content) (some_is p x.there) ∙ x.lacks)))
+          (wide part u s wrote l)
 
       -- the entry that no decided top is about to replace is the last one
       is_last : (o : Option Hold) → S.entry_pend ≡ o → ((h : Hold) → S.entry_pend ≡ Some h → decided S h.top ≡ false) → S.entry ≡ last_entry S
@@ -215,12 +215,12 @@ module _ (A : Office) (c : Named A) (t : ℕ) (may : MayConfirm A t) (present : 
       next : (w : Packed) → (S.plan t).writes ≡ Some w → (o : Option Hold) → S.entry_pend ≡ o → w.version ≡ (last S).version + 1
       next w e None p = let x = held_store (λ h q. absurd (never_some q p)) in next_by_store u core.pending.held.0 w e x.0 x.1
       next w e (Some h) p = ⊎_elim
-        (λ (d : decided S h.top ≡ true).
+          (λ (d : decided S h.top ≡ true).
           let s = core.pending.stores h p in
           let l = subst (λ (y : Packed). has s.0 y.content ≡ true) (pending_last S h p d core) s.1 in
           next_by_store u s.0 w e l (of_pending h s.0 p s.1 (inr l)))
-        (λ (d : decided S h.top ≡ false). let x = held_store (only h p d) in next_by_store u core.pending.held.0 w e x.0 x.1)
-        (bool_cases (decided S h.top))
+          (λ (d : decided S h.top ≡ false). let x = held_store (only h p d) in next_by_store u core.pending.held.0 w e x.0 x.1)
+          (bool_cases (decided S h.top))
 
       alone : (z : ℕ) → S.conf z ≡ true → undecided S z ≡ true → is_some (S.plan z).writes ≡ true → (o : Option Hold) → S.entry_pend ≡ o → ⊥
       alone z cz uz wz None p = let x = held_store (λ h q. absurd (never_some q p)) in by_store part u z core.pending.held.0 cz uz wz x.0 x.1 (λ y. never_some y.there p)
@@ -242,18 +242,18 @@ module _ (A : Office) (c : Named A) (t : ℕ) (may : MayConfirm A t) (present : 
               whose y (inl e) = differs h.top z o (ap (λ (k : Hold). k.top) (some_is p y.there) ∙ e)
               whose y (inr x) = never x.0 (only h p d y.by_entry y.there)
           open_by_other d (inl e) = ⊎_elim
-            (λ (i : has s1.0 S.entry.content ≡ true).
+              (λ (i : has s1.0 S.entry.content ≡ true).
               let l = subst (λ (y : Packed). has s1.0 y.content ≡ true) (is_last S.entry_pend refl (only h p d)) i in
               by_store part u z s1.0 cz uz wz l (held_got s1.0 i (undecided_leaving (only h p d) s1.0)) lacks)
-            (λ (i : has s1.0 S.entry.content ≡ false). no_writer part u z uz (other_conf part z cz) (subst (λ n. HasRow N n 2) e (c.rows.adds h s1.0 p s1.1 i)))
-            (bool_cases (has s1.0 S.entry.content))
+              (λ (i : has s1.0 S.entry.content ≡ false). no_writer part u z uz (other_conf part z cz) (subst (λ n. HasRow N n 2) e (c.rows.adds h s1.0 p s1.1 i)))
+              (bool_cases (has s1.0 S.entry.content))
 
   -- a top with a new entry has a part in it
   pub changes_part : bytes_eq (new_list S t) S.entry.content ≡ false → HasPart (S.plan t)
   changes_part other = ⊎_elim
-    (λ (x : (s : ℕ) × (has s (S.plan t).joins ≡ true)). inr x)
-    (λ (none : (s : ℕ) → has s (S.plan t).joins ≡ false). by none (S.plan t).writes refl)
-    (some_or_none (S.plan t).joins)
+      (λ (x : (s : ℕ) × (has s (S.plan t).joins ≡ true)). inr x)
+      (λ (none : (s : ℕ) → has s (S.plan t).joins ≡ false). by none (S.plan t).writes refl)
+      (some_or_none (S.plan t).joins)
     where
       by : ((s : ℕ) → has s (S.plan t).joins ≡ false) → (o : Option Packed) → (S.plan t).writes ≡ o → HasPart (S.plan t)
       by none (Some w) e = inl (ap is_some e)
@@ -272,9 +272,9 @@ module _ (A : Office) (c : Named A) (t : ℕ) (may : MayConfirm A t) (present : 
 
       next : (w : Packed) → (S.plan t).writes ≡ Some w → w.version ≡ (last S).version + 1
       next w e = ⊎_elim
-        (λ (x : (s : ℕ) × (has s S.entry.content ≡ true) × (S.got t s ≡ true)). next_by_store u x.0 w e (listed x.0 x.1) x.2)
-        (λ (none : (s : ℕ) → has s S.entry.content ≡ true → S.got t s ≡ false). corner w e none)
-        (find_true (S.got t) S.entry.content)
+          (λ (x : (s : ℕ) × (has s S.entry.content ≡ true) × (S.got t s ≡ true)). next_by_store u x.0 w e (listed x.0 x.1) x.2)
+          (λ (none : (s : ℕ) → has s S.entry.content ≡ true → S.got t s ≡ false). corner w e none)
+          (find_true (S.got t) S.entry.content)
 
       alone : ((s : ℕ) → has s (S.plan t).joins ≡ false) → (z : ℕ) → S.conf z ≡ true → undecided S z ≡ true → is_some (S.plan z).writes ≡ true → ⊥
       alone none z cz uz wz = from (list_from (S.plan t) (S.got t) S.entry.content stores.0 stores.1)
@@ -286,9 +286,9 @@ module _ (A : Office) (c : Named A) (t : ℕ) (may : MayConfirm A t) (present : 
           from : ((has stores.0 S.entry.content ≡ true) × (target (S.plan t) stores.0 ≡ true → S.got t stores.0 ≡ true)) ⊎ ((has stores.0 (S.plan t).joins ≡ true) × (S.got t stores.0 ≡ true)) → ⊥
           from (inr x) = never x.0 (none stores.0)
           from (inl x) = ⊎_elim
-            (λ (g : target (S.plan t) stores.0 ≡ true). by_store part u z stores.0 cz uz wz (listed stores.0 x.0) (x.1 g) (λ y. never_some y.there free))
-            (λ (y : IsLeaving S.root (decided S) S.entry_pend (S.root t) stores.0). never_some y.there free)
-            (wide part u stores.0 (wrote part) (inl x.0))
+              (λ (g : target (S.plan t) stores.0 ≡ true). by_store part u z stores.0 cz uz wz (listed stores.0 x.0) (x.1 g) (λ y. never_some y.there free))
+              (λ (y : IsLeaving S.root (decided S) S.entry_pend (S.root t) stores.0). never_some y.there free)
+              (wide part u stores.0 (wrote part) (inl x.0))
 
   -- a top that includes a store has the write lock
   pub join_row : (s : ℕ) → has s (S.plan t).joins ≡ true → HasRow N t 2
@@ -297,12 +297,12 @@ module _ (A : Office) (c : Named A) (t : ℕ) (may : MayConfirm A t) (present : 
   -- a new entry is guarded
   pub enter_row : bytes_eq (new_list S t) S.entry.content ≡ false → HasRow N t 1
   enter_row other = ⊎_elim
-    (λ (x : (s : ℕ) × (has s S.entry.content ≡ true) × (lost s ≡ true)). let y = lost_parts x.0 x.2 in may.exclude x.0 y.0 y.1 (inl x.1))
-    (λ (kept : (s : ℕ) → has s S.entry.content ≡ true → lost s ≡ false). ⊎_elim
+      (λ (x : (s : ℕ) × (has s S.entry.content ≡ true) × (lost s ≡ true)). let y = lost_parts x.0 x.2 in may.exclude x.0 y.0 y.1 (inl x.1))
+      (λ (kept : (s : ℕ) → has s S.entry.content ≡ true → lost s ≡ false). ⊎_elim
       (λ (x : (s : ℕ) × (has s (S.plan t).joins ≡ true) × (S.got t s ≡ true)). weaker_row N t 2 1 (omega arith) (join_row x.0 x.1))
       (λ (none : (s : ℕ) → has s (S.plan t).joins ≡ true → S.got t s ≡ false). absurd (never (list_is (new_list S t) S.entry.content (list_same (S.plan t) (S.got t) S.entry.content (λ s i goal. lost_not s goal (kept s i)) none)) other))
       (find_true (S.got t) (S.plan t).joins))
-    (find_true lost S.entry.content)
+      (find_true lost S.entry.content)
     where
       lost : ℕ → Bool
       lost s = target (S.plan t) s && not (S.got t s)

@@ -1,22 +1,21 @@
 -- Confirmations, with the naming node's half.
-use Rattle.std.proofs.Common.{◌≡◌, ◌⊎◌, ℕ, ◌+◌, ◌≤◌, List, [], ◌∷◌, Bool, true, false, cond, ◌==◌, ◌||◌, Option, Some, None, is_some, refl, sym, ◌∙◌, ap, subst, inl, inr, ⊎_elim, arith}
-use Rattle.std.specs.Str.{bytes_eq}
+use Rattle.std.proofs.Common.{◌≡◌, ◌⊎◌, ℕ, List, Bool, true, false, Option, Some, sym, ◌∙◌, ap, subst, inl, inr, ⊎_elim}
 use Rattle.arj_disk_law.specs.Core.{Core}
 use Rattle.arj_disk_law.specs.Effects
 use Rattle.arj_disk_law.specs.Effects.{World, Whole, CanAgree, CanPass, CanEnter, changed, marked, entry_hold, new_list}
 use Rattle.arj_disk_law.specs.Guards.{HasRow, IsUntold, IsPresent, IsGranted, HasPart, MayConfirm, MayAgree, MayPass, MayEnter}
-use Rattle.arj_disk_law.specs.Messages.{Message, IsOver}
-use Rattle.arj_disk_law.specs.Named.{Named, Roots, Rows, IsHeld, Grants, IsLeaving, IsWide, Lists, IsLoad, AnswerMeans, Plans}
-use Rattle.arj_disk_law.specs.Names.{Names, Office, Kept, Answer, Bound, Loaded, acted, Do}
-use Rattle.arj_disk_law.specs.State.{State, Packed, Plan, Hold, naming, decided, undecided, lists, target, last, Listed, list_after}
-use Rattle.arj_disk_law.specs.Words.{has, In, put}
-use Rattle.arj_disk_law.proofs.Base.{bool_cases, put_cases, put_same, put_true, put_rises, never, never_some, some_is, falls_to}
-use Rattle.arj_disk_law.proofs.Booking.{begun, top, unconfirmed, undone, clear, kin, agree_locked, enter_locked, changes_part, join_row, enter_row}
+use Rattle.arj_disk_law.specs.Messages.{IsOver}
+use Rattle.arj_disk_law.specs.Named.{Named, Grants, IsLeaving, IsWide, AnswerMeans, Plans}
+use Rattle.arj_disk_law.specs.Names.{Names, Office, Answer, Bound, Loaded, acted, Do}
+use Rattle.arj_disk_law.specs.State.{State, Hold, decided, undecided, target, Listed}
+use Rattle.arj_disk_law.specs.Words.{has, put}
+use Rattle.arj_disk_law.proofs.Base.{put_same, put_true, put_rises, never, never_some, falls_to}
+use Rattle.arj_disk_law.proofs.Booking.{begun, unconfirmed, undone, clear, kin, agree_locked, enter_locked, changes_part, join_row, enter_row}
 use Rattle.arj_disk_law.proofs.Confirming.{marked_cases, marked_rises, marked_now}
 use Rattle.arj_disk_law.proofs.Entries.{last_listed}
 use Rattle.arj_disk_law.proofs.Keeps.{effect_keeps}
-use Rattle.arj_disk_law.proofs.Kin.{near, Kin, kin_granted, not_over, open_untold}
-use Rattle.arj_disk_law.proofs.Listing.{list_from, entry_content, join_target, plain_target}
+use Rattle.arj_disk_law.proofs.Kin.{near, open_untold}
+use Rattle.arj_disk_law.proofs.Listing.{list_from, entry_content, join_target}
 use Rattle.arj_disk_law.proofs.Restarts.{open_begun}
 
 module _ (A : Office) (c : Named A) (t : ℕ) (may : MayConfirm A t) (present : HasPart (A.world.disk.plan t) → IsPresent A.world.disk A.names t × IsGranted A.world.disk A.names t) where
@@ -48,13 +47,13 @@ module _ (A : Office) (c : Named A) (t : ℕ) (may : MayConfirm A t) (present : 
     root = c.grants.root;
     conf = λ x y h. ⊎_elim (λ (z : (S.conf x ≡ true) ⊎ (S.light x ≡ true)). put_rises t N.confd x (c.grants.conf x z h)) (λ (z : (x ≡ t) × (undecided S t ≡ true)). ap M.confd z.0 ∙ put_same t true N.confd) (from x y);
     part = λ x y p. ⊎_elim
-      (λ (z : (S.conf x ≡ true) ⊎ (S.light x ≡ true)). let w = c.grants.part x z p in (w.0, w.1, λ e. put_rises t N.confd x (w.2 e)))
-      (λ (z : (x ≡ t) × (undecided S t ≡ true)). (N.inc, subst (λ n. (N.had n N.inc ≡ true) ⊎ (N.had (S.root n) N.inc ≡ true)) (sym z.0) (present (subst (λ n. HasPart (S.plan n)) z.0 p)).1, λ e. ap M.confd z.0 ∙ put_same t true N.confd))
-      (from x y);
+        (λ (z : (S.conf x ≡ true) ⊎ (S.light x ≡ true)). let w = c.grants.part x z p in (w.0, w.1, λ e. put_rises t N.confd x (w.2 e)))
+        (λ (z : (x ≡ t) × (undecided S t ≡ true)). (N.inc, subst (λ n. (N.had n N.inc ≡ true) ⊎ (N.had (S.root n) N.inc ≡ true)) (sym z.0) (present (subst (λ n. HasPart (S.plan n)) z.0 p)).1, λ e. ap M.confd z.0 ∙ put_same t true N.confd))
+        (from x y);
     yes = λ x h. ⊎_elim
-      (λ (e : x ≡ t). subst (λ n. (S.begun n ≡ true) × (undecided S n ≡ true → (conf n ≡ true) ⊎ (light n ≡ true))) (sym e) (begun A c t may present, now))
-      (λ (y : N.confd x ≡ true). let z = c.grants.yes x y in (z.0, λ u. rises x (z.1 u)))
-      (put_true t N.confd x h);
+        (λ (e : x ≡ t). subst (λ n. (S.begun n ≡ true) × (undecided S n ≡ true → (conf n ≡ true) ⊎ (light n ≡ true))) (sym e) (begun A c t may present, now))
+        (λ (y : N.confd x ≡ true). let z = c.grants.yes x y in (z.0, λ u. rises x (z.1 u)))
+        (put_true t N.confd x h);
     listed = c.grants.listed;
     acked = c.grants.acked;
     told = c.grants.told;
@@ -63,9 +62,14 @@ module _ (A : Office) (c : Named A) (t : ℕ) (may : MayConfirm A t) (present : 
   -- answers and plans with one more that counts
   answer_conf : HasPart (S.plan t) → (o : Option Hold) → ((r : ℕ) (l : List ℕ) → IsWide S r l → IsWide (record S { conf = marked S t S.conf; entry_pend = o }) r l) → (a : Answer) → AnswerMeans S N a → AnswerMeans (record S { conf = marked S t S.conf; entry_pend = o }) M a
   answer_conf part o wider (Bound x i b l) y = (y.0, y.1, λ q e u. let z = y.2 q e u in (z.0, z.1, wider (S.root x) l z.2, z.3))
-  answer_conf part o wider (Loaded x i g) y = (y.0, y.1, y.2, λ q e u.
-    let z = y.3 q e u in
-    (z.0, (z.1.0, λ a ca ua. ⊎_elim (λ (k : S.conf a ≡ true). z.1.1 a k ua) (λ (k : (a ≡ t) × (undecided S t ≡ true)). ap S.root k.0 ∙ sym (same_root part k.1 x z.0 u)) (marked_cases S t S.conf a ca))))
+  answer_conf part o wider (Loaded x i g) y = (
+    y.0,
+    y.1,
+    y.2,
+    λ q e u.
+        let z = y.3 q e u in
+        (z.0, (z.1.0, λ a ca ua. ⊎_elim (λ (k : S.conf a ≡ true). z.1.1 a k ua) (λ (k : (a ≡ t) × (undecided S t ≡ true)). ap S.root k.0 ∙ sym (same_root part k.1 x z.0 u)) (marked_cases S t S.conf a ca))),
+  )
 
   plans_conf : HasPart (S.plan t) → (o : Option Hold) → Plans (record S { conf = marked S t S.conf; entry_pend = o }) M
   plans_conf part o = record {
@@ -73,8 +77,8 @@ module _ (A : Office) (c : Named A) (t : ℕ) (may : MayConfirm A t) (present : 
     writer = c.plans.writer;
     asked = c.plans.asked;
     loaded = λ x s u j p.
-      let y = c.plans.loaded x s u j p in
-      (y.0, λ z cz uz. ⊎_elim (λ (k : S.conf z ≡ true). y.1 z k uz) (λ (k : (z ≡ t) × (undecided S t ≡ true)). k.0 ∙ sym (own x s u j p k.1)) (marked_cases S t S.conf z cz));
+        let y = c.plans.loaded x s u j p in
+        (y.0, λ z cz uz. ⊎_elim (λ (k : S.conf z ≡ true). y.1 z k uz) (λ (k : (z ≡ t) × (undecided S t ≡ true)). k.0 ∙ sym (own x s u j p k.1)) (marked_cases S t S.conf z cz));
   }
     where
       own : (x s : ℕ) → undecided S x ≡ true → has s (S.plan x).joins ≡ true → IsPresent S N x → undecided S t ≡ true → x ≡ t
@@ -183,9 +187,9 @@ entered_named A t may c = record {
 
     adds : (s : ℕ) → has s (entry_hold V t).new.content ≡ true → has s V.entry.content ≡ false → HasRow A.names t 2
     adds s i n = ⊎_elim
-      (λ (x : (has s V.entry.content ≡ true) × (target (V.plan t) s ≡ true → V.got t s ≡ true)). absurd (never x.0 n))
-      (λ (x : (has s (V.plan t).joins ≡ true) × (V.got t s ≡ true)). join_row A c t may.confirm here s x.0)
-      (list_from (V.plan t) (V.got t) V.entry.content s (subst (λ l. has s l ≡ true) (entry_content t (V.plan t) (V.got t) V.entry) i))
+        (λ (x : (has s V.entry.content ≡ true) × (target (V.plan t) s ≡ true → V.got t s ≡ true)). absurd (never x.0 n))
+        (λ (x : (has s (V.plan t).joins ≡ true) × (V.got t s ≡ true)). join_row A c t may.confirm here s x.0)
+        (list_from (V.plan t) (V.got t) V.entry.content s (subst (λ l. has s l ≡ true) (entry_content t (V.plan t) (V.got t) V.entry) i))
 
     wider : (r : ℕ) (l : List ℕ) → IsWide V r l → IsWide (record V { conf = marked V t V.conf; entry_pend = Some (entry_hold V t) }) r l
     wider r l w s i = ⊎_elim (λ (y : has s l ≡ true). inl y) (λ (y : IsLeaving V.root (decided V) V.entry_pend r s). absurd (never_some y.there may.free)) (w s i)
@@ -221,9 +225,9 @@ passed_named A t may c = record {
     kept = c.lists.kept;
     plan = c.lists.plan;
     light = λ x s l u p j i. ⊎_elim
-      (λ (o : V.light x ≡ true). c.lists.light x s o u p j i)
-      (λ (n : (x ≡ t) × (undecided V t ≡ true)). unlisted s (subst (λ y. has s (V.plan y).joins ≡ true) n.0 j) i)
-      (marked_cases V t V.light x l);
+        (λ (o : V.light x ≡ true). c.lists.light x s o u p j i)
+        (λ (n : (x ≡ t) × (undecided V t ≡ true)). unlisted s (subst (λ y. has s (V.plan y).joins ≡ true) n.0 j) i)
+        (marked_cases V t V.light x l);
   };
   answers = λ a m. answer a (c.answers a m);
   plans = record { based = c.plans.based; writer = c.plans.writer; asked = c.plans.asked; loaded = c.plans.loaded };
@@ -246,9 +250,9 @@ passed_named A t may c = record {
     unlisted : (s : ℕ) → has s (V.plan t).joins ≡ true → Listed V s → ⊥
     unlisted s j (inl i) = never i (may.confirm.unlisted s j)
     unlisted s j (inr i) = ⊎_elim
-      (λ (e : has s V.entry.content ≡ true). never e (may.confirm.unlisted s j))
-      (λ (x : (h : Hold) × (V.entry_pend ≡ Some h) × (decided V h.top ≡ true) × (has s h.new.content ≡ true)). never (clear A c t may.confirm may.present x.0 s x.1 x.3 (join_target (V.plan t) s j)) (may.none s))
-      (last_listed V s c.whole.core i)
+        (λ (e : has s V.entry.content ≡ true). never e (may.confirm.unlisted s j))
+        (λ (x : (h : Hold) × (V.entry_pend ≡ Some h) × (decided V h.top ≡ true) × (has s h.new.content ≡ true)). never (clear A c t may.confirm may.present x.0 s x.1 x.3 (join_target (V.plan t) s j)) (may.none s))
+        (last_listed V s c.whole.core i)
 
     from : (x : ℕ) → (V.conf x ≡ true) ⊎ (marked V t V.light x ≡ true) → ((V.conf x ≡ true) ⊎ (V.light x ≡ true)) ⊎ ((x ≡ t) × (undecided V t ≡ true))
     from x (inl h) = inl (inl h)

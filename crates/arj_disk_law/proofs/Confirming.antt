@@ -113,9 +113,9 @@ core_entered S t begun sealed free other stores undone unlisted locked c = recor
         (λ (n : (a ≡ t) × (undecided S t ≡ true)). (entry_hold S t, refl, sym n.0))
         (marked_cases S t S.conf a ca);
     plain = λ a ca u e. ⊎_elim
-      (λ (o : S.conf a ≡ true). c.covered.plain a o u e)
-      (λ (n : (a ≡ t) × (undecided S t ≡ true)). subst (λ x. (s : ℕ) × (has s (S.plan x).joins ≡ true) × (S.got x s ≡ true)) (sym n.0) (joined (ap (λ x. (S.plan x).writes) (sym n.0) ∙ e)))
-      (marked_cases S t S.conf a ca);
+        (λ (o : S.conf a ≡ true). c.covered.plain a o u e)
+        (λ (n : (a ≡ t) × (undecided S t ≡ true)). subst (λ x. (s : ℕ) × (has s (S.plan x).joins ≡ true) × (S.got x s ≡ true)) (sym n.0) (joined (ap (λ x. (S.plan x).writes) (sym n.0) ∙ e)))
+        (marked_cases S t S.conf a ca);
   };
   pending = record {
     sealed = λ h e. subst (λ (x : Hold). is_sealed (S.stage x.top) ≡ true) (is h e) sealed;
@@ -149,10 +149,10 @@ core_entered S t begun sealed free other stores undone unlisted locked c = recor
     -- a new list of one that didn't write has a store that it includes
     joined : (S.plan t).writes ≡ None → (m : ℕ) × (has m (S.plan t).joins ≡ true) × (S.got t m ≡ true)
     joined e = ⊎_elim
-      (λ (x : (m : ℕ) × (has m (S.plan t).joins ≡ true) × (S.got t m ≡ true)). x)
-      (λ (none : (m : ℕ) → has m (S.plan t).joins ≡ true → S.got t m ≡ false).
+        (λ (x : (m : ℕ) × (has m (S.plan t).joins ≡ true) × (S.got t m ≡ true)). x)
+        (λ (none : (m : ℕ) → has m (S.plan t).joins ≡ true → S.got t m ≡ false).
         absurd (never (list_is (new_list S t) S.entry.content (list_same (S.plan t) (S.got t) S.entry.content (λ m i goal. absurd (never i (unlisted m (plain_target (S.plan t) m e goal)))) none)) other))
-      (find_true (S.got t) (S.plan t).joins)
+        (find_true (S.got t) (S.plan t).joins)
 
     Fine : ℕ → ℕ → Type 0
     Fine s a = (S.got a s ≡ true) ⊎ IsExcused (changed S (Enter t)) a s
@@ -203,9 +203,9 @@ core_agreed S t begun sealed wrote same unlisted clear locked c = record {
         (λ (n : (a ≡ t) × (undecided S t ≡ true)). absurd (never (ap (λ x. S.got x s) (sym n.0) ∙ g) (no_joins s (ap (λ x. has s (S.plan x).joins) (sym n.0) ∙ j))))
         (marked_cases S t S.conf a ca);
     plain = λ a ca u e. ⊎_elim
-      (λ (o : S.conf a ≡ true). c.covered.plain a o u e)
-      (λ (n : (a ≡ t) × (undecided S t ≡ true)). absurd (never wrote (ap is_some (ap (λ x. (S.plan x).writes) (sym n.0) ∙ e))))
-      (marked_cases S t S.conf a ca);
+        (λ (o : S.conf a ≡ true). c.covered.plain a o u e)
+        (λ (n : (a ≡ t) × (undecided S t ≡ true)). absurd (never wrote (ap is_some (ap (λ x. (S.plan x).writes) (sym n.0) ∙ e))))
+        (marked_cases S t S.conf a ca);
   };
   pending = record {
     sealed = c.pending.sealed;

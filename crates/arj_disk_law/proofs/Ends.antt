@@ -1,15 +1,14 @@
 -- The end of a top and of a serializing action at the naming node.
-use Rattle.std.proofs.Common.{◌≡◌, ◌⊎◌, ℕ, ◌+◌, ◌≤◌, List, Bool, true, false, cond, ◌==◌, ◌||◌, ◌&&◌, not, Option, Some, None, is_some, refl, sym, ◌∙◌, ap, subst, inl, inr, ⊎_elim, arith, le_refl}
+use Rattle.std.proofs.Common.{◌≡◌, ◌⊎◌, ℕ, ◌+◌, ◌≤◌, Bool, true, false, cond, ◌==◌, ◌&&◌, not, Option, Some, None, refl, sym, ◌∙◌, ap, subst, inl, inr, ⊎_elim, arith}
 use Rattle.arj_disk_law.specs.Core.{Core}
-use Rattle.arj_disk_law.specs.Effects.{World, Whole, IsNot}
-use Rattle.arj_disk_law.specs.Guards.{HasRow, IsUntold, IsPresent, MayEndTop, MayEndSerial}
-use Rattle.arj_disk_law.specs.Messages.{Message, ToldCommit, ToldBare, ToldAbort, ToldSerial, IsOver}
-use Rattle.arj_disk_law.specs.Named.{Named, Related, Roots, Rows, IsHeld, Grants, IsWide, Lists, AnswerMeans, Plans}
-use Rattle.arj_disk_law.specs.Names.{Names, Office, Kept, Answer, Bound, Loaded, raised, passed, rows_after, rows_left, acted, EndTop, EndSerial}
-use Rattle.arj_disk_law.specs.State.{State, Packed, Hold, naming, is_idle, is_open, is_gone, open_by, decided, undecided, lists, listed_by}
-use Rattle.arj_disk_law.specs.Words.{has, In, put}
-use Rattle.arj_disk_law.proofs.Base.{bool_cases, put_cases, put_same, put_other, put_true, put_rises, test_cases, test_is, test_same, test_not, differs, never, never_some, some_is, or_cases, closed_done, falls_to, gone_closed, sealed_not_idle, gone_sealed, not_false}
-use Rattle.arj_disk_law.proofs.Locks.{some_nat, raised_is, raised_mode, raised_old}
+use Rattle.arj_disk_law.specs.Guards.{HasRow, IsUntold, MayEndTop, MayEndSerial}
+use Rattle.arj_disk_law.specs.Messages.{ToldCommit, ToldBare, ToldAbort, ToldSerial, IsOver}
+use Rattle.arj_disk_law.specs.Named.{Named, Related, Rows, IsHeld, AnswerMeans}
+use Rattle.arj_disk_law.specs.Names.{Names, Office, Answer, Bound, Loaded, raised, passed, acted, EndTop, EndSerial}
+use Rattle.arj_disk_law.specs.State.{State, naming, is_gone, decided, undecided}
+use Rattle.arj_disk_law.specs.Words.{In, put}
+use Rattle.arj_disk_law.proofs.Base.{bool_cases, put_cases, put_same, put_other, put_true, put_rises, test_cases, test_not, differs, never, closed_done, gone_closed}
+use Rattle.arj_disk_law.proofs.Locks.{some_nat, raised_is, raised_old}
 
 -- who isn't told of after one more was
 pub untold_old : (S : State) (N : Names) (t : ℕ) (told : ℕ → Bool) → ((x : ℕ) → told x ≡ false → (N.told x ≡ false)) → (x : ℕ) → (told x ≡ false) × (told (S.root x) ≡ false) → IsUntold S N x
@@ -42,12 +41,12 @@ module _ (A : Office) (t : ℕ) (commits : Bool) (may : MayEndTop A t commits) (
 
       by : (commits ≡ true) ⊎ (commits ≡ false) → (is_gone (S.stage t) ≡ true) × (undecided S t ≡ false)
       by (inl e) = ⊎_elim
-        (λ (m : In (ToldCommit t naming) A.world.sent). let d = c.whole.mail (ToldCommit t naming) m in (core.coordinators.decided_closed t d, closed_done (decided S t) (S.stage t) (S.intent t) d))
-        (λ (m : In (ToldBare t naming) A.world.sent).
+          (λ (m : In (ToldCommit t naming) A.world.sent). let d = c.whole.mail (ToldCommit t naming) m in (core.coordinators.decided_closed t d, closed_done (decided S t) (S.stage t) (S.intent t) d))
+          (λ (m : In (ToldBare t naming) A.world.sent).
           let b = c.whole.mail (ToldBare t naming) m in
           let g = core.bare.gone t b in
           (g, rw (core.bare.undone t b, gone_closed (S.stage t) g, core.bare.no_record t b)))
-        (may.told.0 e)
+          (may.told.0 e)
       by (inr e) = let m = c.whole.mail (ToldAbort t naming) (may.told.1 e) in (m.0, m.1)
 
   -- what is locked afterwards
@@ -56,8 +55,8 @@ module _ (A : Office) (t : ℕ) (commits : Bool) (may : MayEndTop A t commits) (
 
   new : (h a : ℕ) → M.row h ≡ Some a → ((h == t) ≡ false) × New h a
   new h a = put_cases (λ o. o ≡ Some a → ((h == t) ≡ false) × New h a) t None (cond passes (put r (passed (N.row t) (N.row r)) N.row) N.row) h
-    (λ e p. let x : ◌≡◌ {A = Option ℕ} None (Some a) = p in cc)
-    (λ e p. (e, by passes refl p))
+      (λ e p. let x : ◌≡◌ {A = Option ℕ} None (Some a) = p in cc)
+      (λ e p. (e, by passes refl p))
     where
       at : passes ≡ true → (o : Option ℕ) → N.row t ≡ o → h ≡ r → passed o (N.row r) ≡ Some a → New h a
       at pass None q e p = inl (ap N.row e ∙ p)
@@ -69,8 +68,8 @@ module _ (A : Office) (t : ℕ) (commits : Bool) (may : MayEndTop A t commits) (
 
   keeps : (h n : ℕ) → (h == t) ≡ false → HasRow N h n → HasRow M h n
   keeps h n other (k, row, low) = put_cases (λ o. (j : ℕ) × (o ≡ Some j) × (n ≤ j)) t None (cond passes (put r (passed (N.row t) (N.row r)) N.row) N.row) h
-    (λ e. absurd (differs h t other e))
-    (λ e. by passes)
+      (λ e. absurd (differs h t other e))
+      (λ e. by passes)
     where
       at : (o : Option ℕ) → h ≡ r → (j : ℕ) × (passed o (N.row r) ≡ Some j) × (n ≤ j)
       at None e = (k, ap N.row (sym e) ∙ row, low)
@@ -95,9 +94,9 @@ module _ (A : Office) (t : ℕ) (commits : Bool) (may : MayEndTop A t commits) (
 
   raised_apart : (h a k b : ℕ) → h ≡ r → ((n : ℕ) × (N.row t ≡ Some n) × (a ≡ raised (N.row r) n)) → (k == t) ≡ false → N.row k ≡ Some b → 2 ≤ a + b → Related S.root h k
   raised_apart h a k b e (n, row, is) other also less = ⊎_elim
-    (λ (x : N.row r ≡ Some (raised (N.row r) n)). subst (λ y. Related S.root y k) (sym e) (c.rows.apart r k (raised (N.row r) n) b x also (omega (arith, less, is))))
-    (λ (x : raised (N.row r) n ≡ n). inl (e ∙ sym (passed_apart k n b other row also (omega (arith, less, is, x)))))
-    (raised_is (N.row r) n)
+      (λ (x : N.row r ≡ Some (raised (N.row r) n)). subst (λ y. Related S.root y k) (sym e) (c.rows.apart r k (raised (N.row r) n) b x also (omega (arith, less, is))))
+      (λ (x : raised (N.row r) n ≡ n). inl (e ∙ sym (passed_apart k n b other row also (omega (arith, less, is, x)))))
+      (raised_is (N.row r) n)
 
   turned : (h k : ℕ) → Related S.root h k → Related S.root k h
   turned h k (inl e) = inl (sym e)
@@ -142,9 +141,9 @@ module _ (A : Office) (t : ℕ) (commits : Bool) (may : MayEndTop A t commits) (
   held x s u (inl over) = inl over
   held x s u (inr (inl row)) = inr (inl (keeps x 0 (put_untold t N.told x u).0 row))
   held x s u (inr (inr (y, e, done, told, had))) = ⊎_elim
-    (λ (is : y ≡ t). mine (subst (λ n. S.root n ≡ x) is e) (subst (λ n. (decided S n ≡ true) ⊎ (S.bare n ≡ true)) is done) (ap (λ n. N.had n N.inc) (sym is) ∙ had) (bool_cases commits))
-    (λ (o : (y == t) ≡ false). inr (inr (y, e, done, put_other t true N.told y o ∙ told, had)))
-    (test_cases y t)
+      (λ (is : y ≡ t). mine (subst (λ n. S.root n ≡ x) is e) (subst (λ n. (decided S n ≡ true) ⊎ (S.bare n ≡ true)) is done) (ap (λ n. N.had n N.inc) (sym is) ∙ had) (bool_cases commits))
+      (λ (o : (y == t) ≡ false). inr (inr (y, e, done, put_other t true N.told y o ∙ told, had)))
+      (test_cases y t)
     where
       core : Core S
       core = c.whole.core
@@ -177,9 +176,9 @@ module _ (A : Office) (t : ℕ) (commits : Bool) (may : MayEndTop A t commits) (
       listed = λ x d h u. c.grants.listed x d h (put_untold t N.told x u).1;
       acked = λ x m. ⊎_elim (λ (h : N.told x ≡ true). inl (put_rises t N.told x h)) (λ (h : N.had x N.inc ≡ false). inr h) (c.grants.acked x m);
       told = λ x h. ⊎_elim
-        (λ (e : x ≡ t). (ap (λ n. is_gone (S.stage n)) e ∙ gone.0, ap (undecided S) e ∙ gone.1, λ s. absurd (never s (ap S.serial e ∙ may.top))))
-        (λ (o : N.told x ≡ true). c.grants.told x o)
-        (put_true t N.told x h);
+          (λ (e : x ≡ t). (ap (λ n. is_gone (S.stage n)) e ∙ gone.0, ap (undecided S) e ∙ gone.1, λ s. absurd (never s (ap S.serial e ∙ may.top))))
+          (λ (o : N.told x ≡ true). c.grants.told x o)
+          (put_true t N.told x h);
     };
     lists = record { had = c.lists.had; kept = λ h k e p u. c.lists.kept h k e p (old h u); plan = c.lists.plan; light = c.lists.light };
     answers = λ a i. answer a (c.answers a i);
@@ -259,9 +258,9 @@ module _ (A : Office) (r : ℕ) (may : MayEndSerial A r) (c : Named A) where
       listed = λ x d h u. c.grants.listed x d h (put_untold r N2.told x u).1;
       acked = λ x m. ⊎_elim (λ (h : N2.told x ≡ true). inl (put_rises r N2.told x h)) (λ (h : N2.had x N2.inc ≡ false). inr h) (c.grants.acked x m);
       told = λ x h. ⊎_elim
-        (λ (e : x ≡ r). (ap (λ n. is_gone (S2.stage n)) e ∙ over.0, ap (undecided S2) e ∙ over.1 r (c.roots.serial r may.serial), λ s. subst (IsOver S2) (sym e) over))
-        (λ (o : N2.told x ≡ true). c.grants.told x o)
-        (put_true r N2.told x h);
+          (λ (e : x ≡ r). (ap (λ n. is_gone (S2.stage n)) e ∙ over.0, ap (undecided S2) e ∙ over.1 r (c.roots.serial r may.serial), λ s. subst (IsOver S2) (sym e) over))
+          (λ (o : N2.told x ≡ true). c.grants.told x o)
+          (put_true r N2.told x h);
     };
     lists = record { had = c.lists.had; kept = λ h k e p u. c.lists.kept h k e p (was h u); plan = c.lists.plan; light = c.lists.light };
     answers = λ a i. answer a (c.answers a i);

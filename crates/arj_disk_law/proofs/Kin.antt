@@ -1,12 +1,11 @@
 -- Roots, and the locks of a root's actions.
-use Rattle.std.proofs.Common.{◌≡◌, ◌⊎◌, ℕ, ◌+◌, ◌≤◌, List, Bool, true, false, Option, Some, None, is_some, refl, sym, ◌∙◌, ap, subst, inl, inr, ⊎_elim, arith}
+use Rattle.std.proofs.Common.{◌≡◌, ◌⊎◌, ℕ, ◌≤◌, true, false, refl, sym, ◌∙◌, ap, subst, inl, inr, ⊎_elim, arith}
 use Rattle.arj_disk_law.specs.Core.{Core}
-use Rattle.arj_disk_law.specs.Effects.{World, Whole}
-use Rattle.arj_disk_law.specs.Guards.{HasRow, IsUntold, IsPresent, IsGranted}
+use Rattle.arj_disk_law.specs.Guards.{HasRow, IsUntold, IsGranted}
 use Rattle.arj_disk_law.specs.Messages.{IsOver}
-use Rattle.arj_disk_law.specs.Named.{Named, Related, Roots, Rows, IsHeld, Grants}
-use Rattle.arj_disk_law.specs.Names.{Names, Office}
-use Rattle.arj_disk_law.specs.State.{State, Hold, decided, undecided}
+use Rattle.arj_disk_law.specs.Named.{Related, Roots, Rows, IsHeld}
+use Rattle.arj_disk_law.specs.Names.{Names}
+use Rattle.arj_disk_law.specs.State.{State, decided, undecided}
 use Rattle.arj_disk_law.proofs.Base.{bool_cases, never}
 
 -- two related tops are one

@@ -1,15 +1,14 @@
 -- Locks at the naming node: granted, strengthened, lowered.
-use Rattle.std.proofs.Common.{◌≡◌, ◌⊎◌, ℕ, ◌+◌, ◌<◌, ◌≤◌, List, [], ◌∷◌, Bool, true, false, cond, ◌==◌, ◌||◌, Option, Some, None, is_some, nat_lt, refl, sym, ◌∙◌, ap, subst, inl, inr, ⊎_elim, arith, le_refl}
+use Rattle.std.proofs.Common.{◌≡◌, ◌⊎◌, ℕ, ◌+◌, ◌<◌, ◌≤◌, List, Bool, true, false, cond, ◌==◌, ◌||◌, Option, Some, None, nat_lt, refl, sym, ◌∙◌, ap, subst, inl, inr, ⊎_elim, arith, le_refl}
 use Rattle.std.proofs.lemmas.Bool.Decides.{nat_tests}
 use Rattle.arj_disk_law.specs.Core.{Core}
-use Rattle.arj_disk_law.specs.Effects.{World, Whole, IsNot}
-use Rattle.arj_disk_law.specs.Guards.{HasRow, IsFree, IsUntold, IsPresent, IsGranted, MayLock, MayLower}
-use Rattle.arj_disk_law.specs.Messages.{Message, IsOver}
-use Rattle.arj_disk_law.specs.Named.{Named, Related, Roots, Rows, IsHeld, Grants, IsLeaving, IsWide, Lists, AnswerMeans, Plans}
+use Rattle.arj_disk_law.specs.Guards.{HasRow, IsFree, MayLock, MayLower}
+use Rattle.arj_disk_law.specs.Messages.{Message}
+use Rattle.arj_disk_law.specs.Named.{Named, Related, Roots, Rows, IsHeld, Grants, IsWide, AnswerMeans, Plans}
 use Rattle.arj_disk_law.specs.Names.{Names, Office, Answer, Bound, Loaded, raised, acted, Read, Write, Exclude, Lower, Unbind}
-use Rattle.arj_disk_law.specs.State.{State, Packed, Hold, is_idle, decided, undecided, last_entry, Listed}
+use Rattle.arj_disk_law.specs.State.{State, Packed, Hold, is_idle, decided, last_entry}
 use Rattle.arj_disk_law.specs.Words.{has, In, put}
-use Rattle.arj_disk_law.proofs.Base.{bool_cases, put_cases, put_same, put_other, test_cases, never, never_some, some_is, or_cases, or_right, falls_to}
+use Rattle.arj_disk_law.proofs.Base.{bool_cases, put_cases, put_same, put_other, test_cases, never, or_right, falls_to}
 use Rattle.arj_disk_law.proofs.Entries.{last_listed}
 use Rattle.arj_disk_law.proofs.Kin.{one_top}
 use Rattle.arj_disk_law.proofs.History.{effective_none}
@@ -28,7 +27,7 @@ raised_mode (Some n) m = ⊎_elim (λ (x : (nat_lt n m ≡ true) × (n < m)). rw
 pub raised_old : (o : Option ℕ) (m n : ℕ) → o ≡ Some n → n ≤ raised o m
 raised_old None m n e = let x : ◌≡◌ {A = Option ℕ} None (Some n) = e in cc
 raised_old (Some k) m n e = subst (λ j. j ≤ raised (Some k) m) (some_nat e)
-  (⊎_elim (λ (x : (nat_lt k m ≡ true) × (k < m)). rw x.0 (omega (arith, x.1))) (λ (x : (nat_lt k m ≡ false) × (m ≤ k)). rw x.0 (le_refl k)) (less_cases k m))
+    (⊎_elim (λ (x : (nat_lt k m ≡ true) × (k < m)). rw x.0 (omega (arith, x.1))) (λ (x : (nat_lt k m ≡ false) × (m ≤ k)). rw x.0 (le_refl k)) (less_cases k m))
 
 pub raised_is : (o : Option ℕ) (m : ℕ) → (o ≡ Some (raised o m)) ⊎ (raised o m ≡ m)
 raised_is None m = inr refl
@@ -41,82 +40,81 @@ module _ (S : State) (N : Names) (t m : ℕ) (asked : ℕ → Bool)
     (alone : (x : ℕ) → N.given x ≡ true → t ≡ x)
     (asks : (x : ℕ) → asked x ≡ true → (N.asked x ≡ true) ⊎ ((x ≡ t) × (2 ≤ m)))
   where
+    abbrev pub new_row : ℕ → Option ℕ
+    new_row = put t (Some m) N.row
 
-  abbrev pub new_row : ℕ → Option ℕ
-  new_row = put t (Some m) N.row
+    abbrev pub Locked : Names
+    Locked = record N { row = new_row; asked = asked }
 
-  abbrev pub Locked : Names
-  Locked = record N { row = new_row; asked = asked }
+    turned : (h k : ℕ) → Related S.root h k → Related S.root k h
+    turned h k (inl e) = inl (sym e)
+    turned h k (inr (inl e)) = inr (inr e)
+    turned h k (inr (inr e)) = inr (inl e)
 
-  turned : (h k : ℕ) → Related S.root h k → Related S.root k h
-  turned h k (inl e) = inl (sym e)
-  turned h k (inr (inl e)) = inr (inr e)
-  turned h k (inr (inr e)) = inr (inl e)
+    pub row_rises : (h n : ℕ) → HasRow N h n → HasRow Locked h n
+    row_rises h n (k, row, low) = put_cases (λ o. (j : ℕ) × (o ≡ Some j) × (n ≤ j)) t (Some m) N.row h
+        (λ e. (m, refl, omega (arith, low, rises k (ap N.row (sym e) ∙ row))))
+        (λ e. (k, row, low))
 
-  pub row_rises : (h n : ℕ) → HasRow N h n → HasRow Locked h n
-  row_rises h n (k, row, low) = put_cases (λ o. (j : ℕ) × (o ≡ Some j) × (n ≤ j)) t (Some m) N.row h
-    (λ e. (m, refl, omega (arith, low, rises k (ap N.row (sym e) ∙ row))))
-    (λ e. (k, row, low))
+    pub locked_rows : Rows S N → Rows S Locked
+    locked_rows c = record {
+      apart = λ h k a b p q less. apart c h k a b (h_case h) (k_case k) p q less;
+      alone = λ x h a g p. put_cases (λ o. o ≡ Some a → h ≡ x) t (Some m) N.row h (λ e q. e ∙ alone x g) (λ e q. c.alone x h a g q) p;
+      dead = c.dead;
+      given = λ x g. let y = c.given x g in (row_rises x 1 y.0, y.1, y.2);
+      guard = λ h p. let y = c.guard h p in (row_rises h.top 1 y.0, y.1, y.2);
+      adds = λ h s p i n. row_rises h.top 2 (c.adds h s p i n);
+      out = c.out;
+      asked = λ x a u. ⊎_elim (λ (y : N.asked x ≡ true). row_rises x 2 (c.asked x y u)) (λ (y : (x ≡ t) × (2 ≤ m)). subst (λ n. HasRow Locked n 2) (sym y.0) (m, put_same t (Some m) N.row, y.1)) (asks x a);
+    }
+      where
+        h_case : (h : ℕ) → (h ≡ t) ⊎ ((h == t) ≡ false)
+        h_case h = test_cases h t
 
-  pub locked_rows : Rows S N → Rows S Locked
-  locked_rows c = record {
-    apart = λ h k a b p q less. apart c h k a b (h_case h) (k_case k) p q less;
-    alone = λ x h a g p. put_cases (λ o. o ≡ Some a → h ≡ x) t (Some m) N.row h (λ e q. e ∙ alone x g) (λ e q. c.alone x h a g q) p;
-    dead = c.dead;
-    given = λ x g. let y = c.given x g in (row_rises x 1 y.0, y.1, y.2);
-    guard = λ h p. let y = c.guard h p in (row_rises h.top 1 y.0, y.1, y.2);
-    adds = λ h s p i n. row_rises h.top 2 (c.adds h s p i n);
-    out = c.out;
-    asked = λ x a u. ⊎_elim (λ (y : N.asked x ≡ true). row_rises x 2 (c.asked x y u)) (λ (y : (x ≡ t) × (2 ≤ m)). subst (λ n. HasRow Locked n 2) (sym y.0) (m, put_same t (Some m) N.row, y.1)) (asks x a);
-  }
-    where
-      h_case : (h : ℕ) → (h ≡ t) ⊎ ((h == t) ≡ false)
-      h_case h = test_cases h t
+        k_case : (k : ℕ) → (k ≡ t) ⊎ ((k == t) ≡ false)
+        k_case k = test_cases k t
 
-      k_case : (k : ℕ) → (k ≡ t) ⊎ ((k == t) ≡ false)
-      k_case k = test_cases k t
+        here : (h a : ℕ) → h ≡ t → new_row h ≡ Some a → m ≡ a
+        here h a e p = some_nat (sym (put_same t (Some m) N.row) ∙ (ap new_row (sym e) ∙ p))
 
-      here : (h a : ℕ) → h ≡ t → new_row h ≡ Some a → m ≡ a
-      here h a e p = some_nat (sym (put_same t (Some m) N.row) ∙ (ap new_row (sym e) ∙ p))
+        there : (h a : ℕ) → (h == t) ≡ false → new_row h ≡ Some a → N.row h ≡ Some a
+        there h a e p = sym (put_other t (Some m) N.row h e) ∙ p
 
-      there : (h a : ℕ) → (h == t) ≡ false → new_row h ≡ Some a → N.row h ≡ Some a
-      there h a e p = sym (put_other t (Some m) N.row h e) ∙ p
+        apart : Rows S N → (h k a b : ℕ) → (h ≡ t) ⊎ ((h == t) ≡ false) → (k ≡ t) ⊎ ((k == t) ≡ false) → new_row h ≡ Some a → new_row k ≡ Some b → 2 ≤ a + b → Related S.root h k
+        apart c h k a b (inl e) (inl f) p q less = inl (e ∙ sym f)
+        apart c h k a b (inl e) (inr f) p q less = subst (λ n. Related S.root n k) (sym e) (free k b (there k b f q) (omega (arith, less, here h a e p)))
+        apart c h k a b (inr e) (inl f) p q less = turned k h (subst (λ n. Related S.root n h) (sym f) (free h a (there h a e p) (omega (arith, less, here k b f q))))
+        apart c h k a b (inr e) (inr f) p q less = c.apart h k a b (there h a e p) (there k b f q) less
 
-      apart : Rows S N → (h k a b : ℕ) → (h ≡ t) ⊎ ((h == t) ≡ false) → (k ≡ t) ⊎ ((k == t) ≡ false) → new_row h ≡ Some a → new_row k ≡ Some b → 2 ≤ a + b → Related S.root h k
-      apart c h k a b (inl e) (inl f) p q less = inl (e ∙ sym f)
-      apart c h k a b (inl e) (inr f) p q less = subst (λ n. Related S.root n k) (sym e) (free k b (there k b f q) (omega (arith, less, here h a e p)))
-      apart c h k a b (inr e) (inl f) p q less = turned k h (subst (λ n. Related S.root n h) (sym f) (free h a (there h a e p) (omega (arith, less, here k b f q))))
-      apart c h k a b (inr e) (inr f) p q less = c.apart h k a b (there h a e p) (there k b f q) less
+    is_held : (r : ℕ) → IsHeld S N r → IsHeld S Locked r
+    is_held r (inl x) = inl x
+    is_held r (inr (inl x)) = inr (inl (row_rises r 0 x))
+    is_held r (inr (inr x)) = inr (inr x)
 
-  is_held : (r : ℕ) → IsHeld S N r → IsHeld S Locked r
-  is_held r (inl x) = inl x
-  is_held r (inr (inl x)) = inr (inl (row_rises r 0 x))
-  is_held r (inr (inr x)) = inr (inr x)
+    pub locked_grants : (sent : List Message) → Grants S N sent → Grants S Locked sent
+    locked_grants sent c = record {
+      past = c.past;
+      row = λ x s h u. let y = c.row x s h u in (row_rises x 0 y.0, y.1);
+      root = λ r s h u. is_held r (c.root r s h u);
+      conf = c.conf;
+      part = c.part;
+      yes = c.yes;
+      listed = c.listed;
+      acked = c.acked;
+      told = c.told;
+    }
 
-  pub locked_grants : (sent : List Message) → Grants S N sent → Grants S Locked sent
-  locked_grants sent c = record {
-    past = c.past;
-    row = λ x s h u. let y = c.row x s h u in (row_rises x 0 y.0, y.1);
-    root = λ r s h u. is_held r (c.root r s h u);
-    conf = c.conf;
-    part = c.part;
-    yes = c.yes;
-    listed = c.listed;
-    acked = c.acked;
-    told = c.told;
-  }
+    pub locked_answer : ((x : ℕ) → N.asked x ≡ true → asked x ≡ true) → (a : Answer) → AnswerMeans S N a → AnswerMeans S Locked a
+    locked_answer stays (Bound x i b l) y = (y.0, y.1, λ q e u. let z = y.2 q e u in (row_rises x 0 z.0, z.1, z.2, λ w. let v = z.3 w in (stays x v.0, v.1)))
+    locked_answer stays (Loaded x i g) y = (y.0, y.1, y.2, λ q e u. let z = y.3 q e u in (stays x z.0, z.1))
 
-  pub locked_answer : ((x : ℕ) → N.asked x ≡ true → asked x ≡ true) → (a : Answer) → AnswerMeans S N a → AnswerMeans S Locked a
-  locked_answer stays (Bound x i b l) y = (y.0, y.1, λ q e u. let z = y.2 q e u in (row_rises x 0 z.0, z.1, z.2, λ w. let v = z.3 w in (stays x v.0, v.1)))
-  locked_answer stays (Loaded x i g) y = (y.0, y.1, y.2, λ q e u. let z = y.3 q e u in (stays x z.0, z.1))
-
-  pub locked_plans : ((x : ℕ) → N.asked x ≡ true → asked x ≡ true) → Plans S N → Plans S Locked
-  locked_plans stays c = record {
-    based = c.based;
-    writer = c.writer;
-    asked = λ x s b j. let y = c.asked x s b j in (y.0, y.1, λ e u. stays x (y.2 e u));
-    loaded = c.loaded;
-  }
+    pub locked_plans : ((x : ℕ) → N.asked x ≡ true → asked x ≡ true) → Plans S N → Plans S Locked
+    locked_plans stays c = record {
+      based = c.based;
+      writer = c.writer;
+      asked = λ x s b j. let y = c.asked x s b j in (y.0, y.1, λ e u. stays x (y.2 e u));
+      loaded = c.loaded;
+    }
 
 -- what a granted lock gives: no other top's entry is prepared that conflicts
 no_pending : (S : State) (N : Names) (c : Core S) → Roots S → Rows S N → (t m : ℕ) → S.serial t ≡ false → is_idle (S.stage t) ≡ true → IsFree S N t m → (h : Hold) (n : ℕ) → S.entry_pend ≡ Some h → HasRow N h.top n → 2 ≤ m + n → ⊥
@@ -135,12 +133,12 @@ no_pending S N c roots rows t m top idle free h n p (k, row, low) less = by (fre
 answer_wide : (S : State) (N : Names) (c : Core S) → Roots S → Rows S N → (t m : ℕ) → S.serial t ≡ false → is_idle (S.stage t) ≡ true → IsFree S N t m → IsWide S (S.root t) S.entry.content
 answer_wide S N c roots rows t m top idle free s (inl i) = inl i
 answer_wide S N c roots rows t m top idle free s (inr i) = ⊎_elim
-  (λ (e : has s S.entry.content ≡ true). inl e)
-  (λ (x : (h : Hold) × (S.entry_pend ≡ Some h) × (decided S h.top ≡ true) × (has s h.new.content ≡ true)). ⊎_elim
+    (λ (e : has s S.entry.content ≡ true). inl e)
+    (λ (x : (h : Hold) × (S.entry_pend ≡ Some h) × (decided S h.top ≡ true) × (has s h.new.content ≡ true)). ⊎_elim
     (λ (e : has s S.entry.content ≡ true). inl e)
     (λ (e : has s S.entry.content ≡ false). absurd (no_pending S N c roots rows t m top idle free x.0 2 x.1 (rows.adds x.0 s x.1 x.3 e) (omega arith)))
     (bool_cases (has s S.entry.content)))
-  (last_listed S s c i)
+    (last_listed S s c i)
 
 related_free : (S : State) (t h : ℕ) → (h ≡ t) ⊎ (h ≡ S.root t) → Related S.root t h
 related_free S t h (inl e) = inl (sym e)
@@ -155,9 +153,9 @@ given_is S N roots rows t m top low free x g = by (rows.given x g)
 
 free_related : (S : State) (N : Names) → Rows S N → (t m : ℕ) → IsFree S N t m → (h n : ℕ) → N.row h ≡ Some n → 2 ≤ raised (N.row t) m + n → Related S.root t h
 free_related S N rows t m free h n row less = ⊎_elim
-  (λ (e : N.row t ≡ Some (raised (N.row t) m)). rows.apart t h (raised (N.row t) m) n e row less)
-  (λ (e : raised (N.row t) m ≡ m). related_free S t h (free h n row (omega (arith, less, e))))
-  (raised_is (N.row t) m)
+    (λ (e : N.row t ≡ Some (raised (N.row t) m)). rows.apart t h (raised (N.row t) m) n e row less)
+    (λ (e : raised (N.row t) m ≡ m). related_free S t h (free h n row (omega (arith, less, e))))
+    (raised_is (N.row t) m)
 
 pub read_named : (A : Office) (t : ℕ) → MayLock A t 0 → A.names.live ≡ true → Named A → Named (acted A (Read t))
 read_named A t may live c = record {
@@ -190,8 +188,12 @@ read_named A t may live c = record {
 
     by : (a : Answer) → (Bound t N.inc false S.entry.content ≡ a) ⊎ In a N.answers → AnswerMeans S (acted A (Read t)).names a
     by a (inr i) = locked_answer S N t m N.asked rises free alone (λ x y. inl y) (λ x y. y) a (c.answers a i)
-    by a (inl e) = subst (AnswerMeans S (acted A (Read t)).names) e (may.top, le_refl N.inc, λ idle is untold.
-      ((m, put_same t (Some m) N.row, raised_mode (N.row t) 0), falls_to (N.given t) (λ g. never live (c.rows.dead t g)), answer_wide S N c.whole.core c.roots c.rows t 0 may.top idle may.free, λ f. let n : false ≡ true = f in cc))
+    by a (inl e) = subst (AnswerMeans S (acted A (Read t)).names) e (
+      may.top,
+      le_refl N.inc,
+      λ idle is untold.
+          ((m, put_same t (Some m) N.row, raised_mode (N.row t) 0), falls_to (N.given t) (λ g. never live (c.rows.dead t g)), answer_wide S N c.whole.core c.roots c.rows t 0 may.top idle may.free, λ f. let n : false ≡ true = f in cc),
+    )
 
 pub write_named : (A : Office) (t : ℕ) (b : Bool) → MayLock A t 2 → Named A → Named (acted A (Write t b))
 write_named A t b may c = record {
@@ -243,8 +245,12 @@ write_named A t b may c = record {
 
     by : (a : Answer) → (Bound t N.inc b S.entry.content ≡ a) ⊎ In a N.answers → AnswerMeans S (acted A (Write t b)).names a
     by a (inr i) = locked_answer S N t m asked rises free alone asks stays a (c.answers a i)
-    by a (inl e) = subst (AnswerMeans S (acted A (Write t b)).names) e (may.top, le_refl N.inc, λ idle is untold.
-      ((m, put_same t (Some m) N.row, omega arith), given_not idle, answer_wide S N c.whole.core c.roots c.rows t 2 may.top idle may.free, λ f. (put_same t (N.asked t || b) N.asked ∙ or_right (N.asked t) b f, kept idle)))
+    by a (inl e) = subst (AnswerMeans S (acted A (Write t b)).names) e (
+      may.top,
+      le_refl N.inc,
+      λ idle is untold.
+          ((m, put_same t (Some m) N.row, omega arith), given_not idle, answer_wide S N c.whole.core c.roots c.rows t 2 may.top idle may.free, λ f. (put_same t (N.asked t || b) N.asked ∙ or_right (N.asked t) b f, kept idle)),
+    )
       where
         given_not : is_idle (S.stage t) ≡ true → N.given t ≡ false
         given_not idle = falls_to (N.given t) (λ g. never idle (c.whole.core.fresh.begun t (c.rows.given t g).1))
@@ -343,9 +349,9 @@ lower_named A t may c = record {
     -- each lock was at least as strong
     old : (h a : ℕ) → put t (Some mode) N.row h ≡ Some a → (n : ℕ) × (N.row h ≡ Some n) × (a ≤ n)
     old h a p = put_cases (λ o. o ≡ Some a → (n : ℕ) × (N.row h ≡ Some n) × (a ≤ n)) t (Some mode) N.row h
-      (λ e q. (2, ap N.row e ∙ may.held, subst (λ n. n ≤ 2) (some_nat q) (at_most (N.asked t))))
-      (λ e q. (a, q, le_refl a))
-      p
+        (λ e q. (2, ap N.row e ∙ may.held, subst (λ n. n ≤ 2) (some_nat q) (at_most (N.asked t))))
+        (λ e q. (a, q, le_refl a))
+        p
 
     not_given : (x : ℕ) → N.given x ≡ true → ⊥
     not_given x g = never may.had (ap (λ n. N.had n N.inc) (c.rows.alone x t 2 g may.held) ∙ (c.rows.given x g).2)
@@ -355,9 +361,9 @@ lower_named A t may c = record {
 
     guarded : (h : Hold) (n : ℕ) → S.entry_pend ≡ Some h → HasRow N h.top n → HasRow M h.top n
     guarded h n p r = ⊎_elim
-      (λ (a : N.asked t ≡ true). ⊎_elim (λ (e : h.top ≡ t). subst (λ x. HasRow M x n) (sym e) (strong (subst (λ x. HasRow N x n) e r) a)) (λ (e : (h.top == t) ≡ false). other h.top n e r) (test_cases h.top t))
-      (λ (a : N.asked t ≡ false). ⊎_elim (λ (e : h.top ≡ t). absurd (may.clear a h p e)) (λ (e : (h.top == t) ≡ false). other h.top n e r) (test_cases h.top t))
-      (bool_cases (N.asked t))
+        (λ (a : N.asked t ≡ true). ⊎_elim (λ (e : h.top ≡ t). subst (λ x. HasRow M x n) (sym e) (strong (subst (λ x. HasRow N x n) e r) a)) (λ (e : (h.top == t) ≡ false). other h.top n e r) (test_cases h.top t))
+        (λ (a : N.asked t ≡ false). ⊎_elim (λ (e : h.top ≡ t). absurd (may.clear a h p e)) (λ (e : (h.top == t) ≡ false). other h.top n e r) (test_cases h.top t))
+        (bool_cases (N.asked t))
       where
         other : (x n : ℕ) → (x == t) ≡ false → HasRow N x n → HasRow M x n
         other x n e (k, row, low) = (k, put_other t (Some mode) N.row x e ∙ row, low)

@@ -1,13 +1,10 @@
 -- What follows with the naming node's half.
-use Rattle.std.proofs.Common.{◌≡◌, ◌⊎◌, ℕ, ◌+◌, ◌<◌, List, [], ◌∷◌, take, Bool, true, false, Option, Some, None, is_some, unwrap_or, refl, sym, ◌∙◌, ap, subst, inl, inr, ⊎_elim, arith}
+use Rattle.std.proofs.Common.{◌≡◌, ◌⊎◌, ℕ, ◌+◌, take, Bool, true, false, Option, Some, None, is_some, unwrap_or, refl, sym, ap, subst, inl, inr, ⊎_elim, arith}
 use Rattle.arj_disk_law.specs.Core.{Core}
-use Rattle.arj_disk_law.specs.Effects.{World, Whole}
-use Rattle.arj_disk_law.specs.Guards.{HasPart, IsPresent, IsGranted, MayAgree, MayEnter}
-use Rattle.arj_disk_law.specs.Laws.{IsFirst}
 use Rattle.arj_disk_law.specs.Named.{Named}
-use Rattle.arj_disk_law.specs.Names.{Names, Office, Answer}
-use Rattle.arj_disk_law.specs.NamingLaws.{IsForest, IsFirstNames, FirstIsNamed, StopsStayNamed, IsBooked, OldNeedsRestart}
-use Rattle.arj_disk_law.specs.State.{State, Packed, Idle, is_open, undecided, decided, decided_in, target, state_for, last, Below}
+use Rattle.arj_disk_law.specs.Names.{Office}
+use Rattle.arj_disk_law.specs.NamingLaws.{FirstIsNamed, StopsStayNamed, IsBooked, OldNeedsRestart}
+use Rattle.arj_disk_law.specs.State.{State, Packed, is_open, undecided, decided, decided_in, state_for, last, Below}
 use Rattle.arj_disk_law.specs.Words.{In}
 use Rattle.arj_disk_law.proofs.Acts.{runs_keep, front_runs}
 use Rattle.arj_disk_law.proofs.Base.{never, never_some, open_parts}

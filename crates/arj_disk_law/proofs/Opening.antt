@@ -1,19 +1,18 @@
 -- A commit begins, with the naming node's half: what its plan counts on.
-use Rattle.std.proofs.Common.{◌≡◌, ◌⊎◌, ℕ, ◌+◌, ◌≤◌, List, [], ◌∷◌, Bool, true, false, cond, ◌==◌, Option, Some, None, is_some, nat_lt, refl, sym, ◌∙◌, ap, subst, inl, inr, ⊎_elim}
+use Rattle.std.proofs.Common.{◌≡◌, ◌⊎◌, ℕ, Bool, true, false, cond, ◌==◌, Option, Some, None, is_some, nat_lt, refl, sym, ◌∙◌, ap, subst, inl, inr, ⊎_elim}
 use Rattle.arj_disk_law.specs.Core.{Core}
 use Rattle.arj_disk_law.specs.Effects
 use Rattle.arj_disk_law.specs.Effects.{World, Whole, CanBegin, changed}
-use Rattle.arj_disk_law.specs.Guards.{HasRow, IsUntold, IsPresent, HasPart, MayBegin}
+use Rattle.arj_disk_law.specs.Guards.{IsUntold, IsPresent, HasPart, MayBegin}
 use Rattle.arj_disk_law.specs.Laws.{IsBased}
 use Rattle.arj_disk_law.specs.Messages.{IsOver}
-use Rattle.arj_disk_law.specs.Named.{Named, Roots, Rows, IsHeld, Grants, IsWide, Lists, IsLoad, AnswerMeans, Plans}
+use Rattle.arj_disk_law.specs.Named.{Named, IsHeld, IsWide, IsLoad, AnswerMeans}
 use Rattle.arj_disk_law.specs.Names.{Names, Office, Kept, Answer, Bound, Loaded, acted, Do, load_of, newer, written_in}
-use Rattle.arj_disk_law.specs.State.{State, Packed, Plan, Hold, Stage, Preparing, naming, is_idle, is_open, is_gone, open_by, decided, undecided, last, Known, KnownIn, Listed}
+use Rattle.arj_disk_law.specs.State.{State, Packed, Plan, Preparing, is_idle, is_gone, open_by, decided, undecided, last, Known}
 use Rattle.arj_disk_law.specs.Words.{has, In, put}
-use Rattle.arj_disk_law.proofs.Base.{bool_cases, put_cases, put_true, put_rises, put_other, put_same, test_cases, test_not, never, falls_to}
+use Rattle.arj_disk_law.proofs.Base.{put_cases, put_true, put_rises, put_other, put_same, test_cases, test_not, never, falls_to}
 use Rattle.arj_disk_law.proofs.Keeps.{effect_keeps}
-use Rattle.arj_disk_law.proofs.Locks.{less_cases}
-use Rattle.arj_disk_law.proofs.Restarts.{open_begun, written_known}
+use Rattle.arj_disk_law.proofs.Restarts.{written_known}
 
 -- the newer of two known states is known
 newer_known : (S : State) (t : ℕ) (g : Packed) → Known S g → Known S (load_of S t g)
@@ -68,11 +67,11 @@ begun_named A t p may c = record {
   plans = record {
     based = λ x w b. put_cases (λ (q : Plan). q.writes ≡ Some w → IsBased S w) t p S.plan x (λ e h. may.based w h) (λ e h. c.plans.based x w (begun_old x e b) h);
     writer = λ x w b. put_cases (λ (q : Plan). q.writes ≡ Some w → (w.writer ≡ x) × (S.first.writer ≡ x → ⊥)) t p S.plan x
-      (λ e h. let y = may.writer w h in (y.0 ∙ sym e, λ f. y.1 (f ∙ e)))
-      (λ e h. c.plans.writer x w (begun_old x e b) h);
+        (λ e h. let y = may.writer w h in (y.0 ∙ sym e, λ f. y.1 (f ∙ e)))
+        (λ e h. c.plans.writer x w (begun_old x e b) h);
     asked = λ x s b. put_cases (λ (q : Plan). has s q.joins ≡ true → (i : ℕ) × (N.had x i ≡ true) × (i ≡ N.inc → IsUntold S N x → N.asked x ≡ true)) t p S.plan x
-      (λ e j. let y = may.loaded s j in (y.0, ap (λ n. N.had n y.0) e ∙ y.3, λ f u. ap N.asked e ∙ ((c.answers (Loaded t y.0 y.1) y.2).3 (ap is_idle may.idle) f (subst (IsUntold S N) e u)).0))
-      (λ e j. c.plans.asked x s (begun_old x e b) j);
+        (λ e j. let y = may.loaded s j in (y.0, ap (λ n. N.had n y.0) e ∙ y.3, λ f u. ap N.asked e ∙ ((c.answers (Loaded t y.0 y.1) y.2).3 (ap is_idle may.idle) f (subst (IsUntold S N) e u)).0))
+        (λ e j. c.plans.asked x s (begun_old x e b) j);
     loaded = λ x s u j q. loaded x s (und x u) j q;
   };
 }
@@ -159,12 +158,20 @@ begun_named A t p may c = record {
     mine w = by (may.list w)
       where
         by : (h : ℕ) × ((h ≡ t) ⊎ (h ≡ S.root t)) × (k : Kept) × (N.kept h ≡ Some k) × (p.list ≡ k.list) → (i : ℕ) × ((N.had t i ≡ true) ⊎ (N.had (S.root t) i ≡ true)) × (IsPresent S N t → IsWide S (S.root t) p.list)
-        by (h, inl e, k, kept, is) = (k.since, inl (ap (λ n. N.had n k.since) (sym e) ∙ c.lists.had h k kept), λ q.
-          ⊎_elim (λ (o : IsOver S (S.root h)). absurd (not_over (subst (λ n. IsOver S (S.root n)) e o))) (λ (wide : IsWide S (S.root h) k.list). subst (λ l. IsWide S (S.root t) l) (sym is) (subst (λ n. IsWide S (S.root n) k.list) e wide))
-            (c.lists.kept h k kept (subst (IsPresent S N) (sym e) q) (subst (IsUntold S N) (sym e) untold_t)))
-        by (h, inr e, k, kept, is) = (k.since, inr (ap (λ n. N.had n k.since) (sym e) ∙ c.lists.had h k kept), λ q.
-          ⊎_elim (λ (o : IsOver S (S.root h)). absurd (not_over (subst (IsOver S) (root_of) o))) (λ (wide : IsWide S (S.root h) k.list). subst (λ l. IsWide S (S.root t) l) (sym is) (subst (λ n. IsWide S n k.list) root_of wide))
-            (c.lists.kept h k kept (present q) (ap N.told e ∙ untold_t.1, ap N.told root_of ∙ untold_t.1)))
+        by (h, inl e, k, kept, is) = (
+          k.since,
+          inl (ap (λ n. N.had n k.since) (sym e) ∙ c.lists.had h k kept),
+          λ q.
+              ⊎_elim (λ (o : IsOver S (S.root h)). absurd (not_over (subst (λ n. IsOver S (S.root n)) e o))) (λ (wide : IsWide S (S.root h) k.list). subst (λ l. IsWide S (S.root t) l) (sym is) (subst (λ n. IsWide S (S.root n) k.list) e wide))
+              (c.lists.kept h k kept (subst (IsPresent S N) (sym e) q) (subst (IsUntold S N) (sym e) untold_t)),
+        )
+        by (h, inr e, k, kept, is) = (
+          k.since,
+          inr (ap (λ n. N.had n k.since) (sym e) ∙ c.lists.had h k kept),
+          λ q.
+              ⊎_elim (λ (o : IsOver S (S.root h)). absurd (not_over (subst (IsOver S) (root_of) o))) (λ (wide : IsWide S (S.root h) k.list). subst (λ l. IsWide S (S.root t) l) (sym is) (subst (λ n. IsWide S n k.list) root_of wide))
+              (c.lists.kept h k kept (present q) (ap N.told e ∙ untold_t.1, ap N.told root_of ∙ untold_t.1)),
+        )
           where
             root_of : S.root h ≡ S.root t
             root_of = ap S.root e ∙ c.roots.idem t
@@ -175,7 +182,7 @@ begun_named A t p may c = record {
 
     plan : (x : ℕ) → (x ≡ t) ⊎ (((x == t) ≡ false) × (undecided S x ≡ true)) → is_some (V.plan x).writes ≡ true → (i : ℕ) × ((N.had x i ≡ true) ⊎ (N.had (S.root x) i ≡ true)) × (IsPresent S N x → IsWide S (S.root x) (V.plan x).list)
     plan x (inl e) w = subst (Listing x) (sym (ap V.plan e ∙ put_same t p S.plan))
-      (subst (λ n. (i : ℕ) × ((N.had n i ≡ true) ⊎ (N.had (S.root n) i ≡ true)) × (IsPresent S N n → IsWide S (S.root n) p.list)) (sym e) (mine (subst (λ (q : Plan). is_some q.writes ≡ true) (ap V.plan e ∙ put_same t p S.plan) w)))
+        (subst (λ n. (i : ℕ) × ((N.had n i ≡ true) ⊎ (N.had (S.root n) i ≡ true)) × (IsPresent S N n → IsWide S (S.root n) p.list)) (sym e) (mine (subst (λ (q : Plan). is_some q.writes ≡ true) (ap V.plan e ∙ put_same t p S.plan) w)))
     plan x (inr f) w = subst (Listing x) (sym (put_other t p S.plan x f.0)) (c.lists.plan x f.1 (subst (λ (q : Plan). is_some q.writes ≡ true) (put_other t p S.plan x f.0) w))
 
     answer : (a : Answer) → AnswerMeans S N a → AnswerMeans V N a
@@ -200,4 +207,4 @@ begun_named A t p may c = record {
         is_last : p.loaded ≡ last S
         is_last = from.4 ∙ sym load.0
     loaded x s (inr f) j q = subst (λ (y : Plan). (y.loaded ≡ last S) × ((z : ℕ) → S.conf z ≡ true → undecided V z ≡ true → z ≡ x)) (sym (put_other t p S.plan x f.0))
-      (let y = c.plans.loaded x s f.1 (subst (λ (w : Plan). has s w.joins ≡ true) (put_other t p S.plan x f.0) j) q in (y.0, λ z cz uz. y.1 z cz (old z (core.fresh.conf z cz) uz)))
+        (let y = c.plans.loaded x s f.1 (subst (λ (w : Plan). has s w.joins ≡ true) (put_other t p S.plan x f.0) j) q in (y.0, λ z cz uz. y.1 z cz (old z (core.fresh.conf z cz) uz)))

@@ -1,16 +1,15 @@
 -- Effects of stores and coordinators, and the end of entries, with the naming node's half.
-use Rattle.std.proofs.Common.{◌≡◌, ◌⊎◌, ℕ, ◌+◌, ◌≤◌, List, [], ◌∷◌, Bool, true, false, cond, ◌==◌, ◌||◌, Option, Some, None, is_some, refl, sym, ◌∙◌, ap, subst, inl, inr, ⊎_elim}
-use Rattle.arj_disk_law.specs.Core.{Core}
+use Rattle.std.proofs.Common.{◌≡◌, ◌⊎◌, ℕ, List, Bool, true, false, Option, Some, None, refl, sym, ◌∙◌, ap, subst, inl, inr, ⊎_elim}
 use Rattle.arj_disk_law.specs.Effects
 use Rattle.arj_disk_law.specs.Effects.{World, Whole, Effect, Allowed, after, changed, MaySend}
-use Rattle.arj_disk_law.specs.Guards.{HasRow, IsUntold, IsPresent, IsToldFirst}
+use Rattle.arj_disk_law.specs.Guards.{IsToldFirst}
 use Rattle.arj_disk_law.specs.Messages.{Message, Acked, ToldCommit, ToldAbort, ToldSerial, IsOver}
-use Rattle.arj_disk_law.specs.Named.{Named, Roots, Rows, Grants, IsLeaving, IsWide, Lists, AnswerMeans, Plans}
-use Rattle.arj_disk_law.specs.Names.{Names, Office, Kept, Answer, Bound, Loaded, acted, Do}
-use Rattle.arj_disk_law.specs.State.{State, Packed, Hold, Stage, Preparing, Confirming, Gone, naming, is_idle, is_open, is_gone, open_by, decided, undecided, lists, listed_by, last_entry, Listed, hold}
+use Rattle.arj_disk_law.specs.Named.{Named, IsLeaving, IsWide, AnswerMeans}
+use Rattle.arj_disk_law.specs.Names.{Office, Answer, Bound, Loaded, acted, Do}
+use Rattle.arj_disk_law.specs.State.{State, Packed, Hold, Stage, Confirming, Gone, naming, is_idle, is_open, is_gone, open_by, decided, undecided, lists, listed_by, Listed, hold}
 use Rattle.arj_disk_law.specs.Words.{has, In, put, put2}
-use Rattle.arj_disk_law.proofs.Base.{bool_cases, put_cases, put_rises, never, never_some, some_is, open_done, open_made, falls_to, closed_done}
-use Rattle.arj_disk_law.proofs.Calm.{calm, calm_roots, calm_rows, calm_grants, calm_lists, calm_answer, calm_plans}
+use Rattle.arj_disk_law.proofs.Base.{bool_cases, put_cases, put_rises, never, some_is, open_done, open_made}
+use Rattle.arj_disk_law.proofs.Calm.{calm, calm_roots, calm_grants, calm_lists, calm_answer, calm_plans}
 use Rattle.arj_disk_law.proofs.Entries.{pending_last}
 use Rattle.arj_disk_law.proofs.Keeps.{effect_keeps}
 use Rattle.arj_disk_law.proofs.Mail.{stage_falls}
@@ -46,42 +45,42 @@ took_named A t s x c = calm_named A A.world.disk.stage A.world.disk.intent A.wor
 
 pub sealed_named : (A : Office) (t : ℕ) → Allowed A.world (Effects.Seal t) → Named A → Named (acted A (Do (Effects.Seal t)))
 sealed_named A t x c = calm_named A (put t Confirming A.world.disk.stage) A.world.disk.intent A.world.disk.bare A.world.disk.got A.world.disk.held A.world.disk.pend A.world.disk.went
-  ages (λ a u. stage_falls A.world.disk (put t Confirming A.world.disk.stage) ages a u) (λ a h. h) (λ a d h u l. l) (effect_keeps A.world (Effects.Seal t) x c.whole) c
+    ages (λ a u. stage_falls A.world.disk (put t Confirming A.world.disk.stage) ages a u) (λ a h. h) (λ a d h u l. l) (effect_keeps A.world (Effects.Seal t) x c.whole) c
   where
     ages : Ages A.world.disk.stage (put t Confirming A.world.disk.stage)
     ages = ages_seal t A.world.disk.stage x
 
 pub halted_named : (A : Office) (t : ℕ) → Named A → Named (acted A (Do (Effects.Halt t)))
 halted_named A t c = calm_named A (put t Gone A.world.disk.stage) A.world.disk.intent A.world.disk.bare A.world.disk.got A.world.disk.held A.world.disk.pend A.world.disk.went
-  (ages_gone t A.world.disk.stage) (λ a u. stage_falls A.world.disk (put t Gone A.world.disk.stage) (ages_gone t A.world.disk.stage) a u) (λ a h. h) (λ a d h u l. l) (effect_keeps A.world (Effects.Halt t) tt c.whole) c
+    (ages_gone t A.world.disk.stage) (λ a u. stage_falls A.world.disk (put t Gone A.world.disk.stage) (ages_gone t A.world.disk.stage) a u) (λ a h. h) (λ a d h u l. l) (effect_keeps A.world (Effects.Halt t) tt c.whole) c
 
 pub ended_bare_named : (A : Office) (t : ℕ) → Allowed A.world (Effects.EndBare t) → Named A → Named (acted A (Do (Effects.EndBare t)))
 ended_bare_named A t x c = calm_named A (put t Gone A.world.disk.stage) A.world.disk.intent (put t true A.world.disk.bare) A.world.disk.got A.world.disk.held A.world.disk.pend A.world.disk.went
-  (ages_gone t A.world.disk.stage) (λ a u. stage_falls A.world.disk (put t Gone A.world.disk.stage) (ages_gone t A.world.disk.stage) a u) (λ a h. put_rises t A.world.disk.bare a h) (λ a d h u l. l) (effect_keeps A.world (Effects.EndBare t) x c.whole) c
+    (ages_gone t A.world.disk.stage) (λ a u. stage_falls A.world.disk (put t Gone A.world.disk.stage) (ages_gone t A.world.disk.stage) a u) (λ a h. put_rises t A.world.disk.bare a h) (λ a d h u l. l) (effect_keeps A.world (Effects.EndBare t) x c.whole) c
 
 pub intended_named : (A : Office) (t : ℕ) (nodes : List ℕ) → Allowed A.world (Effects.Intend t nodes) → Named A → Named (acted A (Do (Effects.Intend t nodes)))
 intended_named A t nodes x c = calm_named A A.world.disk.stage (put t (Some nodes) A.world.disk.intent) A.world.disk.bare A.world.disk.got A.world.disk.held A.world.disk.pend A.world.disk.went (same_ages A.world.disk.stage)
-  (λ a u. put_cases (λ o. open_by (decided S a) (S.stage a) o ≡ true → undecided S a ≡ true) t (Some nodes) S.intent a (λ e v. open_made (decided S a) (S.stage a) (S.intent a) (open_done (decided S a) (S.stage a) (Some nodes) v) (inl (ap is_open (ap S.stage e ∙ x.sealed)))) (λ e v. v) u)
-  (λ a h. h)
-  (λ a d h u l. put_cases (λ o. listed_by o naming ≡ true) t (Some nodes) S.intent a (λ e. let n : ◌≡◌ {A = Bool} false true = sym (ap is_gone (ap S.stage e ∙ x.sealed)) ∙ c.whole.core.coordinators.decided_closed a d in cc) (λ e. l))
-  (effect_keeps A.world (Effects.Intend t nodes) x c.whole) c
+    (λ a u. put_cases (λ o. open_by (decided S a) (S.stage a) o ≡ true → undecided S a ≡ true) t (Some nodes) S.intent a (λ e v. open_made (decided S a) (S.stage a) (S.intent a) (open_done (decided S a) (S.stage a) (Some nodes) v) (inl (ap is_open (ap S.stage e ∙ x.sealed)))) (λ e v. v) u)
+    (λ a h. h)
+    (λ a d h u l. put_cases (λ o. listed_by o naming ≡ true) t (Some nodes) S.intent a (λ e. let n : ◌≡◌ {A = Bool} false true = sym (ap is_gone (ap S.stage e ∙ x.sealed)) ∙ c.whole.core.coordinators.decided_closed a d in cc) (λ e. l))
+    (effect_keeps A.world (Effects.Intend t nodes) x c.whole) c
   where
     S : State
     S = A.world.disk
 
 pub removed_named : (A : Office) (t : ℕ) (nodes : List ℕ) → Allowed A.world (Effects.Remove t nodes) → Named A → Named (acted A (Do (Effects.Remove t nodes)))
 removed_named A t nodes x c = calm_named A A.world.disk.stage (put t None A.world.disk.intent) A.world.disk.bare A.world.disk.got A.world.disk.held A.world.disk.pend A.world.disk.went (same_ages A.world.disk.stage)
-  (λ a u. put_cases (λ o. open_by (decided S a) (S.stage a) o ≡ true → undecided S a ≡ true) t None S.intent a (λ e v. absurd (never (ap (decided S) e ∙ x.done) (open_done (decided S a) (S.stage a) None v))) (λ e v. v) u)
-  (λ a h. h)
-  (λ a d h u l. put_cases (λ o. listed_by o naming ≡ true) t None S.intent a (λ e. absurd (known (ap (λ n. A.names.had n A.names.inc) (sym e) ∙ h) (ap A.names.told (sym e) ∙ u))) (λ e. l))
-  (effect_keeps A.world (Effects.Remove t nodes) x c.whole) c
+    (λ a u. put_cases (λ o. open_by (decided S a) (S.stage a) o ≡ true → undecided S a ≡ true) t None S.intent a (λ e v. absurd (never (ap (decided S) e ∙ x.done) (open_done (decided S a) (S.stage a) None v))) (λ e v. v) u)
+    (λ a h. h)
+    (λ a d h u l. put_cases (λ o. listed_by o naming ≡ true) t None S.intent a (λ e. absurd (known (ap (λ n. A.names.had n A.names.inc) (sym e) ∙ h) (ap A.names.told (sym e) ∙ u))) (λ e. l))
+    (effect_keeps A.world (Effects.Remove t nodes) x c.whole) c
   where
     S : State
     S = A.world.disk
 
     known : A.names.had t A.names.inc ≡ true → A.names.told t ≡ false → ⊥
     known h u = ⊎_elim (λ (y : A.names.told t ≡ true). never y u) (λ (y : A.names.had t A.names.inc ≡ false). never h y)
-      (c.grants.acked t (x.acked naming (c.whole.core.coordinators.record_names t nodes x.record_is)))
+        (c.grants.acked t (x.acked naming (c.whole.core.coordinators.record_names t nodes x.record_is)))
 
 pub kept_named : (A : Office) (t s : ℕ) → Allowed A.world (Effects.Keep t s) → Named A → Named (acted A (Do (Effects.Keep t s)))
 kept_named A t s x c = stores_named A A.world.disk.held (put s (Some (hold A.world.disk t)) A.world.disk.pend) A.world.disk.went (effect_keeps A.world (Effects.Keep t s) x c.whole) c

@@ -1,15 +1,14 @@
 -- A restart of the naming node, and what coordinators take from its answers.
-use Rattle.std.proofs.Common.{◌≡◌, ◌⊎◌, ℕ, ◌+◌, ◌≤◌, List, [], ◌∷◌, Bool, true, false, cond, ◌==◌, ◌||◌, not, Option, Some, None, is_some, nat_lt, refl, sym, ◌∙◌, ap, subst, inl, inr, ⊎_elim, arith, le_refl, ◌<◌}
+use Rattle.std.proofs.Common.{◌≡◌, ◌⊎◌, ℕ, ◌+◌, ◌≤◌, List, [], ◌∷◌, Bool, true, false, cond, ◌==◌, not, Option, Some, None, is_some, nat_lt, refl, sym, ◌∙◌, ap, subst, inl, inr, ⊎_elim, arith, le_refl, ◌<◌}
 use Rattle.std.specs.List.{list_any}
 use Rattle.arj_disk_law.specs.Core.{Core}
-use Rattle.arj_disk_law.specs.Effects.{World, Whole}
 use Rattle.arj_disk_law.specs.Guards.{HasRow, IsUntold, IsPresent, MayHear, MayKeepList, MayAnswerLoad}
-use Rattle.arj_disk_law.specs.Messages.{Message, Acked, IsOver}
-use Rattle.arj_disk_law.specs.Named.{Named, Related, Roots, Rows, IsHeld, Grants, IsWide, Lists, IsLoad, AnswerMeans, Plans}
+use Rattle.arj_disk_law.specs.Messages.{Acked, IsOver}
+use Rattle.arj_disk_law.specs.Named.{Named, IsHeld, IsWide, IsLoad, AnswerMeans}
 use Rattle.arj_disk_law.specs.Names.{Names, Office, Kept, Answer, Bound, Loaded, given_mode, given_row, is_pending, acted, Restart, Hear, KeepList, AnswerLoad, newer, written_in, or_else, load_of}
-use Rattle.arj_disk_law.specs.State.{State, Packed, Hold, Done, naming, is_idle, is_gone, is_open, decided, undecided, last, last_in, last_entry, Known, KnownIn, Below, effective_by, IsExcused}
+use Rattle.arj_disk_law.specs.State.{State, Packed, Hold, Done, naming, is_idle, is_gone, is_open, decided, undecided, last, last_entry, KnownIn, Below, IsExcused}
 use Rattle.arj_disk_law.specs.Words.{has, In, put, put2}
-use Rattle.arj_disk_law.proofs.Base.{bool_cases, put_cases, put_same, put_other, put2_true, put2_rises, put2_same, test_cases, test_is, test_same, differs, never, never_some, some_is, or_left, or_right, or_cases, open_parts, falls_to, not_false}
+use Rattle.arj_disk_law.proofs.Base.{put_cases, put_other, put2_true, put2_rises, test_cases, test_is, test_same, differs, never, never_some, some_is, or_left, or_right, or_cases, open_parts, falls_to, not_false}
 use Rattle.arj_disk_law.proofs.History.{known_last, effective_none}
 use Rattle.arj_disk_law.proofs.Kin.{one_top}
 use Rattle.arj_disk_law.proofs.Locks.{some_nat, less_cases}
@@ -17,9 +16,9 @@ use Rattle.arj_disk_law.proofs.Locks.{some_nat, less_cases}
 -- a top whose outcome is open has begun
 pub open_begun : (S : State) → Core S → (t : ℕ) → undecided S t ≡ true → S.begun t ≡ true
 open_begun S c t u = ⊎_elim
-  (λ (o : is_open (S.stage t) ≡ true). c.fresh.open_begun t o)
-  (λ (r : is_some (S.intent t) ≡ true). ⊎_elim (λ (h : S.conf t ≡ true). c.fresh.conf t h) (λ (h : S.light t ≡ true). c.fresh.light t h) (c.coordinators.record_taken t r))
-  (open_parts (decided S t) (S.stage t) (S.intent t) u)
+    (λ (o : is_open (S.stage t) ≡ true). c.fresh.open_begun t o)
+    (λ (r : is_some (S.intent t) ≡ true). ⊎_elim (λ (h : S.conf t ≡ true). c.fresh.conf t h) (λ (h : S.light t ≡ true). c.fresh.light t h) (c.coordinators.record_taken t r))
+    (open_parts (decided S t) (S.stage t) (S.intent t) u)
 
 pending_is : (o : Option Hold) (t : ℕ) → is_pending o t ≡ true → (p : Hold) × (o ≡ Some p) × (t ≡ p.top)
 pending_is None t h = let n : false ≡ true = h in cc
@@ -42,9 +41,9 @@ pending_has o p e = subst (λ x. is_pending x p.top ≡ true) (sym e) (test_same
 any_true : (f : ℕ → Bool) (l : List ℕ) (s : ℕ) → has s l ≡ true → f s ≡ true → list_any f l ≡ true
 any_true f [] s h p = h
 any_true f (x ∷ l) s h p = ⊎_elim
-  (λ (e : (x == s) ≡ true). or_left (f x) (list_any f l) (ap f (test_is x s e) ∙ p))
-  (λ (e : has s l ≡ true). or_right (f x) (list_any f l) (any_true f l s e p))
-  (or_cases (x == s) (has s l) h)
+    (λ (e : (x == s) ≡ true). or_left (f x) (list_any f l) (ap f (test_is x s e) ∙ p))
+    (λ (e : has s l ≡ true). or_right (f x) (list_any f l) (any_true f l s e p))
+    (or_cases (x == s) (has s l) h)
 
 mode_low : (entry : Packed) (p : Hold) → 1 ≤ given_mode entry p
 mode_low entry p = by (list_any (λ s. not (has s entry.content)) p.new.content)
@@ -143,18 +142,18 @@ hear_named A t i b l may c = record {
   grants = record {
     past = λ x j h. ⊎_elim (λ (e : (x ≡ t) × (j ≡ i)). subst (λ n. n ≤ N.inc) (sym e.1) answered.1) (λ (o : N.had x j ≡ true). c.grants.past x j o) (put2_true t i N.had x j h);
     row = λ x s h u. ⊎_elim
-      (λ (e : (x ≡ t) × (N.inc ≡ i)). let y = answered.2 idle (sym e.1) (subst (IsUntold S N) e.0 u) in (subst (λ n. HasRow N n 0) (sym e.0) y.0, ap N.given e.0 ∙ y.1))
-      (λ (o : N.had x N.inc ≡ true). c.grants.row x s o u)
-      (put2_true t i N.had x N.inc h);
+        (λ (e : (x ≡ t) × (N.inc ≡ i)). let y = answered.2 idle (sym e.1) (subst (IsUntold S N) e.0 u) in (subst (λ n. HasRow N n 0) (sym e.0) y.0, ap N.given e.0 ∙ y.1))
+        (λ (o : N.had x N.inc ≡ true). c.grants.row x s o u)
+        (put2_true t i N.had x N.inc h);
     root = λ r s h u. ⊎_elim (λ (e : (r ≡ t) × (N.inc ≡ i)). absurd (never s (ap S.serial e.0 ∙ answered.0))) (λ (o : N.had r N.inc ≡ true). held r (c.grants.root r s o u)) (put2_true t i N.had r N.inc h);
     conf = λ x y h. ⊎_elim (λ (e : (x ≡ t) × (N.inc ≡ i)). absurd (differs x t (working x (taken_not_idle x y)) e.0)) (λ (o : N.had x N.inc ≡ true). c.grants.conf x y o) (put2_true t i N.had x N.inc h);
     part = λ x y p. let z = c.grants.part x y p in (z.0, either x z.0 z.1, z.2);
     yes = c.grants.yes;
     listed = λ x d h u. ⊎_elim (λ (e : (x ≡ t) × (N.inc ≡ i)). absurd (differs x t (working x (taken_not_idle x (core.coordinators.decided_taken x d))) e.0)) (λ (o : N.had x N.inc ≡ true). c.grants.listed x d o u) (put2_true t i N.had x N.inc h);
     acked = λ x m. ⊎_elim
-      (λ (h : N.told x ≡ true). inl h)
-      (λ (h : N.had x N.inc ≡ false). inr (put2_other t i N.had x N.inc (working x (taken_not_idle x (core.coordinators.decided_taken x (c.whole.mail (Acked x naming) m).0))) ∙ h))
-      (c.grants.acked x m);
+        (λ (h : N.told x ≡ true). inl h)
+        (λ (h : N.had x N.inc ≡ false). inr (put2_other t i N.had x N.inc (working x (taken_not_idle x (core.coordinators.decided_taken x (c.whole.mail (Acked x naming) m).0))) ∙ h))
+        (c.grants.acked x m);
     told = c.grants.told;
   };
   lists = record {
@@ -226,8 +225,8 @@ keep_list_named A h t i l may c = record {
   lists = record {
     had = λ x k. put_cases (λ o. o ≡ Some k → N.had x k.since ≡ true) h (Some new) N.kept x (λ e q. subst (λ (y : Kept). N.had x y.since ≡ true) (same q) (ap (λ n. N.had n i) e ∙ may.had)) (λ e q. c.lists.had x k q);
     kept = λ x k. put_cases (λ o. o ≡ Some k → IsPresent S N x → IsUntold S N x → IsOver S (S.root x) ⊎ IsWide S (S.root x) k.list) h (Some new) N.kept x
-      (λ e q p u. inr (subst (λ (y : Kept). IsWide S (S.root x) y.list) (same q) (subst (λ r. IsWide S r l) (sym (ap S.root e ∙ may.family)) (wide (p i (inl (ap (λ n. N.had n i) e ∙ may.had)))))))
-      (λ e q. c.lists.kept x k q);
+        (λ e q p u. inr (subst (λ (y : Kept). IsWide S (S.root x) y.list) (same q) (subst (λ r. IsWide S r l) (sym (ap S.root e ∙ may.family)) (wide (p i (inl (ap (λ n. N.had n i) e ∙ may.had)))))))
+        (λ e q. c.lists.kept x k q);
     plan = c.lists.plan;
     light = c.lists.light;
   };
@@ -349,9 +348,9 @@ answer_load_named A t i s l g may c = record {
             wrote : (o : Option Packed) → (S.plan z).writes ≡ o → S.root z ≡ S.root t
             wrote None w = let y = core.covered.plain z cz uz w in let p = core.covered.joins z y.0 cz uz y.1 y.2 in absurd (clear p.0 p.1)
             wrote (Some x) w = ⊎_elim
-              (λ (got : S.got z s ≡ true). absurd (never_some (core.firm.kept z s uz got) may.free))
-              (λ (y : IsExcused S z s). absurd (clear y.by_entry y.there))
-              (core.covered.stores z s cz (inl uz) (ap is_some w) (inr listed))
+                (λ (got : S.got z s ≡ true). absurd (never_some (core.firm.kept z s uz got) may.free))
+                (λ (y : IsExcused S z s). absurd (clear y.by_entry y.there))
+                (core.covered.stores z s cz (inl uz) (ap is_some w) (inr listed))
 
     by : (a : Answer) → (Loaded t i g ≡ a) ⊎ In a N.answers → AnswerMeans S M a
     by a (inr m) = answer a (c.answers a m)

@@ -1,10 +1,10 @@
 -- What the naming node, and the coordinators towards it, look at before an act.
-use Rattle.std.specs.Prelude.{◌≡◌, ◌⊎◌, ℕ, ◌+◌, ◌≤◌, List, [], ◌∷◌, Bool, true, false, Option, Some, None, is_some, bytes_eq, ⊤}
-use Rattle.arj_disk_law.specs.Effects.{World, Effect, Begin, Take, Seal, Intend, Decide, Remove, EndBare, Halt, Keep, Move, Finish, Drop, Agree, Pass, Enter, MoveEntry, FinishEntry, DropEntry, Forget, Send, Allowed, MaySend, IsNot, IsUnlisted, new_list}
+use Rattle.std.specs.Prelude.{◌≡◌, ◌⊎◌, ℕ, ◌+◌, ◌≤◌, List, [], ◌∷◌, Bool, true, false, Some, None, is_some, bytes_eq, ⊤}
+use Rattle.arj_disk_law.specs.Effects.{Effect, Begin, Take, Seal, Intend, Decide, Remove, EndBare, Halt, Keep, Move, Finish, Drop, Agree, Pass, Enter, MoveEntry, FinishEntry, DropEntry, Forget, Send, Allowed, MaySend, IsNot, IsUnlisted, new_list}
 use Rattle.arj_disk_law.specs.Laws.{IsBased}
 use Rattle.arj_disk_law.specs.Messages.{Message, Prepare, Prepared, Confirm, Confirmed, ToldCommit, ToldBare, ToldAbort, Acked, ToldSerial}
-use Rattle.arj_disk_law.specs.Names.{Names, Office, Kept, Answer, Bound, Loaded, Act, Do, Commit, CommitBare, Read, Write, Exclude, Lower, Unbind, EndTop, EndSerial, Restart, Hear, KeepList, AnswerLoad, acted, load_of}
-use Rattle.arj_disk_law.specs.State.{State, Packed, Plan, Hold, Idle, naming, is_idle, is_gone, undecided, target, last}
+use Rattle.arj_disk_law.specs.Names.{Names, Office, Kept, Bound, Loaded, Act, Do, Commit, CommitBare, Read, Write, Exclude, Lower, Unbind, EndTop, EndSerial, Restart, Hear, KeepList, AnswerLoad, acted, load_of}
+use Rattle.arj_disk_law.specs.State.{State, Packed, Plan, Hold, Idle, naming, is_gone, undecided, target, last}
 use Rattle.arj_disk_law.specs.Words.{has, In}
 
 -- the holder has a lock of at least this mode

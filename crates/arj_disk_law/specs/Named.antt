@@ -1,11 +1,11 @@
 -- What holds of the naming node's half at every moment, in groups by what they read.
-use Rattle.std.specs.Prelude.{◌≡◌, ◌⊎◌, ℕ, ◌+◌, ◌≤◌, List, [], ◌∷◌, Bool, true, false, Option, Some, None, is_some}
-use Rattle.arj_disk_law.specs.Effects.{World, Whole, IsNot}
-use Rattle.arj_disk_law.specs.Guards.{HasRow, IsUntold, IsPresent, IsGranted, HasPart}
+use Rattle.std.specs.Prelude.{◌≡◌, ◌⊎◌, ℕ, ◌+◌, ◌≤◌, List, Bool, true, false, Option, Some, is_some}
+use Rattle.arj_disk_law.specs.Effects.{Whole}
+use Rattle.arj_disk_law.specs.Guards.{HasRow, IsUntold, IsPresent, HasPart}
 use Rattle.arj_disk_law.specs.Laws.{IsBased}
 use Rattle.arj_disk_law.specs.Messages.{Message, Acked, IsOver}
 use Rattle.arj_disk_law.specs.Names.{Names, Office, Kept, Answer, Bound, Loaded, load_of}
-use Rattle.arj_disk_law.specs.State.{State, Packed, Plan, Hold, naming, is_idle, is_gone, decided, undecided, lists, target, last, last_entry, Known, Listed}
+use Rattle.arj_disk_law.specs.State.{State, Packed, Hold, naming, is_idle, is_gone, decided, undecided, lists, last, last_entry, Known, Listed}
 use Rattle.arj_disk_law.specs.Words.{has, In}
 
 -- one action is the other, or its root

@@ -1,7 +1,7 @@
 -- The naming node's volatile half, for one entry, and what coordinators have from it: locks, grants, kept store lists.
-use Rattle.std.specs.Prelude.{◌≡◌, ◌⊎◌, ℕ, ◌+◌, ◌≤◌, List, [], ◌∷◌, Bool, true, false, ◌==◌, ◌||◌, ◌&&◌, not, if◌then◌else◌, Option, Some, None, is_some, nat_lt}
+use Rattle.std.specs.Prelude.{ℕ, ◌+◌, List, [], ◌∷◌, Bool, true, false, ◌==◌, ◌||◌, ◌&&◌, not, if◌then◌else◌, Option, Some, None, nat_lt}
 use Rattle.std.specs.List.{list_any}
-use Rattle.arj_disk_law.specs.Effects.{World, Effect, Begin, Take, Seal, Intend, Decide, Remove, EndBare, Halt, Keep, Move, Finish, Drop, Agree, Pass, Enter, MoveEntry, FinishEntry, DropEntry, Forget, Send, after, changed}
+use Rattle.arj_disk_law.specs.Effects.{World, Effect, Begin, Take, Seal, Intend, Decide, Remove, EndBare, Halt, Keep, Move, Finish, Drop, Agree, Pass, Enter, MoveEntry, FinishEntry, DropEntry, Forget, Send, after}
 use Rattle.arj_disk_law.specs.State.{State, Packed, Plan, Hold, Done, list_after}
 use Rattle.arj_disk_law.specs.Words.{has, put, put2}
 
@@ -142,15 +142,17 @@ acted A (Lower t) = record A { names = record A.names { row = put t (Some (if A.
 acted A Unbind = record A { names = record A.names { live = false } }
 acted A (EndTop t commits) = record A { names = record A.names { told = put t true A.names.told; row = rows_after A.world.disk A.names t (commits && A.names.confd t && not (A.names.given t)); given = put t false A.names.given } }
 acted A (EndSerial r) = record A { names = record A.names { told = put r true A.names.told; row = rows_left A.world.disk A.names r } }
-acted A Restart = record A { names = record A.names {
-  inc = A.names.inc + 1;
-  row = given_row A.world.disk.entry A.world.disk.entry_pend;
-  given = is_pending A.world.disk.entry_pend;
-  told = λ t. false;
-  confd = is_pending A.world.disk.entry_pend;
-  asked = λ t. false;
-  live = false;
-} }
+acted A Restart = record A {
+  names = record A.names {
+    inc = A.names.inc + 1;
+    row = given_row A.world.disk.entry A.world.disk.entry_pend;
+    given = is_pending A.world.disk.entry_pend;
+    told = λ t. false;
+    confd = is_pending A.world.disk.entry_pend;
+    asked = λ t. false;
+    live = false;
+  };
+}
 acted A (Hear t i b l) = record A { names = record A.names { had = put2 t i true A.names.had } }
 acted A (KeepList h t i l) = record A { names = record A.names { kept = put h (Some (record { since = i; list = l })) A.names.kept } }
 acted A (AnswerLoad t i s l g) = record A { names = record A.names { answers = Loaded t i g ∷ A.names.answers } }

@@ -1,6 +1,6 @@
 -- What follows with the naming node's half.
-use Rattle.std.specs.Prelude.{◌≡◌, ◌⊎◌, ◌≢◌, ℕ, ◌+◌, List, [], take, Bool, true, false, Option, Some, None, is_some}
-use Rattle.arj_disk_law.specs.Effects.{World, Whole, Locked}
+use Rattle.std.specs.Prelude.{◌≡◌, ℕ, ◌+◌, List, [], take, true, false, Some, None}
+use Rattle.arj_disk_law.specs.Effects.{Locked}
 use Rattle.arj_disk_law.specs.Guards.{Runs, end_of, IsPresent, MayAgree, MayEnter}
 use Rattle.arj_disk_law.specs.Laws.{IsFirst}
 use Rattle.arj_disk_law.specs.Named.{Named}
