@@ -1,5 +1,14 @@
+pub mod Growth
+pub mod Leaves
+pub mod Maps
+pub mod ServerTable
+pub mod Steps
+pub mod Messages
+pub mod NamingTable
+pub mod RowSteps
 mod RowsOfLimits
 mod RowsOfNodes
 mod RowsOfOneNode
 mod RowsOfRestarts
 mod RowsOfStops
+pub mod Unknown

@@ -14,6 +14,7 @@ pub mod Order
 pub mod Server
 pub mod Step
 pub mod Tree
+pub mod Laws
 pub mod Values
 pub mod Words
 pub mod World

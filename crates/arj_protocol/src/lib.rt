@@ -1,7 +1,15 @@
 //! What a node does at each message, call and restart, and what all nodes do under a script: the protocol, as definitions
-//! that compute. Nothing runs here: `specs/` has the definitions, `proofs/` what follows from them.
+//! that compute. Nothing runs here: `specs/` has the definitions, `proofs/` what follows from them, and worked runs.
 //!
 //! It stands on the types of lines (`arj_journal`), messages (`arj_msg`), paths, modes and lock rows (`arj_base`), classes
 //! (`arj_class`) and naming entries (`arj_entry`). What it gives upward: the code is proved equal to it, part by part, and
-//! the promises are proved over it, with no code in sight.
+//! the promises are proved over it, with no code in sight. The laws here hold whatever messages come: a step is its
+//! node's alone, locks follow the lines, and what a message doesn't speak of stays.
 #![tactic(auto)]
+
+mod laws;
+
+pub use laws::{
+    events_only_add, messages_leave_other_objects, messages_read_back, naming_locks_follow_lines,
+    server_locks_follow_lines, steps_are_local, unknown_ends_change_nothing,
+};

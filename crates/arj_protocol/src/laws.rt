@@ -1,0 +1,92 @@
+// Laws of the protocol that hold whatever messages come.
+ghost use Rattle.std.specs.Prelude.{◌≡◌, ℕ, Bool, false, true, List, [], ◌++◌, length, Option, Some, None};
+ghost use Rattle.arj_base.specs.declared.mode.End.{End};
+ghost use Rattle.arj_base.specs.declared.binding.Binding.{Binding};
+ghost use Rattle.arj_base.specs.declared.path.Path.{Path};
+ghost use Rattle.arj_base.specs.declared.state.ObjectState.{ObjectState};
+ghost use Rattle.arj_base.specs.declared.uid.Uid.{Uid};
+ghost use Rattle.arj_base.specs.Path.{tops_of, uids_of};
+ghost use Rattle.arj_base.specs.Uid.{nobody, uid_eq};
+ghost use Rattle.arj_class.specs.declared.op.Op.{Op};
+ghost use Rattle.arj_msg.specs.declared.message.Asked.{Asked};
+ghost use Rattle.arj_msg.specs.declared.message.Head.{Head};
+ghost use Rattle.arj_msg.specs.declared.message.Message.{Message};
+ghost use Rattle.arj_protocol.specs.Ask.{Ask, Reply, actor, answers, asks, request, response, top_of, top_path};
+ghost use Rattle.arj_protocol.specs.Confirm.{Grants, Marks, confirm};
+ghost use Rattle.arj_protocol.specs.Effect.{Disk, Pair, is_prepared};
+ghost use Rattle.arj_protocol.specs.Laws.{AreOfActions, AreUnknownAt, Grows, Holders, IsPathOf, LeavesCopy, LeavesObject, Local, NamingTable, OnlyEnds, OnlyTold, ServerTable, UnknownToNaming, UnknownToServer, effects_of, speaks};
+ghost use Rattle.arj_protocol.specs.Naming as naming;
+ghost use Rattle.arj_protocol.specs.Naming.{Naming};
+ghost use Rattle.arj_protocol.specs.Node.{Parts, handle};
+ghost use Rattle.arj_protocol.specs.Server as server;
+ghost use Rattle.arj_protocol.specs.Server.{Server, apply_ends, end_one, is_told};
+ghost use Rattle.arj_protocol.specs.Step.{Input};
+ghost use Rattle.arj_protocol.specs.World as world;
+ghost use Rattle.arj_protocol.specs.World.{World, bodies, numbered, run_event, steps};
+
+/// A request and an answer are read back from their messages. It does nothing when it runs.
+pub fn messages_read_back()
+    ensures request { (h : Head) (a : Ask) → asks (request h a) ≡ Some (h, a) }
+    ensures response { (a : Asked) (r : Reply) → answers (response a r) ≡ Some (a, r) }
+    ensures apart { (a : Asked) (r : Reply) → asks (response a r) ≡ None }
+{}
+
+/// A step of a node, also one that a stop cuts, leaves all other nodes as they were, its frames have it as their sender,
+/// and the lines that it appends are those of its effects. It does nothing when it runs.
+pub fn steps_are_local()
+    ensures local { (n : ℕ) (i : Input) (w : World) → Local n w (steps n i w) }
+    ensures lines { (n : ℕ) (i : Input) (w : World) → (steps n i w).lines ≡ w.lines ++ numbered w.event (bodies n (length w.frames) (effects_of n i w)) }
+{}
+
+/// Whatever event is run, lines and frames are added behind those that are there. It does nothing when it runs.
+pub fn events_only_add()
+    ensures grows { (e : world.Asked) (w : World) → Grows w (run_event e w) }
+{}
+
+/// The locks of a server on an object change by the lines that its calls say, and by these alone. The path of a request is
+/// that of its action. It does nothing when it runs.
+pub fn server_locks_follow_lines()
+    ensures activate { (h : Holders) (n x : ℕ) (p : Path) (b : Binding) (st : ObjectState) (s : Server)
+        → ServerTable h n x s (server.activate n p b st s).outs (server.activate n p b st s).part }
+    ensures invoke { (h : Holders) (n x : ℕ) (hd : Head) (y : ℕ) (b : Binding) (i : ℕ) (ends : List (Uid × End)) (op : Op) (s : Server)
+        → IsPathOf h (actor hd.path) (uids_of hd.path) (tops_of hd.path) → AreOfActions ends
+        → ServerTable h n x s (server.invoke n hd y b i ends op s).outs (server.invoke n hd y b i ends op s).part }
+    ensures vote { (h : Holders) (n x : ℕ) (p : Path) (i : ℕ) (ties : List (ℕ × Binding)) (ends : List (Uid × End)) (s : Server) → AreOfActions ends
+        → ServerTable h n x s (server.vote n p i ties ends s).outs (server.vote n p i ties ends s).part }
+    ensures told { (h : Holders) (n x : ℕ) (ends : List (Uid × End)) (s : Server) → AreOfActions ends
+        → ServerTable h n x s (server.told n ends s).outs (server.told n ends s).part }
+{}
+
+/// The locks of naming on an entry change by the lines that its calls say, and by these alone. They are held by the tops of
+/// the paths. It does nothing when it runs.
+pub fn naming_locks_follow_lines()
+    ensures bind { (h : Holders) (x : ℕ) (p : Path) (y : ℕ) (include : Bool) (avoid : Binding) (d : Pair) (n : Naming)
+        → IsPathOf h (top_of p) (top_path p) (tops_of p)
+        → NamingTable h x n (naming.bind p y include avoid d n).outs (naming.bind p y include avoid d n).part }
+    ensures note { (h : Holders) (x : ℕ) (p : Path) (y : ℕ) (b : Binding) (i g : ℕ) (n : Naming)
+        → NamingTable h x n (naming.note p y b i g n).outs (naming.note p y b i g n).part }
+    ensures confirm { (h : Holders) (x : ℕ) (p : Path) (grants : Grants) (excluded included : Marks) (d : Pair) (n : Naming)
+        → IsPathOf h (top_of p) (top_path p) (tops_of p)
+        → NamingTable h x n (confirm p grants excluded included d n).outs (confirm p grants excluded included d n).part }
+    ensures told { (h : Holders) (x : ℕ) (u : Uid) (e : End) (d : Pair) (n : Naming) → uid_eq nobody u ≡ false
+        → NamingTable h x n (naming.told u e d n).outs (naming.told u e d n).part }
+    ensures hello { (h : Holders) (x node inc : ℕ) (n : Naming) → NamingTable h x n [] (naming.hello node inc n) }
+{}
+
+/// An end that was told before changes nothing, and one of which a part knows nothing changes nothing but the set of ended
+/// actions; neither says a line. It does nothing when it runs.
+pub fn unknown_ends_change_nothing()
+    ensures again { (n : ℕ) (u : Uid) (e : End) (s : Server) → is_told u s ≡ true
+        → ((end_one n u e s).outs ≡ []) × ((end_one n u e s).part ≡ s) }
+    ensures server { (n : ℕ) (u : Uid) (e : End) (s : Server) → uid_eq nobody u ≡ false → UnknownToServer u s
+        → ((end_one n u e s).outs ≡ []) × OnlyEnds s (end_one n u e s).part }
+    ensures naming { (u : Uid) (e : End) (d : Pair) (n : Naming) → uid_eq nobody u ≡ false → UnknownToNaming u n → is_prepared u d ≡ false
+        → ((naming.told u e d n).outs ≡ []) × OnlyTold n (naming.told u e d n).part }
+{}
+
+/// A message that doesn't speak of an object leaves its part of the server and of naming as it was, and so do ends of
+/// which the object's part of the server knows nothing. It does nothing when it runs.
+pub fn messages_leave_other_objects()
+    ensures message { (x n : ℕ) (d : Disk) (t : Parts) (from : ℕ) (m : Message) → speaks x m ≡ false → LeavesObject x t (handle n d t from m) }
+    ensures ends { (n x : ℕ) (ends : List (Uid × End)) (s : Server) → AreOfActions ends → AreUnknownAt x ends s → LeavesCopy x s (apply_ends n ends s).part }
+{}
