@@ -7,9 +7,9 @@ use Rattle.std.specs.Ordering.{nat_cmp, is_eq}
 use Rattle.std.specs.declared.cmp.Ordering.{Ordering}
 use Rattle.std.specs.declared.cmp.Ordering.TheVariants.{Less, Equal, Greater}
 use Rattle.std.specs.FinMap.{nat_cmp-IsAntisymmetric}
-use Rattle.arj_protocol.specs.Words.{Uid, End, Row, ObjectState, uid_eq, nobody, is_on, is_held_by, pass_rows}
+use Rattle.arj_protocol.specs.Words.{Uid, End, Row, ObjectState, uid_eq, nobody, is_on, is_held_by, pass_rows, uid_order}
 use Rattle.arj_protocol.specs.Words.ending
-use Rattle.arj_protocol.specs.Order.{at_number, each, at_uid, without_uid, drop_uid, uid_cmp}
+use Rattle.arj_protocol.specs.Order.{at_number, each, at_uid, without_uid, drop_uid}
 use Rattle.arj_protocol.specs.Effect.{Did, Pair, did_nothing, is_prepared}
 use Rattle.arj_protocol.specs.Copy.{Copy, Over, end_copy, overs_committed, over_of, undone, holds}
 use Rattle.arj_protocol.specs.Named.{Named, end_named}
@@ -31,7 +31,7 @@ drops_no_uid u (w ∷ us) none =
 
 pub removes_none : {X : Type 0} (u : Uid) (m : List (Uid × X)) → at_uid u m ≡ None → without_uid u m ≡ m
 removes_none u [] none = refl
-removes_none {X} u (e ∷ es) none = by (is_eq (uid_cmp u e.0)) none (removes_none u es)
+removes_none {X} u (e ∷ es) none = by (is_eq (uid_order u e.0)) none (removes_none u es)
   where
     by : (b : Bool) → cond b (Some e.1) (at_uid u es) ≡ None → (at_uid u es ≡ None → without_uid u es ≡ es) → cond b es (e ∷ without_uid u es) ≡ e ∷ es
     by true none ih = absurd (cc none)

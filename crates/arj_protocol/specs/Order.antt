@@ -1,10 +1,6 @@
 -- How Uids, bindings and versions compare, and finite maps and sets: sorted lists, as an ordered map or set has its
 -- entries.
-use Rattle.arj_protocol.specs.Words.{ℕ, ◌+◌, ◌*◌, Bool, ◌==◌, nat_lt, if◌then◌else◌, List, [], ◌∷◌, filter, map, Option, list_any, not, Ordering, nat_cmp, ordering_then, lookup, remove_entry, insert_entry, insert_key, is_at, Uid, Binding, uid_eq, min}
-
--- by node, then incarnation, then number
-abbrev pub uid_cmp : Uid → Uid → Ordering
-uid_cmp u w = ordering_then (nat_cmp u.node w.node) (ordering_then (nat_cmp u.inc w.inc) (nat_cmp u.num w.num))
+use Rattle.arj_protocol.specs.Words.{ℕ, ◌+◌, ◌*◌, Bool, ◌==◌, nat_lt, if◌then◌else◌, List, [], ◌∷◌, filter, map, Option, list_any, not, Ordering, nat_cmp, ordering_then, lookup, remove_entry, insert_entry, insert_key, is_at, Uid, Binding, uid_eq, min, uid_order}
 
 -- A binding as a number: naming incarnations and counts have 32 bits.
 abbrev pub binding_number : Binding → ℕ
@@ -46,16 +42,16 @@ each {X} f m = map {A = ℕ × X} {B = ℕ × X} (λ e. (e.0, f e.0 e.1)) m
 -- ---- maps and sets by Uid
 
 abbrev pub at_uid : {X : Type 0} → Uid → List (Uid × X) → Option X
-at_uid u m = lookup (is_at (uid_cmp u)) m
+at_uid u m = lookup (is_at (uid_order u)) m
 
 abbrev pub put_uid : {X : Type 0} → Uid → X → List (Uid × X) → List (Uid × X)
-put_uid u v m = insert_entry uid_cmp m u v
+put_uid u v m = insert_entry uid_order m u v
 
 abbrev pub without_uid : {X : Type 0} → Uid → List (Uid × X) → List (Uid × X)
-without_uid u m = remove_entry (is_at (uid_cmp u)) m
+without_uid u m = remove_entry (is_at (uid_order u)) m
 
 abbrev pub with_uid : Uid → List Uid → List Uid
-with_uid u us = insert_key uid_cmp us u
+with_uid u us = insert_key uid_order us u
 
 abbrev pub drop_uid : Uid → List Uid → List Uid
 drop_uid u us = filter (λ w. not (uid_eq w u)) us

@@ -14,6 +14,7 @@ pub use Rattle.arj_base.specs.declared.mode.Mode.{Mode}
 pub use Rattle.arj_base.specs.declared.mode.End.{End}
 pub use Rattle.arj_base.specs.declared.state.Class.{Class}
 pub use Rattle.arj_base.specs.declared.state.ObjectState.{ObjectState}
+pub use Rattle.arj_base.specs.Order.{uid_order}
 pub use Rattle.arj_base.specs.Uid.{uid_eq, nobody, object, entry}
 pub use Rattle.arj_base.specs.Path.{uids_of, tops_of, first_uid, top_uid, before_last}
 pub use Rattle.arj_base.specs.Rows.{Row, last_uid, front, is_on, grant_row, drop_rows, pass_rows, lower_row, is_held_by, is_row_of, first_conflict}
