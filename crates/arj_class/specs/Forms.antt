@@ -3,6 +3,7 @@ use Rattle.std.specs.Prelude.{ℕ, ◌≤◌, ◌<◌, List, [], ◌∷◌, leng
 use Rattle.std.specs.List.{flat_map}
 use Rattle.byteorder.specs.Endian.{big_bytes}
 use Rattle.arj_class.specs.Keys.{KeysRise, pair_bytes}
+use Rattle.arj_class.specs.declared.limits.TheConstants.{QUEUE_NUMBERS, REGISTER_BYTES, TABLE_PAIRS}
 use Rattle.arj_class.specs.declared.op.Op.{Op}
 use Rattle.arj_class.specs.declared.op.Op.TheVariants.{Get, Add, Set, Put, Deposit, Withdraw, Len, Push, Pop, GetKey, PutPair, Remove}
 use Rattle.arj_class.specs.declared.value.Value.{Value}
@@ -18,7 +19,7 @@ payload_of (Table ps) = flat_map pair_bytes ps
 
 -- an operation is in form: only the bytes of a put are limited
 abbrev pub OpInForm : Op → Type 0
-OpInForm (Put bytes) = length bytes ≤ 64
+OpInForm (Put bytes) = length bytes ≤ REGISTER_BYTES
 OpInForm _ = ⊤
 
 -- each number fits 64 bits
@@ -34,7 +35,7 @@ PairsFit (p ∷ ps) = (p.0 < 18446744073709551616) × (p.1 < 1844674407370955161
 -- a value is in form: numbers of 64 bits, and no more of anything than its class holds
 abbrev pub ValueInForm : Value → Type 0
 ValueInForm (Counter n) = n < 18446744073709551616
-ValueInForm (Register bytes) = length bytes ≤ 64
+ValueInForm (Register bytes) = length bytes ≤ REGISTER_BYTES
 ValueInForm (Account n) = n < 18446744073709551616
-ValueInForm (Queue ns) = (length ns ≤ 32) × NumbersFit ns
-ValueInForm (Table ps) = (length ps ≤ 16) × KeysRise ps × PairsFit ps
+ValueInForm (Queue ns) = (length ns ≤ QUEUE_NUMBERS) × NumbersFit ns
+ValueInForm (Table ps) = (length ps ≤ TABLE_PAIRS) × KeysRise ps × PairsFit ps

@@ -4,6 +4,7 @@ use Rattle.arj_base.specs.declared.mode.Mode.{Mode}
 use Rattle.arj_base.specs.declared.mode.Mode.TheVariants.{Read, Write}
 use Rattle.arj_base.specs.declared.state.Class.{Class}
 use Rattle.arj_base.specs.declared.state.Class.TheVariants as class
+use Rattle.arj_class.specs.declared.limits.TheConstants.{QUEUE_NUMBERS, TABLE_PAIRS}
 use Rattle.arj_class.specs.declared.op.Op.{Op}
 use Rattle.arj_class.specs.declared.op.Op.TheVariants.{Get, Add, Set, Put, Deposit, Withdraw, Len, Push, Pop, GetKey, PutPair, Remove}
 use Rattle.arj_class.specs.declared.op.Answer.{Answer}
@@ -66,7 +67,7 @@ number_or_nothing (Some n) = Number n
 
 -- a new key finds no room
 abbrev pub is_full_for : ℕ → List (ℕ × ℕ) → Bool
-is_full_for k ps = if is_some (value_at k ps) then false else nat_le 16 (length ps)
+is_full_for k ps = if is_some (value_at k ps) then false else nat_le TABLE_PAIRS (length ps)
 
 abbrev pub front_of : List ℕ → Answer
 front_of [] = Nothing
@@ -87,7 +88,7 @@ answer_of Get (Account m) = Number m
 answer_of (Deposit n) (Account m) = if nat_lt (m + n) 18446744073709551616 then Done else Over
 answer_of (Withdraw n) (Account m) = if nat_lt m n then Short else Done
 answer_of Len (Queue ns) = Number (length ns)
-answer_of (Push n) (Queue ns) = if nat_lt (length ns) 32 then Done else Full
+answer_of (Push n) (Queue ns) = if nat_lt (length ns) QUEUE_NUMBERS then Done else Full
 answer_of Pop (Queue ns) = front_of ns
 answer_of (GetKey k) (Table ps) = number_or_nothing (value_at k ps)
 answer_of (PutPair k v) (Table ps) = if is_full_for k ps then Full else Done
@@ -101,7 +102,7 @@ value_after (Set n) (Counter m) = Counter n
 value_after (Put new) (Register bytes) = Register new
 value_after (Deposit n) (Account m) = if nat_lt (m + n) 18446744073709551616 then Account (m + n) else Account m
 value_after (Withdraw n) (Account m) = if nat_lt m n then Account m else Account (m - n)
-value_after (Push n) (Queue ns) = if nat_lt (length ns) 32 then Queue (ns ++ n ∷ []) else Queue ns
+value_after (Push n) (Queue ns) = if nat_lt (length ns) QUEUE_NUMBERS then Queue (ns ++ n ∷ []) else Queue ns
 value_after Pop (Queue ns) = Queue (behind_front ns)
 value_after (PutPair k v) (Table ps) = if is_full_for k ps then Table ps else Table (put_pair k v ps)
 value_after (Remove k) (Table ps) = Table (remove_pair k ps)

@@ -8,6 +8,7 @@
 mod account;
 mod counter;
 mod laws;
+mod limits;
 mod object_class;
 mod op;
 mod payload;
@@ -19,6 +20,7 @@ mod value;
 pub use account::Account;
 pub use counter::Counter;
 pub use laws::{operations_keep, payloads_tell_values_apart};
+pub use limits::{QUEUE_NUMBERS, REGISTER_BYTES, TABLE_PAIRS};
 pub use object_class::{ClassFault, ObjectClass};
 pub use op::{Answer, ApplyFault, Op};
 pub use queue::Queue;

@@ -1,4 +1,5 @@
 // Operations, and what they answer.
+use crate::limits::REGISTER_BYTES;
 use arj_base::Bytes;
 use std::alloc::{AllocError, AllocFailed};
 use thiserror::Error;
@@ -42,7 +43,7 @@ impl Op {
         ensures { IsTrue result ↔ OpInForm self.now }
     {
         match self {
-            Op::Put(bytes) => bytes.as_slice().len() <= 64,
+            Op::Put(bytes) => bytes.as_slice().len() <= REGISTER_BYTES,
             _ => true,
         }
     }

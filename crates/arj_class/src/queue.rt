@@ -3,15 +3,13 @@ ghost use Rattle.std.specs.Prelude.{◌≡◌, ◌≤◌, [], ◌++◌, length, 
 ghost use Rattle.arj_base.specs.declared.state.Class.TheVariants as class_variant;
 ghost use Rattle.arj_class.specs.declared.value.Value.TheVariants as variant;
 
+use crate::limits::QUEUE_NUMBERS;
 use crate::payload::{put_numbers, take_number};
 use crate::{Answer, ApplyFault, ClassFault, ObjectClass, Op};
 use arj_base::{Bytes, Mode, Numbers};
 use std::alloc::{AllocError, Global};
 use std::collections::VecDeque;
 use std::marker::Model;
-
-/// How many numbers a queue holds at most.
-const CAPACITY: usize = 32;
 
 /// At most 32 numbers, first in, first out. Contracts see it as the list, front first.
 #[derive(Drop)]
@@ -21,18 +19,19 @@ pub struct Queue {
 
 impl Model for Queue {
     ghost use Rattle.std.specs.Prelude.{ℕ, ◌≤◌, List, length};
+    ghost use Rattle.arj_class.specs.declared.limits.TheConstants.{QUEUE_NUMBERS};
 
     ghost Value = { List ℕ };
 
     ghost view = { λ v. v.numbers.items };
 
-    ghost invariant = { λ v. length v.numbers.items ≤ 32 };
+    ghost invariant = { λ v. length v.numbers.items ≤ QUEUE_NUMBERS };
 }
 
 impl Queue {
     /// A queue of these numbers, at most 32, front first.
     pub fn new(numbers: Numbers) -> Queue
-        requires { length numbers ≤ 32 }
+        requires { length numbers ≤ QUEUE_NUMBERS }
         ensures { result ≡ numbers }
     {
         Queue {
@@ -78,7 +77,7 @@ impl ObjectClass for Queue {
         match op {
             Op::Len => Ok(Answer::Number(self.numbers.len() as u64)),
             Op::Push(n) => {
-                if self.numbers.len() == CAPACITY {
+                if self.numbers.len() == QUEUE_NUMBERS {
                     return Ok(Answer::Full);
                 }
                 self.numbers.push_back(*n)?;
@@ -104,7 +103,7 @@ impl ObjectClass for Queue {
         let mut numbers = Vec::new(alloc);
         let mut rest = payload;
         while let Some((number, behind)) = take_number(rest) {
-            if numbers.len() == CAPACITY {
+            if numbers.len() == QUEUE_NUMBERS {
                 return Err(ClassFault::Payload);
             }
             numbers.push(number)?;

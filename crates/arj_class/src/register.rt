@@ -3,6 +3,7 @@ ghost use Rattle.std.specs.Prelude.{◌≡◌, ◌≤◌, length, refl, IfOk};
 ghost use Rattle.arj_base.specs.declared.state.Class.TheVariants as class_variant;
 ghost use Rattle.arj_class.specs.declared.value.Value.TheVariants as variant;
 
+use crate::limits::REGISTER_BYTES;
 use crate::{Answer, ApplyFault, ClassFault, ObjectClass, Op};
 use arj_base::{Bytes, Mode};
 use std::alloc::{AllocError, Global};
@@ -16,18 +17,19 @@ pub struct Register {
 
 impl Model for Register {
     ghost use Rattle.std.specs.Prelude.{ℕ, ◌≤◌, List, length};
+    ghost use Rattle.arj_class.specs.declared.limits.TheConstants.{REGISTER_BYTES};
 
     ghost Value = { List ℕ };
 
     ghost view = { λ v. v.bytes };
 
-    ghost invariant = { λ v. length v.bytes ≤ 64 };
+    ghost invariant = { λ v. length v.bytes ≤ REGISTER_BYTES };
 }
 
 impl Register {
     /// A register with these bytes, at most 64.
     pub fn new(bytes: Bytes) -> Register
-        requires { length bytes ≤ 64 }
+        requires { length bytes ≤ REGISTER_BYTES }
         ensures { result ≡ bytes }
     {
         Register { bytes }
@@ -81,7 +83,7 @@ impl ObjectClass for Register {
     }
 
     fn restore_state(alloc: Global, payload: &[u8]) -> Result<Register, ClassFault> {
-        if payload.len() > 64 {
+        if payload.len() > REGISTER_BYTES {
             return Err(ClassFault::Payload);
         }
         let mut bytes = Bytes::new(alloc);

@@ -5,14 +5,12 @@ ghost use Rattle.arj_class.specs.declared.value.Value.TheVariants as variant;
 ghost use Rattle.arj_class.specs.Keys.{KeysRise, KeysBelow, IsPlace, IsGap};
 ghost use Rattle.arj_class.specs.Table.{value_at, put_pair, remove_pair, is_full_for, number_or_nothing};
 
+use crate::limits::TABLE_PAIRS;
 use crate::payload::{put_pairs, take_pair};
 use crate::{Answer, ApplyFault, ClassFault, ObjectClass, Op};
 use arj_base::{Bytes, Mode, Pairs};
 use std::alloc::{AllocError, Global};
 use std::marker::Model;
-
-/// How many keys a table holds at most.
-const CAPACITY: usize = 16;
 
 /// At most 16 keys with their values. Contracts see it as the list of pairs, keys strictly increasing.
 #[derive(Drop)]
@@ -23,18 +21,19 @@ pub struct Table {
 impl Model for Table {
     ghost use Rattle.std.specs.Prelude.{ℕ, ◌≤◌, List, length};
     ghost use Rattle.arj_class.specs.Keys.{KeysRise};
+    ghost use Rattle.arj_class.specs.declared.limits.TheConstants.{TABLE_PAIRS};
 
     ghost Value = { List (ℕ × ℕ) };
 
     ghost view = { λ v. v.pairs.items };
 
-    ghost invariant = { λ v. (length v.pairs.items ≤ 16) × KeysRise v.pairs.items };
+    ghost invariant = { λ v. (length v.pairs.items ≤ TABLE_PAIRS) × KeysRise v.pairs.items };
 }
 
 impl Table {
     /// A table of these pairs, at most 16, keys strictly increasing.
     pub fn new(pairs: Pairs) -> Table
-        requires room { length pairs ≤ 16 }
+        requires room { length pairs ≤ TABLE_PAIRS }
         requires rising { KeysRise pairs }
         ensures { result ≡ pairs }
     {
@@ -90,7 +89,7 @@ fn put(pairs: &mut Vec<(u64, u64)>, key: u64, value: u64) -> Result<bool, AllocE
 {
     match place_of(pairs, key) {
         Ok(at) => pairs[at] = (key, value),
-        Err(_) if pairs.len() >= CAPACITY => return Ok(false),
+        Err(_) if pairs.len() >= TABLE_PAIRS => return Ok(false),
         Err(at) => pairs.insert(at, (key, value))?,
     }
     Ok(true)
@@ -172,7 +171,7 @@ impl ObjectClass for Table {
         let mut pairs: Vec<(u64, u64)> = Vec::new(alloc);
         let mut rest = payload;
         while let Some((pair, behind)) = take_pair(rest) {
-            if pairs.len() == CAPACITY || !is_above(pairs.as_slice(), pair.0) {
+            if pairs.len() == TABLE_PAIRS || !is_above(pairs.as_slice(), pair.0) {
                 return Err(ClassFault::Payload);
             }
             pairs.push(pair)?;

@@ -1,4 +1,6 @@
 pub mod LineForm
 pub mod LineText
+pub mod LineWords
+pub mod ScriptForm
 pub mod ScriptText
 pub mod Stepping

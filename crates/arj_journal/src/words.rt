@@ -1,6 +1,6 @@
-// The words of kinds, parts, roles, limits and frames.
+// The words of kinds, parts, roles, limits, frames and of the end of a quiesce.
 ghost use Rattle.std.specs.Prelude.{◌≡◌};
-ghost use Rattle.arj_journal.specs.LineText.{frame_text, kind_text, part_text, role_text, which_text};
+ghost use Rattle.arj_journal.specs.LineWords.{frame_text, kind_text, part_text, role_text, which_text, yes_text};
 
 use crate::{FrameKind, Kind, Part, Role, Which};
 
@@ -75,4 +75,11 @@ pub fn frame_word(kind: FrameKind) -> &'static [u8]
         FrameKind::Hello => b"hello",
         FrameKind::Junk => b"junk",
     }
+}
+
+/// How a quiesce ended.
+pub fn yes_word(yes: bool) -> &'static [u8]
+    ensures { result.now ≡ yes_text yes }
+{
+    if yes { b"yes" } else { b"no" }
 }

@@ -2,14 +2,16 @@
 ghost use Rattle.std.specs.Prelude.{◌≡◌, ◌++◌, OnOk, IfOk};
 ghost use Rattle.arj_journal.specs.ScriptText.{labelled};
 ghost use Rattle.arj_text.specs.Words.{space, number_word, mode_text};
-ghost use Rattle.arj_journal.specs.LineText.{binding_word, body_text, cause_text, conflict_words, difference_text, line_text as text_of_line, parent_text, quiet_text, uid_word};
+ghost use Rattle.arj_journal.specs.LineText.{binding_word, body_text, cause_text, conflict_words, difference_text, line_text as text_of_line, parent_text, uid_word};
+ghost use Rattle.arj_journal.specs.LineWords.{cause_word, line_word};
 
-use crate::words::{frame_word, kind_word, part_word, role_word, which_word};
+use crate::line_kind::{CauseKind, DifferenceKind, LineKind};
+use crate::words::{frame_word, kind_word, part_word, role_word, which_word, yes_word};
 use crate::{Body, Cause, Difference, FrameKind, Kind, Label, Line, Part, Role, Which};
 use arj_base::{Binding, Bytes, End, Mode, NodeList, Uid};
 use arj_class::Op;
 use arj_text::words::{
-    end_word, mode_word, put_decimal, put_hex, put_list, put_number, put_numbered, put_op, put_word,
+    end_word, mode_word, put_decimal, put_hex, put_list, put_number, put_op, put_word,
 };
 use std::alloc::{AllocError, Global};
 
@@ -49,25 +51,37 @@ fn put_body(out: &mut Bytes, body: &Body) -> Result<(), AllocError>
             op,
             answer,
         } => put_ok(out, label, *x, op, answer.as_slice()),
-        Body::Includes { label, x, node } => put_labelled_pair(out, b"includes", label, *x, *node),
+        Body::Includes { label, x, node } => put_labelled_pair(
+            out,
+            LineKind::Includes,
+            label,
+            *x,
+            *node,
+        ),
         Body::Conflict {
             label,
             holder,
             mode,
             node,
         } => put_conflict_line(out, label, *holder, *mode, *node),
-        Body::Lost { label, node } => put_labelled_node(out, b"lost", label, *node),
+        Body::Lost { label, node } => put_labelled_node(out, LineKind::Lost, label, *node),
         Body::Changed {
             label,
             node,
             difference,
         } => put_changed(out, label, *node, *difference),
-        Body::Committing { label } => put_labelled(out, b"committing", label),
-        Body::Committed { label } => put_labelled(out, b"committed", label),
-        Body::Ended { label } => put_labelled(out, b"ended", label),
+        Body::Committing { label } => put_labelled(out, LineKind::Committing, label),
+        Body::Committed { label } => put_labelled(out, LineKind::Committed, label),
+        Body::Ended { label } => put_labelled(out, LineKind::Ended, label),
         Body::Aborted { label, cause } => put_aborted(out, label, *cause),
-        Body::GaveUp { label, node } => put_labelled_node(out, b"gaveup", label, *node),
-        Body::Excluded { label, x, node } => put_labelled_pair(out, b"excluded", label, *x, *node),
+        Body::GaveUp { label, node } => put_labelled_node(out, LineKind::GaveUp, label, *node),
+        Body::Excluded { label, x, node } => put_labelled_pair(
+            out,
+            LineKind::Excluded,
+            label,
+            *x,
+            *node,
+        ),
         Body::Granted {
             node,
             action,
@@ -100,14 +114,14 @@ fn put_body(out: &mut Bytes, body: &Body) -> Result<(), AllocError>
             to,
             kind,
         } => put_sent(out, *frame, *from, *to, *kind),
-        Body::Got { frame } => put_numbered(out, b"got", u64::from(*frame)),
-        Body::Void { frame } => put_numbered(out, b"void", u64::from(*frame)),
-        Body::Dropped { frame } => put_numbered(out, b"dropped", u64::from(*frame)),
-        Body::Halted { node } => put_numbered(out, b"halted", u64::from(*node)),
+        Body::Got { frame } => put_kind_number(out, LineKind::Got, u64::from(*frame)),
+        Body::Void { frame } => put_kind_number(out, LineKind::Void, u64::from(*frame)),
+        Body::Dropped { frame } => put_kind_number(out, LineKind::Dropped, u64::from(*frame)),
+        Body::Halted { node } => put_kind_number(out, LineKind::Halted, u64::from(*node)),
         Body::Up { node, inc } => put_up(out, *node, *inc),
-        Body::Armed { node } => put_numbered(out, b"armed", u64::from(*node)),
-        Body::Recovered { node, action } => put_at_node(out, b"recovered", *node, *action),
-        Body::Refused { cause } => put_numbered(out, b"refused", u64::from(*cause)),
+        Body::Armed { node } => put_kind_number(out, LineKind::Armed, u64::from(*node)),
+        Body::Recovered { node, action } => put_at_node(out, LineKind::Recovered, *node, *action),
+        Body::Refused { cause } => put_kind_number(out, LineKind::Refused, u64::from(*cause)),
         Body::Entry {
             x,
             version,
@@ -121,59 +135,75 @@ fn put_body(out: &mut Bytes, body: &Body) -> Result<(), AllocError>
             writer,
             payload,
         } => put_copy(out, *node, *x, *version, *writer, payload.as_slice()),
-        Body::Quiet { yes } => out.extend(quiet_line(*yes)),
-        Body::Bad { line } => put_numbered(out, b"bad", u64::from(*line)),
+        Body::Quiet { yes } => put_quiet(out, *yes),
+        Body::Bad { line } => put_kind_number(out, LineKind::Bad, u64::from(*line)),
         Body::Limit { which } => put_limit(out, *which),
     }
 }
 
 // The pieces of lines.
 
-// A word, a space and a label.
-#[tactic(auto, using(std::proofs::lemmas::List::append_assoc))]
-fn put_labelled(out: &mut Bytes, word: &[u8], label: &Label) -> Result<(), AllocError>
-    ensures { OnOk result (out.new ≡ out.old ++ labelled word.now label.now) }
+// The first word of a line.
+fn put_kind(out: &mut Bytes, kind: LineKind) -> Result<(), AllocError>
+    ensures { OnOk result (out.new ≡ out.old ++ line_word kind) }
 {
-    out.extend(word)?;
+    out.extend(kind.word())
+}
+
+// The first word of a line, and a number.
+#[tactic(auto, using(std::proofs::lemmas::List::append_assoc))]
+fn put_kind_number(out: &mut Bytes, kind: LineKind, n: u64) -> Result<(), AllocError>
+    ensures { OnOk result (out.new ≡ out.old ++ (line_word kind ++ number_word n)) }
+{
+    put_kind(out, kind)?;
+    put_number(out, n)
+}
+
+// The first word of a line, and a label.
+#[tactic(auto, using(std::proofs::lemmas::List::append_assoc))]
+fn put_labelled(out: &mut Bytes, kind: LineKind, label: &Label) -> Result<(), AllocError>
+    ensures { OnOk result (out.new ≡ out.old ++ labelled (line_word kind) label.now) }
+{
+    put_kind(out, kind)?;
     put_word(out, label.as_bytes())
 }
 
-// A word, a label and a node.
+// The first word of a line, a label and a node.
 #[tactic(auto, using(std::proofs::lemmas::List::append_assoc))]
 fn put_labelled_node(
     out: &mut Bytes,
-    word: &[u8],
+    kind: LineKind,
     label: &Label,
     node: u8,
 ) -> Result<(), AllocError>
-    ensures { OnOk result (out.new ≡ out.old ++ (labelled word.now label.now ++ number_word node)) }
+    ensures { OnOk result (out.new ≡ out.old ++ (labelled (line_word kind) label.now ++ number_word node)) }
 {
-    put_labelled(out, word, label)?;
+    put_labelled(out, kind, label)?;
     put_number(out, u64::from(node))
 }
 
-// A word, a label, an object and a node.
+// The first word of a line, a label, an object and a node.
 #[tactic(auto, using(std::proofs::lemmas::List::append_assoc))]
 fn put_labelled_pair(
     out: &mut Bytes,
-    word: &[u8],
+    kind: LineKind,
     label: &Label,
     x: u16,
     node: u8,
 ) -> Result<(), AllocError>
-    ensures { OnOk result (out.new ≡ out.old ++ (labelled word.now label.now ++ (number_word x ++ number_word node))) }
+    ensures { OnOk result (out.new ≡ out.old ++ (labelled (line_word kind) label.now ++ (number_word x ++ number_word node))) }
 {
-    put_labelled(out, word, label)?;
+    put_labelled(out, kind, label)?;
     put_number(out, u64::from(x))?;
     put_number(out, u64::from(node))
 }
 
-// A word, a node and an action.
+// The first word of a line, a node and an action.
 #[tactic(auto, using(std::proofs::lemmas::List::append_assoc))]
-fn put_at_node(out: &mut Bytes, word: &[u8], node: u8, action: Uid) -> Result<(), AllocError>
-    ensures { OnOk result (out.new ≡ out.old ++ (word.now ++ (number_word node ++ uid_word action))) }
+fn put_at_node(out: &mut Bytes, kind: LineKind, node: u8, action: Uid) -> Result<(), AllocError>
+    ensures { OnOk result (out.new ≡ out.old ++ (line_word kind ++ (number_word node ++ uid_word action))) }
 {
-    put_numbered(out, word, u64::from(node))?;
+    put_kind_number(out, kind, u64::from(node))?;
     put_uid(out, action)
 }
 
@@ -213,7 +243,8 @@ fn put_difference(out: &mut Bytes, difference: Difference) -> Result<(), AllocEr
 fn put_incs(out: &mut Bytes, had: u32, now: u32) -> Result<(), AllocError>
     ensures { OnOk result (out.new ≡ out.old ++ difference_text (Difference.Inc had now)) }
 {
-    put_numbered(out, b" inc", u64::from(had))?;
+    out.extend(DifferenceKind::Inc.word())?;
+    put_number(out, u64::from(had))?;
     put_number(out, u64::from(now))
 }
 
@@ -221,7 +252,7 @@ fn put_incs(out: &mut Bytes, had: u32, now: u32) -> Result<(), AllocError>
 fn put_bindings(out: &mut Bytes, had: Binding, now: Binding) -> Result<(), AllocError>
     ensures { OnOk result (out.new ≡ out.old ++ difference_text (Difference.Bind had now)) }
 {
-    out.extend(b" bind")?;
+    out.extend(DifferenceKind::Bind.word())?;
     put_binding(out, had)?;
     put_binding(out, now)
 }
@@ -248,7 +279,7 @@ fn put_began(
 ) -> Result<(), AllocError>
     ensures { OnOk result (out.new ≡ out.old ++ body_text (Body.Began label.now kind uid parent)) }
 {
-    put_labelled(out, b"began", label)?;
+    put_labelled(out, LineKind::Began, label)?;
     put_word(out, kind_word(kind))?;
     put_uid(out, uid)?;
     put_parent(out, parent)
@@ -268,7 +299,7 @@ fn put_parent(out: &mut Bytes, parent: Option<Label>) -> Result<(), AllocError>
 fn put_ok(out: &mut Bytes, label: &Label, x: u16, op: &Op, answer: &[u8]) -> Result<(), AllocError>
     ensures { OnOk result (out.new ≡ out.old ++ body_text (Body.Ok label.now x op.now answer.now)) }
 {
-    put_labelled(out, b"ok", label)?;
+    put_labelled(out, LineKind::Ok, label)?;
     put_number(out, u64::from(x))?;
     out.extend(b" ")?;
     put_op(out, op)?;
@@ -286,7 +317,7 @@ fn put_conflict_line(
 ) -> Result<(), AllocError>
     ensures { OnOk result (out.new ≡ out.old ++ body_text (Body.Conflict label.now holder mode node)) }
 {
-    put_labelled(out, b"conflict", label)?;
+    put_labelled(out, LineKind::Conflict, label)?;
     put_conflict(out, holder, mode, node)
 }
 
@@ -299,7 +330,8 @@ fn put_changed(
 ) -> Result<(), AllocError>
     ensures { OnOk result (out.new ≡ out.old ++ body_text (Body.Changed label.now node difference)) }
 {
-    put_labelled_node(out, b"changed", label, node)?;
+    put_labelled_node(out, LineKind::Changed, label, node)?;
+    out.extend(b" ")?;
     put_difference(out, difference)
 }
 
@@ -307,22 +339,39 @@ fn put_changed(
 fn put_aborted(out: &mut Bytes, label: &Label, cause: Cause) -> Result<(), AllocError>
     ensures { OnOk result (out.new ≡ out.old ++ body_text (Body.Aborted label.now cause)) }
 {
-    put_labelled(out, b"aborted", label)?;
+    put_labelled(out, LineKind::Aborted, label)?;
+    out.extend(b" ")?;
     put_cause(out, cause)
 }
 
-// A space and why an action aborted.
+// The first word of why an action aborted.
+fn put_cause_word(out: &mut Bytes, kind: CauseKind) -> Result<(), AllocError>
+    ensures { OnOk result (out.new ≡ out.old ++ cause_word kind) }
+{
+    out.extend(kind.word())
+}
+
+// The first word of why an action aborted, and a number.
+#[tactic(auto, using(std::proofs::lemmas::List::append_assoc))]
+fn put_cause_number(out: &mut Bytes, kind: CauseKind, n: u64) -> Result<(), AllocError>
+    ensures { OnOk result (out.new ≡ out.old ++ (cause_word kind ++ number_word n)) }
+{
+    put_cause_word(out, kind)?;
+    put_number(out, n)
+}
+
+// Why an action aborted.
 fn put_cause(out: &mut Bytes, cause: Cause) -> Result<(), AllocError>
     ensures { OnOk result (out.new ≡ out.old ++ cause_text cause) }
 {
     match cause {
-        Cause::Asked => out.extend(b" asked"),
-        Cause::Doomed => out.extend(b" doomed"),
-        Cause::Lost { node } => put_numbered(out, b" lost", u64::from(node)),
+        Cause::Asked => put_cause_word(out, CauseKind::Asked),
+        Cause::Doomed => put_cause_word(out, CauseKind::Doomed),
+        Cause::Lost { node } => put_cause_number(out, CauseKind::Lost, u64::from(node)),
         Cause::Conflict { holder, mode, node } => put_conflict_cause(out, holder, mode, node),
         Cause::Changed { node, difference } => put_changed_cause(out, node, difference),
         Cause::Old { node, x, version } => put_old_cause(out, node, x, version),
-        Cause::NoStores { x } => put_numbered(out, b" nostores", u64::from(x)),
+        Cause::NoStores { x } => put_cause_number(out, CauseKind::NoStores, u64::from(x)),
         Cause::Listed { x, node } => put_listed_cause(out, x, node),
     }
 }
@@ -331,7 +380,7 @@ fn put_cause(out: &mut Bytes, cause: Cause) -> Result<(), AllocError>
 fn put_conflict_cause(out: &mut Bytes, holder: Uid, mode: Mode, node: u8) -> Result<(), AllocError>
     ensures { OnOk result (out.new ≡ out.old ++ cause_text (Cause.Conflict holder mode node)) }
 {
-    out.extend(b" conflict")?;
+    put_cause_word(out, CauseKind::Conflict)?;
     put_conflict(out, holder, mode, node)
 }
 
@@ -339,7 +388,8 @@ fn put_conflict_cause(out: &mut Bytes, holder: Uid, mode: Mode, node: u8) -> Res
 fn put_changed_cause(out: &mut Bytes, node: u8, difference: Difference) -> Result<(), AllocError>
     ensures { OnOk result (out.new ≡ out.old ++ cause_text (Cause.Changed node difference)) }
 {
-    put_numbered(out, b" changed", u64::from(node))?;
+    put_cause_number(out, CauseKind::Changed, u64::from(node))?;
+    out.extend(b" ")?;
     put_difference(out, difference)
 }
 
@@ -347,7 +397,7 @@ fn put_changed_cause(out: &mut Bytes, node: u8, difference: Difference) -> Resul
 fn put_old_cause(out: &mut Bytes, node: u8, x: u16, version: u64) -> Result<(), AllocError>
     ensures { OnOk result (out.new ≡ out.old ++ cause_text (Cause.Old node x version)) }
 {
-    put_numbered(out, b" old", u64::from(node))?;
+    put_cause_number(out, CauseKind::Old, u64::from(node))?;
     put_number(out, u64::from(x))?;
     put_number(out, version)
 }
@@ -356,7 +406,7 @@ fn put_old_cause(out: &mut Bytes, node: u8, x: u16, version: u64) -> Result<(), 
 fn put_listed_cause(out: &mut Bytes, x: u16, node: u8) -> Result<(), AllocError>
     ensures { OnOk result (out.new ≡ out.old ++ cause_text (Cause.Listed x node)) }
 {
-    put_numbered(out, b" listed", u64::from(x))?;
+    put_cause_number(out, CauseKind::Listed, u64::from(x))?;
     put_number(out, u64::from(node))
 }
 
@@ -372,7 +422,7 @@ fn put_granted(
 ) -> Result<(), AllocError>
     ensures { OnOk result (out.new ≡ out.old ++ body_text (Body.Granted node action object mode)) }
 {
-    put_at_node(out, b"granted", node, action)?;
+    put_at_node(out, LineKind::Granted, node, action)?;
     put_uid(out, object)?;
     put_word(out, mode_word(mode))
 }
@@ -381,7 +431,7 @@ fn put_granted(
 fn put_lowered(out: &mut Bytes, node: u8, action: Uid, object: Uid) -> Result<(), AllocError>
     ensures { OnOk result (out.new ≡ out.old ++ body_text (Body.Lowered node action object)) }
 {
-    put_at_node(out, b"lowered", node, action)?;
+    put_at_node(out, LineKind::Lowered, node, action)?;
     put_uid(out, object)
 }
 
@@ -389,7 +439,7 @@ fn put_lowered(out: &mut Bytes, node: u8, action: Uid, object: Uid) -> Result<()
 fn put_bound(out: &mut Bytes, x: u16, binding: Binding, node: u8) -> Result<(), AllocError>
     ensures { OnOk result (out.new ≡ out.old ++ body_text (Body.Bound x binding node)) }
 {
-    put_numbered(out, b"bound", u64::from(x))?;
+    put_kind_number(out, LineKind::Bound, u64::from(x))?;
     put_binding(out, binding)?;
     put_number(out, u64::from(node))
 }
@@ -398,7 +448,7 @@ fn put_bound(out: &mut Bytes, x: u16, binding: Binding, node: u8) -> Result<(), 
 fn put_active(out: &mut Bytes, node: u8, x: u16, binding: Binding) -> Result<(), AllocError>
     ensures { OnOk result (out.new ≡ out.old ++ body_text (Body.Active node x binding)) }
 {
-    put_numbered(out, b"active", u64::from(node))?;
+    put_kind_number(out, LineKind::Active, u64::from(node))?;
     put_number(out, u64::from(x))?;
     put_binding(out, binding)
 }
@@ -407,7 +457,7 @@ fn put_active(out: &mut Bytes, node: u8, x: u16, binding: Binding) -> Result<(),
 fn put_told(out: &mut Bytes, node: u8, action: Uid, end: End, part: Part) -> Result<(), AllocError>
     ensures { OnOk result (out.new ≡ out.old ++ body_text (Body.Told node action end part)) }
 {
-    put_at_node(out, b"told", node, action)?;
+    put_at_node(out, LineKind::Told, node, action)?;
     put_word(out, end_word(end))?;
     put_word(out, part_word(part))
 }
@@ -416,7 +466,7 @@ fn put_told(out: &mut Bytes, node: u8, action: Uid, end: End, part: Part) -> Res
 fn put_prepared(out: &mut Bytes, node: u8, action: Uid, role: Role) -> Result<(), AllocError>
     ensures { OnOk result (out.new ≡ out.old ++ body_text (Body.Prepared node action role)) }
 {
-    put_at_node(out, b"prepared", node, action)?;
+    put_at_node(out, LineKind::Prepared, node, action)?;
     put_word(out, role_word(role))
 }
 
@@ -424,7 +474,7 @@ fn put_prepared(out: &mut Bytes, node: u8, action: Uid, role: Role) -> Result<()
 fn put_done(out: &mut Bytes, node: u8, action: Uid, role: Role, end: End) -> Result<(), AllocError>
     ensures { OnOk result (out.new ≡ out.old ++ body_text (Body.Done node action role end)) }
 {
-    put_at_node(out, b"done", node, action)?;
+    put_at_node(out, LineKind::Done, node, action)?;
     put_word(out, role_word(role))?;
     put_word(out, end_word(end))
 }
@@ -439,7 +489,7 @@ fn put_sent(
 ) -> Result<(), AllocError>
     ensures { OnOk result (out.new ≡ out.old ++ body_text (Body.Sent frame from to kind)) }
 {
-    put_numbered(out, b"sent", u64::from(frame))?;
+    put_kind_number(out, LineKind::Sent, u64::from(frame))?;
     put_number(out, u64::from(from))?;
     put_number(out, u64::from(to))?;
     put_word(out, frame_word(kind))
@@ -449,7 +499,7 @@ fn put_sent(
 fn put_up(out: &mut Bytes, node: u8, inc: u32) -> Result<(), AllocError>
     ensures { OnOk result (out.new ≡ out.old ++ body_text (Body.Up node inc)) }
 {
-    put_numbered(out, b"up", u64::from(node))?;
+    put_kind_number(out, LineKind::Up, u64::from(node))?;
     put_number(out, u64::from(inc))
 }
 
@@ -463,7 +513,7 @@ fn put_entry(
 ) -> Result<(), AllocError>
     ensures { OnOk result (out.new ≡ out.old ++ body_text (Body.Entry x version servers.now stores.now)) }
 {
-    put_numbered(out, b"entry", u64::from(x))?;
+    put_kind_number(out, LineKind::Entry, u64::from(x))?;
     put_number(out, version)?;
     out.extend(b" ")?;
     put_list(out, servers.as_slice())?;
@@ -482,7 +532,7 @@ fn put_copy(
 ) -> Result<(), AllocError>
     ensures { OnOk result (out.new ≡ out.old ++ body_text (Body.Copy node x version writer payload.now)) }
 {
-    put_numbered(out, b"copy", u64::from(node))?;
+    put_kind_number(out, LineKind::Copy, u64::from(node))?;
     put_number(out, u64::from(x))?;
     put_number(out, version)?;
     put_uid(out, writer)?;
@@ -494,12 +544,14 @@ fn put_copy(
 fn put_limit(out: &mut Bytes, which: Which) -> Result<(), AllocError>
     ensures { OnOk result (out.new ≡ out.old ++ body_text (Body.Limit which)) }
 {
-    out.extend(b"limit ")?;
-    out.extend(which_word(which))
+    put_kind(out, LineKind::Limit)?;
+    put_word(out, which_word(which))
 }
 
-fn quiet_line(yes: bool) -> &'static [u8]
-    ensures { result.now ≡ quiet_text yes }
+#[tactic(auto, using(std::proofs::lemmas::List::append_assoc))]
+fn put_quiet(out: &mut Bytes, yes: bool) -> Result<(), AllocError>
+    ensures { OnOk result (out.new ≡ out.old ++ body_text (Body.Quiet yes)) }
 {
-    if yes { b"quiet yes" } else { b"quiet no" }
+    put_kind(out, LineKind::Quiet)?;
+    put_word(out, yes_word(yes))
 }

@@ -6,7 +6,7 @@ use Rattle.arj_class.specs.declared.op.Op.{Op}
 use Rattle.arj_journal_reader.specs.declared.call.Call.{Call}
 use Rattle.arj_journal_reader.specs.declared.fault.LineFault.{LineFault}
 use Rattle.arj_journal_reader.specs.declared.fault.LineFault.TheVariants.{NotALine, Memory}
-use Rattle.arj_text.specs.Fields.{IsAnswer, IsRead, OpHasForm, has_space}
+use Rattle.arj_text.specs.Fields.{IsAnswer, IsRead, OpTextInForm, has_space}
 use Rattle.arj_journal_reader.specs.LineKinds.{call}
 use Rattle.arj_journal_reader.specs.Reading.{IsTaken, as_taken}
 use Rattle.arj_text.specs.Words.{op_text}
@@ -39,12 +39,12 @@ asked_so bytes front word words c spaceless parts ends fits e =
     let cuts = call_parts bytes front word c spaceless parts fits e in
     (append_cancel_right words (op_text c.op) (codes " =") (sym ends ∙ cuts.0), cuts.1)
 
-pub no_operation : (bytes front word words : List ℕ) (y : LineFault) → has_space word ≡ false → bytes ≡ front ++ 32 ∷ word → front ≡ words ++ codes " =" → IsTaken OpHasForm op_text words (Err y) → IsTaken call.InForm call.text bytes (Err y)
+pub no_operation : (bytes front word words : List ℕ) (y : LineFault) → has_space word ≡ false → bytes ≡ front ++ 32 ∷ word → front ≡ words ++ codes " =" → IsTaken OpTextInForm op_text words (Err y) → IsTaken call.InForm call.text bytes (Err y)
 no_operation bytes front word words NotALine spaceless parts ends none =
     λ c fits e. none c.op fits.0 (asked_so bytes front word words c spaceless parts ends fits e).0
 no_operation bytes front word words Memory spaceless parts ends none = tt
 
-pub no_answer : (bytes front word words : List ℕ) (asked : Op) (y : LineFault) → has_space word ≡ false → bytes ≡ front ++ 32 ∷ word → front ≡ words ++ codes " =" → OpHasForm asked × (words ≡ op_text asked) → IsTaken (IsAnswer asked) (λ text. text) word (Err y) → IsTaken call.InForm call.text bytes (Err y)
+pub no_answer : (bytes front word words : List ℕ) (asked : Op) (y : LineFault) → has_space word ≡ false → bytes ≡ front ++ 32 ∷ word → front ≡ words ++ codes " =" → OpTextInForm asked × (words ≡ op_text asked) → IsTaken (IsAnswer asked) (λ text. text) word (Err y) → IsTaken call.InForm call.text bytes (Err y)
 no_answer bytes front word words asked NotALine spaceless parts ends read none =
     λ c fits e.
     let so = asked_so bytes front word words c spaceless parts ends fits e in
@@ -52,7 +52,7 @@ no_answer bytes front word words asked NotALine spaceless parts ends read none =
     none c.answer (subst (λ p. IsAnswer p c.answer) (sym same) fits.1) so.1
 no_answer bytes front word words asked Memory spaceless parts ends read none = tt
 
-pub call_read : (bytes front word words answer : List ℕ) (asked : Op) → bytes ≡ front ++ 32 ∷ word → front ≡ words ++ codes " =" → OpHasForm asked × (words ≡ op_text asked) → IsAnswer asked answer × (word ≡ answer) → IsTaken call.InForm call.text bytes (Ok (record { op = asked; answer = answer }))
+pub call_read : (bytes front word words answer : List ℕ) (asked : Op) → bytes ≡ front ++ 32 ∷ word → front ≡ words ++ codes " =" → OpTextInForm asked × (words ≡ op_text asked) → IsAnswer asked answer × (word ≡ answer) → IsTaken call.InForm call.text bytes (Ok (record { op = asked; answer = answer }))
 call_read bytes front word words answer asked parts ends read answered =
     let c : Call = record { op = asked; answer = answer } in
     let joined : front ++ 32 ∷ word ≡ (op_text asked ++ codes " =") ++ 32 ∷ answer = (λ i. ends i ++ 32 ∷ answered.1 i) ∙ ap (λ t. (t ++ codes " =") ++ 32 ∷ answer) read.1 in

@@ -9,7 +9,7 @@ use Rattle.arj_class.specs.declared.op.Op.{Op}
 use Rattle.arj_class.specs.declared.op.Op.TheVariants as op
 use Rattle.arj_class.specs.declared.op.Answer.{Answer}
 use Rattle.arj_class.specs.declared.op.Answer.TheVariants as answer
-use Rattle.arj_text.specs.Fields.{AnswerHasForm, AreBytesUpTo, IsAnswer, NumberInForm, OpHasForm, has_byte, has_space}
+use Rattle.arj_text.specs.Fields.{AnswerTextInForm, AreBytesUpTo, IsAnswer, NumberInForm, OpTextInForm, has_byte, has_space}
 use Rattle.arj_journal_reader.specs.Form.{Form, Kinds}
 use Rattle.arj_journal_reader.specs.LineKinds.{call}
 use Rattle.arj_text.specs.Words.{answer_text, hex, op_text}
@@ -36,7 +36,7 @@ cut_last (a ∷ r) (b ∷ s) w v hw hv e =
     (cc, rest.1)
 
 -- Answers hold no space and no end of a line.
-answer_lacks : (k : ℕ) → IsApart k → (p : Op) (a : Answer) → AnswerHasForm p a → has_byte k (codes "done") ≡ false → has_byte k (codes "over") ≡ false → has_byte k (codes "short") ≡ false → has_byte k (codes "full") ≡ false → has_byte k (codes "none") ≡ false → has_byte k (answer_text a) ≡ false
+answer_lacks : (k : ℕ) → IsApart k → (p : Op) (a : Answer) → AnswerTextInForm p a → has_byte k (codes "done") ≡ false → has_byte k (codes "over") ≡ false → has_byte k (codes "short") ≡ false → has_byte k (codes "full") ≡ false → has_byte k (codes "none") ≡ false → has_byte k (answer_text a) ≡ false
 answer_lacks k apart p answer.Done h d o s f n = d
 answer_lacks k apart p (answer.Number m) h d o s f n = digits_only k m apart.digit h
 answer_lacks k apart p (answer.Text bytes) h d o s f n = hex_lacks k apart bytes h.1.1
@@ -155,7 +155,7 @@ has_words op.Pop = false
 has_words _ = true
 
 abbrev OpFits : Op → Type 0
-OpFits p = OpHasForm p × (has_words p ≡ true)
+OpFits p = OpTextInForm p × (has_words p ≡ true)
 
 seen_op : (p : Op) → OpFits p → Seen ops p
 seen_op op.Get h = absurd (both_ways false refl h.1)
@@ -234,7 +234,7 @@ bare_known BareGet = refl
 bare_known BareLen = refl
 bare_known BarePop = refl
 
-either : (p : Op) → OpHasForm p → ((b : Bare) × (bare_op b ≡ p)) ⊎ OpFits p
+either : (p : Op) → OpTextInForm p → ((b : Bare) × (bare_op b ≡ p)) ⊎ OpFits p
 either op.Get h = inl (BareGet, refl)
 either op.Len h = inl (BareLen, refl)
 either op.Pop h = inl (BarePop, refl)
@@ -248,8 +248,8 @@ either (op.GetKey v) h = inr (h, refl)
 either (op.Remove v) h = inr (h, refl)
 either (op.PutPair k v) h = inr (h, refl)
 
-pub op_facts : PieceFacts (form_of Op OpHasForm op_text)
-op_facts = mixed_facts ops OpFits OpHasForm op_text Bare bare_op bares
+pub op_facts : PieceFacts (form_of Op OpTextInForm op_text)
+op_facts = mixed_facts ops OpFits OpTextInForm op_text Bare bare_op bares
     (record { are = ops_are; facts = kinds_facts ops words OpFits op_text op_words ops_are op_forms; known = bare_known; letters = refl; either = either })
 
 -- an operation and its answer

@@ -21,8 +21,8 @@ ends_so l = sym (append_assoc (decimal l.event) (32 ∷ body_text l.body) (10 �
 
 front_once : Once LineInForm front
 front_once l m hl hm e =
-    let cuts = cut_once 32 (decimal l.event) (decimal m.event) (body_text l.body) (body_text m.body) (number_lacks 32 space_apart l.event (omega (arith, hl.0.1))) (number_lacks 32 space_apart m.event (omega (arith, hm.0.1))) e in
-    let event = number_once l.event m.event (omega (arith, hl.0.1)) (omega (arith, hm.0.1)) cuts.0 in
+    let cuts = cut_once 32 (decimal l.event) (decimal m.event) (body_text l.body) (body_text m.body) (number_lacks 32 space_apart l.event (omega (arith, hl.0))) (number_lacks 32 space_apart m.event (omega (arith, hm.0))) e in
+    let event = number_once l.event m.event (omega (arith, hl.0)) (omega (arith, hm.0)) cuts.0 in
     let body = bodies_facts.once l.body m.body hl.1 hm.1 cuts.1 in
     λ i. record { event = event i; body = body i }
 
@@ -30,7 +30,7 @@ pub line_once : Once LineInForm line_text
 line_once l m hl hm e = front_once l m hl hm (append_cancel_right (front l) (front m) (10 ∷ []) (sym (ends_so l) ∙ (e ∙ ends_so m)))
 
 front_endless : (l : Line) → LineInForm l → has_byte 10 (front l) ≡ false
-front_endless l h = lacks_behind 10 32 (decimal l.event) (body_text l.body) refl (number_lacks 10 end_apart l.event (omega (arith, h.0.1))) (bodies_facts.endless l.body h.1)
+front_endless l h = lacks_behind 10 32 (decimal l.event) (body_text l.body) refl (number_lacks 10 end_apart l.event (omega (arith, h.0))) (bodies_facts.endless l.body h.1)
 
 -- A journal's text ends its first line at the first line feed.
 first_line : (l : Line) (ls : List Line) → text (l ∷ ls) ≡ front l ++ 10 ∷ text ls

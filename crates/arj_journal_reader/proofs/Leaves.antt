@@ -12,9 +12,9 @@ use Rattle.std.proofs.lemmas.Fmt.{decimal_injective}
 use Rattle.std.proofs.lemmas.List.{length-take, take-append-drop}
 use Rattle.arj_base.specs.Uid.{UidFits, binding_text, uid_text}
 use Rattle.arj_text.specs.declared.label.Label.{Label}
-use Rattle.arj_text.specs.Fields.{AreBytes, BindingInForm, has_byte}
-use Rattle.arj_text.specs.Label.{is_digit, is_label, is_letter, name}
-use Rattle.arj_journal.specs.LineForm.{LabelFits, ParentFits}
+use Rattle.arj_text.specs.Fields.{AreBytes, BindingInForm, NumberInForm, has_byte}
+use Rattle.arj_text.specs.Label.{LabelInForm, is_digit, is_label, is_letter, name}
+use Rattle.arj_journal.specs.LineForm.{ParentInForm}
 use Rattle.arj_journal.specs.LineText.{parent_text}
 use Rattle.arj_journal_reader.specs.Spellings.{IsKnown}
 use Rattle.arj_text.specs.Words.{hex, hex_digit, hex_pair}
@@ -36,11 +36,11 @@ pub end_apart : IsApart 10
 end_apart = record { digit = refl; letter = refl; dash = refl; point = refl; comma = refl }
 
 -- Numbers.
-pub number_lacks : (k : ℕ) → IsApart k → (n : ℕ) → n ≤ 18446744073709551615 → has_byte k (decimal n) ≡ false
-number_lacks k apart n fits = digits_only k n apart.digit (omega arith)
+pub number_lacks : (k : ℕ) → IsApart k → (n : ℕ) → NumberInForm n → has_byte k (decimal n) ≡ false
+number_lacks k apart n fits = digits_only k n apart.digit fits
 
-pub number_once : (m n : ℕ) → m ≤ 18446744073709551615 → n ≤ 18446744073709551615 → decimal m ≡ decimal n → m ≡ n
-number_once m n hm hn e = decimal_injective m n (omega arith) (omega arith) e
+pub number_once : (m n : ℕ) → NumberInForm m → NumberInForm n → decimal m ≡ decimal n → m ≡ n
+number_once m n hm hn e = decimal_injective m n hm hn e
 
 -- Uids and bindings, which have points between their numbers.
 pub binding_lacks : (k : ℕ) → IsApart k → Lacks k BindingInForm binding_text
@@ -93,38 +93,40 @@ label_text_lacks k apart (b ∷ bs) h =
     let parts = and_parts (is_letter b) (list_all (λ c. is_letter c || is_digit c) bs) h in
     or_from (b == k) (has_byte k bs) (letter_lacks k b apart.letter parts.0) (signs_lack k apart bs parts.1)
 
-pub label_lacks : (k : ℕ) → IsApart k → Lacks k LabelFits name
-label_lacks k apart l fits = label_text_lacks k apart (name l) fits.0
+pub label_lacks : (k : ℕ) → IsApart k → Lacks k LabelInForm name
+label_lacks k apart l fits = label_text_lacks k apart (name l) fits
 
 -- The facts that a label keeps have one proof each.
 same_label : (a b : Label) → (e : a.len ≡ b.len) → (f : a.text ≡ b.text) → a ≡ b
 same_label a b e f =
+    let whole_prop : IsProp (length b.text ≡ 16) = hlevel props in
     let short_prop : IsProp (b.len ≤ 16) = hlevel props in
     let zeros_prop : IsProp (drop b.len b.text ≡ replicate (16 - b.len) 0) = hlevel props in
+    let whole : PathP (λ i. length (f i) ≡ 16) a.whole b.whole = to_path_p (λ i. length (f i) ≡ 16) (whole_prop _ _) in
     let short : PathP (λ i. e i ≤ 16) a.short b.short = to_path_p (λ i. e i ≤ 16) (short_prop _ _) in
     let zeros : PathP (λ i. drop (e i) (f i) ≡ replicate (16 - e i) 0) a.zeros b.zeros = to_path_p (λ i. drop (e i) (f i) ≡ replicate (16 - e i) 0) (zeros_prop _ _) in
-    λ i. record { len = e i; text = f i; short = short i; zeros = zeros i }
+    λ i. record { len = e i; text = f i; whole = whole i; short = short i; zeros = zeros i }
 
 label_text : (l : Label) → name l ++ replicate (16 - l.len) 0 ≡ l.text
 label_text l = ap (λ rest. name l ++ rest) (sym l.zeros) ∙ take-append-drop l.len l.text
 
-label_length : (l : Label) → length l.text ≡ 16 → length (name l) ≡ l.len
-label_length l whole = let short : l.len ≤ 16 = l.short in omega (arith, length-take l.len l.text)
+label_length : (l : Label) → length (name l) ≡ l.len
+label_length l = let short : l.len ≤ 16 = l.short in omega (arith, l.whole, length-take l.len l.text)
 
-pub label_once : Once LabelFits name
+pub label_once : Once LabelInForm name
 label_once a b ha hb e =
-    let len : a.len ≡ b.len = sym (label_length a ha.1) ∙ (ap length e ∙ label_length b hb.1) in
+    let len : a.len ≡ b.len = sym (label_length a) ∙ (ap length e ∙ label_length b) in
     let padded : name a ++ replicate (16 - a.len) 0 ≡ name b ++ replicate (16 - b.len) 0 = λ i. e i ++ replicate (16 - len i) 0 in
     same_label a b len (sym (label_text a) ∙ (padded ∙ label_text b))
 
-pub parent_lacks : (k : ℕ) → IsApart k → Lacks k ParentFits parent_text
+pub parent_lacks : (k : ℕ) → IsApart k → Lacks k ParentInForm parent_text
 parent_lacks k apart None fits = or_from (45 == k) false apart.dash refl
 parent_lacks k apart (Some l) fits = label_lacks k apart l fits
 
-no_dash : (l : Label) → LabelFits l → codes "-" ≢ name l
-no_dash l fits e = both_ways (is_label (codes "-")) refl (subst (λ bs. is_label bs ≡ true) (sym e) fits.0)
+no_dash : (l : Label) → LabelInForm l → codes "-" ≢ name l
+no_dash l fits e = both_ways (is_label (codes "-")) refl (subst (λ bs. is_label bs ≡ true) (sym e) fits)
 
-pub parent_once : Once ParentFits parent_text
+pub parent_once : Once ParentInForm parent_text
 parent_once None None ha hb e = refl
 parent_once None (Some l) ha hb e = absurd (no_dash l hb e)
 parent_once (Some l) None ha hb e = absurd (no_dash l ha (sym e))

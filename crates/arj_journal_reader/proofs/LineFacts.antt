@@ -8,18 +8,19 @@ use Rattle.arj_journal.specs.declared.body.Cause.{Cause}
 use Rattle.arj_journal.specs.declared.body.Cause.TheVariants as cause
 use Rattle.arj_journal.specs.declared.body.Difference.{Difference}
 use Rattle.arj_journal.specs.declared.body.Difference.TheVariants as difference
-use Rattle.arj_journal_reader.specs.declared.causes.CauseKind.{CauseKind}
-use Rattle.arj_journal_reader.specs.declared.causes.CauseKind.TheVariants as cause_kind
-use Rattle.arj_journal_reader.specs.declared.causes.DifferenceKind.{DifferenceKind}
-use Rattle.arj_journal_reader.specs.declared.causes.DifferenceKind.TheVariants as difference_kind
-use Rattle.arj_journal_reader.specs.declared.line_kind.LineKind.{LineKind}
-use Rattle.arj_journal_reader.specs.declared.line_kind.LineKind.TheVariants as line
+use Rattle.arj_journal.specs.declared.line_kind.CauseKind.{CauseKind}
+use Rattle.arj_journal.specs.declared.line_kind.CauseKind.TheVariants as cause_kind
+use Rattle.arj_journal.specs.declared.line_kind.DifferenceKind.{DifferenceKind}
+use Rattle.arj_journal.specs.declared.line_kind.DifferenceKind.TheVariants as difference_kind
+use Rattle.arj_journal.specs.declared.line_kind.LineKind.{LineKind}
+use Rattle.arj_journal.specs.declared.line_kind.LineKind.TheVariants as line
 use Rattle.arj_journal_reader.specs.Form.{◌▸◌}
 use Rattle.arj_text.specs.Label.{name}
-use Rattle.arj_journal.specs.LineForm.{BodyFits, CauseFits, DifferenceFits, is_junk}
-use Rattle.arj_journal_reader.specs.LineKinds.{node, sender, refusal, object, word, version, label, parent, uid, binding, hex_bytes, nodes, kind, part, role, frame, which, mode, ending, yes_no, difference_form, make_difference, differences, difference_words, difference_piece, WordedCause, cause_form, make_cause, causes, cause_words, cause_piece, line_form, make_body, lines, yes_text}
-use Rattle.arj_journal.specs.LineText.{body_text, cause_text, difference_text, frame_text, kind_text, part_text, role_text, which_text}
-use Rattle.arj_journal_reader.specs.Spellings.{IsKnown, cause_kinds, cause_word, difference_kinds, difference_word, ends, frame_kinds, kinds, known_cause_kinds, known_difference_kinds, known_ends, known_frame_kinds, known_kinds, known_limits, known_line_kinds, known_modes, known_parts, known_roles, limits, line_kinds, line_word, modes, parts, roles}
+use Rattle.arj_journal.specs.LineForm.{BodyInForm, CauseInForm, DifferenceInForm, is_junk}
+use Rattle.arj_journal_reader.specs.LineKinds.{node, sender, refusal, object, word, version, label, parent, uid, binding, hex_bytes, nodes, kind, part, role, frame, which, mode, ending, yes_no, difference_form, make_difference, differences, difference_piece, WordedCause, cause_form, make_cause, causes, cause_piece, line_form, make_body, lines, nothing}
+use Rattle.arj_journal.specs.LineText.{body_text, cause_text, difference_text}
+use Rattle.arj_journal.specs.LineWords.{cause_word, difference_word, frame_text, kind_text, line_word, part_text, role_text, which_text, yes_text}
+use Rattle.arj_journal_reader.specs.Spellings.{IsKnown, cause_kinds, difference_kinds, ends, frame_kinds, kinds, known_cause_kinds, known_difference_kinds, known_ends, known_frame_kinds, known_kinds, known_limits, known_line_kinds, known_modes, known_parts, known_roles, limits, line_kinds, modes, parts, roles}
 use Rattle.arj_text.specs.Words.{end_text, mode_text, number_word}
 use Rattle.arj_journal_reader.proofs.ByKind.{AreOfKinds, Seen}
 use Rattle.arj_journal_reader.proofs.Calls.{call_facts}
@@ -54,14 +55,14 @@ an_object = record {
 
 a_word : WordFacts word
 a_word = record {
-  once = λ m n hm hn e. let same = number_once m.number n.number (omega (arith, hm.1)) (omega (arith, hn.1)) e in λ i. record { number = same i };
-  plain = λ k apart n h. number_lacks k apart n.number (omega (arith, h.1));
+  once = λ m n hm hn e. let same = number_once m.number n.number (omega (arith, hm)) (omega (arith, hn)) e in λ i. record { number = same i };
+  plain = λ k apart n h. number_lacks k apart n.number (omega (arith, h));
 }
 
 a_version : WordFacts version
 a_version = record {
-  once = λ m n hm hn e. let same = number_once m.number n.number (omega (arith, hm.1)) (omega (arith, hn.1)) e in λ i. record { number = same i };
-  plain = λ k apart n h. number_lacks k apart n.number (omega (arith, h.1));
+  once = λ m n hm hn e. let same = number_once m.number n.number hm hn e in λ i. record { number = same i };
+  plain = λ k apart n h. number_lacks k apart n.number h;
 }
 
 a_label : WordFacts label
@@ -121,15 +122,15 @@ a_yes_no : WordFacts yes_no
 a_yes_no = known_facts yes_text (true ∷ false ∷ []) yes_no_known refl
 
 -- What was had and what is there now.
-seen_difference : (d : Difference) → DifferenceFits d → Seen differences d
+seen_difference : (d : Difference) → DifferenceInForm d → Seen differences d
 seen_difference (difference.Inc had now) h = record { kind = difference_kind.Inc; value = (record { number = had }, record { number = now }); fits = (h.0, spaceless a_word (record { number = had }) h.0, h.1); made = refl }
 seen_difference (difference.Bind had now) h = record { kind = difference_kind.Bind; value = (had, now); fits = (h.0, spaceless a_binding had h.0, h.1); made = refl }
 
-difference_fits : (k : DifferenceKind) (v : (difference_form k).Value) → (difference_form k).InForm v → DifferenceFits (make_difference k v)
+difference_fits : (k : DifferenceKind) (v : (difference_form k).Value) → (difference_form k).InForm v → DifferenceInForm (make_difference k v)
 difference_fits difference_kind.Inc v h = (h.0, h.2)
 difference_fits difference_kind.Bind v h = (h.0, h.2)
 
-difference_spelled : (k : DifferenceKind) (v : (difference_form k).Value) → difference_words (make_difference k v) ≡ difference_word k ++ 32 ∷ (difference_form k).text v
+difference_spelled : (k : DifferenceKind) (v : (difference_form k).Value) → difference_text (make_difference k v) ≡ difference_word k ++ 32 ∷ (difference_form k).text v
 difference_spelled difference_kind.Inc v = refl
 difference_spelled difference_kind.Bind v = refl
 
@@ -140,7 +141,7 @@ difference_forms difference_kind.Bind = behind a_binding (alone a_binding)
 words_of_differences : HaveWords differences difference_kinds
 words_of_differences = record { known = known_difference_kinds; letters = refl }
 
-pub differences_are : AreOfKinds differences DifferenceFits difference_words
+pub differences_are : AreOfKinds differences DifferenceInForm difference_text
 differences_are = record {
   spaceless = spaceless_words differences difference_kinds words_of_differences;
   apart = known_once difference_word difference_kinds known_difference_kinds;
@@ -150,7 +151,7 @@ differences_are = record {
 }
 
 difference_facts : PieceFacts difference_piece
-difference_facts = kinds_facts differences difference_kinds DifferenceFits difference_words words_of_differences differences_are difference_forms
+difference_facts = kinds_facts differences difference_kinds DifferenceInForm difference_text words_of_differences differences_are difference_forms
 
 -- Why an action aborted.
 seen_cause : (c : Cause) → WordedCause c → Seen causes c
@@ -164,6 +165,8 @@ seen_cause (cause.NoStores x) h = record { kind = cause_kind.NoStores; value = r
 seen_cause (cause.Listed x n) h = record { kind = cause_kind.Listed; value = (record { number = x }, record { number = n }); fits = (h.0.0, spaceless an_object (record { number = x }) h.0.0, h.0.1); made = refl }
 
 cause_fits : (k : CauseKind) (v : (cause_form k).Value) → (cause_form k).InForm v → WordedCause (make_cause k v)
+cause_fits cause_kind.Asked v h = absurd v
+cause_fits cause_kind.Doomed v h = absurd v
 cause_fits cause_kind.Lost v h = (h, refl)
 cause_fits cause_kind.Conflict v h = ((h.0, h.2.2), refl)
 cause_fits cause_kind.Changed v h = ((h.0, h.2), refl)
@@ -171,7 +174,9 @@ cause_fits cause_kind.Old v h = ((h.0, h.2.0, h.2.2), refl)
 cause_fits cause_kind.NoStores v h = (h, refl)
 cause_fits cause_kind.Listed v h = ((h.0, h.2), refl)
 
-cause_spelled : (k : CauseKind) (v : (cause_form k).Value) → cause_words (make_cause k v) ≡ cause_word k ++ 32 ∷ (cause_form k).text v
+cause_spelled : (k : CauseKind) (v : (cause_form k).Value) → cause_text (make_cause k v) ≡ cause_word k ++ 32 ∷ (cause_form k).text v
+cause_spelled cause_kind.Asked v = absurd v
+cause_spelled cause_kind.Doomed v = absurd v
 cause_spelled cause_kind.Lost v = refl
 cause_spelled cause_kind.Conflict v = refl
 cause_spelled cause_kind.Changed v = refl
@@ -179,7 +184,12 @@ cause_spelled cause_kind.Old v = refl
 cause_spelled cause_kind.NoStores v = refl
 cause_spelled cause_kind.Listed v = refl
 
+of_nothing : PieceFacts nothing
+of_nothing = record { once = λ v w hv hw e. absurd v; endless = λ v h. absurd v }
+
 cause_forms : (k : CauseKind) → PieceFacts (cause_form k)
+cause_forms cause_kind.Asked = of_nothing
+cause_forms cause_kind.Doomed = of_nothing
 cause_forms cause_kind.Lost = alone a_node
 cause_forms cause_kind.Conflict = behind a_uid (behind a_mode (alone a_node))
 cause_forms cause_kind.Changed = behind a_node difference_facts
@@ -190,7 +200,7 @@ cause_forms cause_kind.Listed = behind an_object (alone a_node)
 words_of_causes : HaveWords causes cause_kinds
 words_of_causes = record { known = known_cause_kinds; letters = refl }
 
-pub causes_are : AreOfKinds causes WordedCause cause_words
+pub causes_are : AreOfKinds causes WordedCause cause_text
 causes_are = record {
   spaceless = spaceless_words causes cause_kinds words_of_causes;
   apart = known_once cause_word cause_kinds known_cause_kinds;
@@ -208,11 +218,11 @@ abbrev pub bare_cause : BareCause → Cause
 bare_cause BareAsked = cause.Asked
 bare_cause BareDoomed = cause.Doomed
 
-bare_known : IsKnown (λ b. cause_words (bare_cause b)) (BareAsked ∷ BareDoomed ∷ [])
+bare_known : IsKnown (λ b. cause_text (bare_cause b)) (BareAsked ∷ BareDoomed ∷ [])
 bare_known BareAsked = refl
 bare_known BareDoomed = refl
 
-pub either : (c : Cause) → CauseFits c → ((b : BareCause) × (bare_cause b ≡ c)) ⊎ WordedCause c
+pub either : (c : Cause) → CauseInForm c → ((b : BareCause) × (bare_cause b ≡ c)) ⊎ WordedCause c
 either cause.Asked h = inl (BareAsked, refl)
 either cause.Doomed h = inl (BareDoomed, refl)
 either (cause.Lost n) h = inr (h, refl)
@@ -223,11 +233,11 @@ either (cause.NoStores x) h = inr (h, refl)
 either (cause.Listed x n) h = inr (h, refl)
 
 cause_facts : PieceFacts cause_piece
-cause_facts = mixed_facts causes WordedCause CauseFits cause_words BareCause bare_cause (BareAsked ∷ BareDoomed ∷ [])
-    (record { are = causes_are; facts = kinds_facts causes cause_kinds WordedCause cause_words words_of_causes causes_are cause_forms; known = bare_known; letters = refl; either = either })
+cause_facts = mixed_facts causes WordedCause CauseInForm cause_text BareCause bare_cause (BareAsked ∷ BareDoomed ∷ [])
+    (record { are = causes_are; facts = kinds_facts causes cause_kinds WordedCause cause_text words_of_causes causes_are cause_forms; known = bare_known; letters = refl; either = either })
 
 -- The lines.
-seen_body : (b : Body) → BodyFits b → Seen lines b
+seen_body : (b : Body) → BodyInForm b → Seen lines b
 seen_body (body.Began l k u p) h = record { kind = line.Began; value = (l, (k, (u, record { label = p }))); fits = (h.0, spaceless a_label l h.0, (tt, spaceless a_kind k tt, (h.1, spaceless a_uid u h.1, h.2))); made = refl }
 seen_body (body.Ok l x p a) h = record { kind = line.Ok; value = (l, (record { number = x }, record { op = p; answer = a })); fits = (h.0, spaceless a_label l h.0, (h.1, spaceless an_object (record { number = x }) h.1, (h.2, h.3))); made = refl }
 seen_body (body.Includes l x n) h = record { kind = line.Includes; value = (l, (record { number = x }, record { number = n })); fits = (h.0, spaceless a_label l h.0, (h.1, spaceless an_object (record { number = x }) h.1, h.2)); made = refl }
@@ -262,7 +272,7 @@ seen_body (body.Quiet b) h = record { kind = line.Quiet; value = b; fits = tt; m
 seen_body (body.Bad n) h = record { kind = line.Bad; value = record { number = n }; fits = h; made = refl }
 seen_body (body.Limit w) h = record { kind = line.Limit; value = w; fits = tt; made = refl }
 
-body_fits : (k : LineKind) (v : (line_form k).Value) → (line_form k).InForm v → BodyFits (make_body k v)
+body_fits : (k : LineKind) (v : (line_form k).Value) → (line_form k).InForm v → BodyInForm (make_body k v)
 body_fits line.Began v h = (h.0, h.2.2.0, h.2.2.2)
 body_fits line.Ok v h = (h.0, h.2.0, h.2.2.0, h.2.2.1)
 body_fits line.Includes v h = (h.0, h.2.0, h.2.2)
@@ -297,36 +307,17 @@ body_fits line.Quiet v h = tt
 body_fits line.Bad v h = h
 body_fits line.Limit v h = tt
 
--- behind a space, as lines have them
-difference_front : (d : Difference) → difference_text d ≡ 32 ∷ difference_words d
-difference_front (difference.Inc had now) = refl
-difference_front (difference.Bind had now) = refl
-
-cause_front : (c : Cause) → cause_text c ≡ 32 ∷ cause_words c
-cause_front cause.Asked = refl
-cause_front cause.Doomed = refl
-cause_front (cause.Lost n) = refl
-cause_front (cause.Conflict u m n) = refl
-cause_front (cause.Changed n d) = ap (λ t. codes " changed" ++ (number_word n ++ t)) (difference_front d)
-cause_front (cause.Old n x v) = refl
-cause_front (cause.NoStores x) = refl
-cause_front (cause.Listed x n) = refl
-
-quiet_front : (b : Bool) → body_text (body.Quiet b) ≡ line_word line.Quiet ++ 32 ∷ yes_text b
-quiet_front true = refl
-quiet_front false = refl
-
 body_spelled : (k : LineKind) (v : (line_form k).Value) → body_text (make_body k v) ≡ line_word k ++ 32 ∷ (line_form k).text v
 body_spelled line.Began v = refl
 body_spelled line.Ok v = refl
 body_spelled line.Includes v = refl
 body_spelled line.Conflict v = refl
 body_spelled line.Lost v = refl
-body_spelled line.Changed v = ap (λ t. codes "changed " ++ (name v.0 ++ (number_word v.1.0.number ++ t))) (difference_front v.1.1)
+body_spelled line.Changed v = refl
 body_spelled line.Committing v = refl
 body_spelled line.Committed v = refl
 body_spelled line.Ended v = refl
-body_spelled line.Aborted v = ap (λ t. codes "aborted " ++ (name v.0 ++ t)) (cause_front v.1)
+body_spelled line.Aborted v = refl
 body_spelled line.GaveUp v = refl
 body_spelled line.Excluded v = refl
 body_spelled line.Granted v = refl
@@ -347,7 +338,7 @@ body_spelled line.Recovered v = refl
 body_spelled line.Refused v = refl
 body_spelled line.Entry v = refl
 body_spelled line.Copy v = refl
-body_spelled line.Quiet v = quiet_front v
+body_spelled line.Quiet v = refl
 body_spelled line.Bad v = refl
 body_spelled line.Limit v = refl
 
@@ -392,7 +383,7 @@ body_facts line.Limit = alone a_which
 words_of_lines : HaveWords lines line_kinds
 words_of_lines = record { known = known_line_kinds; letters = refl }
 
-pub bodies_are : AreOfKinds lines BodyFits body_text
+pub bodies_are : AreOfKinds lines BodyInForm body_text
 bodies_are = record {
   spaceless = spaceless_words lines line_kinds words_of_lines;
   apart = known_once line_word line_kinds known_line_kinds;
@@ -401,5 +392,5 @@ bodies_are = record {
   seen = seen_body;
 }
 
-pub bodies_facts : PieceFacts (form_of Body BodyFits body_text)
-bodies_facts = kinds_facts lines line_kinds BodyFits body_text words_of_lines bodies_are body_facts
+pub bodies_facts : PieceFacts (form_of Body BodyInForm body_text)
+bodies_facts = kinds_facts lines line_kinds BodyInForm body_text words_of_lines bodies_are body_facts

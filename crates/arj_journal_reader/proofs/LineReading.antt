@@ -9,7 +9,7 @@ use Rattle.arj_journal_reader.specs.declared.fault.LineFault.{LineFault}
 use Rattle.arj_journal_reader.specs.declared.fault.LineFault.TheVariants.{NotALine, Memory}
 use Rattle.arj_journal_reader.specs.declared.pieces.Word.{Word}
 use Rattle.arj_journal_reader.specs.Form.{Form, ◌▸◌}
-use Rattle.arj_journal.specs.LineForm.{BodyFits, LineInForm}
+use Rattle.arj_journal.specs.LineForm.{BodyInForm, LineInForm}
 use Rattle.arj_journal_reader.specs.LineKinds.{word}
 use Rattle.arj_journal.specs.LineText.{body_text, line_text}
 use Rattle.arj_journal_reader.specs.Reading.{IsTaken}
@@ -19,13 +19,13 @@ use Rattle.arj_journal_reader.proofs.Leaves.{number_lacks, space_apart}
 
 -- the number of an event and what a line says
 abbrev pub inner : Form
-inner = word ▸ form_of Body BodyFits body_text
+inner = word ▸ form_of Body BodyInForm body_text
 
 abbrev inner_of : Line → inner.Value
 inner_of l = (record { number = l.event }, l.body)
 
 inner_fits : (l : Line) → LineInForm l → inner.InForm (inner_of l)
-inner_fits l h = (h.0, number_lacks 32 space_apart l.event (omega (arith, h.0.1)), h.1)
+inner_fits l h = (h.0, number_lacks 32 space_apart l.event (omega (arith, h.0)), h.1)
 
 ends_so : (l : Line) → line_text l ≡ inner.text (inner_of l) ++ 10 ∷ []
 ends_so l = sym (append_assoc (decimal l.event) (32 ∷ body_text l.body) (10 ∷ []))

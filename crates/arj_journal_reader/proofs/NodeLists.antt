@@ -6,8 +6,7 @@ use Rattle.std.specs.Fmt.{decimal}
 use Rattle.std.proofs.lemmas.Bool.{and_parts, both_ways, leb-true, or_from}
 use Rattle.std.proofs.lemmas.Fmt.{decimal_injective}
 use Rattle.std.proofs.lemmas.List.{append-nil}
-use Rattle.arj_text.specs.Fields.{has_byte, is_distinct}
-use Rattle.arj_journal.specs.LineForm.{NodesFit}
+use Rattle.arj_text.specs.Fields.{NodesInForm, has_byte, is_distinct}
 use Rattle.arj_text.specs.Words.{behind_comma, decimals, list_text}
 use Rattle.arj_journal_reader.proofs.ByKind.{Once, Lacks, lacks_both}
 use Rattle.arj_journal_reader.proofs.Leaves.{IsApart}
@@ -23,7 +22,7 @@ small n h = let high = leb-true n 16 (and_parts (nat_le 1 n) (nat_le n 16) h).1 
 first_small : (n : ℕ) (ns : List ℕ) → AreNodes (n ∷ ns) → (n < 2 ^ 64) × AreNodes ns
 first_small n ns h = let parts = and_parts (nat_le 1 n && nat_le n 16) (list_all (λ m. nat_le 1 m && nat_le m 16) ns) h in (small n parts.0, parts.1)
 
-are_nodes_of : (ns : List ℕ) → NodesFit ns → AreNodes ns
+are_nodes_of : (ns : List ℕ) → NodesInForm 16 16 ns → AreNodes ns
 are_nodes_of ns h = (and_parts (list_all (λ m. nat_le 1 m && nat_le m 16) ns) (is_distinct ns) (and_parts (nat_le 1 (length ns) && nat_le (length ns) 16) _ h).1).0
 
 more_lack : (k : ℕ) → IsApart k → (ns : List ℕ) → AreNodes ns → has_byte k (flat_map behind_comma (decimals ns)) ≡ false
@@ -38,7 +37,7 @@ list_lacks k apart (n ∷ ns) h =
     let parts = first_small n ns h in
     lacks_both k (decimal n) (flat_map behind_comma (decimals ns)) (digits_only k n apart.digit parts.0) (more_lack k apart ns parts.1)
 
-pub nodes_lack : (k : ℕ) → IsApart k → Lacks k NodesFit list_text
+pub nodes_lack : (k : ℕ) → IsApart k → Lacks k (NodesInForm 16 16) list_text
 nodes_lack k apart ns fits = list_lacks k apart ns (are_nodes_of ns fits)
 
 -- A number ends at the first comma.
@@ -58,10 +57,10 @@ list_once m n (k ∷ ms) (l ∷ ns) hm hn e =
     let rest = list_once k l ms ns here.1 there.1 cuts.1 in
     λ i. first i ∷ rest i
 
-no_nodes : NodesFit [] → ⊥
+no_nodes : NodesInForm 16 16 [] → ⊥
 no_nodes h = both_ways false refl h
 
-pub nodes_once : Once NodesFit list_text
+pub nodes_once : Once (NodesInForm 16 16) list_text
 nodes_once [] ns hm hn e = absurd (no_nodes hm)
 nodes_once (m ∷ ms) [] hm hn e = absurd (no_nodes hn)
 nodes_once (m ∷ ms) (n ∷ ns) hm hn e = list_once m n ms ns (are_nodes_of (m ∷ ms) hm) (are_nodes_of (n ∷ ns) hn) e

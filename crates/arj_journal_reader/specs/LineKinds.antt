@@ -17,13 +17,13 @@ use Rattle.arj_journal.specs.declared.body.Kind.{Kind}
 use Rattle.arj_journal.specs.declared.body.Part.{Part}
 use Rattle.arj_journal.specs.declared.body.Role.{Role}
 use Rattle.arj_journal.specs.declared.body.Which.{Which}
-use Rattle.arj_journal_reader.specs.declared.causes.CauseKind.{CauseKind}
-use Rattle.arj_journal_reader.specs.declared.causes.CauseKind.TheVariants as cause_kind
-use Rattle.arj_journal_reader.specs.declared.causes.DifferenceKind.{DifferenceKind}
-use Rattle.arj_journal_reader.specs.declared.causes.DifferenceKind.TheVariants as difference_kind
+use Rattle.arj_journal.specs.declared.line_kind.CauseKind.{CauseKind}
+use Rattle.arj_journal.specs.declared.line_kind.CauseKind.TheVariants as cause_kind
+use Rattle.arj_journal.specs.declared.line_kind.DifferenceKind.{DifferenceKind}
+use Rattle.arj_journal.specs.declared.line_kind.DifferenceKind.TheVariants as difference_kind
 use Rattle.arj_text.specs.declared.label.Label.{Label}
-use Rattle.arj_journal_reader.specs.declared.line_kind.LineKind.{LineKind}
-use Rattle.arj_journal_reader.specs.declared.line_kind.LineKind.TheVariants as line
+use Rattle.arj_journal.specs.declared.line_kind.LineKind.{LineKind}
+use Rattle.arj_journal.specs.declared.line_kind.LineKind.TheVariants as line
 use Rattle.arj_journal_reader.specs.declared.call.Call.{Call}
 use Rattle.arj_journal_reader.specs.declared.pieces.Hex.{Hex}
 use Rattle.arj_journal_reader.specs.declared.pieces.Node.{Node}
@@ -34,38 +34,39 @@ use Rattle.arj_journal_reader.specs.declared.pieces.Refusal.{Refusal}
 use Rattle.arj_journal_reader.specs.declared.pieces.Sender.{Sender}
 use Rattle.arj_journal_reader.specs.declared.pieces.Version.{Version}
 use Rattle.arj_journal_reader.specs.declared.pieces.Word.{Word}
-use Rattle.arj_text.specs.Fields.{AreBytes, BindingInForm, IsAnswer, IsWithin, OpHasForm}
+use Rattle.arj_text.specs.Fields.{AreBytes, BindingInForm, IsAnswer, IsWithin, NodesInForm, NumberInForm, OpTextInForm, WordInForm}
 use Rattle.arj_journal_reader.specs.Form.{Form, ◌▸◌, kept, Kinds}
-use Rattle.arj_text.specs.Label.{name}
-use Rattle.arj_journal.specs.LineForm.{CauseFits, DifferenceFits, LabelFits, NodeFits, NodesFit, NumberFits, ObjectFits, ParentFits, WordFits, is_junk}
-use Rattle.arj_journal.specs.LineText.{binding_word, conflict_words, frame_text, kind_text, parent_text, part_text, role_text, which_text}
-use Rattle.arj_journal_reader.specs.Spellings.{cause_word, difference_word, line_word}
+use Rattle.arj_text.specs.Label.{LabelInForm, name}
+use Rattle.arj_journal.specs.declared.limits.TheConstants.{NODES, REFUSALS, STORES}
+use Rattle.arj_journal.specs.LineForm.{CauseInForm, DifferenceInForm, NodeInForm, ObjectInForm, ParentInForm, is_junk}
+use Rattle.arj_journal.specs.LineText.{cause_text, difference_text, parent_text}
+use Rattle.arj_journal.specs.LineWords.{cause_word, difference_word, frame_text, kind_text, line_word, part_text, role_text, which_text, yes_text}
 use Rattle.arj_text.specs.Words.{end_text, hex, list_text, mode_text, number_word, op_text}
 
 -- the pieces that are one word
 abbrev pub node : Form
-node = record { Value = Node; InForm = λ n. NodeFits n.number; text = λ n. decimal n.number }
+node = record { Value = Node; InForm = λ n. NodeInForm n.number; text = λ n. decimal n.number }
 
 abbrev pub sender : Form
-sender = record { Value = Sender; InForm = λ n. IsWithin 0 16 n.number; text = λ n. decimal n.number }
+sender = record { Value = Sender; InForm = λ n. IsWithin 0 NODES n.number; text = λ n. decimal n.number }
 
 abbrev pub refusal : Form
-refusal = record { Value = Refusal; InForm = λ n. IsWithin 1 18 n.number; text = λ n. decimal n.number }
+refusal = record { Value = Refusal; InForm = λ n. IsWithin 1 REFUSALS n.number; text = λ n. decimal n.number }
 
 abbrev pub object : Form
-object = record { Value = Object; InForm = λ n. ObjectFits n.number; text = λ n. decimal n.number }
+object = record { Value = Object; InForm = λ n. ObjectInForm n.number; text = λ n. decimal n.number }
 
 abbrev pub word : Form
-word = record { Value = Word; InForm = λ n. WordFits n.number; text = λ n. decimal n.number }
+word = record { Value = Word; InForm = λ n. WordInForm n.number; text = λ n. decimal n.number }
 
 abbrev pub version : Form
-version = record { Value = Version; InForm = λ n. NumberFits n.number; text = λ n. decimal n.number }
+version = record { Value = Version; InForm = λ n. NumberInForm n.number; text = λ n. decimal n.number }
 
 abbrev pub label : Form
-label = record { Value = Label; InForm = LabelFits; text = name }
+label = record { Value = Label; InForm = LabelInForm; text = name }
 
 abbrev pub parent : Form
-parent = record { Value = Parent; InForm = λ p. ParentFits p.label; text = λ p. parent_text p.label }
+parent = record { Value = Parent; InForm = λ p. ParentInForm p.label; text = λ p. parent_text p.label }
 
 abbrev pub uid : Form
 uid = record { Value = Uid; InForm = UidFits; text = uid_text }
@@ -77,7 +78,7 @@ abbrev pub hex_bytes : Form
 hex_bytes = record { Value = Hex; InForm = λ h. AreBytes h.bytes; text = λ h. hex h.bytes }
 
 abbrev pub nodes : Form
-nodes = record { Value = Nodes; InForm = λ ns. NodesFit ns.list; text = λ ns. list_text ns.list }
+nodes = record { Value = Nodes; InForm = λ ns. NodesInForm NODES STORES ns.list; text = λ ns. list_text ns.list }
 
 abbrev pub kind : Form
 kind = record { Value = Kind; InForm = λ _. ⊤; text = kind_text }
@@ -100,10 +101,6 @@ mode = record { Value = Mode; InForm = λ _. ⊤; text = mode_text }
 abbrev pub ending : Form
 ending = record { Value = End; InForm = λ _. ⊤; text = end_text }
 
-abbrev pub yes_text : Bool → List ℕ
-yes_text true = codes "yes"
-yes_text false = codes "no"
-
 abbrev pub yes_no : Form
 yes_no = record { Value = Bool; InForm = λ _. ⊤; text = yes_text }
 
@@ -119,12 +116,8 @@ make_difference difference_kind.Bind v = difference.Bind v.0 v.1
 abbrev pub differences : Kinds
 differences = record { Kind = DifferenceKind; word = difference_word; form = difference_form; Whole = Difference; make = make_difference }
 
-abbrev pub difference_words : Difference → List ℕ
-difference_words (difference.Inc had now) = codes "inc" ++ (number_word had ++ number_word now)
-difference_words (difference.Bind had now) = codes "bind" ++ (binding_word had ++ binding_word now)
-
 abbrev pub difference_piece : Form
-difference_piece = record { Value = Difference; InForm = DifferenceFits; text = difference_words }
+difference_piece = record { Value = Difference; InForm = DifferenceInForm; text = difference_text }
 
 -- Why an action aborted. Two causes are one word, and say nothing more.
 abbrev pub is_one_word : Cause → Bool
@@ -136,9 +129,15 @@ abbrev pub OneWordCause : Cause → Type 0
 OneWordCause c = is_one_word c ≡ true
 
 abbrev pub WordedCause : Cause → Type 0
-WordedCause c = CauseFits c × (is_one_word c ≡ false)
+WordedCause c = CauseInForm c × (is_one_word c ≡ false)
+
+-- nothing stands behind two of the words
+abbrev pub nothing : Form
+nothing = record { Value = ⊥; InForm = λ _. ⊤; text = λ v. absurd v }
 
 abbrev pub cause_form : CauseKind → Form
+cause_form cause_kind.Asked = nothing
+cause_form cause_kind.Doomed = nothing
 cause_form cause_kind.Lost = node
 cause_form cause_kind.Conflict = uid ▸ mode ▸ node
 cause_form cause_kind.Changed = node ▸ difference_piece
@@ -147,6 +146,8 @@ cause_form cause_kind.NoStores = object
 cause_form cause_kind.Listed = object ▸ node
 
 abbrev pub make_cause : (k : CauseKind) → (cause_form k).Value → Cause
+make_cause cause_kind.Asked v = cause.Asked
+make_cause cause_kind.Doomed v = cause.Doomed
 make_cause cause_kind.Lost v = cause.Lost v.number
 make_cause cause_kind.Conflict v = cause.Conflict v.0 v.1.0 v.1.1.number
 make_cause cause_kind.Changed v = cause.Changed v.0.number v.1
@@ -157,22 +158,12 @@ make_cause cause_kind.Listed v = cause.Listed v.0.number v.1.number
 abbrev pub causes : Kinds
 causes = record { Kind = CauseKind; word = cause_word; form = cause_form; Whole = Cause; make = make_cause }
 
-abbrev pub cause_words : Cause → List ℕ
-cause_words cause.Asked = codes "asked"
-cause_words cause.Doomed = codes "doomed"
-cause_words (cause.Lost n) = codes "lost" ++ number_word n
-cause_words (cause.Conflict holder mode n) = conflict_words (codes "conflict") holder (mode_text mode) n
-cause_words (cause.Changed n d) = codes "changed" ++ (number_word n ++ (codes " " ++ difference_words d))
-cause_words (cause.Old n x version) = codes "old" ++ (number_word n ++ (number_word x ++ number_word version))
-cause_words (cause.NoStores x) = codes "nostores" ++ number_word x
-cause_words (cause.Listed x n) = codes "listed" ++ (number_word x ++ number_word n)
-
 abbrev pub cause_piece : Form
-cause_piece = record { Value = Cause; InForm = CauseFits; text = cause_words }
+cause_piece = record { Value = Cause; InForm = CauseInForm; text = cause_text }
 
 -- an operation, ` = `, and the text of its answer
 abbrev pub call : Form
-call = record { Value = Call; InForm = λ c. OpHasForm c.op × IsAnswer c.op c.answer; text = λ c. op_text c.op ++ (codes " = " ++ c.answer) }
+call = record { Value = Call; InForm = λ c. OpTextInForm c.op × IsAnswer c.op c.answer; text = λ c. op_text c.op ++ (codes " = " ++ c.answer) }
 
 -- The lines.
 abbrev pub line_form : LineKind → Form

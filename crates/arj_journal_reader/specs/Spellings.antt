@@ -1,5 +1,5 @@
 -- The words of which a piece of a line may be one: all of each kind, and that each has a word of its own.
-use Rattle.std.specs.Prelude.{◌≡◌, ℕ, List, [], ◌∷◌, codes, find, Some, refl}
+use Rattle.std.specs.Prelude.{◌≡◌, ℕ, List, [], ◌∷◌, find, Some, refl}
 use Rattle.std.specs.Str.{bytes_eq}
 use Rattle.arj_base.specs.declared.mode.Mode.{Mode}
 use Rattle.arj_base.specs.declared.mode.Mode.TheVariants as mode
@@ -15,67 +15,18 @@ use Rattle.arj_journal.specs.declared.body.FrameKind.{FrameKind}
 use Rattle.arj_journal.specs.declared.body.FrameKind.TheVariants as frame
 use Rattle.arj_journal.specs.declared.body.Which.{Which}
 use Rattle.arj_journal.specs.declared.body.Which.TheVariants as which
-use Rattle.arj_journal_reader.specs.declared.line_kind.LineKind.{LineKind}
-use Rattle.arj_journal_reader.specs.declared.line_kind.LineKind.TheVariants as line
-use Rattle.arj_journal_reader.specs.declared.causes.CauseKind.{CauseKind}
-use Rattle.arj_journal_reader.specs.declared.causes.CauseKind.TheVariants as cause
-use Rattle.arj_journal_reader.specs.declared.causes.DifferenceKind.{DifferenceKind}
-use Rattle.arj_journal_reader.specs.declared.causes.DifferenceKind.TheVariants as difference
-use Rattle.arj_journal.specs.LineText.{kind_text, part_text, role_text, frame_text, which_text}
+use Rattle.arj_journal.specs.declared.line_kind.LineKind.{LineKind}
+use Rattle.arj_journal.specs.declared.line_kind.LineKind.TheVariants as line
+use Rattle.arj_journal.specs.declared.line_kind.CauseKind.{CauseKind}
+use Rattle.arj_journal.specs.declared.line_kind.CauseKind.TheVariants as cause
+use Rattle.arj_journal.specs.declared.line_kind.DifferenceKind.{DifferenceKind}
+use Rattle.arj_journal.specs.declared.line_kind.DifferenceKind.TheVariants as difference
+use Rattle.arj_journal.specs.LineWords.{cause_word, difference_word, frame_text, kind_text, line_word, part_text, role_text, which_text}
 use Rattle.arj_text.specs.Words.{mode_text, end_text}
 
 -- Each of them is found by its word.
 abbrev pub IsKnown : {K : Type 0} → (K → List ℕ) → List K → Type 0
 IsKnown {K} word every = (k : K) → find (λ j. bytes_eq (word j) (word k)) every ≡ Some k
-
--- the first words of lines
-abbrev pub line_word : LineKind → List ℕ
-line_word line.Began = codes "began"
-line_word line.Ok = codes "ok"
-line_word line.Includes = codes "includes"
-line_word line.Conflict = codes "conflict"
-line_word line.Lost = codes "lost"
-line_word line.Changed = codes "changed"
-line_word line.Committing = codes "committing"
-line_word line.Committed = codes "committed"
-line_word line.Ended = codes "ended"
-line_word line.Aborted = codes "aborted"
-line_word line.GaveUp = codes "gaveup"
-line_word line.Excluded = codes "excluded"
-line_word line.Granted = codes "granted"
-line_word line.Lowered = codes "lowered"
-line_word line.Bound = codes "bound"
-line_word line.Active = codes "active"
-line_word line.Told = codes "told"
-line_word line.Prepared = codes "prepared"
-line_word line.Done = codes "done"
-line_word line.Sent = codes "sent"
-line_word line.Got = codes "got"
-line_word line.Void = codes "void"
-line_word line.Dropped = codes "dropped"
-line_word line.Halted = codes "halted"
-line_word line.Up = codes "up"
-line_word line.Armed = codes "armed"
-line_word line.Recovered = codes "recovered"
-line_word line.Refused = codes "refused"
-line_word line.Entry = codes "entry"
-line_word line.Copy = codes "copy"
-line_word line.Quiet = codes "quiet"
-line_word line.Bad = codes "bad"
-line_word line.Limit = codes "limit"
-
--- the first words of causes and of differences
-abbrev pub cause_word : CauseKind → List ℕ
-cause_word cause.Lost = codes "lost"
-cause_word cause.Conflict = codes "conflict"
-cause_word cause.Changed = codes "changed"
-cause_word cause.Old = codes "old"
-cause_word cause.NoStores = codes "nostores"
-cause_word cause.Listed = codes "listed"
-
-abbrev pub difference_word : DifferenceKind → List ℕ
-difference_word difference.Inc = codes "inc"
-difference_word difference.Bind = codes "bind"
 
 abbrev pub kinds : List Kind
 kinds = kind.Top ∷ kind.Nested ∷ kind.Independent ∷ kind.Serial ∷ kind.Constituent ∷ []
@@ -136,9 +87,11 @@ known_limits which.Labels = refl
 known_limits which.Frames = refl
 
 abbrev pub cause_kinds : List CauseKind
-cause_kinds = cause.Lost ∷ cause.Conflict ∷ cause.Changed ∷ cause.Old ∷ cause.NoStores ∷ cause.Listed ∷ []
+cause_kinds = cause.Asked ∷ cause.Doomed ∷ cause.Lost ∷ cause.Conflict ∷ cause.Changed ∷ cause.Old ∷ cause.NoStores ∷ cause.Listed ∷ []
 
 pub known_cause_kinds : IsKnown cause_word cause_kinds
+known_cause_kinds cause.Asked = refl
+known_cause_kinds cause.Doomed = refl
 known_cause_kinds cause.Lost = refl
 known_cause_kinds cause.Conflict = refl
 known_cause_kinds cause.Changed = refl

@@ -4,10 +4,10 @@ ghost use Rattle.arj_journal_reader.specs.LineKinds.{lines};
 
 use crate::LineFault;
 use crate::call::Call;
-use crate::line_kind::LineKind;
 use crate::piece::Piece;
 use crate::pieces::{Node, Object, Parent};
 use arj_base::{Mode, Uid};
+use arj_journal::line_kind::LineKind;
 use arj_journal::{Body, Cause, Difference, Kind, Label};
 use std::alloc::Global;
 

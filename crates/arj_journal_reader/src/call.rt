@@ -1,6 +1,6 @@
 // Operations with their answers.
 ghost use Rattle.std.specs.Prelude.{◌≡◌, ◌∷◌, ◌++◌, codes, false, MatchOption};
-ghost use Rattle.arj_text.specs.Fields.{IsAnswer, OpHasForm, has_space};
+ghost use Rattle.arj_text.specs.Fields.{IsAnswer, OpTextInForm, has_space};
 ghost use Rattle.arj_journal_reader.specs.Reading.{IsTaken};
 ghost use Rattle.arj_text.specs.Words.{op_text};
 
@@ -19,7 +19,7 @@ pub struct Call {
 }
 
 impl Piece for Call {
-    ghost in_form = { λ c. OpHasForm c.op × IsAnswer c.op c.answer };
+    ghost in_form = { λ c. OpTextInForm c.op × IsAnswer c.op c.answer };
 
     ghost text = { λ c. op_text c.op ++ (codes " = " ++ c.answer) };
 

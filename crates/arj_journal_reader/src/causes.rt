@@ -1,90 +1,24 @@
 // Why actions aborted, and what was had and is there now.
 ghost use Rattle.arj_journal_reader.specs.Form.{IsOfKind};
-ghost use Rattle.arj_journal.specs.LineForm.{CauseFits, DifferenceFits};
-ghost use Rattle.arj_journal_reader.specs.LineKinds.{OneWordCause, cause_words, causes, difference_words, differences};
+ghost use Rattle.arj_journal.specs.LineForm.{CauseInForm, DifferenceInForm};
+ghost use Rattle.arj_journal.specs.LineText.{cause_text, difference_text};
+ghost use Rattle.arj_journal_reader.specs.LineKinds.{OneWordCause, causes, differences};
 ghost use Rattle.arj_journal_reader.specs.Reading.{IsTaken};
-ghost use Rattle.arj_journal_reader.specs.Spellings.{cause_kinds, cause_word, difference_kinds, difference_word, known_cause_kinds, known_difference_kinds};
 
 use crate::LineFault;
 use crate::piece::Piece;
 use crate::pieces::{Node, Object, Version, Word};
-use crate::spelled::{Spelled, one_of};
+use crate::spelled::one_of;
 use arj_base::{Binding, Mode, Uid};
+use arj_journal::line_kind::{CauseKind, DifferenceKind};
 use arj_journal::{Cause, Difference};
 use arj_text::field::{cut, is_text};
 use std::alloc::Global;
 
-/// What differs.
-#[derive(Clone, Copy, Debug, PartialEq, Eq)]
-pub enum DifferenceKind {
-    Inc,
-    Bind,
-}
-
-impl Spelled for DifferenceKind {
-    ghost spelling = { difference_word };
-
-    ghost kinds = { difference_kinds };
-
-    fn all() -> &'static [DifferenceKind] {
-        &[DifferenceKind::Inc, DifferenceKind::Bind]
-    }
-
-    fn word(self) -> &'static [u8] {
-        match self {
-            DifferenceKind::Inc => b"inc",
-            DifferenceKind::Bind => b"bind",
-        }
-    }
-
-    ghost known = { known_difference_kinds };
-}
-
-/// The causes of an abort that say more than one word.
-#[derive(Clone, Copy, Debug, PartialEq, Eq)]
-pub enum CauseKind {
-    Lost,
-    Conflict,
-    Changed,
-    Old,
-    NoStores,
-    Listed,
-}
-
-impl Spelled for CauseKind {
-    ghost spelling = { cause_word };
-
-    ghost kinds = { cause_kinds };
-
-    fn all() -> &'static [CauseKind] {
-        &[
-            CauseKind::Lost,
-            CauseKind::Conflict,
-            CauseKind::Changed,
-            CauseKind::Old,
-            CauseKind::NoStores,
-            CauseKind::Listed,
-        ]
-    }
-
-    fn word(self) -> &'static [u8] {
-        match self {
-            CauseKind::Lost => b"lost",
-            CauseKind::Conflict => b"conflict",
-            CauseKind::Changed => b"changed",
-            CauseKind::Old => b"old",
-            CauseKind::NoStores => b"nostores",
-            CauseKind::Listed => b"listed",
-        }
-    }
-
-    ghost known = { known_cause_kinds };
-}
-
 impl Piece for Difference {
-    ghost in_form = { DifferenceFits };
+    ghost in_form = { DifferenceInForm };
 
-    ghost text = { difference_words };
+    ghost text = { difference_text };
 
     fn read(alloc: Global, bytes: &[u8]) -> Result<Difference, LineFault> {
         let Some((word, fields)) = cut(bytes, b' ') else {
@@ -129,9 +63,9 @@ fn bindings(alloc: Global, fields: &[u8]) -> Result<Difference, LineFault>
 }
 
 impl Piece for Cause {
-    ghost in_form = { CauseFits };
+    ghost in_form = { CauseInForm };
 
-    ghost text = { cause_words };
+    ghost text = { cause_text };
 
     fn read(alloc: Global, bytes: &[u8]) -> Result<Cause, LineFault> {
         let Some((word, fields)) = cut(bytes, b' ') else {
@@ -144,22 +78,23 @@ impl Piece for Cause {
 
 // A cause that is one word.
 fn one_word_cause(bytes: &[u8]) -> Result<Cause, LineFault>
-    ensures { IsTaken OneWordCause cause_words bytes.now result }
+    ensures { IsTaken OneWordCause cause_text bytes.now result }
 {
-    if is_text(bytes, b"asked") {
+    if is_text(bytes, CauseKind::Asked.word()) {
         return Ok(Cause::Asked);
     }
-    if is_text(bytes, b"doomed") {
+    if is_text(bytes, CauseKind::Doomed.word()) {
         return Ok(Cause::Doomed);
     }
     Err(LineFault::NotALine)
 }
 
-// What stands behind the first word of a cause.
+// What stands behind the first word of a cause. Behind two there is nothing.
 fn cause_of_kind(kind: CauseKind, alloc: Global, fields: &[u8]) -> Result<Cause, LineFault>
     ensures { IsOfKind causes kind fields.now result }
 {
     match kind {
+        CauseKind::Asked | CauseKind::Doomed => Err(LineFault::NotALine),
         CauseKind::Lost => lost(alloc, fields),
         CauseKind::Conflict => conflict(alloc, fields),
         CauseKind::Changed => changed(alloc, fields),

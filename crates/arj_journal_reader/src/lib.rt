@@ -11,7 +11,6 @@ mod call;
 mod causes;
 mod fault;
 mod law;
-mod line_kind;
 mod node_lines;
 mod piece;
 mod pieces;

@@ -5,10 +5,10 @@ ghost use Rattle.arj_journal.specs.LineForm.{is_junk};
 ghost use Rattle.arj_journal_reader.specs.LineKinds.{lines};
 
 use crate::LineFault;
-use crate::line_kind::LineKind;
 use crate::piece::Piece;
 use crate::pieces::{Hex, Node, Nodes, Object, Refusal, Sender, Version, Word};
 use arj_base::{Binding, End, Mode, Uid};
+use arj_journal::line_kind::LineKind;
 use arj_journal::{Body, FrameKind, Part, Role, Which};
 use std::alloc::Global;
 

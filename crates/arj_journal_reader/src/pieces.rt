@@ -2,16 +2,19 @@
 ghost use Rattle.std.specs.Prelude.{⊤};
 ghost use Rattle.std.specs.Fmt.{decimal};
 ghost use Rattle.arj_base.specs.Uid.{UidFits, binding_text, uid_text};
-ghost use Rattle.arj_text.specs.Fields.{AreBytes, BindingInForm, IsWithin};
-ghost use Rattle.arj_text.specs.Label.{name};
-ghost use Rattle.arj_journal.specs.LineForm.{LabelFits, NodeFits, NodesFit, NumberFits, ObjectFits, ParentFits, WordFits};
-ghost use Rattle.arj_journal_reader.specs.LineKinds.{yes_text};
+ghost use Rattle.arj_text.specs.Fields.{AreBytes, BindingInForm, IsWithin, NodesInForm, NumberInForm, WordInForm};
+ghost use Rattle.arj_text.specs.Label.{LabelInForm, name};
+ghost use Rattle.arj_journal.specs.LineForm.{NodeInForm, ObjectInForm, ParentInForm};
 ghost use Rattle.arj_journal.specs.LineText.{parent_text};
+ghost use Rattle.arj_journal.specs.LineWords.{yes_text};
 ghost use Rattle.arj_text.specs.Words.{hex, list_text};
+ghost use Rattle.arj_journal.specs.declared.limits.TheConstants.{NODES, OBJECTS, REFUSALS, STORES};
 
 use crate::LineFault;
 use crate::piece::{Piece, taken};
 use arj_base::{Binding, Bytes, NodeList, Uid};
+use arj_journal::words::yes_word;
+use arj_journal::{NODES, OBJECTS, REFUSALS, STORES};
 use arj_text::field::{is_text, label_of, number};
 use arj_text::field_list::nodes;
 use arj_text::{Label, field_hex, field_uid};
@@ -24,12 +27,12 @@ pub struct Node {
 }
 
 impl Piece for Node {
-    ghost in_form = { λ n. NodeFits n.number };
+    ghost in_form = { λ n. NodeInForm n.number };
 
     ghost text = { λ n. decimal n.number };
 
     fn read(alloc: Global, bytes: &[u8]) -> Result<Node, LineFault> {
-        let number = taken(number(alloc, bytes, 1, 16)?)? as u8;
+        let number = taken(number(alloc, bytes, 1, NODES)?)? as u8;
         Ok(Node { number })
     }
 }
@@ -41,12 +44,12 @@ pub struct Sender {
 }
 
 impl Piece for Sender {
-    ghost in_form = { λ n. IsWithin 0 16 n.number };
+    ghost in_form = { λ n. IsWithin 0 NODES n.number };
 
     ghost text = { λ n. decimal n.number };
 
     fn read(alloc: Global, bytes: &[u8]) -> Result<Sender, LineFault> {
-        let number = taken(number(alloc, bytes, 0, 16)?)? as u8;
+        let number = taken(number(alloc, bytes, 0, NODES)?)? as u8;
         Ok(Sender { number })
     }
 }
@@ -58,12 +61,12 @@ pub struct Refusal {
 }
 
 impl Piece for Refusal {
-    ghost in_form = { λ n. IsWithin 1 18 n.number };
+    ghost in_form = { λ n. IsWithin 1 REFUSALS n.number };
 
     ghost text = { λ n. decimal n.number };
 
     fn read(alloc: Global, bytes: &[u8]) -> Result<Refusal, LineFault> {
-        let number = taken(number(alloc, bytes, 1, 18)?)? as u8;
+        let number = taken(number(alloc, bytes, 1, REFUSALS)?)? as u8;
         Ok(Refusal { number })
     }
 }
@@ -75,12 +78,12 @@ pub struct Object {
 }
 
 impl Piece for Object {
-    ghost in_form = { λ n. ObjectFits n.number };
+    ghost in_form = { λ n. ObjectInForm n.number };
 
     ghost text = { λ n. decimal n.number };
 
     fn read(alloc: Global, bytes: &[u8]) -> Result<Object, LineFault> {
-        let number = taken(number(alloc, bytes, 1, 256)?)? as u16;
+        let number = taken(number(alloc, bytes, 1, OBJECTS)?)? as u16;
         Ok(Object { number })
     }
 }
@@ -92,7 +95,7 @@ pub struct Word {
 }
 
 impl Piece for Word {
-    ghost in_form = { λ n. WordFits n.number };
+    ghost in_form = { λ n. WordInForm n.number };
 
     ghost text = { λ n. decimal n.number };
 
@@ -109,7 +112,7 @@ pub struct Version {
 }
 
 impl Piece for Version {
-    ghost in_form = { λ n. NumberFits n.number };
+    ghost in_form = { λ n. NumberInForm n.number };
 
     ghost text = { λ n. decimal n.number };
 
@@ -120,7 +123,7 @@ impl Piece for Version {
 }
 
 impl Piece for Label {
-    ghost in_form = { LabelFits };
+    ghost in_form = { LabelInForm };
 
     ghost text = { name };
 
@@ -136,7 +139,7 @@ pub struct Parent {
 }
 
 impl Piece for Parent {
-    ghost in_form = { λ p. ParentFits p.label };
+    ghost in_form = { λ p. ParentInForm p.label };
 
     ghost text = { λ p. parent_text p.label };
 
@@ -193,12 +196,12 @@ pub struct Nodes {
 }
 
 impl Piece for Nodes {
-    ghost in_form = { λ ns. NodesFit ns.list };
+    ghost in_form = { λ ns. NodesInForm NODES STORES ns.list };
 
     ghost text = { λ ns. list_text ns.list };
 
     fn read(alloc: Global, bytes: &[u8]) -> Result<Nodes, LineFault> {
-        let list = taken(nodes(alloc, bytes, 16, 16)?)?;
+        let list = taken(nodes(alloc, bytes, NODES as u8, STORES)?)?;
         Ok(Nodes { list })
     }
 }
@@ -209,10 +212,10 @@ impl Piece for bool {
     ghost text = { yes_text };
 
     fn read(_alloc: Global, bytes: &[u8]) -> Result<bool, LineFault> {
-        if is_text(bytes, b"yes") {
+        if is_text(bytes, yes_word(true)) {
             return Ok(true);
         }
-        if is_text(bytes, b"no") {
+        if is_text(bytes, yes_word(false)) {
             return Ok(false);
         }
         Err(LineFault::NotALine)

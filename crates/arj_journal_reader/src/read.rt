@@ -3,16 +3,16 @@ ghost use Rattle.std.specs.Prelude.{◌≡◌, ◌≢◌, IfOk, IsErrOf, MatchRe
 ghost use Rattle.arj_journal.specs.declared.body.Line.{Line as line_type};
 ghost use Rattle.arj_journal_reader.specs.declared.fault.LineFault.TheVariants as line_fault;
 ghost use Rattle.arj_journal_reader.specs.Form.{IsOfKind};
-ghost use Rattle.arj_journal.specs.LineForm.{BodyFits, LineInForm};
+ghost use Rattle.arj_journal.specs.LineForm.{BodyInForm, LineInForm};
 ghost use Rattle.arj_journal_reader.specs.LineKinds.{lines};
 ghost use Rattle.arj_journal.specs.LineText.{body_text, line_text as text_of_line};
 ghost use Rattle.arj_journal_reader.specs.Reading.{IsTaken};
 
-use crate::line_kind::LineKind;
 use crate::piece::{Piece, before};
 use crate::pieces::Word;
 use crate::spelled::one_of;
 use crate::{LineFault, action_lines, node_lines};
+use arj_journal::line_kind::LineKind;
 use arj_journal::{Body, Line};
 use arj_text::field::cut;
 use std::alloc::Global;
@@ -41,7 +41,7 @@ fn line(alloc: Global, bytes: &[u8]) -> Result<Line, LineFault>
 }
 
 impl Piece for Body {
-    ghost in_form = { BodyFits };
+    ghost in_form = { BodyInForm };
 
     ghost text = { body_text };
 

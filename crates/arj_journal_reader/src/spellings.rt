@@ -1,17 +1,109 @@
-// The words of kinds, parts, roles, modes, ends, frames and limits.
+// The words of lines, causes, differences, kinds, parts, roles, modes, ends, frames and limits.
 ghost use Rattle.std.specs.Prelude.{⊤};
-ghost use Rattle.arj_journal.specs.LineText.{frame_text, kind_text, part_text, role_text, which_text};
-ghost use Rattle.arj_journal_reader.specs.Spellings.{ends, frame_kinds, kinds as kinds_of_action, known_ends, known_frame_kinds, known_kinds, known_limits, known_modes, known_parts, known_roles, limits, modes, parts, roles};
+ghost use Rattle.arj_journal.specs.LineWords.{cause_word, difference_word, frame_text, kind_text, line_word, part_text, role_text, which_text};
+ghost use Rattle.arj_journal_reader.specs.Spellings.{cause_kinds, difference_kinds, ends, frame_kinds, kinds as kinds_of_action, known_cause_kinds, known_difference_kinds, known_ends, known_frame_kinds, known_kinds, known_limits, known_line_kinds, known_modes, known_parts, known_roles, limits, line_kinds, modes, parts, roles};
 ghost use Rattle.arj_text.specs.Words.{end_text, mode_text};
 
 use crate::LineFault;
 use crate::piece::Piece;
 use crate::spelled::{Spelled, one_of};
 use arj_base::{End, Mode};
+use arj_journal::line_kind::{CauseKind, DifferenceKind, LineKind};
 use arj_journal::words::{frame_word, kind_word, part_word, role_word, which_word};
 use arj_journal::{FrameKind, Kind, Part, Role, Which};
 use arj_text::words::{end_word, mode_word};
 use std::alloc::Global;
+
+impl Spelled for LineKind {
+    ghost spelling = { line_word };
+
+    ghost kinds = { line_kinds };
+
+    fn all() -> &'static [LineKind] {
+        &[
+            LineKind::Began,
+            LineKind::Ok,
+            LineKind::Includes,
+            LineKind::Conflict,
+            LineKind::Lost,
+            LineKind::Changed,
+            LineKind::Committing,
+            LineKind::Committed,
+            LineKind::Ended,
+            LineKind::Aborted,
+            LineKind::GaveUp,
+            LineKind::Excluded,
+            LineKind::Granted,
+            LineKind::Lowered,
+            LineKind::Bound,
+            LineKind::Active,
+            LineKind::Told,
+            LineKind::Prepared,
+            LineKind::Done,
+            LineKind::Sent,
+            LineKind::Got,
+            LineKind::Void,
+            LineKind::Dropped,
+            LineKind::Halted,
+            LineKind::Up,
+            LineKind::Armed,
+            LineKind::Recovered,
+            LineKind::Refused,
+            LineKind::Entry,
+            LineKind::Copy,
+            LineKind::Quiet,
+            LineKind::Bad,
+            LineKind::Limit,
+        ]
+    }
+
+    fn word(self) -> &'static [u8] {
+        self.word()
+    }
+
+    ghost known = { known_line_kinds };
+}
+
+impl Spelled for CauseKind {
+    ghost spelling = { cause_word };
+
+    ghost kinds = { cause_kinds };
+
+    fn all() -> &'static [CauseKind] {
+        &[
+            CauseKind::Asked,
+            CauseKind::Doomed,
+            CauseKind::Lost,
+            CauseKind::Conflict,
+            CauseKind::Changed,
+            CauseKind::Old,
+            CauseKind::NoStores,
+            CauseKind::Listed,
+        ]
+    }
+
+    fn word(self) -> &'static [u8] {
+        self.word()
+    }
+
+    ghost known = { known_cause_kinds };
+}
+
+impl Spelled for DifferenceKind {
+    ghost spelling = { difference_word };
+
+    ghost kinds = { difference_kinds };
+
+    fn all() -> &'static [DifferenceKind] {
+        &[DifferenceKind::Inc, DifferenceKind::Bind]
+    }
+
+    fn word(self) -> &'static [u8] {
+        self.word()
+    }
+
+    ghost known = { known_difference_kinds };
+}
 
 impl Spelled for Kind {
     ghost spelling = { kind_text };

@@ -4,7 +4,7 @@ use Rattle.std.specs.Fmt.{decimal}
 use Rattle.std.proofs.lemmas.Bool.{both_ways}
 use Rattle.arj_journal.specs.declared.event.Event.{Event}
 use Rattle.arj_journal.specs.declared.event.Event.TheVariants as event
-use Rattle.arj_text.specs.Fields.{IsRead, ObjectInForm, WordInForm, behind}
+use Rattle.arj_text.specs.Fields.{IsRead, ShortInForm, WordInForm, behind}
 use Rattle.arj_text.specs.Label.{LabelInForm, name}
 use Rattle.arj_journal.specs.ScriptText.{event_text}
 use Rattle.arj_script.specs.Events.{CallInForm, IncludeInForm, IsBeginning, IsOutside, IsWorking, JunkInForm, LabelAtInForm, LabelInLabel, StopInForm, call_text, include_text, junk_text, label_at_text, label_in_text, stop_text}
@@ -30,7 +30,7 @@ no_working bytes calls includes commits aborts giveups = λ e h same. cases e h 
     cases (event.GiveUp l) h same = giveups l h.0 same
     cases _ h same = both_ways false refl h.1
 
-pub no_outside : (bytes : List ℕ) → IsRead WordInForm (behind (codes "crash ") decimal) bytes None → IsRead WordInForm (behind (codes "restart ") decimal) bytes None → IsRead StopInForm stop_text bytes None → IsRead JunkInForm junk_text bytes None → IsRead ObjectInForm (behind (codes "show ") decimal) bytes None → IsRead IsOutside event_text bytes None
+pub no_outside : (bytes : List ℕ) → IsRead WordInForm (behind (codes "crash ") decimal) bytes None → IsRead WordInForm (behind (codes "restart ") decimal) bytes None → IsRead StopInForm stop_text bytes None → IsRead JunkInForm junk_text bytes None → IsRead ShortInForm (behind (codes "show ") decimal) bytes None → IsRead IsOutside event_text bytes None
 no_outside bytes crashes restarts stops junks shows = λ e h same. cases e h same
   where
     cases : (e : Event) → IsOutside e → bytes ≢ event_text e

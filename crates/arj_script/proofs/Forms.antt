@@ -8,14 +8,15 @@ use Rattle.arj_text.specs.Fields.{IsRead}
 use Rattle.arj_journal.specs.ScriptText.{object_text}
 use Rattle.arj_text.specs.Words.{list_text, value_text}
 use Rattle.arj_text.proofs.Texts.{cut_once, digits_only, same_rest}
-use Rattle.arj_script.specs.Grammar.{ObjectHasForm, has_object}
+use Rattle.arj_journal.specs.ScriptForm.{ObjectLineInForm}
+use Rattle.arj_script.specs.Grammar.{has_object}
 
 -- what stands behind the number of an object line
 abbrev fields_of : ObjectLine → List ℕ
 fields_of o = value_text o.value ++ (codes " servers " ++ (list_text o.servers ++ (codes " stores " ++ list_text o.stores)))
 
 -- An object line declares one number.
-pub same_number : (n : ℕ) (o p : ObjectLine) → ObjectHasForm n o → ObjectHasForm n p → object_text o ≡ object_text p → o.x ≡ p.x
+pub same_number : (n : ℕ) (o p : ObjectLine) → ObjectLineInForm n o → ObjectLineInForm n p → object_text o ≡ object_text p → o.x ≡ p.x
 same_number n o p o_form p_form same =
     let ox : o.x ≤ 256 = o_form.number.1 in
     let px : p.x ≤ 256 = p_form.number.1 in
@@ -26,6 +27,6 @@ same_number n o p o_form p_form same =
     decimal_injective o.x p.x o_small p_small cuts.0
 
 -- An object whose number was declared fits nowhere.
-pub declared_twice : (n : ℕ) (bytes : List ℕ) (os : List ObjectLine) (o p : ObjectLine) → IsRead (ObjectHasForm n) object_text bytes (Some o) → has_object o.x os ≡ true → ObjectHasForm n p → has_object p.x os ≡ false → bytes ≢ object_text p
+pub declared_twice : (n : ℕ) (bytes : List ℕ) (os : List ObjectLine) (o p : ObjectLine) → IsRead (ObjectLineInForm n) object_text bytes (Some o) → has_object o.x os ≡ true → ObjectLineInForm n p → has_object p.x os ≡ false → bytes ≢ object_text p
 declared_twice n bytes os o p read there fits free same =
     both_ways (has_object p.x os) free (subst (λ x. has_object x os ≡ true) (same_number n o p read.0 fits (sym read.1 ∙ same)) there)

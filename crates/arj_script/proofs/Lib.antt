@@ -1,4 +1,5 @@
-pub mod Lines
 pub mod Events
 pub mod Forms
+pub mod Headers
+pub mod Lines
 pub mod Places

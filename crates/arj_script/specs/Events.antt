@@ -1,15 +1,16 @@
 -- The events by what they are about, and the parts of their texts.
-use Rattle.std.specs.Prelude.{◌≡◌, ◌≤◌, ℕ, List, ◌++◌, codes, Bool, true, false}
+use Rattle.std.specs.Prelude.{◌≡◌, ℕ, List, ◌++◌, codes, Bool, true, false}
 use Rattle.std.specs.Fmt.{decimal}
 use Rattle.arj_journal.specs.declared.event.Event.{Event}
 use Rattle.arj_journal.specs.declared.event.Event.TheVariants as event
 use Rattle.arj_text.specs.declared.label.Label.{Label}
 use Rattle.arj_class.specs.declared.op.Op.{Op}
 use Rattle.arj_journal.specs.declared.event.StopKind.{StopKind}
+use Rattle.arj_journal.specs.declared.limits.TheConstants.{STOP_CALLS}
+use Rattle.arj_journal.specs.ScriptForm.{EventInForm, StopKindInForm}
 use Rattle.arj_journal.specs.ScriptText.{event_text}
-use Rattle.arj_text.specs.Fields.{AreBytes, ObjectInForm, OpHasForm, WordInForm}
+use Rattle.arj_text.specs.Fields.{AreBytes, IsWithin, ShortInForm, OpTextInForm, WordInForm}
 use Rattle.arj_text.specs.Label.{LabelInForm, name}
-use Rattle.arj_script.specs.Grammar.{EventHasForm, StopKindHasForm}
 
 -- actions begin
 abbrev pub is_beginning : Event → Bool
@@ -47,16 +48,16 @@ is_outside (event.Show x) = true
 is_outside _ = false
 
 abbrev pub IsBeginning : Event → Type 0
-IsBeginning e = EventHasForm e × (is_beginning e ≡ true)
+IsBeginning e = EventInForm e × (is_beginning e ≡ true)
 
 abbrev pub IsWorking : Event → Type 0
-IsWorking e = EventHasForm e × (is_working e ≡ true)
+IsWorking e = EventInForm e × (is_working e ≡ true)
 
 abbrev pub IsPassing : Event → Type 0
-IsPassing e = EventHasForm e × (is_passing e ≡ true)
+IsPassing e = EventInForm e × (is_passing e ≡ true)
 
 abbrev pub IsOutside : Event → Type 0
-IsOutside e = EventHasForm e × (is_outside e ≡ true)
+IsOutside e = EventInForm e × (is_outside e ≡ true)
 
 -- a label and a node behind a front, and two labels
 abbrev pub LabelAtInForm : Label × ℕ → Type 0
@@ -73,19 +74,19 @@ label_in_text front p = front ++ (name p.0 ++ (codes " in " ++ name p.1))
 
 -- what stands behind the first word of a call, an include, a stop and a junk frame
 abbrev pub CallInForm : Label × ℕ × Op → Type 0
-CallInForm p = LabelInForm p.0 × ObjectInForm p.1 × OpHasForm p.2
+CallInForm p = LabelInForm p.0 × ShortInForm p.1 × OpTextInForm p.2
 
 abbrev pub call_text : Label × ℕ × Op → List ℕ
 call_text p = event_text (event.Call p.0 p.1 p.2)
 
 abbrev pub IncludeInForm : Label × ℕ × ℕ → Type 0
-IncludeInForm p = LabelInForm p.0 × ObjectInForm p.1 × WordInForm p.2
+IncludeInForm p = LabelInForm p.0 × ShortInForm p.1 × WordInForm p.2
 
 abbrev pub include_text : Label × ℕ × ℕ → List ℕ
 include_text p = event_text (event.Include p.0 p.1 p.2)
 
 abbrev pub StopInForm : ℕ × ℕ × StopKind → Type 0
-StopInForm p = WordInForm p.0 × ((1 ≤ p.1) × (p.1 ≤ 1000000)) × StopKindHasForm p.2
+StopInForm p = WordInForm p.0 × IsWithin 1 STOP_CALLS p.1 × StopKindInForm p.2
 
 abbrev pub stop_text : ℕ × ℕ × StopKind → List ℕ
 stop_text p = event_text (event.Stop p.0 p.1 p.2)

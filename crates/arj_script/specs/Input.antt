@@ -2,8 +2,10 @@
 use Rattle.std.specs.Prelude.{◌≡◌, ℕ, List, [], ◌∷◌, ◌++◌, length, ⊤, Bool, ◌==◌, ◌||◌, nat_lt, if◌then◌else◌}
 use Rattle.std.specs.List.{list_any}
 use Rattle.arj_journal.specs.declared.event.Event.{Event}
+use Rattle.arj_journal.specs.ScriptForm.{HeaderInForm}
 use Rattle.arj_script.specs.declared.reader.Item.{Item}
 use Rattle.arj_script.specs.declared.reader.Item.TheVariants as item
+use Rattle.arj_script.specs.declared.limits.TheConstants.{LINE_BYTES, SCRIPT_LINES}
 use Rattle.arj_script.specs.Grammar.{Form, Blank, Nodes, Object, Run, Asks, Place, Objects}
 
 -- Lines that a line feed ends; what stands behind the last line feed. `front` is what has come of the line in hand.
@@ -21,13 +23,13 @@ ended_lines bytes = ended_from [] bytes
 abbrev pub rest_line : List ℕ → List ℕ
 rest_line bytes = rest_from [] bytes
 
--- a line of more than 200 bytes
+-- a line of more bytes than a line may have
 abbrev pub is_too_long : List ℕ → Bool
-is_too_long line = nat_lt 200 (length line)
+is_too_long line = nat_lt LINE_BYTES (length line)
 
--- Reading need not go on: a line is too long, or the line past the 100,000th has ended.
+-- Reading need not go on: a line is too long, or the line past the last that a script may have has ended.
 abbrev pub is_enough : List ℕ → Bool
-is_enough bytes = nat_lt 100000 (length (ended_lines bytes)) || (list_any is_too_long (ended_lines bytes) || is_too_long (rest_line bytes))
+is_enough bytes = nat_lt SCRIPT_LINES (length (ended_lines bytes)) || (list_any is_too_long (ended_lines bytes) || is_too_long (rest_line bytes))
 
 -- How the reading of the source ended: at the input's end, at a read that failed, or because it need not go on.
 pub data Stopped : Type 0 where
@@ -54,6 +56,11 @@ events_of (Blank ∷ forms) = events_of forms
 events_of (Nodes n ∷ forms) = events_of forms
 events_of (Object o ∷ forms) = events_of forms
 events_of (Run ∷ forms) = events_of forms
+
+-- A header that the reader tells of is in form.
+abbrev pub TellsInForm : Item → Type 0
+TellsInForm (item.Run header) = HeaderInForm header
+TellsInForm _ = ⊤
 
 -- What the reader tells of a form at its place.
 abbrev pub Tells : Place → Form → Item → Type 0

@@ -3,7 +3,7 @@ ghost use Rattle.std.specs.Prelude.{IfOk};
 ghost use Rattle.arj_journal.specs.ScriptText.{event_text};
 ghost use Rattle.arj_text.specs.Fields.{IsRead};
 ghost use Rattle.arj_script.specs.Events.{IsBeginning, IsOutside, IsPassing, IsWorking};
-ghost use Rattle.arj_script.specs.Grammar.{EventHasForm};
+ghost use Rattle.arj_journal.specs.ScriptForm.{EventInForm};
 
 use crate::event_part::{
     call, frame_behind, include, junk, label_at, label_behind, label_in, object_behind, stop,
@@ -15,7 +15,7 @@ use std::alloc::{AllocError, Global};
 
 /// Any event.
 pub fn event(alloc: Global, bytes: &[u8]) -> Result<Option<Event>, AllocError>
-    ensures { IfOk result (λ found. IsRead EventHasForm event_text bytes.now found) }
+    ensures { IfOk result (λ found. IsRead EventInForm event_text bytes.now found) }
 {
     if let Some(event) = beginning(alloc, bytes)? {
         return Ok(Some(event));

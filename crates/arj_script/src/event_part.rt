@@ -1,16 +1,16 @@
 // What stands behind the first word of an event.
 ghost use Rattle.std.specs.Prelude.{IfOk};
 ghost use Rattle.std.specs.Fmt.{decimal};
-ghost use Rattle.arj_text.specs.Fields.{IsRead, ObjectInForm, WordInForm, behind};
+ghost use Rattle.arj_text.specs.Fields.{IsRead, ShortInForm, WordInForm, behind};
 ghost use Rattle.arj_text.specs.Label.{LabelInForm, name};
 ghost use Rattle.arj_journal.specs.ScriptText.{frame_no_text, stop_kind_text};
 ghost use Rattle.arj_script.specs.Events.{LabelAtInForm, LabelInLabel, label_at_text, label_in_text};
 ghost use Rattle.arj_script.specs.Events.{CallInForm, IncludeInForm, JunkInForm, StopInForm, call_text, include_text, junk_text, stop_text};
-ghost use Rattle.arj_script.specs.Grammar.{FrameNoHasForm, StopKindHasForm};
+ghost use Rattle.arj_journal.specs.ScriptForm.{FrameNoInForm, StopKindInForm};
 
 use arj_base::Bytes;
 use arj_class::Op;
-use arj_journal::{FrameNo, Label, StopKind};
+use arj_journal::{FrameNo, Label, STOP_CALLS, StopKind};
 use arj_text::field::{after, is_text, label_first, label_of, number, number_first};
 use arj_text::field_hex::hex;
 use arj_text::field_value::operation;
@@ -19,10 +19,7 @@ use std::alloc::{AllocError, Global};
 /// The largest number of 32 bits, and of 16.
 const WORD_MAX: u64 = 0xffff_ffff;
 
-const OBJECT_MAX: u64 = 0xffff;
-
-/// The largest number of a disk call at which a disk can be asked to stop.
-const CALLS_MAX: u64 = 1_000_000;
+const SHORT_MAX: u64 = 0xffff;
 
 /// A label behind a front.
 pub fn label_behind(front: &[u8], bytes: &[u8]) -> Option<Label>
@@ -49,12 +46,12 @@ pub fn word_behind(alloc: Global, front: &[u8], bytes: &[u8]) -> Result<Option<u
 
 /// An object's number behind a front.
 pub fn object_behind(alloc: Global, front: &[u8], bytes: &[u8]) -> Result<Option<u16>, AllocError>
-    ensures { IfOk result (λ found. IsRead ObjectInForm (behind front.now decimal) bytes.now found) }
+    ensures { IfOk result (λ found. IsRead ShortInForm (behind front.now decimal) bytes.now found) }
 {
     let Some(digits) = after(bytes, front) else {
         return Ok(None);
     };
-    match number(alloc, digits, 0, OBJECT_MAX)? {
+    match number(alloc, digits, 0, SHORT_MAX)? {
         Some(n) => Ok(Some(n as u16)),
         None => Ok(None),
     }
@@ -66,7 +63,7 @@ pub fn frame_behind(
     front: &[u8],
     bytes: &[u8],
 ) -> Result<Option<FrameNo>, AllocError>
-    ensures { IfOk result (λ found. IsRead FrameNoHasForm (behind front.now frame_no_text) bytes.now found) }
+    ensures { IfOk result (λ found. IsRead FrameNoInForm (behind front.now frame_no_text) bytes.now found) }
 {
     let Some(word) = after(bytes, front) else {
         return Ok(None);
@@ -126,7 +123,7 @@ pub fn call(alloc: Global, bytes: &[u8]) -> Result<Option<(Label, u16, Op)>, All
     let Some((label, fields)) = label_first(fields) else {
         return Ok(None);
     };
-    let Some((x, fields)) = number_first(alloc, fields, b' ', 0, OBJECT_MAX)? else {
+    let Some((x, fields)) = number_first(alloc, fields, b' ', 0, SHORT_MAX)? else {
         return Ok(None);
     };
     match operation(alloc, fields)? {
@@ -145,7 +142,7 @@ pub fn include(alloc: Global, bytes: &[u8]) -> Result<Option<(Label, u16, u32)>,
     let Some((label, fields)) = label_first(fields) else {
         return Ok(None);
     };
-    let Some((x, fields)) = number_first(alloc, fields, b' ', 0, OBJECT_MAX)? else {
+    let Some((x, fields)) = number_first(alloc, fields, b' ', 0, SHORT_MAX)? else {
         return Ok(None);
     };
     match number(alloc, fields, 0, WORD_MAX)? {
@@ -164,7 +161,7 @@ pub fn stop(alloc: Global, bytes: &[u8]) -> Result<Option<(u32, u32, StopKind)>,
     let Some((node, fields)) = number_first(alloc, fields, b' ', 0, WORD_MAX)? else {
         return Ok(None);
     };
-    let Some((calls, fields)) = number_first(alloc, fields, b' ', 1, CALLS_MAX)? else {
+    let Some((calls, fields)) = number_first(alloc, fields, b' ', 1, STOP_CALLS)? else {
         return Ok(None);
     };
     match stop_kind(alloc, fields)? {
@@ -175,7 +172,7 @@ pub fn stop(alloc: Global, bytes: &[u8]) -> Result<Option<(u32, u32, StopKind)>,
 
 // `none`, `done` or `torn HEX`.
 fn stop_kind(alloc: Global, bytes: &[u8]) -> Result<Option<StopKind>, AllocError>
-    ensures { IfOk result (λ found. IsRead StopKindHasForm stop_kind_text bytes.now found) }
+    ensures { IfOk result (λ found. IsRead StopKindInForm stop_kind_text bytes.now found) }
 {
     if is_text(bytes, b"none") {
         return Ok(Some(StopKind::Undone));

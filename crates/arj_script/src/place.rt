@@ -4,13 +4,14 @@ ghost use Rattle.arj_text.specs.Fields.{IsWithin};
 ghost use Rattle.arj_journal.specs.ScriptText.{event_text, nodes_text, object_text};
 ghost use Rattle.arj_journal.specs.declared.event.Event.{Event};
 ghost use Rattle.arj_journal.specs.declared.header.ObjectLine.{ObjectLine};
-ghost use Rattle.arj_script.specs.Grammar.{EventHasForm, IsBlank, ObjectHasForm, has_object, insert_object};
+ghost use Rattle.arj_journal.specs.ScriptForm.{EventInForm, ObjectLineInForm, ObjectsInForm};
+ghost use Rattle.arj_script.specs.Grammar.{IsBlank, has_object, insert_object};
 ghost use Rattle.arj_script.specs.declared.fault.ScriptFault.TheVariants as script_fault;
 
 use crate::ScriptFault;
 use crate::event::event;
 use crate::form::{nodes_line, object};
-use arj_journal::{Event, ObjectLine};
+use arj_journal::{Event, NODES, ObjectLine};
 use std::alloc::Global;
 
 /// Whether the line is empty or a comment.
@@ -25,8 +26,8 @@ pub fn is_blank(bytes: &[u8]) -> bool
 
 /// The first line that says something: how many nodes there are.
 pub fn first_line(alloc: Global, bytes: &[u8]) -> Result<u8, ScriptFault>
-    ensures ok { IfOk result (λ n. IsWithin 1 16 n × (bytes.now ≡ nodes_text n)) }
-    ensures bad { IsErrOf result script_fault.Bad → (n : ℕ) → IsWithin 1 16 n → bytes.now ≢ nodes_text n }
+    ensures ok { IfOk result (λ n. IsWithin 1 NODES n × (bytes.now ≡ nodes_text n)) }
+    ensures bad { IsErrOf result script_fault.Bad → (n : ℕ) → IsWithin 1 NODES n → bytes.now ≢ nodes_text n }
 {
     match nodes_line(alloc, bytes)? {
         Some(n) => Ok(n as u8),
@@ -41,12 +42,13 @@ pub fn object_line(
     objects: &mut Vec<ObjectLine>,
     bytes: &[u8],
 ) -> Result<(), ScriptFault>
-    ensures ok { OnOk result ((o : ObjectLine) × ObjectHasForm nodes o × (bytes.now ≡ object_text o)
+    ensures ok { OnOk result ((o : ObjectLine) × ObjectLineInForm nodes o × (bytes.now ≡ object_text o)
         × (has_object o.x objects.old.items ≡ false)
         × (objects.new.items ≡ insert_object o objects.old.items)) }
-    ensures bad { IsErrOf result script_fault.Bad → (o : ObjectLine) → ObjectHasForm nodes o
+    ensures bad { IsErrOf result script_fault.Bad → (o : ObjectLine) → ObjectLineInForm nodes o
         → has_object o.x objects.old.items ≡ false → bytes.now ≢ object_text o }
     ensures err { OnErr result (objects.new.items ≡ objects.old.items) }
+    ensures in_form { ObjectsInForm nodes objects.old.items → ObjectsInForm nodes objects.new.items }
 {
     let Some(new) = object(alloc, bytes, nodes)? else {
         return Err(ScriptFault::Bad);
@@ -86,9 +88,9 @@ fn place_among(objects: &[ObjectLine], x: u16) -> usize
 
 /// An event line.
 pub fn event_line(alloc: Global, bytes: &[u8]) -> Result<Event, ScriptFault>
-    ensures ok { IfOk result (λ e. EventHasForm e × (bytes.now ≡ event_text e)) }
+    ensures ok { IfOk result (λ e. EventInForm e × (bytes.now ≡ event_text e)) }
     ensures bad { IsErrOf result script_fault.Bad
-        → (e : Event) → EventHasForm e → bytes.now ≢ event_text e }
+        → (e : Event) → EventInForm e → bytes.now ≢ event_text e }
 {
     match event(alloc, bytes)? {
         Some(event) => Ok(event),

@@ -1,5 +1,6 @@
 // The reader of a script.
 use crate::ScriptFault;
+use crate::limits::LINE_BYTES;
 use crate::place::{event_line, first_line, is_blank, object_line};
 use crate::stage::Stage;
 use arj_journal::{Event, Header, ObjectLines};
@@ -28,18 +29,20 @@ pub struct Reader {
 }
 
 impl Model for Reader {
-    ghost use Rattle.arj_script.specs.Grammar.{Place};
+    ghost use Rattle.arj_script.specs.Grammar.{Place, PlaceInForm};
     ghost use Rattle.arj_script.specs.Stage.{place_of};
 
     ghost Value = { Place };
 
     ghost view = { λ r. place_of r.stage };
+
+    ghost invariant = { λ r. PlaceInForm (place_of r.stage) };
 }
 
 impl Reader {
     ghost use Rattle.std.specs.Prelude.{◌≡◌, IfOk, OnErr, IsErrOf};
     ghost use Rattle.arj_script.specs.Grammar.{Form, Start, next_place, nodes_at, HasForm, IsBadLine};
-    ghost use Rattle.arj_script.specs.Input.{Tells};
+    ghost use Rattle.arj_script.specs.Input.{Tells, TellsInForm};
     ghost use Rattle.arj_script.specs.declared.fault.ScriptFault.TheVariants as script_fault;
 
     /// A reader before the first line.
@@ -62,16 +65,18 @@ impl Reader {
         }
     }
 
-    /// Takes a line of at most 200 bytes, without its end, and tells what it was. A line that is refused changes nothing.
+    /// Takes a line, without its end, and tells what it was. A line that is refused changes nothing.
     pub fn line(&mut self, bytes: &[u8]) -> Result<Item, ScriptFault>
         // What is taken has this form at its place.
         ensures taken { IfOk result (λ item. (form : Form) × HasForm self.old bytes.now form
             × Tells self.old form item × (self.new ≡ next_place self.old form)) }
+        // A header has 1 to 16 nodes, and objects in form among them, by their numbers.
+        ensures header { IfOk result (λ item. TellsInForm item) }
         // A line is bad exactly where it has no form at its place.
         ensures bad { IsErrOf result script_fault.Bad → IsBadLine self.old bytes.now }
         ensures err { OnErr result (self.new ≡ self.old) }
     {
-        if bytes.len() > 200 {
+        if bytes.len() > LINE_BYTES {
             return Err(ScriptFault::Bad);
         }
         if is_blank(bytes) {

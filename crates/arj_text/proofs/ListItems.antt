@@ -8,7 +8,7 @@ use Rattle.std.proofs.lemmas.Fmt.{decimal_injective}
 use Rattle.std.proofs.lemmas.List.{append_assoc}
 use Rattle.std.proofs.lemmas.List.Folds.{list_any-append}
 use Rattle.arj_text.specs.Words.{behind_comma, decimals, list_text, numbers_text, pair_texts, pairs_text, commas}
-use Rattle.arj_text.specs.Fields.{IsRead, IsWithin, ItemsInForm, NodesInForm, NumberInForm, NumbersInForm, PairHasForm, PairsInForm, has_byte, is_distinct, is_rising, items_text, pair_text}
+use Rattle.arj_text.specs.Fields.{IsRead, IsWithin, ItemsInForm, NodesInForm, NumberInForm, NumbersInForm, PairInForm, PairsInForm, has_byte, is_distinct, is_rising, items_text, pair_text}
 use Rattle.arj_text.proofs.Texts.{cut_once, digits_only}
 use Rattle.arj_text.proofs.Items.{items_only}
 
@@ -24,12 +24,12 @@ number_no_comma n fits = digits_only 44 n refl fits
 pub number_only : (m n : ℕ) → NumberInForm m → NumberInForm n → decimal m ≡ decimal n → m ≡ n
 number_only m n m_fits n_fits = decimal_injective m n m_fits n_fits
 
-pub pair_no_comma : (p : ℕ × ℕ) → PairHasForm p → has_byte 44 (pair_text p) ≡ false
+pub pair_no_comma : (p : ℕ × ℕ) → PairInForm p → has_byte 44 (pair_text p) ≡ false
 pair_no_comma p fits =
     list_any-append (λ c. c == 44) (decimal p.0) (58 ∷ decimal p.1) ∙
     or_from (has_byte 44 (decimal p.0)) _ (digits_only 44 p.0 refl fits.0) (digits_only 44 p.1 refl fits.1)
 
-pub pair_only : (p q : ℕ × ℕ) → PairHasForm p → PairHasForm q → pair_text p ≡ pair_text q → p ≡ q
+pub pair_only : (p q : ℕ × ℕ) → PairInForm p → PairInForm q → pair_text p ≡ pair_text q → p ≡ q
 pair_only p q p_fits q_fits e =
     let parts = cut_once 58 (decimal p.0) (decimal q.0) (decimal p.1) (decimal q.1) (digits_only 58 p.0 refl p_fits.0) (digits_only 58 q.0 refl q_fits.0) e in
     let keys = decimal_injective p.0 q.0 p_fits.0 q_fits.0 parts.0 in
@@ -100,23 +100,23 @@ numbers_read most bytes None other none = λ ns form e. cases ns form e
 numbers_read most bytes (Some ns) other read = ((read.0.1, read.0.2), read.1 ∙ sym (numbers_text_is ns read.0.0))
 
 -- What was read as items is read as pairs where the keys rise, and else no pairs have the text.
-pub no_pairs : (most : ℕ) (bytes : List ℕ) → bytes ≢ codes "-" → IsRead (ItemsInForm PairHasForm most) (items_text pair_text) bytes None → IsRead (PairsInForm most) pairs_text bytes None
+pub no_pairs : (most : ℕ) (bytes : List ℕ) → bytes ≢ codes "-" → IsRead (ItemsInForm PairInForm most) (items_text pair_text) bytes None → IsRead (PairsInForm most) pairs_text bytes None
 no_pairs most bytes other none = λ ps form e. cases ps form e
   where
     cases : (ps : List (ℕ × ℕ)) → PairsInForm most ps → bytes ≢ pairs_text ps
     cases [] form e = other e
     cases (p ∷ ps) form e = none (p ∷ ps) (omega arith, form.0, form.1) (e ∙ pairs_text_is (p ∷ ps) (omega arith))
 
-pub falling_pairs : (most : ℕ) (bytes : List ℕ) (found : List (ℕ × ℕ)) → bytes ≢ codes "-" → IsRead (ItemsInForm PairHasForm most) (items_text pair_text) bytes (Some found) → is_rising found ≡ false → IsRead (PairsInForm most) pairs_text bytes None
+pub falling_pairs : (most : ℕ) (bytes : List ℕ) (found : List (ℕ × ℕ)) → bytes ≢ codes "-" → IsRead (ItemsInForm PairInForm most) (items_text pair_text) bytes (Some found) → is_rising found ≡ false → IsRead (PairsInForm most) pairs_text bytes None
 falling_pairs most bytes found other read falls = λ ps form e. cases ps form e
   where
     cases : (ps : List (ℕ × ℕ)) → PairsInForm most ps → bytes ≢ pairs_text ps
     cases [] form e = other e
     cases (p ∷ ps) form e =
-        let same : found ≡ p ∷ ps = items_only PairHasForm pair_text pair_no_comma pair_only found (p ∷ ps) read.0.2 form.1 read.0.0 (omega arith) (sym read.1 ∙ (e ∙ pairs_text_is (p ∷ ps) (omega arith))) in
+        let same : found ≡ p ∷ ps = items_only PairInForm pair_text pair_no_comma pair_only found (p ∷ ps) read.0.2 form.1 read.0.0 (omega arith) (sym read.1 ∙ (e ∙ pairs_text_is (p ∷ ps) (omega arith))) in
         both_ways _ falls (subst (λ qs. is_rising qs ≡ true) (sym same) form.2)
 
-pub rising_pairs : (most : ℕ) (bytes : List ℕ) (found : List (ℕ × ℕ)) → IsRead (ItemsInForm PairHasForm most) (items_text pair_text) bytes (Some found) → is_rising found ≡ true → IsRead (PairsInForm most) pairs_text bytes (Some found)
+pub rising_pairs : (most : ℕ) (bytes : List ℕ) (found : List (ℕ × ℕ)) → IsRead (ItemsInForm PairInForm most) (items_text pair_text) bytes (Some found) → is_rising found ≡ true → IsRead (PairsInForm most) pairs_text bytes (Some found)
 rising_pairs most bytes found read rises = ((read.0.1, read.0.2, rises), read.1 ∙ sym (pairs_text_is found read.0.0))
 
 -- numbers in two parts, each behind a comma

@@ -9,7 +9,7 @@ use Rattle.std.proofs.lemmas.List.Folds.{list_any-append}
 use Rattle.arj_class.specs.declared.value.Value.{Value}
 use Rattle.arj_class.specs.declared.value.Value.TheVariants as value
 use Rattle.arj_text.specs.Words.{behind_comma, hex, hex_digit, hex_pair, list_text, numbers_text, pairs_text, value_text}
-use Rattle.arj_text.specs.Fields.{IsRead, HasNoFirst, IsFirst, NodesInForm, NumberInForm, PairHasForm, ValueHasForm, has_space, items_text, pair_text}
+use Rattle.arj_text.specs.Fields.{IsRead, HasNoFirst, IsFirst, NodesInForm, NumberInForm, PairInForm, ValueTextInForm, has_space, items_text, pair_text}
 use Rattle.arj_text.proofs.Texts.{cut_once, digits_only, no_cut}
 use Rattle.arj_text.proofs.ListItems.{list_text_is, node_items, pairs_text_is}
 
@@ -49,11 +49,11 @@ spaceless_numbers : (ns : List ℕ) → AllByRecursion NumberInForm ns → has_s
 spaceless_numbers [] fits = refl
 spaceless_numbers (n ∷ ns) fits = ap has_space (list_text_is (n ∷ ns)) ∙ spaceless_items NumberInForm decimal (λ m small. digits_only 32 m refl small) (n ∷ ns) fits
 
-spaceless_table : (ps : List (ℕ × ℕ)) → AllByRecursion PairHasForm ps → has_space (pairs_text ps) ≡ false
+spaceless_table : (ps : List (ℕ × ℕ)) → AllByRecursion PairInForm ps → has_space (pairs_text ps) ≡ false
 spaceless_table [] fits = refl
 spaceless_table (p ∷ ps) fits =
     ap has_space (pairs_text_is (p ∷ ps) (omega arith)) ∙
-    spaceless_items PairHasForm pair_text (λ q form. spaceless_append (decimal q.0) (58 ∷ decimal q.1) (digits_only 32 q.0 refl form.0) (digits_only 32 q.1 refl form.1)) (p ∷ ps) fits
+    spaceless_items PairInForm pair_text (λ q form. spaceless_append (decimal q.0) (58 ∷ decimal q.1) (digits_only 32 q.0 refl form.0) (digits_only 32 q.1 refl form.1)) (p ∷ ps) fits
 
 -- The text of a value is two words.
 pub record TwoWords (text : List ℕ) : Type 0 where
@@ -63,7 +63,7 @@ pub record TwoWords (text : List ℕ) : Type 0 where
   pub word_whole : has_space word ≡ false
   pub is : text ≡ class ++ 32 ∷ word
 
-pub value_words : (v : Value) → ValueHasForm v → TwoWords (value_text v)
+pub value_words : (v : Value) → ValueTextInForm v → TwoWords (value_text v)
 value_words (value.Counter n) form = record { class = codes "counter"; word = decimal n; class_whole = refl; word_whole = digits_only 32 n refl form; is = refl }
 value_words (value.Register bs) form = record { class = codes "register"; word = hex bs; class_whole = refl; word_whole = spaceless_hex bs; is = refl }
 value_words (value.Account n) form = record { class = codes "account"; word = decimal n; class_whole = refl; word_whole = digits_only 32 n refl form; is = refl }
@@ -71,7 +71,7 @@ value_words (value.Queue ns) form = record { class = codes "queue"; word = numbe
 value_words (value.Table ps) form = record { class = codes "table"; word = pairs_text ps; class_whole = refl; word_whole = spaceless_table ps form.1; is = refl }
 
 -- Where a value with a space behind it is the front of a line, its two words are the first two of the line.
-pub value_cut : (bytes class fields word rest : List ℕ) (v : Value) (r : List ℕ) → has_space class ≡ false → bytes ≡ class ++ 32 ∷ fields → has_space word ≡ false → fields ≡ word ++ 32 ∷ rest → ValueHasForm v → bytes ≡ value_text v ++ 32 ∷ r → (class ++ 32 ∷ word ≡ value_text v) × (rest ≡ r)
+pub value_cut : (bytes class fields word rest : List ℕ) (v : Value) (r : List ℕ) → has_space class ≡ false → bytes ≡ class ++ 32 ∷ fields → has_space word ≡ false → fields ≡ word ++ 32 ∷ rest → ValueTextInForm v → bytes ≡ value_text v ++ 32 ∷ r → (class ++ 32 ∷ word ≡ value_text v) × (rest ≡ r)
 value_cut bytes class fields word rest v r hc front hw parts form e =
     let two = value_words v form in
     let whole : value_text v ++ 32 ∷ r ≡ two.class ++ 32 ∷ (two.word ++ 32 ∷ r) = ap (λ t. t ++ 32 ∷ r) two.is ∙ append_assoc two.class (32 ∷ two.word) (32 ∷ r) in
@@ -80,21 +80,21 @@ value_cut bytes class fields word rest v r hc front hw parts form e =
     ((λ i. outer.0 i ++ 32 ∷ inner.0 i) ∙ sym two.is, inner.1)
 
 -- Less than two words with a space behind them are no value with a space behind it.
-pub no_class : (bytes : List ℕ) → has_space bytes ≡ false → HasNoFirst 32 ValueHasForm value_text bytes
+pub no_class : (bytes : List ℕ) → has_space bytes ≡ false → HasNoFirst 32 ValueTextInForm value_text bytes
 no_class bytes h = λ v r form e. no_cut 32 bytes (value_text v) r h e
 
-pub no_word : (bytes class fields : List ℕ) → has_space class ≡ false → bytes ≡ class ++ 32 ∷ fields → has_space fields ≡ false → HasNoFirst 32 ValueHasForm value_text bytes
+pub no_word : (bytes class fields : List ℕ) → has_space class ≡ false → bytes ≡ class ++ 32 ∷ fields → has_space fields ≡ false → HasNoFirst 32 ValueTextInForm value_text bytes
 no_word bytes class fields hc front hf = λ v r form e.
     let two = value_words v form in
     let whole : value_text v ++ 32 ∷ r ≡ two.class ++ 32 ∷ (two.word ++ 32 ∷ r) = ap (λ t. t ++ 32 ∷ r) two.is ∙ append_assoc two.class (32 ∷ two.word) (32 ∷ r) in
     let outer = cut_once 32 class two.class fields (two.word ++ 32 ∷ r) hc two.class_whole (sym front ∙ (e ∙ whole)) in
     no_cut 32 fields two.word r hf outer.1
 
-pub value_none : (bytes class fields word rest : List ℕ) → has_space class ≡ false → bytes ≡ class ++ 32 ∷ fields → has_space word ≡ false → fields ≡ word ++ 32 ∷ rest → IsRead ValueHasForm value_text (class ++ 32 ∷ word) None → HasNoFirst 32 ValueHasForm value_text bytes
+pub value_none : (bytes class fields word rest : List ℕ) → has_space class ≡ false → bytes ≡ class ++ 32 ∷ fields → has_space word ≡ false → fields ≡ word ++ 32 ∷ rest → IsRead ValueTextInForm value_text (class ++ 32 ∷ word) None → HasNoFirst 32 ValueTextInForm value_text bytes
 value_none bytes class fields word rest hc front hw parts none = λ v r form e.
     none v form (value_cut bytes class fields word rest v r hc front hw parts form e).0
 
-pub value_some : (bytes class fields word rest : List ℕ) (v : Value) → has_space class ≡ false → bytes ≡ class ++ 32 ∷ fields → has_space word ≡ false → fields ≡ word ++ 32 ∷ rest → IsRead ValueHasForm value_text (class ++ 32 ∷ word) (Some v) → IsFirst 32 ValueHasForm value_text bytes v rest
+pub value_some : (bytes class fields word rest : List ℕ) (v : Value) → has_space class ≡ false → bytes ≡ class ++ 32 ∷ fields → has_space word ≡ false → fields ≡ word ++ 32 ∷ rest → IsRead ValueTextInForm value_text (class ++ 32 ∷ word) (Some v) → IsFirst 32 ValueTextInForm value_text bytes v rest
 value_some bytes class fields word rest v hc front hw parts read = record {
   in_form = read.0;
   parts = front ∙ (ap (λ t. class ++ 32 ∷ t) parts ∙ (sym (append_assoc class (32 ∷ word) (32 ∷ rest)) ∙ ap (λ t. t ++ 32 ∷ rest) read.1));

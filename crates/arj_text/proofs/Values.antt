@@ -8,7 +8,7 @@ use Rattle.arj_class.specs.declared.op.Answer.{Answer}
 use Rattle.arj_class.specs.declared.op.Answer.TheVariants as answer
 use Rattle.arj_class.specs.Keys.{KeysAbove, KeysRise}
 use Rattle.arj_text.specs.Words.{op_text, answer_text, hex}
-use Rattle.arj_text.specs.Fields.{IsRead, IsWithin, NumberInForm, AreBytesUpTo, PairHasForm, OpHasForm, IsPutOp, IsAnswer, IsAnswerWord, is_below_first, is_get, is_put_op, is_rising, is_word_answer, two_text}
+use Rattle.arj_text.specs.Fields.{IsRead, IsWithin, NumberInForm, AreBytesUpTo, PairInForm, OpTextInForm, IsPutOp, IsAnswer, IsAnswerWord, is_below_first, is_get, is_put_op, is_rising, is_word_answer, two_text}
 use Rattle.arj_text.proofs.Texts.{same_rest}
 
 -- the answers that are a word
@@ -38,10 +38,10 @@ pub text_answer : (asked : Op) (bytes found : List ℕ) → is_get asked ≡ tru
 text_answer asked bytes found get read = (answer.Text found, (get, read.0), read.1)
 
 -- A put has one argument or two.
-pub no_put : (bytes arguments : List ℕ) → bytes ≡ codes "put " ++ arguments → IsRead (AreBytesUpTo 64) hex arguments None → IsRead PairHasForm two_text arguments None → IsRead IsPutOp op_text bytes None
+pub no_put : (bytes arguments : List ℕ) → bytes ≡ codes "put " ++ arguments → IsRead (AreBytesUpTo 64) hex arguments None → IsRead PairInForm two_text arguments None → IsRead IsPutOp op_text bytes None
 no_put bytes arguments whole no_bytes no_pair = λ o h e. cases o h.0 h.1 e
   where
-    cases : (o : Op) → OpHasForm o → is_put_op o ≡ true → bytes ≢ op_text o
+    cases : (o : Op) → OpTextInForm o → is_put_op o ≡ true → bytes ≢ op_text o
     cases (op.Put bs) fits put e = no_bytes bs fits (same_rest (codes "put ") arguments (hex bs) (sym whole ∙ e))
     cases (op.PutPair k v) fits put e = no_pair (k, v) fits (same_rest (codes "put ") arguments (two_text (k, v)) (sym whole ∙ e))
     cases op.Get fits put e = both_ways false refl put

@@ -3,6 +3,7 @@ use Rattle.std.specs.Prelude.{◌≡◌, ◌≢◌, ◌≤◌, ◌<◌, ◌^◌,
 use Rattle.std.specs.List.{list_any, list_all, AllByRecursion}
 use Rattle.std.specs.Fmt.{decimal}
 use Rattle.arj_base.specs.declared.binding.Binding.{Binding}
+use Rattle.arj_class.specs.declared.limits.TheConstants.{QUEUE_NUMBERS, REGISTER_BYTES, TABLE_PAIRS}
 use Rattle.arj_class.specs.declared.op.Op.{Op}
 use Rattle.arj_class.specs.declared.op.Op.TheVariants as op
 use Rattle.arj_class.specs.declared.op.Answer.{Answer}
@@ -45,8 +46,8 @@ NumberInForm n = n < 2 ^ 64
 abbrev pub WordInForm : ℕ → Type 0
 WordInForm n = n < 2 ^ 32
 
-abbrev pub ObjectInForm : ℕ → Type 0
-ObjectInForm x = x < 2 ^ 16
+abbrev pub ShortInForm : ℕ → Type 0
+ShortInForm x = x < 2 ^ 16
 
 -- both parts of a binding have 32 bits
 abbrev pub BindingInForm : Binding → Type 0
@@ -78,33 +79,33 @@ are_nodes n most ns =
 abbrev pub NodesInForm : ℕ → ℕ → List ℕ → Type 0
 NodesInForm n most ns = are_nodes n most ns ≡ true
 
--- the numbers of an operation have 64 bits, and a put at most 64 bytes
--- (the widths too, which `OpInForm` of arj_class leaves out, since the operations of the program have them anyway)
-abbrev pub OpHasForm : Op → Type 0
-OpHasForm (op.Add n) = NumberInForm n
-OpHasForm (op.Set n) = NumberInForm n
-OpHasForm (op.Put bytes) = (length bytes ≤ 64) × AllByRecursion (λ b. b < 256) bytes
-OpHasForm (op.Deposit n) = NumberInForm n
-OpHasForm (op.Withdraw n) = NumberInForm n
-OpHasForm (op.Push n) = NumberInForm n
-OpHasForm (op.GetKey k) = NumberInForm k
-OpHasForm (op.PutPair k v) = NumberInForm k × NumberInForm v
-OpHasForm (op.Remove k) = NumberInForm k
-OpHasForm _ = ⊤
+-- An operation that a text can say. Beyond `OpInForm` of arj_class, the class table's own limit, this has the widths that
+-- the program's types give: numbers have 64 bits, and what is put are bytes.
+abbrev pub OpTextInForm : Op → Type 0
+OpTextInForm (op.Add n) = NumberInForm n
+OpTextInForm (op.Set n) = NumberInForm n
+OpTextInForm (op.Put bytes) = AreBytesUpTo REGISTER_BYTES bytes
+OpTextInForm (op.Deposit n) = NumberInForm n
+OpTextInForm (op.Withdraw n) = NumberInForm n
+OpTextInForm (op.Push n) = NumberInForm n
+OpTextInForm (op.GetKey k) = NumberInForm k
+OpTextInForm (op.PutPair k v) = NumberInForm k × NumberInForm v
+OpTextInForm (op.Remove k) = NumberInForm k
+OpTextInForm _ = ⊤
 
 -- an answer to that operation: the bytes of a register are answered to a `get` without a key alone
 abbrev pub is_get : Op → Bool
 is_get op.Get = true
 is_get _ = false
 
-abbrev pub AnswerHasForm : Op → Answer → Type 0
-AnswerHasForm asked (answer.Number n) = NumberInForm n
-AnswerHasForm asked (answer.Text bytes) = (is_get asked ≡ true) × AreBytesUpTo 64 bytes
-AnswerHasForm asked _ = ⊤
+abbrev pub AnswerTextInForm : Op → Answer → Type 0
+AnswerTextInForm asked (answer.Number n) = NumberInForm n
+AnswerTextInForm asked (answer.Text bytes) = (is_get asked ≡ true) × AreBytesUpTo REGISTER_BYTES bytes
+AnswerTextInForm asked _ = ⊤
 
 -- a key and a value, and keys strictly increasing
-abbrev pub PairHasForm : ℕ × ℕ → Type 0
-PairHasForm p = NumberInForm p.0 × NumberInForm p.1
+abbrev pub PairInForm : ℕ × ℕ → Type 0
+PairInForm p = NumberInForm p.0 × NumberInForm p.1
 
 abbrev pub is_below_first : ℕ → List (ℕ × ℕ) → Bool
 is_below_first key [] = true
@@ -114,25 +115,24 @@ abbrev pub is_rising : List (ℕ × ℕ) → Bool
 is_rising [] = true
 is_rising (p ∷ ps) = is_below_first p.0 ps && is_rising ps
 
--- a first value within the limits of its class
--- (as `ValueInForm` of arj_class, and besides that what a register holds are bytes)
-abbrev pub ValueHasForm : Value → Type 0
-ValueHasForm (value.Counter n) = NumberInForm n
-ValueHasForm (value.Register bytes) = (length bytes ≤ 64) × AllByRecursion (λ b. b < 256) bytes
-ValueHasForm (value.Account n) = NumberInForm n
-ValueHasForm (value.Queue ns) = (length ns ≤ 32) × AllByRecursion NumberInForm ns
-ValueHasForm (value.Table ps) = (length ps ≤ 16) × AllByRecursion PairHasForm ps × (is_rising ps ≡ true)
-
--- a pair, its key before a colon
-abbrev pub pair_text : ℕ × ℕ → List ℕ
-pair_text p = decimal p.0 ++ 58 ∷ decimal p.1
-
 -- at most so many numbers, and pairs whose keys rise
 abbrev pub NumbersInForm : ℕ → List ℕ → Type 0
 NumbersInForm most ns = (length ns ≤ most) × AllByRecursion NumberInForm ns
 
 abbrev pub PairsInForm : ℕ → List (ℕ × ℕ) → Type 0
-PairsInForm most ps = (length ps ≤ most) × AllByRecursion PairHasForm ps × (is_rising ps ≡ true)
+PairsInForm most ps = (length ps ≤ most) × AllByRecursion PairInForm ps × (is_rising ps ≡ true)
+
+-- A value that a text can say: as `ValueInForm` of arj_class, and what a register holds are bytes.
+abbrev pub ValueTextInForm : Value → Type 0
+ValueTextInForm (value.Counter n) = NumberInForm n
+ValueTextInForm (value.Register bytes) = AreBytesUpTo REGISTER_BYTES bytes
+ValueTextInForm (value.Account n) = NumberInForm n
+ValueTextInForm (value.Queue ns) = NumbersInForm QUEUE_NUMBERS ns
+ValueTextInForm (value.Table ps) = PairsInForm TABLE_PAIRS ps
+
+-- a pair, its key before a colon
+abbrev pub pair_text : ℕ × ℕ → List ℕ
+pair_text p = decimal p.0 ++ 58 ∷ decimal p.1
 
 -- the text behind a front
 abbrev pub behind : {A : Type 0} → List ℕ → (A → List ℕ) → A → List ℕ
@@ -155,13 +155,13 @@ is_put_op (op.PutPair k v) = true
 is_put_op _ = false
 
 abbrev pub IsWordOp : Op → Type 0
-IsWordOp op = OpHasForm op × (is_word_op op ≡ true)
+IsWordOp op = OpTextInForm op × (is_word_op op ≡ true)
 
 abbrev pub IsPutOp : Op → Type 0
-IsPutOp op = OpHasForm op × (is_put_op op ≡ true)
+IsPutOp op = OpTextInForm op × (is_put_op op ≡ true)
 
 abbrev pub IsNumberOp : Op → Type 0
-IsNumberOp op = OpHasForm op × ((is_word_op op ≡ false) × (is_put_op op ≡ false))
+IsNumberOp op = OpTextInForm op × ((is_word_op op ≡ false) × (is_put_op op ≡ false))
 
 -- the answers that are a word
 abbrev pub is_word_answer : Answer → Bool
@@ -174,4 +174,4 @@ IsAnswerWord bytes = (a : Answer) × (is_word_answer a ≡ true) × (bytes ≡ a
 
 -- some answer to that operation in form has the text
 abbrev pub IsAnswer : Op → List ℕ → Type 0
-IsAnswer asked bytes = (a : Answer) × AnswerHasForm asked a × (bytes ≡ answer_text a)
+IsAnswer asked bytes = (a : Answer) × AnswerTextInForm asked a × (bytes ≡ answer_text a)

@@ -5,7 +5,7 @@ ghost use Rattle.std.specs.Fmt.{decimal};
 ghost use Rattle.arj_text.specs.Label.{LabelInForm, is_digit, is_label, is_letter, name};
 ghost use Rattle.arj_text.specs.Fields.{IsRead, HasNoFirst, IsFirst, IsWithin, has_byte};
 
-use crate::Label;
+use crate::{LABEL_BYTES, Label};
 use std::alloc::{AllocError, Global};
 
 /// The bytes before the first separator, and those behind it. None where there is no separator.
@@ -94,11 +94,11 @@ pub fn number_first(
     }
 }
 
-/// A label: a letter and at most 15 letters or digits.
+/// A label: a letter and letters or digits behind it, at most 16 in all.
 pub fn label_of(bytes: &[u8]) -> Option<Label>
     ensures { IsRead LabelInForm name bytes.now result }
 {
-    if bytes.len() > 16 {
+    if bytes.len() > LABEL_BYTES {
         return None;
     }
     if !spells_label(bytes) {

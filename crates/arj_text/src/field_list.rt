@@ -2,7 +2,7 @@
 ghost use Rattle.std.specs.Prelude.{◌≡◌, ◌≤◌, ◌==◌, ◌&&◌, nat_le, false, IfOk, MatchOption};
 ghost use Rattle.std.specs.List.{list_all, list_any};
 ghost use Rattle.std.specs.Fmt.{decimal};
-ghost use Rattle.arj_text.specs.Fields.{HasNoFirst, IsFirst, IsRead, IsWithin, ItemsInForm, NodesInForm, NumberInForm, NumbersInForm, PairHasForm, PairsInForm, has_byte, is_below_first, is_distinct, is_rising, items_text};
+ghost use Rattle.arj_text.specs.Fields.{HasNoFirst, IsFirst, IsRead, IsWithin, ItemsInForm, NodesInForm, NumberInForm, NumbersInForm, PairInForm, PairsInForm, has_byte, is_below_first, is_distinct, is_rising, items_text};
 ghost use Rattle.arj_text.specs.Words.{list_text, numbers_text, pairs_text};
 
 use crate::field::{cut, is_text, number, number_first};
@@ -80,7 +80,7 @@ impl Item for u64 {
 impl Item for (u64, u64) {
     ghost use Rattle.arj_text.specs.Fields.{pair_text};
 
-    ghost in_form = { PairHasForm };
+    ghost in_form = { PairInForm };
 
     ghost text = { pair_text };
 

@@ -1,24 +1,17 @@
 // Operations, answers and first values in a line.
 ghost use Rattle.std.specs.Prelude.{◌≡◌, IfOk, MatchBool, MatchOption, codes};
 ghost use Rattle.std.specs.Fmt.{decimal};
-ghost use Rattle.arj_text.specs.Fields.{AreBytesUpTo, HasNoFirst, IsAnswer, IsAnswerWord, IsFirst, IsNumberOp, IsPutOp, IsRead, IsWordOp, NumberInForm, NumbersInForm, OpHasForm, PairHasForm, PairsInForm, ValueHasForm, behind, is_get, two_text};
+ghost use Rattle.arj_text.specs.Fields.{AreBytesUpTo, HasNoFirst, IsAnswer, IsAnswerWord, IsFirst, IsNumberOp, IsPutOp, IsRead, IsWordOp, NumberInForm, NumbersInForm, OpTextInForm, PairInForm, PairsInForm, ValueTextInForm, behind, is_get, two_text};
 ghost use Rattle.arj_text.specs.Words.{hex, numbers_text, op_text, pairs_text, value_text};
 
 use crate::field::{after, cut, is_text, number, number_first};
 use crate::field_hex::hex_up_to;
 use crate::field_list::{numbers, pairs};
 use arj_base::{Bytes, Numbers, Pairs};
-use arj_class::{Account, Counter, Op, Queue, Register, Table, Value};
+use arj_class::{
+    Account, Counter, Op, QUEUE_NUMBERS, Queue, REGISTER_BYTES, Register, TABLE_PAIRS, Table, Value,
+};
 use std::alloc::{AllocError, Global};
-
-/// How many bytes a register holds at most.
-const REGISTER_BYTES: usize = 64;
-
-/// How many numbers a queue holds at most.
-const QUEUE_NUMBERS: usize = 32;
-
-/// How many pairs a table holds at most.
-const TABLE_PAIRS: usize = 16;
 
 /// A number of 64 bits behind a front.
 pub fn number_behind(alloc: Global, front: &[u8], bytes: &[u8]) -> Result<Option<u64>, AllocError>
@@ -32,7 +25,7 @@ pub fn number_behind(alloc: Global, front: &[u8], bytes: &[u8]) -> Result<Option
 
 /// An operation with its arguments.
 pub fn operation(alloc: Global, bytes: &[u8]) -> Result<Option<Op>, AllocError>
-    ensures { IfOk result (λ found. IsRead OpHasForm op_text bytes.now found) }
+    ensures { IfOk result (λ found. IsRead OpTextInForm op_text bytes.now found) }
 {
     if let Some(op) = word_op(bytes) {
         return Ok(Some(op));
@@ -105,7 +98,7 @@ fn put_op(alloc: Global, bytes: &[u8]) -> Result<Option<Op>, AllocError>
 
 // Two numbers with a space between them.
 fn two_numbers(alloc: Global, bytes: &[u8]) -> Result<Option<(u64, u64)>, AllocError>
-    ensures { IfOk result (λ found. IsRead PairHasForm two_text bytes.now found) }
+    ensures { IfOk result (λ found. IsRead PairInForm two_text bytes.now found) }
 {
     let Some((first, rest)) = number_first(alloc, bytes, b' ', 0, u64::MAX)? else {
         return Ok(None);
@@ -166,7 +159,7 @@ fn is_get(op: &Op) -> bool
 
 /// A class and a first value of it.
 pub fn value(alloc: Global, bytes: &[u8]) -> Result<Option<Value>, AllocError>
-    ensures { IfOk result (λ found. IsRead ValueHasForm value_text bytes.now found) }
+    ensures { IfOk result (λ found. IsRead ValueTextInForm value_text bytes.now found) }
 {
     if let Some(n) = number_behind(alloc, b"counter ", bytes)? {
         return Ok(Some(Value::Counter(Counter::new(n))));
@@ -189,8 +182,8 @@ pub fn value(alloc: Global, bytes: &[u8]) -> Result<Option<Value>, AllocError>
 /// A class and a first value before a space, and what stands behind that.
 pub fn value_first(alloc: Global, bytes: &[u8]) -> Result<Option<(Value, &[u8])>, AllocError>
     ensures { IfOk result (λ found. MatchOption found
-        (HasNoFirst 32 ValueHasForm value_text bytes.now)
-        (λ p. IsFirst 32 ValueHasForm value_text bytes.now p.0 p.1.now)) }
+        (HasNoFirst 32 ValueTextInForm value_text bytes.now)
+        (λ p. IsFirst 32 ValueTextInForm value_text bytes.now p.0 p.1.now)) }
 {
     let Some((class, fields)) = cut(bytes, b' ') else {
         return Ok(None);
@@ -206,7 +199,7 @@ pub fn value_first(alloc: Global, bytes: &[u8]) -> Result<Option<(Value, &[u8])>
 
 // A register's bytes.
 fn register(alloc: Global, bytes: &[u8]) -> Result<Option<Bytes>, AllocError>
-    ensures { IfOk result (λ found. IsRead (AreBytesUpTo 64) (behind (codes "register ") hex) bytes.now found) }
+    ensures { IfOk result (λ found. IsRead (AreBytesUpTo REGISTER_BYTES) (behind (codes "register ") hex) bytes.now found) }
 {
     let Some(digits) = after(bytes, b"register ") else {
         return Ok(None);
@@ -216,7 +209,7 @@ fn register(alloc: Global, bytes: &[u8]) -> Result<Option<Bytes>, AllocError>
 
 // A queue's numbers, front first.
 fn queue(alloc: Global, bytes: &[u8]) -> Result<Option<Numbers>, AllocError>
-    ensures { IfOk result (λ found. IsRead (NumbersInForm 32) (behind (codes "queue ") numbers_text) bytes.now found) }
+    ensures { IfOk result (λ found. IsRead (NumbersInForm QUEUE_NUMBERS) (behind (codes "queue ") numbers_text) bytes.now found) }
 {
     let Some(list) = after(bytes, b"queue ") else {
         return Ok(None);
@@ -226,7 +219,7 @@ fn queue(alloc: Global, bytes: &[u8]) -> Result<Option<Numbers>, AllocError>
 
 // A table's pairs.
 fn table(alloc: Global, bytes: &[u8]) -> Result<Option<Pairs>, AllocError>
-    ensures { IfOk result (λ found. IsRead (PairsInForm 16) (behind (codes "table ") pairs_text) bytes.now found) }
+    ensures { IfOk result (λ found. IsRead (PairsInForm TABLE_PAIRS) (behind (codes "table ") pairs_text) bytes.now found) }
 {
     let Some(list) = after(bytes, b"table ") else {
         return Ok(None);

@@ -5,17 +5,22 @@ ghost use Rattle.std.specs.Cmp.{partial_order_from_own_ties};
 ghost use Rattle.std.specs.Cmp.Rules.{comparing};
 ghost use Rattle.std.specs.Cmp.Lexicographic.{slice_cmp};
 ghost use Rattle.std.specs.Ordering.{is_eq, nat_cmp, on, as_partial_cmp};
+ghost use Rattle.arj_text.specs.declared.label.TheConstants.{LABEL_BYTES};
 
 use std::cmp::Ordering;
+
+/// The most bytes that a label has.
+pub const LABEL_BYTES: usize = 16;
 
 /// A label: a letter followed by at most 15 letters or digits, padded with zeros. Two labels are one exactly where
 /// their bytes are.
 #[derive(Clone, Copy, Debug)]
 pub struct Label {
     pub len: u8,
-    pub text: [u8; 16],
-    ghost short: { len ≤ 16 },
-    ghost zeros: { drop len text ≡ replicate (16 - len) 0 },
+    pub text: [u8; LABEL_BYTES],
+    ghost whole: { length text ≡ LABEL_BYTES },
+    ghost short: { len ≤ LABEL_BYTES },
+    ghost zeros: { drop len text ≡ replicate (LABEL_BYTES - len) 0 },
 }
 
 impl Label {
@@ -23,10 +28,10 @@ impl Label {
 
     /// The label with these bytes.
     pub fn new(bytes: &[u8]) -> Label
-        requires { length bytes.now ≤ 16 }
+        requires { length bytes.now ≤ LABEL_BYTES }
         ensures { name result ≡ bytes.now }
     {
-        let mut text = [0; 16];
+        let mut text = [0; LABEL_BYTES];
         text[..bytes.len()].copy_from_slice(bytes);
         Label {
             len: bytes.len() as u8,

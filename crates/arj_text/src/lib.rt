@@ -16,5 +16,5 @@ mod label;
 mod tests;
 pub mod words;
 
-pub use label::Label;
+pub use label::{LABEL_BYTES, Label};
 pub use words::{answer_text, put_answer};

@@ -1,7 +1,9 @@
 // Which lines are taken where, and what is told of them.
+ghost use Rattle.std.specs.Prelude.{IfSome};
+ghost use Rattle.arj_journal.specs.ScriptForm.{HeaderInForm};
 
 use arj_class::Value;
-use arj_journal::ObjectLine;
+use arj_journal::{Header, ObjectLine};
 use arj_script::{Item, Reader, ScriptFault};
 use std::alloc::Global;
 use std::test::Fail;
@@ -218,6 +220,16 @@ fn is_object(
     )
 }
 
+// The header that the line `run` ends, which is in form.
+fn header_at(reader: &mut Reader) -> Option<Header>
+    ensures { IfSome result HeaderInForm }
+{
+    match reader.line(b"run") {
+        Ok(Item::Run(header)) => Some(header),
+        Ok(_) | Err(_) => None,
+    }
+}
+
 #[test]
 fn a_header_has_its_objects_in_order(rt: HostRuntime) -> Result<(), Fail> {
     let mut reader = reader_behind(rt.alloc(), 2)?;
@@ -225,9 +237,7 @@ fn a_header_has_its_objects_in_order(rt: HostRuntime) -> Result<(), Fail> {
     reader.line(b"object 4 table 1:2 servers 1 stores 1")?;
     reader.line(b"object 2 queue 5 servers 2 stores 4")?;
     reader.line(b"object 7 register 00ff servers 3 stores 3")?;
-    let Item::Run(header) = reader.line(b"run")? else {
-        return Err(Fail::from("no header"));
-    };
+    let header = header_at(&mut reader).ok_or("no header")?;
     assert_eq!(rt; header.nodes, 4);
     let [second, third, fourth, seventh, ninth] = header.objects.as_slice() else {
         return Err(Fail::from("not five objects"));

@@ -7,8 +7,8 @@ use Rattle.arj_class.proofs.Payloads.{front_more, whole_front, numbers_fit_appen
 use Rattle.arj_class.proofs.queue.QueueObjectClass.restore_state.Goals as goal
 
 -- a number more than a queue holds
-pub returns-then-len-eq-CAPACITY-clause-none : goal.returns-then-len-eq-CAPACITY-clause-none
-returns-then-len-eq-CAPACITY-clause-none c _ w form same =
+pub returns-then-len-eq-QUEUE_NUMBERS-clause-none : goal.returns-then-len-eq-QUEUE_NUMBERS-clause-none
+returns-then-len-eq-QUEUE_NUMBERS-clause-none c _ w form same =
     no_queue c.loop-number.numbers.items c.loop-number.rest.now c.args.payload.now c.loop-number.invariant.front
     (λ less. omega arith)
     (omega (arith, ap length c.in-Some.ensures.bytes)) w form same

@@ -1,10 +1,9 @@
-// The kinds of line, by their first words.
-ghost use Rattle.arj_journal_reader.specs.Spellings.{known_line_kinds, line_kinds, line_word};
-
-use crate::spelled::Spelled;
+// The words that tell what a line, a cause or a difference is.
+ghost use Rattle.std.specs.Prelude.{◌≡◌};
+ghost use Rattle.arj_journal.specs.LineWords.{cause_word, difference_word, line_word};
 
 /// The kinds of line. Each begins with a word of its own.
-#[derive(Clone, Copy, Debug, PartialEq, Eq)]
+#[derive(Clone, Copy)]
 pub enum LineKind {
     Began,
     Ok,
@@ -41,50 +40,11 @@ pub enum LineKind {
     Limit,
 }
 
-impl Spelled for LineKind {
-    ghost spelling = { line_word };
-
-    ghost kinds = { line_kinds };
-
-    fn all() -> &'static [LineKind] {
-        &[
-            LineKind::Began,
-            LineKind::Ok,
-            LineKind::Includes,
-            LineKind::Conflict,
-            LineKind::Lost,
-            LineKind::Changed,
-            LineKind::Committing,
-            LineKind::Committed,
-            LineKind::Ended,
-            LineKind::Aborted,
-            LineKind::GaveUp,
-            LineKind::Excluded,
-            LineKind::Granted,
-            LineKind::Lowered,
-            LineKind::Bound,
-            LineKind::Active,
-            LineKind::Told,
-            LineKind::Prepared,
-            LineKind::Done,
-            LineKind::Sent,
-            LineKind::Got,
-            LineKind::Void,
-            LineKind::Dropped,
-            LineKind::Halted,
-            LineKind::Up,
-            LineKind::Armed,
-            LineKind::Recovered,
-            LineKind::Refused,
-            LineKind::Entry,
-            LineKind::Copy,
-            LineKind::Quiet,
-            LineKind::Bad,
-            LineKind::Limit,
-        ]
-    }
-
-    fn word(self) -> &'static [u8] {
+impl LineKind {
+    /// The first word of lines of this kind.
+    pub fn word(self) -> &'static [u8]
+        ensures { result.now ≡ line_word self }
+    {
         match self {
             LineKind::Began => b"began",
             LineKind::Ok => b"ok",
@@ -121,6 +81,54 @@ impl Spelled for LineKind {
             LineKind::Limit => b"limit",
         }
     }
+}
 
-    ghost known = { known_line_kinds };
+/// The causes of an abort. The first two say nothing more.
+#[derive(Clone, Copy)]
+pub enum CauseKind {
+    Asked,
+    Doomed,
+    Lost,
+    Conflict,
+    Changed,
+    Old,
+    NoStores,
+    Listed,
+}
+
+impl CauseKind {
+    /// The first word of causes of this kind.
+    pub fn word(self) -> &'static [u8]
+        ensures { result.now ≡ cause_word self }
+    {
+        match self {
+            CauseKind::Asked => b"asked",
+            CauseKind::Doomed => b"doomed",
+            CauseKind::Lost => b"lost",
+            CauseKind::Conflict => b"conflict",
+            CauseKind::Changed => b"changed",
+            CauseKind::Old => b"old",
+            CauseKind::NoStores => b"nostores",
+            CauseKind::Listed => b"listed",
+        }
+    }
+}
+
+/// What differs.
+#[derive(Clone, Copy)]
+pub enum DifferenceKind {
+    Inc,
+    Bind,
+}
+
+impl DifferenceKind {
+    /// The first word of differences of this kind.
+    pub fn word(self) -> &'static [u8]
+        ensures { result.now ≡ difference_word self }
+    {
+        match self {
+            DifferenceKind::Inc => b"inc",
+            DifferenceKind::Bind => b"bind",
+        }
+    }
 }
