@@ -31,7 +31,7 @@ use Rattle.arj_model.specs.Past.{block}
 
 -- a label of one letter
 abbrev pub letter : ℕ → Label
-letter b = record { len = 1; text = b ∷ replicate 15 0; short = omega arith; zeros = refl }
+letter b = record { len = 1; text = b ∷ replicate 15 0; whole = refl; short = omega arith; zeros = refl }
 
 abbrev pub uid : ℕ → Uid
 uid k = record { node = 1; inc = 1; num = k }

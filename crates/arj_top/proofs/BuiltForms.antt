@@ -12,9 +12,10 @@ use Rattle.arj_journal.specs.declared.event.Event.{Event}
 use Rattle.arj_journal.specs.declared.event.Event.TheVariants as event
 use Rattle.arj_text.specs.declared.label.Label.{Label}
 use Rattle.arj_text.specs.Label.{LabelInForm, is_label, is_letter, is_digit, name}
+use Rattle.arj_journal.specs.ScriptForm.{EventInForm}
 use Rattle.arj_journal.specs.ScriptText.{event_text, nodes_text}
 use Rattle.arj_text.specs.Words.{number_word, space}
-use Rattle.arj_script.specs.Grammar.{Form, Blank, Nodes, Object, Run, Asks, Place, Start, Objects, Running, next_place, nodes_at, EventHasForm, Fits, HasForm, IsBlank}
+use Rattle.arj_script.specs.Grammar.{Form, Blank, Nodes, Object, Run, Asks, Place, Start, Objects, Running, next_place, nodes_at, Fits, HasForm, IsBlank}
 use Rattle.arj_script.specs.Input.{Tells}
 use Rattle.arj_script.specs.declared.reader.Item.{Item}
 use Rattle.arj_script.specs.declared.reader.Item.TheVariants as item
@@ -66,7 +67,7 @@ behind_label l rest form = by (name l) form
         (λ i. if no_space b letter i then bs ++ 32 ∷ rest else behind_name bs rest parts.1 i)
 
 -- and no event's text is a comment
-event_tells : (e : Event) → EventHasForm e → (is_built_text (event_text e) ≡ is_built_event e) × (is_blank (event_text e) ≡ false)
+event_tells : (e : Event) → EventInForm e → (is_built_text (event_text e) ≡ is_built_event e) × (is_blank (event_text e) ≡ false)
 event_tells (event.Begin l n) form = (ap (λ bytes. bytes_eq (first_word bytes) (codes "at")) (behind_label l (codes "at" ++ number_word n) form.0), refl)
 event_tells (event.BeginIn l p) form = (ap (λ bytes. bytes_eq (first_word bytes) (codes "at")) (behind_label l (codes "in" ++ (space ++ name p)) form.0), refl)
 event_tells (event.Top l p) form = (refl, refl)
