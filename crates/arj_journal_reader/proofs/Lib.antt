@@ -1,3 +1,4 @@
+pub mod AnswerTexts
 pub mod ByKind
 pub mod CallReading
 pub mod Calls

@@ -5,10 +5,11 @@ ghost use Rattle.arj_journal_reader.specs.Reading.{IsTaken};
 ghost use Rattle.arj_text.specs.Words.{op_text};
 
 use crate::LineFault;
+use crate::answers::is_answer;
 use crate::piece::{Piece, before, taken};
 use arj_base::Bytes;
 use arj_class::Op;
-use arj_text::field_value::{is_answer, operation};
+use arj_text::field_value::operation;
 use std::alloc::Global;
 
 /// An operation and the text of its answer, with ` = ` between them.

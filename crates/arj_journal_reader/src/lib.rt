@@ -7,6 +7,7 @@
 #![tactic(auto)]
 
 mod action_lines;
+mod answers;
 mod call;
 mod causes;
 mod fault;
@@ -17,6 +18,7 @@ mod pieces;
 mod read;
 mod spelled;
 mod spellings;
+mod uid;
 
 pub use fault::LineFault;
 pub use law::one_text_per_journal;

@@ -10,14 +10,14 @@ ghost use Rattle.arj_journal.specs.LineWords.{yes_text};
 ghost use Rattle.arj_text.specs.Words.{hex, list_text};
 ghost use Rattle.arj_journal.specs.declared.limits.TheConstants.{NODES, OBJECTS, REFUSALS, STORES};
 
-use crate::LineFault;
 use crate::piece::{Piece, taken};
+use crate::{LineFault, uid};
 use arj_base::{Binding, Bytes, NodeList, Uid};
 use arj_journal::words::yes_word;
 use arj_journal::{NODES, OBJECTS, REFUSALS, STORES};
 use arj_text::field::{is_text, label_of, number};
 use arj_text::field_list::nodes;
-use arj_text::{Label, field_hex, field_uid};
+use arj_text::{Label, field_hex};
 use std::alloc::Global;
 
 /// A node, 1 to 16.
@@ -158,7 +158,7 @@ impl Piece for Uid {
     ghost text = { uid_text };
 
     fn read(alloc: Global, bytes: &[u8]) -> Result<Uid, LineFault> {
-        taken(field_uid::uid(alloc, bytes)?)
+        taken(uid::uid(alloc, bytes)?)
     }
 }
 
@@ -168,7 +168,7 @@ impl Piece for Binding {
     ghost text = { binding_text };
 
     fn read(alloc: Global, bytes: &[u8]) -> Result<Binding, LineFault> {
-        taken(field_uid::binding(alloc, bytes)?)
+        taken(uid::binding(alloc, bytes)?)
     }
 }
 

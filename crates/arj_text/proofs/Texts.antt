@@ -8,10 +8,7 @@ use Rattle.std.proofs.lemmas.Bool.Decides.{nat_tests}
 use Rattle.std.proofs.lemmas.List.Folds.{list_any-append}
 use Rattle.std.proofs.lemmas.Fmt.{decimal_by_steps}
 use Rattle.arj_text.specs.Label.{is_label, is_letter, is_digit}
-use Rattle.arj_base.specs.declared.binding.Binding.{Binding}
-use Rattle.arj_base.specs.declared.uid.Uid.{Uid}
-use Rattle.arj_base.specs.Uid.{UidFits, binding_text, uid_text}
-use Rattle.arj_text.specs.Fields.{IsRead, HasNoFirst, IsFirst, BindingInForm, behind, has_byte, has_space}
+use Rattle.arj_text.specs.Fields.{IsRead, HasNoFirst, IsFirst, behind, has_byte, has_space}
 
 -- A text is cut at the first such byte in one way.
 pub cut_once : (k : ℕ) (w v r s : List ℕ) → has_byte k w ≡ false → has_byte k v ≡ false → w ++ k ∷ r ≡ v ++ k ∷ s → (w ≡ v) × (r ≡ s)
@@ -95,19 +92,6 @@ some_first k InForm text whole bytes w r a hw parts read = record {
       cut_once k (text a) (text b) r s (whole a read.0) (whole b fits)
       (ap (λ v. v ++ k ∷ r) (sym read.1) ∙ (sym parts ∙ e));
 }
-
--- The text of a Uid and that of a binding hold no space.
-pub spaceless_binding : (b : Binding) → BindingInForm b → has_space (binding_text b) ≡ false
-spaceless_binding b fits =
-    list_any-append (λ c. c == 32) (decimal b.inc) (46 ∷ decimal b.count) ∙
-    or_from (has_space (decimal b.inc)) _ (digits_only 32 b.inc refl (omega (arith, fits.0))) (digits_only 32 b.count refl (omega (arith, fits.1)))
-
-pub spaceless_uid : (u : Uid) → UidFits u → has_space (uid_text u) ≡ false
-spaceless_uid u fits =
-    list_any-append (λ c. c == 32) (decimal u.node) (46 ∷ (decimal u.inc ++ 46 ∷ decimal u.num)) ∙
-    or_from (has_space (decimal u.node)) _ (digits_only 32 u.node refl (omega (arith, fits.0)))
-    (list_any-append (λ c. c == 32) (decimal u.inc) (46 ∷ decimal u.num) ∙
-    or_from (has_space (decimal u.inc)) _ (digits_only 32 u.inc refl (omega (arith, fits.1))) (digits_only 32 u.num refl (omega (arith, fits.2))))
 
 -- What was read behind a front is what was read with it.
 pub read_behind : {A : Type 0} (InForm : A → Type 0) (text : A → List ℕ) (front bytes rest : List ℕ) (found : Option A) → bytes ≡ front ++ rest → IsRead InForm text rest found → IsRead InForm (behind front text) bytes found

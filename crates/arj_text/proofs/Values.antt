@@ -1,41 +1,16 @@
--- The texts of operations, answers and values.
-use Rattle.std.proofs.Common.{◌≡◌, ◌≢◌, ℕ, ◌<◌, ◌≤◌, List, [], ◌∷◌, ◌++◌, codes, true, false, Some, None, refl, sym, ◌∙◌, arith}
-use Rattle.std.specs.Fmt.{decimal}
+-- Operations and values, and their texts.
+use Rattle.std.proofs.Common.{◌≡◌, ◌≢◌, ℕ, ◌<◌, List, [], ◌∷◌, ◌++◌, codes, true, false, None, refl, sym, ◌∙◌, arith}
+use Rattle.std.specs.List.{AllByRecursion}
 use Rattle.std.proofs.lemmas.Bool.{and_parts, both_ways, ltb-true}
 use Rattle.arj_class.specs.declared.op.Op.{Op}
 use Rattle.arj_class.specs.declared.op.Op.TheVariants as op
-use Rattle.arj_class.specs.declared.op.Answer.{Answer}
-use Rattle.arj_class.specs.declared.op.Answer.TheVariants as answer
+use Rattle.arj_class.specs.declared.value.Value.{Value}
+use Rattle.arj_class.specs.declared.value.Value.TheVariants as value
+use Rattle.arj_class.specs.Forms.{NumbersFit, OpInForm, PairsFit, ValueInForm}
 use Rattle.arj_class.specs.Keys.{KeysAbove, KeysRise}
-use Rattle.arj_text.specs.Words.{op_text, answer_text, hex}
-use Rattle.arj_text.specs.Fields.{IsRead, IsWithin, NumberInForm, AreBytesUpTo, PairInForm, OpTextInForm, IsPutOp, IsAnswer, IsAnswerWord, is_below_first, is_get, is_put_op, is_rising, is_word_answer, two_text}
+use Rattle.arj_text.specs.Words.{op_text, hex}
+use Rattle.arj_text.specs.Fields.{IsRead, NumberInForm, AreBytesUpTo, PairInForm, OpTextInForm, ValueTextInForm, IsPutOp, is_below_first, is_put_op, is_rising, two_text}
 use Rattle.arj_text.proofs.Texts.{same_rest}
-
--- the answers that are a word
-pub word_answer : (bytes : List ℕ) (a : Answer) → is_word_answer a ≡ true → bytes ≡ answer_text a → IsAnswerWord bytes
-word_answer bytes a word e = (a, word, e)
-
-pub no_word_answer : (bytes : List ℕ) → bytes ≢ codes "done" → bytes ≢ codes "over" → bytes ≢ codes "short" → bytes ≢ codes "full" → bytes ≢ codes "none" → IsAnswerWord bytes → ⊥
-no_word_answer bytes done over short full nothing h = cases h.0 h.1 h.2
-  where
-    cases : (a : Answer) → is_word_answer a ≡ true → bytes ≢ answer_text a
-    cases answer.Done word e = done e
-    cases (answer.Number n) word e = both_ways false refl word
-    cases (answer.Text bs) word e = both_ways false refl word
-    cases answer.Over word e = over e
-    cases answer.Short word e = short e
-    cases answer.Full word e = full e
-    cases answer.Nothing word e = nothing e
-
--- a number, and after a `get` without a key bytes
-pub number_answer : (asked : Op) (bytes : List ℕ) (n : ℕ) → IsRead (IsWithin 0 18446744073709551615) decimal bytes (Some n) → IsAnswer asked bytes
-number_answer asked bytes n read =
-    let high : n ≤ 18446744073709551615 = read.0.1 in
-    let fits : NumberInForm n = omega arith in
-    (answer.Number n, fits, read.1)
-
-pub text_answer : (asked : Op) (bytes found : List ℕ) → is_get asked ≡ true → IsRead (AreBytesUpTo 64) hex bytes (Some found) → IsAnswer asked bytes
-text_answer asked bytes found get read = (answer.Text found, (get, read.0), read.1)
 
 -- A put has one argument or two.
 pub no_put : (bytes arguments : List ℕ) → bytes ≡ codes "put " ++ arguments → IsRead (AreBytesUpTo 64) hex arguments None → IsRead PairInForm two_text arguments None → IsRead IsPutOp op_text bytes None
@@ -68,3 +43,33 @@ keys_rise (p ∷ q ∷ ps) h =
     let low : p.0 < q.0 = ltb-true p.0 q.0 parts.0 in
     let rest = keys_rise (q ∷ ps) parts.1 in
     ((low, above_more p.0 q.0 ps low rest.0), rest)
+
+-- What a text can say is in form.
+pub op_in_form : (o : Op) → OpTextInForm o → OpInForm o
+op_in_form op.Get h = tt
+op_in_form (op.Add n) h = tt
+op_in_form (op.Set n) h = tt
+op_in_form (op.Put bytes) h = h.0
+op_in_form (op.Deposit n) h = tt
+op_in_form (op.Withdraw n) h = tt
+op_in_form op.Len h = tt
+op_in_form (op.Push n) h = tt
+op_in_form op.Pop h = tt
+op_in_form (op.GetKey k) h = tt
+op_in_form (op.PutPair k v) h = tt
+op_in_form (op.Remove k) h = tt
+
+numbers_fit : (ns : List ℕ) → AllByRecursion NumberInForm ns → NumbersFit ns
+numbers_fit [] all = tt
+numbers_fit (n ∷ ns) all = (all.0, numbers_fit ns all.1)
+
+pairs_fit : (ps : List (ℕ × ℕ)) → AllByRecursion PairInForm ps → PairsFit ps
+pairs_fit [] all = tt
+pairs_fit (p ∷ ps) all = (all.0.0, all.0.1, pairs_fit ps all.1)
+
+pub value_in_form : (v : Value) → ValueTextInForm v → ValueInForm v
+value_in_form (value.Counter n) h = h
+value_in_form (value.Register bytes) h = h.0
+value_in_form (value.Account n) h = h
+value_in_form (value.Queue ns) h = (h.0, numbers_fit ns h.1)
+value_in_form (value.Table ps) h = (h.0, keys_rise ps h.2, pairs_fit ps h.1)

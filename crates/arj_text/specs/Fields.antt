@@ -163,15 +163,6 @@ IsPutOp op = OpTextInForm op × (is_put_op op ≡ true)
 abbrev pub IsNumberOp : Op → Type 0
 IsNumberOp op = OpTextInForm op × ((is_word_op op ≡ false) × (is_put_op op ≡ false))
 
--- the answers that are a word
-abbrev pub is_word_answer : Answer → Bool
-is_word_answer (answer.Number n) = false
-is_word_answer (answer.Text bytes) = false
-is_word_answer _ = true
-
-abbrev pub IsAnswerWord : List ℕ → Type 0
-IsAnswerWord bytes = (a : Answer) × (is_word_answer a ≡ true) × (bytes ≡ answer_text a)
-
 -- some answer to that operation in form has the text
 abbrev pub IsAnswer : Op → List ℕ → Type 0
 IsAnswer asked bytes = (a : Answer) × AnswerTextInForm asked a × (bytes ≡ answer_text a)

@@ -1,7 +1,7 @@
-// Operations, answers and first values in a line.
-ghost use Rattle.std.specs.Prelude.{◌≡◌, IfOk, MatchBool, MatchOption, codes};
+// Operations and first values in a line.
+ghost use Rattle.std.specs.Prelude.{IfOk, MatchOption, codes};
 ghost use Rattle.std.specs.Fmt.{decimal};
-ghost use Rattle.arj_text.specs.Fields.{AreBytesUpTo, HasNoFirst, IsAnswer, IsAnswerWord, IsFirst, IsNumberOp, IsPutOp, IsRead, IsWordOp, NumberInForm, NumbersInForm, OpTextInForm, PairInForm, PairsInForm, ValueTextInForm, behind, is_get, two_text};
+ghost use Rattle.arj_text.specs.Fields.{AreBytesUpTo, HasNoFirst, IsFirst, IsNumberOp, IsPutOp, IsRead, IsWordOp, NumberInForm, NumbersInForm, OpTextInForm, PairInForm, PairsInForm, ValueTextInForm, behind, two_text};
 ghost use Rattle.arj_text.specs.Words.{hex, numbers_text, op_text, pairs_text, value_text};
 
 use crate::field::{after, cut, is_text, number, number_first};
@@ -107,54 +107,6 @@ fn two_numbers(alloc: Global, bytes: &[u8]) -> Result<Option<(u64, u64)>, AllocE
         Some(second) => Ok(Some((first, second))),
         None => Ok(None),
     }
-}
-
-/// Whether the bytes are an answer to that operation: `done`, `over`, `short`, `full`, `none` or a number, and after a
-/// `get` without a key also at most 64 bytes as digits.
-pub fn is_answer(alloc: Global, asked: &Op, bytes: &[u8]) -> Result<bool, AllocError>
-    ensures { IfOk result (λ yes. MatchBool yes (IsAnswer asked.now bytes.now) (IsAnswer asked.now bytes.now → ⊥)) }
-{
-    if is_answer_word(bytes) {
-        return Ok(true);
-    }
-    if let Some(_number) = number(alloc, bytes, 0, u64::MAX)? {
-        return Ok(true);
-    }
-    if !is_get(asked) {
-        return Ok(false);
-    }
-    match hex_up_to(alloc, bytes, REGISTER_BYTES)? {
-        Some(_value) => Ok(true),
-        None => Ok(false),
-    }
-}
-
-// Whether the bytes are one of the answers that are a word.
-fn is_answer_word(bytes: &[u8]) -> bool
-    ensures { MatchBool result (IsAnswerWord bytes.now) (IsAnswerWord bytes.now → ⊥) }
-{
-    if is_text(bytes, b"done") {
-        return true;
-    }
-    if is_text(bytes, b"over") {
-        return true;
-    }
-    if is_text(bytes, b"short") {
-        return true;
-    }
-    if is_text(bytes, b"full") {
-        return true;
-    }
-    if is_text(bytes, b"none") {
-        return true;
-    }
-    false
-}
-
-fn is_get(op: &Op) -> bool
-    ensures { result ≡ is_get op.now }
-{
-    matches!(op, Op::Get)
 }
 
 /// A class and a first value of it.

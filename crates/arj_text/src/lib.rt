@@ -1,5 +1,5 @@
-//! The words of a line: labels, numbers, bytes as digits, lists, Uids, operations, answers and values, each with its
-//! text and its reader.
+//! The words of a line: labels, numbers, bytes as digits, lists, operations, answers and values, with their texts, and
+//! readers of those that scripts have.
 //!
 //! It stands on `arj_base` and `arj_class`. What it gives upward: each writer of `words` appends exactly the text that
 //! `specs/Words.antt` says, and each reader of the `field` modules gives the one value in form that has the text, and
@@ -9,12 +9,11 @@
 pub mod field;
 pub mod field_hex;
 pub mod field_list;
-pub mod field_uid;
 pub mod field_value;
 mod label;
-#[cfg(test)]
-mod tests;
+mod laws;
 pub mod words;
 
 pub use label::{LABEL_BYTES, Label};
+pub use laws::texts_say_what_is_in_form;
 pub use words::{answer_text, put_answer};

@@ -1,7 +1,7 @@
-//! Tests of scripts and journals as texts: lines and whole runs, read and printed again.
+//! Tests of scripts and journals as texts: words, lines and whole runs, read and printed again.
 //!
-//! It stands on `arj_script`, which reads scripts, and on `arj_journal_reader`, which reads journals. It has tests alone,
-//! kept out of those crates, each of which would be proved a second time for them.
+//! It stands on `arj_script`, which reads scripts, on `arj_journal_reader`, which reads journals, and on `arj_text`. It
+//! has tests alone: a crate with tests is proved twice, and here that is little.
 #![tactic(auto)]
 
 #[cfg(test)]
@@ -10,3 +10,5 @@ mod journals;
 mod runs;
 #[cfg(test)]
 mod scripts;
+#[cfg(test)]
+mod words;

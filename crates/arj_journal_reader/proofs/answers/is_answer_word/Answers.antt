@@ -1,7 +1,7 @@
 use Rattle.std.proofs.Common.{refl}
 use Rattle.arj_class.specs.declared.op.Answer.TheVariants.{Done, Over, Short, Full, Nothing}
-use Rattle.arj_text.proofs.Values.{word_answer, no_word_answer}
-use Rattle.arj_text.proofs.field_value.is_answer_word.Goals as goal
+use Rattle.arj_journal_reader.proofs.AnswerTexts.{word_answer, no_word_answer}
+use Rattle.arj_journal_reader.proofs.answers.is_answer_word.Goals as goal
 
 pub returns-then-is_text : goal.returns-then-is_text
 returns-then-is_text c = word_answer c.args.bytes.now Done refl c.if-is_text.ensures

@@ -1,10 +1,10 @@
 // Uids and bindings in a line: decimals with points between them.
-ghost use Rattle.std.specs.Prelude.{IfOk, MatchOption};
+ghost use Rattle.std.specs.Prelude.{IfOk};
 ghost use Rattle.arj_base.specs.Uid.{UidFits, binding_text, uid_text};
-ghost use Rattle.arj_text.specs.Fields.{IsRead, HasNoFirst, IsFirst, BindingInForm};
+ghost use Rattle.arj_text.specs.Fields.{BindingInForm, IsRead};
 
-use crate::field::{cut, number, number_first};
 use arj_base::{Binding, Uid};
+use arj_text::field::{number, number_first};
 use std::alloc::{AllocError, Global};
 
 /// The largest number of 32 bits.
@@ -30,21 +30,6 @@ pub fn uid(alloc: Global, bytes: &[u8]) -> Result<Option<Uid>, AllocError>
     }))
 }
 
-/// A Uid before a space, and what stands behind that.
-pub fn uid_first(alloc: Global, bytes: &[u8]) -> Result<Option<(Uid, &[u8])>, AllocError>
-    ensures { IfOk result (λ found. MatchOption found
-        (HasNoFirst 32 UidFits uid_text bytes.now)
-        (λ p. IsFirst 32 UidFits uid_text bytes.now p.0 p.1.now)) }
-{
-    let Some((word, rest)) = cut(bytes, b' ') else {
-        return Ok(None);
-    };
-    match uid(alloc, word)? {
-        Some(found) => Ok(Some((found, rest))),
-        None => Ok(None),
-    }
-}
-
 /// A binding, printed `inc.count`.
 pub fn binding(alloc: Global, bytes: &[u8]) -> Result<Option<Binding>, AllocError>
     ensures { IfOk result (λ found. IsRead BindingInForm binding_text bytes.now found) }
@@ -59,19 +44,4 @@ pub fn binding(alloc: Global, bytes: &[u8]) -> Result<Option<Binding>, AllocErro
         inc: inc as u32,
         count: count as u32,
     }))
-}
-
-/// A binding before a space, and what stands behind that.
-pub fn binding_first(alloc: Global, bytes: &[u8]) -> Result<Option<(Binding, &[u8])>, AllocError>
-    ensures { IfOk result (λ found. MatchOption found
-        (HasNoFirst 32 BindingInForm binding_text bytes.now)
-        (λ p. IsFirst 32 BindingInForm binding_text bytes.now p.0 p.1.now)) }
-{
-    let Some((word, rest)) = cut(bytes, b' ') else {
-        return Ok(None);
-    };
-    match binding(alloc, word)? {
-        Some(found) => Ok(Some((found, rest))),
-        None => Ok(None),
-    }
 }

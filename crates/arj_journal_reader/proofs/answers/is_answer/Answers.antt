@@ -1,6 +1,6 @@
 use Rattle.std.proofs.Common.{sym}
-use Rattle.arj_text.proofs.Values.{number_answer, text_answer}
-use Rattle.arj_text.proofs.field_value.is_answer.Goals as goal
+use Rattle.arj_journal_reader.proofs.AnswerTexts.{number_answer, text_answer}
+use Rattle.arj_journal_reader.proofs.answers.is_answer.Goals as goal
 
 pub returns-in-Some : goal.returns-in-Some
 returns-in-Some c = number_answer c.args.asked.now c.args.bytes.now c.in-Some._number (rw c.in-Some.is at c.in_ok-_number.ensures)

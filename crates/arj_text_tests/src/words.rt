@@ -5,21 +5,20 @@ ghost use Rattle.std.specs.Str.{bytes_eq};
 ghost use Rattle.std.specs.BTreeMap.{get};
 ghost use Rattle.arj_text.specs.Label.{name, label_cmp};
 
-use crate::field::{cut, is_text, label_first, label_of, number, number_first};
-use crate::field_hex::{hex, hex_up_to};
-use crate::field_list::{nodes, nodes_first, numbers, pairs};
-use crate::field_uid::{binding, binding_first, uid, uid_first};
-use crate::field_value::{is_answer, operation, value, value_first};
-use crate::words::{put_hex, put_list, put_op};
-use crate::{Label, answer_text};
-use arj_base::{Binding, Bytes, Uid};
+use arj_base::Bytes;
 use arj_class::{Answer, Op};
+use arj_text::field::{cut, is_text, label_first, label_of, number, number_first};
+use arj_text::field_hex::{hex, hex_up_to};
+use arj_text::field_list::{nodes, nodes_first, numbers, pairs};
+use arj_text::field_value::{operation, value, value_first};
+use arj_text::words::{put_hex, put_list, put_op};
+use arj_text::{Label, answer_text};
 use std::alloc::{AllocError, Global};
 use std::collections::BTreeMap;
 use std::test::Fail;
 
 // Each with the word for its reader before it.
-const WORDS: [&str; 30] = [
+const WORDS: [&str; 25] = [
     "label A",
     "label Abcdefghij012345",
     "label_first A 2",
@@ -37,11 +36,6 @@ const WORDS: [&str; 30] = [
     "numbers 18446744073709551615,1,1",
     "pairs -",
     "pairs 1:9,2:0",
-    "uid 0.0.1",
-    "uid 4294967295.1.18446744073709551615",
-    "uid_first 1.1.1 x",
-    "binding 4294967295.8",
-    "binding_first 1.7 1.8",
     "value counter 7",
     "value account 100",
     "value register -",
@@ -52,7 +46,7 @@ const WORDS: [&str; 30] = [
     "operation put -",
 ];
 
-const NOT_WORDS: [&str; 34] = [
+const NOT_WORDS: [&str; 31] = [
     "label ",
     "label 1A",
     "label A-",
@@ -81,9 +75,6 @@ const NOT_WORDS: [&str; 34] = [
     "pairs 2:0,1:9",
     "pairs 1:9,1:9",
     "pairs 1",
-    "uid 1.1",
-    "uid 4294967296.1.1",
-    "binding 1.1.1",
     "value table 2:0,1:9",
     "value counter",
     "operation put 1",
@@ -97,7 +88,7 @@ fn words_are_read(rt: HostRuntime) -> Result<(), Fail> {
     for text in NOT_WORDS {
         assert!(rt; !is_read(rt.alloc(), text.as_bytes())?, "{text}");
     }
-    for place in 0..7usize {
+    for place in 0..5usize {
         assert!(rt; has_value(rt.alloc(), place)?, "word {place}");
     }
     for place in 0..14usize {
@@ -149,18 +140,6 @@ fn is_list_read(alloc: Global, reader: &[u8], text: &[u8]) -> Result<bool, Alloc
 }
 
 fn is_other_read(alloc: Global, reader: &[u8], text: &[u8]) -> Result<bool, AllocError> {
-    if is_text(reader, b"uid") {
-        return Ok(uid(alloc, text)?.is_some());
-    }
-    if is_text(reader, b"uid_first") {
-        return Ok(uid_first(alloc, text)?.is_some());
-    }
-    if is_text(reader, b"binding") {
-        return Ok(binding(alloc, text)?.is_some());
-    }
-    if is_text(reader, b"binding_first") {
-        return Ok(binding_first(alloc, text)?.is_some());
-    }
     if is_text(reader, b"value") {
         return Ok(value(alloc, text)?.is_some());
     }
@@ -174,19 +153,10 @@ fn is_other_read(alloc: Global, reader: &[u8], text: &[u8]) -> Result<bool, Allo
 fn has_value(alloc: Global, place: usize) -> Result<bool, AllocError> {
     match place {
         0 => Ok(number(alloc, b"18446744073709551615", 0, u64::MAX)? == Some(u64::MAX)),
-        1 => Ok(
-            uid(alloc, b"2.1.7")?
-                == Some(Uid {
-                    node: 2,
-                    inc: 1,
-                    num: 7,
-                }),
-        ),
-        2 => Ok(binding(alloc, b"1.7")? == Some(Binding { inc: 1, count: 7 })),
-        3 => has_bytes(alloc, "00ff", &[0, 255]),
-        4 => has_bytes(alloc, "-", &[]),
-        5 => has_nodes(alloc, "3", &[3]),
-        6 => has_nodes(alloc, "1,3,2", &[1, 3, 2]),
+        1 => has_bytes(alloc, "00ff", &[0, 255]),
+        2 => has_bytes(alloc, "-", &[]),
+        3 => has_nodes(alloc, "3", &[3]),
+        4 => has_nodes(alloc, "1,3,2", &[1, 3, 2]),
         _ => Ok(false),
     }
 }
@@ -261,8 +231,7 @@ fn call_has_text(
     Ok(
         text.as_slice() == asked.as_bytes()
             && said.as_slice() == answered.as_bytes()
-            && is_read_back(alloc, asked)?
-            && is_answer(alloc, &op, answered.as_bytes())?,
+            && is_read_back(alloc, asked)?,
     )
 }
 
@@ -283,7 +252,7 @@ fn bytes(alloc: Global, items: &[u8]) -> Result<Bytes, AllocError> {
 }
 
 // Labels as keys of a map.
-#[tactic(auto, using(crate::proofs::Labels::get_updates))]
+#[tactic(auto, using(arj_text::proofs::Labels::get_updates))]
 fn put_place(places: &mut BTreeMap<Label, usize>, label: Label, place: usize) -> Result<(), Fail>
     ensures { OnOk result ((other : Label) → get label_cmp places.new other
         ≡ (if bytes_eq (name label) (name other) then Some place else get label_cmp places.old other)) }
