@@ -249,7 +249,7 @@ either (op.Remove v) h = inr (h, refl)
 either (op.PutPair k v) h = inr (h, refl)
 
 pub op_facts : PieceFacts (form_of Op OpTextInForm op_text)
-op_facts = mixed_facts ops OpFits OpTextInForm op_text Bare bare_op bares
+op_facts = mixed_facts ops OpFits OpTextInForm op_text (record { Bare = Bare; bare = bare_op; every = bares })
     (record { are = ops_are; facts = kinds_facts ops words OpFits op_text op_words ops_are op_forms; known = bare_known; letters = refl; either = either })
 
 -- an operation and its answer

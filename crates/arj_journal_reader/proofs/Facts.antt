@@ -1,18 +1,26 @@
 -- What is known of the pieces of a line: no two values in form have one text, and where their texts end.
 use Rattle.std.proofs.Common.{◌≡◌, ◌≢◌, ℕ, List, true, false, refl, sym, ◌∙◌, ap, ⊎_elim, ◌⊎◌}
 use Rattle.std.specs.Prelude.{⊤}
+use Rattle.std.specs.Fmt.{decimal}
 use Rattle.std.specs.List.{list_all}
-use Rattle.arj_text.specs.Fields.{has_byte, has_space}
+use Rattle.arj_text.specs.Fields.{NumberInForm, has_byte, has_space}
 use Rattle.arj_journal_reader.specs.Form.{Form, ◌▸◌, kept, Kinds}
 use Rattle.arj_text.specs.Label.{is_letter}
 use Rattle.arj_journal_reader.specs.Spellings.{IsKnown}
 use Rattle.arj_journal_reader.proofs.ByKind.{AreOfKinds, Lacks, LacksIn, Once, OnceIn, kept_once, kinds_lack, kinds_once, one_word, pair_lacks, pair_once}
-use Rattle.arj_journal_reader.proofs.Leaves.{IsApart, end_apart, known_once, known_passes, letters_lack, space_apart}
+use Rattle.arj_journal_reader.proofs.Leaves.{IsApart, end_apart, known_once, known_passes, letters_lack, number_lacks, number_once, space_apart}
 
 -- a piece that is one word
 pub record WordFacts (f : Form) : Type 0 where
   pub once : OnceIn f
   pub plain : (k : ℕ) → IsApart k → LacksIn k f
+
+-- a number, in a value that has nothing else
+pub numbered : (A : Type 0) (number : A → ℕ) (InForm : A → Type 0) → ((a : A) → InForm a → NumberInForm (number a)) → ((a b : A) → number a ≡ number b → a ≡ b) → WordFacts (record { Value = A; InForm = InForm; text = λ a. decimal (number a) })
+numbered A number InForm fits only = record {
+  once = λ a b ha hb e. only a b (number_once (number a) (number b) (fits a ha) (fits b hb) e);
+  plain = λ k apart a h. number_lacks k apart (number a) (fits a h);
+}
 
 -- a piece of any kind
 pub record PieceFacts (f : Form) : Type 0 where
@@ -62,40 +70,46 @@ kinds_facts ks every InForm text words are each = record {
   endless = kinds_lack 10 ks InForm text are refl (word_lacks ks.word every words.known words.letters 10 end_apart) (λ k. (each k).endless);
 }
 
+-- Values of a type that are one word: each by a name of its own.
+pub record Bares (A : Type 0) : Type 1 where
+  pub Bare : Type 0
+  pub bare : Bare → A
+  pub every : List Bare
+
 -- Values of several kinds, beside some that are one word of letters alone.
-pub record AreMixed (ks : Kinds) (Worded InForm : ks.Whole → Type 0) (text : ks.Whole → List ℕ) (B : Type 0) (bare : B → ks.Whole) (every : List B) : Type 0 where
+pub record AreMixed (ks : Kinds) (Worded InForm : ks.Whole → Type 0) (text : ks.Whole → List ℕ) (bs : Bares ks.Whole) : Type 0 where
   pub are : AreOfKinds ks Worded text
   pub facts : PieceFacts (form_of ks.Whole Worded text)
-  pub known : IsKnown (λ b. text (bare b)) every
-  pub letters : AreLetters (λ b. text (bare b)) every
-  pub either : (w : ks.Whole) → InForm w → ((b : B) × (bare b ≡ w)) ⊎ Worded w
+  pub known : IsKnown (λ b. text (bs.bare b)) bs.every
+  pub letters : AreLetters (λ b. text (bs.bare b)) bs.every
+  pub either : (w : ks.Whole) → InForm w → ((b : bs.Bare) × (bs.bare b ≡ w)) ⊎ Worded w
 
-bare_other : (ks : Kinds) (Worded InForm : ks.Whole → Type 0) (text : ks.Whole → List ℕ) (B : Type 0) (bare : B → ks.Whole) (every : List B) → AreMixed ks Worded InForm text B bare every → (v w : ks.Whole) → (b : B) × (bare b ≡ v) → Worded w → text v ≢ text w
-bare_other ks Worded InForm text B bare every mixed v w b h e =
-    one_word ks Worded text mixed.are (text (bare b.0)) (word_lacks (λ c. text (bare c)) every mixed.known mixed.letters 32 space_apart b.0) w h (ap text b.1 ∙ e)
+bare_other : (ks : Kinds) (Worded InForm : ks.Whole → Type 0) (text : ks.Whole → List ℕ) (bs : Bares ks.Whole) → AreMixed ks Worded InForm text bs → (v w : ks.Whole) → (b : bs.Bare) × (bs.bare b ≡ v) → Worded w → text v ≢ text w
+bare_other ks Worded InForm text bs mixed v w b h e =
+    one_word ks Worded text mixed.are (text (bs.bare b.0)) (word_lacks (λ c. text (bs.bare c)) bs.every mixed.known mixed.letters 32 space_apart b.0) w h (ap text b.1 ∙ e)
 
-bare_once : (ks : Kinds) (Worded InForm : ks.Whole → Type 0) (text : ks.Whole → List ℕ) (B : Type 0) (bare : B → ks.Whole) (every : List B) → AreMixed ks Worded InForm text B bare every → (v w : ks.Whole) → (b : B) × (bare b ≡ v) → (c : B) × (bare c ≡ w) → text v ≡ text w → v ≡ w
-bare_once ks Worded InForm text B bare every mixed v w b c e =
-    let same = known_once (λ a. text (bare a)) every mixed.known b.0 c.0 (ap text b.1 ∙ (e ∙ sym (ap text c.1))) in
-    sym b.1 ∙ (ap bare same ∙ c.1)
+bare_once : (ks : Kinds) (Worded InForm : ks.Whole → Type 0) (text : ks.Whole → List ℕ) (bs : Bares ks.Whole) → AreMixed ks Worded InForm text bs → (v w : ks.Whole) → (b : bs.Bare) × (bs.bare b ≡ v) → (c : bs.Bare) × (bs.bare c ≡ w) → text v ≡ text w → v ≡ w
+bare_once ks Worded InForm text bs mixed v w b c e =
+    let same = known_once (λ a. text (bs.bare a)) bs.every mixed.known b.0 c.0 (ap text b.1 ∙ (e ∙ sym (ap text c.1))) in
+    sym b.1 ∙ (ap bs.bare same ∙ c.1)
 
-pub mixed_facts : (ks : Kinds) (Worded InForm : ks.Whole → Type 0) (text : ks.Whole → List ℕ) (B : Type 0) (bare : B → ks.Whole) (every : List B) → AreMixed ks Worded InForm text B bare every → PieceFacts (form_of ks.Whole InForm text)
-mixed_facts ks Worded InForm text B bare every mixed = record { once = once; endless = endless }
+pub mixed_facts : (ks : Kinds) (Worded InForm : ks.Whole → Type 0) (text : ks.Whole → List ℕ) (bs : Bares ks.Whole) → AreMixed ks Worded InForm text bs → PieceFacts (form_of ks.Whole InForm text)
+mixed_facts ks Worded InForm text bs mixed = record { once = once; endless = endless }
   where
     once : Once InForm text
     once v w hv hw e = ⊎_elim
-        (λ (b : (b : B) × (bare b ≡ v)). ⊎_elim
-        (λ (c : (c : B) × (bare c ≡ w)). bare_once ks Worded InForm text B bare every mixed v w b c e)
-        (λ (f : Worded w). absurd (bare_other ks Worded InForm text B bare every mixed v w b f e))
+        (λ (b : (b : bs.Bare) × (bs.bare b ≡ v)). ⊎_elim
+        (λ (c : (c : bs.Bare) × (bs.bare c ≡ w)). bare_once ks Worded InForm text bs mixed v w b c e)
+        (λ (f : Worded w). absurd (bare_other ks Worded InForm text bs mixed v w b f e))
         (mixed.either w hw))
         (λ (f : Worded v). ⊎_elim
-        (λ (c : (c : B) × (bare c ≡ w)). absurd (bare_other ks Worded InForm text B bare every mixed w v c f (sym e)))
+        (λ (c : (c : bs.Bare) × (bs.bare c ≡ w)). absurd (bare_other ks Worded InForm text bs mixed w v c f (sym e)))
         (λ (g : Worded w). mixed.facts.once v w f g e)
         (mixed.either w hw))
         (mixed.either v hv)
 
     endless : Lacks 10 InForm text
     endless v hv = ⊎_elim
-        (λ (b : (b : B) × (bare b ≡ v)). ap (λ w. has_byte 10 (text w)) (sym b.1) ∙ word_lacks (λ c. text (bare c)) every mixed.known mixed.letters 10 end_apart b.0)
+        (λ (b : (b : bs.Bare) × (bs.bare b ≡ v)). ap (λ w. has_byte 10 (text w)) (sym b.1) ∙ word_lacks (λ c. text (bs.bare c)) bs.every mixed.known mixed.letters 10 end_apart b.0)
         (λ (f : Worded v). mixed.facts.endless v f)
         (mixed.either v hv)

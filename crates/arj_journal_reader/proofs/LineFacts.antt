@@ -16,7 +16,15 @@ use Rattle.arj_journal.specs.declared.line_kind.LineKind.{LineKind}
 use Rattle.arj_journal.specs.declared.line_kind.LineKind.TheVariants as line
 use Rattle.arj_journal_reader.specs.Form.{◌▸◌}
 use Rattle.arj_text.specs.Label.{name}
-use Rattle.arj_journal.specs.LineForm.{BodyInForm, CauseInForm, DifferenceInForm, is_junk}
+use Rattle.arj_journal.specs.declared.limits.TheConstants.{NODES, REFUSALS}
+use Rattle.arj_journal_reader.specs.declared.pieces.Node.{Node}
+use Rattle.arj_journal_reader.specs.declared.pieces.Object.{Object}
+use Rattle.arj_journal_reader.specs.declared.pieces.Refusal.{Refusal}
+use Rattle.arj_journal_reader.specs.declared.pieces.Sender.{Sender}
+use Rattle.arj_journal_reader.specs.declared.pieces.Version.{Version}
+use Rattle.arj_journal_reader.specs.declared.pieces.Word.{Word}
+use Rattle.arj_text.specs.Fields.{IsWithin, NumberInForm, WordInForm}
+use Rattle.arj_journal.specs.LineForm.{BodyInForm, CauseInForm, DifferenceInForm, NodeInForm, ObjectInForm, is_junk}
 use Rattle.arj_journal_reader.specs.LineKinds.{node, sender, refusal, object, word, version, label, parent, uid, binding, hex_bytes, nodes, kind, part, role, frame, which, mode, ending, yes_no, difference_form, make_difference, differences, difference_piece, WordedCause, cause_form, make_cause, causes, cause_piece, line_form, make_body, lines, nothing}
 use Rattle.arj_journal.specs.LineText.{body_text, cause_text, difference_text}
 use Rattle.arj_journal.specs.LineWords.{cause_word, difference_word, frame_text, kind_text, line_word, part_text, role_text, which_text, yes_text}
@@ -24,46 +32,28 @@ use Rattle.arj_journal_reader.specs.Spellings.{IsKnown, cause_kinds, difference_
 use Rattle.arj_text.specs.Words.{end_text, mode_text, number_word}
 use Rattle.arj_journal_reader.proofs.ByKind.{AreOfKinds, Seen}
 use Rattle.arj_journal_reader.proofs.Calls.{call_facts}
-use Rattle.arj_journal_reader.proofs.Facts.{HaveWords, PieceFacts, WordFacts, alone, behind, form_of, kinds_facts, known_facts, mixed_facts, narrowed, spaceless, spaceless_words}
-use Rattle.arj_journal_reader.proofs.Leaves.{binding_lacks, binding_once, hex_lacks, hex_once, known_once, label_lacks, label_once, number_lacks, number_once, parent_lacks, parent_once, uid_lacks, uid_once}
+use Rattle.arj_journal_reader.proofs.Facts.{HaveWords, PieceFacts, WordFacts, alone, behind, form_of, kinds_facts, known_facts, mixed_facts, narrowed, numbered, spaceless, spaceless_words}
+use Rattle.arj_journal_reader.proofs.Leaves.{binding_lacks, binding_once, hex_lacks, hex_once, known_once, label_lacks, label_once, parent_lacks, parent_once, uid_lacks, uid_once}
 use Rattle.arj_journal_reader.proofs.NodeLists.{nodes_lack, nodes_once}
 
 -- The pieces that are one word.
 a_node : WordFacts node
-a_node = record {
-  once = λ m n hm hn e. let same = number_once m.number n.number (omega (arith, hm.1)) (omega (arith, hn.1)) e in λ i. record { number = same i };
-  plain = λ k apart n h. number_lacks k apart n.number (omega (arith, h.1));
-}
+a_node = numbered Node (λ n. n.number) (λ n. NodeInForm n.number) (λ n h. omega (arith, h.1)) (λ m n e i. record { number = e i })
 
 a_sender : WordFacts sender
-a_sender = record {
-  once = λ m n hm hn e. let same = number_once m.number n.number (omega (arith, hm.1)) (omega (arith, hn.1)) e in λ i. record { number = same i };
-  plain = λ k apart n h. number_lacks k apart n.number (omega (arith, h.1));
-}
+a_sender = numbered Sender (λ n. n.number) (λ n. IsWithin 0 NODES n.number) (λ n h. omega (arith, h.1)) (λ m n e i. record { number = e i })
 
 a_refusal : WordFacts refusal
-a_refusal = record {
-  once = λ m n hm hn e. let same = number_once m.number n.number (omega (arith, hm.1)) (omega (arith, hn.1)) e in λ i. record { number = same i };
-  plain = λ k apart n h. number_lacks k apart n.number (omega (arith, h.1));
-}
+a_refusal = numbered Refusal (λ n. n.number) (λ n. IsWithin 1 REFUSALS n.number) (λ n h. omega (arith, h.1)) (λ m n e i. record { number = e i })
 
 an_object : WordFacts object
-an_object = record {
-  once = λ m n hm hn e. let same = number_once m.number n.number (omega (arith, hm.1)) (omega (arith, hn.1)) e in λ i. record { number = same i };
-  plain = λ k apart n h. number_lacks k apart n.number (omega (arith, h.1));
-}
+an_object = numbered Object (λ n. n.number) (λ n. ObjectInForm n.number) (λ n h. omega (arith, h.1)) (λ m n e i. record { number = e i })
 
 a_word : WordFacts word
-a_word = record {
-  once = λ m n hm hn e. let same = number_once m.number n.number (omega (arith, hm)) (omega (arith, hn)) e in λ i. record { number = same i };
-  plain = λ k apart n h. number_lacks k apart n.number (omega (arith, h));
-}
+a_word = numbered Word (λ n. n.number) (λ n. WordInForm n.number) (λ n h. omega (arith, h)) (λ m n e i. record { number = e i })
 
 a_version : WordFacts version
-a_version = record {
-  once = λ m n hm hn e. let same = number_once m.number n.number hm hn e in λ i. record { number = same i };
-  plain = λ k apart n h. number_lacks k apart n.number h;
-}
+a_version = numbered Version (λ n. n.number) (λ n. NumberInForm n.number) (λ n h. h) (λ m n e i. record { number = e i })
 
 a_label : WordFacts label
 a_label = record { once = label_once; plain = label_lacks }
@@ -233,7 +223,7 @@ either (cause.NoStores x) h = inr (h, refl)
 either (cause.Listed x n) h = inr (h, refl)
 
 cause_facts : PieceFacts cause_piece
-cause_facts = mixed_facts causes WordedCause CauseInForm cause_text BareCause bare_cause (BareAsked ∷ BareDoomed ∷ [])
+cause_facts = mixed_facts causes WordedCause CauseInForm cause_text (record { Bare = BareCause; bare = bare_cause; every = BareAsked ∷ BareDoomed ∷ [] })
     (record { are = causes_are; facts = kinds_facts causes cause_kinds WordedCause cause_text words_of_causes causes_are cause_forms; known = bare_known; letters = refl; either = either })
 
 -- The lines.
