@@ -12,6 +12,7 @@ use Rattle.arj_class.specs.declared.op.Answer.TheVariants.{Done, Number, Text, O
 use Rattle.arj_class.specs.declared.value.Value.{Value}
 use Rattle.arj_class.specs.declared.value.Value.TheVariants.{Counter, Register, Account, Queue, Table}
 
+-- the class of a value
 abbrev pub class_of : Value → Class
 class_of (Counter n) = class.Counter
 class_of (Register bytes) = class.Register
@@ -44,6 +45,7 @@ op_mode Len = Read
 op_mode (GetKey k) = Read
 op_mode _ = Write
 
+-- the lock mode of an operation on objects of a class, none where the class lacks it
 abbrev pub mode_of : Class → Op → Option Mode
 mode_of c op = if has_op c op then Some (op_mode op) else None
 
@@ -57,10 +59,12 @@ abbrev pub put_pair : ℕ → ℕ → List (ℕ × ℕ) → List (ℕ × ℕ)
 put_pair k v [] = (k, v) ∷ []
 put_pair k v (p ∷ ps) = if nat_lt k p.0 then (k, v) ∷ p ∷ ps else (if p.0 == k then (k, v) ∷ ps else p ∷ put_pair k v ps)
 
+-- a table without the key
 abbrev pub remove_pair : ℕ → List (ℕ × ℕ) → List (ℕ × ℕ)
 remove_pair k [] = []
 remove_pair k (p ∷ ps) = if p.0 == k then ps else p ∷ remove_pair k ps
 
+-- a number, or that there is none
 abbrev pub number_or_nothing : Option ℕ → Answer
 number_or_nothing None = Nothing
 number_or_nothing (Some n) = Number n
@@ -69,10 +73,12 @@ number_or_nothing (Some n) = Number n
 abbrev pub is_full_for : ℕ → List (ℕ × ℕ) → Bool
 is_full_for k ps = if is_some (value_at k ps) then false else nat_le TABLE_PAIRS (length ps)
 
+-- the number at the front of a queue
 abbrev pub front_of : List ℕ → Answer
 front_of [] = Nothing
 front_of (n ∷ ns) = Number n
 
+-- a queue without its front
 abbrev pub behind_front : List ℕ → List ℕ
 behind_front [] = []
 behind_front (n ∷ ns) = ns
@@ -108,6 +114,7 @@ value_after (PutPair k v) (Table ps) = if is_full_for k ps then Table ps else Ta
 value_after (Remove k) (Table ps) = Table (remove_pair k ps)
 value_after _ value = value
 
+-- whether the mode is write
 abbrev pub is_write : Mode → Bool
 is_write Write = true
 is_write _ = false

@@ -15,10 +15,11 @@ use Rattle.arj_journal.specs.declared.limits.TheConstants.{NODES, OBJECTS, REFUS
 use Rattle.arj_text.specs.Fields.{AreBytes, BindingInForm, IsAnswer, IsWithin, NodesInForm, NumberInForm, OpTextInForm, WordInForm}
 use Rattle.arj_text.specs.Label.{LabelInForm}
 
--- a node, and the number of an object
+-- the number of a node
 abbrev pub NodeInForm : ℕ → Type 0
 NodeInForm n = IsWithin 1 NODES n
 
+-- the number of an object
 abbrev pub ObjectInForm : ℕ → Type 0
 ObjectInForm x = IsWithin 1 OBJECTS x
 
@@ -27,11 +28,12 @@ abbrev pub ParentInForm : Option Label → Type 0
 ParentInForm None = ⊤
 ParentInForm (Some l) = LabelInForm l
 
--- what was had and what is there now, and why an action aborted
+-- what was had and what is there now
 abbrev pub DifferenceInForm : Difference → Type 0
 DifferenceInForm (difference.Inc had now) = WordInForm had × WordInForm now
 DifferenceInForm (difference.Bind had now) = BindingInForm had × BindingInForm now
 
+-- why an action aborted
 abbrev pub CauseInForm : Cause → Type 0
 CauseInForm cause.Asked = ⊤
 CauseInForm cause.Doomed = ⊤
@@ -47,6 +49,7 @@ abbrev pub is_junk : FrameKind → Bool
 is_junk frame.Junk = true
 is_junk _ = false
 
+-- where a frame is from: nobody for junk, else a node
 abbrev pub SenderInForm : ℕ → FrameKind → Type 0
 SenderInForm from kind = IsWithin 0 NODES from × ((from == 0) ≡ is_junk kind)
 

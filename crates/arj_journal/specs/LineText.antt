@@ -21,10 +21,11 @@ use Rattle.arj_journal.specs.LineWords.{cause_word, difference_word, frame_text,
 use Rattle.arj_journal.specs.ScriptText.{labelled}
 use Rattle.arj_text.specs.Words.{space, number_word, hex, list_text, mode_text, end_text, op_text}
 
--- a space, and a Uid or a binding behind it
+-- a space and a Uid
 abbrev pub uid_word : Uid → List ℕ
 uid_word u = space ++ uid_text u
 
+-- a space and a binding
 abbrev pub binding_word : Binding → List ℕ
 binding_word b = space ++ binding_text b
 

@@ -53,7 +53,7 @@ line_word line.Quiet = codes "quiet"
 line_word line.Bad = codes "bad"
 line_word line.Limit = codes "limit"
 
--- the first word of a cause of an abort, and of a difference
+-- the first word of why an action aborted
 abbrev pub cause_word : CauseKind → List ℕ
 cause_word cause.Asked = codes "asked"
 cause_word cause.Doomed = codes "doomed"
@@ -64,6 +64,7 @@ cause_word cause.Old = codes "old"
 cause_word cause.NoStores = codes "nostores"
 cause_word cause.Listed = codes "listed"
 
+-- the first word of a difference
 abbrev pub difference_word : DifferenceKind → List ℕ
 difference_word difference.Inc = codes "inc"
 difference_word difference.Bind = codes "bind"
@@ -76,11 +77,12 @@ kind_text kind.Independent = codes "independent"
 kind_text kind.Serial = codes "serial"
 kind_text kind.Constituent = codes "constituent"
 
--- the parts of a node, and its roles
+-- the parts of a node that apply ends
 abbrev pub part_text : Part → List ℕ
 part_text part.Naming = codes "naming"
 part_text part.Server = codes "server"
 
+-- the roles of a store
 abbrev pub role_text : Role → List ℕ
 role_text role.Store = codes "store"
 role_text role.Names = codes "names"

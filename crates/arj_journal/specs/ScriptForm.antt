@@ -35,15 +35,17 @@ pub record HeaderInForm (header : Header) : Type 0 where
   pub nodes : IsWithin 1 NODES header.nodes
   pub objects : ObjectsInForm header.nodes header.objects
 
--- a node or a frame in an event is any number of 32 bits, an object any of 16
+-- a frame: in events a node or a frame is any number of 32 bits, and an object any of 16
 abbrev pub FrameNoInForm : FrameNo → Type 0
 FrameNoInForm (frame_no.Number k) = WordInForm k
 FrameNoInForm frame_no.Last = ⊤
 
+-- what a stopped disk call leaves
 abbrev pub StopKindInForm : StopKind → Type 0
 StopKindInForm (stop_kind.Torn bytes) = AreBytes bytes
 StopKindInForm _ = ⊤
 
+-- the labels, numbers, operations and bytes of an event are in form
 abbrev pub EventInForm : Event → Type 0
 EventInForm (event.Begin l n) = LabelInForm l × WordInForm n
 EventInForm (event.BeginIn l p) = LabelInForm l × LabelInForm p

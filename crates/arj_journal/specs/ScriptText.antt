@@ -12,10 +12,12 @@ use Rattle.arj_text.specs.declared.label.Label.{Label}
 use Rattle.arj_text.specs.Label.{name}
 use Rattle.arj_text.specs.Words.{number_word, space, hex, list_text, op_text, value_text}
 
+-- a frame, by its number or as the last
 abbrev pub frame_no_text : FrameNo → List ℕ
 frame_no_text (frame_no.Number k) = decimal k
 frame_no_text frame_no.Last = codes "last"
 
+-- what a stopped disk call leaves
 abbrev pub stop_kind_text : StopKind → List ℕ
 stop_kind_text stop_kind.Undone = codes "none"
 stop_kind_text stop_kind.Done = codes "done"
@@ -25,6 +27,7 @@ stop_kind_text (stop_kind.Torn bytes) = codes "torn " ++ hex bytes
 abbrev pub labelled : List ℕ → Label → List ℕ
 labelled word l = word ++ (space ++ name l)
 
+-- an event
 abbrev pub event_text : Event → List ℕ
 event_text (event.Begin l n) = labelled (codes "begin") l ++ (codes " at" ++ number_word n)
 event_text (event.BeginIn l p) = labelled (codes "begin") l ++ labelled (codes " in") p
@@ -46,9 +49,11 @@ event_text (event.Stop n c kind) = codes "stop" ++ (number_word n ++ (number_wor
 event_text (event.Junk n bytes) = codes "junk" ++ (number_word n ++ (space ++ hex bytes))
 event_text (event.Show x) = codes "show" ++ number_word x
 
+-- how many nodes there are
 abbrev pub nodes_text : ℕ → List ℕ
 nodes_text n = codes "nodes" ++ number_word n
 
+-- an object with its first value, its servers and its stores
 abbrev pub object_text : ObjectLine → List ℕ
 object_text o =
     codes "object" ++ (number_word o.x ++ (space ++ (value_text o.value ++ (codes " servers " ++ (list_text o.servers ++ (codes " stores " ++ list_text o.stores))))))

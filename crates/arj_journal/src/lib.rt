@@ -4,8 +4,8 @@
 //! It stands on `arj_text`, which has the words of a line, on `arj_base` and on `arj_class`. What it gives upward:
 //! `put_line` appends exactly `line_text` of a line (`specs/LineText.antt`), and `put_event` and `put_object` script
 //! lines (`specs/ScriptText.antt`). `specs/LineForm.antt` says which lines are in form, and `specs/ScriptForm.antt` which
-//! headers and events. A `Stepper` runs events one by
-//! one. What reads lines stands above, in `arj_journal_reader`.
+//! headers and events. A `Stepper` runs events one by one. What reads journal lines stands above, in
+//! `arj_journal_reader`.
 #![tactic(auto)]
 
 mod body;

@@ -4,6 +4,7 @@ use Rattle.arj_journal_reader.specs.declared.fault.LineFault.{LineFault}
 use Rattle.arj_journal_reader.specs.declared.fault.LineFault.TheVariants.{NotALine, Memory}
 use Rattle.arj_text.specs.Fields.{has_space}
 
+-- a kind of piece: its values, those in form, and their texts
 pub record Form : Type 1 where
   pub Value : Type 0
   pub InForm : Value → Type 0
@@ -13,6 +14,7 @@ pub record Form : Type 1 where
 abbrev pub PairInForm : {A B : Type 0} → (A → Type 0) → (A → List ℕ) → (B → Type 0) → A × B → Type 0
 PairInForm P text Q p = P p.0 × (has_space (text p.0) ≡ false) × Q p.1
 
+-- the text of the one, a space, and that of the other
 abbrev pub pair_text : {A B : Type 0} → (A → List ℕ) → (B → List ℕ) → A × B → List ℕ
 pair_text s t p = s p.0 ++ 32 ∷ t p.1
 

@@ -109,13 +109,16 @@ abbrev pub difference_form : DifferenceKind → Form
 difference_form difference_kind.Inc = word ▸ word
 difference_form difference_kind.Bind = binding ▸ binding
 
+-- the difference that is made of them
 abbrev pub make_difference : (k : DifferenceKind) → (difference_form k).Value → Difference
 make_difference difference_kind.Inc v = difference.Inc v.0.number v.1.number
 make_difference difference_kind.Bind v = difference.Bind v.0 v.1
 
+-- differences, by their kinds
 abbrev pub differences : Kinds
 differences = record { Kind = DifferenceKind; word = difference_word; form = difference_form; Whole = Difference; make = make_difference }
 
+-- a difference, as a piece
 abbrev pub difference_piece : Form
 difference_piece = record { Value = Difference; InForm = DifferenceInForm; text = difference_text }
 
@@ -125,9 +128,11 @@ is_one_word cause.Asked = true
 is_one_word cause.Doomed = true
 is_one_word _ = false
 
+-- a cause of one word
 abbrev pub OneWordCause : Cause → Type 0
 OneWordCause c = is_one_word c ≡ true
 
+-- a cause in form of more words
 abbrev pub WordedCause : Cause → Type 0
 WordedCause c = CauseInForm c × (is_one_word c ≡ false)
 
@@ -135,6 +140,7 @@ WordedCause c = CauseInForm c × (is_one_word c ≡ false)
 abbrev pub nothing : Form
 nothing = record { Value = ⊥; InForm = λ _. ⊤; text = λ v. absurd v }
 
+-- what stands behind the first word of a cause
 abbrev pub cause_form : CauseKind → Form
 cause_form cause_kind.Asked = nothing
 cause_form cause_kind.Doomed = nothing
@@ -145,6 +151,7 @@ cause_form cause_kind.Old = node ▸ object ▸ version
 cause_form cause_kind.NoStores = object
 cause_form cause_kind.Listed = object ▸ node
 
+-- the cause that is made of it
 abbrev pub make_cause : (k : CauseKind) → (cause_form k).Value → Cause
 make_cause cause_kind.Asked v = cause.Asked
 make_cause cause_kind.Doomed v = cause.Doomed
@@ -155,9 +162,11 @@ make_cause cause_kind.Old v = cause.Old v.0.number v.1.0.number v.1.1.number
 make_cause cause_kind.NoStores v = cause.NoStores v.number
 make_cause cause_kind.Listed v = cause.Listed v.0.number v.1.number
 
+-- causes, by their kinds
 abbrev pub causes : Kinds
 causes = record { Kind = CauseKind; word = cause_word; form = cause_form; Whole = Cause; make = make_cause }
 
+-- a cause, as a piece
 abbrev pub cause_piece : Form
 cause_piece = record { Value = Cause; InForm = CauseInForm; text = cause_text }
 
@@ -201,6 +210,7 @@ line_form line.Quiet = yes_no
 line_form line.Bad = word
 line_form line.Limit = which
 
+-- the line that is made of it
 abbrev pub make_body : (k : LineKind) → (line_form k).Value → Body
 make_body line.Began v = body.Began v.0 v.1.0 v.1.1.0 v.1.1.1.label
 make_body line.Ok v = body.Ok v.0 v.1.0.number v.1.1.op v.1.1.answer
@@ -236,5 +246,6 @@ make_body line.Quiet v = body.Quiet v
 make_body line.Bad v = body.Bad v.number
 make_body line.Limit v = body.Limit v
 
+-- lines, by their kinds
 abbrev pub lines : Kinds
 lines = record { Kind = LineKind; word = line_word; form = line_form; Whole = Body; make = make_body }

@@ -23,5 +23,6 @@ is_word_answer (answer.Number n) = false
 is_word_answer (answer.Text bytes) = false
 is_word_answer _ = true
 
+-- the bytes are such an answer
 abbrev pub IsAnswerWord : List ℕ → Type 0
 IsAnswerWord bytes = (a : Answer) × (is_word_answer a ≡ true) × (bytes ≡ answer_text a)

@@ -15,7 +15,7 @@ use crate::{LineFault, uid};
 use arj_base::{Binding, Bytes, NodeList, Uid};
 use arj_journal::words::yes_word;
 use arj_journal::{NODES, OBJECTS, REFUSALS, STORES};
-use arj_text::field::{is_text, label_of, number};
+use arj_text::field::{WORD_MAX, is_text, label_of, number};
 use arj_text::field_list::nodes;
 use arj_text::{Label, field_hex};
 use std::alloc::Global;
@@ -100,7 +100,7 @@ impl Piece for Word {
     ghost text = { λ n. decimal n.number };
 
     fn read(alloc: Global, bytes: &[u8]) -> Result<Word, LineFault> {
-        let number = taken(number(alloc, bytes, 0, 0xffff_ffff)?)? as u32;
+        let number = taken(number(alloc, bytes, 0, WORD_MAX)?)? as u32;
         Ok(Word { number })
     }
 }

@@ -4,11 +4,8 @@ ghost use Rattle.arj_base.specs.Uid.{UidFits, binding_text, uid_text};
 ghost use Rattle.arj_text.specs.Fields.{BindingInForm, IsRead};
 
 use arj_base::{Binding, Uid};
-use arj_text::field::{number, number_first};
+use arj_text::field::{WORD_MAX, number, number_first};
 use std::alloc::{AllocError, Global};
-
-/// The largest number of 32 bits.
-const WORD_MAX: u64 = 0xffff_ffff;
 
 /// A Uid, printed `node.inc.num`.
 pub fn uid(alloc: Global, bytes: &[u8]) -> Result<Option<Uid>, AllocError>

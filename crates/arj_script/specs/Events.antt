@@ -47,52 +47,66 @@ is_outside (event.Junk n bytes) = true
 is_outside (event.Show x) = true
 is_outside _ = false
 
+-- such an event, in form
 abbrev pub IsBeginning : Event → Type 0
 IsBeginning e = EventInForm e × (is_beginning e ≡ true)
 
+-- such an event, in form
 abbrev pub IsWorking : Event → Type 0
 IsWorking e = EventInForm e × (is_working e ≡ true)
 
+-- such an event, in form
 abbrev pub IsPassing : Event → Type 0
 IsPassing e = EventInForm e × (is_passing e ≡ true)
 
+-- such an event, in form
 abbrev pub IsOutside : Event → Type 0
 IsOutside e = EventInForm e × (is_outside e ≡ true)
 
--- a label and a node behind a front, and two labels
+-- a label and a node in form
 abbrev pub LabelAtInForm : Label × ℕ → Type 0
 LabelAtInForm p = LabelInForm p.0 × WordInForm p.1
 
+-- a label, ` at ` and a node
 abbrev pub label_at_text : List ℕ → Label × ℕ → List ℕ
 label_at_text front p = front ++ (name p.0 ++ (codes " at " ++ decimal p.1))
 
+-- two labels in form
 abbrev pub LabelInLabel : Label × Label → Type 0
 LabelInLabel p = LabelInForm p.0 × LabelInForm p.1
 
+-- a label, ` in ` and another
 abbrev pub label_in_text : List ℕ → Label × Label → List ℕ
 label_in_text front p = front ++ (name p.0 ++ (codes " in " ++ name p.1))
 
--- what stands behind the first word of a call, an include, a stop and a junk frame
+-- what a call says is in form
 abbrev pub CallInForm : Label × ℕ × Op → Type 0
 CallInForm p = LabelInForm p.0 × ShortInForm p.1 × OpTextInForm p.2
 
+-- the text of a call
 abbrev pub call_text : Label × ℕ × Op → List ℕ
 call_text p = event_text (event.Call p.0 p.1 p.2)
 
+-- what an include says is in form
 abbrev pub IncludeInForm : Label × ℕ × ℕ → Type 0
 IncludeInForm p = LabelInForm p.0 × ShortInForm p.1 × WordInForm p.2
 
+-- the text of an include
 abbrev pub include_text : Label × ℕ × ℕ → List ℕ
 include_text p = event_text (event.Include p.0 p.1 p.2)
 
+-- what a stop says is in form
 abbrev pub StopInForm : ℕ × ℕ × StopKind → Type 0
 StopInForm p = WordInForm p.0 × IsWithin 1 STOP_CALLS p.1 × StopKindInForm p.2
 
+-- the text of a stop
 abbrev pub stop_text : ℕ × ℕ × StopKind → List ℕ
 stop_text p = event_text (event.Stop p.0 p.1 p.2)
 
+-- what a junk frame says is in form
 abbrev pub JunkInForm : ℕ × List ℕ → Type 0
 JunkInForm p = WordInForm p.0 × AreBytes p.1
 
+-- the text of a junk frame
 abbrev pub junk_text : ℕ × List ℕ → List ℕ
 junk_text p = event_text (event.Junk p.0 p.1)

@@ -29,6 +29,7 @@ abbrev pub insert_object : ObjectLine → List ObjectLine → List ObjectLine
 insert_object o [] = o ∷ []
 insert_object o (p ∷ ps) = if nat_lt o.x p.x then o ∷ p ∷ ps else p ∷ insert_object o ps
 
+-- the place behind a form
 abbrev pub next_place : Place → Form → Place
 next_place Start (Nodes n) = Objects n []
 next_place (Objects n os) (Object o) = Objects n (insert_object o os)

@@ -8,18 +8,21 @@ use Rattle.arj_script.specs.declared.reader.Item.TheVariants as item
 use Rattle.arj_script.specs.declared.limits.TheConstants.{LINE_BYTES, SCRIPT_LINES}
 use Rattle.arj_script.specs.Grammar.{Form, Blank, Nodes, Object, Run, Asks, Place, Objects}
 
--- Lines that a line feed ends; what stands behind the last line feed. `front` is what has come of the line in hand.
+-- the lines that a line feed ends; `front` is what has come of the line in hand
 abbrev pub ended_from : List ℕ → List ℕ → List (List ℕ)
 ended_from front [] = []
 ended_from front (b ∷ bs) = if b == 10 then front ∷ ended_from [] bs else ended_from (front ++ b ∷ []) bs
 
+-- what stands behind the last line feed
 abbrev pub rest_from : List ℕ → List ℕ → List ℕ
 rest_from front [] = front
 rest_from front (b ∷ bs) = if b == 10 then rest_from [] bs else rest_from (front ++ b ∷ []) bs
 
+-- the lines that a line feed ends
 abbrev pub ended_lines : List ℕ → List (List ℕ)
 ended_lines bytes = ended_from [] bytes
 
+-- the line that none ends yet
 abbrev pub rest_line : List ℕ → List ℕ
 rest_line bytes = rest_from [] bytes
 

@@ -3,6 +3,7 @@ use Rattle.arj_script.specs.declared.stage.Stage.{Stage}
 use Rattle.arj_script.specs.declared.stage.Stage.TheVariants as stage
 use Rattle.arj_script.specs.Grammar.{Place, Start, Objects, Running}
 
+-- the place of a stage
 abbrev pub place_of : Stage → Place
 place_of stage.Start = Start
 place_of (stage.Objects nodes objects) = Objects nodes objects.items

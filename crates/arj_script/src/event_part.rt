@@ -11,15 +11,12 @@ ghost use Rattle.arj_journal.specs.ScriptForm.{FrameNoInForm, StopKindInForm};
 use arj_base::Bytes;
 use arj_class::Op;
 use arj_journal::{FrameNo, Label, STOP_CALLS, StopKind};
-use arj_text::field::{after, is_text, label_first, label_of, number, number_first};
+use arj_text::field::{
+    SHORT_MAX, WORD_MAX, after, is_text, label_first, label_of, number, number_first,
+};
 use arj_text::field_hex::hex;
 use arj_text::field_value::operation;
 use std::alloc::{AllocError, Global};
-
-/// The largest number of 32 bits, and of 16.
-const WORD_MAX: u64 = 0xffff_ffff;
-
-const SHORT_MAX: u64 = 0xffff;
 
 /// A label behind a front.
 pub fn label_behind(front: &[u8], bytes: &[u8]) -> Option<Label>

@@ -32,6 +32,7 @@ pub record IsFirst {A : Type 0} (separator : ℕ) (InForm : A → Type 0) (text 
 abbrev pub has_byte : ℕ → List ℕ → Bool
 has_byte k bytes = list_any (λ b. b == k) bytes
 
+-- whether a space stands among them
 abbrev pub has_space : List ℕ → Bool
 has_space bytes = has_byte 32 bytes
 
@@ -39,13 +40,15 @@ has_space bytes = has_byte 32 bytes
 abbrev pub IsWithin : ℕ → ℕ → ℕ → Type 0
 IsWithin low high n = (low ≤ n) × (n ≤ high)
 
--- a number of 64, of 32 and of 16 bits
+-- a number of 64 bits
 abbrev pub NumberInForm : ℕ → Type 0
 NumberInForm n = n < 2 ^ 64
 
+-- a number of 32 bits
 abbrev pub WordInForm : ℕ → Type 0
 WordInForm n = n < 2 ^ 32
 
+-- a number of 16 bits
 abbrev pub ShortInForm : ℕ → Type 0
 ShortInForm x = x < 2 ^ 16
 
@@ -53,29 +56,33 @@ ShortInForm x = x < 2 ^ 16
 abbrev pub BindingInForm : Binding → Type 0
 BindingInForm b = WordInForm b.inc × WordInForm b.count
 
--- bytes, and at most so many of them
+-- each is a byte
 abbrev pub AreBytes : List ℕ → Type 0
 AreBytes bytes = AllByRecursion (λ b. b < 256) bytes
 
+-- at most so many bytes
 abbrev pub AreBytesUpTo : ℕ → List ℕ → Type 0
 AreBytesUpTo most bytes = (length bytes ≤ most) × AreBytes bytes
 
--- items in form, at least one and at most so many, and their texts joined by commas
+-- items in form, at least one and at most so many
 abbrev pub ItemsInForm : {A : Type 0} → (A → Type 0) → ℕ → List A → Type 0
 ItemsInForm InForm most items = (1 ≤ length items) × (length items ≤ most) × AllByRecursion InForm items
 
+-- the texts of items, joined by commas
 abbrev pub items_text : {A : Type 0} → (A → List ℕ) → List A → List ℕ
 items_text text items = commas (map text items)
 
--- a list of distinct nodes from 1 to n, between 1 and most of them
+-- whether none stands twice
 abbrev pub is_distinct : List ℕ → Bool
 is_distinct [] = true
 is_distinct (n ∷ ns) = not (list_any (λ m. m == n) ns) && is_distinct ns
 
+-- whether the list is one of distinct nodes from 1 to n, with one to most of them
 abbrev pub are_nodes : ℕ → ℕ → List ℕ → Bool
 are_nodes n most ns =
     (nat_le 1 (length ns) && nat_le (length ns) most) && (list_all (λ m. nat_le 1 m && nat_le m n) ns && is_distinct ns)
 
+-- distinct nodes from 1 to n, one to most of them
 abbrev pub NodesInForm : ℕ → ℕ → List ℕ → Type 0
 NodesInForm n most ns = are_nodes n most ns ≡ true
 
@@ -93,32 +100,36 @@ OpTextInForm (op.PutPair k v) = NumberInForm k × NumberInForm v
 OpTextInForm (op.Remove k) = NumberInForm k
 OpTextInForm _ = ⊤
 
--- an answer to that operation: the bytes of a register are answered to a `get` without a key alone
+-- a `get` without a key: the bytes of a register are answered to it alone
 abbrev pub is_get : Op → Bool
 is_get op.Get = true
 is_get _ = false
 
+-- an answer that a text can say to that operation
 abbrev pub AnswerTextInForm : Op → Answer → Type 0
 AnswerTextInForm asked (answer.Number n) = NumberInForm n
 AnswerTextInForm asked (answer.Text bytes) = (is_get asked ≡ true) × AreBytesUpTo REGISTER_BYTES bytes
 AnswerTextInForm asked _ = ⊤
 
--- a key and a value, and keys strictly increasing
+-- a key and a value
 abbrev pub PairInForm : ℕ × ℕ → Type 0
 PairInForm p = NumberInForm p.0 × NumberInForm p.1
 
+-- whether the key is below that of the first pair
 abbrev pub is_below_first : ℕ → List (ℕ × ℕ) → Bool
 is_below_first key [] = true
 is_below_first key (p ∷ ps) = nat_lt key p.0
 
+-- whether the keys of pairs strictly increase
 abbrev pub is_rising : List (ℕ × ℕ) → Bool
 is_rising [] = true
 is_rising (p ∷ ps) = is_below_first p.0 ps && is_rising ps
 
--- at most so many numbers, and pairs whose keys rise
+-- at most so many numbers
 abbrev pub NumbersInForm : ℕ → List ℕ → Type 0
 NumbersInForm most ns = (length ns ≤ most) × AllByRecursion NumberInForm ns
 
+-- at most so many pairs, whose keys rise
 abbrev pub PairsInForm : ℕ → List (ℕ × ℕ) → Type 0
 PairsInForm most ps = (length ps ≤ most) × AllByRecursion PairInForm ps × (is_rising ps ≡ true)
 
@@ -142,24 +153,28 @@ behind front text a = front ++ text a
 abbrev pub two_text : ℕ × ℕ → List ℕ
 two_text p = decimal p.0 ++ 32 ∷ decimal p.1
 
--- operations of one word, those with one number, and the two that put
+-- whether the operation has no argument
 abbrev pub is_word_op : Op → Bool
 is_word_op op.Get = true
 is_word_op op.Len = true
 is_word_op op.Pop = true
 is_word_op _ = false
 
+-- whether the operation is a put
 abbrev pub is_put_op : Op → Bool
 is_put_op (op.Put bytes) = true
 is_put_op (op.PutPair k v) = true
 is_put_op _ = false
 
+-- an operation of one word
 abbrev pub IsWordOp : Op → Type 0
 IsWordOp op = OpTextInForm op × (is_word_op op ≡ true)
 
+-- a put
 abbrev pub IsPutOp : Op → Type 0
 IsPutOp op = OpTextInForm op × (is_put_op op ≡ true)
 
+-- an operation with one number
 abbrev pub IsNumberOp : Op → Type 0
 IsNumberOp op = OpTextInForm op × ((is_word_op op ≡ false) × (is_put_op op ≡ false))
 

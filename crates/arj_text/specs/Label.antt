@@ -6,6 +6,7 @@ use Rattle.std.specs.Ordering.{nat_cmp, on}
 use Rattle.std.specs.Cmp.Lexicographic.{slice_cmp}
 use Rattle.arj_text.specs.declared.label.Label.{Label}
 
+-- the bytes of a label, without the padding
 abbrev pub name : Label → List ℕ
 name l = take l.len l.text
 
@@ -13,10 +14,11 @@ name l = take l.len l.text
 abbrev pub label_cmp : Label → Label → Ordering
 label_cmp = on name (slice_cmp nat_cmp)
 
--- ASCII letters and digits
+-- ASCII letters
 abbrev pub is_letter : ℕ → Bool
 is_letter b = (nat_le 65 b && nat_le b 90) || (nat_le 97 b && nat_le b 122)
 
+-- ASCII digits
 abbrev pub is_digit : ℕ → Bool
 is_digit b = nat_le 48 b && nat_le b 57
 

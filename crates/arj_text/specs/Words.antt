@@ -13,10 +13,11 @@ use Rattle.arj_class.specs.declared.op.Answer.TheVariants.{Done, Number, Text, O
 use Rattle.arj_class.specs.declared.value.Value.{Value}
 use Rattle.arj_class.specs.declared.value.Value.TheVariants.{Counter, Register, Account, Queue, Table}
 
--- a space, and a number behind it
+-- a space
 abbrev pub space : List ℕ
 space = codes " "
 
+-- a space and a number
 abbrev pub number_word : ℕ → List ℕ
 number_word n = space ++ decimal n
 
@@ -24,6 +25,7 @@ number_word n = space ++ decimal n
 abbrev pub hex_digit : ℕ → ℕ
 hex_digit n = if nat_lt n 10 then 48 + n else 87 + n
 
+-- the two digits of a byte
 abbrev pub hex_pair : ℕ → List ℕ
 hex_pair n = hex_digit (n / 16) ∷ hex_digit (n % 16) ∷ []
 
@@ -32,43 +34,51 @@ abbrev pub hex : List ℕ → List ℕ
 hex [] = codes "-"
 hex (b ∷ bs) = hex_pair b ++ flat_map hex_pair bs
 
--- pieces joined by commas
+-- a piece with a comma before it
 abbrev pub behind_comma : List ℕ → List ℕ
 behind_comma piece = codes "," ++ piece
 
+-- pieces with commas between them
 abbrev pub commas : List (List ℕ) → List ℕ
 commas [] = []
 commas (piece ∷ pieces) = piece ++ flat_map behind_comma pieces
 
+-- each number in decimal
 abbrev pub decimals : List ℕ → List (List ℕ)
 decimals [] = []
 decimals (n ∷ ns) = decimal n ∷ decimals ns
 
+-- numbers joined by commas
 abbrev pub list_text : List ℕ → List ℕ
 list_text ns = commas (decimals ns)
 
--- a list that may be empty, then `-`
+-- numbers joined by commas, or `-` for none
 abbrev pub numbers_text : List ℕ → List ℕ
 numbers_text [] = codes "-"
 numbers_text (n ∷ ns) = list_text (n ∷ ns)
 
+-- each pair, its key before a colon
 abbrev pub pair_texts : List (ℕ × ℕ) → List (List ℕ)
 pair_texts [] = []
 pair_texts (p ∷ ps) = (decimal p.0 ++ (codes ":" ++ decimal p.1)) ∷ pair_texts ps
 
+-- pairs joined by commas, or `-` for none
 abbrev pub pairs_text : List (ℕ × ℕ) → List ℕ
 pairs_text [] = codes "-"
 pairs_text (p ∷ ps) = commas (pair_texts (p ∷ ps))
 
+-- the modes of locks
 abbrev pub mode_text : Mode → List ℕ
 mode_text mode.Read = codes "read"
 mode_text mode.Exclude = codes "exclude"
 mode_text mode.Write = codes "write"
 
+-- the ends of actions
 abbrev pub end_text : End → List ℕ
 end_text ending.Abort = codes "abort"
 end_text ending.Commit = codes "commit"
 
+-- an operation with its arguments
 abbrev pub op_text : Op → List ℕ
 op_text Get = codes "get"
 op_text (Add n) = codes "add" ++ number_word n
@@ -83,6 +93,7 @@ op_text (GetKey k) = codes "get" ++ number_word k
 op_text (PutPair k v) = codes "put" ++ (number_word k ++ number_word v)
 op_text (Remove k) = codes "remove" ++ number_word k
 
+-- an answer
 abbrev pub answer_text : Answer → List ℕ
 answer_text Done = codes "done"
 answer_text (Number n) = decimal n

@@ -8,6 +8,12 @@ ghost use Rattle.arj_text.specs.Fields.{IsRead, HasNoFirst, IsFirst, IsWithin, h
 use crate::{LABEL_BYTES, Label};
 use std::alloc::{AllocError, Global};
 
+/// The largest number of 32 bits.
+pub const WORD_MAX: u64 = 0xffff_ffff;
+
+/// The largest number of 16 bits.
+pub const SHORT_MAX: u64 = 0xffff;
+
 /// The bytes before the first separator, and those behind it. None where there is no separator.
 pub fn cut(bytes: &[u8], separator: u8) -> Option<(&[u8], &[u8])>
     ensures { MatchOption result
