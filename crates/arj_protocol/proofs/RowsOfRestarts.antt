@@ -41,16 +41,16 @@ text : Answer → List ℕ
 text a = answer_text a
 
 l_A : Label
-l_A = record { len = 1; text = 65 ∷ 0 ∷ 0 ∷ 0 ∷ 0 ∷ 0 ∷ 0 ∷ 0 ∷ 0 ∷ 0 ∷ 0 ∷ 0 ∷ 0 ∷ 0 ∷ 0 ∷ 0 ∷ []; short = omega arith; zeros = refl }
+l_A = record { len = 1; text = 65 ∷ 0 ∷ 0 ∷ 0 ∷ 0 ∷ 0 ∷ 0 ∷ 0 ∷ 0 ∷ 0 ∷ 0 ∷ 0 ∷ 0 ∷ 0 ∷ 0 ∷ 0 ∷ []; whole = refl; short = omega arith; zeros = refl }
 
 l_B : Label
-l_B = record { len = 1; text = 66 ∷ 0 ∷ 0 ∷ 0 ∷ 0 ∷ 0 ∷ 0 ∷ 0 ∷ 0 ∷ 0 ∷ 0 ∷ 0 ∷ 0 ∷ 0 ∷ 0 ∷ 0 ∷ []; short = omega arith; zeros = refl }
+l_B = record { len = 1; text = 66 ∷ 0 ∷ 0 ∷ 0 ∷ 0 ∷ 0 ∷ 0 ∷ 0 ∷ 0 ∷ 0 ∷ 0 ∷ 0 ∷ 0 ∷ 0 ∷ 0 ∷ 0 ∷ []; whole = refl; short = omega arith; zeros = refl }
 
 l_S : Label
-l_S = record { len = 1; text = 83 ∷ 0 ∷ 0 ∷ 0 ∷ 0 ∷ 0 ∷ 0 ∷ 0 ∷ 0 ∷ 0 ∷ 0 ∷ 0 ∷ 0 ∷ 0 ∷ 0 ∷ 0 ∷ []; short = omega arith; zeros = refl }
+l_S = record { len = 1; text = 83 ∷ 0 ∷ 0 ∷ 0 ∷ 0 ∷ 0 ∷ 0 ∷ 0 ∷ 0 ∷ 0 ∷ 0 ∷ 0 ∷ 0 ∷ 0 ∷ 0 ∷ 0 ∷ []; whole = refl; short = omega arith; zeros = refl }
 
 l_C : Label
-l_C = record { len = 1; text = 67 ∷ 0 ∷ 0 ∷ 0 ∷ 0 ∷ 0 ∷ 0 ∷ 0 ∷ 0 ∷ 0 ∷ 0 ∷ 0 ∷ 0 ∷ 0 ∷ 0 ∷ 0 ∷ []; short = omega arith; zeros = refl }
+l_C = record { len = 1; text = 67 ∷ 0 ∷ 0 ∷ 0 ∷ 0 ∷ 0 ∷ 0 ∷ 0 ∷ 0 ∷ 0 ∷ 0 ∷ 0 ∷ 0 ∷ 0 ∷ 0 ∷ 0 ∷ []; whole = refl; short = omega arith; zeros = refl }
 
 header_lost_lock : Header
 header_lost_lock = record { nodes = 2; objects = record { x = 1; value = (value.Counter 0); servers = 2 ∷ []; stores = 1 ∷ [] } ∷ [] }

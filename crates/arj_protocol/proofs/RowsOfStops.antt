@@ -38,7 +38,7 @@ text : Answer → List ℕ
 text a = answer_text a
 
 l_A : Label
-l_A = record { len = 1; text = 65 ∷ 0 ∷ 0 ∷ 0 ∷ 0 ∷ 0 ∷ 0 ∷ 0 ∷ 0 ∷ 0 ∷ 0 ∷ 0 ∷ 0 ∷ 0 ∷ 0 ∷ 0 ∷ []; short = omega arith; zeros = refl }
+l_A = record { len = 1; text = 65 ∷ 0 ∷ 0 ∷ 0 ∷ 0 ∷ 0 ∷ 0 ∷ 0 ∷ 0 ∷ 0 ∷ 0 ∷ 0 ∷ 0 ∷ 0 ∷ 0 ∷ 0 ∷ []; whole = refl; short = omega arith; zeros = refl }
 
 header_store_stops_at_read_undone : Header
 header_store_stops_at_read_undone = record { nodes = 3; objects = record { x = 1; value = (value.Counter 0); servers = 1 ∷ []; stores = 2 ∷ 3 ∷ [] } ∷ [] }
