@@ -1,6 +1,6 @@
 -- What operations leave as it is.
-use Rattle.std.proofs.Common.{◌≡◌, ◌+◌, ◌<◌, ℕ, refl, Bool, true, false, nat_lt, length, if◌then◌else◌}
-use Rattle.arj_base.specs.declared.mode.Mode.TheVariants.{Read, Write}
+use Rattle.std.proofs.Common.{◌≡◌, ◌+◌, refl, Bool, true, false, nat_lt, length, if◌then◌else◌}
+use Rattle.arj_base.specs.declared.mode.Mode.TheVariants.{Read}
 use Rattle.arj_class.specs.Table.{class_of, op_mode, value_after, is_full_for}
 use Rattle.arj_class.specs.declared.op.Op.{Op}
 use Rattle.arj_class.specs.declared.op.Op.TheVariants.{Get, Add, Set, Put, Deposit, Withdraw, Len, Push, Pop, GetKey, PutPair, Remove}

@@ -1,5 +1,5 @@
 -- What a search finds among pairs whose keys rise, and what an edit at that place does.
-use Rattle.std.proofs.Common.{◌≡◌, ℕ, ◌+◌, ◌-◌, ◌<◌, ◌≤◌, zero, suc, List, [], ◌∷◌, ◌++◌, length, get_or, set, take, drop, Some, None, Option, Result, Ok, Err, MatchResult, sym, ap, subst, refl, arith, Bool, true, false, ◌==◌, nat_lt, cond, is_some, nat_le, if◌then◌else◌}
+use Rattle.std.proofs.Common.{◌≡◌, ℕ, ◌+◌, ◌-◌, ◌<◌, ◌≤◌, zero, suc, List, [], ◌∷◌, length, get_or, set, Some, None, Result, Ok, Err, MatchResult, sym, ap, refl, arith, true, nat_lt, is_some, if◌then◌else◌}
 use Rattle.std.specs.Prelude.{IsTrue}
 use Rattle.std.specs.List.{insert, remove, slice_get}
 use Rattle.std.proofs.lemmas.Option.{get_or_from_slice_get, slice_get_within}
@@ -8,7 +8,6 @@ use Rattle.std.specs.Ordering.{nat_cmp, ordering_index}
 use Rattle.std.proofs.lemmas.Cmp.{ranked}
 use Rattle.std.proofs.lemmas.List.Sorted.{IsNonDecreasingBy-from_default}
 use Rattle.std.proofs.lemmas.Bool.Decides.{nat_tests}
-use Rattle.std.proofs.lemmas.Grind.{common_steps}
 use Rattle.arj_class.specs.Keys.{KeysAbove, KeysBelow, KeysRise, key_at, IsPlace, IsGap}
 use Rattle.arj_class.specs.Table.{value_at, put_pair, remove_pair, is_full_for}
 

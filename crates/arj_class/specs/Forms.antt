@@ -5,7 +5,7 @@ use Rattle.byteorder.specs.Endian.{big_bytes}
 use Rattle.arj_class.specs.Keys.{KeysRise, pair_bytes}
 use Rattle.arj_class.specs.declared.limits.TheConstants.{QUEUE_NUMBERS, REGISTER_BYTES, TABLE_PAIRS}
 use Rattle.arj_class.specs.declared.op.Op.{Op}
-use Rattle.arj_class.specs.declared.op.Op.TheVariants.{Get, Add, Set, Put, Deposit, Withdraw, Len, Push, Pop, GetKey, PutPair, Remove}
+use Rattle.arj_class.specs.declared.op.Op.TheVariants.{Put}
 use Rattle.arj_class.specs.declared.value.Value.{Value}
 use Rattle.arj_class.specs.declared.value.Value.TheVariants.{Counter, Register, Account, Queue, Table}
 

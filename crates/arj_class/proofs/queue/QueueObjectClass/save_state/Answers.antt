@@ -1,8 +1,8 @@
-use Rattle.std.proofs.Common.{◌≡◌, ◌++◌, ◌∙◌, ◌≤◌, length, subst, sym, ap, arith}
+use Rattle.std.proofs.Common.{◌∙◌, ◌≤◌, length, subst, ap, arith}
 use Rattle.std.specs.List.{flat_map}
 use Rattle.byteorder.specs.Endian.{big_bytes}
 use Rattle.std.proofs.lemmas.List.{length-append}
-use Rattle.arj_class.specs.Forms.{NumbersFit, ValueInForm}
+use Rattle.arj_class.specs.Forms.{NumbersFit}
 use Rattle.arj_class.proofs.Payloads.{length_numbers, numbers_fit_append}
 use Rattle.arj_class.proofs.queue.QueueObjectClass.save_state.Goals as goal
 
