@@ -18,7 +18,7 @@ use Rattle.arj_class.specs.declared.value.Value.{Value}
 use Rattle.arj_class.specs.Table.{class_of, op_mode, writes, answer_of, value_after, is_write}
 use Rattle.arj_journal.specs.declared.body.Kind.TheVariants as kind
 use Rattle.arj_journal.specs.declared.header.Header.{Header}
-use Rattle.arj_text.specs.Fields.{OpHasForm}
+use Rattle.arj_text.specs.Fields.{OpTextInForm}
 use Rattle.arj_text.specs.Words.{answer_text}
 use Rattle.arj_model.specs.Actions.{Act, Placed, has_end, top_in}
 use Rattle.arj_model.specs.Calls.{Said, Call, made_in, kept}
@@ -388,14 +388,14 @@ module _ (header : Header) (accepted : List Asked) (s : Seen) (m new : Machine) 
       was : (j : ℕ) → IsOpen after j → IsOpen s j
       was j r = record { begun = r.begun; going = r.going }
 
-  call_plain : OpHasForm op → Keeps header (accepted ++ a ∷ []) after new
+  call_plain : OpTextInForm op → Keeps header (accepted ++ a ∷ []) after new
   call_plain form =
       let alone : IsAlone (length s.acts) (plain l parent i ∷ []) = record { act = plain l parent i; path_is = refl; kind = refl; uid = refl; within = running.begun } in
       keeps_used header accepted s m new a l parent i x (Some left) keeps running path uses to
       (s.said ++ saying s (plain l parent i ∷ []) x op text ∷ [])
       (grant_row (record { object = object x; holder = ident i ∷ []; tops = 1; mode = op_mode op }) s.rows)
       (all_more (λ p. IsAlone (length s.acts) p.it.path) s.said (saying s (plain l parent i ∷ []) x op text) keeps.said alone)
-      (all_more (λ p. OpHasForm p.it.op) s.said (saying s (plain l parent i ∷ []) x op text) keeps.ops form)
+      (all_more (λ p. OpTextInForm p.it.op) s.said (saying s (plain l parent i ∷ []) x op text) keeps.ops form)
       (ap is_some (sym there))
       (λ p line is of. subst (λ q. class_of q.value ≡ class_of line.value) (some_is left p is) (ap class_of (called_value (ident i) (op_mode op) op o) ∙ keeps.class x o line there of))
       up_new
@@ -406,7 +406,7 @@ module _ (header : Header) (accepted : List Asked) (s : Seen) (m new : Machine) 
 -- A call that was answered keeps what is kept.
 pub keeps_call : (header : Header) (accepted : List Asked) (s : Seen) (m new : Machine) (a : Asked) (act : Act) (i x : ℕ) (op : Op) (o : Obj) (answer : Answer) → Keeps header accepted s m
     → IsOpen s i → act.id ≡ i → act.kind ≡ kind.Top → act.uid ≡ ident i → a.path ≡ act ∷ [] → object_used a.event ≡ Some x → m.object x ≡ Some o
-    → against (ident i) (op_mode op) o.rows ≡ None → answer ≡ answer_of op (current o) → IsUsed m new i x (Some (called (ident i) (op_mode op) op o)) → OpHasForm op
+    → against (ident i) (op_mode op) o.rows ≡ None → answer ≡ answer_of op (current o) → IsUsed m new i x (Some (called (ident i) (op_mode op) op o)) → OpTextInForm op
     → Keeps header (accepted ++ a ∷ []) (with_call s (act ∷ []) x op (answer_text answer)) new
 keeps_call header accepted s m new a act i x op o answer keeps running id kind uid path uses there free answered to form =
     let is = act_is act i id kind uid in

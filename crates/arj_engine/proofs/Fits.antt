@@ -12,7 +12,7 @@ use Rattle.arj_class.specs.declared.value.Value.TheVariants as value
 use Rattle.arj_class.specs.Table.{answer_of, value_after, put_pair, remove_pair, value_at, is_full_for, front_of, behind_front, number_or_nothing}
 use Rattle.arj_journal.specs.declared.header.Header.{Header}
 use Rattle.arj_journal.specs.declared.header.ObjectLine.{ObjectLine}
-use Rattle.arj_text.specs.Fields.{NumberInForm, PairHasForm, AreBytesUpTo, OpHasForm, AnswerHasForm, ValueHasForm}
+use Rattle.arj_text.specs.Fields.{NumberInForm, PairInForm, AreBytesUpTo, OpTextInForm, AnswerTextInForm, ValueTextInForm}
 use Rattle.arj_model.specs.Actions.{Act, Placed, top_in, chain_in, has_end, is_committed}
 use Rattle.arj_model.specs.Calls.{Said, Call, kept, kept_in, call_of, made_in}
 use Rattle.arj_model.specs.Serial.{Values, run, after, arrange, insert, serial_less}
@@ -29,9 +29,9 @@ IsBounded (value.Counter m) = NumberInForm m
 IsBounded (value.Register bytes) = AreBytesUpTo 64 bytes
 IsBounded (value.Account m) = NumberInForm m
 IsBounded (value.Queue ns) = (length ns ≤ 32) × AllByRecursion NumberInForm ns
-IsBounded (value.Table ps) = AllByRecursion PairHasForm ps
+IsBounded (value.Table ps) = AllByRecursion PairInForm ps
 
-bounded : (v : Value) → ValueHasForm v → IsBounded v
+bounded : (v : Value) → ValueTextInForm v → IsBounded v
 bounded (value.Counter m) f = f
 bounded (value.Register bytes) f = f
 bounded (value.Account m) f = f
@@ -62,28 +62,28 @@ popped : (ns : List ℕ) → IsBounded (value.Queue ns) → IsBounded (value.Que
 popped [] b = b
 popped (n ∷ ns) b = (omega (arith, b.0), b.1.1)
 
-put_all : (k v : ℕ) (ps : List (ℕ × ℕ)) → AllByRecursion PairHasForm ps → PairHasForm (k, v) → AllByRecursion PairHasForm (put_pair k v ps)
+put_all : (k v : ℕ) (ps : List (ℕ × ℕ)) → AllByRecursion PairInForm ps → PairInForm (k, v) → AllByRecursion PairInForm (put_pair k v ps)
 put_all k v [] b f = (f, tt)
 put_all k v (p ∷ ps) b f = by (put_all k v ps b.1 f) (nat_lt k p.0) (p.0 == k)
   where
-    by : AllByRecursion PairHasForm (put_pair k v ps) → (t u : Bool) → AllByRecursion PairHasForm (cond t ((k, v) ∷ p ∷ ps) (cond u ((k, v) ∷ ps) (p ∷ put_pair k v ps)))
+    by : AllByRecursion PairInForm (put_pair k v ps) → (t u : Bool) → AllByRecursion PairInForm (cond t ((k, v) ∷ p ∷ ps) (cond u ((k, v) ∷ ps) (p ∷ put_pair k v ps)))
     by ih true u = (f, b)
     by ih false true = (f, b.1)
     by ih false false = (b.0, ih)
 
-put_some : (k v : ℕ) (ps : List (ℕ × ℕ)) → AllByRecursion PairHasForm ps → PairHasForm (k, v) → (t : Bool) → IsBounded (cond t (value.Table ps) (value.Table (put_pair k v ps)))
+put_some : (k v : ℕ) (ps : List (ℕ × ℕ)) → AllByRecursion PairInForm ps → PairInForm (k, v) → (t : Bool) → IsBounded (cond t (value.Table ps) (value.Table (put_pair k v ps)))
 put_some k v ps b f true = b
 put_some k v ps b f false = put_all k v ps b f
 
-removed : (k : ℕ) (ps : List (ℕ × ℕ)) → AllByRecursion PairHasForm ps → AllByRecursion PairHasForm (remove_pair k ps)
+removed : (k : ℕ) (ps : List (ℕ × ℕ)) → AllByRecursion PairInForm ps → AllByRecursion PairInForm (remove_pair k ps)
 removed k [] b = b
 removed k (p ∷ ps) b = by (removed k ps b.1) (p.0 == k)
   where
-    by : AllByRecursion PairHasForm (remove_pair k ps) → (t : Bool) → AllByRecursion PairHasForm (cond t ps (p ∷ remove_pair k ps))
+    by : AllByRecursion PairInForm (remove_pair k ps) → (t : Bool) → AllByRecursion PairInForm (cond t ps (p ∷ remove_pair k ps))
     by ih true = b.1
     by ih false = (b.0, ih)
 
-after_bounded : (o : Op) (v : Value) → OpHasForm o → IsBounded v → IsBounded (value_after o v)
+after_bounded : (o : Op) (v : Value) → OpTextInForm o → IsBounded v → IsBounded (value_after o v)
 after_bounded op.Get (value.Counter m) f b = b
 after_bounded op.Get (value.Register old) f b = b
 after_bounded op.Get (value.Account m) f b = b
@@ -145,38 +145,38 @@ after_bounded (op.Remove k) (value.Account m) f b = b
 after_bounded (op.Remove k) (value.Queue ns) f b = b
 after_bounded (op.Remove k) (value.Table ps) f b = removed k ps b
 
-over : (o : Op) (t : Bool) → AnswerHasForm o (cond t answer.Done answer.Over)
+over : (o : Op) (t : Bool) → AnswerTextInForm o (cond t answer.Done answer.Over)
 over o true = tt
 over o false = tt
 
-short : (o : Op) (t : Bool) → AnswerHasForm o (cond t answer.Short answer.Done)
+short : (o : Op) (t : Bool) → AnswerTextInForm o (cond t answer.Short answer.Done)
 short o true = tt
 short o false = tt
 
-full : (o : Op) (t : Bool) → AnswerHasForm o (cond t answer.Done answer.Full)
+full : (o : Op) (t : Bool) → AnswerTextInForm o (cond t answer.Done answer.Full)
 full o true = tt
 full o false = tt
 
-full_table : (o : Op) (t : Bool) → AnswerHasForm o (cond t answer.Full answer.Done)
+full_table : (o : Op) (t : Bool) → AnswerTextInForm o (cond t answer.Full answer.Done)
 full_table o true = tt
 full_table o false = tt
 
 few : (n : ℕ) → n ≤ 32 → NumberInForm n
 few n le = omega (arith, le)
 
-front_fits : (o : Op) (ns : List ℕ) → AllByRecursion NumberInForm ns → AnswerHasForm o (front_of ns)
+front_fits : (o : Op) (ns : List ℕ) → AllByRecursion NumberInForm ns → AnswerTextInForm o (front_of ns)
 front_fits o [] b = tt
 front_fits o (n ∷ ns) b = b.0
 
-found_fits : (o : Op) (k : ℕ) (ps : List (ℕ × ℕ)) → AllByRecursion PairHasForm ps → AnswerHasForm o (number_or_nothing (value_at k ps))
+found_fits : (o : Op) (k : ℕ) (ps : List (ℕ × ℕ)) → AllByRecursion PairInForm ps → AnswerTextInForm o (number_or_nothing (value_at k ps))
 found_fits o k [] b = tt
 found_fits o k (p ∷ ps) b = by (found_fits o k ps b.1) (p.0 == k)
   where
-    by : AnswerHasForm o (number_or_nothing (value_at k ps)) → (t : Bool) → AnswerHasForm o (number_or_nothing (cond t (Some p.1) (value_at k ps)))
+    by : AnswerTextInForm o (number_or_nothing (value_at k ps)) → (t : Bool) → AnswerTextInForm o (number_or_nothing (cond t (Some p.1) (value_at k ps)))
     by ih true = b.0.1
     by ih false = ih
 
-pub answer_fits : (o : Op) (v : Value) → IsBounded v → AnswerHasForm o (answer_of o v)
+pub answer_fits : (o : Op) (v : Value) → IsBounded v → AnswerTextInForm o (answer_of o v)
 answer_fits op.Get (value.Counter m) b = b
 answer_fits op.Get (value.Register old) b = (refl, b)
 answer_fits op.Get (value.Account m) b = b
@@ -240,7 +240,7 @@ answer_fits (op.Remove k) (value.Table ps) b = found_fits (op.Remove k) k ps b
 
 -- Runs keep within the limits.
 abbrev HasFormed : Call → Type 0
-HasFormed c = OpHasForm c.op
+HasFormed c = OpTextInForm c.op
 
 run_bounded : (values : Values) (cs : List Call) → ((x : ℕ) → IsBounded (values x)) → AllByRecursion HasFormed cs → (x : ℕ) → IsBounded (run values cs x)
 run_bounded values [] b all x = b x
@@ -263,7 +263,7 @@ all_arranged less [] all = tt
 all_arranged less (c ∷ cs) all = all_insert less c (arrange less cs) all.0 (all_arranged less cs all.1)
 
 abbrev Formed : Placed Said → Type 0
-Formed p = OpHasForm p.it.op
+Formed p = OpTextInForm p.it.op
 
 -- what is taken of a line has the line's operation
 taken : (f : Placed Said → Option Call) → ((p : Placed Said) → MatchOption (f p) (Unit {0}) (λ c. c.op ≡ p.it.op)) → (said : List (Placed Said)) → AllByRecursion Formed said → AllByRecursion HasFormed (filter_map f said)
@@ -272,7 +272,7 @@ taken f same (p ∷ said) all = by (taken f same said all.1) (f p) (same p)
   where
     by : AllByRecursion HasFormed (filter_map f said) → (o : Option Call) → MatchOption o (Unit {0}) (λ c. c.op ≡ p.it.op) → AllByRecursion HasFormed (cons_option o (filter_map f said))
     by ih None is = ih
-    by ih (Some c) is = (subst OpHasForm (sym is) all.0, ih)
+    by ih (Some c) is = (subst OpTextInForm (sym is) all.0, ih)
 
 kept_op : (s : Seen) (p : Placed Said) → MatchOption (kept s.committed s.recovered p) (Unit {0}) (λ c. c.op ≡ p.it.op)
 kept_op s p = by (top_in p.it.path)

@@ -17,7 +17,7 @@ use Rattle.arj_journal.specs.declared.event.Event.{Event}
 use Rattle.arj_journal.specs.declared.event.Event.TheVariants as event
 use Rattle.arj_journal.specs.declared.header.Header.{Header}
 use Rattle.arj_base.specs.Uid.{UidFits}
-use Rattle.arj_journal.specs.LineForm.{LabelFits}
+use Rattle.arj_text.specs.Label.{LabelInForm}
 use Rattle.arj_text.specs.Fields.{IsWithin}
 use Rattle.arj_text.specs.declared.label.Label.{Label}
 use Rattle.arj_model.specs.Actions.{Act, acts}
@@ -197,7 +197,7 @@ begin_moment header past m l n k is one room = record {
     not_full = grind (arith, nat_tests, k.count, room)
 
 pub begin_ran : (header : Header) (past : Past) (l : Label) (n : ℕ) (old new : Engine) (file : FileMap) (stops : ℕ) (before after : List Line)
-    → Stands header past old file → LabelFits l → Begins (machine_of old) (machine_of new) l n before after → Ran header past (event.Begin l n) new file stops stops before after
+    → Stands header past old file → LabelInForm l → Begins (machine_of old) (machine_of new) l n before after → Ran header past (event.Begin l n) new file stops stops before after
 begin_ran header past l n old new file stops before after st label begins = by (begin_refusal (machine_of old) l n) refl begins
   where
     m : Machine

@@ -25,8 +25,8 @@ use Rattle.arj_journal.specs.declared.event.Event.TheVariants as event
 use Rattle.arj_journal.specs.declared.header.Header.{Header}
 use Rattle.arj_text.specs.declared.label.Label.{Label}
 use Rattle.arj_text.specs.Label.{name}
-use Rattle.arj_journal.specs.LineForm.{LabelFits}
-use Rattle.arj_text.specs.Fields.{OpHasForm}
+use Rattle.arj_text.specs.Label.{LabelInForm}
+use Rattle.arj_text.specs.Fields.{OpTextInForm}
 use Rattle.arj_text.specs.Words.{answer_text}
 use Rattle.arj_model.specs.Actions.{Act, acts, act_in, path, uids, has_end}
 use Rattle.arj_model.specs.Past.{Past, Asked, asked_of, block}
@@ -155,7 +155,7 @@ found_one {A} P t (x ∷ xs) all a is = by (found_one P t xs all.1 a) (t x) is
 head_same : (u w : Uid) → u ∷ [] ≡ w ∷ [] → u ≡ w
 head_same u w e = cc
 
-module _ (header : Header) (past : Past) (l : Label) (x : ℕ) (op : Op) (old new : Engine) (file : FileMap) (stops : ℕ) (before after : List Line) (st : Stands header past old file) (label : LabelFits l) (form : OpHasForm op) where
+module _ (header : Header) (past : Past) (l : Label) (x : ℕ) (op : Op) (old new : Engine) (file : FileMap) (stops : ℕ) (before after : List Line) (st : Stands header past old file) (label : LabelInForm l) (form : OpTextInForm op) where
   abbrev m : Machine
   m = machine_of old
 

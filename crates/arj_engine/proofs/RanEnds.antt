@@ -21,7 +21,7 @@ use Rattle.arj_journal.specs.declared.body.Line.{Line}
 use Rattle.arj_journal.specs.declared.event.Event.{Event}
 use Rattle.arj_journal.specs.declared.event.Event.TheVariants as event
 use Rattle.arj_journal.specs.declared.header.Header.{Header}
-use Rattle.arj_journal.specs.LineForm.{LabelFits}
+use Rattle.arj_text.specs.Label.{LabelInForm}
 use Rattle.arj_text.specs.Fields.{IsWithin}
 use Rattle.arj_text.specs.declared.label.Label.{Label}
 use Rattle.arj_text.specs.Label.{name}
@@ -160,7 +160,7 @@ abort_moment header past l is all = record {
     bodies = body.Aborted l cause.Asked ∷ []
 
 pub abort_ran : (header : Header) (past : Past) (l : Label) (old new : Engine) (file : FileMap) (stops : ℕ) (before after : List Line)
-    → Stands header past old file → LabelFits l → Aborts (machine_of old) (machine_of new) l before after → Ran header past (event.Abort l) new file stops stops before after
+    → Stands header past old file → LabelInForm l → Aborts (machine_of old) (machine_of new) l before after → Ran header past (event.Abort l) new file stops stops before after
 abort_ran header past l old new file stops before after st label aborts = by (end_refusal (machine_of old) l) refl aborts
   where
     m : Machine
@@ -262,7 +262,7 @@ commit_own header past l b i f is answers one stand halts calm ends = record {
     bodies : List Body
     bodies = body.Committing l ∷ b ∷ []
 
-module _ (header : Header) (past : Past) (l : Label) (old new : Engine) (file file' : FileMap) (stops stops' : ℕ) (before after : List Line) (st : Stands header past old file) (label : LabelFits l) where
+module _ (header : Header) (past : Past) (l : Label) (old new : Engine) (file file' : FileMap) (stops stops' : ℕ) (before after : List Line) (st : Stands header past old file) (label : LabelInForm l) where
   abbrev m : Machine
   m = machine_of old
 

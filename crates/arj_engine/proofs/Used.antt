@@ -15,7 +15,7 @@ use Rattle.arj_model.specs.Past.{Asked}
 use Rattle.arj_engine.specs.Seen.{Seen}
 use Rattle.arj_engine.specs.Change.{IsUsed}
 use Rattle.arj_engine.specs.Keeps.{Machine, Keeps, Up, IsAlone, IsAsked, IsBelow, IsOpen, ident}
-use Rattle.arj_text.specs.Fields.{OpHasForm}
+use Rattle.arj_text.specs.Fields.{OpTextInForm}
 use Rattle.arj_engine.specs.Object.{Obj}
 use Rattle.arj_engine.proofs.Locks.{eq_same, eq_sym}
 use Rattle.arj_engine.proofs.Steps.{later}
@@ -135,7 +135,7 @@ module _ (header : Header) (accepted : List Asked) (s : Seen) (m new : Machine) 
   roots_new = all_more (λ a. IsBelow (length s.acts) (root_in a.path)) accepted a keeps.roots (subst (λ p. IsBelow (length s.acts) (root_in p)) (sym path) running.begun)
 
   -- All that is kept, where the calls, the locks and the object's new form fit.
-  pub keeps_used : (said : List (Placed Said)) (rows : List Row) → AllByRecursion (λ p. IsAlone (length s.acts) p.it.path) said → AllByRecursion (λ p. OpHasForm p.it.op) said → is_some found ≡ is_some (m.object x) → ClassFits found x
+  pub keeps_used : (said : List (Placed Said)) (rows : List Row) → AllByRecursion (λ p. IsAlone (length s.acts) p.it.path) said → AllByRecursion (λ p. OpTextInForm p.it.op) said → is_some found ≡ is_some (m.object x) → ClassFits found x
       → (s.down ≡ false → Up header (accepted ++ a ∷ []) (and_then s said rows) new) → Keeps header (accepted ++ a ∷ []) (and_then s said rows) new
   keeps_used said rows alone ops some class up = record {
     nodes = keeps.nodes;

@@ -10,7 +10,7 @@ use Rattle.arj_disk.specs.Files.{FileMap}
 use Rattle.arj_disk.specs.Says.{held}
 use Rattle.arj_disk.specs.declared.slot.Role.TheVariants.{Store}
 use Rattle.arj_base.specs.Uid.{object}
-use Rattle.arj_journal.specs.LineForm.{BodyFits}
+use Rattle.arj_journal.specs.LineForm.{BodyInForm}
 use Rattle.arj_journal.specs.declared.body.Body.{Body}
 use Rattle.arj_journal.specs.declared.body.Line.{Line}
 use Rattle.arj_journal.specs.declared.event.Event.{Event}
@@ -75,7 +75,7 @@ pub record Ran (header : Header) (past : Past) (e : Event) (engine : Engine) (fi
   pub bodies : List Body
   pub lines : after ≡ before ++ block (past.count + 1) bodies
   pub moment : Moment header past e bodies
-  pub in_form : AllByRecursion BodyFits bodies
+  pub in_form : AllByRecursion BodyInForm bodies
   pub stands : Stands header (next past e bodies) engine file
   pub halted : list_any (is_halt 1) bodies ≡ true → Rose stops_before stops_after
   pub steady : list_any (is_halt 1) bodies ≡ false → stops_after ≡ stops_before

@@ -5,7 +5,7 @@ use Rattle.arj_journal.specs.declared.event.Event.{Event}
 use Rattle.arj_journal.specs.declared.event.Event.TheVariants as event
 use Rattle.arj_journal.specs.declared.header.Header.{Header}
 use Rattle.arj_journal.specs.declared.header.ObjectLine.{ObjectLine}
-use Rattle.arj_text.specs.Fields.{OpHasForm, ValueHasForm}
+use Rattle.arj_text.specs.Fields.{OpTextInForm, ValueTextInForm}
 use Rattle.arj_text.specs.Label.{LabelInForm}
 
 -- objects by strictly increasing number (`is_rising` of arj_text says it of pairs, by their keys)
@@ -16,7 +16,7 @@ is_rising (o ∷ p ∷ os) = nat_lt o.x p.x && is_rising (p ∷ os)
 
 -- an object has a number from 1 to 256 and a value in form, and is stored on node 1
 abbrev pub LineInForm : ObjectLine → Type 0
-LineInForm o = (1 ≤ o.x) × (o.x ≤ 256) × (o.stores ≡ 1 ∷ []) × ValueHasForm o.value
+LineInForm o = (1 ≤ o.x) × (o.x ≤ 256) × (o.stores ≡ 1 ∷ []) × ValueTextInForm o.value
 
 -- one node, and objects by number, each stored on it
 pub record HeaderInForm (header : Header) : Type 0 where
@@ -27,7 +27,7 @@ pub record HeaderInForm (header : Header) : Type 0 where
 -- the kinds of event that run today, with labels and operations in form
 abbrev pub EventInForm : Event → Type 0
 EventInForm (event.Begin l n) = LabelInForm l
-EventInForm (event.Call l x op) = LabelInForm l × OpHasForm op
+EventInForm (event.Call l x op) = LabelInForm l × OpTextInForm op
 EventInForm (event.Commit l) = LabelInForm l
 EventInForm (event.Abort l) = LabelInForm l
 EventInForm _ = ⊥

@@ -23,7 +23,7 @@ use Rattle.arj_model.specs.Clean.{undecided_by}
 use Rattle.arj_model.specs.Past.{Asked}
 use Rattle.arj_model.specs.Refusals.{objects_from}
 use Rattle.arj_engine.specs.Seen.{Seen}
-use Rattle.arj_text.specs.Fields.{OpHasForm}
+use Rattle.arj_text.specs.Fields.{OpTextInForm}
 use Rattle.arj_engine.specs.Form.{LineInForm}
 use Rattle.arj_engine.specs.Object.{Obj}
 use Rattle.arj_engine.specs.declared.object.Row.{Row as Lock}
@@ -154,7 +154,7 @@ pub record Up (header : Header) (accepted : List Asked) (s : Seen) (m : Machine)
 pub record Keeps (header : Header) (accepted : List Asked) (s : Seen) (m : Machine) : Type 0 where
   pub nodes : header.nodes ≡ 1
   pub lines : AllByRecursion LineInForm header.objects
-  pub ops : AllByRecursion (λ p. OpHasForm p.it.op) s.said
+  pub ops : AllByRecursion (λ p. OpTextInForm p.it.op) s.said
   pub plain : ArePlain s.acts
   pub said : AllByRecursion (λ p. IsAlone (length s.acts) p.it.path) s.said
   pub asked : AllByRecursion (IsAsked (length s.acts) s.count) s.committings

@@ -2,7 +2,7 @@ use Rattle.std.proofs.Common.{subst, sym, OnOk}
 use Rattle.arj_class.specs.Forms.{OpInForm}
 use Rattle.arj_class.specs.declared.op.Op.{Op}
 use Rattle.arj_class.specs.declared.op.Op.TheVariants.{Get, Add, Set, Put, Deposit, Withdraw, Len, Push, Pop, GetKey, PutPair, Remove}
-use Rattle.arj_text.specs.Fields.{OpHasForm}
+use Rattle.arj_text.specs.Fields.{OpTextInForm}
 use Rattle.arj_engine.specs.Form.{EventInForm}
 use Rattle.arj_journal.specs.declared.event.Event.{Event}
 use Rattle.arj_journal.specs.declared.header.Header.{Header}
@@ -24,7 +24,7 @@ pub abort-requires-clause-ready : goal.abort-requires-clause-ready
 abort-requires-clause-ready g c = let st = c.requires.stands in ready st.0 st.1 c.args.self.now (g.D.Disk.file c.args.disk.now) st.2 c.requires.room
 
 -- what the operation's form asks
-op_in_form : (o : Op) → OpHasForm o → OpInForm o
+op_in_form : (o : Op) → OpTextInForm o → OpInForm o
 op_in_form Get f = tt
 op_in_form (Add n) f = tt
 op_in_form (Set n) f = tt
@@ -48,7 +48,7 @@ returns-in-Begin-clause-ran g c =
     let stops = g.D.Disk.stops c.args.disk.now in
     let P : Event → Type 0 = λ e. OnOk c.begin.result ((header : Header) (past : Past) → Stands header past old file → Ran header past e c.begin.new.self file stops stops c.args.journal.now c.begin.new.journal) in
     subst P (sym c.in-Begin.is)
-    (on_ok_to c.begin.result (λ did header past st. begin_ran header past c.in-Begin.label c.in-Begin.node old c.begin.new.self file stops c.args.journal.now c.begin.new.journal st (subst EventInForm c.in-Begin.is c.requires.form, c.begin.ensures.sized) did) c.begin.ensures.ok)
+    (on_ok_to c.begin.result (λ did header past st. begin_ran header past c.in-Begin.label c.in-Begin.node old c.begin.new.self file stops c.args.journal.now c.begin.new.journal st (subst EventInForm c.in-Begin.is c.requires.form) did) c.begin.ensures.ok)
 
 pub returns-in-Call-clause-ran : goal.returns-in-Call-clause-ran
 returns-in-Call-clause-ran g c =
@@ -57,7 +57,7 @@ returns-in-Call-clause-ran g c =
     let stops = g.D.Disk.stops c.args.disk.now in
     let P : Event → Type 0 = λ e. OnOk c.call.result ((header : Header) (past : Past) → Stands header past old file → Ran header past e c.call.new.self file stops stops c.args.journal.now c.call.new.journal) in
     subst P (sym c.in-Call.is)
-    (on_ok_to c.call.result (λ did header past st. call_ran header past c.in-Call.label c.in-Call.x c.in-Call.op old c.call.new.self file stops c.args.journal.now c.call.new.journal st ((subst EventInForm c.in-Call.is c.requires.form).0, c.call.ensures.sized) (subst EventInForm c.in-Call.is c.requires.form).1 did) c.call.ensures.ok)
+    (on_ok_to c.call.result (λ did header past st. call_ran header past c.in-Call.label c.in-Call.x c.in-Call.op old c.call.new.self file stops c.args.journal.now c.call.new.journal st (subst EventInForm c.in-Call.is c.requires.form).0 (subst EventInForm c.in-Call.is c.requires.form).1 did) c.call.ensures.ok)
 
 pub returns-in-Commit-clause-ran : goal.returns-in-Commit-clause-ran
 returns-in-Commit-clause-ran g c =
@@ -68,7 +68,7 @@ returns-in-Commit-clause-ran g c =
     let stopped = g.D.Disk.stops c.commit.new.disk in
     let P : Event → Type 0 = λ e. OnOk c.commit.result ((header : Header) (past : Past) → Stands header past old file → Ran header past e c.commit.new.self after stops stopped c.args.journal.now c.commit.new.journal) in
     subst P (sym c.in-Commit.is)
-    (on_ok_to c.commit.result (λ did header past st. commit_ran header past c.in-Commit.label old c.commit.new.self file after stops stopped c.args.journal.now c.commit.new.journal st (subst EventInForm c.in-Commit.is c.requires.form, c.commit.ensures.sized) did) c.commit.ensures.ok)
+    (on_ok_to c.commit.result (λ did header past st. commit_ran header past c.in-Commit.label old c.commit.new.self file after stops stopped c.args.journal.now c.commit.new.journal st (subst EventInForm c.in-Commit.is c.requires.form) did) c.commit.ensures.ok)
 
 pub returns-in-Abort-clause-ran : goal.returns-in-Abort-clause-ran
 returns-in-Abort-clause-ran g c =
@@ -77,4 +77,4 @@ returns-in-Abort-clause-ran g c =
     let stops = g.D.Disk.stops c.args.disk.now in
     let P : Event → Type 0 = λ e. OnOk c.abort.result ((header : Header) (past : Past) → Stands header past old file → Ran header past e c.abort.new.self file stops stops c.args.journal.now c.abort.new.journal) in
     subst P (sym c.in-Abort.is)
-    (on_ok_to c.abort.result (λ did header past st. abort_ran header past c.in-Abort.label old c.abort.new.self file stops c.args.journal.now c.abort.new.journal st (subst EventInForm c.in-Abort.is c.requires.form, c.abort.ensures.sized) did) c.abort.ensures.ok)
+    (on_ok_to c.abort.result (λ did header past st. abort_ran header past c.in-Abort.label old c.abort.new.self file stops c.args.journal.now c.abort.new.journal st (subst EventInForm c.in-Abort.is c.requires.form) did) c.abort.ensures.ok)
