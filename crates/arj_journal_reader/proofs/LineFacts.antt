@@ -1,6 +1,6 @@
 -- The pieces of which lines are made, and the lines: which bytes their texts lack, and that no two have one text.
-use Rattle.std.proofs.Common.{◌≡◌, [], ◌∷◌, ◌++◌, true, false, refl, ap, arith, ◌⊎◌, inl, inr}
-use Rattle.std.specs.Prelude.{◌==◌, Bool, codes}
+use Rattle.std.proofs.Common.{◌≡◌, [], ◌∷◌, ◌++◌, true, false, refl, arith, ◌⊎◌, inl, inr}
+use Rattle.std.specs.Prelude.{◌==◌}
 use Rattle.std.proofs.lemmas.Bool.{both_ways}
 use Rattle.arj_journal.specs.declared.body.Body.{Body}
 use Rattle.arj_journal.specs.declared.body.Body.TheVariants as body
@@ -15,7 +15,6 @@ use Rattle.arj_journal.specs.declared.line_kind.DifferenceKind.TheVariants as di
 use Rattle.arj_journal.specs.declared.line_kind.LineKind.{LineKind}
 use Rattle.arj_journal.specs.declared.line_kind.LineKind.TheVariants as line
 use Rattle.arj_journal_reader.specs.Form.{◌▸◌}
-use Rattle.arj_text.specs.Label.{name}
 use Rattle.arj_journal.specs.declared.limits.TheConstants.{NODES, REFUSALS}
 use Rattle.arj_journal_reader.specs.declared.pieces.Node.{Node}
 use Rattle.arj_journal_reader.specs.declared.pieces.Object.{Object}
@@ -29,7 +28,7 @@ use Rattle.arj_journal_reader.specs.LineKinds.{node, sender, refusal, object, wo
 use Rattle.arj_journal.specs.LineText.{body_text, cause_text, difference_text}
 use Rattle.arj_journal.specs.LineWords.{cause_word, difference_word, frame_text, kind_text, line_word, part_text, role_text, which_text, yes_text}
 use Rattle.arj_journal_reader.specs.Spellings.{IsKnown, cause_kinds, difference_kinds, ends, frame_kinds, kinds, known_cause_kinds, known_difference_kinds, known_ends, known_frame_kinds, known_kinds, known_limits, known_line_kinds, known_modes, known_parts, known_roles, limits, line_kinds, modes, parts, roles}
-use Rattle.arj_text.specs.Words.{end_text, mode_text, number_word}
+use Rattle.arj_text.specs.Words.{end_text, mode_text}
 use Rattle.arj_journal_reader.proofs.ByKind.{AreOfKinds, Seen}
 use Rattle.arj_journal_reader.proofs.Calls.{call_facts}
 use Rattle.arj_journal_reader.proofs.Facts.{HaveWords, PieceFacts, WordFacts, alone, behind, form_of, kinds_facts, known_facts, mixed_facts, narrowed, numbered, spaceless, spaceless_words}

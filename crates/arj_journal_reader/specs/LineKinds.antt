@@ -1,5 +1,5 @@
 -- The kinds of line: what stands behind the first word of each, and the line that is made of it.
-use Rattle.std.specs.Prelude.{◌≡◌, ◌==◌, ℕ, List, ◌++◌, codes, ⊤, Bool, true, false}
+use Rattle.std.specs.Prelude.{◌≡◌, ◌==◌, ◌++◌, codes, ⊤, Bool, true, false}
 use Rattle.std.specs.Fmt.{decimal}
 use Rattle.arj_base.specs.declared.binding.Binding.{Binding}
 use Rattle.arj_base.specs.declared.mode.Mode.{Mode}
@@ -41,7 +41,7 @@ use Rattle.arj_journal.specs.declared.limits.TheConstants.{NODES, REFUSALS, STOR
 use Rattle.arj_journal.specs.LineForm.{CauseInForm, DifferenceInForm, NodeInForm, ObjectInForm, ParentInForm, is_junk}
 use Rattle.arj_journal.specs.LineText.{cause_text, difference_text, parent_text}
 use Rattle.arj_journal.specs.LineWords.{cause_word, difference_word, frame_text, kind_text, line_word, part_text, role_text, which_text, yes_text}
-use Rattle.arj_text.specs.Words.{end_text, hex, list_text, mode_text, number_word, op_text}
+use Rattle.arj_text.specs.Words.{end_text, hex, list_text, mode_text, op_text}
 
 -- the pieces that are one word
 abbrev pub node : Form
