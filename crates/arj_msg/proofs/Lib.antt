@@ -1,6 +1,7 @@
 pub mod CaseLaws
 pub mod DecodeLaws
 pub mod FieldLaws
+pub mod FormLaws
 pub mod HeadLaws
 pub mod Laws
 pub mod Loop

@@ -1,7 +1,9 @@
 pub mod Answers
+pub mod Ask
 pub mod Fields
 pub mod Format
 pub mod Head
+pub mod InForm
 pub mod Layout
 pub mod Operation
 pub mod Replies

@@ -7,9 +7,11 @@
 #![tactic(auto)]
 
 mod answer;
+mod ask;
 mod codec;
 mod fault;
 mod field;
+mod form;
 mod head;
 mod message;
 mod number;
@@ -20,8 +22,10 @@ mod request;
 mod spelling;
 mod state;
 
+pub use ask::Ask;
 pub use codec::{decode, encode};
 pub use fault::MsgFault;
+pub use form::messages_in_form;
 pub use message::{
     Acked, Activate, Activated, Asked, Bind, Binds, Bound, BoundReply, Confirm, Confirmed,
     ConfirmedReply, Grants, Head, Hello, Invoke, Invoked, InvokedReply, Load, Loaded, LoadedReply,

@@ -1,6 +1,37 @@
+// Messages read, written and taken apart.
+ghost use Rattle.std.specs.Prelude.{◌≡◌, ◌≤◌, ℕ, Some, IfOk};
+ghost use Rattle.std.specs.List.{AllByRecursion};
+ghost use Rattle.arj_base.specs.Path.{uids_of};
+ghost use Rattle.arj_base.specs.Uid.{UidFits};
+ghost use Rattle.arj_msg.specs.Layout.{message_bytes};
+ghost use Rattle.arj_msg.specs.declared.message.Head.{Head};
+ghost use Rattle.arj_msg.specs.declared.message.Message.TheVariants as of;
+
 use super::*;
-use std::alloc::Global;
+use arj_base::Bytes;
+use std::alloc::{AllocError, Global};
 use std::test::Fail;
+
+// A Load that is sent: its object has to be one, and the Uids of its path have to fit their bytes.
+fn load_bytes(alloc: Global, head: Head, x: u16) -> Result<Bytes, AllocError>
+    requires least { 1 ≤ x }
+    requires most { x ≤ 256 }
+    requires path { AllByRecursion UidFits (uids_of head.path) }
+    ensures { IfOk result (λ bytes. bytes ≡ message_bytes (of.Load (record { head = head; x = x }))) }
+{
+    messages_in_form();
+    encode(alloc, &Message::Load(Load { head, x }))
+}
+
+// What a Load asks for, of any request.
+fn loads(m: Message) -> Option<u16>
+    ensures { (head : Head) (x : ℕ) → m ≡ of.Load (record { head = head; x = x }) → result ≡ Some x }
+{
+    match m.asks() {
+        Ok((_, Ask::Load { x })) => Some(x),
+        _ => None,
+    }
+}
 
 #[test]
 fn places_of_faults(rt: HostRuntime) -> Result<(), Fail> {
