@@ -5,6 +5,8 @@ pub mod ServerTable
 pub mod Steps
 pub mod Messages
 pub mod NamingTable
+pub mod Numbers
+pub mod Payloads
 pub mod RowSteps
 mod RowsOfLimits
 mod RowsOfNodes

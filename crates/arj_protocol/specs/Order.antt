@@ -1,6 +1,15 @@
 -- How Uids, bindings and versions compare, and finite maps and sets: sorted lists, as an ordered map or set has its
 -- entries.
-use Rattle.arj_protocol.specs.Words.{ℕ, ◌+◌, ◌*◌, Bool, ◌==◌, nat_lt, if◌then◌else◌, List, [], ◌∷◌, filter, map, Option, list_any, not, Ordering, nat_cmp, ordering_then, lookup, remove_entry, insert_entry, insert_key, is_at, Uid, Binding, uid_eq, min, uid_order}
+use Rattle.arj_protocol.specs.Words.{ℕ, zero, suc, ◌+◌, ◌*◌, Bool, ◌==◌, nat_lt, if◌then◌else◌, List, [], ◌∷◌, filter, map, Option, list_any, not, nat_cmp, lookup, remove_entry, insert_entry, insert_key, is_at, Uid, Binding, uid_eq, min, uid_order}
+
+-- Two numbers as one, from which both can be told: the first counts the factors 2, the second gives the odd rest.
+abbrev pub as_one : ℕ → ℕ → ℕ
+as_one zero n = 2 * n + 1
+as_one (suc m) n = 2 * as_one m n
+
+-- A Uid as one number, whatever its parts are.
+abbrev pub uid_number : Uid → ℕ
+uid_number u = as_one u.node (as_one u.inc u.num)
 
 -- A binding as a number: naming incarnations and counts have 32 bits.
 abbrev pub binding_number : Binding → ℕ

@@ -1,15 +1,12 @@
 -- Payloads of packed states as values, and as naming entries: what `payload_of` and `entry_payload` spell, read back.
-use Rattle.arj_protocol.specs.Words.{ℕ, ◌+◌, ◌*◌, List, [], ◌∷◌, take, drop, Class, Value, Entry, ObjectState}
+use Rattle.std.specs.Int.{w64, from_be_bytes}
+use Rattle.arj_protocol.specs.Words.{ℕ, List, [], ◌∷◌, take, drop, Class, Value, Entry, ObjectState}
 use Rattle.arj_protocol.specs.Words.class
 use Rattle.arj_protocol.specs.Words.value
 
--- a number, high byte first
-abbrev pub big_number : ℕ → List ℕ → ℕ
-big_number n [] = n
-big_number n (b ∷ bs) = big_number (n * 256 + b) bs
-
+-- a number of eight bytes, high byte first
 abbrev pub number_in : List ℕ → ℕ
-number_in bytes = big_number 0 bytes
+number_in bytes = from_be_bytes w64 bytes
 
 -- numbers of eight bytes, one behind the other
 abbrev pub numbers_in : List ℕ → List ℕ

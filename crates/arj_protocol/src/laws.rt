@@ -1,13 +1,20 @@
 // Laws of the protocol that hold whatever messages come.
-ghost use Rattle.std.specs.Prelude.{◌≡◌, ℕ, Bool, false, true, List, [], ◌++◌, length, Option, Some, None};
+ghost use Rattle.std.specs.Prelude.{◌≡◌, ◌==◌, ◌<◌, ◌^◌, ℕ, Bool, false, true, List, [], ◌++◌, length, Option, Some, None};
+ghost use Rattle.std.specs.Ordering.{is_eq, is_lt};
 ghost use Rattle.arj_base.specs.declared.mode.End.{End};
 ghost use Rattle.arj_base.specs.declared.binding.Binding.{Binding};
 ghost use Rattle.arj_base.specs.declared.path.Path.{Path};
 ghost use Rattle.arj_base.specs.declared.state.ObjectState.{ObjectState};
 ghost use Rattle.arj_base.specs.declared.uid.Uid.{Uid};
+ghost use Rattle.arj_base.specs.Order.{binding_order};
 ghost use Rattle.arj_base.specs.Path.{tops_of, uids_of};
 ghost use Rattle.arj_base.specs.Uid.{nobody, uid_eq};
 ghost use Rattle.arj_class.specs.declared.op.Op.{Op};
+ghost use Rattle.arj_class.specs.declared.value.Value.{Value};
+ghost use Rattle.arj_class.specs.Forms.{ValueInForm, payload_of};
+ghost use Rattle.arj_class.specs.Table.{class_of};
+ghost use Rattle.arj_entry.specs.declared.entry.Entry.{Entry};
+ghost use Rattle.arj_entry.specs.Entry.{entry_payload};
 ghost use Rattle.arj_msg.specs.declared.message.Asked.{Asked};
 ghost use Rattle.arj_msg.specs.declared.message.Head.{Head};
 ghost use Rattle.arj_msg.specs.declared.message.Message.{Message};
@@ -18,9 +25,11 @@ ghost use Rattle.arj_protocol.specs.Laws.{AreOfActions, AreUnknownAt, Grows, Hol
 ghost use Rattle.arj_protocol.specs.Naming as naming;
 ghost use Rattle.arj_protocol.specs.Naming.{Naming};
 ghost use Rattle.arj_protocol.specs.Node.{Parts, handle};
+ghost use Rattle.arj_protocol.specs.Order.{binding_eq, binding_less, uid_number};
 ghost use Rattle.arj_protocol.specs.Server as server;
 ghost use Rattle.arj_protocol.specs.Server.{Server, apply_ends, end_one, is_told};
 ghost use Rattle.arj_protocol.specs.Step.{Input};
+ghost use Rattle.arj_protocol.specs.Values.{entry_in, value_in};
 ghost use Rattle.arj_protocol.specs.World as world;
 ghost use Rattle.arj_protocol.specs.World.{World, bodies, numbered, run_event, steps};
 
@@ -29,6 +38,21 @@ pub fn messages_read_back()
     ensures request { (h : Head) (a : Ask) → asks (request h a) ≡ Some (h, a) }
     ensures response { (a : Asked) (r : Reply) → answers (response a r) ≡ Some (a, r) }
     ensures apart { (a : Asked) (r : Reply) → asks (response a r) ≡ None }
+{}
+
+/// A value and a naming entry are read back from their payloads. It does nothing when it runs.
+pub fn payloads_read_back()
+    ensures value { (v : Value) → ValueInForm v → value_in (class_of v) (payload_of v) ≡ v }
+    ensures entry { (e : Entry) → entry_in (entry_payload e) ≡ e }
+{}
+
+/// Uids and bindings may be compared as numbers: a Uid's number tells it from all others, and bindings whose counts have 32
+/// bits stand in the order of their numbers. It does nothing when it runs.
+pub fn names_compare_as_numbers()
+    ensures uids { (u w : Uid) → (uid_number u == uid_number w) ≡ uid_eq u w }
+    ensures uid { (u w : Uid) → uid_number u ≡ uid_number w → u ≡ w }
+    ensures lesser { (b c : Binding) → b.count < 2 ^ 32 → c.count < 2 ^ 32 → binding_less b c ≡ is_lt (binding_order b c) }
+    ensures same { (b c : Binding) → b.count < 2 ^ 32 → c.count < 2 ^ 32 → binding_eq b c ≡ is_eq (binding_order b c) }
 {}
 
 /// A step of a node, also one that a stop cuts, leaves all other nodes as they were, its frames have it as their sender,
