@@ -76,7 +76,7 @@ module _ (A : Office) (c : Named A) (t : ℕ) (x : Allowed A.world (Effects.Deci
   alone a u e = closed a u (c.roots.one a t (falls a u) open_t e)
 
   -- with its coordinator gone, or as its own root, its root is over afterwards
-  over_after : IsUnretained S t → IsOver V (S.root t)
+  over_after : (is_gone (S.stage (S.root t)) ≡ true) ⊎ (S.root t ≡ t) → IsOver V (S.root t)
   over_after (inl g) = (ages.gone (S.root t) g, λ z e. falls_to (undecided V z) (λ u. alone z u e))
   over_after (inr e) = (ap (λ n. is_gone (V.stage n)) e ∙ ap is_gone (put_same t Gone S.stage), λ z f. falls_to (undecided V z) (λ u. alone z u f))
 
@@ -129,8 +129,8 @@ module _ (A : Office) (c : Named A) (t : ℕ) (x : Allowed A.world (Effects.Deci
   other_root r k n row = n (near S N c.roots c.rows r t k row)
 
   -- a list of its root, with its exclusions taken out and its inclusions added
-  family_wide : (l : List ℕ) → IsPresent S N t → IsWide S (S.root t) l → IsWide V (S.root t) (list_after (S.plan t) (S.got t) l)
-  family_wide l present w s i = by (bool_cases (S.light t)) i
+  family_wide : (l : List ℕ) → ((s : ℕ) → S.light t ≡ true → has s (S.plan t).joins ≡ true → Listed S s → ⊥) → IsWide S (S.root t) l → IsWide V (S.root t) (list_after (S.plan t) (S.got t) l)
+  family_wide l unlisted w s i = by (bool_cases (S.light t)) i
     where
       Goal : Type 0
       Goal = (has s (list_after (S.plan t) (S.got t) l) ≡ true) ⊎ IsLeaving S.root (decided V) S.entry_pend (S.root t) s
@@ -140,7 +140,7 @@ module _ (A : Office) (c : Named A) (t : ℕ) (x : Allowed A.world (Effects.Deci
       stays g (inr y) = inr (leaving (S.root t) s y)
 
       light_listed : S.light t ≡ true → Listed S s → Goal
-      light_listed y q = stays (λ goal. absurd (c.lists.light t s y open_t present (plain_target (S.plan t) s (core.light.plain t y) goal) q)) (w s q)
+      light_listed y q = stays (λ goal. absurd (unlisted s y (plain_target (S.plan t) s (core.light.plain t y) goal) q)) (w s q)
 
       light : S.light t ≡ true → Listed V s → Goal
       light y (inl q) = light_listed y (inl q)
@@ -377,8 +377,16 @@ decide_named A t x free c = decided_named A c t x N.had (lists_after S t N.kept)
     wide : (h : ℕ) (k : Kept) → lists_after S t N.kept h ≡ Some k → ((i : ℕ) → (N.had h i ≡ true) ⊎ (N.had (S.root h) i ≡ true) → i ≡ N.inc) → IsUntold S N h → IsOver V (S.root h) ⊎ IsWide V (S.root h) k.list
     wide h k e p u = by (list_cases A c t x h k e)
       where
+        free_wide : S.root h ≡ S.root t → (j : Kept) × (N.kept h ≡ Some j) × (k ≡ record { since = j.since; list = list_after (S.plan t) (S.got t) j.list }) → IsUnretained S t → IsOver V (S.root h) ⊎ IsWide V (S.root h) k.list
+        free_wide f j (inl gone) = inl (subst (IsOver V) (sym f) (over_after A c t x (inl gone)))
+        free_wide f j (inr (inl own)) = inl (subst (IsOver V) (sym f) (over_after A c t x (inr own)))
+        free_wide f (j, old, is) (inr (inr none)) = inr (subst (λ (y : Kept). IsWide V (S.root h) y.list) (sym is) (subst (λ n. IsWide V n (list_after (S.plan t) (S.got t) j.list)) (sym f) (family_wide A c t x j.list (λ s l q. absurd (none (inr (s, q)))) (⊎_elim
+            (λ (o : IsOver S (S.root h)). absurd (not_over S t (open_t A c t x) (subst (IsOver S) f o)))
+            (λ (w : IsWide S (S.root h) j.list). subst (λ n. IsWide S n j.list) f w)
+            (c.lists.kept h j old p u)))))
+
         by : ((S.root h ≡ S.root t) × ((j : Kept) × (N.kept h ≡ Some j) × (k ≡ record { since = j.since; list = list_after (S.plan t) (S.got t) j.list }))) ⊎ (((S.root h == S.root t) ≡ false) × (N.kept h ≡ Some k)) → IsOver V (S.root h) ⊎ IsWide V (S.root h) k.list
-        by (inl (f, j)) = inl (subst (IsOver V) (sym f) (over_after A c t x free))
+        by (inl (f, j)) = free_wide f j free
         by (inr (f, old)) = other_wide A c t x h k old f p u
 
 pub commit_named : (A : Office) (t : ℕ) → Allowed A.world (Effects.Decide t) → Named A → Named (acted A (Commit t))
@@ -436,7 +444,7 @@ commit_named A t x c = decided_named A c t x had kept more (λ a i s h. had_top 
       where
         by : ((S.root a ≡ S.root t) × ((j : Kept) × (N.kept a ≡ Some j) × (k ≡ record { since = j.since; list = list_after (S.plan t) (S.got t) j.list }))) ⊎ (((S.root a == S.root t) ≡ false) × (N.kept a ≡ Some k)) → IsWide V r k.list
         by (inr (f, old)) = absurd (differs (S.root a) (S.root t) f e)
-        by (inl (f, (j, old, is))) = subst (λ (y : Kept). IsWide V r y.list) (sym is) (family_wide A c t x j.list pt (⊎_elim
+        by (inl (f, (j, old, is))) = subst (λ (y : Kept). IsWide V r y.list) (sym is) (family_wide A c t x j.list (λ s l q. c.lists.light t s l (open_t A c t x) pt q) (⊎_elim
             (λ (o : IsOver S (S.root a)). absurd (not_over S t (open_t A c t x) (subst (IsOver S) f o)))
             (λ (w : IsWide S (S.root a) j.list). subst (λ n. IsWide S n j.list) f w)
             (c.lists.kept a j old p u)))

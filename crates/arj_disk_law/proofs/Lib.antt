@@ -20,6 +20,7 @@ pub mod Opening
 pub mod Plain
 pub mod Restarts
 pub mod Results
+pub mod SmallRuns
 pub mod Retaining
 pub mod Stages
 pub mod Stores

@@ -253,7 +253,7 @@ keep_list_named A h t i l may c = record {
     untold x n = falls_to (N.told x) (λ y. never (c.grants.told x y).0 n)
 
     wide : i ≡ N.inc → IsWide S (S.root t) l
-    wide e = ((c.answers (Bound t i false l) may.hears.answered).2 (ap is_idle may.hears.idle) e (untold t (ap is_gone may.hears.idle), untold (S.root t) may.hears.root)).2
+    wide e = ((c.answers (Bound t i false l) may.hears.answered).2 (ap is_idle may.hears.idle) e (untold t (ap is_gone may.hears.idle), untold (S.root t) may.root)).2
 
     answer : (a : Answer) → AnswerMeans S N a → AnswerMeans S M a
     answer (Bound x j d k) y = y

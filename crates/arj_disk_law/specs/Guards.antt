@@ -91,9 +91,10 @@ IsToldFirst N (ToldBare t m) = ⊤
 IsToldFirst N (ToldAbort t m) = ⊤
 IsToldFirst N (ToldSerial r m) = ⊤
 
--- A decision by which nothing is retained: the top's own, or one that its root doesn't see, since its coordinator stopped.
+-- A decision by which nothing is retained: one that its root doesn't see, since its coordinator stopped; that of a top
+-- that is its own root; or one without a part in the object.
 abbrev pub IsUnretained : State → ℕ → Type 0
-IsUnretained S t = (is_gone (S.stage (S.root t)) ≡ true) ⊎ (S.root t ≡ t)
+IsUnretained S t = (is_gone (S.stage (S.root t)) ≡ true) ⊎ (S.root t ≡ t) ⊎ (HasPart (S.plan t) → ⊥)
 
 -- what is looked at before an effect, where the naming node's half is there
 abbrev pub MayDo : Office → Effect → Type 0
@@ -118,10 +119,9 @@ MayDo A (FinishEntry h) = Allowed A.world (FinishEntry h)
 MayDo A (DropEntry h) = Allowed A.world (DropEntry h)
 MayDo A (Forget r h) = Allowed A.world (Forget r h)
 
--- a top that isn't known to have ended asks for a lock that is free for it
+-- a top asks for a lock that is free for it
 pub record MayLock (A : Office) (t m : ℕ) : Type 0 where
   pub top : A.world.disk.serial t ≡ false
-  pub untold : IsUntold A.world.disk A.names t
   pub free : IsFree A.world.disk A.names t m
 
 -- A new binding is recorded once, by a top that took its grant, and not while an entry of it is prepared, unless it asked
@@ -129,7 +129,6 @@ pub record MayLock (A : Office) (t m : ℕ) : Type 0 where
 pub record MayLower (A : Office) (t : ℕ) : Type 0 where
   pub held : A.names.row t ≡ Some 2
   pub had : A.names.had t A.names.inc ≡ true
-  pub top : A.world.disk.serial t ≡ false
   pub clear : A.names.asked t ≡ false → IsNot A.world.disk.entry_pend t
 
 pub record MayEndTop (A : Office) (t : ℕ) (commits : Bool) : Type 0 where
@@ -144,15 +143,15 @@ pub record MayEndSerial (A : Office) (r : ℕ) : Type 0 where
   pub told : In (ToldSerial r naming) A.world.sent
   pub clear : (h : Hold) → A.world.disk.entry_pend ≡ Some h → A.world.disk.root h.top ≡ r → A.names.given h.top ≡ true
 
--- an answer is taken while the top works and its root is there
+-- an answer is taken while the top works
 pub record MayHear (A : Office) (t i : ℕ) (b : Bool) (l : List ℕ) : Type 0 where
   pub answered : In (Bound t i b l) A.names.answers
   pub idle : A.world.disk.stage t ≡ Idle
-  pub root : is_gone (A.world.disk.stage (A.world.disk.root t)) ≡ false
 
--- an answer's list is kept for an action of the root that has a grant of that incarnation
+-- an answer's list is kept for an action of the root that has a grant of that incarnation, while the root is there
 pub record MayKeepList (A : Office) (h t i : ℕ) (l : List ℕ) : Type 0 where
   pub hears : MayHear A t i false l
+  pub root : is_gone (A.world.disk.stage (A.world.disk.root t)) ≡ false
   pub family : A.world.disk.root h ≡ A.world.disk.root t
   pub had : A.names.had h i ≡ true
 

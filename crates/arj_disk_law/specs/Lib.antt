@@ -6,5 +6,6 @@ pub mod Messages
 pub mod Named
 pub mod Names
 pub mod NamingLaws
+pub mod Samples
 pub mod State
 pub mod Words

@@ -11,9 +11,11 @@
 
 mod disks;
 mod naming;
+mod samples;
 
 pub use disks::{
     disks_are_clean, disks_stay_whole, outcomes_are_one, stores_are_excluded_in_time,
     versions_count_decisions,
 };
 pub use naming::{confirmations_are_booked, naming_stays_whole};
+pub use samples::guards_can_be_met;

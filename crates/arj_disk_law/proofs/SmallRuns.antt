@@ -1,0 +1,366 @@
+-- The guards of small runs.
+use Rattle.std.proofs.Common.{◌≡◌, ℕ, [], ◌∷◌, true, false, ◌==◌, ◌||◌, Option, Some, refl, subst, inl, inr, ⊎_elim, arith, le_refl}
+use Rattle.std.proofs.lemmas.Bool.Decides.{nat_tests}
+use Rattle.arj_disk_law.specs.Guards.{Runs}
+use Rattle.arj_disk_law.specs.Laws.{BasedIn}
+use Rattle.arj_disk_law.specs.Messages.{Acked}
+use Rattle.arj_disk_law.specs.Samples.{first_office, serial_office, zero_state, state_by, in_doubt, without_three, first_constituent, excluding, stopped_before, stopped_after, naming_restarts, excluded, removed, including, serializing, retaining}
+use Rattle.arj_disk_law.specs.State.{Packed, Below}
+use Rattle.arj_disk_law.specs.Words.{In}
+use Rattle.arj_disk_law.proofs.Base.{test_is, or_cases}
+
+-- what holds of one state holds of the same one
+some_that : {v w : Packed} → ◌≡◌ {A = Option Packed} (Some v) (Some w) → (P : Packed → Type 0) → P v → P w
+some_that {v} {w} e P p = let is : v ≡ w = cc in subst P is p
+
+-- what holds of two nodes holds of each of them
+two_nodes : (m a b : ℕ) (P : ℕ → Type 0) → ((a == m) || ((b == m) || false)) ≡ true → P a → P b → P m
+two_nodes m a b P i p q = ⊎_elim
+    (λ (e : (a == m) ≡ true). subst P (test_is a m e) p)
+    (λ (e : ((b == m) || false) ≡ true). ⊎_elim (λ (f : (b == m) ≡ true). subst P (test_is b m f) q) (λ (f : false ≡ true). cc) (or_cases (b == m) false e))
+    (or_cases (a == m) ((b == m) || false) i)
+
+pub excluding_runs : Runs first_office excluding
+excluding_runs = (
+  record { top = refl; free = λ h n e less. cc },
+  (
+    record { answered = inl refl; idle = refl },
+    (
+      record { hears = record { answered = inl refl; idle = refl }; root = refl; family = refl; had = refl },
+      (
+        record { held = refl; had = refl; clear = λ a h e. cc },
+        (
+          record { idle = refl; root = refl; top = refl; first = λ z e. refl; based = λ w e. some_that e (λ x. BasedIn zero_state [] x) (record { base = zero_state; known = refl; above = refl }); writer = λ w e. some_that e (λ x. (x.writer ≡ 5) × (zero_state.writer ≡ 5 → ⊥)) (refl, λ n. cc); list = λ w. (5, inl refl, record { since = 1; list = 2 ∷ 3 ∷ [] }, refl, refl); loaded = λ s j. cc },
+          (
+            ((refl, refl), tt),
+            (
+              ((refl, refl), tt),
+              (
+                record { asked = inr (inl refl); free = refl; below = λ g e. some_that e (λ x. Below x (state_by 1 5)) (inl (omega arith)) },
+                (
+                  (refl, tt),
+                  (
+                    (refl, inl refl),
+                    (
+                      refl,
+                      (
+                        (refl, tt),
+                        (
+                          record { top = refl; free = λ h n e less. grind (arith, nat_tests) },
+                          (
+                            record { confirm = record { asked = inl refl; new = refl; untold = (refl, refl); unlisted = λ s j. cc; exclude = λ s t g l. (1, refl, le_refl 1) }; present = λ i h. grind (arith, nat_tests); granted = inl refl; free = refl; other = refl; stores = (2, refl); corner = λ w e none. some_that e (λ x. x.version ≡ 1) refl },
+                            (
+                              ((inl refl, λ u. inl refl), tt),
+                              tt,
+                            ),
+                          ),
+                        ),
+                      ),
+                    ),
+                  ),
+                ),
+              ),
+            ),
+          ),
+        ),
+      ),
+    ),
+  ),
+)
+
+pub stopped_before_runs : Runs in_doubt stopped_before
+stopped_before_runs = (
+  tt,
+  (
+    ((refl, refl, refl, λ b. cc), tt),
+    (
+      (refl, inl refl),
+      (
+        ((refl, refl, refl, λ b. cc), tt),
+        (
+          (refl, inl refl),
+          (
+            record { top = refl; untold = refl; clear = λ h e. cc; told = ((λ e. cc), λ e. inl refl) },
+            tt,
+          ),
+        ),
+      ),
+    ),
+  ),
+)
+
+pub stopped_after_runs : Runs in_doubt stopped_after
+stopped_after_runs = (
+  record { sealed = refl; confirmed = inl refl; stores = λ s g. grind (arith, nat_tests); names = refl },
+  (
+    tt,
+    (
+      ((refl, refl), inl refl),
+      (
+        (refl, tt),
+        (
+          (refl, inl refl),
+          (
+            (refl, inl refl, refl),
+            tt,
+          ),
+        ),
+      ),
+    ),
+  ),
+)
+
+pub naming_restarts_runs : Runs in_doubt naming_restarts
+naming_restarts_runs = (
+  record { sealed = refl; confirmed = inl refl; stores = λ s g. grind (arith, nat_tests); names = refl },
+  (
+    tt,
+    (
+      (refl, refl),
+      (
+        (refl, tt),
+        (
+          (refl, inl refl),
+          (
+            (refl, inl refl, refl),
+            (
+              record { top = refl; untold = refl; clear = λ h e. cc; told = ((λ e. inl (inl refl)), λ e. cc) },
+              tt,
+            ),
+          ),
+        ),
+      ),
+    ),
+  ),
+)
+
+pub excluded_runs : Runs in_doubt excluded
+excluded_runs = (
+  record { sealed = refl; confirmed = inl refl; stores = λ s g. grind (arith, nat_tests); names = refl },
+  (
+    (refl, refl),
+    (
+      (refl, tt),
+      (
+        ((refl, refl, refl, λ b. cc), tt),
+        (
+          (refl, tt),
+          (
+            (refl, inr (inr (inl refl))),
+            (
+              (refl, inr (inr (inl refl)), refl),
+              (
+                ((inr (inr (inr (inr (inl refl)))), λ u. inl refl), tt),
+                (
+                  record { top = refl; untold = refl; clear = λ h e. cc; told = ((λ e. inl (inr (inr (inr (inl refl))))), λ e. cc) },
+                  (
+                    ((inr (inr (inr (inl refl))), λ h e. cc, λ n h e. cc), λ e. refl),
+                    (
+                      (refl, inr (inr (inl refl))),
+                      (
+                        (refl, inr (inr (inl refl)), refl),
+                        (
+                          ((inr (inr (inl refl)), λ h e. cc, λ n h e. cc), λ e. cc),
+                          tt,
+                        ),
+                      ),
+                    ),
+                  ),
+                ),
+              ),
+            ),
+          ),
+        ),
+      ),
+    ),
+  ),
+)
+
+pub removed_runs : Runs without_three removed
+removed_runs = (
+  record { record_is = refl; done = refl; acked = λ m i. two_nodes m 1 2 (λ n. In (Acked 5 n) without_three.world.sent) i (inr (inl refl)) (inl refl) },
+  tt,
+)
+
+pub including_runs : Runs without_three including
+including_runs = (
+  record { top = refl; free = λ h n e less. grind (arith, nat_tests) },
+  (
+    record { answered = inl refl; idle = refl },
+    (
+      record { answered = inl refl; listed = refl; free = refl; held = refl },
+      (
+        record { idle = refl; root = refl; top = refl; first = λ z e. grind (arith, nat_tests); based = λ w e. cc; writer = λ w e. cc; list = λ w. cc; loaded = λ s j. (1, state_by 1 5, inl refl, refl, refl) },
+        (
+          ((refl, refl), tt),
+          (
+            record { asked = inl refl; free = refl; below = λ g e. some_that e (λ x. Below x (state_by 1 5)) (inl (omega arith)) },
+            (
+              (refl, tt),
+              (
+                (refl, inl refl),
+                (
+                  refl,
+                  (
+                    (refl, tt),
+                    (
+                      record { confirm = record { asked = inl refl; new = refl; untold = (refl, refl); unlisted = λ s j. grind (arith, nat_tests); exclude = λ s t g l. (2, refl, omega arith) }; present = λ i h. grind (arith, nat_tests); granted = inl refl; free = refl; other = refl; stores = (3, refl); corner = λ w e none. cc },
+                      (
+                        ((inl refl, λ u. inl refl), tt),
+                        (
+                          record { sealed = refl; confirmed = inl refl; stores = λ s g. grind (arith, nat_tests); names = refl },
+                          (
+                            (refl, refl),
+                            (
+                              (refl, tt),
+                              (
+                                (refl, inl refl),
+                                (
+                                  (refl, inl refl, refl),
+                                  (
+                                    record { top = refl; untold = refl; clear = λ h e. cc; told = ((λ e. inl (inl refl)), λ e. cc) },
+                                    tt,
+                                  ),
+                                ),
+                              ),
+                            ),
+                          ),
+                        ),
+                      ),
+                    ),
+                  ),
+                ),
+              ),
+            ),
+          ),
+        ),
+      ),
+    ),
+  ),
+)
+
+pub serializing_runs : Runs serial_office serializing
+serializing_runs = (
+  record { top = refl; free = λ h n e less. cc },
+  (
+    record { answered = inl refl; idle = refl },
+    (
+      record { hears = record { answered = inl refl; idle = refl }; root = refl; family = refl; had = refl },
+      (
+        record { held = refl; had = refl; clear = λ a h e. cc },
+        (
+          record { idle = refl; root = refl; top = refl; first = λ z e. refl; based = λ w e. some_that e (λ x. BasedIn zero_state [] x) (record { base = zero_state; known = refl; above = refl }); writer = λ w e. some_that e (λ x. (x.writer ≡ 6) × (zero_state.writer ≡ 6 → ⊥)) (refl, λ n. cc); list = λ w. (6, inl refl, record { since = 1; list = 2 ∷ 3 ∷ [] }, refl, refl); loaded = λ s j. cc },
+          (
+            ((refl, refl), tt),
+            (
+              ((refl, refl), tt),
+              (
+                record { asked = inr (inl refl); free = refl; below = λ g e. some_that e (λ x. Below x (state_by 1 6)) (inl (omega arith)) },
+                (
+                  (refl, tt),
+                  (
+                    (refl, inl refl),
+                    (
+                      record { asked = inr (inl refl); free = refl; below = λ g e. some_that e (λ x. Below x (state_by 1 6)) (inl (omega arith)) },
+                      (
+                        (refl, tt),
+                        (
+                          (refl, inl refl),
+                          (
+                            refl,
+                            (
+                              (refl, tt),
+                              (
+                                record { confirm = record { asked = inl refl; new = refl; untold = (refl, refl); unlisted = λ s j. cc; exclude = λ s t g l. absurd (grind (arith, nat_tests)) }; present = λ i h. grind (arith, nat_tests); granted = inl refl; writes = refl; same = refl },
+                                (
+                                  ((inl refl, λ u. inl refl), tt),
+                                  (
+                                    record { sealed = refl; confirmed = inl refl; stores = λ s g. grind (arith, nat_tests); names = refl },
+                                    (
+                                      (refl, refl),
+                                      (
+                                        (refl, tt),
+                                        (
+                                          (refl, inl refl),
+                                          (
+                                            (refl, inl refl, refl),
+                                            (
+                                              (refl, tt),
+                                              (
+                                                (refl, inl refl),
+                                                (
+                                                  (refl, inl refl, refl),
+                                                  tt,
+                                                ),
+                                              ),
+                                            ),
+                                          ),
+                                        ),
+                                      ),
+                                    ),
+                                  ),
+                                ),
+                              ),
+                            ),
+                          ),
+                        ),
+                      ),
+                    ),
+                  ),
+                ),
+              ),
+            ),
+          ),
+        ),
+      ),
+    ),
+  ),
+)
+
+pub retaining_runs : Runs first_constituent retaining
+retaining_runs = (
+  record { idle = refl; root = refl; top = refl; first = λ z e. grind (arith, nat_tests); based = λ w e. some_that e (λ x. BasedIn zero_state first_constituent.world.disk.tops x) (record { base = state_by 1 6; known = inl refl; above = refl }); writer = λ w e. some_that e (λ x. (x.writer ≡ 7) × (zero_state.writer ≡ 7 → ⊥)) (refl, λ n. cc); list = λ w. (9, inr refl, record { since = 1; list = 2 ∷ 3 ∷ [] }, refl, refl); loaded = λ s j. cc },
+  (
+    ((refl, refl), tt),
+    (
+      ((refl, refl), tt),
+      (
+        record { asked = inr (inl refl); free = refl; below = λ g e. some_that e (λ x. Below x (state_by 2 7)) (inl (omega arith)) },
+        (
+          (refl, tt),
+          (
+            (refl, inl refl),
+            (
+              record { asked = inr (inl refl); free = refl; below = λ g e. some_that e (λ x. Below x (state_by 2 7)) (inl (omega arith)) },
+              (
+                (refl, tt),
+                (
+                  (refl, inl refl),
+                  (
+                    refl,
+                    (
+                      (refl, tt),
+                      (
+                        record { confirm = record { asked = inl refl; new = refl; untold = (refl, refl); unlisted = λ s j. cc; exclude = λ s t g l. absurd (grind (arith, nat_tests)) }; present = λ i h. grind (arith, nat_tests); granted = inr refl; writes = refl; same = refl },
+                        (
+                          ((inl refl, λ u. inl refl), tt),
+                          (
+                            record { sealed = refl; confirmed = inl refl; stores = λ s g. grind (arith, nat_tests); names = refl },
+                            (
+                              (refl, refl),
+                              tt,
+                            ),
+                          ),
+                        ),
+                      ),
+                    ),
+                  ),
+                ),
+              ),
+            ),
+          ),
+        ),
+      ),
+    ),
+  ),
+)
