@@ -1,0 +1,9 @@
+//! What naming and servers keep by themselves, whatever messages come, in whatever order.
+//!
+//! It stands on `arj_protocol` and on the laws of `arj_lock`. Each law is the contract of a public function with no
+//! parameters that does nothing when it runs.
+#![tactic(auto)]
+
+mod rows;
+
+pub use rows::locks_on_entries_stay_good;
