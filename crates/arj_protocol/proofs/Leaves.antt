@@ -3,7 +3,8 @@ use Rattle.std.proofs.Common.{◌≡◌, ℕ, List, [], ◌∷◌, Bool, true, f
 use Rattle.std.proofs.lemmas.Bool.{or_parts}
 use Rattle.std.specs.Prelude.{not, ◌||◌, if◌then◌else◌, option_map, is_some}
 use Rattle.std.specs.Ordering.{nat_cmp, is_eq}
-use Rattle.arj_protocol.specs.Words.{filter, Uid, End, Path, Head, Asked, Binding, ObjectState, Op, Message, What, BoundReply, InvokedReply, ConfirmedReply, is_on, object}
+use Rattle.arj_protocol.specs.Words.ask
+use Rattle.arj_protocol.specs.Words.{filter, Uid, End, Path, Head, Asked, Binding, ObjectState, Op, Message, What, BoundReply, InvokedReply, ConfirmedReply, is_on, object, Ask, asks}
 use Rattle.arj_protocol.specs.Words.message
 use Rattle.arj_protocol.specs.Words.recorded
 use Rattle.arj_protocol.specs.Words.confirmed
@@ -11,7 +12,7 @@ use Rattle.arj_protocol.specs.Words.what
 use Rattle.arj_protocol.specs.Words.prepared
 use Rattle.arj_protocol.specs.Order.{at_number, put_number, binding_eq, binding_less, at_uid}
 use Rattle.arj_protocol.specs.Effect.{Effect, Disk, Pair, Served, Did, Prep, Ready, Already, Old, InDoubt, either, void, reply, is_prepared, prepare_answer, holder_of, held_at}
-use Rattle.arj_protocol.specs.Ask.{Ask, Reply, asks, answers, actor, top_of}
+use Rattle.arj_protocol.specs.Ask.{Reply, answers, actor, top_of}
 use Rattle.arj_protocol.specs.Copy.{Copy, invoke_copy}
 use Rattle.arj_protocol.specs.Named.{Named, Counted, bind_named, note_named}
 use Rattle.arj_protocol.specs.Server as server
@@ -210,16 +211,16 @@ module _ (x : ℕ) where
       by false a = new a
 
   serve_leaves : (n : ℕ) (d : Disk) (t : Parts) (from : ℕ) (h : Head) (a : Ask) → ask_speaks x a ≡ false → LeavesObject x t (serve n d t from h a)
-  serve_leaves n d t from h (Ask.Bind y include avoid) other = naming_leaves from h t Reply.Bound (naming.bind h.path y include avoid d.names) t.naming refl (λ o. bind_leaves h.path y include avoid d.names o other)
-  serve_leaves n d t from h (Ask.Load y) other = load_leaves y d.store from h t (holder_of (object y) d.store)
-  serve_leaves n d t from h (Ask.Activate b st) other = server_leaves from h t Reply.Activated (server.activate n h.path b st t.server) (activate_leaves n h.path b st t.server other)
-  serve_leaves n d t from h (Ask.Note y b i g) other = naming_leaves from h t Reply.Noted (naming.note h.path y b i g) t.naming refl (λ o. note_leaves h.path y b i g o other)
-  serve_leaves n d t from h (Ask.Invoke y b i ends op) other =
+  serve_leaves n d t from h (ask.Bind y include avoid) other = naming_leaves from h t Reply.Bound (naming.bind h.path y include avoid d.names) t.naming refl (λ o. bind_leaves h.path y include avoid d.names o other)
+  serve_leaves n d t from h (ask.Load y) other = load_leaves y d.store from h t (holder_of (object y) d.store)
+  serve_leaves n d t from h (ask.Activate b st) other = server_leaves from h t Reply.Activated (server.activate n h.path b st t.server) (activate_leaves n h.path b st t.server other)
+  serve_leaves n d t from h (ask.Record y b i g) other = naming_leaves from h t Reply.Noted (naming.note h.path y b i g) t.naming refl (λ o. note_leaves h.path y b i g o other)
+  serve_leaves n d t from h (ask.Invoke y b i ends op) other =
       let q = or_parts (y == x) (not (has_none ends)) other in
       server_leaves from h t Reply.Invoked (server.invoke n h y b i ends op t.server) (invoke_leaves n h y b i ends op t.server q.0 (no_ends n ends t.server q.1))
-  serve_leaves n d t from h (Ask.Vote i ties ends) other = server_leaves from h t Reply.Voted (server.vote n h.path i ties ends t.server) (vote_leaves n h.path i ties ends t.server (no_ends n ends t.server other))
-  serve_leaves n d t from h (Ask.Prepare states) other = prepare_leaves n d.store states from h t
-  serve_leaves n d t from h (Ask.Confirm grants excluded included) other = naming_leaves from h t Reply.Confirmed (confirm h.path grants excluded included d.names) t.naming refl (λ o. confirm_leaves h.path grants excluded included d.names o other)
+  serve_leaves n d t from h (ask.Vote i ties ends) other = server_leaves from h t Reply.Voted (server.vote n h.path i ties ends t.server) (vote_leaves n h.path i ties ends t.server (no_ends n ends t.server other))
+  serve_leaves n d t from h (ask.Prepare states) other = prepare_leaves n d.store states from h t
+  serve_leaves n d t from h (ask.Confirm grants excluded included) other = naming_leaves from h t Reply.Confirmed (confirm h.path grants excluded included d.names) t.naming refl (λ o. confirm_leaves h.path grants excluded included d.names o other)
 
   coord_leaves : (t : Parts) (r : Served Coord (Unit {0})) → LeavesObject x t (coord_heard t r)
   coord_leaves t r = by r.reply

@@ -1,17 +1,18 @@
 -- Requests and answers are read back from their messages.
 use Rattle.std.proofs.Common.{◌≡◌, refl, Some, None}
-use Rattle.arj_protocol.specs.Words.{Head, Asked}
-use Rattle.arj_protocol.specs.Ask.{Ask, Reply, asks, answers, request, response}
+use Rattle.arj_protocol.specs.Words.ask
+use Rattle.arj_protocol.specs.Words.{Head, Asked, Ask, asks, request}
+use Rattle.arj_protocol.specs.Ask.{Reply, answers, response}
 
 pub request_reads_back : (h : Head) (a : Ask) → asks (request h a) ≡ Some (h, a)
-request_reads_back h (Ask.Bind x include avoid) = refl
-request_reads_back h (Ask.Load x) = refl
-request_reads_back h (Ask.Activate b s) = refl
-request_reads_back h (Ask.Note x b i g) = refl
-request_reads_back h (Ask.Invoke x b i ends op) = refl
-request_reads_back h (Ask.Vote i objects ends) = refl
-request_reads_back h (Ask.Prepare states) = refl
-request_reads_back h (Ask.Confirm objects excluded included) = refl
+request_reads_back h (ask.Bind x include avoid) = refl
+request_reads_back h (ask.Load x) = refl
+request_reads_back h (ask.Activate b s) = refl
+request_reads_back h (ask.Record x b i g) = refl
+request_reads_back h (ask.Invoke x b i ends op) = refl
+request_reads_back h (ask.Vote i objects ends) = refl
+request_reads_back h (ask.Prepare states) = refl
+request_reads_back h (ask.Confirm objects excluded included) = refl
 
 pub response_reads_back : (a : Asked) (r : Reply) → answers (response a r) ≡ Some (a, r)
 response_reads_back a (Reply.Bound r) = refl

@@ -1,21 +1,11 @@
 -- Messages as the protocol looks at them: a request is who asks and what, an answer is who had asked and what is
 -- answered; four kinds stand alone.
-use Rattle.arj_protocol.specs.Words.{ℕ, Bool, List, [], ◌∷◌, Option, Some, None, Uid, Binding, Path, End, ObjectState, Op, uids_of, tops_of, last_uid, take, Message, Head, Asked, What, Difference, BoundReply, LoadedReply, RecordedReply, InvokedReply, VotedReply, PreparedReply, ConfirmedReply, FrameKind}
+use Rattle.arj_protocol.specs.Words.{ℕ, List, [], ◌∷◌, Option, Some, None, Uid, Path, End, uids_of, tops_of, last_uid, take, Message, Head, Asked, What, Difference, BoundReply, LoadedReply, RecordedReply, InvokedReply, VotedReply, PreparedReply, ConfirmedReply, FrameKind, Ask}
+use Rattle.arj_protocol.specs.Words.ask
 use Rattle.arj_protocol.specs.Words.message
 use Rattle.arj_protocol.specs.Words.what
 use Rattle.arj_protocol.specs.Words.difference
 use Rattle.arj_protocol.specs.Words.frame
-
--- what is asked
-pub data Ask : Type 0 where
-  Bind : ℕ → Bool → Binding → Ask
-  Load : ℕ → Ask
-  Activate : Binding → ObjectState → Ask
-  Note : ℕ → Binding → ℕ → ℕ → Ask
-  Invoke : ℕ → Binding → ℕ → List (Uid × End) → Op → Ask
-  Vote : ℕ → List (ℕ × Binding) → List (Uid × End) → Ask
-  Prepare : List ObjectState → Ask
-  Confirm : List (ℕ × ℕ) → List (ℕ × ℕ) → List (ℕ × ℕ) → Ask
 
 -- what is answered
 pub data Reply : Type 0 where
@@ -28,18 +18,6 @@ pub data Reply : Type 0 where
   Prepared : PreparedReply → Reply
   Confirmed : ConfirmedReply → Reply
 
--- the request of a message
-abbrev pub asks : Message → Option (Head × Ask)
-asks (message.Bind m) = Some (m.head, Bind m.x m.include m.avoid)
-asks (message.Load m) = Some (m.head, Load m.x)
-asks (message.Activate m) = Some (m.head, Activate m.binding m.state)
-asks (message.RecordMsg m) = Some (m.head, Note m.x m.binding m.server_inc m.naming_inc)
-asks (message.Invoke m) = Some (m.head, Invoke m.x m.binding m.server_inc m.ends m.op)
-asks (message.Vote m) = Some (m.head, Vote m.server_inc m.objects m.ends)
-asks (message.Prepare m) = Some (m.head, Prepare m.states)
-asks (message.Confirm m) = Some (m.head, Confirm m.objects m.excluded m.included)
-asks _ = None
-
 -- the answer of a message
 abbrev pub answers : Message → Option (Asked × Reply)
 answers (message.Bound m) = Some (m.asked, Bound m.reply)
@@ -51,17 +29,6 @@ answers (message.Voted m) = Some (m.asked, Voted m.reply)
 answers (message.Prepared m) = Some (m.asked, Prepared m.reply)
 answers (message.Confirmed m) = Some (m.asked, Confirmed m.reply)
 answers _ = None
-
--- a request as a message
-abbrev pub request : Head → Ask → Message
-request h (Bind x include avoid) = message.Bind (record { head = h; x = x; include = include; avoid = avoid })
-request h (Load x) = message.Load (record { head = h; x = x })
-request h (Activate b s) = message.Activate (record { head = h; binding = b; state = s })
-request h (Note x b i g) = message.RecordMsg (record { head = h; x = x; binding = b; server_inc = i; naming_inc = g })
-request h (Invoke x b i ends op) = message.Invoke (record { head = h; x = x; binding = b; server_inc = i; ends = ends; op = op })
-request h (Vote i objects ends) = message.Vote (record { head = h; server_inc = i; objects = objects; ends = ends })
-request h (Prepare states) = message.Prepare (record { head = h; states = states })
-request h (Confirm objects excluded included) = message.Confirm (record { head = h; objects = objects; excluded = excluded; included = included })
 
 -- an answer as a message
 abbrev pub response : Asked → Reply → Message
@@ -90,14 +57,14 @@ top_of p = last_uid (top_path p)
 
 -- the kind of answer that a request waits for, and the kind of an answer
 abbrev pub ask_kind : Ask → ℕ
-ask_kind (Bind x include avoid) = 1
-ask_kind (Load x) = 2
-ask_kind (Activate b s) = 3
-ask_kind (Note x b i g) = 4
-ask_kind (Invoke x b i ends op) = 5
-ask_kind (Vote i objects ends) = 6
-ask_kind (Prepare states) = 7
-ask_kind (Confirm objects excluded included) = 8
+ask_kind (ask.Bind x include avoid) = 1
+ask_kind (ask.Load x) = 2
+ask_kind (ask.Activate b s) = 3
+ask_kind (ask.Record x b i g) = 4
+ask_kind (ask.Invoke x b i ends op) = 5
+ask_kind (ask.Vote i objects ends) = 6
+ask_kind (ask.Prepare states) = 7
+ask_kind (ask.Confirm objects excluded included) = 8
 
 abbrev pub reply_kind : Reply → ℕ
 reply_kind (Bound r) = 1

@@ -1,5 +1,6 @@
 -- What a coordinator does when actions begin, call, include, commit and give up, and when they are answered.
-use Rattle.arj_protocol.specs.Words.{ℕ, ◌+◌, Bool, true, false, ◌&&◌, ◌||◌, ◌==◌, if◌then◌else◌, List, [], ◌∷◌, ◌++◌, flat_map, Option, Some, None, list_any, Uid, Binding, Path, Asked, Op, Answer, Body, Label, Kind, uids_of, answer_text}
+use Rattle.arj_protocol.specs.Words.ask
+use Rattle.arj_protocol.specs.Words.{ℕ, ◌+◌, Bool, true, false, ◌&&◌, ◌||◌, ◌==◌, if◌then◌else◌, List, [], ◌∷◌, ◌++◌, flat_map, Option, Some, None, list_any, Uid, Binding, Path, Asked, Op, Answer, Body, Label, Kind, uids_of, answer_text, Ask, request}
 use Rattle.arj_protocol.specs.Words.ending
 use Rattle.arj_protocol.specs.Words.body
 use Rattle.arj_protocol.specs.Words.cause
@@ -7,7 +8,7 @@ use Rattle.arj_protocol.specs.Words.kind
 use Rattle.arj_protocol.specs.Words.bound
 use Rattle.arj_protocol.specs.Order.{has, binding_eq, unbound}
 use Rattle.arj_protocol.specs.Effect.{Effect, Say, Send, Intent, Served, Did}
-use Rattle.arj_protocol.specs.Ask.{Ask, Reply, request, actor, top_of, ask_kind, reply_kind, differs}
+use Rattle.arj_protocol.specs.Ask.{Reply, actor, top_of, ask_kind, reply_kind, differs}
 use Rattle.arj_protocol.specs.Tree.{Branch, begun, next_uid, doomed_at, uses_object, root_of, ends_of}
 use Rattle.arj_protocol.specs.Call.{Known, Steps, Goal, Run, Include, CallEnd, Answered, Included, Conflict, Changed, Lost, CallStep, On, Ended, Moved, start, answered, given_up, next_ask, next_node, spoils, has_changed}
 use Rattle.arj_protocol.specs.Commit.{Machine, CommitStep, Stays, Asks, Decides, Aborts, Marked, Plan, plan_of, left_of, waiting, ask_of, nodes_given_up}
@@ -31,7 +32,7 @@ begin_action l k parent above c =
 -- ---- requests
 
 abbrev pub is_invoke_ask : Ask → Bool
-is_invoke_ask (Ask.Invoke x b i ends op) = true
+is_invoke_ask (ask.Invoke x b i ends op) = true
 is_invoke_ask _ = false
 
 -- a request goes to a node, of which the root takes note

@@ -1,6 +1,7 @@
 -- The steps of a call or an include: bind, load, activate, record, invoke. One request waits at a time. And what a root
 -- keeps of an object: one binding with one incarnation of its server.
-use Rattle.arj_protocol.specs.Words.{ℕ, Bool, true, false, ◌&&◌, ◌||◌, ◌==◌, nat_lt, if◌then◌else◌, List, [], ◌∷◌, Option, Some, None, unwrap_or, Uid, Binding, Path, Mode, End, Op, Answer, ObjectState, What, BoundReply, LoadedReply, RecordedReply, InvokedReply}
+use Rattle.arj_protocol.specs.Words.ask
+use Rattle.arj_protocol.specs.Words.{ℕ, Bool, true, false, ◌&&◌, ◌||◌, ◌==◌, nat_lt, if◌then◌else◌, List, [], ◌∷◌, Option, Some, None, unwrap_or, Uid, Binding, Path, Mode, End, Op, Answer, ObjectState, What, BoundReply, LoadedReply, RecordedReply, InvokedReply, Ask}
 use Rattle.arj_protocol.specs.Words.mode
 use Rattle.arj_protocol.specs.Words.what
 use Rattle.arj_protocol.specs.Words.bound
@@ -8,7 +9,7 @@ use Rattle.arj_protocol.specs.Words.loaded
 use Rattle.arj_protocol.specs.Words.recorded
 use Rattle.arj_protocol.specs.Words.invoked
 use Rattle.arj_protocol.specs.Order.{binding_eq, binding_less, lesser_binding, greater_binding, unbound}
-use Rattle.arj_protocol.specs.Ask.{Ask, Reply}
+use Rattle.arj_protocol.specs.Ask.{Reply}
 
 -- What a Bound answer told: the binding, its server and, once it is known, the server's incarnation; the naming incarnation
 -- of the grant; the stores; whether the binding is recorded. After an include, the state that was loaded.
@@ -83,14 +84,14 @@ op_of (Include s) = None
 -- ---- the request that waits
 
 abbrev pub invoke_ask : ℕ → Known → ℕ → List (Uid × End) → Goal → Ask
-invoke_ask x k i ends (Run op) = Ask.Invoke x k.binding i ends op
-invoke_ask x k i ends (Include s) = Ask.Load x
+invoke_ask x k i ends (Run op) = ask.Invoke x k.binding i ends op
+invoke_ask x k i ends (Include s) = ask.Load x
 
 abbrev pub ask_at : ℕ → Goal → List (Uid × End) → At → Ask
-ask_at x g ends (AtBind avoid) = Ask.Bind x (is_include g) avoid
-ask_at x g ends (AtLoad k s rest) = Ask.Load x
-ask_at x g ends (AtActivate k st) = Ask.Activate k.binding st
-ask_at x g ends (AtNote k i) = Ask.Note x k.binding i k.grant
+ask_at x g ends (AtBind avoid) = ask.Bind x (is_include g) avoid
+ask_at x g ends (AtLoad k s rest) = ask.Load x
+ask_at x g ends (AtActivate k st) = ask.Activate k.binding st
+ask_at x g ends (AtNote k i) = ask.Record x k.binding i k.grant
 ask_at x g ends (AtInvoke k i) = invoke_ask x k i ends g
 
 abbrev pub node_at : At → ℕ

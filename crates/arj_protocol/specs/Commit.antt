@@ -1,12 +1,13 @@
 -- The commit of a top: votes of the servers, states prepared at the stores, the grants confirmed by naming, the decision.
 -- Each step asks its nodes, and ends when all have answered.
-use Rattle.arj_protocol.specs.Words.{ℕ, ◌+◌, Bool, true, false, not, ◌&&◌, ◌||◌, ◌==◌, nat_lt, if◌then◌else◌, List, [], ◌∷◌, ◌++◌, map, filter, flat_map, filter_map, find, Option, Some, None, list_any, Uid, Binding, Path, End, ObjectState, Cause, VotedReply, PreparedReply, ConfirmedReply, min, uid_eq, object}
+use Rattle.arj_protocol.specs.Words.ask
+use Rattle.arj_protocol.specs.Words.{ℕ, ◌+◌, Bool, true, false, not, ◌&&◌, ◌||◌, ◌==◌, nat_lt, if◌then◌else◌, List, [], ◌∷◌, ◌++◌, map, filter, flat_map, filter_map, find, Option, Some, None, list_any, Uid, Binding, Path, End, ObjectState, Cause, VotedReply, PreparedReply, ConfirmedReply, min, uid_eq, object, Ask}
 use Rattle.arj_protocol.specs.Words.cause
 use Rattle.arj_protocol.specs.Words.voted
 use Rattle.arj_protocol.specs.Words.prepared
 use Rattle.arj_protocol.specs.Words.confirmed
 use Rattle.arj_protocol.specs.Order.{has, with_number, without_number, number_set}
-use Rattle.arj_protocol.specs.Ask.{Ask, Reply, differs}
+use Rattle.arj_protocol.specs.Ask.{Reply, differs}
 
 -- An object with a surviving or retained call (`called`) or include. `joins` are the stores of the surviving includes, and
 -- `loaded` is the state that these bring. Without a call binding, server and incarnation say nothing.
@@ -83,7 +84,7 @@ least_of (n ∷ m ∷ ns) = min n (least_of (m ∷ ns))
 abbrev pub vote_ask : Plan → ℕ → Ask
 vote_ask p s =
     let here = filter (is_at_server s) p.used in
-    Ask.Vote (least_of (map (λ u. u.inc) here)) (map {A = Used} {B = ℕ × Binding} (λ u. (u.x, u.binding)) here) p.ends
+    ask.Vote (least_of (map (λ u. u.inc) here)) (map {A = Used} {B = ℕ × Binding} (λ u. (u.x, u.binding)) here) p.ends
 
 -- the changed state of an object
 abbrev pub changed_of : ℕ → Plan → Option ObjectState
@@ -120,11 +121,11 @@ abbrev pub included_of : Plan → List (ℕ × ℕ)
 included_of p = flat_map (joins_left p) p.used
 
 abbrev pub confirm_ask : Plan → Ask
-confirm_ask p = Ask.Confirm (map {A = Used} {B = ℕ × ℕ} (λ u. (u.x, u.grant)) p.used) p.excluded (included_of p)
+confirm_ask p = ask.Confirm (map {A = Used} {B = ℕ × ℕ} (λ u. (u.x, u.grant)) p.used) p.excluded (included_of p)
 
 abbrev pub ask_of : Machine → ℕ → Ask
 ask_of (Voting p left) n = vote_ask p n
-ask_of (Preparing p left) n = Ask.Prepare (states_for n p)
+ask_of (Preparing p left) n = ask.Prepare (states_for n p)
 ask_of (Confirming p) n = confirm_ask p
 
 -- the requests that aren't answered, in increasing node order

@@ -1,14 +1,14 @@
 -- What the laws of the protocol say.
 use Rattle.std.specs.Prelude.{◌≢◌, ⊤}
 use Rattle.std.specs.List.{AllByRecursion}
-use Rattle.arj_protocol.specs.Words.{◌≡◌, ℕ, ◌-◌, Bool, true, false, not, ◌&&◌, ◌||◌, ◌==◌, nat_lt, if◌then◌else◌, List, [], ◌∷◌, ◌++◌, map, Option, Some, None, list_any, Uid, End, Part, Body, Line, Row, Message, Head, uid_eq, is_on, nobody, object, entry, grant_row, drop_rows, pass_rows, lower_row}
+use Rattle.arj_protocol.specs.Words.ask
+use Rattle.arj_protocol.specs.Words.{◌≡◌, ℕ, ◌-◌, Bool, true, false, not, ◌&&◌, ◌||◌, ◌==◌, nat_lt, if◌then◌else◌, List, [], ◌∷◌, ◌++◌, map, Option, Some, None, list_any, Uid, End, Part, Body, Line, Row, Message, Head, uid_eq, is_on, nobody, object, entry, grant_row, drop_rows, pass_rows, lower_row, Ask, asks}
 use Rattle.arj_protocol.specs.Words.ending
 use Rattle.arj_protocol.specs.Words.body
 use Rattle.arj_protocol.specs.Words.part
 use Rattle.arj_protocol.specs.Words.message
 use Rattle.arj_protocol.specs.Order.{at_number, at_uid}
 use Rattle.arj_protocol.specs.Effect.{Effect, Say, Send, Do}
-use Rattle.arj_protocol.specs.Ask.{Ask, asks}
 use Rattle.arj_protocol.specs.Copy.{Copy, row_for, holds}
 use Rattle.arj_protocol.specs.Named.{Named}
 use Rattle.arj_protocol.specs.Server.{Server}
@@ -188,14 +188,14 @@ names_grant x grants = list_any (λ (g : ℕ × ℕ). g.0 == x) grants
 
 -- A request speaks of an object where it names it, or brings ends.
 abbrev pub ask_speaks : ℕ → Ask → Bool
-ask_speaks x (Ask.Bind y include avoid) = y == x
-ask_speaks x (Ask.Load y) = y == x
-ask_speaks x (Ask.Activate b st) = st.uid.num == x
-ask_speaks x (Ask.Note y b i g) = y == x
-ask_speaks x (Ask.Invoke y b i ends op) = (y == x) || not (has_none ends)
-ask_speaks x (Ask.Vote i ties ends) = not (has_none ends)
-ask_speaks x (Ask.Prepare states) = false
-ask_speaks x (Ask.Confirm grants excluded included) = names_grant x grants
+ask_speaks x (ask.Bind y include avoid) = y == x
+ask_speaks x (ask.Load y) = y == x
+ask_speaks x (ask.Activate b st) = st.uid.num == x
+ask_speaks x (ask.Record y b i g) = y == x
+ask_speaks x (ask.Invoke y b i ends op) = (y == x) || not (has_none ends)
+ask_speaks x (ask.Vote i ties ends) = not (has_none ends)
+ask_speaks x (ask.Prepare states) = false
+ask_speaks x (ask.Confirm grants excluded included) = names_grant x grants
 
 -- a told and a hello may speak of any object; an answer, an acknowledgement and a query speak of none
 abbrev pub other_speaks : Message → Bool

@@ -1,6 +1,7 @@
 -- One node: its disk, and while it is up its parts. How a message is handled, with all messages that the node sends to
 -- itself by that.
-use Rattle.arj_protocol.specs.Words.{ℕ, zero, suc, Bool, ◌&&◌, ◌==◌, nat_lt, if◌then◌else◌, List, [], ◌∷◌, ◌++◌, map, filter, Option, Some, None, option_map, Uid, Head, Asked, End, ObjectState, Message, object}
+use Rattle.arj_protocol.specs.Words.ask
+use Rattle.arj_protocol.specs.Words.{ℕ, zero, suc, Bool, ◌&&◌, ◌==◌, nat_lt, if◌then◌else◌, List, [], ◌∷◌, ◌++◌, map, filter, Option, Some, None, option_map, Uid, Head, Asked, End, ObjectState, Message, object, Ask, asks}
 use Rattle.arj_protocol.specs.Words.ending
 use Rattle.arj_protocol.specs.Words.body
 use Rattle.arj_protocol.specs.Words.role
@@ -9,7 +10,7 @@ use Rattle.arj_protocol.specs.Words.loaded
 use Rattle.arj_protocol.specs.Words.prepared
 use Rattle.arj_protocol.specs.Order.{uid_set}
 use Rattle.arj_protocol.specs.Effect.{Effect, Say, Send, Do, Look, Prepare, Commit, Abort, worked, Disk, Pair, Served, Did, did_nothing, held_at, holder_of, is_prepared, Prep, Ready, Already, Old, InDoubt, prepare_answer}
-use Rattle.arj_protocol.specs.Ask.{Ask, Reply, asks, answers, response, asked_by, actor, last_end}
+use Rattle.arj_protocol.specs.Ask.{Reply, answers, response, asked_by, actor, last_end}
 use Rattle.arj_protocol.specs.Server as server
 use Rattle.arj_protocol.specs.Server.{Server, server_holders}
 use Rattle.arj_protocol.specs.Naming as naming
@@ -79,14 +80,14 @@ prepare_states n d states from h t =
 
 -- a request by its kind
 abbrev pub serve : ℕ → Disk → Parts → ℕ → Head → Ask → Handled
-serve n d t from h (Ask.Bind x include avoid) = if_naming (λ o. served from h (with_naming t) Reply.Bound (naming.bind h.path x include avoid d.names o)) t.naming
-serve n d t from h (Ask.Load x) = load_by x d.store from h t (holder_of (object x) d.store)
-serve n d t from h (Ask.Activate b st) = served from h (with_server t) Reply.Activated (server.activate n h.path b st t.server)
-serve n d t from h (Ask.Note x b i g) = if_naming (λ o. served from h (with_naming t) Reply.Noted (naming.note h.path x b i g o)) t.naming
-serve n d t from h (Ask.Invoke x b i ends op) = served from h (with_server t) Reply.Invoked (server.invoke n h x b i ends op t.server)
-serve n d t from h (Ask.Vote i ties ends) = served from h (with_server t) Reply.Voted (server.vote n h.path i ties ends t.server)
-serve n d t from h (Ask.Prepare states) = prepare_states n d.store states from h t
-serve n d t from h (Ask.Confirm grants excluded included) = if_naming (λ o. served from h (with_naming t) Reply.Confirmed (confirm h.path grants excluded included d.names o)) t.naming
+serve n d t from h (ask.Bind x include avoid) = if_naming (λ o. served from h (with_naming t) Reply.Bound (naming.bind h.path x include avoid d.names o)) t.naming
+serve n d t from h (ask.Load x) = load_by x d.store from h t (holder_of (object x) d.store)
+serve n d t from h (ask.Activate b st) = served from h (with_server t) Reply.Activated (server.activate n h.path b st t.server)
+serve n d t from h (ask.Record x b i g) = if_naming (λ o. served from h (with_naming t) Reply.Noted (naming.note h.path x b i g o)) t.naming
+serve n d t from h (ask.Invoke x b i ends op) = served from h (with_server t) Reply.Invoked (server.invoke n h x b i ends op t.server)
+serve n d t from h (ask.Vote i ties ends) = served from h (with_server t) Reply.Voted (server.vote n h.path i ties ends t.server)
+serve n d t from h (ask.Prepare states) = prepare_states n d.store states from h t
+serve n d t from h (ask.Confirm grants excluded included) = if_naming (λ o. served from h (with_naming t) Reply.Confirmed (confirm h.path grants excluded included d.names o)) t.naming
 
 -- ---- told
 

@@ -45,6 +45,8 @@ pub use Rattle.arj_journal.specs.declared.event.Event.{Event}
 pub use Rattle.arj_journal.specs.declared.event.FrameNo.{FrameNo}
 pub use Rattle.arj_journal.specs.declared.event.StopKind.{StopKind}
 pub use Rattle.arj_msg.specs.Head.{path_of}
+pub use Rattle.arj_msg.specs.Ask.{asks, request}
+pub use Rattle.arj_msg.specs.declared.ask.Ask.{Ask}
 pub use Rattle.arj_msg.specs.declared.message.Message.{Message}
 pub use Rattle.arj_msg.specs.declared.message.Head.{Head}
 pub use Rattle.arj_msg.specs.declared.message.Asked.{Asked}
@@ -73,6 +75,7 @@ pub use Rattle.arj_journal.specs.declared.body.Which.TheVariants as which
 pub use Rattle.arj_journal.specs.declared.event.Event.TheVariants as event
 pub use Rattle.arj_journal.specs.declared.event.FrameNo.TheVariants as frame_no
 pub use Rattle.arj_journal.specs.declared.event.StopKind.TheVariants as stop_kind
+pub use Rattle.arj_msg.specs.declared.ask.Ask.TheVariants as ask
 pub use Rattle.arj_msg.specs.declared.message.Message.TheVariants as message
 pub use Rattle.arj_msg.specs.declared.message.What.TheVariants as what
 pub use Rattle.arj_msg.specs.declared.message.BoundReply.TheVariants as bound
