@@ -6,7 +6,7 @@ use Rattle.arj_base.specs.State.{state_bytes}
 use Rattle.arj_class.specs.Table.{class_of}
 use Rattle.arj_class.specs.Forms.{payload_of}
 use Rattle.arj_base.specs.Uid.{object}
-use Rattle.arj_disk.specs.Files.{FileMap}
+use Rattle.arj_disk.specs.FileMap.{FileMap}
 use Rattle.arj_engine.specs.Object.{object_held}
 use Rattle.arj_journal.specs.declared.header.Header.{Header}
 use Rattle.arj_journal.specs.declared.header.ObjectLine.{ObjectLine}
@@ -108,4 +108,4 @@ module _ (header : Header) (engine : Engine) (old new : FileMap) (form : HeaderI
   }
 
   pub stands_at_first : Stands header nothing_yet engine new
-  stands_at_first = record { count = event; serial = tt; holds = λ d x there. held_first x there; holds_or_next = λ x there. inl (held_first x there); halts = refl; alone = λ n apart. refl; answered = λ l. refl; keeps = keeps_first }
+  stands_at_first = record { count = event; serial = tt; holds = λ d x there. held_first x there; holds_or_next = λ x there. inl (held_first x there); halts = refl; alone = λ n apart. refl; goes_on = refl; answered = λ l. refl; keeps = keeps_first }

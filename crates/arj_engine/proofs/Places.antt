@@ -11,7 +11,7 @@ use Rattle.arj_base.specs.declared.mode.Mode.{Mode}
 use Rattle.arj_base.specs.declared.uid.Uid.{Uid}
 use Rattle.arj_base.specs.declared.state.ObjectState.{ObjectState}
 use Rattle.arj_base.specs.State.{state_bytes}
-use Rattle.arj_disk.specs.Files.{FileMap}
+use Rattle.arj_disk.specs.FileMap.{FileMap}
 use Rattle.arj_engine.specs.Object.{object_held}
 use Rattle.arj_model.specs.Last.{is_among}
 use Rattle.arj_class.specs.declared.op.Op.{Op}

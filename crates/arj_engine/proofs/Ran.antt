@@ -1,13 +1,14 @@
 -- From what an event changes in memory to what holds of the run that is longer by it: refused events and beginnings.
-use Rattle.std.proofs.Common.{◌≡◌, ◌<◌, ◌≤◌, ◌⊎◌, inl, ℕ, ◌+◌, List, [], ◌∷◌, ◌++◌, length, filter, Bool, true, false, cond, not, ◌==◌, ◌&&◌, Option, Some, None, is_some, MatchOption, refl, sym, ◌∙◌, ap, subst, arith}
+use Rattle.std.proofs.Common.{◌≡◌, ◌<◌, ◌≤◌, ◌⊎◌, inl, ℕ, ◌+◌, List, [], ◌∷◌, ◌++◌, length, filter, Bool, true, false, cond, not, ◌==◌, ◌&&◌, ◌||◌, Option, Some, None, is_some, MatchOption, refl, sym, ◌∙◌, ap, subst, arith}
 use Rattle.std.proofs.lemmas.Bool.{eqb-true}
 use Rattle.std.proofs.lemmas.Bool.Decides.{nat_tests}
 use Rattle.std.proofs.lemmas.List.{append-nil, append_assoc}
 use Rattle.std.proofs.lemmas.List.Elements.{filter-append}
+use Rattle.std.proofs.lemmas.List.Folds.{list_any-append}
 use Rattle.std.specs.List.{list_any, list_all, AllByRecursion}
 use Rattle.arj_base.specs.Count.{Rose}
 use Rattle.arj_base.specs.State.{state_bytes}
-use Rattle.arj_disk.specs.Files.{FileMap}
+use Rattle.arj_disk.specs.FileMap.{FileMap}
 use Rattle.arj_engine.specs.Object.{object_held}
 use Rattle.arj_journal.specs.declared.body.Body.{Body}
 use Rattle.arj_journal.specs.declared.body.Body.TheVariants as body
@@ -25,7 +26,7 @@ use Rattle.arj_model.specs.Serial.{Answers}
 use Rattle.arj_model.specs.Last.{first_values, object_line, is_among}
 use Rattle.arj_model.specs.Past.{Past, Asked, asked_of, block, next}
 use Rattle.arj_model.specs.Refusals.{refusal, first_cause, next_uid, incarnation, answers_to, asks_by, is_answer_to, is_ask_by}
-use Rattle.arj_model.specs.Follows.{Accepted}
+use Rattle.arj_model.specs.Follows.{Accepted, is_limited, is_frame_limit}
 use Rattle.arj_model.specs.Causes.{Moment, ConflictsHaveCause, is_conflict, IsAnswered, HasRoom, IsPastLabels, count_halts, is_halt, is_full, is_late, is_of_one}
 use Rattle.arj_class.specs.Table.{writes}
 use Rattle.arj_engine.specs.Seen.{Seen, seen, see}
@@ -87,21 +88,22 @@ pub stands_after : (header : Header) (past : Past) (e : Event) (bodies : List Bo
     → Shows header s file
     → count_halts (past.lines ++ block (past.count + 1) bodies) 1 ≡ cond s.down 1 0
     → ((n : ℕ) → (n ≡ 1 → ⊥) → count_halts past.lines n ≡ 0) → ((n : ℕ) → (n ≡ 1 → ⊥) → length (filter (λ line. is_halt n line.body) (block (past.count + 1) bodies)) ≡ 0)
+    → is_limited past.lines ≡ false → is_limited (block (past.count + 1) bodies) ≡ false
     → ((l : List ℕ) → length (answers_to (past.lines ++ block (past.count + 1) bodies) l) ≡ length (asks_by (next past e bodies).accepted l))
     → Stands header (next past e bodies) engine file
-stands_after header past e bodies engine file s is count keeps shows halts alone none answered =
+stands_after header past e bodies engine file s is count keeps shows halts alone none goes_on unlimited answered =
     let all : seen (past.lines ++ block (past.count + 1) bodies) ≡ s = seen_block past.lines (past.count + 1) bodies ∙ is in
     let K : Seen → Type 0 = λ t. Keeps header (next past e bodies).accepted t (machine_of engine) in
     let k = subst K (sym all) keeps in
     let sh = subst (λ t. Shows header t file) (sym all) shows in
     let h = subst (λ (t : Seen). count_halts (past.lines ++ block (past.count + 1) bodies) 1 ≡ cond t.down 1 0) (sym all) halts in
-    record { count = count; serial = sh.serial; holds = sh.holds; holds_or_next = sh.holds_or_next; halts = h; alone = λ n apart. count_other past.lines (past.count + 1) bodies n (alone n apart) (none n apart); answered = answered; keeps = k }
+    record { count = count; serial = sh.serial; holds = sh.holds; holds_or_next = sh.holds_or_next; halts = h; alone = λ n apart. count_other past.lines (past.count + 1) bodies n (alone n apart) (none n apart); goes_on = list_any-append (λ line. is_frame_limit line.body) past.lines (block (past.count + 1) bodies) ∙ (λ i. goes_on i || unlimited i); answered = answered; keeps = k }
 
 -- Refused events.
 
-pub refused_moment : (header : Header) (past : Past) (e : Event) (c : ℕ) → refusal header past e ≡ Some c → HasRoom header past e (body.Refused c ∷ []) → Moment header past e (body.Refused c ∷ [])
-refused_moment header past e c is room = record {
-  step = inl (let P : Option ℕ → Type 0 = λ o. MatchOption o (Accepted header past e (body.Refused c ∷ [])) (λ d. body.Refused c ∷ [] ≡ body.Refused d ∷ []) in subst P (sym is) refl);
+pub refused_moment : (header : Header) (past : Past) (e : Event) (c : ℕ) → refusal header past e ≡ Some c → HasRoom header past e (body.Refused c ∷ []) → is_limited past.lines ≡ false → Moment header past e (body.Refused c ∷ [])
+refused_moment header past e c is room goes_on = record {
+  step = record { goes_on = goes_on; lines = inl (let P : Option ℕ → Type 0 = λ o. MatchOption o (Accepted header past e (body.Refused c ∷ [])) (λ d. body.Refused c ∷ [] ≡ body.Refused d ∷ []) in subst P (sym is) refl) };
   alone = (let P : Option ℕ → Type 0 = λ o. MatchOption o (list_all (is_of_one e) (body.Refused c ∷ []) ≡ true) (λ d. Unit {0}) in subst P (sym is) tt);
   conflict = matched (refusal header past e) is;
   prompt = (let P : Option ℕ → Type 0 = λ o. MatchOption o (IsAnswered past.lines e (body.Refused c ∷ [])) (λ d. Unit {0}) in subst P (sym is) tt);
@@ -117,14 +119,14 @@ pub refused_ran : (header : Header) (past : Past) (e : Event) (old new : Engine)
 refused_ran header past e old new file stops before after c st is room fits r = record {
   bodies = body.Refused c ∷ [];
   lines = r.1 ∙ ap (λ n. before ++ block (n + 1) (body.Refused c ∷ [])) st.count;
-  moment = refused_moment header past e c is room;
+  moment = refused_moment header past e c is room st.goes_on;
   in_form = (fits, tt);
   stands = stands_after header past e (body.Refused c ∷ []) new file (later (seen past.lines)) (see_refused (seen past.lines) c)
       (r.0.event ∙ ap (λ n. n + 1) st.count)
       (keeps_later header past.accepted (seen past.lines) (machine_of old) (machine_of new) r.0 st.keeps)
       (record { serial = st.serial; holds = st.holds; holds_or_next = st.holds_or_next })
       (count_more past.lines (past.count + 1) (body.Refused c ∷ []) ∙ plain_sum (count_halts past.lines 1) ∙ st.halts)
-      st.alone (λ n apart. refl)
+      st.alone (λ n apart. refl) st.goes_on refl
       (λ l. answers_more past.lines (past.count + 1) (body.Refused c ∷ []) l ∙ plain_sum (length (answers_to past.lines l)) ∙ st.answered l);
   halted = λ f. absurd_false f;
   steady = λ f. refl;
@@ -176,11 +178,14 @@ accepted_begin m l n is = by (n == 1) refl m.down refl (m.number l) refl is
     by true e false f (Some i) g is = cc
     by true e false f None g is = (eqb-true n 1 e, f, g)
 
-pub begin_moment : (header : Header) (past : Past) (m : Machine) (l : Label) (n : ℕ) → Keeps header past.accepted (seen past.lines) m → refusal header past (event.Begin l n) ≡ None → n ≡ 1 → m.count < 4096
+pub begin_moment : (header : Header) (past : Past) (m : Machine) (l : Label) (n : ℕ) → Keeps header past.accepted (seen past.lines) m → refusal header past (event.Begin l n) ≡ None → n ≡ 1 → m.count < 4096 → is_limited past.lines ≡ false
     → Moment header past (event.Begin l n) (body.Began l kind.Top (ident m.count) None ∷ [])
-begin_moment header past m l n k is one room = record {
-  step = inl (let P : Option ℕ → Type 0 = λ o. MatchOption o (Accepted header past (event.Begin l n) bodies) (λ d. bodies ≡ body.Refused d ∷ []) in
-      subst P (sym is) (record { own = bodies; others = []; last = []; parts = refl; begins = ap (λ u. body.Began l kind.Top u None ∷ []) uid; ends = refl; only = refl; halts = refl; answers = tt }));
+begin_moment header past m l n k is one room goes_on = record {
+  step = record {
+    goes_on = goes_on;
+    lines = inl (let P : Option ℕ → Type 0 = λ o. MatchOption o (Accepted header past (event.Begin l n) bodies) (λ d. bodies ≡ body.Refused d ∷ []) in
+        subst P (sym is) (record { own = bodies; others = []; last = []; parts = refl; begins = ap (λ u. body.Began l kind.Top u None ∷ []) uid; ends = refl; only = refl; halts = refl; answers = tt }));
+  };
   alone = (let P : Option ℕ → Type 0 = λ o. MatchOption o (list_all (is_of_one (event.Begin l n)) bodies ≡ true) (λ d. Unit {0}) in subst P (sym is) refl);
   conflict = (let P : Option ℕ → Type 0 = λ o. MatchOption o (ConflictsHaveCause past (event.Begin l n) bodies) (λ d. filter is_conflict bodies ≡ []) in subst P (sym is) refl);
   prompt = (let P : Option ℕ → Type 0 = λ o. MatchOption o (IsAnswered past.lines (event.Begin l n) bodies) (λ d. Unit {0}) in subst P (sym is) tt);
@@ -219,7 +224,7 @@ begin_ran header past l n old new file stops before after st label begins = by (
         record {
           bodies = bodies;
           lines = a.lines ∙ ap (λ c. before ++ block (c + 1) bodies) st.count;
-          moment = begin_moment header past m l n st.keeps (same ∙ is) at.0 a.room;
+          moment = begin_moment header past m l n st.keeps (same ∙ is) at.0 a.room st.goes_on;
           in_form = ((label, ident_fits m.count a.room, tt), tt);
           stands = stands_after header past (event.Begin l n) bodies new file (with_act s (new_act s l (ident (length s.acts))))
               (see_began s l (ident m.count) ∙ ap (λ u. with_act s (new_act s l u)) uid)
@@ -227,7 +232,7 @@ begin_ran header past l n old new file stops before after st label begins = by (
               (keeps_begin header past.accepted s m (machine_of new) l asked st.keeps down at.2 a.room a.begun refl (root_below (acts past.lines) [] st.keeps.plain))
               (record { serial = st.serial; holds = st.holds; holds_or_next = st.holds_or_next })
               (count_more past.lines (past.count + 1) bodies ∙ plain_sum (count_halts past.lines 1) ∙ st.halts)
-              st.alone (λ n apart. refl)
+              st.alone (λ n apart. refl) st.goes_on refl
               (λ q. answers_more past.lines (past.count + 1) bodies q ∙ plain_sum (length (answers_to past.lines q)) ∙ st.answered q ∙ sym (asks_more past.accepted asked q ∙ plain_sum (length (asks_by past.accepted q))));
           halted = λ f. absurd_false f;
           steady = λ f. refl;

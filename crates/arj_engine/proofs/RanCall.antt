@@ -17,7 +17,7 @@ use Rattle.arj_class.specs.Table.{has_op, class_of, op_mode, answer_of}
 use Rattle.arj_class.specs.declared.op.Op.{Op}
 use Rattle.arj_class.specs.declared.value.Value.{Value}
 use Rattle.arj_class.specs.declared.op.Answer.{Answer}
-use Rattle.arj_disk.specs.Files.{FileMap}
+use Rattle.arj_disk.specs.FileMap.{FileMap}
 use Rattle.arj_journal.specs.declared.body.Body.{Body}
 use Rattle.arj_journal.specs.declared.body.Body.TheVariants as body
 use Rattle.arj_journal.specs.declared.body.Line.{Line}
@@ -194,18 +194,21 @@ module _ (header : Header) (past : Past) (l : Label) (x : ℕ) (op : Op) (old ne
   moment_of : (b : Body) → refusal header past (event.Call l x op) ≡ None → is_of_one (event.Call l x op) b ≡ true → may_stand (event.Call l x op) b ≡ true → halts_last (node_of past.lines (name l)) (b ∷ []) ≡ true
       → AnswerFits (past.accepted ++ asked ∷ []) past.lines b → filter is_conflict (b ∷ []) ≡ conflicts_by l (conflict_of past l x op) → is_answer_to (name l) b ≡ true → Moment header past (event.Call l x op) (b ∷ [])
   moment_of b is one stand halts fits cause answers = record {
-    step = inl (let P : Option ℕ → Type 0 = λ o. MatchOption o (Accepted header past (event.Call l x op) (b ∷ [])) (λ d. b ∷ [] ≡ body.Refused d ∷ []) in
-        subst P (sym is) (record {
-          own = [];
-          others = b ∷ [];
-          last = [];
-          parts = refl;
-          begins = refl;
-          ends = inl refl;
-          only = (λ j. stand j && true);
-          halts = halts;
-          answers = (subst (λ ls. AnswerFits (past.accepted ++ asked ∷ []) ls b) (sym (append-nil past.lines)) fits, tt);
-        }));
+    step = record {
+      goes_on = st.goes_on;
+      lines = inl (let P : Option ℕ → Type 0 = λ o. MatchOption o (Accepted header past (event.Call l x op) (b ∷ [])) (λ d. b ∷ [] ≡ body.Refused d ∷ []) in
+          subst P (sym is) (record {
+            own = [];
+            others = b ∷ [];
+            last = [];
+            parts = refl;
+            begins = refl;
+            ends = inl refl;
+            only = (λ j. stand j && true);
+            halts = halts;
+            answers = (subst (λ ls. AnswerFits (past.accepted ++ asked ∷ []) ls b) (sym (append-nil past.lines)) fits, tt);
+          }));
+    };
     alone = (let P : Option ℕ → Type 0 = λ o. MatchOption o (list_all (is_of_one (event.Call l x op)) (b ∷ []) ≡ true) (λ d. Unit {0}) in subst P (sym is) (λ j. one j && true));
     conflict = (let P : Option ℕ → Type 0 = λ o. MatchOption o (ConflictsHaveCause past (event.Call l x op) (b ∷ [])) (λ d. filter is_conflict (b ∷ []) ≡ []) in subst P (sym is) cause);
     prompt = (let P : Option ℕ → Type 0 = λ o. MatchOption o (IsAnswered past.lines (event.Call l x op) (b ∷ [])) (λ d. Unit {0}) in subst P (sym is) (ap (λ t. t || false) answers));
@@ -254,7 +257,7 @@ module _ (header : Header) (past : Past) (l : Label) (x : ℕ) (op : Op) (old ne
               holds_or_next = λ y is_there. inl (st.holds f.up y is_there ∙ sym (ap (λ t. Some (state_bytes t)) (last_call header s f.act x op (answer_text answer) y off st.keeps.found)));
             })
             (count_more past.lines (past.count + 1) (b ∷ []) ∙ plain_sum (count_halts past.lines 1) ∙ st.halts)
-            st.alone (λ n apart. refl)
+            st.alone (λ n apart. refl) st.goes_on refl
             (answered_more b (λ q. refl));
         halted = λ g. absurd_false g;
         steady = λ g. refl;
@@ -279,7 +282,7 @@ module _ (header : Header) (past : Past) (l : Label) (x : ℕ) (op : Op) (old ne
             (used.event ∙ ap (λ c. c + 1) st.count) k
             (record { serial = st.serial; holds = st.holds; holds_or_next = st.holds_or_next })
             (count_more past.lines (past.count + 1) (b ∷ []) ∙ plain_sum (count_halts past.lines 1) ∙ st.halts)
-            st.alone (λ n apart. refl)
+            st.alone (λ n apart. refl) st.goes_on refl
             (answered_more b (λ q. refl));
         halted = λ g. absurd_false g;
         steady = λ g. refl;

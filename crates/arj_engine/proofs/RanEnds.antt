@@ -11,7 +11,7 @@ use Rattle.arj_base.specs.State.{state_bytes}
 use Rattle.arj_base.specs.declared.state.ObjectState.{ObjectState}
 use Rattle.arj_base.specs.Rows.{last_uid}
 use Rattle.arj_class.specs.Table.{writes}
-use Rattle.arj_disk.specs.Files.{FileMap}
+use Rattle.arj_disk.specs.FileMap.{FileMap}
 use Rattle.arj_engine.specs.Object.{object_held}
 use Rattle.arj_journal.specs.declared.body.Body.{Body}
 use Rattle.arj_journal.specs.declared.body.Body.TheVariants as body
@@ -30,7 +30,7 @@ use Rattle.arj_model.specs.Serial.{Answers}
 use Rattle.arj_model.specs.Last.{first_values, object_line, is_among}
 use Rattle.arj_model.specs.Past.{Past, Asked, asked_of, block}
 use Rattle.arj_model.specs.Refusals.{refusal, first_cause, is_down, is_committing, has_ended, is_over_act, answers_to, asks_by, object_used, was_called, holds_of}
-use Rattle.arj_model.specs.Follows.{Accepted, AnswersFit}
+use Rattle.arj_model.specs.Follows.{Accepted, AnswersFit, is_limited}
 use Rattle.arj_model.specs.Own.{may_stand, halts_last, is_node_in, node_of, commit_line, BeginsCommit, AreAborted, aborted_of}
 use Rattle.arj_model.specs.Causes.{Moment, ConflictsHaveCause, is_conflict, IsAnswered, count_halts, is_commit_end, is_node_of, is_of_one}
 use Rattle.arj_engine.specs.Seen.{Seen, seen, see}
@@ -145,11 +145,14 @@ end_cause_fits m l c is = cause_fits ((5, is_none (m.number l)) ∷ (6, is_over_
 
 -- Aborts.
 
-abort_moment : (header : Header) (past : Past) (l : Label) → refusal header past (event.Abort l) ≡ None → AreAborted (aborted_of past.lines (act_in (acts past.lines) (name l))) (body.Aborted l cause.Asked ∷ [])
+abort_moment : (header : Header) (past : Past) (l : Label) → refusal header past (event.Abort l) ≡ None → AreAborted (aborted_of past.lines (act_in (acts past.lines) (name l))) (body.Aborted l cause.Asked ∷ []) → is_limited past.lines ≡ false
     → Moment header past (event.Abort l) (body.Aborted l cause.Asked ∷ [])
-abort_moment header past l is all = record {
-  step = inl (let P : Option ℕ → Type 0 = λ o. MatchOption o (Accepted header past (event.Abort l) bodies) (λ d. bodies ≡ body.Refused d ∷ []) in
-      subst P (sym is) (record { own = bodies; others = []; last = []; parts = refl; begins = all; ends = inl refl; only = refl; halts = refl; answers = tt }));
+abort_moment header past l is all goes_on = record {
+  step = record {
+    goes_on = goes_on;
+    lines = inl (let P : Option ℕ → Type 0 = λ o. MatchOption o (Accepted header past (event.Abort l) bodies) (λ d. bodies ≡ body.Refused d ∷ []) in
+        subst P (sym is) (record { own = bodies; others = []; last = []; parts = refl; begins = all; ends = inl refl; only = refl; halts = refl; answers = tt }));
+  };
   alone = (let P : Option ℕ → Type 0 = λ o. MatchOption o (list_all (is_of_one (event.Abort l)) bodies ≡ true) (λ d. Unit {0}) in subst P (sym is) refl);
   conflict = (let P : Option ℕ → Type 0 = λ o. MatchOption o (ConflictsHaveCause past (event.Abort l) bodies) (λ d. filter is_conflict bodies ≡ []) in subst P (sym is) refl);
   prompt = (let P : Option ℕ → Type 0 = λ o. MatchOption o (IsAnswered past.lines (event.Abort l) bodies) (λ d. Unit {0}) in subst P (sym is) tt);
@@ -185,7 +188,7 @@ abort_ran header past l old new file stops before after st label aborts = by (en
         record {
           bodies = bodies;
           lines = a.lines ∙ ap (λ c. before ++ block (c + 1) bodies) st.count;
-          moment = abort_moment header past l (same ∙ is) (aborted_alone past l i st.keeps.plain f);
+          moment = abort_moment header past l (same ∙ is) (aborted_alone past l i st.keeps.plain f) st.goes_on;
           in_form = ((label, tt), tt);
           stands = stands_after header past (event.Abort l) bodies new file (with_abort s i (ident i))
               (see_aborted s l i known ∙ ap (with_abort s i) uid)
@@ -193,7 +196,7 @@ abort_ran header past l old new file stops before after st label aborts = by (en
               k
               (record { serial = st.serial; holds = st.holds; holds_or_next = λ x there. inl (st.holds f.up x there) })
               (count_more past.lines (past.count + 1) bodies ∙ plain_sum (count_halts past.lines 1) ∙ st.halts)
-              st.alone (λ n apart. refl)
+              st.alone (λ n apart. refl) st.goes_on refl
               (λ q. answers_more past.lines (past.count + 1) bodies q ∙ plain_sum (length (answers_to past.lines q)) ∙ st.answered q ∙ sym (asks_more past.accepted asked q ∙ plain_sum (length (asks_by past.accepted q))));
           halted = λ g. absurd_false g;
           steady = λ g. refl;
@@ -238,21 +241,24 @@ called_commit past l i n f =
 commit_own : (header : Header) (past : Past) (l : Label) (b : Body) (i : ℕ) → Found (seen past.lines) l i → refusal header past (event.Commit l) ≡ None
     → AnswersFit (past.accepted ++ asked_of past (event.Commit l) ∷ []) (past.lines ++ block (past.count + 1) (body.Committing l ∷ [])) (past.count + 1) (b ∷ [])
     → is_of_one (event.Commit l) b ≡ true → may_stand (event.Commit l) b ≡ true → halts_last (node_of past.lines (name l)) (b ∷ []) ≡ true → is_conflict b ≡ false
-    → length (filter (is_commit_end past.lines (name l)) (body.Committing l ∷ b ∷ [])) ≡ 1
+    → length (filter (is_commit_end past.lines (name l)) (body.Committing l ∷ b ∷ [])) ≡ 1 → is_limited past.lines ≡ false
     → Moment header past (event.Commit l) (body.Committing l ∷ b ∷ [])
-commit_own header past l b i f is answers one stand halts calm ends = record {
-  step = inl (let P : Option ℕ → Type 0 = λ o. MatchOption o (Accepted header past (event.Commit l) bodies) (λ d. bodies ≡ body.Refused d ∷ []) in
-      subst P (sym is) (record {
-        own = body.Committing l ∷ [];
-        others = b ∷ [];
-        last = [];
-        parts = refl;
-        begins = subst (λ o. BeginsCommit past.lines l o (body.Committing l ∷ [])) (sym f.in_is) (inl (sym (ap (λ k. commit_line k l ∷ []) f.kind)));
-        ends = inl refl;
-        only = (λ j. stand j && true);
-        halts = halts;
-        answers = answers;
-      }));
+commit_own header past l b i f is answers one stand halts calm ends goes_on = record {
+  step = record {
+    goes_on = goes_on;
+    lines = inl (let P : Option ℕ → Type 0 = λ o. MatchOption o (Accepted header past (event.Commit l) bodies) (λ d. bodies ≡ body.Refused d ∷ []) in
+        subst P (sym is) (record {
+          own = body.Committing l ∷ [];
+          others = b ∷ [];
+          last = [];
+          parts = refl;
+          begins = subst (λ o. BeginsCommit past.lines l o (body.Committing l ∷ [])) (sym f.in_is) (inl (sym (ap (λ k. commit_line k l ∷ []) f.kind)));
+          ends = inl refl;
+          only = (λ j. stand j && true);
+          halts = halts;
+          answers = answers;
+        }));
+  };
   alone = (let P : Option ℕ → Type 0 = λ o. MatchOption o (list_all (is_of_one (event.Commit l)) bodies ≡ true) (λ d. Unit {0}) in subst P (sym is) (λ j. one j && true));
   conflict = (let P : Option ℕ → Type 0 = λ o. MatchOption o (ConflictsHaveCause past (event.Commit l) bodies) (λ d. filter is_conflict bodies ≡ []) in subst P (sym is) (ap (λ t. cond t (b ∷ []) []) calm));
   prompt = (let P : Option ℕ → Type 0 = λ o. MatchOption o (IsAnswered past.lines (event.Commit l) bodies) (λ d. Unit {0}) in subst P (sym is) ends);
@@ -306,13 +312,13 @@ module _ (header : Header) (past : Past) (l : Label) (old new : Engine) (file fi
       record {
         bodies = bodies;
         lines = w.lines ∙ ap (λ c. before ++ block (c + 1) bodies) st.count;
-        moment = commit_own header past l (body.Committed l) i f is (called_commit past l i (past.count + 1) f, tt) refl refl refl refl (ap (λ t. length (cond t (body.Committed l ∷ []) [])) (same_name l));
+        moment = commit_own header past l (body.Committed l) i f is (called_commit past l i (past.count + 1) f, tt) refl refl refl refl (ap (λ t. length (cond t (body.Committed l ∷ []) [])) (same_name l)) st.goes_on;
         in_form = (label, (label, tt));
         stands = stands_after header past (event.Commit l) bodies new file' (committed_seen s f.act i) read
             (w.ended.event ∙ ap (λ c. c + 1) st.count) k
             (record { serial = up.serial; holds = λ d x there. held_now i f e some w x there; holds_or_next = λ x there. inl (held_now i f e some w x there) })
             (count_more past.lines (past.count + 1) bodies ∙ plain_sum (count_halts past.lines 1) ∙ st.halts)
-            st.alone (λ n apart. refl)
+            st.alone (λ n apart. refl) st.goes_on refl
             (no_more_answers bodies (λ q. refl));
         halted = λ g. absurd_false g;
         steady = λ g. w.steady;
@@ -346,7 +352,7 @@ module _ (header : Header) (past : Past) (l : Label) (old new : Engine) (file fi
       record {
         bodies = bodies;
         lines = w.lines ∙ ap (λ c. before ++ block (c + 1) bodies) st.count;
-        moment = commit_own header past l (body.Halted 1) i f is (still_up, tt) refl refl here refl (ap (λ t. length (cond t (body.Halted 1 ∷ []) [])) node);
+        moment = commit_own header past l (body.Halted 1) i f is (still_up, tt) refl refl here refl (ap (λ t. length (cond t (body.Halted 1 ∷ []) [])) node) st.goes_on;
         in_form = (label, ((omega arith, omega arith), tt));
         stands = stands_after header past (event.Commit l) bodies new file' (halted_seen s f.act) read
             (w.halted.event ∙ ap (λ c. c + 1) st.count) k
@@ -356,7 +362,7 @@ module _ (header : Header) (past : Past) (l : Label) (old new : Engine) (file fi
               holds_or_next = λ x there. held_then i f e w x there;
             })
             (count_more past.lines (past.count + 1) bodies ∙ ap (λ n. n + 1) none)
-            st.alone (λ n apart. ap (λ b. length (cond b (halt_line ∷ []) [])) (other_node n apart))
+            st.alone (λ n apart. ap (λ b. length (cond b (halt_line ∷ []) [])) (other_node n apart)) st.goes_on refl
             (no_more_answers bodies (λ q. refl));
         halted = λ g. w.rose;
         steady = λ g. absurd_steady g;

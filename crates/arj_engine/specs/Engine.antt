@@ -6,7 +6,7 @@ use Rattle.std.specs.Cmp.Lexicographic.{slice_cmp}
 use Rattle.std.specs.Ordering.{nat_cmp, on}
 use Rattle.arj_base.specs.Count.{Rose}
 use Rattle.arj_base.specs.State.{state_bytes}
-use Rattle.arj_disk.specs.Files.{FileMap}
+use Rattle.arj_disk.specs.FileMap.{FileMap}
 use Rattle.arj_disk.specs.Says.{held}
 use Rattle.arj_disk.specs.declared.slot.Role.TheVariants.{Store}
 use Rattle.arj_base.specs.Uid.{object}
@@ -21,6 +21,7 @@ use Rattle.arj_model.specs.Serial.{Serial}
 use Rattle.arj_model.specs.Last.{first_values, last_state, object_line}
 use Rattle.arj_model.specs.Clean.{HoldsLastOrNext}
 use Rattle.arj_model.specs.Refusals.{is_down, answers_to, asks_by}
+use Rattle.arj_model.specs.Follows.{is_limited}
 use Rattle.arj_model.specs.Causes.{Moment, is_halt, count_halts}
 use Rattle.arj_engine.specs.Seen.{seen}
 use Rattle.arj_engine.specs.Object.{object_in, views}
@@ -64,6 +65,8 @@ pub record Stands (header : Header) (past : Past) (engine : Engine) (file : File
   pub halts : count_halts past.lines 1 ≡ (if is_down past.lines 1 then 1 else 0)
   -- and no other node does
   pub alone : (n : ℕ) → (n ≡ 1 → ⊥) → count_halts past.lines n ≡ 0
+  -- no limit of frames was met
+  pub goes_on : is_limited past.lines ≡ false
   -- each call that was accepted is answered
   pub answered : (l : List ℕ) → length (answers_to past.lines l) ≡ length (asks_by past.accepted l)
   -- what the engine has in memory is what the journal says

@@ -8,7 +8,7 @@ use Rattle.arj_base.specs.declared.state.ObjectState.{ObjectState}
 use Rattle.arj_base.specs.Mode.{conflicting, stronger}
 use Rattle.arj_base.specs.Uid.{uid_eq, object, nobody}
 use Rattle.arj_base.specs.State.{state_bytes}
-use Rattle.arj_disk.specs.Files.{FileMap}
+use Rattle.arj_disk.specs.FileMap.{FileMap}
 use Rattle.arj_disk.specs.Says.{held}
 use Rattle.arj_disk.specs.declared.slot.Role.TheVariants.{Store}
 use Rattle.arj_journal.specs.declared.header.ObjectLine.{ObjectLine}

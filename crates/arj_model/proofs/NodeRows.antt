@@ -26,7 +26,7 @@ use Rattle.arj_disk.specs.declared.slot.Outcome.TheVariants as outcome
 use Rattle.arj_model.specs.Past.{nothing_yet}
 use Rattle.arj_text.specs.Label.{name}
 use Rattle.arj_model.specs.Arms.{count_armed, arms_at}
-use Rattle.arj_model.proofs.Rows.{past_from, accepted, at, runs, ◌&◌}
+use Rattle.arj_model.proofs.Rows.{went, went_doomed, past_from, accepted, at, runs, ◌&◌}
 
 -- rows of the only object and of its entry, by the numbers of actions on the path of the holder
 abbrev locked : List ℕ → ℕ → Mode → Row
@@ -107,13 +107,13 @@ done = codes "done"
 
 nested_abort_follows : Follows (one_node 0) nested_abort_events (lines_of nested_abort_bodies)
 nested_abort_follows = runs (Step (one_node 0)) nested_abort_events nested_abort_bodies [] (
-    inl (accepted (began A kind.Top 1 None ∷ []) [] [] refl refl refl refl tt)
-    & inl (accepted [] (first_use 1 ++ on_object 1 Write ∷ ok A (Add 4) done ∷ []) [] refl (inl refl) refl refl (tt & tt & tt & tt & tt & ((refl, refl), at 0 refl refl) & tt))
-    & inl (accepted (began N kind.Nested 2 (Some A) ∷ []) [] [] (1, refl, refl) refl refl refl tt)
-    & inl (accepted [] (on_object 2 Write ∷ ok N (Add 5) done ∷ []) [] refl (inl refl) refl refl (tt & ((refl, refl), at 4 refl refl) & tt))
-    & inl (accepted (body.Aborted N cause.Asked ∷ []) (told 2 Abort part.Server ∷ []) [] (refl, tt) (inl refl) refl refl (tt & tt))
-    & inl (accepted [] (ok A Get (codes "4") ∷ []) [] refl (inl refl) refl refl (((refl, refl), at 4 refl (sym (decimal_digit 4 (omega arith)))) & tt))
-    & inl (accepted (body.Committing A ∷ []) (commit_end A 1) [] (inl refl) (inl refl) refl refl (tt & refl & tt & tt & tt & tt))
+    went refl (accepted (began A kind.Top 1 None ∷ []) [] [] refl refl refl refl tt)
+    & went refl (accepted [] (first_use 1 ++ on_object 1 Write ∷ ok A (Add 4) done ∷ []) [] refl (inl refl) refl refl (tt & tt & tt & tt & tt & ((refl, refl), at 0 refl refl) & tt))
+    & went refl (accepted (began N kind.Nested 2 (Some A) ∷ []) [] [] (1, refl, refl) refl refl refl tt)
+    & went refl (accepted [] (on_object 2 Write ∷ ok N (Add 5) done ∷ []) [] refl (inl refl) refl refl (tt & ((refl, refl), at 4 refl refl) & tt))
+    & went refl (accepted (body.Aborted N cause.Asked ∷ []) (told 2 Abort part.Server ∷ []) [] (refl, tt) (inl refl) refl refl (tt & tt))
+    & went refl (accepted [] (ok A Get (codes "4") ∷ []) [] refl (inl refl) refl refl (((refl, refl), at 4 refl (sym (decimal_digit 4 (omega arith)))) & tt))
+    & went refl (accepted (body.Committing A ∷ []) (commit_end A 1) [] (inl refl) (inl refl) refl refl (tt & refl & tt & tt & tt & tt))
     & tt) tt
 
 -- The commit of a nested action, and an abort of a top behind it.
@@ -124,16 +124,16 @@ older_image_events =
 
 older_image_follows : Follows (one_node 7) older_image_events (lines_of older_image_bodies)
 older_image_follows = runs (Step (one_node 7)) older_image_events older_image_bodies [] (
-    inl (accepted (began A kind.Top 1 None ∷ []) [] [] refl refl refl refl tt)
-    & inl (accepted (began C kind.Nested 2 (Some A) ∷ []) [] [] (1, refl, refl) refl refl refl tt)
-    & inl (accepted [] (first_use 1 ++ on_object 2 Write ∷ ok C (Add 1) done ∷ []) [] refl (inl refl) refl refl (tt & tt & tt & tt & tt & ((refl, refl), at 7 refl refl) & tt))
-    & inl (accepted (body.Committed C ∷ []) (told 2 Commit part.Server ∷ []) [] (inl refl) (inl refl) refl refl (tt & tt))
-    & inl (accepted (began D kind.Nested 3 (Some A) ∷ []) [] [] (1, refl, refl) refl refl refl tt)
-    & inl (accepted [] (on_object 3 Write ∷ ok D (Add 1) done ∷ []) [] refl (inl refl) refl refl (tt & ((refl, refl), at 8 refl refl) & tt))
-    & inl (accepted (body.Committed D ∷ []) (told 3 Commit part.Server ∷ []) [] (inl refl) (inl refl) refl refl (tt & tt))
-    & inl (accepted (body.Aborted A cause.Asked ∷ []) (told 1 Abort part.Naming ∷ told 1 Abort part.Server ∷ []) [] (refl, tt) (inl refl) refl refl (tt & tt & tt))
-    & inl (accepted (began B kind.Top 4 None ∷ []) [] [] refl refl refl refl tt)
-    & inl (accepted [] (on_entry 4 Read ∷ on_object 4 Read ∷ ok B Get (codes "7") ∷ []) [] refl (inl refl) refl refl (tt & tt & ((refl, refl), at 7 refl (sym (decimal_digit 7 (omega arith)))) & tt))
+    went refl (accepted (began A kind.Top 1 None ∷ []) [] [] refl refl refl refl tt)
+    & went refl (accepted (began C kind.Nested 2 (Some A) ∷ []) [] [] (1, refl, refl) refl refl refl tt)
+    & went refl (accepted [] (first_use 1 ++ on_object 2 Write ∷ ok C (Add 1) done ∷ []) [] refl (inl refl) refl refl (tt & tt & tt & tt & tt & ((refl, refl), at 7 refl refl) & tt))
+    & went refl (accepted (body.Committed C ∷ []) (told 2 Commit part.Server ∷ []) [] (inl refl) (inl refl) refl refl (tt & tt))
+    & went refl (accepted (began D kind.Nested 3 (Some A) ∷ []) [] [] (1, refl, refl) refl refl refl tt)
+    & went refl (accepted [] (on_object 3 Write ∷ ok D (Add 1) done ∷ []) [] refl (inl refl) refl refl (tt & ((refl, refl), at 8 refl refl) & tt))
+    & went refl (accepted (body.Committed D ∷ []) (told 3 Commit part.Server ∷ []) [] (inl refl) (inl refl) refl refl (tt & tt))
+    & went refl (accepted (body.Aborted A cause.Asked ∷ []) (told 1 Abort part.Naming ∷ told 1 Abort part.Server ∷ []) [] (refl, tt) (inl refl) refl refl (tt & tt & tt))
+    & went refl (accepted (began B kind.Top 4 None ∷ []) [] [] refl refl refl refl tt)
+    & went refl (accepted [] (on_entry 4 Read ∷ on_object 4 Read ∷ ok B Get (codes "7") ∷ []) [] refl (inl refl) refl refl (tt & tt & ((refl, refl), at 7 refl (sym (decimal_digit 7 (omega arith)))) & tt))
     & tt) tt
 
 -- Constituents, and the end of their serializing action.
@@ -144,18 +144,18 @@ serializing_events =
 
 serializing_follows : Follows (one_node 0) serializing_events (lines_of serializing_bodies)
 serializing_follows = runs (Step (one_node 0)) serializing_events serializing_bodies [] (
-    inl (accepted (began S kind.Serial 1 None ∷ []) [] [] refl refl refl refl tt)
-    & inl (accepted (began C kind.Constituent 2 (Some S) ∷ []) [] [] (1, refl, refl) refl refl refl tt)
-    & inl (accepted [] (first_use 2 ++ on_object 2 Write ∷ ok C (Add 1) done ∷ []) [] refl (inl refl) refl refl (tt & tt & tt & tt & tt & ((refl, refl), at 0 refl refl) & tt))
-    & inl (accepted (body.Committing C ∷ []) (commit_end C 2) [] (inl refl) (inl refl) refl refl (tt & refl & tt & tt & tt & tt))
-    & inl (accepted (began B kind.Top 3 None ∷ []) [] [] refl refl refl refl tt)
-    & inl (accepted [] (on_entry 3 Read ∷ body.Conflict B (uid 1) Write 1 ∷ []) [] refl (inl refl) refl refl (tt & refl & tt))
-    & inl (accepted (began D kind.Constituent 4 (Some S) ∷ []) [] [] (1, refl, refl) refl refl refl tt)
-    & inl (accepted [] (on_object 4 Write ∷ ok D (Add 1) done ∷ []) [] refl (inl refl) refl refl (tt & ((refl, refl), at 1 refl refl) & tt))
-    & inl (accepted (body.Committing D ∷ [])
+    went refl (accepted (began S kind.Serial 1 None ∷ []) [] [] refl refl refl refl tt)
+    & went refl (accepted (began C kind.Constituent 2 (Some S) ∷ []) [] [] (1, refl, refl) refl refl refl tt)
+    & went refl (accepted [] (first_use 2 ++ on_object 2 Write ∷ ok C (Add 1) done ∷ []) [] refl (inl refl) refl refl (tt & tt & tt & tt & tt & ((refl, refl), at 0 refl refl) & tt))
+    & went refl (accepted (body.Committing C ∷ []) (commit_end C 2) [] (inl refl) (inl refl) refl refl (tt & refl & tt & tt & tt & tt))
+    & went refl (accepted (began B kind.Top 3 None ∷ []) [] [] refl refl refl refl tt)
+    & went refl (accepted [] (on_entry 3 Read ∷ body.Conflict B (uid 1) Write 1 ∷ []) [] refl (inl refl) refl refl (tt & refl & tt))
+    & went refl (accepted (began D kind.Constituent 4 (Some S) ∷ []) [] [] (1, refl, refl) refl refl refl tt)
+    & went refl (accepted [] (on_object 4 Write ∷ ok D (Add 1) done ∷ []) [] refl (inl refl) refl refl (tt & ((refl, refl), at 1 refl refl) & tt))
+    & went refl (accepted (body.Committing D ∷ [])
     (prepared 1 4 role.Store ∷ body.Committed D ∷ body.Done 1 (uid 4) role.Store Commit ∷ told 4 Commit part.Server ∷ []) [] (inl refl) (inl refl) refl refl (tt & refl & tt & tt & tt))
-    & inl (accepted (body.Aborted S cause.Asked ∷ []) (told 1 Abort part.Naming ∷ told 1 Abort part.Server ∷ []) [] (refl, tt) (inl refl) refl refl (tt & tt & tt))
-    & inl (accepted [] (on_object 3 Read ∷ ok B Get (codes "2") ∷ []) [] refl (inl refl) refl refl (tt & ((refl, refl), at 2 refl (sym (decimal_digit 2 (omega arith)))) & tt))
+    & went refl (accepted (body.Aborted S cause.Asked ∷ []) (told 1 Abort part.Naming ∷ told 1 Abort part.Server ∷ []) [] (refl, tt) (inl refl) refl refl (tt & tt & tt))
+    & went refl (accepted [] (on_object 3 Read ∷ ok B Get (codes "2") ∷ []) [] refl (inl refl) refl refl (tt & ((refl, refl), at 2 refl (sym (decimal_digit 2 (omega arith)))) & tt))
     & tt) tt
 
 -- Messages, a lost frame, a giveup, and what is shown.
@@ -170,15 +170,15 @@ lines_at (bodies ∷ rest) n = if n == 1 then bodies else lines_at rest (n - 1)
 
 exclusion_follows : Follows three_nodes exclusion_events (lines_of to_exclusion)
 exclusion_follows = runs (Step three_nodes) exclusion_events to_exclusion [] (
-    inl (accepted (began A kind.Top 1 None ∷ []) [] [] refl refl refl refl tt)
-    & inl (accepted [] (lines_at to_exclusion 2) [] refl (inl refl) refl refl (tt & tt & tt & tt))
-    & inl (accepted [] (lines_at to_exclusion 3) [] refl (inl refl) refl refl (refl & tt & refl & tt & tt & tt & ((refl, refl), at 0 refl refl) & tt))
-    & inl (accepted (body.Committing A ∷ []) (drop 1 (lines_at to_exclusion 4)) [] (inl refl) (inl refl) refl refl (tt & tt & tt))
-    & inl (accepted (body.Dropped 4 ∷ []) [] [] refl refl refl refl tt)
-    & inl (accepted [] (lines_at to_exclusion 6) [] refl (inl refl) refl refl (refl & tt & tt & refl & tt))
-    & inl (accepted (body.GaveUp A 3 ∷ []) (drop 1 (lines_at to_exclusion 7)) [] refl (inl refl) refl refl (tt & tt & tt & refl & tt & tt & tt & tt & tt & tt))
-    & inl (accepted [] (lines_at to_exclusion 8) [] refl (inl refl) refl refl (refl & tt & tt & refl & refl & tt))
-    & inl (accepted [] (lines_at to_exclusion 9) [] refl refl refl refl (tt & tt & tt & tt))
+    went refl (accepted (began A kind.Top 1 None ∷ []) [] [] refl refl refl refl tt)
+    & went refl (accepted [] (lines_at to_exclusion 2) [] refl (inl refl) refl refl (tt & tt & tt & tt))
+    & went refl (accepted [] (lines_at to_exclusion 3) [] refl (inl refl) refl refl (refl & tt & refl & tt & tt & tt & ((refl, refl), at 0 refl refl) & tt))
+    & went refl (accepted (body.Committing A ∷ []) (drop 1 (lines_at to_exclusion 4)) [] (inl refl) (inl refl) refl refl (tt & tt & tt))
+    & went refl (accepted (body.Dropped 4 ∷ []) [] [] refl refl refl refl tt)
+    & went refl (accepted [] (lines_at to_exclusion 6) [] refl (inl refl) refl refl (refl & tt & tt & refl & tt))
+    & went refl (accepted (body.GaveUp A 3 ∷ []) (drop 1 (lines_at to_exclusion 7)) [] refl (inl refl) refl refl (tt & tt & tt & refl & tt & tt & tt & tt & tt & tt))
+    & went refl (accepted [] (lines_at to_exclusion 8) [] refl (inl refl) refl refl (refl & tt & tt & refl & refl & tt))
+    & went refl (accepted [] (lines_at to_exclusion 9) [] refl refl refl refl (tt & tt & tt & tt))
     & tt) tt
 
 -- A stop inside a commit, a restart that finds the record, and a quiesce.
@@ -191,15 +191,15 @@ stopped = stop_at_decision_done_bodies
 
 stop_at_decision_done_follows : Follows three_nodes stop_at_decision_done_events (lines_of stopped)
 stop_at_decision_done_follows = runs (Step three_nodes) stop_at_decision_done_events stopped [] (
-    inl (accepted (began A kind.Top 1 None ∷ []) [] [] refl refl refl refl tt)
-    & inl (accepted [] (lines_at stopped 2) [] refl (inl refl) refl refl (tt & tt & tt & tt))
-    & inl (accepted [] (lines_at stopped 3) [] refl (inl refl) refl refl (refl & tt & refl & tt & tt & tt & ((refl, refl), at 0 refl refl) & tt))
-    & inl (accepted (body.Committing A ∷ []) (drop 1 (lines_at stopped 4)) [] (inl refl) (inl refl) refl refl (tt & tt & tt))
-    & inl (accepted (body.Armed 1 ∷ []) [] [] refl refl refl refl tt)
-    & inl (accepted [] (lines_at stopped 6) [] refl (inl refl) refl refl (refl & tt & tt & refl & tt & tt & refl & refl & refl & tt))
-    & inl (accepted (body.Up 1 2 ∷ []) (drop 1 (lines_at stopped 7)) [] (inl (2, omega arith, refl)) (inl refl) refl refl (tt & tt & tt & tt & tt & tt))
-    & inl (accepted [] (take 10 (lines_at stopped 8)) (body.Quiet true ∷ []) refl (inl (true, refl)) refl refl (refl & tt & tt & refl & tt & tt & refl & refl & refl & refl & tt))
-    & inl (accepted [] (lines_at stopped 9) [] refl refl refl refl (tt & tt & tt & tt))
+    went refl (accepted (began A kind.Top 1 None ∷ []) [] [] refl refl refl refl tt)
+    & went refl (accepted [] (lines_at stopped 2) [] refl (inl refl) refl refl (tt & tt & tt & tt))
+    & went refl (accepted [] (lines_at stopped 3) [] refl (inl refl) refl refl (refl & tt & refl & tt & tt & tt & ((refl, refl), at 0 refl refl) & tt))
+    & went refl (accepted (body.Committing A ∷ []) (drop 1 (lines_at stopped 4)) [] (inl refl) (inl refl) refl refl (tt & tt & tt))
+    & went refl (accepted (body.Armed 1 ∷ []) [] [] refl refl refl refl tt)
+    & went refl (accepted [] (lines_at stopped 6) [] refl (inl refl) refl refl (refl & tt & tt & refl & tt & tt & refl & refl & refl & tt))
+    & went refl (accepted (body.Up 1 2 ∷ []) (drop 1 (lines_at stopped 7)) [] (inl (2, omega arith, refl)) (inl refl) refl refl (tt & tt & tt & tt & tt & tt))
+    & went refl (accepted [] (take 10 (lines_at stopped 8)) (body.Quiet true ∷ []) refl (inl (true, refl)) refl refl (refl & tt & tt & refl & tt & tt & refl & refl & refl & refl & tt))
+    & went refl (accepted [] (lines_at stopped 9) [] refl refl refl refl (tt & tt & tt & tt))
     & tt) tt
 
 -- Deliveries one by one, and a crash.
@@ -213,24 +213,24 @@ named_at n = lines_at naming_stopped_bodies n
 
 naming_stopped_follows : Follows four_nodes naming_stopped_events (lines_of naming_stopped_bodies)
 naming_stopped_follows = runs (Step four_nodes) naming_stopped_events naming_stopped_bodies [] (
-    inl (accepted (named_at 1) [] [] refl refl refl refl tt)
-    & inl (accepted [] (named_at 2) [] refl (inl refl) refl refl (tt & tt))
-    & inl (accepted [] (named_at 3) [] refl (inl refl) refl refl (refl & tt & tt & tt & refl & tt & refl & tt & refl & tt & tt & refl & tt & tt & refl & tt & ((refl, refl), at 0 refl refl) & tt))
-    & inl (accepted (body.Committing A ∷ []) (drop 1 (named_at 4)) [] (inl refl) (inl refl) refl refl (tt & tt & tt))
-    & inl (accepted (named_at 5) [] [] refl refl refl refl tt)
-    & inl (accepted [] (named_at 6) [] refl (inl refl) refl refl (refl & tt & tt & refl & tt))
-    & inl (accepted (body.GaveUp A 4 ∷ []) (drop 1 (named_at 7)) [] refl (inl refl) refl refl (tt & tt & tt))
-    & inl (accepted (body.Got 10 ∷ []) (drop 1 (named_at 8)) [] (inl refl) (inl refl) refl refl (tt & tt & tt & tt))
-    & inl (accepted (named_at 9) [] [] refl refl refl refl tt)
-    & inl (accepted (body.Got 11 ∷ []) (drop 1 (named_at 10)) [] (inl refl) (inl refl) refl refl (refl & tt & tt & tt & tt & tt))
-    & inl (accepted [] (named_at 11) [] refl (inl refl) refl refl (refl & refl & tt & tt & refl & refl & tt))
-    & inl (accepted (body.Up 1 2 ∷ []) (drop 1 (named_at 12)) [] (inl (2, omega arith, refl)) (inl refl) refl refl (tt & tt & tt & tt & tt & tt))
-    & inl (accepted (named_at 13) [] [] refl refl refl refl tt)
-    & inl (accepted [] (named_at 14) [] refl (inl refl) refl refl (tt & tt))
-    & inl (accepted (body.Got 20 ∷ []) (drop 1 (named_at 15)) [] (inl refl) (inl refl) refl refl (tt & tt))
-    & inl (accepted (body.Got 21 ∷ []) (drop 1 (named_at 16)) [] (inl refl) (inl refl) refl refl (refl & tt))
-    & inl (accepted [] (take 10 (named_at 17)) (body.Quiet true ∷ []) refl (inl (true, refl)) refl refl (refl & tt & refl & refl & refl & refl & tt & tt & tt & refl & tt))
-    & inl (accepted [] (named_at 18) [] refl refl refl refl (tt & tt & tt & tt))
+    went refl (accepted (named_at 1) [] [] refl refl refl refl tt)
+    & went refl (accepted [] (named_at 2) [] refl (inl refl) refl refl (tt & tt))
+    & went refl (accepted [] (named_at 3) [] refl (inl refl) refl refl (refl & tt & tt & tt & refl & tt & refl & tt & refl & tt & tt & refl & tt & tt & refl & tt & ((refl, refl), at 0 refl refl) & tt))
+    & went refl (accepted (body.Committing A ∷ []) (drop 1 (named_at 4)) [] (inl refl) (inl refl) refl refl (tt & tt & tt))
+    & went refl (accepted (named_at 5) [] [] refl refl refl refl tt)
+    & went refl (accepted [] (named_at 6) [] refl (inl refl) refl refl (refl & tt & tt & refl & tt))
+    & went refl (accepted (body.GaveUp A 4 ∷ []) (drop 1 (named_at 7)) [] refl (inl refl) refl refl (tt & tt & tt))
+    & went refl (accepted (body.Got 10 ∷ []) (drop 1 (named_at 8)) [] (inl refl) (inl refl) refl refl (tt & tt & tt & tt))
+    & went refl (accepted (named_at 9) [] [] refl refl refl refl tt)
+    & went refl (accepted (body.Got 11 ∷ []) (drop 1 (named_at 10)) [] (inl refl) (inl refl) refl refl (refl & tt & tt & tt & tt & tt))
+    & went refl (accepted [] (named_at 11) [] refl (inl refl) refl refl (refl & refl & tt & tt & refl & refl & tt))
+    & went refl (accepted (body.Up 1 2 ∷ []) (drop 1 (named_at 12)) [] (inl (2, omega arith, refl)) (inl refl) refl refl (tt & tt & tt & tt & tt & tt))
+    & went refl (accepted (named_at 13) [] [] refl refl refl refl tt)
+    & went refl (accepted [] (named_at 14) [] refl (inl refl) refl refl (tt & tt))
+    & went refl (accepted (body.Got 20 ∷ []) (drop 1 (named_at 15)) [] (inl refl) (inl refl) refl refl (tt & tt))
+    & went refl (accepted (body.Got 21 ∷ []) (drop 1 (named_at 16)) [] (inl refl) (inl refl) refl refl (refl & tt))
+    & went refl (accepted [] (take 10 (named_at 17)) (body.Quiet true ∷ []) refl (inl (true, refl)) refl refl (refl & tt & refl & refl & refl & refl & tt & tt & tt & refl & tt))
+    & went refl (accepted [] (named_at 18) [] refl refl refl refl (tt & tt & tt & tt))
     & tt) tt
 
 -- The stop is the disk's arm.
@@ -246,21 +246,21 @@ rebound n = lines_at rebinding_bodies n
 
 rebinding_follows : Follows two_servers rebinding_events (lines_of rebinding_bodies)
 rebinding_follows = runs (Step two_servers) rebinding_events rebinding_bodies [] (
-    inl (accepted (take 1 (rebound 1)) (drop 1 (rebound 1)) [] refl refl refl refl (tt))
-    & inl (accepted (take 1 (rebound 2)) (drop 1 (rebound 2)) [] (1, refl, refl) refl refl refl (tt))
-    & inl (accepted [] (rebound 3) [] refl (inl refl) refl refl (tt & tt & tt & tt))
-    & inl refl
-    & inl (accepted (take 1 (rebound 5)) (drop 1 (rebound 5)) [] (inl refl) (inl refl) refl refl (tt & tt & tt))
-    & inl (accepted (take 1 (rebound 6)) (drop 1 (rebound 6)) [] (inl refl) (inl refl) refl refl (tt & tt & tt))
-    & inl (accepted (take 1 (rebound 7)) (drop 1 (rebound 7)) [] refl refl refl refl (tt))
-    & inl (accepted (take 1 (rebound 8)) (drop 1 (rebound 8)) [] refl (inl refl) refl refl (refl & tt))
-    & inr (record { label = name N; about = refl; lost = refl; lowest = refl; line = refl })
-    & inl (accepted (take 1 (rebound 10)) (drop 1 (rebound 10)) [] (inr (refl, refl, refl)) (inl refl) refl refl (tt & tt))
-    & inl (accepted (take 1 (rebound 11)) (drop 1 (rebound 11)) [] (1, refl, refl) refl refl refl (tt))
-    & inl refl
-    & inl (accepted [] (rebound 13) [] refl (inl refl) refl refl (tt & tt & tt & tt))
-    & inl (accepted [] (rebound 14) [] refl (inl refl) refl refl (refl & refl & tt & tt & refl & tt & tt & refl & tt & tt & refl & ((refl, refl), at 0 refl refl) & tt))
-    & inl (accepted (take 1 (rebound 15)) (drop 1 (rebound 15)) [] (inl refl) (inl refl) refl refl (tt & tt))
-    & inl (accepted (take 1 (rebound 16)) (drop 1 (rebound 16)) [] (inl refl) (inl refl) refl refl (tt & tt))
-    & inl (accepted [] (rebound 17) [] refl (inl refl) refl refl (refl & tt & refl & tt & refl & tt & refl & tt & tt & tt & tt & refl & refl & tt & tt & refl & tt))
+    went refl (accepted (take 1 (rebound 1)) (drop 1 (rebound 1)) [] refl refl refl refl (tt))
+    & went refl (accepted (take 1 (rebound 2)) (drop 1 (rebound 2)) [] (1, refl, refl) refl refl refl (tt))
+    & went refl (accepted [] (rebound 3) [] refl (inl refl) refl refl (tt & tt & tt & tt))
+    & went refl refl
+    & went refl (accepted (take 1 (rebound 5)) (drop 1 (rebound 5)) [] (inl refl) (inl refl) refl refl (tt & tt & tt))
+    & went refl (accepted (take 1 (rebound 6)) (drop 1 (rebound 6)) [] (inl refl) (inl refl) refl refl (tt & tt & tt))
+    & went refl (accepted (take 1 (rebound 7)) (drop 1 (rebound 7)) [] refl refl refl refl (tt))
+    & went refl (accepted (take 1 (rebound 8)) (drop 1 (rebound 8)) [] refl (inl refl) refl refl (refl & tt))
+    & went_doomed refl (record { label = name N; about = refl; lost = refl; lowest = refl; line = refl })
+    & went refl (accepted (take 1 (rebound 10)) (drop 1 (rebound 10)) [] (inr (refl, refl, refl)) (inl refl) refl refl (tt & tt))
+    & went refl (accepted (take 1 (rebound 11)) (drop 1 (rebound 11)) [] (1, refl, refl) refl refl refl (tt))
+    & went refl refl
+    & went refl (accepted [] (rebound 13) [] refl (inl refl) refl refl (tt & tt & tt & tt))
+    & went refl (accepted [] (rebound 14) [] refl (inl refl) refl refl (refl & refl & tt & tt & refl & tt & tt & refl & tt & tt & refl & ((refl, refl), at 0 refl refl) & tt))
+    & went refl (accepted (take 1 (rebound 15)) (drop 1 (rebound 15)) [] (inl refl) (inl refl) refl refl (tt & tt))
+    & went refl (accepted (take 1 (rebound 16)) (drop 1 (rebound 16)) [] (inl refl) (inl refl) refl refl (tt & tt))
+    & went refl (accepted [] (rebound 17) [] refl (inl refl) refl refl (refl & tt & refl & tt & refl & tt & refl & tt & tt & tt & tt & refl & refl & tt & tt & refl & tt))
     & tt) tt

@@ -1,7 +1,7 @@
 -- The definitions tried on the worked runs: each value is known beforehand, and another one would be refused.
-use Rattle.std.specs.Prelude.{◌≡◌, refl, ℕ, ◌+◌, List, [], ◌∷◌, ◌++◌, length, map, filter, take, codes, Bool, true, false, Some, None, ⊤}
+use Rattle.std.specs.Prelude.{◌≡◌, refl, ℕ, ◌+◌, List, [], ◌∷◌, ◌++◌, length, map, filter, take, codes, Bool, true, false, Some, None, MatchOption, ⊤}
 use Rattle.std.specs.List.{list_all}
-use Rattle.std.proofs.Common.{arith, sym, inl}
+use Rattle.std.proofs.Common.{arith, sym, inl, inr}
 use Rattle.std.proofs.lemmas.Fmt.{decimal_digit}
 use Rattle.arj_base.specs.declared.uid.Uid.{Uid}
 use Rattle.arj_base.specs.declared.mode.Mode.{Mode}
@@ -30,7 +30,7 @@ use Rattle.arj_model.specs.Last.{first_values, last_state, listed, entry_state}
 use Rattle.arj_model.specs.OkTable.{ok_table}
 use Rattle.arj_model.specs.Past.{Past, nothing_yet, asked_of, next, block, Along}
 use Rattle.arj_model.specs.Refusals.{refusal}
-use Rattle.arj_model.specs.Follows.{IsAnswerOf, AnswersFit, Step, Accepted, AreEnding, Follows, Runs}
+use Rattle.arj_model.specs.Follows.{IsAnswerOf, IsRefusedDoomed, is_limited, AnswersFit, Step, Accepted, AreEnding, Follows, Runs}
 use Rattle.arj_model.specs.Own.{Begins, Ends, may_stand, halts_fit}
 use Rattle.arj_model.specs.Causes.{HasCauseConflict, Prompt, Alone}
 use Rattle.arj_model.proofs.Journals.{A, B, C, N, uid, counter, began, ok, lines_of, one_node, three_nodes, smallest_bodies, conflict_bodies, smallest, conflict, nested_abort, older_image, independent, serializing, to_inclusion, exclusion, inclusion, stop_at_decision_done, unit_round_a_top, many_includes}
@@ -194,6 +194,14 @@ pub accepted :
 accepted own others last begins ends only halts answers =
     record { own = own; others = others; last = last; parts = refl; begins = begins; ends = ends; only = only; halts = halts; answers = answers }
 
+pub went :
+    {header : Header} {past : Past} {e : Event} {bodies : List Body}
+    → is_limited past.lines ≡ false → MatchOption (refusal header past e) (Accepted header past e bodies) (λ c. bodies ≡ body.Refused c ∷ []) → Step header past e bodies
+went goes_on lines = record { goes_on = goes_on; lines = inl lines }
+
+pub went_doomed : {header : Header} {past : Past} {e : Event} {bodies : List Body} → is_limited past.lines ≡ false → IsRefusedDoomed header past e bodies → Step header past e bodies
+went_doomed goes_on lines = record { goes_on = goes_on; lines = inr lines }
+
 -- an answer to a call of the counter, at this value
 pub at : {op : Op} {answer : List ℕ} (n : ℕ) → has_op (class_of (Counter n)) op ≡ true → answer ≡ answer_text (answer_of op (Counter n)) → IsAnswerOf op answer
 at n has is = (Counter n, has, is)
@@ -206,12 +214,12 @@ first_smallest = map (filter is_built) smallest_bodies
 
 smallest_follows : Follows (one_node 0) smallest_events (lines_of first_smallest)
 smallest_follows = runs (Step (one_node 0)) smallest_events first_smallest [] (
-    inl (accepted (began A kind.Top 1 None ∷ []) [] [] refl refl refl refl tt)
-    & inl (accepted [] (ok A (Add 5) done ∷ []) [] refl (inl refl) refl refl (((refl, refl), at 0 refl refl), tt))
-    & inl (accepted (body.Committing A ∷ []) (body.Committed A ∷ []) [] (inl refl) (inl refl) refl refl (refl, tt))
-    & inl (accepted (began B kind.Top 2 None ∷ []) [] [] refl refl refl refl tt)
-    & inl (accepted [] (ok B Get (codes "5") ∷ []) [] refl (inl refl) refl refl (((refl, refl), at 5 refl (sym (decimal_digit 5 (omega arith)))), tt))
-    & inl (accepted (body.Committing B ∷ []) (body.Committed B ∷ []) [] (inl refl) (inl refl) refl refl (refl, tt))
+    went refl (accepted (began A kind.Top 1 None ∷ []) [] [] refl refl refl refl tt)
+    & went refl (accepted [] (ok A (Add 5) done ∷ []) [] refl (inl refl) refl refl (((refl, refl), at 0 refl refl), tt))
+    & went refl (accepted (body.Committing A ∷ []) (body.Committed A ∷ []) [] (inl refl) (inl refl) refl refl (refl, tt))
+    & went refl (accepted (began B kind.Top 2 None ∷ []) [] [] refl refl refl refl tt)
+    & went refl (accepted [] (ok B Get (codes "5") ∷ []) [] refl (inl refl) refl refl (((refl, refl), at 5 refl (sym (decimal_digit 5 (omega arith)))), tt))
+    & went refl (accepted (body.Committing B ∷ []) (body.Committed B ∷ []) [] (inl refl) (inl refl) refl refl (refl, tt))
     & tt) tt
 
 smallest_conflicts : Runs (HasCauseConflict (one_node 0)) smallest_events (lines_of first_smallest)
@@ -248,15 +256,15 @@ raise =
 
 raise_follows : Follows (one_node 0) raise_events (lines_of raise)
 raise_follows = runs (Step (one_node 0)) raise_events raise [] (
-    inl (accepted (began A kind.Top 1 None ∷ []) [] [] refl refl refl refl tt)
-    & inl (accepted (began B kind.Top 2 None ∷ []) [] [] refl refl refl refl tt)
-    & inl (accepted [] (ok A Get (codes "0") ∷ []) [] refl (inl refl) refl refl (((refl, refl), at 0 refl (sym (decimal_digit 0 (omega arith)))), tt))
-    & inl (accepted [] (ok B Get (codes "0") ∷ []) [] refl (inl refl) refl refl (((refl, refl), at 0 refl (sym (decimal_digit 0 (omega arith)))), tt))
-    & inl (accepted [] (body.Conflict A (uid 2) Read 1 ∷ []) [] refl (inl refl) refl refl (refl, tt))
-    & inl (accepted (began C kind.Top 3 None ∷ []) [] [] refl refl refl refl tt)
-    & inl (accepted (body.Aborted B cause.Asked ∷ []) [] [] (refl, tt) (inl refl) refl refl tt)
-    & inl (accepted [] (ok A (Set 1) done ∷ []) [] refl (inl refl) refl refl (((refl, refl), at 0 refl refl), tt))
-    & inl (accepted [] (body.Conflict C (uid 1) Write 1 ∷ []) [] refl (inl refl) refl refl (refl, tt))
+    went refl (accepted (began A kind.Top 1 None ∷ []) [] [] refl refl refl refl tt)
+    & went refl (accepted (began B kind.Top 2 None ∷ []) [] [] refl refl refl refl tt)
+    & went refl (accepted [] (ok A Get (codes "0") ∷ []) [] refl (inl refl) refl refl (((refl, refl), at 0 refl (sym (decimal_digit 0 (omega arith)))), tt))
+    & went refl (accepted [] (ok B Get (codes "0") ∷ []) [] refl (inl refl) refl refl (((refl, refl), at 0 refl (sym (decimal_digit 0 (omega arith)))), tt))
+    & went refl (accepted [] (body.Conflict A (uid 2) Read 1 ∷ []) [] refl (inl refl) refl refl (refl, tt))
+    & went refl (accepted (began C kind.Top 3 None ∷ []) [] [] refl refl refl refl tt)
+    & went refl (accepted (body.Aborted B cause.Asked ∷ []) [] [] (refl, tt) (inl refl) refl refl tt)
+    & went refl (accepted [] (ok A (Set 1) done ∷ []) [] refl (inl refl) refl refl (((refl, refl), at 0 refl refl), tt))
+    & went refl (accepted [] (body.Conflict C (uid 1) Write 1 ∷ []) [] refl (inl refl) refl refl (refl, tt))
     & tt) tt
 
 raise_conflicts : Runs (HasCauseConflict (one_node 0)) raise_events (lines_of raise)
@@ -290,12 +298,12 @@ refused =
 
 refused_follows : Follows (one_node 0) refused_events (lines_of refused ++ block 14 (body.Bad 20 ∷ []))
 refused_follows = runs (Step (one_node 0)) refused_events refused (block 14 (body.Bad 20 ∷ [])) (
-    inl refl & inl (accepted (began A kind.Top 1 None ∷ []) [] [] refl refl refl refl tt) & inl refl & inl refl & inl refl
-    & inl (accepted (body.Aborted A cause.Asked ∷ []) [] [] (refl, tt) (inl refl) refl refl tt) & inl refl & inl refl
-    & inl (accepted (began B kind.Top 2 None ∷ []) [] [] refl refl refl refl tt)
-    & inl (accepted [] (ok B (Set 7) done ∷ []) [] refl (inl refl) refl refl (((refl, refl), at 0 refl refl), tt))
-    & inl (accepted (body.Committing B ∷ []) (body.Halted 1 ∷ []) [] (inl refl) (inl refl) refl refl (refl, tt))
-    & inl refl & inl refl & inl refl & tt) (refl & refl)
+    went refl refl & went refl (accepted (began A kind.Top 1 None ∷ []) [] [] refl refl refl refl tt) & went refl refl & went refl refl & went refl refl
+    & went refl (accepted (body.Aborted A cause.Asked ∷ []) [] [] (refl, tt) (inl refl) refl refl tt) & went refl refl & went refl refl
+    & went refl (accepted (began B kind.Top 2 None ∷ []) [] [] refl refl refl refl tt)
+    & went refl (accepted [] (ok B (Set 7) done ∷ []) [] refl (inl refl) refl refl (((refl, refl), at 0 refl refl), tt))
+    & went refl (accepted (body.Committing B ∷ []) (body.Halted 1 ∷ []) [] (inl refl) (inl refl) refl refl (refl, tt))
+    & went refl refl & went refl refl & went refl refl & tt) (refl & refl)
 
 refused_prompt : Runs (Prompt (one_node 0)) refused_events (lines_of refused ++ block 14 (body.Bad 20 ∷ []))
 refused_prompt = runs (Prompt (one_node 0)) refused_events refused (block 14 (body.Bad 20 ∷ [])) (

@@ -13,6 +13,7 @@ use Rattle.arj_journal.specs.declared.body.Body.TheVariants as body
 use Rattle.arj_journal.specs.declared.body.Cause.TheVariants as cause
 use Rattle.arj_journal.specs.declared.body.FrameKind.TheVariants as frame
 use Rattle.arj_journal.specs.declared.body.Kind.TheVariants as kind
+use Rattle.arj_journal.specs.declared.body.Which.TheVariants as which
 use Rattle.arj_journal.specs.declared.event.Event.TheVariants as event
 use Rattle.arj_journal.specs.declared.event.FrameNo.TheVariants.{Number}
 use Rattle.arj_text.specs.Label.{name}
@@ -21,7 +22,7 @@ use Rattle.arj_model.specs.Actions.{acts, act_in}
 use Rattle.arj_model.specs.Past.{Past, nothing_yet, block}
 use Rattle.arj_model.specs.Refusals.{refusal}
 use Rattle.arj_model.specs.Own.{Begins, aborted_of, may_stand, halts_fit}
-use Rattle.arj_model.specs.Follows.{Accepted, AnswerFits, IsAnswerOf}
+use Rattle.arj_model.specs.Follows.{Step, Accepted, AnswerFits, IsAnswerOf}
 use Rattle.arj_model.specs.Causes.{is_full, is_late}
 use Rattle.arj_model.specs.Clean.{undecided, next_state}
 use Rattle.arj_model.proofs.Journals.{A, B, C, D, N, S, T, uid, began, counter, lines_of, one_node, three_nodes, nested_abort_bodies, stop_at_decision_done_bodies, to_prepares}
@@ -151,3 +152,7 @@ kind_causes :
     ∷ event.Restart 1 ∷ event.Tick 2 ∷ event.Show 9 ∷ event.Abort D ∷ [])
     ≡ Some 9 ∷ Some 9 ∷ Some 9 ∷ None ∷ Some 11 ∷ Some 10 ∷ None ∷ None ∷ Some 8 ∷ Some 3 ∷ Some 1 ∷ Some 13 ∷ None ∷ []
 kind_causes = refl
+
+-- Behind the limit of frames no event is run.
+no_event_behind : (bodies : List Body) → Step (one_node 0) (record begun { lines = begun.lines ++ block 2 (body.Limit which.Frames ∷ []) }) (event.Begin B 1) bodies → ⊥
+no_event_behind bodies s = let h : true ≡ false = s.goes_on in cc

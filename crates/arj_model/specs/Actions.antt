@@ -155,17 +155,19 @@ abbrev pub recovered_of : List Act → Body → Option Uid
 recovered_of acts (body.Recovered n u) = Some u
 recovered_of acts _ = None
 
--- the commits of a journal, its ends of any kind, its halts, and the Uids of the records that its restarts found, each
--- with its place
+-- the commits of a journal, each with its place
 abbrev pub committed : List Line → List (Placed ℕ)
 committed lines = read committed_of [] 0 lines
 
+-- its ends of any kind
 abbrev pub ended : List Line → List (Placed ℕ)
 ended lines = read ended_of [] 0 lines
 
+-- its halts
 abbrev pub halts : List Line → List (Placed Halt)
 halts lines = read halt_of [] 0 lines
 
+-- the Uids of the records that its restarts found
 abbrev pub recovered : List Line → List (Placed Uid)
 recovered lines = read recovered_of [] 0 lines
 

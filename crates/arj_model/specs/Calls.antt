@@ -43,10 +43,11 @@ abbrev pub committing_of : List Act → Body → Option (List Act)
 committing_of acts (body.Committing l) = Some (path acts (name l))
 committing_of acts _ = None
 
--- the answered calls of a journal, and the commits that were called, each with its place
+-- the answered calls of a journal, each with its place
 abbrev pub said : List Line → List (Placed Said)
 said lines = read said_of [] 0 lines
 
+-- the paths of the tops whose commits were called, each with the place of the call
 abbrev pub committings : List Line → List (Placed (List Act))
 committings lines = read committing_of [] 0 lines
 

@@ -6,7 +6,7 @@ use Rattle.arj_base.specs.declared.uid.Uid.{Uid}
 use Rattle.arj_base.specs.State.{state_bytes}
 use Rattle.arj_base.specs.Uid.{object, entry}
 use Rattle.arj_disk.specs.declared.slot.Role.TheVariants.{Store, Names}
-use Rattle.arj_disk.specs.Files.{FileMap}
+use Rattle.arj_disk.specs.FileMap.{FileMap}
 use Rattle.arj_disk.specs.Says.{held, InDoubt}
 use Rattle.arj_journal.specs.declared.body.Line.{Line}
 use Rattle.arj_journal.specs.declared.header.Header.{Header}

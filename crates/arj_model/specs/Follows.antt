@@ -1,7 +1,7 @@
 -- What it is for a journal to follow the events of a script: a refused event has the one line that says so, and an
 -- accepted one its own lines and between them those that may stand there, each answer to what was asked.
 use Rattle.std.specs.Prelude.{◌≡◌, ◌⊎◌, ℕ, ◌+◌, List, [], ◌∷◌, ◌++◌, length, Bool, true, false, Option, Some, None, is_some, nat_lt, MatchOption, ⊤}
-use Rattle.std.specs.List.{list_all}
+use Rattle.std.specs.List.{list_all, list_any}
 use Rattle.arj_class.specs.declared.op.Op.{Op}
 use Rattle.arj_class.specs.declared.value.Value.{Value}
 use Rattle.arj_class.specs.Table.{class_of, has_op, answer_of}
@@ -88,10 +88,19 @@ pub record IsRefusedDoomed (header : Header) (past : Past) (e : Event) (bodies :
   pub lowest : is_behind_doom (refusal header past e) ≡ true
   pub line : bodies ≡ body.Refused 12 ∷ []
 
--- what one event may write
-abbrev pub Step : Header → Past → Event → List Body → Type 0
-Step header past e bodies =
-    MatchOption (refusal header past e) (Accepted header past e bodies) (λ c. bodies ≡ body.Refused c ∷ []) ⊎ IsRefusedDoomed header past e bodies
+-- the line tells that the limit of frames was met
+abbrev pub is_frame_limit : Body → Bool
+is_frame_limit (body.Limit which.Frames) = true
+is_frame_limit _ = false
+
+-- such a line stands in the journal
+abbrev pub is_limited : List Line → Bool
+is_limited lines = list_any (λ line. is_frame_limit line.body) lines
+
+-- What one event may write. The run goes on until the limit of frames is met.
+pub record Step (header : Header) (past : Past) (e : Event) (bodies : List Body) : Type 0 where
+  pub goes_on : is_limited past.lines ≡ false
+  pub lines : MatchOption (refusal header past e) (Accepted header past e bodies) (λ c. bodies ≡ body.Refused c ∷ []) ⊎ IsRefusedDoomed header past e bodies
 
 -- The lines outside events stand behind all of them: the script line that isn't in the grammar, or a limit of lines or
 -- labels. The limit of frames is met by an event, and stands in it.

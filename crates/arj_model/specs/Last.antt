@@ -24,7 +24,7 @@ use Rattle.arj_model.specs.Serial.{Values, run, serial_calls, writes_on, arrange
 abbrev pub object_line : Header → ℕ → Option ObjectLine
 object_line header x = find (λ o. o.x == x) header.objects
 
--- its first value, its stores and its servers
+-- its first value
 abbrev pub value_of_line : Option ObjectLine → Value
 value_of_line None = Counter 0
 value_of_line (Some o) = o.value
@@ -33,10 +33,12 @@ value_of_line (Some o) = o.value
 abbrev pub first_values : Header → Values
 first_values header = λ x. value_of_line (object_line header x)
 
+-- its stores
 abbrev pub stores_of_line : Option ObjectLine → List ℕ
 stores_of_line None = []
 stores_of_line (Some o) = o.stores
 
+-- its servers
 abbrev pub servers_of_line : Option ObjectLine → List ℕ
 servers_of_line None = []
 servers_of_line (Some o) = o.servers
@@ -83,19 +85,21 @@ abbrev pub exclusion_by : ℕ → ℕ → Option Act → Option Exclusion
 exclusion_by x n None = None
 exclusion_by x n (Some top) = Some (record { top = top.id; x = x; node = n })
 
--- what an `excluded` line says, and an `includes` line
+-- what an `excluded` line says
 abbrev pub excluded_of : List Act → Body → Option Exclusion
 excluded_of acts (body.Excluded l x n) = exclusion_by x n (top_in (path acts (name l)))
 excluded_of acts _ = None
 
+-- what an `includes` line says
 abbrev pub included_of : List Act → Body → Option Inclusion
 included_of acts (body.Includes l x n) = Some (record { path = path acts (name l); x = x; node = n })
 included_of acts _ = None
 
--- the exclusions and the answered includes of a journal, each with its place
+-- the exclusions of a journal, each with its place
 abbrev pub excluded : List Line → List (Placed Exclusion)
 excluded lines = read excluded_of [] 0 lines
 
+-- its answered includes
 abbrev pub included : List Line → List (Placed Inclusion)
 included lines = read included_of [] 0 lines
 

@@ -28,19 +28,21 @@ use Rattle.arj_model.specs.Refusals.{holds_of, is_answer_to, next_uid, incarnati
 abbrev pub node_of : List Line → List ℕ → Option ℕ
 node_of lines l = option_map (λ a. a.uid.node) (act_in (acts lines) l)
 
--- the node that the frame with this number is for
+-- the node that a line says the frame with this number is for, or what was found before
 abbrev pub receiver_step : ℕ → Body → Option ℕ → Option ℕ
 receiver_step k (body.Sent j from to carried) found = if j == k then Some to else found
 receiver_step k _ found = found
 
+-- the same over lines
 abbrev pub receiver_from : ℕ → Option ℕ → List Line → Option ℕ
 receiver_from k found [] = found
 receiver_from k found (line ∷ lines) = receiver_from k (receiver_step k line.body found) lines
 
+-- the node that the frame with this number is for
 abbrev pub receiver : List Line → ℕ → Option ℕ
 receiver lines k = receiver_from k None lines
 
--- the node at which an event happens, where it happens at one
+-- the node that works on an event behind its own lines, where there is one alone
 abbrev pub node_of_event : List Line → Event → Option ℕ
 node_of_event lines (event.Call l x op) = node_of lines (name l)
 node_of_event lines (event.Include l x n) = node_of lines (name l)
@@ -64,6 +66,7 @@ aborted_by lines id [] = []
 aborted_by lines id (a ∷ older) =
     if not (is_over lines a) && list_any (λ b. b.id == id) (path_in older a) then a ∷ aborted_by lines id older else aborted_by lines id older
 
+-- the same of an action that may not be there
 abbrev pub aborted_of : List Line → Option Act → List Act
 aborted_of lines None = []
 aborted_of lines (Some a) = aborted_by lines a.id (acts lines)
@@ -80,11 +83,13 @@ pub record Doom : Type 0 where
   pub servers : List ℕ
   pub told : Bool
 
+-- An Invoke adds its server; an answer of the action begins anew, and one that tells of a loss at such a server tells of a doom.
 abbrev pub doom_step : ℕ → List ℕ → Body → Doom → Doom
 doom_step node l (body.Sent k from to frame.Invoke) d = if from == node then record d { servers = to ∷ d.servers } else d
 doom_step node l (body.Lost m n) d = if bytes_eq (name m) l then record { servers = []; told = d.told || is_among d.servers n } else d
 doom_step node l b d = if is_answer_to l b then record d { servers = [] } else d
 
+-- the same over lines
 abbrev pub doom_from : ℕ → List ℕ → Doom → List Line → Doom
 doom_from node l d [] = d
 doom_from node l d (line ∷ lines) = doom_from node l (doom_step node l line.body d) lines

@@ -40,6 +40,7 @@ abbrev pub down_from : ℕ → Bool → List Line → Bool
 down_from n down [] = down
 down_from n down (line ∷ lines) = down_from n (down_step n line.body down) lines
 
+-- whether the node is down after the journal
 abbrev pub is_down : List Line → ℕ → Bool
 is_down lines n = down_from n false lines
 
@@ -53,6 +54,7 @@ abbrev pub inc_from : ℕ → ℕ → List Line → ℕ
 inc_from n inc [] = inc
 inc_from n inc (line ∷ lines) = inc_from n (inc_step n line.body inc) lines
 
+-- the incarnation after the journal
 abbrev pub incarnation : List Line → ℕ → ℕ
 incarnation lines n = inc_from n 1 lines
 
@@ -96,10 +98,11 @@ last_asked [] = None
 last_asked (a ∷ []) = Some a.event
 last_asked (a ∷ b ∷ rest) = last_asked (b ∷ rest)
 
--- the accepted calls and includes of the action, and the lines that answer one
+-- the accepted calls and includes of the action
 abbrev pub asks_by : List Asked → List ℕ → List Asked
 asks_by accepted l = filter (λ a. is_ask_by l a.event) accepted
 
+-- the lines that answer one
 abbrev pub answers_to : List Line → List ℕ → List Line
 answers_to lines l = filter (λ line. is_answer_to l line.body) lines
 
@@ -216,23 +219,26 @@ abbrev pub has_all_actions : List Line → List ℕ → Bool
 has_all_actions lines l =
     nat_le most_actions (length (filter (λ a. is_root (root_in (path (acts lines) a.label)) (root_in (path (acts lines) l))) (acts lines)))
 
--- the frame's number stands in a `sent` line
+-- the line sends the frame with this number
 abbrev pub is_sent : ℕ → Body → Bool
 is_sent k (body.Sent j from to carried) = j == k
 is_sent k _ = false
 
+-- the frame was sent
 abbrev pub has_frame : List Line → ℕ → Bool
 has_frame lines k = list_any (λ line. is_sent k line.body) lines
 
--- the number of the last frame, 0 before the first
+-- the number of the frame that a line sends, or the last one before it
 abbrev pub frame_step : Body → ℕ → ℕ
 frame_step (body.Sent j from to carried) last = j
 frame_step _ last = last
 
+-- the same over lines
 abbrev pub frame_from : ℕ → List Line → ℕ
 frame_from last [] = last
 frame_from last (line ∷ lines) = frame_from (frame_step line.body last) lines
 
+-- the number of the last frame, 0 before the first
 abbrev pub last_frame : List Line → ℕ
 last_frame lines = frame_from 0 lines
 

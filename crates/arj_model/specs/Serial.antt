@@ -79,9 +79,10 @@ serial_calls lines = arrange (serial_less (tops lines)) (committed_calls lines)
 abbrev pub Serial : Values → List Line → Type 0
 Serial values lines = Answers values (serial_calls lines)
 
--- a call of object x, and one that writes it
+-- a call of object x
 abbrev pub touches : ℕ → Call → Bool
 touches x c = c.x == x
 
+-- a call that writes object x
 abbrev pub writes_on : ℕ → Call → Bool
 writes_on x c = (c.x == x) && writes c.op
