@@ -2,6 +2,7 @@ pub mod Bytes
 pub mod Changes
 pub mod Counting
 pub mod Ends
+pub mod Entries
 pub mod Few
 pub mod Files
 pub mod Finding

@@ -2,6 +2,7 @@ pub mod Effects
 pub mod Fault
 pub mod Kept
 pub mod KeepsOn
+pub mod Listed
 pub mod Named
 pub mod OfFiles
 pub mod Pair

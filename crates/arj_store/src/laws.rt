@@ -1,10 +1,11 @@
 // Laws of the pair.
-ghost use Rattle.std.specs.Prelude.{◌⊎◌, ◌≤◌, List, map, length, Contains};
+ghost use Rattle.std.specs.Prelude.{◌≡◌, ◌⊎◌, ◌≤◌, ℕ, List, map, length, Contains};
 ghost use Rattle.arj_base.specs.declared.state.ObjectState.{ObjectState};
 ghost use Rattle.arj_base.specs.declared.uid.Uid.{Uid};
 ghost use Rattle.arj_disk.specs.Formed.{AtMost};
 ghost use Rattle.arj_disk.specs.declared.limits.TheConstants.{MOST_KNOWN};
 ghost use Rattle.arj_store.specs.Effects.{DidPrepare, DidCommit, DidSome, DidAbort};
+ghost use Rattle.arj_store.specs.Listed.{IsListed};
 ghost use Rattle.arj_store.specs.Pair.{Pair, IsKnown, SamePair, Adds, Drops, Moves, MovesSome, Prepares, uid_of};
 
 use arj_disk::among_so_many;
@@ -31,3 +32,9 @@ pub fn known_objects()
 {
     among_so_many();
 }
+
+/// A pair as sorted lists, as an ordered map has its entries: they are determined by the pair. It does nothing when it runs.
+pub fn lists_are_determined()
+    ensures { (p q : Pair) (held held_too : List (Uid × List ℕ)) (pend pend_too : List (Uid × List (Uid × List ℕ)))
+        → SamePair p q → IsListed p held pend → IsListed q held_too pend_too → (held ≡ held_too) × (pend ≡ pend_too) }
+{}

@@ -8,9 +8,12 @@ ghost use Rattle.arj_disk.specs.Formed.{AtMost};
 ghost use Rattle.arj_disk.specs.declared.limits.TheConstants.{MOST_KNOWN, MOST_PREPARED};
 ghost use Rattle.arj_disk.specs.declared.slot.Role.{Role};
 ghost use Rattle.arj_store.specs.Effects.{DidCommit, DidSome};
-ghost use Rattle.arj_store.specs.Pair.{SamePair, AreClear, AreDistinct, IsKnown, uid_of};
+ghost use Rattle.arj_store.specs.Listed.{IsListed};
+ghost use Rattle.arj_store.specs.Pair.{Pair, SamePair, AreClear, AreDistinct, IsKnown, uid_of};
 
-use crate::{ObjectStore, States, StoreFault, calls_are_effects, known_objects};
+use crate::{
+    ObjectStore, States, StoreFault, calls_are_effects, known_objects, lists_are_determined,
+};
 use arj_base::Uid;
 use arj_disk::{Disk, Role, roles_apart};
 
@@ -74,4 +77,11 @@ pub fn commit_beside<S: ObjectStore, D: Disk>(
 {
     roles_apart();
     entries.commit(disk, act)
+}
+
+/// The committed states are listed in one way.
+pub fn listed_once()
+    ensures { (p : Pair) (held other : List (Uid × List ℕ)) (pend : List (Uid × List (Uid × List ℕ))) → IsListed p held pend → IsListed p other pend → held ≡ other }
+{
+    lists_are_determined();
 }
