@@ -1,12 +1,15 @@
 //! Work for the benches: without words it does nothing; with a number of rows and a number of requests it makes that many
-//! requests of a lock table with that many rows, and prints what they were answered.
+//! requests of a lock table with that many rows, and prints what they were answered. With `pass`, a number of locks and a
+//! number of passes, an action that is nested deep takes that many locks, and they pass that often to the parent.
 //!
 //! It stands on `arj_lock`. The time is taken from outside, by `bench/locks`.
 #![tactic(auto)]
 
 mod locks;
+mod passes;
 
 use locks::{Count, fill, request_all};
+use passes::{depth_of_holder, fill_deepest, pass_up};
 use std::process::ExitCode;
 use std::{env, io};
 
@@ -27,6 +30,12 @@ fn run(rt: &HostRuntime) -> io::Result<bool> {
     let Some(requests) = words.next() else {
         return Ok(false);
     };
+    if rows.as_str() == "pass" {
+        let Some(passes) = words.next() else {
+            return Ok(false);
+        };
+        return pass(rt, requests.as_str(), passes.as_str());
+    }
     let (Ok(rows), Ok(requests)) = (
         rows.as_str().parse::<u16>(),
         requests.as_str().parse::<u32>(),
@@ -39,5 +48,20 @@ fn run(rt: &HostRuntime) -> io::Result<bool> {
     let mut table = fill(rt.alloc(), rows)?;
     let Count { granted, refused } = request_all(&mut table, rows, requests)?;
     println!(rt; "{rows} rows, {requests} requests: {granted} granted, {refused} refused")?;
+    Ok(true)
+}
+
+// Lets locks pass, as the words ask, and answers whether they are right.
+fn pass(rt: &HostRuntime, locks: &str, passes: &str) -> io::Result<bool> {
+    let (Ok(locks), Ok(passes)) = (locks.parse::<u16>(), passes.parse::<u8>()) else {
+        return Ok(false);
+    };
+    let Some(mut table) = fill_deepest(rt.alloc(), locks)? else {
+        return Ok(false);
+    };
+    pass_up(&mut table, passes);
+    let first = depth_of_holder(&table, 1);
+    let last = depth_of_holder(&table, locks);
+    println!(rt; "{locks} locks, {passes} passes: to depth {first} and {last}")?;
     Ok(true)
 }

@@ -4,6 +4,7 @@ pub mod Exclusion
 pub mod Grants
 pub mod Handed
 pub mod Holders
+pub mod Indexed
 pub mod Leaves
 pub mod Locks
 pub mod Members

@@ -88,7 +88,7 @@ strong_mode r None = refl
 strong_mode r (Some p) = refl
 
 -- a row of the list passes a test
-has : (p : Row → Bool) (r : Row) (rows : List Row) → In r rows → p r ≡ true → list_any p rows ≡ true
+pub has : (p : Row → Bool) (r : Row) (rows : List Row) → In r rows → p r ≡ true → list_any p rows ≡ true
 has p r [] i e = absurd i
 has p r (row ∷ rows) (inl is) e = ap (λ b. b || list_any p rows) (ap p is ∙ e)
 has p r (row ∷ rows) (inr i) e = by (p row) (has p r rows i e)
@@ -97,7 +97,7 @@ has p r (row ∷ rows) (inr i) e = by (p row) (has p r rows i e)
     by true ih = refl
     by false ih = ih
 
-which : (p : Row → Bool) (rows : List Row) → list_any p rows ≡ true → (r : Row) × In r rows × (p r ≡ true)
+pub which : (p : Row → Bool) (rows : List Row) → list_any p rows ≡ true → (r : Row) × In r rows × (p r ≡ true)
 which p [] e = cc
 which p (row ∷ rows) e = by (p row) refl e (which p rows)
   where

@@ -1,5 +1,6 @@
 pub mod Exclusion
 pub mod Held
+pub mod Index
 pub mod Locks
 pub mod Passing
 pub mod Removal

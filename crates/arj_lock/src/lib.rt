@@ -1,13 +1,16 @@
 //! The lock table of a node: which action holds which object in which mode, under nested atomic actions (after Moss).
 //!
 //! It stands on `arj_base`, whose `specs/Rows.antt` says what a lock table is: a list of rows in order of granting, and
-//! what each step makes of it. What it gives upward: a `LockTable` is that list, and each call is its step; and two laws
-//! of the steps: `rows_exclude`, for which there are locks, that no two rows of one object conflict unless one holder is
-//! on the other's path, and `rows_are_one_each`, that no action has two rows of one object.
+//! what each step makes of it. What it gives upward: a `LockTable` is that list, and each call is its step; and laws of
+//! the steps. `rows_stay_apart`, for which there are locks: two rows of one object that conflict have related holders,
+//! over whatever relation "it is or stands above it" the caller gives; `rows_exclude`, the same by paths that agree;
+//! `rows_are_one_each`: no action has two rows of one object; and in `effects` what each step leaves of the modes, by object
+//! and holder, of who has a row, and of each row.
 #![tactic(auto)]
 
 mod effects;
 mod fault;
+mod index;
 mod laws;
 mod lock;
 mod meet;

@@ -17,6 +17,7 @@ impl Lock {
     ghost use Rattle.arj_lock.specs.Locks.{shown};
 
     /// Whether this action itself holds it.
+    #[inline(always)]
     pub fn is_held_by(&self, action: Uid) -> bool
         ensures { result ≡ is_held_by action (shown self.now) }
     {
@@ -24,6 +25,7 @@ impl Lock {
     }
 
     /// Whether it is this action's own on this object.
+    #[inline(always)]
     pub fn is_of(&self, object: Uid, action: Uid) -> bool
         ensures { result ≡ is_row_of object action (shown self.now) }
     {
@@ -31,6 +33,7 @@ impl Lock {
     }
 
     /// Whether it stands against a request.
+    #[inline(always)]
     pub fn is_against(&self, path: &Path, object: Uid, mode: Mode) -> bool
         ensures { result ≡ is_against (uids_of path.now) object mode (shown self.now) }
     {

@@ -17,12 +17,16 @@ pub enum Met {
 }
 
 /// Looks over the locks once.
+#[inline(always)]
 pub fn meet(locks: &[Lock], path: &Path, object: Uid, mode: Mode) -> Met
     ensures { IsMet (uids_of path.now) object mode (rows_of locks.now) result }
 {
     let action = path.last();
     let mut own = None;
     for (i, lock) in locks.iter().enumerate() {
+        if lock.object != object {
+            continue;
+        }
         if lock.is_against(path, object, mode) {
             return Met::Against {
                 holder: lock.path.last(),

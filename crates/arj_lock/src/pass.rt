@@ -4,14 +4,16 @@ ghost use Rattle.std.specs.List.{list_any};
 ghost use Rattle.std.specs.Option.{option_map};
 ghost use Rattle.arj_base.specs.Rows.{has_row, is_held_by, is_row_of, pass_rows};
 ghost use Rattle.arj_lock.specs.Exclusion.{IsOneEach};
+ghost use Rattle.arj_lock.specs.Index.{HasOwn, HasMet};
 ghost use Rattle.arj_lock.specs.Locks.{shown, rows_of};
 ghost use Rattle.arj_lock.specs.Passing.{raised, IsHandedOn, IsHandedUp};
 
+use crate::index::{Index, index, passed_lock};
 use crate::lock::Lock;
 use arj_base::{Mode, Uid};
 
 /// The lock in the hands of the holder's parent, if it has one.
-fn handed_up(lock: &Lock) -> Option<Lock>
+pub fn handed_up(lock: &Lock) -> Option<Lock>
     ensures { IsHandedUp (shown lock.now) (option_map shown result) }
 {
     let path = lock.path.parent_path()?;
@@ -84,14 +86,44 @@ fn pass_at(locks: &mut Vec<Lock>, at: usize, action: Uid) -> usize
     at
 }
 
-/// Passes an action's locks to its parent.
+// Passes an action's locks one after another, each by a look over all.
+fn pass_each(locks: &mut Vec<Lock>, action: Uid)
+    requires { IsOneEach (rows_of locks.old.items) }
+    ensures { rows_of locks.new.items ≡ pass_rows action (rows_of locks.old.items) }
+{
+    let mut at = 0;
+    while at < locks.len() {
+        at = pass_at(locks, at, action);
+    }
+}
+
+// Passes an action's locks in one look over all.
+fn pass_all(locks: &mut Vec<Lock>, action: Uid, own: &Index, met: &Index)
+    requires one_each { IsOneEach (rows_of locks.old.items) }
+    requires own { HasOwn action (rows_of locks.old.items) own.now }
+    requires met { HasMet action (rows_of locks.old.items) met.now }
+    ensures { rows_of locks.new.items ≡ pass_rows action (rows_of locks.old.items) }
+{
+    let mut kept = 0;
+    for i in 0..locks.len() {
+        let lock = locks[i];
+        if let Some(next) = passed_lock(&lock, action, own, met) {
+            locks[kept] = next;
+            kept += 1;
+        }
+    }
+    locks.truncate(kept);
+}
+
+/// Passes an action's locks to its parent. Where there is memory for an index of them, one look over all locks does it.
 pub fn pass(locks: &mut Vec<Lock>, action: Uid)
     requires { IsOneEach (rows_of locks.old.items) }
     ensures rows { rows_of locks.new.items ≡ pass_rows action (rows_of locks.old.items) }
     ensures one_each { IsOneEach (rows_of locks.new.items) }
 {
-    let mut at = 0;
-    while at < locks.len() {
-        at = pass_at(locks, at, action);
+    let alloc = *locks.allocator();
+    match index(alloc, locks.as_slice(), action) {
+        Ok((own, met)) => pass_all(locks, action, &own, &met),
+        Err(_) => pass_each(locks, action),
     }
 }

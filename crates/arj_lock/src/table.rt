@@ -76,8 +76,8 @@ impl LockTable {
     }
 
     /// Passes an action's locks to its parent, or a constituent's to its serializing action, each in its place. A lock
-    /// that the parent has already takes the stronger mode. The locks of an action without a parent go. It takes no
-    /// memory.
+    /// that the parent has already takes the stronger mode. The locks of an action without a parent go. Where there is
+    /// memory for an index of the action's locks, one look over all does it; it never fails for want of memory.
     pub fn pass_to_parent(&mut self, action: Uid)
         ensures { self.new ≡ pass_rows action self.old }
     {

@@ -3,7 +3,7 @@ use Rattle.std.specs.List.{list_any}
 use Rattle.arj_base.specs.Rows.{is_held_by, pass_rows}
 use Rattle.arj_lock.specs.Exclusion.{IsOneEach}
 use Rattle.arj_lock.specs.Locks.{rows_of}
-use Rattle.arj_lock.proofs.pass.pass.Given as goal
+use Rattle.arj_lock.proofs.pass.pass_each.Given as goal
 
 -- a pass of what there is gives the same as one of the whole, and the rows so far have passed
 abbrev pub invariant-loop-at : goal.invariant-loop-at
