@@ -17,6 +17,7 @@ pub mod Locks
 pub mod Mail
 pub mod NamingResults
 pub mod Opening
+pub mod Orders
 pub mod Plain
 pub mod Restarts
 pub mod Results
@@ -25,3 +26,4 @@ pub mod Retaining
 pub mod Stages
 pub mod Stores
 pub mod Taking
+pub mod Views

@@ -6,6 +6,8 @@ pub mod Messages
 pub mod Named
 pub mod Names
 pub mod NamingLaws
+pub mod Order
 pub mod Samples
+pub mod Several
 pub mod State
 pub mod Words

@@ -12,6 +12,7 @@
 mod disks;
 mod naming;
 mod samples;
+mod several;
 
 pub use disks::{
     disks_are_clean, disks_stay_whole, outcomes_are_one, stores_are_excluded_in_time,
@@ -19,3 +20,4 @@ pub use disks::{
 };
 pub use naming::{confirmations_are_booked, naming_stays_whole};
 pub use samples::guards_can_be_met;
+pub use several::{orders_give_one_end, views_stay_whole};

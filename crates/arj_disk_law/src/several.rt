@@ -1,0 +1,16 @@
+// Laws of several objects, and of the order of decisions.
+ghost use Rattle.arj_disk_law.specs.Order.{OrdersAgree};
+ghost use Rattle.arj_disk_law.specs.Several.{EachStaysWhole, ViewsFollow};
+
+/// An effect on all objects is, in the view of each, an effect on that object or nothing; so one that is allowed in each
+/// view keeps each view whole. It does nothing when it runs.
+pub fn views_stay_whole()
+    ensures views { ViewsFollow }
+    ensures each { EachStaysWhole }
+{}
+
+/// The last state and entry are also those of another order of the decided tops, as the serial order: where the tops that
+/// count stand in the order of their decisions, and each other one is idle in its place. It does nothing when it runs.
+pub fn orders_give_one_end()
+    ensures order { OrdersAgree }
+{}
