@@ -41,8 +41,13 @@ abbrev pub last_or : {A : Type 0} → Option A → List A → Option A
 last_or before [] = before
 last_or before (a ∷ rest) = last_or (Some a) rest
 
+-- what a disk tells of its arms: how many came, and the last of them
+pub record Arms : Type 0 where
+  pub number : ℕ
+  pub last : Option (ℕ × Outcome)
+
 -- Over a run the arms of node n's disk rise by the number of its `armed` lines, and its last arm is that of the last such
 -- event.
-pub record ArmsFit (n : ℕ) (accepted : List Asked) (lines : List Line) (arms_before arms_after : ℕ) (last_before last_after : Option (ℕ × Outcome)) : Type 0 where
-  pub number : arms_after ≡ arms_before + count_armed lines n
-  pub last : last_after ≡ last_or last_before (arms_at n accepted)
+pub record ArmsFit (n : ℕ) (accepted : List Asked) (lines : List Line) (before after : Arms) : Type 0 where
+  pub number : after.number ≡ before.number + count_armed lines n
+  pub last : after.last ≡ last_or before.last (arms_at n accepted)
