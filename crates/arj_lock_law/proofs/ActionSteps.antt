@@ -90,7 +90,8 @@ module _ (s : State) (a : Act) (x : Action) (p : ℕ) (cs : List Call) (ms : Lis
       wrote = λ y g is l w. w;
       anchored = anchored;
       same_recorded = λ y is e f z. refl;
-      doubt = λ b l d current. settled fresh never (d (record { present = current.present; unrecorded = current.unrecorded; untold = current.untold; last = current.last }));
+      current = λ b l current. record { present = current.present; unrecorded = current.unrecorded; untold = current.untold; last = current.last };
+      settled = λ e d. settled fresh never d;
       stays = λ y b k h e alive one v up o row merged. stands h up o row (λ u q f. (ends_on u (merged u q f)).0);
       confirmed = λ y e. inl e;
       yes = λ y b e f. inl f;

@@ -233,7 +233,8 @@ keep s m b guard h = (later, join h later naming (λ j e. inl e) h.servers (λ c
       wrote = λ y g is l w. w;
       anchored = anchored;
       same_recorded = λ y is e f a. refl;
-      doubt = λ j l d current. settled (d (record { present = current.present; unrecorded = current.unrecorded; untold = current.untold; last = current.last }));
+      current = λ j l current. record { present = current.present; unrecorded = current.unrecorded; untold = current.untold; last = current.last };
+      settled = λ e d. settled d;
       stays = λ a j k z e alive one v up' o row merged. stands z up' o row merged;
       confirmed = λ y e. inl e;
       yes = λ y j e f. inl f;
@@ -311,7 +312,8 @@ name_binding s b i guard h = (later, join h later naming bindings h.servers (λ 
       wrote = λ y g is l w. w;
       anchored = anchored;
       same_recorded = λ y is e f a. refl;
-      doubt = λ j l d. doubts j d;
+      current = λ j l current. subst (λ (y : Act). IsCurrent s.naming y j) (still j).1 (record { present = current.present; unrecorded = current.unrecorded; untold = current.untold; last = current.last });
+      settled = λ e d. d;
       stays = λ a j k z e alive one v up o row merged. stands z
           (subst (λ (y : Binding). ((s.server y.server).incarnation ≡ y.incarnation) × ((s.server y.server).active ≡ j)) (sym (other j e)) up) o
           (subst (λ (y : Binding). k ≤ (s.server y.server).rows z) (sym (other j e)) row) merged;
@@ -391,7 +393,8 @@ included s a g p guard h = (later, join h later naming (λ j e. inl e) h.servers
       wrote = λ y k is l w. w;
       anchored = anchored;
       same_recorded = λ y is e f b. refl;
-      doubt = λ j l d current. d (record { present = current.present; unrecorded = current.unrecorded; untold = current.untold; last = current.last });
+      current = λ j l current. record { present = current.present; unrecorded = current.unrecorded; untold = current.untold; last = current.last };
+      settled = λ e d. d;
       stays = λ b j k z e alive one v up o row merged. stands z up o row merged;
       confirmed = λ y e. inl e;
       yes = λ y j e f. inl f;

@@ -45,16 +45,16 @@ module _ {s : State} (h : Holds s) (r : Answer) (i : In (Invoked r) s.net) (pend
   b : ℕ
   b = s.kept (root r.request.act)
 
-  mean : Mean s (Invoked r)
+  pub mean : Mean s (Invoked r)
   mean = h.mail (Invoked r) i
 
-  act : is_action r.request.act ≡ true
+  pub act : is_action r.request.act ≡ true
   act = mean.0.0
 
-  wait : WaitHolds s r.request.act
+  pub wait : WaitHolds s r.request.act
   wait = h.waits r.request.act pending.waits pending.alive pending.going
 
-  binding : r.request.binding ≡ s.kept (root r.request.act)
+  pub binding : r.request.binding ≡ s.kept (root r.request.act)
   binding = mean.0.3 pending
 
   named : (s.binding (s.kept (root r.request.act))).named ≡ true
@@ -69,27 +69,27 @@ module _ {s : State} (h : Holds s) (r : Answer) (i : In (Invoked r) s.net) (pend
   opened : GoesOn s (root (top r.request.act)) × IsUp s (s.kept (root (top r.request.act))) × (s.naming.first ≤ s.kept (root (top r.request.act)))
   opened = open_good h (top r.request.act) (top_is r.request.act act) (wait.path (top r.request.act) (on_top r.request.act) (top_acts r.request.act act)) (let p = bound.positive in let e = same_kept in omega (arith, p, e)) good
 
-  up : IsUp s (s.kept (root r.request.act))
+  pub up : IsUp s (s.kept (root r.request.act))
   up = subst (λ (j : ℕ). IsUp s j) same_kept opened.1
 
-  present : s.naming.first ≤ s.kept (root r.request.act)
+  pub present : s.naming.first ≤ s.kept (root r.request.act)
   present = let l = opened.2 in let e = same_kept in omega (arith, l, e)
 
-  recorded : s.naming.recorded ≡ s.kept (root r.request.act)
+  pub recorded : s.naming.recorded ≡ s.kept (root r.request.act)
   recorded = (wait.sure.here opened.2 opened.0).0 ∙ same_kept
 
-  covers : Covers s r.request.act (s.kept (root r.request.act)) (mode r.request.write)
+  pub covers : Covers s r.request.act (s.kept (root r.request.act)) (mode r.request.write)
   covers = subst (λ (j : ℕ). Covers s r.request.act j (mode r.request.write)) binding (mean.2 pending).0
 
   -- a row covers what is under the kept binding, as long as the copy is up
-  row_of : (x : Act) (k : ℕ) → Alive s x → GoesOn s (root x) → Covers s x (s.kept (root r.request.act)) k → (y : Act) × (on x y ≡ true) × (k ≤ (server_of s (s.kept (root r.request.act))).rows y) × Merged s x y
+  pub row_of : (x : Act) (k : ℕ) → Alive s x → GoesOn s (root x) → Covers s x (s.kept (root r.request.act)) k → (y : Act) × (on x y ≡ true) × (k ≤ (server_of s (s.kept (root r.request.act))).rows y) × Merged s x y
   row_of x k alive goes (gone p) = absurd (up_not_past s (s.kept (root r.request.act)) up p)
   row_of x k alive goes (over l) = absurd (let g = goes in omega (arith, g, l))
   row_of x k alive goes (dropped u o l) = absurd (let g = alive u o in omega (arith, g, l))
   row_of x k alive goes (stands y u o row merged) = (y, o, row, merged)
 
   -- two conflicting rows at the copy are of kin
-  rows_kin : (v w : Bool) (x y : Act) → Conflict v w → mode v ≤ (server_of s (s.kept (root r.request.act))).rows x → mode w ≤ (server_of s (s.kept (root r.request.act))).rows y → (on x y ≡ true) ⊎ (on y x ≡ true)
+  pub rows_kin : (v w : Bool) (x y : Act) → Conflict v w → mode v ≤ (server_of s (s.kept (root r.request.act))).rows x → mode w ≤ (server_of s (s.kept (root r.request.act))).rows y → (on x y ≡ true) ⊎ (on y x ≡ true)
   rows_kin v w x y (inl e) rx ry = h.servers (s.binding (s.kept (root r.request.act))).server x y (let q : mode v ≡ 2 = ap mode e in omega (arith, rx, q)) (let q = one_mode w in omega (arith, ry, q))
     where
       one_mode : (z : Bool) → 1 ≤ mode z

@@ -5,7 +5,7 @@ use Rattle.arj_lock_law.specs.Rows.{mode, Apart}
 use Rattle.arj_lock_law.specs.State.{Action, Server, Call, Include, Request, Message, Live, Made, Granted, Activate, Activated, Recorded, Invoke, Invoked, Refused, Changed, Vote, Confirm, State, Alive, Passed, Covered}
 use Rattle.arj_lock_law.proofs.Paths.{top_root, top_is, on_top}
 use Rattle.arj_lock_law.proofs.Claims.{server_of, IsUp, Reached, Covers, Good, Pending, Conflict, Order, Asked, Mean, NamingHolds, NamedHolds, CallHolds, IncludeHolds, TopHolds, WaitHolds, Waits, Anti, Before, Turns, Member, Follows, Counts, Holds}
-use Rattle.arj_lock_law.proofs.Later.{Later, alive_back, passed_on, done_on, before_on, covered_back, first_rises, same_server, reached_on, reached_lasts, up_back, covers_on, mode_positive, sure_on, entered_on, good_back}
+use Rattle.arj_lock_law.proofs.Later.{doubt_on, Later, alive_back, passed_on, done_on, before_on, covered_back, first_rises, same_server, reached_on, reached_lasts, up_back, covers_on, mode_positive, sure_on, entered_on, good_back}
 
 -- a top with a call is an action with the root of the call
 pub call_top : (a : Act) → is_action a ≡ true → is_top (top a) ≡ true
@@ -73,10 +73,10 @@ module _ {s t : State} (h : Holds s) (later : Later s t) where
   mean_on (Granted m g) p = (p.0, (let l = p.1 in let k = first_rises later in omega (arith, l, k)), later.wrote m g p.0 p.1 p.2)
   mean_on (Activate b v) p =
       let same = (later.made b p.1).1 in
-      (p.0, (let l = p.1 in let k = later.bound in omega (arith, l, k)), subst (λ (m : Act). b ≤ t.kept (root m)) (sym same) (let l = p.2 in let k = later.kept (root (s.binding b).maker) in omega (arith, l, k)), ap is_top same ∙ p.3, later.doubt b p.1 p.4)
+      (p.0, (let l = p.1 in let k = later.bound in omega (arith, l, k)), subst (λ (m : Act). b ≤ t.kept (root m)) (sym same) (let l = p.2 in let k = later.kept (root (s.binding b).maker) in omega (arith, l, k)), ap is_top same ∙ p.3, doubt_on later b p.1 p.4)
   mean_on (Activated b i) p =
       let same = (later.made b p.1).1 in
-      (p.0, (let l = p.1 in let k = later.bound in omega (arith, l, k)), subst (λ (m : Act). b ≤ t.kept (root m)) (sym same) (let l = p.2 in let k = later.kept (root (s.binding b).maker) in omega (arith, l, k)), ap is_top same ∙ p.3, subst (λ (n : ℕ). Reached (t.server n) i b) (sym (later.made b p.1).0) (reached_on later (s.binding b).server i b p.4), later.doubt b p.1 p.5)
+      (p.0, (let l = p.1 in let k = later.bound in omega (arith, l, k)), subst (λ (m : Act). b ≤ t.kept (root m)) (sym same) (let l = p.2 in let k = later.kept (root (s.binding b).maker) in omega (arith, l, k)), ap is_top same ∙ p.3, subst (λ (n : ℕ). Reached (t.server n) i b) (sym (later.made b p.1).0) (reached_on later (s.binding b).server i b p.4), doubt_on later b p.1 p.5)
   mean_on (Recorded b) p = ((later.named b p.0).0, (let l = p.1 in let k = later.recorded in omega (arith, l, k)))
   mean_on (Invoke q) p = asked_on q p
   mean_on (Invoked r) p = (asked_on r.request p.0, (let l = p.1 in let k = later.now in omega (arith, l, k)), now)
@@ -173,7 +173,7 @@ module _ {s t : State} (h : Holds s) (later : Later s t) where
     kept = subst (λ (m : Act). b ≤ t.kept (root m)) (sym same) (let l = old.kept in let k = later.kept (root (s.binding b).maker) in omega (arith, l, k));
     maker = ap is_top same ∙ old.maker;
     reached = reached_lasts later b named old.below old.reached;
-    doubtless = later.doubt b old.below old.doubtless;
+    doubtless = doubt_on later b old.below old.doubtless;
   }
     where
       old : NamedHolds s b

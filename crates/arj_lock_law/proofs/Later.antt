@@ -4,6 +4,7 @@ use Rattle.arj_lock_law.specs.Actions.{Act, Root, Sub, on, root, top, is_top, is
 use Rattle.arj_lock_law.specs.Rows.{mode}
 use Rattle.arj_lock_law.specs.State.{Server, Call, Include, State, Alive, Merged, Passed, Covered}
 use Rattle.arj_lock_law.proofs.Claims.{server_of, IsUp, Reached, IsPast, GoesOn, Covers, gone, over, dropped, stands, Anchor, Sure, Good, Own, Wrote, Entered, Doubtless, Pending, NamedHolds, Done, Before, Member}
+use Rattle.arj_lock_law.specs.Steps.{IsCurrent, NobodyInDoubt}
 
 pub record ServerLater (v w : Server) : Type 0 where
   pub rises : v.incarnation ≤ w.incarnation
@@ -37,7 +38,8 @@ pub record Later (s t : State) : Type 0 where
   pub wrote : (m : Act) (g : ℕ) → is_top m ≡ true → g ≤ s.naming.first → Wrote s m g → Wrote t m g
   pub anchored : (k : ℕ) (m : Act) → is_top m ≡ true → 1 ≤ k → k ≤ 2 → t.naming.first ≡ s.naming.first → (t.action m).stage ≤ 3 → GoesOn t (root m) → ((s.action m).stage ≡ 3 → s.naming.confirmed m ≡ true) → Anchor s k m → Anchor t k m
   pub same_recorded : (m : Act) → is_top m ≡ true → t.naming.first ≡ s.naming.first → s.naming.recorded ≡ s.kept (root m) → Anchor s 1 m → t.naming.recorded ≡ s.naming.recorded
-  pub doubt : (b : ℕ) → b < s.naming.bound → Doubtless s b → Doubtless t b
+  pub current : (b : ℕ) → b < s.naming.bound → IsCurrent t.naming (t.binding b).maker b → IsCurrent s.naming (s.binding b).maker b
+  pub settled : t.naming.first ≡ s.naming.first → NobodyInDoubt s → NobodyInDoubt t
   pub stays : (a : Act) (b k : ℕ) (h : Act) → (s.binding b).named ≡ true → Alive t a → 1 ≤ k → ((s.action (top a)).stage ≡ 3 → IsUp s b → (server_of s b).voted (top a) ≡ true) → IsUp s b → on a h ≡ true → k ≤ (server_of s b).rows h → Merged s a h → Covers t a b k
   pub confirmed : (m : Act) → s.naming.confirmed m ≡ true → (t.naming.confirmed m ≡ true) ⊎ ((s.naming.bound ≤ t.naming.first) × (s.naming.first < t.naming.first))
   pub yes : (m : Act) (b : ℕ) → (s.binding b).named ≡ true → t.yes m ≡ b → (s.yes m ≡ b) ⊎ IsUp s b
@@ -87,6 +89,10 @@ module _ {s t : State} (later : Later s t) where
 
   pub first_rises : s.naming.first ≤ t.naming.first
   first_rises = elim later.first [ inl e ↦ omega (arith, e) | inr p ↦ (let l = p.1 in omega (arith, l)) ]
+
+  -- nothing of a current binding is in doubt
+  pub doubt_on : (b : ℕ) → b < s.naming.bound → Doubtless s b → Doubtless t b
+  doubt_on b l d current = elim later.first [ inl e ↦ later.settled e (d (later.current b l current)) | inr crash ↦ absurd (let g = crash.0 in let p = current.present in omega (arith, g, p, l)) ]
 
   -- Copies.
 

@@ -14,3 +14,14 @@ pub mod Order
 pub mod AnswerStep
 pub mod Roots
 pub mod Ordered
+pub mod ValueClaims
+pub mod ValueLasts
+pub mod ValueJoin
+pub mod ValueSteps
+pub mod ValueActions
+pub mod ValueCalls
+pub mod ValueLogs
+pub mod ValueServers
+pub mod ValueMore
+pub mod ValueAnswer
+pub mod ValueRun

@@ -85,7 +85,8 @@ bind_new s m b k guard h = (later, join h later naming bindings h.servers (λ c 
       wrote = λ y g is l w present untold. let p = w present untold in ((let l0 = p.0 in let r = rise y in omega (arith, l0, r)), p.1);
       anchored = λ k' y is one two e alive goes conf a. anchored k' y a;
       same_recorded = λ y is e f a. refl;
-      doubt = λ j l d current. d (before j l (other j l) current);
+      current = λ j l current. before j l (other j l) current;
+      settled = λ e d. d;
       stays = λ a j k' z e alive one v up o row merged. stands z
           (up_same j (named_below j e) (λ (y : Binding). ((s.server y.server).incarnation ≡ y.incarnation) × ((s.server y.server).active ≡ j)) up) o
           (up_same j (named_below j e) (λ (y : Binding). k' ≤ (s.server y.server).rows z) row) merged;
@@ -215,7 +216,7 @@ record_binding s b guard h = (later, join_naming s n ms h later naming mail)
         (λ x g is l w present untold. holding 2 x (omega arith) (omega arith) (w present untold))
         anchored
         (λ x is e f a. absurd (let r : s.kept (root m) ≡ s.kept (root x) = ap s.kept (anchor_root x a) in let q = bound.kept in let l = guard.1.unrecorded in omega (arith, f, r, q, l)))
-        (λ j l d current. d (record { present = current.present; unrecorded = (let u = current.unrecorded in let q = guard.1.unrecorded in omega (arith, u, q)); untold = current.untold; last = current.last }))
+        (λ j l current. (record { present = current.present; unrecorded = (let u = current.unrecorded in let q = guard.1.unrecorded in omega (arith, u, q)); untold = current.untold; last = current.last }))
         (λ x e. inl e)
 
     naming : NamingHolds t
@@ -302,7 +303,8 @@ confirm_top s m q guard h = (later, join h later naming (λ b e. inl e) h.server
       wrote = λ x g is l w. w;
       anchored = λ k x is one two e alive goes conf a. anchored k x a;
       same_recorded = λ x is e f a. refl;
-      doubt = λ b l d current. settled (d (record { present = current.present; unrecorded = current.unrecorded; untold = current.untold; last = current.last }));
+      current = λ b l current. record { present = current.present; unrecorded = current.unrecorded; untold = current.untold; last = current.last };
+      settled = λ e d. settled d;
       stays = λ a b k z e alive one v up o row merged. stands z up o row merged;
       confirmed = λ x e. inl (conf_more x e);
       yes = λ x b e f. inl f;

@@ -4,10 +4,10 @@ use Rattle.arj_lock_law.specs.Actions.{Act, Root, Sub, on, root, is_top, is_acti
 use Rattle.arj_lock_law.specs.Rows.{Rows, Apart}
 use Rattle.arj_lock_law.specs.State.{Naming, Server, Message, Live, Granted, State}
 use Rattle.arj_lock_law.proofs.Paths.{by_cases, differ, on_root}
-use Rattle.arj_lock_law.proofs.Claims.{GoesOn, stands, HoldsTop, Anchor, Own, Wrote, Doubtless, Mean, NamingHolds, Holds}
+use Rattle.arj_lock_law.proofs.Claims.{GoesOn, stands, HoldsTop, Anchor, Own, Wrote, Mean, NamingHolds, Holds}
 use Rattle.arj_lock_law.proofs.Later.{Later, ServerLater}
 use Rattle.arj_lock_law.specs.Rows.{raise, pass, drop_below}
-use Rattle.arj_lock_law.specs.Steps.{IsGone, CrashNaming, BindLive, Grant, PassEntry, DropEntry}
+use Rattle.arj_lock_law.specs.Steps.{IsCurrent, IsGone, CrashNaming, BindLive, Grant, PassEntry, DropEntry}
 use Rattle.arj_lock_law.specs.Machine.{Guard, next}
 use Rattle.std.proofs.Common.{ℕ, cond, max}
 use Rattle.arj_lock_law.specs.Actions.{same, at_act}
@@ -31,10 +31,10 @@ module _ (s : State) (n : Naming) (ms : List Message) where
       → ((m : Act) (g : ℕ) → is_top m ≡ true → g ≤ s.naming.first → Wrote s m g → Wrote (record s { naming = n; net = ms }) m g)
       → ((k : ℕ) (m : Act) → is_top m ≡ true → 1 ≤ k → k ≤ 2 → n.first ≡ s.naming.first → (s.action m).stage ≤ 3 → GoesOn s (root m) → ((s.action m).stage ≡ 3 → s.naming.confirmed m ≡ true) → Anchor s k m → Anchor (record s { naming = n; net = ms }) k m)
       → ((m : Act) → is_top m ≡ true → n.first ≡ s.naming.first → s.naming.recorded ≡ s.kept (root m) → Anchor s 1 m → n.recorded ≡ s.naming.recorded)
-      → ((b : ℕ) → b < s.naming.bound → Doubtless s b → Doubtless (record s { naming = n; net = ms }) b)
+      → ((b : ℕ) → b < s.naming.bound → IsCurrent n (s.binding b).maker b → IsCurrent s.naming (s.binding b).maker b)
       → ((m : Act) → s.naming.confirmed m ≡ true → (n.confirmed m ≡ true) ⊎ ((s.naming.bound ≤ n.first) × (s.naming.first < n.first)))
       → Later s (record s { naming = n; net = ms })
-  later_naming first recorded bound own' wrote anchored same_recorded doubt confirmed = record {
+  later_naming first recorded bound own' wrote anchored same_recorded current' confirmed = record {
     now = omega arith;
     first = first;
     recorded = recorded;
@@ -61,7 +61,8 @@ module _ (s : State) (n : Naming) (ms : List Message) where
     wrote = wrote;
     anchored = anchored;
     same_recorded = same_recorded;
-    doubt = doubt;
+    current = current';
+    settled = λ e d c i w alive conf two. let l = d c i w alive conf two in omega (arith, l, e);
     stays = λ a b k h e alive one v up o row merged. stands h up o row merged;
     confirmed = confirmed;
     yes = λ m b e f. inl f;
@@ -88,7 +89,7 @@ module _ (s : State) (rows : Rows) (asked : Act → Bool) (ms : List Message) (r
       (λ m g is l w present untold. holds_more 2 m (w present untold))
       anchored
       (λ m is e f a. refl)
-      (λ b l d current. d (record { present = current.present; unrecorded = current.unrecorded; untold = current.untold; last = current.last }))
+      (λ b l current. (record { present = current.present; unrecorded = current.unrecorded; untold = current.untold; last = current.last }))
       (λ m e. inl e)
     where
       anchored : (k : ℕ) (m : Act) → is_top m ≡ true → 1 ≤ k → k ≤ 2 → s.naming.first ≡ s.naming.first → (s.action m).stage ≤ 3 → GoesOn s (root m) → ((s.action m).stage ≡ 3 → s.naming.confirmed m ≡ true) → Anchor s k m → Anchor (record s { naming = record s.naming { rows = rows; asked = asked }; net = ms }) k m
@@ -134,7 +135,7 @@ crash_naming s g guard h = (later, join_naming s n s.net h later naming (λ m i.
         (λ m f is l w present untold. absurd (let k = up in omega (arith, k, l, present)))
         (λ k m is one two e alive goes conf a. absurd (let l = up in omega (arith, l, e)))
         (λ m is e f a. refl)
-        (λ b l d current. absurd (let k = low in let p = current.present in omega (arith, k, l, p)))
+        (λ b l current. absurd (let k = low in let p = current.present in omega (arith, k, l, p)))
         (λ m e. inr guard)
 
     naming : NamingHolds (record s { naming = n; net = s.net })
@@ -244,7 +245,7 @@ pass_entry s u j guard h = (later, join_naming s n s.net h later naming (λ x i.
         (λ m g is l w present untold. let q = apart m is untold in keeps_holding 2 m is (w present q.1) q.0)
         anchored
         (λ m is e f a. refl)
-        (λ b l d current. d (record { present = current.present; unrecorded = current.unrecorded; untold = untold_before (s.binding b).maker current.untold; last = current.last }))
+        (λ b l current. (record { present = current.present; unrecorded = current.unrecorded; untold = untold_before (s.binding b).maker current.untold; last = current.last }))
         (λ m e. inl e)
       where
         untold_before : (m : Act) → told m ≡ false → s.naming.told m ≡ false
@@ -317,7 +318,7 @@ drop_entry s a guard h = (later, join_naming s n s.net h later naming (λ x i. i
         (λ m g is l w present untold. let q = untold_is m untold in keeps_holding 2 m (w present q.1) q.0)
         anchored
         (λ m is e f x. refl)
-        (λ b l d current. d (record { present = current.present; unrecorded = current.unrecorded; untold = (untold_is (s.binding b).maker current.untold).1; last = current.last }))
+        (λ b l current. (record { present = current.present; unrecorded = current.unrecorded; untold = (untold_is (s.binding b).maker current.untold).1; last = current.last }))
         (λ m e. inl e)
 
     naming : NamingHolds (record s { naming = n; net = s.net })

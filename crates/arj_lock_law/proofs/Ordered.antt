@@ -47,7 +47,7 @@ module _ {s : State} (h : Holds s) (low : RootsLow s) where
       by (inr f) = elim (h.turns m (top c.act) is (top_is c.act (h.calls c i).acts) (r ∙ sym (top_root c.act)) (λ e. differ (subst (λ (x : Act). same m x ≡ true) e (same_self m)) f) (let e = three in (omega (arith, e), omega (arith, e))) (let e = three' in (omega (arith, e), omega (arith, e))))
           [ inl d ↦ inr (let l = d.1 in let o = (h.tops m is).ordered three in omega (arith, l, o)) | inr d ↦ inl (sym r, inr (d.0, d.1)) ]
 
-  good_last : (d : Call) → In d s.calls → Survives s d.act → Good s (top d.act)
+  pub good_last : (d : Call) → In d s.calls → Survives s d.act → Good s (top d.act)
   good_last d i survives = good_top d (top d.act) i survives (top_is d.act (h.calls d i).acts) (committed_top d i survives) (own_covered d.act)
 
   pub is_nested : IsNested s

@@ -80,7 +80,8 @@ module _ (s : State) (n : ℕ) (v : Server) (ys vs : Act → ℕ) (ms : List Mes
     wrote = λ x g is l w. w;
     anchored = anchored;
     same_recorded = λ x is e f a. refl;
-    doubt = λ b l d current. d (record { present = current.present; unrecorded = current.unrecorded; untold = current.untold; last = current.last });
+    current = λ b l current. record { present = current.present; unrecorded = current.unrecorded; untold = current.untold; last = current.last };
+    settled = λ e d. d;
     stays = λ a b k h e alive one voted up o row merged. stay a b k h alive one voted up o row merged (by_cases ((s.binding b).server == n));
     confirmed = λ x e. inl e;
     yes = votes;
@@ -116,7 +117,7 @@ module _ (s : State) (n : ℕ) (v : Server) (ms : List Message) where
 -- Nothing but a message changes.
 pub later_send : (s : State) (ms : List Message) → Later s (record s { net = ms })
 later_send s ms = later_naming s s.naming ms (inl refl) (omega arith) (omega arith) (λ m b is l o. o) (λ m g is l w. w) anchored (λ m is e f a. refl)
-    (λ b l d current. d (record { present = current.present; unrecorded = current.unrecorded; untold = current.untold; last = current.last })) (λ m e. inl e)
+    (λ b l current. record { present = current.present; unrecorded = current.unrecorded; untold = current.untold; last = current.last }) (λ m e. inl e)
   where
     anchored : (k : ℕ) (x : Act) → is_top x ≡ true → 1 ≤ k → k ≤ 2 → s.naming.first ≡ s.naming.first → (s.action x).stage ≤ 3 → GoesOn s (root x) → ((s.action x).stage ≡ 3 → s.naming.confirmed x ≡ true) → Anchor s k x → Anchor (record s { net = ms }) k x
     anchored k x is one two e alive goes conf (own p) = own p

@@ -1,9 +1,9 @@
 -- What every run of the lock machine keeps.
-use Rattle.std.proofs.Common.{◌≡◌, ◌≢◌, ◌≤◌, ◌<◌, ◌⊎◌, true}
+use Rattle.std.proofs.Common.{◌≡◌, ◌≢◌, ◌≤◌, ◌<◌, ◌⊎◌, List, [], ◌∷◌, true}
 use Rattle.arj_lock_law.specs.Actions.{Act, on, root, top, is_top, In}
 use Rattle.arj_lock_law.specs.Rows.{mode}
 use Rattle.arj_lock_law.specs.State.{Call, Include, State, Passed, Covered}
-use Rattle.arj_lock_law.specs.Steps.{Survives}
+use Rattle.arj_lock_law.specs.Steps.{Survives, IsLast}
 
 abbrev pub IsCommitted : State → Act → Type 0
 IsCommitted s m = (is_top m ≡ true) × ((s.action m).stage ≡ 3)
@@ -45,3 +45,9 @@ IsEntryWritten s c = (h : Act) × (root h ≡ root c.act) × (2 ≤ s.naming.row
 -- The call counts for the top's commit: it is the top's own, or its top was committed before that commit was called.
 abbrev pub CountsFor : State → Act → Act → Type 0
 CountsFor s m a = IsCommitted s m × Covered s m a
+
+-- The calls, newest first: each surviving one met the value that the newest surviving write before it left, or the first
+-- value where there is none.
+abbrev pub SawTheLast : State → List Call → Type 0
+SawTheLast s [] = Unit {0}
+SawTheLast s (d ∷ cs) = (Survives s d.act → IsLast s d.sees cs) × SawTheLast s cs

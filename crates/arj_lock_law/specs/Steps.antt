@@ -54,14 +54,18 @@ abbrev pub held_value : Act → ℕ → List Entry → ℕ
 held_value a base [] = base
 held_value a base (e ∷ es) = cond (same e.holder a) e.gives (held_value a base es)
 
--- The newest surviving write of a committed top, and before any the first value.
+-- All actions of the path are committed, the top too.
 abbrev pub Survives : State → Act → Type 0
 Survives s a = (u : Act) → on a u ≡ true → is_action u ≡ true → (s.action u).stage ≡ 3
 
-pub data IsLast (s : State) (v : ℕ) : List Call → Type 0 where
-  first : s.initial ≡ v → IsLast s v []
-  newest : (c : Call) {cs : List Call} → c.write ≡ true → Survives s c.act → c.gives ≡ v → IsLast s v (c ∷ cs)
-  older : (c : Call) {cs : List Call} → (c.write ≡ true → Survives s c.act → ⊥) → IsLast s v cs → IsLast s v (c ∷ cs)
+-- The value of the newest write, by an action that counts, among the calls (newest first); the first value where there is none.
+pub data Newest (first : ℕ) (Counts : Act → Type 0) (v : ℕ) : List Call → Type 0 where
+  none : first ≡ v → Newest first Counts v []
+  newest : (c : Call) {cs : List Call} → c.write ≡ true → Counts c.act → c.gives ≡ v → Newest first Counts v (c ∷ cs)
+  older : (c : Call) {cs : List Call} → (c.write ≡ true → Counts c.act → ⊥) → Newest first Counts v cs → Newest first Counts v (c ∷ cs)
+
+abbrev pub IsLast : State → ℕ → List Call → Type 0
+IsLast s v cs = Newest s.initial (Survives s) v cs
 
 -- No top with a surviving write is confirmed and unreported, but by a binding of naming's present incarnation.
 abbrev pub NobodyInDoubt : State → Type 0
