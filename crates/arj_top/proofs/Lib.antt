@@ -1,7 +1,7 @@
 pub mod BuiltForms
 pub mod Bytes
 pub mod Cuts
-pub mod Ends
+pub mod Finish
 pub mod Places
 pub mod Quiet
 pub mod Stages

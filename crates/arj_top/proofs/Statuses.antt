@@ -1,27 +1,21 @@
--- What each status shows.
-use Rattle.std.proofs.Common.{◌⊎◌, ◌≡◌, ◌≢◌, inl, inr, ℕ, ◌≤◌, ◌<◌, List, [], ◌++◌, length, take, Option, Some, None, refl, sym, ◌∙◌, ap, arith}
-use Rattle.std.proofs.lemmas.List.{append-nil}
+-- The status of an end, and what a run leaves when its last line is put.
+use Rattle.std.proofs.Common.{◌⊎◌, ◌≡◌, ◌≢◌, inl, inr, ℕ, ◌≤◌, List, ◌++◌, Option, None, refl, sym, ◌∙◌, ap, subst, arith}
 use Rattle.std.proofs.lemmas.Bool.{cases_lt}
 use Rattle.std.proofs.Math.Logic.{⊎_elim}
-use Rattle.arj_base.specs.Count.{Rose}
-use Rattle.arj_disk.specs.Files.{FileMap}
-use Rattle.arj_engine.specs.declared.engine.Engine.{Engine}
-use Rattle.arj_io.specs.Told.{Takes, Gives}
-use Rattle.arj_journal.specs.declared.body.Body.{Body}
 use Rattle.arj_journal.specs.declared.body.Line.{Line}
 use Rattle.arj_journal.specs.LineText.{text}
-use Rattle.arj_script.specs.Input.{Stopped, lines_of}
 use Rattle.arj_top.specs.declared.ending.End.{End}
 use Rattle.arj_top.specs.declared.ending.End.TheVariants as ending
-use Rattle.arj_top.specs.Input.{Came}
-use Rattle.arj_top.specs.Outcome.{Headline, Shown}
-use Rattle.arj_top.specs.Running.{Reached, ReachedFormat, Shows, ShowsFront, Wrote, last_body, last_lines, status_of, events_run}
-use Rattle.arj_top.proofs.Ends.{shows_of, front_of, front_last, stage_facts}
-use Rattle.arj_top.proofs.Whole.{wrote_more, wrote_front, wrote_whole, whole_front}
+use Rattle.arj_top.specs.Outcome.{Script, RunEnds, RunStops, answer}
+use Rattle.arj_top.specs.Outside.{DiskView, TouchesFirstAlone}
+use Rattle.arj_top.specs.Running.{Hand, Reached, ReachedFormat, Gathers, hand, last_body, last_lines, status_of, why_of, events_run}
+use Rattle.arj_top.proofs.Finish.{Closed, closed, stops_at}
+use Rattle.arj_top.proofs.Stages.{alone_none}
+use Rattle.arj_top.proofs.Whole.{gathers_more}
 
 pub status_fits : (end : End) → (status_of end ≤ 7) × (status_of end ≢ 1)
 status_fits ending.Whole = (omega arith, λ e. absurd (omega (arith, e)))
-status_fits ending.Bad = (omega arith, λ e. absurd (omega (arith, e)))
+status_fits (ending.Bad w) = (omega arith, λ e. absurd (omega (arith, e)))
 status_fits ending.Fault = (omega arith, λ e. absurd (omega (arith, e)))
 status_fits ending.Write = (omega arith, λ e. absurd (omega (arith, e)))
 status_fits ending.Memory = (omega arith, λ e. absurd (omega (arith, e)))
@@ -29,159 +23,129 @@ status_fits ending.Lines = (omega arith, λ e. absurd (omega (arith, e)))
 status_fits ending.Labels = (omega arith, λ e. absurd (omega (arith, e)))
 status_fits ending.Format = (omega arith, λ e. absurd (omega (arith, e)))
 
--- the end of a status that has one end
-pub is_write : (end : End) → status_of end ≡ 4 → end ≡ ending.Write
-is_write ending.Write e = refl
+-- only a failed write has status 4
+is_write : (end : End) → status_of end ≡ 4 → end ≡ ending.Write
 is_write ending.Whole e = absurd (omega (arith, e))
-is_write ending.Bad e = absurd (omega (arith, e))
+is_write (ending.Bad w) e = absurd (omega (arith, e))
 is_write ending.Fault e = absurd (omega (arith, e))
+is_write ending.Write e = refl
 is_write ending.Memory e = absurd (omega (arith, e))
 is_write ending.Lines e = absurd (omega (arith, e))
 is_write ending.Labels e = absurd (omega (arith, e))
 is_write ending.Format e = absurd (omega (arith, e))
 
-pub is_memory : (end : End) → status_of end ≡ 5 → end ≡ ending.Memory
-is_memory ending.Memory e = refl
-is_memory ending.Whole e = absurd (omega (arith, e))
-is_memory ending.Bad e = absurd (omega (arith, e))
-is_memory ending.Fault e = absurd (omega (arith, e))
-is_memory ending.Write e = absurd (omega (arith, e))
-is_memory ending.Lines e = absurd (omega (arith, e))
-is_memory ending.Labels e = absurd (omega (arith, e))
-is_memory ending.Format e = absurd (omega (arith, e))
-
+-- only the stop of a format has status 7
 pub is_format : (end : End) → status_of end ≡ 7 → end ≡ ending.Format
 is_format ending.Format e = refl
 is_format ending.Whole e = absurd (omega (arith, e))
-is_format ending.Bad e = absurd (omega (arith, e))
+is_format (ending.Bad w) e = absurd (omega (arith, e))
 is_format ending.Fault e = absurd (omega (arith, e))
 is_format ending.Write e = absurd (omega (arith, e))
 is_format ending.Memory e = absurd (omega (arith, e))
 is_format ending.Lines e = absurd (omega (arith, e))
 is_format ending.Labels e = absurd (omega (arith, e))
 
--- an end that writes a line is none of these
-pub record WritesLast (end : End) : Type 0 where
+-- an end that is none of these
+pub record IsOther (end : End) : Type 0 where
   pub write : end ≢ ending.Write
   pub memory : end ≢ ending.Memory
   pub format : end ≢ ending.Format
 
-none_some : {A : Type 0} (a : A) → None ≡ Some a → ⊥
-none_some a e = cc
+end_kinds : (end : End) → (end ≡ ending.Format) ⊎ ((end ≡ ending.Memory) ⊎ ((end ≡ ending.Write) ⊎ IsOther end))
+end_kinds ending.Format = inl refl
+end_kinds ending.Memory = inr (inl refl)
+end_kinds ending.Write = inr (inr (inl refl))
+end_kinds ending.Whole = inr (inr (inr (record { write = λ n. (let never : ending.Whole ≡ ending.Write = n in cc); memory = λ n. (let never : ending.Whole ≡ ending.Memory = n in cc); format = λ n. (let never : ending.Whole ≡ ending.Format = n in cc) })))
+end_kinds (ending.Bad w) = inr (inr (inr (record { write = λ n. (let never : (ending.Bad w) ≡ ending.Write = n in cc); memory = λ n. (let never : (ending.Bad w) ≡ ending.Memory = n in cc); format = λ n. (let never : (ending.Bad w) ≡ ending.Format = n in cc) })))
+end_kinds ending.Fault = inr (inr (inr (record { write = λ n. (let never : ending.Fault ≡ ending.Write = n in cc); memory = λ n. (let never : ending.Fault ≡ ending.Memory = n in cc); format = λ n. (let never : ending.Fault ≡ ending.Format = n in cc) })))
+end_kinds ending.Lines = inr (inr (inr (record { write = λ n. (let never : ending.Lines ≡ ending.Write = n in cc); memory = λ n. (let never : ending.Lines ≡ ending.Memory = n in cc); format = λ n. (let never : ending.Lines ≡ ending.Format = n in cc) })))
+end_kinds ending.Labels = inr (inr (inr (record { write = λ n. (let never : ending.Labels ≡ ending.Write = n in cc); memory = λ n. (let never : ending.Labels ≡ ending.Memory = n in cc); format = λ n. (let never : ending.Labels ≡ ending.Format = n in cc) })))
 
-pub writes_last : (end : End) (count : ℕ) (b : Body) → last_body end count ≡ Some b → WritesLast end
-writes_last ending.Bad count b e = record { write = λ n. (let never : ending.Bad ≡ ending.Write = n in cc); memory = λ n. (let never : ending.Bad ≡ ending.Memory = n in cc); format = λ n. (let never : ending.Bad ≡ ending.Format = n in cc) }
-writes_last ending.Lines count b e = record { write = λ n. (let never : ending.Lines ≡ ending.Write = n in cc); memory = λ n. (let never : ending.Lines ≡ ending.Memory = n in cc); format = λ n. (let never : ending.Lines ≡ ending.Format = n in cc) }
-writes_last ending.Labels count b e = record { write = λ n. (let never : ending.Labels ≡ ending.Write = n in cc); memory = λ n. (let never : ending.Labels ≡ ending.Memory = n in cc); format = λ n. (let never : ending.Labels ≡ ending.Format = n in cc) }
-writes_last ending.Whole count b e = absurd (none_some b e)
-writes_last ending.Fault count b e = absurd (none_some b e)
-writes_last ending.Write count b e = absurd (none_some b e)
-writes_last ending.Memory count b e = absurd (none_some b e)
-writes_last ending.Format count b e = absurd (none_some b e)
+-- what a run has come to before its last line is put, by its end
+pub record Comes {D : Type 0} (view : DiskView D) (given : Script) (first rack : List D) (at : Hand) (end : End) : Type 0 where
+  pub write : end ≢ ending.Write
+  pub reached : end ≢ ending.Write → end ≢ ending.Memory → end ≢ ending.Format → Reached view first rack given at end
+  pub format : end ≡ ending.Format → ReachedFormat view first given at.journal
+  pub touches : TouchesFirstAlone view first rack
 
--- an end without a line
-pub shows_none : {D : Type 0} (file : D → FileMap) (stops arms : D → ℕ) (first rack : List D) (stopped : Stopped) (lines : List (List ℕ)) (engine : Option Engine) (count : ℕ) (journal : List Line) (end : End) (t u : Option (List ℕ))
-    → last_body end count ≡ None
-    → (end ≢ ending.Write → end ≢ ending.Memory → end ≢ ending.Format → Reached file stops arms first rack stopped lines engine count journal end)
-    → (end ≡ ending.Format → ReachedFormat file stops arms first stopped lines journal)
-    → (end ≢ ending.Write → end ≢ ending.Memory → Wrote [] journal t u)
-    → status_of end ≢ 4 → status_of end ≢ 5 → Shows file stops arms stopped lines t u first rack journal (status_of end)
-shows_none file stops arms first rack stopped lines engine count journal ending.Whole t u none reached format wrote four five =
-    let w : ending.Whole ≢ ending.Write = λ n. cc in
-    let m : ending.Whole ≢ ending.Memory = λ n. cc in
-    let f : ending.Whole ≢ ending.Format = λ n. cc in
-    shows_of file stops arms first rack rack stopped lines engine count journal journal ending.Whole t u (reached w m f) (inr refl) (sym (append-nil journal)) (wrote_whole journal t u (wrote w m))
-shows_none file stops arms first rack stopped lines engine count journal ending.Fault t u none reached format wrote four five =
-    let w : ending.Fault ≢ ending.Write = λ n. cc in
-    let m : ending.Fault ≢ ending.Memory = λ n. cc in
-    let f : ending.Fault ≢ ending.Format = λ n. cc in
-    shows_of file stops arms first rack rack stopped lines engine count journal journal ending.Fault t u (reached w m f) (inr refl) (sym (append-nil journal)) (wrote_whole journal t u (wrote w m))
-shows_none file stops arms first rack stopped lines engine count journal ending.Format t u none reached format wrote four five =
-    let w : ending.Format ≢ ending.Write = λ n. cc in
-    let m : ending.Format ≢ ending.Memory = λ n. cc in
-    let at = format refl in
-    shows_of file stops arms first first rack stopped lines None at.count journal journal ending.Format t u at.reached (inl (refl, refl)) (sym (append-nil journal)) (wrote_whole journal t u (wrote w m))
-shows_none file stops arms first rack stopped lines engine count journal ending.Write t u none reached format wrote four five = absurd (four refl)
-shows_none file stops arms first rack stopped lines engine count journal ending.Memory t u none reached format wrote four five = absurd (five refl)
-shows_none file stops arms first rack stopped lines engine count journal ending.Bad t u none reached format wrote four five = absurd (none_some _ (sym none))
-shows_none file stops arms first rack stopped lines engine count journal ending.Lines t u none reached format wrote four five = absurd (none_some _ (sym none))
-shows_none file stops arms first rack stopped lines engine count journal ending.Labels t u none reached format wrote four five = absurd (none_some _ (sym none))
+-- the line outside events
+abbrev LastOf : End → Hand → List Line
+LastOf end at = last_lines (last_body end at.count) (events_run at.engine)
 
--- an end with a line
-pub shows_some : {D : Type 0} (file : D → FileMap) (stops arms : D → ℕ) (first rack : List D) (stopped : Stopped) (lines : List (List ℕ)) (engine : Option Engine) (count : ℕ) (journal after_journal : List Line) (end : End) (b : Body) (t u v : Option (List ℕ))
-    → Some b ≡ last_body end count → Reached file stops arms first rack stopped lines engine count journal end → Wrote [] journal t u
-    → after_journal ≡ journal ++ last_lines (Some b) (events_run engine) → Takes u (text (last_lines (Some b) (events_run engine))) v
-    → Shows file stops arms stopped lines t v first rack after_journal (status_of end)
-shows_some file stops arms first rack stopped lines engine count journal after_journal end b t u v body reached wrote put more =
-    let last = last_lines (Some b) (events_run engine) in
-    shows_of file stops arms first rack rack stopped lines engine count journal after_journal end t v reached (inr refl) (put ∙ ap (λ found. journal ++ last_lines found (events_run engine)) body)
-    (wrote_whole after_journal t v (wrote_more [] journal after_journal t u v wrote (last, put, more)))
+format_last : (end : End) (at other : Hand) → end ≡ ending.Format → LastOf end at ≡ LastOf end other
+format_last ending.Format at other is = refl
+format_last ending.Whole at other is = refl
+format_last (ending.Bad w) at other is = absurd (let never : (ending.Bad w) ≡ ending.Format = is in cc)
+format_last ending.Fault at other is = refl
+format_last ending.Write at other is = refl
+format_last ending.Memory at other is = refl
+format_last ending.Lines at other is = absurd (let never : ending.Lines ≡ ending.Format = is in cc)
+format_last ending.Labels at other is = absurd (let never : ending.Labels ≡ ending.Format = is in cc)
 
--- where its text wasn't all taken
-pub front_some : {D : Type 0} (file : D → FileMap) (stops arms : D → ℕ) (first rack : List D) (stopped : Stopped) (lines : List (List ℕ)) (engine : Option Engine) (count : ℕ) (journal after_journal : List Line) (end : End) (b : Body) (size : ℕ) (t u v : Option (List ℕ))
-    → Some b ≡ last_body end count → Reached file stops arms first rack stopped lines engine count journal end → Wrote [] journal t u
-    → after_journal ≡ journal ++ last_lines (Some b) (events_run engine) → Takes u (take size (text (last_lines (Some b) (events_run engine)))) v
-    → ShowsFront lines t v 4
-front_some file stops arms first rack stopped lines engine count journal after_journal end b size t u v body reached wrote put more =
-    let last = last_lines (Some b) (events_run engine) in
-    let front = wrote_front journal after_journal t u v wrote (last, size, put, more) in
-    front_last file stops arms first rack stopped lines engine count journal after_journal end front.0 t v 4 reached (put ∙ ap (λ found. journal ++ last_lines found (events_run engine)) body) front.1 (λ e. absurd (omega (arith, e)))
+closed_by : {D : Type 0} (view : DiskView D) (given : Script) (first rack : List D) (at : Hand) (end : End) (journal : List Line) → Comes view given first rack at end → end ≢ ending.Memory
+    → journal ≡ at.journal ++ LastOf end at → Closed view given first rack journal end
+closed_by view given first rack at end journal c memory is =
+    ⊎_elim
+    (λ stopped.
+    let f = c.format stopped in
+    let bare : Hand = hand None f.count at.journal in
+    closed view first first rack given bare journal end (subst (λ e. Reached view first first given bare e) (sym stopped) f.reached) (inl (stopped, refl, c.touches))
+    (is ∙ ap (λ ls. at.journal ++ ls) (format_last end at bare stopped)))
+    (λ rest. ⊎_elim
+    (λ wanting. absurd (memory wanting))
+    (λ more. ⊎_elim
+    (λ failed. absurd (c.write failed))
+    (λ other. closed view first rack rack given at journal end (c.reached other.write other.memory other.format) (inr refl) is)
+    more)
+    rest)
+    (end_kinds end)
 
-pub front_reached : {D : Type 0} (file : D → FileMap) (stops arms : D → ℕ) (first rack : List D) (stopped : Stopped) (lines : List (List ℕ)) (engine : Option Engine) (count : ℕ) (journal : List Line) (end : End) (t u : Option (List ℕ))
-    → Reached file stops arms first rack stopped lines engine count journal end → Wrote [] journal t u → ShowsFront lines t u 5
-front_reached file stops arms first rack stopped lines engine count journal end t u reached wrote =
-    front_of file stops arms first rack lines reached.done reached.rest reached.place engine count journal (length (text journal)) t u 5 reached.whole reached.stage (whole_front journal t u wrote) (λ _. refl)
+-- a run whose last line was put, if it has one
+pub closes : {D : Type 0} (view : DiskView D) (given : Script) (first rack : List D) (at : Hand) (end : End) (journal : List Line) (waiting after : List ℕ) (status : ℕ) (t u : Option (List ℕ))
+    → Comes view given first rack at end → (end ≢ ending.Write → end ≢ ending.Memory → Gathers at.journal waiting t u)
+    → (status ≢ 5 → (status ≡ status_of end) × (journal ≡ at.journal ++ LastOf end at) × (after ≡ waiting ++ text (LastOf end at)))
+    → status ≢ 5
+    → RunEnds view given first rack (answer status (why_of end) journal) × RunStops view given first rack journal 4 × Gathers journal after t u
+closes view given first rack at end journal waiting after status t u c gathers put five =
+    let p = put five in
+    let memory : end ≢ ending.Memory = λ m. five (p.0 ∙ ap status_of m) in
+    let made = closed_by view given first rack at end journal c memory p.1 in (
+      subst (λ n. RunEnds view given first rack (answer n (why_of end) journal)) (sym p.0) made.ends,
+      made.stops,
+      subst (λ js. Gathers js after t u) (sym p.1) (gathers_more at.journal (LastOf end at) waiting after t u p.2 (gathers c.write memory)),
+    )
 
--- nothing was written before the line `run`
-pub format_empty : {D : Type 0} (file : D → FileMap) (stops arms : D → ℕ) (first : List D) (stopped : Stopped) (lines : List (List ℕ)) (journal : List Line) → ReachedFormat file stops arms first stopped lines journal → journal ≡ []
-format_empty file stops arms first stopped lines journal at =
-    let s = at.reached.stage in
-    s.journal_is ∙ (stage_facts file stops arms first first s.header s.forms at.reached.place s.past None s.moments s.engine_is).nothing refl
+-- a run whose last line wasn't put for want of memory, or that had met it before
+pub wants : {D : Type 0} (view : DiskView D) (given : Script) (first rack : List D) (at : Hand) (end : End) (waiting after : List ℕ) (t u : Option (List ℕ))
+    → Comes view given first rack at end → (end ≢ ending.Write → end ≢ ending.Memory → Gathers at.journal waiting t u)
+    → (end ≡ ending.Memory → (shown : List Line) × RunStops view given first rack shown 5 × Gathers shown waiting t u)
+    → after ≡ waiting
+    → (shown : List Line) × RunStops view given first rack shown 5 × Gathers shown after t u
+wants view given first rack at end waiting after t u c gathers memory same =
+    ⊎_elim
+    (λ stopped.
+    let f = c.format stopped in
+    let r = f.reached in (
+      at.journal,
+      stops_at view first first rack given r.done r.rest r.place (hand None f.count at.journal) 5 (inr refl) r.whole r.stage c.touches,
+      subst (λ w. Gathers at.journal w t u) (sym same) (gathers c.write (λ m. (let never : ending.Format ≡ ending.Memory = sym stopped ∙ m in cc))),
+    ))
+    (λ rest. ⊎_elim
+    (λ wanting. (let m = memory wanting in (m.0, m.1, subst (λ w. Gathers m.0 w t u) (sym same) m.2)))
+    (λ more. ⊎_elim
+    (λ failed. absurd (c.write failed))
+    (λ other.
+    let r = c.reached other.write other.memory other.format in
+    (at.journal, stops_at view first rack rack given r.done r.rest r.place at 5 (inr refl) r.whole r.stage (alone_none view rack), subst (λ w. Gathers at.journal w t u) (sym same) (gathers other.write other.memory)))
+    more)
+    rest)
+    (end_kinds end)
 
--- a count that rose later
-pub rose_later : (a b c : ℕ) → a ≤ b → b ≤ c → Rose b c → Rose a c
-rose_later a b c first later rose small = ⊎_elim (λ less. (let more : b < c = rose less in omega (arith, more, first))) (λ most. omega (arith, most, later, small)) (cases_lt b 18446744073709551615)
+pub is_5 : (n : ℕ) → (n ≡ 5) ⊎ (n ≢ 5)
+is_5 n = ⊎_elim (λ less. inr (λ e. absurd (omega (arith, less, e)))) (λ most. ⊎_elim (λ more. inr (λ e. absurd (omega (arith, more, e)))) (λ least. inl (omega (arith, most, least))) (cases_lt 5 n)) (cases_lt n 5)
 
--- the headline, from what came and what its lines show
-pub headline_of : {D : Type 0} (file : D → FileMap) (stops arms : D → ℕ) (left_before left_after : Option (List ℕ)) (faults_before faults_after : ℕ) (came : List ℕ) (stopped : Stopped) (t u : Option (List ℕ)) (first rack : List D) (journal : List Line) (status : ℕ)
-    → Came left_before left_after faults_before faults_after came stopped → Shows file stops arms stopped (lines_of stopped came) t u first rack journal status
-    → Headline file stops arms left_before left_after faults_before faults_after t u first rack journal status
-headline_of file stops arms left_before left_after faults_before faults_after came stopped t u first rack journal status reads s = record {
-  came = came;
-  stopped = stopped;
-  forms = s.forms;
-  place = s.place;
-  header = s.header;
-  past = s.past;
-  ending = s.ending;
-  reads = reads;
-  was_run = s.was_run;
-  is_header = s.is_header;
-  moments = s.moments;
-  journal_is = s.journal_is;
-  ended = s.ended;
-  facts = s.facts;
-  wrote = s.wrote;
-  untouched = s.untouched;
-  disks = s.disks;
-}
-
-pub shown_of : (left_before left_after : Option (List ℕ)) (faults_before faults_after : ℕ) (t u : Option (List ℕ)) (came : List ℕ) (stopped : Stopped) (status : ℕ) → Gives left_before came left_after
-    → (s : ShowsFront (lines_of stopped came) t u status) → (s.forms ≡ []) ⊎ Came left_before left_after faults_before faults_after came stopped
-    → Shown left_before left_after faults_before faults_after t u status
-shown_of left_before left_after faults_before faults_after t u came stopped status given s reads = record {
-  came = came;
-  stopped = stopped;
-  forms = s.forms;
-  place = s.place;
-  header = s.header;
-  journal = s.journal;
-  count = s.count;
-  given = given;
-  reads = reads;
-  was_run = s.was_run;
-  is_header = s.is_header;
-  facts = s.facts;
-  wrote = s.wrote;
-  whole = s.whole;
-}
+-- so a run that goes on to its close has another
+pub not_4 : (end : End) (status : ℕ) → end ≢ ending.Write → status ≡ 4 → (status ≢ 5 → status ≡ status_of end) → ⊥
+not_4 end status write four same =
+    let is : status_of end ≡ 4 = sym (same (λ e. absurd (omega (arith, e, four)))) ∙ four in
+    write (is_write end is)

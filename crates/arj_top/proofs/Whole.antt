@@ -1,14 +1,13 @@
 -- The run of a whole script: where it begins, what was written, and why it ends.
 use Rattle.std.proofs.Common.{◌≡◌, ◌⊎◌, inl, inr, ℕ, ◌+◌, ◌≤◌, ◌<◌, List, [], ◌∷◌, ◌++◌, length, length-append, take, true, false, ◌||◌, Option, Some, None, Result, Err, refl, sym, ◌∙◌, ap, subst, arith, append_assoc}
-use Rattle.std.specs.Prelude.{nat_lt}
+use Rattle.std.specs.Prelude.{nat_lt, drop, ◌-◌}
 use Rattle.std.specs.List.{list_any}
 use Rattle.std.proofs.Math.Logic.{⊎_elim}
 use Rattle.std.proofs.Math.Seq.{take-append-add, take-length}
-use Rattle.std.proofs.lemmas.List.{append-nil}
+use Rattle.std.proofs.lemmas.List.{append-nil, take_rest}
 use Rattle.std.proofs.lemmas.Grind.{flat_map-append}
 use Rattle.std.proofs.lemmas.List.Folds.{list_any-append}
 use Rattle.std.proofs.lemmas.Bool.{or_cases, or_left, or_from, or_parts, both_ways, cond-true, le-ltb, ltb-true}
-use Rattle.arj_disk.specs.Files.{FileMap}
 use Rattle.arj_engine.specs.declared.engine.Engine.{Engine}
 use Rattle.arj_io.specs.Told.{Takes}
 use Rattle.arj_io.proofs.Told.{takes_more}
@@ -17,9 +16,12 @@ use Rattle.arj_journal.specs.LineText.{text, line_text}
 use Rattle.arj_model.specs.Past.{nothing_yet}
 use Rattle.arj_script.specs.Grammar.{Form, Place, Start, Running, next_place}
 use Rattle.arj_script.specs.Input.{Stopped, AtLimit, is_too_long, is_enough, ended_lines, rest_line, last_line, lines_of}
-use Rattle.arj_top.specs.Running.{Stage, StageOf, Reached, Wrote, WroteFront, end_of}
+use Rattle.arj_top.specs.Outcome.{TookFront, IsBadBy, script}
+use Rattle.arj_top.specs.Outside.{DiskView}
+use Rattle.arj_top.specs.Running.{Stage, StageOf, Reached, Gathers, Fronts, end_of, hand}
 use Rattle.arj_top.specs.declared.collect.Stop.{Stop}
 use Rattle.arj_top.specs.declared.collect.Stop.TheVariants as stop
+use Rattle.arj_top.specs.declared.ending.BadLine.{BadLine}
 use Rattle.arj_top.specs.declared.ending.End.{End}
 use Rattle.arj_top.specs.declared.ending.End.TheVariants as ending
 use Rattle.arj_top.specs.declared.run.Runner.{Runner}
@@ -29,8 +31,8 @@ use Rattle.arj_top.specs.Built.{HaveForms, IsBadLine}
 use Rattle.arj_top.proofs.Steps.{forms_length}
 
 -- where it begins
-pub stage_first : {D : Type 0} (file : D → FileMap) (stops arms : D → ℕ) (rack : List D) → Stage file stops arms rack rack [] Start None 0 []
-stage_first file stops arms rack = record {
+pub stage_first : {D : Type 0} (view : DiskView D) (rack : List D) → Stage view rack rack [] Start (hand None 0 [])
+stage_first view rack = record {
   forms = [];
   header = record { nodes = 1; objects = [] };
   past = nothing_yet;
@@ -39,6 +41,7 @@ stage_first file stops arms rack = record {
   within = omega arith;
   moments = refl;
   journal_is = refl;
+  in_form = tt;
   engine_is = (λ e. absurd (let never : Start ≡ Running = e in cc), refl, refl, refl);
 }
 
@@ -47,31 +50,50 @@ pub takes_nothing : (taken : Option (List ℕ)) → Takes taken [] taken
 takes_nothing None = tt
 takes_nothing (Some bytes) = sym (append-nil bytes)
 
-pub wrote_nothing : (journal : List Line) (taken : Option (List ℕ)) → Wrote journal journal taken taken
-wrote_nothing journal taken = ([], sym (append-nil journal), takes_nothing taken)
+pub gathers_first : (journal : List Line) (waiting : List ℕ) (taken : Option (List ℕ)) → journal ≡ [] → waiting ≡ [] → Gathers journal waiting taken taken
+gathers_first journal waiting taken fresh none = ([], ap text fresh ∙ sym none, takes_nothing taken)
 
--- one text behind another
-pub wrote_more : (a b c : List Line) (t u v : Option (List ℕ)) → Wrote a b t u → Wrote b c u v → Wrote a c t v
-wrote_more a b c t u v first second =
-    let x = first.0 in
-    let y = second.0 in (
-      x ++ y,
-      second.1 ∙ (ap (λ js. js ++ y) first.1 ∙ append_assoc a x y),
-      subst (λ bytes. Takes t bytes v) (sym (flat_map-append line_text x y)) (takes_more t u v (text x) (text y) first.2 second.2),
-    )
+-- lines more, whose text waits
+pub gathers_more : (journal lines : List Line) (waiting after : List ℕ) (t u : Option (List ℕ)) → after ≡ waiting ++ text lines → Gathers journal waiting t u → Gathers (journal ++ lines) after t u
+gathers_more journal lines waiting after t u is g =
+    (g.0, flat_map-append line_text journal lines ∙ (ap (λ bytes. bytes ++ text lines) g.1 ∙ (append_assoc g.0 waiting (text lines) ∙ ap (λ bytes. g.0 ++ bytes) (sym is))), g.2)
 
--- a text, and a front of another
-pub wrote_front : (b c : List Line) (t u v : Option (List ℕ)) → Wrote [] b t u → WroteFront b c u v → (size : ℕ) × Takes t (take size (text c)) v
-wrote_front b c t u v first second =
-    let x = second.0 in
-    let k = second.1 in
-    let whole : text c ≡ text b ++ text x = ap text second.2 ∙ flat_map-append line_text b x in
-    let front : take (length (text b) + k) (text c) ≡ text b ++ take k (text x) = ap (λ bytes. take (length (text b) + k) bytes) whole ∙ take-append-add (text b) (text x) k in
-    let before : Takes t (text b) u = subst (λ js. Takes t (text js) u) (sym first.1) first.2 in
-    (length (text b) + k, subst (λ bytes. Takes t bytes v) (sym front) (takes_more t u v (text b) (take k (text x)) before second.3))
+-- what waited was taken
+pub gathers_taken : (journal : List Line) (waiting : List ℕ) (t u v : Option (List ℕ)) → Gathers journal waiting t u → Takes u waiting v → Takes t (text journal) v
+gathers_taken journal waiting t u v g more = subst (λ bytes. Takes t bytes v) (sym g.1) (takes_more t u v g.0 waiting g.2 more)
 
-pub wrote_whole : (b : List Line) (t u : Option (List ℕ)) → Wrote [] b t u → Takes t (text b) u
-wrote_whole b t u first = subst (λ js. Takes t (text js) u) (sym first.1) first.2
+pub gathers_empty : (journal : List Line) (waiting after : List ℕ) (t u v : Option (List ℕ)) → after ≡ [] → Gathers journal waiting t u → Takes u waiting v → Gathers journal after t v
+gathers_empty journal waiting after t u v none g more = (text journal, sym (append-nil (text journal)) ∙ ap (λ bytes. text journal ++ bytes) (sym none), gathers_taken journal waiting t u v g more)
+
+pub gathers_kept : (journal : List Line) (waiting after : List ℕ) (t u : Option (List ℕ)) → after ≡ waiting → Gathers journal waiting t u → Gathers journal after t u
+gathers_kept journal waiting after t u same g = subst (λ w. Gathers journal w t u) (sym same) g
+
+-- or a front of it
+pub gathers_front : (journal : List Line) (waiting : List ℕ) (count : ℕ) (t u v : Option (List ℕ)) → Gathers journal waiting t u → Takes u (take count waiting) v → Fronts journal t v
+gathers_front journal waiting count t u v g more =
+    let front : take (length g.0 + count) (text journal) ≡ g.0 ++ take count waiting = ap (λ bytes. take (length g.0 + count) bytes) g.1 ∙ take-append-add g.0 waiting count in
+    (length g.0 + count, subst (λ bytes. Takes t bytes v) (sym front) (takes_more t u v g.0 (take count waiting) g.2 more))
+
+-- the whole text is a front of itself
+pub whole_front : (journal : List Line) (t u : Option (List ℕ)) → Takes t (text journal) u → TookFront 5 journal t u
+whole_front journal t u took = (length (text journal), subst (λ bytes. Takes t bytes u) (sym (take-length (text journal))) took, λ _. refl)
+
+pub front_at_4 : (journal : List Line) (t u : Option (List ℕ)) → Fronts journal t u → TookFront 4 journal t u
+front_at_4 journal t u front = (front.0, front.1, λ e. absurd (omega (arith, e)))
+
+-- the lines behind those that were there
+behind : (before after added : List Line) → after ≡ before ++ added → before ++ take (length after - length before) (drop (length before) after) ≡ after
+behind before after added is =
+    let dropped : drop (length before) after ≡ added = ap (drop (length before)) is ∙ drop_front before added in
+    ap (λ ls. before ++ ls) (take_rest after (length before) ∙ dropped) ∙ sym is
+  where
+    drop_front : (a b : List Line) → drop (length a) (a ++ b) ≡ b
+    drop_front [] b = refl
+    drop_front (x ∷ a) b = drop_front a b
+
+pub behind_as : (before after added b a : List Line) → b ≡ before → a ≡ after → after ≡ before ++ added → before ++ take (length a - length b) (drop (length b) a) ≡ after
+behind_as before after added b a same_before same_after is =
+    (λ i. before ++ take (length (same_after i) - length (same_before i)) (drop (length (same_before i)) (same_after i))) ∙ behind before after added is
 
 -- lines that were run are short
 all_short : (p : Place) (lines : List (List ℕ)) (forms : List Form) (q : Place) → HaveForms p lines forms q → list_any is_too_long lines ≡ false
@@ -98,72 +120,69 @@ never_all bytes forms place enough read few =
     (or_cases (list_any is_too_long (ended_lines bytes)) (is_too_long (rest_line bytes)) long))
     (or_cases (nat_lt 100000 (length (ended_lines bytes))) (list_any is_too_long (ended_lines bytes) || is_too_long (rest_line bytes)) enough)
 
-pub stage_first_forms : {D : Type 0} (file : D → FileMap) (stops arms : D → ℕ) (rack : List D) → (let s = stage_first file stops arms rack in s.forms) ≡ []
+pub stage_first_forms : {D : Type 0} (view : DiskView D) (rack : List D) → (let s = stage_first view rack in s.forms) ≡ []
 unfolding stage_first
-stage_first_forms file stops arms rack = refl
+stage_first_forms view rack = refl
 
-pub stage_start : {D : Type 0} (file : D → FileMap) (stops arms : D → ℕ) (rack : List D) (place : Place) (engine : Option Engine) (count : ℕ) (journal : List Line) → place ≡ Start → engine ≡ None → count ≡ 0 → journal ≡ [] → Stage file stops arms rack rack [] place engine count journal
-stage_start file stops arms rack place engine count journal p e n j =
-    subst (λ js. Stage file stops arms rack rack [] place engine count js) (sym j)
-    (subst (λ k. Stage file stops arms rack rack [] place engine k []) (sym n)
-    (subst (λ en. Stage file stops arms rack rack [] place en 0 []) (sym e)
-    (subst (λ q. Stage file stops arms rack rack [] q None 0 []) (sym p) (stage_first file stops arms rack))))
-
-pub wrote_first : (journal : List Line) (taken : Option (List ℕ)) → journal ≡ [] → Wrote [] journal taken taken
-wrote_first journal taken fresh = ([], fresh, takes_nothing taken)
+pub stage_start : {D : Type 0} (view : DiskView D) (rack : List D) (place : Place) (engine : Option Engine) (count : ℕ) (journal : List Line) → place ≡ Start → engine ≡ None → count ≡ 0 → journal ≡ [] → Stage view rack rack [] place (hand engine count journal)
+stage_start view rack place engine count journal p e n j =
+    subst (λ js. Stage view rack rack [] place (hand engine count js)) (sym j)
+    (subst (λ k. Stage view rack rack [] place (hand engine k [])) (sym n)
+    (subst (λ en. Stage view rack rack [] place (hand en 0 [])) (sym e)
+    (subst (λ q. Stage view rack rack [] q (hand None 0 [])) (sym p) (stage_first view rack))))
 
 -- behind a line more
 pub whole_next : (lines done rest : List (List ℕ)) (line : List ℕ) (tail : List (List ℕ)) → lines ≡ done ++ rest → rest ≡ line ∷ tail → lines ≡ (done ++ line ∷ []) ++ tail
 whole_next lines done rest line tail whole cut = whole ∙ (ap (λ ls. done ++ ls) cut ∙ sym (append_assoc done (line ∷ []) tail))
 
 -- why the run ends where every line was run
-pub end_reached : {D : Type 0} (file : D → FileMap) (stops arms : D → ℕ) (first rack : List D) (how : Stop) (bytes : List ℕ) (done rest : List (List ℕ)) (place : Place) (engine : Option Engine) (count : ℕ) (journal : List Line)
+pub end_reached : {D : Type 0} (view : DiskView D) (first rack : List D) (how : Stop) (bytes : List ℕ) (done rest : List (List ℕ)) (place : Place) (engine : Option Engine) (count : ℕ) (journal : List Line)
     → (stopped_at how ≡ AtLimit → is_enough bytes ≡ true) → lines_of (stopped_at how) bytes ≡ done ++ rest → rest ≡ []
-    → Stage file stops arms first rack done place engine count journal → Reached file stops arms first rack (stopped_at how) (lines_of (stopped_at how) bytes) engine count journal (end_of how engine)
-end_reached file stops arms first rack stop.Fault bytes done rest place engine count journal enough whole none s = record { place = place; done = done; rest = rest; whole = whole; stage = s; why = (refl, none) }
-end_reached file stops arms first rack stop.End bytes done rest place (Some engine) count journal enough whole none s = record { place = place; done = done; rest = rest; whole = whole; stage = s; why = (refl, none, s.engine_is.0) }
-end_reached file stops arms first rack stop.End bytes done rest place None count journal enough whole none s = record { place = place; done = done; rest = rest; whole = whole; stage = s; why = inr (none, refl, s.engine_is.0) }
-end_reached file stops arms first rack stop.Limit bytes done rest place engine count journal enough whole none s =
+    → Stage view first rack done place (hand engine count journal) → Reached view first rack (script (stopped_at how) (lines_of (stopped_at how) bytes)) (hand engine count journal) (end_of how engine)
+end_reached view first rack stop.Fault bytes done rest place engine count journal enough whole none s = record { place = place; done = done; rest = rest; whole = whole; stage = s; why = (refl, none) }
+end_reached view first rack stop.End bytes done rest place (Some engine) count journal enough whole none s = record { place = place; done = done; rest = rest; whole = whole; stage = s; why = (refl, none, s.engine_is.0) }
+end_reached view first rack stop.End bytes done rest place None count journal enough whole none s = record { place = place; done = done; rest = rest; whole = whole; stage = s; why = inr (none, refl, s.engine_is.0, refl) }
+end_reached view first rack stop.Limit bytes done rest place engine count journal enough whole none s =
     let all : done ≡ lines_of AtLimit bytes = sym (whole ∙ (ap (λ ls. done ++ ls) none ∙ append-nil done)) in
     absurd (never_all bytes s.forms place (enough refl) (subst (λ ls. HaveForms Start ls s.forms place) all s.read) (omega (arith, s.counted, s.within)))
 
 abbrev pub IsEnd : End → End → Type 0
 IsEnd end other = let found : Result (Unit {0}) End = Err end in found ≡ Err other
 
+-- an end that left all as it was
+kept_reached : {D : Type 0} (view : DiskView D) (first rack after_rack : List D) (stopped : Stopped) (lines : List (List ℕ)) (before after : Runner) (journal after_journal : List Line) (end : End)
+    → after.engine ≡ before.engine → after.lines ≡ before.lines → after_rack ≡ rack → after_journal ≡ journal
+    → Reached view first rack (script stopped lines) (hand before.engine before.lines journal) end → Reached view first after_rack (script stopped lines) (hand after.engine after.lines after_journal) end
+kept_reached view first rack after_rack stopped lines before after journal after_journal end engine count racks still reached =
+    subst (λ js. Reached view first after_rack (script stopped lines) (hand after.engine after.lines js) end) (sym still)
+    (subst (λ r. Reached view first r (script stopped lines) (hand after.engine after.lines journal) end) (sym racks)
+    (subst (λ n. Reached view first rack (script stopped lines) (hand after.engine n journal) end) (sym count)
+    (subst (λ en. Reached view first rack (script stopped lines) (hand en before.lines journal) end) (sym engine) reached)))
+
 -- why the run ends at a line
-pub line_reached : {D : Type 0} (file : D → FileMap) (stops arms : D → ℕ) (first rack after_rack : List D) (stopped : Stopped) (lines done rest : List (List ℕ)) (line : List ℕ) (tail : List (List ℕ)) (before after : Runner) (journal after_journal : List Line) (end : End)
-    → lines ≡ done ++ rest → rest ≡ line ∷ tail → StageOf file stops arms first rack done before journal
-    → (IsEnd end ending.Bad → (before.lines < 100000 ⊎ (200 < length line)) × IsBadLine before.reader line)
+pub line_reached : {D : Type 0} (view : DiskView D) (first rack after_rack : List D) (stopped : Stopped) (lines done rest : List (List ℕ)) (line : List ℕ) (tail : List (List ℕ)) (before after : Runner) (journal after_journal : List Line) (end : End)
+    → lines ≡ done ++ rest → rest ≡ line ∷ tail → StageOf view first rack done before journal → after_journal ≡ journal
+    → ((w : BadLine) → IsEnd end (ending.Bad w) → (before.lines < 100000 ⊎ (200 < length line)) × IsBadLine before.reader line × IsBadBy w before.reader line)
     → (IsEnd end ending.Lines → (100000 ≤ before.lines) × (length line ≤ 200))
-    → ((IsEnd end ending.Bad ⊎ IsEnd end ending.Lines) → (after.engine ≡ before.engine) × (after.lines ≡ before.lines) × (after_rack ≡ rack) × (after_journal ≡ journal))
-    → (IsEnd end ending.Labels → Limited file stops arms first after_rack done after.reader after.engine after.lines after_journal line)
+    → (((w : BadLine) × IsEnd end (ending.Bad w)) ⊎ IsEnd end ending.Lines → (after.engine ≡ before.engine) × (after.lines ≡ before.lines) × (after_rack ≡ rack))
+    → (IsEnd end ending.Labels → Limited view first after_rack done after.reader after.engine after.lines after_journal line)
     → (end ≡ ending.Write → ⊥) → (end ≡ ending.Memory → ⊥) → (end ≡ ending.Format → ⊥) → (end ≡ ending.Whole → ⊥) → (end ≡ ending.Fault → ⊥)
-    → Reached file stops arms first after_rack stopped lines after.engine after.lines after_journal end
-line_reached file stops arms first rack after_rack stopped lines done rest line tail before after journal after_journal ending.Bad whole cut s bad many kept labels a b c d e =
-    let k = kept (inl refl) in
-    let w = bad refl in
-    subst (λ js. Reached file stops arms first after_rack stopped lines after.engine after.lines js ending.Bad) (sym k.3)
-    (subst (λ r. Reached file stops arms first r stopped lines after.engine after.lines journal ending.Bad) (sym k.2)
-    (subst (λ n. Reached file stops arms first rack stopped lines after.engine n journal ending.Bad) (sym k.1)
-    (subst (λ en. Reached file stops arms first rack stopped lines en before.lines journal ending.Bad) (sym k.0)
-    (record { place = before.reader; done = done; rest = rest; whole = whole; stage = s; why = inl (line, tail, cut, w.0, w.1) }))))
-line_reached file stops arms first rack after_rack stopped lines done rest line tail before after journal after_journal ending.Lines whole cut s bad many kept labels a b c d e =
+    → Reached view first after_rack (script stopped lines) (hand after.engine after.lines after_journal) end
+line_reached view first rack after_rack stopped lines done rest line tail before after journal after_journal (ending.Bad why) whole cut s still bad many kept labels a b c d e =
+    let k = kept (inl (why, refl)) in
+    let w = bad why refl in
+    kept_reached view first rack after_rack stopped lines before after journal after_journal (ending.Bad why) k.0 k.1 k.2 still
+    (record { place = before.reader; done = done; rest = rest; whole = whole; stage = s; why = inl (line, tail, cut, w.0, w.1, w.2) })
+line_reached view first rack after_rack stopped lines done rest line tail before after journal after_journal ending.Lines whole cut s still bad many kept labels a b c d e =
     let k = kept (inr refl) in
     let w = many refl in
-    subst (λ js. Reached file stops arms first after_rack stopped lines after.engine after.lines js ending.Lines) (sym k.3)
-    (subst (λ r. Reached file stops arms first r stopped lines after.engine after.lines journal ending.Lines) (sym k.2)
-    (subst (λ n. Reached file stops arms first rack stopped lines after.engine n journal ending.Lines) (sym k.1)
-    (subst (λ en. Reached file stops arms first rack stopped lines en before.lines journal ending.Lines) (sym k.0)
-    (record { place = before.reader; done = done; rest = rest; whole = whole; stage = s; why = (line, tail, cut, omega (arith, w.0, s.within), w.1) }))))
-line_reached file stops arms first rack after_rack stopped lines done rest line tail before after journal after_journal ending.Labels whole cut s bad many kept labels a b c d e =
+    kept_reached view first rack after_rack stopped lines before after journal after_journal ending.Lines k.0 k.1 k.2 still
+    (record { place = before.reader; done = done; rest = rest; whole = whole; stage = s; why = (line, tail, cut, omega (arith, w.0, s.within), w.1) })
+line_reached view first rack after_rack stopped lines done rest line tail before after journal after_journal ending.Labels whole cut s still bad many kept labels a b c d e =
     let w = labels refl in
     record { place = after.reader; done = done; rest = rest; whole = whole; stage = w.0; why = (line, tail, cut, w.1, w.2) }
-line_reached file stops arms first rack after_rack stopped lines done rest line tail before after journal after_journal ending.Write whole cut s bad many kept labels a b c d e = absurd (a refl)
-line_reached file stops arms first rack after_rack stopped lines done rest line tail before after journal after_journal ending.Memory whole cut s bad many kept labels a b c d e = absurd (b refl)
-line_reached file stops arms first rack after_rack stopped lines done rest line tail before after journal after_journal ending.Format whole cut s bad many kept labels a b c d e = absurd (c refl)
-line_reached file stops arms first rack after_rack stopped lines done rest line tail before after journal after_journal ending.Whole whole cut s bad many kept labels a b c d e = absurd (d refl)
-line_reached file stops arms first rack after_rack stopped lines done rest line tail before after journal after_journal ending.Fault whole cut s bad many kept labels a b c d e = absurd (e refl)
-
--- the whole text, as a front of itself
-pub whole_front : (journal : List Line) (t u : Option (List ℕ)) → Wrote [] journal t u → Takes t (take (length (text journal)) (text journal)) u
-whole_front journal t u first = subst (λ bytes. Takes t bytes u) (sym (take-length (text journal))) (wrote_whole journal t u first)
+line_reached view first rack after_rack stopped lines done rest line tail before after journal after_journal ending.Write whole cut s still bad many kept labels a b c d e = absurd (a refl)
+line_reached view first rack after_rack stopped lines done rest line tail before after journal after_journal ending.Memory whole cut s still bad many kept labels a b c d e = absurd (b refl)
+line_reached view first rack after_rack stopped lines done rest line tail before after journal after_journal ending.Format whole cut s still bad many kept labels a b c d e = absurd (c refl)
+line_reached view first rack after_rack stopped lines done rest line tail before after journal after_journal ending.Whole whole cut s still bad many kept labels a b c d e = absurd (d refl)
+line_reached view first rack after_rack stopped lines done rest line tail before after journal after_journal ending.Fault whole cut s still bad many kept labels a b c d e = absurd (e refl)

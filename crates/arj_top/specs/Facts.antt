@@ -1,6 +1,6 @@
 -- What a journal shows, and what the disks hold beside it.
-use Rattle.std.specs.Prelude.{false, map, drop, ◌≡◌, ◌⊎◌, ◌≤◌, ◌<◌, ℕ, ◌+◌, ◌-◌, List, Option, Some, None, slice_get}
-use Rattle.arj_disk.specs.Files.{FileMap}
+use Rattle.std.specs.Prelude.{false, ◌≡◌, ◌⊎◌, ◌≤◌, ℕ, ◌+◌, ◌-◌, List, Option, Some, None, slice_get}
+use Rattle.arj_disk.specs.FileMap.{FileMap}
 use Rattle.arj_journal.specs.declared.body.Line.{Line}
 use Rattle.arj_journal.specs.declared.event.Event.{Event}
 use Rattle.arj_journal.specs.declared.header.Header.{Header}
@@ -10,6 +10,7 @@ use Rattle.arj_model.specs.Follows.{Follows, Runs}
 use Rattle.arj_model.specs.Refusals.{is_node}
 use Rattle.arj_model.specs.Causes.{HasCauseConflict, Prompt, HasRoom, Alone, count_halts}
 use Rattle.arj_model.specs.Clean.{Disks, ListedStoresHoldLast, ListedStoresHoldLastOrNext}
+use Rattle.arj_top.specs.Outside.{DiskView, NoDiskRose, SameArms}
 
 -- What the journal shows of these events.
 pub record Facts (header : Header) (events : List Event) (journal : List Line) : Type 0 where
@@ -27,36 +28,32 @@ pub record Facts (header : Header) (events : List Event) (journal : List Line) :
   pub labels : Runs (HasRoom header) events journal
 
 -- the files of a disk; none where there is no disk
-abbrev pub files_on : {D : Type 0} → (D → FileMap) → Option D → FileMap
-files_on file None = λ q. None
-files_on file (Some disk) = file disk
+abbrev pub files_on : {D : Type 0} → DiskView D → Option D → FileMap
+files_on view None = λ q. None
+files_on view (Some disk) = view.file disk
 
 -- the files of each node's disk
-abbrev pub disks_in : {D : Type 0} → (D → FileMap) → List D → Disks
-disks_in file rack node = files_on file (slice_get rack (node - 1))
+abbrev pub disks_in : {D : Type 0} → DiskView D → List D → Disks
+disks_in view rack node = files_on view (slice_get rack (node - 1))
 
--- no disk but the first was touched, and none was armed
-abbrev pub TouchesFirstAlone : {D : Type 0} → (D → ℕ) → List D → List D → Type 0
-TouchesFirstAlone arms before after = (map arms after ≡ map arms before) × (drop 1 after ≡ drop 1 before)
-
--- no count of stops rose; one that stands at its last value counts as risen
-abbrev pub NoDiskRose : {D : Type 0} → (D → ℕ) → List D → List D → Type 0
-NoDiskRose {D} stops before after =
-    (node : ℕ) (old new : D) → slice_get before node ≡ Some old → slice_get after node ≡ Some new → (stops new ≡ stops old) × (stops new < 18446744073709551615)
+-- Why the journal has `halted` lines.
+pub record HaltsHaveCause {D : Type 0} (view : DiskView D) (before after : List D) (header : Header) (journal : List Line) : Type 0 where
+  -- a node halts no oftener than its disk's count of stops rose; a count at its last value counts as risen
+  pub halted : (node : ℕ) (old new : D) → slice_get before node ≡ Some old → slice_get after node ≡ Some new →
+      (count_halts journal (node + 1) ≤ view.stops new - view.stops old) ⊎ (18446744073709551615 ≤ view.stops new)
+  -- and nobody halts but the nodes of the header
+  pub elsewhere : (n : ℕ) → is_node header n ≡ false → count_halts journal n ≡ 0
 
 -- What the disks hold beside the journal.
-pub record DiskFacts {D : Type 0} (file : D → FileMap) (stops arms : D → ℕ) (before after : List D) (header : Header) (journal : List Line) : Type 0 where
+pub record DiskFacts {D : Type 0} (view : DiskView D) (before after : List D) (header : Header) (journal : List Line) : Type 0 where
   -- where no disk stopped, every listed store holds its last committed state
-  pub listed : NoDiskRose stops before after → ListedStoresHoldLast header journal (disks_in file after)
+  pub listed : NoDiskRose view before after → ListedStoresHoldLast header journal (disks_in view after)
   -- in any case it holds that, or the state that the object would have if one more top had committed: one that wrote it,
   -- whose commit was called, and that neither committed nor aborted; for each object at each store it may be another top
-  pub stopped : ListedStoresHoldLastOrNext header journal (disks_in file after)
-  -- a node halts only where its disk's count of stops rose, or stands at its last value
-  pub halted : (node : ℕ) (old new : D) → slice_get before node ≡ Some old → slice_get after node ≡ Some new →
-      (count_halts journal (node + 1) ≤ stops new - stops old) ⊎ (18446744073709551615 ≤ stops new)
-  -- and where it doesn't, the count stays
-  pub steady : (node : ℕ) (old new : D) → slice_get before node ≡ Some old → slice_get after node ≡ Some new → count_halts journal (node + 1) ≡ 0 → stops new ≡ stops old
-  -- and no other node does
-  pub elsewhere : (n : ℕ) → is_node header n ≡ false → count_halts journal n ≡ 0
+  pub stopped : ListedStoresHoldLastOrNext header journal (disks_in view after)
+  -- each `halted` line has its cause
+  pub halts : HaltsHaveCause view before after header journal
+  -- while a node doesn't halt, its disk's count of stops stays
+  pub steady : (node : ℕ) (old new : D) → slice_get before node ≡ Some old → slice_get after node ≡ Some new → count_halts journal (node + 1) ≡ 0 → view.stops new ≡ view.stops old
   -- no disk was armed
-  pub armed : (node : ℕ) (old new : D) → slice_get before node ≡ Some old → slice_get after node ≡ Some new → arms new ≡ arms old
+  pub armed : (node : ℕ) (old new : D) → slice_get before node ≡ Some old → slice_get after node ≡ Some new → SameArms view old new

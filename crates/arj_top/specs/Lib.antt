@@ -3,4 +3,5 @@ pub mod Collect
 pub mod Facts
 pub mod Input
 pub mod Outcome
+pub mod Outside
 pub mod Running

@@ -4,6 +4,7 @@ ghost use Rattle.arj_io.specs.Told.{Gives};
 ghost use Rattle.arj_top.specs.Collect.{stopped_at};
 ghost use Rattle.arj_top.specs.Input.{Came};
 
+use crate::limits::READ_BYTES;
 use crate::meter::Meter;
 use arj_base::Bytes;
 use arj_io::Source;
@@ -32,7 +33,7 @@ pub fn collect<S: Source>(alloc: Global, source: &mut S) -> Result<Input, AllocE
     let mut bytes = Bytes::new(alloc);
     let mut meter = Meter::new();
     while !meter.is_enough() {
-        let mut buffer = [0; 512];
+        let mut buffer = [0; READ_BYTES];
         let Ok(count) = source.read(&mut buffer) else {
             return Ok(Input {
                 bytes,

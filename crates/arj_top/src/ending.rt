@@ -1,18 +1,33 @@
 // Where a run ends.
-ghost use Rattle.std.specs.Prelude.{◌≡◌};
+ghost use Rattle.std.specs.Prelude.{◌≡◌, ◌≢◌, MatchBool};
 
-use arj_engine::{FormatFault, StepFault};
-use arj_script::ScriptFault;
 use std::alloc::{AllocError, AllocFailed};
 use thiserror::Error;
+
+/// Why a line is bad.
+#[derive(Clone, Copy, Debug, PartialEq, Eq, Error)]
+pub enum BadLine {
+    /// It is longer than a line may be.
+    #[error("longer than 200 bytes")]
+    TooLong,
+    /// No form of the grammar has it at its place.
+    #[error("not in the grammar")]
+    Unknown,
+    /// It is in the grammar, and forms of its kind don't run yet.
+    #[error("in the grammar, but not built")]
+    NotBuilt,
+    /// It isn't there: the input ended before `run`.
+    #[error("the input ended before `run`")]
+    Missing,
+}
 
 /// Why no further line is run.
 #[derive(Clone, Copy, Debug, Error)]
 pub enum End {
     #[error("every line was run")]
     Whole,
-    #[error("a script line isn't in the grammar")]
-    Bad,
+    #[error("a script line is bad: {0}")]
+    Bad(BadLine),
     #[error("a read failed")]
     Fault,
     #[error("a write failed")]
@@ -28,7 +43,7 @@ pub enum End {
 }
 
 impl End {
-    ghost use Rattle.arj_top.specs.Running.{status_of};
+    ghost use Rattle.arj_top.specs.Running.{status_of, why_of};
 
     /// The status of the program.
     pub fn status(self) -> u8
@@ -36,12 +51,29 @@ impl End {
     {
         match self {
             End::Whole => 0,
-            End::Bad => 2,
+            End::Bad(_) => 2,
             End::Fault => 3,
             End::Write => 4,
             End::Memory => 5,
             End::Lines | End::Labels => 6,
             End::Format => 7,
+        }
+    }
+
+    /// Whether a write failed.
+    pub fn is_write(self) -> bool
+        ensures { MatchBool result (self ≡ End.Write) (self ≢ End.Write) }
+    {
+        matches!(self, End::Write)
+    }
+
+    /// Why a line is bad, if one is.
+    pub fn why(self) -> Option<BadLine>
+        ensures { result ≡ why_of self }
+    {
+        match self {
+            End::Bad(why) => Some(why),
+            _ => None,
         }
     }
 }

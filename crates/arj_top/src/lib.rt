@@ -8,18 +8,18 @@
 mod built;
 mod collect;
 mod ending;
+mod gather;
+mod limits;
 mod lines;
 mod meter;
 mod rack;
 mod run;
 mod script;
 mod top;
-mod write;
 
+pub use ending::BadLine;
 pub use rack::empty_rack;
 pub use top::arjuna;
 
-#[cfg(test)]
-mod stopping;
 #[cfg(test)]
 mod tests;

@@ -4,6 +4,7 @@ ghost use Rattle.arj_script.specs.Input.{lines_of};
 ghost use Rattle.arj_top.specs.Collect.{stopped_at, is_last_line};
 
 use crate::collect::Stop;
+use arj_script::LINE_BYTES;
 
 /// The first line of these bytes, without its end, and what stands behind it.
 pub fn next_line(stop: Stop, bytes: &[u8]) -> Option<(&[u8], &[u8])>
@@ -29,6 +30,6 @@ fn is_line(stop: Stop, bytes: &[u8]) -> bool
     match stop {
         Stop::End => !bytes.is_empty(),
         Stop::Fault => false,
-        Stop::Limit => bytes.len() > 200,
+        Stop::Limit => bytes.len() > LINE_BYTES,
     }
 }

@@ -2,6 +2,8 @@
 ghost use Rattle.std.specs.Prelude.{◌≡◌, ℕ, List, [], ◌∷◌, ◌++◌};
 ghost use Rattle.arj_top.specs.Collect.{Measures};
 
+use arj_script::{LINE_BYTES, SCRIPT_LINES};
+
 /// Counts the lines of what has come, so that none of it is looked at again.
 #[derive(Clone, Copy)]
 pub struct Meter {
@@ -50,13 +52,13 @@ impl Meter {
             Meter {
                 lines,
                 in_line: 0,
-                enough: lines > 100_000,
+                enough: lines as usize > SCRIPT_LINES,
             }
         } else {
             let in_line = self.in_line.saturating_add(1);
             Meter {
                 in_line,
-                enough: in_line > 200,
+                enough: in_line as usize > LINE_BYTES,
                 ..self
             }
         }

@@ -1,11 +1,10 @@
 // Whole runs over sources and sinks in memory.
-ghost use Rattle.std.specs.Prelude.{◌≡◌, All, IfOk, None};
+ghost use Rattle.std.specs.Prelude.{◌≡◌, ◌≤◌, All, IfOk, None};
 ghost use Rattle.arj_disk.specs.declared.slot.Slot.{Slot};
 
-use crate::stopping::StoppingDisk;
-use crate::{arjuna, empty_rack};
+use crate::{BadLine, arjuna, empty_rack};
 use arj_base::{Bytes, Numbers, object_uid};
-use arj_disk::{Disk, MemDisk, Rack, Slot};
+use arj_disk::{Disk, MemDisk, Outcome, Rack, Slot};
 use arj_io::{MemSink, MemSource, SureSink, SureSource};
 use arj_journal::Lines;
 use std::alloc::{AllocError, Global};
@@ -29,21 +28,35 @@ fn bytes(alloc: Global, pieces: &[&[u8]]) -> Result<Bytes, AllocError> {
     Ok(bytes)
 }
 
-// The status of a run of this script, and what the sink took. One read and one write may fail.
+// Room for so many pieces of 512 bytes.
+fn room(alloc: Global, pieces: u32) -> Result<Bytes, AllocError> {
+    let mut room = Bytes::new(alloc);
+    for _ in 0..pieces {
+        room.extend(&[0u8; 512])?;
+    }
+    Ok(room)
+}
+
+fn words(alloc: Global, word: &str) -> Result<Vec<String>, AllocError> {
+    let mut words = Vec::new(alloc);
+    words.push(String::from_str(alloc, word)?)?;
+    Ok(words)
+}
+
+// The status of a run of this script, what the sink took, and why a line is bad. One read and one write may fail.
 fn replay(
     alloc: Global,
     word: &str,
     script: Bytes,
     failing_read: Option<u64>,
     failing_write: Option<u64>,
-) -> Result<(u8, MemSink), AllocError> {
+) -> Result<(u8, MemSink, Option<BadLine>), AllocError> {
     let mut source = MemSource::new(script, 512, numbers(alloc, failing_read)?);
-    let room = bytes(alloc, [[0u8; 512].as_slice()].as_slice())?;
-    let mut sink = MemSink::new(room, numbers(alloc, failing_write)?);
+    let mut sink = MemSink::new(room(alloc, 32)?, numbers(alloc, failing_write)?);
     let mut rack = empty_rack(alloc)?;
     let mut journal = Lines::new(alloc);
-    let mut words = Vec::new(alloc);
-    words.push(String::from_str(alloc, word)?)?;
+    let mut why = None;
+    let words = words(alloc, word)?;
     let status = arjuna(
         alloc,
         words.as_slice(),
@@ -51,24 +64,32 @@ fn replay(
         &mut sink,
         &mut rack,
         &mut journal,
+        &mut why,
     );
-    Ok((status, sink))
+    Ok((status, sink, why))
 }
 
 #[test]
 fn scripts_without_events(rt: HostRuntime) -> Result<(), Fail> {
     let alloc = rt.alloc();
     let long = [b'#'; 201];
-    for (script, status, output) in [
-        (b"".as_slice(), 2, b"0 bad 1\n".as_slice()),
-        (b"# nothing\n\n", 2, b"0 bad 3\n"),
-        (b"nodes 17\n", 2, b"0 bad 1\n"),
-        (HEADER, 0, b""),
-        (long.as_slice(), 2, b"0 bad 1\n"),
+    for (script, status, why, output) in [
+        (
+            b"".as_slice(),
+            2,
+            Some(BadLine::Missing),
+            b"0 bad 1\n".as_slice(),
+        ),
+        (b"# nothing\n\n", 2, Some(BadLine::Missing), b"0 bad 3\n"),
+        (b"nodes 17\n", 2, Some(BadLine::Unknown), b"0 bad 1\n"),
+        (b"nodes 2\n", 2, Some(BadLine::NotBuilt), b"0 bad 1\n"),
+        (HEADER, 0, None, b""),
+        (long.as_slice(), 2, Some(BadLine::TooLong), b"0 bad 1\n"),
     ] {
         let script = bytes(alloc, [script].as_slice())?;
-        let (answer, sink) = replay(alloc, "replay", script, None, None)?;
+        let (answer, sink, told) = replay(alloc, "replay", script, None, None)?;
         assert_eq!(rt; answer, status);
+        assert_eq!(rt; told, why);
         assert_eq!(rt; sink.taken(), Some(output));
     }
     Ok(())
@@ -78,19 +99,35 @@ fn scripts_without_events(rt: HostRuntime) -> Result<(), Fail> {
 fn a_read_that_fails(rt: HostRuntime) -> Result<(), Fail> {
     let alloc = rt.alloc();
     let script = bytes(alloc, [HEADER, b"begin A at 1\n"].as_slice())?;
-    let (status, sink) = replay(alloc, "replay", script, Some(2), None)?;
+    let (status, sink, _) = replay(alloc, "replay", script, Some(2), None)?;
     assert_eq!(rt; status, 3);
     assert_eq!(rt; sink.taken(), Some(b"1 began A top 1.1.1 -\n".as_slice()));
     Ok(())
 }
 
+// The text of a short run goes out in one piece, at its end.
 #[test]
 fn a_write_that_fails(rt: HostRuntime) -> Result<(), Fail> {
     let alloc = rt.alloc();
     let script = bytes(alloc, [HEADER, b"begin A at 1\n"].as_slice())?;
-    let (status, sink) = replay(alloc, "replay", script, None, Some(1))?;
+    let (status, sink, _) = replay(alloc, "replay", script, None, Some(1))?;
     assert_eq!(rt; status, 4);
     assert_eq!(rt; sink.taken(), Some(b"".as_slice()));
+    Ok(())
+}
+
+// That of a long one goes out in pieces of some kilobytes, each of whole lines: the second write fails, and the
+// text of 437 events was written by the first.
+#[test]
+fn a_second_write_that_fails(rt: HostRuntime) -> Result<(), Fail> {
+    let alloc = rt.alloc();
+    let mut script = bytes(alloc, [HEADER, b"begin A at 1\n"].as_slice())?;
+    for _ in 0..600u32 {
+        script.extend(b"call A 1 get\n")?;
+    }
+    let (status, sink, _) = replay(alloc, "replay", script, None, Some(2))?;
+    assert_eq!(rt; status, 4);
+    assert_eq!(rt; sink.taken().map(|taken| taken.len()), Some(8200));
     Ok(())
 }
 
@@ -98,23 +135,32 @@ fn a_write_that_fails(rt: HostRuntime) -> Result<(), Fail> {
 fn no_command_line(rt: HostRuntime) -> Result<(), Fail> {
     let alloc = rt.alloc();
     let script = bytes(alloc, [HEADER].as_slice())?;
-    let (status, sink) = replay(alloc, "help", script, None, None)?;
+    let (status, sink, _) = replay(alloc, "help", script, None, None)?;
     assert_eq!(rt; status, 1);
     assert_eq!(rt; sink.taken(), Some(b"".as_slice()));
     Ok(())
 }
 
+// An empty disk of this node. That of the first node is armed: its call with this number stops.
+fn disk_of(alloc: Global, node: u8, call: u32) -> MemDisk
+    requires { 1 ≤ call }
+    ensures { (slot : Slot) → ⟦<MemDisk as Disk>⟧.file result slot ≡ None }
+{
+    let mut disk = MemDisk::new(alloc);
+    if node == 0 {
+        disk.arm(call, Outcome::Undone);
+    }
+    disk
+}
+
 // Sixteen empty disks, the first of which stops at its call with this number.
-fn stopping_rack(alloc: Global, call: u32) -> Result<Rack<StoppingDisk>, AllocError>
-    ensures { IfOk result (λ rack. All (λ disk. (slot : Slot) → ⟦<StoppingDisk as Disk>⟧.file disk slot ≡ None) rack) }
+fn stopping_rack(alloc: Global, call: u32) -> Result<Rack<MemDisk>, AllocError>
+    requires { 1 ≤ call }
+    ensures { IfOk result (λ rack. All (λ disk. (slot : Slot) → ⟦<MemDisk as Disk>⟧.file disk slot ≡ None) rack) }
 {
     let mut disks = Vec::new(alloc);
     for node in 0..16u8 {
-        disks.push(StoppingDisk {
-            disk: MemDisk::new(alloc),
-            left: if node == 0 { call } else { 0 },
-            stops: 0,
-        })?;
+        disks.push(disk_of(alloc, node, call))?;
     }
     Ok(Rack::new(disks))
 }
@@ -143,7 +189,7 @@ const HALTED: &[u8] = b"1 began A top 1.1.1 -
 // The last byte of the version and of the value of an object's committed state on disk 1.
 fn version_and_value(
     alloc: Global,
-    rack: &mut Rack<StoppingDisk>,
+    rack: &mut Rack<MemDisk>,
     x: u16,
 ) -> Result<Option<(u8, u8)>, AllocError> {
     let Ok(Some(state)) = rack.disk(1).read(alloc, Slot::Committed(object_uid(x))) else {
@@ -162,13 +208,15 @@ fn stopped_run(
     alloc: Global,
     call: u32,
     output: &[u8],
-) -> Result<(u8, bool, Option<(u8, u8)>, Option<(u8, u8)>), AllocError> {
+) -> Result<(u8, bool, Option<(u8, u8)>, Option<(u8, u8)>), AllocError>
+    requires { 1 ≤ call }
+{
     let mut source = SureSource::new(bytes(alloc, [TWO_OBJECTS].as_slice())?);
-    let mut sink = SureSink::new(bytes(alloc, [[0u8; 512].as_slice()].as_slice())?);
+    let mut sink = SureSink::new(room(alloc, 1)?);
     let mut rack = stopping_rack(alloc, call)?;
     let mut journal = Lines::new(alloc);
-    let mut words = Vec::new(alloc);
-    words.push(String::from_str(alloc, "replay")?)?;
+    let mut why = None;
+    let words = words(alloc, "replay")?;
     let status = arjuna(
         alloc,
         words.as_slice(),
@@ -176,6 +224,7 @@ fn stopped_run(
         &mut sink,
         &mut rack,
         &mut journal,
+        &mut why,
     );
     let first = version_and_value(alloc, &mut rack, 1)?;
     let second = version_and_value(alloc, &mut rack, 2)?;

@@ -7,7 +7,7 @@ ghost use Rattle.std.specs.Prelude.{◌≡◌, []};
 
 use arj_io::{StdSink, StdSource};
 use arj_journal::{Body, Line, Lines, Which};
-use arj_top::{arjuna, empty_rack};
+use arj_top::{BadLine, arjuna, empty_rack};
 use std::alloc::Global;
 use std::io::BufReader;
 use std::process::ExitCode;
@@ -16,19 +16,20 @@ use std::{env, io};
 fn main(rt: HostRuntime) -> ExitCode {
     let alloc = rt.alloc();
     let mut journal = Lines::new(alloc);
-    let status = match run(&rt, &mut journal) {
+    let mut why = None;
+    let status = match run(&rt, &mut journal, &mut why) {
         Ok(status) => status,
         // A word that isn't UTF-8 is no command line; else memory was wanting.
         Err(error) if error.kind() == io::ErrorKind::InvalidData => 1,
         Err(_) => 5,
     };
     // Where standard error takes nothing, the status still says what happened.
-    explain(&rt, status, journal.as_slice().last()).ok();
+    explain(&rt, status, journal.as_slice().last(), why).ok();
     ExitCode::from(status)
 }
 
 // The top call over the real ends. An error is one of the words, or want of memory.
-fn run(rt: &HostRuntime, journal: &mut Lines) -> io::Result<u8>
+fn run(rt: &HostRuntime, journal: &mut Lines, why: &mut Option<BadLine>) -> io::Result<u8>
     requires { journal.old ≡ [] }
 {
     let alloc = rt.alloc();
@@ -43,6 +44,7 @@ fn run(rt: &HostRuntime, journal: &mut Lines) -> io::Result<u8>
         &mut sink,
         &mut rack,
         journal,
+        why,
     ))
 }
 
@@ -56,11 +58,16 @@ fn words(rt: &HostRuntime, alloc: Global) -> io::Result<Vec<String>> {
 }
 
 // Says on standard error what ended the run, and where.
-fn explain(rt: &impl Eprint, status: u8, last: Option<&Line>) -> io::Result<()> {
+fn explain(
+    rt: &impl Eprint,
+    status: u8,
+    last: Option<&Line>,
+    why: Option<BadLine>,
+) -> io::Result<()> {
     match status {
         0 => Ok(()),
         1 => eprintln!(rt; "usage: arjuna replay | arjuna generate N"),
-        2 => bad_line(rt, last),
+        2 => bad_line(rt, last, why),
         3 => eprintln!(rt; "arjuna: standard input could not be read"),
         4 => eprintln!(rt; "arjuna: standard output could not be written"),
         6 => limit(rt, last),
@@ -69,14 +76,25 @@ fn explain(rt: &impl Eprint, status: u8, last: Option<&Line>) -> io::Result<()> 
     }
 }
 
-fn bad_line(rt: &impl Eprint, last: Option<&Line>) -> io::Result<()> {
-    if let Some(line) = last {
-        if let Body::Bad { line: number } = &line.body {
-            let number = *number;
-            return eprintln!(rt; "arjuna: line {number} of the script is not in the grammar");
-        }
+fn bad_line(rt: &impl Eprint, last: Option<&Line>, why: Option<BadLine>) -> io::Result<()> {
+    let Some(why) = why else {
+        return eprintln!(rt; "arjuna: a line of the script is bad");
+    };
+    if let BadLine::Missing = why {
+        return eprintln!(rt; "arjuna: the input ended before `run`");
     }
-    eprintln!(rt; "arjuna: a line of the script is not in the grammar")
+    match number_of(last) {
+        Some(number) => eprintln!(rt; "arjuna: line {number} of the script is {why}"),
+        None => eprintln!(rt; "arjuna: a line of the script is {why}"),
+    }
+}
+
+// The number of the bad line that a journal line tells of.
+fn number_of(last: Option<&Line>) -> Option<u32> {
+    match &last?.body {
+        Body::Bad { line } => Some(*line),
+        _ => None,
+    }
 }
 
 fn limit(rt: &impl Eprint, last: Option<&Line>) -> io::Result<()> {

@@ -1,11 +1,10 @@
--- the disks so far are empty
-use Rattle.std.proofs.Common.{◌≡◌, All, None, vec_len}
-use Rattle.arj_disk.specs.Stored.{stored}
-use Rattle.arj_disk.specs.declared.slot.Slot.{Slot}
+-- the disks so far are new
+use Rattle.std.proofs.Common.{◌≡◌, All, vec_len}
+use Rattle.arj_disk.specs.Armed.{IsNew}
 use Rattle.arj_top.proofs.rack.empty_rack.Given as goal
 
 abbrev pub invariant-loop : goal.invariant-loop
 invariant-loop l = record {
   count : vec_len l.disks ≡ l.counter;
-  empty : All (λ disk. (slot : Slot) → stored disk.files slot ≡ None) l.disks.items;
+  new : All IsNew l.disks.items;
 }

@@ -1,0 +1,11 @@
+-- the disks so far are empty
+use Rattle.std.proofs.Common.{◌≡◌, All, None, vec_len}
+use Rattle.arj_disk.specs.Armed.{files_of}
+use Rattle.arj_disk.specs.declared.slot.Slot.{Slot}
+use Rattle.arj_top.proofs.tests.stopping_rack.Given as goal
+
+abbrev pub invariant-loop-node : goal.invariant-loop-node
+invariant-loop-node l = record {
+  count : vec_len l.disks ≡ l.node;
+  empty : All (λ disk. (slot : Slot) → files_of disk slot ≡ None) l.disks.items;
+}

@@ -1,0 +1,42 @@
+-- What a run finds and leaves outside of it: what its source, its sink and its disks tell.
+use Rattle.std.specs.Prelude.{map, drop, ◌≡◌, ◌≤◌, ◌<◌, ℕ, List, Option, Some, None, slice_get}
+use Rattle.arj_disk.specs.declared.slot.Outcome.{Outcome}
+use Rattle.arj_disk.specs.FileMap.{FileMap}
+
+-- What a disk tells: its files, how many of its calls were stopped, how often it was armed, and the last arm.
+pub record DiskView (D : Type 0) : Type 0 where
+  pub file : D → FileMap
+  pub stops : D → ℕ
+  pub arms : D → ℕ
+  pub last_arm : D → Option (ℕ × Outcome)
+
+abbrev pub told_by : {D : Type 0} → (D → FileMap) → (D → ℕ) → (D → ℕ) → (D → Option (ℕ × Outcome)) → DiskView D
+told_by file stops arms last_arm = record { file = file; stops = stops; arms = arms; last_arm = last_arm }
+
+-- no arm came: their number and the last one are as before
+pub record SameArms {D : Type 0} (view : DiskView D) (old new : D) : Type 0 where
+  pub number : view.arms new ≡ view.arms old
+  pub last : view.last_arm new ≡ view.last_arm old
+
+-- The bytes that are left in the source, where it tells them, and its count of failed reads; the bytes that the sink has
+-- taken, where it tells them; and the disks.
+pub record Outside (D : Type 0) : Type 0 where
+  pub left : Option (List ℕ)
+  pub faults : ℕ
+  pub taken : Option (List ℕ)
+  pub rack : List D
+
+abbrev pub outside : {D : Type 0} → Option (List ℕ) → ℕ → Option (List ℕ) → List D → Outside D
+outside left faults taken rack = record { left = left; faults = faults; taken = taken; rack = rack }
+
+-- No disk but the first was touched, none was armed, and the first one's count of stops didn't fall.
+pub record TouchesFirstAlone {D : Type 0} (view : DiskView D) (before after : List D) : Type 0 where
+  pub arms : map view.arms after ≡ map view.arms before
+  pub last_arms : map view.last_arm after ≡ map view.last_arm before
+  pub others : drop 1 after ≡ drop 1 before
+  pub later : (old new : D) → slice_get before 0 ≡ Some old → slice_get after 0 ≡ Some new → view.stops old ≤ view.stops new
+
+-- no count of stops rose; one that stands at its last value counts as risen
+abbrev pub NoDiskRose : {D : Type 0} → DiskView D → List D → List D → Type 0
+NoDiskRose {D} view before after =
+    (node : ℕ) (old new : D) → slice_get before node ≡ Some old → slice_get after node ≡ Some new → (view.stops new ≡ view.stops old) × (view.stops new < 18446744073709551615)

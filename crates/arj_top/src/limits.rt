@@ -1,0 +1,7 @@
+// The sizes of what is read and written at once.
+
+/// How many bytes are asked of the source at once.
+pub const READ_BYTES: usize = 512;
+
+/// How many bytes of text wait at least before they are written, unless the run ends.
+pub const WRITE_BYTES: usize = 8192;
