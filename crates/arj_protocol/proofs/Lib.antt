@@ -1,3 +1,4 @@
+pub mod CoordSays
 pub mod Growth
 pub mod Leaves
 pub mod Maps
@@ -6,6 +7,7 @@ pub mod Steps
 pub mod Messages
 pub mod NamingTable
 pub mod Numbers
+pub mod PartSays
 pub mod Payloads
 pub mod RowSteps
 mod RowsOfLimits

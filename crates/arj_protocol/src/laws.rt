@@ -21,16 +21,20 @@ ghost use Rattle.arj_msg.specs.declared.message.Asked.{Asked};
 ghost use Rattle.arj_msg.specs.declared.message.Head.{Head};
 ghost use Rattle.arj_msg.specs.declared.message.Message.{Message};
 ghost use Rattle.arj_protocol.specs.Ask.{Reply, actor, answers, response, top_of, top_path};
+ghost use Rattle.arj_protocol.specs.Asking.{again_all, heard};
 ghost use Rattle.arj_protocol.specs.Confirm.{Grants, Marks, confirm};
-ghost use Rattle.arj_protocol.specs.Effect.{Disk, Pair, is_prepared};
+ghost use Rattle.arj_protocol.specs.Coord.{Coord, Doing};
+ghost use Rattle.arj_protocol.specs.Effect.{Disk, Intent, Pair, is_prepared};
+ghost use Rattle.arj_protocol.specs.Ending.{acked, answer_query};
 ghost use Rattle.arj_protocol.specs.Laws.{AreOfActions, AreUnknownAt, Grows, Holders, IsPathOf, LeavesCopy, LeavesObject, Local, NamingTable, OnlyEnds, OnlyTold, ServerTable, UnknownToNaming, UnknownToServer, effects_of, speaks};
 ghost use Rattle.arj_protocol.specs.Naming as naming;
 ghost use Rattle.arj_protocol.specs.Naming.{Naming};
 ghost use Rattle.arj_protocol.specs.Node.{Parts, handle};
 ghost use Rattle.arj_protocol.specs.Order.{binding_eq, binding_less, uid_number};
+ghost use Rattle.arj_protocol.specs.Says.{AreAll, is_coord_effect, is_naming_effect, is_server_effect};
 ghost use Rattle.arj_protocol.specs.Server as server;
 ghost use Rattle.arj_protocol.specs.Server.{Server, apply_ends, end_one, is_told};
-ghost use Rattle.arj_protocol.specs.Step.{Input};
+ghost use Rattle.arj_protocol.specs.Step.{Input, acts};
 ghost use Rattle.arj_protocol.specs.Values.{entry_in, value_in};
 ghost use Rattle.arj_protocol.specs.World as world;
 ghost use Rattle.arj_protocol.specs.World.{World, bodies, numbered, run_event, steps};
@@ -67,6 +71,29 @@ pub fn steps_are_local()
 /// Whatever event is run, lines and frames are added behind those that are there. It does nothing when it runs.
 pub fn events_only_add()
     ensures grows { (e : world.Asked) (w : World) → Grows w (run_event e w) }
+{}
+
+/// Each part has effects of its own alone: a server's lines are about locks on objects, copies and ends; naming's about
+/// locks on entries, bindings, ends and entries that are prepared, with the work of these; a coordinator's speak of actions
+/// by their labels, and it alone sends on its own and writes records. It does nothing when it runs.
+pub fn parts_act_alone()
+    ensures activate { (n : ℕ) (p : Path) (b : Binding) (st : ObjectState) (s : Server) → AreAll (is_server_effect n) (server.activate n p b st s).outs }
+    ensures invoke { (n : ℕ) (h : Head) (x : ℕ) (b : Binding) (i : ℕ) (ends : List (Uid × End)) (op : Op) (s : Server)
+        → AreAll (is_server_effect n) (server.invoke n h x b i ends op s).outs }
+    ensures vote { (n : ℕ) (p : Path) (i : ℕ) (ties : List (ℕ × Binding)) (ends : List (Uid × End)) (s : Server)
+        → AreAll (is_server_effect n) (server.vote n p i ties ends s).outs }
+    ensures server_told { (n : ℕ) (ends : List (Uid × End)) (s : Server) → AreAll (is_server_effect n) (server.told n ends s).outs }
+    ensures bind { (p : Path) (x : ℕ) (include : Bool) (avoid : Binding) (d : Pair) (n : Naming)
+        → AreAll is_naming_effect (naming.bind p x include avoid d n).outs }
+    ensures note { (p : Path) (x : ℕ) (b : Binding) (i g : ℕ) (n : Naming) → AreAll is_naming_effect (naming.note p x b i g n).outs }
+    ensures confirm { (p : Path) (grants : Grants) (excluded included : Marks) (d : Pair) (n : Naming)
+        → AreAll is_naming_effect (confirm p grants excluded included d n).outs }
+    ensures naming_told { (u : Uid) (e : End) (d : Pair) (n : Naming) → AreAll is_naming_effect (naming.told u e d n).outs }
+    ensures acts { (i : Input) (intents : List (Uid × Intent)) (c : Coord) → AreAll is_coord_effect (acts i intents c).outs }
+    ensures heard { (from : ℕ) (a : Asked) (r : Reply) (intents : List (Uid × Intent)) (c : Coord) → AreAll is_coord_effect (heard from a r intents c).outs }
+    ensures acked { (from : ℕ) (u : Uid) (intents : List (Uid × Intent)) (c : Coord) → AreAll is_coord_effect (acked from u intents c).outs }
+    ensures query { (from : ℕ) (u : Uid) (intents : List (Uid × Intent)) (c : Coord) → AreAll is_coord_effect (answer_query from u intents c) }
+    ensures again { (ds : List Doing) (c : Coord) → AreAll is_coord_effect (again_all ds c).outs }
 {}
 
 /// The locks of a server on an object change by the lines that its calls say, and by these alone. The path of a request is
