@@ -43,7 +43,7 @@ some_or_none (x ∷ l) = inl (x, or_left (x == x) (has x l) (same x))
 written_target : (p : Plan) (s : ℕ) → is_some p.writes ≡ true → has s p.list ≡ true → target p s ≡ true
 written_target p s w i = or_left (is_some p.writes && has s p.list) (has s p.joins) (rw (w, i))
 
-module _ (A : Office) (c : Named A) (t : ℕ) (may : MayConfirm A t) (present : HasPart (A.world.disk.plan t) → IsPresent A.world.disk A.names t × IsGranted A.world.disk A.names t) where
+module _ (A : Office) (c : Named A) (t : ℕ) (may : MayConfirm A t) (present : HasPart (A.world.disk.plan t) → IsPresent A.world.disk A.names t) where
   abbrev S : State
   S = A.world.disk
 
@@ -61,7 +61,7 @@ module _ (A : Office) (c : Named A) (t : ℕ) (may : MayConfirm A t) (present : 
 
   -- it wasn't confirmed before
   pub unconfirmed : HasPart (S.plan t) → (S.conf t ≡ true) ⊎ (S.light t ≡ true) → ⊥
-  unconfirmed part taken = let x = c.grants.part t taken part in never (x.2 ((present part).0 x.0 x.1)) may.new
+  unconfirmed part taken = let x = c.grants.part t taken part in never (x.2 (present part x.0 x.1)) may.new
 
   pub undone : HasPart (S.plan t) → decided S t ≡ false
   undone part = falls_to (decided S t) (λ d. unconfirmed part (core.coordinators.decided_taken t d))
@@ -75,9 +75,21 @@ module _ (A : Office) (c : Named A) (t : ℕ) (may : MayConfirm A t) (present : 
           let e = one_top S c.roots t h.top top (c.roots.tops h.top (core.fresh.entry h p)) (c.rows.apart t h.top m n row other (omega (arith, low, also))) in
           never conf (ap N.confd (sym e) ∙ may.new)
 
+  -- it has a grant of the present incarnation, or its root retains one
+  pub granted : HasPart (S.plan t) → undecided S t ≡ true → IsGranted S N t
+  granted part u = of part
+    where
+      now : (i : ℕ) → (N.had t i ≡ true) ⊎ (N.had (S.root t) i ≡ true) → i ≡ N.inc → IsGranted S N t
+      now i (inl h) e = inl (subst (λ n. N.had t n ≡ true) e h)
+      now i (inr h) e = inr (subst (λ n. N.had (S.root t) n ≡ true) e h)
+
+      of : HasPart (S.plan t) → IsGranted S N t
+      of (inl wrote) = let x = c.lists.plan t u wrote in now x.0 x.1 (present part x.0 x.1)
+      of (inr (s, j)) = let x = c.plans.asked t s begun j in now x.0 (inl x.1) (present part x.0 (inl x.1))
+
   -- its root has a lock
   pub kin : HasPart (S.plan t) → undecided S t ≡ true → Kin S N (S.root t)
-  kin part u = ⊎_elim (λ (o : IsOver S (S.root t)). absurd (not_over S t u o)) (λ (k : Kin S N (S.root t)). k) (kin_granted S N core c.roots c.grants.row c.grants.root t (present part).1 may.untold)
+  kin part u = ⊎_elim (λ (o : IsOver S (S.root t)). absurd (not_over S t u o)) (λ (k : Kin S N (S.root t)). k) (kin_granted S N core c.roots c.grants.row c.grants.root t (granted part u) may.untold)
 
   -- who has the write lock is of its root, and so not open beside it
   pub no_writer : HasPart (S.plan t) → undecided S t ≡ true → (z : ℕ) → undecided S z ≡ true → (z ≡ t → ⊥) → HasRow N z 2 → ⊥
@@ -145,14 +157,14 @@ module _ (A : Office) (c : Named A) (t : ℕ) (may : MayConfirm A t) (present : 
 
   -- what it includes is the last state, and then it is alone
   pub loaded : HasPart (S.plan t) → undecided S t ≡ true → (s : ℕ) → has s (S.plan t).joins ≡ true → ((S.plan t).loaded ≡ last S) × ((z : ℕ) → S.conf z ≡ true → undecided S z ≡ true → z ≡ t)
-  loaded part u s j = c.plans.loaded t s u j (present part).0
+  loaded part u s j = c.plans.loaded t s u j (present part)
 
   -- each listed store is in its list, or about to leave
   pub wide : HasPart (S.plan t) → undecided S t ≡ true → (s : ℕ) → is_some (S.plan t).writes ≡ true → Listed S s → (target (S.plan t) s ≡ true) ⊎ IsLeaving S.root (decided S) S.entry_pend (S.root t) s
   wide part u s wrote listed = ⊎_elim
       (λ (i : has s (S.plan t).list ≡ true). inl (written_target (S.plan t) s wrote i))
       (λ (x : IsLeaving S.root (decided S) S.entry_pend (S.root t) s). inr x)
-      ((c.lists.plan t u wrote).2 (present part).0 s listed)
+      ((c.lists.plan t u wrote).2 (present part) s listed)
 
   excuse : (s : ℕ) → IsLeaving S.root (decided S) S.entry_pend (S.root t) s → IsExcused S t s
   excuse s x = record { by_entry = x.by_entry; there = x.there; whose = inr (x.done_by, x.of_root); lacks = x.lacks }
@@ -292,7 +304,7 @@ module _ (A : Office) (c : Named A) (t : ℕ) (may : MayConfirm A t) (present : 
 
   -- a top that includes a store has the write lock
   pub join_row : (s : ℕ) → has s (S.plan t).joins ≡ true → HasRow N t 2
-  join_row s j = let x = c.plans.asked t s begun j in c.rows.asked t (x.2 ((present (inr (s, j))).0 x.0 (inl x.1)) may.untold) may.untold
+  join_row s j = let x = c.plans.asked t s begun j in c.rows.asked t (x.2 (present (inr (s, j)) x.0 (inl x.1)) may.untold) may.untold
 
   -- a new entry is guarded
   pub enter_row : bytes_eq (new_list S t) S.entry.content ≡ false → HasRow N t 1
@@ -322,3 +334,16 @@ module _ (A : Office) (c : Named A) (t : ℕ) (may : MayConfirm A t) (present : 
           by true true e n = refl
           by true false e n = let x : true ≡ false = n in cc
           by false b e n = let x : false ≡ true = e in cc
+
+  -- where the entry changes, no other one is prepared: the naming node's prepare is never refused
+  pub enter_free : bytes_eq (new_list S t) S.entry.content ≡ false → S.entry_pend ≡ None
+  enter_free other = by S.entry_pend refl (enter_row other)
+    where
+      by : (o : Option Hold) → S.entry_pend ≡ o → HasRow N t 1 → S.entry_pend ≡ None
+      by None p row = p
+      by (Some h) p row = absurd (alone h p row (c.rows.guard h p))
+        where
+          alone : (k : Hold) → S.entry_pend ≡ Some k → HasRow N t 1 → HasRow N k.top 1 × (N.told k.top ≡ false) × (N.confd k.top ≡ true) → ⊥
+          alone k q (m, mine, low) ((n, theirs, also), told, conf) =
+              let e = one_top S c.roots t k.top top (c.roots.tops k.top (core.fresh.entry k q)) (c.rows.apart t k.top m n mine theirs (omega (arith, low, also))) in
+              never conf (ap N.confd (sym e) ∙ may.new)

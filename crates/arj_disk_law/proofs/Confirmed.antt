@@ -1,16 +1,16 @@
 -- Confirmations, with the naming node's half.
-use Rattle.std.proofs.Common.{◌≡◌, ◌⊎◌, ℕ, List, Bool, true, false, Option, Some, sym, ◌∙◌, ap, subst, inl, inr, ⊎_elim}
+use Rattle.std.proofs.Common.{◌≡◌, ◌⊎◌, ℕ, List, Bool, true, false, Option, Some, None, sym, ◌∙◌, ap, subst, inl, inr, ⊎_elim}
 use Rattle.arj_disk_law.specs.Core.{Core}
 use Rattle.arj_disk_law.specs.Effects
 use Rattle.arj_disk_law.specs.Effects.{World, Whole, CanAgree, CanPass, CanEnter, changed, marked, entry_hold, new_list}
-use Rattle.arj_disk_law.specs.Guards.{HasRow, IsUntold, IsPresent, IsGranted, HasPart, MayConfirm, MayAgree, MayPass, MayEnter}
+use Rattle.arj_disk_law.specs.Guards.{HasRow, IsUntold, IsPresent, HasPart, MayConfirm, MayAgree, MayPass, MayEnter}
 use Rattle.arj_disk_law.specs.Messages.{IsOver}
 use Rattle.arj_disk_law.specs.Named.{Named, Grants, IsLeaving, IsWide, AnswerMeans, Plans}
 use Rattle.arj_disk_law.specs.Names.{Names, Office, Answer, Bound, Loaded, acted, Do}
 use Rattle.arj_disk_law.specs.State.{State, Hold, decided, undecided, target, Listed}
 use Rattle.arj_disk_law.specs.Words.{has, put}
 use Rattle.arj_disk_law.proofs.Base.{put_same, put_true, put_rises, never, never_some, falls_to}
-use Rattle.arj_disk_law.proofs.Booking.{begun, unconfirmed, undone, clear, kin, agree_locked, enter_locked, changes_part, join_row, enter_row}
+use Rattle.arj_disk_law.proofs.Booking.{begun, unconfirmed, undone, clear, kin, agree_locked, enter_locked, changes_part, join_row, enter_row, enter_free, granted}
 use Rattle.arj_disk_law.proofs.Confirming.{marked_cases, marked_rises, marked_now}
 use Rattle.arj_disk_law.proofs.Entries.{last_listed}
 use Rattle.arj_disk_law.proofs.Keeps.{effect_keeps}
@@ -18,7 +18,7 @@ use Rattle.arj_disk_law.proofs.Kin.{near, open_untold}
 use Rattle.arj_disk_law.proofs.Listing.{list_from, entry_content, join_target}
 use Rattle.arj_disk_law.proofs.Restarts.{open_begun}
 
-module _ (A : Office) (c : Named A) (t : ℕ) (may : MayConfirm A t) (present : HasPart (A.world.disk.plan t) → IsPresent A.world.disk A.names t × IsGranted A.world.disk A.names t) where
+module _ (A : Office) (c : Named A) (t : ℕ) (may : MayConfirm A t) (present : HasPart (A.world.disk.plan t) → IsPresent A.world.disk A.names t) where
   abbrev S : State
   S = A.world.disk
 
@@ -48,7 +48,7 @@ module _ (A : Office) (c : Named A) (t : ℕ) (may : MayConfirm A t) (present : 
     conf = λ x y h. ⊎_elim (λ (z : (S.conf x ≡ true) ⊎ (S.light x ≡ true)). put_rises t N.confd x (c.grants.conf x z h)) (λ (z : (x ≡ t) × (undecided S t ≡ true)). ap M.confd z.0 ∙ put_same t true N.confd) (from x y);
     part = λ x y p. ⊎_elim
         (λ (z : (S.conf x ≡ true) ⊎ (S.light x ≡ true)). let w = c.grants.part x z p in (w.0, w.1, λ e. put_rises t N.confd x (w.2 e)))
-        (λ (z : (x ≡ t) × (undecided S t ≡ true)). (N.inc, subst (λ n. (N.had n N.inc ≡ true) ⊎ (N.had (S.root n) N.inc ≡ true)) (sym z.0) (present (subst (λ n. HasPart (S.plan n)) z.0 p)).1, λ e. ap M.confd z.0 ∙ put_same t true N.confd))
+        (λ (z : (x ≡ t) × (undecided S t ≡ true)). (N.inc, subst (λ n. (N.had n N.inc ≡ true) ⊎ (N.had (S.root n) N.inc ≡ true)) (sym z.0) (granted A c t may present (subst (λ n. HasPart (S.plan n)) z.0 p) z.1), λ e. ap M.confd z.0 ∙ put_same t true N.confd))
         (from x y);
     yes = λ x h. ⊎_elim
         (λ (e : x ≡ t). subst (λ n. (S.begun n ≡ true) × (undecided S n ≡ true → (conf n ≡ true) ⊎ (light n ≡ true))) (sym e) (begun A c t may present, now))
@@ -113,8 +113,8 @@ agreed_named A t may c = record {
     part : HasPart (V.plan t)
     part = inl may.writes
 
-    here : HasPart (V.plan t) → IsPresent V A.names t × IsGranted V A.names t
-    here p = (may.present, may.granted)
+    here : HasPart (V.plan t) → IsPresent V A.names t
+    here p = may.present
 
     can : CanAgree A.world t
     can = record {
@@ -165,8 +165,11 @@ entered_named A t may c = record {
     V : State
     V = A.world.disk
 
-    here : HasPart (V.plan t) → IsPresent V A.names t × IsGranted V A.names t
-    here p = (may.present, may.granted)
+    here : HasPart (V.plan t) → IsPresent V A.names t
+    here p = may.present
+
+    free : V.entry_pend ≡ None
+    free = enter_free A c t may.confirm here may.other
 
     part : HasPart (V.plan t)
     part = changes_part A c t may.confirm here may.other
@@ -174,12 +177,12 @@ entered_named A t may c = record {
     can : CanEnter A.world t
     can = record {
       asked = may.confirm.asked;
-      free = may.free;
+      free = free;
       other = may.other;
       stores = may.stores;
       undone = undone A c t may.confirm here part;
       unlisted = may.confirm.unlisted;
-      locked = enter_locked A c t may.confirm here may.free part may.stores may.corner;
+      locked = enter_locked A c t may.confirm here free part may.stores may.corner;
     }
 
     is : (h : Hold) → ◌≡◌ {A = Option Hold} (Some (entry_hold V t)) (Some h) → entry_hold V t ≡ h
@@ -192,7 +195,7 @@ entered_named A t may c = record {
         (list_from (V.plan t) (V.got t) V.entry.content s (subst (λ l. has s l ≡ true) (entry_content t (V.plan t) (V.got t) V.entry) i))
 
     wider : (r : ℕ) (l : List ℕ) → IsWide V r l → IsWide (record V { conf = marked V t V.conf; entry_pend = Some (entry_hold V t) }) r l
-    wider r l w s i = ⊎_elim (λ (y : has s l ≡ true). inl y) (λ (y : IsLeaving V.root (decided V) V.entry_pend r s). absurd (never_some y.there may.free)) (w s i)
+    wider r l w s i = ⊎_elim (λ (y : has s l ≡ true). inl y) (λ (y : IsLeaving V.root (decided V) V.entry_pend r s). absurd (never_some y.there free)) (w s i)
 
     from : (x : ℕ) → (marked V t V.conf x ≡ true) ⊎ (V.light x ≡ true) → ((V.conf x ≡ true) ⊎ (V.light x ≡ true)) ⊎ ((x ≡ t) × (undecided V t ≡ true))
     from x (inl h) = ⊎_elim (λ (y : V.conf x ≡ true). inl (inl y)) (λ (y : (x ≡ t) × (undecided V t ≡ true)). inr y) (marked_cases V t V.conf x h)

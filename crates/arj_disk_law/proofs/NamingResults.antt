@@ -8,7 +8,7 @@ use Rattle.arj_disk_law.specs.State.{State, Packed, is_open, undecided, decided,
 use Rattle.arj_disk_law.specs.Words.{In}
 use Rattle.arj_disk_law.proofs.Acts.{runs_keep, front_runs}
 use Rattle.arj_disk_law.proofs.Base.{never, never_some, open_parts}
-use Rattle.arj_disk_law.proofs.Booking.{agree_locked, enter_locked, changes_part}
+use Rattle.arj_disk_law.proofs.Booking.{agree_locked, enter_locked, changes_part, enter_free}
 use Rattle.arj_disk_law.proofs.History.{known_last}
 use Rattle.arj_disk_law.proofs.Listing.{plain_target}
 use Rattle.arj_disk_law.proofs.Results.{first_is_whole}
@@ -18,8 +18,9 @@ stops_stay_named A acts n r c = runs_keep A (take n acts) (front_runs A n acts r
 
 pub booked : (A : Office) → Named A → IsBooked A
 booked A c = record {
-  agrees = λ t may u. agree_locked A c t may.confirm (λ p. (may.present, may.granted)) may.writes may.same u;
-  enters = λ t may u. enter_locked A c t may.confirm (λ p. (may.present, may.granted)) may.free (changes_part A c t may.confirm (λ p. (may.present, may.granted)) may.other) may.stores may.corner u;
+  agrees = λ t may u. agree_locked A c t may.confirm (λ p. may.present) may.writes may.same u;
+  enters = λ t may u. enter_locked A c t may.confirm (λ p. may.present) (enter_free A c t may.confirm (λ p. may.present) may.other) (changes_part A c t may.confirm (λ p. may.present) may.other) may.stores may.corner u;
+  prepares = λ t may. enter_free A c t may.confirm (λ p. may.present) may.other;
 }
 
 pub old_needs_restart : (A : Office) → Named A → OldNeedsRestart A

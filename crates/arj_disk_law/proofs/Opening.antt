@@ -1,12 +1,12 @@
 -- A commit begins, with the naming node's half: what its plan counts on.
-use Rattle.std.proofs.Common.{◌≡◌, ◌⊎◌, ℕ, Bool, true, false, cond, ◌==◌, Option, Some, None, is_some, nat_lt, refl, sym, ◌∙◌, ap, subst, inl, inr, ⊎_elim}
+use Rattle.std.proofs.Common.{List, ◌≡◌, ◌⊎◌, ℕ, Bool, true, false, cond, ◌==◌, Option, Some, None, is_some, nat_lt, refl, sym, ◌∙◌, ap, subst, inl, inr, ⊎_elim}
 use Rattle.arj_disk_law.specs.Core.{Core}
 use Rattle.arj_disk_law.specs.Effects
 use Rattle.arj_disk_law.specs.Effects.{World, Whole, CanBegin, changed}
 use Rattle.arj_disk_law.specs.Guards.{IsUntold, IsPresent, HasPart, MayBegin}
 use Rattle.arj_disk_law.specs.Laws.{IsBased}
 use Rattle.arj_disk_law.specs.Messages.{IsOver}
-use Rattle.arj_disk_law.specs.Named.{Named, IsHeld, IsWide, IsLoad, AnswerMeans}
+use Rattle.arj_disk_law.specs.Named.{Named, IsHeld, IsLeaving, IsWide, IsLoad, AnswerMeans}
 use Rattle.arj_disk_law.specs.Names.{Names, Office, Kept, Answer, Bound, Loaded, acted, Do, load_of, newer, written_in}
 use Rattle.arj_disk_law.specs.State.{State, Packed, Plan, Preparing, is_idle, is_gone, open_by, decided, undecided, last, Known}
 use Rattle.arj_disk_law.specs.Words.{has, In, put}
@@ -154,22 +154,26 @@ begun_named A t p may c = record {
     Listing : ℕ → Plan → Type 0
     Listing x q = (i : ℕ) × ((N.had x i ≡ true) ⊎ (N.had (S.root x) i ≡ true)) × (IsPresent S N x → IsWide S (S.root x) q.list)
 
+    -- a list with more stores is as wide
+    wider : (l : List ℕ) → ((s : ℕ) → has s l ≡ true → has s p.list ≡ true) → IsWide S (S.root t) l → IsWide S (S.root t) p.list
+    wider l more w s i = ⊎_elim (λ (y : has s l ≡ true). inl (more s y)) (λ (y : IsLeaving S.root (decided S) S.entry_pend (S.root t) s). inr y) (w s i)
+
     mine : is_some p.writes ≡ true → (i : ℕ) × ((N.had t i ≡ true) ⊎ (N.had (S.root t) i ≡ true)) × (IsPresent S N t → IsWide S (S.root t) p.list)
     mine w = by (may.list w)
       where
-        by : (h : ℕ) × ((h ≡ t) ⊎ (h ≡ S.root t)) × (k : Kept) × (N.kept h ≡ Some k) × (p.list ≡ k.list) → (i : ℕ) × ((N.had t i ≡ true) ⊎ (N.had (S.root t) i ≡ true)) × (IsPresent S N t → IsWide S (S.root t) p.list)
+        by : (h : ℕ) × ((h ≡ t) ⊎ (h ≡ S.root t)) × (k : Kept) × (N.kept h ≡ Some k) × ((s : ℕ) → has s k.list ≡ true → has s p.list ≡ true) → (i : ℕ) × ((N.had t i ≡ true) ⊎ (N.had (S.root t) i ≡ true)) × (IsPresent S N t → IsWide S (S.root t) p.list)
         by (h, inl e, k, kept, is) = (
           k.since,
           inl (ap (λ n. N.had n k.since) (sym e) ∙ c.lists.had h k kept),
           λ q.
-              ⊎_elim (λ (o : IsOver S (S.root h)). absurd (not_over (subst (λ n. IsOver S (S.root n)) e o))) (λ (wide : IsWide S (S.root h) k.list). subst (λ l. IsWide S (S.root t) l) (sym is) (subst (λ n. IsWide S (S.root n) k.list) e wide))
+              ⊎_elim (λ (o : IsOver S (S.root h)). absurd (not_over (subst (λ n. IsOver S (S.root n)) e o))) (λ (wide : IsWide S (S.root h) k.list). wider k.list is (subst (λ n. IsWide S (S.root n) k.list) e wide))
               (c.lists.kept h k kept (subst (IsPresent S N) (sym e) q) (subst (IsUntold S N) (sym e) untold_t)),
         )
         by (h, inr e, k, kept, is) = (
           k.since,
           inr (ap (λ n. N.had n k.since) (sym e) ∙ c.lists.had h k kept),
           λ q.
-              ⊎_elim (λ (o : IsOver S (S.root h)). absurd (not_over (subst (IsOver S) (root_of) o))) (λ (wide : IsWide S (S.root h) k.list). subst (λ l. IsWide S (S.root t) l) (sym is) (subst (λ n. IsWide S n k.list) root_of wide))
+              ⊎_elim (λ (o : IsOver S (S.root h)). absurd (not_over (subst (IsOver S) (root_of) o))) (λ (wide : IsWide S (S.root h) k.list). wider k.list is (subst (λ n. IsWide S n k.list) root_of wide))
               (c.lists.kept h k kept (present q) (ap N.told e ∙ untold_t.1, ap N.told root_of ∙ untold_t.1)),
         )
           where

@@ -225,7 +225,7 @@ keep_list_named A h t i l may c = record {
   lists = record {
     had = λ x k. put_cases (λ o. o ≡ Some k → N.had x k.since ≡ true) h (Some new) N.kept x (λ e q. subst (λ (y : Kept). N.had x y.since ≡ true) (same q) (ap (λ n. N.had n i) e ∙ may.had)) (λ e q. c.lists.had x k q);
     kept = λ x k. put_cases (λ o. o ≡ Some k → IsPresent S N x → IsUntold S N x → IsOver S (S.root x) ⊎ IsWide S (S.root x) k.list) h (Some new) N.kept x
-        (λ e q p u. inr (subst (λ (y : Kept). IsWide S (S.root x) y.list) (same q) (subst (λ r. IsWide S r l) (sym (ap S.root e ∙ may.family)) (wide (p i (inl (ap (λ n. N.had n i) e ∙ may.had)))))))
+        (λ e q p u. inr (subst (λ (y : Kept). IsWide S (S.root x) y.list) (same q) (subst (λ r. IsWide S r l) (sym (ap S.root e ∙ may.family)) (wide (p i (inl (ap (λ n. N.had n i) e ∙ may.had))) (ap N.told (sym (ap S.root e ∙ may.family)) ∙ u.1)))))
         (λ e q. c.lists.kept x k q);
     plan = c.lists.plan;
     light = c.lists.light;
@@ -252,8 +252,8 @@ keep_list_named A h t i l may c = record {
     untold : (x : ℕ) → is_gone (S.stage x) ≡ false → N.told x ≡ false
     untold x n = falls_to (N.told x) (λ y. never (c.grants.told x y).0 n)
 
-    wide : i ≡ N.inc → IsWide S (S.root t) l
-    wide e = ((c.answers (Bound t i false l) may.hears.answered).2 (ap is_idle may.hears.idle) e (untold t (ap is_gone may.hears.idle), untold (S.root t) may.root)).2
+    wide : i ≡ N.inc → N.told (S.root t) ≡ false → IsWide S (S.root t) l
+    wide e root = ((c.answers (Bound t i false l) may.hears.answered).2 (ap is_idle may.hears.idle) e (untold t (ap is_gone may.hears.idle), root)).2
 
     answer : (a : Answer) → AnswerMeans S N a → AnswerMeans S M a
     answer (Bound x j d k) y = y

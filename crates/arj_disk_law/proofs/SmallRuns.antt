@@ -26,11 +26,11 @@ excluding_runs = (
   (
     record { answered = inl refl; idle = refl },
     (
-      record { hears = record { answered = inl refl; idle = refl }; root = refl; family = refl; had = refl },
+      record { hears = record { answered = inl refl; idle = refl }; family = refl; had = refl },
       (
         record { held = refl; had = refl; clear = λ a h e. cc },
         (
-          record { idle = refl; root = refl; top = refl; first = λ z e. refl; based = λ w e. some_that e (λ x. BasedIn zero_state [] x) (record { base = zero_state; known = refl; above = refl }); writer = λ w e. some_that e (λ x. (x.writer ≡ 5) × (zero_state.writer ≡ 5 → ⊥)) (refl, λ n. cc); list = λ w. (5, inl refl, record { since = 1; list = 2 ∷ 3 ∷ [] }, refl, refl); loaded = λ s j. cc },
+          record { idle = refl; root = refl; top = refl; first = λ z e. refl; based = λ w e. some_that e (λ x. BasedIn zero_state [] x) (record { base = zero_state; known = refl; above = refl }); writer = λ w e. some_that e (λ x. (x.writer ≡ 5) × (zero_state.writer ≡ 5 → ⊥)) (refl, λ n. cc); list = λ w. (5, inl refl, record { since = 1; list = 2 ∷ 3 ∷ [] }, refl, λ s i. i); loaded = λ s j. cc },
           (
             ((refl, refl), tt),
             (
@@ -48,7 +48,7 @@ excluding_runs = (
                         (
                           record { top = refl; free = λ h n e less. grind (arith, nat_tests) },
                           (
-                            record { confirm = record { asked = inl refl; new = refl; untold = (refl, refl); unlisted = λ s j. cc; exclude = λ s t g l. (1, refl, le_refl 1) }; present = λ i h. grind (arith, nat_tests); granted = inl refl; free = refl; other = refl; stores = (2, refl); corner = λ w e none. some_that e (λ x. x.version ≡ 1) refl },
+                            record { confirm = record { asked = inl refl; new = refl; untold = (refl, refl); unlisted = λ s j. cc; exclude = λ s t g l. (1, refl, le_refl 1) }; present = λ i h. grind (arith, nat_tests); other = refl; stores = (2, refl); corner = λ w e none. some_that e (λ x. x.version ≡ 1) refl },
                             (
                               ((inl refl, λ u. inl refl), tt),
                               tt,
@@ -204,7 +204,7 @@ including_runs = (
                   (
                     (refl, tt),
                     (
-                      record { confirm = record { asked = inl refl; new = refl; untold = (refl, refl); unlisted = λ s j. grind (arith, nat_tests); exclude = λ s t g l. (2, refl, omega arith) }; present = λ i h. grind (arith, nat_tests); granted = inl refl; free = refl; other = refl; stores = (3, refl); corner = λ w e none. cc },
+                      record { confirm = record { asked = inl refl; new = refl; untold = (refl, refl); unlisted = λ s j. grind (arith, nat_tests); exclude = λ s t g l. (2, refl, omega arith) }; present = λ i h. grind (arith, nat_tests); other = refl; stores = (3, refl); corner = λ w e none. cc },
                       (
                         ((inl refl, λ u. inl refl), tt),
                         (
@@ -245,11 +245,11 @@ serializing_runs = (
   (
     record { answered = inl refl; idle = refl },
     (
-      record { hears = record { answered = inl refl; idle = refl }; root = refl; family = refl; had = refl },
+      record { hears = record { answered = inl refl; idle = refl }; family = refl; had = refl },
       (
         record { held = refl; had = refl; clear = λ a h e. cc },
         (
-          record { idle = refl; root = refl; top = refl; first = λ z e. refl; based = λ w e. some_that e (λ x. BasedIn zero_state [] x) (record { base = zero_state; known = refl; above = refl }); writer = λ w e. some_that e (λ x. (x.writer ≡ 6) × (zero_state.writer ≡ 6 → ⊥)) (refl, λ n. cc); list = λ w. (6, inl refl, record { since = 1; list = 2 ∷ 3 ∷ [] }, refl, refl); loaded = λ s j. cc },
+          record { idle = refl; root = refl; top = refl; first = λ z e. refl; based = λ w e. some_that e (λ x. BasedIn zero_state [] x) (record { base = zero_state; known = refl; above = refl }); writer = λ w e. some_that e (λ x. (x.writer ≡ 6) × (zero_state.writer ≡ 6 → ⊥)) (refl, λ n. cc); list = λ w. (6, inl refl, record { since = 1; list = 2 ∷ 3 ∷ [] }, refl, λ s i. i); loaded = λ s j. cc },
           (
             ((refl, refl), tt),
             (
@@ -271,7 +271,7 @@ serializing_runs = (
                             (
                               (refl, tt),
                               (
-                                record { confirm = record { asked = inl refl; new = refl; untold = (refl, refl); unlisted = λ s j. cc; exclude = λ s t g l. absurd (grind (arith, nat_tests)) }; present = λ i h. grind (arith, nat_tests); granted = inl refl; writes = refl; same = refl },
+                                record { confirm = record { asked = inl refl; new = refl; untold = (refl, refl); unlisted = λ s j. cc; exclude = λ s t g l. absurd (grind (arith, nat_tests)) }; present = λ i h. grind (arith, nat_tests); writes = refl; same = refl },
                                 (
                                   ((inl refl, λ u. inl refl), tt),
                                   (
@@ -319,7 +319,7 @@ serializing_runs = (
 
 pub retaining_runs : Runs first_constituent retaining
 retaining_runs = (
-  record { idle = refl; root = refl; top = refl; first = λ z e. grind (arith, nat_tests); based = λ w e. some_that e (λ x. BasedIn zero_state first_constituent.world.disk.tops x) (record { base = state_by 1 6; known = inl refl; above = refl }); writer = λ w e. some_that e (λ x. (x.writer ≡ 7) × (zero_state.writer ≡ 7 → ⊥)) (refl, λ n. cc); list = λ w. (9, inr refl, record { since = 1; list = 2 ∷ 3 ∷ [] }, refl, refl); loaded = λ s j. cc },
+  record { idle = refl; root = refl; top = refl; first = λ z e. grind (arith, nat_tests); based = λ w e. some_that e (λ x. BasedIn zero_state first_constituent.world.disk.tops x) (record { base = state_by 1 6; known = inl refl; above = refl }); writer = λ w e. some_that e (λ x. (x.writer ≡ 7) × (zero_state.writer ≡ 7 → ⊥)) (refl, λ n. cc); list = λ w. (9, inr refl, record { since = 1; list = 2 ∷ 3 ∷ [] }, refl, λ s i. i); loaded = λ s j. cc },
   (
     ((refl, refl), tt),
     (
@@ -341,7 +341,7 @@ retaining_runs = (
                     (
                       (refl, tt),
                       (
-                        record { confirm = record { asked = inl refl; new = refl; untold = (refl, refl); unlisted = λ s j. cc; exclude = λ s t g l. absurd (grind (arith, nat_tests)) }; present = λ i h. grind (arith, nat_tests); granted = inr refl; writes = refl; same = refl },
+                        record { confirm = record { asked = inl refl; new = refl; untold = (refl, refl); unlisted = λ s j. cc; exclude = λ s t g l. absurd (grind (arith, nat_tests)) }; present = λ i h. grind (arith, nat_tests); writes = refl; same = refl },
                         (
                           ((inl refl, λ u. inl refl), tt),
                           (

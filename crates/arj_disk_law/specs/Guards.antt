@@ -37,7 +37,7 @@ MayExclude S N t = (s : ℕ) → target (S.plan t) s ≡ true → S.got t s ≡ 
     → (has s S.entry.content ≡ true) ⊎ ((h : Hold) × (S.entry_pend ≡ Some h) × (has s h.new.content ≡ true)) → HasRow N t 1
 
 -- A commit begins: none of its root's outcomes is open; what it wrote is one version above a known state, by a new writer;
--- its list is the kept one; what it includes was loaded, or its root has it newer.
+-- its list has each store of the kept one; what it includes was loaded, or its root has it newer.
 pub record MayBegin (A : Office) (t : ℕ) (p : Plan) : Type 0 where
   pub idle : A.world.disk.stage t ≡ Idle
   pub root : is_gone (A.world.disk.stage (A.world.disk.root t)) ≡ false
@@ -45,7 +45,7 @@ pub record MayBegin (A : Office) (t : ℕ) (p : Plan) : Type 0 where
   pub first : (z : ℕ) → A.world.disk.root z ≡ A.world.disk.root t → undecided A.world.disk z ≡ false
   pub based : (w : Packed) → p.writes ≡ Some w → IsBased A.world.disk w
   pub writer : (w : Packed) → p.writes ≡ Some w → (w.writer ≡ t) × (A.world.disk.first.writer ≡ t → ⊥)
-  pub list : is_some p.writes ≡ true → (h : ℕ) × ((h ≡ t) ⊎ (h ≡ A.world.disk.root t)) × (k : Kept) × (A.names.kept h ≡ Some k) × (p.list ≡ k.list)
+  pub list : is_some p.writes ≡ true → (h : ℕ) × ((h ≡ t) ⊎ (h ≡ A.world.disk.root t)) × (k : Kept) × (A.names.kept h ≡ Some k) × ((s : ℕ) → has s k.list ≡ true → has s p.list ≡ true)
   pub loaded : (s : ℕ) → has s p.joins ≡ true → (i : ℕ) × (g : Packed) × In (Loaded t i g) A.names.answers × (A.names.had t i ≡ true) × (p.loaded ≡ load_of A.world.disk t g)
 
 -- what a confirmation looks at in each case
@@ -59,13 +59,12 @@ pub record MayConfirm (A : Office) (t : ℕ) : Type 0 where
 pub record MayAgree (A : Office) (t : ℕ) : Type 0 where
   pub confirm : MayConfirm A t
   pub present : IsPresent A.world.disk A.names t
-  pub granted : IsGranted A.world.disk A.names t
   pub writes : is_some (A.world.disk.plan t).writes ≡ true
   pub same : bytes_eq (new_list A.world.disk t) A.world.disk.entry.content ≡ true
 
 pub record MayPass (A : Office) (t : ℕ) : Type 0 where
   pub confirm : MayConfirm A t
-  pub present : HasPart (A.world.disk.plan t) → IsPresent A.world.disk A.names t × IsGranted A.world.disk A.names t
+  pub present : HasPart (A.world.disk.plan t) → IsPresent A.world.disk A.names t
   pub plain : (A.world.disk.plan t).writes ≡ None
   pub none : (s : ℕ) → A.world.disk.got t s ≡ false
 
@@ -73,8 +72,6 @@ pub record MayPass (A : Office) (t : ℕ) : Type 0 where
 pub record MayEnter (A : Office) (t : ℕ) : Type 0 where
   pub confirm : MayConfirm A t
   pub present : IsPresent A.world.disk A.names t
-  pub granted : IsGranted A.world.disk A.names t
-  pub free : A.world.disk.entry_pend ≡ None
   pub other : bytes_eq (new_list A.world.disk t) A.world.disk.entry.content ≡ false
   pub stores : (s : ℕ) × (has s (new_list A.world.disk t) ≡ true)
   pub corner : (w : Packed) → (A.world.disk.plan t).writes ≡ Some w → ((s : ℕ) → has s A.world.disk.entry.content ≡ true → A.world.disk.got t s ≡ false) → w.version ≡ (last A.world.disk).version + 1
@@ -148,10 +145,9 @@ pub record MayHear (A : Office) (t i : ℕ) (b : Bool) (l : List ℕ) : Type 0 w
   pub answered : In (Bound t i b l) A.names.answers
   pub idle : A.world.disk.stage t ≡ Idle
 
--- an answer's list is kept for an action of the root that has a grant of that incarnation, while the root is there
+-- an answer's list is kept for an action of the root that has a grant of that incarnation
 pub record MayKeepList (A : Office) (h t i : ℕ) (l : List ℕ) : Type 0 where
   pub hears : MayHear A t i false l
-  pub root : is_gone (A.world.disk.stage (A.world.disk.root t)) ≡ false
   pub family : A.world.disk.root h ≡ A.world.disk.root t
   pub had : A.names.had h i ≡ true
 

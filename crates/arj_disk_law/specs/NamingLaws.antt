@@ -31,10 +31,12 @@ FirstIsNamed = (S : State) (N : Names) → IsFirst S → IsForest S → IsFirstN
 abbrev pub StopsStayNamed : Type 0
 StopsStayNamed = (A : Office) (acts : List Act) (n : ℕ) → Runs A acts → Named A → Named (end_of A (take n acts))
 
--- The book of locks: what a confirmation counts on, from the naming node's half and the stores.
+-- The book of locks: what a confirmation counts on, from the naming node's half and the stores; and where it prepares a
+-- new entry, no other one is prepared, so that it is never refused.
 pub record IsBooked (A : Office) : Type 0 where
   pub agrees : (t : ℕ) → MayAgree A t → undecided A.world.disk t ≡ true → Locked A.world.disk t
   pub enters : (t : ℕ) → MayEnter A t → undecided A.world.disk t ≡ true → Locked A.world.disk t
+  pub prepares : (t : ℕ) → MayEnter A t → A.world.disk.entry_pend ≡ None
 
 -- A store refuses a state as not above what it holds only if a grant that the top counts on is of an earlier incarnation of
 -- the naming node, so that it has restarted since; for a changed state, as long as the servers give the next version.
