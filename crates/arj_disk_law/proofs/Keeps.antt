@@ -50,6 +50,10 @@ ended_bare S t is a b g = ⊎_elim (λ (e : a ≡ t). let n : false ≡ true = s
 taken_open : (W : World) (t : ℕ) → W.disk.stage t ≡ Confirming → In (Confirmed t) W.sent → Whole W → (W.disk.conf t ≡ true) ⊎ (W.disk.light t ≡ true)
 taken_open W t is sent w = (w.mail (Confirmed t) sent).1 (open_made (decided W.disk t) (W.disk.stage t) (W.disk.intent t) (falls_to (decided W.disk t) (λ d. let n : false ≡ true = sym (ap is_gone is) ∙ w.core.coordinators.decided_closed t d in cc)) (inl (ap is_open is)))
 
+-- whose record may go is decided, since the naming node acknowledged
+pub removed_done : (W : World) (t : ℕ) (nodes : List ℕ) → Allowed W (Effects.Remove t nodes) → Whole W → decided W.disk t ≡ true
+removed_done W t nodes x w = (w.mail (Acked t naming) (x.acked naming (w.core.coordinators.record_names t nodes x.record_is))).0
+
 kept_by : (W : World) (e : Effect) → Allowed W e → Whole W → Kept W.disk (changed W.disk e)
 kept_by W (Effects.Begin t p) x w = record { core = core_begun W.disk t p x w.core; grows = grows_begun W.disk t p x w.core; bare = λ a b g. b }
 kept_by W (Effects.Take t s) x w = let m = w.mail (Prepared t s) x.1 in record { core = core_took W.disk t s x.0 m.1 m.2 w.core; grows = grows_took W.disk t s x.0 w.core; bare = λ a b g. b }
@@ -57,8 +61,8 @@ kept_by W (Effects.Seal t) x w = record { core = core_sealed W.disk t x w.core; 
 kept_by W (Effects.Intend t nodes) x w = record { core = core_intended W.disk t nodes x.sealed (taken_open W t x.sealed x.confirmed w) x.stores x.names w.core; grows = grows_intended W.disk t nodes x.sealed w.core; bare = λ a b g. b }
 kept_by W (Effects.Decide t) x w = record { core = core_decided W.disk t x.0 x.1 w.core; grows = grows_decided W.disk t; bare = λ a b g. b }
 kept_by W (Effects.Remove t nodes) x w = record {
-  core = core_removed W.disk t nodes x.record_is x.done (λ m i. (w.mail (Acked t m) (x.acked m i)).1) ((w.mail (Acked t naming) (x.acked naming (w.core.coordinators.record_names t nodes x.record_is))).2 refl) w.core;
-  grows = grows_removed W.disk t nodes x.done;
+  core = core_removed W.disk t nodes x.record_is (removed_done W t nodes x w) (λ m i. (w.mail (Acked t m) (x.acked m i)).1) ((w.mail (Acked t naming) (x.acked naming (w.core.coordinators.record_names t nodes x.record_is))).2 refl) w.core;
+  grows = grows_removed W.disk t nodes (removed_done W t nodes x w);
   bare = λ a b g. b;
 }
 kept_by W (Effects.EndBare t) x w = record { core = core_ended_bare W.disk t x.sealed (taken_open W t x.sealed x.confirmed w) x.no_record x.untouched w.core; grows = grows_ended_bare W.disk t; bare = ended_bare W.disk t x.sealed }

@@ -11,7 +11,7 @@ use Rattle.arj_disk_law.specs.Words.{has, In, put, put2}
 use Rattle.arj_disk_law.proofs.Base.{bool_cases, put_cases, put_rises, never, some_is, open_done, open_made}
 use Rattle.arj_disk_law.proofs.Calm.{calm, calm_roots, calm_grants, calm_lists, calm_answer, calm_plans}
 use Rattle.arj_disk_law.proofs.Entries.{pending_last}
-use Rattle.arj_disk_law.proofs.Keeps.{effect_keeps}
+use Rattle.arj_disk_law.proofs.Keeps.{effect_keeps, removed_done}
 use Rattle.arj_disk_law.proofs.Mail.{stage_falls}
 use Rattle.arj_disk_law.proofs.Stages.{Ages, ages_gone, ages_seal}
 
@@ -70,7 +70,7 @@ intended_named A t nodes x c = calm_named A A.world.disk.stage (put t (Some node
 
 pub removed_named : (A : Office) (t : ℕ) (nodes : List ℕ) → Allowed A.world (Effects.Remove t nodes) → Named A → Named (acted A (Do (Effects.Remove t nodes)))
 removed_named A t nodes x c = calm_named A A.world.disk.stage (put t None A.world.disk.intent) A.world.disk.bare A.world.disk.got A.world.disk.held A.world.disk.pend A.world.disk.went (same_ages A.world.disk.stage)
-    (λ a u. put_cases (λ o. open_by (decided S a) (S.stage a) o ≡ true → undecided S a ≡ true) t None S.intent a (λ e v. absurd (never (ap (decided S) e ∙ x.done) (open_done (decided S a) (S.stage a) None v))) (λ e v. v) u)
+    (λ a u. put_cases (λ o. open_by (decided S a) (S.stage a) o ≡ true → undecided S a ≡ true) t None S.intent a (λ e v. absurd (never (ap (decided S) e ∙ removed_done A.world t nodes x c.whole) (open_done (decided S a) (S.stage a) None v))) (λ e v. v) u)
     (λ a h. h)
     (λ a d h u l. put_cases (λ o. listed_by o naming ≡ true) t None S.intent a (λ e. absurd (known (ap (λ n. A.names.had n A.names.inc) (sym e) ∙ h) (ap A.names.told (sym e) ∙ u))) (λ e. l))
     (effect_keeps A.world (Effects.Remove t nodes) x c.whole) c

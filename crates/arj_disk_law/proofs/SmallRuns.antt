@@ -178,7 +178,7 @@ excluded_runs = (
 
 pub removed_runs : Runs without_three removed
 removed_runs = (
-  record { record_is = refl; done = refl; acked = λ m i. two_nodes m 1 2 (λ n. In (Acked 5 n) without_three.world.sent) i (inr (inl refl)) (inl refl) },
+  record { record_is = refl; acked = λ m i. two_nodes m 1 2 (λ n. In (Acked 5 n) without_three.world.sent) i (inr (inl refl)) (inl refl) },
   tt,
 )
 

@@ -144,7 +144,6 @@ pub record CanIntend (W : World) (t : ℕ) (nodes : List ℕ) : Type 0 where
 
 pub record CanRemove (W : World) (t : ℕ) (nodes : List ℕ) : Type 0 where
   pub record_is : W.disk.intent t ≡ Some nodes
-  pub done : decided W.disk t ≡ true
   pub acked : (m : ℕ) → has m nodes ≡ true → In (Acked t m) W.sent
 
 pub record CanEndBare (W : World) (t : ℕ) : Type 0 where
