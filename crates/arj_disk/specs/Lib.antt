@@ -2,7 +2,6 @@ pub mod Armed
 pub mod Counted
 pub mod Disk
 pub mod FileMap
-pub mod Files
 pub mod Formed
 pub mod Says
 pub mod Slot
