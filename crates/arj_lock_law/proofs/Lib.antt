@@ -25,3 +25,6 @@ pub mod ValueServers
 pub mod ValueMore
 pub mod ValueAnswer
 pub mod ValueRun
+pub mod Tests
+pub mod Samples
+pub mod Worked

@@ -32,7 +32,7 @@ bind_new s m b k guard h = (later, join h later naming bindings h.servers (λ c 
     t = next (BindNew m b k) s
 
     high : s.naming.bound ≤ b
-    high = guard.2
+    high = guard.1
 
     rise : (a : Act) → s.naming.rows a ≤ rows a
     rise = raise_more s.naming.rows m 2
@@ -101,7 +101,7 @@ bind_new s m b k guard h = (later, join h later naming bindings h.servers (λ c 
 
     naming : NamingHolds t
     naming = record {
-      apart = apart_raise s.naming.rows m 2 h.naming.apart guard.3;
+      apart = apart_raise s.naming.rows m 2 h.naming.apart guard.2;
       told = h.naming.told;
       known = λ l. ap (λ (y : Binding). y.named) (other s.naming.recorded h.naming.recorded_below) ∙ h.naming.known l;
       recorded_below = (let g = high in let r = h.naming.recorded_below in omega (arith, g, r));

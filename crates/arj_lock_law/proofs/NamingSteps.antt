@@ -153,7 +153,7 @@ crash_naming s g guard h = (later, join_naming s n s.net h later naming (λ m i.
     }
 
 pub bind_live : (s : State) (m : Act) → Guard (BindLive m) s → Holds s → Later s (next (BindLive m) s) × Holds (next (BindLive m) s)
-bind_live s m guard h = (later, join_naming s (record s.naming { rows = rows }) ms h later (naming_grown s rows s.naming.asked ms (raise_more s.naming.rows m 1) (λ a e. e) h (apart_raise s.naming.rows m 1 h.naming.apart guard.3)) mail)
+bind_live s m guard h = (later, join_naming s (record s.naming { rows = rows }) ms h later (naming_grown s rows s.naming.asked ms (raise_more s.naming.rows m 1) (λ a e. e) h (apart_raise s.naming.rows m 1 h.naming.apart guard.2)) mail)
   where
     rows : Rows
     rows = raise s.naming.rows m 1
@@ -165,11 +165,11 @@ bind_live s m guard h = (later, join_naming s (record s.naming { rows = rows }) 
     later = later_grown s rows s.naming.asked ms (raise_more s.naming.rows m 1) (λ a e. e)
 
     mail : (x : Message) → In x ms → In x s.net ⊎ Mean (next (BindLive m) s) x
-    mail x (inl is) = inr (subst (λ (y : Message). Mean (next (BindLive m) s) y) (sym is) (guard.0, h.naming.known guard.2, omega arith, λ present untold. (raise_least s.naming.rows m 1, inr (inl refl))))
+    mail x (inl is) = inr (subst (λ (y : Message). Mean (next (BindLive m) s) y) (sym is) (guard.0, h.naming.known guard.1, omega arith, λ present untold. (raise_least s.naming.rows m 1, inr (inl refl))))
     mail x (inr i) = inl i
 
 pub grant : (s : State) (m : Act) → Guard (Grant m) s → Holds s → Later s (next (Grant m) s) × Holds (next (Grant m) s)
-grant s m guard h = (later, join_naming s (record s.naming { rows = rows; asked = asked }) ms h later (naming_grown s rows asked ms (raise_more s.naming.rows m 2) still h (apart_raise s.naming.rows m 2 h.naming.apart guard.2)) mail)
+grant s m guard h = (later, join_naming s (record s.naming { rows = rows; asked = asked }) ms h later (naming_grown s rows asked ms (raise_more s.naming.rows m 2) still h (apart_raise s.naming.rows m 2 h.naming.apart guard.1)) mail)
   where
     rows : Rows
     rows = raise s.naming.rows m 2
@@ -254,7 +254,7 @@ pass_entry s u j guard h = (later, join_naming s n s.net h later naming (λ x i.
     naming : NamingHolds (record s { naming = n; net = s.net })
     naming = record {
       apart = apart_pass s.naming.rows (Root u) j h.naming.apart;
-      told = λ m is. act_cases (λ (a : Act) (v : Bool). is_top a ≡ true → v ≡ true → (3 ≤ (s.action a).stage) ⊎ (3 ≤ (s.action (Root (root a))).stage)) s.naming.told T true (λ it e. inl (let three = guard.0 in omega (arith, three))) (λ a f it e. h.naming.told a it e) m is;
+      told = λ m is. act_cases (λ (a : Act) (v : Bool). is_top a ≡ true → v ≡ true → (3 ≤ (s.action a).stage) ⊎ (3 ≤ (s.action (Root (root a))).stage)) s.naming.told T true (λ it e. inl (let three = guard in omega (arith, three))) (λ a f it e. h.naming.told a it e) m is;
       known = h.naming.known;
       recorded_below = h.naming.recorded_below;
       first_below = h.naming.first_below;

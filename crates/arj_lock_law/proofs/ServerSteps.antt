@@ -427,4 +427,4 @@ pub send_vote : (s : State) (m : Act) (i : ℕ) → Guard (SendVote m i) s → H
 send_vote s m i guard h = send_one s (Vote m (s.kept (root m)) i) h (guard.0, guard.2, omega arith, guard.3, (let e = guard.1 in omega (arith, e)))
 
 pub send_confirm : (s : State) (m : Act) (q : ℕ) → Guard (SendConfirm m q) s → Holds s → Later s (next (SendConfirm m q) s) × Holds (next (SendConfirm m q) s)
-send_confirm s m q guard h = send_one s (Confirm m q) h (guard.0, (let e = guard.1 in omega (arith, e)), guard.2, guard.3)
+send_confirm s m q guard h = send_one s (Confirm m q) h (guard.0, (let e = guard.1 in omega (arith, e)), (λ c i alive covers. (guard.2 c i alive covers).1), guard.3)

@@ -134,7 +134,7 @@ value_pass_top s n u j guard h v later = server_values s h v n x s.net later (in
               | inl q ↦ inl (q, λ y o act. held d (same_is d.holder m q) i y o act (by_cases (on d.holder y)))
               | inr q ↦ inr (
                 q,
-                λ fine. elim (guard.2 d i (under' d i)) [
+                λ fine. elim (guard.1 d i (under' d i)) [
                   | inl is ↦ differ (subst (λ (y : Act). same d.holder y ≡ true) is (same_self d.holder)) q
                   | inr sp ↦ elim sp.2 [ inl four ↦ (let l = (fine.0 sp.0 sp.1).0 in omega (arith, l, four)) | inr doom ↦ differ doom (fine.0 sp.0 sp.1).1 ]
                 ],

@@ -4,3 +4,4 @@ pub mod State
 pub mod Steps
 pub mod Machine
 pub mod Laws
+pub mod Runs

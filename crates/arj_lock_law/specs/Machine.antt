@@ -7,12 +7,12 @@ use Rattle.arj_lock_law.specs.Steps.{Event, CrashNaming, BindLive, BindNew, Gran
 
 abbrev pub Guard : Event → State → Type 0
 Guard (CrashNaming g) s = (s.naming.bound ≤ g) × (s.naming.first < g)
-Guard (BindLive m) s = (is_top m ≡ true) × (s.naming.told m ≡ false) × (s.naming.first ≤ s.naming.recorded) × Clear s.naming.rows m 1
-Guard (BindNew m b n) s = (is_top m ≡ true) × (s.naming.told m ≡ false) × (s.naming.bound ≤ b) × Clear s.naming.rows m 2
-Guard (Grant m) s = (is_top m ≡ true) × (s.naming.told m ≡ false) × Clear s.naming.rows m 2
+Guard (BindLive m) s = (is_top m ≡ true) × (s.naming.first ≤ s.naming.recorded) × Clear s.naming.rows m 1
+Guard (BindNew m b n) s = (is_top m ≡ true) × (s.naming.bound ≤ b) × Clear s.naming.rows m 2
+Guard (Grant m) s = (is_top m ≡ true) × Clear s.naming.rows m 2
 Guard (Record b) s = ((s.binding b).named ≡ true) × IsCurrent s.naming (s.binding b).maker b
 Guard (ConfirmTop m q) s = In (Confirm m q) s.net × (s.naming.first ≤ q)
-Guard (PassEntry u n) s = ((s.action (Sub (Root u) n)).stage ≡ 3) × (s.naming.confirmed (Sub (Root u) n) ≡ true)
+Guard (PassEntry u n) s = (s.action (Sub (Root u) n)).stage ≡ 3
 Guard (DropEntry a) s = IsGone s a ⊎ ((is_top a ≡ true) × ((s.action a).stage ≡ 3) × (s.naming.confirmed a ≡ false))
 Guard (CrashServer n i) s = (s.server n).incarnation < i
 Guard (ActivateCopy n b v) s = In (Activate b v) s.net × ((s.binding b).server ≡ n) × ((s.server n).active < b)
@@ -20,7 +20,7 @@ Guard (Apply n q g) s = In (Invoke q) s.net × IsAt s n q.binding × ((s.server 
 Guard (Refuse n q) s = In (Invoke q) s.net × IsAt s n q.binding × ((s.server n).request q.act < q.number)
 Guard (Change n q) s = In (Invoke q) s.net × ((s.binding q.binding).server ≡ n) × IsElsewhere (s.server n) (s.binding q.binding).incarnation q.binding
 Guard (PassRow n a j) s = (is_action a ≡ true) × ((s.action (Sub a j)).stage ≡ 3)
-Guard (PassTop n u j) s = ((s.action (Sub (Root u) j)).stage ≡ 3) × ((s.server n).voted (Sub (Root u) j) ≡ true) × IsFolded s (s.server n).log (Sub (Root u) j)
+Guard (PassTop n u j) s = ((s.action (Sub (Root u) j)).stage ≡ 3) × IsFolded s (s.server n).log (Sub (Root u) j)
 Guard (DropRows n a) s = ((s.action a).stage ≡ 4) ⊎ ((((s.action (Root (root a))).stage ≡ 3) × IsDrained s (s.server n).log a) ⊎ ((is_top a ≡ true) × ((s.action a).stage ≡ 3) × ((s.server n).voted a ≡ false)))
 Guard (VoteTop n m b i) s = In (Vote m b i) s.net × ((s.binding b).server ≡ n) × ((s.server n).incarnation ≡ i) × ((s.server n).active ≡ b) × IsFolded s (s.server n).log m
 Guard (Keep m b) s = (In (Live m b) s.net ⊎ In (Made m b) s.net) × (s.kept (root m) < b) × IsFree s (root m)
@@ -35,7 +35,7 @@ Guard (CommitNested a p) s = (is_action a ≡ true) × (is_top a ≡ false) × O
 Guard (Abort a) s = (is_action a ≡ true) × ((s.action a).stage ≤ 1)
 Guard (CommitTop m p) s = (is_top m ≡ true) × Open s m × ((s.action m).doomed ≡ false) × IsWhole s m × ((t : Act) → is_top t ≡ true → root t ≡ root m → ((s.action t).stage ≢ 1) × ((s.action t).stage ≢ 2)) × (s.now ≤ p)
 Guard (SendVote m i) s = (is_top m ≡ true) × ((s.action m).stage ≡ 1) × ((s.binding (s.kept (root m))).named ≡ true) × (i ≤ (s.binding (s.kept (root m))).incarnation)
-Guard (SendConfirm m q) s = (is_top m ≡ true) × ((s.action m).stage ≡ 1) × ((c : Call) → In c s.calls → Alive s c.act → Covered s m c.act → q ≤ s.kept (root m)) × ((c : Include) → In c s.includes → Alive s c.act → Covered s m c.act → q ≤ c.grant)
+Guard (SendConfirm m q) s = (is_top m ≡ true) × ((s.action m).stage ≡ 1) × ((c : Call) → In c s.calls → Alive s c.act → Covered s m c.act → (s.yes m ≡ s.kept (root m)) × (q ≤ s.kept (root m))) × ((c : Include) → In c s.includes → Alive s c.act → Covered s m c.act → q ≤ c.grant)
 Guard (Decide m) s = (is_top m ≡ true) × ((s.action m).stage ≡ 1) × ((c : Call) → In c s.calls → Alive s c.act → Covered s m c.act → (s.yes m ≡ s.kept (root m)) × (s.confirmed m ≡ true)) × ((c : Include) → In c s.includes → Alive s c.act → Covered s m c.act → s.confirmed m ≡ true)
 Guard (Report m p) s = (is_top m ≡ true) × ((s.action m).stage ≡ 2) × (s.now ≤ p)
 Guard (EndUnit u) s = ((s.action (Root u)).stage ≡ 0) × ((t : Act) → is_top t ≡ true → root t ≡ u → ((s.action t).stage ≢ 1) × ((s.action t).stage ≢ 2))

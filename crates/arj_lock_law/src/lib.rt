@@ -9,8 +9,10 @@
 #![tactic(auto)]
 
 mod laws;
+mod runs;
 
 pub use laws::{
     calls_of_a_unit_are_nested, calls_saw_the_last_value, calls_stand_in_order,
     overlapping_calls_ran_at_one_node, rows_are_held,
 };
+pub use runs::these_runs_happen;
