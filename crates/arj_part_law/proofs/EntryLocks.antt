@@ -31,7 +31,7 @@ its_owner : (owner : Owners) (u : Uid) → stands_above owner u (owner u) ≡ tr
 its_owner owner u = or_right (uid_eq (owner u) u) (uid_eq (owner u) (owner u)) (uid_same (owner u))
 
 -- whoever is on the path of a holder is the action or its owner
-on_holder : (owner : Owners) (us : List Uid) → IsHolder owner us → (b : Uid) → is_on us b ≡ true → (last_uid us ≡ b) ⊎ ((owner (last_uid us) ≡ b) × (uid_eq (owner (last_uid us)) (last_uid us) ≡ false))
+pub on_holder : (owner : Owners) (us : List Uid) → IsHolder owner us → (b : Uid) → is_on us b ≡ true → (last_uid us ≡ b) ⊎ ((owner (last_uid us) ≡ b) × (uid_eq (owner (last_uid us)) (last_uid us) ≡ false))
 on_holder owner us (inl own) b on = ⊎_elim (λ same. inl (uid_is (last_uid us) b same)) (λ none. never false none refl) (or_cases (uid_eq (last_uid us) b) false (subst (λ vs. is_on vs b ≡ true) own on))
 on_holder owner us (inr own) b on =
     ⊎_elim (λ same. inr (uid_is (owner (last_uid us)) b same, own.1))

@@ -1,1 +1,4 @@
 mod EntryLocks
+mod GoodObjects
+mod Keys
+mod Stands

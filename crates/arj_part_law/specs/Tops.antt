@@ -1,9 +1,9 @@
 -- What the laws take as known of actions: who owns whom. An action's owner is its root: a serializing action owns its
 -- constituents, and every other root is its own owner.
-use Rattle.std.specs.Prelude.{◌≡◌, ◌⊎◌, List, [], ◌∷◌, Bool, false, ◌||◌}
+use Rattle.std.specs.Prelude.{◌≡◌, ◌⊎◌, List, [], ◌∷◌, Bool, true, false, ◌||◌}
 use Rattle.arj_base.specs.declared.uid.Uid.{Uid}
 use Rattle.arj_base.specs.declared.path.Path.{Path}
-use Rattle.arj_base.specs.Rows.{last_uid}
+use Rattle.arj_base.specs.Rows.{last_uid, is_on}
 use Rattle.arj_base.specs.Uid.{uid_eq}
 use Rattle.arj_protocol.specs.Ask.{top_path, top_of}
 
@@ -22,8 +22,9 @@ IsTop owner t = (u : Uid) → owner u ≡ t → u ≡ t
 abbrev pub IsHolder : Owners → List Uid → Type 0
 IsHolder owner us = (us ≡ last_uid us ∷ []) ⊎ ((us ≡ owner (last_uid us) ∷ last_uid us ∷ []) × (uid_eq (owner (last_uid us)) (last_uid us) ≡ false))
 
--- A request is of a top, whose path has its owner. Who sends it knows; the world will show it of every message that was
--- ever sent.
+-- A request is of a top, and its path has the top's owner. Who sends it knows; the world will show it of every message that
+-- was ever sent.
 pub record Fits (owner : Owners) (p : Path) : Type 0 where
   pub holder : IsHolder owner (top_path p)
   pub top : IsTop owner (top_of p)
+  pub owned : is_on (top_path p) (owner (top_of p)) ≡ true

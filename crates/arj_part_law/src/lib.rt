@@ -4,6 +4,8 @@
 //! parameters that does nothing when it runs.
 #![tactic(auto)]
 
+mod objects;
 mod rows;
 
+pub use objects::objects_of_naming_stay_good;
 pub use rows::locks_on_entries_stay_good;
