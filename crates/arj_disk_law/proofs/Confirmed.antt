@@ -87,9 +87,44 @@ module _ (A : Office) (c : Named A) (t : ℕ) (may : MayConfirm A t) (present : 
           let untold = open_untold S N c.roots told_open x u in
           c.roots.one x t u ut (same_root part ut x (a.2 (p a.0 (inl a.1)) untold) untold)
 
+-- each confirmation is allowed, as an effect
+pub can_agree : (A : Office) (t : ℕ) → MayAgree A t → Named A → CanAgree A.world t
+can_agree A t may c = record {
+  asked = may.confirm.asked;
+  writes = may.writes;
+  same = may.same;
+  unlisted = may.confirm.unlisted;
+  clear = clear A c t may.confirm (λ p. may.present);
+  locked = agree_locked A c t may.confirm (λ p. may.present) may.writes may.same;
+}
+
+pub can_pass : (A : Office) (t : ℕ) → MayPass A t → Named A → CanPass A.world t
+can_pass A t may c = record {
+  asked = may.confirm.asked;
+  plain = may.plain;
+  none = may.none;
+  unlisted = may.confirm.unlisted;
+  clear = clear A c t may.confirm may.present;
+  unconfirmed = λ u. falls_to (A.world.disk.conf t) (λ h. let x = c.whole.core.covered.plain t h u may.plain in unconfirmed A c t may.confirm may.present (inr (x.0, x.1)) (inl h));
+}
+
+pub can_enter : (A : Office) (t : ℕ) → MayEnter A t → Named A → CanEnter A.world t
+can_enter A t may c =
+    let part = changes_part A c t may.confirm (λ p. may.present) may.other in
+    let free = enter_free A c t may.confirm (λ p. may.present) may.other in
+    record {
+      asked = may.confirm.asked;
+      free = free;
+      other = may.other;
+      stores = may.stores;
+      undone = undone A c t may.confirm (λ p. may.present) part;
+      unlisted = may.confirm.unlisted;
+      locked = enter_locked A c t may.confirm (λ p. may.present) free part may.stores may.corner;
+    }
+
 pub agreed_named : (A : Office) (t : ℕ) → MayAgree A t → Named A → Named (acted A (Do (Effects.Agree t)))
 agreed_named A t may c = record {
-  whole = effect_keeps A.world (Effects.Agree t) can c.whole;
+  whole = effect_keeps A.world (Effects.Agree t) (can_agree A t may c) c.whole;
   roots = c.roots;
   rows = record {
     apart = c.rows.apart;
@@ -116,16 +151,6 @@ agreed_named A t may c = record {
     here : HasPart (V.plan t) → IsPresent V A.names t
     here p = may.present
 
-    can : CanAgree A.world t
-    can = record {
-      asked = may.confirm.asked;
-      writes = may.writes;
-      same = may.same;
-      unlisted = may.confirm.unlisted;
-      clear = clear A c t may.confirm here;
-      locked = agree_locked A c t may.confirm here may.writes may.same;
-    }
-
     from : (x : ℕ) → (marked V t V.conf x ≡ true) ⊎ (V.light x ≡ true) → ((V.conf x ≡ true) ⊎ (V.light x ≡ true)) ⊎ ((x ≡ t) × (undecided V t ≡ true))
     from x (inl h) = ⊎_elim (λ (y : V.conf x ≡ true). inl (inl y)) (λ (y : (x ≡ t) × (undecided V t ≡ true)). inr y) (marked_cases V t V.conf x h)
     from x (inr h) = inl (inr h)
@@ -139,7 +164,7 @@ agreed_named A t may c = record {
 
 pub entered_named : (A : Office) (t : ℕ) → MayEnter A t → Named A → Named (acted A (Do (Effects.Enter t)))
 entered_named A t may c = record {
-  whole = effect_keeps A.world (Effects.Enter t) can c.whole;
+  whole = effect_keeps A.world (Effects.Enter t) (can_enter A t may c) c.whole;
   roots = c.roots;
   rows = record {
     apart = c.rows.apart;
@@ -174,17 +199,6 @@ entered_named A t may c = record {
     part : HasPart (V.plan t)
     part = changes_part A c t may.confirm here may.other
 
-    can : CanEnter A.world t
-    can = record {
-      asked = may.confirm.asked;
-      free = free;
-      other = may.other;
-      stores = may.stores;
-      undone = undone A c t may.confirm here part;
-      unlisted = may.confirm.unlisted;
-      locked = enter_locked A c t may.confirm here free part may.stores may.corner;
-    }
-
     is : (h : Hold) → ◌≡◌ {A = Option Hold} (Some (entry_hold V t)) (Some h) → entry_hold V t ≡ h
     is h e = cc
 
@@ -210,7 +224,7 @@ entered_named A t may c = record {
 
 pub passed_named : (A : Office) (t : ℕ) → MayPass A t → Named A → Named (acted A (Do (Effects.Pass t)))
 passed_named A t may c = record {
-  whole = effect_keeps A.world (Effects.Pass t) can c.whole;
+  whole = effect_keeps A.world (Effects.Pass t) (can_pass A t may c) c.whole;
   roots = c.roots;
   rows = record {
     apart = c.rows.apart;
@@ -238,16 +252,6 @@ passed_named A t may c = record {
   where
     V : State
     V = A.world.disk
-
-    can : CanPass A.world t
-    can = record {
-      asked = may.confirm.asked;
-      plain = may.plain;
-      none = may.none;
-      unlisted = may.confirm.unlisted;
-      clear = clear A c t may.confirm may.present;
-      unconfirmed = λ u. falls_to (V.conf t) (λ h. let x = c.whole.core.covered.plain t h u may.plain in unconfirmed A c t may.confirm may.present (inr (x.0, x.1)) (inl h));
-    }
 
     -- what it marks isn't listed
     unlisted : (s : ℕ) → has s (V.plan t).joins ≡ true → Listed V s → ⊥

@@ -26,9 +26,17 @@ newer_known S t g k = by (written_in S.root (S.root t) S.tops) refl
         at true = written_known S.root (S.root t) S.first S.tops x e
         at false = k
 
+-- a commit's beginning is allowed, as an effect
+pub can_begin : (A : Office) (t : ℕ) (p : Plan) → MayBegin A t p → Named A → CanBegin A.world.disk t p
+can_begin A t p may c = record {
+  idle = may.idle;
+  root = may.root;
+  loaded = λ s j. let y = may.loaded s j in subst (Known A.world.disk) (sym y.4) (newer_known A.world.disk t y.1 (c.answers (Loaded t y.0 y.1) y.2).2);
+}
+
 pub begun_named : (A : Office) (t : ℕ) (p : Plan) → MayBegin A t p → Named A → Named (acted A (Do (Effects.Begin t p)))
 begun_named A t p may c = record {
-  whole = effect_keeps A.world (Effects.Begin t p) can c.whole;
+  whole = effect_keeps A.world (Effects.Begin t p) (can_begin A t p may c) c.whole;
   roots = record {
     serial = c.roots.serial;
     plain = c.roots.plain;
@@ -87,13 +95,6 @@ begun_named A t p may c = record {
 
     core : Core S
     core = c.whole.core
-
-    can : CanBegin S t p
-    can = record {
-      idle = may.idle;
-      root = may.root;
-      loaded = λ s j. let y = may.loaded s j in subst (Known S) (sym y.4) (newer_known S t y.1 (c.answers (Loaded t y.0 y.1) y.2).2);
-    }
 
     taken_begun : (x : ℕ) → (S.conf x ≡ true) ⊎ (S.light x ≡ true) → S.begun x ≡ true
     taken_begun x (inl h) = core.fresh.conf x h

@@ -1,10 +1,10 @@
 -- What follows with the naming node's half.
-use Rattle.std.specs.Prelude.{◌≡◌, ℕ, ◌+◌, List, [], take, true, false, Some, None}
-use Rattle.arj_disk_law.specs.Effects.{Locked}
-use Rattle.arj_disk_law.specs.Guards.{Runs, end_of, IsPresent, MayAgree, MayEnter}
+use Rattle.std.specs.Prelude.{◌≡◌, ℕ, ◌+◌, List, [], ◌∷◌, take, true, false, Some, None}
+use Rattle.arj_disk_law.specs.Effects.{Effect, Locked, Decide, EndBare, Follows, run}
+use Rattle.arj_disk_law.specs.Guards.{May, Runs, end_of, IsPresent, MayAgree, MayEnter}
 use Rattle.arj_disk_law.specs.Laws.{IsFirst}
 use Rattle.arj_disk_law.specs.Named.{Named}
-use Rattle.arj_disk_law.specs.Names.{Names, Office, Act}
+use Rattle.arj_disk_law.specs.Names.{Names, Office, Act, Do, Commit, CommitBare, Read, Write, Exclude, Lower, Unbind, EndTop, EndSerial, Restart, Hear, KeepList, AnswerLoad, acted}
 use Rattle.arj_disk_law.specs.State.{State, Packed, undecided, target, state_for, last, Below}
 
 -- Roots as actions have them: a serializing action is its own root, as are plain tops and independent ones.
@@ -30,6 +30,27 @@ FirstIsNamed = (S : State) (N : Names) → IsFirst S → IsForest S → IsFirstN
 -- a list of acts, stopped anywhere
 abbrev pub StopsStayNamed : Type 0
 StopsStayNamed = (A : Office) (acts : List Act) (n : ℕ) → Runs A acts → Named A → Named (end_of A (take n acts))
+
+-- the effects of an act on the disks
+abbrev pub effects_of : Act → List Effect
+effects_of (Do e) = e ∷ []
+effects_of (Commit t) = Decide t ∷ []
+effects_of (CommitBare t) = EndBare t ∷ []
+effects_of (Read t) = []
+effects_of (Write t b) = []
+effects_of (Exclude t) = []
+effects_of (Lower t) = []
+effects_of Unbind = []
+effects_of (EndTop t commits) = []
+effects_of (EndSerial r) = []
+effects_of Restart = []
+effects_of (Hear t i b l) = []
+effects_of (KeepList h t i l) = []
+effects_of (AnswerLoad t i s l g) = []
+
+-- what may be done with the naming node's half is allowed on the disks, and does there what its effects do
+abbrev pub ActsAreAllowed : Type 0
+ActsAreAllowed = (A : Office) (a : Act) → May A a → Named A → Follows A.world (effects_of a) × ((acted A a).world ≡ run A.world (effects_of a))
 
 -- The book of locks: what a confirmation counts on, from the naming node's half and the stores; and where it prepares a
 -- new entry, no other one is prepared, so that it is never refused.

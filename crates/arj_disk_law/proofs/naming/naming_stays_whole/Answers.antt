@@ -1,3 +1,4 @@
+use Rattle.arj_disk_law.proofs.Acts.{acts_are_allowed}
 use Rattle.arj_disk_law.proofs.NamingResults.{first_is_named, stops_stay_named}
 use Rattle.arj_disk_law.proofs.naming.naming_stays_whole.Goals as goal
 
@@ -6,3 +7,6 @@ returns-clause-first c = first_is_named
 
 pub returns-clause-acts : goal.returns-clause-acts
 returns-clause-acts c = stops_stay_named
+
+pub returns-clause-allowed : goal.returns-clause-allowed
+returns-clause-allowed c = acts_are_allowed
