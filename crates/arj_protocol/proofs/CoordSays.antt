@@ -29,7 +29,7 @@ both_own : (es fs : List Effect) → Own es → Own fs → Own (es ++ fs)
 both_own es fs a b = all_both is_coord_effect es fs a b
 
 -- what only sends
-map_own : {A : Type 0} (f : A → Effect) (items : List A) → ((a : A) → is_coord_effect (f a) ≡ true) → Own (map f items)
+pub map_own : {A : Type 0} (f : A → Effect) (items : List A) → ((a : A) → is_coord_effect (f a) ≡ true) → Own (map f items)
 map_own f [] each = refl
 map_own f (a ∷ rest) each = rw (each a) (map_own f rest each)
 

@@ -1,4 +1,6 @@
 pub mod CoordSays
+pub mod Follow
+pub mod FollowSteps
 pub mod Growth
 pub mod Leaves
 pub mod Maps
@@ -9,6 +11,7 @@ pub mod NamingTable
 pub mod Numbers
 pub mod PartSays
 pub mod Payloads
+pub mod Quiet
 pub mod RowSteps
 mod RowsOfLimits
 mod RowsOfNodes

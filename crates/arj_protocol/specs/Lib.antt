@@ -15,6 +15,7 @@ pub mod Says
 pub mod Server
 pub mod Step
 pub mod Tree
+pub mod Follow
 pub mod Laws
 pub mod Values
 pub mod Words

@@ -33,9 +33,10 @@ pub data Handled : Type 0 where
 
 -- ---- requests
 
--- the part is put back, and the answer goes to who asked; without an answer the message is void
+-- The part is put back, and the answer goes to who asked. Without an answer the message is void; a part that gives none has
+-- no effects.
 abbrev pub sends_answer : ℕ → Head → Parts → List Effect → Option Reply → Handled
-sends_answer from h t outs None = Void outs
+sends_answer from h t outs None = Void []
 sends_answer from h t outs (Some r) = Took t (outs ++ Send from (response (asked_by h) r) ∷ [])
 
 abbrev pub served : {S R : Type 0} → ℕ → Head → (S → Parts) → (R → Reply) → Served S R → Handled
@@ -149,7 +150,7 @@ handle_hello d t node inc = Took (record t { naming = naming_hello node inc t.na
 
 -- without a reply it is void
 abbrev pub by_reply : Parts → List Effect → Option (Unit {0}) → Handled
-by_reply t outs None = Void outs
+by_reply t outs None = Void []
 by_reply t outs (Some u) = Took t outs
 
 abbrev pub coord_heard : Parts → Served Coord (Unit {0}) → Handled

@@ -8,13 +8,15 @@ ghost use Rattle.arj_base.specs.declared.state.ObjectState.{ObjectState};
 ghost use Rattle.arj_base.specs.declared.uid.Uid.{Uid};
 ghost use Rattle.arj_base.specs.Order.{binding_order};
 ghost use Rattle.arj_base.specs.Path.{tops_of, uids_of};
-ghost use Rattle.arj_base.specs.Uid.{nobody, uid_eq};
+ghost use Rattle.arj_base.specs.Uid.{entry, nobody, uid_eq};
 ghost use Rattle.arj_class.specs.declared.op.Op.{Op};
 ghost use Rattle.arj_class.specs.declared.value.Value.{Value};
 ghost use Rattle.arj_class.specs.Forms.{ValueInForm, payload_of};
 ghost use Rattle.arj_class.specs.Table.{class_of};
 ghost use Rattle.arj_entry.specs.declared.entry.Entry.{Entry};
 ghost use Rattle.arj_entry.specs.Entry.{entry_payload};
+ghost use Rattle.arj_journal.specs.declared.body.Part.TheVariants as part;
+ghost use Rattle.arj_journal.specs.declared.header.Header.{Header};
 ghost use Rattle.arj_msg.specs.Ask.{asks, request};
 ghost use Rattle.arj_msg.specs.declared.ask.Ask.{Ask};
 ghost use Rattle.arj_msg.specs.declared.message.Asked.{Asked};
@@ -22,19 +24,20 @@ ghost use Rattle.arj_msg.specs.declared.message.Head.{Head};
 ghost use Rattle.arj_msg.specs.declared.message.Message.{Message};
 ghost use Rattle.arj_protocol.specs.Ask.{Reply, actor, answers, response, top_of, top_path};
 ghost use Rattle.arj_protocol.specs.Asking.{again_all, heard};
-ghost use Rattle.arj_protocol.specs.Confirm.{Grants, Marks, confirm};
+ghost use Rattle.arj_protocol.specs.Confirm.{Grants, Marks, confirm, recovered_lines, recovered_naming};
 ghost use Rattle.arj_protocol.specs.Coord.{Coord, Doing};
 ghost use Rattle.arj_protocol.specs.Effect.{Disk, Intent, Pair, is_prepared};
 ghost use Rattle.arj_protocol.specs.Ending.{acked, answer_query};
-ghost use Rattle.arj_protocol.specs.Laws.{AreOfActions, AreUnknownAt, Grows, Holders, IsPathOf, LeavesCopy, LeavesObject, Local, NamingTable, OnlyEnds, OnlyTold, ServerTable, UnknownToNaming, UnknownToServer, effects_of, speaks};
+ghost use Rattle.arj_protocol.specs.Follow.{AreEntries, FitsStep, StepFollows, alone};
+ghost use Rattle.arj_protocol.specs.Laws.{naming_rows, rows_after, server_rows, AreOfActions, AreUnknownAt, Grows, Holders, IsPathOf, LeavesCopy, LeavesObject, Local, NamingTable, OnlyEnds, OnlyTold, ServerTable, UnknownToNaming, UnknownToServer, effects_of, speaks};
 ghost use Rattle.arj_protocol.specs.Naming as naming;
 ghost use Rattle.arj_protocol.specs.Naming.{Naming};
 ghost use Rattle.arj_protocol.specs.Node.{Parts, handle};
 ghost use Rattle.arj_protocol.specs.Order.{binding_eq, binding_less, uid_number};
 ghost use Rattle.arj_protocol.specs.Says.{AreAll, is_coord_effect, is_naming_effect, is_server_effect};
 ghost use Rattle.arj_protocol.specs.Server as server;
-ghost use Rattle.arj_protocol.specs.Server.{Server, apply_ends, end_one, is_told};
-ghost use Rattle.arj_protocol.specs.Step.{Input, acts};
+ghost use Rattle.arj_protocol.specs.Server.{Server, apply_ends, end_one, is_told, new_server};
+ghost use Rattle.arj_protocol.specs.Step.{Input, Node, acts, step};
 ghost use Rattle.arj_protocol.specs.Values.{entry_in, value_in};
 ghost use Rattle.arj_protocol.specs.World as world;
 ghost use Rattle.arj_protocol.specs.World.{World, bodies, numbered, run_event, steps};
@@ -124,6 +127,18 @@ pub fn naming_locks_follow_lines()
     ensures told { (h : Holders) (x : ℕ) (u : Uid) (e : End) (d : Pair) (n : Naming) → uid_eq nobody u ≡ false
         → NamingTable h x n (naming.told u e d n).outs (naming.told u e d n).part }
     ensures hello { (h : Holders) (x node inc : ℕ) (n : Naming) → NamingTable h x n [] (naming.hello node inc n) }
+{}
+
+/// Over a whole step of a node that stays up, with all messages that it sends to itself, the locks of its server and of
+/// naming are what the lines of the step make of those before; a server that starts has none, and naming has those that
+/// its lines give back. The messages that are handled are by paths of their actions, with ends of actions. It does
+/// nothing when it runs.
+pub fn steps_follow_lines()
+    ensures step { (h : Holders) (x : ℕ) (n : Node) (t : Parts) (hd : Header) (i : Input) → n.live ≡ Some t → FitsStep h n t i
+        → StepFollows h n.number x t (step hd n i).outs (step hd n i).after.live }
+    ensures server { (x inc : ℕ) → server_rows x (new_server inc) ≡ [] }
+    ensures naming { (x inc : ℕ) (d : Pair) → AreEntries d.held
+        → naming_rows x (recovered_naming inc d) ≡ rows_after alone 1 part.Naming (entry x) (recovered_lines (recovered_naming inc d)) [] }
 {}
 
 /// An end that was told before changes nothing, and one of which a part knows nothing changes nothing but the set of ended
