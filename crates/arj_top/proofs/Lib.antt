@@ -2,6 +2,7 @@ pub mod BuiltForms
 pub mod Bytes
 pub mod Cuts
 pub mod Finish
+mod Lone
 pub mod Places
 pub mod Quiet
 pub mod Stages

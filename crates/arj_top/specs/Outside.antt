@@ -1,5 +1,5 @@
 -- What a run finds and leaves outside of it: what its source, its sink and its disks tell.
-use Rattle.std.specs.Prelude.{map, drop, ◌≡◌, ◌≤◌, ◌<◌, ℕ, List, Option, Some, None, slice_get}
+use Rattle.std.specs.Prelude.{map, drop, ◌≡◌, ◌≤◌, ◌<◌, ℕ, List, Option, Some, slice_get}
 use Rattle.arj_disk.specs.declared.slot.Outcome.{Outcome}
 use Rattle.arj_disk.specs.FileMap.{FileMap}
 
