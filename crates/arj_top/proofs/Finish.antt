@@ -25,6 +25,7 @@ use Rattle.arj_model.specs.Follows.{Step, Runs, AreEnding}
 use Rattle.arj_model.specs.Refusals.{is_down, is_node}
 use Rattle.arj_model.specs.Last.{first_values, stores_of_line, object_line, listed, is_among, state_after}
 use Rattle.arj_model.proofs.Listed.{listed_plain}
+use Rattle.arj_model.specs.Arms.{is_armed}
 use Rattle.arj_model.specs.Past.{Past, Along, nothing_yet}
 use Rattle.arj_model.specs.Serial.{Serial, run, writes_on}
 use Rattle.arj_top.specs.Facts.{Facts, DiskFacts, HaltsHaveCause, disks_in, files_on}
@@ -41,6 +42,7 @@ use Rattle.arj_top.specs.Outcome.{Reach, WasRun, HasStatus, EndsBad, EndsAtLimit
 use Rattle.arj_top.specs.Outside.{DiskView, TouchesFirstAlone, SameArms}
 use Rattle.arj_top.specs.Running.{Engaged, EngineStands, Hand, Stage, Reached, Why, last_body, last_lines, status_of, why_of, events_run}
 use Rattle.arj_top.proofs.Quiet.{SaysSame, same_quiet, same_itself, same_none, bad_quiet, limit_quiet, serial_same, holds_same}
+use Rattle.arj_top.proofs.Arms.{arms_fit, run_armed}
 use Rattle.arj_top.proofs.Stages.{some_is, get_set, all_append}
 use Rattle.arj_top.proofs.Steps.{along_weaker, along_count, forms_length, events_within}
 
@@ -433,6 +435,10 @@ closed view first rack after_rack given at journal end reached racks is =
       in_form = subst (λ js. AllByRecursion LineInForm js) (sym (journal_is ∙ ap (λ ls. ls ++ last) (sym s.journal_is))) (all_append at.journal last s.in_form (last_in_form end at.count s.past.count s.within (omega (arith, size, events_within s.forms, s.counted, s.within))));
       facts = facts_of s.header (events_of s.forms) s.past last journal s.moments (serial_same (first_values s.header) journal s.past.lines same f.serial) journal_is (subst (λ n. AreEnding n last) size (ends_well end at.count s.past.count));
     } in
+    let held : is_some (header_from Start s.forms) ≡ true → DiskFacts view first after_rack s.header journal = λ yes_run. ⊎_elim
+    (λ none. absurd (both_ways _ (f.waits none.1) yes_run))
+    (λ same_rack. subst (λ r. DiskFacts view first r s.header journal) (sym same_rack) (f.held journal same yes_run)) racks
+    in
     record {
       ends = record {
         reach = reach;
@@ -441,9 +447,10 @@ closed view first rack after_rack given at journal end reached racks is =
         has_status = m.has_status;
         tells = m.tells;
         untouched = λ none seven. ⊎_elim (λ format. absurd (seven (ap status_of format.0))) (λ same_rack. same_rack ∙ f.untouched none) racks;
-        held = λ yes_run. ⊎_elim
-            (λ none. absurd (both_ways _ (f.waits none.1) yes_run))
-            (λ same_rack. subst (λ r. DiskFacts view first r s.header journal) (sym same_rack) (f.held journal same yes_run)) racks;
+        held = held;
+        armed = λ yes_run node old new was now.
+            let none = run_armed s.header (node + 1) s.past reached.done s.forms Start reached.place end at.count s.past.count nothing_yet refl refl s.read s.moments in
+            arms_fit view (node + 1) s.past.accepted journal old new (let facts = held yes_run in facts.armed node old new was now) (ap (λ js. filter (λ line. is_armed (node + 1) line.body) js) journal_is ∙ none.0) none.1;
       };
       stops = record {
         reach = reach;

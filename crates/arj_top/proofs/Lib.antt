@@ -1,3 +1,4 @@
+pub mod Arms
 pub mod BuiltForms
 pub mod Bytes
 pub mod Cuts

@@ -12,6 +12,7 @@ use Rattle.arj_journal.specs.LineForm.{LineInForm}
 use Rattle.arj_journal.specs.LineText.{text}
 use Rattle.arj_script.specs.Grammar.{Form, Run, Asks, Place, Start, Running, HasForm}
 use Rattle.arj_script.specs.Input.{Stopped, AtEnd, AtFault, lines_of, events_of}
+use Rattle.arj_model.specs.Arms.{ArmsFit}
 use Rattle.arj_model.specs.Past.{Past, Along, nothing_yet}
 use Rattle.arj_model.specs.Causes.{IsPastLabels, Moment}
 use Rattle.arj_top.specs.declared.ending.BadLine.{BadLine}
@@ -20,7 +21,7 @@ use Rattle.arj_top.specs.Built.{HasBuiltForm, HaveForms, IsBadLine, is_built}
 use Rattle.arj_top.specs.Facts.{Facts, DiskFacts, HaltsHaveCause}
 use Rattle.arj_top.specs.Input.{Came, header_from, IsHeader}
 use Rattle.arj_script.specs.declared.limits.TheConstants.{LINE_BYTES, SCRIPT_LINES}
-use Rattle.arj_top.specs.Outside.{DiskView, Outside}
+use Rattle.arj_top.specs.Outside.{DiskView, Outside, arms_by}
 
 -- How far a run came: the forms of the lines that were run, the place behind them, the header, and the run so far.
 pub record Reach : Type 0 where
@@ -153,6 +154,9 @@ pub record RunEnds {D : Type 0} (view : DiskView D) (given : Script) (before aft
   pub untouched : header_from Start reach.forms ≡ None → answer.status ≢ 7 → after ≡ before
   -- what the disks hold, once `run` was read
   pub held : is_some (header_from Start reach.forms) ≡ true → DiskFacts view before after reach.header answer.journal
+  -- each disk was armed as often as its node's `armed` lines say, the last time as the last such event asked
+  pub armed : is_some (header_from Start reach.forms) ≡ true → (node : ℕ) (old new : D) → slice_get before node ≡ Some old → slice_get after node ≡ Some new
+      → ArmsFit (node + 1) reach.past.accepted answer.journal (arms_by view old) (arms_by view new)
 
 -- What a run of these lines to the status 4 or 5 has shown by this journal: at 5 nothing stands behind the lines of its
 -- events, at 4 nothing but what the run's own end puts there; and each `halted` line has its cause.

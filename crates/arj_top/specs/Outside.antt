@@ -2,6 +2,7 @@
 use Rattle.std.specs.Prelude.{map, drop, ◌≡◌, ◌≤◌, ◌<◌, ℕ, List, Option, Some, slice_get}
 use Rattle.arj_disk.specs.declared.slot.Outcome.{Outcome}
 use Rattle.arj_disk.specs.FileMap.{FileMap}
+use Rattle.arj_model.specs.Arms.{Arms}
 
 -- What a disk tells: its files, how many of its calls were stopped, how often it was armed, and the last arm.
 pub record DiskView (D : Type 0) : Type 0 where
@@ -17,6 +18,10 @@ told_by file stops arms last_arm = record { file = file; stops = stops; arms = a
 pub record SameArms {D : Type 0} (view : DiskView D) (old new : D) : Type 0 where
   pub number : view.arms new ≡ view.arms old
   pub last : view.last_arm new ≡ view.last_arm old
+
+-- how often a disk was armed, and its last arm
+abbrev pub arms_by : {D : Type 0} → DiskView D → D → Arms
+arms_by view disk = record { number = view.arms disk; last = view.last_arm disk }
 
 -- The bytes that are left in the source, where it tells them, and its count of failed reads; the bytes that the sink has
 -- taken, where it tells them; and the disks.
