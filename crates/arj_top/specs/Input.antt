@@ -6,6 +6,7 @@ use Rattle.arj_base.specs.Count.{Rose}
 use Rattle.arj_io.specs.Told.{Gives}
 use Rattle.arj_journal.specs.declared.header.Header.{Header}
 use Rattle.arj_journal.specs.declared.header.ObjectLine.{ObjectLine}
+use Rattle.arj_top.specs.declared.limits.TheConstants.{READ_BYTES}
 use Rattle.arj_script.specs.Grammar.{Form, Run, Place, Objects, next_place}
 use Rattle.arj_script.specs.Input.{Stopped, AtEnd, AtFault, AtLimit, is_enough}
 
@@ -22,7 +23,7 @@ pub record Came (left_before left_after : Option (List ℕ)) (faults_before faul
   pub at_fault : stopped ≡ AtFault → Rose faults_before faults_after
   pub no_fault : (stopped ≡ AtFault → ⊥) → faults_after ≡ faults_before
   pub at_limit : stopped ≡ AtLimit → is_enough bytes ≡ true
-  pub needed : (earlier : List ℕ) × (piece : List ℕ) × (bytes ≡ earlier ++ piece) × (length piece ≤ 512) × (is_enough earlier ≡ false)
+  pub needed : (earlier : List ℕ) × (piece : List ℕ) × (bytes ≡ earlier ++ piece) × (length piece ≤ READ_BYTES) × (is_enough earlier ≡ false)
   pub not_enough : (stopped ≡ AtLimit → ⊥) → is_enough bytes ≡ false
 
 -- the header that the line `run` ends
