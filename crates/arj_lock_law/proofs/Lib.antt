@@ -28,3 +28,6 @@ pub mod ValueRun
 pub mod Tests
 pub mod Samples
 pub mod Worked
+pub mod VoteLasts
+pub mod VoteSteps
+pub mod VoteRun

@@ -5,7 +5,7 @@ use Rattle.arj_lock_law.specs.Rows.{mode}
 use Rattle.arj_lock_law.specs.State.{Call, Include, State, Alive, Covered}
 use Rattle.arj_lock_law.specs.Steps.{Survives}
 use Rattle.arj_lock_law.specs.Machine.{Run, stay, step, next}
-use Rattle.arj_lock_law.specs.Laws.{IsCommitted, Conflicting, IsInOrder, IsNested, IsAtOneNode, IsHeld, IsEntryWritten, CountsFor}
+use Rattle.arj_lock_law.specs.Laws.{IsCommitted, Conflicting, IsInOrder, IsNested, IsAtOneNode, IsHeld, IsEntryWritten, CountsFor, Closes, OfUnit}
 use Rattle.arj_lock_law.proofs.Paths.{by_cases, differ, same_is, same_self, on_top, top_is, top_root, top_of}
 use Rattle.arj_lock_law.proofs.Claims.{IsUp, GoesOn, Covers, gone, over, dropped, stands, Anchor, own, unit, sibling, Good, Done, Before, Member, Follows, Counts, Holds}
 use Rattle.arj_lock_law.proofs.Later.{Later, alive_back, goes_back, first_rises}
@@ -36,16 +36,22 @@ module _ {s : State} (h : Holds s) (low : RootsLow s) where
   counts_top c m i survives is three r covers = record { alive = lives s low c.act survives; good = good_top c (top c.act) i survives (top_is c.act (h.calls c i).acts) (committed_top c i survives) (own_covered c.act); top = is; unit = r; member = inr covers; counts = good_top c m i survives is three covers }
 
   -- a committed top of the call's unit covers it, or had its turn before
-  turn : (c : Call) (m : Act) → In c s.calls → Survives s c.act → is_top m ≡ true → (s.action m).stage ≡ 3 → root m ≡ root c.act → Covered s m c.act ⊎ ((s.action m).place < (s.action (top c.act)).place)
-  turn c m i survives is three r = by (by_cases (same m (top c.act)))
+  turn : (a m : Act) → is_action a ≡ true → Survives s a → is_top m ≡ true → (s.action m).stage ≡ 3 → root m ≡ root a → Covered s m a ⊎ ((s.action m).place < (s.action (top a)).place)
+  turn a m act survives is three r = by (by_cases (same m (top a)))
     where
-      three' : (s.action (top c.act)).stage ≡ 3
-      three' = committed_top c i survives
+      three' : (s.action (top a)).stage ≡ 3
+      three' = survives (top a) (on_top a) (top_acts a act)
 
-      by : (same m (top c.act) ≡ true) ⊎ (same m (top c.act) ≡ false) → Covered s m c.act ⊎ ((s.action m).place < (s.action (top c.act)).place)
-      by (inl e) = inl (sym r, inl (sym (same_is m (top c.act) e)))
-      by (inr f) = elim (h.turns m (top c.act) is (top_is c.act (h.calls c i).acts) (r ∙ sym (top_root c.act)) (λ e. differ (subst (λ (x : Act). same m x ≡ true) e (same_self m)) f) (let e = three in (omega (arith, e), omega (arith, e))) (let e = three' in (omega (arith, e), omega (arith, e))))
-          [ inl d ↦ inr (let l = d.1 in let o = (h.tops m is).ordered three in omega (arith, l, o)) | inr d ↦ inl (sym r, inr (d.0, d.1)) ]
+      by : (same m (top a) ≡ true) ⊎ (same m (top a) ≡ false) → Covered s m a ⊎ ((s.action m).place < (s.action (top a)).place)
+      by (inl e) = inl (sym r, inl (sym (same_is m (top a) e)))
+      by (inr f) = elim (h.turns m (top a) is (top_is a act) (r ∙ sym (top_root a)) (λ e. differ (subst (λ (x : Act). same m x ≡ true) e (same_self m)) f) (let e = three in (omega (arith, e), omega (arith, e))) (let e = three' in (omega (arith, e), omega (arith, e)))) [
+        | inl d ↦ inr (let l = d.1 in let o = (h.tops m is).ordered three in omega (arith, l, o))
+        | inr d ↦ inl (sym r, inr (d.0, d.1))
+      ]
+
+  -- the last top of a unit counts for each surviving action of it
+  pub closes_counts : (a m : Act) → is_action a ≡ true → Survives s a → Closes s m a → CountsFor s m a
+  closes_counts a m act survives k = elim (turn a m act survives k.0.0 k.0.1 k.1) [ inl covers ↦ (k.0, covers) | inr l ↦ absurd (let q = k.2 in omega (arith, l, q)) ]
 
   pub good_last : (d : Call) → In d s.calls → Survives s d.act → Good s (top d.act)
   good_last d i survives = good_top d (top d.act) i survives (top_is d.act (h.calls d i).acts) (committed_top d i survives) (own_covered d.act)
@@ -63,7 +69,7 @@ module _ {s : State} (h : Holds s) (low : RootsLow s) where
       own_follows c d k apart = (follows_top c d k.first k.second k.line k.first_survives k.second_survives apart (top c.act) (top_is c.act (h.calls c k.first).acts) (committed_top c k.first k.first_survives) (top_root c.act) (own_covered c.act)).order k.write
 
       units : (c d : Call) (m : Act) → Conflicting s c d → root c.act ≢ root d.act → IsCommitted s m → root m ≡ root c.act → (s.action m).place < d.line
-      units c d m k apart done r = elim (turn c m k.first k.first_survives done.0 done.1 r) [
+      units c d m k apart done r = elim (turn c.act m (h.calls c k.first).acts k.first_survives done.0 done.1 r) [
         | inl covers ↦ ((follows_top c d k.first k.second k.line k.first_survives k.second_survives apart m done.0 done.1 r covers).order k.write).0.1
         | inr l ↦ (let b = (own_follows c d k apart).0.1 in omega (arith, l, b))
       ]
@@ -81,7 +87,7 @@ module _ {s : State} (h : Holds s) (low : RootsLow s) where
       writes c d k write apart = elim (number_cases (root c.act) (root d.act)) [ inl e ↦ (passed_top c d k e apart).1 | inr f ↦ ((own_follows c d k f).1 write).1 ]
 
   pub is_at_one_node : IsAtOneNode s
-  is_at_one_node c d m i j line sc sd apart done r late = elim (turn c m i sc done.0 done.1 r) [
+  is_at_one_node c d m i j line sc sd apart done r late = elim (turn c.act m (h.calls c i).acts sc done.0 done.1 r) [
     | inl covers ↦ elim (follows_top c d i j line sc sd apart m done.0 done.1 r covers).node [ inl b ↦ absurd (let l = b.1 in omega (arith, l, late)) | inr e ↦ e ]
     | inr l ↦ elim (follows_top c d i j line sc sd apart (top c.act) (top_is c.act (h.calls c i).acts) (committed_top c i sc) (top_root c.act) (own_covered c.act)).node [ inl b ↦ absurd (let q = b.1 in omega (arith, q, l, late)) | inr e ↦ e ]
   ]
@@ -113,8 +119,8 @@ back {s} {t} (step e guard rest) h c i m is r alive good member = by (back rest 
         member' : Member s m c.act
         member' = member_back h k.0 m c.act is (h.calls c i).acts b.member
 
-pub is_held : {s t : State} → Run s t → Holds s → RootsLow s → (c : Call) (m : Act) → In c s.calls → Survives t c.act → CountsFor t m c.act → (s.action m).stage ≡ 0 → IsHeld s t c
-is_held {s} {t} run h low c m i survives counts zero = record { server = server; entry = entry }
+pub is_held : {s t : State} → Run s t → Holds s → RootsLow s → (c : Call) (m : Act) → In c s.calls → Survives t c.act → Closes t m c.act → (s.action m).stage ≡ 0 → IsHeld s t c
+is_held {s} {t} run h low c m i survives closes zero = record { server = server; entry = entry }
   where
     ht : Holds t
     ht = run_keeps run h
@@ -122,6 +128,9 @@ is_held {s} {t} run h low c m i survives counts zero = record { server = server;
     it : {s t : State} → Run s t → Holds s → In c s.calls → In c t.calls
     it stay g j = j
     it (step e guard rest) g j = let k = step_keeps e _ guard g in it rest k.1 (k.0.calls c j)
+
+    counts : CountsFor t m c.act
+    counts = closes_counts ht (roots_low run low) c.act m (h.calls c i).acts survives closes
 
     r : root m ≡ root c.act
     r = sym counts.1.0
@@ -144,13 +153,13 @@ is_held {s} {t} run h low c m i survives counts zero = record { server = server;
         by (dropped u o l) = absurd (let g = b.alive u o in omega (arith, g, l))
         by (stands x u o row merged) = (x, o, subst (λ (n : ℕ). mode c.write ≤ (s.server n).rows x) (sym b.server) row)
 
-    entry : (x : Act) × (root x ≡ root c.act) × (1 ≤ s.naming.rows x)
+    entry : (x : Act) × OfUnit c.act x × (1 ≤ s.naming.rows x)
     entry = by (((h.calls c i).sure b.alive).here (subst (λ (u : ℕ). s.naming.first ≤ s.kept u) (r ∙ sym (top_root c.act)) opened.2) (subst (λ (u : ℕ). GoesOn s u) (sym (top_root c.act)) goes)).1
       where
-        by : Anchor s 1 (top c.act) → (x : Act) × (root x ≡ root c.act) × (1 ≤ s.naming.rows x)
-        by (own p) = (top c.act, top_root c.act, p.0)
-        by (unit l) = (Root (root (top c.act)), top_root c.act, l)
-        by (sibling z it rz three conf p) = (z, rz ∙ top_root c.act, p.0)
+        by : Anchor s 1 (top c.act) → (x : Act) × OfUnit c.act x × (1 ≤ s.naming.rows x)
+        by (own p) = (top c.act, inr (top_is c.act (h.calls c i).acts, top_root c.act), p.0)
+        by (unit l) = (Root (root (top c.act)), inl (ap Root (top_root c.act)), l)
+        by (sibling z it rz three conf p) = (z, inr (it, rz ∙ top_root c.act), p.0)
 
 -- Includes: the write row on the entry.
 
@@ -185,8 +194,8 @@ back_include {s} {t} (step ev guard rest) h c i m is e = by (back_include rest k
         present (inl e') = inl (let l = first_rises k.0 in let q = (h.includes c i).granted in omega (arith, e', l, q))
         present (inr conf) = elim (k.0.confirms_include c i b.alive m is member conf) [ inl f ↦ inr f | inr l ↦ inl (let q = (h.includes c i).granted in omega (arith, l, q)) ]
 
-pub is_entry_written : {s t : State} → Run s t → Holds s → RootsLow s → (c : Include) (m : Act) → In c s.includes → Survives t c.act → CountsFor t m c.act → (s.action m).stage ≡ 0 → IsEntryWritten s c
-is_entry_written {s} {t} run h low c m i survives counts zero = by (((h.includes c i).entered b.alive) (present b.present) goes)
+pub is_entry_written : {s t : State} → Run s t → Holds s → RootsLow s → (c : Include) (m : Act) → In c s.includes → Survives t c.act → Closes t m c.act → (s.action m).stage ≡ 0 → IsEntryWritten s c
+is_entry_written {s} {t} run h low c m i survives closes zero = by (((h.includes c i).entered b.alive) (present b.present) goes)
   where
     ht : Holds t
     ht = run_keeps run h
@@ -194,6 +203,9 @@ is_entry_written {s} {t} run h low c m i survives counts zero = by (((h.includes
     it : {s t : State} → Run s t → Holds s → In c s.includes → In c t.includes
     it stay g j = j
     it (step e guard rest) g j = let k = step_keeps e _ guard g in it rest k.1 (k.0.includes c j)
+
+    counts : CountsFor t m c.act
+    counts = closes_counts ht (roots_low run low) c.act m (h.includes c i).acts survives closes
 
     alive : Alive t c.act
     alive = lives t (roots_low run low) c.act survives
@@ -212,6 +224,6 @@ is_entry_written {s} {t} run h low c m i survives counts zero = by (((h.includes
     present (inr conf) = absurd (let l = (h.tops m counts.0.0).asked conf in let z = zero in omega (arith, l, z))
 
     by : Anchor s 2 (top c.act) → IsEntryWritten s c
-    by (own p) = (top c.act, top_root c.act, p.0)
-    by (unit l) = (Root (root (top c.act)), top_root c.act, l)
-    by (sibling z it' rz tz conf p) = (z, rz ∙ top_root c.act, p.0)
+    by (own p) = (top c.act, inr (top_is c.act (h.includes c i).acts, top_root c.act), p.0)
+    by (unit l) = (Root (root (top c.act)), inl (ap Root (top_root c.act)), l)
+    by (sibling z it' rz tz conf p) = (z, inr (it', rz ∙ top_root c.act), p.0)

@@ -15,6 +15,7 @@ use Rattle.arj_lock_law.specs.Machine.{lowered, after_crash, applied, answer_of,
 use Rattle.arj_lock_law.proofs.Paths.{act_cases, act_other, at_cases}
 use Rattle.arj_lock_law.proofs.Rows.{pass_cases, drop_less}
 use Rattle.std.proofs.Common.{map, filter, min}
+use Rattle.arj_lock_law.specs.State.{Ballot}
 
 -- Steps as tests over some actions, which are all that a run touches.
 
@@ -265,7 +266,7 @@ module _ (us : List Act) where
   passed : (rows : Rows) (a : Act) (j : ℕ) → member a us ≡ true → ((b : Act) → member b us ≡ false → rows b ≡ 0) → (b : Act) → member b us ≡ false → pass rows a j b ≡ 0
   passed rows a j t zero = pass_cases (λ (b : Act) (v : ℕ). member b us ≡ false → v ≡ 0) rows a j (λ f. refl) (λ f. differ t f) (λ b p q f. zero b f)
 
-  served : (s : State) (n : ℕ) (x : Server) (ys vs : Act → ℕ) (ms : List Message) → ((b : Act) → member b us ≡ false → x.rows b ≡ 0) → Finite us s → Finite us (record s { server = at s.server n x; yes = ys; vote = vs; net = ms })
+  served : (s : State) (n : ℕ) (x : Server) (ys : Act → ℕ) (vs : Act → Ballot) (ms : List Message) → ((b : Act) → member b us ≡ false → x.rows b ≡ 0) → Finite us s → Finite us (record s { server = at s.server n x; yes = ys; vote = vs; net = ms })
   served s n x ys vs ms zero fin = record { stage = fin.stage; naming = fin.naming; server = at_cases (λ (k : ℕ) (y : Server). (b : Act) → member b us ≡ false → y.rows b ≡ 0) s.server n x zero (λ k f. fin.server k) }
 
   low : (rows less : Rows) → ((b : Act) → less b ≤ rows b) → ((b : Act) → member b us ≡ false → rows b ≡ 0) → (b : Act) → member b us ≡ false → less b ≡ 0

@@ -21,6 +21,8 @@ use Rattle.arj_lock_law.specs.Machine.{after_crash, answer_of, applied, handed}
 use Rattle.arj_lock_law.proofs.Paths.{on_trans, on_above, on_up, top_of}
 use Rattle.arj_lock_law.proofs.Lasts.{mean_on}
 use Rattle.std.proofs.Common.{map, filter, not}
+use Rattle.arj_lock_law.specs.State.{Ballot}
+use Rattle.arj_lock_law.specs.Machine.{ballot}
 
 -- Steps of servers, and messages that change no part.
 
@@ -33,7 +35,7 @@ no_base a b u kin o f = elim (by_cases (is_action u)) [ inl t ↦ t | inr e ↦ 
     root_is' (Sub y k) e = let never : true ≡ false = e in absurd (cc)
 
 -- One server changes.
-module _ (s : State) (n : ℕ) (v : Server) (ys vs : Act → ℕ) (ms : List Message) where
+module _ (s : State) (n : ℕ) (v : Server) (ys : Act → ℕ) (vs : Act → Ballot) (ms : List Message) where
   abbrev changed : State
   changed = record s { server = at s.server n v; yes = ys; vote = vs; net = ms }
 
@@ -335,8 +337,8 @@ vote_top s n m b i guard h = (later, join h later naming (λ j e. inl e) (server
     ys : Act → ℕ
     ys = at_act s.yes m (max (s.yes m) b)
 
-    vs : Act → ℕ
-    vs = at_act s.vote m (held_value m (s.server n).base (s.server n).log)
+    vs : Act → Ballot
+    vs = at_act s.vote m (ballot s n m b)
 
     t : State
     t = next (VoteTop n m b i) s

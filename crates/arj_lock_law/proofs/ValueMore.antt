@@ -55,7 +55,7 @@ some_below m (e ∷ es) = by (by_cases (on e.holder m)) (some_below m es)
     by (inr f) (inr g) = inr (g.0, inr g.1, g.2)
 
 -- all writes of one log stand below one top
-one_writer : (s : State) → Holds s → Values s → (n : ℕ) (d e : Entry) → In d (s.server n).log → In e (s.server n).log → top d.holder ≡ top e.holder
+pub one_writer : (s : State) → Holds s → Values s → (n : ℕ) (d e : Entry) → In d (s.server n).log → In e (s.server n).log → top d.holder ≡ top e.holder
 one_writer s h v n d e i j =
     let o = v.logs n d i in let p = v.logs n e j in
     elim (h.servers n d.holder e.holder o.row (let l = p.row in omega (arith, l)))

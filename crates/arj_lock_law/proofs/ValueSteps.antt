@@ -10,11 +10,13 @@ use Rattle.arj_lock_law.proofs.ValueLasts.{ValueLater}
 use Rattle.arj_lock_law.proofs.ValueJoin.{Still, still_self, join_still, whole_on}
 use Rattle.arj_lock_law.specs.State.{Naming}
 use Rattle.arj_lock_law.specs.Actions.{at, at_act}
-use Rattle.arj_lock_law.specs.Steps.{IsElsewhere, held_value, BindNew, ConfirmTop, Keep, Name, Included, Load, Refuse, Change, VoteTop}
+use Rattle.arj_lock_law.specs.Steps.{IsElsewhere, BindNew, ConfirmTop, Keep, Name, Included, Load, Refuse, Change, VoteTop}
 use Rattle.arj_lock_law.specs.Machine.{Guard, next}
 use Rattle.arj_lock_law.proofs.Paths.{at_cases, act_cases, act_here}
 use Rattle.arj_lock_law.proofs.ServerSteps.{there}
 use Rattle.std.proofs.Common.{max}
+use Rattle.arj_lock_law.specs.State.{Ballot}
+use Rattle.arj_lock_law.specs.Machine.{ballot}
 
 -- Values through the steps that leave each copy alone.
 
@@ -58,7 +60,7 @@ pub value_load : (s : State) (b x : ℕ) → Guard (Load b x) s → Holds s → 
 value_load s b x guard h v later = value_send s (Activate b x) h v later (λ current. (guard.2 (record { present = current.present; unrecorded = current.unrecorded; untold = current.untold; last = current.last })).value)
 
 -- One server changes, and no copy or log.
-module _ (s : State) (n : ℕ) (x : Server) (ys vs : Act → ℕ) (ms : List Message) where
+module _ (s : State) (n : ℕ) (x : Server) (ys : Act → ℕ) (vs : Act → Ballot) (ms : List Message) where
   pub same_server_actions : ((a : Act) → (s.server n).request a ≤ x.request a) ⊎ ((s.server n).incarnation < x.incarnation) → ValueLater s (record s { server = at s.server n x; yes = ys; vote = vs; net = ms })
   same_server_actions rises = record { initial = refl; request = at_cases (λ (k : ℕ) (w : Server). (s.server k).incarnation ≡ w.incarnation → (a : Act) → (s.server k).request a ≤ w.request a) s.server n x (λ e a. by e a rises) (λ k f e a. omega arith); clean = λ a c. c; doomed = λ a d. d; spoils = λ a c. inl c; news = λ a act f. inl f; tops = λ m is e. inl e; wait_back = λ a k l e w. (e, w) }
     where
@@ -101,7 +103,7 @@ value_refuse s n q guard h v later = value_server s n x s.yes s.vote ms h v late
     mail m (inr i) = inl i
 
 pub value_vote : (s : State) (n : ℕ) (m : Act) (b i : ℕ) → Holds s → Values s → Later s (next (VoteTop n m b i) s) → Values (next (VoteTop n m b i) s)
-value_vote s n m b i h v later = value_server s n (record (s.server n) { voted = at_act (s.server n).voted m true }) (at_act s.yes m (max (s.yes m) b)) (at_act s.vote m (held_value m (s.server n).base (s.server n).log)) s.net h v later (record { active = refl; base = refl; log = refl; rows = λ a. omega arith; request = λ a. omega arith }) (λ x j. inl j)
+value_vote s n m b i h v later = value_server s n (record (s.server n) { voted = at_act (s.server n).voted m true }) (at_act s.yes m (max (s.yes m) b)) (at_act s.vote m (ballot s n m b)) s.net h v later (record { active = refl; base = refl; log = refl; rows = λ a. omega arith; request = λ a. omega arith }) (λ x j. inl j)
 
 -- Naming and coordinators where actions stay as they are.
 

@@ -1,9 +1,9 @@
 -- What every run of the lock machine keeps.
 use Rattle.std.proofs.Common.{◌≡◌, ◌≢◌, ◌≤◌, ◌<◌, ◌⊎◌, List, [], ◌∷◌, true}
-use Rattle.arj_lock_law.specs.Actions.{Act, on, root, top, is_top, In}
+use Rattle.arj_lock_law.specs.Actions.{Act, Root, on, root, top, is_top, In}
 use Rattle.arj_lock_law.specs.Rows.{mode}
-use Rattle.arj_lock_law.specs.State.{Call, Include, State, Passed, Covered}
-use Rattle.arj_lock_law.specs.Steps.{Survives, IsLast}
+use Rattle.arj_lock_law.specs.State.{Alive, Call, Include, State, Passed, Covered}
+use Rattle.arj_lock_law.specs.Steps.{Survives, Newest, IsLast}
 
 abbrev pub IsCommitted : State → Act → Type 0
 IsCommitted s m = (is_top m ≡ true) × ((s.action m).stage ≡ 3)
@@ -33,21 +33,37 @@ IsNested s = (c d : Call) → Conflicting s c d → root c.act ≡ root d.act �
 abbrev pub IsAtOneNode : State → Type 0
 IsAtOneNode s = (c d : Call) (m : Act) → In c s.calls → In d s.calls → c.line < d.line → Survives s c.act → Survives s d.act → root c.act ≢ root d.act → IsCommitted s m → root m ≡ root c.act → d.line ≤ (s.action m).place → s.kept (root c.act) ≡ s.kept (root d.act)
 
--- From a state s on that has the call until one where it survives, and a committed top of its unit: as long as that top's
--- commit isn't called a row of the call's mode stands for it at the binding's server, and one on the entry for its unit.
-pub record IsHeld (s t : State) (c : Call) : Type 0 where
-  pub server : (h : Act) × (on c.act h ≡ true) × (mode c.write ≤ (s.server (t.binding (t.kept (root c.act))).server).rows h)
-  pub entry : (h : Act) × (root h ≡ root c.act) × (1 ≤ s.naming.rows h)
-
-abbrev pub IsEntryWritten : State → Include → Type 0
-IsEntryWritten s c = (h : Act) × (root h ≡ root c.act) × (2 ≤ s.naming.rows h)
-
 -- The call counts for the top's commit: it is the top's own, or its top was committed before that commit was called.
 abbrev pub CountsFor : State → Act → Act → Type 0
 CountsFor s m a = IsCommitted s m × Covered s m a
+
+-- The top is committed, of the action's unit, and its commit wasn't called before that of the action's own top. The last
+-- member of the unit is such a top.
+abbrev pub Closes : State → Act → Act → Type 0
+Closes s m a = IsCommitted s m × (root m ≡ root a) × ((s.action (top a)).place ≤ (s.action m).place)
+
+-- The action's unit, or a top of it.
+abbrev pub OfUnit : Act → Act → Type 0
+OfUnit a h = (h ≡ Root (root a)) ⊎ ((is_top h ≡ true) × (root h ≡ root a))
+
+-- In state s a row of the call's mode, held on its path, stands at the server of the binding that its root keeps at the end
+-- (in state t), which is one node for all states; and one on the entry, held by its unit.
+pub record IsHeld (s t : State) (c : Call) : Type 0 where
+  pub server : (h : Act) × (on c.act h ≡ true) × (mode c.write ≤ (s.server (t.binding (t.kept (root c.act))).server).rows h)
+  pub entry : (h : Act) × OfUnit c.act h × (1 ≤ s.naming.rows h)
+
+abbrev pub IsEntryWritten : State → Include → Type 0
+IsEntryWritten s c = (h : Act) × OfUnit c.act h × (2 ≤ s.naming.rows h)
 
 -- The calls, newest first: each surviving one met the value that the newest surviving write before it left, or the first
 -- value where there is none.
 abbrev pub SawTheLast : State → List Call → Type 0
 SawTheLast s [] = Unit {0}
 SawTheLast s (d ∷ cs) = (Survives s d.act → IsLast s d.sees cs) × SawTheLast s cs
+
+-- What the stores are given. A top whose commit is decided, and that has a write which wasn't undone, voted for the value of
+-- its newest write; and until its committed line stands, the value that lay under it at the voting server is the last
+-- committed one, so that what it changed stands one version above that.
+pub record VotesAreRight (s : State) : Type 0 where
+  pub value : (m : Act) (c : Call) → is_top m ≡ true → 2 ≤ (s.action m).stage → (s.action m).stage ≤ 3 → In c s.calls → c.write ≡ true → top c.act ≡ m → Alive s c.act → Newest s.initial (λ a. (top a ≡ m) × Alive s a) (s.vote m).value s.calls
+  pub under : (m : Act) (c : Call) → is_top m ≡ true → (s.action m).stage ≡ 2 → In c s.calls → c.write ≡ true → top c.act ≡ m → Alive s c.act → IsLast s (s.vote m).under s.calls

@@ -1,8 +1,8 @@
 -- When each step may be taken, the state after it, and runs.
-use Rattle.std.proofs.Common.{◌≡◌, ◌≢◌, ◌≤◌, ◌<◌, ◌+◌, ◌⊎◌, ℕ, [], ◌∷◌, true, false, cond, max, min, filter, not, map}
+use Rattle.std.proofs.Common.{◌==◌, ◌≡◌, ◌≢◌, ◌≤◌, ◌<◌, ◌+◌, ◌⊎◌, ℕ, [], ◌∷◌, true, false, cond, max, min, filter, not, map}
 use Rattle.arj_lock_law.specs.Actions.{Act, Root, Sub, same, on, root, top, is_top, is_action, at, at_act, In}
 use Rattle.arj_lock_law.specs.Rows.{Rows, mode, Clear, raise, pass, drop_below}
-use Rattle.arj_lock_law.specs.State.{Action, Naming, Entry, Server, Call, Include, Request, Answer, Message, Live, Made, Granted, Activate, Activated, Recorded, Invoke, Invoked, Refused, Changed, Vote, Confirm, State, Alive, Open, Covered, IsFree}
+use Rattle.arj_lock_law.specs.State.{Ballot, Action, Naming, Entry, Server, Call, Include, Request, Answer, Message, Live, Made, Granted, Activate, Activated, Recorded, Invoke, Invoked, Refused, Changed, Vote, Confirm, State, Alive, Open, Covered, IsFree}
 use Rattle.arj_lock_law.specs.Steps.{Event, CrashNaming, BindLive, BindNew, Grant, Record, ConfirmTop, PassEntry, DropEntry, CrashServer, ActivateCopy, Apply, Refuse, Change, PassRow, PassTop, DropRows, VoteTop, Keep, Name, Load, SendInvoke, Answered, TurnedDown, Lost, GiveUp, CommitNested, Abort, CommitTop, SendVote, SendConfirm, Decide, Report, EndUnit, Included, value_over, held_value, IsCurrent, LoadsTheLast, IsGone, IsFolded, IsDrained, IsElsewhere, IsAt, IsWhole, KnowsRecorded, MayUse}
 
 abbrev pub Guard : Event → State → Type 0
@@ -74,6 +74,10 @@ lowered n m = at_act n.rows m (cond (n.asked m) (n.rows m) (min (n.rows m) 1))
 abbrev pub stopped : Action → Action
 stopped x = record x { waits = false }
 
+-- what a vote gives; one that comes again, or of an earlier binding, gives nothing new
+abbrev pub ballot : State → ℕ → Act → ℕ → Ballot
+ballot s n m b = cond (max (s.yes m) b == s.yes m) (s.vote m) (record { value = held_value m (s.server n).base (s.server n).log; under = (s.server n).base })
+
 abbrev pub next : Event → State → State
 next (CrashNaming g) s = with_naming s (record s.naming { first = g; bound = g; rows = λ a. 0; told = λ a. false; confirmed = λ a. false; asked = λ a. false })
 next (BindLive m) s = sending (with_naming s (record s.naming { rows = raise s.naming.rows m 1 })) (Live m s.naming.recorded)
@@ -91,7 +95,7 @@ next (Change n q) s = sending s (Changed q.binding)
 next (PassRow n a j) s = with_server s n (record (s.server n) { rows = pass (s.server n).rows a j; log = map (handed a j) (s.server n).log })
 next (PassTop n u j) s = with_server s n (record (s.server n) { rows = pass (s.server n).rows (Root u) j; base = held_value (Sub (Root u) j) (s.server n).base (s.server n).log; log = filter (λ e. not (on e.holder (Sub (Root u) j))) (s.server n).log })
 next (DropRows n a) s = with_server s n (record (s.server n) { rows = drop_below (s.server n).rows a; log = filter (λ e. not (on e.holder a)) (s.server n).log })
-next (VoteTop n m b i) s = record s { server = at s.server n (record (s.server n) { voted = at_act (s.server n).voted m true }); yes = at_act s.yes m (max (s.yes m) b); vote = at_act s.vote m (held_value m (s.server n).base (s.server n).log) }
+next (VoteTop n m b i) s = record s { server = at s.server n (record (s.server n) { voted = at_act (s.server n).voted m true }); yes = at_act s.yes m (max (s.yes m) b); vote = at_act s.vote m (ballot s n m b) }
 next (Keep m b) s = record s { kept = at s.kept (root m) b }
 next (Name b i) s = record s { binding = at s.binding b (record (s.binding b) { named = true; incarnation = i }) }
 next (Load b v) s = sending s (Activate b v)
@@ -111,7 +115,7 @@ next (EndUnit u) s = with_action s (Root u) (record (s.action (Root u)) { stage 
 next (Included a g p) s = record s { now = p + 1; includes = record { act = a; line = p; grant = g } ∷ s.includes }
 
 abbrev pub start : ℕ → State
-start v = record { now = 1; initial = v; naming = record { first = 1; recorded = 0; bound = 1; rows = λ a. 0; told = λ a. false; confirmed = λ a. false; made = λ a. 0; asked = λ a. false }; binding = λ b. record { server = 0; maker = Root 0; named = false; incarnation = 0 }; server = λ n. after_crash 0; action = λ a. record { stage = 0; place = 0; done = 0; request = 0; waits = false; since = 0; doomed = false }; kept = λ r. 0; yes = λ a. 0; vote = λ a. 0; confirmed = λ a. false; calls = []; includes = []; net = [] }
+start v = record { now = 1; initial = v; naming = record { first = 1; recorded = 0; bound = 1; rows = λ a. 0; told = λ a. false; confirmed = λ a. false; made = λ a. 0; asked = λ a. false }; binding = λ b. record { server = 0; maker = Root 0; named = false; incarnation = 0 }; server = λ n. after_crash 0; action = λ a. record { stage = 0; place = 0; done = 0; request = 0; waits = false; since = 0; doomed = false }; kept = λ r. 0; yes = λ a. 0; vote = λ a. record { value = 0; under = 0 }; confirmed = λ a. false; calls = []; includes = []; net = [] }
 
 -- A run from one state to another.
 pub data Run : State → State → Type 0 where

@@ -85,6 +85,11 @@ pub record Answer : Type 0 where
   pub sees : ℕ
   pub gives : ℕ
 
+-- What a server's vote gave: the value that the top left, and the copy's own value under it.
+pub record Ballot : Type 0 where
+  pub value : ℕ
+  pub under : ℕ
+
 pub data Message : Type 0 where
   Live : Act → ℕ → Message  -- naming to a top: this binding is recorded, and you have a read row
   Made : Act → ℕ → Message  -- naming to a top: this binding is made for you, and you have the write row
@@ -108,7 +113,7 @@ pub record State : Type 0 where
   pub action : Act → Action
   pub kept : ℕ → ℕ  -- the last binding that a root kept; it only rises
   pub yes : Act → ℕ  -- a history: the greatest binding under which a server voted for the top
-  pub vote : Act → ℕ  -- a history: the value that this vote gave
+  pub vote : Act → Ballot  -- a history: what this vote gave
   pub confirmed : Act → Bool  -- a history: naming confirmed the top, in whatever incarnation
   pub calls : List Call  -- newest first
   pub includes : List Include

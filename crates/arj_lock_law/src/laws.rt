@@ -4,7 +4,7 @@ ghost use Rattle.arj_lock_law.specs.Actions.{Act, In};
 ghost use Rattle.arj_lock_law.specs.State.{State, Call, Include};
 ghost use Rattle.arj_lock_law.specs.Steps.{Survives};
 ghost use Rattle.arj_lock_law.specs.Machine.{start, Run};
-ghost use Rattle.arj_lock_law.specs.Laws.{IsInOrder, IsNested, IsAtOneNode, IsHeld, IsEntryWritten, CountsFor, SawTheLast};
+ghost use Rattle.arj_lock_law.specs.Laws.{IsInOrder, IsNested, IsAtOneNode, IsHeld, IsEntryWritten, Closes, SawTheLast, VotesAreRight};
 
 /// Order: the ok lines of two conflicting surviving calls stand in the serial order of their tops, whatever restarts, lost
 /// locks, replaced bindings and old messages come between. It does nothing when it runs.
@@ -24,15 +24,21 @@ pub fn overlapping_calls_ran_at_one_node()
 {}
 
 /// Held: for each surviving call a row of its mode stands at one node, and one on the object's entry, in each state from
-/// its line on to the commit call of each committed top that it counts for, the last of its unit among them; and for each
-/// surviving include the write row on the entry. It does nothing when it runs.
+/// its line on to the commit call of the last committed top of its unit; and for each surviving include the write row on
+/// the entry. It does nothing when it runs.
 pub fn rows_are_held()
-    ensures calls { (v : ℕ) (s t : State) → Run (start v) s → Run s t → (c : Call) (m : Act) → In c s.calls → Survives t c.act → CountsFor t m c.act → (s.action m).stage ≡ 0 → IsHeld s t c }
-    ensures includes { (v : ℕ) (s t : State) → Run (start v) s → Run s t → (c : Include) (m : Act) → In c s.includes → Survives t c.act → CountsFor t m c.act → (s.action m).stage ≡ 0 → IsEntryWritten s c }
+    ensures calls { (v : ℕ) (s t : State) → Run (start v) s → Run s t → (c : Call) (m : Act) → In c s.calls → Survives t c.act → Closes t m c.act → (s.action m).stage ≡ 0 → IsHeld s t c }
+    ensures includes { (v : ℕ) (s t : State) → Run (start v) s → Run s t → (c : Include) (m : Act) → In c s.includes → Survives t c.act → Closes t m c.act → (s.action m).stage ≡ 0 → IsEntryWritten s c }
 {}
 
 /// Values: each surviving call met the value that all surviving writes before it left, whatever was undone, lost, applied
 /// late or loaded in between. It does nothing when it runs.
 pub fn calls_saw_the_last_value()
     ensures values { (v : ℕ) (s : State) → Run (start v) s → SawTheLast s s.calls }
+{}
+
+/// Votes: what a decided top gives to the stores is the value of its newest write, one version above the last committed
+/// one. It does nothing when it runs.
+pub fn votes_are_right()
+    ensures votes { (v : ℕ) (s : State) → Run (start v) s → VotesAreRight s }
 {}
