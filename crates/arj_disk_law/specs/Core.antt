@@ -140,6 +140,7 @@ Effective S = record {
   late : (s : ℕ) (h : Hold) → has s (last_entry S).content ≡ true → S.pend s ≡ Some h → decided S h.top ≡ true → ((lists S h.top s ≡ true) × (S.got h.top s ≡ true)) ⊎ (S.held s ≡ Some (last S));
 }
 
+-- what holds of the disks, the records and the decisions
 pub record Core (S : State) : Type 0 where
   pub coordinators : Coordinators S
   pub fresh : Fresh S

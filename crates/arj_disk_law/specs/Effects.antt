@@ -21,8 +21,9 @@ pub data Effect : Type 0 where
   -- stores: a state is prepared; a commit moves it to its place, and then finishes; an abort drops it
   Keep : ℕ → ℕ → Effect
   Move Finish Drop : ℕ → Hold → Effect
-  -- the naming node: a top is confirmed, with no new entry, without a part in the object, or with a new entry prepared; the
-  -- prepared entry is moved, finished, dropped for its top's own abort or for the end of its serializing action
+  -- the naming node: a top is confirmed, as one that wrote and leaves the entry as it is, as one that changes nothing, or
+  -- with a new entry prepared; the prepared entry is moved, finished, dropped for its top's own abort or for the end of its
+  -- serializing action
   Agree Pass Enter : ℕ → Effect
   MoveEntry FinishEntry DropEntry : Hold → Effect
   Forget : ℕ → Hold → Effect
@@ -46,6 +47,7 @@ entry_hold S t = record { top = t; new = entry_after t (S.plan t) (S.got t) S.en
 abbrev pub marked : State → ℕ → (ℕ → Bool) → ℕ → Bool
 marked S t f = put t (f t || undecided S t) f
 
+-- what each effect changes
 abbrev pub changed : State → Effect → State
 changed S (Begin t p) = record S { stage = put t Preparing S.stage; plan = put t p S.plan; begun = put t true S.begun }
 changed S (Take t s) = record S { got = put2 t s true S.got }
@@ -68,6 +70,7 @@ changed S (DropEntry h) = record S { entry_pend = None }
 changed S (Forget r h) = record S { entry_pend = None }
 changed S (Send m) = S
 
+-- what was ever sent, after each effect
 abbrev pub mailed : List Message → Effect → List Message
 mailed sent (Begin t p) = sent
 mailed sent (Take t s) = sent
@@ -90,6 +93,7 @@ mailed sent (DropEntry h) = sent
 mailed sent (Forget r h) = sent
 mailed sent (Send m) = m ∷ sent
 
+-- the object after an effect
 abbrev pub after : World → Effect → World
 after W e = record { disk = changed W.disk e; sent = mailed W.sent e }
 
@@ -128,35 +132,42 @@ IsClear S t = (h : Hold) (s : ℕ) → S.entry_pend ≡ Some h → has s h.new.c
 abbrev pub IsUnlisted : State → ℕ → Type 0
 IsUnlisted S t = (s : ℕ) → has s (S.plan t).joins ≡ true → has s S.entry.content ≡ false
 
+-- the list that the top would leave of the held entry
 abbrev pub new_list : State → ℕ → List ℕ
 new_list S t = list_after (S.plan t) (S.got t) S.entry.content
 
+-- a commit begins while the top works and its root is there; what it includes is a known state
 pub record CanBegin (S : State) (t : ℕ) (p : Plan) : Type 0 where
   pub idle : S.stage t ≡ Idle
   pub root : is_gone (S.stage (S.root t)) ≡ false
   pub loaded : (s : ℕ) → has s p.joins ≡ true → Known S p.loaded
 
+-- a record is written by a top with the naming node's Yes, and lists that node and each store that said Yes
 pub record CanIntend (W : World) (t : ℕ) (nodes : List ℕ) : Type 0 where
   pub sealed : W.disk.stage t ≡ Confirming
   pub confirmed : In (Confirmed t) W.sent
   pub stores : (s : ℕ) → W.disk.got t s ≡ true → has s nodes ≡ true
   pub names : has naming nodes ≡ true
 
+-- a record goes once each node that it lists has acknowledged
 pub record CanRemove (W : World) (t : ℕ) (nodes : List ℕ) : Type 0 where
   pub record_is : W.disk.intent t ≡ Some nodes
   pub acked : (m : ℕ) → has m nodes ≡ true → In (Acked t m) W.sent
 
+-- a commit needs no record where it sent no state
 pub record CanEndBare (W : World) (t : ℕ) : Type 0 where
   pub sealed : W.disk.stage t ≡ Confirming
   pub confirmed : In (Confirmed t) W.sent
   pub no_record : W.disk.intent t ≡ None
   pub untouched : (s : ℕ) → target (W.disk.plan t) s ≡ false
 
+-- a store prepares what a Prepare sent it, ever, where nothing is prepared and it holds nothing newer
 pub record CanKeep (W : World) (t s : ℕ) : Type 0 where
   pub asked : In (Prepare t s) W.sent
   pub free : W.disk.pend s ≡ None
   pub below : (g : Packed) → W.disk.held s ≡ Some g → Below g (state_for (W.disk.plan t))
 
+-- a top that wrote is confirmed with the entry as it is: each listed target said Yes
 pub record CanAgree (W : World) (t : ℕ) : Type 0 where
   pub asked : In (Confirm t) W.sent
   pub writes : is_some (W.disk.plan t).writes ≡ true
@@ -165,6 +176,7 @@ pub record CanAgree (W : World) (t : ℕ) : Type 0 where
   pub clear : IsClear W.disk t
   pub locked : undecided W.disk t ≡ true → Locked W.disk t
 
+-- a top that changes nothing is confirmed: it didn't write, and no store that it includes said Yes or is listed
 pub record CanPass (W : World) (t : ℕ) : Type 0 where
   pub asked : In (Confirm t) W.sent
   pub plain : (W.disk.plan t).writes ≡ None
@@ -173,6 +185,7 @@ pub record CanPass (W : World) (t : ℕ) : Type 0 where
   pub clear : IsClear W.disk t
   pub unconfirmed : undecided W.disk t ≡ true → W.disk.conf t ≡ false
 
+-- a top is confirmed with a new entry, which has a store
 pub record CanEnter (W : World) (t : ℕ) : Type 0 where
   pub asked : In (Confirm t) W.sent
   pub free : W.disk.entry_pend ≡ None
@@ -210,6 +223,7 @@ abbrev pub Follows : World → List Effect → Type 0
 Follows W [] = ⊤
 Follows W (e ∷ es) = Allowed W e × Follows (after W e) es
 
+-- the object after a list of effects
 abbrev pub run : World → List Effect → World
 run W [] = W
 run W (e ∷ es) = run (after W e) es

@@ -56,6 +56,7 @@ pub record MayConfirm (A : Office) (t : ℕ) : Type 0 where
   pub unlisted : IsUnlisted A.world.disk t
   pub exclude : MayExclude A.world.disk A.names t
 
+-- the three kinds of confirmation, as an effect's conditions and the grants that the top counts on
 pub record MayAgree (A : Office) (t : ℕ) : Type 0 where
   pub confirm : MayConfirm A t
   pub present : IsPresent A.world.disk A.names t
@@ -128,13 +129,14 @@ pub record MayLower (A : Office) (t : ℕ) : Type 0 where
   pub had : A.names.had t A.names.inc ≡ true
   pub clear : A.names.asked t ≡ false → IsNot A.world.disk.entry_pend t
 
+-- A top is told of as ended once, after its own entry has ended.
 pub record MayEndTop (A : Office) (t : ℕ) (commits : Bool) : Type 0 where
   pub top : A.world.disk.serial t ≡ false
   pub untold : A.names.told t ≡ false
   pub clear : IsNot A.world.disk.entry_pend t
   pub told : (commits ≡ true → In (ToldCommit t naming) A.world.sent ⊎ In (ToldBare t naming) A.world.sent) × (commits ≡ false → In (ToldAbort t naming) A.world.sent)
 
--- the entries of those whose locks go were forgotten before
+-- A serializing action is told of as ended after the entries of those whose locks go with it were dropped.
 pub record MayEndSerial (A : Office) (r : ℕ) : Type 0 where
   pub serial : A.world.disk.serial r ≡ true
   pub told : In (ToldSerial r naming) A.world.sent
@@ -158,6 +160,7 @@ pub record MayAnswerLoad (A : Office) (t i s : ℕ) (l : List ℕ) (g : Packed) 
   pub free : A.world.disk.pend s ≡ None
   pub held : A.world.disk.held s ≡ Some g
 
+-- what is looked at before an act
 abbrev pub May : Office → Act → Type 0
 May A (Do e) = MayDo A e
 May A (Commit t) = Allowed A.world (Decide t)
@@ -179,6 +182,7 @@ abbrev pub Runs : Office → List Act → Type 0
 Runs A [] = ⊤
 Runs A (a ∷ acts) = May A a × Runs (acted A a) acts
 
+-- the office after a list of acts
 abbrev pub end_of : Office → List Act → Office
 end_of A [] = A
 end_of A (a ∷ acts) = end_of (acted A a) acts

@@ -2,6 +2,7 @@
 use Rattle.std.specs.Prelude.{◌≡◌, ◌⊎◌, ℕ, true, false, Some}
 use Rattle.arj_disk_law.specs.State.{State, Hold, naming, is_sealed, is_gone, decided, undecided, lists, target, hold}
 
+-- the messages about one object
 pub data Message : Type 0 where
   -- a top's state to a store, and the store's Yes
   Prepare Prepared : ℕ → ℕ → Message
@@ -18,6 +19,7 @@ pub data Message : Type 0 where
 abbrev pub IsOver : State → ℕ → Type 0
 IsOver S r = (is_gone (S.stage r) ≡ true) × ((z : ℕ) → S.root z ≡ r → undecided S z ≡ false)
 
+-- what each message claims
 abbrev pub Meaning : State → Message → Type 0
 Meaning S (Prepare t s) = (S.begun t ≡ true) × (target (S.plan t) s ≡ true)
 Meaning S (Prepared t s) = (S.begun t ≡ true) × (target (S.plan t) s ≡ true) × (undecided S t ≡ true → S.pend s ≡ Some (hold S t))

@@ -94,6 +94,7 @@ Plans S N = record {
   loaded : (t s : ℕ) → undecided S t ≡ true → has s (S.plan t).joins ≡ true → IsPresent S N t → ((S.plan t).loaded ≡ last S) × ((z : ℕ) → S.conf z ≡ true → undecided S z ≡ true → z ≡ t);
 }
 
+-- what holds of the disks and the naming node's half
 pub record Named (A : Office) : Type 0 where
   pub whole : Whole A.world
   pub roots : Roots A.world.disk

@@ -18,6 +18,7 @@ pub data Answer : Type 0 where
   Bound : ℕ → ℕ → Bool → List ℕ → Answer
   Loaded : ℕ → ℕ → Packed → Answer
 
+-- the naming node's memory of one entry, and the coordinators' of its answers
 pub record Names : Type 0 where
   -- the naming node: its incarnation; the lock of each holder; which locks a restart gave back; of which actions it was
   -- told; which tops it confirmed; which tops asked the write lock by an include; and whether a binding is live
@@ -40,6 +41,7 @@ pub record Office : Type 0 where
   pub world : World
   pub names : Names
 
+-- what a node does, with the naming node's half
 pub data Act : Type 0 where
   -- an effect; a decision, or the end of a commit without a record, by which the serializing action retains what the top has
   Do : Effect → Act
@@ -64,6 +66,7 @@ abbrev pub raised : Option ℕ → ℕ → ℕ
 raised None m = m
 raised (Some n) m = if nat_lt n m then m else n
 
+-- a kept list after a top's decision
 abbrev pub with_list : Plan → (ℕ → Bool) → Option Kept → Option Kept
 with_list p got None = None
 with_list p got (Some k) = Some (record { since = k.since; list = list_after p got k.list })
@@ -72,6 +75,7 @@ with_list p got (Some k) = Some (record { since = k.since; list = list_after p g
 abbrev pub lists_after : State → ℕ → (ℕ → Option Kept) → ℕ → Option Kept
 lists_after S t kept = λ h. if S.root h == S.root t then with_list (S.plan t) (S.got t) (kept h) else kept h
 
+-- the first, or else the second
 abbrev pub or_else : {A : Type 0} → Option A → Option A → Option A
 or_else None b = b
 or_else (Some a) b = Some a
@@ -87,10 +91,12 @@ retained S t N = record N {
 abbrev pub given_mode : Packed → Hold → ℕ
 given_mode entry h = if list_any (λ s. not (has s entry.content)) h.new.content then 2 else 1
 
+-- the locks that a restart gives back
 abbrev pub given_row : Packed → Option Hold → ℕ → Option ℕ
 given_row entry None = λ h. None
 given_row entry (Some p) = λ h. if h == p.top then Some (given_mode entry p) else None
 
+-- the top's entry is prepared
 abbrev pub is_pending : Option Hold → ℕ → Bool
 is_pending None t = false
 is_pending (Some p) t = t == p.top
@@ -131,6 +137,7 @@ noted S (DropEntry h) N = N
 noted S (Forget r h) N = N
 noted S (Send m) N = N
 
+-- what each act changes
 abbrev pub acted : Office → Act → Office
 acted A (Do e) = record { world = after A.world e; names = noted A.world.disk e A.names }
 acted A (Commit t) = record { world = after A.world (Decide t); names = retained A.world.disk t (noted A.world.disk (Decide t) A.names) }
@@ -167,5 +174,6 @@ abbrev pub newer : Packed → Option Packed → Packed
 newer g None = g
 newer g (Some k) = if nat_lt g.version k.version then k else g
 
+-- the state that an include of the top sends, once this one was loaded
 abbrev pub load_of : State → ℕ → Packed → Packed
 load_of S t g = newer g (written_in S.root (S.root t) S.tops)

@@ -33,6 +33,7 @@ pub record Done : Type 0 where
   pub got : ℕ → Bool
   pub counts : Bool
 
+-- one object: what is fixed, what the coordinators, the journal, the stores and the naming node's disk have of it
 pub record State : Type 0 where
   -- fixed: the first state and entry, the root of each action, and which actions are serializing
   pub first : Packed
@@ -63,6 +64,7 @@ pub record State : Type 0 where
 abbrev pub naming : ℕ
 naming = 1
 
+-- tests of a stage: in its commit; past its prepare step; still working; at its end
 abbrev pub is_open : Stage → Bool
 is_open Idle = false
 is_open Preparing = true
@@ -92,6 +94,7 @@ abbrev pub decided_in : List Done → ℕ → Bool
 decided_in [] t = false
 decided_in (d ∷ ds) t = (d.top == t) || decided_in ds t
 
+-- the top is decided
 abbrev pub decided : State → ℕ → Bool
 decided S t = decided_in S.tops t
 
@@ -99,9 +102,11 @@ decided S t = decided_in S.tops t
 abbrev pub open_by : Bool → Stage → Option (List ℕ) → Bool
 open_by done stage intent = not done && (is_open stage || is_some intent)
 
+-- the top's outcome is open
 abbrev pub undecided : State → ℕ → Bool
 undecided S t = open_by (decided S t) (S.stage t) (S.intent t)
 
+-- a record that may be there lists the node
 abbrev pub listed_by : Option (List ℕ) → ℕ → Bool
 listed_by None m = false
 listed_by (Some nodes) m = has m nodes
@@ -114,9 +119,11 @@ lists S t m = listed_by (S.intent t) m
 abbrev pub target : Plan → ℕ → Bool
 target p s = (is_some p.writes && has s p.list) || has s p.joins
 
+-- the state that a plan sends
 abbrev pub state_for : Plan → Packed
 state_for p = unwrap_or p.writes p.loaded
 
+-- what a store prepares for a top
 abbrev pub hold : State → ℕ → Hold
 hold S t = record { top = t; new = state_for (S.plan t) }
 
@@ -125,9 +132,11 @@ hold S t = record { top = t; new = state_for (S.plan t) }
 abbrev pub list_after : Plan → (ℕ → Bool) → List ℕ → List ℕ
 list_after p got stores = filter (λ s. not (target p s && not (got s))) stores ++ filter got p.joins
 
+-- an entry with another list, if it is another one
 abbrev pub entry_with : ℕ → List ℕ → Packed → Packed
 entry_with t new e = if bytes_eq new e.content then e else record { version = e.version + 1; writer = t; content = new }
 
+-- the entry that a top leaves
 abbrev pub entry_after : ℕ → Plan → (ℕ → Bool) → Packed → Packed
 entry_after t p got e = entry_with t (list_after p got e.content) e
 
@@ -140,6 +149,7 @@ abbrev pub entry_in : Packed → List Done → Packed
 entry_in first [] = first
 entry_in first (d ∷ ds) = if d.counts then entry_after d.top d.plan d.got (entry_in first ds) else entry_in first ds
 
+-- the last state and the last entry, by the journal
 abbrev pub last : State → Packed
 last S = last_in S.first S.tops
 
@@ -151,6 +161,7 @@ abbrev pub effective_by : {A : Type 0} → (ℕ → Bool) → (Packed → A) →
 effective_by done some None held = held
 effective_by done some (Some h) held = if done h.top then some h.new else held
 
+-- what a store will hold, and what the naming node will
 abbrev pub effective : State → ℕ → Option Packed
 effective S s = effective_by (decided S) Some (S.pend s) (S.held s)
 
@@ -162,6 +173,7 @@ abbrev pub KnownIn : Packed → List Done → Packed → Type 0
 KnownIn first [] g = first ≡ g
 KnownIn first (d ∷ ds) g = (d.plan.writes ≡ Some g) ⊎ KnownIn first ds g
 
+-- the same, of an object
 abbrev pub Known : State → Packed → Type 0
 Known S g = KnownIn S.first S.tops g
 
@@ -174,6 +186,7 @@ abbrev pub is_latest_in : List Done → ℕ → Bool
 is_latest_in [] t = false
 is_latest_in (d ∷ ds) t = if d.counts then d.top == t else is_latest_in ds t
 
+-- the same, of an object
 abbrev pub is_latest : State → ℕ → Bool
 is_latest S t = is_latest_in S.tops t
 
@@ -192,5 +205,6 @@ pub record Excused (root : ℕ → ℕ) (done : ℕ → Bool) (prepared : Option
   pub whose : (by_entry.top ≡ t) ⊎ ((done by_entry.top ≡ true) × (root by_entry.top ≡ root t))
   pub lacks : has s by_entry.new.content ≡ false
 
+-- the same, of an object
 abbrev pub IsExcused : State → ℕ → ℕ → Type 0
 IsExcused S t s = Excused S.root (decided S) S.entry_pend t s
