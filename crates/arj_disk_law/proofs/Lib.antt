@@ -9,6 +9,7 @@ pub mod Confirming
 pub mod Deciding
 pub mod Ends
 pub mod Entries
+pub mod FirstRuns
 pub mod History
 pub mod Keeps
 pub mod Kin
