@@ -12,6 +12,8 @@ pub mod Numbers
 pub mod PartSays
 pub mod Payloads
 pub mod Quiet
+pub mod Ranks
+pub mod Rounds
 pub mod RowSteps
 mod RowsOfLimits
 mod RowsOfNodes

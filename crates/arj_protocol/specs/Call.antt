@@ -1,6 +1,7 @@
 -- The steps of a call or an include: bind, load, activate, record, invoke. One request waits at a time. And what a root
 -- keeps of an object: one binding with one incarnation of its server.
 use Rattle.arj_protocol.specs.Words.ask
+use Rattle.arj_protocol.specs.Words.op
 use Rattle.arj_protocol.specs.Words.{ℕ, Bool, true, false, ◌&&◌, ◌||◌, ◌==◌, nat_lt, if◌then◌else◌, List, [], ◌∷◌, Option, Some, None, unwrap_or, Uid, Binding, Path, Mode, End, Op, Answer, ObjectState, What, BoundReply, LoadedReply, RecordedReply, InvokedReply, Ask}
 use Rattle.arj_protocol.specs.Words.mode
 use Rattle.arj_protocol.specs.Words.what
@@ -73,26 +74,27 @@ abbrev pub start : Path → ℕ → Goal → Option Known → Binding → ℕ �
 start p x g known avoid req = record { path = p; x = x; goal = g; req = req; at = start_at known avoid }
 
 abbrev pub is_include : Goal → Bool
-is_include (Run op) = false
+is_include (Run o) = false
 is_include (Include s) = true
 
 -- the operation of a call
 abbrev pub op_of : Goal → Option Op
-op_of (Run op) = Some op
+op_of (Run o) = Some o
 op_of (Include s) = None
 
 -- ---- the request that waits
 
-abbrev pub invoke_ask : ℕ → Known → ℕ → List (Uid × End) → Goal → Ask
-invoke_ask x k i ends (Run op) = ask.Invoke x k.binding i ends op
-invoke_ask x k i ends (Include s) = ask.Load x
+-- an include has no operation; it never comes so far
+abbrev pub invoked_op : Goal → Op
+invoked_op (Run o) = o
+invoked_op (Include s) = op.Get
 
 abbrev pub ask_at : ℕ → Goal → List (Uid × End) → At → Ask
 ask_at x g ends (AtBind avoid) = ask.Bind x (is_include g) avoid
 ask_at x g ends (AtLoad k s rest) = ask.Load x
 ask_at x g ends (AtActivate k st) = ask.Activate k.binding st
 ask_at x g ends (AtNote k i) = ask.Record x k.binding i k.grant
-ask_at x g ends (AtInvoke k i) = invoke_ask x k i ends g
+ask_at x g ends (AtInvoke k i) = ask.Invoke x k.binding i ends (invoked_op g)
 
 abbrev pub node_at : At → ℕ
 node_at (AtBind avoid) = 1
@@ -176,7 +178,7 @@ bound_answer free kept (bound.Conflict holder m) = finds kept (Conflict holder m
 
 -- a store answered
 abbrev pub loaded_state : Option Known → Known → ObjectState → Goal → Moved
-loaded_state kept k st (Run op) = moves kept (AtActivate k st)
+loaded_state kept k st (Run o) = moves kept (AtActivate k st)
 loaded_state kept k st (Include s) = finds kept (Included st)
 
 abbrev pub loaded_answer : Option Known → Known → ℕ → Goal → LoadedReply → Moved

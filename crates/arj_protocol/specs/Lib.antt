@@ -11,6 +11,7 @@ pub mod Named
 pub mod Naming
 pub mod Node
 pub mod Order
+pub mod Rank
 pub mod Says
 pub mod Server
 pub mod Step

@@ -26,13 +26,13 @@ ghost use Rattle.arj_protocol.specs.Ask.{Reply, actor, answers, response, top_of
 ghost use Rattle.arj_protocol.specs.Asking.{again_all, heard};
 ghost use Rattle.arj_protocol.specs.Confirm.{Grants, Marks, confirm, recovered_lines, recovered_naming};
 ghost use Rattle.arj_protocol.specs.Coord.{Coord, Doing};
-ghost use Rattle.arj_protocol.specs.Effect.{Disk, Intent, Pair, is_prepared};
+ghost use Rattle.arj_protocol.specs.Effect.{Disk, Effect, Intent, Pair, is_prepared};
 ghost use Rattle.arj_protocol.specs.Ending.{acked, answer_query};
 ghost use Rattle.arj_protocol.specs.Follow.{AreEntries, FitsStep, StepFollows, alone};
 ghost use Rattle.arj_protocol.specs.Laws.{naming_rows, rows_after, server_rows, AreOfActions, AreUnknownAt, Grows, Holders, IsPathOf, LeavesCopy, LeavesObject, Local, NamingTable, OnlyEnds, OnlyTold, ServerTable, UnknownToNaming, UnknownToServer, effects_of, speaks};
 ghost use Rattle.arj_protocol.specs.Naming as naming;
 ghost use Rattle.arj_protocol.specs.Naming.{Naming};
-ghost use Rattle.arj_protocol.specs.Node.{Parts, handle};
+ghost use Rattle.arj_protocol.specs.Node.{Parts, handle, whole};
 ghost use Rattle.arj_protocol.specs.Order.{binding_eq, binding_less, uid_number};
 ghost use Rattle.arj_protocol.specs.Says.{AreAll, is_coord_effect, is_naming_effect, is_server_effect};
 ghost use Rattle.arj_protocol.specs.Server as server;
@@ -139,6 +139,12 @@ pub fn steps_follow_lines()
     ensures server { (x inc : ℕ) → server_rows x (new_server inc) ≡ [] }
     ensures naming { (x inc : ℕ) (d : Pair) → AreEntries d.held
         → naming_rows x (recovered_naming inc d) ≡ rows_after alone 1 part.Naming (entry x) (recovered_lines (recovered_naming inc d)) [] }
+{}
+
+/// The rounds of a step handle all messages that a node sends to itself, whatever it did first: what follows a message
+/// stands further on in the protocol. It does nothing when it runs.
+pub fn rounds_leave_nothing()
+    ensures empty { (n : ℕ) (t : Parts) (outs : List Effect) (d : Disk) → (whole n t outs d).queue ≡ [] }
 {}
 
 /// An end that was told before changes nothing, and one of which a part knows nothing changes nothing but the set of ended

@@ -11,6 +11,6 @@ mod laws;
 
 pub use laws::{
     events_only_add, messages_leave_other_objects, messages_read_back, names_compare_as_numbers,
-    naming_locks_follow_lines, parts_act_alone, payloads_read_back, server_locks_follow_lines,
-    steps_are_local, unknown_ends_change_nothing,
+    naming_locks_follow_lines, parts_act_alone, payloads_read_back, rounds_leave_nothing,
+    server_locks_follow_lines, steps_are_local, unknown_ends_change_nothing,
 };
