@@ -5,6 +5,7 @@ use Rattle.arj_lock_law.specs.Rows.{mode}
 use Rattle.arj_lock_law.specs.State.{Alive, Call, Include, State, Passed, Covered}
 use Rattle.arj_lock_law.specs.Steps.{Survives, Newest, IsLast}
 
+-- A top with its committed line.
 abbrev pub IsCommitted : State → Act → Type 0
 IsCommitted s m = (is_top m ≡ true) × ((s.action m).stage ≡ 3)
 
@@ -52,6 +53,7 @@ pub record IsHeld (s t : State) (c : Call) : Type 0 where
   pub server : (h : Act) × (on c.act h ≡ true) × (mode c.write ≤ (s.server (t.binding (t.kept (root c.act))).server).rows h)
   pub entry : (h : Act) × OfUnit c.act h × (1 ≤ s.naming.rows h)
 
+-- In the state its unit has the write row on the entry.
 abbrev pub IsEntryWritten : State → Include → Type 0
 IsEntryWritten s c = (h : Act) × OfUnit c.act h × (2 ≤ s.naming.rows h)
 

@@ -5,6 +5,7 @@ use Rattle.arj_lock_law.specs.Rows.{Rows, mode, Clear, raise, pass, drop_below}
 use Rattle.arj_lock_law.specs.State.{Ballot, Action, Naming, Entry, Server, Call, Include, Request, Answer, Message, Live, Made, Granted, Activate, Activated, Recorded, Invoke, Invoked, Refused, Changed, Vote, Confirm, State, Alive, Open, Covered, IsFree}
 use Rattle.arj_lock_law.specs.Steps.{Event, CrashNaming, BindLive, BindNew, Grant, Record, ConfirmTop, PassEntry, DropEntry, CrashServer, ActivateCopy, Apply, Refuse, Change, PassRow, PassTop, DropRows, VoteTop, Keep, Name, Load, SendInvoke, Answered, TurnedDown, Lost, GiveUp, CommitNested, Abort, CommitTop, SendVote, SendConfirm, Decide, Report, EndUnit, Included, value_over, held_value, IsCurrent, LoadsTheLast, IsGone, IsFolded, IsDrained, IsElsewhere, IsAt, IsWhole, KnowsRecorded, MayUse}
 
+-- When a step may be taken.
 abbrev pub Guard : Event → State → Type 0
 Guard (CrashNaming g) s = (s.naming.bound ≤ g) × (s.naming.first < g)
 Guard (BindLive m) s = (is_top m ≡ true) × (s.naming.first ≤ s.naming.recorded) × Clear s.naming.rows m 1
@@ -58,9 +59,11 @@ sending s m = record s { net = m ∷ s.net }
 abbrev pub handed : Act → ℕ → Entry → Entry
 handed a j e = record e { holder = cond (same e.holder (Sub a j)) a e.holder }
 
+-- a server that has just started
 abbrev pub after_crash : ℕ → Server
 after_crash i = record { incarnation = i; active = 0; base = 0; log = []; rows = λ a. 0; voted = λ a. false; request = λ a. 0 }
 
+-- the answer to a request, and the server after it
 abbrev pub answer_of : State → ℕ → Request → ℕ → Answer
 answer_of s n q g = record { request = q; place = s.now; sees = value_over (s.server n).base (s.server n).log; gives = g }
 
@@ -71,6 +74,7 @@ applied v q g = record v { log = cond q.write (record { holder = q.act; by = q.a
 abbrev pub lowered : Naming → Act → Rows
 lowered n m = at_act n.rows m (cond (n.asked m) (n.rows m) (min (n.rows m) 1))
 
+-- an action whose call has ended
 abbrev pub stopped : Action → Action
 stopped x = record x { waits = false }
 
@@ -78,6 +82,7 @@ stopped x = record x { waits = false }
 abbrev pub ballot : State → ℕ → Act → ℕ → Ballot
 ballot s n m b = cond (max (s.yes m) b == s.yes m) (s.vote m) (record { value = held_value m (s.server n).base (s.server n).log; under = (s.server n).base })
 
+-- The state after a step.
 abbrev pub next : Event → State → State
 next (CrashNaming g) s = with_naming s (record s.naming { first = g; bound = g; rows = λ a. 0; told = λ a. false; confirmed = λ a. false; asked = λ a. false })
 next (BindLive m) s = sending (with_naming s (record s.naming { rows = raise s.naming.rows m 1 })) (Live m s.naming.recorded)
@@ -114,6 +119,7 @@ next (Report m p) s = record (with_action s m (record (s.action m) { stage = 3; 
 next (EndUnit u) s = with_action s (Root u) (record (s.action (Root u)) { stage = 3 })
 next (Included a g p) s = record s { now = p + 1; includes = record { act = a; line = p; grant = g } ∷ s.includes }
 
+-- Nothing has happened; the object has its first value.
 abbrev pub start : ℕ → State
 start v = record { now = 1; initial = v; naming = record { first = 1; recorded = 0; bound = 1; rows = λ a. 0; told = λ a. false; confirmed = λ a. false; made = λ a. 0; asked = λ a. false }; binding = λ b. record { server = 0; maker = Root 0; named = false; incarnation = 0 }; server = λ n. after_crash 0; action = λ a. record { stage = 0; place = 0; done = 0; request = 0; waits = false; since = 0; doomed = false }; kept = λ r. 0; yes = λ a. 0; vote = λ a. record { value = 0; under = 0 }; confirmed = λ a. false; calls = []; includes = []; net = [] }
 

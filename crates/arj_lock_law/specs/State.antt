@@ -1,5 +1,5 @@
--- The lock machine of one object: naming, servers, coordinators, and every message that was ever sent. A stop leaves of a
--- part what the machine keeps; what is called a history below is kept for the laws alone, and no guard of a node reads it.
+-- The lock machine of one object: naming, servers, coordinators, and every message that was ever sent. What is called a
+-- history below tells what has happened once; no stop takes it away.
 use Rattle.std.proofs.Common.{◌≡◌, ◌≤◌, ◌<◌, ◌⊎◌, ℕ, List, Bool, true, false}
 use Rattle.arj_lock_law.specs.Actions.{Act, on, root, top, In}
 use Rattle.arj_lock_law.specs.Rows.{Rows}
@@ -18,7 +18,7 @@ pub record Action : Type 0 where
   -- a call was given up after its Invoke was sent
   pub doomed : Bool
 
--- A binding. All but the server is a history. A binding is one number, which rises with naming's incarnation.
+-- A binding: one number, above all that were made before and in earlier incarnations of naming. All of it is a history.
 pub record Binding : Type 0 where
   pub server : ℕ
   -- the top that naming made it for
@@ -27,6 +27,7 @@ pub record Binding : Type 0 where
   pub named : Bool
   pub incarnation : ℕ
 
+-- Naming's part. A stop keeps the recorded binding, which then lies below the first one of the new incarnation.
 pub record Naming : Type 0 where
   -- the least binding of the present incarnation, the recorded one, and one above all that were made
   pub first : ℕ
@@ -72,6 +73,7 @@ pub record Include : Type 0 where
   pub line : ℕ
   pub grant : ℕ
 
+-- An Invoke: who calls, by which of its numbers, under which binding, and whether it writes.
 pub record Request : Type 0 where
   pub act : Act
   pub number : ℕ
@@ -90,6 +92,7 @@ pub record Ballot : Type 0 where
   pub value : ℕ
   pub under : ℕ
 
+-- What is sent. The incarnation of a binding's server isn't carried where it is a fact of the binding.
 pub data Message : Type 0 where
   Live : Act → ℕ → Message  -- naming to a top: this binding is recorded, and you have a read row
   Made : Act → ℕ → Message  -- naming to a top: this binding is made for you, and you have the write row
@@ -104,6 +107,7 @@ pub data Message : Type 0 where
   Vote : Act → ℕ → ℕ → Message  -- of a top, with binding and incarnation
   Confirm : Act → ℕ → Message  -- of a top, with the least grant
 
+-- The state. A number stands for a node, a binding, a root; functions change at one place.
 pub record State : Type 0 where
   pub now : ℕ  -- no line stands at this place or behind it
   pub initial : ℕ  -- the object's first value

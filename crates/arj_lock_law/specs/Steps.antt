@@ -5,6 +5,7 @@ use Rattle.std.proofs.Common.{◌≡◌, ◌≢◌, ◌≤◌, ◌<◌, ◌⊎�
 use Rattle.arj_lock_law.specs.Actions.{Act, Root, same, on, root, top, is_action, In}
 use Rattle.arj_lock_law.specs.State.{Naming, Entry, Server, Call, Request, Answer, Live, Made, Recorded, State, Alive, Merged, Retained}
 
+-- The steps.
 pub data Event : Type 0 where
   -- naming
   CrashNaming : ℕ → Event  -- with the least binding of the next incarnation
