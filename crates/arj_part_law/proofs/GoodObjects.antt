@@ -22,7 +22,7 @@ never : {P : Type 0} (b : Bool) → b ≡ true → b ≡ false → P
 never b holds fails = let no_way : true ≡ false = sym holds ∙ fails in cc
 
 -- an action is on its own path
-on_own : (owner : Owners) (us : List Uid) → IsHolder owner us → is_on us (last_uid us) ≡ true
+pub on_own : (owner : Owners) (us : List Uid) → IsHolder owner us → is_on us (last_uid us) ≡ true
 on_own owner us (inl own) = ap (λ vs. is_on vs (last_uid us)) own ∙ or_left (uid_eq (last_uid us) (last_uid us)) false (uid_same (last_uid us))
 on_own owner us (inr own) =
     ap (λ vs. is_on vs (last_uid us)) own.0 ∙ or_right (uid_eq (owner (last_uid us)) (last_uid us)) (uid_eq (last_uid us) (last_uid us) || false) (or_left (uid_eq (last_uid us) (last_uid us)) false (uid_same (last_uid us)))

@@ -187,3 +187,11 @@ on_drop u w (v ∷ vs) on = by (uid_eq v w) refl on (on_drop u w vs)
     by true is h ih = let r = ih h in (r.0, or_right (uid_eq v u) (is_on vs u) r.1)
     by false is h ih =
         ⊎_elim (λ same. ((λ k. uid_isnt v w is (uid_is v u same ∙ k)), or_left (uid_eq v u) (is_on vs u) same)) (λ rest. let r = ih rest in (r.0, or_right (uid_eq v u) (is_on vs u) r.1)) (or_cases (uid_eq v u) (is_on (drop_uid w vs) u) h)
+
+pub drop_on : (u w : Uid) (us : List Uid) → u ≢ w → is_on us u ≡ true → is_on (drop_uid w us) u ≡ true
+drop_on u w [] other on = on
+drop_on u w (v ∷ vs) other on = by (uid_eq v w) refl on (drop_on u w vs other)
+  where
+    by : (b : Bool) → uid_eq v w ≡ b → is_on (v ∷ vs) u ≡ true → (is_on vs u ≡ true → is_on (drop_uid w vs) u ≡ true) → is_on (cond (not b) (v ∷ drop_uid w vs) (drop_uid w vs)) u ≡ true
+    by true is h ih = ⊎_elim (λ same. absurd (other (sym (uid_is v u same) ∙ uid_is v w is))) ih (or_cases (uid_eq v u) (is_on vs u) h)
+    by false is h ih = ⊎_elim (λ same. or_left (uid_eq v u) (is_on (drop_uid w vs) u) same) (λ rest. or_right (uid_eq v u) (is_on (drop_uid w vs) u) (ih rest)) (or_cases (uid_eq v u) (is_on vs u) h)

@@ -1,4 +1,11 @@
 mod EntryLocks
+mod GoodCalls
+mod GoodConfirm
+mod GoodEnds
 mod GoodObjects
+mod GoodRestart
 mod Keys
+mod Locked
+mod Pairs
 mod Stands
+mod Stores
