@@ -69,3 +69,7 @@ start_holds v = record {
 pub run_keeps : {s t : State} → Run s t → Holds s → Holds t
 run_keeps stay h = h
 run_keeps (step e guard rest) h = run_keeps rest (step_keeps e _ guard h).1
+
+pub go_on : {s t u : State} → Run s t → Run t u → Run s u
+go_on stay more' = more'
+go_on (step e guard rest) more' = step e guard (go_on rest more')

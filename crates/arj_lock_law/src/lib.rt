@@ -16,4 +16,4 @@ pub use laws::{
     calls_of_a_unit_are_nested, calls_saw_the_last_value, calls_stand_in_order,
     overlapping_calls_ran_at_one_node, rows_are_held, votes_are_right,
 };
-pub use runs::these_runs_happen;
+pub use runs::{runs_go_on, these_runs_happen};
