@@ -2,7 +2,7 @@
 use Rattle.std.proofs.Common.{◌≡◌, ◌⊎◌, ℕ, ◌+◌, ◌≤◌, List, [], ◌∷◌, Bool, true, false, cond, ◌==◌, not, Option, Some, None, is_some, nat_lt, refl, sym, ◌∙◌, ap, subst, inl, inr, ⊎_elim, arith, le_refl, ◌<◌}
 use Rattle.std.specs.List.{list_any}
 use Rattle.arj_disk_law.specs.Core.{Core}
-use Rattle.arj_disk_law.specs.Guards.{HasRow, IsUntold, IsPresent, MayHear, MayKeepList, MayAnswerLoad}
+use Rattle.arj_disk_law.specs.Guards.{HasRow, IsUntold, IsPresent, MayRestart, MayHear, MayKeepList, MayAnswerLoad}
 use Rattle.arj_disk_law.specs.Messages.{Acked, IsOver}
 use Rattle.arj_disk_law.specs.Named.{Named, IsHeld, IsWide, IsLoad, AnswerMeans}
 use Rattle.arj_disk_law.specs.Names.{Names, Office, Kept, Answer, Bound, Loaded, given_mode, given_row, is_pending, acted, Restart, Hear, KeepList, AnswerLoad, newer, written_in, or_else, load_of}
@@ -55,8 +55,8 @@ mode_low entry p = by (list_any (λ s. not (has s entry.content)) p.new.content)
 mode_adds : (entry : Packed) (p : Hold) (s : ℕ) → has s p.new.content ≡ true → has s entry.content ≡ false → 2 ≤ given_mode entry p
 mode_adds entry p s i n = subst (λ b. 2 ≤ cond b 2 1) (sym (any_true (λ x. not (has x entry.content)) p.new.content s i (not_false (has s entry.content) n))) (le_refl 2)
 
-pub restart_named : (A : Office) → Named A → Named (acted A Restart)
-restart_named A c = record {
+pub restart_named : (A : Office) (yes_again : ℕ → Bool) → MayRestart A yes_again → Named A → Named (acted A (Restart yes_again))
+restart_named A yes_again may c = record {
   whole = c.whole;
   roots = c.roots;
   rows = record {
@@ -64,7 +64,7 @@ restart_named A c = record {
     alone = λ t h m g p. let x = given_is S.entry S.entry_pend h m p in let y = pending_is S.entry_pend t g in x.2 ∙ (ap (λ (z : Hold). z.top) (some_is x.1 y.1) ∙ sym y.2);
     dead = λ t g. refl;
     given = λ t g. let y = pending_is S.entry_pend t g in (subst (λ n. HasRow M n 1) (sym y.2) (row y.0 1 y.1 (mode_low S.entry y.0)), ap S.begun y.2 ∙ core.fresh.entry y.0 y.1, falls_to (N.had t (N.inc + 1)) (λ h. past t (N.inc + 1) h refl));
-    guard = λ h p. (row h 1 p (mode_low S.entry h), refl, pending_has S.entry_pend h p);
+    guard = λ h p. (row h 1 p (mode_low S.entry h), refl, may.pending h p);
     adds = λ h s p i n. row h 2 p (mode_adds S.entry h s i n);
     out = c.rows.out;
     asked = λ t a. let n : false ≡ true = a in cc;
@@ -75,7 +75,7 @@ restart_named A c = record {
     root = λ r s h. absurd (past r (N.inc + 1) h refl);
     conf = λ t x h. absurd (past t (N.inc + 1) h refl);
     part = λ t x p. let y = c.grants.part t x p in (y.0, y.1, λ e. absurd (had_past t y.0 y.1 e));
-    yes = λ t h. let y = pending_is S.entry_pend t h in (ap S.begun y.2 ∙ core.fresh.entry y.0 y.1, λ u. inl (ap S.conf y.2 ∙ core.pending.open_conf y.0 y.1 (ap (undecided S) (sym y.2) ∙ u)));
+    yes = λ t h. may.taken t h;
     listed = λ t d h. absurd (past t (N.inc + 1) h refl);
     acked = λ t m. inr (falls_to (N.had t (N.inc + 1)) (λ h. past t (N.inc + 1) h refl));
     told = λ t h. let n : false ≡ true = h in cc;
@@ -102,7 +102,7 @@ restart_named A c = record {
     N = A.names
 
     M : Names
-    M = (acted A Restart).names
+    M = (acted A (Restart yes_again)).names
 
     core : Core S
     core = c.whole.core

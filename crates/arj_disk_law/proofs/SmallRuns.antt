@@ -1,17 +1,25 @@
 -- The guards of small runs.
-use Rattle.std.proofs.Common.{◌≡◌, ℕ, [], ◌∷◌, true, false, ◌==◌, ◌||◌, Option, Some, refl, subst, inl, inr, ⊎_elim, arith, le_refl}
+use Rattle.std.proofs.Common.{◌≡◌, ◌⊎◌, ℕ, [], ◌∷◌, true, false, ◌==◌, ◌||◌, Option, Some, refl, sym, subst, inl, inr, ⊎_elim, arith, le_refl}
 use Rattle.std.proofs.lemmas.Bool.Decides.{nat_tests}
 use Rattle.arj_disk_law.specs.Guards.{Runs}
 use Rattle.arj_disk_law.specs.Laws.{BasedIn}
 use Rattle.arj_disk_law.specs.Messages.{Acked}
-use Rattle.arj_disk_law.specs.Samples.{first_office, serial_office, zero_state, state_by, in_doubt, without_three, first_constituent, excluding, stopped_before, stopped_after, naming_restarts, excluded, removed, including, serializing, retaining}
-use Rattle.arj_disk_law.specs.State.{Packed, Below}
+use Rattle.arj_disk_law.specs.Samples.{first_office, serial_office, zero_state, state_by, in_doubt, recorded, without_three, first_constituent, excluding, stopped_before, stopped_after, naming_restarts, excluded, removed, including, serializing, retaining}
+use Rattle.arj_disk_law.specs.State.{Packed, Hold, Below, undecided}
 use Rattle.arj_disk_law.specs.Words.{In}
 use Rattle.arj_disk_law.proofs.Base.{test_is, or_cases}
 
 -- what holds of one state holds of the same one
 some_that : {v w : Packed} → ◌≡◌ {A = Option Packed} (Some v) (Some w) → (P : Packed → Type 0) → P v → P w
 some_that {v} {w} e P p = let is : v ≡ w = cc in subst P is p
+
+-- what holds of one hold holds of the same one
+one_hold : {v w : Hold} → ◌≡◌ {A = Option Hold} (Some v) (Some w) → (P : Hold → Type 0) → P v → P w
+one_hold {v} {w} e P p = let is : v ≡ w = cc in subst P is p
+
+-- what the top 5 was when the naming node restarted
+five_taken : (t : ℕ) → (t == 5) ≡ true → (recorded.world.disk.begun t ≡ true) × (undecided recorded.world.disk t ≡ true → (recorded.world.disk.conf t ≡ true) ⊎ (recorded.world.disk.light t ≡ true))
+five_taken t y = subst (λ n. (recorded.world.disk.begun n ≡ true) × (undecided recorded.world.disk n ≡ true → (recorded.world.disk.conf n ≡ true) ⊎ (recorded.world.disk.light n ≡ true))) (sym (test_is t 5 y)) (refl, λ u. inl refl)
 
 -- what holds of two nodes holds of each of them
 two_nodes : (m a b : ℕ) (P : ℕ → Type 0) → ((a == m) || ((b == m) || false)) ≡ true → P a → P b → P m
@@ -114,7 +122,7 @@ pub naming_restarts_runs : Runs in_doubt naming_restarts
 naming_restarts_runs = (
   record { sealed = refl; confirmed = inl refl; stores = λ s g. grind (arith, nat_tests); names = refl },
   (
-    tt,
+    record { pending = λ h e. one_hold e (λ k. (k.top == 5) ≡ true) refl; taken = λ t y. five_taken t y },
     (
       (refl, refl),
       (

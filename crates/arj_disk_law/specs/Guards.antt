@@ -142,6 +142,11 @@ pub record MayEndSerial (A : Office) (r : ℕ) : Type 0 where
   pub told : In (ToldSerial r naming) A.world.sent
   pub clear : (h : Hold) → A.world.disk.entry_pend ≡ Some h → A.world.disk.root h.top ≡ r → A.names.given h.top ≡ true
 
+-- After a restart those are known as confirmed that have an entry prepared, of this object or of another one.
+pub record MayRestart (A : Office) (yes_again : ℕ → Bool) : Type 0 where
+  pub pending : (h : Hold) → A.world.disk.entry_pend ≡ Some h → yes_again h.top ≡ true
+  pub taken : (t : ℕ) → yes_again t ≡ true → (A.world.disk.begun t ≡ true) × (undecided A.world.disk t ≡ true → (A.world.disk.conf t ≡ true) ⊎ (A.world.disk.light t ≡ true))
+
 -- an answer is taken while the top works
 pub record MayHear (A : Office) (t i : ℕ) (b : Bool) (l : List ℕ) : Type 0 where
   pub answered : In (Bound t i b l) A.names.answers
@@ -172,7 +177,7 @@ May A (Lower t) = MayLower A t
 May A Unbind = ⊤
 May A (EndTop t commits) = MayEndTop A t commits
 May A (EndSerial r) = MayEndSerial A r
-May A Restart = ⊤
+May A (Restart yes_again) = MayRestart A yes_again
 May A (Hear t i b l) = MayHear A t i b l
 May A (KeepList h t i l) = MayKeepList A h t i l
 May A (AnswerLoad t i s l g) = MayAnswerLoad A t i s l g

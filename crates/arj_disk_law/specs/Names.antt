@@ -55,7 +55,7 @@ pub data Act : Type 0 where
   Unbind : Act
   EndTop : ℕ → Bool → Act
   EndSerial : ℕ → Act
-  Restart : Act
+  Restart : (ℕ → Bool) → Act
   -- coordinators take an answer's grant, or its store list; a store answers a load
   Hear : ℕ → ℕ → Bool → List ℕ → Act
   KeepList : ℕ → ℕ → ℕ → List ℕ → Act
@@ -149,13 +149,13 @@ acted A (Lower t) = record A { names = record A.names { row = put t (Some (if A.
 acted A Unbind = record A { names = record A.names { live = false } }
 acted A (EndTop t commits) = record A { names = record A.names { told = put t true A.names.told; row = rows_after A.world.disk A.names t (commits && A.names.confd t && not (A.names.given t)); given = put t false A.names.given } }
 acted A (EndSerial r) = record A { names = record A.names { told = put r true A.names.told; row = rows_left A.world.disk A.names r } }
-acted A Restart = record A {
+acted A (Restart yes_again) = record A {
   names = record A.names {
     inc = A.names.inc + 1;
     row = given_row A.world.disk.entry A.world.disk.entry_pend;
     given = is_pending A.world.disk.entry_pend;
     told = λ t. false;
-    confd = is_pending A.world.disk.entry_pend;
+    confd = yes_again;
     asked = λ t. false;
     live = false;
   };

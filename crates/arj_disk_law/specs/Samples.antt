@@ -103,7 +103,7 @@ stopped_after =
 -- The naming node restarts with the exclusion in doubt, and the lock is given back.
 abbrev pub naming_restarts : List Act
 naming_restarts =
-    Do (Intend 5 (1 ∷ 2 ∷ [])) ∷ Restart ∷ Commit 5 ∷ Do (Send (ToldCommit 5 1)) ∷ Do (MoveEntry (entry_of_five)) ∷
+    Do (Intend 5 (1 ∷ 2 ∷ [])) ∷ Restart (λ t. t == 5) ∷ Commit 5 ∷ Do (Send (ToldCommit 5 1)) ∷ Do (MoveEntry (entry_of_five)) ∷
     Do (FinishEntry (entry_of_five)) ∷ EndTop 5 true ∷ []
 
 -- Without stops; the question that comes again, before the top's end, is answered Yes again.
@@ -147,6 +147,10 @@ retaining =
 -- where these runs end
 abbrev pub in_doubt : Office
 in_doubt = end_of first_office excluding
+
+-- and with its record in place
+abbrev pub recorded : Office
+recorded = end_of in_doubt (Do (Intend 5 (1 ∷ 2 ∷ [])) ∷ [])
 
 abbrev pub without_three : Office
 without_three = end_of in_doubt excluded
