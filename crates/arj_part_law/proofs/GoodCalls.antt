@@ -102,10 +102,10 @@ module _ (x : ℕ) (o new : Named) (count : ℕ) (n : Naming) (found : at_number
 -- ---- bind
 
 -- each lock stays, and the count doesn't fall
-record IsGrown (o : Named) (count : ℕ) (r : Served Counted BoundReply) (d : Pair) : Type 0 where
-  locks : (u : Uid) (k : ℕ) → HasLock u k o.rows → HasLock u k r.part.named.rows
-  more : count ≤ r.part.count
-  quiet : names_after r.outs d ≡ d
+pub record IsGrown (o : Named) (count : ℕ) (r : Served Counted BoundReply) (d : Pair) : Type 0 where
+  pub locks : (u : Uid) (k : ℕ) → HasLock u k o.rows → HasLock u k r.part.named.rows
+  pub more : count ≤ r.part.count
+  pub quiet : names_after r.outs d ≡ d
 
 module _ (x : ℕ) (p : Path) (d : Pair) where
   grown_same : (c : Counted) (r : BoundReply) → IsGrown c.named c.count (reply c r) d
@@ -142,7 +142,7 @@ module _ (x : ℕ) (p : Path) (d : Pair) where
   grown_include inc e c (Some r) = grown_same c _
   grown_include inc e c None = let r = include_asked inc x p e c None in grown_lock mode.Write c r.part.named c.count r.reply (lock_lines x p mode.Write c.named) refl (omega arith) (lock_quiet mode.Write c.named)
 
-  grown_bind : (inc : ℕ) (include : Bool) (avoid : Binding) (e : Entry) (c : Counted) → IsGrown c.named c.count (bind_named inc x p include avoid e c) d
+  pub grown_bind : (inc : ℕ) (include : Bool) (avoid : Binding) (e : Entry) (c : Counted) → IsGrown c.named c.count (bind_named inc x p include avoid e c) d
   grown_bind inc true avoid e c = grown_include inc e c (conflict_on x p mode.Write c.named)
   grown_bind inc false avoid e c = grown_call inc avoid e c (live_above avoid c.named.live)
 
@@ -192,7 +192,7 @@ bind_locks p x include avoid n d u y h = by (is_over p n)
 -- ---- record
 
 -- a lock of another top stays, each stays as a read lock, and where the top asked by an include each stays
-record IsNotedRows (top : Uid) (o new : Named) : Type 0 where
+pub record IsNotedRows (top : Uid) (o new : Named) : Type 0 where
   others : (u : Uid) (k : ℕ) → u ≢ top → HasLock u k o.rows → HasLock u k new.rows
   asked : is_on o.asked top ≡ true → (u : Uid) (k : ℕ) → HasLock u k o.rows → HasLock u k new.rows
   any : (u : Uid) → HasLock u 0 o.rows → HasLock u 0 new.rows
@@ -216,7 +216,7 @@ module _ (x : ℕ) (top : Uid) (d : Pair) where
           never e f = let no_way : false ≡ true = ap not (sym (ap (λ us. is_on us top) alike ∙ e)) ∙ f in cc
 
   -- the part of an object after a record, and its lines
-  abbrev IsNotedObject : Named → Served Named RecordedReply → Type 0
+  abbrev pub IsNotedObject : Named → Served Named RecordedReply → Type 0
   IsNotedObject o r = IsNotedRows top o r.part × (names_after r.outs d ≡ d)
 
   noted_made : (i : ℕ) (o : Named) (m : Made) → IsNotedObject o (note_made x top i o m)
@@ -234,7 +234,7 @@ module _ (x : ℕ) (top : Uid) (d : Pair) where
       by true = noted_made i o m
       by false = (noted_same o o refl, refl)
 
-  noted_named : (b : Binding) (i : ℕ) (o : Named) → IsNotedObject o (note_named x top b i o)
+  pub noted_named : (b : Binding) (i : ℕ) (o : Named) → IsNotedObject o (note_named x top b i o)
   noted_named b i o = by (is_binding b o.recorded)
     where
       by : (e : Bool) → IsNotedObject o (cond {A = Served Named RecordedReply} e (reply o recorded.Yes) (note_other x top b i o (at_uid top o.made)))

@@ -4,6 +4,7 @@ mod GoodConfirm
 mod GoodEnds
 mod GoodObjects
 mod GoodRestart
+mod Kept
 mod Keys
 mod Locked
 mod Pairs

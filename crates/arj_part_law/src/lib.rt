@@ -4,10 +4,12 @@
 //! parameters that does nothing when it runs.
 #![tactic(auto)]
 
+mod grants;
 mod naming;
 mod objects;
 mod rows;
 
+pub use grants::{bindings_rise, grants_of_naming_stand};
 pub use naming::naming_stays_good;
 pub use objects::objects_of_naming_stay_good;
 pub use rows::locks_on_entries_stay_good;
