@@ -17,6 +17,7 @@ pub mod Listing
 pub mod Locks
 pub mod Mail
 pub mod NamingResults
+pub mod OfficeViews
 pub mod Opening
 pub mod Orders
 pub mod Plain

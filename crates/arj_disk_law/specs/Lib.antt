@@ -6,6 +6,7 @@ pub mod Messages
 pub mod Named
 pub mod Names
 pub mod NamingLaws
+pub mod Offices
 pub mod Order
 pub mod Samples
 pub mod Several

@@ -1,3 +1,4 @@
+use Rattle.arj_disk_law.proofs.OfficeViews.{offices_follow, each_office_stays}
 use Rattle.arj_disk_law.proofs.Views.{views_follow, each_stays_whole}
 use Rattle.arj_disk_law.proofs.several.views_stay_whole.Goals as goal
 
@@ -6,3 +7,9 @@ returns-clause-views c = views_follow
 
 pub returns-clause-each : goal.returns-clause-each
 returns-clause-each c = each_stays_whole
+
+pub returns-clause-offices : goal.returns-clause-offices
+returns-clause-offices c = offices_follow
+
+pub returns-clause-each_office : goal.returns-clause-each_office
+returns-clause-each_office c = each_office_stays
