@@ -8,5 +8,6 @@ mod Kept
 mod Keys
 mod Locked
 mod Pairs
+mod ServerRuns
 mod Stands
 mod Stores

@@ -1,4 +1,5 @@
 pub mod Entries
 pub mod Objects
 pub mod Rows
+pub mod Servers
 pub mod Tops

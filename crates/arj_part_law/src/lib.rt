@@ -8,8 +8,10 @@ mod grants;
 mod naming;
 mod objects;
 mod rows;
+mod server;
 
 pub use grants::{bindings_rise, grants_of_naming_stand};
 pub use naming::naming_stays_good;
 pub use objects::objects_of_naming_stay_good;
 pub use rows::locks_on_entries_stay_good;
+pub use server::servers_go_on;
