@@ -14,6 +14,7 @@ pub mod History
 pub mod Keeps
 pub mod Kin
 pub mod Listing
+pub mod Loading
 pub mod Locks
 pub mod Mail
 pub mod NamingResults

@@ -1,11 +1,12 @@
 -- What follows with the naming node's half.
 use Rattle.std.specs.Prelude.{◌≡◌, ℕ, ◌+◌, List, [], ◌∷◌, take, true, false, Some, None}
 use Rattle.arj_disk_law.specs.Effects.{Effect, Locked, Decide, EndBare, Follows, run}
-use Rattle.arj_disk_law.specs.Guards.{May, Runs, end_of, IsPresent, MayAgree, MayEnter}
+use Rattle.arj_disk_law.specs.Guards.{HasRow, May, Runs, end_of, IsPresent, MayAgree, MayEnter}
 use Rattle.arj_disk_law.specs.Laws.{IsFirst}
 use Rattle.arj_disk_law.specs.Named.{Named}
 use Rattle.arj_disk_law.specs.Names.{Names, Office, Act, Do, Commit, CommitBare, Read, Write, Exclude, Lower, Unbind, EndTop, EndSerial, Restart, Hear, KeepList, AnswerLoad, acted}
-use Rattle.arj_disk_law.specs.State.{State, Packed, undecided, target, state_for, last, Below}
+use Rattle.arj_disk_law.specs.Words.{has}
+use Rattle.arj_disk_law.specs.State.{State, Packed, is_idle, undecided, target, state_for, last, Below}
 
 -- Roots as actions have them: a serializing action is its own root, as are plain tops and independent ones.
 pub record IsForest (S : State) : Type 0 where
@@ -65,3 +66,15 @@ abbrev pub OldNeedsRestart : Office → Type 0
 OldNeedsRestart A = (t s : ℕ) (g : Packed) → undecided A.world.disk t ≡ true → target (A.world.disk.plan t) s ≡ true
     → ((w : Packed) → (A.world.disk.plan t).writes ≡ Some w → w.version ≡ (last A.world.disk).version + 1)
     → A.world.disk.held s ≡ Some g → (Below g (state_for (A.world.disk.plan t)) → ⊥) → IsPresent A.world.disk A.names t → ⊥
+
+-- While a working top has the write lock, the entry stays as it is; and a store of it where the object isn't in doubt holds
+-- the last state, and nobody of another root is confirmed with an open outcome.
+abbrev pub HoldsWrite : Office → ℕ → Type 0
+HoldsWrite A t = (A.world.disk.serial t ≡ false) × (is_idle (A.world.disk.stage t) ≡ true) × HasRow A.names t 2
+
+abbrev pub EntryStays : Type 0
+EntryStays = (A : Office) (a : Act) (t : ℕ) → May A a → Named A → HoldsWrite A t → (acted A a).world.disk.entry ≡ A.world.disk.entry
+
+abbrev pub LoadsTheLast : Office → Type 0
+LoadsTheLast A = (t s : ℕ) (g : Packed) → HoldsWrite A t → has s A.world.disk.entry.content ≡ true → A.world.disk.pend s ≡ None → A.world.disk.held s ≡ Some g
+    → (g ≡ last A.world.disk) × ((z : ℕ) → A.world.disk.conf z ≡ true → undecided A.world.disk z ≡ true → ⊥)

@@ -1,7 +1,7 @@
 // Laws with the naming node's half: locks, grants, kept lists.
 ghost use Rattle.arj_disk_law.specs.Named.{Named};
 ghost use Rattle.arj_disk_law.specs.Names.{Office};
-ghost use Rattle.arj_disk_law.specs.NamingLaws.{ActsAreAllowed, FirstIsNamed, IsBooked, OldNeedsRestart, StopsStayNamed};
+ghost use Rattle.arj_disk_law.specs.NamingLaws.{ActsAreAllowed, EntryStays, FirstIsNamed, IsBooked, LoadsTheLast, OldNeedsRestart, StopsStayNamed};
 
 /// What holds of a formatted object with the naming node's half holds after every list of acts that may be done, stopped
 /// anywhere; for tops with locks of their own and for constituents that use what their serializing action retains. What
@@ -18,4 +18,11 @@ pub fn naming_stays_whole()
 pub fn confirmations_are_booked()
     ensures booked { (A : Office) → Named A → IsBooked A }
     ensures old { (A : Office) → Named A → OldNeedsRestart A }
+{}
+
+/// While a working top has the entry's write lock, the entry stays as it is, and each store of it where the object isn't in
+/// doubt holds the last state, with no confirmed top's outcome open. It does nothing when it runs.
+pub fn loads_are_of_the_last()
+    ensures entry { EntryStays }
+    ensures last { (A : Office) → Named A → LoadsTheLast A }
 {}
