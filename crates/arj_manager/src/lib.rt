@@ -1,0 +1,26 @@
+//! The active objects of a server: activation, operations in their locks, and what each end of an action makes of
+//! them, under nested atomic actions.
+//!
+//! An active object is the state that was activated or last committed here, over it one value for each open action that
+//! wrote it, the deepest first, and a lock table. An action's own value is its overlay, and what stands under it is the
+//! image that an abort goes back to: so an abort takes values out, a nested commit hands one to the parent, and neither
+//! asks for memory.
+//!
+//! It stands on `arj_class` (values), `arj_lock` (lock tables) and the definitions of `arj_protocol`. What it gives
+//! upward: a `StateManager` is a server's list of copies as the protocol has it, and `activate`, `invoke`, `commit`, `abort`
+//! and `changed_states` are the protocol's functions on it: new state, lines and answer. All faults leave it as it was.
+#![tactic(auto)]
+
+mod fault;
+mod manager;
+mod object;
+mod overlay;
+mod ran;
+
+pub use fault::ManagerFault;
+pub use manager::StateManager;
+pub use object::ActiveObject;
+pub use ran::Ran;
+
+#[cfg(test)]
+mod tests;

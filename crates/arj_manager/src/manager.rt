@@ -1,0 +1,153 @@
+// All active objects of a server.
+ghost use Rattle.std.specs.Prelude.{◌≡◌, ◌↔◌, ◌⊎◌, ℕ, true, false, [], Some, None, IfOk, IfErr, IfSome, IsSomeAnd, OnOk, OnErr, IsErrOf, option_copied, option_map, Ok};
+ghost use Rattle.std.specs.BTreeMap.{is_at};
+ghost use Rattle.std.specs.Map.{remove_entry};
+ghost use Rattle.std.specs.Ordering.{nat_cmp};
+ghost use Rattle.arj_base.specs.declared.mode.End.TheVariants as ending;
+ghost use Rattle.arj_base.specs.declared.mode.Mode.{Mode};
+ghost use Rattle.arj_base.specs.declared.uid.Uid.{Uid};
+ghost use Rattle.arj_base.specs.Path.{uids_of};
+ghost use Rattle.arj_base.specs.Rows.{last_uid};
+ghost use Rattle.arj_base.specs.Uid.{object};
+ghost use Rattle.arj_class.specs.declared.value.Value.{Value};
+ghost use Rattle.arj_class.specs.Forms.{OpInForm};
+ghost use Rattle.arj_class.specs.Table.{class_of, has_op, op_mode};
+ghost use Rattle.arj_lock.specs.Requests.{conflict_with};
+ghost use Rattle.arj_protocol.specs.Copy.{Copy, taken_copy, current};
+ghost use Rattle.arj_protocol.specs.Order.{at_number, put_number};
+ghost use Rattle.arj_protocol.specs.Words.invoked;
+ghost use Rattle.arj_manager.specs.Manager.{invoke_in, ended, changed_in, holds_any};
+ghost use Rattle.arj_manager.specs.Ran.{grant_said, IsValueOf};
+ghost use Rattle.arj_manager.specs.declared.fault.ManagerFault.TheVariants as fault;
+
+use crate::{ActiveObject, ManagerFault, Ran};
+use arj_base::{Binding, ObjectState, Path, Seq, Uid};
+use arj_class::Op;
+use std::alloc::{AllocError, Global};
+use std::collections::BTreeMap;
+use std::marker::Model;
+
+/// The active objects of a server by their numbers. Contracts see the protocol's copies, in increasing order of the
+/// numbers.
+#[derive(Drop)]
+pub struct StateManager {
+    objects: BTreeMap<u16, ActiveObject>,
+}
+
+impl Model for StateManager {
+    ghost use Rattle.arj_manager.specs.Manager.{Copies};
+
+    ghost Value = { Copies };
+
+    ghost view = { λ m. m.objects.entries };
+}
+
+impl StateManager {
+    /// No object. It allocates nothing.
+    pub fn new(alloc: Global) -> StateManager
+        ensures { result ≡ [] }
+    {
+        StateManager {
+            objects: BTreeMap::new(alloc),
+        }
+    }
+
+    /// Makes an object active in this state. A copy that is there goes, with its overlays and its locks.
+    pub fn activate(
+        &mut self,
+        alloc: Global,
+        x: u16,
+        binding: Binding,
+        state: &ObjectState,
+    ) -> Result<(), ManagerFault>
+        ensures copies { OnOk result (self.new ≡ put_number x (taken_copy binding state.now) self.old) }
+        ensures restored { OnOk result ((v : Value) × IsValueOf state.now v) }
+        ensures none { IsErrOf result fault.Payload → (v : Value) → IsValueOf state.now v → ⊥ }
+        ensures faults { IfErr result (λ e. (e ≡ fault.Payload) ⊎ (e ≡ fault.Memory)) }
+        ensures kept { OnErr result (self.new ≡ self.old) }
+    {
+        let copy = ActiveObject::activate(alloc, binding, state)?;
+        self.objects.insert(x, copy)?;
+        Ok(())
+    }
+
+    /// The active copy of an object.
+    pub fn copy(&self, x: u16) -> Option<&ActiveObject>
+        ensures { option_copied result ≡ at_number x self.now }
+    {
+        self.objects.get(&x)
+    }
+
+    /// Does an operation on an object for the action with this path, in its lock. None exactly where the object isn't
+    /// active.
+    pub fn invoke(&mut self, x: u16, path: &Path, op: &Op) -> Result<Option<Ran>, ManagerFault>
+        requires { OpInForm op.now }
+        ensures copies { OnOk result ((n : ℕ) → self.new ≡ (invoke_in n path.now x op.now self.old).part) }
+        ensures lines { IfOk result (λ done. IfSome done (λ ran. (n : ℕ) → (invoke_in n path.now x op.now self.old).outs ≡ grant_said n (last_uid (uids_of path.now)) (object x) ran.granted)) }
+        ensures reply { IfOk result (λ done. (n : ℕ) → (invoke_in n path.now x op.now self.old).reply ≡ option_map (λ ran. invoked.Answered ran.answer) done) }
+        ensures absent { (result ≡ Ok None) ↔ (at_number x self.old ≡ None) }
+        ensures wrong_op { IsErrOf result fault.WrongOp ↔ IsSomeAnd (at_number x self.old) (λ c. has_op (class_of (current c.base c.stack)) op.now ≡ false) }
+        ensures conflict { IfSome (at_number x self.old) (λ c. has_op (class_of (current c.base c.stack)) op.now ≡ true → IfSome (conflict_with (uids_of path.now) (object x) (op_mode op.now) c.rows) (λ met. IsErrOf result (fault.Conflict met.0 met.1))) }
+        ensures named { (holder : Uid) (held : Mode) → IsErrOf result (fault.Conflict holder held) → (n : ℕ) → (invoke_in n path.now x op.now self.old).reply ≡ Some (invoked.Conflict holder held) }
+        ensures restored { IsErrOf result fault.Payload → ⊥ }
+        ensures kept { OnErr result (self.new ≡ self.old) }
+    {
+        let Some(object) = self.objects.get_mut(&x) else {
+            return Ok(None);
+        };
+        let ran = object.invoke(x, path, op)?;
+        Ok(Some(ran))
+    }
+
+    /// Each object after an action's commit. It takes no memory.
+    pub fn commit(&mut self, action: Uid)
+        ensures { self.new ≡ ended action ending.Commit self.old }
+    {
+        self.objects.retain(|_, object| {
+            object.commit(action);
+            true
+        });
+    }
+
+    /// Each object after an action's abort. It takes no memory.
+    pub fn abort(&mut self, action: Uid)
+        ensures { self.new ≡ ended action ending.Abort self.old }
+    {
+        self.objects.retain(|_, object| {
+            object.abort(action);
+            true
+        });
+    }
+
+    /// The states that a top made, in increasing order of the objects.
+    pub fn changed_states(&self, alloc: Global, top: Uid) -> Result<Seq<ObjectState>, AllocError>
+        ensures { IfOk result (λ states. states ≡ changed_in top self.now) }
+    {
+        let mut states = Seq::new(alloc);
+        for (x, object) in self.objects.iter() {
+            if let Some(state) = object.changed_state(alloc, top, *x)? {
+                states.push(state)?;
+            }
+        }
+        Ok(states)
+    }
+
+    /// Lets an object's copy go, with its overlays and its locks.
+    pub fn deactivate(&mut self, x: u16)
+        ensures { self.new ≡ remove_entry (is_at (nat_cmp x)) self.old }
+    {
+        self.objects.remove(&x);
+    }
+
+    /// Whether the action or a descendant of it has a lock.
+    pub fn holds(&self, action: Uid) -> bool
+        ensures { result ≡ holds_any action self.now }
+    {
+        for (_, object) in self.objects.iter() {
+            if object.holds(action) {
+                return true;
+            }
+        }
+        false
+    }
+}
