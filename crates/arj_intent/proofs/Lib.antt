@@ -1,0 +1,6 @@
+pub mod Bytes
+pub mod Counting
+pub mod Done
+pub mod Entries
+pub mod Listed
+pub mod Stays
