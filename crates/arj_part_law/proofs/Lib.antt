@@ -1,6 +1,7 @@
 mod EntryLocks
 mod GoodCalls
 mod GoodConfirm
+mod GoodCopies
 mod GoodEnds
 mod GoodObjects
 mod GoodRestart

@@ -28,7 +28,7 @@ stronger_left Write Read = omega arith
 stronger_left Write Exclude = omega arith
 stronger_left Write Write = omega arith
 
-stronger_right : (m n : Mode) → mode_code n ≤ mode_code (stronger m n)
+pub stronger_right : (m n : Mode) → mode_code n ≤ mode_code (stronger m n)
 stronger_right Read Read = omega arith
 stronger_right Read Exclude = omega arith
 stronger_right Read Write = omega arith

@@ -4,12 +4,14 @@
 //! parameters that does nothing when it runs.
 #![tactic(auto)]
 
+mod copies;
 mod grants;
 mod naming;
 mod objects;
 mod rows;
 mod server;
 
+pub use copies::overlays_are_guarded;
 pub use grants::{bindings_rise, grants_of_naming_stand};
 pub use naming::naming_stays_good;
 pub use objects::objects_of_naming_stay_good;

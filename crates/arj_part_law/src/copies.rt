@@ -1,0 +1,21 @@
+// An active copy at a server.
+ghost use Rattle.std.specs.Prelude.{◌≡◌, ◌≤◌, ℕ, None};
+ghost use Rattle.arj_base.specs.Path.{uids_of};
+ghost use Rattle.arj_base.specs.Rows.{first_conflict, last_uid};
+ghost use Rattle.arj_base.specs.Uid.{object};
+ghost use Rattle.arj_base.specs.declared.mode.End.TheVariants.{Abort, Commit};
+ghost use Rattle.arj_base.specs.declared.path.Path.{Path};
+ghost use Rattle.arj_base.specs.declared.uid.Uid.{Uid};
+ghost use Rattle.arj_part_law.specs.Copies.{HasHeirs, IsGoodCopy, IsLowest, IsTree, Paths};
+ghost use Rattle.arj_protocol.specs.Copy.{Copy, end_copy, run_copy, taken_copy};
+ghost use Rattle.arj_protocol.specs.Words.{Binding, ObjectState, Op, op_mode};
+
+/// On a copy, from when it is taken, whoever has an overlay has the write lock, under each request that is granted, each abort, and each commit of
+/// an action no descendant of which has a lock. It does nothing when it runs.
+pub fn overlays_are_guarded()
+    ensures taken { (paths : Paths) (x : ℕ) (b : Binding) (st : ObjectState) → IsGoodCopy paths x (taken_copy b st) }
+    ensures request { (paths : Paths) → IsTree paths → (x : ℕ) (c : Copy) → IsGoodCopy paths x c → (n : ℕ) (p : Path) (o : Op) → uids_of p ≡ paths (last_uid (uids_of p)) → first_conflict (uids_of p) (object x) (op_mode o) c.rows ≡ None
+        → IsGoodCopy paths x (run_copy n p x o c).part }
+    ensures abort { (paths : Paths) → IsTree paths → (x : ℕ) (c : Copy) → IsGoodCopy paths x c → (u : Uid) → IsGoodCopy paths x (end_copy u Abort c) }
+    ensures commit { (paths : Paths) → IsTree paths → (x : ℕ) (c : Copy) → IsGoodCopy paths x c → (u : Uid) → IsLowest u c.rows → HasHeirs u c → IsGoodCopy paths x (end_copy u Commit c) }
+{}
