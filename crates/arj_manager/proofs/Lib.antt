@@ -1,3 +1,4 @@
 pub mod Folds
 pub mod Grants
 pub mod Puts
+pub mod Views

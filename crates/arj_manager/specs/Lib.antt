@@ -1,3 +1,4 @@
 pub mod Stack
 pub mod Ran
 pub mod Manager
+pub mod Views

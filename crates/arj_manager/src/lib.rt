@@ -12,12 +12,14 @@
 #![tactic(auto)]
 
 mod fault;
+mod laws;
 mod manager;
 mod object;
 mod overlay;
 mod ran;
 
 pub use fault::ManagerFault;
+pub use laws::{aborts_agree, nested_commits_agree, writes_agree};
 pub use manager::StateManager;
 pub use object::ActiveObject;
 pub use ran::Ran;
