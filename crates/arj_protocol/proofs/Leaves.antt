@@ -1,10 +1,10 @@
 -- A message that doesn't speak of an object leaves its parts at server and naming.
 use Rattle.std.proofs.Common.{◌≡◌, ℕ, List, [], ◌∷◌, Bool, true, false, cond, refl, sym, ◌∙◌, ap, subst, map, Option, Some, None, ◌==◌, ⊎_elim, arith}
 use Rattle.std.proofs.lemmas.Bool.{or_parts}
-use Rattle.std.specs.Prelude.{not, ◌||◌, if◌then◌else◌, option_map, is_some}
+use Rattle.std.specs.Prelude.{not, ◌||◌, if◌then◌else◌, option_map, is_some, filter}
 use Rattle.std.specs.Ordering.{nat_cmp, is_eq}
 use Rattle.arj_protocol.specs.Words.ask
-use Rattle.arj_protocol.specs.Words.{filter, Uid, End, Path, Head, Asked, Binding, ObjectState, Op, Message, What, BoundReply, InvokedReply, ConfirmedReply, is_on, object, Ask, asks}
+use Rattle.arj_protocol.specs.Words.{Uid, End, Path, Head, Asked, Binding, ObjectState, Op, Message, What, BoundReply, InvokedReply, ConfirmedReply, is_on, object, Ask, asks}
 use Rattle.arj_protocol.specs.Words.message
 use Rattle.arj_protocol.specs.Words.recorded
 use Rattle.arj_protocol.specs.Words.confirmed

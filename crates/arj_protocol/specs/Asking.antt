@@ -1,6 +1,8 @@
 -- What a coordinator does when actions begin, call, include, commit and give up, and when they are answered.
 use Rattle.arj_protocol.specs.Words.ask
-use Rattle.arj_protocol.specs.Words.{ℕ, ◌+◌, Bool, true, false, ◌&&◌, ◌||◌, ◌==◌, if◌then◌else◌, List, [], ◌∷◌, ◌++◌, flat_map, Option, Some, None, list_any, Uid, Binding, Path, Asked, Op, Answer, Body, Label, Kind, uids_of, answer_text, Ask, request}
+use Rattle.std.specs.Prelude.{ℕ, ◌+◌, Bool, true, false, ◌&&◌, ◌||◌, ◌==◌, if◌then◌else◌, List, [], ◌∷◌, ◌++◌, Option, Some, None}
+use Rattle.std.specs.List.{flat_map, list_any}
+use Rattle.arj_protocol.specs.Words.{Uid, Binding, Path, Asked, Op, Answer, Body, Label, Kind, uids_of, answer_text, Ask, request}
 use Rattle.arj_protocol.specs.Words.ending
 use Rattle.arj_protocol.specs.Words.body
 use Rattle.arj_protocol.specs.Words.cause

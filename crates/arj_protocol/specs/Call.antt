@@ -2,7 +2,8 @@
 -- keeps of an object: one binding with one incarnation of its server.
 use Rattle.arj_protocol.specs.Words.ask
 use Rattle.arj_protocol.specs.Words.op
-use Rattle.arj_protocol.specs.Words.{ℕ, Bool, true, false, ◌&&◌, ◌||◌, ◌==◌, nat_lt, if◌then◌else◌, List, [], ◌∷◌, Option, Some, None, unwrap_or, Uid, Binding, Path, Mode, End, Op, Answer, ObjectState, What, BoundReply, LoadedReply, RecordedReply, InvokedReply, Ask}
+use Rattle.std.specs.Prelude.{ℕ, Bool, true, false, ◌&&◌, ◌||◌, ◌==◌, nat_lt, if◌then◌else◌, List, [], ◌∷◌, Option, Some, None, unwrap_or}
+use Rattle.arj_protocol.specs.Words.{Uid, Binding, Path, Mode, End, Op, Answer, ObjectState, What, BoundReply, LoadedReply, RecordedReply, InvokedReply, Ask}
 use Rattle.arj_protocol.specs.Words.mode
 use Rattle.arj_protocol.specs.Words.what
 use Rattle.arj_protocol.specs.Words.bound

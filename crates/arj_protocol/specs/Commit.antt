@@ -1,7 +1,9 @@
 -- The commit of a top: votes of the servers, states prepared at the stores, the grants confirmed by naming, the decision.
 -- Each step asks its nodes, and ends when all have answered.
 use Rattle.arj_protocol.specs.Words.ask
-use Rattle.arj_protocol.specs.Words.{ℕ, ◌+◌, Bool, true, false, not, ◌&&◌, ◌||◌, ◌==◌, nat_lt, if◌then◌else◌, List, [], ◌∷◌, ◌++◌, map, filter, flat_map, filter_map, find, Option, Some, None, list_any, Uid, Binding, Path, End, ObjectState, Cause, VotedReply, PreparedReply, ConfirmedReply, min, uid_eq, object, Ask}
+use Rattle.std.specs.Prelude.{ℕ, ◌+◌, Bool, true, false, not, ◌&&◌, ◌||◌, ◌==◌, nat_lt, if◌then◌else◌, List, [], ◌∷◌, ◌++◌, map, filter, find, Option, Some, None, min}
+use Rattle.std.specs.List.{flat_map, filter_map, list_any}
+use Rattle.arj_protocol.specs.Words.{Uid, Binding, Path, End, ObjectState, Cause, VotedReply, PreparedReply, ConfirmedReply, uid_eq, object, Ask}
 use Rattle.arj_protocol.specs.Words.cause
 use Rattle.arj_protocol.specs.Words.voted
 use Rattle.arj_protocol.specs.Words.prepared

@@ -1,5 +1,7 @@
 -- What naming does at a Confirm, and what it finds at a restart.
-use Rattle.arj_protocol.specs.Words.{ℕ, Bool, true, false, not, ◌&&◌, ◌||◌, ◌==◌, if◌then◌else◌, List, [], ◌∷◌, ◌++◌, map, filter, find, flat_map, filter_map, Option, Some, None, is_some, option_map, list_any, list_all, Uid, Path, Entry, ObjectState, Row, ConfirmedReply, Mode, uid_eq, entry, entry_payload, is_on, is_listed, with_store, without_store, last_uid, nobody}
+use Rattle.std.specs.Prelude.{ℕ, Bool, true, false, not, ◌&&◌, ◌||◌, ◌==◌, if◌then◌else◌, List, [], ◌∷◌, ◌++◌, map, filter, find, Option, Some, None, is_some, option_map}
+use Rattle.std.specs.List.{flat_map, filter_map, list_any, list_all}
+use Rattle.arj_protocol.specs.Words.{Uid, Path, Entry, ObjectState, Row, ConfirmedReply, Mode, uid_eq, entry, entry_payload, is_on, is_listed, with_store, without_store, last_uid, nobody}
 use Rattle.arj_protocol.specs.Words.mode
 use Rattle.arj_protocol.specs.Words.class
 use Rattle.arj_protocol.specs.Words.body

@@ -1,6 +1,10 @@
 -- The coordinator part of a node: its actions, what each waits for, what each root has sent, heard and keeps, and the
 -- tolds that aren't acknowledged. What a root did and heard are lists, each item once; questions are filters on them.
-use Rattle.arj_protocol.specs.Words.{ℕ, Bool, true, false, not, ◌&&◌, ◌||◌, ◌==◌, nat_lt, if◌then◌else◌, List, [], ◌∷◌, ◌++◌, map, filter, Option, Some, None, unwrap_or, list_any, list_all, lookup, insert_entry, is_at, min, Uid, Binding, Path, ObjectState, Label, label_cmp, uid_eq, is_on, last_uid}
+use Rattle.std.specs.Prelude.{ℕ, Bool, true, false, not, ◌&&◌, ◌||◌, ◌==◌, nat_lt, if◌then◌else◌, List, [], ◌∷◌, ◌++◌, map, filter, Option, Some, None, unwrap_or, min}
+use Rattle.std.specs.List.{list_any, list_all}
+use Rattle.std.specs.Map.{lookup}
+use Rattle.std.specs.BTreeMap.{insert_entry, is_at}
+use Rattle.arj_protocol.specs.Words.{Uid, Binding, Path, ObjectState, Label, label_cmp, uid_eq, is_on, last_uid}
 use Rattle.arj_protocol.specs.Order.{at_number, put_number, number_set, unbound}
 use Rattle.arj_protocol.specs.Effect.{Intent}
 use Rattle.arj_protocol.specs.Ask.{actor}

@@ -1,7 +1,9 @@
 -- One object at a server: its active copy, as the state that was activated or last committed here, and over it what the
 -- open actions wrote, the deepest first; and the locks on it. An action's entry is its overlay, and what stands under an
 -- entry is its before-image.
-use Rattle.arj_protocol.specs.Words.{ℕ, Bool, not, ◌&&◌, nat_le, if◌then◌else◌, List, [], ◌∷◌, length, take, filter, find, Option, Some, None, option_map, list_any, Uid, Path, End, Mode, Op, Value, ObjectState, Row, uid_eq, object, uids_of, tops_of, last_uid, front, is_on, grant_row, drop_rows, pass_rows, is_row_of, first_conflict, mode_code, class_of, op_mode, writes, answer_of, value_after, payload_of, Binding, min, InvokedReply}
+use Rattle.std.specs.Prelude.{ℕ, Bool, not, ◌&&◌, nat_le, if◌then◌else◌, List, [], ◌∷◌, length, take, filter, find, Option, Some, None, option_map, min}
+use Rattle.std.specs.List.{list_any}
+use Rattle.arj_protocol.specs.Words.{Uid, Path, End, Mode, Op, Value, ObjectState, Row, uid_eq, object, uids_of, tops_of, last_uid, front, is_on, grant_row, drop_rows, pass_rows, is_row_of, first_conflict, mode_code, class_of, op_mode, writes, answer_of, value_after, payload_of, Binding, InvokedReply}
 use Rattle.arj_protocol.specs.Words.ending
 use Rattle.arj_protocol.specs.Words.body
 use Rattle.arj_protocol.specs.Words.invoked

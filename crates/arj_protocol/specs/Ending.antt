@@ -1,5 +1,7 @@
 -- How actions end at their coordinator, who is told, and how tolds are acknowledged and asked for.
-use Rattle.arj_protocol.specs.Words.{ℕ, Bool, true, false, not, ◌&&◌, ◌||◌, if◌then◌else◌, List, [], ◌∷◌, ◌++◌, map, filter, flat_map, Option, Some, None, is_some, list_any, Uid, Path, End, Cause, Body, Label, Kind, ObjectState, uid_eq}
+use Rattle.std.specs.Prelude.{ℕ, Bool, true, false, not, ◌&&◌, ◌||◌, if◌then◌else◌, List, [], ◌∷◌, ◌++◌, map, filter, Option, Some, None, is_some}
+use Rattle.std.specs.List.{flat_map, list_any}
+use Rattle.arj_protocol.specs.Words.{Uid, Path, End, Cause, Body, Label, Kind, ObjectState, uid_eq}
 use Rattle.arj_protocol.specs.Words.ending
 use Rattle.arj_protocol.specs.Words.body
 use Rattle.arj_protocol.specs.Words.cause

@@ -1,7 +1,7 @@
 -- What it means that the locks of a node follow its lines over a whole step.
-use Rattle.std.specs.Prelude.{⊤}
+use Rattle.std.specs.Prelude.{⊤, ◌≡◌, ◌==◌, ℕ, zero, suc, false, List, [], ◌∷◌, ◌++◌, map, Option, Some, None}
 use Rattle.std.specs.List.{AllByRecursion}
-use Rattle.arj_protocol.specs.Words.{◌≡◌, ◌==◌, ℕ, zero, suc, false, ObjectState, entry, List, [], ◌∷◌, ◌++◌, map, Option, Some, None, Uid, End, Message, Head, Path, Ask, asks, uids_of, tops_of}
+use Rattle.arj_protocol.specs.Words.{ObjectState, entry, Uid, End, Message, Head, Path, Ask, asks, uids_of, tops_of}
 use Rattle.arj_protocol.specs.Words.ask
 use Rattle.arj_protocol.specs.Words.message
 use Rattle.arj_protocol.specs.Effect.{Effect, Disk}

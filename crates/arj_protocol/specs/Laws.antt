@@ -1,8 +1,8 @@
 -- What the laws of the protocol say.
-use Rattle.std.specs.Prelude.{◌≢◌, ⊤}
-use Rattle.std.specs.List.{AllByRecursion}
+use Rattle.std.specs.Prelude.{◌≢◌, ⊤, ◌≡◌, ℕ, ◌-◌, Bool, true, false, not, ◌&&◌, ◌||◌, ◌==◌, nat_lt, if◌then◌else◌, List, [], ◌∷◌, ◌++◌, map, Option, Some, None}
+use Rattle.std.specs.List.{AllByRecursion, list_any}
 use Rattle.arj_protocol.specs.Words.ask
-use Rattle.arj_protocol.specs.Words.{◌≡◌, ℕ, ◌-◌, Bool, true, false, not, ◌&&◌, ◌||◌, ◌==◌, nat_lt, if◌then◌else◌, List, [], ◌∷◌, ◌++◌, map, Option, Some, None, list_any, Uid, End, Part, Body, Line, Row, Message, Head, uid_eq, is_on, nobody, object, entry, grant_row, drop_rows, pass_rows, lower_row, Ask, asks}
+use Rattle.arj_protocol.specs.Words.{Uid, End, Part, Body, Line, Row, Message, Head, uid_eq, is_on, nobody, object, entry, grant_row, drop_rows, pass_rows, lower_row, Ask, asks}
 use Rattle.arj_protocol.specs.Words.ending
 use Rattle.arj_protocol.specs.Words.body
 use Rattle.arj_protocol.specs.Words.part

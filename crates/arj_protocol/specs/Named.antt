@@ -1,6 +1,8 @@
 -- One object at the naming service: who was bound to which server, what is live, and the locks on its entry. A call on it
 -- reads the object's committed entry; the locks on an entry are held by tops.
-use Rattle.arj_protocol.specs.Words.{ℕ, ◌+◌, Bool, true, false, not, ◌&&◌, ◌==◌, nat_le, if◌then◌else◌, List, [], ◌∷◌, ◌++◌, Option, Some, None, list_any, Uid, Binding, Path, Mode, Entry, Row, BoundReply, RecordedReply, entry, tops_of, last_uid, is_on, is_row_of, lower_row, mode_code, drop_rows, pass_rows, first_conflict, End}
+use Rattle.std.specs.Prelude.{ℕ, ◌+◌, Bool, true, false, not, ◌&&◌, ◌==◌, nat_le, if◌then◌else◌, List, [], ◌∷◌, ◌++◌, Option, Some, None}
+use Rattle.std.specs.List.{list_any}
+use Rattle.arj_protocol.specs.Words.{Uid, Binding, Path, Mode, Entry, Row, BoundReply, RecordedReply, entry, tops_of, last_uid, is_on, is_row_of, lower_row, mode_code, drop_rows, pass_rows, first_conflict, End}
 use Rattle.arj_protocol.specs.Words.mode
 use Rattle.arj_protocol.specs.Words.ending
 use Rattle.arj_protocol.specs.Words.body

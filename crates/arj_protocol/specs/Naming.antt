@@ -1,6 +1,8 @@
 -- The naming part of node 1: its objects, the tops that it confirmed, and the actions whose end it was told. Each call
 -- also reads the pair of entries on the disk.
-use Rattle.arj_protocol.specs.Words.{ℕ, Bool, not, ◌&&◌, ◌||◌, ◌==◌, if◌then◌else◌, List, [], ◌∷◌, ◌++◌, map, filter, flat_map, Option, Some, None, is_some, list_any, Uid, Binding, Path, Entry, ObjectState, Row, End, BoundReply, RecordedReply, uid_eq, entry, is_on, is_held_by}
+use Rattle.std.specs.Prelude.{ℕ, Bool, not, ◌&&◌, ◌||◌, ◌==◌, if◌then◌else◌, List, [], ◌∷◌, ◌++◌, map, filter, Option, Some, None, is_some}
+use Rattle.std.specs.List.{flat_map, list_any}
+use Rattle.arj_protocol.specs.Words.{Uid, Binding, Path, Entry, ObjectState, Row, End, BoundReply, RecordedReply, uid_eq, entry, is_on, is_held_by}
 use Rattle.arj_protocol.specs.Words.ending
 use Rattle.arj_protocol.specs.Words.body
 use Rattle.arj_protocol.specs.Words.part

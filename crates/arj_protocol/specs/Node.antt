@@ -1,7 +1,8 @@
 -- One node: its disk, and while it is up its parts. How a message is handled, with all messages that the node sends to
 -- itself by that.
 use Rattle.arj_protocol.specs.Words.ask
-use Rattle.arj_protocol.specs.Words.{ℕ, zero, suc, Bool, ◌&&◌, ◌==◌, nat_lt, if◌then◌else◌, List, [], ◌∷◌, ◌++◌, map, filter, Option, Some, None, option_map, Uid, Head, Asked, End, ObjectState, Message, object, Ask, asks}
+use Rattle.std.specs.Prelude.{ℕ, zero, suc, Bool, ◌&&◌, ◌==◌, nat_lt, if◌then◌else◌, List, [], ◌∷◌, ◌++◌, map, filter, Option, Some, None, option_map}
+use Rattle.arj_protocol.specs.Words.{Uid, Head, Asked, End, ObjectState, Message, object, Ask, asks}
 use Rattle.arj_protocol.specs.Words.ending
 use Rattle.arj_protocol.specs.Words.body
 use Rattle.arj_protocol.specs.Words.role

@@ -1,6 +1,12 @@
 -- How Uids, bindings and versions compare, and finite maps and sets: sorted lists, as an ordered map or set has its
 -- entries.
-use Rattle.arj_protocol.specs.Words.{ℕ, zero, suc, ◌+◌, ◌*◌, Bool, ◌==◌, nat_lt, if◌then◌else◌, List, [], ◌∷◌, filter, map, Option, list_any, not, nat_cmp, lookup, remove_entry, insert_entry, insert_key, is_at, Uid, Binding, uid_eq, min, uid_order}
+use Rattle.std.specs.Prelude.{ℕ, zero, suc, ◌+◌, ◌*◌, Bool, ◌==◌, nat_lt, if◌then◌else◌, List, [], ◌∷◌, filter, map, Option, not, min}
+use Rattle.std.specs.List.{list_any}
+use Rattle.std.specs.Ordering.{nat_cmp}
+use Rattle.std.specs.Map.{lookup, remove_entry}
+use Rattle.std.specs.BTreeMap.{insert_entry, is_at}
+use Rattle.std.specs.BTreeSet.{insert_key}
+use Rattle.arj_protocol.specs.Words.{Uid, Binding, uid_eq, uid_order}
 
 -- Two numbers as one, from which both can be told: the first counts the factors 2, the second gives the odd rest.
 abbrev pub as_one : ℕ → ℕ → ℕ

@@ -1,5 +1,6 @@
 -- Where a message stands in the protocol: what a node answers to it, or does next, stands further on.
-use Rattle.arj_protocol.specs.Words.{ℕ, Bool, true, false, nat_lt, Message}
+use Rattle.std.specs.Prelude.{ℕ, Bool, true, false, nat_lt}
+use Rattle.arj_protocol.specs.Words.{Message}
 use Rattle.arj_protocol.specs.Words.message
 use Rattle.arj_protocol.specs.Effect.{Effect, Say, Send, Do}
 

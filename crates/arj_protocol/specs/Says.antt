@@ -1,5 +1,7 @@
 -- Which effects each part has: the lines that it says, whether it sends, and its work on the disk.
-use Rattle.arj_protocol.specs.Words.{◌≡◌, ℕ, Bool, true, false, ◌==◌, ◌&&◌, List, list_all, Uid, Body, Part, Role}
+use Rattle.std.specs.Prelude.{◌≡◌, ℕ, Bool, true, false, ◌==◌, ◌&&◌, List}
+use Rattle.std.specs.List.{list_all}
+use Rattle.arj_protocol.specs.Words.{Uid, Body, Part, Role}
 use Rattle.arj_protocol.specs.Words.body
 use Rattle.arj_protocol.specs.Words.part
 use Rattle.arj_protocol.specs.Words.role

@@ -1,6 +1,8 @@
 -- The server part of a node: active copies, the last answer of each action, the ends that it was told, and the tops that
 -- it voted for.
-use Rattle.arj_protocol.specs.Words.{ℕ, Bool, false, not, ◌&&◌, ◌||◌, ◌==◌, nat_lt, if◌then◌else◌, List, [], ◌∷◌, ◌++◌, map, Option, Some, None, is_some, list_any, flat_map, filter_map, Uid, Binding, Path, Head, End, Op, ObjectState, Row, What, InvokedReply, VotedReply, uids_of, is_on, top_uid}
+use Rattle.std.specs.Prelude.{ℕ, Bool, false, not, ◌&&◌, ◌||◌, ◌==◌, nat_lt, if◌then◌else◌, List, [], ◌∷◌, ◌++◌, map, Option, Some, None, is_some}
+use Rattle.std.specs.List.{list_any, flat_map, filter_map}
+use Rattle.arj_protocol.specs.Words.{Uid, Binding, Path, Head, End, Op, ObjectState, Row, What, InvokedReply, VotedReply, uids_of, is_on, top_uid}
 use Rattle.arj_protocol.specs.Words.ending
 use Rattle.arj_protocol.specs.Words.body
 use Rattle.arj_protocol.specs.Words.part

@@ -1,5 +1,7 @@
 -- What a node does at each input: the refusals that it finds itself, calls, commits and ends, frames, ticks, restarts.
-use Rattle.arj_protocol.specs.Words.{ℕ, zero, suc, ◌+◌, Bool, true, false, not, ◌&&◌, ◌||◌, ◌==◌, if◌then◌else◌, List, [], ◌∷◌, ◌++◌, map, filter, find, flat_map, Option, Some, None, is_some, list_any, Uid, Kind, Op, Label, Class, Header, ObjectLine, ObjectState, Body, Message, uid_eq, uids_of, object, entry, class_of, has_op, payload_of, entry_payload, nobody}
+use Rattle.std.specs.Prelude.{ℕ, zero, suc, ◌+◌, Bool, true, false, not, ◌&&◌, ◌||◌, ◌==◌, if◌then◌else◌, List, [], ◌∷◌, ◌++◌, map, filter, find, Option, Some, None, is_some}
+use Rattle.std.specs.List.{flat_map, list_any}
+use Rattle.arj_protocol.specs.Words.{Uid, Kind, Op, Label, Class, Header, ObjectLine, ObjectState, Body, Message, uid_eq, uids_of, object, entry, class_of, has_op, payload_of, entry_payload, nobody}
 use Rattle.arj_protocol.specs.Words.ending
 use Rattle.arj_protocol.specs.Words.body
 use Rattle.arj_protocol.specs.Words.kind

@@ -1,6 +1,8 @@
 -- The actions that a node has begun in this incarnation, in order of beginning, and what each root has: the ends of its
 -- nested actions and constituents in the order in which they were decided, and what counts against its limits.
-use Rattle.arj_protocol.specs.Words.{ℕ, zero, suc, ◌+◌, Bool, true, false, not, ◌&&◌, ◌==◌, nat_le, if◌then◌else◌, List, [], ◌∷◌, ◌++◌, length, filter, slice_get, slice_set, Option, Some, None, is_some, unwrap_or, list_any, Uid, Path, End, Kind, uid_eq, uids_of, tops_of, first_uid, before_last, is_on, path_of}
+use Rattle.std.specs.Prelude.{ℕ, zero, suc, ◌+◌, Bool, true, false, not, ◌&&◌, ◌==◌, nat_le, if◌then◌else◌, List, [], ◌∷◌, ◌++◌, length, filter, slice_get, slice_set, Option, Some, None, is_some, unwrap_or}
+use Rattle.std.specs.List.{list_any}
+use Rattle.arj_protocol.specs.Words.{Uid, Path, End, Kind, uid_eq, uids_of, tops_of, first_uid, before_last, is_on, path_of}
 use Rattle.arj_protocol.specs.Words.kind
 use Rattle.arj_protocol.specs.Words.ending
 use Rattle.arj_protocol.specs.Order.{at_number, put_number, with_number, has}

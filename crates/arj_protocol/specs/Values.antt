@@ -1,6 +1,7 @@
 -- Payloads of packed states as values, and as naming entries: what `payload_of` and `entry_payload` spell, read back.
 use Rattle.std.specs.Int.{w64, from_be_bytes}
-use Rattle.arj_protocol.specs.Words.{ℕ, List, [], ◌∷◌, take, drop, Class, Value, Entry, ObjectState}
+use Rattle.std.specs.Prelude.{ℕ, List, [], ◌∷◌, take, drop}
+use Rattle.arj_protocol.specs.Words.{Class, Value, Entry, ObjectState}
 use Rattle.arj_protocol.specs.Words.class
 use Rattle.arj_protocol.specs.Words.value
 

@@ -1,12 +1,4 @@
 -- The types of the crates below, and the words on them that the protocol uses, passed on from one place.
-pub use Rattle.std.specs.Prelude.{◌≡◌, ℕ, zero, suc, ◌+◌, ◌-◌, ◌*◌, ◌<◌, ◌≤◌, Bool, true, false, not, ◌&&◌, ◌||◌, ◌==◌, nat_lt, nat_le, min, max, if◌then◌else◌, List, [], ◌∷◌, ◌++◌, map, filter, find, length, take, drop, replicate, slice_get, slice_index, slice_set, Option, Some, None, is_some, option_map, option_and_then, unwrap_or, Result, Ok, Err, codes}
-pub use Rattle.std.specs.List.{list_any, list_all, flat_map, filter_map}
-pub use Rattle.std.specs.declared.cmp.Ordering.{Ordering}
-pub use Rattle.std.specs.declared.cmp.Ordering.TheVariants.{Less, Equal, Greater}
-pub use Rattle.std.specs.Ordering.{nat_cmp, is_eq, is_lt, ordering_then}
-pub use Rattle.std.specs.Map.{lookup, set_value, remove_entry, keys_of}
-pub use Rattle.std.specs.BTreeMap.{insert_entry, is_at}
-pub use Rattle.std.specs.BTreeSet.{insert_key}
 pub use Rattle.arj_base.specs.declared.uid.Uid.{Uid}
 pub use Rattle.arj_base.specs.declared.binding.Binding.{Binding}
 pub use Rattle.arj_base.specs.declared.path.Path.{Path}
@@ -85,6 +77,7 @@ pub use Rattle.arj_msg.specs.declared.message.InvokedReply.TheVariants as invoke
 pub use Rattle.arj_msg.specs.declared.message.VotedReply.TheVariants as voted
 pub use Rattle.arj_msg.specs.declared.message.PreparedReply.TheVariants as prepared
 pub use Rattle.arj_msg.specs.declared.message.ConfirmedReply.TheVariants as confirmed
+use Rattle.std.specs.Prelude.{ℕ, List, Result}
 use Rattle.arj_msg.specs.Layout.{message as message_format}
 
 -- a message read from the front of bytes

@@ -1,5 +1,9 @@
 -- All nodes under a script: frames by number, the journal, disks that stop, and the refusals that no node finds.
-use Rattle.arj_protocol.specs.Words.{ℕ, zero, suc, ◌+◌, ◌-◌, Bool, true, false, not, ◌&&◌, ◌||◌, ◌==◌, nat_lt, nat_le, if◌then◌else◌, List, [], ◌∷◌, ◌++◌, length, map, filter, take, Option, Some, None, is_some, list_all, lookup, insert_entry, is_at, Kind, Label, label_cmp, Header, Event, FrameNo, Body, Line, Message, FrameKind, Result, Ok, Err, read_message}
+use Rattle.std.specs.Prelude.{ℕ, zero, suc, ◌+◌, ◌-◌, Bool, true, false, not, ◌&&◌, ◌||◌, ◌==◌, nat_lt, nat_le, if◌then◌else◌, List, [], ◌∷◌, ◌++◌, length, map, filter, take, Option, Some, None, is_some, Result, Ok, Err}
+use Rattle.std.specs.List.{list_all}
+use Rattle.std.specs.Map.{lookup}
+use Rattle.std.specs.BTreeMap.{insert_entry, is_at}
+use Rattle.arj_protocol.specs.Words.{Kind, Label, label_cmp, Header, Event, FrameNo, Body, Line, Message, FrameKind, read_message}
 use Rattle.arj_protocol.specs.Words.body
 use Rattle.arj_protocol.specs.Words.kind
 use Rattle.arj_protocol.specs.Words.event
