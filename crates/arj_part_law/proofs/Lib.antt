@@ -1,4 +1,5 @@
 mod EntryLocks
+mod Gone
 mod GoodCalls
 mod GoodConfirm
 mod GoodCopies

@@ -1,13 +1,14 @@
 // An active copy at a server.
-ghost use Rattle.std.specs.Prelude.{◌≡◌, ◌≤◌, ℕ, None};
+ghost use Rattle.std.specs.Prelude.{◌≡◌, ℕ, Contains, None, false};
 ghost use Rattle.arj_base.specs.Path.{uids_of};
-ghost use Rattle.arj_base.specs.Rows.{first_conflict, last_uid};
+ghost use Rattle.arj_base.specs.Rows.{first_conflict, has_any, is_on, last_uid};
 ghost use Rattle.arj_base.specs.Uid.{object};
+ghost use Rattle.arj_base.specs.declared.mode.End.{End};
 ghost use Rattle.arj_base.specs.declared.mode.End.TheVariants.{Abort, Commit};
 ghost use Rattle.arj_base.specs.declared.path.Path.{Path};
 ghost use Rattle.arj_base.specs.declared.uid.Uid.{Uid};
 ghost use Rattle.arj_part_law.specs.Copies.{HasHeirs, IsGoodCopy, IsLowest, IsTree, Paths};
-ghost use Rattle.arj_protocol.specs.Copy.{Copy, end_copy, run_copy, taken_copy};
+ghost use Rattle.arj_protocol.specs.Copy.{Copy, Over, end_copy, run_copy, taken_copy};
 ghost use Rattle.arj_protocol.specs.Words.{Binding, ObjectState, Op, op_mode};
 
 /// On a copy, from when it is taken, whoever has an overlay has the write lock, under each request that is granted, each abort, and each commit of
@@ -18,4 +19,14 @@ pub fn overlays_are_guarded()
         → IsGoodCopy paths x (run_copy n p x o c).part }
     ensures abort { (paths : Paths) → IsTree paths → (x : ℕ) (c : Copy) → IsGoodCopy paths x c → (u : Uid) → IsGoodCopy paths x (end_copy u Abort c) }
     ensures commit { (paths : Paths) → IsTree paths → (x : ℕ) (c : Copy) → IsGoodCopy paths x c → (u : Uid) → IsLowest u c.rows → HasHeirs u c → IsGoodCopy paths x (end_copy u Commit c) }
+{}
+
+/// Whose end was told has no lock and no overlay on a copy: not after its abort, nor after its commit where no descendant
+/// has a lock, nor later, as no request of its path comes. It does nothing when it runs.
+pub fn ended_actions_leave_nothing()
+    ensures abort { (u : Uid) (c : Copy) → has_any u (end_copy u Abort c).rows ≡ false }
+    ensures commit { (paths : Paths) → IsTree paths → (x : ℕ) (c : Copy) → IsGoodCopy paths x c → (u : Uid) → IsLowest u c.rows → has_any u (end_copy u Commit c).rows ≡ false }
+    ensures request { (u : Uid) (c : Copy) (n : ℕ) (p : Path) (x : ℕ) (o : Op) → is_on (uids_of p) u ≡ false → has_any u c.rows ≡ false → has_any u (run_copy n p x o c).part.rows ≡ false }
+    ensures later { (u w : Uid) (e : End) (c : Copy) → has_any u c.rows ≡ false → has_any u (end_copy w e c).rows ≡ false }
+    ensures overlays { (paths : Paths) (x : ℕ) (c : Copy) → IsGoodCopy paths x c → (u : Uid) → has_any u c.rows ≡ false → (e : Over) → Contains c.stack e → is_on e.holder u ≡ false }
 {}

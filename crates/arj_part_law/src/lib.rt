@@ -11,7 +11,7 @@ mod objects;
 mod rows;
 mod server;
 
-pub use copies::overlays_are_guarded;
+pub use copies::{ended_actions_leave_nothing, overlays_are_guarded};
 pub use grants::{bindings_rise, grants_of_naming_stand};
 pub use naming::naming_stays_good;
 pub use objects::objects_of_naming_stay_good;
