@@ -169,7 +169,7 @@ module _ (paths : Paths) (tree : IsTree paths) where
 
     module _ (u : Uid) (lowest : IsLowest u c.rows) (heirs : HasHeirs u c) where
       -- an heir's lock is as strong as what passes to it
-      passed_lock : (r : Row) (heir : Uid) (k : ℕ) → In r c.rows → last_uid r.holder ≡ u → before_last r.holder ≡ Some heir → heir ≢ u → k ≤ mode_code r.mode → HasLock heir k (pass_rows u c.rows)
+      pub passed_lock : (r : Row) (heir : Uid) (k : ℕ) → In r c.rows → last_uid r.holder ≡ u → before_last r.holder ≡ Some heir → heir ≢ u → k ≤ mode_code r.mode → HasLock heir k (pass_rows u c.rows)
       passed_lock r heir k i own parent other strong = by (has_row r.object heir c.rows) refl
         where
           held : is_held_by u r ≡ true

@@ -1,3 +1,4 @@
+mod CallLocks
 mod EntryLocks
 mod Gone
 mod GoodCalls

@@ -1,7 +1,10 @@
 //! What naming and servers keep by themselves, whatever messages come, in whatever order.
 //!
 //! It stands on `arj_protocol` and on the laws of `arj_lock`. Each law is the contract of a public function with no
-//! parameters that does nothing when it runs.
+//! parameters that does nothing when it runs. What it gives upward: `naming_stays_good`, with what was granted and the
+//! bindings that were made, for naming and its pair of entries; `servers_go_on` for a server; and of one copy that its
+//! overlays are guarded, its locks stand, and ended actions leave nothing. What a law takes as known of the tree of actions
+//! or of what a coordinator sends is a premise, with a comment that says who shows it.
 #![tactic(auto)]
 
 mod copies;
@@ -11,7 +14,7 @@ mod objects;
 mod rows;
 mod server;
 
-pub use copies::{ended_actions_leave_nothing, overlays_are_guarded};
+pub use copies::{ended_actions_leave_nothing, locks_of_operations_stand, overlays_are_guarded};
 pub use grants::{bindings_rise, grants_of_naming_stand};
 pub use naming::naming_stays_good;
 pub use objects::objects_of_naming_stay_good;
