@@ -1,4 +1,5 @@
 pub mod Folds
 pub mod Grants
 pub mod Puts
+pub mod Runs
 pub mod Views

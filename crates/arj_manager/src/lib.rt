@@ -9,6 +9,8 @@
 //! It stands on `arj_class` (values), `arj_lock` (lock tables) and the definitions of `arj_protocol`. What it gives
 //! upward: a `StateManager` is a server's list of copies as the protocol has it, and `activate`, `invoke`, `commit`, `abort`
 //! and `changed_states` are the protocol's functions on it: new state, lines and answer. All faults leave it as it was.
+//! And a law, `views_agree`: under every list of calls on an object the overlays, and the value in place with the
+//! before-images, are two views of one stack.
 #![tactic(auto)]
 
 mod fault;
@@ -19,7 +21,7 @@ mod overlay;
 mod ran;
 
 pub use fault::ManagerFault;
-pub use laws::{aborts_agree, nested_commits_agree, writes_agree};
+pub use laws::{aborts_agree, views_agree};
 pub use manager::StateManager;
 pub use object::ActiveObject;
 pub use ran::Ran;
