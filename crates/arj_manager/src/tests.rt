@@ -92,7 +92,6 @@ fn three_deep_with_ends_between(rt: HostRuntime) -> Result<(), Fail> {
     let (top, child, deep, other) = paths()?;
     let write = Some(Mode::Write);
     assert_eq!(rt; add(&mut manager, 1, &top, 1)?, Ok(write));
-    assert_eq!(rt; get(&mut manager, 2, &top)?, Some(20));
     assert_eq!(rt; add(&mut manager, 1, &deep, 5)?, Ok(write));
     assert_eq!(rt; number(&manager, 1), Some(16));
     manager.commit(action(4));
@@ -104,11 +103,21 @@ fn three_deep_with_ends_between(rt: HostRuntime) -> Result<(), Fail> {
     assert_eq!(rt; number(&manager, 1), Some(18));
     manager.abort(action(3));
     assert_eq!(rt; number(&manager, 1), Some(11));
-    assert_eq!(rt; add(&mut manager, 1, &top, 4)?, Ok(None));
+    Ok(())
+}
+
+#[test]
+fn a_top_settles_what_it_wrote(rt: HostRuntime) -> Result<(), Fail> {
+    let alloc = rt.alloc();
+    let Ok(mut manager) = two_counters(alloc) else {
+        return Err(Fail::new("not active"));
+    };
+    let (top, ..) = paths()?;
     let outside = Path::new(action(6));
     let locked = Err((action(2), Mode::Write));
+    assert_eq!(rt; add(&mut manager, 1, &top, 5)?, Ok(Some(Mode::Write)));
+    assert_eq!(rt; get(&mut manager, 2, &top)?, Some(20));
     assert_eq!(rt; add(&mut manager, 1, &outside, 1)?, locked);
-    assert!(rt; manager.holds(action(2)) && !manager.holds(action(3)));
     let states = manager.changed_states(alloc, action(2))?;
     let want = counter(alloc, 1, 15)?;
     match states.as_slice() {
@@ -122,7 +131,7 @@ fn three_deep_with_ends_between(rt: HostRuntime) -> Result<(), Fail> {
     }
     manager.commit(action(2));
     assert!(rt; !manager.holds(action(2)));
-    assert_eq!(rt; add(&mut manager, 1, &outside, 1)?, Ok(write));
+    assert_eq!(rt; add(&mut manager, 1, &outside, 1)?, Ok(Some(Mode::Write)));
     assert_eq!(rt; number(&manager, 1), Some(16));
     manager.abort(action(6));
     assert_eq!(rt; number(&manager, 1), Some(15));
