@@ -1,5 +1,6 @@
 -- Whose locks a table has.
-use Rattle.std.specs.Prelude.{List, Contains, ◌↔◌, map, filter}
+use Rattle.std.specs.Prelude.{Bool, List, Contains, ◌↔◌, map, filter, take}
+use Rattle.std.specs.List.{list_any}
 use Rattle.std.specs.List.Sorted.{IsStrictlySortedBy}
 use Rattle.std.specs.declared.cmp.Ordering.{Ordering}
 use Rattle.arj_base.specs.contracts.uid.UidOrd.TheImpl as uid_ord
@@ -15,6 +16,14 @@ set_order = (uid_ord.ghosts).cmp
 -- the top of the holder's path
 abbrev pub top_of : Row → Uid
 top_of row = top_uid row.tops row.holder
+
+-- the action is the top of the row's holder, or stands above that top
+abbrev pub is_top_of : Uid → Row → Bool
+is_top_of action row = is_on (take row.tops row.holder) action
+
+-- and so for one of these rows
+abbrev pub is_any_top : Uid → List Row → Bool
+is_any_top action rows = list_any (λ row. is_top_of action row) rows
 
 -- the action that holds a row
 abbrev pub holder_of : Row → Uid

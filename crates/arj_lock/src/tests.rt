@@ -149,6 +149,7 @@ fn a_constituent_passes_to_its_serializing_action(rt: HostRuntime) -> Result<(),
         exclude
     );
     assert!(rt; are_held(alloc, &table, [action(2), action(6)].as_slice())?);
+    assert!(rt; table.is_top(action(5)) && table.is_top(action(6)) && !table.is_top(action(7)));
     table.pass_to_parent(action(7));
     table.pass_to_parent(action(6));
     let exclude = Some((action(5), Mode::Exclude));

@@ -3,7 +3,7 @@ ghost use Rattle.std.specs.Prelude.{◌≡◌, IfOk, List, filter, map};
 ghost use Rattle.std.specs.BTreeSet.{IsFromIterResult};
 ghost use Rattle.std.specs.List.{list_any};
 ghost use Rattle.arj_base.specs.Rows.{is_on};
-ghost use Rattle.arj_lock.specs.Held.{set_order, holder_of, top_of, AreBelow, AreListed, AreTops};
+ghost use Rattle.arj_lock.specs.Held.{set_order, holder_of, top_of, is_top_of, AreBelow, AreListed, AreTops};
 ghost use Rattle.arj_lock.specs.Locks.{rows_of, shown};
 
 use crate::lock::Lock;
@@ -18,6 +18,15 @@ pub fn is_any_below(locks: &[Lock], action: Uid) -> bool
     locks
         .iter()
         .any(|lock| lock.path.is_ancestor_or_self(action))
+}
+
+/// Whether an action is the top of one of these locks' holders, or stands above that top.
+pub fn is_any_top(locks: &[Lock], action: Uid) -> bool
+    ensures { result ≡ list_any (λ lock. is_top_of action (shown lock)) locks.now }
+{
+    locks
+        .iter()
+        .any(|lock| lock.path.top_path().is_ancestor_or_self(action))
 }
 
 fn tops_of(alloc: Global, locks: &[Lock]) -> Result<BTreeSet<Uid>, AllocError>
