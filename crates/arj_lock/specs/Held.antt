@@ -1,13 +1,14 @@
 -- Whose locks a table has.
-use Rattle.std.specs.Prelude.{Bool, List, Contains, ◌↔◌, map, filter, take}
+use Rattle.std.specs.Prelude.{Bool, ◌&&◌, nat_le, List, Contains, ◌↔◌, map, filter, take}
 use Rattle.std.specs.List.{list_any}
 use Rattle.std.specs.List.Sorted.{IsStrictlySortedBy}
 use Rattle.std.specs.declared.cmp.Ordering.{Ordering}
 use Rattle.arj_base.specs.contracts.uid.UidOrd.TheImpl as uid_ord
 use Rattle.arj_base.specs.Order.{uid_order}
 use Rattle.arj_base.specs.declared.uid.Uid.{Uid}
+use Rattle.arj_base.specs.Mode.{mode_code}
 use Rattle.arj_base.specs.Path.{top_uid}
-use Rattle.arj_base.specs.Rows.{Row, is_on, last_uid}
+use Rattle.arj_base.specs.Rows.{Row, is_on, is_row_of, last_uid}
 
 -- the order in which a set of Uids keeps them, the one of `cmp`: it is `uid_order`
 abbrev pub set_order : Uid → Uid → Ordering
@@ -24,6 +25,14 @@ is_top_of action row = is_on (take row.tops row.holder) action
 -- and so for one of these rows
 abbrev pub is_any_top : Uid → List Row → Bool
 is_any_top action rows = list_any (λ row. is_top_of action row) rows
+
+-- the row is the action's own write lock on the object
+abbrev pub is_write_of : Uid → Uid → Row → Bool
+is_write_of object action row = is_row_of object action row && nat_le 2 (mode_code row.mode)
+
+-- and so for one of these rows
+abbrev pub is_any_write : Uid → Uid → List Row → Bool
+is_any_write object action rows = list_any (λ row. is_write_of object action row) rows
 
 -- the action that holds a row
 abbrev pub holder_of : Row → Uid

@@ -5,7 +5,7 @@ ghost use Rattle.arj_base.specs.declared.uid.Uid.{Uid};
 ghost use Rattle.arj_base.specs.Path.{uids_of};
 ghost use Rattle.arj_base.specs.Rows.{Row, last_uid, grant_row, pass_rows, drop_rows, close_rows, lower_row, first_conflict, has_any, mode_of};
 ghost use Rattle.arj_lock.specs.Exclusion.{IsOneEach};
-ghost use Rattle.arj_lock.specs.Held.{AreBelow, AreTops, is_any_top};
+ghost use Rattle.arj_lock.specs.Held.{AreBelow, AreTops, is_any_top, is_any_write};
 ghost use Rattle.arj_lock.specs.Locks.{rows_of};
 ghost use Rattle.arj_lock.specs.Requests.{asked, conflict_with, is_rise, IsClear};
 
@@ -14,7 +14,7 @@ use crate::lock::Lock;
 use crate::meet::{Met, lower, meet, strengthen};
 use crate::pass::pass;
 use crate::remove::{Gone, remove};
-use crate::tops::{is_any_below, is_any_top, list_below, list_tops};
+use crate::tops::{is_any_below, is_any_top, is_any_write, list_below, list_tops};
 use arj_base::{Mode, Path, Uid, Uids};
 use std::alloc::{AllocError, Global};
 use std::marker::Model;
@@ -130,6 +130,13 @@ impl LockTable {
         ensures { result ≡ is_any_top action self.now }
     {
         is_any_top(self.locks.as_slice(), action)
+    }
+
+    /// Whether an action itself has the write lock on an object.
+    pub fn writes(&self, action: Uid, object: Uid) -> bool
+        ensures { result ≡ is_any_write object action self.now }
+    {
+        is_any_write(self.locks.as_slice(), action, object)
     }
 
     /// The tops of all holders, each once, in increasing order.

@@ -1,13 +1,14 @@
 // Whose locks there are.
-ghost use Rattle.std.specs.Prelude.{◌≡◌, IfOk, List, filter, map};
+ghost use Rattle.std.specs.Prelude.{◌≡◌, nat_le, IfOk, List, filter, map};
 ghost use Rattle.std.specs.BTreeSet.{IsFromIterResult};
 ghost use Rattle.std.specs.List.{list_any};
+ghost use Rattle.arj_base.specs.Mode.{mode_code};
 ghost use Rattle.arj_base.specs.Rows.{is_on};
-ghost use Rattle.arj_lock.specs.Held.{set_order, holder_of, top_of, is_top_of, AreBelow, AreListed, AreTops};
+ghost use Rattle.arj_lock.specs.Held.{set_order, holder_of, top_of, is_top_of, is_write_of, AreBelow, AreListed, AreTops};
 ghost use Rattle.arj_lock.specs.Locks.{rows_of, shown};
 
 use crate::lock::Lock;
-use arj_base::{Uid, Uids};
+use arj_base::{Mode, Uid, Uids};
 use std::alloc::{AllocError, Global};
 use std::collections::BTreeSet;
 
@@ -27,6 +28,22 @@ pub fn is_any_top(locks: &[Lock], action: Uid) -> bool
     locks
         .iter()
         .any(|lock| lock.path.top_path().is_ancestor_or_self(action))
+}
+
+// Whether the mode is write.
+fn is_write(mode: Mode) -> bool
+    ensures { result ≡ nat_le 2 (mode_code mode) }
+{
+    matches!(mode, Mode::Write)
+}
+
+/// Whether one of these locks is the action's own write lock on the object.
+pub fn is_any_write(locks: &[Lock], action: Uid, object: Uid) -> bool
+    ensures { result ≡ list_any (λ lock. is_write_of object action (shown lock)) locks.now }
+{
+    locks
+        .iter()
+        .any(|lock| lock.is_of(object, action) && is_write(lock.mode))
 }
 
 fn tops_of(alloc: Global, locks: &[Lock]) -> Result<BTreeSet<Uid>, AllocError>
