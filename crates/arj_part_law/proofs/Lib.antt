@@ -1,3 +1,4 @@
+mod Begun
 mod CallLocks
 mod EntryLocks
 mod Gone
@@ -7,6 +8,7 @@ mod GoodCopies
 mod GoodEnds
 mod GoodObjects
 mod GoodRestart
+mod GoodServers
 mod Kept
 mod Keys
 mod Locked

@@ -1,3 +1,4 @@
+pub mod Actions
 pub mod Copies
 pub mod Entries
 pub mod Objects

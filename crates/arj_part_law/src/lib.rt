@@ -7,6 +7,7 @@
 //! or of what a coordinator sends is a premise, with a comment that says who shows it.
 #![tactic(auto)]
 
+mod actions;
 mod copies;
 mod grants;
 mod naming;
@@ -14,9 +15,10 @@ mod objects;
 mod rows;
 mod server;
 
+pub use actions::{begun_actions_make_a_tree, coordinators_begin_new_actions};
 pub use copies::{ended_actions_leave_nothing, locks_of_operations_stand, overlays_are_guarded};
 pub use grants::{bindings_rise, grants_of_naming_stand};
 pub use naming::naming_stays_good;
 pub use objects::objects_of_naming_stay_good;
 pub use rows::locks_on_entries_stay_good;
-pub use server::servers_go_on;
+pub use server::{servers_go_on, servers_stay_good};
