@@ -7,7 +7,7 @@ use Rattle.arj_base.specs.declared.state.ObjectState.{ObjectState}
 use Rattle.arj_base.specs.declared.uid.Uid.{Uid}
 use Rattle.arj_class.specs.declared.op.Op.{Op}
 use Rattle.arj_msg.specs.declared.message.InvokedReply.{InvokedReply}
-use Rattle.arj_protocol.specs.Copy.{Copy, invoke_copy, end_copy, changed_state, holds}
+use Rattle.arj_protocol.specs.Copy.{Copy, invoke_copy, end_copy, changed_state, holds, is_top_in}
 use Rattle.arj_protocol.specs.Effect.{Served, void}
 use Rattle.arj_protocol.specs.Order.{at_number, put_number, each}
 
@@ -33,3 +33,7 @@ changed_in top m = filter_map (λ (e : ℕ × Copy). changed_state top e.0 e.1) 
 -- the action or a descendant of it has a lock
 abbrev pub holds_any : Uid → Copies → Bool
 holds_any u m = list_any (λ (e : ℕ × Copy). holds u e.1.rows) m
+
+-- the action is a top or a serializing action in the path of a lock
+abbrev pub is_any_top : Uid → Copies → Bool
+is_any_top u m = list_any (λ (e : ℕ × Copy). is_top_in u e.1.rows) m

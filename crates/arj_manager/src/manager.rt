@@ -16,7 +16,7 @@ ghost use Rattle.arj_lock.specs.Requests.{conflict_with};
 ghost use Rattle.arj_protocol.specs.Copy.{Copy, taken_copy, current};
 ghost use Rattle.arj_protocol.specs.Order.{at_number, put_number};
 ghost use Rattle.arj_protocol.specs.Words.invoked;
-ghost use Rattle.arj_manager.specs.Manager.{invoke_in, ended, changed_in, holds_any};
+ghost use Rattle.arj_manager.specs.Manager.{invoke_in, ended, changed_in, holds_any, is_any_top};
 ghost use Rattle.arj_manager.specs.Ran.{grant_said, IsValueOf};
 ghost use Rattle.arj_manager.specs.declared.fault.ManagerFault.TheVariants as fault;
 
@@ -145,6 +145,18 @@ impl StateManager {
     {
         for (_, object) in self.objects.iter() {
             if object.holds(action) {
+                return true;
+            }
+        }
+        false
+    }
+
+    /// Whether the action is the top of a lock's holder, or the serializing action above that top.
+    pub fn is_top(&self, action: Uid) -> bool
+        ensures { result ≡ is_any_top action self.now }
+    {
+        for (_, object) in self.objects.iter() {
+            if object.is_top(action) {
                 return true;
             }
         }

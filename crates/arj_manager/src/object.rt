@@ -12,7 +12,7 @@ ghost use Rattle.arj_class.specs.Forms.{OpInForm};
 ghost use Rattle.arj_class.specs.Table.{class_of, has_op, op_mode, is_write, writes, answer_of, value_after};
 ghost use Rattle.arj_lock.specs.Exclusion.{IsOneEach};
 ghost use Rattle.arj_lock.specs.Requests.{conflict_with};
-ghost use Rattle.arj_protocol.specs.Copy.{taken_copy, current, invoke_copy, end_copy, changed_state, holds, is_top_over, over_of, overs_committed, rows_asked, row_for, grant_lines};
+ghost use Rattle.arj_protocol.specs.Copy.{taken_copy, current, invoke_copy, end_copy, changed_state, holds, is_top_in, is_top_over, over_of, overs_committed, rows_asked, row_for, grant_lines};
 ghost use Rattle.arj_protocol.specs.Values.{state_value};
 ghost use Rattle.arj_protocol.specs.Words.invoked;
 ghost use Rattle.arj_manager.specs.Ran.{grant_said, IsValueOf, MayRun, IsRun};
@@ -206,6 +206,13 @@ impl ActiveObject {
         ensures { result ≡ holds action self.now.rows }
     {
         self.locks.holds(action)
+    }
+
+    /// Whether the action is the top of a lock's holder, or the serializing action above that top.
+    pub fn is_top(&self, action: Uid) -> bool
+        ensures { result ≡ is_top_in action self.now.rows }
+    {
+        self.locks.is_top(action)
     }
 }
 
