@@ -116,7 +116,7 @@ where_stands (b ∷ acts) begun a (inl same) = subst (λ (d : Action). Stands (b
 where_stands (b ∷ acts) begun a (inr i) = still_stands b a acts a.kind (where_stands acts begun.1 a i)
 
 -- a serializing action stands alone
-serial_alone : (acts : List Action) → AreBegun acts → (s : Action) → In s acts → s.kind ≡ kind.Serial → (uids_of s.path ≡ act_of s ∷ []) × (tops_of s.path ≡ 1)
+pub serial_alone : (acts : List Action) → AreBegun acts → (s : Action) → In s acts → s.kind ≡ kind.Serial → (uids_of s.path ≡ act_of s ∷ []) × (tops_of s.path ≡ 1)
 serial_alone acts begun s i is = subst (Stands acts s) is (where_stands acts begun s i)
 
 -- an action stands alone, or right below an earlier one

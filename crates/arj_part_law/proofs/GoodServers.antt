@@ -177,7 +177,7 @@ module _ (paths : Paths) (tree : IsTree paths) where
       who : (w : Uid) → is_some (at_uid w (put_uid u e s.ends)) ≡ true → (w ≡ u) ⊎ (is_told w s ≡ true)
       who w t = ⊎_elim (λ same. inl same) (λ other. inr (ap is_some (sym (put_other w u e s.ends other)) ∙ t)) (uid_cases w u)
 
-  good_end_one : (n : ℕ) (u : Uid) (e : End) (s : Server) → IsInTurn u e s → IsGoodServer paths s → IsGoodServer paths (end_one n u e s).part
+  pub good_end_one : (n : ℕ) (u : Uid) (e : End) (s : Server) → IsInTurn u e s → IsGoodServer paths s → IsGoodServer paths (end_one n u e s).part
   good_end_one n u e s turn good = by (is_told u s) refl
     where
       by : (b : Bool) → is_told u s ≡ b → IsGoodServer paths (cond {A = Did Server} b (did_nothing s) (end_new n u (taken_end u e s) s)).part
@@ -233,7 +233,7 @@ module _ (paths : Paths) (tree : IsTree paths) where
   objects_kept act req None s u = refl
   objects_kept act req (Some a) s u = refl
 
-  told_on_copy : (x : ℕ) (f : Copy → Served Copy InvokedReply) (s : Server) (o : Option Copy) (u : Uid) → is_told u (on_copy x f s o).part ≡ is_told u s
+  pub told_on_copy : (x : ℕ) (f : Copy → Served Copy InvokedReply) (s : Server) (o : Option Copy) (u : Uid) → is_told u (on_copy x f s o).part ≡ is_told u s
   told_on_copy x f s None u = refl
   told_on_copy x f s (Some c) u = refl
 

@@ -10,6 +10,8 @@ mod GoodObjects
 mod GoodRestart
 mod GoodServers
 mod Kept
+mod InTurn
+mod KeptCalls
 mod Keys
 mod Locked
 mod Pairs

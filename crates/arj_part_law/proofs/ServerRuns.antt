@@ -74,7 +74,7 @@ activate_follows n p b st s = by (has_ended p s) (binding_less b (active_binding
 
 -- ---- ends
 
-end_binding : (u : Uid) (e : End) (c : Copy) → (end_copy u e c).binding ≡ c.binding
+pub end_binding : (u : Uid) (e : End) (c : Copy) → (end_copy u e c).binding ≡ c.binding
 end_binding u ending.Abort c = refl
 end_binding u ending.Commit c = by (over_of u c.stack)
   where
@@ -108,7 +108,7 @@ new_follows n u e s fresh = record {
     is_told_after : (w : Uid) → is_told w s ≡ true → is_some (at_uid w (put_uid u e s.ends)) ≡ true
     is_told_after w over = ap is_some (put_other w u e s.ends (λ same. never (is_told u s) (ap (λ o. is_some (at_uid o s.ends)) (sym same) ∙ over) fresh)) ∙ over
 
-one_follows : (n : ℕ) (u : Uid) (e : End) (s : Server) → Follows s (end_one n u e s).part
+pub one_follows : (n : ℕ) (u : Uid) (e : End) (s : Server) → Follows s (end_one n u e s).part
 one_follows n u e s = by (is_told u s) refl
   where
     by : (b : Bool) → is_told u s ≡ b → Follows s (cond {A = Did Server} b (did_nothing s) (end_new n u (taken_end u e s) s)).part
@@ -121,7 +121,7 @@ told_follows n (e ∷ es) s = let d = end_one n e.0 e.1 s in let t = apply_ends 
 
 -- ---- invoke
 
-ask_binding : (n : ℕ) (p : Path) (x : ℕ) (op : Op) (c : Copy) → (invoke_copy n p x op c).part.binding ≡ c.binding
+pub ask_binding : (n : ℕ) (p : Path) (x : ℕ) (op : Op) (c : Copy) → (invoke_copy n p x op c).part.binding ≡ c.binding
 ask_binding n p x op c = by (first_conflict (uids_of p) (object x) (op_mode op) c.rows)
   where
     by : (r : Option Row) → (ask_copy n p x op c r).part.binding ≡ c.binding

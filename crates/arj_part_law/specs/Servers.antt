@@ -3,7 +3,7 @@ use Rattle.std.specs.Prelude.{◌≡◌, ◌≢◌, ◌⊎◌, ◌≤◌, ℕ, L
 use Rattle.std.specs.List.{list_any}
 use Rattle.arj_protocol.specs.Words.{Uid, End, Path, Binding, uid_eq, is_on, uids_of, tops_of, first_uid}
 use Rattle.arj_protocol.specs.Words.ending
-use Rattle.arj_protocol.specs.Order.{at_number, at_uid, binding_less}
+use Rattle.arj_protocol.specs.Order.{at_number, at_uid, binding_less, binding_eq}
 use Rattle.arj_protocol.specs.Copy.{Copy, Over}
 use Rattle.arj_protocol.specs.Server.{Server, Kept, is_told, active_binding, taken_end, end_one}
 use Rattle.arj_base.specs.Rows.{Row, has_any}
@@ -59,7 +59,7 @@ AreOfOthers p ends = (u : Uid) → is_on (uids_of p) u ≡ true → has_end_of u
 -- path has the lock.
 pub record IsKeptCall (path : List Uid) (x : ℕ) (b : Binding) (strength : ℕ) (s : Server) : Type 0 where
   pub reached : binding_less (active_binding x s) b ≡ false
-  pub holds : (c : Copy) → at_number x s.objects ≡ Some c → c.binding ≡ b → ((u : Uid) → is_on path u ≡ true → at_uid u s.ends ≢ Some ending.Abort) → is_told (first_uid path) s ≡ false
+  pub holds : (c : Copy) → at_number x s.objects ≡ Some c → binding_eq b c.binding ≡ true → ((u : Uid) → is_on path u ≡ true → at_uid u s.ends ≢ Some ending.Abort) → is_told (first_uid path) s ≡ false
       → (h : Uid) × (is_on path h ≡ true) × HasLock h strength c.rows
 
 -- ---- with the actions that were begun
@@ -82,3 +82,7 @@ IsTopOn acts u = (a : Action) → Contains acts a → is_on (uids_of a.path) u �
 abbrev pub AreOrdered : List Action → List (Uid × End) → List (Uid × End) → Type 0
 AreOrdered acts before [] = ⊤
 AreOrdered acts before (e ∷ es) = (e.1 ≡ ending.Commit → IsTopOn acts e.0 ⊎ HasAllBelow acts e.0 before) × AreOrdered acts (before ++ e ∷ []) es
+
+-- the path is that of an action that was begun
+abbrev pub IsBegun : List Action → Path → Type 0
+IsBegun acts p = (a : Action) × Contains acts a × (uids_of p ≡ uids_of a.path) × (tops_of p ≡ tops_of a.path)

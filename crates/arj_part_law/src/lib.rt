@@ -14,6 +14,7 @@ mod naming;
 mod objects;
 mod rows;
 mod server;
+mod turns;
 
 pub use actions::{begun_actions_make_a_tree, coordinators_begin_new_actions};
 pub use copies::{ended_actions_leave_nothing, locks_of_operations_stand, overlays_are_guarded};
@@ -21,4 +22,5 @@ pub use grants::{bindings_rise, grants_of_naming_stand};
 pub use naming::naming_stays_good;
 pub use objects::objects_of_naming_stay_good;
 pub use rows::locks_on_entries_stay_good;
-pub use server::{servers_go_on, servers_stay_good};
+pub use server::{calls_keep_their_locks, servers_go_on, servers_stay_good};
+pub use turns::ends_come_in_turn;
