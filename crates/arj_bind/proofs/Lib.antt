@@ -1,0 +1,2 @@
+pub mod OtherReplies
+pub mod Taking
