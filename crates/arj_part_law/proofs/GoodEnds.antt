@@ -22,7 +22,7 @@ use Rattle.arj_part_law.specs.Objects.{AreSorted, IsGoodObject, IsToldOf}
 use Rattle.arj_part_law.specs.Entries.{IsKeptGrant, names_after, HasPrepared, IsOwnState, IsGoodPair, HasLockOn, Past, IsGoodNaming, guard_of}
 use Rattle.arj_part_law.proofs.GoodObjects.{good_ended}
 use Rattle.arj_part_law.proofs.Keys.{on_with, with_on, on_drop, drop_on, at_in, without_cases, sorted_without}
-use Rattle.arj_part_law.proofs.Pairs.{names_both, names_line, aborts, aborts_held, aborts_sorted, aborts_left, moved_cases, moved_other, moved_stays, moved_names, fewer_good, at_each, each_at, number_in}
+use Rattle.arj_part_law.proofs.Pairs.{names_both, names_line, aborts, aborts_held, aborts_sorted, aborts_left, moved_cases, moved_other, committed_good, fewer_good, at_each, each_at, number_in}
 use Rattle.arj_part_law.proofs.Stands.{stands_drop, one_top, stands_pass}
 
 never : {P : Type 0} (b : Bool) → b ≡ true → b ≡ false → P
@@ -162,13 +162,7 @@ module _ (owner : Owners) (past : Past) (u : Uid) (n : Naming) (d : Pair) (good 
         listed = λ a x s p. let f = fewer a p.states p.prepared in ap entry_of (listed_other a x s (back a x s p) f.1);
         held = λ w h is. ⊎_elim (λ old. inl old) (λ f. inr ((own h f.0).writer, λ x same. prepared_of h f.0 x (sym f.1 ∙ same))) (moved_cases (new_states u d) d.held w h is);
       },
-      record {
-        sorted = sorted_without u d.pend good.pair.sorted;
-        names = λ e c. moved_names (new_states u d) d.held (λ s i. let o = own s i in o.of ∙ ap (λ (w : Uid). entry w.num) (sym o.of)) (λ g j. good.pair.names g (in_to g d.held j)) e (in_from e (moved (new_states u d) d.held) c);
-        tops = λ a ss is. good.pair.tops a ss (fewer a ss is).0;
-        own = λ a ss s is c. let o = good.pair.own a ss s (fewer a ss is).0 c in let k = moved_stays (new_states u d) d.held s.uid o.held o.there in record { writer = o.writer; x = o.x; of = o.of; held = k.0; there = k.1 };
-        alone = λ a b x s t p q. good.pair.alone a b x s t (back a x s p) (back b x t q);
-      },
+      committed_good owner d good.pair u,
     )
       where
         fewer : (a : Uid) (ss : List ObjectState) → at_uid a (pair_committed u d).pend ≡ Some ss → (at_uid a d.pend ≡ Some ss) × (a ≢ u)

@@ -1,5 +1,6 @@
 mod Begun
 mod CallLocks
+mod Cuts
 mod EntryLocks
 mod Gone
 mod GoodCalls

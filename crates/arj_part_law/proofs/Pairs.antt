@@ -1,5 +1,6 @@
 -- The pair of entries under what naming does, and maps by number.
-use Rattle.std.proofs.Common.{◌≡◌, ◌≢◌, ◌⊎◌, ℕ, List, [], ◌∷◌, ◌++◌, Bool, true, false, cond, Some, refl, sym, ◌∙◌, ap, subst, inl, inr, ⊎_elim, Contains}
+use Rattle.std.proofs.Common.{◌≡◌, ◌≢◌, ◌⊎◌, ℕ, List, [], ◌∷◌, ◌++◌, Bool, true, false, cond, Some, refl, sym, ◌∙◌, ap, subst, inl, inr, ⊎_elim, Contains, Option, None}
+use Rattle.std.specs.Prelude.{unwrap_or}
 use Rattle.std.specs.List.{flat_map}
 use Rattle.std.specs.Ordering.{nat_cmp, is_eq, match_ordering}
 use Rattle.std.specs.FinMap.{nat_cmp-IsAntisymmetric}
@@ -7,11 +8,11 @@ use Rattle.std.specs.declared.cmp.Ordering.{Ordering}
 use Rattle.std.specs.declared.cmp.Ordering.TheVariants.{Less, Equal, Greater}
 use Rattle.arj_base.specs.Order.{uid_order}
 use Rattle.arj_base.proofs.Uids.{uid_cases}
-use Rattle.arj_lock.proofs.Members.{In}
+use Rattle.arj_lock.proofs.Members.{In, in_from, in_to}
 use Rattle.arj_protocol.specs.Words.{Uid, ObjectState, Body, entry}
 use Rattle.arj_protocol.specs.Words.ending
 use Rattle.arj_protocol.specs.Order.{at_number, each, at_uid, put_uid}
-use Rattle.arj_protocol.specs.Effect.{Effect, Say, Send, Do, Pair, moved, pair_aborted}
+use Rattle.arj_protocol.specs.Effect.{Effect, Say, Send, Do, Pair, moved, new_states, pair_committed, pair_aborted}
 use Rattle.arj_protocol.specs.Naming.{end_entries}
 use Rattle.arj_part_law.specs.Entries.{names_after, names_worked, HasPrepared, IsGoodPair}
 use Rattle.arj_part_law.specs.Objects.{AreSorted}
@@ -104,6 +105,35 @@ fewer_good owner d e same sorted fewer good = record {
   where
     back : (a : Uid) (x : ℕ) (s : ObjectState) → HasPrepared a x s e → HasPrepared a x s d
     back a x s p = record { states = p.states; prepared = fewer a p.states p.prepared; there = p.there; of = p.of }
+
+-- ---- committed states, put in their places
+
+module _ (owner : Owners) (d : Pair) (good : IsGoodPair owner d) where
+  -- states of entries, put in the places of the committed ones
+  pub moved_good : (ss : List ObjectState) → ((s : ObjectState) → In s ss → s.uid ≡ entry s.uid.num) → IsGoodPair owner (record d { held = moved ss d.held })
+  moved_good ss entries = record {
+    sorted = good.sorted;
+    names = λ e c. moved_names ss d.held entries (λ g j. good.names g (in_to g d.held j)) e (in_from e (moved ss d.held) c);
+    tops = good.tops;
+    own = λ a states s is c. let o = good.own a states s is c in let k = moved_stays ss d.held s.uid o.held o.there in record { writer = o.writer; x = o.x; of = o.of; held = k.0; there = k.1 };
+    alone = λ a b x s t p q. good.alone a b x s t (back a x s p) (back b x t q);
+  }
+    where
+      back : (a : Uid) (x : ℕ) (s : ObjectState) → HasPrepared a x s (record d { held = moved ss d.held }) → HasPrepared a x s d
+      back a x s p = record { states = p.states; prepared = p.prepared; there = p.there; of = p.of }
+
+  -- what an action has prepared is of entries
+  pub entries_of : (u : Uid) (s : ObjectState) → In s (new_states u d) → s.uid ≡ entry s.uid.num
+  entries_of u s i = by (at_uid u d.pend) refl i
+    where
+      by : (o : Option (List ObjectState)) → at_uid u d.pend ≡ o → In s (unwrap_or o []) → s.uid ≡ entry s.uid.num
+      by None is j = absurd j
+      by (Some states) is j = let o = good.own u states s is (in_to s states j) in o.of ∙ ap (λ (w : Uid). entry w.num) (sym o.of)
+
+pub committed_good : (owner : Owners) (d : Pair) → IsGoodPair owner d → (u : Uid) → IsGoodPair owner (pair_committed u d)
+committed_good owner d good u =
+    let m : Pair = record d { held = moved (new_states u d) d.held } in
+    fewer_good owner m (pair_committed u d) refl (sorted_without u d.pend good.sorted) (λ a states is. (without_cases a u states d.pend good.sorted is).1) (moved_good owner d good (new_states u d) (entries_of owner d good u))
 
 -- ---- maps by number
 

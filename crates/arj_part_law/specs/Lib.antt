@@ -1,5 +1,6 @@
 pub mod Actions
 pub mod Copies
+pub mod Cuts
 pub mod Entries
 pub mod Objects
 pub mod Rows

@@ -14,6 +14,7 @@ mod naming;
 mod objects;
 mod rows;
 mod server;
+mod stops;
 mod turns;
 
 pub use actions::{begun_actions_make_a_tree, coordinators_begin_new_actions};
@@ -23,4 +24,5 @@ pub use naming::naming_stays_good;
 pub use objects::objects_of_naming_stay_good;
 pub use rows::locks_on_entries_stay_good;
 pub use server::{calls_keep_their_locks, servers_go_on, servers_stay_good};
+pub use stops::stops_leave_good_pairs;
 pub use turns::ends_come_in_turn;
