@@ -1,0 +1,5 @@
+pub mod Cuts
+pub mod Flat
+pub mod Happens
+pub mod Inputs
+pub mod Rounds

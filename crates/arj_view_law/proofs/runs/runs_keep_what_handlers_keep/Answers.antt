@@ -1,0 +1,9 @@
+use Rattle.std.specs.Prelude.{◌≡◌, true}
+use Rattle.arj_view_law.proofs.Happens.{event_holds, runs_hold}
+use Rattle.arj_view_law.proofs.runs.runs_keep_what_handlers_keep.Goals as goal
+
+pub returns-clause-event : goal.returns-clause-event
+returns-clause-event c = λ hd test keeps e w h. event_holds hd (λ M. test M ≡ true) keeps e w h
+
+pub returns-clause-runs : goal.returns-clause-runs
+returns-clause-runs c = λ hd test keeps es. runs_hold hd (λ M. test M ≡ true) keeps es
