@@ -51,7 +51,7 @@ before_more (w ∷ v ∷ x ∷ us) u some = before_more (v ∷ x ∷ us) u (omeg
 pub before_on : (us : List Uid) (h : Uid) → before_last us ≡ Some h → is_on us h ≡ true
 before_on us h parent = let up = heir_is us h parent in on_front us h (ap (is_on (front us)) (sym up.0) ∙ on_last (front us) up.1)
 
-on_more : (us : List Uid) (u w : Uid) → is_on (us ++ u ∷ []) w ≡ true → (is_on us w ≡ true) ⊎ (u ≡ w)
+pub on_more : (us : List Uid) (u w : Uid) → is_on (us ++ u ∷ []) w ≡ true → (is_on us w ≡ true) ⊎ (u ≡ w)
 on_more [] u w on = ⊎_elim (λ same. inr (uid_is u w same)) (λ none. let no_way : false ≡ true = none in cc) (or_cases (uid_eq u w) false on)
 on_more (v ∷ us) u w on = by (uid_eq v w) (on_more us u w) on
   where
@@ -215,7 +215,7 @@ top_still c acts a h = record { top = h.top; there = inr h.there; path = h.path;
     by (inl alone) = inl alone
     by (inr (s, i, is, path, top)) = inr (s, inr i, is, path, top)
 
-whole_top : (p : Path) (us : List Uid) → uids_of p ≡ us → tops_of p ≡ length us → top_path p ≡ uids_of p
+pub whole_top : (p : Path) (us : List Uid) → uids_of p ≡ us → tops_of p ≡ length us → top_path p ≡ uids_of p
 whole_top p us is tops = (λ i. take (tops i) (is i)) ∙ take_all us ∙ sym is
   where
     take_all : (vs : List Uid) → take (length vs) vs ≡ vs

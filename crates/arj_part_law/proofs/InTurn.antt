@@ -50,7 +50,7 @@ tells n u e s = by (is_told u s) refl
     by true is = is
     by false is = ap is_some (put_same u (taken_end u e s) s.ends)
 
-end_of_more : (u : Uid) (es : List (Uid × End)) (e : Uid × End) → has_end_of u (es ++ e ∷ []) ≡ true → (has_end_of u es ≡ true) ⊎ (e.0 ≡ u)
+pub end_of_more : (u : Uid) (es : List (Uid × End)) (e : Uid × End) → has_end_of u (es ++ e ∷ []) ≡ true → (has_end_of u es ≡ true) ⊎ (e.0 ≡ u)
 end_of_more u [] e is = ⊎_elim (λ same. inr (uid_is e.0 u same)) (λ none. let no_way : false ≡ true = none in cc) (or_cases (uid_eq e.0 u) false is)
 end_of_more u (f ∷ fs) e is = by (uid_eq f.0 u) (end_of_more u fs e) is
   where

@@ -33,7 +33,7 @@ never b holds fails = let no_way : true ≡ false = sym holds ∙ fails in cc
 
 -- ---- paths in a tree
 
-before_is : (us : List Uid) (a : Uid) → is_on (front us) a ≡ true → before_last us ≡ Some (last_uid (front us))
+pub before_is : (us : List Uid) (a : Uid) → is_on (front us) a ≡ true → before_last us ≡ Some (last_uid (front us))
 before_is [] a on = let no_way : false ≡ true = on in cc
 before_is (u ∷ []) a on = let no_way : false ≡ true = on in cc
 before_is (u ∷ w ∷ []) a on = refl
@@ -41,11 +41,11 @@ before_is (u ∷ w ∷ v ∷ us) a on = before_is (w ∷ v ∷ us) w (λ i. uid_
 
 module _ (paths : Paths) (tree : IsTree paths) where
   -- who is on a path has the same root, and its own path is part of this one
-  record IsAbove (us : List Uid) (h : Uid) : Type 0 where
-    root : first_uid (paths h) ≡ first_uid us
-    part : (w : Uid) → is_on (paths h) w ≡ true → is_on us w ≡ true
+  pub record IsAbove (us : List Uid) (h : Uid) : Type 0 where
+    pub root : first_uid (paths h) ≡ first_uid us
+    pub part : (w : Uid) → is_on (paths h) w ≡ true → is_on us w ≡ true
 
-  above : (k : ℕ) (us : List Uid) → length us ≤ k → us ≡ paths (last_uid us) → (h : Uid) → is_on us h ≡ true → IsAbove us h
+  pub above : (k : ℕ) (us : List Uid) → length us ≤ k → us ≡ paths (last_uid us) → (h : Uid) → is_on us h ≡ true → IsAbove us h
   above zero [] short own h on = let no_way : false ≡ true = on in cc
   above zero (u ∷ us) short own h on = absurd (omega (arith, short))
   above (suc k) us short own h on = ⊎_elim last (deeper (λ le mine up. above k (front us) le mine h up)) (on_parts us h on)

@@ -10,6 +10,7 @@ mod GoodEnds
 mod GoodObjects
 mod GoodRestart
 mod GoodServers
+mod GoodTrees
 mod Kept
 mod InTurn
 mod KeptCalls
@@ -19,3 +20,4 @@ mod Pairs
 mod ServerRuns
 mod Stands
 mod Stores
+mod ToldInOrder

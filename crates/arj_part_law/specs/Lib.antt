@@ -6,3 +6,4 @@ pub mod Objects
 pub mod Rows
 pub mod Servers
 pub mod Tops
+pub mod Trees

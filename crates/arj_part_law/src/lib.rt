@@ -15,6 +15,7 @@ mod objects;
 mod rows;
 mod server;
 mod stops;
+mod trees;
 mod turns;
 
 pub use actions::{begun_actions_make_a_tree, coordinators_begin_new_actions};
@@ -25,4 +26,5 @@ pub use objects::objects_of_naming_stay_good;
 pub use rows::locks_on_entries_stay_good;
 pub use server::{calls_keep_their_locks, servers_go_on, servers_stay_good};
 pub use stops::stops_leave_good_pairs;
+pub use trees::{actions_stay_at_home, coordinators_tell_ends_in_order, trees_stay_good};
 pub use turns::ends_come_in_turn;
