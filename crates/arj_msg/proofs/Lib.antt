@@ -8,6 +8,7 @@ pub mod Loop
 pub mod MessageLaws
 pub mod PathLaws
 pub mod ReplyLaws
+pub mod Sends
 pub mod Sizes
 pub mod StateLaws
 pub mod TextLaws

@@ -310,9 +310,12 @@ state_lawful = field_lawful (λ s. big_bytes 2 (length (state_bytes s)) ++ state
 
 -- ---- writing one
 
-pub state_payload : (s : ObjectState) → state.Fits s → length s.payload ≤ 256
-unfolding state
-state_payload s fits = omega (arith, short_payload fits.1.0 fits.1.2, ap length fits.1.3)
+pub state_payload : (s : ObjectState) → Restores s.class s.payload → length s.payload ≤ 256
+state_payload s saved = omega (arith, short_payload saved.0 saved.2, ap length saved.3)
+
+pub state_fits : (s : ObjectState) → uid.Fits s.uid → number8.Fits s.version → uid.Fits s.writer → Restores s.class s.payload → state.Fits s
+unfolding state uid number8
+state_fits s own version writer saved = ((own, version, writer, omega (arith, state_payload s saved)), saved)
 
 -- what is put, piece by piece, is the state
 pub state_put : (s : ObjectState) (n : ℕ) (payload out o1 o2 o3 o4 o5 o6 o7 o8 : List ℕ) → n ≡ length s.payload → payload ≡ s.payload → o1 ≡ out ++ big_bytes 2 (47 + n) → o2 ≡ o1 ++ codes "ARJ1" → o3 ≡ o2 ++ uid.spell s.uid → o4 ≡ o3 ++ class_code_of s.class ∷ []

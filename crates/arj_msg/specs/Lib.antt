@@ -8,4 +8,5 @@ pub mod Layout
 pub mod Operation
 pub mod Replies
 pub mod Requests
+pub mod Sendable
 pub mod State

@@ -1,5 +1,13 @@
 // The answers.
 ghost use Rattle.arj_msg.specs.Answers.{bound, loaded, activated, recorded, invoked, voted, prepared, confirmed};
+ghost use Rattle.std.specs.Prelude.{⊤};
+ghost use Rattle.arj_msg.specs.Sendable.{BoundSends, LoadedSends, InvokedSends, VotedSends, PreparedSends, ConfirmedSends};
+ghost use Rattle.arj_msg.specs.declared.message.Bound.{Bound};
+ghost use Rattle.arj_msg.specs.declared.message.Loaded.{Loaded};
+ghost use Rattle.arj_msg.specs.declared.message.Invoked.{Invoked};
+ghost use Rattle.arj_msg.specs.declared.message.Voted.{Voted};
+ghost use Rattle.arj_msg.specs.declared.message.Prepared.{Prepared};
+ghost use Rattle.arj_msg.specs.declared.message.Confirmed.{Confirmed};
 
 use crate::fault::ReadFault;
 use crate::field::Field;
@@ -12,6 +20,8 @@ use std::alloc::{AllocError, Global};
 
 impl Field for Bound {
     ghost format = { bound };
+
+    ghost sends = { λ (m : Bound). BoundSends m.reply };
 
     #[tactic(auto, unfolding(crate::specs::Answers::bound))]
     fn read(alloc: Global, bytes: &[u8]) -> Result<(Bound, &[u8]), ReadFault> {
@@ -30,6 +40,8 @@ impl Field for Bound {
 impl Field for Loaded {
     ghost format = { loaded };
 
+    ghost sends = { λ (m : Loaded). LoadedSends m.reply };
+
     #[tactic(auto, unfolding(crate::specs::Answers::loaded))]
     fn read(alloc: Global, bytes: &[u8]) -> Result<(Loaded, &[u8]), ReadFault> {
         let (asked, rest) = Asked::read(alloc, bytes)?;
@@ -46,6 +58,8 @@ impl Field for Loaded {
 
 impl Field for Activated {
     ghost format = { activated };
+
+    ghost sends = { λ _. ⊤ };
 
     #[tactic(auto, unfolding(crate::specs::Answers::activated))]
     fn read(alloc: Global, bytes: &[u8]) -> Result<(Activated, &[u8]), ReadFault> {
@@ -64,6 +78,8 @@ impl Field for Activated {
 impl Field for Recorded {
     ghost format = { recorded };
 
+    ghost sends = { λ _. ⊤ };
+
     #[tactic(auto, unfolding(crate::specs::Answers::recorded))]
     fn read(alloc: Global, bytes: &[u8]) -> Result<(Recorded, &[u8]), ReadFault> {
         let (asked, rest) = Asked::read(alloc, bytes)?;
@@ -80,6 +96,8 @@ impl Field for Recorded {
 
 impl Field for Invoked {
     ghost format = { invoked };
+
+    ghost sends = { λ (m : Invoked). InvokedSends m.reply };
 
     #[tactic(auto, unfolding(crate::specs::Answers::invoked))]
     fn read(alloc: Global, bytes: &[u8]) -> Result<(Invoked, &[u8]), ReadFault> {
@@ -98,6 +116,8 @@ impl Field for Invoked {
 impl Field for Voted {
     ghost format = { voted };
 
+    ghost sends = { λ (m : Voted). VotedSends m.reply };
+
     #[tactic(auto, unfolding(crate::specs::Answers::voted))]
     fn read(alloc: Global, bytes: &[u8]) -> Result<(Voted, &[u8]), ReadFault> {
         let (asked, rest) = Asked::read(alloc, bytes)?;
@@ -115,6 +135,8 @@ impl Field for Voted {
 impl Field for Prepared {
     ghost format = { prepared };
 
+    ghost sends = { λ (m : Prepared). PreparedSends m.reply };
+
     #[tactic(auto, unfolding(crate::specs::Answers::prepared))]
     fn read(alloc: Global, bytes: &[u8]) -> Result<(Prepared, &[u8]), ReadFault> {
         let (asked, rest) = Asked::read(alloc, bytes)?;
@@ -131,6 +153,8 @@ impl Field for Prepared {
 
 impl Field for Confirmed {
     ghost format = { confirmed };
+
+    ghost sends = { λ (m : Confirmed). ConfirmedSends m.reply };
 
     #[tactic(auto, unfolding(crate::specs::Answers::confirmed))]
     fn read(alloc: Global, bytes: &[u8]) -> Result<(Confirmed, &[u8]), ReadFault> {

@@ -1,6 +1,7 @@
 // Messages as bytes.
 ghost use Rattle.std.specs.Prelude.{◌≡◌, ◌∷◌, ◌++◌, OnOk, OnErr, IfOk, IfErr, MatchResult};
 ghost use Rattle.arj_msg.specs.Format.{Format};
+ghost use Rattle.arj_msg.specs.Sendable.{IsSendable};
 ghost use Rattle.arj_msg.specs.Layout.{message, message_bytes, MessageInForm, FaultOf};
 ghost use Rattle.arj_msg.specs.declared.message.Message.{Message};
 ghost use Rattle.arj_msg.specs.declared.fault.MsgFault.TheVariants as fault;
@@ -14,10 +15,12 @@ use crate::{
 use arj_base::Bytes;
 use std::alloc::{AllocError, Global};
 
-/// The bytes of a message: its one spelling. They are written into one buffer.
+/// The bytes of a message: its one spelling, written into one buffer. A caller owes what the types of a message don't
+/// say of it.
 pub fn encode(alloc: Global, m: &Message) -> Result<Bytes, AllocError>
-    requires { MessageInForm m.now }
-    ensures { IfOk result (λ bytes. bytes ≡ message_bytes m.now) }
+    requires { IsSendable m.now }
+    ensures spelled { IfOk result (λ bytes. bytes ≡ message_bytes m.now) }
+    ensures in_form { OnOk result (MessageInForm m.now) }
 {
     let mut out = Bytes::new(alloc);
     m.put(&mut out)?;
@@ -52,8 +55,9 @@ macro_rules! read_as {
 // Puts the byte of a kind, and what the kind says behind it.
 #[tactic(auto, using(std::proofs::lemmas::List::append_assoc))]
 fn put_kind<T: Field>(kind: u8, m: &T, out: &mut Bytes) -> Result<(), AllocError>
-    requires { T.format.Fits m.now }
-    ensures { OnOk result (out.new ≡ out.old ++ kind ∷ T.format.spell m.now) }
+    requires { T.sends m.now }
+    ensures spelled { OnOk result (out.new ≡ out.old ++ kind ∷ T.format.spell m.now) }
+    ensures fits { OnOk result (T.format.Fits m.now) }
 {
     out.push(kind)?;
     m.put(out)
@@ -61,6 +65,8 @@ fn put_kind<T: Field>(kind: u8, m: &T, out: &mut Bytes) -> Result<(), AllocError
 
 impl Field for Message {
     ghost format = { message };
+
+    ghost sends = { IsSendable };
 
     #[tactic(auto, unfolding(crate::specs::Layout::message))]
     fn read(alloc: Global, bytes: &[u8]) -> Result<(Message, &[u8]), ReadFault> {

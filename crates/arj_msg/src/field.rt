@@ -2,6 +2,7 @@
 ghost use Rattle.std.specs.Prelude.{◌≡◌, ◌≤◌, ◌<◌, ◌++◌, length, OnOk};
 ghost use Rattle.std.specs.List.{flat_map, AllByRecursion};
 ghost use Rattle.arj_msg.specs.Fields.{long_list};
+ghost use Rattle.arj_msg.specs.InForm.{AreFew, AreMany};
 ghost use Rattle.arj_msg.specs.Format.{Format, Gives, byte, both, list, read_many};
 
 use crate::fault::ReadFault;
@@ -13,14 +14,18 @@ use std::alloc::{AllocError, Global};
 pub(crate) trait Field: Sized {
     ghost format: { Format Self };
 
+    /// What of a value that fits its format its type doesn't say.
+    ghost sends: { Self → Type 0 };
+
     /// Reads one from the front of bytes, and gives the bytes behind it too.
     fn read(alloc: Global, bytes: &[u8]) -> Result<(Self, &[u8]), ReadFault>
         ensures { Gives (λ x. (x.0, x.1.now)) result (format.read bytes.now) };
 
     /// Puts it at the end.
     fn put(&self, out: &mut Bytes) -> Result<(), AllocError>
-        requires { format.Fits self.now }
-        ensures { OnOk result (out.new ≡ out.old ++ format.spell self.now) };
+        requires { sends self.now }
+        ensures spelled { OnOk result (out.new ≡ out.old ++ format.spell self.now) }
+        ensures fits { OnOk result (format.Fits self.now) };
 }
 
 /// Reads a byte with a number from low to high.
@@ -36,6 +41,8 @@ pub(crate) fn read_byte(bytes: &[u8], low: u8, high: u8) -> Result<(u8, &[u8]), 
 
 impl<A: Field + Drop, B: Field> Field for (A, B) {
     ghost format = { both A.format B.format };
+
+    ghost sends = { λ p. A.sends p.0 × B.sends p.1 };
 
     fn read(alloc: Global, bytes: &[u8]) -> Result<((A, B), &[u8]), ReadFault> {
         let (first, rest) = A::read(alloc, bytes)?;
@@ -70,8 +77,9 @@ pub(crate) fn read_items<T: Field + Drop>(
 
 /// Puts values at the end, one behind the other.
 pub(crate) fn put_items<T: Field>(items: &[T], out: &mut Bytes) -> Result<(), AllocError>
-    requires { AllByRecursion T.format.Fits items.now }
-    ensures { OnOk result (out.new ≡ out.old ++ flat_map T.format.spell items.now) }
+    requires { AllByRecursion T.sends items.now }
+    ensures spelled { OnOk result (out.new ≡ out.old ++ flat_map T.format.spell items.now) }
+    ensures fits { OnOk result (AllByRecursion T.format.Fits items.now) }
 {
     for item in items {
         item.put(out)?;
@@ -81,6 +89,8 @@ pub(crate) fn put_items<T: Field>(items: &[T], out: &mut Bytes) -> Result<(), Al
 
 impl<T: Field + Drop> Field for Seq<T> {
     ghost format = { list T.format };
+
+    ghost sends = { AreFew T.sends };
 
     fn read(alloc: Global, bytes: &[u8]) -> Result<(Seq<T>, &[u8]), ReadFault> {
         let (count, rest) = read_byte(bytes, 0, 255)?;
@@ -112,8 +122,9 @@ pub(crate) fn read_long<T: Field + Drop>(
 /// Puts a list whose count has two bytes at the end.
 #[tactic(auto, using(std::proofs::lemmas::List::append_assoc), unfolding(crate::specs::Fields::number2))]
 pub(crate) fn put_long<T: Field>(list: &Seq<T>, out: &mut Bytes) -> Result<(), AllocError>
-    requires { (long_list T.format).Fits list.now }
-    ensures { OnOk result (out.new ≡ out.old ++ (long_list T.format).spell list.now) }
+    requires { AreMany T.sends list.now }
+    ensures spelled { OnOk result (out.new ≡ out.old ++ (long_list T.format).spell list.now) }
+    ensures fits { OnOk result ((long_list T.format).Fits list.now) }
 {
     let items = list.as_slice();
     let mut count = [0; 2];

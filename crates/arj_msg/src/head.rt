@@ -1,5 +1,5 @@
 // Paths, and the heads of requests and answers.
-ghost use Rattle.std.specs.Prelude.{◌≡◌, ◌≤◌, length};
+ghost use Rattle.std.specs.Prelude.{◌≡◌, ◌≤◌, length, ⊤};
 ghost use Rattle.arj_base.specs.Path.{uids_of, tops_of};
 ghost use Rattle.arj_msg.specs.Head.{path, path_of, head, asked};
 
@@ -11,6 +11,8 @@ use std::alloc::{AllocError, Global};
 
 impl Field for Path {
     ghost format = { path };
+
+    ghost sends = { λ _. ⊤ };
 
     #[tactic(auto, unfolding(crate::specs::Head::path))]
     fn read(alloc: Global, bytes: &[u8]) -> Result<(Path, &[u8]), ReadFault> {
@@ -50,6 +52,8 @@ fn path_with(uids: &[Uid], tops: u8) -> Path
 impl Field for Head {
     ghost format = { head };
 
+    ghost sends = { λ _. ⊤ };
+
     #[tactic(auto, unfolding(crate::specs::Head::head))]
     fn read(alloc: Global, bytes: &[u8]) -> Result<(Head, &[u8]), ReadFault> {
         let (path, rest) = Path::read(alloc, bytes)?;
@@ -66,6 +70,8 @@ impl Field for Head {
 
 impl Field for Asked {
     ghost format = { asked };
+
+    ghost sends = { λ _. ⊤ };
 
     #[tactic(auto, unfolding(crate::specs::Head::asked))]
     fn read(alloc: Global, bytes: &[u8]) -> Result<(Asked, &[u8]), ReadFault> {

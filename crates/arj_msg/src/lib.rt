@@ -2,7 +2,8 @@
 //! (told, acked, query, hello).
 //!
 //! It stands on `arj_base` and `arj_class`. What it gives upward: a message has one spelling, `message_bytes`, which
-//! `encode` writes and `decode` alone accepts; what is encoded is read back. A layout is written once, as a format of
+//! `encode` writes and `decode` alone accepts; what is encoded is in form and read back. `Sendable` of `specs/` says
+//! what a caller of `encode` owes: what the types don't say. A layout is written once, as a format of
 //! `specs/` (`Format`, `Layout`): how a value is spelled, its fields, which values are in form, and how it is read.
 #![tactic(auto)]
 
@@ -33,6 +34,3 @@ pub use message::{
     States, Told, Vote, Voted, VotedReply, What,
 };
 pub use spelling::one_spelling;
-
-#[cfg(test)]
-mod tests;

@@ -1,5 +1,7 @@
 // Numbers, and what is written as one number.
 ghost use Rattle.arj_msg.specs.Fields.{node, object, number4, number8, binding, uid, flag, mode, outcome};
+ghost use Rattle.std.specs.Prelude.{⊤};
+ghost use Rattle.arj_msg.specs.InForm.{IsNode, IsObject};
 
 use crate::fault::ReadFault;
 use crate::field::{Field, read_byte};
@@ -10,6 +12,8 @@ use std::alloc::{AllocError, Global};
 /// A node, 1 to 16.
 impl Field for u8 {
     ghost format = { node };
+
+    ghost sends = { IsNode };
 
     #[tactic(auto, unfolding(crate::specs::Fields::node))]
     fn read(_: Global, bytes: &[u8]) -> Result<(u8, &[u8]), ReadFault> {
@@ -25,6 +29,8 @@ impl Field for u8 {
 /// An object, 1 to 256.
 impl Field for u16 {
     ghost format = { object };
+
+    ghost sends = { IsObject };
 
     #[tactic(auto, unfolding(crate::specs::Fields::object))]
     fn read(_: Global, bytes: &[u8]) -> Result<(u16, &[u8]), ReadFault> {
@@ -50,6 +56,8 @@ impl Field for u16 {
 impl Field for u32 {
     ghost format = { number4 };
 
+    ghost sends = { λ _. ⊤ };
+
     #[tactic(auto, unfolding(crate::specs::Fields::number4))]
     fn read(_: Global, bytes: &[u8]) -> Result<(u32, &[u8]), ReadFault> {
         let Some((number, rest)) = bytes.split_first_chunk::<4>() else {
@@ -70,6 +78,8 @@ impl Field for u32 {
 impl Field for u64 {
     ghost format = { number8 };
 
+    ghost sends = { λ _. ⊤ };
+
     #[tactic(auto, unfolding(crate::specs::Fields::number8))]
     fn read(_: Global, bytes: &[u8]) -> Result<(u64, &[u8]), ReadFault> {
         let Some((number, rest)) = bytes.split_first_chunk::<8>() else {
@@ -89,6 +99,8 @@ impl Field for u64 {
 impl Field for Binding {
     ghost format = { binding };
 
+    ghost sends = { λ _. ⊤ };
+
     #[tactic(auto, unfolding(crate::specs::Fields::binding))]
     fn read(_: Global, bytes: &[u8]) -> Result<(Binding, &[u8]), ReadFault> {
         let Some((both, rest)) = bytes.split_first_chunk::<8>() else {
@@ -102,15 +114,18 @@ impl Field for Binding {
 
     #[tactic(auto, unfolding(crate::specs::Fields::binding))]
     fn put(&self, out: &mut Bytes) -> Result<(), AllocError> {
+        let Binding { inc, count } = *self;
         let mut bytes = [0; 8];
-        BigEndian::write_u32(&mut bytes[0..4], self.inc);
-        BigEndian::write_u32(&mut bytes[4..8], self.count);
+        BigEndian::write_u32(&mut bytes[0..4], inc);
+        BigEndian::write_u32(&mut bytes[4..8], count);
         out.extend(&bytes)
     }
 }
 
 impl Field for Uid {
     ghost format = { uid };
+
+    ghost sends = { λ _. ⊤ };
 
     #[tactic(auto, unfolding(crate::specs::Fields::uid))]
     fn read(_: Global, bytes: &[u8]) -> Result<(Uid, &[u8]), ReadFault> {
@@ -129,6 +144,8 @@ impl Field for Uid {
 impl Field for bool {
     ghost format = { flag };
 
+    ghost sends = { λ _. ⊤ };
+
     #[tactic(auto, unfolding(crate::specs::Fields::flag))]
     fn read(_: Global, bytes: &[u8]) -> Result<(bool, &[u8]), ReadFault> {
         let (code, rest) = read_byte(bytes, 0, 1)?;
@@ -143,6 +160,8 @@ impl Field for bool {
 
 impl Field for Mode {
     ghost format = { mode };
+
+    ghost sends = { λ _. ⊤ };
 
     #[tactic(auto, unfolding(crate::specs::Fields::mode))]
     fn read(_: Global, bytes: &[u8]) -> Result<(Mode, &[u8]), ReadFault> {
@@ -166,6 +185,8 @@ impl Field for Mode {
 
 impl Field for End {
     ghost format = { outcome };
+
+    ghost sends = { λ _. ⊤ };
 
     #[tactic(auto, unfolding(crate::specs::Fields::outcome))]
     fn read(_: Global, bytes: &[u8]) -> Result<(End, &[u8]), ReadFault> {

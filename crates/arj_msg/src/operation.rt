@@ -3,6 +3,7 @@ ghost use Rattle.std.specs.Prelude.{◌≡◌, ◌≤◌, ◌∷◌, ◌++◌, l
 ghost use Rattle.arj_msg.specs.Format.{Gives};
 ghost use Rattle.arj_msg.specs.Fields.{number8};
 ghost use Rattle.arj_msg.specs.Operation.{text, operation, answer};
+ghost use Rattle.arj_msg.specs.Sendable.{OpSends, AnswerSends};
 
 use crate::fault::ReadFault;
 use crate::field::Field;
@@ -31,8 +32,9 @@ fn read_text(alloc: Global, bytes: &[u8]) -> Result<(Bytes, &[u8]), ReadFault>
 /// Puts bytes behind their length.
 #[tactic(auto, using(std::proofs::lemmas::List::append_assoc), unfolding(crate::specs::Operation::text))]
 fn put_text(bytes: &Bytes, out: &mut Bytes) -> Result<(), AllocError>
-    requires { text.Fits bytes.now }
-    ensures { OnOk result (out.new ≡ out.old ++ text.spell bytes.now) }
+    requires { length bytes.now ≤ 64 }
+    ensures spelled { OnOk result (out.new ≡ out.old ++ text.spell bytes.now) }
+    ensures fits { OnOk result (text.Fits bytes.now) }
 {
     out.push(bytes.as_slice().len() as u8)?;
     out.extend(bytes.as_slice())
@@ -41,7 +43,8 @@ fn put_text(bytes: &Bytes, out: &mut Bytes) -> Result<(), AllocError>
 // Puts a code and a number behind it.
 #[tactic(auto, using(std::proofs::lemmas::List::append_assoc), unfolding(crate::specs::Fields::number8))]
 fn put_with_number(code: u8, number: u64, out: &mut Bytes) -> Result<(), AllocError>
-    ensures { OnOk result (out.new ≡ out.old ++ code ∷ number8.spell number) }
+    ensures spelled { OnOk result (out.new ≡ out.old ++ code ∷ number8.spell number) }
+    ensures fits { OnOk result (number8.Fits number) }
 {
     out.push(code)?;
     number.put(out)
@@ -49,6 +52,8 @@ fn put_with_number(code: u8, number: u64, out: &mut Bytes) -> Result<(), AllocEr
 
 impl Field for Op {
     ghost format = { operation };
+
+    ghost sends = { OpSends };
 
     #[tactic(auto, unfolding(crate::specs::Operation::operation, crate::specs::Format::nothing, crate::specs::Format::byte))]
     fn read(alloc: Global, bytes: &[u8]) -> Result<(Op, &[u8]), ReadFault> {
@@ -123,6 +128,8 @@ impl Field for Op {
 
 impl Field for Answer {
     ghost format = { answer };
+
+    ghost sends = { AnswerSends };
 
     #[tactic(auto, unfolding(crate::specs::Operation::answer, crate::specs::Format::nothing, crate::specs::Format::byte))]
     fn read(alloc: Global, bytes: &[u8]) -> Result<(Answer, &[u8]), ReadFault> {

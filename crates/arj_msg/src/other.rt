@@ -1,5 +1,9 @@
 // The messages without a head.
 ghost use Rattle.arj_msg.specs.Layout.{told, acked, query, hello};
+ghost use Rattle.std.specs.Prelude.{◌≤◌, length, ⊤};
+ghost use Rattle.arj_msg.specs.InForm.{IsNode};
+ghost use Rattle.arj_msg.specs.declared.message.Told.{Told};
+ghost use Rattle.arj_msg.specs.declared.message.Hello.{Hello};
 
 use crate::fault::ReadFault;
 use crate::field::Field;
@@ -9,6 +13,8 @@ use std::alloc::{AllocError, Global};
 
 impl Field for Told {
     ghost format = { told };
+
+    ghost sends = { λ (m : Told). length m.ends ≤ 255 };
 
     #[tactic(auto, unfolding(crate::specs::Layout::told))]
     fn read(alloc: Global, bytes: &[u8]) -> Result<(Told, &[u8]), ReadFault> {
@@ -29,6 +35,8 @@ impl Field for Told {
 impl Field for Acked {
     ghost format = { acked };
 
+    ghost sends = { λ _. ⊤ };
+
     #[tactic(auto, unfolding(crate::specs::Layout::acked))]
     fn read(alloc: Global, bytes: &[u8]) -> Result<(Acked, &[u8]), ReadFault> {
         let (act, rest) = Uid::read(alloc, bytes)?;
@@ -44,6 +52,8 @@ impl Field for Acked {
 impl Field for Query {
     ghost format = { query };
 
+    ghost sends = { λ _. ⊤ };
+
     #[tactic(auto, unfolding(crate::specs::Layout::query))]
     fn read(alloc: Global, bytes: &[u8]) -> Result<(Query, &[u8]), ReadFault> {
         let (act, rest) = Uid::read(alloc, bytes)?;
@@ -58,6 +68,8 @@ impl Field for Query {
 
 impl Field for Hello {
     ghost format = { hello };
+
+    ghost sends = { λ (m : Hello). IsNode m.node };
 
     #[tactic(auto, unfolding(crate::specs::Layout::hello))]
     fn read(alloc: Global, bytes: &[u8]) -> Result<(Hello, &[u8]), ReadFault> {

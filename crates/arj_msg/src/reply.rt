@@ -1,5 +1,7 @@
 // What is answered.
 ghost use Rattle.arj_msg.specs.Replies.{changed, bound_reply, loaded_reply, recorded_reply, invoked_reply, voted_reply, prepared_reply, confirmed_reply};
+ghost use Rattle.std.specs.Prelude.{⊤};
+ghost use Rattle.arj_msg.specs.Sendable.{BoundSends, LoadedSends, InvokedSends, VotedSends, PreparedSends, ConfirmedSends};
 
 use crate::fault::ReadFault;
 use crate::field::Field;
@@ -13,6 +15,8 @@ use std::alloc::{AllocError, Global};
 
 impl Field for What {
     ghost format = { changed };
+
+    ghost sends = { λ _. ⊤ };
 
     #[tactic(auto, unfolding(crate::specs::Replies::changed, crate::specs::Format::nothing))]
     fn read(alloc: Global, bytes: &[u8]) -> Result<(What, &[u8]), ReadFault> {
@@ -50,6 +54,8 @@ impl Field for What {
 
 impl Field for BoundReply {
     ghost format = { bound_reply };
+
+    ghost sends = { BoundSends };
 
     #[tactic(auto, unfolding(crate::specs::Replies::bound_reply, crate::specs::Format::nothing))]
     fn read(alloc: Global, bytes: &[u8]) -> Result<(BoundReply, &[u8]), ReadFault> {
@@ -146,6 +152,8 @@ impl Field for BoundReply {
 impl Field for LoadedReply {
     ghost format = { loaded_reply };
 
+    ghost sends = { LoadedSends };
+
     #[tactic(auto, unfolding(crate::specs::Replies::loaded_reply, crate::specs::Format::nothing))]
     fn read(alloc: Global, bytes: &[u8]) -> Result<(LoadedReply, &[u8]), ReadFault> {
         match bytes {
@@ -179,6 +187,8 @@ impl Field for LoadedReply {
 impl Field for RecordedReply {
     ghost format = { recorded_reply };
 
+    ghost sends = { λ _. ⊤ };
+
     #[tactic(auto, unfolding(crate::specs::Replies::recorded_reply, crate::specs::Format::nothing))]
     fn read(alloc: Global, bytes: &[u8]) -> Result<(RecordedReply, &[u8]), ReadFault> {
         match bytes {
@@ -205,6 +215,8 @@ impl Field for RecordedReply {
 
 impl Field for InvokedReply {
     ghost format = { invoked_reply };
+
+    ghost sends = { InvokedSends };
 
     #[tactic(auto, unfolding(crate::specs::Replies::invoked_reply, crate::specs::Format::nothing))]
     fn read(alloc: Global, bytes: &[u8]) -> Result<(InvokedReply, &[u8]), ReadFault> {
@@ -249,6 +261,8 @@ impl Field for InvokedReply {
 impl Field for VotedReply {
     ghost format = { voted_reply };
 
+    ghost sends = { VotedSends };
+
     #[tactic(auto, unfolding(crate::specs::Replies::voted_reply, crate::specs::Format::nothing))]
     fn read(alloc: Global, bytes: &[u8]) -> Result<(VotedReply, &[u8]), ReadFault> {
         match bytes {
@@ -281,6 +295,8 @@ impl Field for VotedReply {
 
 impl Field for PreparedReply {
     ghost format = { prepared_reply };
+
+    ghost sends = { PreparedSends };
 
     #[tactic(auto, unfolding(crate::specs::Replies::prepared_reply, crate::specs::Format::nothing))]
     fn read(alloc: Global, bytes: &[u8]) -> Result<(PreparedReply, &[u8]), ReadFault> {
@@ -320,6 +336,8 @@ impl Field for PreparedReply {
 
 impl Field for ConfirmedReply {
     ghost format = { confirmed_reply };
+
+    ghost sends = { ConfirmedSends };
 
     #[tactic(auto, unfolding(crate::specs::Replies::confirmed_reply, crate::specs::Format::nothing))]
     fn read(alloc: Global, bytes: &[u8]) -> Result<(ConfirmedReply, &[u8]), ReadFault> {

@@ -1,5 +1,16 @@
 // The requests.
 ghost use Rattle.arj_msg.specs.Requests.{bind, load, activate, record_msg, invoke, vote, prepare, confirm};
+ghost use Rattle.std.specs.Prelude.{◌≤◌, length};
+ghost use Rattle.arj_msg.specs.InForm.{IsNode, IsObject, AreFew, AreMany};
+ghost use Rattle.arj_msg.specs.Sendable.{StateSends, OpSends};
+ghost use Rattle.arj_msg.specs.declared.message.Bind.{Bind};
+ghost use Rattle.arj_msg.specs.declared.message.Load.{Load};
+ghost use Rattle.arj_msg.specs.declared.message.Activate.{Activate};
+ghost use Rattle.arj_msg.specs.declared.message.RecordMsg.{RecordMsg};
+ghost use Rattle.arj_msg.specs.declared.message.Invoke.{Invoke};
+ghost use Rattle.arj_msg.specs.declared.message.Vote.{Vote};
+ghost use Rattle.arj_msg.specs.declared.message.Prepare.{Prepare};
+ghost use Rattle.arj_msg.specs.declared.message.Confirm.{Confirm};
 
 use crate::fault::ReadFault;
 use crate::field::{Field, put_long, read_long};
@@ -12,6 +23,8 @@ use std::alloc::{AllocError, Global};
 
 impl Field for Bind {
     ghost format = { bind };
+
+    ghost sends = { λ (m : Bind). IsObject m.x };
 
     #[tactic(auto, unfolding(crate::specs::Requests::bind))]
     fn read(alloc: Global, bytes: &[u8]) -> Result<(Bind, &[u8]), ReadFault> {
@@ -42,6 +55,8 @@ impl Field for Bind {
 impl Field for Load {
     ghost format = { load };
 
+    ghost sends = { λ (m : Load). IsObject m.x };
+
     #[tactic(auto, unfolding(crate::specs::Requests::load))]
     fn read(alloc: Global, bytes: &[u8]) -> Result<(Load, &[u8]), ReadFault> {
         let (head, rest) = Head::read(alloc, bytes)?;
@@ -58,6 +73,8 @@ impl Field for Load {
 
 impl Field for Activate {
     ghost format = { activate };
+
+    ghost sends = { λ (m : Activate). StateSends m.state };
 
     #[tactic(auto, unfolding(crate::specs::Requests::activate))]
     fn read(alloc: Global, bytes: &[u8]) -> Result<(Activate, &[u8]), ReadFault> {
@@ -84,6 +101,8 @@ impl Field for Activate {
 
 impl Field for RecordMsg {
     ghost format = { record_msg };
+
+    ghost sends = { λ (m : RecordMsg). IsObject m.x };
 
     #[tactic(auto, unfolding(crate::specs::Requests::record_msg))]
     fn read(alloc: Global, bytes: &[u8]) -> Result<(RecordMsg, &[u8]), ReadFault> {
@@ -116,6 +135,8 @@ impl Field for RecordMsg {
 
 impl Field for Invoke {
     ghost format = { invoke };
+
+    ghost sends = { λ (m : Invoke). IsObject m.x × (length m.ends ≤ 255) × OpSends m.op };
 
     #[tactic(auto, unfolding(crate::specs::Requests::invoke))]
     fn read(alloc: Global, bytes: &[u8]) -> Result<(Invoke, &[u8]), ReadFault> {
@@ -152,6 +173,8 @@ impl Field for Invoke {
 impl Field for Vote {
     ghost format = { vote };
 
+    ghost sends = { λ (m : Vote). AreFew (λ o. IsObject o.0) m.objects × (length m.ends ≤ 255) };
+
     #[tactic(auto, unfolding(crate::specs::Requests::vote))]
     fn read(alloc: Global, bytes: &[u8]) -> Result<(Vote, &[u8]), ReadFault> {
         let (head, rest) = Head::read(alloc, bytes)?;
@@ -181,6 +204,8 @@ impl Field for Vote {
 impl Field for Prepare {
     ghost format = { prepare };
 
+    ghost sends = { λ (m : Prepare). AreFew StateSends m.states };
+
     #[tactic(auto, unfolding(crate::specs::Requests::prepare))]
     fn read(alloc: Global, bytes: &[u8]) -> Result<(Prepare, &[u8]), ReadFault> {
         let (head, rest) = Head::read(alloc, bytes)?;
@@ -197,6 +222,8 @@ impl Field for Prepare {
 
 impl Field for Confirm {
     ghost format = { confirm };
+
+    ghost sends = { λ (m : Confirm). AreFew (λ g. IsObject g.0) m.objects × AreMany (λ k. IsObject k.0 × IsNode k.1) m.excluded × AreMany (λ k. IsObject k.0 × IsNode k.1) m.included };
 
     #[tactic(auto, unfolding(crate::specs::Requests::confirm))]
     fn read(alloc: Global, bytes: &[u8]) -> Result<(Confirm, &[u8]), ReadFault> {

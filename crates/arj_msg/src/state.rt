@@ -4,6 +4,7 @@ ghost use Rattle.byteorder.specs.Endian.{big_bytes};
 ghost use Rattle.arj_base.specs.State.{class_code_of};
 ghost use Rattle.std.specs.Option.{option_map};
 ghost use Rattle.arj_msg.specs.State.{state, cut_long, state_from};
+ghost use Rattle.arj_msg.specs.Sendable.{StateSends};
 
 use crate::fault::ReadFault;
 use crate::field::Field;
@@ -14,6 +15,8 @@ use std::alloc::{AllocError, Global};
 
 impl Field for ObjectState {
     ghost format = { state };
+
+    ghost sends = { StateSends };
 
     #[tactic(auto, unfolding(crate::specs::State::state))]
     fn read(alloc: Global, bytes: &[u8]) -> Result<(ObjectState, &[u8]), ReadFault> {

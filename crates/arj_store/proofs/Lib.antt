@@ -3,7 +3,6 @@ pub mod Changes
 pub mod Counting
 pub mod Ends
 pub mod Entries
-pub mod Few
 pub mod Files
 pub mod Finding
 pub mod Formatted

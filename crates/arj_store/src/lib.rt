@@ -22,12 +22,3 @@ pub use laws::{calls_are_effects, known_objects, lists_are_determined};
 pub use limits::MOST_ROOM;
 pub use shadow::ShadowStore;
 pub use store::ObjectStore;
-
-#[cfg(test)]
-mod recorder;
-#[cfg(test)]
-mod tables;
-#[cfg(test)]
-mod tests;
-#[cfg(test)]
-mod uses;

@@ -1,25 +1,20 @@
 // Messages read, written and taken apart.
 ghost use Rattle.std.specs.Prelude.{◌≡◌, ◌≤◌, ℕ, Some, IfOk};
-ghost use Rattle.std.specs.List.{AllByRecursion};
-ghost use Rattle.arj_base.specs.Path.{uids_of};
-ghost use Rattle.arj_base.specs.Uid.{UidFits};
 ghost use Rattle.arj_msg.specs.Layout.{message_bytes};
 ghost use Rattle.arj_msg.specs.declared.message.Head.{Head};
 ghost use Rattle.arj_msg.specs.declared.message.Message.TheVariants as of;
 
-use super::*;
 use arj_base::Bytes;
+use arj_msg::{Ask, Head, Load, Message, MsgFault, decode, encode, messages_in_form};
 use std::alloc::{AllocError, Global};
 use std::test::Fail;
 
-// A Load that is sent: its object has to be one, and the Uids of its path have to fit their bytes.
+// A Load that is sent: its object has to be one. The rest its types say.
 fn load_bytes(alloc: Global, head: Head, x: u16) -> Result<Bytes, AllocError>
     requires least { 1 ≤ x }
     requires most { x ≤ 256 }
-    requires path { AllByRecursion UidFits (uids_of head.path) }
     ensures { IfOk result (λ bytes. bytes ≡ message_bytes (of.Load (record { head = head; x = x }))) }
 {
-    messages_in_form();
     encode(alloc, &Message::Load(Load { head, x }))
 }
 
@@ -41,6 +36,7 @@ fn places_of_faults(rt: HostRuntime) -> Result<(), Fail> {
         return Err(Fail::new("not read"));
     };
     assert_eq!(rt; read.node, 2);
+    messages_in_form();
     assert_eq!(rt; read.inc, 3);
     let written = encode(alloc, &Message::Hello(read))?;
     assert_eq!(rt; written.as_slice(), hello.as_slice());
@@ -219,6 +215,7 @@ fn is_read_back(alloc: Global, fields: &[&[u8]]) -> Result<bool, Fail> {
     let Ok(message) = decode(alloc, &bytes) else {
         return Ok(false);
     };
+    messages_in_form();
     if encode(alloc, &message)?.as_slice() != bytes.as_slice() {
         return Ok(false);
     }

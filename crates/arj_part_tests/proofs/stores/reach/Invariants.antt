@@ -2,7 +2,7 @@ use Rattle.std.proofs.Common.{◌≡◌}
 use Rattle.arj_disk.specs.Armed.{files_of, arms_of}
 use Rattle.arj_disk.specs.Formed.{FormedFor}
 use Rattle.arj_store.specs.Kept.{role_kept, StoreKeeps}
-use Rattle.arj_store.proofs.tests.reach.Given as goal
+use Rattle.arj_part_tests.proofs.stores.reach.Given as goal
 
 abbrev pub invariant-loop-call : goal.invariant-loop-call
 invariant-loop-call l = record {

@@ -1,11 +1,13 @@
 -- A disk knows no more objects than it has files.
-use Rattle.std.proofs.Common.{◌≡◌, ◌⊎◌, ◌∙◌, ◌≤◌, ◌<◌, List, [], ◌∷◌, ◌++◌, false, arith, refl, ap, ⊎_elim, map, length}
+use Rattle.std.proofs.Common.{◌≡◌, ◌⊎◌, ◌∙◌, ◌≤◌, ◌<◌, ◌==◌, ◌&&◌, ℕ, List, [], ◌∷◌, ◌++◌, false, arith, refl, ap, ⊎_elim, map, length}
 use Rattle.std.specs.Prelude.{IsSome, Contains}
 use Rattle.std.specs.List.{IsDistinct}
 use Rattle.std.proofs.lemmas.List.{get_or-map, length-append}
 use Rattle.std.proofs.lemmas.List.Elements.{Contains-append_left, Contains-append_right}
 use Rattle.std.proofs.lemmas.Map.Made.{length-le_from_is_member}
-use Rattle.std.proofs.lemmas.Map.Views.{list_any-from_Contains}
+use Rattle.std.proofs.lemmas.Map.Views.{list_any-from_Contains, Contains-from_any}
+use Rattle.std.proofs.lemmas.Bool.Decides.{nat_tests}
+use Rattle.std.specs.Cmp.{IsEquivalence}
 use Rattle.arj_base.specs.Uid.{uid_eq, nobody}
 use Rattle.arj_base.specs.declared.state.ObjectState.{ObjectState}
 use Rattle.arj_base.specs.declared.uid.Uid.{Uid}
@@ -17,10 +19,21 @@ use Rattle.arj_disk.specs.FileMap.{FileMap}
 use Rattle.arj_disk.specs.Formed.{FormedFor, IsKnown, AtMost}
 use Rattle.arj_disk.specs.Says.{role_of, held, pend, names}
 use Rattle.arj_store.specs.Pair.{AreDistinct, uid_of}
-use Rattle.arj_store.proofs.Formatted.{uid_equivalence}
-use Rattle.arj_store.specs.Named.{held_of_role}
-use Rattle.arj_store.proofs.Prepared.{among}
-use Rattle.arj_store.proofs.Puts.{length_map}
+use Rattle.arj_store.specs.Named.{held_of_role, uid_same, uid_is}
+
+eq_sym : (a b : ℕ) → (a == b) ≡ (b == a)
+eq_sym a b = grind (arith, nat_tests)
+
+uid_equivalence : IsEquivalence uid_eq
+uid_equivalence = record {
+  refl = uid_same;
+  symm = λ u w i. eq_sym u.node w.node i && (eq_sym u.inc w.inc i && eq_sym u.num w.num i);
+  congr = λ u w v e. ap (λ x. uid_eq x v) (uid_is u w e);
+}
+
+length_map : (states : List ObjectState) → length (map uid_of states) ≡ length states
+length_map [] = refl
+length_map (s ∷ ss) = let rest = length_map ss in omega (arith, rest)
 
 abbrev uid_at : Slot → Uid
 uid_at Incarnation = nobody
@@ -49,7 +62,7 @@ pub few_files : (file : FileMap) (role : Role) (qs : List Slot) (states : List O
     → AtMost 65535 (λ u. IsKnown file role u ⊎ Contains (map uid_of states) u)
 few_files file role qs states formed lists short few us distinct each =
     let le : length us ≤ length (map uid_at qs ++ map uid_of states) = length-le_from_is_member uid_equivalence us (map uid_at qs ++ map uid_of states) distinct
-    (λ u is. list_any-from_Contains uid_equivalence u (map uid_at qs ++ map uid_of states) (there u (each u (among us u is)))) in
+    (λ u is. list_any-from_Contains uid_equivalence u (map uid_at qs ++ map uid_of states) (there u (each u (Contains-from_any uid_is u us is)))) in
     omega (arith, le, short, few, length-append (map uid_at qs) (map uid_of states), length_at qs, length_map states)
   where
     there : (u : Uid) → IsKnown file role u ⊎ Contains (map uid_of states) u → Contains (map uid_at qs ++ map uid_of states) u

@@ -2,8 +2,8 @@
 use Rattle.std.proofs.Common.{◌≡◌, ◌∙◌, sym, ap, subst, List, [], ◌∷◌, ◌++◌}
 use Rattle.arj_base.specs.declared.state.ObjectState.{ObjectState}
 use Rattle.arj_store.specs.Pair.{AreDistinct}
-use Rattle.arj_store.proofs.Few.{distinct_none, distinct_one, distinct_two}
-use Rattle.arj_store.proofs.tests.states.Goals as goal
+use Rattle.arj_part_tests.proofs.Few.{distinct_none, distinct_one, distinct_two}
+use Rattle.arj_part_tests.proofs.stores.states.Goals as goal
 
 one : (s : ObjectState) (none some : List ObjectState) → none ≡ [] → some ≡ none ++ s ∷ [] → s ∷ [] ≡ some
 one s none some e is = sym (is ∙ ap (λ ss. ss ++ s ∷ []) e)

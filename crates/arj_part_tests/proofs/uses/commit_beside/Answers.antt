@@ -1,7 +1,7 @@
 use Rattle.std.proofs.Common.{sym, subst}
 use Rattle.arj_disk.specs.declared.slot.Role.TheVariants.{Store, Names}
 use Rattle.arj_disk.specs.Says.{OnlyOfRole, SameOfRole}
-use Rattle.arj_store.proofs.uses.commit_beside.Goals as goal
+use Rattle.arj_part_tests.proofs.uses.commit_beside.Goals as goal
 
 pub returns-clause-keeps : goal.returns-clause-keeps
 returns-clause-keeps g c =

@@ -6,7 +6,7 @@ use Rattle.arj_disk.specs.declared.slot.Role.{Role}
 use Rattle.arj_disk.specs.FileMap.{FileMap}
 use Rattle.arj_disk.specs.Formed.{AtMost, IsKnown}
 use Rattle.arj_store.specs.Pair.{uid_of}
-use Rattle.arj_store.proofs.tests.ask.Goals as goal
+use Rattle.arj_part_tests.proofs.stores.ask.Goals as goal
 
 counted : (old mid new : FileMap) (role own : Role) (states : List ObjectState) → own ≡ role → mid ≡ old → new ≡ mid → AtMost 65535 (λ u. IsKnown old role u ⊎ Contains (map uid_of states) u)
     → AtMost 65535 (λ u. IsKnown new own u ⊎ Contains (map uid_of states) u)

@@ -3,7 +3,7 @@ use Rattle.std.proofs.Common.{◌≡◌, Some}
 use Rattle.arj_disk.specs.Armed.{files_of, arms_of}
 use Rattle.arj_disk.specs.declared.slot.Slot.{Slot}
 use Rattle.arj_disk.specs.Says.{slot_role}
-use Rattle.arj_store.proofs.tests.beside.Given as goal
+use Rattle.arj_part_tests.proofs.stores.beside.Given as goal
 
 abbrev pub invariant-loop-slot : goal.invariant-loop-slot
 invariant-loop-slot l = record {

@@ -1,9 +1,9 @@
 // What the tests want, in tables: calls of a store with their answers, the calls of the disk that they make, and the
 // files that each of these leaves.
-use crate::Prep;
 use crate::recorder::Did;
 use arj_base::Uid;
 use arj_disk::{Role, Slot};
+use arj_store::Prep;
 
 // The bytes of a file.
 pub type Content = &'static [u8];

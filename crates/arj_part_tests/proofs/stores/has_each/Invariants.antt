@@ -1,6 +1,6 @@
 use Rattle.std.proofs.Common.{◌≡◌}
 use Rattle.arj_disk.specs.Armed.{files_of, arms_of}
-use Rattle.arj_store.proofs.tests.has_each.Given as goal
+use Rattle.arj_part_tests.proofs.stores.has_each.Given as goal
 
 abbrev pub invariant-loop-slot : goal.invariant-loop-slot
 invariant-loop-slot l = record {

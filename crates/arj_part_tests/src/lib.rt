@@ -1,0 +1,15 @@
+//! Tests of the parts that nodes are made of: messages, and stores over disks that write down their calls.
+//!
+//! It stands on `arj_msg`, `arj_store` and `arj_disk`, which it knows by their contracts. It has tests alone.
+#![tactic(auto)]
+
+#[cfg(test)]
+mod messages;
+#[cfg(test)]
+mod recorder;
+#[cfg(test)]
+mod stores;
+#[cfg(test)]
+mod tables;
+#[cfg(test)]
+mod uses;
