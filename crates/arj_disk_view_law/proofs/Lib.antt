@@ -1,0 +1,3 @@
+pub mod Keys
+pub mod PairSteps
+pub mod StoreSteps
