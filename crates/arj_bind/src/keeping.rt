@@ -64,6 +64,13 @@ impl Keeping {
         }
     }
 
+    /// Whether a call under the kept binding was lost or met a change.
+    pub fn is_spoiled(&self) -> bool
+        ensures { result ≡ self.now.spoiled }
+    {
+        self.spoiled
+    }
+
     /// The binding to avoid, 0.0 if none.
     pub fn avoid(&self) -> Binding
         ensures { result ≡ self.now.avoid }

@@ -29,3 +29,6 @@ pub use keeping::Keeping;
 pub use known::Known;
 pub use step::{CallStep, Unanswered};
 pub use steps::CallSteps;
+
+#[cfg(test)]
+mod tests;
