@@ -1,2 +1,4 @@
 pub mod OtherReplies
 pub mod Taking
+pub mod InOrder
+pub mod KeepingOn

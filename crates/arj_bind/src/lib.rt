@@ -17,6 +17,7 @@ mod goal;
 mod grant;
 mod keeping;
 mod known;
+mod laws;
 mod moved;
 mod reply;
 mod step;
@@ -27,6 +28,7 @@ pub use goal::{CallEnd, Goal};
 pub use grant::Grant;
 pub use keeping::Keeping;
 pub use known::Known;
+pub use laws::calls_go_in_order;
 pub use step::{CallStep, Unanswered};
 pub use steps::CallSteps;
 
