@@ -1,5 +1,5 @@
 -- The requests of a call come in order, and no answer counts twice.
-use Rattle.std.proofs.Common.{◌≡◌, ◌<◌, ◌+◌, ℕ, Bool, true, false, ◌&&◌, ◌==◌, Option, Some, None, List, [], ◌∷◌, inl, inr, cond, refl, sym, ap, ◌∙◌, min, arith}
+use Rattle.std.proofs.Common.{◌≡◌, ◌<◌, ℕ, Bool, true, false, ◌&&◌, ◌==◌, Option, Some, None, [], ◌∷◌, cond, refl, sym, ap, ◌∙◌, arith}
 use Rattle.std.proofs.lemmas.Bool.{and_parts}
 use Rattle.std.proofs.lemmas.Bool.Decides.{nat_tests}
 use Rattle.arj_base.specs.declared.binding.Binding.{Binding}
@@ -13,7 +13,7 @@ use Rattle.arj_msg.specs.declared.message.LoadedReply.TheVariants as loaded
 use Rattle.arj_msg.specs.declared.message.RecordedReply.TheVariants as recorded
 use Rattle.arj_protocol.specs.Ask.{Reply, answers, reply_kind, ask_kind}
 use Rattle.arj_protocol.specs.Asking.{waits_for_call}
-use Rattle.arj_protocol.specs.Call.{Known, Goal, Run, Include, At, AtBind, AtLoad, AtActivate, AtNote, AtInvoke, CallStep, On, Ended, Changed, Steps, answered, given_up, moves, finds, with_inc, same_binding, other_binding, bound_by, bound_answer, activated_by, named_again, made_by, or_lost, load_from, live_known, made_known, write_known, two_incs, two_bindings, next_ask, next_node}
+use Rattle.arj_protocol.specs.Call.{Known, Goal, Run, Include, At, AtBind, AtLoad, AtActivate, AtNote, AtInvoke, CallStep, On, Ended, Changed, Steps, answered, given_up, moves, finds, with_inc, same_binding, other_binding, bound_by, bound_answer, activated_by, named_again, live_known, made_known, two_incs, two_bindings, next_ask, next_node}
 use Rattle.arj_protocol.specs.Coord.{Keeping}
 use Rattle.arj_protocol.specs.Order.{binding_eq, binding_less}
 use Rattle.arj_bind.specs.Heard.{Onward, awaited, heard_in, hears, came_by, steps_at, req_after}

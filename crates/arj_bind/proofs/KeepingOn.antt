@@ -1,5 +1,5 @@
 -- A kept binding never falls, and the incarnation that was named first for it stays.
-use Rattle.std.proofs.Common.{◌≡◌, ◌∙◌, ℕ, Bool, true, false, not, ◌&&◌, ◌||◌, ◌==◌, nat_lt, Option, Some, None, inl, inr, cond, refl, sym, ap, arith}
+use Rattle.std.proofs.Common.{◌≡◌, ◌∙◌, ℕ, Bool, true, false, ◌&&◌, ◌==◌, Option, Some, None, inl, inr, cond, refl, sym}
 use Rattle.std.proofs.lemmas.Bool.{and_parts}
 use Rattle.arj_msg.specs.declared.message.RecordedReply.TheVariants as recorded
 use Rattle.arj_msg.specs.declared.message.BoundReply.{BoundReply}
@@ -7,7 +7,7 @@ use Rattle.arj_msg.specs.declared.message.BoundReply.TheVariants as bound
 use Rattle.arj_msg.specs.declared.message.LoadedReply.TheVariants as loaded
 use Rattle.arj_msg.specs.declared.message.InvokedReply.TheVariants as invoked
 use Rattle.arj_protocol.specs.Ask.{Reply}
-use Rattle.arj_protocol.specs.Call.{Known, Goal, Run, Include, At, AtBind, AtLoad, AtActivate, AtNote, AtInvoke, Moved, answered, moves, finds, with_inc, same_binding, other_binding, bound_by, bound_answer, activated_by, recorded_kept, named_again, made_by, or_lost, load_from, live_known, made_known, write_known, Changed, two_incs, two_bindings}
+use Rattle.arj_protocol.specs.Call.{Known, Goal, Run, Include, At, AtBind, AtLoad, AtActivate, AtNote, AtInvoke, answered, moves, finds, with_inc, same_binding, other_binding, bound_by, bound_answer, activated_by, recorded_kept, named_again, made_by, or_lost, load_from, live_known, made_known, write_known, Changed, two_incs, two_bindings}
 use Rattle.arj_protocol.specs.Order.{binding_eq, binding_less}
 use Rattle.arj_bind.specs.Laws.{StaysOrRises, KeepsOn}
 

@@ -1,5 +1,5 @@
 -- What holds of every call: the order of its requests, and what a root keeps.
-use Rattle.std.specs.Prelude.{◌≡◌, ◌⊎◌, ℕ, Bool, true, false, List, [], Option, Some, None, ⊤}
+use Rattle.std.specs.Prelude.{◌≡◌, ◌⊎◌, ℕ, Bool, true, false, [], Option, Some, None, ⊤}
 use Rattle.arj_protocol.specs.Ask.{ask_kind}
 use Rattle.arj_protocol.specs.Call.{Known, Goal, At, AtBind, AtLoad, AtActivate, AtNote, AtInvoke, CallStep, On, Ended, ask_at}
 use Rattle.arj_protocol.specs.Order.{binding_less}
