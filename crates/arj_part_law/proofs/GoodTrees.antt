@@ -45,7 +45,7 @@ module _ {A : Type 0} where
   set_same zero a b (x ∷ xs) is = refl
   set_same (suc k) a b (x ∷ xs) is = set_same k a b xs is
 
-  place_same : (k : ℕ) (a b : A) (items : List A) → at_place k items ≡ Some b → at_place k (set_place k a items) ≡ Some a
+  pub place_same : (k : ℕ) (a b : A) (items : List A) → at_place k items ≡ Some b → at_place k (set_place k a items) ≡ Some a
   place_same zero a b items is = let no_way : ◌≡◌ {A = Option A} None (Some b) = is in cc
   place_same (suc k) a b items is = set_same k a b items is
 
@@ -56,11 +56,11 @@ module _ {A : Type 0} where
   in_slice (suc k) a c (x ∷ xs) (inl same) = inr (inl same)
   in_slice (suc k) a c (x ∷ xs) (inr i) = ⊎_elim (λ same. inl same) (λ old. inr (inr old)) (in_slice k a c xs i)
 
-  in_set : (k : ℕ) (a c : A) (items : List A) → In c (set_place k a items) → (a ≡ c) ⊎ In c items
+  pub in_set : (k : ℕ) (a c : A) (items : List A) → In c (set_place k a items) → (a ≡ c) ⊎ In c items
   in_set zero a c items i = inr i
   in_set (suc k) a c items i = in_slice k a c items i
 
-  get_more : (k : ℕ) (a c : A) (items : List A) → slice_get (items ++ a ∷ []) k ≡ Some c → (slice_get items k ≡ Some c) ⊎ ((k ≡ length items) × (a ≡ c))
+  pub get_more : (k : ℕ) (a c : A) (items : List A) → slice_get (items ++ a ∷ []) k ≡ Some c → (slice_get items k ≡ Some c) ⊎ ((k ≡ length items) × (a ≡ c))
   get_more zero a c [] is = let same : a ≡ c = cc in inr (refl, same)
   get_more (suc k) a c [] is = let no_way : ◌≡◌ {A = Option A} None (Some c) = is in cc
   get_more zero a c (x ∷ xs) is = inl is
@@ -89,7 +89,7 @@ found_by u t b is = by (is_own u t) refl is
     by true own e = (refl, e)
     by false own e = let no_way : ◌≡◌ {A = Option Branch} None (Some b) = e in cc
 
-own_is : (u w : Uid) (t : Tree) → is_own u t ≡ true → is_own w t ≡ true → u.num ≡ w.num → u ≡ w
+pub own_is : (u w : Uid) (t : Tree) → is_own u t ≡ true → is_own w t ≡ true → u.num ≡ w.num → u ≡ w
 own_is u w t own also same = uid_is u w (λ i. (eq u.node w.node (eqb-true u.node t.node (and_parts (u.node == t.node) (u.inc == t.inc) own).0 ∙ sym (eqb-true w.node t.node (and_parts (w.node == t.node) (w.inc == t.inc) also).0)) i)
     && ((eq u.inc w.inc (eqb-true u.inc t.inc (and_parts (u.node == t.node) (u.inc == t.inc) own).1 ∙ sym (eqb-true w.inc t.inc (and_parts (w.node == t.node) (w.inc == t.inc) also).1)) i) && (eq u.num w.num same i)))
   where
@@ -98,17 +98,17 @@ own_is u w t own also same = uid_is u w (λ i. (eq u.node w.node (eqb-true u.nod
 
 -- ---- the ends of a root
 
-ends_by_number : (r s : Uid) (t : Tree) → r.num ≡ s.num → ends_of r t ≡ ends_of s t
+pub ends_by_number : (r s : Uid) (t : Tree) → r.num ≡ s.num → ends_of r t ≡ ends_of s t
 ends_by_number r s t same = λ i. (unwrap_or (at_number (same i) t.families) no_family).ends
 
 module _ (root : Uid) (f : Family) (t : Tree) where
-  ends_there : (r : Uid) → r.num ≡ root.num → ends_of r (with_family root f t) ≡ f.ends
+  pub ends_there : (r : Uid) → r.num ≡ root.num → ends_of r (with_family root f t) ≡ f.ends
   ends_there r same = (λ i. (unwrap_or (at_number (same i) (put_number root.num f t.families)) no_family).ends) ∙ ap (λ o. (unwrap_or o no_family).ends) (put_same root.num f t.families)
 
-  ends_elsewhere : (r : Uid) → (r.num ≡ root.num → ⊥) → ends_of r (with_family root f t) ≡ ends_of r t
+  pub ends_elsewhere : (r : Uid) → (r.num ≡ root.num → ⊥) → ends_of r (with_family root f t) ≡ ends_of r t
   ends_elsewhere r other = ⊎_elim (λ same. absurd (other (sym same))) (λ apart. ap (λ o. (unwrap_or o no_family).ends) (put_other root.num r.num f t.families apart.0)) (one_or_two root.num r.num)
 
-same_or_not : (j k : ℕ) → (j ≡ k) ⊎ (j ≡ k → ⊥)
+pub same_or_not : (j k : ℕ) → (j ≡ k) ⊎ (j ≡ k → ⊥)
 same_or_not j k = ⊎_elim (λ same. inl (sym same)) (λ apart. inr (λ same. never (k == j) (ap (λ i. k == i) same ∙ itself k) apart.1)) (one_or_two k j)
   where
     itself : (i : ℕ) → (i == i) ≡ true
@@ -143,7 +143,7 @@ pub has_here : (e : Uid × End) (es : List (Uid × End)) → has_end_of e.0 (e �
 has_here e es = λ i. uid_same e.0 i || has_end_of e.0 es
 
 -- what is below in another tree is below in this one
-whole_in : (t v : Tree) (before es : List (Uid × End)) → ((u w : Uid) (b : Branch) → has_end_of u es ≡ true → branch_of w v ≡ Some b → is_on (uids_of b.path) u ≡ true → w ≢ u → (c : Branch) × (branch_of w t ≡ Some c) × (uids_of c.path ≡ uids_of b.path)) → AreWhole t before es → AreWhole v before es
+pub whole_in : (t v : Tree) (before es : List (Uid × End)) → ((u w : Uid) (b : Branch) → has_end_of u es ≡ true → branch_of w v ≡ Some b → is_on (uids_of b.path) u ≡ true → w ≢ u → (c : Branch) × (branch_of w t ≡ Some c) × (uids_of c.path ≡ uids_of b.path)) → AreWhole t before es → AreWhole v before es
 whole_in t v before [] back all = tt
 whole_in t v before (e ∷ es) back all = (
   λ is w b found on other. let f = back e.0 w b (has_here e es) found on other in all.0 is w f.0 f.1 (ap (λ us. is_on us e.0) f.2 ∙ on) other,
@@ -256,7 +256,7 @@ module _ (u : Uid) (e : End) (t : Tree) (b : Branch) (found : branch_of u t ≡ 
       by false own = refl
 
   -- a branch after the end
-  after_cases : (w : Uid) (c : Branch) → branch_of w after ≡ Some c → ((w ≡ u) × (ended_b ≡ c)) ⊎ ((w ≢ u) × (branch_of w t ≡ Some c))
+  pub after_cases : (w : Uid) (c : Branch) → branch_of w after ≡ Some c → ((w ≡ u) × (ended_b ≡ c)) ⊎ ((w ≢ u) × (branch_of w t ≡ Some c))
   after_cases w c is = ⊎_elim (λ same. let k : ◌≡◌ {A = Option Branch} (Some ended_b) (Some c) = sym at_u ∙ ap (λ v. branch_of v after) (sym same) ∙ is in let one : ended_b ≡ c = cc in inl (same, one)) (λ other. inr (other, sym (at_others w other) ∙ is)) (uid_cases w u)
 
   -- a branch was there before, with the same path
@@ -514,7 +514,7 @@ module _ (k : Kind) (p : Path) (t : Tree) where
       one_more : (n : ℕ) → n + 1 ≡ suc n
       one_more n = omega arith
 
-  not_yet : branch_of (next_uid t) t ≡ None
+  pub not_yet : branch_of (next_uid t) t ≡ None
   not_yet = by (is_own (next_uid t) t)
     where
       by : (c : Bool) → cond c (at_place (next_uid t).num t.branches) None ≡ None
@@ -569,7 +569,7 @@ module _ (k : Kind) (p : Path) (t : Tree) where
 
 module _ (paths : Paths) (tree : IsTree paths) (k : Kind) (p : Path) (t : Tree) (may : MayStand paths k t p) (good : IsGoodTree paths t) where
   -- nothing that has ended stands above the new action
-  open_above : (u : Uid) (c : Branch) → branch_of u t ≡ Some c → is_some c.ended ≡ true → is_on (paths (next_uid t)) u ≡ true → u ≢ next_uid t → ⊥
+  pub open_above : (u : Uid) (c : Branch) → branch_of u t ≡ Some c → is_some c.ended ≡ true → is_on (paths (next_uid t)) u ≡ true → u ≢ next_uid t → ⊥
   open_above u c there over on other = ⊎_elim (λ same. other (sym (uid_is (last_uid (paths (next_uid t))) u same) ∙ last_is)) up (on_parts (paths (next_uid t)) u on)
     where
       last_is : last_uid (paths (next_uid t)) ≡ next_uid t

@@ -1,10 +1,12 @@
 mod Begun
 mod CallLocks
+mod CoordInputs
 mod Cuts
 mod EntryLocks
 mod Gone
 mod GoodCalls
 mod GoodConfirm
+mod GoodCoords
 mod GoodCopies
 mod GoodEnds
 mod GoodObjects

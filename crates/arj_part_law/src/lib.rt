@@ -8,6 +8,7 @@
 #![tactic(auto)]
 
 mod actions;
+mod coords;
 mod copies;
 mod grants;
 mod naming;
@@ -19,6 +20,7 @@ mod trees;
 mod turns;
 
 pub use actions::{begun_actions_make_a_tree, coordinators_begin_new_actions};
+pub use coords::coordinators_stay_good;
 pub use copies::{ended_actions_leave_nothing, locks_of_operations_stand, overlays_are_guarded};
 pub use grants::{bindings_rise, grants_of_naming_stand};
 pub use naming::naming_stays_good;
