@@ -1,5 +1,10 @@
 pub mod Folds
 pub mod Grants
+pub mod Lists
 pub mod Puts
 pub mod Runs
+pub mod Held
+pub mod Touching
+pub mod Upkeep
 pub mod Views
+pub mod Walks

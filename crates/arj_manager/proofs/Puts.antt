@@ -14,9 +14,11 @@ use Rattle.std.proofs.lemmas.Map.Keys.{sorted_tail}
 use Rattle.std.proofs.lemmas.Map.Steps.{set_value_same}
 use Rattle.arj_base.specs.declared.path.Path.{Path}
 use Rattle.arj_class.specs.declared.op.Op.{Op}
-use Rattle.arj_protocol.specs.Copy.{Copy, invoke_copy}
+use Rattle.arj_protocol.specs.Copy.{Copy, ask_copy, invoke_copy}
 use Rattle.arj_protocol.specs.Order.{at_number, put_number}
 use Rattle.arj_manager.specs.Manager.{Copies, invoke_at, invoke_in}
+use Rattle.arj_manager.specs.Ran.{IsRun, MayRun}
+use Rattle.arj_manager.specs.declared.ran.Ran.{Ran}
 
 pub put_found : {X : Type 0} (x : ℕ) (v : X) (es : List (ℕ × X)) → IsStrictlySortedBy nat_cmp (keys_of es) → IsSome (lookup (is_at (nat_cmp x)) es) → set_value (is_at (nat_cmp x)) es v ≡ put_number x v es
 put_found x v [] sorted there = absurd (cc there)
@@ -38,10 +40,11 @@ pub put_same : (x : ℕ) (m kept es : Copies) (c new : Copy) → m ≡ kept → 
 put_same x m kept es c new same at written is = written ∙ (ap (set_value (is_at (nat_cmp x)) m) is ∙ (set_value_same (is_at (nat_cmp x)) m c at ∙ same))
 
 -- a copy that did an operation is written back as the protocol puts it back
-pub put_ran : (x : ℕ) (p : Path) (op : Op) (m shown es : Copies) (c new : Copy) → m ≡ shown → at_number x m ≡ Some c → IsStrictlySortedBy nat_cmp (keys_of m) → es ≡ set_value (is_at (nat_cmp x)) m new
-    → ((n : ℕ) → new ≡ (invoke_copy n p x op c).part) → (n : ℕ) → es ≡ (invoke_in n p x op shown).part
-put_ran x p op m shown es c new same at sorted written ran n =
+pub put_ran : (x : ℕ) (p : Path) (op : Op) (m shown es : Copies) (c new : Copy) (ran : Ran) → m ≡ shown → at_number x m ≡ Some c → IsStrictlySortedBy nat_cmp (keys_of m) → es ≡ set_value (is_at (nat_cmp x)) m new
+    → MayRun p x op c → IsRun p x op c new ran → (n : ℕ) → es ≡ (invoke_in n p x op shown).part
+put_ran x p op m shown es c new ran same at sorted written may is n =
     let there : IsSome (at_number x m) = subst IsSome (sym at) refl in
+    let done : new ≡ (invoke_copy n p x op c).part = is.part ∙ (λ i. (ask_copy n p x op c (sym may.free i)).part) in
     written
     ∙ (put_found x new m sorted there
-    ∙ ((λ i. put_number x (ran n i) m) ∙ ((λ i. (invoke_at n p x op m (sym at i)).part) ∙ ap (λ (m : Copies). (invoke_in n p x op m).part) same)))
+    ∙ ((λ i. put_number x (done i) m) ∙ ((λ i. (invoke_at n p x op m (sym at i)).part) ∙ ap (λ (m : Copies). (invoke_in n p x op m).part) same)))

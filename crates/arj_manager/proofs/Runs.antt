@@ -30,12 +30,6 @@ image_under base e es none b = by (uid_eq (last_uid e.holder) b) refl
 top_gone : (e : Over) → stack_step (Top (last_uid e.holder)) (e ∷ []) ≡ []
 top_gone e = λ i. cond (not (uid_same (last_uid e.holder) i)) (e ∷ []) []
 
-OverlaySame : List Over → Step → Type 0
-OverlaySame es s = overlay_step s (overlay es) ≡ overlay (stack_step s es)
-
-ImageSame : Base → List Over → Step → Type 0
-ImageSame base es s = image_step s (images base es) ≡ images (base_step s base es) (stack_step s es)
-
 one_overlay : (s : Step) (es : List Over) → May s es → overlay_step s (overlay es) ≡ overlay (stack_step s es)
 one_overlay (Write holder tops v) es may = λ i b. sym (over_written holder tops v es b) i
 one_overlay (Nested u h) [] may = absurd may

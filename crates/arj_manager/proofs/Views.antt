@@ -89,14 +89,16 @@ image_written base holder tops v (e ∷ es) may b = by (is_of (last_uid holder) 
 
 -- ---- a nested commit
 
-older_is : (old : Option Value) (now : Value) → Some (older old now) ≡ option_or old (Some now)
+pub older_is : (old : Option Value) (now : Value) → Some (older old now) ≡ option_or old (Some now)
 older_is None now = refl
 older_is (Some image) now = refl
 
 module _ (e : Over) (es : List Over) (none : over_of (last_uid e.holder) es ≡ None) (apart : uid_eq (last_uid e.holder) (last_uid (front e.holder)) ≡ false) where
+  -- whose overlay is the deepest
   abbrev u : Uid
   u = last_uid e.holder
 
+  -- its parent
   abbrev h : Uid
   h = last_uid (front e.holder)
 

@@ -9,6 +9,7 @@ use Rattle.arj_manager.specs.declared.overlay.Overlay.{Overlay}
 abbrev pub shown : Overlay → Over
 shown o = record { holder = uids_of o.path; tops = tops_of o.path; value = o.value }
 
+-- overlays as the protocol has them
 abbrev pub stack_of : List Overlay → List Over
 stack_of overlays = map shown overlays
 

@@ -14,14 +14,17 @@
 #![tactic(auto)]
 
 mod fault;
+mod index;
 mod laws;
 mod manager;
 mod object;
 mod overlay;
 mod ran;
+mod tops;
+mod walk;
 
 pub use fault::ManagerFault;
-pub use laws::{aborts_agree, views_agree};
+pub use laws::{aborts_agree, records_agree, views_agree};
 pub use manager::StateManager;
 pub use object::ActiveObject;
 pub use ran::Ran;

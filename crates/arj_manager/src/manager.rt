@@ -12,16 +12,21 @@ ghost use Rattle.arj_base.specs.Uid.{object};
 ghost use Rattle.arj_class.specs.declared.value.Value.{Value};
 ghost use Rattle.arj_class.specs.Forms.{OpInForm};
 ghost use Rattle.arj_class.specs.Table.{class_of, has_op, op_mode};
+ghost use Rattle.arj_lock.specs.Held.{AreListed};
 ghost use Rattle.arj_lock.specs.Requests.{conflict_with};
 ghost use Rattle.arj_protocol.specs.Copy.{Copy, taken_copy, current};
 ghost use Rattle.arj_protocol.specs.Order.{at_number, put_number};
 ghost use Rattle.arj_protocol.specs.Words.invoked;
-ghost use Rattle.arj_manager.specs.Manager.{invoke_in, ended, changed_in, holds_any, is_any_top};
+ghost use Rattle.arj_manager.specs.Index.{any_answers};
+ghost use Rattle.arj_manager.specs.Manager.{invoke_in, ended, changed_in, holds_any, is_any_top, tops_in};
 ghost use Rattle.arj_manager.specs.Ran.{grant_said, IsValueOf};
 ghost use Rattle.arj_manager.specs.declared.fault.ManagerFault.TheVariants as fault;
 
+use crate::index::{Index, NOBODY, end_known, forget, note, note_one};
+use crate::tops::{in_order, tops_of};
+use crate::walk::{Objects, Question, any, changed_states};
 use crate::{ActiveObject, ManagerFault, Ran};
-use arj_base::{Binding, ObjectState, Path, Seq, Uid};
+use arj_base::{Binding, End, ObjectState, Path, Seq, Uid, Uids};
 use arj_class::Op;
 use std::alloc::{AllocError, Global};
 use std::collections::BTreeMap;
@@ -31,15 +36,21 @@ use std::marker::Model;
 /// numbers.
 #[derive(Drop)]
 pub struct StateManager {
-    objects: BTreeMap<u16, ActiveObject>,
+    objects: Objects,
+    // The objects of each action that is on the path of a lock or of an overlay. So ends, votes and questions about an
+    // action look at these alone.
+    index: Index,
 }
 
 impl Model for StateManager {
+    ghost use Rattle.arj_manager.specs.Index.{IsIndexed};
     ghost use Rattle.arj_manager.specs.Manager.{Copies};
 
     ghost Value = { Copies };
 
     ghost view = { λ m. m.objects.entries };
+
+    ghost invariant = { λ m. IsIndexed m.index m.objects.entries };
 }
 
 impl StateManager {
@@ -49,6 +60,7 @@ impl StateManager {
     {
         StateManager {
             objects: BTreeMap::new(alloc),
+            index: BTreeMap::new(alloc),
         }
     }
 
@@ -67,6 +79,7 @@ impl StateManager {
         ensures kept { OnErr result (self.new ≡ self.old) }
     {
         let copy = ActiveObject::activate(alloc, binding, state)?;
+        note_one(&mut self.index, alloc, NOBODY, NOBODY, x)?;
         self.objects.insert(x, copy)?;
         Ok(())
     }
@@ -95,41 +108,42 @@ impl StateManager {
         let Some(object) = self.objects.get_mut(&x) else {
             return Ok(None);
         };
-        let ran = object.invoke(x, path, op)?;
+        let mode = object.check(x, path, op)?;
+        note(&mut self.index, object.allocator(), path, x)?;
+        let ran = object.run(x, path, op, mode)?;
         Ok(Some(ran))
     }
 
-    /// Each object after an action's commit. It takes no memory.
+    // Each object after an action's end.
+    fn end(&mut self, action: Uid, end: End)
+        ensures { self.new ≡ ended action end self.old }
+    {
+        end_known(&mut self.objects, self.index.get(&action), action, end);
+        forget(&mut self.index, &self.objects, action);
+    }
+
+    /// Each object after an action's commit. It takes no memory, and looks at the objects that the action uses.
     pub fn commit(&mut self, action: Uid)
         ensures { self.new ≡ ended action ending.Commit self.old }
     {
-        self.objects.retain(|_, object| {
-            object.commit(action);
-            true
-        });
+        self.end(action, End::Commit);
     }
 
-    /// Each object after an action's abort. It takes no memory.
+    /// Each object after an action's abort. It takes no memory, and looks at the objects that the action uses.
     pub fn abort(&mut self, action: Uid)
         ensures { self.new ≡ ended action ending.Abort self.old }
     {
-        self.objects.retain(|_, object| {
-            object.abort(action);
-            true
-        });
+        self.end(action, End::Abort);
     }
 
     /// The states that a top made, in increasing order of the objects.
     pub fn changed_states(&self, alloc: Global, top: Uid) -> Result<Seq<ObjectState>, AllocError>
         ensures { IfOk result (λ states. states ≡ changed_in top self.now) }
     {
-        let mut states = Seq::new(alloc);
-        for (x, object) in self.objects.iter() {
-            if let Some(state) = object.changed_state(alloc, top, *x)? {
-                states.push(state)?;
-            }
-        }
-        Ok(states)
+        let Some(known) = self.index.get(&top) else {
+            return Ok(Seq::new(alloc));
+        };
+        changed_states(alloc, &self.objects, &known.objects, top)
     }
 
     /// Lets an object's copy go, with its overlays and its locks.
@@ -139,27 +153,36 @@ impl StateManager {
         self.objects.remove(&x);
     }
 
+    // Whether some object answers yes.
+    fn any(&self, question: Question, action: Uid) -> bool
+        ensures { result ≡ any_answers question action self.now }
+    {
+        let Some(known) = self.index.get(&action) else {
+            return false;
+        };
+        any(&self.objects, &known.objects, question, action)
+    }
+
     /// Whether the action or a descendant of it has a lock.
     pub fn holds(&self, action: Uid) -> bool
         ensures { result ≡ holds_any action self.now }
     {
-        for (_, object) in self.objects.iter() {
-            if object.holds(action) {
-                return true;
-            }
-        }
-        false
+        self.any(Question::Holds, action)
     }
 
     /// Whether the action is the top of a lock's holder, or the serializing action above that top.
     pub fn is_top(&self, action: Uid) -> bool
         ensures { result ≡ is_any_top action self.now }
     {
-        for (_, object) in self.objects.iter() {
-            if object.is_top(action) {
-                return true;
-            }
-        }
-        false
+        self.any(Question::Tops, action)
+    }
+
+    /// The tops of the holders of all locks, each once, in increasing order. A serializing action counts as its own top.
+    /// It looks at all objects.
+    pub fn held(&self, alloc: Global) -> Result<Uids, AllocError>
+        ensures { IfOk result (λ tops. AreListed (tops_in self.now) tops) }
+    {
+        let tops = tops_of(alloc, &self.objects)?;
+        in_order(alloc, tops.as_slice())
     }
 }

@@ -11,16 +11,20 @@ ghost use Rattle.arj_class.specs.declared.value.Value.{Value};
 ghost use Rattle.arj_class.specs.Forms.{OpInForm};
 ghost use Rattle.arj_class.specs.Table.{class_of, has_op, op_mode, is_write, writes, answer_of, value_after};
 ghost use Rattle.arj_lock.specs.Exclusion.{IsOneEach};
+ghost use Rattle.arj_lock.specs.Held.{AreTops};
 ghost use Rattle.arj_lock.specs.Requests.{conflict_with};
-ghost use Rattle.arj_protocol.specs.Copy.{taken_copy, current, invoke_copy, end_copy, changed_state, holds, is_top_in, is_top_over, over_of, overs_committed, rows_asked, row_for, grant_lines};
+ghost use Rattle.arj_protocol.specs.Copy.{taken_copy, current, invoke_copy, end_copy, changed_state, holds, is_top_over, over_of, overs_committed, rows_asked, row_for, grant_lines};
 ghost use Rattle.arj_protocol.specs.Values.{state_value};
 ghost use Rattle.arj_protocol.specs.Words.invoked;
+ghost use Rattle.arj_manager.specs.Index.{answer_on, touches};
 ghost use Rattle.arj_manager.specs.Ran.{grant_said, IsValueOf, MayRun, IsRun};
 ghost use Rattle.arj_manager.specs.declared.fault.ManagerFault.TheVariants as fault;
 
-use crate::overlay::{Overlay, fold, is_top_of, own, take_own, undo, write};
+use crate::index::NOBODY;
+use crate::overlay::{Overlay, fold, is_on_any, is_top_of, own, take_own, undo, write};
+use crate::walk::Question;
 use crate::{ManagerFault, Ran};
-use arj_base::{Binding, Mode, ObjectState, Path, Uid, next_version, object_uid};
+use arj_base::{Binding, End, Mode, ObjectState, Path, Uid, Uids, next_version, object_uid};
 use arj_class::{Answer, ClassFault, Op, Value};
 use arj_lock::{LockTable, rows_are_one_each};
 use arj_protocol::payloads_read_back;
@@ -104,16 +108,42 @@ impl ActiveObject {
         ensures restored { IsErrOf result fault.Payload → ⊥ }
         ensures kept { OnErr result (self.new ≡ self.old) }
     {
+        let mode = self.check(x, path, op)?;
+        Ok(self.run(x, path, op, mode)?)
+    }
+
+    /// Whether the action with this path may do an operation: the object's class has it, and no lock is against it. The
+    /// operation's mode, or the fault.
+    pub fn check(&self, x: u16, path: &Path, op: &Op) -> Result<Mode, ManagerFault>
+        requires { OpInForm op.now }
+        ensures may { OnOk result (MayRun path.now x op.now self.now) }
+        ensures mode { IfOk result (λ mode. mode ≡ op_mode op.now) }
+        ensures wrong_op { IsErrOf result fault.WrongOp ↔ (has_op (class_of (current self.now.base self.now.stack)) op.now ≡ false) }
+        ensures conflict { has_op (class_of (current self.now.base self.now.stack)) op.now ≡ true → IfSome (conflict_with (uids_of path.now) (object x) (op_mode op.now) self.now.rows) (λ met. IsErrOf result (fault.Conflict met.0 met.1)) }
+        ensures named { (holder : Uid) (held : Mode) → IsErrOf result (fault.Conflict holder held) → (n : ℕ) → (invoke_copy n path.now x op.now self.now).reply ≡ Some (invoked.Conflict holder held) }
+        ensures faults { IsErrOf result fault.Memory → ⊥ }
+        ensures restored { IsErrOf result fault.Payload → ⊥ }
+    {
         let Some(mode) = Value::mode(self.current().class(), op) else {
             return Err(ManagerFault::WrongOp);
         };
-        if let Some((holder, mode)) = self.locks.conflict(path, object_uid(x), mode) {
-            return Err(ManagerFault::Conflict { holder, mode });
+        match self.locks.conflict(path, object_uid(x), mode) {
+            Some((holder, mode)) => Err(ManagerFault::Conflict { holder, mode }),
+            None => Ok(mode),
         }
+    }
+
+    /// Does an operation that may be done, in its lock.
+    pub fn run(&mut self, x: u16, path: &Path, op: &Op, mode: Mode) -> Result<Ran, AllocError>
+        requires may { MayRun path.now x op.now self.old }
+        requires mode { mode ≡ op_mode op.now }
+        ensures ran { IfOk result (λ ran. IsRun path.now x op.now self.old self.new ran) }
+        ensures kept { OnErr result (self.new ≡ self.old) }
+    {
         if is_write(mode) {
-            Ok(self.write(x, path, op, mode)?)
+            self.write(x, path, op, mode)
         } else {
-            Ok(self.read(x, path, op, mode)?)
+            self.read(x, path, op, mode)
         }
     }
 
@@ -201,6 +231,16 @@ impl ActiveObject {
         self.locks.drop_action(action);
     }
 
+    /// The object after an end. It takes no memory.
+    pub fn end(&mut self, action: Uid, end: End)
+        ensures { self.new ≡ end_copy action end self.old }
+    {
+        match end {
+            End::Commit => self.commit(action),
+            End::Abort => self.abort(action),
+        }
+    }
+
     /// Whether the action or a descendant of it has a lock.
     pub fn holds(&self, action: Uid) -> bool
         ensures { result ≡ holds action self.now.rows }
@@ -208,11 +248,34 @@ impl ActiveObject {
         self.locks.holds(action)
     }
 
-    /// Whether the action is the top of a lock's holder, or the serializing action above that top.
-    pub fn is_top(&self, action: Uid) -> bool
-        ensures { result ≡ is_top_in action self.now.rows }
+    /// The tops of the holders of its locks, each once, in increasing order.
+    pub fn held(&self, alloc: Global) -> Result<Uids, AllocError>
+        ensures { IfOk result (λ tops. AreTops self.now.rows tops) }
     {
-        self.locks.is_top(action)
+        self.locks.held(alloc)
+    }
+
+    /// What it answers about an action.
+    pub fn answers(&self, question: Question, action: Uid) -> bool
+        ensures { result ≡ answer_on question action self.now }
+    {
+        match question {
+            Question::Holds => self.holds(action),
+            Question::Tops => self.locks.is_top(action),
+            Question::Uses => self.is_used(action),
+        }
+    }
+
+    // Whether the action is on the path of a lock or of an overlay; nobody is taken to be.
+    fn is_used(&self, action: Uid) -> bool
+        ensures { result ≡ touches action self.now }
+    {
+        action == NOBODY || self.locks.holds(action) || is_on_any(self.stack.as_slice(), action)
+    }
+
+    /// Where its memory comes from.
+    pub fn allocator(&self) -> Global {
+        *self.stack.allocator()
     }
 }
 

@@ -1,5 +1,6 @@
 // What open actions wrote on one object, the deepest first.
 ghost use Rattle.std.specs.Prelude.{◌≡◌, ◌≢◌, ◌<◌, ◌∷◌, false, true, filter, not, vec_len, option_map, option_copied, None, Some};
+ghost use Rattle.std.specs.List.{list_any};
 ghost use Rattle.std.specs.Vec.{vec_capacity};
 ghost use Rattle.arj_base.specs.Path.{uids_of, tops_of};
 ghost use Rattle.arj_base.specs.Rows.{is_on};
@@ -52,6 +53,18 @@ pub fn is_top_of(stack: &[Overlay], action: Uid) -> Option<bool>
         }
     }
     None
+}
+
+/// Whether an action is on the path of one of these overlays.
+pub fn is_on_any(stack: &[Overlay], action: Uid) -> bool
+    ensures { result ≡ list_any (λ e. is_on e.holder action) (stack_of stack.now) }
+{
+    for overlay in stack {
+        if overlay.path.is_ancestor_or_self(action) {
+            return true;
+        }
+    }
+    false
 }
 
 /// Puts what an action wrote over what is there. It takes no memory.
