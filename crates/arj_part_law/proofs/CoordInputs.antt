@@ -37,16 +37,16 @@ never b holds fails = let no_way : true ≡ false = sym holds ∙ fails in cc
 -- ---- refusals
 
 -- the reasons behind the first, and that the first doesn't hold
-abbrev behind : List (ℕ × Bool) → List (ℕ × Bool)
+abbrev pub behind : List (ℕ × Bool) → List (ℕ × Bool)
 behind [] = []
 behind (r ∷ rs) = rs
 
-abbrev IsOff : List (ℕ × Bool) → Type 0
+abbrev pub IsOff : List (ℕ × Bool) → Type 0
 IsOff [] = ⊤
 IsOff (r ∷ rs) = r.1 ≡ false
 
 -- where none holds, the first doesn't, nor any behind it
-off : (rs : List (ℕ × Bool)) → first_reason rs ≡ None → IsOff rs × (first_reason (behind rs) ≡ None)
+pub off : (rs : List (ℕ × Bool)) → first_reason rs ≡ None → IsOff rs × (first_reason (behind rs) ≡ None)
 off [] is = (tt, refl)
 off (r ∷ rs) is = by r.1 refl is
   where
@@ -54,7 +54,7 @@ off (r ∷ rs) is = by r.1 refl is
     by true e f = let no_way : ◌≡◌ {A = Option ℕ} (Some r.0) None = f in cc
     by false e f = (e, f)
 
-off_third : (rs : List (ℕ × Bool)) → first_reason rs ≡ None → IsOff (behind (behind rs))
+pub off_third : (rs : List (ℕ × Bool)) → first_reason rs ≡ None → IsOff (behind (behind rs))
 off_third rs is = (off (behind (behind rs)) (off (behind rs) (off rs is).1).1).0
 
 unserial : (k : Kind) → is_serial k ≡ false → k ≢ kind.Serial
@@ -75,7 +75,7 @@ module _ (actions : List Action) (paths : Paths) (tree : IsTree paths) (intents 
           let found : branch_of u c.tree ≡ Some b = (λ i. cond (itself c.tree.node i && itself c.tree.inc i) (at_place k c.tree.branches) None) ∙ e in
           ap (λ v. branch_of v c.tree) (good.tree.lists.places u b found) ∙ found
 
-  asks_by : (b : Branch) → branch_of (actor b.path) c.tree ≡ Some b → is_some b.ended ≡ false → is_serial b.kind ≡ false → IsAsking c.tree (actor b.path) b.path
+  pub asks_by : (b : Branch) → branch_of (actor b.path) c.tree ≡ Some b → is_some b.ended ≡ false → is_serial b.kind ≡ false → IsAsking c.tree (actor b.path) b.path
   asks_by b found opened other = record { branch = b; found = found; path = refl; unserial = unserial b.kind other; opened = opened }
 
   refused : {P : Type 0} (reasons : Branch → Coord → List (ℕ × Bool)) → refused_by reasons c None ≡ None → P

@@ -39,12 +39,12 @@ never b holds fails = let no_way : true ≡ false = sym holds ∙ fails in cc
 
 -- ---- trees that differ in nothing that matters
 
-record IsSameTree (t v : Tree) : Type 0 where
-  back : (u : Uid) (b : Branch) → branch_of u v ≡ Some b → (c : Branch) × (branch_of u t ≡ Some c) × (c.path ≡ b.path) × (c.kind ≡ b.kind) × (c.ended ≡ b.ended)
-  forth : (u : Uid) (c : Branch) → branch_of u t ≡ Some c → (b : Branch) × (branch_of u v ≡ Some b) × (c.path ≡ b.path) × (c.kind ≡ b.kind) × (c.ended ≡ b.ended)
-  ends : (r : Uid) → ends_of r v ≡ ends_of r t
-  every : (b : Branch) → In b v.branches → (c : Branch) × In c t.branches × (c.path ≡ b.path) × (c.ended ≡ b.ended)
-  own : (u : Uid) → is_own u v ≡ is_own u t
+pub record IsSameTree (t v : Tree) : Type 0 where
+  pub back : (u : Uid) (b : Branch) → branch_of u v ≡ Some b → (c : Branch) × (branch_of u t ≡ Some c) × (c.path ≡ b.path) × (c.kind ≡ b.kind) × (c.ended ≡ b.ended)
+  pub forth : (u : Uid) (c : Branch) → branch_of u t ≡ Some c → (b : Branch) × (branch_of u v ≡ Some b) × (c.path ≡ b.path) × (c.kind ≡ b.kind) × (c.ended ≡ b.ended)
+  pub ends : (r : Uid) → ends_of r v ≡ ends_of r t
+  pub every : (b : Branch) → In b v.branches → (c : Branch) × In c t.branches × (c.path ≡ b.path) × (c.ended ≡ b.ended)
+  pub own : (u : Uid) → is_own u v ≡ is_own u t
 
 pub any_false : (p : Branch → Bool) (bs : List Branch) → ((b : Branch) → In b bs → p b ≡ false) → list_any p bs ≡ false
 any_false p [] h = refl
@@ -68,7 +68,7 @@ module _ (t v : Tree) (same : IsSameTree t v) where
   same_childless : (u : Uid) → has_open_child u t ≡ false → has_open_child u v ≡ false
   same_childless u none = any_false (λ b. is_parent u (before_last (uids_of b.path)) && not (is_some b.ended)) v.branches (λ b i. let c = same.every b i in (λ j. is_parent u (before_last (uids_of (sym c.2 j))) && not (is_some (sym c.3 j))) ∙ none_in (λ (d : Branch). is_parent u (before_last (uids_of d.path)) && not (is_some d.ended)) c.0 t.branches none c.1)
 
-  same_asking : (u : Uid) (p : Path) → IsAsking t u p → IsAsking v u p
+  pub same_asking : (u : Uid) (p : Path) → IsAsking t u p → IsAsking v u p
   same_asking u p a = let b = same.forth u a.branch a.found in record { branch = b.0; found = b.1; path = sym b.2 ∙ a.path; unserial = λ is. a.unserial (b.3 ∙ is); opened = ap is_some (sym b.4) ∙ a.opened }
 
   same_voting : (u : Uid) (p : Plan) → IsVoting t u p → IsVoting v u p
@@ -98,7 +98,7 @@ module _ (t v : Tree) (same : IsSameTree t v) where
       doing_in u d f = (λ i. cond ((ap (is_own u) is ∙ sym (same.own u)) i) (at_place u.num c.doings) None) ∙ f
 
 -- an object of a root
-uses_same : (p : Path) (x : ℕ) (t : Tree) → IsSameTree t (uses_object p x t)
+pub uses_same : (p : Path) (x : ℕ) (t : Tree) → IsSameTree t (uses_object p x t)
 uses_same p x t = record {
   back = λ u b f. (b, f, refl, refl, refl);
   forth = λ u c f. (c, f, refl, refl, refl);
@@ -181,7 +181,7 @@ busy_on u f c others its = by (doing_of u c) refl
     by None none w d is = others w d is (λ same. let no_way : ◌≡◌ {A = Option Doing} None (Some d) = sym none ∙ ap (λ v. doing_of v c) (sym same) ∙ is in cc)
     by (Some old) found w d is = ⊎_elim (λ g. subst (λ v. IsBusy c.tree v d.now) (sym g.0) (subst (λ (x : Doing). IsBusy c.tree u x.now) g.1 (its old))) (λ g. others w d g.1 g.0) (set_cases u (f old) old c found w d is)
 
-on_tree : (u : Uid) (f : Doing → Doing) (c : Coord) → (on_doing u f c).tree ≡ c.tree
+pub on_tree : (u : Uid) (f : Doing → Doing) (c : Coord) → (on_doing u f c).tree ≡ c.tree
 on_tree u f c = by (doing_of u c)
   where
     by : (o : Option Doing) → (change_doing f u c o).tree ≡ c.tree
@@ -196,10 +196,10 @@ module _ (acts : List Action) (paths : Paths) where
   with_busy : (c e : Coord) → e.tree ≡ c.tree → AreBusy e → Good c → Good e
   with_busy c e is busy good = record { tree = subst (IsGoodTree paths) (sym is) good.tree; home = subst (AreAtHome acts) (sym is) good.home; known = λ u b f. good.known u b (ap (branch_of u) (sym is) ∙ f); busy = busy }
 
-  good_same : (c e : Coord) → e.tree ≡ c.tree → e.doings ≡ c.doings → Good c → Good e
+  pub good_same : (c e : Coord) → e.tree ≡ c.tree → e.doings ≡ c.doings → Good c → Good e
   good_same c e tree doings good = with_busy c e tree (λ u d f. subst (λ t. IsBusy t u d.now) (sym tree) (good.busy u d ((λ i. cond (is_own u (sym tree i)) (at_place u.num (sym doings i)) None) ∙ f))) good
 
-  good_on : (u : Uid) (f : Doing → Doing) (c : Coord) → ((d : Doing) → IsBusy c.tree u (f d).now) → Good c → Good (on_doing u f c)
+  pub good_on : (u : Uid) (f : Doing → Doing) (c : Coord) → ((d : Doing) → IsBusy c.tree u (f d).now) → Good c → Good (on_doing u f c)
   good_on u f c its good = with_busy c (on_doing u f c) (on_tree u f c) (busy_on u f c (λ w d is other. good.busy w d is) its) good
 
   -- ---- calls
@@ -207,7 +207,7 @@ module _ (acts : List Action) (paths : Paths) where
   good_goes : (s : Steps) (c : Coord) → IsAsking c.tree (actor s.path) s.path → Good c → Good (goes_on s c).part
   good_goes s c asking good = good_same (on_doing (actor s.path) (λ (d : Doing). record d { req = s.req; now = Calling s }) c) (goes_on s c).part refl refl (good_on (actor s.path) (λ (d : Doing). record d { req = s.req; now = Calling s }) c (λ d. asking) good)
 
-  good_uses : (p : Path) (x : ℕ) (c : Coord) → Good c → Good (record c { tree = uses_object p x c.tree })
+  pub good_uses : (p : Path) (x : ℕ) (c : Coord) → Good c → Good (record c { tree = uses_object p x c.tree })
   good_uses p x c good = good_tree c.tree (uses_object p x c.tree) (uses_same p x c.tree) acts paths c refl good
 
   pub good_call : (p : Path) (x : ℕ) (o : Op) (c : Coord) → IsAsking c.tree (actor p) p → Good c → Good (call p x o c).part
@@ -318,7 +318,7 @@ module _ (acts : List Action) (paths : Paths) where
         by None is f = good.known w d f
         by (Some b) is f = ⊎_elim (λ g. subst (λ (x : Branch). Contains acts (action_of x)) g.1 (good.known u b is)) (λ g. good.known w d g.1) (after_cases u e c.tree b is w d f)
 
-    good_ended_c : (u : Uid) (e : End) (c : Coord) → has_open_child u c.tree ≡ false → Good c → Good (ended u e c)
+    pub good_ended_c : (u : Uid) (e : End) (c : Coord) → has_open_child u c.tree ≡ false → Good c → Good (ended u e c)
     good_ended_c u e c none good = with_tree (on_tree u (λ (d : Doing). record d { now = Idle }) (record c { tree = ended_at u e c.tree }))
       where
         with_tree : (ended u e c).tree ≡ ended_at u e c.tree → Good (ended u e c)
@@ -356,16 +356,16 @@ module _ (acts : List Action) (paths : Paths) where
     -- ---- commits
 
     -- a plan further on
-    abbrev SamePlan : Plan → Plan → Type 0
+    abbrev pub SamePlan : Plan → Plan → Type 0
     SamePlan p q = (q.path ≡ p.path) × (q.ends ≡ p.ends)
 
-    abbrev IsStepOf : Plan → CommitStep → Type 0
+    abbrev pub IsStepOf : Plan → CommitStep → Type 0
     IsStepOf p (Stays m) = SamePlan p (plan_of m)
     IsStepOf p (Asks m) = SamePlan p (plan_of m)
     IsStepOf p (Decides q) = SamePlan p q
     IsStepOf p (Aborts why q) = ⊤
 
-    planned : (t : Tree) (u : Uid) (p q : Plan) → SamePlan p q → IsVoting t u p → IsVoting t u q
+    pub planned : (t : Tree) (u : Uid) (p q : Plan) → SamePlan p q → IsVoting t u p → IsVoting t u q
     planned t u p q same v = record {
       asking = subst (IsAsking t u) (sym same.0) v.asking;
       top = v.top;
@@ -383,7 +383,7 @@ module _ (acts : List Action) (paths : Paths) where
     prepare_step [] p q same = confirm_step q.used p q same
     prepare_step (n ∷ ns) p q same = same
 
-    vote_step : (ns : List ℕ) (p q : Plan) → SamePlan p q → IsStepOf p (begin_vote ns q)
+    pub vote_step : (ns : List ℕ) (p q : Plan) → SamePlan p q → IsStepOf p (begin_vote ns q)
     vote_step [] p q same = prepare_step (targets_of q) p q same
     vote_step (n ∷ ns) p q same = same
 
@@ -399,7 +399,7 @@ module _ (acts : List Action) (paths : Paths) where
     marks_same [] p q same = same
     marks_same (n ∷ ns) p q same = marks_same ns p (marks_store n q) same
 
-    answer_step : (from : ℕ) (m : Machine) (r : Reply) → IsStepOf (plan_of m) (commit.answered from m r).step
+    pub answer_step : (from : ℕ) (m : Machine) (r : Reply) → IsStepOf (plan_of m) (commit.answered from m r).step
     answer_step from (Voting p left) (Reply.Voted (voted.Yes states)) = votes_step (without_number from left) p (record p { changed = with_states states p.changed }) (refl, refl)
     answer_step from (Voting p left) (Reply.Voted (voted.Changed w)) = tt
     answer_step from (Voting p left) (Reply.Bound r) = (refl, refl)
@@ -432,7 +432,7 @@ module _ (acts : List Action) (paths : Paths) where
     answer_step from (Confirming p) (Reply.Voted r) = (refl, refl)
     answer_step from (Confirming p) (Reply.Prepared r) = (refl, refl)
 
-    giveup_step : (m : Machine) → IsStepOf (plan_of m) (commit.given_up m).step
+    pub giveup_step : (m : Machine) → IsStepOf (plan_of m) (commit.given_up m).step
     giveup_step (Voting p left) = tt
     giveup_step (Preparing p left) = stores_step [] p (marks_stores left p) (marks_same left p p (refl, refl))
     giveup_step (Confirming p) = tt
@@ -481,7 +481,7 @@ module _ (acts : List Action) (paths : Paths) where
 
     -- ---- answers and giveups
 
-    actor_is : (u : Uid) (p : Path) (c : Coord) → Good c → IsAsking c.tree u p → actor p ≡ u
+    pub actor_is : (u : Uid) (p : Path) (c : Coord) → Good c → IsAsking c.tree u p → actor p ≡ u
     actor_is u p c good a = ap actor (sym a.path) ∙ good.tree.lists.places u a.branch a.found
 
     pub good_heard : (from : ℕ) (a : Asked) (r : Reply) (intents : List (Uid × Intent)) (c : Coord) → Good c → Good (heard from a r intents c).part
@@ -544,6 +544,17 @@ module _ (acts : List Action) (paths : Paths) where
 
     -- ---- commits of actions
 
+    pub voting_at : (b : Branch) (c : Coord) → branch_of (actor b.path) c.tree ≡ Some b → is_some b.ended ≡ false → has_open_child (actor b.path) c.tree ≡ false → b.kind ≢ kind.Serial → b.kind ≢ kind.Nested → Good c
+        → IsVoting c.tree (actor b.path) (plan_for b.path (last_req (doing_of (actor b.path) c)) (root_at (root_of b.path) c) c)
+    voting_at b c found opened none unserial unnested good = record {
+      asking = record { branch = b; found = found; path = refl; unserial = unserial; opened = opened };
+      top = λ d f is. let k : ◌≡◌ {A = Option Branch} (Some b) (Some d) = sym found ∙ f in let one : b ≡ d = cc in unnested (ap (λ (x : Branch). x.kind) one ∙ is);
+      childless = none;
+      below = all_listed paths tree c.tree good.tree.lists (actor b.path) b found (all_over paths tree c.tree good.tree.lists (actor b.path) good.tree.closed none);
+      over = λ w is. good.tree.lists.over (root_of b.path) w is;
+      whole = good.tree.lists.whole (root_of b.path);
+    }
+
     pub good_commit : (b : Branch) (intents : List (Uid × Intent)) (c : Coord) → branch_of (actor b.path) c.tree ≡ Some b → is_some b.ended ≡ false → has_open_child (actor b.path) c.tree ≡ false → Good c → Good (commit_action b intents c).part
     good_commit b intents c found opened none good = by b.doomed
       where
@@ -553,18 +564,8 @@ module _ (acts : List Action) (paths : Paths) where
         plan : Plan
         plan = plan_for b.path (last_req (doing_of u c)) (root_at (root_of b.path) c) c
 
-        voting : b.kind ≢ kind.Serial → b.kind ≢ kind.Nested → IsVoting c.tree u plan
-        voting unserial unnested = record {
-          asking = record { branch = b; found = found; path = refl; unserial = unserial; opened = opened };
-          top = λ d f is. let k : ◌≡◌ {A = Option Branch} (Some b) (Some d) = sym found ∙ f in let one : b ≡ d = cc in unnested (ap (λ (x : Branch). x.kind) one ∙ is);
-          childless = none;
-          below = all_listed paths tree c.tree good.tree.lists u b found (all_over paths tree c.tree good.tree.lists u good.tree.closed none);
-          over = λ w is. good.tree.lists.over (root_of b.path) w is;
-          whole = good.tree.lists.whole (root_of b.path);
-        }
-
         top : b.kind ≢ kind.Serial → b.kind ≢ kind.Nested → Good (commit_top b.path intents c).part
-        top unserial unnested = good_step_commit u plan (commit.start plan).step intents c (voting unserial unnested) (vote_step (servers_of plan) plan plan (refl, refl)) good
+        top unserial unnested = good_step_commit u plan (commit.start plan).step intents c (voting_at b c found opened none unserial unnested good) (vote_step (servers_of plan) plan plan (refl, refl)) good
 
         kinds : (k : Kind) → b.kind ≡ k → Good (commit_open b intents c k).part
         kinds kind.Nested is = good_ended_c u ending.Commit c none good

@@ -19,6 +19,7 @@ mod KeptCalls
 mod Keys
 mod Locked
 mod Pairs
+mod Sends
 mod ServerRuns
 mod Stands
 mod Stores

@@ -25,10 +25,10 @@ never b holds fails = let no_way : true ≡ false = sym holds ∙ fails in cc
 
 -- ---- lists of a tree, for all actions that were begun
 
-below_all : (acts : List Action) (t : Tree) (u : Uid) (ends : List (Uid × End)) → AreAtHome acts t → is_own u t ≡ true → HasAllIn t u ends → HasAllBelow acts u ends
+pub below_all : (acts : List Action) (t : Tree) (u : Uid) (ends : List (Uid × End)) → AreAtHome acts t → is_own u t ≡ true → HasAllIn t u ends → HasAllBelow acts u ends
 below_all acts t u ends home own all a k on other = let b = home a u k on own in all (act_of a) b.0 b.1 (ap (λ p. is_on (uids_of p) u) b.2 ∙ on) other
 
-ordered_by : (acts : List Action) (t : Tree) (before es : List (Uid × End)) → AreAtHome acts t → ((u : Uid) → has_end_of u es ≡ true → is_own u t ≡ true) → AreWhole t before es → AreOrdered acts before es
+pub ordered_by : (acts : List Action) (t : Tree) (before es : List (Uid × End)) → AreAtHome acts t → ((u : Uid) → has_end_of u es ≡ true → is_own u t ≡ true) → AreWhole t before es → AreOrdered acts before es
 ordered_by acts t before [] home own whole = tt
 ordered_by acts t before (e ∷ es) home own whole = ((λ is. inr (below_all acts t e.0 before home (own e.0 (has_here e es)) (whole.0 is))), ordered_by acts t (before ++ e ∷ []) es home (λ u is. own u (has_later u e es is)) whole.1)
 

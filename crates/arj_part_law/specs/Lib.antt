@@ -3,6 +3,7 @@ pub mod Coords
 pub mod Copies
 pub mod Cuts
 pub mod Entries
+pub mod Messages
 pub mod Objects
 pub mod Rows
 pub mod Servers

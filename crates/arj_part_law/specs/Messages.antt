@@ -1,0 +1,51 @@
+-- What messages say of actions and their ends, for ever.
+use Rattle.std.specs.Prelude.{◌≡◌, ◌≢◌, List, [], Option, Some, None, Contains, ⊤}
+use Rattle.std.specs.List.{AllByRecursion}
+use Rattle.arj_protocol.specs.Words.{Uid, Path, Head, Ask, Message, asks}
+use Rattle.arj_protocol.specs.Words.kind
+use Rattle.arj_protocol.specs.Words.ask
+use Rattle.arj_protocol.specs.Words.message
+use Rattle.arj_protocol.specs.Ask.{actor}
+use Rattle.arj_protocol.specs.Effect.{Effect, Say, Send, Do, Intent}
+use Rattle.arj_part_law.specs.Actions.{Action, act_of}
+use Rattle.arj_part_law.specs.Servers.{AreOfOthers, HasAllBelow, AreOrdered}
+
+-- the path is that of an action that was begun, and that isn't a serializing one
+abbrev pub IsAsker : List Action → Path → Type 0
+IsAsker acts p = (a : Action) × Contains acts a × (a.path ≡ p) × (a.kind ≢ kind.Serial)
+
+-- a top, or a serializing action, that was begun
+abbrev pub IsTopAction : List Action → Uid → Type 0
+IsTopAction acts u = (a : Action) × Contains acts a × (act_of a ≡ u) × (a.kind ≢ kind.Nested)
+
+-- A request is by the path of its action. An Invoke brings no end of its own path, a Vote the ends of all below the top,
+-- and both bring ends in order.
+abbrev pub FitsAsk : List Action → Head → Ask → Type 0
+FitsAsk acts h (ask.Invoke x b i ends op) = IsAsker acts h.path × AreOfOthers h.path ends × AreOrdered acts [] ends
+FitsAsk acts h (ask.Vote i ties ends) = IsAsker acts h.path × HasAllBelow acts (actor h.path) ends × AreOrdered acts [] ends
+FitsAsk acts h _ = IsAsker acts h.path
+
+-- a told brings ends in order
+abbrev pub FitsOther : List Action → Message → Type 0
+FitsOther acts (message.Told m) = AreOrdered acts [] m.ends
+FitsOther acts _ = ⊤
+
+abbrev pub FitsAsked : List Action → Message → Option (Head × Ask) → Type 0
+FitsAsked acts m None = FitsOther acts m
+FitsAsked acts m (Some a) = FitsAsk acts a.0 a.1
+
+abbrev pub FitsMessage : List Action → Message → Type 0
+FitsMessage acts m = FitsAsked acts m (asks m)
+
+abbrev pub FitsEffect : List Action → Effect → Type 0
+FitsEffect acts (Send to m) = FitsMessage acts m
+FitsEffect acts (Say b) = ⊤
+FitsEffect acts (Do w) = ⊤
+
+-- each message that is sent fits
+abbrev pub AllFit : List Action → List Effect → Type 0
+AllFit acts outs = AllByRecursion (FitsEffect acts) outs
+
+-- records are of tops
+abbrev pub AreOfTops : List Action → List (Uid × Intent) → Type 0
+AreOfTops acts intents = AllByRecursion (λ (e : Uid × Intent). IsTopAction acts e.0) intents
