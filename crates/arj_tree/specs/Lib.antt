@@ -1,0 +1,4 @@
+pub mod Faults
+pub mod Open
+pub mod Stands
+pub mod Tally
