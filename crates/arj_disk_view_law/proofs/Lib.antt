@@ -1,3 +1,7 @@
+pub mod AskingSteps
+pub mod EntrySteps
 pub mod Keys
+pub mod Marks
 pub mod PairSteps
+pub mod Planned
 pub mod StoreSteps

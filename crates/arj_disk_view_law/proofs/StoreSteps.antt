@@ -21,7 +21,7 @@ use Rattle.arj_disk_view_law.proofs.Keys as keys
 use Rattle.arj_disk_view_law.proofs.PairSteps.{of_cases, prepares, prepares_none, aborts_own, aborts_other, commits_own, commits_other, parts_own, parts_other, other_states, whose}
 
 -- an action is prepared or not
-prepared_is : (a : Uid) (d : Pair) → is_prepared a d ≡ true → (states : List ObjectState) × (at_uid a d.pend ≡ Some states)
+pub prepared_is : (a : Uid) (d : Pair) → is_prepared a d ≡ true → (states : List ObjectState) × (at_uid a d.pend ≡ Some states)
 prepared_is a d is = by (at_uid a d.pend) refl is
   where
     by : (o : Option (List ObjectState)) → at_uid a d.pend ≡ o → is_some o ≡ true → (states : List ObjectState) × (at_uid a d.pend ≡ Some states)

@@ -7,6 +7,10 @@
 //! stores with what messages to them claim. What it gives upward: each store's work keeps the tie, done or stopped.
 #![tactic(auto)]
 
+mod asking;
+mod entries;
 mod stores;
 
+pub use asking::{plans_are_seen, prepare_steps_are_seen};
+pub use entries::ends_of_entries_are_seen;
 pub use stores::stores_are_seen;
