@@ -1,11 +1,13 @@
 //! Work for the benches: without words it does nothing; with a number of rows and a number of requests it makes that many
 //! requests of a lock table with that many rows, and prints what they were answered. With `pass`, a number of locks and a
-//! number of passes, an action that is nested deep takes that many locks, and they pass that often to the parent.
+//! number of passes, an action that is nested deep takes that many locks, and they pass that often to the parent. With
+//! `objects`, a number of objects and a number of tops, that many tops work on that many active objects.
 //!
-//! It stands on `arj_lock`. The time is taken from outside, by `bench/locks`.
+//! It stands on `arj_lock` and `arj_manager`. The time is taken from outside, by `bench/locks` and `bench/objects`.
 #![tactic(auto)]
 
 mod locks;
+mod objects;
 mod passes;
 
 use locks::{Count, fill, request_all};
@@ -36,6 +38,12 @@ fn run(rt: &HostRuntime) -> io::Result<bool> {
         };
         return pass(rt, requests.as_str(), passes.as_str());
     }
+    if rows.as_str() == "objects" {
+        let Some(tops) = words.next() else {
+            return Ok(false);
+        };
+        return work(rt, requests.as_str(), tops.as_str());
+    }
     let (Ok(rows), Ok(requests)) = (
         rows.as_str().parse::<u16>(),
         requests.as_str().parse::<u32>(),
@@ -63,5 +71,20 @@ fn pass(rt: &HostRuntime, locks: &str, passes: &str) -> io::Result<bool> {
     let first = depth_of_holder(&table, 1);
     let last = depth_of_holder(&table, locks);
     println!(rt; "{locks} locks, {passes} passes: to depth {first} and {last}")?;
+    Ok(true)
+}
+
+// Lets tops work, as the words ask, and answers whether they are right.
+fn work(rt: &HostRuntime, objects: &str, tops: &str) -> io::Result<bool> {
+    let (Ok(objects), Ok(tops)) = (objects.parse::<u16>(), tops.parse::<u32>()) else {
+        return Ok(false);
+    };
+    if objects == 0 {
+        return Ok(false);
+    }
+    let mut manager = objects::fill(rt.alloc(), objects)?;
+    let states = objects::work_all(rt.alloc(), &mut manager, objects, tops)?;
+    let sum = objects::sum(&manager, objects);
+    println!(rt; "{objects} objects, {tops} tops: {states} states, sum {sum}")?;
     Ok(true)
 }
