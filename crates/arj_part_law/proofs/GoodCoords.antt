@@ -115,7 +115,7 @@ uses_same p x t = record {
     by r (inr other) = ends_elsewhere (root_of p) f t r other
 
 -- a doomed action
-doomed_same : (u : Uid) (t : Tree) → IsSameTree t (doomed_at u t)
+pub doomed_same : (u : Uid) (t : Tree) → IsSameTree t (doomed_at u t)
 doomed_same u t = by (branch_of u t) refl
   where
     by : (o : Option Branch) → branch_of u t ≡ o → IsSameTree t (doomed_branch u t o)

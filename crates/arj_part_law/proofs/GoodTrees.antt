@@ -71,6 +71,16 @@ module _ {A : Type 0} where
   get_still zero a c (x ∷ xs) is = is
   get_still (suc k) a c (x ∷ xs) is = get_still k a c xs is
 
+  -- what stands in a list has a place
+  pub placed : (a : A) (items : List A) → In a items → (k : ℕ) × (at_place k items ≡ Some a)
+  placed a [] i = absurd i
+  placed a (x ∷ xs) (inl same) = (1, ap Some same)
+  placed a (x ∷ xs) (inr i) = let p = placed a xs i in (suc p.0, further p.0 p.1)
+    where
+      further : (k : ℕ) → at_place k xs ≡ Some a → at_place (suc k) (x ∷ xs) ≡ Some a
+      further zero is = let no_way : ◌≡◌ {A = Option A} None (Some a) = is in cc
+      further (suc k) is = is
+
   get_last : (a : A) (items : List A) → slice_get (items ++ a ∷ []) (length items) ≡ Some a
   get_last a [] = refl
   get_last a (x ∷ xs) = get_last a xs
@@ -385,7 +395,7 @@ module _ (paths : Paths) (tree : IsTree paths) where
         done = λ w c i f. ⊎_elim (λ same. let a = rest.was w c f in let r = rest.stays w a.0 a.1 in let k : ◌≡◌ {A = Option Branch} (Some r.0) (Some c) = sym r.1 ∙ f in let is : r.0 ≡ c = cc in ap (λ (d : Branch). is_some d.ended) (sym is) ∙ r.2 (one.done w a.0 (inl same) a.1)) (λ j. rest.done w c j f) i;
       }
 
-in_latest : (x : Uid) (bs : List Branch) (found : List Uid) → In x (latest_first bs found) → In x found ⊎ ((b : Branch) × In b bs × (actor b.path ≡ x))
+pub in_latest : (x : Uid) (bs : List Branch) (found : List Uid) → In x (latest_first bs found) → In x found ⊎ ((b : Branch) × In b bs × (actor b.path ≡ x))
 in_latest x [] found i = inl i
 in_latest x (b ∷ bs) found i = ⊎_elim (λ j. ⊎_elim (λ same. inr (b, inl refl, same)) (λ old. inl old) j) (λ f. inr (f.0, inr f.1, f.2)) (in_latest x bs (actor b.path ∷ found) i)
 
@@ -398,7 +408,7 @@ latest_in [] found b i = absurd i
 latest_in (c ∷ bs) found b (inl same) = latest_has bs (actor c.path ∷ found) (actor b.path) (inl (ap (λ (d : Branch). actor d.path) same))
 latest_in (c ∷ bs) found b (inr i) = latest_in bs (actor c.path ∷ found) b i
 
-in_more : (x : Uid) (us : List Uid) (u : Uid) → In x (us ++ u ∷ []) → In x us ⊎ (u ≡ x)
+pub in_more : (x : Uid) (us : List Uid) (u : Uid) → In x (us ++ u ∷ []) → In x us ⊎ (u ≡ x)
 in_more x [] u (inl same) = inr same
 in_more x [] u (inr i) = absurd i
 in_more x (w ∷ us) u (inl same) = inl (inl same)

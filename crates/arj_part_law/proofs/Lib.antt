@@ -2,6 +2,7 @@ mod Begun
 mod CallLocks
 mod CoordInputs
 mod Cuts
+mod Decided
 mod EntryLocks
 mod Gone
 mod GoodCalls

@@ -1,5 +1,5 @@
 -- What a coordinator sends fits the actions that were begun.
-use Rattle.std.proofs.Common.{◌≡◌, ◌≢◌, ◌+◌, ◌==◌, zero, suc, arith, ℕ, List, [], ◌∷◌, ◌++◌, Bool, true, false, cond, not, ◌&&◌, ◌||◌, map, Option, Some, None, refl, sym, ◌∙◌, ap, subst, inl, inr}
+use Rattle.std.proofs.Common.{◌≡◌, ◌≢◌, ◌+◌, ◌==◌, arith, ℕ, List, [], ◌∷◌, ◌++◌, Bool, true, false, cond, not, ◌&&◌, ◌||◌, map, Option, Some, None, refl, sym, ◌∙◌, ap, subst, inl, inr}
 use Rattle.std.specs.Prelude.{is_some}
 use Rattle.std.specs.List.{flat_map}
 use Rattle.std.proofs.lemmas.Bool.{and_parts}
@@ -30,7 +30,7 @@ use Rattle.arj_part_law.specs.Messages.{IsAsker, IsTopAction, FitsAsk, FitsMessa
 use Rattle.arj_part_law.specs.Servers.{AreOfOthers, HasAllBelow, AreOrdered}
 use Rattle.arj_part_law.proofs.CoordInputs.{named_found, asks_by, off, off_third}
 use Rattle.arj_part_law.proofs.GoodCoords.{good_again, uses_same, same_asking, good_uses, good_same, good_on, on_tree, good_ended_c, good_abort, answer_step, giveup_step, vote_step, planned, IsStepOf, actor_is, voting_at}
-use Rattle.arj_part_law.proofs.GoodTrees.{found_by}
+use Rattle.arj_part_law.proofs.GoodTrees.{found_by, placed}
 use Rattle.arj_part_law.proofs.Keys.{at_in}
 use Rattle.arj_part_law.proofs.ToldInOrder.{below_all, ordered_by, tree_ordered, front_ordered, asking_others, single_ordered, abort_ordered}
 
@@ -76,6 +76,17 @@ module _ (actions : List Action) where
   fit_request h (ask.Vote i ties ends) f = f
   fit_request h (ask.Prepare states) f = f
   fit_request h (ask.Confirm g e i) f = f
+
+-- ---- what is asked again leaves the tree
+
+pub asks_all_tree : (p : Path) (req : ℕ) (as_asked : List (ℕ × Ask)) (c : Coord) → (let d = asks_all p req as_asked c in let e = d.part in e.tree) ≡ c.tree
+asks_all_tree p req [] c = refl
+asks_all_tree p req (a ∷ rest) c = asks_all_tree p req rest (asks_node p req a c).part
+
+pub again_tree : (c : Coord) (n : Now) → (let d = again_now c n in let e = d.part in e.tree) ≡ c.tree
+again_tree c Idle = refl
+again_tree c (Calling s) = refl
+again_tree c (Committing m) = asks_all_tree (plan_of m).path (plan_of m).req (commit.waiting m) c
 
 module _ (actions : List Action) (begun : AreBegun actions) (paths : Paths) (tree : IsTree paths) where
   abbrev Sent : List Effect → Type 0
@@ -242,15 +253,6 @@ module _ (actions : List Action) (begun : AreBegun actions) (paths : Paths) (tre
       by (Some d) is = now d.now (good.busy u d is)
 
   -- what waits, of some actions at work
-  asks_all_tree : (p : Path) (req : ℕ) (as_asked : List (ℕ × Ask)) (c : Coord) → (let d = asks_all p req as_asked c in let e = d.part in e.tree) ≡ c.tree
-  asks_all_tree p req [] c = refl
-  asks_all_tree p req (a ∷ rest) c = asks_all_tree p req rest (asks_node p req a c).part
-
-  again_tree : (c : Coord) (n : Now) → (let d = again_now c n in let e = d.part in e.tree) ≡ c.tree
-  again_tree c Idle = refl
-  again_tree c (Calling s) = refl
-  again_tree c (Committing m) = asks_all_tree (plan_of m).path (plan_of m).req (commit.waiting m) c
-
   fit_again_from : (t : Tree) (ds : List Doing) (c : Coord) → c.tree ≡ t → ((d : Doing) → In d ds → (u : Uid) × IsBusy t u d.now) → IsGoodCoord actions paths c → Sent (again_all ds c).outs
   fit_again_from t [] c same busy good = tt
   fit_again_from t (d ∷ ds) c same busy good =
@@ -266,15 +268,6 @@ module _ (actions : List Action) (begun : AreBegun actions) (paths : Paths) (tre
   pub fit_again : (c : Coord) → IsGoodCoord actions paths c → Sent (again_all c.doings c).outs
   fit_again c good = fit_again_from c.tree c.doings c refl (λ d i. by d (placed d c.doings i)) good
     where
-      placed : (d : Doing) (ds : List Doing) → In d ds → (k : ℕ) × (at_place k ds ≡ Some d)
-      placed d [] i = absurd i
-      placed d (e ∷ ds) (inl same) = (1, ap Some same)
-      placed d (e ∷ ds) (inr i) = let p = placed d ds i in (suc p.0, by_place p.0 p.1)
-        where
-          by_place : (k : ℕ) → at_place k ds ≡ Some d → at_place (suc k) (e ∷ ds) ≡ Some d
-          by_place zero is = let no_way : ◌≡◌ {A = Option Doing} None (Some d) = is in cc
-          by_place (suc k) is = is
-
       itself : (n : ℕ) → (n == n) ≡ true
       itself n = grind arith
 

@@ -1,12 +1,14 @@
 -- What messages say of actions and their ends, for ever.
-use Rattle.std.specs.Prelude.{◌≡◌, ◌≢◌, List, [], Option, Some, None, Contains, ⊤}
-use Rattle.std.specs.List.{AllByRecursion}
-use Rattle.arj_protocol.specs.Words.{Uid, Path, Head, Ask, Message, asks}
-use Rattle.arj_protocol.specs.Words.kind
+use Rattle.std.specs.Prelude.{◌≡◌, ◌≢◌, ◌⊎◌, ◌&&◌, Bool, List, [], true, false, Option, Some, None, Contains, ⊤}
+use Rattle.std.specs.List.{AllByRecursion, list_any}
+use Rattle.arj_protocol.specs.Words.{Uid, Path, End, Head, Ask, Message, asks, uid_eq}
 use Rattle.arj_protocol.specs.Words.ask
+use Rattle.arj_protocol.specs.Words.ending
+use Rattle.arj_protocol.specs.Words.kind
 use Rattle.arj_protocol.specs.Words.message
 use Rattle.arj_protocol.specs.Ask.{actor}
 use Rattle.arj_protocol.specs.Effect.{Effect, Say, Send, Do, Intent}
+use Rattle.arj_protocol.specs.Tree.{Tree, Branch, branch_of}
 use Rattle.arj_part_law.specs.Actions.{Action, act_of}
 use Rattle.arj_part_law.specs.Servers.{AreOfOthers, HasAllBelow, AreOrdered}
 
@@ -49,3 +51,34 @@ AllFit acts outs = AllByRecursion (FitsEffect acts) outs
 -- records are of tops
 abbrev pub AreOfTops : List Action → List (Uid × Intent) → Type 0
 AreOfTops acts intents = AllByRecursion (λ (e : Uid × Intent). IsTopAction acts e.0) intents
+
+-- ---- for ever
+
+-- the action ended so
+abbrev pub IsDecided : Uid → End → Tree → Type 0
+IsDecided u e t = (b : Branch) × (branch_of u t ≡ Some b) × (b.ended ≡ Some e)
+
+abbrev pub is_commit : End → Bool
+is_commit ending.Commit = true
+is_commit ending.Abort = false
+
+-- a commit of this action is in the list
+abbrev pub has_commit_of : Uid → List (Uid × End) → Bool
+has_commit_of u ends = list_any (λ (e : Uid × End). uid_eq e.0 u && is_commit e.1) ends
+
+-- A message says of these actions that they committed, or are about to: nothing begins below them any more.
+abbrev pub SealsAsk : Head → Ask → Uid → Type 0
+SealsAsk h (ask.Invoke x b i ends op) u = has_commit_of u ends ≡ true
+SealsAsk h (ask.Vote i ties ends) u = (has_commit_of u ends ≡ true) ⊎ (u ≡ actor h.path)
+SealsAsk h _ u = ⊥
+
+abbrev pub SealsOther : Message → Uid → Type 0
+SealsOther (message.Told m) u = has_commit_of u m.ends ≡ true
+SealsOther _ u = ⊥
+
+abbrev pub SealsAsked : Message → Option (Head × Ask) → Uid → Type 0
+SealsAsked m None u = SealsOther m u
+SealsAsked m (Some a) u = SealsAsk a.0 a.1 u
+
+abbrev pub Seals : Message → Uid → Type 0
+Seals m u = SealsAsked m (asks m) u

@@ -24,7 +24,7 @@ pub use actions::{begun_actions_make_a_tree, coordinators_begin_new_actions};
 pub use coords::coordinators_stay_good;
 pub use copies::{ended_actions_leave_nothing, locks_of_operations_stand, overlays_are_guarded};
 pub use grants::{bindings_rise, grants_of_naming_stand};
-pub use messages::coordinators_send_what_fits;
+pub use messages::{coordinators_send_what_fits, what_was_decided_stands};
 pub use naming::naming_stays_good;
 pub use objects::objects_of_naming_stay_good;
 pub use rows::locks_on_entries_stay_good;
