@@ -1,4 +1,5 @@
 pub mod AskingSteps
+pub mod DecidingSteps
 pub mod EntrySteps
 pub mod Keys
 pub mod Marks

@@ -178,7 +178,7 @@ pub has_set : (ns : List ℕ) (m : ℕ) → order.has ns m ≡ true → order.ha
 has_set [] m on = on
 has_set (n ∷ ns) m on = ⊎_elim (λ one. has_with n (number_set ns) m (inl (sym (test_is n m one)))) (λ more. has_with n (number_set ns) m (inr (has_set ns m more))) (or_cases (n == m) (order.has ns m) on)
 
-has_both : (ks bs : List ℕ) (m : ℕ) → (order.has ks m ≡ true) ⊎ (order.has bs m ≡ true) → order.has (ks ++ bs) m ≡ true
+pub has_both : (ks bs : List ℕ) (m : ℕ) → (order.has ks m ≡ true) ⊎ (order.has bs m ≡ true) → order.has (ks ++ bs) m ≡ true
 has_both [] bs m (inl on) = absurd (cc on)
 has_both [] bs m (inr on) = on
 has_both (a ∷ more) bs m (inl on) = ⊎_elim (λ one. or_left (a == m) (order.has (more ++ bs) m) one) (λ rest. or_right (a == m) (order.has (more ++ bs) m) (has_both more bs m (inl rest))) (or_cases (a == m) (order.has more m) on)

@@ -16,7 +16,7 @@ use Rattle.arj_disk_law.specs.State.{State, Packed, Hold, Below, target, state_f
 use Rattle.arj_disk_law.specs.Words.{In, put}
 use Rattle.arj_disk_law.proofs.Base.{put_same, put_other, bool_cases, never, never_some, some_is}
 use Rattle.arj_disk_view_law.specs.Pairs.{Among, IsOf, SeesPair, HasNone, packed}
-use Rattle.arj_disk_view_law.specs.Stores.{IsPlanned, SeesStore, StoreGoes, ClaimsPrepare, ClaimsCommit, StoresPrepare, StoresAnswer, StoresCommit, StoresStopInPart, StoresAbort, StoresLoad, OtherStoresStay}
+use Rattle.arj_disk_view_law.specs.Stores.{IsPlanned, SeesStore, StoreGoes, ClaimsPrepare, ClaimsCommit, ClaimsAbort, StoresPrepare, StoresAnswer, StoresCommit, StoresStopInPart, StoresAbort, StoresLoad, OtherStoresStay}
 use Rattle.arj_disk_view_law.proofs.Keys as keys
 use Rattle.arj_disk_view_law.proofs.PairSteps.{of_cases, prepares, prepares_none, aborts_own, aborts_other, commits_own, commits_other, parts_own, parts_other, other_states, whose}
 
@@ -222,15 +222,23 @@ module _ (x s : ℕ) (d : Pair) (W : World) (sees : SeesStore x s d W.disk) wher
         there = subst (λ f. target (f (uid_number b)) s ≡ true → (st : ObjectState) × IsOf (object x) ss st) (sym plans) p.there;
       }
 
-  pub abort : (a : Uid) → In (mail.ToldAbort (uid_number a) s) W.sent → is_prepared a d ≡ true → StoreGoes x s (pair_aborted a d) W
-  abort a told is = by (whose packed (object x) d (W.disk.held s) (W.disk.pend s) sees.pair a)
+  -- what the machine's holder prepared was sent by its plan
+  own_target : (a : Uid) (h : Hold) → W.disk.pend s ≡ Some h → h.top ≡ uid_number a → target (W.disk.plan (uid_number a)) s ≡ true
+  own_target a h there own =
+      let f = sees.pair.holder h there in
+      let p = sees.planned f.action f.states f.prepared in
+      subst (λ k. target (W.disk.plan k) s ≡ true) (ap (λ (g : Hold). g.top) f.is ∙ own) (p.named f.state f.of).0
+
+  pub abort : (a : Uid) → Bare W.disk → ClaimsAbort W a s → is_prepared a d ≡ true → StoreGoes x s (pair_aborted a d) W
+  abort a bare claims is = by (whose packed (object x) d (W.disk.held s) (W.disk.pend s) sees.pair a) claims
     where
-      by : ((h : Hold) × (W.disk.pend s ≡ Some h) × (h.top ≡ uid_number a)) ⊎ ((h : Hold) → W.disk.pend s ≡ Some h → h.top ≡ uid_number a → ⊥) → StoreGoes x s (pair_aborted a d) W
-      by (inr other) = stays (pair_aborted a d) (record {
+      by : ((h : Hold) × (W.disk.pend s ≡ Some h) × (h.top ≡ uid_number a)) ⊎ ((h : Hold) → W.disk.pend s ≡ Some h → h.top ≡ uid_number a → ⊥) → ClaimsAbort W a s → StoreGoes x s (pair_aborted a d) W
+      by (inr other) claims = stays (pair_aborted a d) (record {
         pair = aborts_other packed (object x) d (W.disk.held s) (W.disk.pend s) sees.pair a other;
         planned = planned_left a (pair_aborted a d) W.disk refl refl refl;
       })
-      by (inl f) = record {
+      by (inl f) (inr untouched) = absurd (never (own_target a f.0 f.1 f.2) (bare.untouched (uid_number a) untouched.0 s))
+      by (inl f) (inl told) = record {
         effects = Drop s f.0 ∷ [];
         allowed = ((f.1, subst (λ k. In (mail.ToldAbort k s) W.sent) (sym f.2) told), tt);
         there = record {
@@ -239,16 +247,6 @@ module _ (x s : ℕ) (d : Pair) (W : World) (sees : SeesStore x s d W.disk) wher
         };
         only = record { rest = refl; sent = refl; held = λ r e. refl; pend = λ r e. put_other s None W.disk.pend r e };
       }
-
-  -- what the machine's holder prepared was sent by its plan
-  own_target : (a : Uid) (h : Hold) → W.disk.pend s ≡ Some h → h.top ≡ uid_number a → target (W.disk.plan (uid_number a)) s ≡ true
-  own_target a h there own =
-      let f = sees.pair.holder h there in
-      let p = sees.planned f.action f.states f.prepared in
-      subst (λ k. target (W.disk.plan k) s ≡ true) (ap (λ (g : Hold). g.top) f.is ∙ own) (p.named f.state f.of).0
-
-  moves_to : (h : Hold) → SeesPair packed (object x) d (Some h.new) (W.disk.pend s) → SeesPair packed (object x) d (put s (Some h.new) W.disk.held s) (W.disk.pend s)
-  moves_to h p = subst (λ o. SeesPair packed (object x) d o (W.disk.pend s)) (sym (put_same s (Some h.new) W.disk.held)) p
 
   pub commit : (a : Uid) → Bare W.disk → ClaimsCommit W a s → is_prepared a d ≡ true → StoreGoes x s (pair_committed a d) W
   commit a bare claims is = by (whose packed (object x) d (W.disk.held s) (W.disk.pend s) sees.pair a) claims
@@ -321,7 +319,7 @@ pub stores_stop_in_part : StoresStopInPart
 stores_stop_in_part x s d W a which bare sees claims is = stop_in_part x s d W sees a which bare claims is
 
 pub stores_abort : StoresAbort
-stores_abort x s d W a sees told is = abort x s d W sees a told is
+stores_abort x s d W a bare sees claims is = abort x s d W sees a bare claims is
 
 pub stores_load : StoresLoad
 stores_load x s d S st sees free held = (place_free (object x) d packed (S.held s) (S.pend s) sees.pair free, sym sees.pair.held_is ∙ ap (λ o. option_map packed o) held)

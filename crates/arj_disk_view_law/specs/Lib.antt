@@ -1,4 +1,5 @@
 pub mod Asking
+pub mod Deciding
 pub mod Entries
 pub mod Pairs
 pub mod Plans

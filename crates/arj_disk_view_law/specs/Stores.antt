@@ -7,7 +7,7 @@ use Rattle.arj_protocol.specs.Order.{at_uid, uid_number}
 use Rattle.arj_disk_law.specs.Core.{Bare}
 use Rattle.arj_disk_law.specs.Effects.{World, Effect, Follows, MaySend, run}
 use Rattle.arj_disk_law.specs.Messages as mail
-use Rattle.arj_disk_law.specs.State.{State, target, state_for}
+use Rattle.arj_disk_law.specs.State.{State, target, state_for, naming}
 use Rattle.arj_disk_law.specs.Words.{In}
 use Rattle.arj_disk_view_law.specs.Pairs.{IsOf, SeesPair, packed}
 
@@ -46,6 +46,11 @@ pub record ClaimsPrepare (x : ℕ) (W : World) (a : Uid) (s : ℕ) (states : Lis
 abbrev pub ClaimsCommit : World → Uid → ℕ → Type 0
 ClaimsCommit W a s = In (mail.ToldCommit (uid_number a) s) W.sent ⊎ (W.disk.bare (uid_number a) ≡ true)
 
+-- An abort that was told to a node: the machine was told it, or the commit was one without a record, and the node isn't
+-- naming. Such a commit sent no state to a store.
+abbrev pub ClaimsAbort : World → Uid → ℕ → Type 0
+ClaimsAbort W a m = In (mail.ToldAbort (uid_number a) m) W.sent ⊎ ((W.disk.bare (uid_number a) ≡ true) × (m ≡ naming → ⊥))
+
 -- ---- what holds of a store's work
 
 -- a store that is ready for what was sent to it prepares it
@@ -68,7 +73,7 @@ StoresStopInPart = (x s : ℕ) (d : Pair) (W : World) (a : Uid) (which : Uid →
 
 -- an action that is told to abort drops what it has prepared
 abbrev pub StoresAbort : Type 0
-StoresAbort = (x s : ℕ) (d : Pair) (W : World) (a : Uid) → SeesStore x s d W.disk → In (mail.ToldAbort (uid_number a) s) W.sent → is_prepared a d ≡ true → StoreGoes x s (pair_aborted a d) W
+StoresAbort = (x s : ℕ) (d : Pair) (W : World) (a : Uid) → Bare W.disk → SeesStore x s d W.disk → ClaimsAbort W a s → is_prepared a d ≡ true → StoreGoes x s (pair_aborted a d) W
 
 -- what a store answers to a Load is what the machine's place holds, with nothing prepared there
 abbrev pub StoresLoad : Type 0

@@ -8,9 +8,11 @@
 #![tactic(auto)]
 
 mod asking;
+mod deciding;
 mod entries;
 mod stores;
 
 pub use asking::{plans_are_seen, prepare_steps_are_seen};
+pub use deciding::{decisions_are_seen, outcomes_may_be_told};
 pub use entries::ends_of_entries_are_seen;
 pub use stores::stores_are_seen;
