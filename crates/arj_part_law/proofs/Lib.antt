@@ -10,6 +10,7 @@ mod GoodConfirm
 mod GoodCoords
 mod GoodCopies
 mod GoodEnds
+mod GoodNodes
 mod GoodObjects
 mod GoodRestart
 mod GoodServers

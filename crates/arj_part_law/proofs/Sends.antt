@@ -43,15 +43,15 @@ module _ (actions : List Action) where
   abbrev Fit : List Effect → Type 0
   Fit outs = AllFit actions outs
 
-  fit_both : (es fs : List Effect) → Fit es → Fit fs → Fit (es ++ fs)
+  pub fit_both : (es fs : List Effect) → Fit es → Fit fs → Fit (es ++ fs)
   fit_both [] fs a b = b
   fit_both (e ∷ es) fs a b = (a.0, fit_both es fs a.1 b)
 
-  fit_map : {A : Type 0} (f : A → Effect) (items : List A) → ((x : A) → FitsEffect actions (f x)) → Fit (map f items)
+  pub fit_map : {A : Type 0} (f : A → Effect) (items : List A) → ((x : A) → FitsEffect actions (f x)) → Fit (map f items)
   fit_map f [] each = tt
   fit_map f (x ∷ xs) each = (each x, fit_map f xs each)
 
-  fit_flat : {A : Type 0} (f : A → List Effect) (items : List A) → ((x : A) → Fit (f x)) → Fit (flat_map f items)
+  pub fit_flat : {A : Type 0} (f : A → List Effect) (items : List A) → ((x : A) → Fit (f x)) → Fit (flat_map f items)
   fit_flat f [] each = tt
   fit_flat f (x ∷ xs) each = fit_both (f x) (flat_map f xs) (each x) (fit_flat f xs each)
 

@@ -4,6 +4,7 @@ pub mod Copies
 pub mod Cuts
 pub mod Entries
 pub mod Messages
+pub mod Nodes
 pub mod Objects
 pub mod Rows
 pub mod Servers

@@ -1,0 +1,14 @@
+use Rattle.arj_part_law.proofs.GoodNodes.{message_well, input_well, tick_well, restart_well}
+use Rattle.arj_part_law.proofs.nodes.nodes_stay_good.Goals as goal
+
+pub returns-clause-message : goal.returns-clause-message
+returns-clause-message c = message_well
+
+pub returns-clause-input : goal.returns-clause-input
+returns-clause-input c = input_well
+
+pub returns-clause-tick : goal.returns-clause-tick
+returns-clause-tick c = tick_well
+
+pub returns-clause-restart : goal.returns-clause-restart
+returns-clause-restart c = restart_well
