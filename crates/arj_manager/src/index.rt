@@ -1,12 +1,15 @@
 // Which objects an action uses.
-ghost use Rattle.std.specs.Prelude.{◌≡◌, ◌||◌, ℕ, true, OnOk, option_copied};
+ghost use Rattle.std.specs.Prelude.{◌≡◌, ◌||◌, ℕ, true, false, None, OnOk, option_copied};
+ghost use Rattle.std.specs.BTreeMap.{get};
 ghost use Rattle.std.specs.List.Sorted.{IsStrictlySortedBy};
 ghost use Rattle.std.specs.Ordering.{nat_cmp};
 ghost use Rattle.arj_base.specs.Path.{uids_of};
 ghost use Rattle.arj_base.specs.Rows.{is_on};
 ghost use Rattle.arj_base.specs.Uid.{uid_eq};
 ghost use Rattle.arj_base.specs.declared.uid.Uid.{Uid};
-ghost use Rattle.arj_manager.specs.Index.{IsIndexed, ended_all, objects_of, uses};
+ghost use Rattle.arj_lock.specs.Held.{set_order};
+ghost use Rattle.arj_manager.specs.Index.{IsIndexed, any_answers, ended_all, objects_of, uses};
+ghost use Rattle.arj_manager.specs.declared.walk.Question.TheVariants as question;
 
 use crate::walk::{Objects, Question, any, end_each};
 use arj_base::{End, Path, Uid};
@@ -69,7 +72,8 @@ fn join(index: &mut Index, root: Uid, action: Uid) -> Result<(), AllocError>
 
 // An action leaves its root's family.
 fn leave(index: &mut Index, root: Uid, action: Uid)
-    ensures { (u : Uid) (y : ℕ) → uses index.new u y ≡ uses index.old u y }
+    ensures uses { (u : Uid) (y : ℕ) → uses index.new u y ≡ uses index.old u y }
+    ensures fewer { (u : Uid) → get set_order index.old u ≡ None → get set_order index.new u ≡ None }
 {
     if let Some(known) = index.get_mut(&root) {
         known.family.remove(&action);
@@ -116,7 +120,9 @@ pub fn end_known(objects: &mut Objects, known: Option<&Known>, action: Uid, end:
 // Forgets an action that isn't on the path of a lock or of an overlay any more.
 fn forget_one(index: &mut Index, objects: &Objects, action: Uid) -> Option<Known>
     requires { IsIndexed index.old objects.now.entries }
-    ensures { IsIndexed index.new objects.now.entries }
+    ensures indexed { IsIndexed index.new objects.now.entries }
+    ensures gone { any_answers question.Uses action objects.now.entries ≡ false → get set_order index.new action ≡ None }
+    ensures fewer { (u : Uid) → get set_order index.old u ≡ None → get set_order index.new u ≡ None }
 {
     let Some(known) = index.get(&action) else {
         return None;
@@ -131,7 +137,8 @@ fn forget_one(index: &mut Index, objects: &Objects, action: Uid) -> Option<Known
 /// whose ends didn't come.
 pub fn forget(index: &mut Index, objects: &Objects, action: Uid)
     requires { IsIndexed index.old objects.now.entries }
-    ensures { IsIndexed index.new objects.now.entries }
+    ensures indexed { IsIndexed index.new objects.now.entries }
+    ensures gone { any_answers question.Uses action objects.now.entries ≡ false → get set_order index.new action ≡ None }
 {
     let Some(known) = forget_one(index, objects, action) else {
         return;
