@@ -1,4 +1,6 @@
 pub mod AskingSteps
+pub mod ConfirmKeeps
+pub mod ConfirmSteps
 pub mod DecidingSteps
 pub mod EntrySteps
 pub mod Keys

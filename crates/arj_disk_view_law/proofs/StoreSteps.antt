@@ -28,7 +28,7 @@ prepared_is a d is = by (at_uid a d.pend) refl is
     by None e h = absurd (cc h)
     by (Some states) e h = (states, e)
 
-unprepared : (a : Uid) (d : Pair) → is_prepared a d ≡ false → at_uid a d.pend ≡ None
+pub unprepared : (a : Uid) (d : Pair) → is_prepared a d ≡ false → at_uid a d.pend ≡ None
 unprepared a d is = by (at_uid a d.pend) refl is
   where
     by : (o : Option (List ObjectState)) → at_uid a d.pend ≡ o → is_some o ≡ false → at_uid a d.pend ≡ None

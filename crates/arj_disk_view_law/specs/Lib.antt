@@ -1,4 +1,5 @@
 pub mod Asking
+pub mod Confirming
 pub mod Deciding
 pub mod Entries
 pub mod Pairs

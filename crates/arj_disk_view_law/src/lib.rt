@@ -3,16 +3,20 @@
 //!
 //! The machine (`arj_disk_law`) has of one object what stores, naming and coordinators have of it. For each object there is
 //! a state of the machine that is tied to the world place by place; a handler's effects are then effects of the machine,
-//! each allowed when it comes, or nothing. `specs/Pairs.antt` ties a place to a pair of files, `specs/Stores.antt` has the
-//! stores with what messages to them claim. What it gives upward: each store's work keeps the tie, done or stopped.
+//! each allowed when it comes, or nothing. `specs/Pairs.antt` ties a place to a pair of files; `specs/Stores.antt` and
+//! `specs/Entries.antt` have the stores and the entry, `specs/Plans.antt`, `Asking.antt` and `Deciding.antt` the
+//! coordinators, `specs/Confirming.antt` naming at a Confirm, each with what messages claim. What it gives upward: the work
+//! of each part, done or stopped, keeps its place seen and leaves the others as they are seen.
 #![tactic(auto)]
 
 mod asking;
+mod confirming;
 mod deciding;
 mod entries;
 mod stores;
 
 pub use asking::{plans_are_seen, prepare_steps_are_seen};
+pub use confirming::{confirmations_are_seen, new_entries_are_seen};
 pub use deciding::{decisions_are_seen, outcomes_may_be_told};
 pub use entries::ends_of_entries_are_seen;
 pub use stores::stores_are_seen;

@@ -1,0 +1,8 @@
+use Rattle.arj_disk_view_law.proofs.ConfirmSteps.{lists_are_seen, entries_are_entered}
+use Rattle.arj_disk_view_law.proofs.confirming.new_entries_are_seen.Goals as goal
+
+pub returns-clause-lists : goal.returns-clause-lists
+returns-clause-lists c = lists_are_seen
+
+pub returns-clause-entries : goal.returns-clause-entries
+returns-clause-entries c = entries_are_entered

@@ -1,0 +1,19 @@
+// Confirmations at naming, as the disk machine of one object has them.
+ghost use Rattle.arj_disk_view_law.specs.Confirming.{AgreeingKeeps, EnteringKeeps, EntriesAreEntered, ListsAreSeen, PassingKeeps, PreparedIsTaken, QuietConfirmsKeep};
+
+/// The list of stores that naming makes at a Confirm is the one that the machine makes, and so is the entry that it prepares;
+/// it prepares none of an object whose list stays. It does nothing when it runs.
+pub fn new_entries_are_seen()
+    ensures lists { ListsAreSeen }
+    ensures entries { EntriesAreEntered }
+{}
+
+/// Each kind of confirmation leaves the entry seen, and what is prepared may be answered Yes again. It does nothing when it
+/// runs.
+pub fn confirmations_are_seen()
+    ensures entering { EnteringKeeps }
+    ensures agreeing { AgreeingKeeps }
+    ensures passing { PassingKeeps }
+    ensures quiet { QuietConfirmsKeep }
+    ensures again { PreparedIsTaken }
+{}
