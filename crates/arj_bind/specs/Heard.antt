@@ -21,17 +21,21 @@ told_stores (bound.Live b server i g stores) = stores
 told_stores (bound.Make b server g stores) = stores
 told_stores _ = []
 
+-- the same of any answer
 abbrev pub stores_of : Reply → List ℕ
 stores_of (Reply.Bound r) = told_stores r
 stores_of _ = []
 
+-- the same of an answer, if there is one
 abbrev pub stores_told : Option Reply → List ℕ
 stores_told None = []
 stores_told (Some r) = stores_of r
 
+-- the answer that a message is
 abbrev pub reply_in : Message → Option Reply
 reply_in m = option_map (λ (e : Asked × Reply). e.1) (answers m)
 
+-- the stores that a message tells with a binding
 abbrev pub stores_in : Message → List ℕ
 stores_in m = stores_told (reply_in m)
 
@@ -43,6 +47,7 @@ known_in (AtActivate k st) = Some k
 known_in (AtNote k i) = Some k
 known_in (AtInvoke k i) = Some k
 
+-- the binding of what is kept
 abbrev pub binding_in : Option Known → Option Binding
 binding_in None = None
 binding_in (Some k) = Some k.binding
@@ -81,6 +86,7 @@ pub data Came : Type 0 where
   Ended : CallEnd → Came
   Foreign : Steps → Came
 
+-- the same as the code has it
 abbrev pub came_of : Taken → Came
 came_of (taken.On s) = Onward s
 came_of (taken.Ended e) = Ended (end_of e)
@@ -90,9 +96,11 @@ came_of (taken.Foreign s) = Foreign s
 abbrev pub req_after : ℕ → ℕ
 req_after n = min (n + 1) 4294967295
 
+-- the steps go on to this one, with the next number
 abbrev pub steps_at : Steps → At → Steps
 steps_at s at = record s { req = req_after s.req; at = at }
 
+-- what follows a step of the protocol
 abbrev pub came_by : Steps → CallStep → Came
 came_by s (call.On at) = Onward (steps_at s at)
 came_by s (call.Ended e) = Ended e
@@ -102,6 +110,7 @@ pub record Heard : Type 0 where
   pub came : Came
   pub keeping : Keeping
 
+-- what follows, and the keeping with what is kept then
 abbrev pub heard_as : Keeping → Steps → Moved → Heard
 heard_as k s m = record { came = came_by s m.step; keeping = keeps_after s.goal (has_changed m.step) m.kept k }
 

@@ -33,6 +33,7 @@ StaysOrRises old new =
     (binding_less old.binding new.binding ≡ true)
     ⊎ ((new.binding ≡ old.binding) × ((i : ℕ) → old.inc ≡ Some i → new.inc ≡ Some i))
 
+-- the same of what is kept, which isn't given up by an answer
 abbrev pub KeepsOn : Option Known → Option Known → Type 0
 KeepsOn None new = ⊤
 KeepsOn (Some old) None = ⊥

@@ -10,11 +10,14 @@ use crate::{CallEnd, Known};
 use arj_base::Binding;
 use arj_msg::What;
 
+// How many counts there are in an incarnation of naming.
+const COUNTS: u64 = 4_294_967_296;
+
 // A binding as a number: bindings are ordered by incarnation and count, each of 32 bits.
 fn number(binding: Binding) -> u64
     ensures { result ≡ binding_number binding }
 {
-    u64::from(binding.inc) * 4_294_967_296 + u64::from(binding.count)
+    u64::from(binding.inc) * COUNTS + u64::from(binding.count)
 }
 
 /// Whether two bindings are one.

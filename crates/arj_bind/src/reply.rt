@@ -19,6 +19,7 @@ pub enum Reply {
 /// The answer that a message is; any other message as it is.
 pub fn reply_of(message: Message) -> Result<Reply, Message>
     ensures reply { IfOk result (λ r. reply_in message ≡ Some (reply_of r)) }
+    ensures back { IfErr result (λ m. m ≡ message) }
     ensures other { IfErr result (λ m. IfSome (reply_in message) (λ r. nat_lt 5 (reply_kind r) ≡ true)) }
 {
     match message {

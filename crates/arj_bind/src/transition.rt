@@ -242,7 +242,6 @@ impl At {
 
     /// After the answer in a message; one to another kind of request changes nothing. `spare` has the stores of the message
     /// again.
-    #[tactic(auto, using(crate::proofs::OtherReplies::other_reply))]
     pub fn answered(
         self,
         free: bool,
