@@ -15,12 +15,12 @@ use Rattle.arj_protocol.specs.Ask.{Reply, actor, answers, asked_by, response, la
 use Rattle.arj_protocol.specs.Asking.{heard, again_all}
 use Rattle.arj_protocol.specs.Confirm.{confirm, back_lines}
 use Rattle.arj_protocol.specs.Coord.{Coord, new_coord}
-use Rattle.arj_protocol.specs.Effect.{Effect, Say, Send, Do, Look, PutInc, Prepare, Intent, Served, Did, Disk, Pair, Prep, Ready, Already, Old, InDoubt, held_at, holder_of, is_prepared, prepare_answer}
+use Rattle.arj_protocol.specs.Effect.{Effect, Say, Send, Do, Work, Look, PutInc, Prepare, Commit, Abort, PutIntent, RemoveIntent, Intent, Served, Did, Disk, Pair, Prep, Ready, Already, Old, InDoubt, held_at, holder_of, is_prepared, prepare_answer}
 use Rattle.arj_protocol.specs.Ending.{acked}
 use Rattle.arj_protocol.specs.Naming as naming
 use Rattle.arj_protocol.specs.Naming.{Naming}
 use Rattle.arj_protocol.specs.Node.{Parts, Handled, sends_answer, served, with_server, with_naming, with_coord, if_naming, load_held, load_by, prepare_by, prepare_states, serve, end_states, store_told, naming_told, ack_told, handle_told, handle_ends, holders, query_about, is_earlier, prepared_actions, by_reply, coord_heard, handle_other, handle_answer, handle_ask, handle}
-use Rattle.arj_protocol.specs.Says.{AreAll, is_server_effect, is_naming_effect}
+use Rattle.arj_protocol.specs.Says.{AreAll, is_server_effect, is_naming_effect, is_names_work}
 use Rattle.arj_protocol.specs.Server as server
 use Rattle.arj_protocol.specs.Step as step
 use Rattle.arj_protocol.specs.Step.{Node, Input, refusal_up, tolds_again, recovered_records, hello_to, numbers_to, naming_at, naming_back, parts_in, restart_outs}
@@ -32,28 +32,39 @@ use Rattle.arj_protocol.proofs.PartSays.{ends_own, activate_own, invoke_own, vot
 use Rattle.arj_part_law.specs.Actions.{Action, AreBegun, Agree, AreCounted}
 use Rattle.arj_part_law.specs.Coords.{IsGoodCoord}
 use Rattle.arj_part_law.specs.Copies.{Paths, IsTree}
-use Rattle.arj_part_law.specs.Messages.{IsAsker, FitsAsk, FitsOther, FitsAsked, FitsMessage, AllFit, AreOfTops}
+use Rattle.arj_part_law.specs.Messages.{IsAsker, FitsAsk, FitsOther, FitsAsked, FitsMessage, FitsWork, AllFit, AreOfTops}
 use Rattle.arj_part_law.specs.Nodes.{IsGoodNode, IsWellHandled}
 use Rattle.arj_part_law.specs.Servers.{AreInTurn, AreOrdered, IsBegun}
 use Rattle.arj_part_law.proofs.CoordInputs.{good_acts}
 use Rattle.arj_part_law.proofs.GoodCoords.{good_fresh, good_heard, good_acked, good_again}
 use Rattle.arj_part_law.proofs.GoodServers.{good_new, good_activate, good_invoke, good_vote, good_told}
 use Rattle.arj_part_law.proofs.InTurn.{in_turn, knows_new, knows_activate, knows_invoke, knows_vote, knows_told}
+use Rattle.arj_part_law.proofs.Tellings.{tops_heard, tops_acts, tops_acked, tops_again}
 use Rattle.arj_part_law.proofs.Sends.{fit_both, fit_map, fit_flat, fit_acts, fit_again, fit_tolds_again, fit_heard, fit_acked, fit_query}
 
 module _ (acts : List Action) where
   -- effects that send nothing
-  fit_quiet : (test : Effect → Bool) → ((to : ℕ) (m : Message) → test (Send to m) ≡ false) → (outs : List Effect) → AreAll test outs → AllFit acts outs
-  fit_quiet test silent [] all = tt
-  fit_quiet test silent (Say b ∷ es) all = (tt, fit_quiet test silent es (and_parts (test (Say b)) (list_all test es) all).1)
-  fit_quiet test silent (Do w ∷ es) all = (tt, fit_quiet test silent es (and_parts (test (Do w)) (list_all test es) all).1)
-  fit_quiet test silent (Send to m ∷ es) all = let no_way : false ≡ true = sym (silent to m) ∙ (and_parts (test (Send to m)) (list_all test es) all).0 in cc
+  fit_quiet : (test : Effect → Bool) → ((to : ℕ) (m : Message) → test (Send to m) ≡ false) → ((w : Work) → test (Do w) ≡ true → FitsWork acts w) → (outs : List Effect) → AreAll test outs → AllFit acts outs
+  fit_quiet test silent work [] all = tt
+  fit_quiet test silent work (Say b ∷ es) all = (tt, fit_quiet test silent work es (and_parts (test (Say b)) (list_all test es) all).1)
+  fit_quiet test silent work (Do w ∷ es) all = (work w (and_parts (test (Do w)) (list_all test es) all).0, fit_quiet test silent work es (and_parts (test (Do w)) (list_all test es) all).1)
+  fit_quiet test silent work (Send to m ∷ es) all = let no_way : false ≡ true = sym (silent to m) ∙ (and_parts (test (Send to m)) (list_all test es) all).0 in cc
+
+  -- naming writes no record
+  names_work : (w : Work) → is_names_work w ≡ true → FitsWork acts w
+  names_work Look is = tt
+  names_work (Prepare r u states) is = tt
+  names_work (Commit r u) is = tt
+  names_work (Abort r u) is = tt
+  names_work (PutInc i) is = tt
+  names_work (RemoveIntent u) is = tt
+  names_work (PutIntent u i) is = absurd (cc is)
 
   fit_server : (n : ℕ) (outs : List Effect) → AreAll (is_server_effect n) outs → AllFit acts outs
-  fit_server n outs all = fit_quiet (is_server_effect n) (λ to m. refl) outs all
+  fit_server n outs all = fit_quiet (is_server_effect n) (λ to m. refl) (λ w is. absurd (cc is)) outs all
 
   fit_naming : (outs : List Effect) → AreAll is_naming_effect outs → AllFit acts outs
-  fit_naming outs all = fit_quiet is_naming_effect (λ to m. refl) outs all
+  fit_naming outs all = fit_quiet is_naming_effect (λ to m. refl) names_work outs all
 
   -- an answer says nothing of ends
   fit_answer : (a : Asked) (r : Reply) → FitsMessage acts (response a r)
@@ -109,7 +120,7 @@ module _ (acts : List Action) (begun : AreBegun acts) (paths : Paths) (tree : Is
       by false = new (prepare_answer (actor h.path) states d)
 
   named : (t : Parts) (o : Naming) → IsGoodNode acts paths t → IsGoodNode acts paths (with_naming t o)
-  named t o good = record { server = good.server; knows = good.knows; coord = good.coord }
+  named t o good = record { server = good.server; knows = good.knows; coord = good.coord; telling = good.telling }
 
   serve_well : (n : ℕ) (d : Disk) (t : Parts) (from : ℕ) (h : Head) (a : Ask) → FitsAsk acts h a → IsGoodNode acts paths t → Well (serve n d t from h a)
   serve_well n d t from h (ask.Bind x include avoid) fits good = by t.naming
@@ -120,7 +131,7 @@ module _ (acts : List Action) (begun : AreBegun acts) (paths : Paths) (tree : Is
   serve_well n d t from h (ask.Load x) fits good = load_well x d.store from h t good (holder_of (object x) d.store)
   serve_well n d t from h (ask.Activate b st) fits good =
       let r = server.activate n h.path b st t.server in
-      answered_well from h (with_server t r.part) r.outs (option_map Reply.Activated r.reply) (λ some. (record { server = good_activate paths n h.path b st t.server good.server; knows = knows_activate acts n h.path b st t.server good.knows; coord = good.coord }, fit_server acts n r.outs (activate_own n h.path b st t.server)))
+      answered_well from h (with_server t r.part) r.outs (option_map Reply.Activated r.reply) (λ some. (record { server = good_activate paths n h.path b st t.server good.server; knows = knows_activate acts n h.path b st t.server good.knows; coord = good.coord; telling = good.telling }, fit_server acts n r.outs (activate_own n h.path b st t.server)))
   serve_well n d t from h (ask.Record x b i g) fits good = by t.naming
     where
       by : (o : Option Naming) → Well (if_naming (λ m. served from h (with_naming t) Reply.Noted (naming.note h.path x b i g m)) o)
@@ -133,6 +144,7 @@ module _ (acts : List Action) (begun : AreBegun acts) (paths : Paths) (tree : Is
           server = good_invoke paths tree n h x b i ends o t.server (asker_path h.path fits.0) fits.1 (turn_of n t ends good fits.2) good.server;
           knows = knows_invoke acts begun n h x b i ends o t.server (asker_begun h.path fits.0) good.knows;
           coord = good.coord;
+          telling = good.telling;
         },
         fit_server acts n r.outs (invoke_own n h x b i ends o t.server),
       ))
@@ -143,6 +155,7 @@ module _ (acts : List Action) (begun : AreBegun acts) (paths : Paths) (tree : Is
           server = good_vote paths tree n h.path i ties ends t.server (turn_of n t ends good fits.2) good.server;
           knows = knows_vote acts begun n h.path i ties ends t.server fits.1 good.knows;
           coord = good.coord;
+          telling = good.telling;
         },
         fit_server acts n r.outs (vote_own n h.path i ties ends t.server),
       ))
@@ -157,7 +170,7 @@ module _ (acts : List Action) (begun : AreBegun acts) (paths : Paths) (tree : Is
 
   told_well : (n : ℕ) (d : Disk) (t : Parts) (from : ℕ) (ack : Bool) (ends : List (Uid × End)) (u : Uid) (e : End) → AreOrdered acts [] ends → IsGoodNode acts paths t → Well (handle_told n d t from ack ends u e)
   told_well n d t from ack ends u e ordered good = (
-    record { server = good_told paths tree n ends t.server (turn_of n t ends good ordered) good.server; knows = knows_told acts begun n ends t.server good.knows; coord = good.coord },
+    record { server = good_told paths tree n ends t.server (turn_of n t ends good ordered) good.server; knows = knows_told acts begun n ends t.server good.knows; coord = good.coord; telling = good.telling },
     fit_both acts (store_told n u e d.store ++ o.outs ++ s.outs) (ack_told from u ack) (fit_both acts (store_told n u e d.store ++ o.outs) s.outs (fit_both acts (store_told n u e d.store) o.outs (stored (is_prepared u d.store) e) (names t.naming)) (fit_server acts n s.outs (ends_own n ends t.server))) (acks ack),
   )
     where
@@ -184,21 +197,21 @@ module _ (acts : List Action) (begun : AreBegun acts) (paths : Paths) (tree : Is
   ends_well n d t from ack ends ordered good None = (good, tt)
   ends_well n d t from ack ends ordered good (Some e) = told_well n d t from ack ends e.0 e.1 ordered good
 
-  coord_well : (t : Parts) (r : Served Coord (Unit {0})) → IsGoodCoord acts paths r.part → AllFit acts r.outs → IsGoodNode acts paths t → Well (coord_heard t r)
-  coord_well t r coord fit good = by r.reply
+  coord_well : (t : Parts) (r : Served Coord (Unit {0})) → IsGoodCoord acts paths r.part → AreOfTops acts r.part.telling → AllFit acts r.outs → IsGoodNode acts paths t → Well (coord_heard t r)
+  coord_well t r coord telling fit good = by r.reply
     where
       by : (o : Option (Unit {0})) → Well (by_reply (with_coord t r.part) r.outs o)
       by None = tt
-      by (Some u) = (record { server = good.server; knows = good.knows; coord = coord }, fit)
+      by (Some u) = (record { server = good.server; knows = good.knows; coord = coord; telling = telling }, fit)
 
   fit_queries : (us : List Uid) → AllFit acts (map query_about us)
   fit_queries us = fit_map acts query_about us (λ u. tt)
 
   other_well : (n : ℕ) (d : Disk) (t : Parts) (from : ℕ) (m : Message) → FitsOther acts m → AreOfTops acts d.intents → IsGoodNode acts paths t → Well (handle_other n d t from m)
   other_well n d t from (message.Told m) fits tops good = ends_well n d t from m.ack m.ends fits good (last_end m.ends)
-  other_well n d t from (message.Acked m) fits tops good = coord_well t (acked from m.act d.intents t.coord) (good_acked acts paths tree from m.act d.intents t.coord good.coord) (fit_acked acts begun paths tree from m.act d.intents t.coord) good
+  other_well n d t from (message.Acked m) fits tops good = coord_well t (acked from m.act d.intents t.coord) (good_acked acts paths tree from m.act d.intents t.coord good.coord) (tops_acked acts begun paths tree from m.act d.intents t.coord good.telling) (fit_acked acts begun paths tree from m.act d.intents t.coord) good
   other_well n d t from (message.Query m) fits tops good = (good, fit_query acts begun paths tree from m.act d.intents t.coord tops good.coord)
-  other_well n d t from (message.Hello m) fits tops good = (record { server = good.server; knows = good.knows; coord = good.coord }, fit_queries (filter (is_earlier m.node m.inc) (holders d t)))
+  other_well n d t from (message.Hello m) fits tops good = (record { server = good.server; knows = good.knows; coord = good.coord; telling = good.telling }, fit_queries (filter (is_earlier m.node m.inc) (holders d t)))
   other_well n d t from (message.Bind m) fits tops good = tt
   other_well n d t from (message.Bound m) fits tops good = tt
   other_well n d t from (message.Load m) fits tops good = tt
@@ -221,7 +234,7 @@ module _ (acts : List Action) (begun : AreBegun acts) (paths : Paths) (tree : Is
     where
       answer : (o : Option (Asked × Reply)) → FitsOther acts m → Well (handle_answer n d t from m o)
       answer None f = other_well n d t from m f tops good
-      answer (Some a) f = coord_well t (heard from a.0 a.1 d.intents t.coord) (good_heard acts paths tree from a.0 a.1 d.intents t.coord good.coord) (fit_heard acts begun paths tree from a.0 a.1 d.intents t.coord good.coord) good
+      answer (Some a) f = coord_well t (heard from a.0 a.1 d.intents t.coord) (good_heard acts paths tree from a.0 a.1 d.intents t.coord good.coord) (tops_heard acts begun paths tree from a.0 a.1 d.intents t.coord good.coord good.telling) (fit_heard acts begun paths tree from a.0 a.1 d.intents t.coord good.coord) good
 
       by : (o : Option (Head × Ask)) → FitsAsked acts m o → Well (handle_ask n d t from m o)
       by None f = answer (answers m) f
@@ -231,17 +244,17 @@ module _ (acts : List Action) (begun : AreBegun acts) (paths : Paths) (tree : Is
 
   pub input_well : (d : Disk) (t : Parts) (hd : Header) (i : Input) → refusal_up hd i t.coord ≡ None → ((l : Label) (k : Kind) (parent : Option Label) → i ≢ step.Begin l k parent) → IsGoodNode acts paths t
       → (let r = step.acts i d.intents t.coord in IsGoodNode acts paths (with_coord t r.part) × AllFit acts r.outs)
-  input_well d t hd i none other good = (record { server = good.server; knows = good.knows; coord = good_acts acts paths tree d.intents t.coord good.coord hd i none other }, fit_acts acts begun paths tree d.intents t.coord good.coord hd i none)
+  input_well d t hd i none other good = (record { server = good.server; knows = good.knows; coord = good_acts acts paths tree d.intents t.coord good.coord hd i none other; telling = tops_acts acts begun paths tree d.intents t.coord good.coord hd i none good.telling }, fit_acts acts begun paths tree d.intents t.coord good.coord hd i none)
 
-  pub tick_well : (n : Node) (t : Parts) → AreOfTops acts t.coord.telling → IsGoodNode acts paths t → (let r = again_all t.coord.doings t.coord in IsGoodNode acts paths (with_coord t r.part) × AllFit acts (tick_outs n t))
-  tick_well n t tops good =
+  pub tick_well : (n : Node) (t : Parts) → IsGoodNode acts paths t → (let r = again_all t.coord.doings t.coord in IsGoodNode acts paths (with_coord t r.part) × AllFit acts (tick_outs n t))
+  tick_well n t good =
       let r = again_all t.coord.doings t.coord in (
-        record { server = good.server; knows = good.knows; coord = good_again acts paths tree t.coord.doings t.coord good.coord },
-        fit_both acts (r.outs ++ tolds_again t.coord.telling) (map query_about (holders n.disk t)) (fit_both acts r.outs (tolds_again t.coord.telling) (fit_again acts begun paths tree t.coord good.coord) (fit_tolds_again acts begun paths tree t.coord.telling tops)) (fit_queries (holders n.disk t)),
+        record { server = good.server; knows = good.knows; coord = good_again acts paths tree t.coord.doings t.coord good.coord; telling = tops_again acts begun paths tree t.coord.doings t.coord good.telling },
+        fit_both acts (r.outs ++ tolds_again t.coord.telling) (map query_about (holders n.disk t)) (fit_both acts r.outs (tolds_again t.coord.telling) (fit_again acts begun paths tree t.coord good.coord) (fit_tolds_again acts begun paths tree t.coord.telling good.telling)) (fit_queries (holders n.disk t)),
       )
 
   pub restart_well : (hd : Header) (n count : ℕ) (d : Disk) → AreCounted n d.inc count acts → AreOfTops acts d.intents → IsGoodNode acts paths (parts_in n (d.inc + 1) d) × AllFit acts (restart_outs hd n (d.inc + 1) d)
-  restart_well hd n count d counted tops = (record { server = good_new paths (d.inc + 1); knows = knows_new acts (d.inc + 1); coord = started }, fit_both acts four hellos (fit_both acts three queries (fit_both acts two tolds (fit_both acts one records (tt, (tt, (tt, (tt, back (naming_at n (d.inc + 1) d.names))))) (tt, fit_map acts (λ (e : Uid × Intent). Say (body.Recovered n e.0)) d.intents (λ e. tt))) (fit_tolds_again acts begun paths tree d.intents tops)) (fit_queries (uid_set (prepared_actions d.store ++ prepared_actions d.names)))) (fit_map acts (hello_to n (d.inc + 1)) (without_number n (numbers_to hd.nodes)) (λ k. tt)))
+  restart_well hd n count d counted tops = (record { server = good_new paths (d.inc + 1); knows = knows_new acts (d.inc + 1); coord = started; telling = tops }, fit_both acts four hellos (fit_both acts three queries (fit_both acts two tolds (fit_both acts one records (tt, (tt, (tt, (tt, back (naming_at n (d.inc + 1) d.names))))) (tt, fit_map acts (λ (e : Uid × Intent). Say (body.Recovered n e.0)) d.intents (λ e. tt))) (fit_tolds_again acts begun paths tree d.intents tops)) (fit_queries (uid_set (prepared_actions d.store ++ prepared_actions d.names)))) (fit_map acts (hello_to n (d.inc + 1)) (without_number n (numbers_to hd.nodes)) (λ k. tt)))
     where
       started : IsGoodCoord acts paths (record (new_coord n (d.inc + 1)) { telling = d.intents })
       started = let g = good_fresh acts paths n d.inc (d.inc + 1) count counted (omega arith) in record { tree = g.tree; home = g.home; known = g.known; busy = g.busy }

@@ -25,4 +25,5 @@ mod Sends
 mod ServerRuns
 mod Stands
 mod Stores
+mod Tellings
 mod ToldInOrder

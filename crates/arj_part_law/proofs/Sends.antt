@@ -164,7 +164,7 @@ module _ (actions : List Action) (begun : AreBegun actions) (paths : Paths) (tre
   -- ---- the decision
 
   -- a top that commits was begun
-  top_begun : (c : Coord) (u : Uid) (p : Plan) → IsGoodCoord actions paths c → IsVoting c.tree u p → IsTopAction actions u
+  pub top_begun : (c : Coord) (u : Uid) (p : Plan) → IsGoodCoord actions paths c → IsVoting c.tree u p → IsTopAction actions u
   top_begun c u p good v = (action_of v.asking.branch, good.known u v.asking.branch v.asking.found, good.tree.lists.places u v.asking.branch v.asking.found, v.top v.asking.branch v.asking.found)
 
   top_end : (u : Uid) (e : End) → IsTopAction actions u → AreOrdered actions [] ((u, e) ∷ [])
@@ -174,7 +174,7 @@ module _ (actions : List Action) (begun : AreBegun actions) (paths : Paths) (tre
   fit_decide p c t = fit_both actions (record_work (actor p.path) p ++ says (actor p.path) body.Committed c) _ (fit_both actions (record_work (actor p.path) p) _ (work (has_record p)) (fit_says actions (actor p.path) body.Committed c)) (fit_map actions (decided_told (root_of p.path) (actor p.path) p) p.sent (λ n. one n (has (participants p) n)))
     where
       work : (b : Bool) → Sent (cond b (Do (PutIntent (actor p.path) (record { root = root_of p.path; nodes = participants p })) ∷ []) [])
-      work true = (tt, tt)
+      work true = (t, tt)
       work false = tt
 
       one : (n : ℕ) (b : Bool) → FitsEffect actions (cond b (tell (root_of p.path) (has_record p) ((actor p.path, ending.Commit) ∷ []) n) (tell (root_of p.path) false ((actor p.path, ending.Abort) ∷ []) n))
@@ -368,7 +368,7 @@ module _ (actions : List Action) (begun : AreBegun actions) (paths : Paths) (tre
           one true = left i (without_number from i.nodes)
           one false = tt
 
-  of_top : (u : Uid) (i : Intent) (m : List (Uid × Intent)) → AreOfTops actions m → at_uid u m ≡ Some i → IsTopAction actions u
+  pub of_top : (u : Uid) (i : Intent) (m : List (Uid × Intent)) → AreOfTops actions m → at_uid u m ≡ Some i → IsTopAction actions u
   of_top u i m tops is = each m tops (at_in u i m is)
     where
       each : (ms : List (Uid × Intent)) → AreOfTops actions ms → In (u, i) ms → IsTopAction actions u

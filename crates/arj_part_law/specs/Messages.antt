@@ -7,7 +7,7 @@ use Rattle.arj_protocol.specs.Words.ending
 use Rattle.arj_protocol.specs.Words.kind
 use Rattle.arj_protocol.specs.Words.message
 use Rattle.arj_protocol.specs.Ask.{actor}
-use Rattle.arj_protocol.specs.Effect.{Effect, Say, Send, Do, Intent}
+use Rattle.arj_protocol.specs.Effect.{Effect, Say, Send, Do, Work, PutIntent, Intent}
 use Rattle.arj_protocol.specs.Tree.{Tree, Branch, branch_of}
 use Rattle.arj_part_law.specs.Actions.{Action, act_of}
 use Rattle.arj_part_law.specs.Servers.{AreOfOthers, HasAllBelow, AreOrdered}
@@ -39,12 +39,17 @@ FitsAsked acts m (Some a) = FitsAsk acts a.0 a.1
 abbrev pub FitsMessage : List Action → Message → Type 0
 FitsMessage acts m = FitsAsked acts m (asks m)
 
+-- a record is of a top
+abbrev pub FitsWork : List Action → Work → Type 0
+FitsWork acts (PutIntent u i) = IsTopAction acts u
+FitsWork acts _ = ⊤
+
 abbrev pub FitsEffect : List Action → Effect → Type 0
 FitsEffect acts (Send to m) = FitsMessage acts m
 FitsEffect acts (Say b) = ⊤
-FitsEffect acts (Do w) = ⊤
+FitsEffect acts (Do w) = FitsWork acts w
 
--- each message that is sent fits
+-- each message that is sent fits, and each record that is written
 abbrev pub AllFit : List Action → List Effect → Type 0
 AllFit acts outs = AllByRecursion (FitsEffect acts) outs
 

@@ -19,7 +19,7 @@ pub fn nodes_stay_good()
         → IsGoodNode actions paths t → IsWellHandled actions paths (handle n d t from m) }
     ensures input { (actions : List Action) → AreBegun actions → (paths : Paths) → IsTree paths → Agree actions paths → (d : Disk) (t : Parts) (hd : Header) (i : Input) → refusal_up hd i t.coord ≡ None → ((l : Label) (k : Kind) (parent : Option Label) → i ≢ Begin l k parent)
         → IsGoodNode actions paths t → IsGoodNode actions paths (with_coord t (acts i d.intents t.coord).part) × AllFit actions (acts i d.intents t.coord).outs }
-    ensures tick { (actions : List Action) → AreBegun actions → (paths : Paths) → IsTree paths → Agree actions paths → (n : Node) (t : Parts) → AreOfTops actions t.coord.telling
+    ensures tick { (actions : List Action) → AreBegun actions → (paths : Paths) → IsTree paths → Agree actions paths → (n : Node) (t : Parts)
         → IsGoodNode actions paths t → IsGoodNode actions paths (with_coord t (again_all t.coord.doings t.coord).part) × AllFit actions (tick_outs n t) }
     ensures restart { (actions : List Action) → AreBegun actions → (paths : Paths) → IsTree paths → Agree actions paths → (hd : Header) (n count : ℕ) (d : Disk) → AreCounted n d.inc count actions → AreOfTops actions d.intents
         → IsGoodNode actions paths (parts_in n (d.inc + 1) d) × AllFit actions (restart_outs hd n (d.inc + 1) d) }

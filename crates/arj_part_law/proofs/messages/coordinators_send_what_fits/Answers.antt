@@ -1,4 +1,5 @@
 use Rattle.arj_part_law.proofs.Sends.{fit_acts, fit_heard, fit_acked, fit_query, fit_again, fit_tolds_again}
+use Rattle.arj_part_law.proofs.Tellings.{worked_tops, stopped_tops}
 use Rattle.arj_part_law.proofs.messages.coordinators_send_what_fits.Goals as goal
 
 pub returns-clause-inputs : goal.returns-clause-inputs
@@ -18,3 +19,9 @@ returns-clause-again c = fit_again
 
 pub returns-clause-records : goal.returns-clause-records
 returns-clause-records c = fit_tolds_again
+
+pub returns-clause-written : goal.returns-clause-written
+returns-clause-written c = worked_tops
+
+pub returns-clause-stopped : goal.returns-clause-stopped
+returns-clause-stopped c = stopped_tops
