@@ -2,3 +2,4 @@ pub mod OtherReplies
 pub mod Taking
 pub mod InOrder
 pub mod KeepingOn
+pub mod Hearing
