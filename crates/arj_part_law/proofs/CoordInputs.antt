@@ -23,7 +23,7 @@ use Rattle.arj_protocol.specs.Step.{Input, first_reason, is_waiting_now, is_wait
 use Rattle.arj_protocol.specs.Step as input
 use Rattle.arj_protocol.specs.Tree.{Tree, Branch, branch_of, is_own, is_open, is_open_branch, at_place, next_uid, path_below, begun, has_open_child, is_parent, is_serial}
 use Rattle.arj_part_law.specs.Actions.{Action, action_of, AreBegun, MayBegin}
-use Rattle.arj_part_law.specs.Coords.{IsAsking, IsVoting, IsBusy, IsGoodCoord}
+use Rattle.arj_part_law.specs.Coords.{IsAsking, IsVoting, IsBusy, IsGoodCoord, IsOver, IsCommitting}
 use Rattle.arj_part_law.specs.Copies.{Paths, IsTree}
 use Rattle.arj_part_law.specs.Trees.{MayStand}
 use Rattle.arj_part_law.proofs.Begun.{path_length, path_some, last_more, before_more, on_more, before_on, serial_alone}
@@ -292,3 +292,11 @@ module _ (actions : List Action) (begun_all : AreBegun actions) (paths : Paths) 
           by : (y : Bool) → cond y (at_place w.num (c.doings ++ fresh ∷ [])) None ≡ Some d → (cond y (at_place w.num c.doings) None ≡ Some d) ⊎ (fresh ≡ d)
           by true e = place_cases w.num d e
           by false e = let no_way : ◌≡◌ {A = Option Doing} None (Some d) = e in cc
+
+  -- what has ended here, or is at its commit, isn't above the new action
+  pub none_above : (u : Uid) → IsOver u t ⊎ IsCommitting u c → is_on (uids_of p) u ≡ false
+  none_above u (inl over) = false_from_ne_true (is_on (uids_of p) u) (λ on. open_above paths tree k p t stand good.tree u over.0 over.1 over.2 (ap (λ us. is_on us u) (sym agree) ∙ on) (λ same. let no_way : ◌≡◌ {A = Option Branch} None (Some over.0) = sym (not_yet k p t) ∙ ap (λ x. branch_of x t) (sym same) ∙ over.1 in cc))
+  none_above u (inr at_work) = not_above u at_work.0 at_work.2 (ap is_waiting_now at_work.3) (λ same. let no_way : ◌≡◌ {A = Option Branch} None (Some v'.asking.branch) = sym (not_yet k p t) ∙ ap (λ x. branch_of x t) (sym same) ∙ v'.asking.found in cc)
+    where
+      v' : IsVoting t u (plan_of at_work.1)
+      v' = subst (IsBusy t u) at_work.3 (good.busy u at_work.0 at_work.2)

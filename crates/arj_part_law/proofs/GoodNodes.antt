@@ -1,5 +1,5 @@
 -- A node stays good at each message that fits.
-use Rattle.std.proofs.Common.{◌≡◌, ◌≢◌, ◌+◌, arith, ℕ, List, [], ◌∷◌, ◌++◌, Bool, true, false, cond, map, filter, Option, Some, None, refl, sym, ◌∙◌, ap}
+use Rattle.std.proofs.Common.{◌≡◌, ◌≢◌, ◌+◌, arith, ℕ, List, [], ◌∷◌, ◌++◌, Bool, true, false, cond, map, filter, Option, Some, None, refl, sym, ◌∙◌, ap, inr}
 use Rattle.std.specs.Prelude.{option_map}
 use Rattle.std.specs.List.{list_all}
 use Rattle.std.proofs.lemmas.Bool.{and_parts}
@@ -12,7 +12,7 @@ use Rattle.arj_protocol.specs.Words.role
 use Rattle.arj_protocol.specs.Words.loaded
 use Rattle.arj_protocol.specs.Words.prepared
 use Rattle.arj_protocol.specs.Ask.{Reply, actor, answers, asked_by, response, last_end}
-use Rattle.arj_protocol.specs.Asking.{heard, again_all}
+use Rattle.arj_protocol.specs.Asking.{heard, again_all, begin_action}
 use Rattle.arj_protocol.specs.Confirm.{confirm, back_lines}
 use Rattle.arj_protocol.specs.Coord.{Coord, new_coord}
 use Rattle.arj_protocol.specs.Effect.{Effect, Say, Send, Do, Work, Look, PutInc, Prepare, Commit, Abort, PutIntent, RemoveIntent, Intent, Served, Did, Disk, Pair, Prep, Ready, Already, Old, InDoubt, held_at, holder_of, is_prepared, prepare_answer}
@@ -23,24 +23,32 @@ use Rattle.arj_protocol.specs.Node.{Parts, Handled, sends_answer, served, with_s
 use Rattle.arj_protocol.specs.Says.{AreAll, is_server_effect, is_naming_effect, is_names_work}
 use Rattle.arj_protocol.specs.Server as server
 use Rattle.arj_protocol.specs.Step as step
-use Rattle.arj_protocol.specs.Step.{Node, Input, refusal_up, tolds_again, recovered_records, hello_to, numbers_to, naming_at, naming_back, parts_in, restart_outs}
+use Rattle.arj_protocol.specs.Step.{Node, Input, refusal_up, tolds_again, recovered_records, hello_to, numbers_to, naming_at, naming_back, parts_in, restart_outs, parent_of, begin_refusal}
 use Rattle.arj_protocol.specs.Follow.{tick_outs}
 use Rattle.arj_protocol.specs.Named.{Named}
 use Rattle.arj_protocol.specs.Order.{uid_set, without_number}
 use Rattle.arj_protocol.specs.Server.{Server}
 use Rattle.arj_protocol.proofs.PartSays.{ends_own, activate_own, invoke_own, vote_own, bind_own, note_own, confirm_own, told_own}
-use Rattle.arj_part_law.specs.Actions.{Action, AreBegun, Agree, AreCounted}
+use Rattle.arj_part_law.specs.Actions.{Action, AreBegun, Agree, AreCounted, MayBegin}
 use Rattle.arj_part_law.specs.Coords.{IsGoodCoord}
 use Rattle.arj_part_law.specs.Copies.{Paths, IsTree}
 use Rattle.arj_part_law.specs.Messages.{IsAsker, FitsAsk, FitsOther, FitsAsked, FitsMessage, FitsWork, AllFit, AreOfTops}
 use Rattle.arj_part_law.specs.Nodes.{IsGoodNode, IsWellHandled}
 use Rattle.arj_part_law.specs.Servers.{AreInTurn, AreOrdered, IsBegun}
-use Rattle.arj_part_law.proofs.CoordInputs.{good_acts}
+use Rattle.arj_part_law.proofs.CoordInputs.{good_acts, good_begins, good_more}
 use Rattle.arj_part_law.proofs.GoodCoords.{good_fresh, good_heard, good_acked, good_again}
 use Rattle.arj_part_law.proofs.GoodServers.{good_new, good_activate, good_invoke, good_vote, good_told}
-use Rattle.arj_part_law.proofs.InTurn.{in_turn, knows_new, knows_activate, knows_invoke, knows_vote, knows_told}
+use Rattle.arj_part_law.proofs.InTurn.{in_turn, knows_more, knows_new, knows_activate, knows_invoke, knows_vote, knows_told}
 use Rattle.arj_part_law.proofs.Tellings.{tops_heard, tops_acts, tops_acked, tops_again}
 use Rattle.arj_part_law.proofs.Sends.{fit_both, fit_map, fit_flat, fit_acts, fit_again, fit_tolds_again, fit_heard, fit_acked, fit_query}
+use Rattle.arj_protocol.specs.Tree.{path_below, next_uid, is_own}
+use Rattle.arj_base.specs.Rows.{is_on}
+use Rattle.arj_lock.proofs.Members.{in_from, in_to}
+
+-- records of tops stay so
+pub tops_more : (a : Action) (acts : List Action) (m : List (Uid × Intent)) → AreOfTops acts m → AreOfTops (a ∷ acts) m
+tops_more a acts [] all = tt
+tops_more a acts (e ∷ es) all = let f = all.0 in ((f.0, in_to f.0 (a ∷ acts) (inr (in_from f.0 acts f.1)), f.2, f.3), tops_more a acts es all.1)
 
 module _ (acts : List Action) where
   -- effects that send nothing
@@ -286,3 +294,22 @@ module _ (acts : List Action) (begun : AreBegun acts) (paths : Paths) (tree : Is
 
       hellos : List Effect
       hellos = map (hello_to n (d.inc + 1)) (without_number n (numbers_to hd.nodes))
+
+  -- an action that begins here, below no top for which the server voted
+  pub begin_well : (l : Label) (k : Kind) (parent : Option Label) (t : Parts) → MayBegin acts k (parent_of parent t.coord) → begin_refusal k t.coord parent ≡ None
+      → uids_of (path_below k (parent_of parent t.coord) (next_uid t.coord.tree)) ≡ paths (next_uid t.coord.tree)
+      → ((w : Uid) → is_on t.server.voted w ≡ true → is_on (uids_of (path_below k (parent_of parent t.coord) (next_uid t.coord.tree))) w ≡ false)
+      → IsGoodNode acts paths t → (let r = begin_action l k parent (parent_of parent t.coord) t.coord in IsGoodNode (record { path = path_below k (parent_of parent t.coord) (next_uid t.coord.tree); kind = k } ∷ acts) paths (with_coord t r.part))
+  begin_well l k parent t may none path unvoted good =
+      let a : Action = record { path = path_below k (parent_of parent t.coord) (next_uid t.coord.tree); kind = k } in
+      record {
+        server = good.server;
+        knows = knows_more a acts t.server unvoted good.knows;
+        coord = good_begins acts begun paths tree l k parent t.coord good.coord may none path;
+        telling = tops_more a acts t.coord.telling good.telling;
+      }
+
+-- an action that begins elsewhere
+pub elsewhere_well : (a : Action) (acts : List Action) (paths : Paths) (t : Parts) → ((u : Uid) → is_on (uids_of a.path) u ≡ true → is_own u t.coord.tree ≡ false) → ((w : Uid) → is_on t.server.voted w ≡ true → is_on (uids_of a.path) w ≡ false)
+    → IsGoodNode acts paths t → IsGoodNode (a ∷ acts) paths t
+elsewhere_well a acts paths t off unvoted good = record { server = good.server; knows = knows_more a acts t.server unvoted good.knows; coord = good_more a acts paths t.coord off good.coord; telling = tops_more a acts t.coord.telling good.telling }

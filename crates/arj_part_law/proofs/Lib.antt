@@ -20,6 +20,7 @@ mod InTurn
 mod KeptCalls
 mod Keys
 mod Locked
+mod NamingNode
 mod Pairs
 mod Sends
 mod ServerRuns

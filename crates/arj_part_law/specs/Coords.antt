@@ -2,7 +2,7 @@
 use Rattle.std.specs.Prelude.{◌≡◌, ◌≢◌, List, [], true, false, Some, Contains, is_some, ⊤}
 use Rattle.arj_protocol.specs.Words.{Uid, Path}
 use Rattle.arj_protocol.specs.Words.kind
-use Rattle.arj_protocol.specs.Commit.{Plan, plan_of}
+use Rattle.arj_protocol.specs.Commit.{Machine, Plan, plan_of}
 use Rattle.arj_protocol.specs.Coord.{Coord, Doing, Now, Idle, Calling, Committing, doing_of}
 use Rattle.arj_protocol.specs.Tree.{Tree, Branch, branch_of, has_open_child}
 use Rattle.arj_part_law.specs.Actions.{Action, action_of}
@@ -43,3 +43,11 @@ pub record IsGoodCoord (acts : List Action) (paths : Paths) (c : Coord) : Type 0
   pub home : AreAtHome acts c.tree
   pub known : (u : Uid) (b : Branch) → branch_of u c.tree ≡ Some b → Contains acts (action_of b)
   pub busy : AreBusy c
+
+-- the action has ended here
+abbrev pub IsOver : Uid → Tree → Type 0
+IsOver u t = (b : Branch) × (branch_of u t ≡ Some b) × (is_some b.ended ≡ true)
+
+-- the action is at its commit here
+abbrev pub IsCommitting : Uid → Coord → Type 0
+IsCommitting u c = (d : Doing) × (m : Machine) × (doing_of u c ≡ Some d) × (d.now ≡ Committing m)

@@ -27,7 +27,7 @@ pub use copies::{ended_actions_leave_nothing, locks_of_operations_stand, overlay
 pub use grants::{bindings_rise, grants_of_naming_stand};
 pub use messages::{coordinators_send_what_fits, what_was_decided_stands};
 pub use naming::naming_stays_good;
-pub use nodes::nodes_stay_good;
+pub use nodes::{naming_stays_good_at_its_node, nodes_stay_good};
 pub use objects::objects_of_naming_stay_good;
 pub use rows::locks_on_entries_stay_good;
 pub use server::{calls_keep_their_locks, servers_go_on, servers_stay_good};

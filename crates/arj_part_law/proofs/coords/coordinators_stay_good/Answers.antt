@@ -1,4 +1,4 @@
-use Rattle.arj_part_law.proofs.CoordInputs.{good_acts, good_begins, good_more}
+use Rattle.arj_part_law.proofs.CoordInputs.{good_acts, good_begins, none_above, good_more}
 use Rattle.arj_part_law.proofs.GoodCoords.{good_fresh, good_heard, good_acked, good_again}
 use Rattle.arj_part_law.proofs.coords.coordinators_stay_good.Goals as goal
 
@@ -22,3 +22,6 @@ returns-clause-acked c = good_acked
 
 pub returns-clause-again : goal.returns-clause-again
 returns-clause-again c = good_again
+
+pub returns-clause-apart : goal.returns-clause-apart
+returns-clause-apart c = none_above

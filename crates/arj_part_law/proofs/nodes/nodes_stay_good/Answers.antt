@@ -1,4 +1,4 @@
-use Rattle.arj_part_law.proofs.GoodNodes.{message_well, input_well, tick_well, restart_well}
+use Rattle.arj_part_law.proofs.GoodNodes.{message_well, input_well, tick_well, restart_well, begin_well, elsewhere_well}
 use Rattle.arj_part_law.proofs.nodes.nodes_stay_good.Goals as goal
 
 pub returns-clause-message : goal.returns-clause-message
@@ -12,3 +12,9 @@ returns-clause-tick c = tick_well
 
 pub returns-clause-restart : goal.returns-clause-restart
 returns-clause-restart c = restart_well
+
+pub returns-clause-begins : goal.returns-clause-begins
+returns-clause-begins c = begin_well
+
+pub returns-clause-elsewhere : goal.returns-clause-elsewhere
+returns-clause-elsewhere c = elsewhere_well
