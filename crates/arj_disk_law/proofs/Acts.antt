@@ -34,6 +34,7 @@ retain_named A t done untold c = record {
     guard = c.rows.guard;
     adds = c.rows.adds;
     out = c.rows.out;
+    since = c.rows.since;
     asked = c.rows.asked;
   };
   grants = record {

@@ -71,7 +71,7 @@ core_begun S t p can c = record {
     own = λ a h ca ua pe top. same a (c.fresh.conf a ca) (λ g q. h.new ≡ entry_after a q (S.got a) (last_entry S)) (c.covered.own a h ca (und a (c.fresh.conf a ca) ua) pe top);
     rest = λ a ca ua non. same a (c.fresh.conf a ca) (λ g q. entry_after a q (S.got a) (last_entry S) ≡ last_entry S) (c.covered.rest a ca (und a (c.fresh.conf a ca) ua) non);
     joins = λ a s ca ua. same a (c.fresh.conf a ca) (λ g q. has s q.joins ≡ true → S.got a s ≡ true → (h : Hold) × (S.entry_pend ≡ Some h) × (h.top ≡ a)) (c.covered.joins a s ca (und a (c.fresh.conf a ca) ua));
-    plain = λ a ca ua. same a (c.fresh.conf a ca) (λ g q. q.writes ≡ None → (s : ℕ) × (has s q.joins ≡ true) × (S.got a s ≡ true)) (c.covered.plain a ca (und a (c.fresh.conf a ca) ua));
+    plain = λ a ca ua. same a (c.fresh.conf a ca) (λ g q. q.writes ≡ None → ((s : ℕ) × (has s q.joins ≡ true)) × ((h : Hold) × (S.entry_pend ≡ Some h) × (h.top ≡ a))) (c.covered.plain a ca (und a (c.fresh.conf a ca) ua));
   };
   pending = record {
     sealed = λ h pe. same h.top (c.fresh.entry h pe) (λ g q. is_sealed g ≡ true) (c.pending.sealed h pe);

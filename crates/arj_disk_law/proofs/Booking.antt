@@ -14,7 +14,7 @@ use Rattle.arj_disk_law.proofs.Base.{bool_cases, test_cases, differs, or_left, n
 use Rattle.arj_disk_law.proofs.Entries.{pending_last}
 use Rattle.arj_disk_law.proofs.History.{known_last, last_known, effective_none, effective_open, in_decided}
 use Rattle.arj_disk_law.proofs.Kin.{one_top, near, weaker_row, Kin, kin_granted, not_over}
-use Rattle.arj_disk_law.proofs.Listing.{find_true, list_from, list_lacks, list_joins, list_same, list_is, same_list, entry_content, plain_target}
+use Rattle.arj_disk_law.proofs.Listing.{find_true, list_from, list_lacks, list_same, list_is, same_list, plain_target}
 
 -- where the list stays, each listed target has prepared
 pub unchanged_got : (p : Plan) (got : ℕ → Bool) (l : List ℕ) (s : ℕ) → bytes_eq (list_after p got l) l ≡ true → has s l ≡ true → target p s ≡ true → got s ≡ true
@@ -98,22 +98,23 @@ module _ (A : Office) (c : Named A) (t : ℕ) (may : MayConfirm A t) (present : 
   other_conf : HasPart (S.plan t) → (z : ℕ) → S.conf z ≡ true → z ≡ t → ⊥
   other_conf part z cz e = unconfirmed part (inl (ap S.conf (sym e) ∙ cz))
 
-  -- another confirmed top that didn't write has a new store prepared, and the write lock
-  plain_writer : (z : ℕ) → S.conf z ≡ true → undecided S z ≡ true → (S.plan z).writes ≡ None → HasRow N z 2
-  plain_writer z cz uz plain = subst (λ n. HasRow N n 2) own.2 (c.rows.adds own.0 joined.0 own.1 new out)
+  -- another confirmed top that didn't write has its entry prepared, with the write lock, or with one that a restart gave back
+  -- and beside which nobody has another
+  plain_alone : HasPart (S.plan t) → undecided S t ≡ true → (z : ℕ) → S.conf z ≡ true → undecided S z ≡ true → (S.plan z).writes ≡ None → ⊥
+  plain_alone part u z cz uz plain = by (c.rows.since own.0 joined.0 own.1 (subst (λ n. has joined.0 (S.plan n).joins ≡ true) (sym own.2) joined.1))
     where
-      joined : (s : ℕ) × (has s (S.plan z).joins ≡ true) × (S.got z s ≡ true)
-      joined = core.covered.plain z cz uz plain
+      joined : (s : ℕ) × (has s (S.plan z).joins ≡ true)
+      joined = (core.covered.plain z cz uz plain).0
 
       own : (h : Hold) × (S.entry_pend ≡ Some h) × (h.top ≡ z)
-      own = core.covered.joins z joined.0 cz uz joined.1 joined.2
+      own = (core.covered.plain z cz uz plain).1
 
-      new : has joined.0 own.0.new.content ≡ true
-      new = subst (λ l. has joined.0 l ≡ true) (sym (ap (λ (e : Packed). e.content) (core.covered.own z own.0 cz uz own.1 own.2) ∙ entry_content z (S.plan z) (S.got z) (last_entry S)))
-          (list_joins (S.plan z) (S.got z) (last_entry S).content joined.0 joined.1 joined.2)
+      lone : N.given z ≡ true → Kin S N (S.root t) → z ≡ t
+      lone given (h, of_root, (m, row, low)) = c.roots.one z t uz u (ap S.root (sym (c.rows.alone z h m given row)) ∙ of_root)
 
-      out : has joined.0 S.entry.content ≡ false
-      out = c.rows.out own.0 joined.0 own.1 (ap (decided S) own.2 ∙ open_done (decided S z) (S.stage z) (S.intent z) uz) (subst (λ n. has joined.0 (S.plan n).joins ≡ true) (sym own.2) joined.1)
+      by : (N.given own.0.top ≡ true) ⊎ HasRow N own.0.top 2 → ⊥
+      by (inl given) = other_conf part z cz (lone (ap N.given (sym own.2) ∙ given) (kin part u))
+      by (inr row) = no_writer part u z uz (other_conf part z cz) (subst (λ n. HasRow N n 2) own.2 row)
 
   -- a store that has prepared for it and is listed, and isn't about to leave for the other, shows that there is no other
   by_store : HasPart (S.plan t) → undecided S t ≡ true → (z s : ℕ) → S.conf z ≡ true → undecided S z ≡ true → is_some (S.plan z).writes ≡ true → has s (last_entry S).content ≡ true → S.got t s ≡ true → (IsExcused S z s → ⊥) → ⊥
@@ -186,7 +187,7 @@ module _ (A : Office) (c : Named A) (t : ℕ) (may : MayConfirm A t) (present : 
   }
     where
       by : ((s : ℕ) → has s (S.plan t).joins ≡ false) → (z : ℕ) → S.conf z ≡ true → undecided S z ≡ true → (o : Option Packed) → (S.plan z).writes ≡ o → ⊥
-      by none z cz uz None e = no_writer part u z uz (other_conf part z cz) (plain_writer z cz uz e)
+      by none z cz uz None e = plain_alone part u z cz uz e
       by none z cz uz (Some w) e = alone none z cz uz (ap is_some e)
 
   -- a writer whose list stays

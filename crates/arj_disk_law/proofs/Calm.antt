@@ -1,5 +1,5 @@
 -- Effects that touch no decision, no entry and no confirmation: the naming node's half goes on to hold.
-use Rattle.std.proofs.Common.{◌≡◌, ℕ, List, Bool, true, false, Option, inl, inr, ⊎_elim}
+use Rattle.std.proofs.Common.{◌≡◌, ℕ, List, Bool, true, false, Option, inl, inr, ⊎_elim, Some}
 use Rattle.arj_disk_law.specs.Messages.{Message, IsOver}
 use Rattle.arj_disk_law.specs.Named.{Roots, Rows, IsHeld, Grants, IsWide, Lists, AnswerMeans, Plans}
 use Rattle.arj_disk_law.specs.Names.{Names, Answer, Bound, Loaded}
@@ -29,8 +29,8 @@ module _ (S : State) (N : Names) (sent : List Message) (g : ℕ → Stage) (i : 
     pub calm_roots : Roots S → Roots V
     calm_roots c = record { serial = c.serial; plain = c.plain; idem = c.idem; tops = c.tops; one = λ t z u v. c.one t z (falls t u) (falls z v) }
 
-    pub calm_rows : Rows S N → Rows V N
-    calm_rows c = c
+    pub calm_rows : ((h : Hold) (s : ℕ) → S.entry_pend ≡ Some h → o h.top s ≡ true → S.got h.top s ≡ true) → Rows S N → Rows V N
+    calm_rows gots c = record { apart = c.apart; alone = c.alone; dead = c.dead; given = c.given; guard = c.guard; adds = c.adds; out = λ h s p d j g. c.out h s p d j (gots h s p g); since = c.since; asked = c.asked }
 
     is_held : (r : ℕ) → IsHeld S N r → IsHeld V N r
     is_held r (inl x) = inl (over r x)

@@ -13,7 +13,7 @@ use Rattle.arj_disk_law.proofs.Base.{bool_cases, put_same, test_cases, test_is, 
 use Rattle.arj_disk_law.proofs.History.{known_last}
 use Rattle.arj_disk_law.proofs.Keeps.{effect_keeps}
 use Rattle.arj_disk_law.proofs.Kin.{one_top, near, Kin, kin_of, kin_granted, not_over, open_untold}
-use Rattle.arj_disk_law.proofs.Listing.{list_from, list_keeps, list_joins, entry_content, plain_target}
+use Rattle.arj_disk_law.proofs.Listing.{list_from, list_keeps, list_joins, entry_content, plain_target, list_lacks}
 use Rattle.arj_disk_law.proofs.Locks.{less_cases}
 use Rattle.arj_disk_law.proofs.Mail.{decide_falls}
 use Rattle.arj_disk_law.proofs.Plain.{idle_old}
@@ -91,7 +91,7 @@ module _ (A : Office) (c : Named A) (t : ℕ) (x : Allowed A.world (Effects.Deci
 
   -- a store that it includes was prepared with an entry of its own, under the write lock
   joined_row : (s : ℕ) → S.conf t ≡ true → has s (S.plan t).joins ≡ true → S.got t s ≡ true → HasRow N t 2
-  joined_row s ct j g = subst (λ n. HasRow N n 2) own.2 (c.rows.adds own.0 s own.1 new (c.rows.out own.0 s own.1 (ap (decided S) own.2 ∙ x.1) (subst (λ n. has s (S.plan n).joins ≡ true) (sym own.2) j)))
+  joined_row s ct j g = subst (λ n. HasRow N n 2) own.2 (c.rows.adds own.0 s own.1 new (c.rows.out own.0 s own.1 (ap (decided S) own.2 ∙ x.1) (subst (λ n. has s (S.plan n).joins ≡ true) (sym own.2) j) (subst (λ n. S.got n s ≡ true) (sym own.2) g)))
     where
       own : (h : Hold) × (S.entry_pend ≡ Some h) × (h.top ≡ t)
       own = core.covered.joins t s ct open_t j g
@@ -148,10 +148,16 @@ module _ (A : Office) (c : Named A) (t : ℕ) (x : Allowed A.world (Effects.Deci
 
       -- an excluded store of the held entry is about to leave it
       excluded : S.conf t ≡ true → has s S.entry.content ≡ true → target (S.plan t) s ≡ true → (o : Option Packed) → (S.plan t).writes ≡ o → (S.got t s ≡ true) ⊎ IsLeaving S.root (decided V) S.entry_pend (S.root t) s
-      excluded ct q goal None e =
-          let y = core.covered.plain t ct open_t e in
-          let h = core.covered.joins t y.0 ct open_t y.1 y.2 in
-          absurd (never q (c.rows.out h.0 s h.1 (ap (decided S) h.2 ∙ x.1) (subst (λ n. has s (S.plan n).joins ≡ true) (sym h.2) (plain_target (S.plan t) s e goal))))
+      excluded ct q goal None e = ⊎_elim (λ (g : S.got t s ≡ true). inl g) (λ (g : S.got t s ≡ false). inr (own_leaves g (core.covered.plain t ct open_t e).1)) (bool_cases (S.got t s))
+        where
+          own_leaves : S.got t s ≡ false → (h : Hold) × (S.entry_pend ≡ Some h) × (h.top ≡ t) → IsLeaving S.root (decided V) S.entry_pend (S.root t) s
+          own_leaves g h = record {
+            by_entry = h.0;
+            there = h.1;
+            done_by = subst (λ n. decided V n ≡ true) (sym h.2) now;
+            of_root = ap S.root h.2;
+            lacks = ap (λ (k : Packed). has s k.content) (core.covered.own t h.0 ct open_t h.1 h.2) ∙ ap (has s) (entry_content t (S.plan t) (S.got t) (last_entry S)) ∙ list_lacks (S.plan t) (S.got t) (last_entry S).content s goal g;
+          }
       excluded ct q goal (Some p) e = ⊎_elim (λ (g : S.got t s ≡ true). inl g) (λ (y : IsExcused S t s). inr (leaves y y.whose)) (core.covered.stores t s ct (inl open_t) (ap is_some e) (inl q))
         where
           leaves : (y : IsExcused S t s) → (y.by_entry.top ≡ t) ⊎ ((decided S y.by_entry.top ≡ true) × (S.root y.by_entry.top ≡ S.root t)) → IsLeaving S.root (decided V) S.entry_pend (S.root t) s
@@ -314,6 +320,7 @@ module _ (A : Office) (c : Named A) (t : ℕ) (x : Allowed A.world (Effects.Deci
           guard = c.rows.guard;
           adds = c.rows.adds;
           out = λ h s p d. c.rows.out h s p (falls_to (decided S h.top) (λ e. never (rises h.top e) d));
+          since = c.rows.since;
           asked = c.rows.asked;
         };
         grants = record {

@@ -4,7 +4,7 @@ use Rattle.arj_disk_law.specs.Core.{Core}
 use Rattle.arj_disk_law.specs.Effects
 use Rattle.arj_disk_law.specs.Effects.{World, Whole, CanAgree, CanPass, CanEnter, changed, marked, entry_hold, new_list}
 use Rattle.arj_disk_law.specs.Guards.{HasRow, IsUntold, IsPresent, HasPart, MayConfirm, MayAgree, MayPass, MayEnter}
-use Rattle.arj_disk_law.specs.Messages.{IsOver}
+use Rattle.arj_disk_law.specs.Messages.{IsOver, Confirm}
 use Rattle.arj_disk_law.specs.Named.{Named, Grants, IsLeaving, IsWide, AnswerMeans, Plans}
 use Rattle.arj_disk_law.specs.Names.{Names, Office, Answer, Bound, Loaded, acted, Do}
 use Rattle.arj_disk_law.specs.State.{State, Hold, decided, undecided, target, Listed}
@@ -103,9 +103,9 @@ can_pass A t may c = record {
   asked = may.confirm.asked;
   plain = may.plain;
   none = may.none;
-  unlisted = may.confirm.unlisted;
+  unlisted = may.idle;
   clear = clear A c t may.confirm may.present;
-  unconfirmed = λ u. falls_to (A.world.disk.conf t) (λ h. let x = c.whole.core.covered.plain t h u may.plain in unconfirmed A c t may.confirm may.present (inr (x.0, x.1)) (inl h));
+  unconfirmed = λ u. falls_to (A.world.disk.conf t) (λ h. let x = (c.whole.core.covered.plain t h u may.plain).0 in unconfirmed A c t may.confirm may.present (inr (x.0, x.1)) (inl h));
 }
 
 pub can_enter : (A : Office) (t : ℕ) → MayEnter A t → Named A → CanEnter A.world t
@@ -134,6 +134,7 @@ agreed_named A t may c = record {
     guard = λ h p. let y = c.rows.guard h p in (y.0, y.1, put_rises t A.names.confd h.top y.2);
     adds = c.rows.adds;
     out = c.rows.out;
+    since = c.rows.since;
     asked = c.rows.asked;
   };
   grants = grants_conf A c t may.confirm here (marked V t V.conf) V.light from rises now V.entry_pend;
@@ -173,7 +174,8 @@ entered_named A t may c = record {
     given = c.rows.given;
     guard = λ h e. subst (λ (x : Hold). HasRow A.names x.top 1 × (A.names.told x.top ≡ false) × (put t true A.names.confd x.top ≡ true)) (is h e) (enter_row A c t may.confirm here may.other, may.confirm.untold.0, put_same t true A.names.confd);
     adds = λ h s e i n. subst (λ (x : Hold). HasRow A.names x.top 2) (is h e) (adds s (subst (λ (x : Hold). has s x.new.content ≡ true) (sym (is h e)) i) n);
-    out = λ h s e d j. may.confirm.unlisted s (subst (λ (x : Hold). has s (V.plan x.top).joins ≡ true) (sym (is h e)) j);
+    out = λ h s e d j g. may.confirm.unlisted s (subst (λ (x : Hold). has s (V.plan x.top).joins ≡ true) (sym (is h e)) j) (subst (λ (x : Hold). V.got x.top s ≡ true) (sym (is h e)) g);
+    since = λ h s e j. inr (subst (λ (x : Hold). HasRow A.names x.top 2) (is h e) (since s (subst (λ (x : Hold). has s (V.plan x.top).joins ≡ true) (sym (is h e)) j)));
     asked = c.rows.asked;
   };
   grants = grants_conf A c t may.confirm here (marked V t V.conf) V.light from rises now (Some (entry_hold V t));
@@ -192,6 +194,10 @@ entered_named A t may c = record {
 
     here : HasPart (V.plan t) → IsPresent V A.names t
     here p = may.present
+
+    -- with a store that it includes it has the write lock
+    since : (s : ℕ) → has s (V.plan t).joins ≡ true → HasRow A.names t 2
+    since s j = let a = c.plans.asked t s (c.whole.mail (Confirm t) may.confirm.asked).0 j in c.rows.asked t (a.2 (may.present a.0 (inl a.1)) may.confirm.untold) may.confirm.untold
 
     free : V.entry_pend ≡ None
     free = enter_free A c t may.confirm here may.other
@@ -234,6 +240,7 @@ passed_named A t may c = record {
     guard = λ h p. let y = c.rows.guard h p in (y.0, y.1, put_rises t A.names.confd h.top y.2);
     adds = c.rows.adds;
     out = c.rows.out;
+    since = c.rows.since;
     asked = c.rows.asked;
   };
   grants = grants_conf A c t may.confirm may.present V.conf (marked V t V.light) from rises now V.entry_pend;
@@ -255,9 +262,9 @@ passed_named A t may c = record {
 
     -- what it marks isn't listed
     unlisted : (s : ℕ) → has s (V.plan t).joins ≡ true → Listed V s → ⊥
-    unlisted s j (inl i) = never i (may.confirm.unlisted s j)
+    unlisted s j (inl i) = never i (may.idle s j)
     unlisted s j (inr i) = ⊎_elim
-        (λ (e : has s V.entry.content ≡ true). never e (may.confirm.unlisted s j))
+        (λ (e : has s V.entry.content ≡ true). never e (may.idle s j))
         (λ (x : (h : Hold) × (V.entry_pend ≡ Some h) × (decided V h.top ≡ true) × (has s h.new.content ≡ true)). never (clear A c t may.confirm may.present x.0 s x.1 x.3 (join_target (V.plan t) s j)) (may.none s))
         (last_listed V s c.whole.core i)
 

@@ -2,7 +2,7 @@
 use Rattle.std.proofs.Common.{◌≡◌, ◌⊎◌, ℕ, ◌+◌, Bool, true, false, ◌||◌, Option, Some, None, is_some, refl, sym, ◌∙◌, ap, subst, inl, inr, ⊎_elim}
 use Rattle.std.specs.Str.{bytes_eq}
 use Rattle.arj_disk_law.specs.Core.{Journal, Core, Coordinators, Bare}
-use Rattle.arj_disk_law.specs.Effects.{changed, marked, Agree, Pass, Enter, Locked, IsClear, IsUnlisted, new_list, entry_hold}
+use Rattle.arj_disk_law.specs.Effects.{changed, marked, Agree, Pass, Enter, Locked, IsClear, IsUnlisted, NoneIsListed, new_list, entry_hold}
 use Rattle.arj_disk_law.specs.State.{State, Packed, Hold, is_sealed, decided, undecided, target, entry_after, last, last_entry, Listed, IsExcused}
 use Rattle.arj_disk_law.specs.Words.{has}
 use Rattle.arj_disk_law.proofs.Base.{bool_cases, put_cases, put_same, or_cases, or_left, or_right, never, never_some}
@@ -113,8 +113,8 @@ core_entered S t begun sealed free other stores undone unlisted locked c = recor
         (λ (n : (a ≡ t) × (undecided S t ≡ true)). (entry_hold S t, refl, sym n.0))
         (marked_cases S t S.conf a ca);
     plain = λ a ca u e. ⊎_elim
-        (λ (o : S.conf a ≡ true). c.covered.plain a o u e)
-        (λ (n : (a ≡ t) × (undecided S t ≡ true)). subst (λ x. (s : ℕ) × (has s (S.plan x).joins ≡ true) × (S.got x s ≡ true)) (sym n.0) (joined (ap (λ x. (S.plan x).writes) (sym n.0) ∙ e)))
+        (λ (o : S.conf a ≡ true). let x = (c.covered.plain a o u e).1 in absurd (never_some x.1 free))
+        (λ (n : (a ≡ t) × (undecided S t ≡ true)). (subst (λ x. (s : ℕ) × (has s (S.plan x).joins ≡ true)) (sym n.0) (joined (ap (λ x. (S.plan x).writes) (sym n.0) ∙ e)), (entry_hold S t, refl, sym n.0)))
         (marked_cases S t S.conf a ca);
   };
   pending = record {
@@ -146,12 +146,15 @@ core_entered S t begun sealed free other stores undone unlisted locked c = recor
     new s i = ⊎_elim (λ (x : (has s S.entry.content ≡ true) × (target (S.plan t) s ≡ true → S.got t s ≡ true)). inl x.0) (λ (x : (has s (S.plan t).joins ≡ true) × (S.got t s ≡ true)). inr x.1)
         (list_from (S.plan t) (S.got t) S.entry.content s (subst (λ l. has s l ≡ true) content i))
 
-    -- a new list of one that didn't write has a store that it includes
-    joined : (S.plan t).writes ≡ None → (m : ℕ) × (has m (S.plan t).joins ≡ true) × (S.got t m ≡ true)
+    -- a new list of one that didn't write has a store that it includes, or lacks one
+    joined : (S.plan t).writes ≡ None → (m : ℕ) × (has m (S.plan t).joins ≡ true)
     joined e = ⊎_elim
-        (λ (x : (m : ℕ) × (has m (S.plan t).joins ≡ true) × (S.got t m ≡ true)). x)
-        (λ (none : (m : ℕ) → has m (S.plan t).joins ≡ true → S.got t m ≡ false).
-        absurd (never (list_is (new_list S t) S.entry.content (list_same (S.plan t) (S.got t) S.entry.content (λ m i goal. absurd (never i (unlisted m (plain_target (S.plan t) m e goal)))) none)) other))
+        (λ (x : (m : ℕ) × (has m (S.plan t).joins ≡ true) × (S.got t m ≡ true)). (x.0, x.1))
+        (λ (none : (m : ℕ) → has m (S.plan t).joins ≡ true → S.got t m ≡ false). ⊎_elim
+        (λ (x : (m : ℕ) × (has m S.entry.content ≡ true) × (target (S.plan t) m ≡ true)). (x.0, plain_target (S.plan t) x.0 e x.2))
+        (λ (off : (m : ℕ) → has m S.entry.content ≡ true → target (S.plan t) m ≡ false).
+        absurd (never (list_is (new_list S t) S.entry.content (list_same (S.plan t) (S.got t) S.entry.content (λ m i goal. absurd (never goal (off m i))) none)) other))
+        (find_true (target (S.plan t)) S.entry.content))
         (find_true (S.got t) (S.plan t).joins)
 
     Fine : ℕ → ℕ → Type 0
@@ -225,7 +228,7 @@ core_agreed S t begun sealed wrote same unlisted clear locked c = record {
     -- no included store has prepared, since it would be listed
     no_joins : (s : ℕ) → has s (S.plan t).joins ≡ true → S.got t s ≡ false
     no_joins s j = ⊎_elim
-        (λ (g : S.got t s ≡ true). absurd (never (subst (λ l. has s l ≡ true) is_same (list_joins (S.plan t) (S.got t) S.entry.content s j g)) (unlisted s j)))
+        (λ (g : S.got t s ≡ true). absurd (never (subst (λ l. has s l ≡ true) is_same (list_joins (S.plan t) (S.got t) S.entry.content s j g)) (unlisted s j g)))
         (λ (g : S.got t s ≡ false). g)
         (bool_cases (S.got t s))
 
@@ -247,7 +250,7 @@ core_agreed S t begun sealed wrote same unlisted clear locked c = record {
     mine s (inl e) (inl goal) = inl (held_kept s e goal)
     mine s (inr i) (inl goal) = inl (last_kept s i goal)
 
-pub core_passed : (S : State) (t : ℕ) → S.begun t ≡ true → is_sealed (S.stage t) ≡ true → (S.plan t).writes ≡ None → ((s : ℕ) → S.got t s ≡ false) → IsUnlisted S t → IsClear S t → (undecided S t ≡ true → S.conf t ≡ false)
+pub core_passed : (S : State) (t : ℕ) → S.begun t ≡ true → is_sealed (S.stage t) ≡ true → (S.plan t).writes ≡ None → ((s : ℕ) → S.got t s ≡ false) → NoneIsListed S t → IsClear S t → (undecided S t ≡ true → S.conf t ≡ false)
     → Core S → Core (changed S (Pass t))
 core_passed S t begun sealed plain none unlisted clear unconfirmed c = record {
   journal = c.journal;

@@ -134,6 +134,7 @@ module _ (A : Office) (t : ℕ) (commits : Bool) (may : MayEndTop A t commits) (
     guard = λ h p. let z = c.rows.guard h p in let o = test_not h.top t (λ e. may.clear h p e) in (keeps h.top 1 o z.0, put_other t true N.told h.top o ∙ z.1, z.2);
     adds = λ h s p i n. keeps h.top 2 (test_not h.top t (λ e. may.clear h p e)) (c.rows.adds h s p i n);
     out = c.rows.out;
+    since = λ h s p j. ⊎_elim (λ (g : N.given h.top ≡ true). inl (put_other t false N.given h.top (test_not h.top t (λ e. may.clear h p e)) ∙ g)) (λ (r : HasRow N h.top 2). inr (keeps h.top 2 (test_not h.top t (λ e. may.clear h p e)) r)) (c.rows.since h s p j);
     asked = λ x a u. keeps x 2 (other x u) (c.rows.asked x a (old x u));
   }
 
@@ -246,6 +247,7 @@ module _ (A : Office) (r : ℕ) (may : MayEndSerial A r) (c : Named A) where
       guard = λ h p. let z = c.rows.guard h p in (stays h.top 1 (λ e. may.clear h p e) z.0, put_other r true N2.told h.top (not_serial h.top (c.roots.tops h.top (c.whole.core.fresh.entry h p))) ∙ z.1, z.2);
       adds = λ h s p i n. stays h.top 2 (λ e. may.clear h p e) (c.rows.adds h s p i n);
       out = c.rows.out;
+      since = λ h s p j. ⊎_elim (λ g. inl g) (λ r. inr (stays h.top 2 (λ e. may.clear h p e) r)) (c.rows.since h s p j);
       asked = λ x a u. stays x 2 (apart_from x u) (c.rows.asked x a (was x u));
     };
     grants = record {

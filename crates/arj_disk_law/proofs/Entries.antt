@@ -88,7 +88,7 @@ core_entry_ended S h prepared unexcused closed entry c = record {
     own = λ a k ca u pe. none k pe;
     rest = λ a ca u non. c.covered.rest a ca u (λ k pe top. not_own a u k pe top);
     joins = λ a s ca u j g. let x = c.covered.joins a s ca u j g in absurd (not_own a u x.0 x.1 x.2);
-    plain = c.covered.plain;
+    plain = λ a ca u e. let x = (c.covered.plain a ca u e).1 in absurd (not_own a u x.0 x.1 x.2);
   };
   pending = record {
     sealed = λ k pe. none k pe;

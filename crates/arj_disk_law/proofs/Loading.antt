@@ -73,7 +73,7 @@ loads_the_last A c t s g holds i free held = (is_last, alone)
     alone z cz uz = wrote (S.plan z).writes refl
       where
         wrote : (o : Option Packed) → (S.plan z).writes ≡ o → ⊥
-        wrote None w = let y = core.covered.plain z cz uz w in let p = core.covered.joins z y.0 cz uz y.1 y.2 in clear p.0 p.1
+        wrote None w = let p = (core.covered.plain z cz uz w).1 in clear p.0 p.1
         wrote (Some x) w = ⊎_elim
             (λ (got : S.got z s ≡ true). never_some (core.firm.kept z s uz got) free)
             (λ (y : IsExcused S z s). clear y.by_entry y.there)

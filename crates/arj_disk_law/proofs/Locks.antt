@@ -65,6 +65,7 @@ module _ (S : State) (N : Names) (t m : ℕ) (asked : ℕ → Bool)
       guard = λ h p. let y = c.guard h p in (row_rises h.top 1 y.0, y.1, y.2);
       adds = λ h s p i n. row_rises h.top 2 (c.adds h s p i n);
       out = c.out;
+      since = λ h s p j. ⊎_elim (λ (g : N.given h.top ≡ true). inl g) (λ (r : HasRow N h.top 2). inr (row_rises h.top 2 r)) (c.since h s p j);
       asked = λ x a u. ⊎_elim (λ (y : N.asked x ≡ true). row_rises x 2 (c.asked x y u)) (λ (y : (x ≡ t) × (2 ≤ m)). subst (λ n. HasRow Locked n 2) (sym y.0) (m, put_same t (Some m) N.row, y.1)) (asks x a);
     }
       where
@@ -288,7 +289,7 @@ pub unbind_named : (A : Office) → Named A → Named (acted A Unbind)
 unbind_named A c = record {
   whole = c.whole;
   roots = c.roots;
-  rows = record { apart = c.rows.apart; alone = c.rows.alone; dead = λ t g. refl; given = c.rows.given; guard = c.rows.guard; adds = c.rows.adds; out = c.rows.out; asked = c.rows.asked };
+  rows = record { apart = c.rows.apart; alone = c.rows.alone; dead = λ t g. refl; given = c.rows.given; guard = c.rows.guard; adds = c.rows.adds; out = c.rows.out; since = c.rows.since; asked = c.rows.asked };
   grants = c.grants;
   lists = c.lists;
   answers = λ a i. by a (c.answers a i);
@@ -312,6 +313,7 @@ lower_named A t may c = record {
     guard = λ h p. let y = c.rows.guard h p in (guarded h 1 p y.0, y.1, y.2);
     adds = λ h s p i n. guarded h 2 p (c.rows.adds h s p i n);
     out = c.rows.out;
+    since = λ h s p j. ⊎_elim (λ g. absurd (not_given h.top g)) (λ r. inr (guarded h 2 p r)) (c.rows.since h s p j);
     asked = λ x a u. asked x a (c.rows.asked x a u);
   };
   grants = record {

@@ -55,6 +55,7 @@ first_is_named S N f forest n = record {
     guard = λ h p. none_some f.entry_free p;
     adds = λ h s p. none_some f.entry_free p;
     out = λ h s p. none_some f.entry_free p;
+    since = λ h s p. none_some f.entry_free p;
     asked = λ t a. no_way a (n.asked t);
   };
   grants = record {

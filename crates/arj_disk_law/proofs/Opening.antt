@@ -52,6 +52,7 @@ begun_named A t p may c = record {
     guard = c.rows.guard;
     adds = c.rows.adds;
     out = λ h s e d j. c.rows.out h s e d (subst (λ (q : Plan). has s q.joins ≡ true) (put_other t p S.plan h.top (other h.top (core.fresh.entry h e))) j);
+    since = λ h s e j. c.rows.since h s e (subst (λ (q : Plan). has s q.joins ≡ true) (put_other t p S.plan h.top (other h.top (core.fresh.entry h e))) j);
     asked = c.rows.asked;
   };
   grants = record {

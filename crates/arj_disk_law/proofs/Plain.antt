@@ -6,10 +6,10 @@ use Rattle.arj_disk_law.specs.Guards.{IsToldFirst}
 use Rattle.arj_disk_law.specs.Messages.{Message, Acked, ToldCommit, ToldAbort, ToldSerial, IsOver}
 use Rattle.arj_disk_law.specs.Named.{Named, IsLeaving, IsWide, AnswerMeans}
 use Rattle.arj_disk_law.specs.Names.{Office, Answer, Bound, Loaded, acted, Do}
-use Rattle.arj_disk_law.specs.State.{State, Packed, Hold, Stage, Confirming, Gone, naming, is_idle, is_open, is_gone, open_by, decided, undecided, lists, listed_by, Listed, hold}
+use Rattle.arj_disk_law.specs.State.{State, Packed, Hold, Stage, Confirming, Gone, naming, is_idle, is_open, is_gone, open_by, decided, undecided, lists, listed_by, Listed, hold, is_sealed}
 use Rattle.arj_disk_law.specs.Words.{has, In, put, put2}
-use Rattle.arj_disk_law.proofs.Base.{bool_cases, put_cases, put_rises, never, some_is, open_done, open_made}
-use Rattle.arj_disk_law.proofs.Calm.{calm, calm_roots, calm_grants, calm_lists, calm_answer, calm_plans}
+use Rattle.arj_disk_law.proofs.Base.{bool_cases, put_cases, put_rises, never, some_is, open_done, open_made, put2_true}
+use Rattle.arj_disk_law.proofs.Calm.{calm, calm_roots, calm_rows, calm_grants, calm_lists, calm_answer, calm_plans}
 use Rattle.arj_disk_law.proofs.Entries.{pending_last}
 use Rattle.arj_disk_law.proofs.Keeps.{effect_keeps, removed_done}
 use Rattle.arj_disk_law.proofs.Mail.{stage_falls}
@@ -24,11 +24,12 @@ idle_old f g ages a h = ⊎_elim (λ (e : is_idle (f a) ≡ true). e) (λ (e : i
 calm_named : (A : Office) (g : ℕ → Stage) (i : ℕ → Option (List ℕ)) (b : ℕ → Bool) (o : ℕ → ℕ → Bool) (held : ℕ → Option Packed) (pend : ℕ → Option Hold) (went : ℕ → ℕ → Bool)
     → Ages A.world.disk.stage g → ((a : ℕ) → open_by (decided A.world.disk a) (g a) (i a) ≡ true → undecided A.world.disk a ≡ true) → ((a : ℕ) → A.world.disk.bare a ≡ true → b a ≡ true)
     → ((a : ℕ) → decided A.world.disk a ≡ true → A.names.had a A.names.inc ≡ true → A.names.told a ≡ false → lists A.world.disk a naming ≡ true → listed_by (i a) naming ≡ true)
+    → ((h : Hold) (s : ℕ) → A.world.disk.entry_pend ≡ Some h → o h.top s ≡ true → A.world.disk.got h.top s ≡ true)
     → Whole (record { disk = calm A.world.disk g i b o held pend went; sent = A.world.sent }) → Named A → Named (record { world = record { disk = calm A.world.disk g i b o held pend went; sent = A.world.sent }; names = A.names })
-calm_named A g i b o held pend went ages falls bare listed whole c = record {
+calm_named A g i b o held pend went ages falls bare listed gots whole c = record {
   whole = whole;
   roots = calm_roots A.world.disk A.names A.world.sent g i b o held pend went falls ages.gone (idle_old A.world.disk.stage g ages) bare listed c.roots;
-  rows = c.rows;
+  rows = calm_rows A.world.disk A.names A.world.sent g i b o held pend went falls ages.gone (idle_old A.world.disk.stage g ages) bare listed gots c.rows;
   grants = calm_grants A.world.disk A.names A.world.sent g i b o held pend went falls ages.gone (idle_old A.world.disk.stage g ages) bare listed c.grants;
   lists = calm_lists A.world.disk A.names A.world.sent g i b o held pend went falls ages.gone (idle_old A.world.disk.stage g ages) bare listed c.lists;
   answers = λ a m. calm_answer A.world.disk A.names A.world.sent g i b o held pend went falls ages.gone (idle_old A.world.disk.stage g ages) bare listed a (c.answers a m);
@@ -38,31 +39,39 @@ calm_named A g i b o held pend went ages falls bare listed whole c = record {
 -- effects of stores: no stage, no record
 stores_named : (A : Office) (held : ℕ → Option Packed) (pend : ℕ → Option Hold) (went : ℕ → ℕ → Bool) → Whole (record { disk = calm A.world.disk A.world.disk.stage A.world.disk.intent A.world.disk.bare A.world.disk.got held pend went; sent = A.world.sent }) → Named A
     → Named (record { world = record { disk = calm A.world.disk A.world.disk.stage A.world.disk.intent A.world.disk.bare A.world.disk.got held pend went; sent = A.world.sent }; names = A.names })
-stores_named A held pend went whole c = calm_named A A.world.disk.stage A.world.disk.intent A.world.disk.bare A.world.disk.got held pend went (same_ages A.world.disk.stage) (λ a u. u) (λ a h. h) (λ a d h u l. l) whole c
+stores_named A held pend went whole c = calm_named A A.world.disk.stage A.world.disk.intent A.world.disk.bare A.world.disk.got held pend went (same_ages A.world.disk.stage) (λ a u. u) (λ a h. h) (λ a d h u l. l) (λ h s p g. g) whole c
 
 pub took_named : (A : Office) (t s : ℕ) → Allowed A.world (Effects.Take t s) → Named A → Named (acted A (Do (Effects.Take t s)))
-took_named A t s x c = calm_named A A.world.disk.stage A.world.disk.intent A.world.disk.bare (put2 t s true A.world.disk.got) A.world.disk.held A.world.disk.pend A.world.disk.went (same_ages A.world.disk.stage) (λ a u. u) (λ a h. h) (λ a d h u l. l) (effect_keeps A.world (Effects.Take t s) x c.whole) c
+took_named A t s x c = calm_named A A.world.disk.stage A.world.disk.intent A.world.disk.bare (put2 t s true A.world.disk.got) A.world.disk.held A.world.disk.pend A.world.disk.went (same_ages A.world.disk.stage) (λ a u. u) (λ a h. h) (λ a d h u l. l) gots (effect_keeps A.world (Effects.Take t s) x c.whole) c
+  where
+    -- who has an entry prepared has ended its prepare step
+    gots : (h : Hold) (m : ℕ) → A.world.disk.entry_pend ≡ Some h → put2 t s true A.world.disk.got h.top m ≡ true → A.world.disk.got h.top m ≡ true
+    gots h m p g = ⊎_elim
+        (λ (e : (h.top ≡ t) × (m ≡ s)). let n : false ≡ true = sym (ap is_sealed (ap A.world.disk.stage e.0 ∙ x.0)) ∙ c.whole.core.pending.sealed h p in cc)
+        (λ (o : A.world.disk.got h.top m ≡ true). o)
+        (put2_true t s A.world.disk.got h.top m g)
 
 pub sealed_named : (A : Office) (t : ℕ) → Allowed A.world (Effects.Seal t) → Named A → Named (acted A (Do (Effects.Seal t)))
 sealed_named A t x c = calm_named A (put t Confirming A.world.disk.stage) A.world.disk.intent A.world.disk.bare A.world.disk.got A.world.disk.held A.world.disk.pend A.world.disk.went
-    ages (λ a u. stage_falls A.world.disk (put t Confirming A.world.disk.stage) ages a u) (λ a h. h) (λ a d h u l. l) (effect_keeps A.world (Effects.Seal t) x c.whole) c
+    ages (λ a u. stage_falls A.world.disk (put t Confirming A.world.disk.stage) ages a u) (λ a h. h) (λ a d h u l. l) (λ h s p g. g) (effect_keeps A.world (Effects.Seal t) x c.whole) c
   where
     ages : Ages A.world.disk.stage (put t Confirming A.world.disk.stage)
     ages = ages_seal t A.world.disk.stage x
 
 pub halted_named : (A : Office) (t : ℕ) → Named A → Named (acted A (Do (Effects.Halt t)))
 halted_named A t c = calm_named A (put t Gone A.world.disk.stage) A.world.disk.intent A.world.disk.bare A.world.disk.got A.world.disk.held A.world.disk.pend A.world.disk.went
-    (ages_gone t A.world.disk.stage) (λ a u. stage_falls A.world.disk (put t Gone A.world.disk.stage) (ages_gone t A.world.disk.stage) a u) (λ a h. h) (λ a d h u l. l) (effect_keeps A.world (Effects.Halt t) tt c.whole) c
+    (ages_gone t A.world.disk.stage) (λ a u. stage_falls A.world.disk (put t Gone A.world.disk.stage) (ages_gone t A.world.disk.stage) a u) (λ a h. h) (λ a d h u l. l) (λ h s p g. g) (effect_keeps A.world (Effects.Halt t) tt c.whole) c
 
 pub ended_bare_named : (A : Office) (t : ℕ) → Allowed A.world (Effects.EndBare t) → Named A → Named (acted A (Do (Effects.EndBare t)))
 ended_bare_named A t x c = calm_named A (put t Gone A.world.disk.stage) A.world.disk.intent (put t true A.world.disk.bare) A.world.disk.got A.world.disk.held A.world.disk.pend A.world.disk.went
-    (ages_gone t A.world.disk.stage) (λ a u. stage_falls A.world.disk (put t Gone A.world.disk.stage) (ages_gone t A.world.disk.stage) a u) (λ a h. put_rises t A.world.disk.bare a h) (λ a d h u l. l) (effect_keeps A.world (Effects.EndBare t) x c.whole) c
+    (ages_gone t A.world.disk.stage) (λ a u. stage_falls A.world.disk (put t Gone A.world.disk.stage) (ages_gone t A.world.disk.stage) a u) (λ a h. put_rises t A.world.disk.bare a h) (λ a d h u l. l) (λ h s p g. g) (effect_keeps A.world (Effects.EndBare t) x c.whole) c
 
 pub intended_named : (A : Office) (t : ℕ) (nodes : List ℕ) → Allowed A.world (Effects.Intend t nodes) → Named A → Named (acted A (Do (Effects.Intend t nodes)))
 intended_named A t nodes x c = calm_named A A.world.disk.stage (put t (Some nodes) A.world.disk.intent) A.world.disk.bare A.world.disk.got A.world.disk.held A.world.disk.pend A.world.disk.went (same_ages A.world.disk.stage)
     (λ a u. put_cases (λ o. open_by (decided S a) (S.stage a) o ≡ true → undecided S a ≡ true) t (Some nodes) S.intent a (λ e v. open_made (decided S a) (S.stage a) (S.intent a) (open_done (decided S a) (S.stage a) (Some nodes) v) (inl (ap is_open (ap S.stage e ∙ x.sealed)))) (λ e v. v) u)
     (λ a h. h)
     (λ a d h u l. put_cases (λ o. listed_by o naming ≡ true) t (Some nodes) S.intent a (λ e. let n : ◌≡◌ {A = Bool} false true = sym (ap is_gone (ap S.stage e ∙ x.sealed)) ∙ c.whole.core.coordinators.decided_closed a d in cc) (λ e. l))
+    (λ h s p g. g)
     (effect_keeps A.world (Effects.Intend t nodes) x c.whole) c
   where
     S : State
@@ -73,6 +82,7 @@ removed_named A t nodes x c = calm_named A A.world.disk.stage (put t None A.worl
     (λ a u. put_cases (λ o. open_by (decided S a) (S.stage a) o ≡ true → undecided S a ≡ true) t None S.intent a (λ e v. absurd (never (ap (decided S) e ∙ removed_done A.world t nodes x c.whole) (open_done (decided S a) (S.stage a) None v))) (λ e v. v) u)
     (λ a h. h)
     (λ a d h u l. put_cases (λ o. listed_by o naming ≡ true) t None S.intent a (λ e. absurd (known (ap (λ n. A.names.had n A.names.inc) (sym e) ∙ h) (ap A.names.told (sym e) ∙ u))) (λ e. l))
+    (λ h s p g. g)
     (effect_keeps A.world (Effects.Remove t nodes) x c.whole) c
   where
     S : State
@@ -133,6 +143,7 @@ entry_moved_named A h x c = record {
     guard = c.rows.guard;
     adds = λ k s p i n. absurd (never (subst (λ (y : Hold). has s y.new.content ≡ true) (some_is p x.0) i) n);
     out = λ k s p d. absurd (never (ap (λ (y : Hold). decided S y.top) (some_is p x.0) ∙ done) d);
+    since = c.rows.since;
     asked = c.rows.asked;
   };
   grants = c.grants;
@@ -177,6 +188,7 @@ entry_ended_named A h unleft whole c = record {
     guard = λ k p. none k p;
     adds = λ k s p. none k p;
     out = λ k s p. none k p;
+    since = λ k s p. none k p;
     asked = c.rows.asked;
   };
   grants = c.grants;

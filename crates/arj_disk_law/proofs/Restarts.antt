@@ -67,6 +67,7 @@ restart_named A yes_again may c = record {
     guard = λ h p. (row h 1 p (mode_low S.entry h), refl, may.pending h p);
     adds = λ h s p i n. row h 2 p (mode_adds S.entry h s i n);
     out = c.rows.out;
+    since = λ h s p j. inl (subst (λ o. is_pending o h.top ≡ true) (sym p) (test_same h.top));
     asked = λ t a. let n : false ≡ true = a in cc;
   };
   grants = record {
@@ -137,6 +138,7 @@ hear_named A t i b l may c = record {
     guard = c.rows.guard;
     adds = c.rows.adds;
     out = c.rows.out;
+    since = c.rows.since;
     asked = c.rows.asked;
   };
   grants = record {
@@ -346,7 +348,7 @@ answer_load_named A t i s l g may c = record {
         alone z cz uz = wrote (S.plan z).writes refl
           where
             wrote : (o : Option Packed) → (S.plan z).writes ≡ o → S.root z ≡ S.root t
-            wrote None w = let y = core.covered.plain z cz uz w in let p = core.covered.joins z y.0 cz uz y.1 y.2 in absurd (clear p.0 p.1)
+            wrote None w = let p = (core.covered.plain z cz uz w).1 in absurd (clear p.0 p.1)
             wrote (Some x) w = ⊎_elim
                 (λ (got : S.got z s ≡ true). absurd (never_some (core.firm.kept z s uz got) may.free))
                 (λ (y : IsExcused S z s). absurd (clear y.by_entry y.there))

@@ -52,7 +52,7 @@ core_took S t s is sent kept c = record {
     own = λ a h ca u pe top. subst (λ f. h.new ≡ entry_after a (S.plan a) f (last_entry S)) (sym (stays a (c.coordinators.conf_sealed a ca))) (c.covered.own a h ca u pe top);
     rest = λ a ca u non. subst (λ f. entry_after a (S.plan a) f (last_entry S) ≡ last_entry S) (sym (stays a (c.coordinators.conf_sealed a ca))) (c.covered.rest a ca u non);
     joins = λ a m ca u j. subst (λ f. f m ≡ true → (h : Hold) × (S.entry_pend ≡ Some h) × (h.top ≡ a)) (sym (stays a (c.coordinators.conf_sealed a ca))) (c.covered.joins a m ca u j);
-    plain = λ a ca u e. subst (λ f. (m : ℕ) × (has m (S.plan a).joins ≡ true) × (f m ≡ true)) (sym (stays a (c.coordinators.conf_sealed a ca))) (c.covered.plain a ca u e);
+    plain = c.covered.plain;
   };
   pending = record {
     sealed = c.pending.sealed;

@@ -109,14 +109,14 @@ abbrev pub IsActive : State → ℕ → Type 0
 IsActive S t = (undecided S t ≡ true) ⊎ (is_latest S t ≡ true)
 
 -- Each listed store has prepared for such a top, if it wrote, or is about to leave the list; and the entry that will be is
--- prepared, exactly where it differs. One that didn't write includes a store.
+-- prepared, exactly where it differs. One that didn't write includes a store, and its entry is prepared.
 abbrev pub Covered : State → Type 0
 Covered S = record {
   stores : (t s : ℕ) → S.conf t ≡ true → IsActive S t → is_some (S.plan t).writes ≡ true → Listed S s → (S.got t s ≡ true) ⊎ IsExcused S t s;
   own : (t : ℕ) (h : Hold) → S.conf t ≡ true → undecided S t ≡ true → S.entry_pend ≡ Some h → h.top ≡ t → h.new ≡ entry_after t (S.plan t) (S.got t) (last_entry S);
   rest : (t : ℕ) → S.conf t ≡ true → undecided S t ≡ true → ((h : Hold) → S.entry_pend ≡ Some h → h.top ≡ t → ⊥) → entry_after t (S.plan t) (S.got t) (last_entry S) ≡ last_entry S;
   joins : (t s : ℕ) → S.conf t ≡ true → undecided S t ≡ true → has s (S.plan t).joins ≡ true → S.got t s ≡ true → (h : Hold) × (S.entry_pend ≡ Some h) × (h.top ≡ t);
-  plain : (t : ℕ) → S.conf t ≡ true → undecided S t ≡ true → (S.plan t).writes ≡ None → (s : ℕ) × (has s (S.plan t).joins ≡ true) × (S.got t s ≡ true);
+  plain : (t : ℕ) → S.conf t ≡ true → undecided S t ≡ true → (S.plan t).writes ≡ None → ((s : ℕ) × (has s (S.plan t).joins ≡ true)) × ((h : Hold) × (S.entry_pend ≡ Some h) × (h.top ≡ t));
 }
 
 -- Whose entry is prepared: one that was confirmed, or that is dead; and the entry's new stores had prepared.

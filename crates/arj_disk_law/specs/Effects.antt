@@ -128,9 +128,13 @@ pub record Locked (S : State) (t : ℕ) : Type 0 where
 abbrev pub IsClear : State → ℕ → Type 0
 IsClear S t = (h : Hold) (s : ℕ) → S.entry_pend ≡ Some h → has s h.new.content ≡ true → target (S.plan t) s ≡ true → S.got t s ≡ true
 
--- no store that a top includes is listed
+-- no store that a top includes and that said Yes is listed
 abbrev pub IsUnlisted : State → ℕ → Type 0
-IsUnlisted S t = (s : ℕ) → has s (S.plan t).joins ≡ true → has s S.entry.content ≡ false
+IsUnlisted S t = (s : ℕ) → has s (S.plan t).joins ≡ true → S.got t s ≡ true → has s S.entry.content ≡ false
+
+-- no store that a top includes is listed
+abbrev pub NoneIsListed : State → ℕ → Type 0
+NoneIsListed S t = (s : ℕ) → has s (S.plan t).joins ≡ true → has s S.entry.content ≡ false
 
 -- the list that the top would leave of the held entry
 abbrev pub new_list : State → ℕ → List ℕ
@@ -181,7 +185,7 @@ pub record CanPass (W : World) (t : ℕ) : Type 0 where
   pub asked : In (Confirm t) W.sent
   pub plain : (W.disk.plan t).writes ≡ None
   pub none : (s : ℕ) → W.disk.got t s ≡ false
-  pub unlisted : IsUnlisted W.disk t
+  pub unlisted : NoneIsListed W.disk t
   pub clear : IsClear W.disk t
   pub unconfirmed : undecided W.disk t ≡ true → W.disk.conf t ≡ false
 

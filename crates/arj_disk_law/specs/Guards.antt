@@ -1,6 +1,6 @@
 -- What the naming node, and the coordinators towards it, look at before an act.
 use Rattle.std.specs.Prelude.{◌≡◌, ◌⊎◌, ℕ, ◌+◌, ◌≤◌, List, [], ◌∷◌, Bool, true, false, Some, None, is_some, bytes_eq, ⊤}
-use Rattle.arj_disk_law.specs.Effects.{Effect, Begin, Take, Seal, Intend, Decide, Remove, EndBare, Halt, Keep, Move, Finish, Drop, Agree, Pass, Enter, MoveEntry, FinishEntry, DropEntry, Forget, Send, Allowed, MaySend, IsNot, IsUnlisted, new_list}
+use Rattle.arj_disk_law.specs.Effects.{Effect, Begin, Take, Seal, Intend, Decide, Remove, EndBare, Halt, Keep, Move, Finish, Drop, Agree, Pass, Enter, MoveEntry, FinishEntry, DropEntry, Forget, Send, Allowed, MaySend, IsNot, IsUnlisted, NoneIsListed, new_list}
 use Rattle.arj_disk_law.specs.Laws.{IsBased}
 use Rattle.arj_disk_law.specs.Messages.{Message, Prepare, Prepared, Confirm, Confirmed, ToldCommit, ToldBare, ToldAbort, Acked, ToldSerial}
 use Rattle.arj_disk_law.specs.Names.{Names, Office, Kept, Bound, Loaded, Act, Do, Commit, CommitBare, Read, Write, Exclude, Lower, Unbind, EndTop, EndSerial, Restart, Hear, KeepList, AnswerLoad, acted, load_of}
@@ -56,7 +56,8 @@ pub record MayConfirm (A : Office) (t : ℕ) : Type 0 where
   pub unlisted : IsUnlisted A.world.disk t
   pub exclude : MayExclude A.world.disk A.names t
 
--- the three kinds of confirmation, as an effect's conditions and the grants that the top counts on
+-- The three kinds of confirmation, as an effect's conditions and the grants that the top counts on. One that changes nothing
+-- includes no listed store.
 pub record MayAgree (A : Office) (t : ℕ) : Type 0 where
   pub confirm : MayConfirm A t
   pub present : IsPresent A.world.disk A.names t
@@ -68,6 +69,7 @@ pub record MayPass (A : Office) (t : ℕ) : Type 0 where
   pub present : HasPart (A.world.disk.plan t) → IsPresent A.world.disk A.names t
   pub plain : (A.world.disk.plan t).writes ≡ None
   pub none : (s : ℕ) → A.world.disk.got t s ≡ false
+  pub idle : NoneIsListed A.world.disk t
 
 -- The last condition is what the servers give where the top wrote and includes a store, and no store of the entry said Yes.
 pub record MayEnter (A : Office) (t : ℕ) : Type 0 where

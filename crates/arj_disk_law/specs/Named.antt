@@ -22,7 +22,8 @@ Roots S = record {
   one : (t z : ℕ) → undecided S t ≡ true → undecided S z ≡ true → S.root t ≡ S.root z → t ≡ z;
 }
 
--- Locks: those that conflict are related; one that was given back stands alone; and each prepared entry is guarded.
+-- Locks: those that conflict are related; one that was given back stands alone; and each prepared entry is guarded, that of a
+-- top that includes a store by the write lock, or by one that was given back.
 abbrev pub Rows : State → Names → Type 0
 Rows S N = record {
   apart : (h k m n : ℕ) → N.row h ≡ Some m → N.row k ≡ Some n → 2 ≤ m + n → Related S.root h k;
@@ -31,7 +32,8 @@ Rows S N = record {
   given : (t : ℕ) → N.given t ≡ true → HasRow N t 1 × (S.begun t ≡ true) × (N.had t N.inc ≡ false);
   guard : (h : Hold) → S.entry_pend ≡ Some h → HasRow N h.top 1 × (N.told h.top ≡ false) × (N.confd h.top ≡ true);
   adds : (h : Hold) (s : ℕ) → S.entry_pend ≡ Some h → has s h.new.content ≡ true → has s S.entry.content ≡ false → HasRow N h.top 2;
-  out : (h : Hold) (s : ℕ) → S.entry_pend ≡ Some h → decided S h.top ≡ false → has s (S.plan h.top).joins ≡ true → has s S.entry.content ≡ false;
+  out : (h : Hold) (s : ℕ) → S.entry_pend ≡ Some h → decided S h.top ≡ false → has s (S.plan h.top).joins ≡ true → S.got h.top s ≡ true → has s S.entry.content ≡ false;
+  since : (h : Hold) (s : ℕ) → S.entry_pend ≡ Some h → has s (S.plan h.top).joins ≡ true → (N.given h.top ≡ true) ⊎ HasRow N h.top 2;
   asked : (t : ℕ) → N.asked t ≡ true → IsUntold S N t → HasRow N t 2;
 }
 
