@@ -1,5 +1,5 @@
 -- Questions on noted lists, answered by their paths at a number.
-use Rattle.std.proofs.Common.{◌≡◌, ℕ, Bool, true, false, not, ◌&&◌, ◌||◌, ◌==◌, List, [], ◌∷◌, ◌++◌, append-nil, refl, ap, sym, ◌∙◌, if◌then◌else◌, arith}
+use Rattle.std.proofs.Common.{◌≡◌, ℕ, Bool, true, false, not, ◌&&◌, ◌||◌, ◌==◌, List, filter, [], ◌∷◌, ◌++◌, append-nil, refl, ap, sym, ◌∙◌, if◌then◌else◌, arith}
 use Rattle.std.specs.List.{list_any, list_all}
 use Rattle.std.specs.Ordering.{nat_cmp, is_eq}
 use Rattle.std.specs.declared.cmp.Ordering.{Ordering}
@@ -22,6 +22,18 @@ any_by {A} on path test (a ∷ items) = by (on a) (any_by on path test items)
         → ((b && test (path a)) || list_any (λ a. on a && test (path a)) items) ≡ list_any test (if b then path a ∷ paths_by on path items else paths_by on path items)
     by true ih = ap (λ rest. test (path a) || rest) ih
     by false ih = ih
+
+-- one among those that pass a test
+pub any_within : {A : Type 0} (on test : A → Bool) (items : List A) → list_any on (filter test items) ≡ list_any (λ a. on a && test a) items
+any_within on test [] = refl
+any_within {A} on test (a ∷ items) = by (on a) refl (test a) (any_within on test items)
+  where
+    by : (b : Bool) → on a ≡ b → (t : Bool) → list_any on (filter test items) ≡ list_any (λ a. on a && test a) items
+        → list_any on (if t then a ∷ filter test items else filter test items) ≡ ((b && t) || list_any (λ a. on a && test a) items)
+    by true is true ih = rw is refl
+    by true is false ih = ih
+    by false is true ih = rw is ih
+    by false is false ih = ih
 
 -- all that have the number pass
 pub all_by : {A : Type 0} (on : A → Bool) (path : A → List Uid) (test : List Uid → Bool) (items : List A) → list_all (λ a. not (on a) || test (path a)) items ≡ list_all test (paths_by on path items)

@@ -1,7 +1,7 @@
 // The calls on objects that were answered.
 ghost use Rattle.std.specs.Prelude.{◌≡◌, [], OnOk, OnErr};
-ghost use Rattle.std.specs.List.{list_all};
-ghost use Rattle.std.specs.Prelude.{not, ◌||◌, ◌==◌};
+ghost use Rattle.std.specs.List.{list_any, list_all};
+ghost use Rattle.std.specs.Prelude.{not, ◌||◌, ◌&&◌, ◌==◌};
 ghost use Rattle.arj_base.specs.Path.{uids_of};
 ghost use Rattle.arj_protocol.specs.Coord as coord;
 ghost use Rattle.arj_protocol.specs.Tree.{is_spent};
@@ -88,6 +88,20 @@ impl Calls {
         ensures { result ≡ coord.retains x (of_calls self.now) (of_tree tree.now) }
     {
         self.by_object.retains(x, tree)
+    }
+
+    /// Whether a call on the object survives in the top. It looks at the calls on the object alone.
+    pub fn uses(&self, x: u16, top: Uid, tree: &Tree) -> bool
+        ensures { result ≡ list_any (λ (s : coord.Said). (s.x == x) && coord.survives top s.path (of_tree tree.now)) self.now }
+    {
+        self.by_object.survives(x, top, tree)
+    }
+
+    /// Whether a call on the object survives in the top or is retained. It looks at the calls on the object alone.
+    pub fn is_called(&self, x: u16, top: Uid, tree: &Tree) -> bool
+        ensures { result ≡ coord.is_called x top (of_calls self.now) (of_tree tree.now) }
+    {
+        self.by_object.counts(x, top, tree)
     }
 
     /// Whether each call on the object has an aborted action on its path. It looks at the calls on the object alone.

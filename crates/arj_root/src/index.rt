@@ -9,7 +9,7 @@ ghost use Rattle.arj_protocol.specs.Order.{at_number};
 ghost use Rattle.arj_protocol.specs.Tree.{is_spent};
 ghost use Rattle.arj_root.specs.Noted.{listed, indexed, of_tree};
 
-use crate::survival::is_retained;
+use crate::survival::{counts, is_retained, survives};
 use crate::trail::Trail;
 use arj_base::{Path, Seq, Uid};
 use arj_tree::Tree;
@@ -75,6 +75,26 @@ impl Index {
         }
     }
 
+    /// Whether one of the paths at a number survives in the top.
+    pub fn survives(&self, number: u16, top: Uid, tree: &Tree) -> bool
+        ensures { result ≡ list_any (λ p. coord.survives top p (of_tree tree.now)) (listed number self.now) }
+    {
+        match self.paths.get(&number) {
+            Some(paths) => any_survives(paths.as_slice(), top, tree),
+            None => false,
+        }
+    }
+
+    /// Whether one of the paths at a number survives in the top or is retained.
+    pub fn counts(&self, number: u16, top: Uid, tree: &Tree) -> bool
+        ensures { result ≡ list_any (λ p. coord.counts top p (of_tree tree.now)) (listed number self.now) }
+    {
+        match self.paths.get(&number) {
+            Some(paths) => any_counts(paths.as_slice(), top, tree),
+            None => false,
+        }
+    }
+
     /// Whether each path at a number has an aborted action.
     pub fn are_spent(&self, number: u16, tree: &Tree) -> bool
         ensures { result ≡ list_all (λ p. is_spent p tree.now) (listed number self.now) }
@@ -120,4 +140,28 @@ fn all_spent(paths: &[Trail], tree: &Tree) -> bool
         }
     }
     true
+}
+
+// Whether one of the paths survives in the top.
+fn any_survives(paths: &[Trail], top: Uid, tree: &Tree) -> bool
+    ensures { result ≡ list_any (λ p. coord.survives top p (of_tree tree.now)) paths.now }
+{
+    for path in paths {
+        if survives(tree, top, path.as_slice()) {
+            return true;
+        }
+    }
+    false
+}
+
+// Whether one of the paths survives in the top or is retained.
+fn any_counts(paths: &[Trail], top: Uid, tree: &Tree) -> bool
+    ensures { result ≡ list_any (λ p. coord.counts top p (of_tree tree.now)) paths.now }
+{
+    for path in paths {
+        if counts(tree, top, path.as_slice()) {
+            return true;
+        }
+    }
+    false
 }
