@@ -1,0 +1,10 @@
+pub mod Answer
+pub mod Awaiting
+pub mod Fits
+pub mod Marks
+pub mod Plans
+pub mod Requests
+pub mod Runs
+pub mod Sets
+pub mod Steps
+pub mod Tolds
