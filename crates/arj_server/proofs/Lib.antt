@@ -1,0 +1,7 @@
+mod Classes
+mod Voted
+mod Said
+mod Runs
+mod Loops
+mod Means
+mod Stays

@@ -1,0 +1,5 @@
+pub mod Calls
+pub mod Classes
+pub mod Lines
+pub mod Outcome
+pub mod Meaning
