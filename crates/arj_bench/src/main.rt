@@ -1,7 +1,7 @@
-//! Work for the benches: without words it does nothing; with a number of rows and a number of requests it makes that many
-//! requests of a lock table with that many rows, and prints what they were answered. With `pass`, a number of locks and a
-//! number of passes, an action that is nested deep takes that many locks, and they pass that often to the parent. With
-//! `objects`, a number of objects and a number of tops, that many tops work on that many active objects.
+//! Work for the benches: without words it does nothing; with a number of rows and a number of requests it makes that
+//! many requests of a lock table with that many rows, and prints what they were answered. With `pass`, a number of
+//! locks and a number of passes, an action that is nested deep takes that many locks, and they pass that often to the
+//! parent. With `objects`, a number of objects and a number of tops, that many tops work on that many active objects.
 //!
 //! It stands on `arj_lock` and `arj_manager`. The time is taken from outside, by `bench/locks` and `bench/objects`.
 #![tactic(auto)]

@@ -33,7 +33,8 @@ abbrev pub base_step : Step → Base → List Over → Base
 base_step (Top u) base es = raised u (current base es) base
 base_step _ base es = base
 
--- What locks and the order of ends see to: who writes has the deepest overlay or none, and an end is of the deepest one.
+-- What locks and the order of ends see to: who writes has the deepest overlay or none, and an end is of the deepest
+-- one.
 abbrev pub May : Step → List Over → Type 0
 May (Write holder tops v) es = MayWrite (last_uid holder) es
 May (Nested u h) [] = ⊥
@@ -60,7 +61,8 @@ base_run (s ∷ ss) base es = base_run ss (base_step s base es) (stack_step s es
 
 -- ---- by what each action wrote
 
--- A write is the action's; a nested commit gives the parent what the action wrote; after any end the action has written nothing.
+-- A write is the action's; a nested commit gives the parent what the action wrote; after any end the action has written
+-- nothing.
 abbrev pub overlay_step : Step → (Uid → Option Value) → Uid → Option Value
 overlay_step (Write holder tops v) o b = if uid_eq (last_uid holder) b then Some v else o b
 overlay_step (Nested u h) o b = if uid_eq h b then o u else (if uid_eq u b then None else o b)
@@ -79,8 +81,8 @@ pub record Images : Type 0 where
   pub now : Value
   pub before : Uid → Option Value
 
--- A first write keeps the value that stood there; a nested commit gives the parent the image where it has none; an abort goes
--- back to the image; after any end the action has none.
+-- A first write keeps the value that stood there; a nested commit gives the parent the image where it has none; an
+-- abort goes back to the image; after any end the action has none.
 abbrev pub image_step : Step → Images → Images
 image_step (Write holder tops v) i = record { now = v; before = λ b. if uid_eq (last_uid holder) b then Some (older (i.before (last_uid holder)) i.now) else i.before b }
 image_step (Nested u h) i = record { now = i.now; before = λ b. if uid_eq h b then option_or (i.before h) (i.before u) else (if uid_eq u b then None else i.before b) }

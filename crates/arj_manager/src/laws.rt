@@ -19,17 +19,17 @@ pub fn aborts_agree()
         → image base (gone ++ e ∷ stays) (last_uid e.holder) ≡ Some (current base stays) }
 {}
 
-/// Under every list of calls that locks and the order of ends admit, what each action wrote, and what stands in place with
-/// what stood there before each action's first write, are two views of one stack. It does nothing when it runs.
+/// Under every list of calls that locks and the order of ends admit, what each action wrote, and what stands in place
+/// with what stood there before each action's first write, are two views of one stack. It does nothing when it runs.
 pub fn views_agree()
     ensures overlays { (steps : List Step) (es : List Over) → AllMay steps es → overlay_run steps (overlay es) ≡ overlay (stack_run steps es) }
     ensures images { (steps : List Step) (base : Base) (es : List Over) → AllMay steps es → image_run steps (images base es) ≡ images (base_run steps base es) (stack_run steps es) }
 {}
 
-/// Lists of records, one of each open action, are a third view of the stack, under every list of calls that locks and the order
-/// of ends admit. The undo of an action's list restores the object to the image that its overlay covers, and to nothing
-/// where it has none; and the keep of a top's list raises the object, with the top as writer, exactly where it wrote. It does
-/// nothing when it runs.
+/// Lists of records, one of each open action, are a third view of the stack, under every list of calls that locks and
+/// the order of ends admit. The undo of an action's list gives the object the image that its overlay covers, and
+/// nothing where it has none; and the keep of a top's list raises the object, with the top as writer, exactly where
+/// it wrote. It does nothing when it runs.
 pub fn records_agree()
     ensures images { (x : Uid) (steps : List Step) (base : Base) (es : List Over) (l : Lists) → AllMay steps es → AreLists x l → images_in x l ≡ images base es
         → images_in x (list_run x steps l) ≡ images (base_run steps base es) (stack_run steps es) }

@@ -12,10 +12,10 @@
 //!
 //! It stands on `arj_class` (values), `arj_lock` (lock tables), `arj_record` (for a law) and the definitions of
 //! `arj_protocol`. What it gives upward: a `StateManager` is a server's list of copies as the protocol has it, and
-//! `activate`, `invoke`, `commit`, `abort`, `changed_states`, `holds`, `is_top` and `held` are the protocol's functions on
-//! it: new state, lines and answer. All faults leave it as it was. And laws: under every list of calls on an object the
-//! overlays, and the value in place with the before-images, are two views of one stack (`views_agree`), and lists of records
-//! are a third one (`records_agree`).
+//! `activate`, `invoke`, `commit`, `abort`, `changed_states`, `holds`, `is_top` and `held` are the protocol's functions
+//! on it: new state, lines and answer. All faults leave it as it was. And laws: under every list of calls on an object
+//! the overlays, and the value in place with the before-images, are two views of one stack (`views_agree`), and lists
+//! of records are a third one (`records_agree`).
 #![tactic(auto)]
 
 mod fault;
