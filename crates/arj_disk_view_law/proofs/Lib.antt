@@ -4,6 +4,7 @@ pub mod ConfirmSteps
 pub mod DecidingSteps
 pub mod EntrySteps
 pub mod Keys
+pub mod Later
 pub mod Marks
 pub mod PairSteps
 pub mod Planned

@@ -4,4 +4,5 @@ pub mod Deciding
 pub mod Entries
 pub mod Pairs
 pub mod Plans
+pub mod Sees
 pub mod Stores

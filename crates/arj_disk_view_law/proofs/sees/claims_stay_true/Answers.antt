@@ -1,0 +1,8 @@
+use Rattle.arj_disk_view_law.proofs.Later.{effects_are_later, claims_stay}
+use Rattle.arj_disk_view_law.proofs.sees.claims_stay_true.Goals as goal
+
+pub returns-clause-later : goal.returns-clause-later
+returns-clause-later c = effects_are_later
+
+pub returns-clause-claims : goal.returns-clause-claims
+returns-clause-claims c = claims_stay

@@ -1,0 +1,156 @@
+-- The disk half of the view, whole: each place of the machine tied to the world, and what each message claims.
+use Rattle.std.specs.Prelude.{⊤, ◌≡◌, ◌⊎◌, ◌<◌, ℕ, Bool, true, false, List, ◌++◌, length, Option, Some, None}
+use Rattle.std.specs.List.{list_any}
+use Rattle.arj_protocol.specs.Words.{Uid, End, Kind, Line, Body, Head, Asked, Ask, asks, Message, uid_eq, is_on, object}
+use Rattle.arj_protocol.specs.Words.ask
+use Rattle.arj_protocol.specs.Words.body
+use Rattle.arj_protocol.specs.Words.kind
+use Rattle.arj_protocol.specs.Words.ending
+use Rattle.arj_protocol.specs.Words.message
+use Rattle.arj_protocol.specs.Words.loaded
+use Rattle.arj_protocol.specs.Words.prepared
+use Rattle.arj_protocol.specs.Words.confirmed
+use Rattle.arj_protocol.specs.Ask.{Reply, answers, actor, top_of, last_end}
+use Rattle.arj_protocol.specs.Commit.{Preparing, Confirming}
+use Rattle.arj_protocol.specs.Coord.{Coord, Doing, Now, Committing, doing_of}
+use Rattle.arj_protocol.specs.Naming.{Naming}
+use Rattle.arj_protocol.specs.Node.{Parts}
+use Rattle.arj_protocol.specs.Order.{uid_number}
+use Rattle.arj_protocol.specs.Step.{Node}
+use Rattle.arj_protocol.specs.Tree.{Branch, branch_of, is_open}
+use Rattle.arj_disk_law.specs.Effects.{World, Effect, Follows, Whole, run}
+use Rattle.arj_disk_law.specs.Messages as mail
+use Rattle.arj_disk_law.specs.State as disk
+use Rattle.arj_disk_law.specs.State.{State, target, is_gone, is_sealed, undecided, KnownIn, Known}
+use Rattle.arj_disk_law.specs.Words.{In}
+use Rattle.arj_view_law.specs.Seen as seen
+use Rattle.arj_view_law.specs.Seen.{Post, Seen}
+use Rattle.arj_disk_view_law.specs.Asking.{SeesPreparing, SeesConfirming}
+use Rattle.arj_disk_view_law.specs.Confirming.{SaysMarks}
+use Rattle.arj_disk_view_law.specs.Deciding.{SeesRecords}
+use Rattle.arj_disk_view_law.specs.Entries.{SeesEntry}
+use Rattle.arj_disk_view_law.specs.Pairs.{packed}
+use Rattle.arj_disk_view_law.specs.Stores.{SeesStore, ClaimsPrepare, ClaimsCommit, ClaimsAbort}
+
+-- ---- what messages claim
+
+-- the action's beginning stands in the journal
+abbrev pub begins : Uid → Body → Bool
+begins u (body.Began l k v parent) = uid_eq v u
+begins u _ = false
+
+abbrev pub was_begun : Uid → List Line → Bool
+was_begun u lines = list_any (λ (l : Line). begins u l.body) lines
+
+-- A Confirm: the machine has asked, and what is marked and included is what the prepare step found.
+pub record ClaimsConfirm (x : ℕ) (W : World) (t : ℕ) (grants excluded included : List (ℕ × ℕ)) : Type 0 where
+  pub asked : In (mail.Confirm t) W.sent
+  pub says : SaysMarks x (W.disk.plan t) (W.disk.got t) grants excluded included
+
+abbrev pub ClaimsAsk : ℕ → World → ℕ → Head → Ask → Type 0
+ClaimsAsk x W to h (ask.Prepare states) = ClaimsPrepare x W (actor h.path) to states
+ClaimsAsk x W to h (ask.Confirm grants excluded included) = ClaimsConfirm x W (uid_number (top_of h.path)) grants excluded included
+ClaimsAsk x W to h _ = ⊤
+
+abbrev pub ClaimsReply : ℕ → World → ℕ → Uid → Reply → Type 0
+ClaimsReply x W from u (Reply.Prepared prepared.Yes) = (W.disk.begun (uid_number u) ≡ true) × (target (W.disk.plan (uid_number u)) from ≡ true → In (mail.Prepared (uid_number u) from) W.sent)
+ClaimsReply x W from u (Reply.Confirmed confirmed.Yes) = In (mail.Confirmed (uid_number u)) W.sent
+ClaimsReply x W from u (Reply.Loaded (loaded.State st)) = st.uid ≡ object x → Known W.disk (packed st)
+ClaimsReply x W from u _ = ⊤
+
+-- An end: of a top, of a serializing action, or of an action that is no top and so has nothing prepared.
+abbrev pub ClaimsEnd : (ℕ → Bool) → World → ℕ → Uid × End → Type 0
+ClaimsEnd tops W to (u, ending.Commit) = ClaimsCommit W u to ⊎ (tops (uid_number u) ≡ false)
+ClaimsEnd tops W to (u, ending.Abort) = ClaimsAbort W u to ⊎ (In (mail.ToldSerial (uid_number u) to) W.sent ⊎ (tops (uid_number u) ≡ false))
+
+abbrev pub ClaimsLast : (ℕ → Bool) → World → ℕ → Option (Uid × End) → Type 0
+ClaimsLast tops W to None = ⊤
+ClaimsLast tops W to (Some e) = ClaimsEnd tops W to e
+
+abbrev pub ClaimsOther : (ℕ → Bool) → World → List Line → ℕ → ℕ → Message → Type 0
+ClaimsOther tops W lines from to (message.Told m) = ClaimsLast tops W to (last_end m.ends)
+ClaimsOther tops W lines from to (message.Acked m) = In (mail.Acked (uid_number m.act) from) W.sent
+ClaimsOther tops W lines from to (message.Query m) = was_begun m.act lines ≡ true
+ClaimsOther tops W lines from to _ = ⊤
+
+abbrev pub ClaimsAnswered : ℕ → (ℕ → Bool) → World → List Line → ℕ → ℕ → Message → Option (Asked × Reply) → Type 0
+ClaimsAnswered x tops W lines from to m None = ClaimsOther tops W lines from to m
+ClaimsAnswered x tops W lines from to m (Some a) = ClaimsReply x W from a.0.act a.1
+
+abbrev pub ClaimsAsked : ℕ → (ℕ → Bool) → World → List Line → ℕ → ℕ → Message → Option (Head × Ask) → Type 0
+ClaimsAsked x tops W lines from to m None = ClaimsAnswered x tops W lines from to m (answers m)
+ClaimsAsked x tops W lines from to m (Some a) = ClaimsAsk x W to a.0 a.1
+
+abbrev pub Claims : ℕ → (ℕ → Bool) → World → List Line → Post → Type 0
+Claims x tops W lines p = ClaimsAsked x tops W lines p.from p.to p.message (asks p.message)
+
+-- ---- coordinators
+
+-- an action of this coordinator that hasn't begun, or of a later incarnation
+abbrev pub IsFuture : Coord → Uid → Type 0
+IsFuture c u = ((u.inc ≡ c.tree.inc) × (length c.tree.branches < u.num)) ⊎ (c.tree.inc < u.inc)
+
+abbrev pub WorksBy : ℕ → State → ℕ → Now → Type 0
+WorksBy x S t (Committing (Preparing p left)) = SeesPreparing x S t p left
+WorksBy x S t (Committing (Confirming p)) = SeesConfirming x S t p
+WorksBy x S t _ = S.stage t ≡ disk.Idle
+
+-- an open action: a top by what it waits for, a serializing one isn't over, a nested one is no top
+abbrev pub Works : ℕ → (ℕ → Bool) → State → ℕ → Kind → Now → Type 0
+Works x tops S t kind.Nested now = tops t ≡ false
+Works x tops S t kind.Serial now = (tops t ≡ false) × (S.stage t ≡ disk.Idle)
+Works x tops S t _ now = (tops t ≡ true) × WorksBy x S t now
+
+-- A coordinator: what its open actions wait for; who isn't open is at its end, if its commit began; who is still to begin is
+-- idle.
+pub record SeesCoord (x k : ℕ) (tops : ℕ → Bool) (c : Coord) (S : State) : Type 0 where
+  pub node : c.tree.node ≡ k
+  pub working : (u : Uid) (b : Branch) (d : Doing) → branch_of u c.tree ≡ Some b → b.ended ≡ None → doing_of u c ≡ Some d → Works x tops S (uid_number u) b.kind d.now
+  pub closed : (u : Uid) → u.node ≡ k → is_open u c.tree ≡ false → S.begun (uid_number u) ≡ true → is_gone (S.stage (uid_number u)) ≡ true
+  pub future : (u : Uid) → u.node ≡ k → IsFuture c u → S.stage (uid_number u) ≡ disk.Idle
+
+-- a node that is down: each commit that began is at its end, and who is of a later incarnation is idle
+pub record SeesDown (k inc : ℕ) (S : State) : Type 0 where
+  pub closed : (u : Uid) → u.node ≡ k → S.begun (uid_number u) ≡ true → is_gone (S.stage (uid_number u)) ≡ true
+  pub future : (u : Uid) → u.node ≡ k → inc < u.inc → S.stage (uid_number u) ≡ disk.Idle
+
+-- whom naming confirmed is confirmed
+abbrev pub SeesConfirmed : Naming → State → Type 0
+SeesConfirmed o S = (a : Uid) → is_on o.confirmed a ≡ true → (S.begun (uid_number a) ≡ true) × (undecided S (uid_number a) ≡ true → (S.conf (uid_number a) ≡ true) ⊎ (S.light (uid_number a) ≡ true))
+
+-- ---- the disk half
+
+-- `tops` says which actions are tops, constituents among them.
+pub record SeesDisks (x : ℕ) (tops : ℕ → Bool) (W : World) (M : Seen) : Type 0 where
+  pub whole : Whole W
+  pub kinds : (t : ℕ) → W.disk.begun t ≡ true → (tops t ≡ true) × (W.disk.serial t ≡ false)
+  pub stores : (s : ℕ) (n : Node) → M.nodes s ≡ Some n → SeesStore x s n.disk.store W.disk
+  pub entry : (n : Node) → M.nodes 1 ≡ Some n → SeesEntry x n.disk.names W.disk
+  pub records : (k : ℕ) (n : Node) → M.nodes k ≡ Some n → SeesRecords k n.disk.intents W.disk
+  pub coords : (k : ℕ) (n : Node) (t : Parts) → M.nodes k ≡ Some n → n.live ≡ Some t → SeesCoord x k tops t.coord W.disk
+  pub downs : (k : ℕ) (n : Node) → M.nodes k ≡ Some n → n.live ≡ None → SeesDown k n.disk.inc W.disk
+  pub confirmed : (n : Node) (t : Parts) (o : Naming) → M.nodes 1 ≡ Some n → n.live ≡ Some t → t.naming ≡ Some o → SeesConfirmed o W.disk
+  pub posts : (p : Post) → seen.In p M.sent → Claims x tops W M.lines p
+
+-- there is such a state of the machine
+abbrev pub IsSeenByDisks : ℕ → (ℕ → Bool) → Seen → Type 0
+IsSeenByDisks x tops M = (W : World) × SeesDisks x tops W M
+
+-- ---- what claims rest on
+
+-- what is known of an earlier state and holds of a later one
+pub record IsLater (W V : World) : Type 0 where
+  pub begun : (t : ℕ) → W.disk.begun t ≡ true → V.disk.begun t ≡ true
+  pub plan : (t : ℕ) → W.disk.begun t ≡ true → V.disk.plan t ≡ W.disk.plan t
+  pub sealed : (t : ℕ) → is_sealed (W.disk.stage t) ≡ true → is_sealed (V.disk.stage t) ≡ true
+  pub got : (t : ℕ) → is_sealed (W.disk.stage t) ≡ true → V.disk.got t ≡ W.disk.got t
+  pub bare : (t : ℕ) → W.disk.bare t ≡ true → V.disk.bare t ≡ true
+  pub sent : (m : mail.Message) → In m W.sent → In m V.sent
+  pub known : (g : disk.Packed) → Known W.disk g → Known V.disk g
+
+-- each effect that is allowed leads to a later state, and what a message claims stays true, whatever lines are said
+abbrev pub EffectsAreLater : Type 0
+EffectsAreLater = (W : World) (es : List Effect) → Follows W es → Whole W → IsLater W (run W es)
+
+abbrev pub ClaimsStay : Type 0
+ClaimsStay = (x : ℕ) (tops : ℕ → Bool) (W V : World) (lines more : List Line) (p : Post) → Whole W → IsLater W V → Claims x tops W lines p → Claims x tops V (lines ++ more) p
