@@ -13,7 +13,7 @@ abbrev pub Paths : Type 0
 Paths = Uid → List Uid
 
 -- Paths make a tree: two actions that stand above each other are one, and a path without its last Uid is the path of the
--- Uid before, on which the action isn't. It holds of the actions that a world began, with new Uids each.
+-- Uid before, on which the action isn't. `begun_actions_make_a_tree` shows it of the actions that were begun.
 pub record IsTree (paths : Paths) : Type 0 where
   pub anti : (a b : Uid) → is_on (paths a) b ≡ true → is_on (paths b) a ≡ true → a ≡ b
   pub heir : (u h : Uid) → before_last (paths u) ≡ Some h → (front (paths u) ≡ paths h) × (is_on (front (paths u)) u ≡ false)
@@ -33,10 +33,11 @@ pub record IsGoodCopy (paths : Paths) (x : ℕ) (c : Copy) : Type 0 where
   pub chain : IsChain c.stack
   pub guard : (e : Over) → Contains c.stack e → HasLock (last_uid e.holder) 2 c.rows
 
--- An action may commit here: no descendant of it has a lock. Ends are told with those of the descendants before.
+-- An action may commit here: no descendant of it has a lock. `ends_come_in_turn` shows it of ends that a coordinator tells.
 abbrev pub IsLowest : Uid → List Row → Type 0
 IsLowest u rows = (r : Row) → Contains rows r → is_on r.holder u ≡ true → last_uid r.holder ≡ u
 
--- an overlay that isn't a top's own is of an action that has a parent: its path says so
+-- An overlay that isn't a top's own is of an action that has a parent. It holds of a good server: each of its overlays is
+-- at or below a top.
 abbrev pub HasHeirs : Uid → Copy → Type 0
 HasHeirs u c = (e : Over) → over_of u c.stack ≡ Some e → is_top_over e ≡ false → (h : Uid) × (before_last e.holder ≡ Some h)

@@ -48,7 +48,8 @@ AreInTurn n (e ∷ es) s = IsInTurn e.0 e.1 s × (let d = end_one n e.0 e.1 s in
 abbrev pub has_end_of : Uid → List (Uid × End) → Bool
 has_end_of u ends = list_any (λ (e : Uid × End). uid_eq e.0 u) ends
 
--- No end is of an action of the path. Who asks is open, and so is all that stands above it: a coordinator's tree shows it.
+-- No end is of an action of the path. Who asks is open, and so is all that stands above it: `coordinators_tell_ends_in_order`
+-- shows it.
 abbrev pub AreOfOthers : Path → List (Uid × End) → Type 0
 AreOfOthers p ends = (u : Uid) → is_on (uids_of p) u ≡ true → has_end_of u ends ≡ false
 

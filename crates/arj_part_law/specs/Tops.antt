@@ -22,8 +22,8 @@ IsTop owner t = (u : Uid) → owner u ≡ t → u ≡ t
 abbrev pub IsHolder : Owners → List Uid → Type 0
 IsHolder owner us = (us ≡ last_uid us ∷ []) ⊎ ((us ≡ owner (last_uid us) ∷ last_uid us ∷ []) × (uid_eq (owner (last_uid us)) (last_uid us) ≡ false))
 
--- A request is of a top, and its path has the top's owner. Who sends it knows; the world will show it of every message that
--- was ever sent.
+-- A request is of a top, and its path has the top's owner. `begun_actions_make_a_tree` shows it of each action that isn't
+-- serializing, and `coordinators_send_what_fits` that requests are by such paths alone.
 pub record Fits (owner : Owners) (p : Path) : Type 0 where
   pub holder : IsHolder owner (top_path p)
   pub top : IsTop owner (top_of p)

@@ -1,10 +1,12 @@
-//! What naming and servers keep by themselves, whatever messages come, in whatever order.
+//! What naming, servers and coordinators keep by themselves, whatever messages come, in whatever order.
 //!
 //! It stands on `arj_protocol` and on the laws of `arj_lock`. Each law is the contract of a public function with no
 //! parameters that does nothing when it runs. What it gives upward: `naming_stays_good`, with what was granted and the
-//! bindings that were made, for naming and its pair of entries; `servers_go_on` for a server; and of one copy that its
-//! overlays are guarded, its locks stand, and ended actions leave nothing. What a law takes as known of the tree of actions
-//! or of what a coordinator sends is a premise, with a comment that says who shows it.
+//! bindings that were made, for naming and its pair of entries; `servers_stay_good`, `servers_go_on` and
+//! `calls_keep_their_locks` for a server; `coordinators_stay_good` for a coordinator; `begun_actions_make_a_tree` for the
+//! actions that were begun. `nodes_stay_good` puts them together: whatever message fits the actions that were begun, a node
+//! stays good and sends what fits. What a law takes as known of the tree of actions or of what a coordinator sends is a
+//! premise, with a comment that says who shows it.
 #![tactic(auto)]
 
 mod actions;
