@@ -18,7 +18,7 @@ use Rattle.arj_disk_law.proofs.Base.{test_not, never, falls_to, put_same, put_ot
 use Rattle.arj_disk_view_law.specs.Pairs.{SeesPair, packed_entry}
 use Rattle.arj_disk_view_law.specs.Stores.{SeesStore}
 use Rattle.arj_disk_view_law.specs.Plans.{plan_at}
-use Rattle.arj_disk_view_law.specs.Deciding.{SeesRecords, nodes_of, RecordIsWritten, DecisionIsMade, CommitsAreUndecided, BareCommitEnds, ActionsMayHalt, RecordIsRemoved, DecisionTells, EndsMayBeTold, StoresStayCalm, EntryStaysCalm}
+use Rattle.arj_disk_view_law.specs.Deciding.{SeesRecords, nodes_of, RecordIsWritten, DecisionIsMade, CommitsAreUndecided, BareCommitEnds, ActionsMayHalt, RecordIsRemoved, DecisionTells, EndsMayBeTold, StoresStayCalm, EntryStaysCalm, IsCalm}
 use Rattle.arj_disk_view_law.proofs.Keys as keys
 use Rattle.arj_disk_view_law.proofs.Planned.{has_same, has_set, has_both}
 
@@ -155,6 +155,10 @@ bare_commit_ends x k W u p intents sees confirmed plain answered records mine no
         none_of : (b : Bool) → false ≡ (b && true) → b ≡ false
         none_of true h = sym h
         none_of false h = refl
+
+-- letting an action go opens nothing
+pub halt_calm : (W : World) (t : ℕ) → IsCalm W (after W (Halt t))
+halt_calm W t = record { rest = refl; outcomes = λ z b v. gone_calm W t z v }
 
 pub actions_may_halt : ActionsMayHalt
 actions_may_halt k W t intents records = (record { rest = refl; outcomes = λ z b v. gone_calm W t z v }, stays_written k intents W.disk records (after W (Halt t)).disk refl)

@@ -3,9 +3,12 @@ pub mod ConfirmKeeps
 pub mod ConfirmSteps
 pub mod DecidingSteps
 pub mod EntrySteps
+pub mod Frames
+pub mod Halts
 pub mod Keys
 pub mod Later
 pub mod Marks
 pub mod PairSteps
 pub mod Planned
 pub mod StoreSteps
+pub mod StoreWalks

@@ -75,6 +75,25 @@ moved_some_one which u (t ∷ ts) s held is of = by (of_cases u ts) (moved_some_
     by (inr none) ih (inl same) = let it : t.uid ≡ u = ap (λ (x : ObjectState). x.uid) same ∙ of.1 in (t, (inl refl, it), here none it)
     by (inr none) ih (inr more) = absurd (none s (more, of.1))
 
+-- each state stands under its own object
+abbrev AreKeyed : List (Uid × ObjectState) → Type 0
+AreKeyed held = (w : Uid) (s : ObjectState) → at_uid w held ≡ Some s → s.uid ≡ w
+
+put_keyed : (t : ObjectState) (held : List (Uid × ObjectState)) → AreKeyed held → AreKeyed (put_uid t.uid t held)
+put_keyed t held keyed w s is = ⊎_elim (λ same. ap (λ (q : ObjectState). q.uid) (sym same.1) ∙ sym same.0) (λ other. keyed w s other.1) (put_cases w t.uid t s held is)
+
+moved_keyed : (states : List ObjectState) (held : List (Uid × ObjectState)) → AreKeyed held → AreKeyed (moved states held)
+moved_keyed [] held keyed = keyed
+moved_keyed (t ∷ ts) held keyed = moved_keyed ts (put_uid t.uid t held) (put_keyed t held keyed)
+
+some_keyed : (which : Uid → Bool) (states : List ObjectState) (held : List (Uid × ObjectState)) → AreKeyed held → AreKeyed (moved_some which states held)
+some_keyed which [] held keyed = keyed
+some_keyed which (t ∷ ts) held keyed = some_keyed which ts (if which t.uid then put_uid t.uid t held else held) (by (which t.uid))
+  where
+    by : (b : Bool) → AreKeyed (if b then put_uid t.uid t held else held)
+    by true = put_keyed t held keyed
+    by false = keyed
+
 -- ---- a pair
 
 module _ (pack : ObjectState → Packed) (u : Uid) (d : Pair) (held : Option Packed) (pend : Option Hold) (sees : SeesPair pack u d held pend) where
@@ -96,6 +115,7 @@ module _ (pack : ObjectState → Packed) (u : Uid) (d : Pair) (held : Option Pac
       → SeesPair pack u (pair_prepared act states d) held (Some (record { top = uid_number act; new = p }))
   prepares act states p new free s of one = record {
     sorted = sorted_put act states d.pend sees.sorted;
+    keyed = sees.keyed;
     held_is = sees.held_is;
     holder = λ h is. record {
       action = act;
@@ -114,6 +134,7 @@ module _ (pack : ObjectState → Packed) (u : Uid) (d : Pair) (held : Option Pac
   pub prepares_none : (act : Uid) (states : List ObjectState) → at_uid act d.pend ≡ None → HasNone u states → SeesPair pack u (pair_prepared act states d) held pend
   prepares_none act states new none = record {
     sorted = sorted_put act states d.pend sees.sorted;
+    keyed = sees.keyed;
     held_is = sees.held_is;
     holder = λ h is. by h (sees.holder h is);
     held_by = λ a ss t is of. ⊎_elim (λ same. absurd (none t (subst (λ x. IsOf u x t) (sym same.1) of))) (λ other. sees.held_by a ss t other.1 of) (put_cases a act states ss d.pend is);
@@ -143,10 +164,11 @@ module _ (pack : ObjectState → Packed) (u : Uid) (d : Pair) (held : Option Pac
   }
 
   -- the action's states are out: what it had prepared of the object goes
-  ends_own : (act : Uid) (h : Hold) (now : List (Uid × ObjectState)) (new : Option Packed) → pend ≡ Some h → h.top ≡ uid_number act → option_map pack (at_uid u now) ≡ new
+  ends_own : (act : Uid) (h : Hold) (now : List (Uid × ObjectState)) (new : Option Packed) → AreKeyed now → pend ≡ Some h → h.top ≡ uid_number act → option_map pack (at_uid u now) ≡ new
       → SeesPair pack u (record { held = now; pend = without_uid act d.pend }) new None
-  ends_own act h now new there own is = record {
+  ends_own act h now new keyed there own is = record {
     sorted = sorted_without act d.pend sees.sorted;
+    keyed = keyed;
     held_is = is;
     holder = λ g e. absurd (cc e);
     held_by = λ a ss t at of.
@@ -156,10 +178,11 @@ module _ (pack : ObjectState → Packed) (u : Uid) (d : Pair) (held : Option Pac
         absurd (f.0 (number_tells a act (ap (λ (x : Hold). x.top) same ∙ own)));
   }
 
-  ends_other : (act : Uid) (now : List (Uid × ObjectState)) (new : Option Packed) → ((h : Hold) → pend ≡ Some h → h.top ≡ uid_number act → ⊥) → option_map pack (at_uid u now) ≡ new
+  ends_other : (act : Uid) (now : List (Uid × ObjectState)) (new : Option Packed) → AreKeyed now → ((h : Hold) → pend ≡ Some h → h.top ≡ uid_number act → ⊥) → option_map pack (at_uid u now) ≡ new
       → SeesPair pack u (record { held = now; pend = without_uid act d.pend }) new pend
-  ends_other act now new other is = record {
+  ends_other act now new keyed other is = record {
     sorted = sorted_without act d.pend sees.sorted;
+    keyed = keyed;
     held_is = is;
     holder = λ h e. others_hold act h (other h e) (sees.holder h e) now;
     held_by = λ a ss t at of. sees.held_by a ss t (without_cases a act ss d.pend sees.sorted at).1 of;
@@ -184,21 +207,21 @@ module _ (pack : ObjectState → Packed) (u : Uid) (d : Pair) (held : Option Pac
 
   -- an abort drops what the action had prepared
   pub aborts_own : (act : Uid) (h : Hold) → pend ≡ Some h → h.top ≡ uid_number act → SeesPair pack u (pair_aborted act d) held None
-  aborts_own act h there own = ends_own act h d.held held there own sees.held_is
+  aborts_own act h there own = ends_own act h d.held held sees.keyed there own sees.held_is
 
   pub aborts_other : (act : Uid) → ((h : Hold) → pend ≡ Some h → h.top ≡ uid_number act → ⊥) → SeesPair pack u (pair_aborted act d) held pend
-  aborts_other act other = ends_other act d.held held other sees.held_is
+  aborts_other act other = ends_other act d.held held sees.keyed other sees.held_is
 
   -- a commit moves it to its place
   pub commits_own : (act : Uid) (states : List ObjectState) (h : Hold) → at_uid act d.pend ≡ Some states → pend ≡ Some h → h.top ≡ uid_number act → SeesPair pack u (pair_committed act d) (Some h.new) None
   commits_own act states h is there own =
       let s = own_state act states h is there own in
-      ends_own act h (moved (new_states act d) d.held) (Some h.new) there own
+      ends_own act h (moved (new_states act d) d.held) (Some h.new) (moved_keyed (new_states act d) d.held sees.keyed) there own
       (subst (λ x. option_map pack (at_uid u (moved x d.held)) ≡ Some h.new) (sym (states_are act states is)) (held_one states h.new (moved states d.held) (one_holder act states h is there) (moved_one u states s.0 d.held s.1)))
 
   pub commits_other : (act : Uid) (states : List ObjectState) → at_uid act d.pend ≡ Some states → ((h : Hold) → pend ≡ Some h → h.top ≡ uid_number act → ⊥) → SeesPair pack u (pair_committed act d) held pend
   commits_other act states is other =
-      ends_other act (moved (new_states act d) d.held) held other
+      ends_other act (moved (new_states act d) d.held) held (moved_keyed (new_states act d) d.held sees.keyed) other
       (subst (λ x. option_map pack (at_uid u (moved x d.held)) ≡ held) (sym (states_are act states is)) (ap (λ o. option_map pack o) (moved_none u states d.held (other_states act states is other)) ∙ sees.held_is))
 
   -- a commit that is stopped in part has moved it, or hasn't; all stays prepared
@@ -207,6 +230,7 @@ module _ (pack : ObjectState → Packed) (u : Uid) (d : Pair) (held : Option Pac
       let s = own_state act states h is there own in
       record {
         sorted = sees.sorted;
+        keyed = some_keyed which (new_states act d) d.held sees.keyed;
         held_is = subst (λ x. option_map pack (at_uid u (moved_some which x d.held)) ≡ Some h.new) (sym (states_are act states is)) (held_one states h.new (moved_some which states d.held) (one_holder act states h is there) (moved_some_one which u states s.0 d.held passes s.1));
         holder = λ g e. let f = sees.holder g e in record { action = f.action; states = f.states; state = f.state; prepared = f.prepared; of = f.of; is = f.is };
         held_by = sees.held_by;
@@ -215,6 +239,7 @@ module _ (pack : ObjectState → Packed) (u : Uid) (d : Pair) (held : Option Pac
   pub parts_other : (which : Uid → Bool) (act : Uid) (states : List ObjectState) → at_uid act d.pend ≡ Some states → HasNone u states ⊎ (which u ≡ false) → SeesPair pack u (pair_in_part which act d) held pend
   parts_other which act states is none = record {
     sorted = sees.sorted;
+    keyed = some_keyed which (new_states act d) d.held sees.keyed;
     held_is = subst (λ x. option_map pack (at_uid u (moved_some which x d.held)) ≡ held) (sym (states_are act states is)) (ap (λ o. option_map pack o) (moved_some_none which u states d.held none) ∙ sees.held_is);
     holder = λ g e. let f = sees.holder g e in record { action = f.action; states = f.states; state = f.state; prepared = f.prepared; of = f.of; is = f.is };
     held_by = sees.held_by;

@@ -50,9 +50,11 @@ pub record Holder (pack : ObjectState → Packed) (u : Uid) (d : Pair) (h : Hold
   pub of : IsOf u states state
   pub is : hold_of pack action state ≡ h
 
--- The machine's place holds what the pair holds of the object, and has prepared what the pair has.
+-- The machine's place holds what the pair holds of the object, and has prepared what the pair has. Each held state is of the
+-- object under which it is held.
 pub record SeesPair (pack : ObjectState → Packed) (u : Uid) (d : Pair) (held : Option Packed) (pend : Option Hold) : Type 0 where
   pub sorted : AreSorted d.pend
+  pub keyed : (w : Uid) (s : ObjectState) → held_at w d ≡ Some s → s.uid ≡ w
   pub held_is : option_map pack (held_at u d) ≡ held
   pub holder : (h : Hold) → pend ≡ Some h → Holder pack u d h
   pub held_by : (a : Uid) (states : List ObjectState) (s : ObjectState) → at_uid a d.pend ≡ Some states → IsOf u states s → pend ≡ Some (hold_of pack a s)

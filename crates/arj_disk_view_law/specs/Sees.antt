@@ -14,17 +14,20 @@ use Rattle.arj_protocol.specs.Ask.{Reply, answers, actor, top_of, last_end}
 use Rattle.arj_protocol.specs.Commit.{Preparing, Confirming}
 use Rattle.arj_protocol.specs.Coord.{Coord, Doing, Now, Committing, doing_of}
 use Rattle.arj_protocol.specs.Naming.{Naming}
-use Rattle.arj_protocol.specs.Node.{Parts}
+use Rattle.arj_protocol.specs.Node.{Parts, Took, serve}
+use Rattle.arj_protocol.specs.Effect.{Disk, Effect}
 use Rattle.arj_protocol.specs.Order.{uid_number}
 use Rattle.arj_protocol.specs.Step.{Node}
 use Rattle.arj_protocol.specs.Tree.{Branch, branch_of, is_open}
-use Rattle.arj_disk_law.specs.Effects.{World, Effect, Follows, Whole, run}
+use Rattle.arj_disk_law.specs.Effects as machine
+use Rattle.arj_disk_law.specs.Effects.{World, Follows, Whole, run}
 use Rattle.arj_disk_law.specs.Messages as mail
 use Rattle.arj_disk_law.specs.State as disk
 use Rattle.arj_disk_law.specs.State.{State, target, is_gone, is_sealed, undecided, KnownIn, Known}
 use Rattle.arj_disk_law.specs.Words.{In}
 use Rattle.arj_view_law.specs.Seen as seen
-use Rattle.arj_view_law.specs.Seen.{Post, Seen}
+use Rattle.arj_view_law.specs.Seen.{Post, Seen, at, up, said}
+use Rattle.arj_view_law.specs.Walks.{Walks, Up, halted}
 use Rattle.arj_disk_view_law.specs.Asking.{SeesPreparing, SeesConfirming}
 use Rattle.arj_disk_view_law.specs.Confirming.{SaysMarks}
 use Rattle.arj_disk_view_law.specs.Deciding.{SeesRecords}
@@ -101,10 +104,11 @@ Works x tops S t kind.Nested now = tops t ≡ false
 Works x tops S t kind.Serial now = (tops t ≡ false) × (S.stage t ≡ disk.Idle)
 Works x tops S t _ now = (tops t ≡ true) × WorksBy x S t now
 
--- A coordinator: what its open actions wait for; who isn't open is at its end, if its commit began; who is still to begin is
+-- A coordinator of this incarnation: what its open actions wait for; who isn't open is at its end, if its commit began; who is still to begin is
 -- idle.
-pub record SeesCoord (x k : ℕ) (tops : ℕ → Bool) (c : Coord) (S : State) : Type 0 where
+pub record SeesCoord (x k inc : ℕ) (tops : ℕ → Bool) (c : Coord) (S : State) : Type 0 where
   pub node : c.tree.node ≡ k
+  pub present : c.tree.inc ≡ inc
   pub working : (u : Uid) (b : Branch) (d : Doing) → branch_of u c.tree ≡ Some b → b.ended ≡ None → doing_of u c ≡ Some d → Works x tops S (uid_number u) b.kind d.now
   pub closed : (u : Uid) → u.node ≡ k → is_open u c.tree ≡ false → S.begun (uid_number u) ≡ true → is_gone (S.stage (uid_number u)) ≡ true
   pub future : (u : Uid) → u.node ≡ k → IsFuture c u → S.stage (uid_number u) ≡ disk.Idle
@@ -127,7 +131,7 @@ pub record SeesDisks (x : ℕ) (tops : ℕ → Bool) (W : World) (M : Seen) : Ty
   pub stores : (s : ℕ) (n : Node) → M.nodes s ≡ Some n → SeesStore x s n.disk.store W.disk
   pub entry : (n : Node) → M.nodes 1 ≡ Some n → SeesEntry x n.disk.names W.disk
   pub records : (k : ℕ) (n : Node) → M.nodes k ≡ Some n → SeesRecords k n.disk.intents W.disk
-  pub coords : (k : ℕ) (n : Node) (t : Parts) → M.nodes k ≡ Some n → n.live ≡ Some t → SeesCoord x k tops t.coord W.disk
+  pub coords : (k : ℕ) (n : Node) (t : Parts) → M.nodes k ≡ Some n → n.live ≡ Some t → SeesCoord x k n.disk.inc tops t.coord W.disk
   pub downs : (k : ℕ) (n : Node) → M.nodes k ≡ Some n → n.live ≡ None → SeesDown k n.disk.inc W.disk
   pub confirmed : (n : Node) (t : Parts) (o : Naming) → M.nodes 1 ≡ Some n → n.live ≡ Some t → t.naming ≡ Some o → SeesConfirmed o W.disk
   pub posts : (p : Post) → seen.In p M.sent → Claims x tops W M.lines p
@@ -150,7 +154,30 @@ pub record IsLater (W V : World) : Type 0 where
 
 -- each effect that is allowed leads to a later state, and what a message claims stays true, whatever lines are said
 abbrev pub EffectsAreLater : Type 0
-EffectsAreLater = (W : World) (es : List Effect) → Follows W es → Whole W → IsLater W (run W es)
+EffectsAreLater = (W : World) (es : List machine.Effect) → Follows W es → Whole W → IsLater W (run W es)
 
 abbrev pub ClaimsStay : Type 0
 ClaimsStay = (x : ℕ) (tops : ℕ → Bool) (W V : World) (lines more : List Line) (p : Post) → Whole W → IsLater W V → Claims x tops W lines p → Claims x tops V (lines ++ more) p
+
+-- ---- what handlers keep of the disk half
+
+-- a node may stop at any time, and lines at which no place looks may be said
+abbrev pub StopsAreSeen : Type 0
+StopsAreSeen = (x : ℕ) (tops : ℕ → Bool) (e k : ℕ) (d : Disk) (live : Option Parts) (M : Seen) → IsSeenByDisks x tops (at k d live M) → IsSeenByDisks x tops (halted e k d M)
+
+abbrev pub LinesAreSeen : Type 0
+LinesAreSeen = (x : ℕ) (tops : ℕ → Bool) (e : ℕ) (bs : List Body) (M : Seen) → IsSeenByDisks x tops M → IsSeenByDisks x tops (said e bs M)
+
+-- a request that is taken is walked through, wherever a stop falls
+abbrev pub RequestIsWalked : (Ask → Type 0) → Type 0
+RequestIsWalked Kind = (x : ℕ) (tops : ℕ → Bool) (e k : ℕ) (d : Disk) (t v : Parts) (from : ℕ) (h : Head) (a : Ask) (outs : List Effect) (M : Seen)
+    → Kind a → IsSeenByDisks x tops (up k d t M) → ((W : World) → SeesDisks x tops W (up k d t M) → ClaimsAsk x W k h a) → serve k d t from h a ≡ Took v outs → Walks (IsSeenByDisks x tops) e k outs (Up (IsSeenByDisks x tops) k v) d M
+
+-- a Load, and a Prepare
+abbrev pub IsLoad : Ask → Type 0
+IsLoad (ask.Load y) = ⊤
+IsLoad _ = ⊥
+
+abbrev pub IsPrepare : Ask → Type 0
+IsPrepare (ask.Prepare states) = ⊤
+IsPrepare _ = ⊥

@@ -20,5 +20,5 @@ pub use asking::{plans_are_seen, prepare_steps_are_seen};
 pub use confirming::{confirmations_are_seen, new_entries_are_seen};
 pub use deciding::{decisions_are_seen, outcomes_may_be_told};
 pub use entries::ends_of_entries_are_seen;
-pub use sees::claims_stay_true;
+pub use sees::{claims_stay_true, stores_keep_the_disk_half};
 pub use stores::stores_are_seen;
