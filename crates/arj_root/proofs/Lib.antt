@@ -1,3 +1,4 @@
 pub mod Maps
 pub mod Merged
 pub mod Noted
+pub mod Placed

@@ -10,6 +10,7 @@ mod calls;
 mod grants;
 mod index;
 mod joins;
+mod places;
 mod questions;
 mod sends;
 mod survival;
