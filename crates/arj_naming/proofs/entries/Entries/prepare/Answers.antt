@@ -1,0 +1,13 @@
+use Rattle.std.proofs.Common.{List, subst, sym}
+use Rattle.std.specs.List.{AllByRecursion}
+use Rattle.arj_base.specs.declared.state.ObjectState.{ObjectState}
+use Rattle.arj_base.specs.declared.uid.Uid.{Uid}
+use Rattle.arj_naming.specs.Entries.{AreOfEntries}
+use Rattle.arj_naming.proofs.Held.{all_put}
+use Rattle.arj_naming.proofs.entries.Entries.prepare.Goals as goal
+
+pub invariant_of-self-2 : goal.invariant_of-self-2
+invariant_of-self-2 c = record {
+  held = c.self.invariant.held;
+  pend = subst (AllByRecursion (λ (e : Uid × List ObjectState). AreOfEntries e.1)) (sym c.in_ok-insert.ensures.entries) (all_put (λ u s. AreOfEntries s) c.args.action c.args.states c.self.inside.pend.entries c.self.invariant.pend c.requires);
+}

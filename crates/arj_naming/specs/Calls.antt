@@ -1,0 +1,56 @@
+-- How messages to naming read as the protocol's arguments.
+use Rattle.std.specs.Prelude.{◌≤◌, ℕ, map, length, Option, Some, None}
+use Rattle.std.specs.List.{AllByRecursion}
+use Rattle.arj_base.specs.declared.mode.End.{End}
+use Rattle.arj_base.specs.declared.uid.Uid.{Uid}
+use Rattle.arj_naming.specs.Entries.{IsOnce}
+use Rattle.arj_msg.specs.InForm.{IsNode}
+use Rattle.arj_msg.specs.declared.message.Bind.{Bind}
+use Rattle.arj_msg.specs.declared.message.Bound.{Bound}
+use Rattle.arj_msg.specs.declared.message.Confirmed.{Confirmed}
+use Rattle.arj_msg.specs.declared.message.Head.{Head}
+use Rattle.arj_msg.specs.declared.message.Recorded.{Recorded}
+use Rattle.arj_msg.specs.declared.message.BoundReply.{BoundReply}
+use Rattle.arj_msg.specs.declared.message.RecordMsg.{RecordMsg}
+use Rattle.arj_msg.specs.declared.message.RecordedReply.{RecordedReply}
+use Rattle.arj_msg.specs.declared.message.Confirm.{Confirm}
+use Rattle.arj_msg.specs.declared.message.ConfirmedReply.{ConfirmedReply}
+use Rattle.arj_msg.specs.declared.message.Told.{Told}
+use Rattle.arj_protocol.specs.Ask.{asked_by, last_end}
+use Rattle.arj_protocol.specs.Confirm as protocol
+use Rattle.arj_protocol.specs.Effect.{Pair, Served, Did, did_nothing}
+use Rattle.arj_protocol.specs.Naming.{Naming, bind, note, told}
+
+abbrev pub bind_by : Bind → Pair → Naming → Served Naming BoundReply
+bind_by m d n = bind m.head.path m.x m.include m.avoid d n
+
+abbrev pub note_by : RecordMsg → Naming → Served Naming RecordedReply
+note_by m n = note m.head.path m.x m.binding m.server_inc m.naming_inc n
+
+abbrev pub confirm_by : Confirm → Pair → Naming → Served Naming ConfirmedReply
+confirm_by m d n = protocol.confirm m.head.path m.objects m.excluded m.included d n
+
+-- of a list of ends naming acts on the last one
+abbrev pub told_last : Option (Uid × End) → Pair → Naming → Did Naming
+told_last None d n = did_nothing n
+told_last (Some e) d n = told e.0 e.1 d n
+
+abbrev pub told_by : Told → Pair → Naming → Did Naming
+told_by m d n = told_last (last_end m.ends) d n
+
+-- A Confirm may be handled: its objects are few enough for one byte to count them, none stands twice, and what it includes
+-- are nodes.
+pub record IsSingle (m : Confirm) : Type 0 where
+  pub few : length m.objects ≤ 255
+  pub once : IsOnce (map (λ (g : ℕ × ℕ). g.0) m.objects)
+  pub nodes : AllByRecursion (λ (k : ℕ × ℕ). IsNode k.1) m.included
+
+-- answers to who asked
+abbrev pub bound_to : Head → BoundReply → Bound
+bound_to h r = record { asked = asked_by h; reply = r }
+
+abbrev pub recorded_to : Head → RecordedReply → Recorded
+recorded_to h r = record { asked = asked_by h; reply = r }
+
+abbrev pub confirmed_to : Head → ConfirmedReply → Confirmed
+confirmed_to h r = record { asked = asked_by h; reply = r }

@@ -1,0 +1,41 @@
+-- How far a Confirm comes in memory, before the store is asked.
+use Rattle.std.specs.Prelude.{◌≡◌, ◌≤◌, false, ⊤, List, [], ◌∷◌, ◌++◌, length, Option}
+use Rattle.arj_journal.specs.declared.body.Line.{Line}
+use Rattle.arj_naming.specs.Entries.{AreOfEntries}
+use Rattle.arj_naming.specs.Said.{said}
+use Rattle.arj_protocol.specs.Confirm.{prepared_by}
+use Rattle.arj_protocol.specs.Effect.{Effect, Say, Send, Do, Pair, Did, Served, is_prepared, prepare_answer}
+use Rattle.arj_protocol.specs.Naming.{Naming}
+use Rattle.arj_protocol.specs.Words.{Uid, ObjectState, ConfirmedReply}
+
+-- effects that are lines, and nothing else
+abbrev pub AreLines : List Effect → Type 0
+AreLines [] = ⊤
+AreLines (Say b ∷ es) = AreLines es
+AreLines (Send to m ∷ es) = ⊥
+AreLines (Do w ∷ es) = ⊥
+
+-- it is answered, and nothing is prepared
+pub record IsAnswered (r : Served Naming ConfirmedReply) (new : Naming) (before after : List Line) (answer : Option ConfirmedReply) : Type 0 where
+  pub part : new ≡ r.part
+  pub lines : after ≡ before ++ said r.outs
+  pub reply : answer ≡ r.reply
+  pub nothing_done : AreLines r.outs
+
+-- all checks are passed, and the store is asked to prepare these states
+pub record IsReady (r : Served Naming ConfirmedReply) (top : Uid) (d : Pair) (new : Naming) (before after : List Line) (states : List ObjectState) : Type 0 where
+  pub outs : List Effect
+  pub only_lines : AreLines outs
+  pub is : r ≡ prepared_by top states (record { part = new; outs = outs }) (prepare_answer top states d)
+  pub lines : after ≡ before ++ said outs
+  pub first : is_prepared top d ≡ false
+  pub states_are : AreOfEntries states
+  pub few : length states ≤ 255
+
+-- what is done with an answer, without it
+abbrev pub did_of : Served Naming ConfirmedReply → Did Naming
+did_of r = record { part = r.part; outs = r.outs }
+
+-- the store is asked to prepare states
+abbrev pub prepare_by : Uid → List ObjectState → Pair → Naming → Served Naming ConfirmedReply
+prepare_by top states d n = prepared_by top states (record { part = n; outs = [] }) (prepare_answer top states d)

@@ -1,0 +1,11 @@
+pub mod Said
+pub mod Entries
+pub mod Payloads
+pub mod Objects
+pub mod Calls
+pub mod Confirming
+pub mod Reached
+pub mod Files
+pub mod Kept
+pub mod Prep
+pub mod Ends

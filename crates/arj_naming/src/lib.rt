@@ -1,0 +1,32 @@
+//! The naming service of node 1: who serves an object and who stores it, under locks, as Arjuna's naming and binding
+//! service has it.
+//!
+//! Per object it keeps the live binding to a server, the bindings that were made, and the locks on the entry, which tops
+//! hold. Entries are persistent: a Confirm prepares new ones in a store, and the end of its top commits or aborts them. What
+//! is committed and prepared of them is in memory too, so a Bind makes no disk call.
+//!
+//! It stands on `arj_lock` (the locks), `arj_store` (the entries on the disk), `arj_msg` and the definitions of
+//! `arj_protocol`. What it gives upward: each call of `Naming` is its function of the protocol: the part after it, the lines, the
+//! answer, and the pair of entries on the disk. A stopped call is a cut of its effects at a work (`specs/Kept.antt`).
+#![tactic(auto)]
+
+mod bindings;
+mod checks;
+mod confirm;
+mod counter;
+mod entries;
+mod lines;
+mod locks;
+mod made;
+mod memory;
+mod naming;
+mod object;
+mod part;
+mod payload;
+mod told;
+mod uids;
+
+pub use naming::Naming;
+
+#[cfg(test)]
+mod tests;
