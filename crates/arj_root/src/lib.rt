@@ -22,3 +22,6 @@ pub use joins::{Join, Joins};
 pub use questions::{least_grant, objects_in, top_uses};
 pub use sends::{Sends, Went};
 pub use survival::{counts, is_kept_top, is_retained, survives};
+
+#[cfg(test)]
+mod tests;
