@@ -60,7 +60,7 @@ module _ (x : ℕ) where
       stage = put_same t Preparing W.disk.stage;
       begun = put_same t true W.disk.begun;
       plan = put_same t (plan_at x p) W.disk.plan;
-      tidy = record { once = tidy.once; loaded = tidy.loaded; of = tidy.of };
+      tidy = record { apart = tidy.apart; once = tidy.once; distinct = tidy.distinct; loaded = tidy.loaded; of = tidy.of };
       got = λ s on. ungot s ∙ sym (nobody s);
       marks = λ s. ap (λ ms. list_any (λ (m : ℕ × ℕ). (m.0 == x) && (m.1 == s)) ms) unanswered.excluded ∙ marked_none (target (plan_at x p) s) (order.has p.prepared s) (order.has (targets_of p) s) (targets_are_asked x s p);
       apart = λ s on. nobody s;
@@ -107,7 +107,7 @@ module _ (x : ℕ) where
     stage = stage ∙ sees.stage;
     begun = begun ∙ sees.begun;
     plan = plan ∙ sees.plan;
-    tidy = record { once = sees.tidy.once; loaded = sees.tidy.loaded; of = sees.tidy.of };
+    tidy = record { apart = sees.tidy.apart; once = sees.tidy.once; distinct = sees.tidy.distinct; loaded = sees.tidy.loaded; of = sees.tidy.of };
     got = λ r on. got r on (test_cases r s);
     marks = λ r. marks r (test_cases r s);
     apart = λ r on. apart r (and_parts (order.has left r) (not (r == s)) (sym (has_without s r left) ∙ on));
@@ -167,7 +167,7 @@ module _ (x : ℕ) where
     stage = sees.stage;
     begun = sees.begun;
     plan = sees.plan;
-    tidy = record { once = sees.tidy.once; loaded = sees.tidy.loaded; of = sees.tidy.of };
+    tidy = record { apart = sees.tidy.apart; once = sees.tidy.once; distinct = sees.tidy.distinct; loaded = sees.tidy.loaded; of = sees.tidy.of };
     got = sees.got;
     marks = λ r. marks_one x p sees.tidy s r ∙ marks r (test_cases r s);
     apart = λ r on. sees.apart r (and_parts (order.has left r) (not (r == s)) (sym (has_without s r left) ∙ on)).0;

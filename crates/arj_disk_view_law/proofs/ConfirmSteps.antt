@@ -17,7 +17,8 @@ use Rattle.arj_disk_law.proofs.Listing.{list_is, list_same, find_true}
 use Rattle.arj_disk_law.proofs.Base.{test_is, test_same, never, never_some, some_is, falls_to}
 use Rattle.arj_disk_view_law.specs.Pairs.{Among, IsOf, HasNone, AreOne, packed_entry}
 use Rattle.arj_disk_view_law.specs.Entries.{SeesEntry}
-use Rattle.arj_disk_view_law.specs.Confirming.{SaysMarks, AreDistinct, AreNew, ListsAreSeen, EntriesAreEntered, FitsVersion}
+use Rattle.arj_disk_view_law.specs.Plans.{AreDistinct}
+use Rattle.arj_disk_view_law.specs.Confirming.{SaysMarks, AreNew, ListsAreSeen, EntriesAreEntered, FitsVersion}
 
 -- ---- lists of stores
 

@@ -1,3 +1,4 @@
+pub mod Asked
 pub mod AskingSteps
 pub mod ConfirmKeeps
 pub mod ConfirmSteps

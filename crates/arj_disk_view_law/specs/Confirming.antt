@@ -1,7 +1,9 @@
 -- What naming does at a Confirm, in the machine's terms: the list that a top leaves, and the entry that it has prepared.
-use Rattle.std.specs.Prelude.{⊤, ◌≡◌, ◌<◌, ℕ, Bool, true, false, not, ◌&&◌, ◌==◌, List, [], ◌∷◌, filter, None, bytes_eq}
+use Rattle.std.specs.Prelude.{⊤, ◌≡◌, ◌<◌, ℕ, Bool, true, false, not, ◌&&◌, ◌==◌, List, [], ◌∷◌, filter, None, bytes_eq, map}
 use Rattle.std.specs.List.{list_any}
 use Rattle.arj_protocol.specs.Words.{Uid, ObjectState, Entry, entry, is_listed}
+use Rattle.arj_protocol.specs.Commit as commit
+use Rattle.arj_protocol.specs.Commit.{Used, included_of}
 use Rattle.arj_protocol.specs.Confirm.{Grants, Marks, marked, stores_after, entries_after}
 use Rattle.arj_protocol.specs.Effect.{Pair, is_prepared, pair_prepared}
 use Rattle.arj_protocol.specs.Laws.{names_grant}
@@ -11,12 +13,9 @@ use Rattle.arj_disk_law.specs.Messages as mail
 use Rattle.arj_disk_law.specs.State.{State, Plan, Packed, target, list_after}
 use Rattle.arj_disk_law.specs.Words.{In}
 use Rattle.arj_disk_view_law.specs.Pairs.{IsOf, HasNone, AreOne, packed_entry}
+use Rattle.arj_disk_view_law.specs.Plans.{AreDistinct}
+use Rattle.arj_disk_view_law.specs.Asking.{SeesConfirming}
 use Rattle.arj_disk_view_law.specs.Entries.{SeesEntry}
-
--- each number stands once
-abbrev pub AreDistinct : List ℕ → Type 0
-AreDistinct [] = ⊤
-AreDistinct (n ∷ ns) = (is_listed n ns ≡ false) × AreDistinct ns
 
 -- What a Confirm says of an object: it marks the targets that didn't say Yes, includes the stores of the plan's includes that
 -- did, and has a grant of each object of which a state was sent somewhere.
@@ -72,3 +71,10 @@ QuietConfirmsKeep = (x : ℕ) (d : Pair) (S : State) (t : ℕ) → SeesEntry x d
 -- what is prepared may be answered Yes again
 abbrev pub PreparedIsTaken : Type 0
 PreparedIsTaken = (x : ℕ) (d : Pair) (W : World) (top : Uid) → SeesEntry x d W.disk → is_prepared top d ≡ true → In (mail.Confirm (uid_number top)) W.sent → MaySend W (mail.Confirmed (uid_number top))
+
+-- ---- what a coordinator asks
+
+-- a Confirm whose prepare step has ended says what that found
+abbrev pub ConfirmsSay : Type 0
+ConfirmsSay = (x : ℕ) (S : State) (t : ℕ) (p : commit.Plan) → SeesConfirming x S t p
+    → SaysMarks x (S.plan t) (S.got t) (map {A = Used} {B = ℕ × ℕ} (λ u. (u.x, u.grant)) p.used) p.excluded (included_of p)

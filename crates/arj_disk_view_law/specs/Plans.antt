@@ -1,6 +1,6 @@
 -- The commit machine of a coordinator seen as the disk machine has it: the plan of one object, the stores that said Yes, and
 -- those that are marked.
-use Rattle.std.specs.Prelude.{◌≡◌, ◌⊎◌, ℕ, true, ◌==◌, List, [], ◌∷◌, find, Option, Some, None, option_map}
+use Rattle.std.specs.Prelude.{⊤, ◌≡◌, ◌⊎◌, ℕ, true, ◌==◌, List, [], ◌∷◌, find, Option, Some, None, option_map, false}
 use Rattle.arj_protocol.specs.Words.{Uid, ObjectState, object}
 use Rattle.arj_protocol.specs.Commit as commit
 use Rattle.arj_protocol.specs.Commit.{Used, Machine, Voting, Preparing, Confirming, changed_of, states_for, is_marked, included_of, targets_of}
@@ -36,9 +36,21 @@ abbrev pub Uses : Used → List Used → Type 0
 Uses u [] = ⊥
 Uses u (v ∷ vs) = (v ≡ u) ⊎ Uses u vs
 
--- A plan uses each object once, and of each that it includes somewhere it has a loaded state.
+-- no two stand for one object
+abbrev pub AreApart : List Used → Type 0
+AreApart [] = ⊤
+AreApart (u ∷ us) = (used_at u.x us ≡ None) × AreApart us
+
+-- each number stands once
+abbrev pub AreDistinct : List ℕ → Type 0
+AreDistinct [] = ⊤
+AreDistinct (n ∷ ns) = (order.has ns n ≡ false) × AreDistinct ns
+
+-- A plan uses each object once, includes it nowhere twice, and of each that it includes somewhere it has a loaded state.
 pub record IsTidy (p : commit.Plan) : Type 0 where
+  pub apart : AreApart p.used
   pub once : (u : Used) → Uses u p.used → used_at u.x p.used ≡ Some u
+  pub distinct : (u : Used) → Uses u p.used → AreDistinct u.joins
   pub loaded : (u : Used) (s : ℕ) → Uses u p.used → order.has u.joins s ≡ true → (st : ObjectState) × (u.loaded ≡ Some st)
   pub of : (u : Used) (st : ObjectState) → Uses u p.used → u.loaded ≡ Some st → st.uid ≡ object u.x
 

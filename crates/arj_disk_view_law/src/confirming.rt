@@ -1,9 +1,11 @@
 // Confirmations at naming, as the disk machine of one object has them.
-ghost use Rattle.arj_disk_view_law.specs.Confirming.{AgreeingKeeps, EnteringKeeps, EntriesAreEntered, ListsAreSeen, PassingKeeps, PreparedIsTaken, QuietConfirmsKeep};
+ghost use Rattle.arj_disk_view_law.specs.Confirming.{AgreeingKeeps, ConfirmsSay, EnteringKeeps, EntriesAreEntered, ListsAreSeen, PassingKeeps, PreparedIsTaken, QuietConfirmsKeep};
 
-/// The list of stores that naming makes at a Confirm is the one that the machine makes, and so is the entry that it prepares;
-/// it prepares none of an object whose list stays. It does nothing when it runs.
+/// What a Confirm says of an object is what the prepare step found; the list of stores that naming makes of it is the one that
+/// the machine makes, and so is the entry that it prepares; it prepares none of an object whose list stays. It does nothing
+/// when it runs.
 pub fn new_entries_are_seen()
+    ensures says { ConfirmsSay }
     ensures lists { ListsAreSeen }
     ensures entries { EntriesAreEntered }
 {}

@@ -1,5 +1,9 @@
+use Rattle.arj_disk_view_law.proofs.Asked.{confirms_say}
 use Rattle.arj_disk_view_law.proofs.ConfirmSteps.{lists_are_seen, entries_are_entered}
 use Rattle.arj_disk_view_law.proofs.confirming.new_entries_are_seen.Goals as goal
+
+pub returns-clause-says : goal.returns-clause-says
+returns-clause-says c = confirms_say
 
 pub returns-clause-lists : goal.returns-clause-lists
 returns-clause-lists c = lists_are_seen
