@@ -25,7 +25,7 @@ use Rattle.arj_disk_view_law.specs.Stores.{IsPlanned, ClaimsCommit, ClaimsAbort}
 use Rattle.arj_disk_view_law.specs.Sees.{Claims, ClaimsAsk, ClaimsReply, ClaimsEnd, ClaimsLast, ClaimsOther, ClaimsAnswered, ClaimsAsked, IsLater, EffectsAreLater, ClaimsStay, begins, was_begun}
 
 pub later_same : (W : World) → IsLater W W
-later_same W = record { begun = λ z b. b; plan = λ z b. refl; sealed = λ z h. h; got = λ z h. refl; bare = λ z b. b; sent = λ m i. i; known = λ g k. k }
+later_same W = record { begun = λ z b. b; plan = λ z b. refl; sealed = λ z h. h; got = λ z h. refl; bare = λ z b. b; serial = refl; sent = λ m i. i; known = λ g k. k }
 
 pub later_on : (U V W : World) → IsLater U V → IsLater V W → IsLater U W
 later_on U V W a b = record {
@@ -34,6 +34,7 @@ later_on U V W a b = record {
   sealed = λ t h. b.sealed t (a.sealed t h);
   got = λ t h. b.got t (a.sealed t h) ∙ a.got t h;
   bare = λ t h. b.bare t (a.bare t h);
+  serial = b.serial ∙ a.serial;
   sent = λ m i. b.sent m (a.sent m i);
   known = λ g k. b.known g (a.known g k);
 }
@@ -49,6 +50,7 @@ effect_later W (Effects.Begin t p) x w = record {
   sealed = λ z h. put_cases (λ k. is_sealed k ≡ true) t Preparing W.disk.stage z (λ e. absurd (cc (sym (ap is_sealed (ap W.disk.stage e ∙ x.idle)) ∙ h))) (λ e. h);
   got = λ z h. refl;
   bare = λ z b. b;
+  serial = refl;
   sent = λ m i. i;
   known = λ g k. k;
 }
@@ -61,27 +63,28 @@ effect_later W (Effects.Take t s) x w = record {
   sealed = λ z h. h;
   got = λ z h. put_other t (put s true (W.disk.got t)) W.disk.got z (falls_to (z == t) (λ on. absurd (cc (sym (ap is_sealed (ap W.disk.stage (test_is z t on) ∙ x.0)) ∙ h))));
   bare = λ z b. b;
+  serial = refl;
   sent = λ m i. i;
   known = λ g k. k;
 }
-effect_later W (Effects.Seal t) x w = record { begun = λ z b. b; plan = λ z b. refl; sealed = seals t Confirming W.disk.stage refl; got = λ z h. refl; bare = λ z b. b; sent = λ m i. i; known = λ g k. k }
-effect_later W (Effects.Intend t nodes) x w = record { begun = λ z b. b; plan = λ z b. refl; sealed = λ z h. h; got = λ z h. refl; bare = λ z b. b; sent = λ m i. i; known = λ g k. k }
-effect_later W (Effects.Decide t) x w = record { begun = λ z b. b; plan = λ z b. refl; sealed = seals t Gone W.disk.stage refl; got = λ z h. refl; bare = λ z b. b; sent = λ m i. i; known = λ g k. inr k }
-effect_later W (Effects.Remove t nodes) x w = record { begun = λ z b. b; plan = λ z b. refl; sealed = λ z h. h; got = λ z h. refl; bare = λ z b. b; sent = λ m i. i; known = λ g k. k }
-effect_later W (Effects.EndBare t) x w = record { begun = λ z b. b; plan = λ z b. refl; sealed = seals t Gone W.disk.stage refl; got = λ z h. refl; bare = λ z b. put_rises t W.disk.bare z b; sent = λ m i. i; known = λ g k. k }
-effect_later W (Effects.Halt t) x w = record { begun = λ z b. b; plan = λ z b. refl; sealed = seals t Gone W.disk.stage refl; got = λ z h. refl; bare = λ z b. b; sent = λ m i. i; known = λ g k. k }
-effect_later W (Effects.Keep t s) x w = record { begun = λ z b. b; plan = λ z b. refl; sealed = λ z h. h; got = λ z h. refl; bare = λ z b. b; sent = λ m i. i; known = λ g k. k }
-effect_later W (Effects.Move s h) x w = record { begun = λ z b. b; plan = λ z b. refl; sealed = λ z h. h; got = λ z h. refl; bare = λ z b. b; sent = λ m i. i; known = λ g k. k }
-effect_later W (Effects.Finish s h) x w = record { begun = λ z b. b; plan = λ z b. refl; sealed = λ z h. h; got = λ z h. refl; bare = λ z b. b; sent = λ m i. i; known = λ g k. k }
-effect_later W (Effects.Drop s h) x w = record { begun = λ z b. b; plan = λ z b. refl; sealed = λ z h. h; got = λ z h. refl; bare = λ z b. b; sent = λ m i. i; known = λ g k. k }
-effect_later W (Effects.Agree t) x w = record { begun = λ z b. b; plan = λ z b. refl; sealed = λ z h. h; got = λ z h. refl; bare = λ z b. b; sent = λ m i. i; known = λ g k. k }
-effect_later W (Effects.Pass t) x w = record { begun = λ z b. b; plan = λ z b. refl; sealed = λ z h. h; got = λ z h. refl; bare = λ z b. b; sent = λ m i. i; known = λ g k. k }
-effect_later W (Effects.Enter t) x w = record { begun = λ z b. b; plan = λ z b. refl; sealed = λ z h. h; got = λ z h. refl; bare = λ z b. b; sent = λ m i. i; known = λ g k. k }
-effect_later W (Effects.MoveEntry h) x w = record { begun = λ z b. b; plan = λ z b. refl; sealed = λ z h. h; got = λ z h. refl; bare = λ z b. b; sent = λ m i. i; known = λ g k. k }
-effect_later W (Effects.FinishEntry h) x w = record { begun = λ z b. b; plan = λ z b. refl; sealed = λ z h. h; got = λ z h. refl; bare = λ z b. b; sent = λ m i. i; known = λ g k. k }
-effect_later W (Effects.DropEntry h) x w = record { begun = λ z b. b; plan = λ z b. refl; sealed = λ z h. h; got = λ z h. refl; bare = λ z b. b; sent = λ m i. i; known = λ g k. k }
-effect_later W (Effects.Forget r h) x w = record { begun = λ z b. b; plan = λ z b. refl; sealed = λ z h. h; got = λ z h. refl; bare = λ z b. b; sent = λ m i. i; known = λ g k. k }
-effect_later W (Effects.Send m) x w = record { begun = λ z b. b; plan = λ z b. refl; sealed = λ z h. h; got = λ z h. refl; bare = λ z b. b; sent = λ m i. inr i; known = λ g k. k }
+effect_later W (Effects.Seal t) x w = record { begun = λ z b. b; plan = λ z b. refl; sealed = seals t Confirming W.disk.stage refl; got = λ z h. refl; bare = λ z b. b; serial = refl; sent = λ m i. i; known = λ g k. k }
+effect_later W (Effects.Intend t nodes) x w = record { begun = λ z b. b; plan = λ z b. refl; sealed = λ z h. h; got = λ z h. refl; bare = λ z b. b; serial = refl; sent = λ m i. i; known = λ g k. k }
+effect_later W (Effects.Decide t) x w = record { begun = λ z b. b; plan = λ z b. refl; sealed = seals t Gone W.disk.stage refl; got = λ z h. refl; bare = λ z b. b; serial = refl; sent = λ m i. i; known = λ g k. inr k }
+effect_later W (Effects.Remove t nodes) x w = record { begun = λ z b. b; plan = λ z b. refl; sealed = λ z h. h; got = λ z h. refl; bare = λ z b. b; serial = refl; sent = λ m i. i; known = λ g k. k }
+effect_later W (Effects.EndBare t) x w = record { begun = λ z b. b; plan = λ z b. refl; sealed = seals t Gone W.disk.stage refl; got = λ z h. refl; bare = λ z b. put_rises t W.disk.bare z b; serial = refl; sent = λ m i. i; known = λ g k. k }
+effect_later W (Effects.Halt t) x w = record { begun = λ z b. b; plan = λ z b. refl; sealed = seals t Gone W.disk.stage refl; got = λ z h. refl; bare = λ z b. b; serial = refl; sent = λ m i. i; known = λ g k. k }
+effect_later W (Effects.Keep t s) x w = record { begun = λ z b. b; plan = λ z b. refl; sealed = λ z h. h; got = λ z h. refl; bare = λ z b. b; serial = refl; sent = λ m i. i; known = λ g k. k }
+effect_later W (Effects.Move s h) x w = record { begun = λ z b. b; plan = λ z b. refl; sealed = λ z h. h; got = λ z h. refl; bare = λ z b. b; serial = refl; sent = λ m i. i; known = λ g k. k }
+effect_later W (Effects.Finish s h) x w = record { begun = λ z b. b; plan = λ z b. refl; sealed = λ z h. h; got = λ z h. refl; bare = λ z b. b; serial = refl; sent = λ m i. i; known = λ g k. k }
+effect_later W (Effects.Drop s h) x w = record { begun = λ z b. b; plan = λ z b. refl; sealed = λ z h. h; got = λ z h. refl; bare = λ z b. b; serial = refl; sent = λ m i. i; known = λ g k. k }
+effect_later W (Effects.Agree t) x w = record { begun = λ z b. b; plan = λ z b. refl; sealed = λ z h. h; got = λ z h. refl; bare = λ z b. b; serial = refl; sent = λ m i. i; known = λ g k. k }
+effect_later W (Effects.Pass t) x w = record { begun = λ z b. b; plan = λ z b. refl; sealed = λ z h. h; got = λ z h. refl; bare = λ z b. b; serial = refl; sent = λ m i. i; known = λ g k. k }
+effect_later W (Effects.Enter t) x w = record { begun = λ z b. b; plan = λ z b. refl; sealed = λ z h. h; got = λ z h. refl; bare = λ z b. b; serial = refl; sent = λ m i. i; known = λ g k. k }
+effect_later W (Effects.MoveEntry h) x w = record { begun = λ z b. b; plan = λ z b. refl; sealed = λ z h. h; got = λ z h. refl; bare = λ z b. b; serial = refl; sent = λ m i. i; known = λ g k. k }
+effect_later W (Effects.FinishEntry h) x w = record { begun = λ z b. b; plan = λ z b. refl; sealed = λ z h. h; got = λ z h. refl; bare = λ z b. b; serial = refl; sent = λ m i. i; known = λ g k. k }
+effect_later W (Effects.DropEntry h) x w = record { begun = λ z b. b; plan = λ z b. refl; sealed = λ z h. h; got = λ z h. refl; bare = λ z b. b; serial = refl; sent = λ m i. i; known = λ g k. k }
+effect_later W (Effects.Forget r h) x w = record { begun = λ z b. b; plan = λ z b. refl; sealed = λ z h. h; got = λ z h. refl; bare = λ z b. b; serial = refl; sent = λ m i. i; known = λ g k. k }
+effect_later W (Effects.Send m) x w = record { begun = λ z b. b; plan = λ z b. refl; sealed = λ z h. h; got = λ z h. refl; bare = λ z b. b; serial = refl; sent = λ m i. inr i; known = λ g k. k }
 
 pub effects_are_later : EffectsAreLater
 effects_are_later W [] f w = later_same W
@@ -149,15 +152,15 @@ module _ (x : ℕ) (tops : ℕ → Bool) (W V : World) (whole : Whole W) (later 
   end_stays to (u, ending.Commit) (inl c) = inl (commit_stays u to c)
   end_stays to (u, ending.Commit) (inr n) = inr n
   end_stays to (u, ending.Abort) (inl c) = inl (abort_stays u to c)
-  end_stays to (u, ending.Abort) (inr (inl i)) = inr (inl (later.sent (mail.ToldSerial (uid_number u) to) i))
+  end_stays to (u, ending.Abort) (inr (inl i)) = inr (inl (ap (λ f. f (uid_number u)) later.serial ∙ i.0, later.sent (mail.ToldSerial (uid_number u) to) i.1))
   end_stays to (u, ending.Abort) (inr (inr n)) = inr (inr n)
 
-  last_stays : (to : ℕ) (o : Option (Uid × End)) → ClaimsLast tops W to o → ClaimsLast tops V to o
-  last_stays to None c = tt
-  last_stays to (Some e) c = end_stays to e c
+  last_stays : (to : ℕ) (ack : Bool) (o : Option (Uid × End)) → ClaimsLast tops W to ack o → ClaimsLast tops V to ack o
+  last_stays to ack None c = tt
+  last_stays to ack (Some e) c = (end_stays to e c.0, λ a. later.sent (mail.ToldCommit (uid_number e.0) to) (c.1 a))
 
   other_stays : (lines more : List Line) (from to : ℕ) (m : Message) → ClaimsOther tops W lines from to m → ClaimsOther tops V (lines ++ more) from to m
-  other_stays lines more from to (message.Told m) c = last_stays to (last_end m.ends) c
+  other_stays lines more from to (message.Told m) c = last_stays to m.ack (last_end m.ends) c
   other_stays lines more from to (message.Acked m) c = later.sent (mail.Acked (uid_number m.act) from) c
   other_stays lines more from to (message.Query m) c = list_any-append (λ (l : Line). begins m.act l.body) lines more ∙ or_left (was_begun m.act lines) (was_begun m.act more) c
   other_stays lines more from to (message.Hello m) c = tt

@@ -13,3 +13,4 @@ pub mod PairSteps
 pub mod Planned
 pub mod StoreSteps
 pub mod StoreWalks
+pub mod ToldWalks

@@ -1,5 +1,5 @@
 -- The disk half of the view, whole: each place of the machine tied to the world, and what each message claims.
-use Rattle.std.specs.Prelude.{⊤, ◌≡◌, ◌⊎◌, ◌<◌, ℕ, Bool, true, false, List, ◌++◌, length, Option, Some, None}
+use Rattle.std.specs.Prelude.{⊤, ◌≡◌, ◌⊎◌, ◌<◌, ℕ, Bool, true, false, List, ◌++◌, length, Option, Some, None, ◌==◌}
 use Rattle.std.specs.List.{list_any}
 use Rattle.arj_protocol.specs.Words.{Uid, End, Kind, Line, Body, Head, Asked, Ask, asks, Message, uid_eq, is_on, object}
 use Rattle.arj_protocol.specs.Words.ask
@@ -14,7 +14,7 @@ use Rattle.arj_protocol.specs.Ask.{Reply, answers, actor, top_of, last_end}
 use Rattle.arj_protocol.specs.Commit.{Preparing, Confirming}
 use Rattle.arj_protocol.specs.Coord.{Coord, Doing, Now, Committing, doing_of}
 use Rattle.arj_protocol.specs.Naming.{Naming}
-use Rattle.arj_protocol.specs.Node.{Parts, Took, serve}
+use Rattle.arj_protocol.specs.Node.{Parts, Took, serve, handle_ends}
 use Rattle.arj_protocol.specs.Effect.{Disk, Effect}
 use Rattle.arj_protocol.specs.Order.{uid_number}
 use Rattle.arj_protocol.specs.Step.{Node}
@@ -64,14 +64,15 @@ ClaimsReply x W from u _ = ⊤
 -- An end: of a top, of a serializing action, or of an action that is no top and so has nothing prepared.
 abbrev pub ClaimsEnd : (ℕ → Bool) → World → ℕ → Uid × End → Type 0
 ClaimsEnd tops W to (u, ending.Commit) = ClaimsCommit W u to ⊎ (tops (uid_number u) ≡ false)
-ClaimsEnd tops W to (u, ending.Abort) = ClaimsAbort W u to ⊎ (In (mail.ToldSerial (uid_number u) to) W.sent ⊎ (tops (uid_number u) ≡ false))
+ClaimsEnd tops W to (u, ending.Abort) = ClaimsAbort W u to ⊎ (((W.disk.serial (uid_number u) ≡ true) × In (mail.ToldSerial (uid_number u) to) W.sent) ⊎ (tops (uid_number u) ≡ false))
 
-abbrev pub ClaimsLast : (ℕ → Bool) → World → ℕ → Option (Uid × End) → Type 0
-ClaimsLast tops W to None = ⊤
-ClaimsLast tops W to (Some e) = ClaimsEnd tops W to e
+-- where it is to be acknowledged, it is a commit with a record
+abbrev pub ClaimsLast : (ℕ → Bool) → World → ℕ → Bool → Option (Uid × End) → Type 0
+ClaimsLast tops W to ack None = ⊤
+ClaimsLast tops W to ack (Some e) = ClaimsEnd tops W to e × (ack ≡ true → In (mail.ToldCommit (uid_number e.0) to) W.sent)
 
 abbrev pub ClaimsOther : (ℕ → Bool) → World → List Line → ℕ → ℕ → Message → Type 0
-ClaimsOther tops W lines from to (message.Told m) = ClaimsLast tops W to (last_end m.ends)
+ClaimsOther tops W lines from to (message.Told m) = ClaimsLast tops W to m.ack (last_end m.ends)
 ClaimsOther tops W lines from to (message.Acked m) = In (mail.Acked (uid_number m.act) from) W.sent
 ClaimsOther tops W lines from to (message.Query m) = was_begun m.act lines ≡ true
 ClaimsOther tops W lines from to _ = ⊤
@@ -149,6 +150,7 @@ pub record IsLater (W V : World) : Type 0 where
   pub sealed : (t : ℕ) → is_sealed (W.disk.stage t) ≡ true → is_sealed (V.disk.stage t) ≡ true
   pub got : (t : ℕ) → is_sealed (W.disk.stage t) ≡ true → V.disk.got t ≡ W.disk.got t
   pub bare : (t : ℕ) → W.disk.bare t ≡ true → V.disk.bare t ≡ true
+  pub serial : V.disk.serial ≡ W.disk.serial
   pub sent : (m : mail.Message) → In m W.sent → In m V.sent
   pub known : (g : disk.Packed) → Known W.disk g → Known V.disk g
 
@@ -181,3 +183,9 @@ IsLoad _ = ⊥
 abbrev pub IsPrepare : Ask → Type 0
 IsPrepare (ask.Prepare states) = ⊤
 IsPrepare _ = ⊥
+
+-- An end that is told to a node without naming, to be acknowledged or not.
+abbrev pub EndsAreWalked : Type 0
+EndsAreWalked = (x : ℕ) (tops : ℕ → Bool) (e k : ℕ) (d : Disk) (t v : Parts) (from : ℕ) (ack : Bool) (ends : List (Uid × End)) (outs : List Effect) (M : Seen)
+    → (k == 1) ≡ false → t.naming ≡ None → IsSeenByDisks x tops (up k d t M) → ((W : World) → SeesDisks x tops W (up k d t M) → ClaimsLast tops W k ack (last_end ends))
+    → handle_ends k d t from ack ends (last_end ends) ≡ Took v outs → Walks (IsSeenByDisks x tops) e k outs (Up (IsSeenByDisks x tops) k v) d M

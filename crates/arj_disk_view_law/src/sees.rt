@@ -1,5 +1,5 @@
 // The disk half of the view, whole.
-ghost use Rattle.arj_disk_view_law.specs.Sees.{ClaimsStay, EffectsAreLater, IsLoad, IsPrepare, LinesAreSeen, RequestIsWalked, StopsAreSeen};
+ghost use Rattle.arj_disk_view_law.specs.Sees.{ClaimsStay, EffectsAreLater, EndsAreWalked, IsLoad, IsPrepare, LinesAreSeen, RequestIsWalked, StopsAreSeen};
 
 /// What messages claim in the machine's terms stays true as the machine goes on and the journal grows, so that an old frame
 /// may be taken at any time. It does nothing when it runs.
@@ -8,11 +8,12 @@ pub fn claims_stay_true()
     ensures claims { ClaimsStay }
 {}
 
-/// The whole disk half is kept where a node stops at any time, and where lines are said; and by the requests to stores, each
-/// walked through effect by effect, wherever a stop falls. It does nothing when it runs.
+/// The whole disk half is kept where a node stops at any time, and where lines are said; and by the requests to stores and
+/// the ends that a node without naming is told, each walked through effect by effect, wherever a stop falls. It does nothing when it runs.
 pub fn stores_keep_the_disk_half()
     ensures stops { StopsAreSeen }
     ensures lines { LinesAreSeen }
     ensures load { RequestIsWalked IsLoad }
     ensures prepare { RequestIsWalked IsPrepare }
+    ensures ends { EndsAreWalked }
 {}

@@ -1,5 +1,6 @@
 use Rattle.arj_disk_view_law.proofs.Halts.{stops_seen, lines_seen}
 use Rattle.arj_disk_view_law.proofs.StoreWalks.{loads_are_walked, prepares_are_walked}
+use Rattle.arj_disk_view_law.proofs.ToldWalks.{ends_are_walked}
 use Rattle.arj_disk_view_law.proofs.sees.stores_keep_the_disk_half.Goals as goal
 
 pub returns-clause-stops : goal.returns-clause-stops
@@ -13,3 +14,6 @@ returns-clause-load c = loads_are_walked
 
 pub returns-clause-prepare : goal.returns-clause-prepare
 returns-clause-prepare c = prepares_are_walked
+
+pub returns-clause-ends : goal.returns-clause-ends
+returns-clause-ends c = ends_are_walked
