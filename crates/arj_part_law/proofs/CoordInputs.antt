@@ -204,7 +204,7 @@ module _ (actions : List Action) (begun_all : AreBegun actions) (paths : Paths) 
           let first = off (begin_reasons k b c) g in
           (first.0, (off (behind (begin_reasons k b c)) first.1).0)
 
-  parent_found : (b : Branch) → o ≡ Some b → branch_of (actor b.path) c.tree ≡ Some b
+  pub parent_found : (b : Branch) → o ≡ Some b → branch_of (actor b.path) c.tree ≡ Some b
   parent_found b is = by parent is
     where
       by : (q : Option Label) → parent_of q c ≡ Some b → branch_of (actor b.path) c.tree ≡ Some b

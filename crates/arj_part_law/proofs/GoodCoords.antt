@@ -150,7 +150,7 @@ doomed_same u t = by (branch_of u t) refl
 -- ---- who waits
 
 -- an action at work is own, and found at its place
-doing_by : (u : Uid) (c : Coord) (d : Doing) → doing_of u c ≡ Some d → (is_own u c.tree ≡ true) × (at_place u.num c.doings ≡ Some d)
+pub doing_by : (u : Uid) (c : Coord) (d : Doing) → doing_of u c ≡ Some d → (is_own u c.tree ≡ true) × (at_place u.num c.doings ≡ Some d)
 doing_by u c d is = by (is_own u c.tree) refl is
   where
     by : (o : Bool) → is_own u c.tree ≡ o → cond o (at_place u.num c.doings) None ≡ Some d → (o ≡ true) × (at_place u.num c.doings ≡ Some d)
@@ -252,7 +252,7 @@ module _ (acts : List Action) (paths : Paths) where
   -- ---- ends
 
   module _ (tree : IsTree paths) where
-    busy_ended : (u : Uid) (e : End) (c : Coord) → AreBusy c → AreBusy (ended u e c)
+    pub busy_ended : (u : Uid) (e : End) (c : Coord) → AreBusy c → AreBusy (ended u e c)
     busy_ended u e c busy = busy_on u (λ (d : Doing). record d { now = Idle }) (record c { tree = ended_at u e c.tree }) (λ w d is other. by (branch_of u c.tree) refl w d.now other (busy w d (same_doing w d is))) (λ d. tt)
       where
         own_after : (o : Option Branch) (w : Uid) → is_own w (ended_branch u e c.tree o) ≡ is_own w c.tree

@@ -178,10 +178,10 @@ module _ (paths : Paths) (tree : IsTree paths) (t : Tree) (lists : HasLists path
   own_path : (w : Uid) (b : Branch) → branch_of w t ≡ Some b → last_uid (paths w) ≡ w
   own_path w b found = ap last_uid (sym (lists.paths_are w b found)) ∙ lists.places w b found
 
-  above_of : (u w : Uid) (b : Branch) → branch_of w t ≡ Some b → is_on (paths w) u ≡ true → w ≢ u → (h : Uid) × (before_last (paths w) ≡ Some h) × (is_on (paths h) u ≡ true) × (front (paths w) ≡ paths h)
+  pub above_of : (u w : Uid) (b : Branch) → branch_of w t ≡ Some b → is_on (paths w) u ≡ true → w ≢ u → (h : Uid) × (before_last (paths w) ≡ Some h) × (is_on (paths h) u ≡ true) × (front (paths w) ≡ paths h)
   above_of u w b found on other = ⊎_elim (λ same. absurd (other (sym (own_path w b found) ∙ uid_is (last_uid (paths w)) u same))) (λ up. let p = before_is (paths w) u up in let q = tree.heir w (last_uid (front (paths w))) p in (last_uid (front (paths w)), p, ap (λ us. is_on us u) (sym q.0) ∙ up, q.0)) (on_parts (paths w) u on)
 
-  shorter : (w h : Uid) (k : ℕ) → before_last (paths w) ≡ Some h → front (paths w) ≡ paths h → length (paths w) ≤ suc k → length (paths h) ≤ k
+  pub shorter : (w h : Uid) (k : ℕ) → before_last (paths w) ≡ Some h → front (paths w) ≡ paths h → length (paths w) ≤ suc k → length (paths h) ≤ k
   shorter w h k parent is le = omega (arith, ap length is, fewer (paths w) parent, le)
     where
       fewer : (us : List Uid) → before_last us ≡ Some h → length (front us) + 1 ≡ length us

@@ -24,7 +24,10 @@ mod NamingNode
 mod Pairs
 mod Sends
 mod ServerRuns
+mod Settled
 mod Stands
 mod Stores
 mod Tellings
 mod ToldInOrder
+mod Truths
+mod TrueSteps

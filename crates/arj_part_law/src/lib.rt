@@ -5,11 +5,12 @@
 //! bindings that were made, for naming and its pair of entries; `servers_stay_good`, `servers_go_on` and
 //! `calls_keep_their_locks` for a server; `coordinators_stay_good` for a coordinator; `begun_actions_make_a_tree` for the
 //! actions that were begun. `nodes_stay_good` puts them together: whatever message fits the actions that were begun, a node
-//! stays good and sends what fits. What a law takes as known of the tree of actions or of what a coordinator sends is a
-//! premise, with a comment that says who shows it.
+//! stays good and sends what fits. `coordinators_say_what_is_true` is about what messages say of ends, for ever. What a law
+//! takes as known of the tree of actions or of what a coordinator sends is a premise, with a comment that says who shows it.
 #![tactic(auto)]
 
 mod actions;
+mod claims;
 mod coords;
 mod copies;
 mod grants;
@@ -24,6 +25,7 @@ mod trees;
 mod turns;
 
 pub use actions::{begun_actions_make_a_tree, coordinators_begin_new_actions};
+pub use claims::coordinators_say_what_is_true;
 pub use coords::coordinators_stay_good;
 pub use copies::{ended_actions_leave_nothing, locks_of_operations_stand, overlays_are_guarded};
 pub use grants::{bindings_rise, grants_of_naming_stand};
