@@ -22,6 +22,7 @@ mod Keys
 mod Locked
 mod NamingNode
 mod Pairs
+mod SaidIncs
 mod Sends
 mod ServerRuns
 mod Settled

@@ -17,10 +17,11 @@ IsSettled u c = IsOver u c.tree ⊎ IsCommitting u c
 abbrev pub IsClaimed : Uid → Coord → Type 0
 IsClaimed u c = is_own u c.tree ≡ true → IsSettled u c
 
--- the message says that a node is up
-abbrev pub is_hello : Message → Bool
-is_hello (message.Hello m) = true
-is_hello _ = false
+-- the message names the incarnation of its sender
+abbrev pub names_inc : Message → Bool
+names_inc (message.Hello m) = true
+names_inc (message.Activated m) = true
+names_inc _ = false
 
 -- the work is that of a new incarnation
 abbrev pub is_rise : Work → Bool
@@ -28,10 +29,10 @@ is_rise (PutInc i) = true
 is_rise _ = false
 
 -- What this coordinator may send: of each action that the message says committed, or that it says is voting, it is true
--- here; and it is no Hello.
+-- here; and it doesn't name an incarnation of its sender.
 pub record IsTrue (c : Coord) (m : Message) : Type 0 where
   pub claims : (u : Uid) → Seals m u → IsClaimed u c
-  pub plain : is_hello m ≡ false
+  pub plain : names_inc m ≡ false
 
 abbrev pub IsTrueEffect : Coord → Effect → Type 0
 IsTrueEffect c (Send to m) = IsTrue c m
