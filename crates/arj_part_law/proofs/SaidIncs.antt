@@ -29,7 +29,7 @@ use Rattle.arj_protocol.specs.Step.{tolds_again, recovered_records, hello_to, nu
 use Rattle.arj_protocol.specs.World.{cut}
 use Rattle.arj_protocol.proofs.PartSays.{ends_own, activate_own, invoke_own, vote_own, bind_own, note_own, confirm_own, told_own}
 use Rattle.arj_part_law.specs.Actions.{Action}
-use Rattle.arj_part_law.specs.Claims.{AreTrue, GoesOn, names_inc, is_rise}
+use Rattle.arj_part_law.specs.Claims.{AreTrue, GoesOn, names_inc, is_rise, AreOfNode}
 use Rattle.arj_part_law.specs.Coords.{IsGoodCoord}
 use Rattle.arj_part_law.specs.Copies.{Paths, IsTree}
 use Rattle.arj_part_law.specs.Cuts.{disk_after}
@@ -385,34 +385,34 @@ module _ (n : ℕ) (t : Parts) where
       by None = (tt, tt)
       by (Some u) = let q = true_inc n t.server.inc r.part r.outs g.1 in (g.0, refl, q.0, q.1)
 
-  module _ (actions : List Action) (paths : Paths) (tree : IsTree paths) (good : IsGoodCoord actions paths t.coord) where
-    other_well : (d : Disk) (from : ℕ) (m : Message) → AreOfTops actions d.intents → Well (handle_other n d t from m)
-    other_well d from (message.Told m) tops = ends_well d from m.ack m.ends (last_end m.ends)
-    other_well d from (message.Acked m) tops = coord_well (acked from m.act d.intents t.coord) (well_acked actions paths tree from m.act d.intents t.coord)
-    other_well d from (message.Query m) tops = took t _ refl refl (true_inc n t.server.inc t.coord _ (true_query actions paths tree from m.act d.intents t.coord tops good))
-    other_well d from (message.Hello m) tops = took (record t { naming = naming_hello m.node m.inc t.naming }) _ refl refl (fit_queries n t.server.inc t.coord (filter (is_earlier m.node m.inc) (holders d t)))
-    other_well d from (message.Bind m) tops = (tt, tt)
-    other_well d from (message.Bound m) tops = (tt, tt)
-    other_well d from (message.Load m) tops = (tt, tt)
-    other_well d from (message.Loaded m) tops = (tt, tt)
-    other_well d from (message.Activate m) tops = (tt, tt)
-    other_well d from (message.Activated m) tops = (tt, tt)
-    other_well d from (message.RecordMsg m) tops = (tt, tt)
-    other_well d from (message.Recorded m) tops = (tt, tt)
-    other_well d from (message.Invoke m) tops = (tt, tt)
-    other_well d from (message.Invoked m) tops = (tt, tt)
-    other_well d from (message.Vote m) tops = (tt, tt)
-    other_well d from (message.Voted m) tops = (tt, tt)
-    other_well d from (message.Prepare m) tops = (tt, tt)
-    other_well d from (message.Prepared m) tops = (tt, tt)
-    other_well d from (message.Confirm m) tops = (tt, tt)
-    other_well d from (message.Confirmed m) tops = (tt, tt)
+  module _ (actions : List Action) (paths : Paths) (tree : IsTree paths) (good : IsGoodCoord actions paths t.coord) (d : Disk) (home : AreOfNode t.coord.tree.node d.intents) where
+    other_well : (from : ℕ) (m : Message) → AreOfTops actions d.intents → Well (handle_other n d t from m)
+    other_well from (message.Told m) tops = ends_well d from m.ack m.ends (last_end m.ends)
+    other_well from (message.Acked m) tops = coord_well (acked from m.act d.intents t.coord) (well_acked actions paths tree from m.act d.intents t.coord)
+    other_well from (message.Query m) tops = took t _ refl refl (true_inc n t.server.inc t.coord _ (true_query actions paths tree from m.act d.intents t.coord tops home good))
+    other_well from (message.Hello m) tops = took (record t { naming = naming_hello m.node m.inc t.naming }) _ refl refl (fit_queries n t.server.inc t.coord (filter (is_earlier m.node m.inc) (holders d t)))
+    other_well from (message.Bind m) tops = (tt, tt)
+    other_well from (message.Bound m) tops = (tt, tt)
+    other_well from (message.Load m) tops = (tt, tt)
+    other_well from (message.Loaded m) tops = (tt, tt)
+    other_well from (message.Activate m) tops = (tt, tt)
+    other_well from (message.Activated m) tops = (tt, tt)
+    other_well from (message.RecordMsg m) tops = (tt, tt)
+    other_well from (message.Recorded m) tops = (tt, tt)
+    other_well from (message.Invoke m) tops = (tt, tt)
+    other_well from (message.Invoked m) tops = (tt, tt)
+    other_well from (message.Vote m) tops = (tt, tt)
+    other_well from (message.Voted m) tops = (tt, tt)
+    other_well from (message.Prepare m) tops = (tt, tt)
+    other_well from (message.Prepared m) tops = (tt, tt)
+    other_well from (message.Confirm m) tops = (tt, tt)
+    other_well from (message.Confirmed m) tops = (tt, tt)
 
-    pub truly_handled : (d : Disk) (from : ℕ) (m : Message) → AreOfTops actions d.intents → Well (handle n d t from m)
-    truly_handled d from m tops = by (asks m)
+    pub truly_handled : (from : ℕ) (m : Message) → AreOfTops actions d.intents → Well (handle n d t from m)
+    truly_handled from m tops = by (asks m)
       where
         answer : (o : Option (Asked × Reply)) → Well (handle_answer n d t from m o)
-        answer None = other_well d from m tops
+        answer None = other_well from m tops
         answer (Some a) = coord_well (heard from a.0 a.1 d.intents t.coord) (well_heard actions paths tree from a.0 a.1 d.intents t.coord good)
 
         by : (o : Option (Head × Ask)) → Well (handle_ask n d t from m o)

@@ -1,5 +1,6 @@
 -- What is settled at a coordinator stays so.
-use Rattle.std.proofs.Common.{◌≡◌, ◌≢◌, ◌⊎◌, zero, suc, ℕ, List, [], ◌∷◌, ◌++◌, length, Bool, true, false, cond, nat_le, Option, Some, None, slice_set, refl, sym, ◌∙◌, ap, subst, inl, inr, ⊎_elim, Contains}
+use Rattle.std.proofs.Common.{◌≡◌, ◌≢◌, ◌⊎◌, zero, suc, ℕ, List, [], ◌∷◌, ◌++◌, length, Bool, true, false, cond, nat_le, Option, Some, None, slice_set, refl, sym, ◌∙◌, ap, subst, inl, inr, ⊎_elim, Contains, ◌==◌, ◌&&◌, arith}
+use Rattle.std.proofs.lemmas.Bool.{and_parts, eqb-true}
 use Rattle.std.specs.Prelude.{is_some}
 use Rattle.arj_base.proofs.Uids.{uid_cases}
 use Rattle.arj_protocol.specs.Words.{Uid, End, uids_of}
@@ -12,7 +13,7 @@ use Rattle.arj_protocol.proofs.Maps.{place_other}
 use Rattle.arj_part_law.specs.Claims.{IsSettled, IsClaimed, GoesOn}
 use Rattle.arj_part_law.specs.Coords.{IsBusy, AreBusy, IsOver, IsCommitting}
 use Rattle.arj_part_law.proofs.GoodCoords.{IsSameTree, doing_by}
-use Rattle.arj_part_law.proofs.GoodTrees.{place_same, own_is, at_u, still_there, ended_b}
+use Rattle.arj_part_law.proofs.GoodTrees.{found_by, place_same, own_is, at_u, still_there, ended_b}
 
 -- ---- lists
 
@@ -28,7 +29,26 @@ place_length (suc k) a items = set_length items k a
 -- ---- from one coordinator to the next
 
 pub claim_on : (c e : Coord) → GoesOn c e → (u : Uid) → IsClaimed u c → IsClaimed u e
-claim_on c e g u claim own = g.settled u (claim (sym (g.own u) ∙ own))
+claim_on c e g u claim = (claim.0 ∙ node_on, λ own. g.settled u (claim.1 (sym (g.own u) ∙ own)))
+  where
+    one : Uid
+    one = record { node = c.tree.node; inc = c.tree.inc; num = 0 }
+
+    itself : (n : ℕ) → (n == n) ≡ true
+    itself n = grind arith
+
+    node_on : c.tree.node ≡ e.tree.node
+    node_on = eqb-true c.tree.node e.tree.node (and_parts (c.tree.node == e.tree.node) (c.tree.inc == e.tree.inc) (g.own one ∙ (λ i. itself c.tree.node i && itself c.tree.inc i))).0
+
+-- what is over is claimed, and so is what is at its commit
+pub over_claim : (c : Coord) (u : Uid) → IsOver u c.tree → IsClaimed u c
+over_claim c u over = (there_node c u over.0 over.1, λ own. inl over)
+  where
+    there_node : (d : Coord) (w : Uid) (b : Branch) → branch_of w d.tree ≡ Some b → w.node ≡ d.tree.node
+    there_node d w b found = eqb-true w.node d.tree.node (and_parts (w.node == d.tree.node) (w.inc == d.tree.inc) (found_by w d.tree b found).0).0
+
+pub commit_claim : (c : Coord) (u : Uid) (b : Branch) → branch_of u c.tree ≡ Some b → IsCommitting u c → IsClaimed u c
+commit_claim c u b found at = (eqb-true u.node c.tree.node (and_parts (u.node == c.tree.node) (u.inc == c.tree.inc) (found_by u c.tree b found).0).0, λ own. inr at)
 
 pub then_on : (c d e : Coord) → GoesOn c d → GoesOn d e → GoesOn c e
 then_on c d e g h = record {

@@ -29,7 +29,7 @@ use Rattle.arj_protocol.specs.Step.{Input, acts, branch_named, on_branch, is_wai
 use Rattle.arj_protocol.specs.Step as input
 use Rattle.arj_protocol.specs.Tree.{Tree, Branch, branch_of, is_own, at_place, ends_of, is_open, is_open_branch, is_committed, ended_so, has_end, root_of, has_open_child, path_below, next_uid}
 use Rattle.arj_part_law.specs.Actions.{Action, AreBegun, AreCounted, MayBegin}
-use Rattle.arj_part_law.specs.Claims.{IsClaimed, IsTrue, AreTrue, GoesOn, IsFaithful}
+use Rattle.arj_part_law.specs.Claims.{IsClaimed, IsTrue, AreTrue, GoesOn, IsFaithful, AreOfNode}
 use Rattle.arj_part_law.specs.Coords.{IsBusy, IsVoting, IsOver, IsGoodCoord}
 use Rattle.arj_part_law.specs.Copies.{Paths, IsTree}
 use Rattle.arj_part_law.specs.Messages.{IsTopAction, AreOfTops, FitsMessage, has_commit_of}
@@ -41,7 +41,7 @@ use Rattle.arj_part_law.proofs.GoodTrees.{found_by, placed, grown_still, above_o
 use Rattle.arj_part_law.proofs.Decided.{message_more}
 use Rattle.arj_part_law.proofs.Keys.{at_in}
 use Rattle.arj_part_law.proofs.Sends.{again_tree}
-use Rattle.arj_part_law.proofs.Settled.{claim_on, then_on, same_on}
+use Rattle.arj_part_law.proofs.Settled.{claim_on, then_on, same_on, over_claim}
 use Rattle.arj_part_law.proofs.Truths.{put_in, true_on, true_both, true_flat, true_says, true_tells, abort_none, commit_one, IsFree, IsWell, listed_of, well_step, well_call, well_include, well_step_call, well_ends, well_abort, well_machine, well_moved}
 
 never : {P : Type 0} (b : Bool) → b ≡ true → b ≡ false → P
@@ -64,6 +64,11 @@ top_in : (actions : List Action) (w : Uid) (j : Intent) (m : List (Uid × Intent
 top_in actions w j [] all k = absurd k
 top_in actions w j (e ∷ es) all (inl same) = subst (λ (f : Uid × Intent). IsTopAction actions f.0) same all.0
 top_in actions w j (e ∷ es) all (inr k) = top_in actions w j es all.1 k
+
+node_in : (n : ℕ) (w : Uid) (j : Intent) (m : List (Uid × Intent)) → AreOfNode n m → In (w, j) m → w.node ≡ n
+node_in n w j [] all k = absurd k
+node_in n w j (e ∷ es) all (inl same) = subst (λ (f : Uid × Intent). f.0.node ≡ n) same all.0
+node_in n w j (e ∷ es) all (inr k) = node_in n w j es all.1 k
 
 -- ---- work entries
 
@@ -313,8 +318,8 @@ module _ (actions : List Action) (paths : Paths) (tree : IsTree paths) where
       ended true e = refl
       ended false e = let no_way : true ≡ false = e in cc
 
-  pub true_query : (from : ℕ) (u : Uid) (intents : List (Uid × Intent)) (c : Coord) → AreOfTops actions intents → Good c → AreTrue c (answer_query from u intents c)
-  true_query from u intents c tops good = first (is_open u c.tree || is_deferred u intents from) refl
+  pub true_query : (from : ℕ) (u : Uid) (intents : List (Uid × Intent)) (c : Coord) → AreOfTops actions intents → AreOfNode c.tree.node intents → Good c → AreTrue c (answer_query from u intents c)
+  true_query from u intents c tops home good = first (is_open u c.tree || is_deferred u intents from) refl
     where
       aborts : (r : Uid) → AreTrue c (tell r false ((u, ending.Abort) ∷ []) from ∷ [])
       aborts r = true_tells c r false ((u, ending.Abort) ∷ []) (from ∷ []) (λ w is. abort_none w u is)
@@ -336,7 +341,7 @@ module _ (actions : List Action) (paths : Paths) (tree : IsTree paths) where
           one : (b : Bool) → is_kept_commit from u c ≡ b → AreTrue c (cond b (tell (root_or_self u (branch_of u c.tree)) false ((u, ending.Commit) ∷ []) from ∷ []) (tell (root_or_self u (branch_of u c.tree)) false ((u, ending.Abort) ∷ []) from ∷ []))
           one true is =
               let k = (and_parts (is_kept_top u c) (is_open (root_or_self u (branch_of u c.tree)) c.tree && took_part from (doing_of u c)) is).0 in
-              commits (root_or_self u (branch_of u c.tree)) false (λ own. inl (kept (branch_of u c.tree) refl (and_parts (is_constituent_branch (branch_of u c.tree)) (is_committed u c.tree) k).1))
+              commits (root_or_self u (branch_of u c.tree)) false (over_claim c u (kept (branch_of u c.tree) refl (and_parts (is_constituent_branch (branch_of u c.tree)) (is_committed u c.tree) k).1))
           one false is = aborts (root_or_self u (branch_of u c.tree))
 
       recorded : is_open u c.tree ≡ false → (o : Option Intent) → at_uid u intents ≡ o → AreTrue c (answer_recorded from u c o)
@@ -344,7 +349,7 @@ module _ (actions : List Action) (paths : Paths) (tree : IsTree paths) where
       recorded closed (Some i) is = one (has i.nodes from)
         where
           one : (b : Bool) → AreTrue c (cond b (tell i.root true ((u, ending.Commit) ∷ []) from ∷ []) (answer_decided from u c))
-          one true = commits i.root true (λ own. inl (top_over c good u (top_in actions u i intents tops (at_in u i intents is)) closed own))
+          one true = commits i.root true (node_in c.tree.node u i intents home (at_in u i intents is), λ own. inl (top_over c good u (top_in actions u i intents tops (at_in u i intents is)) closed own))
           one false = decided
 
       first : (b : Bool) → (is_open u c.tree || is_deferred u intents from) ≡ b → AreTrue c (cond b [] (answer_recorded from u c (at_uid u intents)))
@@ -365,8 +370,8 @@ pub faithful_on : (c e : Coord) → GoesOn c e → IsFaithful c → IsFaithful e
 faithful_on c e g f = record { works = g.works ∙ f.works ∙ sym g.branches; told = λ u i k. ⊎_elim (λ old. claim_on c e g u (f.told u old.0 old.1)) (λ new. new) (g.told u i k) }
 
 -- a coordinator that starts with the records of earlier incarnations
-pub faithful_new : (actions : List Action) (node inc later count : ℕ) (intents : List (Uid × Intent)) → AreCounted node inc count actions → inc < later → AreOfTops actions intents → IsFaithful (record (new_coord node later) { telling = intents })
-faithful_new actions node inc later count intents counted up tops = record { works = refl; told = λ u i k own. absurd (not_own u own (top_in actions u i intents tops (in_from (u, i) intents k))) }
+pub faithful_new : (actions : List Action) (node inc later count : ℕ) (intents : List (Uid × Intent)) → AreCounted node inc count actions → inc < later → AreOfTops actions intents → AreOfNode node intents → IsFaithful (record (new_coord node later) { telling = intents })
+faithful_new actions node inc later count intents counted up tops home = record { works = refl; told = λ u i k. (node_in node u i intents home (in_from (u, i) intents k), λ own. absurd (not_own u own (top_in actions u i intents tops (in_from (u, i) intents k)))) }
   where
     not_own : (u : Uid) → is_own u (let c = new_coord node later in c.tree) ≡ true → IsTopAction actions u → ⊥
     not_own u own top =
@@ -391,7 +396,7 @@ module _ (l : Label) (k : Kind) (parent : Option Label) (c : Coord) where
   begun_c = (begin_action l k parent (parent_of parent c) c).part
 
   pub claim_begins : (u : Uid) → IsClaimed u c → IsClaimed u begun_c
-  claim_begins u claim own = ⊎_elim (λ o. inl (o.0, grown_still k (path_below k (parent_of parent c) (next_uid c.tree)) c.tree u o.0 o.1, o.2)) (λ q. inr (q.0, q.1, by (is_own u c.tree) q.0 q.2, q.3)) (claim own)
+  claim_begins u claim = (claim.0, λ own. ⊎_elim (λ o. inl (o.0, grown_still k (path_below k (parent_of parent c) (next_uid c.tree)) c.tree u o.0 o.1, o.2)) (λ q. inr (q.0, q.1, by (is_own u c.tree) q.0 q.2, q.3)) (claim.1 own))
     where
       fresh : Doing
       fresh = record { label = l; req = 0; now = Idle; took = [] }
@@ -442,5 +447,5 @@ fits_begins actions begun paths tree l k parent c good may none agree m t fits =
             own_above paths tree c.tree good.tree.lists u (length (paths (actor (let x = b.0 in x.path)))) (actor (let x = b.0 in x.path)) b.0 (omega arith) found (ap (λ us. is_on us u) (sym (good.tree.lists.paths_are (actor (let x = b.0 in x.path)) b.0 found)) ∙ b.2)
 
     clear : (u : Uid) → IsClaimed u c → (o : Bool) → is_own u c.tree ≡ o → is_on (uids_of p) u ≡ false
-    clear u claim true own = none_above actions begun paths tree l k parent c good may none agree u (claim own)
+    clear u claim true own = none_above actions begun paths tree l k parent c good may none agree u (claim.1 own)
     clear u claim false own = false_from_ne_true (is_on (uids_of p) u) (λ on. never (is_own u c.tree) (own_on u on) own)

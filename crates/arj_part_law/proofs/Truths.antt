@@ -32,7 +32,7 @@ use Rattle.arj_part_law.specs.Copies.{Paths, IsTree}
 use Rattle.arj_part_law.specs.Messages.{SealsAsk, is_commit, has_commit_of}
 use Rattle.arj_part_law.specs.Servers.{has_end_of}
 use Rattle.arj_part_law.proofs.GoodCoords.{uses_same, doomed_same, on_tree, actor_is, good_uses, good_abort, good_ended_c, busy_ended, planned, IsStepOf}
-use Rattle.arj_part_law.proofs.Settled.{place_length, claim_on, then_on, same_on, tree_on, doing_put, work_on, ended_on, end_over}
+use Rattle.arj_part_law.proofs.Settled.{place_length, claim_on, over_claim, commit_claim, then_on, same_on, tree_on, doing_put, work_on, ended_on, end_over}
 
 -- ---- maps
 
@@ -161,11 +161,11 @@ module _ (actions : List Action) (paths : Paths) (tree : IsTree paths) where
   true_ask c listed h x g r at = true_request c h (ask_at x g (ends_of r c.tree) at) (by at)
     where
       by : (a : At) (u : Uid) → SealsAsk h (ask_at x g (ends_of r c.tree) a) u → IsClaimed u c
-      by (AtBind avoid) u s own = absurd s
-      by (AtLoad k n rest) u s own = absurd s
-      by (AtActivate k st) u s own = absurd s
-      by (AtNote k i) u s own = absurd s
-      by (AtInvoke k i) u s own = inl (listed r u s)
+      by (AtBind avoid) u s = absurd s
+      by (AtLoad k n rest) u s = absurd s
+      by (AtActivate k st) u s = absurd s
+      by (AtNote k i) u s = absurd s
+      by (AtInvoke k i) u s = over_claim c u (listed r u s)
 
   true_step : (s : Steps) (c : Coord) → AreListed c.tree → AreTrue c (asks_step s c).outs
   true_step s c listed = (true_ask c listed (record { path = s.path; req = s.req }) s.x s.goal (root_of s.path) s.at, tt)
@@ -239,7 +239,7 @@ module _ (actions : List Action) (paths : Paths) (tree : IsTree paths) where
   true_tolds intents c u listed = by (branch_of u c.tree)
     where
       kinds : (k : Kind) (p : Path) → AreTrue c (tolds_by u k p intents c)
-      kinds kind.Nested p = true_tells c (root_of p) false (up_to u (ends_of (root_of p) c.tree)) _ (λ w is own. inl (listed (root_of p) w (front_commit w u (ends_of (root_of p) c.tree) is)))
+      kinds kind.Nested p = true_tells c (root_of p) false (up_to u (ends_of (root_of p) c.tree)) _ (λ w is. over_claim c w (listed (root_of p) w (front_commit w u (ends_of (root_of p) c.tree) is)))
       kinds kind.Serial p = true_tells c u false ((u, ending.Abort) ∷ []) _ (λ w is. abort_none w u is)
       kinds kind.Top p = true_tells c (root_of p) false ((u, ending.Abort) ∷ []) _ (λ w is. abort_none w u is)
       kinds kind.Independent p = true_tells c (root_of p) false ((u, ending.Abort) ∷ []) _ (λ w is. abort_none w u is)
@@ -303,7 +303,7 @@ module _ (actions : List Action) (paths : Paths) (tree : IsTree paths) where
           work false = tt
 
           one : (n : ℕ) (x : Bool) → IsTrueEffect v (cond x (tell (root_of p.path) (has_record p) ((actor p.path, ending.Commit) ∷ []) n) (tell (root_of p.path) false ((actor p.path, ending.Abort) ∷ []) n))
-          one n true = record { claims = λ w is own. inl (subst (IsOver w) (sym same) (subst (λ x. IsOver x r.tree) (commit_one w (actor p.path) is) over)); plain = refl }
+          one n true = record { claims = λ w is. over_claim v w (subst (IsOver w) (sym same) (subst (λ x. IsOver x r.tree) (commit_one w (actor p.path) is) over)); plain = refl }
           one n false = record { claims = λ w is. abort_none w (actor p.path) is; plain = refl }
 
       told : Coord
@@ -316,7 +316,7 @@ module _ (actions : List Action) (paths : Paths) (tree : IsTree paths) where
           own = λ x. refl;
           works = refl;
           branches = refl;
-          told = λ x j k. ⊎_elim (λ same. inr (λ own. inl (subst (λ y. IsOver y r.tree) (sym same) over))) (λ old. inl (old.0, in_to (x, old.0) r.telling old.1)) (put_in (actor p.path) i x j r.telling (in_from (x, j) (put_uid (actor p.path) i r.telling) k));
+          told = λ x j k. ⊎_elim (λ same. inr (over_claim told x (subst (λ y. IsOver y r.tree) (sym same) over))) (λ old. inl (old.0, in_to (x, old.0) r.telling old.1)) (put_in (actor p.path) i x j r.telling (in_from (x, j) (put_uid (actor p.path) i r.telling) k));
         });
         outs = outs told refl true;
       }
@@ -326,9 +326,9 @@ module _ (actions : List Action) (paths : Paths) (tree : IsTree paths) where
 
   -- what a commit asks
   true_machine : (c : Coord) (u : Uid) (m : Machine) → IsVoting c.tree u (plan_of m) → actor (plan_of m).path ≡ u → IsCommitting u c → (req n : ℕ) → IsTrue c (request (record { path = (plan_of m).path; req = req }) (ask_of m n))
-  true_machine c u (Voting p left) v its at req n = true_request c (record { path = p.path; req = req }) (ask_of (Voting p left) n) (λ w s own. ⊎_elim (λ is. inl (v.over w (commit_end w p.ends is))) (λ same. inr (subst (λ x. IsCommitting x c) (sym (same ∙ its)) at)) s)
-  true_machine c u (Preparing p left) v its at req n = true_request c (record { path = p.path; req = req }) (ask_of (Preparing p left) n) (λ w s own. absurd s)
-  true_machine c u (Confirming p) v its at req n = true_request c (record { path = p.path; req = req }) (ask_of (Confirming p) n) (λ w s own. absurd s)
+  true_machine c u (Voting p left) v its at req n = true_request c (record { path = p.path; req = req }) (ask_of (Voting p left) n) (λ w s. ⊎_elim (λ is. over_claim c w (v.over w (commit_end w p.ends is))) (λ same. subst (λ x. IsClaimed x c) (sym (same ∙ its)) (commit_claim c u v.asking.branch v.asking.found at)) s)
+  true_machine c u (Preparing p left) v its at req n = true_request c (record { path = p.path; req = req }) (ask_of (Preparing p left) n) (λ w s. absurd s)
+  true_machine c u (Confirming p) v its at req n = true_request c (record { path = p.path; req = req }) (ask_of (Confirming p) n) (λ w s. absurd s)
 
   asks_on : (p : Path) (req : ℕ) (as_asked : List (ℕ × Ask)) (c : Coord) → GoesOn c (asks_all p req as_asked c).part
   asks_on p req [] c = same_on c c refl refl refl

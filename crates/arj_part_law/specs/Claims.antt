@@ -1,5 +1,5 @@
 -- What a coordinator says of its actions, for ever.
-use Rattle.std.specs.Prelude.{◌≡◌, ◌⊎◌, Bool, List, true, false, length, Contains, ⊤}
+use Rattle.std.specs.Prelude.{◌≡◌, ℕ, ◌⊎◌, Bool, List, true, false, length, Contains, ⊤}
 use Rattle.std.specs.List.{AllByRecursion}
 use Rattle.arj_protocol.specs.Words.{Uid, Message}
 use Rattle.arj_protocol.specs.Words.message
@@ -13,9 +13,13 @@ use Rattle.arj_part_law.specs.Messages.{Seals}
 abbrev pub IsSettled : Uid → Coord → Type 0
 IsSettled u c = IsOver u c.tree ⊎ IsCommitting u c
 
--- it is settled, where it is this coordinator's own
+-- it is of this coordinator's node, and settled where it is of its incarnation
 abbrev pub IsClaimed : Uid → Coord → Type 0
-IsClaimed u c = is_own u c.tree ≡ true → IsSettled u c
+IsClaimed u c = (u.node ≡ c.tree.node) × (is_own u c.tree ≡ true → IsSettled u c)
+
+-- records are of actions of this node
+abbrev pub AreOfNode : ℕ → List (Uid × Intent) → Type 0
+AreOfNode n intents = AllByRecursion (λ (e : Uid × Intent). e.0.node ≡ n) intents
 
 -- the message names the incarnation of its sender
 abbrev pub names_inc : Message → Bool

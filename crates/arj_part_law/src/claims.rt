@@ -3,7 +3,7 @@ ghost use Rattle.std.specs.Prelude.{◌≡◌, ◌≢◌, ◌<◌, ◌∷◌, �
 ghost use Rattle.arj_base.specs.Path.{uids_of};
 ghost use Rattle.arj_base.specs.declared.uid.Uid.{Uid};
 ghost use Rattle.arj_part_law.specs.Actions.{Action, AreBegun, AreCounted, MayBegin};
-ghost use Rattle.arj_part_law.specs.Claims.{AreTrue, GoesOn, IsFaithful, IsTrue};
+ghost use Rattle.arj_part_law.specs.Claims.{AreOfNode, AreTrue, GoesOn, IsFaithful, IsTrue};
 ghost use Rattle.arj_part_law.specs.Coords.{IsGoodCoord};
 ghost use Rattle.arj_part_law.specs.Copies.{IsTree, Paths};
 ghost use Rattle.arj_part_law.specs.Messages.{AreOfTops, FitsMessage};
@@ -16,8 +16,8 @@ ghost use Rattle.arj_protocol.specs.Step.{Begin, Input, acts, begin_refusal, par
 ghost use Rattle.arj_protocol.specs.Tree.{next_uid, path_below};
 ghost use Rattle.arj_protocol.specs.Words.{Asked, Header, Kind, Label, Message};
 
-/// Each action that a sent message says committed, or that it says is voting, has ended at its coordinator or is at its
-/// commit there, and that stays, whatever the coordinator does and hears, as long as it is up. So a message that fits the
+/// Each action that a sent message says committed, or that it says is voting, is of its sender's node, and has ended there
+/// or is at its commit, and that stays, whatever the coordinator does and hears, as long as it is up. So a message that fits the
 /// actions which were begun, and is true where one more begins, goes on to fit. It does nothing when it runs.
 pub fn coordinators_say_what_is_true()
     ensures inputs { (actions : List Action) (paths : Paths) → IsTree paths → (intents : List (Uid × Intent)) (c : Coord) → IsGoodCoord actions paths c → IsFaithful c → (hd : Header) (i : Input) → refusal_up hd i c ≡ None
@@ -26,10 +26,10 @@ pub fn coordinators_say_what_is_true()
         → GoesOn c (heard from a r intents c).part × AreTrue (heard from a r intents c).part (heard from a r intents c).outs }
     ensures acked { (actions : List Action) (paths : Paths) → IsTree paths → (from : ℕ) (u : Uid) (intents : List (Uid × Intent)) (c : Coord)
         → GoesOn c (acked from u intents c).part × AreTrue (acked from u intents c).part (acked from u intents c).outs }
-    ensures query { (actions : List Action) (paths : Paths) → IsTree paths → (from : ℕ) (u : Uid) (intents : List (Uid × Intent)) (c : Coord) → AreOfTops actions intents → IsGoodCoord actions paths c → AreTrue c (answer_query from u intents c) }
+    ensures query { (actions : List Action) (paths : Paths) → IsTree paths → (from : ℕ) (u : Uid) (intents : List (Uid × Intent)) (c : Coord) → AreOfTops actions intents → AreOfNode c.tree.node intents → IsGoodCoord actions paths c → AreTrue c (answer_query from u intents c) }
     ensures again { (actions : List Action) (paths : Paths) → IsTree paths → (c : Coord) → IsGoodCoord actions paths c → GoesOn c (again_all c.doings c).part × AreTrue (again_all c.doings c).part (again_all c.doings c).outs }
     ensures records { (c : Coord) → IsFaithful c → AreTrue c (tolds_again c.telling) }
-    ensures fresh { (actions : List Action) (node inc later count : ℕ) (intents : List (Uid × Intent)) → AreCounted node inc count actions → inc < later → AreOfTops actions intents → IsFaithful (record (new_coord node later) { telling = intents }) }
+    ensures fresh { (actions : List Action) (node inc later count : ℕ) (intents : List (Uid × Intent)) → AreCounted node inc count actions → inc < later → AreOfTops actions intents → AreOfNode node intents → IsFaithful (record (new_coord node later) { telling = intents }) }
     ensures faithful { (c e : Coord) → GoesOn c e → IsFaithful c → IsFaithful e }
     ensures stays { (c e : Coord) (m : Message) → GoesOn c e → IsTrue c m → IsTrue e m }
     ensures begins { (l : Label) (k : Kind) (parent : Option Label) (c : Coord) → IsFaithful c → IsFaithful (begin_action l k parent (parent_of parent c) c).part }

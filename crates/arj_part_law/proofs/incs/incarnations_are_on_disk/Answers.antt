@@ -2,7 +2,7 @@ use Rattle.arj_part_law.proofs.SaidIncs.{truly_handled, coord_inc, after_inc, cu
 use Rattle.arj_part_law.proofs.incs.incarnations_are_on_disk.Goals as goal
 
 pub returns-clause-message : goal.returns-clause-message
-returns-clause-message c actions paths tree n d t from m good tops = truly_handled n t actions paths tree good d from m tops
+returns-clause-message c actions paths tree n d t from m good tops home = truly_handled n t actions paths tree good d home from m tops
 
 pub returns-clause-coordinator : goal.returns-clause-coordinator
 returns-clause-coordinator c = coord_inc
