@@ -29,7 +29,7 @@ use Rattle.arj_protocol.specs.Step.{tolds_again, recovered_records, hello_to, nu
 use Rattle.arj_protocol.specs.World.{cut}
 use Rattle.arj_protocol.proofs.PartSays.{ends_own, activate_own, invoke_own, vote_own, bind_own, note_own, confirm_own, told_own}
 use Rattle.arj_part_law.specs.Actions.{Action}
-use Rattle.arj_part_law.specs.Claims.{AreTrue, GoesOn, names_inc, is_rise, AreOfNode}
+use Rattle.arj_part_law.specs.Claims.{AreTrue, GoesOn, names_inc, IsHomeWork, AreOfNode}
 use Rattle.arj_part_law.specs.Coords.{IsGoodCoord}
 use Rattle.arj_part_law.specs.Copies.{Paths, IsTree}
 use Rattle.arj_part_law.specs.Cuts.{disk_after}
@@ -194,20 +194,20 @@ plain_inc n i (message.Prepared m) is = tt
 plain_inc n i (message.Confirm m) is = tt
 plain_inc n i (message.Confirmed m) is = tt
 
-plain_work : (i : ℕ) (w : Work) → is_rise w ≡ false → KeepsInc i w
-plain_work i (PutInc j) is = let no_way : true ≡ false = is in cc
-plain_work i Look is = tt
-plain_work i (Prepare r u states) is = tt
-plain_work i (Commit r u) is = tt
-plain_work i (Abort r u) is = tt
-plain_work i (PutIntent u e) is = tt
-plain_work i (RemoveIntent u) is = tt
+plain_work : (n i : ℕ) (w : Work) → IsHomeWork n w → KeepsInc i w
+plain_work n i (PutInc j) is = absurd is
+plain_work n i Look is = tt
+plain_work n i (Prepare r u states) is = tt
+plain_work n i (Commit r u) is = tt
+plain_work n i (Abort r u) is = tt
+plain_work n i (PutIntent u e) is = tt
+plain_work n i (RemoveIntent u) is = tt
 
 -- what a coordinator says is so of a node
 pub true_inc : (n i : ℕ) (c : Coord) (outs : List Effect) → AreTrue c outs → AllByRecursion (IsClaimsOf c) outs × AreOfInc n i outs
 true_inc n i c [] all = (tt, tt)
 true_inc n i c (Say b ∷ es) all = let r = true_inc n i c es all.1 in ((tt, r.0), (tt, r.1))
-true_inc n i c (Do w ∷ es) all = let r = true_inc n i c es all.1 in ((tt, r.0), (plain_work i w all.0, r.1))
+true_inc n i c (Do w ∷ es) all = let r = true_inc n i c es all.1 in ((tt, r.0), (plain_work c.tree.node i w all.0, r.1))
 true_inc n i c (Send to m ∷ es) all = let r = true_inc n i c es all.1 in ((all.0.claims, r.0), (plain_inc n i m all.0.plain, r.1))
 
 module _ (n i : ℕ) (c : Coord) where

@@ -28,8 +28,8 @@ place_length (suc k) a items = set_length items k a
 
 -- ---- from one coordinator to the next
 
-pub claim_on : (c e : Coord) → GoesOn c e → (u : Uid) → IsClaimed u c → IsClaimed u e
-claim_on c e g u claim = (claim.0 ∙ node_on, λ own. g.settled u (claim.1 (sym (g.own u) ∙ own)))
+pub node_on : (c e : Coord) → GoesOn c e → c.tree.node ≡ e.tree.node
+node_on c e g = eqb-true c.tree.node e.tree.node (and_parts (c.tree.node == e.tree.node) (c.tree.inc == e.tree.inc) (g.own one ∙ (λ i. itself c.tree.node i && itself c.tree.inc i))).0
   where
     one : Uid
     one = record { node = c.tree.node; inc = c.tree.inc; num = 0 }
@@ -37,8 +37,8 @@ claim_on c e g u claim = (claim.0 ∙ node_on, λ own. g.settled u (claim.1 (sym
     itself : (n : ℕ) → (n == n) ≡ true
     itself n = grind arith
 
-    node_on : c.tree.node ≡ e.tree.node
-    node_on = eqb-true c.tree.node e.tree.node (and_parts (c.tree.node == e.tree.node) (c.tree.inc == e.tree.inc) (g.own one ∙ (λ i. itself c.tree.node i && itself c.tree.inc i))).0
+pub claim_on : (c e : Coord) → GoesOn c e → (u : Uid) → IsClaimed u c → IsClaimed u e
+claim_on c e g u claim = (claim.0 ∙ node_on c e g, λ own. g.settled u (claim.1 (sym (g.own u) ∙ own)))
 
 -- what is over is claimed, and so is what is at its commit
 pub over_claim : (c : Coord) (u : Uid) → IsOver u c.tree → IsClaimed u c

@@ -2,7 +2,7 @@
 use Rattle.std.proofs.Common.{◌≡◌, ◌≢◌, ◌≤◌, ◌<◌, ◌+◌, ◌==◌, arith, zero, suc, ℕ, List, [], ◌∷◌, ◌++◌, length, Bool, true, false, cond, not, ◌&&◌, ◌||◌, Option, Some, None, slice_get, refl, sym, ◌∙◌, ap, subst, inl, inr, ⊎_elim}
 use Rattle.std.specs.Prelude.{is_some}
 use Rattle.std.specs.List.{list_any}
-use Rattle.std.specs.Ordering.{is_eq}
+use Rattle.std.specs.Ordering.{is_eq, match_ordering}
 use Rattle.std.specs.declared.cmp.Ordering.{Ordering}
 use Rattle.std.specs.declared.cmp.Ordering.TheVariants.{Less, Equal, Greater}
 use Rattle.std.proofs.lemmas.Bool.{and_parts, or_parts, or_cases, eqb-true, false_from_ne_true}
@@ -22,17 +22,18 @@ use Rattle.arj_protocol.specs.Call.{Steps, Moved, answered, given_up, next_node}
 use Rattle.arj_protocol.specs.Commit.{Plan, Machine, plan_of, servers_of, nodes_given_up}
 use Rattle.arj_protocol.specs.Commit as commit
 use Rattle.arj_protocol.specs.Coord.{Coord, new_coord, Doing, Now, Idle, Calling, Committing, doing_of, on_root, root_at, plan_for, is_free, is_kept_top, is_constituent_branch}
-use Rattle.arj_protocol.specs.Effect.{Did, Served, Intent}
+use Rattle.arj_protocol.specs.Effect.{Did, Served, Intent, Work, Look, PutInc, Prepare, Commit, Abort, PutIntent, RemoveIntent, Disk, Stop, Before, After, InPart, worked, stopped}
+use Rattle.arj_protocol.specs.Words.role
 use Rattle.arj_protocol.specs.Ending.{says, tell, tell_all, aborts_with, abort_action, is_deferred, is_over, let_go, tolds_let_go, acked_left, acked_by, acked, root_or_self, took_part, is_kept_commit, answer_decided, answer_recorded, answer_query}
 use Rattle.arj_protocol.specs.Order.{at_uid, put_uid, has, without_uid, without_number}
 use Rattle.arj_protocol.specs.Step.{Input, acts, branch_named, on_branch, is_waiting, is_waiting_now, waits, waits_above, waits_below, refusal_up, refused_by, call_reasons, include_reasons, commit_reasons, tolds_again, parent_of, begin_refusal}
 use Rattle.arj_protocol.specs.Step as input
 use Rattle.arj_protocol.specs.Tree.{Tree, Branch, branch_of, is_own, at_place, ends_of, is_open, is_open_branch, is_committed, ended_so, has_end, root_of, has_open_child, path_below, next_uid}
 use Rattle.arj_part_law.specs.Actions.{Action, AreBegun, AreCounted, MayBegin}
-use Rattle.arj_part_law.specs.Claims.{IsClaimed, IsTrue, AreTrue, GoesOn, IsFaithful, AreOfNode}
+use Rattle.arj_part_law.specs.Claims.{IsClaimed, IsTrue, AreTrue, GoesOn, IsFaithful, AreOfNode, IsHomeWork, IsSettled}
 use Rattle.arj_part_law.specs.Coords.{IsBusy, IsVoting, IsOver, IsGoodCoord}
 use Rattle.arj_part_law.specs.Copies.{Paths, IsTree}
-use Rattle.arj_part_law.specs.Messages.{IsTopAction, AreOfTops, FitsMessage, has_commit_of}
+use Rattle.arj_part_law.specs.Messages.{IsTopAction, AreOfTops, FitsMessage, Seals, has_commit_of}
 use Rattle.arj_part_law.specs.Trees.{HasLists}
 use Rattle.arj_part_law.proofs.Begun.{on_own}
 use Rattle.arj_part_law.proofs.CoordInputs.{named_found, behind, off, off_third, next_path, parent_found, none_above}
@@ -295,7 +296,7 @@ module _ (actions : List Action) (paths : Paths) (tree : IsTree paths) where
           one false = tt
 
       left : (i : Intent) → at_uid u c.telling ≡ Some i → (ns : List ℕ) → Serves c (acked_left u i intents c ns)
-      left i is [] = (told_on (without_uid u c.telling) (λ w j k. (j, without_in u (w, j) c.telling k)), (refl, gone (record c { telling = without_uid u c.telling }) (at_uid u intents)))
+      left i is [] = (told_on (without_uid u c.telling) (λ w j k. (j, without_in u (w, j) c.telling k)), (tt, gone (record c { telling = without_uid u c.telling }) (at_uid u intents)))
       left i is (n ∷ ns) = (told_on (put_uid u (record i { nodes = n ∷ ns }) c.telling) (λ w j k. ⊎_elim (λ same. (i, subst (λ x. In (x, i) c.telling) (sym same) (at_in u i c.telling is))) (λ old. old) (put_in u (record i { nodes = n ∷ ns }) w j c.telling k)), tt)
 
       by : (o : Option Intent) → at_uid u c.telling ≡ o → Serves c (acked_by from u intents c o)
@@ -427,8 +428,8 @@ own_above paths tree t lists u (suc n) w b short found on =
     ⊎_elim (λ same. ap (λ v. is_own v t) (sym same) ∙ (found_by w t b found).0) (λ other. let up = above_of paths tree t lists u w b found on other in let p = lists.parents w up.0 b found up.1 in own_above paths tree t lists u n up.0 p.0 (shorter paths tree t lists w up.0 n up.1 up.3 short) p.1 up.2) (uid_cases w u)
 
 pub fits_begins : (actions : List Action) → AreBegun actions → (paths : Paths) → IsTree paths → (l : Label) (k : Kind) (parent : Option Label) (c : Coord) → IsGoodCoord actions paths c → MayBegin actions k (parent_of parent c) → begin_refusal k c parent ≡ None
-    → uids_of (path_below k (parent_of parent c) (next_uid c.tree)) ≡ paths (next_uid c.tree) → (m : Message) → IsTrue c m → FitsMessage actions m → FitsMessage (record { path = path_below k (parent_of parent c) (next_uid c.tree); kind = k } ∷ actions) m
-fits_begins actions begun paths tree l k parent c good may none agree m t fits = message_more (record { path = p; kind = k }) actions m (λ u s. clear u (t.claims u s) (is_own u c.tree) refl) fits
+    → uids_of (path_below k (parent_of parent c) (next_uid c.tree)) ≡ paths (next_uid c.tree) → (m : Message) → ((u : Uid) → Seals m u → is_own u c.tree ≡ true → IsSettled u c) → FitsMessage actions m → FitsMessage (record { path = path_below k (parent_of parent c) (next_uid c.tree); kind = k } ∷ actions) m
+fits_begins actions begun paths tree l k parent c good may none agree m t fits = message_more (record { path = p; kind = k }) actions m (λ u s. clear u (t u s) (is_own u c.tree) refl) fits
   where
     p : Path
     p = path_below k (parent_of parent c) (next_uid c.tree)
@@ -446,6 +447,50 @@ fits_begins actions begun paths tree l k parent c good may none agree m t fits =
             let found = parent_found actions begun paths tree l k parent c good may none agree b.0 b.1 in
             own_above paths tree c.tree good.tree.lists u (length (paths (actor (let x = b.0 in x.path)))) (actor (let x = b.0 in x.path)) b.0 (omega arith) found (ap (λ us. is_on us u) (sym (good.tree.lists.paths_are (actor (let x = b.0 in x.path)) b.0 found)) ∙ b.2)
 
-    clear : (u : Uid) → IsClaimed u c → (o : Bool) → is_own u c.tree ≡ o → is_on (uids_of p) u ≡ false
-    clear u claim true own = none_above actions begun paths tree l k parent c good may none agree u (claim.1 own)
+    clear : (u : Uid) → (is_own u c.tree ≡ true → IsSettled u c) → (o : Bool) → is_own u c.tree ≡ o → is_on (uids_of p) u ≡ false
+    clear u claim true own = none_above actions begun paths tree l k parent c good may none agree u (claim own)
     clear u claim false own = false_from_ne_true (is_on (uids_of p) u) (λ on. never (is_own u c.tree) (own_on u on) own)
+
+-- ---- records on disk
+
+put_home : (n : ℕ) (u : Uid) (i : Intent) (m : List (Uid × Intent)) → u.node ≡ n → AreOfNode n m → AreOfNode n (put_uid u i m)
+put_home n u i [] its all = (its, tt)
+put_home n u i (e ∷ es) its all = by (uid_order u e.0) (put_home n u i es its all.1)
+  where
+    by : (r : Ordering) → AreOfNode n (put_uid u i es) → AreOfNode n (match_ordering r ((u, i) ∷ e ∷ es) ((e.0, i) ∷ es) (e ∷ put_uid u i es))
+    by Less ih = (its, all)
+    by Equal ih = (all.0, all.1)
+    by Greater ih = (all.0, ih)
+
+without_home : (n : ℕ) (u : Uid) (m : List (Uid × Intent)) → AreOfNode n m → AreOfNode n (without_uid u m)
+without_home n u [] all = tt
+without_home n u (e ∷ es) all = by (uid_order u e.0) (without_home n u es all.1)
+  where
+    by : (r : Ordering) → AreOfNode n (without_uid u es) → AreOfNode n (cond (is_eq r) es (e ∷ without_uid u es))
+    by Less ih = (all.0, ih)
+    by Equal ih = all.1
+    by Greater ih = (all.0, ih)
+
+pub worked_home : (n : ℕ) (w : Work) (d : Disk) → IsHomeWork n w → AreOfNode n d.intents → AreOfNode n (let e = worked w d in e.intents)
+worked_home n Look d fits home = home
+worked_home n (PutInc i) d fits home = home
+worked_home n (Prepare role.Store u states) d fits home = home
+worked_home n (Prepare role.Names u states) d fits home = home
+worked_home n (Commit role.Store u) d fits home = home
+worked_home n (Commit role.Names u) d fits home = home
+worked_home n (Abort role.Store u) d fits home = home
+worked_home n (Abort role.Names u) d fits home = home
+worked_home n (PutIntent u i) d fits home = put_home n u i d.intents fits home
+worked_home n (RemoveIntent u) d fits home = without_home n u d.intents home
+
+pub stopped_home : (n : ℕ) (how : Stop) (w : Work) (d : Disk) → IsHomeWork n w → AreOfNode n d.intents → AreOfNode n (let e = stopped how w d in e.intents)
+stopped_home n Before w d fits home = home
+stopped_home n After w d fits home = worked_home n w d fits home
+stopped_home n (InPart which) Look d fits home = home
+stopped_home n (InPart which) (PutInc i) d fits home = home
+stopped_home n (InPart which) (Prepare r u states) d fits home = home
+stopped_home n (InPart which) (Commit role.Store u) d fits home = home
+stopped_home n (InPart which) (Commit role.Names u) d fits home = home
+stopped_home n (InPart which) (Abort r u) d fits home = home
+stopped_home n (InPart which) (PutIntent u i) d fits home = home
+stopped_home n (InPart which) (RemoveIntent u) d fits home = home

@@ -26,13 +26,13 @@ use Rattle.arj_protocol.specs.Ending.{says, say_for, tell, tell_all, up_to, told
 use Rattle.arj_protocol.specs.Order.{has, put_uid, unbound}
 use Rattle.arj_protocol.specs.Tree.{Tree, Branch, branch_of, ends_of, root_of, has_open_child, open_below, uses_object, doomed_at, doomed_branch, ended_at}
 use Rattle.arj_part_law.specs.Actions.{Action}
-use Rattle.arj_part_law.specs.Claims.{IsClaimed, IsTrue, IsTrueEffect, AreTrue, GoesOn}
+use Rattle.arj_part_law.specs.Claims.{IsClaimed, IsTrue, IsTrueEffect, AreTrue, GoesOn, IsHomeWork}
 use Rattle.arj_part_law.specs.Coords.{AreBusy, IsVoting, IsOver, IsCommitting, IsGoodCoord}
 use Rattle.arj_part_law.specs.Copies.{Paths, IsTree}
 use Rattle.arj_part_law.specs.Messages.{SealsAsk, is_commit, has_commit_of}
 use Rattle.arj_part_law.specs.Servers.{has_end_of}
 use Rattle.arj_part_law.proofs.GoodCoords.{uses_same, doomed_same, on_tree, actor_is, good_uses, good_abort, good_ended_c, busy_ended, planned, IsStepOf}
-use Rattle.arj_part_law.proofs.Settled.{place_length, claim_on, over_claim, commit_claim, then_on, same_on, tree_on, doing_put, work_on, ended_on, end_over}
+use Rattle.arj_part_law.proofs.Settled.{place_length, node_on, claim_on, over_claim, commit_claim, then_on, same_on, tree_on, doing_put, work_on, ended_on, end_over}
 
 -- ---- maps
 
@@ -58,7 +58,7 @@ put_in u i w j (e ∷ es) is = by (uid_order u e.0) (put_in u i w j es) is
 pub true_on : (c e : Coord) → GoesOn c e → (outs : List Effect) → AreTrue c outs → AreTrue e outs
 true_on c e g [] all = tt
 true_on c e g (Say b ∷ es) all = (tt, true_on c e g es all.1)
-true_on c e g (Do w ∷ es) all = (all.0, true_on c e g es all.1)
+true_on c e g (Do w ∷ es) all = (subst (λ n. IsHomeWork n w) (node_on c e g) all.0, true_on c e g es all.1)
 true_on c e g (Send to m ∷ es) all = (record { claims = λ u s. claim_on c e g u (all.0.claims u s); plain = all.0.plain }, true_on c e g es all.1)
 
 module _ (c : Coord) where
@@ -299,7 +299,7 @@ module _ (actions : List Action) (paths : Paths) (tree : IsTree paths) where
       outs v same w = true_both v (cond w (Do (PutIntent (actor p.path) i) ∷ []) [] ++ says (actor p.path) body.Committed c) _ (true_both v (cond w (Do (PutIntent (actor p.path) i) ∷ []) []) _ (work w) (true_says v (actor p.path) body.Committed c)) (true_map v (decided_told (root_of p.path) (actor p.path) p) p.sent (λ n j. one n (has (participants p) n)))
         where
           work : (x : Bool) → AreTrue v (cond x (Do (PutIntent (actor p.path) i) ∷ []) [])
-          work true = (refl, tt)
+          work true = ((over_claim v (actor p.path) (subst (IsOver (actor p.path)) (sym same) over)).0, tt)
           work false = tt
 
           one : (n : ℕ) (x : Bool) → IsTrueEffect v (cond x (tell (root_of p.path) (has_record p) ((actor p.path, ending.Commit) ∷ []) n) (tell (root_of p.path) false ((actor p.path, ending.Abort) ∷ []) n))

@@ -4,7 +4,7 @@ use Rattle.std.specs.List.{AllByRecursion}
 use Rattle.arj_protocol.specs.Words.{Uid, Message}
 use Rattle.arj_protocol.specs.Words.message
 use Rattle.arj_protocol.specs.Coord.{Coord}
-use Rattle.arj_protocol.specs.Effect.{Effect, Say, Send, Do, Work, PutInc, Intent}
+use Rattle.arj_protocol.specs.Effect.{Effect, Say, Send, Do, Work, PutInc, PutIntent, Intent}
 use Rattle.arj_protocol.specs.Tree.{is_own}
 use Rattle.arj_part_law.specs.Coords.{IsOver, IsCommitting}
 use Rattle.arj_part_law.specs.Messages.{Seals}
@@ -27,23 +27,24 @@ names_inc (message.Hello m) = true
 names_inc (message.Activated m) = true
 names_inc _ = false
 
--- the work is that of a new incarnation
-abbrev pub is_rise : Work → Bool
-is_rise (PutInc i) = true
-is_rise _ = false
-
 -- What this coordinator may send: of each action that the message says committed, or that it says is voting, it is true
 -- here; and it doesn't name an incarnation of its sender.
 pub record IsTrue (c : Coord) (m : Message) : Type 0 where
   pub claims : (u : Uid) → Seals m u → IsClaimed u c
   pub plain : names_inc m ≡ false
 
+-- a record is of an action of this node, and the work isn't that of a new incarnation
+abbrev pub IsHomeWork : ℕ → Work → Type 0
+IsHomeWork n (PutIntent u i) = u.node ≡ n
+IsHomeWork n (PutInc i) = ⊥
+IsHomeWork n _ = ⊤
+
 abbrev pub IsTrueEffect : Coord → Effect → Type 0
 IsTrueEffect c (Send to m) = IsTrue c m
 IsTrueEffect c (Say b) = ⊤
-IsTrueEffect c (Do w) = is_rise w ≡ false
+IsTrueEffect c (Do w) = IsHomeWork c.tree.node w
 
--- each message that is sent is true, and no work is that of a new incarnation
+-- each message that is sent is true, and each record that is written is of an action of this node
 abbrev pub AreTrue : Coord → List Effect → Type 0
 AreTrue c outs = AllByRecursion (IsTrueEffect c) outs
 
