@@ -4,6 +4,9 @@ pub mod Grants
 pub mod Marks
 pub mod Turns
 pub mod Held
+pub mod Appended
+pub mod Recovered
+pub mod Finds
 pub mod Nodes
 pub mod Pairs
 pub mod Cuts

@@ -6,6 +6,7 @@ pub mod Calls
 pub mod Confirming
 pub mod Reached
 pub mod Files
+pub mod Found
 pub mod Kept
 pub mod Prep
 pub mod Ends

@@ -1,22 +1,30 @@
 // The entries of objects in memory.
-ghost use Rattle.std.specs.Prelude.{◌≡◌, ◌↔◌, ◌&&◌, true, List, [], map, IfOk, IfSome, OnOk, option_copied};
-ghost use Rattle.std.specs.List.{AllByRecursion, list_any};
+ghost use Rattle.std.specs.Prelude.{◌≡◌, ◌↔◌, ◌&&◌, ◌++◌, ℕ, true, List, [], map, find, IfOk, IfSome, OnOk, option_copied, option_map};
+ghost use Rattle.std.specs.List.{AllByRecursion, flat_map, list_any};
 ghost use Rattle.arj_base.specs.declared.state.ObjectState.{ObjectState};
 ghost use Rattle.arj_base.specs.declared.uid.Uid.{Uid};
 ghost use Rattle.arj_base.specs.Uid.{entry, uid_eq};
 ghost use Rattle.arj_entry.specs.Entry.{is_listed};
+ghost use Rattle.arj_msg.specs.InForm.{IsObject};
 ghost use Rattle.arj_naming.specs.Entries.{AreEntries, AreOfEntries, IsEntryState};
-ghost use Rattle.arj_protocol.specs.Confirm.{is_prepared_with, is_wanted};
+ghost use Rattle.arj_naming.specs.Found.{pair_found, AreFound};
+ghost use Rattle.arj_naming.specs.Said.{said};
+ghost use Rattle.arj_protocol.specs.Confirm.{adds_store, back_lines, is_prepared_with, is_wanted, mode_back, named_back, pending_of, rows_back};
 ghost use Rattle.arj_protocol.specs.Effect.{held_at, is_prepared, moved, pair_prepared, pair_committed, pair_aborted};
+ghost use Rattle.arj_protocol.specs.Named.{Named, unnamed};
 ghost use Rattle.arj_protocol.specs.Naming.{listed_entry};
 ghost use Rattle.arj_protocol.specs.Values.{state_entry};
 
+use crate::found::{states_by_action, states_by_uid};
+use crate::object::NamedObject;
 use crate::payload::{entry_of, stores_of};
-use arj_base::{NodeList, ObjectState, Uid, Uids, entry_uid};
+use arj_base::{Mode, NodeList, ObjectState, Uid, Uids, entry_uid};
 use arj_entry::Entry;
+use arj_journal::Lines;
 use arj_msg::States;
+use arj_store::Found;
 use std::alloc::{AllocError, Global};
-use std::collections::BTreeMap;
+use std::collections::{BTreeMap, BTreeSet};
 use std::marker::Model;
 
 /// The committed entries by Uid, and the prepared actions, each with its new entries. Contracts see the protocol's pair.
@@ -48,6 +56,71 @@ impl Entries {
             held: BTreeMap::new(alloc),
             pend: BTreeMap::new(alloc),
         }
+    }
+
+    /// The entries that a recovery found.
+    pub fn of_found(alloc: Global, found: &Found) -> Result<Entries, AllocError>
+        requires { AreFound found.now }
+        ensures { IfOk result (λ entries. entries ≡ pair_found found.now) }
+    {
+        let held = states_by_uid(alloc, found.committed.as_slice())?;
+        let pend = states_by_action(alloc, found.prepared.as_slice())?;
+        Ok(Entries { alloc, held, pend })
+    }
+
+    // The lock that an entry gives back, if it is prepared: its action, and the mode.
+    fn lock_back(&self, uid: Uid, stores: &[u8]) -> Option<(Uid, Mode)>
+        ensures { result ≡ option_map (λ p. (p.0, mode_back (state_entry p.1).stores stores.now)) (pending_of uid self.now.pend) }
+    {
+        for (action, states) in self.pend.iter() {
+            if let Some(state) = state_of(states.as_slice(), uid) {
+                return Some((*action, mode_back(stores_of(state), stores)));
+            }
+        }
+        None
+    }
+
+    // The object of an entry after a restart.
+    fn object_back(
+        &self,
+        uid: Uid,
+        held: &ObjectState,
+        out: &mut Lines,
+    ) -> Result<NamedObject, AllocError>
+        requires { IsEntryState uid held.now }
+        ensures object { IfOk result (λ object. object ≡ unnamed (rows_back uid held.now (pending_of uid self.now.pend))) }
+        ensures lines { OnOk result (out.new ≡ out.old ++ said (back_lines (unnamed (rows_back uid held.now (pending_of uid self.now.pend))))) }
+    {
+        match self.lock_back(uid, stores_of(held)) {
+            Some((action, mode)) => {
+                NamedObject::locked(self.alloc, object_of(uid), action, mode, out)
+            }
+            None => Ok(NamedObject::new(self.alloc)),
+        }
+    }
+
+    /// The objects after a restart: prepared entries give back their locks.
+    pub fn objects_back(&self, out: &mut Lines) -> Result<BTreeMap<u16, NamedObject>, AllocError>
+        ensures objects { IfOk result (λ objects. objects.entries ≡ map (named_back self.now) self.now.held) }
+        ensures lines { OnOk result (out.new ≡ out.old ++ said (flat_map (λ (e : ℕ × Named). back_lines e.1) (map (named_back self.now) self.now.held))) }
+    {
+        let mut objects = BTreeMap::new(self.alloc);
+        for (uid, held) in self.held.iter() {
+            let object = self.object_back(*uid, held, out)?;
+            objects.insert(object_of(*uid), object)?;
+        }
+        Ok(objects)
+    }
+
+    /// The tops that are confirmed after a restart: those that are prepared.
+    pub fn confirmed_back(&self) -> Result<BTreeSet<Uid>, AllocError>
+        ensures { IfOk result (λ confirmed. confirmed.keys ≡ map (λ (p : Uid × List ObjectState). p.0) self.now.pend) }
+    {
+        let mut confirmed = BTreeSet::new(self.alloc);
+        for (action, _) in self.pend.iter() {
+            confirmed.insert(*action)?;
+        }
+        Ok(confirmed)
     }
 
     /// Where its lists have their memory from.
@@ -161,6 +234,39 @@ impl Entries {
         ensures { self.new ≡ pair_aborted action self.old }
     {
         self.pend.remove(&action);
+    }
+}
+
+// The state of this entry, if there is one.
+fn state_of(states: &[ObjectState], uid: Uid) -> Option<&ObjectState>
+    ensures { option_copied result ≡ find (λ (s : ObjectState). uid_eq s.uid uid) states.now }
+{
+    states.iter().find(|state| state.uid == uid)
+}
+
+// The object of an entry.
+fn object_of(uid: Uid) -> u16
+    requires { IsObject uid.num }
+    ensures { result ≡ uid.num }
+{
+    uid.num as u16
+}
+
+// Whether there is a store that wasn't there.
+fn adds_store(new: &[u8], old: &[u8]) -> bool
+    ensures { result ≡ adds_store new.now old.now }
+{
+    new.iter().any(|store| !old.contains(store))
+}
+
+// The mode of the lock that an entry with these stores gives back.
+fn mode_back(new: &[u8], old: &[u8]) -> Mode
+    ensures { result ≡ mode_back new.now old.now }
+{
+    if adds_store(new, old) {
+        Mode::Write
+    } else {
+        Mode::Exclude
     }
 }
 

@@ -15,6 +15,7 @@ mod checks;
 mod confirm;
 mod counter;
 mod entries;
+mod found;
 mod lines;
 mod locks;
 mod made;
@@ -23,6 +24,7 @@ mod naming;
 mod object;
 mod part;
 mod payload;
+mod recover;
 mod told;
 mod uids;
 

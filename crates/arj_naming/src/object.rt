@@ -3,10 +3,11 @@ ghost use Rattle.std.specs.Prelude.{◌≡◌, ◌+◌, ℕ, false, [], ◌++◌
 ghost use Rattle.arj_base.specs.declared.mode.End.TheVariants as ending;
 ghost use Rattle.arj_base.specs.declared.mode.Mode.TheVariants as mode;
 ghost use Rattle.arj_base.specs.Rows.{Row, last_uid};
+ghost use Rattle.arj_base.specs.Uid.{entry};
 ghost use Rattle.arj_lock.specs.Exclusion.{IsOneEach};
 ghost use Rattle.arj_lock.specs.Held.{AreBelow, AreListed};
 ghost use Rattle.arj_protocol.specs.Ask.{top_of};
-ghost use Rattle.arj_protocol.specs.Copy.{holds};
+ghost use Rattle.arj_protocol.specs.Copy.{holds, row_for};
 ghost use Rattle.arj_protocol.specs.Effect.{Say};
 ghost use Rattle.arj_protocol.specs.Named as protocol;
 ghost use Rattle.arj_protocol.specs.Named.{Named, unnamed, conflict_on, locked, lock_lines, live_above, made_above, live_asked, make_asked, include_asked, bind_made, bind_named, note_named, note_other, note_made, lowered, lower_lines, is_lowered, is_binding, end_named, hello_named, live_after};
@@ -70,6 +71,30 @@ impl NamedObject {
             turn: None,
             locks: LockTable::new(alloc),
         }
+    }
+
+    /// An object whose entry was found prepared: its action has a lock on it again.
+    pub fn locked(
+        alloc: Global,
+        x: u16,
+        action: Uid,
+        mode: Mode,
+        out: &mut Lines,
+    ) -> Result<NamedObject, AllocError>
+        ensures object { IfOk result (λ object. object ≡ unnamed (row_for (entry x) (action ∷ []) 1 mode ∷ [])) }
+        ensures lines { OnOk result (out.new ≡ out.old ++ said (Say (body.Granted 1 action (entry x) mode) ∷ [])) }
+    {
+        rows_are_one_each();
+        let mut locks = LockTable::new(alloc);
+        grant(&mut locks, &Path::new(action), x, mode, out)?;
+        Ok(NamedObject {
+            live: None,
+            recorded: None,
+            made: BTreeMap::new(alloc),
+            asked: BTreeSet::new(alloc),
+            turn: None,
+            locks,
+        })
     }
 
     /// Answers a Bind, by the object's entry.

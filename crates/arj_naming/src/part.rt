@@ -6,7 +6,7 @@ ghost use Rattle.arj_lock.specs.Held.{AreListed};
 ghost use Rattle.arj_naming.specs.Calls.{bind_by, note_by, bound_to, recorded_to};
 ghost use Rattle.arj_naming.specs.Said.{said};
 ghost use Rattle.arj_protocol.specs.Ask.{asked_by};
-ghost use Rattle.arj_protocol.specs.Confirm.{confirms};
+ghost use Rattle.arj_protocol.specs.Confirm.{confirms, recovered_lines, recovered_naming};
 ghost use Rattle.arj_protocol.specs.Naming.{is_over, loses_row, has_locks, taken_end, end_locks, end_lines, hello, naming_holders};
 
 use crate::counter::Counter;
@@ -61,6 +61,26 @@ fn recorded(head: &Head, reply: Option<RecordedReply>) -> Option<Recorded>
 }
 
 impl Part {
+    /// What is known in this incarnation after a restart, by these entries.
+    pub fn recovered(
+        alloc: Global,
+        inc: u32,
+        entries: &Entries,
+        out: &mut Lines,
+    ) -> Result<Part, AllocError>
+        ensures part { IfOk result (λ part. part ≡ recovered_naming inc entries.now) }
+        ensures lines { OnOk result (out.new ≡ out.old ++ said (recovered_lines (recovered_naming inc entries.now))) }
+    {
+        let objects = entries.objects_back(out)?;
+        let confirmed = entries.confirmed_back()?;
+        Ok(Part {
+            counter: Counter { inc, count: 0 },
+            objects,
+            confirmed,
+            told: BTreeSet::new(alloc),
+        })
+    }
+
     /// Whether naming was told of the end of the path's root or top.
     pub fn is_over(&self, path: &Path) -> bool
         ensures { result ≡ is_over path.now self.now }

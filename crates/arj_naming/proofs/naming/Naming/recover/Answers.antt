@@ -1,0 +1,22 @@
+use Rattle.std.proofs.Common.{◌∙◌, ap, subst, sym}
+use Rattle.arj_disk.specs.declared.slot.Role.TheVariants.{Names}
+use Rattle.arj_naming.specs.Files.{IsPairOf}
+use Rattle.arj_naming.specs.Found.{pair_found, AreFound}
+use Rattle.arj_naming.proofs.Finds.{are_found, pair_of_found}
+use Rattle.arj_naming.proofs.naming.Naming.recover.Goals as goal
+
+pub recovered-requires : goal.recovered-requires
+recovered-requires g c =
+    let p = g.O.ObjectStore.pair (g.D.Disk.file c.args.disk.now) Names in
+    let q = g.O.ObjectStore.pair (g.D.Disk.file c.recover.new.disk) Names in
+    subst AreFound (sym c.found.ensures) (are_found p q c.requires.entries c.recover.ensures.pair (g.O.ObjectStore.finding c.in_ok-store.store) c.in_ok-store.ensures.found)
+
+pub returns-clause-stands : goal.returns-clause-stands
+returns-clause-stands g c =
+    let q = g.O.ObjectStore.pair (g.D.Disk.file c.recover.new.disk) Names in
+    record {
+      role_is = c.in_ok-store.ensures.role;
+      keeps = c.in_ok-store.ensures.keeps;
+      formed = c.recover.ensures.formed;
+      pair = subst (IsPairOf q) (sym (c.in_ok-memory.ensures.entries ∙ ap pair_found c.found.ensures)) (pair_of_found q (g.O.ObjectStore.finding c.in_ok-store.store) c.in_ok-store.ensures.found);
+    }

@@ -1,0 +1,71 @@
+// Copies of what a recovery finds, by Uid.
+ghost use Rattle.std.specs.Prelude.{◌≡◌, IfOk, List, map};
+ghost use Rattle.std.specs.List.Sorted.{IsStrictlySortedBy};
+ghost use Rattle.arj_base.specs.Order.{uid_order};
+ghost use Rattle.arj_base.specs.declared.state.ObjectState.{ObjectState};
+ghost use Rattle.arj_base.specs.declared.uid.Uid.{Uid};
+ghost use Rattle.arj_naming.specs.Found.{by_uid};
+ghost use Rattle.arj_store.specs.Pair.{uid_of};
+
+use arj_base::{ObjectState, Uid};
+use arj_msg::States;
+use std::alloc::{AllocError, Global};
+use std::collections::BTreeMap;
+
+// A copy of a state.
+fn copied(state: &ObjectState) -> Result<ObjectState, AllocError>
+    ensures { IfOk result (λ copied. copied ≡ state.now) }
+{
+    let payload = state.payload.copy()?;
+    Ok(ObjectState {
+        uid: state.uid,
+        class: state.class,
+        version: state.version,
+        writer: state.writer,
+        payload,
+    })
+}
+
+// Copies of states.
+fn copies(alloc: Global, states: &[ObjectState]) -> Result<States, AllocError>
+    ensures { IfOk result (λ copies. copies ≡ states.now) }
+{
+    let mut copies = States::new(alloc);
+    for state in states {
+        let copy = copied(state)?;
+        copies.push(copy)?;
+    }
+    Ok(copies)
+}
+
+/// Copies of states that stand by Uid, under their Uids.
+pub fn states_by_uid(
+    alloc: Global,
+    states: &[ObjectState],
+) -> Result<BTreeMap<Uid, ObjectState>, AllocError>
+    requires { IsStrictlySortedBy uid_order (map uid_of states.now) }
+    ensures { IfOk result (λ held. held.entries ≡ by_uid states.now) }
+{
+    let mut held = BTreeMap::new(alloc);
+    for state in states {
+        let copy = copied(state)?;
+        held.insert(state.uid, copy)?;
+    }
+    Ok(held)
+}
+
+/// Copies of what actions have prepared, which stand by Uid.
+pub fn states_by_action(
+    alloc: Global,
+    prepared: &[(Uid, States)],
+) -> Result<BTreeMap<Uid, States>, AllocError>
+    requires { IsStrictlySortedBy uid_order (map (λ (e : Uid × List ObjectState). e.0) prepared.now) }
+    ensures { IfOk result (λ pend. pend.entries ≡ prepared.now) }
+{
+    let mut pend = BTreeMap::new(alloc);
+    for (action, states) in prepared {
+        let copies = copies(alloc, states.as_slice())?;
+        pend.insert(*action, copies)?;
+    }
+    Ok(pend)
+}
