@@ -27,6 +27,7 @@ mod Sends
 mod ServerRuns
 mod Settled
 mod Stands
+mod StatesLeft
 mod Stores
 mod Tellings
 mod ToldInOrder

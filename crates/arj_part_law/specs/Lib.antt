@@ -4,6 +4,7 @@ pub mod Coords
 pub mod Copies
 pub mod Cuts
 pub mod Entries
+pub mod Frames
 pub mod Incs
 pub mod Messages
 pub mod Nodes
