@@ -70,6 +70,8 @@ module _ (x : ℕ) where
       sent = refl;
       plans = λ z begun. let other = not_this z begun in (put_other t true W.disk.begun z other ∙ begun, put_other t (plan_at x p) W.disk.plan z other);
       stages = λ z other. put_other t Preparing W.disk.stage z other;
+      starts = λ z other. put_other t true W.disk.begun z other;
+      texts = λ z other. put_other t (plan_at x p) W.disk.plan z other;
       gots = λ z other. refl;
       outcomes = λ z begun u. subst (λ g. open_by (decided W.disk z) g (W.disk.intent z) ≡ true) (put_other t Preparing W.disk.stage z (not_this z begun)) u;
     };
@@ -146,13 +148,13 @@ module _ (x : ℕ) where
         effects = [];
         allowed = tt;
         there = yes_seen W.disk W.disk t s p left sees asked refl refl refl (λ r other. refl) (λ on. absurd (never on off));
-        only = record { rest = refl; sent = refl; plans = λ z b. (b, refl); stages = λ z other. refl; gots = λ z other. refl; outcomes = λ z b u. u };
+        only = record { rest = refl; sent = refl; plans = λ z b. (b, refl); stages = λ z other. refl; starts = λ z other. refl; texts = λ z other. refl; gots = λ z other. refl; outcomes = λ z b u. u };
       }
       by (inl on) = record {
         effects = Take t s ∷ [];
         allowed = ((sees.stage, claim on), tt);
         there = yes_seen W.disk (after W (Take t s)).disk t s p left sees asked refl refl refl (λ r other. ap (λ f. f r) (put_same t (put s true (W.disk.got t)) W.disk.got) ∙ put_other s true (W.disk.got t) r other) (λ e. put2_same t s W.disk.got);
-        only = record { rest = refl; sent = refl; plans = λ z b. (b, refl); stages = λ z other. refl; gots = λ z other. put_other t (put s true (W.disk.got t)) W.disk.got z other; outcomes = λ z b u. u };
+        only = record { rest = refl; sent = refl; plans = λ z b. (b, refl); stages = λ z other. refl; starts = λ z other. refl; texts = λ z other. refl; gots = λ z other. put_other t (put s true (W.disk.got t)) W.disk.got z other; outcomes = λ z b u. u };
       }
 
   -- ---- marks
@@ -268,6 +270,8 @@ module _ (x : ℕ) where
       sent = refl;
       plans = λ z b. (b, refl);
       stages = λ z other. put_other t Confirming W.disk.stage z other;
+      starts = λ z other. refl;
+      texts = λ z other. refl;
       gots = λ z other. refl;
       outcomes = λ z b. put_cases (λ g. open_by (decided W.disk z) g (W.disk.intent z) ≡ true → undecided W.disk z ≡ true) t Confirming W.disk.stage z
           (λ same u. subst (λ g. open_by (decided W.disk z) g (W.disk.intent z) ≡ true) (sym (ap (λ k. W.disk.stage k) same ∙ sees.stage)) u) (λ other u. u);

@@ -3,9 +3,11 @@ pub mod AskingSteps
 pub mod ConfirmKeeps
 pub mod ConfirmSteps
 pub mod DecidingSteps
+pub mod Doings
 pub mod EntrySteps
 pub mod Frames
 pub mod Halts
+pub mod HeardWalks
 pub mod Keys
 pub mod Later
 pub mod Marks
@@ -13,4 +15,5 @@ pub mod PairSteps
 pub mod Planned
 pub mod StoreSteps
 pub mod StoreWalks
+pub mod TopFrames
 pub mod ToldWalks

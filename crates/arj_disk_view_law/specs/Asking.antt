@@ -39,6 +39,8 @@ pub record OnlyTop (t : ℕ) (W V : World) : Type 0 where
   pub sent : V.sent ≡ W.sent
   pub plans : (z : ℕ) → W.disk.begun z ≡ true → (V.disk.begun z ≡ true) × (V.disk.plan z ≡ W.disk.plan z)
   pub stages : (z : ℕ) → (z == t) ≡ false → V.disk.stage z ≡ W.disk.stage z
+  pub starts : (z : ℕ) → (z == t) ≡ false → V.disk.begun z ≡ W.disk.begun z
+  pub texts : (z : ℕ) → (z == t) ≡ false → V.disk.plan z ≡ W.disk.plan z
   pub gots : (z : ℕ) → (z == t) ≡ false → V.disk.got z ≡ W.disk.got z
   pub outcomes : (z : ℕ) → W.disk.begun z ≡ true → undecided V.disk z ≡ true → undecided W.disk z ≡ true
 

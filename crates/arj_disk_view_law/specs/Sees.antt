@@ -1,7 +1,7 @@
 -- The disk half of the view, whole: each place of the machine tied to the world, and what each message claims.
-use Rattle.std.specs.Prelude.{⊤, ◌≡◌, ◌⊎◌, ◌<◌, ℕ, Bool, true, false, List, ◌++◌, length, Option, Some, None, ◌==◌}
+use Rattle.std.specs.Prelude.{⊤, ◌≡◌, ◌⊎◌, ◌<◌, ℕ, Bool, true, false, List, ◌++◌, length, Option, Some, None, ◌==◌, ◌∷◌, []}
 use Rattle.std.specs.List.{list_any}
-use Rattle.arj_protocol.specs.Words.{Uid, End, Kind, Line, Body, Head, Asked, Ask, asks, Message, uid_eq, is_on, object}
+use Rattle.arj_protocol.specs.Words.{Uid, End, Kind, Line, Body, Head, Asked, Ask, asks, Message, uid_eq, is_on, object, PreparedReply}
 use Rattle.arj_protocol.specs.Words.ask
 use Rattle.arj_protocol.specs.Words.body
 use Rattle.arj_protocol.specs.Words.kind
@@ -11,11 +11,14 @@ use Rattle.arj_protocol.specs.Words.loaded
 use Rattle.arj_protocol.specs.Words.prepared
 use Rattle.arj_protocol.specs.Words.confirmed
 use Rattle.arj_protocol.specs.Ask.{Reply, answers, actor, top_of, last_end}
-use Rattle.arj_protocol.specs.Commit.{Preparing, Confirming}
-use Rattle.arj_protocol.specs.Coord.{Coord, Doing, Now, Committing, doing_of}
+use Rattle.arj_protocol.specs.Commit as commit
+use Rattle.arj_protocol.specs.Commit.{Used, Preparing, Confirming, begin_prepare, targets_of}
+use Rattle.arj_protocol.specs.Coord.{Coord, Doing, Now, Committing, doing_of, on_doing}
 use Rattle.arj_protocol.specs.Naming.{Naming}
-use Rattle.arj_protocol.specs.Node.{Parts, Took, serve, handle_ends}
-use Rattle.arj_protocol.specs.Effect.{Disk, Effect}
+use Rattle.arj_protocol.specs.Node.{Parts, Took, serve, handle_ends, with_coord}
+use Rattle.arj_protocol.specs.Effect.{Disk, Effect, Intent}
+use Rattle.arj_protocol.specs.Asking.{moved_commit, step_commit, gives_up}
+use Rattle.arj_protocol.specs.Order as order
 use Rattle.arj_protocol.specs.Order.{uid_number}
 use Rattle.arj_protocol.specs.Step.{Node}
 use Rattle.arj_protocol.specs.Tree.{Branch, branch_of, is_open}
@@ -28,11 +31,12 @@ use Rattle.arj_disk_law.specs.Words.{In}
 use Rattle.arj_view_law.specs.Seen as seen
 use Rattle.arj_view_law.specs.Seen.{Post, Seen, at, up, said}
 use Rattle.arj_view_law.specs.Walks.{Walks, Up, halted}
-use Rattle.arj_disk_view_law.specs.Asking.{SeesPreparing, SeesConfirming}
+use Rattle.arj_disk_view_law.specs.Asking.{SeesPreparing, SeesConfirming, TopGoes, IsUnanswered}
 use Rattle.arj_disk_view_law.specs.Confirming.{SaysMarks}
 use Rattle.arj_disk_view_law.specs.Deciding.{SeesRecords}
 use Rattle.arj_disk_view_law.specs.Entries.{SeesEntry}
 use Rattle.arj_disk_view_law.specs.Pairs.{packed}
+use Rattle.arj_disk_view_law.specs.Plans.{IsTidy, plan_at}
 use Rattle.arj_disk_view_law.specs.Stores.{SeesStore, ClaimsPrepare, ClaimsCommit, ClaimsAbort}
 
 -- ---- what messages claim
@@ -189,3 +193,60 @@ abbrev pub EndsAreWalked : Type 0
 EndsAreWalked = (x : ℕ) (tops : ℕ → Bool) (e k : ℕ) (d : Disk) (t v : Parts) (from : ℕ) (ack : Bool) (ends : List (Uid × End)) (outs : List Effect) (M : Seen)
     → (k == 1) ≡ false → t.naming ≡ None → IsSeenByDisks x tops (up k d t M) → ((W : World) → SeesDisks x tops W (up k d t M) → ClaimsLast tops W k ack (last_end ends))
     → handle_ends k d t from ack ends (last_end ends) ≡ Took v outs → Walks (IsSeenByDisks x tops) e k outs (Up (IsSeenByDisks x tops) k v) d M
+
+-- A step of an open top's commit machine: where the machine goes with it, the whole stays seen.
+abbrev pub TopsAreSeen : Type 0
+TopsAreSeen = (x k : ℕ) (tops : ℕ → Bool) (W : World) (M : Seen) (d : Disk) (t : Parts) (u : Uid) (b : Branch) (q : Doing) (f : Doing → Doing) → SeesDisks x tops W (up k d t M)
+    → branch_of u t.coord.tree ≡ Some b → b.ended ≡ None → doing_of u t.coord ≡ Some q → tops (uid_number u) ≡ true → W.disk.serial (uid_number u) ≡ false
+    → (goes : TopGoes (uid_number u) (λ S. let r = f q in Works x tops S (uid_number u) b.kind r.now) W) → SeesDisks x tops (run W goes.effects) (up k d (with_coord t (on_doing u f t.coord)) M)
+
+-- A store's answer to a Prepare that isn't Old: it is taken, and with the last one the coordinator asks naming.
+abbrev pub IsTaken : PreparedReply → Type 0
+IsTaken prepared.Yes = ⊤
+IsTaken (prepared.InDoubt y holder) = ⊤
+IsTaken (prepared.Old y v) = ⊥
+
+-- An open top whose prepare step waits for this node; its plan is by its own path, and uses something.
+pub record WaitsForStore (t : Parts) (from : ℕ) (act : Uid) (p : commit.Plan) (left : List ℕ) : Type 0 where
+  pub branch : Branch
+  pub found : branch_of act t.coord.tree ≡ Some branch
+  pub unended : branch.ended ≡ None
+  pub doing : Doing
+  pub at_work : doing_of act t.coord ≡ Some doing
+  pub now : doing.now ≡ Committing (Preparing p left)
+  pub asked : order.has left from ≡ true
+  pub path : top_of p.path ≡ act
+  pub used : Used
+  pub more : List Used
+  pub uses : p.used ≡ used ∷ more
+
+abbrev pub PreparedIsHeard : Type 0
+PreparedIsHeard = (x : ℕ) (tops : ℕ → Bool) (e k : ℕ) (d : Disk) (t : Parts) (from : ℕ) (act : Uid) (r : PreparedReply) (p : commit.Plan) (left : List ℕ) (intents : List (Uid × Intent)) (M : Seen)
+    → WaitsForStore t from act p left → tops (uid_number act) ≡ true → IsTaken r → (W : World) → SeesDisks x tops W (up k d t M) → ClaimsReply x W from act (Reply.Prepared r)
+    → let did = moved_commit act (commit.answered from (Preparing p left) (Reply.Prepared r)) intents t.coord in Walks (IsSeenByDisks x tops) e k did.outs (Up (IsSeenByDisks x tops) k (with_coord t did.part)) d M
+
+-- Stores that don't answer are given up: the coordinator asks naming.
+abbrev pub SilentAreGivenUp : Type 0
+SilentAreGivenUp = (x : ℕ) (tops : ℕ → Bool) (e k : ℕ) (d : Disk) (t : Parts) (from : ℕ) (act : Uid) (p : commit.Plan) (left : List ℕ) (intents : List (Uid × Intent)) (M : Seen)
+    → WaitsForStore t from act p left → tops (uid_number act) ≡ true → (W : World) → SeesDisks x tops W (up k d t M)
+    → let did = gives_up act intents t.coord (Committing (Preparing p left)) in Walks (IsSeenByDisks x tops) e k did.outs (Up (IsSeenByDisks x tops) k (with_coord t did.part)) d M
+
+-- An open top that is to begin its prepare step: it waits for its votes, or its commit just starts.
+pub record MayPrepare (x k : ℕ) (tops : ℕ → Bool) (W : World) (t : Parts) (act : Uid) (p : commit.Plan) : Type 0 where
+  pub branch : Branch
+  pub found : branch_of act t.coord.tree ≡ Some branch
+  pub unended : branch.ended ≡ None
+  pub doing : Doing
+  pub at_work : doing_of act t.coord ≡ Some doing
+  pub path : actor p.path ≡ act
+  pub top : tops (uid_number act) ≡ true
+  pub plain : W.disk.serial (uid_number act) ≡ false
+  pub can : machine.CanBegin W.disk (uid_number act) (plan_at x p)
+  pub tidy : IsTidy p
+  pub unanswered : IsUnanswered p
+
+-- The prepare step begins: each target is sent its states.
+abbrev pub PreparesAreAsked : Type 0
+PreparesAreAsked = (x : ℕ) (tops : ℕ → Bool) (e k : ℕ) (d : Disk) (t : Parts) (act : Uid) (p : commit.Plan) (s : ℕ) (ss : List ℕ) (intents : List (Uid × Intent)) (M : Seen) (W : World)
+    → targets_of p ≡ s ∷ ss → MayPrepare x k tops W t act p → SeesDisks x tops W (up k d t M)
+    → let did = step_commit act (begin_prepare (targets_of p) p) intents t.coord in Walks (IsSeenByDisks x tops) e k did.outs (Up (IsSeenByDisks x tops) k (with_coord t did.part)) d M

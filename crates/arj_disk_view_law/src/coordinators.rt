@@ -1,0 +1,12 @@
+// Coordinators keep the disk half of the view.
+ghost use Rattle.arj_disk_view_law.specs.Sees.{PreparedIsHeard, PreparesAreAsked, SilentAreGivenUp, TopsAreSeen};
+
+/// A step of one top's commit machine leaves all else as it is seen. Walked through with all that it sends, a coordinator's
+/// prepare step keeps the disk half: it asks each store, takes each answer, or gives up who is silent, and with the last one
+/// it asks naming, of which the Confirm claims what is true. It does nothing when it runs.
+pub fn prepare_steps_keep_the_disk_half()
+    ensures tops { TopsAreSeen }
+    ensures asked { PreparesAreAsked }
+    ensures heard { PreparedIsHeard }
+    ensures given_up { SilentAreGivenUp }
+{}
