@@ -72,7 +72,7 @@ module _ (k : ℕ) (intents : List (Uid × Intent)) (S : State) (sees : SeesReco
   stays_written V is = record { sorted = sees.sorted; own = sees.own; is = λ w at. ap (λ f. f (uid_number w)) is ∙ sees.is w at }
 
 -- who is among the participants
-takes_part : (p : commit.Plan) (m : ℕ) → (order.has p.prepared m ≡ true) ⊎ (order.has (naming_node p) m ≡ true) → words.has m (participants p) ≡ true
+pub takes_part : (p : commit.Plan) (m : ℕ) → (order.has p.prepared m ≡ true) ⊎ (order.has (naming_node p) m ≡ true) → words.has m (participants p) ≡ true
 takes_part p m h = has_same m (participants p) ∙ has_set (servers_of p ++ p.prepared ++ naming_node p) m (⊎_elim (λ one. has_both (servers_of p ++ p.prepared) (naming_node p) m (inl (has_both (servers_of p) p.prepared m (inr one)))) (λ two. has_both (servers_of p ++ p.prepared) (naming_node p) m (inr two)) h)
 
 pub record_is_written : RecordIsWritten

@@ -1,10 +1,9 @@
 -- What a coordinator does at one action leaves the others.
-use Rattle.std.proofs.Common.{◌≡◌, ◌≢◌, ◌⊎◌, ℕ, zero, suc, ◌==◌, ◌&&◌, List, [], ◌∷◌, Bool, true, false, Option, Some, None, refl, sym, ◌∙◌, ap, subst, inl, inr, ⊎_elim, slice_get, slice_set, eqb-true}
+use Rattle.std.proofs.Common.{◌≡◌, ◌≢◌, ◌==◌, Bool, true, false, Option, Some, None, refl, sym, ◌∙◌, ap, eqb-true}
 use Rattle.std.specs.Prelude.{if◌then◌else◌}
 use Rattle.std.proofs.lemmas.Bool.{and_parts}
-use Rattle.arj_base.proofs.Uids.{uid_cases}
 use Rattle.arj_protocol.specs.Words.{Uid}
-use Rattle.arj_protocol.specs.Coord.{Coord, Doing, doing_of, set_doing, change_doing, on_doing}
+use Rattle.arj_protocol.specs.Coord.{Coord, Doing, doing_of, change_doing, on_doing}
 use Rattle.arj_protocol.specs.Tree.{is_own, at_place, set_place}
 use Rattle.arj_protocol.proofs.Maps.{place_other}
 use Rattle.arj_view_law.proofs.Happens.{place_same}

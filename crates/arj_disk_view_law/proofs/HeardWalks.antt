@@ -1,16 +1,16 @@
 -- A store's answer to a Prepare, walked through at the coordinator.
-use Rattle.std.proofs.Common.{◌≡◌, ◌⊎◌, ℕ, ◌==◌, List, [], ◌∷◌, ◌++◌, Bool, true, false, Option, Some, None, refl, sym, ◌∙◌, ap, subst, inl, inr, ⊎_elim, map, flat_map}
-use Rattle.arj_protocol.specs.Words.{Uid, Path, Head, Ask, Kind, Body, Label, Message, PreparedReply, request, uids_of}
+use Rattle.std.proofs.Common.{◌≡◌, ◌⊎◌, ℕ, List, [], ◌∷◌, ◌++◌, Bool, true, false, Option, Some, None, refl, sym, ◌∙◌, ap, subst, inl, inr, map}
+use Rattle.arj_protocol.specs.Words.{Uid, Path, Head, Ask, Kind, Message, request, uids_of}
 use Rattle.arj_protocol.specs.Words.body
 use Rattle.arj_protocol.specs.Words.ask
 use Rattle.arj_protocol.specs.Words.kind
 use Rattle.arj_protocol.specs.Words.prepared
-use Rattle.arj_protocol.specs.Ask.{Reply, actor, top_of}
-use Rattle.arj_protocol.specs.Asking.{moved_commit, step_commit, commits_in, asks_machine, asks_all, asks_node, mark_lines, gaveup_lines, gives_up}
+use Rattle.arj_protocol.specs.Ask.{actor, top_of}
+use Rattle.arj_protocol.specs.Asking.{moved_commit, step_commit, asks_all, asks_node, mark_lines, gaveup_lines}
 use Rattle.arj_protocol.specs.Commit as commit
 use Rattle.arj_protocol.specs.Commit.{Used, Preparing, Confirming, Stays, Asks, Marked, plainly, begin_confirm, stores_left, marks_store, marks_stores, further, confirm_ask, included_of, begin_prepare, states_for, targets_of}
-use Rattle.arj_protocol.specs.Coord.{Coord, Doing, Root, Now, Committing, doing_of, on_doing, on_root, root_at, with_went}
-use Rattle.arj_protocol.specs.Effect.{Disk, Effect, Say, Send, Do, Intent, Did}
+use Rattle.arj_protocol.specs.Coord.{Coord, Doing, Root, Now, Committing, doing_of, on_doing, on_root, with_went}
+use Rattle.arj_protocol.specs.Effect.{Disk, Effect, Say, Send, Do, Intent}
 use Rattle.arj_protocol.specs.Ending.{says, say_for}
 use Rattle.arj_protocol.specs.Naming.{Naming}
 use Rattle.arj_protocol.specs.Node.{Parts, with_coord}
@@ -19,23 +19,22 @@ use Rattle.arj_protocol.specs.Order.{uid_number}
 use Rattle.arj_protocol.specs.Says.{AreAll}
 use Rattle.arj_protocol.specs.Step.{Node}
 use Rattle.arj_protocol.proofs.PartSays.{all_both}
-use Rattle.arj_protocol.specs.Tree.{Branch, branch_of, root_of}
+use Rattle.arj_protocol.specs.Tree.{root_of}
 use Rattle.arj_protocol.specs.World.{numbered}
 use Rattle.arj_disk_law.specs.Effects as machine
 use Rattle.arj_disk_law.specs.Effects.{World, Follows, run, after}
 use Rattle.arj_disk_law.specs.Messages as mail
-use Rattle.arj_disk_law.specs.State.{State, undecided, target}
+use Rattle.arj_disk_law.specs.State.{State, target}
 use Rattle.arj_disk_law.specs.Words.{In}
 use Rattle.arj_disk_law.proofs.Base.{bool_cases, never}
-use Rattle.arj_view_law.specs.Seen.{Post, Seen, AreQuiet, at, up, said, posted}
-use Rattle.arj_view_law.specs.Walks.{Walks, Stops, Up, halted}
+use Rattle.arj_view_law.specs.Seen.{Post, Seen, up, said, posted}
+use Rattle.arj_view_law.specs.Walks.{Walks, Up}
 use Rattle.arj_disk_view_law.specs.Asking.{OnlyTop, TopGoes, SeesPreparing, SeesConfirming}
-use Rattle.arj_disk_view_law.specs.Confirming.{SaysMarks}
 use Rattle.arj_disk_view_law.specs.Deciding.{SeesRecords}
 use Rattle.arj_disk_view_law.specs.Entries.{SeesEntry}
 use Rattle.arj_disk_view_law.specs.Plans.{IsTidy, plan_at}
 use Rattle.arj_disk_view_law.specs.Stores.{IsPlanned, SeesStore}
-use Rattle.arj_disk_view_law.specs.Sees.{SilentAreGivenUp, MayPrepare, PreparesAreAsked, Claims, ClaimsConfirm, ClaimsReply, SeesDisks, SeesCoord, SeesDown, SeesConfirmed, IsSeenByDisks, Works, WorksBy, IsTaken, WaitsForStore, PreparedIsHeard}
+use Rattle.arj_disk_view_law.specs.Sees.{SilentAreGivenUp, PreparesAreAsked, ClaimsConfirm, SeesDisks, SeesCoord, SeesDown, SeesConfirmed, IsSeenByDisks, Works, WorksBy, WaitsForStore, PreparedIsHeard}
 use Rattle.arj_disk_view_law.proofs.Asked.{confirm_says}
 use Rattle.arj_disk_view_law.proofs.AskingSteps.{prepares_begin, yes_is_taken, doubt_is_marked, silent_are_marked, prepares_end}
 use Rattle.arj_disk_view_law.proofs.Planned.{states_are_planned}

@@ -2,8 +2,10 @@ pub mod Asked
 pub mod AskingSteps
 pub mod ConfirmKeeps
 pub mod ConfirmSteps
+pub mod DecideWalks
 pub mod DecidingSteps
 pub mod Doings
+pub mod Ended
 pub mod EntrySteps
 pub mod Frames
 pub mod Halts

@@ -1,5 +1,5 @@
 -- A step of one top's commit machine: the whole stays seen.
-use Rattle.std.proofs.Common.{◌≡◌, ◌≢◌, ◌⊎◌, ◌<◌, ◌≤◌, ℕ, zero, suc, ◌==◌, List, [], ◌∷◌, Bool, true, false, Option, Some, None, refl, sym, ◌∙◌, ap, subst, inl, inr, ⊎_elim, slice_get, length, lt_irrefl, le_trans, eqb-true, zero-lt-suc, suc-le-suc, not-suc-le-zero}
+use Rattle.std.proofs.Common.{◌≡◌, ◌≢◌, ◌⊎◌, ◌<◌, ◌≤◌, ℕ, zero, suc, ◌==◌, List, [], ◌∷◌, Bool, true, false, Option, Some, None, refl, sym, ◌∙◌, ap, subst, inl, inr, ⊎_elim, slice_get, length, lt_irrefl, le_trans, eqb-true, zero-lt-suc, suc-le-suc}
 use Rattle.std.specs.Prelude.{if◌then◌else◌, not, is_some}
 use Rattle.std.proofs.lemmas.Bool.{and_parts}
 use Rattle.arj_base.proofs.Uids.{uid_cases}
@@ -16,9 +16,8 @@ use Rattle.arj_disk_law.specs.Effects.{World, run}
 use Rattle.arj_disk_law.specs.State.{State, is_gone}
 use Rattle.arj_disk_law.proofs.Base.{test_cases, test_not, test_same, never}
 use Rattle.arj_disk_law.proofs.Keeps.{run_keeps}
-use Rattle.arj_view_law.specs.Seen as seen
-use Rattle.arj_view_law.specs.Seen.{Post, Seen, up}
-use Rattle.arj_disk_view_law.specs.Asking.{OnlyTop, TopGoes}
+use Rattle.arj_view_law.specs.Seen.{Seen, up}
+use Rattle.arj_disk_view_law.specs.Asking.{TopGoes}
 use Rattle.arj_disk_view_law.specs.Deciding.{SeesRecords}
 use Rattle.arj_disk_view_law.specs.Entries.{SeesEntry}
 use Rattle.arj_disk_view_law.specs.Stores.{SeesStore}
@@ -41,7 +40,7 @@ placed_below {A} (suc j) xs a is = below xs j a is
     below (y ∷ ys) (suc j) a is = suc-le-suc (below ys j a is)
 
 -- an action that is found is of its node and incarnation, and in its place
-branch_at : (u : Uid) (c : Coord) (b : Branch) → branch_of u c.tree ≡ Some b → (u.node ≡ c.tree.node) × (u.inc ≡ c.tree.inc) × (u.num ≤ length c.tree.branches)
+pub branch_at : (u : Uid) (c : Coord) (b : Branch) → branch_of u c.tree ≡ Some b → (u.node ≡ c.tree.node) × (u.inc ≡ c.tree.inc) × (u.num ≤ length c.tree.branches)
 branch_at u c b is = by (is_own u c.tree) refl is
   where
     by : (t : Bool) → is_own u c.tree ≡ t → (if t then at_place u.num c.tree.branches else None) ≡ Some b → (u.node ≡ c.tree.node) × (u.inc ≡ c.tree.inc) × (u.num ≤ length c.tree.branches)
@@ -49,11 +48,11 @@ branch_at u c b is = by (is_own u c.tree) refl is
     by false e h = absurd (cc h)
 
 -- and isn't one of the future
-not_future : (u : Uid) (c : Coord) (b : Branch) → branch_of u c.tree ≡ Some b → IsFuture c u → ⊥
+pub not_future : (u : Uid) (c : Coord) (b : Branch) → branch_of u c.tree ≡ Some b → IsFuture c u → ⊥
 not_future u c b is (inl (same, above)) = lt_irrefl (length c.tree.branches) (le_trans above (branch_at u c b is).2)
 not_future u c b is (inr later) = lt_irrefl c.tree.inc (subst (λ n. c.tree.inc < n) (branch_at u c b is).1 later)
 
-apart_number : (u w : Uid) → w ≢ u → (uid_number w == uid_number u) ≡ false
+pub apart_number : (u w : Uid) → w ≢ u → (uid_number w == uid_number u) ≡ false
 apart_number u w other = test_not (uid_number w) (uid_number u) (λ e. other (number_tells w u e))
 
 module _ (x k : ℕ) (tops : ℕ → Bool) (W : World) (M : Seen) (d : Disk) (t : Parts) (u : Uid) (b : Branch) (q : Doing) (f : Doing → Doing) (sees : SeesDisks x tops W (up k d t M))

@@ -1,5 +1,5 @@
 -- The disk half of the view, whole: each place of the machine tied to the world, and what each message claims.
-use Rattle.std.specs.Prelude.{⊤, ◌≡◌, ◌⊎◌, ◌<◌, ℕ, Bool, true, false, List, ◌++◌, length, Option, Some, None, ◌==◌, ◌∷◌, []}
+use Rattle.std.specs.Prelude.{⊤, ◌≡◌, ◌⊎◌, ◌<◌, ℕ, Bool, true, false, List, ◌++◌, length, Option, Some, None, ◌==◌, ◌∷◌}
 use Rattle.std.specs.List.{list_any}
 use Rattle.arj_protocol.specs.Words.{Uid, End, Kind, Line, Body, Head, Asked, Ask, asks, Message, uid_eq, is_on, object, PreparedReply}
 use Rattle.arj_protocol.specs.Words.ask
@@ -19,7 +19,7 @@ use Rattle.arj_protocol.specs.Node.{Parts, Took, serve, handle_ends, with_coord}
 use Rattle.arj_protocol.specs.Effect.{Disk, Effect, Intent}
 use Rattle.arj_protocol.specs.Asking.{moved_commit, step_commit, gives_up}
 use Rattle.arj_protocol.specs.Order as order
-use Rattle.arj_protocol.specs.Order.{uid_number}
+use Rattle.arj_protocol.specs.Order.{at_uid, uid_number}
 use Rattle.arj_protocol.specs.Step.{Node}
 use Rattle.arj_protocol.specs.Tree.{Branch, branch_of, is_open}
 use Rattle.arj_disk_law.specs.Effects as machine
@@ -250,3 +250,20 @@ abbrev pub PreparesAreAsked : Type 0
 PreparesAreAsked = (x : ℕ) (tops : ℕ → Bool) (e k : ℕ) (d : Disk) (t : Parts) (act : Uid) (p : commit.Plan) (s : ℕ) (ss : List ℕ) (intents : List (Uid × Intent)) (M : Seen) (W : World)
     → targets_of p ≡ s ∷ ss → MayPrepare x k tops W t act p → SeesDisks x tops W (up k d t M)
     → let did = step_commit act (begin_prepare (targets_of p) p) intents t.coord in Walks (IsSeenByDisks x tops) e k did.outs (Up (IsSeenByDisks x tops) k (with_coord t did.part)) d M
+
+-- An open top that waits for naming: its plan is by its own path, and it has no record.
+pub record WaitsForNaming (t : Parts) (intents : List (Uid × Intent)) (act : Uid) (p : commit.Plan) : Type 0 where
+  pub branch : Branch
+  pub found : branch_of act t.coord.tree ≡ Some branch
+  pub unended : branch.ended ≡ None
+  pub doing : Doing
+  pub at_work : doing_of act t.coord ≡ Some doing
+  pub now : doing.now ≡ Committing (Confirming p)
+  pub path : actor p.path ≡ act
+  pub unrecorded : at_uid act intents ≡ None
+
+-- Naming's Yes: the record is written where there is one, the top is decided, and all nodes that it sent something are told.
+abbrev pub ConfirmedIsHeard : Type 0
+ConfirmedIsHeard = (x : ℕ) (tops : ℕ → Bool) (e k : ℕ) (d : Disk) (t : Parts) (from : ℕ) (act : Uid) (p : commit.Plan) (M : Seen)
+    → WaitsForNaming t d.intents act p → tops (uid_number act) ≡ true → (W : World) → SeesDisks x tops W (up k d t M) → ClaimsReply x W from act (Reply.Confirmed confirmed.Yes)
+    → let did = moved_commit act (commit.answered from (Confirming p) (Reply.Confirmed confirmed.Yes)) d.intents t.coord in Walks (IsSeenByDisks x tops) e k did.outs (Up (IsSeenByDisks x tops) k (with_coord t did.part)) d M

@@ -1,5 +1,5 @@
 // Coordinators keep the disk half of the view.
-ghost use Rattle.arj_disk_view_law.specs.Sees.{PreparedIsHeard, PreparesAreAsked, SilentAreGivenUp, TopsAreSeen};
+ghost use Rattle.arj_disk_view_law.specs.Sees.{ConfirmedIsHeard, PreparedIsHeard, PreparesAreAsked, SilentAreGivenUp, TopsAreSeen};
 
 /// A step of one top's commit machine leaves all else as it is seen. Walked through with all that it sends, a coordinator's
 /// prepare step keeps the disk half: it asks each store, takes each answer, or gives up who is silent, and with the last one
@@ -9,4 +9,10 @@ pub fn prepare_steps_keep_the_disk_half()
     ensures asked { PreparesAreAsked }
     ensures heard { PreparedIsHeard }
     ensures given_up { SilentAreGivenUp }
+{}
+
+/// With naming's Yes the record is written, where there is one, the top is decided, and all nodes that it sent something are
+/// told; a stop on the record leaves it written or not. It does nothing when it runs.
+pub fn decisions_keep_the_disk_half()
+    ensures { ConfirmedIsHeard }
 {}

@@ -1,0 +1,269 @@
+-- A decision, walked through at its coordinator.
+use Rattle.std.proofs.Common.{◌≡◌, ◌≢◌, ℕ, ◌==◌, ◌&&◌, ◌||◌, List, [], ◌∷◌, ◌++◌, Bool, true, false, Option, Some, None, refl, sym, ◌∙◌, ap, subst, inl, inr, map}
+use Rattle.std.specs.Prelude.{if◌then◌else◌}
+use Rattle.std.proofs.lemmas.List.{append_assoc}
+use Rattle.arj_protocol.specs.Words.{Uid, End, Kind}
+use Rattle.arj_protocol.specs.Words.body
+use Rattle.arj_protocol.specs.Words.ending
+use Rattle.arj_protocol.specs.Words.kind
+use Rattle.arj_protocol.specs.Words.message
+use Rattle.arj_protocol.specs.Commit as commit
+use Rattle.arj_protocol.specs.Commit.{Confirming, participants, has_record}
+use Rattle.arj_protocol.specs.Coord.{Coord, Doing, Now, Idle, Committing, doing_of, on_doing, on_root}
+use Rattle.arj_protocol.specs.Effect.{Disk, Effect, Do, PutIntent, Intent, Before, After, InPart}
+use Rattle.arj_protocol.specs.Ending.{says, say_for, decided, awaits, decided_told, tell, record_work, root_after}
+use Rattle.arj_protocol.specs.Node.{Parts, with_coord}
+use Rattle.arj_protocol.specs.Order as order
+use Rattle.arj_protocol.specs.Order.{at_uid, put_uid, uid_number}
+use Rattle.arj_protocol.specs.Says.{AreAll}
+use Rattle.arj_protocol.specs.Step.{Node}
+use Rattle.arj_protocol.specs.Tree.{Tree, root_of, ended_at, is_own, at_place}
+use Rattle.arj_protocol.specs.World.{numbered}
+use Rattle.arj_disk_law.specs.Effects as machine
+use Rattle.arj_disk_law.specs.Effects.{World, Allowed, run, after}
+use Rattle.arj_disk_law.specs.Messages as mail
+use Rattle.arj_disk_law.specs.State as disk
+use Rattle.arj_disk_law.specs.State.{State, naming, is_gone}
+use Rattle.arj_disk_law.specs.Words.{In, put}
+use Rattle.arj_disk_law.proofs.Base.{never, put_same, put_other, test_same}
+use Rattle.arj_view_law.specs.Seen.{Post, Seen, up, said, posted}
+use Rattle.arj_view_law.specs.Walks.{Walks, Stops, Up}
+use Rattle.arj_disk_view_law.specs.Asking.{SeesConfirming}
+use Rattle.arj_disk_view_law.specs.Deciding.{SeesRecords, Stills}
+use Rattle.arj_disk_view_law.specs.Sees.{SeesDisks, SeesCoord, IsSeenByDisks, Works, WorksBy, WaitsForNaming, ConfirmedIsHeard}
+use Rattle.arj_disk_view_law.proofs.DecidingSteps.{takes_part, record_is_written, decision_is_made, commits_are_undecided, bare_commit_ends, decision_tells}
+use Rattle.arj_disk_view_law.proofs.Doings.{doing_here, doing_other, doing_tree}
+use Rattle.arj_disk_view_law.proofs.Ended.{HasEnded, tree_ended, ended_coord, calm_seen}
+use Rattle.arj_disk_view_law.proofs.Frames.{node_here, coord_same, says_seen, posts_seen, sends_seen}
+use Rattle.arj_disk_view_law.proofs.Halts.{stops_seen}
+use Rattle.arj_disk_view_law.proofs.HeardWalks.{is_say, say_walk}
+use Rattle.arj_disk_view_law.proofs.Keys as keys
+use Rattle.arj_disk_view_law.proofs.Planned.{has_same}
+use Rattle.arj_disk_view_law.proofs.TopFrames.{branch_at, apart_number}
+
+-- an open top that waits for naming
+confirming_of : (x : ℕ) (tops : ℕ → Bool) (S : State) (t : ℕ) (k : Kind) (now : Now) (p : commit.Plan) → tops t ≡ true → now ≡ Committing (Confirming p) → Works x tops S t k now → SeesConfirming x S t p
+confirming_of x tops S t kind.Nested now p top is w = absurd (never top w)
+confirming_of x tops S t kind.Serial now p top is w = absurd (never top w.0)
+confirming_of x tops S t kind.Top now p top is w = subst (λ n. WorksBy x S t n) is w.1
+confirming_of x tops S t kind.Independent now p top is w = subst (λ n. WorksBy x S t n) is w.1
+confirming_of x tops S t kind.Constituent now p top is w = subst (λ n. WorksBy x S t n) is w.1
+
+-- ---- who is told
+
+module _ (x : ℕ) (tops : ℕ → Bool) (e k : ℕ) (d : Disk) (v : Parts) (u root : Uid) (p : commit.Plan) where
+  abbrev P : Seen → Type 0
+  P = IsSeenByDisks x tops
+
+  post : Bool → End → ℕ → Post
+  post ack how n = record { from = k; to = n; message = message.Told (record { root = root; ack = ack; ends = (u, how) ∷ [] }) }
+
+  -- with a record
+  record Recorded (S : State) : Type 0 where
+    done : disk.decided S (uid_number u) ≡ true
+    there : S.intent (uid_number u) ≡ Some (participants p)
+
+  recorded_told : has_record p ≡ true → (ns : List ℕ) (N : Seen) (V : World) → Recorded V.disk → SeesDisks x tops V (up k d v N) → Walks P e k (map (decided_told root u p) ns) (Up P k v) d N
+  recorded_told has [] N V r s = (V, s)
+  recorded_told has (n ∷ ns) N V r s = by (order.has (participants p) n) refl (recorded_told has ns)
+    where
+      by : (b : Bool) → order.has (participants p) n ≡ b → ((L : Seen) (U : World) → Recorded U.disk → SeesDisks x tops U (up k d v L) → Walks P e k (map (decided_told root u p) ns) (Up P k v) d L)
+          → Walks P e k ((if b then tell root (has_record p) ((u, ending.Commit) ∷ []) n else tell root false ((u, ending.Abort) ∷ []) n) ∷ map (decided_told root u p) ns) (Up P k v) d N
+      by true is ih = λ more quiet.
+          let m : mail.Message = mail.ToldCommit (uid_number u) n in
+          let U : World = after V (machine.Send m) in
+          let q : Post = record { from = k; to = n; message = message.Told (record { root = root; ack = has_record p; ends = (u, ending.Commit) ∷ [] }) } in
+          ih (said e more (posted q N)) U (record { done = r.done; there = r.there }) (says_seen x tops U (up k d v (posted q N)) (numbered e more)
+          (posts_seen x tops U (up k d v N) q (inl (inl (inl refl)), λ a. inl refl) (sends_seen x tops V (up k d v N) m r.done s)))
+      by false is ih = λ more quiet.
+          let m : mail.Message = mail.ToldAbort (uid_number u) n in
+          let U : World = after V (machine.Send m) in
+          let q : Post = record { from = k; to = n; message = message.Told (record { root = root; ack = false; ends = (u, ending.Abort) ∷ [] }) } in
+          ih (said e more (posted q N)) U (record { done = r.done; there = r.there }) (says_seen x tops U (up k d v (posted q N)) (numbered e more)
+          (posts_seen x tops U (up k d v N) q (inl (inl (inl refl)), λ a. absurd (cc a)) (sends_seen x tops V (up k d v N) m ((decision_tells V u n (participants p) s.whole.core r.done r.there).1 is) s)))
+
+  -- without one
+  bare_told : has_record p ≡ false → p.confirmed ≡ true → (ns : List ℕ) (N : Seen) (V : World) → V.disk.bare (uid_number u) ≡ true → SeesDisks x tops V (up k d v N) → Walks P e k (map (decided_told root u p) ns) (Up P k v) d N
+  bare_told has_not confirmed [] N V r s = (V, s)
+  bare_told has_not confirmed (n ∷ ns) N V r s = by (order.has (participants p) n) refl (bare_told has_not confirmed ns)
+    where
+      names_part : order.has (participants p) naming ≡ true
+      names_part = sym (has_same naming (participants p)) ∙ takes_part p naming (inr (ap (λ b. order.has (if b then 1 ∷ [] else []) naming) confirmed))
+
+      by : (b : Bool) → order.has (participants p) n ≡ b → ((L : Seen) (U : World) → U.disk.bare (uid_number u) ≡ true → SeesDisks x tops U (up k d v L) → Walks P e k (map (decided_told root u p) ns) (Up P k v) d L)
+          → Walks P e k ((if b then tell root (has_record p) ((u, ending.Commit) ∷ []) n else tell root false ((u, ending.Abort) ∷ []) n) ∷ map (decided_told root u p) ns) (Up P k v) d N
+      by true is ih = λ more quiet.
+          let q : Post = record { from = k; to = n; message = message.Told (record { root = root; ack = has_record p; ends = (u, ending.Commit) ∷ [] }) } in
+          ih (said e more (posted q N)) V r (says_seen x tops V (up k d v (posted q N)) (numbered e more) (posts_seen x tops V (up k d v N) q (inl (inr r), λ a. absurd (never a has_not)) s))
+      by false is ih = λ more quiet.
+          let q : Post = record { from = k; to = n; message = message.Told (record { root = root; ack = false; ends = (u, ending.Abort) ∷ [] }) } in
+          ih (said e more (posted q N)) V r (says_seen x tops V (up k d v (posted q N)) (numbered e more)
+          (posts_seen x tops V (up k d v N) q (inl (inr (r, λ same. never names_part (ap (λ j. order.has (participants p) j) (sym same) ∙ is))), λ a. absurd (cc a)) s))
+
+-- ---- the decision
+
+module _ (x : ℕ) (tops : ℕ → Bool) (e k : ℕ) (d : Disk) (t : Parts) (act : Uid) (p0 : commit.Plan) (M : Seen) (waits : WaitsForNaming t d.intents act p0) (top : tops (uid_number act) ≡ true) (W : World) (sees : SeesDisks x tops W (up k d t M))
+    (answered : In (mail.Confirmed (uid_number act)) W.sent) where
+  abbrev Q : Seen → Type 0
+  Q = IsSeenByDisks x tops
+
+  abbrev p : commit.Plan
+  p = record p0 { confirmed = true }
+
+  abbrev C : Coord
+  C = decided act (record p0 { confirmed = true }) t.coord
+
+  mine : SeesCoord x k d.inc tops t.coord W.disk
+  mine = sees.coords k (record { number = k; disk = d; live = Some t }) t (node_here M k (record { number = k; disk = d; live = Some t })) refl
+
+  confirming : SeesConfirming x W.disk (uid_number act) (record p0 { confirmed = true })
+  confirming = let h = confirming_of x tops W.disk (uid_number act) waits.branch.kind waits.doing.now p0 top waits.now (mine.working act waits.branch waits.doing waits.found waits.unended waits.at_work) in
+      record { stage = h.stage; begun = h.begun; plan = h.plan; tidy = record { apart = h.tidy.apart; once = h.tidy.once; distinct = h.tidy.distinct; loaded = h.tidy.loaded; of = h.tidy.of }; got = h.got; marks = h.marks }
+
+  here : act.node ≡ k
+  here = (branch_at act t.coord waits.branch waits.found).0 ∙ mine.node
+
+  records : SeesRecords k d.intents W.disk
+  records = sees.records k (record { number = k; disk = d; live = Some t }) (node_here M k (record { number = k; disk = d; live = Some t }))
+
+  -- another node's records, where one of this node's is written
+  records_apart : (V : State) (o : Option (List ℕ)) → V.intent ≡ put (uid_number act) o W.disk.intent → (m : ℕ) (n : Node) → (m == k) ≡ false → SeesRecords m n.disk.intents W.disk → SeesRecords m n.disk.intents V
+  records_apart V o is m n apart s = record {
+    sorted = s.sorted;
+    own = s.own;
+    is = λ w at. ap (λ f. f (uid_number w)) is ∙ put_other (uid_number act) o W.disk.intent (uid_number w) (apart_number act w (λ same. never (ap (λ j. j == k) (sym at ∙ ap (λ (z : Uid). z.node) same ∙ here) ∙ test_same k) apart)) ∙ s.is w at;
+  }
+
+  -- the coordinator has ended the top
+  abbrev c0 : Coord
+  c0 = record t.coord { tree = ended_at act ending.Commit t.coord.tree }
+
+  abbrev c1 : Coord
+  c1 = on_doing act (λ (r : Doing). record r { now = Idle }) c0
+
+  abbrev c2 : Coord
+  c2 = on_doing act (λ (r : Doing). record r { took = participants p }) c1
+
+  abbrev c3 : Coord
+  c3 = on_root (root_of p.path) (root_after p) c2
+
+  awaits_same : {A : Type 0} (f : Tree → List Doing → A) (c : Coord) → (let a = awaits act p c in f a.tree a.doings) ≡ f c.tree c.doings
+  awaits_same f c = by (has_record p)
+    where
+      by : (b : Bool) → (let a = (if b then record c { telling = put_uid act (record { root = root_of p.path; nodes = participants p }) c.telling } else c) in f a.tree a.doings) ≡ f c.tree c.doings
+      by true = refl
+      by false = refl
+
+  tree_is : C.tree ≡ ended_at act ending.Commit t.coord.tree
+  tree_is = awaits_same (λ r ds. r) c3 ∙ doing_tree act (λ (r : Doing). record r { took = participants p }) c1 ∙ doing_tree act (λ (r : Doing). record r { now = Idle }) c0
+
+  has_ended : HasEnded act waits.branch ending.Commit t.coord.tree C.tree
+  has_ended = subst (λ v. HasEnded act waits.branch ending.Commit t.coord.tree v) (sym tree_is) (tree_ended act waits.branch ending.Commit t.coord.tree waits.found)
+
+  doing_first : (w : Uid) → doing_of w c0 ≡ doing_of w t.coord
+  doing_first w =
+      let en : HasEnded act waits.branch ending.Commit t.coord.tree (ended_at act ending.Commit t.coord.tree) = tree_ended act waits.branch ending.Commit t.coord.tree waits.found in
+      λ i. if (w.node == en.node i) && (w.inc == en.inc i) then at_place w.num t.coord.doings else None
+
+  doings_stay : (w : Uid) → w ≢ act → doing_of w C ≡ doing_of w t.coord
+  doings_stay w other =
+      let at_first : doing_of act c0 ≡ Some waits.doing = doing_first act ∙ waits.at_work in
+      let at_next : doing_of act c1 ≡ Some (record waits.doing { now = Idle }) = doing_here act (λ (r : Doing). record r { now = Idle }) c0 waits.doing at_first in
+      awaits_same (λ r ds. if is_own w r then at_place w.num ds else None) c3
+      ∙ doing_other act w (λ (r : Doing). record r { took = participants p }) c1 (record waits.doing { now = Idle }) at_next other
+      ∙ doing_other act w (λ (r : Doing). record r { now = Idle }) c0 waits.doing at_first other
+      ∙ doing_first w
+
+  -- the line and what is told
+  says_commit : AreAll is_say (says act body.Committed t.coord)
+  says_commit = by (doing_of act t.coord)
+    where
+      by : (o : Option Doing) → AreAll is_say (say_for body.Committed o)
+      by None = refl
+      by (Some r) = refl
+
+  abbrev i0 : Intent
+  i0 = record { root = root_of p.path; nodes = participants p }
+
+  abbrev Rest : List Effect
+  Rest = says act body.Committed t.coord ++ map (decided_told (root_of p.path) act p) p.sent
+
+  abbrev Goal : Bool → Type 0
+  Goal b = Walks Q e k ((if b then Do (PutIntent act i0) ∷ [] else []) ++ Rest) (Up Q k (with_coord t C)) d M
+
+  by_record : (b : Bool) → has_record p ≡ b → Goal b
+  by_record true has = (stops, say_walk x k tops e (with_coord t C) (with_coord t C) (says act body.Committed t.coord) (map (decided_told (root_of p.path) act p) p.sent) d1 W2 says_commit tolds M s2)
+    where
+      d1 : Disk
+      d1 = record d { intents = put_uid act i0 d.intents }
+
+      W1 : World
+      W1 = after W (machine.Intend (uid_number act) (participants p))
+
+      W2 : World
+      W2 = after W1 (machine.Decide (uid_number act))
+
+      written : Allowed W (machine.Intend (uid_number act) (participants p)) × Stills W (machine.Intend (uid_number act) (participants p)) × SeesRecords k (put_uid act i0 d.intents) (after W (machine.Intend (uid_number act) (participants p))).disk
+      written = record_is_written x k W act i0 p d.intents sees.whole.core confirming refl answered records here refl
+
+      mine1 : SeesCoord x k d.inc tops t.coord W1.disk
+      mine1 = coord_same x k d.inc tops t.coord W.disk W1.disk refl refl refl refl mine
+
+      s1 : SeesDisks x tops W1 (up k d1 t M)
+      s1 = calm_seen x k tops W M d t act (machine.Intend (uid_number act) (participants p)) (put_uid act i0 d.intents) t.coord sees here written.0 written.1 refl (λ w other. refl) written.2
+          (λ m n apart s. records_apart W1.disk (Some (participants p)) refl m n apart s) mine1
+
+      made : Allowed W1 (machine.Decide (uid_number act)) × Stills W1 (machine.Decide (uid_number act)) × SeesRecords k (put_uid act i0 d.intents) (after W1 (machine.Decide (uid_number act))).disk
+      made = decision_is_made k W1 act i0 (put_uid act i0 d.intents) written.2 (keys.put_same act i0 d.intents) (commits_are_undecided x W.disk (uid_number act) p sees.whole.core confirming)
+
+      stages : (w : Uid) → w ≢ act → W2.disk.stage (uid_number w) ≡ W1.disk.stage (uid_number w)
+      stages w other = put_other (uid_number act) disk.Gone W1.disk.stage (uid_number w) (apart_number act w other)
+
+      s2 : SeesDisks x tops W2 (up k d1 (with_coord t C) M)
+      s2 = calm_seen x k tops W1 M d1 t act (machine.Decide (uid_number act)) (put_uid act i0 d.intents) C s1 here made.0 made.1 refl stages made.2
+          (λ m n apart s. record { sorted = s.sorted; own = s.own; is = s.is })
+          (ended_coord x k d.inc tops t.coord C W1.disk W2.disk act waits.branch ending.Commit mine1 waits.found has_ended doings_stay stages refl refl refl (ap is_gone (put_same (uid_number act) disk.Gone W1.disk.stage)))
+
+      told : Recorded x tops e k d1 (with_coord t C) act (root_of p.path) p W2.disk
+      told = record { done = ap (λ b. b || disk.decided W1.disk (uid_number act)) (test_same (uid_number act)); there = put_same (uid_number act) (Some (participants p)) W.disk.intent }
+
+      tolds : (N : Seen) → SeesDisks x tops W2 (up k d1 (with_coord t C) N) → Walks Q e k (map (decided_told (root_of p.path) act p) p.sent) (Up Q k (with_coord t C)) d1 N
+      tolds N s = recorded_told x tops e k d1 (with_coord t C) act (root_of p.path) p has p.sent N W2 told s
+
+      stops : Stops Q e k (PutIntent act i0) d M
+      stops Before = stops_seen x tops e k d (Some t) M (W, sees)
+      stops (InPart which) = stops_seen x tops e k d (Some t) M (W, sees)
+      stops After = stops_seen x tops e k d1 (Some (with_coord t C)) M (W2, s2)
+  by_record false has_not = say_walk x k tops e (with_coord t C) (with_coord t C) (says act body.Committed t.coord) (map (decided_told (root_of p.path) act p) p.sent) d W1 says_commit tolds M s1
+    where
+      W1 : World
+      W1 = after W (machine.EndBare (uid_number act))
+
+      ends : Allowed W (machine.EndBare (uid_number act)) × Stills W (machine.EndBare (uid_number act)) × SeesRecords k d.intents (after W (machine.EndBare (uid_number act))).disk
+      ends = bare_commit_ends x k W act p d.intents confirming refl has_not answered records here waits.unrecorded
+
+      stages : (w : Uid) → w ≢ act → W1.disk.stage (uid_number w) ≡ W.disk.stage (uid_number w)
+      stages w other = put_other (uid_number act) disk.Gone W.disk.stage (uid_number w) (apart_number act w other)
+
+      s1 : SeesDisks x tops W1 (up k d (with_coord t C) M)
+      s1 = calm_seen x k tops W M d t act (machine.EndBare (uid_number act)) d.intents C sees here ends.0 ends.1 refl stages ends.2
+          (λ m n apart s. record { sorted = s.sorted; own = s.own; is = s.is })
+          (ended_coord x k d.inc tops t.coord C W.disk W1.disk act waits.branch ending.Commit mine waits.found has_ended doings_stay stages refl refl refl (ap is_gone (put_same (uid_number act) disk.Gone W.disk.stage)))
+
+      tolds : (N : Seen) → SeesDisks x tops W1 (up k d (with_coord t C) N) → Walks Q e k (map (decided_told (root_of p.path) act p) p.sent) (Up Q k (with_coord t C)) d N
+      tolds N s = bare_told x tops e k d (with_coord t C) act (root_of p.path) p has_not refl p.sent N W1 (put_same (uid_number act) true W.disk.bare) s
+
+  pub decides_walk : Goal (has_record p)
+  decides_walk = by_record (has_record p) refl
+
+-- the plan that naming has confirmed
+abbrev sure : commit.Plan → commit.Plan
+sure p = record p { confirmed = true }
+
+pub confirmed_is_heard : ConfirmedIsHeard
+confirmed_is_heard x tops e k d t from act p1 M waits top W sees claims =
+    subst (λ a. Walks (IsSeenByDisks x tops) e k ((record_work a (sure p1) ++ says a body.Committed t.coord) ++ map (decided_told (root_of p1.path) a (sure p1)) p1.sent) (Up (IsSeenByDisks x tops) k (with_coord t (decided a (sure p1) t.coord))) d M)
+    (sym waits.path)
+    (subst (λ es. Walks (IsSeenByDisks x tops) e k es (Up (IsSeenByDisks x tops) k (with_coord t (decided act (sure p1) t.coord))) d M)
+    (sym (append_assoc (record_work act (sure p1)) (says act body.Committed t.coord) (map (decided_told (root_of p1.path) act (sure p1)) p1.sent)))
+    (decides_walk x tops e k d t act p1 M waits top W sees claims))
