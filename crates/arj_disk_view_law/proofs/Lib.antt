@@ -1,3 +1,4 @@
+pub mod AbortWalks
 pub mod Asked
 pub mod AskingSteps
 pub mod ConfirmKeeps

@@ -1,7 +1,7 @@
 -- The disk half of the view, whole: each place of the machine tied to the world, and what each message claims.
 use Rattle.std.specs.Prelude.{⊤, ◌≡◌, ◌⊎◌, ◌<◌, ℕ, Bool, true, false, List, ◌++◌, length, Option, Some, None, ◌==◌, ◌∷◌}
 use Rattle.std.specs.List.{list_any}
-use Rattle.arj_protocol.specs.Words.{Uid, End, Kind, Line, Body, Head, Asked, Ask, asks, Message, uid_eq, is_on, object, PreparedReply}
+use Rattle.arj_protocol.specs.Words.{Uid, End, Kind, Cause, Line, Body, Head, Asked, Ask, asks, Message, uid_eq, is_on, object, PreparedReply}
 use Rattle.arj_protocol.specs.Words.ask
 use Rattle.arj_protocol.specs.Words.body
 use Rattle.arj_protocol.specs.Words.kind
@@ -20,6 +20,7 @@ use Rattle.arj_protocol.specs.Effect.{Disk, Effect, Intent}
 use Rattle.arj_protocol.specs.Asking.{moved_commit, step_commit, gives_up}
 use Rattle.arj_protocol.specs.Order as order
 use Rattle.arj_protocol.specs.Order.{at_uid, uid_number}
+use Rattle.arj_protocol.specs.Ending.{aborts_with}
 use Rattle.arj_protocol.specs.Step.{Node}
 use Rattle.arj_protocol.specs.Tree.{Branch, branch_of, is_open}
 use Rattle.arj_disk_law.specs.Effects as machine
@@ -267,3 +268,9 @@ abbrev pub ConfirmedIsHeard : Type 0
 ConfirmedIsHeard = (x : ℕ) (tops : ℕ → Bool) (e k : ℕ) (d : Disk) (t : Parts) (from : ℕ) (act : Uid) (p : commit.Plan) (M : Seen)
     → WaitsForNaming t d.intents act p → tops (uid_number act) ≡ true → (W : World) → SeesDisks x tops W (up k d t M) → ClaimsReply x W from act (Reply.Confirmed confirmed.Yes)
     → let did = moved_commit act (commit.answered from (Confirming p) (Reply.Confirmed confirmed.Yes)) d.intents t.coord in Walks (IsSeenByDisks x tops) e k did.outs (Up (IsSeenByDisks x tops) k (with_coord t did.part)) d M
+
+-- An open top without a record may be aborted by itself, whatever the cause: all nodes that it sent something are told.
+abbrev pub TopsAreAborted : Type 0
+TopsAreAborted = (x : ℕ) (tops : ℕ → Bool) (e k : ℕ) (d : Disk) (t : Parts) (act : Uid) (why : Cause) (b : Branch) (q : Doing) (M : Seen)
+    → branch_of act t.coord.tree ≡ Some b → b.ended ≡ None → doing_of act t.coord ≡ Some q → at_uid act d.intents ≡ None → tops (uid_number act) ≡ true → (W : World) → SeesDisks x tops W (up k d t M)
+    → let did = aborts_with act why d.intents t.coord in Walks (IsSeenByDisks x tops) e k did.outs (Up (IsSeenByDisks x tops) k (with_coord t did.part)) d M

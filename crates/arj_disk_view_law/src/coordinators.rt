@@ -1,5 +1,5 @@
 // Coordinators keep the disk half of the view.
-ghost use Rattle.arj_disk_view_law.specs.Sees.{ConfirmedIsHeard, PreparedIsHeard, PreparesAreAsked, SilentAreGivenUp, TopsAreSeen};
+ghost use Rattle.arj_disk_view_law.specs.Sees.{ConfirmedIsHeard, PreparedIsHeard, PreparesAreAsked, SilentAreGivenUp, TopsAreAborted, TopsAreSeen};
 
 /// A step of one top's commit machine leaves all else as it is seen. Walked through with all that it sends, a coordinator's
 /// prepare step keeps the disk half: it asks each store, takes each answer, or gives up who is silent, and with the last one
@@ -12,7 +12,9 @@ pub fn prepare_steps_keep_the_disk_half()
 {}
 
 /// With naming's Yes the record is written, where there is one, the top is decided, and all nodes that it sent something are
-/// told; a stop on the record leaves it written or not. It does nothing when it runs.
+/// told; a stop on the record leaves it written or not. A top without a record may be aborted, whatever the cause, and all
+/// nodes that it sent something are told. It does nothing when it runs.
 pub fn decisions_keep_the_disk_half()
-    ensures { ConfirmedIsHeard }
+    ensures confirmed { ConfirmedIsHeard }
+    ensures aborted { TopsAreAborted }
 {}

@@ -1,0 +1,132 @@
+-- A top that is aborted, walked through at its coordinator.
+use Rattle.std.proofs.Common.{◌≡◌, ◌≢◌, ℕ, ◌==◌, ◌&&◌, List, [], ◌∷◌, ◌++◌, Bool, true, false, Option, Some, None, refl, sym, ◌∙◌, ap, subst, inl, map}
+use Rattle.std.specs.Prelude.{if◌then◌else◌}
+use Rattle.arj_protocol.specs.Words.{Uid, Kind, Cause, Path}
+use Rattle.arj_protocol.specs.Words.body
+use Rattle.arj_protocol.specs.Words.ending
+use Rattle.arj_protocol.specs.Words.kind
+use Rattle.arj_protocol.specs.Words.message
+use Rattle.arj_protocol.specs.Commit.{Voting, Preparing, Confirming}
+use Rattle.arj_protocol.specs.Coord.{Coord, Doing, Now, Idle, Calling, Committing, doing_of, root_at, nodes_sent}
+use Rattle.arj_protocol.specs.Effect.{Disk, Intent}
+use Rattle.arj_protocol.specs.Ending.{says, say_for, ended, tell, tolds_by, tolds_of_branch}
+use Rattle.arj_protocol.specs.Node.{Parts, with_coord}
+use Rattle.arj_protocol.specs.Order.{at_uid, uid_number}
+use Rattle.arj_protocol.specs.Says.{AreAll}
+use Rattle.arj_protocol.specs.Tree.{Branch, branch_of, root_of, ended_at, at_place}
+use Rattle.arj_protocol.specs.World.{numbered}
+use Rattle.arj_disk_law.specs.Effects as machine
+use Rattle.arj_disk_law.specs.Effects.{World, MaySend, after}
+use Rattle.arj_disk_law.specs.Messages as mail
+use Rattle.arj_disk_law.specs.State as disk
+use Rattle.arj_disk_law.specs.State.{State, is_gone}
+use Rattle.arj_disk_law.proofs.Base.{never, put_same, put_other}
+use Rattle.arj_view_law.specs.Seen.{Post, Seen, up, said, posted}
+use Rattle.arj_view_law.specs.Walks.{Walks, Up}
+use Rattle.arj_disk_view_law.specs.Deciding.{SeesRecords}
+use Rattle.arj_disk_view_law.specs.Sees.{SeesDisks, SeesCoord, IsSeenByDisks, Works, WorksBy, TopsAreAborted}
+use Rattle.arj_disk_view_law.proofs.DecidingSteps.{actions_may_halt, ends_may_be_told}
+use Rattle.arj_disk_view_law.proofs.Doings.{doing_other, doing_tree}
+use Rattle.arj_disk_view_law.proofs.Ended.{HasEnded, tree_ended, ended_here, ended_coord, calm_seen}
+use Rattle.arj_disk_view_law.proofs.Frames.{node_here, says_seen, posts_seen, sends_seen}
+use Rattle.arj_disk_view_law.proofs.HeardWalks.{is_say, say_walk}
+use Rattle.arj_disk_view_law.proofs.TopFrames.{branch_at, apart_number}
+
+-- an open top isn't at its end
+works_open : (x : ℕ) (S : State) (t : ℕ) (now : Now) → WorksBy x S t now → is_gone (S.stage t) ≡ false
+works_open x S t Idle w = ap is_gone w
+works_open x S t (Calling s) w = ap is_gone w
+works_open x S t (Committing (Voting p left)) w = ap is_gone w
+works_open x S t (Committing (Preparing p left)) w = ap is_gone w.stage
+works_open x S t (Committing (Confirming p)) w = ap is_gone w.stage
+
+top_open : (x : ℕ) (tops : ℕ → Bool) (S : State) (t : ℕ) (k : Kind) (now : Now) → tops t ≡ true → Works x tops S t k now → is_gone (S.stage t) ≡ false
+top_open x tops S t kind.Nested now top w = absurd (never top w)
+top_open x tops S t kind.Serial now top w = absurd (never top w.0)
+top_open x tops S t kind.Top now top w = works_open x S t now w.1
+top_open x tops S t kind.Independent now top w = works_open x S t now w.1
+top_open x tops S t kind.Constituent now top w = works_open x S t now w.1
+
+module _ (x : ℕ) (tops : ℕ → Bool) (e k : ℕ) (d : Disk) (t : Parts) (act : Uid) (why : Cause) (b : Branch) (q : Doing) (M : Seen) (found : branch_of act t.coord.tree ≡ Some b) (unended : b.ended ≡ None) (at_work : doing_of act t.coord ≡ Some q)
+    (unrecorded : at_uid act d.intents ≡ None) (top : tops (uid_number act) ≡ true) (W : World) (sees : SeesDisks x tops W (up k d t M)) where
+  abbrev P : Seen → Type 0
+  P = IsSeenByDisks x tops
+
+  abbrev C : Coord
+  C = ended act ending.Abort t.coord
+
+  abbrev c0 : Coord
+  c0 = record t.coord { tree = ended_at act ending.Abort t.coord.tree }
+
+  abbrev W1 : World
+  W1 = after W (machine.Halt (uid_number act))
+
+  mine : SeesCoord x k d.inc tops t.coord W.disk
+  mine = sees.coords k (record { number = k; disk = d; live = Some t }) t (node_here M k (record { number = k; disk = d; live = Some t })) refl
+
+  works : Works x tops W.disk (uid_number act) b.kind q.now
+  works = mine.working act b q found unended at_work
+
+  here : act.node ≡ k
+  here = (branch_at act t.coord b found).0 ∙ mine.node
+
+  records : SeesRecords k d.intents W.disk
+  records = sees.records k (record { number = k; disk = d; live = Some t }) (node_here M k (record { number = k; disk = d; live = Some t }))
+
+  first : HasEnded act b ending.Abort t.coord.tree (ended_at act ending.Abort t.coord.tree)
+  first = tree_ended act b ending.Abort t.coord.tree found
+
+  has_ended : HasEnded act b ending.Abort t.coord.tree C.tree
+  has_ended = subst (λ v. HasEnded act b ending.Abort t.coord.tree v) (sym (doing_tree act (λ (r : Doing). record r { now = Idle }) c0)) first
+
+  doing_first : (w : Uid) → doing_of w c0 ≡ doing_of w t.coord
+  doing_first w = let en : HasEnded act b ending.Abort t.coord.tree (ended_at act ending.Abort t.coord.tree) = first in
+      λ i. if (w.node == en.node i) && (w.inc == en.inc i) then at_place w.num t.coord.doings else None
+
+  doings_stay : (w : Uid) → w ≢ act → doing_of w C ≡ doing_of w t.coord
+  doings_stay w other = doing_other act w (λ (r : Doing). record r { now = Idle }) c0 q (doing_first act ∙ at_work) other ∙ doing_first w
+
+  stages : (w : Uid) → w ≢ act → W1.disk.stage (uid_number w) ≡ W.disk.stage (uid_number w)
+  stages w other = put_other (uid_number act) disk.Gone W.disk.stage (uid_number w) (apart_number act w other)
+
+  halted_seen : SeesDisks x tops W1 (up k d (with_coord t C) M)
+  halted_seen = let h = actions_may_halt k W (uid_number act) d.intents records in
+      calm_seen x k tops W M d t act (machine.Halt (uid_number act)) d.intents C sees here tt h.0 refl stages h.1 (λ m n apart s. record { sorted = s.sorted; own = s.own; is = s.is })
+      (ended_coord x k d.inc tops t.coord C W.disk W1.disk act b ending.Abort mine found has_ended doings_stay stages refl refl refl (ap is_gone (put_same (uid_number act) disk.Gone W.disk.stage)))
+
+  may_tell : (n : ℕ) → MaySend W1 (mail.ToldAbort (uid_number act) n)
+  may_tell n = ends_may_be_told k W act n d.intents records here (λ i there. absurd (no_record i there)) (λ bare. absurd (never (sees.whole.core.bare.gone (uid_number act) bare) (top_open x tops W.disk (uid_number act) b.kind q.now top works)))
+    where
+      no_record : (i : Intent) → at_uid act d.intents ≡ Some i → ⊥
+      no_record i there = let e : ◌≡◌ {A = Option Intent} None (Some i) = sym unrecorded ∙ there in cc e
+
+  tolds : (root : Uid) (ns : List ℕ) (N : Seen) (V : World) → ((n : ℕ) → MaySend V (mail.ToldAbort (uid_number act) n)) → SeesDisks x tops V (up k d (with_coord t C) N) → Walks P e k (map (tell root false ((act, ending.Abort) ∷ [])) ns) (Up P k (with_coord t C)) d N
+  tolds root [] N V may s = (V, s)
+  tolds root (n ∷ ns) N V may s = λ more quiet.
+      let m : mail.Message = mail.ToldAbort (uid_number act) n in
+      let U : World = after V (machine.Send m) in
+      let p : Post = record { from = k; to = n; message = message.Told (record { root = root; ack = false; ends = (act, ending.Abort) ∷ [] }) } in
+      tolds root ns (said e more (posted p N)) U may (says_seen x tops U (up k d (with_coord t C) (posted p N)) (numbered e more)
+      (posts_seen x tops U (up k d (with_coord t C) N) p (inl (inl (inl refl)), λ a. absurd (cc a)) (sends_seen x tops V (up k d (with_coord t C) N) m (may n) s)))
+
+  says_abort : AreAll is_say (says act (λ l. body.Aborted l why) t.coord)
+  says_abort = by (doing_of act t.coord)
+    where
+      by : (o : Option Doing) → AreAll is_say (say_for (λ l. body.Aborted l why) o)
+      by None = refl
+      by (Some r) = refl
+
+  -- by kind
+  told_by : (kd : Kind) → Works x tops W.disk (uid_number act) kd q.now → (path : Path) (N : Seen) → SeesDisks x tops W1 (up k d (with_coord t C) N) → Walks P e k (tolds_by act kd path d.intents C) (Up P k (with_coord t C)) d N
+  told_by kind.Nested w path N s = absurd (never top w)
+  told_by kind.Serial w path N s = absurd (never top w.0)
+  told_by kind.Top w path N s = tolds (root_of path) (nodes_sent act (root_at (root_of path) C)) N W1 may_tell s
+  told_by kind.Independent w path N s = tolds (root_of path) (nodes_sent act (root_at (root_of path) C)) N W1 may_tell s
+  told_by kind.Constituent w path N s = tolds (root_of path) (nodes_sent act (root_at (root_of path) C)) N W1 may_tell s
+
+  pub aborts_walk : Walks P e k (says act (λ l. body.Aborted l why) t.coord ++ tolds_of_branch act d.intents C (branch_of act C.tree)) (Up P k (with_coord t C)) d M
+  aborts_walk = say_walk x k tops e (with_coord t C) (with_coord t C) (says act (λ l. body.Aborted l why) t.coord) (tolds_of_branch act d.intents C (branch_of act C.tree)) d W1 says_abort
+      (λ N s. subst (λ o. Walks P e k (tolds_of_branch act d.intents C o) (Up P k (with_coord t C)) d N) (sym (ended_here act b ending.Abort t.coord.tree C.tree found has_ended)) (told_by b.kind works b.path N s)) M halted_seen
+
+pub tops_are_aborted : TopsAreAborted
+tops_are_aborted x tops e k d t act why b q M found unended at_work unrecorded top W sees = aborts_walk x tops e k d t act why b q M found unended at_work unrecorded top W sees
