@@ -58,8 +58,8 @@ module _ (x : ℕ) (tops : ℕ → Bool) (e k : ℕ) (d : Disk) (t : Parts) (act
   abbrev c0 : Coord
   c0 = record t.coord { tree = ended_at act ending.Abort t.coord.tree }
 
-  abbrev W1 : World
-  W1 = after W (machine.Halt (uid_number act))
+  abbrev LaterWorld : World
+  LaterWorld = after W (machine.Halt (uid_number act))
 
   mine : SeesCoord x k d.inc tops t.coord W.disk
   mine = sees.coords k (record { number = k; disk = d; live = Some t }) t (node_here M k (record { number = k; disk = d; live = Some t })) refl
@@ -86,15 +86,15 @@ module _ (x : ℕ) (tops : ℕ → Bool) (e k : ℕ) (d : Disk) (t : Parts) (act
   doings_stay : (w : Uid) → w ≢ act → doing_of w C ≡ doing_of w t.coord
   doings_stay w other = doing_other act w (λ (r : Doing). record r { now = Idle }) c0 q (doing_first act ∙ at_work) other ∙ doing_first w
 
-  stages : (w : Uid) → w ≢ act → W1.disk.stage (uid_number w) ≡ W.disk.stage (uid_number w)
+  stages : (w : Uid) → w ≢ act → LaterWorld.disk.stage (uid_number w) ≡ W.disk.stage (uid_number w)
   stages w other = put_other (uid_number act) disk.Gone W.disk.stage (uid_number w) (apart_number act w other)
 
-  halted_seen : SeesDisks x tops W1 (up k d (with_coord t C) M)
+  halted_seen : SeesDisks x tops LaterWorld (up k d (with_coord t C) M)
   halted_seen = let h = actions_may_halt k W (uid_number act) d.intents records in
       calm_seen x k tops W M d t act (machine.Halt (uid_number act)) d.intents C sees here tt h.0 refl stages h.1 (λ m n apart s. record { sorted = s.sorted; own = s.own; is = s.is })
-      (ended_coord x k d.inc tops t.coord C W.disk W1.disk act b ending.Abort mine found has_ended doings_stay stages refl refl refl (ap is_gone (put_same (uid_number act) disk.Gone W.disk.stage)))
+      (ended_coord x k d.inc tops t.coord C W.disk LaterWorld.disk act b ending.Abort mine found has_ended doings_stay stages refl refl refl (ap is_gone (put_same (uid_number act) disk.Gone W.disk.stage)))
 
-  may_tell : (n : ℕ) → MaySend W1 (mail.ToldAbort (uid_number act) n)
+  may_tell : (n : ℕ) → MaySend LaterWorld (mail.ToldAbort (uid_number act) n)
   may_tell n = ends_may_be_told k W act n d.intents records here (λ i there. absurd (no_record i there)) (λ bare. absurd (never (sees.whole.core.bare.gone (uid_number act) bare) (top_open x tops W.disk (uid_number act) b.kind q.now top works)))
     where
       no_record : (i : Intent) → at_uid act d.intents ≡ Some i → ⊥
@@ -117,15 +117,15 @@ module _ (x : ℕ) (tops : ℕ → Bool) (e k : ℕ) (d : Disk) (t : Parts) (act
       by (Some r) = refl
 
   -- by kind
-  told_by : (kd : Kind) → Works x tops W.disk (uid_number act) kd q.now → (path : Path) (N : Seen) → SeesDisks x tops W1 (up k d (with_coord t C) N) → Walks P e k (tolds_by act kd path d.intents C) (Up P k (with_coord t C)) d N
+  told_by : (kd : Kind) → Works x tops W.disk (uid_number act) kd q.now → (path : Path) (N : Seen) → SeesDisks x tops LaterWorld (up k d (with_coord t C) N) → Walks P e k (tolds_by act kd path d.intents C) (Up P k (with_coord t C)) d N
   told_by kind.Nested w path N s = absurd (never top w)
   told_by kind.Serial w path N s = absurd (never top w.0)
-  told_by kind.Top w path N s = tolds (root_of path) (nodes_sent act (root_at (root_of path) C)) N W1 may_tell s
-  told_by kind.Independent w path N s = tolds (root_of path) (nodes_sent act (root_at (root_of path) C)) N W1 may_tell s
-  told_by kind.Constituent w path N s = tolds (root_of path) (nodes_sent act (root_at (root_of path) C)) N W1 may_tell s
+  told_by kind.Top w path N s = tolds (root_of path) (nodes_sent act (root_at (root_of path) C)) N LaterWorld may_tell s
+  told_by kind.Independent w path N s = tolds (root_of path) (nodes_sent act (root_at (root_of path) C)) N LaterWorld may_tell s
+  told_by kind.Constituent w path N s = tolds (root_of path) (nodes_sent act (root_at (root_of path) C)) N LaterWorld may_tell s
 
   pub aborts_walk : Walks P e k (says act (λ l. body.Aborted l why) t.coord ++ tolds_of_branch act d.intents C (branch_of act C.tree)) (Up P k (with_coord t C)) d M
-  aborts_walk = say_walk x k tops e (with_coord t C) (with_coord t C) (says act (λ l. body.Aborted l why) t.coord) (tolds_of_branch act d.intents C (branch_of act C.tree)) d W1 says_abort
+  aborts_walk = say_walk x k tops e (with_coord t C) (with_coord t C) (says act (λ l. body.Aborted l why) t.coord) (tolds_of_branch act d.intents C (branch_of act C.tree)) d LaterWorld says_abort
       (λ N s. subst (λ o. Walks P e k (tolds_of_branch act d.intents C o) (Up P k (with_coord t C)) d N) (sym (ended_here act b ending.Abort t.coord.tree C.tree found has_ended)) (told_by b.kind works b.path N s)) M halted_seen
 
 pub tops_are_aborted : TopsAreAborted

@@ -192,66 +192,66 @@ module _ (x : ℕ) (tops : ℕ → Bool) (e k : ℕ) (d : Disk) (t : Parts) (act
   Goal b = Walks Q e k ((if b then Do (PutIntent act i0) ∷ [] else []) ++ Rest) (Up Q k (with_coord t C)) d M
 
   by_record : (b : Bool) → has_record p ≡ b → Goal b
-  by_record true has = (stops, say_walk x k tops e (with_coord t C) (with_coord t C) (says act body.Committed t.coord) (map (decided_told (root_of p.path) act p) p.sent) d1 W2 says_commit tolds M s2)
+  by_record true has = (stops, say_walk x k tops e (with_coord t C) (with_coord t C) (says act body.Committed t.coord) (map (decided_told (root_of p.path) act p) p.sent) d1 LastWorld says_commit tolds M s2)
     where
       d1 : Disk
       d1 = record d { intents = put_uid act i0 d.intents }
 
-      W1 : World
-      W1 = after W (machine.Intend (uid_number act) (participants p))
+      LaterWorld : World
+      LaterWorld = after W (machine.Intend (uid_number act) (participants p))
 
-      W2 : World
-      W2 = after W1 (machine.Decide (uid_number act))
+      LastWorld : World
+      LastWorld = after LaterWorld (machine.Decide (uid_number act))
 
       written : Allowed W (machine.Intend (uid_number act) (participants p)) × Stills W (machine.Intend (uid_number act) (participants p)) × SeesRecords k (put_uid act i0 d.intents) (after W (machine.Intend (uid_number act) (participants p))).disk
       written = record_is_written x k W act i0 p d.intents sees.whole.core confirming refl answered records here refl
 
-      mine1 : SeesCoord x k d.inc tops t.coord W1.disk
-      mine1 = coord_same x k d.inc tops t.coord W.disk W1.disk refl refl refl refl mine
+      mine1 : SeesCoord x k d.inc tops t.coord LaterWorld.disk
+      mine1 = coord_same x k d.inc tops t.coord W.disk LaterWorld.disk refl refl refl refl mine
 
-      s1 : SeesDisks x tops W1 (up k d1 t M)
+      s1 : SeesDisks x tops LaterWorld (up k d1 t M)
       s1 = calm_seen x k tops W M d t act (machine.Intend (uid_number act) (participants p)) (put_uid act i0 d.intents) t.coord sees here written.0 written.1 refl (λ w other. refl) written.2
-          (λ m n apart s. records_apart W1.disk (Some (participants p)) refl m n apart s) mine1
+          (λ m n apart s. records_apart LaterWorld.disk (Some (participants p)) refl m n apart s) mine1
 
-      made : Allowed W1 (machine.Decide (uid_number act)) × Stills W1 (machine.Decide (uid_number act)) × SeesRecords k (put_uid act i0 d.intents) (after W1 (machine.Decide (uid_number act))).disk
-      made = decision_is_made k W1 act i0 (put_uid act i0 d.intents) written.2 (keys.put_same act i0 d.intents) (commits_are_undecided x W.disk (uid_number act) p sees.whole.core confirming)
+      made : Allowed LaterWorld (machine.Decide (uid_number act)) × Stills LaterWorld (machine.Decide (uid_number act)) × SeesRecords k (put_uid act i0 d.intents) (after LaterWorld (machine.Decide (uid_number act))).disk
+      made = decision_is_made k LaterWorld act i0 (put_uid act i0 d.intents) written.2 (keys.put_same act i0 d.intents) (commits_are_undecided x W.disk (uid_number act) p sees.whole.core confirming)
 
-      stages : (w : Uid) → w ≢ act → W2.disk.stage (uid_number w) ≡ W1.disk.stage (uid_number w)
-      stages w other = put_other (uid_number act) disk.Gone W1.disk.stage (uid_number w) (apart_number act w other)
+      stages : (w : Uid) → w ≢ act → LastWorld.disk.stage (uid_number w) ≡ LaterWorld.disk.stage (uid_number w)
+      stages w other = put_other (uid_number act) disk.Gone LaterWorld.disk.stage (uid_number w) (apart_number act w other)
 
-      s2 : SeesDisks x tops W2 (up k d1 (with_coord t C) M)
-      s2 = calm_seen x k tops W1 M d1 t act (machine.Decide (uid_number act)) (put_uid act i0 d.intents) C s1 here made.0 made.1 refl stages made.2
+      s2 : SeesDisks x tops LastWorld (up k d1 (with_coord t C) M)
+      s2 = calm_seen x k tops LaterWorld M d1 t act (machine.Decide (uid_number act)) (put_uid act i0 d.intents) C s1 here made.0 made.1 refl stages made.2
           (λ m n apart s. record { sorted = s.sorted; own = s.own; is = s.is })
-          (ended_coord x k d.inc tops t.coord C W1.disk W2.disk act waits.branch ending.Commit mine1 waits.found has_ended doings_stay stages refl refl refl (ap is_gone (put_same (uid_number act) disk.Gone W1.disk.stage)))
+          (ended_coord x k d.inc tops t.coord C LaterWorld.disk LastWorld.disk act waits.branch ending.Commit mine1 waits.found has_ended doings_stay stages refl refl refl (ap is_gone (put_same (uid_number act) disk.Gone LaterWorld.disk.stage)))
 
-      told : Recorded x tops e k d1 (with_coord t C) act (root_of p.path) p W2.disk
-      told = record { done = ap (λ b. b || disk.decided W1.disk (uid_number act)) (test_same (uid_number act)); there = put_same (uid_number act) (Some (participants p)) W.disk.intent }
+      told : Recorded x tops e k d1 (with_coord t C) act (root_of p.path) p LastWorld.disk
+      told = record { done = ap (λ b. b || disk.decided LaterWorld.disk (uid_number act)) (test_same (uid_number act)); there = put_same (uid_number act) (Some (participants p)) W.disk.intent }
 
-      tolds : (N : Seen) → SeesDisks x tops W2 (up k d1 (with_coord t C) N) → Walks Q e k (map (decided_told (root_of p.path) act p) p.sent) (Up Q k (with_coord t C)) d1 N
-      tolds N s = recorded_told x tops e k d1 (with_coord t C) act (root_of p.path) p has p.sent N W2 told s
+      tolds : (N : Seen) → SeesDisks x tops LastWorld (up k d1 (with_coord t C) N) → Walks Q e k (map (decided_told (root_of p.path) act p) p.sent) (Up Q k (with_coord t C)) d1 N
+      tolds N s = recorded_told x tops e k d1 (with_coord t C) act (root_of p.path) p has p.sent N LastWorld told s
 
       stops : Stops Q e k (PutIntent act i0) d M
       stops Before = stops_seen x tops e k d (Some t) M (W, sees)
       stops (InPart which) = stops_seen x tops e k d (Some t) M (W, sees)
-      stops After = stops_seen x tops e k d1 (Some (with_coord t C)) M (W2, s2)
-  by_record false has_not = say_walk x k tops e (with_coord t C) (with_coord t C) (says act body.Committed t.coord) (map (decided_told (root_of p.path) act p) p.sent) d W1 says_commit tolds M s1
+      stops After = stops_seen x tops e k d1 (Some (with_coord t C)) M (LastWorld, s2)
+  by_record false has_not = say_walk x k tops e (with_coord t C) (with_coord t C) (says act body.Committed t.coord) (map (decided_told (root_of p.path) act p) p.sent) d LaterWorld says_commit tolds M s1
     where
-      W1 : World
-      W1 = after W (machine.EndBare (uid_number act))
+      LaterWorld : World
+      LaterWorld = after W (machine.EndBare (uid_number act))
 
       ends : Allowed W (machine.EndBare (uid_number act)) × Stills W (machine.EndBare (uid_number act)) × SeesRecords k d.intents (after W (machine.EndBare (uid_number act))).disk
       ends = bare_commit_ends x k W act p d.intents confirming refl has_not answered records here waits.unrecorded
 
-      stages : (w : Uid) → w ≢ act → W1.disk.stage (uid_number w) ≡ W.disk.stage (uid_number w)
+      stages : (w : Uid) → w ≢ act → LaterWorld.disk.stage (uid_number w) ≡ W.disk.stage (uid_number w)
       stages w other = put_other (uid_number act) disk.Gone W.disk.stage (uid_number w) (apart_number act w other)
 
-      s1 : SeesDisks x tops W1 (up k d (with_coord t C) M)
+      s1 : SeesDisks x tops LaterWorld (up k d (with_coord t C) M)
       s1 = calm_seen x k tops W M d t act (machine.EndBare (uid_number act)) d.intents C sees here ends.0 ends.1 refl stages ends.2
           (λ m n apart s. record { sorted = s.sorted; own = s.own; is = s.is })
-          (ended_coord x k d.inc tops t.coord C W.disk W1.disk act waits.branch ending.Commit mine waits.found has_ended doings_stay stages refl refl refl (ap is_gone (put_same (uid_number act) disk.Gone W.disk.stage)))
+          (ended_coord x k d.inc tops t.coord C W.disk LaterWorld.disk act waits.branch ending.Commit mine waits.found has_ended doings_stay stages refl refl refl (ap is_gone (put_same (uid_number act) disk.Gone W.disk.stage)))
 
-      tolds : (N : Seen) → SeesDisks x tops W1 (up k d (with_coord t C) N) → Walks Q e k (map (decided_told (root_of p.path) act p) p.sent) (Up Q k (with_coord t C)) d N
-      tolds N s = bare_told x tops e k d (with_coord t C) act (root_of p.path) p has_not refl p.sent N W1 (put_same (uid_number act) true W.disk.bare) s
+      tolds : (N : Seen) → SeesDisks x tops LaterWorld (up k d (with_coord t C) N) → Walks Q e k (map (decided_told (root_of p.path) act p) p.sent) (Up Q k (with_coord t C)) d N
+      tolds N s = bare_told x tops e k d (with_coord t C) act (root_of p.path) p has_not refl p.sent N LaterWorld (put_same (uid_number act) true W.disk.bare) s
 
   pub decides_walk : Goal (has_record p)
   decides_walk = by_record (has_record p) refl
