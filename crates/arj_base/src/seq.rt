@@ -1,5 +1,5 @@
 // Small lists that contracts see as lists.
-ghost use Rattle.std.specs.Prelude.{◌≡◌, ◌<◌, [], ◌∷◌, ◌++◌, List, IfOk, OnOk, OnErr, ◌==◌, length, slice_set, filter, not};
+ghost use Rattle.std.specs.Prelude.{◌≡◌, ◌<◌, [], ◌∷◌, ◌++◌, List, IfOk, OnOk, OnErr, ◌==◌, length, take, slice_set, filter, not};
 ghost use Rattle.std.specs.Fmt.{decimal};
 
 use crate::{End, Uid};
@@ -96,14 +96,31 @@ impl Seq<u8> {
         remove_from(&mut self.items, byte);
     }
 
-    /// Puts a number at the end, in decimal.
+    /// Puts a number at the end, in decimal. It makes no list of its own.
     pub fn extend_decimal(&mut self, n: u64) -> Result<(), AllocError>
         ensures ok { OnOk result (self.new ≡ self.old ++ decimal n) }
         ensures err { OnErr result (self.new ≡ self.old) }
     {
-        let digits = n.to_string(*self.items.allocator())?;
-        self.items.extend_from_slice(digits.as_bytes())
+        let before = self.items.len();
+        let put = put_digits(&mut self.items, n);
+        if put.is_err() {
+            self.items.truncate(before);
+        }
+        put
     }
+}
+
+// Puts the digits of a number at the end. Where memory ends, some of them may stand there.
+#[tactic(auto, using(std::proofs::lemmas::Fmt::decimal_step, std::proofs::lemmas::Fmt::decimal_digit, std::proofs::lemmas::List::append_assoc))]
+fn put_digits(bytes: &mut Vec<u8>, n: u64) -> Result<(), AllocError>
+    ensures ok { OnOk result (bytes.new.items ≡ bytes.old.items ++ decimal n) }
+    ensures err { OnErr result (take (length bytes.old.items) bytes.new.items ≡ bytes.old.items) }
+{
+    if 9 < n {
+        put_digits(bytes, n / 10)?;
+    }
+    bytes.push(48 + (n % 10) as u8)?;
+    Ok(())
 }
 
 // Takes out each place of the byte.
