@@ -20,7 +20,7 @@ pub use laws::{orders_are_by_fields, uids_are_told_apart};
 pub use limits::{LAST_VERSION, MOST_ACTIONS, MOST_BYTES, MOST_OBJECTS, MOST_UIDS};
 pub use mode::{End, Mode, conflicts, stronger};
 pub use path::Path;
-pub use seq::{Bytes, Ends, NodeList, Numbers, Pairs, Seq, Uids};
+pub use seq::{Bytes, Ends, NodeList, Numbers, Pairs, Seq, States, Uids};
 pub use state::{
     Class, ObjectState, PACKED_HEAD, StateFault, class_code, class_of_code, next_version, pack,
     unpack,

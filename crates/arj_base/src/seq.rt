@@ -2,7 +2,7 @@
 ghost use Rattle.std.specs.Prelude.{◌≡◌, ◌<◌, [], ◌∷◌, ◌++◌, List, IfOk, OnOk, OnErr, ◌==◌, length, take, slice_set, filter, not};
 ghost use Rattle.std.specs.Fmt.{decimal};
 
-use crate::{End, Uid};
+use crate::{End, ObjectState, Uid};
 use std::alloc::{AllocError, Global};
 use std::marker::Model;
 
@@ -154,3 +154,6 @@ pub type Uids = Seq<Uid>;
 
 /// Actions with how they ended.
 pub type Ends = Seq<(Uid, End)>;
+
+/// States of objects.
+pub type States = Seq<ObjectState>;

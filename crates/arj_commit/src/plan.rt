@@ -4,8 +4,8 @@ ghost use Rattle.arj_commit.specs.Plans.{with_changed};
 ghost use Rattle.arj_commit.specs.declared.limits.TheConstants.{LAST_START};
 
 use crate::states::put_states;
-use arj_base::{Binding, Ends, NodeList, ObjectState, Path, Seq};
-use arj_msg::{Marks, States};
+use arj_base::{Binding, Ends, NodeList, ObjectState, Path, Seq, States};
+use arj_msg::Marks;
 use std::alloc::{AllocFailed, Global};
 use std::marker::Model;
 use std::mem;

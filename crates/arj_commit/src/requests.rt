@@ -10,8 +10,8 @@ use crate::marks::included;
 use crate::states::copy_state;
 use crate::whom::state_for;
 use crate::{Plan, Used};
-use arj_base::{ObjectState, Seq};
-use arj_msg::{Binds, Confirm, Grants, Head, Message, Prepare, States, Vote};
+use arj_base::{ObjectState, Seq, States};
+use arj_msg::{Binds, Confirm, Grants, Head, Message, Prepare, Vote};
 use std::alloc::{AllocError, Global};
 
 /// Messages with their nodes.

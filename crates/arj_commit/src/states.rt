@@ -7,8 +7,7 @@ ghost use Rattle.arj_base.specs.declared.state.ObjectState.{ObjectState};
 ghost use Rattle.arj_protocol.specs.Commit.{with_state, with_states};
 ghost use Rattle.arj_commit.specs.Sets.{is_among};
 
-use arj_base::{ObjectState, object_uid};
-use arj_msg::States;
+use arj_base::{ObjectState, States, object_uid};
 use std::alloc::{AllocError, AllocFailed, Global};
 
 /// The same state once more.

@@ -6,7 +6,7 @@ ghost use Rattle.arj_commit.specs.Fits.{IsNode, UsedFits, PlanFits};
 ghost use Rattle.arj_commit.specs.declared.limits.TheConstants.{LAST_START};
 
 use arj_base::{
-    Binding, Bytes, Class, End, Ends, Mode, NodeList, ObjectState, Path, Uid, object_uid,
+    Binding, Bytes, Class, End, Ends, Mode, NodeList, ObjectState, Path, States, Uid, object_uid,
 };
 use arj_commit::{
     Confirming, NAMING, Plan, Preparing, Requests, Step, Telling, Used, UsedList, Voting, start,
@@ -14,7 +14,7 @@ use arj_commit::{
 use arj_intent::Intent;
 use arj_journal::{Cause, Difference};
 use arj_msg::{
-    Asked, Confirmed, ConfirmedReply, Marks, Message, Prepared, PreparedReply, States, Told, Voted,
+    Asked, Confirmed, ConfirmedReply, Marks, Message, Prepared, PreparedReply, Told, Voted,
     VotedReply, What,
 };
 use std::alloc::{AllocError, Global};

@@ -5,9 +5,9 @@ ghost use Rattle.arj_msg.specs.declared.ask.Ask.TheVariants as ask;
 
 use crate::{
     Activate, Bind, Binds, Confirm, Grants, Head, Invoke, Load, Marks, Message, Prepare, RecordMsg,
-    States, Vote,
+    Vote,
 };
-use arj_base::{Binding, Ends, ObjectState};
+use arj_base::{Binding, Ends, ObjectState, States};
 use arj_class::Op;
 
 /// What is asked: a request without its head.

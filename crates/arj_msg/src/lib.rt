@@ -31,6 +31,6 @@ pub use message::{
     Acked, Activate, Activated, Asked, Bind, Binds, Bound, BoundReply, Confirm, Confirmed,
     ConfirmedReply, Grants, Head, Hello, Invoke, Invoked, InvokedReply, Load, Loaded, LoadedReply,
     Marks, Message, Prepare, Prepared, PreparedReply, Query, RecordMsg, Recorded, RecordedReply,
-    States, Told, Vote, Voted, VotedReply, What,
+    Told, Vote, Voted, VotedReply, What,
 };
 pub use spelling::one_spelling;

@@ -1,5 +1,5 @@
 // The messages between nodes.
-use arj_base::{Binding, Ends, Mode, NodeList, ObjectState, Path, Seq, Uid};
+use arj_base::{Binding, Ends, Mode, NodeList, ObjectState, Path, Seq, States, Uid};
 use arj_class::{Answer, Op};
 
 /// Objects with the bindings that their action used.
@@ -10,9 +10,6 @@ pub type Grants = Seq<(u16, u32)>;
 
 /// Objects with stores.
 pub type Marks = Seq<(u16, u8)>;
-
-/// Object states.
-pub type States = Seq<ObjectState>;
 
 /// What an action met changed: the incarnation of a node, or the binding of an object to a server. Had, and now.
 #[derive(Clone, Copy, PartialEq, Eq)]

@@ -6,10 +6,10 @@ ghost use Rattle.arj_msg.specs.Sendable.{BoundSends, LoadedSends, InvokedSends, 
 use crate::fault::ReadFault;
 use crate::field::Field;
 use crate::{
-    BoundReply, ConfirmedReply, InvokedReply, LoadedReply, PreparedReply, RecordedReply, States,
+    BoundReply, ConfirmedReply, InvokedReply, LoadedReply, PreparedReply, RecordedReply,
     VotedReply, What,
 };
-use arj_base::{Binding, Bytes, Mode, NodeList, ObjectState, Uid};
+use arj_base::{Binding, Bytes, Mode, NodeList, ObjectState, States, Uid};
 use arj_class::Answer;
 use std::alloc::{AllocError, Global};
 

@@ -14,10 +14,8 @@ ghost use Rattle.arj_msg.specs.declared.message.Confirm.{Confirm};
 
 use crate::fault::ReadFault;
 use crate::field::{Field, put_long, read_long};
-use crate::{
-    Activate, Bind, Binds, Confirm, Grants, Head, Invoke, Load, Prepare, RecordMsg, States, Vote,
-};
-use arj_base::{Binding, Bytes, Ends, ObjectState};
+use crate::{Activate, Bind, Binds, Confirm, Grants, Head, Invoke, Load, Prepare, RecordMsg, Vote};
+use arj_base::{Binding, Bytes, Ends, ObjectState, States};
 use arj_class::Op;
 use std::alloc::{AllocError, Global};
 

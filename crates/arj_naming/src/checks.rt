@@ -14,10 +14,10 @@ ghost use Rattle.arj_protocol.specs.Values.{state_entry};
 use crate::entries::Entries;
 use crate::part::Part;
 use crate::payload::{entry_of, stores_of};
-use arj_base::{Class, ObjectState, Path, Uid, entry_uid, next_version};
+use arj_base::{Class, ObjectState, Path, States, Uid, entry_uid, next_version};
 use arj_entry::Entry;
 use arj_journal::Lines;
-use arj_msg::{Confirm, ConfirmedReply, States, What};
+use arj_msg::{Confirm, ConfirmedReply, What};
 use arj_protocol::payloads_read_back;
 use std::alloc::{AllocError, Global};
 

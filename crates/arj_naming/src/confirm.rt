@@ -16,10 +16,10 @@ ghost use Rattle.arj_store.specs.declared.answer.StoreFault.{StoreFault};
 use crate::Naming;
 use crate::memory::Ready;
 use crate::part::asked;
-use arj_base::{Mode, Uid};
+use arj_base::{Mode, States, Uid};
 use arj_disk::Disk;
 use arj_journal::Lines;
-use arj_msg::{Confirm, Confirmed, ConfirmedReply, Head, States};
+use arj_msg::{Confirm, Confirmed, ConfirmedReply, Head};
 use arj_store::{ObjectStore, Prep, StoreFault, known_objects};
 
 // Nobody's Uid.

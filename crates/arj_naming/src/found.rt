@@ -7,8 +7,7 @@ ghost use Rattle.arj_base.specs.declared.uid.Uid.{Uid};
 ghost use Rattle.arj_naming.specs.Found.{by_uid};
 ghost use Rattle.arj_store.specs.Pair.{uid_of};
 
-use arj_base::{ObjectState, Uid};
-use arj_msg::States;
+use arj_base::{ObjectState, States, Uid};
 use std::alloc::{AllocError, Global};
 use std::collections::BTreeMap;
 

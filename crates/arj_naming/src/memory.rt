@@ -20,9 +20,9 @@ use crate::entries::Entries;
 use crate::lines::{NAMING_NODE, say};
 use crate::part::Part;
 use crate::uids::is_among;
-use arj_base::{End, ObjectState, Uid, Uids};
+use arj_base::{End, ObjectState, States, Uid, Uids};
 use arj_journal::{Body, Lines, Role};
-use arj_msg::{Confirm, ConfirmedReply, States};
+use arj_msg::{Confirm, ConfirmedReply};
 use std::alloc::{AllocError, Global};
 use std::collections::BTreeSet;
 

@@ -15,9 +15,9 @@ use crate::tables::{
     Answers, CALLS, CASES, COMMITTED_ONE, COMMITTED_TWO, Call, Case, Content, FINDINGS, FIRST,
     Files, Finding, Last, Left, NOBODY, Seen, TORN, Told, WRITE_TMP,
 };
-use arj_base::{Bytes, Class, ObjectState, Uid, entry_uid, object_uid};
+use arj_base::{Bytes, Class, ObjectState, States, Uid, entry_uid, object_uid};
 use arj_disk::{Disk, DiskFault, MemDisk, Outcome, Role, Slot};
-use arj_store::{Found, ObjectStore, Read, ShadowStore, States, StoreFault};
+use arj_store::{Found, ObjectStore, Read, ShadowStore, StoreFault};
 use std::alloc::{AllocError, Global};
 use std::process::Abort;
 use std::test::Fail;

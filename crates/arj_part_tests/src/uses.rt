@@ -11,11 +11,9 @@ ghost use Rattle.arj_store.specs.Effects.{DidCommit, DidSome};
 ghost use Rattle.arj_store.specs.Listed.{IsListed};
 ghost use Rattle.arj_store.specs.Pair.{Pair, SamePair, AreClear, AreDistinct, IsKnown, uid_of};
 
-use arj_base::Uid;
+use arj_base::{States, Uid};
 use arj_disk::{Disk, Role, roles_apart};
-use arj_store::{
-    ObjectStore, States, StoreFault, calls_are_effects, known_objects, lists_are_determined,
-};
+use arj_store::{ObjectStore, StoreFault, calls_are_effects, known_objects, lists_are_determined};
 
 /// A commit, told as effects on the pair.
 pub fn commit_told<S: ObjectStore, D: Disk>(

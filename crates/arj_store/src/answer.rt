@@ -1,13 +1,10 @@
 // What a store answers.
 ghost use Rattle.arj_store.specs.Pair.{FindsNothing};
 
-use arj_base::{ObjectState, Seq, Uid};
+use arj_base::{ObjectState, Seq, States, Uid};
 use arj_disk::DiskFault;
 use std::alloc::{AllocError, AllocFailed, Global};
 use thiserror::Error;
-
-/// Object states, each of another object.
-pub type States = Seq<ObjectState>;
 
 /// Prepared actions, each with its new states in the order in which it prepared them.
 pub type Pends = Seq<(Uid, States)>;

@@ -17,7 +17,7 @@ mod shadow;
 mod store;
 mod table;
 
-pub use answer::{Found, Pends, Prep, Read, States, StoreFault};
+pub use answer::{Found, Pends, Prep, Read, StoreFault};
 pub use laws::{calls_are_effects, known_objects, lists_are_determined};
 pub use limits::MOST_ROOM;
 pub use shadow::ShadowStore;

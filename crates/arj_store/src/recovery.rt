@@ -18,8 +18,8 @@ use crate::memory::{Holding, Pending};
 use crate::packed::{objects_in, read_state};
 use crate::prepare::Place;
 use crate::table::Table;
-use crate::{Found, Pends, States, StoreFault};
-use arj_base::{ObjectState, Uid, Uids};
+use crate::{Found, Pends, StoreFault};
+use arj_base::{ObjectState, States, Uid, Uids};
 use arj_disk::{Disk, Role, Slot, role_of_uid};
 use std::alloc::{AllocError, Global};
 

@@ -6,8 +6,8 @@ use crate::moves::{move_shadows, remove_shadows};
 use crate::packed::read_state;
 use crate::prepare::{Place, objects_of_states, put_prepared, put_states, refusal};
 use crate::recovery::{find, recover_pending};
-use crate::{Found, ObjectStore, Prep, Read, States, StoreFault};
-use arj_base::{Uid, Uids};
+use crate::{Found, ObjectStore, Prep, Read, StoreFault};
+use arj_base::{States, Uid, Uids};
 use arj_disk::{Disk, Role, Slot, role_of_uid};
 use std::alloc::{AllocError, Global};
 

@@ -14,8 +14,8 @@ ghost use Rattle.arj_base.specs.declared.limits.TheConstants.{MOST_BYTES};
 ghost use Rattle.arj_disk.specs.declared.limits.TheConstants.{MOST_KNOWN, MOST_PREPARED};
 ghost use Rattle.arj_store.specs.declared.limits.TheConstants.{MOST_ROOM};
 
-use crate::{Found, Prep, Read, States, StoreFault};
-use arj_base::{Uid, Uids};
+use crate::{Found, Prep, Read, StoreFault};
+use arj_base::{States, Uid, Uids};
 use arj_disk::{Disk, Role};
 use std::alloc::{AllocError, Global};
 
