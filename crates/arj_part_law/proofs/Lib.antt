@@ -1,6 +1,6 @@
-mod Begun
+pub mod Begun
 mod CallLocks
-mod CoordInputs
+pub mod CoordInputs
 mod Cuts
 mod Decided
 mod EntryLocks
@@ -10,11 +10,11 @@ mod GoodConfirm
 mod GoodCoords
 mod GoodCopies
 mod GoodEnds
-mod GoodNodes
+pub mod GoodNodes
 mod GoodObjects
 mod GoodRestart
 mod GoodServers
-mod GoodTrees
+pub mod GoodTrees
 mod Kept
 mod InTurn
 mod KeptCalls
@@ -22,14 +22,15 @@ mod Keys
 mod Locked
 mod NamingNode
 mod Pairs
-mod SaidIncs
+pub mod SaidIncs
 mod Sends
 mod ServerRuns
-mod Settled
+pub mod Settled
 mod Stands
 mod StatesLeft
 mod Stores
-mod Tellings
+pub mod Tellings
 mod ToldInOrder
-mod Truths
-mod TrueSteps
+pub mod Truths
+pub mod TrueSteps
+pub mod Voted

@@ -29,7 +29,7 @@ use Rattle.arj_protocol.specs.Step.{tolds_again, recovered_records, hello_to, nu
 use Rattle.arj_protocol.specs.World.{cut}
 use Rattle.arj_protocol.proofs.PartSays.{ends_own, activate_own, invoke_own, vote_own, bind_own, note_own, confirm_own, told_own}
 use Rattle.arj_part_law.specs.Actions.{Action}
-use Rattle.arj_part_law.specs.Claims.{AreTrue, GoesOn, names_inc, IsHomeWork, AreOfNode}
+use Rattle.arj_part_law.specs.Claims.{AreTrue, GoesOn, names_inc, IsHomeWork, IsOwnRecord, AreOfNode}
 use Rattle.arj_part_law.specs.Coords.{IsGoodCoord}
 use Rattle.arj_part_law.specs.Copies.{Paths, IsTree}
 use Rattle.arj_part_law.specs.Cuts.{disk_after}
@@ -41,15 +41,15 @@ use Rattle.arj_part_law.proofs.TrueSteps.{well_heard, well_acked, true_query}
 
 -- ---- lists of effects
 
-all_both : (P : Effect → Type 0) (es fs : List Effect) → AllByRecursion P es → AllByRecursion P fs → AllByRecursion P (es ++ fs)
+pub all_both : (P : Effect → Type 0) (es fs : List Effect) → AllByRecursion P es → AllByRecursion P fs → AllByRecursion P (es ++ fs)
 all_both P [] fs a b = b
 all_both P (e ∷ es) fs a b = (a.0, all_both P es fs a.1 b)
 
-all_map : {A : Type 0} (P : Effect → Type 0) (f : A → Effect) (items : List A) → ((x : A) → P (f x)) → AllByRecursion P (map f items)
+pub all_map : {A : Type 0} (P : Effect → Type 0) (f : A → Effect) (items : List A) → ((x : A) → P (f x)) → AllByRecursion P (map f items)
 all_map P f [] each = tt
 all_map P f (x ∷ xs) each = (each x, all_map P f xs each)
 
-all_flat : {A : Type 0} (P : Effect → Type 0) (f : A → List Effect) (items : List A) → ((x : A) → AllByRecursion P (f x)) → AllByRecursion P (flat_map f items)
+pub all_flat : {A : Type 0} (P : Effect → Type 0) (f : A → List Effect) (items : List A) → ((x : A) → AllByRecursion P (f x)) → AllByRecursion P (flat_map f items)
 all_flat P f [] each = tt
 all_flat P f (x ∷ xs) each = all_both P (f x) (flat_map f xs) (each x) (all_flat P f xs each)
 
@@ -109,7 +109,7 @@ module _ (hd : Header) (n : ℕ) (d : Disk) where
   abbrev Of : List Effect → Type 0
   Of outs = AreOfInc n (d.inc + 1) outs
 
-  restart_of : Of (restart_outs hd n (d.inc + 1) d)
+  pub restart_of : Of (restart_outs hd n (d.inc + 1) d)
   restart_of = all_both P four hellos (all_both P three queries (all_both P two tolds (all_both P one records (tt, (refl, (tt, (tt, back (naming_at n (d.inc + 1) d.names))))) (tt, all_map P (λ (e : Uid × Intent). Say (body.Recovered n e.0)) d.intents (λ e. tt))) (again d.intents)) (all_map P query_about (uid_set (prepared_actions d.store ++ prepared_actions d.names)) (λ u. tt))) (all_map P (hello_to n (d.inc + 1)) (without_number n (numbers_to hd.nodes)) (λ k. (refl, omega arith)))
     where
       P : Effect → Type 0
@@ -194,20 +194,20 @@ plain_inc n i (message.Prepared m) is = tt
 plain_inc n i (message.Confirm m) is = tt
 plain_inc n i (message.Confirmed m) is = tt
 
-plain_work : (n i : ℕ) (w : Work) → IsHomeWork n w → KeepsInc i w
-plain_work n i (PutInc j) is = absurd is
-plain_work n i Look is = tt
-plain_work n i (Prepare r u states) is = tt
-plain_work n i (Commit r u) is = tt
-plain_work n i (Abort r u) is = tt
-plain_work n i (PutIntent u e) is = tt
-plain_work n i (RemoveIntent u) is = tt
+plain_work : (n h i : ℕ) (w : Work) → IsHomeWork n h w → KeepsInc i w × IsOwnRecord n h w
+plain_work n h i (PutInc j) is = absurd is
+plain_work n h i Look is = (tt, tt)
+plain_work n h i (Prepare r u states) is = (tt, tt)
+plain_work n h i (Commit r u) is = (tt, tt)
+plain_work n h i (Abort r u) is = (tt, tt)
+plain_work n h i (PutIntent u e) is = (tt, is)
+plain_work n h i (RemoveIntent u) is = (tt, tt)
 
 -- what a coordinator says is so of a node
 pub true_inc : (n i : ℕ) (c : Coord) (outs : List Effect) → AreTrue c outs → AllByRecursion (IsClaimsOf c) outs × AreOfInc n i outs
 true_inc n i c [] all = (tt, tt)
 true_inc n i c (Say b ∷ es) all = let r = true_inc n i c es all.1 in ((tt, r.0), (tt, r.1))
-true_inc n i c (Do w ∷ es) all = let r = true_inc n i c es all.1 in ((tt, r.0), (plain_work c.tree.node i w all.0, r.1))
+true_inc n i c (Do w ∷ es) all = let r = true_inc n i c es all.1 in let q = plain_work c.tree.node c.tree.inc i w all.0 in ((q.1, r.0), (q.0, r.1))
 true_inc n i c (Send to m ∷ es) all = let r = true_inc n i c es all.1 in ((all.0.claims, r.0), (plain_inc n i m all.0.plain, r.1))
 
 module _ (n i : ℕ) (c : Coord) where
@@ -223,7 +223,7 @@ module _ (n i : ℕ) (c : Coord) where
       one : (e : Effect) → is_server_effect k e ≡ true → IsClaimsOf c e
       one (Say b) is = tt
       one (Send to m) is = let no_way : false ≡ true = is in cc
-      one (Do w) is = tt
+      one (Do w) is = let no_way : false ≡ true = is in cc
 
       two : (e : Effect) → is_server_effect k e ≡ true → IsOfInc n i e
       two (Say b) is = tt
@@ -233,10 +233,19 @@ module _ (n i : ℕ) (c : Coord) where
   fit_naming : (outs : List Effect) → AreAll is_naming_effect outs → Fit outs
   fit_naming outs all = (all_quiet (IsClaimsOf c) is_naming_effect (λ to m. refl) one outs all, all_quiet (IsOfInc n i) is_naming_effect (λ to m. refl) two outs all)
     where
+      record_free : (w : Work) → is_names_work w ≡ true → IsOwnRecord c.tree.node c.tree.inc w
+      record_free Look is = tt
+      record_free (Prepare r u states) is = tt
+      record_free (Commit r u) is = tt
+      record_free (Abort r u) is = tt
+      record_free (PutInc j) is = tt
+      record_free (RemoveIntent u) is = tt
+      record_free (PutIntent u e) is = let no_way : false ≡ true = is in cc
+
       one : (e : Effect) → is_naming_effect e ≡ true → IsClaimsOf c e
       one (Say b) is = tt
       one (Send to m) is = let no_way : false ≡ true = is in cc
-      one (Do w) is = tt
+      one (Do w) is = record_free w is
 
       work : (w : Work) → is_names_work w ≡ true → KeepsInc i w
       work Look is = tt
@@ -282,11 +291,11 @@ module _ (n : ℕ) (t : Parts) where
   Well h = IsTrulyHandled n t h
 
   stays : GoesOn t.coord t.coord
-  stays = same_on t.coord t.coord refl refl refl
+  stays = same_on t.coord t.coord refl refl refl refl
 
   -- the coordinator is as it was
   took : (v : Parts) (outs : List Effect) → v.coord ≡ t.coord → v.server.inc ≡ t.server.inc → Fit n t.server.inc t.coord outs → Well (Took v outs)
-  took v outs same inc fit = (same_on t.coord v.coord (ap (λ (x : Coord). x.tree) same) (ap (λ (x : Coord). x.doings) same) (ap (λ (x : Coord). x.telling) same), inc, subst (λ x. AllByRecursion (IsClaimsOf x) outs) (sym same) fit.0, fit.1)
+  took v outs same inc fit = (same_on t.coord v.coord (ap (λ (x : Coord). x.tree) same) (ap (λ (x : Coord). x.doings) same) (ap (λ (x : Coord). x.telling) same) (ap (λ (x : Coord). x.labels) same), inc, subst (λ x. AllByRecursion (IsClaimsOf x) outs) (sym same) fit.0, fit.1)
 
   answered_well : (from : ℕ) (h : Head) (v : Parts) (outs : List Effect) (o : Option Reply) → v.coord ≡ t.coord → v.server.inc ≡ t.server.inc → Fit n t.server.inc t.coord outs → ((j : ℕ) → o ≡ Some (Reply.Activated j) → j ≡ t.server.inc) → Well (sends_answer from h v outs o)
   answered_well from h v outs None same inc fit its = (tt, tt)
@@ -385,7 +394,7 @@ module _ (n : ℕ) (t : Parts) where
       by None = (tt, tt)
       by (Some u) = let q = true_inc n t.server.inc r.part r.outs g.1 in (g.0, refl, q.0, q.1)
 
-  module _ (actions : List Action) (paths : Paths) (tree : IsTree paths) (good : IsGoodCoord actions paths t.coord) (d : Disk) (home : AreOfNode t.coord.tree.node d.intents) where
+  module _ (actions : List Action) (paths : Paths) (tree : IsTree paths) (good : IsGoodCoord actions paths t.coord) (d : Disk) (home : AreOfNode t.coord.tree.node t.coord.tree.inc d.intents) where
     other_well : (from : ℕ) (m : Message) → AreOfTops actions d.intents → Well (handle_other n d t from m)
     other_well from (message.Told m) tops = ends_well d from m.ack m.ends (last_end m.ends)
     other_well from (message.Acked m) tops = coord_well (acked from m.act d.intents t.coord) (well_acked actions paths tree from m.act d.intents t.coord)

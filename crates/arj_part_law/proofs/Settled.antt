@@ -1,5 +1,5 @@
 -- What is settled at a coordinator stays so.
-use Rattle.std.proofs.Common.{◌≡◌, ◌≢◌, ◌⊎◌, zero, suc, ℕ, List, [], ◌∷◌, ◌++◌, length, Bool, true, false, cond, nat_le, Option, Some, None, slice_set, refl, sym, ◌∙◌, ap, subst, inl, inr, ⊎_elim, Contains, ◌==◌, ◌&&◌, arith}
+use Rattle.std.proofs.Common.{◌≡◌, ◌≢◌, ◌⊎◌, ◌≤◌, zero, suc, ℕ, List, [], ◌∷◌, ◌++◌, length, Bool, true, false, cond, nat_le, Option, Some, None, slice_set, refl, sym, ◌∙◌, ap, subst, inl, inr, ⊎_elim, Contains, ◌==◌, ◌&&◌, arith}
 use Rattle.std.proofs.lemmas.Bool.{and_parts, eqb-true}
 use Rattle.std.specs.Prelude.{is_some}
 use Rattle.arj_base.proofs.Uids.{uid_cases}
@@ -13,7 +13,7 @@ use Rattle.arj_protocol.proofs.Maps.{place_other}
 use Rattle.arj_part_law.specs.Claims.{IsSettled, IsClaimed, GoesOn}
 use Rattle.arj_part_law.specs.Coords.{IsBusy, AreBusy, IsOver, IsCommitting}
 use Rattle.arj_part_law.proofs.GoodCoords.{IsSameTree, doing_by}
-use Rattle.arj_part_law.proofs.GoodTrees.{found_by, place_same, own_is, at_u, still_there, ended_b}
+use Rattle.arj_part_law.proofs.GoodTrees.{found_by, place_same, own_is, after, at_u, at_others, still_there, ended_b}
 
 -- ---- lists
 
@@ -37,18 +37,30 @@ node_on c e g = eqb-true c.tree.node e.tree.node (and_parts (c.tree.node == e.tr
     itself : (n : ℕ) → (n == n) ≡ true
     itself n = grind arith
 
+pub inc_on : (c e : Coord) → GoesOn c e → c.tree.inc ≡ e.tree.inc
+inc_on c e g = eqb-true c.tree.inc e.tree.inc (and_parts (c.tree.node == e.tree.node) (c.tree.inc == e.tree.inc) (g.own one ∙ (λ i. itself c.tree.node i && itself c.tree.inc i))).1
+  where
+    one : Uid
+    one = record { node = c.tree.node; inc = c.tree.inc; num = 0 }
+
+    itself : (n : ℕ) → (n == n) ≡ true
+    itself n = grind arith
+
 pub claim_on : (c e : Coord) → GoesOn c e → (u : Uid) → IsClaimed u c → IsClaimed u e
-claim_on c e g u claim = (claim.0 ∙ node_on c e g, λ own. g.settled u (claim.1 (sym (g.own u) ∙ own)))
+claim_on c e g u claim = (claim.0 ∙ node_on c e g, λ own. g.settled u (claim.1 (sym (g.own u) ∙ own)), subst (λ i. u.inc ≤ i) (inc_on c e g) claim.2)
+
+-- what is there is of this coordinator
+there_at : (c : Coord) (u : Uid) (b : Branch) → branch_of u c.tree ≡ Some b → (u.node ≡ c.tree.node) × (u.inc ≤ c.tree.inc)
+there_at c u b found =
+    let q = and_parts (u.node == c.tree.node) (u.inc == c.tree.inc) (found_by u c.tree b found).0 in
+    (eqb-true u.node c.tree.node q.0, subst (λ i. u.inc ≤ i) (eqb-true u.inc c.tree.inc q.1) (omega arith))
 
 -- what is over is claimed, and so is what is at its commit
 pub over_claim : (c : Coord) (u : Uid) → IsOver u c.tree → IsClaimed u c
-over_claim c u over = (there_node c u over.0 over.1, λ own. inl over)
-  where
-    there_node : (d : Coord) (w : Uid) (b : Branch) → branch_of w d.tree ≡ Some b → w.node ≡ d.tree.node
-    there_node d w b found = eqb-true w.node d.tree.node (and_parts (w.node == d.tree.node) (w.inc == d.tree.inc) (found_by w d.tree b found).0).0
+over_claim c u over = let q = there_at c u over.0 over.1 in (q.0, λ own. inl over, q.1)
 
 pub commit_claim : (c : Coord) (u : Uid) (b : Branch) → branch_of u c.tree ≡ Some b → IsCommitting u c → IsClaimed u c
-commit_claim c u b found at = (eqb-true u.node c.tree.node (and_parts (u.node == c.tree.node) (u.inc == c.tree.inc) (found_by u c.tree b found).0).0, λ own. inr at)
+commit_claim c u b found at = let q = there_at c u b found in (q.0, λ own. inr at, q.1)
 
 pub then_on : (c d e : Coord) → GoesOn c d → GoesOn d e → GoesOn c e
 then_on c d e g h = record {
@@ -56,15 +68,19 @@ then_on c d e g h = record {
   own = λ u. h.own u ∙ g.own u;
   works = h.works ∙ g.works;
   branches = h.branches ∙ g.branches;
+  labels = h.labels ∙ g.labels;
+  kinds = λ u b f. let x = g.kinds u b f in let y = h.kinds u x.0 x.1 in (y.0, y.1, y.2 ∙ x.2);
   told = λ u i k. ⊎_elim (λ old. ⊎_elim (λ older. inl older) (λ claim. inr (claim_on d e h u claim)) (g.told u old.0 old.1)) (λ new. inr new) (h.told u i k);
 }
 
-pub same_on : (c e : Coord) → e.tree ≡ c.tree → e.doings ≡ c.doings → e.telling ≡ c.telling → GoesOn c e
-same_on c e tree doings telling = record {
+pub same_on : (c e : Coord) → e.tree ≡ c.tree → e.doings ≡ c.doings → e.telling ≡ c.telling → e.labels ≡ c.labels → GoesOn c e
+same_on c e tree doings telling labels = record {
   settled = λ u s. ⊎_elim (λ over. inl (subst (IsOver u) (sym tree) over)) (λ q. inr (q.0, q.1, same_doing u ∙ q.2, q.3)) s;
   own = λ u. ap (is_own u) tree;
   works = ap length doings;
   branches = ap (λ (t : Tree). length t.branches) tree;
+  labels = labels;
+  kinds = λ u b f. (b, ap (branch_of u) tree ∙ f, refl);
   told = λ u i k. inl (i, subst (λ (m : List (Uid × Intent)). Contains m (u, i)) telling k);
 }
   where
@@ -77,6 +93,8 @@ tree_on c v same long = record {
   own = same.own;
   works = refl;
   branches = long;
+  labels = refl;
+  kinds = λ u b f. let q = same.forth u b f in (q.0, q.1, sym q.3);
   told = λ u i k. inl (i, k);
 }
   where
@@ -103,12 +121,14 @@ pub work_on : (u : Uid) (f : Doing → Doing) (c : Coord) → KeepsCommit u f c 
 work_on u f c keeps = by (doing_of u c) refl
   where
     by : (o : Option Doing) → doing_of u c ≡ o → GoesOn c (change_doing f u c o)
-    by None none = same_on c c refl refl refl
+    by None none = same_on c c refl refl refl refl
     by (Some old) found = record {
       settled = λ w s. ⊎_elim (λ over. inl over) (λ q. commits w q) s;
       own = λ w. refl;
       works = place_length u.num (f old) c.doings;
       branches = refl;
+      labels = refl;
+      kinds = λ w b at. (b, at, refl);
       told = λ w i k. inl (i, k);
     }
       where
@@ -130,12 +150,14 @@ pub end_tree_on : (u : Uid) (e : End) (c : Coord) → GoesOn c (record c { tree 
 end_tree_on u e c = by (branch_of u c.tree) refl
   where
     by : (o : Option Branch) → branch_of u c.tree ≡ o → GoesOn c (record c { tree = ended_branch u e c.tree o })
-    by None none = same_on c c refl refl refl
+    by None none = same_on c c refl refl refl refl
     by (Some b) is = record {
       settled = λ w s. ⊎_elim (λ o. inl (still_there u e c.tree b is w o.0 o.1 o.2)) (λ q. inr (q.0, q.1, same_doing w ∙ q.2, q.3)) s;
       own = own;
       works = refl;
       branches = long (nat_le (length (uids_of b.path)) 1);
+      labels = refl;
+      kinds = λ w d at. ⊎_elim (λ same. (ended_b u e c.tree b is, ap (λ v. branch_of v (after u e c.tree b is)) same ∙ at_u u e c.tree b is, ap (λ (x : Branch). x.kind) (one b d (sym is ∙ ap (λ v. branch_of v c.tree) (sym same) ∙ at)))) (λ other. (d, at_others u e c.tree b is w other ∙ at, refl)) (uid_cases w u);
       told = λ w i k. inl (i, k);
     }
       where
@@ -144,6 +166,9 @@ end_tree_on u e c = by (branch_of u c.tree) refl
 
         listed : Bool → Tree
         listed s = cond s m (with_family (root_of b.path) (let f = family_of (root_of b.path) m in record f { ends = f.ends ++ (u, e) ∷ [] }) m)
+
+        one : (x y : Branch) → Some x ≡ Some y → x ≡ y
+        one x y s = let k : ◌≡◌ {A = Option Branch} (Some x) (Some y) = s in cc
 
         own : (w : Uid) → is_own w (ended_branch u e c.tree (Some b)) ≡ is_own w c.tree
         own w = one (nat_le (length (uids_of b.path)) 1)

@@ -30,7 +30,7 @@ use Rattle.arj_protocol.specs.Step.{Input, acts, branch_named, on_branch, is_wai
 use Rattle.arj_protocol.specs.Step as input
 use Rattle.arj_protocol.specs.Tree.{Tree, Branch, branch_of, is_own, at_place, ends_of, is_open, is_open_branch, is_committed, ended_so, has_end, root_of, has_open_child, path_below, next_uid}
 use Rattle.arj_part_law.specs.Actions.{Action, AreBegun, AreCounted, MayBegin}
-use Rattle.arj_part_law.specs.Claims.{IsClaimed, IsTrue, AreTrue, GoesOn, IsFaithful, AreOfNode, IsHomeWork, IsSettled}
+use Rattle.arj_part_law.specs.Claims.{IsClaimed, IsTrue, AreTrue, GoesOn, IsFaithful, IsOfNode, AreOfNode, IsOwnRecord, IsSettled}
 use Rattle.arj_part_law.specs.Coords.{IsBusy, IsVoting, IsOver, IsGoodCoord}
 use Rattle.arj_part_law.specs.Copies.{Paths, IsTree}
 use Rattle.arj_part_law.specs.Messages.{IsTopAction, AreOfTops, FitsMessage, Seals, has_commit_of}
@@ -66,10 +66,10 @@ top_in actions w j [] all k = absurd k
 top_in actions w j (e ∷ es) all (inl same) = subst (λ (f : Uid × Intent). IsTopAction actions f.0) same all.0
 top_in actions w j (e ∷ es) all (inr k) = top_in actions w j es all.1 k
 
-node_in : (n : ℕ) (w : Uid) (j : Intent) (m : List (Uid × Intent)) → AreOfNode n m → In (w, j) m → w.node ≡ n
-node_in n w j [] all k = absurd k
-node_in n w j (e ∷ es) all (inl same) = subst (λ (f : Uid × Intent). f.0.node ≡ n) same all.0
-node_in n w j (e ∷ es) all (inr k) = node_in n w j es all.1 k
+node_in : (n i : ℕ) (w : Uid) (j : Intent) (m : List (Uid × Intent)) → AreOfNode n i m → In (w, j) m → IsOfNode n i w
+node_in n i w j [] all k = absurd k
+node_in n i w j (e ∷ es) all (inl same) = subst (λ (f : Uid × Intent). IsOfNode n i f.0) same all.0
+node_in n i w j (e ∷ es) all (inr k) = node_in n i w j es all.1 k
 
 -- ---- work entries
 
@@ -118,7 +118,7 @@ module _ (actions : List Action) (paths : Paths) (tree : IsTree paths) where
   both_of c d w = (w.on, w.outs)
 
   itself : (c : Coord) → GoesOn c c
-  itself c = same_on c c refl refl refl
+  itself c = same_on c c refl refl refl refl
 
   after : (c e : Coord) (d : Did Coord) → GoesOn c e → IsWell actions paths tree e d → Goes c d
   after c e d on w = (then_on c e d.part on w.on, w.outs)
@@ -136,7 +136,7 @@ module _ (actions : List Action) (paths : Paths) (tree : IsTree paths) where
           m = answered (is_free (root_of s.path) (actor s.path) s.x c) (kept_at s c) s.goal s.at r
 
           one : (w : Bool) → Serves c (cond {A = Served Coord (Unit {0})} w (heard_by (heard_call s r c)) (heard_none c))
-          one true = let t : Coord = on_root (root_of s.path) (root_moved s r m) c in after c t (heard_call s r c) (same_on c t refl refl refl) (well_step_call actions paths tree s m.step t (calls_free c a.act (actor s.path) d s (actor_is actions paths tree a.act s.path c good b) found is) (listed_of actions paths tree c good))
+          one true = let t : Coord = on_root (root_of s.path) (root_moved s r m) c in after c t (heard_call s r c) (same_on c t refl refl refl refl) (well_step_call actions paths tree s m.step t (calls_free c a.act (actor s.path) d s (actor_is actions paths tree a.act s.path c good b) found is) (listed_of actions paths tree c good))
           one false = (itself c, tt)
       now d found (Committing m) is b = one (waits_for_commit from a r m)
         where
@@ -162,7 +162,7 @@ module _ (actions : List Action) (paths : Paths) (tree : IsTree paths) where
       now d found (Calling s) is b =
           let t : Coord = on_root (root_of s.path) (root_lost s (given_up s.at)) c in
           let x = step_call s (given_up s.at) t in
-          with_lines (next_node s ∷ []) x (after c t x (same_on c t refl refl refl) (well_step_call actions paths tree s (given_up s.at) t (calls_free c u (actor s.path) d s (actor_is actions paths tree u s.path c good b) found is) (listed_of actions paths tree c good)))
+          with_lines (next_node s ∷ []) x (after c t x (same_on c t refl refl refl refl) (well_step_call actions paths tree s (given_up s.at) t (calls_free c u (actor s.path) d s (actor_is actions paths tree u s.path c good b) found is) (listed_of actions paths tree c good)))
       now d found (Committing m) is b = let x = moved_commit u (commit.given_up m) intents c in with_lines (nodes_given_up m) x (both_of c x (well_moved actions paths tree u (plan_of m) (commit.given_up m) intents c d found b (giveup_step actions paths tree m) good))
 
       by : (o : Option Doing) → doing_of u c ≡ o → Goes c (give_up_doing u intents c o)
@@ -285,7 +285,7 @@ module _ (actions : List Action) (paths : Paths) (tree : IsTree paths) where
   well_acked from u intents c = by (at_uid u c.telling) refl
     where
       told_on : (m : List (Uid × Intent)) → ((w : Uid) (j : Intent) → In (w, j) m → (k : Intent) × In (w, k) c.telling) → GoesOn c (record c { telling = m })
-      told_on m old = record { settled = λ w s. s; own = λ w. refl; works = refl; branches = refl; told = λ w j k. let o = old w j (in_from (w, j) m k) in inl (o.0, in_to (w, o.0) c.telling o.1) }
+      told_on m old = record { settled = λ w s. s; own = λ w. refl; works = refl; branches = refl; labels = refl; kinds = λ w b f. (b, f, refl); told = λ w j k. let o = old w j (in_from (w, j) m k) in inl (o.0, in_to (w, o.0) c.telling o.1) }
 
       gone : (e : Coord) (o : Option Intent) → AreTrue e (tolds_let_go u (without_uid u intents) c o)
       gone e None = tt
@@ -319,7 +319,7 @@ module _ (actions : List Action) (paths : Paths) (tree : IsTree paths) where
       ended true e = refl
       ended false e = let no_way : true ≡ false = e in cc
 
-  pub true_query : (from : ℕ) (u : Uid) (intents : List (Uid × Intent)) (c : Coord) → AreOfTops actions intents → AreOfNode c.tree.node intents → Good c → AreTrue c (answer_query from u intents c)
+  pub true_query : (from : ℕ) (u : Uid) (intents : List (Uid × Intent)) (c : Coord) → AreOfTops actions intents → AreOfNode c.tree.node c.tree.inc intents → Good c → AreTrue c (answer_query from u intents c)
   true_query from u intents c tops home good = first (is_open u c.tree || is_deferred u intents from) refl
     where
       aborts : (r : Uid) → AreTrue c (tell r false ((u, ending.Abort) ∷ []) from ∷ [])
@@ -350,7 +350,7 @@ module _ (actions : List Action) (paths : Paths) (tree : IsTree paths) where
       recorded closed (Some i) is = one (has i.nodes from)
         where
           one : (b : Bool) → AreTrue c (cond b (tell i.root true ((u, ending.Commit) ∷ []) from ∷ []) (answer_decided from u c))
-          one true = commits i.root true (node_in c.tree.node u i intents home (at_in u i intents is), λ own. inl (top_over c good u (top_in actions u i intents tops (at_in u i intents is)) closed own))
+          one true = let q = node_in c.tree.node c.tree.inc u i intents home (at_in u i intents is) in commits i.root true (q.0, λ own. inl (top_over c good u (top_in actions u i intents tops (at_in u i intents is)) closed own), q.1)
           one false = decided
 
       first : (b : Bool) → (is_open u c.tree || is_deferred u intents from) ≡ b → AreTrue c (cond b [] (answer_recorded from u c (at_uid u intents)))
@@ -371,8 +371,8 @@ pub faithful_on : (c e : Coord) → GoesOn c e → IsFaithful c → IsFaithful e
 faithful_on c e g f = record { works = g.works ∙ f.works ∙ sym g.branches; told = λ u i k. ⊎_elim (λ old. claim_on c e g u (f.told u old.0 old.1)) (λ new. new) (g.told u i k) }
 
 -- a coordinator that starts with the records of earlier incarnations
-pub faithful_new : (actions : List Action) (node inc later count : ℕ) (intents : List (Uid × Intent)) → AreCounted node inc count actions → inc < later → AreOfTops actions intents → AreOfNode node intents → IsFaithful (record (new_coord node later) { telling = intents })
-faithful_new actions node inc later count intents counted up tops home = record { works = refl; told = λ u i k. (node_in node u i intents home (in_from (u, i) intents k), λ own. absurd (not_own u own (top_in actions u i intents tops (in_from (u, i) intents k)))) }
+pub faithful_new : (actions : List Action) (node inc later count : ℕ) (intents : List (Uid × Intent)) → AreCounted node inc count actions → inc < later → AreOfTops actions intents → AreOfNode node inc intents → IsFaithful (record (new_coord node later) { telling = intents })
+faithful_new actions node inc later count intents counted up tops home = record { works = refl; told = λ u i k. let q = node_in node inc u i intents home (in_from (u, i) intents k) in (q.0, λ own. absurd (not_own u own (top_in actions u i intents tops (in_from (u, i) intents k))), omega (arith, q.1, up)) }
   where
     not_own : (u : Uid) → is_own u (let c = new_coord node later in c.tree) ≡ true → IsTopAction actions u → ⊥
     not_own u own top =
@@ -397,7 +397,7 @@ module _ (l : Label) (k : Kind) (parent : Option Label) (c : Coord) where
   begun_c = (begin_action l k parent (parent_of parent c) c).part
 
   pub claim_begins : (u : Uid) → IsClaimed u c → IsClaimed u begun_c
-  claim_begins u claim = (claim.0, λ own. ⊎_elim (λ o. inl (o.0, grown_still k (path_below k (parent_of parent c) (next_uid c.tree)) c.tree u o.0 o.1, o.2)) (λ q. inr (q.0, q.1, by (is_own u c.tree) q.0 q.2, q.3)) (claim.1 own))
+  claim_begins u claim = (claim.0, λ own. ⊎_elim (λ o. inl (o.0, grown_still k (path_below k (parent_of parent c) (next_uid c.tree)) c.tree u o.0 o.1, o.2)) (λ q. inr (q.0, q.1, by (is_own u c.tree) q.0 q.2, q.3)) (claim.1 own), claim.2)
     where
       fresh : Doing
       fresh = record { label = l; req = 0; now = Idle; took = [] }
@@ -427,70 +427,80 @@ own_above paths tree t lists u zero w b short found on = absurd (empty (paths w)
 own_above paths tree t lists u (suc n) w b short found on =
     ⊎_elim (λ same. ap (λ v. is_own v t) (sym same) ∙ (found_by w t b found).0) (λ other. let up = above_of paths tree t lists u w b found on other in let p = lists.parents w up.0 b found up.1 in own_above paths tree t lists u n up.0 p.0 (shorter paths tree t lists w up.0 n up.1 up.3 short) p.1 up.2) (uid_cases w u)
 
-pub fits_begins : (actions : List Action) → AreBegun actions → (paths : Paths) → IsTree paths → (l : Label) (k : Kind) (parent : Option Label) (c : Coord) → IsGoodCoord actions paths c → MayBegin actions k (parent_of parent c) → begin_refusal k c parent ≡ None
-    → uids_of (path_below k (parent_of parent c) (next_uid c.tree)) ≡ paths (next_uid c.tree) → (m : Message) → ((u : Uid) → Seals m u → is_own u c.tree ≡ true → IsSettled u c) → FitsMessage actions m → FitsMessage (record { path = path_below k (parent_of parent c) (next_uid c.tree); kind = k } ∷ actions) m
-fits_begins actions begun paths tree l k parent c good may none agree m t fits = message_more (record { path = p; kind = k }) actions m (λ u s. clear u (t u s) (is_own u c.tree) refl) fits
-  where
-    p : Path
-    p = path_below k (parent_of parent c) (next_uid c.tree)
+module _ (actions : List Action) (begun : AreBegun actions) (paths : Paths) (tree : IsTree paths) (l : Label) (k : Kind) (parent : Option Label) (c : Coord) (good : IsGoodCoord actions paths c) (may : MayBegin actions k (parent_of parent c)) (none : begin_refusal k c parent ≡ None) (agree : uids_of (path_below k (parent_of parent c) (next_uid c.tree)) ≡ paths (next_uid c.tree)) where
+  abbrev p : Path
+  p = path_below k (parent_of parent c) (next_uid c.tree)
 
-    same : (n : ℕ) → (n == n) ≡ true
-    same n = grind arith
+  same : (n : ℕ) → (n == n) ≡ true
+  same n = grind arith
 
-    own_on : (u : Uid) → is_on (uids_of p) u ≡ true → is_own u c.tree ≡ true
-    own_on u on = ⊎_elim (λ new. ap (λ v. is_own v c.tree) new ∙ (λ i. same c.tree.node i && same c.tree.inc i)) (λ other. above other) (uid_cases u (next_uid c.tree))
-      where
-        above : u ≢ next_uid c.tree → is_own u c.tree ≡ true
-        above other =
-            let its = next_path actions begun k (parent_of parent c) c.tree may in
-            let b = its.above u on other in
-            let found = parent_found actions begun paths tree l k parent c good may none agree b.0 b.1 in
-            own_above paths tree c.tree good.tree.lists u (length (paths (actor (let x = b.0 in x.path)))) (actor (let x = b.0 in x.path)) b.0 (omega arith) found (ap (λ us. is_on us u) (sym (good.tree.lists.paths_are (actor (let x = b.0 in x.path)) b.0 found)) ∙ b.2)
+  -- all on the path of the new action are this coordinator's
+  pub own_on : (u : Uid) → is_on (uids_of p) u ≡ true → is_own u c.tree ≡ true
+  own_on u on = ⊎_elim (λ new. ap (λ v. is_own v c.tree) new ∙ (λ i. same c.tree.node i && same c.tree.inc i)) (λ other. above other) (uid_cases u (next_uid c.tree))
+    where
+      above : u ≢ next_uid c.tree → is_own u c.tree ≡ true
+      above other =
+          let its = next_path actions begun k (parent_of parent c) c.tree may in
+          let b = its.above u on other in
+          let found = parent_found actions begun paths tree l k parent c good may none agree b.0 b.1 in
+          own_above paths tree c.tree good.tree.lists u (length (paths (actor (let x = b.0 in x.path)))) (actor (let x = b.0 in x.path)) b.0 (omega arith) found (ap (λ us. is_on us u) (sym (good.tree.lists.paths_are (actor (let x = b.0 in x.path)) b.0 found)) ∙ b.2)
 
-    clear : (u : Uid) → (is_own u c.tree ≡ true → IsSettled u c) → (o : Bool) → is_own u c.tree ≡ o → is_on (uids_of p) u ≡ false
-    clear u claim true own = none_above actions begun paths tree l k parent c good may none agree u (claim own)
-    clear u claim false own = false_from_ne_true (is_on (uids_of p) u) (λ on. never (is_own u c.tree) (own_on u on) own)
+  -- and none of them has ended or is at its commit
+  pub begins_clear : (u : Uid) → (is_own u c.tree ≡ true → IsSettled u c) → is_on (uids_of p) u ≡ false
+  begins_clear u claim = by (is_own u c.tree) refl
+    where
+      by : (o : Bool) → is_own u c.tree ≡ o → is_on (uids_of p) u ≡ false
+      by true own = none_above actions begun paths tree l k parent c good may none agree u (claim own)
+      by false own = false_from_ne_true (is_on (uids_of p) u) (λ on. never (is_own u c.tree) (own_on u on) own)
+
+  pub fits_begins : (m : Message) → ((u : Uid) → Seals m u → is_own u c.tree ≡ true → IsSettled u c) → FitsMessage actions m → FitsMessage (record { path = p; kind = k } ∷ actions) m
+  fits_begins m t fits = message_more (record { path = p; kind = k }) actions m (λ u s. begins_clear u (t u s)) fits
 
 -- ---- records on disk
 
-put_home : (n : ℕ) (u : Uid) (i : Intent) (m : List (Uid × Intent)) → u.node ≡ n → AreOfNode n m → AreOfNode n (put_uid u i m)
-put_home n u i [] its all = (its, tt)
-put_home n u i (e ∷ es) its all = by (uid_order u e.0) (put_home n u i es its all.1)
+put_home : (n h : ℕ) (u : Uid) (i : Intent) (m : List (Uid × Intent)) → IsOfNode n h u → AreOfNode n h m → AreOfNode n h (put_uid u i m)
+put_home n h u i [] its all = (its, tt)
+put_home n h u i (e ∷ es) its all = by (uid_order u e.0) (put_home n h u i es its all.1)
   where
-    by : (r : Ordering) → AreOfNode n (put_uid u i es) → AreOfNode n (match_ordering r ((u, i) ∷ e ∷ es) ((e.0, i) ∷ es) (e ∷ put_uid u i es))
+    by : (r : Ordering) → AreOfNode n h (put_uid u i es) → AreOfNode n h (match_ordering r ((u, i) ∷ e ∷ es) ((e.0, i) ∷ es) (e ∷ put_uid u i es))
     by Less ih = (its, all)
     by Equal ih = (all.0, all.1)
     by Greater ih = (all.0, ih)
 
-without_home : (n : ℕ) (u : Uid) (m : List (Uid × Intent)) → AreOfNode n m → AreOfNode n (without_uid u m)
-without_home n u [] all = tt
-without_home n u (e ∷ es) all = by (uid_order u e.0) (without_home n u es all.1)
+without_home : (n h : ℕ) (u : Uid) (m : List (Uid × Intent)) → AreOfNode n h m → AreOfNode n h (without_uid u m)
+without_home n h u [] all = tt
+without_home n h u (e ∷ es) all = by (uid_order u e.0) (without_home n h u es all.1)
   where
-    by : (r : Ordering) → AreOfNode n (without_uid u es) → AreOfNode n (cond (is_eq r) es (e ∷ without_uid u es))
+    by : (r : Ordering) → AreOfNode n h (without_uid u es) → AreOfNode n h (cond (is_eq r) es (e ∷ without_uid u es))
     by Less ih = (all.0, ih)
     by Equal ih = all.1
     by Greater ih = (all.0, ih)
 
-pub worked_home : (n : ℕ) (w : Work) (d : Disk) → IsHomeWork n w → AreOfNode n d.intents → AreOfNode n (let e = worked w d in e.intents)
-worked_home n Look d fits home = home
-worked_home n (PutInc i) d fits home = home
-worked_home n (Prepare role.Store u states) d fits home = home
-worked_home n (Prepare role.Names u states) d fits home = home
-worked_home n (Commit role.Store u) d fits home = home
-worked_home n (Commit role.Names u) d fits home = home
-worked_home n (Abort role.Store u) d fits home = home
-worked_home n (Abort role.Names u) d fits home = home
-worked_home n (PutIntent u i) d fits home = put_home n u i d.intents fits home
-worked_home n (RemoveIntent u) d fits home = without_home n u d.intents home
+pub worked_home : (n h : ℕ) (w : Work) (d : Disk) → IsOwnRecord n h w → AreOfNode n h d.intents → AreOfNode n h (let e = worked w d in e.intents)
+worked_home n h Look d fits home = home
+worked_home n h (PutInc i) d fits home = home
+worked_home n h (Prepare role.Store u states) d fits home = home
+worked_home n h (Prepare role.Names u states) d fits home = home
+worked_home n h (Commit role.Store u) d fits home = home
+worked_home n h (Commit role.Names u) d fits home = home
+worked_home n h (Abort role.Store u) d fits home = home
+worked_home n h (Abort role.Names u) d fits home = home
+worked_home n h (PutIntent u i) d fits home = put_home n h u i d.intents fits home
+worked_home n h (RemoveIntent u) d fits home = without_home n h u d.intents home
 
-pub stopped_home : (n : ℕ) (how : Stop) (w : Work) (d : Disk) → IsHomeWork n w → AreOfNode n d.intents → AreOfNode n (let e = stopped how w d in e.intents)
-stopped_home n Before w d fits home = home
-stopped_home n After w d fits home = worked_home n w d fits home
-stopped_home n (InPart which) Look d fits home = home
-stopped_home n (InPart which) (PutInc i) d fits home = home
-stopped_home n (InPart which) (Prepare r u states) d fits home = home
-stopped_home n (InPart which) (Commit role.Store u) d fits home = home
-stopped_home n (InPart which) (Commit role.Names u) d fits home = home
-stopped_home n (InPart which) (Abort r u) d fits home = home
-stopped_home n (InPart which) (PutIntent u i) d fits home = home
-stopped_home n (InPart which) (RemoveIntent u) d fits home = home
+pub stopped_home : (n h : ℕ) (how : Stop) (w : Work) (d : Disk) → IsOwnRecord n h w → AreOfNode n h d.intents → AreOfNode n h (let e = stopped how w d in e.intents)
+stopped_home n h Before w d fits home = home
+stopped_home n h After w d fits home = worked_home n h w d fits home
+stopped_home n h (InPart which) Look d fits home = home
+stopped_home n h (InPart which) (PutInc i) d fits home = home
+stopped_home n h (InPart which) (Prepare r u states) d fits home = home
+stopped_home n h (InPart which) (Commit role.Store u) d fits home = home
+stopped_home n h (InPart which) (Commit role.Names u) d fits home = home
+stopped_home n h (InPart which) (Abort r u) d fits home = home
+stopped_home n h (InPart which) (PutIntent u i) d fits home = home
+stopped_home n h (InPart which) (RemoveIntent u) d fits home = home
+
+-- in a later incarnation the records are of this one or earlier ones
+pub later_home : (n h i : ℕ) (m : List (Uid × Intent)) → h ≤ i → AreOfNode n h m → AreOfNode n i m
+later_home n h i [] up all = tt
+later_home n h i (e ∷ es) up all = ((all.0.0, omega (arith, all.0.1, up)), later_home n h i es up all.1)

@@ -32,7 +32,7 @@ use Rattle.arj_part_law.specs.Copies.{Paths, IsTree}
 use Rattle.arj_part_law.specs.Messages.{SealsAsk, is_commit, has_commit_of}
 use Rattle.arj_part_law.specs.Servers.{has_end_of}
 use Rattle.arj_part_law.proofs.GoodCoords.{uses_same, doomed_same, on_tree, actor_is, good_uses, good_abort, good_ended_c, busy_ended, planned, IsStepOf}
-use Rattle.arj_part_law.proofs.Settled.{place_length, node_on, claim_on, over_claim, commit_claim, then_on, same_on, tree_on, doing_put, work_on, ended_on, end_over}
+use Rattle.arj_part_law.proofs.Settled.{place_length, node_on, inc_on, claim_on, over_claim, commit_claim, then_on, same_on, tree_on, doing_put, work_on, ended_on, end_over}
 
 -- ---- maps
 
@@ -58,7 +58,7 @@ put_in u i w j (e ∷ es) is = by (uid_order u e.0) (put_in u i w j es) is
 pub true_on : (c e : Coord) → GoesOn c e → (outs : List Effect) → AreTrue c outs → AreTrue e outs
 true_on c e g [] all = tt
 true_on c e g (Say b ∷ es) all = (tt, true_on c e g es all.1)
-true_on c e g (Do w ∷ es) all = (subst (λ n. IsHomeWork n w) (node_on c e g) all.0, true_on c e g es all.1)
+true_on c e g (Do w ∷ es) all = (subst (λ i. IsHomeWork e.tree.node i w) (inc_on c e g) (subst (λ n. IsHomeWork n c.tree.inc w) (node_on c e g) all.0), true_on c e g es all.1)
 true_on c e g (Send to m ∷ es) all = (record { claims = λ u s. claim_on c e g u (all.0.claims u s); plain = all.0.plain }, true_on c e g es all.1)
 
 module _ (c : Coord) where
@@ -171,7 +171,7 @@ module _ (actions : List Action) (paths : Paths) (tree : IsTree paths) where
   true_step s c listed = (true_ask c listed (record { path = s.path; req = s.req }) s.x s.goal (root_of s.path) s.at, tt)
 
   asked_on : (p : Path) (req : ℕ) (a : ℕ × Ask) (c : Coord) → GoesOn c (asks_node p req a c).part
-  asked_on p req a c = same_on c (asks_node p req a c).part refl refl refl
+  asked_on p req a c = same_on c (asks_node p req a c).part refl refl refl refl
 
   pub well_step : (s : Steps) (c : Coord) → AreListed c.tree → IsWell c (asks_step s c)
   well_step s c listed = let on = asked_on s.path s.req (calls.next_node s, next_ask (ends_of (root_of s.path) c.tree) s) c in record { on = on; outs = true_on c (asks_step s c).part on (asks_step s c).outs (true_step s c listed) }
@@ -195,7 +195,7 @@ module _ (actions : List Action) (paths : Paths) (tree : IsTree paths) where
       let k = renewed (is_free (root_of p) (actor p) x c) old old.kept in
       let u : Coord = record c { tree = uses_object p x c.tree } in
       let t : Coord = on_root (root_of p) (with_keeping x k) u in
-      well_after c t (call p x o c) (then_on c u t (uses_on p x c) (same_on u t refl refl refl)) (well_goes (call_steps p x o (next_req (actor p) c) r c k) t free (listed_of u (good_uses actions paths p x c good)))
+      well_after c t (call p x o c) (then_on c u t (uses_on p x c) (same_on u t refl refl refl refl)) (well_goes (call_steps p x o (next_req (actor p) c) r c k) t free (listed_of u (good_uses actions paths p x c good)))
 
   pub well_include : (p : Path) (x s : ℕ) (c : Coord) → IsFree (actor p) c → Good c → IsWell c (include p x s c)
   well_include p x s c free good =
@@ -223,7 +223,7 @@ module _ (actions : List Action) (paths : Paths) (tree : IsTree paths) where
       idle = on_root (root_of s.path) (root_heard s e) (on_doing (actor s.path) (λ (d : Doing). record d { now = Idle }) c)
 
       its : GoesOn c idle
-      its = let m : Coord = on_doing (actor s.path) (λ (d : Doing). record d { now = Idle }) c in then_on c m idle (work_on (actor s.path) (λ (d : Doing). record d { now = Idle }) c (λ d k found is. absurd (free d k found is))) (same_on m idle refl refl refl)
+      its = let m : Coord = on_doing (actor s.path) (λ (d : Doing). record d { now = Idle }) c in then_on c m idle (work_on (actor s.path) (λ (d : Doing). record d { now = Idle }) c (λ d k found is. absurd (free d k found is))) (same_on m idle refl refl refl refl)
 
       by : (g : CallEnd) → GoesOn c (doomed_by (actor s.path) g idle)
       by (Answered a) = its
@@ -253,7 +253,7 @@ module _ (actions : List Action) (paths : Paths) (tree : IsTree paths) where
   well_ends u e f intents c none good = record { on = ended_on u e c good.busy; outs = true_both (ended u e c) (says u f c) _ (true_says (ended u e c) u f c) (true_tolds intents (ended u e c) u (listed_of (ended u e c) (good_ended_c actions paths tree u e c none good))) }
 
   aborted_on : (us : List Uid) (c : Coord) → AreBusy c → GoesOn c (all_aborted us c).part
-  aborted_on [] c busy = same_on c c refl refl refl
+  aborted_on [] c busy = same_on c c refl refl refl refl
   aborted_on (u ∷ us) c busy = let e = ended u ending.Abort c in then_on c e (all_aborted us e).part (ended_on u ending.Abort c busy) (aborted_on us e (busy_ended actions paths tree u ending.Abort c busy))
 
   aborted_true : (us : List Uid) (c e : Coord) → AreTrue e (all_aborted us c).outs
@@ -293,13 +293,13 @@ module _ (actions : List Action) (paths : Paths) (tree : IsTree paths) where
       over = subst (IsOver (actor p.path)) (sym (on_tree (actor p.path) (λ (d : Doing). record d { took = participants p }) e)) (subst (IsOver (actor p.path)) (sym (on_tree (actor p.path) (λ (d : Doing). record d { now = Idle }) (record c { tree = ended_at (actor p.path) ending.Commit c.tree }))) (end_over (actor p.path) ending.Commit c.tree b found))
 
       on : GoesOn c r
-      on = then_on c e r (ended_on (actor p.path) ending.Commit c good.busy) (then_on e took r (work_on (actor p.path) (λ (d : Doing). record d { took = participants p }) e (λ d m at is. inr (m, is))) (same_on took r refl refl refl))
+      on = then_on c e r (ended_on (actor p.path) ending.Commit c good.busy) (then_on e took r (work_on (actor p.path) (λ (d : Doing). record d { took = participants p }) e (λ d m at is. inr (m, is))) (same_on took r refl refl refl refl))
 
       outs : (v : Coord) → v.tree ≡ r.tree → (w : Bool) → AreTrue v (cond w (Do (PutIntent (actor p.path) i) ∷ []) [] ++ says (actor p.path) body.Committed c ++ map (decided_told (root_of p.path) (actor p.path) p) p.sent)
       outs v same w = true_both v (cond w (Do (PutIntent (actor p.path) i) ∷ []) [] ++ says (actor p.path) body.Committed c) _ (true_both v (cond w (Do (PutIntent (actor p.path) i) ∷ []) []) _ (work w) (true_says v (actor p.path) body.Committed c)) (true_map v (decided_told (root_of p.path) (actor p.path) p) p.sent (λ n j. one n (has (participants p) n)))
         where
           work : (x : Bool) → AreTrue v (cond x (Do (PutIntent (actor p.path) i) ∷ []) [])
-          work true = ((over_claim v (actor p.path) (subst (IsOver (actor p.path)) (sym same) over)).0, tt)
+          work true = (let q = over_claim v (actor p.path) (subst (IsOver (actor p.path)) (sym same) over) in (q.0, q.2), tt)
           work false = tt
 
           one : (n : ℕ) (x : Bool) → IsTrueEffect v (cond x (tell (root_of p.path) (has_record p) ((actor p.path, ending.Commit) ∷ []) n) (tell (root_of p.path) false ((actor p.path, ending.Abort) ∷ []) n))
@@ -316,6 +316,8 @@ module _ (actions : List Action) (paths : Paths) (tree : IsTree paths) where
           own = λ x. refl;
           works = refl;
           branches = refl;
+          labels = refl;
+          kinds = λ x d f. (d, f, refl);
           told = λ x j k. ⊎_elim (λ same. inr (over_claim told x (subst (λ y. IsOver y r.tree) (sym same) over))) (λ old. inl (old.0, in_to (x, old.0) r.telling old.1)) (put_in (actor p.path) i x j r.telling (in_from (x, j) (put_uid (actor p.path) i r.telling) k));
         });
         outs = outs told refl true;
@@ -331,7 +333,7 @@ module _ (actions : List Action) (paths : Paths) (tree : IsTree paths) where
   true_machine c u (Confirming p) v its at req n = true_request c (record { path = p.path; req = req }) (ask_of (Confirming p) n) (λ w s. absurd s)
 
   asks_on : (p : Path) (req : ℕ) (as_asked : List (ℕ × Ask)) (c : Coord) → GoesOn c (asks_all p req as_asked c).part
-  asks_on p req [] c = same_on c c refl refl refl
+  asks_on p req [] c = same_on c c refl refl refl refl
   asks_on p req (a ∷ rest) c = let d = asks_node p req a c in then_on c d.part (asks_all p req rest d.part).part (asked_on p req a c) (asks_on p req rest d.part)
 
   true_all : (p : Path) (req : ℕ) (as_asked : List (ℕ × Ask)) (c e : Coord) → ((a : ℕ × Ask) → In a as_asked → IsTrue e (request (record { path = p; req = req }) a.1)) → AreTrue e (asks_all p req as_asked c).outs

@@ -6,7 +6,7 @@ use Rattle.arj_protocol.specs.Words.message
 use Rattle.arj_protocol.specs.Coord.{Coord}
 use Rattle.arj_protocol.specs.Effect.{Effect, Say, Send, Do, Work, PutInc}
 use Rattle.arj_protocol.specs.Node.{Parts, Handled, Void, Took}
-use Rattle.arj_part_law.specs.Claims.{IsClaimed, GoesOn}
+use Rattle.arj_part_law.specs.Claims.{IsClaimed, IsOwnRecord, GoesOn}
 use Rattle.arj_part_law.specs.Messages.{Seals}
 
 -- A Hello is of this node, and neither it nor an answer to an Activate names a later incarnation than this one.
@@ -38,14 +38,14 @@ SaysIncIn n i (Do w) = ⊤
 abbrev pub SayInc : ℕ → ℕ → List Effect → Type 0
 SayInc n i outs = AllByRecursion (SaysIncIn n i) outs
 
--- what the message says of actions is true at this coordinator
+-- what the message says of actions is true at this coordinator, and so is the record of a work
 abbrev pub AreClaims : Coord → Message → Type 0
 AreClaims c m = (u : Uid) → Seals m u → IsClaimed u c
 
 abbrev pub IsClaimsOf : Coord → Effect → Type 0
 IsClaimsOf c (Say b) = ⊤
 IsClaimsOf c (Send to m) = AreClaims c m
-IsClaimsOf c (Do w) = ⊤
+IsClaimsOf c (Do w) = IsOwnRecord c.tree.node c.tree.inc w
 
 -- What a node makes of a message: its coordinator goes on, its server stays in its incarnation, and what it sends is true.
 abbrev pub IsTrulyHandled : ℕ → Parts → Handled → Type 0

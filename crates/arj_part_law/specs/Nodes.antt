@@ -1,6 +1,6 @@
 -- What holds of a node that is up, with all actions that were begun so far.
-use Rattle.std.specs.Prelude.{◌≡◌, List, Option, Some, None, ⊤}
-use Rattle.arj_protocol.specs.Words.{Head, Ask, Message, asks}
+use Rattle.std.specs.Prelude.{◌≡◌, ◌⊎◌, true, List, Option, Some, None, ⊤}
+use Rattle.arj_protocol.specs.Words.{Uid, Head, Ask, Message, asks, is_on}
 use Rattle.arj_protocol.specs.Words.ask
 use Rattle.arj_protocol.specs.Effect.{Pair}
 use Rattle.arj_protocol.specs.Naming.{Naming}
@@ -9,7 +9,7 @@ use Rattle.arj_part_law.specs.Actions.{Action}
 use Rattle.arj_part_law.specs.Coords.{IsGoodCoord}
 use Rattle.arj_part_law.specs.Copies.{Paths}
 use Rattle.arj_part_law.specs.Entries.{IsGoodNaming, IsNoted, IsConfirmed, Past, names_after}
-use Rattle.arj_part_law.specs.Messages.{AllFit, AreOfTops}
+use Rattle.arj_part_law.specs.Messages.{AllFit, AreOfTops, Seals}
 use Rattle.arj_part_law.specs.Servers.{IsGoodServer, KnowsActions}
 use Rattle.arj_part_law.specs.Tops.{Owners, Fits}
 
@@ -24,6 +24,14 @@ pub record IsGoodNode (acts : List Action) (paths : Paths) (t : Parts) : Type 0 
 abbrev pub IsWellHandled : List Action → Paths → Handled → Type 0
 IsWellHandled acts paths (Void outs) = ⊤
 IsWellHandled acts paths (Took t outs) = IsGoodNode acts paths t × AllFit acts outs
+
+-- the server of the second votes for whom that of the first voted, and for the top of this message alone
+abbrev pub VotesOnly : Message → Parts → Parts → Type 0
+VotesOnly m t v = (w : Uid) → is_on v.server.voted w ≡ true → (is_on t.server.voted w ≡ true) ⊎ Seals m w
+
+abbrev pub VotesOnlyAfter : Message → Parts → Handled → Type 0
+VotesOnlyAfter m t (Void outs) = ⊤
+VotesOnlyAfter m t (Took v outs) = VotesOnly m t v
 
 -- ---- naming
 

@@ -19,7 +19,7 @@ ghost use Rattle.arj_protocol.specs.Words.{Header, Message};
 /// nothing else changes it. As a node handles a message, its server stays in its incarnation, its coordinator goes on, and
 /// what it says of actions is true. It does nothing when it runs.
 pub fn incarnations_are_on_disk()
-    ensures message { (actions : List Action) (paths : Paths) → IsTree paths → (n : ℕ) (d : Disk) (t : Parts) (from : ℕ) (m : Message) → IsGoodCoord actions paths t.coord → AreOfTops actions d.intents → AreOfNode t.coord.tree.node d.intents → IsTrulyHandled n t (handle n d t from m) }
+    ensures message { (actions : List Action) (paths : Paths) → IsTree paths → (n : ℕ) (d : Disk) (t : Parts) (from : ℕ) (m : Message) → IsGoodCoord actions paths t.coord → AreOfTops actions d.intents → AreOfNode t.coord.tree.node t.coord.tree.inc d.intents → IsTrulyHandled n t (handle n d t from m) }
     ensures coordinator { (n i : ℕ) (c : Coord) (outs : List Effect) → AreTrue c outs → AreOfInc n i outs }
     ensures whole { (n i : ℕ) (outs : List Effect) (d : Disk) → AreOfInc n i outs → d.inc ≡ i → ((disk_after outs d).inc ≡ i) × SayInc n i outs }
     ensures stopped { (n i k : ℕ) (how : Stop) (outs : List Effect) (d : Disk) → AreOfInc n i outs → d.inc ≡ i → ((cut k how outs d).disk.inc ≡ i) × SayInc n i (cut k how outs d).outs }

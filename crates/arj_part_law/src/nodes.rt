@@ -7,7 +7,7 @@ ghost use Rattle.arj_part_law.specs.Actions.{Action, Agree, AreBegun, AreCounted
 ghost use Rattle.arj_part_law.specs.Copies.{IsTree, Paths};
 ghost use Rattle.arj_part_law.specs.Entries.{IsGoodPair, Past, names_after, wrote_of};
 ghost use Rattle.arj_part_law.specs.Messages.{AllFit, AreOfTops, FitsMessage};
-ghost use Rattle.arj_part_law.specs.Nodes.{AreNamesGood, FitsNames, IsGoodNames, IsGoodNode, IsWellHandled};
+ghost use Rattle.arj_part_law.specs.Nodes.{AreNamesGood, FitsNames, IsGoodNames, IsGoodNode, IsWellHandled, VotesOnlyAfter};
 ghost use Rattle.arj_part_law.specs.Tops.{Owners};
 ghost use Rattle.arj_protocol.specs.Asking.{again_all, begin_action};
 ghost use Rattle.arj_protocol.specs.Effect.{Disk, Effect, Pair};
@@ -20,8 +20,8 @@ ghost use Rattle.arj_protocol.specs.Words.{Header, Kind, Label, Message};
 
 /// A node's server and coordinator stay good at each message that fits the actions which were begun, at each input that
 /// isn't refused and at a tick, and they are good after a restart; and each message that the node sends then fits. They stay
-/// good as an action begins, here or elsewhere, that isn't below a top for which the server voted. It does nothing when it
-/// runs.
+/// good as an action begins, here or elsewhere, that isn't below a top for which the server voted; and a server votes for
+/// whom a message asks it to. It does nothing when it runs.
 pub fn nodes_stay_good()
     ensures message { (actions : List Action) → AreBegun actions → (paths : Paths) → IsTree paths → Agree actions paths → (n : ℕ) (d : Disk) (t : Parts) (from : ℕ) (m : Message) → FitsMessage actions m → AreOfTops actions d.intents
         → IsGoodNode actions paths t → IsWellHandled actions paths (handle n d t from m) }
@@ -37,6 +37,7 @@ pub fn nodes_stay_good()
         → IsGoodNode actions paths t → IsGoodNode (record { path = path_below k (parent_of parent t.coord) (next_uid t.coord.tree); kind = k } ∷ actions) paths (with_coord t (begin_action l k parent (parent_of parent t.coord) t.coord).part) }
     ensures elsewhere { (a : Action) (actions : List Action) (paths : Paths) (t : Parts) → ((u : Uid) → is_on (uids_of a.path) u ≡ true → is_own u t.coord.tree ≡ false) → ((w : Uid) → is_on t.server.voted w ≡ true → is_on (uids_of a.path) w ≡ false)
         → IsGoodNode actions paths t → IsGoodNode (a ∷ actions) paths t }
+    ensures votes { (n : ℕ) (d : Disk) (t : Parts) (from : ℕ) (m : Message) → VotesOnlyAfter m t (handle n d t from m) }
 {}
 
 /// Naming stays good with its pair of entries as its node handles any message, where requests to naming are what naming

@@ -1,4 +1,4 @@
-use Rattle.arj_part_law.proofs.TrueSteps.{well_acts, well_heard, well_acked, true_query, well_again, true_records, faithful_new, faithful_on, faithful_begins, true_later, true_begins, fits_begins, worked_home, stopped_home}
+use Rattle.arj_part_law.proofs.TrueSteps.{well_acts, well_heard, well_acked, true_query, well_again, true_records, faithful_new, faithful_on, faithful_begins, true_later, true_begins, fits_begins, worked_home, stopped_home, later_home}
 use Rattle.arj_part_law.proofs.claims.coordinators_say_what_is_true.Goals as goal
 
 pub returns-clause-inputs : goal.returns-clause-inputs
@@ -42,3 +42,6 @@ returns-clause-written q = worked_home
 
 pub returns-clause-stopped : goal.returns-clause-stopped
 returns-clause-stopped q = stopped_home
+
+pub returns-clause-later : goal.returns-clause-later
+returns-clause-later q = later_home

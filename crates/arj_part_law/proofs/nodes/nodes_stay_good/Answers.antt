@@ -1,3 +1,4 @@
+use Rattle.arj_part_law.proofs.Voted.{votes_only}
 use Rattle.arj_part_law.proofs.GoodNodes.{message_well, input_well, tick_well, restart_well, begin_well, elsewhere_well}
 use Rattle.arj_part_law.proofs.nodes.nodes_stay_good.Goals as goal
 
@@ -18,3 +19,6 @@ returns-clause-begins c = begin_well
 
 pub returns-clause-elsewhere : goal.returns-clause-elsewhere
 returns-clause-elsewhere c = elsewhere_well
+
+pub returns-clause-votes : goal.returns-clause-votes
+returns-clause-votes c = votes_only

@@ -1,0 +1,6 @@
+mod Labels
+mod Walked
+mod Handled
+mod Begins
+mod Starts
+mod AllRuns

@@ -1,0 +1,16 @@
+// What holds in every run.
+ghost use Rattle.std.specs.Prelude.{List};
+ghost use Rattle.arj_journal.specs.declared.header.Header.{Header};
+ghost use Rattle.arj_protocol.specs.World.{Asked, World, format, run_all, run_event};
+ghost use Rattle.arj_run_law.specs.Worlds.{IsGood};
+ghost use Rattle.arj_view_law.specs.Keeps.{Holds, Keeps};
+
+/// After each run, with all frames that came in any order, again or never, all stops, crashes and restarts: the servers and
+/// coordinators that are up are good, the records on disks are of tops that were begun at their nodes, each message that
+/// was ever sent fits the actions that were begun, and what it says of ends and incarnations holds at its sender. Each
+/// handler keeps this, at each of its effects and wherever a stop falls. It does nothing when it runs.
+pub fn parts_are_good_in_every_run()
+    ensures runs { (hd : Header) (es : List Asked) → Holds hd IsGood (run_all es (format hd)) }
+    ensures event { (hd : Header) (e : Asked) (w : World) → Holds hd IsGood w → Holds hd IsGood (run_event e w) }
+    ensures handlers { (hd : Header) → Keeps hd IsGood }
+{}
