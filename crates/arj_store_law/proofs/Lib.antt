@@ -1,0 +1,5 @@
+pub mod Keys
+pub mod Held
+pub mod Pairs
+pub mod Refused
+pub mod Finds

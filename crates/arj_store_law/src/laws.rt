@@ -1,0 +1,15 @@
+// The law of a store's calls.
+ghost use Rattle.arj_store_law.specs.Laws.{Aborts, AnswersAlike, Commits, CommitsInPart, FindsIt, Prepares, StaysSame};
+
+/// What a store's calls do with the pair that the files give is the protocol's work on its pair: a prepare, a commit, also
+/// one that is stopped, an abort; a prepare's answer is the protocol's; and what a recovery finds is the pair. It does nothing
+/// when it runs.
+pub fn store_calls_do_the_work()
+    ensures same { StaysSame }
+    ensures prepares { Prepares }
+    ensures aborts { Aborts }
+    ensures commits { Commits }
+    ensures in_part { CommitsInPart }
+    ensures answers { AnswersAlike }
+    ensures finds { FindsIt }
+{}
