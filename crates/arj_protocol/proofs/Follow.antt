@@ -21,7 +21,7 @@ use Rattle.arj_protocol.specs.Confirm.{confirm}
 use Rattle.arj_protocol.specs.Coord.{Coord}
 use Rattle.arj_protocol.specs.Asking.{heard}
 use Rattle.arj_protocol.specs.Ending.{acked, answer_query}
-use Rattle.arj_protocol.specs.Node.{Parts, Handled, Void, Took, Here, Ran, ran, ran_handled, handle_all, next_round, rounds, whole, most_rounds, first_done, first_queued, serve, served, sends_answer, with_server, with_naming, with_coord, if_naming, load_by, load_held, prepare_by, prepare_states, handle, handle_ask, handle_answer, handle_other, handle_ends, handle_told, handle_hello, coord_heard, by_reply, end_states, store_told, naming_told, ack_told, naming_hello, query_about, is_earlier, holders}
+use Rattle.arj_protocol.specs.Node.{Parts, Handled, Void, Took, Here, Ran, ran, ran_handled, handle_all, next_round, rounds, whole, most_rounds, first_done, first_queued, serve, served, sends_answer, with_server, with_naming, with_coord, if_naming, load_by, load_held, prepare_by, prepare_states, handle, taken, handle_ask, handle_answer, handle_other, handle_ends, handle_told, handle_hello, coord_heard, by_reply, end_states, store_told, naming_told, ack_told, naming_hello, query_about, is_earlier, holders}
 use Rattle.arj_protocol.specs.Says.{AreAll, is_server_effect, is_naming_effect, is_coord_effect}
 use Rattle.arj_protocol.specs.Laws.{Holders, AreOfActions, ServerTable, NamingTable, server_rows, naming_rows, rows_by, rows_after}
 use Rattle.arj_protocol.specs.Follow.{TablesFollow, NamingFollows, Fits, FitsAsked, FitsOther, FitsHead, FitRounds, ends_in}
@@ -31,6 +31,7 @@ use Rattle.arj_protocol.proofs.PartSays.{activate_own, invoke_own, vote_own, end
 use Rattle.arj_protocol.proofs.CoordSays.{heard_own, acked_own, query_own, map_own}
 use Rattle.arj_protocol.proofs.ServerTable.{activate_table, invoke_table, vote_table, ends_table}
 use Rattle.arj_protocol.proofs.NamingTable.{bind_table, note_table, confirm_table, told_table, hello_table}
+use Rattle.arj_protocol.proofs.Taken.{taken_as}
 
 module _ (h : Holders) (n x : ℕ) where
   -- ---- effects in a row
@@ -244,6 +245,9 @@ module _ (h : Holders) (n x : ℕ) where
   pub handle_follows : (d : Disk) (t : Parts) (from : ℕ) (m : Message) → Fits h m → HandledFollows t (handle n d t from m)
   handle_follows d t from m fit = asked_follows d t from m (asks m) fit
 
+  pub taken_follows : (d : Disk) (t : Parts) (from : ℕ) (m : Message) → Fits h m → HandledFollows t (taken n d t from m)
+  taken_follows d t from m fit = taken_as (HandledFollows t) n d t from m (λ p k o rows. refl) (handle_follows d t from m fit)
+
   -- ---- messages to itself
 
   -- what goes to the node itself says nothing
@@ -295,9 +299,9 @@ module _ (h : Holders) (n x : ℕ) where
   all_follow : (ms : List Message) (e : Here) → AllByRecursion (Fits h) ms → TablesFollow h n x e.parts (handle_all n ms e).outs (handle_all n ms e).here.parts
   all_follow [] e fit = same_follows e.parts
   all_follow (m ∷ ms) e fit =
-      let r = ran_handled n e (handle n e.disk e.parts n m) in
+      let r = ran_handled n e (taken n e.disk e.parts n m) in
       let t = handle_all n ms r.here in
-      follows_on e.parts r.here.parts t.here.parts r.outs t.outs (handled_ran e (handle n e.disk e.parts n m) (handle_follows e.disk e.parts n m fit.0)) (all_follow ms r.here fit.1)
+      follows_on e.parts r.here.parts t.here.parts r.outs t.outs (handled_ran e (taken n e.disk e.parts n m) (taken_follows e.disk e.parts n m fit.0)) (all_follow ms r.here fit.1)
 
   round_follows : (t : Parts) (r : Ran) → AllByRecursion (Fits h) r.queue → TablesFollow h n x t r.outs r.here.parts → TablesFollow h n x t (next_round n r).outs (next_round n r).here.parts
   round_follows t r fit follows =

@@ -12,7 +12,7 @@ use Rattle.arj_protocol.specs.Named.{Named, unnamed}
 use Rattle.arj_protocol.specs.Confirm.{recovered_naming, recovered_lines, named_back, rows_back, back_lines, pending_of}
 use Rattle.arj_protocol.specs.Coord.{Coord}
 use Rattle.arj_protocol.specs.Asking.{again_all}
-use Rattle.arj_protocol.specs.Node.{Parts, Handled, Void, Took, handle, holders, query_about, with_coord, whole}
+use Rattle.arj_protocol.specs.Node.{Parts, Handled, Void, Took, taken, holders, query_about, with_coord, whole}
 use Rattle.arj_protocol.specs.Step.{Node, Input, Step, step, step_up, step_of, step_unless, refusal, frame_step, handled_step, void_step, node_did, coord_did, tick_step, show_step, show_outs, show_entry, shown, entry_line, copy_line, only_says, acts, tolds_again}
 use Rattle.arj_protocol.specs.Step as input
 use Rattle.arj_protocol.specs.Says.{AreAll, is_coord_effect}
@@ -21,7 +21,7 @@ use Rattle.arj_protocol.specs.Follow.{TablesFollow, FitsStep, FitsFrame, FitsHan
 use Rattle.arj_protocol.proofs.RowSteps.{same_number, after_both, one_or_two}
 use Rattle.arj_protocol.proofs.PartSays.{all_both}
 use Rattle.arj_protocol.proofs.CoordSays.{acts_own, again_own, tolds_again_own, map_own}
-use Rattle.arj_protocol.proofs.Follow.{follows_on, coord_follows, void_follows, handle_follows, whole_follows}
+use Rattle.arj_protocol.proofs.Follow.{follows_on, coord_follows, void_follows, taken_follows, whole_follows}
 
 module _ (h : Holders) (x : ℕ) (n : Node) (t : Parts) (up : n.live ≡ Some t) where
   abbrev After : Step → Type 0
@@ -56,8 +56,8 @@ module _ (h : Holders) (x : ℕ) (n : Node) (t : Parts) (up : n.live ≡ Some t)
   Handles (Void outs) = (p : Part) (k : ℕ) (o : Uid) (rows : List Row) → rows_after h k p o outs rows ≡ rows
   Handles (Took v outs) = TablesFollow h n.number x t outs v
 
-  handled_follows : (k from : ℕ) (m : Message) → FitsFrame h n t from (Some m) → After (handled_step k n (handle n.number n.disk t from m))
-  handled_follows k from m fit = by (handle n.number n.disk t from m) (handle_follows h n.number x n.disk t from m fit.0) fit.1
+  handled_follows : (k from : ℕ) (m : Message) → FitsFrame h n t from (Some m) → After (handled_step k n (taken n.number n.disk t from m))
+  handled_follows k from m fit = by (taken n.number n.disk t from m) (taken_follows h n.number x n.disk t from m fit.0) fit.1
     where
       by : (a : Handled) → Handles a → FitsHandled h n.number n.disk a → After (handled_step k n a)
       by (Void outs) quiet fits = void_still k outs quiet

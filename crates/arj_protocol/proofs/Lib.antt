@@ -6,6 +6,7 @@ pub mod Leaves
 pub mod Maps
 pub mod ServerTable
 pub mod Steps
+pub mod Taken
 pub mod Messages
 pub mod NamingTable
 pub mod Numbers

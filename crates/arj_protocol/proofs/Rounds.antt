@@ -21,11 +21,12 @@ use Rattle.arj_protocol.specs.Confirm.{confirm}
 use Rattle.arj_protocol.specs.Coord.{Coord}
 use Rattle.arj_protocol.specs.Asking.{heard}
 use Rattle.arj_protocol.specs.Ending.{acked}
-use Rattle.arj_protocol.specs.Node.{Parts, Handled, Void, Took, Here, Ran, ran, ran_handled, handle_all, next_round, rounds, whole, most_rounds, first_done, first_queued, serve, served, sends_answer, with_server, with_naming, with_coord, if_naming, load_by, load_held, prepare_by, prepare_states, handle, handle_other, handle_ends, handle_told, coord_heard, by_reply, end_states, store_told, naming_told, ack_told, query_about, is_earlier, holders}
+use Rattle.arj_protocol.specs.Node.{Parts, Handled, Void, Took, Here, Ran, ran, ran_handled, handle_all, next_round, rounds, whole, most_rounds, first_done, first_queued, serve, served, sends_answer, with_server, with_naming, with_coord, if_naming, load_by, load_held, prepare_by, prepare_states, handle, taken, handle_other, handle_ends, handle_told, coord_heard, by_reply, end_states, store_told, naming_told, ack_told, query_about, is_earlier, holders}
 use Rattle.arj_protocol.specs.Rank.{rank, ranks, told_rank, is_above}
 use Rattle.arj_protocol.specs.Says.{is_server_effect, is_naming_effect}
 use Rattle.arj_protocol.proofs.PartSays.{activate_own, invoke_own, vote_own, ends_own, bind_own, note_own, confirm_own, told_own}
 use Rattle.arj_protocol.proofs.Ranks.{Above, both_above, weaker, server_above, naming_above, map_above, acked_above, query_above, heard_above, reply_rank}
+use Rattle.arj_protocol.proofs.Taken.{taken_as}
 
 -- what a handler sends stands further on than what it handles
 abbrev HandledAbove : ℕ → Handled → Type 0
@@ -208,8 +209,11 @@ lower_from j k (m ∷ ms) low from =
 reached : (k n : ℕ) → nat_le k n ≡ true → suc k ≤ suc n
 reached k n h = grind arith
 
-handled_from : (k n : ℕ) (e : Here) (m : Message) → nat_le k (rank m) ≡ true → From (suc k) (ran_handled n e (handle n e.disk e.parts n m)).queue
-handled_from k n e m least = lower_from (suc (rank m)) (suc k) (ran_handled n e (handle n e.disk e.parts n m)).queue low (by (handle n e.disk e.parts n m) (handle_above n e.disk e.parts n m))
+taken_above : (n : ℕ) (d : Disk) (t : Parts) (from : ℕ) (m : Message) → HandledAbove (rank m) (taken n d t from m)
+taken_above n d t from m = taken_as (HandledAbove (rank m)) n d t from m refl (handle_above n d t from m)
+
+handled_from : (k n : ℕ) (e : Here) (m : Message) → nat_le k (rank m) ≡ true → From (suc k) (ran_handled n e (taken n e.disk e.parts n m)).queue
+handled_from k n e m least = lower_from (suc (rank m)) (suc k) (ran_handled n e (taken n e.disk e.parts n m)).queue low (by (taken n e.disk e.parts n m) (taken_above n e.disk e.parts n m))
   where
     low : suc k ≤ suc (rank m)
     low = reached k (rank m) least
@@ -222,7 +226,7 @@ all_from : (k n : ℕ) (ms : List Message) (e : Here) → From k ms → From (su
 all_from k n [] e from = refl
 all_from k n (m ∷ ms) e from =
     let q = and_parts (nat_le k (rank m)) (list_all (λ m. nat_le k (rank m)) ms) from in
-    let r = ran_handled n e (handle n e.disk e.parts n m) in
+    let r = ran_handled n e (taken n e.disk e.parts n m) in
     from_both (suc k) r.queue (handle_all n ms r.here).queue (handled_from k n e m q.0) (all_from k n ms r.here q.1)
 
 -- no message stands so far on

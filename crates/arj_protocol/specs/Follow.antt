@@ -9,7 +9,7 @@ use Rattle.arj_protocol.specs.Ask.{actor, top_of, top_path}
 use Rattle.arj_protocol.specs.Naming.{Naming}
 use Rattle.arj_protocol.specs.Coord.{Coord}
 use Rattle.arj_protocol.specs.Asking.{again_all}
-use Rattle.arj_protocol.specs.Node.{Parts, Handled, Void, Took, Ran, ran, next_round, most_rounds, handle, holders, query_about, with_coord}
+use Rattle.arj_protocol.specs.Node.{Parts, Handled, Void, Took, Ran, ran, next_round, most_rounds, taken, holders, query_about, with_coord}
 use Rattle.arj_protocol.specs.Step.{Node, Input, acts, tolds_again}
 use Rattle.arj_protocol.specs.Step as input
 use Rattle.arj_protocol.specs.Laws.{Holders, IsPathOf, AreOfActions, ServerTable, NamingTable}
@@ -62,7 +62,7 @@ FitsHandled h n d (Took v outs) = FitRounds h n most_rounds (ran n v outs d)
 
 abbrev pub FitsFrame : Holders → Node → Parts → ℕ → Option Message → Type 0
 FitsFrame h n t from None = ⊤
-FitsFrame h n t from (Some m) = Fits h m × FitsHandled h n.number n.disk (handle n.number n.disk t from m)
+FitsFrame h n t from (Some m) = Fits h m × FitsHandled h n.number n.disk (taken n.number n.disk t from m)
 
 abbrev pub FitsDid : Holders → Node → Parts → Coord → List Effect → Type 0
 FitsDid h n t c outs = FitRounds h n.number most_rounds (ran n.number (with_coord t c) outs n.disk)

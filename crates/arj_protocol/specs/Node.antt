@@ -1,23 +1,25 @@
 -- One node: its disk, and while it is up its parts. How a message is handled, with all messages that the node sends to
 -- itself by that.
 use Rattle.arj_protocol.specs.Words.ask
-use Rattle.std.specs.Prelude.{ℕ, zero, suc, Bool, ◌&&◌, ◌==◌, nat_lt, if◌then◌else◌, List, [], ◌∷◌, ◌++◌, map, filter, Option, Some, None, option_map}
-use Rattle.arj_protocol.specs.Words.{Uid, Head, Asked, End, ObjectState, Message, object, Ask, asks}
+use Rattle.std.specs.Prelude.{ℕ, zero, suc, Bool, true, not, ◌&&◌, ◌==◌, nat_lt, nat_le, if◌then◌else◌, List, [], ◌∷◌, ◌++◌, map, filter, Option, Some, None, option_map}
+use Rattle.arj_journal.specs.declared.limits.TheConstants.{OBJECTS}
+use Rattle.arj_protocol.specs.Words.{Uid, Head, Asked, End, ObjectState, Op, class_of, has_op, uid_eq, Message, object, Ask, asks}
 use Rattle.arj_protocol.specs.Words.ending
 use Rattle.arj_protocol.specs.Words.body
 use Rattle.arj_protocol.specs.Words.role
 use Rattle.arj_protocol.specs.Words.message
 use Rattle.arj_protocol.specs.Words.loaded
 use Rattle.arj_protocol.specs.Words.prepared
-use Rattle.arj_protocol.specs.Order.{uid_set}
-use Rattle.arj_protocol.specs.Effect.{Effect, Say, Send, Do, Look, Prepare, Commit, Abort, worked, Disk, Pair, Served, Did, did_nothing, held_at, holder_of, is_prepared, Prep, Ready, Already, Old, InDoubt, prepare_answer}
+use Rattle.arj_protocol.specs.Order.{uid_set, at_number, has}
+use Rattle.arj_protocol.specs.Copy.{Copy}
+use Rattle.arj_protocol.specs.Effect.{Effect, Say, Send, Do, Look, Prepare, Commit, Abort, worked, Disk, Pair, Served, Did, did_nothing, held_at, holder_of, is_prepared, names_object, Prep, Ready, Already, Old, InDoubt, prepare_answer}
 use Rattle.arj_protocol.specs.Ask.{Reply, answers, response, asked_by, actor, last_end}
 use Rattle.arj_protocol.specs.Server as server
 use Rattle.arj_protocol.specs.Server.{Server, server_holders}
 use Rattle.arj_protocol.specs.Naming as naming
 use Rattle.arj_protocol.specs.Naming.{Naming, naming_holders}
 use Rattle.arj_protocol.specs.Confirm.{confirm}
-use Rattle.arj_protocol.specs.Coord.{Coord}
+use Rattle.arj_protocol.specs.Coord.{Coord, Doing, Now, Calling, doing_of}
 use Rattle.arj_protocol.specs.Asking.{heard}
 use Rattle.arj_protocol.specs.Ending.{acked, answer_query}
 
@@ -175,6 +177,64 @@ handle_ask n d t from m (Some a) = serve n d t from a.0 a.1
 abbrev pub handle : ℕ → Disk → Parts → ℕ → Message → Handled
 handle n d t from m = handle_ask n d t from m (asks m)
 
+-- ---- what can be meant
+
+-- the Uid is that of an object
+abbrev pub is_object : Uid → Bool
+is_object u = uid_eq u (object u.num) && (nat_le 1 u.num && nat_le u.num OBJECTS)
+
+-- the states are of objects, each of another one
+abbrev pub are_of_objects : List ObjectState → Bool
+are_of_objects [] = true
+are_of_objects (s ∷ ss) = is_object s.uid && (not (names_object s.uid ss) && are_of_objects ss)
+
+-- no number stands twice
+abbrev pub stand_once : List ℕ → Bool
+stand_once [] = true
+stand_once (x ∷ xs) = not (has xs x) && stand_once xs
+
+-- the class of the active copy has the operation, where there is a copy
+abbrev pub copy_has_op : Op → Option Copy → Bool
+copy_has_op o None = true
+copy_has_op o (Some c) = has_op (class_of c.base.value) o
+
+-- a request: its states are of objects, an operation is one of the object's class, and no object is confirmed twice
+abbrev pub ask_is_meant : Server → Ask → Bool
+ask_is_meant s (ask.Activate b st) = is_object st.uid
+ask_is_meant s (ask.Invoke x b i ends op) = copy_has_op op (at_number x s.objects)
+ask_is_meant s (ask.Prepare states) = are_of_objects states
+ask_is_meant s (ask.Confirm grants excluded included) = stand_once (map (λ (g : ℕ × ℕ). g.0) grants)
+ask_is_meant s _ = true
+
+-- a state that a call waits for is of its object
+abbrev pub is_loaded_in : ObjectState → Now → Bool
+is_loaded_in st (Calling s) = uid_eq st.uid (object s.x)
+is_loaded_in st _ = true
+
+abbrev pub is_loaded_for : ObjectState → Option Doing → Bool
+is_loaded_for st None = true
+is_loaded_for st (Some d) = is_loaded_in st d.now
+
+abbrev pub reply_is_meant : Coord → Asked → Reply → Bool
+reply_is_meant c a (Reply.Loaded (loaded.State st)) = is_loaded_for st (doing_of a.act c)
+reply_is_meant c a _ = true
+
+abbrev pub asked_is_meant : Server → Option (Head × Ask) → Bool
+asked_is_meant s None = true
+asked_is_meant s (Some a) = ask_is_meant s a.1
+
+abbrev pub answer_is_meant : Coord → Option (Asked × Reply) → Bool
+answer_is_meant c None = true
+answer_is_meant c (Some a) = reply_is_meant c a.0 a.1
+
+-- what a message says can be meant
+abbrev pub is_meant : Parts → Message → Bool
+is_meant t m = asked_is_meant t.server (asks m) && answer_is_meant t.coord (answers m)
+
+-- What can't be meant is void, so that a node has an answer to every message. No such message is sent in a run.
+abbrev pub taken : ℕ → Disk → Parts → ℕ → Message → Handled
+taken n d t from m = if is_meant t m then handle n d t from m else Void []
+
 -- ---- messages to itself
 
 -- a node within a step
@@ -209,7 +269,7 @@ ran_handled n h (Took t outs) = ran n t outs h.disk
 abbrev pub handle_all : ℕ → List Message → Here → Ran
 handle_all n [] h = record { here = h; outs = []; queue = [] }
 handle_all n (m ∷ ms) h =
-    let r = ran_handled n h (handle n h.disk h.parts n m) in
+    let r = ran_handled n h (taken n h.disk h.parts n m) in
     let t = handle_all n ms r.here in
     record { here = t.here; outs = r.outs ++ t.outs; queue = r.queue ++ t.queue }
 

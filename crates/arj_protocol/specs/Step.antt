@@ -18,7 +18,7 @@ use Rattle.arj_protocol.specs.Tree.{Branch, at_place, has_open_child, is_serial,
 use Rattle.arj_protocol.specs.Coord.{Coord, Doing, Now, Idle, Committing, new_coord, number_of, doing_of, of_root}
 use Rattle.arj_protocol.specs.Asking.{begin_action, call, include, commit_action, give_up, again_all}
 use Rattle.arj_protocol.specs.Ending.{abort_action, tell_all}
-use Rattle.arj_protocol.specs.Node.{Parts, Handled, Void, Took, handle, holders, query_about, prepared_actions, with_coord, whole, Ran}
+use Rattle.arj_protocol.specs.Node.{Parts, Handled, Void, Took, taken, holders, query_about, prepared_actions, with_coord, whole, Ran}
 
 pub record Node : Type 0 where
   pub number : ℕ
@@ -83,10 +83,16 @@ abbrev pub is_below_16 : Kind → Bool
 is_below_16 kind.Independent = false
 is_below_16 _ = true
 
+-- an independent action begins under a plain one, and a constituent under a serializing one
+abbrev pub is_misplaced : Kind → Branch → Bool
+is_misplaced kind.Independent b = is_serial b.kind
+is_misplaced kind.Constituent b = not (is_serial b.kind)
+is_misplaced _ b = false
+
 -- an action begins in another one; an independent one isn't its descendant
 abbrev pub begin_reasons : Kind → Branch → Coord → List (ℕ × Bool)
 begin_reasons k b c =
-    (6, is_some b.ended) ∷ (7, waits_above b c) ∷ (10, not (is_below_16 k) && is_serial b.kind) ∷ (12, b.doomed)
+    (6, is_some b.ended) ∷ (7, waits_above b c) ∷ (10, is_misplaced k b) ∷ (12, b.doomed)
     ∷ (15, is_below_16 k && is_too_deep b) ∷ (16, is_below_16 k && has_many_actions b c.tree) ∷ []
 
 -- the header's class of an object
@@ -222,7 +228,7 @@ handled_step k n (Took t outs) = node_did n (Say (body.Got k) ∷ []) t outs
 -- bytes that are no message are void
 abbrev pub frame_step : ℕ → ℕ → Node → Parts → Option Message → Step
 frame_step k from n t None = void_step k n []
-frame_step k from n t (Some m) = handled_step k n (handle n.number n.disk t from m)
+frame_step k from n t (Some m) = handled_step k n (taken n.number n.disk t from m)
 
 -- ---- tick
 

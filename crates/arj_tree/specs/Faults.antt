@@ -1,6 +1,6 @@
 -- The refusals that a tree sees, in the order in which they are tested.
 use Rattle.std.specs.Prelude.{ℕ, Bool, true, false, not, ◌&&◌, if◌then◌else◌, List, [], ◌∷◌, Option, Some, None, is_some}
-use Rattle.arj_protocol.specs.Step.{is_below_16}
+use Rattle.arj_protocol.specs.Step.{is_below_16, is_misplaced}
 use Rattle.arj_protocol.specs.Tree.{Tree, Branch, branch_of, has_open_child, has_many_actions, has_many_objects, is_serial, is_too_deep}
 use Rattle.arj_protocol.specs.Words.{Uid, End, Kind}
 use Rattle.arj_protocol.specs.Words.ending
@@ -26,7 +26,7 @@ first_fault (f ∷ fs) = if f.1 then Some f.0 else first_fault fs
 -- an action begins in another one
 abbrev pub begin_fault : Kind → Branch → Tree → Option TreeFault
 begin_fault k b t = first_fault (
-    (fault.Ended, is_some b.ended) ∷ (fault.WrongParent, not (is_below_16 k) && is_serial b.kind) ∷ (fault.Doomed, b.doomed)
+    (fault.Ended, is_some b.ended) ∷ (fault.WrongParent, is_misplaced k b) ∷ (fault.Doomed, b.doomed)
     ∷ (fault.TooDeep, is_below_16 k && is_too_deep b) ∷ (fault.TooMany, is_below_16 k && has_many_actions b t) ∷ [])
 
 -- an action calls an object, or includes a store of it

@@ -3,7 +3,7 @@ ghost use Rattle.std.specs.Prelude.{◌≡◌, ◌⊎◌, ◌<◌, [], ◌∷◌
 ghost use Rattle.std.specs.List.{list_any};
 ghost use Rattle.arj_base.specs.declared.mode.End.TheVariants as ending;
 ghost use Rattle.arj_protocol.specs.Ask.{actor};
-ghost use Rattle.arj_protocol.specs.Step.{is_below_16};
+ghost use Rattle.arj_protocol.specs.Step.{is_below_16, is_misplaced};
 ghost use Rattle.arj_protocol.specs.Tree.{Branch, new_tree, listed_end, branch_of, is_own, is_open, is_doomed, is_committed, is_aborted, ended_so, next_uid, path_below, path_in, begun, ended_at, doomed_at, ends_of, open_below, has_open_child, is_serial, is_too_deep, has_many_actions, has_many_objects, behind, is_merged, is_spent, longest_path};
 ghost use Rattle.arj_protocol.specs.Words.{uids_of, tops_of, path_of};
 ghost use Rattle.arj_protocol.specs.Words.kind as kinds;
@@ -234,7 +234,7 @@ impl Tree {
         let below = kind != Kind::Independent;
         if parent.is_ended() {
             Some(TreeFault::Ended)
-        } else if !below && parent.is_serial() {
+        } else if is_misplaced(kind, parent.is_serial()) {
             Some(TreeFault::WrongParent)
         } else if parent.is_doomed() {
             Some(TreeFault::Doomed)
@@ -295,7 +295,6 @@ impl Tree {
     // The path of an action that begins.
     fn path_below(&self, kind: Kind, parent: Option<Uid>, uid: Uid) -> Path
         requires free { begin_refusal kind parent self.now ≡ None }
-        requires constituent { kind ≡ kinds.Constituent → IfSome (parent_in parent self.now) (λ b. is_serial b.kind ≡ true) }
         ensures path { result ≡ path_below kind (parent_in parent self.now) uid }
         ensures last { actor result ≡ uid }
         ensures single { is_serial kind ≡ true → length (uids_of result) ≡ 1 }
@@ -321,9 +320,9 @@ impl Tree {
     }
 
     /// Begins an action, in its parent where one is given: refused where the parent has ended, is a serializing action
-    /// and the new one independent, is doomed, or has too many Uids or actions. The answer is its Uid.
+    /// and the new one independent, is none and the new one its constituent, is doomed, or has too many Uids or actions. The
+    /// answer is its Uid.
     pub fn begin(&mut self, kind: Kind, parent: Option<Uid>) -> Result<Uid, TreeFault>
-        requires constituent { kind ≡ kinds.Constituent → IfSome (parent_in parent self.old) (λ b. is_serial b.kind ≡ true) }
         ensures begun { OnOk result (self.new ≡ begun kind (parent_in parent self.old) self.old) }
         ensures uid { IfOk result (λ uid. uid ≡ next_uid self.old) }
         ensures refused { IfSome (begin_refusal kind parent self.old) (λ e. result ≡ Err e) }
@@ -464,4 +463,15 @@ fn alone(uid: Uid) -> Path
     ensures single { length (uids_of result) ≡ 1 }
 {
     Path::new(uid)
+}
+
+// Whether such an action can't begin in a parent that is or isn't a serializing action.
+fn is_misplaced(kind: Kind, serial: bool) -> bool
+    ensures { (b : Branch) → serial ≡ is_serial b.kind → result ≡ is_misplaced kind b }
+{
+    match kind {
+        Kind::Independent => serial,
+        Kind::Constituent => !serial,
+        Kind::Top | Kind::Nested | Kind::Serial => false,
+    }
 }

@@ -8,17 +8,18 @@ use Rattle.arj_protocol.specs.Words.body
 use Rattle.arj_protocol.specs.Effect.{Disk, Pair, Effect, Say, Send, Do, Look, Prepare, Stop, Before, After, InPart, stopped, holder_of, held_at}
 use Rattle.arj_protocol.specs.Asking.{again_all, begin_action}
 use Rattle.arj_protocol.specs.Follow.{tick_outs}
-use Rattle.arj_protocol.specs.Node.{Parts, Handled, Void, Took, handle, whole, with_coord}
+use Rattle.arj_protocol.specs.Node.{Parts, Handled, Void, Took, taken, whole, with_coord}
 use Rattle.arj_protocol.specs.Says.{AreAll}
 use Rattle.arj_protocol.specs.Step.{Node, Input, Step, step, step_up, step_down, step_of, step_unless, refusal, refusal_at, frame_step, handled_step, void_step, node_did, coord_did, tick_step, restart_step, restart_outs, parts_in, show_step, show_outs, show_entry, shown, entry_line, copy_line, only_says, does_nothing, crash_step, acts, parent_of}
 use Rattle.arj_protocol.specs.Step as input
 use Rattle.arj_protocol.specs.World.{Labelled, is_serial_kind}
 use Rattle.arj_protocol.proofs.PartSays.{all_both}
+use Rattle.arj_protocol.proofs.Taken.{taken_took}
 use Rattle.arj_view_law.specs.Seen.{Seen, In, at, up, down, with_node, said, given, is_quiet_line}
 use Rattle.arj_view_law.specs.Walks.{Walks, Up, halted}
 use Rattle.arj_view_law.specs.Keeps.{Keeps, MayGive, label_at, is_act}
 use Rattle.arj_view_law.proofs.Flat.{Flat, Behind, within_same, flat_to}
-use Rattle.arj_view_law.proofs.Rounds.{AreLooks, LooksAlone, handle_looks, whole_ended, Ended}
+use Rattle.arj_view_law.proofs.Rounds.{AreLooks, LooksAlone, taken_looks, whole_ended, Ended}
 
 -- looks at the disk, and lines at which no view looks
 abbrev is_still : Effect → Bool
@@ -99,14 +100,14 @@ module _ (hd : Header) (P : Seen → Type 0) (keeps : Keeps hd P) (e k : ℕ) wh
   frame_goes : (f from : ℕ) (m : Option Message) (d : Disk) (t : Parts) (M : Seen) → IfSome m (λ x. In (record { from = from; to = k; message = x }) M.sent) → P (up k d t M)
       → Goes d (frame_step f from (record { number = k; disk = d; live = Some t }) t m) M
   frame_goes f from None d t M sent h = void_goes f [] d (Some t) M refl h
-  frame_goes f from (Some m) d t M sent h = by (handle k d t from m) (handle_looks k d t from m) refl
+  frame_goes f from (Some m) d t M sent h = by (taken k d t from m) (taken_looks k d t from m) refl
     where
       got : P (up k d t (said e (body.Got f ∷ []) M))
       got = keeps.quiet e (body.Got f ∷ []) (up k d t M) refl h
 
-      by : (a : Handled) → LooksAlone a → handle k d t from m ≡ a → Goes d (handled_step f (record { number = k; disk = d; live = Some t }) a) M
+      by : (a : Handled) → LooksAlone a → taken k d t from m ≡ a → Goes d (handled_step f (record { number = k; disk = d; live = Some t }) a) M
       by (Void outs) looks is = void_goes f outs d (Some t) M looks h
-      by (Took v outs) looks is = got_goes f (Some t) v outs d M (keeps.message e k d t v from m outs (said e (body.Got f ∷ []) M) got sent is)
+      by (Took v outs) looks is = got_goes f (Some t) v outs d M (keeps.message e k d t v from m outs (said e (body.Got f ∷ []) M) got sent (taken_took k d t v from m outs is))
 
   crash_goes : (d : Disk) (t : Parts) (M : Seen) → P (up k d t M) → Goes d (crash_step (record { number = k; disk = d; live = Some t })) M
   crash_goes d t M h =

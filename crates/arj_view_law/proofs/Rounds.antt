@@ -15,10 +15,11 @@ use Rattle.arj_protocol.specs.Confirm.{confirm}
 use Rattle.arj_protocol.specs.Coord.{Coord}
 use Rattle.arj_protocol.specs.Asking.{heard}
 use Rattle.arj_protocol.specs.Ending.{acked}
-use Rattle.arj_protocol.specs.Node.{Parts, Handled, Void, Took, Here, Ran, ran, ran_handled, handle_all, next_round, rounds, whole, most_rounds, handle, handle_ask, handle_answer, handle_other, handle_ends, coord_heard, by_reply, serve, served, sends_answer, if_naming, load_by, load_held, prepare_by, prepare_states, with_naming, with_server, with_coord}
+use Rattle.arj_protocol.specs.Node.{Parts, Handled, Void, Took, Here, Ran, ran, ran_handled, handle_all, next_round, rounds, whole, most_rounds, handle, taken, handle_ask, handle_answer, handle_other, handle_ends, coord_heard, by_reply, serve, served, sends_answer, if_naming, load_by, load_held, prepare_by, prepare_states, with_naming, with_server, with_coord}
 use Rattle.arj_view_law.specs.Seen.{Seen, In, at, up}
 use Rattle.arj_view_law.specs.Walks.{Walks, Stops, Up}
 use Rattle.arj_view_law.specs.Keeps.{Keeps}
+use Rattle.arj_protocol.proofs.Taken.{taken_as, taken_took}
 use Rattle.arj_view_law.proofs.Flat.{Flat, With, Left, AreSent, within_same, are_sent, flat_to, flat_on, flat_keeps, walks_flat, ran_parts}
 
 -- ---- what is void
@@ -121,6 +122,9 @@ handle_looks n d t from m = by (asks m)
     by None = heard_or (answers m)
     by (Some a) = serve_looks n d t from a.0 a.1
 
+pub taken_looks : (n : ℕ) (d : Disk) (t : Parts) (from : ℕ) (m : Message) → LooksAlone (taken n d t from m)
+taken_looks n d t from m = taken_as LooksAlone n d t from m refl (handle_looks n d t from m)
+
 module _ (hd : Header) (P : Seen → Type 0) (keeps : Keeps hd P) (e k : ℕ) where
   -- looks change nothing, and a stop at one is a stop
   pub looks_walk : (outs : List Effect) (d : Disk) (live : Option Parts) (M : Seen) → AreLooks outs → P (at k d live M) → Walks P e k outs (λ c N. P (at k c live N)) d M
@@ -141,12 +145,12 @@ module _ (hd : Header) (P : Seen → Type 0) (keeps : Keeps hd P) (e k : ℕ) wh
   Handles from d t M (Void outs) = Walks P e k outs (Up P k t) d M
   Handles from d t M (Took v outs) = Walks P e k outs (Up P k v) d M
 
-  pub handled : (from : ℕ) (m : Message) (d : Disk) (t : Parts) (M : Seen) → P (up k d t M) → In (record { from = from; to = k; message = m }) M.sent → Handles from d t M (handle k d t from m)
-  handled from m d t M h sent = by (handle k d t from m) refl (handle_looks k d t from m)
+  pub handled : (from : ℕ) (m : Message) (d : Disk) (t : Parts) (M : Seen) → P (up k d t M) → In (record { from = from; to = k; message = m }) M.sent → Handles from d t M (taken k d t from m)
+  handled from m d t M h sent = by (taken k d t from m) refl (taken_looks k d t from m)
     where
-      by : (a : Handled) → handle k d t from m ≡ a → LooksAlone a → Handles from d t M a
+      by : (a : Handled) → taken k d t from m ≡ a → LooksAlone a → Handles from d t M a
       by (Void outs) is looks = looks_walk outs d (Some t) M looks h
-      by (Took v outs) is looks = keeps.message e k d t v from m outs M h sent is
+      by (Took v outs) is looks = keeps.message e k d t v from m outs M h sent (taken_took k d t v from m outs is)
 
   -- the node is up with what was left, and the relation holds
   abbrev pub Ended : Ran → Disk → Seen → Type 0
@@ -165,11 +169,11 @@ module _ (hd : Header) (P : Seen → Type 0) (keeps : Keeps hd P) (e k : ℕ) wh
   all_ended [] h M sent holds = (M.sent, within_same M.sent, (refl, tt, holds))
   all_ended (m ∷ ms) h M sent holds =
       flat_on P e k r.outs t.outs (With M.sent (Ended r)) (Ended (handle_all k (m ∷ ms) h)) h.disk M
-      (flat_keeps P e k M.sent r.outs (Ended r) h.disk M (within_same M.sent) (one_ended k h M (handle k h.disk h.parts k m) (handled k m h.disk h.parts M holds sent.0)))
+      (flat_keeps P e k M.sent r.outs (Ended r) h.disk M (within_same M.sent) (one_ended k h M (taken k h.disk h.parts k m) (handled k m h.disk h.parts M holds sent.0)))
       (rest (all_ended ms r.here))
     where
       r : Ran
-      r = ran_handled k h (handle k h.disk h.parts k m)
+      r = ran_handled k h (taken k h.disk h.parts k m)
 
       t : Ran
       t = handle_all k ms r.here
