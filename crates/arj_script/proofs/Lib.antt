@@ -1,3 +1,4 @@
+pub mod Cutting
 pub mod Events
 pub mod Forms
 pub mod Headers

@@ -1,0 +1,12 @@
+-- The line in hand has the bytes so far behind it, and none of them ends it.
+use Rattle.std.proofs.Common.{◌≡◌, ◌≤◌, ◌++◌, length, take}
+use Rattle.arj_script.proofs.Lines.{HasNoEnd}
+use Rattle.arj_script.proofs.cutter.fill.Given as goal
+
+abbrev pub invariant-loop-at : goal.invariant-loop-at
+invariant-loop-at l = record {
+  size : length l.room.items ≡ 200;
+  short : l.count ≤ 200;
+  none : HasNoEnd (take l.at l.piece);
+  is : take l.count l.room.items ≡ take l.filled l.initial.room.items ++ take l.at l.piece;
+}
