@@ -13,6 +13,7 @@ mod opened;
 mod tally;
 mod tree;
 
+pub use action::Action;
 pub use arj_journal::Kind;
 pub use fault::TreeFault;
 pub use laws::refusals_are_the_protocols;

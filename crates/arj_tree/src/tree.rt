@@ -9,7 +9,7 @@ ghost use Rattle.arj_protocol.specs.Words.{uids_of, tops_of, path_of};
 ghost use Rattle.arj_protocol.specs.Words.kind as kinds;
 ghost use Rattle.arj_tree.specs.Faults.{begin_fault, use_fault, end_fault, begin_refusal, use_refusal, end_refusal};
 ghost use Rattle.arj_tree.specs.Open.{first_in};
-ghost use Rattle.arj_tree.specs.Stands.{IsPlace, with_branch, parent_in, path_of_branch, object_used};
+ghost use Rattle.arj_tree.specs.Stands.{AreNamed, IsPlace, with_branch, parent_in, path_of_branch, object_used};
 ghost use Rattle.arj_tree.specs.declared.fault.TreeFault.TheVariants as fault;
 
 use crate::TreeFault;
@@ -64,8 +64,19 @@ impl Tree {
         }
     }
 
-    // Whether this node began it in this incarnation, if anyone did.
-    fn is_own(&self, action: Uid) -> bool
+    /// The Uid of the action with a number, if this incarnation began it.
+    pub fn uid(&self, number: u64) -> Uid
+        ensures { result ≡ record { node = self.now.node; inc = self.now.inc; num = number } }
+    {
+        Uid {
+            node: u32::from(self.node),
+            inc: self.inc,
+            num: number,
+        }
+    }
+
+    /// Whether this node began it in this incarnation, if anyone did.
+    pub fn is_own(&self, action: Uid) -> bool
         ensures { result ≡ is_own action self.now }
     {
         action.node == u32::from(self.node) && action.inc == self.inc
@@ -86,8 +97,15 @@ impl Tree {
         }
     }
 
-    // An action.
-    fn action(&self, action: Uid) -> Option<&Action>
+    /// Each action's path ends with its Uid, whose number is its place. It does nothing when it runs.
+    pub fn are_named(&self)
+        ensures { AreNamed self.now.node self.now.inc 1 self.now.branches }
+    {
+        let _node = self.node;
+    }
+
+    /// An action. None exactly where this incarnation didn't begin it.
+    pub fn action(&self, action: Uid) -> Option<&Action>
         ensures found { option_copied result ≡ branch_of action self.now }
         ensures named { IfSome result (λ found. actor found.now.path ≡ action) }
         ensures single { IfSome result (λ found. is_serial found.now.kind ≡ true → length (uids_of found.now.path) ≡ 1) }
@@ -277,15 +295,15 @@ impl Tree {
         }
     }
 
-    // Whether the action's root has had as many actions as it may have.
-    fn has_many_actions(&self, action: &Action) -> bool
+    /// Whether the action's root has had as many actions as it may have.
+    pub fn has_many_actions(&self, action: &Action) -> bool
         ensures { result ≡ has_many_actions action.now self.now }
     {
         self.tallies.actions(action.path().root().num) >= u64::from(MOST_ACTIONS)
     }
 
-    // Whether the object would be one too many for the action's root.
-    fn has_many_objects(&self, action: &Action, x: u16) -> bool
+    /// Whether the object would be one too many for the action's root.
+    pub fn has_many_objects(&self, action: &Action, x: u16) -> bool
         ensures { result ≡ has_many_objects action.now x self.now }
     {
         let root = action.path().root().num;
@@ -356,6 +374,19 @@ impl Tree {
         if let Some(fault) = self.end_fault(outcome, action, &self.actions[place]) {
             return Err(fault);
         }
+        self.close(action, outcome)?;
+        Ok(())
+    }
+
+    /// Ends an action, whatever is open in it; the end of a nested action or of a constituent is listed at its root. It
+    /// changes nothing where this incarnation didn't begin it. Err is want of memory.
+    pub fn close(&mut self, action: Uid, outcome: End) -> Result<(), AllocError>
+        ensures ended { OnOk result (self.new ≡ ended_at action outcome self.old) }
+        ensures kept { OnErr result (self.new ≡ self.old) }
+    {
+        let Some(place) = self.place(action) else {
+            return Ok(());
+        };
         let path = *self.actions[place].path();
         self.list_end(&path, action, outcome)?;
         self.note_end(place, outcome);
