@@ -20,17 +20,17 @@ use Rattle.arj_disk_law.specs.Effects.{World, MaySend, after}
 use Rattle.arj_disk_law.specs.Messages as mail
 use Rattle.arj_disk_law.specs.State as disk
 use Rattle.arj_disk_law.specs.State.{State, is_gone}
-use Rattle.arj_disk_law.proofs.Base.{never, put_same, put_other}
+use Rattle.arj_disk_law.proofs.Base.{never}
 use Rattle.arj_view_law.specs.Seen.{Post, Seen, up, said, posted}
 use Rattle.arj_view_law.specs.Walks.{Walks, Up}
 use Rattle.arj_disk_view_law.specs.Deciding.{SeesRecords}
-use Rattle.arj_disk_view_law.specs.Sees.{SeesDisks, SeesCoord, IsSeenByDisks, Works, WorksBy, TopsAreAborted}
-use Rattle.arj_disk_view_law.proofs.DecidingSteps.{actions_may_halt, ends_may_be_told}
-use Rattle.arj_disk_view_law.proofs.Doings.{doing_other, doing_tree}
-use Rattle.arj_disk_view_law.proofs.Ended.{HasEnded, tree_ended, ended_here, ended_coord, calm_seen}
+use Rattle.arj_disk_view_law.specs.Sees.{Kinds, SeesDisks, SeesCoord, IsSeenByDisks, Works, WorksBy, TopsAreAborted}
+use Rattle.arj_disk_view_law.proofs.DecidingSteps.{ends_may_be_told}
+use Rattle.arj_disk_view_law.proofs.Ended.{HasEnded, ended_here}
+use Rattle.arj_disk_view_law.proofs.Ending.{one_tree, one_halts}
 use Rattle.arj_disk_view_law.proofs.Frames.{node_here, says_seen, posts_seen, sends_seen}
 use Rattle.arj_disk_view_law.proofs.HeardWalks.{is_say, say_walk}
-use Rattle.arj_disk_view_law.proofs.TopFrames.{branch_at, apart_number}
+use Rattle.arj_disk_view_law.proofs.TopFrames.{branch_at}
 
 -- an open top isn't at its end
 works_open : (x : ℕ) (S : State) (t : ℕ) (now : Now) → WorksBy x S t now → is_gone (S.stage t) ≡ false
@@ -40,23 +40,20 @@ works_open x S t (Committing (Voting p left)) w = ap is_gone w
 works_open x S t (Committing (Preparing p left)) w = ap is_gone w.stage
 works_open x S t (Committing (Confirming p)) w = ap is_gone w.stage
 
-top_open : (x : ℕ) (tops : ℕ → Bool) (S : State) (t : ℕ) (k : Kind) (now : Now) → tops t ≡ true → Works x tops S t k now → is_gone (S.stage t) ≡ false
+top_open : (x : ℕ) (tops : Kinds) (S : State) (t : ℕ) (k : Kind) (now : Now) → tops.is_top t ≡ true → Works x tops S t k now → is_gone (S.stage t) ≡ false
 top_open x tops S t kind.Nested now top w = absurd (never top w)
 top_open x tops S t kind.Serial now top w = absurd (never top w.0)
 top_open x tops S t kind.Top now top w = works_open x S t now w.1
 top_open x tops S t kind.Independent now top w = works_open x S t now w.1
 top_open x tops S t kind.Constituent now top w = works_open x S t now w.1
 
-module _ (x : ℕ) (tops : ℕ → Bool) (e k : ℕ) (d : Disk) (t : Parts) (act : Uid) (why : Cause) (b : Branch) (q : Doing) (M : Seen) (found : branch_of act t.coord.tree ≡ Some b) (unended : b.ended ≡ None) (at_work : doing_of act t.coord ≡ Some q)
-    (unrecorded : at_uid act d.intents ≡ None) (top : tops (uid_number act) ≡ true) (W : World) (sees : SeesDisks x tops W (up k d t M)) where
+module _ (x : ℕ) (tops : Kinds) (e k : ℕ) (d : Disk) (t : Parts) (act : Uid) (why : Cause) (b : Branch) (q : Doing) (M : Seen) (found : branch_of act t.coord.tree ≡ Some b) (unended : b.ended ≡ None) (at_work : doing_of act t.coord ≡ Some q)
+    (unrecorded : at_uid act d.intents ≡ None) (top : tops.is_top (uid_number act) ≡ true) (W : World) (sees : SeesDisks x tops W (up k d t M)) where
   abbrev P : Seen → Type 0
   P = IsSeenByDisks x tops
 
   abbrev C : Coord
   C = ended act ending.Abort t.coord
-
-  abbrev c0 : Coord
-  c0 = record t.coord { tree = ended_at act ending.Abort t.coord.tree }
 
   abbrev LaterWorld : World
   LaterWorld = after W (machine.Halt (uid_number act))
@@ -73,26 +70,11 @@ module _ (x : ℕ) (tops : ℕ → Bool) (e k : ℕ) (d : Disk) (t : Parts) (act
   records : SeesRecords k d.intents W.disk
   records = sees.records k (record { number = k; disk = d; live = Some t }) (node_here M k (record { number = k; disk = d; live = Some t }))
 
-  first : HasEnded act b ending.Abort t.coord.tree (ended_at act ending.Abort t.coord.tree)
-  first = tree_ended act b ending.Abort t.coord.tree found
-
   has_ended : HasEnded act b ending.Abort t.coord.tree C.tree
-  has_ended = subst (λ v. HasEnded act b ending.Abort t.coord.tree v) (sym (doing_tree act (λ (r : Doing). record r { now = Idle }) c0)) first
-
-  doing_first : (w : Uid) → doing_of w c0 ≡ doing_of w t.coord
-  doing_first w = let en : HasEnded act b ending.Abort t.coord.tree (ended_at act ending.Abort t.coord.tree) = first in
-      λ i. if (w.node == en.node i) && (w.inc == en.inc i) then at_place w.num t.coord.doings else None
-
-  doings_stay : (w : Uid) → w ≢ act → doing_of w C ≡ doing_of w t.coord
-  doings_stay w other = doing_other act w (λ (r : Doing). record r { now = Idle }) c0 q (doing_first act ∙ at_work) other ∙ doing_first w
-
-  stages : (w : Uid) → w ≢ act → LaterWorld.disk.stage (uid_number w) ≡ W.disk.stage (uid_number w)
-  stages w other = put_other (uid_number act) disk.Gone W.disk.stage (uid_number w) (apart_number act w other)
+  has_ended = one_tree t.coord act b q ending.Abort found at_work
 
   halted_seen : SeesDisks x tops LaterWorld (up k d (with_coord t C) M)
-  halted_seen = let h = actions_may_halt k W (uid_number act) d.intents records in
-      calm_seen x k tops W M d t act (machine.Halt (uid_number act)) d.intents C sees here tt h.0 refl stages h.1 (λ m n apart s. record { sorted = s.sorted; own = s.own; is = s.is })
-      (ended_coord x k d.inc tops t.coord C W.disk LaterWorld.disk act b ending.Abort mine found has_ended doings_stay stages refl refl refl (ap is_gone (put_same (uid_number act) disk.Gone W.disk.stage)))
+  halted_seen = one_halts t.coord act b q ending.Abort found at_work x k tops W M d t unrecorded sees
 
   may_tell : (n : ℕ) → MaySend LaterWorld (mail.ToldAbort (uid_number act) n)
   may_tell n = ends_may_be_told k W act n d.intents records here (λ i there. absurd (no_record i there)) (λ bare. absurd (never (sees.whole.core.bare.gone (uid_number act) bare) (top_open x tops W.disk (uid_number act) b.kind q.now top works)))

@@ -1,57 +1,106 @@
 -- A decision, walked through at its coordinator.
-use Rattle.std.proofs.Common.{◌≡◌, ◌≢◌, ℕ, ◌==◌, ◌&&◌, ◌||◌, List, [], ◌∷◌, ◌++◌, Bool, true, false, Option, Some, None, refl, sym, ◌∙◌, ap, subst, inl, inr, map}
-use Rattle.std.specs.Prelude.{if◌then◌else◌}
+use Rattle.std.proofs.Common.{◌≡◌, ◌≢◌, ◌⊎◌, ℕ, ◌==◌, ◌&&◌, ◌||◌, List, [], ◌∷◌, ◌++◌, Bool, true, false, Option, Some, None, refl, sym, ◌∙◌, ap, subst, inl, inr, ⊎_elim, map}
+use Rattle.std.specs.Prelude.{if◌then◌else◌, not, is_some, option_map}
 use Rattle.std.proofs.lemmas.List.{append_assoc}
-use Rattle.arj_protocol.specs.Words.{Uid, End, Kind}
+use Rattle.std.specs.List.{AllByRecursion}
+use Rattle.arj_protocol.specs.Words.{Uid, End, Kind, ObjectState, object}
 use Rattle.arj_protocol.specs.Words.body
 use Rattle.arj_protocol.specs.Words.ending
 use Rattle.arj_protocol.specs.Words.kind
 use Rattle.arj_protocol.specs.Words.message
 use Rattle.arj_protocol.specs.Commit as commit
-use Rattle.arj_protocol.specs.Commit.{Confirming, participants, has_record}
-use Rattle.arj_protocol.specs.Coord.{Coord, Doing, Now, Idle, Committing, doing_of, on_doing, on_root}
+use Rattle.arj_protocol.specs.Commit.{Confirming, changed_of, participants, has_record}
+use Rattle.arj_protocol.specs.Coord.{Coord, Doing, Now, Idle, Committing, Root, doing_of, on_doing, on_root, root_at}
 use Rattle.arj_protocol.specs.Effect.{Disk, Effect, Do, PutIntent, Intent, Before, After, InPart}
-use Rattle.arj_protocol.specs.Ending.{says, say_for, decided, awaits, decided_told, tell, record_work, root_after}
+use Rattle.arj_protocol.specs.Ending.{says, say_for, decided, awaits, decided_told, tell, record_work, root_after, states_after}
 use Rattle.arj_protocol.specs.Node.{Parts, with_coord}
 use Rattle.arj_protocol.specs.Order as order
-use Rattle.arj_protocol.specs.Order.{at_uid, put_uid, uid_number}
+use Rattle.arj_protocol.specs.Order.{at_uid, put_uid, put_number, uid_number}
 use Rattle.arj_protocol.specs.Says.{AreAll}
 use Rattle.arj_protocol.specs.Step.{Node}
-use Rattle.arj_protocol.specs.Tree.{Tree, root_of, ended_at, is_own, at_place}
+use Rattle.arj_protocol.specs.Tree.{Tree, root_of, ended_at, is_own, is_open, is_open_branch, at_place}
 use Rattle.arj_protocol.specs.World.{numbered}
+use Rattle.arj_disk_law.specs.Core.{Core}
 use Rattle.arj_disk_law.specs.Effects as machine
 use Rattle.arj_disk_law.specs.Effects.{World, Allowed, run, after}
 use Rattle.arj_disk_law.specs.Messages as mail
 use Rattle.arj_disk_law.specs.State as disk
-use Rattle.arj_disk_law.specs.State.{State, naming, is_gone}
-use Rattle.arj_disk_law.specs.Words.{In, put}
-use Rattle.arj_disk_law.proofs.Base.{never, put_same, put_other, test_same}
+use Rattle.arj_disk_law.specs.State.{State, Hold, Packed, Known, Listed, IsExcused, naming, is_gone, undecided, target, open_by, last_entry, effective_by}
+use Rattle.arj_disk_law.specs.Words.{In, has, put}
+use Rattle.arj_disk_law.proofs.Base.{never, never_some, some_is, put_same, put_other, test_same}
 use Rattle.arj_view_law.specs.Seen.{Post, Seen, up, said, posted}
 use Rattle.arj_view_law.specs.Walks.{Walks, Stops, Up}
 use Rattle.arj_disk_view_law.specs.Asking.{SeesConfirming}
 use Rattle.arj_disk_view_law.specs.Deciding.{SeesRecords, Stills}
-use Rattle.arj_disk_view_law.specs.Sees.{SeesDisks, SeesCoord, IsSeenByDisks, Works, WorksBy, WaitsForNaming, ConfirmedIsHeard}
+use Rattle.arj_disk_view_law.specs.Pairs.{Among, packed}
+use Rattle.arj_disk_view_law.specs.Plans.{plan_at, plan_by}
+use Rattle.arj_disk_view_law.specs.Sees.{Kinds, SeesDisks, SeesCoord, SeesNotes, IsSettled, IsKnown, KnowsRoot, KnowsNow, IsLater, is_awaited_by, IsSeenByDisks, Works, WorksBy, WaitsForNaming, ConfirmedIsHeard}
 use Rattle.arj_disk_view_law.proofs.DecidingSteps.{takes_part, record_is_written, decision_is_made, commits_are_undecided, bare_commit_ends, decision_tells}
 use Rattle.arj_disk_view_law.proofs.Doings.{doing_here, doing_other, doing_tree}
-use Rattle.arj_disk_view_law.proofs.Ended.{HasEnded, tree_ended, ended_coord, calm_seen}
+use Rattle.arj_disk_view_law.proofs.Ended.{HasEnded, tree_ended, ended_coord, ended_noted, calm_seen}
 use Rattle.arj_disk_view_law.proofs.Frames.{node_here, coord_same, says_seen, posts_seen, sends_seen}
 use Rattle.arj_disk_view_law.proofs.Halts.{stops_seen}
 use Rattle.arj_disk_view_law.proofs.HeardWalks.{is_say, say_walk}
 use Rattle.arj_disk_view_law.proofs.Keys as keys
+use Rattle.arj_disk_view_law.proofs.Later.{effects_are_later}
+use Rattle.arj_disk_view_law.proofs.Notes.{all_to, all_put, known_at, root_later, notes_later, doing_telling, doing_roots}
 use Rattle.arj_disk_view_law.proofs.Planned.{has_same}
 use Rattle.arj_disk_view_law.proofs.TopFrames.{branch_at, apart_number}
 
 -- an open top that waits for naming
-confirming_of : (x : ℕ) (tops : ℕ → Bool) (S : State) (t : ℕ) (k : Kind) (now : Now) (p : commit.Plan) → tops t ≡ true → now ≡ Committing (Confirming p) → Works x tops S t k now → SeesConfirming x S t p
+confirming_of : (x : ℕ) (tops : Kinds) (S : State) (t : ℕ) (k : Kind) (now : Now) (p : commit.Plan) → tops.is_top t ≡ true → now ≡ Committing (Confirming p) → Works x tops S t k now → SeesConfirming x S t p
 confirming_of x tops S t kind.Nested now p top is w = absurd (never top w)
 confirming_of x tops S t kind.Serial now p top is w = absurd (never top w.0)
 confirming_of x tops S t kind.Top now p top is w = subst (λ n. WorksBy x S t n) is w.1
 confirming_of x tops S t kind.Independent now p top is w = subst (λ n. WorksBy x S t n) is w.1
 confirming_of x tops S t kind.Constituent now p top is w = subst (λ n. WorksBy x S t n) is w.1
 
+-- ---- what a coordinator has taken note of
+
+-- a record of a top that is open still
+put_noted : (x : ℕ) (W : World) (intents : List (Uid × Intent)) (c : Coord) (u : Uid) (i : Intent) → is_open u c.tree ≡ true → SeesNotes x intents c W → SeesNotes x (put_uid u i intents) c W
+put_noted x W intents c u i opened n = record {
+  settled = λ w j there. ⊎_elim (λ same. inl (ap (λ a. is_open a c.tree) same.0 ∙ opened)) (λ other. n.settled w j other.1) (keys.put_cases w u i j intents there);
+  taken = n.taken;
+  roots = n.roots;
+  plans = n.plans;
+}
+
+-- a confirmed top that wrote has sent its state to a store
+writers_have_targets : (S : State) (t : ℕ) → Core S → S.conf t ≡ true → undecided S t ≡ true → is_some (S.plan t).writes ≡ true → (s : ℕ) × (target (S.plan t) s ≡ true)
+writers_have_targets S t core conf open_yet writes = by S.entry_pend refl
+  where
+    got_target : (s : ℕ) → S.got t s ≡ true → (s : ℕ) × (target (S.plan t) s ≡ true)
+    got_target s got = (s, core.coordinators.got_target t s got)
+
+    by : (o : Option Hold) → S.entry_pend ≡ o → (s : ℕ) × (target (S.plan t) s ≡ true)
+    by None is = ⊎_elim (λ got. got_target core.pending.held.0 got) (λ (x : IsExcused S t core.pending.held.0). absurd (never_some x.there is)) (core.covered.stores t core.pending.held.0 conf (inl open_yet) writes (inl core.pending.held.1))
+    by (Some h) is = listed core.pending.held.0 (inl core.pending.held.1)
+      where
+        new_one : (s : ℕ) × (has s h.new.content ≡ true)
+        new_one = core.pending.stores h is
+
+        excused : (s : ℕ) → IsExcused S t s → (h.top ≡ t) ⊎ (disk.decided S h.top ≡ true)
+        excused s x = let same : x.by_entry ≡ h = some_is x.there is in subst (λ (g : Hold). (g.top ≡ t) ⊎ (disk.decided S g.top ≡ true)) same (⊎_elim (λ a. inl a) (λ b. inr b.0) x.whose)
+
+        -- a listed store of the entry that is prepared
+        of_new : Listed S new_one.0 → (s : ℕ) × (target (S.plan t) s ≡ true)
+        of_new on = ⊎_elim (λ got. got_target new_one.0 got) (λ (x : IsExcused S t new_one.0). absurd (never new_one.1 (ap (λ (g : Hold). has new_one.0 g.new.content) (sym (some_is x.there is)) ∙ x.lacks))) (core.covered.stores t new_one.0 conf (inl open_yet) writes on)
+
+        last_is : disk.decided S h.top ≡ true → h.new ≡ last_entry S
+        last_is done = sym (ap (λ b. if b then h.new else S.entry) done) ∙ ap (λ o. effective_by (disk.decided S) (λ e. e) o S.entry) (sym is) ∙ core.effective.entry
+
+        by_whose : (h.top ≡ t) ⊎ (disk.decided S h.top ≡ true) → (has new_one.0 S.entry.content ≡ true) ⊎ (S.got h.top new_one.0 ≡ true) → (s : ℕ) × (target (S.plan t) s ≡ true)
+        by_whose w (inl on) = of_new (inl on)
+        by_whose (inl own) (inr got) = got_target new_one.0 (ap (λ z. S.got z new_one.0) (sym own) ∙ got)
+        by_whose (inr done) (inr got) = of_new (inr (ap (λ (e : Packed). has new_one.0 e.content) (sym (last_is done)) ∙ new_one.1))
+
+        listed : (s : ℕ) → Listed S s → (s : ℕ) × (target (S.plan t) s ≡ true)
+        listed s on = ⊎_elim (λ got. got_target s got) (λ x. by_whose (excused s x) (core.pending.new h new_one.0 is new_one.1)) (core.covered.stores t s conf (inl open_yet) writes on)
+
 -- ---- who is told
 
-module _ (x : ℕ) (tops : ℕ → Bool) (e k : ℕ) (d : Disk) (v : Parts) (u root : Uid) (p : commit.Plan) where
+module _ (x : ℕ) (tops : Kinds) (e k : ℕ) (d : Disk) (v : Parts) (u root : Uid) (p : commit.Plan) where
   abbrev P : Seen → Type 0
   P = IsSeenByDisks x tops
 
@@ -102,7 +151,7 @@ module _ (x : ℕ) (tops : ℕ → Bool) (e k : ℕ) (d : Disk) (v : Parts) (u r
 
 -- ---- the decision
 
-module _ (x : ℕ) (tops : ℕ → Bool) (e k : ℕ) (d : Disk) (t : Parts) (act : Uid) (p0 : commit.Plan) (M : Seen) (waits : WaitsForNaming t d.intents act p0) (top : tops (uid_number act) ≡ true) (W : World) (sees : SeesDisks x tops W (up k d t M))
+module _ (x : ℕ) (tops : Kinds) (e k : ℕ) (d : Disk) (t : Parts) (act : Uid) (p0 : commit.Plan) (M : Seen) (waits : WaitsForNaming t d.intents act p0) (top : tops.is_top (uid_number act) ≡ true) (W : World) (sees : SeesDisks x tops W (up k d t M))
     (answered : In (mail.Confirmed (uid_number act)) W.sent) where
   abbrev Q : Seen → Type 0
   Q = IsSeenByDisks x tops
@@ -174,6 +223,58 @@ module _ (x : ℕ) (tops : ℕ → Bool) (e k : ℕ) (d : Disk) (t : Parts) (act
       ∙ doing_other act w (λ (r : Doing). record r { now = Idle }) c0 waits.doing at_first other
       ∙ doing_first w
 
+  -- what the coordinator has taken note of
+  notes : SeesNotes x d.intents t.coord W
+  notes = sees.notes k (record { number = k; disk = d; live = Some t }) t (node_here M k (record { number = k; disk = d; live = Some t })) refl
+
+  open_here : is_open act t.coord.tree ≡ true
+  open_here = ap is_open_branch waits.found ∙ ap (λ (o : Option End). not (is_some o)) waits.unended
+
+  -- the coordinator but for what it awaits
+  telling_first : c3.telling ≡ t.coord.telling
+  telling_first = doing_telling act (λ (r : Doing). record r { took = participants p }) c1 ∙ doing_telling act (λ (r : Doing). record r { now = Idle }) c0
+
+  roots_first : c2.roots ≡ t.coord.roots
+  roots_first = doing_roots act (λ (r : Doing). record r { took = participants p }) c1 ∙ doing_roots act (λ (r : Doing). record r { now = Idle }) c0
+
+  tellings_stay : (w : Uid) → w ≢ act → at_uid w C.telling ≡ at_uid w t.coord.telling
+  tellings_stay w other = by (has_record p)
+    where
+      by : (b : Bool) → at_uid w (let a = (if b then record c3 { telling = put_uid act (record { root = root_of p.path; nodes = participants p }) c3.telling } else c3) in a.telling) ≡ at_uid w t.coord.telling
+      by true = keys.put_other w act (record { root = root_of p.path; nodes = participants p }) c3.telling other ∙ ap (λ ts. at_uid w ts) telling_first
+      by false = ap (λ ts. at_uid w ts) telling_first
+
+  telling_here : has_record p ≡ true → at_uid act C.telling ≡ Some (record { root = root_of p.path; nodes = participants p })
+  telling_here has = ap (λ b. at_uid act (let a = (if b then record c3 { telling = put_uid act (record { root = root_of p.path; nodes = participants p }) c3.telling } else c3) in a.telling)) has ∙ keys.put_same act (record { root = root_of p.path; nodes = participants p }) c3.telling
+
+  doing_now : doing_of act C ≡ Some (record waits.doing { now = Idle; took = participants p })
+  doing_now = awaits_same (λ r ds. if is_own act r then at_place act.num ds else None) c3
+      ∙ doing_here act (λ (r : Doing). record r { took = participants p }) c1 (record waits.doing { now = Idle }) (doing_here act (λ (r : Doing). record r { now = Idle }) c0 waits.doing (doing_first act ∙ waits.at_work))
+
+  -- what it prepared is known from now on
+  roots_known : (V : World) → IsLater W V → ((w : disk.Packed) → (plan_at x p).writes ≡ Some w → Known V.disk w) → AllByRecursion (λ (r : ℕ × Root). KnowsRoot x V r.1) C.roots
+  roots_known V later writes = by (has_record p)
+    where
+      all : AllByRecursion (λ (r : ℕ × Root). KnowsRoot x V r.1) c2.roots
+      all = subst (λ rs. AllByRecursion (λ (r : ℕ × Root). KnowsRoot x V r.1) rs) (sym roots_first) (all_to (λ (r : ℕ × Root). KnowsRoot x W r.1) (λ (r : ℕ × Root). KnowsRoot x V r.1) (λ r h. root_later x W V later r.1 h) t.coord.roots notes.roots)
+
+      old : KnowsRoot x V (root_at (root_of p.path) c2)
+      old = known_at x V (root_of p.path) c2 all
+
+      changed_known : (st : ObjectState) → Among st p.changed → IsKnown x V st
+      changed_known st among of = let one = waits.changes x st among of in writes (packed st) (ap (λ o. (plan_by o (changed_of x p)).writes) one.uses ∙ ap (λ o. option_map packed o) one.found)
+
+      put_all : (ss : List ObjectState) (states : List (ℕ × ObjectState)) → ((st : ObjectState) → Among st ss → IsKnown x V st) → AllByRecursion (λ (s : ℕ × ObjectState). IsKnown x V s.1) states → AllByRecursion (λ (s : ℕ × ObjectState). IsKnown x V s.1) (states_after ss states)
+      put_all [] states each h = h
+      put_all (s ∷ ss) states each h = put_all ss (put_number s.uid.num s states) (λ st among. each st (inr among)) (all_put (IsKnown x V) s.uid.num s states (each s (inl refl)) h)
+
+      after_all : AllByRecursion (λ (r : ℕ × Root). KnowsRoot x V r.1) c3.roots
+      after_all = all_put (KnowsRoot x V) (root_of p.path).num (root_after p (root_at (root_of p.path) c2)) c2.roots (record { joined = old.joined; states = put_all p.changed (root_at (root_of p.path) c2).states changed_known old.states }) all
+
+      by : (b : Bool) → AllByRecursion (λ (r : ℕ × Root). KnowsRoot x V r.1) (let a = (if b then record c3 { telling = put_uid act (record { root = root_of p.path; nodes = participants p }) c3.telling } else c3) in a.roots)
+      by true = after_all
+      by false = after_all
+
   -- the line and what is told
   says_commit : AreAll is_say (says act body.Committed t.coord)
   says_commit = by (doing_of act t.coord)
@@ -209,9 +310,12 @@ module _ (x : ℕ) (tops : ℕ → Bool) (e k : ℕ) (d : Disk) (t : Parts) (act
       mine1 : SeesCoord x k d.inc tops t.coord LaterWorld.disk
       mine1 = coord_same x k d.inc tops t.coord W.disk LaterWorld.disk refl refl refl refl mine
 
+      notes1 : SeesNotes x (put_uid act i0 d.intents) t.coord LaterWorld
+      notes1 = put_noted x LaterWorld d.intents t.coord act i0 open_here (notes_later x W LaterWorld (effects_are_later W (machine.Intend (uid_number act) (participants p) ∷ []) (written.0, tt) sees.whole) d.intents t.coord notes)
+
       s1 : SeesDisks x tops LaterWorld (up k d1 t M)
       s1 = calm_seen x k tops W M d t act (machine.Intend (uid_number act) (participants p)) (put_uid act i0 d.intents) t.coord sees here written.0 written.1 refl (λ w other. refl) written.2
-          (λ m n apart s. records_apart LaterWorld.disk (Some (participants p)) refl m n apart s) mine1
+          (λ m n apart s. records_apart LaterWorld.disk (Some (participants p)) refl m n apart s) mine1 notes1
 
       made : Allowed LaterWorld (machine.Decide (uid_number act)) × Stills LaterWorld (machine.Decide (uid_number act)) × SeesRecords k (put_uid act i0 d.intents) (after LaterWorld (machine.Decide (uid_number act))).disk
       made = decision_is_made k LaterWorld act i0 (put_uid act i0 d.intents) written.2 (keys.put_same act i0 d.intents) (commits_are_undecided x W.disk (uid_number act) p sees.whole.core confirming)
@@ -219,13 +323,19 @@ module _ (x : ℕ) (tops : ℕ → Bool) (e k : ℕ) (d : Disk) (t : Parts) (act
       stages : (w : Uid) → w ≢ act → LastWorld.disk.stage (uid_number w) ≡ LaterWorld.disk.stage (uid_number w)
       stages w other = put_other (uid_number act) disk.Gone LaterWorld.disk.stage (uid_number w) (apart_number act w other)
 
+      later_all : IsLater W LastWorld
+      later_all = effects_are_later W (machine.Intend (uid_number act) (participants p) ∷ machine.Decide (uid_number act) ∷ []) (written.0, (made.0, tt)) sees.whole
+
+      told : Recorded x tops e k d1 (with_coord t C) act (root_of p.path) p LastWorld.disk
+      told = record { done = ap (λ b. b || disk.decided LaterWorld.disk (uid_number act)) (test_same (uid_number act)); there = put_same (uid_number act) (Some (participants p)) W.disk.intent }
+
       s2 : SeesDisks x tops LastWorld (up k d1 (with_coord t C) M)
       s2 = calm_seen x k tops LaterWorld M d1 t act (machine.Decide (uid_number act)) (put_uid act i0 d.intents) C s1 here made.0 made.1 refl stages made.2
           (λ m n apart s. record { sorted = s.sorted; own = s.own; is = s.is })
           (ended_coord x k d.inc tops t.coord C LaterWorld.disk LastWorld.disk act waits.branch ending.Commit mine1 waits.found has_ended doings_stay stages refl refl refl (ap is_gone (put_same (uid_number act) disk.Gone LaterWorld.disk.stage)))
-
-      told : Recorded x tops e k d1 (with_coord t C) act (root_of p.path) p LastWorld.disk
-      told = record { done = ap (λ b. b || disk.decided LaterWorld.disk (uid_number act)) (test_same (uid_number act)); there = put_same (uid_number act) (Some (participants p)) W.disk.intent }
+          (ended_noted x (put_uid act i0 d.intents) t.coord C LastWorld act waits.branch ending.Commit (notes_later x LaterWorld LastWorld (effects_are_later LaterWorld (machine.Decide (uid_number act) ∷ []) ((made.0.0, made.0.1), tt) s1.whole) (put_uid act i0 d.intents) t.coord notes1) waits.found has_ended tellings_stay doings_stay
+          (λ i there. let same : i0 ≡ i = some_is (keys.put_same act i0 d.intents) there in subst (λ (j : Intent). IsSettled act j C.telling LastWorld) same (record { done = told.done; awaited = λ m on. inl (ap (is_awaited_by m) (telling_here has) ∙ on) }))
+          (λ r is. let same = some_is doing_now is in ((λ m on. inl told.done), subst (λ (z : Doing). KnowsNow x LastWorld z.now) same tt)) (roots_known LastWorld later_all (λ w writes. inl (ap (λ (g : disk.Plan). g.writes) confirming.plan ∙ writes))))
 
       tolds : (N : Seen) → SeesDisks x tops LastWorld (up k d1 (with_coord t C) N) → Walks Q e k (map (decided_told (root_of p.path) act p) p.sent) (Up Q k (with_coord t C)) d1 N
       tolds N s = recorded_told x tops e k d1 (with_coord t C) act (root_of p.path) p has p.sent N LastWorld told s
@@ -245,10 +355,23 @@ module _ (x : ℕ) (tops : ℕ → Bool) (e k : ℕ) (d : Disk) (t : Parts) (act
       stages : (w : Uid) → w ≢ act → LaterWorld.disk.stage (uid_number w) ≡ W.disk.stage (uid_number w)
       stages w other = put_other (uid_number act) disk.Gone W.disk.stage (uid_number w) (apart_number act w other)
 
+      later : IsLater W LaterWorld
+      later = effects_are_later W (machine.EndBare (uid_number act) ∷ []) (ends.0, tt) sees.whole
+
+      -- who needs no record wrote nothing of the object
+      untargeted : (w : disk.Packed) → (plan_at x p).writes ≡ Some w → ⊥
+      untargeted w writes =
+          let open_yet : undecided W.disk (uid_number act) ≡ true = (λ i. open_by (commits_are_undecided x W.disk (uid_number act) p sees.whole.core confirming i) (confirming.stage i) (W.disk.intent (uid_number act))) in
+          let taken = (sees.whole.mail (mail.Confirmed (uid_number act)) answered).1 open_yet in
+          let written = ap (λ (g : disk.Plan). g.writes) confirming.plan ∙ writes in
+          ⊎_elim (λ conf. let one = writers_have_targets W.disk (uid_number act) sees.whole.core conf open_yet (ap is_some written) in never one.1 (ends.0.untouched one.0)) (λ light. never_some written (sees.whole.core.light.plain (uid_number act) light)) taken
+
       s1 : SeesDisks x tops LaterWorld (up k d (with_coord t C) M)
       s1 = calm_seen x k tops W M d t act (machine.EndBare (uid_number act)) d.intents C sees here ends.0 ends.1 refl stages ends.2
           (λ m n apart s. record { sorted = s.sorted; own = s.own; is = s.is })
           (ended_coord x k d.inc tops t.coord C W.disk LaterWorld.disk act waits.branch ending.Commit mine waits.found has_ended doings_stay stages refl refl refl (ap is_gone (put_same (uid_number act) disk.Gone W.disk.stage)))
+          (ended_noted x d.intents t.coord C LaterWorld act waits.branch ending.Commit (notes_later x W LaterWorld later d.intents t.coord notes) waits.found has_ended tellings_stay doings_stay (λ i there. absurd (never_some there waits.unrecorded))
+          (λ r is. let same = some_is doing_now is in ((λ m on. inr (put_same (uid_number act) true W.disk.bare)), subst (λ (z : Doing). KnowsNow x LaterWorld z.now) same tt)) (roots_known LaterWorld later (λ w writes. absurd (untargeted w writes))))
 
       tolds : (N : Seen) → SeesDisks x tops LaterWorld (up k d (with_coord t C) N) → Walks Q e k (map (decided_told (root_of p.path) act p) p.sent) (Up Q k (with_coord t C)) d N
       tolds N s = bare_told x tops e k d (with_coord t C) act (root_of p.path) p has_not refl p.sent N LaterWorld (put_same (uid_number act) true W.disk.bare) s

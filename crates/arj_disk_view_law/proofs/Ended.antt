@@ -1,19 +1,22 @@
 -- A coordinator that has ended one of its tops, and effects of coordinators that open nothing.
 use Rattle.std.proofs.Common.{◌≡◌, ◌≢◌, ◌⊎◌, ◌<◌, ℕ, zero, suc, ◌==◌, ◌&&◌, List, [], ◌∷◌, Bool, true, false, Option, Some, None, refl, sym, ◌∙◌, ap, subst, inl, inr, ⊎_elim, slice_set, length, eqb-true, ◌++◌}
 use Rattle.std.specs.Prelude.{if◌then◌else◌, nat_le}
+use Rattle.std.specs.List.{AllByRecursion}
 use Rattle.std.proofs.lemmas.Bool.{and_parts}
 use Rattle.arj_base.proofs.Uids.{uid_cases}
 use Rattle.arj_protocol.specs.Words.{Uid, End, uids_of}
-use Rattle.arj_protocol.specs.Coord.{Coord, Doing, doing_of}
+use Rattle.arj_protocol.specs.Coord.{Coord, Doing, Root, doing_of}
 use Rattle.arj_protocol.specs.Effect.{Disk, Intent}
 use Rattle.arj_protocol.specs.Naming.{Naming}
 use Rattle.arj_protocol.specs.Node.{Parts, with_coord}
-use Rattle.arj_protocol.specs.Order.{uid_number}
+use Rattle.arj_protocol.specs.Order as order
+use Rattle.arj_protocol.specs.Order.{at_uid, uid_number}
 use Rattle.arj_protocol.specs.Step.{Node}
 use Rattle.arj_protocol.specs.Tree.{Tree, Branch, branch_of, is_open_branch, is_own, at_place, set_place, ended_at, ended_branch, with_family, family_of, root_of}
 use Rattle.arj_protocol.proofs.Maps.{place_other}
 use Rattle.arj_disk_law.specs.Effects as machine
 use Rattle.arj_disk_law.specs.Effects.{World, Allowed, after}
+use Rattle.arj_disk_law.specs.State as disk
 use Rattle.arj_disk_law.specs.State.{State, is_gone}
 use Rattle.arj_disk_law.proofs.Base.{test_same, never}
 use Rattle.arj_disk_law.proofs.Keeps.{effect_keeps}
@@ -22,10 +25,11 @@ use Rattle.arj_view_law.proofs.Happens.{place_same}
 use Rattle.arj_disk_view_law.specs.Deciding.{SeesRecords, IsCalm}
 use Rattle.arj_disk_view_law.specs.Entries.{SeesEntry}
 use Rattle.arj_disk_view_law.specs.Stores.{SeesStore}
-use Rattle.arj_disk_view_law.specs.Sees.{IsFuture, SeesDisks, SeesCoord, SeesDown, SeesConfirmed, Works}
+use Rattle.arj_disk_view_law.specs.Sees.{Kinds, IsFuture, SeesDisks, SeesCoord, SeesNotes, IsSettled, KnowsNow, KnowsRoot, is_awaited_by, IsLater, SeesDown, SeesConfirmed, Works}
 use Rattle.arj_disk_view_law.proofs.DecidingSteps.{stores_stay_calm, entry_stays_calm}
 use Rattle.arj_disk_view_law.proofs.Frames.{nodes_to, works_same, claim_here}
 use Rattle.arj_disk_view_law.proofs.Later.{effects_are_later}
+use Rattle.arj_disk_view_law.proofs.Notes.{fixed_later, notes_later}
 use Rattle.arj_disk_view_law.proofs.TopFrames.{branch_at, not_future}
 
 -- ---- the tree
@@ -91,7 +95,7 @@ module _ (u : Uid) (b : Branch) (how : End) (t v : Tree) (found : branch_of u t 
 
 -- ---- the coordinator
 
-pub ended_coord : (x k inc : ℕ) (tops : ℕ → Bool) (c C : Coord) (S V : State) (u : Uid) (b : Branch) (how : End) → SeesCoord x k inc tops c S → branch_of u c.tree ≡ Some b → HasEnded u b how c.tree C.tree
+pub ended_coord : (x k inc : ℕ) (tops : Kinds) (c C : Coord) (S V : State) (u : Uid) (b : Branch) (how : End) → SeesCoord x k inc tops c S → branch_of u c.tree ≡ Some b → HasEnded u b how c.tree C.tree
     → ((w : Uid) → w ≢ u → doing_of w C ≡ doing_of w c) → ((w : Uid) → w ≢ u → V.stage (uid_number w) ≡ S.stage (uid_number w)) → V.begun ≡ S.begun → V.plan ≡ S.plan → V.got ≡ S.got → is_gone (V.stage (uid_number u)) ≡ true
     → SeesCoord x k inc tops C V
 ended_coord x k inc tops c C S V u b how s found ended doings stages begun plan got gone = record {
@@ -124,21 +128,45 @@ ended_coord x k inc tops c C S V u b how s found ended doings stages begun plan 
         works_same x tops S V (uid_number w) z.kind q.now (stages w other) (ap (λ f. f (uid_number w)) begun) (ap (λ f. f (uid_number w)) plan) (ap (λ f. f (uid_number w)) got)
         (s.working w z q (sym (ended_other u b how c.tree C.tree found ended w other) ∙ there) open_yet (sym (doings w other) ∙ does))
 
+-- what it has taken note of, where another action than the ended one changes nothing
+pub ended_noted : (x : ℕ) (intents : List (Uid × Intent)) (c C : Coord) (W : World) (u : Uid) (b : Branch) (how : End) → SeesNotes x intents c W → branch_of u c.tree ≡ Some b → HasEnded u b how c.tree C.tree
+    → ((w : Uid) → w ≢ u → at_uid w C.telling ≡ at_uid w c.telling) → ((w : Uid) → w ≢ u → doing_of w C ≡ doing_of w c) → ((i : Intent) → at_uid u intents ≡ Some i → IsSettled u i C.telling W)
+    → ((q : Doing) → doing_of u C ≡ Some q → ((n : ℕ) → order.has q.took n ≡ true → (disk.decided W.disk (uid_number u) ≡ true) ⊎ (W.disk.bare (uid_number u) ≡ true)) × KnowsNow x W q.now)
+    → AllByRecursion (λ (r : ℕ × Root). KnowsRoot x W r.1) C.roots → SeesNotes x intents C W
+ended_noted x intents c C W u b how s found ended tellings doings mine own roots = record {
+  settled = λ w i there. ⊎_elim
+      (λ (same : w ≡ u). inr (subst (λ a. IsSettled a i C.telling W) (sym same) (mine i (ap (λ a. at_uid a intents) (sym same) ∙ there))))
+      (λ (other : w ≢ u). ⊎_elim
+          (λ o. inl (ap is_open_branch (ended_other u b how c.tree C.tree found ended w other) ∙ o))
+          (λ (h : IsSettled w i c.telling W). inr (record { done = h.done; awaited = λ m on. ⊎_elim (λ a. inl (ap (is_awaited_by m) (tellings w other) ∙ a)) (λ a. inr a) (h.awaited m on) }))
+          (s.settled w i there))
+      (uid_cases w u);
+  taken = λ w q n does on. ⊎_elim
+      (λ (same : w ≡ u). subst (λ a. (disk.decided W.disk (uid_number a) ≡ true) ⊎ (W.disk.bare (uid_number a) ≡ true)) (sym same) ((own q (ap (λ a. doing_of a C) (sym same) ∙ does)).0 n on))
+      (λ (other : w ≢ u). s.taken w q n (sym (doings w other) ∙ does) on)
+      (uid_cases w u);
+  roots = roots;
+  plans = λ w q does. ⊎_elim (λ (same : w ≡ u). (own q (ap (λ a. doing_of a C) (sym same) ∙ does)).1) (λ (other : w ≢ u). s.plans w q (sym (doings w other) ∙ does)) (uid_cases w u);
+}
+
 -- ---- effects that open nothing
 
 -- The stage of one action may change, and the records of its node; the node's coordinator becomes another one.
-pub calm_seen : (x k : ℕ) (tops : ℕ → Bool) (W : World) (M : Seen) (d : Disk) (t : Parts) (u : Uid) (eff : machine.Effect) (intents : List (Uid × Intent)) (c : Coord) → SeesDisks x tops W (up k d t M) → u.node ≡ k → Allowed W eff
+pub calm_seen : (x k : ℕ) (tops : Kinds) (W : World) (M : Seen) (d : Disk) (t : Parts) (u : Uid) (eff : machine.Effect) (intents : List (Uid × Intent)) (c : Coord) → SeesDisks x tops W (up k d t M) → u.node ≡ k → Allowed W eff
     → IsCalm W (after W eff) → (after W eff).disk.got ≡ W.disk.got → ((w : Uid) → w ≢ u → (after W eff).disk.stage (uid_number w) ≡ W.disk.stage (uid_number w))
     → SeesRecords k intents (after W eff).disk → ((m : ℕ) (n : Node) → (m == k) ≡ false → SeesRecords m n.disk.intents W.disk → SeesRecords m n.disk.intents (after W eff).disk)
-    → SeesCoord x k d.inc tops c (after W eff).disk → SeesDisks x tops (after W eff) (up k (record d { intents = intents }) (with_coord t c) M)
-calm_seen x k tops W M d t u eff intents c s here allowed calm got stages records others coord = record {
+    → SeesCoord x k d.inc tops c (after W eff).disk → SeesNotes x intents c (after W eff) → SeesDisks x tops (after W eff) (up k (record d { intents = intents }) (with_coord t c) M)
+calm_seen x k tops W M d t u eff intents c s here allowed calm got stages records others coord noted = record {
   whole = effect_keeps W eff allowed s.whole;
+  fixed = fixed_later tops W (after W eff) later s.fixed;
   kinds = λ z b. let r = s.kinds z (ap (λ f. f z) (sym begun) ∙ b) in (r.0, ap (λ (S : State). S.serial z) calm.rest ∙ r.1);
   stores = to (λ m n. SeesStore x m n.disk.store W.disk) (λ m n. SeesStore x m n.disk.store V.disk) s.stores (λ h. stores_stay_calm x k d.store W V calm h) (λ m n e h. stores_stay_calm x m n.disk.store W V calm h);
   entry = λ n is. to (λ m n. m ≡ 1 → SeesEntry x n.disk.names W.disk) (λ m n. m ≡ 1 → SeesEntry x n.disk.names V.disk) (λ m n there one. s.entry n (ap (λ j. (up k d t M).nodes j) (sym one) ∙ there)) (λ h one. entry_stays_calm x d.names W V calm (h one)) (λ m n e h one. entry_stays_calm x n.disk.names W V calm (h one)) 1 n is refl;
   records = to (λ m n. SeesRecords m n.disk.intents W.disk) (λ m n. SeesRecords m n.disk.intents V.disk) s.records (λ h. records) others;
   coords = λ m n p is live. to (λ m n. (p : Parts) → n.live ≡ Some p → SeesCoord x m n.disk.inc tops p.coord W.disk) (λ m n. (p : Parts) → n.live ≡ Some p → SeesCoord x m n.disk.inc tops p.coord V.disk) (λ m n there p live. s.coords m n p there live)
       (λ h p live. let same : with_coord t c ≡ p = cc live in subst (λ (q : Parts). SeesCoord x k d.inc tops q.coord V.disk) same coord) (λ m n e h p live. coord_stays m n.disk.inc p e (h p live)) m n is p live;
+  notes = λ m n p is live. to (λ m n. (p : Parts) → n.live ≡ Some p → SeesNotes x n.disk.intents p.coord W) (λ m n. (p : Parts) → n.live ≡ Some p → SeesNotes x n.disk.intents p.coord (after W eff)) (λ m n there p live. s.notes m n p there live)
+      (λ h p live. let same : with_coord t c ≡ p = cc live in subst (λ (q : Parts). SeesNotes x intents q.coord (after W eff)) same noted) (λ m n e h p live. notes_later x W (after W eff) later n.disk.intents p.coord (h p live)) m n is p live;
   downs = to (λ m n. n.live ≡ None → SeesDown m n.disk.inc W.disk) (λ m n. n.live ≡ None → SeesDown m n.disk.inc V.disk) (λ m n there live. s.downs m n there live) (λ h live. absurd (cc live)) (λ m n e h live. down_stays m n.disk.inc e (h live));
   confirmed = λ n p o is live named. to (λ m n. m ≡ 1 → (p : Parts) (o : Naming) → n.live ≡ Some p → p.naming ≡ Some o → SeesConfirmed o W.disk) (λ m n. m ≡ 1 → (p : Parts) (o : Naming) → n.live ≡ Some p → p.naming ≡ Some o → SeesConfirmed o V.disk)
       (λ m n there one p o live named. s.confirmed n p o (ap (λ j. (up k d t M).nodes j) (sym one) ∙ there) live named)
@@ -148,6 +176,9 @@ calm_seen x k tops W M d t u eff intents c s here allowed calm got stages record
   where
     V : World
     V = after W eff
+
+    later : IsLater W (after W eff)
+    later = effects_are_later W (eff ∷ []) (allowed, tt) s.whole
 
     begun : (after W eff).disk.begun ≡ W.disk.begun
     begun = ap (λ (S : State). S.begun) calm.rest

@@ -21,9 +21,10 @@ use Rattle.arj_view_law.specs.Seen.{Post, Seen, at, up, down, with_node, posted,
 use Rattle.arj_disk_view_law.specs.Deciding.{SeesRecords}
 use Rattle.arj_disk_view_law.specs.Entries.{SeesEntry}
 use Rattle.arj_disk_view_law.specs.Stores.{SeesStore, StoreGoes}
-use Rattle.arj_disk_view_law.specs.Sees.{Claims, IsLater, SeesDisks, SeesCoord, SeesDown, SeesConfirmed, Works, WorksBy}
+use Rattle.arj_disk_view_law.specs.Sees.{Kinds, Claims, IsLater, SeesDisks, SeesCoord, SeesNotes, SeesDown, SeesConfirmed, Works, WorksBy}
 use Rattle.arj_disk_view_law.proofs.EntrySteps.{entry_by_store}
 use Rattle.arj_disk_view_law.proofs.Later.{effects_are_later, later_same, claims_stay}
+use Rattle.arj_disk_view_law.proofs.Notes.{fixed_later, notes_later}
 use Rattle.arj_disk_view_law.proofs.StoreSteps.{other_stores_stay}
 
 -- ---- nodes
@@ -59,7 +60,7 @@ works_now x S V t (Committing (Voting p left)) stage begun plan got w = stage �
 works_now x S V t (Committing (Preparing p left)) stage begun plan got w = record { stage = stage ∙ w.stage; begun = begun ∙ w.begun; plan = plan ∙ w.plan; tidy = w.tidy; got = λ s on. ap (λ f. f s) got ∙ w.got s on; marks = w.marks; apart = w.apart }
 works_now x S V t (Committing (Confirming p)) stage begun plan got w = record { stage = stage ∙ w.stage; begun = begun ∙ w.begun; plan = plan ∙ w.plan; tidy = w.tidy; got = λ s on. ap (λ f. f s) got ∙ w.got s on; marks = w.marks }
 
-pub works_same : (x : ℕ) (tops : ℕ → Bool) (S V : State) (t : ℕ) (k : Kind) (now : Now) → V.stage t ≡ S.stage t → V.begun t ≡ S.begun t → V.plan t ≡ S.plan t → V.got t ≡ S.got t → Works x tops S t k now → Works x tops V t k now
+pub works_same : (x : ℕ) (tops : Kinds) (S V : State) (t : ℕ) (k : Kind) (now : Now) → V.stage t ≡ S.stage t → V.begun t ≡ S.begun t → V.plan t ≡ S.plan t → V.got t ≡ S.got t → Works x tops S t k now → Works x tops V t k now
 works_same x tops S V t kind.Nested now stage begun plan got w = w
 works_same x tops S V t kind.Serial now stage begun plan got w = (w.0, stage ∙ w.1)
 works_same x tops S V t kind.Top now stage begun plan got w = (w.0, works_now x S V t now stage begun plan got w.1)
@@ -67,7 +68,7 @@ works_same x tops S V t kind.Independent now stage begun plan got w = (w.0, work
 works_same x tops S V t kind.Constituent now stage begun plan got w = (w.0, works_now x S V t now stage begun plan got w.1)
 
 -- a coordinator reads stages, plans and answers alone
-pub coord_same : (x k inc : ℕ) (tops : ℕ → Bool) (c : Coord) (S V : State) → V.stage ≡ S.stage → V.begun ≡ S.begun → V.plan ≡ S.plan → V.got ≡ S.got → SeesCoord x k inc tops c S → SeesCoord x k inc tops c V
+pub coord_same : (x k inc : ℕ) (tops : Kinds) (c : Coord) (S V : State) → V.stage ≡ S.stage → V.begun ≡ S.begun → V.plan ≡ S.plan → V.got ≡ S.got → SeesCoord x k inc tops c S → SeesCoord x k inc tops c V
 coord_same x k inc tops c S V stage begun plan got s = record {
   node = s.node;
   present = s.present;
@@ -84,46 +85,52 @@ down_same k inc S V stage begun s = record {
 
 -- ---- messages and lines
 
-pub claim_here : (x : ℕ) (tops : ℕ → Bool) (W V : World) (lines : List Line) (p : Post) → Whole W → IsLater W V → Claims x tops W lines p → Claims x tops V lines p
+pub claim_here : (x : ℕ) (tops : Kinds) (W V : World) (lines : List Line) (p : Post) → Whole W → IsLater W V → Claims x tops W lines p → Claims x tops V lines p
 claim_here x tops W V lines p whole later c = subst (λ ls. Claims x tops V ls p) (append-nil lines) (claims_stay x tops W V lines [] p whole later c)
 
 -- lines are said
-pub says_seen : (x : ℕ) (tops : ℕ → Bool) (W : World) (M : Seen) (more : List Line) → SeesDisks x tops W M → SeesDisks x tops W (record M { lines = M.lines ++ more })
+pub says_seen : (x : ℕ) (tops : Kinds) (W : World) (M : Seen) (more : List Line) → SeesDisks x tops W M → SeesDisks x tops W (record M { lines = M.lines ++ more })
 says_seen x tops W M more s = record {
   whole = s.whole;
+  fixed = s.fixed;
   kinds = s.kinds;
   stores = s.stores;
   entry = s.entry;
   records = s.records;
   coords = s.coords;
+  notes = s.notes;
   downs = s.downs;
   confirmed = s.confirmed;
   posts = λ p i. claims_stay x tops W W M.lines more p s.whole (later_same W) (s.posts p i);
 }
 
 -- a message is sent that claims what is true
-pub posts_seen : (x : ℕ) (tops : ℕ → Bool) (W : World) (M : Seen) (p : Post) → Claims x tops W M.lines p → SeesDisks x tops W M → SeesDisks x tops W (posted p M)
+pub posts_seen : (x : ℕ) (tops : Kinds) (W : World) (M : Seen) (p : Post) → Claims x tops W M.lines p → SeesDisks x tops W M → SeesDisks x tops W (posted p M)
 posts_seen x tops W M p claim s = record {
   whole = s.whole;
+  fixed = s.fixed;
   kinds = s.kinds;
   stores = s.stores;
   entry = s.entry;
   records = s.records;
   coords = s.coords;
+  notes = s.notes;
   downs = s.downs;
   confirmed = s.confirmed;
   posts = λ q i. ⊎_elim (λ (same : p ≡ q). subst (λ r. Claims x tops W M.lines r) same claim) (λ (old : seen.In q M.sent). s.posts q old) i;
 }
 
 -- the machine sends one
-pub sends_seen : (x : ℕ) (tops : ℕ → Bool) (W : World) (M : Seen) (m : mail.Message) → MaySend W m → SeesDisks x tops W M → SeesDisks x tops (after W (Effects.Send m)) M
+pub sends_seen : (x : ℕ) (tops : Kinds) (W : World) (M : Seen) (m : mail.Message) → MaySend W m → SeesDisks x tops W M → SeesDisks x tops (after W (Effects.Send m)) M
 sends_seen x tops W M m may s = record {
   whole = effect_keeps W (Effects.Send m) may s.whole;
+  fixed = record { root = s.fixed.root; serial = s.fixed.serial };
   kinds = s.kinds;
   stores = s.stores;
   entry = s.entry;
   records = s.records;
   coords = s.coords;
+  notes = λ k n t there live. notes_later x W (after W (Effects.Send m)) (effects_are_later W (Effects.Send m ∷ []) (may, tt) s.whole) n.disk.intents t.coord (s.notes k n t there live);
   downs = s.downs;
   confirmed = s.confirmed;
   posts = λ p i. claim_here x tops W (after W (Effects.Send m)) M.lines p s.whole (effects_are_later W (Effects.Send m ∷ []) (may, tt) s.whole) (s.posts p i);
@@ -131,7 +138,7 @@ sends_seen x tops W M m may s = record {
 
 -- ---- a store's work
 
-module _ (x k : ℕ) (tops : ℕ → Bool) (W : World) (M : Seen) (d : Disk) (t : Parts) (sees : SeesDisks x tops W (up k d t M)) (c : Pair) (goes : StoreGoes x k c W) where
+module _ (x k : ℕ) (tops : Kinds) (W : World) (M : Seen) (d : Disk) (t : Parts) (sees : SeesDisks x tops W (up k d t M)) (c : Pair) (goes : StoreGoes x k c W) where
   abbrev Old : Node
   Old = record { number = k; disk = d; live = Some t }
 
@@ -164,6 +171,12 @@ module _ (x k : ℕ) (tops : ℕ → Bool) (W : World) (M : Seen) (d : Disk) (t 
   abbrev CoordAt : State → ℕ → Node → Type 0
   CoordAt S m n = (p : Parts) → n.live ≡ Some p → SeesCoord x m n.disk.inc tops p.coord S
 
+  abbrev NotesAt : World → ℕ → Node → Type 0
+  NotesAt U m n = (p : Parts) → n.live ≡ Some p → SeesNotes x n.disk.intents p.coord U
+
+  later : IsLater W V
+  later = effects_are_later W goes.effects goes.allowed sees.whole
+
   abbrev DownAt : State → ℕ → Node → Type 0
   DownAt S m n = n.live ≡ None → SeesDown m n.disk.inc S
 
@@ -176,12 +189,14 @@ module _ (x k : ℕ) (tops : ℕ → Bool) (W : World) (M : Seen) (d : Disk) (t 
   pub store_goes_seen : SeesDisks x tops V (up k (record d { store = c }) t M)
   store_goes_seen = record {
     whole = run_keeps W goes.effects goes.allowed sees.whole;
+    fixed = fixed_later tops W V later sees.fixed;
     kinds = λ z b. let r = sees.kinds z (ap (λ f. f z) (sym begun_same) ∙ b) in (r.0, ap (λ (S : State). S.serial z) goes.only.rest ∙ r.1);
     stores = nodes_go (λ m n. SeesStore x m n.disk.store W.disk) (λ m n. SeesStore x m n.disk.store V.disk) sees.stores (λ s. goes.there) (λ m n other s. other_stores_stay x k m n.disk.store W V goes.only other s);
     entry = λ n is. nodes_go (EntryAt W.disk) (EntryAt V.disk) (λ m n there one. sees.entry n (ap (λ j. (up k d t M).nodes j) (sym one) ∙ there))
         (λ s one. entry_by_store x k d.names W V goes.only (s one)) (λ m n other s one. entry_by_store x k n.disk.names W V goes.only (s one)) 1 n is refl;
     records = nodes_go (λ m n. SeesRecords m n.disk.intents W.disk) (λ m n. SeesRecords m n.disk.intents V.disk) sees.records (λ s. records_go k (record { number = k; disk = d; live = Some t }) s) (λ m n other s. records_go m n s);
     coords = λ m n p is live. nodes_go (CoordAt W.disk) (CoordAt V.disk) (λ m n there p live. sees.coords m n p there live) (λ s p live. coord_goes k d.inc p (s p live)) (λ m n other s p live. coord_goes m n.disk.inc p (s p live)) m n is p live;
+    notes = λ m n p is live. nodes_go (NotesAt W) (NotesAt V) (λ m n there p live. sees.notes m n p there live) (λ s p live. notes_later x W V later d.intents p.coord (s p live)) (λ m n other s p live. notes_later x W V later n.disk.intents p.coord (s p live)) m n is p live;
     downs = nodes_go (DownAt W.disk) (DownAt V.disk) (λ m n there live. sees.downs m n there live) (λ s live. down_same k d.inc W.disk V.disk stage_same begun_same (s live)) (λ m n other s live. down_same m n.disk.inc W.disk V.disk stage_same begun_same (s live));
     confirmed = λ n p o is live named. nodes_go (ConfirmedAt W.disk) (ConfirmedAt V.disk) (λ m n there one p o live named. sees.confirmed n p o (ap (λ j. (up k d t M).nodes j) (sym one) ∙ there) live named)
         (λ s one p o live named. confirmed_goes o (s one p o live named)) (λ m n other s one p o live named. confirmed_goes o (s one p o live named)) 1 n is refl p o live named;

@@ -25,25 +25,30 @@ use Rattle.arj_view_law.specs.Walks.{halted}
 use Rattle.arj_disk_view_law.specs.Deciding.{SeesRecords}
 use Rattle.arj_disk_view_law.specs.Entries.{SeesEntry}
 use Rattle.arj_disk_view_law.specs.Stores.{SeesStore}
-use Rattle.arj_disk_view_law.specs.Sees.{Claims, SeesDisks, SeesCoord, SeesDown, SeesConfirmed, IsSeenByDisks}
+use Rattle.arj_disk_view_law.specs.Sees.{Kinds, Claims, IsFixed, SeesDisks, SeesCoord, SeesNotes, SeesDown, SeesConfirmed, IsSeenByDisks}
 use Rattle.arj_disk_view_law.proofs.DecidingSteps.{halt_calm, actions_may_halt, stores_stay_calm, entry_stays_calm}
 use Rattle.arj_disk_view_law.proofs.Frames.{nodes_to, node_here, works_same, says_seen, claim_here}
 use Rattle.arj_disk_view_law.proofs.Later.{effects_are_later}
+use Rattle.arj_disk_view_law.proofs.Notes.{notes_later}
 
 -- ---- what is tied but coordinators
 
-record SeesRest (x : ℕ) (tops : ℕ → Bool) (W : World) (M : Seen) : Type 0 where
+record SeesRest (x : ℕ) (tops : Kinds) (W : World) (M : Seen) : Type 0 where
   whole : Whole W
-  kinds : (t : ℕ) → W.disk.begun t ≡ true → (tops t ≡ true) × (W.disk.serial t ≡ false)
+  fixed : IsFixed tops W.disk
+  kinds : (t : ℕ) → W.disk.begun t ≡ true → (tops.is_top t ≡ true) × (W.disk.serial t ≡ false)
   stores : (s : ℕ) (n : Node) → M.nodes s ≡ Some n → SeesStore x s n.disk.store W.disk
   entry : (n : Node) → M.nodes 1 ≡ Some n → SeesEntry x n.disk.names W.disk
   records : (k : ℕ) (n : Node) → M.nodes k ≡ Some n → SeesRecords k n.disk.intents W.disk
   confirmed : (n : Node) (t : Parts) (o : Naming) → M.nodes 1 ≡ Some n → n.live ≡ Some t → t.naming ≡ Some o → SeesConfirmed o W.disk
+  notes : (k : ℕ) (n : Node) (t : Parts) → M.nodes k ≡ Some n → n.live ≡ Some t → SeesNotes x n.disk.intents t.coord W
   posts : (p : Post) → seen.In p M.sent → Claims x tops W M.lines p
 
-halt_rest : (x : ℕ) (tops : ℕ → Bool) (W : World) (M : Seen) (t : ℕ) → SeesRest x tops W M → SeesRest x tops (after W (Effects.Halt t)) M
+halt_rest : (x : ℕ) (tops : Kinds) (W : World) (M : Seen) (t : ℕ) → SeesRest x tops W M → SeesRest x tops (after W (Effects.Halt t)) M
 halt_rest x tops W M t s = record {
   whole = effect_keeps W (Effects.Halt t) tt s.whole;
+  fixed = record { root = s.fixed.root; serial = s.fixed.serial };
+  notes = λ k n p there live. notes_later x W (after W (Effects.Halt t)) (effects_are_later W (Effects.Halt t ∷ []) (tt, tt) s.whole) n.disk.intents p.coord (s.notes k n p there live);
   kinds = s.kinds;
   stores = λ m n is. stores_stay_calm x m n.disk.store W (after W (Effects.Halt t)) (halt_calm W t) (s.stores m n is);
   entry = λ n is. entry_stays_calm x n.disk.names W (after W (Effects.Halt t)) (halt_calm W t) (s.entry n is);
@@ -60,7 +65,7 @@ halts ts = map {A = ℕ} {B = Effect} Effects.Halt ts
 abbrev pub Halted : List ℕ → World → World
 Halted ts W = run W (map {A = ℕ} {B = Effect} Effects.Halt ts)
 
-halts_rest : (x : ℕ) (tops : ℕ → Bool) (W : World) (M : Seen) (ts : List ℕ) → SeesRest x tops W M → SeesRest x tops (Halted ts W) M
+halts_rest : (x : ℕ) (tops : Kinds) (W : World) (M : Seen) (ts : List ℕ) → SeesRest x tops W M → SeesRest x tops (Halted ts W) M
 halts_rest x tops W M [] s = s
 halts_rest x tops W M (t ∷ ts) s = halts_rest x tops (after W (Effects.Halt t)) M ts (halt_rest x tops W M t s)
 
@@ -151,7 +156,7 @@ owned_by c u a =
 
 -- ---- a node that stops
 
-module _ (x k : ℕ) (tops : ℕ → Bool) (W : World) (M : Seen) (d : Disk) (t : Parts) (sees : SeesDisks x tops W (up k d t M)) where
+module _ (x k : ℕ) (tops : Kinds) (W : World) (M : Seen) (d : Disk) (t : Parts) (sees : SeesDisks x tops W (up k d t M)) where
   mine : SeesCoord x k d.inc tops t.coord W.disk
   mine = sees.coords k (record { number = k; disk = d; live = Some t }) t (node_here M k (record { number = k; disk = d; live = Some t })) refl
 
@@ -159,7 +164,7 @@ module _ (x k : ℕ) (tops : ℕ → Bool) (W : World) (M : Seen) (d : Disk) (t 
   V = Halted (owns t.coord) W
 
   rest_before : SeesRest x tops W (up k d t M)
-  rest_before = record { whole = sees.whole; kinds = sees.kinds; stores = sees.stores; entry = sees.entry; records = sees.records; confirmed = sees.confirmed; posts = sees.posts }
+  rest_before = record { whole = sees.whole; fixed = sees.fixed; notes = sees.notes; kinds = sees.kinds; stores = sees.stores; entry = sees.entry; records = sees.records; confirmed = sees.confirmed; posts = sees.posts }
 
   rest_after : SeesRest x tops V (up k d t M)
   rest_after = halts_rest x tops W (up k d t M) (owns t.coord) rest_before
@@ -223,6 +228,9 @@ module _ (x k : ℕ) (tops : ℕ → Bool) (W : World) (M : Seen) (d : Disk) (t 
   pub stop_seen : SeesDisks x tops V (down k d M)
   stop_seen = record {
     whole = rest_after.whole;
+    fixed = rest_after.fixed;
+    notes = λ m n p is live. nodes_stop (λ m n. (p : Parts) → n.live ≡ Some p → SeesNotes x n.disk.intents p.coord V) (λ m n. (p : Parts) → n.live ≡ Some p → SeesNotes x n.disk.intents p.coord V) (λ m n there p live. rest_after.notes m n p there live)
+        (λ s p live. absurd (cc live)) (λ m n other s. s) m n is p live;
     kinds = rest_after.kinds;
     stores = nodes_stop (λ m n. SeesStore x m n.disk.store V.disk) (λ m n. SeesStore x m n.disk.store V.disk) rest_after.stores (λ s. s) (λ m n other s. s);
     entry = λ n is. nodes_stop (λ m n. m ≡ 1 → SeesEntry x n.disk.names V.disk) (λ m n. m ≡ 1 → SeesEntry x n.disk.names V.disk) (λ m n there one. rest_after.entry n (ap (λ j. (up k d t M).nodes j) (sym one) ∙ there)) (λ s. s) (λ m n other s. s) 1 n is refl;
@@ -237,9 +245,9 @@ module _ (x k : ℕ) (tops : ℕ → Bool) (W : World) (M : Seen) (d : Disk) (t 
 
 -- ---- the relation under a stop, and under lines
 
-pub stops_seen : (x : ℕ) (tops : ℕ → Bool) (e k : ℕ) (d : Disk) (live : Option Parts) (M : Seen) → IsSeenByDisks x tops (at k d live M) → IsSeenByDisks x tops (halted e k d M)
+pub stops_seen : (x : ℕ) (tops : Kinds) (e k : ℕ) (d : Disk) (live : Option Parts) (M : Seen) → IsSeenByDisks x tops (at k d live M) → IsSeenByDisks x tops (halted e k d M)
 stops_seen x tops e k d None M (W, s) = (W, says_seen x tops W (down k d M) (numbered e (body.Halted k ∷ [])) s)
 stops_seen x tops e k d (Some t) M (W, s) = (Halted (owns t.coord) W, says_seen x tops (Halted (owns t.coord) W) (down k d M) (numbered e (body.Halted k ∷ [])) (stop_seen x k tops W M d t s))
 
-pub lines_seen : (x : ℕ) (tops : ℕ → Bool) (e : ℕ) (bs : List Body) (M : Seen) → IsSeenByDisks x tops M → IsSeenByDisks x tops (said e bs M)
+pub lines_seen : (x : ℕ) (tops : Kinds) (e : ℕ) (bs : List Body) (M : Seen) → IsSeenByDisks x tops M → IsSeenByDisks x tops (said e bs M)
 lines_seen x tops e bs M (W, s) = (W, says_seen x tops W M (numbered e bs) s)

@@ -1,15 +1,16 @@
 -- A store's answer to a Prepare, walked through at the coordinator.
 use Rattle.std.proofs.Common.{◌≡◌, ◌⊎◌, ℕ, List, [], ◌∷◌, ◌++◌, Bool, true, false, Option, Some, None, refl, sym, ◌∙◌, ap, subst, inl, inr, map}
+use Rattle.std.specs.List.{AllByRecursion}
 use Rattle.arj_protocol.specs.Words.{Uid, Path, Head, Ask, Kind, Message, request, uids_of}
 use Rattle.arj_protocol.specs.Words.body
 use Rattle.arj_protocol.specs.Words.ask
 use Rattle.arj_protocol.specs.Words.kind
 use Rattle.arj_protocol.specs.Words.prepared
 use Rattle.arj_protocol.specs.Ask.{actor, top_of}
-use Rattle.arj_protocol.specs.Asking.{moved_commit, step_commit, asks_all, asks_node, mark_lines, gaveup_lines}
+use Rattle.arj_protocol.specs.Asking.{is_invoke_ask, moved_commit, step_commit, asks_all, asks_node, mark_lines, gaveup_lines}
 use Rattle.arj_protocol.specs.Commit as commit
 use Rattle.arj_protocol.specs.Commit.{Used, Preparing, Confirming, Stays, Asks, Marked, plainly, begin_confirm, stores_left, marks_store, marks_stores, further, confirm_ask, included_of, begin_prepare, states_for, targets_of}
-use Rattle.arj_protocol.specs.Coord.{Coord, Doing, Root, Now, Committing, doing_of, on_doing, on_root, with_went}
+use Rattle.arj_protocol.specs.Coord.{Coord, Doing, Root, Now, Committing, doing_of, on_doing, on_root, root_at, with_went}
 use Rattle.arj_protocol.specs.Effect.{Disk, Effect, Say, Send, Do, Intent}
 use Rattle.arj_protocol.specs.Ending.{says, say_for}
 use Rattle.arj_protocol.specs.Naming.{Naming}
@@ -34,11 +35,12 @@ use Rattle.arj_disk_view_law.specs.Deciding.{SeesRecords}
 use Rattle.arj_disk_view_law.specs.Entries.{SeesEntry}
 use Rattle.arj_disk_view_law.specs.Plans.{IsTidy, plan_at}
 use Rattle.arj_disk_view_law.specs.Stores.{IsPlanned, SeesStore}
-use Rattle.arj_disk_view_law.specs.Sees.{SilentAreGivenUp, PreparesAreAsked, ClaimsConfirm, SeesDisks, SeesCoord, SeesDown, SeesConfirmed, IsSeenByDisks, Works, WorksBy, WaitsForStore, PreparedIsHeard}
+use Rattle.arj_disk_view_law.specs.Sees.{Kinds, SilentAreGivenUp, PreparesAreAsked, ClaimsConfirm, SeesDisks, SeesCoord, SeesNotes, KnowsRoot, SeesDown, SeesConfirmed, IsSeenByDisks, IsLater, KnowsNow, Works, WorksBy, WaitsForStore, PreparedIsHeard}
 use Rattle.arj_disk_view_law.proofs.Asked.{confirm_says}
 use Rattle.arj_disk_view_law.proofs.AskingSteps.{prepares_begin, yes_is_taken, doubt_is_marked, silent_are_marked, prepares_end}
 use Rattle.arj_disk_view_law.proofs.Planned.{states_are_planned}
 use Rattle.arj_disk_view_law.proofs.Frames.{nodes_to, node_here, says_seen, posts_seen, sends_seen}
+use Rattle.arj_disk_view_law.proofs.Notes.{all_put, known_at, went_known, roots_noted}
 use Rattle.arj_disk_view_law.proofs.TopFrames.{top_goes_seen}
 
 -- ---- the machine goes in steps
@@ -80,7 +82,7 @@ top_stays t Q W h = record { effects = []; allowed = tt; there = h; only = recor
 -- ---- kinds of actions
 
 -- an open top in its prepare step
-preparing_of : (x : ℕ) (tops : ℕ → Bool) (S : State) (t : ℕ) (k : Kind) (now : Now) (p : commit.Plan) (left : List ℕ) → tops t ≡ true → now ≡ Committing (Preparing p left) → Works x tops S t k now → SeesPreparing x S t p left
+preparing_of : (x : ℕ) (tops : Kinds) (S : State) (t : ℕ) (k : Kind) (now : Now) (p : commit.Plan) (left : List ℕ) → tops.is_top t ≡ true → now ≡ Committing (Preparing p left) → Works x tops S t k now → SeesPreparing x S t p left
 preparing_of x tops S t kind.Nested now p left top is w = absurd (never top w)
 preparing_of x tops S t kind.Serial now p left top is w = absurd (never top w.0)
 preparing_of x tops S t kind.Top now p left top is w = subst (λ n. WorksBy x S t n) is w.1
@@ -88,7 +90,7 @@ preparing_of x tops S t kind.Independent now p left top is w = subst (λ n. Work
 preparing_of x tops S t kind.Constituent now p left top is w = subst (λ n. WorksBy x S t n) is w.1
 
 -- and what it waits for then
-works_as : (x : ℕ) (tops : ℕ → Bool) (S V : State) (t : ℕ) (k : Kind) (now next : Now) → tops t ≡ true → Works x tops S t k now → WorksBy x V t next → Works x tops V t k next
+works_as : (x : ℕ) (tops : Kinds) (S V : State) (t : ℕ) (k : Kind) (now next : Now) → tops.is_top t ≡ true → Works x tops S t k now → WorksBy x V t next → Works x tops V t k next
 works_as x tops S V t kind.Nested now next top w h = absurd (never top w)
 works_as x tops S V t kind.Serial now next top w h = absurd (never top w.0)
 works_as x tops S V t kind.Top now next top w h = (top, h)
@@ -97,15 +99,18 @@ works_as x tops S V t kind.Constituent now next top w h = (top, h)
 
 -- ---- a coordinator that takes note at a root
 
-pub roots_seen : (x k : ℕ) (tops : ℕ → Bool) (W : World) (M : Seen) (d : Disk) (t : Parts) (c : Coord) (roots : List (ℕ × Root)) → SeesDisks x tops W (up k d (with_coord t c) M) → SeesDisks x tops W (up k d (with_coord t (record c { roots = roots })) M)
-roots_seen x k tops W M d t c roots s = record {
+pub roots_seen : (x k : ℕ) (tops : Kinds) (W : World) (M : Seen) (d : Disk) (t : Parts) (c : Coord) (roots : List (ℕ × Root)) → ((r : SeesNotes x d.intents c W) → AllByRecursion (λ (r : ℕ × Root). KnowsRoot x W r.1) roots) → SeesDisks x tops W (up k d (with_coord t c) M) → SeesDisks x tops W (up k d (with_coord t (record c { roots = roots })) M)
+roots_seen x k tops W M d t c roots known s = record {
   whole = s.whole;
+  fixed = s.fixed;
   kinds = s.kinds;
   stores = to (λ m n. SeesStore x m n.disk.store W.disk) s.stores (λ h. h);
   entry = λ n is. to (λ m n. m ≡ 1 → SeesEntry x n.disk.names W.disk) (λ m n there one. s.entry n (ap (λ j. (up k d (with_coord t c) M).nodes j) (sym one) ∙ there)) (λ h. h) 1 n is refl;
   records = to (λ m n. SeesRecords m n.disk.intents W.disk) s.records (λ h. h);
   coords = λ m n p is live. to (λ m n. (p : Parts) → n.live ≡ Some p → SeesCoord x m n.disk.inc tops p.coord W.disk) (λ m n there p live. s.coords m n p there live)
       (λ h p live. let same : with_coord t (record c { roots = roots }) ≡ p = cc live in subst (λ (q : Parts). SeesCoord x k d.inc tops q.coord W.disk) same (noted (h (with_coord t c) refl))) m n is p live;
+  notes = λ m n p is live. to (λ m n. (p : Parts) → n.live ≡ Some p → SeesNotes x n.disk.intents p.coord W) (λ m n there p live. s.notes m n p there live)
+      (λ h p live. let same : with_coord t (record c { roots = roots }) ≡ p = cc live in subst (λ (q : Parts). SeesNotes x d.intents q.coord W) same (let mine : SeesNotes x d.intents c W = h (with_coord t c) refl in roots_noted x W d.intents c roots mine (known mine))) m n is p live;
   downs = to (λ m n. n.live ≡ None → SeesDown m n.disk.inc W.disk) (λ m n there live. s.downs m n there live) (λ h live. absurd (cc live));
   confirmed = λ n p o is live named. to (λ m n. m ≡ 1 → (p : Parts) (o : Naming) → n.live ≡ Some p → p.naming ≡ Some o → SeesConfirmed o W.disk) (λ m n there one p o live named. s.confirmed n p o (ap (λ j. (up k d (with_coord t c) M).nodes j) (sym one) ∙ there) live named)
       (λ h one p o live named. let same : with_coord t (record c { roots = roots }) ≡ p = cc live in h one (with_coord t c) o refl (ap (λ (q : Parts). q.naming) same ∙ named)) 1 n is refl p o live named;
@@ -119,6 +124,15 @@ roots_seen x k tops W M d t c roots s = record {
         → (m : ℕ) (n : Node) → (up k d (with_coord t (record c { roots = roots })) M).nodes m ≡ Some n → Q m n
     to Q each mine = nodes_to M k (record { number = k; disk = d; live = Some (with_coord t c) }) (record { number = k; disk = d; live = Some (with_coord t (record c { roots = roots })) }) Q Q each mine (λ m n other h. h)
 
+-- a root takes note of a request
+pub one_noted : (x : ℕ) (W : World) (path : Path) (to : ℕ) (invoke : Bool) (c : Coord) → AllByRecursion (λ (r : ℕ × Root). KnowsRoot x W r.1) c.roots
+    → AllByRecursion (λ (r : ℕ × Root). KnowsRoot x W r.1) (on_root (root_of path) (with_went (record { path = uids_of path; node = to; invoke = invoke })) c).roots
+one_noted x W path to invoke c all = all_put (KnowsRoot x W) (root_of path).num (with_went (record { path = uids_of path; node = to; invoke = invoke }) (root_at (root_of path) c)) c.roots (went_known x W (record { path = uids_of path; node = to; invoke = invoke }) (root_at (root_of path) c) (known_at x W (root_of path) c all)) all
+
+pub asks_noted : (x : ℕ) (W : World) (path : Path) (req : ℕ) (asks_left : List (ℕ × Ask)) (c : Coord) → AllByRecursion (λ (r : ℕ × Root). KnowsRoot x W r.1) c.roots → AllByRecursion (λ (r : ℕ × Root). KnowsRoot x W r.1) (asks_all path req asks_left c).part.roots
+asks_noted x W path req [] c all = all
+asks_noted x W path req (a ∷ rest) c all = asks_noted x W path req rest (asks_node path req a c).part (one_noted x W path a.0 (is_invoke_ask a.1) c all)
+
 -- ---- lines alone
 
 abbrev pub is_say : Effect → Bool
@@ -126,7 +140,7 @@ is_say (Say b) = true
 is_say (Send to m) = false
 is_say (Do w) = false
 
-pub say_walk : (x k : ℕ) (tops : ℕ → Bool) (e : ℕ) (t v : Parts) (outs rest : List Effect) (d : Disk) (W : World) → AreAll is_say outs
+pub say_walk : (x k : ℕ) (tops : Kinds) (e : ℕ) (t v : Parts) (outs rest : List Effect) (d : Disk) (W : World) → AreAll is_say outs
     → ((M : Seen) → SeesDisks x tops W (up k d t M) → Walks (IsSeenByDisks x tops) e k rest (Up (IsSeenByDisks x tops) k v) d M) → (M : Seen) → SeesDisks x tops W (up k d t M) → Walks (IsSeenByDisks x tops) e k (outs ++ rest) (Up (IsSeenByDisks x tops) k v) d M
 say_walk x k tops e t v [] rest d W own go M s = go M s
 say_walk x k tops e t v (Say b ∷ es) rest d W own go M s = say_walk x k tops e t v es rest d W own go (said e (b ∷ []) M) (says_seen x tops W (up k d t M) (numbered e (b ∷ [])) s)
@@ -143,8 +157,8 @@ marks_say u (m ∷ ms) c = all_both is_say (says u (λ l. body.Excluded l m.0 m.
 
 -- ---- the answer
 
-module _ (x : ℕ) (tops : ℕ → Bool) (e k : ℕ) (d : Disk) (t : Parts) (from : ℕ) (act : Uid) (p : commit.Plan) (left : List ℕ) (intents : List (Uid × Intent)) (M : Seen)
-    (waits : WaitsForStore t from act p left) (top : tops (uid_number act) ≡ true) (W : World) (sees : SeesDisks x tops W (up k d t M)) where
+module _ (x : ℕ) (tops : Kinds) (e k : ℕ) (d : Disk) (t : Parts) (from : ℕ) (act : Uid) (p : commit.Plan) (left : List ℕ) (intents : List (Uid × Intent)) (M : Seen)
+    (waits : WaitsForStore t from act p left) (top : tops.is_top (uid_number act) ≡ true) (W : World) (sees : SeesDisks x tops W (up k d t M)) where
   works : Works x tops W.disk (uid_number act) waits.branch.kind waits.doing.now
   works = (sees.coords k (record { number = k; disk = d; live = Some t }) t (node_here M k (record { number = k; disk = d; live = Some t })) refl).working act waits.branch waits.doing waits.found waits.unended waits.at_work
 
@@ -155,14 +169,14 @@ module _ (x : ℕ) (tops : ℕ → Bool) (e k : ℕ) (d : Disk) (t : Parts) (fro
   plain = (sees.kinds (uid_number act) preparing.begun).1
 
   -- the action waits for this from now on, where the machine has gone so
-  moved_seen : (req : ℕ) (next : Now) → (goes : TopGoes (uid_number act) (λ S. WorksBy x S (uid_number act) next) W) → SeesDisks x tops (run W goes.effects) (up k d (with_coord t (on_doing act (λ (q : Doing). record q { req = req; now = next }) t.coord)) M)
-  moved_seen req next goes = top_goes_seen x k tops W M d t act waits.branch waits.doing (λ q. record q { req = req; now = next }) sees waits.found waits.unended waits.at_work top plain
+  moved_seen : (req : ℕ) (next : Now) → ((U : World) → IsLater W U → KnowsNow x U next) → (goes : TopGoes (uid_number act) (λ S. WorksBy x S (uid_number act) next) W) → SeesDisks x tops (run W goes.effects) (up k d (with_coord t (on_doing act (λ (q : Doing). record q { req = req; now = next }) t.coord)) M)
+  moved_seen req next now goes = top_goes_seen x k tops W M d t act waits.branch waits.doing (λ q. record q { req = req; now = next }) sees waits.found waits.unended waits.at_work top plain refl now
       (top_to (uid_number act) (λ S. WorksBy x S (uid_number act) next) (λ S. Works x tops S (uid_number act) waits.branch.kind next) W (λ S h. works_as x tops W.disk S (uid_number act) waits.branch.kind waits.doing.now next top works h) goes)
 
   -- the confirmation is asked
   asks_walk : (q : commit.Plan) → top_of q.path ≡ act → TopGoes (uid_number act) (λ S. SeesConfirming x S (uid_number act) q) W → (marks : List (ℕ × ℕ))
       → let did = moved_commit act (record { step = Asks (Confirming q); marks = marks }) intents t.coord in Walks (IsSeenByDisks x tops) e k did.outs (Up (IsSeenByDisks x tops) k (with_coord t did.part)) d M
-  asks_walk q path goes marks = say_walk x k tops e (with_coord t c1) (with_coord t noted) (mark_lines act marks t.coord) (Send 1 msg ∷ []) d V (marks_say act marks t.coord) sends M (moved_seen q.req (Committing (Confirming q)) goes)
+  asks_walk q path goes marks = say_walk x k tops e (with_coord t c1) (with_coord t noted) (mark_lines act marks t.coord) (Send 1 msg ∷ []) d V (marks_say act marks t.coord) sends M (moved_seen q.req (Committing (Confirming q)) (λ U l. tt) goes)
     where
       c1 : Coord
       c1 = on_doing act (λ (r : Doing). record r { req = q.req; now = Committing (Confirming q) }) t.coord
@@ -182,7 +196,7 @@ module _ (x : ℕ) (tops : ℕ → Bool) (e k : ℕ) (d : Disk) (t : Parts) (fro
       sends : (N : Seen) → SeesDisks x tops V (up k d (with_coord t c1) N) → Walks (IsSeenByDisks x tops) e k (Send 1 msg ∷ []) (Up (IsSeenByDisks x tops) k (with_coord t noted)) d N
       sends N s = λ more quiet. (
         after V (machine.Send m),
-        roots_seen x k tops (after V (machine.Send m)) (said e more (posted (record { from = k; to = 1; message = msg }) N)) d t c1 noted.roots
+        roots_seen x k tops (after V (machine.Send m)) (said e more (posted (record { from = k; to = 1; message = msg }) N)) d t c1 noted.roots (λ known. one_noted x (after V (machine.Send m)) q.path 1 false c1 known.roots)
             (says_seen x tops (after V (machine.Send m)) (up k d (with_coord t c1) (posted (record { from = k; to = 1; message = msg }) N)) (numbered e more)
             (posts_seen x tops (after V (machine.Send m)) (up k d (with_coord t c1) N) (record { from = k; to = 1; message = msg }) claim (sends_seen x tops V (up k d (with_coord t c1) N) m goes.there.stage s))),
       )
@@ -194,7 +208,7 @@ module _ (x : ℕ) (tops : ℕ → Bool) (e k : ℕ) (d : Disk) (t : Parts) (fro
   -- after an answer
   answered_walk : (q : commit.Plan) (rest : List ℕ) → q.path ≡ p.path → q.used ≡ p.used → TopGoes (uid_number act) (λ S. SeesPreparing x S (uid_number act) q rest) W
       → let did = moved_commit act (stores_left rest q) intents t.coord in Walks (IsSeenByDisks x tops) e k did.outs (Up (IsSeenByDisks x tops) k (with_coord t did.part)) d M
-  answered_walk q (n ∷ ns) path used goes = (run W goes.effects, moved_seen q.req (Committing (Preparing q (n ∷ ns))) goes)
+  answered_walk q (n ∷ ns) path used goes = (run W goes.effects, moved_seen q.req (Committing (Preparing q (n ∷ ns))) (λ U l. tt) goes)
   answered_walk q [] path used goes = subst (λ us. let did = moved_commit act (record { step = begin_confirm us q; marks = q.excluded }) intents t.coord in Walks (IsSeenByDisks x tops) e k did.outs (Up (IsSeenByDisks x tops) k (with_coord t did.part)) d M) (sym (used ∙ waits.uses))
       (asks_walk (further (1 ∷ []) q) (ap top_of path ∙ waits.path) confirming q.excluded)
     where
@@ -249,7 +263,7 @@ asks_roots : (path : Path) (req : ℕ) (asks_left : List (ℕ × Ask)) (c : Coor
 asks_roots path req [] c = refl
 asks_roots path req (a ∷ rest) c = asks_roots path req rest (asks_node path req a c).part
 
-module _ (x : ℕ) (tops : ℕ → Bool) (e k : ℕ) (d : Disk) (t : Parts) (act : Uid) (q : commit.Plan) (mine : actor q.path ≡ act) where
+module _ (x : ℕ) (tops : Kinds) (e k : ℕ) (d : Disk) (t : Parts) (act : Uid) (q : commit.Plan) (mine : actor q.path ≡ act) where
   abbrev Head_of : Head
   Head_of = record { path = q.path; req = q.req }
 
@@ -308,7 +322,7 @@ prepares_are_asked x tops e k d t act p s ss intents M W targets may sees = subs
     works = (sees.coords k (record { number = k; disk = d; live = Some t }) t (node_here M k (record { number = k; disk = d; live = Some t })) refl).working act may.branch may.doing may.found may.unended may.at_work
 
     seen : SeesDisks x tops (run W goes.effects) (up k d (with_coord t c1) M)
-    seen = top_goes_seen x k tops W M d t act may.branch may.doing (λ r. record r { req = (further (s ∷ ss) p).req; now = Committing (Preparing (further (s ∷ ss) p) (s ∷ ss)) }) sees may.found may.unended may.at_work may.top may.plain
+    seen = top_goes_seen x k tops W M d t act may.branch may.doing (λ r. record r { req = (further (s ∷ ss) p).req; now = Committing (Preparing (further (s ∷ ss) p) (s ∷ ss)) }) sees may.found may.unended may.at_work may.top may.plain refl (λ U l. tt)
         (top_to (uid_number act) (λ S. SeesPreparing x S (uid_number act) (further (s ∷ ss) p) (s ∷ ss)) (λ S. Works x tops S (uid_number act) may.branch.kind (Committing (Preparing (further (s ∷ ss) p) (s ∷ ss)))) W
         (λ S h. works_as x tops W.disk S (uid_number act) may.branch.kind may.doing.now (Committing (Preparing (further (s ∷ ss) p) (s ∷ ss))) may.top works h) goes)
 
@@ -318,4 +332,4 @@ prepares_are_asked x tops e k d t act p s ss intents M W targets may sees = subs
     walk : let did = step_commit act (begin_prepare (s ∷ ss) p) intents t.coord in Walks (IsSeenByDisks x tops) e k did.outs (Up (IsSeenByDisks x tops) k (with_coord t did.part)) d M
     walk = all_sent x tops e k d t act (further (s ∷ ss) p) may.path (s ∷ ss) c1 c1 (with_coord t (asks_all (further (s ∷ ss) p).path (further (s ∷ ss) p).req asked c1).part) M (run W goes.effects)
         (record { begun = goes.there.begun; plan = goes.there.plan; tidy = goes.there.tidy }) seen
-        (λ U L s2. (U, subst (λ (c : Coord). SeesDisks x tops U (up k d (with_coord t c) L)) (sym (asks_roots (further (s ∷ ss) p).path (further (s ∷ ss) p).req asked c1)) (roots_seen x k tops U L d t c1 (asks_all (further (s ∷ ss) p).path (further (s ∷ ss) p).req asked c1).part.roots s2)))
+        (λ U L s2. (U, subst (λ (c : Coord). SeesDisks x tops U (up k d (with_coord t c) L)) (sym (asks_roots (further (s ∷ ss) p).path (further (s ∷ ss) p).req asked c1)) (roots_seen x k tops U L d t c1 (asks_all (further (s ∷ ss) p).path (further (s ∷ ss) p).req asked c1).part.roots (λ m. asks_noted x U (further (s ∷ ss) p).path (further (s ∷ ss) p).req asked c1 m.roots) s2)))

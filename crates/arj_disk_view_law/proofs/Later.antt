@@ -14,18 +14,19 @@ use Rattle.arj_protocol.specs.Order.{uid_number}
 use Rattle.arj_disk_law.specs.Effects
 use Rattle.arj_disk_law.specs.Effects.{World, Effect, Whole, Follows, Allowed, run, after}
 use Rattle.arj_disk_law.specs.Messages as mail
+use Rattle.arj_disk_law.specs.State as disk
 use Rattle.arj_disk_law.specs.State.{Stage, Preparing, Confirming, Gone, is_idle, is_sealed, target, state_for}
 use Rattle.arj_disk_law.specs.Words.{put}
-use Rattle.arj_disk_law.proofs.Base.{put_rises, put_other, falls_to, never, test_is, put_cases}
+use Rattle.arj_disk_law.proofs.Base.{or_right, put_rises, put_other, falls_to, never, test_is, put_cases}
 use Rattle.arj_disk_law.proofs.Keeps.{effect_keeps}
 use Rattle.arj_view_law.specs.Seen.{Post}
 use Rattle.arj_disk_view_law.specs.Confirming.{SaysMarks}
 use Rattle.arj_disk_view_law.specs.Pairs.{IsOf, packed}
 use Rattle.arj_disk_view_law.specs.Stores.{IsPlanned, ClaimsCommit, ClaimsAbort}
-use Rattle.arj_disk_view_law.specs.Sees.{Claims, ClaimsAsk, ClaimsReply, ClaimsEnd, ClaimsLast, ClaimsOther, ClaimsAnswered, ClaimsAsked, IsLater, EffectsAreLater, ClaimsStay, begins, was_begun}
+use Rattle.arj_disk_view_law.specs.Sees.{Kinds, Claims, ClaimsAsk, ClaimsReply, ClaimsEnd, ClaimsLast, ClaimsOther, ClaimsAnswered, ClaimsAsked, IsLater, EffectsAreLater, ClaimsStay, begins, was_begun}
 
 pub later_same : (W : World) → IsLater W W
-later_same W = record { begun = λ z b. b; plan = λ z b. refl; sealed = λ z h. h; got = λ z h. refl; bare = λ z b. b; serial = refl; sent = λ m i. i; known = λ g k. k }
+later_same W = record { begun = λ z b. b; plan = λ z b. refl; sealed = λ z h. h; got = λ z h. refl; bare = λ z b. b; serial = refl; root = refl; decided = λ z b. b; sent = λ m i. i; known = λ g k. k }
 
 pub later_on : (U V W : World) → IsLater U V → IsLater V W → IsLater U W
 later_on U V W a b = record {
@@ -35,6 +36,8 @@ later_on U V W a b = record {
   got = λ t h. b.got t (a.sealed t h) ∙ a.got t h;
   bare = λ t h. b.bare t (a.bare t h);
   serial = b.serial ∙ a.serial;
+  root = b.root ∙ a.root;
+  decided = λ t h. b.decided t (a.decided t h);
   sent = λ m i. b.sent m (a.sent m i);
   known = λ g k. b.known g (a.known g k);
 }
@@ -51,6 +54,8 @@ effect_later W (Effects.Begin t p) x w = record {
   got = λ z h. refl;
   bare = λ z b. b;
   serial = refl;
+  root = refl;
+  decided = λ z b. b;
   sent = λ m i. i;
   known = λ g k. k;
 }
@@ -64,27 +69,29 @@ effect_later W (Effects.Take t s) x w = record {
   got = λ z h. put_other t (put s true (W.disk.got t)) W.disk.got z (falls_to (z == t) (λ on. absurd (cc (sym (ap is_sealed (ap W.disk.stage (test_is z t on) ∙ x.0)) ∙ h))));
   bare = λ z b. b;
   serial = refl;
+  root = refl;
+  decided = λ z b. b;
   sent = λ m i. i;
   known = λ g k. k;
 }
-effect_later W (Effects.Seal t) x w = record { begun = λ z b. b; plan = λ z b. refl; sealed = seals t Confirming W.disk.stage refl; got = λ z h. refl; bare = λ z b. b; serial = refl; sent = λ m i. i; known = λ g k. k }
-effect_later W (Effects.Intend t nodes) x w = record { begun = λ z b. b; plan = λ z b. refl; sealed = λ z h. h; got = λ z h. refl; bare = λ z b. b; serial = refl; sent = λ m i. i; known = λ g k. k }
-effect_later W (Effects.Decide t) x w = record { begun = λ z b. b; plan = λ z b. refl; sealed = seals t Gone W.disk.stage refl; got = λ z h. refl; bare = λ z b. b; serial = refl; sent = λ m i. i; known = λ g k. inr k }
-effect_later W (Effects.Remove t nodes) x w = record { begun = λ z b. b; plan = λ z b. refl; sealed = λ z h. h; got = λ z h. refl; bare = λ z b. b; serial = refl; sent = λ m i. i; known = λ g k. k }
-effect_later W (Effects.EndBare t) x w = record { begun = λ z b. b; plan = λ z b. refl; sealed = seals t Gone W.disk.stage refl; got = λ z h. refl; bare = λ z b. put_rises t W.disk.bare z b; serial = refl; sent = λ m i. i; known = λ g k. k }
-effect_later W (Effects.Halt t) x w = record { begun = λ z b. b; plan = λ z b. refl; sealed = seals t Gone W.disk.stage refl; got = λ z h. refl; bare = λ z b. b; serial = refl; sent = λ m i. i; known = λ g k. k }
-effect_later W (Effects.Keep t s) x w = record { begun = λ z b. b; plan = λ z b. refl; sealed = λ z h. h; got = λ z h. refl; bare = λ z b. b; serial = refl; sent = λ m i. i; known = λ g k. k }
-effect_later W (Effects.Move s h) x w = record { begun = λ z b. b; plan = λ z b. refl; sealed = λ z h. h; got = λ z h. refl; bare = λ z b. b; serial = refl; sent = λ m i. i; known = λ g k. k }
-effect_later W (Effects.Finish s h) x w = record { begun = λ z b. b; plan = λ z b. refl; sealed = λ z h. h; got = λ z h. refl; bare = λ z b. b; serial = refl; sent = λ m i. i; known = λ g k. k }
-effect_later W (Effects.Drop s h) x w = record { begun = λ z b. b; plan = λ z b. refl; sealed = λ z h. h; got = λ z h. refl; bare = λ z b. b; serial = refl; sent = λ m i. i; known = λ g k. k }
-effect_later W (Effects.Agree t) x w = record { begun = λ z b. b; plan = λ z b. refl; sealed = λ z h. h; got = λ z h. refl; bare = λ z b. b; serial = refl; sent = λ m i. i; known = λ g k. k }
-effect_later W (Effects.Pass t) x w = record { begun = λ z b. b; plan = λ z b. refl; sealed = λ z h. h; got = λ z h. refl; bare = λ z b. b; serial = refl; sent = λ m i. i; known = λ g k. k }
-effect_later W (Effects.Enter t) x w = record { begun = λ z b. b; plan = λ z b. refl; sealed = λ z h. h; got = λ z h. refl; bare = λ z b. b; serial = refl; sent = λ m i. i; known = λ g k. k }
-effect_later W (Effects.MoveEntry h) x w = record { begun = λ z b. b; plan = λ z b. refl; sealed = λ z h. h; got = λ z h. refl; bare = λ z b. b; serial = refl; sent = λ m i. i; known = λ g k. k }
-effect_later W (Effects.FinishEntry h) x w = record { begun = λ z b. b; plan = λ z b. refl; sealed = λ z h. h; got = λ z h. refl; bare = λ z b. b; serial = refl; sent = λ m i. i; known = λ g k. k }
-effect_later W (Effects.DropEntry h) x w = record { begun = λ z b. b; plan = λ z b. refl; sealed = λ z h. h; got = λ z h. refl; bare = λ z b. b; serial = refl; sent = λ m i. i; known = λ g k. k }
-effect_later W (Effects.Forget r h) x w = record { begun = λ z b. b; plan = λ z b. refl; sealed = λ z h. h; got = λ z h. refl; bare = λ z b. b; serial = refl; sent = λ m i. i; known = λ g k. k }
-effect_later W (Effects.Send m) x w = record { begun = λ z b. b; plan = λ z b. refl; sealed = λ z h. h; got = λ z h. refl; bare = λ z b. b; serial = refl; sent = λ m i. inr i; known = λ g k. k }
+effect_later W (Effects.Seal t) x w = record { begun = λ z b. b; plan = λ z b. refl; sealed = seals t Confirming W.disk.stage refl; got = λ z h. refl; bare = λ z b. b; serial = refl; root = refl; decided = λ z b. b; sent = λ m i. i; known = λ g k. k }
+effect_later W (Effects.Intend t nodes) x w = record { begun = λ z b. b; plan = λ z b. refl; sealed = λ z h. h; got = λ z h. refl; bare = λ z b. b; serial = refl; root = refl; decided = λ z b. b; sent = λ m i. i; known = λ g k. k }
+effect_later W (Effects.Decide t) x w = record { begun = λ z b. b; plan = λ z b. refl; sealed = seals t Gone W.disk.stage refl; got = λ z h. refl; bare = λ z b. b; serial = refl; root = refl; decided = λ z b. or_right (t == z) (disk.decided W.disk z) b; sent = λ m i. i; known = λ g k. inr k }
+effect_later W (Effects.Remove t nodes) x w = record { begun = λ z b. b; plan = λ z b. refl; sealed = λ z h. h; got = λ z h. refl; bare = λ z b. b; serial = refl; root = refl; decided = λ z b. b; sent = λ m i. i; known = λ g k. k }
+effect_later W (Effects.EndBare t) x w = record { begun = λ z b. b; plan = λ z b. refl; sealed = seals t Gone W.disk.stage refl; got = λ z h. refl; bare = λ z b. put_rises t W.disk.bare z b; serial = refl; root = refl; decided = λ z b. b; sent = λ m i. i; known = λ g k. k }
+effect_later W (Effects.Halt t) x w = record { begun = λ z b. b; plan = λ z b. refl; sealed = seals t Gone W.disk.stage refl; got = λ z h. refl; bare = λ z b. b; serial = refl; root = refl; decided = λ z b. b; sent = λ m i. i; known = λ g k. k }
+effect_later W (Effects.Keep t s) x w = record { begun = λ z b. b; plan = λ z b. refl; sealed = λ z h. h; got = λ z h. refl; bare = λ z b. b; serial = refl; root = refl; decided = λ z b. b; sent = λ m i. i; known = λ g k. k }
+effect_later W (Effects.Move s h) x w = record { begun = λ z b. b; plan = λ z b. refl; sealed = λ z h. h; got = λ z h. refl; bare = λ z b. b; serial = refl; root = refl; decided = λ z b. b; sent = λ m i. i; known = λ g k. k }
+effect_later W (Effects.Finish s h) x w = record { begun = λ z b. b; plan = λ z b. refl; sealed = λ z h. h; got = λ z h. refl; bare = λ z b. b; serial = refl; root = refl; decided = λ z b. b; sent = λ m i. i; known = λ g k. k }
+effect_later W (Effects.Drop s h) x w = record { begun = λ z b. b; plan = λ z b. refl; sealed = λ z h. h; got = λ z h. refl; bare = λ z b. b; serial = refl; root = refl; decided = λ z b. b; sent = λ m i. i; known = λ g k. k }
+effect_later W (Effects.Agree t) x w = record { begun = λ z b. b; plan = λ z b. refl; sealed = λ z h. h; got = λ z h. refl; bare = λ z b. b; serial = refl; root = refl; decided = λ z b. b; sent = λ m i. i; known = λ g k. k }
+effect_later W (Effects.Pass t) x w = record { begun = λ z b. b; plan = λ z b. refl; sealed = λ z h. h; got = λ z h. refl; bare = λ z b. b; serial = refl; root = refl; decided = λ z b. b; sent = λ m i. i; known = λ g k. k }
+effect_later W (Effects.Enter t) x w = record { begun = λ z b. b; plan = λ z b. refl; sealed = λ z h. h; got = λ z h. refl; bare = λ z b. b; serial = refl; root = refl; decided = λ z b. b; sent = λ m i. i; known = λ g k. k }
+effect_later W (Effects.MoveEntry h) x w = record { begun = λ z b. b; plan = λ z b. refl; sealed = λ z h. h; got = λ z h. refl; bare = λ z b. b; serial = refl; root = refl; decided = λ z b. b; sent = λ m i. i; known = λ g k. k }
+effect_later W (Effects.FinishEntry h) x w = record { begun = λ z b. b; plan = λ z b. refl; sealed = λ z h. h; got = λ z h. refl; bare = λ z b. b; serial = refl; root = refl; decided = λ z b. b; sent = λ m i. i; known = λ g k. k }
+effect_later W (Effects.DropEntry h) x w = record { begun = λ z b. b; plan = λ z b. refl; sealed = λ z h. h; got = λ z h. refl; bare = λ z b. b; serial = refl; root = refl; decided = λ z b. b; sent = λ m i. i; known = λ g k. k }
+effect_later W (Effects.Forget r h) x w = record { begun = λ z b. b; plan = λ z b. refl; sealed = λ z h. h; got = λ z h. refl; bare = λ z b. b; serial = refl; root = refl; decided = λ z b. b; sent = λ m i. i; known = λ g k. k }
+effect_later W (Effects.Send m) x w = record { begun = λ z b. b; plan = λ z b. refl; sealed = λ z h. h; got = λ z h. refl; bare = λ z b. b; serial = refl; root = refl; decided = λ z b. b; sent = λ m i. inr i; known = λ g k. k }
 
 pub effects_are_later : EffectsAreLater
 effects_are_later W [] f w = later_same W
@@ -92,7 +99,7 @@ effects_are_later W (e ∷ es) f w = later_on W (after W e) (run (after W e) es)
 
 -- ---- claims
 
-module _ (x : ℕ) (tops : ℕ → Bool) (W V : World) (whole : Whole W) (later : IsLater W V) where
+module _ (x : ℕ) (tops : Kinds) (W V : World) (whole : Whole W) (later : IsLater W V) where
   planned_stays : (a : Uid) (s : ℕ) (states : List ObjectState) → IsPlanned x W.disk a s states → IsPlanned x V.disk a s states
   planned_stays a s states p = record {
     begun = later.begun (uid_number a) p.begun;

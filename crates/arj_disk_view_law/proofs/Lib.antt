@@ -7,6 +7,7 @@ pub mod DecideWalks
 pub mod DecidingSteps
 pub mod Doings
 pub mod Ended
+pub mod Ending
 pub mod EntrySteps
 pub mod Frames
 pub mod Halts
@@ -14,6 +15,7 @@ pub mod HeardWalks
 pub mod Keys
 pub mod Later
 pub mod Marks
+pub mod Notes
 pub mod PairSteps
 pub mod Planned
 pub mod StoreSteps

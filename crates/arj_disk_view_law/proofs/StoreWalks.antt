@@ -21,13 +21,13 @@ use Rattle.arj_view_law.specs.Seen.{Seen, up, said, posted}
 use Rattle.arj_view_law.specs.Walks.{Walks, Stops, Up}
 use Rattle.arj_disk_view_law.specs.Pairs.{packed}
 use Rattle.arj_disk_view_law.specs.Stores.{SeesStore, StoreGoes, ClaimsPrepare}
-use Rattle.arj_disk_view_law.specs.Sees.{Claims, SeesDisks, IsSeenByDisks, RequestIsWalked, IsLoad, IsPrepare}
+use Rattle.arj_disk_view_law.specs.Sees.{Kinds, Claims, SeesDisks, IsSeenByDisks, RequestIsWalked, IsLoad, IsPrepare}
 use Rattle.arj_disk_view_law.proofs.Frames.{node_here, says_seen, posts_seen, sends_seen, store_goes_seen}
 use Rattle.arj_disk_view_law.proofs.Halts.{stops_seen}
 use Rattle.arj_disk_view_law.proofs.Keys.{put_same}
 use Rattle.arj_disk_view_law.proofs.StoreSteps.{prepared_is, stores_answer, stores_prepare}
 
-module _ (x k : ℕ) (tops : ℕ → Bool) (e : ℕ) where
+module _ (x k : ℕ) (tops : Kinds) (e : ℕ) where
   abbrev P : Seen → Type 0
   P = IsSeenByDisks x tops
 

@@ -30,7 +30,7 @@ use Rattle.arj_view_law.specs.Walks.{Walks, Stops, Up}
 use Rattle.arj_disk_view_law.specs.Entries.{SeesEntry}
 use Rattle.arj_disk_view_law.specs.Deciding.{SeesRecords}
 use Rattle.arj_disk_view_law.specs.Stores.{SeesStore, StoreGoes, ClaimsCommit, ClaimsAbort}
-use Rattle.arj_disk_view_law.specs.Sees.{ClaimsEnd, ClaimsLast, SeesDisks, SeesCoord, SeesDown, SeesConfirmed, IsSeenByDisks, EndsAreWalked}
+use Rattle.arj_disk_view_law.specs.Sees.{Kinds, ClaimsEnd, ClaimsLast, SeesDisks, SeesCoord, SeesNotes, SeesDown, SeesConfirmed, IsSeenByDisks, EndsAreWalked}
 use Rattle.arj_disk_view_law.proofs.Frames.{nodes_to, node_here, says_seen, posts_seen, sends_seen, store_goes_seen}
 use Rattle.arj_disk_view_law.proofs.Halts.{stops_seen}
 use Rattle.arj_disk_view_law.proofs.Keys as keys
@@ -38,15 +38,18 @@ use Rattle.arj_disk_view_law.proofs.StoreSteps.{prepared_is, unprepared, stores_
 
 -- ---- a node whose coordinator and naming stay
 
-pub parts_seen : (x k : ℕ) (tops : ℕ → Bool) (W : World) (M : Seen) (d : Disk) (t v : Parts) → v.coord ≡ t.coord → v.naming ≡ t.naming → SeesDisks x tops W (up k d t M) → SeesDisks x tops W (up k d v M)
+pub parts_seen : (x k : ℕ) (tops : Kinds) (W : World) (M : Seen) (d : Disk) (t v : Parts) → v.coord ≡ t.coord → v.naming ≡ t.naming → SeesDisks x tops W (up k d t M) → SeesDisks x tops W (up k d v M)
 parts_seen x k tops W M d t v coord named s = record {
   whole = s.whole;
+  fixed = s.fixed;
   kinds = s.kinds;
   stores = to (λ m n. SeesStore x m n.disk.store W.disk) s.stores (λ h. h);
   entry = λ n is. to (λ m n. m ≡ 1 → SeesEntry x n.disk.names W.disk) (λ m n there one. s.entry n (ap (λ j. (up k d t M).nodes j) (sym one) ∙ there)) (λ h. h) 1 n is refl;
   records = to (λ m n. SeesRecords m n.disk.intents W.disk) s.records (λ h. h);
   coords = λ m n p is live. to (λ m n. (p : Parts) → n.live ≡ Some p → SeesCoord x m n.disk.inc tops p.coord W.disk) (λ m n there p live. s.coords m n p there live)
       (λ h p live. let same : v ≡ p = cc in subst (λ c. SeesCoord x k d.inc tops c W.disk) (sym coord ∙ ap (λ (q : Parts). q.coord) same) (h t refl)) m n is p live;
+  notes = λ m n p is live. to (λ m n. (p : Parts) → n.live ≡ Some p → SeesNotes x n.disk.intents p.coord W) (λ m n there p live. s.notes m n p there live)
+      (λ h p live. let same : v ≡ p = cc in subst (λ c. SeesNotes x d.intents c W) (sym coord ∙ ap (λ (q : Parts). q.coord) same) (h t refl)) m n is p live;
   downs = to (λ m n. n.live ≡ None → SeesDown m n.disk.inc W.disk) (λ m n there live. s.downs m n there live) (λ h live. absurd (cc live));
   confirmed = λ n p o is live has_naming. to (λ m n. m ≡ 1 → (p : Parts) (o : Naming) → n.live ≡ Some p → p.naming ≡ Some o → SeesConfirmed o W.disk) (λ m n there one p o live has_naming. s.confirmed n p o (ap (λ j. (up k d t M).nodes j) (sym one) ∙ there) live has_naming)
       (λ h one p o live has_naming. let same : v ≡ p = cc in h one t o refl (sym named ∙ ap (λ (q : Parts). q.naming) same ∙ has_naming)) 1 n is refl p o live has_naming;
@@ -56,7 +59,7 @@ parts_seen x k tops W M d t v coord named s = record {
     to : (Q : ℕ → Node → Type 0) → ((m : ℕ) (n : Node) → (up k d t M).nodes m ≡ Some n → Q m n) → (Q k (record { number = k; disk = d; live = Some t }) → Q k (record { number = k; disk = d; live = Some v })) → (m : ℕ) (n : Node) → (up k d v M).nodes m ≡ Some n → Q m n
     to Q each mine = nodes_to M k (record { number = k; disk = d; live = Some t }) (record { number = k; disk = d; live = Some v }) Q Q each mine (λ m n other h. h)
 
-module _ (x k : ℕ) (tops : ℕ → Bool) (e : ℕ) where
+module _ (x k : ℕ) (tops : Kinds) (e : ℕ) where
   abbrev P : Seen → Type 0
   P = IsSeenByDisks x tops
 
@@ -98,7 +101,7 @@ module _ (x k : ℕ) (tops : ℕ → Bool) (e : ℕ) where
   own_at d t M W s = s.stores k (record { number = k; disk = d; live = Some t }) (node_here M k (record { number = k; disk = d; live = Some t }))
 
   -- who has something prepared is a top, and no serializing action
-  prepared_kind : (d : Disk) (t : Parts) (M : Seen) (W : World) (u : Uid) → SeesDisks x tops W (up k d t M) → is_prepared u d.store ≡ true → (tops (uid_number u) ≡ true) × (W.disk.serial (uid_number u) ≡ false)
+  prepared_kind : (d : Disk) (t : Parts) (M : Seen) (W : World) (u : Uid) → SeesDisks x tops W (up k d t M) → is_prepared u d.store ≡ true → (tops.is_top (uid_number u) ≡ true) × (W.disk.serial (uid_number u) ≡ false)
   prepared_kind d t M W u s is = let q = prepared_is u d.store is in s.kinds (uid_number u) ((own_at d t M W s).planned u q.0 q.1).begun
 
   after_told : (W V : World) (u : Uid) (ack : Bool) → V.sent ≡ W.sent → (ack ≡ true → In (mail.ToldCommit (uid_number u) k) W.sent) → ack ≡ true → In (mail.ToldCommit (uid_number u) k) V.sent

@@ -21,11 +21,12 @@ use Rattle.arj_disk_view_law.specs.Asking.{TopGoes}
 use Rattle.arj_disk_view_law.specs.Deciding.{SeesRecords}
 use Rattle.arj_disk_view_law.specs.Entries.{SeesEntry}
 use Rattle.arj_disk_view_law.specs.Stores.{SeesStore}
-use Rattle.arj_disk_view_law.specs.Sees.{IsFuture, SeesDisks, SeesCoord, SeesDown, SeesConfirmed, Works, TopsAreSeen}
+use Rattle.arj_disk_view_law.specs.Sees.{Kinds, IsFuture, SeesDisks, SeesCoord, SeesNotes, SeesDown, SeesConfirmed, KnowsNow, IsLater, Works, TopsAreSeen}
 use Rattle.arj_disk_view_law.proofs.AskingSteps.{stores_by_top, entry_by_top}
 use Rattle.arj_disk_view_law.proofs.Doings.{doing_here, doing_other, doing_tree}
 use Rattle.arj_disk_view_law.proofs.Frames.{nodes_to, node_here, works_same, claim_here}
 use Rattle.arj_disk_view_law.proofs.Later.{effects_are_later}
+use Rattle.arj_disk_view_law.proofs.Notes.{fixed_later, notes_later, doing_noted}
 
 -- ---- an action and its place
 
@@ -55,11 +56,14 @@ not_future u c b is (inr later) = lt_irrefl c.tree.inc (subst (λ n. c.tree.inc 
 pub apart_number : (u w : Uid) → w ≢ u → (uid_number w == uid_number u) ≡ false
 apart_number u w other = test_not (uid_number w) (uid_number u) (λ e. other (number_tells w u e))
 
-module _ (x k : ℕ) (tops : ℕ → Bool) (W : World) (M : Seen) (d : Disk) (t : Parts) (u : Uid) (b : Branch) (q : Doing) (f : Doing → Doing) (sees : SeesDisks x tops W (up k d t M))
-    (found : branch_of u t.coord.tree ≡ Some b) (is_open_yet : b.ended ≡ None) (doing : doing_of u t.coord ≡ Some q) (top : tops (uid_number u) ≡ true) (plain : W.disk.serial (uid_number u) ≡ false)
+module _ (x k : ℕ) (tops : Kinds) (W : World) (M : Seen) (d : Disk) (t : Parts) (u : Uid) (b : Branch) (q : Doing) (f : Doing → Doing) (sees : SeesDisks x tops W (up k d t M))
+    (found : branch_of u t.coord.tree ≡ Some b) (is_open_yet : b.ended ≡ None) (doing : doing_of u t.coord ≡ Some q) (top : tops.is_top (uid_number u) ≡ true) (plain : W.disk.serial (uid_number u) ≡ false) (took : (let r = f q in r.took) ≡ q.took) (now : (U : World) → IsLater W U → KnowsNow x U (let r = f q in r.now))
     (goes : TopGoes (uid_number u) (λ S. Works x tops S (uid_number u) b.kind (f q).now) W) where
   abbrev V : World
   V = run W goes.effects
+
+  later : IsLater W V
+  later = effects_are_later W goes.effects goes.allowed sees.whole
 
   abbrev C : Coord
   C = on_doing u f t.coord
@@ -133,9 +137,9 @@ module _ (x k : ℕ) (tops : ℕ → Bool) (W : World) (M : Seen) (d : Disk) (t 
         λ v. ⊎_elim (λ h. inl (ap (λ (S : State). S.conf (uid_number a)) goes.only.rest ∙ h)) (λ h. inr (ap (λ (S : State). S.light (uid_number a)) goes.only.rest ∙ h)) (c.1 (goes.only.outcomes (uid_number a) c.0 v)),
       )
 
-  kinds_stay : (z : ℕ) → V.disk.begun z ≡ true → (tops z ≡ true) × (V.disk.serial z ≡ false)
+  kinds_stay : (z : ℕ) → V.disk.begun z ≡ true → (tops.is_top z ≡ true) × (V.disk.serial z ≡ false)
   kinds_stay z began = ⊎_elim
-      (λ (e : z ≡ uid_number u). (ap tops e ∙ top, ap (λ (S : State). S.serial z) goes.only.rest ∙ ap (λ n. W.disk.serial n) e ∙ plain))
+      (λ (e : z ≡ uid_number u). (ap tops.is_top e ∙ top, ap (λ (S : State). S.serial z) goes.only.rest ∙ ap (λ n. W.disk.serial n) e ∙ plain))
       (λ (e : (z == uid_number u) ≡ false). let r = sees.kinds z (sym (goes.only.starts z e) ∙ began) in (r.0, ap (λ (S : State). S.serial z) goes.only.rest ∙ r.1))
       (test_cases z (uid_number u))
 
@@ -149,6 +153,7 @@ module _ (x k : ℕ) (tops : ℕ → Bool) (W : World) (M : Seen) (d : Disk) (t 
   pub top_goes_seen : SeesDisks x tops V (up k d (with_coord t (on_doing u f t.coord)) M)
   top_goes_seen = record {
     whole = run_keeps W goes.effects goes.allowed sees.whole;
+    fixed = fixed_later tops W V later sees.fixed;
     kinds = kinds_stay;
     stores = nodes_go (λ m n. SeesStore x m n.disk.store W.disk) (λ m n. SeesStore x m n.disk.store V.disk) sees.stores (λ s. stores_by_top x k (uid_number u) d.store W V goes.only s) (λ m n e s. stores_by_top x m (uid_number u) n.disk.store W V goes.only s);
     entry = λ n is. nodes_go (λ m n. m ≡ 1 → SeesEntry x n.disk.names W.disk) (λ m n. m ≡ 1 → SeesEntry x n.disk.names V.disk) (λ m n there one. sees.entry n (ap (λ j. (up k d t M).nodes j) (sym one) ∙ there))
@@ -156,6 +161,8 @@ module _ (x k : ℕ) (tops : ℕ → Bool) (W : World) (M : Seen) (d : Disk) (t 
     records = nodes_go (λ m n. SeesRecords m n.disk.intents W.disk) (λ m n. SeesRecords m n.disk.intents V.disk) sees.records (λ s. records_go k (record { number = k; disk = d; live = Some t }) s) (λ m n e s. records_go m n s);
     coords = λ m n p is live. nodes_go (λ m n. (p : Parts) → n.live ≡ Some p → SeesCoord x m n.disk.inc tops p.coord W.disk) (λ m n. (p : Parts) → n.live ≡ Some p → SeesCoord x m n.disk.inc tops p.coord V.disk) (λ m n there p live. sees.coords m n p there live)
         (λ s p live. let same : with_coord t (on_doing u f t.coord) ≡ p = cc live in subst (λ (z : Parts). SeesCoord x k d.inc tops z.coord V.disk) same coord_goes) (λ m n e s p live. coord_stays m n.disk.inc p e (s p live)) m n is p live;
+    notes = λ m n p is live. nodes_go (λ m n. (p : Parts) → n.live ≡ Some p → SeesNotes x n.disk.intents p.coord W) (λ m n. (p : Parts) → n.live ≡ Some p → SeesNotes x n.disk.intents p.coord V) (λ m n there p live. sees.notes m n p there live)
+        (λ s p live. let same : with_coord t (on_doing u f t.coord) ≡ p = cc live in subst (λ (z : Parts). SeesNotes x d.intents z.coord V) same (doing_noted x V d.intents t.coord u q f (notes_later x W V later d.intents t.coord (s t refl)) doing took (now V later))) (λ m n e s p live. notes_later x W V later n.disk.intents p.coord (s p live)) m n is p live;
     downs = nodes_go (λ m n. n.live ≡ None → SeesDown m n.disk.inc W.disk) (λ m n. n.live ≡ None → SeesDown m n.disk.inc V.disk) (λ m n there live. sees.downs m n there live) (λ s live. absurd (cc live)) (λ m n e s live. down_stays m n.disk.inc e (s live));
     confirmed = λ n p o is live named. nodes_go (λ m n. m ≡ 1 → (p : Parts) (o : Naming) → n.live ≡ Some p → p.naming ≡ Some o → SeesConfirmed o W.disk) (λ m n. m ≡ 1 → (p : Parts) (o : Naming) → n.live ≡ Some p → p.naming ≡ Some o → SeesConfirmed o V.disk)
         (λ m n there one p o live named. sees.confirmed n p o (ap (λ j. (up k d t M).nodes j) (sym one) ∙ there) live named)
@@ -164,4 +171,4 @@ module _ (x k : ℕ) (tops : ℕ → Bool) (W : World) (M : Seen) (d : Disk) (t 
   }
 
 pub tops_are_seen : TopsAreSeen
-tops_are_seen x k tops W M d t u b q f sees found open_yet doing top plain goes = top_goes_seen x k tops W M d t u b q f sees found open_yet doing top plain goes
+tops_are_seen x k tops W M d t u b q f sees found open_yet doing top plain took now goes = top_goes_seen x k tops W M d t u b q f sees found open_yet doing top plain took now goes
