@@ -1,6 +1,5 @@
 -- A top that is aborted, walked through at its coordinator.
-use Rattle.std.proofs.Common.{◌≡◌, ◌≢◌, ℕ, ◌==◌, ◌&&◌, List, [], ◌∷◌, ◌++◌, Bool, true, false, Option, Some, None, refl, sym, ◌∙◌, ap, subst, inl, map}
-use Rattle.std.specs.Prelude.{if◌then◌else◌}
+use Rattle.std.proofs.Common.{◌≡◌, ℕ, List, [], ◌∷◌, ◌++◌, true, false, Option, Some, None, refl, sym, ◌∙◌, ap, subst, inl, map}
 use Rattle.arj_protocol.specs.Words.{Uid, Kind, Cause, Path}
 use Rattle.arj_protocol.specs.Words.body
 use Rattle.arj_protocol.specs.Words.ending
@@ -13,12 +12,11 @@ use Rattle.arj_protocol.specs.Ending.{says, say_for, ended, tell, tolds_by, told
 use Rattle.arj_protocol.specs.Node.{Parts, with_coord}
 use Rattle.arj_protocol.specs.Order.{at_uid, uid_number}
 use Rattle.arj_protocol.specs.Says.{AreAll}
-use Rattle.arj_protocol.specs.Tree.{Branch, branch_of, root_of, ended_at, at_place}
+use Rattle.arj_protocol.specs.Tree.{Branch, branch_of, root_of}
 use Rattle.arj_protocol.specs.World.{numbered}
 use Rattle.arj_disk_law.specs.Effects as machine
 use Rattle.arj_disk_law.specs.Effects.{World, MaySend, after}
 use Rattle.arj_disk_law.specs.Messages as mail
-use Rattle.arj_disk_law.specs.State as disk
 use Rattle.arj_disk_law.specs.State.{State, is_gone}
 use Rattle.arj_disk_law.proofs.Base.{never}
 use Rattle.arj_view_law.specs.Seen.{Post, Seen, up, said, posted}
@@ -40,7 +38,7 @@ works_open x S t (Committing (Voting p left)) w = ap is_gone w
 works_open x S t (Committing (Preparing p left)) w = ap is_gone w.stage
 works_open x S t (Committing (Confirming p)) w = ap is_gone w.stage
 
-top_open : (x : ℕ) (tops : Kinds) (S : State) (t : ℕ) (k : Kind) (now : Now) → tops.is_top t ≡ true → Works x tops S t k now → is_gone (S.stage t) ≡ false
+pub top_open : (x : ℕ) (tops : Kinds) (S : State) (t : ℕ) (k : Kind) (now : Now) → tops.is_top t ≡ true → Works x tops S t k now → is_gone (S.stage t) ≡ false
 top_open x tops S t kind.Nested now top w = absurd (never top w)
 top_open x tops S t kind.Serial now top w = absurd (never top w.0)
 top_open x tops S t kind.Top now top w = works_open x S t now w.1

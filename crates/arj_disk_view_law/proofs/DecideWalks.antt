@@ -1,6 +1,6 @@
 -- A decision, walked through at its coordinator.
-use Rattle.std.proofs.Common.{◌≡◌, ◌≢◌, ◌⊎◌, ℕ, ◌==◌, ◌&&◌, ◌||◌, List, [], ◌∷◌, ◌++◌, Bool, true, false, Option, Some, None, refl, sym, ◌∙◌, ap, subst, inl, inr, ⊎_elim, map}
-use Rattle.std.specs.Prelude.{if◌then◌else◌, not, is_some, option_map}
+use Rattle.std.proofs.Common.{◌≡◌, ◌≢◌, ◌⊎◌, ℕ, ◌==◌, ◌||◌, List, [], ◌∷◌, ◌++◌, Bool, true, false, Option, Some, None, refl, sym, ◌∙◌, ap, subst, inl, inr, ⊎_elim, map}
+use Rattle.std.specs.Prelude.{if◌then◌else◌, not, is_some}
 use Rattle.std.proofs.lemmas.List.{append_assoc}
 use Rattle.std.specs.List.{AllByRecursion}
 use Rattle.arj_protocol.specs.Words.{Uid, End, Kind, ObjectState, object}
@@ -10,15 +10,15 @@ use Rattle.arj_protocol.specs.Words.kind
 use Rattle.arj_protocol.specs.Words.message
 use Rattle.arj_protocol.specs.Commit as commit
 use Rattle.arj_protocol.specs.Commit.{Confirming, changed_of, participants, has_record}
-use Rattle.arj_protocol.specs.Coord.{Coord, Doing, Now, Idle, Committing, Root, doing_of, on_doing, on_root, root_at}
+use Rattle.arj_protocol.specs.Coord.{Coord, Doing, Now, Idle, Committing, Root, doing_of}
 use Rattle.arj_protocol.specs.Effect.{Disk, Effect, Do, PutIntent, Intent, Before, After, InPart}
-use Rattle.arj_protocol.specs.Ending.{says, say_for, decided, awaits, decided_told, tell, record_work, root_after, states_after}
+use Rattle.arj_protocol.specs.Ending.{says, say_for, decided, decided_told, tell, record_work}
 use Rattle.arj_protocol.specs.Node.{Parts, with_coord}
 use Rattle.arj_protocol.specs.Order as order
 use Rattle.arj_protocol.specs.Order.{at_uid, put_uid, put_number, uid_number}
 use Rattle.arj_protocol.specs.Says.{AreAll}
 use Rattle.arj_protocol.specs.Step.{Node}
-use Rattle.arj_protocol.specs.Tree.{Tree, root_of, ended_at, is_own, is_open, is_open_branch, at_place}
+use Rattle.arj_protocol.specs.Tree.{root_of, is_open, is_open_branch}
 use Rattle.arj_protocol.specs.World.{numbered}
 use Rattle.arj_disk_law.specs.Core.{Core}
 use Rattle.arj_disk_law.specs.Effects as machine
@@ -32,18 +32,18 @@ use Rattle.arj_view_law.specs.Seen.{Post, Seen, up, said, posted}
 use Rattle.arj_view_law.specs.Walks.{Walks, Stops, Up}
 use Rattle.arj_disk_view_law.specs.Asking.{SeesConfirming}
 use Rattle.arj_disk_view_law.specs.Deciding.{SeesRecords, Stills}
-use Rattle.arj_disk_view_law.specs.Pairs.{Among, packed}
-use Rattle.arj_disk_view_law.specs.Plans.{plan_at, plan_by}
-use Rattle.arj_disk_view_law.specs.Sees.{Kinds, SeesDisks, SeesCoord, SeesNotes, IsSettled, IsKnown, KnowsRoot, KnowsNow, IsLater, is_awaited_by, IsSeenByDisks, Works, WorksBy, WaitsForNaming, ConfirmedIsHeard}
+use Rattle.arj_disk_view_law.specs.Pairs.{Among}
+use Rattle.arj_disk_view_law.specs.Plans.{plan_at}
+use Rattle.arj_disk_view_law.specs.Sees.{IsOneChange, Kinds, SeesDisks, SeesCoord, SeesNotes, IsSettled, KnowsRoot, KnowsNow, IsLater, is_awaited_by, IsSeenByDisks, Works, WorksBy, WaitsForNaming, ConfirmedIsHeard}
+use Rattle.arj_disk_view_law.proofs.DecidedCoord.{decided_tree, decided_doings, decided_tellings, decided_telling, decided_doing, decided_roots}
 use Rattle.arj_disk_view_law.proofs.DecidingSteps.{takes_part, record_is_written, decision_is_made, commits_are_undecided, bare_commit_ends, decision_tells}
-use Rattle.arj_disk_view_law.proofs.Doings.{doing_here, doing_other, doing_tree}
-use Rattle.arj_disk_view_law.proofs.Ended.{HasEnded, tree_ended, ended_coord, ended_noted, calm_seen}
+use Rattle.arj_disk_view_law.proofs.Ended.{HasEnded, ended_coord, ended_noted, calm_seen}
 use Rattle.arj_disk_view_law.proofs.Frames.{node_here, coord_same, says_seen, posts_seen, sends_seen}
 use Rattle.arj_disk_view_law.proofs.Halts.{stops_seen}
 use Rattle.arj_disk_view_law.proofs.HeardWalks.{is_say, say_walk}
 use Rattle.arj_disk_view_law.proofs.Keys as keys
 use Rattle.arj_disk_view_law.proofs.Later.{effects_are_later}
-use Rattle.arj_disk_view_law.proofs.Notes.{all_to, all_put, known_at, root_later, notes_later, doing_telling, doing_roots}
+use Rattle.arj_disk_view_law.proofs.Notes.{notes_later}
 use Rattle.arj_disk_view_law.proofs.Planned.{has_same}
 use Rattle.arj_disk_view_law.proofs.TopFrames.{branch_at, apart_number}
 
@@ -183,46 +183,6 @@ module _ (x : ℕ) (tops : Kinds) (e k : ℕ) (d : Disk) (t : Parts) (act : Uid)
     is = λ w at. ap (λ f. f (uid_number w)) is ∙ put_other (uid_number act) o W.disk.intent (uid_number w) (apart_number act w (λ same. never (ap (λ j. j == k) (sym at ∙ ap (λ (z : Uid). z.node) same ∙ here) ∙ test_same k) apart)) ∙ s.is w at;
   }
 
-  -- the coordinator has ended the top
-  abbrev c0 : Coord
-  c0 = record t.coord { tree = ended_at act ending.Commit t.coord.tree }
-
-  abbrev c1 : Coord
-  c1 = on_doing act (λ (r : Doing). record r { now = Idle }) c0
-
-  abbrev c2 : Coord
-  c2 = on_doing act (λ (r : Doing). record r { took = participants p }) c1
-
-  abbrev c3 : Coord
-  c3 = on_root (root_of p.path) (root_after p) c2
-
-  awaits_same : {A : Type 0} (f : Tree → List Doing → A) (c : Coord) → (let a = awaits act p c in f a.tree a.doings) ≡ f c.tree c.doings
-  awaits_same f c = by (has_record p)
-    where
-      by : (b : Bool) → (let a = (if b then record c { telling = put_uid act (record { root = root_of p.path; nodes = participants p }) c.telling } else c) in f a.tree a.doings) ≡ f c.tree c.doings
-      by true = refl
-      by false = refl
-
-  tree_is : C.tree ≡ ended_at act ending.Commit t.coord.tree
-  tree_is = awaits_same (λ r ds. r) c3 ∙ doing_tree act (λ (r : Doing). record r { took = participants p }) c1 ∙ doing_tree act (λ (r : Doing). record r { now = Idle }) c0
-
-  has_ended : HasEnded act waits.branch ending.Commit t.coord.tree C.tree
-  has_ended = subst (λ v. HasEnded act waits.branch ending.Commit t.coord.tree v) (sym tree_is) (tree_ended act waits.branch ending.Commit t.coord.tree waits.found)
-
-  doing_first : (w : Uid) → doing_of w c0 ≡ doing_of w t.coord
-  doing_first w =
-      let en : HasEnded act waits.branch ending.Commit t.coord.tree (ended_at act ending.Commit t.coord.tree) = tree_ended act waits.branch ending.Commit t.coord.tree waits.found in
-      λ i. if (w.node == en.node i) && (w.inc == en.inc i) then at_place w.num t.coord.doings else None
-
-  doings_stay : (w : Uid) → w ≢ act → doing_of w C ≡ doing_of w t.coord
-  doings_stay w other =
-      let at_first : doing_of act c0 ≡ Some waits.doing = doing_first act ∙ waits.at_work in
-      let at_next : doing_of act c1 ≡ Some (record waits.doing { now = Idle }) = doing_here act (λ (r : Doing). record r { now = Idle }) c0 waits.doing at_first in
-      awaits_same (λ r ds. if is_own w r then at_place w.num ds else None) c3
-      ∙ doing_other act w (λ (r : Doing). record r { took = participants p }) c1 (record waits.doing { now = Idle }) at_next other
-      ∙ doing_other act w (λ (r : Doing). record r { now = Idle }) c0 waits.doing at_first other
-      ∙ doing_first w
-
   -- what the coordinator has taken note of
   notes : SeesNotes x d.intents t.coord W
   notes = sees.notes k (record { number = k; disk = d; live = Some t }) t (node_here M k (record { number = k; disk = d; live = Some t })) refl
@@ -230,50 +190,28 @@ module _ (x : ℕ) (tops : Kinds) (e k : ℕ) (d : Disk) (t : Parts) (act : Uid)
   open_here : is_open act t.coord.tree ≡ true
   open_here = ap is_open_branch waits.found ∙ ap (λ (o : Option End). not (is_some o)) waits.unended
 
-  -- the coordinator but for what it awaits
-  telling_first : c3.telling ≡ t.coord.telling
-  telling_first = doing_telling act (λ (r : Doing). record r { took = participants p }) c1 ∙ doing_telling act (λ (r : Doing). record r { now = Idle }) c0
+  -- the coordinator has ended the top
+  has_ended : HasEnded act waits.branch ending.Commit t.coord.tree C.tree
+  has_ended = decided_tree t.coord act waits.branch waits.doing p waits.found waits.at_work
 
-  roots_first : c2.roots ≡ t.coord.roots
-  roots_first = doing_roots act (λ (r : Doing). record r { took = participants p }) c1 ∙ doing_roots act (λ (r : Doing). record r { now = Idle }) c0
+  doings_stay : (w : Uid) → w ≢ act → doing_of w C ≡ doing_of w t.coord
+  doings_stay = decided_doings t.coord act waits.branch waits.doing p waits.found waits.at_work
 
   tellings_stay : (w : Uid) → w ≢ act → at_uid w C.telling ≡ at_uid w t.coord.telling
-  tellings_stay w other = by (has_record p)
-    where
-      by : (b : Bool) → at_uid w (let a = (if b then record c3 { telling = put_uid act (record { root = root_of p.path; nodes = participants p }) c3.telling } else c3) in a.telling) ≡ at_uid w t.coord.telling
-      by true = keys.put_other w act (record { root = root_of p.path; nodes = participants p }) c3.telling other ∙ ap (λ ts. at_uid w ts) telling_first
-      by false = ap (λ ts. at_uid w ts) telling_first
+  tellings_stay = decided_tellings t.coord act waits.branch waits.doing p waits.found waits.at_work
 
   telling_here : has_record p ≡ true → at_uid act C.telling ≡ Some (record { root = root_of p.path; nodes = participants p })
-  telling_here has = ap (λ b. at_uid act (let a = (if b then record c3 { telling = put_uid act (record { root = root_of p.path; nodes = participants p }) c3.telling } else c3) in a.telling)) has ∙ keys.put_same act (record { root = root_of p.path; nodes = participants p }) c3.telling
+  telling_here = decided_telling t.coord act waits.branch waits.doing p waits.found waits.at_work
 
   doing_now : doing_of act C ≡ Some (record waits.doing { now = Idle; took = participants p })
-  doing_now = awaits_same (λ r ds. if is_own act r then at_place act.num ds else None) c3
-      ∙ doing_here act (λ (r : Doing). record r { took = participants p }) c1 (record waits.doing { now = Idle }) (doing_here act (λ (r : Doing). record r { now = Idle }) c0 waits.doing (doing_first act ∙ waits.at_work))
+  doing_now = decided_doing t.coord act waits.branch waits.doing p waits.found waits.at_work
 
   -- what it prepared is known from now on
   roots_known : (V : World) → IsLater W V → ((w : disk.Packed) → (plan_at x p).writes ≡ Some w → Known V.disk w) → AllByRecursion (λ (r : ℕ × Root). KnowsRoot x V r.1) C.roots
-  roots_known V later writes = by (has_record p)
+  roots_known V later writes = decided_roots t.coord act waits.branch waits.doing p waits.found waits.at_work x W V notes.roots changes later writes
     where
-      all : AllByRecursion (λ (r : ℕ × Root). KnowsRoot x V r.1) c2.roots
-      all = subst (λ rs. AllByRecursion (λ (r : ℕ × Root). KnowsRoot x V r.1) rs) (sym roots_first) (all_to (λ (r : ℕ × Root). KnowsRoot x W r.1) (λ (r : ℕ × Root). KnowsRoot x V r.1) (λ r h. root_later x W V later r.1 h) t.coord.roots notes.roots)
-
-      old : KnowsRoot x V (root_at (root_of p.path) c2)
-      old = known_at x V (root_of p.path) c2 all
-
-      changed_known : (st : ObjectState) → Among st p.changed → IsKnown x V st
-      changed_known st among of = let one = waits.changes x st among of in writes (packed st) (ap (λ o. (plan_by o (changed_of x p)).writes) one.uses ∙ ap (λ o. option_map packed o) one.found)
-
-      put_all : (ss : List ObjectState) (states : List (ℕ × ObjectState)) → ((st : ObjectState) → Among st ss → IsKnown x V st) → AllByRecursion (λ (s : ℕ × ObjectState). IsKnown x V s.1) states → AllByRecursion (λ (s : ℕ × ObjectState). IsKnown x V s.1) (states_after ss states)
-      put_all [] states each h = h
-      put_all (s ∷ ss) states each h = put_all ss (put_number s.uid.num s states) (λ st among. each st (inr among)) (all_put (IsKnown x V) s.uid.num s states (each s (inl refl)) h)
-
-      after_all : AllByRecursion (λ (r : ℕ × Root). KnowsRoot x V r.1) c3.roots
-      after_all = all_put (KnowsRoot x V) (root_of p.path).num (root_after p (root_at (root_of p.path) c2)) c2.roots (record { joined = old.joined; states = put_all p.changed (root_at (root_of p.path) c2).states changed_known old.states }) all
-
-      by : (b : Bool) → AllByRecursion (λ (r : ℕ × Root). KnowsRoot x V r.1) (let a = (if b then record c3 { telling = put_uid act (record { root = root_of p.path; nodes = participants p }) c3.telling } else c3) in a.roots)
-      by true = after_all
-      by false = after_all
+      changes : (st : ObjectState) → Among st p.changed → st.uid ≡ object x → IsOneChange p x st
+      changes st among of = let one = waits.changes x st among of in record { found = one.found; used = one.used; uses = one.uses }
 
   -- the line and what is told
   says_commit : AreAll is_say (says act body.Committed t.coord)

@@ -137,9 +137,9 @@ ended_noted x intents c C W u b how s found ended tellings doings mine own roots
   settled = λ w i there. ⊎_elim
       (λ (same : w ≡ u). inr (subst (λ a. IsSettled a i C.telling W) (sym same) (mine i (ap (λ a. at_uid a intents) (sym same) ∙ there))))
       (λ (other : w ≢ u). ⊎_elim
-          (λ o. inl (ap is_open_branch (ended_other u b how c.tree C.tree found ended w other) ∙ o))
-          (λ (h : IsSettled w i c.telling W). inr (record { done = h.done; awaited = λ m on. ⊎_elim (λ a. inl (ap (is_awaited_by m) (tellings w other) ∙ a)) (λ a. inr a) (h.awaited m on) }))
-          (s.settled w i there))
+      (λ o. inl (ap is_open_branch (ended_other u b how c.tree C.tree found ended w other) ∙ o))
+      (λ (h : IsSettled w i c.telling W). inr (record { done = h.done; awaited = λ m on. ⊎_elim (λ a. inl (ap (is_awaited_by m) (tellings w other) ∙ a)) (λ a. inr a) (h.awaited m on) }))
+      (s.settled w i there))
       (uid_cases w u);
   taken = λ w q n does on. ⊎_elim
       (λ (same : w ≡ u). subst (λ a. (disk.decided W.disk (uid_number a) ≡ true) ⊎ (W.disk.bare (uid_number a) ≡ true)) (sym same) ((own q (ap (λ a. doing_of a C) (sym same) ∙ does)).0 n on))

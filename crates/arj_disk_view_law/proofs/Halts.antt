@@ -70,7 +70,7 @@ halts_rest x tops W M [] s = s
 halts_rest x tops W M (t ∷ ts) s = halts_rest x tops (after W (Effects.Halt t)) M ts (halt_rest x tops W M t s)
 
 -- the number stands in the list
-abbrev Among : ℕ → List ℕ → Type 0
+abbrev pub Among : ℕ → List ℕ → Type 0
 Among t [] = ⊥
 Among t (z ∷ zs) = (z ≡ t) ⊎ Among t zs
 
@@ -78,7 +78,7 @@ gone_stays : (W : World) (ts : List ℕ) (t : ℕ) → is_gone (W.disk.stage t) 
 gone_stays W [] t h = h
 gone_stays W (z ∷ zs) t h = gone_stays (after W (Effects.Halt z)) zs t (put_cases (λ g. is_gone g ≡ true) z Gone W.disk.stage t (λ e. refl) (λ e. h))
 
-halted_gone : (W : World) (ts : List ℕ) (t : ℕ) → Among t ts → is_gone ((Halted ts W).disk.stage t) ≡ true
+pub halted_gone : (W : World) (ts : List ℕ) (t : ℕ) → Among t ts → is_gone ((Halted ts W).disk.stage t) ≡ true
 halted_gone W [] t a = absurd a
 halted_gone W (z ∷ zs) t (inl same) = gone_stays (after W (Effects.Halt z)) zs t (ap is_gone (ap (λ k. put z Gone W.disk.stage k) (sym same) ∙ put_same z Gone W.disk.stage))
 halted_gone W (z ∷ zs) t (inr more) = halted_gone (after W (Effects.Halt z)) zs t more
@@ -87,7 +87,7 @@ stage_stays : (W : World) (ts : List ℕ) (t : ℕ) → (Among t ts → ⊥) →
 stage_stays W [] t none = refl
 stage_stays W (z ∷ zs) t none = stage_stays (after W (Effects.Halt z)) zs t (λ a. none (inr a)) ∙ put_other z Gone W.disk.stage t (test_not t z (λ e. none (inl (sym e))))
 
-rest_same : (W : World) (ts : List ℕ) → (Halted ts W).disk ≡ record W.disk { stage = (Halted ts W).disk.stage }
+pub rest_same : (W : World) (ts : List ℕ) → (Halted ts W).disk ≡ record W.disk { stage = (Halted ts W).disk.stage }
 rest_same W [] = refl
 rest_same W (z ∷ zs) = rest_same (after W (Effects.Halt z)) zs
 
@@ -106,7 +106,7 @@ among_both t (a ∷ more) bs (inl (inl same)) = inl same
 among_both t (a ∷ more) bs (inl (inr rest)) = inr (among_both t more bs (inl rest))
 among_both t (a ∷ more) bs (inr b) = inr (among_both t more bs (inr b))
 
-among_map : (f : ℕ → ℕ) (j : ℕ) (js : List ℕ) → Among j js → Among (f j) (map {A = ℕ} {B = ℕ} f js)
+pub among_map : (f : ℕ → ℕ) (j : ℕ) (js : List ℕ) → Among j js → Among (f j) (map {A = ℕ} {B = ℕ} f js)
 among_map f j [] a = absurd a
 among_map f j (i ∷ is) (inl same) = inl (ap f same)
 among_map f j (i ∷ is) (inr more) = inr (among_map f j is more)

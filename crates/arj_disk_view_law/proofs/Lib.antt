@@ -1,13 +1,16 @@
 pub mod AbortWalks
+pub mod ActionAborts
 pub mod Asked
 pub mod AskingSteps
 pub mod ConfirmKeeps
 pub mod ConfirmSteps
 pub mod DecideWalks
+pub mod DecidedCoord
 pub mod DecidingSteps
 pub mod Doings
 pub mod Ended
 pub mod Ending
+pub mod Ends
 pub mod EntrySteps
 pub mod Frames
 pub mod Halts
@@ -20,5 +23,6 @@ pub mod PairSteps
 pub mod Planned
 pub mod StoreSteps
 pub mod StoreWalks
+pub mod TellWalks
 pub mod TopFrames
 pub mod ToldWalks

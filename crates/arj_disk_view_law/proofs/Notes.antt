@@ -1,6 +1,6 @@
 -- What a coordinator has taken note of stays as the machine goes on, and as its actions and roots change.
-use Rattle.std.proofs.Common.{◌≡◌, ◌≢◌, ◌⊎◌, ℕ, ◌&&◌, ◌||◌, List, [], ◌∷◌, ◌++◌, Bool, true, false, cond, Option, Some, None, refl, sym, ◌∙◌, ap, subst, inl, inr, ⊎_elim}
-use Rattle.std.specs.Prelude.{⊤, if◌then◌else◌, unwrap_or}
+use Rattle.std.proofs.Common.{◌≡◌, ℕ, List, [], ◌∷◌, ◌++◌, Bool, true, false, cond, Option, Some, None, refl, sym, ◌∙◌, ap, subst, inl, inr, ⊎_elim}
+use Rattle.std.specs.Prelude.{if◌then◌else◌, unwrap_or}
 use Rattle.std.specs.List.{AllByRecursion, list_any}
 use Rattle.std.specs.Ordering.{is_eq, match_ordering, nat_cmp}
 use Rattle.std.specs.declared.cmp.Ordering.{Ordering}
@@ -12,10 +12,9 @@ use Rattle.arj_protocol.specs.Coord.{Coord, Doing, Joined, Root, Went, Now, Idle
 use Rattle.arj_protocol.specs.Effect.{Intent}
 use Rattle.arj_protocol.specs.Order as order
 use Rattle.arj_protocol.specs.Order.{at_number, put_number, uid_number}
-use Rattle.arj_protocol.specs.Tree.{Tree, is_open}
+use Rattle.arj_protocol.specs.Tree.{is_open}
 use Rattle.arj_disk_law.specs.Effects.{World}
 use Rattle.arj_disk_law.specs.Messages as mail
-use Rattle.arj_disk_law.specs.State.{State}
 use Rattle.arj_disk_view_law.specs.Pairs.{packed}
 use Rattle.arj_disk_view_law.specs.Sees.{Kinds, IsFixed, IsKnown, IsKnownIfThere, KnowsRoot, KnowsNow, IsSettled, IsLater, SeesNotes}
 use Rattle.arj_disk_view_law.proofs.Doings.{doing_here, doing_other, doing_tree}

@@ -1,7 +1,9 @@
 pub mod Asking
 pub mod Confirming
+pub mod Coordinating
 pub mod Deciding
 pub mod Entries
+pub mod Knows
 pub mod Pairs
 pub mod Plans
 pub mod Sees

@@ -14,6 +14,7 @@ mod confirming;
 mod coordinators;
 mod deciding;
 mod entries;
+mod finishing;
 mod sees;
 mod stores;
 
@@ -22,5 +23,6 @@ pub use confirming::{confirmations_are_seen, new_entries_are_seen};
 pub use coordinators::prepare_steps_keep_the_disk_half;
 pub use deciding::{decisions_are_seen, outcomes_may_be_told};
 pub use entries::ends_of_entries_are_seen;
+pub use finishing::ends_keep_the_disk_half;
 pub use sees::{claims_stay_true, stores_keep_the_disk_half};
 pub use stores::stores_are_seen;

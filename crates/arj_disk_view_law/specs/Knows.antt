@@ -1,0 +1,34 @@
+-- What is known of the protocol without the machine, on which the disk half stands.
+use Rattle.std.specs.Prelude.{◌≡◌, ℕ, true, false, nat_le, List, [], ◌∷◌, length, Some, None}
+use Rattle.arj_protocol.specs.Words.{Uid, Kind, Path, uids_of, is_on}
+use Rattle.arj_protocol.specs.Words.kind
+use Rattle.arj_protocol.specs.Ask.{actor}
+use Rattle.arj_protocol.specs.Coord.{Coord, Doing, doing_of}
+use Rattle.arj_protocol.specs.Effect.{Intent}
+use Rattle.arj_protocol.specs.Order.{at_uid, uid_number}
+use Rattle.arj_protocol.specs.Tree.{branch_of, is_open, root_of}
+use Rattle.arj_protocol.specs.Tree as tree
+use Rattle.arj_disk_view_law.specs.Sees.{Kinds}
+
+-- Tops are actions, each of its root's node and incarnation.
+pub record KnowsKinds (tops : Kinds) : Type 0 where
+  pub named : (z : ℕ) → tops.is_top z ≡ true → (w : Uid) × (uid_number w ≡ z)
+  pub own : (w r : Uid) → tops.is_top (uid_number w) ≡ true → tops.root (uid_number w) ≡ uid_number r → (w.node ≡ r.node) × (w.inc ≡ r.inc)
+
+-- An action's path by its kind: tops that are no constituents and serializing actions are their own roots.
+abbrev pub IsOfKind : Kinds → Uid → Kind → Path → Type 0
+IsOfKind tops u kind.Nested p = (tops.is_top (uid_number u) ≡ false) × (nat_le (length (uids_of p)) 1 ≡ false)
+IsOfKind tops u kind.Serial p = (tops.is_top (uid_number u) ≡ false) × (tops.is_serial (uid_number u) ≡ true) × (uids_of p ≡ u ∷ [])
+IsOfKind tops u kind.Constituent p = (tops.is_top (uid_number u) ≡ true) × (tops.is_serial (uid_number u) ≡ false) × (uids_of p ≡ root_of p ∷ u ∷ [])
+IsOfKind tops u _ p = (tops.is_top (uid_number u) ≡ true) × (tops.is_serial (uid_number u) ≡ false) × (uids_of p ≡ u ∷ [])
+
+-- What is known of a coordinator and the records beside it: each action stands at its place, at the end of its path, which its
+-- root begins; it is at work in its place; an open one has no record; and a record has its top's root.
+pub record KnowsCoord (tops : Kinds) (intents : List (Uid × Intent)) (c : Coord) : Type 0 where
+  pub path : (u : Uid) (b : tree.Branch) → branch_of u c.tree ≡ Some b → actor b.path ≡ u
+  pub kind : (u : Uid) (b : tree.Branch) → branch_of u c.tree ≡ Some b → IsOfKind tops u b.kind b.path
+  pub root : (u : Uid) (b : tree.Branch) → branch_of u c.tree ≡ Some b → tops.root (uid_number u) ≡ uid_number (root_of b.path)
+  pub headed : (u : Uid) (b : tree.Branch) → branch_of u c.tree ≡ Some b → is_on (uids_of b.path) (root_of b.path) ≡ true
+  pub at_work : (u : Uid) (b : tree.Branch) → branch_of u c.tree ≡ Some b → (q : Doing) × (doing_of u c ≡ Some q)
+  pub unrecorded : (u : Uid) → is_open u c.tree ≡ true → at_uid u intents ≡ None
+  pub rooted : (u : Uid) (i : Intent) → at_uid u intents ≡ Some i → tops.root (uid_number u) ≡ uid_number i.root
