@@ -20,7 +20,7 @@ mod stores;
 
 pub use asking::{plans_are_seen, prepare_steps_are_seen};
 pub use confirming::{confirmations_are_seen, new_entries_are_seen};
-pub use coordinators::prepare_steps_keep_the_disk_half;
+pub use coordinators::{decisions_keep_the_disk_half, prepare_steps_keep_the_disk_half};
 pub use deciding::{decisions_are_seen, outcomes_may_be_told};
 pub use entries::ends_of_entries_are_seen;
 pub use finishing::ends_keep_the_disk_half;
