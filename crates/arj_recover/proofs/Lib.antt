@@ -1,0 +1,4 @@
+mod Disks
+mod Raised
+mod Firsts
+mod FirstPair

@@ -1,0 +1,30 @@
+use Rattle.std.proofs.Common.{◌∙◌, ◌≤◌, List, filter, map, ap, sym, subst, length}
+use Rattle.std.proofs.lemmas.Result.{on_ok_weaker}
+use Rattle.std.specs.List.{IsDistinct}
+use Rattle.arj_base.specs.Uid.{uid_eq}
+use Rattle.arj_disk.specs.declared.slot.Role.TheVariants as role
+use Rattle.arj_protocol.specs.Order.{has}
+use Rattle.arj_protocol.specs.Step.{first_state, pair_with}
+use Rattle.arj_protocol.specs.Words.{ObjectLine, ObjectState}
+use Rattle.arj_store.specs.Pair.{AreDistinct, HasOnly, uid_of}
+use Rattle.arj_store_law.specs.Files.{IsPairOf}
+use Rattle.arj_recover.proofs.FirstPair.{first_pair}
+use Rattle.arj_recover.proofs.Firsts.{are_distinct, are_few, distinct_at}
+use Rattle.arj_recover.proofs.first.format.Goals as goal
+
+pub format-requires-clause-states : goal.format-requires-clause-states
+format-requires-clause-states g c = subst (AreDistinct role.Store)
+    (sym (c.in_ok-states.ensures.states ∙ ap (λ (os : List ObjectLine). map first_state (filter (λ (o : ObjectLine). has o.stores c.args.node) os)) c.as_slice.ensures)) (are_distinct c.args.node c.args.header.now c.requires.header)
+
+pub format-requires-clause-count : goal.format-requires-clause-count
+format-requires-clause-count g c = subst (λ (ss : List ObjectState). length ss ≤ 65535)
+    (sym (c.in_ok-states.ensures.states ∙ ap (λ (os : List ObjectLine). map first_state (filter (λ (o : ObjectLine). has o.stores c.args.node) os)) c.as_slice.ensures)) (are_few c.args.node c.args.header.now c.requires.header)
+
+pub returns-clause-pair : goal.returns-clause-pair
+returns-clause-pair g c =
+    let are = c.in_ok-states.ensures.states ∙ ap (λ (os : List ObjectLine). map first_state (filter (λ (o : ObjectLine). has o.stores c.args.node) os)) c.as_slice.ensures in
+    on_ok_weaker c.format.result
+    (λ (only : HasOnly (g.O.ObjectStore.pair (g.D.Disk.file c.format.new.disk) role.Store) c.in_ok-states.states).
+    subst (λ ss. IsPairOf (g.O.ObjectStore.pair (g.D.Disk.file c.format.new.disk) role.Store) (pair_with ss)) are
+    (first_pair c.in_ok-states.states (g.O.ObjectStore.pair (g.D.Disk.file c.format.new.disk) role.Store)
+    (subst (λ (ss : List ObjectState). IsDistinct uid_eq (map uid_of ss)) (sym are) (distinct_at c.args.node c.args.header.now.objects c.requires.header.objects.1)) only)) c.format.ensures.pair
