@@ -1,5 +1,5 @@
 -- Ends that are decided stand, and messages fit more actions.
-use Rattle.std.proofs.Common.{◌≡◌, ◌≢◌, ◌+◌, ◌==◌, ℕ, List, [], ◌∷◌, ◌++◌, Bool, true, false, cond, not, ◌&&◌, ◌||◌, filter, Option, Some, None, refl, sym, ◌∙◌, ap, subst, inl, inr, ⊎_elim, arith}
+use Rattle.std.proofs.Common.{◌≡◌, ◌≢◌, ◌⊎◌, ◌+◌, ◌==◌, ℕ, List, [], ◌∷◌, ◌++◌, Bool, true, false, cond, not, ◌&&◌, ◌||◌, filter, Option, Some, None, refl, sym, ◌∙◌, ap, subst, inl, inr, ⊎_elim, arith}
 use Rattle.std.specs.Prelude.{is_some}
 use Rattle.std.proofs.lemmas.Bool.{and_parts}
 use Rattle.arj_base.specs.Rows.{is_on}
@@ -24,7 +24,7 @@ use Rattle.arj_protocol.specs.Ending.{ended, aborts_with, abort_action, decide, 
 use Rattle.arj_protocol.specs.Order.{at_uid, put_uid, has, without_number, unbound}
 use Rattle.arj_protocol.specs.Step.{Input, acts, branch_named, on_branch, refusal_up, refused_by, commit_reasons, abort_reasons, parent_of}
 use Rattle.arj_protocol.specs.Step as input
-use Rattle.arj_protocol.specs.Tree.{Tree, Branch, branch_of, root_of, at_place, open_below, is_open_below, is_below, uses_object, doomed_at, ended_at, ended_branch, has_open_child, path_below, next_uid}
+use Rattle.arj_protocol.specs.Tree.{Tree, Branch, begun_by, branch_of, ends_of, root_of, at_place, open_below, is_open_below, is_below, uses_object, doomed_at, ended_at, ended_branch, has_open_child, path_below, next_uid}
 use Rattle.arj_part_law.specs.Actions.{Action}
 use Rattle.arj_part_law.specs.Coords.{IsVoting, IsBusy, IsGoodCoord}
 use Rattle.arj_part_law.specs.Copies.{Paths, IsTree}
@@ -32,7 +32,7 @@ use Rattle.arj_part_law.specs.Messages.{IsAsker, FitsAsk, FitsOther, FitsAsked, 
 use Rattle.arj_part_law.specs.Servers.{HasAllBelow, IsTopOn, AreOrdered}
 use Rattle.arj_part_law.proofs.CoordInputs.{named_found, off, off_third}
 use Rattle.arj_part_law.proofs.GoodCoords.{IsSameTree, uses_same, doomed_same, on_tree, actor_is, answer_step, giveup_step, vote_step, IsStepOf, voting_at}
-use Rattle.arj_part_law.proofs.GoodTrees.{abort_all, aborted_tree, at_others, grown_still, in_latest, in_more, placed}
+use Rattle.arj_part_law.proofs.GoodTrees.{abort_all, aborted_tree, after, at_others, at_u, ended_b, ends_after, grown_still, in_latest, in_more, placed, same_ends}
 use Rattle.arj_part_law.proofs.Sends.{asks_all_tree, again_tree}
 
 never : {P : Type 0} (b : Bool) → b ≡ true → b ≡ false → P
@@ -40,26 +40,62 @@ never b holds fails = let no_way : true ≡ false = sym holds ∙ fails in cc
 
 -- ---- from one tree to the next
 
--- each end stands, of the same action
-abbrev Stand : Tree → Tree → Type 0
-Stand t v = (u : Uid) (e : End) → IsDecided u e t → IsDecided u e v
+-- Each end stands, of the same action; and an end that is listed at a root was listed before, or is so now.
+pub record Stand (t v : Tree) : Type 0 where
+  pub ends : (u : Uid) (e : End) → IsDecided u e t → IsDecided u e v
+  pub listed : (r u : Uid) (e : End) → In (u, e) (ends_of r v) → In (u, e) (ends_of r t) ⊎ IsDecided u e v
 
-stand_by : (t v : Tree) → t ≡ v → Stand t v
-stand_by t v is u e d = subst (IsDecided u e) is d
+pub stand_by : (t v : Tree) → t ≡ v → Stand t v
+stand_by t v is = record { ends = λ u e d. subst (IsDecided u e) is d; listed = λ r u e i. inl (subst (λ x. In (u, e) (ends_of r x)) (sym is) i) }
 
-both : (t v w : Tree) → Stand t v → Stand v w → Stand t w
-both t v w a b u e d = b u e (a u e d)
+pub both : (t v w : Tree) → Stand t v → Stand v w → Stand t w
+both t v w a b = record { ends = λ u e d. b.ends u e (a.ends u e d); listed = λ r u e i. ⊎_elim (λ j. ⊎_elim (λ old. inl old) (λ d. inr (b.ends u e d)) (a.listed r u e j)) (λ d. inr d) (b.listed r u e i) }
 
-stand_same : (t v : Tree) → IsSameTree t v → Stand t v
-stand_same t v same u e d = let f = same.forth u d.0 d.1 in (f.0, f.1, sym f.4 ∙ d.2)
+pub stand_same : (t v : Tree) → IsSameTree t v → Stand t v
+stand_same t v same = record { ends = λ u e d. let f = same.forth u d.0 d.1 in (f.0, f.1, sym f.4 ∙ d.2); listed = λ r u e i. inl (subst (λ es. In (u, e) es) (same.ends r) i) }
+
+-- what stands in a list with one more
+in_one_more : (x : Uid × End) (es : List (Uid × End)) (y : Uid × End) → In x (es ++ y ∷ []) → In x es ⊎ (y ≡ x)
+in_one_more x [] y (inl same) = inr same
+in_one_more x [] y (inr i) = absurd i
+in_one_more x (e ∷ es) y (inl same) = inl (inl same)
+in_one_more x (e ∷ es) y (inr i) = ⊎_elim (λ old. inl (inr old)) (λ new. inr new) (in_one_more x es y i)
+
+-- the end that is new is so
+listed_ended : (u : Uid) (e : End) (t : Tree) (r w : Uid) (f : End) → In (w, f) (ends_of r (ended_at u e t)) → In (w, f) (ends_of r t) ⊎ ((u ≡ w) × (e ≡ f) × IsDecided u e (ended_at u e t))
+listed_ended u e t r w f = by (branch_of u t) refl
+  where
+    by : (o : Option Branch) → branch_of u t ≡ o → In (w, f) (ends_of r (ended_branch u e t o)) → In (w, f) (ends_of r t) ⊎ ((u ≡ w) × (e ≡ f) × IsDecided u e (ended_branch u e t o))
+    by None is i = inl i
+    by (Some b) is i = ⊎_elim (λ same. inl (subst (λ es. In (w, f) es) same i)) (λ more. ⊎_elim (λ old. inl old) (λ new. inr (ap (λ (x : Uid × End). x.0) new, ap (λ (x : Uid × End). x.1) new, (ended_b u e t b is, at_u u e t b is, refl))) (in_one_more (w, f) (ends_of r t) (u, e) (subst (λ es. In (w, f) es) more.1 i))) (ends_after u e t b is r)
+
+pub decided_is : (u w : Uid) (e f : End) (t : Tree) → u ≡ w → e ≡ f → IsDecided u e t → IsDecided w f t
+decided_is u w e f t same is d = (d.0, ap (λ v. branch_of v t) (sym same) ∙ d.1, d.2 ∙ ap Some is)
 
 -- an action that has ended isn't ended again
-stand_ended : (u : Uid) (e : End) (t : Tree) → ((b : Branch) → branch_of u t ≡ Some b → is_some b.ended ≡ false) → Stand t (ended_at u e t)
-stand_ended u e t opened w f d = by (branch_of u t) refl
+pub stand_ended : (u : Uid) (e : End) (t : Tree) → ((b : Branch) → branch_of u t ≡ Some b → is_some b.ended ≡ false) → Stand t (ended_at u e t)
+stand_ended u e t opened = record { ends = λ w f d. by w f d (branch_of u t) refl; listed = λ r w f i. ⊎_elim (λ old. inl old) (λ new. inr (decided_is u w e f (ended_at u e t) new.0 new.1 new.2)) (listed_ended u e t r w f i) }
   where
-    by : (o : Option Branch) → branch_of u t ≡ o → IsDecided w f (ended_branch u e t o)
+    by : (w : Uid) (f : End) → IsDecided w f t → (o : Option Branch) → branch_of u t ≡ o → IsDecided w f (ended_branch u e t o)
+    by w f d None is = d
+    by w f d (Some b) is = ⊎_elim (λ same. never (is_some d.0.ended) (ap is_some d.2) (opened d.0 (ap (λ v. branch_of v t) (sym same) ∙ d.1))) (λ other. (d.0, at_others u e t b is w other ∙ d.1, d.2)) (uid_cases w u)
+
+-- an action that begins leaves what was decided
+pub stand_begins : (k : Kind) (p : Path) (t : Tree) → Stand t (begun_by k p t)
+stand_begins k p t = record { ends = λ u e d. (d.0, grown_still k p t u d.0 d.1, d.2); listed = λ r u e i. inl (subst (λ es. In (u, e) es) (same_ends k p t r) i) }
+
+-- what was aborted stays so, whoever is aborted
+aborted_all : (us : List Uid) (t : Tree) (w : Uid) → IsDecided w ending.Abort t → IsDecided w ending.Abort (abort_all us t)
+aborted_all [] t w d = d
+aborted_all (u ∷ us) t w d = aborted_all us (ended_at u ending.Abort t) w (by (branch_of u t) refl)
+  where
+    by : (o : Option Branch) → branch_of u t ≡ o → IsDecided w ending.Abort (ended_branch u ending.Abort t o)
     by None is = d
-    by (Some b) is = ⊎_elim (λ same. never (is_some d.0.ended) (ap is_some d.2) (opened d.0 (ap (λ v. branch_of v t) (sym same) ∙ d.1))) (λ other. (d.0, at_others u e t b is w other ∙ d.1, d.2)) (uid_cases w u)
+    by (Some b) is = ⊎_elim (λ same. (ended_b u ending.Abort t b is, ap (λ v. branch_of v (after u ending.Abort t b is)) same ∙ at_u u ending.Abort t b is, refl)) (λ other. (d.0, at_others u ending.Abort t b is w other ∙ d.1, d.2)) (uid_cases w u)
+
+listed_all : (us : List Uid) (t : Tree) (r w : Uid) (f : End) → In (w, f) (ends_of r (abort_all us t)) → In (w, f) (ends_of r t) ⊎ IsDecided w f (abort_all us t)
+listed_all [] t r w f i = inl i
+listed_all (u ∷ us) t r w f i = ⊎_elim (λ j. ⊎_elim (λ old. inl old) (λ new. inr (decided_is u w ending.Abort f (abort_all us (ended_at u ending.Abort t)) new.0 new.1 (aborted_all us (ended_at u ending.Abort t) u new.2))) (listed_ended u ending.Abort t r w f j)) (λ d. inr d) (listed_all us (ended_at u ending.Abort t) r w f i)
 
 stand_all : (us : List Uid) (t : Tree) (w : Uid) (e : End) → (In w us → ⊥) → IsDecided w e t → IsDecided w e (abort_all us t)
 stand_all [] t w e off d = d
@@ -84,29 +120,29 @@ module _ (actions : List Action) (paths : Paths) (tree : IsTree paths) where
       itself : (n : ℕ) → (n == n) ≡ true
       itself n = grind arith
 
-  stand_abort : (u : Uid) (intents : List (Uid × Intent)) (c : Coord) → ((b : Branch) → branch_of u c.tree ≡ Some b → is_some b.ended ≡ false) → Good c → Stand c.tree (let d = abort_action u intents c in let e = d.part in e.tree)
-  stand_abort u intents c opened good w e d = subst (IsDecided w e) (sym (aborted_tree us c)) (stand_all us c.tree w e out d)
+  pub stand_abort : (u : Uid) (intents : List (Uid × Intent)) (c : Coord) → ((b : Branch) → branch_of u c.tree ≡ Some b → is_some b.ended ≡ false) → Good c → Stand c.tree (let d = abort_action u intents c in let e = d.part in e.tree)
+  stand_abort u intents c opened good = both c.tree (abort_all us c.tree) (let d = abort_action u intents c in let e = d.part in e.tree) (record { ends = λ w e d. stand_all us c.tree w e (λ i. out w e d i) d; listed = λ r w e i. listed_all us c.tree r w e i }) (stand_by (abort_all us c.tree) (let d = abort_action u intents c in let e = d.part in e.tree) (sym (aborted_tree us c)))
     where
       us : List Uid
       us = open_below u c.tree ++ u ∷ []
 
-      is_open_one : (b : Branch) → In b (filter (is_open_below u) c.tree.branches) → actor b.path ≡ w → ⊥
-      is_open_one b i same =
+      is_open_one : (w : Uid) (e : End) (d : IsDecided w e c.tree) (b : Branch) → In b (filter (is_open_below u) c.tree.branches) → actor b.path ≡ w → ⊥
+      is_open_one w e d b i same =
           let q = in_filter (is_open_below u) b c.tree.branches i in
           let found = ap (λ v. branch_of v c.tree) (sym same) ∙ listed_found c good b q.0 in
           let k : ◌≡◌ {A = Option Branch} (Some b) (Some d.0) = sym found ∙ d.1 in
           let one : b ≡ d.0 = cc in
           never (not (is_some b.ended)) (and_parts (is_below u b) (not (is_some b.ended)) q.1).1 (ap not (ap (λ (x : Branch). is_some x.ended) one ∙ ap is_some d.2))
 
-      out : In w us → ⊥
-      out i = ⊎_elim (λ j. ⊎_elim (λ never_in. never_in) (λ f. is_open_one f.0 f.1 f.2) (in_latest w (filter (is_open_below u) c.tree.branches) [] j)) (λ same. never (is_some d.0.ended) (ap is_some d.2) (opened d.0 (ap (λ v. branch_of v c.tree) same ∙ d.1))) (in_more w (open_below u c.tree) u i)
+      out : (w : Uid) (e : End) → IsDecided w e c.tree → In w us → ⊥
+      out w e d i = ⊎_elim (λ j. ⊎_elim (λ never_in. never_in) (λ f. is_open_one w e d f.0 f.1 f.2) (in_latest w (filter (is_open_below u) c.tree.branches) [] j)) (λ same. never (is_some d.0.ended) (ap is_some d.2) (opened d.0 (ap (λ v. branch_of v c.tree) same ∙ d.1))) (in_more w (open_below u c.tree) u i)
 
   -- ---- calls
 
-  stand_goes : (s : Steps) (c : Coord) → Stand c.tree (let d = goes_on s c in let e = d.part in e.tree)
+  pub stand_goes : (s : Steps) (c : Coord) → Stand c.tree (let d = goes_on s c in let e = d.part in e.tree)
   stand_goes s c = stand_by c.tree _ (sym (on_tree (actor s.path) (λ (d : Doing). record d { req = s.req; now = Calling s }) c))
 
-  stand_step_call : (s : Steps) (t : CallStep) (c : Coord) → Stand c.tree (let d = step_call s t c in let e = d.part in e.tree)
+  pub stand_step_call : (s : Steps) (t : CallStep) (c : Coord) → Stand c.tree (let d = step_call s t c in let e = d.part in e.tree)
   stand_step_call s (On at) c = stand_goes (record s { req = s.req + 1; at = at }) c
   stand_step_call s (Ended e) c = by e
     where
@@ -127,16 +163,16 @@ module _ (actions : List Action) (paths : Paths) (tree : IsTree paths) where
   -- ---- commits
 
   -- a voting action is open
-  voting_open : (c : Coord) (u : Uid) (p : Plan) → IsVoting c.tree u p → (b : Branch) → branch_of u c.tree ≡ Some b → is_some b.ended ≡ false
+  pub voting_open : (c : Coord) (u : Uid) (p : Plan) → IsVoting c.tree u p → (b : Branch) → branch_of u c.tree ≡ Some b → is_some b.ended ≡ false
   voting_open c u p v b found = let k : ◌≡◌ {A = Option Branch} (Some v.asking.branch) (Some b) = sym v.asking.found ∙ found in let one : v.asking.branch ≡ b = cc in ap (λ (x : Branch). is_some x.ended) (sym one) ∙ v.asking.opened
 
-  ended_tree : (u : Uid) (e : End) (c : Coord) → (ended u e c).tree ≡ ended_at u e c.tree
+  pub ended_tree : (u : Uid) (e : End) (c : Coord) → (ended u e c).tree ≡ ended_at u e c.tree
   ended_tree u e c = on_tree u (λ (d : Doing). record d { now = Idle }) (record c { tree = ended_at u e c.tree })
 
-  stand_c_ended : (u : Uid) (e : End) (c : Coord) → ((b : Branch) → branch_of u c.tree ≡ Some b → is_some b.ended ≡ false) → Stand c.tree (ended u e c).tree
+  pub stand_c_ended : (u : Uid) (e : End) (c : Coord) → ((b : Branch) → branch_of u c.tree ≡ Some b → is_some b.ended ≡ false) → Stand c.tree (ended u e c).tree
   stand_c_ended u e c opened = both c.tree (ended_at u e c.tree) (ended u e c).tree (stand_ended u e c.tree opened) (stand_by (ended_at u e c.tree) (ended u e c).tree (sym (ended_tree u e c)))
 
-  stand_decided : (p : Plan) (c : Coord) → ((b : Branch) → branch_of (actor p.path) c.tree ≡ Some b → is_some b.ended ≡ false) → Stand c.tree (let d = decide p c in let e = d.part in e.tree)
+  pub stand_decided : (p : Plan) (c : Coord) → ((b : Branch) → branch_of (actor p.path) c.tree ≡ Some b → is_some b.ended ≡ false) → Stand c.tree (let d = decide p c in let e = d.part in e.tree)
   stand_decided p c opened = both c.tree e.tree (let d = decide p c in let x = d.part in x.tree) (stand_c_ended (actor p.path) ending.Commit c opened) (by (has_record p))
     where
       e : Coord
@@ -152,7 +188,7 @@ module _ (actions : List Action) (paths : Paths) (tree : IsTree paths) where
       by true = stand_by e.tree _ (sym (on_tree (actor p.path) (λ (d : Doing). record d { took = participants p }) e))
       by false = stand_by e.tree _ (sym (on_tree (actor p.path) (λ (d : Doing). record d { took = participants p }) e))
 
-  stand_step_commit : (u : Uid) (p : Plan) (s : CommitStep) (intents : List (Uid × Intent)) (c : Coord) → IsVoting c.tree u p → IsStepOf actions paths tree p s → Good c → Stand c.tree (let d = step_commit u s intents c in let e = d.part in e.tree)
+  pub stand_step_commit : (u : Uid) (p : Plan) (s : CommitStep) (intents : List (Uid × Intent)) (c : Coord) → IsVoting c.tree u p → IsStepOf actions paths tree p s → Good c → Stand c.tree (let d = step_commit u s intents c in let e = d.part in e.tree)
   stand_step_commit u p (Stays m) intents c v same good = stand_by c.tree _ (sym (on_tree u (λ (d : Doing). record d { req = (plan_of m).req; now = Committing m }) c))
   stand_step_commit u p (Asks m) intents c v same good = stand_by c.tree _ (sym (asks_all_tree (plan_of m).path (plan_of m).req (commit.waiting m) (commits_in u m c) ∙ on_tree u (λ (d : Doing). record d { req = (plan_of m).req; now = Committing m }) c))
   stand_step_commit u p (Decides q) intents c v same good = stand_decided q c (λ b f. voting_open c u p v b (ap (λ w. branch_of w c.tree) (sym (ap actor same.0 ∙ actor_is actions paths tree u p.path c good v.asking)) ∙ f))
@@ -164,7 +200,7 @@ module _ (actions : List Action) (paths : Paths) (tree : IsTree paths) where
   stand_heard from a r intents c good = by (doing_of a.act c) refl
     where
       itself : Stand c.tree c.tree
-      itself u e d = d
+      itself = stand_by c.tree c.tree refl
 
       now : (n : Now) → IsBusy c.tree a.act n → Stand c.tree (let d = heard_now from a r intents c n in let e = d.part in e.tree)
       now Idle b = itself
@@ -186,19 +222,19 @@ module _ (actions : List Action) (paths : Paths) (tree : IsTree paths) where
       by None is = itself
       by (Some d) is = now d.now (good.busy a.act d is)
 
-  stand_give_up : (u : Uid) (intents : List (Uid × Intent)) (c : Coord) → Good c → Stand c.tree (let d = give_up u intents c in let e = d.part in e.tree)
+  pub stand_give_up : (u : Uid) (intents : List (Uid × Intent)) (c : Coord) → Good c → Stand c.tree (let d = give_up u intents c in let e = d.part in e.tree)
   stand_give_up u intents c good = by (doing_of u c) refl
     where
       now : (n : Now) → IsBusy c.tree u n → Stand c.tree (let d = gives_up u intents c n in let e = d.part in e.tree)
-      now Idle b w e d = d
-      now (Calling s) b w e d = stand_step_call s (given_up s.at) (on_root (root_of s.path) (root_lost s (given_up s.at)) c) w e d
-      now (Committing m) b w e d = stand_step_commit u (plan_of m) (commit.given_up m).step intents c b (giveup_step actions paths tree m) good w e d
+      now Idle b = stand_by c.tree c.tree refl
+      now (Calling s) b = stand_step_call s (given_up s.at) (on_root (root_of s.path) (root_lost s (given_up s.at)) c)
+      now (Committing m) b = stand_step_commit u (plan_of m) (commit.given_up m).step intents c b (giveup_step actions paths tree m) good
 
       by : (o : Option Doing) → doing_of u c ≡ o → Stand c.tree (let d = give_up_doing u intents c o in let e = d.part in e.tree)
-      by None is w e d = d
-      by (Some d) is w e x = now d.now (good.busy u d is) w e x
+      by None is = stand_by c.tree c.tree refl
+      by (Some d) is = now d.now (good.busy u d is)
 
-  stand_commit : (b : Branch) (intents : List (Uid × Intent)) (c : Coord) → branch_of (actor b.path) c.tree ≡ Some b → is_some b.ended ≡ false → has_open_child (actor b.path) c.tree ≡ false → Good c → Stand c.tree (let d = commit_action b intents c in let e = d.part in e.tree)
+  pub stand_commit : (b : Branch) (intents : List (Uid × Intent)) (c : Coord) → branch_of (actor b.path) c.tree ≡ Some b → is_some b.ended ≡ false → has_open_child (actor b.path) c.tree ≡ false → Good c → Stand c.tree (let d = commit_action b intents c in let e = d.part in e.tree)
   stand_commit b intents c found opened none good = by b.doomed
     where
       u : Uid
@@ -239,62 +275,62 @@ module _ (actions : List Action) (paths : Paths) (tree : IsTree paths) where
       on_tree (actor p) (λ (d : Doing). record d { req = s.req; now = Calling s }) (record c { tree = uses_object p x c.tree })
 
   pub stand_acts : (intents : List (Uid × Intent)) (c : Coord) → Good c → (hd : Header) (i : Input) → refusal_up hd i c ≡ None → Stand c.tree (let d = acts i intents c in let e = d.part in e.tree)
-  stand_acts intents c good hd (input.Begin l k parent) none u e d = (d.0, grown_still k (path_below k (parent_of parent c) (next_uid c.tree)) c.tree u d.0 d.1, d.2)
-  stand_acts intents c good hd (input.Call l x o) none u e d = by (branch_named l c) u e d
+  stand_acts intents c good hd (input.Begin l k parent) none = stand_begins k (path_below k (parent_of parent c) (next_uid c.tree)) c.tree
+  stand_acts intents c good hd (input.Call l x o) none = by (branch_named l c)
     where
       by : (f : Option Branch) → Stand c.tree (let d = on_branch (λ b. call b.path x o c) c f in let e = d.part in e.tree)
-      by None w e d = d
-      by (Some b) w f g = subst (IsDecided w f) (sym (call_tree b.path x o c)) (stand_same c.tree (uses_object b.path x c.tree) (uses_same b.path x c.tree) w f g)
-  stand_acts intents c good hd (input.Include l x s) none u e d = by (branch_named l c) u e d
+      by None = stand_by c.tree c.tree refl
+      by (Some b) = both c.tree (uses_object b.path x c.tree) (let d = call b.path x o c in let e = d.part in e.tree) (stand_same c.tree (uses_object b.path x c.tree) (uses_same b.path x c.tree)) (stand_by (uses_object b.path x c.tree) (let d = call b.path x o c in let e = d.part in e.tree) (sym (call_tree b.path x o c)))
+  stand_acts intents c good hd (input.Include l x s) none = by (branch_named l c)
     where
       by : (f : Option Branch) → Stand c.tree (let d = on_branch (λ b. include b.path x s c) c f in let e = d.part in e.tree)
-      by None w e d = d
-      by (Some b) w f g = subst (IsDecided w f) (sym (include_tree b.path x s c)) (stand_same c.tree (uses_object b.path x c.tree) (uses_same b.path x c.tree) w f g)
-  stand_acts intents c good hd (input.Commit l) none u e d = by (branch_named l c) refl none u e d
+      by None = stand_by c.tree c.tree refl
+      by (Some b) = both c.tree (uses_object b.path x c.tree) (let d = include b.path x s c in let e = d.part in e.tree) (stand_same c.tree (uses_object b.path x c.tree) (uses_same b.path x c.tree)) (stand_by (uses_object b.path x c.tree) (let d = include b.path x s c in let e = d.part in e.tree) (sym (include_tree b.path x s c)))
+  stand_acts intents c good hd (input.Commit l) none = by (branch_named l c) refl none
     where
       by : (f : Option Branch) → branch_named l c ≡ f → refused_by commit_reasons c f ≡ None → Stand c.tree (let d = on_branch (λ b. commit_action b intents c) c f in let e = d.part in e.tree)
-      by None is r w e d = d
-      by (Some b) is r w e d =
+      by None is r = stand_by c.tree c.tree refl
+      by (Some b) is r =
           let r6 : is_some b.ended ≡ false = (off (commit_reasons b c) r).0 in
           let r9 : has_open_child (actor b.path) c.tree ≡ false = off_third (commit_reasons b c) r in
-          stand_commit b intents c (named_found actions paths tree intents c good l b is) r6 r9 good w e d
-  stand_acts intents c good hd (input.Abort l) none u e d = by (branch_named l c) refl none u e d
+          stand_commit b intents c (named_found actions paths tree intents c good l b is) r6 r9 good
+  stand_acts intents c good hd (input.Abort l) none = by (branch_named l c) refl none
     where
       by : (f : Option Branch) → branch_named l c ≡ f → refused_by abort_reasons c f ≡ None → Stand c.tree (let d = on_branch (λ b. abort_action (actor b.path) intents c) c f in let e = d.part in e.tree)
-      by None is r w e d = d
-      by (Some b) is r w e d =
+      by None is r = stand_by c.tree c.tree refl
+      by (Some b) is r =
           let r6 : is_some b.ended ≡ false = (off (abort_reasons b c) r).0 in
           let found = named_found actions paths tree intents c good l b is in
-          stand_abort (actor b.path) intents c (λ x f. let k : ◌≡◌ {A = Option Branch} (Some b) (Some x) = sym found ∙ f in let one : b ≡ x = cc in ap (λ (y : Branch). is_some y.ended) (sym one) ∙ r6) good w e d
-  stand_acts intents c good hd (input.GiveUp l) none u e d = by (branch_named l c) u e d
+          stand_abort (actor b.path) intents c (λ x f. let k : ◌≡◌ {A = Option Branch} (Some b) (Some x) = sym found ∙ f in let one : b ≡ x = cc in ap (λ (y : Branch). is_some y.ended) (sym one) ∙ r6) good
+  stand_acts intents c good hd (input.GiveUp l) none = by (branch_named l c)
     where
       by : (f : Option Branch) → Stand c.tree (let d = on_branch (λ b. give_up (actor b.path) intents c) c f in let e = d.part in e.tree)
-      by None w e d = d
-      by (Some b) w e d = stand_give_up (actor b.path) intents c good w e d
-  stand_acts intents c good hd (input.Frame k from m) none u e d = d
-  stand_acts intents c good hd input.Tick none u e d = d
-  stand_acts intents c good hd input.Restart none u e d = d
-  stand_acts intents c good hd input.Crash none u e d = d
-  stand_acts intents c good hd (input.Show x) none u e d = d
+      by None = stand_by c.tree c.tree refl
+      by (Some b) = stand_give_up (actor b.path) intents c good
+  stand_acts intents c good hd (input.Frame k from m) none = stand_by c.tree c.tree refl
+  stand_acts intents c good hd input.Tick none = stand_by c.tree c.tree refl
+  stand_acts intents c good hd input.Restart none = stand_by c.tree c.tree refl
+  stand_acts intents c good hd input.Crash none = stand_by c.tree c.tree refl
+  stand_acts intents c good hd (input.Show x) none = stand_by c.tree c.tree refl
 
   pub stand_acked : (from : ℕ) (u : Uid) (intents : List (Uid × Intent)) (c : Coord) → Stand c.tree (let d = acked from u intents c in let e = d.part in e.tree)
   stand_acked from u intents c = by (at_uid u c.telling)
     where
       left : (i : Intent) (ns : List ℕ) → Stand c.tree (let d = acked_left u i intents c ns in let e = d.part in e.tree)
-      left i [] w e d = d
-      left i (n ∷ ns) w e d = d
+      left i [] = stand_by c.tree c.tree refl
+      left i (n ∷ ns) = stand_by c.tree c.tree refl
 
       by : (o : Option Intent) → Stand c.tree (let d = acked_by from u intents c o in let e = d.part in e.tree)
-      by None w e d = d
-      by (Some i) w e d = one (has i.nodes from) w e d
+      by None = stand_by c.tree c.tree refl
+      by (Some i) = one (has i.nodes from)
         where
           one : (b : Bool) → Stand c.tree (let x = cond {A = Served Coord (Unit {0})} b (acked_left u i intents c (without_number from i.nodes)) (record { part = c; outs = []; reply = None }) in let y = x.part in y.tree)
-          one true v f x = left i (without_number from i.nodes) v f x
-          one false v f x = x
+          one true = left i (without_number from i.nodes)
+          one false = stand_by c.tree c.tree refl
 
   pub stand_again : (ds : List Doing) (c : Coord) → Stand c.tree (let d = again_all ds c in let e = d.part in e.tree)
-  stand_again [] c w e d = d
-  stand_again (x ∷ ds) c w e d = let t = again_now c x.now in both c.tree t.part.tree (let q = again_all ds t.part in let y = q.part in y.tree) (stand_by c.tree t.part.tree (sym (again_tree c x.now))) (stand_again ds t.part) w e d
+  stand_again [] c = stand_by c.tree c.tree refl
+  stand_again (x ∷ ds) c = let t = again_now c x.now in both c.tree t.part.tree (let q = again_all ds t.part in let y = q.part in y.tree) (stand_by c.tree t.part.tree (sym (again_tree c x.now))) (stand_again ds t.part)
 
 -- ---- messages and more actions
 

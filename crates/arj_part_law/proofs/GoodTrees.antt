@@ -278,7 +278,7 @@ module _ (u : Uid) (e : End) (t : Tree) (b : Branch) (found : branch_of u t ≡ 
   still_there w d is over = ⊎_elim (λ same. (ended_b, ap (λ v. branch_of v after) same ∙ at_u, refl)) (λ other. (d, at_others w other ∙ is, over)) (uid_cases w u)
 
   -- the ends of a root after the end
-  ends_after : (r : Uid) → (ends_of r after ≡ ends_of r t) ⊎ ((r.num ≡ (root_of b.path).num) × (ends_of r after ≡ ends_of r t ++ (u, e) ∷ []))
+  pub ends_after : (r : Uid) → (ends_of r after ≡ ends_of r t) ⊎ ((r.num ≡ (root_of b.path).num) × (ends_of r after ≡ ends_of r t ++ (u, e) ∷ []))
   ends_after r = by (nat_le (length (uids_of b.path)) 1) (same_or_not r.num (root_of b.path).num)
     where
       f : Family
@@ -359,11 +359,11 @@ abort_all [] t = t
 abort_all (u ∷ us) t = abort_all us (ended_at u ending.Abort t)
 
 -- what the aborts of these actions leave
-record Leaves (paths : Paths) (us : List Uid) (t v : Tree) : Type 0 where
+pub record Leaves (paths : Paths) (us : List Uid) (t v : Tree) : Type 0 where
   lists : HasLists paths v
   stays : (w : Uid) (d : Branch) → branch_of w t ≡ Some d → (c : Branch) × (branch_of w v ≡ Some c) × (is_some d.ended ≡ true → is_some c.ended ≡ true)
   was : (w : Uid) (c : Branch) → branch_of w v ≡ Some c → (d : Branch) × (branch_of w t ≡ Some d) × (is_some c.ended ≡ true → (is_some d.ended ≡ true) ⊎ In w us)
-  done : (w : Uid) (c : Branch) → In w us → branch_of w v ≡ Some c → is_some c.ended ≡ true
+  pub done : (w : Uid) (c : Branch) → In w us → branch_of w v ≡ Some c → is_some c.ended ≡ true
 
 module _ (paths : Paths) (tree : IsTree paths) where
   one_left : (u : Uid) (t : Tree) → HasLists paths t → Leaves paths (u ∷ []) t (ended_at u ending.Abort t)
@@ -383,7 +383,7 @@ module _ (paths : Paths) (tree : IsTree paths) where
         done = λ w c i f. ⊎_elim (λ same. ⊎_elim (λ g. ap (λ (d : Branch). is_some d.ended) (sym g.1)) (λ g. absurd (g.0 (sym same))) (after_cases u ending.Abort t b is w c f)) (λ never_in. absurd never_in) i;
       }
 
-  all_left : (us : List Uid) (t : Tree) → HasLists paths t → Leaves paths us t (abort_all us t)
+  pub all_left : (us : List Uid) (t : Tree) → HasLists paths t → Leaves paths us t (abort_all us t)
   all_left [] t lists = record { lists = lists; stays = λ w d f. (d, f, λ over. over); was = λ w c f. (c, f, λ over. inl over); done = λ w c i f. absurd i }
   all_left (u ∷ us) t lists = both (one_left u t lists) (all_left us (ended_at u ending.Abort t) (one_left u t lists).lists)
     where
@@ -552,7 +552,7 @@ module _ (k : Kind) (p : Path) (t : Tree) where
   pub grown_still : (w : Uid) (c : Branch) → branch_of w t ≡ Some c → branch_of w grown ≡ Some c
   grown_still w c is = let q = found_by w t c is in (λ i. cond (q.0 i) (at_place w.num (t.branches ++ new ∷ [])) None) ∙ place_still w.num c q.1
 
-  same_ends : (r : Uid) → ends_of r grown ≡ ends_of r t
+  pub same_ends : (r : Uid) → ends_of r grown ≡ ends_of r t
   same_ends r = by (same_or_not r.num (root_of p).num)
     where
       longer : Tree

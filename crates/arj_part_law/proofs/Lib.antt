@@ -3,6 +3,7 @@ mod CallLocks
 pub mod CoordInputs
 mod Cuts
 mod Decided
+pub mod EndsSaid
 mod EntryLocks
 mod Gone
 mod GoodCalls

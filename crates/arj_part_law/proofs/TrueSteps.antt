@@ -50,7 +50,7 @@ never b holds fails = let no_way : true ≡ false = sym holds ∙ fails in cc
 
 -- ---- maps
 
-without_in : (u : Uid) (e : Uid × Intent) (m : List (Uid × Intent)) → In e (without_uid u m) → In e m
+pub without_in : (u : Uid) (e : Uid × Intent) (m : List (Uid × Intent)) → In e (without_uid u m) → In e m
 without_in u e [] is = is
 without_in u e (f ∷ es) is = by (uid_order u f.0) (without_in u e es) is
   where
@@ -61,7 +61,7 @@ without_in u e (f ∷ es) is = by (uid_order u f.0) (without_in u e es) is
     by Greater ih (inl same) = inl same
     by Greater ih (inr i) = inr (ih i)
 
-top_in : (actions : List Action) (w : Uid) (j : Intent) (m : List (Uid × Intent)) → AreOfTops actions m → In (w, j) m → IsTopAction actions w
+pub top_in : (actions : List Action) (w : Uid) (j : Intent) (m : List (Uid × Intent)) → AreOfTops actions m → In (w, j) m → IsTopAction actions w
 top_in actions w j [] all k = absurd k
 top_in actions w j (e ∷ es) all (inl same) = subst (λ (f : Uid × Intent). IsTopAction actions f.0) same all.0
 top_in actions w j (e ∷ es) all (inr k) = top_in actions w j es all.1 k
@@ -370,16 +370,17 @@ true_records c f = by c.telling (λ e i. f.told e.0 e.1 (in_to e c.telling i))
 pub faithful_on : (c e : Coord) → GoesOn c e → IsFaithful c → IsFaithful e
 faithful_on c e g f = record { works = g.works ∙ f.works ∙ sym g.branches; told = λ u i k. ⊎_elim (λ old. claim_on c e g u (f.told u old.0 old.1)) (λ new. new) (g.told u i k) }
 
+-- what was begun isn't of a later incarnation
+pub not_own : (actions : List Action) (node inc later count : ℕ) → AreCounted node inc count actions → inc < later → (u : Uid) → is_own u (let c = new_coord node later in c.tree) ≡ true → IsTopAction actions u → ⊥
+not_own actions node inc later count counted up u own top =
+    let q = and_parts (u.node == node) (u.inc == later) own in
+    let a = top.0 in
+    let at_inc : u.inc ≡ later = eqb-true u.inc later q.1 in
+    ⊎_elim (λ less. omega (arith, less, up, at_inc)) (λ same. let is : u.inc ≡ inc = same.0 in omega (arith, is, up, at_inc)) (counted a u top.1 (subst (λ w. is_on (uids_of a.path) w ≡ true) top.2 (on_own a.path)) (eqb-true u.node node q.0))
+
 -- a coordinator that starts with the records of earlier incarnations
 pub faithful_new : (actions : List Action) (node inc later count : ℕ) (intents : List (Uid × Intent)) → AreCounted node inc count actions → inc < later → AreOfTops actions intents → AreOfNode node inc intents → IsFaithful (record (new_coord node later) { telling = intents })
-faithful_new actions node inc later count intents counted up tops home = record { works = refl; told = λ u i k. let q = node_in node inc u i intents home (in_from (u, i) intents k) in (q.0, λ own. absurd (not_own u own (top_in actions u i intents tops (in_from (u, i) intents k))), omega (arith, q.1, up)) }
-  where
-    not_own : (u : Uid) → is_own u (let c = new_coord node later in c.tree) ≡ true → IsTopAction actions u → ⊥
-    not_own u own top =
-        let q = and_parts (u.node == node) (u.inc == later) own in
-        let a = top.0 in
-        let at_inc : u.inc ≡ later = eqb-true u.inc later q.1 in
-        ⊎_elim (λ less. omega (arith, less, up, at_inc)) (λ same. let is : u.inc ≡ inc = same.0 in omega (arith, is, up, at_inc)) (counted a u top.1 (subst (λ w. is_on (uids_of a.path) w ≡ true) top.2 (on_own a.path)) (eqb-true u.node node q.0))
+faithful_new actions node inc later count intents counted up tops home = record { works = refl; told = λ u i k. let q = node_in node inc u i intents home (in_from (u, i) intents k) in (q.0, λ own. absurd (not_own actions node inc later count counted up u own (top_in actions u i intents tops (in_from (u, i) intents k))), omega (arith, q.1, up)) }
 
 -- ---- an action begins
 

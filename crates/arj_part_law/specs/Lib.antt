@@ -3,6 +3,7 @@ pub mod Claims
 pub mod Coords
 pub mod Copies
 pub mod Cuts
+pub mod Ends
 pub mod Entries
 pub mod Frames
 pub mod Incs
