@@ -71,7 +71,7 @@ module _ (x k : ℕ) (tops : Kinds) (d : Disk) (t : Parts) (C : Coord) (N : Seen
 
   -- a serializing action with no open constituent is over
   pub serial_over : (r : Uid) → r.node ≡ k → is_gone (V.disk.stage (uid_number r)) ≡ true → tops.is_serial (uid_number r) ≡ true → tops.is_top (uid_number r) ≡ false
-      → ((w : Uid) → is_open w C.tree ≡ true → tops.root (uid_number w) ≡ uid_number r → w ≢ r → ⊥)
+      → ((w : Uid) → is_open w C.tree ≡ true → tops.is_top (uid_number w) ≡ true → tops.root (uid_number w) ≡ uid_number r → w ≢ r → ⊥)
       → ((w : Uid) (i : Intent) → at_uid w d.intents ≡ Some i → tops.root (uid_number w) ≡ uid_number i.root) → SerialOver V.disk r (is_deferred r d.intents)
   serial_over r here gone serial no_top none rooted = record {
     serial = ap (λ f. f (uid_number r)) s.fixed.serial ∙ serial;
@@ -87,7 +87,7 @@ module _ (x k : ℕ) (tops : Kinds) (d : Disk) (t : Parts) (C : Coord) (N : Seen
           let is_top : tops.is_top (uid_number w.0) ≡ true = ap tops.is_top w.1 ∙ top in
           let root : tops.root (uid_number w.0) ≡ uid_number r = ap tops.root w.1 ∙ ap (λ f. f z) (sym s.fixed.root) ∙ of in
           let other : w.0 ≢ r = λ same. never (ap (λ a. tops.is_top (uid_number a)) (sym same) ∙ is_top) no_top in
-          (w.0, w.1, (kinds.own w.0 r is_top root).0 ∙ here, other, root, falls_to (is_open w.0 C.tree) (λ o. none w.0 o root other))
+          (w.0, w.1, (kinds.own w.0 r is_top root).0 ∙ here, other, root, falls_to (is_open w.0 C.tree) (λ o. none w.0 o is_top root other))
 
       recorded : (w : Uid) → w.node ≡ k → is_open w C.tree ≡ false → (o : Option Intent) → at_uid w d.intents ≡ o → is_some (nodes_of o) ≡ true → disk.decided V.disk (uid_number w) ≡ true
       recorded w at closed None is on = absurd (cc on)
@@ -120,6 +120,18 @@ module _ (x k : ℕ) (tops : Kinds) (d : Disk) (t : Parts) (C : Coord) (N : Seen
               ((λ j. uid_eq (rooted_here j) r && (not (uid_eq w r) && order.has i.nodes n)) ∙ (λ j. uid_same r j && (not (uid_other w r other j) && order.has i.nodes n)) ∙ sym (has_same n i.nodes) ∙ h)) free
 
 -- ---- the actions that are aborted
+
+-- an action is found in its place
+pub place_of : (c : Coord) (w : Uid) (z : Branch) → branch_of w c.tree ≡ Some z → (j : ℕ) × (slice_get c.tree.branches j ≡ Some z)
+place_of c w z is = own (is_own w c.tree) is
+  where
+    number : (n : ℕ) → at_place n c.tree.branches ≡ Some z → (j : ℕ) × (slice_get c.tree.branches j ≡ Some z)
+    number zero h = absurd (cc h)
+    number (suc j) h = (j, h)
+
+    own : (b : Bool) → (if b then at_place w.num c.tree.branches else None) ≡ Some z → (j : ℕ) × (slice_get c.tree.branches j ≡ Some z)
+    own true h = number w.num h
+    own false h = absurd (cc h)
 
 -- an action is among these
 abbrev pub AmongUids : Uid → List Uid → Type 0
@@ -291,8 +303,8 @@ module _ (x : ℕ) (tops : Kinds) (e k : ℕ) (d : Disk) (t : Parts) (act : Uid)
   gone_now w among = halted_gone W (map uid_number Us) (uid_number w) (among_numbers w Us among)
 
   -- no constituent is open any more
-  none_open : (w : Uid) → is_open w Last.tree ≡ true → tops.root (uid_number w) ≡ uid_number act → w ≢ act → ⊥
-  none_open w o root other = by (branch_of w t.coord.tree) refl ((all_ends Us t.coord heres).was_open w o)
+  none_open : (w : Uid) → is_open w Last.tree ≡ true → tops.is_top (uid_number w) ≡ true → tops.root (uid_number w) ≡ uid_number act → w ≢ act → ⊥
+  none_open w o top root other = by (branch_of w t.coord.tree) refl ((all_ends Us t.coord heres).was_open w o)
     where
       by : (g : Option Branch) → branch_of w t.coord.tree ≡ g → is_open_branch g ≡ true → ⊥
       by None is h = absurd (cc h)
@@ -302,21 +314,10 @@ module _ (x : ℕ) (tops : Kinds) (e k : ℕ) (d : Disk) (t : Parts) (act : Uid)
           let last : actor z.path ≡ w = knows.path w z is in
           let apart : uid_eq (actor z.path) act ≡ false = uid_other (actor z.path) act (λ same. other (sym last ∙ same)) in
           let below : is_open_below act z ≡ true = (λ i. (on i && not (apart i)) && h i) in
-          never o (all_closed Us t.coord heres w (among_both_lists w (open_below act t.coord.tree) (act ∷ []) (subst (λ a. AmongUids a (open_below act t.coord.tree)) last (there z below (place_of w z is)))))
+          never o (all_closed Us t.coord heres w (among_both_lists w (open_below act t.coord.tree) (act ∷ []) (subst (λ a. AmongUids a (open_below act t.coord.tree)) last (there z below (place_of t.coord w z is)))))
         where
           there : (z : Branch) → is_open_below act z ≡ true → (j : ℕ) × (slice_get t.coord.tree.branches j ≡ Some z) → AmongUids (actor z.path) (open_below act t.coord.tree)
           there z below at = latest_has (is_open_below act) t.coord.tree.branches [] at.0 z at.1 below
-
-          place_of : (w : Uid) (z : Branch) → branch_of w t.coord.tree ≡ Some z → (j : ℕ) × (slice_get t.coord.tree.branches j ≡ Some z)
-          place_of w z is = own (is_own w t.coord.tree) is
-            where
-              own : (c : Bool) → (if c then at_place w.num t.coord.tree.branches else None) ≡ Some z → (j : ℕ) × (slice_get t.coord.tree.branches j ≡ Some z)
-              own true h = number w.num h
-                where
-                  number : (n : ℕ) → at_place n t.coord.tree.branches ≡ Some z → (j : ℕ) × (slice_get t.coord.tree.branches j ≡ Some z)
-                  number zero h = absurd (cc h)
-                  number (suc j) h = (j, h)
-              own false h = absurd (cc h)
 
   -- an open top may be told of as aborted
   plain : (w : Uid) → AmongUids w Us → IsOpenHere w → tops.is_top (uid_number w) ≡ true → (n : ℕ) → Meaning LastWorld.disk (mail.ToldAbort (uid_number w) n)

@@ -19,6 +19,7 @@ pub mod Keys
 pub mod Later
 pub mod Marks
 pub mod Notes
+pub mod OneEnd
 pub mod PairSteps
 pub mod Planned
 pub mod StoreSteps
@@ -26,3 +27,4 @@ pub mod StoreWalks
 pub mod TellWalks
 pub mod TopFrames
 pub mod ToldWalks
+pub mod UnusedWalks

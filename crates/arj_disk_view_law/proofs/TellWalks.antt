@@ -61,7 +61,7 @@ module _ (x k : ℕ) (tops : Kinds) (e : ℕ) (d : Disk) (t : Parts) (C : Coord)
       let p : Post = record { from = k; to = n; message = message.Told (record { root = root; ack = false; ends = ends }) } in
       says_seen x tops V (up k d (with_coord t C) (posted p N)) (numbered e more) (posts_seen x tops V (up k d (with_coord t C) N) p claim s)
 
-  aborted : (u root : Uid) (rest : List Effect) → Goes rest → ((n : ℕ) → Meaning S (mail.ToldAbort (uid_number u) n)) → (ns : List ℕ) → Goes (tell_all root false ((u, ending.Abort) ∷ []) ns ++ rest)
+  pub aborted : (u root : Uid) (rest : List Effect) → Goes rest → ((n : ℕ) → Meaning S (mail.ToldAbort (uid_number u) n)) → (ns : List ℕ) → Goes (tell_all root false ((u, ending.Abort) ∷ []) ns ++ rest)
   aborted u root rest go may [] N V same s = go N V same s
   aborted u root rest go may (n ∷ ns) N V same s = λ more quiet.
       let m : mail.Message = mail.ToldAbort (uid_number u) n in

@@ -1,11 +1,14 @@
 -- What the coordinator's handlers keep of the disk half, where what is known of the protocol alone holds.
-use Rattle.std.specs.Prelude.{◌≡◌, ℕ, Some, None}
-use Rattle.arj_protocol.specs.Words.{Uid}
+use Rattle.std.specs.Prelude.{◌≡◌, ℕ, true, false, [], Some, None}
+use Rattle.arj_protocol.specs.Words.{Uid, End, Label, Body}
+use Rattle.arj_protocol.specs.Ask.{actor}
+use Rattle.arj_protocol.specs.Commit as commit
 use Rattle.arj_protocol.specs.Coord.{Coord}
 use Rattle.arj_protocol.specs.Effect.{Disk, Did}
-use Rattle.arj_protocol.specs.Ending.{abort_action}
+use Rattle.arj_protocol.specs.Ending.{abort_action, ends_with, decide}
 use Rattle.arj_protocol.specs.Node.{Parts, with_coord}
-use Rattle.arj_protocol.specs.Tree.{Branch, branch_of}
+use Rattle.arj_protocol.specs.Order.{uid_number}
+use Rattle.arj_protocol.specs.Tree.{Branch, branch_of, is_serial, has_open_child}
 use Rattle.arj_disk_law.specs.Effects.{World}
 use Rattle.arj_view_law.specs.Seen.{Seen, up}
 use Rattle.arj_view_law.specs.Walks.{Walks, Up}
@@ -20,3 +23,21 @@ DidIsWalked x tops e k d t did M = Walks (IsSeenByDisks x tops) e k did.outs (Up
 abbrev pub ActionsAreAborted : Type 0
 ActionsAreAborted = (x : ℕ) (tops : Kinds) (e k : ℕ) (d : Disk) (t : Parts) (act : Uid) (b : Branch) (M : Seen) → KnowsKinds tops → KnowsCoord tops d.intents t.coord
     → branch_of act t.coord.tree ≡ Some b → b.ended ≡ None → (W : World) → SeesDisks x tops W (up k d t M) → DidIsWalked x tops e k d t (abort_action act d.intents t.coord) M
+
+-- An open action ends by itself, with one line: a nested action is committed, a serializing action that has no open action in it
+-- ends, an action is aborted.
+abbrev pub ActionsEnd : Type 0
+ActionsEnd = (x : ℕ) (tops : Kinds) (e k : ℕ) (d : Disk) (t : Parts) (act : Uid) (b : Branch) (how : End) (line : Label → Body) (M : Seen) → KnowsKinds tops → KnowsCoord tops d.intents t.coord
+    → branch_of act t.coord.tree ≡ Some b → b.ended ≡ None → (is_serial b.kind ≡ true → has_open_child act t.coord.tree ≡ false) → (W : World) → SeesDisks x tops W (up k d t M) → DidIsWalked x tops e k d t (ends_with act how line d.intents t.coord) M
+
+-- the plan of a top that used nothing
+pub record UsesNothing (p : commit.Plan) : Type 0 where
+  pub used : p.used ≡ []
+  pub changed : p.changed ≡ []
+  pub prepared : p.prepared ≡ []
+  pub confirmed : p.confirmed ≡ false
+
+-- An open top that used nothing is decided at once: there is no record, and nobody took part.
+abbrev pub UnusedAreDecided : Type 0
+UnusedAreDecided = (x : ℕ) (tops : Kinds) (e k : ℕ) (d : Disk) (t : Parts) (act : Uid) (b : Branch) (p : commit.Plan) (M : Seen) → KnowsCoord tops d.intents t.coord
+    → branch_of act t.coord.tree ≡ Some b → b.ended ≡ None → tops.is_top (uid_number act) ≡ true → actor p.path ≡ act → UsesNothing p → (W : World) → SeesDisks x tops W (up k d t M) → DidIsWalked x tops e k d t (decide p t.coord) M

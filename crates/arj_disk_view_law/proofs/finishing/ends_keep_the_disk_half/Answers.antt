@@ -1,5 +1,13 @@
 use Rattle.arj_disk_view_law.proofs.ActionAborts.{actions_are_aborted}
+use Rattle.arj_disk_view_law.proofs.OneEnd.{actions_end}
+use Rattle.arj_disk_view_law.proofs.UnusedWalks.{unused_are_decided}
 use Rattle.arj_disk_view_law.proofs.finishing.ends_keep_the_disk_half.Goals as goal
 
-pub returns : goal.returns
-returns c = actions_are_aborted
+pub returns-clause-aborted : goal.returns-clause-aborted
+returns-clause-aborted c = actions_are_aborted
+
+pub returns-clause-ends : goal.returns-clause-ends
+returns-clause-ends c = actions_end
+
+pub returns-clause-unused : goal.returns-clause-unused
+returns-clause-unused c = unused_are_decided
