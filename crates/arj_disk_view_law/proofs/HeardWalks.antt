@@ -20,7 +20,7 @@ use Rattle.arj_protocol.specs.Order.{uid_number}
 use Rattle.arj_protocol.specs.Says.{AreAll}
 use Rattle.arj_protocol.specs.Step.{Node}
 use Rattle.arj_protocol.proofs.PartSays.{all_both}
-use Rattle.arj_protocol.specs.Tree.{root_of}
+use Rattle.arj_protocol.specs.Tree.{Branch, branch_of, root_of}
 use Rattle.arj_protocol.specs.World.{numbered}
 use Rattle.arj_disk_law.specs.Effects as machine
 use Rattle.arj_disk_law.specs.Effects.{World, Follows, run, after}
@@ -65,7 +65,7 @@ only_both t U V W a b = record {
   outcomes = λ z h u. a.outcomes z h (b.outcomes z (a.plans z h).0 u);
 }
 
-top_both : (t : ℕ) (Q R : State → Type 0) (W : World) (a : TopGoes t Q W) → TopGoes t R (run W a.effects) → TopGoes t R W
+pub top_both : (t : ℕ) (Q R : State → Type 0) (W : World) (a : TopGoes t Q W) → TopGoes t R (run W a.effects) → TopGoes t R W
 top_both t Q R W a b = record {
   effects = a.effects ++ b.effects;
   allowed = follows_both W a.effects b.effects a.allowed b.allowed;
@@ -155,28 +155,22 @@ marks_say u (m ∷ ms) c = all_both is_say (says u (λ l. body.Excluded l m.0 m.
     by None = refl
     by (Some d) = refl
 
--- ---- the answer
+-- ---- an open top
 
-module _ (x : ℕ) (tops : Kinds) (e k : ℕ) (d : Disk) (t : Parts) (from : ℕ) (act : Uid) (p : commit.Plan) (left : List ℕ) (intents : List (Uid × Intent)) (M : Seen)
-    (waits : WaitsForStore t from act p left) (top : tops.is_top (uid_number act) ≡ true) (W : World) (sees : SeesDisks x tops W (up k d t M)) where
-  works : Works x tops W.disk (uid_number act) waits.branch.kind waits.doing.now
-  works = (sees.coords k (record { number = k; disk = d; live = Some t }) t (node_here M k (record { number = k; disk = d; live = Some t })) refl).working act waits.branch waits.doing waits.found waits.unended waits.at_work
-
-  pub preparing : SeesPreparing x W.disk (uid_number act) p left
-  preparing = preparing_of x tops W.disk (uid_number act) waits.branch.kind waits.doing.now p left top waits.now works
-
-  plain : W.disk.serial (uid_number act) ≡ false
-  plain = (sees.kinds (uid_number act) preparing.begun).1
+module _ (x : ℕ) (tops : Kinds) (e k : ℕ) (d : Disk) (t : Parts) (act : Uid) (b : Branch) (r0 : Doing) (intents : List (Uid × Intent)) (M : Seen) (found : branch_of act t.coord.tree ≡ Some b) (unended : b.ended ≡ None) (at_work : doing_of act t.coord ≡ Some r0)
+    (top : tops.is_top (uid_number act) ≡ true) (W : World) (plain : W.disk.serial (uid_number act) ≡ false) (sees : SeesDisks x tops W (up k d t M)) where
+  works : Works x tops W.disk (uid_number act) b.kind r0.now
+  works = (sees.coords k (record { number = k; disk = d; live = Some t }) t (node_here M k (record { number = k; disk = d; live = Some t })) refl).working act b r0 found unended at_work
 
   -- the action waits for this from now on, where the machine has gone so
-  moved_seen : (req : ℕ) (next : Now) → ((U : World) → IsLater W U → KnowsNow x U next) → (goes : TopGoes (uid_number act) (λ S. WorksBy x S (uid_number act) next) W) → SeesDisks x tops (run W goes.effects) (up k d (with_coord t (on_doing act (λ (q : Doing). record q { req = req; now = next }) t.coord)) M)
-  moved_seen req next now goes = top_goes_seen x k tops W M d t act waits.branch waits.doing (λ q. record q { req = req; now = next }) sees waits.found waits.unended waits.at_work top plain refl now
-      (top_to (uid_number act) (λ S. WorksBy x S (uid_number act) next) (λ S. Works x tops S (uid_number act) waits.branch.kind next) W (λ S h. works_as x tops W.disk S (uid_number act) waits.branch.kind waits.doing.now next top works h) goes)
+  pub top_moved : (req : ℕ) (next : Now) → ((U : World) → IsLater W U → KnowsNow x U next) → (goes : TopGoes (uid_number act) (λ S. WorksBy x S (uid_number act) next) W) → SeesDisks x tops (run W goes.effects) (up k d (with_coord t (on_doing act (λ (q : Doing). record q { req = req; now = next }) t.coord)) M)
+  top_moved req next now goes = top_goes_seen x k tops W M d t act b r0 (λ q. record q { req = req; now = next }) sees found unended at_work top plain refl now
+      (top_to (uid_number act) (λ S. WorksBy x S (uid_number act) next) (λ S. Works x tops S (uid_number act) b.kind next) W (λ S h. works_as x tops W.disk S (uid_number act) b.kind r0.now next top works h) goes)
 
   -- the confirmation is asked
-  asks_walk : (q : commit.Plan) → top_of q.path ≡ act → TopGoes (uid_number act) (λ S. SeesConfirming x S (uid_number act) q) W → (marks : List (ℕ × ℕ))
+  pub top_asks : (q : commit.Plan) → top_of q.path ≡ act → TopGoes (uid_number act) (λ S. SeesConfirming x S (uid_number act) q) W → (marks : List (ℕ × ℕ))
       → let did = moved_commit act (record { step = Asks (Confirming q); marks = marks }) intents t.coord in Walks (IsSeenByDisks x tops) e k did.outs (Up (IsSeenByDisks x tops) k (with_coord t did.part)) d M
-  asks_walk q path goes marks = say_walk x k tops e (with_coord t c1) (with_coord t noted) (mark_lines act marks t.coord) (Send 1 msg ∷ []) d V (marks_say act marks t.coord) sends M (moved_seen q.req (Committing (Confirming q)) (λ U l. tt) goes)
+  top_asks q path goes marks = say_walk x k tops e (with_coord t c1) (with_coord t noted) (mark_lines act marks t.coord) (Send 1 msg ∷ []) d V (marks_say act marks t.coord) sends M (top_moved q.req (Committing (Confirming q)) (λ U l. tt) goes)
     where
       c1 : Coord
       c1 = on_doing act (λ (r : Doing). record r { req = q.req; now = Committing (Confirming q) }) t.coord
@@ -204,6 +198,26 @@ module _ (x : ℕ) (tops : Kinds) (e k : ℕ) (d : Disk) (t : Parts) (from : ℕ
           claim : ClaimsConfirm x (after V (machine.Send m)) (uid_number (top_of q.path)) (map {A = Used} {B = ℕ × ℕ} (λ u. (u.x, u.grant)) q.used) q.excluded (included_of q)
           claim = subst (λ w. ClaimsConfirm x (after V (machine.Send m)) (uid_number w) (map {A = Used} {B = ℕ × ℕ} (λ u. (u.x, u.grant)) q.used) q.excluded (included_of q)) (sym path)
               (record { asked = inl refl; says = confirm_says x V.disk (uid_number act) q goes.there })
+
+-- ---- the answer
+
+module _ (x : ℕ) (tops : Kinds) (e k : ℕ) (d : Disk) (t : Parts) (from : ℕ) (act : Uid) (p : commit.Plan) (left : List ℕ) (intents : List (Uid × Intent)) (M : Seen)
+    (waits : WaitsForStore t from act p left) (top : tops.is_top (uid_number act) ≡ true) (W : World) (sees : SeesDisks x tops W (up k d t M)) where
+  works_here : Works x tops W.disk (uid_number act) waits.branch.kind waits.doing.now
+  works_here = (sees.coords k (record { number = k; disk = d; live = Some t }) t (node_here M k (record { number = k; disk = d; live = Some t })) refl).working act waits.branch waits.doing waits.found waits.unended waits.at_work
+
+  pub preparing : SeesPreparing x W.disk (uid_number act) p left
+  preparing = preparing_of x tops W.disk (uid_number act) waits.branch.kind waits.doing.now p left top waits.now works_here
+
+  plain : W.disk.serial (uid_number act) ≡ false
+  plain = (sees.kinds (uid_number act) preparing.begun).1
+
+  moved_seen : (req : ℕ) (next : Now) → ((U : World) → IsLater W U → KnowsNow x U next) → (goes : TopGoes (uid_number act) (λ S. WorksBy x S (uid_number act) next) W) → SeesDisks x tops (run W goes.effects) (up k d (with_coord t (on_doing act (λ (q : Doing). record q { req = req; now = next }) t.coord)) M)
+  moved_seen req next now goes = top_moved x tops e k d t act waits.branch waits.doing intents M waits.found waits.unended waits.at_work top W plain sees req next now goes
+
+  asks_walk : (q : commit.Plan) → top_of q.path ≡ act → TopGoes (uid_number act) (λ S. SeesConfirming x S (uid_number act) q) W → (marks : List (ℕ × ℕ))
+      → let did = moved_commit act (record { step = Asks (Confirming q); marks = marks }) intents t.coord in Walks (IsSeenByDisks x tops) e k did.outs (Up (IsSeenByDisks x tops) k (with_coord t did.part)) d M
+  asks_walk q path goes marks = top_asks x tops e k d t act waits.branch waits.doing intents M waits.found waits.unended waits.at_work top W plain sees q path goes marks
 
   -- after an answer
   answered_walk : (q : commit.Plan) (rest : List ℕ) → q.path ≡ p.path → q.used ≡ p.used → TopGoes (uid_number act) (λ S. SeesPreparing x S (uid_number act) q rest) W

@@ -2,6 +2,7 @@ pub mod AbortWalks
 pub mod ActionAborts
 pub mod Asked
 pub mod AskingSteps
+pub mod BeginWalks
 pub mod ConfirmKeeps
 pub mod ConfirmSteps
 pub mod DecideWalks

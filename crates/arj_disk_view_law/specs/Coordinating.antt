@@ -1,10 +1,12 @@
 -- What the coordinator's handlers keep of the disk half, where what is known of the protocol alone holds.
-use Rattle.std.specs.Prelude.{◌≡◌, ℕ, true, false, [], Some, None}
+use Rattle.std.specs.Prelude.{⊤, ◌≡◌, ℕ, true, false, [], Some, None}
 use Rattle.arj_protocol.specs.Words.{Uid, End, Label, Body}
 use Rattle.arj_protocol.specs.Ask.{actor}
 use Rattle.arj_protocol.specs.Commit as commit
-use Rattle.arj_protocol.specs.Coord.{Coord}
+use Rattle.arj_protocol.specs.Commit.{begin_prepare, targets_of}
+use Rattle.arj_protocol.specs.Coord.{Coord, Doing, Now, Idle, Committing, doing_of}
 use Rattle.arj_protocol.specs.Effect.{Disk, Did}
+use Rattle.arj_protocol.specs.Asking.{step_commit}
 use Rattle.arj_protocol.specs.Ending.{abort_action, ends_with, decide}
 use Rattle.arj_protocol.specs.Node.{Parts, with_coord}
 use Rattle.arj_protocol.specs.Order.{uid_number}
@@ -12,8 +14,9 @@ use Rattle.arj_protocol.specs.Tree.{Branch, branch_of, is_serial, has_open_child
 use Rattle.arj_disk_law.specs.Effects.{World}
 use Rattle.arj_view_law.specs.Seen.{Seen, up}
 use Rattle.arj_view_law.specs.Walks.{Walks, Up}
-use Rattle.arj_disk_view_law.specs.Knows.{KnowsKinds, KnowsCoord}
-use Rattle.arj_disk_view_law.specs.Sees.{Kinds, SeesDisks, IsSeenByDisks}
+use Rattle.arj_disk_view_law.specs.Asking.{IsUnanswered}
+use Rattle.arj_disk_view_law.specs.Knows.{KnowsKinds, KnowsCoord, KnowsPlan}
+use Rattle.arj_disk_view_law.specs.Sees.{Kinds, SeesDisks, IsSeenByDisks, KnowsNow}
 
 -- the coordinator's part of a step keeps the disk half
 abbrev pub DidIsWalked : ℕ → Kinds → ℕ → ℕ → Disk → Parts → Did Coord → Seen → Type 0
@@ -41,3 +44,15 @@ pub record UsesNothing (p : commit.Plan) : Type 0 where
 abbrev pub UnusedAreDecided : Type 0
 UnusedAreDecided = (x : ℕ) (tops : Kinds) (e k : ℕ) (d : Disk) (t : Parts) (act : Uid) (b : Branch) (p : commit.Plan) (M : Seen) → KnowsCoord tops d.intents t.coord
     → branch_of act t.coord.tree ≡ Some b → b.ended ≡ None → tops.is_top (uid_number act) ≡ true → actor p.path ≡ act → UsesNothing p → (W : World) → SeesDisks x tops W (up k d t M) → DidIsWalked x tops e k d t (decide p t.coord) M
+
+-- An open top begins its prepare step, from its start or with its last vote: it asks the stores, naming if there are none, and
+-- is decided at once where it used nothing.
+abbrev pub IsBefore : Now → Type 0
+IsBefore Idle = ⊤
+IsBefore (Committing (commit.Voting p left)) = ⊤
+IsBefore _ = ⊥
+
+abbrev pub TopsPrepare : Type 0
+TopsPrepare = (x : ℕ) (tops : Kinds) (e k : ℕ) (d : Disk) (t : Parts) (act : Uid) (b : Branch) (q : Doing) (p : commit.Plan) (M : Seen) → KnowsCoord tops d.intents t.coord
+    → branch_of act t.coord.tree ≡ Some b → b.ended ≡ None → doing_of act t.coord ≡ Some q → IsBefore q.now → tops.is_top (uid_number act) ≡ true → KnowsPlan act p → IsUnanswered p → (p.used ≡ [] → UsesNothing p)
+    → (W : World) → SeesDisks x tops W (up k d t M) → KnowsNow x W (Committing (commit.Voting p [])) → DidIsWalked x tops e k d t (step_commit act (begin_prepare (targets_of p) p) d.intents t.coord) M

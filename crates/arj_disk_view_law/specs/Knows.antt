@@ -1,14 +1,17 @@
 -- What is known of the protocol without the machine, on which the disk half stands.
-use Rattle.std.specs.Prelude.{◌≡◌, ℕ, true, false, nat_le, List, [], ◌∷◌, length, Some, None}
+use Rattle.std.specs.Prelude.{⊤, ◌≡◌, ℕ, true, false, nat_le, List, [], ◌∷◌, length, Some, None}
 use Rattle.arj_protocol.specs.Words.{Uid, Kind, Path, uids_of, is_on}
 use Rattle.arj_protocol.specs.Words.kind
-use Rattle.arj_protocol.specs.Ask.{actor}
-use Rattle.arj_protocol.specs.Coord.{Coord, Doing, doing_of}
+use Rattle.arj_protocol.specs.Ask.{actor, top_of}
+use Rattle.arj_protocol.specs.Commit as commit
+use Rattle.arj_protocol.specs.Coord.{Coord, Doing, Committing, doing_of, root_at, plan_for}
 use Rattle.arj_protocol.specs.Effect.{Intent}
 use Rattle.arj_protocol.specs.Order.{at_uid, uid_number}
-use Rattle.arj_protocol.specs.Tree.{branch_of, is_open, root_of}
+use Rattle.arj_protocol.specs.Tree.{branch_of, is_constituent, is_open, root_of}
 use Rattle.arj_protocol.specs.Tree as tree
-use Rattle.arj_disk_view_law.specs.Sees.{Kinds}
+use Rattle.arj_disk_view_law.specs.Asking.{IsUnanswered}
+use Rattle.arj_disk_view_law.specs.Plans.{IsTidy}
+use Rattle.arj_disk_view_law.specs.Sees.{Kinds, AreOneChange}
 
 -- Tops are actions, each of its root's node and incarnation.
 pub record KnowsKinds (tops : Kinds) : Type 0 where
@@ -22,6 +25,32 @@ IsOfKind tops u kind.Serial p = (tops.is_top (uid_number u) ≡ false) × (tops.
 IsOfKind tops u kind.Constituent p = (tops.is_top (uid_number u) ≡ true) × (tops.is_serial (uid_number u) ≡ false) × (uids_of p ≡ root_of p ∷ u ∷ [])
 IsOfKind tops u _ p = (tops.is_top (uid_number u) ≡ true) × (tops.is_serial (uid_number u) ≡ false) × (uids_of p ≡ u ∷ [])
 
+-- The plan of a top's commit is by its path, tidy, and changes of each object one state.
+pub record KnowsPlan (u : Uid) (p : commit.Plan) : Type 0 where
+  pub actor_is : actor p.path ≡ u
+  pub top_is : top_of p.path ≡ u
+  pub tidy : IsTidy p
+  pub changes : AreOneChange p
+
+-- a commit under way uses something, and while it votes nobody has prepared
+abbrev pub IsUnderWay : commit.Machine → Type 0
+IsUnderWay (commit.Voting p left) = IsUnanswered p
+IsUnderWay _ = ⊤
+
+pub record KnowsMachine (u : Uid) (m : commit.Machine) : Type 0 where
+  pub plan : KnowsPlan u (commit.plan_of m)
+  pub way : IsUnderWay m
+  pub used : commit.Used
+  pub more : List commit.Used
+  pub uses : (let p = commit.plan_of m in p.used) ≡ used ∷ more
+
+-- an open serializing action
+pub record IsOpenSerial (c : Coord) (u : Uid) : Type 0 where
+  pub branch : tree.Branch
+  pub found : branch_of u c.tree ≡ Some branch
+  pub unended : branch.ended ≡ None
+  pub serial : branch.kind ≡ kind.Serial
+
 -- What is known of a coordinator and the records beside it: each action stands at its place, at the end of its path, which its
 -- root begins; it is at work in its place; an open one has no record; and a record has its top's root.
 pub record KnowsCoord (tops : Kinds) (intents : List (Uid × Intent)) (c : Coord) : Type 0 where
@@ -32,3 +61,6 @@ pub record KnowsCoord (tops : Kinds) (intents : List (Uid × Intent)) (c : Coord
   pub at_work : (u : Uid) (b : tree.Branch) → branch_of u c.tree ≡ Some b → (q : Doing) × (doing_of u c ≡ Some q)
   pub unrecorded : (u : Uid) → is_open u c.tree ≡ true → at_uid u intents ≡ None
   pub rooted : (u : Uid) (i : Intent) → at_uid u intents ≡ Some i → tops.root (uid_number u) ≡ uid_number i.root
+  pub machines : (u : Uid) (q : Doing) (m : commit.Machine) → doing_of u c ≡ Some q → q.now ≡ Committing m → KnowsMachine u m
+  pub starts : (u : Uid) (b : tree.Branch) (req : ℕ) → branch_of u c.tree ≡ Some b → tops.is_top (uid_number u) ≡ true → KnowsPlan u (plan_for b.path req (root_at (root_of b.path) c) c)
+  pub above : (u : Uid) (b : tree.Branch) → branch_of u c.tree ≡ Some b → b.ended ≡ None → is_constituent b.kind ≡ true → IsOpenSerial c (root_of b.path)
