@@ -329,8 +329,8 @@ module _ (x : ℕ) (tops : Kinds) (e k : ℕ) (d : Disk) (t : Parts) (act : Uid)
   -- what may be told of each
   may_tell : (w : Uid) → AmongUids w Us → (h : IsOpenHere w) → (kd : Kind) (p : Path) → (let z = h.here.branch in z.kind) ≡ kd → (let z = h.here.branch in z.path) ≡ p → IsOfKind tops w kd p → MayTell tops d Last LastWorld.disk w kd p
   may_tell w among h kind.Nested p kd_is p_is of =
-      let r = up_to_ends w (ends_of (root_of p) Last.tree) (subst (λ z. is_listed_end w (ends_of (root_of z) Last.tree) ≡ true) p_is (all_listed Us t.coord heres w h.here.branch h.here.found among (ap (λ z. nat_le (length (uids_of z)) 1) p_is ∙ of.1))) in
-      subst (λ o. EndsNoTop tops o) (sym r.1) of.0
+      let r = up_to_ends w (ends_of (root_of p) Last.tree) (subst (λ z. is_listed_end w (ends_of (root_of z) Last.tree) ≡ true) p_is (all_listed Us t.coord heres w h.here.branch h.here.found among (ap (λ z. nat_le (length (uids_of z)) 1) p_is ∙ of.2))) in
+      subst (λ o. EndsNoTop tops o) (sym r.1) (of.0, of.1)
   may_tell w among h kind.Serial p kd_is p_is of = subst (λ a. SerialOver LastWorld.disk a (is_deferred a d.intents)) (sym same)
       (serial_over x k tops d t Last M LastWorld halted_all kinds act ((branch_at act t.coord b found).0 ∙ mine_first.node) (subst (λ a. is_gone (LastWorld.disk.stage (uid_number a)) ≡ true) same (gone_now w among))
       (ap (λ a. tops.is_serial (uid_number a)) (sym same) ∙ of.1) (ap (λ a. tops.is_top (uid_number a)) (sym same) ∙ of.0) none_open knows.rooted)

@@ -34,7 +34,7 @@ use Rattle.arj_disk_view_law.proofs.TopFrames.{branch_at}
 use Rattle.arj_disk_view_law.proofs.UnusedWalks.{unused_are_decided}
 
 -- who hasn't begun its prepare step is idle
-before_idle : (x : ℕ) (tops : Kinds) (S : State) (t : ℕ) (kd : Kind) (now : Now) → IsBefore now → tops.is_top t ≡ true → Works x tops S t kd now → S.stage t ≡ disk.Idle
+pub before_idle : (x : ℕ) (tops : Kinds) (S : State) (t : ℕ) (kd : Kind) (now : Now) → IsBefore now → tops.is_top t ≡ true → Works x tops S t kd now → S.stage t ≡ disk.Idle
 before_idle x tops S t kd now before top w = by_kind kd w
   where
     by_now : (now : Now) → IsBefore now → WorksBy x S t now → S.stage t ≡ disk.Idle

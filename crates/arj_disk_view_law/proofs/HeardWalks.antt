@@ -76,7 +76,7 @@ top_both t Q R W a b = record {
 abbrev pub top_to : (t : ℕ) (Q R : State → Type 0) (W : World) → ((S : State) → Q S → R S) → TopGoes t Q W → TopGoes t R W
 top_to t Q R W f a = record { effects = a.effects; allowed = a.allowed; there = f (run W a.effects).disk a.there; only = a.only }
 
-top_stays : (t : ℕ) (Q : State → Type 0) (W : World) → Q W.disk → TopGoes t Q W
+abbrev pub top_stays : (t : ℕ) (Q : State → Type 0) (W : World) → Q W.disk → TopGoes t Q W
 top_stays t Q W h = record { effects = []; allowed = tt; there = h; only = record { rest = refl; sent = refl; plans = λ z b. (b, refl); stages = λ z e. refl; starts = λ z e. refl; texts = λ z e. refl; gots = λ z e. refl; outcomes = λ z b u. u } }
 
 -- ---- kinds of actions
@@ -97,10 +97,10 @@ works_as x tops S V t kind.Top now next top w h = (top, h)
 works_as x tops S V t kind.Independent now next top w h = (top, h)
 works_as x tops S V t kind.Constituent now next top w h = (top, h)
 
--- ---- a coordinator that takes note at a root
+-- ---- a coordinator that changes in memory
 
-pub roots_seen : (x k : ℕ) (tops : Kinds) (W : World) (M : Seen) (d : Disk) (t : Parts) (c : Coord) (roots : List (ℕ × Root)) → ((r : SeesNotes x d.intents c W) → AllByRecursion (λ (r : ℕ × Root). KnowsRoot x W r.1) roots) → SeesDisks x tops W (up k d (with_coord t c) M) → SeesDisks x tops W (up k d (with_coord t (record c { roots = roots })) M)
-roots_seen x k tops W M d t c roots known s = record {
+pub coord_seen : (x k : ℕ) (tops : Kinds) (W : World) (M : Seen) (d : Disk) (t : Parts) (c C : Coord) → (SeesCoord x k d.inc tops c W.disk → SeesCoord x k d.inc tops C W.disk) → (SeesNotes x d.intents c W → SeesNotes x d.intents C W) → SeesDisks x tops W (up k d (with_coord t c) M) → SeesDisks x tops W (up k d (with_coord t C) M)
+coord_seen x k tops W M d t c C mine noted s = record {
   whole = s.whole;
   fixed = s.fixed;
   kinds = s.kinds;
@@ -108,21 +108,21 @@ roots_seen x k tops W M d t c roots known s = record {
   entry = λ n is. to (λ m n. m ≡ 1 → SeesEntry x n.disk.names W.disk) (λ m n there one. s.entry n (ap (λ j. (up k d (with_coord t c) M).nodes j) (sym one) ∙ there)) (λ h. h) 1 n is refl;
   records = to (λ m n. SeesRecords m n.disk.intents W.disk) s.records (λ h. h);
   coords = λ m n p is live. to (λ m n. (p : Parts) → n.live ≡ Some p → SeesCoord x m n.disk.inc tops p.coord W.disk) (λ m n there p live. s.coords m n p there live)
-      (λ h p live. let same : with_coord t (record c { roots = roots }) ≡ p = cc live in subst (λ (q : Parts). SeesCoord x k d.inc tops q.coord W.disk) same (noted (h (with_coord t c) refl))) m n is p live;
+      (λ h p live. let same : with_coord t C ≡ p = cc live in subst (λ (q : Parts). SeesCoord x k d.inc tops q.coord W.disk) same (mine (h (with_coord t c) refl))) m n is p live;
   notes = λ m n p is live. to (λ m n. (p : Parts) → n.live ≡ Some p → SeesNotes x n.disk.intents p.coord W) (λ m n there p live. s.notes m n p there live)
-      (λ h p live. let same : with_coord t (record c { roots = roots }) ≡ p = cc live in subst (λ (q : Parts). SeesNotes x d.intents q.coord W) same (let mine : SeesNotes x d.intents c W = h (with_coord t c) refl in roots_noted x W d.intents c roots mine (known mine))) m n is p live;
+      (λ h p live. let same : with_coord t C ≡ p = cc live in subst (λ (q : Parts). SeesNotes x d.intents q.coord W) same (noted (h (with_coord t c) refl))) m n is p live;
   downs = to (λ m n. n.live ≡ None → SeesDown m n.disk.inc W.disk) (λ m n there live. s.downs m n there live) (λ h live. absurd (cc live));
   confirmed = λ n p o is live named. to (λ m n. m ≡ 1 → (p : Parts) (o : Naming) → n.live ≡ Some p → p.naming ≡ Some o → SeesConfirmed o W.disk) (λ m n there one p o live named. s.confirmed n p o (ap (λ j. (up k d (with_coord t c) M).nodes j) (sym one) ∙ there) live named)
-      (λ h one p o live named. let same : with_coord t (record c { roots = roots }) ≡ p = cc live in h one (with_coord t c) o refl (ap (λ (q : Parts). q.naming) same ∙ named)) 1 n is refl p o live named;
+      (λ h one p o live named. let same : with_coord t C ≡ p = cc live in h one (with_coord t c) o refl (ap (λ (q : Parts). q.naming) same ∙ named)) 1 n is refl p o live named;
   posts = s.posts;
 }
   where
-    noted : SeesCoord x k d.inc tops c W.disk → SeesCoord x k d.inc tops (record c { roots = roots }) W.disk
-    noted h = record { node = h.node; present = h.present; working = h.working; closed = h.closed; future = h.future }
+    to : (Q : ℕ → Node → Type 0) → ((m : ℕ) (n : Node) → (up k d (with_coord t c) M).nodes m ≡ Some n → Q m n) → (Q k (record { number = k; disk = d; live = Some (with_coord t c) }) → Q k (record { number = k; disk = d; live = Some (with_coord t C) })) → (m : ℕ) (n : Node) → (up k d (with_coord t C) M).nodes m ≡ Some n → Q m n
+    to Q each mine = nodes_to M k (record { number = k; disk = d; live = Some (with_coord t c) }) (record { number = k; disk = d; live = Some (with_coord t C) }) Q Q each mine (λ m n other h. h)
 
-    to : (Q : ℕ → Node → Type 0) → ((m : ℕ) (n : Node) → (up k d (with_coord t c) M).nodes m ≡ Some n → Q m n) → (Q k (record { number = k; disk = d; live = Some (with_coord t c) }) → Q k (record { number = k; disk = d; live = Some (with_coord t (record c { roots = roots })) }))
-        → (m : ℕ) (n : Node) → (up k d (with_coord t (record c { roots = roots })) M).nodes m ≡ Some n → Q m n
-    to Q each mine = nodes_to M k (record { number = k; disk = d; live = Some (with_coord t c) }) (record { number = k; disk = d; live = Some (with_coord t (record c { roots = roots })) }) Q Q each mine (λ m n other h. h)
+-- it takes note at a root
+pub roots_seen : (x k : ℕ) (tops : Kinds) (W : World) (M : Seen) (d : Disk) (t : Parts) (c : Coord) (roots : List (ℕ × Root)) → ((r : SeesNotes x d.intents c W) → AllByRecursion (λ (r : ℕ × Root). KnowsRoot x W r.1) roots) → SeesDisks x tops W (up k d (with_coord t c) M) → SeesDisks x tops W (up k d (with_coord t (record c { roots = roots })) M)
+roots_seen x k tops W M d t c roots known s = coord_seen x k tops W M d t c (record c { roots = roots }) (λ h. record { node = h.node; present = h.present; working = h.working; closed = h.closed; future = h.future }) (λ n. roots_noted x W d.intents c roots n (known n)) s
 
 -- a root takes note of a request
 pub one_noted : (x : ℕ) (W : World) (path : Path) (to : ℕ) (invoke : Bool) (c : Coord) → AllByRecursion (λ (r : ℕ × Root). KnowsRoot x W r.1) c.roots
@@ -253,7 +253,7 @@ marks_used : (ss : List ℕ) (p : commit.Plan) → (marks_stores ss p).used ≡ 
 marks_used [] p = refl
 marks_used (s ∷ ss) p = marks_used ss (marks_store s p)
 
-gaveup_say : (u : Uid) (nodes : List ℕ) (c : Coord) → AreAll is_say (gaveup_lines u nodes c)
+pub gaveup_say : (u : Uid) (nodes : List ℕ) (c : Coord) → AreAll is_say (gaveup_lines u nodes c)
 gaveup_say u [] c = refl
 gaveup_say u (n ∷ ns) c = all_both is_say (says u (λ l. body.GaveUp l n) c) (gaveup_lines u ns c) (by (doing_of u c)) (gaveup_say u ns c)
   where
@@ -273,7 +273,7 @@ silent_are_given_up x tops e k d t from act p left intents M waits top W sees =
 -- ---- the prepare step begins
 
 -- requests change nothing of a coordinator but what roots have noted
-asks_roots : (path : Path) (req : ℕ) (asks_left : List (ℕ × Ask)) (c : Coord) → (asks_all path req asks_left c).part ≡ record c { roots = (asks_all path req asks_left c).part.roots }
+pub asks_roots : (path : Path) (req : ℕ) (asks_left : List (ℕ × Ask)) (c : Coord) → (asks_all path req asks_left c).part ≡ record c { roots = (asks_all path req asks_left c).part.roots }
 asks_roots path req [] c = refl
 asks_roots path req (a ∷ rest) c = asks_roots path req rest (asks_node path req a c).part
 

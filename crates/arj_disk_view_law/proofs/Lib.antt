@@ -1,8 +1,10 @@
 pub mod AbortWalks
+pub mod AckWalks
 pub mod ActionAborts
 pub mod Asked
 pub mod AskingSteps
 pub mod BeginWalks
+pub mod CommitWalks
 pub mod ConfirmKeeps
 pub mod ConfirmSteps
 pub mod DecideWalks
@@ -14,6 +16,7 @@ pub mod Ending
 pub mod Ends
 pub mod EntrySteps
 pub mod Frames
+pub mod FreeAsks
 pub mod Halts
 pub mod HeardWalks
 pub mod Keys

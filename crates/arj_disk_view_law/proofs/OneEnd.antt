@@ -98,7 +98,7 @@ module _ (x : ℕ) (tops : Kinds) (e k : ℕ) (d : Disk) (t : Parts) (act : Uid)
       by (Some z) is h = by_kind z is h (number_tells (root_of z.path) act (sym (knows.root w z is) ∙ root)) z.kind (knows.kind w z is)
 
   may_tell : (kd : Kind) → b.kind ≡ kd → IsOfKind tops act kd b.path → MayTell tops d C V.disk act kd b.path
-  may_tell kind.Nested is of = let r = up_to_ends act (ends_of (root_of b.path) C.tree) (one_listed t.coord act b (knows.at_work act b found).0 how found at_work of.1) in subst (λ o. EndsNoTop tops o) (sym r.1) of.0
+  may_tell kind.Nested is of = let r = up_to_ends act (ends_of (root_of b.path) C.tree) (one_listed t.coord act b (knows.at_work act b found).0 how found at_work of.2) in subst (λ o. EndsNoTop tops o) (sym r.1) (of.0, of.1)
   may_tell kind.Serial is of = serial_over x k tops d t C M V halted_seen kinds act here gone of.1 of.0 (none_open (childless (ap is_serial is))) knows.rooted
   may_tell kind.Top is of = plain of.0
   may_tell kind.Independent is of = plain of.0

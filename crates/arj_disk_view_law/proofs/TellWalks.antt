@@ -19,15 +19,16 @@ use Rattle.arj_disk_law.specs.Effects.{World, after}
 use Rattle.arj_disk_law.specs.Messages as mail
 use Rattle.arj_disk_law.specs.Messages.{Meaning, IsOver}
 use Rattle.arj_disk_law.specs.State.{State, lists}
+use Rattle.arj_disk_law.proofs.Base.{not_true}
 use Rattle.arj_view_law.specs.Seen.{Post, Seen, up, said, posted}
 use Rattle.arj_view_law.specs.Walks.{Walks, Up}
-use Rattle.arj_disk_view_law.specs.Sees.{Kinds, SeesDisks, IsSeenByDisks, ClaimsLast}
+use Rattle.arj_disk_view_law.specs.Sees.{Kinds, SeesDisks, IsSeenByDisks, IsNested, ClaimsLast}
 use Rattle.arj_disk_view_law.proofs.Frames.{says_seen, posts_seen, sends_seen}
 
--- the end is of an action that is no top
+-- the end is of a nested action
 abbrev pub EndsNoTop : Kinds → Option (Uid × End) → Type 0
 EndsNoTop tops None = ⊤
-EndsNoTop tops (Some e) = tops.is_top (uid_number e.0) ≡ false
+EndsNoTop tops (Some e) = IsNested tops (uid_number e.0)
 
 -- a serializing action is over, but for the nodes that a record of a constituent lists
 pub record SerialOver (S : State) (r : Uid) (deferred : ℕ → Bool) : Type 0 where
@@ -75,7 +76,7 @@ module _ (x k : ℕ) (tops : Kinds) (e : ℕ) (d : Disk) (t : Parts) (C : Coord)
       let p : Post = record { from = k; to = n; message = message.Told (record { root = root; ack = false; ends = ends }) } in
       nested root ends rest go none ns (said e more (posted p N)) V same (sends_told V N root ends n more (claim (last_end ends) none) s)
     where
-      of : (u : Uid × End) → tops.is_top (uid_number u.0) ≡ false → ClaimsLast tops V n false (Some u)
+      of : (u : Uid × End) → IsNested tops (uid_number u.0) → ClaimsLast tops V n false (Some u)
       of (u, ending.Commit) nt = (inr nt, λ a. absurd (cc a))
       of (u, ending.Abort) nt = (inr (inr nt), λ a. absurd (cc a))
 
@@ -83,23 +84,22 @@ module _ (x k : ℕ) (tops : Kinds) (e : ℕ) (d : Disk) (t : Parts) (C : Coord)
       claim None nt = tt
       claim (Some u) nt = of u nt
 
-  serial : (u : Uid) (rest : List Effect) → Goes rest → SerialOver S u (is_deferred u d.intents) → (ns : List ℕ) → Goes (tell_all u false ((u, ending.Abort) ∷ []) (filter (λ n. not (is_deferred u d.intents n)) ns) ++ rest)
-  serial u rest go over [] N V same s = go N V same s
-  serial u rest go over (n ∷ ns) N V same s = by (is_deferred u d.intents n) refl (serial u rest go over ns)
+  pub serial : (u : Uid) (rest : List Effect) → Goes rest → SerialOver S u (is_deferred u d.intents) → (f : ℕ → Bool) → ((n : ℕ) → f n ≡ true → is_deferred u d.intents n ≡ false) → (ns : List ℕ) → Goes (tell_all u false ((u, ending.Abort) ∷ []) (filter f ns) ++ rest)
+  serial u rest go over f free [] N V same s = go N V same s
+  serial u rest go over f free (n ∷ ns) N V same s = by (f n) refl (serial u rest go over f free ns)
     where
-      by : (b : Bool) → is_deferred u d.intents n ≡ b → Goes (tell_all u false ((u, ending.Abort) ∷ []) (filter (λ n. not (is_deferred u d.intents n)) ns) ++ rest)
-          → Walks P e k (tell_all u false ((u, ending.Abort) ∷ []) (if not b then n ∷ filter (λ n. not (is_deferred u d.intents n)) ns else filter (λ n. not (is_deferred u d.intents n)) ns) ++ rest) (Up P k (with_coord t C)) d N
-      by true is ih = ih N V same s
-      by false is ih = λ more quiet.
+      by : (b : Bool) → f n ≡ b → Goes (tell_all u false ((u, ending.Abort) ∷ []) (filter f ns) ++ rest) → Walks P e k (tell_all u false ((u, ending.Abort) ∷ []) (if b then n ∷ filter f ns else filter f ns) ++ rest) (Up P k (with_coord t C)) d N
+      by false is ih = ih N V same s
+      by true is ih = λ more quiet.
           let m : mail.Message = mail.ToldSerial (uid_number u) n in
           let p : Post = record { from = k; to = n; message = message.Told (record { root = u; ack = false; ends = (u, ending.Abort) ∷ [] }) } in
           ih (said e more (posted p N)) (after V (machine.Send m)) same
           (sends_told (after V (machine.Send m)) N u ((u, ending.Abort) ∷ []) n more (inr (inl (ap (λ (D : State). D.serial (uid_number u)) same ∙ over.serial, inl refl)), λ a. absurd (cc a))
-          (sends_seen x tops V (up k d (with_coord t C) N) m (subst (λ D. Meaning D m) (sym same) (over.over, over.unlisted n is)) s))
+          (sends_seen x tops V (up k d (with_coord t C) N) m (subst (λ D. Meaning D m) (sym same) (over.over, over.unlisted n (free n is))) s))
 
   by_kind : (u : Uid) (kd : Kind) (p : Path) (rest : List Effect) → Goes rest → MayTell tops d C S u kd p → Goes (tolds_by u kd p d.intents C ++ rest)
   by_kind u kind.Nested p rest go may = nested (root_of p) (up_to u (ends_of (root_of p) C.tree)) rest go may (servers_told u (root_at (root_of p) C) C)
-  by_kind u kind.Serial p rest go may = serial u rest go may (nodes_sent u (root_at u C))
+  by_kind u kind.Serial p rest go may = serial u rest go may (λ n. not (is_deferred u d.intents n)) (λ n h. not_true (is_deferred u d.intents n) h) (nodes_sent u (root_at u C))
   by_kind u kind.Top p rest go may = aborted u (root_of p) rest go may (nodes_sent u (root_at (root_of p) C))
   by_kind u kind.Independent p rest go may = aborted u (root_of p) rest go may (nodes_sent u (root_at (root_of p) C))
   by_kind u kind.Constituent p rest go may = aborted u (root_of p) rest go may (nodes_sent u (root_at (root_of p) C))

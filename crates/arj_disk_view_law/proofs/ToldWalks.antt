@@ -161,10 +161,10 @@ module _ (x k : ℕ) (tops : Kinds) (e : ℕ) where
     where
       ends : (how : End) → ClaimsEnd tops W k (u, how) → is_prepared u d.store ≡ true → Walks P e k (end_states k u how ++ rest) (Up P k v) d M
       ends ending.Commit (inl c) is = commit_walks d t v u ack rest M W s c is told go
-      ends ending.Commit (inr no_top) is = absurd (never (prepared_kind d t M W u s is).0 no_top)
+      ends ending.Commit (inr no_top) is = absurd (never (prepared_kind d t M W u s is).0 no_top.0)
       ends ending.Abort (inl c) is = abort_walks d t v u ack rest M W s c is told go
       ends ending.Abort (inr (inl serial)) is = absurd (never serial.0 (prepared_kind d t M W u s is).1)
-      ends ending.Abort (inr (inr no_top)) is = absurd (never (prepared_kind d t M W u s is).0 no_top)
+      ends ending.Abort (inr (inr no_top)) is = absurd (never (prepared_kind d t M W u s is).0 no_top.0)
 
       by : (b : Bool) → is_prepared u d.store ≡ b → Walks P e k ((if b then end_states k u how else []) ++ rest) (Up P k v) d M
       by true is = ends how claims is

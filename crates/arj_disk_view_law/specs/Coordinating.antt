@@ -1,22 +1,24 @@
 -- What the coordinator's handlers keep of the disk half, where what is known of the protocol alone holds.
 use Rattle.std.specs.Prelude.{⊤, ◌≡◌, ℕ, true, false, [], Some, None}
-use Rattle.arj_protocol.specs.Words.{Uid, End, Label, Body}
-use Rattle.arj_protocol.specs.Ask.{actor}
+use Rattle.arj_protocol.specs.Words.{Uid, End, Label, Body, Asked}
+use Rattle.arj_protocol.specs.Ask.{Reply, actor}
 use Rattle.arj_protocol.specs.Commit as commit
 use Rattle.arj_protocol.specs.Commit.{begin_prepare, targets_of}
 use Rattle.arj_protocol.specs.Coord.{Coord, Doing, Now, Idle, Committing, doing_of}
-use Rattle.arj_protocol.specs.Effect.{Disk, Did}
-use Rattle.arj_protocol.specs.Asking.{step_commit}
-use Rattle.arj_protocol.specs.Ending.{abort_action, ends_with, decide}
+use Rattle.arj_protocol.specs.Effect.{Disk, Did, Intent}
+use Rattle.arj_protocol.specs.Asking.{step_commit, moved_commit, commit_action, waits_for_commit, gives_up}
+use Rattle.arj_protocol.specs.Ending.{abort_action, acked_left, ends_with, decide}
 use Rattle.arj_protocol.specs.Node.{Parts, with_coord}
-use Rattle.arj_protocol.specs.Order.{uid_number}
+use Rattle.arj_protocol.specs.Order.{at_uid, uid_number, without_number}
 use Rattle.arj_protocol.specs.Tree.{Branch, branch_of, is_serial, has_open_child}
 use Rattle.arj_disk_law.specs.Effects.{World}
+use Rattle.arj_disk_law.specs.Messages as mail
+use Rattle.arj_disk_law.specs.Words.{In}
 use Rattle.arj_view_law.specs.Seen.{Seen, up}
 use Rattle.arj_view_law.specs.Walks.{Walks, Up}
 use Rattle.arj_disk_view_law.specs.Asking.{IsUnanswered}
 use Rattle.arj_disk_view_law.specs.Knows.{KnowsKinds, KnowsCoord, KnowsPlan}
-use Rattle.arj_disk_view_law.specs.Sees.{Kinds, SeesDisks, IsSeenByDisks, KnowsNow}
+use Rattle.arj_disk_view_law.specs.Sees.{Kinds, SeesDisks, IsSeenByDisks, KnowsNow, ClaimsReply}
 
 -- the coordinator's part of a step keeps the disk half
 abbrev pub DidIsWalked : ℕ → Kinds → ℕ → ℕ → Disk → Parts → Did Coord → Seen → Type 0
@@ -56,3 +58,28 @@ abbrev pub TopsPrepare : Type 0
 TopsPrepare = (x : ℕ) (tops : Kinds) (e k : ℕ) (d : Disk) (t : Parts) (act : Uid) (b : Branch) (q : Doing) (p : commit.Plan) (M : Seen) → KnowsCoord tops d.intents t.coord
     → branch_of act t.coord.tree ≡ Some b → b.ended ≡ None → doing_of act t.coord ≡ Some q → IsBefore q.now → tops.is_top (uid_number act) ≡ true → KnowsPlan act p → IsUnanswered p → (p.used ≡ [] → UsesNothing p)
     → (W : World) → SeesDisks x tops W (up k d t M) → KnowsNow x W (Committing (commit.Voting p [])) → DidIsWalked x tops e k d t (step_commit act (begin_prepare (targets_of p) p) d.intents t.coord) M
+
+-- An open action commits that has no open action in it and that waits for nothing: a doomed one is aborted, a nested one is
+-- committed, a serializing one ends; a top asks for its votes.
+abbrev pub ActionsCommit : Type 0
+ActionsCommit = (x : ℕ) (tops : Kinds) (e k : ℕ) (d : Disk) (t : Parts) (act : Uid) (b : Branch) (q : Doing) (M : Seen) → KnowsKinds tops → KnowsCoord tops d.intents t.coord
+    → branch_of act t.coord.tree ≡ Some b → b.ended ≡ None → doing_of act t.coord ≡ Some q → q.now ≡ Idle → has_open_child act t.coord.tree ≡ false
+    → (W : World) → SeesDisks x tops W (up k d t M) → DidIsWalked x tops e k d t (commit_action b d.intents t.coord) M
+
+-- An answer that a commit waits for is taken: a vote, a store's answer, naming's answer.
+abbrev pub CommitsAreHeard : Type 0
+CommitsAreHeard = (x : ℕ) (tops : Kinds) (e k : ℕ) (d : Disk) (t : Parts) (from : ℕ) (a : Asked) (q : Doing) (m : commit.Machine) (r : Reply) (M : Seen) → KnowsKinds tops → KnowsCoord tops d.intents t.coord
+    → doing_of a.act t.coord ≡ Some q → q.now ≡ Committing m → waits_for_commit from a r m ≡ true → (W : World) → SeesDisks x tops W (up k d t M) → ClaimsReply x W from a.act r
+    → DidIsWalked x tops e k d t (moved_commit a.act (commit.answered from m r) d.intents t.coord) M
+
+-- A commit's step is given up.
+abbrev pub CommitsAreGivenUp : Type 0
+CommitsAreGivenUp = (x : ℕ) (tops : Kinds) (e k : ℕ) (d : Disk) (t : Parts) (act : Uid) (q : Doing) (m : commit.Machine) (M : Seen) → KnowsKinds tops → KnowsCoord tops d.intents t.coord
+    → doing_of act t.coord ≡ Some q → q.now ≡ Committing m → (W : World) → SeesDisks x tops W (up k d t M) → DidIsWalked x tops e k d t (gives_up act d.intents t.coord (Committing m)) M
+
+-- An acknowledgement is taken: it is awaited no longer, and with the last one the record goes, and the end of its serializing
+-- action is told to whom no other record lists.
+abbrev pub AcksAreTaken : Type 0
+AcksAreTaken = (x : ℕ) (tops : Kinds) (e k : ℕ) (d : Disk) (t : Parts) (from : ℕ) (act : Uid) (i : Intent) (M : Seen) → KnowsKinds tops → KnowsCoord tops d.intents t.coord
+    → at_uid act t.coord.telling ≡ Some i → (W : World) → SeesDisks x tops W (up k d t M) → In (mail.Acked (uid_number act) from) W.sent
+    → let r = acked_left act i d.intents t.coord (without_number from i.nodes) in Walks (IsSeenByDisks x tops) e k r.outs (Up (IsSeenByDisks x tops) k (with_coord t r.part)) d M

@@ -1,11 +1,12 @@
 -- What is known of the protocol without the machine, on which the disk half stands.
-use Rattle.std.specs.Prelude.{⊤, ◌≡◌, ℕ, true, false, nat_le, List, [], ◌∷◌, length, Some, None}
+use Rattle.std.specs.Prelude.{⊤, ◌≡◌, ◌≢◌, ℕ, true, false, nat_le, List, [], ◌∷◌, length, Some, None}
 use Rattle.arj_protocol.specs.Words.{Uid, Kind, Path, uids_of, is_on}
 use Rattle.arj_protocol.specs.Words.kind
 use Rattle.arj_protocol.specs.Ask.{actor, top_of}
 use Rattle.arj_protocol.specs.Commit as commit
 use Rattle.arj_protocol.specs.Coord.{Coord, Doing, Committing, doing_of, root_at, plan_for}
 use Rattle.arj_protocol.specs.Effect.{Intent}
+use Rattle.arj_protocol.specs.Order as order
 use Rattle.arj_protocol.specs.Order.{at_uid, uid_number}
 use Rattle.arj_protocol.specs.Tree.{branch_of, is_constituent, is_open, root_of}
 use Rattle.arj_protocol.specs.Tree as tree
@@ -13,31 +14,38 @@ use Rattle.arj_disk_view_law.specs.Asking.{IsUnanswered}
 use Rattle.arj_disk_view_law.specs.Plans.{IsTidy}
 use Rattle.arj_disk_view_law.specs.Sees.{Kinds, AreOneChange}
 
--- Tops are actions, each of its root's node and incarnation.
+-- Tops are actions, each of its root's node and incarnation; the root of a constituent is a serializing action.
 pub record KnowsKinds (tops : Kinds) : Type 0 where
   pub named : (z : ℕ) → tops.is_top z ≡ true → (w : Uid) × (uid_number w ≡ z)
+  pub serial : (w r : Uid) → tops.is_top (uid_number w) ≡ true → tops.root (uid_number w) ≡ uid_number r → w ≢ r → (tops.is_top (uid_number r) ≡ false) × (tops.is_serial (uid_number r) ≡ true)
   pub own : (w r : Uid) → tops.is_top (uid_number w) ≡ true → tops.root (uid_number w) ≡ uid_number r → (w.node ≡ r.node) × (w.inc ≡ r.inc)
 
 -- An action's path by its kind: tops that are no constituents and serializing actions are their own roots.
 abbrev pub IsOfKind : Kinds → Uid → Kind → Path → Type 0
-IsOfKind tops u kind.Nested p = (tops.is_top (uid_number u) ≡ false) × (nat_le (length (uids_of p)) 1 ≡ false)
+IsOfKind tops u kind.Nested p = (tops.is_top (uid_number u) ≡ false) × (tops.is_serial (uid_number u) ≡ false) × (nat_le (length (uids_of p)) 1 ≡ false)
 IsOfKind tops u kind.Serial p = (tops.is_top (uid_number u) ≡ false) × (tops.is_serial (uid_number u) ≡ true) × (uids_of p ≡ u ∷ [])
 IsOfKind tops u kind.Constituent p = (tops.is_top (uid_number u) ≡ true) × (tops.is_serial (uid_number u) ≡ false) × (uids_of p ≡ root_of p ∷ u ∷ [])
 IsOfKind tops u _ p = (tops.is_top (uid_number u) ≡ true) × (tops.is_serial (uid_number u) ≡ false) × (uids_of p ≡ u ∷ [])
 
--- The plan of a top's commit is by its path, tidy, and changes of each object one state.
+-- The plan of a top's commit is by its path, and tidy.
 pub record KnowsPlan (u : Uid) (p : commit.Plan) : Type 0 where
   pub actor_is : actor p.path ≡ u
   pub top_is : top_of p.path ≡ u
   pub tidy : IsTidy p
-  pub changes : AreOneChange p
 
--- a commit under way uses something, and while it votes nobody has prepared
+-- while a commit votes nobody has prepared, and while it prepares somebody hasn't answered
 abbrev pub IsUnderWay : commit.Machine → Type 0
 IsUnderWay (commit.Voting p left) = IsUnanswered p
+IsUnderWay (commit.Preparing p left) = (n : ℕ) × (order.has left n ≡ true)
 IsUnderWay _ = ⊤
 
-pub record KnowsMachine (u : Uid) (m : commit.Machine) : Type 0 where
+-- A commit under way is of an open top; it uses something, and changes of each object one state.
+pub record KnowsMachine (tops : Kinds) (c : Coord) (u : Uid) (m : commit.Machine) : Type 0 where
+  pub branch : tree.Branch
+  pub found : branch_of u c.tree ≡ Some branch
+  pub unended : branch.ended ≡ None
+  pub top : tops.is_top (uid_number u) ≡ true
+  pub changes : AreOneChange (commit.plan_of m)
   pub plan : KnowsPlan u (commit.plan_of m)
   pub way : IsUnderWay m
   pub used : commit.Used
@@ -60,7 +68,8 @@ pub record KnowsCoord (tops : Kinds) (intents : List (Uid × Intent)) (c : Coord
   pub headed : (u : Uid) (b : tree.Branch) → branch_of u c.tree ≡ Some b → is_on (uids_of b.path) (root_of b.path) ≡ true
   pub at_work : (u : Uid) (b : tree.Branch) → branch_of u c.tree ≡ Some b → (q : Doing) × (doing_of u c ≡ Some q)
   pub unrecorded : (u : Uid) → is_open u c.tree ≡ true → at_uid u intents ≡ None
+  pub awaited : (u : Uid) (j : Intent) → at_uid u c.telling ≡ Some j → (i : Intent) × (at_uid u intents ≡ Some i)
   pub rooted : (u : Uid) (i : Intent) → at_uid u intents ≡ Some i → tops.root (uid_number u) ≡ uid_number i.root
-  pub machines : (u : Uid) (q : Doing) (m : commit.Machine) → doing_of u c ≡ Some q → q.now ≡ Committing m → KnowsMachine u m
+  pub machines : (u : Uid) (q : Doing) (m : commit.Machine) → doing_of u c ≡ Some q → q.now ≡ Committing m → KnowsMachine tops c u m
   pub starts : (u : Uid) (b : tree.Branch) (req : ℕ) → branch_of u c.tree ≡ Some b → tops.is_top (uid_number u) ≡ true → KnowsPlan u (plan_for b.path req (root_at (root_of b.path) c) c)
   pub above : (u : Uid) (b : tree.Branch) → branch_of u c.tree ≡ Some b → b.ended ≡ None → is_constituent b.kind ≡ true → IsOpenSerial c (root_of b.path)

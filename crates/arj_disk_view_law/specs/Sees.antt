@@ -73,10 +73,14 @@ ClaimsReply x W from u (Reply.Confirmed confirmed.Yes) = In (mail.Confirmed (uid
 ClaimsReply x W from u (Reply.Loaded (loaded.State st)) = st.uid ≡ object x → Known W.disk (packed st)
 ClaimsReply x W from u _ = ⊤
 
--- An end: of a top, of a serializing action, or of an action that is no top and so has nothing prepared.
+-- a nested action
+abbrev pub IsNested : Kinds → ℕ → Type 0
+IsNested tops t = (tops.is_top t ≡ false) × (tops.is_serial t ≡ false)
+
+-- An end: of a top, of a serializing action, or of a nested action, which has nothing prepared.
 abbrev pub ClaimsEnd : Kinds → World → ℕ → Uid × End → Type 0
-ClaimsEnd tops W to (u, ending.Commit) = ClaimsCommit W u to ⊎ (tops.is_top (uid_number u) ≡ false)
-ClaimsEnd tops W to (u, ending.Abort) = ClaimsAbort W u to ⊎ (((W.disk.serial (uid_number u) ≡ true) × In (mail.ToldSerial (uid_number u) to) W.sent) ⊎ (tops.is_top (uid_number u) ≡ false))
+ClaimsEnd tops W to (u, ending.Commit) = ClaimsCommit W u to ⊎ IsNested tops (uid_number u)
+ClaimsEnd tops W to (u, ending.Abort) = ClaimsAbort W u to ⊎ (((W.disk.serial (uid_number u) ≡ true) × In (mail.ToldSerial (uid_number u) to) W.sent) ⊎ IsNested tops (uid_number u))
 
 -- where it is to be acknowledged, it is a commit with a record
 abbrev pub ClaimsLast : Kinds → World → ℕ → Bool → Option (Uid × End) → Type 0
