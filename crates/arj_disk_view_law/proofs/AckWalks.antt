@@ -1,11 +1,10 @@
 -- An acknowledgement, walked through at the coordinator.
-use Rattle.std.proofs.Common.{◌≡◌, ◌≢◌, ◌⊎◌, ℕ, ◌==◌, ◌&&◌, ◌||◌, List, [], ◌∷◌, ◌++◌, Bool, true, false, Option, Some, None, refl, sym, ◌∙◌, ap, subst, inl, inr, ⊎_elim, append-nil}
-use Rattle.std.specs.Prelude.{if◌then◌else◌, not, is_some, filter}
-use Rattle.std.proofs.lemmas.Bool.{and_parts}
+use Rattle.std.proofs.Common.{◌≡◌, ◌≢◌, ◌⊎◌, ℕ, ◌==◌, ◌&&◌, ◌||◌, List, [], ◌∷◌, Bool, true, false, Option, Some, None, refl, sym, ◌∙◌, ap, subst, inl, inr, ⊎_elim, append-nil}
+use Rattle.std.specs.Prelude.{if◌then◌else◌, not, is_some}
 use Rattle.arj_base.proofs.Uids.{uid_cases, uid_isnt}
 use Rattle.arj_protocol.specs.Words.{Uid, End, Kind, uid_eq, first_uid}
-use Rattle.arj_protocol.specs.Coord.{Coord, Doing, doing_of, root_at, nodes_sent}
-use Rattle.arj_protocol.specs.Effect.{Disk, Effect, Do, RemoveIntent, Before, After, InPart, Intent}
+use Rattle.arj_protocol.specs.Coord.{Coord, root_at, nodes_sent}
+use Rattle.arj_protocol.specs.Effect.{Disk, RemoveIntent, Before, After, InPart, Intent}
 use Rattle.arj_protocol.specs.Ending.{acked_left, is_deferred, is_over, let_go, tell_all, tolds_let_go}
 use Rattle.arj_protocol.specs.Words.ending
 use Rattle.arj_protocol.specs.Words.kind
@@ -20,14 +19,14 @@ use Rattle.arj_disk_law.specs.Effects.{World, Allowed, after}
 use Rattle.arj_disk_law.specs.Messages as mail
 use Rattle.arj_disk_law.specs.State as disk
 use Rattle.arj_disk_law.specs.State.{State, is_gone}
-use Rattle.arj_disk_law.specs.Words.{In, put}
-use Rattle.arj_disk_law.proofs.Base.{never, never_some, some_is, put_same, put_other, test_same, test_is, falls_to, bool_cases, and_left, and_right, not_true}
+use Rattle.arj_disk_law.specs.Words.{In}
+use Rattle.arj_disk_law.proofs.Base.{never, never_some, some_is, put_same, put_other, test_same, test_is, and_left, not_true}
 use Rattle.arj_view_law.specs.Seen.{Seen, up}
 use Rattle.arj_view_law.specs.Walks.{Walks, Stops, Up}
 use Rattle.arj_disk_view_law.specs.Coordinating.{AcksAreTaken}
 use Rattle.arj_disk_view_law.specs.Deciding.{SeesRecords, Stills, nodes_of}
-use Rattle.arj_disk_view_law.specs.Knows.{KnowsKinds, KnowsCoord, IsOfKind}
-use Rattle.arj_disk_view_law.specs.Sees.{Kinds, IsFuture, SeesDisks, SeesCoord, SeesNotes, IsSettled, IsLater, IsSeenByDisks, is_awaited_by}
+use Rattle.arj_disk_view_law.specs.Knows.{KnowsKinds, KnowsCoord, IsOfKind, IsOpenSerial}
+use Rattle.arj_disk_view_law.specs.Sees.{Kinds, IsFuture, SeesDisks, SeesCoord, SeesNotes, IsSettled, IsSeenByDisks, is_awaited_by}
 use Rattle.arj_disk_view_law.proofs.ActionAborts.{serial_over}
 use Rattle.arj_disk_view_law.proofs.DecidingSteps.{actions_may_halt, record_is_removed}
 use Rattle.arj_disk_view_law.proofs.Ended.{calm_seen}
@@ -68,6 +67,27 @@ halts_again x k tops W M d t u s here closed past = calm_seen x k tops W M d t u
           (λ other. ap is_gone (stages w other) ∙ mine.closed w at over began) (uid_cases w u);
       future = λ w at later. stages w (λ same. past (subst (λ a. IsFuture t.coord a) same later)) ∙ mine.future w at later;
     }
+
+-- ---- roots
+
+-- the root of an open constituent is an open serializing action
+pub open_root : (tops : Kinds) (intents : List (Uid × Intent)) (c : Coord) (w r : Uid) → KnowsCoord tops intents c → is_open w c.tree ≡ true → tops.is_top (uid_number w) ≡ true → tops.root (uid_number w) ≡ uid_number r → w ≢ r → IsOpenSerial c r
+open_root tops intents c w r knows o top root apart = by (branch_of w c.tree) refl o
+  where
+    by_kind : (z : Branch) → branch_of w c.tree ≡ Some z → z.ended ≡ None → root_of z.path ≡ r → (kd : Kind) → z.kind ≡ kd → IsOfKind tops w kd z.path → IsOpenSerial c r
+    by_kind z is unended of kind.Nested kd p = absurd (never top p.0)
+    by_kind z is unended of kind.Serial kd p = absurd (never top p.0)
+    by_kind z is unended of kind.Top kd p = absurd (apart (ap first_uid (sym p.2) ∙ of))
+    by_kind z is unended of kind.Independent kd p = absurd (apart (ap first_uid (sym p.2) ∙ of))
+    by_kind z is unended of kind.Constituent kd p = subst (λ a. IsOpenSerial c a) of (knows.above w z is unended (ap is_constituent kd))
+
+    not_ended : (o : Option End) → not (is_some o) ≡ true → o ≡ None
+    not_ended None h = refl
+    not_ended (Some how) h = absurd (cc h)
+
+    by : (g : Option Branch) → branch_of w c.tree ≡ g → is_open_branch g ≡ true → IsOpenSerial c r
+    by None is h = absurd (cc h)
+    by (Some z) is h = by_kind z is (not_ended z.ended h) (number_tells (root_of z.path) r (sym (knows.root w z is) ∙ root)) z.kind refl (knows.kind w z is)
 
 -- ---- lists of numbers
 
@@ -115,10 +135,13 @@ module _ (x : ℕ) (tops : Kinds) (e k : ℕ) (d : Disk) (t : Parts) (from : ℕ
     where
       settled : (u : Uid) (j : Intent) → IsSettled u j t.coord.telling W → (u ≡ act) ⊎ (u ≢ act) → IsSettled u j (Fewer ns).telling W
       settled u j s (inr other) = record { done = s.done; awaited = λ m on. ⊎_elim (λ a. inl (ap (is_awaited_by m) (keys.put_other u act (record i { nodes = ns }) t.coord.telling other) ∙ a)) (λ a. inr a) (s.awaited m on) }
-      settled u j s (inl same) = record { done = s.done; awaited = λ m on. ⊎_elim
-          (λ more. inl (ap (λ a. is_awaited_by m (at_uid a (Fewer ns).telling)) same ∙ ap (is_awaited_by m) (keys.put_same act (record i { nodes = ns }) t.coord.telling) ∙ (λ z. order.has (sym is z) m) ∙ more))
-          (λ a. inr (subst (λ w. In (mail.Acked (uid_number w) m) W.sent) (sym same) a))
-          (left_or m (subst (λ w. (is_awaited_by m (at_uid w t.coord.telling) ≡ true) ⊎ In (mail.Acked (uid_number w) m) W.sent) same (s.awaited m on))) }
+      settled u j s (inl same) = record {
+        done = s.done;
+        awaited = λ m on. ⊎_elim
+            (λ more. inl (ap (λ a. is_awaited_by m (at_uid a (Fewer ns).telling)) same ∙ ap (is_awaited_by m) (keys.put_same act (record i { nodes = ns }) t.coord.telling) ∙ (λ z. order.has (sym is z) m) ∙ more))
+            (λ a. inr (subst (λ w. In (mail.Acked (uid_number w) m) W.sent) (sym same) a))
+            (left_or m (subst (λ w. (is_awaited_by m (at_uid w t.coord.telling) ≡ true) ⊎ In (mail.Acked (uid_number w) m) W.sent) same (s.awaited m on)));
+      }
 
   by_left : ((none : without_number from i.nodes ≡ []) → Walks P e k (acked_left act i d.intents t.coord []).outs (Up P k (with_coord t (acked_left act i d.intents t.coord []).part)) d M)
       → (ns : List ℕ) → without_number from i.nodes ≡ ns → let r = acked_left act i d.intents t.coord ns in Walks P e k r.outs (Up P k (with_coord t r.part)) d M
@@ -231,25 +254,9 @@ module _ (x : ℕ) (tops : Kinds) (e k : ℕ) (d : Disk) (t : Parts) (from : ℕ
       sort = kinds.serial act j.root was_top (knows.rooted act j there) (λ same. other (sym same))
 
       none_open : (w : Uid) → is_open w t.coord.tree ≡ true → tops.is_top (uid_number w) ≡ true → tops.root (uid_number w) ≡ uid_number j.root → w ≢ j.root → ⊥
-      none_open w o top root apart = by (branch_of w t.coord.tree) refl o
-        where
-          by_kind : (z : Branch) → branch_of w t.coord.tree ≡ Some z → z.ended ≡ None → root_of z.path ≡ j.root → (kd : Kind) → z.kind ≡ kd → IsOfKind tops w kd z.path → ⊥
-          by_kind z is open_yet of kind.Nested kd p = never top p.0
-          by_kind z is open_yet of kind.Serial kd p = never top p.0
-          by_kind z is open_yet of kind.Top kd p = apart (ap first_uid (sym p.2) ∙ of)
-          by_kind z is open_yet of kind.Independent kd p = apart (ap first_uid (sym p.2) ∙ of)
-          by_kind z is open_yet of kind.Constituent kd p =
-              let r = knows.above w z is open_yet (ap is_constituent kd) in
-              let same : r.branch ≡ rb = some_is (ap (λ a. branch_of a t.coord.tree) (sym of) ∙ r.found) found in
-              never over (ap (λ (y : Branch). is_some y.ended) (sym same) ∙ ap (λ (o : Option End). is_some o) r.unended)
-
-          not_ended : (o : Option End) → not (is_some o) ≡ true → o ≡ None
-          not_ended None h = refl
-          not_ended (Some how) h = absurd (cc h)
-
-          by : (g : Option Branch) → branch_of w t.coord.tree ≡ g → is_open_branch g ≡ true → ⊥
-          by None is h = absurd (cc h)
-          by (Some z) is h = by_kind z is (not_ended z.ended h) (number_tells (root_of z.path) j.root (sym (knows.root w z is) ∙ root)) z.kind refl (knows.kind w z is)
+      none_open w o top root apart =
+          let r = open_root tops d.intents t.coord w j.root knows o top root apart in
+          never over (ap (λ (y : Branch). is_some y.ended) (some_is found r.found) ∙ ap (λ (o : Option End). is_some o) r.unended)
 
       is_over_now : SerialOver (after V (machine.Halt (uid_number j.root))).disk j.root (is_deferred j.root (without_uid act d.intents))
       is_over_now = serial_over x k tops d1 t Done M (after V (machine.Halt (uid_number j.root))) seen2 kinds j.root root_here (ap is_gone (put_same (uid_number j.root) disk.Gone V.disk.stage)) sort.1 sort.0 none_open

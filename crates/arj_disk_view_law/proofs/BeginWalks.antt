@@ -1,18 +1,15 @@
 -- A prepare step that begins, walked through at the coordinator.
-use Rattle.std.proofs.Common.{◌≡◌, ◌⊎◌, ℕ, List, [], ◌∷◌, ◌++◌, Bool, true, false, Option, Some, None, refl, sym, ◌∙◌, ap, subst, inl, inr}
+use Rattle.std.proofs.Common.{◌≡◌, ℕ, List, [], ◌∷◌, true, false, Option, Some, None, refl, sym, ◌∙◌, ap, subst, inl, inr}
 use Rattle.std.specs.List.{AllByRecursion}
-use Rattle.arj_protocol.specs.Words.{Uid, End, Kind, Path, first_uid, uids_of, object}
+use Rattle.arj_protocol.specs.Words.{Uid, Kind, first_uid, uids_of, object}
 use Rattle.arj_protocol.specs.Words.kind
 use Rattle.arj_protocol.specs.Asking.{step_commit}
-use Rattle.arj_protocol.specs.Ask.{actor}
 use Rattle.arj_protocol.specs.Commit as commit
 use Rattle.arj_protocol.specs.Commit.{Used, begin_prepare, begin_confirm, changed_of, further, targets_of, Voting, Preparing, Confirming}
-use Rattle.arj_protocol.specs.Coord.{Coord, Doing, Now, Idle, Calling, Committing, doing_of}
+use Rattle.arj_protocol.specs.Coord.{Doing, Now, Idle, Calling, Committing, doing_of}
 use Rattle.arj_protocol.specs.Effect.{Disk}
-use Rattle.arj_protocol.specs.Node.{Parts, with_coord}
-use Rattle.arj_protocol.specs.Order as order
+use Rattle.arj_protocol.specs.Node.{Parts}
 use Rattle.arj_protocol.specs.Order.{uid_number}
-use Rattle.arj_protocol.specs.Step.{Node}
 use Rattle.arj_protocol.specs.Tree.{Branch, branch_of, is_constituent, root_of}
 use Rattle.arj_disk_law.specs.Effects.{World, CanBegin, run}
 use Rattle.arj_disk_law.specs.State as disk
@@ -20,17 +17,15 @@ use Rattle.arj_disk_law.specs.State.{State, Known, is_gone}
 use Rattle.arj_disk_law.specs.Words.{has}
 use Rattle.arj_disk_law.proofs.Base.{never}
 use Rattle.arj_view_law.specs.Seen.{Seen, up}
-use Rattle.arj_view_law.specs.Walks.{Walks, Up}
 use Rattle.arj_disk_view_law.specs.Asking.{SeesPreparing, SeesConfirming, TopGoes, IsUnanswered}
 use Rattle.arj_disk_view_law.specs.Coordinating.{DidIsWalked, IsBefore, UsesNothing, TopsPrepare}
 use Rattle.arj_disk_view_law.specs.Knows.{KnowsCoord, KnowsPlan, IsOfKind}
-use Rattle.arj_disk_view_law.specs.Plans.{IsTidy, Uses, loads, plan_at, plan_by, used_at}
+use Rattle.arj_disk_view_law.specs.Plans.{Uses, loads, plan_at, plan_by, used_at}
 use Rattle.arj_disk_view_law.specs.Sees.{Kinds, SeesDisks, SeesCoord, IsKnownIfThere, KnowsNow, Works, WorksBy, MayPrepare}
 use Rattle.arj_disk_view_law.proofs.AskingSteps.{prepares_begin, prepares_end}
 use Rattle.arj_disk_view_law.proofs.Frames.{node_here}
 use Rattle.arj_disk_view_law.proofs.HeardWalks.{top_asks, top_both, prepares_are_asked}
 use Rattle.arj_disk_view_law.proofs.Planned.{has_same, used_there}
-use Rattle.arj_disk_view_law.proofs.TopFrames.{branch_at}
 use Rattle.arj_disk_view_law.proofs.UnusedWalks.{unused_are_decided}
 
 -- who hasn't begun its prepare step is idle

@@ -1,10 +1,9 @@
 -- Commits of actions, and the answers and giveups of a top's commit, walked through at the coordinator.
-use Rattle.std.proofs.Common.{◌≡◌, ◌⊎◌, ℕ, ◌==◌, ◌&&◌, List, [], ◌∷◌, ◌++◌, Bool, true, false, Option, Some, None, refl, sym, ◌∙◌, ap, subst, map}
-use Rattle.std.specs.Prelude.{⊤, if◌then◌else◌, filter, nat_lt}
+use Rattle.std.proofs.Common.{◌≡◌, ℕ, ◌==◌, ◌&&◌, List, [], ◌∷◌, ◌++◌, Bool, true, false, Option, Some, None, refl, sym, ◌∙◌, ap, subst, map}
+use Rattle.std.specs.Prelude.{if◌then◌else◌, filter, nat_lt}
 use Rattle.std.specs.List.{AllByRecursion}
 use Rattle.std.proofs.lemmas.Bool.{and_parts}
-use Rattle.arj_protocol.specs.Words.{Uid, Kind, Path, Cause, Asked, Ask, ObjectState, ConfirmedReply, PreparedReply, VotedReply}
-use Rattle.arj_protocol.specs.Words.ask
+use Rattle.arj_protocol.specs.Words.{Uid, Kind, Path, Cause, Ask, ObjectState}
 use Rattle.arj_protocol.specs.Words.body
 use Rattle.arj_protocol.specs.Words.cause
 use Rattle.arj_protocol.specs.Words.ending
@@ -13,28 +12,23 @@ use Rattle.arj_protocol.specs.Words.voted
 use Rattle.arj_protocol.specs.Words.prepared
 use Rattle.arj_protocol.specs.Words.confirmed
 use Rattle.arj_protocol.specs.Ask.{Reply, actor, differs, ask_kind, reply_kind}
-use Rattle.arj_protocol.specs.Asking.{moved_commit, step_commit, commit_action, commit_open, commit_top, commits_in, last_req, waits_for_commit, gives_up, gaveup_lines}
+use Rattle.arj_protocol.specs.Asking.{moved_commit, step_commit, commit_action, commit_open, commit_top, commits_in, last_req, gives_up, gaveup_lines}
 use Rattle.arj_protocol.specs.Commit as commit
 use Rattle.arj_protocol.specs.Commit.{Used, Machine, Voting, Preparing, Confirming, Asks, plainly, start, begin_vote, servers_of, further, vote_ask, ask_of, left_of, plan_of, votes_left, targets_of, with_states, first_of}
-use Rattle.arj_protocol.specs.Coord.{Coord, Doing, Joined, Root, Now, Idle, Committing, doing_of, root_at, plan_for, objects_in, used_of, used_with, known_for, is_called, joins_on, latest_of, later_state, or_kept_state, loaded_for, survives}
-use Rattle.arj_protocol.specs.Effect.{Disk, Effect}
-use Rattle.arj_protocol.specs.Ending.{says, say_for, ends_with, aborts_with}
+use Rattle.arj_protocol.specs.Coord.{Coord, Doing, Joined, Root, Idle, Committing, doing_of, root_at, plan_for, objects_in, used_of, joins_on, latest_of, later_state, or_kept_state, survives}
+use Rattle.arj_protocol.specs.Effect.{Disk}
+use Rattle.arj_protocol.specs.Ending.{says, say_for, aborts_with}
 use Rattle.arj_protocol.specs.Node.{Parts, with_coord}
 use Rattle.arj_protocol.specs.Order as order
 use Rattle.arj_protocol.specs.Order.{at_number, uid_number, without_number}
 use Rattle.arj_protocol.specs.Says.{AreAll}
-use Rattle.arj_protocol.specs.Step.{Node}
 use Rattle.arj_protocol.specs.Tree.{Branch, branch_of, has_open_child, is_open_branch, is_serial, root_of}
-use Rattle.arj_disk_law.specs.Effects.{World, run}
-use Rattle.arj_disk_law.specs.State as disk
-use Rattle.arj_disk_law.specs.State.{State}
+use Rattle.arj_disk_law.specs.Effects.{World}
 use Rattle.arj_disk_law.proofs.Base.{never, test_is}
 use Rattle.arj_view_law.specs.Seen.{Seen, up}
 use Rattle.arj_view_law.specs.Walks.{Walks, Up}
-use Rattle.arj_disk_view_law.specs.Asking.{TopGoes, IsUnanswered}
-use Rattle.arj_disk_view_law.specs.Coordinating.{DidIsWalked, IsBefore, UsesNothing, ActionsCommit, CommitsAreHeard, CommitsAreGivenUp}
+use Rattle.arj_disk_view_law.specs.Coordinating.{DidIsWalked, IsBefore, ActionsCommit, CommitsAreHeard, CommitsAreGivenUp}
 use Rattle.arj_disk_view_law.specs.Knows.{KnowsKinds, KnowsCoord, KnowsPlan, KnowsMachine, IsOfKind}
-use Rattle.arj_disk_view_law.specs.Plans.{IsTidy}
 use Rattle.arj_disk_view_law.specs.Sees.{Kinds, SeesDisks, SeesCoord, SeesNotes, IsSeenByDisks, IsKnown, IsKnownIfThere, KnowsRoot, KnowsNow, ClaimsReply, WorksBy, WaitsForStore, WaitsForNaming}
 use Rattle.arj_disk_view_law.proofs.BeginWalks.{before_idle, begin_walks}
 use Rattle.arj_disk_view_law.proofs.DecideWalks.{confirmed_is_heard}
@@ -193,9 +187,12 @@ module _ (x : ℕ) (tops : Kinds) (e k : ℕ) (d : Disk) (t : Parts) (from : ℕ
 
       never_empty : {u : Used} {us : List Used} → u ∷ us ≡ [] → ⊥
       never_empty is = cc is
-  voted_walk p left now h states (n ∷ ns) = (W, top_moved x tops e k d t act h.branch q d.intents M h.found h.unended at_work h.top W (top_plain x k tops d t act h.branch M knows h.found h.top W sees) sees p.req (Committing (Voting (record p { changed = with_states states p.changed }) (n ∷ ns)))
-      (λ U l. now_later x W U l (Committing (Voting p left)) (subst (λ n. KnowsNow x W n) now (notes.plans act q at_work)))
-      (top_stays (uid_number act) (λ S. WorksBy x S (uid_number act) (Committing (Voting (record p { changed = with_states states p.changed }) (n ∷ ns)))) W (before_idle x tops W.disk (uid_number act) h.branch.kind q.now (subst IsBefore (sym now) tt) h.top (mine.working act h.branch q h.found h.unended at_work))))
+  voted_walk p left now h states (n ∷ ns) = (
+    W,
+    top_moved x tops e k d t act h.branch q d.intents M h.found h.unended at_work h.top W (top_plain x k tops d t act h.branch M knows h.found h.top W sees) sees p.req (Committing (Voting (record p { changed = with_states states p.changed }) (n ∷ ns)))
+        (λ U l. now_later x W U l (Committing (Voting p left)) (subst (λ n. KnowsNow x W n) now (notes.plans act q at_work)))
+        (top_stays (uid_number act) (λ S. WorksBy x S (uid_number act) (Committing (Voting (record p { changed = with_states states p.changed }) (n ∷ ns)))) W (before_idle x tops W.disk (uid_number act) h.branch.kind q.now (subst IsBefore (sym now) tt) h.top (mine.working act h.branch q h.found h.unended at_work))),
+  )
     where
       notes : SeesNotes x d.intents t.coord W
       notes = sees.notes k (record { number = k; disk = d; live = Some t }) t (node_here M k (record { number = k; disk = d; live = Some t })) refl

@@ -1,7 +1,7 @@
 -- Requests of which the disk half claims nothing, walked through.
-use Rattle.std.proofs.Common.{◌≡◌, ℕ, List, [], ◌∷◌, ◌++◌, refl, sym, ap, subst, append-nil}
+use Rattle.std.proofs.Common.{ℕ, List, [], ◌∷◌, ◌++◌, sym, subst, append-nil}
 use Rattle.std.specs.List.{AllByRecursion}
-use Rattle.arj_protocol.specs.Words.{Path, Head, Ask, request}
+use Rattle.arj_protocol.specs.Words.{Path, Ask, request}
 use Rattle.arj_protocol.specs.Asking.{asks_all, asks_node}
 use Rattle.arj_protocol.specs.Coord.{Coord}
 use Rattle.arj_protocol.specs.Effect.{Disk, Effect}

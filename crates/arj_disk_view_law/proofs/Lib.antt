@@ -26,6 +26,7 @@ pub mod Notes
 pub mod OneEnd
 pub mod PairSteps
 pub mod Planned
+pub mod QueryWalks
 pub mod StoreSteps
 pub mod StoreWalks
 pub mod TellWalks

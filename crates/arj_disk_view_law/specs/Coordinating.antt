@@ -7,18 +7,20 @@ use Rattle.arj_protocol.specs.Commit.{begin_prepare, targets_of}
 use Rattle.arj_protocol.specs.Coord.{Coord, Doing, Now, Idle, Committing, doing_of}
 use Rattle.arj_protocol.specs.Effect.{Disk, Did, Intent}
 use Rattle.arj_protocol.specs.Asking.{step_commit, moved_commit, commit_action, waits_for_commit, gives_up}
-use Rattle.arj_protocol.specs.Ending.{abort_action, acked_left, ends_with, decide}
+use Rattle.arj_protocol.specs.Ending.{abort_action, acked_left, answer_query, ends_with, decide}
 use Rattle.arj_protocol.specs.Node.{Parts, with_coord}
 use Rattle.arj_protocol.specs.Order.{at_uid, uid_number, without_number}
 use Rattle.arj_protocol.specs.Tree.{Branch, branch_of, is_serial, has_open_child}
-use Rattle.arj_disk_law.specs.Effects.{World}
+use Rattle.arj_disk_law.specs.Effects.{World, Halt, after}
 use Rattle.arj_disk_law.specs.Messages as mail
+use Rattle.arj_disk_law.specs.Messages.{IsOver}
+use Rattle.arj_disk_law.specs.State.{naming}
 use Rattle.arj_disk_law.specs.Words.{In}
 use Rattle.arj_view_law.specs.Seen.{Seen, up}
 use Rattle.arj_view_law.specs.Walks.{Walks, Up}
 use Rattle.arj_disk_view_law.specs.Asking.{IsUnanswered}
 use Rattle.arj_disk_view_law.specs.Knows.{KnowsKinds, KnowsCoord, KnowsPlan}
-use Rattle.arj_disk_view_law.specs.Sees.{Kinds, SeesDisks, IsSeenByDisks, KnowsNow, ClaimsReply}
+use Rattle.arj_disk_view_law.specs.Sees.{Kinds, IsFuture, SeesDisks, IsSeenByDisks, KnowsNow, ClaimsReply}
 
 -- the coordinator's part of a step keeps the disk half
 abbrev pub DidIsWalked : ℕ → Kinds → ℕ → ℕ → Disk → Parts → Did Coord → Seen → Type 0
@@ -83,3 +85,10 @@ abbrev pub AcksAreTaken : Type 0
 AcksAreTaken = (x : ℕ) (tops : Kinds) (e k : ℕ) (d : Disk) (t : Parts) (from : ℕ) (act : Uid) (i : Intent) (M : Seen) → KnowsKinds tops → KnowsCoord tops d.intents t.coord
     → at_uid act t.coord.telling ≡ Some i → (W : World) → SeesDisks x tops W (up k d t M) → In (mail.Acked (uid_number act) from) W.sent
     → let r = acked_left act i d.intents t.coord (without_number from i.nodes) in Walks (IsSeenByDisks x tops) e k r.outs (Up (IsSeenByDisks x tops) k (with_coord t r.part)) d M
+
+-- A question about an action of this node that has begun, and isn't of the future, is answered. Of a commit without a record
+-- naming is told only where its root is over.
+abbrev pub QueriesAreAnswered : Type 0
+QueriesAreAnswered = (x : ℕ) (tops : Kinds) (e k : ℕ) (d : Disk) (t : Parts) (from : ℕ) (act : Uid) (M : Seen) → KnowsKinds tops → KnowsCoord tops d.intents t.coord → act.node ≡ k → (IsFuture t.coord act → ⊥)
+    → (W : World) → SeesDisks x tops W (up k d t M) → (W.disk.bare (uid_number act) ≡ true → from ≡ naming → IsOver (after W (Halt (uid_number act))).disk (W.disk.root (uid_number act)))
+    → Walks (IsSeenByDisks x tops) e k (answer_query from act d.intents t.coord) (Up (IsSeenByDisks x tops) k t) d M
