@@ -1,5 +1,7 @@
 -- What a core is asked and puts out, in the protocol's words.
-use Rattle.std.specs.Prelude.{ℕ, ◌≡◌, ◌<◌, Bool, List, [], ◌∷◌, ◌++◌, map, Option, Some, None, Result, Ok, Err}
+use Rattle.std.specs.Prelude.{ℕ, ◌≡◌, ◌<◌, ◌≤◌, List, [], ◌∷◌, ◌++◌, map, Option, Some, None, Result, Ok, IsErrOf, OnOk}
+use Rattle.arj_base.specs.Count.{Rose}
+use Rattle.arj_disk.specs.Disk.{Counts}
 use Rattle.arj_core.specs.declared.input.Input.{Input}
 use Rattle.arj_core.specs.declared.input.Input.TheVariants as of
 use Rattle.arj_core.specs.declared.output.Output.{Output}
@@ -72,3 +74,12 @@ pub record WasCut (stands : Node → Type 0) (n : Node) (s : Step) (before after
   pub within : work < count_works s.halting
   pub node : let c = cut work how s.halting n.disk in stands (record n { disk = c.disk; live = None })
   pub outs : let c = cut work how s.halting n.disk in PutsOut c.outs before after
+
+-- The counts of a disk over a step with this result: the node halted where a stop was counted. Where memory was wanting a stop
+-- may have come before.
+pub record CountsStep {T E : Type 0} (old new : Counts) (result : Result T E) (halted : E) : Type 0 where
+  pub rose : IsErrOf result halted → Rose old.stops new.stops
+  pub ok : OnOk result (new.stops ≡ old.stops)
+  pub later : old.stops ≤ new.stops
+  pub arms : new.arms ≡ old.arms
+  pub last_arm : new.last_arm ≡ old.last_arm

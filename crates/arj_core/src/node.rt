@@ -1,6 +1,6 @@
 // A node as the world sees it.
 ghost use Rattle.std.specs.Prelude.{◌≡◌, ◌≤◌, ℕ, List, Option, None, Some, Bool, IfOk, OnOk, IsErrOf, is_some};
-ghost use Rattle.arj_core.specs.Steps.{Did, WasCut, input_of};
+ghost use Rattle.arj_core.specs.Steps.{CountsStep, Did, WasCut, input_of};
 ghost use Rattle.arj_disk.specs.Counted.{counts};
 ghost use Rattle.arj_disk.specs.Disk.{CountsCall};
 ghost use Rattle.arj_disk.specs.FileMap.{FileMap};
@@ -88,5 +88,5 @@ pub trait Core: Sized {
             → Did (stands header self.new (D.file disk.new)) (step header n (input_of input)) out.old out.new) }
         ensures halted { IsErrOf result CoreFault.Halted → (header : Header) (n : Node) → stands header self.old (D.file disk.old) n
             → WasCut (stands header self.new (D.file disk.new)) n (step header n (input_of input)) out.old out.new }
-        ensures counts { CountsCall (counts D.Disk disk.old) (counts D.Disk disk.new) result CoreFault.Halted };
+        ensures counts { CountsStep (counts D.Disk disk.old) (counts D.Disk disk.new) result CoreFault.Halted };
 }
