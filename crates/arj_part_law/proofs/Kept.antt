@@ -42,8 +42,9 @@ kept_calm owner t x stores n d r calm kept = record {
       (calm.locks t x k.0, λ s on. k.1 s (ap (λ m. let l = entry_of (at_uid (entry x) m) in is_listed s l.stores) (sym calm.held) ∙ on));
 }
 
-bind_calm : (p : Path) (x : ℕ) (include : Bool) (avoid : Binding) (n : Naming) (d : Pair) → IsCalm n d (bind p x include avoid d n)
-bind_calm p x include avoid n d = let f = by (is_over p n) in record { told = f.0; held = ap (λ (e : Pair). e.held) f.1; locks = bind_locks p x include avoid n d }
+-- a bind tells nobody and leaves the pair
+pub bind_pair : (p : Path) (x : ℕ) (include : Bool) (avoid : Binding) (n : Naming) (d : Pair) → (let r = bind p x include avoid d n in ((let q = r.part in q.told) ≡ n.told) × (names_after r.outs d ≡ d))
+bind_pair p x include avoid n d = by (is_over p n)
   where
     call : Counted → Served Counted BoundReply
     call = bind_named n.inc x p include avoid (listed_entry x d)
@@ -56,8 +57,12 @@ bind_calm p x include avoid n d = let f = by (is_over p n) in record { told = f.
     by true = (refl, refl)
     by false = there (at_number x n.objects)
 
-note_calm : (p : Path) (x : ℕ) (b : Binding) (i g : ℕ) (n : Naming) (d : Pair) → IsCalm n d (note p x b i g n)
-note_calm p x b i g n d = let f = by (is_over p n || not (is_some (at_number x n.objects))) (g == n.inc) in record { told = f.0; held = ap (λ (e : Pair). e.held) f.1; locks = note_locks p x b i g n d }
+bind_calm : (p : Path) (x : ℕ) (include : Bool) (avoid : Binding) (n : Naming) (d : Pair) → IsCalm n d (bind p x include avoid d n)
+bind_calm p x include avoid n d = let f = bind_pair p x include avoid n d in record { told = f.0; held = ap (λ (e : Pair). e.held) f.1; locks = bind_locks p x include avoid n d }
+
+-- and so does a record
+pub note_pair : (p : Path) (x : ℕ) (b : Binding) (i g : ℕ) (n : Naming) (d : Pair) → (let r = note p x b i g n in ((let q = r.part in q.told) ≡ n.told) × (names_after r.outs d ≡ d))
+note_pair p x b i g n d = by (is_over p n || not (is_some (at_number x n.objects))) (g == n.inc)
   where
     call : Named → Served Named RecordedReply
     call = note_named x (top_of p) b i
@@ -74,20 +79,23 @@ note_calm p x b i g n d = let f = by (is_over p n || not (is_some (at_number x n
     by false true = there (at_number x n.objects)
     by false false = (refl, refl)
 
+note_calm : (p : Path) (x : ℕ) (b : Binding) (i g : ℕ) (n : Naming) (d : Pair) → IsCalm n d (note p x b i g n)
+note_calm p x b i g n d = let f = note_pair p x b i g n d in record { told = f.0; held = ap (λ (e : Pair). e.held) f.1; locks = note_locks p x b i g n d }
+
 -- ---- confirm
 
 module _ (p : Path) (d : Pair) where
   -- the exclude locks leave each lock, and nobody is told
-  record AreMore (n : Naming) (t : Did Naming) : Type 0 where
-    told : t.part.told ≡ n.told
-    quiet : names_after t.outs d ≡ d
-    locks : (u : Uid) (y : ℕ) → HasLockOn u 0 y n → HasLockOn u 0 y t.part
+  pub record AreMore (n : Naming) (t : Did Naming) : Type 0 where
+    pub told : t.part.told ≡ n.told
+    pub quiet : names_after t.outs d ≡ d
+    pub locks : (u : Uid) (y : ℕ) → HasLockOn u 0 y n → HasLockOn u 0 y t.part
 
   in_more : (x : ℕ) (n : Naming) (o : Option Named) → at_number x n.objects ≡ o → AreMore n (lock_in x p n o)
   in_more x n None found = record { told = refl; quiet = refl; locks = λ u y h. h }
   in_more x n (Some o) found = record { told = refl; quiet = names_no_line _ _ d; locks = λ u y h. lock_put x o (locked x p mode.Exclude o) n.count n found u 0 0 y (λ same k. stands_asked u 0 (entry_row x p mode.Exclude) o.rows k) (omega arith) h }
 
-  all_more : (xs : List ℕ) (n : Naming) → AreMore n (lock_all xs p n)
+  pub all_more : (xs : List ℕ) (n : Naming) → AreMore n (lock_all xs p n)
   all_more [] n = record { told = refl; quiet = refl; locks = λ u y h. h }
   all_more (x ∷ xs) n = both (all_more xs a.part)
     where

@@ -4,6 +4,7 @@ pub mod CoordInputs
 mod Cuts
 mod Decided
 pub mod EndsSaid
+mod EntriesLeft
 mod EntryLocks
 mod Gone
 mod GoodCalls

@@ -42,7 +42,7 @@ quiet_names test quiet (Say b ∷ es) all d = quiet_names test quiet es (and_par
 quiet_names test quiet (Send to m ∷ es) all d = quiet_names test quiet es (and_parts (test (Send to m)) (list_all test es) all).1 d
 quiet_names test quiet (Do w ∷ es) all d = ap (names_after es) (quiet w (and_parts (test (Do w)) (list_all test es) all).0 d) ∙ quiet_names test quiet es (and_parts (test (Do w)) (list_all test es) all).1 d
 
-server_names : (n : ℕ) (outs : List Effect) → AreAll (is_server_effect n) outs → (d : Pair) → names_after outs d ≡ d
+pub server_names : (n : ℕ) (outs : List Effect) → AreAll (is_server_effect n) outs → (d : Pair) → names_after outs d ≡ d
 server_names n outs all d = quiet_names (is_server_effect n) (λ w is. absurd (cc is)) outs all d
 
 intent_names : (w : Work) → is_intent_work w ≡ true → (e : Pair) → names_worked w e ≡ e
@@ -56,6 +56,10 @@ intent_names (RemoveIntent u) is e = refl
 
 pub coord_names : (outs : List Effect) → AreAll is_coord_effect outs → (d : Pair) → names_after outs d ≡ d
 coord_names outs all d = quiet_names is_coord_effect intent_names outs all d
+
+pub query_names : (us : List Uid) (d : Pair) → names_after (map query_about us) d ≡ d
+query_names [] d = refl
+query_names (u ∷ us) d = query_names us d
 
 module _ (owner : Owners) (past : Past) where
   abbrev Well : Pair → Handled → Type 0
@@ -158,10 +162,6 @@ module _ (owner : Owners) (past : Past) where
       by : (o : Option (Unit {0})) → Well d (by_reply (with_coord t r.part) r.outs o)
       by None = refl
       by (Some u) = same_names (with_coord t r.part) r.outs d t.naming refl (coord_names r.outs own d) good
-
-  query_names : (us : List Uid) (d : Pair) → names_after (map query_about us) d ≡ d
-  query_names [] d = refl
-  query_names (u ∷ us) d = query_names us d
 
   other_names : (n : ℕ) (d : Disk) (t : Parts) (from : ℕ) (m : Message) → IsGoodNames owner past t.naming d.names → Well d.names (handle_other n d t from m)
   other_names n d t from (message.Told m) good = ends_names n d t from m.ack m.ends good (last_end m.ends)

@@ -1,10 +1,13 @@
--- Which states at a store a message is about.
-use Rattle.std.specs.Prelude.{◌≡◌, ℕ, Bool, true, false, List, Option, Some, None}
-use Rattle.arj_protocol.specs.Words.{Head, Ask, Message, asks, object}
+-- Which states at a store, and which entries, a message is about.
+use Rattle.std.specs.Prelude.{◌≡◌, ◌≢◌, ℕ, Bool, true, false, List, Option, Some, None}
+use Rattle.arj_protocol.specs.Words.{Uid, Head, Ask, Message, ObjectState, asks, entry, object}
 use Rattle.arj_protocol.specs.Words.ask
 use Rattle.arj_protocol.specs.Words.message
-use Rattle.arj_protocol.specs.Effect.{Effect, Disk, names_object, held_at, holder_of}
+use Rattle.arj_protocol.specs.Effect.{Effect, Disk, Pair, names_object, held_at, holder_of}
+use Rattle.arj_protocol.specs.Laws.{names_grant}
+use Rattle.arj_protocol.specs.Naming.{Naming, loses_row}
 use Rattle.arj_protocol.specs.Node.{Handled, Void, Took}
+use Rattle.arj_part_law.specs.Entries.{HasPrepared}
 
 -- a Prepare is about the states that it brings
 abbrev pub ask_prepares : ℕ → Ask → Bool
@@ -31,3 +34,28 @@ outs_of (Took t outs) = outs
 pub record LeavesState (x : ℕ) (d e : Disk) : Type 0 where
   pub held : held_at (object x) e.store ≡ held_at (object x) d.store
   pub holder : holder_of (object x) e.store ≡ holder_of (object x) d.store
+
+-- ---- entries
+
+-- a Confirm is about the objects of its grants
+abbrev pub ask_confirms : ℕ → Ask → Bool
+ask_confirms x (ask.Confirm grants excluded included) = names_grant x grants
+ask_confirms x _ = false
+
+abbrev pub asked_confirms : ℕ → Message → Option (Head × Ask) → Bool
+asked_confirms x m None = is_told_message m
+asked_confirms x m (Some a) = ask_confirms x a.1
+
+-- a told may be about any entry
+abbrev pub speaks_to_entry : ℕ → Message → Bool
+speaks_to_entry x m = asked_confirms x m (asks m)
+
+-- The entry of an object is left on the disk: the committed one, and who has prepared which state of it.
+pub record LeavesEntry (x : ℕ) (d e : Pair) : Type 0 where
+  pub held : held_at (entry x) e ≡ held_at (entry x) d
+  pub before : (a : Uid) (s : ObjectState) → HasPrepared a x s e → HasPrepared a x s d
+  pub after : (a : Uid) (s : ObjectState) → HasPrepared a x s d → HasPrepared a x s e
+
+-- An end of this action isn't about the entry: who has prepared it is another action, and loses no lock by an abort.
+abbrev pub IsNotAbout : ℕ → Uid → Pair → Naming → Type 0
+IsNotAbout x u d n = (a : Uid) (s : ObjectState) → HasPrepared a x s d → (a ≢ u) × (loses_row u a n ≡ false)

@@ -32,7 +32,7 @@ pub use claims::coordinators_say_what_is_true;
 pub use coords::coordinators_stay_good;
 pub use copies::{ended_actions_leave_nothing, locks_of_operations_stand, overlays_are_guarded};
 pub use ends::messages_say_how_actions_ended;
-pub use frames::messages_leave_other_states;
+pub use frames::{messages_leave_other_entries, messages_leave_other_states};
 pub use grants::{bindings_rise, grants_of_naming_stand};
 pub use incs::incarnations_are_on_disk;
 pub use messages::{coordinators_send_what_fits, what_was_decided_stands};
