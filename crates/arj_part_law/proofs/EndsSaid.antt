@@ -112,7 +112,7 @@ up_to_in u x (e ∷ es) i = by (uid_eq e.0 u) (up_to_in u x es) i
     by false ih (inl same) = inl same
     by false ih (inr j) = inr (ih j)
 
-none_in : {P : Type 0} (u : Uid) (e : End) → Contains {X = Uid × End} [] (u, e) → P
+pub none_in : {P : Type 0} (u : Uid) (e : End) → Contains {X = Uid × End} [] (u, e) → P
 none_in u e i = absurd (in_from (u, e) [] i)
 
 module _ (t : Tree) where

@@ -2,7 +2,8 @@ pub mod Begun
 mod CallLocks
 pub mod CoordInputs
 mod Cuts
-mod Decided
+pub mod Decided
+pub mod EndsHandled
 pub mod EndsSaid
 mod EntriesLeft
 mod EntryLocks

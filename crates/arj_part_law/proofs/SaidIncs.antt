@@ -54,7 +54,7 @@ all_flat P f [] each = tt
 all_flat P f (x ∷ xs) each = all_both P (f x) (flat_map f xs) (each x) (all_flat P f xs each)
 
 -- effects that send nothing
-all_quiet : (P : Effect → Type 0) (test : Effect → Bool) → ((to : ℕ) (m : Message) → test (Send to m) ≡ false) → ((e : Effect) → test e ≡ true → P e) → (outs : List Effect) → AreAll test outs → AllByRecursion P outs
+pub all_quiet : (P : Effect → Type 0) (test : Effect → Bool) → ((to : ℕ) (m : Message) → test (Send to m) ≡ false) → ((e : Effect) → test e ≡ true → P e) → (outs : List Effect) → AreAll test outs → AllByRecursion P outs
 all_quiet P test silent each [] all = tt
 all_quiet P test silent each (e ∷ es) all = let q = and_parts (test e) (list_all test es) all in (each e q.0, all_quiet P test silent each es q.1)
 

@@ -8,6 +8,7 @@ use Rattle.arj_protocol.specs.Words.message
 use Rattle.arj_protocol.specs.Commit.{Machine, plan_of}
 use Rattle.arj_protocol.specs.Coord.{Coord, Doing, Committing, doing_of}
 use Rattle.arj_protocol.specs.Effect.{Effect, Say, Send, Do, Work, PutIntent, Intent}
+use Rattle.arj_protocol.specs.Node.{Parts, Handled, Void, Took}
 use Rattle.arj_protocol.specs.Tree.{Tree, Branch, branch_of, ends_of, is_own}
 use Rattle.arj_part_law.specs.Messages.{IsDecided}
 
@@ -72,3 +73,12 @@ SaysEndsIn t (Do w) = IsOfCommit t w
 
 abbrev pub AllSayEnds : Tree → List Effect → Type 0
 AllSayEnds t outs = AllByRecursion (SaysEndsIn t) outs
+
+-- what was decided in the first tree is so in the second
+abbrev pub Decides : Tree → Tree → Type 0
+Decides t v = (u : Uid) (e : End) → IsDecided u e t → IsDecided u e v
+
+-- What a node makes of a message: its coordinator stays sure, what was decided stands, and what it says of ends is so.
+abbrev pub IsSurelyHandled : Parts → Handled → Type 0
+IsSurelyHandled t (Void outs) = ⊤
+IsSurelyHandled t (Took v outs) = IsSure v.coord × Decides t.coord.tree v.coord.tree × AllSayEnds v.coord.tree outs

@@ -5,13 +5,14 @@ ghost use Rattle.arj_base.specs.declared.uid.Uid.{Uid};
 ghost use Rattle.arj_part_law.specs.Actions.{Action, AreCounted};
 ghost use Rattle.arj_part_law.specs.Coords.{IsGoodCoord};
 ghost use Rattle.arj_part_law.specs.Copies.{IsTree, Paths};
-ghost use Rattle.arj_part_law.specs.Ends.{AllSayEnds, AreOfCommits, IsSaidSo, IsSure, SaysEnds};
+ghost use Rattle.arj_part_law.specs.Ends.{AllSayEnds, AreOfCommits, IsSaidSo, IsSure, IsSurelyHandled, SaysEnds};
 ghost use Rattle.arj_part_law.specs.Messages.{AreOfTops, IsDecided};
 ghost use Rattle.arj_protocol.specs.Ask.{Reply};
 ghost use Rattle.arj_protocol.specs.Asking.{again_all, begin_action, heard};
 ghost use Rattle.arj_protocol.specs.Coord.{Coord, new_coord};
-ghost use Rattle.arj_protocol.specs.Effect.{Intent};
+ghost use Rattle.arj_protocol.specs.Effect.{Disk, Intent};
 ghost use Rattle.arj_protocol.specs.Ending.{acked, answer_query};
+ghost use Rattle.arj_protocol.specs.Node.{Parts, handle};
 ghost use Rattle.arj_protocol.specs.Step.{Begin, Input, acts, parent_of, refusal_up, tolds_again};
 ghost use Rattle.arj_protocol.specs.Tree.{Tree, is_own};
 ghost use Rattle.arj_protocol.specs.Words.{Asked, Header, Kind, Label, Message};
@@ -31,6 +32,7 @@ pub fn messages_say_how_actions_ended()
     ensures records { (t : Tree) (records : List (Uid × Intent)) → AreOfCommits records t → AllSayEnds t (tolds_again records) }
     ensures fresh { (actions : List Action) (node inc later count : ℕ) (records : List (Uid × Intent)) → AreCounted node inc count actions → inc < later → AreOfTops actions records → IsSure (record (new_coord node later) { telling = records }) }
     ensures begins { (l : Label) (k : Kind) (parent : Option Label) (c : Coord) → IsSure c → IsSure (begin_action l k parent (parent_of parent c) c).part }
+    ensures message { (actions : List Action) (paths : Paths) → IsTree paths → (n : ℕ) (d : Disk) (t : Parts) (from : ℕ) (m : Message) → IsGoodCoord actions paths t.coord → IsSure t.coord → AreOfCommits d.intents t.coord.tree → IsSurelyHandled t (handle n d t from m) }
     ensures said { (t : Tree) (m : Message) → SaysEnds t m → IsSaidSo t m }
     ensures stays { (c e : Coord) (m : Message) → ((u : Uid) → is_own u e.tree ≡ is_own u c.tree) → ((u : Uid) (x : End) → IsDecided u x c.tree → IsDecided u x e.tree) → IsSaidSo c.tree m → IsSaidSo e.tree m }
 {}

@@ -1,3 +1,4 @@
+use Rattle.arj_part_law.proofs.EndsHandled.{surely_handled}
 use Rattle.arj_part_law.proofs.EndsSaid.{sure_acts, sure_heard, sure_acked, sure_again, sure_query, sure_records, sure_new, sure_begins, said_so, said_on}
 use Rattle.arj_part_law.proofs.ends.messages_say_how_actions_ended.Goals as goal
 
@@ -30,3 +31,6 @@ returns-clause-said q = said_so
 
 pub returns-clause-stays : goal.returns-clause-stays
 returns-clause-stays q = said_on
+
+pub returns-clause-message : goal.returns-clause-message
+returns-clause-message q actions paths tree n d t from m good sure records = surely_handled n t actions paths tree good sure d records from m
