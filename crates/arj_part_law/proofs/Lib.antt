@@ -22,6 +22,8 @@ mod Kept
 mod InTurn
 mod KeptCalls
 mod Keys
+mod LivesKnown
+mod LivesNamed
 mod Locked
 mod NamingNode
 mod Pairs

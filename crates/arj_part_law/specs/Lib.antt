@@ -7,6 +7,7 @@ pub mod Ends
 pub mod Entries
 pub mod Frames
 pub mod Incs
+pub mod Lives
 pub mod Messages
 pub mod Nodes
 pub mod Objects

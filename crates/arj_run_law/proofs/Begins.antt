@@ -1,4 +1,7 @@
 -- The beginning of an action leaves all that holds of nodes and messages.
+use Rattle.arj_part_law.proofs.Decided.{stand_begins}
+use Rattle.arj_part_law.proofs.EndsSaid.{said_on, sure_begins}
+use Rattle.arj_protocol.specs.Words.ending
 use Rattle.std.proofs.Common.{◌≡◌, ◌≢◌, ◌≤◌, ◌<◌, ◌+◌, ◌==◌, arith, ℕ, List, [], ◌∷◌, ◌++◌, length, Bool, true, false, cond, nat_le, Option, Some, None, Contains, refl, sym, ◌∙◌, ap, subst, inl, inr, eqb-true, length-append, zero, suc}
 use Rattle.std.specs.Prelude.{slice_get}
 use Rattle.std.specs.Map.{lookup}
@@ -9,7 +12,7 @@ use Rattle.std.proofs.lemmas.Bool.{and_parts, false_from_ne_true}
 use Rattle.std.proofs.lemmas.Bool.Decides.{nat_tests}
 use Rattle.arj_base.specs.Rows.{is_on}
 use Rattle.arj_lock.proofs.Members.{in_to}
-use Rattle.arj_protocol.specs.Words.{Uid, Label, label_cmp, Kind, Path, name, uids_of}
+use Rattle.arj_protocol.specs.Words.{Uid, Label, label_cmp, Kind, Path, name, uids_of, End}
 use Rattle.arj_protocol.specs.Words.kind
 use Rattle.arj_protocol.specs.Ask.{actor}
 use Rattle.arj_protocol.specs.Asking.{begin_action, began_line}
@@ -24,7 +27,7 @@ use Rattle.arj_part_law.specs.Claims.{IsSettled}
 use Rattle.arj_part_law.specs.Coords.{IsGoodCoord}
 use Rattle.arj_part_law.specs.Copies.{IsTree, Paths}
 use Rattle.arj_part_law.specs.Incs.{SaysInc}
-use Rattle.arj_part_law.specs.Messages.{Seals}
+use Rattle.arj_part_law.specs.Messages.{Seals, IsDecided}
 use Rattle.arj_part_law.proofs.Begun.{agree_less, begins_in_tree, begun_tree, counted_more, path_found}
 use Rattle.arj_part_law.proofs.CoordInputs.{behind, named_found, next_path, off}
 use Rattle.arj_part_law.proofs.GoodNodes.{begin_well, elsewhere_well, tops_more}
@@ -220,7 +223,7 @@ module _ (e k : ℕ) (d : Disk) (t : Parts) (l : Label) (how : Kind) (parent : O
   counted_elsewhere j i count other counted = counted_more j i count count a good.0 counted begins (omega arith) (λ same. absurd (other (sym same ∙ ap (λ (u : Uid). u.node) its_uid ∙ was.node)))
 
   place_on : (j : ℕ) (n : Node) → (j ≡ k → ⊥) → IsGoodPlace good.0 M.sent M.labels j n → IsGoodPlace acts M.sent labels j n
-  place_on j n other g = record { disk = record { tops = tops_more a good.0 (let x = n.disk in x.intents) g.disk.tops; own = g.disk.own }; memory = by n.live g.memory }
+  place_on j n other g = record { disk = record { tops = tops_more a good.0 (let x = n.disk in x.intents) g.disk.tops; own = g.disk.own }; memory = by n.live g.memory; records = g.records }
     where
       by : (q : Option Parts) → IsMemory good.0 M.sent M.labels j n.disk.inc q → IsMemory acts M.sent labels j n.disk.inc q
       by None m = (m.0, counted_elsewhere j n.disk.inc m.0 other m.1)
@@ -233,10 +236,14 @@ module _ (e k : ℕ) (d : Disk) (t : Parts) (l : Label) (how : Kind) (parent : O
         counted = counted_elsewhere j n.disk.inc (length w.coord.tree.branches) other m.counted;
         known = known_more l (record { node = k; serial = is_serial_kind how }) M.labels w.coord new m.known;
         voted = m.voted;
+        sure = m.sure;
       }
         where
           off_it : (u : Uid) → is_on (uids_of p) u ≡ true → is_own u w.coord.tree ≡ false
           off_it u on = false_from_ne_true (is_own u w.coord.tree) (λ own. other (sym (sym (its_node u on).0 ∙ eqb-true u.node w.coord.tree.node (and_parts (u.node == w.coord.tree.node) (u.inc == w.coord.tree.inc) own).0 ∙ m.node) ∙ was.node))
+
+  stands : (u : Uid) (x : End) → IsDecided u x c.tree → IsDecided u x v.coord.tree
+  stands = let s = stand_begins how p c.tree in s.ends
 
   mine_on : (q : Post) → In q M.sent → q.from ≡ k → IsMine k d.inc v q.message
   mine_on q there from =
@@ -246,6 +253,8 @@ module _ (e k : ℕ) (d : Disk) (t : Parts) (l : Label) (how : Kind) (parent : O
         inc = subst (λ f. SaysInc f d.inc q.message) from h.inc;
         node = λ u s. w.senders q u there s ∙ from;
         seals = λ u s. let z = h.seals u s in (z.0, (claim_begins l how parent c u (w.senders q u there s ∙ from ∙ sym was.node, z.1, subst (λ i. u.inc ≤ i) (sym was.inc) z.0)).1);
+        past = h.past;
+        said = said_on c v.coord q.message (λ u. refl) stands h.said;
       }
 
   others : Others acts k d.inc v (given l (record { node = k; serial = is_serial_kind how }) M)
@@ -287,6 +296,7 @@ module _ (e k : ℕ) (d : Disk) (t : Parts) (l : Label) (how : Kind) (parent : O
     counted = counted_more k d.inc (length c.tree.branches) (length v.coord.tree.branches) a good.0 was.counted begins (omega (arith, longer)) (λ same. inr (ap (λ (u : Uid). u.inc) its_uid ∙ was.inc, its_number));
     known = known_now;
     voted = was.voted;
+    sure = sure_begins l how parent c was.sure;
   }
     where
       longer : length v.coord.tree.branches ≡ length c.tree.branches + 1
@@ -299,4 +309,4 @@ module _ (e k : ℕ) (d : Disk) (t : Parts) (l : Label) (how : Kind) (parent : O
   begin_good =
       let M2 = given l (record { node = k; serial = is_serial_kind how }) M in
       let x = place_of k d (Some t) M good in
-      up_good acts k d.inc v d (said e (began_line l how (next_uid c.tree) parent ∷ []) M2) (others_said acts k d.inc v e (began_line l how (next_uid c.tree) parent ∷ []) M2 others) (record { tops = tops_more a good.0 d.intents x.disk.tops; own = x.disk.own }) refl up_now
+      up_good acts k d.inc v d (said e (began_line l how (next_uid c.tree) parent ∷ []) M2) (others_said acts k d.inc v e (began_line l how (next_uid c.tree) parent ∷ []) M2 others) (record { tops = tops_more a good.0 d.intents x.disk.tops; own = x.disk.own }) refl up_now (λ u i r own. stands u ending.Commit (x.records u i r own))

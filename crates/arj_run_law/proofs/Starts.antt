@@ -1,4 +1,7 @@
 -- All that holds of nodes and messages holds at first, and a restart leaves it.
+use Rattle.arj_part_law.proofs.EndsHandled.{says_queries}
+use Rattle.arj_part_law.proofs.EndsSaid.{none_in, sure_new, sure_records}
+use Rattle.arj_part_law.specs.Ends.{AllSayEnds, AreOfCommits, IsSure, SaysEndsIn}
 use Rattle.std.proofs.Common.{◌≡◌, ◌+◌, arith, ℕ, List, [], ◌∷◌, ◌++◌, length, map, zero, suc, true, false, Option, Some, None, refl, sym, ◌∙◌, ap, subst, ⊎_elim, length-append}
 use Rattle.std.specs.Prelude.{slice_get}
 use Rattle.std.specs.List.{AllByRecursion}
@@ -13,7 +16,7 @@ use Rattle.arj_protocol.specs.Naming.{Naming}
 use Rattle.arj_protocol.specs.Node.{Parts, query_about, prepared_actions}
 use Rattle.arj_protocol.specs.Order.{uid_set, without_number}
 use Rattle.arj_protocol.specs.Step.{Node, first_disk, first_node, hello_to, naming_at, naming_back, numbers_to, parts_in, recovered_records, restart_outs, tolds_again}
-use Rattle.arj_protocol.specs.Tree.{at_place}
+use Rattle.arj_protocol.specs.Tree.{at_place, new_tree}
 use Rattle.arj_protocol.specs.World.{format}
 use Rattle.arj_part_law.specs.Actions.{Agree, AreBegun, AreCounted, paths_of}
 use Rattle.arj_part_law.specs.Claims.{IsFaithful}
@@ -72,6 +75,41 @@ restart_claims hd n inc d faithful = all_both P four hellos (all_both P three qu
     hellos : List Effect
     hellos = map (hello_to n inc) (without_number n (numbers_to hd.nodes))
 
+-- and what it says of ends
+restart_says : (hd : Header) (n inc : ℕ) (d : Disk) → (let v = parts_in n inc d in AreOfCommits d.intents v.coord.tree) → (let v = parts_in n inc d in AllSayEnds v.coord.tree (restart_outs hd n inc d))
+restart_says hd n inc d records = all_both P four hellos (all_both P three queries (all_both P two tolds (all_both P one recovered (tt, (tt, (tt, (tt, back (naming_at n inc d.names))))) (tt, all_map P (λ (e : Uid × Intent). Say (body.Recovered n e.0)) d.intents (λ e. tt))) (sure_records (new_tree n inc) d.intents records)) (says_queries (new_tree n inc) (uid_set (prepared_actions d.store ++ prepared_actions d.names)))) (all_map P (hello_to n inc) (without_number n (numbers_to hd.nodes)) (λ w. record { brings = λ u e k. none_in u e k; tells = λ u e k. none_in u e k }))
+  where
+    P : Effect → Type 0
+    P e = SaysEndsIn (new_tree n inc) e
+
+    back : (o : Option Naming) → AllByRecursion (SaysEndsIn (new_tree n inc)) (naming_back o)
+    back None = tt
+    back (Some o) = all_flat (SaysEndsIn (new_tree n inc)) (λ (e : ℕ × Named). back_lines e.1) o.objects (λ e. all_map (SaysEndsIn (new_tree n inc)) _ e.1.rows (λ r. tt))
+
+    one : List Effect
+    one = Do Look ∷ Do (PutInc inc) ∷ Say (body.Up n inc) ∷ Do Look ∷ naming_back (naming_at n inc d.names)
+
+    recovered : List Effect
+    recovered = Do Look ∷ recovered_records n d.intents
+
+    two : List Effect
+    two = one ++ recovered
+
+    tolds : List Effect
+    tolds = tolds_again d.intents
+
+    three : List Effect
+    three = two ++ tolds
+
+    queries : List Effect
+    queries = map query_about (uid_set (prepared_actions d.store ++ prepared_actions d.names))
+
+    four : List Effect
+    four = three ++ queries
+
+    hellos : List Effect
+    hellos = map (hello_to n inc) (without_number n (numbers_to hd.nodes))
+
 abbrev rest : List Effect → List Effect
 rest [] = []
 rest (e ∷ es) = es
@@ -107,6 +145,9 @@ module _ (hd : Header) (e k : ℕ) (d : Disk) (M : Seen) (good : IsGood (down k 
   faithful : IsFaithful v.coord
   faithful = faithful_new good.0 k d.inc (d.inc + 1) count d.intents counted (omega arith) disk.tops disk.own
 
+  sure : IsSure v.coord
+  sure = sure_new good.0 k d.inc (d.inc + 1) count d.intents counted (omega arith) disk.tops
+
   well : (paths : Paths) → IsTree paths → Agree good.0 paths → IsGoodNode good.0 paths v × AllFit good.0 (restart_outs hd k (d.inc + 1) d)
   well paths tree agree = restart_well good.0 begun paths tree agree hd k count d counted disk.tops
 
@@ -120,6 +161,7 @@ module _ (hd : Header) (e k : ℕ) (d : Disk) (M : Seen) (good : IsGood (down k 
     counted = anew;
     known = λ l j is. let no_way : ◌≡◌ {A = Option ℕ} None (Some j) = is in cc;
     voted = λ w is. let no_way : false ≡ true = is in cc;
+    sure = sure;
   }
 
   stops_look : Stops IsGood e k Look d M
@@ -138,8 +180,8 @@ module _ (hd : Header) (e k : ℕ) (d : Disk) (M : Seen) (good : IsGood (down k 
     (
       stops_inc,
       walked good.0 k (d.inc + 1) v 0 anew e (rest (rest (restart_outs hd k (d.inc + 1) d))) raised M
-          (are_kept good.0 k (d.inc + 1) v refl refl (rest (rest (restart_outs hd k (d.inc + 1) d))) (well (paths_of good.0) (begun_tree good.0 begun) (path_found good.0 begun)).1.1.1 (restart_claims hd k (d.inc + 1) d faithful).1.1 (restart_of hd k d).1.1)
-          others raised_good refl started,
+          (are_kept good.0 k (d.inc + 1) v refl refl (rest (rest (restart_outs hd k (d.inc + 1) d))) (well (paths_of good.0) (begun_tree good.0 begun) (path_found good.0 begun)).1.1.1 (restart_claims hd k (d.inc + 1) d faithful).1.1 (restart_of hd k d).1.1 (restart_says hd k (d.inc + 1) d sure.records).1.1)
+          others raised_good refl started sure.records,
     ),
   )
 
@@ -179,10 +221,11 @@ module _ (hd : Header) where
     counted = none_counted k 1 0;
     known = λ l j is. let no_way : ◌≡◌ {A = Option ℕ} None (Some j) = is in cc;
     voted = λ w is. let no_way : false ≡ true = is in cc;
+    sure = sure_new [] k 0 1 0 [] (none_counted k 0 0) (omega arith) tt;
   }
 
   place_first : (k : ℕ) → IsGoodPlace [] [] [] k (first_node hd k)
-  place_first k = record { disk = record { tops = tt; own = tt }; memory = started_up k }
+  place_first k = record { disk = record { tops = tt; own = tt }; memory = started_up k; records = let s = sure_new [] k 0 1 0 [] (none_counted k 0 0) (omega arith) tt in s.records }
 
   pub first_good : IsGood (see [] (format hd))
   first_good = (
