@@ -41,7 +41,7 @@ use Rattle.arj_disk_view_law.proofs.OneEnd.{actions_end}
 -- ---- what a plan loaded
 
 module _ (x : ℕ) (W : World) where
-  later_known : (s r : ObjectState) → IsKnown x W s → IsKnown x W r → IsKnown x W (later_state s r)
+  pub later_known : (s r : ObjectState) → IsKnown x W s → IsKnown x W r → IsKnown x W (later_state s r)
   later_known s r a b = by (nat_lt s.version r.version)
     where
       by : (c : Bool) → IsKnown x W (if c then r else s)

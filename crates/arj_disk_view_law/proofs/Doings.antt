@@ -17,7 +17,7 @@ doing_at u c d is = by (is_own u c.tree) refl is
     by false e h = absurd (cc h)
 
 -- two own actions of one number are one
-own_is : (u w : Uid) (c : Coord) → is_own u c.tree ≡ true → is_own w c.tree ≡ true → w.num ≡ u.num → w ≡ u
+pub own_is : (u w : Uid) (c : Coord) → is_own u c.tree ≡ true → is_own w c.tree ≡ true → w.num ≡ u.num → w ≡ u
 own_is u w c a b same =
     let p = and_parts (u.node == c.tree.node) (u.inc == c.tree.inc) a in
     let q = and_parts (w.node == c.tree.node) (w.inc == c.tree.inc) b in

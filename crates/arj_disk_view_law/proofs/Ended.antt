@@ -39,7 +39,7 @@ set_long k a [] = refl
 set_long zero a (x ∷ xs) = refl
 set_long (suc k) a (x ∷ xs) = ap suc (set_long k a xs)
 
-place_long : {A : Type 0} (k : ℕ) (a : A) (xs : List A) → length (set_place k a xs) ≡ length xs
+pub place_long : {A : Type 0} (k : ℕ) (a : A) (xs : List A) → length (set_place k a xs) ≡ length xs
 place_long zero a xs = refl
 place_long (suc k) a xs = set_long k a xs
 

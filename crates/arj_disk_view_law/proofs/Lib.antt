@@ -4,6 +4,7 @@ pub mod ActionAborts
 pub mod Asked
 pub mod AskingSteps
 pub mod BeginWalks
+pub mod CallWalks
 pub mod CommitWalks
 pub mod ConfirmKeeps
 pub mod ConfirmSteps

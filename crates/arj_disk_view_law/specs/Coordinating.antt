@@ -1,12 +1,13 @@
 -- What the coordinator's handlers keep of the disk half, where what is known of the protocol alone holds.
 use Rattle.std.specs.Prelude.{⊤, ◌≡◌, ℕ, true, false, [], Some, None}
-use Rattle.arj_protocol.specs.Words.{Uid, End, Label, Body, Asked}
+use Rattle.arj_protocol.specs.Words.{Uid, End, Label, Body, Asked, Op}
 use Rattle.arj_protocol.specs.Ask.{Reply, actor}
+use Rattle.arj_protocol.specs.Call.{Steps}
 use Rattle.arj_protocol.specs.Commit as commit
 use Rattle.arj_protocol.specs.Commit.{begin_prepare, targets_of}
-use Rattle.arj_protocol.specs.Coord.{Coord, Doing, Now, Idle, Committing, doing_of}
+use Rattle.arj_protocol.specs.Coord.{Coord, Doing, Now, Idle, Calling, Committing, doing_of}
 use Rattle.arj_protocol.specs.Effect.{Disk, Did, Intent}
-use Rattle.arj_protocol.specs.Asking.{step_commit, moved_commit, commit_action, waits_for_commit, gives_up}
+use Rattle.arj_protocol.specs.Asking.{call, include, heard_call, step_commit, moved_commit, commit_action, waits_for_commit, gives_up}
 use Rattle.arj_protocol.specs.Ending.{abort_action, acked_left, answer_query, ends_with, decide}
 use Rattle.arj_protocol.specs.Node.{Parts, with_coord}
 use Rattle.arj_protocol.specs.Order.{at_uid, uid_number, without_number}
@@ -92,3 +93,21 @@ abbrev pub QueriesAreAnswered : Type 0
 QueriesAreAnswered = (x : ℕ) (tops : Kinds) (e k : ℕ) (d : Disk) (t : Parts) (from : ℕ) (act : Uid) (M : Seen) → KnowsKinds tops → KnowsCoord tops d.intents t.coord → act.node ≡ k → (IsFuture t.coord act → ⊥)
     → (W : World) → SeesDisks x tops W (up k d t M) → (W.disk.bare (uid_number act) ≡ true → from ≡ naming → IsOver (after W (Halt (uid_number act))).disk (W.disk.root (uid_number act)))
     → Walks (IsSeenByDisks x tops) e k (answer_query from act d.intents t.coord) (Up (IsSeenByDisks x tops) k t) d M
+
+-- An open action that waits for nothing calls an object, and includes a store.
+abbrev pub CallsBegin : Type 0
+CallsBegin = (x : ℕ) (tops : Kinds) (e k : ℕ) (d : Disk) (t : Parts) (act : Uid) (b : Branch) (q : Doing) (y : ℕ) (o : Op) (M : Seen) → KnowsCoord tops d.intents t.coord
+    → branch_of act t.coord.tree ≡ Some b → b.ended ≡ None → doing_of act t.coord ≡ Some q → q.now ≡ Idle → (W : World) → SeesDisks x tops W (up k d t M) → DidIsWalked x tops e k d t (call b.path y o t.coord) M
+
+abbrev pub IncludesBegin : Type 0
+IncludesBegin = (x : ℕ) (tops : Kinds) (e k : ℕ) (d : Disk) (t : Parts) (act : Uid) (b : Branch) (q : Doing) (y s : ℕ) (M : Seen) → KnowsCoord tops d.intents t.coord
+    → branch_of act t.coord.tree ≡ Some b → b.ended ≡ None → doing_of act t.coord ≡ Some q → q.now ≡ Idle → (W : World) → SeesDisks x tops W (up k d t M) → DidIsWalked x tops e k d t (include b.path y s t.coord) M
+
+-- An answer to a call or an include is taken, and one is given up.
+abbrev pub CallsAreHeard : Type 0
+CallsAreHeard = (x : ℕ) (tops : Kinds) (e k : ℕ) (d : Disk) (t : Parts) (from : ℕ) (act : Uid) (q : Doing) (s : Steps) (r : Reply) (M : Seen) → KnowsCoord tops d.intents t.coord
+    → doing_of act t.coord ≡ Some q → q.now ≡ Calling s → (W : World) → SeesDisks x tops W (up k d t M) → ClaimsReply x W from act r → DidIsWalked x tops e k d t (heard_call s r t.coord) M
+
+abbrev pub CallsAreGivenUp : Type 0
+CallsAreGivenUp = (x : ℕ) (tops : Kinds) (e k : ℕ) (d : Disk) (t : Parts) (act : Uid) (q : Doing) (s : Steps) (M : Seen) → KnowsCoord tops d.intents t.coord
+    → doing_of act t.coord ≡ Some q → q.now ≡ Calling s → (W : World) → SeesDisks x tops W (up k d t M) → DidIsWalked x tops e k d t (gives_up act d.intents t.coord (Calling s)) M

@@ -3,8 +3,9 @@ use Rattle.std.specs.Prelude.{⊤, ◌≡◌, ◌≢◌, ℕ, true, false, nat_l
 use Rattle.arj_protocol.specs.Words.{Uid, Kind, Path, uids_of, is_on}
 use Rattle.arj_protocol.specs.Words.kind
 use Rattle.arj_protocol.specs.Ask.{actor, top_of}
+use Rattle.arj_protocol.specs.Call.{Steps}
 use Rattle.arj_protocol.specs.Commit as commit
-use Rattle.arj_protocol.specs.Coord.{Coord, Doing, Committing, doing_of, root_at, plan_for}
+use Rattle.arj_protocol.specs.Coord.{Coord, Doing, Calling, Committing, doing_of, root_at, plan_for}
 use Rattle.arj_protocol.specs.Effect.{Intent}
 use Rattle.arj_protocol.specs.Order as order
 use Rattle.arj_protocol.specs.Order.{at_uid, uid_number}
@@ -52,6 +53,13 @@ pub record KnowsMachine (tops : Kinds) (c : Coord) (u : Uid) (m : commit.Machine
   pub more : List commit.Used
   pub uses : (let p = commit.plan_of m in p.used) ≡ used ∷ more
 
+-- a call or an include under way is of an open action, by its path
+pub record KnowsSteps (c : Coord) (u : Uid) (s : Steps) : Type 0 where
+  pub branch : tree.Branch
+  pub found : branch_of u c.tree ≡ Some branch
+  pub unended : branch.ended ≡ None
+  pub actor_is : actor s.path ≡ u
+
 -- an open serializing action
 pub record IsOpenSerial (c : Coord) (u : Uid) : Type 0 where
   pub branch : tree.Branch
@@ -73,3 +81,4 @@ pub record KnowsCoord (tops : Kinds) (intents : List (Uid × Intent)) (c : Coord
   pub machines : (u : Uid) (q : Doing) (m : commit.Machine) → doing_of u c ≡ Some q → q.now ≡ Committing m → KnowsMachine tops c u m
   pub starts : (u : Uid) (b : tree.Branch) (req : ℕ) → branch_of u c.tree ≡ Some b → tops.is_top (uid_number u) ≡ true → KnowsPlan u (plan_for b.path req (root_at (root_of b.path) c) c)
   pub above : (u : Uid) (b : tree.Branch) → branch_of u c.tree ≡ Some b → b.ended ≡ None → is_constituent b.kind ≡ true → IsOpenSerial c (root_of b.path)
+  pub steps : (u : Uid) (q : Doing) (s : Steps) → doing_of u c ≡ Some q → q.now ≡ Calling s → KnowsSteps c u s
