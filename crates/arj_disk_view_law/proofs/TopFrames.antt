@@ -31,7 +31,7 @@ use Rattle.arj_disk_view_law.proofs.Notes.{fixed_later, notes_later, doing_noted
 -- ---- an action and its place
 
 -- what is found at a place stands among so many
-placed_below : {A : Type 0} (j : ℕ) (xs : List A) (a : A) → at_place j xs ≡ Some a → j ≤ length xs
+pub placed_below : {A : Type 0} (j : ℕ) (xs : List A) (a : A) → at_place j xs ≡ Some a → j ≤ length xs
 placed_below zero xs a is = absurd (cc is)
 placed_below {A} (suc j) xs a is = below xs j a is
   where

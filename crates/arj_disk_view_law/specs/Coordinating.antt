@@ -1,26 +1,27 @@
 -- What the coordinator's handlers keep of the disk half, where what is known of the protocol alone holds.
-use Rattle.std.specs.Prelude.{⊤, ◌≡◌, ℕ, true, false, [], Some, None}
-use Rattle.arj_protocol.specs.Words.{Uid, End, Label, Body, Asked, Op}
+use Rattle.std.specs.Prelude.{⊤, ◌≡◌, Option, ℕ, true, false, [], Some, None}
+use Rattle.arj_protocol.specs.Words.{Uid, End, Label, Body, Asked, Op, Kind}
 use Rattle.arj_protocol.specs.Ask.{Reply, actor}
 use Rattle.arj_protocol.specs.Call.{Steps}
 use Rattle.arj_protocol.specs.Commit as commit
 use Rattle.arj_protocol.specs.Commit.{begin_prepare, targets_of}
 use Rattle.arj_protocol.specs.Coord.{Coord, Doing, Now, Idle, Calling, Committing, doing_of}
 use Rattle.arj_protocol.specs.Effect.{Disk, Did, Intent}
-use Rattle.arj_protocol.specs.Asking.{call, include, heard_call, step_commit, moved_commit, commit_action, waits_for_commit, gives_up}
+use Rattle.arj_protocol.specs.Asking.{begin_action, call, include, heard_call, step_commit, moved_commit, commit_action, waits_for_commit, gives_up}
 use Rattle.arj_protocol.specs.Ending.{abort_action, acked_left, answer_query, ends_with, decide}
 use Rattle.arj_protocol.specs.Node.{Parts, with_coord}
 use Rattle.arj_protocol.specs.Order.{at_uid, uid_number, without_number}
-use Rattle.arj_protocol.specs.Tree.{Branch, branch_of, is_serial, has_open_child}
+use Rattle.arj_protocol.specs.World.{Labelled}
+use Rattle.arj_protocol.specs.Tree.{Branch, branch_of, is_serial, has_open_child, next_uid, path_below}
 use Rattle.arj_disk_law.specs.Effects.{World, Halt, after}
 use Rattle.arj_disk_law.specs.Messages as mail
 use Rattle.arj_disk_law.specs.Messages.{IsOver}
 use Rattle.arj_disk_law.specs.State.{naming}
 use Rattle.arj_disk_law.specs.Words.{In}
-use Rattle.arj_view_law.specs.Seen.{Seen, up}
+use Rattle.arj_view_law.specs.Seen.{Seen, up, given}
 use Rattle.arj_view_law.specs.Walks.{Walks, Up}
 use Rattle.arj_disk_view_law.specs.Asking.{IsUnanswered}
-use Rattle.arj_disk_view_law.specs.Knows.{KnowsKinds, KnowsCoord, KnowsPlan}
+use Rattle.arj_disk_view_law.specs.Knows.{KnowsKinds, KnowsCoord, KnowsPlan, IsOfKind}
 use Rattle.arj_disk_view_law.specs.Sees.{Kinds, IsFuture, SeesDisks, IsSeenByDisks, KnowsNow, ClaimsReply}
 
 -- the coordinator's part of a step keeps the disk half
@@ -111,3 +112,8 @@ CallsAreHeard = (x : ℕ) (tops : Kinds) (e k : ℕ) (d : Disk) (t : Parts) (fro
 abbrev pub CallsAreGivenUp : Type 0
 CallsAreGivenUp = (x : ℕ) (tops : Kinds) (e k : ℕ) (d : Disk) (t : Parts) (act : Uid) (q : Doing) (s : Steps) (M : Seen) → KnowsCoord tops d.intents t.coord
     → doing_of act t.coord ≡ Some q → q.now ≡ Calling s → (W : World) → SeesDisks x tops W (up k d t M) → DidIsWalked x tops e k d t (gives_up act d.intents t.coord (Calling s)) M
+
+-- An action begins, of a kind that its path fits.
+abbrev pub ActionsBegin : Type 0
+ActionsBegin = (x : ℕ) (tops : Kinds) (e k : ℕ) (d : Disk) (t : Parts) (l : Label) (g : Labelled) (how : Kind) (parent : Option Label) (above : Option Branch) (M : Seen) → KnowsCoord tops d.intents t.coord
+    → IsOfKind tops (next_uid t.coord.tree) how (path_below how above (next_uid t.coord.tree)) → (W : World) → SeesDisks x tops W (up k d t M) → DidIsWalked x tops e k d t (begin_action l how parent above t.coord) (given l g M)

@@ -10,6 +10,7 @@
 #![tactic(auto)]
 
 mod asking;
+mod calls;
 mod commits;
 mod confirming;
 mod coordinators;
@@ -21,6 +22,7 @@ mod sees;
 mod stores;
 
 pub use asking::{plans_are_seen, prepare_steps_are_seen};
+pub use calls::calls_keep_the_disk_half;
 pub use commits::commits_keep_the_disk_half;
 pub use confirming::{confirmations_are_seen, new_entries_are_seen};
 pub use coordinators::{decisions_keep_the_disk_half, prepare_steps_keep_the_disk_half};
