@@ -1,44 +1,37 @@
 -- Calls and includes, walked through at the coordinator: the machine has no part in them.
-use Rattle.std.proofs.Common.{◌≡◌, ◌≢◌, ◌⊎◌, ◌<◌, ℕ, ◌+◌, ◌==◌, ◌&&◌, ◌||◌, List, [], ◌∷◌, ◌++◌, Bool, true, false, Option, Some, None, refl, sym, ◌∙◌, ap, subst, inl, inr, ⊎_elim, length, append-nil}
-use Rattle.std.specs.Prelude.{⊤, if◌then◌else◌, not, is_some}
+use Rattle.std.proofs.Common.{◌≡◌, ◌≢◌, ◌⊎◌, ◌<◌, ℕ, ◌+◌, ◌==◌, ◌&&◌, List, [], ◌∷◌, ◌++◌, Bool, true, false, Option, Some, None, refl, sym, ◌∙◌, ap, subst, inl, inr, ⊎_elim, length, append-nil}
+use Rattle.std.specs.Prelude.{⊤, if◌then◌else◌}
 use Rattle.std.specs.List.{AllByRecursion, list_any}
 use Rattle.arj_base.proofs.Uids.{uid_cases}
-use Rattle.arj_protocol.specs.Words.{Uid, End, Kind, Path, Op, Ask, Label, Body, ObjectState, uids_of, BoundReply, LoadedReply, RecordedReply, InvokedReply}
-use Rattle.arj_protocol.specs.Words.ask
-use Rattle.arj_protocol.specs.Words.body
+use Rattle.arj_protocol.specs.Words.{Uid, End, Kind, Path, uids_of}
 use Rattle.arj_protocol.specs.Words.kind
 use Rattle.arj_protocol.specs.Words.loaded
 use Rattle.arj_protocol.specs.Words.bound
 use Rattle.arj_protocol.specs.Words.recorded
 use Rattle.arj_protocol.specs.Words.invoked
 use Rattle.arj_protocol.specs.Ask.{Reply, actor, top_of}
-use Rattle.arj_protocol.specs.Asking.{call, include, goes_on, asks_step, asks_all, step_call, ends_call, end_line, root_heard, root_moved, root_lost, doomed_by, moved_call, heard_call, kept_at, give_up_call, gives_up, gaveup_lines, call_steps, renewed, next_req, granted_by, notes_grant, store_of}
+use Rattle.arj_protocol.specs.Asking.{goes_on, step_call, ends_call, end_line, root_heard, root_moved, root_lost, doomed_by, kept_at, give_up_call, gaveup_lines, call_steps, renewed, next_req, granted_by, notes_grant, store_of}
 use Rattle.arj_protocol.specs.Call as calls
 use Rattle.arj_protocol.specs.Call.{Known, Steps, Goal, Run, Include, At, AtBind, AtLoad, AtActivate, AtNote, AtInvoke, CallEnd, Answered, Included, Conflict, Changed, Lost, CallStep, On, Ended, Moved, next_ask, next_node, ask_at, start, has_changed}
-use Rattle.arj_protocol.specs.Commit.{Voting, Preparing, Confirming}
-use Rattle.arj_protocol.specs.Coord.{Coord, Doing, Joined, Said, Root, Keeping, Grant, Now, Idle, Calling, Committing, doing_of, on_doing, on_root, root_at, keeping_of, with_keeping, with_said, with_join, with_grant, joined_with, same_join, same_said, later_state, is_free}
-use Rattle.arj_protocol.specs.Effect.{Disk, Effect}
+use Rattle.arj_protocol.specs.Coord.{Coord, Doing, Joined, Root, Keeping, Grant, Now, Idle, Calling, Committing, doing_of, on_doing, on_root, root_at, keeping_of, with_keeping, joined_with, same_join, same_said, later_state, is_free}
+use Rattle.arj_protocol.specs.Effect.{Disk}
 use Rattle.arj_protocol.specs.Ending.{says, say_for}
 use Rattle.arj_protocol.specs.Node.{Parts, with_coord}
-use Rattle.arj_protocol.specs.Order.{at_number, uid_number, with_number, binding_eq, binding_less, unbound}
+use Rattle.arj_protocol.specs.Order.{uid_number, with_number, binding_eq, binding_less, unbound}
 use Rattle.arj_protocol.specs.Says.{AreAll}
-use Rattle.arj_protocol.specs.Step.{Node}
 use Rattle.arj_protocol.specs.Tree.{Tree, Branch, Family, family_of, is_own, at_place, branch_of, is_open, is_open_branch, doomed_at, doomed_branch, root_of, ends_of, set_place, uses_object, with_family}
 use Rattle.arj_protocol.proofs.Maps.{place_other}
 use Rattle.arj_disk_law.specs.Effects.{World}
-use Rattle.arj_disk_law.specs.State as disk
-use Rattle.arj_disk_law.specs.State.{State, is_gone}
-use Rattle.arj_disk_law.proofs.Base.{never, some_is}
+use Rattle.arj_disk_law.specs.State.{State}
+use Rattle.arj_disk_law.proofs.Base.{some_is}
 use Rattle.arj_view_law.specs.Seen.{Seen, up}
 use Rattle.arj_view_law.proofs.Happens.{place_same}
 use Rattle.arj_view_law.specs.Walks.{Walks, Up}
-use Rattle.arj_disk_view_law.specs.Coordinating.{DidIsWalked, CallsBegin, IncludesBegin, CallsAreHeard, CallsAreGivenUp}
-use Rattle.arj_disk_view_law.specs.Knows.{KnowsCoord}
-use Rattle.arj_disk_view_law.specs.Sees.{Kinds, IsFuture, SeesDisks, SeesCoord, SeesNotes, IsSeenByDisks, IsKnown, KnowsRoot, KnowsNow, ClaimsReply, Works, WorksBy}
+use Rattle.arj_disk_view_law.specs.Coordinating.{CallsBegin, IncludesBegin, CallsAreHeard, CallsAreGivenUp}
+use Rattle.arj_disk_view_law.specs.Sees.{Kinds, SeesDisks, SeesCoord, IsSeenByDisks, IsKnown, KnowsRoot, KnowsNow, ClaimsReply, Works, WorksBy}
 use Rattle.arj_disk_view_law.proofs.CommitWalks.{later_known}
 use Rattle.arj_disk_view_law.proofs.Doings.{own_is, doing_here, doing_other, doing_tree}
 use Rattle.arj_disk_view_law.proofs.Ended.{place_long}
-use Rattle.arj_disk_view_law.proofs.Frames.{node_here}
 use Rattle.arj_disk_view_law.proofs.FreeAsks.{MayAsk, asks_walk}
 use Rattle.arj_disk_view_law.proofs.HeardWalks.{is_say, say_walk, coord_seen, roots_seen, gaveup_say}
 use Rattle.arj_disk_view_law.proofs.Notes.{all_put, known_at, doing_noted}

@@ -48,7 +48,7 @@ use Rattle.arj_disk_view_law.proofs.Planned.{has_same}
 use Rattle.arj_disk_view_law.proofs.TopFrames.{branch_at, apart_number}
 
 -- an open top that waits for naming
-confirming_of : (x : ℕ) (tops : Kinds) (S : State) (t : ℕ) (k : Kind) (now : Now) (p : commit.Plan) → tops.is_top t ≡ true → now ≡ Committing (Confirming p) → Works x tops S t k now → SeesConfirming x S t p
+pub confirming_of : (x : ℕ) (tops : Kinds) (S : State) (t : ℕ) (k : Kind) (now : Now) (p : commit.Plan) → tops.is_top t ≡ true → now ≡ Committing (Confirming p) → Works x tops S t k now → SeesConfirming x S t p
 confirming_of x tops S t kind.Nested now p top is w = absurd (never top w)
 confirming_of x tops S t kind.Serial now p top is w = absurd (never top w.0)
 confirming_of x tops S t kind.Top now p top is w = subst (λ n. WorksBy x S t n) is w.1

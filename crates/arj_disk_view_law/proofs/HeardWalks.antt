@@ -82,7 +82,7 @@ top_stays t Q W h = record { effects = []; allowed = tt; there = h; only = recor
 -- ---- kinds of actions
 
 -- an open top in its prepare step
-preparing_of : (x : ℕ) (tops : Kinds) (S : State) (t : ℕ) (k : Kind) (now : Now) (p : commit.Plan) (left : List ℕ) → tops.is_top t ≡ true → now ≡ Committing (Preparing p left) → Works x tops S t k now → SeesPreparing x S t p left
+pub preparing_of : (x : ℕ) (tops : Kinds) (S : State) (t : ℕ) (k : Kind) (now : Now) (p : commit.Plan) (left : List ℕ) → tops.is_top t ≡ true → now ≡ Committing (Preparing p left) → Works x tops S t k now → SeesPreparing x S t p left
 preparing_of x tops S t kind.Nested now p left top is w = absurd (never top w)
 preparing_of x tops S t kind.Serial now p left top is w = absurd (never top w.0)
 preparing_of x tops S t kind.Top now p left top is w = subst (λ n. WorksBy x S t n) is w.1

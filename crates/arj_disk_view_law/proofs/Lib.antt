@@ -29,9 +29,11 @@ pub mod OneEnd
 pub mod PairSteps
 pub mod Planned
 pub mod QueryWalks
+pub mod ServedWalks
 pub mod StoreSteps
 pub mod StoreWalks
 pub mod TellWalks
 pub mod TopFrames
+pub mod TickWalks
 pub mod ToldWalks
 pub mod UnusedWalks

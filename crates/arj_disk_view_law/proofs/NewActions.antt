@@ -1,23 +1,21 @@
 -- An action that begins, walked through at its coordinator.
-use Rattle.std.proofs.Common.{◌≡◌, ◌≢◌, ◌⊎◌, ◌<◌, ◌≤◌, ℕ, zero, suc, ◌+◌, ◌==◌, ◌&&◌, List, [], ◌∷◌, ◌++◌, Bool, true, false, Option, Some, None, refl, sym, ◌∙◌, ap, subst, inl, inr, ⊎_elim, slice_get, length, lt_irrefl, lt_trans, eqb-true, zero-lt-suc, suc-le-suc, arith}
-use Rattle.std.specs.Prelude.{⊤, if◌then◌else◌}
+use Rattle.std.proofs.Common.{◌≡◌, ◌⊎◌, ◌<◌, ◌≤◌, ℕ, zero, suc, ◌+◌, ◌==◌, List, [], ◌∷◌, ◌++◌, Bool, true, false, Option, Some, None, refl, sym, ◌∙◌, ap, subst, inl, inr, ⊎_elim, slice_get, length, lt_irrefl, lt_trans, eqb-true, arith}
+use Rattle.std.specs.Prelude.{if◌then◌else◌}
 use Rattle.std.proofs.lemmas.Bool.{and_parts}
 use Rattle.arj_protocol.specs.Words.{Uid, Label, Kind, Path}
 use Rattle.arj_protocol.specs.Words.kind
 use Rattle.arj_protocol.specs.Asking.{begin_action, began_line}
-use Rattle.arj_protocol.specs.Coord.{Coord, Doing, Now, Idle, doing_of, with_label}
-use Rattle.arj_protocol.specs.Effect.{Disk, Intent}
+use Rattle.arj_protocol.specs.Coord.{Coord, Doing, Idle, doing_of, with_label}
+use Rattle.arj_protocol.specs.Effect.{Disk}
 use Rattle.arj_protocol.specs.Node.{Parts, with_coord}
 use Rattle.arj_protocol.specs.Order as order
 use Rattle.arj_protocol.specs.Order.{uid_number}
-use Rattle.arj_protocol.specs.Step.{Node}
-use Rattle.arj_protocol.specs.Tree.{Tree, Branch, branch_of, begun, is_open, is_open_branch, is_own, at_place, next_uid, path_below}
+use Rattle.arj_protocol.specs.Tree.{Branch, branch_of, begun, is_open, is_open_branch, is_own, at_place, next_uid, path_below}
 use Rattle.arj_protocol.specs.World.{Labelled, numbered}
 use Rattle.arj_disk_law.specs.Effects.{World}
 use Rattle.arj_disk_law.specs.State as disk
 use Rattle.arj_disk_law.specs.State.{State}
-use Rattle.arj_disk_law.proofs.Base.{never}
-use Rattle.arj_view_law.specs.Seen.{Seen, up, given, said}
+use Rattle.arj_view_law.specs.Seen.{Seen, up, given}
 use Rattle.arj_disk_view_law.specs.Coordinating.{ActionsBegin}
 use Rattle.arj_disk_view_law.specs.Knows.{KnowsCoord, IsOfKind}
 use Rattle.arj_disk_view_law.specs.Sees.{Kinds, IsFuture, SeesDisks, SeesCoord, SeesNotes, KnowsNow, Works}

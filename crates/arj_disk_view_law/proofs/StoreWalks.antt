@@ -42,7 +42,7 @@ module _ (x k : ℕ) (tops : Kinds) (e : ℕ) where
       → Walks P e k (Send from m ∷ []) (Up P k t) d M
   answers d t M W from m s claim = λ more quiet. (W, says_seen x tops W (up k d t (posted (record { from = k; to = from; message = m }) M)) (numbered e more) (posts_seen x tops W (up k d t M) (record { from = k; to = from; message = m }) claim s))
 
-  took_is : (Q : Parts → List Effect → Type 0) (a : Parts) (b : List Effect) (v : Parts) (outs : List Effect) → ◌≡◌ {A = Handled} (Took a b) (Took v outs) → Q a b → Q v outs
+  pub took_is : (Q : Parts → List Effect → Type 0) (a : Parts) (b : List Effect) (v : Parts) (outs : List Effect) → ◌≡◌ {A = Handled} (Took a b) (Took v outs) → Q a b → Q v outs
   took_is Q a b v outs is h = let first : a ≡ v = cc in let second : b ≡ outs = cc in subst (λ p. Q p outs) first (subst (λ o. Q a o) second h)
 
   -- ---- Load

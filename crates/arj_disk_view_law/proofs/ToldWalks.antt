@@ -38,7 +38,7 @@ use Rattle.arj_disk_view_law.proofs.StoreSteps.{prepared_is, unprepared, stores_
 
 -- ---- a node whose coordinator and naming stay
 
-pub parts_seen : (x k : ℕ) (tops : Kinds) (W : World) (M : Seen) (d : Disk) (t v : Parts) → v.coord ≡ t.coord → v.naming ≡ t.naming → SeesDisks x tops W (up k d t M) → SeesDisks x tops W (up k d v M)
+pub parts_seen : (x k : ℕ) (tops : Kinds) (W : World) (M : Seen) (d : Disk) (t v : Parts) → v.coord ≡ t.coord → (((o : Naming) → t.naming ≡ Some o → SeesConfirmed o W.disk) → (o : Naming) → v.naming ≡ Some o → SeesConfirmed o W.disk) → SeesDisks x tops W (up k d t M) → SeesDisks x tops W (up k d v M)
 parts_seen x k tops W M d t v coord named s = record {
   whole = s.whole;
   fixed = s.fixed;
@@ -52,7 +52,7 @@ parts_seen x k tops W M d t v coord named s = record {
       (λ h p live. let same : v ≡ p = cc in subst (λ c. SeesNotes x d.intents c W) (sym coord ∙ ap (λ (q : Parts). q.coord) same) (h t refl)) m n is p live;
   downs = to (λ m n. n.live ≡ None → SeesDown m n.disk.inc W.disk) (λ m n there live. s.downs m n there live) (λ h live. absurd (cc live));
   confirmed = λ n p o is live has_naming. to (λ m n. m ≡ 1 → (p : Parts) (o : Naming) → n.live ≡ Some p → p.naming ≡ Some o → SeesConfirmed o W.disk) (λ m n there one p o live has_naming. s.confirmed n p o (ap (λ j. (up k d t M).nodes j) (sym one) ∙ there) live has_naming)
-      (λ h one p o live has_naming. let same : v ≡ p = cc in h one t o refl (sym named ∙ ap (λ (q : Parts). q.naming) same ∙ has_naming)) 1 n is refl p o live has_naming;
+      (λ h one p o live has_naming. let same : v ≡ p = cc in named (λ n is. h one t n refl is) o (ap (λ (q : Parts). q.naming) same ∙ has_naming)) 1 n is refl p o live has_naming;
   posts = s.posts;
 }
   where
@@ -83,14 +83,14 @@ module _ (x k : ℕ) (tops : Kinds) (e : ℕ) where
 
   ack_walks : (d : Disk) (t v : Parts) (from : ℕ) (u : Uid) (ack : Bool) (M : Seen) (W : World) → (k == 1) ≡ false → v.coord ≡ t.coord → v.naming ≡ t.naming → SeesDisks x tops W (up k d t M) → at_uid u d.store.pend ≡ None
       → (ack ≡ true → In (mail.ToldCommit (uid_number u) k) W.sent) → Walks P e k (ack_told from u ack) (Up P k v) d M
-  ack_walks d t v from u false M W apart coord named s none told = (W, parts_seen x k tops W M d t v coord named s)
+  ack_walks d t v from u false M W apart coord named s none told = (W, parts_seen x k tops W M d t v coord (λ f o is. f o (sym named ∙ is)) s)
   ack_walks d t v from u true M W apart coord named s none told = λ more quiet.
       let m : mail.Message = mail.Acked (uid_number u) k in
       let own = s.stores k (record { number = k; disk = d; live = Some t }) (node_here M k (record { number = k; disk = d; live = Some t })) in
       let V : World = after W (machine.Send m) in
       let p : Post = record { from = k; to = from; message = message.Acked (record { act = u }) } in
       let sent : SeesDisks x tops V (up k d t M) = sends_seen x tops W (up k d t M) m (told refl, holds_not d.store W u own none, λ one. absurd (never (ap (λ n. n == 1) one ∙ test_same 1) apart)) s in
-      (V, parts_seen x k tops V (said e more (posted p M)) d t v coord named (says_seen x tops V (up k d t (posted p M)) (numbered e more) (posts_seen x tops V (up k d t M) p (inl refl) sent)))
+      (V, parts_seen x k tops V (said e more (posted p M)) d t v coord (λ f o is. f o (sym named ∙ is)) (says_seen x tops V (up k d t (posted p M)) (numbered e more) (posts_seen x tops V (up k d t M) p (inl refl) sent)))
 
   -- ---- the store's part
 

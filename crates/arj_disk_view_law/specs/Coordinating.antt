@@ -1,15 +1,17 @@
 -- What the coordinator's handlers keep of the disk half, where what is known of the protocol alone holds.
 use Rattle.std.specs.Prelude.{⊤, ◌≡◌, Option, ℕ, true, false, [], Some, None}
 use Rattle.arj_protocol.specs.Words.{Uid, End, Label, Body, Asked, Op, Kind}
+use Rattle.std.specs.List.{AllByRecursion}
+use Rattle.arj_protocol.specs.Follow.{tick_outs}
 use Rattle.arj_protocol.specs.Ask.{Reply, actor}
 use Rattle.arj_protocol.specs.Call.{Steps}
 use Rattle.arj_protocol.specs.Commit as commit
 use Rattle.arj_protocol.specs.Commit.{begin_prepare, targets_of}
 use Rattle.arj_protocol.specs.Coord.{Coord, Doing, Now, Idle, Calling, Committing, doing_of}
 use Rattle.arj_protocol.specs.Effect.{Disk, Did, Intent}
-use Rattle.arj_protocol.specs.Asking.{begin_action, call, include, heard_call, step_commit, moved_commit, commit_action, waits_for_commit, gives_up}
+use Rattle.arj_protocol.specs.Asking.{again_all, begin_action, call, include, heard_call, step_commit, moved_commit, commit_action, waits_for_commit, gives_up}
 use Rattle.arj_protocol.specs.Ending.{abort_action, acked_left, answer_query, ends_with, decide}
-use Rattle.arj_protocol.specs.Node.{Parts, with_coord}
+use Rattle.arj_protocol.specs.Node.{Parts, holders, with_coord}
 use Rattle.arj_protocol.specs.Order.{at_uid, uid_number, without_number}
 use Rattle.arj_protocol.specs.World.{Labelled}
 use Rattle.arj_protocol.specs.Tree.{Branch, branch_of, is_serial, has_open_child, next_uid, path_below}
@@ -22,7 +24,7 @@ use Rattle.arj_view_law.specs.Seen.{Seen, up, given}
 use Rattle.arj_view_law.specs.Walks.{Walks, Up}
 use Rattle.arj_disk_view_law.specs.Asking.{IsUnanswered}
 use Rattle.arj_disk_view_law.specs.Knows.{KnowsKinds, KnowsCoord, KnowsPlan, IsOfKind}
-use Rattle.arj_disk_view_law.specs.Sees.{Kinds, IsFuture, SeesDisks, IsSeenByDisks, KnowsNow, ClaimsReply}
+use Rattle.arj_disk_view_law.specs.Sees.{Kinds, was_begun, IsFuture, SeesDisks, IsSeenByDisks, KnowsNow, ClaimsReply}
 
 -- the coordinator's part of a step keeps the disk half
 abbrev pub DidIsWalked : ℕ → Kinds → ℕ → ℕ → Disk → Parts → Did Coord → Seen → Type 0
@@ -117,3 +119,8 @@ CallsAreGivenUp = (x : ℕ) (tops : Kinds) (e k : ℕ) (d : Disk) (t : Parts) (a
 abbrev pub ActionsBegin : Type 0
 ActionsBegin = (x : ℕ) (tops : Kinds) (e k : ℕ) (d : Disk) (t : Parts) (l : Label) (g : Labelled) (how : Kind) (parent : Option Label) (above : Option Branch) (M : Seen) → KnowsCoord tops d.intents t.coord
     → IsOfKind tops (next_uid t.coord.tree) how (path_below how above (next_uid t.coord.tree)) → (W : World) → SeesDisks x tops W (up k d t M) → DidIsWalked x tops e k d t (begin_action l how parent above t.coord) (given l g M)
+
+-- A tick sends again what waits: requests, tolds that aren't acknowledged, and questions about actions that have begun.
+abbrev pub TicksAreWalked : Type 0
+TicksAreWalked = (x : ℕ) (tops : Kinds) (e k : ℕ) (d : Disk) (t : Parts) (M : Seen) → KnowsCoord tops d.intents t.coord → AllByRecursion (λ u. was_begun u M.lines ≡ true) (holders d t) → (W : World) → SeesDisks x tops W (up k d t M)
+    → Walks (IsSeenByDisks x tops) e k (tick_outs (record { number = k; disk = d; live = Some t }) t) (Up (IsSeenByDisks x tops) k (with_coord t (again_all t.coord.doings t.coord).part)) d M

@@ -15,7 +15,7 @@ use Rattle.arj_protocol.specs.Commit as commit
 use Rattle.arj_protocol.specs.Commit.{Used, changed_of, Voting, Preparing, Confirming, begin_prepare, targets_of}
 use Rattle.arj_protocol.specs.Coord.{Coord, Doing, Joined, Root, Now, Committing, doing_of, on_doing}
 use Rattle.arj_protocol.specs.Naming.{Naming}
-use Rattle.arj_protocol.specs.Node.{Parts, Took, serve, handle_ends, with_coord}
+use Rattle.arj_protocol.specs.Node.{Parts, Took, serve, handle_ends, handle_hello, holders, with_coord}
 use Rattle.arj_protocol.specs.Effect.{Disk, Effect, Intent}
 use Rattle.arj_protocol.specs.Asking.{moved_commit, step_commit, gives_up}
 use Rattle.arj_protocol.specs.Order as order
@@ -244,6 +244,20 @@ IsLoad _ = ⊥
 abbrev pub IsPrepare : Ask → Type 0
 IsPrepare (ask.Prepare states) = ⊤
 IsPrepare _ = ⊥
+
+-- a request to a server, or to naming but for a Confirm
+abbrev pub IsServed : Ask → Type 0
+IsServed (ask.Bind y include avoid) = ⊤
+IsServed (ask.Activate b st) = ⊤
+IsServed (ask.Record y b i g) = ⊤
+IsServed (ask.Invoke y b i ends op) = ⊤
+IsServed (ask.Vote i ties ends) = ⊤
+IsServed _ = ⊥
+
+-- A node is up again: the other nodes ask about its earlier actions, which have begun.
+abbrev pub HellosAreWalked : Type 0
+HellosAreWalked = (x : ℕ) (tops : Kinds) (e k : ℕ) (d : Disk) (t v : Parts) (node inc : ℕ) (outs : List Effect) (M : Seen)
+    → AllByRecursion (λ u. was_begun u M.lines ≡ true) (holders d t) → IsSeenByDisks x tops (up k d t M) → handle_hello d t node inc ≡ Took v outs → Walks (IsSeenByDisks x tops) e k outs (Up (IsSeenByDisks x tops) k v) d M
 
 -- An end that is told to a node without naming, to be acknowledged or not.
 abbrev pub EndsAreWalked : Type 0

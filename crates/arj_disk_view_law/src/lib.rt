@@ -30,5 +30,5 @@ pub use deciding::{decisions_are_seen, outcomes_may_be_told};
 pub use entries::ends_of_entries_are_seen;
 pub use finishing::ends_keep_the_disk_half;
 pub use outcomes::outcomes_keep_the_disk_half;
-pub use sees::{claims_stay_true, stores_keep_the_disk_half};
+pub use sees::{claims_stay_true, requests_keep_the_disk_half, stores_keep_the_disk_half};
 pub use stores::stores_are_seen;

@@ -1,5 +1,5 @@
 // The disk half of the view, whole.
-ghost use Rattle.arj_disk_view_law.specs.Sees.{ClaimsStay, EffectsAreLater, EndsAreWalked, IsLoad, IsPrepare, LinesAreSeen, RequestIsWalked, StopsAreSeen};
+ghost use Rattle.arj_disk_view_law.specs.Sees.{ClaimsStay, EffectsAreLater, EndsAreWalked, HellosAreWalked, IsLoad, IsPrepare, IsServed, LinesAreSeen, RequestIsWalked, StopsAreSeen};
 
 /// What messages claim in the machine's terms stays true as the machine goes on and the journal grows, so that an old frame
 /// may be taken at any time. It does nothing when it runs.
@@ -16,4 +16,11 @@ pub fn stores_keep_the_disk_half()
     ensures load { RequestIsWalked IsLoad }
     ensures prepare { RequestIsWalked IsPrepare }
     ensures ends { EndsAreWalked }
+{}
+
+/// Requests to servers, and to naming but for a Confirm, keep the disk half, and so does the word that a node is up again: the
+/// machine has no part in them. It does nothing when it runs.
+pub fn requests_keep_the_disk_half()
+    ensures served { RequestIsWalked IsServed }
+    ensures hellos { HellosAreWalked }
 {}

@@ -1,5 +1,6 @@
 use Rattle.arj_disk_view_law.proofs.AckWalks.{acks_are_taken}
 use Rattle.arj_disk_view_law.proofs.QueryWalks.{queries_are_answered}
+use Rattle.arj_disk_view_law.proofs.TickWalks.{ticks_are_walked}
 use Rattle.arj_disk_view_law.proofs.outcomes.outcomes_keep_the_disk_half.Goals as goal
 
 pub returns-clause-acked : goal.returns-clause-acked
@@ -7,3 +8,6 @@ returns-clause-acked c = acks_are_taken
 
 pub returns-clause-queries : goal.returns-clause-queries
 returns-clause-queries c = queries_are_answered
+
+pub returns-clause-ticks : goal.returns-clause-ticks
+returns-clause-ticks c = ticks_are_walked
