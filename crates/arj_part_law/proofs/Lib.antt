@@ -22,6 +22,7 @@ mod Kept
 mod InTurn
 mod KeptCalls
 mod Keys
+mod LivesCoords
 mod LivesKnown
 mod LivesNamed
 mod Locked

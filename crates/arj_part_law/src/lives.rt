@@ -4,15 +4,19 @@ ghost use Rattle.arj_base.specs.declared.binding.Binding.{Binding};
 ghost use Rattle.arj_base.specs.declared.mode.End.{End};
 ghost use Rattle.arj_base.specs.declared.path.Path.{Path};
 ghost use Rattle.arj_base.specs.declared.uid.Uid.{Uid};
-ghost use Rattle.arj_part_law.specs.Lives.{Homes, IsAtSo, IsKeptSo, IsMovedSo, IsNamingSo, IsStepSo, Limits, NamesAsk, NamesBound, NamesReply, home_of};
+ghost use Rattle.arj_part_law.specs.Lives.{AllName, Homes, IsAtSo, IsKeptSo, IsMovedSo, IsNamingSo, IsStepSo, KnowsServers, Limits, NamesAsk, NamesBound, NamesReply, home_of};
 ghost use Rattle.arj_protocol.specs.Ask.{Reply};
+ghost use Rattle.arj_protocol.specs.Asking.{again_all, heard};
 ghost use Rattle.arj_protocol.specs.Call.{At, Goal, Known, answered, ask_at, given_up, node_at, start_at};
 ghost use Rattle.arj_protocol.specs.Confirm.{Grants, Marks, confirm, recovered_naming};
-ghost use Rattle.arj_protocol.specs.Effect.{Pair};
+ghost use Rattle.arj_protocol.specs.Coord.{Coord, new_coord};
+ghost use Rattle.arj_protocol.specs.Effect.{Intent, Pair};
+ghost use Rattle.arj_protocol.specs.Ending.{acked};
 ghost use Rattle.arj_protocol.specs.Named.{Live, Named, hello_named, next_server};
 ghost use Rattle.arj_protocol.specs.Naming.{Naming, bind, hello, listed_entry, note, told};
 ghost use Rattle.arj_protocol.specs.Order.{at_number};
-ghost use Rattle.arj_protocol.specs.Words.{BoundReply};
+ghost use Rattle.arj_protocol.specs.Step.{Input, acts};
+ghost use Rattle.arj_protocol.specs.Words.{Asked, BoundReply};
 
 /// A live binding of naming is to the binding's server, in no later incarnation than the one on that server's disk, and so
 /// is what naming answers: under a Bind, whose new binding goes to its server, a Record that names no later incarnation, a
@@ -38,4 +42,16 @@ pub fn calls_name_incarnations_on_disk()
     ensures answered { (home : Homes) (limit : Limits) → home 0 ≡ 0 → (free : Bool) (kept : Option Known) (g : Goal) (at : At) (r : Reply) → IsKeptSo home limit kept → IsAtSo home limit at → NamesReply home limit (node_at at) r → IsMovedSo home limit (answered free kept g at r) }
     ensures given_up { (home : Homes) (limit : Limits) → home 0 ≡ 0 → (at : At) → IsAtSo home limit at → IsStepSo home limit (given_up at) }
     ensures asks { (home : Homes) (limit : Limits) → home 0 ≡ 0 → (x : ℕ) (g : Goal) (ends : List (Uid × End)) (at : At) → IsAtSo home limit at → NamesAsk home limit (node_at at) (ask_at x g ends at) }
+{}
+
+/// A coordinator asks each server under its own bindings, and names no later incarnation of it than the one on its disk, in
+/// calls, records and votes: at each input, refused or not, at an answer that is so, at an acknowledgement and at a tick,
+/// from its start on. It does nothing when it runs.
+pub fn coordinators_name_incarnations_on_disk()
+    ensures inputs { (home : Homes) (limit : Limits) → home 0 ≡ 0 → (i : Input) (intents : List (Uid × Intent)) (c : Coord) → KnowsServers home limit c → KnowsServers home limit (acts i intents c).part × AllName home limit (acts i intents c).outs }
+    ensures heard { (home : Homes) (limit : Limits) → home 0 ≡ 0 → (from : ℕ) (a : Asked) (r : Reply) (intents : List (Uid × Intent)) (c : Coord) → KnowsServers home limit c → NamesReply home limit from r
+        → KnowsServers home limit (heard from a r intents c).part × AllName home limit (heard from a r intents c).outs }
+    ensures acked { (home : Homes) (limit : Limits) → home 0 ≡ 0 → (from : ℕ) (u : Uid) (intents : List (Uid × Intent)) (c : Coord) → KnowsServers home limit c → KnowsServers home limit (acked from u intents c).part × AllName home limit (acked from u intents c).outs }
+    ensures again { (home : Homes) (limit : Limits) → home 0 ≡ 0 → (c : Coord) → KnowsServers home limit c → KnowsServers home limit (again_all c.doings c).part × AllName home limit (again_all c.doings c).outs }
+    ensures fresh { (home : Homes) (limit : Limits) → home 0 ≡ 0 → (node inc : ℕ) (records : List (Uid × Intent)) → KnowsServers home limit (record (new_coord node inc) { telling = records }) }
 {}
