@@ -1,5 +1,5 @@
 -- What a node says of ends, as it handles a message.
-use Rattle.std.proofs.Common.{◌≡◌, ℕ, List, [], ◌∷◌, ◌++◌, Bool, true, false, cond, map, filter, Option, Some, None, refl, sym, ap, subst}
+use Rattle.std.proofs.Common.{◌≡◌, ℕ, List, [], ◌∷◌, ◌++◌, Bool, true, false, cond, map, filter, Option, Some, None, refl, sym, subst}
 use Rattle.std.specs.Prelude.{option_map}
 use Rattle.std.specs.List.{AllByRecursion}
 use Rattle.arj_protocol.specs.Words.{Uid, End, Head, Asked, Ask, Message, ObjectState, asks, object}
@@ -18,7 +18,7 @@ use Rattle.arj_protocol.specs.Effect.{Effect, Say, Send, Do, Work, Look, PutInc,
 use Rattle.arj_protocol.specs.Ending.{acked, answer_query}
 use Rattle.arj_protocol.specs.Naming as naming
 use Rattle.arj_protocol.specs.Naming.{Naming}
-use Rattle.arj_protocol.specs.Node.{Parts, Handled, Took, sends_answer, with_server, with_naming, with_coord, served, if_naming, load_held, load_by, prepare_by, prepare_states, serve, end_states, store_told, naming_told, ack_told, handle_told, handle_ends, holders, query_about, is_earlier, naming_hello, by_reply, coord_heard, handle_other, handle_answer, handle_ask, handle}
+use Rattle.arj_protocol.specs.Node.{Parts, Handled, Took, sends_answer, with_server, with_naming, with_coord, served, if_naming, load_held, load_by, prepare_by, serve, end_states, store_told, naming_told, ack_told, handle_told, handle_ends, holders, query_about, is_earlier, naming_hello, by_reply, coord_heard, handle_other, handle_answer, handle_ask, handle}
 use Rattle.arj_protocol.specs.Says.{AreAll, is_server_effect, is_naming_effect, is_names_work}
 use Rattle.arj_protocol.specs.Server as server
 use Rattle.arj_protocol.specs.Server.{Server}
@@ -27,7 +27,7 @@ use Rattle.arj_protocol.proofs.PartSays.{ends_own, activate_own, invoke_own, vot
 use Rattle.arj_part_law.specs.Actions.{Action}
 use Rattle.arj_part_law.specs.Coords.{IsGoodCoord}
 use Rattle.arj_part_law.specs.Copies.{Paths, IsTree}
-use Rattle.arj_part_law.specs.Ends.{AllSayEnds, AreOfCommits, Decides, IsOfCommit, IsSure, IsSurelyHandled, SaysEnds, SaysEndsIn}
+use Rattle.arj_part_law.specs.Ends.{AllSayEnds, AreOfCommits, Decides, IsOfCommit, IsSure, IsSurelyHandled, SaysEndsIn}
 use Rattle.arj_part_law.specs.Messages.{IsDecided}
 use Rattle.arj_part_law.proofs.Decided.{stand_acked, stand_heard}
 use Rattle.arj_part_law.proofs.EndsSaid.{none_in, sure_acked, sure_heard, sure_query}

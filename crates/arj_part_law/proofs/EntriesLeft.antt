@@ -1,9 +1,7 @@
 -- A message leaves the entries that it isn't about.
-use Rattle.std.proofs.Common.{◌≡◌, ◌≢◌, ◌⊎◌, ◌==◌, arith, ℕ, List, [], ◌∷◌, ◌++◌, Bool, true, false, cond, map, filter, Option, Some, None, refl, sym, ◌∙◌, ap, subst, inl, inr, ⊎_elim}
+use Rattle.std.proofs.Common.{◌≡◌, ◌≢◌, ◌==◌, arith, ℕ, List, [], ◌∷◌, ◌++◌, Bool, true, false, cond, map, filter, Option, Some, None, refl, sym, ◌∙◌, ap, subst, inl, inr, ⊎_elim}
 use Rattle.std.specs.Prelude.{option_map, is_some, unwrap_or, not, ◌&&◌, ◌||◌}
-use Rattle.std.specs.List.{list_any}
-use Rattle.std.proofs.lemmas.Bool.{and_parts, or_left}
-use Rattle.arj_base.proofs.Uids.{uid_cases}
+use Rattle.std.proofs.lemmas.Bool.{and_parts}
 use Rattle.arj_lock.proofs.Members.{In, in_from, in_to, in_filter, in_filter_map}
 use Rattle.arj_lock.proofs.OneEach.{none_in}
 use Rattle.arj_protocol.specs.Words.{Uid, End, Head, Asked, Ask, Message, ObjectState, Path, ConfirmedReply, asks, entry, object, uid_eq}
@@ -17,15 +15,15 @@ use Rattle.arj_protocol.specs.Words.prepared
 use Rattle.arj_protocol.specs.Words.confirmed
 use Rattle.arj_protocol.specs.Ask.{Reply, actor, answers, asked_by, response, top_of}
 use Rattle.arj_protocol.specs.Asking.{heard}
-use Rattle.arj_protocol.specs.Confirm.{Grants, Marks, checked, confirm, confirm_entries, confirm_new, confirms, entries_after, entry_after, entry_by, entry_state, has_all, lock_all, prepared_by, same_nodes, stores_after, wanted}
+use Rattle.arj_protocol.specs.Confirm.{Grants, Marks, checked, confirm, confirm_entries, confirm_new, confirms, entries_after, entry_after, entry_state, has_all, lock_all, prepared_by, same_nodes, stores_after, wanted}
 use Rattle.arj_protocol.specs.Coord.{Coord}
 use Rattle.arj_protocol.specs.Effect.{Effect, Say, Send, Do, Look, Prepare, Served, Did, Disk, Pair, Prep, Ready, Already, Old, InDoubt, did_nothing, held_at, holder_of, is_prepared, new_states, pair_aborted, pair_committed, pair_prepared, prepare_answer, reply, void}
 use Rattle.arj_protocol.specs.Ending.{acked, answer_query}
 use Rattle.arj_protocol.specs.Laws.{names_grant}
 use Rattle.arj_protocol.specs.Naming as naming
 use Rattle.arj_protocol.specs.Naming.{Naming, end_entries, end_lines, has_locks, is_over, loses_row, orphans, own_entries, taken_end, told, told_new}
-use Rattle.arj_protocol.specs.Node.{Parts, Handled, sends_answer, with_server, with_naming, with_coord, if_naming, load_held, load_by, prepare_by, prepare_states, serve, by_reply, coord_heard, holders, query_about, is_earlier, handle_other, handle_answer, handle_ask, handle, served}
-use Rattle.arj_protocol.specs.Order.{at_uid, put_uid}
+use Rattle.arj_protocol.specs.Node.{Parts, Handled, sends_answer, with_server, with_naming, with_coord, if_naming, load_held, load_by, prepare_by, serve, by_reply, coord_heard, holders, query_about, is_earlier, handle_other, handle_answer, handle_ask, handle}
+use Rattle.arj_protocol.specs.Order.{at_uid}
 use Rattle.arj_protocol.specs.Says.{AreAll, is_coord_effect}
 use Rattle.arj_protocol.specs.Server as server
 use Rattle.arj_protocol.specs.Values.{state_entry}
@@ -37,7 +35,7 @@ use Rattle.arj_part_law.specs.Frames.{IsNotAbout, LeavesEntry, ask_confirms, ask
 use Rattle.arj_part_law.specs.Objects.{AreSorted}
 use Rattle.arj_part_law.specs.Tops.{Owners}
 use Rattle.arj_part_law.proofs.Keys.{put_cases, put_other, sorted_without, without_cases, without_other}
-use Rattle.arj_part_law.proofs.Kept.{AreMore, all_more, bind_pair, note_pair}
+use Rattle.arj_part_law.proofs.Kept.{all_more, bind_pair, note_pair}
 use Rattle.arj_part_law.proofs.NamingNode.{coord_names, server_names, query_names}
 use Rattle.arj_part_law.proofs.Pairs.{aborts, moved_other, names_both, names_line}
 

@@ -27,6 +27,7 @@ mod LivesKnown
 mod LivesNamed
 mod Locked
 mod NamingNode
+pub mod Numbered
 mod Pairs
 pub mod SaidIncs
 mod Sends

@@ -1,12 +1,11 @@
 -- What coordinators know of servers, through all that they do.
-use Rattle.std.proofs.Common.{◌≡◌, ◌≢◌, ◌⊎◌, ◌≤◌, ◌<◌, ◌+◌, ◌==◌, arith, ℕ, zero, suc, List, [], ◌∷◌, ◌++◌, Bool, true, false, cond, not, ◌&&◌, ◌||◌, map, filter, Option, Some, None, refl, sym, ◌∙◌, ap, subst, inl, inr, ⊎_elim, eqb-true, min}
-use Rattle.std.specs.Prelude.{⊤, is_some, unwrap_or}
+use Rattle.std.proofs.Common.{◌≡◌, ◌≤◌, ◌+◌, ◌==◌, arith, ℕ, zero, suc, List, [], ◌∷◌, ◌++◌, Bool, true, false, cond, not, ◌&&◌, ◌||◌, map, filter, Option, Some, None, refl, sym, ◌∙◌, ap, subst, inl, inr, ⊎_elim, eqb-true, min}
+use Rattle.std.specs.Prelude.{⊤, unwrap_or}
 use Rattle.std.specs.List.{AllByRecursion, flat_map, list_any}
 use Rattle.std.proofs.lemmas.Bool.{and_parts}
 use Rattle.arj_base.proofs.Uids.{uid_cases}
 use Rattle.arj_lock.proofs.Members.{In}
-use Rattle.arj_protocol.specs.Words.{Uid, Binding, End, Kind, Path, Op, Body, Label, Ask, Asked, Head, Header, Message, ObjectState, asks, request, uids_of, uid_eq}
-use Rattle.arj_protocol.specs.Words.ask
+use Rattle.arj_protocol.specs.Words.{Uid, End, Kind, Path, Op, Body, Label, Ask, Asked, uids_of, uid_eq}
 use Rattle.arj_protocol.specs.Words.body
 use Rattle.arj_protocol.specs.Words.cause
 use Rattle.arj_protocol.specs.Words.ending
@@ -15,24 +14,23 @@ use Rattle.arj_protocol.specs.Words.voted
 use Rattle.arj_protocol.specs.Words.prepared
 use Rattle.arj_protocol.specs.Words.confirmed
 use Rattle.arj_protocol.specs.Ask.{Reply, actor, ask_kind, reply_kind, top_of}
-use Rattle.arj_protocol.specs.Asking.{begin_action, asks_node, asks_all, asks_step, goes_on, call, call_steps, known_at_start, renewed, given_away, include, next_req, doomed_by, root_heard, root_moved, kept_at, keeps_after, notes_grant, granted_by, was_named, step_call, heard_call, mark_lines, commits_in, asks_machine, step_commit, moved_commit, commit_top, commit_open, commit_action, last_req, heard_now, heard_doing, heard, heard_by, heard_none, waits_for_call, waits_for_commit, gaveup_lines, root_lost, is_ended, gives_up, give_up_doing, give_up, give_up_call, again_now, again_all, is_invoke_ask, end_line}
+use Rattle.arj_protocol.specs.Asking.{asks_node, asks_all, asks_step, goes_on, call, call_steps, known_at_start, renewed, given_away, include, next_req, doomed_by, root_heard, root_moved, kept_at, keeps_after, notes_grant, granted_by, was_named, step_call, heard_call, mark_lines, commits_in, asks_machine, step_commit, moved_commit, commit_top, commit_open, commit_action, last_req, heard_now, heard_doing, heard, heard_by, heard_none, waits_for_call, waits_for_commit, gaveup_lines, root_lost, is_ended, gives_up, give_up_doing, give_up, again_now, again_all, is_invoke_ask, end_line}
 use Rattle.arj_protocol.specs.Call.{Known, Steps, At, CallStep, On, Ended, CallEnd, Answered, Included, Conflict, Changed, Lost, Moved, Goal, answered, given_up, next_node, next_ask, ask_at, start, spoils, has_changed}
 use Rattle.arj_protocol.specs.Call as calls
 use Rattle.arj_protocol.specs.Commit.{Used, Plan, Machine, Voting, Preparing, Confirming, CommitStep, Stays, Asks, Decides, Aborts, plan_of, participants, has_record, ask_of, servers_of, nodes_given_up, begin_confirm, begin_prepare, begin_vote, stores_left, votes_left, marks_store, marks_stores, targets_of, with_states, is_at_server, least_of, vote_ask}
 use Rattle.arj_protocol.specs.Commit as commit
-use Rattle.arj_protocol.specs.Coord.{Coord, new_coord, Doing, Now, Idle, Calling, Committing, Root, Keeping, Went, Said, Joined, Grant, doing_of, set_doing, change_doing, on_doing, on_root, root_at, no_root, no_keeping, keeping_of, kept_of, is_free, is_call, known_for, nodes_sent, servers_told, nothing_known, objects_in, plan_for, retains, used_of, used_with, is_called, with_keeping, with_went, with_said, with_join, with_grant, same_went, same_said}
-use Rattle.arj_protocol.specs.Effect.{Effect, Say, Send, Do, PutIntent, RemoveIntent, Did, Intent, Served}
-use Rattle.arj_protocol.specs.Ending.{says, say_for, tell, tell_all, up_to, is_deferred, tolds_by, tolds_of_branch, tolds_of, ended, ends_with, aborts_with, all_aborted, abort_action, decided_told, decide, root_after, keeping_after, kept_after, list_after, acked, acked_by, acked_left, tolds_let_go, let_go, is_over}
-use Rattle.arj_protocol.specs.Order.{at_number, at_uid, each, has, put_number, put_uid, unbound, without_number, with_number, without_uid}
+use Rattle.arj_protocol.specs.Coord.{Coord, new_coord, Doing, Now, Idle, Calling, Committing, Root, Keeping, Went, Said, Grant, doing_of, set_doing, change_doing, on_doing, on_root, root_at, no_root, no_keeping, keeping_of, kept_of, is_free, known_for, nodes_sent, servers_told, nothing_known, objects_in, plan_for, retains, used_of, used_with, is_called, with_keeping, with_went, with_said, same_went, same_said}
+use Rattle.arj_protocol.specs.Effect.{Effect, Do, PutIntent, Did, Intent, Served}
+use Rattle.arj_protocol.specs.Ending.{says, say_for, tell, tell_all, up_to, is_deferred, tolds_by, tolds_of_branch, tolds_of, ended, ends_with, aborts_with, all_aborted, abort_action, decided_told, decide, root_after, keeping_after, kept_after, acked, acked_by, acked_left, tolds_let_go, let_go, is_over}
+use Rattle.arj_protocol.specs.Order.{at_uid, each, has, put_uid, unbound, without_number, with_number, without_uid}
 use Rattle.arj_protocol.specs.Step.{Input, acts, branch_named, on_branch, parent_of, tolds_again}
 use Rattle.arj_protocol.specs.Step as input
-use Rattle.arj_protocol.specs.Tree.{Tree, Branch, branch_of, is_own, at_place, ends_of, next_uid, path_below, root_of, open_below, uses_object, doomed_at, ended_at}
-use Rattle.arj_part_law.specs.Lives.{Homes, Limits, AllName, IsAtSo, IsKeptSo, IsKnownSo, IsMovedSo, IsNowSo, IsRootSo, IsStepSo, IsUsedSo, KnowsServers, NamesAsk, NamesAsked, NamesEffect, NamesReply}
+use Rattle.arj_protocol.specs.Tree.{Tree, Branch, branch_of, is_own, at_place, ends_of, root_of, open_below, uses_object, doomed_at, ended_at}
+use Rattle.arj_part_law.specs.Lives.{Homes, Limits, AllName, IsAtSo, IsKeptSo, IsKnownSo, IsMovedSo, IsNowSo, IsRootSo, IsStepSo, IsUsedSo, KnowsServers, NamesAsk, NamesEffect, NamesReply}
 use Rattle.arj_part_law.proofs.GoodCoords.{doomed_same, uses_same}
 use Rattle.arj_part_law.proofs.GoodTrees.{get_more, placed}
 use Rattle.arj_part_law.proofs.LivesKnown.{answered_so, asks_so, given_up_so, request_so, start_so}
 use Rattle.arj_part_law.proofs.LivesNamed.{all_at, all_each, all_put}
-use Rattle.arj_part_law.proofs.Sends.{again_tree}
 use Rattle.arj_part_law.proofs.Settled.{doing_other, doing_put, end_tree_on}
 
 module _ (home : Homes) (limit : Limits) (nobody : home 0 ≡ 0) where
@@ -147,7 +145,6 @@ module _ (home : Homes) (limit : Limits) (nobody : home 0 ≡ 0) where
 
   know_asks : (p : Path) (req : ℕ) (a : ℕ × Ask) (c : Coord) → Knows c → NamesAsk home limit a.0 a.1 → IsKnowing (asks_node p req a c)
   know_asks p req a c k so = (know_root (root_of p) (with_went (record { path = uids_of p; node = a.0; invoke = is_invoke_ask a.1 })) c (went_so (record { path = uids_of p; node = a.0; invoke = is_invoke_ask a.1 })) k, (request_so home limit nobody a.0 (record { path = p; req = req }) a.1 so, tt))
-
 
   -- ---- calls
 
@@ -313,7 +310,6 @@ module _ (home : Homes) (limit : Limits) (nobody : home 0 ≡ 0) where
   giveup_step (Voting p left) so = tt
   giveup_step (Preparing p left) so = stores_step [] p (marks_stores left p) (marks_same left p p so)
   giveup_step (Confirming p) so = tt
-
 
   least_so : (n : ℕ) (ns : List ℕ) → AllByRecursion (λ (i : ℕ). i ≤ n) ns → least_of ns ≤ n
   least_so n [] all = omega arith

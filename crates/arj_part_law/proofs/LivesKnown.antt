@@ -1,24 +1,16 @@
 -- The incarnations of servers that coordinators know.
-use Rattle.std.proofs.Common.{◌≡◌, ◌≢◌, ◌⊎◌, ◌≤◌, ◌<◌, ◌+◌, ◌==◌, arith, ℕ, zero, suc, List, [], ◌∷◌, ◌++◌, Bool, true, false, cond, ◌&&◌, ◌||◌, map, filter, Option, Some, None, refl, sym, ◌∙◌, ap, subst, inl, inr, ⊎_elim, eqb-true, min}
-use Rattle.std.specs.Prelude.{is_some, unwrap_or}
-use Rattle.std.specs.List.{AllByRecursion, flat_map}
-use Rattle.std.proofs.lemmas.Bool.{and_parts}
-use Rattle.arj_base.proofs.Uids.{uid_cases}
-use Rattle.arj_lock.proofs.Members.{In}
-use Rattle.arj_protocol.specs.Words.{Uid, Binding, End, Kind, Path, Op, Body, Label, Ask, Asked, Head, Header, Message, BoundReply, LoadedReply, RecordedReply, InvokedReply, ObjectState, asks, request, uids_of}
+use Rattle.std.proofs.Common.{◌≡◌, ◌≤◌, ◌==◌, arith, ℕ, List, [], ◌∷◌, Bool, true, false, cond, ◌&&◌, Option, Some, None, refl, sym, ◌∙◌, ap, subst, eqb-true}
+use Rattle.std.specs.Prelude.{unwrap_or}
+use Rattle.arj_protocol.specs.Words.{Uid, Binding, End, Ask, Head, BoundReply, LoadedReply, RecordedReply, InvokedReply, asks, request}
 use Rattle.arj_protocol.specs.Words.ask
 use Rattle.arj_protocol.specs.Words.bound
-use Rattle.arj_protocol.specs.Words.cause
-use Rattle.arj_protocol.specs.Words.body
-use Rattle.arj_protocol.specs.Words.ending
-use Rattle.arj_protocol.specs.Words.kind
 use Rattle.arj_protocol.specs.Words.loaded
 use Rattle.arj_protocol.specs.Words.recorded
 use Rattle.arj_protocol.specs.Words.invoked
-use Rattle.arj_protocol.specs.Ask.{Reply, actor}
-use Rattle.arj_protocol.specs.Call.{Known, Steps, Goal, Run, Include, At, AtBind, AtLoad, AtActivate, AtNote, AtInvoke, CallStep, On, Ended, CallEnd, Answered, Included, Conflict, Changed, Lost, Moved, answered, activated_by, bound_by, finds, given_up, invoked_answer, live_known, load_from, load_given_up, loaded_answer, loaded_state, made_by, made_known, moves, named_again, next_ask, node_at, or_lost, other_binding, recorded_answer, recorded_kept, same_binding, start, start_at, with_inc, write_known, ask_at, bound_answer, two_incs, two_bindings}
-use Rattle.arj_protocol.specs.Order.{binding_eq, binding_less, binding_number, unbound}
-use Rattle.arj_part_law.specs.Lives.{Homes, Limits, AllName, IsAtSo, IsKeptSo, IsKnownSo, IsMovedSo, IsStepSo, NamesAsk, NamesAsked, NamesBound, NamesReply, home_of}
+use Rattle.arj_protocol.specs.Ask.{Reply}
+use Rattle.arj_protocol.specs.Call.{Known, Goal, Run, Include, At, AtBind, AtLoad, AtActivate, AtNote, AtInvoke, Changed, answered, activated_by, bound_by, finds, given_up, invoked_answer, live_known, load_from, loaded_answer, made_by, made_known, moves, named_again, node_at, or_lost, other_binding, recorded_answer, recorded_kept, same_binding, start_at, with_inc, write_known, ask_at, bound_answer, two_incs, two_bindings}
+use Rattle.arj_protocol.specs.Order.{binding_eq, binding_less, binding_number}
+use Rattle.arj_part_law.specs.Lives.{Homes, Limits, IsAtSo, IsKeptSo, IsKnownSo, IsMovedSo, IsStepSo, NamesAsk, NamesAsked, NamesBound, NamesReply, home_of}
 
 -- ---- one step of a call
 

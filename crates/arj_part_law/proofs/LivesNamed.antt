@@ -1,17 +1,15 @@
 -- The incarnations of servers that naming knows.
-use Rattle.std.proofs.Common.{◌≡◌, ◌≤◌, ◌+◌, ◌==◌, arith, ℕ, List, [], ◌∷◌, ◌++◌, Bool, true, false, cond, not, map, filter, Option, Some, None, refl, sym, ◌∙◌, ap, subst, nat_le}
+use Rattle.std.proofs.Common.{◌≡◌, ◌≤◌, ◌+◌, ◌==◌, arith, ℕ, List, [], ◌∷◌, Bool, true, false, cond, not, map, Option, Some, None, refl, sym, ◌∙◌, ap, subst, nat_le}
 use Rattle.std.specs.Prelude.{unwrap_or, is_some, ◌||◌, ◌&&◌}
 use Rattle.std.specs.List.{AllByRecursion}
-use Rattle.std.specs.Map.{lookup}
 use Rattle.std.specs.Ordering.{is_eq, match_ordering, nat_cmp}
-use Rattle.std.specs.BTreeMap.{is_at}
 use Rattle.std.specs.declared.cmp.Ordering.{Ordering}
 use Rattle.std.specs.declared.cmp.Ordering.TheVariants.{Less, Equal, Greater}
 use Rattle.std.proofs.lemmas.Bool.{eqb-true}
 use Rattle.std.proofs.lemmas.Bool.Decides.{nat_tests}
 use Rattle.arj_base.specs.Order.{uid_order}
 use Rattle.arj_base.specs.Rows.{is_on}
-use Rattle.arj_protocol.specs.Words.{Uid, Binding, End, Entry, ObjectState, Path, Row, BoundReply, ConfirmedReply, RecordedReply, What, entry, lower_row}
+use Rattle.arj_protocol.specs.Words.{Uid, Binding, End, Entry, ObjectState, Path, Row, BoundReply, ConfirmedReply, RecordedReply, entry, lower_row}
 use Rattle.arj_protocol.specs.Words.bound
 use Rattle.arj_protocol.specs.Words.confirmed
 use Rattle.arj_protocol.specs.Words.ending
@@ -21,7 +19,7 @@ use Rattle.arj_protocol.specs.Words.what
 use Rattle.arj_protocol.specs.Ask.{top_of}
 use Rattle.arj_protocol.specs.Confirm.{Grants, Marks, checked, confirm, confirm_entries, confirm_new, confirms, entries_after, has_all, lock_all, lock_in, named_back, prepared_by, recovered_naming, wanted}
 use Rattle.arj_protocol.specs.Effect.{Did, Pair, Prep, Ready, Already, Old, InDoubt, Served, did_nothing, is_prepared, prepare_answer, reply, void}
-use Rattle.arj_protocol.specs.Named.{Counted, lower_lines, Live, Made, Named, bind_call, bind_made, bind_named, bound_new, conflict_on, end_named, hello_named, in_use, include_asked, is_binding, is_lowered, live_above, live_after, live_asked, locked, lowered, made_above, make_asked, next_server, note_made, note_named, note_other}
+use Rattle.arj_protocol.specs.Named.{Counted, lower_lines, Live, Made, Named, bind_call, bind_made, bind_named, conflict_on, end_named, hello_named, in_use, include_asked, is_binding, is_lowered, live_above, live_after, live_asked, locked, lowered, made_above, make_asked, next_server, note_made, note_named, note_other}
 use Rattle.arj_protocol.specs.Naming.{Naming, bind, hello, is_over, listed_entry, note, on_counted, on_named, taken_end, told, told_new}
 use Rattle.arj_protocol.specs.Order.{at_number, at_uid, binding_eq, binding_less, binding_number, each, put_number, put_uid, without_uid}
 use Rattle.arj_part_law.specs.Lives.{Homes, Limits, IsLiveSo, IsMadeSo, IsNamedSo, IsNamingSo, NamesBound, home_of}

@@ -11,6 +11,7 @@ pub mod Lives
 pub mod Messages
 pub mod Nodes
 pub mod Objects
+pub mod Requests
 pub mod Rows
 pub mod Servers
 pub mod Tops

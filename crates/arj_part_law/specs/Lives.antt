@@ -1,8 +1,8 @@
 -- Which incarnation of a server naming and coordinators know. What is known of bindings and of disks is a parameter: the
 -- server of each binding, by its number, and the incarnation on each node's disk.
-use Rattle.std.specs.Prelude.{◌≡◌, ◌≤◌, ℕ, true, List, Option, Some, None, ⊤}
+use Rattle.std.specs.Prelude.{◌≡◌, ◌≤◌, ℕ, List, Option, Some, None, ⊤}
 use Rattle.std.specs.List.{AllByRecursion}
-use Rattle.arj_protocol.specs.Words.{Uid, Binding, Head, Ask, Message, BoundReply, asks}
+use Rattle.arj_protocol.specs.Words.{Uid, Binding, Head, Ask, BoundReply, asks}
 use Rattle.arj_protocol.specs.Words.ask
 use Rattle.arj_protocol.specs.Words.bound
 use Rattle.arj_protocol.specs.Ask.{Reply}

@@ -24,6 +24,7 @@ mod messages;
 mod naming;
 mod nodes;
 mod objects;
+mod requests;
 mod rows;
 mod server;
 mod stops;
@@ -39,12 +40,14 @@ pub use frames::{messages_leave_other_entries, messages_leave_other_states};
 pub use grants::{bindings_rise, grants_of_naming_stand};
 pub use incs::incarnations_are_on_disk;
 pub use lives::{
-    calls_name_incarnations_on_disk, coordinators_name_incarnations_on_disk, naming_names_incarnations_on_disk,
+    calls_name_incarnations_on_disk, coordinators_name_incarnations_on_disk,
+    naming_names_incarnations_on_disk,
 };
 pub use messages::{coordinators_send_what_fits, what_was_decided_stands};
 pub use naming::naming_stays_good;
 pub use nodes::{naming_stays_good_at_its_node, nodes_stay_good};
 pub use objects::objects_of_naming_stay_good;
+pub use requests::requests_are_numbered;
 pub use rows::locks_on_entries_stay_good;
 pub use server::{calls_keep_their_locks, servers_go_on, servers_stay_good};
 pub use stops::stops_leave_good_pairs;
