@@ -326,7 +326,7 @@ on_named_branch : (f : Branch → Did Coord) (c : Coord) (o : Option Branch) →
 on_named_branch f c None n each = n
 on_named_branch f c (Some b) n each = each b
 
-num_begins : (l : Label) (q : Kind) (parent : Option Label) (c : Coord) → AreNumbered c → AreNumbered (begin_action l q parent (parent_of parent c) c).part
+pub num_begins : (l : Label) (q : Kind) (parent : Option Label) (c : Coord) → AreNumbered c → AreNumbered (begin_action l q parent (parent_of parent c) c).part
 num_begins l q parent c n u d at = was (is_own u c.tree) u.num at (λ f. n u d f)
   where
     fresh : Doing

@@ -1,4 +1,5 @@
 -- The beginning of an action leaves all that holds of nodes and messages.
+use Rattle.arj_part_law.proofs.Numbered.{num_begins}
 use Rattle.arj_part_law.proofs.Decided.{stand_begins}
 use Rattle.arj_part_law.proofs.EndsSaid.{said_on, sure_begins}
 use Rattle.arj_protocol.specs.Words.ending
@@ -237,6 +238,7 @@ module _ (e k : ℕ) (d : Disk) (t : Parts) (l : Label) (how : Kind) (parent : O
         known = known_more l (record { node = k; serial = is_serial_kind how }) M.labels w.coord new m.known;
         voted = m.voted;
         sure = m.sure;
+        numbered = m.numbered;
       }
         where
           off_it : (u : Uid) → is_on (uids_of p) u ≡ true → is_own u w.coord.tree ≡ false
@@ -297,6 +299,7 @@ module _ (e k : ℕ) (d : Disk) (t : Parts) (l : Label) (how : Kind) (parent : O
     known = known_now;
     voted = was.voted;
     sure = sure_begins l how parent c was.sure;
+    numbered = num_begins l how parent c was.numbered;
   }
     where
       longer : length v.coord.tree.branches ≡ length c.tree.branches + 1

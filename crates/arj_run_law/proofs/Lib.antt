@@ -1,4 +1,5 @@
 mod Labels
+mod Parted
 mod Walked
 mod Handled
 mod Begins
