@@ -1,14 +1,12 @@
 -- Request numbers, and the objects that plans use, through all that a coordinator does.
-use Rattle.std.proofs.Common.{◌≡◌, ◌≢◌, ◌⊎◌, ◌<◌, ◌+◌, ◌==◌, arith, ℕ, zero, suc, List, [], ◌∷◌, ◌++◌, Bool, true, false, cond, ◌&&◌, ◌||◌, map, Option, Some, None, refl, sym, ◌∙◌, ap, subst, ⊎_elim}
+use Rattle.std.proofs.Common.{◌≡◌, ◌<◌, ◌+◌, arith, ℕ, zero, suc, List, [], ◌∷◌, ◌++◌, Bool, true, false, cond, map, Option, Some, None, refl, sym, ◌∙◌, ap, subst, ⊎_elim}
 use Rattle.std.specs.Prelude.{⊤}
 use Rattle.std.specs.List.{AllByRecursion}
 use Rattle.std.specs.Ordering.{match_ordering, nat_cmp}
-use Rattle.std.specs.BTreeSet.{insert_key}
 use Rattle.std.specs.declared.cmp.Ordering.{Ordering}
 use Rattle.std.specs.declared.cmp.Ordering.TheVariants.{Less, Equal, Greater}
 use Rattle.arj_base.proofs.Uids.{uid_cases}
-use Rattle.arj_protocol.specs.Words.{Uid, End, Kind, Path, Op, Body, Label, Ask, Asked, Message, uid_eq, uids_of}
-use Rattle.arj_protocol.specs.Words.body
+use Rattle.arj_protocol.specs.Words.{Uid, End, Kind, Path, Op, Label, Ask, Asked}
 use Rattle.arj_protocol.specs.Words.cause
 use Rattle.arj_protocol.specs.Words.ending
 use Rattle.arj_protocol.specs.Words.kind
@@ -16,18 +14,18 @@ use Rattle.arj_protocol.specs.Words.voted
 use Rattle.arj_protocol.specs.Words.prepared
 use Rattle.arj_protocol.specs.Words.confirmed
 use Rattle.arj_protocol.specs.Ask.{Reply, actor}
-use Rattle.arj_protocol.specs.Asking.{begin_action, asks_node, asks_all, asks_step, goes_on, call, call_steps, renewed, include, next_req, doomed_by, root_heard, root_moved, kept_at, step_call, heard_call, commits_in, asks_machine, step_commit, moved_commit, commit_top, commit_open, commit_action, last_req, heard_now, heard_doing, heard, heard_by, heard_none, waits_for_call, waits_for_commit, root_lost, gives_up, give_up_doing, give_up, again_now, again_all}
+use Rattle.arj_protocol.specs.Asking.{begin_action, asks_node, asks_all, goes_on, call, call_steps, renewed, include, next_req, doomed_by, root_heard, root_moved, kept_at, step_call, heard_call, commits_in, step_commit, moved_commit, commit_top, commit_open, commit_action, last_req, heard_now, heard_doing, heard, heard_by, heard_none, waits_for_call, waits_for_commit, root_lost, gives_up, give_up_doing, give_up, again_now, again_all}
 use Rattle.arj_protocol.specs.Call.{Steps, CallStep, On, Ended, CallEnd, Answered, Included, Conflict, Changed, Lost, Moved, answered, given_up, start}
 use Rattle.arj_protocol.specs.Call as calls
 use Rattle.arj_protocol.specs.Commit.{Used, Plan, Machine, Voting, Preparing, Confirming, CommitStep, Stays, Asks, Decides, Aborts, plan_of, participants, has_record, servers_of, begin_confirm, begin_prepare, begin_vote, stores_left, votes_left, marks_store, marks_stores, targets_of, with_states}
 use Rattle.arj_protocol.specs.Commit as commit
 use Rattle.arj_protocol.specs.Coord.{Coord, new_coord, Doing, Now, Idle, Calling, Committing, Root, doing_of, set_doing, change_doing, on_doing, on_root, root_at, keeping_of, is_free, objects_in, plan_for, used_of, with_keeping, said_in, joined_in}
 use Rattle.arj_protocol.specs.Effect.{Did, Intent, Served}
-use Rattle.arj_protocol.specs.Ending.{ended, ends_with, aborts_with, all_aborted, abort_action, decide, root_after, acked, acked_by, acked_left}
-use Rattle.arj_protocol.specs.Order.{at_uid, has, number_set, put_uid, unbound, with_number, without_number, without_uid}
+use Rattle.arj_protocol.specs.Ending.{ended, aborts_with, all_aborted, abort_action, decide, root_after, acked, acked_by, acked_left}
+use Rattle.arj_protocol.specs.Order.{at_uid, has, number_set, put_uid, unbound, with_number, without_number}
 use Rattle.arj_protocol.specs.Step.{Input, acts, branch_named, on_branch, parent_of}
 use Rattle.arj_protocol.specs.Step as input
-use Rattle.arj_protocol.specs.Tree.{Tree, Branch, is_own, at_place, root_of, open_below, uses_object, doomed_at, ended_at}
+use Rattle.arj_protocol.specs.Tree.{Branch, is_own, at_place, root_of, open_below, uses_object, doomed_at, ended_at}
 use Rattle.arj_part_law.specs.Requests.{AreNumbered, AreOnce, IsNumbered}
 use Rattle.arj_part_law.proofs.GoodCoords.{doomed_same, uses_same}
 use Rattle.arj_part_law.proofs.GoodTrees.{get_more}
@@ -144,7 +142,6 @@ giveup_step : (m : Machine) → Once (plan_of m) → IsNextSo (commit.given_up m
 giveup_step (Voting p left) so = tt
 giveup_step (Preparing p left) so = stores_step [] p (marks_stores left p) (marks_same left p p so)
 giveup_step (Confirming p) so = tt
-
 
 plan_once : (p : Path) (req : ℕ) (r : Root) (c : Coord) → Once (plan_for p req r c)
 plan_once p req r c = by (objects_in (actor p) r c) (set_up (map (λ s. s.x) (said_in (actor p) r c) ++ map (λ j. j.x) (joined_in (actor p) r c)))

@@ -1,22 +1,19 @@
 -- What a handler makes of the coordinator.
-use Rattle.std.proofs.Common.{◌≡◌, ℕ, List, [], ◌∷◌, Bool, true, false, cond, Option, Some, None}
+use Rattle.std.proofs.Common.{ℕ, List, [], Bool, true, false, cond, Option, Some, None}
 use Rattle.std.specs.Prelude.{⊤, option_map}
 use Rattle.arj_protocol.specs.Words.{Uid, End, Head, Asked, Ask, Message, ObjectState, asks, object}
 use Rattle.arj_protocol.specs.Words.ask
 use Rattle.arj_protocol.specs.Words.message
-use Rattle.arj_protocol.specs.Words.body
-use Rattle.arj_protocol.specs.Words.role
-use Rattle.arj_protocol.specs.Words.loaded
 use Rattle.arj_protocol.specs.Words.prepared
 use Rattle.arj_protocol.specs.Ask.{Reply, actor, answers, last_end}
 use Rattle.arj_protocol.specs.Asking.{heard}
 use Rattle.arj_protocol.specs.Confirm.{confirm}
 use Rattle.arj_protocol.specs.Coord.{Coord}
-use Rattle.arj_protocol.specs.Effect.{Effect, Say, Do, Look, Prepare, Served, Disk, Prep, Ready, Already, Old, InDoubt, held_at, holder_of, is_prepared, prepare_answer}
+use Rattle.arj_protocol.specs.Effect.{Effect, Served, Disk, Prep, Ready, Already, Old, InDoubt, held_at, holder_of, is_prepared, prepare_answer}
 use Rattle.arj_protocol.specs.Ending.{acked}
 use Rattle.arj_protocol.specs.Naming as naming
 use Rattle.arj_protocol.specs.Naming.{Naming}
-use Rattle.arj_protocol.specs.Node.{Parts, Handled, Void, Took, sends_answer, with_server, with_naming, with_coord, served, if_naming, load_held, load_by, prepare_by, prepare_states, serve, handle_ends, by_reply, coord_heard, handle_other, handle_answer, handle_ask, handle}
+use Rattle.arj_protocol.specs.Node.{Parts, Handled, Void, Took, sends_answer, with_server, with_naming, with_coord, if_naming, load_held, load_by, prepare_by, serve, handle_ends, by_reply, coord_heard, handle_other, handle_answer, handle_ask, handle}
 use Rattle.arj_protocol.specs.Server as server
 
 -- the coordinator that a handler leaves
