@@ -189,7 +189,7 @@ module _ (p : Path) (top : Uid) (gs : Grants) (ex inc : Marks) (d : Pair) (n : N
         nothing_done = subst (λ r. AreLines r.outs) (sym e) (only_lines xs p n);
       }
 
-  pub ready : (before after : List Line) (new : Naming) → (states ≡ [] → ⊥) → is_prepared top d ≡ false → AllByRecursion (λ s. IsNewState s.uid s) states → IsOnce (map (λ (g : ℕ × ℕ). g.0) gs) → length gs ≤ 255
+  pub ready : (before after : List Line) (new : Naming) → (states ≡ [] → ⊥) → is_prepared top d ≡ false → AllByRecursion (λ s. IsNewState s.uid s) states → IsDistinct uid_eq (map (λ (s : ObjectState). s.uid) (entries_after top gs ex inc d)) → length gs ≤ 255
       → new ≡ (lock_all xs p n).part → after ≡ before ++ said (lock_all xs p n).outs → IsReady (confirm_new p gs ex inc d n (checked p gs ex inc d n)) top d new before after states
   ready before after new some first all once few part lines = record {
     outs = (lock_all xs p n).outs;
@@ -197,7 +197,7 @@ module _ (p : Path) (top : Uid) (gs : Grants) (ex inc : Marks) (d : Pair) (n : N
     is = is_new ∙ by states some;
     lines = lines;
     first = first;
-    states_are = record { distinct = subst (λ ss. IsDistinct uid_eq (map (λ (s : ObjectState). s.uid) ss)) (sym states_are) (distinct_entries top ex inc d gs once); each = all_stored states all none_bare };
+    states_are = record { distinct = subst (λ ss. IsDistinct uid_eq (map (λ (s : ObjectState). s.uid) ss)) (sym states_are) once; each = all_stored states all none_bare };
     few = let short = few_entries top ex inc d gs in omega (arith, ap length states_are, short, few);
   }
     where

@@ -1,20 +1,15 @@
 -- What a recovery finds, by Uid and by number.
-use Rattle.std.proofs.Common.{◌≡◌, ◌∙◌, List, [], ◌∷◌, refl, ap, sym, map}
+use Rattle.std.proofs.Common.{◌≡◌, ◌∙◌, List, [], ◌∷◌, sym, map}
 use Rattle.std.specs.List.{AllByRecursion}
 use Rattle.std.specs.List.Sorted.{IsStrictlySortedBy}
 use Rattle.std.specs.Map.{keys_of}
 use Rattle.std.specs.Ordering.{nat_cmp}
 use Rattle.std.specs.declared.cmp.Ordering.TheVariants.{Less}
 use Rattle.arj_naming.specs.Entries.{IsEntryState}
-use Rattle.arj_naming.specs.Found.{by_uid}
+use Rattle.arj_store_law.specs.Found.{by_uid}
 use Rattle.arj_protocol.specs.Confirm.{named_back}
 use Rattle.arj_protocol.specs.Effect.{Pair}
 use Rattle.arj_protocol.specs.Words.{Uid, ObjectState, uid_order}
-use Rattle.arj_store.specs.Pair.{uid_of}
-
-pub keys_by_uid : (ss : List ObjectState) → keys_of (by_uid ss) ≡ map uid_of ss
-keys_by_uid [] = refl
-keys_by_uid (s ∷ ss) = ap (λ us. s.uid ∷ us) (keys_by_uid ss)
 
 pub each_by_uid : (ss : List ObjectState) → AllByRecursion (λ (s : ObjectState). IsEntryState s.uid s) ss → AllByRecursion (λ (e : Uid × ObjectState). IsEntryState e.0 e.1) (by_uid ss)
 each_by_uid [] all = tt

@@ -1,29 +1,32 @@
 -- What a call of the store did to the pair of entries, as its effects.
-use Rattle.std.proofs.Common.{◌≡◌, ◌⊎◌, ◌∙◌, List, [], ◌∷◌, refl, sym, ap, subst, inr, ⊎_elim, Some, None, false, Option}
+use Rattle.std.proofs.Common.{◌≡◌, ◌⊎◌, ◌∙◌, List, [], ◌∷◌, ◌++◌, refl, sym, ap, subst, inr, ⊎_elim, Some, None, false, Option}
 use Rattle.std.specs.Prelude.{OnErr, IsErrOf, Result, Ok, Err, IfSome, IsSome, option_map, is_some, unwrap_or, map}
 use Rattle.std.specs.List.{AllByRecursion, IsDistinct}
 use Rattle.std.proofs.lemmas.List.{append-nil}
 use Rattle.arj_base.specs.State.{StateInForm}
 use Rattle.arj_base.specs.Uid.{uid_eq}
-use Rattle.arj_disk.specs.Says.{names}
 use Rattle.arj_disk.specs.declared.slot.Role.{Role}
 use Rattle.arj_disk.specs.declared.slot.Role.TheVariants.{Names}
 use Rattle.arj_journal.specs.declared.body.Line.{Line}
-use Rattle.arj_naming.specs.Confirming.{prepare_by}
+use Rattle.arj_naming.specs.Confirming.{did_of, prepare_by, refusal_by}
 use Rattle.arj_naming.specs.Entries.{AreEntries, AreOfEntries, IsEntryState}
-use Rattle.arj_naming.specs.Files.{IsPairOf}
-use Rattle.arj_naming.specs.Kept.{IsCut, IsDoneInPart}
-use Rattle.arj_naming.specs.Prep.{prep_of}
-use Rattle.arj_naming.proofs.Held.{found}
-use Rattle.arj_naming.proofs.Pairs.{pair_same, pair_adds, pair_drops, pair_moves, pair_moves_some, IsOneOfEach}
-use Rattle.arj_naming.proofs.Refused.{answer_is}
-use Rattle.arj_protocol.specs.Confirm.{prepared_by}
+use Rattle.arj_store_law.specs.Files.{IsPairOf}
+use Rattle.arj_naming.specs.Kept.{Kept, HasDone, IsCut, IsDoneInPart}
+use Rattle.arj_naming.specs.Said.{said, pair_after}
+use Rattle.arj_naming.proofs.Cuts.{part_all}
+use Rattle.arj_store_law.specs.Prep.{prep_of}
+use Rattle.arj_store_law.proofs.Held.{found}
+use Rattle.arj_store_law.proofs.Pairs.{pair_same, pair_adds, pair_drops, pair_moves, pair_moves_some}
+use Rattle.arj_store_law.specs.Files.{IsOneOfEach}
+use Rattle.arj_store_law.proofs.Refused.{answer_is}
+use Rattle.arj_protocol.specs.Confirm.{confirms, prepared_by}
 use Rattle.arj_protocol.specs.Effect.{Effect, Say, Do, Look, Prepare, Commit, Abort, Before, After, InPart, Pair, held_at, is_prepared, new_states, pair_prepared, pair_committed, pair_aborted, prepare_answer}
 use Rattle.arj_protocol.specs.Effect as protocol
 use Rattle.arj_protocol.specs.Naming.{Naming, end_entries}
 use Rattle.arj_protocol.specs.Order.{at_uid}
-use Rattle.arj_protocol.specs.Words.{Uid, ObjectState}
+use Rattle.arj_protocol.specs.Words.{Uid, ObjectState, ConfirmedReply}
 use Rattle.arj_protocol.specs.Words.body
+use Rattle.arj_protocol.specs.Words.confirmed
 use Rattle.arj_protocol.specs.Words.ending
 use Rattle.arj_protocol.specs.Words.role
 use Rattle.arj_store.specs.Pair as files
@@ -46,7 +49,7 @@ nothing_twice : IsDistinct uid_eq []
 unfolding IsDistinct
 nothing_twice = tt
 
-one_each : (d : Pair) (act : Uid) → AreEntries d → IsOneOfEach d act
+pub one_each : (d : Pair) (act : Uid) → AreEntries d → IsOneOfEach d act
 one_each d act good = by (at_uid act d.pend) refl (found (λ a states. AreOfEntries states) act d.pend good.pend)
   where
     by : (o : Option (List ObjectState)) → at_uid act d.pend ≡ o → IfSome o AreOfEntries → IsOneOfEach d act
@@ -124,15 +127,15 @@ module _ (P Q : Role → files.Pair) (r : Role) (names_role : r ≡ Names) (d : 
       by None held = tt
       by (Some t) held = (held.state.in_form, held.state.own)
 
-  module _ (act : Uid) (states : List ObjectState) (n : Naming) (good : AreEntries d) (new : AreOfEntries states) (first : is_prepared act d ≡ false) (once : (a b u : Uid) → names ((P Names).pend a) u → names ((P Names).pend b) u → a ≡ b) where
+  module _ (act : Uid) (states : List ObjectState) (n : Naming) (good : AreEntries d) (new : AreOfEntries states) (first : is_prepared act d ≡ false) (sound : files.IsSound Names (P Names)) where
     answer : (a : Prep) → files.AnswersPrepare (P r) (Q r) act states a → prepare_answer act states d ≡ prep_of a
-    answer a answers = answer_is (P Names) d act stands once (Q Names) states a (none_prepared act first) (own_at states good new.each) (subst (λ k. files.AnswersPrepare (P k) (Q k) act states a) names_role answers)
+    answer a answers = answer_is (P Names) d act stands sound.once (Q Names) states a (none_prepared act first) (own_at states good new.each) (subst (λ k. files.AnswersPrepare (P k) (Q k) act states a) names_role answers)
 
     -- the protocol's answer is the one to this answer of the store
-    pub answers_so : (a : Prep) → files.AnswersPrepare (P r) (Q r) act states a → prepare_by act states d n ≡ prepared_by act states (record { part = n; outs = [] }) (prep_of a)
+    answers_so : (a : Prep) → files.AnswersPrepare (P r) (Q r) act states a → prepare_by act states d n ≡ prepared_by act states (record { part = n; outs = [] }) (prep_of a)
     answers_so a answers = ap (prepared_by act states (record { part = n; outs = [] })) (answer a answers)
 
-    pub now_prepared : files.AnswersPrepare (P r) (Q r) act states prep.Prepared → IsPairOf (Q Names) (pair_prepared act states d)
+    now_prepared : files.AnswersPrepare (P r) (Q r) act states prep.Prepared → IsPairOf (Q Names) (pair_prepared act states d)
     now_prepared answers = ⊎_elim
         (λ (again : IsSome ((P Names).pend act) × files.SamePair (P Names) (Q Names)). absurd (cc (subst IsSome (none_prepared act first) again.0)))
         (λ (did : files.Prepares (P Names) (Q Names) act states). pair_adds (P Names) (Q Names) d act states did.adds stands) (subst (λ k. files.AnswersPrepare (P k) (Q k) act states prep.Prepared) names_role answers)
@@ -165,3 +168,51 @@ module _ (P Q : Role → files.Pair) (r : Role) (names_role : r ≡ Names) (d : 
           pair = now_prepared answers;
           lines = sym (append-nil before);
         })
+
+    -- what is done where the store refuses, and where it doesn't
+    pub refused_done : {O : Type 0} (old new : Kept O) (lines : List Line) (a : Prep) (refused : ConfirmedReply) → old.pair ≡ d → new.part ≡ n → new.pair ≡ d → Some refused ≡ refusal_by act a → files.AnswersPrepare (P r) (Q r) act states a
+        → HasDone (did_of (prepare_by act states d n)) old new lines lines
+    refused_done {O} old new lines a refused old_is part_is pair_is is answers = by a is (answers_so a answers)
+      where
+        by : (b : Prep) → Some refused ≡ refusal_by act b → prepare_by act states d n ≡ prepared_by act states (record { part = n; outs = [] }) (prep_of b) → HasDone (did_of (prepare_by act states d n)) old new lines lines
+        by prep.Prepared never so = absurd (cc never)
+        by (prep.InDoubt uid holder) is so = record { part = part_is ∙ (λ i. (sym so i).part); lines = sym (append-nil lines) ∙ (λ i. lines ++ said (sym so i).outs); pair = pair_is ∙ (λ i. pair_after (sym so i).outs (sym old_is i)) }
+        by (prep.Already uid by_act) is so = record { part = part_is ∙ (λ i. (sym so i).part); lines = sym (append-nil lines) ∙ (λ i. lines ++ said (sym so i).outs); pair = pair_is ∙ (λ i. pair_after (sym so i).outs (sym old_is i)) }
+        by (prep.Old uid v) is so = record { part = part_is ∙ (λ i. (sym so i).part); lines = sym (append-nil lines) ∙ (λ i. lines ++ said (sym so i).outs); pair = pair_is ∙ (λ i. pair_after (sym so i).outs (sym old_is i)) }
+
+    pub refused_reply : (a : Prep) (refused : ConfirmedReply) → Some refused ≡ refusal_by act a → files.AnswersPrepare (P r) (Q r) act states a → Some refused ≡ (prepare_by act states d n).reply
+    refused_reply a refused is answers = by a is (answers_so a answers)
+      where
+        by : (b : Prep) → Some refused ≡ refusal_by act b → prepare_by act states d n ≡ prepared_by act states (record { part = n; outs = [] }) (prep_of b) → Some refused ≡ (prepare_by act states d n).reply
+        by prep.Prepared never so = absurd (cc never)
+        by (prep.InDoubt uid holder) is so = is ∙ (λ i. (sym so i).reply)
+        by (prep.Already uid by_act) is so = is ∙ (λ i. (sym so i).reply)
+        by (prep.Old uid v) is so = is ∙ (λ i. (sym so i).reply)
+
+    -- the answer is Prepared where it isn't refused
+    prepared_so : (a : Prep) → refusal_by act a ≡ None → files.AnswersPrepare (P r) (Q r) act states a → files.AnswersPrepare (P r) (Q r) act states prep.Prepared
+    prepared_so prep.Prepared is answers = answers
+    prepared_so (prep.InDoubt uid holder) never answers = absurd (cc never)
+    prepared_so (prep.Already uid by_act) never answers = absurd (cc never)
+    prepared_so (prep.Old uid v) never answers = absurd (cc never)
+
+    module _ (a : Prep) (is : refusal_by act a ≡ None) (answers : files.AnswersPrepare (P r) (Q r) act states a) where
+      so : prepare_by act states d n ≡ prepared_by act states (record { part = n; outs = [] }) protocol.Ready
+      so = answers_so prep.Prepared (prepared_so a is answers)
+
+      pub prepared_pair : IsPairOf (Q Names) (pair_prepared act states d)
+      prepared_pair = now_prepared (prepared_so a is answers)
+
+      pub prepared_done : {O : Type 0} (old new : Kept O) (before after : List Line) → old.pair ≡ d → new.part ≡ confirms act n → new.pair ≡ pair_prepared act states d → after ≡ before ++ said (Say (body.Prepared 1 act role.Names) ∷ [])
+          → HasDone (did_of (prepare_by act states d n)) old new before after
+      prepared_done old new before after old_is part_is pair_is lines_are = record {
+        part = part_is ∙ (λ i. (sym so i).part);
+        lines = lines_are ∙ (λ i. before ++ said (sym so i).outs);
+        pair = pair_is ∙ (λ i. pair_after (sym so i).outs (sym old_is i));
+      }
+
+      pub prepared_reply : Some confirmed.Yes ≡ (prepare_by act states d n).reply
+      prepared_reply = λ i. (sym so i).reply
+
+      pub prepared_part : IsDoneInPart (prepare_by act states d n).outs d (Q Names)
+      prepared_part = part_all (prepare_by act states d n).outs d (Q Names) (subst (IsPairOf (Q Names)) (sym (ap (λ t. pair_after t.outs d) so)) prepared_pair)

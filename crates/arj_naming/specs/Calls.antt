@@ -1,6 +1,6 @@
 -- How messages to naming read as the protocol's arguments.
-use Rattle.std.specs.Prelude.{◌≤◌, ℕ, map, length, Option, Some, None}
-use Rattle.std.specs.List.{AllByRecursion}
+use Rattle.std.specs.Prelude.{◌≤◌, ◌==◌, ◌||◌, ℕ, Bool, map, filter, length, Option, Some, None}
+use Rattle.std.specs.List.{AllByRecursion, list_any}
 use Rattle.arj_base.specs.declared.mode.End.{End}
 use Rattle.arj_base.specs.declared.uid.Uid.{Uid}
 use Rattle.arj_naming.specs.Entries.{IsOnce}
@@ -38,11 +38,15 @@ told_last (Some e) d n = told e.0 e.1 d n
 abbrev pub told_by : Told → Pair → Naming → Did Naming
 told_by m d n = told_last (last_end m.ends) d n
 
--- A Confirm may be handled: its objects are few enough for one byte to count them, none stands twice, and what it includes
--- are nodes.
+-- whether a Confirm excludes or includes a store at an object
+abbrev pub is_marked : Confirm → ℕ → Bool
+is_marked m x = list_any (λ (k : ℕ × ℕ). k.0 == x) m.excluded || list_any (λ (k : ℕ × ℕ). k.0 == x) m.included
+
+-- A Confirm may be handled: its objects are few enough for one byte to count them, none at which it excludes or includes
+-- a store stands twice, and what it includes are nodes.
 pub record IsSingle (m : Confirm) : Type 0 where
   pub few : length m.objects ≤ 255
-  pub once : IsOnce (map (λ (g : ℕ × ℕ). g.0) m.objects)
+  pub once : IsOnce (map (λ (g : ℕ × ℕ). g.0) (filter (λ (g : ℕ × ℕ). is_marked m g.0) m.objects))
   pub nodes : AllByRecursion (λ (k : ℕ × ℕ). IsNode k.1) m.included
 
 -- answers to who asked

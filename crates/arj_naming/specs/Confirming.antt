@@ -1,12 +1,16 @@
 -- How far a Confirm comes in memory, before the store is asked.
-use Rattle.std.specs.Prelude.{◌≡◌, ◌≤◌, false, ⊤, List, [], ◌∷◌, ◌++◌, length, Option}
+use Rattle.std.specs.Prelude.{◌≡◌, ◌≤◌, false, ⊤, List, [], ◌∷◌, ◌++◌, length, Option, Some, None}
 use Rattle.arj_journal.specs.declared.body.Line.{Line}
 use Rattle.arj_naming.specs.Entries.{AreOfEntries}
 use Rattle.arj_naming.specs.Said.{said}
 use Rattle.arj_protocol.specs.Confirm.{prepared_by}
 use Rattle.arj_protocol.specs.Effect.{Effect, Say, Send, Do, Pair, Did, Served, is_prepared, prepare_answer}
 use Rattle.arj_protocol.specs.Naming.{Naming}
-use Rattle.arj_protocol.specs.Words.{Uid, ObjectState, ConfirmedReply}
+use Rattle.arj_protocol.specs.Words.{Uid, ObjectState, ConfirmedReply, nobody}
+use Rattle.arj_protocol.specs.Words.confirmed
+use Rattle.arj_protocol.specs.Words.mode
+use Rattle.arj_store.specs.declared.answer.Prep.{Prep}
+use Rattle.arj_store.specs.declared.answer.Prep.TheVariants as prep
 
 -- effects that are lines, and nothing else
 abbrev pub AreLines : List Effect → Type 0
@@ -39,3 +43,10 @@ did_of r = record { part = r.part; outs = r.outs }
 -- the store is asked to prepare states
 abbrev pub prepare_by : Uid → List ObjectState → Pair → Naming → Served Naming ConfirmedReply
 prepare_by top states d n = prepared_by top states (record { part = n; outs = [] }) (prepare_answer top states d)
+
+-- the reply where the store refuses the states of a top
+abbrev pub refusal_by : Uid → Prep → Option ConfirmedReply
+refusal_by top prep.Prepared = None
+refusal_by top (prep.InDoubt uid holder) = Some (confirmed.Conflict holder mode.Write)
+refusal_by top (prep.Already uid act) = Some (confirmed.Conflict top mode.Write)
+refusal_by top (prep.Old uid held) = Some (confirmed.Conflict nobody mode.Write)

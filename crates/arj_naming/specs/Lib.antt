@@ -8,5 +8,4 @@ pub mod Reached
 pub mod Files
 pub mod Found
 pub mod Kept
-pub mod Prep
 pub mod Ends

@@ -5,12 +5,11 @@ ghost use Rattle.arj_disk.specs.Disk.{CountsCall};
 ghost use Rattle.arj_disk.specs.Says.{OnlyOfRole};
 ghost use Rattle.arj_disk.specs.declared.slot.Role.{Role};
 ghost use Rattle.arj_naming.specs.Calls.{confirm_by, confirmed_to, IsSingle};
-ghost use Rattle.arj_naming.specs.Confirming.{did_of, prepare_by};
+ghost use Rattle.arj_naming.specs.Confirming.{did_of, prepare_by, refusal_by};
 ghost use Rattle.arj_naming.specs.Entries.{AreOfEntries};
+ghost use Rattle.arj_naming.specs.Files.{GivesEntries};
 ghost use Rattle.arj_naming.specs.Kept.{HasDone, IsCut, IsDoneInPart, StandsOn};
 ghost use Rattle.arj_protocol.specs.Effect.{is_prepared};
-ghost use Rattle.arj_protocol.specs.Words.confirmed;
-ghost use Rattle.arj_protocol.specs.Words.mode;
 ghost use Rattle.arj_store.specs.declared.answer.StoreFault.{StoreFault};
 
 use crate::Naming;
@@ -23,7 +22,7 @@ use arj_msg::{Confirm, Confirmed, ConfirmedReply, Head};
 use arj_store::{ObjectStore, Prep, StoreFault, known_objects};
 
 // Nobody's Uid.
-const NOBODY: Uid = Uid {
+pub(crate) const NOBODY: Uid = Uid {
     node: 0,
     inc: 0,
     num: 0,
@@ -46,10 +45,12 @@ impl<O: ObjectStore> Naming<O> {
         ensures stopped { IsErrOf result StoreFault.Stopped → IsCut (confirm_by m.now self.old.pair self.old.part).outs self.old.pair (O.pair (D.file disk.new) Role.Names) out.old out.new }
         ensures fault { OnErr result (IsDoneInPart (confirm_by m.now self.old.pair self.old.part).outs self.old.pair (O.pair (D.file disk.new) Role.Names)) }
         ensures room { O.room (D.file disk.old) Role.Names ≤ O.room (D.file disk.new) Role.Names }
+        ensures entries { GivesEntries (O.pair (D.file disk.new) Role.Names) }
         ensures formed { O.formed (D.file disk.new) Role.Names }
         ensures others { OnlyOfRole Role.Names (D.file disk.old) (D.file disk.new) }
         ensures counts { CountsCall (counts D.Disk disk.old) (counts D.Disk disk.new) result StoreFault.Stopped }
     {
+        self.gives_entries(disk);
         let top = m.head.path.top_path().last();
         match self.memory.confirm(m, top, out)? {
             Ready::Answer(answer) => Ok(answered(&m.head, answer)),
@@ -78,21 +79,19 @@ impl<O: ObjectStore> Naming<O> {
         ensures stopped { IsErrOf result StoreFault.Stopped → IsCut (prepare_by top states self.old.pair self.old.part).outs self.old.pair (O.pair (D.file disk.new) Role.Names) out.old out.new }
         ensures fault { OnErr result (IsDoneInPart (prepare_by top states self.old.pair self.old.part).outs self.old.pair (O.pair (D.file disk.new) Role.Names)) }
         ensures room { O.room (D.file disk.old) Role.Names ≤ O.room (D.file disk.new) Role.Names }
+        ensures entries { GivesEntries (O.pair (D.file disk.new) Role.Names) }
         ensures formed { O.formed (D.file disk.new) Role.Names }
         ensures others { OnlyOfRole Role.Names (D.file disk.old) (D.file disk.new) }
         ensures counts { CountsCall (counts D.Disk disk.old) (counts D.Disk disk.new) result StoreFault.Stopped }
     {
         known_objects();
         self.memory.entries.are_entries();
-        match self.store.prepare(disk, top, &states)? {
-            Prep::Prepared => {
-                self.memory.prepared(top, states, out)?;
-                Ok(ConfirmedReply::Yes)
-            }
-            Prep::InDoubt { holder, .. } => Ok(conflict(holder)),
-            Prep::Already { .. } => Ok(conflict(top)),
-            Prep::Old { .. } => Ok(conflict(NOBODY)),
+        let answer = self.store.prepare(disk, top, &states)?;
+        if let Some(refused) = refusal(top, answer) {
+            return Ok(refused);
         }
+        self.memory.prepared(top, states, out)?;
+        Ok(ConfirmedReply::Yes)
     }
 }
 
@@ -107,12 +106,18 @@ fn answered(head: &Head, reply: Option<ConfirmedReply>) -> Option<Confirmed>
     })
 }
 
-// The answer where the store refuses new entries, which doesn't come.
-fn conflict(holder: Uid) -> ConfirmedReply
-    ensures { result ≡ confirmed.Conflict holder mode.Write }
+// The answer where the store refuses new entries of a top, which doesn't come.
+fn refusal(top: Uid, answer: Prep) -> Option<ConfirmedReply>
+    ensures { result ≡ refusal_by top answer }
 {
-    ConfirmedReply::Conflict {
+    let holder = match answer {
+        Prep::Prepared => return None,
+        Prep::InDoubt { holder, .. } => holder,
+        Prep::Already { .. } => top,
+        Prep::Old { .. } => NOBODY,
+    };
+    Some(ConfirmedReply::Conflict {
         holder,
         mode: Mode::Write,
-    }
+    })
 }

@@ -4,7 +4,7 @@ ghost use Rattle.std.specs.List.Sorted.{IsStrictlySortedBy};
 ghost use Rattle.arj_base.specs.Order.{uid_order};
 ghost use Rattle.arj_base.specs.declared.state.ObjectState.{ObjectState};
 ghost use Rattle.arj_base.specs.declared.uid.Uid.{Uid};
-ghost use Rattle.arj_naming.specs.Found.{by_uid};
+ghost use Rattle.arj_store_law.specs.Found.{by_uid};
 ghost use Rattle.arj_store.specs.Pair.{uid_of};
 
 use arj_base::{ObjectState, States, Uid};

@@ -15,6 +15,7 @@ mod checks;
 mod confirm;
 mod counter;
 mod entries;
+mod format;
 mod found;
 mod lines;
 mod locks;

@@ -6,6 +6,7 @@ ghost use Rattle.arj_disk.specs.Disk.{CountsCall, Same};
 ghost use Rattle.arj_disk.specs.declared.slot.Role.{Role};
 ghost use Rattle.arj_lock.specs.Held.{AreListed};
 ghost use Rattle.arj_naming.specs.Calls.{bind_by, note_by, bound_to, recorded_to};
+ghost use Rattle.arj_naming.specs.Files.{GivesEntries};
 ghost use Rattle.arj_naming.specs.Kept.{StandsOn};
 ghost use Rattle.arj_naming.specs.Said.{said};
 ghost use Rattle.arj_protocol.specs.Naming.{hello, naming_holders};
@@ -94,5 +95,12 @@ impl<O: ObjectStore> Naming<O> {
         ensures counts { CountsCall (counts D.Disk disk.old) (counts D.Disk disk.new) result StoreFault.Stopped }
     {
         self.store.read_committed(alloc, disk, entry_uid(x))
+    }
+    // The states on the disk are of entries. It does nothing when it runs.
+    pub(crate) fn gives_entries<D: Disk>(&self, _disk: &D)
+        requires { StandsOn O.ObjectStore self.now (D.file _disk.now) }
+        ensures { GivesEntries (O.pair (D.file _disk.now) Role.Names) }
+    {
+        self.memory.entries.are_entries();
     }
 }

@@ -5,7 +5,8 @@ ghost use Rattle.arj_disk.specs.Disk.{CountsCall};
 ghost use Rattle.arj_disk.specs.Says.{OnlyOfRole};
 ghost use Rattle.arj_disk.specs.declared.slot.Role.{Role};
 ghost use Rattle.arj_naming.specs.Files.{GivesEntries};
-ghost use Rattle.arj_naming.specs.Found.{pair_found, AreFound};
+ghost use Rattle.arj_naming.specs.Found.{AreFound};
+ghost use Rattle.arj_store_law.specs.Found.{pair_found};
 ghost use Rattle.arj_naming.specs.Kept.{StandsOn};
 ghost use Rattle.arj_naming.specs.Said.{said};
 ghost use Rattle.arj_protocol.specs.Confirm.{recovered_lines, recovered_naming};
@@ -22,7 +23,12 @@ use arj_store::{Found, ObjectStore, StoreFault};
 use std::alloc::{AllocError, Global};
 
 // What is in memory after a recovery that found this.
-fn recovered(alloc: Global, found: &Found, inc: u32, out: &mut Lines) -> Result<Memory, AllocError>
+pub(crate) fn recovered(
+    alloc: Global,
+    found: &Found,
+    inc: u32,
+    out: &mut Lines,
+) -> Result<Memory, AllocError>
     requires { AreFound found.now }
     ensures part { IfOk result (λ memory. memory.part ≡ recovered_naming inc (pair_found found.now)) }
     ensures entries { IfOk result (λ memory. memory.entries ≡ pair_found found.now) }
@@ -50,6 +56,7 @@ impl<O: ObjectStore + Drop> Naming<O> {
         ensures stopped { IsErrOf result StoreFault.Stopped → out.new ≡ out.old }
         ensures pair { SamePair (O.pair (D.file disk.old) Role.Names) (O.pair (D.file disk.new) Role.Names) }
         ensures room { O.room (D.file disk.old) Role.Names ≤ O.room (D.file disk.new) Role.Names }
+        ensures entries { GivesEntries (O.pair (D.file disk.new) Role.Names) }
         ensures formed { O.formed (D.file disk.new) Role.Names }
         ensures others { OnlyOfRole Role.Names (D.file disk.old) (D.file disk.new) }
         ensures counts { CountsCall (counts D.Disk disk.old) (counts D.Disk disk.new) result StoreFault.Stopped }

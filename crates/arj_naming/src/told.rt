@@ -7,6 +7,7 @@ ghost use Rattle.arj_disk.specs.Says.{OnlyOfRole};
 ghost use Rattle.arj_disk.specs.declared.slot.Role.{Role};
 ghost use Rattle.arj_naming.specs.Calls.{told_by};
 ghost use Rattle.arj_naming.specs.Ends.{abort_all};
+ghost use Rattle.arj_naming.specs.Files.{GivesEntries};
 ghost use Rattle.arj_naming.specs.Kept.{HasDone, IsCut, IsDoneInPart, StandsOn};
 ghost use Rattle.arj_naming.specs.Said.{said};
 ghost use Rattle.arj_protocol.specs.Ask.{last_end};
@@ -60,6 +61,7 @@ impl<O: ObjectStore> Naming<O> {
         ensures stopped { IsErrOf result StoreFault.Stopped → IsCut (end_entries action ending.Commit) self.old.pair (O.pair (D.file disk.new) Role.Names) out.old out.new }
         ensures fault { OnErr result (IsDoneInPart (end_entries action ending.Commit) self.old.pair (O.pair (D.file disk.new) Role.Names)) }
         ensures room { O.room (D.file disk.old) Role.Names ≤ O.room (D.file disk.new) Role.Names + 2 }
+        ensures entries { GivesEntries (O.pair (D.file disk.new) Role.Names) }
         ensures formed { O.formed (D.file disk.new) Role.Names }
         ensures others { OnlyOfRole Role.Names (D.file disk.old) (D.file disk.new) }
         ensures counts { CountsCall (counts D.Disk disk.old) (counts D.Disk disk.new) result StoreFault.Stopped }
@@ -84,10 +86,12 @@ impl<O: ObjectStore> Naming<O> {
         ensures stopped { IsErrOf result StoreFault.Stopped → IsCut (end_entries action ending.Abort) self.old.pair (O.pair (D.file disk.new) Role.Names) out.old out.new }
         ensures fault { OnErr result (IsDoneInPart (end_entries action ending.Abort) self.old.pair (O.pair (D.file disk.new) Role.Names)) }
         ensures room { O.room (D.file disk.old) Role.Names ≤ O.room (D.file disk.new) Role.Names }
+        ensures entries { GivesEntries (O.pair (D.file disk.new) Role.Names) }
         ensures formed { O.formed (D.file disk.new) Role.Names }
         ensures others { OnlyOfRole Role.Names (D.file disk.old) (D.file disk.new) }
         ensures counts { CountsCall (counts D.Disk disk.old) (counts D.Disk disk.new) result StoreFault.Stopped }
     {
+        self.memory.entries.are_entries();
         self.store.abort(disk, action)?;
         self.memory.entries.abort(action);
         say_done(action, End::Abort, out)?;
@@ -109,10 +113,12 @@ impl<O: ObjectStore> Naming<O> {
         ensures stopped { IsErrOf result StoreFault.Stopped → IsCut (own_entries action end self.old.pair) self.old.pair (O.pair (D.file disk.new) Role.Names) out.old out.new }
         ensures fault { OnErr result (IsDoneInPart (own_entries action end self.old.pair) self.old.pair (O.pair (D.file disk.new) Role.Names)) }
         ensures room { O.room (D.file disk.old) Role.Names ≤ O.room (D.file disk.new) Role.Names + 2 }
+        ensures entries { GivesEntries (O.pair (D.file disk.new) Role.Names) }
         ensures formed { O.formed (D.file disk.new) Role.Names }
         ensures others { OnlyOfRole Role.Names (D.file disk.old) (D.file disk.new) }
         ensures counts { CountsCall (counts D.Disk disk.old) (counts D.Disk disk.new) result StoreFault.Stopped }
     {
+        self.gives_entries(disk);
         if !self.memory.entries.is_prepared(action) {
             return Ok(());
         }
@@ -135,10 +141,12 @@ impl<O: ObjectStore> Naming<O> {
         ensures stopped { IsErrOf result StoreFault.Stopped → IsCut (abort_all actions.now) self.old.pair (O.pair (D.file disk.new) Role.Names) out.old out.new }
         ensures fault { OnErr result (IsDoneInPart (abort_all actions.now) self.old.pair (O.pair (D.file disk.new) Role.Names)) }
         ensures room { O.room (D.file disk.old) Role.Names ≤ O.room (D.file disk.new) Role.Names }
+        ensures entries { GivesEntries (O.pair (D.file disk.new) Role.Names) }
         ensures formed { O.formed (D.file disk.new) Role.Names }
         ensures others { OnlyOfRole Role.Names (D.file disk.old) (D.file disk.new) }
         ensures counts { CountsCall (counts D.Disk disk.old) (counts D.Disk disk.new) result StoreFault.Stopped }
     {
+        self.gives_entries(disk);
         for action in actions {
             match self.abort_entries(disk, *action, out) {
                 Ok(()) => {}
@@ -163,10 +171,12 @@ impl<O: ObjectStore> Naming<O> {
         ensures stopped { IsErrOf result StoreFault.Stopped → IsCut (told action end self.old.pair self.old.part).outs self.old.pair (O.pair (D.file disk.new) Role.Names) out.old out.new }
         ensures fault { OnErr result (IsDoneInPart (told action end self.old.pair self.old.part).outs self.old.pair (O.pair (D.file disk.new) Role.Names)) }
         ensures room { O.room (D.file disk.old) Role.Names ≤ O.room (D.file disk.new) Role.Names + 2 }
+        ensures entries { GivesEntries (O.pair (D.file disk.new) Role.Names) }
         ensures formed { O.formed (D.file disk.new) Role.Names }
         ensures others { OnlyOfRole Role.Names (D.file disk.old) (D.file disk.new) }
         ensures counts { CountsCall (counts D.Disk disk.old) (counts D.Disk disk.new) result StoreFault.Stopped }
     {
+        self.gives_entries(disk);
         let plan = self.memory.plan(action, end)?;
         self.end_own(disk, action, end, out)?;
         match self.abort_all(disk, plan.orphans.as_slice(), out) {
@@ -192,10 +202,12 @@ impl<O: ObjectStore> Naming<O> {
         ensures stopped { IsErrOf result StoreFault.Stopped → IsCut (told_by m.now self.old.pair self.old.part).outs self.old.pair (O.pair (D.file disk.new) Role.Names) out.old out.new }
         ensures fault { OnErr result (IsDoneInPart (told_by m.now self.old.pair self.old.part).outs self.old.pair (O.pair (D.file disk.new) Role.Names)) }
         ensures room { O.room (D.file disk.old) Role.Names ≤ O.room (D.file disk.new) Role.Names + 2 }
+        ensures entries { GivesEntries (O.pair (D.file disk.new) Role.Names) }
         ensures formed { O.formed (D.file disk.new) Role.Names }
         ensures others { OnlyOfRole Role.Names (D.file disk.old) (D.file disk.new) }
         ensures counts { CountsCall (counts D.Disk disk.old) (counts D.Disk disk.new) result StoreFault.Stopped }
     {
+        self.gives_entries(disk);
         match last_of(m.ends.as_slice()) {
             Some((action, end)) => self.told_one(disk, action, end, out),
             None => Ok(()),

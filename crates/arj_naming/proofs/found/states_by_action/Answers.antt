@@ -2,7 +2,7 @@ use Rattle.std.proofs.Common.{◌∙◌, ◌∷◌, ◌++◌, ◌+◌, ap, sym, 
 use Rattle.std.proofs.lemmas.List.{drop_more}
 use Rattle.arj_base.specs.Order.{uid_order}
 use Rattle.arj_naming.proofs.Appended.{entry_goes}
-use Rattle.arj_naming.proofs.Keys.{total}
+use Rattle.arj_store_law.proofs.Keys.{total}
 use Rattle.arj_naming.proofs.found.states_by_action.Goals as goal
 
 pub loop-action-preserved : goal.loop-action-preserved

@@ -3,7 +3,7 @@ use Rattle.std.specs.List.{AllByRecursion}
 use Rattle.arj_base.specs.declared.state.ObjectState.{ObjectState}
 use Rattle.arj_base.specs.declared.uid.Uid.{Uid}
 use Rattle.arj_naming.specs.Entries.{AreOfEntries, IsEntryState}
-use Rattle.arj_naming.specs.Found.{by_uid}
+use Rattle.arj_store_law.specs.Found.{by_uid}
 use Rattle.arj_naming.proofs.Recovered.{each_by_uid}
 use Rattle.arj_naming.proofs.entries.Entries.of_found.Goals as goal
 

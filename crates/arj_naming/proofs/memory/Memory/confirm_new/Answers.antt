@@ -1,13 +1,14 @@
-use Rattle.std.proofs.Common.{◌∙◌, ◌==◌, ℕ, length, map, sym, ap, subst}
+use Rattle.std.proofs.Common.{◌∙◌, ◌==◌, length, sym, ap, subst}
 use Rattle.arj_naming.specs.Entries.{IsOnce}
-use Rattle.arj_naming.proofs.Confirms.{once_filter, answered, ready, not_none, none_left}
-use Rattle.arj_protocol.specs.Confirm.{wants_lock, wanted, confirms}
+use Rattle.arj_naming.proofs.Confirms.{answered, ready, not_none, none_left}
+use Rattle.arj_naming.proofs.Marked.{entries_once, wanted_once}
+use Rattle.arj_protocol.specs.Confirm.{wanted, confirms}
 use Rattle.arj_naming.proofs.memory.Memory.confirm_new.Goals as goal
 
 pub lock_all-requires-clause-once : goal.lock_all-requires-clause-once
 lock_all-requires-clause-once c =
     subst IsOnce (sym (c.as_slice-5.ensures.value ∙ (c.in_ok-wanted.ensures ∙ (λ i. wanted c.args.top (c.as_slice.ensures i) (c.as_slice-2.ensures i) c.args.self.now.entries))))
-    (once_filter (wants_lock c.args.top c.args.m.now.excluded c.args.self.now.entries) (map (λ (g : ℕ × ℕ). g.0) c.args.m.now.objects) c.requires.single.once)
+    (wanted_once c.args.top c.args.m.now.excluded c.args.m.now.included c.args.self.now.entries c.args.m.now.objects c.requires.single.once)
 
 pub returns-then-is_empty-clause-ready : goal.returns-then-is_empty-clause-ready
 returns-then-is_empty-clause-ready c =
@@ -23,4 +24,4 @@ returns-clause-ready c =
     let xs_are = c.as_slice-5.ensures.value ∙ (c.in_ok-wanted.ensures ∙ (λ i. wanted c.args.top (c.as_slice.ensures i) (c.as_slice-2.ensures i) c.args.self.now.entries)) in
     ready m.head.path c.args.top m.objects m.excluded m.included c.args.self.now.entries c.args.self.now.part c.requires.top c.as_slice-5.result.now xs_are c.args.states c.requires.states (sym c.refused.ensures ∙ c.in_default.is)
     c.args.out.now c.lock_all.new.out c.lock_all.new.self (not_none c.args.states (sym (c.is_empty.ensures ∙ ap (λ ss. length ss == 0) c.as_slice-6.ensures) ∙ c.if-is_empty.false))
-    c.requires.first c.requires.new c.requires.single.once c.requires.single.few c.in_ok-lock_all.ensures.part c.in_ok-lock_all.ensures.lines
+    c.requires.first c.requires.new (entries_once c.args.top m.excluded m.included c.args.self.now.entries m.objects c.requires.single.once) c.requires.single.few c.in_ok-lock_all.ensures.part c.in_ok-lock_all.ensures.lines

@@ -23,6 +23,7 @@ loop-action-preserved g c = record {
     pair = one_pair c.args.actions.now c.loop-action.action-index c.loop-action-test.true c.args.self.now.pair c.loop-action.self.pair c.args.out.now c.loop-action.out c.loop-action.invariant.done.pair
         c.loop-action.invariant.done.lines c.abort_entries.new.self.pair c.in-Ok.ensures.done.pair;
   };
+  entries = c.in-Ok.ensures.entries;
   room = omega (arith, c.loop-action.invariant.room, c.in-Ok.ensures.room);
   others = λ q other apart. c.in-Ok.ensures.others q other apart ∙ c.loop-action.invariant.others q other apart;
   stops = c.in-Ok.ensures.counts.stops.ok ∙ c.loop-action.invariant.stops;

@@ -1,13 +1,15 @@
-use Rattle.std.proofs.Common.{◌∙◌, ap, sym, subst}
+use Rattle.std.proofs.Common.{◌∙◌, ap, inr, sym, subst}
 use Rattle.arj_disk.specs.declared.slot.Role.{Role}
 use Rattle.arj_disk.specs.declared.slot.Role.TheVariants.{Names}
-use Rattle.arj_naming.specs.Files.{IsPairOf}
+use Rattle.arj_store_law.specs.Files.{IsPairOf}
 use Rattle.arj_naming.proofs.Cuts.{part_all}
 use Rattle.arj_naming.proofs.Store.{on_err, cut_part, abort_cut, dropped}
 use Rattle.arj_protocol.specs.Effect.{pair_aborted}
 use Rattle.arj_protocol.specs.Naming.{end_entries}
 use Rattle.arj_protocol.specs.Words.ending
 use Rattle.arj_store.specs.Pair as files
+use Rattle.arj_naming.specs.Entries.{AreEntries}
+use Rattle.arj_naming.proofs.Gives.{abort_gives}
 use Rattle.arj_naming.proofs.naming.Naming.abort_entries.Goals as goal
 
 pub returns-in_err-abort-clause-stopped : goal.returns-in_err-abort-clause-stopped
@@ -41,3 +43,21 @@ returns-clause-stands g c =
       pair = subst (IsPairOf (Q Names)) (sym (c.abort-2.ensures ∙ ap (λ k. pair_aborted c.args.action k.pair) c.self.view_is))
           (dropped P Q (g.O.ObjectStore.own_role c.self.inside.store) (ap (λ k. g.O.ObjectStore.own_role k.store) c.self.view_is ∙ c.requires.stands.role_is) c.args.self.now.pair c.requires.stands.pair c.args.action c.in_ok-abort.ensures.dropped);
     }
+
+pub returns-in_err-abort-clause-entries : goal.returns-in_err-abort-clause-entries
+returns-in_err-abort-clause-entries g c =
+    let P : Role → files.Pair = λ r. g.O.ObjectStore.pair (g.D.Disk.file c.args.disk.now) r in
+    let Q : Role → files.Pair = λ r. g.O.ObjectStore.pair (g.D.Disk.file c.abort.new.disk) r in
+    abort_gives P Q (g.O.ObjectStore.own_role c.self.inside.store) (ap (λ k. g.O.ObjectStore.own_role k.store) c.self.view_is ∙ c.requires.stands.role_is) c.args.self.now.pair c.requires.stands.pair (subst (λ k. AreEntries k.pair) c.self.view_is c.are_entries.ensures) c.args.action c.in_err-abort.ensures.fault
+
+pub returns-in_err-say_done-clause-entries : goal.returns-in_err-say_done-clause-entries
+returns-in_err-say_done-clause-entries g c =
+    let P : Role → files.Pair = λ r. g.O.ObjectStore.pair (g.D.Disk.file c.args.disk.now) r in
+    let Q : Role → files.Pair = λ r. g.O.ObjectStore.pair (g.D.Disk.file c.abort.new.disk) r in
+    abort_gives P Q (g.O.ObjectStore.own_role c.self.inside.store) (ap (λ k. g.O.ObjectStore.own_role k.store) c.self.view_is ∙ c.requires.stands.role_is) c.args.self.now.pair c.requires.stands.pair (subst (λ k. AreEntries k.pair) c.self.view_is c.are_entries.ensures) c.args.action (inr c.in_ok-abort.ensures.dropped)
+
+pub returns-clause-entries : goal.returns-clause-entries
+returns-clause-entries g c =
+    let P : Role → files.Pair = λ r. g.O.ObjectStore.pair (g.D.Disk.file c.args.disk.now) r in
+    let Q : Role → files.Pair = λ r. g.O.ObjectStore.pair (g.D.Disk.file c.abort.new.disk) r in
+    abort_gives P Q (g.O.ObjectStore.own_role c.self.inside.store) (ap (λ k. g.O.ObjectStore.own_role k.store) c.self.view_is ∙ c.requires.stands.role_is) c.args.self.now.pair c.requires.stands.pair (subst (λ k. AreEntries k.pair) c.self.view_is c.are_entries.ensures) c.args.action (inr c.in_ok-abort.ensures.dropped)

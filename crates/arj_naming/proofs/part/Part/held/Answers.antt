@@ -8,7 +8,7 @@ use Rattle.arj_lock.specs.Held.{AreListed}
 use Rattle.arj_protocol.specs.Named.{Named}
 use Rattle.arj_protocol.specs.Naming.{naming_holders}
 use Rattle.arj_protocol.specs.Server.{row_top}
-use Rattle.arj_naming.proofs.Keys.{or_three}
+use Rattle.arj_store_law.proofs.Keys.{or_three}
 use Rattle.arj_naming.proofs.Listed.{on_append, on_listed, listed_by, or_nothing}
 use Rattle.arj_naming.proofs.part.Part.held.Goals as goal
 

@@ -4,7 +4,7 @@ use Rattle.arj_base.specs.Rows.{is_on}
 use Rattle.arj_lock.specs.Held.{below}
 use Rattle.arj_protocol.specs.Named.{Named}
 use Rattle.arj_protocol.specs.Naming.{loses}
-use Rattle.arj_naming.proofs.Keys.{or_three}
+use Rattle.arj_store_law.proofs.Keys.{or_three}
 use Rattle.arj_naming.proofs.Listed.{on_below, on_listed}
 use Rattle.arj_naming.proofs.part.Part.losers.Goals as goal
 

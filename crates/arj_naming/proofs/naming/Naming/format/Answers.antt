@@ -1,0 +1,75 @@
+use Rattle.std.proofs.Common.{◌≡◌, ◌∙◌, ap, refl, subst, sym, Some}
+use Rattle.std.specs.List.{AllByRecursion}
+use Rattle.arj_disk.specs.declared.slot.Role.TheVariants.{Names}
+use Rattle.arj_entry.specs.Entry.{EntryInForm}
+use Rattle.arj_journal.specs.declared.header.ObjectLine.{ObjectLine}
+use Rattle.arj_naming.proofs.First.{first_found, firsts, header_all, header_distinct, header_few, header_pair, header_rises, header_saves, header_sizes, only_pair}
+use Rattle.arj_naming.proofs.Gives.{gives_entries}
+use Rattle.arj_naming.proofs.Recovered.{each_by_uid}
+use Rattle.arj_protocol.specs.Confirm.{recovered_naming}
+use Rattle.arj_protocol.specs.Step.{first_disk}
+use Rattle.arj_store.specs.declared.answer.Found.{Found}
+use Rattle.arj_store_law.specs.Files.{IsPairOf}
+use Rattle.arj_store_law.specs.Found.{by_uid, pair_found}
+use Rattle.arj_naming.proofs.naming.Naming.format.Goals as goal
+
+pub first_entries-requires : goal.first_entries-requires
+first_entries-requires g c = subst (AllByRecursion (λ (o : ObjectLine). EntryInForm (record { servers = o.servers; stores = o.stores }))) (sym c.as_slice.ensures) (header_saves c.args.header.now c.requires.header (firsts c.args.header.now.objects) refl)
+
+pub format-requires-clause-states : goal.format-requires-clause-states
+format-requires-clause-states g c = header_distinct c.args.header.now c.requires.header c.in_ok-states.states (c.in_ok-states.ensures ∙ ap firsts c.as_slice.ensures)
+
+pub format-requires-clause-count : goal.format-requires-clause-count
+format-requires-clause-count g c = header_few c.args.header.now c.requires.header c.in_ok-states.states (c.in_ok-states.ensures ∙ ap firsts c.as_slice.ensures)
+
+pub format-requires-clause-sizes : goal.format-requires-clause-sizes
+format-requires-clause-sizes g c = header_sizes c.args.header.now c.requires.header c.in_ok-states.states (c.in_ok-states.ensures ∙ ap firsts c.as_slice.ensures)
+
+pub recovered-requires : goal.recovered-requires
+recovered-requires g c =
+    let hd = c.args.header.now in
+    let ss = c.in_ok-states.states in
+    let are : ss ≡ firsts hd.objects = c.in_ok-states.ensures ∙ ap firsts c.as_slice.ensures in
+    let f : Found = record { committed = ss; prepared = c.new.result } in
+    first_found f (header_all hd c.requires.header ss are) (header_rises hd c.requires.header ss are) c.new.ensures
+
+pub returns-clause-stands : goal.returns-clause-stands
+returns-clause-stands g c =
+    let hd = c.args.header.now in
+    let ss = c.in_ok-states.states in
+    let are : ss ≡ firsts hd.objects = c.in_ok-states.ensures ∙ ap firsts c.as_slice.ensures in
+    let f : Found = record { committed = ss; prepared = c.new.result } in
+    let q = g.O.ObjectStore.pair (g.D.Disk.file c.format.new.disk) Names in
+    record {
+      role_is = c.in_ok-store.ensures.role;
+      keeps = c.in_ok-store.ensures.keeps;
+      formed = c.in_ok-store.ensures.formed;
+      pair = subst (IsPairOf q) (sym c.in_ok-memory.ensures.entries) (only_pair f (header_all hd c.requires.header ss are) (header_rises hd c.requires.header ss are) c.new.ensures q c.in_ok-store.ensures.pair);
+    }
+
+pub returns-clause-pair : goal.returns-clause-pair
+returns-clause-pair g c =
+    let hd = c.args.header.now in
+    let ss = c.in_ok-states.states in
+    let are : ss ≡ firsts hd.objects = c.in_ok-states.ensures ∙ ap firsts c.as_slice.ensures in
+    let f : Found = record { committed = ss; prepared = c.new.result } in
+    let pair : pair_found f ≡ (first_disk hd 1).names = (λ i. record { held = by_uid ss; pend = c.new.ensures i }) ∙ header_pair hd c.requires.header ss are in
+    c.in_ok-memory.ensures.entries ∙ pair
+
+pub returns-clause-part : goal.returns-clause-part
+returns-clause-part g c =
+    let hd = c.args.header.now in
+    let ss = c.in_ok-states.states in
+    let are : ss ≡ firsts hd.objects = c.in_ok-states.ensures ∙ ap firsts c.as_slice.ensures in
+    let f : Found = record { committed = ss; prepared = c.new.result } in
+    let pair : pair_found f ≡ (first_disk hd 1).names = (λ i. record { held = by_uid ss; pend = c.new.ensures i }) ∙ header_pair hd c.requires.header ss are in
+    ap Some (c.in_ok-memory.ensures.part ∙ ap (recovered_naming 1) pair)
+
+pub returns-clause-entries : goal.returns-clause-entries
+returns-clause-entries g c =
+    let hd = c.args.header.now in
+    let ss = c.in_ok-states.states in
+    let are : ss ≡ firsts hd.objects = c.in_ok-states.ensures ∙ ap firsts c.as_slice.ensures in
+    let f : Found = record { committed = ss; prepared = c.new.result } in
+    let q = g.O.ObjectStore.pair (g.D.Disk.file c.format.new.disk) Names in
+    gives_entries q (pair_found f) (only_pair f (header_all hd c.requires.header ss are) (header_rises hd c.requires.header ss are) c.new.ensures q c.in_ok-store.ensures.pair) (record { held = each_by_uid ss (header_all hd c.requires.header ss are); pend = (first_found f (header_all hd c.requires.header ss are) (header_rises hd c.requires.header ss are) c.new.ensures).prepared })
