@@ -1,13 +1,11 @@
 -- Goals, steps and ends of calls as the protocol has them.
 use Rattle.std.specs.Prelude.{◌+◌, get_or, drop}
 use Rattle.arj_protocol.specs.Call as call
-use Rattle.arj_protocol.specs.Coord as coord
 use Rattle.arj_protocol.specs.Ask as ask
 use Rattle.arj_bind.specs.declared.at.At.{At}
 use Rattle.arj_bind.specs.declared.at.At.TheVariants as at
 use Rattle.arj_bind.specs.declared.goal.CallEnd.{CallEnd}
 use Rattle.arj_bind.specs.declared.goal.CallEnd.TheVariants as end
-use Rattle.arj_bind.specs.declared.grant.Grant.{Grant}
 use Rattle.arj_bind.specs.declared.goal.Goal.{Goal}
 use Rattle.arj_bind.specs.declared.goal.Goal.TheVariants as goal
 use Rattle.arj_bind.specs.declared.moved.Moved.{Moved}
@@ -45,10 +43,6 @@ next_of (next.Ended e) = call.Ended (end_of e)
 -- what follows with what is kept
 abbrev pub moved_of : Moved → call.Moved
 moved_of m = record { step = next_of m.next; kept = m.kept }
-
--- a grant
-abbrev pub grant_of : Grant → coord.Grant
-grant_of g = record { top = g.top; x = g.x; least = g.least; named = g.named }
 
 -- an answer
 abbrev pub reply_of : Reply → ask.Reply

@@ -38,6 +38,16 @@ impl Goal {
         matches!(self, Goal::Include(_))
     }
 
+    /// The same again, in other memory.
+    pub fn copy(&self) -> Result<Goal, AllocError>
+        ensures { IfOk result (λ copied. copied ≡ self.now) }
+    {
+        Ok(match self {
+            Goal::Call(op) => Goal::Call(copy_op(op)?),
+            Goal::Include(store) => Goal::Include(*store),
+        })
+    }
+
     // The operation again, in other memory. An include has none; it never comes to an Invoke.
     pub(crate) fn operation(&self) -> Result<Op, AllocError>
         ensures { IfOk result (λ op. op ≡ invoked_op (goal_of self.now)) }

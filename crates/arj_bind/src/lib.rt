@@ -27,7 +27,7 @@ mod transition;
 pub use goal::{CallEnd, Goal};
 pub use grant::Grant;
 pub use keeping::Keeping;
-pub use known::Known;
+pub use known::{Known, copy_state};
 pub use laws::calls_go_in_order;
 pub use step::{CallStep, Unanswered};
 pub use steps::CallSteps;

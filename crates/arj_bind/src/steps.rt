@@ -1,10 +1,13 @@
 // The steps of a call or an include, of which one request waits.
-ghost use Rattle.std.specs.Prelude.{◌≡◌, IfOk, IfErr, OnOk, OnErr, is_some, option_map, option_copied};
+ghost use Rattle.std.specs.Prelude.{◌≡◌, List, IfOk, IfErr, OnOk, OnErr, is_some, option_copied};
+ghost use Rattle.arj_base.specs.declared.mode.End.{End};
+ghost use Rattle.arj_base.specs.declared.uid.Uid.{Uid};
 ghost use Rattle.arj_msg.specs.Ask.{request};
 ghost use Rattle.arj_protocol.specs.Ask.{answers, top_of};
+ghost use Rattle.arj_protocol.specs.Asking.{is_invoke_ask};
 ghost use Rattle.arj_protocol.specs.Call.{start, next_ask, next_node, ask_at};
 ghost use Rattle.arj_protocol.specs.Call as call;
-ghost use Rattle.arj_bind.specs.Shown.{goal_of, at_of, next_of, grant_of};
+ghost use Rattle.arj_bind.specs.Shown.{goal_of, at_of, next_of};
 ghost use Rattle.arj_bind.specs.Heard.{known_in, stores_in, heard_in, hears, gives_up, came_of, came_by, granted_in, is_awaited};
 
 use crate::at::{At, BindStep, InvokeStep};
@@ -78,6 +81,48 @@ impl CallSteps {
             self.at.node(),
             request(head, self.x, &self.goal, ends, &self.at)?,
         ))
+    }
+
+    /// The path of the action that calls.
+    pub fn path(&self) -> &Path
+        ensures { result.now ≡ self.now.path }
+    {
+        &self.path
+    }
+
+    /// The object.
+    pub fn object(&self) -> u16
+        ensures { result ≡ self.now.x }
+    {
+        self.x
+    }
+
+    /// What the steps are for.
+    pub fn goal(&self) -> &Goal
+        ensures { goal_of result.now ≡ self.now.goal }
+    {
+        &self.goal
+    }
+
+    /// The number of the request that waits.
+    pub fn request_number(&self) -> u32
+        ensures { result ≡ self.now.req }
+    {
+        self.req
+    }
+
+    /// The node whose answer is awaited.
+    pub fn node(&self) -> u8
+        ensures { result ≡ next_node self.now }
+    {
+        self.at.node()
+    }
+
+    /// Whether the request that waits is the Invoke.
+    pub fn invokes(&self) -> bool
+        ensures { (ends : List (Uid × End)) → result ≡ is_invoke_ask (next_ask ends self.now) }
+    {
+        self.at.invokes()
     }
 
     /// What the answer to the Bind told; None before it.
@@ -160,7 +205,7 @@ impl CallSteps {
 
     /// The lock on the entry that an answer of naming grants to the top; None for all other messages.
     pub fn granted(&self, message: &Message) -> Option<Grant>
-        ensures { option_map grant_of result ≡ granted_in (top_of self.now.path) self.now.x (answers message.now) }
+        ensures { result ≡ granted_in (top_of self.now.path) self.now.x (answers message.now) }
     {
         let Message::Bound(bound) = message else {
             return None;

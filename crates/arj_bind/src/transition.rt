@@ -1,7 +1,10 @@
 // What each step makes of the answer of its kind, and of a giveup.
-ghost use Rattle.std.specs.Prelude.{◌≡◌, ℕ, IfSome, option_map, option_copied, false};
+ghost use Rattle.std.specs.Prelude.{◌≡◌, ℕ, List, IfSome, option_map, option_copied, false};
+ghost use Rattle.arj_base.specs.declared.mode.End.{End};
+ghost use Rattle.arj_base.specs.declared.uid.Uid.{Uid};
 ghost use Rattle.arj_protocol.specs.Ask.{answers};
-ghost use Rattle.arj_protocol.specs.Call.{Ended, Lost, Conflict, Changed, or_lost, made_by, load_from, bound_answer, loaded_state, loaded_answer, activated_by, recorded_answer, invoked_answer, answered, given_up, spoils, node_at};
+ghost use Rattle.arj_protocol.specs.Asking.{is_invoke_ask};
+ghost use Rattle.arj_protocol.specs.Call.{Ended, Lost, Conflict, Changed, or_lost, made_by, load_from, bound_answer, loaded_state, loaded_answer, activated_by, recorded_answer, invoked_answer, answered, given_up, spoils, node_at, ask_at};
 ghost use Rattle.arj_protocol.specs.Call as call;
 ghost use Rattle.arj_bind.specs.Shown.{at_of, end_of, goal_of, moved_of, next_of, reply_of};
 ghost use Rattle.arj_bind.specs.declared.at.At.TheVariants as at;
@@ -313,6 +316,13 @@ impl At {
         ensures { result ≡ spoils (at_of self.now) }
     {
         matches!(self, At::Activate(_) | At::Record(_) | At::Invoke(_))
+    }
+
+    /// Whether it is the Invoke.
+    pub fn invokes(&self) -> bool
+        ensures { (x : ℕ) (g : call.Goal) (ends : List (Uid × End)) → result ≡ is_invoke_ask (ask_at x g ends (at_of self.now)) }
+    {
+        matches!(self, At::Invoke(_))
     }
 
     /// What the answer to the bind told, None while it is awaited.

@@ -30,12 +30,8 @@ if_some : (b : Bool) (o : Option ObjectState) (x : ℕ) → IfSome o (IsOf x) �
 if_some true o x is = is
 if_some false o x is = tt
 
-loaded_is : (o : Option ObjectState) (x : ℕ) → IfSome o (λ s. s.uid ≡ object x) → IfSome o (IsOf x)
-loaded_is None x is = tt
-loaded_is (Some s) x is = ap (λ u. u.num) is
-
 sent_is : (s : ℕ) (u : Used) (o : Option ObjectState) → UsedFits u → IfSome o (IsOf u.x) → IfSome (state_by s u o) (IsOf u.x)
-sent_is s u None fits is = if_some (has u.joins s) u.loaded u.x (loaded_is u.loaded u.x fits.loaded)
+sent_is s u None fits is = if_some (has u.joins s) u.loaded u.x fits.loaded
 sent_is s u (Some t) fits is = if_some (has u.stores s || has u.joins s) (Some t) u.x is
 
 -- a mark of a store for a state

@@ -80,15 +80,23 @@ unfolding IsStrictlySortedBy
 sorted_set [] = tt
 sorted_set (n ∷ ns) = sorted_with n (number_set ns) (sorted_set ns)
 
-below : (ns : List ℕ) → AllByRecursion IsNode ns → AllByRecursion (λ n. n < 17) ns
+-- a node or none: 0 to 16
+abbrev IsAtMost : ℕ → Type 0
+IsAtMost n = n ≤ 16
+
+most : (ns : List ℕ) → AllByRecursion IsNode ns → AllByRecursion IsAtMost ns
+most [] all = tt
+most (n ∷ ns) all = (all.0.1, most ns all.1)
+
+below : (ns : List ℕ) → AllByRecursion IsAtMost ns → AllByRecursion (λ n. n < 17) ns
 below [] all = tt
-below (n ∷ ns) all = (omega (arith, all.0.1), below ns all.1)
+below (n ∷ ns) all = (omega (arith, all.0), below ns all.1)
 
 -- a set of nodes can be a record's
-pub in_form : (ns : List ℕ) → AllByRecursion IsNode ns → AreInForm (number_set ns)
+pub in_form : (ns : List ℕ) → AllByRecursion IsAtMost ns → AreInForm (number_set ns)
 in_form ns all =
     let set = number_set ns in
-    let few : length set ≤ 17 = length-le_from_below 17 set (sorted_set ns) (All-from_recursion (λ n. n < 17) set (below set (all_set IsNode ns all))) in
+    let few : length set ≤ 17 = length-le_from_below 17 set (sorted_set ns) (All-from_recursion (λ n. n < 17) set (below set (all_set IsAtMost ns all))) in
     record { increasing = sorted_set ns; few = omega (arith, few) }
 
 -- ---- the nodes of a plan
@@ -105,22 +113,22 @@ targets_are p (u ∷ us) all =
 pub targets_nodes : (p : Plan) → PlanFits p → AllByRecursion IsNode (targets_of p)
 targets_nodes p fits = all_set IsNode (flat_map (λ u. stores_by u (changed_of u.x p)) p.used) (targets_are p p.used fits.used)
 
-servers_are : (us : List Used) → AllByRecursion UsedFits us → AllByRecursion IsNode (map (λ (u : Used). u.server) (filter (λ (u : Used). u.called) us))
+servers_are : (us : List Used) → AllByRecursion UsedFits us → AllByRecursion IsAtMost (map (λ (u : Used). u.server) (filter (λ (u : Used). u.called) us))
 servers_are [] all = tt
-servers_are (u ∷ us) all = by u.called refl (servers_are us all.1)
+servers_are (u ∷ us) all = by u.called (servers_are us all.1)
   where
-    by : (b : Bool) → u.called ≡ b → AllByRecursion IsNode (map (λ (w : Used). w.server) (filter (λ (w : Used). w.called) us))
-        → AllByRecursion IsNode (map (λ (w : Used). w.server) (if b then u ∷ filter (λ (w : Used). w.called) us else filter (λ (w : Used). w.called) us))
-    by true is rest = (all.0.server is, rest)
-    by false is rest = rest
+    by : (b : Bool) → AllByRecursion IsAtMost (map (λ (w : Used). w.server) (filter (λ (w : Used). w.called) us))
+        → AllByRecursion IsAtMost (map (λ (w : Used). w.server) (if b then u ∷ filter (λ (w : Used). w.called) us else filter (λ (w : Used). w.called) us))
+    by true rest = (all.0.server, rest)
+    by false rest = rest
 
-naming_is : (b : Bool) → AllByRecursion IsNode (if b then 1 ∷ [] else [])
-naming_is true = ((omega arith, omega arith), tt)
+naming_is : (b : Bool) → AllByRecursion IsAtMost (if b then 1 ∷ [] else [])
+naming_is true = (omega arith, tt)
 naming_is false = tt
 
 -- the participants of a plan can be a record's
 pub participants_in_form : (p : Plan) → PlanFits p → AreInForm (participants p)
 participants_in_form p fits =
-    let servers = all_set IsNode (map (λ (u : Used). u.server) (filter (λ (u : Used). u.called) p.used)) (servers_are p.used fits.used) in
+    let servers = all_set IsAtMost (map (λ (u : Used). u.server) (filter (λ (u : Used). u.called) p.used)) (servers_are p.used fits.used) in
     in_form (servers_of p ++ p.prepared ++ naming_node p)
-    (all_append IsNode (servers_of p ++ p.prepared) (naming_node p) (all_append IsNode (servers_of p) p.prepared servers fits.prepared) (naming_is p.confirmed))
+    (all_append IsAtMost (servers_of p ++ p.prepared) (naming_node p) (all_append IsAtMost (servers_of p) p.prepared servers (most p.prepared fits.prepared)) (naming_is p.confirmed))

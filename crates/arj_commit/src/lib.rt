@@ -28,6 +28,7 @@ mod tolds;
 mod voting;
 mod whom;
 
+pub use answer::differs;
 pub use confirming::Confirming;
 pub use laws::commits_keep_the_order;
 pub use limits::{LAST_START, NAMING};

@@ -1,12 +1,14 @@
 // What a commit is about, and what it has heard.
 ghost use Rattle.std.specs.Prelude.{◌≡◌, ◌+◌, ◌≤◌, true, IfOk, IfErr};
+ghost use Rattle.arj_protocol.specs.Commit.{included_of};
 ghost use Rattle.arj_commit.specs.Plans.{with_changed};
 ghost use Rattle.arj_commit.specs.declared.limits.TheConstants.{LAST_START};
 
+use crate::marks::included;
 use crate::states::put_states;
 use arj_base::{Binding, Ends, NodeList, ObjectState, Path, Seq, States};
 use arj_msg::Marks;
-use std::alloc::{AllocFailed, Global};
+use std::alloc::{AllocError, AllocFailed, Global};
 use std::marker::Model;
 use std::mem;
 
@@ -63,6 +65,13 @@ impl Model for Plan {
 }
 
 impl Plan {
+    /// The includes that survive in the top, as objects and stores, without those that are marked for exclusion.
+    pub fn included(&self, alloc: Global) -> Result<Marks, AllocError>
+        ensures { IfOk result (λ marks. marks ≡ included_of self.now) }
+    {
+        included(alloc, self.excluded.as_slice(), self.used.as_slice())
+    }
+
     /// The plan with states that changed besides. Where there is no memory for it, the plan comes back as it was.
     pub(crate) fn with_changed(
         mut self,
