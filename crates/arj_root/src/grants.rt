@@ -1,62 +1,17 @@
 // The locks that tops were granted on entries.
 ghost use Rattle.std.specs.Prelude.{◌≡◌, ◌<◌, length, IfSome, Some, None, option_copied, slice_get, [], ◌&&◌, ◌==◌, OnOk, OnErr};
 ghost use Rattle.std.specs.List.{list_any};
-ghost use Rattle.arj_protocol.specs.Asking.{is_named, was_named};
+ghost use Rattle.arj_protocol.specs.Asking.{was_named};
 ghost use Rattle.arj_protocol.specs.Coord as coord;
-ghost use Rattle.arj_protocol.specs.Order.{binding_number};
 ghost use Rattle.arj_root.specs.Merged.{of_grants, place_of, regranted};
 ghost use Rattle.arj_base.specs.Uid.{uid_eq};
 ghost use Rattle.arj_root.specs.Placed.{any_named_at, names_at};
 
 use crate::places::Places;
 use arj_base::{Binding, Uid};
+use arj_bind::Grant;
 use std::alloc::{AllocError, Global};
 use std::marker::Model;
-
-/// The locks that a top was granted on an entry: the least naming incarnation of all grants, and the binding that the last
-/// answer to a call named.
-#[derive(Drop)]
-pub struct Grant {
-    pub top: Uid,
-    pub x: u16,
-    pub least: u32,
-    pub named: Option<Binding>,
-}
-
-impl Model for Grant {
-    ghost use Rattle.arj_protocol.specs.Coord as coord;
-
-    ghost Value = { coord.Grant };
-
-    ghost view = { λ g. record { top = g.top; x = g.x; least = g.least; named = g.named } };
-}
-
-impl Grant {
-    // Whether it is of this top and object.
-    fn is_of(&self, top: Uid, x: u16) -> bool
-        ensures { result ≡ coord.is_grant_of top x self.now }
-    {
-        self.top == top && self.x == x
-    }
-
-    // Whether the last answer named this binding.
-    fn names(&self, binding: Binding) -> bool
-        ensures { result ≡ is_named binding self.now.named }
-    {
-        match self.named {
-            Some(named) => number(binding) == number(named),
-            None => false,
-        }
-    }
-
-    // Takes up what was granted once more.
-    fn take(&mut self, least: u32, named: Option<Binding>)
-        ensures { (g : coord.Grant) → g.named ≡ named → self.new ≡ regranted least g self.old }
-    {
-        self.least = self.least.min(least);
-        self.named = named.or(self.named);
-    }
-}
 
 /// The grants, one of each top and object, in order. Contracts see the protocol's list.
 #[derive(Drop)]
@@ -181,11 +136,4 @@ fn names(grant: Option<&Grant>, binding: Binding) -> bool
         Some(found) => found.names(binding),
         None => false,
     }
-}
-
-// A binding as a number.
-fn number(binding: Binding) -> u64
-    ensures { result ≡ binding_number binding }
-{
-    u64::from(binding.inc) * 4_294_967_296 + u64::from(binding.count)
 }

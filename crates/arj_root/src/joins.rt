@@ -1,16 +1,21 @@
 // The includes that were answered.
-ghost use Rattle.std.specs.Prelude.{◌≡◌, ◌<◌, length, IfSome, [], ◌&&◌, ◌==◌, None, Some, OnOk, OnErr, option_copied};
-ghost use Rattle.std.specs.List.{list_any};
+ghost use Rattle.std.specs.Prelude.{◌≡◌, ◌<◌, length, IfOk, IfSome, [], ◌&&◌, ◌==◌, None, Some, OnOk, OnErr, map, option_copied};
+ghost use Rattle.std.specs.List.{AllByRecursion, list_any};
 ghost use Rattle.arj_base.specs.Path.{uids_of};
 ghost use Rattle.arj_base.specs.Rows.{last_uid};
+ghost use Rattle.arj_commit.specs.Fits.{IsNode};
 ghost use Rattle.arj_protocol.specs.Coord as coord;
+ghost use Rattle.arj_protocol.specs.Order.{number_set};
+ghost use Rattle.arj_root.specs.Kept.{HasNumber};
 ghost use Rattle.arj_root.specs.Merged.{of_joins, place_of, is_join_of, rejoined, later_of};
 ghost use Rattle.arj_root.specs.Noted.{of_tree};
 
+use crate::sends::listed;
 use crate::survival::survives;
-use arj_base::{ObjectState, Path, Uid};
+use arj_base::{NodeList, ObjectState, Path, Uid};
 use arj_tree::Tree;
 use std::alloc::{AllocError, Global};
+use std::collections::BTreeSet;
 use std::marker::Model;
 
 /// An include that was answered: the store, and the state that was loaded.
@@ -86,10 +91,13 @@ pub struct Joins {
 impl Model for Joins {
     ghost use Rattle.std.specs.Prelude.{List};
     ghost use Rattle.arj_protocol.specs.Coord.{Joined};
+    ghost use Rattle.arj_root.specs.Kept.{AreJoins};
 
     ghost Value = { List Joined };
 
     ghost view = { λ j. j.joined.items };
+
+    ghost invariant = { λ j. AreJoins j.joined.items };
 }
 
 impl Joins {
@@ -118,6 +126,8 @@ impl Joins {
         store: u8,
         loaded: ObjectState,
     ) -> Result<(), AllocError>
+        requires node { IsNode store }
+        requires own { loaded.uid.num ≡ x }
         ensures noted { OnOk result (self.new ≡ (coord.with_join (record { path = uids_of path.now; x = x; store = store; loaded = loaded }) (of_joins self.old)).joined) }
         ensures kept { OnErr result (self.new ≡ self.old) }
     {
@@ -141,11 +151,51 @@ impl Joins {
     }
 
     /// The state of the greatest version that the surviving includes of the object brought. It walks the includes.
+    #[tactic(auto, using(crate::proofs::Kept::latest_is))]
     pub fn latest(&self, x: u16, top: Uid, tree: &Tree) -> Option<&ObjectState>
-        ensures { option_copied result ≡ coord.latest_of None (coord.joins_on x top (of_joins self.now) (of_tree tree.now)) }
+        ensures latest { option_copied result ≡ coord.latest_of None (coord.joins_on x top (of_joins self.now) (of_tree tree.now)) }
+        ensures own { IfSome (option_copied result) (HasNumber x) }
     {
         latest_on(self.joined.as_slice(), x, top, tree)
     }
+
+    /// The stores of the surviving includes of the object, increasing. It walks the includes.
+    #[tactic(auto, using(crate::proofs::Kept::stores_are))]
+    pub fn stores(
+        &self,
+        alloc: Global,
+        x: u16,
+        top: Uid,
+        tree: &Tree,
+    ) -> Result<NodeList, AllocError>
+        ensures stores { IfOk result (λ stores. stores ≡ number_set (map (λ (j : coord.Joined). j.store) (coord.joins_on x top (of_joins self.now) (of_tree tree.now)))) }
+        ensures nodes { IfOk result (AllByRecursion IsNode) }
+    {
+        let stores = stores_on(alloc, self.joined.as_slice(), x, top, tree)?;
+        listed(alloc, &stores)
+    }
+}
+
+// The stores of the surviving includes of the object.
+fn stores_on(
+    alloc: Global,
+    joined: &[Join],
+    x: u16,
+    top: Uid,
+    tree: &Tree,
+) -> Result<BTreeSet<u8>, AllocError>
+    ensures { IfOk result (λ stores. stores.keys ≡ number_set (map (λ (j : coord.Joined). j.store) (coord.joins_on x top (of_joins joined.now) (of_tree tree.now)))) }
+{
+    let mut stores = BTreeSet::new(alloc);
+    let mut i = joined.len();
+    while i > 0 {
+        i -= 1;
+        let join = &joined[i];
+        if join.is_on(x, top, tree) {
+            stores.insert(join.store)?;
+        }
+    }
+    Ok(stores)
 }
 
 // The place of the include of an action, object and store.
@@ -186,8 +236,8 @@ fn latest_on<'a>(joined: &'a [Join], x: u16, top: Uid, tree: &Tree) -> Option<&'
     found
 }
 
-// Of two states the later one.
-fn later<'a>(found: Option<&'a ObjectState>, loaded: &'a ObjectState) -> Option<&'a ObjectState>
+/// Of two states the later one.
+pub fn later<'a>(found: Option<&'a ObjectState>, loaded: &'a ObjectState) -> Option<&'a ObjectState>
     ensures { option_copied result ≡ Some (later_of (option_copied found.entry) loaded.now) }
 {
     match found {

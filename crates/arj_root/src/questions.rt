@@ -6,8 +6,9 @@ ghost use Rattle.arj_root.specs.Merged.{of_work, of_parts, more_numbers, least_w
 ghost use Rattle.arj_root.specs.Noted.{of_tree};
 
 use crate::survival::{counts, is_kept_top};
-use crate::{Call, Calls, Grant, Grants, Join, Joins};
+use crate::{Call, Calls, Grants, Join, Joins};
 use arj_base::{Seq, Uid};
+use arj_bind::Grant;
 use arj_tree::Tree;
 use std::alloc::{AllocError, Global};
 use std::collections::BTreeSet;

@@ -157,8 +157,8 @@ fn invoked_by(
     Ok(nodes)
 }
 
-// The nodes of a set, increasing.
-fn listed(alloc: Global, nodes: &BTreeSet<u8>) -> Result<NodeList, AllocError>
+/// The nodes of a set, increasing.
+pub fn listed(alloc: Global, nodes: &BTreeSet<u8>) -> Result<NodeList, AllocError>
     ensures { IfOk result (λ list. list ≡ nodes.now.keys) }
 {
     let mut list = NodeList::new(alloc);

@@ -1,6 +1,7 @@
 // What is noted, and what of it is asked.
 use super::*;
 use arj_base::{Binding, Path, Uid};
+use arj_bind::Grant;
 use arj_tree::Tree;
 use std::alloc::Global;
 use std::test::Fail;
