@@ -29,6 +29,7 @@ pub mod OneEnd
 pub mod PairSteps
 pub mod Planned
 pub mod QueryWalks
+pub mod RestartWalks
 pub mod ServedWalks
 pub mod StoreSteps
 pub mod StoreWalks

@@ -52,7 +52,7 @@ module _ (x k : ℕ) (tops : Kinds) (e : ℕ) (d : Disk) (t : Parts) (S : State)
   P = IsSeenByDisks x tops
 
   -- what goes on behind, in any world with these disks, where these actions have begun
-  abbrev Next : List Effect → Type 0
+  abbrev pub Next : List Effect → Type 0
   Next rest = (N : Seen) (V : World) → V.disk ≡ S → HaveBegun N.lines hs → SeesDisks x tops V (up k d t N) → Walks P e k rest (Up P k v) d N
 
   -- the request may be sent, where the machine has sent its message

@@ -1,6 +1,6 @@
 -- What the coordinator's handlers keep of the disk half, where what is known of the protocol alone holds.
-use Rattle.std.specs.Prelude.{⊤, ◌≡◌, Option, ℕ, true, false, [], Some, None}
-use Rattle.arj_protocol.specs.Words.{Uid, End, Label, Body, Asked, Op, Kind}
+use Rattle.std.specs.Prelude.{⊤, ◌≡◌, Option, ◌+◌, ◌++◌, ℕ, true, false, [], Some, None}
+use Rattle.arj_protocol.specs.Words.{Uid, End, Label, Body, Asked, Op, Kind, Header}
 use Rattle.std.specs.List.{AllByRecursion}
 use Rattle.arj_protocol.specs.Follow.{tick_outs}
 use Rattle.arj_protocol.specs.Ask.{Reply, actor}
@@ -11,8 +11,9 @@ use Rattle.arj_protocol.specs.Coord.{Coord, Doing, Now, Idle, Calling, Committin
 use Rattle.arj_protocol.specs.Effect.{Disk, Did, Intent}
 use Rattle.arj_protocol.specs.Asking.{again_all, begin_action, call, include, heard_call, step_commit, moved_commit, commit_action, waits_for_commit, gives_up}
 use Rattle.arj_protocol.specs.Ending.{abort_action, acked_left, answer_query, ends_with, decide}
-use Rattle.arj_protocol.specs.Node.{Parts, holders, with_coord}
-use Rattle.arj_protocol.specs.Order.{at_uid, uid_number, without_number}
+use Rattle.arj_protocol.specs.Node.{Parts, holders, prepared_actions, with_coord}
+use Rattle.arj_protocol.specs.Order.{at_uid, uid_number, uid_set, without_number}
+use Rattle.arj_protocol.specs.Step.{restart_outs, parts_in}
 use Rattle.arj_protocol.specs.World.{Labelled}
 use Rattle.arj_protocol.specs.Tree.{Branch, branch_of, is_serial, has_open_child, next_uid, path_below}
 use Rattle.arj_disk_law.specs.Effects.{World, Halt, after}
@@ -20,7 +21,7 @@ use Rattle.arj_disk_law.specs.Messages as mail
 use Rattle.arj_disk_law.specs.Messages.{IsOver}
 use Rattle.arj_disk_law.specs.State.{naming}
 use Rattle.arj_disk_law.specs.Words.{In}
-use Rattle.arj_view_law.specs.Seen.{Seen, up, given}
+use Rattle.arj_view_law.specs.Seen.{Seen, up, down, given}
 use Rattle.arj_view_law.specs.Walks.{Walks, Up}
 use Rattle.arj_disk_view_law.specs.Asking.{IsUnanswered}
 use Rattle.arj_disk_view_law.specs.Knows.{KnowsKinds, KnowsCoord, KnowsPlan, IsOfKind}
@@ -124,3 +125,9 @@ ActionsBegin = (x : ℕ) (tops : Kinds) (e k : ℕ) (d : Disk) (t : Parts) (l : 
 abbrev pub TicksAreWalked : Type 0
 TicksAreWalked = (x : ℕ) (tops : Kinds) (e k : ℕ) (d : Disk) (t : Parts) (M : Seen) → KnowsCoord tops d.intents t.coord → AllByRecursion (λ u. was_begun u M.lines ≡ true) (holders d t) → (W : World) → SeesDisks x tops W (up k d t M)
     → Walks (IsSeenByDisks x tops) e k (tick_outs (record { number = k; disk = d; live = Some t }) t) (Up (IsSeenByDisks x tops) k (with_coord t (again_all t.coord.doings t.coord).part)) d M
+
+-- A node restarts: its incarnation rises on the disk, the tops of its records are decided, and all nodes are told, asked and
+-- greeted. Who has something prepared there has begun.
+abbrev pub RestartsAreWalked : Type 0
+RestartsAreWalked = (x : ℕ) (tops : Kinds) (e k : ℕ) (hd : Header) (d : Disk) (M : Seen) → AllByRecursion (λ u. was_begun u M.lines ≡ true) (uid_set (prepared_actions d.store ++ prepared_actions d.names)) → (W : World) → SeesDisks x tops W (down k d M)
+    → Walks (IsSeenByDisks x tops) e k (restart_outs hd k (d.inc + 1) d) (Up (IsSeenByDisks x tops) k (parts_in k (d.inc + 1) d)) d M

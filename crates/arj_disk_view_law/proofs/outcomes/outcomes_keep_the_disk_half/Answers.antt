@@ -1,5 +1,6 @@
 use Rattle.arj_disk_view_law.proofs.AckWalks.{acks_are_taken}
 use Rattle.arj_disk_view_law.proofs.QueryWalks.{queries_are_answered}
+use Rattle.arj_disk_view_law.proofs.RestartWalks.{restarts_are_walked}
 use Rattle.arj_disk_view_law.proofs.TickWalks.{ticks_are_walked}
 use Rattle.arj_disk_view_law.proofs.outcomes.outcomes_keep_the_disk_half.Goals as goal
 
@@ -11,3 +12,6 @@ returns-clause-queries c = queries_are_answered
 
 pub returns-clause-ticks : goal.returns-clause-ticks
 returns-clause-ticks c = ticks_are_walked
+
+pub returns-clause-restarts : goal.returns-clause-restarts
+returns-clause-restarts c = restarts_are_walked
