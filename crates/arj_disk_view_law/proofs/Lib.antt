@@ -38,3 +38,4 @@ pub mod TopFrames
 pub mod TickWalks
 pub mod ToldWalks
 pub mod UnusedWalks
+pub mod WholeWalks

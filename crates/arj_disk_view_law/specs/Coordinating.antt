@@ -1,6 +1,8 @@
 -- What the coordinator's handlers keep of the disk half, where what is known of the protocol alone holds.
-use Rattle.std.specs.Prelude.{⊤, ◌≡◌, Option, ◌+◌, ◌++◌, ℕ, true, false, [], Some, None}
-use Rattle.arj_protocol.specs.Words.{Uid, End, Label, Body, Asked, Op, Kind, Header}
+use Rattle.std.specs.Prelude.{⊤, ◌≡◌, ◌⊎◌, ◌==◌, Option, List, ◌+◌, ◌++◌, ℕ, true, false, [], Some, None}
+use Rattle.arj_protocol.specs.Words.{Uid, End, Label, Body, Ask, Asked, Head, Message, Op, Kind, Header, asks}
+use Rattle.arj_protocol.specs.Words.ask
+use Rattle.arj_protocol.specs.Words.message
 use Rattle.std.specs.List.{AllByRecursion}
 use Rattle.arj_protocol.specs.Follow.{tick_outs}
 use Rattle.arj_protocol.specs.Ask.{Reply, actor}
@@ -8,12 +10,12 @@ use Rattle.arj_protocol.specs.Call.{Steps}
 use Rattle.arj_protocol.specs.Commit as commit
 use Rattle.arj_protocol.specs.Commit.{begin_prepare, targets_of}
 use Rattle.arj_protocol.specs.Coord.{Coord, Doing, Now, Idle, Calling, Committing, doing_of}
-use Rattle.arj_protocol.specs.Effect.{Disk, Did, Intent}
+use Rattle.arj_protocol.specs.Effect.{Disk, Did, Effect, Intent}
 use Rattle.arj_protocol.specs.Asking.{again_all, begin_action, call, include, heard_call, step_commit, moved_commit, commit_action, waits_for_commit, gives_up}
 use Rattle.arj_protocol.specs.Ending.{abort_action, acked_left, answer_query, ends_with, decide}
-use Rattle.arj_protocol.specs.Node.{Parts, holders, prepared_actions, with_coord}
+use Rattle.arj_protocol.specs.Node.{Parts, Took, handle, holders, prepared_actions, with_coord}
 use Rattle.arj_protocol.specs.Order.{at_uid, uid_number, uid_set, without_number}
-use Rattle.arj_protocol.specs.Step.{restart_outs, parts_in}
+use Rattle.arj_protocol.specs.Step.{Input, acts, refusal_up, restart_outs, parts_in}
 use Rattle.arj_protocol.specs.World.{Labelled}
 use Rattle.arj_protocol.specs.Tree.{Branch, branch_of, is_serial, has_open_child, next_uid, path_below}
 use Rattle.arj_disk_law.specs.Effects.{World, Halt, after}
@@ -21,6 +23,8 @@ use Rattle.arj_disk_law.specs.Messages as mail
 use Rattle.arj_disk_law.specs.Messages.{IsOver}
 use Rattle.arj_disk_law.specs.State.{naming}
 use Rattle.arj_disk_law.specs.Words.{In}
+use Rattle.arj_view_law.specs.Keeps.{is_act}
+use Rattle.arj_view_law.specs.Seen as seen
 use Rattle.arj_view_law.specs.Seen.{Seen, up, down, given}
 use Rattle.arj_view_law.specs.Walks.{Walks, Up}
 use Rattle.arj_disk_view_law.specs.Asking.{IsUnanswered}
@@ -131,3 +135,37 @@ TicksAreWalked = (x : ℕ) (tops : Kinds) (e k : ℕ) (d : Disk) (t : Parts) (M 
 abbrev pub RestartsAreWalked : Type 0
 RestartsAreWalked = (x : ℕ) (tops : Kinds) (e k : ℕ) (hd : Header) (d : Disk) (M : Seen) → AllByRecursion (λ u. was_begun u M.lines ≡ true) (uid_set (prepared_actions d.store ++ prepared_actions d.names)) → (W : World) → SeesDisks x tops W (down k d M)
     → Walks (IsSeenByDisks x tops) e k (restart_outs hd k (d.inc + 1) d) (Up (IsSeenByDisks x tops) k (parts_in k (d.inc + 1) d)) d M
+
+-- ---- whole inputs and messages
+
+-- An input about an action that isn't refused keeps the disk half.
+abbrev pub ActsAreWalked : Type 0
+ActsAreWalked = (hd : Header) (x : ℕ) (tops : Kinds) (e k : ℕ) (d : Disk) (t : Parts) (i : Input) (M : Seen) → KnowsKinds tops → KnowsCoord tops d.intents t.coord → is_act i ≡ true → refusal_up hd i t.coord ≡ None
+    → (W : World) → SeesDisks x tops W (up k d t M) → DidIsWalked x tops e k d t (acts i d.intents t.coord) M
+
+-- the message is no Confirm, and no told to a node with naming
+abbrev pub IsNoConfirm : Option (Head × Ask) → Type 0
+IsNoConfirm (Some (h, ask.Confirm grants excluded included)) = ⊥
+IsNoConfirm _ = ⊤
+
+abbrev pub IsNoTold : Message → Type 0
+IsNoTold (message.Told m) = ⊥
+IsNoTold _ = ⊤
+
+pub record IsFreeOfNaming (k : ℕ) (t : Parts) (m : Message) : Type 0 where
+  pub no_confirm : IsNoConfirm (asks m)
+  pub told : (((k == 1) ≡ false) × (t.naming ≡ None)) ⊎ IsNoTold m
+
+-- What is known at a node that takes a message: the coordinator's part; that who holds something there has begun; and that
+-- questions are about actions of the node that have begun.
+pub record KnowsNode (tops : Kinds) (k : ℕ) (d : Disk) (t : Parts) (M : Seen) : Type 0 where
+  pub kinds : KnowsKinds tops
+  pub coord : KnowsCoord tops d.intents t.coord
+  pub begun : AllByRecursion (λ u. was_begun u M.lines ≡ true) (holders d t)
+  pub asked : (from : ℕ) (act : Uid) → seen.In (record { from = from; to = k; message = message.Query (record { act = act }) }) M.sent → (act.node ≡ k) × (IsFuture t.coord act → ⊥)
+
+-- A message that was sent is taken, which is no Confirm and no told to naming.
+abbrev pub MessagesAreWalked : Type 0
+MessagesAreWalked = (x : ℕ) (tops : Kinds) (e k : ℕ) (d : Disk) (t v : Parts) (from : ℕ) (m : Message) (outs : List Effect) (M : Seen) → KnowsNode tops k d t M → IsFreeOfNaming k t m → seen.In (record { from = from; to = k; message = m }) M.sent
+    → (W : World) → SeesDisks x tops W (up k d t M) → ((act : Uid) → W.disk.bare (uid_number act) ≡ true → from ≡ naming → IsOver (after W (Halt (uid_number act))).disk (W.disk.root (uid_number act)))
+    → handle k d t from m ≡ Took v outs → Walks (IsSeenByDisks x tops) e k outs (Up (IsSeenByDisks x tops) k v) d M

@@ -1,0 +1,148 @@
+-- Whole inputs about actions, and whole messages, walked through.
+use Rattle.std.proofs.Common.{◌≡◌, ◌≢◌, ◌⊎◌, ℕ, ◌==◌, ◌&&◌, ◌||◌, List, [], ◌∷◌, Bool, true, false, Option, Some, None, refl, sym, ◌∙◌, ap, subst, inl, inr, ⊎_elim}
+use Rattle.std.specs.Prelude.{⊤, if◌then◌else◌, not, is_some}
+use Rattle.std.specs.List.{list_any}
+use Rattle.std.proofs.lemmas.Bool.{or_parts, and_parts}
+use Rattle.arj_protocol.specs.Words.{Uid, End, Path, Head, Ask, Asked, Op, Label, Message, Header, Kind, asks, is_on, last_uid, uids_of, uid_eq}
+use Rattle.arj_base.proofs.Uids.{uid_same}
+use Rattle.arj_protocol.specs.Words.ask
+use Rattle.arj_protocol.specs.Words.message
+use Rattle.arj_protocol.specs.Ask.{Reply, actor, answers, last_end}
+use Rattle.arj_protocol.specs.Asking.{call, include, commit_action, gives_up, heard, heard_doing, heard_now, heard_by, heard_none, waits_for_call, waits_for_commit, moved_commit, heard_call, give_up, give_up_doing}
+use Rattle.arj_protocol.specs.Call.{Steps}
+use Rattle.arj_protocol.specs.Commit as commit
+use Rattle.arj_protocol.specs.Commit.{Machine}
+use Rattle.arj_protocol.specs.Coord.{Coord, Doing, Now, Idle, Calling, Committing, doing_of, number_of}
+use Rattle.arj_protocol.specs.Effect.{Disk, Effect, Intent, Did}
+use Rattle.arj_protocol.specs.Ending.{abort_action, acked, acked_by, acked_left, answer_query}
+use Rattle.arj_protocol.specs.Node.{Parts, Handled, Void, Took, handle, handle_ask, handle_answer, handle_other, handle_ends, handle_hello, coord_heard, by_reply, serve, with_coord}
+use Rattle.arj_protocol.specs.Order as order
+use Rattle.arj_protocol.specs.Order.{at_uid, uid_number, without_number}
+use Rattle.arj_protocol.specs.Step as input
+use Rattle.arj_protocol.specs.Step.{Node, Input, acts, refusal_up, refused_by, first_reason, call_reasons, include_reasons, commit_reasons, abort_reasons, giveup_reasons, branch_named, branch_numbered, on_branch, waits, waits_above, waits_below, sibling_waits, is_waiting, is_waiting_now, class_at, lacks_op}
+use Rattle.arj_protocol.specs.Tree.{Branch, branch_of, at_place, has_open_child, has_many_objects, is_own, is_serial, root_of}
+use Rattle.arj_disk_law.specs.Effects.{World, Halt, after}
+use Rattle.arj_disk_law.specs.Messages as mail
+use Rattle.arj_disk_law.specs.Messages.{IsOver}
+use Rattle.arj_disk_law.specs.State.{naming}
+use Rattle.arj_disk_law.proofs.Base.{never, test_same}
+use Rattle.arj_view_law.specs.Keeps.{is_act}
+use Rattle.arj_view_law.specs.Seen as seen
+use Rattle.arj_view_law.specs.Seen.{Post, Seen, up}
+use Rattle.arj_view_law.specs.Walks.{Walks, Up}
+use Rattle.arj_disk_view_law.specs.Coordinating.{DidIsWalked, ActsAreWalked, MessagesAreWalked, KnowsNode, IsFreeOfNaming, IsNoConfirm, IsNoTold}
+use Rattle.arj_disk_view_law.specs.Knows.{KnowsKinds, KnowsCoord}
+use Rattle.arj_disk_view_law.specs.Sees.{Kinds, Claims, ClaimsAsk, ClaimsAsked, ClaimsAnswered, ClaimsOther, ClaimsReply, ClaimsLast, SeesDisks, IsSeenByDisks}
+use Rattle.arj_disk_view_law.proofs.AckWalks.{acks_are_taken}
+use Rattle.arj_disk_view_law.proofs.ActionAborts.{actions_are_aborted}
+use Rattle.arj_disk_view_law.proofs.CallWalks.{calls_begin, includes_begin, calls_are_heard, calls_are_given_up}
+use Rattle.arj_disk_view_law.proofs.CommitWalks.{actions_commit, commits_are_heard, commits_are_given_up}
+use Rattle.arj_disk_view_law.proofs.QueryWalks.{queries_are_answered}
+use Rattle.arj_disk_view_law.proofs.ServedWalks.{requests_are_served, hellos_are_walked}
+use Rattle.arj_disk_view_law.proofs.StoreWalks.{loads_are_walked, prepares_are_walked, took_is}
+use Rattle.arj_disk_view_law.proofs.ToldWalks.{ends_are_walked}
+
+-- ---- inputs about actions
+
+no_reason : (n : ℕ) (b : Bool) (rs : List (ℕ × Bool)) → first_reason ((n, b) ∷ rs) ≡ None → (b ≡ false) × (first_reason rs ≡ None)
+no_reason n true rs h = absurd (cc h)
+no_reason n false rs h = (refl, h)
+
+unended : (o : Option End) → is_some o ≡ false → o ≡ None
+unended None h = refl
+unended (Some how) h = absurd (cc h)
+
+idle_is : (now : Now) → is_waiting_now now ≡ false → now ≡ Idle
+idle_is Idle h = refl
+idle_is (Calling s) h = absurd (cc h)
+idle_is (Committing m) h = absurd (cc h)
+
+-- none of a path waits, so its last doesn't
+last_not : (f : Uid → Bool) (us : List Uid) (r : Uid) → is_on us r ≡ true → list_any f us ≡ false → f (last_uid us) ≡ false
+last_not f [] r on none = absurd (cc on)
+last_not f (u ∷ []) r on none = (or_parts (f u) false none).0
+last_not f (u ∷ w ∷ us) r on none = last_not f (w ∷ us) w (ap (λ b. b || is_on us w) (uid_same w)) (or_parts (f u) (list_any f (w ∷ us)) none).1
+
+module _ (hd : Header) (x : ℕ) (tops : Kinds) (e k : ℕ) (d : Disk) (t : Parts) (M : Seen) (kinds : KnowsKinds tops) (knows : KnowsCoord tops d.intents t.coord) (W : World) (sees : SeesDisks x tops W (up k d t M)) where
+  -- the action of a label
+  record Named (o : Option Branch) : Type 0 where
+    branch : Branch
+    is : o ≡ Some branch
+    found : branch_of (actor branch.path) t.coord.tree ≡ Some branch
+
+  placed : (o : Option ℕ) (b : Branch) → branch_numbered t.coord o ≡ Some b → branch_of (actor b.path) t.coord.tree ≡ Some b
+  placed None b is = absurd (cc is)
+  placed (Some n) b is =
+      let u : Uid = record { node = t.coord.tree.node; inc = t.coord.tree.inc; num = n } in
+      let there : branch_of u t.coord.tree ≡ Some b = ap (λ c. if c then at_place n t.coord.tree.branches else None) (λ i. test_same t.coord.tree.node i && test_same t.coord.tree.inc i) ∙ is in
+      ap (λ a. branch_of a t.coord.tree) (knows.path u b there) ∙ there
+
+  -- it waits for nothing
+  waits_not : (b : Branch) (q : Doing) → branch_of (actor b.path) t.coord.tree ≡ Some b → doing_of (actor b.path) t.coord ≡ Some q → waits_above b t.coord ≡ false → q.now ≡ Idle
+  waits_not b q found at_work none = idle_is q.now (sym (ap is_waiting at_work) ∙ last_not (waits t.coord) (uids_of b.path) (root_of b.path) (knows.headed (actor b.path) b found) none)
+
+  by_label : (reasons : Branch → Coord → List (ℕ × Bool)) (f : Branch → Did Coord) (l : Label) → refused_by reasons t.coord (branch_named l t.coord) ≡ None
+      → ((b : Branch) → branch_of (actor b.path) t.coord.tree ≡ Some b → first_reason (reasons b t.coord) ≡ None → DidIsWalked x tops e k d t (f b) M) → DidIsWalked x tops e k d t (on_branch f t.coord (branch_named l t.coord)) M
+  by_label reasons f l free go = by (branch_named l t.coord) refl free
+    where
+      by : (o : Option Branch) → branch_named l t.coord ≡ o → refused_by reasons t.coord o ≡ None → DidIsWalked x tops e k d t (on_branch f t.coord o) M
+      by None is h = absurd (cc h)
+      by (Some b) is h = go b (placed (number_of l t.coord) b is) h
+
+  call_acts : (l : Label) (y : ℕ) (o : Op) → refusal_up hd (input.Call l y o) t.coord ≡ None → DidIsWalked x tops e k d t (acts (input.Call l y o) d.intents t.coord) M
+  call_acts l y o free = by_label (call_reasons hd y o) (λ b. call b.path y o t.coord) l free (λ b found none.
+      let q = knows.at_work (actor b.path) b found in
+      let one = no_reason 6 (is_some b.ended) ((7, waits_above b t.coord || waits_below b t.coord) ∷ (11, is_serial b.kind) ∷ (12, b.doomed) ∷ (13, not (is_some (class_at y hd))) ∷ (14, lacks_op o (class_at y hd)) ∷ (16, has_many_objects b y t.coord.tree) ∷ []) none in
+      let two = no_reason 7 (waits_above b t.coord || waits_below b t.coord) ((11, is_serial b.kind) ∷ (12, b.doomed) ∷ (13, not (is_some (class_at y hd))) ∷ (14, lacks_op o (class_at y hd)) ∷ (16, has_many_objects b y t.coord.tree) ∷ []) one.1 in
+      calls_begin x tops e k d t (actor b.path) b q.0 y o M knows found (unended b.ended one.0) q.1 (waits_not b q.0 found q.1 (or_parts (waits_above b t.coord) (waits_below b t.coord) two.0).0) W sees)
+
+  include_acts : (l : Label) (y s : ℕ) → refusal_up hd (input.Include l y s) t.coord ≡ None → DidIsWalked x tops e k d t (acts (input.Include l y s) d.intents t.coord) M
+  include_acts l y s free = by_label (include_reasons hd y) (λ b. include b.path y s t.coord) l free (λ b found none.
+      let q = knows.at_work (actor b.path) b found in
+      let one = no_reason 6 (is_some b.ended) ((7, waits_above b t.coord || waits_below b t.coord) ∷ (11, is_serial b.kind) ∷ (12, b.doomed) ∷ (13, not (is_some (class_at y hd))) ∷ (16, has_many_objects b y t.coord.tree) ∷ []) none in
+      let two = no_reason 7 (waits_above b t.coord || waits_below b t.coord) ((11, is_serial b.kind) ∷ (12, b.doomed) ∷ (13, not (is_some (class_at y hd))) ∷ (16, has_many_objects b y t.coord.tree) ∷ []) one.1 in
+      includes_begin x tops e k d t (actor b.path) b q.0 y s M knows found (unended b.ended one.0) q.1 (waits_not b q.0 found q.1 (or_parts (waits_above b t.coord) (waits_below b t.coord) two.0).0) W sees)
+
+  commit_acts : (l : Label) → refusal_up hd (input.Commit l) t.coord ≡ None → DidIsWalked x tops e k d t (acts (input.Commit l) d.intents t.coord) M
+  commit_acts l free = by_label commit_reasons (λ b. commit_action b d.intents t.coord) l free (λ b found none.
+      let q = knows.at_work (actor b.path) b found in
+      let w : Bool = (waits_above b t.coord || waits_below b t.coord) || sibling_waits b t.coord in
+      let one = no_reason 6 (is_some b.ended) ((7, waits_above b t.coord || waits_below b t.coord || sibling_waits b t.coord) ∷ (9, has_open_child (actor b.path) t.coord.tree) ∷ []) none in
+      let two = no_reason 7 (waits_above b t.coord || waits_below b t.coord || sibling_waits b t.coord) ((9, has_open_child (actor b.path) t.coord.tree) ∷ []) one.1 in
+      let three = no_reason 9 (has_open_child (actor b.path) t.coord.tree) [] two.1 in
+      actions_commit x tops e k d t (actor b.path) b q.0 M kinds knows found (unended b.ended one.0) q.1 (waits_not b q.0 found q.1 (above_not (waits_above b t.coord) (waits_below b t.coord) (sibling_waits b t.coord) two.0)) three.0 W sees)
+    where
+      above_not : (a b c : Bool) → (a || b || c) ≡ false → a ≡ false
+      above_not true true true h = h
+      above_not true true false h = h
+      above_not true false true h = h
+      above_not true false false h = h
+      above_not false b c h = refl
+
+  abort_acts : (l : Label) → refusal_up hd (input.Abort l) t.coord ≡ None → DidIsWalked x tops e k d t (acts (input.Abort l) d.intents t.coord) M
+  abort_acts l free = by_label abort_reasons (λ b. abort_action (actor b.path) d.intents t.coord) l free (λ b found none.
+      let one = no_reason 6 (is_some b.ended) ((7, waits_above b t.coord || waits_below b t.coord) ∷ []) none in
+      actions_are_aborted x tops e k d t (actor b.path) b M kinds knows found (unended b.ended one.0) W sees)
+
+  giveup_acts : (l : Label) → refusal_up hd (input.GiveUp l) t.coord ≡ None → DidIsWalked x tops e k d t (acts (input.GiveUp l) d.intents t.coord) M
+  giveup_acts l free = by_label giveup_reasons (λ b. give_up (actor b.path) d.intents t.coord) l free (λ b found none.
+      let q = knows.at_work (actor b.path) b found in
+      subst (λ o. DidIsWalked x tops e k d t (give_up_doing (actor b.path) d.intents t.coord o) M) (sym q.1) (by_now (actor b.path) q.0 q.1 (let r = q.0 in r.now) refl))
+    where
+      by_now : (u : Uid) (q : Doing) → doing_of u t.coord ≡ Some q → (now : Now) → q.now ≡ now → DidIsWalked x tops e k d t (gives_up u d.intents t.coord now) M
+      by_now u q at_work Idle is = (W, sees)
+      by_now u q at_work (Calling s) is = calls_are_given_up x tops e k d t u q s M knows at_work is W sees
+      by_now u q at_work (Committing m) is = commits_are_given_up x tops e k d t u q m M kinds knows at_work is W sees
+
+pub acts_are_walked : ActsAreWalked
+acts_are_walked hd x tops e k d t (input.Call l y o) M kinds knows act free W sees = call_acts hd x tops e k d t M kinds knows W sees l y o free
+acts_are_walked hd x tops e k d t (input.Include l y s) M kinds knows act free W sees = include_acts hd x tops e k d t M kinds knows W sees l y s free
+acts_are_walked hd x tops e k d t (input.Commit l) M kinds knows act free W sees = commit_acts hd x tops e k d t M kinds knows W sees l free
+acts_are_walked hd x tops e k d t (input.Abort l) M kinds knows act free W sees = abort_acts hd x tops e k d t M kinds knows W sees l free
+acts_are_walked hd x tops e k d t (input.GiveUp l) M kinds knows act free W sees = giveup_acts hd x tops e k d t M kinds knows W sees l free
+acts_are_walked hd x tops e k d t (input.Begin l how parent) M kinds knows act free W sees = absurd (cc act)
+acts_are_walked hd x tops e k d t (input.Frame n from m) M kinds knows act free W sees = absurd (cc act)
+acts_are_walked hd x tops e k d t input.Tick M kinds knows act free W sees = absurd (cc act)
+acts_are_walked hd x tops e k d t input.Restart M kinds knows act free W sees = absurd (cc act)
+acts_are_walked hd x tops e k d t input.Crash M kinds knows act free W sees = absurd (cc act)
+acts_are_walked hd x tops e k d t (input.Show y) M kinds knows act free W sees = absurd (cc act)
