@@ -1,38 +1,37 @@
 -- Whole inputs about actions, and whole messages, walked through.
-use Rattle.std.proofs.Common.{◌≡◌, ◌≢◌, ◌⊎◌, ℕ, ◌==◌, ◌&&◌, ◌||◌, List, [], ◌∷◌, Bool, true, false, Option, Some, None, refl, sym, ◌∙◌, ap, subst, inl, inr, ⊎_elim}
-use Rattle.std.specs.Prelude.{⊤, if◌then◌else◌, not, is_some}
+use Rattle.std.proofs.Common.{◌≡◌, ◌⊎◌, ℕ, ◌==◌, ◌&&◌, ◌||◌, List, [], ◌∷◌, Bool, true, false, Option, Some, None, refl, sym, ◌∙◌, ap, subst, inl, inr}
+use Rattle.std.specs.Prelude.{if◌then◌else◌, not, is_some}
 use Rattle.std.specs.List.{list_any}
-use Rattle.std.proofs.lemmas.Bool.{or_parts, and_parts}
-use Rattle.arj_protocol.specs.Words.{Uid, End, Path, Head, Ask, Asked, Op, Label, Message, Header, Kind, asks, is_on, last_uid, uids_of, uid_eq}
+use Rattle.std.proofs.lemmas.Bool.{or_parts}
+use Rattle.arj_protocol.specs.Words.{Uid, End, Head, Ask, Asked, Op, Label, Message, Header, asks, is_on, last_uid, uids_of}
 use Rattle.arj_base.proofs.Uids.{uid_same}
 use Rattle.arj_protocol.specs.Words.ask
 use Rattle.arj_protocol.specs.Words.message
-use Rattle.arj_protocol.specs.Ask.{Reply, actor, answers, last_end}
+use Rattle.arj_protocol.specs.Ask.{Reply, actor, answers}
 use Rattle.arj_protocol.specs.Asking.{call, include, commit_action, gives_up, heard, heard_doing, heard_now, heard_by, heard_none, waits_for_call, waits_for_commit, moved_commit, heard_call, give_up, give_up_doing}
-use Rattle.arj_protocol.specs.Call.{Steps}
 use Rattle.arj_protocol.specs.Commit as commit
 use Rattle.arj_protocol.specs.Commit.{Machine}
 use Rattle.arj_protocol.specs.Coord.{Coord, Doing, Now, Idle, Calling, Committing, doing_of, number_of}
 use Rattle.arj_protocol.specs.Effect.{Disk, Effect, Intent, Did}
 use Rattle.arj_protocol.specs.Ending.{abort_action, acked, acked_by, acked_left, answer_query}
-use Rattle.arj_protocol.specs.Node.{Parts, Handled, Void, Took, handle, handle_ask, handle_answer, handle_other, handle_ends, handle_hello, coord_heard, by_reply, serve, with_coord}
+use Rattle.arj_protocol.specs.Node.{Parts, Handled, Void, Took, handle_ask, handle_answer, handle_other, coord_heard, serve, with_coord}
 use Rattle.arj_protocol.specs.Order as order
 use Rattle.arj_protocol.specs.Order.{at_uid, uid_number, without_number}
 use Rattle.arj_protocol.specs.Step as input
 use Rattle.arj_protocol.specs.Step.{Node, Input, acts, refusal_up, refused_by, first_reason, call_reasons, include_reasons, commit_reasons, abort_reasons, giveup_reasons, branch_named, branch_numbered, on_branch, waits, waits_above, waits_below, sibling_waits, is_waiting, is_waiting_now, class_at, lacks_op}
-use Rattle.arj_protocol.specs.Tree.{Branch, branch_of, at_place, has_open_child, has_many_objects, is_own, is_serial, root_of}
+use Rattle.arj_protocol.specs.Tree.{Branch, branch_of, at_place, has_open_child, has_many_objects, is_serial, root_of}
 use Rattle.arj_disk_law.specs.Effects.{World, Halt, after}
 use Rattle.arj_disk_law.specs.Messages as mail
 use Rattle.arj_disk_law.specs.Messages.{IsOver}
 use Rattle.arj_disk_law.specs.State.{naming}
-use Rattle.arj_disk_law.proofs.Base.{never, test_same}
-use Rattle.arj_view_law.specs.Keeps.{is_act}
+use Rattle.arj_disk_law.specs.Words.{In}
+use Rattle.arj_disk_law.proofs.Base.{test_same}
 use Rattle.arj_view_law.specs.Seen as seen
 use Rattle.arj_view_law.specs.Seen.{Post, Seen, up}
 use Rattle.arj_view_law.specs.Walks.{Walks, Up}
-use Rattle.arj_disk_view_law.specs.Coordinating.{DidIsWalked, ActsAreWalked, MessagesAreWalked, KnowsNode, IsFreeOfNaming, IsNoConfirm, IsNoTold}
+use Rattle.arj_disk_view_law.specs.Coordinating.{DidIsWalked, ActsAreWalked, MessagesAreWalked, KnowsNode, IsNoConfirm, IsNoTold}
 use Rattle.arj_disk_view_law.specs.Knows.{KnowsKinds, KnowsCoord}
-use Rattle.arj_disk_view_law.specs.Sees.{Kinds, Claims, ClaimsAsk, ClaimsAsked, ClaimsAnswered, ClaimsOther, ClaimsReply, ClaimsLast, SeesDisks, IsSeenByDisks}
+use Rattle.arj_disk_view_law.specs.Sees.{Kinds, Claims, ClaimsAsk, ClaimsAsked, ClaimsAnswered, ClaimsOther, ClaimsReply, SeesDisks, IsSeenByDisks}
 use Rattle.arj_disk_view_law.proofs.AckWalks.{acks_are_taken}
 use Rattle.arj_disk_view_law.proofs.ActionAborts.{actions_are_aborted}
 use Rattle.arj_disk_view_law.proofs.CallWalks.{calls_begin, includes_begin, calls_are_heard, calls_are_given_up}
@@ -146,3 +145,109 @@ acts_are_walked hd x tops e k d t input.Tick M kinds knows act free W sees = abs
 acts_are_walked hd x tops e k d t input.Restart M kinds knows act free W sees = absurd (cc act)
 acts_are_walked hd x tops e k d t input.Crash M kinds knows act free W sees = absurd (cc act)
 acts_are_walked hd x tops e k d t (input.Show y) M kinds knows act free W sees = absurd (cc act)
+
+-- ---- messages
+
+module _ (x : ℕ) (tops : Kinds) (e k : ℕ) (d : Disk) (t v : Parts) (from : ℕ) (outs : List Effect) (M : Seen) (knows : KnowsNode tops k d t M) (W : World) (sees : SeesDisks x tops W (up k d t M)) where
+  abbrev P : Seen → Type 0
+  P = IsSeenByDisks x tops
+
+  abbrev Goal : Handled → Type 0
+  Goal h = h ≡ Took v outs → Walks P e k outs (Up P k v) d M
+
+  took : (a : Parts) (b : List Effect) → Walks P e k b (Up P k a) d M → Goal (Took a b)
+  took a b walk is = took_is x k tops e (λ p q. Walks P e k q (Up P k p) d M) a b v outs is walk
+
+  void : (b : List Effect) → Goal (Void b)
+  void b is = absurd (cc is)
+
+  -- ---- requests
+
+  by_ask : (h : Head) (a : Ask) → IsNoConfirm (Some (h, a)) → ((U : World) → SeesDisks x tops U (up k d t M) → ClaimsAsk x U k h a) → Goal (serve k d t from h a)
+  by_ask h (ask.Bind y include avoid) free claims is = requests_are_served x tops e k d t v from h (ask.Bind y include avoid) outs M tt (W, sees) claims is
+  by_ask h (ask.Load y) free claims is = loads_are_walked x tops e k d t v from h (ask.Load y) outs M tt (W, sees) claims is
+  by_ask h (ask.Activate b st) free claims is = requests_are_served x tops e k d t v from h (ask.Activate b st) outs M tt (W, sees) claims is
+  by_ask h (ask.Record y b i g) free claims is = requests_are_served x tops e k d t v from h (ask.Record y b i g) outs M tt (W, sees) claims is
+  by_ask h (ask.Invoke y b i ends op) free claims is = requests_are_served x tops e k d t v from h (ask.Invoke y b i ends op) outs M tt (W, sees) claims is
+  by_ask h (ask.Vote i ties ends) free claims is = requests_are_served x tops e k d t v from h (ask.Vote i ties ends) outs M tt (W, sees) claims is
+  by_ask h (ask.Prepare states) free claims is = prepares_are_walked x tops e k d t v from h (ask.Prepare states) outs M tt (W, sees) claims is
+  by_ask h (ask.Confirm grants excluded included) free claims is = absurd free
+
+  -- ---- answers
+
+  by_answer : (a : Asked) (r : Reply) → ClaimsReply x W from a.act r → Goal (coord_heard t (heard from a r d.intents t.coord))
+  by_answer a r claims = by (doing_of a.act t.coord) refl
+    where
+      by_now : (q : Doing) → doing_of a.act t.coord ≡ Some q → (now : Now) → q.now ≡ now → Goal (coord_heard t (heard_now from a r d.intents t.coord now))
+      by_now q does Idle is = void []
+      by_now q does (Calling s) is = test (waits_for_call from a r s)
+        where
+          test : (b : Bool) → Goal (coord_heard t (if b then heard_by (heard_call s r t.coord) else heard_none t.coord))
+          test false = void []
+          test true = took (with_coord t (heard_call s r t.coord).part) (heard_call s r t.coord).outs (calls_are_heard x tops e k d t from a.act q s r M knows.coord does is W sees claims)
+      by_now q does (Committing m) is = test (waits_for_commit from a r m) refl
+        where
+          test : (b : Bool) → waits_for_commit from a r m ≡ b → Goal (coord_heard t (if b then heard_by (moved_commit a.act (commit.answered from m r) d.intents t.coord) else heard_none t.coord))
+          test false w = void []
+          test true w = took (with_coord t (moved_commit a.act (commit.answered from m r) d.intents t.coord).part) (moved_commit a.act (commit.answered from m r) d.intents t.coord).outs (commits_are_heard x tops e k d t from a q m r M knows.kinds knows.coord does is w W sees claims)
+
+      by : (o : Option Doing) → doing_of a.act t.coord ≡ o → Goal (coord_heard t (heard_doing from a r d.intents t.coord o))
+      by None is = void []
+      by (Some q) is = by_now q is q.now refl
+
+  -- ---- acknowledgements
+
+  by_acked : (act : Uid) → In (mail.Acked (uid_number act) from) W.sent → Goal (coord_heard t (acked from act d.intents t.coord))
+  by_acked act claims = by (at_uid act t.coord.telling) refl
+    where
+      by_left : (i : Intent) (ns : List ℕ) → Walks P e k (acked_left act i d.intents t.coord ns).outs (Up P k (with_coord t (acked_left act i d.intents t.coord ns).part)) d M → Goal (coord_heard t (acked_left act i d.intents t.coord ns))
+      by_left i [] walk = took (with_coord t (acked_left act i d.intents t.coord []).part) (acked_left act i d.intents t.coord []).outs walk
+      by_left i (n ∷ ns) walk = took (with_coord t (acked_left act i d.intents t.coord (n ∷ ns)).part) (acked_left act i d.intents t.coord (n ∷ ns)).outs walk
+
+      by : (o : Option Intent) → at_uid act t.coord.telling ≡ o → Goal (coord_heard t (acked_by from act d.intents t.coord o))
+      by None is = void []
+      by (Some i) is = test (order.has i.nodes from)
+        where
+          test : (b : Bool) → Goal (coord_heard t (if b then acked_left act i d.intents t.coord (without_number from i.nodes) else record { part = t.coord; outs = []; reply = None }))
+          test false = void []
+          test true = by_left i (without_number from i.nodes) (acks_are_taken x tops e k d t from act i M knows.kinds knows.coord is W sees claims)
+
+  -- ---- what stands alone
+
+  by_other : (m : Message) → (((k == 1) ≡ false) × (t.naming ≡ None)) ⊎ IsNoTold m → seen.In (record { from = from; to = k; message = m }) M.sent → ((U : World) → SeesDisks x tops U (up k d t M) → ClaimsOther tops U M.lines from k m)
+      → ((act : Uid) → W.disk.bare (uid_number act) ≡ true → from ≡ naming → IsOver (after W (Halt (uid_number act))).disk (W.disk.root (uid_number act))) → Goal (handle_other k d t from m)
+  by_other (message.Told m) (inl free) sent claims bares is = ends_are_walked x tops e k d t v from m.ack m.ends outs M free.0 free.1 (W, sees) (λ U s. claims U s) is
+  by_other (message.Told m) (inr free) sent claims bares is = absurd free
+  by_other (message.Acked m) free sent claims bares is = by_acked m.act (claims W sees) is
+  by_other (message.Query m) free sent claims bares is = let a = knows.asked from m.act sent in took t (answer_query from m.act d.intents t.coord) (queries_are_answered x tops e k d t from m.act M knows.kinds knows.coord a.0 a.1 W sees (bares m.act)) is
+  by_other (message.Hello m) free sent claims bares is = hellos_are_walked x tops e k d t v m.node m.inc outs M knows.begun (W, sees) is
+  by_other (message.Bind m) free sent claims bares is = absurd (cc is)
+  by_other (message.Bound m) free sent claims bares is = absurd (cc is)
+  by_other (message.Load m) free sent claims bares is = absurd (cc is)
+  by_other (message.Loaded m) free sent claims bares is = absurd (cc is)
+  by_other (message.Activate m) free sent claims bares is = absurd (cc is)
+  by_other (message.Activated m) free sent claims bares is = absurd (cc is)
+  by_other (message.RecordMsg m) free sent claims bares is = absurd (cc is)
+  by_other (message.Recorded m) free sent claims bares is = absurd (cc is)
+  by_other (message.Invoke m) free sent claims bares is = absurd (cc is)
+  by_other (message.Invoked m) free sent claims bares is = absurd (cc is)
+  by_other (message.Vote m) free sent claims bares is = absurd (cc is)
+  by_other (message.Voted m) free sent claims bares is = absurd (cc is)
+  by_other (message.Prepare m) free sent claims bares is = absurd (cc is)
+  by_other (message.Prepared m) free sent claims bares is = absurd (cc is)
+  by_other (message.Confirm m) free sent claims bares is = absurd (cc is)
+  by_other (message.Confirmed m) free sent claims bares is = absurd (cc is)
+
+pub messages_are_walked : MessagesAreWalked
+messages_are_walked x tops e k d t v from m outs M knows free sent W sees bares = by (asks m) refl
+  where
+    claims : (U : World) → SeesDisks x tops U (up k d t M) → Claims x tops U M.lines (record { from = from; to = k; message = m })
+    claims U s = s.posts (record { from = from; to = k; message = m }) sent
+
+    by_answers : asks m ≡ None → (o : Option (Asked × Reply)) → answers m ≡ o → handle_answer k d t from m o ≡ Took v outs → Walks (IsSeenByDisks x tops) e k outs (Up (IsSeenByDisks x tops) k v) d M
+    by_answers none None is = by_other x tops e k d t v from outs M knows W sees m free.told sent (λ U s. subst (λ o. ClaimsAnswered x tops U M.lines from k m o) is (subst (λ o. ClaimsAsked x tops U M.lines from k m o) none (claims U s))) bares
+    by_answers none (Some a) is = by_answer x tops e k d t v from outs M knows W sees a.0 a.1 (subst (λ o. ClaimsAnswered x tops W M.lines from k m o) is (subst (λ o. ClaimsAsked x tops W M.lines from k m o) none (claims W sees)))
+
+    by : (o : Option (Head × Ask)) → asks m ≡ o → handle_ask k d t from m o ≡ Took v outs → Walks (IsSeenByDisks x tops) e k outs (Up (IsSeenByDisks x tops) k v) d M
+    by None is = by_answers is (answers m) refl
+    by (Some a) is = by_ask x tops e k d t v from outs M knows W sees a.0 a.1 (subst IsNoConfirm is free.no_confirm) (λ U s. subst (λ o. ClaimsAsked x tops U M.lines from k m o) is (claims U s))

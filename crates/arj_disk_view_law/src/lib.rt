@@ -17,6 +17,7 @@ mod coordinators;
 mod deciding;
 mod entries;
 mod finishing;
+mod inputs;
 mod outcomes;
 mod sees;
 mod stores;
@@ -29,6 +30,7 @@ pub use coordinators::{decisions_keep_the_disk_half, prepare_steps_keep_the_disk
 pub use deciding::{decisions_are_seen, outcomes_may_be_told};
 pub use entries::ends_of_entries_are_seen;
 pub use finishing::ends_keep_the_disk_half;
+pub use inputs::inputs_keep_the_disk_half;
 pub use outcomes::outcomes_keep_the_disk_half;
 pub use sees::{claims_stay_true, requests_keep_the_disk_half, stores_keep_the_disk_half};
 pub use stores::stores_are_seen;

@@ -1,0 +1,8 @@
+use Rattle.arj_disk_view_law.proofs.WholeWalks.{acts_are_walked, messages_are_walked}
+use Rattle.arj_disk_view_law.proofs.inputs.inputs_keep_the_disk_half.Goals as goal
+
+pub returns-clause-acts : goal.returns-clause-acts
+returns-clause-acts c = acts_are_walked
+
+pub returns-clause-messages : goal.returns-clause-messages
+returns-clause-messages c = messages_are_walked
