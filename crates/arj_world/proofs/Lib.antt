@@ -1,0 +1,5 @@
+pub mod Arms
+pub mod Reach
+pub mod Wires
+pub mod Stepping
+pub mod Going

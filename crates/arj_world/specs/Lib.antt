@@ -1,0 +1,4 @@
+pub mod Turns
+pub mod Wire
+pub mod Stands
+pub mod Goes

@@ -1,0 +1,66 @@
+// The world: its nodes, its frames and its labels.
+ghost use Rattle.std.specs.Prelude.{◌≡◌, ◌≤◌, [], length, OnOk, IfOk, Some, slice_get};
+ghost use Rattle.arj_core.specs.Steps.{input_of};
+ghost use Rattle.arj_world.specs.Goes.{StepsTo};
+ghost use Rattle.arj_world.specs.Stands.{StandsSome, hand};
+
+use crate::Labelled;
+use crate::wire::Wire;
+use arj_core::{Core, CoreFault, Input, Outputs};
+use arj_disk::{Disk, Rack};
+use arj_journal::{Body, Header, Label, Lines};
+use std::alloc::{AllocError, Global};
+use std::collections::BTreeMap;
+use std::marker::Model;
+
+/// All nodes of a run, 1 to 16, with the frames between them and the labels that were given. The disks stand apart, in a
+/// rack.
+#[derive(Drop)]
+pub struct World<C> {
+    pub(crate) alloc: Global,
+    pub(crate) header: Header,
+    // the first is node 1
+    pub(crate) cores: Vec<C>,
+    pub(crate) wire: Wire,
+    pub(crate) labels: BTreeMap<Label, Labelled>,
+}
+
+impl<C> Model for World<C> {
+    ghost use Rattle.std.specs.Prelude.{◌≡◌, ◌≤◌, length};
+    ghost use Rattle.arj_world.specs.Stands.{Kept};
+    ghost use Rattle.arj_world.specs.Wire.{AreFew};
+
+    ghost Value = { Kept C };
+
+    ghost view = { λ w. record { header = w.header; cores = w.cores.items; net = w.wire.net; labels = w.labels.entries; event = w.wire.event; full = w.wire.full } };
+
+    ghost invariant = { λ w. (1 ≤ w.header.nodes) × (w.header.nodes ≤ 16) × (length w.cores.items ≡ w.header.nodes) × AreFew w.wire.net };
+}
+
+impl<C: Core> World<C> {
+    /// One step of a node. Its lines and frames are put; where its disk stopped, a line says that it halted.
+    pub(crate) fn step_core<D: Disk>(
+        &mut self,
+        rack: &mut Rack<D>,
+        node: u8,
+        input: Input,
+        journal: &mut Lines,
+    ) -> Result<(), AllocError>
+        requires least { 1 ≤ node }
+        requires greatest { node ≤ self.old.header.nodes }
+        requires stands { StandsSome C.Core D.file (hand self.old rack.old journal.old) }
+        ensures steps { OnOk result (StepsTo C.Core D.file node (input_of input) (hand self.old rack.old journal.old) (hand self.new rack.new journal.new)) }
+        ensures header { self.new.header ≡ self.old.header }
+    {
+        let mut outputs = Outputs::new(self.alloc);
+        let core = &mut self.cores[usize::from(node - 1)];
+        match core.step(rack.disk(node), input, &mut outputs) {
+            Ok(()) => self.wire.put(node, outputs, journal),
+            Err(CoreFault::Halted) => {
+                self.wire.put(node, outputs, journal)?;
+                self.wire.say(Body::Halted { node }, journal)
+            }
+            Err(CoreFault::Memory) => Err(AllocError),
+        }
+    }
+}
