@@ -28,6 +28,7 @@ mod LivesNamed
 mod Locked
 mod NamingNode
 pub mod Numbered
+pub mod ObjectsAsked
 mod Pairs
 pub mod SaidIncs
 mod Sends

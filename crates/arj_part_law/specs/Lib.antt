@@ -1,4 +1,5 @@
 pub mod Actions
+pub mod AskedObjects
 pub mod Claims
 pub mod Coords
 pub mod Copies

@@ -12,6 +12,7 @@
 #![tactic(auto)]
 
 mod actions;
+mod asked;
 mod claims;
 mod coords;
 mod copies;
@@ -32,6 +33,7 @@ mod trees;
 mod turns;
 
 pub use actions::{begun_actions_make_a_tree, coordinators_begin_new_actions};
+pub use asked::coordinators_ask_about_objects_of_their_roots;
 pub use claims::coordinators_say_what_is_true;
 pub use coords::coordinators_stay_good;
 pub use copies::{ended_actions_leave_nothing, locks_of_operations_stand, overlays_are_guarded};
