@@ -1,4 +1,5 @@
 -- The beginning of an action leaves all that holds of nodes and messages.
+use Rattle.arj_part_law.proofs.ObjectsAsked.{obj_begins}
 use Rattle.arj_part_law.proofs.Numbered.{num_begins}
 use Rattle.arj_part_law.proofs.Decided.{stand_begins}
 use Rattle.arj_part_law.proofs.EndsSaid.{said_on, sure_begins}
@@ -239,6 +240,7 @@ module _ (e k : ℕ) (d : Disk) (t : Parts) (l : Label) (how : Kind) (parent : O
         voted = m.voted;
         sure = m.sure;
         numbered = m.numbered;
+        objects = m.objects;
       }
         where
           off_it : (u : Uid) → is_on (uids_of p) u ≡ true → is_own u w.coord.tree ≡ false
@@ -300,6 +302,7 @@ module _ (e k : ℕ) (d : Disk) (t : Parts) (l : Label) (how : Kind) (parent : O
     voted = was.voted;
     sure = sure_begins l how parent c was.sure;
     numbered = num_begins l how parent c was.numbered;
+    objects = (obj_begins l how parent c was.objects).0;
   }
     where
       longer : length v.coord.tree.branches ≡ length c.tree.branches + 1

@@ -1,4 +1,6 @@
 -- Messages, inputs and ticks leave all that holds of nodes and messages.
+use Rattle.arj_part_law.proofs.ObjectsAsked.{obj_acked, obj_acts, obj_again, obj_heard}
+use Rattle.arj_part_law.specs.AskedObjects.{KnowsObjects}
 use Rattle.arj_run_law.proofs.Parted.{IsLeft, coord_kept}
 use Rattle.arj_part_law.proofs.Numbered.{num_acked, num_acts, num_again, num_heard}
 use Rattle.arj_part_law.specs.Requests.{AreNumbered}
@@ -189,7 +191,7 @@ module _ (e k : ℕ) (d : Disk) (t : Parts) (M : Seen) (good : IsGood (up k d t 
       }
 
   -- the node goes on with these parts and effects
-  pub goes : (v : Parts) (outs : List Effect) → ((paths : Paths) → IsTree paths → Agree good.0 paths → IsGoodNode good.0 paths v) → AllFit good.0 outs → GoesOn t.coord v.coord → IsSure v.coord × Decides t.coord.tree v.coord.tree × AllSayEnds v.coord.tree outs → AreNumbered v.coord → v.server.inc ≡ t.server.inc
+  pub goes : (v : Parts) (outs : List Effect) → ((paths : Paths) → IsTree paths → Agree good.0 paths → IsGoodNode good.0 paths v) → AllFit good.0 outs → GoesOn t.coord v.coord → IsSure v.coord × Decides t.coord.tree v.coord.tree × AllSayEnds v.coord.tree outs → AreNumbered v.coord × KnowsObjects v.coord → v.server.inc ≡ t.server.inc
       → AllByRecursion (IsClaimsOf v.coord) outs → AreOfInc k d.inc outs → ((w : Uid) → is_on v.server.voted w ≡ true → (p : Post) × In p M.sent × Seals p.message w) → Walks IsGood e k outs (Up IsGood k v) d M
   goes v outs goods fit g sure numbered inc claims incs voted =
       let node : v.coord.tree.node ≡ k = sym (node_on t.coord v.coord g) ∙ it.node in
@@ -205,13 +207,14 @@ module _ (e k : ℕ) (d : Disk) (t : Parts) (M : Seen) (good : IsGood (up k d t 
         known = known_on M.labels t.coord v.coord g it.known;
         voted = voted;
         sure = sure.0;
-        numbered = numbered;
+        numbered = numbered.0;
+        objects = numbered.1;
       })
       (λ u i c own. sure.1 u ending.Commit (records_of_disk u i c (sym (g.own u) ∙ own)))
 
   -- a message that was sent
   pub message_good : (v : Parts) (from : ℕ) (m : Message) (outs : List Effect) → In (record { from = from; to = k; message = m }) M.sent → handle k d t from m ≡ Took v outs → Walks IsGood e k outs (Up IsGood k v) d M
-  message_good v from m outs there is = goes v outs (λ paths tree agree. (well paths tree agree).0) (well (paths_of good.0) one_tree one_agrees).1 truly.0 surely numbered truly.1 truly.2 (subst (λ i. AreOfInc k i outs) it.server truly.3) voted
+  message_good v from m outs there is = goes v outs (λ paths tree agree. (well paths tree agree).0) (well (paths_of good.0) one_tree one_agrees).1 truly.0 surely (numbered, objects) truly.1 truly.2 (subst (λ i. AreOfInc k i outs) it.server truly.3) voted
     where
       q : Post
       q = record { from = from; to = k; message = m }
@@ -225,6 +228,9 @@ module _ (e k : ℕ) (d : Disk) (t : Parts) (M : Seen) (good : IsGood (up k d t 
       numbered : AreNumbered v.coord
       numbered = subst (IsLeft AreNumbered) is (coord_kept AreNumbered k d t from it.numbered (λ a r. num_heard from a r d.intents t.coord it.numbered) (λ u. num_acked from u d.intents t.coord it.numbered) m)
 
+      objects : KnowsObjects v.coord
+      objects = subst (IsLeft KnowsObjects) is (coord_kept KnowsObjects k d t from it.objects (λ a r. (obj_heard from a r d.intents t.coord it.objects).0) (λ u. (obj_acked from u d.intents t.coord it.objects).0) m)
+
       surely : IsSure v.coord × Decides t.coord.tree v.coord.tree × AllSayEnds v.coord.tree outs
       surely = subst (IsSurelyHandled t) is (surely_handled k t good.0 (paths_of good.0) one_tree good_coord it.sure d records_of_disk from m)
 
@@ -235,7 +241,7 @@ module _ (e k : ℕ) (d : Disk) (t : Parts) (M : Seen) (good : IsGood (up k d t 
       voted w on = ⊎_elim (λ old. it.voted w old) (λ new. (q, there, new)) (only w on)
 
   -- what the coordinator does
-  with_did : (did : Did Coord) (outs : List Effect) → ((paths : Paths) → IsTree paths → Agree good.0 paths → IsGoodNode good.0 paths (with_coord t did.part) × AllFit good.0 outs) → GoesOn t.coord did.part → IsSure did.part × Decides t.coord.tree (let c = did.part in c.tree) × AllSayEnds (let c = did.part in c.tree) outs → AreNumbered did.part → AllByRecursion (IsClaimsOf did.part) outs → AreOfInc k d.inc outs → Walks IsGood e k outs (Up IsGood k (with_coord t did.part)) d M
+  with_did : (did : Did Coord) (outs : List Effect) → ((paths : Paths) → IsTree paths → Agree good.0 paths → IsGoodNode good.0 paths (with_coord t did.part) × AllFit good.0 outs) → GoesOn t.coord did.part → IsSure did.part × Decides t.coord.tree (let c = did.part in c.tree) × AllSayEnds (let c = did.part in c.tree) outs → AreNumbered did.part × KnowsObjects did.part → AllByRecursion (IsClaimsOf did.part) outs → AreOfInc k d.inc outs → Walks IsGood e k outs (Up IsGood k (with_coord t did.part)) d M
   with_did did outs well g sure numbered claims incs = goes (with_coord t did.part) outs (λ paths tree agree. (well paths tree agree).0) (well (paths_of good.0) one_tree one_agrees).1 g sure numbered refl claims incs it.voted
 
   pub act_good : (hd : Header) (i : Input) → is_act i ≡ true → refusal_up hd i t.coord ≡ None → DidKeeps IsGood e k d t (acts i d.intents t.coord) M
@@ -244,7 +250,7 @@ module _ (e k : ℕ) (d : Disk) (t : Parts) (M : Seen) (good : IsGood (up k d t 
       let g = well_acts good.0 (paths_of good.0) one_tree d.intents t.coord good_coord it.faithful.works hd i none other in
       let q = true_inc k d.inc r.part r.outs g.1 in
       let s = sure_acts good.0 (paths_of good.0) one_tree d.intents t.coord good_coord it.sure hd i none other in
-      with_did r r.outs (λ paths tree agree. input_well good.0 begun_of paths tree agree d t hd i none other (it.good paths tree agree)) g.0 (s.0, (stand_acts good.0 (paths_of good.0) one_tree d.intents t.coord good_coord hd i none).ends, s.1) (num_acts i d.intents t.coord it.numbered) q.0 q.1
+      with_did r r.outs (λ paths tree agree. input_well good.0 begun_of paths tree agree d t hd i none other (it.good paths tree agree)) g.0 (s.0, (stand_acts good.0 (paths_of good.0) one_tree d.intents t.coord good_coord hd i none).ends, s.1) (num_acts i d.intents t.coord it.numbered, (obj_acts i d.intents t.coord it.objects).0) q.0 q.1
     where
       other : (l : Label) (how : Kind) (parent : Option Label) → i ≢ input.Begin l how parent
       other l how parent same = let no_way : false ≡ true = sym (ap is_act same) ∙ is in cc
@@ -261,6 +267,6 @@ module _ (e k : ℕ) (d : Disk) (t : Parts) (M : Seen) (good : IsGood (up k d t 
       let stands = (stand_again good.0 (paths_of good.0) one_tree t.coord.doings t.coord).ends in
       let own : AreOfCommits t.coord.telling r.part.tree = λ u i c its_own. stands u ending.Commit (it.sure.records u i c (sym (g.0.own u) ∙ its_own)) in
       let says = all_both (SaysEndsIn r.part.tree) (r.outs ++ tolds_again t.coord.telling) queries (all_both (SaysEndsIn r.part.tree) r.outs (tolds_again t.coord.telling) s.1 (sure_records r.part.tree t.coord.telling own)) (says_queries r.part.tree (holders d t)) in
-      with_did r (tick_outs n t) (λ paths tree agree. tick_well good.0 begun_of paths tree agree n t (it.good paths tree agree)) g.0 (s.0, stands, says) (num_again t.coord.doings t.coord it.numbered)
+      with_did r (tick_outs n t) (λ paths tree agree. tick_well good.0 begun_of paths tree agree n t (it.good paths tree agree)) g.0 (s.0, stands, says) (num_again t.coord.doings t.coord it.numbered, (obj_again t.coord it.objects).0)
       (all_both (IsClaimsOf r.part) (r.outs ++ tolds_again t.coord.telling) queries (all_both (IsClaimsOf r.part) r.outs (tolds_again t.coord.telling) a.0 b.0) (all_map (IsClaimsOf r.part) query_about (holders d t) (λ w u s. absurd s)))
       (all_both (IsOfInc k d.inc) (r.outs ++ tolds_again t.coord.telling) queries (all_both (IsOfInc k d.inc) r.outs (tolds_again t.coord.telling) a.1 b.1) (all_map (IsOfInc k d.inc) query_about (holders d t) (λ w. tt)))

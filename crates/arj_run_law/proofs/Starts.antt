@@ -1,4 +1,5 @@
 -- All that holds of nodes and messages holds at first, and a restart leaves it.
+use Rattle.arj_part_law.proofs.ObjectsAsked.{obj_new}
 use Rattle.arj_part_law.proofs.Numbered.{num_new}
 use Rattle.arj_part_law.proofs.EndsHandled.{says_queries}
 use Rattle.arj_part_law.proofs.EndsSaid.{none_in, sure_new, sure_records}
@@ -164,6 +165,7 @@ module _ (hd : Header) (e k : ℕ) (d : Disk) (M : Seen) (good : IsGood (down k 
     voted = λ w is. let no_way : false ≡ true = is in cc;
     sure = sure;
     numbered = num_new k (d.inc + 1) d.intents;
+    objects = obj_new k (d.inc + 1) d.intents;
   }
 
   stops_look : Stops IsGood e k Look d M
@@ -225,6 +227,7 @@ module _ (hd : Header) where
     voted = λ w is. let no_way : false ≡ true = is in cc;
     sure = sure_new [] k 0 1 0 [] (none_counted k 0 0) (omega arith) tt;
     numbered = num_new k 1 [];
+    objects = obj_new k 1 [];
   }
 
   place_first : (k : ℕ) → IsGoodPlace [] [] [] k (first_node hd k)

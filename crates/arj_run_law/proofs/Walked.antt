@@ -41,7 +41,7 @@ other_number j k other = by (j == k) refl
 -- ---- more messages
 
 up_more : (acts : List Action) (q : Post) (sent : List Post) (given : List (Label × Labelled)) (k i : ℕ) (t : Parts) → IsUp acts sent given k i t → IsUp acts (q ∷ sent) given k i t
-up_more acts q sent given k i t u = record { good = u.good; node = u.node; inc = u.inc; server = u.server; faithful = u.faithful; counted = u.counted; known = u.known; voted = λ w is. let v = u.voted w is in (v.0, inr v.1, v.2); sure = u.sure; numbered = u.numbered }
+up_more acts q sent given k i t u = record { good = u.good; node = u.node; inc = u.inc; server = u.server; faithful = u.faithful; counted = u.counted; known = u.known; voted = λ w is. let v = u.voted w is in (v.0, inr v.1, v.2); sure = u.sure; numbered = u.numbered; objects = u.objects }
 
 place_more : (acts : List Action) (q : Post) (sent : List Post) (given : List (Label × Labelled)) (k : ℕ) (n : Node) → IsGoodPlace acts sent given k n → IsGoodPlace acts (q ∷ sent) given k n
 place_more acts q sent given k n p = record { disk = p.disk; memory = by n.live p.memory; records = p.records }

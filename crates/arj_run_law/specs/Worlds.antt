@@ -1,4 +1,5 @@
 -- What holds of all nodes and of every message that was ever sent, in each run.
+use Rattle.arj_part_law.specs.AskedObjects.{KnowsObjects}
 use Rattle.arj_part_law.specs.Requests.{AreNumbered}
 use Rattle.arj_part_law.specs.Ends.{AreOfCommits, IsSaidSo, IsSure, brought}
 use Rattle.std.specs.Prelude.{◌≡◌, ◌≤◌, ℕ, true, List, Option, Some, None, length, ⊤, Contains}
@@ -30,7 +31,7 @@ KnowsLabels given c = (l : Label) (j : ℕ) → number_of l c ≡ Some j → (g 
 -- What holds of node k that is up in incarnation i. Its server and its coordinator are good in every tree of paths that
 -- has the actions begun so far, and are of this node and incarnation; its actions are counted; its server voted for whom a
 -- message asked it to; what its coordinator has of ends is as they were decided; and what waits there is each action's last
--- request, and plans name each object once.
+-- request, about objects of its root, and plans name each object once.
 pub record IsUp (acts : List Action) (sent : List Post) (given : List (Label × Labelled)) (k i : ℕ) (t : Parts) : Type 0 where
   pub good : (paths : Paths) → IsTree paths → Agree acts paths → IsGoodNode acts paths t
   pub node : t.coord.tree.node ≡ k
@@ -42,6 +43,7 @@ pub record IsUp (acts : List Action) (sent : List Post) (given : List (Label × 
   pub voted : (w : Uid) → is_on t.server.voted w ≡ true → (p : Post) × In p sent × Seals p.message w
   pub sure : IsSure t.coord
   pub numbered : AreNumbered t.coord
+  pub objects : KnowsObjects t.coord
 
 -- a node's memory; while it is down, its actions are of this incarnation or earlier ones
 abbrev pub IsMemory : List Action → List Post → List (Label × Labelled) → ℕ → ℕ → Option Parts → Type 0
