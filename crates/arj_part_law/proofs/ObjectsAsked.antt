@@ -1,13 +1,13 @@
 -- The objects that a coordinator asks about are of its roots.
-use Rattle.std.proofs.Common.{◌≡◌, ◌≢◌, ◌⊎◌, ◌+◌, ◌==◌, arith, ℕ, zero, suc, List, [], ◌∷◌, ◌++◌, length, Bool, true, false, cond, nat_le, not, ◌&&◌, ◌||◌, map, filter, Option, Some, None, refl, sym, ◌∙◌, ap, subst, inl, inr, ⊎_elim}
-use Rattle.std.specs.Prelude.{⊤, is_some, unwrap_or}
+use Rattle.std.proofs.Common.{◌≡◌, ◌+◌, ◌==◌, arith, ℕ, zero, suc, List, [], ◌∷◌, ◌++◌, length, Bool, true, false, cond, nat_le, not, ◌&&◌, ◌||◌, map, filter, Option, Some, None, refl, sym, ◌∙◌, ap, subst, inl, inr, ⊎_elim}
+use Rattle.std.specs.Prelude.{⊤, unwrap_or}
 use Rattle.std.specs.List.{AllByRecursion, flat_map, list_any}
 use Rattle.std.specs.Ordering.{is_eq, match_ordering, nat_cmp}
 use Rattle.std.specs.declared.cmp.Ordering.{Ordering}
 use Rattle.std.specs.declared.cmp.Ordering.TheVariants.{Less, Equal, Greater}
 use Rattle.arj_base.proofs.Uids.{uid_cases}
-use Rattle.arj_lock.proofs.Members.{In, in_filter, in_map}
-use Rattle.arj_protocol.specs.Words.{Uid, Binding, End, Kind, Path, Op, Body, Label, Ask, Asked, Head, Message, ObjectState, asks, request, uids_of, uid_eq}
+use Rattle.arj_lock.proofs.Members.{In}
+use Rattle.arj_protocol.specs.Words.{Uid, Binding, End, Kind, Path, Op, Body, Label, Ask, Asked, Head, asks, request, uids_of, uid_eq}
 use Rattle.arj_protocol.specs.Words.ask
 use Rattle.arj_protocol.specs.Words.body
 use Rattle.arj_protocol.specs.Words.cause
@@ -22,8 +22,8 @@ use Rattle.arj_protocol.specs.Call.{Known, Steps, At, AtBind, AtLoad, AtActivate
 use Rattle.arj_protocol.specs.Call as calls
 use Rattle.arj_protocol.specs.Commit.{Used, Plan, Machine, Voting, Preparing, Confirming, CommitStep, Stays, Asks, Decides, Aborts, plan_of, participants, has_record, ask_of, servers_of, nodes_given_up, begin_confirm, begin_prepare, begin_vote, stores_left, votes_left, marks_store, marks_stores, targets_of, with_states, is_at_server}
 use Rattle.arj_protocol.specs.Commit as commit
-use Rattle.arj_protocol.specs.Coord.{Coord, new_coord, Doing, Now, Idle, Calling, Committing, Root, Went, Said, Joined, Grant, doing_of, set_doing, change_doing, on_doing, on_root, root_at, no_root, keeping_of, is_free, joined_in, said_in, joined_with, later_state, same_join, objects_in, plan_for, used_of, nodes_sent, servers_told, with_keeping, with_went, with_said, with_join, same_went, same_said, counts}
-use Rattle.arj_protocol.specs.Effect.{Effect, Say, Send, Do, PutIntent, RemoveIntent, Did, Intent, Served}
+use Rattle.arj_protocol.specs.Coord.{Coord, new_coord, Doing, Now, Idle, Calling, Committing, Root, Went, Said, Joined, Grant, doing_of, set_doing, change_doing, on_doing, on_root, root_at, no_root, keeping_of, is_free, joined_with, later_state, same_join, objects_in, plan_for, used_of, nodes_sent, servers_told, with_keeping, with_went, with_said, same_went, same_said, counts}
+use Rattle.arj_protocol.specs.Effect.{Effect, Say, Send, Do, PutIntent, Did, Intent, Served}
 use Rattle.arj_protocol.specs.Ending.{says, say_for, tell, tell_all, up_to, is_deferred, tolds_by, tolds_of_branch, tolds_of, ended, ends_with, aborts_with, all_aborted, abort_action, decided_told, decide, root_after, acked, acked_by, acked_left, tolds_let_go, let_go, is_over}
 use Rattle.arj_protocol.specs.Order.{at_number, at_uid, has, number_set, put_number, put_uid, unbound, with_number, without_number, without_uid}
 use Rattle.arj_protocol.specs.Step.{Input, acts, branch_named, on_branch, parent_of}
@@ -439,7 +439,6 @@ module _ (t : Tree) where
   giveup_step (Voting p left) so = tt
   giveup_step (Preparing p left) so = stores_step [] p (marks_stores left p) (marks_same left p p so)
   giveup_step (Confirming p) so = tt
-
 
 machine_of : (t : Tree) (m : Machine) (n : ℕ) → PlanOf t (plan_of m) → IsAskOf t (let p = plan_of m in let r = root_of p.path in r.num) (ask_of m n)
 machine_of t (Voting p left) n so = by p.used so
