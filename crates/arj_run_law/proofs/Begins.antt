@@ -1,19 +1,15 @@
 -- The beginning of an action leaves all that holds of nodes and messages.
-use Rattle.arj_part_law.proofs.ObjectsAsked.{obj_begins}
-use Rattle.arj_part_law.proofs.Numbered.{num_begins}
-use Rattle.arj_part_law.proofs.Decided.{stand_begins}
-use Rattle.arj_part_law.proofs.EndsSaid.{said_on, sure_begins}
-use Rattle.arj_protocol.specs.Words.ending
-use Rattle.std.proofs.Common.{◌≡◌, ◌≢◌, ◌≤◌, ◌<◌, ◌+◌, ◌==◌, arith, ℕ, List, [], ◌∷◌, ◌++◌, length, Bool, true, false, cond, nat_le, Option, Some, None, Contains, refl, sym, ◌∙◌, ap, subst, inl, inr, eqb-true, length-append, zero, suc}
 use Rattle.std.specs.Prelude.{slice_get}
 use Rattle.std.specs.Map.{lookup}
 use Rattle.std.specs.Ordering.{is_eq, nat_cmp}
 use Rattle.std.specs.Cmp.Lexicographic.{slice_cmp}
 use Rattle.std.specs.BTreeMap.{insert_entry}
+use Rattle.std.proofs.Common.{◌≡◌, ◌≢◌, ◌≤◌, ◌<◌, ◌+◌, ◌==◌, arith, ℕ, List, [], ◌∷◌, ◌++◌, length, Bool, true, false, cond, nat_le, Option, Some, None, Contains, refl, sym, ◌∙◌, ap, subst, inl, inr, eqb-true, length-append, zero, suc}
 use Rattle.std.proofs.lemmas.Bool.{and_parts, false_from_ne_true}
 use Rattle.std.proofs.lemmas.Bool.Decides.{nat_tests}
 use Rattle.arj_base.specs.Rows.{is_on}
 use Rattle.arj_lock.proofs.Members.{in_to}
+use Rattle.arj_protocol.specs.Words.ending
 use Rattle.arj_protocol.specs.Words.{Uid, Label, label_cmp, Kind, Path, name, uids_of, End}
 use Rattle.arj_protocol.specs.Words.kind
 use Rattle.arj_protocol.specs.Ask.{actor}
@@ -30,6 +26,10 @@ use Rattle.arj_part_law.specs.Coords.{IsGoodCoord}
 use Rattle.arj_part_law.specs.Copies.{IsTree, Paths}
 use Rattle.arj_part_law.specs.Incs.{SaysInc}
 use Rattle.arj_part_law.specs.Messages.{Seals, IsDecided}
+use Rattle.arj_part_law.proofs.ObjectsAsked.{obj_begins}
+use Rattle.arj_part_law.proofs.Numbered.{num_begins}
+use Rattle.arj_part_law.proofs.Decided.{stand_begins}
+use Rattle.arj_part_law.proofs.EndsSaid.{said_on, sure_begins}
 use Rattle.arj_part_law.proofs.Begun.{agree_less, begins_in_tree, begun_tree, counted_more, path_found}
 use Rattle.arj_part_law.proofs.CoordInputs.{behind, named_found, next_path, off}
 use Rattle.arj_part_law.proofs.GoodNodes.{begin_well, elsewhere_well, tops_more}

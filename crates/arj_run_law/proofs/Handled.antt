@@ -1,23 +1,14 @@
 -- Messages, inputs and ticks leave all that holds of nodes and messages.
-use Rattle.arj_part_law.proofs.ObjectsAsked.{obj_acked, obj_acts, obj_again, obj_heard}
-use Rattle.arj_part_law.specs.AskedObjects.{KnowsObjects}
-use Rattle.arj_run_law.proofs.Parted.{IsLeft, coord_kept}
-use Rattle.arj_part_law.proofs.Numbered.{num_acked, num_acts, num_again, num_heard}
-use Rattle.arj_part_law.specs.Requests.{AreNumbered}
-use Rattle.arj_part_law.proofs.Decided.{stand_acts, stand_again}
-use Rattle.arj_part_law.proofs.EndsHandled.{says_queries, surely_handled}
-use Rattle.arj_part_law.proofs.EndsSaid.{none_in, said_on, sure_acts, sure_again, sure_records}
-use Rattle.arj_part_law.specs.Ends.{AllSayEnds, AreOfCommits, Decides, IsSure, IsSurelyHandled, SaysEndsIn, told_by}
+use Rattle.std.specs.Map.{lookup}
+use Rattle.std.specs.BTreeMap.{is_at}
+use Rattle.std.specs.List.{AllByRecursion}
+use Rattle.std.proofs.Common.{◌≡◌, ◌≢◌, ◌≤◌, ◌+◌, ◌==◌, arith, ℕ, List, ◌++◌, length, map, true, false, cond, ◌&&◌, Option, Some, None, refl, sym, ◌∙◌, ap, subst, ⊎_elim, eqb-true, Contains, inl, inr, [], ◌∷◌, Bool, ◌||◌}
+use Rattle.std.proofs.lemmas.Bool.{and_parts}
 use Rattle.arj_base.proofs.Uids.{uid_same}
 use Rattle.arj_lock.proofs.Members.{in_from}
 use Rattle.arj_lock.proofs.Members as Listed
 use Rattle.arj_protocol.specs.Words.message
 use Rattle.arj_protocol.specs.Words.ending
-use Rattle.std.proofs.Common.{◌≡◌, ◌≢◌, ◌≤◌, ◌+◌, ◌==◌, arith, ℕ, List, ◌++◌, length, map, true, false, cond, ◌&&◌, Option, Some, None, refl, sym, ◌∙◌, ap, subst, ⊎_elim, eqb-true, Contains, inl, inr, [], ◌∷◌, Bool, ◌||◌}
-use Rattle.std.proofs.lemmas.Bool.{and_parts}
-use Rattle.std.specs.Map.{lookup}
-use Rattle.std.specs.BTreeMap.{is_at}
-use Rattle.std.specs.List.{AllByRecursion}
 use Rattle.arj_protocol.specs.Words.{Uid, Label, label_cmp, Kind, Message, Header, is_on, End, uid_eq}
 use Rattle.arj_protocol.specs.Asking.{again_all}
 use Rattle.arj_protocol.specs.Coord.{Coord}
@@ -28,6 +19,9 @@ use Rattle.arj_protocol.specs.Step.{Node, Input, acts, parts_in, refusal_up, tol
 use Rattle.arj_protocol.specs.Step as input
 use Rattle.arj_protocol.specs.Tree.{at_place, is_own, is_serial}
 use Rattle.arj_protocol.specs.World.{Labelled}
+use Rattle.arj_part_law.specs.AskedObjects.{KnowsObjects}
+use Rattle.arj_part_law.specs.Requests.{AreNumbered}
+use Rattle.arj_part_law.specs.Ends.{AllSayEnds, AreOfCommits, Decides, IsSure, IsSurelyHandled, SaysEndsIn, told_by}
 use Rattle.arj_part_law.specs.Actions.{Action, Agree, AreBegun, AreCounted, paths_of}
 use Rattle.arj_part_law.specs.Claims.{GoesOn, AreOfNode}
 use Rattle.arj_part_law.specs.Coords.{IsGoodCoord}
@@ -35,6 +29,11 @@ use Rattle.arj_part_law.specs.Copies.{Paths, IsTree}
 use Rattle.arj_part_law.specs.Incs.{AreOfInc, IsClaimsOf, IsOfInc, IsTrulyHandled, SaysInc}
 use Rattle.arj_part_law.specs.Messages.{AllFit, AreOfTops, Seals, has_commit_of, is_commit}
 use Rattle.arj_part_law.specs.Nodes.{IsGoodNode, IsWellHandled, VotesOnly, VotesOnlyAfter}
+use Rattle.arj_part_law.proofs.ObjectsAsked.{obj_acked, obj_acts, obj_again, obj_heard}
+use Rattle.arj_part_law.proofs.Numbered.{num_acked, num_acts, num_again, num_heard}
+use Rattle.arj_part_law.proofs.Decided.{stand_acts, stand_again}
+use Rattle.arj_part_law.proofs.EndsHandled.{says_queries, surely_handled}
+use Rattle.arj_part_law.proofs.EndsSaid.{none_in, said_on, sure_acts, sure_again, sure_records}
 use Rattle.arj_part_law.proofs.Begun.{begun_tree, path_found}
 use Rattle.arj_part_law.proofs.GoodNodes.{message_well, input_well, tick_well}
 use Rattle.arj_part_law.proofs.GoodTrees.{found_by}
@@ -44,6 +43,7 @@ use Rattle.arj_part_law.proofs.Truths.{true_on}
 use Rattle.arj_part_law.proofs.TrueSteps.{faithful_on, true_records, well_acts, well_again}
 use Rattle.arj_part_law.proofs.Voted.{votes_only}
 use Rattle.arj_run_law.specs.Worlds.{IsUp, IsMemory, IsGoodPlace, IsSo, IsGoodWorld, IsGood, KnowsLabels}
+use Rattle.arj_run_law.proofs.Parted.{IsLeft, coord_kept}
 use Rattle.arj_run_law.proofs.Walked.{same_number, other_number, IsMine, Others, are_kept, walked, down_good}
 use Rattle.arj_view_law.specs.Keeps.{DidKeeps, is_act}
 use Rattle.arj_view_law.specs.Seen.{In, Post, Seen, at, up}

@@ -1,6 +1,6 @@
 -- What a handler makes of the coordinator.
-use Rattle.std.proofs.Common.{ℕ, List, [], Bool, true, false, cond, Option, Some, None}
 use Rattle.std.specs.Prelude.{⊤, option_map}
+use Rattle.std.proofs.Common.{ℕ, List, [], Bool, true, false, cond, Option, Some, None}
 use Rattle.arj_protocol.specs.Words.{Uid, End, Head, Asked, Ask, Message, ObjectState, asks, object}
 use Rattle.arj_protocol.specs.Words.ask
 use Rattle.arj_protocol.specs.Words.message

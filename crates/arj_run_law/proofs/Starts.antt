@@ -1,12 +1,7 @@
 -- All that holds of nodes and messages holds at first, and a restart leaves it.
-use Rattle.arj_part_law.proofs.ObjectsAsked.{obj_new}
-use Rattle.arj_part_law.proofs.Numbered.{num_new}
-use Rattle.arj_part_law.proofs.EndsHandled.{says_queries}
-use Rattle.arj_part_law.proofs.EndsSaid.{none_in, sure_new, sure_records}
-use Rattle.arj_part_law.specs.Ends.{AllSayEnds, AreOfCommits, IsSure, SaysEndsIn}
-use Rattle.std.proofs.Common.{◌≡◌, ◌+◌, arith, ℕ, List, [], ◌∷◌, ◌++◌, length, map, zero, suc, true, false, Option, Some, None, refl, sym, ◌∙◌, ap, subst, ⊎_elim, length-append}
 use Rattle.std.specs.Prelude.{slice_get}
 use Rattle.std.specs.List.{AllByRecursion}
+use Rattle.std.proofs.Common.{◌≡◌, ◌+◌, arith, ℕ, List, [], ◌∷◌, ◌++◌, length, map, zero, suc, true, false, Option, Some, None, refl, sym, ◌∙◌, ap, subst, ⊎_elim, length-append}
 use Rattle.arj_lock.proofs.Members.{in_from}
 use Rattle.arj_protocol.specs.Words.{Uid, Header}
 use Rattle.arj_protocol.specs.Words.body
@@ -20,12 +15,17 @@ use Rattle.arj_protocol.specs.Order.{uid_set, without_number}
 use Rattle.arj_protocol.specs.Step.{Node, first_disk, first_node, hello_to, naming_at, naming_back, numbers_to, parts_in, recovered_records, restart_outs, tolds_again}
 use Rattle.arj_protocol.specs.Tree.{at_place, new_tree}
 use Rattle.arj_protocol.specs.World.{format}
+use Rattle.arj_part_law.specs.Ends.{AllSayEnds, AreOfCommits, IsSure, SaysEndsIn}
 use Rattle.arj_part_law.specs.Actions.{Agree, AreBegun, AreCounted, paths_of}
 use Rattle.arj_part_law.specs.Claims.{IsFaithful}
 use Rattle.arj_part_law.specs.Copies.{IsTree, Paths}
 use Rattle.arj_part_law.specs.Incs.{IsClaimsOf}
 use Rattle.arj_part_law.specs.Messages.{AllFit}
 use Rattle.arj_part_law.specs.Nodes.{IsGoodNode}
+use Rattle.arj_part_law.proofs.ObjectsAsked.{obj_new}
+use Rattle.arj_part_law.proofs.Numbered.{num_new}
+use Rattle.arj_part_law.proofs.EndsHandled.{says_queries}
+use Rattle.arj_part_law.proofs.EndsSaid.{none_in, sure_new, sure_records}
 use Rattle.arj_part_law.proofs.Begun.{begun_tree, counted_anew, path_found}
 use Rattle.arj_part_law.proofs.GoodNodes.{restart_well}
 use Rattle.arj_part_law.proofs.GoodTrees.{get_more}

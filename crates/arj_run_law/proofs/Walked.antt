@@ -1,26 +1,26 @@
 -- A node's effects, walked through one by one, leave all that holds of nodes and messages.
-use Rattle.arj_part_law.proofs.Truths.{put_in}
-use Rattle.arj_part_law.proofs.GoodTrees.{found_by}
-use Rattle.arj_part_law.proofs.EndsSaid.{said_so}
+use Rattle.std.specs.Prelude.{⊤}
+use Rattle.std.specs.List.{AllByRecursion}
+use Rattle.std.proofs.lemmas.Bool.{and_parts}
+use Rattle.std.proofs.Common.{◌≡◌, ◌≤◌, ◌==◌, arith, ℕ, List, [], ◌∷◌, Bool, true, false, cond, Option, Some, None, refl, sym, ◌∙◌, ap, subst, inr, ⊎_elim, eqb-true, Contains}
 use Rattle.arj_lock.proofs.Members.{in_from, in_to}
-use Rattle.arj_part_law.specs.Ends.{AllSayEnds, AreOfCommits, IsOfCommit, IsSaidSo, brought}
 use Rattle.arj_protocol.specs.Order.{put_uid, without_uid}
 use Rattle.arj_protocol.specs.Words.role
 use Rattle.arj_protocol.specs.Words.ending
-use Rattle.std.proofs.lemmas.Bool.{and_parts}
-use Rattle.std.proofs.Common.{◌≡◌, ◌≤◌, ◌==◌, arith, ℕ, List, [], ◌∷◌, Bool, true, false, cond, Option, Some, None, refl, sym, ◌∙◌, ap, subst, inr, ⊎_elim, eqb-true, Contains}
-use Rattle.std.specs.Prelude.{⊤}
-use Rattle.std.specs.List.{AllByRecursion}
 use Rattle.arj_protocol.specs.Words.{Uid, Body, Label, Message, End}
 use Rattle.arj_protocol.specs.Effect.{Disk, Effect, Say, Send, Do, Work, Stop, worked, stopped, Look, PutInc, Prepare, Commit, Abort, PutIntent, RemoveIntent}
 use Rattle.arj_protocol.specs.Node.{Parts}
 use Rattle.arj_protocol.specs.Step.{Node}
 use Rattle.arj_protocol.specs.Tree.{is_own, Tree, Branch, branch_of}
 use Rattle.arj_protocol.specs.World.{Labelled}
+use Rattle.arj_part_law.specs.Ends.{AllSayEnds, AreOfCommits, IsOfCommit, IsSaidSo, brought}
 use Rattle.arj_part_law.specs.Actions.{Action, AreBegun, AreCounted}
 use Rattle.arj_part_law.specs.Claims.{IsOwnRecord, IsSettled, AreOfNode}
 use Rattle.arj_part_law.specs.Incs.{SaysInc, KeepsInc, AreOfInc, IsClaimsOf}
 use Rattle.arj_part_law.specs.Messages.{AllFit, FitsMessage, FitsWork, Seals, IsDecided}
+use Rattle.arj_part_law.proofs.Truths.{put_in}
+use Rattle.arj_part_law.proofs.GoodTrees.{found_by}
+use Rattle.arj_part_law.proofs.EndsSaid.{said_so}
 use Rattle.arj_part_law.proofs.SaidIncs.{worked_inc, stopped_inc}
 use Rattle.arj_part_law.proofs.Tellings.{worked_tops, stopped_tops}
 use Rattle.arj_part_law.proofs.TrueSteps.{worked_home, stopped_home, without_in}

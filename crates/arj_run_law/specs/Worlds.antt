@@ -1,7 +1,4 @@
 -- What holds of all nodes and of every message that was ever sent, in each run.
-use Rattle.arj_part_law.specs.AskedObjects.{KnowsObjects}
-use Rattle.arj_part_law.specs.Requests.{AreNumbered}
-use Rattle.arj_part_law.specs.Ends.{AreOfCommits, IsSaidSo, IsSure, brought}
 use Rattle.std.specs.Prelude.{◌≡◌, ◌≤◌, ℕ, true, List, Option, Some, None, length, ⊤, Contains}
 use Rattle.arj_protocol.specs.Words.{Uid, Label, is_on, End, Message}
 use Rattle.arj_protocol.specs.Coord.{Coord, number_of}
@@ -10,6 +7,9 @@ use Rattle.arj_protocol.specs.Node.{Parts}
 use Rattle.arj_protocol.specs.Step.{Node}
 use Rattle.arj_protocol.specs.Tree.{Branch, at_place, is_own, is_serial}
 use Rattle.arj_protocol.specs.World.{Labelled}
+use Rattle.arj_part_law.specs.AskedObjects.{KnowsObjects}
+use Rattle.arj_part_law.specs.Requests.{AreNumbered}
+use Rattle.arj_part_law.specs.Ends.{AreOfCommits, IsSaidSo, IsSure, brought}
 use Rattle.arj_part_law.specs.Actions.{Action, Agree, AreBegun, AreCounted}
 use Rattle.arj_part_law.specs.Claims.{AreOfNode, IsFaithful, IsSettled}
 use Rattle.arj_part_law.specs.Copies.{IsTree, Paths}

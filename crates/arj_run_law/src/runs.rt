@@ -1,6 +1,11 @@
 // What holds in every run.
-ghost use Rattle.std.specs.Prelude.{List};
+ghost use Rattle.std.specs.Prelude.{◌≡◌, ℕ, List, Option, Some};
 ghost use Rattle.arj_journal.specs.declared.header.Header.{Header};
+ghost use Rattle.arj_part_law.specs.Actions.{Action, AreBegun, paths_of};
+ghost use Rattle.arj_part_law.specs.Nodes.{IsGoodNode};
+ghost use Rattle.arj_protocol.specs.Node.{Parts};
+ghost use Rattle.arj_protocol.specs.Step.{Node};
+ghost use Rattle.arj_protocol.specs.Tree.{at_place};
 ghost use Rattle.arj_protocol.specs.World.{Asked, World, format, run_all, run_event};
 ghost use Rattle.arj_run_law.specs.Worlds.{IsGood};
 ghost use Rattle.arj_view_law.specs.Keeps.{Holds, Keeps};
@@ -11,6 +16,7 @@ ghost use Rattle.arj_view_law.specs.Keeps.{Holds, Keeps};
 /// handler keeps this, at each of its effects and wherever a stop falls. It does nothing when it runs.
 pub fn parts_are_good_in_every_run()
     ensures runs { (hd : Header) (es : List Asked) → Holds hd IsGood (run_all es (format hd)) }
+    ensures nodes { (hd : Header) (es : List Asked) (k : ℕ) (n : Node) (t : Parts) → at_place k (run_all es (format hd)).nodes ≡ Some n → n.live ≡ Some t → (acts : List Action) × AreBegun acts × IsGoodNode acts (paths_of acts) t }
     ensures event { (hd : Header) (e : Asked) (w : World) → Holds hd IsGood w → Holds hd IsGood (run_event e w) }
     ensures handlers { (hd : Header) → Keeps hd IsGood }
 {}

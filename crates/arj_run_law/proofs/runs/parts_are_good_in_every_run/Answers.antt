@@ -1,5 +1,5 @@
 use Rattle.arj_run_law.specs.Worlds.{IsGood}
-use Rattle.arj_run_law.proofs.AllRuns.{all_keep}
+use Rattle.arj_run_law.proofs.AllRuns.{all_keep, nodes_good}
 use Rattle.arj_run_law.proofs.runs.parts_are_good_in_every_run.Goals as goal
 use Rattle.arj_view_law.proofs.Happens.{event_holds, runs_hold}
 
@@ -11,3 +11,6 @@ returns-clause-event c = λ hd e w h. event_holds hd IsGood (all_keep hd) e w h
 
 pub returns-clause-handlers : goal.returns-clause-handlers
 returns-clause-handlers c = all_keep
+
+pub returns-clause-nodes : goal.returns-clause-nodes
+returns-clause-nodes c = nodes_good
