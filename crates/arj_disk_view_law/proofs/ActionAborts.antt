@@ -341,9 +341,9 @@ module _ (x : ℕ) (tops : Kinds) (e k : ℕ) (d : Disk) (t : Parts) (act : Uid)
           only : (c : Bool) → (c || false) ≡ true → c ≡ true
           only true e = refl
           only false e = absurd (cc e)
-  may_tell w among h kind.Top p kd_is p_is of = plain w among h of.0
-  may_tell w among h kind.Independent p kd_is p_is of = plain w among h of.0
-  may_tell w among h kind.Constituent p kd_is p_is of = plain w among h of.0
+  may_tell w among h kind.Top p kd_is p_is of = (of.0, plain w among h of.0)
+  may_tell w among h kind.Independent p kd_is p_is of = (of.0, plain w among h of.0)
+  may_tell w among h kind.Constituent p kd_is p_is of = (of.0, plain w among h of.0)
 
   told_of : (w : Uid) → AmongUids w Us → IsToldOf tops d Last LastWorld.disk w
   told_of w among =

@@ -100,7 +100,7 @@ writers_have_targets S t core conf open_yet writes = by S.entry_pend refl
 
 -- ---- who is told
 
-module _ (x : ℕ) (tops : Kinds) (e k : ℕ) (d : Disk) (v : Parts) (u root : Uid) (p : commit.Plan) where
+module _ (x : ℕ) (tops : Kinds) (e k : ℕ) (d : Disk) (v : Parts) (u root : Uid) (p : commit.Plan) (top : tops.is_top (uid_number u) ≡ true) where
   abbrev P : Seen → Type 0
   P = IsSeenByDisks x tops
 
@@ -129,7 +129,7 @@ module _ (x : ℕ) (tops : Kinds) (e k : ℕ) (d : Disk) (v : Parts) (u root : U
           let U : World = after V (machine.Send m) in
           let q : Post = record { from = k; to = n; message = message.Told (record { root = root; ack = false; ends = (u, ending.Abort) ∷ [] }) } in
           ih (said e more (posted q N)) U (record { done = r.done; there = r.there }) (says_seen x tops U (up k d v (posted q N)) (numbered e more)
-          (posts_seen x tops U (up k d v N) q (inl (inl (inl refl)), λ a. absurd (cc a)) (sends_seen x tops V (up k d v N) m ((decision_tells V u n (participants p) s.whole.core r.done r.there).1 is) s)))
+          (posts_seen x tops U (up k d v N) q (inl (top, inl (inl refl)), λ a. absurd (cc a)) (sends_seen x tops V (up k d v N) m ((decision_tells V u n (participants p) s.whole.core r.done r.there).1 is) s)))
 
   -- without one
   bare_told : has_record p ≡ false → p.confirmed ≡ true → (ns : List ℕ) (N : Seen) (V : World) → V.disk.bare (uid_number u) ≡ true → SeesDisks x tops V (up k d v N) → Walks P e k (map (decided_told root u p) ns) (Up P k v) d N
@@ -147,7 +147,7 @@ module _ (x : ℕ) (tops : Kinds) (e k : ℕ) (d : Disk) (v : Parts) (u root : U
       by false is ih = λ more quiet.
           let q : Post = record { from = k; to = n; message = message.Told (record { root = root; ack = false; ends = (u, ending.Abort) ∷ [] }) } in
           ih (said e more (posted q N)) V r (says_seen x tops V (up k d v (posted q N)) (numbered e more)
-          (posts_seen x tops V (up k d v N) q (inl (inr (r, λ same. never names_part (ap (λ j. order.has (participants p) j) (sym same) ∙ is))), λ a. absurd (cc a)) s))
+          (posts_seen x tops V (up k d v N) q (inl (top, inr (r, λ same. never names_part (ap (λ j. order.has (participants p) j) (sym same) ∙ is))), λ a. absurd (cc a)) s))
 
 -- ---- the decision
 
@@ -264,7 +264,7 @@ module _ (x : ℕ) (tops : Kinds) (e k : ℕ) (d : Disk) (t : Parts) (act : Uid)
       later_all : IsLater W LastWorld
       later_all = effects_are_later W (machine.Intend (uid_number act) (participants p) ∷ machine.Decide (uid_number act) ∷ []) (written.0, (made.0, tt)) sees.whole
 
-      told : Recorded x tops e k d1 (with_coord t C) act (root_of p.path) p LastWorld.disk
+      told : Recorded x tops e k d1 (with_coord t C) act (root_of p.path) p top LastWorld.disk
       told = record { done = ap (λ b. b || disk.decided LaterWorld.disk (uid_number act)) (test_same (uid_number act)); there = put_same (uid_number act) (Some (participants p)) W.disk.intent }
 
       s2 : SeesDisks x tops LastWorld (up k d1 (with_coord t C) M)
@@ -276,7 +276,7 @@ module _ (x : ℕ) (tops : Kinds) (e k : ℕ) (d : Disk) (t : Parts) (act : Uid)
           (λ r is. let same = some_is doing_now is in ((λ m on. inl told.done), subst (λ (z : Doing). KnowsNow x LastWorld z.now) same tt)) (roots_known LastWorld later_all (λ w writes. inl (ap (λ (g : disk.Plan). g.writes) confirming.plan ∙ writes))))
 
       tolds : (N : Seen) → SeesDisks x tops LastWorld (up k d1 (with_coord t C) N) → Walks Q e k (map (decided_told (root_of p.path) act p) p.sent) (Up Q k (with_coord t C)) d1 N
-      tolds N s = recorded_told x tops e k d1 (with_coord t C) act (root_of p.path) p has p.sent N LastWorld told s
+      tolds N s = recorded_told x tops e k d1 (with_coord t C) act (root_of p.path) p top has p.sent N LastWorld told s
 
       stops : Stops Q e k (PutIntent act i0) d M
       stops Before = stops_seen x tops e k d (Some t) M (W, sees)
@@ -312,7 +312,7 @@ module _ (x : ℕ) (tops : Kinds) (e k : ℕ) (d : Disk) (t : Parts) (act : Uid)
           (λ r is. let same = some_is doing_now is in ((λ m on. inr (put_same (uid_number act) true W.disk.bare)), subst (λ (z : Doing). KnowsNow x LaterWorld z.now) same tt)) (roots_known LaterWorld later (λ w writes. absurd (untargeted w writes))))
 
       tolds : (N : Seen) → SeesDisks x tops LaterWorld (up k d (with_coord t C) N) → Walks Q e k (map (decided_told (root_of p.path) act p) p.sent) (Up Q k (with_coord t C)) d N
-      tolds N s = bare_told x tops e k d (with_coord t C) act (root_of p.path) p has_not refl p.sent N LaterWorld (put_same (uid_number act) true W.disk.bare) s
+      tolds N s = bare_told x tops e k d (with_coord t C) act (root_of p.path) p top has_not refl p.sent N LaterWorld (put_same (uid_number act) true W.disk.bare) s
 
   pub decides_walk : Goal (has_record p)
   decides_walk = by_record (has_record p) refl

@@ -158,7 +158,7 @@ module _ (x : ℕ) (tops : Kinds) (W V : World) (whole : Whole W) (later : IsLat
   end_stays : (to : ℕ) (e : Uid × End) → ClaimsEnd tops W to e → ClaimsEnd tops V to e
   end_stays to (u, ending.Commit) (inl c) = inl (commit_stays u to c)
   end_stays to (u, ending.Commit) (inr n) = inr n
-  end_stays to (u, ending.Abort) (inl c) = inl (abort_stays u to c)
+  end_stays to (u, ending.Abort) (inl c) = inl (c.0, abort_stays u to c.1)
   end_stays to (u, ending.Abort) (inr (inl i)) = inr (inl (ap (λ f. f (uid_number u)) later.serial ∙ i.0, later.sent (mail.ToldSerial (uid_number u) to) i.1))
   end_stays to (u, ending.Abort) (inr (inr n)) = inr (inr n)
 

@@ -23,6 +23,7 @@ pub mod HeardWalks
 pub mod Keys
 pub mod Later
 pub mod Marks
+pub mod NamingTold
 pub mod NewActions
 pub mod Notes
 pub mod OneEnd

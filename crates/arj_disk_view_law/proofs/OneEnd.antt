@@ -100,9 +100,9 @@ module _ (x : ℕ) (tops : Kinds) (e k : ℕ) (d : Disk) (t : Parts) (act : Uid)
   may_tell : (kd : Kind) → b.kind ≡ kd → IsOfKind tops act kd b.path → MayTell tops d C V.disk act kd b.path
   may_tell kind.Nested is of = let r = up_to_ends act (ends_of (root_of b.path) C.tree) (one_listed t.coord act b (knows.at_work act b found).0 how found at_work of.2) in subst (λ o. EndsNoTop tops o) (sym r.1) (of.0, of.1)
   may_tell kind.Serial is of = serial_over x k tops d t C M V halted_seen kinds act here gone of.1 of.0 (none_open (childless (ap is_serial is))) knows.rooted
-  may_tell kind.Top is of = plain of.0
-  may_tell kind.Independent is of = plain of.0
-  may_tell kind.Constituent is of = plain of.0
+  may_tell kind.Top is of = (of.0, plain of.0)
+  may_tell kind.Independent is of = (of.0, plain of.0)
+  may_tell kind.Constituent is of = (of.0, plain of.0)
 
   told : IsToldOf tops d C V.disk act
   told = let z = ends.kept act b found in

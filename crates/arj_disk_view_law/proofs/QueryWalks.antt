@@ -74,16 +74,16 @@ module _ (x : ℕ) (tops : Kinds) (e k : ℕ) (d : Disk) (t : Parts) (from : ℕ
       seen : SeesDisks x tops (after W (machine.Halt (uid_number act))) (up k d t M)
       seen = halts_again x k tops W M d t act sees here closed past
 
-      top_told : (W.disk.bare (uid_number act) ≡ true → IsOver (after W (machine.Halt (uid_number act))).disk (W.disk.root (uid_number act))) → Walks P e k (tell root false ((act, ending.Abort) ∷ []) from ∷ []) (Up P k t) d M
-      top_told over =
+      top_told : tops.is_top (uid_number act) ≡ true → (W.disk.bare (uid_number act) ≡ true → IsOver (after W (machine.Halt (uid_number act))).disk (W.disk.root (uid_number act))) → Walks P e k (tell root false ((act, ending.Abort) ∷ []) from ∷ []) (Up P k t) d M
+      top_told top over =
           let m : mail.Message = mail.ToldAbort (uid_number act) from in
-          told (after (after W (machine.Halt (uid_number act))) (machine.Send m)) root false ending.Abort (inl (inl (inl refl)), λ a. absurd (cc a))
+          told (after (after W (machine.Halt (uid_number act))) (machine.Send m)) root false ending.Abort (inl (top, inl (inl refl)), λ a. absurd (cc a))
           (sends_seen x tops (after W (machine.Halt (uid_number act))) (up k d t M) m (ends_may_be_told k W act from d.intents records here (λ i there. (unlisted i there, settled closed i there)) over) seen)
 
-      by_naming : (from ≡ naming) ⊎ ((from == naming) ≡ false) → (W.disk.bare (uid_number act) ≡ true) ⊎ (W.disk.bare (uid_number act) ≡ false) → Walks P e k (tell root false ((act, ending.Abort) ∷ []) from ∷ []) (Up P k t) d M
-      by_naming same (inr plain) = top_told (λ bare. absurd (never bare plain))
-      by_naming (inl same) (inl bare) = top_told (λ b. bare_over b same)
-      by_naming (inr other) (inl bare) = told W root false ending.Abort (inl (inr (bare, λ same. never (ap (λ n. n == naming) same ∙ test_same naming) other)), λ a. absurd (cc a)) sees
+      by_naming : tops.is_top (uid_number act) ≡ true → (from ≡ naming) ⊎ ((from == naming) ≡ false) → (W.disk.bare (uid_number act) ≡ true) ⊎ (W.disk.bare (uid_number act) ≡ false) → Walks P e k (tell root false ((act, ending.Abort) ∷ []) from ∷ []) (Up P k t) d M
+      by_naming top same (inr plain) = top_told top (λ bare. absurd (never bare plain))
+      by_naming top (inl same) (inl bare) = top_told top (λ b. bare_over b same)
+      by_naming top (inr other) (inl bare) = told W root false ending.Abort (inl (top, inr (bare, λ same. never (ap (λ n. n == naming) same ∙ test_same naming) other)), λ a. absurd (cc a)) sees
 
       serial_told : tops.is_top (uid_number act) ≡ false → tops.is_serial (uid_number act) ≡ true → Walks P e k (tell root false ((act, ending.Abort) ∷ []) from ∷ []) (Up P k t) d M
       serial_told no_top serial =
@@ -96,7 +96,7 @@ module _ (x : ℕ) (tops : Kinds) (e k : ℕ) (d : Disk) (t : Parts) (from : ℕ
           opened found unended = ap is_open_branch found ∙ ap (λ (o : Option End). not (is_some o)) unended
 
       by : (tops.is_top (uid_number act) ≡ true) ⊎ (tops.is_top (uid_number act) ≡ false) → (tops.is_serial (uid_number act) ≡ true) ⊎ (tops.is_serial (uid_number act) ≡ false) → Walks P e k (tell root false ((act, ending.Abort) ∷ []) from ∷ []) (Up P k t) d M
-      by (inl top) s = by_naming (test_cases from naming) (bool_cases (W.disk.bare (uid_number act)))
+      by (inl top) s = by_naming top (test_cases from naming) (bool_cases (W.disk.bare (uid_number act)))
       by (inr no_top) (inl serial) = serial_told no_top serial
       by (inr no_top) (inr plain) = told W root false ending.Abort (inr (inr (no_top, plain)), λ a. absurd (cc a)) sees
 

@@ -40,7 +40,7 @@ pub record SerialOver (S : State) (r : Uid) (deferred : ℕ → Bool) : Type 0 w
 abbrev pub MayTell : Kinds → Disk → Coord → State → Uid → Kind → Path → Type 0
 MayTell tops d C S u kind.Nested p = EndsNoTop tops (last_end (up_to u (ends_of (root_of p) C.tree)))
 MayTell tops d C S u kind.Serial p = SerialOver S u (is_deferred u d.intents)
-MayTell tops d C S u _ p = (n : ℕ) → Meaning S (mail.ToldAbort (uid_number u) n)
+MayTell tops d C S u _ p = (tops.is_top (uid_number u) ≡ true) × ((n : ℕ) → Meaning S (mail.ToldAbort (uid_number u) n))
 
 pub record IsToldOf (tops : Kinds) (d : Disk) (C : Coord) (S : State) (u : Uid) : Type 0 where
   pub branch : Branch
@@ -62,13 +62,13 @@ module _ (x k : ℕ) (tops : Kinds) (e : ℕ) (d : Disk) (t : Parts) (C : Coord)
       let p : Post = record { from = k; to = n; message = message.Told (record { root = root; ack = false; ends = ends }) } in
       says_seen x tops V (up k d (with_coord t C) (posted p N)) (numbered e more) (posts_seen x tops V (up k d (with_coord t C) N) p claim s)
 
-  pub aborted : (u root : Uid) (rest : List Effect) → Goes rest → ((n : ℕ) → Meaning S (mail.ToldAbort (uid_number u) n)) → (ns : List ℕ) → Goes (tell_all root false ((u, ending.Abort) ∷ []) ns ++ rest)
-  aborted u root rest go may [] N V same s = go N V same s
-  aborted u root rest go may (n ∷ ns) N V same s = λ more quiet.
+  pub aborted : (u root : Uid) (rest : List Effect) → Goes rest → tops.is_top (uid_number u) ≡ true → ((n : ℕ) → Meaning S (mail.ToldAbort (uid_number u) n)) → (ns : List ℕ) → Goes (tell_all root false ((u, ending.Abort) ∷ []) ns ++ rest)
+  aborted u root rest go top may [] N V same s = go N V same s
+  aborted u root rest go top may (n ∷ ns) N V same s = λ more quiet.
       let m : mail.Message = mail.ToldAbort (uid_number u) n in
       let p : Post = record { from = k; to = n; message = message.Told (record { root = root; ack = false; ends = (u, ending.Abort) ∷ [] }) } in
-      aborted u root rest go may ns (said e more (posted p N)) (after V (machine.Send m)) same
-      (sends_told (after V (machine.Send m)) N root ((u, ending.Abort) ∷ []) n more (inl (inl (inl refl)), λ a. absurd (cc a)) (sends_seen x tops V (up k d (with_coord t C) N) m (subst (λ D. Meaning D m) (sym same) (may n)) s))
+      aborted u root rest go top may ns (said e more (posted p N)) (after V (machine.Send m)) same
+      (sends_told (after V (machine.Send m)) N root ((u, ending.Abort) ∷ []) n more (inl (top, inl (inl refl)), λ a. absurd (cc a)) (sends_seen x tops V (up k d (with_coord t C) N) m (subst (λ D. Meaning D m) (sym same) (may n)) s))
 
   nested : (root : Uid) (ends : List (Uid × End)) (rest : List Effect) → Goes rest → EndsNoTop tops (last_end ends) → (ns : List ℕ) → Goes (tell_all root false ends ns ++ rest)
   nested root ends rest go none [] N V same s = go N V same s
@@ -100,9 +100,9 @@ module _ (x k : ℕ) (tops : Kinds) (e : ℕ) (d : Disk) (t : Parts) (C : Coord)
   by_kind : (u : Uid) (kd : Kind) (p : Path) (rest : List Effect) → Goes rest → MayTell tops d C S u kd p → Goes (tolds_by u kd p d.intents C ++ rest)
   by_kind u kind.Nested p rest go may = nested (root_of p) (up_to u (ends_of (root_of p) C.tree)) rest go may (servers_told u (root_at (root_of p) C) C)
   by_kind u kind.Serial p rest go may = serial u rest go may (λ n. not (is_deferred u d.intents n)) (λ n h. not_true (is_deferred u d.intents n) h) (nodes_sent u (root_at u C))
-  by_kind u kind.Top p rest go may = aborted u (root_of p) rest go may (nodes_sent u (root_at (root_of p) C))
-  by_kind u kind.Independent p rest go may = aborted u (root_of p) rest go may (nodes_sent u (root_at (root_of p) C))
-  by_kind u kind.Constituent p rest go may = aborted u (root_of p) rest go may (nodes_sent u (root_at (root_of p) C))
+  by_kind u kind.Top p rest go may = aborted u (root_of p) rest go may.0 may.1 (nodes_sent u (root_at (root_of p) C))
+  by_kind u kind.Independent p rest go may = aborted u (root_of p) rest go may.0 may.1 (nodes_sent u (root_at (root_of p) C))
+  by_kind u kind.Constituent p rest go may = aborted u (root_of p) rest go may.0 may.1 (nodes_sent u (root_at (root_of p) C))
 
   -- the nodes that an end concerns are told
   pub tolds_walk : (u : Uid) (rest : List Effect) → Goes rest → IsToldOf tops d C S u → Goes (tolds_of d.intents C u ++ rest)

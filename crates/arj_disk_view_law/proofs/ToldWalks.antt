@@ -65,7 +65,7 @@ module _ (x k : ℕ) (tops : Kinds) (e : ℕ) where
 
   -- ---- lines of a server
 
-  lines_walk : (t v : Parts) (outs rest : List Effect) (d : Disk) (W : World) → AreAll (is_server_effect k) outs
+  pub lines_walk : (t v : Parts) (outs rest : List Effect) (d : Disk) (W : World) → AreAll (is_server_effect k) outs
       → ((M : Seen) → SeesDisks x tops W (up k d t M) → Walks P e k rest (Up P k v) d M) → (M : Seen) → SeesDisks x tops W (up k d t M) → Walks P e k (outs ++ rest) (Up P k v) d M
   lines_walk t v [] rest d W own go M s = go M s
   lines_walk t v (Say b ∷ es) rest d W own go M s = lines_walk t v es rest d W (and_parts (is_server_effect k (Say b)) (list_all (is_server_effect k) es) own).1 go (said e (b ∷ []) M) (says_seen x tops W (up k d t M) (numbered e (b ∷ [])) s)
@@ -75,7 +75,7 @@ module _ (x k : ℕ) (tops : Kinds) (e : ℕ) where
   -- ---- the acknowledgement
 
   -- nobody holds the object at a store where the action has nothing prepared
-  holds_not : (c : Pair) (W : World) (u : Uid) → SeesStore x k c W.disk → at_uid u c.pend ≡ None → IsNot (W.disk.pend k) (uid_number u)
+  pub holds_not : (c : Pair) (W : World) (u : Uid) → SeesStore x k c W.disk → at_uid u c.pend ≡ None → IsNot (W.disk.pend k) (uid_number u)
   holds_not c W u s none h is own =
       let f = s.pair.holder h is in
       let same : f.action ≡ u = number_tells f.action u (ap (λ (g : Hold). g.top) f.is ∙ own) in
@@ -94,7 +94,7 @@ module _ (x k : ℕ) (tops : Kinds) (e : ℕ) where
 
   -- ---- the store's part
 
-  abbrev Rest : Parts → Parts → Uid → Bool → List Effect → Type 0
+  abbrev pub Rest : Parts → Parts → Uid → Bool → List Effect → Type 0
   Rest t v u ack rest = (d : Disk) (M : Seen) (W : World) → SeesDisks x tops W (up k d t M) → at_uid u d.store.pend ≡ None → (ack ≡ true → In (mail.ToldCommit (uid_number u) k) W.sent) → Walks P e k rest (Up P k v) d M
 
   own_at : (d : Disk) (t : Parts) (M : Seen) (W : World) → SeesDisks x tops W (up k d t M) → SeesStore x k d.store W.disk
@@ -104,7 +104,7 @@ module _ (x k : ℕ) (tops : Kinds) (e : ℕ) where
   prepared_kind : (d : Disk) (t : Parts) (M : Seen) (W : World) (u : Uid) → SeesDisks x tops W (up k d t M) → is_prepared u d.store ≡ true → (tops.is_top (uid_number u) ≡ true) × (W.disk.serial (uid_number u) ≡ false)
   prepared_kind d t M W u s is = let q = prepared_is u d.store is in s.kinds (uid_number u) ((own_at d t M W s).planned u q.0 q.1).begun
 
-  after_told : (W V : World) (u : Uid) (ack : Bool) → V.sent ≡ W.sent → (ack ≡ true → In (mail.ToldCommit (uid_number u) k) W.sent) → ack ≡ true → In (mail.ToldCommit (uid_number u) k) V.sent
+  pub after_told : (W V : World) (u : Uid) (ack : Bool) → V.sent ≡ W.sent → (ack ≡ true → In (mail.ToldCommit (uid_number u) k) W.sent) → ack ≡ true → In (mail.ToldCommit (uid_number u) k) V.sent
   after_told W V u ack same told is = subst (λ ms. In (mail.ToldCommit (uid_number u) k) ms) (sym same) (told is)
 
   commit_walks : (d : Disk) (t v : Parts) (u : Uid) (ack : Bool) (rest : List Effect) (M : Seen) (W : World) → SeesDisks x tops W (up k d t M) → ClaimsCommit W u k → is_prepared u d.store ≡ true → (ack ≡ true → In (mail.ToldCommit (uid_number u) k) W.sent)
@@ -155,14 +155,14 @@ module _ (x k : ℕ) (tops : Kinds) (e : ℕ) where
       stops After = stops_seen x tops e k (record d { store = pair_aborted u d.store }) (Some t) M (run W goes.effects, seen)
       stops (InPart which) = stops_seen x tops e k d (Some t) M (W, s)
 
-  store_walks : (d : Disk) (t v : Parts) (u : Uid) (how : End) (ack : Bool) (rest : List Effect) (M : Seen) (W : World) → SeesDisks x tops W (up k d t M) → ClaimsEnd tops W k (u, how) → (ack ≡ true → In (mail.ToldCommit (uid_number u) k) W.sent)
+  pub store_walks : (d : Disk) (t v : Parts) (u : Uid) (how : End) (ack : Bool) (rest : List Effect) (M : Seen) (W : World) → SeesDisks x tops W (up k d t M) → ClaimsEnd tops W k (u, how) → (ack ≡ true → In (mail.ToldCommit (uid_number u) k) W.sent)
       → Rest t v u ack rest → Walks P e k (store_told k u how d.store ++ rest) (Up P k v) d M
   store_walks d t v u how ack rest M W s claims told go = by (is_prepared u d.store) refl
     where
       ends : (how : End) → ClaimsEnd tops W k (u, how) → is_prepared u d.store ≡ true → Walks P e k (end_states k u how ++ rest) (Up P k v) d M
       ends ending.Commit (inl c) is = commit_walks d t v u ack rest M W s c is told go
       ends ending.Commit (inr no_top) is = absurd (never (prepared_kind d t M W u s is).0 no_top.0)
-      ends ending.Abort (inl c) is = abort_walks d t v u ack rest M W s c is told go
+      ends ending.Abort (inl c) is = abort_walks d t v u ack rest M W s c.1 is told go
       ends ending.Abort (inr (inl serial)) is = absurd (never serial.0 (prepared_kind d t M W u s is).1)
       ends ending.Abort (inr (inr no_top)) is = absurd (never (prepared_kind d t M W u s is).0 no_top.0)
 

@@ -126,7 +126,7 @@ module _ (x : ℕ) (tops : Kinds) (e k : ℕ) (d : Disk) (t : Parts) (act : Uid)
       by (Some r) = refl
 
   goes : Goes x k tops e d t C V.disk (map (decided_told (root_of p.path) act p) p.sent)
-  goes = subst (λ es. Goes x k tops e d t C V.disk es) (append-nil (tell_all (root_of p.path) false ((act, ending.Abort) ∷ []) p.sent) ∙ sym (told_is (root_of p.path) p.sent)) (aborted x k tops e d t C V.disk act (root_of p.path) [] (λ N U same s. (U, s)) may p.sent)
+  goes = subst (λ es. Goes x k tops e d t C V.disk es) (append-nil (tell_all (root_of p.path) false ((act, ending.Abort) ∷ []) p.sent) ∙ sym (told_is (root_of p.path) p.sent)) (aborted x k tops e d t C V.disk act (root_of p.path) [] (λ N U same s. (U, s)) top may p.sent)
 
   pub unused_walks : Walks (IsSeenByDisks x tops) e k (record_work act p ++ says act body.Committed t.coord ++ map (decided_told (root_of p.path) act p) p.sent) (Up (IsSeenByDisks x tops) k (with_coord t C)) d M
   unused_walks = subst (λ c. Walks (IsSeenByDisks x tops) e k ((if c then Do (PutIntent act (record { root = root_of p.path; nodes = participants p })) ∷ [] else []) ++ says act body.Committed t.coord ++ map (decided_told (root_of p.path) act p) p.sent) (Up (IsSeenByDisks x tops) k (with_coord t C)) d M)

@@ -1,5 +1,5 @@
 -- What the coordinator's handlers keep of the disk half, where what is known of the protocol alone holds.
-use Rattle.std.specs.Prelude.{⊤, ◌≡◌, ◌⊎◌, ◌==◌, Option, List, ◌+◌, ◌++◌, ℕ, true, false, [], Some, None}
+use Rattle.std.specs.Prelude.{⊤, ◌≡◌, ◌⊎◌, ◌==◌, Bool, Option, List, ◌+◌, ◌++◌, ℕ, true, false, [], Some, None}
 use Rattle.arj_protocol.specs.Words.{Uid, End, Label, Body, Ask, Asked, Head, Message, Op, Kind, Header, asks}
 use Rattle.arj_protocol.specs.Words.ask
 use Rattle.arj_protocol.specs.Words.message
@@ -13,7 +13,8 @@ use Rattle.arj_protocol.specs.Coord.{Coord, Doing, Now, Idle, Calling, Committin
 use Rattle.arj_protocol.specs.Effect.{Disk, Did, Effect, Intent}
 use Rattle.arj_protocol.specs.Asking.{again_all, begin_action, call, include, heard_call, step_commit, moved_commit, commit_action, waits_for_commit, gives_up}
 use Rattle.arj_protocol.specs.Ending.{abort_action, acked_left, answer_query, ends_with, decide}
-use Rattle.arj_protocol.specs.Node.{Parts, Took, handle, holders, prepared_actions, with_coord}
+use Rattle.arj_protocol.specs.Naming.{Naming, orphans}
+use Rattle.arj_protocol.specs.Node.{Parts, Took, handle, handle_told, holders, prepared_actions, with_coord}
 use Rattle.arj_protocol.specs.Order.{at_uid, uid_number, uid_set, without_number}
 use Rattle.arj_protocol.specs.Step.{Input, acts, refusal_up, restart_outs, parts_in}
 use Rattle.arj_protocol.specs.World.{Labelled}
@@ -29,7 +30,7 @@ use Rattle.arj_view_law.specs.Seen.{Seen, up, down, given}
 use Rattle.arj_view_law.specs.Walks.{Walks, Up}
 use Rattle.arj_disk_view_law.specs.Asking.{IsUnanswered}
 use Rattle.arj_disk_view_law.specs.Knows.{KnowsKinds, KnowsCoord, KnowsPlan, IsOfKind}
-use Rattle.arj_disk_view_law.specs.Sees.{Kinds, was_begun, IsFuture, SeesDisks, IsSeenByDisks, KnowsNow, ClaimsReply}
+use Rattle.arj_disk_view_law.specs.Sees.{Kinds, was_begun, IsFuture, SeesDisks, IsSeenByDisks, KnowsNow, ClaimsLast, ClaimsReply}
 
 -- the coordinator's part of a step keeps the disk half
 abbrev pub DidIsWalked : ℕ → Kinds → ℕ → ℕ → Disk → Parts → Did Coord → Seen → Type 0
@@ -135,6 +136,15 @@ TicksAreWalked = (x : ℕ) (tops : Kinds) (e k : ℕ) (d : Disk) (t : Parts) (M 
 abbrev pub RestartsAreWalked : Type 0
 RestartsAreWalked = (x : ℕ) (tops : Kinds) (e k : ℕ) (hd : Header) (d : Disk) (M : Seen) → AllByRecursion (λ u. was_begun u M.lines ≡ true) (uid_set (prepared_actions d.store ++ prepared_actions d.names)) → (W : World) → SeesDisks x tops W (down k d M)
     → Walks (IsSeenByDisks x tops) e k (restart_outs hd k (d.inc + 1) d) (Up (IsSeenByDisks x tops) k (parts_in k (d.inc + 1) d)) d M
+
+-- An end that naming is told, to be acknowledged or not: its own entries end, and with the end of a serializing action those of
+-- its constituents. Who loses its row by the end of another action is a constituent of that one.
+abbrev pub AreOrphansOf : Kinds → Uid → Disk → Naming → Type 0
+AreOrphansOf tops u d n = AllByRecursion (λ (a : Uid). (tops.root (uid_number a) ≡ uid_number u) × (tops.is_top (uid_number u) ≡ false) × (tops.is_serial (uid_number u) ≡ true)) (orphans u d.names n)
+
+abbrev pub NamingIsTold : Type 0
+NamingIsTold = (x : ℕ) (tops : Kinds) (e : ℕ) (d : Disk) (t v : Parts) (n : Naming) (from : ℕ) (ack : Bool) (ends : List (Uid × End)) (u : Uid) (how : End) (outs : List Effect) (M : Seen) → t.naming ≡ Some n → AreOrphansOf tops u d n
+    → (W : World) → SeesDisks x tops W (up 1 d t M) → ClaimsLast tops W 1 ack (Some (u, how)) → handle_told 1 d t from ack ends u how ≡ Took v outs → Walks (IsSeenByDisks x tops) e 1 outs (Up (IsSeenByDisks x tops) 1 v) d M
 
 -- ---- whole inputs and messages
 

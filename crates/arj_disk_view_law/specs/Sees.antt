@@ -80,7 +80,7 @@ IsNested tops t = (tops.is_top t ≡ false) × (tops.is_serial t ≡ false)
 -- An end: of a top, of a serializing action, or of a nested action, which has nothing prepared.
 abbrev pub ClaimsEnd : Kinds → World → ℕ → Uid × End → Type 0
 ClaimsEnd tops W to (u, ending.Commit) = ClaimsCommit W u to ⊎ IsNested tops (uid_number u)
-ClaimsEnd tops W to (u, ending.Abort) = ClaimsAbort W u to ⊎ (((W.disk.serial (uid_number u) ≡ true) × In (mail.ToldSerial (uid_number u) to) W.sent) ⊎ IsNested tops (uid_number u))
+ClaimsEnd tops W to (u, ending.Abort) = ((tops.is_top (uid_number u) ≡ true) × ClaimsAbort W u to) ⊎ (((W.disk.serial (uid_number u) ≡ true) × In (mail.ToldSerial (uid_number u) to) W.sent) ⊎ IsNested tops (uid_number u))
 
 -- where it is to be acknowledged, it is a commit with a record
 abbrev pub ClaimsLast : Kinds → World → ℕ → Bool → Option (Uid × End) → Type 0
