@@ -155,7 +155,7 @@ module _ (x : ℕ) (tops : Kinds) (W V : World) (whole : Whole W) (later : IsLat
   reply_stays from u (Reply.Invoked r) c = tt
   reply_stays from u (Reply.Voted r) c = tt
 
-  end_stays : (to : ℕ) (e : Uid × End) → ClaimsEnd tops W to e → ClaimsEnd tops V to e
+  pub end_stays : (to : ℕ) (e : Uid × End) → ClaimsEnd tops W to e → ClaimsEnd tops V to e
   end_stays to (u, ending.Commit) (inl c) = inl (commit_stays u to c)
   end_stays to (u, ending.Commit) (inr n) = inr n
   end_stays to (u, ending.Abort) (inl c) = inl (c.0, abort_stays u to c.1)

@@ -30,10 +30,11 @@ use Rattle.arj_view_law.specs.Walks.{Walks, Stops, Up}
 use Rattle.arj_disk_view_law.specs.Entries.{SeesEntry}
 use Rattle.arj_disk_view_law.specs.Deciding.{SeesRecords}
 use Rattle.arj_disk_view_law.specs.Stores.{SeesStore, StoreGoes, ClaimsCommit, ClaimsAbort}
-use Rattle.arj_disk_view_law.specs.Sees.{Kinds, ClaimsEnd, ClaimsLast, SeesDisks, SeesCoord, SeesNotes, SeesDown, SeesConfirmed, IsSeenByDisks, EndsAreWalked}
+use Rattle.arj_disk_view_law.specs.Sees.{Kinds, ClaimsEnd, ClaimsLast, SeesDisks, SeesCoord, SeesNotes, SeesDown, SeesConfirmed, IsLater, IsSeenByDisks, EndsAreWalked}
 use Rattle.arj_disk_view_law.proofs.Frames.{nodes_to, node_here, says_seen, posts_seen, sends_seen, store_goes_seen}
 use Rattle.arj_disk_view_law.proofs.Halts.{stops_seen}
 use Rattle.arj_disk_view_law.proofs.Keys as keys
+use Rattle.arj_disk_view_law.proofs.Later.{effects_are_later, later_same}
 use Rattle.arj_disk_view_law.proofs.StoreSteps.{prepared_is, unprepared, stores_commit, stores_stop_in_part, stores_abort}
 
 -- ---- a node whose coordinator and naming stay
@@ -94,8 +95,8 @@ module _ (x k : ℕ) (tops : Kinds) (e : ℕ) where
 
   -- ---- the store's part
 
-  abbrev pub Rest : Parts → Parts → Uid → Bool → List Effect → Type 0
-  Rest t v u ack rest = (d : Disk) (M : Seen) (W : World) → SeesDisks x tops W (up k d t M) → at_uid u d.store.pend ≡ None → (ack ≡ true → In (mail.ToldCommit (uid_number u) k) W.sent) → Walks P e k rest (Up P k v) d M
+  abbrev pub Rest : Disk → World → Parts → Parts → Uid → Bool → List Effect → Type 0
+  Rest d W0 t v u ack rest = (c : Pair) (M : Seen) (W : World) → IsLater W0 W → SeesDisks x tops W (up k (record d { store = c }) t M) → at_uid u c.pend ≡ None → (ack ≡ true → In (mail.ToldCommit (uid_number u) k) W.sent) → Walks P e k rest (Up P k v) (record d { store = c }) M
 
   own_at : (d : Disk) (t : Parts) (M : Seen) (W : World) → SeesDisks x tops W (up k d t M) → SeesStore x k d.store W.disk
   own_at d t M W s = s.stores k (record { number = k; disk = d; live = Some t }) (node_here M k (record { number = k; disk = d; live = Some t }))
@@ -108,10 +109,10 @@ module _ (x k : ℕ) (tops : Kinds) (e : ℕ) where
   after_told W V u ack same told is = subst (λ ms. In (mail.ToldCommit (uid_number u) k) ms) (sym same) (told is)
 
   commit_walks : (d : Disk) (t v : Parts) (u : Uid) (ack : Bool) (rest : List Effect) (M : Seen) (W : World) → SeesDisks x tops W (up k d t M) → ClaimsCommit W u k → is_prepared u d.store ≡ true → (ack ≡ true → In (mail.ToldCommit (uid_number u) k) W.sent)
-      → Rest t v u ack rest → Walks P e k (Do (Commit role.Store u) ∷ Say (body.Done k u role.Store ending.Commit) ∷ rest) (Up P k v) d M
+      → Rest d W t v u ack rest → Walks P e k (Do (Commit role.Store u) ∷ Say (body.Done k u role.Store ending.Commit) ∷ rest) (Up P k v) d M
   commit_walks d t v u ack rest M W s claims is told go = (
     stops,
-    go (record d { store = pair_committed u d.store }) (said e (body.Done k u role.Store ending.Commit ∷ []) M) V
+    go (pair_committed u d.store) (said e (body.Done k u role.Store ending.Commit ∷ []) M) V (effects_are_later W goes.effects goes.allowed s.whole)
         (says_seen x tops V (up k (record d { store = pair_committed u d.store }) t M) (numbered e (body.Done k u role.Store ending.Commit ∷ [])) seen)
         (keys.without_same u d.store.pend (own_at d t M W s).pair.sorted) (after_told W V u ack goes.only.sent told),
   )
@@ -133,10 +134,10 @@ module _ (x k : ℕ) (tops : Kinds) (e : ℕ) where
           stops_seen x tops e k (record d { store = pair_in_part which u d.store }) (Some t) M (run W part.effects, store_goes_seen x k tops W M d t s (pair_in_part which u d.store) part)
 
   abort_walks : (d : Disk) (t v : Parts) (u : Uid) (ack : Bool) (rest : List Effect) (M : Seen) (W : World) → SeesDisks x tops W (up k d t M) → ClaimsAbort W u k → is_prepared u d.store ≡ true → (ack ≡ true → In (mail.ToldCommit (uid_number u) k) W.sent)
-      → Rest t v u ack rest → Walks P e k (Do (Abort role.Store u) ∷ Say (body.Done k u role.Store ending.Abort) ∷ rest) (Up P k v) d M
+      → Rest d W t v u ack rest → Walks P e k (Do (Abort role.Store u) ∷ Say (body.Done k u role.Store ending.Abort) ∷ rest) (Up P k v) d M
   abort_walks d t v u ack rest M W s claims is told go = (
     stops,
-    go (record d { store = pair_aborted u d.store }) (said e (body.Done k u role.Store ending.Abort ∷ []) M) V
+    go (pair_aborted u d.store) (said e (body.Done k u role.Store ending.Abort ∷ []) M) V (effects_are_later W goes.effects goes.allowed s.whole)
         (says_seen x tops V (up k (record d { store = pair_aborted u d.store }) t M) (numbered e (body.Done k u role.Store ending.Abort ∷ [])) seen)
         (keys.without_same u d.store.pend (own_at d t M W s).pair.sorted) (after_told W V u ack goes.only.sent told),
   )
@@ -156,7 +157,7 @@ module _ (x k : ℕ) (tops : Kinds) (e : ℕ) where
       stops (InPart which) = stops_seen x tops e k d (Some t) M (W, s)
 
   pub store_walks : (d : Disk) (t v : Parts) (u : Uid) (how : End) (ack : Bool) (rest : List Effect) (M : Seen) (W : World) → SeesDisks x tops W (up k d t M) → ClaimsEnd tops W k (u, how) → (ack ≡ true → In (mail.ToldCommit (uid_number u) k) W.sent)
-      → Rest t v u ack rest → Walks P e k (store_told k u how d.store ++ rest) (Up P k v) d M
+      → Rest d W t v u ack rest → Walks P e k (store_told k u how d.store ++ rest) (Up P k v) d M
   store_walks d t v u how ack rest M W s claims told go = by (is_prepared u d.store) refl
     where
       ends : (how : End) → ClaimsEnd tops W k (u, how) → is_prepared u d.store ≡ true → Walks P e k (end_states k u how ++ rest) (Up P k v) d M
@@ -168,7 +169,7 @@ module _ (x k : ℕ) (tops : Kinds) (e : ℕ) where
 
       by : (b : Bool) → is_prepared u d.store ≡ b → Walks P e k ((if b then end_states k u how else []) ++ rest) (Up P k v) d M
       by true is = ends how claims is
-      by false is = go d M W s (unprepared u d.store is) told
+      by false is = go d.store M W (later_same W) s (unprepared u d.store is) told
 
   -- the whole handler at a node without naming
   told_walks : (d : Disk) (t : Parts) (from : ℕ) (ack : Bool) (ends : List (Uid × End)) (u : Uid) (how : End) (M : Seen) (W : World) → (k == 1) ≡ false → t.naming ≡ None → SeesDisks x tops W (up k d t M) → ClaimsLast tops W k ack (Some (u, how))
@@ -192,7 +193,7 @@ module _ (x k : ℕ) (tops : Kinds) (e : ℕ) where
 
       walked : Walks P e k (store_told k u how d.store ++ ((server.told k ends t.server).outs ++ ack_told from u ack)) (Up P k left) d M
       walked = store_walks d t left u how ack ((server.told k ends t.server).outs ++ ack_told from u ack) M W s claims.0 claims.1
-          (λ c N V seen none told. lines_walk t left (server.told k ends t.server).outs (ack_told from u ack) c V (ends_own k ends t.server) (λ N2 seen2. ack_walks c t left from u ack N2 V apart refl nowhere seen2 none told) N seen)
+          (λ c N V later seen none told. lines_walk t left (server.told k ends t.server).outs (ack_told from u ack) (record d { store = c }) V (ends_own k ends t.server) (λ N2 seen2. ack_walks (record d { store = c }) t left from u ack N2 V apart refl nowhere seen2 none told) N seen)
 
       joined : store_told k u how d.store ++ ((server.told k ends t.server).outs ++ ack_told from u ack) ≡ store_told k u how d.store ++ (naming_told u how d.names t.naming).outs ++ (server.told k ends t.server).outs ++ ack_told from u ack
       joined = sym (append_assoc (store_told k u how d.store) (server.told k ends t.server).outs (ack_told from u ack))

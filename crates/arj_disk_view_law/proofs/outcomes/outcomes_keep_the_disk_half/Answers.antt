@@ -1,4 +1,5 @@
 use Rattle.arj_disk_view_law.proofs.AckWalks.{acks_are_taken}
+use Rattle.arj_disk_view_law.proofs.NamingTold.{naming_is_told}
 use Rattle.arj_disk_view_law.proofs.QueryWalks.{queries_are_answered}
 use Rattle.arj_disk_view_law.proofs.RestartWalks.{restarts_are_walked}
 use Rattle.arj_disk_view_law.proofs.TickWalks.{ticks_are_walked}
@@ -15,3 +16,6 @@ returns-clause-ticks c = ticks_are_walked
 
 pub returns-clause-restarts : goal.returns-clause-restarts
 returns-clause-restarts c = restarts_are_walked
+
+pub returns-clause-naming : goal.returns-clause-naming
+returns-clause-naming c = naming_is_told
