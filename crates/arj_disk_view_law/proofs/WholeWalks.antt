@@ -1,5 +1,5 @@
 -- Whole inputs about actions, and whole messages, walked through.
-use Rattle.std.proofs.Common.{◌≡◌, ◌⊎◌, ℕ, ◌==◌, ◌&&◌, ◌||◌, List, [], ◌∷◌, Bool, true, false, Option, Some, None, refl, sym, ◌∙◌, ap, subst, inl, inr}
+use Rattle.std.proofs.Common.{◌≡◌, ℕ, ◌&&◌, ◌||◌, List, [], ◌∷◌, Bool, true, false, Option, Some, None, refl, sym, ◌∙◌, ap, subst}
 use Rattle.std.specs.Prelude.{if◌then◌else◌, not, is_some}
 use Rattle.std.specs.List.{list_any}
 use Rattle.std.proofs.lemmas.Bool.{or_parts}
@@ -7,14 +7,15 @@ use Rattle.arj_protocol.specs.Words.{Uid, End, Head, Ask, Asked, Op, Label, Mess
 use Rattle.arj_base.proofs.Uids.{uid_same}
 use Rattle.arj_protocol.specs.Words.ask
 use Rattle.arj_protocol.specs.Words.message
-use Rattle.arj_protocol.specs.Ask.{Reply, actor, answers}
+use Rattle.arj_protocol.specs.Ask.{Reply, last_end, actor, answers}
 use Rattle.arj_protocol.specs.Asking.{call, include, commit_action, gives_up, heard, heard_doing, heard_now, heard_by, heard_none, waits_for_call, waits_for_commit, moved_commit, heard_call, give_up, give_up_doing}
 use Rattle.arj_protocol.specs.Commit as commit
 use Rattle.arj_protocol.specs.Commit.{Machine}
 use Rattle.arj_protocol.specs.Coord.{Coord, Doing, Now, Idle, Calling, Committing, doing_of, number_of}
 use Rattle.arj_protocol.specs.Effect.{Disk, Effect, Intent, Did}
 use Rattle.arj_protocol.specs.Ending.{abort_action, acked, acked_by, acked_left, answer_query}
-use Rattle.arj_protocol.specs.Node.{Parts, Handled, Void, Took, handle_ask, handle_answer, handle_other, coord_heard, serve, with_coord}
+use Rattle.arj_protocol.specs.Naming.{Naming}
+use Rattle.arj_protocol.specs.Node.{Handled, Parts, Took, Void, coord_heard, handle_answer, handle_ask, handle_ends, handle_other, handle_told, serve, with_coord}
 use Rattle.arj_protocol.specs.Order as order
 use Rattle.arj_protocol.specs.Order.{at_uid, uid_number, without_number}
 use Rattle.arj_protocol.specs.Step as input
@@ -29,13 +30,14 @@ use Rattle.arj_disk_law.proofs.Base.{test_same}
 use Rattle.arj_view_law.specs.Seen as seen
 use Rattle.arj_view_law.specs.Seen.{Post, Seen, up}
 use Rattle.arj_view_law.specs.Walks.{Walks, Up}
-use Rattle.arj_disk_view_law.specs.Coordinating.{DidIsWalked, ActsAreWalked, MessagesAreWalked, KnowsNode, IsNoConfirm, IsNoTold}
+use Rattle.arj_disk_view_law.specs.Coordinating.{DidIsWalked, ActsAreWalked, MessagesAreWalked, KnowsNode, IsNoConfirm}
 use Rattle.arj_disk_view_law.specs.Knows.{KnowsKinds, KnowsCoord}
-use Rattle.arj_disk_view_law.specs.Sees.{Kinds, Claims, ClaimsAsk, ClaimsAsked, ClaimsAnswered, ClaimsOther, ClaimsReply, SeesDisks, IsSeenByDisks}
+use Rattle.arj_disk_view_law.specs.Sees.{Claims, ClaimsAnswered, ClaimsAsk, ClaimsAsked, ClaimsLast, ClaimsOther, ClaimsReply, IsSeenByDisks, Kinds, SeesDisks}
 use Rattle.arj_disk_view_law.proofs.AckWalks.{acks_are_taken}
 use Rattle.arj_disk_view_law.proofs.ActionAborts.{actions_are_aborted}
 use Rattle.arj_disk_view_law.proofs.CallWalks.{calls_begin, includes_begin, calls_are_heard, calls_are_given_up}
 use Rattle.arj_disk_view_law.proofs.CommitWalks.{actions_commit, commits_are_heard, commits_are_given_up}
+use Rattle.arj_disk_view_law.proofs.NamingTold.{naming_is_told}
 use Rattle.arj_disk_view_law.proofs.QueryWalks.{queries_are_answered}
 use Rattle.arj_disk_view_law.proofs.ServedWalks.{requests_are_served, hellos_are_walked}
 use Rattle.arj_disk_view_law.proofs.StoreWalks.{loads_are_walked, prepares_are_walked, took_is}
@@ -212,31 +214,44 @@ module _ (x : ℕ) (tops : Kinds) (e k : ℕ) (d : Disk) (t v : Parts) (from : �
           test false = void []
           test true = by_left i (without_number from i.nodes) (acks_are_taken x tops e k d t from act i M knows.kinds knows.coord is W sees claims)
 
+  -- ---- ends
+
+  by_told : (ack : Bool) (ends : List (Uid × End)) → ((U : World) → SeesDisks x tops U (up k d t M) → ClaimsLast tops U k ack (last_end ends)) → (o : Option Naming) → t.naming ≡ o → Goal (handle_ends k d t from ack ends (last_end ends))
+  by_told ack ends claims None named is = ends_are_walked x tops e k d t v from ack ends outs M (knows.elsewhere named) named (W, sees) claims is
+  by_told ack ends claims (Some n) named is = by (last_end ends) (claims W sees) is
+    where
+      at_one : (u : Uid) (how : End) (j : ℕ) → 1 ≡ j → SeesDisks x tops W (up j d t M) → ClaimsLast tops W j ack (Some (u, how)) → handle_told j d t from ack ends u how ≡ Took v outs → Walks (IsSeenByDisks x tops) e j outs (Up (IsSeenByDisks x tops) j v) d M
+      at_one u how j one = subst (λ j. SeesDisks x tops W (up j d t M) → ClaimsLast tops W j ack (Some (u, how)) → handle_told j d t from ack ends u how ≡ Took v outs → Walks (IsSeenByDisks x tops) e j outs (Up (IsSeenByDisks x tops) j v) d M) one
+          (λ s c h. naming_is_told x tops e d t v n from ack ends u how outs M named ((knows.naming_here n named).1 u) W s c h)
+
+      by : (o : Option (Uid × End)) → ClaimsLast tops W k ack o → Goal (handle_ends k d t from ack ends o)
+      by None c h = took t [] (W, sees) h
+      by (Some z) c h = at_one z.0 z.1 k (sym (knows.naming_here n named).0) sees c h
+
   -- ---- what stands alone
 
-  by_other : (m : Message) → (((k == 1) ≡ false) × (t.naming ≡ None)) ⊎ IsNoTold m → seen.In (record { from = from; to = k; message = m }) M.sent → ((U : World) → SeesDisks x tops U (up k d t M) → ClaimsOther tops U M.lines from k m)
+  by_other : (m : Message) → seen.In (record { from = from; to = k; message = m }) M.sent → ((U : World) → SeesDisks x tops U (up k d t M) → ClaimsOther tops U M.lines from k m)
       → ((act : Uid) → W.disk.bare (uid_number act) ≡ true → from ≡ naming → IsOver (after W (Halt (uid_number act))).disk (W.disk.root (uid_number act))) → Goal (handle_other k d t from m)
-  by_other (message.Told m) (inl free) sent claims bares is = ends_are_walked x tops e k d t v from m.ack m.ends outs M free.0 free.1 (W, sees) (λ U s. claims U s) is
-  by_other (message.Told m) (inr free) sent claims bares is = absurd free
-  by_other (message.Acked m) free sent claims bares is = by_acked m.act (claims W sees) is
-  by_other (message.Query m) free sent claims bares is = let a = knows.asked from m.act sent in took t (answer_query from m.act d.intents t.coord) (queries_are_answered x tops e k d t from m.act M knows.kinds knows.coord a.0 a.1 W sees (bares m.act)) is
-  by_other (message.Hello m) free sent claims bares is = hellos_are_walked x tops e k d t v m.node m.inc outs M knows.begun (W, sees) is
-  by_other (message.Bind m) free sent claims bares is = absurd (cc is)
-  by_other (message.Bound m) free sent claims bares is = absurd (cc is)
-  by_other (message.Load m) free sent claims bares is = absurd (cc is)
-  by_other (message.Loaded m) free sent claims bares is = absurd (cc is)
-  by_other (message.Activate m) free sent claims bares is = absurd (cc is)
-  by_other (message.Activated m) free sent claims bares is = absurd (cc is)
-  by_other (message.RecordMsg m) free sent claims bares is = absurd (cc is)
-  by_other (message.Recorded m) free sent claims bares is = absurd (cc is)
-  by_other (message.Invoke m) free sent claims bares is = absurd (cc is)
-  by_other (message.Invoked m) free sent claims bares is = absurd (cc is)
-  by_other (message.Vote m) free sent claims bares is = absurd (cc is)
-  by_other (message.Voted m) free sent claims bares is = absurd (cc is)
-  by_other (message.Prepare m) free sent claims bares is = absurd (cc is)
-  by_other (message.Prepared m) free sent claims bares is = absurd (cc is)
-  by_other (message.Confirm m) free sent claims bares is = absurd (cc is)
-  by_other (message.Confirmed m) free sent claims bares is = absurd (cc is)
+  by_other (message.Told m) sent claims bares is = by_told m.ack m.ends (λ U s. claims U s) t.naming refl is
+  by_other (message.Acked m) sent claims bares is = by_acked m.act (claims W sees) is
+  by_other (message.Query m) sent claims bares is = let a = knows.asked from m.act sent in took t (answer_query from m.act d.intents t.coord) (queries_are_answered x tops e k d t from m.act M knows.kinds knows.coord a.0 a.1 W sees (bares m.act)) is
+  by_other (message.Hello m) sent claims bares is = hellos_are_walked x tops e k d t v m.node m.inc outs M knows.begun (W, sees) is
+  by_other (message.Bind m) sent claims bares is = absurd (cc is)
+  by_other (message.Bound m) sent claims bares is = absurd (cc is)
+  by_other (message.Load m) sent claims bares is = absurd (cc is)
+  by_other (message.Loaded m) sent claims bares is = absurd (cc is)
+  by_other (message.Activate m) sent claims bares is = absurd (cc is)
+  by_other (message.Activated m) sent claims bares is = absurd (cc is)
+  by_other (message.RecordMsg m) sent claims bares is = absurd (cc is)
+  by_other (message.Recorded m) sent claims bares is = absurd (cc is)
+  by_other (message.Invoke m) sent claims bares is = absurd (cc is)
+  by_other (message.Invoked m) sent claims bares is = absurd (cc is)
+  by_other (message.Vote m) sent claims bares is = absurd (cc is)
+  by_other (message.Voted m) sent claims bares is = absurd (cc is)
+  by_other (message.Prepare m) sent claims bares is = absurd (cc is)
+  by_other (message.Prepared m) sent claims bares is = absurd (cc is)
+  by_other (message.Confirm m) sent claims bares is = absurd (cc is)
+  by_other (message.Confirmed m) sent claims bares is = absurd (cc is)
 
 pub messages_are_walked : MessagesAreWalked
 messages_are_walked x tops e k d t v from m outs M knows free sent W sees bares = by (asks m) refl
@@ -245,9 +260,9 @@ messages_are_walked x tops e k d t v from m outs M knows free sent W sees bares 
     claims U s = s.posts (record { from = from; to = k; message = m }) sent
 
     by_answers : asks m ≡ None → (o : Option (Asked × Reply)) → answers m ≡ o → handle_answer k d t from m o ≡ Took v outs → Walks (IsSeenByDisks x tops) e k outs (Up (IsSeenByDisks x tops) k v) d M
-    by_answers none None is = by_other x tops e k d t v from outs M knows W sees m free.told sent (λ U s. subst (λ o. ClaimsAnswered x tops U M.lines from k m o) is (subst (λ o. ClaimsAsked x tops U M.lines from k m o) none (claims U s))) bares
+    by_answers none None is = by_other x tops e k d t v from outs M knows W sees m sent (λ U s. subst (λ o. ClaimsAnswered x tops U M.lines from k m o) is (subst (λ o. ClaimsAsked x tops U M.lines from k m o) none (claims U s))) bares
     by_answers none (Some a) is = by_answer x tops e k d t v from outs M knows W sees a.0 a.1 (subst (λ o. ClaimsAnswered x tops W M.lines from k m o) is (subst (λ o. ClaimsAsked x tops W M.lines from k m o) none (claims W sees)))
 
     by : (o : Option (Head × Ask)) → asks m ≡ o → handle_ask k d t from m o ≡ Took v outs → Walks (IsSeenByDisks x tops) e k outs (Up (IsSeenByDisks x tops) k v) d M
     by None is = by_answers is (answers m) refl
-    by (Some a) is = by_ask x tops e k d t v from outs M knows W sees a.0 a.1 (subst IsNoConfirm is free.no_confirm) (λ U s. subst (λ o. ClaimsAsked x tops U M.lines from k m o) is (claims U s))
+    by (Some a) is = by_ask x tops e k d t v from outs M knows W sees a.0 a.1 (subst IsNoConfirm is free) (λ U s. subst (λ o. ClaimsAsked x tops U M.lines from k m o) is (claims U s))

@@ -1,5 +1,5 @@
 -- What the coordinator's handlers keep of the disk half, where what is known of the protocol alone holds.
-use Rattle.std.specs.Prelude.{⊤, ◌≡◌, ◌⊎◌, ◌==◌, Bool, Option, List, ◌+◌, ◌++◌, ℕ, true, false, [], Some, None}
+use Rattle.std.specs.Prelude.{⊤, ◌≡◌, ◌==◌, Bool, Option, List, ◌+◌, ◌++◌, ℕ, true, false, [], Some, None}
 use Rattle.arj_protocol.specs.Words.{Uid, End, Label, Body, Ask, Asked, Head, Message, Op, Kind, Header, asks}
 use Rattle.arj_protocol.specs.Words.ask
 use Rattle.arj_protocol.specs.Words.message
@@ -153,29 +153,24 @@ abbrev pub ActsAreWalked : Type 0
 ActsAreWalked = (hd : Header) (x : ℕ) (tops : Kinds) (e k : ℕ) (d : Disk) (t : Parts) (i : Input) (M : Seen) → KnowsKinds tops → KnowsCoord tops d.intents t.coord → is_act i ≡ true → refusal_up hd i t.coord ≡ None
     → (W : World) → SeesDisks x tops W (up k d t M) → DidIsWalked x tops e k d t (acts i d.intents t.coord) M
 
--- the message is no Confirm, and no told to a node with naming
+-- the message is no Confirm
 abbrev pub IsNoConfirm : Option (Head × Ask) → Type 0
 IsNoConfirm (Some (h, ask.Confirm grants excluded included)) = ⊥
 IsNoConfirm _ = ⊤
 
-abbrev pub IsNoTold : Message → Type 0
-IsNoTold (message.Told m) = ⊥
-IsNoTold _ = ⊤
-
-pub record IsFreeOfNaming (k : ℕ) (t : Parts) (m : Message) : Type 0 where
-  pub no_confirm : IsNoConfirm (asks m)
-  pub told : (((k == 1) ≡ false) × (t.naming ≡ None)) ⊎ IsNoTold m
-
 -- What is known at a node that takes a message: the coordinator's part; that who holds something there has begun; and that
--- questions are about actions of the node that have begun.
+-- questions are about actions of the node that have begun; naming is at node 1, and rows that it drops with another action's end
+-- are of that one's constituents.
 pub record KnowsNode (tops : Kinds) (k : ℕ) (d : Disk) (t : Parts) (M : Seen) : Type 0 where
   pub kinds : KnowsKinds tops
   pub coord : KnowsCoord tops d.intents t.coord
   pub begun : AllByRecursion (λ u. was_begun u M.lines ≡ true) (holders d t)
   pub asked : (from : ℕ) (act : Uid) → seen.In (record { from = from; to = k; message = message.Query (record { act = act }) }) M.sent → (act.node ≡ k) × (IsFuture t.coord act → ⊥)
+  pub elsewhere : t.naming ≡ None → (k == 1) ≡ false
+  pub naming_here : (n : Naming) → t.naming ≡ Some n → (k ≡ 1) × ((u : Uid) → AreOrphansOf tops u d n)
 
--- A message that was sent is taken, which is no Confirm and no told to naming.
+-- A message that was sent is taken, which is no Confirm.
 abbrev pub MessagesAreWalked : Type 0
-MessagesAreWalked = (x : ℕ) (tops : Kinds) (e k : ℕ) (d : Disk) (t v : Parts) (from : ℕ) (m : Message) (outs : List Effect) (M : Seen) → KnowsNode tops k d t M → IsFreeOfNaming k t m → seen.In (record { from = from; to = k; message = m }) M.sent
+MessagesAreWalked = (x : ℕ) (tops : Kinds) (e k : ℕ) (d : Disk) (t v : Parts) (from : ℕ) (m : Message) (outs : List Effect) (M : Seen) → KnowsNode tops k d t M → IsNoConfirm (asks m) → seen.In (record { from = from; to = k; message = m }) M.sent
     → (W : World) → SeesDisks x tops W (up k d t M) → ((act : Uid) → W.disk.bare (uid_number act) ≡ true → from ≡ naming → IsOver (after W (Halt (uid_number act))).disk (W.disk.root (uid_number act)))
     → handle k d t from m ≡ Took v outs → Walks (IsSeenByDisks x tops) e k outs (Up (IsSeenByDisks x tops) k v) d M
