@@ -5,8 +5,10 @@
 //! a state of the machine that is tied to the world place by place; a handler's effects are then effects of the machine,
 //! each allowed when it comes, or nothing. `specs/Pairs.antt` ties a place to a pair of files; `specs/Stores.antt` and
 //! `specs/Entries.antt` have the stores and the entry, `specs/Plans.antt`, `Asking.antt` and `Deciding.antt` the
-//! coordinators, `specs/Confirming.antt` naming at a Confirm, each with what messages claim. What it gives upward: the work
-//! of each part, done or stopped, keeps its place seen and leaves the others as they are seen.
+//! coordinators, `specs/Confirming.antt` naming at a Confirm, each with what messages claim. `specs/Sees.antt` has the whole
+//! relation, `specs/Knows.antt` what it takes of the protocol alone, and `specs/Coordinating.antt` what each handler keeps. What
+//! it gives upward: each input about an action, each message but a Confirm, the beginning of an action, ticks and restarts keep
+//! the relation, wherever a stop falls.
 #![tactic(auto)]
 
 mod asking;
