@@ -1,19 +1,24 @@
 -- What the next incarnation's file makes of what a disk says, put or stopped.
-use Rattle.std.proofs.Common.{◌≡◌, ◌∙◌, ◌<◌, ◌+◌, ℕ, List, [], ◌∷◌, ◌++◌, arith, refl, sym, ap, subst, ⊎_elim, Some}
+use Rattle.std.proofs.Common.{◌≡◌, ◌∙◌, ◌<◌, ◌+◌, ℕ, List, [], ◌∷◌, ◌++◌, arith, refl, sym, ap, subst, ⊎_elim, Some, None}
 use Rattle.std.proofs.lemmas.List.{append-nil}
 use Rattle.std.proofs.lemmas.Nat.{from_be_bytes-to_be_bytes_4}
 use Rattle.arj_disk.specs.Disk.{Puts, PutsOrNot, Same}
 use Rattle.arj_disk.specs.FileMap.{FileMap}
-use Rattle.arj_disk.specs.Formed.{incarnation_bytes}
+use Rattle.std.specs.Prelude.{IfSome}
+use Rattle.std.specs.List.Sorted.{IsStrictlySortedBy}
+use Rattle.arj_disk.specs.Formed.{incarnation_bytes, IsIntentOf}
 use Rattle.arj_disk.specs.Says.{inc}
+use Rattle.arj_disk.specs.declared.slot.Role.TheVariants as role
 use Rattle.arj_disk.specs.declared.slot.Slot.TheVariants as slot
+use Rattle.arj_intent.specs.Records.{AreRecords, record_at}
 use Rattle.arj_journal.specs.declared.body.Line.{Line}
 use Rattle.arj_protocol.specs.Effect as protocol
 use Rattle.arj_protocol.specs.Effect.{Disk, Do, Say, Look, PutInc, Before, After, Stop, Work, stopped}
+use Rattle.arj_protocol.specs.Words.{Uid}
 use Rattle.arj_protocol.specs.Words.body
 use Rattle.arj_recover.specs.Done.{IsCut, IsCutOf, begins_again, begins_on}
-use Rattle.arj_recover.specs.OnDisk.{HasIncarnation, IsDiskOf, IsFormed, IsWorked, MayRaise, MayRise, SaysSame}
-use Rattle.arj_recover.proofs.Disks.{Stays, OnlyOwn, only_own, inc_same, formed_on, said_on, says_on}
+use Rattle.arj_recover.specs.OnDisk.{HasIncarnation, IsDiskOf, IsFirst, IsFormed, IsWorked, MayRaise, MayRise, SaysSame}
+use Rattle.arj_recover.proofs.Disks.{Stays, OnlyOwn, only_own, inc_same, formed_on, said_on, same_pair, says_on}
 use Rattle.arj_store.specs.declared.store.ObjectStore.{Ghosts}
 
 pub inc_is : (file : FileMap) (n : ℕ) → n < 4294967296 → file slot.Incarnation ≡ Some (incarnation_bytes n) → inc file ≡ n
@@ -97,3 +102,31 @@ rises old new = ⊎_elim
 -- what stays behind the work leaves it done
 pub worked_on : {O : Type 0} (o : Ghosts O) (w : Work) (old mid new : FileMap) → IsWorked o w old mid → SaysSame o mid new → IsWorked o w old new
 worked_on o w old mid new worked same d are = same (protocol.worked w d) (worked d are)
+
+-- the first incarnation is put behind the first states
+module _ {O : Type 0} (o : Ghosts O) (stays : Stays o) (old new : FileMap) (store : o.formed old role.Store) (names : o.formed old role.Names) (none : (u : Uid) → old (slot.Intent u) ≡ None) (puts : Puts old new slot.Incarnation (incarnation_bytes 1)) where
+  abbrev own : OnlyOwn old new
+  own = only_own old new puts.others
+
+  pub first_formed : IsFormed o new
+  first_formed = record {
+    store = (stays role.Store old new own.store store).0;
+    names = (stays role.Names old new own.names names).0;
+    incarnation = has_put new 1 (omega arith) puts.here;
+    intents = λ u. subst (λ f. IfSome f (IsIntentOf u)) (sym (own.intents u ∙ none u)) tt;
+  }
+
+  no_record : (u : Uid) → new (slot.Intent u) ≡ None → record_at new u ≡ None
+  no_record u gone = rw gone refl
+
+  no_records : AreRecords new []
+  unfolding IsStrictlySortedBy
+  no_records = record { there = λ u. sym (no_record u (own.intents u ∙ none u)); rises = tt }
+
+  pub first_said : IsFirst o old new
+  first_said s n is_store is_names = record {
+    inc = sym (inc_is new 1 (omega arith) puts.here);
+    store = same_pair (o.pair old role.Store) (o.pair new role.Store) s (stays role.Store old new own.store store).1 is_store;
+    names = same_pair (o.pair old role.Names) (o.pair new role.Names) n (stays role.Names old new own.names names).1 is_names;
+    intents = no_records;
+  }

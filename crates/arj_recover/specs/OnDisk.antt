@@ -1,5 +1,5 @@
 -- The disk of a node as the protocol has it, and the files that say it.
-use Rattle.std.specs.Prelude.{◌≡◌, ◌⊎◌, ◌<◌, ◌≤◌, ◌+◌, Some, ℕ, List, filter, map}
+use Rattle.std.specs.Prelude.{◌≡◌, ◌⊎◌, ◌<◌, ◌≤◌, ◌+◌, Some, ℕ, List, [], filter, map}
 use Rattle.arj_disk.specs.FileMap.{FileMap}
 use Rattle.arj_disk.specs.Disk.{PutsOrNot, Same}
 use Rattle.arj_disk.specs.Formed.{incarnation_bytes, IsIncarnation}
@@ -7,7 +7,7 @@ use Rattle.arj_disk.specs.Says.{inc}
 use Rattle.arj_disk.specs.declared.slot.Role.TheVariants as role
 use Rattle.arj_disk.specs.declared.slot.Slot.TheVariants as slot
 use Rattle.arj_intent.specs.Records.{AreInForm, AreRecords}
-use Rattle.arj_protocol.specs.Effect.{Disk, Work, worked}
+use Rattle.arj_protocol.specs.Effect.{Disk, Pair, Work, worked}
 use Rattle.arj_protocol.specs.Order.{has}
 use Rattle.arj_protocol.specs.Step.{first_state}
 use Rattle.arj_protocol.specs.Words.{Header, ObjectLine, ObjectState}
@@ -51,3 +51,11 @@ IsWorked o work old new = (d : Disk) → IsDiskOf o old d → IsDiskOf o new (wo
 -- the first states of the objects that a node stores
 abbrev pub states_at : ℕ → Header → List ObjectState
 states_at n hd = map first_state (filter (λ (o : ObjectLine). has o.stores n) hd.objects)
+
+-- a disk in the first incarnation, with these pairs and no record
+abbrev pub first_with : Pair → Pair → Disk
+first_with store names = record { inc = 1; store = store; names = names; intents = [] }
+
+-- the files say the first disk with the pairs that they said before
+abbrev pub IsFirst : {O : Type 0} → Ghosts O → FileMap → FileMap → Type 0
+IsFirst o old new = (store names : Pair) → IsPairOf (o.pair old role.Store) store → IsPairOf (o.pair old role.Names) names → IsDiskOf o new (first_with store names)

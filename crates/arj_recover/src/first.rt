@@ -12,10 +12,12 @@ ghost use Rattle.arj_journal.specs.ScriptForm.{HeaderInForm};
 ghost use Rattle.arj_journal.specs.declared.header.ObjectLine.{ObjectLine};
 ghost use Rattle.arj_protocol.specs.Order.{has};
 ghost use Rattle.arj_protocol.specs.Step as step;
-ghost use Rattle.arj_recover.specs.OnDisk.{states_at};
+ghost use Rattle.arj_base.specs.declared.uid.Uid.{Uid};
+ghost use Rattle.arj_recover.specs.OnDisk.{IsFirst, IsFormed, states_at};
 ghost use Rattle.arj_store.specs.declared.answer.StoreFault.{StoreFault};
 ghost use Rattle.arj_store_law.specs.Files.{IsPairOf};
 
+use crate::beginning::put_inc;
 use arj_base::{ObjectState, States, Uid, object_uid};
 use arj_disk::{Disk, Role};
 use arj_journal::{Header, ObjectLine};
@@ -91,4 +93,17 @@ fn first_state(alloc: Global, object: &ObjectLine) -> Result<ObjectState, AllocE
         writer: NOBODY,
         payload,
     })
+}
+
+/// Puts the first incarnation behind the first states of both roles: the disk is formed, and says what they say.
+pub fn format_inc<D: Disk, O: ObjectStore>(alloc: Global, disk: &mut D) -> Result<(), StoreFault>
+    requires store { O.formed (D.file disk.old) Role.Store }
+    requires names { O.formed (D.file disk.old) Role.Names }
+    requires intents { (u : Uid) → D.file disk.old (Slot.Intent u) ≡ None }
+    ensures formed { OnOk result (IsFormed O.ObjectStore (D.file disk.new)) }
+    ensures first { OnOk result (IsFirst O.ObjectStore (D.file disk.old) (D.file disk.new)) }
+    ensures counts { CountsCall (counts D.Disk disk.old) (counts D.Disk disk.new) result StoreFault.Stopped }
+{
+    put_inc(alloc, disk, 1)?;
+    Ok(())
 }

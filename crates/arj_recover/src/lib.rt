@@ -13,6 +13,6 @@ mod beginning;
 mod commits;
 mod first;
 
-pub use beginning::{Recovered, put_inc, restart};
+pub use beginning::{Recovered, restart};
 pub use commits::resume;
-pub use first::format;
+pub use first::{format, format_inc};

@@ -1,0 +1,7 @@
+mod Lists
+mod Spelled
+mod Outs
+mod Turns
+mod Handled
+mod Quiet
+mod Frames

@@ -1,0 +1,5 @@
+pub mod Ran
+pub mod Outgoing
+pub mod Handing
+pub mod Goes
+pub mod Stepped
