@@ -78,6 +78,14 @@ impl Telling {
         }))
     }
 
+    /// The nodes that take part in the commit, in increasing order.
+    pub fn participants(&self, alloc: Global) -> Result<NodeList, AllocError>
+        ensures nodes { IfOk result (λ nodes. nodes ≡ participants self.now.plan) }
+        ensures fits { PlanFits self.now.plan }
+    {
+        participants(alloc, &self.plan)
+    }
+
     // Whether the commit has a record.
     fn has_record(&self) -> bool
         ensures { result ≡ has_record self.now.plan }
