@@ -274,3 +274,9 @@ pub invoked_way : {T E : Type 0} (r : Result T E) (p : Path) (x : ℕ) (op : Op)
     → OnOk r ((n : ℕ) → new ≡ (invoke_in n p x op old).part) → OnErr r (new ≡ old) → AreCopies old → AreCopies new
 invoked_way (Ok d) p x op new old keeps is isnt all = subst AreCopies (sym (is 0)) (copies_invoked keeps 0 p x op old all)
 invoked_way (Err e) p x op new old keeps is isnt all = subst AreCopies (sym isnt) all
+
+-- the value in place is of the copy's class
+pub current_has : (x : ℕ) (op : Op) (m : List (ℕ × Copy)) (c : Copy) → AreOfOneClass m → at_number x m ≡ Some c → has_op (class_of (current c.base c.stack)) op ≡ has_op (class_of c.base.value) op
+current_has x op m c all at =
+    let one : IsOfOneClass c = subst (λ o. IfSome o IsOfOneClass) at (of_at x m all) in
+    ap (λ k. has_op k op) (class_current (class_of c.base.value) c.base c.stack refl one)

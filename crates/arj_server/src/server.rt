@@ -4,6 +4,7 @@ ghost use Rattle.arj_base.specs.Path.{uids_of};
 ghost use Rattle.arj_base.specs.Rows.{is_on, last_uid};
 ghost use Rattle.arj_base.specs.Uid.{object};
 ghost use Rattle.arj_class.specs.Forms.{OpInForm};
+ghost use Rattle.arj_class.specs.Table.{class_of, has_op as has_op_in};
 ghost use Rattle.arj_lock.specs.Held.{AreListed};
 ghost use Rattle.arj_manager.specs.Manager.{ended};
 ghost use Rattle.arj_manager.specs.Ran.{grant_said};
@@ -11,6 +12,7 @@ ghost use Rattle.arj_manager.specs.declared.fault.ManagerFault.TheVariants as fa
 ghost use Rattle.arj_msg.specs.State.{Restores};
 ghost use Rattle.arj_protocol.specs.Ask.{actor, asked_by};
 ghost use Rattle.arj_protocol.specs.Effect.{either};
+ghost use Rattle.arj_protocol.specs.Node.{copy_has_op};
 ghost use Rattle.arj_protocol.specs.Order.{at_number, at_uid, binding_eq, binding_less, unbound};
 ghost use Rattle.arj_protocol.specs.Server as server;
 ghost use Rattle.arj_protocol.specs.Server.{new_server, server_holders};
@@ -22,7 +24,7 @@ ghost use Rattle.arj_server.specs.Outcome.{lines_of, reply_of};
 
 use crate::kept::{Kept, copy_reply};
 use arj_base::{Binding, End, Path, Uid, Uids, object_uid};
-use arj_class::operations_keep;
+use arj_class::{Op, Value, operations_keep};
 use arj_journal::{Body, Line, Lines, Part};
 use arj_manager::{ManagerFault, Ran, StateManager};
 use arj_msg::{
@@ -168,6 +170,16 @@ impl Server {
         ensures { IfOk result (λ tops. AreListed (server_holders self.now) tops) }
     {
         self.manager.held(alloc)
+    }
+
+    /// Whether the class of an object has an operation, where the object is active.
+    pub fn has_op(&self, x: u16, op: &Op) -> bool
+        ensures { result ≡ copy_has_op op.now (at_number x self.now.objects) }
+    {
+        match self.manager.copy(x) {
+            Some(object) => has_op(object.current(), op),
+            None => true,
+        }
     }
 
     // ---- what it knows
@@ -451,6 +463,13 @@ impl Server {
         let states = self.manager.changed_states(self.alloc, top)?;
         Ok(VotedReply::Yes(states))
     }
+}
+
+// Whether the class of a value has an operation.
+fn has_op(value: &Value, op: &Op) -> bool
+    ensures { result ≡ has_op_in (class_of value.now) op.now }
+{
+    Value::mode(value.class(), op).is_some()
 }
 
 // Who had asked.

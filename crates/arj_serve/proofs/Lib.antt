@@ -1,0 +1,10 @@
+pub mod Roles
+pub mod Places
+pub mod Cuts
+pub mod Served
+pub mod Asked
+pub mod Notes
+pub mod Holders
+pub mod Objects
+pub mod Looked
+pub mod Stores

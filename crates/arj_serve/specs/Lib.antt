@@ -1,0 +1,6 @@
+pub mod Objects
+pub mod Kept
+pub mod Did
+pub mod Parts
+pub mod Asked
+pub mod Ended
