@@ -1,0 +1,4 @@
+pub mod Appended
+pub mod Deferred
+pub mod Waits
+pub mod Works
