@@ -30,22 +30,23 @@ rest_line bytes = rest_from [] bytes
 abbrev pub is_too_long : List ℕ → Bool
 is_too_long line = nat_lt LINE_BYTES (length line)
 
--- Reading need not go on: a line is too long, or the line past the last that a script may have has ended.
+-- Nothing behind these bytes is run: a line is too long, or the line past the last that a script may have has ended.
 abbrev pub is_enough : List ℕ → Bool
 is_enough bytes = nat_lt SCRIPT_LINES (length (ended_lines bytes)) || (list_any is_too_long (ended_lines bytes) || is_too_long (rest_line bytes))
 
--- How the reading of the source ended: at the input's end, at a read that failed, or because it need not go on.
+-- How the reading of the source ended: at the input's end, at a read that failed, or where the run ended. A line that is
+-- too long ends the run as soon as its first byte too many is there, and so does the end of the line past the last.
 pub data Stopped : Type 0 where
   AtEnd : Stopped
   AtFault : Stopped
-  AtLimit : Stopped
+  AtRunEnd : Stopped
 
 -- The last line counts without its end where the input ended, or where it is too long already.
 abbrev pub last_line : Stopped → List ℕ → List (List ℕ)
 last_line AtEnd [] = []
 last_line AtEnd (b ∷ bs) = (b ∷ bs) ∷ []
 last_line AtFault line = []
-last_line AtLimit line = if is_too_long line then line ∷ [] else []
+last_line AtRunEnd line = if is_too_long line then line ∷ [] else []
 
 -- the lines that are there to be run
 abbrev pub lines_of : Stopped → List ℕ → List (List ℕ)

@@ -1,60 +1,66 @@
--- The first line of some bytes, and the lines behind it.
-use Rattle.std.proofs.Common.{◌≡◌, ℕ, ◌+◌, ◌-◌, ◌<◌, suc, List, [], ◌∷◌, ◌++◌, length, take, drop, length-drop, get_or, true, false, refl, sym, ◌∙◌, ap, subst, arith}
-use Rattle.std.proofs.Math.Seq.{split_at, take-length}
-use Rattle.std.proofs.lemmas.List.{take_rest}
-use Rattle.std.proofs.lemmas.Bool.{both_ways, cond-true, cond-false, ltb-true}
-use Rattle.arj_script.specs.Input.{Stopped, AtEnd, AtFault, AtLimit, is_too_long, last_line, lines_of}
-use Rattle.arj_script.proofs.Lines.{HasNoEnd, ended_from-line, rest_from-line, ended_from-piece, rest_from-piece}
-use Rattle.arj_top.specs.Collect.{is_last_line}
+-- What a feed adds to the lines that ended, and the lines of what has come behind it.
+use Rattle.std.proofs.Common.{◌≡◌, ℕ, ◌+◌, ◌<◌, List, [], ◌∷◌, ◌++◌, length, length-append, true, false, refl, sym, ◌∙◌, ap, arith, append_assoc}
+use Rattle.std.specs.Prelude.{◌==◌, if◌then◌else◌}
+use Rattle.std.proofs.lemmas.List.{append-nil}
+use Rattle.std.proofs.lemmas.Bool.{cond-true, lt-ltb}
+use Rattle.arj_script.specs.declared.cutter.Full.TheVariants as full
+use Rattle.arj_script.specs.Cutting.{Takes}
+use Rattle.arj_script.specs.Input.{Stopped, AtEnd, AtRunEnd, ended_from, rest_from, ended_lines, rest_line, is_too_long, last_line, lines_of}
+use Rattle.arj_script.proofs.Cutting.{ended_from-append, rest_from-append}
 
-abbrev pub IsCut : Stopped → List ℕ → List ℕ → List ℕ → Type 0
-IsCut stopped bytes line more = (lines_of stopped bytes ≡ line ∷ lines_of stopped more) × (length more < length bytes)
+-- the line in hand goes on
+pub fed_none : (used line bytes after : List ℕ) → line ≡ rest_line used → Takes line bytes full.No after → (ended_lines (used ++ bytes) ≡ ended_lines used) × (after ≡ rest_line (used ++ bytes))
+fed_none used line bytes after is t =
+    let ended : ended_from (rest_line used) bytes ≡ [] = ap (λ l. ended_from l bytes) (sym is) ∙ t.0 in
+    let rest : rest_from (rest_line used) bytes ≡ after = ap (λ l. rest_from l bytes) (sym is) ∙ t.1 in
+    (ended_from-append [] used bytes ∙ (ap (λ ls. ended_lines used ++ ls) ended ∙ append-nil (ended_lines used)), sym (rest_from-append [] used bytes ∙ rest))
 
--- the line that the first line feed ends
-pub line_cut : (stopped : Stopped) (bytes : List ℕ) (at d : ℕ) → at < length bytes → get_or bytes at d ≡ 10 → HasNoEnd (take at bytes) → IsCut stopped bytes (take at bytes) (take (length bytes - (at + 1)) (drop (at + 1) bytes))
-line_cut stopped bytes at d within feed h =
-    let line = take at bytes in
-    let more = drop (at + 1) bytes in
-    let next : suc at ≡ at + 1 = omega arith in
-    let whole : bytes ≡ line ++ 10 ∷ more = split_at bytes at d within ∙ (λ i. line ++ feed i ∷ drop (next i) bytes) in
-    let cut : lines_of stopped (line ++ 10 ∷ more) ≡ line ∷ lines_of stopped more = λ i. ended_from-line [] line more h i ++ last_line stopped (rest_from-line [] line more h i) in
-    let left = take_rest bytes (at + 1) in
-    (ap (λ bs. lines_of stopped bs) whole ∙ (cut ∙ ap (λ bs. line ∷ lines_of stopped bs) (sym left)), omega (arith, within, ap length left, length-drop (at + 1) bytes))
+-- it ends
+pub fed_line : (used line bytes after : List ℕ) → line ≡ rest_line used → Takes line bytes full.Line after → (ended_lines (used ++ bytes) ≡ ended_lines used ++ after ∷ []) × (rest_line (used ++ bytes) ≡ [])
+fed_line used line bytes after is t =
+    let ended : ended_from (rest_line used) bytes ≡ after ∷ [] = ap (λ l. ended_from l bytes) (sym is) ∙ t.0 in
+    let rest : rest_from (rest_line used) bytes ≡ [] = ap (λ l. rest_from l bytes) (sym is) ∙ t.1 in
+    (ended_from-append [] used bytes ∙ ap (λ ls. ended_lines used ++ ls) ended, rest_from-append [] used bytes ∙ rest)
 
--- bytes in which no line ends
-pub lines_of-piece : (stopped : Stopped) (bytes : List ℕ) → HasNoEnd (take (length bytes) bytes) → lines_of stopped bytes ≡ last_line stopped bytes
-lines_of-piece stopped bytes none =
-    let h : HasNoEnd bytes = subst HasNoEnd (take-length bytes) none in
-    λ i. ended_from-piece [] bytes h i ++ last_line stopped (rest_from-piece [] bytes h i)
+-- it has a byte too many
+pub fed_long : (used line bytes after : List ℕ) → line ≡ rest_line used → Takes line bytes full.Long after → (ended_lines (used ++ bytes) ≡ ended_lines used) × (length (rest_line (used ++ bytes)) ≡ 201)
+fed_long used line bytes after is t =
+    let ended : ended_from (rest_line used) bytes ≡ [] = ap (λ l. ended_from l bytes) (sym is) ∙ t.0 in
+    let rest : length (rest_from (rest_line used) bytes) ≡ 201 = ap (λ l. length (rest_from l bytes)) (sym is) ∙ t.2 in
+    (ended_from-append [] used bytes ∙ (ap (λ ls. ended_lines used ++ ls) ended ∙ append-nil (ended_lines used)), ap length (rest_from-append [] used bytes) ∙ rest)
 
-last_is : (stopped : Stopped) (line : List ℕ) → is_last_line stopped line ≡ true → (last_line stopped line ≡ line ∷ []) × (0 < length line)
-last_is AtEnd [] h = absurd (both_ways false refl h)
-last_is AtEnd (b ∷ bs) h = (refl, omega arith)
-last_is AtFault line h = absurd (both_ways false refl h)
-last_is AtLimit line h =
-    let long : 200 < length line = ltb-true 200 (length line) h in
-    (cond-true (is_too_long line) (line ∷ []) [] h, omega (arith, long))
+-- more came than the lines behind a line need
+pub lines_line : (stopped : Stopped) (used past : List ℕ) (done : List (List ℕ)) (line : List ℕ) → ended_lines used ≡ done ++ line ∷ [] → (tail : List (List ℕ)) × (lines_of stopped (used ++ past) ≡ done ++ line ∷ tail)
+lines_line stopped used past done line e =
+    let more = ended_from (rest_line used) past in
+    let last = last_line stopped (rest_line (used ++ past)) in
+    (more ++ last, ap (λ ls. ls ++ last) (ended_from-append [] used past ∙ ap (λ ls. ls ++ more) e) ∙ (append_assoc (done ++ line ∷ []) more last ∙ append_assoc done (line ∷ []) (more ++ last)))
 
-pub no_last : (stopped : Stopped) (line : List ℕ) → is_last_line stopped line ≡ false → last_line stopped line ≡ []
-no_last AtEnd [] h = refl
-no_last AtEnd (b ∷ bs) h = absurd (both_ways true h refl)
-no_last AtFault line h = refl
-no_last AtLimit line h = cond-false (is_too_long line) (line ∷ []) [] h
+-- a line that is too long is there, whatever follows
+long_goes : (line past : List ℕ) → 200 < length line → (long : List ℕ) × (tail : List (List ℕ)) × (ended_from line past ++ last_line AtRunEnd (rest_from line past) ≡ long ∷ tail) × (200 < length long)
+long_goes line [] long = (line, [], cond-true (is_too_long line) (line ∷ []) [] (lt-ltb 200 (length line) long), long)
+long_goes line (b ∷ bs) long =
+    let on = long_goes (line ++ b ∷ []) bs (omega (arith, long, length-append line (b ∷ []))) in
+    elim (b == 10) as (λ t. (found : List ℕ) × (tail : List (List ℕ)) × ((if t then line ∷ ended_from [] bs else ended_from (line ++ b ∷ []) bs) ++ last_line AtRunEnd (if t then rest_from [] bs else rest_from (line ++ b ∷ []) bs) ≡ found ∷ tail) × (200 < length found))
+    [ true ↦ (line, ended_from [] bs ++ last_line AtRunEnd (rest_from [] bs), refl, long) | false ↦ on ]
 
-no_lines : (stopped : Stopped) → lines_of stopped [] ≡ []
-no_lines AtEnd = refl
-no_lines AtFault = refl
-no_lines AtLimit = refl
+pub lines_long : (used past : List ℕ) (done : List (List ℕ)) → ended_lines used ≡ done → length (rest_line used) ≡ 201 → (line : List ℕ) × (tail : List (List ℕ)) × (lines_of AtRunEnd (used ++ past) ≡ done ++ line ∷ tail) × (200 < length line)
+lines_long used past done e size =
+    let g = long_goes (rest_line used) past (omega (arith, size)) in
+    let more = ended_from (rest_line used) past in (
+      g.0,
+      g.1,
+      (λ i. ended_from-append [] used past i ++ last_line AtRunEnd (rest_from-append [] used past i)) ∙ (ap (λ ls. (ls ++ more) ++ last_line AtRunEnd (rest_from (rest_line used) past)) e ∙ (append_assoc done more (last_line AtRunEnd (rest_from (rest_line used) past)) ∙ ap (λ ls. done ++ ls) g.2)),
+      g.3,
+    )
 
--- the last line, without its end
-pub line_last : (stopped : Stopped) (bytes : List ℕ) → HasNoEnd (take (length bytes) bytes) → is_last_line stopped bytes ≡ true → IsCut stopped bytes bytes (take (length bytes - length bytes) (drop (length bytes) bytes))
-line_last stopped bytes none yes_last =
-    let last = last_is stopped bytes yes_last in
-    let more = take (length bytes - length bytes) (drop (length bytes) bytes) in
-    let size : length more ≡ 0 = ap length (take_rest bytes (length bytes)) ∙ (length-drop (length bytes) bytes ∙ omega arith) in
-    let none_left : more ≡ [] = empty more size in
-    (lines_of-piece stopped bytes none ∙ (last.0 ∙ ap (λ ls. bytes ∷ ls) (sym (ap (λ bs. lines_of stopped bs) none_left ∙ no_lines stopped))), omega (arith, size, last.1))
+-- the last line, where it lacks its end
+pub lines_last : (used line : List ℕ) → line ≡ rest_line used → (line ≡ [] → ⊥) → lines_of AtEnd used ≡ ended_lines used ++ line ∷ []
+lines_last used line is some = ap (λ ls. ended_lines used ++ ls) (at_end (rest_line used) (λ none. some (is ∙ none)) ∙ ap (λ l. l ∷ []) (sym is))
   where
-    empty : (bs : List ℕ) → length bs ≡ 0 → bs ≡ []
-    empty [] e = refl
-    empty (b ∷ bs) e = absurd (omega (arith, e))
+    at_end : (rest : List ℕ) → (rest ≡ [] → ⊥) → last_line AtEnd rest ≡ rest ∷ []
+    at_end [] some = absurd (some refl)
+    at_end (b ∷ bs) some = refl
+
+pub lines_none : (used line : List ℕ) → line ≡ rest_line used → line ≡ [] → lines_of AtEnd used ≡ ended_lines used
+lines_none used line is none = ap (λ l. ended_lines used ++ last_line AtEnd l) (sym is ∙ none) ∙ append-nil (ended_lines used)

@@ -414,6 +414,10 @@ means ending.Memory stopped lines done rest reach at whole read counted nothing 
 pub record Closed {D : Type 0} (view : DiskView D) (given : Script) (first after : List D) (journal : List Line) (end : End) : Type 0 where
   pub ends : RunEnds view given first after (answer (status_of end) (why_of end) journal)
   pub stops : RunStops view given first after journal 4
+  -- so many lines were run
+  pub count : ℕ
+  pub ends_count : length ends.reach.forms ≡ count
+  pub stops_count : length stops.reach.forms ≡ count
 
 pub closed : {D : Type 0} (view : DiskView D) (first rack after_rack : List D) (given : Script) (at : Hand) (journal : List Line) (end : End)
     → Reached view first rack given at end → ((end ≡ ending.Format) × (at.engine ≡ None) × TouchesFirstAlone view rack after_rack) ⊎ (after_rack ≡ rack)
@@ -461,7 +465,17 @@ closed view first rack after_rack given at journal end reached racks is =
             (λ format. halts_later view first rack after_rack s.header journal (f.halts journal same) format.2)
             (λ same_rack. subst (λ r. HaltsHaveCause view first r s.header journal) (sym same_rack) (f.halts journal same)) racks;
       };
+      count = at.count;
+      ends_count = sym s.counted;
+      stops_count = sym s.counted;
     }
+
+-- as many lines were run as stand at hand
+pub closed_count : {D : Type 0} (view : DiskView D) (first rack after_rack : List D) (given : Script) (at : Hand) (journal : List Line) (end : End)
+    (reached : Reached view first rack given at end) (racks : ((end ≡ ending.Format) × (at.engine ≡ None) × TouchesFirstAlone view rack after_rack) ⊎ (after_rack ≡ rack))
+    (is : journal ≡ at.journal ++ last_lines (last_body end at.count) (events_run at.engine)) → (let c = closed view first rack after_rack given at journal end reached racks is in c.count) ≡ at.count
+unfolding closed
+closed_count view first rack after_rack given at journal end reached racks is = refl
 
 -- What a run shows that stopped short behind these lines. The first disk may have changed since.
 pub stops_at : {D : Type 0} (view : DiskView D) (first rack after_rack : List D) (given : Script) (done rest : List (List ℕ)) (place : Place) (at : Hand) (status : ℕ)
@@ -501,3 +515,7 @@ stops_4 view given first after journal r = record {
   has_status = cut_by given.stopped given.lines r.reach r.ending (inl (r.has_status.memory refl));
   halts = r.halts;
 }
+
+pub stops_4_count : {D : Type 0} (view : DiskView D) (given : Script) (first after : List D) (journal : List Line) (run : RunStops view given first after journal 5) → (let r = stops_4 view given first after journal run in length r.reach.forms) ≡ length run.reach.forms
+unfolding stops_4
+stops_4_count view given first after journal run = refl

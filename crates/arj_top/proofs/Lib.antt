@@ -6,6 +6,7 @@ pub mod Finish
 mod Lone
 pub mod Places
 pub mod Quiet
+pub mod Sessions
 pub mod Stages
 pub mod Statuses
 pub mod Steps

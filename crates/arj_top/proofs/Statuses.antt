@@ -1,15 +1,16 @@
 -- The status of an end, and what a run leaves when its last line is put.
-use Rattle.std.proofs.Common.{◌⊎◌, ◌≡◌, ◌≢◌, inl, inr, ℕ, ◌≤◌, List, ◌++◌, Option, None, refl, sym, ◌∙◌, ap, subst, arith}
+use Rattle.std.proofs.Common.{◌⊎◌, ◌≡◌, ◌≢◌, inl, inr, ℕ, ◌≤◌, List, ◌++◌, length, Option, None, refl, sym, ◌∙◌, ap, subst, arith}
 use Rattle.std.proofs.lemmas.Bool.{cases_lt}
 use Rattle.std.proofs.Math.Logic.{⊎_elim}
 use Rattle.arj_journal.specs.declared.body.Line.{Line}
 use Rattle.arj_journal.specs.LineText.{text}
 use Rattle.arj_top.specs.declared.ending.End.{End}
 use Rattle.arj_top.specs.declared.ending.End.TheVariants as ending
-use Rattle.arj_top.specs.Outcome.{Script, RunEnds, RunStops, answer}
+use Rattle.arj_top.specs.Input.{Arrived, WentOn, ReadsFewPast}
+use Rattle.arj_top.specs.Outcome.{Answer, RunEnds, RunStops, answer, script_of}
 use Rattle.arj_top.specs.Outside.{DiskView, TouchesFirstAlone}
-use Rattle.arj_top.specs.Running.{Hand, Reached, ReachedFormat, Gathers, hand, last_body, last_lines, status_of, why_of, events_run}
-use Rattle.arj_top.proofs.Finish.{Closed, closed, stops_at}
+use Rattle.arj_top.specs.Running.{Hand, HasEnded, Reached, Gathers, Work, hand, hand_of, last_body, last_lines, status_of, why_of, events_run}
+use Rattle.arj_top.proofs.Finish.{Closed, closed, closed_count, stops_at, stops_forms}
 use Rattle.arj_top.proofs.Stages.{alone_none}
 use Rattle.arj_top.proofs.Whole.{gathers_more}
 
@@ -51,7 +52,7 @@ pub record IsOther (end : End) : Type 0 where
   pub memory : end ≢ ending.Memory
   pub format : end ≢ ending.Format
 
-end_kinds : (end : End) → (end ≡ ending.Format) ⊎ ((end ≡ ending.Memory) ⊎ ((end ≡ ending.Write) ⊎ IsOther end))
+pub end_kinds : (end : End) → (end ≡ ending.Format) ⊎ ((end ≡ ending.Memory) ⊎ ((end ≡ ending.Write) ⊎ IsOther end))
 end_kinds ending.Format = inl refl
 end_kinds ending.Memory = inr (inl refl)
 end_kinds ending.Write = inr (inr (inl refl))
@@ -60,13 +61,6 @@ end_kinds (ending.Bad w) = inr (inr (inr (record { write = λ n. (let never : (e
 end_kinds ending.Fault = inr (inr (inr (record { write = λ n. (let never : ending.Fault ≡ ending.Write = n in cc); memory = λ n. (let never : ending.Fault ≡ ending.Memory = n in cc); format = λ n. (let never : ending.Fault ≡ ending.Format = n in cc) })))
 end_kinds ending.Lines = inr (inr (inr (record { write = λ n. (let never : ending.Lines ≡ ending.Write = n in cc); memory = λ n. (let never : ending.Lines ≡ ending.Memory = n in cc); format = λ n. (let never : ending.Lines ≡ ending.Format = n in cc) })))
 end_kinds ending.Labels = inr (inr (inr (record { write = λ n. (let never : ending.Labels ≡ ending.Write = n in cc); memory = λ n. (let never : ending.Labels ≡ ending.Memory = n in cc); format = λ n. (let never : ending.Labels ≡ ending.Format = n in cc) })))
-
--- what a run has come to before its last line is put, by its end
-pub record Comes {D : Type 0} (view : DiskView D) (given : Script) (first rack : List D) (at : Hand) (end : End) : Type 0 where
-  pub write : end ≢ ending.Write
-  pub reached : end ≢ ending.Write → end ≢ ending.Memory → end ≢ ending.Format → Reached view first rack given at end
-  pub format : end ≡ ending.Format → ReachedFormat view first given at.journal
-  pub touches : TouchesFirstAlone view first rack
 
 -- the line outside events
 abbrev LastOf : End → Hand → List Line
@@ -82,61 +76,96 @@ format_last ending.Memory at other is = refl
 format_last ending.Lines at other is = absurd (let never : ending.Lines ≡ ending.Format = is in cc)
 format_last ending.Labels at other is = absurd (let never : ending.Labels ≡ ending.Format = is in cc)
 
-closed_by : {D : Type 0} (view : DiskView D) (given : Script) (first rack : List D) (at : Hand) (end : End) (journal : List Line) → Comes view given first rack at end → end ≢ ending.Memory
-    → journal ≡ at.journal ++ LastOf end at → Closed view given first rack journal end
-closed_by view given first rack at end journal c memory is =
+-- what a run shows whose last line was put
+pub record Done {D : Type 0} (view : DiskView D) (given : Arrived) (first after : List D) (answer : Answer) : Type 0 where
+  pub ends : RunEnds view (script_of given) first after answer
+  pub stops : RunStops view (script_of given) first after answer.journal 4
+  pub ends_went_on : WentOn given (length ends.reach.forms)
+  pub ends_past : ReadsFewPast given (length ends.reach.forms)
+  pub stops_went_on : WentOn given (length stops.reach.forms)
+
+done_by : {D : Type 0} (view : DiskView D) (given : Arrived) (first after : List D) (journal : List Line) (end : End) (count : ℕ) (c : Closed view (script_of given) first after journal end) → c.count ≡ count → WentOn given count → ReadsFewPast given count
+    → Done view given first after (answer (status_of end) (why_of end) journal)
+done_by view given first after journal end count c same went past = record {
+  ends = c.ends;
+  stops = c.stops;
+  ends_went_on = subst (λ n. WentOn given n) (sym (c.ends_count ∙ same)) went;
+  ends_past = subst (λ n. ReadsFewPast given n) (sym (c.ends_count ∙ same)) past;
+  stops_went_on = subst (λ n. WentOn given n) (sym (c.stops_count ∙ same)) went;
+}
+
+closed_by : {D : Type 0} (view : DiskView D) (given : Arrived) (first : List D) (before : Option (List ℕ)) (now : Work D) (end : End) (journal : List Line) → HasEnded view first before given now end → end ≢ ending.Write → end ≢ ending.Memory → TouchesFirstAlone view first now.rack
+    → journal ≡ now.journal ++ LastOf end (hand_of now) → Done view given first now.rack (answer (status_of end) (why_of end) journal)
+closed_by view given first before now end journal h write memory touches is =
     ⊎_elim
     (λ stopped.
-    let f = c.format stopped in
-    let bare : Hand = hand None f.count at.journal in
-    closed view first first rack given bare journal end (subst (λ e. Reached view first first given bare e) (sym stopped) f.reached) (inl (stopped, refl, c.touches))
-    (is ∙ ap (λ ls. at.journal ++ ls) (format_last end at bare stopped)))
+    let f = h.format stopped in
+    let bare : Hand = hand None f.0.count now.journal in
+    done_by view given first now.rack journal end f.0.count
+    (closed view first first now.rack (script_of given) bare journal end (subst (λ e. Reached view first first (script_of given) bare e) (sym stopped) f.0.reached) (inl (stopped, refl, touches))
+    (is ∙ ap (λ ls. now.journal ++ ls) (format_last end (hand_of now) bare stopped)))
+    (closed_count view first first now.rack (script_of given) bare journal end _ _ _) f.1 f.2)
     (λ rest. ⊎_elim
     (λ wanting. absurd (memory wanting))
     (λ more. ⊎_elim
-    (λ failed. absurd (c.write failed))
-    (λ other. closed view first rack rack given at journal end (c.reached other.write other.memory other.format) (inr refl) is)
+    (λ failed. absurd (write failed))
+    (λ other.
+    let r = h.reached other.write other.memory other.format in
+    done_by view given first now.rack journal end now.session.runner.lines (closed view first now.rack now.rack (script_of given) (hand_of now) journal end r.0 (inr refl) is)
+    (closed_count view first now.rack now.rack (script_of given) (hand_of now) journal end _ _ _) r.1 r.2)
     more)
     rest)
     (end_kinds end)
 
 -- a run whose last line was put, if it has one
-pub closes : {D : Type 0} (view : DiskView D) (given : Script) (first rack : List D) (at : Hand) (end : End) (journal : List Line) (waiting after : List ℕ) (status : ℕ) (t u : Option (List ℕ))
-    → Comes view given first rack at end → (end ≢ ending.Write → end ≢ ending.Memory → Gathers at.journal waiting t u)
-    → (status ≢ 5 → (status ≡ status_of end) × (journal ≡ at.journal ++ LastOf end at) × (after ≡ waiting ++ text (LastOf end at)))
+pub closes : {D : Type 0} (view : DiskView D) (given : Arrived) (first : List D) (before : Option (List ℕ)) (now : Work D) (end : End) (journal : List Line) (after : List ℕ) (status : ℕ)
+    → HasEnded view first before given now end → end ≢ ending.Write → TouchesFirstAlone view first now.rack
+    → (status ≢ 5 → (status ≡ status_of end) × (journal ≡ now.journal ++ LastOf end (hand_of now)) × (after ≡ now.session.gather.waiting.items ++ text (LastOf end (hand_of now))))
     → status ≢ 5
-    → RunEnds view given first rack (answer status (why_of end) journal) × RunStops view given first rack journal 4 × Gathers journal after t u
-closes view given first rack at end journal waiting after status t u c gathers put five =
+    → Done view given first now.rack (answer status (why_of end) journal) × Gathers journal after before now.taken
+closes view given first before now end journal after status h write touches put five =
     let p = put five in
     let memory : end ≢ ending.Memory = λ m. five (p.0 ∙ ap status_of m) in
-    let made = closed_by view given first rack at end journal c memory p.1 in (
-      subst (λ n. RunEnds view given first rack (answer n (why_of end) journal)) (sym p.0) made.ends,
-      made.stops,
-      subst (λ js. Gathers js after t u) (sym p.1) (gathers_more at.journal (LastOf end at) waiting after t u p.2 (gathers c.write memory)),
+    let made = closed_by view given first before now end journal h write memory touches p.1 in (
+      subst (λ n. Done view given first now.rack (answer n (why_of end) journal)) (sym p.0) made,
+      subst (λ js. Gathers js after before now.taken) (sym p.1) (gathers_more now.journal (LastOf end (hand_of now)) now.session.gather.waiting.items after before now.taken p.2 (h.gathers write memory)),
     )
 
 -- a run whose last line wasn't put for want of memory, or that had met it before
-pub wants : {D : Type 0} (view : DiskView D) (given : Script) (first rack : List D) (at : Hand) (end : End) (waiting after : List ℕ) (t u : Option (List ℕ))
-    → Comes view given first rack at end → (end ≢ ending.Write → end ≢ ending.Memory → Gathers at.journal waiting t u)
-    → (end ≡ ending.Memory → (shown : List Line) × RunStops view given first rack shown 5 × Gathers shown waiting t u)
-    → after ≡ waiting
-    → (shown : List Line) × RunStops view given first rack shown 5 × Gathers shown after t u
-wants view given first rack at end waiting after t u c gathers memory same =
+pub record Wanted {D : Type 0} (view : DiskView D) (given : Arrived) (first rack : List D) (waiting : List ℕ) (t u : Option (List ℕ)) : Type 0 where
+  pub shown : List Line
+  pub run : RunStops view (script_of given) first rack shown 5
+  pub went_on : WentOn given (length run.reach.forms)
+  pub gathers : Gathers shown waiting t u
+
+pub wants : {D : Type 0} (view : DiskView D) (given : Arrived) (first : List D) (before : Option (List ℕ)) (now : Work D) (end : End) (after : List ℕ)
+    → HasEnded view first before given now end → end ≢ ending.Write → TouchesFirstAlone view first now.rack → after ≡ now.session.gather.waiting.items → Wanted view given first now.rack after before now.taken
+wants view given first before now end after h write touches same =
     ⊎_elim
     (λ stopped.
-    let f = c.format stopped in
-    let r = f.reached in (
-      at.journal,
-      stops_at view first first rack given r.done r.rest r.place (hand None f.count at.journal) 5 (inr refl) r.whole r.stage c.touches,
-      subst (λ w. Gathers at.journal w t u) (sym same) (gathers c.write (λ m. (let never : ending.Format ≡ ending.Memory = sym stopped ∙ m in cc))),
-    ))
+    let f = h.format stopped in
+    let r = f.0.reached in
+    record {
+      shown = now.journal;
+      run = stops_at view first first now.rack (script_of given) r.done r.rest r.place (hand None f.0.count now.journal) 5 (inr refl) r.whole r.stage touches;
+      went_on = subst (λ n. WentOn given n) (sym (ap length (stops_forms view first first now.rack (script_of given) r.done r.rest r.place (hand None f.0.count now.journal) 5 (inr refl) r.whole r.stage touches) ∙ sym r.stage.counted)) f.1;
+      gathers = subst (λ w. Gathers now.journal w before now.taken) (sym same) (h.gathers write (λ m. (let never : ending.Format ≡ ending.Memory = sym stopped ∙ m in cc)));
+    })
     (λ rest. ⊎_elim
-    (λ wanting. (let m = memory wanting in (m.0, m.1, subst (λ w. Gathers m.0 w t u) (sym same) m.2)))
+    (λ wanting.
+    let m = h.memory wanting in
+    record { shown = m.0; run = m.1; went_on = m.3; gathers = subst (λ w. Gathers m.0 w before now.taken) (sym same) m.2 })
     (λ more. ⊎_elim
-    (λ failed. absurd (c.write failed))
+    (λ failed. absurd (write failed))
     (λ other.
-    let r = c.reached other.write other.memory other.format in
-    (at.journal, stops_at view first rack rack given r.done r.rest r.place at 5 (inr refl) r.whole r.stage (alone_none view rack), subst (λ w. Gathers at.journal w t u) (sym same) (gathers other.write other.memory)))
+    let found = h.reached other.write other.memory other.format in
+    let r = found.0 in
+    record {
+      shown = now.journal;
+      run = stops_at view first now.rack now.rack (script_of given) r.done r.rest r.place (hand_of now) 5 (inr refl) r.whole r.stage (alone_none view now.rack);
+      went_on = subst (λ n. WentOn given n) (sym (ap length (stops_forms view first now.rack now.rack (script_of given) r.done r.rest r.place (hand_of now) 5 (inr refl) r.whole r.stage (alone_none view now.rack)) ∙ sym r.stage.counted)) found.1;
+      gathers = subst (λ w. Gathers now.journal w before now.taken) (sym same) (h.gathers other.write other.memory);
+    })
     more)
     rest)
     (end_kinds end)

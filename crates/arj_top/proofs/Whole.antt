@@ -15,17 +15,14 @@ use Rattle.arj_journal.specs.declared.body.Line.{Line}
 use Rattle.arj_journal.specs.LineText.{text, line_text}
 use Rattle.arj_model.specs.Past.{nothing_yet}
 use Rattle.arj_script.specs.Grammar.{Form, Place, Start, Running, next_place}
-use Rattle.arj_script.specs.Input.{Stopped, AtLimit, is_too_long, is_enough, ended_lines, rest_line, last_line, lines_of}
+use Rattle.arj_script.specs.Input.{Stopped, AtEnd, AtFault, is_too_long}
 use Rattle.arj_top.specs.Outcome.{TookFront, IsBadBy, script}
 use Rattle.arj_top.specs.Outside.{DiskView}
 use Rattle.arj_top.specs.Running.{Stage, StageOf, Reached, Gathers, Fronts, end_of, hand}
-use Rattle.arj_top.specs.declared.collect.Stop.{Stop}
-use Rattle.arj_top.specs.declared.collect.Stop.TheVariants as stop
 use Rattle.arj_top.specs.declared.ending.BadLine.{BadLine}
 use Rattle.arj_top.specs.declared.ending.End.{End}
 use Rattle.arj_top.specs.declared.ending.End.TheVariants as ending
 use Rattle.arj_top.specs.declared.run.Runner.{Runner}
-use Rattle.arj_top.specs.Collect.{stopped_at}
 use Rattle.arj_top.proofs.Stages.{Limited}
 use Rattle.arj_top.specs.Built.{HaveForms, IsBadLine}
 use Rattle.arj_top.proofs.Steps.{forms_length}
@@ -96,29 +93,10 @@ behind_as before after added b a same_before same_after is =
     (λ i. before ++ take (length (same_after i) - length (same_before i)) (drop (length (same_before i)) (same_after i))) ∙ behind before after added is
 
 -- lines that were run are short
-all_short : (p : Place) (lines : List (List ℕ)) (forms : List Form) (q : Place) → HaveForms p lines forms q → list_any is_too_long lines ≡ false
+pub all_short : (p : Place) (lines : List (List ℕ)) (forms : List Form) (q : Place) → HaveForms p lines forms q → list_any is_too_long lines ≡ false
 all_short p [] forms q h = refl
 all_short p (l ∷ lines) [] q h = absurd h
 all_short p (l ∷ lines) (f ∷ forms) q h = or_from (is_too_long l) (list_any is_too_long lines) (le-ltb 200 (length l) h.0.has.short) (all_short (next_place p f) lines forms q h.1)
-
--- where what has come is enough, not every line was run
-pub never_all : (bytes : List ℕ) (forms : List Form) (place : Place) → is_enough bytes ≡ true → HaveForms Start (lines_of AtLimit bytes) forms place → length forms ≤ 100000 → ⊥
-never_all bytes forms place enough read few =
-    let size = forms_length Start (lines_of AtLimit bytes) forms place read in
-    let last = last_line AtLimit (rest_line bytes) in
-    let short : (list_any is_too_long (ended_lines bytes) || list_any is_too_long last) ≡ false = sym (list_any-append is_too_long (ended_lines bytes) last) ∙ all_short Start (lines_of AtLimit bytes) forms place read in
-    let parts = or_parts (list_any is_too_long (ended_lines bytes)) (list_any is_too_long last) short in
-    ⊎_elim
-    (λ many.
-    let more : 100000 < length (ended_lines bytes) = ltb-true 100000 (length (ended_lines bytes)) many in
-    absurd (omega (arith, more, size, few, length-append (ended_lines bytes) last)))
-    (λ long. ⊎_elim
-    (λ ended. both_ways (list_any is_too_long (ended_lines bytes)) parts.0 ended)
-    (λ rest.
-    let there : last ≡ rest_line bytes ∷ [] = cond-true (is_too_long (rest_line bytes)) (rest_line bytes ∷ []) [] rest in
-    both_ways (list_any is_too_long last) parts.1 (ap (λ ls. list_any is_too_long ls) there ∙ or_left (is_too_long (rest_line bytes)) false rest))
-    (or_cases (list_any is_too_long (ended_lines bytes)) (is_too_long (rest_line bytes)) long))
-    (or_cases (nat_lt 100000 (length (ended_lines bytes))) (list_any is_too_long (ended_lines bytes) || is_too_long (rest_line bytes)) enough)
 
 pub stage_first_forms : {D : Type 0} (view : DiskView D) (rack : List D) → (let s = stage_first view rack in s.forms) ≡ []
 unfolding stage_first
@@ -135,16 +113,20 @@ stage_start view rack place engine count journal p e n j =
 pub whole_next : (lines done rest : List (List ℕ)) (line : List ℕ) (tail : List (List ℕ)) → lines ≡ done ++ rest → rest ≡ line ∷ tail → lines ≡ (done ++ line ∷ []) ++ tail
 whole_next lines done rest line tail whole cut = whole ∙ (ap (λ ls. done ++ ls) cut ∙ sym (append_assoc done (line ∷ []) tail))
 
--- why the run ends where every line was run
-pub end_reached : {D : Type 0} (view : DiskView D) (first rack : List D) (how : Stop) (bytes : List ℕ) (done rest : List (List ℕ)) (place : Place) (engine : Option Engine) (count : ℕ) (journal : List Line)
-    → (stopped_at how ≡ AtLimit → is_enough bytes ≡ true) → lines_of (stopped_at how) bytes ≡ done ++ rest → rest ≡ []
-    → Stage view first rack done place (hand engine count journal) → Reached view first rack (script (stopped_at how) (lines_of (stopped_at how) bytes)) (hand engine count journal) (end_of how engine)
-end_reached view first rack stop.Fault bytes done rest place engine count journal enough whole none s = record { place = place; done = done; rest = rest; whole = whole; stage = s; why = (refl, none) }
-end_reached view first rack stop.End bytes done rest place (Some engine) count journal enough whole none s = record { place = place; done = done; rest = rest; whole = whole; stage = s; why = (refl, none, s.engine_is.0) }
-end_reached view first rack stop.End bytes done rest place None count journal enough whole none s = record { place = place; done = done; rest = rest; whole = whole; stage = s; why = inr (none, refl, s.engine_is.0, refl) }
-end_reached view first rack stop.Limit bytes done rest place engine count journal enough whole none s =
-    let all : done ≡ lines_of AtLimit bytes = sym (whole ∙ (ap (λ ls. done ++ ls) none ∙ append-nil done)) in
-    absurd (never_all bytes s.forms place (enough refl) (subst (λ ls. HaveForms Start ls s.forms place) all s.read) (omega (arith, s.counted, s.within)))
+-- why the run ends where the input was read to its end and every line was run
+pub end_reached : {D : Type 0} (view : DiskView D) (first rack : List D) (lines done : List (List ℕ)) (runner : Runner) (journal : List Line)
+    → lines ≡ done → StageOf view first rack done runner journal → Reached view first rack (script AtEnd lines) (hand runner.engine runner.lines journal) (end_of runner.engine)
+end_reached view first rack lines done runner journal whole s = end_by view first rack lines done runner.reader runner.engine runner.lines journal (whole ∙ sym (append-nil done)) s
+  where
+    end_by : {D : Type 0} (view : DiskView D) (first rack : List D) (lines done : List (List ℕ)) (place : Place) (engine : Option Engine) (count : ℕ) (journal : List Line)
+        → lines ≡ done ++ [] → Stage view first rack done place (hand engine count journal) → Reached view first rack (script AtEnd lines) (hand engine count journal) (end_of engine)
+    end_by view first rack lines done place (Some engine) count journal whole s = record { place = place; done = done; rest = []; whole = whole; stage = s; why = (refl, refl, s.engine_is.0) }
+    end_by view first rack lines done place None count journal whole s = record { place = place; done = done; rest = []; whole = whole; stage = s; why = inr (refl, refl, s.engine_is.0, refl) }
+
+-- or a read failed
+pub fault_reached : {D : Type 0} (view : DiskView D) (first rack : List D) (lines done : List (List ℕ)) (runner : Runner) (journal : List Line)
+    → lines ≡ done → StageOf view first rack done runner journal → Reached view first rack (script AtFault lines) (hand runner.engine runner.lines journal) ending.Fault
+fault_reached view first rack lines done runner journal whole s = record { place = runner.reader; done = done; rest = []; whole = whole ∙ sym (append-nil done); stage = s; why = (refl, refl) }
 
 abbrev pub IsEnd : End → End → Type 0
 IsEnd end other = let found : Result (Unit {0}) End = Err end in found ≡ Err other

@@ -1,5 +1,4 @@
 pub mod Built
-pub mod Collect
 pub mod Facts
 pub mod Input
 pub mod Outcome

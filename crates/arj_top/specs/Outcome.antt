@@ -1,7 +1,7 @@
 -- How a run ends, by its status.
 use Rattle.std.specs.Prelude.{None, ◌≡◌, ◌≢◌, ◌⊎◌, ◌≤◌, ◌<◌, ℕ, ◌+◌, List, [], ◌∷◌, ◌++◌, length, take, slice_get, true, false, is_some, Option, Some}
 use Rattle.std.specs.List.{AllByRecursion}
-use Rattle.arj_io.specs.Told.{Gives, Takes}
+use Rattle.arj_io.specs.Told.{Takes}
 use Rattle.arj_journal.specs.declared.body.Body.{Body}
 use Rattle.arj_journal.specs.declared.body.Body.TheVariants as body
 use Rattle.arj_journal.specs.declared.body.Which.TheVariants as which
@@ -19,7 +19,7 @@ use Rattle.arj_top.specs.declared.ending.BadLine.{BadLine}
 use Rattle.arj_top.specs.declared.ending.BadLine.TheVariants as why
 use Rattle.arj_top.specs.Built.{HasBuiltForm, HaveForms, IsBadLine, is_built}
 use Rattle.arj_top.specs.Facts.{Facts, DiskFacts, HaltsHaveCause}
-use Rattle.arj_top.specs.Input.{Came, header_from, IsHeader}
+use Rattle.arj_top.specs.Input.{Arrived, Came, ReadsFewPast, WentOn, source_view, header_from, IsHeader}
 use Rattle.arj_script.specs.declared.limits.TheConstants.{LINE_BYTES, SCRIPT_LINES}
 use Rattle.arj_top.specs.Outside.{DiskView, Outside, arms_by}
 
@@ -171,28 +171,34 @@ pub record RunStops {D : Type 0} (view : DiskView D) (given : Script) (before af
 abbrev pub TookFront : ℕ → List Line → Option (List ℕ) → Option (List ℕ) → Type 0
 TookFront status journal before after = (count : ℕ) × Takes before (take count (text journal)) after × (status ≡ 5 → count ≡ length (text journal))
 
+-- the lines of what came
+abbrev pub script_of : Arrived → Script
+script_of given = script given.stopped (lines_of given.stopped given.came)
+
 -- What a run to a status other than 1, 4 and 5 shows: which bytes came and what of them was run, what the journal
 -- shows of the events, that the sink took the journal's text, and what the disks hold.
 pub record Headline {D : Type 0} (view : DiskView D) (before after : Outside D) (answer : Answer) : Type 0 where
-  pub came : List ℕ
-  pub stopped : Stopped
+  pub given : Arrived
   -- these bytes came from the source
-  pub reads : Came before.left after.left before.faults after.faults came stopped
+  pub reads : Came (source_view before.left before.faults) (source_view after.left after.faults) given
   -- the run of their lines
-  pub run : RunEnds view (script stopped (lines_of stopped came)) before.rack after.rack answer
+  pub run : RunEnds view (script_of given) before.rack after.rack answer
+  -- more was read only while the run went on
+  pub went_on : WentOn given (length run.reach.forms)
+  -- and at most 511 bytes past the line at which it ended
+  pub past : ReadsFewPast given (length run.reach.forms)
   -- the sink took the journal's text and nothing else
   pub wrote : Takes before.taken (text answer.journal) after.taken
 
 -- What still holds after a write that failed, at status 4, or where memory was wanting, at 5: what the sink took is a
 -- front of the text of the run's journal, at 5 the whole text of the lines of its first events.
 pub record Shown {D : Type 0} (view : DiskView D) (before after : Outside D) (status : ℕ) : Type 0 where
-  pub came : List ℕ
-  pub stopped : Stopped
+  pub given : Arrived
   pub journal : List Line
   -- these bytes came from the source
-  pub given : Gives before.left came after.left
+  pub reads : Came (source_view before.left before.faults) (source_view after.left after.faults) given
   -- the run of their lines
-  pub run : RunStops view (script stopped (lines_of stopped came)) before.rack after.rack journal status
-  -- where a line was run the source was read to the end of its reading
-  pub reads : (run.reach.forms ≡ []) ⊎ Came before.left after.left before.faults after.faults came stopped
+  pub run : RunStops view (script_of given) before.rack after.rack journal status
+  -- more was read only while the run went on
+  pub went_on : WentOn given (length run.reach.forms)
   pub wrote : TookFront status journal before.taken after.taken

@@ -1,5 +1,5 @@
 -- What holds while a script is run, line by line, and where the run ends.
-use Rattle.std.specs.Prelude.{◌≡◌, ◌⊎◌, ◌≤◌, ◌<◌, ℕ, ◌+◌, ◌-◌, List, [], ◌∷◌, ◌++◌, length, take, slice_get, slice_set, Option, Some, None}
+use Rattle.std.specs.Prelude.{◌≡◌, ◌≢◌, ◌⊎◌, ◌≤◌, ◌<◌, ℕ, ◌+◌, ◌-◌, List, [], ◌∷◌, ◌++◌, length, take, slice_get, slice_set, Option, Some, None}
 use Rattle.std.specs.List.{AllByRecursion}
 use Rattle.arj_base.specs.Count.{Rose}
 use Rattle.arj_engine.specs.declared.engine.Engine.{Engine}
@@ -17,18 +17,17 @@ use Rattle.arj_journal.specs.LineText.{text}
 use Rattle.arj_model.specs.Causes.{IsPastLabels, Moment, count_halts}
 use Rattle.arj_model.specs.Past.{Past, Along, nothing_yet}
 use Rattle.arj_script.specs.Grammar.{Form, Run, Asks, Place, Start, Running}
-use Rattle.arj_script.specs.Input.{Stopped, AtEnd, AtFault, events_of}
-use Rattle.arj_top.specs.declared.collect.Stop.{Stop}
-use Rattle.arj_top.specs.declared.collect.Stop.TheVariants as stop
+use Rattle.arj_script.specs.Input.{Stopped, AtEnd, AtFault, events_of, ended_lines, rest_line}
 use Rattle.arj_top.specs.declared.ending.BadLine.{BadLine}
 use Rattle.arj_top.specs.declared.ending.BadLine.TheVariants as why
 use Rattle.arj_top.specs.declared.ending.End.{End}
 use Rattle.arj_top.specs.declared.ending.End.TheVariants as ending
 use Rattle.arj_top.specs.declared.run.Runner.{Runner}
+use Rattle.arj_top.specs.declared.session.Session.{Session}
 use Rattle.arj_top.specs.Built.{HasBuiltForm, HaveForms, IsBadLine}
-use Rattle.arj_top.specs.Input.{header_from}
+use Rattle.arj_top.specs.Input.{Arrived, WentOn, ReadsFewPast, header_from}
 use Rattle.arj_script.specs.declared.limits.TheConstants.{LINE_BYTES, SCRIPT_LINES}
-use Rattle.arj_top.specs.Outcome.{Script, IsBadBy}
+use Rattle.arj_top.specs.Outcome.{Script, IsBadBy, RunStops, TookFront, script_of}
 use Rattle.arj_top.specs.Outside.{DiskView, SameArms}
 
 -- The engine stands on the first disk, and no other disk has changed. A halt of its node is counted by that disk.
@@ -177,13 +176,10 @@ pub record ReachedFormat {D : Type 0} (view : DiskView D) (first : List D) (give
   pub count : ℕ
   pub reached : Reached view first first given (hand None count journal) ending.Format
 
--- how the run ends where every line was run
-abbrev pub end_of : Stop → Option Engine → End
-end_of stop.Fault engine = ending.Fault
-end_of stop.End (Some engine) = ending.Whole
-end_of stop.End None = ending.Bad why.Missing
-end_of stop.Limit (Some engine) = ending.Whole
-end_of stop.Limit None = ending.Bad why.Missing
+-- how the run ends where the input was read to its end and every line was run
+abbrev pub end_of : Option Engine → End
+end_of (Some engine) = ending.Whole
+end_of None = ending.Bad why.Missing
 
 -- the line outside events that an end writes
 abbrev pub last_body : End → ℕ → Option Body
@@ -215,3 +211,52 @@ why_of _ = None
 abbrev pub events_run : Option Engine → ℕ
 events_run None = 0
 events_run (Some engine) = stepped engine
+
+-- What a run has in its hands: the disks, the session, the journal, and what the sink has taken.
+pub record Work (D : Type 0) : Type 0 where
+  pub rack : List D
+  pub session : Session
+  pub journal : List Line
+  pub taken : Option (List ℕ)
+
+abbrev pub work : {D : Type 0} → List D → Session → List Line → Option (List ℕ) → Work D
+work rack session journal taken = record { rack = rack; session = session; journal = journal; taken = taken }
+
+-- What is at hand of it.
+abbrev pub hand_of : {D : Type 0} → Work D → Hand
+hand_of now = hand now.session.runner.engine now.session.runner.lines now.journal
+
+-- The lines that ended in these bytes were run, from the first rack on, and their text gathers. What stands behind them is
+-- the line in hand.
+pub record IsGoing {D : Type 0} (view : DiskView D) (first : List D) (before : Option (List ℕ)) (used : List ℕ) (now : Work D) : Type 0 where
+  pub stage : StageOf view first now.rack (ended_lines used) now.session.runner now.journal
+  pub in_hand : now.session.cutter ≡ rest_line used
+  pub short : length now.session.cutter ≤ LINE_BYTES
+  pub gathers : Gathers now.journal now.session.gather.waiting.items before now.taken
+
+-- Some run is going on.
+abbrev pub Goes : {D : Type 0} → DiskView D → Work D → Type 0
+Goes {D} view now = (first : List D) × (before : Option (List ℕ)) × (used : List ℕ) × IsGoing view first before used now
+
+-- So many lines of what came were run before the one in hand, and their text gathers.
+pub record IsAtLine {D : Type 0} (view : DiskView D) (first : List D) (before : Option (List ℕ)) (given : Arrived) (done : List (List ℕ)) (now : Work D) : Type 0 where
+  pub stage : StageOf view first now.rack done now.session.runner now.journal
+  pub gathers : Gathers now.journal now.session.gather.waiting.items before now.taken
+  pub tail : List (List ℕ)
+  pub cut : (let s = script_of given in s.lines) ≡ done ++ now.session.cutter ∷ tail
+  pub went_on : WentOn given (length done)
+  pub past : ReadsFewPast given (length done)
+
+-- A run of what came has ended so.
+pub record HasEnded {D : Type 0} (view : DiskView D) (first : List D) (before : Option (List ℕ)) (given : Arrived) (now : Work D) (end : End) : Type 0 where
+  pub reached : end ≢ ending.Write → end ≢ ending.Memory → end ≢ ending.Format
+      → Reached view first now.rack (script_of given) (hand_of now) end × WentOn given now.session.runner.lines × ReadsFewPast given now.session.runner.lines
+  pub format : end ≡ ending.Format → (at : ReachedFormat view first (script_of given) now.journal) × WentOn given at.count × ReadsFewPast given at.count
+  pub rose : end ≡ ending.Format → FirstRose view.stops first now.rack
+  pub gathers : end ≢ ending.Write → end ≢ ending.Memory → Gathers now.journal now.session.gather.waiting.items before now.taken
+  -- memory was wanting: what a run of the lines before the one in hand shows, whose text gathers
+  pub memory : end ≡ ending.Memory → (shown : List Line) × (run : RunStops view (script_of given) first now.rack shown 5)
+      × Gathers shown now.session.gather.waiting.items before now.taken × WentOn given (length run.reach.forms)
+  -- a write failed
+  pub write : end ≡ ending.Write → (run : RunStops view (script_of given) first now.rack now.journal 4)
+      × TookFront 4 now.journal before now.taken × WentOn given (length run.reach.forms)

@@ -6,15 +6,12 @@
 #![tactic(auto)]
 
 mod built;
-mod collect;
 mod ending;
 mod gather;
 mod limits;
-mod lines;
-mod meter;
 mod rack;
 mod run;
-mod script;
+mod session;
 mod top;
 
 pub use ending::BadLine;

@@ -11,7 +11,6 @@ ghost use Rattle.arj_top.specs.Outside.{TouchesFirstAlone, told_by};
 ghost use Rattle.arj_top.specs.Running.{StageOf, Started, Stepped, Refused, IsStanding, AsksTooMany, FirstRose, end_of, events_run, held_by, last_body};
 
 use crate::built::read_built;
-use crate::collect::Stop;
 use crate::ending::{BadLine, End};
 use arj_disk::{Disk, Rack};
 use arj_engine::{Engine, FormatFault, StepFault};
@@ -78,16 +77,13 @@ impl Runner {
         }
     }
 
-    /// How the run ends where every line was run.
-    pub fn end_at(&self, stop: Stop) -> End
-        ensures { result ≡ end_of stop self.now.engine }
+    /// How the run ends where the input was read to its end and every line was run.
+    pub fn at_end(&self) -> End
+        ensures { result ≡ end_of self.now.engine }
     {
-        match stop {
-            Stop::Fault => End::Fault,
-            Stop::End | Stop::Limit => match &self.engine {
-                Some(_) => End::Whole,
-                None => End::Bad(BadLine::Missing),
-            },
+        match &self.engine {
+            Some(_) => End::Whole,
+            None => End::Bad(BadLine::Missing),
         }
     }
 

@@ -5,7 +5,7 @@ ghost use Rattle.arj_disk.specs.declared.slot.Slot.{Slot};
 use crate::{BadLine, arjuna, empty_rack};
 use arj_base::{Bytes, Numbers, object_uid};
 use arj_disk::{Disk, MemDisk, Outcome, Rack, Slot};
-use arj_io::{MemSink, MemSource, SureSink, SureSource};
+use arj_io::{MemSink, MemSource, Source, SureSink, SureSource};
 use arj_journal::Lines;
 use std::alloc::{AllocError, Global};
 use std::test::Fail;
@@ -43,16 +43,31 @@ fn words(alloc: Global, word: &str) -> Result<Vec<String>, AllocError> {
     Ok(words)
 }
 
-// The status of a run of this script, what the sink took, and why a line is bad. One read and one write may fail.
-fn replay(
+// How a run is fed: pieces of at most so many bytes, and one read and one write that may fail.
+#[derive(Clone, Copy)]
+struct Feeding {
+    chunk: usize,
+    failing_read: Option<u64>,
+    failing_write: Option<u64>,
+}
+
+// Long pieces, and nothing fails.
+const SURE: Feeding = Feeding {
+    chunk: 512,
+    failing_read: None,
+    failing_write: None,
+};
+
+// The status of a run of this script, what the sink took, why a line is bad, and the next byte that the source gives.
+fn run(
     alloc: Global,
     word: &str,
     script: Bytes,
-    failing_read: Option<u64>,
-    failing_write: Option<u64>,
-) -> Result<(u8, MemSink, Option<BadLine>), AllocError> {
-    let mut source = MemSource::new(script, 512, numbers(alloc, failing_read)?);
-    let mut sink = MemSink::new(room(alloc, 32)?, numbers(alloc, failing_write)?);
+    feeding: Feeding,
+) -> Result<(u8, MemSink, Option<BadLine>, Option<u8>), AllocError> {
+    let failing = numbers(alloc, feeding.failing_read)?;
+    let mut source = MemSource::new(script, feeding.chunk.max(1), failing);
+    let mut sink = MemSink::new(room(alloc, 32)?, numbers(alloc, feeding.failing_write)?);
     let mut rack = empty_rack(alloc)?;
     let mut journal = Lines::new(alloc);
     let mut why = None;
@@ -66,7 +81,15 @@ fn replay(
         &mut journal,
         &mut why,
     );
-    Ok((status, sink, why))
+    Ok((status, sink, why, next_byte(&mut source)))
+}
+
+fn next_byte(source: &mut MemSource) -> Option<u8> {
+    let mut buffer = [0u8; 1];
+    match source.read(&mut buffer) {
+        Ok(1) => Some(buffer[0]),
+        _ => None,
+    }
 }
 
 #[test]
@@ -87,7 +110,7 @@ fn scripts_without_events(rt: HostRuntime) -> Result<(), Fail> {
         (long.as_slice(), 2, Some(BadLine::TooLong), b"0 bad 1\n"),
     ] {
         let script = bytes(alloc, [script].as_slice())?;
-        let (answer, sink, told) = replay(alloc, "replay", script, None, None)?;
+        let (answer, sink, told, _) = run(alloc, "replay", script, SURE)?;
         assert_eq!(rt; answer, status);
         assert_eq!(rt; told, why);
         assert_eq!(rt; sink.taken(), Some(output));
@@ -95,39 +118,57 @@ fn scripts_without_events(rt: HostRuntime) -> Result<(), Fail> {
     Ok(())
 }
 
+// However the input is cut, the same is written; and after an end of the run no more is read.
 #[test]
-fn a_read_that_fails(rt: HostRuntime) -> Result<(), Fail> {
+fn inputs_in_pieces(rt: HostRuntime) -> Result<(), Fail> {
     let alloc = rt.alloc();
-    let script = bytes(alloc, [HEADER, b"begin A at 1\n"].as_slice())?;
-    let (status, sink, _) = replay(alloc, "replay", script, Some(2), None)?;
-    assert_eq!(rt; status, 3);
-    assert_eq!(rt; sink.taken(), Some(b"1 began A top 1.1.1 -\n".as_slice()));
-    Ok(())
-}
-
-// The text of a short run goes out in one piece, at its end.
-#[test]
-fn a_write_that_fails(rt: HostRuntime) -> Result<(), Fail> {
-    let alloc = rt.alloc();
-    let script = bytes(alloc, [HEADER, b"begin A at 1\n"].as_slice())?;
-    let (status, sink, _) = replay(alloc, "replay", script, None, Some(1))?;
-    assert_eq!(rt; status, 4);
-    assert_eq!(rt; sink.taken(), Some(b"".as_slice()));
-    Ok(())
-}
-
-// That of a long one goes out in pieces of some kilobytes, each of whole lines: the second write fails, and the
-// text of 437 events was written by the first.
-#[test]
-fn a_second_write_that_fails(rt: HostRuntime) -> Result<(), Fail> {
-    let alloc = rt.alloc();
-    let mut script = bytes(alloc, [HEADER, b"begin A at 1\n"].as_slice())?;
-    for _ in 0..600u32 {
-        script.extend(b"call A 1 get\n")?;
+    let none = b"".as_slice();
+    let first = b"1 began A top 1.1.1 -\n".as_slice();
+    let both = b"1 began A top 1.1.1 -\n2 ok A 1 add 5 = done\n".as_slice();
+    // The header and the first event's line have 63 bytes.
+    for (chunk, failing_read, failing_write, status, output, next) in [
+        (512, None, None, 0, both, None),
+        (7, None, None, 0, both, None),
+        (1, None, None, 0, both, None),
+        // A read fails behind the first event's line, or before its end.
+        (1, Some(64), None, 3, first, Some(b'c')),
+        (1, Some(63), None, 3, none, Some(b'\n')),
+        (63, Some(2), None, 3, first, Some(b'c')),
+        // The text of a piece is written before the next one is asked for, or at the end.
+        (63, None, Some(1), 4, none, Some(b'c')),
+        (63, None, Some(2), 4, first, None),
+        (512, None, Some(1), 4, none, None),
+    ] {
+        let script = bytes(
+            alloc,
+            [HEADER, b"begin A at 1\ncall A 1 add 5\n"].as_slice(),
+        )?;
+        let feeding = Feeding {
+            chunk,
+            failing_read,
+            failing_write,
+        };
+        let (answer, sink, _, byte) = run(alloc, "replay", script, feeding)?;
+        assert_eq!(rt; answer, status);
+        assert_eq!(rt; sink.taken(), Some(output));
+        assert_eq!(rt; byte, next);
     }
-    let (status, sink, _) = replay(alloc, "replay", script, None, Some(2))?;
-    assert_eq!(rt; status, 4);
-    assert_eq!(rt; sink.taken().map(|taken| taken.len()), Some(8200));
+    Ok(())
+}
+
+// A line of 201 bytes is bad as soon as its last byte is there, over two pieces too.
+#[test]
+fn a_line_over_two_pieces(rt: HostRuntime) -> Result<(), Fail> {
+    let alloc = rt.alloc();
+    let long = [b'#'; 201];
+    for (chunk, next) in [(150, None), (1, Some(b'x'))] {
+        let script = bytes(alloc, [long.as_slice(), b"x\n"].as_slice())?;
+        let (status, sink, why, byte) = run(alloc, "replay", script, Feeding { chunk, ..SURE })?;
+        assert_eq!(rt; status, 2);
+        assert_eq!(rt; why, Some(BadLine::TooLong));
+        assert_eq!(rt; sink.taken(), Some(b"0 bad 1\n".as_slice()));
+        assert_eq!(rt; byte, next);
+    }
     Ok(())
 }
 
@@ -135,7 +176,7 @@ fn a_second_write_that_fails(rt: HostRuntime) -> Result<(), Fail> {
 fn no_command_line(rt: HostRuntime) -> Result<(), Fail> {
     let alloc = rt.alloc();
     let script = bytes(alloc, [HEADER].as_slice())?;
-    let (status, sink, _) = replay(alloc, "help", script, None, None)?;
+    let (status, sink, _, _) = run(alloc, "help", script, SURE)?;
     assert_eq!(rt; status, 1);
     assert_eq!(rt; sink.taken(), Some(b"".as_slice()));
     Ok(())

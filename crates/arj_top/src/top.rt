@@ -5,19 +5,15 @@ ghost use Rattle.arj_disk.specs.declared.slot.Slot.{Slot};
 ghost use Rattle.arj_io.specs.Told.{Takes};
 ghost use Rattle.arj_journal.specs.declared.body.Line.{Line};
 ghost use Rattle.arj_journal.specs.LineText.{text};
-ghost use Rattle.arj_script.specs.Input.{AtLimit, is_enough, lines_of};
-ghost use Rattle.arj_top.specs.Collect.{stopped_at};
+ghost use Rattle.arj_script.specs.Grammar.{Start};
 ghost use Rattle.arj_top.specs.Input.{IsReplay};
 ghost use Rattle.arj_script.specs.declared.limits.TheConstants.{SCRIPT_LINES};
-ghost use Rattle.arj_top.specs.Outcome.{Headline, Shown, RunEnds, RunStops, TookFront, answer, script};
+ghost use Rattle.arj_top.specs.Outcome.{Headline, Shown, answer};
 ghost use Rattle.arj_top.specs.Outside.{TouchesFirstAlone, outside, told_by};
-ghost use Rattle.arj_top.specs.Running.{FirstRose, Gathers, last_body, last_lines, events_run, status_of};
+ghost use Rattle.arj_top.specs.Running.{FirstRose, last_body, last_lines, events_run, status_of};
 
-use crate::collect::{Input, collect};
 use crate::ending::{BadLine, End};
-use crate::gather::Gather;
-use crate::run::Runner;
-use crate::script::run_lines;
+use crate::session::Session;
 use arj_disk::{Disk, Rack};
 use arj_io::{Failed, Sink, Source};
 use arj_journal::{Body, Line, Lines};
@@ -65,42 +61,40 @@ pub fn arjuna<S: Source, K: Sink, D: Disk>(
     if word.as_str() != "replay" {
         return 1;
     }
-    match collect(alloc, source) {
-        Ok(input) => replay(alloc, &input, sink, rack, journal, why),
+    match Session::new(alloc) {
+        Ok(session) => replay(session, source, sink, rack, journal, why),
         Err(_) => 5,
     }
 }
 
-// Runs what has come, and answers the status.
-fn replay<K: Sink, D: Disk>(
-    alloc: Global,
-    input: &Input,
+// Runs the script, and answers the status.
+fn replay<S: Source, K: Sink, D: Disk>(
+    session: Session,
+    source: &mut S,
     sink: &mut K,
     rack: &mut Rack<D>,
     journal: &mut Lines,
     why: &mut Option<BadLine>,
 ) -> u8
+    requires runner { (session.runner.reader ≡ Start) × (session.runner.engine ≡ None) × (session.runner.lines ≡ 0) }
+    requires nothing { (session.cutter ≡ []) × (session.gather.waiting.items ≡ []) }
     requires fresh { journal.old ≡ [] }
-    requires enough { stopped_at input.now.stop ≡ AtLimit → is_enough input.now.bytes ≡ true }
-    ensures ends { result ≢ 4 → result ≢ 5 → RunEnds (told_by D.file D.stops D.arms D.last_arm) (script (stopped_at input.now.stop) (lines_of (stopped_at input.now.stop) input.now.bytes)) rack.old rack.new (answer result why.new journal.new) }
-    ensures wrote { result ≢ 4 → result ≢ 5 → Takes (K.taken sink.old) (text journal.new) (K.taken sink.new) }
-    ensures stops { (result ≡ 4) ⊎ (result ≡ 5) → (shown : List Line) × RunStops (told_by D.file D.stops D.arms D.last_arm) (script (stopped_at input.now.stop) (lines_of (stopped_at input.now.stop) input.now.bytes)) rack.old rack.new shown result
-        × TookFront result shown (K.taken sink.old) (K.taken sink.new) }
+    ensures headline { result ≢ 4 → result ≢ 5 → Headline (told_by D.file D.stops D.arms D.last_arm) (outside (S.left source.old) (S.faults source.old) (K.taken sink.old) rack.old) (outside (S.left source.new) (S.faults source.new) (K.taken sink.new) rack.new) (answer result why.new journal.new) }
+    ensures shown { (result ≡ 4) ⊎ (result ≡ 5) → Shown (told_by D.file D.stops D.arms D.last_arm) (outside (S.left source.old) (S.faults source.old) (K.taken sink.old) rack.old) (outside (S.left source.new) (S.faults source.new) (K.taken sink.new) rack.new) result }
     ensures others { TouchesFirstAlone (told_by D.file D.stops D.arms D.last_arm) rack.old rack.new }
     ensures statuses { (result ≤ 7) × (result ≢ 1) }
     ensures write_fault { result ≡ 4 → Rose (K.faults sink.old) (K.faults sink.new) }
     ensures no_write_fault { result ≢ 4 → K.faults sink.new ≡ K.faults sink.old }
     ensures format_stop { result ≡ 7 → (journal.new ≡ []) × FirstRose D.stops rack.old rack.new }
 {
-    let mut runner = Runner::new(alloc);
-    let mut gather = Gather::new(alloc);
-    let end = run_lines(&mut runner, input, &mut gather, sink, rack, journal);
+    let mut session = session;
+    let end = session.run(source, sink, rack, journal);
     *why = end.why();
     if end.is_write() {
         return 4;
     }
-    let status = close(&runner, end, &mut gather, journal);
-    match gather.flush(sink) {
+    let status = close(&mut session, end, journal);
+    match session.gather.flush(sink) {
         Ok(()) => status,
         Err(Failed) => 4,
     }
@@ -108,36 +102,31 @@ fn replay<K: Sink, D: Disk>(
 
 // Puts the line outside events at the journal's end, if the run's end has one, and its text behind what waits. Answers
 // the status that the run has where what waits can be written.
-fn close(runner: &Runner, end: End, gather: &mut Gather, journal: &mut Lines) -> u8
-    requires { (why : BadLine) → end ≡ End.Bad why → runner.now.lines ≤ SCRIPT_LINES }
-    ensures put { result ≢ 5 → (result ≡ status_of end) × (journal.new ≡ journal.old ++ last_lines (last_body end runner.now.lines) (events_run runner.now.engine))
-        × (gather.new.waiting.items ≡ gather.old.waiting.items ++ text (last_lines (last_body end runner.now.lines) (events_run runner.now.engine))) }
-    ensures memory { result ≡ 5 → gather.new.waiting.items ≡ gather.old.waiting.items }
+fn close(session: &mut Session, end: End, journal: &mut Lines) -> u8
+    requires { (why : BadLine) → end ≡ End.Bad why → session.old.runner.lines ≤ SCRIPT_LINES }
+    ensures put { result ≢ 5 → (result ≡ status_of end) × (journal.new ≡ journal.old ++ last_lines (last_body end session.old.runner.lines) (events_run session.old.runner.engine))
+        × (session.new.gather.waiting.items ≡ session.old.gather.waiting.items ++ text (last_lines (last_body end session.old.runner.lines) (events_run session.old.runner.engine))) }
+    ensures memory { result ≡ 5 → session.new.gather.waiting.items ≡ session.old.gather.waiting.items }
 {
-    let Some(body) = runner.last_body(end) else {
+    let Some(body) = session.runner.last_body(end) else {
         return end.status();
     };
-    match put_last(runner, body, gather, journal) {
+    match put_last(session, body, journal) {
         Ok(()) => end.status(),
         Err(_) => 5,
     }
 }
 
 // Puts a line outside events at the journal's end, and its text behind what waits.
-fn put_last(
-    runner: &Runner,
-    body: Body,
-    gather: &mut Gather,
-    journal: &mut Lines,
-) -> Result<(), AllocError>
-    ensures put { OnOk result ((journal.new ≡ journal.old ++ last_lines (Some body) (events_run runner.now.engine))
-        × (gather.new.waiting.items ≡ gather.old.waiting.items ++ text (last_lines (Some body) (events_run runner.now.engine)))) }
-    ensures memory { OnErr result (gather.new.waiting.items ≡ gather.old.waiting.items) }
+fn put_last(session: &mut Session, body: Body, journal: &mut Lines) -> Result<(), AllocError>
+    ensures put { OnOk result ((journal.new ≡ journal.old ++ last_lines (Some body) (events_run session.old.runner.engine))
+        × (session.new.gather.waiting.items ≡ session.old.gather.waiting.items ++ text (last_lines (Some body) (events_run session.old.runner.engine)))) }
+    ensures memory { OnErr result (session.new.gather.waiting.items ≡ session.old.gather.waiting.items) }
 {
     let before = journal.as_slice().len();
     journal.push(Line {
-        event: runner.events(),
+        event: session.runner.events(),
         body,
     })?;
-    gather.put(&journal.as_slice()[before..])
+    session.gather.put(&journal.as_slice()[before..])
 }
