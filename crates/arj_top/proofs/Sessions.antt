@@ -1,6 +1,6 @@
 -- How a session goes on, and how it ends.
-use Rattle.std.proofs.Common.{◌≡◌, ◌⊎◌, inl, inr, ℕ, ◌+◌, ◌-◌, ◌≤◌, ◌<◌, List, [], ◌∷◌, ◌++◌, length, length-append, length-drop, take, drop, Option, Some, None, Result, Ok, Err, true, false, refl, sym, ◌∙◌, ap, subst, arith, append_assoc}
-use Rattle.std.specs.Prelude.{◌==◌, ◌≢◌, ◌↔◌, IfErr, IfSome, IfNone, IsErrOf, IsNone}
+use Rattle.std.proofs.Common.{◌≡◌, ◌⊎◌, inl, inr, ℕ, ◌-◌, ◌≤◌, ◌<◌, List, [], ◌∷◌, ◌++◌, length, length-append, length-drop, take, drop, Option, Some, None, Result, Ok, Err, true, false, refl, sym, ◌∙◌, ap, subst, arith, append_assoc}
+use Rattle.std.specs.Prelude.{◌==◌, ◌↔◌, IfErr, IfSome, IsErrOf}
 use Rattle.std.proofs.Math.Logic.{⊎_elim}
 use Rattle.std.proofs.lemmas.List.{append-nil, take-append-drop, take_rest}
 use Rattle.std.proofs.lemmas.Bool.{eqb-true, eq-eqb, both_ways}
@@ -8,12 +8,11 @@ use Rattle.arj_engine.specs.declared.engine.Engine.{Engine}
 use Rattle.arj_base.specs.Count.{Rose}
 use Rattle.arj_io.specs.Told.{Gives}
 use Rattle.arj_io.specs.Told.{Takes as IsTaken}
-use Rattle.arj_io.proofs.Told.{gives_more}
 use Rattle.arj_journal.specs.declared.body.Line.{Line}
 use Rattle.arj_journal.specs.LineText.{text}
 use Rattle.arj_script.specs.Cutting.{Takes}
-use Rattle.arj_script.specs.Grammar.{Form, Place, Start, Run}
-use Rattle.arj_script.specs.Input.{Stopped, AtEnd, AtFault, AtRunEnd, ended_from, ended_lines, rest_line, is_enough, last_line, lines_of}
+use Rattle.arj_script.specs.Grammar.{Place, Start, Run}
+use Rattle.arj_script.specs.Input.{AtEnd, AtFault, AtRunEnd, ended_from, ended_lines, rest_line, is_enough, last_line, lines_of}
 use Rattle.arj_script.proofs.Cutting.{ended_from-append}
 use Rattle.arj_script.specs.declared.cutter.Full.TheVariants as full
 use Rattle.arj_top.specs.declared.ending.BadLine.{BadLine}
@@ -28,13 +27,13 @@ use Rattle.arj_top.specs.Input.{Arrived, Came, SourceView, WentOn, ReadsFewPast,
 use Rattle.arj_top.specs.Outcome.{Answer, Headline, IsBadBy, RunStops, Shown, TookFront, answer, script, script_of}
 use Rattle.arj_top.specs.Outside.{DiskView, Outside, TouchesFirstAlone, outside}
 use Rattle.arj_top.specs.Running.{Stage, StageOf, Reached, ReachedFormat, FirstRose, Gathers, Fronts, Work, IsGoing, IsAtLine, HasEnded, end_of, hand, hand_of, status_of, work}
-use Rattle.arj_top.proofs.Bytes.{IsShort, few_bytes, short_of}
+use Rattle.arj_top.proofs.Bytes.{short_of}
 use Rattle.arj_top.proofs.Cuts.{fed_none, fed_line, fed_long, lines_line, lines_long, lines_last, lines_none}
 use Rattle.arj_top.proofs.Finish.{stops_4, stops_4_count, stops_at, stops_forms}
 use Rattle.arj_top.proofs.Stages.{Limited, alone_none}
 use Rattle.arj_top.proofs.Statuses.{Done, Wanted, end_kinds, is_format}
 use Rattle.arj_top.proofs.Steps.{forms_length}
-use Rattle.arj_top.proofs.Whole.{IsEnd, all_short, behind_as, end_reached, fault_reached, front_at_4, gathers_empty, gathers_first, gathers_front, gathers_taken, line_reached, stage_first, stage_first_forms, stage_start, takes_nothing, whole_front, whole_next}
+use Rattle.arj_top.proofs.Whole.{IsEnd, all_short, end_reached, fault_reached, front_at_4, gathers_empty, gathers_first, gathers_front, gathers_taken, line_reached, stage_first, stage_start, takes_nothing, whole_front}
 
 abbrev pub with_line : Session → List ℕ → Session
 with_line session line = record { runner = session.runner; cutter = line; gather = session.gather }

@@ -1,13 +1,11 @@
 -- The run of a whole script: where it begins, what was written, and why it ends.
-use Rattle.std.proofs.Common.{◌≡◌, ◌⊎◌, inl, inr, ℕ, ◌+◌, ◌≤◌, ◌<◌, List, [], ◌∷◌, ◌++◌, length, length-append, take, true, false, ◌||◌, Option, Some, None, Result, Err, refl, sym, ◌∙◌, ap, subst, arith, append_assoc}
-use Rattle.std.specs.Prelude.{nat_lt, drop, ◌-◌}
+use Rattle.std.proofs.Common.{◌≡◌, ◌⊎◌, inl, inr, ℕ, ◌+◌, ◌≤◌, ◌<◌, List, [], ◌∷◌, ◌++◌, length, take, false, Option, Some, None, Result, Err, refl, sym, ◌∙◌, ap, subst, arith, append_assoc}
+use Rattle.std.specs.Prelude.{drop, ◌-◌}
 use Rattle.std.specs.List.{list_any}
-use Rattle.std.proofs.Math.Logic.{⊎_elim}
 use Rattle.std.proofs.Math.Seq.{take-append-add, take-length}
 use Rattle.std.proofs.lemmas.List.{append-nil, take_rest}
 use Rattle.std.proofs.lemmas.Grind.{flat_map-append}
-use Rattle.std.proofs.lemmas.List.Folds.{list_any-append}
-use Rattle.std.proofs.lemmas.Bool.{or_cases, or_left, or_from, or_parts, both_ways, cond-true, le-ltb, ltb-true}
+use Rattle.std.proofs.lemmas.Bool.{or_from, le-ltb}
 use Rattle.arj_engine.specs.declared.engine.Engine.{Engine}
 use Rattle.arj_io.specs.Told.{Takes}
 use Rattle.arj_io.proofs.Told.{takes_more}
@@ -25,7 +23,6 @@ use Rattle.arj_top.specs.declared.ending.End.TheVariants as ending
 use Rattle.arj_top.specs.declared.run.Runner.{Runner}
 use Rattle.arj_top.proofs.Stages.{Limited}
 use Rattle.arj_top.specs.Built.{HaveForms, IsBadLine}
-use Rattle.arj_top.proofs.Steps.{forms_length}
 
 -- where it begins
 pub stage_first : {D : Type 0} (view : DiskView D) (rack : List D) → Stage view rack rack [] Start (hand None 0 [])

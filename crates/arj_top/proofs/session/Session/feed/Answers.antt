@@ -5,7 +5,7 @@ use Rattle.arj_script.specs.Input.{AtRunEnd, ended_lines}
 use Rattle.arj_top.specs.Input.{arrived}
 use Rattle.arj_top.specs.Outside.{told_by}
 use Rattle.arj_top.specs.Running.{work}
-use Rattle.arj_top.proofs.Sessions.{at_line, ended_long, going_behind, going_on, with_line}
+use Rattle.arj_top.proofs.Sessions.{at_line, ended_long, going_behind, going_on}
 use Rattle.arj_top.proofs.session.Session.feed.Goals as goal
 
 pub returns-in-No-clause-went : goal.returns-in-No-clause-went

@@ -1,7 +1,7 @@
 -- what has come so far, and what was run of it
-use Rattle.std.proofs.Common.{◌≡◌, ℕ, List, ◌++◌, ◌-◌, ◌≤◌, length, false, Option}
+use Rattle.std.proofs.Common.{◌≡◌, ℕ, List, ◌++◌, ◌-◌, ◌≤◌, length, false}
 use Rattle.arj_io.specs.Told.{Gives}
-use Rattle.arj_script.specs.Input.{ended_lines, is_enough}
+use Rattle.arj_script.specs.Input.{is_enough}
 use Rattle.arj_top.specs.Outside.{TouchesFirstAlone, told_by}
 use Rattle.arj_top.specs.Running.{IsGoing, work}
 use Rattle.arj_top.proofs.session.Session.run.Given as goal
