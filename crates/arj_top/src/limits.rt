@@ -3,5 +3,6 @@
 /// How many bytes are asked of the source at once.
 pub const READ_BYTES: usize = 512;
 
-/// How many bytes of text wait at least before they are written, unless the run ends.
+/// How many bytes of text wait at most: they are written when they are more, when a piece of the input is used up, and
+/// when the run ends.
 pub const WRITE_BYTES: usize = 8192;
