@@ -18,7 +18,7 @@ use Rattle.arj_disk_law.specs.Effects as machine
 use Rattle.arj_disk_law.specs.Effects.{World, MaySend, after}
 use Rattle.arj_disk_law.specs.Messages as mail
 use Rattle.arj_disk_law.specs.State.{State, is_gone}
-use Rattle.arj_disk_law.proofs.Base.{never}
+use Rattle.arj_disk_law.proofs.Base.{never, never_some}
 use Rattle.arj_view_law.specs.Seen.{Post, Seen, up, said, posted}
 use Rattle.arj_view_law.specs.Walks.{Walks, Up}
 use Rattle.arj_disk_view_law.specs.Deciding.{SeesRecords}
@@ -72,7 +72,7 @@ module _ (x : ℕ) (tops : Kinds) (e k : ℕ) (d : Disk) (t : Parts) (act : Uid)
   has_ended = one_tree t.coord act b q ending.Abort found at_work
 
   halted_seen : SeesDisks x tops LaterWorld (up k d (with_coord t C) M)
-  halted_seen = one_halts t.coord act b q ending.Abort found at_work x k tops W M d t unrecorded sees
+  halted_seen = one_halts t.coord act b q ending.Abort found at_work x k tops W M d t unrecorded (λ bare. let n = mine.bare act b q found at_work bare in never_some n.committed unended) sees
 
   may_tell : (n : ℕ) → MaySend LaterWorld (mail.ToldAbort (uid_number act) n)
   may_tell n = ends_may_be_told k W act n d.intents records here (λ i there. absurd (no_record i there)) (λ bare. absurd (never (sees.whole.core.bare.gone (uid_number act) bare) (top_open x tops W.disk (uid_number act) b.kind q.now top works)))

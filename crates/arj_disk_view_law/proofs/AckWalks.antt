@@ -42,7 +42,7 @@ use Rattle.arj_disk_view_law.proofs.TopFrames.{apart_number, branch_at, not_futu
 -- ---- an action that is over may be let go again
 
 pub halts_again : (x k : ℕ) (tops : Kinds) (W : World) (M : Seen) (d : Disk) (t : Parts) (u : Uid) → SeesDisks x tops W (up k d t M) → u.node ≡ k → is_open u t.coord.tree ≡ false → (IsFuture t.coord u → ⊥) → SeesDisks x tops (after W (machine.Halt (uid_number u))) (up k d t M)
-halts_again x k tops W M d t u s here closed past = calm_seen x k tops W M d t u (machine.Halt (uid_number u)) d.intents t.coord s here tt halts.0 refl stages halts.1 (λ m n apart r. record { sorted = r.sorted; own = r.own; is = r.is }) coord
+halts_again x k tops W M d t u s here closed past = calm_seen x k tops W M d t u (machine.Halt (uid_number u)) d.intents t.coord s here tt halts.0 refl stages (λ w other. refl) halts.1 (λ m n apart r. record { sorted = r.sorted; own = r.own; is = r.is }) coord
     (notes_later x W V (effects_are_later W (machine.Halt (uid_number u) ∷ []) (tt, tt) s.whole) d.intents t.coord (s.notes k (record { number = k; disk = d; live = Some t }) t (node_here M k (record { number = k; disk = d; live = Some t })) refl))
   where
     V : World
@@ -66,6 +66,7 @@ halts_again x k tops W M d t u s here closed past = calm_seen x k tops W M d t u
       closed = λ w at over began. ⊎_elim (λ same. ap (λ a. is_gone ((after W (machine.Halt (uid_number u))).disk.stage (uid_number a))) same ∙ ap is_gone (put_same (uid_number u) disk.Gone W.disk.stage))
           (λ other. ap is_gone (stages w other) ∙ mine.closed w at over began) (uid_cases w u);
       future = λ w at later. stages w (λ same. past (subst (λ a. IsFuture t.coord a) same later)) ∙ mine.future w at later;
+      bare = mine.bare;
     }
 
 -- ---- roots
@@ -130,7 +131,7 @@ module _ (x : ℕ) (tops : Kinds) (e k : ℕ) (d : Disk) (t : Parts) (from : ℕ
   Fewer ns = record t.coord { telling = put_uid act (record i { nodes = ns }) t.coord.telling }
 
   fewer_seen : (ns : List ℕ) → without_number from i.nodes ≡ ns → SeesDisks x tops W (up k d (with_coord t (Fewer ns)) M)
-  fewer_seen ns is = coord_seen x k tops W M d t t.coord (Fewer ns) (λ h. record { node = h.node; present = h.present; working = h.working; closed = h.closed; future = h.future })
+  fewer_seen ns is = coord_seen x k tops W M d t t.coord (Fewer ns) (λ h. record { node = h.node; present = h.present; working = h.working; closed = h.closed; future = h.future; bare = h.bare })
       (λ n. record { settled = λ u j there. ⊎_elim (λ o. inl o) (λ s. inr (settled u j s (uid_cases u act))) (n.settled u j there); taken = n.taken; roots = n.roots; plans = n.plans }) sees
     where
       settled : (u : Uid) (j : Intent) → IsSettled u j t.coord.telling W → (u ≡ act) ⊎ (u ≢ act) → IsSettled u j (Fewer ns).telling W
@@ -216,10 +217,10 @@ module _ (x : ℕ) (tops : Kinds) (e k : ℕ) (d : Disk) (t : Parts) (from : ℕ
       }
 
   coord_now : SeesCoord x k d.inc tops Done V.disk
-  coord_now = let h : SeesCoord x k d.inc tops t.coord V.disk = coord_same x k d.inc tops t.coord W.disk V.disk refl refl refl refl mine_now in record { node = h.node; present = h.present; working = h.working; closed = h.closed; future = h.future }
+  coord_now = let h : SeesCoord x k d.inc tops t.coord V.disk = coord_same x k d.inc tops t.coord W.disk V.disk refl refl refl refl refl mine_now in record { node = h.node; present = h.present; working = h.working; closed = h.closed; future = h.future; bare = h.bare }
 
   seen1 : SeesDisks x tops V (up k d1 (with_coord t Done) M)
-  seen1 = calm_seen x k tops W M d t act (machine.Remove (uid_number act) j.nodes) (without_uid act d.intents) Done sees here removed.0 removed.1 refl (λ w other. refl) removed.2 others coord_now noted
+  seen1 = calm_seen x k tops W M d t act (machine.Remove (uid_number act) j.nodes) (without_uid act d.intents) Done sees here removed.0 removed.1 refl (λ w other. refl) (λ w other. refl) removed.2 others coord_now noted
 
   stops : Stops Q e k (RemoveIntent act) d M
   stops Before = stops_seen x tops e k d (Some t) M (W, sees)

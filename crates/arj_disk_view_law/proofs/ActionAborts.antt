@@ -26,7 +26,7 @@ use Rattle.arj_disk_law.specs.Messages as mail
 use Rattle.arj_disk_law.specs.Messages.{Meaning, IsOver}
 use Rattle.arj_disk_law.specs.State as disk
 use Rattle.arj_disk_law.specs.State.{State, Gone, is_gone, undecided, lists, listed_by, open_by}
-use Rattle.arj_disk_law.proofs.Base.{never, falls_to, open_parts, open_done, gone_closed, or_left, or_right, test_same}
+use Rattle.arj_disk_law.proofs.Base.{never, never_some, falls_to, open_parts, open_done, gone_closed, or_left, or_right, test_same}
 use Rattle.arj_view_law.specs.Seen.{Seen, up}
 use Rattle.arj_disk_view_law.specs.Coordinating.{DidIsWalked, ActionsAreAborted}
 use Rattle.arj_disk_view_law.specs.Deciding.{SeesRecords, nodes_of}
@@ -68,6 +68,21 @@ module _ (x k : ℕ) (tops : Kinds) (d : Disk) (t : Parts) (C : Coord) (N : Seen
   open_begun : (z : ℕ) → (disk.is_open (V.disk.stage z) ≡ true) ⊎ (is_some (V.disk.intent z) ≡ true) → V.disk.begun z ≡ true
   open_begun z (inl o) = s.whole.core.fresh.open_begun z o
   open_begun z (inr r) = ⊎_elim (s.whole.core.fresh.conf z) (s.whole.core.fresh.light z) (s.whole.core.coordinators.record_taken z r)
+
+  -- a top that is its own root is over, where it has ended and has no record
+  pub plain_over : (r : Uid) → is_gone (V.disk.stage (uid_number r)) ≡ true → V.disk.intent (uid_number r) ≡ None → tops.is_top (uid_number r) ≡ true → IsOver V.disk (uid_number r)
+  plain_over r gone none top = (gone, λ z of. falls_to (undecided V.disk z) (λ o. still z of o))
+    where
+      dead : undecided V.disk (uid_number r) ≡ true → ⊥
+      dead o = ⊎_elim (λ now. never now (gone_closed (V.disk.stage (uid_number r)) gone)) (λ rec. never rec (ap is_some none)) (open_parts (disk.decided V.disk (uid_number r)) (V.disk.stage (uid_number r)) (V.disk.intent (uid_number r)) o)
+
+      still : (z : ℕ) → V.disk.root z ≡ uid_number r → undecided V.disk z ≡ true → ⊥
+      still z of o =
+          let is = (s.kinds z (open_begun z (open_parts (disk.decided V.disk z) (V.disk.stage z) (V.disk.intent z) o))).0 in
+          let w = kinds.named z is in
+          let is_top : tops.is_top (uid_number w.0) ≡ true = ap tops.is_top w.1 ∙ is in
+          let root : tops.root (uid_number w.0) ≡ uid_number r = ap tops.root w.1 ∙ ap (λ f. f z) (sym s.fixed.root) ∙ of in
+          ⊎_elim (λ same. dead (ap (λ a. undecided V.disk (uid_number a)) (sym same) ∙ ap (λ n. undecided V.disk n) w.1 ∙ o)) (λ other. never top (kinds.serial w.0 r is_top root other).0) (uid_cases w.0 r)
 
   -- a serializing action with no open constituent is over
   pub serial_over : (r : Uid) → r.node ≡ k → is_gone (V.disk.stage (uid_number r)) ≡ true → tops.is_serial (uid_number r) ≡ true → tops.is_top (uid_number r) ≡ false
@@ -138,13 +153,13 @@ abbrev pub AmongUids : Uid → List Uid → Type 0
 AmongUids w [] = ⊥
 AmongUids w (u ∷ us) = (w ≡ u) ⊎ AmongUids w us
 
-all_halted : (x k : ℕ) (tops : Kinds) (M : Seen) (d : Disk) (t : Parts) (us : List Uid) (c : Coord) (W : World) → AllByRecursion (λ u. IsHere u c) us → AllByRecursion (λ u. at_uid u d.intents ≡ None) us
+all_halted : (x k : ℕ) (tops : Kinds) (M : Seen) (d : Disk) (t : Parts) (us : List Uid) (c : Coord) (W : World) → AllByRecursion (λ u. IsHere u c) us → AllByRecursion (λ u. at_uid u d.intents ≡ None) us → AllByRecursion (λ u. W.disk.bare (uid_number u) ≡ true → ⊥) us
     → SeesDisks x tops W (up k d (with_coord t c) M) → SeesDisks x tops (Halted (map uid_number us) W) (up k d (with_coord t (all_aborted us c).part) M)
-all_halted x k tops M d t [] c W here none s = s
-all_halted x k tops M d t (u ∷ us) c W here none s =
+all_halted x k tops M d t [] c W here none whole s = s
+all_halted x k tops M d t (u ∷ us) c W here none whole s =
     let h : IsHere u c = here.0 in
-    all_halted x k tops M d t us (ended u ending.Abort c) (after W (machine.Halt (uid_number u))) (all_to (λ w. IsHere w c) (λ w. IsHere w (ended u ending.Abort c)) (here_still c u h.branch h.doing ending.Abort h.found h.at_work) us here.1) none.1
-    (one_halts c u h.branch h.doing ending.Abort h.found h.at_work x k tops W M d t none.0 s)
+    all_halted x k tops M d t us (ended u ending.Abort c) (after W (machine.Halt (uid_number u))) (all_to (λ w. IsHere w c) (λ w. IsHere w (ended u ending.Abort c)) (here_still c u h.branch h.doing ending.Abort h.found h.at_work) us here.1) none.1 whole.1
+    (one_halts c u h.branch h.doing ending.Abort h.found h.at_work x k tops W M d t none.0 whole.0 s)
 
 all_ends : (us : List Uid) (c : Coord) → AllByRecursion (λ u. IsHere u c) us → OnlyEnds c (all_aborted us c).part
 all_ends [] c here = ends_none c
@@ -293,8 +308,12 @@ module _ (x : ℕ) (tops : Kinds) (e k : ℕ) (d : Disk) (t : Parts) (act : Uid)
   heres : AllByRecursion (λ u. IsHere u t.coord) Us
   heres = all_to IsOpenHere (λ u. IsHere u t.coord) (λ u h. h.here) Us all_here
 
+  -- no commit without a record has ended it
+  not_bare : (w : Uid) → IsOpenHere w → W.disk.bare (uid_number w) ≡ true → ⊥
+  not_bare w h bare = let n = mine_first.bare w h.here.branch h.here.doing h.here.found h.here.at_work bare in never_some n.committed h.open_yet
+
   halted_all : SeesDisks x tops LastWorld (up k d (with_coord t Last) M)
-  halted_all = all_halted x k tops M d t Us t.coord W heres (all_to IsOpenHere (λ u. at_uid u d.intents ≡ None) (λ u h. h.unrecorded) Us all_here) sees
+  halted_all = all_halted x k tops M d t Us t.coord W heres (all_to IsOpenHere (λ u. at_uid u d.intents ≡ None) (λ u h. h.unrecorded) Us all_here) (all_to IsOpenHere (λ u. W.disk.bare (uid_number u) ≡ true → ⊥) not_bare Us all_here) sees
 
   rest : LastWorld.disk ≡ record W.disk { stage = LastWorld.disk.stage }
   rest = rest_same W (map uid_number Us)

@@ -105,7 +105,7 @@ module _ (x : ℕ) (tops : Kinds) (e k : ℕ) (d : Disk) (t : Parts) (act : Uid)
 
   by_used : targets_of p ≡ [] → (us : List Used) → p.used ≡ us → DidIsWalked x tops e k d t (step_commit act (begin_confirm us p) d.intents t.coord) M
   by_used none [] is = unused_are_decided x tops e k d t act b p M knows found unended top plan.actor_is (unused is) W sees
-  by_used none (u ∷ us) is = top_asks x tops e k d t act b q d.intents M found unended at_work top W plain sees (further (1 ∷ []) p) plan.top_is confirming []
+  by_used none (u ∷ us) is = top_asks x tops e k d t act b q d.intents M found unended at_work top W plain sees (further (1 ∷ []) p) plan.top_is plan.actor_is confirming []
     where
       begun : TopGoes (uid_number act) (λ S. SeesPreparing x S (uid_number act) (further (1 ∷ []) p) []) W
       begun = subst (λ ts. TopGoes (uid_number act) (λ S. SeesPreparing x S (uid_number act) (further (1 ∷ []) p) ts) W) none (prepares_begin x W (uid_number act) p (1 ∷ []) sees.whole.core.fresh can plan.tidy unanswered)

@@ -17,18 +17,19 @@ use Rattle.arj_protocol.specs.Coord.{Coord, Doing, Joined, Root, Keeping, Grant,
 use Rattle.arj_protocol.specs.Effect.{Disk}
 use Rattle.arj_protocol.specs.Ending.{says, say_for}
 use Rattle.arj_protocol.specs.Node.{Parts, with_coord}
+use Rattle.arj_protocol.specs.Order as order
 use Rattle.arj_protocol.specs.Order.{uid_number, with_number, binding_eq, binding_less, unbound}
 use Rattle.arj_protocol.specs.Says.{AreAll}
 use Rattle.arj_protocol.specs.Tree.{Tree, Branch, Family, family_of, is_own, at_place, branch_of, is_open, is_open_branch, doomed_at, doomed_branch, root_of, ends_of, set_place, uses_object, with_family}
 use Rattle.arj_protocol.proofs.Maps.{place_other}
 use Rattle.arj_disk_law.specs.Effects.{World}
-use Rattle.arj_disk_law.specs.State.{State}
+use Rattle.arj_disk_law.specs.State.{State, naming}
 use Rattle.arj_disk_law.proofs.Base.{some_is}
 use Rattle.arj_view_law.specs.Seen.{Seen, up}
 use Rattle.arj_view_law.proofs.Happens.{place_same}
 use Rattle.arj_view_law.specs.Walks.{Walks, Up}
 use Rattle.arj_disk_view_law.specs.Coordinating.{CallsBegin, IncludesBegin, CallsAreHeard, CallsAreGivenUp}
-use Rattle.arj_disk_view_law.specs.Sees.{Kinds, SeesDisks, SeesCoord, IsSeenByDisks, IsKnown, KnowsRoot, KnowsNow, ClaimsReply, Works, WorksBy}
+use Rattle.arj_disk_view_law.specs.Sees.{Kinds, IsNamedCommit, SeesDisks, SeesCoord, IsSeenByDisks, IsKnown, KnowsRoot, KnowsNow, ClaimsReply, Works, WorksBy}
 use Rattle.arj_disk_view_law.proofs.CommitWalks.{later_known}
 use Rattle.arj_disk_view_law.proofs.Doings.{own_is, doing_here, doing_other, doing_tree}
 use Rattle.arj_disk_view_law.proofs.Ended.{place_long}
@@ -92,7 +93,7 @@ module _ (x k : ℕ) (tops : Kinds) (W : World) (d : Disk) (t : Parts) where
 
   -- a root's objects are counted
   family_seen : (c : Coord) (N : Seen) (root : Uid) (f : Family) → With c N → With (record c { tree = with_family root f c.tree }) N
-  family_seen c N root f s = coord_seen x k tops W N d t c (record c { tree = with_family root f c.tree }) (λ h. record { node = h.node; present = h.present; working = h.working; closed = h.closed; future = h.future })
+  family_seen c N root f s = coord_seen x k tops W N d t c (record c { tree = with_family root f c.tree }) (λ h. record { node = h.node; present = h.present; working = h.working; closed = h.closed; future = h.future; bare = h.bare })
       (λ n. record { settled = n.settled; taken = n.taken; roots = n.roots; plans = n.plans }) s
 
   -- a root takes note of what is known
@@ -113,8 +114,16 @@ module _ (x k : ℕ) (tops : Kinds) (W : World) (d : Disk) (t : Parts) where
         working = λ w z r there unended does. by w z r (uid_cases w u) (ap (λ v. branch_of w v) (sym (doing_tree u f c)) ∙ there) unended does;
         closed = λ w at ended began. h.closed w at (ap (λ v. is_open w v) (sym (doing_tree u f c)) ∙ ended) began;
         future = λ w at later. h.future w at (subst (λ (v : Tree). ((w.inc ≡ v.inc) × (length v.branches < w.num)) ⊎ (v.inc < w.inc)) (doing_tree u f c) later);
+        bare = λ w z r there does is. bare w z r (uid_cases w u) (ap (λ v. branch_of w v) (sym (doing_tree u f c)) ∙ there) does is;
       }
         where
+          bare : (w : Uid) (z : Branch) (r : Doing) → (w ≡ u) ⊎ (w ≢ u) → branch_of w c.tree ≡ Some z → doing_of w (on_doing u f c) ≡ Some r → W.disk.bare (uid_number w) ≡ true → IsNamedCommit z r
+          bare w z r (inl same) there does is =
+              let it : f q ≡ r = some_is (doing_here u f c q at_work) (ap (λ v. doing_of v (on_doing u f c)) (sym same) ∙ does) in
+              let n = h.bare w z q there (ap (λ v. doing_of v c) same ∙ at_work) is in
+              record { committed = n.committed; named = ap (λ (v : Doing). order.has v.took naming) (sym it) ∙ ap (λ ns. order.has ns naming) took ∙ n.named }
+          bare w z r (inr other) there does is = h.bare w z r there (sym (doing_other u w f c q at_work other) ∙ does) is
+
           by : (w : Uid) (z : Branch) (r : Doing) → (w ≡ u) ⊎ (w ≢ u) → branch_of w c.tree ≡ Some z → z.ended ≡ None → doing_of w (on_doing u f c) ≡ Some r → Works x tops W.disk (uid_number w) z.kind r.now
           by w z r (inl same) there unended does =
               let one : ◌≡◌ {A = Option Doing} (Some (f q)) (Some r) = sym (doing_here u f c q at_work) ∙ ap (λ v. doing_of v (on_doing u f c)) (sym same) ∙ does in
@@ -127,27 +136,35 @@ module _ (x k : ℕ) (tops : Kinds) (W : World) (d : Disk) (t : Parts) where
   doom_seen c N u s = by (branch_of u c.tree) refl
     where
       by : (o : Option Branch) → branch_of u c.tree ≡ o → With (record c { tree = doomed_branch u c.tree o }) N
-      by None is = s
-      by (Some b) is = coord_seen x k tops W N d t c (record c { tree = record c.tree { branches = set_place u.num (record b { doomed = true }) c.tree.branches } })
+      by None found = s
+      by (Some b) found = coord_seen x k tops W N d t c (record c { tree = record c.tree { branches = set_place u.num (record b { doomed = true }) c.tree.branches } })
           (λ h. record {
             node = h.node;
             present = h.present;
             working = λ w z r there unended does. working h w z r there unended does (uid_cases w u);
             closed = λ w at ended began. h.closed w at (sym (same_open w) ∙ ended) began;
             future = λ w at later. h.future w at (⊎_elim (λ p. inl (p.0, subst (λ n. n < w.num) (place_long u.num (record b { doomed = true }) c.tree.branches) p.1)) (λ p. inr p) later);
+            bare = λ w z r there does is. bare h w z r there does is (uid_cases w u);
           })
           (λ n. record { settled = λ w i there. ⊎_elim (λ o. inl (same_open w ∙ o)) (λ h. inr h) (n.settled w i there); taken = n.taken; roots = n.roots; plans = n.plans }) s
         where
           same_open : (w : Uid) → is_open w (record c.tree { branches = set_place u.num (record b { doomed = true }) c.tree.branches }) ≡ is_open w c.tree
           same_open w = ⊎_elim
-              (λ same. ap (λ a. is_open a (record c.tree { branches = set_place u.num (record b { doomed = true }) c.tree.branches })) same ∙ ap is_open_branch (set_here u b (record b { doomed = true }) c is) ∙ sym (ap is_open_branch is) ∙ ap (λ a. is_open a c.tree) (sym same))
-              (λ other. ap is_open_branch (set_other u b (record b { doomed = true }) c is w other)) (uid_cases w u)
+              (λ same. ap (λ a. is_open a (record c.tree { branches = set_place u.num (record b { doomed = true }) c.tree.branches })) same ∙ ap is_open_branch (set_here u b (record b { doomed = true }) c found) ∙ sym (ap is_open_branch found) ∙ ap (λ a. is_open a c.tree) (sym same))
+              (λ other. ap is_open_branch (set_other u b (record b { doomed = true }) c found w other)) (uid_cases w u)
 
           working : SeesCoord x k d.inc tops c W.disk → (w : Uid) (z : Branch) (r : Doing) → branch_of w (record c.tree { branches = set_place u.num (record b { doomed = true }) c.tree.branches }) ≡ Some z → z.ended ≡ None → doing_of w c ≡ Some r → (w ≡ u) ⊎ (w ≢ u) → Works x tops W.disk (uid_number w) z.kind r.now
-          working h w z r there unended does (inr other) = h.working w z r (sym (set_other u b (record b { doomed = true }) c is w other) ∙ there) unended does
+          working h w z r there unended does (inr other) = h.working w z r (sym (set_other u b (record b { doomed = true }) c found w other) ∙ there) unended does
           working h w z r there unended does (inl same) =
-              let one : record b { doomed = true } ≡ z = some_is (set_here u b (record b { doomed = true }) c is) (ap (λ a. branch_of a (record c.tree { branches = set_place u.num (record b { doomed = true }) c.tree.branches })) (sym same) ∙ there) in
-              subst (λ kd. Works x tops W.disk (uid_number w) kd r.now) (ap (λ (y : Branch). y.kind) one) (h.working w b r (ap (λ a. branch_of a c.tree) same ∙ is) (ap (λ (y : Branch). y.ended) one ∙ unended) does)
+              let one : record b { doomed = true } ≡ z = some_is (set_here u b (record b { doomed = true }) c found) (ap (λ a. branch_of a (record c.tree { branches = set_place u.num (record b { doomed = true }) c.tree.branches })) (sym same) ∙ there) in
+              subst (λ kd. Works x tops W.disk (uid_number w) kd r.now) (ap (λ (y : Branch). y.kind) one) (h.working w b r (ap (λ a. branch_of a c.tree) same ∙ found) (ap (λ (y : Branch). y.ended) one ∙ unended) does)
+
+          bare : SeesCoord x k d.inc tops c W.disk → (w : Uid) (z : Branch) (r : Doing) → branch_of w (record c.tree { branches = set_place u.num (record b { doomed = true }) c.tree.branches }) ≡ Some z → doing_of w c ≡ Some r → W.disk.bare (uid_number w) ≡ true → (w ≡ u) ⊎ (w ≢ u) → IsNamedCommit z r
+          bare h w z r there does is (inr other) = h.bare w z r (sym (set_other u b (record b { doomed = true }) c found w other) ∙ there) does is
+          bare h w z r there does is (inl same) =
+              let one : record b { doomed = true } ≡ z = some_is (set_here u b (record b { doomed = true }) c found) (ap (λ a. branch_of a (record c.tree { branches = set_place u.num (record b { doomed = true }) c.tree.branches })) (sym same) ∙ there) in
+              let n = h.bare w b r (ap (λ a. branch_of a c.tree) same ∙ found) does is in
+              record { committed = ap (λ (y : Branch). y.ended) (sym one) ∙ n.committed; named = n.named }
 
 -- ---- what is known of a root
 

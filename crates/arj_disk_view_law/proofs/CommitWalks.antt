@@ -202,7 +202,7 @@ module _ (x : ℕ) (tops : Kinds) (e k : ℕ) (d : Disk) (t : Parts) (from : ℕ
 
   -- who waits for a store, and for naming
   for_store : (p : commit.Plan) (left : List ℕ) → q.now ≡ Committing (Preparing p left) → KnowsMachine tops t.coord act (Preparing p left) → order.has left from ≡ true → WaitsForStore t from act p left
-  for_store p left now h asked = record { branch = h.branch; found = h.found; unended = h.unended; doing = q; at_work = at_work; now = now; asked = asked; path = h.plan.top_is; used = h.used; more = h.more; uses = h.uses }
+  for_store p left now h asked = record { branch = h.branch; found = h.found; unended = h.unended; doing = q; at_work = at_work; now = now; asked = asked; path = h.plan.top_is; own = h.plan.actor_is; used = h.used; more = h.more; uses = h.uses }
 
   for_naming : (p : commit.Plan) → q.now ≡ Committing (Confirming p) → KnowsMachine tops t.coord act (Confirming p) → WaitsForNaming t d.intents act p
   for_naming p now h = record { branch = h.branch; found = h.found; unended = h.unended; doing = q; at_work = at_work; now = now; path = h.plan.actor_is; unrecorded = knows.unrecorded act (ap is_open_branch h.found ∙ ap (λ o. is_open_branch (Some (record h.branch { ended = o }))) h.unended); changes = h.changes }

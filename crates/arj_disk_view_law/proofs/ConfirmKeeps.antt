@@ -15,10 +15,10 @@ use Rattle.arj_disk_view_law.proofs.PairSteps.{prepares, prepares_none}
 use Rattle.arj_disk_view_law.proofs.StoreSteps.{prepared_is, unprepared}
 
 -- a mark stays, and who is marked while its outcome is open has it
-marked_stays : (S : State) (t : ℕ) (f : ℕ → Bool) (z : ℕ) → f z ≡ true → marked S t f z ≡ true
+pub marked_stays : (S : State) (t : ℕ) (f : ℕ → Bool) (z : ℕ) → f z ≡ true → marked S t f z ≡ true
 marked_stays S t f z h = put_cases (λ b. b ≡ true) t (f t || undecided S t) f z (λ same. or_left (f t) (undecided S t) (ap f (sym same) ∙ h)) (λ other. h)
 
-marked_now : (S : State) (t : ℕ) (f : ℕ → Bool) → undecided S t ≡ true → marked S t f t ≡ true
+pub marked_now : (S : State) (t : ℕ) (f : ℕ → Bool) → undecided S t ≡ true → marked S t f t ≡ true
 marked_now S t f u = put_same t (f t || undecided S t) f ∙ or_right (f t) (undecided S t) u
 
 module _ (x : ℕ) (d : Pair) (S : State) (top : Uid) (states : List ObjectState) (sees : SeesEntry x d S) (new : is_prepared top d ≡ false) (begun : S.begun (uid_number top) ≡ true) where

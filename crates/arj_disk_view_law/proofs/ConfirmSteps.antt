@@ -137,23 +137,21 @@ entered_there f x (g ∷ gs) q on is = by (f g.0) refl (or_cases (g.0 == x) (nam
     by (Some t) e (inl one) ih = inl (some_is e (here one))
     by (Some t) e (inr more) ih = inr (ih more)
 
-module _ (x : ℕ) (d : Pair) (S : State) (top : Uid) (grants : Grants) (excluded included : Marks) (sees : SeesEntry x d S) (fits : FitsVersion S.entry)
-    (says : SaysMarks x (S.plan (uid_number top)) (S.got (uid_number top)) grants excluded included) (new : AreNew (marked x included) S.entry.content) where
-  made : ℕ → Option ObjectState
-  made y = entry_after top excluded included y (held_at (entry y) d)
+-- the entry that is held
+abbrev pub Held : ℕ → Pair → State → Type 0
+Held x d S = (st : ObjectState) × (held_at (entry x) d ≡ Some st) × (packed_entry st ≡ S.entry)
 
+pub held_is : (x : ℕ) (d : Pair) (S : State) → SeesEntry x d S → Held x d S
+held_is x d S sees = by (held_at (entry x) d) refl sees.pair.held_is
+  where
+    by : (o : Option ObjectState) → held_at (entry x) d ≡ o → option_map packed_entry o ≡ Some S.entry → Held x d S
+    by None e h = absurd (cc h)
+    by (Some st) e h = (st, e, (let same : packed_entry st ≡ S.entry = cc h in same))
+
+module _ (x : ℕ) (d : Pair) (S : State) (top : Uid) (grants : Grants) (excluded included : Marks) (sees : SeesEntry x d S)
+    (says : SaysMarks x (S.plan (uid_number top)) (S.got (uid_number top)) grants excluded included) (new : AreNew (marked x included) S.entry.content) where
   abbrev Now : List ℕ
   Now = new_list S (uid_number top)
-
-  abbrev Made : Type 0
-  Made = (st : ObjectState) × (held_at (entry x) d ≡ Some st) × (packed_entry st ≡ S.entry)
-
-  held_is : Made
-  held_is = by (held_at (entry x) d) refl sees.pair.held_is
-    where
-      by : (o : Option ObjectState) → held_at (entry x) d ≡ o → option_map packed_entry o ≡ Some S.entry → Made
-      by None e h = absurd (cc h)
-      by (Some st) e h = (st, e, (let same : packed_entry st ≡ S.entry = cc h in same))
 
   -- the state of an entry names its object
   of_its : (y : ℕ) (q : ObjectState) → entry_after top excluded included y (held_at (entry y) d) ≡ Some q → q.uid ≡ entry y
@@ -188,17 +186,17 @@ module _ (x : ℕ) (d : Pair) (S : State) (top : Uid) (grants : Grants) (exclude
     makes : entry_after top excluded included x (held_at (entry x) d) ≡ (if bytes_eq Now S.entry.content then None else Some (entry_state x top st Now))
     makes = ap (λ o. entry_after top excluded included x o) there ∙ (λ i. if test_is_now i then None else Some (entry_state x top st (list_is_now i)))
 
-    next_is : next_version st.version ≡ S.entry.version + 1
-    next_is = ap next_version (ap (λ (e : Packed). e.version) is) ∙ capped S.entry.version fits
+    next_is : FitsVersion S.entry → next_version st.version ≡ S.entry.version + 1
+    next_is fits = ap next_version (ap (λ (e : Packed). e.version) is) ∙ capped S.entry.version fits
       where
         capped : (v : ℕ) → v < 18446744073709551615 → min (v + 1) 18446744073709551615 ≡ v + 1
         capped v h = grind arith
 
-    packs : packed_entry (entry_state x top st Now) ≡ record { version = S.entry.version + 1; writer = uid_number top; content = Now }
-    packs = λ i. record { version = next_is i; writer = uid_number top; content = (entry_back (record { servers = (state_entry st).servers; stores = Now }) i).stores }
+    packs : FitsVersion S.entry → packed_entry (entry_state x top st Now) ≡ record { version = S.entry.version + 1; writer = uid_number top; content = Now }
+    packs fits = λ i. record { version = next_is fits i; writer = uid_number top; content = (entry_back (record { servers = (state_entry st).servers; stores = Now }) i).stores }
 
     -- a list that changes has a target, and so a grant
-    has_target : bytes_eq Now S.entry.content ≡ false → (s : ℕ) × (target (S.plan (uid_number top)) s ≡ true)
+    pub has_target : bytes_eq Now S.entry.content ≡ false → (s : ℕ) × (target (S.plan (uid_number top)) s ≡ true)
     has_target other = ⊎_elim
         (λ (f : (m : ℕ) × (has m S.entry.content ≡ true) × (target (S.plan (uid_number top)) m ≡ true)). (f.0, f.2))
         (λ (none : (m : ℕ) → has m S.entry.content ≡ true → target (S.plan (uid_number top)) m ≡ false). ⊎_elim
@@ -208,21 +206,23 @@ module _ (x : ℕ) (d : Pair) (S : State) (top : Uid) (grants : Grants) (exclude
         (find_true (S.got (uid_number top)) (S.plan (uid_number top)).joins))
         (find_true (target (S.plan (uid_number top))) S.entry.content)
 
-    changes : bytes_eq Now S.entry.content ≡ false → (q : ObjectState) × IsOf (entry x) (entries_after top grants excluded included d) q × AreOne packed_entry (entry x) (entries_after top grants excluded included d) (entry_hold S (uid_number top)).new
-    changes other =
-        let q : ObjectState = entry_state x top st Now in
-        let made_is : entry_after top excluded included x (held_at (entry x) d) ≡ Some q = makes ∙ ap (λ b. if b then None else Some q) other in
-        let s = has_target other in
-        let hold_is : (entry_hold S (uid_number top)).new ≡ record { version = S.entry.version + 1; writer = uid_number top; content = Now } = ap (λ b. if b then S.entry else record { version = S.entry.version + 1; writer = uid_number top; content = Now }) other in (
-          q,
-          (entered_there (λ y. entry_after top excluded included y (held_at (entry y) d)) x grants q (says.granted s.0 s.1) made_is, refl),
-          λ r of. ap packed_entry (some_is (own_made r of) made_is) ∙ packs ∙ sym hold_is,
-        )
+    -- a list that changes makes a new entry of the object
+    pub is_made : bytes_eq Now S.entry.content ≡ false → entry_after top excluded included x (held_at (entry x) d) ≡ Some (entry_state x top st Now)
+    is_made other = makes ∙ ap (λ b. if b then None else Some (entry_state x top st Now)) other
 
-    rests : bytes_eq Now S.entry.content ≡ true → HasNone (entry x) (entries_after top grants excluded included d)
+    pub stands_there : bytes_eq Now S.entry.content ≡ false → IsOf (entry x) (entries_after top grants excluded included d) (entry_state x top st Now)
+    stands_there other = let s = has_target other in (entered_there (λ y. entry_after top excluded included y (held_at (entry y) d)) x grants (entry_state x top st Now) (says.granted s.0 s.1) (is_made other), refl)
+
+    pub is_one : FitsVersion S.entry → bytes_eq Now S.entry.content ≡ false → AreOne packed_entry (entry x) (entries_after top grants excluded included d) (entry_hold S (uid_number top)).new
+    is_one fits other r of = ap packed_entry (some_is (own_made r of) (is_made other)) ∙ packs fits ∙ sym (ap (λ b. if b then S.entry else record { version = S.entry.version + 1; writer = uid_number top; content = Now }) other)
+
+    changes : FitsVersion S.entry → bytes_eq Now S.entry.content ≡ false → (q : ObjectState) × IsOf (entry x) (entries_after top grants excluded included d) q × AreOne packed_entry (entry x) (entries_after top grants excluded included d) (entry_hold S (uid_number top)).new
+    changes fits other = (entry_state x top st Now, stands_there other, is_one fits other)
+
+    pub rests : bytes_eq Now S.entry.content ≡ true → HasNone (entry x) (entries_after top grants excluded included d)
     rests same q of = never_some (own_made q of) (makes ∙ ap (λ b. if b then None else Some (entry_state x top st Now)) same)
 
 pub entries_are_entered : EntriesAreEntered
 entries_are_entered x d S top grants excluded included sees fits says new =
-    let h = held_is x d S top grants excluded included sees fits says new in
-    (λ other. changes x d S top grants excluded included sees fits says new h.0 h.1 h.2 other, λ same. rests x d S top grants excluded included sees fits says new h.0 h.1 h.2 same)
+    let h = held_is x d S sees in
+    (λ other. changes x d S top grants excluded included sees says new h.0 h.1 h.2 fits other, λ same. rests x d S top grants excluded included sees says new h.0 h.1 h.2 same)

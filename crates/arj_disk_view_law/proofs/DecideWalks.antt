@@ -98,6 +98,10 @@ writers_have_targets S t core conf open_yet writes = by S.entry_pend refl
         listed : (s : ℕ) → Listed S s → (s : ℕ) × (target (S.plan t) s ≡ true)
         listed s on = ⊎_elim (λ got. got_target s got) (λ x. by_whose (excused s x) (core.pending.new h new_one.0 is new_one.1)) (core.covered.stores t s conf (inl open_yet) writes on)
 
+-- naming takes part where it has confirmed
+naming_takes_part : (p : commit.Plan) → p.confirmed ≡ true → order.has (participants p) naming ≡ true
+naming_takes_part p confirmed = sym (has_same naming (participants p)) ∙ takes_part p naming (inr (ap (λ b. order.has (if b then 1 ∷ [] else []) naming) confirmed))
+
 -- ---- who is told
 
 module _ (x : ℕ) (tops : Kinds) (e k : ℕ) (d : Disk) (v : Parts) (u root : Uid) (p : commit.Plan) (top : tops.is_top (uid_number u) ≡ true) where
@@ -137,7 +141,7 @@ module _ (x : ℕ) (tops : Kinds) (e k : ℕ) (d : Disk) (v : Parts) (u root : U
   bare_told has_not confirmed (n ∷ ns) N V r s = by (order.has (participants p) n) refl (bare_told has_not confirmed ns)
     where
       names_part : order.has (participants p) naming ≡ true
-      names_part = sym (has_same naming (participants p)) ∙ takes_part p naming (inr (ap (λ b. order.has (if b then 1 ∷ [] else []) naming) confirmed))
+      names_part = naming_takes_part p confirmed
 
       by : (b : Bool) → order.has (participants p) n ≡ b → ((L : Seen) (U : World) → U.disk.bare (uid_number u) ≡ true → SeesDisks x tops U (up k d v L) → Walks P e k (map (decided_told root u p) ns) (Up P k v) d L)
           → Walks P e k ((if b then tell root (has_record p) ((u, ending.Commit) ∷ []) n else tell root false ((u, ending.Abort) ∷ []) n) ∷ map (decided_told root u p) ns) (Up P k v) d N
@@ -189,6 +193,10 @@ module _ (x : ℕ) (tops : Kinds) (e k : ℕ) (d : Disk) (t : Parts) (act : Uid)
 
   open_here : is_open act t.coord.tree ≡ true
   open_here = ap is_open_branch waits.found ∙ ap (λ (o : Option End). not (is_some o)) waits.unended
+
+  -- no commit without a record has ended it
+  not_bare : W.disk.bare (uid_number act) ≡ true → ⊥
+  not_bare bare = let n = mine.bare act waits.branch waits.doing waits.found waits.at_work bare in never_some n.committed waits.unended
 
   -- the coordinator has ended the top
   has_ended : HasEnded act waits.branch ending.Commit t.coord.tree C.tree
@@ -246,13 +254,13 @@ module _ (x : ℕ) (tops : Kinds) (e k : ℕ) (d : Disk) (t : Parts) (act : Uid)
       written = record_is_written x k W act i0 p d.intents sees.whole.core confirming refl answered records here refl
 
       mine1 : SeesCoord x k d.inc tops t.coord LaterWorld.disk
-      mine1 = coord_same x k d.inc tops t.coord W.disk LaterWorld.disk refl refl refl refl mine
+      mine1 = coord_same x k d.inc tops t.coord W.disk LaterWorld.disk refl refl refl refl refl mine
 
       notes1 : SeesNotes x (put_uid act i0 d.intents) t.coord LaterWorld
       notes1 = put_noted x LaterWorld d.intents t.coord act i0 open_here (notes_later x W LaterWorld (effects_are_later W (machine.Intend (uid_number act) (participants p) ∷ []) (written.0, tt) sees.whole) d.intents t.coord notes)
 
       s1 : SeesDisks x tops LaterWorld (up k d1 t M)
-      s1 = calm_seen x k tops W M d t act (machine.Intend (uid_number act) (participants p)) (put_uid act i0 d.intents) t.coord sees here written.0 written.1 refl (λ w other. refl) written.2
+      s1 = calm_seen x k tops W M d t act (machine.Intend (uid_number act) (participants p)) (put_uid act i0 d.intents) t.coord sees here written.0 written.1 refl (λ w other. refl) (λ w other. refl) written.2
           (λ m n apart s. records_apart LaterWorld.disk (Some (participants p)) refl m n apart s) mine1 notes1
 
       made : Allowed LaterWorld (machine.Decide (uid_number act)) × Stills LaterWorld (machine.Decide (uid_number act)) × SeesRecords k (put_uid act i0 d.intents) (after LaterWorld (machine.Decide (uid_number act))).disk
@@ -268,9 +276,9 @@ module _ (x : ℕ) (tops : Kinds) (e k : ℕ) (d : Disk) (t : Parts) (act : Uid)
       told = record { done = ap (λ b. b || disk.decided LaterWorld.disk (uid_number act)) (test_same (uid_number act)); there = put_same (uid_number act) (Some (participants p)) W.disk.intent }
 
       s2 : SeesDisks x tops LastWorld (up k d1 (with_coord t C) M)
-      s2 = calm_seen x k tops LaterWorld M d1 t act (machine.Decide (uid_number act)) (put_uid act i0 d.intents) C s1 here made.0 made.1 refl stages made.2
+      s2 = calm_seen x k tops LaterWorld M d1 t act (machine.Decide (uid_number act)) (put_uid act i0 d.intents) C s1 here made.0 made.1 refl stages (λ w other. refl) made.2
           (λ m n apart s. record { sorted = s.sorted; own = s.own; is = s.is })
-          (ended_coord x k d.inc tops t.coord C LaterWorld.disk LastWorld.disk act waits.branch ending.Commit mine1 waits.found has_ended doings_stay stages refl refl refl (ap is_gone (put_same (uid_number act) disk.Gone LaterWorld.disk.stage)))
+          (ended_coord x k d.inc tops t.coord C LaterWorld.disk LastWorld.disk act waits.branch ending.Commit mine1 waits.found has_ended doings_stay stages refl refl refl (ap is_gone (put_same (uid_number act) disk.Gone LaterWorld.disk.stage)) (λ w other. refl) (λ bare r is. absurd (not_bare bare)))
           (ended_noted x (put_uid act i0 d.intents) t.coord C LastWorld act waits.branch ending.Commit (notes_later x LaterWorld LastWorld (effects_are_later LaterWorld (machine.Decide (uid_number act) ∷ []) ((made.0.0, made.0.1), tt) s1.whole) (put_uid act i0 d.intents) t.coord notes1) waits.found has_ended tellings_stay doings_stay
           (λ i there. let same : i0 ≡ i = some_is (keys.put_same act i0 d.intents) there in subst (λ (j : Intent). IsSettled act j C.telling LastWorld) same (record { done = told.done; awaited = λ m on. inl (ap (is_awaited_by m) (telling_here has) ∙ on) }))
           (λ r is. let same = some_is doing_now is in ((λ m on. inl told.done), subst (λ (z : Doing). KnowsNow x LastWorld z.now) same tt)) (roots_known LastWorld later_all (λ w writes. inl (ap (λ (g : disk.Plan). g.writes) confirming.plan ∙ writes))))
@@ -293,6 +301,9 @@ module _ (x : ℕ) (tops : Kinds) (e k : ℕ) (d : Disk) (t : Parts) (act : Uid)
       stages : (w : Uid) → w ≢ act → LaterWorld.disk.stage (uid_number w) ≡ W.disk.stage (uid_number w)
       stages w other = put_other (uid_number act) disk.Gone W.disk.stage (uid_number w) (apart_number act w other)
 
+      bares : (w : Uid) → w ≢ act → LaterWorld.disk.bare (uid_number w) ≡ W.disk.bare (uid_number w)
+      bares w other = put_other (uid_number act) true W.disk.bare (uid_number w) (apart_number act w other)
+
       later : IsLater W LaterWorld
       later = effects_are_later W (machine.EndBare (uid_number act) ∷ []) (ends.0, tt) sees.whole
 
@@ -305,9 +316,9 @@ module _ (x : ℕ) (tops : Kinds) (e k : ℕ) (d : Disk) (t : Parts) (act : Uid)
           ⊎_elim (λ conf. let one = writers_have_targets W.disk (uid_number act) sees.whole.core conf open_yet (ap is_some written) in never one.1 (ends.0.untouched one.0)) (λ light. never_some written (sees.whole.core.light.plain (uid_number act) light)) taken
 
       s1 : SeesDisks x tops LaterWorld (up k d (with_coord t C) M)
-      s1 = calm_seen x k tops W M d t act (machine.EndBare (uid_number act)) d.intents C sees here ends.0 ends.1 refl stages ends.2
+      s1 = calm_seen x k tops W M d t act (machine.EndBare (uid_number act)) d.intents C sees here ends.0 ends.1 refl stages bares ends.2
           (λ m n apart s. record { sorted = s.sorted; own = s.own; is = s.is })
-          (ended_coord x k d.inc tops t.coord C W.disk LaterWorld.disk act waits.branch ending.Commit mine waits.found has_ended doings_stay stages refl refl refl (ap is_gone (put_same (uid_number act) disk.Gone W.disk.stage)))
+          (ended_coord x k d.inc tops t.coord C W.disk LaterWorld.disk act waits.branch ending.Commit mine waits.found has_ended doings_stay stages refl refl refl (ap is_gone (put_same (uid_number act) disk.Gone W.disk.stage)) bares (λ bare r is. (refl, ap (λ (z : Doing). order.has z.took naming) (sym (some_is doing_now is)) ∙ naming_takes_part p refl)))
           (ended_noted x d.intents t.coord C LaterWorld act waits.branch ending.Commit (notes_later x W LaterWorld later d.intents t.coord notes) waits.found has_ended tellings_stay doings_stay (λ i there. absurd (never_some there waits.unrecorded))
           (λ r is. let same = some_is doing_now is in ((λ m on. inr (put_same (uid_number act) true W.disk.bare)), subst (λ (z : Doing). KnowsNow x LaterWorld z.now) same tt)) (roots_known LaterWorld later (λ w writes. absurd (untargeted w writes))))
 

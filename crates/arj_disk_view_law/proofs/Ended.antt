@@ -9,6 +9,7 @@ use Rattle.arj_protocol.specs.Coord.{Coord, Doing, Root, doing_of}
 use Rattle.arj_protocol.specs.Effect.{Disk, Intent}
 use Rattle.arj_protocol.specs.Naming.{Naming}
 use Rattle.arj_protocol.specs.Node.{Parts, with_coord}
+use Rattle.arj_protocol.specs.Words.ending
 use Rattle.arj_protocol.specs.Order as order
 use Rattle.arj_protocol.specs.Order.{at_uid, uid_number}
 use Rattle.arj_protocol.specs.Step.{Node}
@@ -17,15 +18,15 @@ use Rattle.arj_protocol.proofs.Maps.{place_other}
 use Rattle.arj_disk_law.specs.Effects as machine
 use Rattle.arj_disk_law.specs.Effects.{World, Allowed, after}
 use Rattle.arj_disk_law.specs.State as disk
-use Rattle.arj_disk_law.specs.State.{State, is_gone}
-use Rattle.arj_disk_law.proofs.Base.{test_same, never}
+use Rattle.arj_disk_law.specs.State.{State, naming, is_gone}
+use Rattle.arj_disk_law.proofs.Base.{test_same, never, some_is}
 use Rattle.arj_disk_law.proofs.Keeps.{effect_keeps}
 use Rattle.arj_view_law.specs.Seen.{Seen, up}
 use Rattle.arj_view_law.proofs.Happens.{place_same}
 use Rattle.arj_disk_view_law.specs.Deciding.{SeesRecords, IsCalm}
 use Rattle.arj_disk_view_law.specs.Entries.{SeesEntry}
 use Rattle.arj_disk_view_law.specs.Stores.{SeesStore}
-use Rattle.arj_disk_view_law.specs.Sees.{Kinds, IsFuture, SeesDisks, SeesCoord, SeesNotes, IsSettled, KnowsNow, KnowsRoot, is_awaited_by, IsLater, SeesDown, SeesConfirmed, Works}
+use Rattle.arj_disk_view_law.specs.Sees.{Kinds, IsFuture, IsNamedCommit, SeesDisks, SeesCoord, SeesNotes, IsSettled, KnowsNow, KnowsRoot, is_awaited_by, IsLater, SeesDown, SeesConfirmed, Works}
 use Rattle.arj_disk_view_law.proofs.DecidingSteps.{stores_stay_calm, entry_stays_calm}
 use Rattle.arj_disk_view_law.proofs.Frames.{nodes_to, works_same, claim_here}
 use Rattle.arj_disk_view_law.proofs.Later.{effects_are_later}
@@ -97,8 +98,9 @@ module _ (u : Uid) (b : Branch) (how : End) (t v : Tree) (found : branch_of u t 
 
 pub ended_coord : (x k inc : ℕ) (tops : Kinds) (c C : Coord) (S V : State) (u : Uid) (b : Branch) (how : End) → SeesCoord x k inc tops c S → branch_of u c.tree ≡ Some b → HasEnded u b how c.tree C.tree
     → ((w : Uid) → w ≢ u → doing_of w C ≡ doing_of w c) → ((w : Uid) → w ≢ u → V.stage (uid_number w) ≡ S.stage (uid_number w)) → V.begun ≡ S.begun → V.plan ≡ S.plan → V.got ≡ S.got → is_gone (V.stage (uid_number u)) ≡ true
+    → ((w : Uid) → w ≢ u → V.bare (uid_number w) ≡ S.bare (uid_number w)) → (V.bare (uid_number u) ≡ true → (q : Doing) → doing_of u C ≡ Some q → (how ≡ ending.Commit) × (order.has q.took naming ≡ true))
     → SeesCoord x k inc tops C V
-ended_coord x k inc tops c C S V u b how s found ended doings stages begun plan got gone = record {
+ended_coord x k inc tops c C S V u b how s found ended doings stages begun plan got gone bares last = record {
   node = ended.node ∙ s.node;
   present = ended.inc ∙ s.present;
   working = λ w z q there open_yet does. by_working w z q (uid_cases w u) there open_yet does;
@@ -109,8 +111,16 @@ ended_coord x k inc tops c C S V u b how s found ended doings stages begun plan 
   future = λ w at later.
       let was : IsFuture c w = earlier w later in
       stages w (λ same. not_found (subst (λ a. IsFuture c a) same was)) ∙ s.future w at was;
+  bare = λ w z q there does is. by_bare w z q (uid_cases w u) there does is;
 }
   where
+    by_bare : (w : Uid) (z : Branch) (q : Doing) → (w ≡ u) ⊎ (w ≢ u) → branch_of w C.tree ≡ Some z → doing_of w C ≡ Some q → V.bare (uid_number w) ≡ true → IsNamedCommit z q
+    by_bare w z q (inl same) there does is =
+        let it : record b { ended = Some how } ≡ z = some_is (ended_here u b how c.tree C.tree found ended) (ap (λ a. branch_of a C.tree) (sym same) ∙ there) in
+        let r = last (ap (λ a. V.bare (uid_number a)) (sym same) ∙ is) q (ap (λ a. doing_of a C) (sym same) ∙ does) in
+        record { committed = ap (λ (y : Branch). y.ended) (sym it) ∙ (λ i. Some (r.0 i)); named = r.1 }
+    by_bare w z q (inr other) there does is = s.bare w z q (sym (ended_other u b how c.tree C.tree found ended w other) ∙ there) (sym (doings w other) ∙ does) (sym (bares w other) ∙ is)
+
     earlier : (w : Uid) → IsFuture C w → IsFuture c w
     earlier w (inl p) = inl (p.0 ∙ ended.inc, subst (λ n. n < w.num) (ended_long u b how c.tree C.tree found ended) p.1)
     earlier w (inr p) = inr (subst (λ n. n < w.inc) ended.inc p)
@@ -154,9 +164,9 @@ ended_noted x intents c C W u b how s found ended tellings doings mine own roots
 -- The stage of one action may change, and the records of its node; the node's coordinator becomes another one.
 pub calm_seen : (x k : ℕ) (tops : Kinds) (W : World) (M : Seen) (d : Disk) (t : Parts) (u : Uid) (eff : machine.Effect) (intents : List (Uid × Intent)) (c : Coord) → SeesDisks x tops W (up k d t M) → u.node ≡ k → Allowed W eff
     → IsCalm W (after W eff) → (after W eff).disk.got ≡ W.disk.got → ((w : Uid) → w ≢ u → (after W eff).disk.stage (uid_number w) ≡ W.disk.stage (uid_number w))
-    → SeesRecords k intents (after W eff).disk → ((m : ℕ) (n : Node) → (m == k) ≡ false → SeesRecords m n.disk.intents W.disk → SeesRecords m n.disk.intents (after W eff).disk)
+    → ((w : Uid) → w ≢ u → (after W eff).disk.bare (uid_number w) ≡ W.disk.bare (uid_number w)) → SeesRecords k intents (after W eff).disk → ((m : ℕ) (n : Node) → (m == k) ≡ false → SeesRecords m n.disk.intents W.disk → SeesRecords m n.disk.intents (after W eff).disk)
     → SeesCoord x k d.inc tops c (after W eff).disk → SeesNotes x intents c (after W eff) → SeesDisks x tops (after W eff) (up k (record d { intents = intents }) (with_coord t c) M)
-calm_seen x k tops W M d t u eff intents c s here allowed calm got stages records others coord noted = record {
+calm_seen x k tops W M d t u eff intents c s here allowed calm got stages bares records others coord noted = record {
   whole = effect_keeps W eff allowed s.whole;
   fixed = fixed_later tops W (after W eff) later s.fixed;
   kinds = λ z b. let r = s.kinds z (ap (λ f. f z) (sym begun) ∙ b) in (r.0, ap (λ (S : State). S.serial z) calm.rest ∙ r.1);
@@ -197,6 +207,7 @@ calm_seen x k tops W M d t u eff intents c s here allowed calm got stages record
       working = λ w z q there open_yet does. works_same x tops W.disk (after W eff).disk (uid_number w) z.kind q.now (stages w (apart m w e ((branch_at w p.coord z there).0 ∙ h.node))) (ap (λ f. f (uid_number w)) begun) (ap (λ (S : State). S.plan (uid_number w)) calm.rest) (ap (λ f. f (uid_number w)) got) (h.working w z q there open_yet does);
       closed = λ w at ended began. ap is_gone (stages w (apart m w e at)) ∙ h.closed w at ended (ap (λ f. f (uid_number w)) (sym begun) ∙ began);
       future = λ w at later. stages w (apart m w e at) ∙ h.future w at later;
+      bare = λ w z q there does is. h.bare w z q there does (sym (bares w (apart m w e ((branch_at w p.coord z there).0 ∙ h.node))) ∙ is);
     }
 
     down_stays : (m inc : ℕ) → (m == k) ≡ false → SeesDown m inc W.disk → SeesDown m inc (after W eff).disk

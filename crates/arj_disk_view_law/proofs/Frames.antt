@@ -68,13 +68,14 @@ works_same x tops S V t kind.Independent now stage begun plan got w = (w.0, work
 works_same x tops S V t kind.Constituent now stage begun plan got w = (w.0, works_now x S V t now stage begun plan got w.1)
 
 -- a coordinator reads stages, plans and answers alone
-pub coord_same : (x k inc : ℕ) (tops : Kinds) (c : Coord) (S V : State) → V.stage ≡ S.stage → V.begun ≡ S.begun → V.plan ≡ S.plan → V.got ≡ S.got → SeesCoord x k inc tops c S → SeesCoord x k inc tops c V
-coord_same x k inc tops c S V stage begun plan got s = record {
+pub coord_same : (x k inc : ℕ) (tops : Kinds) (c : Coord) (S V : State) → V.stage ≡ S.stage → V.begun ≡ S.begun → V.plan ≡ S.plan → V.got ≡ S.got → V.bare ≡ S.bare → SeesCoord x k inc tops c S → SeesCoord x k inc tops c V
+coord_same x k inc tops c S V stage begun plan got bare s = record {
   node = s.node;
   present = s.present;
   working = λ u b d there open_yet doing. works_same x tops S V (uid_number u) b.kind d.now (ap (λ f. f (uid_number u)) stage) (ap (λ f. f (uid_number u)) begun) (ap (λ f. f (uid_number u)) plan) (ap (λ f. f (uid_number u)) got) (s.working u b d there open_yet doing);
   closed = λ u mine ended began. ap (λ f. is_gone (f (uid_number u))) stage ∙ s.closed u mine ended (ap (λ f. f (uid_number u)) (sym begun) ∙ began);
   future = λ u mine later. ap (λ f. f (uid_number u)) stage ∙ s.future u mine later;
+  bare = λ u b d there doing is. s.bare u b d there doing (ap (λ f. f (uid_number u)) (sym bare) ∙ is);
 }
 
 pub down_same : (k inc : ℕ) (S V : State) → V.stage ≡ S.stage → V.begun ≡ S.begun → SeesDown k inc S → SeesDown k inc V
@@ -163,7 +164,7 @@ module _ (x k : ℕ) (tops : Kinds) (W : World) (M : Seen) (d : Disk) (t : Parts
   records_go m n s = subst (λ (S : State). SeesRecords m n.disk.intents S) (sym goes.only.rest) (record { sorted = s.sorted; own = s.own; is = s.is })
 
   coord_goes : (m inc : ℕ) (p : Parts) → SeesCoord x m inc tops p.coord W.disk → SeesCoord x m inc tops p.coord V.disk
-  coord_goes m inc p s = coord_same x m inc tops p.coord W.disk V.disk stage_same begun_same (ap (λ (S : State). S.plan) goes.only.rest) (ap (λ (S : State). S.got) goes.only.rest) s
+  coord_goes m inc p s = coord_same x m inc tops p.coord W.disk V.disk stage_same begun_same (ap (λ (S : State). S.plan) goes.only.rest) (ap (λ (S : State). S.got) goes.only.rest) (ap (λ (S : State). S.bare) goes.only.rest) s
 
   confirmed_goes : (o : Naming) → SeesConfirmed o W.disk → SeesConfirmed o V.disk
   confirmed_goes o s = subst (λ (S : State). SeesConfirmed o S) (sym goes.only.rest) s

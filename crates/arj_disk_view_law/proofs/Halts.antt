@@ -210,6 +210,7 @@ module _ (x k : ℕ) (tops : Kinds) (W : World) (M : Seen) (d : Disk) (t : Parts
         (ap (λ (S : State). S.plan (uid_number u)) (rest_same W (owns t.coord))) (ap (λ (S : State). S.got (uid_number u)) (rest_same W (owns t.coord))) (s.working u b q there open_yet doing);
     closed = λ u here ended began. ap is_gone (others_stay u (other_node m u other here)) ∙ s.closed u here ended (ap (λ f. f (uid_number u)) (sym begun_same) ∙ began);
     future = λ u here later. others_stay u (other_node m u other here) ∙ s.future u here later;
+    bare = λ u b q there doing is. s.bare u b q there doing (ap (λ (S : State). S.bare (uid_number u)) (sym (rest_same W (owns t.coord))) ∙ is);
   }
     where
       own_node : (u : Uid) (o : Option Branch) → branch_of u p.coord.tree ≡ o → (b : Branch) → branch_of u p.coord.tree ≡ Some b → u.node ≡ m

@@ -122,7 +122,7 @@ coord_seen x k tops W M d t c C mine noted s = record {
 
 -- it takes note at a root
 pub roots_seen : (x k : ℕ) (tops : Kinds) (W : World) (M : Seen) (d : Disk) (t : Parts) (c : Coord) (roots : List (ℕ × Root)) → ((r : SeesNotes x d.intents c W) → AllByRecursion (λ (r : ℕ × Root). KnowsRoot x W r.1) roots) → SeesDisks x tops W (up k d (with_coord t c) M) → SeesDisks x tops W (up k d (with_coord t (record c { roots = roots })) M)
-roots_seen x k tops W M d t c roots known s = coord_seen x k tops W M d t c (record c { roots = roots }) (λ h. record { node = h.node; present = h.present; working = h.working; closed = h.closed; future = h.future }) (λ n. roots_noted x W d.intents c roots n (known n)) s
+roots_seen x k tops W M d t c roots known s = coord_seen x k tops W M d t c (record c { roots = roots }) (λ h. record { node = h.node; present = h.present; working = h.working; closed = h.closed; future = h.future; bare = h.bare }) (λ n. roots_noted x W d.intents c roots n (known n)) s
 
 -- a root takes note of a request
 pub one_noted : (x : ℕ) (W : World) (path : Path) (to : ℕ) (invoke : Bool) (c : Coord) → AllByRecursion (λ (r : ℕ × Root). KnowsRoot x W r.1) c.roots
@@ -168,9 +168,9 @@ module _ (x : ℕ) (tops : Kinds) (e k : ℕ) (d : Disk) (t : Parts) (act : Uid)
       (top_to (uid_number act) (λ S. WorksBy x S (uid_number act) next) (λ S. Works x tops S (uid_number act) b.kind next) W (λ S h. works_as x tops W.disk S (uid_number act) b.kind r0.now next top works h) goes)
 
   -- the confirmation is asked
-  pub top_asks : (q : commit.Plan) → top_of q.path ≡ act → TopGoes (uid_number act) (λ S. SeesConfirming x S (uid_number act) q) W → (marks : List (ℕ × ℕ))
+  pub top_asks : (q : commit.Plan) → top_of q.path ≡ act → actor q.path ≡ act → TopGoes (uid_number act) (λ S. SeesConfirming x S (uid_number act) q) W → (marks : List (ℕ × ℕ))
       → let did = moved_commit act (record { step = Asks (Confirming q); marks = marks }) intents t.coord in Walks (IsSeenByDisks x tops) e k did.outs (Up (IsSeenByDisks x tops) k (with_coord t did.part)) d M
-  top_asks q path goes marks = say_walk x k tops e (with_coord t c1) (with_coord t noted) (mark_lines act marks t.coord) (Send 1 msg ∷ []) d V (marks_say act marks t.coord) sends M (top_moved q.req (Committing (Confirming q)) (λ U l. tt) goes)
+  top_asks q path own goes marks = say_walk x k tops e (with_coord t c1) (with_coord t noted) (mark_lines act marks t.coord) (Send 1 msg ∷ []) d V (marks_say act marks t.coord) sends M (top_moved q.req (Committing (Confirming q)) (λ U l. tt) goes)
     where
       c1 : Coord
       c1 = on_doing act (λ (r : Doing). record r { req = q.req; now = Committing (Confirming q) }) t.coord
@@ -195,9 +195,12 @@ module _ (x : ℕ) (tops : Kinds) (e k : ℕ) (d : Disk) (t : Parts) (act : Uid)
             (posts_seen x tops (after V (machine.Send m)) (up k d (with_coord t c1) N) (record { from = k; to = 1; message = msg }) claim (sends_seen x tops V (up k d (with_coord t c1) N) m goes.there.stage s))),
       )
         where
-          claim : ClaimsConfirm x (after V (machine.Send m)) (uid_number (top_of q.path)) (map {A = Used} {B = ℕ × ℕ} (λ u. (u.x, u.grant)) q.used) q.excluded (included_of q)
-          claim = subst (λ w. ClaimsConfirm x (after V (machine.Send m)) (uid_number w) (map {A = Used} {B = ℕ × ℕ} (λ u. (u.x, u.grant)) q.used) q.excluded (included_of q)) (sym path)
+          confirms : ClaimsConfirm x (after V (machine.Send m)) (uid_number (top_of q.path)) (map {A = Used} {B = ℕ × ℕ} (λ u. (u.x, u.grant)) q.used) q.excluded (included_of q)
+          confirms = subst (λ w. ClaimsConfirm x (after V (machine.Send m)) (uid_number w) (map {A = Used} {B = ℕ × ℕ} (λ u. (u.x, u.grant)) q.used) q.excluded (included_of q)) (sym path)
               (record { asked = inl refl; says = confirm_says x V.disk (uid_number act) q goes.there })
+
+          claim : (actor q.path ≡ top_of q.path) × ClaimsConfirm x (after V (machine.Send m)) (uid_number (top_of q.path)) (map {A = Used} {B = ℕ × ℕ} (λ u. (u.x, u.grant)) q.used) q.excluded (included_of q)
+          claim = (own ∙ sym path, confirms)
 
 -- ---- the answer
 
@@ -215,16 +218,16 @@ module _ (x : ℕ) (tops : Kinds) (e k : ℕ) (d : Disk) (t : Parts) (from : ℕ
   moved_seen : (req : ℕ) (next : Now) → ((U : World) → IsLater W U → KnowsNow x U next) → (goes : TopGoes (uid_number act) (λ S. WorksBy x S (uid_number act) next) W) → SeesDisks x tops (run W goes.effects) (up k d (with_coord t (on_doing act (λ (q : Doing). record q { req = req; now = next }) t.coord)) M)
   moved_seen req next now goes = top_moved x tops e k d t act waits.branch waits.doing intents M waits.found waits.unended waits.at_work top W plain sees req next now goes
 
-  asks_walk : (q : commit.Plan) → top_of q.path ≡ act → TopGoes (uid_number act) (λ S. SeesConfirming x S (uid_number act) q) W → (marks : List (ℕ × ℕ))
+  asks_walk : (q : commit.Plan) → top_of q.path ≡ act → actor q.path ≡ act → TopGoes (uid_number act) (λ S. SeesConfirming x S (uid_number act) q) W → (marks : List (ℕ × ℕ))
       → let did = moved_commit act (record { step = Asks (Confirming q); marks = marks }) intents t.coord in Walks (IsSeenByDisks x tops) e k did.outs (Up (IsSeenByDisks x tops) k (with_coord t did.part)) d M
-  asks_walk q path goes marks = top_asks x tops e k d t act waits.branch waits.doing intents M waits.found waits.unended waits.at_work top W plain sees q path goes marks
+  asks_walk q path own goes marks = top_asks x tops e k d t act waits.branch waits.doing intents M waits.found waits.unended waits.at_work top W plain sees q path own goes marks
 
   -- after an answer
   answered_walk : (q : commit.Plan) (rest : List ℕ) → q.path ≡ p.path → q.used ≡ p.used → TopGoes (uid_number act) (λ S. SeesPreparing x S (uid_number act) q rest) W
       → let did = moved_commit act (stores_left rest q) intents t.coord in Walks (IsSeenByDisks x tops) e k did.outs (Up (IsSeenByDisks x tops) k (with_coord t did.part)) d M
   answered_walk q (n ∷ ns) path used goes = (run W goes.effects, moved_seen q.req (Committing (Preparing q (n ∷ ns))) (λ U l. tt) goes)
   answered_walk q [] path used goes = subst (λ us. let did = moved_commit act (record { step = begin_confirm us q; marks = q.excluded }) intents t.coord in Walks (IsSeenByDisks x tops) e k did.outs (Up (IsSeenByDisks x tops) k (with_coord t did.part)) d M) (sym (used ∙ waits.uses))
-      (asks_walk (further (1 ∷ []) q) (ap top_of path ∙ waits.path) confirming q.excluded)
+      (asks_walk (further (1 ∷ []) q) (ap top_of path ∙ waits.path) (ap actor path ∙ waits.own) confirming q.excluded)
     where
       confirming : TopGoes (uid_number act) (λ S. SeesConfirming x S (uid_number act) (further (1 ∷ []) q)) W
       confirming = top_to (uid_number act) (λ S. SeesConfirming x S (uid_number act) q) (λ S. SeesConfirming x S (uid_number act) (further (1 ∷ []) q)) W

@@ -132,11 +132,13 @@ module _ (x : ℕ) (tops : Kinds) (W V : World) (whole : Whole W) (later : IsLat
   }
   ask_stays to h (ask.Confirm grants excluded included) c =
       let t : ℕ = uid_number (top_of h.path) in
-      let m = whole.mail (mail.Confirm t) c.asked in
-      record {
-        asked = later.sent (mail.Confirm t) c.asked;
-        says = subst (λ g. SaysMarks x g (V.disk.got t) grants excluded included) (sym (later.plan t m.0)) (subst (λ f. SaysMarks x (W.disk.plan t) f grants excluded included) (sym (later.got t m.1)) c.says);
-      }
+      let m = whole.mail (mail.Confirm t) c.1.asked in (
+        c.0,
+        record {
+          asked = later.sent (mail.Confirm t) c.1.asked;
+          says = subst (λ g. SaysMarks x g (V.disk.got t) grants excluded included) (sym (later.plan t m.0)) (subst (λ f. SaysMarks x (W.disk.plan t) f grants excluded included) (sym (later.got t m.1)) c.1.says);
+        },
+      )
 
   reply_stays : (from : ℕ) (u : Uid) (r : Reply) → ClaimsReply x W from u r → ClaimsReply x V from u r
   reply_stays from u (Reply.Prepared prepared.Yes) c = (later.begun (uid_number u) c.0, λ on. later.sent (mail.Prepared (uid_number u) from) (c.1 (was_target (uid_number u) from c.0 on)))

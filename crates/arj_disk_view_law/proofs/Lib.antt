@@ -8,6 +8,7 @@ pub mod CallWalks
 pub mod CommitWalks
 pub mod ConfirmKeeps
 pub mod ConfirmSteps
+pub mod ConfirmWalks
 pub mod DecideWalks
 pub mod DecidedCoord
 pub mod DecidingSteps
@@ -16,6 +17,7 @@ pub mod Ended
 pub mod Ending
 pub mod Ends
 pub mod EntrySteps
+pub mod FirstSeen
 pub mod Frames
 pub mod FreeAsks
 pub mod Halts

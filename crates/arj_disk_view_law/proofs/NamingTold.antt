@@ -72,7 +72,7 @@ module _ (x : ℕ) (tops : Kinds) (W : World) (M : Seen) (d : Disk) (t : Parts) 
   records_go m n s = subst (λ (S : State). SeesRecords m n.disk.intents S) (sym goes.only.rest) (record { sorted = s.sorted; own = s.own; is = s.is })
 
   coord_goes : (m inc : ℕ) (p : Parts) → SeesCoord x m inc tops p.coord W.disk → SeesCoord x m inc tops p.coord V.disk
-  coord_goes m inc p s = coord_same x m inc tops p.coord W.disk V.disk stage_same begun_same (ap (λ (S : State). S.plan) goes.only.rest) (ap (λ (S : State). S.got) goes.only.rest) s
+  coord_goes m inc p s = coord_same x m inc tops p.coord W.disk V.disk stage_same begun_same (ap (λ (S : State). S.plan) goes.only.rest) (ap (λ (S : State). S.got) goes.only.rest) (ap (λ (S : State). S.bare) goes.only.rest) s
 
   confirmed_goes : (o : Naming) → SeesConfirmed o W.disk → SeesConfirmed o V.disk
   confirmed_goes o s = subst (λ (S : State). SeesConfirmed o S) (sym goes.only.rest) s

@@ -14,11 +14,12 @@ use Rattle.arj_protocol.specs.Tree.{Branch, branch_of, begun, is_open, is_open_b
 use Rattle.arj_protocol.specs.World.{Labelled, numbered}
 use Rattle.arj_disk_law.specs.Effects.{World}
 use Rattle.arj_disk_law.specs.State as disk
-use Rattle.arj_disk_law.specs.State.{State}
+use Rattle.arj_disk_law.specs.State.{State, is_gone}
+use Rattle.arj_disk_law.proofs.Base.{never}
 use Rattle.arj_view_law.specs.Seen.{Seen, up, given}
 use Rattle.arj_disk_view_law.specs.Coordinating.{ActionsBegin}
 use Rattle.arj_disk_view_law.specs.Knows.{KnowsCoord, IsOfKind}
-use Rattle.arj_disk_view_law.specs.Sees.{Kinds, IsFuture, SeesDisks, SeesCoord, SeesNotes, KnowsNow, Works}
+use Rattle.arj_disk_view_law.specs.Sees.{Kinds, IsFuture, IsNamedCommit, SeesDisks, SeesCoord, SeesNotes, KnowsNow, Works}
 use Rattle.arj_disk_view_law.proofs.Frames.{says_seen, node_here}
 use Rattle.arj_disk_view_law.proofs.HeardWalks.{coord_seen}
 use Rattle.arj_disk_view_law.proofs.TopFrames.{branch_at, placed_below}
@@ -139,6 +140,7 @@ module _ (x k : ℕ) (tops : Kinds) (W : World) (M : Seen) (d : Disk) (t : Parts
     working = λ w z q there unended does. working w z q (branch_cases w z there) (doing_cases w q does) unended;
     closed = λ w at ended began. mine.closed w at (same_open w ended) began;
     future = λ w at later. mine.future w at (earlier w later);
+    bare = λ w z q there does is. bare w z q (branch_cases w z there) (doing_cases w q does) is;
   }
     where
       longer : (n : ℕ) → n < n + 1
@@ -147,6 +149,14 @@ module _ (x k : ℕ) (tops : Kinds) (W : World) (M : Seen) (d : Disk) (t : Parts
       earlier : (w : Uid) → IsFuture C w → IsFuture t.coord w
       earlier w (inl p) = inl (p.0, lt_trans (longer (length t.coord.tree.branches)) (subst (λ n. n < w.num) (snoc_long t.coord.tree.branches new) p.1))
       earlier w (inr p) = inr p
+
+      bare : (w : Uid) (z : Branch) (q : Doing) → (is_own w t.coord.tree ≡ true) × ((branch_of w t.coord.tree ≡ Some z) ⊎ ((w.num ≡ length t.coord.tree.branches + 1) × (new ≡ z))) → (doing_of w t.coord ≡ Some q) ⊎ ((w.num ≡ length t.coord.doings + 1) × (fresh ≡ q)) → W.disk.bare (uid_number w) ≡ true
+          → IsNamedCommit z q
+      bare w z q (own, inl old) (inl at) is = mine.bare w z q old at is
+      bare w z q (own, inl old) (inr last) is = absurd (above_last (length t.coord.tree.branches) w.num (branch_low w z old) (last.0 ∙ ap (λ n. n + 1) knows.as_long))
+      bare w z q (own, inr last) at is =
+          let idle : W.disk.stage (uid_number (next_uid t.coord.tree)) ≡ disk.Idle = mine.future (next_uid t.coord.tree) mine.node (inl (refl, longer (length t.coord.tree.branches))) in
+          absurd (never (sees.whole.core.bare.gone (uid_number w) is) (ap (λ a. is_gone (W.disk.stage (uid_number a))) (new_uid w own last.0) ∙ ap is_gone idle))
 
       working : (w : Uid) (z : Branch) (q : Doing) → (is_own w t.coord.tree ≡ true) × ((branch_of w t.coord.tree ≡ Some z) ⊎ ((w.num ≡ length t.coord.tree.branches + 1) × (new ≡ z))) → (doing_of w t.coord ≡ Some q) ⊎ ((w.num ≡ length t.coord.doings + 1) × (fresh ≡ q)) → z.ended ≡ None
           → Works x tops W.disk (uid_number w) z.kind q.now

@@ -19,7 +19,7 @@ use Rattle.arj_disk_law.specs.Messages as mail
 use Rattle.arj_disk_law.specs.Messages.{Meaning}
 use Rattle.arj_disk_law.specs.State as disk
 use Rattle.arj_disk_law.specs.State.{is_gone}
-use Rattle.arj_disk_law.proofs.Base.{never, or_left, or_right, put_same}
+use Rattle.arj_disk_law.proofs.Base.{never, never_some, or_left, or_right, put_same}
 use Rattle.arj_view_law.specs.Seen.{Seen, up}
 use Rattle.arj_disk_view_law.specs.Coordinating.{DidIsWalked, ActionsEnd}
 use Rattle.arj_disk_view_law.specs.Deciding.{SeesRecords, nodes_of}
@@ -67,7 +67,7 @@ module _ (x : ℕ) (tops : Kinds) (e k : ℕ) (d : Disk) (t : Parts) (act : Uid)
   open_now = ap is_open_branch found ∙ ap (λ (o : Option End). not (is_some o)) unended
 
   halted_seen : SeesDisks x tops V (up k d (with_coord t C) M)
-  halted_seen = one_halts t.coord act b (knows.at_work act b found).0 how found at_work x k tops W M d t (knows.unrecorded act open_now) sees
+  halted_seen = one_halts t.coord act b (knows.at_work act b found).0 how found at_work x k tops W M d t (knows.unrecorded act open_now) (λ bare. let n = mine.bare act b (knows.at_work act b found).0 found at_work bare in never_some n.committed unended) sees
 
   gone : is_gone (V.disk.stage (uid_number act)) ≡ true
   gone = ap is_gone (put_same (uid_number act) disk.Gone W.disk.stage)

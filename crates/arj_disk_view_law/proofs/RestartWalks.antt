@@ -97,6 +97,7 @@ module _ (x k : ℕ) (tops : Kinds) (W : World) (M : Seen) (d : Disk) (u : Uid) 
     working = λ w z q found unended does. works_same x tops W.disk V.disk (uid_number w) z.kind q.now (stages w (apart m w e ((branch_at w p.coord z found).0 ∙ h.node))) refl refl refl (h.working w z q found unended does);
     closed = λ w at ended began. ap is_gone (stages w (apart m w e at)) ∙ h.closed w at ended began;
     future = λ w at above. stages w (apart m w e at) ∙ h.future w at above;
+    bare = h.bare;
   }
 
   down_stays : (m inc : ℕ) → (m == k) ≡ false → SeesDown m inc W.disk → SeesDown m inc V.disk
@@ -238,6 +239,7 @@ module _ (x k : ℕ) (tops : Kinds) (M : Seen) (d : Disk) (U : World) (s : SeesD
     working = λ w b q found unended does. absurd (no_branch w b found);
     closed = λ w at ended began. h.closed w at began;
     future = λ w at above. h.future w at (⊎_elim (λ p. subst (λ n. d.inc < n) (sym p.0) (longer d.inc)) (λ p. lt_trans (longer d.inc) p) above);
+    bare = λ w b q found does is. absurd (no_branch w b found);
   }
     where
       longer : (n : ℕ) → n < n + 1

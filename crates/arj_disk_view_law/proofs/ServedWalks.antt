@@ -41,7 +41,7 @@ server_says k (Say b ∷ es) own = server_says k es (and_parts (is_server_effect
 server_says k (Send to m ∷ es) own = absurd (cc own)
 server_says k (Do w ∷ es) own = absurd (cc own)
 
-lock_says : (x : ℕ) (p : Path) (m : Mode) (o : Named) → AreAll is_say (lock_lines x p m o)
+pub lock_says : (x : ℕ) (p : Path) (m : Mode) (o : Named) → AreAll is_say (lock_lines x p m o)
 lock_says x p m o = all_if is_say (is_granted (entry x) (last_uid (top_path p)) m o.rows) [] (Say (body.Granted 1 (last_uid (top_path p)) (entry x) m) ∷ []) refl refl
 
 made_says : (inc x : ℕ) (p : Path) (e : Entry) (c : Counted) (m : Option Made) → AreAll is_say (bind_made inc x p e c m).outs

@@ -75,7 +75,7 @@ place_free u d pack held pend sees free = by pend refl
 -- ---- what a store is ready for
 
 -- no state that is sent has a refusal
-no_refusal : (a : Uid) (d : Pair) (states : List ObjectState) → prepare_answer a states d ≡ Ready → (s : ObjectState) → Among s states → refusal_in a d s ≡ None
+pub no_refusal : (a : Uid) (d : Pair) (states : List ObjectState) → prepare_answer a states d ≡ Ready → (s : ObjectState) → Among s states → refusal_in a d s ≡ None
 no_refusal a d [] ready s among = absurd among
 no_refusal a d (t ∷ ts) ready s among = by (refusal_in a d t) refl (refused_by t) ready among (no_refusal a d ts)
   where
@@ -105,7 +105,7 @@ no_refusal a d (t ∷ ts) ready s among = by (refusal_in a d t) refl (refused_by
     by None is unready ready (inr more) ih = ih ready s more
 
 -- a state without a refusal is of a free object, and not below what is held
-free_state : (a : Uid) (d : Pair) (s : ObjectState) → refusal_in a d s ≡ None → (holder_of s.uid d ≡ None) × ((held : ObjectState) → held_at s.uid d ≡ Some held → is_old s held ≡ false)
+pub free_state : (a : Uid) (d : Pair) (s : ObjectState) → refusal_in a d s ≡ None → (holder_of s.uid d ≡ None) × ((held : ObjectState) → held_at s.uid d ≡ Some held → is_old s held ≡ false)
 free_state a d s none = by (held_at s.uid d) refl (holder_of s.uid d) refl none
   where
     holds : (o : Option Uid) → by_holder s o ≡ None → o ≡ None

@@ -97,22 +97,25 @@ module _ (x k : ℕ) (tops : Kinds) (e : ℕ) (d : Disk) (t : Parts) (S : State)
           }
 
   -- a Confirm again
-  confirm_again : (act : Uid) (p : commit.Plan) → top_of p.path ≡ act → SeesConfirming x S (uid_number act) p → CanAsk p.path p.req (1, confirm_ask p)
-  confirm_again act p mine conf N V same s =
+  confirm_again : (act : Uid) (p : commit.Plan) → top_of p.path ≡ act → actor p.path ≡ act → SeesConfirming x S (uid_number act) p → CanAsk p.path p.req (1, confirm_ask p)
+  confirm_again act p mine own conf N V same s =
       let m : mail.Message = mail.Confirm (uid_number act) in
       let now : SeesConfirming x V.disk (uid_number act) p = subst (λ D. SeesConfirming x D (uid_number act) p) (sym same) conf in
       record {
         world = after V (machine.Send m);
         same = same;
         seen = sends_seen x tops V (up k d t N) m now.stage s;
-        may = subst (λ w. ClaimsConfirm x (after V (machine.Send (mail.Confirm (uid_number act)))) (uid_number w) (map {A = Used} {B = ℕ × ℕ} (λ u. (u.x, u.grant)) p.used) p.excluded (included_of p)) (sym mine)
-            (record { asked = inl refl; says = confirm_says x V.disk (uid_number act) p now });
+        may = (
+          own ∙ sym mine,
+          subst (λ w. ClaimsConfirm x (after V (machine.Send (mail.Confirm (uid_number act)))) (uid_number w) (map {A = Used} {B = ℕ × ℕ} (λ u. (u.x, u.grant)) p.used) p.excluded (included_of p)) (sym mine)
+              (record { asked = inl refl; says = confirm_says x V.disk (uid_number act) p now }),
+        );
       }
 
   -- what is known of an action at work
   abbrev AtWork : Now → Type 0
   AtWork (Committing (Preparing p left)) = (act : Uid) × (actor p.path ≡ act) × SeesPreparing x S (uid_number act) p left
-  AtWork (Committing (Confirming p)) = (act : Uid) × (top_of p.path ≡ act) × SeesConfirming x S (uid_number act) p
+  AtWork (Committing (Confirming p)) = (act : Uid) × (top_of p.path ≡ act) × (actor p.path ≡ act) × SeesConfirming x S (uid_number act) p
   AtWork _ = ⊤
 
   votes_can : (p : commit.Plan) (ss : List ℕ) → AllByRecursion (CanAsk p.path p.req) (map {A = ℕ} {B = ℕ × Ask} (λ n. (n, vote_ask p n)) ss)
@@ -135,7 +138,7 @@ module _ (x k : ℕ) (tops : Kinds) (e : ℕ) (d : Disk) (t : Parts) (S : State)
   now_again (Calling s) c rest at go = asks_again s.path s.req ((next_node s, next_ask (ends_of (root_of s.path) c.tree) s) ∷ []) c rest (free_ask s.path s.req (next_node s, next_ask (ends_of (root_of s.path) c.tree) s) (call_free s.path s.req (next_node s) s.x s.goal (ends_of (root_of s.path) c.tree) s.at), tt) go
   now_again (Committing (Voting p left)) c rest at go = asks_again p.path p.req (waiting (Voting p left)) c rest (votes_can p left) go
   now_again (Committing (Preparing p left)) c rest at go = asks_again p.path p.req (waiting (Preparing p left)) c rest (prepares_can at.0 p left left at.1 at.2) go
-  now_again (Committing (Confirming p)) c rest at go = asks_again p.path p.req (waiting (Confirming p)) c rest (confirm_again at.0 p at.1 at.2, tt) go
+  now_again (Committing (Confirming p)) c rest at go = asks_again p.path p.req (waiting (Confirming p)) c rest (confirm_again at.0 p at.1 at.2 at.3, tt) go
 
   all_again : (ds : List Doing) (c : Coord) (rest : List Effect) → AllByRecursion (λ (r : Doing). AtWork r.now) ds → Next rest → Next ((again_all ds c).outs ++ rest)
   all_again [] c rest at go = go
@@ -200,7 +203,7 @@ module _ (x : ℕ) (tops : Kinds) (e k : ℕ) (d : Disk) (t : Parts) (M : Seen) 
       (u, h.plan.actor_is, preparing_of x tops W.disk (uid_number u) h.branch.kind r.now p left h.top is (mine.working u h.branch r h.found h.unended does))
   at_work u r does (Committing (Confirming p)) is =
       let h = knows.machines u r (Confirming p) does is in
-      (u, h.plan.top_is, confirming_of x tops W.disk (uid_number u) h.branch.kind r.now p h.top is (mine.working u h.branch r h.found h.unended does))
+      (u, h.plan.top_is, h.plan.actor_is, confirming_of x tops W.disk (uid_number u) h.branch.kind r.now p h.top is (mine.working u h.branch r h.found h.unended does))
 
   all_places : {A : Type 0} (Q : A → Type 0) (xs : List A) → ((j : ℕ) (a : A) → slice_get xs j ≡ Some a → Q a) → AllByRecursion Q xs
   all_places Q [] each = tt

@@ -14,14 +14,14 @@ use Rattle.arj_protocol.specs.Tree.{Tree, Branch, branch_of, is_open, is_open_br
 use Rattle.arj_protocol.proofs.Numbers.{number_tells}
 use Rattle.arj_disk_law.specs.Effects.{World, run}
 use Rattle.arj_disk_law.specs.State.{State, is_gone}
-use Rattle.arj_disk_law.proofs.Base.{test_cases, test_not, test_same, never}
+use Rattle.arj_disk_law.proofs.Base.{test_cases, test_not, test_same, never, never_some}
 use Rattle.arj_disk_law.proofs.Keeps.{run_keeps}
 use Rattle.arj_view_law.specs.Seen.{Seen, up}
 use Rattle.arj_disk_view_law.specs.Asking.{TopGoes}
 use Rattle.arj_disk_view_law.specs.Deciding.{SeesRecords}
 use Rattle.arj_disk_view_law.specs.Entries.{SeesEntry}
 use Rattle.arj_disk_view_law.specs.Stores.{SeesStore}
-use Rattle.arj_disk_view_law.specs.Sees.{Kinds, IsFuture, SeesDisks, SeesCoord, SeesNotes, SeesDown, SeesConfirmed, KnowsNow, IsLater, Works, TopsAreSeen}
+use Rattle.arj_disk_view_law.specs.Sees.{Kinds, IsFuture, IsNamedCommit, SeesDisks, SeesCoord, SeesNotes, SeesDown, SeesConfirmed, KnowsNow, IsLater, Works, TopsAreSeen}
 use Rattle.arj_disk_view_law.proofs.AskingSteps.{stores_by_top, entry_by_top}
 use Rattle.arj_disk_view_law.proofs.Doings.{doing_here, doing_other, doing_tree}
 use Rattle.arj_disk_view_law.proofs.Frames.{nodes_to, node_here, works_same, claim_here}
@@ -94,8 +94,17 @@ module _ (x k : ℕ) (tops : Kinds) (W : World) (M : Seen) (d : Disk) (t : Parts
         ap is_gone (goes.only.stages (uid_number w) (apart_number u w other)) ∙ mine.closed w at (ap (λ z. is_open w z) (sym same_tree) ∙ ended) (sym (goes.only.starts (uid_number w) (apart_number u w other)) ∙ began);
     future = λ w at later. let was : IsFuture t.coord w = subst (λ (z : Tree). ((w.inc ≡ z.inc) × (length z.branches < w.num)) ⊎ (z.inc < w.inc)) same_tree later in
         goes.only.stages (uid_number w) (apart_number u w (λ e. not_future u t.coord b found (subst (λ z. IsFuture t.coord z) e was))) ∙ mine.future w at was;
+    bare = λ w c r there does is. bare w c r (uid_cases w u) (ap (λ z. branch_of w z) (sym same_tree) ∙ there) does (bare_was w is);
   }
     where
+      bare_was : (w : Uid) → V.disk.bare (uid_number w) ≡ true → W.disk.bare (uid_number w) ≡ true
+      bare_was w is = ap (λ (S : State). S.bare (uid_number w)) (sym goes.only.rest) ∙ is
+
+      bare : (w : Uid) (c : Branch) (r : Doing) → (w ≡ u) ⊎ (w ≢ u) → branch_of w t.coord.tree ≡ Some c → doing_of w (on_doing u f t.coord) ≡ Some r → W.disk.bare (uid_number w) ≡ true → IsNamedCommit c r
+      bare w c r (inl same) there does is =
+          let n = mine.bare u b q found doing (ap (λ z. W.disk.bare (uid_number z)) (sym same) ∙ is) in absurd (never_some n.committed is_open_yet)
+      bare w c r (inr other) there does is = mine.bare w c r there (sym (doing_other u w f t.coord q doing other) ∙ does) is
+
       closed_other : (w : Uid) → is_open w t.coord.tree ≡ false → w ≢ u
       closed_other w ended same = never (ap (λ z. is_open z t.coord.tree) same ∙ open_here) ended
 
@@ -120,6 +129,7 @@ module _ (x k : ℕ) (tops : Kinds) (W : World) (M : Seen) (d : Disk) (t : Parts
     working = λ w c r there open_yet does. works_other w c r (others_apart m w e ((branch_at w p.coord c there).0 ∙ s.node)) (s.working w c r there open_yet does);
     closed = λ w at ended began. let other = others_apart m w e at in ap is_gone (goes.only.stages (uid_number w) (apart_number u w other)) ∙ s.closed w at ended (sym (goes.only.starts (uid_number w) (apart_number u w other)) ∙ began);
     future = λ w at later. goes.only.stages (uid_number w) (apart_number u w (others_apart m w e at)) ∙ s.future w at later;
+    bare = λ w c r there does is. s.bare w c r there does (ap (λ (S : State). S.bare (uid_number w)) (sym goes.only.rest) ∙ is);
   }
 
   down_stays : (m inc : ℕ) → (m == k) ≡ false → SeesDown m inc W.disk → SeesDown m inc V.disk

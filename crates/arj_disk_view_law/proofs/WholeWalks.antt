@@ -11,32 +11,32 @@ use Rattle.arj_protocol.specs.Ask.{Reply, last_end, actor, answers}
 use Rattle.arj_protocol.specs.Asking.{call, include, commit_action, gives_up, heard, heard_doing, heard_now, heard_by, heard_none, waits_for_call, waits_for_commit, moved_commit, heard_call, give_up, give_up_doing}
 use Rattle.arj_protocol.specs.Commit as commit
 use Rattle.arj_protocol.specs.Commit.{Machine}
+use Rattle.arj_protocol.specs.Confirm.{confirm}
 use Rattle.arj_protocol.specs.Coord.{Coord, Doing, Now, Idle, Calling, Committing, doing_of, number_of}
 use Rattle.arj_protocol.specs.Effect.{Disk, Effect, Intent, Did}
 use Rattle.arj_protocol.specs.Ending.{abort_action, acked, acked_by, acked_left, answer_query}
 use Rattle.arj_protocol.specs.Naming.{Naming}
-use Rattle.arj_protocol.specs.Node.{Handled, Parts, Took, Void, coord_heard, handle_answer, handle_ask, handle_ends, handle_other, handle_told, serve, with_coord}
+use Rattle.arj_protocol.specs.Node.{Handled, Parts, Took, Void, coord_heard, handle_answer, handle_ask, handle_ends, handle_other, handle_told, if_naming, serve, served, with_coord, with_naming}
 use Rattle.arj_protocol.specs.Order as order
 use Rattle.arj_protocol.specs.Order.{at_uid, uid_number, without_number}
 use Rattle.arj_protocol.specs.Step as input
 use Rattle.arj_protocol.specs.Step.{Node, Input, acts, refusal_up, refused_by, first_reason, call_reasons, include_reasons, commit_reasons, abort_reasons, giveup_reasons, branch_named, branch_numbered, on_branch, waits, waits_above, waits_below, sibling_waits, is_waiting, is_waiting_now, class_at, lacks_op}
 use Rattle.arj_protocol.specs.Tree.{Branch, branch_of, at_place, has_open_child, has_many_objects, is_serial, root_of}
-use Rattle.arj_disk_law.specs.Effects.{World, Halt, after}
+use Rattle.arj_disk_law.specs.Effects.{World}
 use Rattle.arj_disk_law.specs.Messages as mail
-use Rattle.arj_disk_law.specs.Messages.{IsOver}
-use Rattle.arj_disk_law.specs.State.{naming}
 use Rattle.arj_disk_law.specs.Words.{In}
 use Rattle.arj_disk_law.proofs.Base.{test_same}
 use Rattle.arj_view_law.specs.Seen as seen
 use Rattle.arj_view_law.specs.Seen.{Post, Seen, up}
 use Rattle.arj_view_law.specs.Walks.{Walks, Up}
-use Rattle.arj_disk_view_law.specs.Coordinating.{DidIsWalked, ActsAreWalked, MessagesAreWalked, KnowsNode, IsNoConfirm}
+use Rattle.arj_disk_view_law.specs.Coordinating.{DidIsWalked, ActsAreWalked, MessagesAreWalked, KnowsNode, ConfirmsAreBooked}
 use Rattle.arj_disk_view_law.specs.Knows.{KnowsKinds, KnowsCoord}
 use Rattle.arj_disk_view_law.specs.Sees.{Claims, ClaimsAnswered, ClaimsAsk, ClaimsAsked, ClaimsLast, ClaimsOther, ClaimsReply, IsSeenByDisks, Kinds, SeesDisks}
 use Rattle.arj_disk_view_law.proofs.AckWalks.{acks_are_taken}
 use Rattle.arj_disk_view_law.proofs.ActionAborts.{actions_are_aborted}
 use Rattle.arj_disk_view_law.proofs.CallWalks.{calls_begin, includes_begin, calls_are_heard, calls_are_given_up}
 use Rattle.arj_disk_view_law.proofs.CommitWalks.{actions_commit, commits_are_heard, commits_are_given_up}
+use Rattle.arj_disk_view_law.proofs.ConfirmWalks.{confirms_are_walked}
 use Rattle.arj_disk_view_law.proofs.NamingTold.{naming_is_told}
 use Rattle.arj_disk_view_law.proofs.QueryWalks.{queries_are_answered}
 use Rattle.arj_disk_view_law.proofs.ServedWalks.{requests_are_served, hellos_are_walked}
@@ -165,7 +165,7 @@ module _ (x : ℕ) (tops : Kinds) (e k : ℕ) (d : Disk) (t v : Parts) (from : �
 
   -- ---- requests
 
-  by_ask : (h : Head) (a : Ask) → IsNoConfirm (Some (h, a)) → ((U : World) → SeesDisks x tops U (up k d t M) → ClaimsAsk x U k h a) → Goal (serve k d t from h a)
+  by_ask : (h : Head) (a : Ask) → ConfirmsAreBooked d t W (Some (h, a)) → ((U : World) → SeesDisks x tops U (up k d t M) → ClaimsAsk x U k h a) → Goal (serve k d t from h a)
   by_ask h (ask.Bind y include avoid) free claims is = requests_are_served x tops e k d t v from h (ask.Bind y include avoid) outs M tt (W, sees) claims is
   by_ask h (ask.Load y) free claims is = loads_are_walked x tops e k d t v from h (ask.Load y) outs M tt (W, sees) claims is
   by_ask h (ask.Activate b st) free claims is = requests_are_served x tops e k d t v from h (ask.Activate b st) outs M tt (W, sees) claims is
@@ -173,7 +173,15 @@ module _ (x : ℕ) (tops : Kinds) (e k : ℕ) (d : Disk) (t v : Parts) (from : �
   by_ask h (ask.Invoke y b i ends op) free claims is = requests_are_served x tops e k d t v from h (ask.Invoke y b i ends op) outs M tt (W, sees) claims is
   by_ask h (ask.Vote i ties ends) free claims is = requests_are_served x tops e k d t v from h (ask.Vote i ties ends) outs M tt (W, sees) claims is
   by_ask h (ask.Prepare states) free claims is = prepares_are_walked x tops e k d t v from h (ask.Prepare states) outs M tt (W, sees) claims is
-  by_ask h (ask.Confirm grants excluded included) free claims is = absurd free
+  by_ask h (ask.Confirm grants excluded included) booked claims is = named t.naming refl is
+    where
+      at_one : (n : Naming) → t.naming ≡ Some n → (j : ℕ) → 1 ≡ j → SeesDisks x tops W (up j d t M) → ClaimsAsk x W j h (ask.Confirm grants excluded included) → serve j d t from h (ask.Confirm grants excluded included) ≡ Took v outs → Walks (IsSeenByDisks x tops) e j outs (Up (IsSeenByDisks x tops) j v) d M
+      at_one n is j one = subst (λ j. SeesDisks x tops W (up j d t M) → ClaimsAsk x W j h (ask.Confirm grants excluded included) → serve j d t from h (ask.Confirm grants excluded included) ≡ Took v outs → Walks (IsSeenByDisks x tops) e j outs (Up (IsSeenByDisks x tops) j v) d M) one
+          (λ s c took. confirms_are_walked x tops e d t v n from h grants excluded included outs M is W s c (booked n is) took)
+
+      named : (o : Option Naming) → t.naming ≡ o → if_naming (λ n. served from h (with_naming t) Reply.Confirmed (confirm h.path grants excluded included d.names n)) o ≡ Took v outs → Walks P e k outs (Up P k v) d M
+      named None none it = absurd (cc it)
+      named (Some n) there it = at_one n there k (sym (knows.naming_here n there).0) sees (claims W sees) (ap (λ o. if_naming (λ n. served from h (with_naming t) Reply.Confirmed (confirm h.path grants excluded included d.names n)) o) there ∙ it)
 
   -- ---- answers
 
@@ -230,39 +238,38 @@ module _ (x : ℕ) (tops : Kinds) (e k : ℕ) (d : Disk) (t v : Parts) (from : �
 
   -- ---- what stands alone
 
-  by_other : (m : Message) → seen.In (record { from = from; to = k; message = m }) M.sent → ((U : World) → SeesDisks x tops U (up k d t M) → ClaimsOther tops U M.lines from k m)
-      → ((act : Uid) → W.disk.bare (uid_number act) ≡ true → from ≡ naming → IsOver (after W (Halt (uid_number act))).disk (W.disk.root (uid_number act))) → Goal (handle_other k d t from m)
-  by_other (message.Told m) sent claims bares is = by_told m.ack m.ends (λ U s. claims U s) t.naming refl is
-  by_other (message.Acked m) sent claims bares is = by_acked m.act (claims W sees) is
-  by_other (message.Query m) sent claims bares is = let a = knows.asked from m.act sent in took t (answer_query from m.act d.intents t.coord) (queries_are_answered x tops e k d t from m.act M knows.kinds knows.coord a.0 a.1 W sees (bares m.act)) is
-  by_other (message.Hello m) sent claims bares is = hellos_are_walked x tops e k d t v m.node m.inc outs M knows.begun (W, sees) is
-  by_other (message.Bind m) sent claims bares is = absurd (cc is)
-  by_other (message.Bound m) sent claims bares is = absurd (cc is)
-  by_other (message.Load m) sent claims bares is = absurd (cc is)
-  by_other (message.Loaded m) sent claims bares is = absurd (cc is)
-  by_other (message.Activate m) sent claims bares is = absurd (cc is)
-  by_other (message.Activated m) sent claims bares is = absurd (cc is)
-  by_other (message.RecordMsg m) sent claims bares is = absurd (cc is)
-  by_other (message.Recorded m) sent claims bares is = absurd (cc is)
-  by_other (message.Invoke m) sent claims bares is = absurd (cc is)
-  by_other (message.Invoked m) sent claims bares is = absurd (cc is)
-  by_other (message.Vote m) sent claims bares is = absurd (cc is)
-  by_other (message.Voted m) sent claims bares is = absurd (cc is)
-  by_other (message.Prepare m) sent claims bares is = absurd (cc is)
-  by_other (message.Prepared m) sent claims bares is = absurd (cc is)
-  by_other (message.Confirm m) sent claims bares is = absurd (cc is)
-  by_other (message.Confirmed m) sent claims bares is = absurd (cc is)
+  by_other : (m : Message) → seen.In (record { from = from; to = k; message = m }) M.sent → ((U : World) → SeesDisks x tops U (up k d t M) → ClaimsOther tops U M.lines from k m) → Goal (handle_other k d t from m)
+  by_other (message.Told m) sent claims is = by_told m.ack m.ends (λ U s. claims U s) t.naming refl is
+  by_other (message.Acked m) sent claims is = by_acked m.act (claims W sees) is
+  by_other (message.Query m) sent claims is = took t (answer_query from m.act d.intents t.coord) (queries_are_answered x tops e k d t from m.act M knows.kinds knows.coord (knows.asked from m.act sent) W sees) is
+  by_other (message.Hello m) sent claims is = hellos_are_walked x tops e k d t v m.node m.inc outs M knows.begun (W, sees) is
+  by_other (message.Bind m) sent claims is = absurd (cc is)
+  by_other (message.Bound m) sent claims is = absurd (cc is)
+  by_other (message.Load m) sent claims is = absurd (cc is)
+  by_other (message.Loaded m) sent claims is = absurd (cc is)
+  by_other (message.Activate m) sent claims is = absurd (cc is)
+  by_other (message.Activated m) sent claims is = absurd (cc is)
+  by_other (message.RecordMsg m) sent claims is = absurd (cc is)
+  by_other (message.Recorded m) sent claims is = absurd (cc is)
+  by_other (message.Invoke m) sent claims is = absurd (cc is)
+  by_other (message.Invoked m) sent claims is = absurd (cc is)
+  by_other (message.Vote m) sent claims is = absurd (cc is)
+  by_other (message.Voted m) sent claims is = absurd (cc is)
+  by_other (message.Prepare m) sent claims is = absurd (cc is)
+  by_other (message.Prepared m) sent claims is = absurd (cc is)
+  by_other (message.Confirm m) sent claims is = absurd (cc is)
+  by_other (message.Confirmed m) sent claims is = absurd (cc is)
 
 pub messages_are_walked : MessagesAreWalked
-messages_are_walked x tops e k d t v from m outs M knows free sent W sees bares = by (asks m) refl
+messages_are_walked x tops e k d t v from m outs M knows sent W sees booked = by (asks m) refl
   where
     claims : (U : World) → SeesDisks x tops U (up k d t M) → Claims x tops U M.lines (record { from = from; to = k; message = m })
     claims U s = s.posts (record { from = from; to = k; message = m }) sent
 
     by_answers : asks m ≡ None → (o : Option (Asked × Reply)) → answers m ≡ o → handle_answer k d t from m o ≡ Took v outs → Walks (IsSeenByDisks x tops) e k outs (Up (IsSeenByDisks x tops) k v) d M
-    by_answers none None is = by_other x tops e k d t v from outs M knows W sees m sent (λ U s. subst (λ o. ClaimsAnswered x tops U M.lines from k m o) is (subst (λ o. ClaimsAsked x tops U M.lines from k m o) none (claims U s))) bares
+    by_answers none None is = by_other x tops e k d t v from outs M knows W sees m sent (λ U s. subst (λ o. ClaimsAnswered x tops U M.lines from k m o) is (subst (λ o. ClaimsAsked x tops U M.lines from k m o) none (claims U s)))
     by_answers none (Some a) is = by_answer x tops e k d t v from outs M knows W sees a.0 a.1 (subst (λ o. ClaimsAnswered x tops W M.lines from k m o) is (subst (λ o. ClaimsAsked x tops W M.lines from k m o) none (claims W sees)))
 
     by : (o : Option (Head × Ask)) → asks m ≡ o → handle_ask k d t from m o ≡ Took v outs → Walks (IsSeenByDisks x tops) e k outs (Up (IsSeenByDisks x tops) k v) d M
     by None is = by_answers is (answers m) refl
-    by (Some a) is = by_ask x tops e k d t v from outs M knows W sees a.0 a.1 (subst IsNoConfirm is free) (λ U s. subst (λ o. ClaimsAsked x tops U M.lines from k m o) is (claims U s))
+    by (Some a) is = by_ask x tops e k d t v from outs M knows W sees a.0 a.1 (subst (ConfirmsAreBooked d t W) is booked) (λ U s. subst (λ o. ClaimsAsked x tops U M.lines from k m o) is (claims U s))

@@ -1,16 +1,18 @@
 -- What naming does at a Confirm, in the machine's terms: the list that a top leaves, and the entry that it has prepared.
-use Rattle.std.specs.Prelude.{⊤, ◌≡◌, ◌<◌, ℕ, Bool, true, false, not, ◌&&◌, ◌==◌, List, [], ◌∷◌, filter, None, bytes_eq, map}
+use Rattle.std.specs.Prelude.{⊤, ◌≡◌, ◌⊎◌, ◌<◌, ℕ, Bool, true, false, not, ◌&&◌, ◌==◌, List, [], ◌∷◌, filter, None, bytes_eq, is_some, map}
 use Rattle.std.specs.List.{list_any}
-use Rattle.arj_protocol.specs.Words.{Uid, ObjectState, Entry, entry, is_listed}
+use Rattle.arj_protocol.specs.Words.{Uid, Path, ObjectState, Entry, entry, is_listed, is_on}
+use Rattle.arj_protocol.specs.Ask.{top_of}
 use Rattle.arj_protocol.specs.Commit as commit
 use Rattle.arj_protocol.specs.Commit.{Used, included_of}
-use Rattle.arj_protocol.specs.Confirm.{Grants, Marks, marked, stores_after, entries_after}
+use Rattle.arj_protocol.specs.Confirm.{Grants, Marks, marked, stores_after, entries_after, has_all, checked}
 use Rattle.arj_protocol.specs.Effect.{Pair, is_prepared, pair_prepared}
 use Rattle.arj_protocol.specs.Laws.{names_grant}
+use Rattle.arj_protocol.specs.Naming.{Naming, is_over}
 use Rattle.arj_protocol.specs.Order.{uid_number}
-use Rattle.arj_disk_law.specs.Effects.{World, Agree, Pass, Enter, MaySend, changed, entry_hold, new_list}
+use Rattle.arj_disk_law.specs.Effects.{World, Agree, Pass, Enter, Locked, IsClear, MaySend, changed, entry_hold, new_list}
 use Rattle.arj_disk_law.specs.Messages as mail
-use Rattle.arj_disk_law.specs.State.{State, Plan, Packed, target, list_after}
+use Rattle.arj_disk_law.specs.State.{State, Plan, Packed, decided, undecided, target, list_after}
 use Rattle.arj_disk_law.specs.Words.{In}
 use Rattle.arj_disk_view_law.specs.Pairs.{IsOf, HasNone, AreOne, packed_entry}
 use Rattle.arj_disk_view_law.specs.Plans.{AreDistinct}
@@ -71,6 +73,23 @@ QuietConfirmsKeep = (x : ℕ) (d : Pair) (S : State) (t : ℕ) → SeesEntry x d
 -- what is prepared may be answered Yes again
 abbrev pub PreparedIsTaken : Type 0
 PreparedIsTaken = (x : ℕ) (d : Pair) (W : World) (top : Uid) → SeesEntry x d W.disk → is_prepared top d ≡ true → In (mail.Confirm (uid_number top)) W.sent → MaySend W (mail.Confirmed (uid_number top))
+
+-- What a confirmation counts on of naming's locks, where it is new: no store that the top has marked stands in another top's
+-- prepared entry; where the top wrote or changes the list, it is the only one that may change the object now; and it wasn't
+-- confirmed or decided before.
+pub record IsBooked (S : State) (t : ℕ) : Type 0 where
+  pub clear : IsClear S t
+  pub locked : (is_some (S.plan t).writes ≡ true) ⊎ (bytes_eq (new_list S t) S.entry.content ≡ false) → undecided S t ≡ true → Locked S t
+  pub undone : bytes_eq (new_list S t) S.entry.content ≡ false → decided S t ≡ false
+  pub unconfirmed : undecided S t ≡ true → S.conf t ≡ false
+
+-- naming takes a Confirm that it hasn't answered Yes in this incarnation, and finds nothing to refuse
+pub record IsNewConfirm (p : Path) (grants : Grants) (excluded included : Marks) (d : Pair) (n : Naming) : Type 0 where
+  pub untold : is_over p n ≡ false
+  pub named : has_all grants n ≡ true
+  pub unconfirmed : is_on n.confirmed (top_of p) ≡ false
+  pub unprepared : is_prepared (top_of p) d ≡ false
+  pub free : checked p grants excluded included d n ≡ None
 
 -- ---- what a coordinator asks
 

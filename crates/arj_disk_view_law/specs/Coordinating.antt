@@ -5,32 +5,32 @@ use Rattle.arj_protocol.specs.Words.ask
 use Rattle.arj_protocol.specs.Words.message
 use Rattle.std.specs.List.{AllByRecursion}
 use Rattle.arj_protocol.specs.Follow.{tick_outs}
-use Rattle.arj_protocol.specs.Ask.{Reply, actor}
+use Rattle.arj_protocol.specs.Ask.{Reply, actor, top_of}
 use Rattle.arj_protocol.specs.Call.{Steps}
 use Rattle.arj_protocol.specs.Commit as commit
 use Rattle.arj_protocol.specs.Commit.{begin_prepare, targets_of}
+use Rattle.arj_protocol.specs.Confirm.{Grants, Marks}
 use Rattle.arj_protocol.specs.Coord.{Coord, Doing, Now, Idle, Calling, Committing, doing_of}
 use Rattle.arj_protocol.specs.Effect.{Disk, Did, Effect, Intent}
 use Rattle.arj_protocol.specs.Asking.{again_all, begin_action, call, include, heard_call, step_commit, moved_commit, commit_action, waits_for_commit, gives_up}
 use Rattle.arj_protocol.specs.Ending.{abort_action, acked_left, answer_query, ends_with, decide}
 use Rattle.arj_protocol.specs.Naming.{Naming, orphans}
-use Rattle.arj_protocol.specs.Node.{Parts, Took, handle, handle_told, holders, prepared_actions, with_coord}
+use Rattle.arj_protocol.specs.Node.{Parts, Took, handle, handle_told, serve, holders, prepared_actions, with_coord}
 use Rattle.arj_protocol.specs.Order.{at_uid, uid_number, uid_set, without_number}
 use Rattle.arj_protocol.specs.Step.{Input, acts, refusal_up, restart_outs, parts_in}
 use Rattle.arj_protocol.specs.World.{Labelled}
-use Rattle.arj_protocol.specs.Tree.{Branch, branch_of, is_serial, has_open_child, next_uid, path_below}
-use Rattle.arj_disk_law.specs.Effects.{World, Halt, after}
+use Rattle.arj_protocol.specs.Tree.{Branch, branch_of, is_own, is_serial, has_open_child, next_uid, path_below}
+use Rattle.arj_disk_law.specs.Effects.{World}
 use Rattle.arj_disk_law.specs.Messages as mail
-use Rattle.arj_disk_law.specs.Messages.{IsOver}
-use Rattle.arj_disk_law.specs.State.{naming}
 use Rattle.arj_disk_law.specs.Words.{In}
 use Rattle.arj_view_law.specs.Keeps.{is_act}
 use Rattle.arj_view_law.specs.Seen as seen
 use Rattle.arj_view_law.specs.Seen.{Seen, up, down, given}
 use Rattle.arj_view_law.specs.Walks.{Walks, Up}
 use Rattle.arj_disk_view_law.specs.Asking.{IsUnanswered}
+use Rattle.arj_disk_view_law.specs.Confirming.{IsBooked, IsNewConfirm}
 use Rattle.arj_disk_view_law.specs.Knows.{KnowsKinds, KnowsCoord, KnowsPlan, IsOfKind}
-use Rattle.arj_disk_view_law.specs.Sees.{Kinds, was_begun, IsFuture, SeesDisks, IsSeenByDisks, KnowsNow, ClaimsLast, ClaimsReply}
+use Rattle.arj_disk_view_law.specs.Sees.{Kinds, was_begun, IsFuture, SeesDisks, IsSeenByDisks, KnowsNow, ClaimsAsk, ClaimsLast, ClaimsReply}
 
 -- the coordinator's part of a step keeps the disk half
 abbrev pub DidIsWalked : ℕ → Kinds → ℕ → ℕ → Disk → Parts → Did Coord → Seen → Type 0
@@ -96,12 +96,16 @@ AcksAreTaken = (x : ℕ) (tops : Kinds) (e k : ℕ) (d : Disk) (t : Parts) (from
     → at_uid act t.coord.telling ≡ Some i → (W : World) → SeesDisks x tops W (up k d t M) → In (mail.Acked (uid_number act) from) W.sent
     → let r = acked_left act i d.intents t.coord (without_number from i.nodes) in Walks (IsSeenByDisks x tops) e k r.outs (Up (IsSeenByDisks x tops) k (with_coord t r.part)) d M
 
--- A question about an action of this node that has begun, and isn't of the future, is answered. Of a commit without a record
--- naming is told only where its root is over.
+-- an action of this node that has begun: in this incarnation it has its place
+pub record HasBegunHere (k : ℕ) (c : Coord) (act : Uid) : Type 0 where
+  pub here : act.node ≡ k
+  pub past : IsFuture c act → ⊥
+  pub there : is_own act c.tree ≡ true → (b : Branch) × (branch_of act c.tree ≡ Some b)
+
+-- A question about an action of this node that has begun is answered.
 abbrev pub QueriesAreAnswered : Type 0
-QueriesAreAnswered = (x : ℕ) (tops : Kinds) (e k : ℕ) (d : Disk) (t : Parts) (from : ℕ) (act : Uid) (M : Seen) → KnowsKinds tops → KnowsCoord tops d.intents t.coord → act.node ≡ k → (IsFuture t.coord act → ⊥)
-    → (W : World) → SeesDisks x tops W (up k d t M) → (W.disk.bare (uid_number act) ≡ true → from ≡ naming → IsOver (after W (Halt (uid_number act))).disk (W.disk.root (uid_number act)))
-    → Walks (IsSeenByDisks x tops) e k (answer_query from act d.intents t.coord) (Up (IsSeenByDisks x tops) k t) d M
+QueriesAreAnswered = (x : ℕ) (tops : Kinds) (e k : ℕ) (d : Disk) (t : Parts) (from : ℕ) (act : Uid) (M : Seen) → KnowsKinds tops → KnowsCoord tops d.intents t.coord → HasBegunHere k t.coord act
+    → (W : World) → SeesDisks x tops W (up k d t M) → Walks (IsSeenByDisks x tops) e k (answer_query from act d.intents t.coord) (Up (IsSeenByDisks x tops) k t) d M
 
 -- An open action that waits for nothing calls an object, and includes a store.
 abbrev pub CallsBegin : Type 0
@@ -146,17 +150,19 @@ abbrev pub NamingIsTold : Type 0
 NamingIsTold = (x : ℕ) (tops : Kinds) (e : ℕ) (d : Disk) (t v : Parts) (n : Naming) (from : ℕ) (ack : Bool) (ends : List (Uid × End)) (u : Uid) (how : End) (outs : List Effect) (M : Seen) → t.naming ≡ Some n → AreOrphansOf tops u d n
     → (W : World) → SeesDisks x tops W (up 1 d t M) → ClaimsLast tops W 1 ack (Some (u, how)) → handle_told 1 d t from ack ends u how ≡ Took v outs → Walks (IsSeenByDisks x tops) e 1 outs (Up (IsSeenByDisks x tops) 1 v) d M
 
+-- A Confirm is taken at naming: answered Yes again, refused, or checked anew and then, as one that changes nothing, that wrote,
+-- or that changes the list, with its entries prepared where there are any. A new one is booked.
+abbrev pub ConfirmsAreWalked : Type 0
+ConfirmsAreWalked = (x : ℕ) (tops : Kinds) (e : ℕ) (d : Disk) (t v : Parts) (n : Naming) (from : ℕ) (h : Head) (grants : Grants) (excluded included : Marks) (outs : List Effect) (M : Seen) → t.naming ≡ Some n
+    → (W : World) → SeesDisks x tops W (up 1 d t M) → ClaimsAsk x W 1 h (ask.Confirm grants excluded included) → (IsNewConfirm h.path grants excluded included d.names n → IsBooked W.disk (uid_number (top_of h.path)))
+    → serve 1 d t from h (ask.Confirm grants excluded included) ≡ Took v outs → Walks (IsSeenByDisks x tops) e 1 outs (Up (IsSeenByDisks x tops) 1 v) d M
+
 -- ---- whole inputs and messages
 
 -- An input about an action that isn't refused keeps the disk half.
 abbrev pub ActsAreWalked : Type 0
 ActsAreWalked = (hd : Header) (x : ℕ) (tops : Kinds) (e k : ℕ) (d : Disk) (t : Parts) (i : Input) (M : Seen) → KnowsKinds tops → KnowsCoord tops d.intents t.coord → is_act i ≡ true → refusal_up hd i t.coord ≡ None
     → (W : World) → SeesDisks x tops W (up k d t M) → DidIsWalked x tops e k d t (acts i d.intents t.coord) M
-
--- the message is no Confirm
-abbrev pub IsNoConfirm : Option (Head × Ask) → Type 0
-IsNoConfirm (Some (h, ask.Confirm grants excluded included)) = ⊥
-IsNoConfirm _ = ⊤
 
 -- What is known at a node that takes a message: the coordinator's part; that who holds something there has begun; and that
 -- questions are about actions of the node that have begun; naming is at node 1, and rows that it drops with another action's end
@@ -165,12 +171,16 @@ pub record KnowsNode (tops : Kinds) (k : ℕ) (d : Disk) (t : Parts) (M : Seen) 
   pub kinds : KnowsKinds tops
   pub coord : KnowsCoord tops d.intents t.coord
   pub begun : AllByRecursion (λ u. was_begun u M.lines ≡ true) (holders d t)
-  pub asked : (from : ℕ) (act : Uid) → seen.In (record { from = from; to = k; message = message.Query (record { act = act }) }) M.sent → (act.node ≡ k) × (IsFuture t.coord act → ⊥)
+  pub asked : (from : ℕ) (act : Uid) → seen.In (record { from = from; to = k; message = message.Query (record { act = act }) }) M.sent → HasBegunHere k t.coord act
   pub elsewhere : t.naming ≡ None → (k == 1) ≡ false
   pub naming_here : (n : Naming) → t.naming ≡ Some n → (k ≡ 1) × ((u : Uid) → AreOrphansOf tops u d n)
 
--- A message that was sent is taken, which is no Confirm.
+-- a Confirm that naming checks anew is booked
+abbrev pub ConfirmsAreBooked : Disk → Parts → World → Option (Head × Ask) → Type 0
+ConfirmsAreBooked d t W (Some (h, ask.Confirm grants excluded included)) = (n : Naming) → t.naming ≡ Some n → IsNewConfirm h.path grants excluded included d.names n → IsBooked W.disk (uid_number (top_of h.path))
+ConfirmsAreBooked d t W _ = ⊤
+
+-- A message that was sent is taken, whichever it is.
 abbrev pub MessagesAreWalked : Type 0
-MessagesAreWalked = (x : ℕ) (tops : Kinds) (e k : ℕ) (d : Disk) (t v : Parts) (from : ℕ) (m : Message) (outs : List Effect) (M : Seen) → KnowsNode tops k d t M → IsNoConfirm (asks m) → seen.In (record { from = from; to = k; message = m }) M.sent
-    → (W : World) → SeesDisks x tops W (up k d t M) → ((act : Uid) → W.disk.bare (uid_number act) ≡ true → from ≡ naming → IsOver (after W (Halt (uid_number act))).disk (W.disk.root (uid_number act)))
-    → handle k d t from m ≡ Took v outs → Walks (IsSeenByDisks x tops) e k outs (Up (IsSeenByDisks x tops) k v) d M
+MessagesAreWalked = (x : ℕ) (tops : Kinds) (e k : ℕ) (d : Disk) (t v : Parts) (from : ℕ) (m : Message) (outs : List Effect) (M : Seen) → KnowsNode tops k d t M → seen.In (record { from = from; to = k; message = m }) M.sent
+    → (W : World) → SeesDisks x tops W (up k d t M) → ConfirmsAreBooked d t W (asks m) → handle k d t from m ≡ Took v outs → Walks (IsSeenByDisks x tops) e k outs (Up (IsSeenByDisks x tops) k v) d M

@@ -21,6 +21,7 @@ pub record KnowsKinds (tops : Kinds) : Type 0 where
   pub named : (z : ℕ) → tops.is_top z ≡ true → (w : Uid) × (uid_number w ≡ z)
   pub serial : (w r : Uid) → tops.is_top (uid_number w) ≡ true → tops.root (uid_number w) ≡ uid_number r → w ≢ r → (tops.is_top (uid_number r) ≡ false) × (tops.is_serial (uid_number r) ≡ true)
   pub own : (w r : Uid) → tops.is_top (uid_number w) ≡ true → tops.root (uid_number w) ≡ uid_number r → (w.node ≡ r.node) × (w.inc ≡ r.inc)
+  pub rooted : (w : Uid) → tops.is_top (uid_number w) ≡ true → (r : Uid) × (tops.root (uid_number w) ≡ uid_number r)
 
 -- An action's path by its kind: tops that are no constituents and serializing actions are their own roots.
 abbrev pub IsOfKind : Kinds → Uid → Kind → Path → Type 0
@@ -75,6 +76,7 @@ pub record KnowsCoord (tops : Kinds) (intents : List (Uid × Intent)) (c : Coord
   pub kind : (u : Uid) (b : tree.Branch) → branch_of u c.tree ≡ Some b → IsOfKind tops u b.kind b.path
   pub root : (u : Uid) (b : tree.Branch) → branch_of u c.tree ≡ Some b → tops.root (uid_number u) ≡ uid_number (root_of b.path)
   pub headed : (u : Uid) (b : tree.Branch) → branch_of u c.tree ≡ Some b → is_on (uids_of b.path) (root_of b.path) ≡ true
+  pub stem : (u : Uid) (b : tree.Branch) → branch_of u c.tree ≡ Some b → (r : tree.Branch) × (branch_of (root_of b.path) c.tree ≡ Some r)
   pub at_work : (u : Uid) (b : tree.Branch) → branch_of u c.tree ≡ Some b → (q : Doing) × (doing_of u c ≡ Some q)
   pub unrecorded : (u : Uid) → is_open u c.tree ≡ true → at_uid u intents ≡ None
   pub awaited : (u : Uid) (j : Intent) → at_uid u c.telling ≡ Some j → (i : Intent) × (at_uid u intents ≡ Some i)

@@ -3,6 +3,7 @@ pub mod Confirming
 pub mod Coordinating
 pub mod Deciding
 pub mod Entries
+pub mod Formats
 pub mod Knows
 pub mod Pairs
 pub mod Plans

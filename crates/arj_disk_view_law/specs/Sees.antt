@@ -27,7 +27,7 @@ use Rattle.arj_disk_law.specs.Effects as machine
 use Rattle.arj_disk_law.specs.Effects.{World, Follows, Whole, run}
 use Rattle.arj_disk_law.specs.Messages as mail
 use Rattle.arj_disk_law.specs.State as disk
-use Rattle.arj_disk_law.specs.State.{State, target, is_gone, is_sealed, undecided, KnownIn, Known}
+use Rattle.arj_disk_law.specs.State.{State, naming, target, is_gone, is_sealed, undecided, KnownIn, Known}
 use Rattle.arj_disk_law.specs.Words.{In}
 use Rattle.arj_view_law.specs.Seen as seen
 use Rattle.arj_view_law.specs.Seen.{Post, Seen, at, up, said}
@@ -64,7 +64,7 @@ pub record ClaimsConfirm (x : ℕ) (W : World) (t : ℕ) (grants excluded includ
 
 abbrev pub ClaimsAsk : ℕ → World → ℕ → Head → Ask → Type 0
 ClaimsAsk x W to h (ask.Prepare states) = ClaimsPrepare x W (actor h.path) to states
-ClaimsAsk x W to h (ask.Confirm grants excluded included) = ClaimsConfirm x W (uid_number (top_of h.path)) grants excluded included
+ClaimsAsk x W to h (ask.Confirm grants excluded included) = (actor h.path ≡ top_of h.path) × ClaimsConfirm x W (uid_number (top_of h.path)) grants excluded included
 ClaimsAsk x W to h _ = ⊤
 
 abbrev pub ClaimsReply : ℕ → World → ℕ → Uid → Reply → Type 0
@@ -121,14 +121,20 @@ Works x tops S t kind.Nested now = tops.is_top t ≡ false
 Works x tops S t kind.Serial now = (tops.is_top t ≡ false) × (S.stage t ≡ disk.Idle)
 Works x tops S t _ now = (tops.is_top t ≡ true) × WorksBy x S t now
 
+-- the action was committed, and naming took part
+pub record IsNamedCommit (b : Branch) (d : Doing) : Type 0 where
+  pub committed : b.ended ≡ Some ending.Commit
+  pub named : order.has d.took naming ≡ true
+
 -- A coordinator of this incarnation: what its open actions wait for; who isn't open is at its end, if its commit began; who is still to begin is
--- idle.
+-- idle; and a commit without a record was one that naming took part in.
 pub record SeesCoord (x k inc : ℕ) (tops : Kinds) (c : Coord) (S : State) : Type 0 where
   pub node : c.tree.node ≡ k
   pub present : c.tree.inc ≡ inc
   pub working : (u : Uid) (b : Branch) (d : Doing) → branch_of u c.tree ≡ Some b → b.ended ≡ None → doing_of u c ≡ Some d → Works x tops S (uid_number u) b.kind d.now
   pub closed : (u : Uid) → u.node ≡ k → is_open u c.tree ≡ false → S.begun (uid_number u) ≡ true → is_gone (S.stage (uid_number u)) ≡ true
   pub future : (u : Uid) → u.node ≡ k → IsFuture c u → S.stage (uid_number u) ≡ disk.Idle
+  pub bare : (u : Uid) (b : Branch) (d : Doing) → branch_of u c.tree ≡ Some b → doing_of u c ≡ Some d → S.bare (uid_number u) ≡ true → IsNamedCommit b d
 
 -- a node that is down: each commit that began is at its end, and who is of a later incarnation is idle
 pub record SeesDown (k inc : ℕ) (S : State) : Type 0 where
@@ -287,6 +293,7 @@ pub record WaitsForStore (t : Parts) (from : ℕ) (act : Uid) (p : commit.Plan) 
   pub now : doing.now ≡ Committing (Preparing p left)
   pub asked : order.has left from ≡ true
   pub path : top_of p.path ≡ act
+  pub own : actor p.path ≡ act
   pub used : Used
   pub more : List Used
   pub uses : p.used ≡ used ∷ more

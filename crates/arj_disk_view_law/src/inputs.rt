@@ -1,9 +1,11 @@
 // Whole inputs and messages keep the disk half of the view.
-ghost use Rattle.arj_disk_view_law.specs.Coordinating.{ActsAreWalked, MessagesAreWalked};
+ghost use Rattle.arj_disk_view_law.specs.Coordinating.{ActsAreWalked, ConfirmsAreWalked, MessagesAreWalked};
 
 /// Each input about an action that isn't refused keeps the disk half, wherever a stop falls; and so does each message that was
-/// sent, however old, but for a Confirm. It does nothing when it runs.
+/// sent, however old. A Confirm that naming checks anew counts on naming's locks: that it is booked is a premise. It does
+/// nothing when it runs.
 pub fn inputs_keep_the_disk_half()
     ensures acts { ActsAreWalked }
+    ensures confirms { ConfirmsAreWalked }
     ensures messages { MessagesAreWalked }
 {}

@@ -6,9 +6,10 @@
 //! each allowed when it comes, or nothing. `specs/Pairs.antt` ties a place to a pair of files; `specs/Stores.antt` and
 //! `specs/Entries.antt` have the stores and the entry, `specs/Plans.antt`, `Asking.antt` and `Deciding.antt` the
 //! coordinators, `specs/Confirming.antt` naming at a Confirm, each with what messages claim. `specs/Sees.antt` has the whole
-//! relation, `specs/Knows.antt` what it takes of the protocol alone, and `specs/Coordinating.antt` what each handler keeps. What
-//! it gives upward: each input about an action, each message but a Confirm, the beginning of an action, ticks and restarts keep
-//! the relation, wherever a stop falls.
+//! relation, `specs/Knows.antt` what it takes of the protocol alone, `specs/Coordinating.antt` what each handler keeps, and
+//! `specs/Formats.antt` how it begins. What it gives upward: a formatted world has the relation, and each input about an action,
+//! each message, the beginning of an action, ticks and restarts keep it, wherever a stop falls; a Confirm that naming checks
+//! anew where it is booked, which is for naming's locks to give.
 #![tactic(auto)]
 
 mod asking;
@@ -19,6 +20,7 @@ mod coordinators;
 mod deciding;
 mod entries;
 mod finishing;
+mod formats;
 mod inputs;
 mod outcomes;
 mod sees;
@@ -32,6 +34,7 @@ pub use coordinators::{decisions_keep_the_disk_half, prepare_steps_keep_the_disk
 pub use deciding::{decisions_are_seen, outcomes_may_be_told};
 pub use entries::ends_of_entries_are_seen;
 pub use finishing::ends_keep_the_disk_half;
+pub use formats::formats_keep_the_disk_half;
 pub use inputs::inputs_keep_the_disk_half;
 pub use outcomes::outcomes_keep_the_disk_half;
 pub use sees::{claims_stay_true, requests_keep_the_disk_half, stores_keep_the_disk_half};

@@ -1,3 +1,4 @@
+use Rattle.arj_disk_view_law.proofs.ConfirmWalks.{confirms_are_walked}
 use Rattle.arj_disk_view_law.proofs.WholeWalks.{acts_are_walked, messages_are_walked}
 use Rattle.arj_disk_view_law.proofs.inputs.inputs_keep_the_disk_half.Goals as goal
 
@@ -6,3 +7,6 @@ returns-clause-acts c = acts_are_walked
 
 pub returns-clause-messages : goal.returns-clause-messages
 returns-clause-messages c = messages_are_walked
+
+pub returns-clause-confirms : goal.returns-clause-confirms
+returns-clause-confirms c = confirms_are_walked
