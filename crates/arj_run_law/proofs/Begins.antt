@@ -34,7 +34,7 @@ use Rattle.arj_part_law.proofs.Begun.{agree_less, begins_in_tree, begun_tree, co
 use Rattle.arj_part_law.proofs.CoordInputs.{behind, named_found, next_path, off}
 use Rattle.arj_part_law.proofs.GoodNodes.{begin_well, elsewhere_well, tops_more}
 use Rattle.arj_part_law.proofs.TrueSteps.{begins_clear, claim_begins, faithful_begins, fits_begins, own_on}
-use Rattle.arj_run_law.specs.Worlds.{IsGood, IsGoodPlace, IsMemory, IsUp, KnowsLabels}
+use Rattle.arj_run_law.specs.Worlds.{IsGood, IsGoodOf, IsGoodPlace, IsMemory, IsUp, KnowsLabels}
 use Rattle.arj_run_law.proofs.Handled.{begun_of, good_coord, it, one_tree, others_of, place_of, so_of}
 use Rattle.arj_run_law.proofs.Labels.{one_name, put_label}
 use Rattle.arj_run_law.proofs.Walked.{IsMine, Others, others_said, up_good}
@@ -311,7 +311,7 @@ module _ (e k : ℕ) (d : Disk) (t : Parts) (l : Label) (how : Kind) (parent : O
       its_number : (let u = actor p in u.num) ≤ length v.coord.tree.branches
       its_number = let same : (let u = actor p in u.num) ≡ length c.tree.branches + 1 = ap (λ (u : Uid). u.num) its_uid in omega (arith, same, longer)
 
-  pub begin_good : DidKeeps IsGood e k d t (begin_action l how parent o c) (given l (record { node = k; serial = is_serial_kind how }) M)
+  pub begin_good : DidKeeps (IsGoodOf acts) e k d t (begin_action l how parent o c) (given l (record { node = k; serial = is_serial_kind how }) M)
   begin_good =
       let M2 = given l (record { node = k; serial = is_serial_kind how }) M in
       let x = place_of k d (Some t) M good in

@@ -42,7 +42,7 @@ use Rattle.arj_part_law.proofs.Settled.{node_on, inc_on}
 use Rattle.arj_part_law.proofs.Truths.{true_on}
 use Rattle.arj_part_law.proofs.TrueSteps.{faithful_on, true_records, well_acts, well_again}
 use Rattle.arj_part_law.proofs.Voted.{votes_only}
-use Rattle.arj_run_law.specs.Worlds.{IsUp, IsMemory, IsGoodPlace, IsSo, IsGoodWorld, IsGood, KnowsLabels}
+use Rattle.arj_run_law.specs.Worlds.{IsUp, IsMemory, IsGoodPlace, IsSo, IsGoodWorld, IsGood, IsGoodOf, KnowsLabels}
 use Rattle.arj_run_law.proofs.Parted.{IsLeft, coord_kept}
 use Rattle.arj_run_law.proofs.Walked.{same_number, other_number, IsMine, Others, are_kept, walked, down_good}
 use Rattle.arj_view_law.specs.Keeps.{DidKeeps, is_act}
@@ -140,7 +140,7 @@ module _ (k : ℕ) (d : Disk) (live : Option Parts) (M : Seen) (good : IsGood (a
       by (Some t) m = (length t.coord.tree.branches, m.counted)
 
   -- a stop
-  pub stopped_good : (e : ℕ) → IsGood (halted e k d M)
+  pub stopped_good : (e : ℕ) → IsGoodOf good.0 (halted e k d M)
   stopped_good e = down_good good.0 k d.inc (parts_in k (d.inc + 1) d) counted_of.0 counted_of.1 e d M (others_of d.inc (parts_in k (d.inc + 1) d) (mine_anew d.inc (omega arith))) place_of.disk refl
 
 -- ---- a node that goes on
@@ -192,7 +192,7 @@ module _ (e k : ℕ) (d : Disk) (t : Parts) (M : Seen) (good : IsGood (up k d t 
 
   -- the node goes on with these parts and effects
   pub goes : (v : Parts) (outs : List Effect) → ((paths : Paths) → IsTree paths → Agree good.0 paths → IsGoodNode good.0 paths v) → AllFit good.0 outs → GoesOn t.coord v.coord → IsSure v.coord × Decides t.coord.tree v.coord.tree × AllSayEnds v.coord.tree outs → AreNumbered v.coord × KnowsObjects v.coord → v.server.inc ≡ t.server.inc
-      → AllByRecursion (IsClaimsOf v.coord) outs → AreOfInc k d.inc outs → ((w : Uid) → is_on v.server.voted w ≡ true → (p : Post) × In p M.sent × Seals p.message w) → Walks IsGood e k outs (Up IsGood k v) d M
+      → AllByRecursion (IsClaimsOf v.coord) outs → AreOfInc k d.inc outs → ((w : Uid) → is_on v.server.voted w ≡ true → (p : Post) × In p M.sent × Seals p.message w) → Walks (IsGoodOf good.0) e k outs (Up (IsGoodOf good.0) k v) d M
   goes v outs goods fit g sure numbered inc claims incs voted =
       let node : v.coord.tree.node ≡ k = sym (node_on t.coord v.coord g) ∙ it.node in
       let same_inc : v.coord.tree.inc ≡ d.inc = sym (inc_on t.coord v.coord g) ∙ it.inc in
@@ -213,7 +213,7 @@ module _ (e k : ℕ) (d : Disk) (t : Parts) (M : Seen) (good : IsGood (up k d t 
       (λ u i c own. sure.1 u ending.Commit (records_of_disk u i c (sym (g.own u) ∙ own)))
 
   -- a message that was sent
-  pub message_good : (v : Parts) (from : ℕ) (m : Message) (outs : List Effect) → In (record { from = from; to = k; message = m }) M.sent → handle k d t from m ≡ Took v outs → Walks IsGood e k outs (Up IsGood k v) d M
+  pub message_good : (v : Parts) (from : ℕ) (m : Message) (outs : List Effect) → In (record { from = from; to = k; message = m }) M.sent → handle k d t from m ≡ Took v outs → Walks (IsGoodOf good.0) e k outs (Up (IsGoodOf good.0) k v) d M
   message_good v from m outs there is = goes v outs (λ paths tree agree. (well paths tree agree).0) (well (paths_of good.0) one_tree one_agrees).1 truly.0 surely (numbered, objects) truly.1 truly.2 (subst (λ i. AreOfInc k i outs) it.server truly.3) voted
     where
       q : Post
@@ -241,10 +241,10 @@ module _ (e k : ℕ) (d : Disk) (t : Parts) (M : Seen) (good : IsGood (up k d t 
       voted w on = ⊎_elim (λ old. it.voted w old) (λ new. (q, there, new)) (only w on)
 
   -- what the coordinator does
-  with_did : (did : Did Coord) (outs : List Effect) → ((paths : Paths) → IsTree paths → Agree good.0 paths → IsGoodNode good.0 paths (with_coord t did.part) × AllFit good.0 outs) → GoesOn t.coord did.part → IsSure did.part × Decides t.coord.tree (let c = did.part in c.tree) × AllSayEnds (let c = did.part in c.tree) outs → AreNumbered did.part × KnowsObjects did.part → AllByRecursion (IsClaimsOf did.part) outs → AreOfInc k d.inc outs → Walks IsGood e k outs (Up IsGood k (with_coord t did.part)) d M
+  with_did : (did : Did Coord) (outs : List Effect) → ((paths : Paths) → IsTree paths → Agree good.0 paths → IsGoodNode good.0 paths (with_coord t did.part) × AllFit good.0 outs) → GoesOn t.coord did.part → IsSure did.part × Decides t.coord.tree (let c = did.part in c.tree) × AllSayEnds (let c = did.part in c.tree) outs → AreNumbered did.part × KnowsObjects did.part → AllByRecursion (IsClaimsOf did.part) outs → AreOfInc k d.inc outs → Walks (IsGoodOf good.0) e k outs (Up (IsGoodOf good.0) k (with_coord t did.part)) d M
   with_did did outs well g sure numbered claims incs = goes (with_coord t did.part) outs (λ paths tree agree. (well paths tree agree).0) (well (paths_of good.0) one_tree one_agrees).1 g sure numbered refl claims incs it.voted
 
-  pub act_good : (hd : Header) (i : Input) → is_act i ≡ true → refusal_up hd i t.coord ≡ None → DidKeeps IsGood e k d t (acts i d.intents t.coord) M
+  pub act_good : (hd : Header) (i : Input) → is_act i ≡ true → refusal_up hd i t.coord ≡ None → DidKeeps (IsGoodOf good.0) e k d t (acts i d.intents t.coord) M
   act_good hd i is none =
       let r = acts i d.intents t.coord in
       let g = well_acts good.0 (paths_of good.0) one_tree d.intents t.coord good_coord it.faithful.works hd i none other in
@@ -255,7 +255,7 @@ module _ (e k : ℕ) (d : Disk) (t : Parts) (M : Seen) (good : IsGood (up k d t 
       other : (l : Label) (how : Kind) (parent : Option Label) → i ≢ input.Begin l how parent
       other l how parent same = let no_way : false ≡ true = sym (ap is_act same) ∙ is in cc
 
-  pub tick_good : Walks IsGood e k (tick_outs (record { number = k; disk = d; live = Some t }) t) (Up IsGood k (with_coord t (again_all t.coord.doings t.coord).part)) d M
+  pub tick_good : Walks (IsGoodOf good.0) e k (tick_outs (record { number = k; disk = d; live = Some t }) t) (Up (IsGoodOf good.0) k (with_coord t (again_all t.coord.doings t.coord).part)) d M
   tick_good =
       let r = again_all t.coord.doings t.coord in
       let g = well_again good.0 (paths_of good.0) one_tree t.coord good_coord in

@@ -31,7 +31,7 @@ use Rattle.arj_part_law.proofs.GoodNodes.{restart_well}
 use Rattle.arj_part_law.proofs.GoodTrees.{get_more}
 use Rattle.arj_part_law.proofs.SaidIncs.{all_both, all_flat, all_map, restart_of, true_inc}
 use Rattle.arj_part_law.proofs.TrueSteps.{faithful_new, later_home, true_records}
-use Rattle.arj_run_law.specs.Worlds.{IsGood, IsGoodDisk, IsGoodPlace, IsUp}
+use Rattle.arj_run_law.specs.Worlds.{IsGood, IsGoodOf, IsGoodDisk, IsGoodPlace, IsUp}
 use Rattle.arj_run_law.proofs.Handled.{counted_of, mine_anew, others_of, place_of, stopped_good}
 use Rattle.arj_run_law.proofs.Walked.{Others, are_kept, down_good, walked}
 use Rattle.arj_view_law.specs.Seen.{Seen, down, see}
@@ -168,17 +168,17 @@ module _ (hd : Header) (e k : ℕ) (d : Disk) (M : Seen) (good : IsGood (down k 
     objects = obj_new k (d.inc + 1) d.intents;
   }
 
-  stops_look : Stops IsGood e k Look d M
+  stops_look : Stops (IsGoodOf good.0) e k Look d M
   stops_look Before = stopped_good k d None M good e
   stops_look After = stopped_good k d None M good e
   stops_look (InPart which) = stopped_good k d None M good e
 
-  stops_inc : Stops IsGood e k (PutInc (d.inc + 1)) d M
+  stops_inc : Stops (IsGoodOf good.0) e k (PutInc (d.inc + 1)) d M
   stops_inc Before = stopped_good k d None M good e
   stops_inc After = down_good good.0 k (d.inc + 1) v 0 anew e raised M others raised_good refl
   stops_inc (InPart which) = stopped_good k d None M good e
 
-  pub restart_good : Walks IsGood e k (restart_outs hd k (d.inc + 1) d) (Up IsGood k v) d M
+  pub restart_good : Walks (IsGoodOf good.0) e k (restart_outs hd k (d.inc + 1) d) (Up (IsGoodOf good.0) k v) d M
   restart_good = (
     stops_look,
     (

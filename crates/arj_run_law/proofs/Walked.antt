@@ -24,7 +24,7 @@ use Rattle.arj_part_law.proofs.EndsSaid.{said_so}
 use Rattle.arj_part_law.proofs.SaidIncs.{worked_inc, stopped_inc}
 use Rattle.arj_part_law.proofs.Tellings.{worked_tops, stopped_tops}
 use Rattle.arj_part_law.proofs.TrueSteps.{worked_home, stopped_home, without_in}
-use Rattle.arj_run_law.specs.Worlds.{IsGoodDisk, IsUp, IsMemory, IsGoodPlace, IsSettledIn, IsSo, IsGoodWorld, IsGood, AreCommittedIn, IsSaidIn}
+use Rattle.arj_run_law.specs.Worlds.{IsGoodDisk, IsUp, IsMemory, IsGoodPlace, IsSettledIn, IsSo, IsGoodWorld, IsGoodOf, AreCommittedIn, IsSaidIn}
 use Rattle.arj_view_law.specs.Seen.{In, Post, Seen, said, posted}
 use Rattle.arj_view_law.specs.Walks.{Walks, Up, halted}
 
@@ -150,13 +150,13 @@ module _ (acts : List Action) (k i : ℕ) (v : Parts) where
     own = subst (λ h. AreOfNode k h (stopped how w d).intents) (sym (stopped_inc i how w d kept.2 inc)) (stopped_home k i how w d kept.1 (subst (λ h. AreOfNode k h d.intents) inc disk.own));
   }
 
-  pub down_good : (count : ℕ) → AreCounted k i count acts → (e : ℕ) (d : Disk) (M : Seen) → Others acts k i v M → IsGoodDisk acts k d → d.inc ≡ i → IsGood (halted e k d M)
-  down_good count counted e d M others disk inc = (acts, whole M d None others disk inc (count, counted) tt (λ u s. tt) (λ m s. tt))
+  pub down_good : (count : ℕ) → AreCounted k i count acts → (e : ℕ) (d : Disk) (M : Seen) → Others acts k i v M → IsGoodDisk acts k d → d.inc ≡ i → IsGoodOf acts (halted e k d M)
+  down_good count counted e d M others disk inc = whole M d None others disk inc (count, counted) tt (λ u s. tt) (λ m s. tt)
 
-  pub up_good : (d : Disk) (M : Seen) → Others acts k i v M → IsGoodDisk acts k d → d.inc ≡ i → IsUp acts M.sent M.labels k i v → AreOfCommits d.intents v.coord.tree → Up IsGood k v d M
-  up_good d M others disk inc up records = (acts, whole M d (Some v) others disk inc up records (λ u s. s) (λ m s. s))
+  pub up_good : (d : Disk) (M : Seen) → Others acts k i v M → IsGoodDisk acts k d → d.inc ≡ i → IsUp acts M.sent M.labels k i v → AreOfCommits d.intents v.coord.tree → Up (IsGoodOf acts) k v d M
+  up_good d M others disk inc up records = whole M d (Some v) others disk inc up records (λ u s. s) (λ m s. s)
 
-  pub walked : (count : ℕ) → AreCounted k i count acts → (e : ℕ) (outs : List Effect) (d : Disk) (M : Seen) → AreKept outs → Others acts k i v M → IsGoodDisk acts k d → d.inc ≡ i → IsUp acts M.sent M.labels k i v → AreOfCommits d.intents v.coord.tree → Walks IsGood e k outs (Up IsGood k v) d M
+  pub walked : (count : ℕ) → AreCounted k i count acts → (e : ℕ) (outs : List Effect) (d : Disk) (M : Seen) → AreKept outs → Others acts k i v M → IsGoodDisk acts k d → d.inc ≡ i → IsUp acts M.sent M.labels k i v → AreOfCommits d.intents v.coord.tree → Walks (IsGoodOf acts) e k outs (Up (IsGoodOf acts) k v) d M
   walked count counted e [] d M kept others disk inc up records = up_good d M others disk inc up records
   walked count counted e (Do w ∷ es) d M kept others disk inc up records = (
     λ how. down_good count counted e (stopped how w d) M others (disk_stopped how w d kept.0 inc disk) (stopped_inc i how w d kept.0.2 inc),

@@ -88,5 +88,9 @@ pub record IsGoodWorld (acts : List Action) (sent : List Post) (given : List (La
   pub senders : (p : Post) (u : Uid) → In p sent → Seals p.message u → u.node ≡ p.from
   pub so : (p : Post) (n : Node) → In p sent → found p.from ≡ Some n → IsSo p n
 
+-- the same, of what is seen, with these actions
+abbrev pub IsGoodOf : List Action → Seen → Type 0
+IsGoodOf acts M = IsGoodWorld acts M.sent M.labels M.nodes
+
 abbrev pub IsGood : Seen → Type 0
-IsGood M = (acts : List Action) × IsGoodWorld acts M.sent M.labels M.nodes
+IsGood M = (acts : List Action) × IsGoodOf acts M

@@ -3,3 +3,4 @@ pub mod Flat
 pub mod Happens
 pub mod Inputs
 pub mod Rounds
+pub mod Together
