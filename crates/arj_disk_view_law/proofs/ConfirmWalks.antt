@@ -124,7 +124,7 @@ module _ (x : ℕ) (tops : Kinds) (W : World) (M : Seen) (d : Disk) (t : Parts) 
 
 -- ---- lists of stores
 
-has_listed : (s : ℕ) (ss : List ℕ) → is_listed s ss ≡ has s ss
+pub has_listed : (s : ℕ) (ss : List ℕ) → is_listed s ss ≡ has s ss
 has_listed s [] = refl
 has_listed s (r ∷ rs) = ap (λ b. (r == s) || b) (has_listed s rs)
 

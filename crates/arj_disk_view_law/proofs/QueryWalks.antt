@@ -105,7 +105,7 @@ module _ (x : ℕ) (tops : Kinds) (e k : ℕ) (d : Disk) (t : Parts) (from : ℕ
           let n = mine.bare act z q.0 there q.1 bare in
           let kept : is_open (root_of z.path) t.coord.tree ≡ true → is_kept_commit from act t.coord ≡ true = (λ o. (λ i. (is_constituent_branch (there i) && ended_so ending.Commit (there i)) && (is_open (root_or_self act (there i)) t.coord.tree && took_part from (q.1 i)))
           ∙ (λ i. (is_constituent (kd i) && has_end ending.Commit (n.committed i)) && (o i && order.has (let r = q.0 in r.took) (same i))) ∙ n.named) in
-          let stem = knows.stem act z there in
+          let stem = knows.stem act z there (ap is_constituent kd) in
           (root_of z.path, record { is = knows.root act z there; closed = falls_to (is_open (root_of z.path) t.coord.tree) (λ o. never (kept o) unkept); past = not_future (root_of z.path) t.coord stem.0 stem.1 })
 
       by : (b : Bool) → is_own act t.coord.tree ≡ b → (r : Uid) × IsLastRoot r

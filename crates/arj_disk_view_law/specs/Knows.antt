@@ -76,7 +76,7 @@ pub record KnowsCoord (tops : Kinds) (intents : List (Uid × Intent)) (c : Coord
   pub kind : (u : Uid) (b : tree.Branch) → branch_of u c.tree ≡ Some b → IsOfKind tops u b.kind b.path
   pub root : (u : Uid) (b : tree.Branch) → branch_of u c.tree ≡ Some b → tops.root (uid_number u) ≡ uid_number (root_of b.path)
   pub headed : (u : Uid) (b : tree.Branch) → branch_of u c.tree ≡ Some b → is_on (uids_of b.path) (root_of b.path) ≡ true
-  pub stem : (u : Uid) (b : tree.Branch) → branch_of u c.tree ≡ Some b → (r : tree.Branch) × (branch_of (root_of b.path) c.tree ≡ Some r)
+  pub stem : (u : Uid) (b : tree.Branch) → branch_of u c.tree ≡ Some b → is_constituent b.kind ≡ true → (r : tree.Branch) × (branch_of (root_of b.path) c.tree ≡ Some r)
   pub at_work : (u : Uid) (b : tree.Branch) → branch_of u c.tree ≡ Some b → (q : Doing) × (doing_of u c ≡ Some q)
   pub unrecorded : (u : Uid) → is_open u c.tree ≡ true → at_uid u intents ≡ None
   pub awaited : (u : Uid) (j : Intent) → at_uid u c.telling ≡ Some j → (i : Intent) × (at_uid u intents ≡ Some i)

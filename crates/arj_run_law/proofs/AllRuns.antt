@@ -1,5 +1,5 @@
 -- What holds of all nodes and messages is kept by each handler.
-use Rattle.std.proofs.Common.{◌≡◌, ℕ, ◌+◌, List, ◌∷◌, Option, Some, subst}
+use Rattle.std.proofs.Common.{◌≡◌, ℕ, ◌+◌, List, ◌∷◌, Some, subst}
 use Rattle.arj_protocol.specs.World.{Asked, format, is_serial_kind, run_all}
 use Rattle.arj_protocol.specs.Tree.{at_place, next_uid, path_below}
 use Rattle.arj_protocol.specs.Asking.{again_all, begin_action}

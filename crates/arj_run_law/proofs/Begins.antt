@@ -184,7 +184,7 @@ module _ (e k : ℕ) (d : Disk) (t : Parts) (l : Label) (how : Kind) (parent : O
   abbrev labels : List (Label × Labelled)
   labels = insert_entry label_cmp M.labels l (record { node = k; serial = is_serial_kind how })
 
-  its_uid : actor p ≡ next_uid c.tree
+  pub its_uid : actor p ≡ next_uid c.tree
   its_uid = let n = next_path good.0 begun how o c.tree may in n.uid
 
   begins : Begins a good.0
@@ -206,7 +206,7 @@ module _ (e k : ℕ) (d : Disk) (t : Parts) (l : Label) (how : Kind) (parent : O
   coord_now = let n = was.good (paths_of acts) new_tree (agree_less a good.0 (paths_of acts) new_agrees) in n.coord
 
   -- who is on its path is of this node
-  its_node : (u : Uid) → is_on (uids_of p) u ≡ true → (u.node ≡ c.tree.node) × (u.inc ≡ c.tree.inc)
+  pub its_node : (u : Uid) → is_on (uids_of p) u ≡ true → (u.node ≡ c.tree.node) × (u.inc ≡ c.tree.inc)
   its_node u on = let q = and_parts (u.node == c.tree.node) (u.inc == c.tree.inc) (own_on good.0 begun (paths_of acts) new_tree l how parent c coord_now may none (path_is (paths_of acts) new_agrees) u on) in (eqb-true u.node c.tree.node q.0, eqb-true u.inc c.tree.inc q.1)
 
   -- what a message says committed, or at its commit, is settled here where it is own

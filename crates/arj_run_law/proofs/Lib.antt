@@ -1,7 +1,7 @@
-mod Labels
-mod Parted
-mod Walked
-mod Handled
-mod Begins
-mod Starts
-mod AllRuns
+pub mod Labels
+pub mod Parted
+pub mod Walked
+pub mod Handled
+pub mod Begins
+pub mod Starts
+pub mod AllRuns

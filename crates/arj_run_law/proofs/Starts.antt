@@ -233,14 +233,15 @@ module _ (hd : Header) where
   place_first : (k : ℕ) → IsGoodPlace [] [] [] k (first_node hd k)
   place_first k = record { disk = record { tops = tt; own = tt }; memory = started_up k; records = let s = sure_new [] k 0 1 0 [] (none_counted k 0 0) (omega arith) tt in s.records }
 
+  -- before any action began
+  pub first_of : IsGoodOf [] (see [] (format hd))
+  first_of = record {
+    begun = tt;
+    places = λ k n is. subst (IsGoodPlace [] [] [] k) (first_at k n is) (place_first k);
+    fits = λ p there. absurd there;
+    senders = λ p u there. absurd there;
+    so = λ p n there. absurd there;
+  }
+
   pub first_good : IsGood (see [] (format hd))
-  first_good = (
-    [],
-    record {
-      begun = tt;
-      places = λ k n is. subst (IsGoodPlace [] [] [] k) (first_at k n is) (place_first k);
-      fits = λ p there. absurd there;
-      senders = λ p u there. absurd there;
-      so = λ p n there. absurd there;
-    },
-  )
+  first_good = ([], first_of)

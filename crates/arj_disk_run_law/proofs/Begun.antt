@@ -1,0 +1,155 @@
+-- The kinds of the actions that were begun agree with them.
+use Rattle.std.proofs.Common.{◌≡◌, ◌≢◌, ◌≤◌, ℕ, ◌+◌, ◌==◌, ◌&&◌, ◌||◌, List, [], ◌∷◌, ◌++◌, Bool, true, false, refl, sym, ◌∙◌, ap, subst, inl, inr, ⊎_elim, arith, length, length-append, Contains}
+use Rattle.std.specs.Prelude.{if◌then◌else◌, nat_le}
+use Rattle.std.proofs.lemmas.Bool.{and_parts}
+use Rattle.std.proofs.lemmas.Bool.Decides.{nat_tests}
+use Rattle.arj_base.proofs.Uids.{uid_same}
+use Rattle.arj_lock.proofs.Members.{In, in_from, in_to}
+use Rattle.arj_protocol.specs.Words.{Uid, Kind, Path, uid_eq, uids_of, tops_of, is_on, first_uid}
+use Rattle.arj_protocol.specs.Words.kind
+use Rattle.arj_protocol.specs.Order.{uid_number}
+use Rattle.arj_protocol.specs.Tree.{root_of, is_serial}
+use Rattle.arj_protocol.proofs.Numbers.{number_tells}
+use Rattle.arj_part_law.specs.Actions.{Action, AreBegun, IsNew, Stands, act_of}
+use Rattle.arj_part_law.proofs.Begun.{on_own, path_some}
+use Rattle.arj_disk_law.proofs.Base.{never, or_cases, or_left, test_is, test_not, test_same}
+use Rattle.arj_disk_view_law.specs.Knows.{IsOfKind}
+use Rattle.arj_disk_run_law.specs.Kinds.{Agrees, AreOfOneNode, is_of_kind, is_top_kind, kinds_of, root_in}
+
+-- ---- where an action of each kind stands
+
+abbrev pub Stood : List Action → Action → Kind → Type 0
+Stood acts a kind.Nested = nat_le (length (uids_of a.path)) 1 ≡ false
+Stood acts a kind.Constituent = (b : Action) × Contains acts b × (b.kind ≡ kind.Serial) × (uids_of a.path ≡ act_of b ∷ act_of a ∷ []) × (tops_of a.path ≡ 2)
+Stood acts a _ = (uids_of a.path ≡ act_of a ∷ []) × (tops_of a.path ≡ 1)
+
+more : (c : Action) (acts : List Action) (a : Action) (kd : Kind) → Stood acts a kd → Stood (c ∷ acts) a kd
+more c acts a kind.Nested s = s
+more c acts a kind.Constituent s = (s.0, in_to s.0 (c ∷ acts) (inr (in_from s.0 acts s.1)), s.2, s.3, s.4)
+more c acts a kind.Top s = s
+more c acts a kind.Serial s = s
+more c acts a kind.Independent s = s
+
+stood_in : (acts : List Action) → AreBegun acts → (a : Action) → In a acts → Stood acts a a.kind
+stood_in [] begun a i = absurd i
+stood_in (c ∷ acts) begun a (inr i) = more c acts a a.kind (stood_in acts begun.1 a i)
+stood_in (c ∷ acts) begun a (inl same) = subst (λ (x : Action). Stood (c ∷ acts) x x.kind) same (more c acts c c.kind (first c.kind begun.0.stands (λ b i is. serial_stood b is (stood_in acts begun.1 b i))))
+  where
+    serial_stood : (b : Action) → b.kind ≡ kind.Serial → Stood acts b b.kind → uids_of b.path ≡ act_of b ∷ []
+    serial_stood b is s = (subst (λ kd. Stood acts b kd) is s).0
+
+    long : (b : Action) → uids_of c.path ≡ uids_of b.path ++ act_of c ∷ [] → nat_le (length (uids_of c.path)) 1 ≡ false
+    long b is = too_long (length (uids_of c.path)) (length (uids_of b.path)) (ap (λ us. length us) is ∙ length-append (uids_of b.path) (act_of c ∷ [])) (path_some b.path)
+      where
+        too_long : (n m : ℕ) → n ≡ m + 1 → 1 ≤ m → nat_le n 1 ≡ false
+        too_long n m is some = grind (arith, nat_tests)
+
+    first : (kd : Kind) → Stands acts c kd → ((b : Action) → In b acts → b.kind ≡ kind.Serial → uids_of b.path ≡ act_of b ∷ []) → Stood acts c kd
+    first kind.Nested s serial = long s.0 s.3
+    first kind.Constituent s serial = (s.0, s.1, s.2, s.3 ∙ ap (λ us. us ++ act_of c ∷ []) (serial s.0 (in_from s.0 acts s.1) s.2), s.4)
+    first kind.Top s serial = s
+    first kind.Serial s serial = s
+    first kind.Independent s serial = s
+
+pub stood : (acts : List Action) → AreBegun acts → (a : Action) → Contains acts a → Stood acts a a.kind
+stood acts begun a c = stood_in acts begun a (in_from a acts c)
+
+-- ---- numbers
+
+-- a new action isn't one of the others
+apart : (u : Uid) (acts : List Action) → IsNew u acts → (a : Action) → In a acts → act_of a ≢ u
+apart u acts new a i same = never (ap (λ w. is_on (uids_of a.path) w) (sym same) ∙ on_own a.path) (new a (in_to a acts i))
+
+other_number : (u w : Uid) → u ≢ w → (uid_number u == uid_number w) ≡ false
+other_number u w other = test_not (uid_number u) (uid_number w) (λ e. other (number_tells u w e))
+
+none_of : (f : Kind → Bool) (u : Uid) (acts : List Action) → ((a : Action) → In a acts → act_of a ≢ u) → is_of_kind f acts (uid_number u) ≡ false
+none_of f u [] off = refl
+none_of f u (a ∷ acts) off = (λ i. (other_number (act_of a) u (off a (inl refl)) i && f a.kind) || is_of_kind f acts (uid_number u)) ∙ none_of f u acts (λ b i. off b (inr i))
+
+or_none : (b : Bool) → (b || false) ≡ b
+or_none true = refl
+or_none false = refl
+
+kind_in : (f : Kind → Bool) (acts : List Action) → AreBegun acts → (a : Action) → In a acts → is_of_kind f acts (uid_number (act_of a)) ≡ f a.kind
+kind_in f [] begun a i = absurd i
+kind_in f (c ∷ acts) begun a (inr i) = (λ j. (other_number (act_of c) (act_of a) (λ same. apart (act_of c) acts begun.0.new a i (sym same)) j && f c.kind) || is_of_kind f acts (uid_number (act_of a))) ∙ kind_in f acts begun.1 a i
+kind_in f (c ∷ acts) begun a (inl same) = subst (λ (x : Action). is_of_kind f (c ∷ acts) (uid_number (act_of x)) ≡ f x.kind) same
+    ((λ j. (test_same (uid_number (act_of c)) j && f c.kind) || none_of f (act_of c) acts (λ b i. apart (act_of c) acts begun.0.new b i) j) ∙ or_none (f c.kind))
+
+root_is : (acts : List Action) → AreBegun acts → (a : Action) → In a acts → root_in acts (uid_number (act_of a)) ≡ uid_number (root_of a.path)
+root_is [] begun a i = absurd i
+root_is (c ∷ acts) begun a (inr i) = ap (λ b. if b then uid_number (root_of c.path) else root_in acts (uid_number (act_of a))) (other_number (act_of c) (act_of a) (λ same. apart (act_of c) acts begun.0.new a i (sym same))) ∙ root_is acts begun.1 a i
+root_is (c ∷ acts) begun a (inl same) = subst (λ (x : Action). root_in (c ∷ acts) (uid_number (act_of x)) ≡ uid_number (root_of x.path)) same (ap (λ b. if b then uid_number (root_of c.path) else root_in acts (uid_number (act_of c))) (test_same (uid_number (act_of c))))
+
+-- the action of a kind
+kind_from : (f : Kind → Bool) (acts : List Action) (z : ℕ) → is_of_kind f acts z ≡ true → (a : Action) × In a acts × (uid_number (act_of a) ≡ z) × (f a.kind ≡ true)
+kind_from f [] z on = absurd (cc on)
+kind_from f (c ∷ acts) z on = ⊎_elim (λ here. let p = and_parts (uid_number (act_of c) == z) (f c.kind) here in (c, inl refl, test_is (uid_number (act_of c)) z p.0, p.1)) (λ rest. let r = kind_from f acts z rest in (r.0, inr r.1, r.2, r.3))
+    (or_cases ((uid_number (act_of c) == z) && f c.kind) (is_of_kind f acts z) on)
+
+-- ---- roots
+
+pub root_on : (p : Path) → is_on (uids_of p) (root_of p) ≡ true
+root_on p = by (uids_of p) (path_some p)
+  where
+    by : (us : List Uid) → 1 ≤ length us → is_on us (first_uid us) ≡ true
+    by [] some = absurd (let no_way : ◌≡◌ {A = ℕ} 0 1 = omega (arith, some) in cc)
+    by (u ∷ us) some = or_left (uid_eq u u) (is_on us u) (uid_same u)
+
+module _ (acts : List Action) (begun : AreBegun acts) (home : AreOfOneNode acts) where
+  of_kind : (a : Action) → In a acts → (kd : Kind) → a.kind ≡ kd → Stood acts a kd → IsOfKind (kinds_of acts) (act_of a) kd a.path
+  of_kind a i kind.Nested is s = (kind_in is_top_kind acts begun a i ∙ ap is_top_kind is, kind_in is_serial acts begun a i ∙ ap is_serial is, s)
+  of_kind a i kind.Serial is s = (kind_in is_top_kind acts begun a i ∙ ap is_top_kind is, kind_in is_serial acts begun a i ∙ ap is_serial is, s.0)
+  of_kind a i kind.Constituent is s = (kind_in is_top_kind acts begun a i ∙ ap is_top_kind is, kind_in is_serial acts begun a i ∙ ap is_serial is, s.3 ∙ (λ j. sym (ap first_uid s.3) j ∷ act_of a ∷ []))
+  of_kind a i kind.Top is s = (kind_in is_top_kind acts begun a i ∙ ap is_top_kind is, kind_in is_serial acts begun a i ∙ ap is_serial is, s.0)
+  of_kind a i kind.Independent is s = (kind_in is_top_kind acts begun a i ∙ ap is_top_kind is, kind_in is_serial acts begun a i ∙ ap is_serial is, s.0)
+
+  -- the action of a top, and its root
+  record TopOf (w : Uid) : Type 0 where
+    it : Action
+    there : In it acts
+    is : act_of it ≡ w
+    top : is_top_kind it.kind ≡ true
+    root : root_in acts (uid_number w) ≡ uid_number (root_of it.path)
+
+  top_of : (w : Uid) → is_of_kind is_top_kind acts (uid_number w) ≡ true → TopOf w
+  top_of w on =
+      let r = kind_from is_top_kind acts (uid_number w) on in
+      let same : act_of r.0 ≡ w = number_tells (act_of r.0) w r.2 in
+      record { it = r.0; there = r.1; is = same; top = r.3; root = ap (λ u. root_in acts (uid_number u)) (sym same) ∙ root_is acts begun r.0 r.1 }
+
+  -- a root that isn't the top itself is a serializing action's
+  serial_root : (w r : Uid) (t : TopOf w) → root_of t.it.path ≡ r → w ≢ r → (is_of_kind is_top_kind acts (uid_number r) ≡ false) × (is_of_kind is_serial acts (uid_number r) ≡ true)
+  serial_root w r t root other = by t.it.kind refl t.top (stood_in acts begun t.it t.there)
+    where
+      own : uids_of t.it.path ≡ act_of t.it ∷ [] → w ≡ r
+      own path = sym t.is ∙ sym (ap first_uid path) ∙ root
+
+      by : (kd : Kind) → t.it.kind ≡ kd → is_top_kind kd ≡ true → Stood acts t.it t.it.kind → (is_of_kind is_top_kind acts (uid_number r) ≡ false) × (is_of_kind is_serial acts (uid_number r) ≡ true)
+      by kind.Nested is top s = absurd (cc top)
+      by kind.Serial is top s = absurd (cc top)
+      by kind.Top is top s = absurd (other (own (subst (λ kd. Stood acts t.it kd) is s).0))
+      by kind.Independent is top s = absurd (other (own (subst (λ kd. Stood acts t.it kd) is s).0))
+      by kind.Constituent is top s =
+          let q = subst (λ kd. Stood acts t.it kd) is s in
+          let same : act_of q.0 ≡ r = sym (ap first_uid q.3) ∙ root in
+          let b = in_from q.0 acts q.1 in
+          (ap (λ u. is_of_kind is_top_kind acts (uid_number u)) (sym same) ∙ kind_in is_top_kind acts begun q.0 b ∙ ap is_top_kind q.2, ap (λ u. is_of_kind is_serial acts (uid_number u)) (sym same) ∙ kind_in is_serial acts begun q.0 b ∙ ap is_serial q.2)
+
+  pub kinds_agree : Agrees (kinds_of acts) acts
+  kinds_agree = record {
+    kinds = record {
+      named = λ z on. let r = kind_from is_top_kind acts z on in (act_of r.0, r.2);
+      serial = λ w r top root other. let t = top_of w top in serial_root w r t (number_tells (root_of t.it.path) r (sym t.root ∙ root)) other;
+      own = λ w r top root. own w r (top_of w top) root;
+      rooted = λ w top. let t = top_of w top in (root_of t.it.path, t.root);
+    };
+    each = λ a c. let i = in_from a acts c in (of_kind a i a.kind refl (stood_in acts begun a i), root_is acts begun a i);
+  }
+    where
+      own : (w r : Uid) → TopOf w → root_in acts (uid_number w) ≡ uid_number r → (w.node ≡ r.node) × (w.inc ≡ r.inc)
+      own w r t root =
+          let same : root_of t.it.path ≡ r = number_tells (root_of t.it.path) r (sym t.root ∙ root) in
+          let h = home t.it (root_of t.it.path) (in_to t.it acts t.there) (root_on t.it.path) in
+          (sym (ap (λ (u : Uid). u.node) t.is) ∙ sym h.0 ∙ ap (λ (u : Uid). u.node) same, sym (ap (λ (u : Uid). u.inc) t.is) ∙ sym h.1 ∙ ap (λ (u : Uid). u.inc) same)

@@ -1,0 +1,153 @@
+-- Each handler keeps that an object is seen, for every kinds that agree with the actions begun; and copies agree.
+use Rattle.std.proofs.Common.{◌≡◌, ℕ, ◌+◌, List, [], ◌∷◌, true, Option, Some, None, refl, sym, ◌∙◌, ap, subst, inl, inr, ⊎_elim}
+use Rattle.std.specs.Prelude.{option_map}
+use Rattle.arj_lock.proofs.Members.{in_from, in_to}
+use Rattle.arj_protocol.specs.Words.{Uid, Header, Kind, Label, ObjectState, Message, entry, object, is_listed, is_on, uids_of}
+use Rattle.arj_protocol.specs.Ask.{actor}
+use Rattle.arj_protocol.specs.Asking.{again_all, begin_action}
+use Rattle.arj_protocol.specs.Effect.{Disk, Effect, held_at, holder_of}
+use Rattle.arj_protocol.specs.Follow.{tick_outs}
+use Rattle.arj_protocol.specs.Node.{Parts, Took, handle, with_coord}
+use Rattle.arj_protocol.specs.Step.{Node, Input, acts, begin_refusal, parent_of, parts_in, refusal_up, restart_outs}
+use Rattle.arj_protocol.specs.Tree.{next_uid, path_below}
+use Rattle.arj_protocol.specs.Values.{state_entry}
+use Rattle.arj_protocol.specs.World.{format, is_serial_kind, run_all}
+use Rattle.arj_part_law.specs.Actions.{Action, act_of}
+use Rattle.arj_run_law.specs.Worlds.{IsGoodOf}
+use Rattle.arj_run_law.proofs.Begins.{begin_good, its_node, its_uid}
+use Rattle.arj_run_law.proofs.Handled.{act_good, message_good, stopped_good, tick_good}
+use Rattle.arj_run_law.proofs.Starts.{first_of, restart_good}
+use Rattle.arj_disk_law.specs.Effects.{World}
+use Rattle.arj_disk_law.specs.State as disk
+use Rattle.arj_disk_law.specs.State.{Packed}
+use Rattle.arj_disk_law.specs.Words.{has}
+use Rattle.arj_disk_law.proofs.Base.{some_is}
+use Rattle.arj_disk_law.proofs.Results.{clean}
+use Rattle.arj_view_law.specs.Keeps.{DidKeeps, Keeps, MayGive, is_act, label_at}
+use Rattle.arj_view_law.specs.Seen.{In, Seen, given, see, up}
+use Rattle.arj_view_law.specs.Walks.{Walks, Up}
+use Rattle.arj_view_law.proofs.Happens.{runs_hold}
+use Rattle.arj_view_law.proofs.Together.{walks_both, walks_each, walks_to}
+use Rattle.arj_disk_view_law.specs.Entries.{SeesEntry}
+use Rattle.arj_disk_view_law.specs.Formats.{HasObject}
+use Rattle.arj_disk_view_law.specs.Knows.{IsOfKind}
+use Rattle.arj_disk_view_law.specs.Pairs.{packed, packed_entry}
+use Rattle.arj_disk_view_law.specs.Sees.{Kinds, IsSeenByDisks, SeesDisks}
+use Rattle.arj_disk_view_law.specs.Stores.{SeesStore}
+use Rattle.arj_disk_view_law.proofs.ConfirmWalks.{has_listed}
+use Rattle.arj_disk_view_law.proofs.FirstSeen.{formats_are_seen}
+use Rattle.arj_disk_view_law.proofs.Halts.{stops_seen, lines_seen}
+use Rattle.arj_disk_view_law.proofs.NewActions.{actions_begin}
+use Rattle.arj_disk_view_law.proofs.RestartWalks.{restarts_are_walked}
+use Rattle.arj_disk_view_law.proofs.StoreSteps.{place_free}
+use Rattle.arj_disk_view_law.proofs.TickWalks.{ticks_are_walked}
+use Rattle.arj_disk_view_law.proofs.WholeWalks.{acts_are_walked, messages_are_walked}
+use Rattle.arj_disk_run_law.specs.Facts.{Gives}
+use Rattle.arj_disk_run_law.specs.Kinds.{Agrees, AreOfOneNode, kinds_of}
+use Rattle.arj_disk_run_law.specs.Runs.{CopiesAgree, HasState, IsSeenInRun, RunsAgree}
+use Rattle.arj_disk_run_law.proofs.Begun.{kinds_agree}
+use Rattle.arj_disk_run_law.proofs.Known.{knows_node}
+
+-- ---- what is walked through
+
+-- With the nodes, the relation and each machine walked through, all together is.
+module _ (R : Seen → Type 0) (x : ℕ) (begun : List Action) (home : AreOfOneNode begun) (e k : ℕ) (outs : List Effect) (v : Parts) (d : Disk) (M : Seen) where
+  abbrev Kept_kinds : Type 0
+  Kept_kinds = (tops : Kinds) × Agrees tops begun
+
+  abbrev Seen_by : Kept_kinds → Seen → Type 0
+  Seen_by p N = IsSeenByDisks x p.0 N
+
+  abbrev All_seen : Seen → Type 0
+  All_seen N = (p : Kept_kinds) → IsSeenByDisks x p.0 N
+
+  all_walk : Walks (IsGoodOf begun) e k outs (Up (IsGoodOf begun) k v) d M → Walks R e k outs (Up R k v) d M → ((tops : Kinds) → Agrees tops begun → Walks (IsSeenByDisks x tops) e k outs (Up (IsSeenByDisks x tops) k v) d M)
+      → Walks (IsSeenInRun R x) e k outs (Up (IsSeenInRun R x) k v) d M
+  all_walk good rest seen =
+      let each : Walks All_seen e k outs (λ c N. (p : Kept_kinds) → Up (IsSeenByDisks x p.0) k v c N) d M = walks_each {A = Kept_kinds} Seen_by e k outs (λ p. Up (IsSeenByDisks x p.0) k v) d M (λ p. seen p.0 p.1) in
+      let two = walks_both (IsGoodOf begun) R e k outs (Up (IsGoodOf begun) k v) (Up R k v) d M good rest in
+      let three = walks_both (λ N. IsGoodOf begun N × R N) All_seen e k outs (λ c N. Up (IsGoodOf begun) k v c N × Up R k v c N) (λ c N. (p : Kept_kinds) → Up (IsSeenByDisks x p.0) k v c N) d M two each in
+      walks_to (λ N. (IsGoodOf begun N × R N) × All_seen N) (IsSeenInRun R x) e k outs (λ c N. (Up (IsGoodOf begun) k v c N × Up R k v c N) × ((p : Kept_kinds) → Up (IsSeenByDisks x p.0) k v c N)) (Up (IsSeenInRun R x) k v) d M
+      (λ N h. (begun, (h.0.0, home, h.0.1, λ tops agree. h.1 (tops, agree)))) (λ c N h. (begun, (h.0.0, home, h.0.1, λ tops agree. h.1 (tops, agree)))) three
+
+-- ---- an action that begins
+
+agree_less : (a : Action) (begun : List Action) (tops : Kinds) → Agrees tops (a ∷ begun) → Agrees tops begun
+agree_less a begun tops agree = record { kinds = agree.kinds; each = λ b c. agree.each b (in_to b (a ∷ begun) (inr (in_from b begun c))) }
+
+module _ (hd : Header) (x : ℕ) (has_it : HasObject hd x) (R : Seen → Type 0) (kept : Keeps hd R) (gives : Gives R) where
+  abbrev P : Seen → Type 0
+  P = IsSeenInRun R x
+
+  message_keeps : (e k : ℕ) (d : Disk) (t v : Parts) (from : ℕ) (m : Message) (outs : List Effect) (M : Seen) → P (up k d t M) → In (record { from = from; to = k; message = m }) M.sent → handle k d t from m ≡ Took v outs → Walks P e k outs (Up P k v) d M
+  message_keeps e k d t v from m outs M (begun, h) sent is = all_walk R x begun h.1 e k outs v d M (message_good e k d t M (begun, h.0) v from m outs sent is) (kept.message e k d t v from m outs M h.2 sent is)
+      (λ tops agree. let s = h.3 tops agree in messages_are_walked x tops e k d t v from m outs M (knows_node tops begun k d t M h.0 agree (gives.node tops begun k d t M h.2 h.0 agree)) sent s.0 s.1 (gives.booked x tops k d t M from m s.0 h.2 sent s.1) is)
+
+  act_keeps : (e k : ℕ) (d : Disk) (t : Parts) (i : Input) (M : Seen) → is_act i ≡ true → refusal_up hd i t.coord ≡ None → P (up k d t M) → DidKeeps P e k d t (acts i d.intents t.coord) M
+  act_keeps e k d t i M is free (begun, h) = let did = acts i d.intents t.coord in
+      all_walk R x begun h.1 e k did.outs (with_coord t did.part) d M (act_good e k d t M (begun, h.0) hd i is free) (kept.act e k d t i M is free h.2)
+      (λ tops agree. let s = h.3 tops agree in let n = knows_node tops begun k d t M h.0 agree (gives.node tops begun k d t M h.2 h.0 agree) in acts_are_walked hd x tops e k d t i M n.kinds n.coord is free s.0 s.1)
+
+  begin_keeps : (e k : ℕ) (d : Disk) (t : Parts) (l : Label) (how : Kind) (parent : Option Label) (M : Seen) → label_at l M.labels ≡ None → MayGive M.labels k how parent → begin_refusal how t.coord parent ≡ None
+      → P (up k d t M) → DidKeeps P e k d t (begin_action l how parent (parent_of parent t.coord) t.coord) (given l (record { node = k; serial = is_serial_kind how }) M)
+  begin_keeps e k d t l how parent M new may free (begun, h) =
+      let did = begin_action l how parent (parent_of parent t.coord) t.coord in
+      all_walk R x (a ∷ begun) home e k did.outs (with_coord t did.part) d (given l (record { node = k; serial = is_serial_kind how }) M) (begin_good e k d t l how parent M new may free (begun, h.0)) (kept.begin e k d t l how parent M new may free h.2)
+      (λ tops agree. let less = agree_less a begun tops agree in let s = h.3 tops less in let n = knows_node tops begun k d t M h.0 less (gives.node tops begun k d t M h.2 h.0 less) in
+      actions_begin x tops e k d t l (record { node = k; serial = is_serial_kind how }) how parent (parent_of parent t.coord) M n.coord
+      (subst (λ u. IsOfKind tops u how (path_below how (parent_of parent t.coord) (next_uid t.coord.tree))) uid (agree.each a (in_to a (a ∷ begun) (inl refl))).0) s.0 s.1)
+    where
+      a : Action
+      a = record { path = path_below how (parent_of parent t.coord) (next_uid t.coord.tree); kind = how }
+
+      uid : actor (path_below how (parent_of parent t.coord) (next_uid t.coord.tree)) ≡ next_uid t.coord.tree
+      uid = its_uid e k d t l how parent M new may free (begun, h.0)
+
+      home : AreOfOneNode (a ∷ begun)
+      home b w c on = ⊎_elim (λ same. subst (λ (z : Action). is_on (uids_of z.path) w ≡ true → (w.node ≡ (act_of z).node) × (w.inc ≡ (act_of z).inc)) same (newest w) on) (λ old. h.1 b w (in_to b begun old) on) (in_from b (a ∷ begun) c)
+        where
+          newest : (w : Uid) → is_on (uids_of (path_below how (parent_of parent t.coord) (next_uid t.coord.tree))) w ≡ true → (w.node ≡ (actor (path_below how (parent_of parent t.coord) (next_uid t.coord.tree))).node) × (w.inc ≡ (actor (path_below how (parent_of parent t.coord) (next_uid t.coord.tree))).inc)
+          newest w on = let q = its_node e k d t l how parent M new may free (begun, h.0) w on in (q.0 ∙ sym (ap (λ (u : Uid). u.node) uid), q.1 ∙ sym (ap (λ (u : Uid). u.inc) uid))
+
+  tick_keeps : (e k : ℕ) (d : Disk) (t : Parts) (M : Seen) → P (up k d t M) → Walks P e k (tick_outs (record { number = k; disk = d; live = Some t }) t) (Up P k (with_coord t (again_all t.coord.doings t.coord).part)) d M
+  tick_keeps e k d t M (begun, h) = all_walk R x begun h.1 e k (tick_outs (record { number = k; disk = d; live = Some t }) t) (with_coord t (again_all t.coord.doings t.coord).part) d M (tick_good e k d t M (begun, h.0)) (kept.tick e k d t M h.2)
+      (λ tops agree. let s = h.3 tops agree in let n = knows_node tops begun k d t M h.0 agree (gives.node tops begun k d t M h.2 h.0 agree) in ticks_are_walked x tops e k d t M n.coord n.begun s.0 s.1)
+
+  pub all_keep : Keeps hd P
+  all_keep = record {
+    quiet = λ e bs M quiet p. let h = p.1 in (p.0, (h.0, h.1, kept.quiet e bs M quiet h.2, λ tops agree. lines_seen x tops e bs M (h.3 tops agree)));
+    stop = λ e k d live M p. let h = p.1 in (p.0, (stopped_good k d live M (p.0, h.0) e, h.1, kept.stop e k d live M h.2, λ tops agree. stops_seen x tops e k d live M (h.3 tops agree)));
+    message = message_keeps;
+    act = act_keeps;
+    begin = begin_keeps;
+    tick = tick_keeps;
+    restart = λ e k d M p. let h = p.1 in all_walk R x p.0 h.1 e k (restart_outs hd k (d.inc + 1) d) (parts_in k (d.inc + 1) d) d M (restart_good hd e k d M (p.0, h.0)) (kept.restart e k d M h.2)
+        (λ tops agree. let s = h.3 tops agree in restarts_are_walked x tops e k hd d M (gives.prepared k d M h.2) s.0 s.1);
+    first = ([], (first_of hd, (λ a w c on. absurd (in_from a [] c)), kept.first, λ tops agree. formats_are_seen hd x tops has_it));
+  }
+
+-- ---- copies agree
+
+has_state : (x : ℕ) (last : Packed) (m : Node) (o : Option ObjectState) → held_at (object x) m.disk.store ≡ o → option_map packed o ≡ Some last → HasState x last m
+has_state x last m None is h = absurd (cc h)
+has_state x last m (Some st) is h = (st, is, (let same : packed st ≡ last = cc h in same))
+
+pub copies_agree : (x : ℕ) (tops : Kinds) (W : World) (M : Seen) → SeesDisks x tops W M → CopiesAgree x M
+copies_agree x tops W M s = (disk.last W.disk, each)
+  where
+    each : (n m : Node) (q : ObjectState) (j : ℕ) → M.nodes 1 ≡ Some n → holder_of (entry x) n.disk.names ≡ None → held_at (entry x) n.disk.names ≡ Some q → is_listed j (state_entry q).stores ≡ true → M.nodes j ≡ Some m → holder_of (object x) m.disk.store ≡ None → HasState x (disk.last W.disk) m
+    each n m q j is free held on there clear =
+        let e : SeesEntry x n.disk.names W.disk = s.entry n is in
+        let o : SeesStore x j m.disk.store W.disk = s.stores j m there in
+        let same : packed_entry q ≡ W.disk.entry = some_is refl (ap (option_map packed_entry) (sym held) ∙ e.pair.held_is) in
+        let last = (clean W s.whole).stores (place_free (entry x) n.disk.names packed_entry (Some W.disk.entry) W.disk.entry_pend e.pair free) j (ap (λ (z : Packed). has j z.content) (sym same) ∙ sym (has_listed j (state_entry q).stores) ∙ on)
+        (place_free (object x) m.disk.store packed (W.disk.held j) (W.disk.pend j) o.pair clear) in
+        has_state x (disk.last W.disk) m (held_at (object x) m.disk.store) refl (o.pair.held_is ∙ last)
+
+pub runs_agree : RunsAgree
+runs_agree hd x has_it test kept gives es =
+    let r = runs_hold hd (IsSeenInRun (λ M. test M ≡ true) x) (all_keep hd x has_it (λ M. test M ≡ true) kept gives) es in
+    let h = r.holds in
+    let g = h.1 in
+    let s = g.3 (kinds_of h.0) (kinds_agree h.0 g.0.begun g.1) in
+    record { sent = r.sent; stands = r.stands; holds = copies_agree x (kinds_of h.0) s.0 (see r.sent (run_all es (format hd))) s.1 }

@@ -1,0 +1,5 @@
+use Rattle.arj_disk_run_law.proofs.Kept.{runs_agree}
+use Rattle.arj_disk_run_law.proofs.runs.runs_keep_the_disk_half.Goals as goal
+
+pub returns : goal.returns
+returns c = runs_agree

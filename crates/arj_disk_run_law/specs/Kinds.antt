@@ -1,0 +1,38 @@
+-- Of what kind each action is, by those that were begun.
+use Rattle.std.specs.Prelude.{◌≡◌, ℕ, Bool, true, false, ◌&&◌, ◌==◌, if◌then◌else◌, List, [], ◌∷◌, Contains}
+use Rattle.std.specs.List.{list_any}
+use Rattle.arj_protocol.specs.Words.{Uid, Kind, uids_of, is_on}
+use Rattle.arj_protocol.specs.Words.kind
+use Rattle.arj_protocol.specs.Order.{uid_number}
+use Rattle.arj_protocol.specs.Tree.{root_of, is_serial}
+use Rattle.arj_part_law.specs.Actions.{Action, act_of}
+use Rattle.arj_disk_view_law.specs.Knows.{KnowsKinds, IsOfKind}
+use Rattle.arj_disk_view_law.specs.Sees.{Kinds}
+
+-- tops, constituents among them
+abbrev pub is_top_kind : Kind → Bool
+is_top_kind kind.Nested = false
+is_top_kind kind.Serial = false
+is_top_kind _ = true
+
+-- an action with this number was begun, of such a kind
+abbrev pub is_of_kind : (Kind → Bool) → List Action → ℕ → Bool
+is_of_kind f acts z = list_any (λ (a : Action). (uid_number (act_of a) == z) && f a.kind) acts
+
+-- the root of the action with this number; who wasn't begun is its own
+abbrev pub root_in : List Action → ℕ → ℕ
+root_in [] z = z
+root_in (a ∷ acts) z = if uid_number (act_of a) == z then uid_number (root_of a.path) else root_in acts z
+
+-- the kinds of the actions that were begun; any other is nested
+abbrev pub kinds_of : List Action → Kinds
+kinds_of acts = record { is_top = is_of_kind is_top_kind acts; is_serial = is_of_kind is_serial acts; root = root_in acts }
+
+-- These kinds are those of the actions that were begun so far, whatever those of others are.
+pub record Agrees (tops : Kinds) (acts : List Action) : Type 0 where
+  pub kinds : KnowsKinds tops
+  pub each : (a : Action) → Contains acts a → IsOfKind tops (act_of a) a.kind a.path × (tops.root (uid_number (act_of a)) ≡ uid_number (root_of a.path))
+
+-- each action's path is of its own node and incarnation
+abbrev pub AreOfOneNode : List Action → Type 0
+AreOfOneNode acts = (a : Action) (w : Uid) → Contains acts a → is_on (uids_of a.path) w ≡ true → (w.node ≡ (act_of a).node) × (w.inc ≡ (act_of a).inc)

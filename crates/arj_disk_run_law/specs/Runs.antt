@@ -1,0 +1,38 @@
+-- The disk half of the view, for whole runs: the machine's state for every kinds that agree with the actions begun so far.
+use Rattle.std.specs.Prelude.{◌≡◌, ℕ, Bool, true, List, Some, None}
+use Rattle.arj_protocol.specs.Words.{Header, ObjectState, entry, object, is_listed}
+use Rattle.arj_protocol.specs.Effect.{held_at, holder_of}
+use Rattle.arj_protocol.specs.Step.{Node}
+use Rattle.arj_protocol.specs.Values.{state_entry}
+use Rattle.arj_protocol.specs.World.{Asked, format, run_all}
+use Rattle.arj_part_law.specs.Actions.{Action}
+use Rattle.arj_run_law.specs.Worlds.{IsGoodOf}
+use Rattle.arj_disk_law.specs.State.{Packed}
+use Rattle.arj_view_law.specs.Keeps.{Holds, Keeps}
+use Rattle.arj_view_law.specs.Seen.{Seen}
+use Rattle.arj_disk_view_law.specs.Formats.{HasObject}
+use Rattle.arj_disk_view_law.specs.Pairs.{packed}
+use Rattle.arj_disk_view_law.specs.Sees.{Kinds, IsSeenByDisks}
+use Rattle.arj_disk_run_law.specs.Facts.{Gives}
+use Rattle.arj_disk_run_law.specs.Kinds.{Agrees, AreOfOneNode}
+
+-- Nodes are good, with these actions begun; the relation holds; and the object is seen, whatever kinds later actions will have.
+abbrev pub IsSeenWith : (Seen → Type 0) → ℕ → List Action → Seen → Type 0
+IsSeenWith R x acts M = IsGoodOf acts M × AreOfOneNode acts × R M × ((tops : Kinds) → Agrees tops acts → IsSeenByDisks x tops M)
+
+abbrev pub IsSeenInRun : (Seen → Type 0) → ℕ → Seen → Type 0
+IsSeenInRun R x M = (acts : List Action) × IsSeenWith R x acts M
+
+-- a store that the entry lists, where the object isn't in doubt, holds this state
+abbrev pub HasState : ℕ → Packed → Node → Type 0
+HasState x last m = (st : ObjectState) × (held_at (object x) m.disk.store ≡ Some st) × (packed st ≡ last)
+
+-- Copies agree: where the object's entry isn't in doubt there is one state that each store which the entry lists holds, but for
+-- a store where the object is in doubt.
+abbrev pub CopiesAgree : ℕ → Seen → Type 0
+CopiesAgree x M = (last : Packed) × ((n m : Node) (e : ObjectState) (s : ℕ) → M.nodes 1 ≡ Some n → holder_of (entry x) n.disk.names ≡ None → held_at (entry x) n.disk.names ≡ Some e → is_listed s (state_entry e).stores ≡ true
+    → M.nodes s ≡ Some m → holder_of (object x) m.disk.store ≡ None → HasState x last m)
+
+-- What is kept by each handler, and gives what the disk half counts on, keeps copies in agreement in every run.
+abbrev pub RunsAgree : Type 0
+RunsAgree = (hd : Header) (x : ℕ) → HasObject hd x → (test : Seen → Bool) → Keeps hd (λ M. test M ≡ true) → Gives (λ M. test M ≡ true) → (es : List Asked) → Holds hd (CopiesAgree x) (run_all es (format hd))
