@@ -102,6 +102,13 @@ impl Net {
         Ok(self.sent.len() as u32)
     }
 
+    /// How many frames were sent.
+    pub fn count(&self) -> u32
+        ensures { result ≡ length self.now }
+    {
+        self.sent.len() as u32
+    }
+
     /// The frame of a number, None exactly where no frame has it. A frame that was delivered or lost is still there.
     pub fn get(&self, k: u32) -> Option<&Frame>
         ensures frame { option_copied result ≡ frame_of self.now k }

@@ -6,7 +6,7 @@ use Rattle.arj_protocol.specs.Step as input
 use Rattle.arj_protocol.specs.Tree.{at_place}
 use Rattle.arj_protocol.specs.Words.{Header}
 use Rattle.arj_protocol.specs.World.{World, Arm, count_works, done_step, steps}
-use Rattle.arj_world.specs.Goes.{Begins, Goes, Reaches, StepsOne, Went, arms_of, left_of}
+use Rattle.arj_world.specs.Goes.{Begins, Goes, Reaches, StepsOne, Went, arms_of, is_no_restart, left_of}
 use Rattle.arj_world.specs.Turns.{with_arms}
 use Rattle.arj_world.proofs.Arms.{alike, none_of}
 use Rattle.arj_world.proofs.Reach.{goes_on, goes_down}
@@ -35,8 +35,8 @@ finish most run first now r = r.same (λ k. None) (λ n a is. absurd (cc is)) �
 
 module _ (most : ℕ) where
   -- what is left of one piece is done by the next
-  pub then : (go left after : World → World) (w : World) (P Q : World → Type 0) → (g : Goes most go left w P) → Goes most left after g.now Q → Goes most go after w Q
-  then go left after w P Q g h = record {
+  pub onward : (go left after : World → World) (w : World) (P Q : World → Type 0) → (g : Goes most go left w P) → Goes most left after g.now Q → Goes most go after w Q
+  onward go left after w P Q g h = record {
     now = h.now;
     stands = h.stands;
     reaches = λ run rest first r. h.reaches run rest first (g.reaches run rest first r);
@@ -75,11 +75,6 @@ module _ (most : ℕ) where
   begins go w P g = record { now = g.now; stands = g.stands; reaches = g.reaches go (λ v. v) w (start most go w) }
 
   -- ---- a step of a node
-
-  -- a node that is down does nothing, but for a restart
-  abbrev pub is_no_restart : Input → Bool
-  is_no_restart input.Restart = false
-  is_no_restart i = true
 
   idle : (h : Header) (i : Input) (n : Node) → is_no_restart i ≡ true → n.live ≡ None → ((step h n i).after.live ≡ None) × (count_works (step h n i).halting ≡ 0)
   idle h i n other down = subst (λ live. ((step h (record n { live = live }) i).after.live ≡ None) × (count_works (step h (record n { live = live }) i).halting ≡ 0)) (sym down) (by i other)

@@ -3,3 +3,9 @@ pub mod Reach
 pub mod Wires
 pub mod Stepping
 pub mod Going
+pub mod Frames
+pub mod Tests
+pub mod Hands
+pub mod Begins
+pub mod Runs
+pub mod Armed

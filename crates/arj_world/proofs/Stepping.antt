@@ -55,6 +55,7 @@ module _ {C D : Type 0} (core : Ghosts C) (file : D → FileMap) where
   nodes_set h cores disks nodes i c c' d d' n n' are at_core at_disk at_node stands = record {
     cores_count = length-set cores i c' ∙ are.cores_count;
     nodes_count = length-set nodes i n' ∙ are.nodes_count;
+    disks_count = omega (arith, are.disks_count, length-set disks i d');
     each = each;
   }
     where

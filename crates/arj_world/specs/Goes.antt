@@ -1,9 +1,10 @@
 -- How a world goes on within an event, where it isn't known yet which stops will fall into it.
-use Rattle.std.specs.Prelude.{ℕ, zero, suc, ◌+◌, ◌≡◌, ◌⊎◌, ◌-◌, ◌<◌, ◌==◌, if◌then◌else◌, List, [], ◌∷◌, ◌++◌, Option, Some, None, IsSomeAnd, unwrap_or, option_map}
+use Rattle.std.specs.Prelude.{ℕ, zero, suc, ◌+◌, ◌≡◌, ◌⊎◌, ◌-◌, ◌<◌, ◌==◌, Bool, true, false, if◌then◌else◌, List, [], ◌∷◌, ◌++◌, Option, Some, None, IsSomeAnd, unwrap_or, option_map}
 use Rattle.arj_core.specs.declared.node.Core.{Ghosts}
 use Rattle.arj_disk.specs.FileMap.{FileMap}
 use Rattle.arj_protocol.specs.Effect.{Stop}
 use Rattle.arj_protocol.specs.Step.{Node, Input, step}
+use Rattle.arj_protocol.specs.Step as input
 use Rattle.arj_protocol.specs.Tree.{at_place}
 use Rattle.arj_protocol.specs.World.{World, Arm, cut, count_works, done_step, halted_at}
 use Rattle.arj_world.specs.Stands.{Hand, Stands}
@@ -60,6 +61,11 @@ pub record StepsOne (k : ℕ) (i : Input) (w : World) (P : World → Type 0) : T
   pub node : Node
   pub here : at_place k w.nodes ≡ Some node
   pub went : Went k i w P node
+
+-- a node that is down does nothing, but for a restart
+abbrev pub is_no_restart : Input → Bool
+is_no_restart input.Restart = false
+is_no_restart i = true
 
 -- One step of a node, from one world in hand to the next.
 abbrev pub StepsTo : {C D : Type 0} → Ghosts C → (D → FileMap) → ℕ → Input → Hand C D → Hand C D → Type 0

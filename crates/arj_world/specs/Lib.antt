@@ -2,3 +2,4 @@ pub mod Turns
 pub mod Wire
 pub mod Stands
 pub mod Goes
+pub mod Happens

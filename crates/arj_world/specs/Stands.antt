@@ -1,5 +1,5 @@
 -- What a world has in memory and on its disks, as the protocol's world.
-use Rattle.std.specs.Prelude.{ℕ, ◌≡◌, Bool, false, List, [], length, map, Some, slice_get}
+use Rattle.std.specs.Prelude.{ℕ, ◌≡◌, ◌≤◌, Bool, false, List, [], length, map, Some, slice_get}
 use Rattle.arj_core.specs.declared.node.Core.{Ghosts}
 use Rattle.arj_disk.specs.FileMap.{FileMap}
 use Rattle.arj_journal.specs.declared.body.Line.{Line}
@@ -24,8 +24,22 @@ pub record Kept (C : Type 0) : Type 0 where
 pub record AreNodes {C D : Type 0} (core : Ghosts C) (file : D → FileMap) (header : Header) (cores : List C) (disks : List D) (nodes : List Node) : Type 0 where
   pub cores_count : length cores ≡ header.nodes
   pub nodes_count : length nodes ≡ header.nodes
+  pub disks_count : header.nodes ≤ length disks
   pub each : (i : ℕ) (c : C) (d : D) (n : Node) → slice_get cores i ≡ Some c → slice_get disks i ≡ Some d → slice_get nodes i ≡ Some n
       → core.stands header c (file d) n
+
+-- each core is the node at its place, with some files
+pub record AreSomeNodes {C : Type 0} (core : Ghosts C) (header : Header) (cores : List C) (nodes : List Node) : Type 0 where
+  pub count : length nodes ≡ length cores
+  pub each : (i : ℕ) (c : C) (n : Node) → slice_get cores i ≡ Some c → slice_get nodes i ≡ Some n → (file : FileMap) × core.stands header c file n
+
+-- what is kept is what this world of the protocol has, with some files
+pub record Keeps {C : Type 0} (core : Ghosts C) (k : Kept C) (w : World) : Type 0 where
+  pub header : w.header ≡ k.header
+  pub frames : w.frames ≡ map frame_of k.net
+  pub labels : w.labels ≡ k.labels
+  pub nodes : AreSomeNodes core k.header k.cores w.nodes
+  pub count : length k.cores ≡ k.header.nodes
 
 -- a world in hand: what it keeps, its disks, and the journal so far
 pub record Hand (C D : Type 0) : Type 0 where

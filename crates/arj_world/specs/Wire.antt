@@ -1,8 +1,9 @@
 -- Frames and lines as they come of what a node puts out.
-use Rattle.std.specs.Prelude.{ℕ, ◌+◌, ◌≤◌, Bool, ◌||◌, List, [], ◌∷◌, ◌++◌, length, map}
+use Rattle.std.specs.Prelude.{ℕ, ◌+◌, ◌≤◌, Bool, ◌||◌, List, [], ◌∷◌, ◌++◌, length, map, Option, Some, None}
 use Rattle.arj_core.specs.Steps.{Seen, Said, Sent, message_of}
 use Rattle.arj_net.specs.declared.net.Sent as net
 use Rattle.arj_protocol.specs.Words.{Body, Line}
+use Rattle.arj_protocol.specs.Words.body
 use Rattle.arj_protocol.specs.World.{Frame, new_frame, sent_line, frames_with, numbered, overflows, most_frames}
 use Rattle.arj_world.specs.declared.wire.Wire.{Wire}
 
@@ -21,6 +22,11 @@ abbrev pub seen_bodies : ℕ → ℕ → List Seen → List Body
 seen_bodies n k [] = []
 seen_bodies n k (Said b ∷ es) = b ∷ seen_bodies n k es
 seen_bodies n k (Sent to what m ∷ es) = sent_line (k + 1) n to what ++ seen_bodies n (k + 1) es
+
+-- a frame that is there and is lost has a line
+abbrev pub dropped_line : {A : Type 0} → ℕ → Option A → List Body
+dropped_line k None = []
+dropped_line k (Some f) = body.Dropped k ∷ []
 
 -- the frames, the lines, and whether a frame didn't fit
 pub record Put : Type 0 where

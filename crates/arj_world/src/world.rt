@@ -1,7 +1,8 @@
 // The world: its nodes, its frames and its labels.
-ghost use Rattle.std.specs.Prelude.{◌≡◌, ◌≤◌, [], length, OnOk, IfOk, Some, slice_get};
+ghost use Rattle.std.specs.Prelude.{◌≡◌, ◌≤◌, [], length, true, OnOk, IfOk, Some, slice_get};
 ghost use Rattle.arj_core.specs.Steps.{input_of};
-ghost use Rattle.arj_world.specs.Goes.{StepsTo};
+ghost use Rattle.arj_protocol.specs.World.{steps};
+ghost use Rattle.arj_world.specs.Goes.{GoesTo, StepsTo, is_no_restart};
 ghost use Rattle.arj_world.specs.Stands.{StandsSome, hand};
 
 use crate::Labelled;
@@ -61,6 +62,25 @@ impl<C: Core> World<C> {
                 self.wire.say(Body::Halted { node }, journal)
             }
             Err(CoreFault::Memory) => Err(AllocError),
+        }
+    }
+
+    /// The node of a number takes an input, but no restart. Where there is no such node, nothing happens.
+    pub(crate) fn ask_node<D: Disk>(
+        &mut self,
+        rack: &mut Rack<D>,
+        node: u32,
+        input: Input,
+        journal: &mut Lines,
+    ) -> Result<(), AllocError>
+        requires other { is_no_restart (input_of input) ≡ true }
+        requires stands { StandsSome C.Core D.file (hand self.old rack.old journal.old) }
+        ensures goes { OnOk result (GoesTo C.Core D.file (steps node (input_of input)) (hand self.old rack.old journal.old) (hand self.new rack.new journal.new)) }
+        ensures header { self.new.header ≡ self.old.header }
+    {
+        match self.node_in(node) {
+            Some(n) => self.step_core(rack, n, input, journal),
+            None => Ok(()),
         }
     }
 }

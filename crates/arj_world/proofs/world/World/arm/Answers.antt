@@ -1,0 +1,22 @@
+use Rattle.std.proofs.Common.{◌≡◌, ◌∙◌, ◌∷◌, ◌++◌, [], ap, subst}
+use Rattle.std.proofs.lemmas.Result.{on_ok_weaker}
+use Rattle.arj_protocol.specs.Words.body
+use Rattle.arj_protocol.specs.Words.event as events
+use Rattle.arj_protocol.specs.World.{numbered}
+use Rattle.arj_world.specs.Happens.{HappensTo, done}
+use Rattle.std.specs.Prelude.{slice_set, ◌-◌}
+use Rattle.arj_world.specs.Stands.{hand}
+use Rattle.arj_world.proofs.Armed.{happens_armed}
+use Rattle.arj_world.proofs.world.World.arm.Goals as goal
+
+pub returns-clause-happens : goal.returns-clause-happens
+returns-clause-happens g c =
+    let n = c.in-Some.ensures in
+    let old = hand c.args.self.now c.args.rack.now c.args.journal.now in
+    let new = hand c.args.self.now (slice_set c.args.rack.now (c.in-Some.n - 1) c.arm.new.self) c.say.new.journal in
+    on_ok_weaker c.say.result
+    (λ (said : c.say.new.journal ≡ c.args.journal.now ++ numbered c.self.inside.wire.event (body.Armed c.in-Some.n ∷ [])).
+    subst (λ m. HappensTo g.C.Core g.D.Disk.file (done (events.Stop m c.args.calls c.args.kind)) old new) n.0
+    (happens_armed g.C.Core g.D.Disk.file c.in-Some.n c.args.calls c.args.kind c.disk.result.now c.arm.new.self old c.say.new.journal n.1 n.2 c.disk.ensures.value c.arm.ensures.files
+    (said ∙ (λ i. c.args.journal.now ++ numbered (ap (λ k. k.event) c.self.view_is i) (body.Armed c.in-Some.n ∷ [])))))
+    c.say.ensures

@@ -1,0 +1,13 @@
+use Rattle.std.proofs.lemmas.Result.{on_ok_weaker}
+use Rattle.arj_world.specs.Stands.{hand}
+use Rattle.arj_world.proofs.Hands.{quiesces, quiet_goes}
+use Rattle.arj_world.proofs.world.World.quiesce.Goals as goal
+
+pub returns-clause-goes : goal.returns-clause-goes
+returns-clause-goes g c =
+    let fourth = hand c.settle-2.new.self c.settle-2.new.rack c.settle-2.new.journal in
+    on_ok_weaker c.say_quiet.result
+    (λ line. quiesces g.C.Core g.D.Disk.file (hand c.args.self.now c.args.rack.now c.args.journal.now) (hand c.settle.new.self c.settle.new.rack c.settle.new.journal) (hand c.tick_all.new.self c.tick_all.new.rack c.tick_all.new.journal)
+    fourth (hand c.settle-2.new.self c.settle-2.new.rack c.say_quiet.new.journal)
+    c.in_ok-settle.ensures.goes c.in_ok-tick_all.ensures.goes c.in_ok-settle-2.ensures.goes line c.in_ok-settle.ensures.header c.in_ok-tick_all.ensures.header c.in_ok-settle-2.ensures.header)
+    (quiet_goes g.C.Core g.D.Disk.file fourth c.say_quiet.result c.say_quiet.new.journal c.say_quiet.ensures.full c.say_quiet.ensures.said)

@@ -1,0 +1,22 @@
+use Rattle.std.proofs.Common.{◌≡◌, ◌∙◌, ◌-◌, suc, arith, sym, subst}
+use Rattle.arj_protocol.specs.World.{settle, settle_for}
+use Rattle.arj_world.specs.Goes.{GoesPartTo}
+use Rattle.arj_world.specs.Stands.{hand}
+use Rattle.arj_world.proofs.Hands.{settle_ends, settle_turns}
+use Rattle.arj_world.proofs.world.World.settle.Goals as goal
+
+pub returns-in_default-clause-goes : goal.returns-in_default-clause-goes
+returns-in_default-clause-goes g c = settle_ends g.C.Core g.D.Disk.file c.loop-left.left settle (hand c.args.self.now c.args.rack.now c.args.journal.now) (hand c.loop-left.self c.loop-left.rack c.loop-left.journal)
+    c.loop-left.invariant.goes (sym c.lowest.ensures ∙ c.in_default.is) c.loop-left.invariant.header
+
+pub loop-left-preserved : goal.loop-left-preserved
+loop-left-preserved g c =
+    let first = hand c.args.self.now c.args.rack.now c.args.journal.now in
+    let old = hand c.loop-left.self c.loop-left.rack c.loop-left.journal in
+    let one_less : c.loop-left.left ≡ suc (c.loop-left.left - 1) = omega (arith, c.loop-left-test.true) in
+    record {
+      goes = settle_turns g.C.Core g.D.Disk.file (c.loop-left.left - 1) c.in-Some.k settle first old (hand c.deliver.new.self c.deliver.new.rack c.deliver.new.journal)
+          (subst (λ n. GoesPartTo g.C.Core g.D.Disk.file settle (settle_for n) first old) one_less c.loop-left.invariant.goes)
+          (sym c.lowest.ensures ∙ c.in-Some.is) c.in_ok-deliver.ensures.goes c.loop-left.invariant.header;
+      header = c.in_ok-deliver.ensures.header ∙ c.loop-left.invariant.header;
+    }

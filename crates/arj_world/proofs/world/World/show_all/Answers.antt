@@ -1,0 +1,29 @@
+use Rattle.std.proofs.Common.{◌≡◌, ◌∙◌, ◌+◌, refl, ap, subst}
+use Rattle.arj_protocol.specs.Step.{numbers_to}
+use Rattle.arj_protocol.specs.World.{show_all}
+use Rattle.arj_world.specs.Goes.{GoesTo}
+use Rattle.arj_world.specs.Stands.{hand}
+use Rattle.arj_world.proofs.Hands.{shows_end, shows_start, shows_turn}
+use Rattle.arj_world.proofs.world.World.show_all.Goals as goal
+
+pub loop-node-init : goal.loop-node-init
+loop-node-init g c = record {
+  count = ap (λ k. k.header.nodes) c.self.view_is;
+  goes = shows_start g.C.Core g.D.Disk.file c.args.x c.self.inside.header.nodes (hand c.args.self.now c.args.rack.now c.args.journal.now);
+  header = refl;
+}
+
+pub loop-node-preserved : goal.loop-node-preserved
+loop-node-preserved g c = record {
+  count = c.loop-node.invariant.count;
+  goes = shows_turn g.C.Core g.D.Disk.file c.args.x c.loop-node.node (c.loop-node.node + 1) c.self.inside.header.nodes (hand c.args.self.now c.args.rack.now c.args.journal.now) (hand c.loop-node.self c.loop-node.rack c.loop-node.journal)
+      (hand c.show_up.new.self c.show_up.new.rack c.show_up.new.journal) c.loop-node.invariant.goes c.loop-node-test.true refl c.in_ok-show_up.ensures.goes c.loop-node.invariant.header;
+  header = c.in_ok-show_up.ensures.header ∙ c.loop-node.invariant.header;
+}
+
+pub returns-clause-goes : goal.returns-clause-goes
+returns-clause-goes g c =
+    let first = hand c.args.self.now c.args.rack.now c.args.journal.now in
+    let now = hand c.loop-node.self c.loop-node.rack c.loop-node.journal in
+    subst (λ n. GoesTo g.C.Core g.D.Disk.file (show_all c.args.x (numbers_to n)) first now) c.loop-node.invariant.count
+    (shows_end g.C.Core g.D.Disk.file c.args.x c.loop-node.node c.self.inside.header.nodes first now c.loop-node.invariant.goes c.loop-node-test.false)

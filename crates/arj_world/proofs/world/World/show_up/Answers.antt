@@ -1,0 +1,19 @@
+use Rattle.std.proofs.Common.{refl}
+use Rattle.std.proofs.lemmas.Result.{on_ok_weaker}
+use Rattle.arj_protocol.specs.Step as input
+use Rattle.arj_world.specs.Stands.{hand}
+use Rattle.arj_world.proofs.Hands.{goes_step, show_down, show_goes}
+use Rattle.arj_world.proofs.world.World.show_up.Goals as goal
+
+pub returns-then-not-is_up-clause-goes : goal.returns-then-not-is_up-clause-goes
+returns-then-not-is_up-clause-goes g c =
+    show_down g.C.Core g.D.Disk.file c.args.x c.args.node (hand c.args.self.now c.args.rack.now c.args.journal.now) c.requires.least c.requires.greatest c.if-not-is_up.ensures
+
+pub returns-clause-goes : goal.returns-clause-goes
+returns-clause-goes g c =
+    let old = hand c.args.self.now c.args.rack.now c.args.journal.now in
+    let new = hand c.step_core.new.self c.step_core.new.rack c.step_core.new.journal in
+    on_ok_weaker c.step_core.result
+    (λ to. show_goes g.C.Core g.D.Disk.file c.args.x c.args.node old new c.requires.least c.requires.greatest c.if-not-is_up.ensures
+    (goes_step g.C.Core g.D.Disk.file c.args.node (input.Show c.args.x) old new c.requires.least c.requires.greatest refl to))
+    c.step_core.ensures.steps
