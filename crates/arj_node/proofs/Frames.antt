@@ -10,7 +10,7 @@ use Rattle.arj_node.specs.Outgoing.{IsHalted, effects_of, loud}
 use Rattle.arj_node.specs.Ran.{IsCut, disk_after, outward}
 use Rattle.arj_node.specs.Stepped.{Steps, up_node}
 use Rattle.arj_node.specs.declared.outgoing.Outgoing.{Outgoing}
-use Rattle.arj_node.proofs.Handled.{halted_so}
+use Rattle.arj_node.proofs.Handled.{halted_so, took_cut}
 use Rattle.arj_node.proofs.Lists.{puts_more, ran_is, stopped_first}
 use Rattle.arj_node.proofs.Outs.{said_one}
 use Rattle.arj_node.proofs.Quiet.{IsQuiet}
@@ -53,9 +53,6 @@ cut_said left b es d x y z said cut = record {
   puts = puts_more (Say b ∷ []) cut.front x y z said cut.puts;
 }
 
-cut_first : (left : Disk → Type 0) (es fs : List Effect) (d : Disk) (a b : List Output) → IsCut left es d a b → IsCut left (es ++ fs) d a b
-cut_first left es fs d a b cut = record { front = cut.front; stop = stopped_first left es fs d cut.front cut.stop; puts = cut.puts }
-
 module _ (n : ℕ) (on : Here → Type 0) (k : ℕ) where
   pub void_frame : (h : Here) (a b : List Output) → on h → b ≡ a ++ output.Say (body.Void k) ∷ [] → Steps n on (void_step k (up_node n h) []) a b
   void_frame h a b stands are = record { here = h; after_is = refl; stands = stands; puts = said_one (body.Void k) a b are }
@@ -89,12 +86,6 @@ module _ (n : ℕ) (left : Disk → Type 0) (k : ℕ) where
       (cut_said left (body.Got k) (whole n takes.parts takes.effects h.disk).outs h.disk a b c (said_one (body.Got k) a b are)
       (settled takes.parts takes.effects h.disk takes.does.stands (takes.does.tells ∙ ap (λ os. effects_of os ++ loud takes.effects) none)))
 
-  took_cut : (t : Parts) (es : List Effect) (d : Disk) (before outs : List Outgoing) (a b : List Output) → before ≡ [] → IsHalted left es d before outs → PutsOut (outward n (effects_of outs)) a b → IsCut left (whole n t es d).outs d a b
-  took_cut t es d before outs a b none halted puts =
-      let front = rounds_front n 24 (ran n t es d) in
-      let is : (whole n t es d).outs ≡ outward n es ++ front.0 = front.1 ∙ ap (λ (r : Ran). r.outs ++ front.0) (ran_is n t es d) in
-      subst (λ xs. IsCut left xs d a b) (sym is) (cut_first left (outward n es) front.0 d a b (halted_so n left es d before outs a b none halted puts))
-
   void_cut : (es : List Effect) (d : Disk) (before outs : List Outgoing) (a b : List Output) → before ≡ [] → loud es ≡ [] → IsHalted left es d before outs → PutsOut (outward n (effects_of outs)) a b → IsCut left es d a b
   void_cut es d before outs a b none quiet halted puts =
       let still : loud halted.front ≡ [] = no_front (loud halted.front) (loud (Do halted.stop.work ∷ halted.stop.back)) (sym (ap loud halted.stop.are ∙ loud_behind halted.front (Do halted.stop.work ∷ halted.stop.back)) ∙ quiet) in
@@ -104,4 +95,4 @@ module _ (n : ℕ) (left : Disk → Type 0) (k : ℕ) where
   pub halted_frame : (h : Here) (v : Handled) (before outs : List Outgoing) (a b c : List Output) → before ≡ [] → IsQuiet v → IsHalted left (outs_of v) h.disk before outs → b ≡ a ++ output.Say (body.Got k) ∷ [] → PutsOut (outward n (effects_of outs)) b c
       → IsCut left (handled_step k (up_node n h) v).halting h.disk a c
   halted_frame h (Void es) before outs a b c none quiet halted are puts = cut_said left (body.Got k) es h.disk a b c (said_one (body.Got k) a b are) (void_cut es h.disk before outs b c none quiet halted puts)
-  halted_frame h (Took t es) before outs a b c none quiet halted are puts = cut_said left (body.Got k) (whole n t es h.disk).outs h.disk a b c (said_one (body.Got k) a b are) (took_cut t es h.disk before outs b c none halted puts)
+  halted_frame h (Took t es) before outs a b c none quiet halted are puts = cut_said left (body.Got k) (whole n t es h.disk).outs h.disk a b c (said_one (body.Got k) a b are) (took_cut n left t es h.disk before outs b c none halted puts)

@@ -5,3 +5,6 @@ mod Turns
 mod Handled
 mod Quiet
 mod Frames
+mod Inputs
+mod Cores
+mod Classes

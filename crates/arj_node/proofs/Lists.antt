@@ -93,13 +93,13 @@ module _ (left : Disk → Type 0) where
   }
 
 -- the cut by its count of works
-count_front : (front : List Effect) (w : Work) (back : List Effect) → count_works front < count_works (front ++ Do w ∷ back)
+pub count_front : (front : List Effect) (w : Work) (back : List Effect) → count_works front < count_works (front ++ Do w ∷ back)
 count_front [] w back = omega arith
 count_front (Say b ∷ front) w back = count_front front w back
 count_front (Send to m ∷ front) w back = count_front front w back
 count_front (Do v ∷ front) w back = let more = count_front front w back in omega (arith, more)
 
-cut_there : (front : List Effect) (w : Work) (back : List Effect) (how : Stop) (d : Disk) → cut (count_works front) how (front ++ Do w ∷ back) d ≡ record { outs = front; disk = stopped how w (disk_after front d) }
+pub cut_there : (front : List Effect) (w : Work) (back : List Effect) (how : Stop) (d : Disk) → cut (count_works front) how (front ++ Do w ∷ back) d ≡ record { outs = front; disk = stopped how w (disk_after front d) }
 cut_there [] w back how d = refl
 cut_there (Say b ∷ front) w back how d = ap (behind_effect (Say b)) (cut_there front w back how d)
 cut_there (Send to m ∷ front) w back how d = ap (behind_effect (Send to m)) (cut_there front w back how d)

@@ -10,7 +10,7 @@ ghost use Rattle.arj_node.specs.Stepped.{Steps, up_node};
 ghost use Rattle.arj_protocol.specs.Node as protocol;
 ghost use Rattle.arj_protocol.specs.Step.{frame_step};
 
-use crate::putting::put_out;
+use crate::acting::put_front;
 use crate::rounds::settle;
 use crate::{Outgoings, Parts};
 use arj_core::{CoreFault, Output, Outputs};
@@ -78,8 +78,7 @@ fn take<D: Disk, P: Parts>(
         }
         Err(CoreFault::Halted) => {
             out.push(Output::Say(Body::Got { frame }))?;
-            let mut queue = Vec::new(alloc);
-            put_out(alloc, number, outs, out, &mut queue)?;
+            put_front(alloc, number, outs, out)?;
             Err(CoreFault::Halted)
         }
         Err(CoreFault::Memory) => Err(CoreFault::Memory),

@@ -1,7 +1,13 @@
 // What parts hand back.
-use arj_base::Seq;
+ghost use Rattle.std.specs.Prelude.{◌≡◌, [], ◌∷◌, ◌++◌, OnOk};
+ghost use Rattle.arj_node.specs.Outgoing.{AreSpelled, IsSpelled};
+ghost use Rattle.arj_node.specs.declared.outgoing.Outgoing.TheVariants as of;
+
+use crate::sendable::can_be_sent;
 use arj_journal::Body;
 use arj_msg::Message;
+use std::alloc::{AllocError, Global};
+use std::marker::Model;
 
 /// What a call of a node's parts hands back: what a line says, or a message for a node, which may be the node itself.
 #[derive(Drop)]
@@ -10,5 +16,68 @@ pub enum Outgoing {
     Send { to: u8, message: Message },
 }
 
-/// What is handed back, in order.
-pub type Outgoings = Seq<Outgoing>;
+/// What is handed back, in order. Each message can be spelled.
+#[derive(Drop)]
+pub struct Outgoings {
+    alloc: Global,
+    items: Vec<Outgoing>,
+}
+
+impl Model for Outgoings {
+    ghost use Rattle.std.specs.Prelude.{List};
+    ghost use Rattle.arj_node.specs.Outgoing.{AreSpelled};
+    ghost use Rattle.arj_node.specs.declared.outgoing.Outgoing.{Outgoing};
+
+    ghost Value = { List Outgoing };
+
+    ghost view = { λ o. o.items.items };
+
+    ghost invariant = { λ o. AreSpelled o.items.items };
+}
+
+impl Outgoings {
+    /// Nothing. It allocates nothing.
+    pub fn new(alloc: Global) -> Outgoings
+        ensures { result ≡ [] }
+    {
+        Outgoings {
+            alloc,
+            items: Vec::new(alloc),
+        }
+    }
+
+    // One more.
+    fn push(&mut self, one: Outgoing) -> Result<(), AllocError>
+        requires { IsSpelled one }
+        ensures { OnOk result (self.new ≡ self.old ++ one ∷ []) }
+    {
+        self.items.push(one)?;
+        Ok(())
+    }
+
+    /// What a line says is handed back.
+    pub fn say(&mut self, body: Body) -> Result<(), AllocError>
+        ensures { OnOk result (self.new ≡ self.old ++ of.Say body ∷ []) }
+    {
+        self.push(Outgoing::Say(body))
+    }
+
+    /// A message is handed back. One that can't be spelled isn't sent: the node gives up, as for want of memory. That there
+    /// is none in a run isn't shown.
+    pub fn send(&mut self, to: u8, message: Message) -> Result<(), AllocError>
+        ensures { OnOk result (self.new ≡ self.old ++ of.Send to message ∷ []) }
+    {
+        if !can_be_sent(self.alloc, &message)? {
+            return Err(AllocError);
+        }
+        self.push(Outgoing::Send { to, message })
+    }
+
+    /// All of it.
+    pub fn into_vec(self) -> Vec<Outgoing>
+        ensures items { result.items ≡ self }
+        ensures spelled { AreSpelled result.items }
+    {
+        self.items
+    }
+}

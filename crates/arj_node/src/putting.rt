@@ -3,7 +3,7 @@ ghost use Rattle.std.specs.Prelude.{◌≡◌, ◌++◌, ◌∷◌, [], OnOk, If
 ghost use Rattle.std.specs.List.{AllByRecursion};
 ghost use Rattle.arj_core.specs.Steps.{PutsOut, message_of};
 ghost use Rattle.arj_msg.specs.Sendable.{IsSendable};
-ghost use Rattle.arj_node.specs.Outgoing.{AreSpelled, IsSpelled, effect_of, effects_of};
+ghost use Rattle.arj_node.specs.Outgoing.{IsSpelled, effect_of, effects_of};
 ghost use Rattle.arj_node.specs.Ran.{inward, outward};
 ghost use Rattle.arj_protocol.specs.Ask.{frame_kind};
 ghost use Rattle.arj_protocol.specs.Effect.{Send};
@@ -89,7 +89,6 @@ pub fn put_out(
     out: &mut Outputs,
     queue: &mut Vec<Message>,
 ) -> Result<(), AllocError>
-    requires { AreSpelled outs }
     ensures puts { OnOk result (PutsOut (outward number (effects_of outs)) out.old out.new) }
     ensures queue { OnOk result (queue.new.items ≡ queue.old.items ++ inward number (effects_of outs)) }
     ensures spelled { OnOk result (AllByRecursion IsSendable queue.old.items → AllByRecursion IsSendable queue.new.items) }

@@ -7,7 +7,7 @@ ghost use Rattle.arj_journal.specs.declared.header.Header.{Header};
 ghost use Rattle.arj_msg.specs.Sendable.{IsSendable};
 ghost use Rattle.arj_core.specs.Steps.{CountsStep};
 ghost use Rattle.arj_node.specs.Goes.{Goes, GoesOn};
-ghost use Rattle.arj_node.specs.Outgoing.{AreSpelled, effects_of, loud};
+ghost use Rattle.arj_node.specs.Outgoing.{effects_of, loud};
 ghost use Rattle.arj_node.specs.Ran.{IsCut, disk_after};
 ghost use Rattle.arj_protocol.specs.Effect as effect;
 ghost use Rattle.arj_protocol.specs.Node as protocol;
@@ -110,7 +110,6 @@ pub fn settle<D: Disk, P: Parts>(
     out: &mut Outputs,
 ) -> Result<(), CoreFault>
     requires stands { (header : Header) × (h : protocol.Here) × P.stands header number parts.old (D.file disk.old) h }
-    requires spelled { AreSpelled outs }
     ensures done { OnOk result ((header : Header) (t : protocol.Parts) (es : List effect.Effect) (d : effect.Disk) → P.stands header number parts.old (D.file disk.old) (record { disk = disk_after es d; parts = t })
         → effects_of outs ≡ loud es → Goes (P.stands header number parts.new (D.file disk.new)) (protocol.whole number t es d) out.old out.new) }
     ensures halted { IsErrOf result CoreFault.Halted → (header : Header) (t : protocol.Parts) (es : List effect.Effect) (d : effect.Disk) → P.stands header number parts.old (D.file disk.old) (record { disk = disk_after es d; parts = t })

@@ -5,14 +5,14 @@ use Rattle.arj_msg.specs.Sendable.{IsSendable}
 use Rattle.arj_node.specs.Outgoing.{effects_of}
 use Rattle.arj_node.specs.Ran.{inward}
 use Rattle.arj_protocol.specs.Node.{handle_all, whole}
-use Rattle.arj_node.proofs.Handled.{Stage, goes_so, is_nil, isnt_nil, same_fault, stage_end, stage_first, stage_halt, stage_over, stage_turn}
+use Rattle.arj_node.proofs.Handled.{Stage, flow, goes_so, is_nil, isnt_nil, same_fault, stage_end, stage_first, stage_halt, stage_over, stage_turn}
 use Rattle.arj_node.proofs.rounds.settle.Goals as goal
 
 pub rounds-init : goal.rounds-init
 rounds-init g c = record {
   there = c.requires.stands;
   all = λ header t es d stands are k counted.
-      subst (λ j. Stage c.args.number j (g.P.Parts.stands header c.args.number c.args.parts.now (g.D.Disk.file c.args.disk.now)) (whole c.args.number t es d) d c.args.out.now c.put_out.new.out c.put_out.new.queue.items)
+      subst (λ j. Stage c.args.number j (g.P.Parts.stands header c.args.number c.args.parts.now (g.D.Disk.file c.args.disk.now)) (whole c.args.number t es d) d (flow c.args.out.now c.put_out.new.out [] c.put_out.new.queue.items))
       (omega (arith, counted))
       (stage_first c.args.number (g.P.Parts.stands header c.args.number c.args.parts.now (g.D.Disk.file c.args.disk.now)) t es d c.args.out.now c.put_out.new.out c.put_out.new.queue.items
       (goes_so c.args.number (g.P.Parts.stands header c.args.number c.args.parts.now (g.D.Disk.file c.args.disk.now)) t es d c.args.outs c.args.out.now c.put_out.new.out [] c.put_out.new.queue.items stands are c.in_ok-put_out.ensures.puts
