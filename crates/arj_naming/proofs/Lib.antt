@@ -19,3 +19,4 @@ pub mod Ready
 pub mod Orphans
 pub mod EndParts
 pub mod LastEnd
+pub mod Showing

@@ -18,6 +18,7 @@ mod entries;
 mod format;
 mod found;
 mod lines;
+mod listing;
 mod locks;
 mod made;
 mod memory;
@@ -26,6 +27,7 @@ mod object;
 mod part;
 mod payload;
 mod recover;
+mod show;
 mod told;
 mod uids;
 

@@ -23,7 +23,7 @@ use Rattle.arj_protocol.specs.Order.{at_uid, put_uid, without_uid, with_uid, dro
 pub total : IsTotalOrder uid_order
 total = total-law
 
-turned : (u w : Uid) → uid_order u w ≡ Greater → uid_order w u ≡ Less
+pub turned : (u w : Uid) → uid_order u w ≡ Greater → uid_order w u ≡ Less
 turned u w is = total.antisymm w u ∙ rw is refl
 
 -- the order ties a Uid with itself alone
@@ -149,7 +149,7 @@ or_false : (b : Bool) → (b || false) ≡ b
 or_false true = refl
 or_false false = refl
 
-or_turned : (a b : Bool) → (a || b) ≡ (b || a)
+pub or_turned : (a b : Bool) → (a || b) ≡ (b || a)
 or_turned true true = refl
 or_turned true false = refl
 or_turned false true = refl

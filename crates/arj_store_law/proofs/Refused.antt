@@ -33,7 +33,7 @@ use Rattle.arj_store.specs.declared.answer.Prep.TheVariants as prep
 -- ---- who has prepared an object
 
 -- what is told of an object by packed states, and by states
-among_is : (u : Uid) (states : List ObjectState) → is_some (new_of (packed states) u) ≡ names_object u states
+pub among_is : (u : Uid) (states : List ObjectState) → is_some (new_of (packed states) u) ≡ names_object u states
 among_is u [] = refl
 among_is u (s ∷ ss) = by (uid_eq u s.uid) refl (among_is u ss)
   where
@@ -42,13 +42,13 @@ among_is u (s ∷ ss) = by (uid_eq u s.uid) refl (among_is u ss)
     by false is rest = rest ∙ (λ i. sym (uid_sym s.uid u ∙ is) i || names_object u ss)
 
 -- each entry of a list stands under its Uid
-abbrev AreThere : files.Pair → List (Uid × List ObjectState) → Type 0
+abbrev pub AreThere : files.Pair → List (Uid × List ObjectState) → Type 0
 AreThere p es = AllByRecursion (λ (e : Uid × List ObjectState). p.pend e.0 ≡ Some (packed e.1)) es
 
 there : (p : files.Pair) (d : Pair) (e : Uid × List ObjectState) → IsPairOf p d → at_uid e.0 d.pend ≡ Some e.1 → p.pend e.0 ≡ Some (packed e.1)
 there p d e are at = are.pend e.0 ∙ ap (option_map packed) at
 
-all_there : (p : files.Pair) (d : Pair) → IsPairOf p d → AreThere p d.pend
+pub all_there : (p : files.Pair) (d : Pair) → IsPairOf p d → AreThere p d.pend
 unfolding IsStrictlySortedBy
 all_there p d are = walk d.pend are.pend_rises (λ e at. there p d e are at)
   where
@@ -67,10 +67,10 @@ all_there p d are = walk d.pend are.pend_rises (λ e at. there p d e are at)
 has_it : (p : files.Pair) (u : Uid) (e : Uid × List ObjectState) → p.pend e.0 ≡ Some (packed e.1) → names_object u e.1 ≡ true → names (p.pend e.0) u
 has_it p u e is named = subst (λ o. names o u) (sym is) (among_is u e.1 ∙ named)
 
-abbrev holder_in : Uid → List (Uid × List ObjectState) → Option Uid
+abbrev pub holder_in : Uid → List (Uid × List ObjectState) → Option Uid
 holder_in u es = option_map (λ (e : Uid × List ObjectState). e.0) (find (λ (e : Uid × List ObjectState). names_object u e.1) es)
 
-no_holder : (p : files.Pair) (u : Uid) (es : List (Uid × List ObjectState)) → AreThere p es → (files.InDoubt p u → ⊥) → holder_in u es ≡ None
+pub no_holder : (p : files.Pair) (u : Uid) (es : List (Uid × List ObjectState)) → AreThere p es → (files.InDoubt p u → ⊥) → holder_in u es ≡ None
 no_holder p u [] all free = refl
 no_holder p u (e ∷ es) all free = by (names_object u e.1) refl (no_holder p u es all.1 free)
   where
@@ -92,7 +92,7 @@ one_holder p u h states (e ∷ es) all once has at named = by (names_object u e.
         later false found = found
         later true found = let same : e.1 ≡ states = cc found in let never : true ≡ false = sym named ∙ (ap (names_object u) (sym same) ∙ is) in absurd (cc never)
 
-holder_is : (p : files.Pair) (d : Pair) (u h : Uid) → IsPairOf p d → ((a b : Uid) → names (p.pend a) u → names (p.pend b) u → a ≡ b) → names (p.pend h) u → holder_of u d ≡ Some h
+pub holder_is : (p : files.Pair) (d : Pair) (u h : Uid) → IsPairOf p d → ((a b : Uid) → names (p.pend a) u → names (p.pend b) u → a ≡ b) → names (p.pend h) u → holder_of u d ≡ Some h
 holder_is p d u h are once has = by (at_uid h d.pend) refl
   where
     by : (o : Option (List ObjectState)) → at_uid h d.pend ≡ o → holder_of u d ≡ Some h
