@@ -1,9 +1,13 @@
 -- What a row of effects does to a disk and says, and what a stop leaves of it.
-use Rattle.std.specs.Prelude.{◌≡◌, ◌+◌, ℕ, List, [], ◌∷◌, ◌++◌}
+use Rattle.std.specs.Prelude.{◌≡◌, ◌+◌, ℕ, List, [], ◌∷◌, ◌++◌, map}
 use Rattle.std.specs.List.{flat_map}
 use Rattle.arj_disk.specs.FileMap.{FileMap}
 use Rattle.arj_journal.specs.declared.body.Line.{Line}
 use Rattle.arj_protocol.specs.Effect.{Disk, Effect, Say, Send, Do, Look, PutInc, Work, Stop, worked, stopped}
+use Rattle.arj_protocol.specs.Node.{prepared_actions, query_about}
+use Rattle.arj_protocol.specs.Order.{uid_set, without_number}
+use Rattle.arj_protocol.specs.Step.{hello_to, numbers_to, tolds_again}
+use Rattle.arj_protocol.specs.Words.{Header}
 use Rattle.arj_protocol.specs.Words.body
 use Rattle.arj_recover.specs.OnDisk.{IsDiskOf}
 use Rattle.arj_store.specs.declared.store.ObjectStore.{Ghosts}
@@ -48,3 +52,8 @@ begins_again n inc = Do Look ∷ Do (PutInc inc) ∷ Say (body.Up n inc) ∷ Do 
 -- and of any disk
 abbrev pub begins_on : ℕ → Disk → List Effect
 begins_on n d = begins_again n (d.inc + 1)
+
+-- what is sent last: tolds of the records, queries about what is prepared, and a hello to each other node
+abbrev pub sent_again : Header → ℕ → ℕ → Disk → List Effect
+sent_again hd n inc d =
+    tolds_again d.intents ++ (map query_about (uid_set (prepared_actions d.store ++ prepared_actions d.names)) ++ map (hello_to n inc) (without_number n (numbers_to hd.nodes)))

@@ -6,13 +6,16 @@
 //!
 //! It stands on `arj_store`, `arj_intent`, the laws of `arj_store_law` and the definitions of `arj_protocol`. What it gives
 //! upward: what a node's files say of the disk that the protocol has (`specs/OnDisk.antt`), and that each call does the
-//! work of the protocol's restart, done or cut where it was stopped (`specs/Done.antt`).
+//! work of the protocol's restart, done or cut where it was stopped (`specs/Done.antt`); `restarts_go_in_order` says that
+//! these, in their order, are the whole of it.
 #![tactic(auto)]
 
 mod beginning;
 mod commits;
 mod first;
+mod laws;
 
 pub use beginning::{Recovered, restart};
 pub use commits::resume;
 pub use first::{format, format_inc};
+pub use laws::restarts_go_in_order;
