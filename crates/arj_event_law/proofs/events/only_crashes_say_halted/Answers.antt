@@ -1,0 +1,5 @@
+use Rattle.arj_event_law.proofs.NoHalts.{step_both}
+use Rattle.arj_event_law.proofs.events.only_crashes_say_halted.Goals as goal
+
+pub returns : goal.returns
+returns c = record { crashes = step_both }

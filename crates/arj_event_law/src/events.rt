@@ -1,0 +1,15 @@
+// Laws of events.
+ghost use Rattle.arj_event_law.specs.Halts.{OnlyCrashesSayHalted};
+ghost use Rattle.arj_event_law.specs.Settles.{SettlesLeaveNothing};
+
+/// After a settle each frame was delivered or lost, unless one didn't fit; so the fuel that the protocol's settle has is
+/// enough. It does nothing when it runs.
+pub fn settles_leave_nothing()
+    ensures settled { SettlesLeaveNothing }
+{}
+
+/// No step of a node says that a node halted, whatever it is asked, but a crash; so a line that says so in another event
+/// tells of a stop. It does nothing when it runs.
+pub fn only_crashes_say_halted()
+    ensures crashes { OnlyCrashesSayHalted }
+{}
