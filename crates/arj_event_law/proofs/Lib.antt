@@ -1,3 +1,5 @@
 pub mod Frames
 pub mod Settled
 pub mod NoHalts
+pub mod Written
+pub mod Spoken

@@ -1,6 +1,7 @@
 // Laws of events.
 ghost use Rattle.arj_event_law.specs.Halts.{OnlyCrashesSayHalted};
 ghost use Rattle.arj_event_law.specs.Settles.{SettlesLeaveNothing};
+ghost use Rattle.arj_event_law.specs.Writes.{EventsWriteTheirLines};
 
 /// After a settle each frame was delivered or lost, unless one didn't fit; so the fuel that the protocol's settle has is
 /// enough. It does nothing when it runs.
@@ -12,4 +13,10 @@ pub fn settles_leave_nothing()
 /// tells of a stop. It does nothing when it runs.
 pub fn only_crashes_say_halted()
     ensures crashes { OnlyCrashesSayHalted }
+{}
+
+/// An event of a kind with a line of its own writes it, or that it is refused, that its node halted, or that a limit was met,
+/// in a world that has the nodes of its header. It does nothing when it runs.
+pub fn events_write_their_lines()
+    ensures lines { EventsWriteTheirLines }
 {}

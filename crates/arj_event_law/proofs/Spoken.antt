@@ -1,0 +1,318 @@
+-- Event by event.
+use Rattle.std.proofs.Common.{◌≡◌, ◌∙◌, ◌+◌, ℕ, zero, suc, Bool, true, false, not, cond, List, [], ◌∷◌, ◌++◌, length, refl, sym, ap, subst, Option, Some, None}
+use Rattle.std.specs.Prelude.{IfSome, is_some, nat_lt, ◌||◌}
+use Rattle.std.proofs.lemmas.List.{append-nil, append_assoc}
+use Rattle.arj_event_law.specs.Writes.{Answers, Own, IsRefused, IsFrames, IsLabels, IsWhole, Writes, halts_for, has_own, IsOwn}
+use Rattle.arj_event_law.proofs.Written.{Says, node_says, step_writes, whole_says, first_stands, third_stands}
+use Rattle.arj_protocol.proofs.Steps.{steps_lines}
+use Rattle.arj_protocol.specs.Asking.{begin_action}
+use Rattle.arj_protocol.specs.Effect.{Say, Do, Look, PutInc}
+use Rattle.arj_protocol.specs.Laws.{effects_of}
+use Rattle.arj_protocol.specs.Node.{Parts, with_coord}
+use Rattle.arj_protocol.specs.Step as input
+use Rattle.arj_protocol.specs.Step.{Node, Step, Input, first_reason, only_says, parent_of, parts_in, refusal_at, refusal_up, restart_outs, step, step_of, step_unless}
+use Rattle.arj_protocol.specs.Tree.{at_place, next_uid}
+use Rattle.arj_protocol.specs.Words.{Body, Event, Header, Kind, Label, Line, Uid}
+use Rattle.arj_protocol.specs.Words.body
+use Rattle.arj_protocol.specs.Words.event
+use Rattle.arj_protocol.specs.Words.kind
+use Rattle.arj_protocol.specs.Words.which
+use Rattle.arj_protocol.specs.Words.frame
+use Rattle.arj_protocol.specs.Words.frame_no
+use Rattle.arj_protocol.specs.World.{World, Arm, Asked, Frame, Giving, Labelled, as_delivered, as_lost, armed, bodies, begins, change_frame, counted, deliver, deliver_frame, giving, gives_label, happens, is_frame, is_given, is_node, is_quiet, is_up, is_up_at, junk, junk_fits, kind_below, labelled, labels_unless, lacks_labels, limited, lose, lose_frame, lowest, most_frames, new_frame, no_labels, node_in, node_numbers, node_of, numbered, quiesce, quiet_line, reasons, refused_at, run_event, run_unless, says, settle, settle_for, steps, tick_all, tick_up}
+
+-- ---- what steps say
+
+abbrev unless : Header → Input → Node → Option ℕ → Option Parts → Step
+unless hd i n (Some c) o = only_says n (body.Refused c)
+unless hd i n None o = step_of hd i n o
+
+unless_is : (hd : Header) (i : Input) (n : Node) (r : Option ℕ) → step_unless hd i n r ≡ unless hd i n r n.live
+unless_is hd i n (Some c) = refl
+unless_is hd i n None = refl
+
+-- the action began, or was refused
+data Begun (l : Label) (k : Kind) (p : Option Label) (b : Body) : Type 0 where
+  Began : (u : Uid) → b ≡ body.Began l k u p → Begun l k p b
+  Refused : (c : ℕ) → b ≡ body.Refused c → Begun l k p b
+
+refused_says : (l : Label) (k : Kind) (p : Option Label) (n : Node) (c : ℕ) → Says (Begun l k p) (only_says n (body.Refused c)).outs
+refused_says l k p n c = record { line = body.Refused c; stands = first_stands (Say (body.Refused c)) []; holds = Refused c refl }
+
+begin_says : (l : Label) (k : Kind) (p : Option Label) (hd : Header) (n : Node) → Says (Begun l k p) (step hd n (input.Begin l k p)).outs
+begin_says l k p hd n = subst (λ (s : Step). Says (Begun l k p) s.outs) (sym (unless_is hd (input.Begin l k p) n (refusal_at hd (input.Begin l k p) n.live))) (by n.live)
+  where
+    up : (t : Parts) (r : Option ℕ) → Says (Begun l k p) (unless hd (input.Begin l k p) n r (Some t)).outs
+    up t (Some c) = refused_says l k p n c
+    up t None =
+        let d = begin_action l k p (parent_of p t.coord) t.coord in
+        let u = next_uid t.coord.tree in
+        record {
+          line = body.Began l k u p;
+          stands = whole_says n.number (with_coord t d.part) d.outs n.disk (Say (body.Began l k u p)) (first_stands (Say (body.Began l k u p)) []);
+          holds = Began u refl;
+        }
+
+    by : (o : Option Parts) → Says (Begun l k p) (unless hd (input.Begin l k p) n (refusal_at hd (input.Begin l k p) o) o).outs
+    by None = refused_says l k p n 6
+    by (Some t) = up t (refusal_up hd (input.Begin l k p) t.coord)
+
+abbrev IsUp : ℕ → Body → Type 0
+IsUp n b = (i : ℕ) × (b ≡ body.Up n i)
+
+restart_says : (hd : Header) (n : Node) → is_some n.live ≡ false → Says (IsUp n.number) (step hd n input.Restart).outs
+restart_says hd n down = subst (λ (s : Step). Says (IsUp n.number) s.outs) (sym (unless_is hd input.Restart n (refusal_at hd input.Restart n.live))) (by n.live down)
+  where
+    by : (o : Option Parts) → is_some o ≡ false → Says (IsUp n.number) (unless hd input.Restart n (refusal_at hd input.Restart o) o).outs
+    by (Some t) isnt = absurd (cc isnt)
+    by None isnt =
+        let inc = n.disk.inc + 1 in
+        record {
+          line = body.Up n.number inc;
+          stands = whole_says n.number (parts_in n.number inc n.disk) (restart_outs hd n.number inc n.disk) n.disk (Say (body.Up n.number inc)) (third_stands (Do Look) (Do (PutInc inc)) (Say (body.Up n.number inc)) _);
+          holds = (inc, refl);
+        }
+
+abbrev IsHalted : ℕ → Body → Type 0
+IsHalted n b = b ≡ body.Halted n
+
+crash_says : (hd : Header) (n : Node) → is_some n.live ≡ true → Says (IsHalted n.number) (step hd n input.Crash).outs
+crash_says hd n there = subst (λ (s : Step). Says (IsHalted n.number) s.outs) (sym (unless_is hd input.Crash n (refusal_at hd input.Crash n.live))) (by n.live there)
+  where
+    by : (o : Option Parts) → is_some o ≡ true → Says (IsHalted n.number) (unless hd input.Crash n (refusal_at hd input.Crash o) o).outs
+    by None isnt = absurd (cc isnt)
+    by (Some t) isnt = record { line = body.Halted n.number; stands = first_stands (Say (body.Halted n.number)) []; holds = refl }
+
+-- ---- lines of the world's own
+
+says_writes : (e : Event) (w v : World) (b : Body) → v.lines ≡ w.lines → Answers e w b → Writes e w (says (b ∷ []) v)
+says_writes e w v b same answers = record { before = []; line = record { event = v.event; body = b }; after = []; are = ap (λ ls. ls ++ numbered v.event (b ∷ [])) same; answers = answers }
+
+limited_writes : (e : Event) (w v : World) → Writes e w v → Writes e w (limited v)
+limited_writes e w v x = by v.full
+  where
+    more : Line
+    more = record { event = v.event; body = body.Limit which.Frames }
+
+    by : (b : Bool) → Writes e w (cond b (says (body.Limit which.Frames ∷ []) (record v { over = true })) v)
+    by false = x
+    by true = record {
+      before = x.before;
+      line = x.line;
+      after = x.after ++ more ∷ [];
+      are = ap (λ ls. ls ++ more ∷ []) x.are ∙ (append_assoc w.lines (x.before ++ x.line ∷ x.after) (more ∷ []) ∙ ap (λ ls. w.lines ++ ls) (append_assoc x.before (x.line ∷ x.after) (more ∷ [])));
+      answers = x.answers;
+    }
+
+-- lines are added behind those that are there
+pub record Adds (w v : World) : Type 0 where
+  pub said : List Line
+  pub lines : v.lines ≡ w.lines ++ said
+
+-- where a frame didn't fit, the limit is said
+full_writes : (e : Event) (w v : World) → Adds w v → v.full ≡ true → Writes e w (limited v)
+full_writes e w v adds full =
+    let more : Line = record { event = v.event; body = body.Limit which.Frames } in
+    let is : (limited v).lines ≡ v.lines ++ more ∷ [] = ap (λ b. (cond b (says (body.Limit which.Frames ∷ []) (record v { over = true })) v).lines) full in
+    record {
+      before = adds.said;
+      line = more;
+      after = [];
+      are = is ∙ (ap (λ ls. ls ++ more ∷ []) adds.lines ∙ append_assoc w.lines adds.said (more ∷ []));
+      answers = IsFrames refl;
+    }
+
+-- ---- a quiesce
+
+adds_none : (w v : World) → v.lines ≡ w.lines → Adds w v
+adds_none w v same = record { said = []; lines = same ∙ sym (append-nil w.lines) }
+
+adds_on : (u v w : World) → Adds u v → Adds v w → Adds u w
+adds_on u v w a b = record { said = a.said ++ b.said; lines = b.lines ∙ (ap (λ ls. ls ++ b.said) a.lines ∙ append_assoc u.lines a.said b.said) }
+
+steps_adds : (k : ℕ) (i : Input) (v : World) → Adds v (steps k i v)
+steps_adds k i v = record { said = numbered v.event (bodies k (length v.frames) (effects_of k i v)); lines = steps_lines k i v }
+
+deliver_adds : (k : ℕ) (w : World) → Adds w (deliver k w)
+deliver_adds k w = by (at_place k w.frames)
+  where
+    by : (o : Option Frame) → Adds w (deliver_frame k w o)
+    by None = adds_none w w refl
+    by (Some f) = let a = steps_adds f.to (input.Frame k f.from f.message) (change_frame k as_delivered f w) in record { said = a.said; lines = a.lines }
+
+settle_adds : (fuel : ℕ) (w : World) → Adds w (settle_for fuel w)
+settle_adds zero w = adds_none w w refl
+settle_adds (suc fuel) w = by (lowest w) (λ k. settle_adds fuel (deliver k w))
+  where
+    after : Option ℕ → World
+    after o = elim o [ None ↦ w | Some k ↦ settle_for fuel (deliver k w) ]
+
+    by : (o : Option ℕ) → ((k : ℕ) → Adds (deliver k w) (settle_for fuel (deliver k w))) → Adds w (after o)
+    by None rest = adds_none w w refl
+    by (Some k) rest = adds_on w (deliver k w) (settle_for fuel (deliver k w)) (deliver_adds k w) (rest k)
+
+tick_adds : (n : ℕ) (w : World) → Adds w (tick_up n w)
+tick_adds n w = by (w.full || not (is_up_at n w))
+  where
+    by : (b : Bool) → Adds w (cond b w (steps n input.Tick w))
+    by true = adds_none w w refl
+    by false = steps_adds n input.Tick w
+
+ticks_add : (ns : List ℕ) (w : World) → Adds w (tick_all ns w)
+ticks_add [] w = adds_none w w refl
+ticks_add (n ∷ ns) w = adds_on w (tick_up n w) (tick_all ns (tick_up n w)) (tick_adds n w) (ticks_add ns (tick_up n w))
+
+-- the last line of a quiesce
+quiet_line_writes : (w v : World) → Adds w v → Writes event.Quiesce w (limited (quiet_line v))
+quiet_line_writes w v adds = by v.full refl
+  where
+    said : Line
+    said = record { event = v.event; body = body.Quiet (is_quiet v) }
+
+    quiet : Writes event.Quiesce w (says (body.Quiet (is_quiet v) ∷ []) v)
+    quiet = record { before = adds.said; line = said; after = []; are = ap (λ ls. ls ++ said ∷ []) adds.lines ∙ append_assoc w.lines adds.said (said ∷ []); answers = Own (is_quiet v, refl) }
+
+    by : (b : Bool) → v.full ≡ b → Writes event.Quiesce w (limited (cond v.full v (says (body.Quiet (is_quiet v) ∷ []) v)))
+    by true full = subst (λ b. Writes event.Quiesce w (limited (cond b v (says (body.Quiet (is_quiet v) ∷ []) v)))) (sym full) (full_writes event.Quiesce w v adds full)
+    by false full = subst (λ b. Writes event.Quiesce w (limited (cond b v (says (body.Quiet (is_quiet v) ∷ []) v)))) (sym full) (limited_writes event.Quiesce w (says (body.Quiet (is_quiet v) ∷ []) v) quiet)
+
+-- ---- why an event is refused
+
+first_not : (c : ℕ) (b : Bool) (rs : List (ℕ × Bool)) → first_reason ((c, b) ∷ rs) ≡ None → (b ≡ false) × (first_reason rs ≡ None)
+first_not c true rs none = absurd (cc none)
+first_not c false rs none = (refl, none)
+
+not_not : (b : Bool) → not b ≡ false → b ≡ true
+not_not true is = refl
+not_not false is = absurd (cc is)
+
+there_is : {A : Type 0} (o : Option A) → is_some o ≡ true → (a : A) × (o ≡ Some a)
+there_is None isnt = absurd (cc isnt)
+there_is (Some a) is = (a, refl)
+
+-- ---- an action begins
+
+begun_answers : (e : Event) (w : World) (l : Label) (k : Kind) (p : Option Label) → ((u : Uid) (b : Body) → b ≡ body.Began l k u p → IsOwn e w b) → (b : Body) → Begun l k p b → Answers e w b
+begun_answers e w l k p own b (Began u is) = Own (own u b is)
+begun_answers e w l k p own b (Refused c is) = IsRefused c is
+
+begins_writes : (e : Event) (w : World) (g : Giving) → IsWhole w → is_node g.node w ≡ true → halts_for e w g.node → ((u : Uid) (b : Body) → b ≡ body.Began g.label g.kind u g.parent → IsOwn e w b) → Writes e w (begins g (counted w))
+begins_writes e w g whole there halts own = by (refused_at (input.Begin g.label g.kind g.parent) (counted w) (at_place g.node w.nodes))
+  where
+    i : Input
+    i = input.Begin g.label g.kind g.parent
+
+    by : (r : Option ℕ) → Writes e w (steps g.node i (labels_unless g (counted w) r))
+    by None = step_writes e w (gives_label g (counted w)) g.node i (Begun g.label g.kind g.parent) refl
+        (node_says (Begun g.label g.kind g.parent) g.node i (gives_label g (counted w)) (whole.nodes g.node there) (λ n is. begin_says g.label g.kind g.parent w.header n)) (begun_answers e w g.label g.kind g.parent own) halts
+    by (Some c) = step_writes e w (counted w) g.node i (Begun g.label g.kind g.parent) refl
+        (node_says (Begun g.label g.kind g.parent) g.node i (counted w) (whole.nodes g.node there) (λ n is. begin_says g.label g.kind g.parent w.header n)) (begun_answers e w g.label g.kind g.parent own) halts
+
+-- the node of a label that was given
+given_node : (w : World) (p : Label) → IsWhole w → is_given p w ≡ true → is_node (node_of p w) w ≡ true
+given_node w p whole given = by (labelled p w) given (whole.labels p)
+  where
+    by : (o : Option Labelled) → is_some o ≡ true → IfSome o (λ g. is_node g.node w ≡ true) → is_node (node_in o) w ≡ true
+    by None isnt good = absurd (cc isnt)
+    by (Some g) is good = good
+
+-- ---- what happens
+
+module _ (w : World) (whole : IsWhole w) (a : Arm) where
+  loses : (k : ℕ) (e : Event) → is_some (at_place k w.frames) ≡ true → Answers e w (body.Dropped k) → Writes e w (lose k (counted w))
+  loses k e is answers = by (at_place k w.frames) is
+    where
+      by : (o : Option Frame) → is_some o ≡ true → Writes e w (lose_frame k (counted w) o)
+      by None isnt = absurd (cc isnt)
+      by (Some f) is = says_writes e w (change_frame k as_lost f (counted w)) (body.Dropped k) refl answers
+
+  crashes : (n : ℕ) → is_node n w ≡ true → is_up_at n w ≡ true → Writes (event.Crash n) w (steps n input.Crash (counted w))
+  crashes n there up =
+      let here = there_is (at_place n w.nodes) (whole.nodes n there) in
+      step_writes (event.Crash n) w (counted w) n input.Crash (IsHalted n) refl
+      (node_says (IsHalted n) n input.Crash (counted w) (whole.nodes n there)
+      (λ m is. subst (λ j. Says (IsHalted j) (step w.header m input.Crash).outs) (whole.numbers n m is) (crash_says w.header m (subst (λ o. is_up o ≡ true) is up))))
+      (λ b is. Own is) (halted n)
+    where
+      halted : (n : ℕ) → halts_for (event.Crash n) w n
+      halted n = refl
+
+  restarts : (n : ℕ) → is_node n w ≡ true → is_up_at n w ≡ false → Writes (event.Restart n) w (steps n input.Restart (counted w))
+  restarts n there down = step_writes (event.Restart n) w (counted w) n input.Restart (IsUp n) refl
+      (node_says (IsUp n) n input.Restart (counted w) (whole.nodes n there)
+      (λ m is. subst (λ j. Says (IsUp j) (step w.header m input.Restart).outs) (whole.numbers n m is) (restart_says w.header m (subst (λ o. is_up o ≡ false) is down))))
+      (λ b is. Own is) refl
+
+  quiets : Writes event.Quiesce w (limited (quiesce (counted w)))
+  quiets = quiet_line_writes w v adds
+    where
+      first : World
+      first = settle (counted w)
+
+      v : World
+      v = settle (tick_all (node_numbers (counted w)) first)
+
+      adds : Adds w v
+      adds = adds_on w (counted w) v (adds_none w (counted w) refl) (adds_on (counted w) first v (settle_adds most_frames (counted w))
+          (adds_on first (tick_all (node_numbers (counted w)) first) v (ticks_add (node_numbers (counted w)) first) (settle_adds most_frames (tick_all (node_numbers (counted w)) first))))
+
+  junks : (n : ℕ) (bytes : List ℕ) → Writes (event.Junk n bytes) w (limited (junk n (counted w)))
+  junks n bytes = by (nat_lt (length w.frames) most_frames)
+    where
+      by : (b : Bool) → Writes (event.Junk n bytes) w (limited (junk_fits n (counted w) b))
+      by true = limited_writes (event.Junk n bytes) w (junk_fits n (counted w) true) (says_writes (event.Junk n bytes) w (record (counted w) { frames = w.frames ++ new_frame 0 n None ∷ [] }) (body.Sent (length w.frames + 1) 0 n frame.Junk) refl (Own refl))
+      by false = full_writes (event.Junk n bytes) w (record (counted w) { full = true }) (adds_none w (record (counted w) { full = true }) refl) refl
+
+  -- an event that isn't refused
+  happens_writes : (e : Event) → has_own e ≡ true → first_reason (reasons e w) ≡ None → Writes e w (limited (happens e a (counted w)))
+  happens_writes (event.Begin l n) own none =
+      let r = first_not 1 (not (is_node n w)) ((2, not (is_up_at n w)) ∷ (4, is_given l w) ∷ []) none in
+      limited_writes (event.Begin l n) w (happens (event.Begin l n) a (counted w)) (begins_writes (event.Begin l n) w (record { label = l; kind = kind.Top; parent = None; node = n }) whole (not_not (is_node n w) r.0) refl (λ u b is. (u, is)))
+  happens_writes (event.Serial l n) own none =
+      let r = first_not 1 (not (is_node n w)) ((2, not (is_up_at n w)) ∷ (4, is_given l w) ∷ []) none in
+      limited_writes (event.Serial l n) w (happens (event.Serial l n) a (counted w)) (begins_writes (event.Serial l n) w (record { label = l; kind = kind.Serial; parent = None; node = n }) whole (not_not (is_node n w) r.0) refl (λ u b is. (u, is)))
+  happens_writes (event.BeginIn l p) own none =
+      let r = first_not 4 (is_given l w) ((5, not (is_given p w)) ∷ []) none in
+      let q = first_not 5 (not (is_given p w)) [] r.1 in
+      limited_writes (event.BeginIn l p) w (happens (event.BeginIn l p) a (counted w)) (begins_writes (event.BeginIn l p) w (record { label = l; kind = kind_below p w; parent = Some p; node = node_of p w }) whole (given_node w p whole (not_not (is_given p w) q.0)) refl (λ u b is. (u, is)))
+  happens_writes (event.Top l p) own none =
+      let r = first_not 4 (is_given l w) ((5, not (is_given p w)) ∷ []) none in
+      let q = first_not 5 (not (is_given p w)) [] r.1 in
+      limited_writes (event.Top l p) w (happens (event.Top l p) a (counted w)) (begins_writes (event.Top l p) w (record { label = l; kind = kind.Independent; parent = Some p; node = node_of p w }) whole (given_node w p whole (not_not (is_given p w) q.0)) refl (λ u b is. (u, is)))
+  happens_writes (event.Lose (frame_no.Number k)) own none =
+      let r = first_not 17 (not (is_frame (frame_no.Number k) w)) [] none in
+      limited_writes (event.Lose (frame_no.Number k)) w (lose k (counted w)) (loses k (event.Lose (frame_no.Number k)) (not_not (is_frame (frame_no.Number k) w) r.0) (Own refl))
+  happens_writes (event.Lose frame_no.Last) own none =
+      let r = first_not 17 (not (is_frame frame_no.Last w)) [] none in
+      limited_writes (event.Lose frame_no.Last) w (lose (length w.frames) (counted w)) (loses (length w.frames) (event.Lose frame_no.Last) (not_not (is_frame frame_no.Last w) r.0) (Own refl))
+  happens_writes (event.Stop n c how) own none = limited_writes (event.Stop n c how) w (says (body.Armed n ∷ []) (armed n a (counted w))) (says_writes (event.Stop n c how) w (armed n a (counted w)) (body.Armed n) refl (Own refl))
+  happens_writes event.Quiesce own none = quiets
+  happens_writes (event.Crash n) own none =
+      let r = first_not 1 (not (is_node n w)) ((2, not (is_up_at n w)) ∷ []) none in
+      let q = first_not 2 (not (is_up_at n w)) [] r.1 in
+      limited_writes (event.Crash n) w (steps n input.Crash (counted w)) (crashes n (not_not (is_node n w) r.0) (not_not (is_up_at n w) q.0))
+  happens_writes (event.Restart n) own none =
+      let r = first_not 1 (not (is_node n w)) ((3, is_up_at n w) ∷ []) none in
+      let q = first_not 3 (is_up_at n w) [] r.1 in
+      limited_writes (event.Restart n) w (steps n input.Restart (counted w)) (restarts n (not_not (is_node n w) r.0) q.0)
+  happens_writes (event.Junk n bytes) own none = junks n bytes
+  happens_writes (event.Call l x o) own none = absurd (cc own)
+  happens_writes (event.Include l x n) own none = absurd (cc own)
+  happens_writes (event.Commit l) own none = absurd (cc own)
+  happens_writes (event.Abort l) own none = absurd (cc own)
+  happens_writes (event.GiveUp l) own none = absurd (cc own)
+  happens_writes (event.Deliver k) own none = absurd (cc own)
+  happens_writes (event.Tick n) own none = absurd (cc own)
+  happens_writes event.Settle own none = absurd (cc own)
+  happens_writes (event.Show x) own none = absurd (cc own)
+
+pub event_writes : (e : Asked) (w : World) → IsWhole w → w.over ≡ false → has_own e.event ≡ true → Writes e.event w (run_event e w)
+event_writes e w whole over own = subst (λ b. Writes e.event w (cond b w (run_unless e.event e.arm w (first_reason (reasons e.event w))))) (sym over) (by (first_reason (reasons e.event w)) refl)
+  where
+    accepted : (b : Bool) → first_reason (reasons e.event w) ≡ None → Writes e.event w (cond b (no_labels w) (limited (happens e.event e.arm (counted w))))
+    accepted true none = says_writes e.event w (record w { over = true }) (body.Limit which.Labels) refl (IsLabels refl)
+    accepted false none = happens_writes w whole e.arm e.event own none
+
+    by : (r : Option ℕ) → first_reason (reasons e.event w) ≡ r → Writes e.event w (run_unless e.event e.arm w r)
+    by (Some c) is = says_writes e.event w (counted w) (body.Refused c) refl (IsRefused c refl)
+    by None is = accepted (lacks_labels (giving e.event w) w) is
