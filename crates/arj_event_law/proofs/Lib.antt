@@ -3,3 +3,4 @@ pub mod Settled
 pub mod NoHalts
 pub mod Written
 pub mod Spoken
+pub mod Whole

@@ -2,6 +2,9 @@
 use Rattle.std.proofs.Common.{◌≡◌, ◌∙◌, ◌+◌, ℕ, zero, suc, Bool, true, false, not, cond, List, [], ◌∷◌, ◌++◌, length, refl, sym, ap, subst, Option, Some, None}
 use Rattle.std.specs.Prelude.{IfSome, is_some, nat_lt, ◌||◌}
 use Rattle.std.proofs.lemmas.List.{append-nil, append_assoc}
+use Rattle.std.specs.BTreeMap.{is_at}
+use Rattle.std.specs.List.{AllByRecursion}
+use Rattle.std.specs.Map.{lookup}
 use Rattle.arj_event_law.specs.Writes.{Answers, Own, IsRefused, IsFrames, IsLabels, IsWhole, Writes, halts_for, has_own, IsOwn}
 use Rattle.arj_event_law.proofs.Written.{Says, node_says, step_writes, whole_says, first_stands, third_stands}
 use Rattle.arj_protocol.proofs.Steps.{steps_lines}
@@ -12,7 +15,7 @@ use Rattle.arj_protocol.specs.Node.{Parts, with_coord}
 use Rattle.arj_protocol.specs.Step as input
 use Rattle.arj_protocol.specs.Step.{Node, Step, Input, first_reason, only_says, parent_of, parts_in, refusal_at, refusal_up, restart_outs, step, step_of, step_unless}
 use Rattle.arj_protocol.specs.Tree.{at_place, next_uid}
-use Rattle.arj_protocol.specs.Words.{Body, Event, Header, Kind, Label, Line, Uid}
+use Rattle.arj_protocol.specs.Words.{Body, Event, Header, Kind, Label, Line, Uid, label_cmp}
 use Rattle.arj_protocol.specs.Words.body
 use Rattle.arj_protocol.specs.Words.event
 use Rattle.arj_protocol.specs.Words.kind
@@ -178,11 +181,11 @@ quiet_line_writes w v adds = by v.full refl
 
 -- ---- why an event is refused
 
-first_not : (c : ℕ) (b : Bool) (rs : List (ℕ × Bool)) → first_reason ((c, b) ∷ rs) ≡ None → (b ≡ false) × (first_reason rs ≡ None)
+pub first_not : (c : ℕ) (b : Bool) (rs : List (ℕ × Bool)) → first_reason ((c, b) ∷ rs) ≡ None → (b ≡ false) × (first_reason rs ≡ None)
 first_not c true rs none = absurd (cc none)
 first_not c false rs none = (refl, none)
 
-not_not : (b : Bool) → not b ≡ false → b ≡ true
+pub not_not : (b : Bool) → not b ≡ false → b ≡ true
 not_not true is = refl
 not_not false is = absurd (cc is)
 
@@ -209,9 +212,17 @@ begins_writes e w g whole there halts own = by (refused_at (input.Begin g.label 
         (node_says (Begun g.label g.kind g.parent) g.node i (counted w) (whole.nodes g.node there) (λ n is. begin_says g.label g.kind g.parent w.header n)) (begun_answers e w g.label g.kind g.parent own) halts
 
 -- the node of a label that was given
-given_node : (w : World) (p : Label) → IsWhole w → is_given p w ≡ true → is_node (node_of p w) w ≡ true
-given_node w p whole given = by (labelled p w) given (whole.labels p)
+pub given_node : (w : World) (p : Label) → IsWhole w → is_given p w ≡ true → is_node (node_of p w) w ≡ true
+given_node w p whole given = by (labelled p w) given (found_label w.labels (is_at (label_cmp p)) whole.labels)
   where
+    found_label : (ls : List (Label × Labelled)) (test : Label → Bool) → AllByRecursion (λ (e : Label × Labelled). is_node e.1.node w ≡ true) ls → IfSome (lookup test ls) (λ g. is_node g.node w ≡ true)
+    found_label [] test all = tt
+    found_label (e ∷ es) test all = here (test e.0) (found_label es test all.1)
+      where
+        here : (b : Bool) → IfSome (lookup test es) (λ g. is_node g.node w ≡ true) → IfSome (cond b (Some e.1) (lookup test es)) (λ g. is_node g.node w ≡ true)
+        here true rest = all.0
+        here false rest = rest
+
     by : (o : Option Labelled) → is_some o ≡ true → IfSome o (λ g. is_node g.node w ≡ true) → is_node (node_in o) w ≡ true
     by None isnt good = absurd (cc isnt)
     by (Some g) is good = good

@@ -1,20 +1,21 @@
 -- Which line an event writes.
-use Rattle.std.specs.Prelude.{◌≡◌, ◌+◌, ℕ, Bool, true, false, List, ◌∷◌, ◌++◌, length, None, Some, IfSome, is_some}
+use Rattle.std.specs.Prelude.{◌≡◌, ◌+◌, ℕ, Bool, true, false, List, ◌∷◌, ◌++◌, length, None, Some, is_some}
+use Rattle.std.specs.List.{AllByRecursion}
 use Rattle.arj_protocol.specs.Step.{Node}
 use Rattle.arj_protocol.specs.Tree.{at_place}
-use Rattle.arj_protocol.specs.Words.{Body, Event, Label, Line, Uid}
+use Rattle.arj_protocol.specs.Words.{Body, Event, Header, Label, Line, Uid}
 use Rattle.arj_protocol.specs.Words.body
 use Rattle.arj_protocol.specs.Words.event
 use Rattle.arj_protocol.specs.Words.frame
 use Rattle.arj_protocol.specs.Words.which
-use Rattle.arj_protocol.specs.World.{Asked, World, frame_number, is_node, kind_below, labelled, node_of, run_event}
+use Rattle.arj_protocol.specs.World.{Asked, Labelled, World, frame_number, format, is_node, kind_below, node_of, run_all, run_event}
 use Rattle.arj_protocol.specs.Words.kind
 
 -- the world has each node of its header at its number's place, and labels are of actions of these
 pub record IsWhole (w : World) : Type 0 where
   pub nodes : (n : ℕ) → is_node n w ≡ true → is_some (at_place n w.nodes) ≡ true
   pub numbers : (n : ℕ) (m : Node) → at_place n w.nodes ≡ Some m → m.number ≡ n
-  pub labels : (l : Label) → IfSome (labelled l w) (λ g. is_node g.node w ≡ true)
+  pub labels : AllByRecursion (λ (e : Label × Labelled). is_node e.1.node w ≡ true) w.labels
 
 -- The line is the event's own. Events that may have none, or many, are left out: calls and includes, which may wait, ticks, settles
 -- and shows, deliveries, which a frame to no node leaves without one, and ends, whose lines go by the labels that a
@@ -74,3 +75,7 @@ pub record Writes (e : Event) (old new : World) : Type 0 where
 
 abbrev pub EventsWriteTheirLines : Type 0
 EventsWriteTheirLines = (e : Asked) (w : World) → IsWhole w → w.over ≡ false → has_own e.event ≡ true → Writes e.event w (run_event e w)
+
+-- in every run
+abbrev pub RunsAreWhole : Type 0
+RunsAreWhole = (hd : Header) (es : List Asked) → IsWhole (run_all es (format hd))

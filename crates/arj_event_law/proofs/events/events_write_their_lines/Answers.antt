@@ -1,5 +1,9 @@
 use Rattle.arj_event_law.proofs.Spoken.{event_writes}
+use Rattle.arj_event_law.proofs.Whole.{runs_whole}
 use Rattle.arj_event_law.proofs.events.events_write_their_lines.Goals as goal
 
-pub returns : goal.returns
-returns c = record { lines = event_writes }
+pub returns-clause-lines : goal.returns-clause-lines
+returns-clause-lines c = event_writes
+
+pub returns-clause-whole : goal.returns-clause-whole
+returns-clause-whole c = runs_whole
