@@ -12,10 +12,11 @@ use Rattle.arj_protocol.specs.Step.{Node, Input, acts, begin_refusal, parent_of,
 use Rattle.arj_protocol.specs.Tree.{next_uid, path_below}
 use Rattle.arj_protocol.specs.Values.{state_entry}
 use Rattle.arj_protocol.specs.World.{format, is_serial_kind, run_all}
-use Rattle.arj_part_law.specs.Actions.{Action, act_of}
+use Rattle.arj_part_law.specs.Actions.{Action, act_of, paths_of}
+use Rattle.arj_part_law.proofs.Begun.{begun_tree}
 use Rattle.arj_run_law.specs.Worlds.{IsGoodOf}
 use Rattle.arj_run_law.proofs.Begins.{begin_good, its_node, its_uid}
-use Rattle.arj_run_law.proofs.Handled.{act_good, message_good, stopped_good, tick_good}
+use Rattle.arj_run_law.proofs.Handled.{act_good, good_coord, message_good, stopped_good, tick_good}
 use Rattle.arj_run_law.proofs.Starts.{first_of, restart_good}
 use Rattle.arj_disk_law.specs.Effects.{World}
 use Rattle.arj_disk_law.specs.State as disk
@@ -44,9 +45,12 @@ use Rattle.arj_disk_view_law.proofs.TickWalks.{ticks_are_walked}
 use Rattle.arj_disk_view_law.proofs.WholeWalks.{acts_are_walked, messages_are_walked}
 use Rattle.arj_disk_run_law.specs.Facts.{Gives}
 use Rattle.arj_disk_run_law.specs.Kinds.{Agrees, AreOfOneNode, kinds_of}
+use Rattle.arj_disk_run_law.specs.Records.{AreRecorded}
 use Rattle.arj_disk_run_law.specs.Runs.{CopiesAgree, HasState, IsSeenInRun, RunsAgree}
 use Rattle.arj_disk_run_law.proofs.Begun.{kinds_agree}
 use Rattle.arj_disk_run_law.proofs.Known.{knows_node}
+use Rattle.arj_disk_run_law.proofs.RecordWalks.{KeptBy, format_recorded, kept_walk, message_kept, recorded_more, restart_recorded, stop_recorded, tick_kept}
+use Rattle.arj_disk_run_law.proofs.Telling.{acked_kept, acts_kept, heard_kept, same_kept}
 
 -- ---- what is walked through
 
@@ -61,14 +65,15 @@ module _ (R : Seen → Type 0) (x : ℕ) (begun : List Action) (home : AreOfOneN
   abbrev All_seen : Seen → Type 0
   All_seen N = (p : Kept_kinds) → IsSeenByDisks x p.0 N
 
-  all_walk : Walks (IsGoodOf begun) e k outs (Up (IsGoodOf begun) k v) d M → Walks R e k outs (Up R k v) d M → ((tops : Kinds) → Agrees tops begun → Walks (IsSeenByDisks x tops) e k outs (Up (IsSeenByDisks x tops) k v) d M)
+  all_walk : Walks (IsGoodOf begun) e k outs (Up (IsGoodOf begun) k v) d M → Walks (AreRecorded begun) e k outs (Up (AreRecorded begun) k v) d M → Walks R e k outs (Up R k v) d M → ((tops : Kinds) → Agrees tops begun → Walks (IsSeenByDisks x tops) e k outs (Up (IsSeenByDisks x tops) k v) d M)
       → Walks (IsSeenInRun R x) e k outs (Up (IsSeenInRun R x) k v) d M
-  all_walk good rest seen =
+  all_walk good recs rest seen =
       let each : Walks All_seen e k outs (λ c N. (p : Kept_kinds) → Up (IsSeenByDisks x p.0) k v c N) d M = walks_each {A = Kept_kinds} Seen_by e k outs (λ p. Up (IsSeenByDisks x p.0) k v) d M (λ p. seen p.0 p.1) in
-      let two = walks_both (IsGoodOf begun) R e k outs (Up (IsGoodOf begun) k v) (Up R k v) d M good rest in
-      let three = walks_both (λ N. IsGoodOf begun N × R N) All_seen e k outs (λ c N. Up (IsGoodOf begun) k v c N × Up R k v c N) (λ c N. (p : Kept_kinds) → Up (IsSeenByDisks x p.0) k v c N) d M two each in
-      walks_to (λ N. (IsGoodOf begun N × R N) × All_seen N) (IsSeenInRun R x) e k outs (λ c N. (Up (IsGoodOf begun) k v c N × Up R k v c N) × ((p : Kept_kinds) → Up (IsSeenByDisks x p.0) k v c N)) (Up (IsSeenInRun R x) k v) d M
-      (λ N h. (begun, (h.0.0, home, h.0.1, λ tops agree. h.1 (tops, agree)))) (λ c N h. (begun, (h.0.0, home, h.0.1, λ tops agree. h.1 (tops, agree)))) three
+      let one = walks_both (IsGoodOf begun) (AreRecorded begun) e k outs (Up (IsGoodOf begun) k v) (Up (AreRecorded begun) k v) d M good recs in
+      let two = walks_both (λ N. IsGoodOf begun N × AreRecorded begun N) R e k outs (λ c N. Up (IsGoodOf begun) k v c N × Up (AreRecorded begun) k v c N) (Up R k v) d M one rest in
+      let three = walks_both (λ N. (IsGoodOf begun N × AreRecorded begun N) × R N) All_seen e k outs (λ c N. (Up (IsGoodOf begun) k v c N × Up (AreRecorded begun) k v c N) × Up R k v c N) (λ c N. (p : Kept_kinds) → Up (IsSeenByDisks x p.0) k v c N) d M two each in
+      walks_to (λ N. ((IsGoodOf begun N × AreRecorded begun N) × R N) × All_seen N) (IsSeenInRun R x) e k outs (λ c N. ((Up (IsGoodOf begun) k v c N × Up (AreRecorded begun) k v c N) × Up R k v c N) × ((p : Kept_kinds) → Up (IsSeenByDisks x p.0) k v c N)) (Up (IsSeenInRun R x) k v) d M
+      (λ N h. (begun, (h.0.0.0, home, h.0.0.1, h.0.1, λ tops agree. h.1 (tops, agree)))) (λ c N h. (begun, (h.0.0.0, home, h.0.0.1, h.0.1, λ tops agree. h.1 (tops, agree)))) three
 
 -- ---- an action that begins
 
@@ -80,20 +85,23 @@ module _ (hd : Header) (x : ℕ) (has_it : HasObject hd x) (R : Seen → Type 0)
   P = IsSeenInRun R x
 
   message_keeps : (e k : ℕ) (d : Disk) (t v : Parts) (from : ℕ) (m : Message) (outs : List Effect) (M : Seen) → P (up k d t M) → In (record { from = from; to = k; message = m }) M.sent → handle k d t from m ≡ Took v outs → Walks P e k outs (Up P k v) d M
-  message_keeps e k d t v from m outs M (begun, h) sent is = all_walk R x begun h.1 e k outs v d M (message_good e k d t M (begun, h.0) v from m outs sent is) (kept.message e k d t v from m outs M h.2 sent is)
-      (λ tops agree. let s = h.3 tops agree in messages_are_walked x tops e k d t v from m outs M (knows_node tops begun k d t M h.0 agree (gives.node tops begun k d t M h.2 h.0 agree)) sent s.0 s.1 (gives.booked x tops k d t M from m s.0 h.2 sent s.1) is)
+  message_keeps e k d t v from m outs M (begun, h) sent is = all_walk R x begun h.1 e k outs v d M (message_good e k d t M (begun, h.0) v from m outs sent is)
+      (kept_walk begun e k d t v outs M (subst (KeptBy begun t.coord) is (message_kept begun k d t from (λ a r. heard_kept begun (paths_of begun) (begun_tree begun h.0.begun) from a r d.intents t.coord (good_coord e k d t M (begun, h.0))) (λ u. acked_kept begun from u d.intents t.coord) m)) h.2) (kept.message e k d t v from m outs M h.3 sent is)
+      (λ tops agree. let s = h.4 tops agree in messages_are_walked x tops e k d t v from m outs M (knows_node tops begun k d t M h.0 agree h.2 (gives.node tops begun k d t M h.3 h.0 agree)) sent s.0 s.1 (gives.booked x tops k d t M from m s.0 h.3 sent s.1) is)
 
   act_keeps : (e k : ℕ) (d : Disk) (t : Parts) (i : Input) (M : Seen) → is_act i ≡ true → refusal_up hd i t.coord ≡ None → P (up k d t M) → DidKeeps P e k d t (acts i d.intents t.coord) M
   act_keeps e k d t i M is free (begun, h) = let did = acts i d.intents t.coord in
-      all_walk R x begun h.1 e k did.outs (with_coord t did.part) d M (act_good e k d t M (begun, h.0) hd i is free) (kept.act e k d t i M is free h.2)
-      (λ tops agree. let s = h.3 tops agree in let n = knows_node tops begun k d t M h.0 agree (gives.node tops begun k d t M h.2 h.0 agree) in acts_are_walked hd x tops e k d t i M n.kinds n.coord is free s.0 s.1)
+      all_walk R x begun h.1 e k did.outs (with_coord t did.part) d M (act_good e k d t M (begun, h.0) hd i is free)
+      (kept_walk begun e k d t (with_coord t did.part) did.outs M (acts_kept begun (paths_of begun) (begun_tree begun h.0.begun) d.intents t.coord (good_coord e k d t M (begun, h.0)) hd i free) h.2) (kept.act e k d t i M is free h.3)
+      (λ tops agree. let s = h.4 tops agree in let n = knows_node tops begun k d t M h.0 agree h.2 (gives.node tops begun k d t M h.3 h.0 agree) in acts_are_walked hd x tops e k d t i M n.kinds n.coord is free s.0 s.1)
 
   begin_keeps : (e k : ℕ) (d : Disk) (t : Parts) (l : Label) (how : Kind) (parent : Option Label) (M : Seen) → label_at l M.labels ≡ None → MayGive M.labels k how parent → begin_refusal how t.coord parent ≡ None
       → P (up k d t M) → DidKeeps P e k d t (begin_action l how parent (parent_of parent t.coord) t.coord) (given l (record { node = k; serial = is_serial_kind how }) M)
   begin_keeps e k d t l how parent M new may free (begun, h) =
       let did = begin_action l how parent (parent_of parent t.coord) t.coord in
-      all_walk R x (a ∷ begun) home e k did.outs (with_coord t did.part) d (given l (record { node = k; serial = is_serial_kind how }) M) (begin_good e k d t l how parent M new may free (begun, h.0)) (kept.begin e k d t l how parent M new may free h.2)
-      (λ tops agree. let less = agree_less a begun tops agree in let s = h.3 tops less in let n = knows_node tops begun k d t M h.0 less (gives.node tops begun k d t M h.2 h.0 less) in
+      all_walk R x (a ∷ begun) home e k did.outs (with_coord t did.part) d (given l (record { node = k; serial = is_serial_kind how }) M) (begin_good e k d t l how parent M new may free (begun, h.0))
+      (kept_walk (a ∷ begun) e k d t (with_coord t did.part) did.outs (given l (record { node = k; serial = is_serial_kind how }) M) (same_kept (a ∷ begun) t.coord did.part did.outs refl refl) (recorded_more a begun (up k d t M) h.2)) (kept.begin e k d t l how parent M new may free h.3)
+      (λ tops agree. let less = agree_less a begun tops agree in let s = h.4 tops less in let n = knows_node tops begun k d t M h.0 less h.2 (gives.node tops begun k d t M h.3 h.0 less) in
       actions_begin x tops e k d t l (record { node = k; serial = is_serial_kind how }) how parent (parent_of parent t.coord) M n.coord
       (subst (λ u. IsOfKind tops u how (path_below how (parent_of parent t.coord) (next_uid t.coord.tree))) uid (agree.each a (in_to a (a ∷ begun) (inl refl))).0) s.0 s.1)
     where
@@ -110,20 +118,21 @@ module _ (hd : Header) (x : ℕ) (has_it : HasObject hd x) (R : Seen → Type 0)
           newest w on = let q = its_node e k d t l how parent M new may free (begun, h.0) w on in (q.0 ∙ sym (ap (λ (u : Uid). u.node) uid), q.1 ∙ sym (ap (λ (u : Uid). u.inc) uid))
 
   tick_keeps : (e k : ℕ) (d : Disk) (t : Parts) (M : Seen) → P (up k d t M) → Walks P e k (tick_outs (record { number = k; disk = d; live = Some t }) t) (Up P k (with_coord t (again_all t.coord.doings t.coord).part)) d M
-  tick_keeps e k d t M (begun, h) = all_walk R x begun h.1 e k (tick_outs (record { number = k; disk = d; live = Some t }) t) (with_coord t (again_all t.coord.doings t.coord).part) d M (tick_good e k d t M (begun, h.0)) (kept.tick e k d t M h.2)
-      (λ tops agree. let s = h.3 tops agree in let n = knows_node tops begun k d t M h.0 agree (gives.node tops begun k d t M h.2 h.0 agree) in ticks_are_walked x tops e k d t M n.coord n.begun s.0 s.1)
+  tick_keeps e k d t M (begun, h) = all_walk R x begun h.1 e k (tick_outs (record { number = k; disk = d; live = Some t }) t) (with_coord t (again_all t.coord.doings t.coord).part) d M (tick_good e k d t M (begun, h.0))
+      (kept_walk begun e k d t (with_coord t (again_all t.coord.doings t.coord).part) (tick_outs (record { number = k; disk = d; live = Some t }) t) M (tick_kept begun k d t) h.2) (kept.tick e k d t M h.3)
+      (λ tops agree. let s = h.4 tops agree in let n = knows_node tops begun k d t M h.0 agree h.2 (gives.node tops begun k d t M h.3 h.0 agree) in ticks_are_walked x tops e k d t M n.coord n.begun s.0 s.1)
 
   pub all_keep : Keeps hd P
   all_keep = record {
-    quiet = λ e bs M quiet p. let h = p.1 in (p.0, (h.0, h.1, kept.quiet e bs M quiet h.2, λ tops agree. lines_seen x tops e bs M (h.3 tops agree)));
-    stop = λ e k d live M p. let h = p.1 in (p.0, (stopped_good k d live M (p.0, h.0) e, h.1, kept.stop e k d live M h.2, λ tops agree. stops_seen x tops e k d live M (h.3 tops agree)));
+    quiet = λ e bs M quiet p. let h = p.1 in (p.0, (h.0, h.1, h.2, kept.quiet e bs M quiet h.3, λ tops agree. lines_seen x tops e bs M (h.4 tops agree)));
+    stop = λ e k d live M p. let h = p.1 in (p.0, (stopped_good k d live M (p.0, h.0) e, h.1, stop_recorded p.0 e k d live M h.2, kept.stop e k d live M h.3, λ tops agree. stops_seen x tops e k d live M (h.4 tops agree)));
     message = message_keeps;
     act = act_keeps;
     begin = begin_keeps;
     tick = tick_keeps;
-    restart = λ e k d M p. let h = p.1 in all_walk R x p.0 h.1 e k (restart_outs hd k (d.inc + 1) d) (parts_in k (d.inc + 1) d) d M (restart_good hd e k d M (p.0, h.0)) (kept.restart e k d M h.2)
-        (λ tops agree. let s = h.3 tops agree in restarts_are_walked x tops e k hd d M (gives.prepared k d M h.2) s.0 s.1);
-    first = ([], (first_of hd, (λ a w c on. absurd (in_from a [] c)), kept.first, λ tops agree. formats_are_seen hd x tops has_it));
+    restart = λ e k d M p. let h = p.1 in all_walk R x p.0 h.1 e k (restart_outs hd k (d.inc + 1) d) (parts_in k (d.inc + 1) d) d M (restart_good hd e k d M (p.0, h.0)) (restart_recorded p.0 hd e k d M h.2) (kept.restart e k d M h.3)
+        (λ tops agree. let s = h.4 tops agree in restarts_are_walked x tops e k hd d M (gives.prepared k d M h.3) s.0 s.1);
+    first = ([], (first_of hd, (λ a w c on. absurd (in_from a [] c)), format_recorded hd, kept.first, λ tops agree. formats_are_seen hd x tops has_it));
   }
 
 -- ---- copies agree
@@ -149,5 +158,5 @@ runs_agree hd x has_it test kept gives es =
     let r = runs_hold hd (IsSeenInRun (λ M. test M ≡ true) x) (all_keep hd x has_it (λ M. test M ≡ true) kept gives) es in
     let h = r.holds in
     let g = h.1 in
-    let s = g.3 (kinds_of h.0) (kinds_agree h.0 g.0.begun g.1) in
+    let s = g.4 (kinds_of h.0) (kinds_agree h.0 g.0.begun g.1) in
     record { sent = r.sent; stands = r.stands; holds = copies_agree x (kinds_of h.0) s.0 (see r.sent (run_all es (format hd))) s.1 }

@@ -1,6 +1,7 @@
 -- What the disk half of the view takes of the protocol alone, from good nodes and the rest.
 use Rattle.std.proofs.Common.{◌≡◌, ◌≢◌, ℕ, zero, suc, List, [], ◌∷◌, Bool, true, false, Option, Some, None, refl, sym, ◌∙◌, ap, subst, inl, inr, ⊎_elim, slice_get, length}
 use Rattle.std.specs.Prelude.{if◌then◌else◌, not, is_some, take}
+use Rattle.std.specs.List.{AllByRecursion}
 use Rattle.arj_lock.proofs.Members.{In, in_to}
 use Rattle.arj_base.proofs.Uids.{uid_cases}
 use Rattle.arj_base.specs.Path.{before_last}
@@ -24,9 +25,11 @@ use Rattle.arj_view_law.specs.Seen.{Seen, up}
 use Rattle.arj_disk_view_law.specs.Coordinating.{KnowsNode}
 use Rattle.arj_disk_view_law.specs.Knows.{IsOfKind, IsOpenSerial, KnowsCoord, KnowsMachine, KnowsPlan, KnowsSteps}
 use Rattle.arj_disk_view_law.specs.Sees.{Kinds}
+use Rattle.arj_disk_view_law.proofs.Frames.{node_here}
 use Rattle.arj_disk_view_law.proofs.Keys as keys
 use Rattle.arj_disk_run_law.specs.Facts.{HasRest}
 use Rattle.arj_disk_run_law.specs.Kinds.{Agrees, is_top_kind}
+use Rattle.arj_disk_run_law.specs.Records.{AreRecorded, HaveRecords, IsRecorded}
 use Rattle.arj_disk_run_law.proofs.Begun.{Stood, root_on, stood}
 
 -- a list that is as long has something at the place too
@@ -48,11 +51,16 @@ at_in {X} u x (e ∷ es) is = ⊎_elim
     (λ (other : u ≢ e.0). inr (at_in u x es (sym (keys.at_there u e.0 e.1 es other) ∙ is)))
     (uid_cases u e.0)
 
+-- each of what is told again has its record
+all_told : (intents telling : List (Uid × Intent)) → HaveRecords intents telling → AllByRecursion (λ (e : Uid × Intent). (i : Intent) × (at_uid e.0 intents ≡ Some i)) telling
+all_told intents [] held = tt
+all_told intents (e ∷ es) held = (held e.0 e.1 (keys.at_here e.0 e.1 es), all_told intents es (λ u j is. ⊎_elim (λ (same : u ≡ e.0). held u e.1 (ap (λ w. at_uid w (e ∷ es)) same ∙ keys.at_here e.0 e.1 es)) (λ (other : u ≢ e.0). held u j (keys.at_there u e.0 e.1 es other ∙ is)) (uid_cases u e.0)))
+
 unended : (o : Option End) → is_some o ≡ false → o ≡ None
 unended None h = refl
 unended (Some how) h = absurd (cc h)
 
-module _ (tops : Kinds) (acts : List Action) (k : ℕ) (d : Disk) (t : Parts) (M : Seen) (good : IsGoodOf acts (up k d t M)) (agree : Agrees tops acts) (rest : HasRest tops k d t M) where
+module _ (tops : Kinds) (acts : List Action) (k : ℕ) (d : Disk) (t : Parts) (M : Seen) (good : IsGoodOf acts (up k d t M)) (agree : Agrees tops acts) (recs : AreRecorded acts (up k d t M)) (rest : HasRest tops k d t M) where
   mine : IsUp acts M.sent M.labels k d.inc t
   mine = it 0 k d t M (acts, good)
 
@@ -209,6 +217,17 @@ module _ (tops : Kinds) (acts : List Action) (k : ℕ) (d : Disk) (t : Parts) (M
       let a = subst (λ n. IsBusy t.coord.tree u n) is (coord.busy u q does) in
       record { branch = a.branch; found = a.found; unended = unended a.branch.ended a.opened; actor_is = ap actor (sym a.path) ∙ path u a.branch a.found }
 
+  -- ---- records
+
+  mine_recorded : IsRecorded acts (record { number = k; disk = d; live = Some t })
+  mine_recorded = recs k (record { number = k; disk = d; live = Some t }) (node_here M k (record { number = k; disk = d; live = Some t }))
+
+  awaited : HaveRecords d.intents t.coord.telling
+  awaited = (mine_recorded.live t refl).0
+
+  rooted : (u : Uid) (i : Intent) → at_uid u d.intents ≡ Some i → tops.root (uid_number u) ≡ uid_number i.root
+  rooted u i is = let r = (let q = mine_recorded.disk in q.each u i is) in ap (λ w. tops.root (uid_number w)) (sym r.2) ∙ (agree.each r.0 r.1).1 ∙ ap uid_number r.3
+
   knows_coord : KnowsCoord tops d.intents t.coord
   knows_coord = record {
     path = path;
@@ -218,14 +237,14 @@ module _ (tops : Kinds) (acts : List Action) (k : ℕ) (d : Disk) (t : Parts) (M
     stem = stem;
     at_work = at_work;
     unrecorded = unrecorded;
-    awaited = rest.awaited;
-    rooted = rest.rooted;
+    awaited = awaited;
+    rooted = rooted;
     machines = machines;
     starts = starts;
     above = above;
     steps = steps;
     as_long = mine.faithful.works;
-    telling_there = rest.told;
+    telling_there = all_told d.intents t.coord.telling (awaited);
   }
 
   pub knows_node : KnowsNode tops k d t M

@@ -1,3 +1,6 @@
 pub mod Begun
 pub mod Kept
 pub mod Known
+pub mod Plain
+pub mod RecordWalks
+pub mod Telling

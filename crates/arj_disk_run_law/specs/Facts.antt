@@ -5,10 +5,10 @@ use Rattle.arj_protocol.specs.Words.{Uid, Message, asks}
 use Rattle.arj_protocol.specs.Words.message
 use Rattle.arj_protocol.specs.Commit as commit
 use Rattle.arj_protocol.specs.Coord.{Doing, Committing, doing_of, root_at, plan_for}
-use Rattle.arj_protocol.specs.Effect.{Disk, Intent}
+use Rattle.arj_protocol.specs.Effect.{Disk}
 use Rattle.arj_protocol.specs.Naming.{Naming}
 use Rattle.arj_protocol.specs.Node.{Parts, holders, prepared_actions}
-use Rattle.arj_protocol.specs.Order.{at_uid, uid_number, uid_set}
+use Rattle.arj_protocol.specs.Order.{uid_number, uid_set}
 use Rattle.arj_protocol.specs.Tree.{Branch, branch_of, root_of}
 use Rattle.arj_part_law.specs.Actions.{Action}
 use Rattle.arj_run_law.specs.Worlds.{IsGoodOf}
@@ -30,13 +30,9 @@ pub record IsSound (m : commit.Machine) : Type 0 where
   pub more : List commit.Used
   pub uses : (let p = commit.plan_of m in p.used) ≡ used ∷ more
 
--- Of a node that is up: what is told again has its record, and a record has its top's root; commits are sound, and so is what
--- a top may begin with; who is asked about has begun, by the lines; and naming is at node 1, where an end takes no rows but of
--- its own constituents.
+-- Of a node that is up: commits are sound, and so is what a top may begin with; who is asked about has begun, by the lines; and
+-- naming is at node 1, where an end takes no rows but of its own constituents.
 pub record HasRest (tops : Kinds) (k : ℕ) (d : Disk) (t : Parts) (M : Seen) : Type 0 where
-  pub awaited : (u : Uid) (j : Intent) → at_uid u t.coord.telling ≡ Some j → (i : Intent) × (at_uid u d.intents ≡ Some i)
-  pub told : AllByRecursion (λ (e : Uid × Intent). (i : Intent) × (at_uid e.0 d.intents ≡ Some i)) t.coord.telling
-  pub rooted : (u : Uid) (i : Intent) → at_uid u d.intents ≡ Some i → tops.root (uid_number u) ≡ uid_number i.root
   pub sound : (u : Uid) (q : Doing) (m : commit.Machine) → doing_of u t.coord ≡ Some q → q.now ≡ Committing m → IsSound m
   pub starts : (u : Uid) (b : Branch) (req : ℕ) → branch_of u t.coord.tree ≡ Some b → tops.is_top (uid_number u) ≡ true → IsTidy (plan_for b.path req (root_at (root_of b.path) t.coord) t.coord)
   pub begun : AllByRecursion (λ u. was_begun u M.lines ≡ true) (holders d t)

@@ -1,3 +1,4 @@
 pub mod Facts
 pub mod Kinds
+pub mod Records
 pub mod Runs

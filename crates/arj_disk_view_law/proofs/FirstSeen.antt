@@ -114,7 +114,7 @@ number_at : (n k j : ℕ) → slice_get (numbers_to n) k ≡ Some j → j ≡ su
 number_at zero k j is = absurd (cc is)
 number_at (suc n) k j is = ⊎_elim (λ old. number_at n k j old) (λ new. sym new.1 ∙ ap suc (sym (new.0 ∙ as_many n))) (got_behind (numbers_to n) (suc n) k j is)
 
-first_at : (hd : Header) (k : ℕ) (n : Node) → at_place k (map (first_node hd) (numbers_to hd.nodes)) ≡ Some n → first_node hd k ≡ n
+pub first_at : (hd : Header) (k : ℕ) (n : Node) → at_place k (map (first_node hd) (numbers_to hd.nodes)) ≡ Some n → first_node hd k ≡ n
 first_at hd zero n is = let no_way : ◌≡◌ {A = Option Node} None (Some n) = is in cc
 first_at hd (suc k) n is = let q = got_map (first_node hd) (numbers_to hd.nodes) k n is in ap (first_node hd) (sym (number_at hd.nodes k q.0 q.1)) ∙ q.2
 

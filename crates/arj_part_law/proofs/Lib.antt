@@ -10,7 +10,7 @@ mod EntryLocks
 mod Gone
 mod GoodCalls
 mod GoodConfirm
-mod GoodCoords
+pub mod GoodCoords
 mod GoodCopies
 mod GoodEnds
 pub mod GoodNodes

@@ -80,17 +80,17 @@ module _ (acts_all : List Action) where
 
 -- ---- what stays as it was
 
-doing_telling : (u : Uid) (f : Doing → Doing) (c : Coord) → (on_doing u f c).telling ≡ c.telling
+pub doing_telling : (u : Uid) (f : Doing → Doing) (c : Coord) → (on_doing u f c).telling ≡ c.telling
 doing_telling u f c = by (doing_of u c)
   where
     by : (o : Option Doing) → (change_doing f u c o).telling ≡ c.telling
     by None = refl
     by (Some d) = refl
 
-goes_telling : (s : Steps) (c : Coord) → (let d = goes_on s c in let e = d.part in e.telling) ≡ c.telling
+pub goes_telling : (s : Steps) (c : Coord) → (let d = goes_on s c in let e = d.part in e.telling) ≡ c.telling
 goes_telling s c = doing_telling (actor s.path) (λ (d : Doing). record d { req = s.req; now = Calling s }) c
 
-step_telling : (s : Steps) (t : CallStep) (c : Coord) → (let d = step_call s t c in let e = d.part in e.telling) ≡ c.telling
+pub step_telling : (s : Steps) (t : CallStep) (c : Coord) → (let d = step_call s t c in let e = d.part in e.telling) ≡ c.telling
 step_telling s (On at) c = goes_telling (record s { req = s.req + 1; at = at }) c
 step_telling s (Ended e) c = by e
   where
@@ -108,14 +108,14 @@ step_telling s (Ended e) c = by e
     by (Lost n false) = same
     by (Lost n true) = same
 
-asks_telling : (p : Path) (req : ℕ) (as_asked : List (ℕ × Ask)) (c : Coord) → (let d = asks_all p req as_asked c in let e = d.part in e.telling) ≡ c.telling
+pub asks_telling : (p : Path) (req : ℕ) (as_asked : List (ℕ × Ask)) (c : Coord) → (let d = asks_all p req as_asked c in let e = d.part in e.telling) ≡ c.telling
 asks_telling p req [] c = refl
 asks_telling p req (a ∷ rest) c = asks_telling p req rest (asks_node p req a c).part
 
-ended_telling : (u : Uid) (c : Coord) → (e : End) → (ended u e c).telling ≡ c.telling
+pub ended_telling : (u : Uid) (c : Coord) → (e : End) → (ended u e c).telling ≡ c.telling
 ended_telling u c e = doing_telling u (λ (d : Doing). record d { now = Idle }) (record c { tree = ended_at u e c.tree })
 
-aborted_telling : (us : List Uid) (c : Coord) → (let d = all_aborted us c in let e = d.part in e.telling) ≡ c.telling
+pub aborted_telling : (us : List Uid) (c : Coord) → (let d = all_aborted us c in let e = d.part in e.telling) ≡ c.telling
 aborted_telling [] c = refl
 aborted_telling (u ∷ us) c = aborted_telling us (ended u ending.Abort c) ∙ ended_telling u c ending.Abort
 
