@@ -1,13 +1,12 @@
 -- Records of commits without one of them.
-use Rattle.std.proofs.Common.{◌≡◌, ℕ, List, [], ◌∷◌, Bool, true, false, not, refl, ap, sym, ◌∙◌, ◌&&◌, ◌||◌, cond, subst}
+use Rattle.std.proofs.Common.{◌≡◌, ℕ, List, [], ◌∷◌, Bool, true, false, refl, ap, sym, ◌∙◌, ◌||◌, cond, subst}
 use Rattle.std.specs.List.{list_any, AllByRecursion}
 use Rattle.std.specs.List.Sorted.{IsStrictlySortedBy}
 use Rattle.std.specs.Map.{keys_of}
-use Rattle.std.specs.BTreeMap.{is_at}
 use Rattle.std.specs.declared.cmp.Ordering.{Ordering}
 use Rattle.std.specs.declared.cmp.Ordering.TheVariants.{Less, Equal, Greater}
 use Rattle.std.specs.Ordering.{is_eq}
-use Rattle.arj_coord.specs.Ended.{is_other_member, deferred_but}
+use Rattle.arj_coord.specs.Ended.{deferred_but}
 use Rattle.arj_base.proofs.Uids.{uid_same, uid_is}
 use Rattle.arj_intent.proofs.Entries.{order_exact, order_itself}
 use Rattle.arj_protocol.specs.Effect.{Intent}

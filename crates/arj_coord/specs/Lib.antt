@@ -1,3 +1,5 @@
 pub mod Ended
+pub mod Fits
+pub mod Refusals
 pub mod Shown
 pub mod Waiting

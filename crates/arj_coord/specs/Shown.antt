@@ -1,6 +1,4 @@
 -- What the coordinator's enums are as the protocol has them.
-use Rattle.std.specs.Prelude.{ℕ, List, [], ◌∷◌, ◌++◌, map, Option, Some, None}
-use Rattle.std.specs.List.{AllByRecursion}
 use Rattle.arj_commit.specs.Steps.{voting, preparing}
 use Rattle.arj_coord.specs.declared.effect.Effect.{Effect}
 use Rattle.arj_coord.specs.declared.ending.EndLine.{EndLine}

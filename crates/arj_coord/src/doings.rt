@@ -2,7 +2,7 @@
 ghost use Rattle.std.specs.Prelude.{◌≡◌, ◌<◌, [], ◌∷◌, ◌++◌, suc, None, not, length, IfOk, OnOk, OnErr, MatchOption, option_copied};
 ghost use Rattle.std.specs.List.{list_any};
 ghost use Rattle.arj_coord.specs.Shown.{now_of};
-ghost use Rattle.arj_coord.specs.Waiting.{waiting, changed_at, idle_doing, now_in};
+ghost use Rattle.arj_coord.specs.Waiting.{waiting, changed_at, idle_doing, marked, now_in};
 ghost use Rattle.arj_protocol.specs.Coord as coord;
 ghost use Rattle.arj_protocol.specs.Coord.{Idle};
 ghost use Rattle.arj_protocol.specs.Step.{is_waiting_now};
@@ -10,6 +10,7 @@ ghost use Rattle.arj_protocol.specs.Tree.{at_place};
 
 use crate::Now;
 use crate::doing::Doing;
+use crate::now::is_waiting;
 use arj_base::{NodeList, Numbers};
 use arj_journal::Label;
 use std::alloc::{AllocError, Global};
@@ -107,6 +108,19 @@ impl Doings {
         Ok(())
     }
 
+    /// The action of a number waits for this from now on, its last request having this number.
+    pub fn wait(&mut self, number: u64, req: u32, now: Now) -> Result<(), AllocError>
+        ensures kept { OnErr result (self.new ≡ self.old) }
+        ensures waits { OnOk result (self.new ≡ changed_at number (λ (d : coord.Doing). record d { req = req; now = now_of now }) self.old) }
+    {
+        let Some(place) = self.place(number) else {
+            return Ok(());
+        };
+        mark(&mut self.pending, is_waiting(&now), number)?;
+        self.all[place].wait(req, now);
+        Ok(())
+    }
+
     /// Takes out what the action of a number waits for: it waits for nothing.
     pub fn take(&mut self, number: u64) -> Now
         ensures taken { now_of result ≡ now_in (at_place number self.old) }
@@ -127,4 +141,17 @@ impl Doings {
             self.all[place].take_part(nodes);
         }
     }
+}
+
+// A number comes to those that wait, or goes.
+fn mark(pending: &mut BTreeSet<u64>, waits: bool, number: u64) -> Result<(), AllocError>
+    ensures kept { OnErr result (pending.new.keys ≡ pending.old.keys) }
+    ensures marked { OnOk result (pending.new.keys ≡ marked waits number pending.old.keys) }
+{
+    if waits {
+        pending.insert(number)?;
+    } else {
+        pending.remove(&number);
+    }
+    Ok(())
 }

@@ -1,28 +1,34 @@
-//! The parts of a node's coordinator: what it does, as effects in order; the records of its commits; its actions at work,
-//! with those that wait; and how ends are told.
+//! The coordinator of a node: its actions, what each waits for, what each root has sent and heard, and the tolds of its
+//! commits that aren't acknowledged.
 //!
-//! It is memory alone: what a call does is appended to a list of effects, which the node then does in their order. It
-//! stands on the steps of calls and commits (`arj_bind`, `arj_commit`), on `arj_intent` and the definitions of
-//! `arj_protocol`. What it gives upward: `Effects`, `Records` and `Doings` are the protocol's lists, and each call is the
-//! protocol's function on them. What waits is kept beside all that is at work.
+//! It is memory alone: what a call does is appended to a list of effects, lines, messages and work on the records of
+//! commits, which the node then does in their order. It stands on the tree of actions (`arj_tree`), what a root keeps
+//! (`arj_root`), the steps of calls and commits (`arj_bind`, `arj_commit`) and the definitions of `arj_protocol`. What it
+//! gives upward: a `Coord` is the protocol's coordinator, and each call is the protocol's function on it, part and effects.
+//! No call walks what has ended: the actions that wait are kept beside all of them.
 #![tactic(auto)]
 
+mod coord;
+mod decided;
 mod doing;
 mod doings;
 mod effect;
 mod effects;
 mod ending;
+mod ends;
+mod laws;
 mod now;
+mod questions;
 mod record;
 mod records;
+mod refusals;
 mod tolds;
 
-pub use doing::Doing;
-pub use doings::Doings;
+pub use coord::Coord;
 pub use effect::Effect;
 pub use effects::Effects;
-pub use ending::{EndLine, body};
-pub use now::{Commit, Now, calls_on, is_committing, is_waiting};
+pub use ending::EndLine;
+pub use laws::{doings_change_at_once, roots_change_at_once};
+pub use now::{Commit, Now};
 pub use record::Record;
-pub use records::{Records, record_of};
-pub use tolds::{has, not_deferred, one_end, send_all, tell, tell_all, up_to};
+pub use records::Records;

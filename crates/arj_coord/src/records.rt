@@ -7,12 +7,13 @@ ghost use Rattle.arj_coord.specs.Ended.{deferred_but};
 ghost use Rattle.arj_intent.specs.Records.{entry_of, shown};
 ghost use Rattle.arj_protocol.specs.Ending.{is_deferred, is_member_of};
 ghost use Rattle.arj_protocol.specs.Order.{at_uid, put_uid, without_uid};
-ghost use Rattle.arj_protocol.specs.Step.{tolds_again};
+ghost use Rattle.arj_protocol.specs.Step.{has_none, recovered_records, tolds_again};
 
 use crate::tolds::{has, one_end, tell_all};
 use crate::{Effects, Record};
 use arj_base::{End, Uid};
-use arj_intent::{Intent, Intents};
+use arj_intent::Intent;
+use arj_journal::Body;
 use std::alloc::{AllocError, Global};
 use std::collections::BTreeMap;
 use std::marker::Model;
@@ -78,6 +79,23 @@ impl Records {
         ensures { self.new ≡ without_uid top self.old }
     {
         self.by_top.remove(&top);
+    }
+
+    /// Whether there is none.
+    pub fn is_empty(&self) -> bool
+        ensures { result ≡ has_none self.now }
+    {
+        self.by_top.is_empty()
+    }
+
+    /// A line for each record, that it was recovered at a node.
+    pub fn recovered(&self, node: u8, outs: &mut Effects) -> Result<(), AllocError>
+        ensures { OnOk result (outs.new ≡ outs.old ++ recovered_records node self.now) }
+    {
+        for (top, _record) in self.by_top.iter() {
+            outs.say(Body::Recovered { node, action: *top })?;
+        }
+        Ok(())
     }
 
     /// Whether a record of one of the root's constituents lists the node. It walks the records.

@@ -496,8 +496,8 @@ fn alone(uid: Uid) -> Path
     Path::new(uid)
 }
 
-// Whether such an action can't begin in a parent that is or isn't a serializing action.
-fn is_misplaced(kind: Kind, serial: bool) -> bool
+/// Whether such an action can't begin in a parent that is or isn't a serializing action.
+pub fn is_misplaced(kind: Kind, serial: bool) -> bool
     ensures { (b : Branch) → serial ≡ is_serial b.kind → result ≡ is_misplaced kind b }
 {
     match kind {
