@@ -44,7 +44,7 @@ server_asked {O} {R} o m h say f is old now view s file before after answer noth
 pub naming_asked : {O R : Type 0} (o : Ghosts O) (m : Message) (h : Head) (say : R → Reply) (f : Pair → Naming → Served Naming R)
     → ((k : Kept O) (n : Naming) (d : Disk) (from : ℕ) (e : Coord) → option_map part_of k.naming ≡ Some n → served from h (with_naming (parts_with k e)) say (f d.names n) ≡ asked k.number d (parts_with k e) from m)
     → (old now : Kept O) → old ≡ now → (n k : naming.Kept O) → old.naming ≡ Some n → (file : FileMap) (before after : List Line) (answer : Option Message)
-    → VoidIsNothing n.part (f n.pair n.part) → AreLines (f n.pair n.part).outs → NamingDid (f n.pair n.part) (λ x. response (asked_by h) (say x)) n k before after answer
+    → VoidIsNothing n.part (f n.pair n.part) → AreLines (f n.pair n.part).outs → NamingDid (f n.pair n.part) (λ x. response (asked_by h) (say x)) (record { old = n; new = k; before = before; after = after }) answer
     → Serves o m (record { old = now; new = record old { naming = Some k }; file = file; left = file; before = before; after = after }) answer
 naming_asked {O} {R} o m h say f is old now view n k was file before after answer nothing said did d stands from e =
     let Goal : Kept O → Type 0 = λ s. StandsOn o s file d → IsServed o from (asked s.number d (parts_with s e) from m) e (record { old = s; new = record old { naming = Some k }; file = file; left = file; before = before; after = after }) d answer in

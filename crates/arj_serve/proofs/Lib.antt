@@ -4,7 +4,12 @@ pub mod Cuts
 pub mod Served
 pub mod Asked
 pub mod Notes
-pub mod Holders
 pub mod Objects
 pub mod Looked
 pub mod Stores
+pub mod Prepares
+pub mod Tells
+pub mod Confirms
+pub mod Owed
+pub mod Holding
+pub mod Showings

@@ -117,3 +117,9 @@ module _ {O : Type 0} (o : Ghosts O) (s : Kept O) (file : FileMap) (d : Disk) (s
 -- nothing was done on the disk of standing services
 pub left_as_was : {O : Type 0} (o : Ghosts O) (s : Kept O) (file : FileMap) → Stands o s file → Leaves o (is_some s.naming) 0 file file
 left_as_was o s file stands = nothing_left o s file stands.0 stands.1
+
+-- where the services stand, their naming does
+pub named_stands : {O : Type 0} (o : Ghosts O) (old now : Kept O) → old ≡ now → (n : naming.Kept O) → old.naming ≡ Some n → (file : FileMap) → Stands o now file → naming.StandsOn o n file
+named_stands {O} o old now view n was file (d, stands) =
+    let named : NamingStands o (Some n) file d.names = subst (λ x. NamingStands o x file d.names) (sym (ap (λ (k : Kept O). k.naming) view) ∙ was) stands.naming in
+    named.0

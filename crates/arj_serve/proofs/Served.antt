@@ -122,7 +122,7 @@ module _ {O : Type 0} (o : Ghosts O) (from : ℕ) (h : Head) (c : Coord) (call :
 
   -- what a server does is served
   pub server_served : {R : Type 0} (say : R → Reply) (r : Served Server R) (answer : Option Message) → VoidIsNothing old.server r → AreAll (is_server_effect old.number) r.outs
-      → ServerDid r (λ x. response (asked_by h) (say x)) old new call.before call.after answer → StandsOn o old call.left d
+      → ServerDid r (λ x. response (asked_by h) (say x)) call answer → StandsOn o old call.left d
       → IsServed o from (served from h (with_server (parts_with old c)) say r) c call d answer
   server_served say r answer nothing all did stands =
       part_served (λ e. with_server (parts_with old e)) old.server say r answer nothing (server_local old.number r.outs all) (place_server call r.part did.part)
@@ -146,7 +146,7 @@ module _ {O : Type 0} (o : Ghosts O) (from : ℕ) (h : Head) (c : Coord) (call :
 
   -- what naming does in memory is served
   pub noted_served : {R : Type 0} (say : R → Reply) (r : Served Naming R) (n k : naming.Kept O) (answer : Option Message) → old.naming ≡ Some n → new ≡ record old { naming = Some k }
-      → VoidIsNothing n.part r → AreLines r.outs → NamingDid r (λ x. response (asked_by h) (say x)) n k call.before call.after answer → StandsOn o old call.left d
+      → VoidIsNothing n.part r → AreLines r.outs → NamingDid r (λ x. response (asked_by h) (say x)) (record { old = n; new = k; before = call.before; after = call.after }) answer → StandsOn o old call.left d
       → IsServed o from (served from h (with_naming (parts_with old c)) say r) c call d answer
   noted_served say r n k answer was is nothing lines did stands =
       let named : NamingStands o (Some n) call.left d.names = subst (λ m. NamingStands o m call.left d.names) was stands.naming in

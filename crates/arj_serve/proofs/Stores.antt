@@ -4,11 +4,13 @@ use Rattle.std.specs.Prelude.{IfSome, IsSome, is_some, option_map, if◌then◌e
 use Rattle.std.specs.List.{AllByRecursion}
 use Rattle.std.proofs.lemmas.List.{append-nil}
 use Rattle.arj_base.specs.State.{StateInForm}
+use Rattle.arj_disk.specs.FileMap.{FileMap}
 use Rattle.arj_disk.specs.Says.{OnlyOfRole, SameOfRole, names}
 use Rattle.arj_disk.specs.declared.slot.Role.{Role}
 use Rattle.arj_disk.specs.declared.slot.Role.TheVariants.{Store, Names}
 use Rattle.arj_store_law.specs.Files.{IsPairOf}
 use Rattle.arj_store_law.specs.Prep.{prep_of}
+use Rattle.arj_msg.specs.InForm.{IsObject}
 use Rattle.arj_naming.specs.Said.{said}
 use Rattle.arj_store_law.proofs.Held.{found}
 use Rattle.arj_store_law.proofs.Pairs.{pair_same, pair_adds, pair_drops, pair_moves, pair_moves_some}
@@ -19,7 +21,7 @@ use Rattle.arj_protocol.specs.Effect as protocol
 use Rattle.arj_protocol.specs.Effect.{Disk, Effect, Say, Send, Do, Look, Prepare, Commit, Abort, Before, After, InPart, Pair, held_at, holder_of, is_prepared, pair_prepared, pair_committed, pair_aborted, pair_in_part, prepare_answer}
 use Rattle.arj_protocol.specs.Node.{Handled, end_states, load_by, load_held, prepare_by, sends_answer, serve, store_told}
 use Rattle.arj_protocol.specs.Order.{at_uid}
-use Rattle.arj_protocol.specs.Words.{Uid, End, Head, Message, ObjectState, object}
+use Rattle.arj_protocol.specs.Words.{Uid, End, Head, ObjectState, object}
 use Rattle.arj_protocol.specs.Words.ask
 use Rattle.arj_protocol.specs.Words.body
 use Rattle.arj_protocol.specs.Words.ending
@@ -29,10 +31,11 @@ use Rattle.arj_protocol.specs.Words.prepared
 use Rattle.arj_protocol.specs.Words.role
 use Rattle.arj_serve.specs.Asked.{IsServed}
 use Rattle.arj_serve.specs.Did.{Call, IsCut, disk_after, outs_of}
-use Rattle.arj_serve.specs.Ended.{IsDone, prepared_to}
-use Rattle.arj_serve.specs.Kept.{IsDiskOf, Leaves, StandsOn, parts_with}
+use Rattle.arj_serve.specs.Ended.{IsDone, IsNumbered, prep_done, prep_reply, prepared_to}
+use Rattle.arj_serve.specs.Kept.{IsDiskOf, Leaves, LeavesRole, StandsOn, parts_with}
 use Rattle.arj_serve.specs.Objects.{AreObjects, AreOfObjects, IsObjectState}
-use Rattle.arj_serve.specs.Parts.{ReadsAs, loaded_by}
+use Rattle.arj_serve.specs.Parts.{loaded_by}
+use Rattle.arj_store_law.specs.Reads.{ReadsAs}
 use Rattle.arj_serve.proofs.Cuts.{look_cut}
 use Rattle.arj_serve.proofs.Objects.{new_objects, objects_aborted, objects_committed, objects_in_part, objects_prepared}
 use Rattle.arj_serve.proofs.Places.{place_same, place_store}
@@ -90,6 +93,11 @@ module _ {O : Type 0} (o : Ghosts O) (call : Call O) (d : Disk) (from : ℕ) (c 
 
 -- ---- after a call of the store
 
+-- what a call of the store leaves of its files, where it is the node's
+pub left_of : {O : Type 0} (o : Ghosts O) (store : O) → o.own_role store ≡ Store → (by : ℕ) (file left : FileMap) → OnlyOfRole (o.own_role store) file left → o.formed left (o.own_role store)
+    → o.room file (o.own_role store) ≤ o.room left (o.own_role store) + by → LeavesRole o Store by file left
+left_of o store own by file left only formed room = subst (λ r. LeavesRole o r by file left) own (record { only = only; formed = formed; room = room })
+
 module _ {O : Type 0} (o : Ghosts O) (keeps_on : KeepsOn o) (stays : Stays o) (call : Call O) (d : Disk) (stands : StandsOn o call.old call.file d) (only : OnlyOfRole Store call.file call.left) where
   same_names : SameOfRole Names call.file call.left
   same_names = names_stay call.file call.left only
@@ -128,7 +136,7 @@ module _ {O : Type 0} (o : Ghosts O) (keeps_on : KeepsOn o) (stays : Stays o) (c
 
   -- ---- prepare
 
-  module _ (own : o.own_role call.old.store ≡ Store) (from : ℕ) (c : Coord) (h : Head) (states : List ObjectState) (new : AreOfObjects states) (first : is_prepared (actor h.path) d.store ≡ false)
+  module _ (from : ℕ) (c : Coord) (h : Head) (states : List ObjectState) (new : AreOfObjects states) (first : is_prepared (actor h.path) d.store ≡ false)
       (once : (a b u : Uid) → names ((o.pair call.file Store).pend a) u → names ((o.pair call.file Store).pend b) u → a ≡ b) where
     abbrev preparer : Uid
     preparer = actor h.path
@@ -163,27 +171,27 @@ module _ {O : Type 0} (o : Ghosts O) (keeps_on : KeepsOn o) (stays : Stays o) (c
     pub now_same : files.SamePair (P Store) (Q Store) → IsPairOf (Q Store) d.store
     now_same same = pair_same (P Store) (Q Store) d.store same stands.pair
 
-    -- what is done at an answer of the store
-    abbrev prep_done : protocol.Prep → List Effect
-    prep_done protocol.Ready = Do Look ∷ Do (Prepare role.Store preparer states) ∷ Say (body.Prepared call.old.number preparer role.Store) ∷ []
-    prep_done _ = Do Look ∷ []
-
-    abbrev prep_reply : protocol.Prep → Option Message
-    prep_reply protocol.Ready = Some (message.Prepared (prepared_to h prepared.Yes))
-    prep_reply (protocol.Already u) = None
-    prep_reply (protocol.Old u v) = Some (message.Prepared (prepared_to h (prepared.Old u.num v)))
-    prep_reply (protocol.InDoubt u holder) = Some (message.Prepared (prepared_to h (prepared.InDoubt u.num holder)))
-
     prepares_by : (a : protocol.Prep) → prepare_answer preparer states d.store ≡ a → call.new ≡ record call.old { store = call.new.store } → preparing ≡ prepare_by call.old.number states from h (parts_with call.new c) a
     prepares_by a is same = (λ i. if first i then sends_answer from h (parts_with call.old c) [] (Some (Reply.Prepared prepared.Yes)) else prepare_by call.old.number states from h (parts_with call.old c) (prepare_answer preparer states d.store))
         ∙ ((λ i. prepare_by call.old.number states from h (parts_with call.old c) (is i)) ∙ (λ i. prepare_by call.old.number states from h (parts_with (sym same i) c) a))
 
-    pub prepare_served : (a : protocol.Prep) → prepare_answer preparer states d.store ≡ a → call.new ≡ record call.old { store = call.new.store } → call.after ≡ call.before ++ said (prep_done a)
-        → StandsOn o call.new call.left (disk_after (prep_done a) d) → IsServed o from preparing c call d (prep_reply a)
-    prepare_served protocol.Ready is same lines on = record { place = place_store call same; done = prep_done protocol.Ready; local = tt; is = prepares_by protocol.Ready is same; lines = lines; stands = on }
+    pub prepare_served : (a : protocol.Prep) → prepare_answer preparer states d.store ≡ a → call.new ≡ record call.old { store = call.new.store } → call.after ≡ call.before ++ said (prep_done call.old.number preparer states a)
+        → StandsOn o call.new call.left (disk_after (prep_done call.old.number preparer states a) d) → IsServed o from preparing c call d (prep_reply h a)
+    prepare_served protocol.Ready is same lines on = record { place = place_store call same; done = prep_done call.old.number preparer states protocol.Ready; local = tt; is = prepares_by protocol.Ready is same; lines = lines; stands = on }
     prepare_served (protocol.Already u) is same lines on = record { place = place_store call same; looks = Do Look ∷ []; are = tt; is = prepares_by (protocol.Already u) is same; parts = λ e i. parts_with (same i) e; lines = lines ∙ append-nil call.before; stands = on }
     prepare_served (protocol.Old u v) is same lines on = record { place = place_store call same; done = Do Look ∷ []; local = tt; is = prepares_by (protocol.Old u v) is same; lines = lines; stands = on }
     prepare_served (protocol.InDoubt u holder) is same lines on = record { place = place_store call same; done = Do Look ∷ []; local = tt; is = prepares_by (protocol.InDoubt u holder) is same; lines = lines; stands = on }
+
+    -- the store's answer is given, with what the store did
+    pub prepared_served : (a : Prep) → files.AnswersPrepare (P Store) (Q Store) preparer states a → call.new ≡ record call.old { store = call.new.store } → o.own_role call.new.store ≡ Store → o.keeps call.new.store call.left
+        → o.formed call.left Store → call.after ≡ call.before ++ said (prep_done call.old.number preparer states (prep_of a)) → IsServed o from preparing c call d (prep_reply h (prep_of a))
+    prepared_served a answers same role keeps formed lines = prepare_served (prep_of a) (answer_so a answers) same lines (on a answers)
+      where
+        on : (a : Prep) → files.AnswersPrepare (P Store) (Q Store) preparer states a → StandsOn o call.new call.left (disk_after (prep_done call.old.number preparer states (prep_of a)) d)
+        on prep.Prepared answers = left_stands (pair_prepared preparer states d.store) same role keeps formed (now_prepared answers) (objects_prepared preparer states d.store stands.objects new)
+        on (prep.InDoubt u holder) answers = left_stands d.store same role keeps formed (now_same answers.2) stands.objects
+        on (prep.Old u v) answers = left_stands d.store same role keeps formed (now_same answers.2) stands.objects
+        on (prep.Already u by) answers = left_stands d.store same role keeps formed (now_same answers.2) stands.objects
 
     prep_looks : (a : protocol.Prep) → (back : List Effect) × (outs_of (prepare_by call.old.number states from h (parts_with call.old c) a) ≡ Do Look ∷ back)
     prep_looks protocol.Ready = (Do (Prepare role.Store preparer states) ∷ Say (body.Prepared call.old.number preparer role.Store) ∷ Send from (response (asked_by h) (Reply.Prepared prepared.Yes)) ∷ [], refl)
@@ -308,9 +316,15 @@ told_now n act end d is = λ i. if sym is i then end_states n act end else []
 -- ---- the number of an object that a store refuses
 
 -- the object of a refusal is one of the states'
-pub refused_number : (p : files.Pair) (act : Uid) (states : List ObjectState) (a : Prep) (u : Uid) → AllByRecursion (λ s. IsObjectState s.uid s) states → files.IsRefused p act states a
-    → ((s : ObjectState) → files.Refuses p act s a → u ≡ s.uid) → (s : ObjectState) × IsObjectState s.uid s × (u ≡ s.uid)
+refused_number : (p : files.Pair) (act : Uid) (states : List ObjectState) (a : Prep) (u : Uid) → AllByRecursion (λ s. IsObjectState s.uid s) states → files.IsRefused p act states a
+    → ((s : ObjectState) → files.Refuses p act s a → u ≡ s.uid) → IsObject u.num
 refused_number p act [] a u all refused is = absurd refused
 refused_number p act (s ∷ ss) a u all refused is = ⊎_elim
-    (λ (here : files.Refuses p act s a). (s, all.0, is s here))
+    (λ (here : files.Refuses p act s a). subst (λ (w : Uid). IsObject w.num) (sym (is s here)) all.0.number)
     (λ (behind : files.IsClear p act s × files.IsRefused p act ss a). refused_number p act ss a u all.1 behind.1 is) refused
+
+pub numbered : (p q : files.Pair) (act : Uid) (states : List ObjectState) (a : Prep) → AllByRecursion (λ s. IsObjectState s.uid s) states → files.AnswersPrepare p q act states a → IsNumbered a
+numbered p q act states prep.Prepared all answers = tt
+numbered p q act states (prep.InDoubt u holder) all answers = refused_number p act states (prep.InDoubt u holder) u all answers.1 (λ s refuses. refuses.0)
+numbered p q act states (prep.Old u v) all answers = refused_number p act states (prep.Old u v) u all answers.1 (λ s refuses. refuses.0)
+numbered p q act states (prep.Already u by) all answers = refused_number p act states (prep.Already u by) u all answers.1 (λ s refuses. refuses.0)

@@ -1,9 +1,11 @@
--- Requests to the services of a node.
-use Rattle.std.specs.Prelude.{ℕ, [], ◌∷◌, Option, Some, None}
+-- Messages to the services of a node.
+use Rattle.std.specs.Prelude.{ℕ, List, [], ◌∷◌, map, if◌then◌else◌, Option, Some, None}
 use Rattle.arj_protocol.specs.Coord.{Coord}
 use Rattle.arj_protocol.specs.Effect.{Disk}
-use Rattle.arj_protocol.specs.Node.{Handled, Void, Parts, serve}
-use Rattle.arj_protocol.specs.Words.{Ask, Head, Message, asks}
+use Rattle.arj_protocol.specs.Node.{Handled, Void, Parts, handle, serve}
+use Rattle.arj_protocol.specs.Words.{Ask, Head, Message, Uid, asks}
+use Rattle.arj_protocol.specs.Words.message
+use Rattle.arj_msg.specs.declared.message.Told.{Told}
 use Rattle.arj_serve.specs.Did.{Call, IsCut, IsVoid, Takes, outs_of}
 use Rattle.arj_serve.specs.Kept.{StandsOn, parts_with}
 use Rattle.arj_store.specs.declared.store.ObjectStore.{Ghosts}
@@ -29,3 +31,26 @@ Serves o m call answer = (d : Disk) → StandsOn o call.old call.file d → (fro
 -- A request was stopped.
 abbrev pub ServesInPart : {O : Type 0} → Ghosts O → Message → Call O → Type 0
 ServesInPart o m call = (d : Disk) → StandsOn o call.old call.file d → (from : ℕ) (c : Coord) → IsCut o (outs_of (asked call.old.number d (parts_with call.old c) from m)) call d
+
+-- ---- messages that are no request
+
+-- to a node goes an answer, if there is one
+abbrev pub sent_to : ℕ → Option Message → List (ℕ × Message)
+sent_to to None = []
+sent_to to (Some m) = (to, m) ∷ []
+
+-- A message was taken as the protocol has it, with any coordinator: then these are to be sent.
+abbrev pub Handles : {O : Type 0} → Ghosts O → Message → Call O → (ℕ → List (ℕ × Message)) → Type 0
+Handles o m call sent = (d : Disk) → StandsOn o call.old call.file d → (from : ℕ) (c : Coord) → Takes o (handle call.old.number d (parts_with call.old c) from m) c call d (sent from)
+
+-- A message was stopped.
+abbrev pub HandlesInPart : {O : Type 0} → Ghosts O → Message → Call O → Type 0
+HandlesInPart o m call = (d : Disk) → StandsOn o call.old call.file d → (from : ℕ) (c : Coord) → IsCut o (outs_of (handle call.old.number d (parts_with call.old c) from m)) call d
+
+-- the acknowledgement of an end, where one is wanted
+abbrev pub acked_by : Told → Uid → Option Message
+acked_by m u = if m.ack then Some (message.Acked (record { act = u })) else None
+
+-- queries about actions, to their nodes
+abbrev pub queries : List Uid → List (ℕ × Message)
+queries us = map (λ (u : Uid). (u.node, message.Query (record { act = u }))) us

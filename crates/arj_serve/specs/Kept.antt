@@ -1,6 +1,7 @@
 -- A node's services in memory, and with its disk.
-use Rattle.std.specs.Prelude.{◌≡◌, ◌≢◌, ◌≤◌, ◌+◌, ℕ, Bool, true, false, [], Option, Some, None, option_map}
+use Rattle.std.specs.Prelude.{◌≡◌, ◌≢◌, ◌≤◌, ◌+◌, ℕ, Bool, true, false, [], Option, Some, None, option_map, ⊤}
 use Rattle.arj_disk.specs.FileMap.{FileMap}
+use Rattle.arj_disk.specs.Disk.{Same}
 use Rattle.arj_disk.specs.Says.{OnlyOfRole, slot_role}
 use Rattle.arj_disk.specs.declared.slot.Role.{Role}
 use Rattle.arj_disk.specs.declared.slot.Role.TheVariants as role
@@ -56,6 +57,11 @@ abbrev pub HasRoom : {O : Type 0} → Ghosts O → Bool → FileMap → Type 0
 HasRoom o true file = (2 ≤ o.room file role.Store) × (2 ≤ o.room file role.Names)
 HasRoom o false file = 2 ≤ o.room file role.Store
 
+-- there is room for a commit of entries, where there is naming
+abbrev pub HasNamesRoom : {O : Type 0} → Ghosts O → Bool → FileMap → Type 0
+HasNamesRoom o true file = 2 ≤ o.room file role.Names
+HasNamesRoom o false file = ⊤
+
 -- of each role the room fell by this much at most
 abbrev pub RoomFalls : {O : Type 0} → Ghosts O → ℕ → FileMap → FileMap → Type 0
 RoomFalls o by old new = (r : Role) → o.room old r ≤ o.room new r + by
@@ -92,3 +98,15 @@ pub record Leaves {O : Type 0} (o : Ghosts O) (named : Bool) (by : ℕ) (old new
   pub formed : IsFormed o named new
   pub others : OnlyStates named old new
   pub room : RoomFalls o by old new
+
+-- What a call on files of one role leaves of the files, at each exit: those of the role changed alone, they are formed, and
+-- its room fell by so much at most.
+pub record LeavesRole {O : Type 0} (o : Ghosts O) (r : Role) (by : ℕ) (old new : FileMap) : Type 0 where
+  pub only : OnlyOfRole r old new
+  pub formed : o.formed new r
+  pub room : o.room old r ≤ o.room new r + by
+
+-- and so for the entries at a node with naming; without it no file changed
+abbrev pub LeavesNames : {O : Type 0} → Ghosts O → Bool → FileMap → FileMap → Type 0
+LeavesNames o true old new = LeavesRole o role.Names 2 old new
+LeavesNames o false old new = Same old new

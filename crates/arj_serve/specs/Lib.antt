@@ -4,3 +4,5 @@ pub mod Did
 pub mod Parts
 pub mod Asked
 pub mod Ended
+pub mod Held
+pub mod Shown

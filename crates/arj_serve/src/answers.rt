@@ -3,7 +3,7 @@ ghost use Rattle.std.specs.Prelude.{◌≡◌, option_map};
 ghost use Rattle.arj_protocol.specs.Ask.{asked_by};
 ghost use Rattle.arj_protocol.specs.Words.message;
 
-use arj_msg::{Activated, Asked, Bound, Head, Invoked, Message, Voted};
+use arj_msg::{Activated, Asked, Bound, Confirmed, Head, Invoked, Message, Recorded, Voted};
 
 /// The head of an answer.
 pub fn asked(head: &Head) -> Asked
@@ -20,6 +20,20 @@ pub fn bound(answer: Option<Bound>) -> Option<Message>
     ensures { result ≡ option_map message.Bound answer }
 {
     Some(Message::Bound(answer?))
+}
+
+/// A Recorded, if there is one.
+pub fn recorded(answer: Option<Recorded>) -> Option<Message>
+    ensures { result ≡ option_map message.Recorded answer }
+{
+    Some(Message::Recorded(answer?))
+}
+
+/// A Confirmed, if there is one.
+pub fn confirmed(answer: Option<Confirmed>) -> Option<Message>
+    ensures { result ≡ option_map message.Confirmed answer }
+{
+    Some(Message::Confirmed(answer?))
 }
 
 /// An Activated, if there is one.

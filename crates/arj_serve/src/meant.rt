@@ -1,5 +1,9 @@
 // Whether a request can be meant.
 ghost use Rattle.std.specs.Prelude.{◌≡◌, ℕ, map};
+ghost use Rattle.std.specs.List.{AllByRecursion};
+ghost use Rattle.arj_base.specs.State.{StateInForm};
+ghost use Rattle.arj_base.specs.Uid.{UidFits};
+ghost use Rattle.arj_msg.specs.Sendable.{StateSends};
 ghost use Rattle.arj_protocol.specs.Effect.{names_object};
 ghost use Rattle.arj_protocol.specs.Node.{are_of_objects, asked_is_meant, is_object, stand_once};
 ghost use Rattle.arj_protocol.specs.Order.{has};
@@ -43,6 +47,33 @@ fn names_object(uid: Uid, states: &[ObjectState]) -> bool
     ensures { result ≡ names_object uid states.now }
 {
     states.iter().any(|state| state.uid == uid)
+}
+
+// What a Uid's types say. It does nothing when it runs.
+fn uid_fits(_uid: Uid)
+    ensures { UidFits _uid }
+{}
+
+// What a state's types say. It does nothing when it runs.
+fn state_fits(state: &ObjectState)
+    requires { StateSends state.now }
+    ensures { StateInForm state.now }
+{
+    uid_fits(state.uid);
+    uid_fits(state.writer);
+    let _version = state.version;
+}
+
+/// States that can be sent are in form: the rest is in their types. It changes nothing.
+pub fn states_fit(states: &[ObjectState])
+    requires { AllByRecursion StateSends states.now }
+    ensures { AllByRecursion StateInForm states.now }
+{
+    let mut left = states;
+    while let Some((state, rest)) = left.split_first() {
+        state_fits(state);
+        left = rest;
+    }
 }
 
 // The states are of objects, each of another one.

@@ -12,9 +12,10 @@ ghost use Rattle.arj_protocol.specs.Words.message;
 ghost use Rattle.arj_protocol.specs.Words.role;
 ghost use Rattle.arj_serve.specs.Asked.{Serves, ServesInPart};
 ghost use Rattle.arj_serve.specs.Ended.{EndsAll, EndsAllInPart, EndsStates, EndsInPart};
-ghost use Rattle.arj_serve.specs.Kept.{Leaves, Stands, StandsOn};
-ghost use Rattle.arj_serve.specs.Parts.{ReadsAs, loaded_by};
+ghost use Rattle.arj_serve.specs.Kept.{Leaves, LeavesRole, Stands, StandsOn};
+ghost use Rattle.arj_serve.specs.Parts.{loaded_by};
 ghost use Rattle.arj_store.specs.declared.answer.StoreFault.{StoreFault};
+ghost use Rattle.arj_store_law.specs.Reads.{ReadsAs};
 
 use crate::Services;
 use crate::answers::asked;
@@ -57,8 +58,8 @@ impl<O: ObjectStore> Services<O> {
         Ok(loaded(&m.head, answer))
     }
 
-    /// What an action has prepared at the store ends, if it is prepared.
-    pub fn end_states<D: Disk>(
+    // What an action has prepared at the store ends, if it is prepared.
+    pub(crate) fn end_states<D: Disk>(
         &mut self,
         disk: &mut D,
         act: Uid,
@@ -70,7 +71,7 @@ impl<O: ObjectStore> Services<O> {
         ensures memory { OnOk result (self.new ≡ record self.old { store = self.new.store }) }
         ensures done { OnOk result (EndsStates O.ObjectStore act end (record { old = self.old; new = self.new; file = D.file disk.old; left = D.file disk.new; before = out.old; after = out.new })) }
         ensures stopped { IsErrOf result StoreFault.Stopped → EndsInPart O.ObjectStore act end (record { old = self.old; new = self.new; file = D.file disk.old; left = D.file disk.new; before = out.old; after = out.new }) }
-        ensures leaves { Leaves O.ObjectStore (is_some self.old.naming) 2 (D.file disk.old) (D.file disk.new) }
+        ensures leaves { LeavesRole O.ObjectStore Role.Store 2 (D.file disk.old) (D.file disk.new) }
         ensures counts { CountsCall (counts D.Disk disk.old) (counts D.Disk disk.new) result StoreFault.Stopped }
     {
         if !self.store.is_prepared(act) {
@@ -94,7 +95,7 @@ impl<O: ObjectStore> Services<O> {
         ensures memory { OnOk result (self.new ≡ record self.old { store = self.new.store }) }
         ensures done { OnOk result (EndsAll O.ObjectStore act ending.Commit (record { old = self.old; new = self.new; file = D.file disk.old; left = D.file disk.new; before = out.old; after = out.new })) }
         ensures stopped { IsErrOf result StoreFault.Stopped → EndsAllInPart O.ObjectStore act ending.Commit (record { old = self.old; new = self.new; file = D.file disk.old; left = D.file disk.new; before = out.old; after = out.new }) }
-        ensures leaves { Leaves O.ObjectStore (is_some self.old.naming) 2 (D.file disk.old) (D.file disk.new) }
+        ensures leaves { LeavesRole O.ObjectStore Role.Store 2 (D.file disk.old) (D.file disk.new) }
         ensures counts { CountsCall (counts D.Disk disk.old) (counts D.Disk disk.new) result StoreFault.Stopped }
     {
         self.store.commit(disk, act)?;
@@ -113,7 +114,7 @@ impl<O: ObjectStore> Services<O> {
         ensures memory { OnOk result (self.new ≡ record self.old { store = self.new.store }) }
         ensures done { OnOk result (EndsAll O.ObjectStore act ending.Abort (record { old = self.old; new = self.new; file = D.file disk.old; left = D.file disk.new; before = out.old; after = out.new })) }
         ensures stopped { IsErrOf result StoreFault.Stopped → EndsAllInPart O.ObjectStore act ending.Abort (record { old = self.old; new = self.new; file = D.file disk.old; left = D.file disk.new; before = out.old; after = out.new }) }
-        ensures leaves { Leaves O.ObjectStore (is_some self.old.naming) 2 (D.file disk.old) (D.file disk.new) }
+        ensures leaves { LeavesRole O.ObjectStore Role.Store 2 (D.file disk.old) (D.file disk.new) }
         ensures counts { CountsCall (counts D.Disk disk.old) (counts D.Disk disk.new) result StoreFault.Stopped }
     {
         self.store.abort(disk, act)?;

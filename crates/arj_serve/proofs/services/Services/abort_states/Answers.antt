@@ -1,4 +1,4 @@
-use Rattle.std.proofs.Common.{◌≡◌, ◌∙◌, ◌≤◌, ◌⊎◌, ◌++◌, ◌∷◌, [], ap, refl, subst, arith}
+use Rattle.std.proofs.Common.{◌≡◌, ◌∙◌, ◌⊎◌, ◌++◌, ◌∷◌, [], ap, refl, subst, arith}
 use Rattle.arj_disk.specs.FileMap.{FileMap}
 use Rattle.arj_disk.specs.Says.{OnlyOfRole}
 use Rattle.arj_disk.specs.declared.slot.Role.TheVariants.{Store}
@@ -9,7 +9,7 @@ use Rattle.arj_protocol.specs.Words.ending
 use Rattle.arj_protocol.specs.Words.role
 use Rattle.arj_serve.specs.Did.{Call}
 use Rattle.arj_serve.specs.Kept.{Kept}
-use Rattle.arj_serve.proofs.Stores.{abort_cut, aborted_done, store_leaves}
+use Rattle.arj_serve.proofs.Stores.{abort_cut, aborted_done, left_of}
 use Rattle.arj_store.specs.Pair as files
 use Rattle.arj_serve.proofs.services.Services.abort_states.Goals as goal
 
@@ -26,24 +26,16 @@ returns-in_err-abort-clause-stopped g c = λ stop d stands.
 pub returns-in_err-abort-clause-leaves : goal.returns-in_err-abort-clause-leaves
 returns-in_err-abort-clause-leaves g c =
     let o = g.O.ObjectStore in
-    let stands = c.requires.stands.1 in
     let file : FileMap = g.D.Disk.file c.args.disk.now in
     let left : FileMap = g.D.Disk.file c.abort.new.disk in
-    let own : o.own_role c.self.inside.store ≡ Store = ap (λ (k : Kept g.row.O.Denot). o.own_role k.store) c.self.view_is ∙ stands.role_is in
-    let call : Call g.row.O.Denot = record { old = c.args.self.now; new = c.args.self.now; file = file; left = left; before = c.args.out.now; after = c.args.out.now } in
-    store_leaves o g.met.O.ObjectStore.keeps_on g.met.O.ObjectStore.stays call c.requires.stands.0 stands (subst (λ r. OnlyOfRole r file left) own c.abort.ensures.others) 2 g.met.O.ObjectStore.room_of_role
-    (subst (λ r. o.formed left r) own c.abort.ensures.formed) (let fell : o.room file Store ≤ o.room left Store = subst (λ r. o.room file r ≤ o.room left r) own c.abort.ensures.room in omega (arith, fell))
+    left_of o c.self.inside.store (ap (λ (k : Kept g.row.O.Denot). o.own_role k.store) c.self.view_is ∙ c.requires.stands.1.role_is) 2 file left c.abort.ensures.others c.abort.ensures.formed (let fell = c.abort.ensures.room in omega (arith, fell))
 
 pub returns-in_err-say_done-clause-leaves : goal.returns-in_err-say_done-clause-leaves
 returns-in_err-say_done-clause-leaves g c =
     let o = g.O.ObjectStore in
-    let stands = c.requires.stands.1 in
     let file : FileMap = g.D.Disk.file c.args.disk.now in
     let left : FileMap = g.D.Disk.file c.abort.new.disk in
-    let own : o.own_role c.self.inside.store ≡ Store = ap (λ (k : Kept g.row.O.Denot). o.own_role k.store) c.self.view_is ∙ stands.role_is in
-    let call : Call g.row.O.Denot = record { old = c.args.self.now; new = c.args.self.now; file = file; left = left; before = c.args.out.now; after = c.args.out.now } in
-    store_leaves o g.met.O.ObjectStore.keeps_on g.met.O.ObjectStore.stays call c.requires.stands.0 stands (subst (λ r. OnlyOfRole r file left) own c.abort.ensures.others) 2 g.met.O.ObjectStore.room_of_role
-    (subst (λ r. o.formed left r) own c.abort.ensures.formed) (let fell : o.room file Store ≤ o.room left Store = subst (λ r. o.room file r ≤ o.room left r) own c.abort.ensures.room in omega (arith, fell))
+    left_of o c.self.inside.store (ap (λ (k : Kept g.row.O.Denot). o.own_role k.store) c.self.view_is ∙ c.requires.stands.1.role_is) 2 file left c.abort.ensures.others c.abort.ensures.formed (let fell = c.abort.ensures.room in omega (arith, fell))
 
 pub returns-clause-done : goal.returns-clause-done
 returns-clause-done g c = λ d stands.
@@ -60,10 +52,6 @@ returns-clause-done g c = λ d stands.
 pub returns-clause-leaves : goal.returns-clause-leaves
 returns-clause-leaves g c =
     let o = g.O.ObjectStore in
-    let stands = c.requires.stands.1 in
     let file : FileMap = g.D.Disk.file c.args.disk.now in
     let left : FileMap = g.D.Disk.file c.abort.new.disk in
-    let own : o.own_role c.self.inside.store ≡ Store = ap (λ (k : Kept g.row.O.Denot). o.own_role k.store) c.self.view_is ∙ stands.role_is in
-    let call : Call g.row.O.Denot = record { old = c.args.self.now; new = c.args.self.now; file = file; left = left; before = c.args.out.now; after = c.args.out.now } in
-    store_leaves o g.met.O.ObjectStore.keeps_on g.met.O.ObjectStore.stays call c.requires.stands.0 stands (subst (λ r. OnlyOfRole r file left) own c.abort.ensures.others) 2 g.met.O.ObjectStore.room_of_role
-    (subst (λ r. o.formed left r) own c.abort.ensures.formed) (let fell : o.room file Store ≤ o.room left Store = subst (λ r. o.room file r ≤ o.room left r) own c.abort.ensures.room in omega (arith, fell))
+    left_of o c.self.inside.store (ap (λ (k : Kept g.row.O.Denot). o.own_role k.store) c.self.view_is ∙ c.requires.stands.1.role_is) 2 file left c.abort.ensures.others c.abort.ensures.formed (let fell = c.abort.ensures.room in omega (arith, fell))
