@@ -2,7 +2,8 @@
 use Rattle.std.proofs.Common.{◌≡◌, ℕ, ◌+◌, List, [], ◌∷◌, true, Option, Some, None, refl, sym, ◌∙◌, ap, subst, inl, inr, ⊎_elim}
 use Rattle.std.specs.Prelude.{option_map}
 use Rattle.arj_lock.proofs.Members.{in_from, in_to}
-use Rattle.arj_protocol.specs.Words.{Uid, Header, Kind, Label, ObjectState, Message, entry, object, is_listed, is_on, uids_of}
+use Rattle.arj_protocol.specs.Words.{Uid, Ask, Body, Head, Header, Kind, Label, Line, ObjectState, Message, asks, entry, object, is_listed, is_on, uids_of}
+use Rattle.arj_protocol.specs.Words.ask
 use Rattle.arj_protocol.specs.Ask.{actor}
 use Rattle.arj_protocol.specs.Asking.{again_all, begin_action}
 use Rattle.arj_protocol.specs.Effect.{Disk, Effect, held_at, holder_of}
@@ -11,7 +12,8 @@ use Rattle.arj_protocol.specs.Node.{Parts, Took, handle, with_coord}
 use Rattle.arj_protocol.specs.Step.{Node, Input, acts, begin_refusal, parent_of, parts_in, refusal_up, restart_outs}
 use Rattle.arj_protocol.specs.Tree.{next_uid, path_below}
 use Rattle.arj_protocol.specs.Values.{state_entry}
-use Rattle.arj_protocol.specs.World.{format, is_serial_kind, run_all}
+use Rattle.arj_protocol.specs.World.{format, is_serial_kind, numbered, run_all}
+use Rattle.arj_protocol.proofs.CoordSays.{acts_own}
 use Rattle.arj_part_law.specs.Actions.{Action, act_of, paths_of}
 use Rattle.arj_part_law.proofs.Begun.{begun_tree}
 use Rattle.arj_run_law.specs.Worlds.{IsGoodOf}
@@ -25,7 +27,7 @@ use Rattle.arj_disk_law.specs.Words.{has}
 use Rattle.arj_disk_law.proofs.Base.{some_is}
 use Rattle.arj_disk_law.proofs.Results.{clean}
 use Rattle.arj_view_law.specs.Keeps.{DidKeeps, Keeps, MayGive, is_act, label_at}
-use Rattle.arj_view_law.specs.Seen.{In, Seen, given, see, up}
+use Rattle.arj_view_law.specs.Seen.{In, Seen, given, said, see, up}
 use Rattle.arj_view_law.specs.Walks.{Walks, Up}
 use Rattle.arj_view_law.proofs.Happens.{runs_hold}
 use Rattle.arj_view_law.proofs.Together.{walks_both, walks_each, walks_to}
@@ -33,7 +35,7 @@ use Rattle.arj_disk_view_law.specs.Entries.{SeesEntry}
 use Rattle.arj_disk_view_law.specs.Formats.{HasObject}
 use Rattle.arj_disk_view_law.specs.Knows.{IsOfKind}
 use Rattle.arj_disk_view_law.specs.Pairs.{packed, packed_entry}
-use Rattle.arj_disk_view_law.specs.Sees.{Kinds, IsSeenByDisks, SeesDisks}
+use Rattle.arj_disk_view_law.specs.Sees.{Kinds, ClaimsAsked, IsSeenByDisks, SeesDisks}
 use Rattle.arj_disk_view_law.specs.Stores.{SeesStore}
 use Rattle.arj_disk_view_law.proofs.ConfirmWalks.{has_listed}
 use Rattle.arj_disk_view_law.proofs.FirstSeen.{formats_are_seen}
@@ -45,10 +47,12 @@ use Rattle.arj_disk_view_law.proofs.TickWalks.{ticks_are_walked}
 use Rattle.arj_disk_view_law.proofs.WholeWalks.{acts_are_walked, messages_are_walked}
 use Rattle.arj_disk_run_law.specs.Facts.{Gives}
 use Rattle.arj_disk_run_law.specs.Kinds.{Agrees, AreOfOneNode, kinds_of}
+use Rattle.arj_disk_run_law.specs.Places.{ArePlaced}
 use Rattle.arj_disk_run_law.specs.Records.{AreRecorded}
 use Rattle.arj_disk_run_law.specs.Runs.{CopiesAgree, HasState, IsSeenInRun, RunsAgree}
 use Rattle.arj_disk_run_law.proofs.Begun.{kinds_agree}
 use Rattle.arj_disk_run_law.proofs.Known.{knows_node}
+use Rattle.arj_disk_run_law.proofs.PlaceWalks.{ByTop, PlacedBy, begin_placed, coord_prepares, format_placed, line_stays, message_placed, placed_walk, prepared_begun, restart_placed, stop_placed, tick_prepares}
 use Rattle.arj_disk_run_law.proofs.RecordWalks.{KeptBy, format_recorded, kept_walk, message_kept, recorded_more, restart_recorded, stop_recorded, tick_kept}
 use Rattle.arj_disk_run_law.proofs.Telling.{acked_kept, acts_kept, heard_kept, same_kept}
 
@@ -65,20 +69,43 @@ module _ (R : Seen → Type 0) (x : ℕ) (begun : List Action) (home : AreOfOneN
   abbrev All_seen : Seen → Type 0
   All_seen N = (p : Kept_kinds) → IsSeenByDisks x p.0 N
 
-  all_walk : Walks (IsGoodOf begun) e k outs (Up (IsGoodOf begun) k v) d M → Walks (AreRecorded begun) e k outs (Up (AreRecorded begun) k v) d M → Walks R e k outs (Up R k v) d M → ((tops : Kinds) → Agrees tops begun → Walks (IsSeenByDisks x tops) e k outs (Up (IsSeenByDisks x tops) k v) d M)
+  abbrev Known_here : Seen → Type 0
+  Known_here N = (IsGoodOf begun N × AreRecorded begun N) × (ArePlaced begun N × R N)
+
+  abbrev Known_up : ℕ → Parts → Disk → Seen → Type 0
+  Known_up k v c N = (Up (IsGoodOf begun) k v c N × Up (AreRecorded begun) k v c N) × (Up (ArePlaced begun) k v c N × Up R k v c N)
+
+  all_walk : Walks (IsGoodOf begun) e k outs (Up (IsGoodOf begun) k v) d M → Walks (AreRecorded begun) e k outs (Up (AreRecorded begun) k v) d M → Walks (ArePlaced begun) e k outs (Up (ArePlaced begun) k v) d M → Walks R e k outs (Up R k v) d M → ((tops : Kinds) → Agrees tops begun → Walks (IsSeenByDisks x tops) e k outs (Up (IsSeenByDisks x tops) k v) d M)
       → Walks (IsSeenInRun R x) e k outs (Up (IsSeenInRun R x) k v) d M
-  all_walk good recs rest seen =
+  all_walk good recs placed rest seen =
       let each : Walks All_seen e k outs (λ c N. (p : Kept_kinds) → Up (IsSeenByDisks x p.0) k v c N) d M = walks_each {A = Kept_kinds} Seen_by e k outs (λ p. Up (IsSeenByDisks x p.0) k v) d M (λ p. seen p.0 p.1) in
       let one = walks_both (IsGoodOf begun) (AreRecorded begun) e k outs (Up (IsGoodOf begun) k v) (Up (AreRecorded begun) k v) d M good recs in
-      let two = walks_both (λ N. IsGoodOf begun N × AreRecorded begun N) R e k outs (λ c N. Up (IsGoodOf begun) k v c N × Up (AreRecorded begun) k v c N) (Up R k v) d M one rest in
-      let three = walks_both (λ N. (IsGoodOf begun N × AreRecorded begun N) × R N) All_seen e k outs (λ c N. (Up (IsGoodOf begun) k v c N × Up (AreRecorded begun) k v c N) × Up R k v c N) (λ c N. (p : Kept_kinds) → Up (IsSeenByDisks x p.0) k v c N) d M two each in
-      walks_to (λ N. ((IsGoodOf begun N × AreRecorded begun N) × R N) × All_seen N) (IsSeenInRun R x) e k outs (λ c N. ((Up (IsGoodOf begun) k v c N × Up (AreRecorded begun) k v c N) × Up R k v c N) × ((p : Kept_kinds) → Up (IsSeenByDisks x p.0) k v c N)) (Up (IsSeenInRun R x) k v) d M
-      (λ N h. (begun, (h.0.0.0, home, h.0.0.1, h.0.1, λ tops agree. h.1 (tops, agree)))) (λ c N h. (begun, (h.0.0.0, home, h.0.0.1, h.0.1, λ tops agree. h.1 (tops, agree)))) three
+      let two = walks_both (ArePlaced begun) R e k outs (Up (ArePlaced begun) k v) (Up R k v) d M placed rest in
+      let three = walks_both (λ N. IsGoodOf begun N × AreRecorded begun N) (λ N. ArePlaced begun N × R N) e k outs (λ c N. Up (IsGoodOf begun) k v c N × Up (AreRecorded begun) k v c N) (λ c N. Up (ArePlaced begun) k v c N × Up R k v c N) d M one two in
+      let four = walks_both Known_here All_seen e k outs (Known_up k v) (λ c N. (p : Kept_kinds) → Up (IsSeenByDisks x p.0) k v c N) d M three each in
+      walks_to (λ N. Known_here N × All_seen N) (IsSeenInRun R x) e k outs (λ c N. Known_up k v c N × ((p : Kept_kinds) → Up (IsSeenByDisks x p.0) k v c N)) (Up (IsSeenInRun R x) k v) d M
+      (λ N h. (begun, (h.0.0.0, home, h.0.0.1, h.0.1.0, h.0.1.1, λ tops agree. h.1 (tops, agree)))) (λ c N h. (begun, (h.0.0.0, home, h.0.0.1, h.0.1.0, h.0.1.1, λ tops agree. h.1 (tops, agree)))) four
 
 -- ---- an action that begins
 
 agree_less : (a : Action) (begun : List Action) (tops : Kinds) → Agrees tops (a ∷ begun) → Agrees tops begun
 agree_less a begun tops agree = record { kinds = agree.kinds; each = λ b c. agree.each b (in_to b (a ∷ begun) (inr (in_from b begun c))) }
+
+-- a Confirm that was sent is asked by a top
+by_top : (x : ℕ) (begun : List Action) (k : ℕ) (m : Message) (o : Option (Head × Ask)) → (tops : Kinds) × (W : World) × (lines : List Line) × (from : ℕ) × ClaimsAsked x tops W lines from k m o → ByTop begun o
+by_top x begun k m None c = tt
+by_top x begun k m (Some (h, ask.Bind y include avoid)) c = tt
+by_top x begun k m (Some (h, ask.Load y)) c = tt
+by_top x begun k m (Some (h, ask.Activate b st)) c = tt
+by_top x begun k m (Some (h, ask.Record y b i g)) c = tt
+by_top x begun k m (Some (h, ask.Invoke y b i ends op)) c = tt
+by_top x begun k m (Some (h, ask.Vote i ties ends)) c = tt
+by_top x begun k m (Some (h, ask.Prepare states)) c = tt
+by_top x begun k m (Some (h, ask.Confirm grants excluded included)) c = c.4.0
+
+-- lines are said
+placed_said : (begun : List Action) (e : ℕ) (bs : List Body) (M : Seen) → ArePlaced begun M → ArePlaced begun (said e bs M)
+placed_said begun e bs M p = record { nodes = p.nodes; lines = λ a c. line_stays (act_of a) M.lines (numbered e bs) (p.lines a c) }
 
 module _ (hd : Header) (x : ℕ) (has_it : HasObject hd x) (R : Seen → Type 0) (kept : Keeps hd R) (gives : Gives R) where
   abbrev P : Seen → Type 0
@@ -86,27 +113,33 @@ module _ (hd : Header) (x : ℕ) (has_it : HasObject hd x) (R : Seen → Type 0)
 
   message_keeps : (e k : ℕ) (d : Disk) (t v : Parts) (from : ℕ) (m : Message) (outs : List Effect) (M : Seen) → P (up k d t M) → In (record { from = from; to = k; message = m }) M.sent → handle k d t from m ≡ Took v outs → Walks P e k outs (Up P k v) d M
   message_keeps e k d t v from m outs M (begun, h) sent is = all_walk R x begun h.1 e k outs v d M (message_good e k d t M (begun, h.0) v from m outs sent is)
-      (kept_walk begun e k d t v outs M (subst (KeptBy begun t.coord) is (message_kept begun k d t from (λ a r. heard_kept begun (paths_of begun) (begun_tree begun h.0.begun) from a r d.intents t.coord (good_coord e k d t M (begun, h.0))) (λ u. acked_kept begun from u d.intents t.coord) m)) h.2) (kept.message e k d t v from m outs M h.3 sent is)
-      (λ tops agree. let s = h.4 tops agree in messages_are_walked x tops e k d t v from m outs M (knows_node tops begun k d t M h.0 agree h.2 (gives.node tops begun k d t M h.3 h.0 agree)) sent s.0 s.1 (gives.booked x tops k d t M from m s.0 h.3 sent s.1) is)
+      (kept_walk begun e k d t v outs M (subst (KeptBy begun t.coord) is (message_kept begun k d t from (λ a r. heard_kept begun (paths_of begun) (begun_tree begun h.0.begun) from a r d.intents t.coord (good_coord e k d t M (begun, h.0))) (λ u. acked_kept begun from u d.intents t.coord) m)) h.2)
+      (let p = subst (PlacedBy begun k t) is (message_placed begun k d t from m (h.0.fits (record { from = from; to = k; message = m }) sent) (by_top x begun k m (asks m) (let s = h.5 (kinds_of begun) (kinds_agree begun h.0.begun h.1) in (kinds_of begun, s.0, M.lines, from, s.1.posts (record { from = from; to = k; message = m }) sent)))) in placed_walk begun e k d t v outs M p.0 p.1 h.3) (kept.message e k d t v from m outs M h.4 sent is)
+      (λ tops agree. let s = h.5 tops agree in messages_are_walked x tops e k d t v from m outs M (knows_node tops begun k d t M h.0 agree h.2 h.3 (gives.node tops begun k d t M h.4 h.0 agree)) sent s.0 s.1 (gives.booked x tops k d t M from m s.0 h.4 sent s.1) is)
 
   act_keeps : (e k : ℕ) (d : Disk) (t : Parts) (i : Input) (M : Seen) → is_act i ≡ true → refusal_up hd i t.coord ≡ None → P (up k d t M) → DidKeeps P e k d t (acts i d.intents t.coord) M
   act_keeps e k d t i M is free (begun, h) = let did = acts i d.intents t.coord in
       all_walk R x begun h.1 e k did.outs (with_coord t did.part) d M (act_good e k d t M (begun, h.0) hd i is free)
-      (kept_walk begun e k d t (with_coord t did.part) did.outs M (acts_kept begun (paths_of begun) (begun_tree begun h.0.begun) d.intents t.coord (good_coord e k d t M (begun, h.0)) hd i free) h.2) (kept.act e k d t i M is free h.3)
-      (λ tops agree. let s = h.4 tops agree in let n = knows_node tops begun k d t M h.0 agree h.2 (gives.node tops begun k d t M h.3 h.0 agree) in acts_are_walked hd x tops e k d t i M n.kinds n.coord is free s.0 s.1)
+      (kept_walk begun e k d t (with_coord t did.part) did.outs M (acts_kept begun (paths_of begun) (begun_tree begun h.0.begun) d.intents t.coord (good_coord e k d t M (begun, h.0)) hd i free) h.2)
+      (placed_walk begun e k d t (with_coord t did.part) did.outs M (coord_prepares begun did.outs (acts_own i d.intents t.coord)) (λ n. n) h.3) (kept.act e k d t i M is free h.4)
+      (λ tops agree. let s = h.5 tops agree in let n = knows_node tops begun k d t M h.0 agree h.2 h.3 (gives.node tops begun k d t M h.4 h.0 agree) in acts_are_walked hd x tops e k d t i M n.kinds n.coord is free s.0 s.1)
 
   begin_keeps : (e k : ℕ) (d : Disk) (t : Parts) (l : Label) (how : Kind) (parent : Option Label) (M : Seen) → label_at l M.labels ≡ None → MayGive M.labels k how parent → begin_refusal how t.coord parent ≡ None
       → P (up k d t M) → DidKeeps P e k d t (begin_action l how parent (parent_of parent t.coord) t.coord) (given l (record { node = k; serial = is_serial_kind how }) M)
   begin_keeps e k d t l how parent M new may free (begun, h) =
       let did = begin_action l how parent (parent_of parent t.coord) t.coord in
       all_walk R x (a ∷ begun) home e k did.outs (with_coord t did.part) d (given l (record { node = k; serial = is_serial_kind how }) M) (begin_good e k d t l how parent M new may free (begun, h.0))
-      (kept_walk (a ∷ begun) e k d t (with_coord t did.part) did.outs (given l (record { node = k; serial = is_serial_kind how }) M) (same_kept (a ∷ begun) t.coord did.part did.outs refl refl) (recorded_more a begun (up k d t M) h.2)) (kept.begin e k d t l how parent M new may free h.3)
-      (λ tops agree. let less = agree_less a begun tops agree in let s = h.4 tops less in let n = knows_node tops begun k d t M h.0 less h.2 (gives.node tops begun k d t M h.3 h.0 less) in
+      (kept_walk (a ∷ begun) e k d t (with_coord t did.part) did.outs (given l (record { node = k; serial = is_serial_kind how }) M) (same_kept (a ∷ begun) t.coord did.part did.outs refl refl) (recorded_more a begun (up k d t M) h.2))
+      (begin_placed a begun e k d t did.part l how parent (next_uid t.coord.tree) (given l (record { node = k; serial = is_serial_kind how }) M) uid (placed_given h.3)) (kept.begin e k d t l how parent M new may free h.4)
+      (λ tops agree. let less = agree_less a begun tops agree in let s = h.5 tops less in let n = knows_node tops begun k d t M h.0 less h.2 h.3 (gives.node tops begun k d t M h.4 h.0 less) in
       actions_begin x tops e k d t l (record { node = k; serial = is_serial_kind how }) how parent (parent_of parent t.coord) M n.coord
       (subst (λ u. IsOfKind tops u how (path_below how (parent_of parent t.coord) (next_uid t.coord.tree))) uid (agree.each a (in_to a (a ∷ begun) (inl refl))).0) s.0 s.1)
     where
       a : Action
       a = record { path = path_below how (parent_of parent t.coord) (next_uid t.coord.tree); kind = how }
+
+      placed_given : ArePlaced begun (up k d t M) → ArePlaced begun (up k d t (given l (record { node = k; serial = is_serial_kind how }) M))
+      placed_given q = record { nodes = q.nodes; lines = q.lines }
 
       uid : actor (path_below how (parent_of parent t.coord) (next_uid t.coord.tree)) ≡ next_uid t.coord.tree
       uid = its_uid e k d t l how parent M new may free (begun, h.0)
@@ -119,20 +152,21 @@ module _ (hd : Header) (x : ℕ) (has_it : HasObject hd x) (R : Seen → Type 0)
 
   tick_keeps : (e k : ℕ) (d : Disk) (t : Parts) (M : Seen) → P (up k d t M) → Walks P e k (tick_outs (record { number = k; disk = d; live = Some t }) t) (Up P k (with_coord t (again_all t.coord.doings t.coord).part)) d M
   tick_keeps e k d t M (begun, h) = all_walk R x begun h.1 e k (tick_outs (record { number = k; disk = d; live = Some t }) t) (with_coord t (again_all t.coord.doings t.coord).part) d M (tick_good e k d t M (begun, h.0))
-      (kept_walk begun e k d t (with_coord t (again_all t.coord.doings t.coord).part) (tick_outs (record { number = k; disk = d; live = Some t }) t) M (tick_kept begun k d t) h.2) (kept.tick e k d t M h.3)
-      (λ tops agree. let s = h.4 tops agree in let n = knows_node tops begun k d t M h.0 agree h.2 (gives.node tops begun k d t M h.3 h.0 agree) in ticks_are_walked x tops e k d t M n.coord n.begun s.0 s.1)
+      (kept_walk begun e k d t (with_coord t (again_all t.coord.doings t.coord).part) (tick_outs (record { number = k; disk = d; live = Some t }) t) M (tick_kept begun k d t) h.2)
+      (placed_walk begun e k d t (with_coord t (again_all t.coord.doings t.coord).part) (tick_outs (record { number = k; disk = d; live = Some t }) t) M (tick_prepares begun k d t) (λ n. n) h.3) (kept.tick e k d t M h.4)
+      (λ tops agree. let s = h.5 tops agree in let n = knows_node tops begun k d t M h.0 agree h.2 h.3 (gives.node tops begun k d t M h.4 h.0 agree) in ticks_are_walked x tops e k d t M n.coord n.begun s.0 s.1)
 
   pub all_keep : Keeps hd P
   all_keep = record {
-    quiet = λ e bs M quiet p. let h = p.1 in (p.0, (h.0, h.1, h.2, kept.quiet e bs M quiet h.3, λ tops agree. lines_seen x tops e bs M (h.4 tops agree)));
-    stop = λ e k d live M p. let h = p.1 in (p.0, (stopped_good k d live M (p.0, h.0) e, h.1, stop_recorded p.0 e k d live M h.2, kept.stop e k d live M h.3, λ tops agree. stops_seen x tops e k d live M (h.4 tops agree)));
+    quiet = λ e bs M quiet p. let h = p.1 in (p.0, (h.0, h.1, h.2, placed_said p.0 e bs M h.3, kept.quiet e bs M quiet h.4, λ tops agree. lines_seen x tops e bs M (h.5 tops agree)));
+    stop = λ e k d live M p. let h = p.1 in (p.0, (stopped_good k d live M (p.0, h.0) e, h.1, stop_recorded p.0 e k d live M h.2, stop_placed p.0 e k d live M h.3, kept.stop e k d live M h.4, λ tops agree. stops_seen x tops e k d live M (h.5 tops agree)));
     message = message_keeps;
     act = act_keeps;
     begin = begin_keeps;
     tick = tick_keeps;
-    restart = λ e k d M p. let h = p.1 in all_walk R x p.0 h.1 e k (restart_outs hd k (d.inc + 1) d) (parts_in k (d.inc + 1) d) d M (restart_good hd e k d M (p.0, h.0)) (restart_recorded p.0 hd e k d M h.2) (kept.restart e k d M h.3)
-        (λ tops agree. let s = h.4 tops agree in restarts_are_walked x tops e k hd d M (gives.prepared k d M h.3) s.0 s.1);
-    first = ([], (first_of hd, (λ a w c on. absurd (in_from a [] c)), format_recorded hd, kept.first, λ tops agree. formats_are_seen hd x tops has_it));
+    restart = λ e k d M p. let h = p.1 in all_walk R x p.0 h.1 e k (restart_outs hd k (d.inc + 1) d) (parts_in k (d.inc + 1) d) d M (restart_good hd e k d M (p.0, h.0)) (restart_recorded p.0 hd e k d M h.2) (restart_placed p.0 hd e k d M h.3) (kept.restart e k d M h.4)
+        (λ tops agree. let s = h.5 tops agree in restarts_are_walked x tops e k hd d M (prepared_begun p.0 k d None M h.3) s.0 s.1);
+    first = ([], (first_of hd, (λ a w c on. absurd (in_from a [] c)), format_recorded hd, format_placed hd, kept.first, λ tops agree. formats_are_seen hd x tops has_it));
   }
 
 -- ---- copies agree
@@ -158,5 +192,5 @@ runs_agree hd x has_it test kept gives es =
     let r = runs_hold hd (IsSeenInRun (λ M. test M ≡ true) x) (all_keep hd x has_it (λ M. test M ≡ true) kept gives) es in
     let h = r.holds in
     let g = h.1 in
-    let s = g.4 (kinds_of h.0) (kinds_agree h.0 g.0.begun g.1) in
+    let s = g.5 (kinds_of h.0) (kinds_agree h.0 g.0.begun g.1) in
     record { sent = r.sent; stands = r.stands; holds = copies_agree x (kinds_of h.0) s.0 (see r.sent (run_all es (format hd))) s.1 }

@@ -1,5 +1,5 @@
 -- What the disk half of the view takes of the protocol alone, from good nodes and the rest.
-use Rattle.std.proofs.Common.{◌≡◌, ◌≢◌, ℕ, zero, suc, List, [], ◌∷◌, Bool, true, false, Option, Some, None, refl, sym, ◌∙◌, ap, subst, inl, inr, ⊎_elim, slice_get, length}
+use Rattle.std.proofs.Common.{◌≡◌, ◌≢◌, ℕ, ◌==◌, zero, suc, List, [], ◌∷◌, Bool, true, false, Option, Some, None, refl, sym, ◌∙◌, ap, subst, inl, inr, ⊎_elim, slice_get, length}
 use Rattle.std.specs.Prelude.{if◌then◌else◌, not, is_some, take}
 use Rattle.std.specs.List.{AllByRecursion}
 use Rattle.arj_lock.proofs.Members.{In, in_to}
@@ -13,6 +13,7 @@ use Rattle.arj_protocol.specs.Call.{Steps}
 use Rattle.arj_protocol.specs.Commit as commit
 use Rattle.arj_protocol.specs.Coord.{Doing, Calling, Committing, doing_of, plan_for, root_at}
 use Rattle.arj_protocol.specs.Effect.{Disk, Intent}
+use Rattle.arj_protocol.specs.Naming.{Naming}
 use Rattle.arj_protocol.specs.Node.{Parts}
 use Rattle.arj_protocol.specs.Order.{at_uid, uid_number}
 use Rattle.arj_protocol.specs.Tree.{Branch, at_place, branch_of, is_constituent, is_open, is_open_branch, is_own, root_of}
@@ -20,7 +21,7 @@ use Rattle.arj_part_law.specs.Actions.{Action, act_of, action_of, paths_of}
 use Rattle.arj_part_law.specs.Coords.{IsBusy, IsGoodCoord, IsVoting}
 use Rattle.arj_run_law.specs.Worlds.{IsGoodOf, IsUp}
 use Rattle.arj_run_law.proofs.Handled.{good_coord, it, records_of_disk}
-use Rattle.arj_disk_law.proofs.Base.{never, some_is}
+use Rattle.arj_disk_law.proofs.Base.{never, some_is, test_is}
 use Rattle.arj_view_law.specs.Seen.{Seen, up}
 use Rattle.arj_disk_view_law.specs.Coordinating.{KnowsNode}
 use Rattle.arj_disk_view_law.specs.Knows.{IsOfKind, IsOpenSerial, KnowsCoord, KnowsMachine, KnowsPlan, KnowsSteps}
@@ -29,7 +30,9 @@ use Rattle.arj_disk_view_law.proofs.Frames.{node_here}
 use Rattle.arj_disk_view_law.proofs.Keys as keys
 use Rattle.arj_disk_run_law.specs.Facts.{HasRest}
 use Rattle.arj_disk_run_law.specs.Kinds.{Agrees, is_top_kind}
+use Rattle.arj_disk_run_law.specs.Places.{ArePlaced}
 use Rattle.arj_disk_run_law.specs.Records.{AreRecorded, HaveRecords, IsRecorded}
+use Rattle.arj_disk_run_law.proofs.PlaceWalks.{has_naming}
 use Rattle.arj_disk_run_law.proofs.Begun.{Stood, root_on, stood}
 
 -- a list that is as long has something at the place too
@@ -60,7 +63,7 @@ unended : (o : Option End) → is_some o ≡ false → o ≡ None
 unended None h = refl
 unended (Some how) h = absurd (cc h)
 
-module _ (tops : Kinds) (acts : List Action) (k : ℕ) (d : Disk) (t : Parts) (M : Seen) (good : IsGoodOf acts (up k d t M)) (agree : Agrees tops acts) (recs : AreRecorded acts (up k d t M)) (rest : HasRest tops k d t M) where
+module _ (tops : Kinds) (acts : List Action) (k : ℕ) (d : Disk) (t : Parts) (M : Seen) (good : IsGoodOf acts (up k d t M)) (agree : Agrees tops acts) (recs : AreRecorded acts (up k d t M)) (placed : ArePlaced acts (up k d t M)) (rest : HasRest tops k d t M) where
   mine : IsUp acts M.sent M.labels k d.inc t
   mine = it 0 k d t M (acts, good)
 
@@ -247,5 +250,8 @@ module _ (tops : Kinds) (acts : List Action) (k : ℕ) (d : Disk) (t : Parts) (M
     telling_there = all_told d.intents t.coord.telling (awaited);
   }
 
+  named : is_some t.naming ≡ (k == 1)
+  named = has_naming acts k d t M placed
+
   pub knows_node : KnowsNode tops k d t M
-  knows_node = record { kinds = agree.kinds; coord = knows_coord; begun = rest.begun; asked = rest.asked; elsewhere = rest.elsewhere; naming_here = rest.naming_here }
+  knows_node = record { kinds = agree.kinds; coord = knows_coord; begun = rest.begun; asked = rest.asked; elsewhere = λ none. sym named ∙ ap (λ (o : Option Naming). is_some o) none; naming_here = λ n is. (test_is k 1 (sym named ∙ ap (λ (o : Option Naming). is_some o) is), rest.orphans n is) }

@@ -1,5 +1,5 @@
 -- What a run's relation has to give beside what holds of good nodes, so that the disk half of the view is kept.
-use Rattle.std.specs.Prelude.{◌≡◌, ℕ, true, false, ◌++◌, ◌∷◌, ◌==◌, List, Some, None}
+use Rattle.std.specs.Prelude.{◌≡◌, ℕ, true, ◌∷◌, List, Some}
 use Rattle.std.specs.List.{AllByRecursion}
 use Rattle.arj_protocol.specs.Words.{Uid, Message, asks}
 use Rattle.arj_protocol.specs.Words.message
@@ -7,8 +7,8 @@ use Rattle.arj_protocol.specs.Commit as commit
 use Rattle.arj_protocol.specs.Coord.{Doing, Committing, doing_of, root_at, plan_for}
 use Rattle.arj_protocol.specs.Effect.{Disk}
 use Rattle.arj_protocol.specs.Naming.{Naming}
-use Rattle.arj_protocol.specs.Node.{Parts, holders, prepared_actions}
-use Rattle.arj_protocol.specs.Order.{uid_number, uid_set}
+use Rattle.arj_protocol.specs.Node.{Parts, holders}
+use Rattle.arj_protocol.specs.Order.{uid_number}
 use Rattle.arj_protocol.specs.Tree.{Branch, branch_of, root_of}
 use Rattle.arj_part_law.specs.Actions.{Action}
 use Rattle.arj_run_law.specs.Worlds.{IsGoodOf}
@@ -31,17 +31,15 @@ pub record IsSound (m : commit.Machine) : Type 0 where
   pub uses : (let p = commit.plan_of m in p.used) ≡ used ∷ more
 
 -- Of a node that is up: commits are sound, and so is what a top may begin with; who is asked about has begun, by the lines; and
--- naming is at node 1, where an end takes no rows but of its own constituents.
+-- at naming an end takes no rows but of its own constituents.
 pub record HasRest (tops : Kinds) (k : ℕ) (d : Disk) (t : Parts) (M : Seen) : Type 0 where
   pub sound : (u : Uid) (q : Doing) (m : commit.Machine) → doing_of u t.coord ≡ Some q → q.now ≡ Committing m → IsSound m
   pub starts : (u : Uid) (b : Branch) (req : ℕ) → branch_of u t.coord.tree ≡ Some b → tops.is_top (uid_number u) ≡ true → IsTidy (plan_for b.path req (root_at (root_of b.path) t.coord) t.coord)
   pub begun : AllByRecursion (λ u. was_begun u M.lines ≡ true) (holders d t)
   pub asked : (from : ℕ) (act : Uid) → seen.In (record { from = from; to = k; message = message.Query (record { act = act }) }) M.sent → HasBegunHere k t.coord act
-  pub elsewhere : t.naming ≡ None → (k == 1) ≡ false
-  pub naming_here : (n : Naming) → t.naming ≡ Some n → (k ≡ 1) × ((u : Uid) → AreOrphansOf tops u d n)
+  pub orphans : (n : Naming) → t.naming ≡ Some n → (u : Uid) → AreOrphansOf tops u d n
 
 -- A relation gives this of each node, and that a Confirm which naming checks anew is booked in each object's machine.
 pub record Gives (R : Seen → Type 0) : Type 0 where
   pub node : (tops : Kinds) (acts : List Action) (k : ℕ) (d : Disk) (t : Parts) (M : Seen) → R (up k d t M) → IsGoodOf acts (up k d t M) → Agrees tops acts → HasRest tops k d t M
-  pub prepared : (k : ℕ) (d : Disk) (M : Seen) → R (down k d M) → AllByRecursion (λ u. was_begun u M.lines ≡ true) (uid_set (prepared_actions d.store ++ prepared_actions d.names))
   pub booked : (x : ℕ) (tops : Kinds) (k : ℕ) (d : Disk) (t : Parts) (M : Seen) (from : ℕ) (m : Message) (W : World) → R (up k d t M) → seen.In (record { from = from; to = k; message = m }) M.sent → SeesDisks x tops W (up k d t M) → ConfirmsAreBooked d t W (asks m)

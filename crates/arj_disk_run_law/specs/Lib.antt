@@ -1,4 +1,5 @@
 pub mod Facts
 pub mod Kinds
+pub mod Places
 pub mod Records
 pub mod Runs

@@ -15,11 +15,12 @@ use Rattle.arj_disk_view_law.specs.Pairs.{packed}
 use Rattle.arj_disk_view_law.specs.Sees.{Kinds, IsSeenByDisks}
 use Rattle.arj_disk_run_law.specs.Facts.{Gives}
 use Rattle.arj_disk_run_law.specs.Kinds.{Agrees, AreOfOneNode}
+use Rattle.arj_disk_run_law.specs.Places.{ArePlaced}
 use Rattle.arj_disk_run_law.specs.Records.{AreRecorded}
 
--- Nodes are good, with these actions begun, and so are their records; the relation holds; and the object is seen, whatever kinds later actions will have.
+-- Nodes are good, with these actions begun, and so are their records and what they have prepared; the relation holds; and the object is seen, whatever kinds later actions will have.
 abbrev pub IsSeenWith : (Seen → Type 0) → ℕ → List Action → Seen → Type 0
-IsSeenWith R x acts M = IsGoodOf acts M × AreOfOneNode acts × AreRecorded acts M × R M × ((tops : Kinds) → Agrees tops acts → IsSeenByDisks x tops M)
+IsSeenWith R x acts M = IsGoodOf acts M × AreOfOneNode acts × AreRecorded acts M × ArePlaced acts M × R M × ((tops : Kinds) → Agrees tops acts → IsSeenByDisks x tops M)
 
 abbrev pub IsSeenInRun : (Seen → Type 0) → ℕ → Seen → Type 0
 IsSeenInRun R x M = (acts : List Action) × IsSeenWith R x acts M

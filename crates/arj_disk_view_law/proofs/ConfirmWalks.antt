@@ -310,7 +310,7 @@ module _ (x : ℕ) (d : Pair) (W : World) (top : Uid) (grants : Grants) (exclude
 
 -- ---- locks and refusals
 
-locks_say : (xs : List ℕ) (p : Path) (n : Naming) → AreAll is_say (lock_all xs p n).outs
+pub locks_say : (xs : List ℕ) (p : Path) (n : Naming) → AreAll is_say (lock_all xs p n).outs
 locks_say [] p n = refl
 locks_say (y ∷ ys) p n = all_both is_say (lock_in y p n (at_number y n.objects)).outs (lock_all ys p (lock_in y p n (at_number y n.objects)).part).outs (one (at_number y n.objects)) (locks_say ys p (lock_in y p n (at_number y n.objects)).part)
   where

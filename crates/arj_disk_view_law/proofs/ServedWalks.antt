@@ -68,7 +68,7 @@ named_says : (inc x : ℕ) (p : Path) (include : Bool) (avoid : Binding) (e : En
 named_says inc x p true avoid e c = include_says inc x p e c (conflict_on x p mode.Write c.named)
 named_says inc x p false avoid e c = call_says inc x p avoid e c (live_above avoid c.named.live)
 
-bind_says : (p : Path) (x : ℕ) (include : Bool) (avoid : Binding) (d : Pair) (n : Naming) → AreAll is_say (naming.bind p x include avoid d n).outs
+pub bind_says : (p : Path) (x : ℕ) (include : Bool) (avoid : Binding) (d : Pair) (n : Naming) → AreAll is_say (naming.bind p x include avoid d n).outs
 bind_says p x include avoid d n = by (is_over p n) (at_number x n.objects)
   where
     by : (b : Bool) (o : Option Named) → AreAll is_say (if b then void n else on_counted x (bind_named n.inc x p include avoid (listed_entry x d)) n o).outs
@@ -106,7 +106,7 @@ note_named_says x top b i o = by (is_binding b o.recorded) (at_uid top o.made)
     by false None = refl
     by false (Some m) = other m (binding_eq b m.binding)
 
-note_says : (p : Path) (x : ℕ) (b : Binding) (i g : ℕ) (n : Naming) → AreAll is_say (naming.note p x b i g n).outs
+pub note_says : (p : Path) (x : ℕ) (b : Binding) (i g : ℕ) (n : Naming) → AreAll is_say (naming.note p x b i g n).outs
 note_says p x b i g n = by (is_over p n || not (is_some (at_number x n.objects))) (g == n.inc) (at_number x n.objects)
   where
     by : (v c : Bool) (o : Option Named) → AreAll is_say (if v then void n else (if c then on_named x (note_named x (top_of p) b i) n o else reply n (recorded.Changed (what.Inc g n.inc)))).outs
