@@ -8,4 +8,5 @@ pub mod Tests
 pub mod Hands
 pub mod Begins
 pub mod Runs
+pub mod First
 pub mod Armed

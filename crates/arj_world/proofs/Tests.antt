@@ -6,6 +6,7 @@ use Rattle.std.proofs.lemmas.List.{append-nil}
 use Rattle.std.proofs.lemmas.Option.{slice_get_read}
 use Rattle.std.specs.Option.{option_map}
 use Rattle.arj_core.specs.declared.node.Core.{Ghosts}
+use Rattle.arj_core.specs.Steps.{message_of, whole_message}
 use Rattle.arj_disk.specs.FileMap.{FileMap}
 use Rattle.arj_journal.specs.declared.header.Header.{Header}
 use Rattle.arj_journal.specs.declared.header.ObjectLine.{ObjectLine}
@@ -166,3 +167,33 @@ module _ {C : Type 0} (core : Ghosts C) where
 
   pub idle_end : (k : ℕ) (header : Header) (cores : List C) (nodes : List Node) → AreSomeNodes core header cores nodes → length cores ≤ k → list_all is_idle (drop k nodes) ≡ true
   idle_end k header cores nodes are all = ap (list_all is_idle) (drop_none k nodes (omega (arith, all, are.count)))
+
+-- ---- what an accepted event knows
+
+-- a reason that doesn't hold, and those behind it
+pub passed : (a : ℕ) (p : Bool) (rest : List (ℕ × Bool)) → None ≡ first_reason ((a, p) ∷ rest) → (p ≡ false) × (None ≡ first_reason rest)
+passed a true rest is = absurd (cc is)
+passed a false rest is = (refl, is)
+
+in_count : (n count : ℕ) → not (nat_le 1 n && nat_le n count) ≡ false → (1 ≤ n) × (n ≤ count)
+in_count n count is = by (nat_le 1 n) refl (nat_le n count) refl
+  where
+    by : (a : Bool) → nat_le 1 n ≡ a → (b : Bool) → nat_le n count ≡ b → (1 ≤ n) × (n ≤ count)
+    by true one true two = (grind (arith, one), grind (arith, two))
+    by true one false two = absurd (cc (sym is ∙ (λ i. not (one i && two i))))
+    by false one b two = absurd (cc (sym is ∙ (λ i. not (one i && two i))))
+
+-- a node that the first reason asks for is there
+pub in_range : {C : Type 0} (core : Ghosts C) (n : ℕ) (rest : List (ℕ × Bool)) (k : Kept C) (w : World) → Keeps core k w → None ≡ first_reason ((1, not (protocol.is_node n w)) ∷ rest) → (1 ≤ n) × (n ≤ k.header.nodes)
+in_range core n rest k w keeps is =
+    let p = passed 1 (not (protocol.is_node n w)) rest is in
+    in_count n k.header.nodes (sym (λ i. let hd = keeps.header i in not (nat_le 1 n && nat_le n hd.nodes)) ∙ p.0)
+
+-- bytes that are no message
+pub no_message : (bytes : List ℕ) → reads_whole (read_message bytes) ≡ false → message_of bytes ≡ None
+no_message bytes is = by (read_message bytes) is
+  where
+    by : (r : Result (Message × List ℕ) ℕ) → reads_whole r ≡ false → whole_message r ≡ None
+    by (Err n) is = refl
+    by (Ok (m, b ∷ rest)) is = refl
+    by (Ok (m, [])) is = absurd (cc is)

@@ -3,3 +3,4 @@ pub mod Wire
 pub mod Stands
 pub mod Goes
 pub mod Happens
+pub mod First

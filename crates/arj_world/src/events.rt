@@ -86,8 +86,8 @@ impl<C: Core> World<C> {
         self.give_label(label, node, serial)
     }
 
-    // A plain or a serializing action begins at a node.
-    fn begin_at<D: Disk>(
+    /// A plain or a serializing action begins at a node.
+    pub(crate) fn begin_at<D: Disk>(
         &mut self,
         rack: &mut Rack<D>,
         label: Label,
@@ -133,8 +133,8 @@ impl<C: Core> World<C> {
         }
     }
 
-    // An action begins in another one, at its node.
-    fn begin_in<D: Disk>(
+    /// An action begins in another one, at its node.
+    pub(crate) fn begin_in<D: Disk>(
         &mut self,
         rack: &mut Rack<D>,
         label: Label,
@@ -150,8 +150,8 @@ impl<C: Core> World<C> {
         self.begin(rack, label, kind, Some(parent), node, journal)
     }
 
-    // An independent action begins at the node of another one.
-    fn begin_apart<D: Disk>(
+    /// An independent action begins at the node of another one.
+    pub(crate) fn begin_apart<D: Disk>(
         &mut self,
         rack: &mut Rack<D>,
         label: Label,
@@ -166,8 +166,8 @@ impl<C: Core> World<C> {
         self.begin(rack, label, Kind::Independent, Some(parent), node, journal)
     }
 
-    // The node of a label is asked.
-    fn ask<D: Disk>(
+    /// The node of a label is asked.
+    pub(crate) fn ask<D: Disk>(
         &mut self,
         rack: &mut Rack<D>,
         label: Label,
@@ -183,8 +183,8 @@ impl<C: Core> World<C> {
         self.ask_node(rack, u32::from(node), input, journal)
     }
 
-    // A node comes up.
-    fn restart<D: Disk>(
+    /// A node comes up.
+    pub(crate) fn restart<D: Disk>(
         &mut self,
         rack: &mut Rack<D>,
         node: u32,
@@ -200,8 +200,8 @@ impl<C: Core> World<C> {
         }
     }
 
-    // A node's disk is armed.
-    fn arm<D: Disk>(
+    /// A node's disk is armed.
+    pub(crate) fn arm<D: Disk>(
         &mut self,
         rack: &mut Rack<D>,
         node: u32,
@@ -223,8 +223,8 @@ impl<C: Core> World<C> {
         self.wire.say(Body::Armed { node: n }, journal)
     }
 
-    // Bytes that are no message are sent to a node, by nobody.
-    fn send_junk<D: Disk>(
+    /// Bytes that are no message are sent to a node, by nobody.
+    pub(crate) fn send_junk<D: Disk>(
         &mut self,
         rack: &Rack<D>,
         node: u32,

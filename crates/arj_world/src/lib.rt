@@ -1,19 +1,20 @@
 //! The nodes, the net and the journal under a script.
 //!
 //! It stands on `arj_core` (a node), `arj_net` (frames), `arj_disk` (disks) and the definitions of `arj_protocol`. What it
-//! gives upward so far: one step of a node in a world puts its lines and frames, and leaves the world that the protocol's
-//! step leaves, done or cut by a stop of the node's disk (`specs/Stands.antt`, `specs/Goes.antt`); so do frames that are
-//! delivered or lost, a settle, a quiesce, a show, actions that begin, calls and ends, restarts and arms; the refusals are
-//! the protocol's. `specs/Turns.antt` says what the run of a script is, with the stops that its disks make. One call for
-//! all events is to come.
+//! gives upward: a world that is formatted is the protocol's first world, and each event makes of it what the protocol makes
+//! of its world, with the stops that the disks made (`World::step`; `specs/Stands.antt`, `specs/Happens.antt`).
+//! `specs/Turns.antt` says what the run of a script is, with those stops. Inside an event it isn't known yet which stops
+//! will fall: `specs/Goes.antt` says how a world goes on then.
 #![tactic(auto)]
 
 mod delivery;
 mod events;
 mod fault;
+mod format;
 mod labelled;
 mod nodes;
 mod refusal;
+mod run;
 mod wire;
 mod world;
 

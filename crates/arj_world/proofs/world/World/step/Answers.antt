@@ -1,0 +1,76 @@
+use Rattle.std.proofs.Common.{◌≡◌, ◌∙◌, ◌+◌, ◌∷◌, ◌++◌, [], false, refl, subst, sym}
+use Rattle.std.proofs.lemmas.Result.{on_ok_weaker}
+use Rattle.arj_protocol.specs.Words.body
+use Rattle.arj_protocol.specs.Words.which
+use Rattle.arj_protocol.specs.World.{counted, numbered}
+use Rattle.arj_world.specs.Happens.{HappensTo, RunsTo, done}
+use Rattle.arj_world.specs.Stands.{Keeps, StandsSome, hand}
+use Rattle.arj_world.proofs.Runs.{counted_stands, keeps_uncounted, on_ok_both, runs_accepted, runs_over, runs_refused}
+use Rattle.arj_world.proofs.world.World.step.Goals as goal
+
+pub returns-in-Some-clause-ran : goal.returns-in-Some-clause-ran
+returns-in-Some-clause-ran g c =
+    let old = hand c.args.self.now c.args.rack.now c.args.journal.now in
+    let next = record c.args.self.now { event = c.args.self.now.event + 1 } in
+    let line = numbered (c.args.self.now.event + 1) (body.Refused c.in-Some.cause ∷ []) in
+    on_ok_weaker c.refuse.result
+    (λ (both : (c.refuse.new.self ≡ next) × (c.refuse.new.journal ≡ c.args.journal.now ++ line)).
+    subst (λ s. RunsTo g.C.Core g.D.Disk.file c.args.event old (hand s c.args.rack.now c.refuse.new.journal)) (sym both.0)
+    (runs_refused g.C.Core g.D.Disk.file c.args.event c.in-Some.cause old c.refuse.new.journal (λ w keeps. sym c.in-Some.is ∙ c.in_ok-cause.ensures w keeps) both.1))
+    (on_ok_both (c.refuse.new.self ≡ next) (c.refuse.new.journal ≡ c.args.journal.now ++ line) c.refuse.result c.refuse.ensures.counted c.refuse.ensures.said)
+
+pub returns-in-Some-clause-frames : goal.returns-in-Some-clause-frames
+returns-in-Some-clause-frames g c = λ e. absurd (c.refuse.ensures.frames e)
+
+pub returns-in-Some-clause-last : goal.returns-in-Some-clause-last
+returns-in-Some-clause-last g c = λ e. absurd (c.refuse.ensures.frames e)
+
+pub returns-in-Some-clause-kept : goal.returns-in-Some-clause-kept
+returns-in-Some-clause-kept g c = λ e. absurd (c.refuse.ensures.labels e)
+
+pub returns-in-Some-clause-labels : goal.returns-in-Some-clause-labels
+returns-in-Some-clause-labels g c = λ e. absurd (c.refuse.ensures.labels e)
+
+pub returns-then-lacks_labels-clause-kept : goal.returns-then-lacks_labels-clause-kept
+returns-then-lacks_labels-clause-kept g c = λ e. (refl, refl, refl)
+
+pub returns-then-lacks_labels-clause-labels : goal.returns-then-lacks_labels-clause-labels
+returns-then-lacks_labels-clause-labels g c = λ e w keeps. (sym c.in_default.is ∙ c.in_ok-cause.ensures w keeps, sym (c.if-lacks_labels.ensures w keeps))
+
+pub happen-requires-clause-accepted : goal.happen-requires-clause-accepted
+happen-requires-clause-accepted g c = λ w keeps.
+    sym c.in_default.is ∙ c.in_ok-cause.ensures w (keeps_uncounted g.C.Core g.D.Disk.file c.args.self.now (c.args.self.now.event + 1) w (subst (λ s. Keeps g.C.Core s w) c.count.ensures keeps))
+
+pub happen-requires-clause-stands : goal.happen-requires-clause-stands
+happen-requires-clause-stands g c =
+    let st = c.requires.stands in
+    subst (λ s. StandsSome g.C.Core g.D.Disk.file (hand s c.args.rack.now c.args.journal.now)) (sym c.count.ensures)
+    (counted st.0, counted_stands g.C.Core g.D.Disk.file (hand c.args.self.now c.args.rack.now c.args.journal.now) st.0 st.1)
+
+pub returns-clause-ran : goal.returns-clause-ran
+returns-clause-ran g c =
+    let old = hand c.args.self.now c.args.rack.now c.args.journal.now in
+    let new = hand c.happen.new.self c.happen.new.rack c.happen.new.journal in
+    on_ok_weaker c.end.result
+    (λ (both : (c.happen.new.self.full ≡ false) × (c.end.new.journal ≡ c.happen.new.journal)).
+    subst (λ j. RunsTo g.C.Core g.D.Disk.file c.args.event old (hand c.happen.new.self c.happen.new.rack j)) (sym both.1)
+    (runs_accepted g.C.Core g.D.Disk.file c.args.event old new (λ w keeps. sym c.in_default.is ∙ c.in_ok-cause.ensures w keeps) c.if-lacks_labels.ensures
+    (subst (λ s. HappensTo g.C.Core g.D.Disk.file (done c.args.event) (hand s c.args.rack.now c.args.journal.now) new) c.count.ensures c.in_ok-happen.ensures.happens) both.0))
+    (on_ok_both (c.happen.new.self.full ≡ false) (c.end.new.journal ≡ c.happen.new.journal) c.end.result c.end.ensures.fits c.end.ensures.still)
+
+pub returns-clause-frames : goal.returns-clause-frames
+returns-clause-frames g c = λ e.
+    let old = hand c.args.self.now c.args.rack.now c.args.journal.now in
+    let new = hand c.happen.new.self c.happen.new.rack c.happen.new.journal in
+    runs_over g.C.Core g.D.Disk.file c.args.event old new (λ w keeps. sym c.in_default.is ∙ c.in_ok-cause.ensures w keeps) c.if-lacks_labels.ensures
+    (subst (λ s. HappensTo g.C.Core g.D.Disk.file (done c.args.event) (hand s c.args.rack.now c.args.journal.now) new) c.count.ensures c.in_ok-happen.ensures.happens)
+    c.end.new.journal (c.end.ensures.full e) (c.end.ensures.said e)
+
+pub returns-clause-last : goal.returns-clause-last
+returns-clause-last g c = λ e. (c.happen.new.journal, record { event = c.happen.new.self.event; body = body.Limit which.Frames }, c.end.ensures.said e, refl)
+
+pub returns-clause-kept : goal.returns-clause-kept
+returns-clause-kept g c = λ e. absurd (c.end.ensures.labels e)
+
+pub returns-clause-labels : goal.returns-clause-labels
+returns-clause-labels g c = λ e. absurd (c.end.ensures.labels e)

@@ -1,0 +1,182 @@
+// One event after another.
+ghost use Rattle.std.specs.Prelude.{◌≡◌, ◌≤◌, ◌<◌, ◌+◌, ◌∷◌, ◌++◌, [], true, false, None, Some, OnOk, IfOk, IsErrOf, All};
+ghost use Rattle.arj_disk.specs.declared.limits.TheConstants.{LAST_ARM};
+ghost use Rattle.arj_journal.specs.ScriptForm.{EventInForm};
+ghost use Rattle.arj_journal.specs.Stepping.{EndsWithLimit};
+ghost use Rattle.arj_protocol.specs.Step.{first_reason};
+ghost use Rattle.arj_protocol.specs.Step as inputs;
+ghost use Rattle.arj_protocol.specs.Words.body;
+ghost use Rattle.arj_protocol.specs.Words.which;
+ghost use Rattle.arj_protocol.specs.World.{giving, lacks_labels, numbered, reasons, steps};
+ghost use Rattle.arj_protocol.specs.World as protocol;
+ghost use Rattle.arj_world.specs.Goes.{GoesTo};
+ghost use Rattle.arj_world.specs.Happens.{HappensTo, RunsOver, RunsTo, done};
+ghost use Rattle.arj_world.specs.Stands.{Keeps, StandsSome, hand};
+
+use crate::{StepFault, World};
+use arj_core::{Core, Input};
+use arj_disk::{Disk, Rack};
+use arj_journal::{Body, Event, Kind, Label, Lines, Which};
+use std::alloc::AllocError;
+
+/// The most labels that a run gives.
+pub const MOST_LABELS: usize = 4096;
+
+impl<C: Core> World<C> {
+    // An action includes a store of an object.
+    fn include<D: Disk>(
+        &mut self,
+        rack: &mut Rack<D>,
+        label: Label,
+        x: u16,
+        node: u32,
+        journal: &mut Lines,
+    ) -> Result<(), AllocError>
+        requires least { 1 ≤ node }
+        requires greatest { node ≤ self.old.header.nodes }
+        requires stands { StandsSome C.Core D.file (hand self.old rack.old journal.old) }
+        ensures goes { OnOk result (GoesTo C.Core D.file (λ w. steps (protocol.node_of label w) (inputs.Include label x node) w) (hand self.old rack.old journal.old) (hand self.new rack.new journal.new)) }
+        ensures header { self.new.header ≡ self.old.header }
+    {
+        let Some(store) = self.node_in(node) else {
+            unreachable!()
+        };
+        self.ask(rack, label, Input::Include { label, x, store }, journal)
+    }
+
+    // What an event does that the world doesn't refuse.
+    fn happen<D: Disk>(
+        &mut self,
+        rack: &mut Rack<D>,
+        event: Event,
+        journal: &mut Lines,
+    ) -> Result<(), AllocError>
+        requires form { EventInForm event }
+        requires accepted { (w : protocol.World) → Keeps C.Core self.old w → None ≡ first_reason (reasons event w) }
+        requires arms { All (λ d. D.arms d < LAST_ARM) rack.old }
+        requires stands { StandsSome C.Core D.file (hand self.old rack.old journal.old) }
+        ensures happens { OnOk result (HappensTo C.Core D.file (done event) (hand self.old rack.old journal.old) (hand self.new rack.new journal.new)) }
+        ensures header { self.new.header ≡ self.old.header }
+    {
+        match event {
+            Event::Begin { label, node } => self.begin_at(rack, label, Kind::Top, node, journal),
+            Event::Serial { label, node } => {
+                self.begin_at(rack, label, Kind::Serial, node, journal)
+            }
+            Event::BeginIn { label, parent } => self.begin_in(rack, label, parent, journal),
+            Event::Top { label, parent } => self.begin_apart(rack, label, parent, journal),
+            Event::Call { label, x, op } => {
+                self.ask(rack, label, Input::Call { label, x, op }, journal)
+            }
+            Event::Include { label, x, node } => self.include(rack, label, x, node, journal),
+            Event::Commit { label } => self.ask(rack, label, Input::Commit { label }, journal),
+            Event::Abort { label } => self.ask(rack, label, Input::Abort { label }, journal),
+            Event::GiveUp { label } => self.ask(rack, label, Input::GiveUp { label }, journal),
+            Event::Deliver { frame } => {
+                let k = self.frame_number(frame);
+                self.deliver(rack, k, journal)
+            }
+            Event::Lose { frame } => {
+                let k = self.frame_number(frame);
+                self.lose(k, journal)
+            }
+            Event::Tick { node } => self.ask_node(rack, node, Input::Tick, journal),
+            Event::Settle => self.settle(rack, journal),
+            Event::Quiesce => self.quiesce(rack, journal),
+            Event::Crash { node } => self.ask_node(rack, node, Input::Crash, journal),
+            Event::Restart { node } => self.restart(rack, node, journal),
+            Event::Stop { node, calls, kind } => self.arm(rack, node, calls, kind, journal),
+            Event::Junk { node, bytes } => self.send_junk(rack, node, bytes, journal),
+            Event::Show { x } => self.show_all(rack, x, journal),
+        }
+    }
+
+    // Whether an event would give one label too many.
+    fn lacks_labels(&self, event: &Event) -> bool
+        ensures { (w : protocol.World) → Keeps C.Core self.now w → result ≡ lacks_labels (giving event.now w) w }
+    {
+        let gives = matches!(
+            event,
+            Event::Begin { .. } | Event::Serial { .. } | Event::BeginIn { .. } | Event::Top { .. }
+        );
+        gives && MOST_LABELS <= self.labels.len()
+    }
+
+    // The next event.
+    fn count(&mut self)
+        requires { self.old.event < 200000 }
+        ensures { self.new ≡ record self.old { event = self.old.event + 1 } }
+    {
+        self.wire.event += 1;
+    }
+
+    // Counts a refused event, and writes its line.
+    fn refuse(&mut self, cause: u8, journal: &mut Lines) -> Result<(), StepFault>
+        requires { self.old.event < 200000 }
+        ensures counted { OnOk result (self.new ≡ record self.old { event = self.old.event + 1 }) }
+        ensures said { OnOk result (journal.new ≡ journal.old ++ numbered (self.old.event + 1) (body.Refused cause ∷ [])) }
+        ensures labels { IsErrOf result StepFault.Labels → ⊥ }
+        ensures frames { IsErrOf result StepFault.Frames → ⊥ }
+        ensures header { self.new.header ≡ self.old.header }
+    {
+        self.wire.event += 1;
+        self.wire.say(Body::Refused { cause }, journal)?;
+        Ok(())
+    }
+
+    // An event is over: where a frame didn't fit, a line says so.
+    fn end(&self, journal: &mut Lines) -> Result<(), StepFault>
+        ensures fits { OnOk result (self.now.full ≡ false) }
+        ensures still { OnOk result (journal.new ≡ journal.old) }
+        ensures full { IsErrOf result StepFault.Frames → self.now.full ≡ true }
+        ensures said { IsErrOf result StepFault.Frames → journal.new ≡ journal.old ++ numbered self.now.event (body.Limit which.Frames ∷ []) }
+        ensures labels { IsErrOf result StepFault.Labels → ⊥ }
+    {
+        if !self.wire.full {
+            return Ok(());
+        }
+        let body = Body::Limit {
+            which: Which::Frames,
+        };
+        self.wire.say(body, journal)?;
+        Err(StepFault::Frames)
+    }
+
+    /// How many events were run.
+    pub fn stepped(&self) -> u32
+        ensures { result ≡ self.now.event }
+    {
+        self.wire.event
+    }
+
+    /// Runs one event: its lines go to the end of the journal, and the world is then what the protocol makes of it, with
+    /// the stops that fell. Where a frame didn't fit, a line says so last, and the run is over. An event that would give
+    /// one label too many changes nothing.
+    pub fn step<D: Disk>(
+        &mut self,
+        rack: &mut Rack<D>,
+        event: Event,
+        journal: &mut Lines,
+    ) -> Result<(), StepFault>
+        requires room { self.old.event < 200000 }
+        requires form { EventInForm event }
+        requires arms { All (λ d. D.arms d < LAST_ARM) rack.old }
+        requires stands { StandsSome C.Core D.file (hand self.old rack.old journal.old) }
+        ensures ran { OnOk result (RunsTo C.Core D.file event (hand self.old rack.old journal.old) (hand self.new rack.new journal.new)) }
+        ensures frames { IsErrOf result StepFault.Frames → RunsOver C.Core D.file event (hand self.old rack.old journal.old) (hand self.new rack.new journal.new) }
+        ensures last { IsErrOf result StepFault.Frames → EndsWithLimit which.Frames journal.new }
+        ensures kept { IsErrOf result StepFault.Labels → (self.new ≡ self.old) × (rack.new ≡ rack.old) × (journal.new ≡ journal.old) }
+        ensures labels { IsErrOf result StepFault.Labels → (w : protocol.World) → Keeps C.Core self.old w → (None ≡ first_reason (reasons event w)) × (lacks_labels (giving event w) w ≡ true) }
+        ensures header { self.new.header ≡ self.old.header }
+    {
+        if let Some(cause) = self.refusal(&event)? {
+            return self.refuse(cause, journal);
+        }
+        if self.lacks_labels(&event) {
+            return Err(StepFault::Labels);
+        }
+        self.count();
+        self.happen(rack, event, journal)?;
+        self.end(journal)
+    }
+}
