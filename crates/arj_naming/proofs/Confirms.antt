@@ -179,7 +179,7 @@ module _ (p : Path) (top : Uid) (gs : Grants) (ex inc : Marks) (d : Pair) (n : N
       ∙ rest_none (first_of_each (is_there d) inc) _ (rest_none (first_of_each (refused_exclude p n) (wanted (top_of p) gs ex d)) _ (rest_none (first_of_each (other_grant n) gs) _ passed))
 
   pub answered : (after : List Line) (before : List Line) (new : Naming) → states ≡ [] → new ≡ confirms top (lock_all xs p n).part → after ≡ before ++ said (lock_all xs p n).outs
-      → IsAnswered (confirm_new p gs ex inc d n (checked p gs ex inc d n)) new before after (Some confirmed.Yes)
+      → IsAnswered (confirm_new p gs ex inc d n (checked p gs ex inc d n)) (record { part = new; before = before; lines = after }) (Some confirmed.Yes)
   answered after before new empty part lines =
       let e : confirm_new p gs ex inc d n (checked p gs ex inc d n) ≡ confirm_entries top [] d (lock_all xs p n) = is_new ∙ (λ i. confirm_entries top (empty i) d (lock_all xs p n)) in
       record {
@@ -190,7 +190,7 @@ module _ (p : Path) (top : Uid) (gs : Grants) (ex inc : Marks) (d : Pair) (n : N
       }
 
   pub ready : (before after : List Line) (new : Naming) → (states ≡ [] → ⊥) → is_prepared top d ≡ false → AllByRecursion (λ s. IsNewState s.uid s) states → IsDistinct uid_eq (map (λ (s : ObjectState). s.uid) (entries_after top gs ex inc d)) → length gs ≤ 255
-      → new ≡ (lock_all xs p n).part → after ≡ before ++ said (lock_all xs p n).outs → IsReady (confirm_new p gs ex inc d n (checked p gs ex inc d n)) top d new before after states
+      → new ≡ (lock_all xs p n).part → after ≡ before ++ said (lock_all xs p n).outs → IsReady (confirm_new p gs ex inc d n (checked p gs ex inc d n)) top d (record { part = new; before = before; lines = after }) states
   ready before after new some first all once few part lines = record {
     outs = (lock_all xs p n).outs;
     only_lines = only_lines xs p n;

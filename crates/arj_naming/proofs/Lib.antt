@@ -20,3 +20,4 @@ pub mod Orphans
 pub mod EndParts
 pub mod LastEnd
 pub mod Showing
+pub mod Quiet

@@ -36,7 +36,7 @@ same_reply top states n outs (protocol.InDoubt u holder) = refl
 same_reply top states n outs (protocol.Already u) = refl
 same_reply top states n outs (protocol.Old u v) = refl
 
-module _ (r : Served Naming ConfirmedReply) (top : Uid) (d : Pair) (n : Naming) (before middle : List Line) (states : List ObjectState) (ready : IsReady r top d n before middle states) where
+module _ (r : Served Naming ConfirmedReply) (top : Uid) (d : Pair) (n : Naming) (before middle : List Line) (states : List ObjectState) (ready : IsReady r top d (record { part = n; before = before; lines = middle }) states) where
   outs_are : r.outs ≡ ready.outs ++ (prepare_by top states d n).outs
   outs_are = (λ i. (ready.is i).outs) ∙ behind top states n ready.outs (prepare_answer top states d)
 

@@ -19,19 +19,25 @@ AreLines (Say b ∷ es) = AreLines es
 AreLines (Send to m ∷ es) = ⊥
 AreLines (Do w ∷ es) = ⊥
 
+-- where a call stands before the store is asked: the part, and the lines before the call and now
+pub record Reached : Type 0 where
+  pub part : Naming
+  pub before : List Line
+  pub lines : List Line
+
 -- it is answered, and nothing is prepared
-pub record IsAnswered (r : Served Naming ConfirmedReply) (new : Naming) (before after : List Line) (answer : Option ConfirmedReply) : Type 0 where
-  pub part : new ≡ r.part
-  pub lines : after ≡ before ++ said r.outs
+pub record IsAnswered (r : Served Naming ConfirmedReply) (reached : Reached) (answer : Option ConfirmedReply) : Type 0 where
+  pub part : reached.part ≡ r.part
+  pub lines : reached.lines ≡ reached.before ++ said r.outs
   pub reply : answer ≡ r.reply
   pub nothing_done : AreLines r.outs
 
 -- all checks are passed, and the store is asked to prepare these states
-pub record IsReady (r : Served Naming ConfirmedReply) (top : Uid) (d : Pair) (new : Naming) (before after : List Line) (states : List ObjectState) : Type 0 where
+pub record IsReady (r : Served Naming ConfirmedReply) (top : Uid) (d : Pair) (reached : Reached) (states : List ObjectState) : Type 0 where
   pub outs : List Effect
   pub only_lines : AreLines outs
-  pub is : r ≡ prepared_by top states (record { part = new; outs = outs }) (prepare_answer top states d)
-  pub lines : after ≡ before ++ said outs
+  pub is : r ≡ prepared_by top states (record { part = reached.part; outs = outs }) (prepare_answer top states d)
+  pub lines : reached.lines ≡ reached.before ++ said outs
   pub first : is_prepared top d ≡ false
   pub states_are : AreOfEntries states
   pub few : length states ≤ 255

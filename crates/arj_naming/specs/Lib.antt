@@ -9,3 +9,4 @@ pub mod Files
 pub mod Found
 pub mod Kept
 pub mod Ends
+pub mod Touched

@@ -72,6 +72,7 @@ impl Part {
         ensures part { OnOk result (self.new ≡ (lock_in x path.now self.old (at_number x self.old.objects)).part) }
         ensures lines { OnOk result (out.new ≡ out.old ++ said (lock_in x path.now self.old (at_number x self.old.objects)).outs) }
     {
+        self.touched.insert(x)?;
         let Some(object) = self.objects.get_mut(&x) else {
             return Ok(());
         };

@@ -29,6 +29,7 @@ mod payload;
 mod recover;
 mod show;
 mod told;
+mod touched;
 mod uids;
 
 pub use naming::Naming;

@@ -54,7 +54,7 @@ impl Memory {
     pub fn confirm(&mut self, m: &Confirm, top: Uid, out: &mut Lines) -> Result<Ready, AllocError>
         requires single { IsSingle m.now }
         requires top { top ≡ top_of m.now.head.path }
-        ensures ready { IfOk result (IsReached (confirm_by m.now self.old.entries self.old.part) top self.old.entries self.new.part out.old out.new) }
+        ensures ready { IfOk result (IsReached (confirm_by m.now self.old.entries self.old.part) top self.old.entries (record { part = self.new.part; before = out.old; lines = out.new })) }
         ensures entries { self.new.entries ≡ self.old.entries }
     {
         if self.part.is_over(&m.head.path) || !self.part.has_all(m.objects.as_slice()) {
@@ -82,7 +82,7 @@ impl Memory {
         requires states { states ≡ entries_after top m.now.objects m.now.excluded m.now.included self.old.entries }
         requires new { AllByRecursion (λ s. IsNewState s.uid s) states }
         ensures ready { IfOk result (IsReached (confirm_new m.now.head.path m.now.objects m.now.excluded m.now.included self.old.entries self.old.part
-            (checked m.now.head.path m.now.objects m.now.excluded m.now.included self.old.entries self.old.part)) top self.old.entries self.new.part out.old out.new) }
+            (checked m.now.head.path m.now.objects m.now.excluded m.now.included self.old.entries self.old.part)) top self.old.entries (record { part = self.new.part; before = out.old; lines = out.new })) }
         ensures entries { self.new.entries ≡ self.old.entries }
     {
         let wanted = self
@@ -188,7 +188,7 @@ impl Memory {
             return Ok(());
         };
         self.part.say_told(action, end, out)?;
-        self.part.end(action, end)
+        self.part.end(self.entries.allocator(), action, end)
     }
 }
 

@@ -1,5 +1,5 @@
 // One object at naming.
-ghost use Rattle.std.specs.Prelude.{◌≡◌, ◌+◌, ℕ, false, [], ◌++◌, ◌∷◌, None, IfOk, OnOk, map, option_map};
+ghost use Rattle.std.specs.Prelude.{◌≡◌, ◌+◌, ℕ, true, false, [], ◌++◌, ◌∷◌, None, IfOk, OnOk, map, option_map};
 ghost use Rattle.arj_base.specs.declared.mode.End.TheVariants as ending;
 ghost use Rattle.arj_base.specs.declared.mode.Mode.TheVariants as mode;
 ghost use Rattle.arj_base.specs.Rows.{Row, last_uid};
@@ -16,6 +16,7 @@ ghost use Rattle.arj_protocol.specs.Server.{row_top};
 ghost use Rattle.arj_protocol.specs.Words.body;
 ghost use Rattle.arj_naming.specs.Objects.{live_of, counted, IsServed};
 ghost use Rattle.arj_naming.specs.Said.{said};
+ghost use Rattle.arj_naming.specs.Touched.{IsQuiet};
 
 use crate::bindings::{is_below, is_same, next_server};
 use crate::counter::Counter;
@@ -389,6 +390,20 @@ impl NamedObject {
                 self.live = None;
             }
         }
+    }
+
+    /// Whether no end changes the object.
+    pub fn is_quiet(&self, alloc: Global) -> Result<bool, AllocError>
+        ensures { IfOk result (λ b. b ≡ true → IsQuiet self.now) }
+    {
+        if self.made.len() != 0 {
+            return Ok(false);
+        }
+        if self.asked.len() != 0 {
+            return Ok(false);
+        }
+        let held = self.locks.held(alloc)?;
+        Ok(held.as_slice().is_empty())
     }
 
     /// Whether the action or a descendant of it has a lock.

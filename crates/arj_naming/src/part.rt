@@ -13,7 +13,8 @@ use crate::counter::Counter;
 use crate::entries::Entries;
 use crate::lines::{NAMING_NODE, say};
 use crate::object::NamedObject;
-use crate::uids::{drop_uid, insert_all, is_among, list_of};
+use crate::touched::{all_losers, all_tops, any_holds, end_all, still_touched, touched_first};
+use crate::uids::{drop_uid, is_among, list_of};
 use arj_base::{End, Path, Uid, Uids};
 use arj_journal::{Body, Lines, Part as JournalPart};
 use arj_msg::{Asked, Bind, Bound, Head, Hello, RecordMsg, Recorded, RecordedReply, What};
@@ -22,21 +23,25 @@ use std::collections::{BTreeMap, BTreeSet};
 use std::marker::Model;
 
 /// The objects at naming, the tops that it confirmed, and the actions whose end it was told. Contracts see the protocol's
-/// naming part.
+/// naming part. Each object that an end may change is among the touched ones, so that an end looks at no other.
 #[derive(Drop)]
 pub struct Part {
     pub counter: Counter,
     pub objects: BTreeMap<u16, NamedObject>,
+    pub touched: BTreeSet<u16>,
     pub confirmed: BTreeSet<Uid>,
     pub told: BTreeSet<Uid>,
 }
 
 impl Model for Part {
+    ghost use Rattle.arj_naming.specs.Touched.{AreTouched};
     ghost use Rattle.arj_protocol.specs.Naming.{Naming};
 
     ghost Value = { Naming };
 
     ghost view = { λ p. record { inc = p.counter.inc; count = p.counter.count; objects = p.objects.entries; confirmed = p.confirmed.keys; told = p.told.keys } };
+
+    ghost invariant = { λ p. AreTouched p.objects.entries p.touched.keys };
 }
 
 /// The head of an answer.
@@ -72,10 +77,12 @@ impl Part {
         ensures lines { OnOk result (out.new ≡ out.old ++ said (recovered_lines (recovered_naming inc entries.now))) }
     {
         let objects = entries.objects_back(out)?;
+        let touched = touched_first(alloc, &objects)?;
         let confirmed = entries.confirmed_back()?;
         Ok(Part {
             counter: Counter { inc, count: 0 },
             objects,
+            touched,
             confirmed,
             told: BTreeSet::new(alloc),
         })
@@ -100,13 +107,14 @@ impl Part {
         ensures lines { OnOk result (out.new ≡ out.old ++ said (bind_by m.now entries.now self.old).outs) }
         ensures reply { IfOk result (λ r. r ≡ option_map (bound_to m.now.head) (bind_by m.now entries.now self.old).reply) }
     {
-        if self.is_over(&m.head.path) {
+        if self.is_over(&m.head.path) || !self.objects.contains_key(&m.x) {
             return Ok(None);
         }
+        let entry = entries.entry(m.x)?;
+        self.touched.insert(m.x)?;
         let Some(object) = self.objects.get_mut(&m.x) else {
             return Ok(None);
         };
-        let entry = entries.entry(m.x)?;
         let reply = object.bind(&mut self.counter, m, entry, out)?;
         Ok(Some(Bound {
             asked: asked(&m.head),
@@ -133,6 +141,7 @@ impl Part {
                 reply: RecordedReply::Changed(changed),
             }));
         }
+        self.touched.insert(m.x)?;
         let Some(object) = self.objects.get_mut(&m.x) else {
             return Ok(None);
         };
@@ -177,24 +186,14 @@ impl Part {
     pub fn has_locks(&self, action: Uid) -> bool
         ensures { result ≡ has_locks action self.now }
     {
-        for (_, object) in self.objects.iter() {
-            if object.holds(action) {
-                return true;
-            }
-        }
-        false
+        any_holds(&self.objects, &self.touched, action)
     }
 
     /// The holders of the locks that an abort of the action drops.
     pub fn losers(&self, alloc: Global, action: Uid) -> Result<BTreeSet<Uid>, AllocError>
         ensures { IfOk result (λ losers. (act : Uid) → is_on losers.keys act ≡ loses_row action act self.now) }
     {
-        let mut losers = BTreeSet::new(alloc);
-        for (_, object) in self.objects.iter() {
-            let holders = object.holders_below(alloc, action)?;
-            insert_all(&mut losers, holders.as_slice())?;
-        }
-        Ok(losers)
+        all_losers(alloc, &self.objects, &self.touched, action)
     }
 
     /// Says that the action's end came, where it has locks.
@@ -214,14 +213,12 @@ impl Part {
     }
 
     /// After the end of an action: its locks and bindings go, or pass.
-    pub fn end(&mut self, action: Uid, end: End) -> Result<(), AllocError>
+    pub fn end(&mut self, alloc: Global, action: Uid, end: End) -> Result<(), AllocError>
         ensures { OnOk result (self.new ≡ end_locks action end self.old) }
     {
         self.told.insert(action)?;
-        self.objects.retain(|_, object| {
-            object.end(action, end);
-            true
-        });
+        end_all(&mut self.objects, &self.touched, action, end);
+        self.touched = still_touched(alloc, &self.objects, &self.touched)?;
         drop_uid(&mut self.confirmed, action);
         Ok(())
     }
@@ -241,11 +238,7 @@ impl Part {
     pub fn held(&self, alloc: Global) -> Result<Uids, AllocError>
         ensures { IfOk result (AreListed (naming_holders self.now)) }
     {
-        let mut tops = BTreeSet::new(alloc);
-        for (_, object) in self.objects.iter() {
-            let held = object.tops(alloc)?;
-            insert_all(&mut tops, held.as_slice())?;
-        }
+        let tops = all_tops(alloc, &self.objects, &self.touched)?;
         list_of(alloc, &tops)
     }
 }
