@@ -32,7 +32,7 @@ use Rattle.arj_disk_run_law.specs.Facts.{HasRest}
 use Rattle.arj_disk_run_law.specs.Kinds.{Agrees, is_top_kind}
 use Rattle.arj_disk_run_law.specs.Places.{ArePlaced}
 use Rattle.arj_disk_run_law.specs.Records.{AreRecorded, HaveRecords, IsRecorded}
-use Rattle.arj_disk_run_law.proofs.PlaceWalks.{has_naming}
+use Rattle.arj_disk_run_law.proofs.PlaceWalks.{has_naming, holders_begun}
 use Rattle.arj_disk_run_law.proofs.Begun.{Stood, root_on, stood}
 
 -- a list that is as long has something at the place too
@@ -254,4 +254,4 @@ module _ (tops : Kinds) (acts : List Action) (k : ℕ) (d : Disk) (t : Parts) (M
   named = has_naming acts k d t M placed
 
   pub knows_node : KnowsNode tops k d t M
-  knows_node = record { kinds = agree.kinds; coord = knows_coord; begun = rest.begun; asked = rest.asked; elsewhere = λ none. sym named ∙ ap (λ (o : Option Naming). is_some o) none; naming_here = λ n is. (test_is k 1 (sym named ∙ ap (λ (o : Option Naming). is_some o) is), rest.orphans n is) }
+  knows_node = record { kinds = agree.kinds; coord = knows_coord; begun = holders_begun acts k d t M placed rest.servers rest.names; asked = rest.asked; elsewhere = λ none. sym named ∙ ap (λ (o : Option Naming). is_some o) none; naming_here = λ n is. (test_is k 1 (sym named ∙ ap (λ (o : Option Naming). is_some o) is), rest.orphans n is) }

@@ -29,10 +29,11 @@ use Rattle.arj_protocol.specs.Follow.{tick_outs}
 use Rattle.arj_protocol.specs.Named.{Named}
 use Rattle.arj_protocol.specs.Naming as naming
 use Rattle.arj_protocol.specs.Naming.{Naming, end_entries, end_lines, end_orphans, has_locks, is_over, orphans, own_entries, taken_end, told_new}
-use Rattle.arj_protocol.specs.Node.{Parts, Handled, Void, Took, ack_told, by_reply, coord_heard, end_states, handle, handle_answer, handle_ask, handle_ends, handle_other, holders, if_naming, is_earlier, load_by, load_held, naming_hello, naming_told, prepare_by, prepared_actions, query_about, sends_answer, serve, served, store_told, with_coord, with_naming, with_server}
+use Rattle.arj_protocol.specs.Node.{Parts, Handled, Void, Took, ack_told, by_reply, coord_heard, end_states, handle, handle_answer, handle_ask, handle_ends, handle_other, holders, if_naming, is_earlier, load_by, load_held, locks_of, naming_hello, naming_told, prepare_by, prepared_actions, query_about, sends_answer, serve, served, store_told, with_coord, with_naming, with_server}
 use Rattle.arj_protocol.specs.Order.{put_uid, uid_set, with_uid, without_number, without_uid}
 use Rattle.arj_protocol.specs.Says.{AreAll, is_coord_effect, is_server_effect}
 use Rattle.arj_protocol.specs.Server as server
+use Rattle.arj_protocol.specs.Server.{server_holders}
 use Rattle.arj_protocol.specs.Step.{Node, first_disk, first_node, hello_to, naming_at, naming_back, numbers_to, parts_in, recovered_records, restart_outs, tolds_again}
 use Rattle.arj_protocol.specs.World.{format, numbered}
 use Rattle.arj_protocol.proofs.CoordSays.{acked_own, again_own, heard_own, query_own, tolds_again_own}
@@ -473,6 +474,22 @@ module _ (acts : List Action) where
 
   pub has_naming : (k : ℕ) (d : Disk) (t : Parts) (M : Seen) → ArePlaced acts (up k d t M) → HasNaming k t
   has_naming k d t M all = let m = mine_of k d (Some t) M all in m.live t refl
+
+  -- and so has each holder, if those of locks have
+  pub holders_begun : (k : ℕ) (d : Disk) (t : Parts) (M : Seen) → ArePlaced acts (up k d t M) → AllByRecursion (λ u. was_begun u M.lines ≡ true) (server_holders t.server) → AllByRecursion (λ u. was_begun u M.lines ≡ true) (locks_of t.naming)
+      → AllByRecursion (λ u. was_begun u M.lines ≡ true) (holders d t)
+  holders_begun k d t M all servers names = all_set was (server_holders t.server ++ locks_of t.naming ++ prepared_actions d.store ++ prepared_actions d.names)
+      (all_append was (server_holders t.server ++ locks_of t.naming ++ prepared_actions d.store) (prepared_actions d.names)
+      (all_append was (server_holders t.server ++ locks_of t.naming) (prepared_actions d.store) (all_append was (server_holders t.server) (locks_of t.naming) servers names) (of d.store.pend mine.store)) (of d.names.pend mine.names))
+    where
+      was : Uid → Type 0
+      was u = was_begun u M.lines ≡ true
+
+      mine : IsPlaced acts k (record { number = k; disk = d; live = Some t })
+      mine = mine_of k d (Some t) M all
+
+      of : (m : List (Uid × List ObjectState)) → AllByRecursion (λ (e : Uid × List ObjectState). IsBegun acts e.0) m → AllByRecursion was (map (λ (e : Uid × List ObjectState). e.0) m)
+      of m its = have_begun M.lines all.lines (map (λ (e : Uid × List ObjectState). e.0) m) (all_keys (IsBegun acts) m its)
 
 -- ---- an action begins
 

@@ -7,8 +7,9 @@ use Rattle.arj_protocol.specs.Commit as commit
 use Rattle.arj_protocol.specs.Coord.{Doing, Committing, doing_of, root_at, plan_for}
 use Rattle.arj_protocol.specs.Effect.{Disk}
 use Rattle.arj_protocol.specs.Naming.{Naming}
-use Rattle.arj_protocol.specs.Node.{Parts, holders}
+use Rattle.arj_protocol.specs.Node.{Parts, locks_of}
 use Rattle.arj_protocol.specs.Order.{uid_number}
+use Rattle.arj_protocol.specs.Server.{server_holders}
 use Rattle.arj_protocol.specs.Tree.{Branch, branch_of, root_of}
 use Rattle.arj_part_law.specs.Actions.{Action}
 use Rattle.arj_run_law.specs.Worlds.{IsGoodOf}
@@ -30,12 +31,13 @@ pub record IsSound (m : commit.Machine) : Type 0 where
   pub more : List commit.Used
   pub uses : (let p = commit.plan_of m in p.used) ≡ used ∷ more
 
--- Of a node that is up: commits are sound, and so is what a top may begin with; who is asked about has begun, by the lines; and
--- at naming an end takes no rows but of its own constituents.
+-- Of a node that is up: commits are sound, and so is what a top may begin with; who holds a lock has begun, by the lines; who is
+-- asked about has begun; and at naming an end takes no rows but of its own constituents.
 pub record HasRest (tops : Kinds) (k : ℕ) (d : Disk) (t : Parts) (M : Seen) : Type 0 where
   pub sound : (u : Uid) (q : Doing) (m : commit.Machine) → doing_of u t.coord ≡ Some q → q.now ≡ Committing m → IsSound m
   pub starts : (u : Uid) (b : Branch) (req : ℕ) → branch_of u t.coord.tree ≡ Some b → tops.is_top (uid_number u) ≡ true → IsTidy (plan_for b.path req (root_at (root_of b.path) t.coord) t.coord)
-  pub begun : AllByRecursion (λ u. was_begun u M.lines ≡ true) (holders d t)
+  pub servers : AllByRecursion (λ u. was_begun u M.lines ≡ true) (server_holders t.server)
+  pub names : AllByRecursion (λ u. was_begun u M.lines ≡ true) (locks_of t.naming)
   pub asked : (from : ℕ) (act : Uid) → seen.In (record { from = from; to = k; message = message.Query (record { act = act }) }) M.sent → HasBegunHere k t.coord act
   pub orphans : (n : Naming) → t.naming ≡ Some n → (u : Uid) → AreOrphansOf tops u d n
 
