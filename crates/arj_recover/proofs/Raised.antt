@@ -54,7 +54,7 @@ module _ {O : Type 0} (o : Ghosts O) (stays : Stays o) (old new : FileMap) (form
   next_of : (d : Disk) → IsDiskOf o old d → d.inc + 1 ≡ next
   next_of d are = ap (λ i. i + 1) are.inc
 
-  cut_at : (n : ℕ) (lines : List Line) (d : Disk) (how : Stop) → IsDiskOf o new (stopped how (PutInc (d.inc + 1)) d) → IsCut o (begins_again n (d.inc + 1)) d new lines lines
+  cut_at : (n : ℕ) (lines : List Line) (d : Disk) (how : Stop) → IsDiskOf o new (stopped how (PutInc (d.inc + 1)) d) → IsCut o (begins_again n (d.inc + 1)) d new (record { before = lines; after = lines })
   cut_at n lines d how left = record {
     front = Do Look ∷ [];
     work = PutInc (d.inc + 1);
@@ -65,7 +65,7 @@ module _ {O : Type 0} (o : Ghosts O) (stays : Stays o) (old new : FileMap) (form
     lines = sym (append-nil lines);
   }
 
-  cut_before : (n : ℕ) (lines : List Line) (d : Disk) → OnlyOwn old new → new slot.Incarnation ≡ old slot.Incarnation → IsDiskOf o old d → IsCut o (begins_again n (d.inc + 1)) d new lines lines
+  cut_before : (n : ℕ) (lines : List Line) (d : Disk) → OnlyOwn old new → new slot.Incarnation ≡ old slot.Incarnation → IsDiskOf o old d → IsCut o (begins_again n (d.inc + 1)) d new (record { before = lines; after = lines })
   cut_before n lines d own same are = cut_at n lines d Before (says_on o stays old new formed own same d are)
 
   pub cut_raised : (n : ℕ) (lines : List Line) → MayRaise old new → IsCutOf o (begins_on n) old new lines lines

@@ -29,20 +29,25 @@ disk_after (Do w ∷ es) d = disk_after es (worked w d)
 disk_after (Say b ∷ es) d = disk_after es d
 disk_after (Send to m ∷ es) d = disk_after es d
 
+-- the lines before a call and after it
+pub record Written : Type 0 where
+  pub before : List Line
+  pub after : List Line
+
 -- A stop cut the effects at a work: what stands before it is done and said, the work is as a stop leaves it, and nothing
 -- behind it happened.
-pub record IsCut {O : Type 0} (o : Ghosts O) (outs : List Effect) (d : Disk) (file : FileMap) (before after : List Line) : Type 0 where
+pub record IsCut {O : Type 0} (o : Ghosts O) (outs : List Effect) (d : Disk) (file : FileMap) (w : Written) : Type 0 where
   pub front : List Effect
   pub work : Work
   pub back : List Effect
   pub how : Stop
   pub are : outs ≡ front ++ Do work ∷ back
   pub disk : IsDiskOf o file (stopped how work (disk_after front d))
-  pub lines : after ≡ before ++ said front
+  pub lines : w.after ≡ w.before ++ said front
 
 -- whatever disk the files said before, a stop cut these effects, which may hang on that disk
 abbrev pub IsCutOf : {O : Type 0} → Ghosts O → (Disk → List Effect) → FileMap → FileMap → List Line → List Line → Type 0
-IsCutOf o outs old new before after = (d : Disk) → IsDiskOf o old d → IsCut o (outs d) d new before after
+IsCutOf o outs old new before after = (d : Disk) → IsDiskOf o old d → IsCut o (outs d) d new (record { before = before; after = after })
 
 -- How a restart of node n begins, up to its own store: the incarnation is read and raised, the node is said to be up, and the
 -- store is read.
