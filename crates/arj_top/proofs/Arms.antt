@@ -19,11 +19,11 @@ use Rattle.arj_model.specs.Past.{Past, Asked, Along, asked_of, block, is_refused
 use Rattle.arj_model.specs.Refusals.{refusal}
 use Rattle.arj_script.specs.Grammar.{Form, Blank, Nodes, Object, Run, Asks, Place, next_place}
 use Rattle.arj_script.specs.Input.{events_of}
-use Rattle.arj_top.specs.declared.ending.End.{End}
-use Rattle.arj_top.specs.declared.ending.End.TheVariants as ending
+use Rattle.arj_loop.specs.declared.ending.End.{End}
+use Rattle.arj_loop.specs.declared.ending.End.TheVariants as ending
 use Rattle.arj_top.specs.Built.{HaveForms, is_built_event}
 use Rattle.arj_top.specs.Outside.{DiskView, SameArms, arms_by}
-use Rattle.arj_top.specs.Running.{last_body, last_lines}
+use Rattle.arj_loop.specs.Running.{last_body, last_lines}
 
 -- a line that may stand in a run of one node tells of no arm
 one_armed : (e : Event) (m : ℕ) → is_of_one e (body.Armed m) ≡ false
@@ -149,6 +149,7 @@ last_armed n ending.Write count event = refl
 last_armed n ending.Memory count event = refl
 last_armed n ending.Lines count event = refl
 last_armed n ending.Labels count event = refl
+last_armed n ending.Frames count event = refl
 last_armed n ending.Format count event = refl
 
 -- so the arms of each disk are as the run says

@@ -11,7 +11,7 @@ use Rattle.arj_disk.specs.declared.slot.Role.TheVariants.{Store}
 use Rattle.arj_disk.specs.FileMap.{FileMap}
 use Rattle.arj_disk.specs.Says.{held}
 use Rattle.arj_engine.specs.declared.engine.Engine.{Engine}
-use Rattle.arj_engine.specs.Engine.{Stands}
+use Rattle.arj_engine.specs.Engine.{Stands, stepped}
 use Rattle.arj_engine.specs.Form.{LineInForm as IsObjectLine}
 use Rattle.arj_journal.specs.LineForm.{LineInForm}
 use Rattle.arj_journal.specs.declared.body.Body.{Body}
@@ -19,7 +19,7 @@ use Rattle.arj_journal.specs.declared.body.Line.{Line}
 use Rattle.arj_journal.specs.declared.event.Event.{Event}
 use Rattle.arj_journal.specs.declared.header.Header.{Header}
 use Rattle.arj_journal.specs.declared.header.ObjectLine.{ObjectLine}
-use Rattle.arj_model.specs.Causes.{Moment, HasCauseConflict, Prompt, HasRoom, Alone, count_halts}
+use Rattle.arj_model.specs.Causes.{IsPastLabels, Moment, HasCauseConflict, Prompt, HasRoom, Alone, count_halts}
 use Rattle.arj_model.specs.Clean.{HoldsLastOrNext}
 use Rattle.arj_model.specs.Follows.{Step, Runs, AreEnding}
 use Rattle.arj_model.specs.Refusals.{is_down, is_node}
@@ -31,20 +31,39 @@ use Rattle.arj_model.specs.Serial.{Serial, run, writes_on}
 use Rattle.arj_top.specs.Facts.{Facts, DiskFacts, HaltsHaveCause, disks_in, files_on}
 use Rattle.arj_journal.specs.declared.body.Body.TheVariants as body
 use Rattle.arj_journal.specs.declared.body.Which.TheVariants as which
-use Rattle.arj_script.specs.Grammar.{Form, Place, Start}
+use Rattle.arj_script.specs.Grammar.{Form, Asks, Place, Start, Running}
 use Rattle.arj_script.specs.Input.{Stopped, events_of}
-use Rattle.arj_top.specs.Built.{HaveForms}
-use Rattle.arj_top.specs.declared.ending.BadLine.{BadLine}
-use Rattle.arj_top.specs.declared.ending.End.{End}
-use Rattle.arj_top.specs.declared.ending.End.TheVariants as ending
-use Rattle.arj_top.specs.Input.{header_from, IsHeader}
-use Rattle.arj_top.specs.Outcome.{Reach, WasRun, HasStatus, EndsBad, EndsAtLimit, IsNext, AllRun, IsWhy, TellsWhy, Shows, Script, RunEnds, RunStops, answer}
-use Rattle.arj_top.specs.Outside.{DiskView, TouchesFirstAlone, SameArms}
-use Rattle.arj_top.specs.Running.{Engaged, EngineStands, Hand, Stage, Reached, Why, last_body, last_lines, status_of, why_of, events_run}
+use Rattle.arj_top.specs.Built.{HasBuiltForm, HaveForms, is_built, is_built_event, is_one}
+use Rattle.arj_loop.specs.declared.ending.BadLine.{BadLine}
+use Rattle.arj_loop.specs.declared.ending.End.{End}
+use Rattle.arj_loop.specs.declared.ending.End.TheVariants as ending
+use Rattle.arj_loop.specs.declared.machine.Machine.{Ghosts}
+use Rattle.arj_loop.specs.Input.{Arrived, Script, WentOn, ReadsFewPast, header_from, script_of, IsHeader}
+use Rattle.arj_loop.specs.Replayed.{EndsSo, answer}
+use Rattle.arj_loop.specs.Running.{Chain, Hand, Halfway, MachineRuns, Moved, Stage, Reached, Why, AsksTooMany, last_body, last_lines, lines_before, status_of, why_of, events_run}
+use Rattle.arj_loop.proofs.Steps.{forms_length, events_within}
+use Rattle.arj_top.specs.declared.one_node.OneNode.{OneNode}
+use Rattle.arj_top.specs.OneNode.{Engaged, RanAlone, IsFull}
+use Rattle.arj_top.specs.Outcome.{Reach, WasRun, HasStatus, EndsBad, EndsAtLimit, IsNext, AllRun, IsWhy, TellsWhy, Shows, RunEnds, RunStops}
+use Rattle.arj_top.specs.Outside.{DiskView, FirstRose, TouchesFirstAlone, SameArms}
 use Rattle.arj_top.proofs.Quiet.{SaysSame, same_quiet, same_itself, same_none, bad_quiet, limit_quiet, serial_same, holds_same}
 use Rattle.arj_top.proofs.Arms.{arms_fit, run_armed}
-use Rattle.arj_top.proofs.Stages.{some_is, get_set, all_append}
-use Rattle.arj_top.proofs.Steps.{along_weaker, along_count, forms_length, events_within}
+use Rattle.arj_top.proofs.Alone.{alone_more, alone_none, some_is, get_set, all_append}
+use Rattle.arj_top.proofs.Along.{along_weaker, along_count}
+
+-- one node as a machine
+abbrev pub lone : {D : Type 0} → DiskView D → Ghosts OneNode D
+lone view = record {
+  takes_nodes = is_one;
+  takes_event = is_built_event;
+  ready = λ _. Unit {0};
+  ran = λ first header events rack journal node. RanAlone view first header events rack journal node.engine;
+  steps = λ node. stepped node.engine;
+  is_full = λ header e rack node. IsFull view header e rack node.engine;
+  moved = TouchesFirstAlone view;
+  stopped = FirstRose view.stops;
+  sends = false;
+}
 
 runs_of : (header : Header) (P : Past → Event → List Body → Type 0) (es : List Event) (past : Past) (ending journal : List Line) → ((p : Past) (e : Event) (bodies : List Body) → Moment header p e bodies → P p e bodies)
     → Along (Moment header) nothing_yet es past → journal ≡ past.lines ++ ending → AreEnding (length es) ending → Runs P es journal
@@ -180,6 +199,7 @@ same_last lines ending.Whole count n = same_none lines
 same_last lines ending.Fault count n = same_none lines
 same_last lines ending.Write count n = same_none lines
 same_last lines ending.Memory count n = same_none lines
+same_last lines ending.Frames count n = same_none lines
 same_last lines ending.Format count n = same_none lines
 
 ends_well : (end : End) (count n : ℕ) → AreEnding n (last_lines (last_body end count) n)
@@ -190,6 +210,7 @@ ends_well ending.Whole count n = tt
 ends_well ending.Fault count n = tt
 ends_well ending.Write count n = tt
 ends_well ending.Memory count n = tt
+ends_well ending.Frames count n = tt
 ends_well ending.Format count n = tt
 
 -- the line outside events is in form
@@ -201,11 +222,44 @@ last_in_form ending.Whole count n few some = tt
 last_in_form ending.Fault count n few some = tt
 last_in_form ending.Write count n few some = tt
 last_in_form ending.Memory count n few some = tt
+last_in_form ending.Frames count n few some = tt
 last_in_form ending.Format count n few some = tt
 
+-- before `run` no disk has changed and no event was run; behind it the engine stands
+abbrev pub EngineStands : {D : Type 0} → DiskView D → List D → List D → List Form → Place → Header → Past → Option OneNode → Type 0
+EngineStands view first rack forms place header past None =
+    (place ≡ Running → ⊥) × (rack ≡ first) × (header_from Start forms ≡ None) × (events_of forms ≡ [])
+EngineStands view first rack forms place header past (Some node) =
+    (place ≡ Running) × (header_from Start forms ≡ Some (header.nodes, header.objects)) × Engaged view first rack header past node.engine
+
+-- what a stage is for the engine
+pub record EngineStage {D : Type 0} (view : DiskView D) (first rack : List D) (forms : List Form) (place : Place) (header : Header) (journal : List Line) (node : Option OneNode) : Type 0 where
+  pub past : Past
+  pub moments : Along (Moment header) nothing_yet (events_of forms) past
+  pub journal_is : journal ≡ past.lines
+  pub in_form : AllByRecursion LineInForm journal
+  pub engine_is : EngineStands view first rack forms place header past node
+
+pub engine_stage : {D : Type 0} (view : DiskView D) (first rack : List D) (forms : List Form) (place : Place) (header : Header) (journal : List Line) (node : Option OneNode) → MachineRuns (lone view) first rack forms place header journal node
+    → EngineStage view first rack forms place header journal node
+engine_stage view first rack forms place header journal None h = record {
+  past = nothing_yet;
+  moments = subst (λ es. Along (Moment header) nothing_yet es nothing_yet) (sym h.3) refl;
+  journal_is = h.4;
+  in_form = subst (AllByRecursion LineInForm) (sym h.4) tt;
+  engine_is = (h.0, h.1, h.2, h.3);
+}
+engine_stage view first rack forms place header journal (Some node) h =
+    let r = h.2 in
+    record { past = r.past; moments = r.moments; journal_is = r.journal_is; in_form = r.in_form; engine_is = (h.0, h.1, r.engaged) }
+
 -- what a stage says by itself
-pub record StageFacts {D : Type 0} (view : DiskView D) (first rack : List D) (reach : Reach) (engine : Option Engine) : Type 0 where
-  pub events : events_run engine ≡ reach.past.count
+abbrev pub IsFullAt : {D : Type 0} → DiskView D → Header → Event → List D → Option OneNode → Type 0
+IsFullAt view header e rack None = ⊥
+IsFullAt view header e rack (Some node) = IsFull view header e rack node.engine
+
+pub record StageFacts {D : Type 0} (view : DiskView D) (first rack : List D) (reach : Reach) (engine : Option OneNode) : Type 0 where
+  pub events : events_run (lone view) engine ≡ reach.past.count
   pub is_header : IsHeader reach.header (header_from Start reach.forms)
   pub serial : Serial (first_values reach.header) reach.past.lines
   pub held : (journal : List Line) → SaysSame journal reach.past.lines → is_some (header_from Start reach.forms) ≡ true → DiskFacts view first rack reach.header journal
@@ -213,11 +267,12 @@ pub record StageFacts {D : Type 0} (view : DiskView D) (first rack : List D) (re
   pub waits : engine ≡ None → is_some (header_from Start reach.forms) ≡ false
   pub untouched : header_from Start reach.forms ≡ None → rack ≡ first
   pub nothing : engine ≡ None → reach.past.lines ≡ []
+  pub full : (e : Event) → IsFullAt view reach.header e rack engine → IsPastLabels reach.header reach.past e
 
 some_none : {A : Type 0} (a : A) → Some a ≡ None → ⊥
 some_none a e = cc
 
-pub stage_facts : {D : Type 0} (view : DiskView D) (first rack : List D) (header : Header) (forms : List Form) (place : Place) (past : Past) (engine : Option Engine)
+pub stage_facts : {D : Type 0} (view : DiskView D) (first rack : List D) (header : Header) (forms : List Form) (place : Place) (past : Past) (engine : Option OneNode)
     → Along (Moment header) nothing_yet (events_of forms) past → EngineStands view first rack forms place header past engine → StageFacts view first rack (record { forms = forms; place = place; header = header; past = past }) engine
 stage_facts view first rack header forms place past None moments h =
     let none : nothing_yet ≡ past = subst (λ es. Along (Moment header) nothing_yet es past) h.3 moments in
@@ -233,16 +288,18 @@ stage_facts view first rack header forms place past None moments h =
       waits = λ _. waits;
       untouched = λ _. h.1;
       nothing = λ _. ap (λ p. p.lines) (sym none);
+      full = λ e never. absurd never;
     }
-stage_facts view first rack header forms place past (Some engine) moments h = record {
+stage_facts view first rack header forms place past (Some node) moments h = record {
   events = h.2.stands.count;
   is_header = subst (IsHeader header) (sym h.1) (refl, refl);
   serial = h.2.stands.serial;
-  held = λ journal same _. disks_of view first rack header past engine journal h.2 same;
-  halts = λ journal same. halts_of view first rack header past engine journal h.2 same;
-  waits = λ e. absurd (let never : Some engine ≡ None = e in cc);
+  held = λ journal same _. disks_of view first rack header past node.engine journal h.2 same;
+  halts = λ journal same. halts_of view first rack header past node.engine journal h.2 same;
+  waits = λ e. absurd (let never : Some node ≡ None = e in cc);
   untouched = λ e. absurd (some_none (header.nodes, header.objects) (sym h.1 ∙ e));
-  nothing = λ e. absurd (let never : Some engine ≡ None = e in cc);
+  nothing = λ e. absurd (let never : Some node ≡ None = e in cc);
+  full = λ e full. full past h.2.new (ap (λ r. slice_get r 0) h.2.now ∙ get_set first h.2.old h.2.new h.2.was) h.2.stands;
 }
 
 take_front : {A : Type 0} (a b : List A) → take (length a) (a ++ b) ≡ a
@@ -255,7 +312,7 @@ get_middle (y ∷ a) x b = get_middle a x b
 
 pub was_run_of : (lines done rest : List (List ℕ)) (reach : Reach) → lines ≡ done ++ rest → HaveForms Start done reach.forms reach.place → length reach.forms ≤ 100000 → IsHeader reach.header (header_from Start reach.forms) → WasRun lines reach
 was_run_of lines done rest reach whole read few is_header =
-    let size = forms_length Start done reach.forms reach.place read in
+    let size = forms_length is_built Start done reach.forms reach.place read in
     let front : take (length reach.forms) lines ≡ done = (λ i. take (size i) (whole i)) ∙ take_front done rest in
     record {
       within = omega (arith, size, ap length whole, length-append done rest);
@@ -266,18 +323,18 @@ was_run_of lines done rest reach whole read few is_header =
 
 next_of : (lines done rest : List (List ℕ)) (forms : List Form) (place : Place) (line : List ℕ) (tail : List (List ℕ)) → lines ≡ done ++ rest → HaveForms Start done forms place → rest ≡ line ∷ tail → IsNext lines forms line
 next_of lines done rest forms place line tail whole read is =
-    let size = forms_length Start done forms place read in
+    let size = forms_length is_built Start done forms place read in
     (λ i. slice_get (whole i) (size i)) ∙ ((λ i. slice_get (done ++ is i) (length done)) ∙ get_middle done line tail)
 
 all_run_of : (lines done rest : List (List ℕ)) (forms : List Form) (place : Place) → lines ≡ done ++ rest → HaveForms Start done forms place → rest ≡ [] → AllRun lines forms
 all_run_of lines done rest forms place whole read none =
-    let size = forms_length Start done forms place read in
+    let size = forms_length is_built Start done forms place read in
     omega (arith, size, ap length whole, length-append done rest, ap length none)
 
 -- what a line outside events says of the end, where one stands
-bad_ends : (w : BadLine) (stopped : Stopped) (lines done rest : List (List ℕ)) (reach : Reach) (at : Hand) → lines ≡ done ++ rest → HaveForms Start done reach.forms reach.place → at.count ≡ length reach.forms
-    → Why (ending.Bad w) stopped rest reach.place at reach.header reach.past → EndsBad stopped lines reach (last_lines (last_body (ending.Bad w) at.count) reach.past.count) × IsWhy w stopped lines reach
-bad_ends w stopped lines done rest reach at whole read counted why = (
+bad_ends : {D : Type 0} (view : DiskView D) (w : BadLine) (stopped : Stopped) (lines done rest : List (List ℕ)) (reach : Reach) (rack : List D) (at : Hand OneNode) → lines ≡ done ++ rest → HaveForms Start done reach.forms reach.place → at.count ≡ length reach.forms
+    → Why (lone view) (ending.Bad w) stopped rest reach.place rack at reach.header → EndsBad stopped lines reach (last_lines (last_body (ending.Bad w) at.count) reach.past.count) × IsWhy w stopped lines reach
+bad_ends view w stopped lines done rest reach rack at whole read counted why = (
   (
     ⊎_elim
         (λ found. inl (found.0, next_of lines done rest reach.forms reach.place found.0 found.1 whole read found.2, subst (λ n. (n < 100000) ⊎ (200 < length found.0)) counted found.3, found.4))
@@ -289,15 +346,20 @@ bad_ends w stopped lines done rest reach at whole read counted why = (
       (λ found. inr (found.3, (all_run_of lines done rest reach.forms reach.place whole read found.0, found.1, found.2))) why,
 )
 
-limit_lines : (stopped : Stopped) (lines done rest : List (List ℕ)) (reach : Reach) (at : Hand) → lines ≡ done ++ rest → HaveForms Start done reach.forms reach.place → at.count ≡ length reach.forms
-    → Why ending.Lines stopped rest reach.place at reach.header reach.past → EndsAtLimit lines reach (last_lines (last_body ending.Lines at.count) reach.past.count)
-limit_lines stopped lines done rest reach at whole read counted why =
+limit_lines : {D : Type 0} (view : DiskView D) (stopped : Stopped) (lines done rest : List (List ℕ)) (reach : Reach) (rack : List D) (at : Hand OneNode) → lines ≡ done ++ rest → HaveForms Start done reach.forms reach.place → at.count ≡ length reach.forms
+    → Why (lone view) ending.Lines stopped rest reach.place rack at reach.header → EndsAtLimit lines reach (last_lines (last_body ending.Lines at.count) reach.past.count)
+limit_lines view stopped lines done rest reach rack at whole read counted why =
     inl ((why.0, next_of lines done rest reach.forms reach.place why.0 why.1 whole read why.2, sym counted ∙ why.3, why.4), refl)
 
-limit_labels : (stopped : Stopped) (lines done rest : List (List ℕ)) (reach : Reach) (at : Hand) → lines ≡ done ++ rest → HaveForms Start done reach.forms reach.place → at.count ≡ length reach.forms
-    → Why ending.Labels stopped rest reach.place at reach.header reach.past → EndsAtLimit lines reach (last_lines (last_body ending.Labels at.count) reach.past.count)
-limit_labels stopped lines done rest reach at whole read counted why =
-    inr ((why.0, why.4.0, next_of lines done rest reach.forms reach.place why.0 why.1 whole read why.2, why.4.1, omega (arith, counted, why.3), why.4.2), refl)
+asks_of : {D : Type 0} (view : DiskView D) (header : Header) (rack : List D) (node : Option OneNode) (place : Place) (line : List ℕ) → AsksTooMany (lone view) header rack node place line → (e : Event) × HasBuiltForm place line (Asks e) × IsFullAt view header e rack node
+asks_of view header rack None place line asks = absurd asks
+asks_of view header rack (Some node) place line asks = asks
+
+limit_labels : {D : Type 0} (view : DiskView D) (stopped : Stopped) (lines done rest : List (List ℕ)) (reach : Reach) (rack : List D) (at : Hand OneNode) → lines ≡ done ++ rest → HaveForms Start done reach.forms reach.place → at.count ≡ length reach.forms
+    → ((e : Event) → IsFullAt view reach.header e rack at.machine → IsPastLabels reach.header reach.past e) → Why (lone view) ending.Labels stopped rest reach.place rack at reach.header → EndsAtLimit lines reach (last_lines (last_body ending.Labels at.count) reach.past.count)
+limit_labels view stopped lines done rest reach rack at whole read counted full why =
+    let asks = asks_of view reach.header rack at.machine reach.place why.0 why.4 in
+    inr ((why.0, asks.0, next_of lines done rest reach.forms reach.place why.0 why.1 whole read why.2, asks.1, omega (arith, counted, why.3), full asks.0 asks.2), refl)
 
 -- what an end means: its own status, and the status 4 where its text wasn't all taken
 pub record Means (end : End) (stopped : Stopped) (lines : List (List ℕ)) (reach : Reach) (last : List Line) : Type 0 where
@@ -319,10 +381,10 @@ no_status stopped lines reach last n which write memory = record {
 cut_by : (stopped : Stopped) (lines : List (List ℕ)) (reach : Reach) (last : List Line) → (last ≡ []) ⊎ (EndsBad stopped lines reach last ⊎ EndsAtLimit lines reach last) → HasStatus 4 stopped lines reach last
 cut_by stopped lines reach last why = no_status stopped lines reach last 4 (inl refl) why (λ e. absurd (omega (arith, e)))
 
-pub means : (end : End) (stopped : Stopped) (lines done rest : List (List ℕ)) (reach : Reach) (at : Hand)
-    → lines ≡ done ++ rest → HaveForms Start done reach.forms reach.place → at.count ≡ length reach.forms → (at.engine ≡ None → reach.past.lines ≡ []) → Why end stopped rest reach.place at reach.header reach.past
+pub means : {D : Type 0} (view : DiskView D) (end : End) (stopped : Stopped) (lines done rest : List (List ℕ)) (reach : Reach) (rack : List D) (at : Hand OneNode)
+    → lines ≡ done ++ rest → HaveForms Start done reach.forms reach.place → at.count ≡ length reach.forms → (at.machine ≡ None → reach.past.lines ≡ []) → ((e : Event) → IsFullAt view reach.header e rack at.machine → IsPastLabels reach.header reach.past e) → Why (lone view) end stopped rest reach.place rack at reach.header
     → Means end stopped lines reach (last_lines (last_body end at.count) reach.past.count)
-means ending.Whole stopped lines done rest reach at whole read counted nothing why = record {
+means view ending.Whole stopped lines done rest reach rack at whole read counted nothing full why = record {
   has_status = record {
     whole = λ _. (why.0, all_run_of lines done rest reach.forms reach.place whole read why.1, why.2, refl);
     bad = λ e. absurd (omega (arith, e));
@@ -335,7 +397,7 @@ means ending.Whole stopped lines done rest reach at whole read counted nothing w
   tells = λ e. absurd (omega (arith, e));
   cut = cut_by stopped lines reach [] (inl refl);
 }
-means ending.Fault stopped lines done rest reach at whole read counted nothing why = record {
+means view ending.Fault stopped lines done rest reach rack at whole read counted nothing full why = record {
   has_status = record {
     whole = λ e. absurd (omega (arith, e));
     bad = λ e. absurd (omega (arith, e));
@@ -348,8 +410,8 @@ means ending.Fault stopped lines done rest reach at whole read counted nothing w
   tells = λ e. absurd (omega (arith, e));
   cut = cut_by stopped lines reach [] (inl refl);
 }
-means (ending.Bad w) stopped lines done rest reach at whole read counted nothing why =
-    let found = bad_ends w stopped lines done rest reach at whole read counted why in
+means view (ending.Bad w) stopped lines done rest reach rack at whole read counted nothing full why =
+    let found = bad_ends view w stopped lines done rest reach rack at whole read counted why in
     record {
       has_status = record {
         whole = λ e. absurd (omega (arith, e));
@@ -363,8 +425,8 @@ means (ending.Bad w) stopped lines done rest reach at whole read counted nothing
       tells = (refl, found.1);
       cut = cut_by stopped lines reach _ (inr (inl found.0));
     }
-means ending.Lines stopped lines done rest reach at whole read counted nothing why =
-    let found = limit_lines stopped lines done rest reach at whole read counted why in
+means view ending.Lines stopped lines done rest reach rack at whole read counted nothing full why =
+    let found = limit_lines view stopped lines done rest reach rack at whole read counted why in
     record {
       has_status = record {
         whole = λ e. absurd (omega (arith, e));
@@ -378,8 +440,8 @@ means ending.Lines stopped lines done rest reach at whole read counted nothing w
       tells = λ e. absurd (omega (arith, e));
       cut = cut_by stopped lines reach _ (inr (inr found));
     }
-means ending.Labels stopped lines done rest reach at whole read counted nothing why =
-    let found = limit_labels stopped lines done rest reach at whole read counted why in
+means view ending.Labels stopped lines done rest reach rack at whole read counted nothing full why =
+    let found = limit_labels view stopped lines done rest reach rack at whole read counted full why in
     record {
       has_status = record {
         whole = λ e. absurd (omega (arith, e));
@@ -393,7 +455,7 @@ means ending.Labels stopped lines done rest reach at whole read counted nothing 
       tells = λ e. absurd (omega (arith, e));
       cut = cut_by stopped lines reach _ (inr (inr found));
     }
-means ending.Format stopped lines done rest reach at whole read counted nothing why = record {
+means view ending.Format stopped lines done rest reach rack at whole read counted nothing full why = record {
   has_status = record {
     whole = λ e. absurd (omega (arith, e));
     bad = λ e. absurd (omega (arith, e));
@@ -406,38 +468,61 @@ means ending.Format stopped lines done rest reach at whole read counted nothing 
   tells = λ e. absurd (omega (arith, e));
   cut = cut_by stopped lines reach [] (inl refl);
 }
-means ending.Write stopped lines done rest reach at whole read counted nothing why = absurd why
-means ending.Memory stopped lines done rest reach at whole read counted nothing why = absurd why
+means view ending.Frames stopped lines done rest reach rack at whole read counted nothing full why = absurd (both_ways false refl why.0)
+means view ending.Write stopped lines done rest reach rack at whole read counted nothing full why = absurd why
+means view ending.Memory stopped lines done rest reach rack at whole read counted nothing full why = absurd why
 
--- What a run shows that has come to its end: where all its text is taken, and where it isn't. The rack may have changed
--- since, where the engine never stood.
-pub record Closed {D : Type 0} (view : DiskView D) (given : Script) (first after : List D) (journal : List Line) (end : End) : Type 0 where
-  pub ends : RunEnds view given first after (answer (status_of end) (why_of end) journal)
-  pub stops : RunStops view given first after journal 4
-  -- so many lines were run
-  pub count : ℕ
-  pub ends_count : length ends.reach.forms ≡ count
-  pub stops_count : length stops.reach.forms ≡ count
+-- what calls did to the disks
+pub touched : {D : Type 0} (view : DiskView D) (a c : List D) → Moved (lone view) a c → TouchesFirstAlone view a c
+touched {D} view a c moved = along a moved.0 moved.1
+  where
+    along : (a : List D) (via : List (List D)) → Chain (TouchesFirstAlone view) a via c → TouchesFirstAlone view a c
+    along a [] is = subst (λ r. TouchesFirstAlone view a r) is (alone_none view a)
+    along a (b ∷ bs) h = alone_more view a b c h.0 (along b bs h.1)
 
-pub closed : {D : Type 0} (view : DiskView D) (first rack after_rack : List D) (given : Script) (at : Hand) (journal : List Line) (end : End)
-    → Reached view first rack given at end → ((end ≡ ending.Format) × (at.engine ≡ None) × TouchesFirstAlone view rack after_rack) ⊎ (after_rack ≡ rack)
-    → journal ≡ at.journal ++ last_lines (last_body end at.count) (events_run at.engine)
-    → Closed view given first after_rack journal end
-closed view first rack after_rack given at journal end reached racks is =
+-- What a run shows that has come to its end: where all its text is taken, and where it isn't.
+pub record Closed {D : Type 0} (view : DiskView D) (given : Arrived) (first after : List D) (journal : List Line) (end : End) : Type 0 where
+  pub ends : RunEnds view (script_of given) first after (answer (status_of end) (why_of end) journal)
+  pub stops : RunStops view (script_of given) first after journal 4
+  pub ends_went_on : WentOn given (length ends.reach.forms)
+  pub ends_past : ReadsFewPast given (length ends.reach.forms)
+  pub stops_went_on : WentOn given (length stops.reach.forms)
+
+-- one node sends no frames
+none_sent : {D : Type 0} (view : DiskView D) (end : End) (stopped : Stopped) (rest : List (List ℕ)) (place : Place) (rack : List D) (at : Hand OneNode) (header : Header) (count : ℕ) → Why (lone view) end stopped rest place rack at header → lines_before end count ≡ count
+none_sent view ending.Whole stopped rest place rack at header count why = refl
+none_sent view (ending.Bad w) stopped rest place rack at header count why = refl
+none_sent view ending.Fault stopped rest place rack at header count why = refl
+none_sent view ending.Write stopped rest place rack at header count why = refl
+none_sent view ending.Memory stopped rest place rack at header count why = refl
+none_sent view ending.Lines stopped rest place rack at header count why = refl
+none_sent view ending.Labels stopped rest place rack at header count why = refl
+none_sent view ending.Format stopped rest place rack at header count why = refl
+none_sent view ending.Frames stopped rest place rack at header count why = absurd (both_ways false refl why.0)
+
+pub closed : {D : Type 0} (view : DiskView D) (given : Arrived) (first after_rack : List D) (journal : List Line) (end : End) → EndsSo (lone view) given first after_rack end journal → Closed view given first after_rack journal end
+closed {D} view given first after_rack journal end e =
+    let at = e.at in
+    let reached = e.reached in
     let s = reached.stage in
-    let reach : Reach = record { forms = s.forms; place = reached.place; header = s.header; past = s.past } in
-    let f = stage_facts view first rack s.header s.forms reached.place s.past at.engine s.moments s.engine_is in
-    let last = last_lines (last_body end at.count) s.past.count in
-    let journal_is : journal ≡ s.past.lines ++ last = is ∙ (λ i. s.journal_is i ++ last_lines (last_body end at.count) (f.events i)) in
-    let same : SaysSame journal s.past.lines = subst (λ js. SaysSame js s.past.lines) (sym journal_is) (same_last s.past.lines end at.count s.past.count) in
-    let size : s.past.count ≡ length (events_of s.forms) = along_count (Moment s.header) nothing_yet (events_of s.forms) s.past s.moments ∙ omega arith in
-    let m = means end given.stopped given.lines reached.done reached.rest reach at reached.whole s.read s.counted f.nothing reached.why in
-    let shows : Shows given.lines reach last journal = record {
-      was_run = was_run_of given.lines reached.done reached.rest reach reached.whole s.read (omega (arith, s.counted, s.within)) f.is_header;
-      moments = s.moments;
+    let rack = e.mid in
+    let g = engine_stage view first rack s.forms reached.place s.header at.journal at.machine s.machine_is in
+    let lines : List (List ℕ) = (let c = script_of given in c.lines) in
+    let racks : ((end ≡ ending.Format) × (at.machine ≡ None) × TouchesFirstAlone view rack after_rack) ⊎ (after_rack ≡ rack) = ⊎_elim (λ format. inl (format.0, format.1, touched view rack after_rack format.3)) (λ same. inr same.1) e.racks in
+    let reach : Reach = record { forms = s.forms; place = reached.place; header = s.header; past = g.past } in
+    let f = stage_facts view first rack s.header s.forms reached.place g.past at.machine g.moments g.engine_is in
+    let last = last_lines (last_body end at.count) g.past.count in
+    let journal_is : journal ≡ g.past.lines ++ last = e.journal_is ∙ (λ i. g.journal_is i ++ last_lines (last_body end at.count) (f.events i)) in
+    let same : SaysSame journal g.past.lines = subst (λ js. SaysSame js g.past.lines) (sym journal_is) (same_last g.past.lines end at.count g.past.count) in
+    let size : g.past.count ≡ length (events_of s.forms) = along_count (Moment s.header) nothing_yet (events_of s.forms) g.past g.moments ∙ omega arith in
+    let m = means view end given.stopped lines reached.done reached.rest reach rack at reached.whole s.read s.counted f.nothing f.full reached.why in
+    let before_is : length s.forms ≡ lines_before end at.count = sym (none_sent view end given.stopped reached.rest reached.place rack at s.header at.count reached.why ∙ s.counted) in
+    let shows : Shows lines reach last journal = record {
+      was_run = was_run_of lines reached.done reached.rest reach reached.whole s.read (omega (arith, s.counted, s.within)) f.is_header;
+      moments = g.moments;
       journal_is = journal_is;
-      in_form = subst (λ js. AllByRecursion LineInForm js) (sym (journal_is ∙ ap (λ ls. ls ++ last) (sym s.journal_is))) (all_append at.journal last s.in_form (last_in_form end at.count s.past.count s.within (omega (arith, size, events_within s.forms, s.counted, s.within))));
-      facts = facts_of s.header (events_of s.forms) s.past last journal s.moments (serial_same (first_values s.header) journal s.past.lines same f.serial) journal_is (subst (λ n. AreEnding n last) size (ends_well end at.count s.past.count));
+      in_form = subst (λ js. AllByRecursion LineInForm js) (sym (journal_is ∙ ap (λ ls. ls ++ last) (sym g.journal_is))) (all_append at.journal last g.in_form (last_in_form end at.count g.past.count s.within (omega (arith, size, events_within s.forms, s.counted, s.within))));
+      facts = facts_of s.header (events_of s.forms) g.past last journal g.moments (serial_same (first_values s.header) journal g.past.lines same f.serial) journal_is (subst (λ n. AreEnding n last) size (ends_well end at.count g.past.count));
     } in
     let held : is_some (header_from Start s.forms) ≡ true → DiskFacts view first after_rack s.header journal = λ yes_run. ⊎_elim
     (λ none. absurd (both_ways _ (f.waits none.1) yes_run))
@@ -453,8 +538,8 @@ closed view first rack after_rack given at journal end reached racks is =
         untouched = λ none seven. ⊎_elim (λ format. absurd (seven (ap status_of format.0))) (λ same_rack. same_rack ∙ f.untouched none) racks;
         held = held;
         armed = λ yes_run node old new was now.
-            let none = run_armed s.header (node + 1) s.past reached.done s.forms Start reached.place end at.count s.past.count nothing_yet refl refl s.read s.moments in
-            arms_fit view (node + 1) s.past.accepted journal old new (let facts = held yes_run in facts.armed node old new was now) (ap (λ js. filter (λ line. is_armed (node + 1) line.body) js) journal_is ∙ none.0) none.1;
+            let none = run_armed s.header (node + 1) g.past reached.done s.forms Start reached.place end at.count g.past.count nothing_yet refl refl s.read g.moments in
+            arms_fit view (node + 1) g.past.accepted journal old new (let facts = held yes_run in facts.armed node old new was now) (ap (λ js. filter (λ line. is_armed (node + 1) line.body) js) journal_is ∙ none.0) none.1;
       };
       stops = record {
         reach = reach;
@@ -465,57 +550,40 @@ closed view first rack after_rack given at journal end reached racks is =
             (λ format. halts_later view first rack after_rack s.header journal (f.halts journal same) format.2)
             (λ same_rack. subst (λ r. HaltsHaveCause view first r s.header journal) (sym same_rack) (f.halts journal same)) racks;
       };
-      count = at.count;
-      ends_count = sym s.counted;
-      stops_count = sym s.counted;
+      ends_went_on = subst (λ n. WentOn given n) (sym before_is) e.went_on;
+      ends_past = subst (λ n. ReadsFewPast given n) (sym before_is) e.past;
+      stops_went_on = subst (λ n. WentOn given n) (sym before_is) e.went_on;
     }
-
--- as many lines were run as stand at hand
-pub closed_count : {D : Type 0} (view : DiskView D) (first rack after_rack : List D) (given : Script) (at : Hand) (journal : List Line) (end : End)
-    (reached : Reached view first rack given at end) (racks : ((end ≡ ending.Format) × (at.engine ≡ None) × TouchesFirstAlone view rack after_rack) ⊎ (after_rack ≡ rack))
-    (is : journal ≡ at.journal ++ last_lines (last_body end at.count) (events_run at.engine)) → (let c = closed view first rack after_rack given at journal end reached racks is in c.count) ≡ at.count
-unfolding closed
-closed_count view first rack after_rack given at journal end reached racks is = refl
 
 -- What a run shows that stopped short behind these lines. The first disk may have changed since.
-pub stops_at : {D : Type 0} (view : DiskView D) (first rack after_rack : List D) (given : Script) (done rest : List (List ℕ)) (place : Place) (at : Hand) (status : ℕ)
-    → (status ≡ 4) ⊎ (status ≡ 5) → given.lines ≡ done ++ rest → Stage view first rack done place at → TouchesFirstAlone view rack after_rack → RunStops view given first after_rack at.journal status
-stops_at view first rack after_rack given done rest place at status which whole s touches =
-    let reach : Reach = record { forms = s.forms; place = place; header = s.header; past = s.past } in
-    let f = stage_facts view first rack s.header s.forms place s.past at.engine s.moments s.engine_is in
-    let same : SaysSame at.journal s.past.lines = subst (λ js. SaysSame js s.past.lines) (sym s.journal_is) (same_itself s.past.lines) in
-    let is : at.journal ≡ s.past.lines ++ [] = s.journal_is ∙ sym (append-nil s.past.lines) in
+pub record Short {D : Type 0} (view : DiskView D) (given : Arrived) (first after : List D) (journal : List Line) (status : ℕ) : Type 0 where
+  pub run : RunStops view (script_of given) first after journal status
+  pub went_on : WentOn given (length run.reach.forms)
+
+pub stops_at : {D : Type 0} (view : DiskView D) (given : Arrived) (first after_rack : List D) (at : Hand OneNode) (status : ℕ) → (status ≡ 4) ⊎ (status ≡ 5) → Halfway (lone view) first after_rack (script_of given) at → WentOn given at.count
+    → Short view given first after_rack at.journal status
+stops_at view given first after_rack at status which half went =
+    let s = half.stage in
+    let g = engine_stage view first half.mid s.forms half.place s.header at.journal at.machine s.machine_is in
+    let touches : TouchesFirstAlone view half.mid after_rack = touched view half.mid after_rack half.since in
+    let reach : Reach = record { forms = s.forms; place = half.place; header = s.header; past = g.past } in
+    let f = stage_facts view first half.mid s.header s.forms half.place g.past at.machine g.moments g.engine_is in
+    let same : SaysSame at.journal g.past.lines = subst (λ js. SaysSame js g.past.lines) (sym g.journal_is) (same_itself g.past.lines) in
+    let is : at.journal ≡ g.past.lines ++ [] = g.journal_is ∙ sym (append-nil g.past.lines) in
+    let lines : List (List ℕ) = (let c = script_of given in c.lines) in
     record {
-      reach = reach;
-      ending = [];
-      shows = record {
-        was_run = was_run_of given.lines done rest reach whole s.read (omega (arith, s.counted, s.within)) f.is_header;
-        moments = s.moments;
-        journal_is = is;
-        in_form = s.in_form;
-        facts = facts_of s.header (events_of s.forms) s.past [] at.journal s.moments (serial_same (first_values s.header) at.journal s.past.lines same f.serial) is tt;
+      run = record {
+        reach = reach;
+        ending = [];
+        shows = record {
+          was_run = was_run_of lines half.done half.rest reach half.whole s.read (omega (arith, s.counted, s.within)) f.is_header;
+          moments = g.moments;
+          journal_is = is;
+          in_form = g.in_form;
+          facts = facts_of s.header (events_of s.forms) g.past [] at.journal g.moments (serial_same (first_values s.header) at.journal g.past.lines same f.serial) is tt;
+        };
+        has_status = no_status given.stopped lines reach [] status which (inl refl) (λ _. refl);
+        halts = halts_later view first half.mid after_rack s.header at.journal (f.halts at.journal same) touches;
       };
-      has_status = no_status given.stopped given.lines reach [] status which (inl refl) (λ _. refl);
-      halts = halts_later view first rack after_rack s.header at.journal (f.halts at.journal same) touches;
+      went_on = subst (λ n. WentOn given n) s.counted went;
     }
-
--- its forms are those of the stage
-pub stops_forms : {D : Type 0} (view : DiskView D) (first rack after_rack : List D) (given : Script) (done rest : List (List ℕ)) (place : Place) (at : Hand) (status : ℕ)
-    (which : (status ≡ 4) ⊎ (status ≡ 5)) (whole : given.lines ≡ done ++ rest) (s : Stage view first rack done place at) (touches : TouchesFirstAlone view rack after_rack)
-    → (let run = stops_at view first rack after_rack given done rest place at status which whole s touches in run.reach.forms) ≡ s.forms
-unfolding stops_at
-stops_forms view first rack after_rack given done rest place at status which whole s touches = refl
-
--- at 4 in place of 5
-pub stops_4 : {D : Type 0} (view : DiskView D) (given : Script) (first after : List D) (journal : List Line) → RunStops view given first after journal 5 → RunStops view given first after journal 4
-stops_4 view given first after journal r = record {
-  reach = r.reach;
-  ending = r.ending;
-  shows = r.shows;
-  has_status = cut_by given.stopped given.lines r.reach r.ending (inl (r.has_status.memory refl));
-  halts = r.halts;
-}
-
-pub stops_4_count : {D : Type 0} (view : DiskView D) (given : Script) (first after : List D) (journal : List Line) (run : RunStops view given first after journal 5) → (let r = stops_4 view given first after journal run in length r.reach.forms) ≡ length run.reach.forms
-unfolding stops_4
-stops_4_count view given first after journal run = refl

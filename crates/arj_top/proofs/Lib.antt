@@ -1,13 +1,8 @@
+pub mod Alone
+pub mod Along
 pub mod Arms
-pub mod BuiltForms
-pub mod Bytes
-pub mod Cuts
 pub mod Finish
+pub mod Forms
+pub mod Headlines
 mod Lone
-pub mod Places
 pub mod Quiet
-pub mod Sessions
-pub mod Stages
-pub mod Statuses
-pub mod Steps
-pub mod Whole

@@ -9,7 +9,8 @@ use Rattle.arj_journal.specs.declared.event.Event.{Event}
 use Rattle.arj_model.specs.Past.{Past, Along, nothing_yet, next, block}
 use Rattle.arj_script.specs.Input.{events_of}
 use Rattle.arj_model.specs.Causes.{Moment}
-use Rattle.arj_top.specs.Outcome.{Script, RunStops}
+use Rattle.arj_loop.specs.Input.{Script}
+use Rattle.arj_top.specs.Outcome.{RunStops}
 use Rattle.arj_top.specs.Outside.{DiskView}
 
 -- each line behind some has the number of an event

@@ -1,6 +1,6 @@
 pub mod Built
+pub mod Command
 pub mod Facts
-pub mod Input
+pub mod OneNode
 pub mod Outcome
 pub mod Outside
-pub mod Running

@@ -15,13 +15,14 @@ use Rattle.arj_script.specs.Input.{Stopped, AtEnd, AtFault, lines_of, events_of}
 use Rattle.arj_model.specs.Arms.{ArmsFit}
 use Rattle.arj_model.specs.Past.{Past, Along, nothing_yet}
 use Rattle.arj_model.specs.Causes.{IsPastLabels, Moment}
-use Rattle.arj_top.specs.declared.ending.BadLine.{BadLine}
-use Rattle.arj_top.specs.declared.ending.BadLine.TheVariants as why
-use Rattle.arj_top.specs.Built.{HasBuiltForm, HaveForms, IsBadLine, is_built}
+use Rattle.arj_loop.specs.declared.ending.BadLine.{BadLine}
+use Rattle.arj_loop.specs.declared.ending.BadLine.TheVariants as why
+use Rattle.arj_top.specs.Built.{HasBuiltForm, HaveForms, IsBadBy, IsBadLine}
 use Rattle.arj_top.specs.Facts.{Facts, DiskFacts, HaltsHaveCause}
-use Rattle.arj_top.specs.Input.{Arrived, Came, ReadsFewPast, WentOn, source_view, header_from, IsHeader}
+use Rattle.arj_loop.specs.Input.{Arrived, Came, ReadsFewPast, Script, WentOn, source_view, script_of, header_from, IsHeader}
+use Rattle.arj_loop.specs.Replayed.{Answer, Outside, TookFront}
 use Rattle.arj_script.specs.declared.limits.TheConstants.{LINE_BYTES, SCRIPT_LINES}
-use Rattle.arj_top.specs.Outside.{DiskView, Outside, arms_by}
+use Rattle.arj_top.specs.Outside.{DiskView, arms_by}
 
 -- How far a run came: the forms of the lines that were run, the place behind them, the header, and the run so far.
 pub record Reach : Type 0 where
@@ -94,14 +95,6 @@ pub record HasStatus (status : ℕ) (stopped : Stopped) (lines : List (List ℕ)
   -- 7: the next line is `run`, and the journal is empty
   pub format : status ≡ 7 → (line : List ℕ) × IsNext lines reach.forms line × HasBuiltForm reach.place line Run × (length reach.forms < SCRIPT_LINES) × (reach.past.lines ≡ []) × (ending ≡ [])
 
--- Why a line that is there can't be read: it is longer than 200 bytes, it isn't in the grammar at its place, or its form
--- isn't built.
-abbrev pub IsBadBy : BadLine → Place → List ℕ → Type 0
-IsBadBy why.TooLong place line = LINE_BYTES < length line
-IsBadBy why.Unknown place line = (length line ≤ LINE_BYTES) × ((form : Form) → HasForm place line form → ⊥)
-IsBadBy why.NotBuilt place line = (form : Form) × HasForm place line form × (is_built form ≡ false)
-IsBadBy why.Missing place line = ⊥
-
 -- Why a line is bad: it is there and can't be read, or it is missing, since the input ended before `run`.
 abbrev pub IsWhy : BadLine → Stopped → List (List ℕ) → Reach → Type 0
 IsWhy w stopped lines reach =
@@ -123,23 +116,6 @@ pub record Shows (lines : List (List ℕ)) (reach : Reach) (ending journal : Lis
   pub in_form : AllByRecursion LineInForm journal
   -- what the journal shows of the events
   pub facts : Facts reach.header (events_of reach.forms) journal
-
--- How reading stopped, and the lines of what has come.
-pub record Script : Type 0 where
-  pub stopped : Stopped
-  pub lines : List (List ℕ)
-
-abbrev pub script : Stopped → List (List ℕ) → Script
-script stopped lines = record { stopped = stopped; lines = lines }
-
--- What a run answers: its status, why a line is bad, if one is, and the journal that it leaves.
-pub record Answer : Type 0 where
-  pub status : ℕ
-  pub why : Option BadLine
-  pub journal : List Line
-
-abbrev pub answer : ℕ → Option BadLine → List Line → Answer
-answer status why journal = record { status = status; why = why; journal = journal }
 
 -- What a run of these lines to a status other than 4 and 5 leaves.
 pub record RunEnds {D : Type 0} (view : DiskView D) (given : Script) (before after : List D) (answer : Answer) : Type 0 where
@@ -166,14 +142,6 @@ pub record RunStops {D : Type 0} (view : DiskView D) (given : Script) (before af
   pub shows : Shows given.lines reach ending journal
   pub has_status : HasStatus status given.stopped given.lines reach ending
   pub halts : HaltsHaveCause view before after reach.header journal
-
--- the sink took a front of the journal's text, and at 5 all of it
-abbrev pub TookFront : ℕ → List Line → Option (List ℕ) → Option (List ℕ) → Type 0
-TookFront status journal before after = (count : ℕ) × Takes before (take count (text journal)) after × (status ≡ 5 → count ≡ length (text journal))
-
--- the lines of what came
-abbrev pub script_of : Arrived → Script
-script_of given = script given.stopped (lines_of given.stopped given.came)
 
 -- What a run to a status other than 1, 4 and 5 shows: which bytes came and what of them was run, what the journal
 -- shows of the events, that the sink took the journal's text, and what the disks hold.

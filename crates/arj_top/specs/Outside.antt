@@ -1,5 +1,6 @@
--- What a run finds and leaves outside of it: what its source, its sink and its disks tell.
+-- What disks tell, and what a run of one node does to them.
 use Rattle.std.specs.Prelude.{map, drop, ◌≡◌, ◌≤◌, ◌<◌, ℕ, List, Option, Some, slice_get}
+use Rattle.arj_base.specs.Count.{Rose}
 use Rattle.arj_disk.specs.declared.slot.Outcome.{Outcome}
 use Rattle.arj_disk.specs.FileMap.{FileMap}
 use Rattle.arj_model.specs.Arms.{Arms}
@@ -23,17 +24,6 @@ pub record SameArms {D : Type 0} (view : DiskView D) (old new : D) : Type 0 wher
 abbrev pub arms_by : {D : Type 0} → DiskView D → D → Arms
 arms_by view disk = record { number = view.arms disk; last = view.last_arm disk }
 
--- The bytes that are left in the source, where it tells them, and its count of failed reads; the bytes that the sink has
--- taken, where it tells them; and the disks.
-pub record Outside (D : Type 0) : Type 0 where
-  pub left : Option (List ℕ)
-  pub faults : ℕ
-  pub taken : Option (List ℕ)
-  pub rack : List D
-
-abbrev pub outside : {D : Type 0} → Option (List ℕ) → ℕ → Option (List ℕ) → List D → Outside D
-outside left faults taken rack = record { left = left; faults = faults; taken = taken; rack = rack }
-
 -- No disk but the first was touched, none was armed, and the first one's count of stops didn't fall.
 pub record TouchesFirstAlone {D : Type 0} (view : DiskView D) (before after : List D) : Type 0 where
   pub arms : map view.arms after ≡ map view.arms before
@@ -45,3 +35,7 @@ pub record TouchesFirstAlone {D : Type 0} (view : DiskView D) (before after : Li
 abbrev pub NoDiskRose : {D : Type 0} → DiskView D → List D → List D → Type 0
 NoDiskRose {D} view before after =
     (node : ℕ) (old new : D) → slice_get before node ≡ Some old → slice_get after node ≡ Some new → (view.stops new ≡ view.stops old) × (view.stops new < 18446744073709551615)
+
+-- the first disk's count of stops rose
+abbrev pub FirstRose : {D : Type 0} → (D → ℕ) → List D → List D → Type 0
+FirstRose {D} stops before after = (old new : D) → slice_get before 0 ≡ Some old → slice_get after 0 ≡ Some new → Rose (stops old) (stops new)
