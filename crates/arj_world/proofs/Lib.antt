@@ -9,4 +9,6 @@ pub mod Hands
 pub mod Begins
 pub mod Runs
 pub mod First
+pub mod Disks
+pub mod Counts
 pub mod Armed

@@ -4,3 +4,4 @@ pub mod Stands
 pub mod Goes
 pub mod Happens
 pub mod First
+pub mod Disks

@@ -3,6 +3,7 @@ ghost use Rattle.std.specs.Prelude.{◌≡◌, ◌++◌, None, OnOk, IfOk, map, 
 ghost use Rattle.arj_net.specs.Net.{as_delivered, as_lost, changed_at, frame_of};
 ghost use Rattle.arj_protocol.specs.World.{lowest_from, numbered};
 ghost use Rattle.arj_protocol.specs.World as protocol;
+ghost use Rattle.arj_world.specs.Disks.{HaveMoved};
 ghost use Rattle.arj_world.specs.Goes.{GoesTo};
 ghost use Rattle.arj_world.specs.Stands.{StandsSome, hand};
 ghost use Rattle.arj_world.specs.Wire as wire;
@@ -34,6 +35,7 @@ impl<C: Core> World<C> {
     }
 
     /// Delivers a frame to the node that it is for. A number that no frame has does nothing, nor does a node that isn't there.
+    #[tactic(auto, using(crate::proofs::Disks::moved_none, crate::proofs::Disks::moved_on, crate::proofs::Disks::moved_set))]
     pub(crate) fn deliver<D: Disk>(
         &mut self,
         rack: &mut Rack<D>,
@@ -43,6 +45,7 @@ impl<C: Core> World<C> {
         requires stands { StandsSome C.Core D.file (hand self.old rack.old journal.old) }
         ensures goes { OnOk result (GoesTo C.Core D.file (protocol.deliver k) (hand self.old rack.old journal.old) (hand self.new rack.new journal.new)) }
         ensures header { self.new.header ≡ self.old.header }
+        ensures disks { HaveMoved D.Disk 0 rack.old rack.new }
     {
         let Some(frame) = self.take_frame(k)? else {
             return Ok(());
@@ -80,6 +83,7 @@ impl<C: Core> World<C> {
     }
 
     /// Delivers frames, the lowest number first, until there is none or one doesn't fit.
+    #[tactic(auto, using(crate::proofs::Disks::moved_none, crate::proofs::Disks::moved_on, crate::proofs::Disks::moved_set))]
     pub(crate) fn settle<D: Disk>(
         &mut self,
         rack: &mut Rack<D>,
@@ -88,6 +92,7 @@ impl<C: Core> World<C> {
         requires stands { StandsSome C.Core D.file (hand self.old rack.old journal.old) }
         ensures goes { OnOk result (GoesTo C.Core D.file protocol.settle (hand self.old rack.old journal.old) (hand self.new rack.new journal.new)) }
         ensures header { self.new.header ≡ self.old.header }
+        ensures disks { HaveMoved D.Disk 0 rack.old rack.new }
     {
         let mut left = MOST_FRAMES;
         while 0 < left {

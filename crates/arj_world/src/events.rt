@@ -10,6 +10,7 @@ ghost use Rattle.arj_protocol.specs.Words.{label_cmp};
 ghost use Rattle.arj_protocol.specs.Words.event as events;
 ghost use Rattle.arj_protocol.specs.World.{is_serial_kind, reasons, steps};
 ghost use Rattle.arj_protocol.specs.World as protocol;
+ghost use Rattle.arj_world.specs.Disks.{HaveMoved};
 ghost use Rattle.arj_world.specs.Goes.{BeginsTo, GoesTo, is_no_restart};
 ghost use Rattle.arj_world.specs.Happens.{HappensTo, done};
 ghost use Rattle.arj_world.specs.Happens as happens;
@@ -57,6 +58,7 @@ impl<C: Core> World<C> {
     }
 
     // An action begins at a node. Its label is given where the node doesn't refuse.
+    #[tactic(auto, using(crate::proofs::Disks::moved_none, crate::proofs::Disks::moved_on, crate::proofs::Disks::moved_set))]
     fn begin<D: Disk>(
         &mut self,
         rack: &mut Rack<D>,
@@ -69,6 +71,7 @@ impl<C: Core> World<C> {
         requires stands { StandsSome C.Core D.file (hand self.old rack.old journal.old) }
         ensures goes { OnOk result (GoesTo C.Core D.file (protocol.begins (record { label = label; kind = kind; parent = parent; node = node })) (hand self.old rack.old journal.old) (hand self.new rack.new journal.new)) }
         ensures header { self.new.header ≡ self.old.header }
+        ensures disks { HaveMoved D.Disk 0 rack.old rack.new }
     {
         let serial = is_serial(kind);
         let Some(n) = self.node_in(u32::from(node)) else {
@@ -87,6 +90,7 @@ impl<C: Core> World<C> {
     }
 
     /// A plain or a serializing action begins at a node.
+    #[tactic(auto, using(crate::proofs::Disks::moved_none, crate::proofs::Disks::moved_on, crate::proofs::Disks::moved_set))]
     pub(crate) fn begin_at<D: Disk>(
         &mut self,
         rack: &mut Rack<D>,
@@ -100,6 +104,7 @@ impl<C: Core> World<C> {
         requires stands { StandsSome C.Core D.file (hand self.old rack.old journal.old) }
         ensures goes { OnOk result (GoesTo C.Core D.file (protocol.begins (record { label = label; kind = kind; parent = None; node = node })) (hand self.old rack.old journal.old) (hand self.new rack.new journal.new)) }
         ensures header { self.new.header ≡ self.old.header }
+        ensures disks { HaveMoved D.Disk 0 rack.old rack.new }
     {
         let Some(n) = self.node_in(node) else {
             unreachable!()
@@ -134,6 +139,7 @@ impl<C: Core> World<C> {
     }
 
     /// An action begins in another one, at its node.
+    #[tactic(auto, using(crate::proofs::Disks::moved_none, crate::proofs::Disks::moved_on, crate::proofs::Disks::moved_set))]
     pub(crate) fn begin_in<D: Disk>(
         &mut self,
         rack: &mut Rack<D>,
@@ -144,6 +150,7 @@ impl<C: Core> World<C> {
         requires stands { StandsSome C.Core D.file (hand self.old rack.old journal.old) }
         ensures goes { OnOk result (GoesTo C.Core D.file (done (events.BeginIn label parent)) (hand self.old rack.old journal.old) (hand self.new rack.new journal.new)) }
         ensures header { self.new.header ≡ self.old.header }
+        ensures disks { HaveMoved D.Disk 0 rack.old rack.new }
     {
         let kind = self.kind_below(parent);
         let node = self.node_of(parent);
@@ -151,6 +158,7 @@ impl<C: Core> World<C> {
     }
 
     /// An independent action begins at the node of another one.
+    #[tactic(auto, using(crate::proofs::Disks::moved_none, crate::proofs::Disks::moved_on, crate::proofs::Disks::moved_set))]
     pub(crate) fn begin_apart<D: Disk>(
         &mut self,
         rack: &mut Rack<D>,
@@ -161,12 +169,14 @@ impl<C: Core> World<C> {
         requires stands { StandsSome C.Core D.file (hand self.old rack.old journal.old) }
         ensures goes { OnOk result (GoesTo C.Core D.file (done (events.Top label parent)) (hand self.old rack.old journal.old) (hand self.new rack.new journal.new)) }
         ensures header { self.new.header ≡ self.old.header }
+        ensures disks { HaveMoved D.Disk 0 rack.old rack.new }
     {
         let node = self.node_of(parent);
         self.begin(rack, label, Kind::Independent, Some(parent), node, journal)
     }
 
     /// The node of a label is asked.
+    #[tactic(auto, using(crate::proofs::Disks::moved_none, crate::proofs::Disks::moved_on, crate::proofs::Disks::moved_set))]
     pub(crate) fn ask<D: Disk>(
         &mut self,
         rack: &mut Rack<D>,
@@ -178,12 +188,14 @@ impl<C: Core> World<C> {
         requires stands { StandsSome C.Core D.file (hand self.old rack.old journal.old) }
         ensures goes { OnOk result (GoesTo C.Core D.file (λ w. steps (protocol.node_of label w) (input_of input) w) (hand self.old rack.old journal.old) (hand self.new rack.new journal.new)) }
         ensures header { self.new.header ≡ self.old.header }
+        ensures disks { HaveMoved D.Disk 0 rack.old rack.new }
     {
         let node = self.node_of(label);
         self.ask_node(rack, u32::from(node), input, journal)
     }
 
     /// A node comes up.
+    #[tactic(auto, using(crate::proofs::Disks::moved_none, crate::proofs::Disks::moved_on, crate::proofs::Disks::moved_set))]
     pub(crate) fn restart<D: Disk>(
         &mut self,
         rack: &mut Rack<D>,
@@ -193,6 +205,7 @@ impl<C: Core> World<C> {
         requires stands { StandsSome C.Core D.file (hand self.old rack.old journal.old) }
         ensures begins { OnOk result (BeginsTo C.Core D.file (steps node inputs.Restart) (hand self.old rack.old journal.old) (hand self.new rack.new journal.new)) }
         ensures header { self.new.header ≡ self.old.header }
+        ensures disks { HaveMoved D.Disk 0 rack.old rack.new }
     {
         match self.node_in(node) {
             Some(n) => self.step_core(rack, n, Input::Restart, journal),
@@ -201,6 +214,7 @@ impl<C: Core> World<C> {
     }
 
     /// A node's disk is armed.
+    #[tactic(auto, using(crate::proofs::Disks::moved_none, crate::proofs::Disks::moved_on, crate::proofs::Disks::moved_set))]
     pub(crate) fn arm<D: Disk>(
         &mut self,
         rack: &mut Rack<D>,
@@ -215,6 +229,7 @@ impl<C: Core> World<C> {
         requires arms { All (λ d. D.arms d < LAST_ARM) rack.old }
         ensures happens { OnOk result (HappensTo C.Core D.file (done (events.Stop node calls kind)) (hand self.old rack.old journal.old) (hand self.new rack.new journal.new)) }
         ensures header { self.new.header ≡ self.old.header }
+        ensures disks { HaveMoved D.Disk 1 rack.old rack.new }
     {
         let Some(n) = self.node_in(node) else {
             unreachable!()

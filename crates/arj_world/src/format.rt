@@ -1,8 +1,9 @@
 // All nodes, as a run begins.
-ghost use Rattle.std.specs.Prelude.{◌≡◌, ◌≤◌, ◌-◌, [], None, Some, IfOk, All, slice_get};
+ghost use Rattle.std.specs.Prelude.{◌≡◌, ◌≤◌, ◌-◌, [], None, Some, IfOk, IsErrOf, All, slice_get};
 ghost use Rattle.arj_disk.specs.declared.slot.Slot.{Slot};
 ghost use Rattle.arj_journal.specs.ScriptForm.{HeaderInForm};
 ghost use Rattle.arj_protocol.specs.World as protocol;
+ghost use Rattle.arj_world.specs.Disks.{HasStopped, HaveMoved};
 ghost use Rattle.arj_world.specs.First.{Formatted};
 ghost use Rattle.arj_world.specs.Stands.{Stands, hand};
 
@@ -15,6 +16,7 @@ use std::alloc::Global;
 use std::collections::BTreeMap;
 
 // Formats a node over its empty disk.
+#[tactic(auto, using(crate::proofs::Disks::moved_call, crate::proofs::Disks::stopped_at))]
 fn format_node<C: Core, D: Disk>(
     alloc: Global,
     node: u8,
@@ -25,7 +27,9 @@ fn format_node<C: Core, D: Disk>(
     requires greatest { node ≤ header.now.nodes }
     requires form { HeaderInForm header.now }
     requires empty { (d : D) → slice_get rack.old (node - 1) ≡ Some d → (slot : Slot) → D.file d slot ≡ None }
-    ensures { IfOk result (λ core. Formatted C.Core D.file header.now node core rack.old rack.new) }
+    ensures formatted { IfOk result (λ core. Formatted C.Core D.file header.now node core rack.old rack.new) }
+    ensures disks { HaveMoved D.Disk 0 rack.old rack.new }
+    ensures stopped { IsErrOf result FormatFault.Stopped → HasStopped D.Disk rack.old rack.new }
 {
     match C::format(alloc, node, header, rack.disk(node)) {
         Ok(core) => Ok(core),
@@ -44,6 +48,8 @@ impl<C: Core + Drop> World<C> {
         requires form { HeaderInForm header }
         requires empty { All (λ d. (slot : Slot) → D.file d slot ≡ None) rack.old }
         ensures stands { IfOk result (λ world. Stands C.Core D.file (hand world rack.new []) (protocol.format header)) }
+        ensures disks { HaveMoved D.Disk 0 rack.old rack.new }
+        ensures stopped { IsErrOf result FormatFault.Stopped → HasStopped D.Disk rack.old rack.new }
     {
         let mut cores = Vec::new(alloc);
         for node in 0..header.nodes {

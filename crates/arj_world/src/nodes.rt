@@ -7,6 +7,7 @@ ghost use Rattle.arj_protocol.specs.Step.{Node, is_idle, numbers_to};
 ghost use Rattle.arj_protocol.specs.Words.body;
 ghost use Rattle.arj_protocol.specs.World.{numbered};
 ghost use Rattle.arj_protocol.specs.World as protocol;
+ghost use Rattle.arj_world.specs.Disks.{HaveMoved};
 ghost use Rattle.arj_world.specs.Goes.{GoesTo};
 ghost use Rattle.arj_world.specs.Stands.{AreSomeNodes, StandsSome, hand};
 
@@ -39,6 +40,7 @@ impl<C: Core> World<C> {
     }
 
     // What waits at a node is asked for again, where it is up and all frames fitted.
+    #[tactic(auto, using(crate::proofs::Disks::moved_none, crate::proofs::Disks::moved_on, crate::proofs::Disks::moved_set))]
     fn tick_up<D: Disk>(
         &mut self,
         rack: &mut Rack<D>,
@@ -50,6 +52,7 @@ impl<C: Core> World<C> {
         requires stands { StandsSome C.Core D.file (hand self.old rack.old journal.old) }
         ensures goes { OnOk result (GoesTo C.Core D.file (protocol.tick_up node) (hand self.old rack.old journal.old) (hand self.new rack.new journal.new)) }
         ensures header { self.new.header ≡ self.old.header }
+        ensures disks { HaveMoved D.Disk 0 rack.old rack.new }
     {
         if self.wire.full {
             return Ok(());
@@ -61,6 +64,7 @@ impl<C: Core> World<C> {
     }
 
     // Ticks all nodes, in order.
+    #[tactic(auto, using(crate::proofs::Disks::moved_none, crate::proofs::Disks::moved_on, crate::proofs::Disks::moved_set))]
     fn tick_all<D: Disk>(
         &mut self,
         rack: &mut Rack<D>,
@@ -69,6 +73,7 @@ impl<C: Core> World<C> {
         requires stands { StandsSome C.Core D.file (hand self.old rack.old journal.old) }
         ensures goes { OnOk result (GoesTo C.Core D.file (protocol.tick_all (numbers_to self.old.header.nodes)) (hand self.old rack.old journal.old) (hand self.new rack.new journal.new)) }
         ensures header { self.new.header ≡ self.old.header }
+        ensures disks { HaveMoved D.Disk 0 rack.old rack.new }
     {
         let nodes = self.header.nodes;
         for node in 0..nodes {
@@ -91,6 +96,7 @@ impl<C: Core> World<C> {
     }
 
     /// Frames are delivered, all nodes are ticked, frames are delivered again, and a line says whether all is quiet then.
+    #[tactic(auto, using(crate::proofs::Disks::moved_none, crate::proofs::Disks::moved_on, crate::proofs::Disks::moved_set))]
     pub(crate) fn quiesce<D: Disk>(
         &mut self,
         rack: &mut Rack<D>,
@@ -99,6 +105,7 @@ impl<C: Core> World<C> {
         requires stands { StandsSome C.Core D.file (hand self.old rack.old journal.old) }
         ensures goes { OnOk result (GoesTo C.Core D.file protocol.quiesce (hand self.old rack.old journal.old) (hand self.new rack.new journal.new)) }
         ensures header { self.new.header ≡ self.old.header }
+        ensures disks { HaveMoved D.Disk 0 rack.old rack.new }
     {
         self.settle(rack, journal)?;
         self.tick_all(rack, journal)?;
@@ -107,6 +114,7 @@ impl<C: Core> World<C> {
     }
 
     // A node that is up shows what its disk has of an object.
+    #[tactic(auto, using(crate::proofs::Disks::moved_none, crate::proofs::Disks::moved_on, crate::proofs::Disks::moved_set))]
     fn show_up<D: Disk>(
         &mut self,
         rack: &mut Rack<D>,
@@ -119,6 +127,7 @@ impl<C: Core> World<C> {
         requires stands { StandsSome C.Core D.file (hand self.old rack.old journal.old) }
         ensures goes { OnOk result (GoesTo C.Core D.file (protocol.show_up x node) (hand self.old rack.old journal.old) (hand self.new rack.new journal.new)) }
         ensures header { self.new.header ≡ self.old.header }
+        ensures disks { HaveMoved D.Disk 0 rack.old rack.new }
     {
         if !self.is_up(node) {
             return Ok(());
@@ -127,6 +136,7 @@ impl<C: Core> World<C> {
     }
 
     /// All nodes that are up show what their disks have of an object, in order.
+    #[tactic(auto, using(crate::proofs::Disks::moved_none, crate::proofs::Disks::moved_on, crate::proofs::Disks::moved_set))]
     pub(crate) fn show_all<D: Disk>(
         &mut self,
         rack: &mut Rack<D>,
@@ -136,6 +146,7 @@ impl<C: Core> World<C> {
         requires stands { StandsSome C.Core D.file (hand self.old rack.old journal.old) }
         ensures goes { OnOk result (GoesTo C.Core D.file (protocol.show_all x (numbers_to self.old.header.nodes)) (hand self.old rack.old journal.old) (hand self.new rack.new journal.new)) }
         ensures header { self.new.header ≡ self.old.header }
+        ensures disks { HaveMoved D.Disk 0 rack.old rack.new }
     {
         let nodes = self.header.nodes;
         for node in 0..nodes {

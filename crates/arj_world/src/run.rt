@@ -1,14 +1,16 @@
 // One event after another.
-ghost use Rattle.std.specs.Prelude.{◌≡◌, ◌≤◌, ◌<◌, ◌+◌, ◌∷◌, ◌++◌, [], true, false, None, Some, OnOk, IfOk, IsErrOf, All};
+ghost use Rattle.std.specs.Prelude.{◌≡◌, ◌≤◌, ◌<◌, ◌+◌, ◌∷◌, ◌++◌, [], List, true, false, None, Some, OnOk, IfOk, IsErrOf, All};
 ghost use Rattle.arj_disk.specs.declared.limits.TheConstants.{LAST_ARM};
 ghost use Rattle.arj_journal.specs.ScriptForm.{EventInForm};
 ghost use Rattle.arj_journal.specs.Stepping.{EndsWithLimit};
+ghost use Rattle.arj_journal.specs.declared.body.Line.{Line};
 ghost use Rattle.arj_protocol.specs.Step.{first_reason};
 ghost use Rattle.arj_protocol.specs.Step as inputs;
 ghost use Rattle.arj_protocol.specs.Words.body;
 ghost use Rattle.arj_protocol.specs.Words.which;
 ghost use Rattle.arj_protocol.specs.World.{giving, lacks_labels, numbered, reasons, steps};
 ghost use Rattle.arj_protocol.specs.World as protocol;
+ghost use Rattle.arj_world.specs.Disks.{HaveMoved};
 ghost use Rattle.arj_world.specs.Goes.{GoesTo};
 ghost use Rattle.arj_world.specs.Happens.{HappensTo, RunsOver, RunsTo, done};
 ghost use Rattle.arj_world.specs.Stands.{Keeps, StandsSome, hand};
@@ -24,6 +26,7 @@ pub const MOST_LABELS: usize = 4096;
 
 impl<C: Core> World<C> {
     // An action includes a store of an object.
+    #[tactic(auto, using(crate::proofs::Disks::moved_none, crate::proofs::Disks::moved_on, crate::proofs::Disks::moved_set))]
     fn include<D: Disk>(
         &mut self,
         rack: &mut Rack<D>,
@@ -37,6 +40,7 @@ impl<C: Core> World<C> {
         requires stands { StandsSome C.Core D.file (hand self.old rack.old journal.old) }
         ensures goes { OnOk result (GoesTo C.Core D.file (λ w. steps (protocol.node_of label w) (inputs.Include label x node) w) (hand self.old rack.old journal.old) (hand self.new rack.new journal.new)) }
         ensures header { self.new.header ≡ self.old.header }
+        ensures disks { HaveMoved D.Disk 0 rack.old rack.new }
     {
         let Some(store) = self.node_in(node) else {
             unreachable!()
@@ -45,6 +49,7 @@ impl<C: Core> World<C> {
     }
 
     // What an event does that the world doesn't refuse.
+    #[tactic(auto, using(crate::proofs::Disks::moved_none, crate::proofs::Disks::moved_on, crate::proofs::Disks::moved_set))]
     fn happen<D: Disk>(
         &mut self,
         rack: &mut Rack<D>,
@@ -57,6 +62,7 @@ impl<C: Core> World<C> {
         requires stands { StandsSome C.Core D.file (hand self.old rack.old journal.old) }
         ensures happens { OnOk result (HappensTo C.Core D.file (done event) (hand self.old rack.old journal.old) (hand self.new rack.new journal.new)) }
         ensures header { self.new.header ≡ self.old.header }
+        ensures disks { HaveMoved D.Disk 1 rack.old rack.new }
     {
         match event {
             Event::Begin { label, node } => self.begin_at(rack, label, Kind::Top, node, journal),
@@ -152,6 +158,7 @@ impl<C: Core> World<C> {
     /// Runs one event: its lines go to the end of the journal, and the world is then what the protocol makes of it, with
     /// the stops that fell. Where a frame didn't fit, a line says so last, and the run is over. An event that would give
     /// one label too many changes nothing.
+    #[tactic(auto, using(crate::proofs::Disks::moved_none, crate::proofs::Disks::moved_on, crate::proofs::Disks::moved_set))]
     pub fn step<D: Disk>(
         &mut self,
         rack: &mut Rack<D>,
@@ -165,9 +172,14 @@ impl<C: Core> World<C> {
         ensures ran { OnOk result (RunsTo C.Core D.file event (hand self.old rack.old journal.old) (hand self.new rack.new journal.new)) }
         ensures frames { IsErrOf result StepFault.Frames → RunsOver C.Core D.file event (hand self.old rack.old journal.old) (hand self.new rack.new journal.new) }
         ensures last { IsErrOf result StepFault.Frames → EndsWithLimit which.Frames journal.new }
+        ensures counted { OnOk result (self.new.event ≡ self.old.event + 1) }
+        ensures counted_over { IsErrOf result StepFault.Frames → self.new.event ≡ self.old.event + 1 }
+        ensures grown { OnOk result ((added : List Line) × (journal.new ≡ journal.old ++ added)) }
+        ensures grown_over { IsErrOf result StepFault.Frames → (added : List Line) × (journal.new ≡ journal.old ++ added) }
         ensures kept { IsErrOf result StepFault.Labels → (self.new ≡ self.old) × (rack.new ≡ rack.old) × (journal.new ≡ journal.old) }
         ensures labels { IsErrOf result StepFault.Labels → (w : protocol.World) → Keeps C.Core self.old w → (None ≡ first_reason (reasons event w)) × (lacks_labels (giving event w) w ≡ true) }
         ensures header { self.new.header ≡ self.old.header }
+        ensures disks { HaveMoved D.Disk 1 rack.old rack.new }
     {
         if let Some(cause) = self.refusal(&event)? {
             return self.refuse(cause, journal);

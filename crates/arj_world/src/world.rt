@@ -2,6 +2,7 @@
 ghost use Rattle.std.specs.Prelude.{◌≡◌, ◌≤◌, [], length, true, OnOk, IfOk, Some, slice_get};
 ghost use Rattle.arj_core.specs.Steps.{input_of};
 ghost use Rattle.arj_protocol.specs.World.{steps};
+ghost use Rattle.arj_world.specs.Disks.{HaveMoved};
 ghost use Rattle.arj_world.specs.Goes.{GoesTo, StepsTo, is_no_restart};
 ghost use Rattle.arj_world.specs.Stands.{StandsSome, hand};
 
@@ -40,6 +41,7 @@ impl<C> Model for World<C> {
 
 impl<C: Core> World<C> {
     /// One step of a node. Its lines and frames are put; where its disk stopped, a line says that it halted.
+    #[tactic(auto, using(crate::proofs::Disks::moved_none, crate::proofs::Disks::moved_on, crate::proofs::Disks::moved_set))]
     pub(crate) fn step_core<D: Disk>(
         &mut self,
         rack: &mut Rack<D>,
@@ -52,6 +54,7 @@ impl<C: Core> World<C> {
         requires stands { StandsSome C.Core D.file (hand self.old rack.old journal.old) }
         ensures steps { OnOk result (StepsTo C.Core D.file node (input_of input) (hand self.old rack.old journal.old) (hand self.new rack.new journal.new)) }
         ensures header { self.new.header ≡ self.old.header }
+        ensures disks { HaveMoved D.Disk 0 rack.old rack.new }
     {
         let mut outputs = Outputs::new(self.alloc);
         let core = &mut self.cores[usize::from(node - 1)];
@@ -66,6 +69,7 @@ impl<C: Core> World<C> {
     }
 
     /// The node of a number takes an input, but no restart. Where there is no such node, nothing happens.
+    #[tactic(auto, using(crate::proofs::Disks::moved_none, crate::proofs::Disks::moved_on, crate::proofs::Disks::moved_set))]
     pub(crate) fn ask_node<D: Disk>(
         &mut self,
         rack: &mut Rack<D>,
@@ -77,6 +81,7 @@ impl<C: Core> World<C> {
         requires stands { StandsSome C.Core D.file (hand self.old rack.old journal.old) }
         ensures goes { OnOk result (GoesTo C.Core D.file (steps node (input_of input)) (hand self.old rack.old journal.old) (hand self.new rack.new journal.new)) }
         ensures header { self.new.header ≡ self.old.header }
+        ensures disks { HaveMoved D.Disk 0 rack.old rack.new }
     {
         match self.node_in(node) {
             Some(n) => self.step_core(rack, n, input, journal),

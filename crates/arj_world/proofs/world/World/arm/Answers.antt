@@ -7,6 +7,7 @@ use Rattle.arj_world.specs.Happens.{HappensTo, done}
 use Rattle.std.specs.Prelude.{slice_set, ◌-◌}
 use Rattle.arj_world.specs.Stands.{hand}
 use Rattle.arj_world.proofs.Armed.{happens_armed}
+use Rattle.arj_world.proofs.Disks.{moved_armed}
 use Rattle.arj_world.proofs.world.World.arm.Goals as goal
 
 pub returns-clause-happens : goal.returns-clause-happens
@@ -20,3 +21,6 @@ returns-clause-happens g c =
     (happens_armed g.C.Core g.D.Disk.file c.in-Some.n c.args.calls c.args.kind c.disk.result.now c.arm.new.self old c.say.new.journal n.1 n.2 c.disk.ensures.value c.arm.ensures.files
     (said ∙ (λ i. c.args.journal.now ++ numbered (ap (λ k. k.event) c.self.view_is i) (body.Armed c.in-Some.n ∷ [])))))
     c.say.ensures
+
+pub returns-clause-disks : goal.returns-clause-disks
+returns-clause-disks g c = moved_armed g.D.Disk c.in-Some.n c.args.rack.now c.disk.result.now c.arm.new.self c.disk.ensures.value c.arm.ensures.stops c.arm.ensures.arms

@@ -10,6 +10,7 @@ use Rattle.arj_protocol.specs.World.{deliver, is_given, is_up_at, lose, numbered
 use Rattle.arj_world.specs.Goes.{GoesTo}
 use Rattle.arj_world.specs.Stands.{hand}
 use Rattle.arj_world.specs.Wire.{dropped_line}
+use Rattle.arj_world.proofs.Disks.{moved_more, moved_none}
 use Rattle.arj_world.proofs.Hands.{goes_lose}
 use Rattle.arj_world.proofs.Runs.{accepted_junk, accepted_range, begins_on, goes_headed, goes_numbered, goes_on, on_ok_both, stands_on}
 use Rattle.arj_world.proofs.world.World.happen.Goals as goal
@@ -122,3 +123,57 @@ arm-requires-clause-calls g c = (subst EventInForm c.in-Stop.is c.requires.form)
 
 pub send_junk-requires-clause-junk : goal.send_junk-requires-clause-junk
 send_junk-requires-clause-junk g c = accepted_junk g.C.Core g.D.Disk.file c.args.event c.in-Junk.node c.in-Junk.bytes (hand c.args.self.now c.args.rack.now c.args.journal.now) c.in-Junk.is c.requires.accepted c.requires.stands
+
+pub returns-in-Begin-clause-disks : goal.returns-in-Begin-clause-disks
+returns-in-Begin-clause-disks g c = moved_more g.D.Disk c.args.rack.now c.begin_at.new.rack c.begin_at.ensures.disks
+
+pub returns-in-Serial-clause-disks : goal.returns-in-Serial-clause-disks
+returns-in-Serial-clause-disks g c = moved_more g.D.Disk c.args.rack.now c.begin_at-in-Serial.new.rack c.begin_at-in-Serial.ensures.disks
+
+pub returns-in-BeginIn-clause-disks : goal.returns-in-BeginIn-clause-disks
+returns-in-BeginIn-clause-disks g c = moved_more g.D.Disk c.args.rack.now c.begin_in.new.rack c.begin_in.ensures.disks
+
+pub returns-in-Top-clause-disks : goal.returns-in-Top-clause-disks
+returns-in-Top-clause-disks g c = moved_more g.D.Disk c.args.rack.now c.begin_apart.new.rack c.begin_apart.ensures.disks
+
+pub returns-in-Call-clause-disks : goal.returns-in-Call-clause-disks
+returns-in-Call-clause-disks g c = moved_more g.D.Disk c.args.rack.now c.ask.new.rack c.ask.ensures.disks
+
+pub returns-in-Include-clause-disks : goal.returns-in-Include-clause-disks
+returns-in-Include-clause-disks g c = moved_more g.D.Disk c.args.rack.now c.include.new.rack c.include.ensures.disks
+
+pub returns-in-Commit-clause-disks : goal.returns-in-Commit-clause-disks
+returns-in-Commit-clause-disks g c = moved_more g.D.Disk c.args.rack.now c.ask-in-Commit.new.rack c.ask-in-Commit.ensures.disks
+
+pub returns-in-Abort-clause-disks : goal.returns-in-Abort-clause-disks
+returns-in-Abort-clause-disks g c = moved_more g.D.Disk c.args.rack.now c.ask-in-Abort.new.rack c.ask-in-Abort.ensures.disks
+
+pub returns-in-GiveUp-clause-disks : goal.returns-in-GiveUp-clause-disks
+returns-in-GiveUp-clause-disks g c = moved_more g.D.Disk c.args.rack.now c.ask-in-GiveUp.new.rack c.ask-in-GiveUp.ensures.disks
+
+pub returns-in-Deliver-clause-disks : goal.returns-in-Deliver-clause-disks
+returns-in-Deliver-clause-disks g c = moved_more g.D.Disk c.args.rack.now c.deliver.new.rack c.deliver.ensures.disks
+
+pub returns-in-Tick-clause-disks : goal.returns-in-Tick-clause-disks
+returns-in-Tick-clause-disks g c = moved_more g.D.Disk c.args.rack.now c.ask_node.new.rack c.ask_node.ensures.disks
+
+pub returns-in-Settle-clause-disks : goal.returns-in-Settle-clause-disks
+returns-in-Settle-clause-disks g c = moved_more g.D.Disk c.args.rack.now c.settle.new.rack c.settle.ensures.disks
+
+pub returns-in-Quiesce-clause-disks : goal.returns-in-Quiesce-clause-disks
+returns-in-Quiesce-clause-disks g c = moved_more g.D.Disk c.args.rack.now c.quiesce.new.rack c.quiesce.ensures.disks
+
+pub returns-in-Crash-clause-disks : goal.returns-in-Crash-clause-disks
+returns-in-Crash-clause-disks g c = moved_more g.D.Disk c.args.rack.now c.ask_node-in-Crash.new.rack c.ask_node-in-Crash.ensures.disks
+
+pub returns-in-Restart-clause-disks : goal.returns-in-Restart-clause-disks
+returns-in-Restart-clause-disks g c = moved_more g.D.Disk c.args.rack.now c.restart.new.rack c.restart.ensures.disks
+
+pub returns-in-Show-clause-disks : goal.returns-in-Show-clause-disks
+returns-in-Show-clause-disks g c = moved_more g.D.Disk c.args.rack.now c.show_all.new.rack c.show_all.ensures.disks
+
+pub returns-in-Lose-clause-disks : goal.returns-in-Lose-clause-disks
+returns-in-Lose-clause-disks g c = moved_none g.D.Disk 1 c.args.rack.now
+
+pub returns-in-Junk-clause-disks : goal.returns-in-Junk-clause-disks
+returns-in-Junk-clause-disks g c = moved_none g.D.Disk 1 c.args.rack.now

@@ -1,5 +1,6 @@
 use Rattle.std.proofs.lemmas.Result.{on_ok_weaker}
 use Rattle.arj_world.specs.Stands.{hand}
+use Rattle.arj_world.proofs.Disks.{moved_on}
 use Rattle.arj_world.proofs.Hands.{quiesces, quiet_goes}
 use Rattle.arj_world.proofs.world.World.quiesce.Goals as goal
 
@@ -11,3 +12,14 @@ returns-clause-goes g c =
     fourth (hand c.settle-2.new.self c.settle-2.new.rack c.say_quiet.new.journal)
     c.in_ok-settle.ensures.goes c.in_ok-tick_all.ensures.goes c.in_ok-settle-2.ensures.goes line c.in_ok-settle.ensures.header c.in_ok-tick_all.ensures.header c.in_ok-settle-2.ensures.header)
     (quiet_goes g.C.Core g.D.Disk.file fourth c.say_quiet.result c.say_quiet.new.journal c.say_quiet.ensures.full c.say_quiet.ensures.said)
+
+pub returns-in_err-tick_all-clause-disks : goal.returns-in_err-tick_all-clause-disks
+returns-in_err-tick_all-clause-disks g c = moved_on g.D.Disk c.args.rack.now c.settle.new.rack c.tick_all.new.rack c.settle.ensures.disks c.tick_all.ensures.disks
+
+pub returns-in_err-settle-2-clause-disks : goal.returns-in_err-settle-2-clause-disks
+returns-in_err-settle-2-clause-disks g c =
+    moved_on g.D.Disk c.args.rack.now c.tick_all.new.rack c.settle-2.new.rack (moved_on g.D.Disk c.args.rack.now c.settle.new.rack c.tick_all.new.rack c.settle.ensures.disks c.tick_all.ensures.disks) c.settle-2.ensures.disks
+
+pub returns-clause-disks : goal.returns-clause-disks
+returns-clause-disks g c =
+    moved_on g.D.Disk c.args.rack.now c.tick_all.new.rack c.settle-2.new.rack (moved_on g.D.Disk c.args.rack.now c.settle.new.rack c.tick_all.new.rack c.settle.ensures.disks c.tick_all.ensures.disks) c.settle-2.ensures.disks

@@ -2,6 +2,7 @@ use Rattle.std.proofs.Common.{◌≡◌, ◌∙◌, ◌-◌, suc, arith, sym, su
 use Rattle.arj_protocol.specs.World.{settle, settle_for}
 use Rattle.arj_world.specs.Goes.{GoesPartTo}
 use Rattle.arj_world.specs.Stands.{hand}
+use Rattle.arj_world.proofs.Disks.{moved_on}
 use Rattle.arj_world.proofs.Hands.{settle_ends, settle_turns}
 use Rattle.arj_world.proofs.world.World.settle.Goals as goal
 
@@ -19,4 +20,8 @@ loop-left-preserved g c =
           (subst (λ n. GoesPartTo g.C.Core g.D.Disk.file settle (settle_for n) first old) one_less c.loop-left.invariant.goes)
           (sym c.lowest.ensures ∙ c.in-Some.is) c.in_ok-deliver.ensures.goes c.loop-left.invariant.header;
       header = c.in_ok-deliver.ensures.header ∙ c.loop-left.invariant.header;
+      disks = moved_on g.D.Disk c.args.rack.now c.loop-left.rack c.deliver.new.rack c.loop-left.invariant.disks c.in_ok-deliver.ensures.disks;
     }
+
+pub returns-in_err-deliver-clause-disks : goal.returns-in_err-deliver-clause-disks
+returns-in_err-deliver-clause-disks g c = moved_on g.D.Disk c.args.rack.now c.loop-left.rack c.deliver.new.rack c.loop-left.invariant.disks c.deliver.ensures.disks

@@ -1,6 +1,7 @@
 -- so many frames may still be delivered
 use Rattle.std.proofs.Common.{◌≡◌}
 use Rattle.arj_protocol.specs.World.{settle, settle_for}
+use Rattle.arj_world.specs.Disks.{HaveMoved}
 use Rattle.arj_world.specs.Goes.{GoesPartTo}
 use Rattle.arj_world.specs.Stands.{hand}
 use Rattle.arj_world.proofs.world.World.settle.Given as goal
@@ -9,6 +10,7 @@ abbrev pub invariant-loop-left : goal.invariant-loop-left
 invariant-loop-left g l = record {
   goes : GoesPartTo g.C.Core g.D.Disk.file settle (settle_for l.left) (hand l.fn.self l.fn.rack l.fn.journal) (hand l.self l.rack l.journal);
   header : l.self.header ≡ l.fn.self.header;
+  disks : HaveMoved g.D.Disk 0 l.fn.rack l.rack;
 }
 
 abbrev pub decreases-loop-left : goal.decreases-loop-left

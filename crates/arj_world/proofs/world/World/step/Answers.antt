@@ -1,10 +1,11 @@
-use Rattle.std.proofs.Common.{◌≡◌, ◌∙◌, ◌+◌, ◌∷◌, ◌++◌, [], false, refl, subst, sym}
+use Rattle.std.proofs.Common.{◌≡◌, ◌∙◌, ◌+◌, ◌∷◌, ◌++◌, [], false, ap, refl, subst, sym}
 use Rattle.std.proofs.lemmas.Result.{on_ok_weaker}
 use Rattle.arj_protocol.specs.Words.body
 use Rattle.arj_protocol.specs.Words.which
 use Rattle.arj_protocol.specs.World.{counted, numbered}
 use Rattle.arj_world.specs.Happens.{HappensTo, RunsTo, done}
 use Rattle.arj_world.specs.Stands.{Keeps, StandsSome, hand}
+use Rattle.arj_world.proofs.Counts.{counts_once, grows_over, grows_so}
 use Rattle.arj_world.proofs.Runs.{counted_stands, keeps_uncounted, on_ok_both, runs_accepted, runs_over, runs_refused}
 use Rattle.arj_world.proofs.world.World.step.Goals as goal
 
@@ -74,3 +75,52 @@ returns-clause-kept g c = λ e. absurd (c.end.ensures.labels e)
 
 pub returns-clause-labels : goal.returns-clause-labels
 returns-clause-labels g c = λ e. absurd (c.end.ensures.labels e)
+
+pub returns-in-Some-clause-counted : goal.returns-in-Some-clause-counted
+returns-in-Some-clause-counted g c = on_ok_weaker c.refuse.result (λ (next : c.refuse.new.self ≡ record c.args.self.now { event = c.args.self.now.event + 1 }). ap (λ k. k.event) next) c.refuse.ensures.counted
+
+pub returns-in-Some-clause-counted_over : goal.returns-in-Some-clause-counted_over
+returns-in-Some-clause-counted_over g c = λ e. absurd (c.refuse.ensures.frames e)
+
+pub returns-in-Some-clause-grown : goal.returns-in-Some-clause-grown
+returns-in-Some-clause-grown g c = on_ok_weaker c.refuse.result (λ (said : c.refuse.new.journal ≡ c.args.journal.now ++ numbered (c.args.self.now.event + 1) (body.Refused c.in-Some.cause ∷ [])). (numbered (c.args.self.now.event + 1) (body.Refused c.in-Some.cause ∷ []), said)) c.refuse.ensures.said
+
+pub returns-in-Some-clause-grown_over : goal.returns-in-Some-clause-grown_over
+returns-in-Some-clause-grown_over g c = λ e. absurd (c.refuse.ensures.frames e)
+
+pub returns-clause-counted : goal.returns-clause-counted
+returns-clause-counted g c =
+    let old = hand c.args.self.now c.args.rack.now c.args.journal.now in
+    let new = hand c.happen.new.self c.happen.new.rack c.happen.new.journal in
+    on_ok_weaker c.end.result
+    (λ (fits : c.happen.new.self.full ≡ false). counts_once g.C.Core g.D.Disk.file c.args.event old new
+    (subst (λ s. HappensTo g.C.Core g.D.Disk.file (done c.args.event) (hand s c.args.rack.now c.args.journal.now) new) c.count.ensures c.in_ok-happen.ensures.happens) c.requires.stands)
+    c.end.ensures.fits
+
+pub returns-clause-counted_over : goal.returns-clause-counted_over
+returns-clause-counted_over g c = λ e.
+    let old = hand c.args.self.now c.args.rack.now c.args.journal.now in
+    let new = hand c.happen.new.self c.happen.new.rack c.happen.new.journal in
+    counts_once g.C.Core g.D.Disk.file c.args.event old new
+    (subst (λ s. HappensTo g.C.Core g.D.Disk.file (done c.args.event) (hand s c.args.rack.now c.args.journal.now) new) c.count.ensures c.in_ok-happen.ensures.happens) c.requires.stands
+
+pub returns-clause-grown : goal.returns-clause-grown
+returns-clause-grown g c =
+    let old = hand c.args.self.now c.args.rack.now c.args.journal.now in
+    let new = hand c.happen.new.self c.happen.new.rack c.happen.new.journal in
+    on_ok_weaker c.end.result
+    (λ (both : (c.happen.new.self.full ≡ false) × (c.end.new.journal ≡ c.happen.new.journal)).
+    let more = grows_so g.C.Core g.D.Disk.file c.args.event old new
+    (runs_accepted g.C.Core g.D.Disk.file c.args.event old new (λ w keeps. sym c.in_default.is ∙ c.in_ok-cause.ensures w keeps) c.if-lacks_labels.ensures
+    (subst (λ s. HappensTo g.C.Core g.D.Disk.file (done c.args.event) (hand s c.args.rack.now c.args.journal.now) new) c.count.ensures c.in_ok-happen.ensures.happens) both.0) c.requires.stands in
+    (more.0, both.1 ∙ more.1))
+    (on_ok_both (c.happen.new.self.full ≡ false) (c.end.new.journal ≡ c.happen.new.journal) c.end.result c.end.ensures.fits c.end.ensures.still)
+
+pub returns-clause-grown_over : goal.returns-clause-grown_over
+returns-clause-grown_over g c = λ e.
+    let old = hand c.args.self.now c.args.rack.now c.args.journal.now in
+    let new = hand c.happen.new.self c.happen.new.rack c.happen.new.journal in
+    grows_over g.C.Core g.D.Disk.file c.args.event old (hand c.happen.new.self c.happen.new.rack c.end.new.journal)
+    (runs_over g.C.Core g.D.Disk.file c.args.event old new (λ w keeps. sym c.in_default.is ∙ c.in_ok-cause.ensures w keeps) c.if-lacks_labels.ensures
+    (subst (λ s. HappensTo g.C.Core g.D.Disk.file (done c.args.event) (hand s c.args.rack.now c.args.journal.now) new) c.count.ensures c.in_ok-happen.ensures.happens)
+    c.end.new.journal (c.end.ensures.full e) (c.end.ensures.said e)) c.requires.stands

@@ -1,0 +1,110 @@
+-- The counts of disks, over one call and over several.
+use Rattle.std.proofs.Common.{◌≡◌, ℕ, zero, suc, ◌+◌, ◌-◌, ◌≤◌, ◌<◌, ◌==◌, Bool, true, false, List, [], ◌∷◌, length, refl, ap, sym, ◌∙◌, subst, Some, arith}
+use Rattle.std.specs.Prelude.{slice_get, slice_set, Result, Ok, Err, IsErrAnd}
+use Rattle.std.proofs.lemmas.Bool.{cases_lt}
+use Rattle.std.proofs.Math.Logic.{⊎_elim}
+use Rattle.std.proofs.lemmas.List.{length-set}
+use Rattle.arj_base.specs.Count.{Rose}
+use Rattle.arj_core.specs.Steps.{CountsStep}
+use Rattle.arj_disk.specs.Counted.{counts}
+use Rattle.arj_disk.specs.Disk.{CountsCall}
+use Rattle.arj_disk.specs.declared.disk.Disk.{Ghosts}
+use Rattle.arj_world.specs.Disks.{HasStopped, HaveMoved, Moves}
+use Rattle.arj_world.proofs.Stepping.{is_there}
+
+some_one : {A : Type 0} (a b : A) → Some a ≡ Some b → a ≡ b
+some_one a b is = cc is
+
+within : {A : Type 0} (i : ℕ) (a : A) (items : List A) → slice_get items i ≡ Some a → i < length items
+within i a [] at = absurd (cc at)
+within zero a (x ∷ xs) at = omega arith
+within (suc i) a (x ∷ xs) at = let less : i < length xs = within i a xs at in omega (arith, less)
+
+set_other : {A : Type 0} (i j : ℕ) (a : A) (items : List A) → (j ≡ i → ⊥) → slice_get (slice_set items i a) j ≡ slice_get items j
+set_other i j a [] h = refl
+set_other zero zero a (x ∷ xs) h = absurd (h refl)
+set_other zero (suc j) a (x ∷ xs) h = refl
+set_other (suc i) zero a (x ∷ xs) h = refl
+set_other (suc i) (suc j) a (x ∷ xs) h = set_other i j a xs (λ e. h (ap suc e))
+
+set_here : {A : Type 0} (i : ℕ) (a b c : A) (items : List A) → slice_get items i ≡ Some b → slice_get (slice_set items i a) i ≡ Some c → a ≡ c
+set_here i a b c [] was at = absurd (cc was)
+set_here zero a b c (x ∷ xs) was at = cc at
+set_here (suc i) a b c (x ∷ xs) was at = set_here i a b c xs was at
+
+set_there : {A : Type 0} (i : ℕ) (a b : A) (items : List A) → slice_get items i ≡ Some b → slice_get (slice_set items i a) i ≡ Some a
+set_there i a b [] was = absurd (cc was)
+set_there zero a b (x ∷ xs) was = refl
+set_there (suc i) a b (x ∷ xs) was = set_there i a b xs was
+
+-- a fault that a call answered is the one that is handed on
+pub same_fault : {T E : Type 0} (r : Result T E) (fault stopped : E) → IsErrAnd r (λ e. e ≡ fault) → r ≡ Err stopped → fault ≡ stopped
+same_fault (Ok value) fault stopped is e = absurd is
+same_fault (Err other) fault stopped is e = cc
+
+module _ {D : Type 0} (disk : Ghosts D) where
+  -- no call at all
+  pub moved_none : (arms : ℕ) (disks : List D) → HaveMoved disk arms disks disks
+  moved_none arms disks = record {
+    count = refl;
+    each = λ i d e at then_at.
+        let same : d ≡ e = some_one d e (sym at ∙ then_at) in
+        subst (λ x. Moves arms (counts disk d) (counts disk x)) same (record { later = omega arith; before = omega arith; few = omega arith });
+  }
+
+  -- one behind the other
+  pub moved_then : (some more : ℕ) (first second third : List D) → HaveMoved disk some first second → HaveMoved disk more second third → HaveMoved disk (some + more) first third
+  moved_then some more first second third a b = record {
+    count = b.count ∙ a.count;
+    each = λ i d e at_first at_third.
+        let m = is_there i second (omega (arith, a.count, within i d first at_first)) in
+        let x = a.each i d m.0 at_first m.1 in
+        let y = b.each i m.0 e m.1 at_third in
+        record { later = omega (arith, x.later, y.later); before = omega (arith, x.before, y.before); few = omega (arith, x.few, y.few) };
+  }
+
+  pub moved_on : (first second third : List D) → HaveMoved disk 0 first second → HaveMoved disk 0 second third → HaveMoved disk 0 first third
+  moved_on first second third a b = moved_then 0 0 first second third a b
+
+  -- one disk has moved
+  pub moved_at : (arms node : ℕ) (disks : List D) (d e : D) → slice_get disks (node - 1) ≡ Some d → Moves arms (counts disk d) (counts disk e) → HaveMoved disk arms disks (slice_set disks (node - 1) e)
+  moved_at arms node disks d e at moves = record {
+    count = length-set disks (node - 1) e;
+    each = λ i x y at_x at_y. by i x y at_x at_y (i == (node - 1)) refl;
+  }
+    where
+      by : (i : ℕ) (x y : D) → slice_get disks i ≡ Some x → slice_get (slice_set disks (node - 1) e) i ≡ Some y → (b : Bool) → (i == (node - 1)) ≡ b → Moves arms (counts disk x) (counts disk y)
+      by i x y at_x at_y true is =
+          let same : i ≡ node - 1 = grind (arith, is) in
+          let old : d ≡ x = some_one d x (sym at ∙ ap (slice_get disks) (sym same) ∙ at_x) in
+          let new : e ≡ y = set_here (node - 1) e d y disks at (ap (slice_get (slice_set disks (node - 1) e)) (sym same) ∙ at_y) in
+          subst (λ z. Moves arms (counts disk z) (counts disk y)) old (subst (λ z. Moves arms (counts disk d) (counts disk z)) new moves)
+      by i x y at_x at_y false is =
+          let apart : i ≡ node - 1 → ⊥ = λ same. grind (arith, is, same) in
+          let stays : x ≡ y = some_one x y (sym at_x ∙ sym (set_other (node - 1) i e disks apart) ∙ at_y) in
+          subst (λ z. Moves arms (counts disk x) (counts disk z)) stays (record { later = omega arith; before = omega arith; few = omega arith })
+
+  -- by a step of its node
+  pub moved_set : {T E : Type 0} (node : ℕ) (disks : List D) (d e : D) (r : Result T E) (h : E) → slice_get disks (node - 1) ≡ Some d → CountsStep (counts disk d) (counts disk e) r h → HaveMoved disk 0 disks (slice_set disks (node - 1) e)
+  moved_set node disks d e r h at counted = moved_at 0 node disks d e at (record { later = counted.later; before = omega (arith, counted.arms); few = omega (arith, counted.arms) })
+
+  pub moved_armed : (node : ℕ) (disks : List D) (d e : D) → slice_get disks (node - 1) ≡ Some d → disk.stops e ≡ disk.stops d → disk.arms e ≡ disk.arms d + 1 → HaveMoved disk 1 disks (slice_set disks (node - 1) e)
+  moved_armed node disks d e at stops arms = moved_at 1 node disks d e at (record { later = omega (arith, stops); before = omega (arith, arms); few = omega (arith, arms) })
+
+  pub moved_more : (first second : List D) → HaveMoved disk 0 first second → HaveMoved disk 1 first second
+  moved_more first second a = moved_then 0 1 first second second a (moved_none 1 second)
+
+  -- by a format of its node
+  pub moved_call : {T E : Type 0} (node : ℕ) (disks : List D) (d e : D) (r : Result T E) (h : E) → slice_get disks (node - 1) ≡ Some d → CountsCall (counts disk d) (counts disk e) r h → HaveMoved disk 0 disks (slice_set disks (node - 1) e)
+  moved_call node disks d e r h at counted = moved_at 0 node disks d e at (record { later = counted.stops.later; before = omega (arith, counted.arms); few = omega (arith, counted.arms) })
+
+  pub stopped_at : (node : ℕ) (disks : List D) (d e : D) → slice_get disks (node - 1) ≡ Some d → Rose (disk.stops d) (disk.stops e) → HasStopped disk disks (slice_set disks (node - 1) e)
+  stopped_at node disks d e at rose = record { place = node - 1; was = d; is = e; there = at; now = set_there (node - 1) e d disks at; rose = rose }
+
+  -- behind calls that took no stop back
+  pub stopped_later : (first second third : List D) → HaveMoved disk 0 first second → HaveMoved disk 0 second third → HasStopped disk second third → HasStopped disk first third
+  stopped_later first second third moved more s =
+      let d = is_there s.place first (omega (arith, moved.count, within s.place s.was second s.there)) in
+      let x = moved.each s.place d.0 s.was d.1 s.there in
+      let y = more.each s.place s.was s.is s.there s.now in
+      record { place = s.place; was = d.0; is = s.is; there = d.1; now = s.now; rose = λ few. ⊎_elim (λ small. omega (arith, x.later, s.rose small)) (λ big. omega (arith, y.later, few, big)) (cases_lt (disk.stops s.was) 18446744073709551615) }
