@@ -1,0 +1,9 @@
+pub mod Again
+pub mod Calling
+pub mod Changes
+pub mod Ended
+pub mod Forgets
+pub mod Hears
+pub mod Paths
+pub mod Sending
+pub mod Trees

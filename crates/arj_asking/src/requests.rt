@@ -1,0 +1,165 @@
+// The requests that wait, and how they go out.
+ghost use Rattle.std.specs.Prelude.{◌≡◌, ◌++◌, ◌∷◌, [], map, IfOk, OnOk};
+ghost use Rattle.arj_asking.specs.Sent.{asked, asked_by, go_to, goes_to, waits_now};
+ghost use Rattle.arj_commit.specs.Requests.{requests};
+ghost use Rattle.arj_commit.specs.Tolds.{sent_to};
+ghost use Rattle.arj_coord.specs.Fits.{NowFits};
+ghost use Rattle.arj_coord.specs.Shown.{machine_of, now_of};
+ghost use Rattle.arj_protocol.specs.Asking.{again_now, asks_machine, asks_step};
+ghost use Rattle.arj_protocol.specs.Commit.{plan_of};
+ghost use Rattle.arj_protocol.specs.Coord as coordinator;
+ghost use Rattle.arj_protocol.specs.Effect.{Send};
+
+use arj_base::{Path, Uid};
+use arj_bind::CallSteps;
+use arj_commit::{Plan, Requests};
+use arj_coord::{Commit, Coord, Effects, Now};
+use arj_msg::Message;
+use arj_tree::Tree;
+use std::alloc::{AllocError, Global};
+
+/// Requests of the action with this path, each with its node, and whether they are Invokes.
+#[derive(Drop)]
+pub struct Questions {
+    pub path: Path,
+    pub invoke: bool,
+    pub requests: Requests,
+}
+
+// The request of a call's step, with the ends of the root so far.
+fn of_steps(alloc: Global, steps: &CallSteps, tree: &Tree) -> Result<Questions, AllocError>
+    ensures { IfOk result (λ q. (c : coordinator.Coord) → c.tree ≡ tree.now → asked q c ≡ asks_step steps.now c) }
+{
+    let path = *steps.path();
+    let request = steps.next(tree.ends(path.root()))?;
+    let mut requests = Requests::new(alloc);
+    requests.push(request)?;
+    Ok(Questions {
+        path,
+        invoke: steps.invokes(),
+        requests,
+    })
+}
+
+/// The plan of a commit.
+pub fn plan_in(commit: &Commit) -> &Plan
+    ensures { result.now ≡ plan_of (machine_of commit.now) }
+{
+    match commit {
+        Commit::Voting(step) => step.plan(),
+        Commit::Preparing(step) => step.plan(),
+        Commit::Confirming(step) => step.plan(),
+    }
+}
+
+// The requests of a commit's step that aren't answered.
+fn waiting(alloc: Global, commit: &Commit) -> Result<Requests, AllocError>
+    ensures { IfOk result (λ all. all ≡ requests (machine_of commit.now)) }
+{
+    match commit {
+        Commit::Voting(step) => step.waiting(alloc),
+        Commit::Preparing(step) => step.waiting(alloc),
+        Commit::Confirming(step) => step.waiting(alloc),
+    }
+}
+
+// The same with their path.
+fn of_commit(alloc: Global, commit: &Commit) -> Result<Questions, AllocError>
+    ensures { IfOk result (λ q. (c : coordinator.Coord) → asked q c ≡ asks_machine (machine_of commit.now) c) }
+{
+    Ok(Questions {
+        path: plan_in(commit).path,
+        invoke: false,
+        requests: waiting(alloc, commit)?,
+    })
+}
+
+/// The requests of what an action of this tree waits for.
+pub fn questions_of(alloc: Global, now: &Now, tree: &Tree) -> Result<Option<Questions>, AllocError>
+    ensures { IfOk result (λ questions. (c : coordinator.Coord) → c.tree ≡ tree.now → asked_by questions c ≡ again_now c (now_of now.now)) }
+{
+    match now {
+        Now::Idle => Ok(None),
+        Now::Calling(steps) => Ok(Some(of_steps(alloc, steps, tree)?)),
+        Now::Committing(commit) => Ok(Some(of_commit(alloc, commit)?)),
+    }
+}
+
+// The root of an action takes note that a request of it goes to a node.
+fn note_sent(coord: &mut Coord, path: &Path, invoke: bool, node: u8) -> Result<(), AllocError>
+    ensures { OnOk result (coord.new ≡ goes_to path.now invoke node coord.old) }
+{
+    let mut has = coord.take_root(path.root())?;
+    has.note_sent(path, node, invoke)?;
+    coord.put_root(path.root(), has)
+}
+
+// Each request goes to its node.
+fn send_each(
+    coord: &mut Coord,
+    path: &Path,
+    invoke: bool,
+    requests: Requests,
+    outs: &mut Effects,
+) -> Result<(), AllocError>
+    ensures part { OnOk result (coord.new ≡ go_to path.now invoke requests coord.old) }
+    ensures outs { OnOk result (outs.new ≡ outs.old ++ map sent_to requests) }
+{
+    for (node, request) in requests.into_vec() {
+        note_sent(coord, path, invoke, node)?;
+        outs.send(node, request)?;
+    }
+    Ok(())
+}
+
+/// Sends requests, if there are any, and the root takes note of it.
+pub fn send(
+    coord: &mut Coord,
+    questions: Option<Questions>,
+    outs: &mut Effects,
+) -> Result<(), AllocError>
+    ensures part { OnOk result (coord.new ≡ (asked_by questions coord.old).part) }
+    ensures outs { OnOk result (outs.new ≡ outs.old ++ (asked_by questions coord.old).outs) }
+{
+    match questions {
+        Some(
+            Questions {
+                path,
+                invoke,
+                requests,
+            },
+        ) => send_each(coord, &path, invoke, requests, outs),
+        None => Ok(()),
+    }
+}
+
+// What an action is about to wait for is asked.
+fn ask_now(
+    alloc: Global,
+    coord: &mut Coord,
+    now: &Now,
+    outs: &mut Effects,
+) -> Result<(), AllocError>
+    ensures part { OnOk result (coord.new ≡ (again_now coord.old (now_of now.now)).part) }
+    ensures outs { OnOk result (outs.new ≡ outs.old ++ (again_now coord.old (now_of now.now)).outs) }
+{
+    let questions = questions_of(alloc, now, coord.tree())?;
+    send(coord, questions, outs)
+}
+
+/// An action waits for this from now on, its last request having this number; and what it waits for is asked.
+pub fn wait_now(
+    alloc: Global,
+    coord: &mut Coord,
+    action: Uid,
+    req: u32,
+    now: Now,
+    outs: &mut Effects,
+) -> Result<(), AllocError>
+    requires { NowFits action req (now_of now) }
+    ensures part { OnOk result (coord.new ≡ (waits_now action req (now_of now) coord.old).part) }
+    ensures outs { OnOk result (outs.new ≡ outs.old ++ (waits_now action req (now_of now) coord.old).outs) }
+{
+    ask_now(alloc, coord, &now, outs)?;
+    coord.wait(action, req, now)
+}
