@@ -35,7 +35,7 @@ impl<C: Core> World<C> {
     }
 
     /// Delivers a frame to the node that it is for. A number that no frame has does nothing, nor does a node that isn't there.
-    #[tactic(auto, using(crate::proofs::Disks::moved_none, crate::proofs::Disks::moved_on, crate::proofs::Disks::moved_set))]
+    #[tactic(auto, using(crate::proofs::Disks::moved_none))]
     pub(crate) fn deliver<D: Disk>(
         &mut self,
         rack: &mut Rack<D>,
@@ -83,7 +83,6 @@ impl<C: Core> World<C> {
     }
 
     /// Delivers frames, the lowest number first, until there is none or one doesn't fit.
-    #[tactic(auto, using(crate::proofs::Disks::moved_none, crate::proofs::Disks::moved_on, crate::proofs::Disks::moved_set))]
     pub(crate) fn settle<D: Disk>(
         &mut self,
         rack: &mut Rack<D>,

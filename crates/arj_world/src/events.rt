@@ -58,7 +58,7 @@ impl<C: Core> World<C> {
     }
 
     // An action begins at a node. Its label is given where the node doesn't refuse.
-    #[tactic(auto, using(crate::proofs::Disks::moved_none, crate::proofs::Disks::moved_on, crate::proofs::Disks::moved_set))]
+    #[tactic(auto, using(crate::proofs::Disks::moved_none))]
     fn begin<D: Disk>(
         &mut self,
         rack: &mut Rack<D>,
@@ -90,7 +90,6 @@ impl<C: Core> World<C> {
     }
 
     /// A plain or a serializing action begins at a node.
-    #[tactic(auto, using(crate::proofs::Disks::moved_none, crate::proofs::Disks::moved_on, crate::proofs::Disks::moved_set))]
     pub(crate) fn begin_at<D: Disk>(
         &mut self,
         rack: &mut Rack<D>,
@@ -139,7 +138,6 @@ impl<C: Core> World<C> {
     }
 
     /// An action begins in another one, at its node.
-    #[tactic(auto, using(crate::proofs::Disks::moved_none, crate::proofs::Disks::moved_on, crate::proofs::Disks::moved_set))]
     pub(crate) fn begin_in<D: Disk>(
         &mut self,
         rack: &mut Rack<D>,
@@ -158,7 +156,6 @@ impl<C: Core> World<C> {
     }
 
     /// An independent action begins at the node of another one.
-    #[tactic(auto, using(crate::proofs::Disks::moved_none, crate::proofs::Disks::moved_on, crate::proofs::Disks::moved_set))]
     pub(crate) fn begin_apart<D: Disk>(
         &mut self,
         rack: &mut Rack<D>,
@@ -176,7 +173,6 @@ impl<C: Core> World<C> {
     }
 
     /// The node of a label is asked.
-    #[tactic(auto, using(crate::proofs::Disks::moved_none, crate::proofs::Disks::moved_on, crate::proofs::Disks::moved_set))]
     pub(crate) fn ask<D: Disk>(
         &mut self,
         rack: &mut Rack<D>,
@@ -195,7 +191,7 @@ impl<C: Core> World<C> {
     }
 
     /// A node comes up.
-    #[tactic(auto, using(crate::proofs::Disks::moved_none, crate::proofs::Disks::moved_on, crate::proofs::Disks::moved_set))]
+    #[tactic(auto, using(crate::proofs::Disks::moved_none))]
     pub(crate) fn restart<D: Disk>(
         &mut self,
         rack: &mut Rack<D>,
@@ -214,7 +210,6 @@ impl<C: Core> World<C> {
     }
 
     /// A node's disk is armed.
-    #[tactic(auto, using(crate::proofs::Disks::moved_none, crate::proofs::Disks::moved_on, crate::proofs::Disks::moved_set))]
     pub(crate) fn arm<D: Disk>(
         &mut self,
         rack: &mut Rack<D>,

@@ -40,7 +40,7 @@ impl<C: Core> World<C> {
     }
 
     // What waits at a node is asked for again, where it is up and all frames fitted.
-    #[tactic(auto, using(crate::proofs::Disks::moved_none, crate::proofs::Disks::moved_on, crate::proofs::Disks::moved_set))]
+    #[tactic(auto, using(crate::proofs::Disks::moved_none))]
     fn tick_up<D: Disk>(
         &mut self,
         rack: &mut Rack<D>,
@@ -64,7 +64,6 @@ impl<C: Core> World<C> {
     }
 
     // Ticks all nodes, in order.
-    #[tactic(auto, using(crate::proofs::Disks::moved_none, crate::proofs::Disks::moved_on, crate::proofs::Disks::moved_set))]
     fn tick_all<D: Disk>(
         &mut self,
         rack: &mut Rack<D>,
@@ -96,7 +95,6 @@ impl<C: Core> World<C> {
     }
 
     /// Frames are delivered, all nodes are ticked, frames are delivered again, and a line says whether all is quiet then.
-    #[tactic(auto, using(crate::proofs::Disks::moved_none, crate::proofs::Disks::moved_on, crate::proofs::Disks::moved_set))]
     pub(crate) fn quiesce<D: Disk>(
         &mut self,
         rack: &mut Rack<D>,
@@ -114,7 +112,7 @@ impl<C: Core> World<C> {
     }
 
     // A node that is up shows what its disk has of an object.
-    #[tactic(auto, using(crate::proofs::Disks::moved_none, crate::proofs::Disks::moved_on, crate::proofs::Disks::moved_set))]
+    #[tactic(auto, using(crate::proofs::Disks::moved_none))]
     fn show_up<D: Disk>(
         &mut self,
         rack: &mut Rack<D>,
@@ -136,7 +134,6 @@ impl<C: Core> World<C> {
     }
 
     /// All nodes that are up show what their disks have of an object, in order.
-    #[tactic(auto, using(crate::proofs::Disks::moved_none, crate::proofs::Disks::moved_on, crate::proofs::Disks::moved_set))]
     pub(crate) fn show_all<D: Disk>(
         &mut self,
         rack: &mut Rack<D>,

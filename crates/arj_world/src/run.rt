@@ -26,7 +26,6 @@ pub const MOST_LABELS: usize = 4096;
 
 impl<C: Core> World<C> {
     // An action includes a store of an object.
-    #[tactic(auto, using(crate::proofs::Disks::moved_none, crate::proofs::Disks::moved_on, crate::proofs::Disks::moved_set))]
     fn include<D: Disk>(
         &mut self,
         rack: &mut Rack<D>,
@@ -49,7 +48,6 @@ impl<C: Core> World<C> {
     }
 
     // What an event does that the world doesn't refuse.
-    #[tactic(auto, using(crate::proofs::Disks::moved_none, crate::proofs::Disks::moved_on, crate::proofs::Disks::moved_set))]
     fn happen<D: Disk>(
         &mut self,
         rack: &mut Rack<D>,
@@ -158,7 +156,7 @@ impl<C: Core> World<C> {
     /// Runs one event: its lines go to the end of the journal, and the world is then what the protocol makes of it, with
     /// the stops that fell. Where a frame didn't fit, a line says so last, and the run is over. An event that would give
     /// one label too many changes nothing.
-    #[tactic(auto, using(crate::proofs::Disks::moved_none, crate::proofs::Disks::moved_on, crate::proofs::Disks::moved_set))]
+    #[tactic(auto, using(crate::proofs::Disks::moved_none))]
     pub fn step<D: Disk>(
         &mut self,
         rack: &mut Rack<D>,

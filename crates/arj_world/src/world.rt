@@ -41,7 +41,7 @@ impl<C> Model for World<C> {
 
 impl<C: Core> World<C> {
     /// One step of a node. Its lines and frames are put; where its disk stopped, a line says that it halted.
-    #[tactic(auto, using(crate::proofs::Disks::moved_none, crate::proofs::Disks::moved_on, crate::proofs::Disks::moved_set))]
+    #[tactic(auto, using(crate::proofs::Disks::moved_set))]
     pub(crate) fn step_core<D: Disk>(
         &mut self,
         rack: &mut Rack<D>,
@@ -69,7 +69,7 @@ impl<C: Core> World<C> {
     }
 
     /// The node of a number takes an input, but no restart. Where there is no such node, nothing happens.
-    #[tactic(auto, using(crate::proofs::Disks::moved_none, crate::proofs::Disks::moved_on, crate::proofs::Disks::moved_set))]
+    #[tactic(auto, using(crate::proofs::Disks::moved_none))]
     pub(crate) fn ask_node<D: Disk>(
         &mut self,
         rack: &mut Rack<D>,
