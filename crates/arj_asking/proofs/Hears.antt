@@ -333,3 +333,13 @@ waiting_by (Some d) waits is = let never : false ≡ true = ap is_waiting_now is
 -- what waits isn't idle
 pub waits_for_something : (u : Uid) (c : Coord) → is_waiting (doing_of u c) ≡ true → Idle ≡ now_in (doing_of u c) → ⊥
 waits_for_something u c waits is = waiting_by (doing_of u c) waits is
+
+-- what is answered is taken
+pub taken_so : (o : Option Reply) → IfSome o (λ r. true ≡ true)
+taken_so None = tt
+taken_so (Some r) = refl
+
+-- a commit that was taken out waits for it
+pub commit_awaited : (from : ℕ) (o : Option (Asked × Reply)) (c : Coord) (u : Uid) (n : Now) (m : Machine)
+    → Some n ≡ option_map (λ (d : Doing). d.now) (doing_of u c) → waits_in from o n ≡ true → Committing m ≡ now_in (doing_of u c) → waits_in from o (Committing m) ≡ true
+commit_awaited from o c u n m there waits taken = subst (λ k. waits_in from o k ≡ true) (same_now (doing_of u c) n (Committing m) there taken) waits

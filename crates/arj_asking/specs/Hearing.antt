@@ -1,10 +1,10 @@
 -- What a message is to the action that had asked.
-use Rattle.std.specs.Prelude.{◌≡◌, ℕ, Bool, true, false, List, Option, Some, None, ⊤}
+use Rattle.std.specs.Prelude.{◌≡◌, ℕ, Bool, true, false, List, Option, Some, None, option_map, ⊤}
 use Rattle.arj_commit.specs.Steps.{waits_by}
 use Rattle.arj_protocol.specs.Ask.{Reply, actor}
 use Rattle.arj_protocol.specs.Asking.{waits_for_call, heard, heard_none}
 use Rattle.arj_protocol.specs.Commit.{CommitStep, Stays, Asks, Decides, Aborts, plan_of}
-use Rattle.arj_protocol.specs.Coord.{Coord, Now, Idle, Calling, Committing, is_free}
+use Rattle.arj_protocol.specs.Coord.{Coord, Doing, Now, Idle, Calling, Committing, doing_of, is_free}
 use Rattle.arj_protocol.specs.Effect.{Intent, Served}
 use Rattle.arj_protocol.specs.Tree.{root_of}
 use Rattle.arj_protocol.specs.Words.{Uid, Asked}
@@ -42,3 +42,11 @@ IsOf u (Stays m) = actor (plan_of m).path ≡ u
 IsOf u (Asks m) = actor (plan_of m).path ≡ u
 IsOf u (Decides p) = actor p.path ≡ u
 IsOf u (Aborts why p) = ⊤
+
+-- An action waits for the answer, and this says whether its root is free for that.
+pub record IsAwaited (from : ℕ) (a : Option (Asked × Reply)) (c : Coord) (u : Uid) (free : Bool) : Type 0 where
+  pub now : Now
+  pub asks : asker_in a ≡ Some u
+  pub there : Some now ≡ option_map (λ (d : Doing). d.now) (doing_of u c)
+  pub waits : waits_in from a now ≡ true
+  pub is_free : free ≡ free_in c now

@@ -1,12 +1,33 @@
-// Which answers can be meant.
-ghost use Rattle.std.specs.Prelude.{◌≡◌};
-ghost use Rattle.arj_protocol.specs.Ask.{answers};
-ghost use Rattle.arj_protocol.specs.Coord.{doing_of};
+// Answers.
+ghost use Rattle.std.specs.Prelude.{◌≡◌, ◌++◌, is_some, true, IfOk, IfSome, List, None, OnOk};
+ghost use Rattle.arj_asking.specs.Calls.{HasNext, MeantFor};
+ghost use Rattle.arj_asking.specs.Hearing.{IsAwaited, asker_in, free_in, heard_as, waits_in};
+ghost use Rattle.arj_asking.specs.Rooms.{AskerHasRoom};
+ghost use Rattle.arj_bind.specs.Heard.{came_of, heard_in, hears};
+ghost use Rattle.arj_coord.specs.Fits.{IncludesNode};
+ghost use Rattle.arj_commit.specs.Steps.{waits_for};
+ghost use Rattle.arj_coord.specs.Shown.{machine_of, now_of};
+ghost use Rattle.arj_coord.specs.Waiting.{idle_doing};
+ghost use Rattle.arj_msg.specs.Sendable.{IsSendable};
+ghost use Rattle.arj_protocol.specs.Ask.{actor, answers};
+ghost use Rattle.arj_protocol.specs.Asking as asking;
+ghost use Rattle.arj_protocol.specs.Asking.{heard_call, heard_none, root_moved};
+ghost use Rattle.arj_protocol.specs.Call.{answered};
+ghost use Rattle.arj_protocol.specs.Coord as coordinator;
+ghost use Rattle.arj_protocol.specs.Coord.{doing_of, is_free, keeping_of, on_doing, on_root, root_at};
 ghost use Rattle.arj_protocol.specs.Node.{answer_is_meant, is_loaded_for};
+ghost use Rattle.arj_protocol.specs.Effect.{Intent};
+ghost use Rattle.arj_protocol.specs.Tree.{root_of};
 
+use crate::calls::{caller_of, step_call};
+use crate::commits::hear_commit;
 use arj_base::{ObjectState, Uid, object_uid};
-use arj_coord::{Coord, Now};
+use arj_bind::{CallStep, CallSteps};
+use arj_coord::{Commit, Coord, Effects, Now, Records};
 use arj_msg::{LoadedReply, Message};
+use std::alloc::{AllocError, Global};
+
+// ---- what can be meant
 
 // Whether the state is of the object that an action's call waits for, if it waits in one.
 fn is_loaded_for(coord: &Coord, action: Uid, state: &ObjectState) -> bool
@@ -28,5 +49,215 @@ pub fn is_meant(coord: &Coord, message: &Message) -> bool
             LoadedReply::InDoubt { .. } => true,
         },
         _ => true,
+    }
+}
+
+// ---- who waits
+
+// The action that had asked, where the message is an answer.
+fn asker(message: &Message) -> Option<Uid>
+    ensures { result ≡ asker_in (answers message.now) }
+{
+    match message {
+        Message::Bound(m) => Some(m.asked.act),
+        Message::Loaded(m) => Some(m.asked.act),
+        Message::Activated(m) => Some(m.asked.act),
+        Message::Recorded(m) => Some(m.asked.act),
+        Message::Invoked(m) => Some(m.asked.act),
+        Message::Voted(m) => Some(m.asked.act),
+        Message::Prepared(m) => Some(m.asked.act),
+        Message::Confirmed(m) => Some(m.asked.act),
+        Message::Bind(_)
+        | Message::Load(_)
+        | Message::Activate(_)
+        | Message::RecordMsg(_)
+        | Message::Invoke(_)
+        | Message::Vote(_)
+        | Message::Prepare(_)
+        | Message::Confirm(_)
+        | Message::Told(_)
+        | Message::Acked(_)
+        | Message::Query(_)
+        | Message::Hello(_) => None,
+    }
+}
+
+// Whether a commit's step waits for the message from this node.
+fn commit_waits_for(commit: &Commit, from: u8, message: &Message) -> bool
+    ensures { result ≡ waits_for from message.now (machine_of commit.now) }
+{
+    match commit {
+        Commit::Voting(step) => step.waits_for(from, message),
+        Commit::Preparing(step) => step.waits_for(from, message),
+        Commit::Confirming(step) => step.waits_for(from, message),
+    }
+}
+
+// Whether an action that waits for this waits for the message from this node.
+fn is_awaited(now: &Now, from: u8, message: &Message) -> bool
+    ensures { result ≡ waits_in from (answers message.now) (now_of now.now) }
+{
+    match now {
+        Now::Idle => false,
+        Now::Calling(steps) => steps.takes(from, message),
+        Now::Committing(commit) => commit_waits_for(commit, from, message),
+    }
+}
+
+// Whether the root is free of what it keeps of the object for the call that waits.
+fn is_free_for(coord: &Coord, now: &Now) -> bool
+    ensures { result ≡ free_in coord.now (now_of now.now) }
+{
+    match now {
+        Now::Calling(steps) => {
+            coord.is_free(steps.path().root(), steps.path().last(), steps.object())
+        }
+        _ => true,
+    }
+}
+
+// ---- a call is answered
+
+// A message for which a call waits: its node, and whether the root is free of what it keeps of the object.
+#[derive(Drop)]
+struct Delivery {
+    from: u8,
+    message: Message,
+    free: bool,
+}
+
+// A root takes up the answer to a step of a call.
+fn answer_root(
+    coord: &mut Coord,
+    steps: CallSteps,
+    delivery: Delivery,
+) -> Result<CallStep, AllocError>
+    requires { IsSendable delivery.message }
+    ensures came { IfOk result (λ step. came_of step ≡ (hears delivery.free (keeping_of steps.x (root_at (root_of steps.path) coord.old)) steps (heard_in delivery.from delivery.message steps)).came) }
+    ensures part { OnOk result (IfSome (heard_in delivery.from delivery.message steps) (λ r. coord.new ≡ on_root (root_of steps.path) (root_moved steps r (answered delivery.free ((keeping_of steps.x (root_at (root_of steps.path) coord.old)).kept) steps.goal steps.at r)) coord.old)) }
+{
+    let Delivery {
+        from,
+        message,
+        free,
+    } = delivery;
+    let uid = steps.path().root();
+    let mut has = coord.take_root(uid)?;
+    let step = has.answered(steps, from, message, free)?;
+    coord.put_root(uid, has)?;
+    Ok(step)
+}
+
+// A step of a call or an include is answered; its action was taken to wait for nothing.
+fn hear_call(
+    alloc: Global,
+    coord: &mut Coord,
+    steps: CallSteps,
+    delivery: Delivery,
+    outs: &mut Effects,
+) -> Result<(), AllocError>
+    requires sendable { IsSendable delivery.message }
+    requires node { IncludesNode steps.goal }
+    requires room { HasNext steps }
+    requires meant { IfSome (heard_in delivery.from delivery.message steps) (MeantFor steps.x) }
+    ensures part { OnOk result ((c : coordinator.Coord) → coord.old ≡ on_doing (actor steps.path) idle_doing c → delivery.free ≡ is_free (root_of steps.path) (actor steps.path) steps.x c → IfSome (heard_in delivery.from delivery.message steps) (λ r. coord.new ≡ (heard_call steps r c).part)) }
+    ensures outs { OnOk result ((c : coordinator.Coord) → coord.old ≡ on_doing (actor steps.path) idle_doing c → delivery.free ≡ is_free (root_of steps.path) (actor steps.path) steps.x c → IfSome (heard_in delivery.from delivery.message steps) (λ r. outs.new ≡ outs.old ++ (heard_call steps r c).outs)) }
+{
+    let caller = caller_of(&steps)?;
+    let step = answer_root(coord, steps, delivery)?;
+    step_call(alloc, coord, caller, step, outs)
+}
+
+// ---- any answer
+
+// The action that had asked for an answer, and whether its root is free of what it keeps of the object.
+#[derive(Clone, Copy)]
+struct Awaited {
+    action: Uid,
+    free: bool,
+}
+
+// Who waits for a message from this node, if anyone does.
+fn who_waits(coord: &Coord, from: u8, message: &Message) -> Option<Awaited>
+    ensures void { result ≡ None → (intents : List (Uid × Intent)) → heard_as from (answers message.now) intents coord.now ≡ heard_none coord.now }
+    ensures waits { IfSome result (λ a. IsAwaited from (answers message.now) coord.now a.action a.free) }
+{
+    let action = asker(message)?;
+    let now = coord.waits_for(action)?;
+    if !is_awaited(now, from, message) {
+        return None;
+    }
+    Some(Awaited {
+        action,
+        free: is_free_for(coord, now),
+    })
+}
+
+// A message for which an action waits.
+fn hear(
+    alloc: Global,
+    coord: &mut Coord,
+    action: Uid,
+    delivery: Delivery,
+    intents: &Records,
+    outs: &mut Effects,
+) -> Result<bool, AllocError>
+    requires sendable { IsSendable delivery.message }
+    requires meant { answer_is_meant coord.old (answers delivery.message) ≡ true }
+    requires room { AskerHasRoom (answers delivery.message) coord.old }
+    requires waits { IsAwaited delivery.from (answers delivery.message) coord.old action delivery.free }
+    ensures part { OnOk result (coord.new ≡ (heard_as delivery.from (answers delivery.message) intents.now coord.old).part) }
+    ensures outs { OnOk result (outs.new ≡ outs.old ++ (heard_as delivery.from (answers delivery.message) intents.now coord.old).outs) }
+    ensures taken { IfOk result (λ taken. taken ≡ is_some (heard_as delivery.from (answers delivery.message) intents.now coord.old).reply) }
+{
+    coord.fits(action);
+    match coord.take(action) {
+        Now::Idle => Ok(false),
+        Now::Calling(steps) => {
+            hear_call(alloc, coord, steps, delivery, outs)?;
+            Ok(true)
+        }
+        Now::Committing(commit) => {
+            hear_commit(
+                alloc,
+                coord,
+                commit,
+                delivery.from,
+                &delivery.message,
+                intents,
+                outs,
+            )?;
+            Ok(true)
+        }
+    }
+}
+
+/// A message from a node, as an answer. False: it is void, since no action waits for it. `intents` are the records on the
+/// disk.
+pub fn heard(
+    alloc: Global,
+    coord: &mut Coord,
+    from: u8,
+    message: Message,
+    intents: &Records,
+    outs: &mut Effects,
+) -> Result<bool, AllocError>
+    requires sendable { IsSendable message }
+    requires meant { answer_is_meant coord.old (answers message) ≡ true }
+    requires room { AskerHasRoom (answers message) coord.old }
+    ensures part { OnOk result (coord.new ≡ (heard_as from (answers message) intents.now coord.old).part) }
+    ensures outs { OnOk result (outs.new ≡ outs.old ++ (heard_as from (answers message) intents.now coord.old).outs) }
+    ensures taken { IfOk result (λ taken. taken ≡ is_some (heard_as from (answers message) intents.now coord.old).reply) }
+{
+    match who_waits(coord, from, &message) {
+        Some(Awaited { action, free }) => {
+            let delivery = Delivery {
+                from,
+                message,
+                free,
+            };
+            hear(alloc, coord, action, delivery, intents, outs)
+        }
+        None => Ok(false),
     }
 }

@@ -1,10 +1,10 @@
 // Commits.
-ghost use Rattle.std.specs.Prelude.{◌≡◌, ◌++◌, IfOk, IfSome, OnOk};
+ghost use Rattle.std.specs.Prelude.{◌≡◌, ◌++◌, IfOk, IfSome, OnOk, true};
 ghost use Rattle.arj_asking.specs.Hearing.{IsOf};
 ghost use Rattle.arj_asking.specs.Rooms.{HasRoom};
 ghost use Rattle.arj_commit.specs.Fits.{PlanFits};
 ghost use Rattle.arj_commit.specs.Steps as done;
-ghost use Rattle.arj_commit.specs.Steps.{begun};
+ghost use Rattle.arj_commit.specs.Steps.{begun, heard, waits_for};
 ghost use Rattle.arj_coord.specs.Shown.{machine_of};
 ghost use Rattle.arj_protocol.specs.Ask.{actor};
 ghost use Rattle.arj_protocol.specs.Asking as asking;
@@ -19,6 +19,7 @@ use arj_base::{End, Path, Uid};
 use arj_commit::{NAMING, Plan, Step, start};
 use arj_coord::{Commit, Coord, Effects, EndLine, Now, Records};
 use arj_journal::{Cause, Kind};
+use arj_msg::Message;
 use arj_root::Root;
 use std::alloc::{AllocError, Global};
 
@@ -199,6 +200,39 @@ pub fn commit_action(
         Kind::Top | Kind::Independent | Kind::Constituent => {
             commit_top(alloc, coord, &path, intents, outs)
         }
+    }
+}
+
+// ---- answers
+
+/// An answer for which a commit waits.
+pub fn hear_commit(
+    alloc: Global,
+    coord: &mut Coord,
+    commit: Commit,
+    from: u8,
+    message: &Message,
+    intents: &Records,
+    outs: &mut Effects,
+) -> Result<(), AllocError>
+    requires { waits_for from message.now (machine_of commit) ≡ true }
+    ensures part { OnOk result (coord.new ≡ (moved_commit (actor (plan_of (machine_of commit)).path) (heard from message.now (machine_of commit)) intents.now coord.old).part) }
+    ensures outs { OnOk result (outs.new ≡ outs.old ++ (moved_commit (actor (plan_of (machine_of commit)).path) (heard from message.now (machine_of commit)) intents.now coord.old).outs) }
+{
+    let action = plan_in(&commit).path.last();
+    match commit {
+        Commit::Voting(step) => match step.answered(from, message) {
+            Ok(step) => after_votes(alloc, coord, action, step, intents, outs),
+            Err(_) => Err(AllocError),
+        },
+        Commit::Preparing(step) => match step.answered(from, message) {
+            Ok(step) => after_stores(alloc, coord, action, step, intents, outs),
+            Err(_) => Err(AllocError),
+        },
+        Commit::Confirming(step) => match step.answered(from, message) {
+            Ok(step) => after_confirm(alloc, coord, action, step, intents, outs),
+            Err(_) => Err(AllocError),
+        },
     }
 }
 

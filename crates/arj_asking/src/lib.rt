@@ -1,6 +1,5 @@
 //! What a coordinator asks: what it does when an action begins, calls an object, includes a store, commits and gives up,
-//! and what it asks again at a tick. What an answer makes of what waits isn't here yet, but for the test whether it can be
-//! meant.
+//! when a request is answered, and what it asks again at a tick.
 //!
 //! It stands on the coordinator (`arj_coord`), what a root has (`arj_root`), the steps of calls and commits (`arj_bind`,
 //! `arj_commit`) and the definitions of `arj_protocol`. What it gives upward: each call is the protocol's function on the
@@ -18,7 +17,7 @@ mod requests;
 mod rooms;
 mod ticks;
 
-pub use answers::is_meant;
+pub use answers::{heard, is_meant};
 pub use begins::begin_action;
 pub use calls::{call, include};
 pub use commits::commit_action;
