@@ -1,1 +1,6 @@
 pub mod Performed
+pub mod Telling
+pub mod StateWorks
+pub mod StateAsks
+pub mod Rests
+pub mod Servings

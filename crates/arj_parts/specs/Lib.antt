@@ -1,1 +1,6 @@
 pub mod Records
+pub mod Works
+pub mod Kept
+pub mod Said
+pub mod Calls
+pub mod Taken

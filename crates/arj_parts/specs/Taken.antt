@@ -1,0 +1,17 @@
+-- Messages by whom they are for.
+use Rattle.std.specs.Prelude.{ℕ}
+use Rattle.arj_protocol.specs.Node.{Handled, Here, handle_other, taken}
+use Rattle.arj_protocol.specs.Words.{Message}
+use Rattle.arj_serve.specs.Asked.{asked}
+
+-- what the node makes of a message from a node
+abbrev pub taken_here : ℕ → Message → ℕ → Here → Handled
+taken_here from m n h = taken n h.disk h.parts from m
+
+-- of a request
+abbrev pub asked_here : ℕ → Message → ℕ → Here → Handled
+asked_here from m n h = asked n h.disk h.parts from m
+
+-- of a message that is neither request nor answer
+abbrev pub other_here : ℕ → Message → ℕ → Here → Handled
+other_here from m n h = handle_other n h.disk h.parts from m
