@@ -1,13 +1,13 @@
 //! Tests of the parts that nodes are made of: messages, and stores and beginnings over disks that write down their calls.
 //!
-//! It stands on `arj_msg`, `arj_store`, `arj_recover` and `arj_disk`, which it knows by their contracts. It has tests alone.
+//! It stands on `arj_msg`, `arj_store`, `arj_recover` and `arj_disk`, which it knows by their contracts. It has tests, and
+//! the recording disk, which the tests of crates above use too.
 #![tactic(auto)]
 
 #[cfg(test)]
 mod beginnings;
 #[cfg(test)]
 mod messages;
-#[cfg(test)]
 mod recorder;
 #[cfg(test)]
 mod stores;
@@ -15,3 +15,5 @@ mod stores;
 mod tables;
 #[cfg(test)]
 mod uses;
+
+pub use recorder::{Did, Recorder};
