@@ -1,6 +1,6 @@
 -- How a session goes on, and how it ends.
-use Rattle.std.proofs.Common.{◌≡◌, ◌⊎◌, inl, inr, ℕ, ◌-◌, ◌≤◌, ◌<◌, List, [], ◌∷◌, ◌++◌, length, length-append, length-drop, take, drop, Option, Some, None, Result, Ok, Err, true, false, refl, sym, ◌∙◌, ap, subst, arith, append_assoc}
-use Rattle.std.specs.Prelude.{◌==◌, ◌↔◌, IfErr, IfSome, IsErrOf}
+use Rattle.std.proofs.Common.{◌≡◌, ◌⊎◌, inl, inr, ℕ, ◌-◌, ◌≤◌, ◌<◌, List, [], ◌∷◌, ◌++◌, length, length-append, length-drop, take, drop, Option, Some, None, Err, true, false, refl, sym, ◌∙◌, ap, subst, arith, append_assoc}
+use Rattle.std.specs.Prelude.{◌==◌, ◌↔◌, IfSome}
 use Rattle.std.proofs.Math.Logic.{⊎_elim}
 use Rattle.std.proofs.lemmas.List.{append-nil, take-append-drop, take_rest}
 use Rattle.std.proofs.lemmas.Bool.{eqb-true, eq-eqb, both_ways}
@@ -29,7 +29,7 @@ use Rattle.arj_loop.specs.Running.{Stage, StageOf, Reached, Halfway, Hand, Gathe
 use Rattle.arj_loop.proofs.Bytes.{short_of}
 use Rattle.arj_loop.proofs.Cuts.{fed_none, fed_line, fed_long, lines_line, lines_long, lines_last, lines_none}
 use Rattle.arj_loop.proofs.Stages.{Limited, moved_none}
-use Rattle.arj_loop.proofs.Statuses.{IsOther, Wanted, end_kinds, is_format}
+use Rattle.arj_loop.proofs.Statuses.{Wanted, end_kinds}
 use Rattle.arj_loop.proofs.Steps.{forms_length}
 use Rattle.arj_loop.proofs.Whole.{IsEnd, all_short, end_reached, fault_reached, front_at_4, gathers_empty, gathers_first, gathers_front, gathers_taken, line_reached, stage_first, stage_start, takes_nothing, whole_front}
 

@@ -7,7 +7,7 @@ use Rattle.arj_loop.specs.declared.ending.BadLine.{BadLine}
 use Rattle.arj_loop.specs.declared.ending.End.{End}
 use Rattle.arj_loop.specs.declared.ending.End.TheVariants as ending
 use Rattle.arj_loop.specs.declared.machine.Machine.{Ghosts}
-use Rattle.arj_loop.specs.Input.{Arrived, Came, WentOn, ReadsFewPast, Script, script_of, source_view}
+use Rattle.arj_loop.specs.Input.{Arrived, Came, WentOn, ReadsFewPast, script_of, source_view}
 use Rattle.arj_loop.specs.Running.{Hand, Halfway, Moved, Reached, events_run, last_body, last_lines, lines_before, status_of, why_of}
 
 -- What a run finds and leaves outside of it. The bytes that are left in the source, where it tells them, and its count of

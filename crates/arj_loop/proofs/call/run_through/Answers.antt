@@ -1,9 +1,9 @@
 -- what the end of the run shows
-use Rattle.std.proofs.Common.{◌≡◌, ap, refl, subst, sym}
+use Rattle.std.proofs.Common.{◌≡◌, refl, subst, sym}
 use Rattle.std.proofs.Math.Logic.{⊎_elim}
 use Rattle.arj_loop.specs.Replayed.{StopsShort, answer, outside}
 use Rattle.arj_loop.specs.Running.{work}
-use Rattle.arj_loop.proofs.Sessions.{closes_of, few_lines, short_4, short_5, short_closed, short_write}
+use Rattle.arj_loop.proofs.Sessions.{closes_of, short_4, short_5, short_closed, short_write}
 use Rattle.arj_loop.proofs.Statuses.{closes, is_5, not_4, wants}
 use Rattle.arj_loop.proofs.Whole.{gathers_taken}
 use Rattle.arj_loop.proofs.call.run_through.Goals as goal
