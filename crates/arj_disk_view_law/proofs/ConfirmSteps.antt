@@ -85,7 +85,7 @@ take_out (m ∷ ms) ss = take_out ms (without_store m ss) ∙ filter_both (λ s.
     same s = ap (λ b. not (is_listed s ms) && not b) (flip s m) ∙ parts (is_listed s ms) (m == s)
 
 -- the marks of an object, as a list of stores
-marked_is : (x s : ℕ) (ms : Marks) → is_listed s (marked x ms) ≡ list_any (λ (m : ℕ × ℕ). (m.0 == x) && (m.1 == s)) ms
+pub marked_is : (x s : ℕ) (ms : Marks) → is_listed s (marked x ms) ≡ list_any (λ (m : ℕ × ℕ). (m.0 == x) && (m.1 == s)) ms
 marked_is x s [] = refl
 marked_is x s (m ∷ ms) = by (m.0 == x) (marked_is x s ms)
   where

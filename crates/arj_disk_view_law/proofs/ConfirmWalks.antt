@@ -129,25 +129,25 @@ has_listed s [] = refl
 has_listed s (r ∷ rs) = ap (λ b. (r == s) || b) (has_listed s rs)
 
 -- a store that is included isn't listed
-new_not : (ms ss : List ℕ) (s : ℕ) → AreNew ms ss → has s ms ≡ true → has s ss ≡ false
+pub new_not : (ms ss : List ℕ) (s : ℕ) → AreNew ms ss → has s ms ≡ true → has s ss ≡ false
 new_not [] ss s new on = absurd (cc on)
 new_not (m ∷ ms) ss s new on = ⊎_elim (λ same. ap (λ k. has k ss) (sym (test_is m s same)) ∙ sym (has_listed m ss) ∙ new.0) (λ more. new_not ms ss s new.1 more) (or_cases (m == s) (has s ms) on)
 
-not_empty : (ss : List ℕ) → same_nodes ss [] ≡ false → (s : ℕ) × (has s ss ≡ true)
+pub not_empty : (ss : List ℕ) → same_nodes ss [] ≡ false → (s : ℕ) × (has s ss ≡ true)
 not_empty [] h = absurd (cc h)
 not_empty (s ∷ ss) h = (s, or_left (s == s) (has s ss) (test_same s))
 
 -- ---- the checks
 
-both_none : {A : Type 0} (a b : Option A) → either a b ≡ None → (a ≡ None) × (b ≡ None)
+pub both_none : {A : Type 0} (a b : Option A) → either a b ≡ None → (a ≡ None) × (b ≡ None)
 both_none None b h = (refl, h)
 both_none (Some a) b h = absurd (cc h)
 
-each_none : (f : ObjectState → Option ConfirmedReply) (ss : List ObjectState) (s : ObjectState) → first_of_each f ss ≡ None → Among s ss → f s ≡ None
+pub each_none : (f : ObjectState → Option ConfirmedReply) (ss : List ObjectState) (s : ObjectState) → first_of_each f ss ≡ None → Among s ss → f s ≡ None
 each_none f [] s h among = absurd among
 each_none f (r ∷ rs) s h among = let p = both_none (f r) (first_of_each f rs) h in ⊎_elim (λ same. subst (λ q. f q ≡ None) same p.0) (λ more. each_none f rs s p.1 more) among
 
-not_there : (b : Bool) (r : ConfirmedReply) → (if b then Some r else None) ≡ None → b ≡ false
+pub not_there : (b : Bool) (r : ConfirmedReply) → (if b then Some r else None) ≡ None → b ≡ false
 not_there true r h = absurd (cc h)
 not_there false r h = refl
 
@@ -156,7 +156,7 @@ module _ (x : ℕ) (d : Pair) (S : State) (sees : SeesEntry x d S) where
   content : (st : ObjectState) → held_at (entry x) d ≡ Some st → packed_entry st ≡ S.entry → (listed_entry x d).stores ≡ S.entry.content
   content st there is = ap (λ o. (entry_of o).stores) there ∙ ap (λ (e : Packed). e.content) is
 
-  are_new : (included : Marks) → first_of_each (is_there d) included ≡ None → AreNew (marked x included) S.entry.content
+  pub are_new : (included : Marks) → first_of_each (is_there d) included ≡ None → AreNew (marked x included) S.entry.content
   are_new [] h = tt
   are_new (m ∷ ms) h = let p = both_none (is_there d m) (first_of_each (is_there d) ms) h in by (m.0 == x) refl (not_there (is_listed m.1 (listed_entry m.0 d).stores) (confirmed.Listed m.0 m.1) p.0) (are_new ms p.1)
     where
@@ -376,7 +376,7 @@ module _ (p : Path) (grants : Grants) (excluded included : Marks) (d : Pair) (n 
       (either_refuses (first_of_each (is_there d) included) (first_of_each is_bare Entries_now) (each_refuses (is_there d) there_refuses included) (each_refuses is_bare bare_refuses Entries_now)))
 
   -- with nothing to refuse no included store is listed, and each new entry has a store
-  last_two : checked p grants excluded included d n ≡ None → (first_of_each (is_there d) included ≡ None) × (first_of_each is_bare Entries_now ≡ None)
+  pub last_two : checked p grants excluded included d n ≡ None → (first_of_each (is_there d) included ≡ None) × (first_of_each is_bare Entries_now ≡ None)
   last_two h =
       let one = both_none (first_of_each (other_grant n) grants) (either (first_of_each (refused_exclude p n) Locked_now) (either (first_of_each (is_there d) included) (first_of_each is_bare Entries_now))) h in
       let two = both_none (first_of_each (refused_exclude p n) Locked_now) (either (first_of_each (is_there d) included) (first_of_each is_bare Entries_now)) one.1 in

@@ -1,0 +1,4 @@
+pub mod Booked
+pub mod Calls
+pub mod Memory
+pub mod Restarts

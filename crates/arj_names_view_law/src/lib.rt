@@ -1,0 +1,16 @@
+//! Naming's memory of one object, seen by the disk machine with its naming half.
+//!
+//! The machine (`arj_disk_law`, `specs/Names.antt`) has of naming's memory its incarnation, the locks on one entry, whom it was
+//! told of and whom it confirmed. `specs/Memory.antt` ties that to what the protocol's naming has. Each call of naming is then
+//! a list of the machine's acts, each of which may be done when it comes (`specs/Calls.antt`, `specs/Restarts.antt`); and what a
+//! Confirm counts on of the locks, which the disk half takes as known, follows (`specs/Booked.antt`). What it gives upward:
+//! naming's calls, one by one, and `new_confirms_are_booked`. What coordinators have from naming's answers is a premise.
+#![tactic(auto)]
+
+mod booked;
+mod calls;
+mod restarts;
+
+pub use booked::new_confirms_are_booked;
+pub use calls::{ends_are_acts, locks_are_acts};
+pub use restarts::restarts_are_acts;
