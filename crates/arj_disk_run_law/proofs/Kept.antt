@@ -1,24 +1,28 @@
 -- Each handler keeps that an object is seen, for every kinds that agree with the actions begun; and copies agree.
-use Rattle.std.proofs.Common.{◌≡◌, ℕ, ◌+◌, List, [], ◌∷◌, true, Option, Some, None, refl, sym, ◌∙◌, ap, subst, inl, inr, ⊎_elim}
+use Rattle.std.proofs.Common.{◌≡◌, ℕ, ◌+◌, List, [], ◌∷◌, true, false, Option, Some, None, refl, sym, ◌∙◌, ap, subst, inl, inr, ⊎_elim}
 use Rattle.std.specs.Prelude.{option_map}
 use Rattle.arj_lock.proofs.Members.{in_from, in_to}
-use Rattle.arj_protocol.specs.Words.{Uid, Ask, Body, Head, Header, Kind, Label, Line, ObjectState, Message, asks, entry, object, is_listed, is_on, uids_of}
+use Rattle.arj_protocol.specs.Words.{Uid, Ask, Asked, Body, Head, Header, Kind, Label, Line, ObjectState, Message, asks, entry, object, is_listed, is_on, uids_of}
 use Rattle.arj_protocol.specs.Words.ask
-use Rattle.arj_protocol.specs.Ask.{actor}
-use Rattle.arj_protocol.specs.Asking.{again_all, begin_action}
+use Rattle.arj_protocol.specs.Ask.{Reply, actor}
+use Rattle.arj_protocol.specs.Asking.{again_all, begin_action, heard}
 use Rattle.arj_protocol.specs.Effect.{Disk, Effect, held_at, holder_of}
+use Rattle.arj_protocol.specs.Ending.{acked, answer_query}
 use Rattle.arj_protocol.specs.Follow.{tick_outs}
 use Rattle.arj_protocol.specs.Node.{Parts, Took, handle, with_coord}
 use Rattle.arj_protocol.specs.Step.{Node, Input, acts, begin_refusal, parent_of, parts_in, refusal_up, restart_outs}
 use Rattle.arj_protocol.specs.Tree.{next_uid, path_below}
 use Rattle.arj_protocol.specs.Values.{state_entry}
 use Rattle.arj_protocol.specs.World.{format, is_serial_kind, numbered, run_all}
-use Rattle.arj_protocol.proofs.CoordSays.{acts_own}
+use Rattle.arj_protocol.proofs.CoordSays.{acked_own, acts_own, again_own, heard_own, query_own}
 use Rattle.arj_part_law.specs.Actions.{Action, act_of, paths_of}
+use Rattle.arj_part_law.specs.Coords.{IsGoodCoord}
+use Rattle.arj_part_law.specs.Copies.{IsTree}
 use Rattle.arj_part_law.proofs.Begun.{begun_tree}
+use Rattle.arj_part_law.proofs.TrueSteps.{true_query, well_acked, well_acts, well_again, well_heard}
 use Rattle.arj_run_law.specs.Worlds.{IsGoodOf}
 use Rattle.arj_run_law.proofs.Begins.{begin_good, its_node, its_uid}
-use Rattle.arj_run_law.proofs.Handled.{act_good, good_coord, message_good, stopped_good, tick_good}
+use Rattle.arj_run_law.proofs.Handled.{act_good, good_coord, it, message_good, own_of_disk, stopped_good, tick_good, tops_of_disk}
 use Rattle.arj_run_law.proofs.Starts.{first_of, restart_good}
 use Rattle.arj_disk_law.specs.Effects.{World}
 use Rattle.arj_disk_law.specs.State as disk
@@ -52,7 +56,8 @@ use Rattle.arj_disk_run_law.specs.Records.{AreRecorded}
 use Rattle.arj_disk_run_law.specs.Runs.{CopiesAgree, HasState, IsSeenInRun, RunsAgree}
 use Rattle.arj_disk_run_law.proofs.Begun.{kinds_agree}
 use Rattle.arj_disk_run_law.proofs.Known.{knows_node}
-use Rattle.arj_disk_run_law.proofs.PlaceWalks.{ByTop, PlacedBy, begin_placed, coord_prepares, format_placed, line_stays, message_placed, placed_walk, prepared_begun, restart_placed, stop_placed, tick_prepares}
+use Rattle.arj_disk_run_law.proofs.Means.{All, coord_means}
+use Rattle.arj_disk_run_law.proofs.PlaceWalks.{ByTop, PlacedBy, begin_placed, both_here, format_placed, line_stays, message_placed, other_coord, placed_walk, prepared_begun, restart_placed, stop_placed, tick_means, up_here}
 use Rattle.arj_disk_run_law.proofs.RecordWalks.{KeptBy, format_recorded, kept_walk, message_kept, recorded_more, restart_recorded, stop_recorded, tick_kept}
 use Rattle.arj_disk_run_law.proofs.Telling.{acked_kept, acts_kept, heard_kept, same_kept}
 
@@ -105,7 +110,30 @@ by_top x begun k m (Some (h, ask.Confirm grants excluded included)) c = c.4.0
 
 -- lines are said
 placed_said : (begun : List Action) (e : ℕ) (bs : List Body) (M : Seen) → ArePlaced begun M → ArePlaced begun (said e bs M)
-placed_said begun e bs M p = record { nodes = p.nodes; lines = λ a c. line_stays (act_of a) M.lines (numbered e bs) (p.lines a c) }
+placed_said begun e bs M p = record { nodes = p.nodes; asks = p.asks; lines = λ a c. line_stays (act_of a) M.lines (numbered e bs) (p.lines a c) }
+
+-- what a good coordinator says is about actions that were begun
+module _ (begun : List Action) (e k : ℕ) (d : Disk) (t : Parts) (M : Seen) (good : IsGoodOf begun (up k d t M)) where
+  tree : IsTree (paths_of begun)
+  tree = begun_tree begun good.begun
+
+  coord : IsGoodCoord begun (paths_of begun) t.coord
+  coord = good_coord e k d t M (begun, good)
+
+  heard_means : (from : ℕ) (a : Asked) (r : Reply) → All begun (let q = heard from a r d.intents t.coord in q.outs)
+  heard_means from a r = let q = heard from a r d.intents t.coord in coord_means begun q.part q.outs (well_heard begun (paths_of begun) tree from a r d.intents t.coord coord).1 (heard_own from a r d.intents t.coord)
+
+  acked_means : (from : ℕ) (u : Uid) → All begun (let q = acked from u d.intents t.coord in q.outs)
+  acked_means from u = let q = acked from u d.intents t.coord in coord_means begun q.part q.outs (well_acked begun (paths_of begun) tree from u d.intents t.coord).1 (acked_own from u d.intents t.coord)
+
+  query_means : (from : ℕ) (u : Uid) → All begun (answer_query from u d.intents t.coord)
+  query_means from u = coord_means begun t.coord (answer_query from u d.intents t.coord) (true_query begun (paths_of begun) tree from u d.intents t.coord (tops_of_disk e k d t M (begun, good)) (own_of_disk e k d t M (begun, good)) coord) (query_own from u d.intents t.coord)
+
+  acts_mean : (hd : Header) (i : Input) → is_act i ≡ true → refusal_up hd i t.coord ≡ None → All begun (let q = acts i d.intents t.coord in q.outs)
+  acts_mean hd i is free = let q = acts i d.intents t.coord in coord_means begun q.part q.outs (well_acts begun (paths_of begun) tree d.intents t.coord coord (let n = it e k d t M (begun, good) in n.faithful.works) hd i free (λ l how parent same. let no_way : false ≡ true = sym (ap is_act same) ∙ is in cc)).1 (acts_own i d.intents t.coord)
+
+  all_again : All begun (let q = again_all t.coord.doings t.coord in q.outs)
+  all_again = let q = again_all t.coord.doings t.coord in coord_means begun q.part q.outs (well_again begun (paths_of begun) tree t.coord coord).1 (again_own t.coord.doings t.coord)
 
 module _ (hd : Header) (x : ℕ) (has_it : HasObject hd x) (R : Seen → Type 0) (kept : Keeps hd R) (gives : Gives R) where
   abbrev P : Seen → Type 0
@@ -114,14 +142,15 @@ module _ (hd : Header) (x : ℕ) (has_it : HasObject hd x) (R : Seen → Type 0)
   message_keeps : (e k : ℕ) (d : Disk) (t v : Parts) (from : ℕ) (m : Message) (outs : List Effect) (M : Seen) → P (up k d t M) → In (record { from = from; to = k; message = m }) M.sent → handle k d t from m ≡ Took v outs → Walks P e k outs (Up P k v) d M
   message_keeps e k d t v from m outs M (begun, h) sent is = all_walk R x begun h.1 e k outs v d M (message_good e k d t M (begun, h.0) v from m outs sent is)
       (kept_walk begun e k d t v outs M (subst (KeptBy begun t.coord) is (message_kept begun k d t from (λ a r. heard_kept begun (paths_of begun) (begun_tree begun h.0.begun) from a r d.intents t.coord (good_coord e k d t M (begun, h.0))) (λ u. acked_kept begun from u d.intents t.coord) m)) h.2)
-      (let p = subst (PlacedBy begun k t) is (message_placed begun k d t from m (h.0.fits (record { from = from; to = k; message = m }) sent) (by_top x begun k m (asks m) (let s = h.5 (kinds_of begun) (kinds_agree begun h.0.begun h.1) in (kinds_of begun, s.0, M.lines, from, s.1.posts (record { from = from; to = k; message = m }) sent)))) in placed_walk begun e k d t v outs M p.0 p.1 h.3) (kept.message e k d t v from m outs M h.4 sent is)
+      (let p = subst (PlacedBy begun k) is (message_placed begun h.0.begun k d t from (both_here begun h.0.begun k d t M h.3) (up_here begun h.0.begun k d t M h.3) (heard_means begun e k d t M h.0 from) (acked_means begun e k d t M h.0 from) (query_means begun e k d t M h.0 from) m (h.0.fits (record { from = from; to = k; message = m }) sent)
+      (by_top x begun k m (asks m) (let s = h.5 (kinds_of begun) (kinds_agree begun h.0.begun h.1) in (kinds_of begun, s.0, M.lines, from, s.1.posts (record { from = from; to = k; message = m }) sent)))) in placed_walk begun e k d t v outs M p.0 p.1 h.3) (kept.message e k d t v from m outs M h.4 sent is)
       (λ tops agree. let s = h.5 tops agree in messages_are_walked x tops e k d t v from m outs M (knows_node tops begun k d t M h.0 agree h.2 h.3 (gives.node tops begun k d t M h.4 h.0 agree)) sent s.0 s.1 (gives.booked x tops k d t M from m s.0 h.4 sent s.1) is)
 
   act_keeps : (e k : ℕ) (d : Disk) (t : Parts) (i : Input) (M : Seen) → is_act i ≡ true → refusal_up hd i t.coord ≡ None → P (up k d t M) → DidKeeps P e k d t (acts i d.intents t.coord) M
   act_keeps e k d t i M is free (begun, h) = let did = acts i d.intents t.coord in
       all_walk R x begun h.1 e k did.outs (with_coord t did.part) d M (act_good e k d t M (begun, h.0) hd i is free)
       (kept_walk begun e k d t (with_coord t did.part) did.outs M (acts_kept begun (paths_of begun) (begun_tree begun h.0.begun) d.intents t.coord (good_coord e k d t M (begun, h.0)) hd i free) h.2)
-      (placed_walk begun e k d t (with_coord t did.part) did.outs M (coord_prepares begun did.outs (acts_own i d.intents t.coord)) (λ n. n) h.3) (kept.act e k d t i M is free h.4)
+      (placed_walk begun e k d t (with_coord t did.part) did.outs M (acts_mean begun e k d t M h.0 hd i is free) (other_coord begun k t did.part (up_here begun h.0.begun k d t M h.3)) h.3) (kept.act e k d t i M is free h.4)
       (λ tops agree. let s = h.5 tops agree in let n = knows_node tops begun k d t M h.0 agree h.2 h.3 (gives.node tops begun k d t M h.4 h.0 agree) in acts_are_walked hd x tops e k d t i M n.kinds n.coord is free s.0 s.1)
 
   begin_keeps : (e k : ℕ) (d : Disk) (t : Parts) (l : Label) (how : Kind) (parent : Option Label) (M : Seen) → label_at l M.labels ≡ None → MayGive M.labels k how parent → begin_refusal how t.coord parent ≡ None
@@ -139,7 +168,7 @@ module _ (hd : Header) (x : ℕ) (has_it : HasObject hd x) (R : Seen → Type 0)
       a = record { path = path_below how (parent_of parent t.coord) (next_uid t.coord.tree); kind = how }
 
       placed_given : ArePlaced begun (up k d t M) → ArePlaced begun (up k d t (given l (record { node = k; serial = is_serial_kind how }) M))
-      placed_given q = record { nodes = q.nodes; lines = q.lines }
+      placed_given q = record { nodes = q.nodes; asks = q.asks; lines = q.lines }
 
       uid : actor (path_below how (parent_of parent t.coord) (next_uid t.coord.tree)) ≡ next_uid t.coord.tree
       uid = its_uid e k d t l how parent M new may free (begun, h.0)
@@ -153,7 +182,7 @@ module _ (hd : Header) (x : ℕ) (has_it : HasObject hd x) (R : Seen → Type 0)
   tick_keeps : (e k : ℕ) (d : Disk) (t : Parts) (M : Seen) → P (up k d t M) → Walks P e k (tick_outs (record { number = k; disk = d; live = Some t }) t) (Up P k (with_coord t (again_all t.coord.doings t.coord).part)) d M
   tick_keeps e k d t M (begun, h) = all_walk R x begun h.1 e k (tick_outs (record { number = k; disk = d; live = Some t }) t) (with_coord t (again_all t.coord.doings t.coord).part) d M (tick_good e k d t M (begun, h.0))
       (kept_walk begun e k d t (with_coord t (again_all t.coord.doings t.coord).part) (tick_outs (record { number = k; disk = d; live = Some t }) t) M (tick_kept begun k d t) h.2)
-      (placed_walk begun e k d t (with_coord t (again_all t.coord.doings t.coord).part) (tick_outs (record { number = k; disk = d; live = Some t }) t) M (tick_prepares begun k d t) (λ n. n) h.3) (kept.tick e k d t M h.4)
+      (placed_walk begun e k d t (with_coord t (again_all t.coord.doings t.coord).part) (tick_outs (record { number = k; disk = d; live = Some t }) t) M (tick_means begun k d t h.0.begun (both_here begun h.0.begun k d t M h.3) (up_here begun h.0.begun k d t M h.3) (all_again begun e k d t M h.0)) (other_coord begun k t (again_all t.coord.doings t.coord).part (up_here begun h.0.begun k d t M h.3)) h.3) (kept.tick e k d t M h.4)
       (λ tops agree. let s = h.5 tops agree in let n = knows_node tops begun k d t M h.0 agree h.2 h.3 (gives.node tops begun k d t M h.4 h.0 agree) in ticks_are_walked x tops e k d t M n.coord n.begun s.0 s.1)
 
   pub all_keep : Keeps hd P
@@ -164,7 +193,7 @@ module _ (hd : Header) (x : ℕ) (has_it : HasObject hd x) (R : Seen → Type 0)
     act = act_keeps;
     begin = begin_keeps;
     tick = tick_keeps;
-    restart = λ e k d M p. let h = p.1 in all_walk R x p.0 h.1 e k (restart_outs hd k (d.inc + 1) d) (parts_in k (d.inc + 1) d) d M (restart_good hd e k d M (p.0, h.0)) (restart_recorded p.0 hd e k d M h.2) (restart_placed p.0 hd e k d M h.3) (kept.restart e k d M h.4)
+    restart = λ e k d M p. let h = p.1 in all_walk R x p.0 h.1 e k (restart_outs hd k (d.inc + 1) d) (parts_in k (d.inc + 1) d) d M (restart_good hd e k d M (p.0, h.0)) (restart_recorded p.0 hd e k d M h.2) (restart_placed p.0 hd e k d M h.0.begun h.3) (kept.restart e k d M h.4)
         (λ tops agree. let s = h.5 tops agree in restarts_are_walked x tops e k hd d M (prepared_begun p.0 k d None M h.3) s.0 s.1);
     first = ([], (first_of hd, (λ a w c on. absurd (in_from a [] c)), format_recorded hd, format_placed hd, kept.first, λ tops agree. formats_are_seen hd x tops has_it));
   }

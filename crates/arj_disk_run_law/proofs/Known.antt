@@ -1,38 +1,45 @@
 -- What the disk half of the view takes of the protocol alone, from good nodes and the rest.
-use Rattle.std.proofs.Common.{◌≡◌, ◌≢◌, ℕ, ◌==◌, zero, suc, List, [], ◌∷◌, Bool, true, false, Option, Some, None, refl, sym, ◌∙◌, ap, subst, inl, inr, ⊎_elim, slice_get, length}
+use Rattle.std.proofs.Common.{◌≡◌, ◌≢◌, ◌⊎◌, ◌<◌, ◌≤◌, ℕ, ◌==◌, ◌&&◌, zero, suc, List, [], ◌∷◌, Bool, true, false, Option, Some, None, refl, sym, ◌∙◌, ap, subst, inl, inr, ⊎_elim, slice_get, length, arith, filter, map}
 use Rattle.std.specs.Prelude.{if◌then◌else◌, not, is_some, take}
-use Rattle.std.specs.List.{AllByRecursion}
+use Rattle.std.specs.List.{AllByRecursion, list_any}
+use Rattle.std.proofs.lemmas.Bool.{and_parts}
 use Rattle.arj_lock.proofs.Members.{In, in_to}
-use Rattle.arj_base.proofs.Uids.{uid_cases}
+use Rattle.arj_lock.proofs.PassLeaves.{which}
+use Rattle.arj_base.proofs.Uids.{uid_cases, uid_is, uid_same}
 use Rattle.arj_base.specs.Path.{before_last}
-use Rattle.arj_protocol.specs.Words.{Uid, End, Kind, Path, uids_of, first_uid, last_uid}
+use Rattle.arj_protocol.specs.Words.{Uid, End, Kind, ObjectState, Path, Row, first_uid, is_held_by, is_on, last_uid, uid_eq, uids_of}
 use Rattle.arj_protocol.specs.Words.ending
 use Rattle.arj_protocol.specs.Words.kind
+use Rattle.arj_protocol.specs.Words.message
 use Rattle.arj_protocol.specs.Ask.{actor, top_of}
 use Rattle.arj_protocol.specs.Call.{Steps}
 use Rattle.arj_protocol.specs.Commit as commit
 use Rattle.arj_protocol.specs.Coord.{Doing, Calling, Committing, doing_of, plan_for, root_at}
 use Rattle.arj_protocol.specs.Effect.{Disk, Intent}
-use Rattle.arj_protocol.specs.Naming.{Naming}
+use Rattle.arj_protocol.specs.Named.{Named}
+use Rattle.arj_protocol.specs.Naming.{Naming, loses, loses_row}
 use Rattle.arj_protocol.specs.Node.{Parts}
 use Rattle.arj_protocol.specs.Order.{at_uid, uid_number}
 use Rattle.arj_protocol.specs.Tree.{Branch, at_place, branch_of, is_constituent, is_open, is_open_branch, is_own, root_of}
 use Rattle.arj_part_law.specs.Actions.{Action, act_of, action_of, paths_of}
+use Rattle.arj_part_law.proofs.Begun.{on_own}
 use Rattle.arj_part_law.specs.Coords.{IsBusy, IsGoodCoord, IsVoting}
 use Rattle.arj_run_law.specs.Worlds.{IsGoodOf, IsUp}
 use Rattle.arj_run_law.proofs.Handled.{good_coord, it, records_of_disk}
-use Rattle.arj_disk_law.proofs.Base.{never, some_is, test_is}
+use Rattle.arj_disk_law.proofs.Base.{never, or_cases, some_is, test_is}
+use Rattle.arj_view_law.specs.Seen as seen
 use Rattle.arj_view_law.specs.Seen.{Seen, up}
-use Rattle.arj_disk_view_law.specs.Coordinating.{KnowsNode}
+use Rattle.arj_disk_view_law.specs.Coordinating.{AreOrphansOf, HasBegunHere, KnowsNode}
 use Rattle.arj_disk_view_law.specs.Knows.{IsOfKind, IsOpenSerial, KnowsCoord, KnowsMachine, KnowsPlan, KnowsSteps}
-use Rattle.arj_disk_view_law.specs.Sees.{Kinds}
+use Rattle.arj_disk_view_law.specs.Sees.{Kinds, IsFuture}
 use Rattle.arj_disk_view_law.proofs.Frames.{node_here}
 use Rattle.arj_disk_view_law.proofs.Keys as keys
 use Rattle.arj_disk_run_law.specs.Facts.{HasRest}
 use Rattle.arj_disk_run_law.specs.Kinds.{Agrees, is_top_kind}
-use Rattle.arj_disk_run_law.specs.Places.{ArePlaced}
+use Rattle.arj_disk_run_law.specs.Places.{AreEntryRows, AreNamesRows, ArePlaced, IsBegun, IsEntryRow, IsPlacedUp}
 use Rattle.arj_disk_run_law.specs.Records.{AreRecorded, HaveRecords, IsRecorded}
-use Rattle.arj_disk_run_law.proofs.PlaceWalks.{has_naming, holders_begun}
+use Rattle.arj_disk_run_law.proofs.Holders.{constituent as with_serial}
+use Rattle.arj_disk_run_law.proofs.PlaceWalks.{holders_begun, up_here}
 use Rattle.arj_disk_run_law.proofs.Begun.{Stood, root_on, stood}
 
 -- a list that is as long has something at the place too
@@ -63,7 +70,7 @@ unended : (o : Option End) → is_some o ≡ false → o ≡ None
 unended None h = refl
 unended (Some how) h = absurd (cc h)
 
-module _ (tops : Kinds) (acts : List Action) (k : ℕ) (d : Disk) (t : Parts) (M : Seen) (good : IsGoodOf acts (up k d t M)) (agree : Agrees tops acts) (recs : AreRecorded acts (up k d t M)) (placed : ArePlaced acts (up k d t M)) (rest : HasRest tops k d t M) where
+module _ (tops : Kinds) (acts : List Action) (k : ℕ) (d : Disk) (t : Parts) (M : Seen) (good : IsGoodOf acts (up k d t M)) (agree : Agrees tops acts) (recs : AreRecorded acts (up k d t M)) (placed : ArePlaced acts (up k d t M)) (rest : HasRest tops t) where
   mine : IsUp acts M.sent M.labels k d.inc t
   mine = it 0 k d t M (acts, good)
 
@@ -250,8 +257,75 @@ module _ (tops : Kinds) (acts : List Action) (k : ℕ) (d : Disk) (t : Parts) (M
     telling_there = all_told d.intents t.coord.telling (awaited);
   }
 
+  -- ---- who is asked about
+
+  asked : (from : ℕ) (act : Uid) → seen.In (record { from = from; to = k; message = message.Query (record { act = act }) }) M.sent → HasBegunHere k t.coord act
+  asked from act sent = record { here = sym q.0; past = past counted; there = λ own. let f = coord.home b.0 act b.1 on own in (f.0, ap (λ w. branch_of w t.coord.tree) (sym b.2) ∙ f.1) }
+    where
+      q : (k ≡ act.node) × IsBegun acts act
+      q = placed.asks (record { from = from; to = k; message = message.Query (record { act = act }) }) sent
+
+      b : IsBegun acts act
+      b = q.1
+
+      on : is_on (uids_of b.0.path) act ≡ true
+      on = subst (λ w. is_on (uids_of b.0.path) w ≡ true) b.2 (on_own b.0.path)
+
+      counted : (act.inc < d.inc) ⊎ ((act.inc ≡ d.inc) × (act.num ≤ length t.coord.tree.branches))
+      counted = mine.counted b.0 act b.1 on (sym q.0)
+
+      past : (act.inc < d.inc) ⊎ ((act.inc ≡ d.inc) × (act.num ≤ length t.coord.tree.branches)) → IsFuture t.coord act → ⊥
+      past (inl early) (inl f) = omega (arith, early, f.0, mine.inc)
+      past (inl early) (inr f) = omega (arith, early, f, mine.inc)
+      past (inr its) (inl f) = omega (arith, its.1, f.1)
+      past (inr its) (inr f) = omega (arith, its.0, f, mine.inc)
+
+  -- ---- who loses its rows by the end of another action
+
+  placed_up : IsPlacedUp acts k t
+  placed_up = up_here acts good.begun k d t M placed
+
+  on_one : (w u : Uid) → is_on (w ∷ []) u ≡ true → w ≡ u
+  on_one w u on = ⊎_elim (λ same. uid_is w u same) (λ none. absurd (cc none)) (or_cases (uid_eq w u) false on)
+
+  orphans_of : (n : Naming) → t.naming ≡ Some n → (u : Uid) → AreOrphansOf tops u d n
+  orphans_of n is u = each (map (λ (p : Uid × List ObjectState). p.0) d.names.pend)
+    where
+      IsIts : Uid → Type 0
+      IsIts a = (tops.root (uid_number a) ≡ uid_number u) × (tops.is_top (uid_number u) ≡ false) × (tops.is_serial (uid_number u) ≡ true)
+
+      lost : (a : Uid) → uid_eq a u ≡ false → (r : Row) → IsEntryRow acts r → loses u a r ≡ true → IsIts a
+      lost a other r (inl f) l =
+          let p = and_parts (is_held_by a r) (is_on r.holder u) l in
+          let held : f.0 ≡ a = sym (ap last_uid f.2) ∙ uid_is (last_uid r.holder) a p.0 in
+          let on : f.0 ≡ u = on_one f.0 u (ap (λ us. is_on us u) (sym f.2) ∙ p.1) in
+          absurd (never (ap (λ w. uid_eq w u) (sym held) ∙ ap (λ w. uid_eq w u) on ∙ uid_same u) other)
+      lost a other r (inr f) l =
+          let p = and_parts (is_held_by a r) (is_on r.holder u) l in
+          let s = with_serial acts good.begun f.0 f.1 f.2 in
+          let path : r.holder ≡ act_of s.0 ∷ act_of f.0 ∷ [] = f.3 ∙ s.3 in
+          let held : act_of f.0 ≡ a = sym (ap last_uid path) ∙ uid_is (last_uid r.holder) a p.0 in
+          let of = (subst (λ k. IsOfKind tops (act_of s.0) k (let b = s.0 in b.path)) s.2 (agree.each s.0 s.1).0) in
+          ⊎_elim (λ first. let on = uid_is (act_of s.0) u first in (ap (λ w. tops.root (uid_number w)) (sym held) ∙ (agree.each f.0 f.1).1 ∙ ap uid_number (ap first_uid s.3 ∙ on), ap (λ w. tops.is_top (uid_number w)) (sym on) ∙ of.0, ap (λ w. tops.is_serial (uid_number w)) (sym on) ∙ of.1))
+          (λ second. absurd (never (ap (λ w. uid_eq w u) (sym held ∙ on_one (act_of f.0) u second) ∙ uid_same u) other))
+          (or_cases (uid_eq (act_of s.0) u) (is_on (act_of f.0 ∷ []) u) (ap (λ us. is_on us u) (sym path) ∙ p.1))
+
+      found : (a : Uid) → uid_eq a u ≡ false → (objects : List (ℕ × Named)) → AreEntryRows acts objects → list_any (λ (e : ℕ × Named). list_any (loses u a) e.1.rows) objects ≡ true → IsIts a
+      found a other [] all on = absurd (cc on)
+      found a other (e ∷ es) all on = ⊎_elim (λ here. let w = which (loses u a) (let o = e.1 in o.rows) here in lost a other w.0 (all.0 w.0 (in_to w.0 (let o = e.1 in o.rows) w.1)) w.2) (found a other es all.1)
+          (or_cases (list_any (loses u a) (let o = e.1 in o.rows)) (list_any (λ (z : ℕ × Named). list_any (loses u a) z.1.rows) es) on)
+
+      each : (us : List Uid) → AllByRecursion IsIts (filter (λ act. not (uid_eq act u) && loses_row u act n) us)
+      each [] = tt
+      each (a ∷ us) = by (uid_eq a u) (loses_row u a n) refl refl (each us)
+        where
+          by : (b c : Bool) → uid_eq a u ≡ b → loses_row u a n ≡ c → AllByRecursion IsIts (filter (λ act. not (uid_eq act u) && loses_row u act n) us) → AllByRecursion IsIts (if not b && c then a ∷ filter (λ act. not (uid_eq act u) && loses_row u act n) us else filter (λ act. not (uid_eq act u) && loses_row u act n) us)
+          by true c same l rest = rest
+          by false false other l rest = rest
+          by false true other l rest = (found a other n.objects (subst (AreNamesRows acts) is placed_up.entries) l, rest)
+
   named : is_some t.naming ≡ (k == 1)
-  named = has_naming acts k d t M placed
+  named = placed_up.naming
 
   pub knows_node : KnowsNode tops k d t M
-  knows_node = record { kinds = agree.kinds; coord = knows_coord; begun = holders_begun acts k d t M placed rest.servers rest.names; asked = rest.asked; elsewhere = λ none. sym named ∙ ap (λ (o : Option Naming). is_some o) none; naming_here = λ n is. (test_is k 1 (sym named ∙ ap (λ (o : Option Naming). is_some o) is), rest.orphans n is) }
+  knows_node = record { kinds = agree.kinds; coord = knows_coord; begun = holders_begun acts good.begun k d t M placed; asked = asked; elsewhere = λ none. sym named ∙ ap (λ (o : Option Naming). is_some o) none; naming_here = λ n is. (test_is k 1 (sym named ∙ ap (λ (o : Option Naming). is_some o) is), orphans_of n is) }

@@ -1,7 +1,12 @@
 pub mod Begun
+pub mod EntryRows
+pub mod Holders
 pub mod Kept
 pub mod Known
+pub mod Lists
+pub mod Means
 pub mod Plain
 pub mod PlaceWalks
 pub mod RecordWalks
+pub mod RowWalks
 pub mod Telling

@@ -60,7 +60,7 @@ end_of_more u (f ∷ fs) e is = by (uid_eq f.0 u) (end_of_more u fs e) is
 
 -- ---- locks are of actions that were begun
 
-abbrev IsKnown : List Action → Row → Type 0
+abbrev pub IsKnown : List Action → Row → Type 0
 IsKnown acts r = (a : Action) × Contains acts a × (r.holder ≡ uids_of a.path) × (r.tops ≡ tops_of a.path)
 
 module _ (acts : List Action) where
@@ -125,7 +125,7 @@ module _ (acts : List Action) (begun : AreBegun acts) where
           let path : front (uids_of a.path) ≡ uids_of b.path = ap front s.3 ∙ front_more (uids_of b.path) (act_of a) in
           (b, s.1, path, (λ j. least (length ((path ∙ up.0) j)) (s.4 j)) ∙ sym up.1)
 
-  known_end : (u : Uid) (e : End) (c : Copy) → ((r : Row) → Contains c.rows r → IsKnown acts r) → (y : Row) → Contains (end_copy u e c).rows y → IsKnown acts y
+  pub known_end : (u : Uid) (e : End) (c : Copy) → ((r : Row) → Contains c.rows r → IsKnown acts r) → (y : Row) → Contains (end_copy u e c).rows y → IsKnown acts y
   known_end u ending.Abort c known y k = known y (in_to y c.rows (in_filter (λ r. not (is_on r.holder u)) y c.rows (in_from y (drop_rows u c.rows) k)).0)
   known_end u ending.Commit c known y k = by (came_by u c.rows y (in_from y (pass_rows u c.rows) k))
     where
@@ -154,7 +154,7 @@ module _ (acts : List Action) (begun : AreBegun acts) where
   knows_told n [] s knows = knows
   knows_told n (e ∷ es) s knows = let d = end_one n e.0 e.1 s in knows_told n es d.part (knows_end_one n e.0 e.1 s knows)
 
-  known_run : (n : ℕ) (p : Path) (x : ℕ) (o : Op) (c : Copy) → IsBegun acts p → ((r : Row) → Contains c.rows r → IsKnown acts r) → (r : Row) → Contains (run_copy n p x o c).part.rows r → IsKnown acts r
+  pub known_run : (n : ℕ) (p : Path) (x : ℕ) (o : Op) (c : Copy) → IsBegun acts p → ((r : Row) → Contains c.rows r → IsKnown acts r) → (r : Row) → Contains (run_copy n p x o c).part.rows r → IsKnown acts r
   known_run n p x o c its known r k = by (is_granted (object x) (last_uid (uids_of p)) (op_mode o) c.rows) (in_from r (run_copy n p x o c).part.rows k)
     where
       new : Row

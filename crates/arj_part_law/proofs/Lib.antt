@@ -19,12 +19,12 @@ mod GoodRestart
 mod GoodServers
 pub mod GoodTrees
 mod Kept
-mod InTurn
+pub mod InTurn
 mod KeptCalls
 mod Keys
 mod LivesCoords
 mod LivesKnown
-mod LivesNamed
+pub mod LivesNamed
 mod Locked
 mod NamingNode
 pub mod Numbered

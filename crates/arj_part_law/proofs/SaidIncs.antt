@@ -29,7 +29,7 @@ use Rattle.arj_protocol.specs.Step.{tolds_again, recovered_records, hello_to, nu
 use Rattle.arj_protocol.specs.World.{cut}
 use Rattle.arj_protocol.proofs.PartSays.{ends_own, activate_own, invoke_own, vote_own, bind_own, note_own, confirm_own, told_own}
 use Rattle.arj_part_law.specs.Actions.{Action}
-use Rattle.arj_part_law.specs.Claims.{AreTrue, GoesOn, names_inc, IsHomeWork, IsOwnRecord, AreOfNode}
+use Rattle.arj_part_law.specs.Claims.{AreTrue, GoesOn, is_of_coord, IsHomeWork, IsOwnRecord, AreOfNode}
 use Rattle.arj_part_law.specs.Coords.{IsGoodCoord}
 use Rattle.arj_part_law.specs.Copies.{Paths, IsTree}
 use Rattle.arj_part_law.specs.Cuts.{disk_after}
@@ -171,10 +171,10 @@ module _ (hd : Header) (n : ℕ) (d : Disk) where
 
 -- ---- a message
 
--- what names no incarnation
-plain_inc : (n i : ℕ) (m : Message) → names_inc m ≡ false → SaysInc n i m
-plain_inc n i (message.Hello m) is = let no_way : true ≡ false = is in cc
-plain_inc n i (message.Activated m) is = let no_way : true ≡ false = is in cc
+-- what a coordinator sends names no incarnation
+plain_inc : (n i : ℕ) (m : Message) → is_of_coord m ≡ true → SaysInc n i m
+plain_inc n i (message.Hello m) is = let no_way : false ≡ true = is in cc
+plain_inc n i (message.Activated m) is = let no_way : false ≡ true = is in cc
 plain_inc n i (message.Told m) is = tt
 plain_inc n i (message.Acked m) is = tt
 plain_inc n i (message.Query m) is = tt

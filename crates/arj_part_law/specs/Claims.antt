@@ -1,7 +1,7 @@
 -- What a coordinator says of its actions, for ever.
-use Rattle.std.specs.Prelude.{◌≡◌, ◌≤◌, ℕ, ◌⊎◌, Bool, List, true, false, Some, length, Contains, ⊤}
+use Rattle.std.specs.Prelude.{◌≡◌, ◌≤◌, ℕ, ◌⊎◌, Bool, List, true, Some, is_some, length, Contains, ⊤}
 use Rattle.std.specs.List.{AllByRecursion}
-use Rattle.arj_protocol.specs.Words.{Uid, Message}
+use Rattle.arj_protocol.specs.Words.{Uid, Message, asks}
 use Rattle.arj_protocol.specs.Words.message
 use Rattle.arj_protocol.specs.Coord.{Coord}
 use Rattle.arj_protocol.specs.Effect.{Effect, Say, Send, Do, Work, PutInc, PutIntent, Intent}
@@ -25,17 +25,16 @@ IsOfNode n i u = (u.node ≡ n) × (u.inc ≤ i)
 abbrev pub AreOfNode : ℕ → ℕ → List (Uid × Intent) → Type 0
 AreOfNode n i intents = AllByRecursion (λ (e : Uid × Intent). IsOfNode n i e.0) intents
 
--- the message names the incarnation of its sender
-abbrev pub names_inc : Message → Bool
-names_inc (message.Hello m) = true
-names_inc (message.Activated m) = true
-names_inc _ = false
+-- a request, or ends that are told: what a coordinator sends
+abbrev pub is_of_coord : Message → Bool
+is_of_coord (message.Told m) = true
+is_of_coord m = is_some (asks m)
 
--- What this coordinator may send: of each action that the message says committed, or that it says is voting, it is true
--- here; and it doesn't name an incarnation of its sender.
+-- What this coordinator may send: requests and ends; of each action that the message says committed, or that it says is
+-- voting, it is true here.
 pub record IsTrue (c : Coord) (m : Message) : Type 0 where
   pub claims : (u : Uid) → Seals m u → IsClaimed u c
-  pub plain : names_inc m ≡ false
+  pub plain : is_of_coord m ≡ true
 
 -- a record that is written is of an action of this node
 abbrev pub IsOwnRecord : ℕ → ℕ → Work → Type 0
