@@ -1,5 +1,6 @@
 pub mod Binding
 pub mod EndActs
+pub mod GrantSteps
 pub mod Locks
 pub mod NewConfirms
 pub mod Noting

@@ -1,4 +1,5 @@
 pub mod Booked
 pub mod Calls
+pub mod Grants
 pub mod Memory
 pub mod Restarts
