@@ -1,15 +1,20 @@
 -- Each handler keeps that an object is seen, for every kinds that agree with the actions begun; and copies agree.
 use Rattle.std.proofs.Common.{◌≡◌, ℕ, ◌+◌, List, [], ◌∷◌, true, false, Option, Some, None, refl, sym, ◌∙◌, ap, subst, inl, inr, ⊎_elim}
 use Rattle.std.specs.Prelude.{option_map}
+use Rattle.std.proofs.lemmas.Bool.{and_parts}
+use Rattle.arj_base.proofs.Uids.{uid_is}
 use Rattle.arj_lock.proofs.Members.{in_from, in_to}
-use Rattle.arj_protocol.specs.Words.{Uid, Ask, Asked, Body, Head, Header, Kind, Label, Line, ObjectState, Message, asks, entry, object, is_listed, is_on, uids_of}
+use Rattle.arj_protocol.specs.Words.{Uid, Ask, Asked, Body, Head, Header, Kind, Label, Line, ObjectState, Message, asks, entry, object, is_listed, is_on, uid_eq, uids_of}
 use Rattle.arj_protocol.specs.Words.ask
-use Rattle.arj_protocol.specs.Ask.{Reply, actor}
+use Rattle.arj_protocol.specs.Words.loaded
+use Rattle.arj_protocol.specs.Ask.{Reply, actor, answers}
 use Rattle.arj_protocol.specs.Asking.{again_all, begin_action, heard}
+use Rattle.arj_protocol.specs.Call.{Steps}
+use Rattle.arj_protocol.specs.Coord.{Calling, Doing, doing_of}
 use Rattle.arj_protocol.specs.Effect.{Disk, Effect, held_at, holder_of}
 use Rattle.arj_protocol.specs.Ending.{acked, answer_query}
 use Rattle.arj_protocol.specs.Follow.{tick_outs}
-use Rattle.arj_protocol.specs.Node.{Parts, Took, handle, with_coord}
+use Rattle.arj_protocol.specs.Node.{Parts, Took, answer_is_meant, asked_is_meant, handle, is_loaded_for, is_loaded_in, is_meant, reply_is_meant, with_coord}
 use Rattle.arj_protocol.specs.Step.{Node, Input, acts, begin_refusal, parent_of, parts_in, refusal_up, restart_outs}
 use Rattle.arj_protocol.specs.Tree.{next_uid, path_below}
 use Rattle.arj_protocol.specs.Values.{state_entry}
@@ -53,11 +58,13 @@ use Rattle.arj_disk_run_law.specs.Facts.{Gives}
 use Rattle.arj_disk_run_law.specs.Kinds.{Agrees, AreOfOneNode, kinds_of}
 use Rattle.arj_disk_run_law.specs.Places.{ArePlaced}
 use Rattle.arj_disk_run_law.specs.Records.{AreRecorded}
+use Rattle.arj_disk_run_law.specs.Sound.{AreSound, VotesFit}
 use Rattle.arj_disk_run_law.specs.Runs.{CopiesAgree, HasState, IsSeenInRun, RunsAgree}
 use Rattle.arj_disk_run_law.proofs.Begun.{kinds_agree}
 use Rattle.arj_disk_run_law.proofs.Known.{knows_node}
 use Rattle.arj_disk_run_law.proofs.Means.{All, coord_means}
 use Rattle.arj_disk_run_law.proofs.PlaceWalks.{ByTop, PlacedBy, begin_placed, both_here, format_placed, line_stays, message_placed, other_coord, placed_walk, prepared_begun, restart_placed, stop_placed, tick_means, up_here}
+use Rattle.arj_disk_run_law.proofs.SoundCoords.{sound_acts, sound_again, sound_begins, sound_heard}
 use Rattle.arj_disk_run_law.proofs.RecordWalks.{KeptBy, format_recorded, kept_walk, message_kept, recorded_more, restart_recorded, stop_recorded, tick_kept}
 use Rattle.arj_disk_run_law.proofs.Telling.{acked_kept, acts_kept, heard_kept, same_kept}
 
@@ -123,6 +130,17 @@ module _ (begun : List Action) (e k : ℕ) (d : Disk) (t : Parts) (M : Seen) (go
   heard_means : (from : ℕ) (a : Asked) (r : Reply) → All begun (let q = heard from a r d.intents t.coord in q.outs)
   heard_means from a r = let q = heard from a r d.intents t.coord in coord_means begun q.part q.outs (well_heard begun (paths_of begun) tree from a r d.intents t.coord coord).1 (heard_own from a r d.intents t.coord)
 
+  -- an answer that can be meant is taken
+  heard_placed : (from : ℕ) (m : Message) → In (record { from = from; to = k; message = m }) M.sent → is_meant t m ≡ true → VotesFit k t M → AreSound t.coord → (a : Asked) (r : Reply) → answers m ≡ Some (a, r) → All begun (let q = heard from a r d.intents t.coord in q.outs) × AreSound (let q = heard from a r d.intents t.coord in q.part)
+  heard_placed from m sent meant votes sound a r is = (
+    heard_means from a r,
+    sound_heard from a r d.intents t.coord (λ st s q same at now. uid_is st.uid (object s.x) (sym (loads st s q same at now) ∙ (and_parts (asked_is_meant t.server (asks m)) (answer_is_meant t.coord (answers m)) meant).1))
+        (λ states q p left same at now req on. votes from m a states sent (is ∙ ap (λ z. Some (a, z)) same) q p left at now req on) sound,
+  )
+    where
+      loads : (st : ObjectState) (s : Steps) (q : Doing) → r ≡ Reply.Loaded (loaded.State st) → doing_of a.act t.coord ≡ Some q → q.now ≡ Calling s → answer_is_meant t.coord (answers m) ≡ uid_eq st.uid (object s.x)
+      loads st s q same at now = ap (answer_is_meant t.coord) is ∙ ap (reply_is_meant t.coord a) same ∙ ap (is_loaded_for st) at ∙ ap (is_loaded_in st) now
+
   acked_means : (from : ℕ) (u : Uid) → All begun (let q = acked from u d.intents t.coord in q.outs)
   acked_means from u = let q = acked from u d.intents t.coord in coord_means begun q.part q.outs (well_acked begun (paths_of begun) tree from u d.intents t.coord).1 (acked_own from u d.intents t.coord)
 
@@ -139,19 +157,19 @@ module _ (hd : Header) (x : ℕ) (has_it : HasObject hd x) (R : Seen → Type 0)
   abbrev P : Seen → Type 0
   P = IsSeenInRun R x
 
-  message_keeps : (e k : ℕ) (d : Disk) (t v : Parts) (from : ℕ) (m : Message) (outs : List Effect) (M : Seen) → P (up k d t M) → In (record { from = from; to = k; message = m }) M.sent → handle k d t from m ≡ Took v outs → Walks P e k outs (Up P k v) d M
-  message_keeps e k d t v from m outs M (begun, h) sent is = all_walk R x begun h.1 e k outs v d M (message_good e k d t M (begun, h.0) v from m outs sent is)
+  message_keeps : (e k : ℕ) (d : Disk) (t v : Parts) (from : ℕ) (m : Message) (outs : List Effect) (M : Seen) → P (up k d t M) → In (record { from = from; to = k; message = m }) M.sent → is_meant t m ≡ true → handle k d t from m ≡ Took v outs → Walks P e k outs (Up P k v) d M
+  message_keeps e k d t v from m outs M (begun, h) sent meant is = all_walk R x begun h.1 e k outs v d M (message_good e k d t M (begun, h.0) v from m outs sent is)
       (kept_walk begun e k d t v outs M (subst (KeptBy begun t.coord) is (message_kept begun k d t from (λ a r. heard_kept begun (paths_of begun) (begun_tree begun h.0.begun) from a r d.intents t.coord (good_coord e k d t M (begun, h.0))) (λ u. acked_kept begun from u d.intents t.coord) m)) h.2)
-      (let p = subst (PlacedBy begun k) is (message_placed begun h.0.begun k d t from (both_here begun h.0.begun k d t M h.3) (up_here begun h.0.begun k d t M h.3) (heard_means begun e k d t M h.0 from) (acked_means begun e k d t M h.0 from) (query_means begun e k d t M h.0 from) m (h.0.fits (record { from = from; to = k; message = m }) sent)
-      (by_top x begun k m (asks m) (let s = h.5 (kinds_of begun) (kinds_agree begun h.0.begun h.1) in (kinds_of begun, s.0, M.lines, from, s.1.posts (record { from = from; to = k; message = m }) sent)))) in placed_walk begun e k d t v outs M p.0 p.1 h.3) (kept.message e k d t v from m outs M h.4 sent is)
-      (λ tops agree. let s = h.5 tops agree in messages_are_walked x tops e k d t v from m outs M (knows_node tops begun k d t M h.0 agree h.2 h.3 (gives.node tops begun k d t M h.4 h.0 agree)) sent s.0 s.1 (gives.booked x tops k d t M from m s.0 h.4 sent s.1) is)
+      (let p = subst (PlacedBy begun k) is (message_placed begun h.0.begun k d t from (both_here begun h.0.begun k d t M h.3) (up_here begun h.0.begun k d t M h.3) m (heard_placed begun e k d t M h.0 from m sent meant (gives.votes begun k d t M h.4 h.0) (let u = up_here begun h.0.begun k d t M h.3 in u.coord)) (acked_means begun e k d t M h.0 from) (query_means begun e k d t M h.0 from) (h.0.fits (record { from = from; to = k; message = m }) sent)
+      (by_top x begun k m (asks m) (let s = h.5 (kinds_of begun) (kinds_agree begun h.0.begun h.1) in (kinds_of begun, s.0, M.lines, from, s.1.posts (record { from = from; to = k; message = m }) sent)))) in placed_walk begun e k d t v outs M p.0 p.1 h.3) (kept.message e k d t v from m outs M h.4 sent meant is)
+      (λ tops agree. let s = h.5 tops agree in messages_are_walked x tops e k d t v from m outs M (knows_node tops begun k d t M h.0 agree h.2 h.3) sent s.0 s.1 (gives.booked x tops k d t M from m s.0 h.4 sent s.1) is)
 
   act_keeps : (e k : ℕ) (d : Disk) (t : Parts) (i : Input) (M : Seen) → is_act i ≡ true → refusal_up hd i t.coord ≡ None → P (up k d t M) → DidKeeps P e k d t (acts i d.intents t.coord) M
   act_keeps e k d t i M is free (begun, h) = let did = acts i d.intents t.coord in
       all_walk R x begun h.1 e k did.outs (with_coord t did.part) d M (act_good e k d t M (begun, h.0) hd i is free)
       (kept_walk begun e k d t (with_coord t did.part) did.outs M (acts_kept begun (paths_of begun) (begun_tree begun h.0.begun) d.intents t.coord (good_coord e k d t M (begun, h.0)) hd i free) h.2)
-      (placed_walk begun e k d t (with_coord t did.part) did.outs M (acts_mean begun e k d t M h.0 hd i is free) (other_coord begun k t did.part (up_here begun h.0.begun k d t M h.3)) h.3) (kept.act e k d t i M is free h.4)
-      (λ tops agree. let s = h.5 tops agree in let n = knows_node tops begun k d t M h.0 agree h.2 h.3 (gives.node tops begun k d t M h.4 h.0 agree) in acts_are_walked hd x tops e k d t i M n.kinds n.coord is free s.0 s.1)
+      (placed_walk begun e k d t (with_coord t did.part) did.outs M (acts_mean begun e k d t M h.0 hd i is free) (let u = up_here begun h.0.begun k d t M h.3 in other_coord begun k t did.part (sound_acts i d.intents t.coord u.coord) u) h.3) (kept.act e k d t i M is free h.4)
+      (λ tops agree. let s = h.5 tops agree in let n = knows_node tops begun k d t M h.0 agree h.2 h.3 in acts_are_walked hd x tops e k d t i M n.kinds n.coord is free s.0 s.1)
 
   begin_keeps : (e k : ℕ) (d : Disk) (t : Parts) (l : Label) (how : Kind) (parent : Option Label) (M : Seen) → label_at l M.labels ≡ None → MayGive M.labels k how parent → begin_refusal how t.coord parent ≡ None
       → P (up k d t M) → DidKeeps P e k d t (begin_action l how parent (parent_of parent t.coord) t.coord) (given l (record { node = k; serial = is_serial_kind how }) M)
@@ -159,8 +177,8 @@ module _ (hd : Header) (x : ℕ) (has_it : HasObject hd x) (R : Seen → Type 0)
       let did = begin_action l how parent (parent_of parent t.coord) t.coord in
       all_walk R x (a ∷ begun) home e k did.outs (with_coord t did.part) d (given l (record { node = k; serial = is_serial_kind how }) M) (begin_good e k d t l how parent M new may free (begun, h.0))
       (kept_walk (a ∷ begun) e k d t (with_coord t did.part) did.outs (given l (record { node = k; serial = is_serial_kind how }) M) (same_kept (a ∷ begun) t.coord did.part did.outs refl refl) (recorded_more a begun (up k d t M) h.2))
-      (begin_placed a begun e k d t did.part l how parent (next_uid t.coord.tree) (given l (record { node = k; serial = is_serial_kind how }) M) uid (placed_given h.3)) (kept.begin e k d t l how parent M new may free h.4)
-      (λ tops agree. let less = agree_less a begun tops agree in let s = h.5 tops less in let n = knows_node tops begun k d t M h.0 less h.2 h.3 (gives.node tops begun k d t M h.4 h.0 less) in
+      (begin_placed a begun e k d t did.part l how parent (next_uid t.coord.tree) (given l (record { node = k; serial = is_serial_kind how }) M) uid (let u = up_here begun h.0.begun k d t M h.3 in sound_begins l how parent (parent_of parent t.coord) t.coord u.coord) (placed_given h.3)) (kept.begin e k d t l how parent M new may free h.4)
+      (λ tops agree. let less = agree_less a begun tops agree in let s = h.5 tops less in let n = knows_node tops begun k d t M h.0 less h.2 h.3 in
       actions_begin x tops e k d t l (record { node = k; serial = is_serial_kind how }) how parent (parent_of parent t.coord) M n.coord
       (subst (λ u. IsOfKind tops u how (path_below how (parent_of parent t.coord) (next_uid t.coord.tree))) uid (agree.each a (in_to a (a ∷ begun) (inl refl))).0) s.0 s.1)
     where
@@ -182,8 +200,8 @@ module _ (hd : Header) (x : ℕ) (has_it : HasObject hd x) (R : Seen → Type 0)
   tick_keeps : (e k : ℕ) (d : Disk) (t : Parts) (M : Seen) → P (up k d t M) → Walks P e k (tick_outs (record { number = k; disk = d; live = Some t }) t) (Up P k (with_coord t (again_all t.coord.doings t.coord).part)) d M
   tick_keeps e k d t M (begun, h) = all_walk R x begun h.1 e k (tick_outs (record { number = k; disk = d; live = Some t }) t) (with_coord t (again_all t.coord.doings t.coord).part) d M (tick_good e k d t M (begun, h.0))
       (kept_walk begun e k d t (with_coord t (again_all t.coord.doings t.coord).part) (tick_outs (record { number = k; disk = d; live = Some t }) t) M (tick_kept begun k d t) h.2)
-      (placed_walk begun e k d t (with_coord t (again_all t.coord.doings t.coord).part) (tick_outs (record { number = k; disk = d; live = Some t }) t) M (tick_means begun k d t h.0.begun (both_here begun h.0.begun k d t M h.3) (up_here begun h.0.begun k d t M h.3) (all_again begun e k d t M h.0)) (other_coord begun k t (again_all t.coord.doings t.coord).part (up_here begun h.0.begun k d t M h.3)) h.3) (kept.tick e k d t M h.4)
-      (λ tops agree. let s = h.5 tops agree in let n = knows_node tops begun k d t M h.0 agree h.2 h.3 (gives.node tops begun k d t M h.4 h.0 agree) in ticks_are_walked x tops e k d t M n.coord n.begun s.0 s.1)
+      (placed_walk begun e k d t (with_coord t (again_all t.coord.doings t.coord).part) (tick_outs (record { number = k; disk = d; live = Some t }) t) M (tick_means begun k d t h.0.begun (both_here begun h.0.begun k d t M h.3) (up_here begun h.0.begun k d t M h.3) (all_again begun e k d t M h.0)) (let u = up_here begun h.0.begun k d t M h.3 in other_coord begun k t (again_all t.coord.doings t.coord).part (sound_again t.coord.doings t.coord u.coord) u) h.3) (kept.tick e k d t M h.4)
+      (λ tops agree. let s = h.5 tops agree in let n = knows_node tops begun k d t M h.0 agree h.2 h.3 in ticks_are_walked x tops e k d t M n.coord n.begun s.0 s.1)
 
   pub all_keep : Keeps hd P
   all_keep = record {

@@ -34,10 +34,12 @@ use Rattle.arj_disk_view_law.specs.Knows.{IsOfKind, IsOpenSerial, KnowsCoord, Kn
 use Rattle.arj_disk_view_law.specs.Sees.{Kinds, IsFuture}
 use Rattle.arj_disk_view_law.proofs.Frames.{node_here}
 use Rattle.arj_disk_view_law.proofs.Keys as keys
-use Rattle.arj_disk_run_law.specs.Facts.{HasRest}
 use Rattle.arj_disk_run_law.specs.Kinds.{Agrees, is_top_kind}
 use Rattle.arj_disk_run_law.specs.Places.{AreEntryRows, AreNamesRows, ArePlaced, IsBegun, IsEntryRow, IsPlacedUp}
 use Rattle.arj_disk_run_law.specs.Records.{AreRecorded, HaveRecords, IsRecorded}
+use Rattle.arj_disk_run_law.specs.Sound.{AreSound, IsSound, IsSoundNow, unvoted}
+use Rattle.arj_disk_run_law.proofs.SoundCoords.{root_own}
+use Rattle.arj_disk_run_law.proofs.SoundPlans.{one_change, plan_tidy}
 use Rattle.arj_disk_run_law.proofs.Holders.{constituent as with_serial}
 use Rattle.arj_disk_run_law.proofs.PlaceWalks.{holders_begun, up_here}
 use Rattle.arj_disk_run_law.proofs.Begun.{Stood, root_on, stood}
@@ -70,12 +72,18 @@ unended : (o : Option End) → is_some o ≡ false → o ≡ None
 unended None h = refl
 unended (Some how) h = absurd (cc h)
 
-module _ (tops : Kinds) (acts : List Action) (k : ℕ) (d : Disk) (t : Parts) (M : Seen) (good : IsGoodOf acts (up k d t M)) (agree : Agrees tops acts) (recs : AreRecorded acts (up k d t M)) (placed : ArePlaced acts (up k d t M)) (rest : HasRest tops t) where
+module _ (tops : Kinds) (acts : List Action) (k : ℕ) (d : Disk) (t : Parts) (M : Seen) (good : IsGoodOf acts (up k d t M)) (agree : Agrees tops acts) (recs : AreRecorded acts (up k d t M)) (placed : ArePlaced acts (up k d t M)) where
   mine : IsUp acts M.sent M.labels k d.inc t
   mine = it 0 k d t M (acts, good)
 
   coord : IsGoodCoord acts (paths_of acts) t.coord
   coord = good_coord 0 k d t M (acts, good)
+
+  placed_up : IsPlacedUp acts k t
+  placed_up = up_here acts good.begun k d t M placed
+
+  sound : AreSound t.coord
+  sound = placed_up.coord
 
   path : (u : Uid) (b : Branch) → branch_of u t.coord.tree ≡ Some b → actor b.path ≡ u
   path u b is = coord.tree.lists.places u b is
@@ -204,14 +212,14 @@ module _ (tops : Kinds) (acts : List Action) (k : ℕ) (d : Disk) (t : Parts) (M
   machines u q m does is =
       let v : IsVoting t.coord.tree u (commit.plan_of m) = subst (λ n. IsBusy t.coord.tree u n) is (coord.busy u q does) in
       let a = v.asking in
-      let s = rest.sound u q m does is in
+      let s : IsSound m = subst IsSoundNow is (sound.works u q does) in
       let top = top_kind a.branch.kind (v.top a.branch a.found) a.unserial in
       record {
         branch = a.branch;
         found = a.found;
         unended = unended a.branch.ended a.opened;
         top = is_top u a.branch.kind a.branch.path top (of_kind u a.branch a.found);
-        changes = s.changes;
+        changes = one_change (commit.plan_of m) (unvoted m) s.changed;
         plan = record { actor_is = ap actor (sym a.path) ∙ path u a.branch a.found; top_is = ap top_of (sym a.path) ∙ top_path_is u a.branch a.found top; tidy = s.tidy };
         way = s.way;
         used = s.used;
@@ -220,7 +228,7 @@ module _ (tops : Kinds) (acts : List Action) (k : ℕ) (d : Disk) (t : Parts) (M
       }
 
   starts : (u : Uid) (b : Branch) (req : ℕ) → branch_of u t.coord.tree ≡ Some b → tops.is_top (uid_number u) ≡ true → KnowsPlan u (plan_for b.path req (root_at (root_of b.path) t.coord) t.coord)
-  starts u b req is top = record { actor_is = path u b is; top_is = top_path_is u b is (kind_of_top u b.kind b.path top (of_kind u b is)); tidy = rest.starts u b req is top }
+  starts u b req is top = record { actor_is = path u b is; top_is = top_path_is u b is (kind_of_top u b.kind b.path top (of_kind u b is)); tidy = plan_tidy b.path req (root_at (root_of b.path) t.coord) t.coord (root_own (root_of b.path) t.coord sound) }
 
   steps : (u : Uid) (q : Doing) (s : Steps) → doing_of u t.coord ≡ Some q → q.now ≡ Calling s → KnowsSteps t.coord u s
   steps u q s does is =
@@ -281,9 +289,6 @@ module _ (tops : Kinds) (acts : List Action) (k : ℕ) (d : Disk) (t : Parts) (M
       past (inr its) (inr f) = omega (arith, its.0, f, mine.inc)
 
   -- ---- who loses its rows by the end of another action
-
-  placed_up : IsPlacedUp acts k t
-  placed_up = up_here acts good.begun k d t M placed
 
   on_one : (w u : Uid) → is_on (w ∷ []) u ≡ true → w ≡ u
   on_one w u on = ⊎_elim (λ same. uid_is w u same) (λ none. absurd (cc none)) (or_cases (uid_eq w u) false on)

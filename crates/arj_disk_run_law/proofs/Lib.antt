@@ -9,4 +9,6 @@ pub mod Plain
 pub mod PlaceWalks
 pub mod RecordWalks
 pub mod RowWalks
+pub mod SoundCoords
+pub mod SoundPlans
 pub mod Telling

@@ -41,10 +41,12 @@ use Rattle.arj_disk_view_law.proofs.FirstSeen.{first_at}
 use Rattle.arj_disk_view_law.proofs.Frames.{node_here}
 use Rattle.arj_disk_view_law.proofs.ServedWalks.{bind_says, note_says}
 use Rattle.arj_disk_run_law.specs.Places.{AreBegunIn, AreCallRows, AreEntryRows, AreNamesRows, ArePlaced, AsksBegun, IsAboutBegun, IsBegun, IsCallRow, IsEntryRow, IsPlaced, IsPlacedUp, IsTopPath, MeansBegun, asked_about}
+use Rattle.arj_disk_run_law.specs.Sound.{AreSound}
 use Rattle.arj_disk_run_law.proofs.EntryRows.{rows_bind, rows_confirm, rows_hello, rows_note, rows_recovered, rows_told}
 use Rattle.arj_disk_run_law.proofs.Holders.{begun_more, call_more, call_top, entry_top, path_more, top_path_is}
 use Rattle.arj_disk_run_law.proofs.Lists.{all_append, all_each, all_filter, all_keys, all_put, all_set, all_tops, all_without}
 use Rattle.arj_disk_run_law.proofs.Means.{All, again_means, back_means, both, confirm_means, hellos_mean, queries_mean, recovered_means, response_means, says_mean, server_means, told_means}
+use Rattle.arj_disk_run_law.proofs.SoundCoords.{sound_acked, sound_new}
 use Rattle.arj_disk_run_law.proofs.RowWalks.{rows_activate, rows_invoke, rows_told as rows_ended, rows_vote}
 
 -- ---- more lines
@@ -145,8 +147,8 @@ module _ (acts : List Action) where
   placed_walk e k d t v outs M all up placed = let m = mine_of k d (Some t) M placed in places_walk e k v up outs d M (others_of k d (Some t) M placed) placed.asks placed.lines (m.store, m.names) all
 
   -- with another coordinator
-  pub other_coord : (k : ℕ) (t : Parts) (c : Coord) → IsPlacedUp acts k t → IsPlacedUp acts k (with_coord t c)
-  other_coord k t c p = record { naming = p.naming; calls = p.calls; entries = p.entries }
+  pub other_coord : (k : ℕ) (t : Parts) (c : Coord) → AreSound c → IsPlacedUp acts k t → IsPlacedUp acts k (with_coord t c)
+  other_coord k t c sound p = record { naming = p.naming; calls = p.calls; entries = p.entries; coord = sound }
 
   -- ---- who holds something was begun
 
@@ -194,10 +196,10 @@ module _ (acts : List Action) where
 
     -- with another server, and with naming's locks
     served_so : (s : Server) → AreCallRows acts s.objects → IsPlacedUp acts k (with_server t s)
-    served_so s calls = record { naming = placed.naming; calls = calls; entries = placed.entries }
+    served_so s calls = record { naming = placed.naming; calls = calls; entries = placed.entries; coord = placed.coord }
 
     named_so : (m n : Naming) → t.naming ≡ Some m → AreEntryRows acts n.objects → IsPlacedUp acts k (with_naming t n)
-    named_so m n is entries = record { naming = sym (ap (λ (o : Option Naming). is_some o) is) ∙ placed.naming; calls = placed.calls; entries = entries }
+    named_so m n is entries = record { naming = sym (ap (λ (o : Option Naming). is_some o) is) ∙ placed.naming; calls = placed.calls; entries = entries; coord = placed.coord }
 
     its_rows : (m : Naming) → t.naming ≡ Some m → AreEntryRows acts m.objects
     its_rows m is = subst (AreNamesRows acts) is placed.entries
@@ -242,12 +244,12 @@ module _ (acts : List Action) where
         by (ask.Confirm grants excluded included) top = with_it (λ o. served from h (with_naming t) Reply.Confirmed (confirm h.path grants excluded included d.names o)) t.naming refl
             (λ m is. let r = confirm h.path grants excluded included d.names m in answered h (with_naming t r.part) r.outs (option_map Reply.Confirmed r.reply) (confirm_means acts h.path grants excluded included d.names m (subst (IsBegun acts) top act)) (named_so m r.part is (rows_confirm acts begun h.path path grants excluded included d.names m (its_rows m is))))
 
-    coord_left : (r : Served Coord (Unit {0})) → All acts r.outs → By (coord_heard t r)
-    coord_left r all = by r.reply
+    coord_left : (r : Served Coord (Unit {0})) → All acts r.outs → AreSound r.part → By (coord_heard t r)
+    coord_left r all sound = by r.reply
       where
         by : (o : Option (Unit {0})) → By (by_reply (with_coord t r.part) r.outs o)
         by None = tt
-        by (Some u) = (all, other_coord k t r.part placed)
+        by (Some u) = (all, other_coord k t r.part sound placed)
 
     ends_left : (ack : Bool) (ends : List (Uid × End)) (o : Option (Uid × End)) → By (handle_ends k d t from ack ends o)
     ends_left ack ends None = (tt, placed)
@@ -255,7 +257,7 @@ module _ (acts : List Action) where
         let s = server.told k ends t.server in
         let o = naming_told e.0 e.1 d.names t.naming in (
           both acts (store_told k e.0 e.1 d.store ++ o.outs ++ s.outs) (ack_told from e.0 ack) (both acts (store_told k e.0 e.1 d.store ++ o.outs) s.outs (both acts (store_told k e.0 e.1 d.store) o.outs (stored (is_prepared e.0 d.store) e.1) (names t.naming)) (server_means acts k s.outs (ends_own k ends t.server))) (acked_told ack),
-          record { naming = named t.naming ∙ placed.naming; calls = rows_ended acts begun k ends t.server placed.calls; entries = rows t.naming placed.entries },
+          record { naming = named t.naming ∙ placed.naming; calls = rows_ended acts begun k ends t.server placed.calls; entries = rows t.naming placed.entries; coord = placed.coord },
         )
       where
         stored : (b : Bool) (how : End) → All acts (if b then end_states k e.0 how else [])
@@ -283,13 +285,14 @@ module _ (acts : List Action) where
     hello_so node inc None is its = (is, tt)
     hello_so node inc (Some m) is its = (is, rows_hello acts begun node inc m its)
 
-    -- what the coordinator says is about actions that were begun
-    module _ (hears : (a : Asked) (r : Reply) → All acts (let q = heard from a r d.intents t.coord in q.outs)) (acks : (u : Uid) → All acts (let q = acked from u d.intents t.coord in q.outs)) (answers_it : (u : Uid) → All acts (answer_query from u d.intents t.coord)) where
+    -- what the coordinator hears leaves it sound, and what it says is about actions that were begun
+    module _ (m : Message) (hears : (a : Asked) (r : Reply) → answers m ≡ Some (a, r) → All acts (let q = heard from a r d.intents t.coord in q.outs) × AreSound (let q = heard from a r d.intents t.coord in q.part))
+        (acks : (u : Uid) → All acts (let q = acked from u d.intents t.coord in q.outs)) (answers_it : (u : Uid) → All acts (answer_query from u d.intents t.coord)) where
       other : (m : Message) → By (handle_other k d t from m)
       other (message.Told m) = ends_left m.ack m.ends (last_end m.ends)
-      other (message.Acked m) = coord_left (acked from m.act d.intents t.coord) (acks m.act)
+      other (message.Acked m) = coord_left (acked from m.act d.intents t.coord) (acks m.act) (sound_acked from m.act d.intents t.coord placed.coord)
       other (message.Query m) = (answers_it m.act, placed)
-      other (message.Hello m) = let h = hello_so m.node m.inc t.naming placed.naming placed.entries in (queries_mean acts (filter (is_earlier m.node m.inc) (holders d t)) (all_filter (IsBegun acts) (is_earlier m.node m.inc) (holders d t) (holders_in k d t begun mine placed)), record { naming = h.0; calls = placed.calls; entries = h.1 })
+      other (message.Hello m) = let h = hello_so m.node m.inc t.naming placed.naming placed.entries in (queries_mean acts (filter (is_earlier m.node m.inc) (holders d t)) (all_filter (IsBegun acts) (is_earlier m.node m.inc) (holders d t) (holders_in k d t begun mine placed)), record { naming = h.0; calls = placed.calls; entries = h.1; coord = placed.coord })
       other (message.Bind m) = tt
       other (message.Bound m) = tt
       other (message.Load m) = tt
@@ -307,15 +310,15 @@ module _ (acts : List Action) where
       other (message.Confirm m) = tt
       other (message.Confirmed m) = tt
 
-      pub message_placed : (m : Message) → FitsMessage acts m → ByTop (asks m) → By (handle k d t from m)
-      message_placed m fits top = by (asks m) fits top
+      pub message_placed : FitsMessage acts m → ByTop (asks m) → By (handle k d t from m)
+      message_placed fits top = by (asks m) fits top
         where
-          answer : (o : Option (Asked × Reply)) → By (handle_answer k d t from m o)
-          answer None = other m
-          answer (Some a) = coord_left (heard from a.0 a.1 d.intents t.coord) (hears a.0 a.1)
+          answer : (o : Option (Asked × Reply)) → answers m ≡ o → By (handle_answer k d t from m o)
+          answer None is = other m
+          answer (Some a) is = let h = hears a.0 a.1 is in coord_left (heard from a.0 a.1 d.intents t.coord) h.0 h.1
 
           by : (o : Option (Head × Ask)) → FitsAsked acts m o → ByTop o → By (handle_ask k d t from m o)
-          by None f top = answer (answers m)
+          by None f top = answer (answers m) refl
           by (Some a) f top = asked a.0 a.1 (asker a.0 a.1 f) top
 
   -- ---- ticks and restarts
@@ -325,7 +328,7 @@ module _ (acts : List Action) where
       both acts (r.outs ++ tolds_again t.coord.telling) (map query_about (holders d t)) (both acts r.outs (tolds_again t.coord.telling) again (again_means acts t.coord.telling)) (queries_mean acts (holders d t) (holders_in k d t begun b placed))
 
   starts_placed : (k inc : ℕ) (d : Disk) → AreBegun acts → Both d → IsPlacedUp acts k (parts_in k inc d)
-  starts_placed k inc d begun b = record { naming = (by (k == 1)).0; calls = tt; entries = (by (k == 1)).1 }
+  starts_placed k inc d begun b = record { naming = (by (k == 1)).0; calls = tt; entries = (by (k == 1)).1; coord = sound_new k inc d.intents }
     where
       by : (c : Bool) → (is_some (if c then Some (recovered_naming inc d.names) else None) ≡ c) × AreNamesRows acts (if c then Some (recovered_naming inc d.names) else None)
       by true = (refl, rows_recovered acts begun inc d.names b.1)
@@ -386,17 +389,18 @@ up_more a acts k t p = record {
   naming = p.naming;
   calls = all_each (λ (e : ℕ × Copy). (r : Row) → Contains (let c = e.1 in c.rows) r → IsCallRow acts r) (λ (e : ℕ × Copy). (r : Row) → Contains (let c = e.1 in c.rows) r → IsCallRow (a ∷ acts) r) (let s = t.server in s.objects) (λ e each r c. call_more a acts r (each r c)) p.calls;
   entries = rows_more a acts t.naming p.entries;
+  coord = p.coord;
 }
 
 about_more : (a : Action) (acts : List Action) (to : ℕ) (o : Option Uid) → IsAboutBegun acts to o → IsAboutBegun (a ∷ acts) to o
 about_more a acts to None its = tt
 about_more a acts to (Some u) its = (its.0, begun_more a acts u its.1)
 
-pub begin_placed : (a : Action) (acts : List Action) (e k : ℕ) (d : Disk) (t : Parts) (c : Coord) (l : Label) (how : Kind) (parent : Option Label) (u : Uid) (M : Seen) → act_of a ≡ u → ArePlaced acts (up k d t M)
+pub begin_placed : (a : Action) (acts : List Action) (e k : ℕ) (d : Disk) (t : Parts) (c : Coord) (l : Label) (how : Kind) (parent : Option Label) (u : Uid) (M : Seen) → act_of a ≡ u → AreSound c → ArePlaced acts (up k d t M)
     → Walks (ArePlaced (a ∷ acts)) e k (Say (began_line l how u parent) ∷ []) (Up (ArePlaced (a ∷ acts)) k (with_coord t c)) d M
-begin_placed a acts e k d t c l how parent u M same all = record {
+begin_placed a acts e k d t c l how parent u M same sound all = record {
   nodes = all_nodes (a ∷ acts) k d (Some (with_coord t c)) M (λ j n off is. more j n (others_of acts k d (Some t) M all j n off is)) (let m = more k (record { number = k; disk = d; live = Some t }) (mine_of acts k d (Some t) M all) in
-      record { store = m.store; names = m.names; live = λ v is. let it : with_coord t c ≡ v = some_is refl is in subst (IsPlacedUp (a ∷ acts) k) it (let p = m.live t refl in record { naming = p.naming; calls = p.calls; entries = p.entries }) });
+      record { store = m.store; names = m.names; live = λ v is. let it : with_coord t c ≡ v = some_is refl is in subst (IsPlacedUp (a ∷ acts) k) it (other_coord (a ∷ acts) k t c sound (m.live t refl)) });
   asks = λ p i. about_more a acts p.to (asked_about p.message) (all.asks p i);
   lines = λ b i. ⊎_elim (λ new. new_line b new) (λ old. lines_more acts M (numbered e (began_line l how u parent ∷ [])) all.lines b (in_to b acts old)) (in_from b (a ∷ acts) i);
 }

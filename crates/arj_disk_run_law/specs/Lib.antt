@@ -3,3 +3,4 @@ pub mod Kinds
 pub mod Places
 pub mod Records
 pub mod Runs
+pub mod Sound

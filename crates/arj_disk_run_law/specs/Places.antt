@@ -1,4 +1,4 @@
--- Who has something prepared or locked was begun, and so was who is asked about; and where naming is.
+-- Who has something prepared or locked was begun, and so was who is asked about; where naming is; and that coordinators are sound.
 use Rattle.std.specs.Prelude.{⊤, ◌≡◌, ◌⊎◌, ℕ, true, ◌==◌, List, [], ◌∷◌, Option, Some, None, is_some, Contains}
 use Rattle.std.specs.List.{AllByRecursion}
 use Rattle.arj_protocol.specs.Words.{Uid, Message, ObjectState, Row, tops_of, uids_of}
@@ -14,6 +14,7 @@ use Rattle.arj_part_law.specs.Actions.{Action, act_of}
 use Rattle.arj_view_law.specs.Seen as seen
 use Rattle.arj_view_law.specs.Seen.{Post, Seen}
 use Rattle.arj_disk_view_law.specs.Sees.{was_begun}
+use Rattle.arj_disk_run_law.specs.Sound.{AreSound}
 
 -- the action was begun
 abbrev pub IsBegun : List Action → Uid → Type 0
@@ -53,11 +54,12 @@ AreNamesRows acts (Some n) = AreEntryRows acts n.objects
 
 -- ---- nodes
 
--- a node that is up: it has naming exactly if it is node 1, and its locks are of actions that were begun
+-- a node that is up: it has naming exactly if it is node 1, its locks are of actions that were begun, and its coordinator is sound
 pub record IsPlacedUp (acts : List Action) (k : ℕ) (t : Parts) : Type 0 where
   pub naming : HasNaming k t
   pub calls : AreCallRows acts (let s = t.server in s.objects)
   pub entries : AreNamesRows acts t.naming
+  pub coord : AreSound t.coord
 
 -- Who has something prepared on the node's disk was begun; and so is its memory while it is up.
 pub record IsPlaced (acts : List Action) (k : ℕ) (n : Node) : Type 0 where

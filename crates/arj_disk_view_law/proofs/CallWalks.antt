@@ -3,7 +3,7 @@ use Rattle.std.proofs.Common.{◌≡◌, ◌≢◌, ◌⊎◌, ◌<◌, ℕ, ◌
 use Rattle.std.specs.Prelude.{⊤, if◌then◌else◌}
 use Rattle.std.specs.List.{AllByRecursion, list_any}
 use Rattle.arj_base.proofs.Uids.{uid_cases}
-use Rattle.arj_protocol.specs.Words.{Uid, End, Kind, Path, uids_of}
+use Rattle.arj_protocol.specs.Words.{Uid, End, Kind, Path, uids_of, ObjectState}
 use Rattle.arj_protocol.specs.Words.kind
 use Rattle.arj_protocol.specs.Words.loaded
 use Rattle.arj_protocol.specs.Words.bound
@@ -176,12 +176,12 @@ join_known x W j (i ∷ js) new old = by (same_join j i) (join_known x W j js ne
     by true ih = (later_known x W i.loaded j.loaded old.0 new, old.1)
     by false ih = (old.0, ih)
 
--- what an end brings is known
-abbrev EndKnown : ℕ → World → CallEnd → Type 0
-EndKnown x W (Included st) = IsKnown x W st
-EndKnown x W _ = ⊤
+-- what an end brings, if it is the end of an include
+abbrev pub EndIs : (ObjectState → Type 0) → CallEnd → Type 0
+EndIs Q (Included st) = Q st
+EndIs Q _ = ⊤
 
-heard_known : (x : ℕ) (W : World) (s : Steps) (end : CallEnd) → EndKnown x W end → (r : Root) → KnowsRoot x W r → KnowsRoot x W (root_heard s end r)
+heard_known : (x : ℕ) (W : World) (s : Steps) (end : CallEnd) → EndIs (IsKnown x W) end → (r : Root) → KnowsRoot x W r → KnowsRoot x W (root_heard s end r)
 heard_known x W s (Included st) known r k = record { joined = join_known x W (record { path = uids_of s.path; x = s.x; store = store_of s.goal; loaded = st }) r.joined known k.joined; states = k.states }
 heard_known x W s (Answered a) known r k = by (list_any (same_said (record { path = uids_of s.path; x = s.x })) r.said)
   where
@@ -201,99 +201,110 @@ granted_known x W (Some g) r k = record { joined = k.joined; states = k.states }
 
 -- ---- the steps of a call
 
-abbrev StepKnown : ℕ → World → CallStep → Type 0
-StepKnown x W (On at) = ⊤
-StepKnown x W (Ended end) = EndKnown x W end
+abbrev pub StepIs : (ObjectState → Type 0) → CallStep → Type 0
+StepIs Q (On at) = ⊤
+StepIs Q (Ended end) = EndIs Q end
 
-abbrev MovedKnown : ℕ → World → Moved → Type 0
-MovedKnown x W m = StepKnown x W m.step
+module _ (Q : ObjectState → Type 0) where
+  abbrev MovedIs : Moved → Type 0
+  MovedIs m = StepIs Q m.step
 
-inc_known : (x : ℕ) (W : World) (i : ℕ) (kept : Known) (at : At) (o : Option ℕ) → MovedKnown x W (calls.with_inc i kept at o)
-inc_known x W i kept at None = tt
-inc_known x W i kept at (Some first) = by (first == i)
-  where
-    by : (c : Bool) → MovedKnown x W (if c then calls.moves (Some kept) at else calls.finds (Some kept) (Changed kept.server (calls.two_incs first i)))
-    by true = tt
-    by false = tt
+  inc_is : (i : ℕ) (kept : Known) (at : At) (o : Option ℕ) → MovedIs (calls.with_inc i kept at o)
+  inc_is i kept at None = tt
+  inc_is i kept at (Some first) = by (first == i)
+    where
+      by : (c : Bool) → MovedIs (if c then calls.moves (Some kept) at else calls.finds (Some kept) (Changed kept.server (calls.two_incs first i)))
+      by true = tt
+      by false = tt
 
-bound_known : (x : ℕ) (W : World) (free : Bool) (k : Known) (at : At) (kept : Option Known) → MovedKnown x W (calls.bound_by free k at kept)
-bound_known x W free k at None = tt
-bound_known x W free k at (Some old) = by (binding_eq old.binding k.binding)
-  where
-    same : (o : Option ℕ) → MovedKnown x W (calls.same_binding old k at o)
-    same None = tt
-    same (Some i) = inc_known x W i (calls.named_again old k) at old.inc
+  bound_is : (free : Bool) (k : Known) (at : At) (kept : Option Known) → MovedIs (calls.bound_by free k at kept)
+  bound_is free k at None = tt
+  bound_is free k at (Some old) = by (binding_eq old.binding k.binding)
+    where
+      same : (o : Option ℕ) → MovedIs (calls.same_binding old k at o)
+      same None = tt
+      same (Some i) = inc_is i (calls.named_again old k) at old.inc
 
-    other : (c : Bool) → MovedKnown x W (if c then calls.moves (Some k) at else calls.finds (Some old) (Changed 1 (calls.two_bindings old.binding k.binding)))
-    other true = tt
-    other false = tt
+      other : (c : Bool) → MovedIs (if c then calls.moves (Some k) at else calls.finds (Some old) (Changed 1 (calls.two_bindings old.binding k.binding)))
+      other true = tt
+      other false = tt
 
-    by : (c : Bool) → MovedKnown x W (if c then calls.same_binding old k at k.inc else calls.other_binding free old k at)
-    by true = same k.inc
-    by false = other (free && binding_less old.binding k.binding)
+      by : (c : Bool) → MovedIs (if c then calls.same_binding old k at k.inc else calls.other_binding free old k at)
+      by true = same k.inc
+      by false = other (free && binding_less old.binding k.binding)
 
-step_known : (x : ℕ) (W : World) (from : ℕ) (act : Uid) (free : Bool) (kept : Option Known) (g : Goal) (at : At) (r : Reply) → ClaimsReply x W from act r → MovedKnown x W (calls.answered free kept g at r)
-step_known x W from act free kept g (AtBind avoid) (Reply.Bound (bound.Live b server i grant stores)) claims = bound_known x W free (calls.live_known b server i grant stores) (AtInvoke (calls.live_known b server i grant stores) i) kept
-step_known x W from act free kept g (AtBind avoid) (Reply.Bound (bound.Make b server grant stores)) claims = by (calls.load_from (calls.made_known b server grant stores) stores)
-  where
-    by : (o : Option At) → MovedKnown x W (calls.made_by free (calls.made_known b server grant stores) kept o)
-    by None = tt
-    by (Some at) = bound_known x W free (calls.made_known b server grant stores) at kept
-step_known x W from act free kept g (AtBind avoid) (Reply.Bound (bound.Write grant stores)) claims = by (calls.load_from (calls.write_known grant stores) stores)
-  where
-    by : (o : Option At) → MovedKnown x W (calls.or_lost kept o)
-    by None = tt
-    by (Some at) = tt
-step_known x W from act free kept g (AtBind avoid) (Reply.Bound (bound.Conflict holder m)) claims = tt
-step_known x W from act free kept (Run o) (AtLoad k s rest) (Reply.Loaded (loaded.State st)) claims = tt
-step_known x W from act free kept (Include n) (AtLoad k s rest) (Reply.Loaded (loaded.State st)) claims = claims
-step_known x W from act free kept g (AtLoad k s rest) (Reply.Loaded (loaded.InDoubt holder)) claims = tt
-step_known x W from act free None g (AtActivate k st) (Reply.Activated i) claims = tt
-step_known x W from act free (Some old) g (AtActivate k st) (Reply.Activated i) claims = by (binding_eq old.binding k.binding)
-  where
-    by : (c : Bool) → MovedKnown x W (if c then calls.with_inc i old (AtNote k i) old.inc else calls.moves (Some old) (AtNote k i))
-    by true = inc_known x W i old (AtNote k i) old.inc
-    by false = tt
-step_known x W from act free kept g (AtNote k i) (Reply.Noted recorded.Yes) claims = tt
-step_known x W from act free kept g (AtNote k i) (Reply.Noted (recorded.Changed w)) claims = tt
-step_known x W from act free kept g (AtInvoke k i) (Reply.Invoked (invoked.Answered a)) claims = tt
-step_known x W from act free kept g (AtInvoke k i) (Reply.Invoked (invoked.Conflict holder m)) claims = tt
-step_known x W from act free kept g (AtInvoke k i) (Reply.Invoked (invoked.Changed w)) claims = tt
-step_known x W from act free kept g (AtBind avoid) (Reply.Loaded r) claims = tt
-step_known x W from act free kept g (AtBind avoid) (Reply.Activated r) claims = tt
-step_known x W from act free kept g (AtBind avoid) (Reply.Noted r) claims = tt
-step_known x W from act free kept g (AtBind avoid) (Reply.Invoked r) claims = tt
-step_known x W from act free kept g (AtBind avoid) (Reply.Voted r) claims = tt
-step_known x W from act free kept g (AtBind avoid) (Reply.Prepared r) claims = tt
-step_known x W from act free kept g (AtBind avoid) (Reply.Confirmed r) claims = tt
-step_known x W from act free kept g (AtLoad k s rest) (Reply.Bound r) claims = tt
-step_known x W from act free kept g (AtLoad k s rest) (Reply.Activated r) claims = tt
-step_known x W from act free kept g (AtLoad k s rest) (Reply.Noted r) claims = tt
-step_known x W from act free kept g (AtLoad k s rest) (Reply.Invoked r) claims = tt
-step_known x W from act free kept g (AtLoad k s rest) (Reply.Voted r) claims = tt
-step_known x W from act free kept g (AtLoad k s rest) (Reply.Prepared r) claims = tt
-step_known x W from act free kept g (AtLoad k s rest) (Reply.Confirmed r) claims = tt
-step_known x W from act free kept g (AtActivate k st) (Reply.Bound r) claims = tt
-step_known x W from act free kept g (AtActivate k st) (Reply.Loaded r) claims = tt
-step_known x W from act free kept g (AtActivate k st) (Reply.Noted r) claims = tt
-step_known x W from act free kept g (AtActivate k st) (Reply.Invoked r) claims = tt
-step_known x W from act free kept g (AtActivate k st) (Reply.Voted r) claims = tt
-step_known x W from act free kept g (AtActivate k st) (Reply.Prepared r) claims = tt
-step_known x W from act free kept g (AtActivate k st) (Reply.Confirmed r) claims = tt
-step_known x W from act free kept g (AtNote k i) (Reply.Bound r) claims = tt
-step_known x W from act free kept g (AtNote k i) (Reply.Loaded r) claims = tt
-step_known x W from act free kept g (AtNote k i) (Reply.Activated r) claims = tt
-step_known x W from act free kept g (AtNote k i) (Reply.Invoked r) claims = tt
-step_known x W from act free kept g (AtNote k i) (Reply.Voted r) claims = tt
-step_known x W from act free kept g (AtNote k i) (Reply.Prepared r) claims = tt
-step_known x W from act free kept g (AtNote k i) (Reply.Confirmed r) claims = tt
-step_known x W from act free kept g (AtInvoke k i) (Reply.Bound r) claims = tt
-step_known x W from act free kept g (AtInvoke k i) (Reply.Loaded r) claims = tt
-step_known x W from act free kept g (AtInvoke k i) (Reply.Activated r) claims = tt
-step_known x W from act free kept g (AtInvoke k i) (Reply.Noted r) claims = tt
-step_known x W from act free kept g (AtInvoke k i) (Reply.Voted r) claims = tt
-step_known x W from act free kept g (AtInvoke k i) (Reply.Prepared r) claims = tt
-step_known x W from act free kept g (AtInvoke k i) (Reply.Confirmed r) claims = tt
+  -- the end of an include brings what was loaded
+  pub step_is : (free : Bool) (kept : Option Known) (g : Goal) (at : At) (r : Reply) → ((st : ObjectState) → r ≡ Reply.Loaded (loaded.State st) → Q st) → MovedIs (calls.answered free kept g at r)
+  step_is free kept g (AtBind avoid) (Reply.Bound (bound.Live b server i grant stores)) claims = bound_is free (calls.live_known b server i grant stores) (AtInvoke (calls.live_known b server i grant stores) i) kept
+  step_is free kept g (AtBind avoid) (Reply.Bound (bound.Make b server grant stores)) claims = by (calls.load_from (calls.made_known b server grant stores) stores)
+    where
+      by : (o : Option At) → MovedIs (calls.made_by free (calls.made_known b server grant stores) kept o)
+      by None = tt
+      by (Some at) = bound_is free (calls.made_known b server grant stores) at kept
+  step_is free kept g (AtBind avoid) (Reply.Bound (bound.Write grant stores)) claims = by (calls.load_from (calls.write_known grant stores) stores)
+    where
+      by : (o : Option At) → MovedIs (calls.or_lost kept o)
+      by None = tt
+      by (Some at) = tt
+  step_is free kept g (AtBind avoid) (Reply.Bound (bound.Conflict holder m)) claims = tt
+  step_is free kept (Run o) (AtLoad k s rest) (Reply.Loaded (loaded.State st)) claims = tt
+  step_is free kept (Include n) (AtLoad k s rest) (Reply.Loaded (loaded.State st)) claims = claims st refl
+  step_is free kept g (AtLoad k s rest) (Reply.Loaded (loaded.InDoubt holder)) claims = tt
+  step_is free None g (AtActivate k st) (Reply.Activated i) claims = tt
+  step_is free (Some old) g (AtActivate k st) (Reply.Activated i) claims = by (binding_eq old.binding k.binding)
+    where
+      by : (c : Bool) → MovedIs (if c then calls.with_inc i old (AtNote k i) old.inc else calls.moves (Some old) (AtNote k i))
+      by true = inc_is i old (AtNote k i) old.inc
+      by false = tt
+  step_is free kept g (AtNote k i) (Reply.Noted recorded.Yes) claims = tt
+  step_is free kept g (AtNote k i) (Reply.Noted (recorded.Changed w)) claims = tt
+  step_is free kept g (AtInvoke k i) (Reply.Invoked (invoked.Answered a)) claims = tt
+  step_is free kept g (AtInvoke k i) (Reply.Invoked (invoked.Conflict holder m)) claims = tt
+  step_is free kept g (AtInvoke k i) (Reply.Invoked (invoked.Changed w)) claims = tt
+  step_is free kept g (AtBind avoid) (Reply.Loaded r) claims = tt
+  step_is free kept g (AtBind avoid) (Reply.Activated r) claims = tt
+  step_is free kept g (AtBind avoid) (Reply.Noted r) claims = tt
+  step_is free kept g (AtBind avoid) (Reply.Invoked r) claims = tt
+  step_is free kept g (AtBind avoid) (Reply.Voted r) claims = tt
+  step_is free kept g (AtBind avoid) (Reply.Prepared r) claims = tt
+  step_is free kept g (AtBind avoid) (Reply.Confirmed r) claims = tt
+  step_is free kept g (AtLoad k s rest) (Reply.Bound r) claims = tt
+  step_is free kept g (AtLoad k s rest) (Reply.Activated r) claims = tt
+  step_is free kept g (AtLoad k s rest) (Reply.Noted r) claims = tt
+  step_is free kept g (AtLoad k s rest) (Reply.Invoked r) claims = tt
+  step_is free kept g (AtLoad k s rest) (Reply.Voted r) claims = tt
+  step_is free kept g (AtLoad k s rest) (Reply.Prepared r) claims = tt
+  step_is free kept g (AtLoad k s rest) (Reply.Confirmed r) claims = tt
+  step_is free kept g (AtActivate k st) (Reply.Bound r) claims = tt
+  step_is free kept g (AtActivate k st) (Reply.Loaded r) claims = tt
+  step_is free kept g (AtActivate k st) (Reply.Noted r) claims = tt
+  step_is free kept g (AtActivate k st) (Reply.Invoked r) claims = tt
+  step_is free kept g (AtActivate k st) (Reply.Voted r) claims = tt
+  step_is free kept g (AtActivate k st) (Reply.Prepared r) claims = tt
+  step_is free kept g (AtActivate k st) (Reply.Confirmed r) claims = tt
+  step_is free kept g (AtNote k i) (Reply.Bound r) claims = tt
+  step_is free kept g (AtNote k i) (Reply.Loaded r) claims = tt
+  step_is free kept g (AtNote k i) (Reply.Activated r) claims = tt
+  step_is free kept g (AtNote k i) (Reply.Invoked r) claims = tt
+  step_is free kept g (AtNote k i) (Reply.Voted r) claims = tt
+  step_is free kept g (AtNote k i) (Reply.Prepared r) claims = tt
+  step_is free kept g (AtNote k i) (Reply.Confirmed r) claims = tt
+  step_is free kept g (AtInvoke k i) (Reply.Bound r) claims = tt
+  step_is free kept g (AtInvoke k i) (Reply.Loaded r) claims = tt
+  step_is free kept g (AtInvoke k i) (Reply.Activated r) claims = tt
+  step_is free kept g (AtInvoke k i) (Reply.Noted r) claims = tt
+  step_is free kept g (AtInvoke k i) (Reply.Voted r) claims = tt
+  step_is free kept g (AtInvoke k i) (Reply.Prepared r) claims = tt
+  step_is free kept g (AtInvoke k i) (Reply.Confirmed r) claims = tt
+
+  -- and what is given up brings nothing
+  pub lost_is : (at : At) → StepIs Q (calls.given_up at)
+  lost_is (AtBind avoid) = tt
+  lost_is (AtLoad known n []) = tt
+  lost_is (AtLoad known n (m ∷ ms)) = tt
+  lost_is (AtActivate known st) = tt
+  lost_is (AtNote known i) = tt
+  lost_is (AtInvoke known i) = tt
 
 module _ (x : ℕ) (tops : Kinds) (e k : ℕ) (d : Disk) (t : Parts) (W : World) where
   abbrev P : Seen → Type 0
@@ -314,7 +325,7 @@ module _ (x : ℕ) (tops : Kinds) (e k : ℕ) (d : Disk) (t : Parts) (W : World)
       (doing_seen x k tops W d t c N (actor s.path) q (λ (r : Doing). record r { req = s.req; now = Calling s }) at_work calm tt refl seen)
 
   -- the call ends
-  ends_walk : (s : Steps) (end : CallEnd) (c : Coord) (N : Seen) (q : Doing) → doing_of (actor s.path) c ≡ Some q → IsCalm q.now → EndKnown x W end → With x k tops W d t c N → let did = ends_call s end c in Walks P e k did.outs (Up P k (with_coord t did.part)) d N
+  ends_walk : (s : Steps) (end : CallEnd) (c : Coord) (N : Seen) (q : Doing) → doing_of (actor s.path) c ≡ Some q → IsCalm q.now → EndIs (IsKnown x W) end → With x k tops W d t c N → let did = ends_call s end c in Walks P e k did.outs (Up P k (with_coord t did.part)) d N
   ends_walk s end c N q at_work calm known seen = subst (λ es. Walks P e k es (Up P k (with_coord t (ends_call s end c).part)) d N) (append-nil (says (actor s.path) (end_line s.x s.goal end) c))
       (say_walk x k tops e (with_coord t (ends_call s end c).part) (with_coord t (ends_call s end c).part) (says (actor s.path) (end_line s.x s.goal end) c) [] d W (says_line (doing_of (actor s.path) c)) (λ L s2. (W, s2)) N
       (doomed end c2 (root_seen x k tops W d t c1 N (root_of s.path) (root_heard s end) (heard_known x W s end known) (doing_seen x k tops W d t c N (actor s.path) q (λ (r : Doing). record r { now = Idle }) at_work calm tt refl seen))))
@@ -337,7 +348,7 @@ module _ (x : ℕ) (tops : Kinds) (e k : ℕ) (d : Disk) (t : Parts) (W : World)
       doomed (Lost n false) b h = h
       doomed (Lost n true) b h = doom_seen x k tops W d t b N (actor s.path) h
 
-  step_walk : (s : Steps) (step : CallStep) (c : Coord) (N : Seen) (q : Doing) → doing_of (actor s.path) c ≡ Some q → IsCalm q.now → StepKnown x W step → With x k tops W d t c N → let did = step_call s step c in Walks P e k did.outs (Up P k (with_coord t did.part)) d N
+  step_walk : (s : Steps) (step : CallStep) (c : Coord) (N : Seen) (q : Doing) → doing_of (actor s.path) c ≡ Some q → IsCalm q.now → StepIs (IsKnown x W) step → With x k tops W d t c N → let did = step_call s step c in Walks P e k did.outs (Up P k (with_coord t did.part)) d N
   step_walk s (On at) c N q at_work calm known seen = goes_on_walk (record s { req = s.req + 1; at = at }) c N q at_work calm seen
   step_walk s (Ended end) c N q at_work calm known seen = ends_walk s end c N q at_work calm known seen
 
@@ -363,7 +374,7 @@ calls_are_heard x tops e k d t from act q s r M knows at_work now W sees claims 
     let free : Bool = is_free (root_of s.path) (actor s.path) s.x t.coord in
     let m : Moved = calls.answered free (kept_at s t.coord) s.goal s.at r in
     step_walk x tops e k d t W s m.step (on_root (root_of s.path) (root_moved s r m) t.coord) M q (ap (λ a. doing_of a t.coord) h.actor_is ∙ at_work) (subst IsCalm (sym now) tt)
-    (step_known x W from act free (kept_at s t.coord) s.goal s.at r claims) (root_seen x k tops W d t t.coord M (root_of s.path) (root_moved s r m) (moved_known m) sees)
+    (step_is (IsKnown x W) free (kept_at s t.coord) s.goal s.at r (λ st same. subst (ClaimsReply x W from act) same claims)) (root_seen x k tops W d t t.coord M (root_of s.path) (root_moved s r m) (moved_known m) sees)
   where
     moved_known : (m : Moved) (root : Root) → KnowsRoot x W root → KnowsRoot x W (root_moved s r m root)
     moved_known m root known = let g = granted_known x W (granted_by (top_of s.path) s.x r) root known in record { joined = g.joined; states = g.states }
@@ -373,13 +384,5 @@ calls_are_given_up x tops e k d t act q s M knows at_work now W sees =
     let h = knows.steps act q s at_work now in
     let did = give_up_call s t.coord in
     say_walk x k tops e t (with_coord t did.part) (gaveup_lines act (next_node s ∷ []) t.coord) did.outs d W (gaveup_say act (next_node s ∷ []) t.coord)
-    (λ N seen. step_walk x tops e k d t W s (calls.given_up s.at) (on_root (root_of s.path) (root_lost s (calls.given_up s.at)) t.coord) N q (ap (λ a. doing_of a t.coord) h.actor_is ∙ at_work) (subst IsCalm (sym now) tt) (lost_known s.at)
+    (λ N seen. step_walk x tops e k d t W s (calls.given_up s.at) (on_root (root_of s.path) (root_lost s (calls.given_up s.at)) t.coord) N q (ap (λ a. doing_of a t.coord) h.actor_is ∙ at_work) (subst IsCalm (sym now) tt) (lost_is (IsKnown x W) s.at)
     (root_seen x k tops W d t t.coord N (root_of s.path) (root_lost s (calls.given_up s.at)) (λ root known. record { joined = known.joined; states = known.states }) seen)) M sees
-  where
-    lost_known : (at : At) → StepKnown x W (calls.given_up at)
-    lost_known (AtBind avoid) = tt
-    lost_known (AtLoad known n []) = tt
-    lost_known (AtLoad known n (m ∷ ms)) = tt
-    lost_known (AtActivate known st) = tt
-    lost_known (AtNote known i) = tt
-    lost_known (AtInvoke known i) = tt

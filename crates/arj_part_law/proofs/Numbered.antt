@@ -34,7 +34,7 @@ use Rattle.arj_part_law.proofs.Settled.{doing_other, doing_put, end_tree_on}
 -- ---- sets of numbers
 
 -- each number once, in increasing order
-abbrev AreUp : List ℕ → Type 0
+abbrev pub AreUp : List ℕ → Type 0
 AreUp [] = ⊤
 AreUp (n ∷ ns) = AllByRecursion (λ (m : ℕ). n < m) ns × AreUp ns
 
@@ -66,7 +66,7 @@ up_put n (m ∷ ms) up = by (nat_cmp n m) refl (up_put n ms up.1)
     by Equal is ih = up
     by Greater is ih = (above_put m n ms (more is) up.0, ih)
 
-set_up : (ns : List ℕ) → AreUp (number_set ns)
+pub set_up : (ns : List ℕ) → AreUp (number_set ns)
 set_up [] = tt
 set_up (n ∷ ns) = up_put n (number_set ns) (set_up ns)
 
@@ -143,7 +143,7 @@ giveup_step (Voting p left) so = tt
 giveup_step (Preparing p left) so = stores_step [] p (marks_stores left p) (marks_same left p p so)
 giveup_step (Confirming p) so = tt
 
-plan_once : (p : Path) (req : ℕ) (r : Root) (c : Coord) → Once (plan_for p req r c)
+pub plan_once : (p : Path) (req : ℕ) (r : Root) (c : Coord) → Once (plan_for p req r c)
 plan_once p req r c = by (objects_in (actor p) r c) (set_up (map (λ s. s.x) (said_in (actor p) r c) ++ map (λ j. j.x) (joined_in (actor p) r c)))
   where
     above : (x : ℕ) (xs : List ℕ) → AllByRecursion (λ (m : ℕ). x < m) xs → AllByRecursion (λ (v : Used). x < v.x) (map (used_of (actor p) r c) xs)

@@ -30,7 +30,7 @@ pub all_keep : (hd : Header) → Keeps hd IsGood
 all_keep hd = record {
   quiet = λ e bs M quiet good. good;
   stop = λ e k d live M good. (good.0, stopped_good k d live M good e);
-  message = λ e k d t v from m outs M good there is. some_acts good.0 e k outs v d M (message_good e k d t M good v from m outs there is);
+  message = λ e k d t v from m outs M good there meant is. some_acts good.0 e k outs v d M (message_good e k d t M good v from m outs there is);
   act = λ e k d t i M is none good. let did = acts i d.intents t.coord in some_acts good.0 e k did.outs (with_coord t did.part) d M (act_good e k d t M good hd i is none);
   begin = λ e k d t l how parent M new may none good. let did = begin_action l how parent (parent_of parent t.coord) t.coord in
       some_acts (record { path = path_below how (parent_of parent t.coord) (next_uid t.coord.tree); kind = how } ∷ good.0) e k did.outs (with_coord t did.part) d (given l (record { node = k; serial = is_serial_kind how }) M) (begin_good e k d t l how parent M new may none good);

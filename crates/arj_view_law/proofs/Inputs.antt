@@ -19,7 +19,7 @@ use Rattle.arj_view_law.specs.Seen.{Seen, In, at, up, down, with_node, said, giv
 use Rattle.arj_view_law.specs.Walks.{Walks, Up, halted}
 use Rattle.arj_view_law.specs.Keeps.{Keeps, MayGive, label_at, is_act}
 use Rattle.arj_view_law.proofs.Flat.{Flat, Behind, within_same, flat_to}
-use Rattle.arj_view_law.proofs.Rounds.{AreLooks, LooksAlone, taken_looks, whole_ended, Ended}
+use Rattle.arj_view_law.proofs.Rounds.{AreLooks, LooksAlone, taken_looks, taken_meant, whole_ended, Ended}
 
 -- looks at the disk, and lines at which no view looks
 abbrev is_still : Effect → Bool
@@ -107,7 +107,7 @@ module _ (hd : Header) (P : Seen → Type 0) (keeps : Keeps hd P) (e k : ℕ) wh
 
       by : (a : Handled) → LooksAlone a → taken k d t from m ≡ a → Goes d (handled_step f (record { number = k; disk = d; live = Some t }) a) M
       by (Void outs) looks is = void_goes f outs d (Some t) M looks h
-      by (Took v outs) looks is = got_goes f (Some t) v outs d M (keeps.message e k d t v from m outs (said e (body.Got f ∷ []) M) got sent (taken_took k d t v from m outs is))
+      by (Took v outs) looks is = got_goes f (Some t) v outs d M (keeps.message e k d t v from m outs (said e (body.Got f ∷ []) M) got sent (taken_meant k d t v from m outs is) (taken_took k d t v from m outs is))
 
   crash_goes : (d : Disk) (t : Parts) (M : Seen) → P (up k d t M) → Goes d (crash_step (record { number = k; disk = d; live = Some t })) M
   crash_goes d t M h =

@@ -15,7 +15,7 @@ use Rattle.arj_protocol.specs.Confirm.{confirm}
 use Rattle.arj_protocol.specs.Coord.{Coord}
 use Rattle.arj_protocol.specs.Asking.{heard}
 use Rattle.arj_protocol.specs.Ending.{acked}
-use Rattle.arj_protocol.specs.Node.{Parts, Handled, Void, Took, Here, Ran, ran, ran_handled, handle_all, next_round, rounds, whole, most_rounds, handle, taken, handle_ask, handle_answer, handle_other, handle_ends, coord_heard, by_reply, serve, served, sends_answer, if_naming, load_by, load_held, prepare_by, prepare_states, with_naming, with_server, with_coord}
+use Rattle.arj_protocol.specs.Node.{Parts, Handled, Void, Took, Here, Ran, ran, ran_handled, handle_all, next_round, rounds, whole, most_rounds, handle, is_meant, taken, handle_ask, handle_answer, handle_other, handle_ends, coord_heard, by_reply, serve, served, sends_answer, if_naming, load_by, load_held, prepare_by, prepare_states, with_naming, with_server, with_coord}
 use Rattle.arj_view_law.specs.Seen.{Seen, In, at, up}
 use Rattle.arj_view_law.specs.Walks.{Walks, Stops, Up}
 use Rattle.arj_view_law.specs.Keeps.{Keeps}
@@ -122,6 +122,14 @@ handle_looks n d t from m = by (asks m)
     by None = heard_or (answers m)
     by (Some a) = serve_looks n d t from a.0 a.1
 
+-- what isn't void can be meant
+pub taken_meant : (n : ℕ) (d : Disk) (t v : Parts) (from : ℕ) (m : Message) (outs : List Effect) → taken n d t from m ≡ Took v outs → is_meant t m ≡ true
+taken_meant n d t v from m outs = by (is_meant t m)
+  where
+    by : (b : Bool) → (if b then handle n d t from m else Void []) ≡ Took v outs → b ≡ true
+    by true is = refl
+    by false is = absurd (cc is)
+
 pub taken_looks : (n : ℕ) (d : Disk) (t : Parts) (from : ℕ) (m : Message) → LooksAlone (taken n d t from m)
 taken_looks n d t from m = taken_as LooksAlone n d t from m refl (handle_looks n d t from m)
 
@@ -150,7 +158,7 @@ module _ (hd : Header) (P : Seen → Type 0) (keeps : Keeps hd P) (e k : ℕ) wh
     where
       by : (a : Handled) → taken k d t from m ≡ a → LooksAlone a → Handles from d t M a
       by (Void outs) is looks = looks_walk outs d (Some t) M looks h
-      by (Took v outs) is looks = keeps.message e k d t v from m outs M h sent (taken_took k d t v from m outs is)
+      by (Took v outs) is looks = keeps.message e k d t v from m outs M h sent (taken_meant k d t v from m outs is) (taken_took k d t v from m outs is)
 
   -- the node is up with what was left, and the relation holds
   abbrev pub Ended : Ran → Disk → Seen → Type 0

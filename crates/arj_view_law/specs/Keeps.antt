@@ -9,7 +9,7 @@ use Rattle.arj_protocol.specs.Words.kind
 use Rattle.arj_protocol.specs.Effect.{Effect, Disk, Did}
 use Rattle.arj_protocol.specs.Coord.{Coord}
 use Rattle.arj_protocol.specs.Asking.{again_all, begin_action}
-use Rattle.arj_protocol.specs.Node.{Parts, Took, handle, with_coord}
+use Rattle.arj_protocol.specs.Node.{Parts, Took, handle, is_meant, with_coord}
 use Rattle.arj_protocol.specs.Follow.{tick_outs}
 use Rattle.arj_protocol.specs.Step.{Node, Input, acts, begin_refusal, refusal_up, parent_of, parts_in, restart_outs}
 use Rattle.arj_protocol.specs.Step as input
@@ -47,13 +47,13 @@ is_act _ = false
 abbrev pub DidKeeps : (Seen → Type 0) → ℕ → ℕ → Disk → Parts → Did Coord → Seen → Type 0
 DidKeeps P e k d t did M = Walks P e k did.outs (Up P k (with_coord t did.part)) d M
 
--- The relation is kept: by lines at which it doesn't look; by a node that stops; by each message that is taken, each input
+-- The relation is kept: by lines at which it doesn't look; by a node that stops; by each message that can be meant and is taken, each input
 -- about an action, and the beginning of one; by a tick, and by a restart; and it holds at first.
 pub record Keeps (hd : Header) (P : Seen → Type 0) : Type 0 where
   pub quiet : (e : ℕ) (bs : List Body) (M : Seen) → AreQuiet bs → P M → P (said e bs M)
   pub stop : (e k : ℕ) (d : Disk) (live : Option Parts) (M : Seen) → P (at k d live M) → P (halted e k d M)
   pub message : (e k : ℕ) (d : Disk) (t v : Parts) (from : ℕ) (m : Message) (outs : List Effect) (M : Seen)
-      → P (up k d t M) → In (record { from = from; to = k; message = m }) M.sent → handle k d t from m ≡ Took v outs → Walks P e k outs (Up P k v) d M
+      → P (up k d t M) → In (record { from = from; to = k; message = m }) M.sent → is_meant t m ≡ true → handle k d t from m ≡ Took v outs → Walks P e k outs (Up P k v) d M
   pub act : (e k : ℕ) (d : Disk) (t : Parts) (i : Input) (M : Seen) → is_act i ≡ true → refusal_up hd i t.coord ≡ None
       → P (up k d t M) → DidKeeps P e k d t (acts i d.intents t.coord) M
   pub begin : (e k : ℕ) (d : Disk) (t : Parts) (l : Label) (how : Kind) (parent : Option Label) (M : Seen)

@@ -1,0 +1,333 @@
+-- Coordinators stay sound, whatever they do and hear, where votes that they wait for fit their plans.
+use Rattle.std.proofs.Common.{◌≡◌, ℕ, ◌+◌, ◌==◌, ◌&&◌, zero, suc, List, [], ◌∷◌, ◌++◌, Bool, true, false, cond, Option, Some, None, refl, sym, ◌∙◌, ap, subst, inl, inr, ⊎_elim}
+use Rattle.std.specs.List.{AllByRecursion, list_any}
+use Rattle.std.proofs.lemmas.Bool.{and_parts}
+use Rattle.arj_base.proofs.Uids.{uid_cases}
+use Rattle.arj_protocol.specs.Words.{Uid, Ask, Asked, End, Kind, Label, ObjectState, Op, Path, last_uid, object, uid_eq, uids_of}
+use Rattle.arj_protocol.specs.Words.cause
+use Rattle.arj_protocol.specs.Words.ending
+use Rattle.arj_protocol.specs.Words.kind
+use Rattle.arj_protocol.specs.Words.loaded
+use Rattle.arj_protocol.specs.Words.voted
+use Rattle.arj_protocol.specs.Ask.{Reply, actor, ask_kind, reply_kind, top_of}
+use Rattle.arj_protocol.specs.Asking.{again_all, again_now, asks_all, asks_node, begin_action, call, call_steps, commit_action, commit_open, commit_top, commits_in, doomed_by, give_up, give_up_doing, gives_up, goes_on, granted_by, heard, heard_by, heard_doing, heard_none, heard_now, heard_call, include, kept_at, last_req, moved_commit, next_req, notes_grant, renewed, root_heard, root_lost, root_moved, step_call, step_commit, store_of, waits_for_call, waits_for_commit, is_invoke_ask}
+use Rattle.arj_protocol.specs.Call.{Answered, CallEnd, CallStep, Changed, Conflict, Ended, Included, Lost, Moved, On, Steps, answered, given_up, next_ask, next_node, start}
+use Rattle.arj_protocol.specs.Call as calls
+use Rattle.arj_protocol.specs.Commit as commit
+use Rattle.arj_protocol.specs.Commit.{Aborts, Asks, CommitStep, Decides, Machine, Plan, Stays, Voting, has_record, left_of, participants, plan_of}
+use Rattle.arj_protocol.specs.Coord.{Calling, Committing, Coord, Doing, Grant, Idle, Joined, Keeping, Now, Root, Said, Went, change_doing, doing_of, is_free, joined_with, keeping_of, new_coord, no_root, on_doing, on_root, plan_for, root_at, same_join, same_said, same_went, set_doing, with_keeping, with_said, with_went, later_state}
+use Rattle.arj_protocol.specs.Effect.{Did, Intent, Served}
+use Rattle.arj_protocol.specs.Ending.{abort_action, aborts_with, acked, acked_by, acked_left, all_aborted, decide, ended, root_after, states_after}
+use Rattle.arj_protocol.specs.Order as order
+use Rattle.arj_protocol.specs.Order.{at_uid, has, put_uid, unbound, without_number}
+use Rattle.arj_protocol.specs.Step.{Input, acts, branch_named, on_branch, parent_of}
+use Rattle.arj_protocol.specs.Step as input
+use Rattle.arj_protocol.specs.Tree.{Branch, Tree, at_place, doomed_at, ended_at, ends_of, is_own, open_below, root_of, uses_object}
+use Rattle.arj_part_law.proofs.GoodCoords.{doomed_same, uses_same}
+use Rattle.arj_part_law.proofs.GoodTrees.{get_more}
+use Rattle.arj_part_law.proofs.LivesNamed.{all_at, all_put}
+use Rattle.arj_part_law.proofs.Settled.{doing_other, doing_put, end_tree_on}
+use Rattle.arj_disk_law.proofs.Base.{some_is, test_is}
+use Rattle.arj_disk_view_law.specs.Pairs.{Among}
+use Rattle.arj_disk_view_law.proofs.CallWalks.{EndIs, StepIs, lost_is, step_is}
+use Rattle.arj_disk_run_law.specs.Sound.{AreChanged, AreSound, FitsVote, IsOwnRoot, IsSound, IsSoundNow}
+use Rattle.arj_disk_run_law.proofs.SoundPlans.{IsNextSound, answer_sound, given_up_sound, later_of, put_keyed, start_sound}
+
+-- ---- a root
+
+none_own : IsOwnRoot no_root
+none_own = record { joined = tt; states = tt }
+
+pub root_own : (root : Uid) (c : Coord) → AreSound c → IsOwnRoot (root_at root c)
+root_own root c s = all_at IsOwnRoot no_root none_own root.num c.roots s.roots
+
+went_own : (w : Went) (r : Root) → IsOwnRoot r → IsOwnRoot (with_went w r)
+went_own w r own = by (list_any (same_went w) r.went)
+  where
+    by : (b : Bool) → IsOwnRoot (cond b r (record r { went = r.went ++ w ∷ [] }))
+    by true = own
+    by false = record { joined = own.joined; states = own.states }
+
+said_own : (s : Said) (r : Root) → IsOwnRoot r → IsOwnRoot (with_said s r)
+said_own s r own = by (list_any (same_said s) r.said)
+  where
+    by : (b : Bool) → IsOwnRoot (cond b r (record r { said = r.said ++ s ∷ [] }))
+    by true = own
+    by false = record { joined = own.joined; states = own.states }
+
+abbrev Own : Joined → Type 0
+Own j = (let s = j.loaded in s.uid) ≡ object j.x
+
+join_own : (j : Joined) (js : List Joined) → Own j → AllByRecursion Own js → AllByRecursion Own (joined_with j js)
+join_own j [] its all = (its, tt)
+join_own j (i ∷ js) its all = by (same_join j i) refl (join_own j js its all.1)
+  where
+    by : (b : Bool) → same_join j i ≡ b → AllByRecursion Own (joined_with j js) → AllByRecursion Own (cond b (record i { loaded = later_state i.loaded j.loaded } ∷ js) (i ∷ joined_with j js))
+    by true same ih = (later_of i.x i.loaded j.loaded all.0 (its ∙ ap object (test_is j.x i.x (and_parts (j.x == i.x) (j.store == i.store) (and_parts (uid_eq (last_uid j.path) (last_uid i.path)) ((j.x == i.x) && (j.store == i.store)) same).1).0)), all.1)
+    by false other ih = (all.0, ih)
+
+heard_own : (s : Steps) (e : CallEnd) → EndIs (λ st. st.uid ≡ object s.x) e → (r : Root) → IsOwnRoot r → IsOwnRoot (root_heard s e r)
+heard_own s (Answered a) its r own = said_own (record { path = uids_of s.path; x = s.x }) r own
+heard_own s (Included st) its r own = record { joined = join_own (record { path = uids_of s.path; x = s.x; store = store_of s.goal; loaded = st }) r.joined its own.joined; states = own.states }
+heard_own s (Conflict holder m n) its r own = own
+heard_own s (Changed n w) its r own = own
+heard_own s (Lost n b) its r own = own
+
+keep_own : (x : ℕ) (k : Keeping) (r : Root) → IsOwnRoot r → IsOwnRoot (with_keeping x k r)
+keep_own x k r own = record { joined = own.joined; states = own.states }
+
+granted_own : (g : Option Grant) (r : Root) → IsOwnRoot r → IsOwnRoot (notes_grant g r)
+granted_own None r own = own
+granted_own (Some g) r own = record { joined = own.joined; states = own.states }
+
+moved_own : (s : Steps) (a : Reply) (m : Moved) (r : Root) → IsOwnRoot r → IsOwnRoot (root_moved s a m r)
+moved_own s a m r own = let g = granted_own (granted_by (top_of s.path) s.x a) r own in record { joined = g.joined; states = g.states }
+
+after_own : (p : Plan) (r : Root) → AreChanged p [] → IsOwnRoot r → IsOwnRoot (root_after p r)
+after_own p r changed own = record { joined = own.joined; states = each p.changed r.states (λ s i. let u = changed.used s i in u.own) own.states }
+  where
+    each : (ss : List ObjectState) (states : List (ℕ × ObjectState)) → ((s : ObjectState) → Among s ss → s.uid ≡ object s.uid.num) → AllByRecursion (λ (e : ℕ × ObjectState). (let s = e.1 in s.uid) ≡ object e.0) states
+        → AllByRecursion (λ (e : ℕ × ObjectState). (let s = e.1 in s.uid) ≡ object e.0) (states_after ss states)
+    each [] states its all = all
+    each (s ∷ ss) states its all = each ss (order.put_number s.uid.num s states) (λ w i. its w (inr i)) (put_keyed (λ n (v : ObjectState). v.uid ≡ object n) s.uid.num s states (its s (inl refl)) all)
+
+-- ---- from one coordinator to the next
+
+sound_root : (root : Uid) (f : Root → Root) (c : Coord) → ((r : Root) → IsOwnRoot r → IsOwnRoot (f r)) → AreSound c → AreSound (on_root root f c)
+sound_root root f c step s = record { works = s.works; roots = all_put IsOwnRoot root.num (f (root_at root c)) c.roots (step (root_at root c) (root_own root c s)) s.roots }
+
+sound_do : (u : Uid) (f : Doing → Doing) (c : Coord) → ((d : Doing) → doing_of u c ≡ Some d → IsSoundNow (let q = f d in q.now)) → AreSound c → AreSound (on_doing u f c)
+sound_do u f c so s = by (doing_of u c) refl
+  where
+    by : (o : Option Doing) → doing_of u c ≡ o → AreSound (change_doing f u c o)
+    by None none = s
+    by (Some old) found = record {
+      works = λ w d at. ⊎_elim (λ same. subst (λ (q : Doing). IsSoundNow q.now) (some_is (doing_put u (f old) old c found) (ap (λ v. doing_of v (set_doing u (f old) c)) (sym same) ∙ at)) (so old found)) (λ other. s.works w d (sym (doing_other u w (f old) old c found other) ∙ at)) (uid_cases w u);
+      roots = s.roots;
+    }
+
+sound_tree : (c : Coord) (v : Tree) → ((u : Uid) → is_own u v ≡ is_own u c.tree) → AreSound c → AreSound (record c { tree = v })
+sound_tree c v own s = record { works = λ u d at. s.works u d (sym (same u) ∙ at); roots = s.roots }
+  where
+    same : (u : Uid) → doing_of u (record c { tree = v }) ≡ doing_of u c
+    same u = λ i. cond (own u i) (at_place u.num c.doings) None
+
+sound_idle : (u : Uid) (c : Coord) → AreSound c → AreSound (on_doing u (λ (d : Doing). record d { now = Idle }) c)
+sound_idle u c s = sound_do u (λ (d : Doing). record d { now = Idle }) c (λ d found. tt) s
+
+sound_asks : (p : Path) (req : ℕ) (a : ℕ × Ask) (c : Coord) → AreSound c → AreSound (asks_node p req a c).part
+sound_asks p req a c s = sound_root (root_of p) (with_went (record { path = uids_of p; node = a.0; invoke = is_invoke_ask a.1 })) c (went_own (record { path = uids_of p; node = a.0; invoke = is_invoke_ask a.1 })) s
+
+sound_asked : (p : Path) (req : ℕ) (asked : List (ℕ × Ask)) (c : Coord) → AreSound c → AreSound (asks_all p req asked c).part
+sound_asked p req [] c s = s
+sound_asked p req (a ∷ rest) c s = sound_asked p req rest (asks_node p req a c).part (sound_asks p req a c s)
+
+-- ---- calls
+
+sound_goes : (s : Steps) (c : Coord) → AreSound c → AreSound (goes_on s c).part
+sound_goes s c so =
+    let w : Coord = on_doing (actor s.path) (λ (d : Doing). record d { req = s.req; now = Calling s }) c in
+    sound_asks s.path s.req (next_node s, next_ask (ends_of (root_of s.path) w.tree) s) w (sound_do (actor s.path) (λ (d : Doing). record d { req = s.req; now = Calling s }) c (λ d found. tt) so)
+
+sound_call : (p : Path) (x : ℕ) (o : Op) (c : Coord) → AreSound c → AreSound (call p x o c).part
+sound_call p x o c s =
+    let r = root_at (root_of p) c in
+    let old = keeping_of x r in
+    let k = renewed (is_free (root_of p) (actor p) x c) old old.kept in
+    let u : Coord = record c { tree = uses_object p x c.tree } in
+    let same = uses_same p x c.tree in
+    sound_goes (call_steps p x o (next_req (actor p) c) r c k) (on_root (root_of p) (with_keeping x k) u) (sound_root (root_of p) (with_keeping x k) u (keep_own x k) (sound_tree c (uses_object p x c.tree) same.own s))
+
+sound_include : (p : Path) (x n : ℕ) (c : Coord) → AreSound c → AreSound (include p x n c).part
+sound_include p x n c s = let same = uses_same p x c.tree in sound_goes (start p x (calls.Include n) None unbound (next_req (actor p) c)) (record c { tree = uses_object p x c.tree }) (sound_tree c (uses_object p x c.tree) same.own s)
+
+sound_step : (s : Steps) (t : CallStep) (c : Coord) → StepIs (λ st. st.uid ≡ object s.x) t → AreSound c → AreSound (step_call s t c).part
+sound_step s (On at) c its so = sound_goes (record s { req = s.req + 1; at = at }) c so
+sound_step s (Ended e) c its so = by e
+  where
+    idle : Coord
+    idle = on_root (root_of s.path) (root_heard s e) (on_doing (actor s.path) (λ (d : Doing). record d { now = Idle }) c)
+
+    ends : AreSound (on_root (root_of s.path) (root_heard s e) (on_doing (actor s.path) (λ (d : Doing). record d { now = Idle }) c))
+    ends = sound_root (root_of s.path) (root_heard s e) (on_doing (actor s.path) (λ (d : Doing). record d { now = Idle }) c) (heard_own s e its) (sound_idle (actor s.path) c so)
+
+    by : (g : CallEnd) → AreSound (doomed_by (actor s.path) g (on_root (root_of s.path) (root_heard s e) (on_doing (actor s.path) (λ (d : Doing). record d { now = Idle }) c)))
+    by (Answered a) = ends
+    by (Included st) = ends
+    by (Conflict h x n) = ends
+    by (Changed n w) = ends
+    by (Lost n false) = ends
+    by (Lost n true) = let same = doomed_same (actor s.path) idle.tree in sound_tree idle (doomed_at (actor s.path) idle.tree) same.own ends
+
+-- ---- ends
+
+sound_ended : (u : Uid) (e : End) (c : Coord) → AreSound c → AreSound (ended u e c)
+sound_ended u e c s = let g = end_tree_on u e c in sound_idle u (record c { tree = ended_at u e c.tree }) (sound_tree c (ended_at u e c.tree) g.own s)
+
+sound_all : (us : List Uid) (c : Coord) → AreSound c → AreSound (all_aborted us c).part
+sound_all [] c s = s
+sound_all (u ∷ us) c s = sound_all us (ended u ending.Abort c) (sound_ended u ending.Abort c s)
+
+-- ---- commits
+
+sound_commits : (u : Uid) (m : Machine) (c : Coord) → IsSound m → AreSound c → AreSound (commits_in u m c)
+sound_commits u m c its s = sound_do u (λ (d : Doing). record d { req = (plan_of m).req; now = Committing m }) c (λ d found. its) s
+
+sound_decide : (p : Plan) (c : Coord) → AreChanged p [] → AreSound c → AreSound (decide p c).part
+sound_decide p c changed s = by (has_record p)
+  where
+    e : Coord
+    e = ended (actor p.path) ending.Commit c
+
+    took : Coord
+    took = on_doing (actor p.path) (λ (d : Doing). record d { took = participants p }) (ended (actor p.path) ending.Commit c)
+
+    one : AreSound (ended (actor p.path) ending.Commit c)
+    one = sound_ended (actor p.path) ending.Commit c s
+
+    r : Coord
+    r = on_root (root_of p.path) (root_after p) took
+
+    two : AreSound r
+    two = sound_root (root_of p.path) (root_after p) took (λ q own. after_own p q changed own) (sound_do (actor p.path) (λ (d : Doing). record d { took = participants p }) e (λ d found. let a = one in a.works (actor p.path) d found) one)
+
+    by : (w : Bool) → AreSound (cond w (record r { telling = put_uid (actor p.path) (record { root = root_of p.path; nodes = participants p }) r.telling }) r)
+    by true = record { works = two.works; roots = two.roots }
+    by false = two
+
+sound_commit_step : (u : Uid) (t : CommitStep) (intents : List (Uid × Intent)) (c : Coord) → IsNextSound t → AreSound c → AreSound (step_commit u t intents c).part
+sound_commit_step u (Stays m) intents c its s = sound_commits u m c its s
+sound_commit_step u (Asks m) intents c its s = sound_asked (plan_of m).path (plan_of m).req (commit.waiting m) (commits_in u m c) (sound_commits u m c its s)
+sound_commit_step u (Decides p) intents c its s = sound_decide p c its s
+sound_commit_step u (Aborts why p) intents c its s = sound_ended u ending.Abort c s
+
+-- ---- what a coordinator hears
+
+pub sound_heard : (from : ℕ) (a : Asked) (r : Reply) (intents : List (Uid × Intent)) (c : Coord) → ((st : ObjectState) (s : Steps) (q : Doing) → r ≡ Reply.Loaded (loaded.State st) → doing_of a.act c ≡ Some q → q.now ≡ Calling s → st.uid ≡ object s.x)
+    → ((states : List ObjectState) (q : Doing) (p : Plan) (left : List ℕ) → r ≡ Reply.Voted (voted.Yes states) → doing_of a.act c ≡ Some q → q.now ≡ Committing (Voting p left) → p.req ≡ a.req → has left from ≡ true → FitsVote p from states)
+    → AreSound c → AreSound (let h = heard from a r intents c in h.part)
+sound_heard from a r intents c loads votes s = by (doing_of a.act c) refl
+  where
+    now : (q : Doing) → doing_of a.act c ≡ Some q → (n : Now) → q.now ≡ n → AreSound (heard_now from a r intents c n).part
+    now q at Idle is = s
+    now q at (Calling t) is = one (waits_for_call from a r t)
+      where
+        free : Bool
+        free = is_free (root_of t.path) (actor t.path) t.x c
+
+        m : Moved
+        m = answered free (kept_at t c) t.goal t.at r
+
+        one : (w : Bool) → AreSound (cond {A = Served Coord (Unit {0})} w (heard_by (heard_call t r c)) (heard_none c)).part
+        one true = sound_step t m.step (on_root (root_of t.path) (root_moved t r m) c) (step_is (λ st. st.uid ≡ object t.x) free (kept_at t c) t.goal t.at r (λ st same. loads st t q same at is)) (sound_root (root_of t.path) (root_moved t r m) c (moved_own t r m) s)
+        one false = s
+    now q at (Committing m) is = one (waits_for_commit from a r m) refl
+      where
+        its : IsSound m
+        its = subst IsSoundNow is (s.works a.act q at)
+
+        one : (w : Bool) → waits_for_commit from a r m ≡ w → AreSound (cond {A = Served Coord (Unit {0})} w (heard_by (moved_commit a.act (commit.answered from m r) intents c)) (heard_none c)).part
+        one true waits =
+            let w = and_parts ((plan_of m).req == a.req) ((reply_kind r == ask_kind (commit.ask_of m from)) && has (left_of m) from) waits in
+            let on = (and_parts (reply_kind r == ask_kind (commit.ask_of m from)) (has (left_of m) from) w.1).1 in
+            sound_commit_step a.act (commit.answered from m r).step intents c
+            (answer_sound from m r its on (λ p left states voting yes. votes states q p left yes at (is ∙ ap Committing voting) (ap (λ (x : Machine). let y = plan_of x in y.req) (sym voting) ∙ test_is (plan_of m).req a.req w.0) (ap (λ (x : Machine). has (left_of x) from) (sym voting) ∙ on))) s
+        one false waits = s
+
+    by : (o : Option Doing) → doing_of a.act c ≡ o → AreSound (heard_doing from a r intents c o).part
+    by None is = s
+    by (Some q) is = now q is q.now refl
+
+pub sound_acked : (from : ℕ) (u : Uid) (intents : List (Uid × Intent)) (c : Coord) → AreSound c → AreSound (let h = acked from u intents c in h.part)
+sound_acked from u intents c s = by (at_uid u c.telling)
+  where
+    left : (i : Intent) (ns : List ℕ) → AreSound (acked_left u i intents c ns).part
+    left i [] = record { works = s.works; roots = s.roots }
+    left i (m ∷ ms) = record { works = s.works; roots = s.roots }
+
+    by : (o : Option Intent) → AreSound (acked_by from u intents c o).part
+    by None = s
+    by (Some i) = one (has i.nodes from)
+      where
+        one : (b : Bool) → AreSound (cond {A = Served Coord (Unit {0})} b (acked_left u i intents c (without_number from i.nodes)) (record { part = c; outs = []; reply = None })).part
+        one true = left i (without_number from i.nodes)
+        one false = s
+
+-- ---- inputs
+
+sound_give_up : (u : Uid) (intents : List (Uid × Intent)) (c : Coord) → AreSound c → AreSound (give_up u intents c).part
+sound_give_up u intents c s = by (doing_of u c) refl
+  where
+    now : (n : Now) → IsSoundNow n → AreSound (gives_up u intents c n).part
+    now Idle its = s
+    now (Calling t) its = sound_step t (given_up t.at) (on_root (root_of t.path) (root_lost t (given_up t.at)) c) (lost_is (λ st. st.uid ≡ object t.x) t.at) (sound_root (root_of t.path) (root_lost t (given_up t.at)) c (λ r own. record { joined = own.joined; states = own.states }) s)
+    now (Committing m) its = sound_commit_step u (commit.given_up m).step intents c (given_up_sound m its) s
+
+    by : (o : Option Doing) → doing_of u c ≡ o → AreSound (give_up_doing u intents c o).part
+    by None is = s
+    by (Some q) is = now q.now (s.works u q is)
+
+pub sound_again : (ds : List Doing) (c : Coord) → AreSound c → AreSound (let h = again_all ds c in h.part)
+sound_again [] c s = s
+sound_again (d ∷ ds) c s = sound_again ds (again_now c d.now).part (now d.now)
+  where
+    now : (n : Now) → AreSound (again_now c n).part
+    now Idle = s
+    now (Calling t) = sound_asks t.path t.req (next_node t, next_ask (ends_of (root_of t.path) c.tree) t) c s
+    now (Committing m) = sound_asked (plan_of m).path (plan_of m).req (commit.waiting m) c s
+
+sound_commit : (b : Branch) (intents : List (Uid × Intent)) (c : Coord) → AreSound c → AreSound (commit_action b intents c).part
+sound_commit b intents c s = by b.doomed
+  where
+    u : Uid
+    u = actor b.path
+
+    top : AreSound (commit_top b.path intents c).part
+    top = sound_commit_step u (commit.start (plan_for b.path (last_req (doing_of u c)) (root_at (root_of b.path) c) c)).step intents c (start_sound b.path (last_req (doing_of u c)) (root_at (root_of b.path) c) c (root_own (root_of b.path) c s)) s
+
+    kinds : (k : Kind) → AreSound (commit_open b intents c k).part
+    kinds kind.Nested = sound_ended u ending.Commit c s
+    kinds kind.Serial = sound_ended u ending.Commit c s
+    kinds kind.Top = top
+    kinds kind.Independent = top
+    kinds kind.Constituent = top
+
+    by : (d : Bool) → AreSound (cond {A = Did Coord} d (aborts_with u cause.Doomed intents c) (commit_open b intents c b.kind)).part
+    by true = sound_ended u ending.Abort c s
+    by false = kinds b.kind
+
+on_named : (f : Branch → Did Coord) (c : Coord) (o : Option Branch) → AreSound c → ((b : Branch) → AreSound (f b).part) → AreSound (on_branch f c o).part
+on_named f c None s each = s
+on_named f c (Some b) s each = each b
+
+pub sound_begins : (l : Label) (k : Kind) (parent : Option Label) (above : Option Branch) (c : Coord) → AreSound c → AreSound (let h = begin_action l k parent above c in h.part)
+sound_begins l k parent above c s = record { works = λ u q at. was q (is_own u c.tree) u.num at (λ f. s.works u q f); roots = s.roots }
+  where
+    fresh : Doing
+    fresh = record { label = l; req = 0; now = Idle; took = [] }
+
+    was : (q : Doing) (b : Bool) (j : ℕ) → cond b (at_place j (c.doings ++ fresh ∷ [])) None ≡ Some q → (cond b (at_place j c.doings) None ≡ Some q → IsSoundNow q.now) → IsSoundNow q.now
+    was q true zero at f = absurd (cc at)
+    was q true (suc j) at f = ⊎_elim (λ old. f old) (λ new. subst (λ (x : Doing). IsSoundNow x.now) new.1 tt) (get_more j fresh q c.doings at)
+    was q false j at f = absurd (cc at)
+
+pub sound_acts : (i : Input) (intents : List (Uid × Intent)) (c : Coord) → AreSound c → AreSound (let h = acts i intents c in h.part)
+sound_acts (input.Begin l k parent) intents c s = sound_begins l k parent (parent_of parent c) c s
+sound_acts (input.Call l x o) intents c s = on_named (λ b. call b.path x o c) c (branch_named l c) s (λ b. sound_call b.path x o c s)
+sound_acts (input.Include l x n) intents c s = on_named (λ b. include b.path x n c) c (branch_named l c) s (λ b. sound_include b.path x n c s)
+sound_acts (input.Commit l) intents c s = on_named (λ b. commit_action b intents c) c (branch_named l c) s (λ b. sound_commit b intents c s)
+sound_acts (input.Abort l) intents c s = on_named (λ b. abort_action (actor b.path) intents c) c (branch_named l c) s (λ b. sound_all (open_below (actor b.path) c.tree ++ actor b.path ∷ []) c s)
+sound_acts (input.GiveUp l) intents c s = on_named (λ b. give_up (actor b.path) intents c) c (branch_named l c) s (λ b. sound_give_up (actor b.path) intents c s)
+sound_acts (input.Frame j from m) intents c s = s
+sound_acts input.Tick intents c s = s
+sound_acts input.Restart intents c s = s
+sound_acts input.Crash intents c s = s
+sound_acts (input.Show x) intents c s = s
+
+pub sound_new : (node inc : ℕ) (records : List (Uid × Intent)) → AreSound (record (new_coord node inc) { telling = records })
+sound_new node inc records = record { works = λ u q at. none q (is_own u (let c = new_coord node inc in c.tree)) u.num at; roots = tt }
+  where
+    none : (q : Doing) (b : Bool) (j : ℕ) → cond b (at_place j []) None ≡ Some q → IsSoundNow q.now
+    none q true zero is = absurd (cc is)
+    none q true (suc j) is = absurd (cc is)
+    none q false j is = absurd (cc is)

@@ -1,0 +1,69 @@
+-- Commits under way have tidy plans, and states stand for their objects.
+use Rattle.std.specs.Prelude.{⊤, ◌≡◌, ℕ, true, false, List, [], ◌∷◌, Some}
+use Rattle.std.specs.List.{AllByRecursion}
+use Rattle.arj_protocol.specs.Words.{Asked, Message, ObjectState, Uid, object}
+use Rattle.arj_protocol.specs.Words.voted
+use Rattle.arj_protocol.specs.Ask.{Reply, answers}
+use Rattle.arj_protocol.specs.Commit as commit
+use Rattle.arj_protocol.specs.Coord.{Coord, Doing, Joined, Now, Committing, Root, doing_of}
+use Rattle.arj_protocol.specs.Node.{Parts}
+use Rattle.arj_protocol.specs.Order as order
+use Rattle.arj_view_law.specs.Seen as seen
+use Rattle.arj_view_law.specs.Seen.{Seen}
+use Rattle.arj_disk_view_law.specs.Knows.{IsUnderWay}
+use Rattle.arj_disk_view_law.specs.Pairs.{Among}
+use Rattle.arj_disk_view_law.specs.Plans.{IsTidy, used_at}
+
+-- the state is of an object that the plan uses, at a server of which this holds
+pub record IsUsedState (p : commit.Plan) (Q : ℕ → Type 0) (s : ObjectState) : Type 0 where
+  pub own : s.uid ≡ object (let u = s.uid in u.num)
+  pub used : commit.Used
+  pub found : used_at (let u = s.uid in u.num) p.used ≡ Some used
+  pub server : Q used.server
+
+-- two of these states that are of one object are one
+abbrev pub AreOneEach : List ObjectState → Type 0
+AreOneEach states = (s t : ObjectState) → Among s states → Among t states → s.uid ≡ t.uid → s ≡ t
+
+-- What a server votes fits a plan: states of objects that the plan uses there, of each object one.
+pub record FitsVote (p : commit.Plan) (from : ℕ) (states : List ObjectState) : Type 0 where
+  pub used : (s : ObjectState) → Among s states → IsUsedState p (λ n. n ≡ from) s
+  pub once : AreOneEach states
+
+-- What was changed so far: states of objects that the plan uses at servers that voted, of each object one.
+pub record AreChanged (p : commit.Plan) (left : List ℕ) : Type 0 where
+  pub used : (s : ObjectState) → Among s p.changed → IsUsedState p (λ n. order.has left n ≡ false) s
+  pub once : AreOneEach p.changed
+
+-- the servers whose votes are still awaited
+abbrev pub unvoted : commit.Machine → List ℕ
+unvoted (commit.Voting p left) = left
+unvoted _ = []
+
+-- a commit under way uses something, and its plan is tidy and changes of each object one state
+pub record IsSound (m : commit.Machine) : Type 0 where
+  pub tidy : IsTidy (commit.plan_of m)
+  pub changed : AreChanged (commit.plan_of m) (unvoted m)
+  pub way : IsUnderWay m
+  pub used : commit.Used
+  pub more : List commit.Used
+  pub uses : (let p = commit.plan_of m in p.used) ≡ used ∷ more
+
+abbrev pub IsSoundNow : Now → Type 0
+IsSoundNow (Committing m) = IsSound m
+IsSoundNow _ = ⊤
+
+-- what a root's includes loaded, and what its constituents changed, is of the object for which it stands
+pub record IsOwnRoot (r : Root) : Type 0 where
+  pub joined : AllByRecursion (λ (j : Joined). (let s = j.loaded in s.uid) ≡ object j.x) r.joined
+  pub states : AllByRecursion (λ (e : ℕ × ObjectState). (let s = e.1 in s.uid) ≡ object e.0) r.states
+
+-- So it is at a coordinator.
+pub record AreSound (c : Coord) : Type 0 where
+  pub works : (u : Uid) (q : Doing) → doing_of u c ≡ Some q → IsSoundNow q.now
+  pub roots : AllByRecursion (λ (e : ℕ × Root). IsOwnRoot e.1) c.roots
+
+-- A vote that was sent and that a commit of this node waits for fits its plan.
+abbrev pub VotesFit : ℕ → Parts → Seen → Type 0
+VotesFit k t M = (from : ℕ) (m : Message) (a : Asked) (states : List ObjectState) → seen.In (record { from = from; to = k; message = m }) M.sent → answers m ≡ Some (a, Reply.Voted (voted.Yes states))
+    → (q : Doing) (p : commit.Plan) (left : List ℕ) → doing_of a.act t.coord ≡ Some q → q.now ≡ Committing (commit.Voting p left) → p.req ≡ a.req → order.has left from ≡ true → FitsVote p from states
