@@ -6,7 +6,7 @@ pub mod Decided
 pub mod EndsHandled
 pub mod EndsSaid
 mod EntriesLeft
-mod EntryLocks
+pub mod EntryLocks
 mod Gone
 mod GoodCalls
 mod GoodConfirm
@@ -21,7 +21,7 @@ pub mod GoodTrees
 mod Kept
 pub mod InTurn
 mod KeptCalls
-mod Keys
+pub mod Keys
 mod LivesCoords
 mod LivesKnown
 pub mod LivesNamed

@@ -1,0 +1,4 @@
+pub mod BindSteps
+pub mod EndSteps
+pub mod NoteSteps
+pub mod RowSteps

@@ -1,0 +1,23 @@
+-- Actions as the lock machine names them: which path of the machine an action of the protocol is.
+use Rattle.std.specs.Prelude.{◌≡◌, Bool, true, List}
+use Rattle.arj_protocol.specs.Words.{Uid, Path, is_on, last_uid}
+use Rattle.arj_protocol.specs.Ask.{top_path, top_of}
+use Rattle.arj_lock_law.specs.Actions.{Act, on, is_top}
+
+-- The machine's path of each action. A run's journal fixes it.
+abbrev pub Acts : Type 0
+Acts = Uid → Act
+
+-- two actions have two paths
+abbrev pub AreOne : Acts → Type 0
+AreOne act = (u w : Uid) → act u ≡ act w → u ≡ w
+
+-- the Uids of the list stand on the machine's path of the last one, and no others do
+pub record IsAlong (act : Acts) (us : List Uid) : Type 0 where
+  pub above : (u : Uid) → is_on us u ≡ true → on (act (last_uid us)) (act u) ≡ true
+  pub alone : (u : Uid) → on (act (last_uid us)) (act u) ≡ true → is_on us u ≡ true
+
+-- the path's top is a top of the machine, and the Uids up to it stand on its path
+pub record IsTopped (act : Acts) (p : Path) : Type 0 where
+  pub along : IsAlong act (top_path p)
+  pub top : is_top (act (top_of p)) ≡ true

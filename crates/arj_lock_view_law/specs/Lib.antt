@@ -1,0 +1,5 @@
+pub mod Acts
+pub mod Rows
+pub mod Named
+pub mod Going
+pub mod Bindings

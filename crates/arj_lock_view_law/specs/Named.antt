@@ -1,0 +1,48 @@
+-- One object at the naming service, as the lock machine has it.
+use Rattle.std.specs.Prelude.{◌≡◌, ◌≤◌, ◌<◌, ◌⊎◌, ℕ, ◌+◌, ◌*◌, true, Some, None}
+use Rattle.arj_protocol.specs.Words.{Uid, Binding, entry, is_on}
+use Rattle.arj_protocol.specs.Named.{Named, Made, Live}
+use Rattle.arj_protocol.specs.Order.{at_uid, binding_number}
+use Rattle.arj_lock_law.specs.Actions.{In}
+use Rattle.arj_lock_law.specs.State as machine
+use Rattle.arj_lock_law.specs.State.{State}
+use Rattle.arj_part_law.specs.Rows.{Told}
+use Rattle.arj_lock_view_law.specs.Acts.{Acts}
+use Rattle.arj_lock_view_law.specs.Rows.{SeesRows}
+
+-- a binding of the protocol as one of the machine
+abbrev pub binding_at : State → Binding → machine.Binding
+binding_at S b = S.binding (binding_number b)
+
+-- the live binding's server, of which its maker's root heard this incarnation
+pub record SeesLive (l : Live) (S : State) : Type 0 where
+  pub server : (let b = binding_at S l.binding in b.server) ≡ l.server
+  pub named : (let b = binding_at S l.binding in b.named) ≡ true
+  pub incarnation : (let b = binding_at S l.binding in b.incarnation) ≡ l.inc
+
+-- the last binding that was made for a top, and told to it
+pub record SeesMade (act : Acts) (t : Uid) (m : Made) (S : State) : Type 0 where
+  pub last : S.naming.made (act t) ≡ binding_number m.binding
+  pub server : (let b = binding_at S m.binding in b.server) ≡ m.server
+  pub maker : (let b = binding_at S m.binding in b.maker) ≡ act t
+  pub sent : In (machine.Made (act t) (binding_number m.binding)) S.net
+  pub noted : m.recorded ≡ true → In (machine.Recorded (binding_number m.binding)) S.net
+
+-- Naming as far as one object needs it: who was told of its end, the incarnation, and the count of bindings.
+pub record Place : Type 0 where
+  pub told : Told
+  pub inc : ℕ
+  pub count : ℕ
+
+-- An object at naming: its locks, which binding is recorded, live and made for whom, and who asked by an include, unless it was
+-- told of its end. Bindings that are still to be made are new to the machine.
+pub record SeesNamed (act : Acts) (x : ℕ) (n : Place) (o : Named) (S : State) : Type 0 where
+  pub rows : SeesRows act (entry x) o.rows S.naming.rows
+  pub bound : S.naming.bound ≤ binding_number (record { inc = n.inc; count = n.count + 1 })
+  pub first : S.naming.first ≤ n.inc * 4294967296
+  pub recorded : (b : Binding) → o.recorded ≡ Some b → S.naming.recorded ≡ binding_number b
+  pub unrecorded : o.recorded ≡ None → S.naming.recorded < S.naming.first
+  pub known : (b : Binding) → o.recorded ≡ Some b → In (machine.Recorded (binding_number b)) S.net
+  pub live : (l : Live) → o.live ≡ Some l → SeesLive l S
+  pub made : (t : Uid) (m : Made) → at_uid t o.made ≡ Some m → SeesMade act t m S
+  pub asked : (t : Uid) → S.naming.asked (act t) ≡ true → (n.told t ≡ true) ⊎ (is_on o.asked t ≡ true)

@@ -1,0 +1,15 @@
+//! The protocol seen by the lock machine of one object, begun: what naming does with an object.
+//!
+//! The machine (`arj_lock_law`) has of one object what naming, servers and coordinators have of it, and its laws are about
+//! order, values and held locks. For each object a state of the machine is tied to the protocol place by place, as
+//! `arj_disk_view_law` does for the disk machine; a call of a part is then a run of the machine, allowed step by step, after
+//! which the place is seen again. It stands on `arj_protocol`, `arj_lock_law` and what the parts keep (`arj_part_law`).
+//! `specs/Acts.antt` has the machine's paths of actions, `specs/Rows.antt` the rows of a lock table, `specs/Named.antt` an
+//! object at naming, `specs/Going.antt` what a run leaves alone and what an answer shows. What it gives upward: a Bind, a Record, a
+//! Hello and an end that counts as an abort go (`specs/Bindings.antt`). Commits, confirmations, restarts, servers and coordinators
+//! aren't seen yet.
+#![tactic(auto)]
+
+mod naming;
+
+pub use naming::{aborts_are_seen, binds_are_seen, hellos_are_seen, records_are_seen};
