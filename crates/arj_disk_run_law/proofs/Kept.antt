@@ -1,23 +1,21 @@
 -- Each handler keeps that an object is seen, for every kinds that agree with the actions begun; and copies agree.
 use Rattle.std.proofs.Common.{◌≡◌, ℕ, ◌+◌, List, [], ◌∷◌, true, false, Option, Some, None, refl, sym, ◌∙◌, ap, subst, inl, inr, ⊎_elim}
-use Rattle.std.specs.Prelude.{option_map}
 use Rattle.std.proofs.lemmas.Bool.{and_parts}
 use Rattle.arj_base.proofs.Uids.{uid_is}
 use Rattle.arj_lock.proofs.Members.{in_from, in_to}
-use Rattle.arj_protocol.specs.Words.{Uid, Ask, Asked, Body, Head, Header, Kind, Label, Line, ObjectState, Message, asks, entry, object, is_listed, is_on, uid_eq, uids_of}
+use Rattle.arj_protocol.specs.Words.{Uid, Ask, Asked, Body, Head, Header, Kind, Label, Line, ObjectState, Message, asks, object, is_on, uid_eq, uids_of}
 use Rattle.arj_protocol.specs.Words.ask
 use Rattle.arj_protocol.specs.Words.loaded
 use Rattle.arj_protocol.specs.Ask.{Reply, actor, answers}
 use Rattle.arj_protocol.specs.Asking.{again_all, begin_action, heard}
 use Rattle.arj_protocol.specs.Call.{Steps}
 use Rattle.arj_protocol.specs.Coord.{Calling, Doing, doing_of}
-use Rattle.arj_protocol.specs.Effect.{Disk, Effect, held_at, holder_of}
+use Rattle.arj_protocol.specs.Effect.{Disk, Effect}
 use Rattle.arj_protocol.specs.Ending.{acked, answer_query}
 use Rattle.arj_protocol.specs.Follow.{tick_outs}
 use Rattle.arj_protocol.specs.Node.{Parts, Took, answer_is_meant, asked_is_meant, handle, is_loaded_for, is_loaded_in, is_meant, reply_is_meant, with_coord}
-use Rattle.arj_protocol.specs.Step.{Node, Input, acts, begin_refusal, parent_of, parts_in, refusal_up, restart_outs}
+use Rattle.arj_protocol.specs.Step.{Input, acts, begin_refusal, parent_of, parts_in, refusal_up, restart_outs}
 use Rattle.arj_protocol.specs.Tree.{next_uid, path_below}
-use Rattle.arj_protocol.specs.Values.{state_entry}
 use Rattle.arj_protocol.specs.World.{format, is_serial_kind, numbered, run_all}
 use Rattle.arj_protocol.proofs.CoordSays.{acked_own, acts_own, again_own, heard_own, query_own}
 use Rattle.arj_part_law.specs.Actions.{Action, act_of, paths_of}
@@ -30,28 +28,18 @@ use Rattle.arj_run_law.proofs.Begins.{begin_good, its_node, its_uid}
 use Rattle.arj_run_law.proofs.Handled.{act_good, good_coord, it, message_good, own_of_disk, stopped_good, tick_good, tops_of_disk}
 use Rattle.arj_run_law.proofs.Starts.{first_of, restart_good}
 use Rattle.arj_disk_law.specs.Effects.{World}
-use Rattle.arj_disk_law.specs.State as disk
-use Rattle.arj_disk_law.specs.State.{Packed}
-use Rattle.arj_disk_law.specs.Words.{has}
-use Rattle.arj_disk_law.proofs.Base.{some_is}
-use Rattle.arj_disk_law.proofs.Results.{clean}
 use Rattle.arj_view_law.specs.Keeps.{DidKeeps, Keeps, MayGive, is_act, label_at}
 use Rattle.arj_view_law.specs.Seen.{In, Seen, given, said, see, up}
 use Rattle.arj_view_law.specs.Walks.{Walks, Up}
 use Rattle.arj_view_law.proofs.Happens.{runs_hold}
 use Rattle.arj_view_law.proofs.Together.{walks_both, walks_each, walks_to}
-use Rattle.arj_disk_view_law.specs.Entries.{SeesEntry}
 use Rattle.arj_disk_view_law.specs.Formats.{HasObject}
 use Rattle.arj_disk_view_law.specs.Knows.{IsOfKind}
-use Rattle.arj_disk_view_law.specs.Pairs.{packed, packed_entry}
-use Rattle.arj_disk_view_law.specs.Sees.{Kinds, ClaimsAsked, IsSeenByDisks, SeesDisks}
-use Rattle.arj_disk_view_law.specs.Stores.{SeesStore}
-use Rattle.arj_disk_view_law.proofs.ConfirmWalks.{has_listed}
+use Rattle.arj_disk_view_law.specs.Sees.{Kinds, ClaimsAsked, IsSeenByDisks}
 use Rattle.arj_disk_view_law.proofs.FirstSeen.{formats_are_seen}
 use Rattle.arj_disk_view_law.proofs.Halts.{stops_seen, lines_seen}
 use Rattle.arj_disk_view_law.proofs.NewActions.{actions_begin}
 use Rattle.arj_disk_view_law.proofs.RestartWalks.{restarts_are_walked}
-use Rattle.arj_disk_view_law.proofs.StoreSteps.{place_free}
 use Rattle.arj_disk_view_law.proofs.TickWalks.{ticks_are_walked}
 use Rattle.arj_disk_view_law.proofs.WholeWalks.{acts_are_walked, messages_are_walked}
 use Rattle.arj_disk_run_law.specs.Facts.{Gives}
@@ -59,8 +47,9 @@ use Rattle.arj_disk_run_law.specs.Kinds.{Agrees, AreOfOneNode, kinds_of}
 use Rattle.arj_disk_run_law.specs.Places.{ArePlaced}
 use Rattle.arj_disk_run_law.specs.Records.{AreRecorded}
 use Rattle.arj_disk_run_law.specs.Sound.{AreSound, VotesFit}
-use Rattle.arj_disk_run_law.specs.Runs.{CopiesAgree, HasState, IsSeenInRun, RunsAgree}
+use Rattle.arj_disk_run_law.specs.Runs.{IsSeenInRun, RunsAgree}
 use Rattle.arj_disk_run_law.proofs.Begun.{kinds_agree}
+use Rattle.arj_disk_run_law.proofs.Copies.{copies_agree}
 use Rattle.arj_disk_run_law.proofs.Known.{knows_node}
 use Rattle.arj_disk_run_law.proofs.Means.{All, coord_means}
 use Rattle.arj_disk_run_law.proofs.PlaceWalks.{ByTop, PlacedBy, begin_placed, both_here, format_placed, line_stays, message_placed, other_coord, placed_walk, prepared_begun, restart_placed, stop_placed, tick_means, up_here}
@@ -217,22 +206,6 @@ module _ (hd : Header) (x : ℕ) (has_it : HasObject hd x) (R : Seen → Type 0)
   }
 
 -- ---- copies agree
-
-has_state : (x : ℕ) (last : Packed) (m : Node) (o : Option ObjectState) → held_at (object x) m.disk.store ≡ o → option_map packed o ≡ Some last → HasState x last m
-has_state x last m None is h = absurd (cc h)
-has_state x last m (Some st) is h = (st, is, (let same : packed st ≡ last = cc h in same))
-
-pub copies_agree : (x : ℕ) (tops : Kinds) (W : World) (M : Seen) → SeesDisks x tops W M → CopiesAgree x M
-copies_agree x tops W M s = (disk.last W.disk, each)
-  where
-    each : (n m : Node) (q : ObjectState) (j : ℕ) → M.nodes 1 ≡ Some n → holder_of (entry x) n.disk.names ≡ None → held_at (entry x) n.disk.names ≡ Some q → is_listed j (state_entry q).stores ≡ true → M.nodes j ≡ Some m → holder_of (object x) m.disk.store ≡ None → HasState x (disk.last W.disk) m
-    each n m q j is free held on there clear =
-        let e : SeesEntry x n.disk.names W.disk = s.entry n is in
-        let o : SeesStore x j m.disk.store W.disk = s.stores j m there in
-        let same : packed_entry q ≡ W.disk.entry = some_is refl (ap (option_map packed_entry) (sym held) ∙ e.pair.held_is) in
-        let last = (clean W s.whole).stores (place_free (entry x) n.disk.names packed_entry (Some W.disk.entry) W.disk.entry_pend e.pair free) j (ap (λ (z : Packed). has j z.content) (sym same) ∙ sym (has_listed j (state_entry q).stores) ∙ on)
-        (place_free (object x) m.disk.store packed (W.disk.held j) (W.disk.pend j) o.pair clear) in
-        has_state x (disk.last W.disk) m (held_at (object x) m.disk.store) refl (o.pair.held_is ∙ last)
 
 pub runs_agree : RunsAgree
 runs_agree hd x has_it test kept gives es =

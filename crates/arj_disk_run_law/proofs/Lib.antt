@@ -1,4 +1,5 @@
 pub mod Begun
+pub mod Copies
 pub mod EntryRows
 pub mod Holders
 pub mod Kept

@@ -7,7 +7,7 @@ use Rattle.arj_protocol.specs.Values.{state_entry}
 use Rattle.arj_protocol.specs.World.{Asked, format, run_all}
 use Rattle.arj_part_law.specs.Actions.{Action}
 use Rattle.arj_run_law.specs.Worlds.{IsGoodOf}
-use Rattle.arj_disk_law.specs.State.{Packed}
+use Rattle.arj_disk_law.specs.State.{Below, Packed}
 use Rattle.arj_view_law.specs.Keeps.{Holds, Keeps}
 use Rattle.arj_view_law.specs.Seen.{Seen}
 use Rattle.arj_disk_view_law.specs.Formats.{HasObject}
@@ -29,11 +29,15 @@ IsSeenInRun R x M = (acts : List Action) × IsSeenWith R x acts M
 abbrev pub HasState : ℕ → Packed → Node → Type 0
 HasState x last m = (st : ObjectState) × (held_at (object x) m.disk.store ≡ Some st) × (packed st ≡ last)
 
--- Copies agree: where the object's entry isn't in doubt there is one state that each store which the entry lists holds, but for
--- a store where the object is in doubt.
+-- Copies agree on this state: where the object's entry isn't in doubt, each store that the entry lists holds it, but for a store
+-- where the object is in doubt. No store holds a later version, and of two states that stores hold in one version both are one.
+pub record AgreesOn (x : ℕ) (last : Packed) (M : Seen) : Type 0 where
+  pub listed : (n m : Node) (e : ObjectState) (s : ℕ) → M.nodes 1 ≡ Some n → holder_of (entry x) n.disk.names ≡ None → held_at (entry x) n.disk.names ≡ Some e → is_listed s (state_entry e).stores ≡ true → M.nodes s ≡ Some m → holder_of (object x) m.disk.store ≡ None → HasState x last m
+  pub below : (m : Node) (s : ℕ) (st : ObjectState) → M.nodes s ≡ Some m → held_at (object x) m.disk.store ≡ Some st → Below (packed st) last
+  pub one : (m n : Node) (s r : ℕ) (st su : ObjectState) → M.nodes s ≡ Some m → M.nodes r ≡ Some n → held_at (object x) m.disk.store ≡ Some st → held_at (object x) n.disk.store ≡ Some su → st.version ≡ su.version → packed st ≡ packed su
+
 abbrev pub CopiesAgree : ℕ → Seen → Type 0
-CopiesAgree x M = (last : Packed) × ((n m : Node) (e : ObjectState) (s : ℕ) → M.nodes 1 ≡ Some n → holder_of (entry x) n.disk.names ≡ None → held_at (entry x) n.disk.names ≡ Some e → is_listed s (state_entry e).stores ≡ true
-    → M.nodes s ≡ Some m → holder_of (object x) m.disk.store ≡ None → HasState x last m)
+CopiesAgree x M = (last : Packed) × AgreesOn x last M
 
 -- What is kept by each handler, and gives what the disk half counts on, keeps copies in agreement in every run.
 abbrev pub RunsAgree : Type 0

@@ -1,0 +1,65 @@
+-- Copies agree in what the disk machine is seen in.
+use Rattle.std.proofs.Common.{◌≡◌, ℕ, List, [], ◌∷◌, true, Option, Some, None, refl, sym, ◌∙◌, ap, inl, inr, arith}
+use Rattle.std.specs.Prelude.{option_map}
+use Rattle.arj_protocol.specs.Words.{ObjectState, entry, is_listed, object}
+use Rattle.arj_protocol.specs.Effect.{held_at, holder_of}
+use Rattle.arj_protocol.specs.Step.{Node}
+use Rattle.arj_protocol.specs.Values.{state_entry}
+use Rattle.arj_disk_law.specs.Core.{Chain}
+use Rattle.arj_disk_law.specs.Effects.{World}
+use Rattle.arj_disk_law.specs.State as disk
+use Rattle.arj_disk_law.specs.State.{Below, Done, KnownIn, Packed, last_in}
+use Rattle.arj_disk_law.specs.Words.{has}
+use Rattle.arj_disk_law.proofs.Base.{some_is}
+use Rattle.arj_disk_law.proofs.History.{known_last}
+use Rattle.arj_disk_law.proofs.Results.{clean}
+use Rattle.arj_view_law.specs.Seen.{Seen}
+use Rattle.arj_disk_view_law.specs.Entries.{SeesEntry}
+use Rattle.arj_disk_view_law.specs.Pairs.{packed, packed_entry}
+use Rattle.arj_disk_view_law.specs.Sees.{Kinds, SeesDisks}
+use Rattle.arj_disk_view_law.specs.Stores.{SeesStore}
+use Rattle.arj_disk_view_law.proofs.ConfirmWalks.{has_listed}
+use Rattle.arj_disk_view_law.proofs.StoreSteps.{place_free}
+use Rattle.arj_disk_run_law.specs.Runs.{CopiesAgree, HasState}
+
+-- two states that were last once, in one version, are one
+known_one : (first : Packed) (ds : List Done) (g h : Packed) → Chain first ds → KnownIn first ds g → KnownIn first ds h → g.version ≡ h.version → g ≡ h
+known_one first [] g h chain a b same = sym a ∙ b
+known_one first (d ∷ ds) g h chain (inl a) (inl b) same = some_is a b
+known_one first (d ∷ ds) g h chain (inr a) (inr b) same = known_one first ds g h chain.1 a b same
+known_one first (d ∷ ds) g h chain (inl a) (inr b) same = absurd (newer (known_last first ds h chain.1 b))
+  where
+    newer : Below h (last_in first ds) → ⊥
+    newer (inl less) = omega (arith, less, same, chain.0 g a)
+    newer (inr is) = omega (arith, ap (λ (z : Packed). z.version) is, same, chain.0 g a)
+known_one first (d ∷ ds) g h chain (inr a) (inl b) same = absurd (newer (known_last first ds g chain.1 a))
+  where
+    newer : Below g (last_in first ds) → ⊥
+    newer (inl less) = omega (arith, less, same, chain.0 h b)
+    newer (inr is) = omega (arith, ap (λ (z : Packed). z.version) is, same, chain.0 h b)
+
+has_state : (x : ℕ) (last : Packed) (m : Node) (o : Option ObjectState) → held_at (object x) m.disk.store ≡ o → option_map packed o ≡ Some last → HasState x last m
+has_state x last m None is h = absurd (cc h)
+has_state x last m (Some st) is h = (st, is, (let same : packed st ≡ last = cc h in same))
+
+pub copies_agree : (x : ℕ) (tops : Kinds) (W : World) (M : Seen) → SeesDisks x tops W M → CopiesAgree x M
+copies_agree x tops W M s = (disk.last W.disk, record { listed = each; below = below; one = one })
+  where
+    each : (n m : Node) (q : ObjectState) (j : ℕ) → M.nodes 1 ≡ Some n → holder_of (entry x) n.disk.names ≡ None → held_at (entry x) n.disk.names ≡ Some q → is_listed j (state_entry q).stores ≡ true → M.nodes j ≡ Some m → holder_of (object x) m.disk.store ≡ None → HasState x (disk.last W.disk) m
+    each n m q j is free held on there clear =
+        let e : SeesEntry x n.disk.names W.disk = s.entry n is in
+        let o : SeesStore x j m.disk.store W.disk = s.stores j m there in
+        let same : packed_entry q ≡ W.disk.entry = some_is refl (ap (option_map packed_entry) (sym held) ∙ e.pair.held_is) in
+        let last = (clean W s.whole).stores (place_free (entry x) n.disk.names packed_entry (Some W.disk.entry) W.disk.entry_pend e.pair free) j (ap (λ (z : Packed). has j z.content) (sym same) ∙ sym (has_listed j (state_entry q).stores) ∙ on)
+        (place_free (object x) m.disk.store packed (W.disk.held j) (W.disk.pend j) o.pair clear) in
+        has_state x (disk.last W.disk) m (held_at (object x) m.disk.store) refl (o.pair.held_is ∙ last)
+
+    -- what a store holds was the last state once
+    known : (m : Node) (j : ℕ) (st : ObjectState) → M.nodes j ≡ Some m → held_at (object x) m.disk.store ≡ Some st → disk.Known W.disk (packed st)
+    known m j st there held = let o : SeesStore x j m.disk.store W.disk = s.stores j m there in s.whole.core.history.held j (packed st) (sym o.pair.held_is ∙ ap (option_map packed) held)
+
+    below : (m : Node) (j : ℕ) (st : ObjectState) → M.nodes j ≡ Some m → held_at (object x) m.disk.store ≡ Some st → Below (packed st) (disk.last W.disk)
+    below m j st there held = known_last W.disk.first W.disk.tops (packed st) s.whole.core.history.chain (known m j st there held)
+
+    one : (m n : Node) (j r : ℕ) (st su : ObjectState) → M.nodes j ≡ Some m → M.nodes r ≡ Some n → held_at (object x) m.disk.store ≡ Some st → held_at (object x) n.disk.store ≡ Some su → st.version ≡ su.version → packed st ≡ packed su
+    one m n j r st su here there held held_there same = known_one W.disk.first W.disk.tops (packed st) (packed su) s.whole.core.history.chain (known m j st here held) (known n r su there held_there) same
