@@ -17,7 +17,8 @@ use Rattle.arj_part_law.specs.Tops.{IsHolder, Owners}
 use Rattle.arj_part_law.proofs.EntryLocks.{on_holder}
 use Rattle.arj_part_law.proofs.Keys.{drop_on, without_cases}
 use Rattle.arj_lock_view_law.specs.Acts.{Acts}
-use Rattle.arj_lock_view_law.specs.Bindings.{AbortsAreSeen, AreOwned, IsGood, MayGo, OnlyTold}
+use Rattle.arj_lock_view_law.specs.Bindings.{IsGood}
+use Rattle.arj_lock_view_law.specs.Ends.{AbortsAreSeen, AreOwned, MayGo, OnlyTold}
 use Rattle.arj_lock_view_law.specs.Going.{Goes, OnlyNaming}
 use Rattle.arj_lock_view_law.specs.Named.{Place, SeesNamed}
 use Rattle.arj_lock_view_law.proofs.RowSteps.{AreAlong, dropped_seen}

@@ -1,4 +1,6 @@
 pub mod BindSteps
 pub mod EndSteps
 pub mod NoteSteps
+pub mod PassSteps
+pub mod RestartSteps
 pub mod RowSteps

@@ -1,14 +1,10 @@
--- What naming does with a Bind, a Record, a Hello and an end that counts as an abort, in the machine.
-use Rattle.std.specs.Prelude.{◌≡◌, ◌⊎◌, ℕ, Bool, true, false}
+-- What naming does with a Bind, a Record and a Hello, in the machine.
+use Rattle.std.specs.Prelude.{◌≡◌, ℕ, Bool, true, false}
 use Rattle.arj_protocol.specs.Words.{Uid, Path, Binding, Entry}
-use Rattle.arj_protocol.specs.Words.ending
 use Rattle.arj_protocol.specs.Ask.{top_of}
-use Rattle.arj_protocol.specs.Named.{Named, bind_named, note_named, end_named, hello_named}
-use Rattle.arj_lock_law.specs.Actions.{Act, is_top, on}
+use Rattle.arj_protocol.specs.Named.{Named, bind_named, note_named, hello_named}
 use Rattle.arj_lock_law.specs.State.{State}
-use Rattle.arj_lock_law.specs.Steps.{IsGone}
-use Rattle.arj_part_law.specs.Objects.{IsGoodObject, IsToldOf}
-use Rattle.arj_part_law.specs.Rows.{Told}
+use Rattle.arj_part_law.specs.Objects.{IsGoodObject}
 use Rattle.arj_part_law.specs.Tops.{Owners}
 use Rattle.arj_lock_view_law.specs.Acts.{Acts, AreOne, IsTopped}
 use Rattle.arj_lock_view_law.specs.Going.{Goes, OnlyNaming, ShowsBound, ShowsNoted}
@@ -45,21 +41,3 @@ NotesAreSeen = (act : Acts) (owner : Owners) (x : ℕ) (n : Place) (o : Named) (
 -- A Hello may take a live binding away: the machine does nothing.
 abbrev pub HellosAreSeen : Type 0
 HellosAreSeen = (act : Acts) (x : ℕ) (n : Place) (o : Named) (node inc : ℕ) (S : State) → SeesNamed act x n o S → SeesNamed act x n (hello_named node inc o) S
-
--- each action stands below its owner, which is itself or its serializing action
-abbrev pub AreOwned : Acts → Owners → Type 0
-AreOwned act owner = (u : Uid) → on (act u) (act (owner u)) ≡ true
-
--- naming was told of nobody else's end but of those below the action
-abbrev pub OnlyTold : Acts → Uid → State → State → Type 0
-OnlyTold act u S T = (a : Act) → T.naming.told a ≡ true → (S.naming.told a ≡ true) ⊎ (on a (act u) ≡ true)
-
--- The end of an action of which the machine may drop the rows: it was aborted, its unit is over, or naming didn't confirm it.
-abbrev pub MayGo : State → Act → Type 0
-MayGo S a = IsGone S a ⊎ ((is_top a ≡ true) × ((S.action a).stage ≡ 3) × (S.naming.confirmed a ≡ false))
-
--- An end that naming takes for an abort: the machine drops the rows of the action and of all below it.
-abbrev pub AbortsAreSeen : Type 0
-AbortsAreSeen = (act : Acts) (owner : Owners) (x : ℕ) (n : Place) (told : Told) (o : Named) (u : Uid) (S : State)
-    → AreOwned act owner → IsToldOf n.told told u → MayGo S (act u) → IsGood owner x n o → SeesNamed act x n o S
-    → Goes S (λ T. SeesNamed act x (record n { told = told }) (end_named u ending.Abort o) T × OnlyNaming S T × OnlyTold act u S T)

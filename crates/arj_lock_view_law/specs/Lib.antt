@@ -3,3 +3,4 @@ pub mod Rows
 pub mod Named
 pub mod Going
 pub mod Bindings
+pub mod Ends

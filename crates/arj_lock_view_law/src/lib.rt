@@ -5,11 +5,14 @@
 //! `arj_disk_view_law` does for the disk machine; a call of a part is then a run of the machine, allowed step by step, after
 //! which the place is seen again. It stands on `arj_protocol`, `arj_lock_law` and what the parts keep (`arj_part_law`).
 //! `specs/Acts.antt` has the machine's paths of actions, `specs/Rows.antt` the rows of a lock table, `specs/Named.antt` an
-//! object at naming, `specs/Going.antt` what a run leaves alone and what an answer shows. What it gives upward: a Bind, a Record, a
-//! Hello and an end that counts as an abort go (`specs/Bindings.antt`). Commits, confirmations, restarts, servers and coordinators
-//! aren't seen yet.
+//! object at naming, `specs/Going.antt` what a run leaves alone and what an answer shows. What it gives upward: a Bind, a
+//! Record and a Hello go (`specs/Bindings.antt`), and so do ends, exclude locks and a restart (`specs/Ends.antt`): that is what
+//! naming does with one object. Confirmations of whole tops, servers and coordinators aren't seen yet.
 #![tactic(auto)]
 
 mod naming;
 
-pub use naming::{aborts_are_seen, binds_are_seen, hellos_are_seen, records_are_seen};
+pub use naming::{
+    binds_are_seen, ends_are_seen, excludes_are_seen, hellos_are_seen, records_are_seen,
+    restarts_are_seen,
+};

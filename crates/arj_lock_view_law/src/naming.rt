@@ -1,5 +1,6 @@
 // Naming, as the lock machine of one object has it.
-ghost use Rattle.arj_lock_view_law.specs.Bindings.{AbortsAreSeen, BindsAreSeen, HellosAreSeen, NotesAreSeen};
+ghost use Rattle.arj_lock_view_law.specs.Bindings.{BindsAreSeen, HellosAreSeen, NotesAreSeen};
+ghost use Rattle.arj_lock_view_law.specs.Ends.{AbortsAreSeen, CommitsAreSeen, ExcludesAreSeen, FallsAreSeen, PassesAreSeen, RestartsAreSeen};
 
 /// What naming answers to a Bind is allowed in the machine, for one object, and leaves the object seen: a row and the live
 /// binding, a new binding under the write row, or the write row alone. It does nothing when it runs.
@@ -18,8 +19,23 @@ pub fn hellos_are_seen()
     ensures { HellosAreSeen }
 {}
 
-/// An end that naming takes for an abort is allowed in the machine, where the machine may drop the rows of the action and of all
-/// below it, and leaves the object seen. It does nothing when it runs.
-pub fn aborts_are_seen()
-    ensures { AbortsAreSeen }
+/// An end of an action leaves the object seen: an abort, and a commit of a plain top or of one that isn't confirmed, drop rows in
+/// the machine, where it may drop them; a commit of a confirmed constituent passes them to its unit. It does nothing when it
+/// runs.
+pub fn ends_are_seen()
+    ensures aborts { AbortsAreSeen }
+    ensures commits { CommitsAreSeen }
+    ensures passes { PassesAreSeen }
+{}
+
+/// The exclude locks of a Confirm are nothing to the machine. It does nothing when it runs.
+pub fn excludes_are_seen()
+    ensures { ExcludesAreSeen }
+{}
+
+/// When naming stops and is up again the machine's naming restarts, and the object is seen whatever rows naming gives back. It
+/// does nothing when it runs.
+pub fn restarts_are_seen()
+    ensures falls { FallsAreSeen }
+    ensures restarts { RestartsAreSeen }
 {}
