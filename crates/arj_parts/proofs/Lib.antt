@@ -4,3 +4,5 @@ pub mod StateWorks
 pub mod StateAsks
 pub mod Rests
 pub mod Servings
+pub mod RecordWorks
+pub mod Coordinated

@@ -1,12 +1,14 @@
 // Lines and messages are handed back.
 ghost use Rattle.std.specs.Prelude.{◌≡◌, ◌++◌, ◌∷◌, [], map, OnOk};
-ghost use Rattle.arj_node.specs.Outgoing.{effects_of};
+ghost use Rattle.arj_coord.specs.Shown.{effect_of};
+ghost use Rattle.arj_node.specs.Outgoing.{Tells, effects_of};
 ghost use Rattle.arj_parts.specs.Said.{says_of};
 ghost use Rattle.arj_protocol.specs.Node.{query_about};
 ghost use Rattle.arj_serve.specs.Asked.{sent_to};
 ghost use Rattle.arj_serve.specs.Did.{sends};
 
 use arj_base::Uid;
+use arj_coord::{Effect, Effects};
 use arj_journal::Lines;
 use arj_msg::{Message, Query};
 use arj_node::Outgoings;
@@ -19,6 +21,29 @@ pub fn say_lines(lines: Lines, outs: &mut Outgoings) -> Result<(), AllocError>
 {
     for line in lines.into_vec() {
         outs.say(line.body)?;
+    }
+    Ok(())
+}
+
+// One effect, but for work.
+#[tactic(auto, using(crate::proofs::Telling::one_more, crate::proofs::Telling::nothing_more))]
+fn tell_one(effect: Effect, outs: &mut Outgoings) -> Result<(), AllocError>
+    ensures { OnOk result (Tells (effect_of effect ∷ []) outs.old outs.new) }
+{
+    match effect {
+        Effect::Say(body) => outs.say(body),
+        Effect::Send(to, message) => outs.send(to, message),
+        Effect::PutRecord(_) | Effect::RemoveRecord(_) => Ok(()),
+    }
+}
+
+/// Hands back what a coordinator did, but for work.
+#[tactic(auto, using(crate::proofs::Telling::tell_step, crate::proofs::Telling::nothing_more))]
+pub fn tell(effects: Effects, outs: &mut Outgoings) -> Result<(), AllocError>
+    ensures { OnOk result (Tells effects outs.old outs.new) }
+{
+    for effect in effects.into_vec() {
+        tell_one(effect, outs)?;
     }
     Ok(())
 }
