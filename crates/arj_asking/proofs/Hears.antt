@@ -1,6 +1,6 @@
 -- A message to the coordinator, by what the action that had asked waits for.
 use Rattle.std.proofs.Common.{◌≡◌, ℕ, ◌+◌, ◌<◌, List, [], ◌∷◌, ◌++◌, Bool, true, false, Option, Some, None, refl, ap, sym, ◌∙◌, subst, arith, append_assoc}
-use Rattle.std.specs.Prelude.{IfSome, option_map, if◌then◌else◌}
+use Rattle.std.specs.Prelude.{◌↔◌, IfSome, IsTrue, option_map, if◌then◌else◌}
 use Rattle.arj_asking.proofs.Changes.{root_back, root_behind, same_roots}
 use Rattle.arj_asking.proofs.Forgets.{forgets_call, forgets_commit, forgets_lines}
 use Rattle.arj_asking.proofs.Paths.{given_up_of, heard_of}
@@ -229,6 +229,15 @@ has_next u c s is room = omega (arith, is, room)
 pub asker_has_room : (o : Option (Asked × Reply)) (u : Uid) (c : Coord) → asker_in o ≡ Some u → AskerHasRoom o c → HasRoom u c
 asker_has_room None u c asks room = absurd cc
 asker_has_room (Some a) u c asks room = let act : a.0.act ≡ u = cc in subst (λ v. HasRoom v c) act room
+
+-- and that is all of it
+pub room_of_asker : (o : Option (Asked × Reply)) (u : Uid) (c : Coord) (b : Bool) → Some u ≡ asker_in o → (IsTrue b ↔ HasRoom u c) → (IsTrue b ↔ AskerHasRoom o c)
+room_of_asker None u c b asks same = absurd cc
+room_of_asker (Some a) u c b asks same = let act : u ≡ a.0.act = cc in subst (λ v. IsTrue b ↔ HasRoom v c) act same
+
+pub no_asker_room : (o : Option (Asked × Reply)) (c : Coord) → None ≡ asker_in o → (IsTrue true ↔ AskerHasRoom o c)
+no_asker_room None c asks = ((λ t. tt), (λ t. refl))
+no_asker_room (Some a) c asks = absurd cc
 
 loaded_by : (st : ObjectState) (o : Option Doing) (s : Steps) → is_loaded_for st o ≡ true → Calling s ≡ now_in o → uid_eq st.uid (object s.x) ≡ true
 loaded_by st None s meant is = absurd cc

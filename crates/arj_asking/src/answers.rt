@@ -1,5 +1,5 @@
 // Answers.
-ghost use Rattle.std.specs.Prelude.{◌≡◌, ◌++◌, is_some, true, IfOk, IfSome, List, None, OnOk};
+ghost use Rattle.std.specs.Prelude.{◌≡◌, ◌++◌, ◌↔◌, is_some, true, IfOk, IfSome, IsTrue, List, None, OnOk};
 ghost use Rattle.arj_asking.specs.Calls.{HasNext, MeantFor};
 ghost use Rattle.arj_asking.specs.Hearing.{IsAwaited, asker_in, free_in, heard_as, waits_in};
 ghost use Rattle.arj_asking.specs.Rooms.{AskerHasRoom};
@@ -21,6 +21,7 @@ ghost use Rattle.arj_protocol.specs.Tree.{root_of};
 
 use crate::calls::{caller_of, step_call};
 use crate::commits::hear_commit;
+use crate::rooms::has_room;
 use arj_base::{ObjectState, Uid, object_uid};
 use arj_bind::{CallStep, CallSteps};
 use arj_coord::{Commit, Coord, Effects, Now, Records};
@@ -79,6 +80,16 @@ fn asker(message: &Message) -> Option<Uid>
         | Message::Acked(_)
         | Message::Query(_)
         | Message::Hello(_) => None,
+    }
+}
+
+/// Whether the action that had asked for what a message answers has as many request numbers left as a step of it may take.
+pub fn asker_has_room(coord: &Coord, message: &Message) -> bool
+    ensures { IsTrue result ↔ AskerHasRoom (answers message.now) coord.now }
+{
+    match asker(message) {
+        Some(action) => has_room(coord, action),
+        None => true,
     }
 }
 

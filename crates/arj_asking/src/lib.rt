@@ -17,7 +17,7 @@ mod requests;
 mod rooms;
 mod ticks;
 
-pub use answers::{heard, is_meant};
+pub use answers::{asker_has_room, heard, is_meant};
 pub use begins::begin_action;
 pub use calls::{call, include};
 pub use commits::commit_action;
