@@ -4,3 +4,5 @@ pub mod NoHalts
 pub mod Written
 pub mod Spoken
 pub mod Whole
+pub mod CoordNames
+pub mod EndLines

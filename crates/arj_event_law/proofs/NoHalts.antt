@@ -1,9 +1,9 @@
 -- No step but a crash says that a node halted.
-use Rattle.std.proofs.Common.{◌≡◌, ◌∙◌, ◌==◌, ◌&&◌, ℕ, zero, suc, Bool, true, false, cond, List, [], ◌∷◌, ◌++◌, ◌+◌, map, filter, refl, sym, Option, Some, None}
+use Rattle.std.proofs.Common.{◌≡◌, ◌∙◌, ◌==◌, ◌&&◌, ℕ, zero, suc, Bool, true, false, cond, List, [], ◌∷◌, ◌++◌, ◌+◌, map, filter, refl, sym, Option, Some, None, arith}
 use Rattle.std.specs.Prelude.{option_map}
 use Rattle.std.specs.List.{list_all}
 use Rattle.std.proofs.lemmas.Bool.{and_parts}
-use Rattle.arj_event_law.specs.Halts.{is_crash, is_no_halt, says_no_halt}
+use Rattle.arj_event_law.specs.Halts.{is_crash, is_no_halt, says_no_halt, says_own_halt}
 use Rattle.arj_protocol.proofs.CoordSays.{acked_own, acts_own, again_own, heard_own, query_own, tolds_again_own}
 use Rattle.arj_protocol.proofs.PartSays.{activate_own, all_both, all_flat, bind_own, confirm_own, ends_own, invoke_own, note_own, told_own, vote_own}
 use Rattle.arj_protocol.specs.Ask.{Reply, actor, answers, asked_by, last_end, response}
@@ -345,5 +345,24 @@ step_both hd n i isnt = by (refusal hd i n)
     live (Some t) = up_both n t i isnt
 
     by : (r : Option ℕ) → Both (step_unless hd i n r)
+    by (Some c) = (refl, refl)
+    by None = live n.live
+
+-- ---- a crash
+
+abbrev OfItself : ℕ → Step → Type 0
+OfItself k s = AreAll (says_own_halt k) s.outs × AreAll (says_own_halt k) s.halting
+
+pub crash_own : (hd : Header) (n : Node) → OfItself n.number (step.step hd n Crash)
+crash_own hd n = by (refusal hd Crash n)
+  where
+    said : AreAll (says_own_halt n.number) (Say (body.Halted n.number) ∷ [])
+    said = let same : (n.number == n.number) ≡ true = grind arith in λ i. same i && true
+
+    live : (o : Option Parts) → OfItself n.number (step_of hd Crash n o)
+    live None = (refl, refl)
+    live (Some t) = (said, said)
+
+    by : (r : Option ℕ) → OfItself n.number (step_unless hd Crash n r)
     by (Some c) = (refl, refl)
     by None = live n.live

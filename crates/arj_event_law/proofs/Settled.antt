@@ -1,11 +1,16 @@
 -- Each delivery of a settle uses up a frame.
-use Rattle.std.proofs.Common.{◌≡◌, ◌∙◌, ◌≤◌, ◌+◌, ℕ, zero, suc, Bool, true, false, cond, length, inl, inr, refl, sym, ap, subst, arith, Option, Some, None}
-use Rattle.std.specs.Prelude.{slice_set}
+use Rattle.std.proofs.Common.{◌≡◌, ◌∙◌, ◌≤◌, ◌+◌, ◌⊎◌, ℕ, zero, suc, Bool, true, false, not, cond, List, [], ◌∷◌, length, inl, inr, refl, sym, ap, subst, arith, Option, Some, None}
+use Rattle.std.specs.Prelude.{◌||◌, slice_set}
 use Rattle.arj_event_law.proofs.Frames.{IsOpenAt, lowest_open, none_open, over, over_marked, length_marked, steps_add}
-use Rattle.arj_event_law.specs.Settles.{IsSettled}
+use Rattle.arj_event_law.specs.Settles.{EventsLeaveNothing, IsSettled}
 use Rattle.arj_protocol.specs.Step as input
 use Rattle.arj_protocol.specs.Tree.{at_place, set_place}
-use Rattle.arj_protocol.specs.World.{World, Frame, as_delivered, change_frame, deliver, deliver_frame, is_open_frame, lowest, lowest_from, most_frames, settle, settle_for}
+use Rattle.arj_protocol.specs.Step.{first_reason}
+use Rattle.arj_protocol.specs.Words.{Event}
+use Rattle.arj_protocol.specs.Words.body
+use Rattle.arj_protocol.specs.Words.event
+use Rattle.arj_protocol.specs.Words.which
+use Rattle.arj_protocol.specs.World.{World, Frame, as_delivered, change_frame, counted, deliver, deliver_frame, is_open_frame, is_quiet, is_up_at, limited, lowest, lowest_from, most_frames, node_numbers, quiesce, quiet_line, reasons, run_unless, says, settle, settle_for, steps, tick_all, tick_up}
 
 -- one more frame is over, and there are no more than a run may have
 pub record UsesUp (old new : World) : Type 0 where
@@ -54,3 +59,68 @@ settled_for (suc fuel) w few enough = next_settled fuel w (settled_for fuel) few
 
 pub settled : (w : World) → length w.frames ≤ most_frames → IsSettled (settle w)
 settled w few = settled_for most_frames w few (omega arith)
+
+-- ---- events
+
+abbrev Few : World → Type 0
+Few w = length w.frames ≤ most_frames
+
+deliver_few : (k : ℕ) (w : World) → Few w → Few (deliver k w)
+deliver_few k w few = by (at_place k w.frames)
+  where
+    marked : (k : ℕ) (f : Frame) → length (set_place k f w.frames) ≡ length w.frames
+    marked zero f = refl
+    marked (suc k) f = length_marked w.frames k f
+
+    by : (o : Option Frame) → Few (deliver_frame k w o)
+    by None = few
+    by (Some f) = let adds = steps_add f.to (input.Frame k f.from f.message) (change_frame k as_delivered f w) in adds.few (omega (arith, few, marked k (as_delivered f)))
+
+settle_few : (fuel : ℕ) (w : World) → Few w → Few (settle_for fuel w)
+settle_few zero w few = few
+settle_few (suc fuel) w few = by (lowest w) (λ k. settle_few fuel (deliver k w) (deliver_few k w few))
+  where
+    by : (o : Option ℕ) → ((k : ℕ) → Few (settle_for fuel (deliver k w))) → Few (elim o [ None ↦ w | Some k ↦ settle_for fuel (deliver k w) ])
+    by None rest = few
+    by (Some k) rest = rest k
+
+ticks_few : (ns : List ℕ) (w : World) → Few w → Few (tick_all ns w)
+ticks_few [] w few = few
+ticks_few (n ∷ ns) w few = ticks_few ns (tick_up n w) (by (w.full || not (is_up_at n w)))
+  where
+    by : (b : Bool) → Few (cond b w (steps n input.Tick w))
+    by true = few
+    by false = let adds = steps_add n input.Tick w in adds.few few
+
+quiet_settled : (w : World) → IsSettled w → IsSettled (quiet_line w)
+quiet_settled w is = by w.full
+  where
+    by : (b : Bool) → IsSettled (cond b w (says (body.Quiet (is_quiet w) ∷ []) w))
+    by true = is
+    by false = is
+
+quiesced : (w : World) → Few w → IsSettled (quiesce w)
+quiesced w few =
+    let first = settle w in
+    let ticked = tick_all (node_numbers w) first in
+    quiet_settled (settle ticked) (settled ticked (ticks_few (node_numbers w) first (settle_few most_frames w few)))
+
+-- where the run goes on all frames fitted
+goes_on : (w : World) → IsSettled w → (limited w).over ≡ false → lowest_from 1 (limited w).frames ≡ None
+goes_on w is = by w.full refl is
+  where
+    by : (b : Bool) → w.full ≡ b → IsSettled w → (cond b (says (body.Limit which.Frames ∷ []) (record w { over = true })) w).over ≡ false → lowest_from 1 (cond b (says (body.Limit which.Frames ∷ []) (record w { over = true })) w).frames ≡ None
+    by true full is over = absurd (cc over)
+    by false full (inl isnt) over = absurd (cc (sym full ∙ isnt))
+    by false full (inr none) over = none
+
+pub events_settle : EventsLeaveNothing
+events_settle e w which few over =
+    subst (λ b. (cond b w (run_unless e.event e.arm w (first_reason (reasons e.event w)))).over ≡ false → lowest_from 1 (cond b w (run_unless e.event e.arm w (first_reason (reasons e.event w)))).frames ≡ None) (sym over) (by which)
+  where
+    Leaves : Event → Type 0
+    Leaves x = (run_unless x e.arm w (first_reason (reasons x w))).over ≡ false → lowest_from 1 (run_unless x e.arm w (first_reason (reasons x w))).frames ≡ None
+
+    by : (e.event ≡ event.Settle) ⊎ (e.event ≡ event.Quiesce) → Leaves e.event
+    by (inl is) = subst Leaves (sym is) (goes_on (settle (counted w)) (settled (counted w) few))
+    by (inr is) = subst Leaves (sym is) (goes_on (quiesce (counted w)) (quiesced (counted w) few))

@@ -26,11 +26,11 @@ use Rattle.arj_protocol.specs.World.{World, Arm, Asked, Frame, Giving, Labelled,
 
 -- ---- what steps say
 
-abbrev unless : Header → Input → Node → Option ℕ → Option Parts → Step
+abbrev pub unless : Header → Input → Node → Option ℕ → Option Parts → Step
 unless hd i n (Some c) o = only_says n (body.Refused c)
 unless hd i n None o = step_of hd i n o
 
-unless_is : (hd : Header) (i : Input) (n : Node) (r : Option ℕ) → step_unless hd i n r ≡ unless hd i n r n.live
+pub unless_is : (hd : Header) (i : Input) (n : Node) (r : Option ℕ) → step_unless hd i n r ≡ unless hd i n r n.live
 unless_is hd i n (Some c) = refl
 unless_is hd i n None = refl
 

@@ -60,7 +60,8 @@ down_number hd n (input.Commit l) = refl
 down_number hd n (input.Abort l) = refl
 down_number hd n (input.GiveUp l) = refl
 
-step_number : (hd : Header) (n : Node) (i : Input) → (step hd n i).after.number ≡ n.number
+-- whatever a node does
+pub step_number : (hd : Header) (n : Node) (i : Input) → (step hd n i).after.number ≡ n.number
 step_number hd n i = by (refusal hd i n)
   where
     live : (o : Option Parts) → (step_of hd i n o).after.number ≡ n.number
@@ -295,7 +296,7 @@ module _ (w : World) (whole : IsWhole w) (a : Arm) where
       by false = kept (junk_fits n (counted w) false) (keeps_same (counted w) (junk_fits n (counted w) false) refl refl refl)
   happens_whole (event.Show x) none = kept (show_all x (node_numbers (counted w)) (counted w)) (shows_keep x (node_numbers (counted w)) (counted w))
 
-event_whole : (e : Asked) (w : World) → IsWhole w → IsWhole (run_event e w)
+pub event_whole : (e : Asked) (w : World) → IsWhole w → IsWhole (run_event e w)
 event_whole e w whole = over w.over
   where
     accepted : (b : Bool) → first_reason (reasons e.event w) ≡ None → IsWhole (cond b (no_labels w) (limited (happens e.event e.arm (counted w))))
@@ -350,7 +351,7 @@ module _ (hd : Header) where
   firsts_numbered zero = tt
   firsts_numbered (suc n) = subst (AreNumbered 1) (sym (firsts_next n)) (one_more 1 (firsts n) (first_node hd (suc n)) (firsts_numbered n) (sym (ap (λ k. 1 + k) (firsts_count n) ∙ grind arith)))
 
-  format_whole : IsWhole (format hd)
+  pub format_whole : IsWhole (format hd)
   format_whole = record { nodes = nodes; numbers = numbers; labels = tt }
     where
       nodes : (n : ℕ) → is_node n (format hd) ≡ true → is_some (at_place n (firsts hd.nodes)) ≡ true

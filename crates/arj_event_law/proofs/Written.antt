@@ -25,10 +25,10 @@ pub record Stands {A : Type 0} (x : A) (xs : List A) : Type 0 where
 pub first_stands : {A : Type 0} (x : A) (xs : List A) → Stands x (x ∷ xs)
 first_stands x xs = record { before = []; after = xs; are = refl }
 
-stands_behind : {A : Type 0} (x : A) (ys xs : List A) → Stands x xs → Stands x (ys ++ xs)
+pub stands_behind : {A : Type 0} (x : A) (ys xs : List A) → Stands x xs → Stands x (ys ++ xs)
 stands_behind x ys xs s = record { before = ys ++ s.before; after = s.after; are = ap (λ zs. ys ++ zs) s.are ∙ sym (append_assoc ys s.before (x ∷ s.after)) }
 
-stands_before : {A : Type 0} (x : A) (xs ys : List A) → Stands x xs → Stands x (xs ++ ys)
+pub stands_before : {A : Type 0} (x : A) (xs ys : List A) → Stands x xs → Stands x (xs ++ ys)
 stands_before x xs ys s = record { before = s.before; after = s.after ++ ys; are = ap (λ zs. zs ++ ys) s.are ∙ append_assoc s.before (x ∷ s.after) ys }
 
 last_stands : {A : Type 0} (x : A) (xs : List A) → Stands x (xs ++ x ∷ [])
@@ -44,7 +44,7 @@ said_in n k b (Do w ∷ es) back = said_in n k b es back
 pub said_of : (n k : ℕ) (b : Body) (es : List Effect) → Stands (Say b) es → Stands b (bodies n k es)
 said_of n k b es s = subst (λ xs. Stands b (bodies n k xs)) (sym s.are) (said_in n k b s.before s.after)
 
-numbered_in : (ev : ℕ) (b : Body) (bs : List Body) → Stands b bs → Stands (record { event = ev; body = b }) (numbered ev bs)
+pub numbered_in : (ev : ℕ) (b : Body) (bs : List Body) → Stands b bs → Stands (record { event = ev; body = b }) (numbered ev bs)
 numbered_in ev b bs s = subst (λ xs. Stands (record { event = ev; body = b }) (numbered ev xs)) (sym s.are) (go s.before)
   where
     go : (front : List Body) → Stands (record { event = ev; body = b }) (numbered ev (front ++ b ∷ s.after))

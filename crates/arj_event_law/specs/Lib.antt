@@ -1,3 +1,4 @@
 pub mod Settles
 pub mod Halts
 pub mod Writes
+pub mod Named

@@ -1,6 +1,7 @@
 -- What a settle leaves.
-use Rattle.std.specs.Prelude.{◌≡◌, ◌≤◌, ◌⊎◌, true, length, None}
-use Rattle.arj_protocol.specs.World.{World, lowest_from, most_frames, settle}
+use Rattle.std.specs.Prelude.{◌≡◌, ◌≤◌, ◌⊎◌, true, false, length, None}
+use Rattle.arj_protocol.specs.Words.event
+use Rattle.arj_protocol.specs.World.{Asked, World, lowest_from, most_frames, run_event, settle}
 
 -- no frame is open, each was delivered or lost; or one didn't fit
 abbrev pub IsSettled : World → Type 0
@@ -9,3 +10,8 @@ IsSettled w = (w.full ≡ true) ⊎ (lowest_from 1 w.frames ≡ None)
 -- of any world with no more frames than a run may have
 abbrev pub SettlesLeaveNothing : Type 0
 SettlesLeaveNothing = (w : World) → length w.frames ≤ most_frames → IsSettled (settle w)
+
+-- after a settle or a quiesce no frame is open, unless the run is over
+abbrev pub EventsLeaveNothing : Type 0
+EventsLeaveNothing = (e : Asked) (w : World) → (e.event ≡ event.Settle) ⊎ (e.event ≡ event.Quiesce) → length w.frames ≤ most_frames → w.over ≡ false
+    → (run_event e w).over ≡ false → lowest_from 1 (run_event e w).frames ≡ None

@@ -66,15 +66,25 @@ pub data Answers (e : Event) (w : World) (b : Body) : Type 0 where
   IsLabels : b ≡ body.Limit which.Labels → Answers e w b
 
 -- among the lines that the event added is one that answers it
-pub record Writes (e : Event) (old new : World) : Type 0 where
+pub record IsAnswered (e : Event) (old : World) (lines : List Line) : Type 0 where
   pub before : List Line
   pub line : Line
   pub after : List Line
-  pub are : new.lines ≡ old.lines ++ (before ++ line ∷ after)
+  pub are : lines ≡ old.lines ++ (before ++ line ∷ after)
   pub answers : Answers e old line.body
+
+abbrev pub Writes : Event → World → World → Type 0
+Writes e old new = IsAnswered e old new.lines
 
 abbrev pub EventsWriteTheirLines : Type 0
 EventsWriteTheirLines = (e : Asked) (w : World) → IsWhole w → w.over ≡ false → has_own e.event ≡ true → Writes e.event w (run_event e w)
+
+-- an event leaves a world whole
+abbrev pub EventsKeepWhole : Type 0
+EventsKeepWhole = (e : Asked) (w : World) → IsWhole w → IsWhole (run_event e w)
+
+abbrev pub FormatsAreWhole : Type 0
+FormatsAreWhole = (hd : Header) → IsWhole (format hd)
 
 -- in every run
 abbrev pub RunsAreWhole : Type 0

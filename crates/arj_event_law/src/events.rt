@@ -1,23 +1,34 @@
 // Laws of events.
-ghost use Rattle.arj_event_law.specs.Halts.{OnlyCrashesSayHalted};
-ghost use Rattle.arj_event_law.specs.Settles.{SettlesLeaveNothing};
-ghost use Rattle.arj_event_law.specs.Writes.{EventsWriteTheirLines, RunsAreWhole};
+ghost use Rattle.arj_event_law.specs.Halts.{CrashesSayTheirOwn, OnlyCrashesSayHalted};
+ghost use Rattle.arj_event_law.specs.Named.{EndsWriteTheirLines};
+ghost use Rattle.arj_event_law.specs.Settles.{EventsLeaveNothing, SettlesLeaveNothing};
+ghost use Rattle.arj_event_law.specs.Writes.{EventsKeepWhole, EventsWriteTheirLines, FormatsAreWhole, RunsAreWhole};
 
 /// After a settle each frame was delivered or lost, unless one didn't fit; so the fuel that the protocol's settle has is
-/// enough. It does nothing when it runs.
+/// enough. After an event that settles none is open, unless the run is over. It does nothing when it runs.
 pub fn settles_leave_nothing()
     ensures settled { SettlesLeaveNothing }
+    ensures events { EventsLeaveNothing }
 {}
 
-/// No step of a node says that a node halted, whatever it is asked, but a crash; so a line that says so in another event
-/// tells of a stop. It does nothing when it runs.
+/// No step of a node says that a node halted, whatever it is asked, but a crash, and that says it of its own node; so any other
+/// line that says so tells of a stop. It does nothing when it runs.
 pub fn only_crashes_say_halted()
     ensures crashes { OnlyCrashesSayHalted }
+    ensures own { CrashesSayTheirOwn }
 {}
 
 /// An event of a kind with a line of its own writes it, or that it is refused, that its node halted, or that a limit was met,
 /// in a world that has the nodes of its header, as each world of a run has. It does nothing when it runs.
 pub fn events_write_their_lines()
     ensures lines { EventsWriteTheirLines }
+    ensures first { FormatsAreWhole }
+    ensures kept { EventsKeepWhole }
     ensures whole { RunsAreWhole }
+{}
+
+/// A commit and an abort write the line that answers them, by a label with the action's name, or that they are refused, or that
+/// the action's node halted, where the coordinators that are up know their labels. It does nothing when it runs.
+pub fn ends_write_their_lines()
+    ensures lines { EndsWriteTheirLines }
 {}

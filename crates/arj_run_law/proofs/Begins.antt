@@ -114,7 +114,7 @@ module _ (e k : ℕ) (d : Disk) (t : Parts) (l : Label) (how : Kind) (parent : O
   contained : (p : Label) (b : Branch) → branch_named p c ≡ Some b → Contains good.0 (action_of b)
   contained p b is = let g = good_coord e k d t M good in g.known (actor b.path) b (named_found good.0 (paths_of good.0) (one_tree e k d t M good) [] c g p b is)
 
-  may : MayBegin good.0 how o
+  pub may : MayBegin good.0 how o
   may = by how parent may_give none (λ p free g is. parent_is p free g is)
     where
       Finds : Kind → Type 0

@@ -552,5 +552,16 @@ module _ (hd : Header) where
           below : (j n : ℕ) → nat_le (suc j) n ≡ true → nat_lt j n ≡ true
           below j n h = grind (arith, nat_tests)
 
+  pub first_holds : (P : Seen → Type 0) → Keeps hd P → Holds hd P (format hd)
+  first_holds P keeps = record { sent = []; stands = first_stands; holds = keeps.first }
+
   pub runs_hold : (P : Seen → Type 0) → Keeps hd P → (es : List Asked) → Holds hd P (run_all es (format hd))
-  runs_hold P keeps es = all_hold hd P keeps es (format hd) (record { sent = []; stands = first_stands; holds = keeps.first })
+  runs_hold P keeps es = all_hold hd P keeps es (format hd) (first_holds P keeps)
+
+-- which stops are still to fall is nothing to it
+pub arms_hold : (hd : Header) (P : Seen → Type 0) (arms : List (ℕ × Arm)) (w : World) → Holds hd P w → Holds hd P (record w { arms = arms })
+arms_hold hd P arms w h = record {
+  sent = h.sent;
+  stands = record { frames = h.stands.frames; header = h.stands.header; numbers = h.stands.numbers; places = h.stands.places; labels = h.stands.labels };
+  holds = h.holds;
+}

@@ -1,5 +1,5 @@
 use Rattle.arj_event_law.proofs.Spoken.{event_writes}
-use Rattle.arj_event_law.proofs.Whole.{runs_whole}
+use Rattle.arj_event_law.proofs.Whole.{event_whole, format_whole, runs_whole}
 use Rattle.arj_event_law.proofs.events.events_write_their_lines.Goals as goal
 
 pub returns-clause-lines : goal.returns-clause-lines
@@ -7,3 +7,9 @@ returns-clause-lines c = event_writes
 
 pub returns-clause-whole : goal.returns-clause-whole
 returns-clause-whole c = runs_whole
+
+pub returns-clause-first : goal.returns-clause-first
+returns-clause-first c = format_whole
+
+pub returns-clause-kept : goal.returns-clause-kept
+returns-clause-kept c = event_whole

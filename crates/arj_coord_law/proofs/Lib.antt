@@ -1,0 +1,4 @@
+pub mod TreeRooms
+pub mod CoordRooms
+pub mod NewNames
+pub mod RunCoords

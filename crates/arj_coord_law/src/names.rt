@@ -1,0 +1,12 @@
+// Labels of actions at work.
+ghost use Rattle.std.specs.Prelude.{List};
+ghost use Rattle.arj_event_law.specs.Named.{AreNamed};
+ghost use Rattle.arj_journal.specs.declared.header.Header.{Header};
+ghost use Rattle.arj_protocol.specs.World.{Asked, format, run_all};
+
+/// In each run, with all frames in any order, again or never, all stops, crashes and restarts, each label that a coordinator knows
+/// is that of the action at work at its number, so that what it says of an action it says by the label that it was begun with.
+/// It does nothing when it runs.
+pub fn labels_are_known()
+    ensures runs { (hd : Header) (es : List Asked) → AreNamed (run_all es (format hd)) }
+{}

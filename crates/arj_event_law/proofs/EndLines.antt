@@ -1,0 +1,292 @@
+-- A commit and an abort write their lines.
+use Rattle.std.proofs.Common.{◌≡◌, ◌∙◌, ◌+◌, ◌==◌, ◌&&◌, ℕ, zero, suc, Bool, true, false, not, cond, List, [], ◌∷◌, ◌++◌, length, map, nat_le, refl, sym, ap, subst, inl, inr, arith, Option, Some, None}
+use Rattle.std.specs.Prelude.{slice_get}
+use Rattle.std.proofs.lemmas.List.{append_assoc}
+use Rattle.arj_event_law.specs.Named.{AnswersEnd, AreNamed, EndHalted, EndRefused, EndsWriteTheirLines, IsEndAnswered, IsEndOf, KnowsNames, OwnEnd, ends_label, names_of}
+use Rattle.arj_event_law.specs.Writes.{IsWhole}
+use Rattle.arj_event_law.proofs.CoordNames.{same_all}
+use Rattle.arj_event_law.proofs.Spoken.{first_not, given_node, not_not, unless, unless_is}
+use Rattle.arj_event_law.proofs.Written.{Halt, Its, Or, Says, Stands, first_stands, node_says, numbered_in, said_of, stands_before, stands_behind, whole_says}
+use Rattle.arj_protocol.proofs.Steps.{steps_lines}
+use Rattle.arj_protocol.specs.Ask.{actor}
+use Rattle.arj_protocol.specs.Asking.{commit_action, commit_open}
+use Rattle.arj_protocol.specs.Coord.{Coord, Doing, Idle, change_doing, doing_of, number_of, on_doing, uid_at}
+use Rattle.arj_protocol.specs.Effect.{Did, Disk, Effect, Intent, Say, Send, Do, worked}
+use Rattle.arj_protocol.specs.Ending.{abort_action, aborts_with, all_aborted, ended, say_for, says}
+use Rattle.arj_protocol.specs.Laws.{effects_of}
+use Rattle.arj_protocol.specs.Node.{Parts, Ran, first_done, first_queued, ran, with_coord}
+use Rattle.arj_protocol.specs.Step as input
+use Rattle.arj_protocol.specs.Step.{Input, Node, Step, abort_reasons, acts, branch_named, branch_numbered, commit_reasons, first_reason, on_branch, only_says, refusal_at, refusal_up, refused_by, step, step_of, step_unless}
+use Rattle.arj_protocol.specs.Tree.{Branch, Tree, at_place, branch_of, ended_at, ended_branch, family_of, is_own, open_below, root_of, set_place, with_family}
+use Rattle.arj_protocol.specs.Words.{Body, End, Event, Header, Kind, Label, Line, Uid, name, uids_of}
+use Rattle.arj_protocol.specs.Words.body
+use Rattle.arj_protocol.specs.Words.cause
+use Rattle.arj_protocol.specs.Words.event
+use Rattle.arj_protocol.specs.Words.kind
+use Rattle.arj_protocol.specs.Words.ending
+use Rattle.arj_protocol.specs.Words.which
+use Rattle.arj_protocol.specs.World.{Arm, World, bodies, counted, happens, is_given, limited, node_of, numbered, reasons, run_unless, says as world_says, steps}
+
+-- ---- a line in the middle of a step
+
+-- what is said of effects is said as they are done
+ran_says : (n : ℕ) (t : Parts) (b : Body) (front back : List Effect) (d : Disk) → Stands (Say b) (ran n t (front ++ Say b ∷ back) d).outs
+ran_says n t b [] back d = first_stands (Say b) (ran n t back d).outs
+ran_says n t b (Say c ∷ es) back d = stands_behind (Say b) (Say c ∷ []) (ran n t (es ++ Say b ∷ back) d).outs (ran_says n t b es back d)
+ran_says n t b (Do w ∷ es) back d = stands_behind (Say b) (Do w ∷ []) (ran n t (es ++ Say b ∷ back) (worked w d)).outs (ran_says n t b es back (worked w d))
+ran_says n t b (Send to m ∷ es) back d = by (to == n) (ran_says n t b es back d)
+  where
+    r : Ran
+    r = ran n t (es ++ Say b ∷ back) d
+
+    by : (x : Bool) → Stands (Say b) r.outs → Stands (Say b) (cond x (first_queued m r) (first_done (Send to m) r)).outs
+    by true s = s
+    by false s = stands_behind (Say b) (Send to m ∷ []) r.outs s
+
+did_says : (n : Node) (t : Parts) (es : List Effect) (b : Body) → Stands (Say b) es → Stands (Say b) ([] ++ (input.node_did n [] t es).outs)
+did_says n t es b s = whole_says n.number t es n.disk (Say b) (subst (λ xs. Stands (Say b) (ran n.number t xs n.disk).outs) (sym s.are) (ran_says n.number t b s.before s.after n.disk))
+
+-- ---- the action of a label
+
+-- a doing with a label of that name
+record IsAt (l : Label) (u : Uid) (c : Coord) : Type 0 where
+  doing : Doing
+  found : doing_of u c ≡ Some doing
+  named : name doing.label ≡ name l
+
+doing_there : (ds : List Doing) (i : ℕ) (m : Label) → slice_get (map (λ (d : Doing). d.label) ds) i ≡ Some m → (d : Doing) × (slice_get ds i ≡ Some d) × (d.label ≡ m)
+doing_there [] i m is = absurd (cc is)
+doing_there (d ∷ ds) zero m is = (d, refl, cc is)
+doing_there (d ∷ ds) (suc i) m is = doing_there ds i m is
+
+own_uid : (j : ℕ) (c : Coord) → is_own (uid_at j c) c.tree ≡ true
+own_uid j c = λ i. itself c.tree.node i && itself c.tree.inc i
+  where
+    itself : (n : ℕ) → (n == n) ≡ true
+    itself n = grind arith
+
+at_number : (l : Label) (j : ℕ) (m : Label) (c : Coord) → at_place j (names_of c) ≡ Some m → name m ≡ name l → IsAt l (uid_at j c) c
+at_number l zero m c is same = absurd (cc is)
+at_number l (suc i) m c is same =
+    let d = doing_there c.doings i m is in
+    record { doing = d.0; found = (λ k. cond (own_uid (suc i) c k) (at_place (suc i) c.doings) None) ∙ d.1; named = ap name d.2 ∙ same }
+
+-- the branch of a label, and what its action says
+module _ (l : Label) (c : Coord) (known : KnowsNames c) where
+  its_doing : (b : Branch) → branch_named l c ≡ Some b → IsAt l (actor b.path) c
+  its_doing b is = by (number_of l c) refl is
+    where
+      by : (o : Option ℕ) → number_of l c ≡ o → branch_numbered c o ≡ Some b → IsAt l (actor b.path) c
+      by None at e = let no_way : ◌≡◌ {A = Option Branch} None (Some b) = e in cc
+      by (Some j) at e = let n = known.names.named l j at in subst (λ u. IsAt l u c) (sym (known.places j b e)) (at_number l j n.0 c n.1 n.2)
+
+  -- after others have ended it has its label still
+  still_doing : (us : List Uid) (b : Branch) → branch_named l c ≡ Some b → ((let e = all_aborted us c in let x = e.part in x.tree.node) ≡ c.tree.node) → ((let e = all_aborted us c in let x = e.part in x.tree.inc) ≡ c.tree.inc) → IsAt l (actor b.path) (all_aborted us c).part
+  still_doing us b is node inc = by (number_of l c) refl is
+    where
+      e : Coord
+      e = (all_aborted us c).part
+
+      by : (o : Option ℕ) → number_of l c ≡ o → branch_numbered c o ≡ Some b → IsAt l (actor b.path) e
+      by None at f = let no_way : ◌≡◌ {A = Option Branch} None (Some b) = f in cc
+      by (Some j) at f =
+          let n = known.names.named l j at in
+          let s = same_all us c in
+          let uid : actor b.path ≡ uid_at j e = known.places j b f ∙ (λ i. record { node = sym node i; inc = sym inc i; num = j }) in
+          subst (λ u. IsAt l u e) (sym uid) (at_number l j n.0 e (ap (at_place j) s.names ∙ n.1) n.2)
+
+on_tree : (u : Uid) (f : Doing → Doing) (c : Coord) → (on_doing u f c).tree ≡ c.tree
+on_tree u f c = by (doing_of u c)
+  where
+    by : (o : Option Doing) → (change_doing f u c o).tree ≡ c.tree
+    by None = refl
+    by (Some d) = refl
+
+-- an end leaves the coordinator's node and incarnation
+ended_own : (u : Uid) (e : End) (c : Coord) → ((ended u e c).tree.node ≡ c.tree.node) × ((ended u e c).tree.inc ≡ c.tree.inc)
+ended_own u e c = subst (λ (t : Tree). (t.node ≡ c.tree.node) × (t.inc ≡ c.tree.inc)) (sym (on_tree u (λ (d : Doing). record d { now = Idle }) (record c { tree = ended_at u e c.tree }))) (by (branch_of u c.tree))
+  where
+    listed : (b : Branch) (x : Bool) → (let m : Tree = record c.tree { branches = set_place u.num (record b { ended = Some e }) c.tree.branches } in let t = cond x m (with_family (root_of b.path) (let f = family_of (root_of b.path) m in record f { ends = f.ends ++ (u, e) ∷ [] }) m) in (t.node ≡ c.tree.node) × (t.inc ≡ c.tree.inc))
+    listed b true = (refl, refl)
+    listed b false = (refl, refl)
+
+    by : (o : Option Branch) → (let t = ended_branch u e c.tree o in (t.node ≡ c.tree.node) × (t.inc ≡ c.tree.inc))
+    by None = (refl, refl)
+    by (Some b) = listed b (nat_le (length (uids_of b.path)) 1)
+
+all_own : (us : List Uid) (c : Coord) → (let d = all_aborted us c in let e = d.part in (e.tree.node ≡ c.tree.node) × (e.tree.inc ≡ c.tree.inc))
+all_own [] c = (refl, refl)
+all_own (u ∷ us) c = let first = ended_own u ending.Abort c in let rest = all_own us (ended u ending.Abort c) in (rest.0 ∙ first.0, rest.1 ∙ first.1)
+
+-- ---- what a coordinator says
+
+says_first : (u : Uid) (f : Label → Body) (c : Coord) (d : Doing) (rest : List Effect) → doing_of u c ≡ Some d → Stands (Say (f d.label)) (says u f c ++ rest)
+says_first u f c d rest found = subst (λ o. Stands (Say (f d.label)) (say_for f o ++ rest)) (sym found) (first_stands (Say (f d.label)) rest)
+
+-- the line of an end, or of a commit that was called
+record Speaks (e : Event) (m : Label) (es : List Effect) : Type 0 where
+  line : Body
+  stands : Stands (Say line) es
+  is : IsEndOf e m line
+
+commit_speaks : (l : Label) (b : Branch) (intents : List (Uid × Intent)) (c : Coord) (d : Doing) → doing_of (actor b.path) c ≡ Some d → Speaks (event.Commit l) d.label (commit_action b intents c).outs
+commit_speaks l b intents c d found = by b.doomed
+  where
+    u : Uid
+    u = actor b.path
+
+    kinds : (k : Kind) → Speaks (event.Commit l) d.label (commit_open b intents c k).outs
+    kinds kind.Nested = record { line = body.Committed d.label; stands = says_first u body.Committed c d _ found; is = inr (inl refl) }
+    kinds kind.Serial = record { line = body.Ended d.label; stands = says_first u body.Ended c d _ found; is = inr (inr (inl refl)) }
+    kinds kind.Top = record { line = body.Committing d.label; stands = says_first u body.Committing c d _ found; is = inl refl }
+    kinds kind.Independent = record { line = body.Committing d.label; stands = says_first u body.Committing c d _ found; is = inl refl }
+    kinds kind.Constituent = record { line = body.Committing d.label; stands = says_first u body.Committing c d _ found; is = inl refl }
+
+    by : (x : Bool) → Speaks (event.Commit l) d.label (cond x (aborts_with u cause.Doomed intents c) (commit_open b intents c b.kind)).outs
+    by true = record { line = body.Aborted d.label cause.Doomed; stands = says_first u (λ m. body.Aborted m cause.Doomed) c d _ found; is = inr (inr (inr refl)) }
+    by false = kinds b.kind
+
+aborted_last : (us : List Uid) (u : Uid) (c : Coord) (d : Doing) → doing_of u (all_aborted us c).part ≡ Some d → Stands (Say (body.Aborted d.label cause.Asked)) (all_aborted (us ++ u ∷ []) c).outs
+aborted_last [] u c d found = says_first u (λ m. body.Aborted m cause.Asked) c d [] found
+aborted_last (v ∷ us) u c d found = stands_behind (Say (body.Aborted d.label cause.Asked)) (says v (λ m. body.Aborted m cause.Asked) c) (all_aborted (us ++ u ∷ []) (ended v ending.Abort c)).outs (aborted_last us u (ended v ending.Abort c) d found)
+
+abort_speaks : (l : Label) (b : Branch) (intents : List (Uid × Intent)) (c : Coord) (d : Doing) → doing_of (actor b.path) (all_aborted (open_below (actor b.path) c.tree) c).part ≡ Some d → Speaks (event.Abort l) d.label (abort_action (actor b.path) intents c).outs
+abort_speaks l b intents c d found = record {
+  line = body.Aborted d.label cause.Asked;
+  stands = stands_before (Say (body.Aborted d.label cause.Asked)) (all_aborted (open_below (actor b.path) c.tree ++ actor b.path ∷ []) c).outs _ (aborted_last (open_below (actor b.path) c.tree) (actor b.path) c d found);
+  is = refl;
+}
+
+-- ---- what a node says
+
+-- the line is the event's own, or says that it is refused
+data SaysEnd (e : Event) (l : Label) (b : Body) : Type 0 where
+  ItsEnd : (m : Label) → name m ≡ name l → IsEndOf e m b → SaysEnd e l b
+  Refused : (c : ℕ) → b ≡ body.Refused c → SaysEnd e l b
+
+refused_says : (e : Event) (l : Label) (n : Node) (c : ℕ) → Says (SaysEnd e l) (only_says n (body.Refused c)).outs
+refused_says e l n c = record { line = body.Refused c; stands = first_stands (Say (body.Refused c)) []; holds = Refused c refl }
+
+module _ (e : Event) (l : Label) (i : Input) (reasons : Branch → Coord → List (ℕ × Bool)) (f : Branch → List (Uid × Intent) → Coord → Did Coord) where
+  -- an input about an action by its label, which speaks where it isn't refused
+  record IsSpoken : Type 0 where
+    down : (hd : Header) → refusal_at hd i None ≡ Some 6
+    refuses : (hd : Header) (c : Coord) → refusal_up hd i c ≡ refused_by reasons c (branch_named l c)
+    does : (hd : Header) (n : Node) (t : Parts) → step_of hd i n (Some t) ≡ input.coord_did n t (on_branch (λ b. f b n.disk.intents t.coord) t.coord (branch_named l t.coord))
+    speaks : (b : Branch) (intents : List (Uid × Intent)) (c : Coord) → KnowsNames c → branch_named l c ≡ Some b → (m : Label) × (name m ≡ name l) × Speaks e m (f b intents c).outs
+
+  node_speaks : IsSpoken → (hd : Header) (n : Node) → ((t : Parts) → n.live ≡ Some t → KnowsNames t.coord) → Says (SaysEnd e l) (step hd n i).outs
+  node_speaks spoken hd n known = subst (λ (s : Step). Says (SaysEnd e l) s.outs) (sym (unless_is hd i n (refusal_at hd i n.live))) (by n.live refl)
+    where
+      done : (t : Parts) → KnowsNames t.coord → (o : Option Branch) → branch_named l t.coord ≡ o → refused_by reasons t.coord o ≡ None → Says (SaysEnd e l) (input.coord_did n t (on_branch (λ b. f b n.disk.intents t.coord) t.coord o)).outs
+      done t knows None is none = let no_way : ◌≡◌ {A = Option ℕ} (Some 6) None = none in cc
+      done t knows (Some b) is none =
+          let s = spoken.speaks b n.disk.intents t.coord knows is in
+          let d = f b n.disk.intents t.coord in
+          record { line = s.2.line; stands = did_says n (with_coord t d.part) d.outs s.2.line s.2.stands; holds = ItsEnd s.0 s.1 s.2.is }
+
+      up : (t : Parts) → KnowsNames t.coord → (r : Option ℕ) → refused_by reasons t.coord (branch_named l t.coord) ≡ r → Says (SaysEnd e l) (unless hd i n r (Some t)).outs
+      up t knows (Some c) is = refused_says e l n c
+      up t knows None is = subst (λ (s : Step). Says (SaysEnd e l) s.outs) (sym (spoken.does hd n t)) (done t knows (branch_named l t.coord) refl is)
+
+      by : (o : Option Parts) → n.live ≡ o → Says (SaysEnd e l) (unless hd i n (refusal_at hd i o) o).outs
+      by None is = subst (λ r. Says (SaysEnd e l) (unless hd i n r None).outs) (sym (spoken.down hd)) (refused_says e l n 6)
+      by (Some t) is = subst (λ r. Says (SaysEnd e l) (unless hd i n r (Some t)).outs) (sym (spoken.refuses hd t.coord)) (up t (known t is) (refused_by reasons t.coord (branch_named l t.coord)) refl)
+
+commit_spoken : (l : Label) → IsSpoken (event.Commit l) l (input.Commit l) commit_reasons (λ b intents c. commit_action b intents c)
+commit_spoken l = record {
+  down = λ hd. refl;
+  refuses = λ hd c. refl;
+  does = λ hd n t. refl;
+  speaks = λ b intents c known is. let d = its_doing l c known b is in (d.doing.label, d.named, commit_speaks l b intents c d.doing d.found);
+}
+
+abort_spoken : (l : Label) → IsSpoken (event.Abort l) l (input.Abort l) abort_reasons (λ b intents c. abort_action (actor b.path) intents c)
+abort_spoken l = record {
+  down = λ hd. refl;
+  refuses = λ hd c. refl;
+  does = λ hd n t. refl;
+  speaks = λ b intents c known is.
+      let us = open_below (actor b.path) c.tree in
+      let own = all_own us c in
+      let d = still_doing l c known us b is own.0 own.1 in
+      (d.doing.label, d.named, abort_speaks l b intents c d.doing d.found);
+}
+
+-- ---- what an event writes
+
+-- what a node says of an end is written
+end_written : (e : Event) (l : Label) (w v : World) (i : Input) → v.lines ≡ w.lines → node_of l v ≡ node_of l w → Says (Or (SaysEnd e l) (node_of l v)) (effects_of (node_of l v) i v)
+    → IsEndAnswered e l w (steps (node_of l v) i v).lines
+end_written e l w v i same node says_it =
+    let k = node_of l v in
+    let s = numbered_in v.event says_it.line (bodies k (length v.frames) (effects_of k i v)) (said_of k (length v.frames) says_it.line (effects_of k i v) says_it.stands) in
+    record {
+      before = s.before;
+      line = record { event = v.event; body = says_it.line };
+      after = s.after;
+      are = steps_lines k i v ∙ ((λ j. same j ++ numbered v.event (bodies k (length v.frames) (effects_of k i v))) ∙ ap (λ ls. w.lines ++ ls) s.are);
+      answers = by says_it.holds;
+    }
+  where
+    by : Or (SaysEnd e l) (node_of l v) says_it.line → AnswersEnd e l w says_it.line
+    by (Its (ItsEnd m named is)) = OwnEnd m named is
+    by (Its (Refused c is)) = EndRefused c is
+    by (Halt is) = EndHalted (is ∙ ap body.Halted node)
+
+-- a line of a limit behind it
+limited_end : (e : Event) (l : Label) (w v : World) → IsEndAnswered e l w v.lines → IsEndAnswered e l w (limited v).lines
+limited_end e l w v x = by v.full
+  where
+    more : Line
+    more = record { event = v.event; body = body.Limit which.Frames }
+
+    by : (b : Bool) → IsEndAnswered e l w (cond b (world_says (body.Limit which.Frames ∷ []) (record v { over = true })) v).lines
+    by false = x
+    by true = record {
+      before = x.before;
+      line = x.line;
+      after = x.after ++ more ∷ [];
+      are = ap (λ ls. ls ++ more ∷ []) x.are ∙ (append_assoc w.lines (x.before ++ x.line ∷ x.after) (more ∷ []) ∙ ap (λ ls. w.lines ++ ls) (append_assoc x.before (x.line ∷ x.after) (more ∷ [])));
+      answers = x.answers;
+    }
+
+module _ (l : Label) (w : World) (whole : IsWhole w) (named : AreNamed w) where
+  -- the node of a label that was given says it
+  node_says_end : (e : Event) (i : Input) → is_given l w ≡ true → ((hd : Header) (n : Node) → ((t : Parts) → n.live ≡ Some t → KnowsNames t.coord) → Says (SaysEnd e l) (step hd n i).outs)
+      → IsEndAnswered e l w (limited (steps (node_of l w) i (counted w))).lines
+  node_says_end e i given spoken =
+      limited_end e l w (steps (node_of l w) i (counted w)) (end_written e l w (counted w) i refl refl
+      (node_says (SaysEnd e l) (node_of l w) i (counted w) (whole.nodes (node_of l w) (given_node w l whole given)) (λ n at. spoken w.header n (λ t live. named (node_of l w) n t at live))))
+
+  given : (x : Label) → x ≡ l → first_reason ((5, not (is_given x w)) ∷ []) ≡ None → is_given l w ≡ true
+  given x same none = subst (λ y. is_given y w ≡ true) same (not_not (is_given x w) (first_not 5 (not (is_given x w)) [] none).0)
+
+  refused : (e : Event) (c : ℕ) → IsEndAnswered e l w (world_says (body.Refused c ∷ []) (counted w)).lines
+  refused e c = record { before = []; line = record { event = w.event + 1; body = body.Refused c }; after = []; are = refl; answers = EndRefused c refl }
+
+  event_ends : (e : Event) (a : Arm) → ends_label e l → (r : Option ℕ) → first_reason (reasons e w) ≡ r → IsEndAnswered e l w (run_unless e a w r).lines
+  event_ends (event.Commit m) a is (Some c) at = refused (event.Commit m) c
+  event_ends (event.Abort m) a is (Some c) at = refused (event.Abort m) c
+  event_ends (event.Commit m) a is None at = subst (λ x. IsEndAnswered (event.Commit x) l w (limited (happens (event.Commit x) a (counted w))).lines) is (node_says_end (event.Commit l) (input.Commit l) (given m (sym is) at) (node_speaks (event.Commit l) l (input.Commit l) commit_reasons (λ b intents c. commit_action b intents c) (commit_spoken l)))
+  event_ends (event.Abort m) a is None at = subst (λ x. IsEndAnswered (event.Abort x) l w (limited (happens (event.Abort x) a (counted w))).lines) is (node_says_end (event.Abort l) (input.Abort l) (given m (sym is) at) (node_speaks (event.Abort l) l (input.Abort l) abort_reasons (λ b intents c. abort_action (actor b.path) intents c) (abort_spoken l)))
+  event_ends (event.Begin m n) a is r at = absurd is
+  event_ends (event.BeginIn m p) a is r at = absurd is
+  event_ends (event.Top m p) a is r at = absurd is
+  event_ends (event.Serial m n) a is r at = absurd is
+  event_ends (event.Call m x o) a is r at = absurd is
+  event_ends (event.Include m x n) a is r at = absurd is
+  event_ends (event.GiveUp m) a is r at = absurd is
+  event_ends (event.Deliver k) a is r at = absurd is
+  event_ends (event.Lose k) a is r at = absurd is
+  event_ends (event.Tick n) a is r at = absurd is
+  event_ends event.Settle a is r at = absurd is
+  event_ends event.Quiesce a is r at = absurd is
+  event_ends (event.Crash n) a is r at = absurd is
+  event_ends (event.Restart n) a is r at = absurd is
+  event_ends (event.Stop n c how) a is r at = absurd is
+  event_ends (event.Junk n bytes) a is r at = absurd is
+  event_ends (event.Show x) a is r at = absurd is
+
+pub ends_write : EndsWriteTheirLines
+ends_write e l w whole named over is = subst (λ b. IsEndAnswered e.event l w (cond b w (run_unless e.event e.arm w (first_reason (reasons e.event w)))).lines) (sym over) (event_ends l w whole named e.event e.arm is (first_reason (reasons e.event w)) refl)
