@@ -1,5 +1,5 @@
 -- Copies agree in what the disk machine is seen in.
-use Rattle.std.proofs.Common.{◌≡◌, ℕ, List, [], ◌∷◌, true, Option, Some, None, refl, sym, ◌∙◌, ap, inl, inr, arith}
+use Rattle.std.proofs.Common.{◌≡◌, ◌⊎◌, ℕ, List, [], ◌∷◌, true, Option, Some, None, refl, sym, ◌∙◌, ap, inl, inr, ⊎_elim, arith}
 use Rattle.std.specs.Prelude.{option_map}
 use Rattle.arj_protocol.specs.Words.{ObjectState, entry, is_listed, object}
 use Rattle.arj_protocol.specs.Effect.{held_at, holder_of}
@@ -8,10 +8,10 @@ use Rattle.arj_protocol.specs.Values.{state_entry}
 use Rattle.arj_disk_law.specs.Core.{Chain}
 use Rattle.arj_disk_law.specs.Effects.{World}
 use Rattle.arj_disk_law.specs.State as disk
-use Rattle.arj_disk_law.specs.State.{Below, Done, KnownIn, Packed, last_in}
+use Rattle.arj_disk_law.specs.State.{Below, Done, Hold, KnownIn, Packed, last_in}
 use Rattle.arj_disk_law.specs.Words.{has}
-use Rattle.arj_disk_law.proofs.Base.{some_is}
-use Rattle.arj_disk_law.proofs.History.{known_last}
+use Rattle.arj_disk_law.proofs.Base.{bool_cases, some_is}
+use Rattle.arj_disk_law.proofs.History.{effective_done, effective_none, effective_open, known_last}
 use Rattle.arj_disk_law.proofs.Results.{clean}
 use Rattle.arj_view_law.specs.Seen.{Seen}
 use Rattle.arj_disk_view_law.specs.Entries.{SeesEntry}
@@ -20,7 +20,7 @@ use Rattle.arj_disk_view_law.specs.Sees.{Kinds, SeesDisks}
 use Rattle.arj_disk_view_law.specs.Stores.{SeesStore}
 use Rattle.arj_disk_view_law.proofs.ConfirmWalks.{has_listed}
 use Rattle.arj_disk_view_law.proofs.StoreSteps.{place_free}
-use Rattle.arj_disk_run_law.specs.Runs.{CopiesAgree, HasState}
+use Rattle.arj_disk_run_law.specs.Runs.{CopiesAgree, HasNext, HasState}
 
 -- two states that were last once, in one version, are one
 known_one : (first : Packed) (ds : List Done) (g h : Packed) → Chain first ds → KnownIn first ds g → KnownIn first ds h → g.version ≡ h.version → g ≡ h
@@ -43,7 +43,7 @@ has_state x last m None is h = absurd (cc h)
 has_state x last m (Some st) is h = (st, is, (let same : packed st ≡ last = cc h in same))
 
 pub copies_agree : (x : ℕ) (tops : Kinds) (W : World) (M : Seen) → SeesDisks x tops W M → CopiesAgree x M
-copies_agree x tops W M s = (disk.last W.disk, record { listed = each; below = below; one = one })
+copies_agree x tops W M s = (disk.last W.disk, record { listed = each; kept = kept; stored = stored; below = below; one = one })
   where
     each : (n m : Node) (q : ObjectState) (j : ℕ) → M.nodes 1 ≡ Some n → holder_of (entry x) n.disk.names ≡ None → held_at (entry x) n.disk.names ≡ Some q → is_listed j (state_entry q).stores ≡ true → M.nodes j ≡ Some m → holder_of (object x) m.disk.store ≡ None → HasState x (disk.last W.disk) m
     each n m q j is free held on there clear =
@@ -63,3 +63,34 @@ copies_agree x tops W M s = (disk.last W.disk, record { listed = each; below = b
 
     one : (m n : Node) (j r : ℕ) (st su : ObjectState) → M.nodes j ≡ Some m → M.nodes r ≡ Some n → held_at (object x) m.disk.store ≡ Some st → held_at (object x) n.disk.store ≡ Some su → st.version ≡ su.version → packed st ≡ packed su
     one m n j r st su here there held held_there same = known_one W.disk.first W.disk.tops (packed st) (packed su) s.whole.core.history.chain (known m j st here held) (known n r su there held_there) same
+
+    entry_is : (n : Node) (q : ObjectState) → M.nodes 1 ≡ Some n → held_at (entry x) n.disk.names ≡ Some q → packed_entry q ≡ W.disk.entry
+    entry_is n q is held = let e : SeesEntry x n.disk.names W.disk = s.entry n is in some_is refl (ap (option_map packed_entry) (sym held) ∙ e.pair.held_is)
+
+    stored : (n : Node) (q : ObjectState) → M.nodes 1 ≡ Some n → held_at (entry x) n.disk.names ≡ Some q → (j : ℕ) × (is_listed j (state_entry q).stores ≡ true)
+    stored n q is held = let h = s.whole.core.pending.held in (h.0, has_listed h.0 (state_entry q).stores ∙ ap (λ (z : Packed). has h.0 z.content) (entry_is n q is held) ∙ h.1)
+
+    kept : (n m : Node) (q : ObjectState) (j : ℕ) → M.nodes 1 ≡ Some n → holder_of (entry x) n.disk.names ≡ None → held_at (entry x) n.disk.names ≡ Some q → is_listed j (state_entry q).stores ≡ true → M.nodes j ≡ Some m → HasState x (disk.last W.disk) m ⊎ HasNext x (disk.last W.disk) m
+    kept n m q j is free held on there = by (W.disk.pend j) refl
+      where
+        e : SeesEntry x n.disk.names W.disk
+        e = s.entry n is
+
+        o : SeesStore x j m.disk.store W.disk
+        o = s.stores j m there
+
+        same : W.disk.entry ≡ disk.last_entry W.disk
+        same = (clean W s.whole).entry (place_free (entry x) n.disk.names packed_entry (Some W.disk.entry) W.disk.entry_pend e.pair free)
+
+        will : disk.effective W.disk j ≡ Some (disk.last W.disk)
+        will = s.whole.core.effective.store j (ap (λ (z : Packed). has j z.content) (sym same ∙ sym (entry_is n q is held)) ∙ sym (has_listed j (state_entry q).stores) ∙ on)
+
+        holds : W.disk.held j ≡ Some (disk.last W.disk) → HasState x (disk.last W.disk) m
+        holds h = has_state x (disk.last W.disk) m (held_at (object x) m.disk.store) refl (o.pair.held_is ∙ h)
+
+        by : (p : Option Hold) → W.disk.pend j ≡ p → HasState x (disk.last W.disk) m ⊎ HasNext x (disk.last W.disk) m
+        by None none = inl (holds (sym (effective_none (disk.decided W.disk) Some (W.disk.pend j) (W.disk.held j) none) ∙ will))
+        by (Some h) there_is = ⊎_elim
+            (λ done. let r = o.pair.holder h there_is in inr (r.action, r.states, r.state, r.prepared, r.of, ap (λ (z : Hold). z.new) r.is ∙ some_is (effective_done (disk.decided W.disk) Some (W.disk.pend j) h (W.disk.held j) there_is done) will))
+            (λ open_yet. inl (holds (sym (effective_open (disk.decided W.disk) Some (W.disk.pend j) h (W.disk.held j) there_is open_yet) ∙ will)))
+            (bool_cases (disk.decided W.disk h.top))

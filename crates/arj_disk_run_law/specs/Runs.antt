@@ -1,7 +1,8 @@
 -- The disk half of the view, for whole runs: the machine's state for every kinds that agree with the actions begun so far.
-use Rattle.std.specs.Prelude.{◌≡◌, ℕ, Bool, true, List, Some, None}
-use Rattle.arj_protocol.specs.Words.{Header, ObjectState, entry, object, is_listed}
+use Rattle.std.specs.Prelude.{◌≡◌, ◌⊎◌, ℕ, Bool, true, List, Some, None}
+use Rattle.arj_protocol.specs.Words.{Uid, Header, ObjectState, entry, object, is_listed}
 use Rattle.arj_protocol.specs.Effect.{held_at, holder_of}
+use Rattle.arj_protocol.specs.Order.{at_uid}
 use Rattle.arj_protocol.specs.Step.{Node}
 use Rattle.arj_protocol.specs.Values.{state_entry}
 use Rattle.arj_protocol.specs.World.{Asked, format, run_all}
@@ -11,7 +12,7 @@ use Rattle.arj_disk_law.specs.State.{Below, Packed}
 use Rattle.arj_view_law.specs.Keeps.{Holds, Keeps}
 use Rattle.arj_view_law.specs.Seen.{Seen}
 use Rattle.arj_disk_view_law.specs.Formats.{HasObject}
-use Rattle.arj_disk_view_law.specs.Pairs.{packed}
+use Rattle.arj_disk_view_law.specs.Pairs.{IsOf, packed}
 use Rattle.arj_disk_view_law.specs.Sees.{Kinds, IsSeenByDisks}
 use Rattle.arj_disk_run_law.specs.Facts.{Gives}
 use Rattle.arj_disk_run_law.specs.Kinds.{Agrees, AreOfOneNode}
@@ -29,10 +30,17 @@ IsSeenInRun R x M = (acts : List Action) × IsSeenWith R x acts M
 abbrev pub HasState : ℕ → Packed → Node → Type 0
 HasState x last m = (st : ObjectState) × (held_at (object x) m.disk.store ≡ Some st) × (packed st ≡ last)
 
--- Copies agree on this state: where the object's entry isn't in doubt, each store that the entry lists holds it, but for a store
--- where the object is in doubt. No store holds a later version, and of two states that stores hold in one version both are one.
+-- the node has prepared this state of the object
+abbrev pub HasNext : ℕ → Packed → Node → Type 0
+HasNext x last m = (a : Uid) × (states : List ObjectState) × (st : ObjectState) × (at_uid a m.disk.store.pend ≡ Some states) × IsOf (object x) states st × (packed st ≡ last)
+
+-- Copies agree on this state: where the object's entry isn't in doubt, each store that the entry lists holds it or has it prepared,
+-- and holds it where the object isn't in doubt; and an entry lists some store. No store holds a later version, and of two states
+-- that stores hold in one version both are one.
 pub record AgreesOn (x : ℕ) (last : Packed) (M : Seen) : Type 0 where
   pub listed : (n m : Node) (e : ObjectState) (s : ℕ) → M.nodes 1 ≡ Some n → holder_of (entry x) n.disk.names ≡ None → held_at (entry x) n.disk.names ≡ Some e → is_listed s (state_entry e).stores ≡ true → M.nodes s ≡ Some m → holder_of (object x) m.disk.store ≡ None → HasState x last m
+  pub kept : (n m : Node) (e : ObjectState) (s : ℕ) → M.nodes 1 ≡ Some n → holder_of (entry x) n.disk.names ≡ None → held_at (entry x) n.disk.names ≡ Some e → is_listed s (state_entry e).stores ≡ true → M.nodes s ≡ Some m → HasState x last m ⊎ HasNext x last m
+  pub stored : (n : Node) (e : ObjectState) → M.nodes 1 ≡ Some n → held_at (entry x) n.disk.names ≡ Some e → (s : ℕ) × (is_listed s (state_entry e).stores ≡ true)
   pub below : (m : Node) (s : ℕ) (st : ObjectState) → M.nodes s ≡ Some m → held_at (object x) m.disk.store ≡ Some st → Below (packed st) last
   pub one : (m n : Node) (s r : ℕ) (st su : ObjectState) → M.nodes s ≡ Some m → M.nodes r ≡ Some n → held_at (object x) m.disk.store ≡ Some st → held_at (object x) n.disk.store ≡ Some su → st.version ≡ su.version → packed st ≡ packed su
 
