@@ -1,25 +1,24 @@
 -- What naming does with a Bind goes in the machine.
-use Rattle.std.proofs.Common.{◌≡◌, ◌≢◌, ◌≤◌, ◌<◌, ◌⊎◌, ◌∙◌, ◌&&◌, ◌==◌, ◌+◌, ◌*◌, not, ℕ, List, [], ◌∷◌, Bool, true, false, cond, max, Option, Some, None, refl, sym, ap, subst, inl, inr, ⊎_elim, arith, eqb-true}
+use Rattle.std.proofs.Common.{◌≡◌, ◌≢◌, ◌≤◌, ◌<◌, ◌⊎◌, ◌∙◌, ◌&&◌, ◌==◌, ◌+◌, not, ℕ, List, Bool, true, false, cond, Option, Some, None, refl, sym, ap, subst, inl, inr, ⊎_elim, arith, eqb-true}
 use Rattle.arj_base.proofs.Uids.{uid_cases}
 use Rattle.arj_protocol.specs.Words.{Uid, Path, Binding, Mode, Row, Entry, BoundReply, entry, is_on, last_uid, tops_of}
 use Rattle.arj_protocol.specs.Words.mode
 use Rattle.arj_protocol.specs.Words.bound
 use Rattle.arj_protocol.specs.Ask.{top_of, top_path}
-use Rattle.arj_protocol.specs.Named.{Named, Live, Made, Counted, live_above, made_above, locked, make, conflict_on, next_server, bind_named, bind_call, bind_include, live_asked, make_asked, bind_made, include_asked, bound_live, bound_again, bound_new, bound_write, refused_lock}
-use Rattle.arj_protocol.specs.Order.{at_uid, put_uid, with_uid, binding_number, binding_less}
-use Rattle.arj_lock_law.specs.Actions.{Act, In, same, at_act}
-use Rattle.arj_lock_law.specs.Machine.{Guard, Run, next, stay, step}
+use Rattle.arj_protocol.specs.Named.{Named, Live, Made, Counted, live_above, made_above, locked, make, conflict_on, next_server, bind_named, bind_call, live_asked, make_asked, bind_made, include_asked}
+use Rattle.arj_protocol.specs.Order.{at_uid, with_uid, binding_number, binding_less}
+use Rattle.arj_lock_law.specs.Actions.{Act, same}
+use Rattle.arj_lock_law.specs.Machine.{Guard, next, stay, step}
 use Rattle.arj_lock_law.specs.State as machine
 use Rattle.arj_lock_law.specs.State.{State}
 use Rattle.arj_lock_law.specs.Steps.{BindLive, BindNew, Grant}
-use Rattle.arj_lock_law.proofs.Paths.{act_here, act_other, at_cases, at_here, same_is}
+use Rattle.arj_lock_law.proofs.Paths.{act_here, act_other, at_here, same_is}
 use Rattle.arj_part_law.specs.Tops.{Owners}
 use Rattle.arj_part_law.proofs.Keys.{put_cases, with_on}
 use Rattle.arj_lock_view_law.specs.Acts.{Acts, AreOne, IsTopped}
 use Rattle.arj_lock_view_law.specs.Bindings.{BindsAreSeen, IsGood}
 use Rattle.arj_lock_view_law.specs.Going.{Goes, OnlyNaming, ShowsBound}
-use Rattle.arj_lock_view_law.specs.Named.{Place, SeesLive, SeesMade, SeesNamed, binding_at}
-use Rattle.arj_lock_view_law.specs.Rows.{strength}
+use Rattle.arj_lock_view_law.specs.Named.{Place, SeesMade, SeesNamed, binding_at}
 use Rattle.arj_lock_view_law.proofs.RowSteps.{asked_seen, clear_seen, raised_seen}
 
 -- what is above a binding is what there was

@@ -1,15 +1,15 @@
 -- What naming does with a Record and a Hello goes in the machine.
-use Rattle.std.proofs.Common.{◌≡◌, ◌≢◌, ◌≤◌, ◌<◌, ◌⊎◌, ◌∙◌, ◌&&◌, ◌==◌, ◌+◌, ◌*◌, nat_le, not, ℕ, List, [], ◌∷◌, Bool, true, false, cond, max, Option, Some, None, refl, sym, ap, subst, inl, inr, ⊎_elim, arith, eqb-true, ltb-true}
+use Rattle.std.proofs.Common.{◌≡◌, ◌≢◌, ◌≤◌, ◌<◌, ◌∙◌, ◌&&◌, ◌==◌, nat_le, not, ℕ, Bool, true, false, cond, Option, Some, None, refl, sym, ap, subst, inl, inr, ⊎_elim, arith, eqb-true, ltb-true}
 use Rattle.std.specs.Prelude.{min}
 use Rattle.std.specs.List.{list_any}
 use Rattle.std.proofs.lemmas.Bool.{and_parts}
 use Rattle.arj_protocol.specs.Words.{Uid, Binding, RecordedReply, entry, is_on, lower_row}
 use Rattle.arj_protocol.specs.Words.recorded
 use Rattle.arj_protocol.specs.Effect.{reply, void}
-use Rattle.arj_protocol.specs.Named.{Named, Live, Made, note_named, note_other, note_made, in_use, lowered, lower_lines, is_lowered, is_binding, is_write_row, hello_named, live_after}
-use Rattle.arj_protocol.specs.Order.{at_uid, put_uid, binding_number, binding_eq, binding_less}
+use Rattle.arj_protocol.specs.Named.{Named, Live, Made, note_named, note_other, note_made, in_use, lowered, lower_lines, is_lowered, is_binding, is_write_row, live_after}
+use Rattle.arj_protocol.specs.Order.{at_uid, binding_number, binding_eq}
 use Rattle.arj_lock_law.specs.Actions.{Act, In, same}
-use Rattle.arj_lock_law.specs.Machine.{Guard, Run, next, stay, step}
+use Rattle.arj_lock_law.specs.Machine.{Guard, next, stay, step}
 use Rattle.arj_lock_law.specs.State as machine
 use Rattle.arj_lock_law.specs.State.{State}
 use Rattle.arj_lock_law.specs.Steps.{IsCurrent, Record}
@@ -19,7 +19,7 @@ use Rattle.arj_part_law.proofs.Keys.{put_cases}
 use Rattle.arj_lock_view_law.specs.Acts.{Acts, AreOne}
 use Rattle.arj_lock_view_law.specs.Bindings.{HellosAreSeen, IsGood, IsNamedSo, IsUntold, NotesAreSeen}
 use Rattle.arj_lock_view_law.specs.Going.{Goes, OnlyNaming, ShowsNoted}
-use Rattle.arj_lock_view_law.specs.Named.{Place, SeesLive, SeesMade, SeesNamed, binding_at}
+use Rattle.arj_lock_view_law.specs.Named.{Place, SeesLive, SeesMade, SeesNamed}
 use Rattle.arj_lock_view_law.specs.Rows.{SeesRows, held_in}
 use Rattle.arj_lock_view_law.proofs.RowSteps.{lowered_keeps, lowered_others}
 

@@ -1,21 +1,19 @@
 -- What naming does with a commit goes in the machine.
-use Rattle.std.proofs.Common.{◌≡◌, ◌≢◌, ◌≤◌, ◌⊎◌, ◌∙◌, ◌&&◌, ℕ, List, [], ◌∷◌, Bool, true, false, cond, max, Option, Some, None, refl, sym, ap, subst, inl, inr, ⊎_elim, arith, find, option_map, Contains}
+use Rattle.std.proofs.Common.{◌≡◌, ◌≢◌, ◌≤◌, ◌⊎◌, ◌∙◌, ◌&&◌, ℕ, List, [], ◌∷◌, Bool, true, false, cond, max, Option, Some, None, refl, sym, ap, subst, inl, inr, ⊎_elim, arith, find, option_map}
 use Rattle.std.specs.List.{cons_option, filter_map}
 use Rattle.std.proofs.lemmas.Bool.{and_parts}
 use Rattle.arj_base.specs.Mode.{stronger, strongest}
 use Rattle.arj_base.specs.Rows.{goes_to, handed_on, is_heir, mode_of, passed, strengthened}
-use Rattle.arj_base.proofs.Uids.{uid_cases, uid_is, uid_same}
+use Rattle.arj_base.proofs.Uids.{uid_is, uid_same}
 use Rattle.arj_lock.specs.Exclusion.{IsOneEach}
 use Rattle.arj_lock.specs.Passing.{passing, passing_mode}
 use Rattle.arj_lock.proofs.Members.{In, in_find, in_find_none, in_to}
 use Rattle.arj_lock.proofs.PassLeaves.{only_found, pass_mode}
-use Rattle.arj_protocol.specs.Words.{Mode, Uid, Row, entry, is_held_by, is_on, is_row_of, last_uid, before_last, pass_rows, uid_eq}
+use Rattle.arj_protocol.specs.Words.{Mode, Uid, Row, entry, is_held_by, is_row_of, last_uid, before_last, pass_rows, uid_eq}
 use Rattle.arj_protocol.specs.Words.ending
 use Rattle.arj_protocol.specs.Named.{Named, end_named}
-use Rattle.arj_protocol.specs.Order.{drop_uid}
 use Rattle.arj_lock_law.specs.Actions.{Act, Root, Sub, on, same}
 use Rattle.arj_lock_law.specs.Machine.{next, stay, step}
-use Rattle.arj_lock_law.specs.Rows as machine
 use Rattle.arj_lock_law.specs.State.{State}
 use Rattle.arj_lock_law.specs.Steps.{DropEntry, PassEntry}
 use Rattle.arj_lock_law.proofs.Paths.{on_self, same_is, same_self}
@@ -23,14 +21,13 @@ use Rattle.arj_lock_law.proofs.Rows.{pass_cases}
 use Rattle.arj_part_law.specs.Objects.{IsToldOf}
 use Rattle.arj_part_law.specs.Rows.{Told}
 use Rattle.arj_part_law.specs.Tops.{Owners}
-use Rattle.arj_part_law.proofs.Keys.{drop_on, without_cases}
 use Rattle.arj_lock_view_law.specs.Acts.{Acts, AreOne}
 use Rattle.arj_lock_view_law.specs.Bindings.{IsGood}
 use Rattle.arj_lock_view_law.specs.Ends.{CommitsAreSeen, MayGo, MayPass, OnlyTold, PassesAreSeen}
 use Rattle.arj_lock_view_law.specs.Going.{Goes, OnlyNaming}
 use Rattle.arj_lock_view_law.specs.Named.{Place, SeesNamed}
 use Rattle.arj_lock_view_law.specs.Rows.{SeesRows, held_in, strength}
-use Rattle.arj_lock_view_law.proofs.BindSteps.{other_act}
+use Rattle.arj_lock_view_law.proofs.EndSteps.{ended_seen, only_naming, told_below}
 use Rattle.arj_lock_view_law.proofs.RowSteps.{counts, part_of, stronger_is}
 
 -- ---- what is held, row by row
@@ -139,21 +136,13 @@ module _ (act : Acts) (one : AreOne act) (object u : Uid) (all : List Row) where
 -- ---- naming
 
 module _ (act : Acts) (owner : Owners) (x : ℕ) (n : Place) (told : Told) (o : Named) (u : Uid) (S : State) (one : AreOne act) (later : IsToldOf n.told told u) (good : IsGood owner x n o) (sees : SeesNamed act x n o S) where
-  abbrev after : Named
-  after = end_named u ending.Commit o
-
-  asked_after : (t : Uid) → S.naming.asked (act t) ≡ true → (told t ≡ true) ⊎ (is_on (drop_uid u o.asked) t ≡ true)
-  asked_after t asked = ⊎_elim (λ (same : t ≡ u). inl (ap told same ∙ later.itself))
-      (λ (other : t ≢ u). ⊎_elim (λ (old : n.told t ≡ true). inl (later.before t old)) (λ (there : is_on o.asked t ≡ true). inr (drop_on t u o.asked other there)) (sees.asked t asked))
-      (uid_cases t u)
-
   -- ---- its rows go
 
   module _ (may : MayGo S (act u)) where
     abbrev T : State
     T = next (DropEntry (act u)) S
 
-    rows_gone : SeesRows act (entry x) after.rows T.naming.rows
+    rows_gone : SeesRows act (entry x) (pass_rows u o.rows) T.naming.rows
     rows_gone a = by (on a (act u)) refl
       where
         by : (w : Bool) → on a (act u) ≡ w → cond w 0 (S.naming.rows a) ≤ held_in act (entry x) a (pass_rows u o.rows)
@@ -162,32 +151,11 @@ module _ (act : Acts) (owner : Owners) (x : ℕ) (n : Place) (told : Told) (o : 
             let other : a ≡ act u → ⊥ = λ same. (let up = on_self (act u) in absurd (cc (sym up ∙ ap (λ b. on b (act u)) (sym same) ∙ is))) in
             let i = sees.rows a in let j = others_keep act one (entry x) u o.rows a other o.rows in omega (arith, i, j)
 
-    told_gone : OnlyTold act u S T
-    told_gone a h = by (on a (act u)) refl h
-      where
-        by : (w : Bool) → on a (act u) ≡ w → cond w true (S.naming.told a) ≡ true → (S.naming.told a ≡ true) ⊎ (on a (act u) ≡ true)
-        by true is h = inr is
-        by false is h = inl h
-
-    pub commit_goes : Goes S (λ V. SeesNamed act x (record n { told = told }) after V × OnlyNaming S V × OnlyTold act u S V)
+    pub commit_goes : Goes S (λ V. SeesNamed act x (record n { told = told }) (end_named u ending.Commit o) V × OnlyNaming S V × OnlyTold act u S V)
     commit_goes = record {
       state = T;
       run = step (DropEntry (act u)) may stay;
-      holds = (
-        record {
-          rows = rows_gone;
-          bound = sees.bound;
-          first = sees.first;
-          recorded = sees.recorded;
-          unrecorded = sees.unrecorded;
-          known = sees.known;
-          live = λ k is. let s = sees.live k is in record { server = s.server; named = s.named; incarnation = s.incarnation };
-          made = λ t m is. let s = sees.made t m (without_cases t u m o.made good.sorted is).1 in record { last = s.last; server = s.server; maker = s.maker; sent = s.sent; noted = s.noted };
-          asked = asked_after;
-        },
-        record { rest = refl; bindings = λ b l. refl; sent = λ m i. i },
-        told_gone,
-      );
+      holds = (ended_seen act owner x n told o u S later good sees (pass_rows u o.rows) T.naming.rows T.naming.told rows_gone, only_naming S T.naming, told_below act u S);
     }
 
   -- ---- or pass
@@ -224,7 +192,7 @@ module _ (act : Acts) (owner : Owners) (x : ℕ) (n : Place) (told : Told) (o : 
     serial_keeps : S.naming.rows (act s) ≤ held_in act (entry x) (act s) (pass_rows u o.rows)
     serial_keeps = let i = sees.rows (act s) in let j = others_keep act one (entry x) u o.rows (act s) (λ same. apart (one s u same)) o.rows in omega (arith, i, j)
 
-    rows_passed : SeesRows act (entry x) after.rows V.naming.rows
+    rows_passed : SeesRows act (entry x) (pass_rows u o.rows) V.naming.rows
     rows_passed = pass_cases (λ (a : Act) (v : ℕ). v ≤ held_in act (entry x) a (pass_rows u o.rows)) S.naming.rows (Root may.unit) may.number
         (omega arith)
         (subst (λ (b : Act). max (S.naming.rows b) (S.naming.rows (Sub (Root may.unit) may.number)) ≤ held_in act (entry x) b (pass_rows u o.rows)) may.serial
@@ -239,25 +207,11 @@ module _ (act : Acts) (owner : Owners) (x : ℕ) (n : Place) (told : Told) (o : 
         by true is h = inr (subst (λ (b : Act). on b (act u) ≡ true) (may.below ∙ sym (same_is a (Sub (Root may.unit) may.number) is)) (on_self (act u)))
         by false is h = inl h
 
-    pub pass_goes : Goes S (λ W. SeesNamed act x (record n { told = told }) after W × OnlyNaming S W × OnlyTold act u S W)
+    pub pass_goes : Goes S (λ W. SeesNamed act x (record n { told = told }) (end_named u ending.Commit o) W × OnlyNaming S W × OnlyTold act u S W)
     pass_goes = record {
       state = V;
       run = step (PassEntry may.unit may.number) (ap (λ (b : Act). (S.action b).stage) (sym may.below) ∙ may.committed) stay;
-      holds = (
-        record {
-          rows = rows_passed;
-          bound = sees.bound;
-          first = sees.first;
-          recorded = sees.recorded;
-          unrecorded = sees.unrecorded;
-          known = sees.known;
-          live = λ k is. let q = sees.live k is in record { server = q.server; named = q.named; incarnation = q.incarnation };
-          made = λ t m is. let q = sees.made t m (without_cases t u m o.made good.sorted is).1 in record { last = q.last; server = q.server; maker = q.maker; sent = q.sent; noted = q.noted };
-          asked = asked_after;
-        },
-        record { rest = refl; bindings = λ b l. refl; sent = λ m i. i },
-        told_passed,
-      );
+      holds = (ended_seen act owner x n told o u S later good sees (pass_rows u o.rows) V.naming.rows V.naming.told rows_passed, only_naming S V.naming, told_passed);
     }
 
 pub commits_are_seen : CommitsAreSeen

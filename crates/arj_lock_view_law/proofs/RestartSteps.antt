@@ -1,12 +1,9 @@
 -- What naming does with the locks of a Confirm, and with its own restart, goes in the machine.
-use Rattle.std.proofs.Common.{◌≡◌, ◌≤◌, ◌<◌, ◌+◌, ◌*◌, ℕ, List, Option, Some, None, refl, arith}
-use Rattle.arj_protocol.specs.Words.{Binding, Row, entry, tops_of}
+use Rattle.std.proofs.Common.{◌≡◌, ◌<◌, ◌+◌, ◌*◌, Option, Some, None, refl, arith}
+use Rattle.arj_protocol.specs.Words.{Binding, entry, tops_of}
 use Rattle.arj_protocol.specs.Words.mode
 use Rattle.arj_protocol.specs.Ask.{top_path}
-use Rattle.arj_protocol.specs.Named.{Named}
-use Rattle.arj_protocol.specs.Order.{binding_number}
 use Rattle.arj_lock_law.specs.Machine.{next, stay, step}
-use Rattle.arj_lock_law.specs.State.{State}
 use Rattle.arj_lock_law.specs.Steps.{CrashNaming}
 use Rattle.arj_lock_view_law.specs.Ends.{ExcludesAreSeen, FallsAreSeen, RestartsAreSeen}
 use Rattle.arj_lock_view_law.proofs.RowSteps.{asked_seen}

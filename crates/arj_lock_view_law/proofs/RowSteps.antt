@@ -1,18 +1,17 @@
 -- Rows of the protocol's tables and of the machine's, step by step.
-use Rattle.std.proofs.Common.{◌≡◌, ◌≤◌, ◌<◌, ◌⊎◌, ◌∙◌, ◌&&◌, ◌||◌, ◌==◌, nat_le, nat_lt, not, ℕ, List, [], ◌∷◌, Bool, true, false, cond, max, Option, Some, None, refl, sym, ap, subst, inl, inr, ⊎_elim, arith, find, map, filter}
-use Rattle.std.specs.Prelude.{⊤, min, if◌then◌else◌}
-use Rattle.std.specs.List.{list_any}
-use Rattle.std.proofs.lemmas.Bool.{and_parts, or_parts}
+use Rattle.std.proofs.Common.{◌≡◌, ◌≤◌, ◌∙◌, ◌&&◌, ◌||◌, nat_le, not, ℕ, List, [], ◌∷◌, Bool, true, false, cond, max, Some, None, refl, sym, ap, subst, arith}
+use Rattle.std.specs.Prelude.{⊤, min}
+use Rattle.std.proofs.lemmas.Bool.{and_parts}
 use Rattle.arj_base.proofs.Uids.{uid_is, uid_same}
 use Rattle.arj_protocol.specs.Words.{Uid, Mode, Row, uid_eq, last_uid, is_on, is_row_of, grant_row, lower_row, drop_rows, stronger, mode_code, conflicting, first_conflict}
 use Rattle.arj_protocol.specs.Words.mode
 use Rattle.arj_protocol.specs.Copy.{row_for, rows_asked, is_granted}
 use Rattle.arj_base.specs.Rows.{is_against}
-use Rattle.arj_lock_law.specs.Actions.{Act, same, on, at_act}
+use Rattle.arj_lock_law.specs.Actions.{Act, same, on}
 use Rattle.arj_lock_law.specs.Rows as machine
 use Rattle.arj_lock_law.specs.Rows.{Clear, raise}
 use Rattle.arj_lock_law.proofs.Paths.{same_self, same_is, act_cases}
-use Rattle.arj_lock_view_law.specs.Acts.{Acts, AreOne, IsAlong}
+use Rattle.arj_lock_view_law.specs.Acts.{Acts, IsAlong}
 use Rattle.arj_lock_view_law.specs.Rows.{strength, held_in, SeesRows}
 
 -- ---- strengths

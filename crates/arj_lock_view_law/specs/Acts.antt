@@ -1,5 +1,5 @@
 -- Actions as the lock machine names them: which path of the machine an action of the protocol is.
-use Rattle.std.specs.Prelude.{◌≡◌, Bool, true, List}
+use Rattle.std.specs.Prelude.{◌≡◌, true, List}
 use Rattle.arj_protocol.specs.Words.{Uid, Path, is_on, last_uid}
 use Rattle.arj_protocol.specs.Ask.{top_path, top_of}
 use Rattle.arj_lock_law.specs.Actions.{Act, on, is_top}

@@ -1,5 +1,5 @@
 -- What naming does with an end, with the locks of a Confirm and with its own restart, in the machine.
-use Rattle.std.specs.Prelude.{◌≡◌, ◌≢◌, ◌<◌, ◌≤◌, ◌⊎◌, ◌+◌, ◌*◌, ℕ, true, false, List, Some, Contains}
+use Rattle.std.specs.Prelude.{◌≡◌, ◌<◌, ◌≤◌, ◌⊎◌, ◌+◌, ◌*◌, ℕ, true, false, List, Some, Contains}
 use Rattle.arj_protocol.specs.Words.{Uid, Path, Row, is_held_by, before_last}
 use Rattle.arj_protocol.specs.Words.ending
 use Rattle.arj_protocol.specs.Words.mode
