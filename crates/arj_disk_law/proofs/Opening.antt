@@ -161,7 +161,7 @@ begun_named A t p may c = record {
     wider l more w s i = ⊎_elim (λ (y : has s l ≡ true). inl (more s y)) (λ (y : IsLeaving S.root (decided S) S.entry_pend (S.root t) s). inr y) (w s i)
 
     mine : is_some p.writes ≡ true → (i : ℕ) × ((N.had t i ≡ true) ⊎ (N.had (S.root t) i ≡ true)) × (IsPresent S N t → IsWide S (S.root t) p.list)
-    mine w = by (may.list w)
+    mine w = let y = may.list w in (y.0, y.1, λ q. (by (y.2 q)).2 q)
       where
         by : (h : ℕ) × ((h ≡ t) ⊎ (h ≡ S.root t)) × (k : Kept) × (N.kept h ≡ Some k) × ((s : ℕ) → has s k.list ≡ true → has s p.list ≡ true) → (i : ℕ) × ((N.had t i ≡ true) ⊎ (N.had (S.root t) i ≡ true)) × (IsPresent S N t → IsWide S (S.root t) p.list)
         by (h, inl e, k, kept, is) = (

@@ -38,7 +38,7 @@ excluding_runs = (
       (
         record { held = refl; had = refl; clear = λ a h e. cc },
         (
-          record { idle = refl; root = refl; top = refl; first = λ z e. refl; based = λ w e. some_that e (λ x. BasedIn zero_state [] x) (record { base = zero_state; known = refl; above = refl }); writer = λ w e. some_that e (λ x. (x.writer ≡ 5) × (zero_state.writer ≡ 5 → ⊥)) (refl, λ n. cc); list = λ w. (5, inl refl, record { since = 1; list = 2 ∷ 3 ∷ [] }, refl, λ s i. i); loaded = λ s j. cc },
+          record { idle = refl; root = refl; top = refl; first = λ z e. refl; based = λ w e. some_that e (λ x. BasedIn zero_state [] x) (record { base = zero_state; known = refl; above = refl }); writer = λ w e. some_that e (λ x. (x.writer ≡ 5) × (zero_state.writer ≡ 5 → ⊥)) (refl, λ n. cc); list = λ w. (1, inl refl, λ q. (5, inl refl, record { since = 1; list = 2 ∷ 3 ∷ [] }, refl, λ s i. i)); loaded = λ s j. cc },
           (
             ((refl, refl), tt),
             (
@@ -257,7 +257,7 @@ serializing_runs = (
       (
         record { held = refl; had = refl; clear = λ a h e. cc },
         (
-          record { idle = refl; root = refl; top = refl; first = λ z e. refl; based = λ w e. some_that e (λ x. BasedIn zero_state [] x) (record { base = zero_state; known = refl; above = refl }); writer = λ w e. some_that e (λ x. (x.writer ≡ 6) × (zero_state.writer ≡ 6 → ⊥)) (refl, λ n. cc); list = λ w. (6, inl refl, record { since = 1; list = 2 ∷ 3 ∷ [] }, refl, λ s i. i); loaded = λ s j. cc },
+          record { idle = refl; root = refl; top = refl; first = λ z e. refl; based = λ w e. some_that e (λ x. BasedIn zero_state [] x) (record { base = zero_state; known = refl; above = refl }); writer = λ w e. some_that e (λ x. (x.writer ≡ 6) × (zero_state.writer ≡ 6 → ⊥)) (refl, λ n. cc); list = λ w. (1, inl refl, λ q. (6, inl refl, record { since = 1; list = 2 ∷ 3 ∷ [] }, refl, λ s i. i)); loaded = λ s j. cc },
           (
             ((refl, refl), tt),
             (
@@ -327,7 +327,7 @@ serializing_runs = (
 
 pub retaining_runs : Runs first_constituent retaining
 retaining_runs = (
-  record { idle = refl; root = refl; top = refl; first = λ z e. grind (arith, nat_tests); based = λ w e. some_that e (λ x. BasedIn zero_state first_constituent.world.disk.tops x) (record { base = state_by 1 6; known = inl refl; above = refl }); writer = λ w e. some_that e (λ x. (x.writer ≡ 7) × (zero_state.writer ≡ 7 → ⊥)) (refl, λ n. cc); list = λ w. (9, inr refl, record { since = 1; list = 2 ∷ 3 ∷ [] }, refl, λ s i. i); loaded = λ s j. cc },
+  record { idle = refl; root = refl; top = refl; first = λ z e. grind (arith, nat_tests); based = λ w e. some_that e (λ x. BasedIn zero_state first_constituent.world.disk.tops x) (record { base = state_by 1 6; known = inl refl; above = refl }); writer = λ w e. some_that e (λ x. (x.writer ≡ 7) × (zero_state.writer ≡ 7 → ⊥)) (refl, λ n. cc); list = λ w. (1, inr refl, λ q. (9, inr refl, record { since = 1; list = 2 ∷ 3 ∷ [] }, refl, λ s i. i)); loaded = λ s j. cc },
   (
     ((refl, refl), tt),
     (

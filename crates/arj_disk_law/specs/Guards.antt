@@ -37,7 +37,8 @@ MayExclude S N t = (s : ℕ) → target (S.plan t) s ≡ true → S.got t s ≡ 
     → (has s S.entry.content ≡ true) ⊎ ((h : Hold) × (S.entry_pend ≡ Some h) × (has s h.new.content ≡ true)) → HasRow N t 1
 
 -- A commit begins: none of its root's outcomes is open; what it wrote is one version above a known state, by a new writer;
--- its list has each store of the kept one; what it includes was loaded, or its root has it newer.
+-- its list has each store of the kept one, as long as its grants are of the present incarnation; what it includes was loaded, or
+-- its root has it newer.
 pub record MayBegin (A : Office) (t : ℕ) (p : Plan) : Type 0 where
   pub idle : A.world.disk.stage t ≡ Idle
   pub root : is_gone (A.world.disk.stage (A.world.disk.root t)) ≡ false
@@ -45,7 +46,8 @@ pub record MayBegin (A : Office) (t : ℕ) (p : Plan) : Type 0 where
   pub first : (z : ℕ) → A.world.disk.root z ≡ A.world.disk.root t → undecided A.world.disk z ≡ false
   pub based : (w : Packed) → p.writes ≡ Some w → IsBased A.world.disk w
   pub writer : (w : Packed) → p.writes ≡ Some w → (w.writer ≡ t) × (A.world.disk.first.writer ≡ t → ⊥)
-  pub list : is_some p.writes ≡ true → (h : ℕ) × ((h ≡ t) ⊎ (h ≡ A.world.disk.root t)) × (k : Kept) × (A.names.kept h ≡ Some k) × ((s : ℕ) → has s k.list ≡ true → has s p.list ≡ true)
+  pub list : is_some p.writes ≡ true → (i : ℕ) × ((A.names.had t i ≡ true) ⊎ (A.names.had (A.world.disk.root t) i ≡ true))
+      × (IsPresent A.world.disk A.names t → (h : ℕ) × ((h ≡ t) ⊎ (h ≡ A.world.disk.root t)) × (k : Kept) × (A.names.kept h ≡ Some k) × ((s : ℕ) → has s k.list ≡ true → has s p.list ≡ true))
   pub loaded : (s : ℕ) → has s p.joins ≡ true → (i : ℕ) × (g : Packed) × In (Loaded t i g) A.names.answers × (A.names.had t i ≡ true) × (p.loaded ≡ load_of A.world.disk t g)
 
 -- what a confirmation looks at in each case
