@@ -51,7 +51,7 @@ min_one a b = grind arith
 same_grant : (g h : Grant) → is_grant_of g.top g.x h ≡ true → (h.top ≡ g.top) × (h.x ≡ g.x)
 same_grant g h e = let p = and_parts (uid_eq h.top g.top) (h.x == g.x) e in (uid_is h.top g.top p.0, test_is h.x g.x p.1)
 
-taken_new : (g : Grant) (gs : List Grant) → Taken g (granted_with g gs)
+pub taken_new : (g : Grant) (gs : List Grant) → Taken g (granted_with g gs)
 taken_new g [] = record { grant = g; there = inl refl; top_is = refl; of = refl; low = omega arith }
 taken_new g (h ∷ hs) = by (is_grant_of g.top g.x h) refl (taken_new g hs)
   where
@@ -59,7 +59,7 @@ taken_new g (h ∷ hs) = by (is_grant_of g.top g.x h) refl (taken_new g hs)
     by true e ih = let s = same_grant g h e in record { grant = record h { least = min h.least g.least; named = named_last g.named h.named }; there = inl refl; top_is = s.0; of = s.1; low = min_right h.least g.least }
     by false e ih = record { grant = ih.grant; there = inr ih.there; top_is = ih.top_is; of = ih.of; low = ih.low }
 
-taken_old : (g k : Grant) (gs : List Grant) → Stands k gs → Taken k (granted_with g gs)
+pub taken_old : (g k : Grant) (gs : List Grant) → Stands k gs → Taken k (granted_with g gs)
 taken_old g k [] i = absurd i
 taken_old g k (h ∷ hs) i = by (is_grant_of g.top g.x h) i (λ j. taken_old g k hs j)
   where
@@ -70,7 +70,7 @@ taken_old g k (h ∷ hs) i = by (is_grant_of g.top g.x h) i (λ j. taken_old g k
     by false (inr j) ih = let f = ih j in record { grant = f.grant; there = inr f.there; top_is = f.top_is; of = f.of; low = f.low }
 
 -- where a grant of the list comes from: it stood there, it is the new one, or one that took the new one up
-came_from : (P : Grant → Type 0) (g : Grant) (gs : List Grant) → ((h : Grant) → Stands h gs → P h) → P g → ((h : Grant) → Stands h gs → h.top ≡ g.top → h.x ≡ g.x → P (record h { least = min h.least g.least; named = named_last g.named h.named })) → (k : Grant) → Stands k (granted_with g gs) → P k
+pub came_from : (P : Grant → Type 0) (g : Grant) (gs : List Grant) → ((h : Grant) → Stands h gs → P h) → P g → ((h : Grant) → Stands h gs → h.top ≡ g.top → h.x ≡ g.x → P (record h { least = min h.least g.least; named = named_last g.named h.named })) → (k : Grant) → Stands k (granted_with g gs) → P k
 came_from P g [] old new both k (inl is) = subst P is new
 came_from P g [] old new both k (inr i) = absurd i
 came_from P g (h ∷ hs) old new both k i = by (is_grant_of g.top g.x h) refl i (λ j. came_from P g hs (λ z q. old z (inr q)) new (λ z q. both z (inr q)) k j)

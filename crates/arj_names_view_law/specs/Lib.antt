@@ -1,5 +1,6 @@
 pub mod Booked
 pub mod Calls
 pub mod Grants
+pub mod Lists
 pub mod Memory
 pub mod Restarts

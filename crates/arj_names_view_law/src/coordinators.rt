@@ -1,5 +1,6 @@
 // What coordinators have from naming's answers.
 ghost use Rattle.arj_names_view_law.specs.Grants.{GrantsAreHeard, GrantsAreNamed, GrantsAreRetained, GrantsStay, StepsStandOnGrants};
+ghost use Rattle.arj_names_view_law.specs.Lists.{CommitsHaveLists, ListsAreHeard};
 
 /// A grant that an answer brings is taken by an act of the machine; a Confirm names, of the objects that its plan uses, what the
 /// machine asks of it; a root has what a constituent had that is retained, once that is decided; and the grant that a Record
@@ -10,4 +11,11 @@ pub fn grants_are_seen()
     ensures stay { GrantsStay }
     ensures retained { GrantsAreRetained }
     ensures steps { StepsStandOnGrants }
+{}
+
+/// An answer's list is kept, by acts of the machine, for each of the root that has a grant of its incarnation; and a commit of a
+/// top that called the object has a list, as the machine asks of it. It does nothing when it runs.
+pub fn lists_are_seen()
+    ensures heard { ListsAreHeard }
+    ensures commits { CommitsHaveLists }
 {}

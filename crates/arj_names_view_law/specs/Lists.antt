@@ -1,0 +1,104 @@
+-- What a root keeps of an object's store list, as the disk machine's naming half has it.
+use Rattle.std.specs.Prelude.{◌≡◌, ◌⊎◌, ◌<◌, ℕ, Bool, true, false, List, Some, None, Contains}
+use Rattle.arj_protocol.specs.Words.{Uid, Binding, is_on}
+use Rattle.arj_protocol.specs.Asking.{is_named}
+use Rattle.arj_protocol.specs.Call.{At, Known, bound_by}
+use Rattle.arj_protocol.specs.Coord as coord
+use Rattle.arj_protocol.specs.Coord.{Coord, Grant, Root, Said, granted_with, is_called, kept_of, survives}
+use Rattle.arj_protocol.specs.Order.{uid_number}
+use Rattle.arj_protocol.specs.Tree.{is_spent}
+use Rattle.arj_disk_law.specs.Guards.{IsPresent}
+use Rattle.arj_disk_law.specs.Named.{Named}
+use Rattle.arj_disk_law.specs.Names as machine
+use Rattle.arj_disk_law.specs.Names.{Names, Office, Answer, Kept}
+use Rattle.arj_disk_law.specs.State.{State, Idle}
+use Rattle.arj_disk_law.specs.Words.{In, has}
+use Rattle.arj_disk_view_law.specs.Sees.{Kinds, IsFixed}
+use Rattle.arj_names_view_law.specs.Grants.{SeesGrants}
+use Rattle.arj_names_view_law.specs.Memory.{NamesGo}
+
+-- the same stores, in whatever order
+abbrev pub AreSame : List ℕ → List ℕ → Type 0
+AreSame l m = (s : ℕ) → has s l ≡ has s m
+
+-- counts of bindings have 32 bits
+abbrev pub IsShort : Binding → Type 0
+IsShort b = b.count < 4294967296
+
+-- the machine keeps the known binding's list for this action
+pub record HasList (N : Names) (h : ℕ) (k : Known) : Type 0 where
+  pub kept : Kept
+  pub there : N.kept h ≡ Some kept
+  pub since : (let b = k.binding in b.inc) ≡ kept.since
+  pub same : AreSame kept.list k.stores
+
+-- the root has a grant of the binding's incarnation, and some list is kept for it
+pub record HasRetained (N : Names) (root : ℕ) (k : Known) : Type 0 where
+  pub had : N.had root (let b = k.binding in b.inc) ≡ true
+  pub kept : Kept
+  pub there : N.kept root ≡ Some kept
+
+-- a top of the root
+pub record IsTopOf (tops : Kinds) (root t : Uid) : Type 0 where
+  pub top : tops.is_top (uid_number t) ≡ true
+  pub plain : tops.is_serial (uid_number t) ≡ false
+  pub of_root : tops.root (uid_number t) ≡ uid_number root
+
+-- The list of the binding that a root keeps. Whatever list of that binding's incarnation the machine keeps in the root is the
+-- root's; it has one for each top that was answered this binding, and one that counts for each that has an answered call; and
+-- where nothing is kept no call survives.
+pub record SeesLists (x : ℕ) (tops : Kinds) (root : Uid) (c : Coord) (r : Root) (N : Names) : Type 0 where
+  pub agree : (k : Known) (h : Uid) (l : Kept) → kept_of x r ≡ Some k → (h ≡ root) ⊎ IsTopOf tops root h → N.kept (uid_number h) ≡ Some l → l.since ≡ (let b = k.binding in b.inc) → AreSame l.list k.stores
+  pub family : (g : Grant) → Contains r.grants g → IsTopOf tops root g.top
+  pub granted : (g : Grant) (b : Binding) → Contains r.grants g → g.x ≡ x → g.named ≡ Some b → (N.had (uid_number g.top) b.inc ≡ true) × IsShort b
+  pub named : (k : Known) (g : Grant) → kept_of x r ≡ Some k → Contains r.grants g → g.x ≡ x → is_named k.binding g.named ≡ true → HasList N (uid_number g.top) k
+  pub short : (k : Known) → kept_of x r ≡ Some k → IsShort k.binding
+  pub called : (k : Known) (s : Said) (t : Uid) → kept_of x r ≡ Some k → Contains r.said s → s.x ≡ x → is_spent s.path c.tree ≡ false → is_on s.path t ≡ true → IsTopOf tops root t → HasList N (uid_number t) k ⊎ HasRetained N (uid_number root) k
+  pub retained : (k : Known) (s : Said) → kept_of x r ≡ Some k → Contains r.said s → s.x ≡ x → coord.is_retained s.path c ≡ true → HasRetained N (uid_number root) k
+  pub nothing : kept_of x r ≡ None → (s : Said) → Contains r.said s → s.x ≡ x → is_spent s.path c.tree ≡ true
+
+-- what survives isn't spent, while the root and this top are open
+pub record IsLasting (x : ℕ) (c : Coord) (r : Root) : Type 0 where
+  pub retained : (s : Said) → Contains r.said s → s.x ≡ x → coord.is_retained s.path c ≡ true → is_spent s.path c.tree ≡ false
+
+-- ---- an answer names a binding
+
+-- Of the machine only grants and kept lists of coordinators change; grants grow.
+pub record OnlyKept (A B : Office) : Type 0 where
+  pub names : B.names ≡ record A.names { had = B.names.had; kept = B.names.kept }
+  pub world : B.world ≡ A.world
+  pub had : (t i : ℕ) → A.names.had t i ≡ true → B.names.had t i ≡ true
+
+-- What an answer to a call brings: a binding of the naming incarnation that answers, with a list; and where the root is free of
+-- the kept binding each call on the object is spent.
+pub record IsNamedNow (x : ℕ) (c : Coord) (r : Root) (g : ℕ) (known : Known) (free : Bool) : Type 0 where
+  pub inc : (let b = known.binding in b.inc) ≡ g
+  pub short : IsShort known.binding
+  pub spent : free ≡ true → (s : Said) → Contains r.said s → s.x ≡ x → is_spent s.path c.tree ≡ true
+
+-- The root after an answer to the top's call: the grant is noted, and what is kept is what the answer makes of it.
+pub record AfterAnswer (x g : ℕ) (t : Uid) (known : Known) (at : At) (free : Bool) (r q : Root) : Type 0 where
+  pub grants : q.grants ≡ granted_with (record { top = t; x = x; least = g; named = Some known.binding }) r.grants
+  pub said : q.said ≡ r.said
+  pub kept : kept_of x q ≡ (let m = bound_by free known at (kept_of x r) in m.kept)
+
+-- The answer is taken, and with it its list for each of the root that has a grant of its incarnation.
+abbrev pub ListsAreHeard : Type 0
+ListsAreHeard = (x g : ℕ) (tops : Kinds) (root t : Uid) (c : Coord) (r q : Root) (known : Known) (at : At) (free : Bool) (A : Office) → Named A → IsFixed tops A.world.disk → SeesGrants x root c r A.world.disk A.names → SeesLists x tops root c r A.names → IsLasting x c r
+    → IsTopOf tops root t → tops.root (uid_number root) ≡ uid_number root → A.world.disk.stage (uid_number t) ≡ Idle → In (machine.Bound (uid_number t) g false known.stores) A.names.answers → IsNamedNow x c r g known free → AfterAnswer x g t known at free r q
+    → NamesGo A (λ B. OnlyKept A B × SeesLists x tops root c q B.names)
+
+-- ---- a commit's list
+
+-- What a commit of a top asks for that called the object: a grant, and as long as all grants are of the present incarnation, a
+-- kept list of which each store is in the root's.
+pub record HasKeptList (x : ℕ) (root t : Uid) (r : Root) (S : State) (N : Names) : Type 0 where
+  pub known : Known
+  pub kept : kept_of x r ≡ Some known
+  pub inc : ℕ
+  pub had : (N.had (uid_number t) inc ≡ true) ⊎ (N.had (uid_number root) inc ≡ true)
+  pub list : IsPresent S N (uid_number t) → (h : ℕ) × ((h ≡ uid_number t) ⊎ (h ≡ uid_number root)) × (l : Kept) × (N.kept h ≡ Some l) × ((s : ℕ) → has s l.list ≡ true → has s known.stores ≡ true)
+
+abbrev pub CommitsHaveLists : Type 0
+CommitsHaveLists = (x : ℕ) (tops : Kinds) (root t : Uid) (c : Coord) (r : Root) (A : Office) → Named A → IsFixed tops A.world.disk → SeesLists x tops root c r A.names → IsLasting x c r → IsTopOf tops root t
+    → ((s : Said) → Contains r.said s → survives t s.path c ≡ true → is_spent s.path c.tree ≡ false) → is_called x t r c ≡ true → HasKeptList x root t r A.world.disk A.names
