@@ -1,7 +1,7 @@
 -- A disk that is armed, and junk.
-use Rattle.std.proofs.Common.{◌≡◌, ◌≢◌, ℕ, zero, suc, ◌+◌, ◌-◌, ◌≤◌, ◌<◌, ◌==◌, Bool, true, false, ◌||◌, List, [], ◌∷◌, ◌++◌, length, map, take, refl, ap, sym, ◌∙◌, subst, Option, Some, None, arith}
+use Rattle.std.proofs.Common.{◌≡◌, ℕ, zero, suc, ◌+◌, ◌-◌, ◌≤◌, ◌<◌, Bool, true, false, ◌||◌, List, [], ◌∷◌, ◌++◌, length, map, take, refl, ap, sym, ◌∙◌, subst, Some, None, arith}
 use Rattle.std.specs.Prelude.{if◌then◌else◌, nat_le, nat_lt, slice_get, slice_set}
-use Rattle.std.proofs.lemmas.List.{append-nil, length-map, length-set}
+use Rattle.std.proofs.lemmas.List.{append-nil, length-map}
 use Rattle.arj_core.specs.declared.node.Core.{Ghosts}
 use Rattle.arj_core.specs.Steps.{Sent, message_of}
 use Rattle.arj_disk.specs.FileMap.{FileMap}
@@ -10,7 +10,6 @@ use Rattle.arj_journal.specs.declared.body.Line.{Line}
 use Rattle.arj_journal.specs.declared.event.StopKind.{StopKind}
 use Rattle.arj_net.specs.declared.net.Sent as net
 use Rattle.arj_protocol.specs.Step.{Node}
-use Rattle.arj_protocol.specs.Words.{Body}
 use Rattle.arj_protocol.specs.Words.body
 use Rattle.arj_protocol.specs.Words.event
 use Rattle.arj_protocol.specs.Words.frame
@@ -18,7 +17,7 @@ use Rattle.arj_protocol.specs.World as protocol
 use Rattle.arj_protocol.specs.World.{World, frames_with, junk_fits, most_frames, new_frame, numbered, overflows, says, sent_line}
 use Rattle.arj_world.specs.Goes.{Goes, GoesTo}
 use Rattle.arj_world.specs.Happens.{HappensTo, done}
-use Rattle.arj_world.specs.Stands.{AreNodes, Hand, Kept, Stands}
+use Rattle.arj_world.specs.Stands.{AreNodes, Hand, Stands}
 use Rattle.arj_world.specs.Turns.{with_arms}
 use Rattle.arj_world.specs.Wire.{Put, frame_of, put_seen}
 use Rattle.arj_world.proofs.Going.{as_well, plainly}
@@ -47,7 +46,7 @@ module _ {C D : Type 0} (core : Ghosts C) (file : D → FileMap) where
       let c = find i h.kept.cores (omega (arith, within, are.cores_count)) in
       let n = find i nodes (omega (arith, within, are.nodes_count)) in
       let files : file d ≡ file d' = λ j q. sym (same q) j in
-      let set = nodes_set core file h.kept.header h.kept.cores h.disks nodes i c.0 c.0 d d' n.0 n.0 are c.1 at n.1 (subst (λ f. core.stands h.kept.header c.0 f n.0) files (are.each i c.0 d n.0 c.1 at n.1)) in
+      let set = nodes_set core file h.kept.header h.kept.cores h.disks nodes i c.0 c.0 d d' n.0 n.0 are c.1 at n.1 (subst (λ f. core.stands h.kept.header c.0 f n.0) files (are.each i c.0 d n.0 c.1 at n.1)) refl in
       subst (λ ns. AreNodes core file h.kept.header h.kept.cores (slice_set h.disks i d') ns) (set_same i n.0 nodes n.1)
       (subst (λ cs. AreNodes core file h.kept.header cs (slice_set h.disks i d') (slice_set nodes i n.0)) (set_same i c.0 h.kept.cores c.1) set)
 

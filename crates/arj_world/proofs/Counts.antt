@@ -4,17 +4,17 @@ use Rattle.std.specs.Prelude.{nat_lt, not, ◌||◌, if◌then◌else◌}
 use Rattle.arj_core.specs.declared.node.Core.{Ghosts}
 use Rattle.arj_disk.specs.FileMap.{FileMap}
 use Rattle.arj_journal.specs.declared.body.Line.{Line}
-use Rattle.arj_protocol.specs.Words.{Body, Event}
+use Rattle.arj_protocol.specs.Words.{Event}
 use Rattle.arj_protocol.specs.Words.body
 use Rattle.arj_protocol.specs.Words.event
 use Rattle.arj_protocol.specs.Order.{at_number}
 use Rattle.arj_protocol.specs.Tree.{at_place}
 use Rattle.arj_protocol.specs.Step.{Node, Input, Step, step}
 use Rattle.arj_protocol.specs.Step as input
-use Rattle.arj_protocol.specs.World.{World, Frame, Arm, Giving, most_frames, says, steps, step_node, step_with, done_step, halted_at, armed, disarmed, count_works, cut, change_frame, as_delivered, as_lost, deliver_frame, deliver, lose_frame, lowest, settle_for, settle, tick_up, tick_all, is_up_at, node_numbers, is_quiet, quiet_line, quiesce, show_up, show_all, junk_fits, labels_unless, refused_at, begins, begins_any, giving, happens, node_of, frame_number, counted}
+use Rattle.arj_protocol.specs.World.{World, Frame, Arm, Giving, most_frames, says, steps, step_node, step_with, done_step, halted_at, armed, disarmed, count_works, cut, change_frame, as_delivered, deliver_frame, deliver, lose_frame, lowest, settle_for, settle, tick_up, tick_all, is_up_at, node_numbers, is_quiet, quiet_line, quiesce, show_up, show_all, junk_fits, labels_unless, refused_at, begins, begins_any, giving, happens, node_of, frame_number, counted}
 use Rattle.arj_protocol.proofs.Growth.{event_grows}
 use Rattle.arj_world.specs.Happens.{HappensTo, RunsOver, RunsTo, done}
-use Rattle.arj_world.specs.Stands.{Hand, Stands, StandsSome}
+use Rattle.arj_world.specs.Stands.{Hand, StandsSome}
 use Rattle.arj_world.specs.Turns.{asked, with_arms}
 use Rattle.arj_world.proofs.Runs.{counted_hand, counted_stands}
 

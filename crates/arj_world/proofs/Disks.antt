@@ -1,5 +1,5 @@
 -- The counts of disks, over one call and over several.
-use Rattle.std.proofs.Common.{◌≡◌, ℕ, zero, suc, ◌+◌, ◌-◌, ◌≤◌, ◌<◌, ◌==◌, Bool, true, false, List, [], ◌∷◌, length, refl, ap, sym, ◌∙◌, subst, Some, arith}
+use Rattle.std.proofs.Common.{◌≡◌, ℕ, zero, suc, ◌+◌, ◌-◌, ◌<◌, ◌==◌, Bool, true, false, List, [], ◌∷◌, length, refl, ap, sym, ◌∙◌, subst, Some, arith}
 use Rattle.std.specs.Prelude.{slice_get, slice_set, Result, Ok, Err, IsErrAnd}
 use Rattle.std.proofs.lemmas.Bool.{cases_lt}
 use Rattle.std.proofs.Math.Logic.{⊎_elim}
@@ -12,22 +12,22 @@ use Rattle.arj_disk.specs.declared.disk.Disk.{Ghosts}
 use Rattle.arj_world.specs.Disks.{HasStopped, HaveMoved, Moves}
 use Rattle.arj_world.proofs.Stepping.{is_there}
 
-some_one : {A : Type 0} (a b : A) → Some a ≡ Some b → a ≡ b
+pub some_one : {A : Type 0} (a b : A) → Some a ≡ Some b → a ≡ b
 some_one a b is = cc is
 
-within : {A : Type 0} (i : ℕ) (a : A) (items : List A) → slice_get items i ≡ Some a → i < length items
+pub within : {A : Type 0} (i : ℕ) (a : A) (items : List A) → slice_get items i ≡ Some a → i < length items
 within i a [] at = absurd (cc at)
 within zero a (x ∷ xs) at = omega arith
 within (suc i) a (x ∷ xs) at = let less : i < length xs = within i a xs at in omega (arith, less)
 
-set_other : {A : Type 0} (i j : ℕ) (a : A) (items : List A) → (j ≡ i → ⊥) → slice_get (slice_set items i a) j ≡ slice_get items j
+pub set_other : {A : Type 0} (i j : ℕ) (a : A) (items : List A) → (j ≡ i → ⊥) → slice_get (slice_set items i a) j ≡ slice_get items j
 set_other i j a [] h = refl
 set_other zero zero a (x ∷ xs) h = absurd (h refl)
 set_other zero (suc j) a (x ∷ xs) h = refl
 set_other (suc i) zero a (x ∷ xs) h = refl
 set_other (suc i) (suc j) a (x ∷ xs) h = set_other i j a xs (λ e. h (ap suc e))
 
-set_here : {A : Type 0} (i : ℕ) (a b c : A) (items : List A) → slice_get items i ≡ Some b → slice_get (slice_set items i a) i ≡ Some c → a ≡ c
+pub set_here : {A : Type 0} (i : ℕ) (a b c : A) (items : List A) → slice_get items i ≡ Some b → slice_get (slice_set items i a) i ≡ Some c → a ≡ c
 set_here i a b c [] was at = absurd (cc was)
 set_here zero a b c (x ∷ xs) was at = cc at
 set_here (suc i) a b c (x ∷ xs) was at = set_here i a b c xs was at

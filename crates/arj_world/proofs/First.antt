@@ -1,5 +1,5 @@
 -- Nodes that are formatted one after another.
-use Rattle.std.proofs.Common.{◌≡◌, ◌≢◌, ℕ, zero, suc, ◌+◌, ◌-◌, ◌≤◌, ◌<◌, ◌==◌, Bool, true, false, List, [], ◌∷◌, ◌++◌, length, map, refl, ap, sym, ◌∙◌, subst, Option, Some, None, arith}
+use Rattle.std.proofs.Common.{◌≡◌, ℕ, zero, suc, ◌+◌, ◌-◌, ◌≤◌, ◌<◌, List, [], ◌∷◌, ◌++◌, length, map, refl, ap, sym, ◌∙◌, subst, Some, arith}
 use Rattle.std.specs.Prelude.{All, slice_get, slice_set}
 use Rattle.std.proofs.lemmas.List.{length-append, length-map, length-set, map-append}
 use Rattle.std.proofs.lemmas.Bool.{cases_lt}
@@ -104,5 +104,6 @@ module _ {C D : Type 0} (core : Ghosts C) (file : D → FileMap) (header : Heade
     cores_count = all;
     nodes_count = length-map (numbers_to header.nodes) (first_node header) ∙ length_numbers header.nodes;
     disks_count = omega (arith, so.reach, all);
+    numbers = λ i n at_node. ap (λ (m : Node). m.number) (numbered_at header.nodes i n at_node);
     each = λ i c d n at_core at_disk at_node. subst (λ m. core.stands header c (file d) m) (sym (numbered_at header.nodes i n at_node)) (so.each i c d at_core at_disk);
   }

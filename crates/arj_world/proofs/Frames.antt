@@ -1,12 +1,12 @@
 -- Frames of a net as the protocol's: by number, marked, and the lowest that is still to be delivered.
-use Rattle.std.proofs.Common.{◌≡◌, ℕ, zero, suc, ◌+◌, ◌-◌, ◌≤◌, ◌<◌, Bool, true, false, List, [], ◌∷◌, length, map, refl, ap, sym, ◌∙◌, subst, Option, Some, None, MatchOption, arith}
+use Rattle.std.proofs.Common.{◌≡◌, ℕ, zero, suc, ◌+◌, ◌<◌, Bool, true, false, List, [], ◌∷◌, length, map, refl, ap, sym, ◌∙◌, Option, Some, None, MatchOption, arith}
 use Rattle.std.specs.Prelude.{if◌then◌else◌, slice_get, slice_set}
 use Rattle.std.specs.Option.{option_map, option_map_or}
 use Rattle.arj_net.specs.declared.net.Frame as net_frame
 use Rattle.arj_net.specs.declared.net.Sent as net
 use Rattle.arj_net.specs.Net as nets
 use Rattle.arj_protocol.specs.Tree.{at_place, set_place}
-use Rattle.arj_protocol.specs.World.{Frame, is_open_frame, lowest_from}
+use Rattle.arj_protocol.specs.World.{Frame, lowest_from}
 use Rattle.arj_world.specs.Wire.{frame_of}
 
 placed : (k : ℕ) (sent : List net.Sent) → slice_get (map frame_of sent) k ≡ option_map frame_of (slice_get sent k)

@@ -1,6 +1,6 @@
 -- From one world in hand to the next.
-use Rattle.std.proofs.Common.{◌≡◌, inl, inr, ℕ, zero, suc, ◌+◌, ◌-◌, ◌≤◌, ◌<◌, Bool, true, false, List, [], ◌∷◌, ◌++◌, length, map, refl, ap, sym, ◌∙◌, subst, Option, Some, None, arith}
-use Rattle.std.specs.Prelude.{if◌then◌else◌, is_some, not, ◌||◌, slice_get, slice_set, option_map, Result, OnOk}
+use Rattle.std.proofs.Common.{◌≡◌, ℕ, zero, suc, ◌+◌, ◌-◌, ◌≤◌, ◌<◌, Bool, true, false, List, [], ◌∷◌, ◌++◌, length, map, refl, ap, sym, ◌∙◌, subst, Option, Some, None, arith}
+use Rattle.std.specs.Prelude.{if◌then◌else◌, not, ◌||◌, slice_get, option_map, Result, OnOk}
 use Rattle.std.proofs.lemmas.Result.{on_ok_weaker}
 use Rattle.std.specs.List.{list_all}
 use Rattle.std.proofs.lemmas.List.{append-nil}
@@ -15,17 +15,16 @@ use Rattle.arj_net.specs.Net as nets
 use Rattle.arj_protocol.specs.Step.{Node, Input, is_idle, numbers_to}
 use Rattle.arj_protocol.specs.Step as input
 use Rattle.arj_protocol.specs.Tree.{at_place, set_place}
-use Rattle.arj_protocol.specs.Words.{Body}
 use Rattle.arj_protocol.specs.Words.body
 use Rattle.arj_protocol.specs.World as protocol
 use Rattle.arj_protocol.specs.World.{World, Frame, change_frame, deliver_frame, lose_frame, numbered, says, lowest_from, most_frames, settle_for, steps, step_node}
-use Rattle.arj_world.specs.Goes.{Begins, BeginsTo, Goes, GoesTo, GoesPartTo, StepsTo, is_no_restart}
-use Rattle.arj_world.specs.Stands.{AreNodes, AreSomeNodes, Hand, Kept, Stands, StandsSome}
+use Rattle.arj_world.specs.Goes.{Goes, GoesTo, GoesPartTo, StepsTo, is_no_restart}
+use Rattle.arj_world.specs.Stands.{AreSomeNodes, Hand, Stands, StandsSome}
 use Rattle.arj_world.specs.Turns.{with_arms}
 use Rattle.arj_world.specs.Wire.{dropped_line, frame_of}
 use Rattle.arj_world.proofs.Tests.{Tells, keeps_of, up_at}
 use Rattle.arj_world.proofs.Frames.{frame_at, marked, none_there, nothing_marked, sent_there}
-use Rattle.arj_world.proofs.Going.{as_well, behind, begins, first_step, one_step, onward, plainly, stays}
+use Rattle.arj_world.proofs.Going.{as_well, behind, one_step, onward, plainly, stays}
 
 -- ---- the numbers of nodes
 

@@ -12,3 +12,6 @@ pub mod First
 pub mod Disks
 pub mod Counts
 pub mod Armed
+pub mod Tells
+pub mod Owns
+pub mod Turning

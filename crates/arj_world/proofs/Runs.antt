@@ -1,5 +1,5 @@
 -- Events that were run, as turns.
-use Rattle.std.proofs.Common.{◌≡◌, ℕ, zero, suc, ◌+◌, ◌-◌, ◌≤◌, ◌<◌, Bool, true, false, List, [], ◌∷◌, ◌++◌, length, refl, ap, sym, ◌∙◌, subst, Option, Some, None, arith}
+use Rattle.std.proofs.Common.{◌≡◌, ℕ, ◌+◌, ◌≤◌, Bool, true, false, List, [], ◌∷◌, ◌++◌, refl, ap, sym, ◌∙◌, subst, Option, Some, None}
 use Rattle.std.specs.Prelude.{if◌then◌else◌, not, Result, Ok, Err, OnOk}
 use Rattle.std.proofs.lemmas.Result.{on_ok_weaker}
 use Rattle.arj_core.specs.declared.node.Core.{Ghosts}
@@ -7,17 +7,16 @@ use Rattle.arj_core.specs.Steps.{message_of}
 use Rattle.arj_disk.specs.FileMap.{FileMap}
 use Rattle.arj_journal.specs.declared.body.Line.{Line}
 use Rattle.arj_protocol.specs.Step.{first_reason}
-use Rattle.arj_protocol.specs.Words.{Body, Event, FrameNo, Header}
+use Rattle.arj_protocol.specs.Words.{Event, FrameNo, Header}
 use Rattle.arj_protocol.specs.Words.{read_message}
 use Rattle.arj_protocol.specs.Words.body
 use Rattle.arj_protocol.specs.Words.event
 use Rattle.arj_protocol.specs.Words.which
-use Rattle.arj_protocol.specs.World as protocol
-use Rattle.arj_protocol.specs.World.{World, Arm, counted, frame_number, giving, is_node, reads_whole, happens, lacks_labels, limited, no_labels, numbered, reasons, run_accepted, run_event, run_unless, says}
+use Rattle.arj_protocol.specs.World.{World, Arm, counted, frame_number, giving, is_node, reads_whole, happens, lacks_labels, limited, no_labels, numbered, reasons, run_event, run_unless, says}
 use Rattle.arj_world.specs.Goes.{BeginsTo, GoesTo, arms_of}
-use Rattle.arj_world.specs.Happens.{Happened, HappensTo, IsOver, Ran, RunsOver, RunsTo, done}
+use Rattle.arj_world.specs.Happens.{Happened, HappensTo, IsOver, RunsOver, RunsTo, done}
 use Rattle.arj_world.specs.Stands.{Hand, Keeps, Kept, Stands, StandsSome}
-use Rattle.arj_world.specs.Turns.{Turn, asked, turned, with_arms}
+use Rattle.arj_world.specs.Turns.{asked, with_arms}
 use Rattle.arj_world.proofs.Going.{as_well, begins, finish}
 use Rattle.arj_world.proofs.Tests.{in_range, keeps_armed, keeps_of, no_message, passed}
 

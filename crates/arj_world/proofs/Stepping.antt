@@ -7,6 +7,7 @@ use Rattle.arj_core.specs.declared.output.Output.{Output}
 use Rattle.arj_core.specs.declared.output.Output.TheVariants as output
 use Rattle.arj_core.specs.Steps as steps
 use Rattle.arj_core.specs.Steps.{Did, Seen, Said, WasCut, seen, seen_of}
+use Rattle.arj_event_law.proofs.Whole.{step_number}
 use Rattle.arj_net.specs.declared.net.Sent.{Sent}
 use Rattle.arj_protocol.specs.Ask.{frame_kind}
 use Rattle.arj_disk.specs.FileMap.{FileMap}
@@ -51,14 +52,27 @@ module _ {C D : Type 0} (core : Ghosts C) (file : D → FileMap) where
   -- one core with its disk and its node changed
   pub nodes_set : (h : Header) (cores : List C) (disks : List D) (nodes : List Node) (i : ℕ) (c c' : C) (d d' : D) (n n' : Node)
       → AreNodes core file h cores disks nodes → slice_get cores i ≡ Some c → slice_get disks i ≡ Some d → slice_get nodes i ≡ Some n
-      → core.stands h c' (file d') n' → AreNodes core file h (slice_set cores i c') (slice_set disks i d') (slice_set nodes i n')
-  nodes_set h cores disks nodes i c c' d d' n n' are at_core at_disk at_node stands = record {
+      → core.stands h c' (file d') n' → n'.number ≡ n.number → AreNodes core file h (slice_set cores i c') (slice_set disks i d') (slice_set nodes i n')
+  nodes_set h cores disks nodes i c c' d d' n n' are at_core at_disk at_node stands number = record {
     cores_count = length-set cores i c' ∙ are.cores_count;
     nodes_count = length-set nodes i n' ∙ are.nodes_count;
     disks_count = omega (arith, are.disks_count, length-set disks i d');
+    numbers = numbers;
     each = each;
   }
     where
+      numbers : (j : ℕ) (m : Node) → slice_get (slice_set nodes i n') j ≡ Some m → m.number ≡ j + 1
+      numbers j m node_is = by (j == i) refl
+        where
+          by : (b : Bool) → (j == i) ≡ b → m.number ≡ j + 1
+          by true same =
+              let e : i ≡ j = grind (arith, same) in
+              let new : n' ≡ m = some_one n' m (sym (set_here i n' nodes n at_node) ∙ ap (slice_get (slice_set nodes i n')) e ∙ node_is) in
+              ap (λ (x : Node). x.number) (sym new) ∙ (number ∙ (are.numbers i n at_node ∙ ap (λ k. k + 1) e))
+          by false other =
+              let apart : j ≢ i = grind (arith, other) in
+              are.numbers j m (sym (set_other i j n' nodes apart) ∙ node_is)
+
       each : (j : ℕ) (x : C) (y : D) (m : Node) → slice_get (slice_set cores i c') j ≡ Some x → slice_get (slice_set disks i d') j ≡ Some y → slice_get (slice_set nodes i n') j ≡ Some m → core.stands h x (file y) m
       each j x y m core_is disk_is node_is = by (j == i) refl
         where
@@ -155,7 +169,7 @@ module _ {C D : Type 0} (core : Ghosts C) (file : D → FileMap) where
       after : Stands core file new (done_step (suc j) (step old.kept.header n i) w)
       after = put_stands (suc j) (step old.kept.header n i).after (step old.kept.header n i).outs out old new w (put_of net journal full) st refl refl refl
           (ap (map seen_of) did.outs.are ∙ did.outs.seen_so) refl shown_is
-          (nodes_set old.kept.header old.kept.cores old.disks w.nodes j c c' d d' n (step old.kept.header n i).after st.nodes at_core at_disk there.1 did.node)
+          (nodes_set old.kept.header old.kept.cores old.disks w.nodes j c c' d d' n (step old.kept.header n i).after st.nodes at_core at_disk there.1 did.node (step_number old.kept.header n i))
 
   -- a node counts from 1, a place from 0
   pub done_to : (node : ℕ) (i : Input) (c c' : C) (d d' : D) (old : Hand C D) (net : List Sent) (journal : List Line) (full : Bool) (out : List Output)
@@ -249,7 +263,7 @@ module _ {C D : Type 0} (core : Ghosts C) (file : D → FileMap) where
       after : Stands core file new (halted_at (suc j) n q w)
       after = put_stands (suc j) (record n { disk = q.disk; live = None }) (halted_outs (suc j) q) (out ++ output.Say (body.Halted (suc j)) ∷ []) old new w (put_of net journal full) st refl refl refl
           (said_is ∙ ap (λ es. es ++ Said (body.Halted (suc j)) ∷ []) (ap (map seen_of) was.outs.are ∙ was.outs.seen_so) ∙ sym (seen_behind q.outs (body.Halted (suc j)))) refl puts
-          (nodes_set old.kept.header old.kept.cores old.disks w.nodes j c c' d d' n (record n { disk = q.disk; live = None }) st.nodes at_core at_disk there.1 was.node)
+          (nodes_set old.kept.header old.kept.cores old.disks w.nodes j c c' d d' n (record n { disk = q.disk; live = None }) st.nodes at_core at_disk there.1 was.node refl)
 
   pub cut_to : (node : ℕ) (i : Input) (c c' : C) (d d' : D) (old : Hand C D) (net : List Sent) (before journal : List Line) (full : Bool) (out : List Output)
       → 1 ≤ node → node ≤ old.kept.header.nodes → slice_get old.kept.cores (node - 1) ≡ Some c → slice_get old.disks (node - 1) ≡ Some d

@@ -5,3 +5,5 @@ pub mod Goes
 pub mod Happens
 pub mod First
 pub mod Disks
+pub mod Tells
+pub mod Owns

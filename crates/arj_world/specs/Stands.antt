@@ -1,5 +1,5 @@
 -- What a world has in memory and on its disks, as the protocol's world.
-use Rattle.std.specs.Prelude.{ℕ, ◌≡◌, ◌≤◌, Bool, false, List, [], length, map, Some, slice_get}
+use Rattle.std.specs.Prelude.{ℕ, ◌≡◌, ◌+◌, ◌≤◌, Bool, false, List, [], length, map, Some, slice_get}
 use Rattle.arj_core.specs.declared.node.Core.{Ghosts}
 use Rattle.arj_disk.specs.FileMap.{FileMap}
 use Rattle.arj_journal.specs.declared.body.Line.{Line}
@@ -20,11 +20,12 @@ pub record Kept (C : Type 0) : Type 0 where
   pub event : ℕ
   pub full : Bool
 
--- each core with the files of its disk is the node at its place
+-- each core with the files of its disk is the node at its place, whose number is that of the place
 pub record AreNodes {C D : Type 0} (core : Ghosts C) (file : D → FileMap) (header : Header) (cores : List C) (disks : List D) (nodes : List Node) : Type 0 where
   pub cores_count : length cores ≡ header.nodes
   pub nodes_count : length nodes ≡ header.nodes
   pub disks_count : header.nodes ≤ length disks
+  pub numbers : (i : ℕ) (n : Node) → slice_get nodes i ≡ Some n → n.number ≡ i + 1
   pub each : (i : ℕ) (c : C) (d : D) (n : Node) → slice_get cores i ≡ Some c → slice_get disks i ≡ Some d → slice_get nodes i ≡ Some n
       → core.stands header c (file d) n
 

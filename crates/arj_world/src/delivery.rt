@@ -6,6 +6,7 @@ ghost use Rattle.arj_protocol.specs.World as protocol;
 ghost use Rattle.arj_world.specs.Disks.{HaveMoved};
 ghost use Rattle.arj_world.specs.Goes.{GoesTo};
 ghost use Rattle.arj_world.specs.Stands.{StandsSome, hand};
+ghost use Rattle.arj_world.specs.Tells.{TellsStops, nobody};
 ghost use Rattle.arj_world.specs.Wire as wire;
 
 use crate::World;
@@ -35,7 +36,7 @@ impl<C: Core> World<C> {
     }
 
     /// Delivers a frame to the node that it is for. A number that no frame has does nothing, nor does a node that isn't there.
-    #[tactic(auto, using(crate::proofs::Disks::moved_none))]
+    #[tactic(auto, using(crate::proofs::Disks::moved_none, crate::proofs::Tells::tells_none))]
     pub(crate) fn deliver<D: Disk>(
         &mut self,
         rack: &mut Rack<D>,
@@ -46,6 +47,7 @@ impl<C: Core> World<C> {
         ensures goes { OnOk result (GoesTo C.Core D.file (protocol.deliver k) (hand self.old rack.old journal.old) (hand self.new rack.new journal.new)) }
         ensures header { self.new.header ≡ self.old.header }
         ensures disks { HaveMoved D.Disk 0 rack.old rack.new }
+        ensures tells { OnOk result (TellsStops D.Disk nobody rack.old rack.new journal.old journal.new) }
     {
         let Some(frame) = self.take_frame(k)? else {
             return Ok(());
@@ -92,6 +94,7 @@ impl<C: Core> World<C> {
         ensures goes { OnOk result (GoesTo C.Core D.file protocol.settle (hand self.old rack.old journal.old) (hand self.new rack.new journal.new)) }
         ensures header { self.new.header ≡ self.old.header }
         ensures disks { HaveMoved D.Disk 0 rack.old rack.new }
+        ensures tells { OnOk result (TellsStops D.Disk nobody rack.old rack.new journal.old journal.new) }
     {
         let mut left = MOST_FRAMES;
         while 0 < left {

@@ -1,8 +1,9 @@
 // What an event does that the world doesn't refuse.
-ghost use Rattle.std.specs.Prelude.{◌≡◌, ◌≤◌, ◌<◌, ◌+◌, ◌∷◌, [], true, None, Some, OnOk, All};
+ghost use Rattle.std.specs.Prelude.{◌≡◌, ◌≤◌, ◌<◌, ◌+◌, ◌∷◌, [], true, false, None, Some, OnOk, All};
 ghost use Rattle.std.specs.BTreeMap.{insert_entry};
 ghost use Rattle.arj_core.specs.Steps.{Sent, input_of, message_of};
 ghost use Rattle.arj_disk.specs.declared.limits.TheConstants.{LAST_ARM};
+ghost use Rattle.arj_event_law.specs.Halts.{is_crash};
 ghost use Rattle.arj_journal.specs.ScriptForm.{EventInForm};
 ghost use Rattle.arj_protocol.specs.Step.{first_reason};
 ghost use Rattle.arj_protocol.specs.Step as inputs;
@@ -15,6 +16,7 @@ ghost use Rattle.arj_world.specs.Goes.{BeginsTo, GoesTo, is_no_restart};
 ghost use Rattle.arj_world.specs.Happens.{HappensTo, done};
 ghost use Rattle.arj_world.specs.Happens as happens;
 ghost use Rattle.arj_world.specs.Stands.{Keeps, StandsSome, hand};
+ghost use Rattle.arj_world.specs.Tells.{TellsStops, nobody};
 
 use crate::{Labelled, World};
 use arj_base::Bytes;
@@ -58,7 +60,7 @@ impl<C: Core> World<C> {
     }
 
     // An action begins at a node. Its label is given where the node doesn't refuse.
-    #[tactic(auto, using(crate::proofs::Disks::moved_none))]
+    #[tactic(auto, using(crate::proofs::Disks::moved_none, crate::proofs::Tells::tells_none))]
     fn begin<D: Disk>(
         &mut self,
         rack: &mut Rack<D>,
@@ -72,6 +74,7 @@ impl<C: Core> World<C> {
         ensures goes { OnOk result (GoesTo C.Core D.file (protocol.begins (record { label = label; kind = kind; parent = parent; node = node })) (hand self.old rack.old journal.old) (hand self.new rack.new journal.new)) }
         ensures header { self.new.header ≡ self.old.header }
         ensures disks { HaveMoved D.Disk 0 rack.old rack.new }
+        ensures tells { OnOk result (TellsStops D.Disk nobody rack.old rack.new journal.old journal.new) }
     {
         let serial = is_serial(kind);
         let Some(n) = self.node_in(u32::from(node)) else {
@@ -104,6 +107,7 @@ impl<C: Core> World<C> {
         ensures goes { OnOk result (GoesTo C.Core D.file (protocol.begins (record { label = label; kind = kind; parent = None; node = node })) (hand self.old rack.old journal.old) (hand self.new rack.new journal.new)) }
         ensures header { self.new.header ≡ self.old.header }
         ensures disks { HaveMoved D.Disk 0 rack.old rack.new }
+        ensures tells { OnOk result (TellsStops D.Disk nobody rack.old rack.new journal.old journal.new) }
     {
         let Some(n) = self.node_in(node) else {
             unreachable!()
@@ -149,6 +153,7 @@ impl<C: Core> World<C> {
         ensures goes { OnOk result (GoesTo C.Core D.file (done (events.BeginIn label parent)) (hand self.old rack.old journal.old) (hand self.new rack.new journal.new)) }
         ensures header { self.new.header ≡ self.old.header }
         ensures disks { HaveMoved D.Disk 0 rack.old rack.new }
+        ensures tells { OnOk result (TellsStops D.Disk nobody rack.old rack.new journal.old journal.new) }
     {
         let kind = self.kind_below(parent);
         let node = self.node_of(parent);
@@ -167,6 +172,7 @@ impl<C: Core> World<C> {
         ensures goes { OnOk result (GoesTo C.Core D.file (done (events.Top label parent)) (hand self.old rack.old journal.old) (hand self.new rack.new journal.new)) }
         ensures header { self.new.header ≡ self.old.header }
         ensures disks { HaveMoved D.Disk 0 rack.old rack.new }
+        ensures tells { OnOk result (TellsStops D.Disk nobody rack.old rack.new journal.old journal.new) }
     {
         let node = self.node_of(parent);
         self.begin(rack, label, Kind::Independent, Some(parent), node, journal)
@@ -181,17 +187,19 @@ impl<C: Core> World<C> {
         journal: &mut Lines,
     ) -> Result<(), AllocError>
         requires other { is_no_restart (input_of input) ≡ true }
+        requires live { is_crash (input_of input) ≡ false }
         requires stands { StandsSome C.Core D.file (hand self.old rack.old journal.old) }
         ensures goes { OnOk result (GoesTo C.Core D.file (λ w. steps (protocol.node_of label w) (input_of input) w) (hand self.old rack.old journal.old) (hand self.new rack.new journal.new)) }
         ensures header { self.new.header ≡ self.old.header }
         ensures disks { HaveMoved D.Disk 0 rack.old rack.new }
+        ensures tells { OnOk result (TellsStops D.Disk nobody rack.old rack.new journal.old journal.new) }
     {
         let node = self.node_of(label);
         self.ask_node(rack, u32::from(node), input, journal)
     }
 
     /// A node comes up.
-    #[tactic(auto, using(crate::proofs::Disks::moved_none))]
+    #[tactic(auto, using(crate::proofs::Disks::moved_none, crate::proofs::Tells::tells_none))]
     pub(crate) fn restart<D: Disk>(
         &mut self,
         rack: &mut Rack<D>,
@@ -202,6 +210,7 @@ impl<C: Core> World<C> {
         ensures begins { OnOk result (BeginsTo C.Core D.file (steps node inputs.Restart) (hand self.old rack.old journal.old) (hand self.new rack.new journal.new)) }
         ensures header { self.new.header ≡ self.old.header }
         ensures disks { HaveMoved D.Disk 0 rack.old rack.new }
+        ensures tells { OnOk result (TellsStops D.Disk nobody rack.old rack.new journal.old journal.new) }
     {
         match self.node_in(node) {
             Some(n) => self.step_core(rack, n, Input::Restart, journal),
@@ -225,6 +234,7 @@ impl<C: Core> World<C> {
         ensures happens { OnOk result (HappensTo C.Core D.file (done (events.Stop node calls kind)) (hand self.old rack.old journal.old) (hand self.new rack.new journal.new)) }
         ensures header { self.new.header ≡ self.old.header }
         ensures disks { HaveMoved D.Disk 1 rack.old rack.new }
+        ensures tells { OnOk result (TellsStops D.Disk nobody rack.old rack.new journal.old journal.new) }
     {
         let Some(n) = self.node_in(node) else {
             unreachable!()
@@ -246,6 +256,7 @@ impl<C: Core> World<C> {
         requires junk { message_of bytes ≡ None }
         ensures goes { OnOk result (GoesTo C.Core D.file (protocol.junk node) (hand self.old rack.now journal.old) (hand self.new rack.now journal.new)) }
         ensures header { self.new.header ≡ self.old.header }
+        ensures tells { OnOk result (TellsStops D.Disk nobody rack.now rack.now journal.old journal.new) }
     {
         let Some(n) = self.node_in(node) else {
             unreachable!()

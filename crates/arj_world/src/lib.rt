@@ -1,8 +1,10 @@
 //! The nodes, the net and the journal under a script.
 //!
-//! It stands on `arj_core` (a node), `arj_net` (frames), `arj_disk` (disks) and the definitions of `arj_protocol`. What it
-//! gives upward: a world that is formatted is the protocol's first world, and each event makes of it what the protocol makes
-//! of its world, with the stops that the disks made (`World::step`; `specs/Stands.antt`, `specs/Happens.antt`).
+//! It stands on `arj_core` (a node), `arj_net` (frames), `arj_disk` (disks), the definitions of `arj_protocol` and the laws of
+//! events (`arj_event_law`). What it gives upward: a world that is formatted is the protocol's first world, and each event makes
+//! of it what the protocol makes of its world, with the stops that the disks made (`World::step`; `specs/Stands.antt`,
+//! `specs/Happens.antt`). Which lines tell of stops, and which lines an event owes, say `specs/Tells.antt` and
+//! `specs/Owns.antt`.
 //! `specs/Turns.antt` says what the run of a script is, with those stops. Inside an event it isn't known yet which stops
 //! will fall: `specs/Goes.antt` says how a world goes on then.
 #![tactic(auto)]
@@ -15,9 +17,11 @@ mod labelled;
 mod nodes;
 mod refusal;
 mod run;
+mod whole;
 mod wire;
 mod world;
 
 pub use fault::{FormatFault, StepFault};
 pub use labelled::Labelled;
+pub use whole::{runs_stay_whole, turns_keep_what_handlers_keep};
 pub use world::World;

@@ -1,7 +1,8 @@
 // What goes over all nodes: ticks, a quiesce, a show.
-ghost use Rattle.std.specs.Prelude.{◌≡◌, ◌≤◌, ◌-◌, ◌∷◌, ◌++◌, [], List, true, false, OnOk, Some, is_some, slice_get};
+ghost use Rattle.std.specs.Prelude.{ℕ, ◌≡◌, ◌≤◌, ◌-◌, ◌∷◌, ◌++◌, [], List, true, false, OnOk, Some, is_some, slice_get};
 ghost use Rattle.std.specs.List.{list_all};
 ghost use Rattle.arj_disk.specs.FileMap.{FileMap};
+ghost use Rattle.arj_journal.specs.declared.body.Line.{Line};
 ghost use Rattle.arj_journal.specs.declared.header.Header.{Header};
 ghost use Rattle.arj_protocol.specs.Step.{Node, is_idle, numbers_to};
 ghost use Rattle.arj_protocol.specs.Words.body;
@@ -10,6 +11,7 @@ ghost use Rattle.arj_protocol.specs.World as protocol;
 ghost use Rattle.arj_world.specs.Disks.{HaveMoved};
 ghost use Rattle.arj_world.specs.Goes.{GoesTo};
 ghost use Rattle.arj_world.specs.Stands.{AreSomeNodes, StandsSome, hand};
+ghost use Rattle.arj_world.specs.Tells.{TellsStops, halts, nobody};
 
 use crate::World;
 use arj_core::{Core, Input};
@@ -40,7 +42,7 @@ impl<C: Core> World<C> {
     }
 
     // What waits at a node is asked for again, where it is up and all frames fitted.
-    #[tactic(auto, using(crate::proofs::Disks::moved_none))]
+    #[tactic(auto, using(crate::proofs::Disks::moved_none, crate::proofs::Tells::tells_none))]
     fn tick_up<D: Disk>(
         &mut self,
         rack: &mut Rack<D>,
@@ -53,6 +55,7 @@ impl<C: Core> World<C> {
         ensures goes { OnOk result (GoesTo C.Core D.file (protocol.tick_up node) (hand self.old rack.old journal.old) (hand self.new rack.new journal.new)) }
         ensures header { self.new.header ≡ self.old.header }
         ensures disks { HaveMoved D.Disk 0 rack.old rack.new }
+        ensures tells { OnOk result (TellsStops D.Disk nobody rack.old rack.new journal.old journal.new) }
     {
         if self.wire.full {
             return Ok(());
@@ -73,6 +76,7 @@ impl<C: Core> World<C> {
         ensures goes { OnOk result (GoesTo C.Core D.file (protocol.tick_all (numbers_to self.old.header.nodes)) (hand self.old rack.old journal.old) (hand self.new rack.new journal.new)) }
         ensures header { self.new.header ≡ self.old.header }
         ensures disks { HaveMoved D.Disk 0 rack.old rack.new }
+        ensures tells { OnOk result (TellsStops D.Disk nobody rack.old rack.new journal.old journal.new) }
     {
         let nodes = self.header.nodes;
         for node in 0..nodes {
@@ -86,6 +90,7 @@ impl<C: Core> World<C> {
         ensures full { self.now.full ≡ true → OnOk result (journal.new ≡ journal.old) }
         ensures said { self.now.full ≡ false → OnOk result ((header : Header) (nodes : List Node) → AreSomeNodes C.Core header self.now.cores nodes
             → journal.new ≡ journal.old ++ numbered self.now.event (body.Quiet (list_all is_idle nodes) ∷ [])) }
+        ensures added { OnOk result ((added : List Line) × (journal.new ≡ journal.old ++ added) × ((n : ℕ) → halts n added ≡ 0)) }
     {
         if self.wire.full {
             return Ok(());
@@ -104,6 +109,7 @@ impl<C: Core> World<C> {
         ensures goes { OnOk result (GoesTo C.Core D.file protocol.quiesce (hand self.old rack.old journal.old) (hand self.new rack.new journal.new)) }
         ensures header { self.new.header ≡ self.old.header }
         ensures disks { HaveMoved D.Disk 0 rack.old rack.new }
+        ensures tells { OnOk result (TellsStops D.Disk nobody rack.old rack.new journal.old journal.new) }
     {
         self.settle(rack, journal)?;
         self.tick_all(rack, journal)?;
@@ -112,7 +118,7 @@ impl<C: Core> World<C> {
     }
 
     // A node that is up shows what its disk has of an object.
-    #[tactic(auto, using(crate::proofs::Disks::moved_none))]
+    #[tactic(auto, using(crate::proofs::Disks::moved_none, crate::proofs::Tells::tells_none))]
     fn show_up<D: Disk>(
         &mut self,
         rack: &mut Rack<D>,
@@ -126,6 +132,7 @@ impl<C: Core> World<C> {
         ensures goes { OnOk result (GoesTo C.Core D.file (protocol.show_up x node) (hand self.old rack.old journal.old) (hand self.new rack.new journal.new)) }
         ensures header { self.new.header ≡ self.old.header }
         ensures disks { HaveMoved D.Disk 0 rack.old rack.new }
+        ensures tells { OnOk result (TellsStops D.Disk nobody rack.old rack.new journal.old journal.new) }
     {
         if !self.is_up(node) {
             return Ok(());
@@ -144,6 +151,7 @@ impl<C: Core> World<C> {
         ensures goes { OnOk result (GoesTo C.Core D.file (protocol.show_all x (numbers_to self.old.header.nodes)) (hand self.old rack.old journal.old) (hand self.new rack.new journal.new)) }
         ensures header { self.new.header ≡ self.old.header }
         ensures disks { HaveMoved D.Disk 0 rack.old rack.new }
+        ensures tells { OnOk result (TellsStops D.Disk nobody rack.old rack.new journal.old journal.new) }
     {
         let nodes = self.header.nodes;
         for node in 0..nodes {

@@ -1,5 +1,5 @@
 // One event after another.
-ghost use Rattle.std.specs.Prelude.{◌≡◌, ◌≤◌, ◌<◌, ◌+◌, ◌∷◌, ◌++◌, [], List, true, false, None, Some, OnOk, IfOk, IsErrOf, All};
+ghost use Rattle.std.specs.Prelude.{◌≡◌, ◌⊎◌, ◌≤◌, ◌<◌, ◌+◌, ◌∷◌, ◌++◌, [], List, true, false, None, Some, OnOk, IfOk, IsErrOf, All};
 ghost use Rattle.arj_disk.specs.declared.limits.TheConstants.{LAST_ARM};
 ghost use Rattle.arj_journal.specs.ScriptForm.{EventInForm};
 ghost use Rattle.arj_journal.specs.Stepping.{EndsWithLimit};
@@ -7,13 +7,17 @@ ghost use Rattle.arj_journal.specs.declared.body.Line.{Line};
 ghost use Rattle.arj_protocol.specs.Step.{first_reason};
 ghost use Rattle.arj_protocol.specs.Step as inputs;
 ghost use Rattle.arj_protocol.specs.Words.body;
+ghost use Rattle.arj_protocol.specs.Words.event as events;
 ghost use Rattle.arj_protocol.specs.Words.which;
 ghost use Rattle.arj_protocol.specs.World.{giving, lacks_labels, numbered, reasons, steps};
 ghost use Rattle.arj_protocol.specs.World as protocol;
 ghost use Rattle.arj_world.specs.Disks.{HaveMoved};
 ghost use Rattle.arj_world.specs.Goes.{GoesTo};
 ghost use Rattle.arj_world.specs.Happens.{HappensTo, RunsOver, RunsTo, done};
+ghost use Rattle.arj_world.specs.Owns.{AnswersEvent, HasNoOpen};
 ghost use Rattle.arj_world.specs.Stands.{Keeps, StandsSome, hand};
+ghost use Rattle.arj_world.specs.Tells.{TellsStops, crashed_by, nobody};
+ghost use Rattle.arj_world.specs.Wire.{AreFew};
 
 use crate::{StepFault, World};
 use arj_core::{Core, Input};
@@ -40,6 +44,7 @@ impl<C: Core> World<C> {
         ensures goes { OnOk result (GoesTo C.Core D.file (λ w. steps (protocol.node_of label w) (inputs.Include label x node) w) (hand self.old rack.old journal.old) (hand self.new rack.new journal.new)) }
         ensures header { self.new.header ≡ self.old.header }
         ensures disks { HaveMoved D.Disk 0 rack.old rack.new }
+        ensures tells { OnOk result (TellsStops D.Disk nobody rack.old rack.new journal.old journal.new) }
     {
         let Some(store) = self.node_in(node) else {
             unreachable!()
@@ -61,6 +66,7 @@ impl<C: Core> World<C> {
         ensures happens { OnOk result (HappensTo C.Core D.file (done event) (hand self.old rack.old journal.old) (hand self.new rack.new journal.new)) }
         ensures header { self.new.header ≡ self.old.header }
         ensures disks { HaveMoved D.Disk 1 rack.old rack.new }
+        ensures tells { OnOk result (TellsStops D.Disk (crashed_by event) rack.old rack.new journal.old journal.new) }
     {
         match event {
             Event::Begin { label, node } => self.begin_at(rack, label, Kind::Top, node, journal),
@@ -135,6 +141,7 @@ impl<C: Core> World<C> {
         ensures full { IsErrOf result StepFault.Frames → self.now.full ≡ true }
         ensures said { IsErrOf result StepFault.Frames → journal.new ≡ journal.old ++ numbered self.now.event (body.Limit which.Frames ∷ []) }
         ensures labels { IsErrOf result StepFault.Labels → ⊥ }
+        ensures few { AreFew self.now.net }
     {
         if !self.wire.full {
             return Ok(());
@@ -155,8 +162,10 @@ impl<C: Core> World<C> {
 
     /// Runs one event: its lines go to the end of the journal, and the world is then what the protocol makes of it, with
     /// the stops that fell. Where a frame didn't fit, a line says so last, and the run is over. An event that would give
-    /// one label too many changes nothing.
-    #[tactic(auto, using(crate::proofs::Disks::moved_none))]
+    /// one label too many changes nothing. A line that says that a node halted stands for a stop of its disk, but in the event
+    /// that crashes it; an event of a kind with a line of its own writes it, or why it doesn't; and after a settle or a quiesce
+    /// each frame was delivered or lost.
+    #[tactic(auto, using(crate::proofs::Disks::moved_none, crate::proofs::Tells::tells_none))]
     pub fn step<D: Disk>(
         &mut self,
         rack: &mut Rack<D>,
@@ -178,6 +187,11 @@ impl<C: Core> World<C> {
         ensures labels { IsErrOf result StepFault.Labels → (w : protocol.World) → Keeps C.Core self.old w → (None ≡ first_reason (reasons event w)) × (lacks_labels (giving event w) w ≡ true) }
         ensures header { self.new.header ≡ self.old.header }
         ensures disks { HaveMoved D.Disk 1 rack.old rack.new }
+        ensures stops { OnOk result (TellsStops D.Disk (crashed_by event) rack.old rack.new journal.old journal.new) }
+        ensures stops_over { IsErrOf result StepFault.Frames → TellsStops D.Disk (crashed_by event) rack.old rack.new journal.old journal.new }
+        ensures answers { OnOk result (AnswersEvent C.Core D.file event (hand self.old rack.old journal.old) journal.new) }
+        ensures answers_over { IsErrOf result StepFault.Frames → AnswersEvent C.Core D.file event (hand self.old rack.old journal.old) journal.new }
+        ensures settled { OnOk result ((event ≡ events.Settle) ⊎ (event ≡ events.Quiesce) → HasNoOpen self.new.net) }
     {
         if let Some(cause) = self.refusal(&event)? {
             return self.refuse(cause, journal);

@@ -5,6 +5,7 @@ ghost use Rattle.arj_protocol.specs.World.{steps};
 ghost use Rattle.arj_world.specs.Disks.{HaveMoved};
 ghost use Rattle.arj_world.specs.Goes.{GoesTo, StepsTo, is_no_restart};
 ghost use Rattle.arj_world.specs.Stands.{StandsSome, hand};
+ghost use Rattle.arj_world.specs.Tells.{TellsStops, crashed_at};
 
 use crate::Labelled;
 use crate::wire::Wire;
@@ -55,6 +56,7 @@ impl<C: Core> World<C> {
         ensures steps { OnOk result (StepsTo C.Core D.file node (input_of input) (hand self.old rack.old journal.old) (hand self.new rack.new journal.new)) }
         ensures header { self.new.header ≡ self.old.header }
         ensures disks { HaveMoved D.Disk 0 rack.old rack.new }
+        ensures tells { OnOk result (TellsStops D.Disk (crashed_at node (input_of input)) rack.old rack.new journal.old journal.new) }
     {
         let mut outputs = Outputs::new(self.alloc);
         let core = &mut self.cores[usize::from(node - 1)];
@@ -69,7 +71,7 @@ impl<C: Core> World<C> {
     }
 
     /// The node of a number takes an input, but no restart. Where there is no such node, nothing happens.
-    #[tactic(auto, using(crate::proofs::Disks::moved_none))]
+    #[tactic(auto, using(crate::proofs::Disks::moved_none, crate::proofs::Tells::tells_none))]
     pub(crate) fn ask_node<D: Disk>(
         &mut self,
         rack: &mut Rack<D>,
@@ -82,6 +84,7 @@ impl<C: Core> World<C> {
         ensures goes { OnOk result (GoesTo C.Core D.file (steps node (input_of input)) (hand self.old rack.old journal.old) (hand self.new rack.new journal.new)) }
         ensures header { self.new.header ≡ self.old.header }
         ensures disks { HaveMoved D.Disk 0 rack.old rack.new }
+        ensures tells { OnOk result (TellsStops D.Disk (crashed_at node (input_of input)) rack.old rack.new journal.old journal.new) }
     {
         match self.node_in(node) {
             Some(n) => self.step_core(rack, n, input, journal),

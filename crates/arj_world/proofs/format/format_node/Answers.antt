@@ -1,5 +1,4 @@
 use Rattle.std.proofs.Common.{refl}
-use Rattle.arj_world.proofs.Disks.{moved_call, stopped_at}
 use Rattle.arj_world.proofs.format.format_node.Goals as goal
 
 pub returns-in-Ok-clause-formatted : goal.returns-in-Ok-clause-formatted

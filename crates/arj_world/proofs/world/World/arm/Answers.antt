@@ -1,4 +1,4 @@
-use Rattle.std.proofs.Common.{◌≡◌, ◌∙◌, ◌∷◌, ◌++◌, [], ap, subst}
+use Rattle.std.proofs.Common.{◌≡◌, ◌∙◌, ◌∷◌, ◌++◌, [], ap, subst, refl}
 use Rattle.std.proofs.lemmas.Result.{on_ok_weaker}
 use Rattle.arj_protocol.specs.Words.body
 use Rattle.arj_protocol.specs.Words.event as events
@@ -8,6 +8,7 @@ use Rattle.std.specs.Prelude.{slice_set, ◌-◌}
 use Rattle.arj_world.specs.Stands.{hand}
 use Rattle.arj_world.proofs.Armed.{happens_armed}
 use Rattle.arj_world.proofs.Disks.{moved_armed}
+use Rattle.arj_world.proofs.Tells.{tells_armed}
 use Rattle.arj_world.proofs.world.World.arm.Goals as goal
 
 pub returns-clause-happens : goal.returns-clause-happens
@@ -24,3 +25,8 @@ returns-clause-happens g c =
 
 pub returns-clause-disks : goal.returns-clause-disks
 returns-clause-disks g c = moved_armed g.D.Disk c.in-Some.n c.args.rack.now c.disk.result.now c.arm.new.self c.disk.ensures.value c.arm.ensures.stops c.arm.ensures.arms
+
+pub returns-clause-tells : goal.returns-clause-tells
+returns-clause-tells g c = on_ok_weaker c.say.result
+    (tells_armed g.D.Disk c.in-Some.n c.args.rack.now c.disk.result.now c.arm.new.self c.args.journal.now c.say.new.journal c.self.inside.wire.event (body.Armed c.in-Some.n) c.in-Some.ensures.1 c.disk.ensures.value c.arm.ensures.stops refl)
+    c.say.ensures

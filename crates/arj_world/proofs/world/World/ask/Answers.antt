@@ -1,3 +1,4 @@
+use Rattle.std.specs.Prelude.{OnOk, ◌&&◌, ◌==◌}
 use Rattle.std.proofs.Common.{subst}
 use Rattle.std.proofs.lemmas.Result.{on_ok_weaker}
 use Rattle.arj_core.specs.Steps.{input_of}
@@ -5,6 +6,7 @@ use Rattle.arj_protocol.specs.World.{steps}
 use Rattle.arj_world.specs.Goes.{GoesTo}
 use Rattle.arj_world.specs.Stands.{hand}
 use Rattle.arj_world.proofs.Begins.{goes_ask}
+use Rattle.arj_world.specs.Tells.{TellsStops}
 use Rattle.arj_world.proofs.world.World.ask.Goals as goal
 
 pub returns-clause-goes : goal.returns-clause-goes
@@ -15,3 +17,7 @@ returns-clause-goes g c =
     (λ goes. goes_ask g.C.Core g.D.Disk.file c.args.label c.node_of-node.result (input_of c.args.input) old new c.node_of-node.ensures
     (subst (λ m. GoesTo g.C.Core g.D.Disk.file (steps m (input_of c.args.input)) old new) c.from.ensures goes))
     c.ask_node.ensures.goes
+
+pub returns-clause-tells : goal.returns-clause-tells
+returns-clause-tells g c =
+    subst (λ b. OnOk c.ask_node.result (TellsStops g.D.Disk (λ n. b && (n == c.from.result)) c.args.rack.now c.ask_node.new.rack c.args.journal.now c.ask_node.new.journal)) c.requires.live c.ask_node.ensures.tells

@@ -6,6 +6,8 @@ use Rattle.arj_protocol.specs.World.{Giving, begins}
 use Rattle.arj_world.specs.Goes.{GoesTo, StepsTo}
 use Rattle.arj_world.specs.Stands.{hand}
 use Rattle.arj_world.proofs.Begins.{asks_begin, goes_begun, goes_refused, goes_unasked}
+use Rattle.arj_world.specs.Tells.{nobody}
+use Rattle.arj_world.proofs.Tells.{tells_none}
 use Rattle.arj_world.proofs.world.World.begin.Goals as goal
 
 pub returns-in_default-clause-goes : goal.returns-in_default-clause-goes
@@ -43,3 +45,12 @@ returns-clause-goes g c =
     (goes_begun g.C.Core g.D.Disk.file it old mid (subst (λ m. 1 ≤ m) same n.1) (subst (λ m. m ≤ c.args.self.now.header.nodes) same n.2) c.in_ok-step_core.ensures.header
     (subst (λ m. StepsTo g.C.Core g.D.Disk.file m (asks_begin it) old mid) same c.in_ok-step_core.ensures.steps) (sym c.if-not-ends_begun.ensures)))
     c.give_label-2.ensures.given
+
+pub returns-in_default-clause-tells : goal.returns-in_default-clause-tells
+returns-in_default-clause-tells g c = on_ok_weaker c.give_label.result (λ given. tells_none g.D.Disk nobody c.args.rack.now c.args.journal.now) c.give_label.ensures.given
+
+pub returns-then-not-ends_begun-clause-tells : goal.returns-then-not-ends_begun-clause-tells
+returns-then-not-ends_begun-clause-tells g c = c.in_ok-step_core.ensures.tells
+
+pub returns-clause-tells : goal.returns-clause-tells
+returns-clause-tells g c = on_ok_weaker c.give_label-2.result (λ given. c.in_ok-step_core.ensures.tells) c.give_label-2.ensures.given

@@ -28,3 +28,6 @@ returns-clause-goes g c =
     (subst (λ m. GoesTo g.C.Core g.D.Disk.file (steps m (input.Frame c.args.k f.from (message_of f.bytes))) (next g.C.Core g.D.Disk.file c.args.k f old is) new) c.from.ensures
     (subst (λ s. GoesTo g.C.Core g.D.Disk.file (steps c.from.result (input.Frame c.args.k f.from (message_of f.bytes))) (hand s c.args.rack.now c.args.journal.now) new) c.in_ok-frame.ensures.marked goes)))
     c.ask_node.ensures.goes
+
+pub returns-clause-tells : goal.returns-clause-tells
+returns-clause-tells g c = c.ask_node.ensures.tells

@@ -1,4 +1,4 @@
-use Rattle.std.proofs.Common.{◌≡◌, ◌∙◌, Err, ◌+◌, ◌-◌, [], ◌∷◌, None, length, map, arith, refl, ap, subst, sym}
+use Rattle.std.proofs.Common.{◌≡◌, Err, ◌+◌, ◌-◌, [], ◌∷◌, None, length, map, arith, refl, ap, subst, sym}
 use Rattle.std.proofs.lemmas.List.{length-append}
 use Rattle.arj_disk.specs.declared.slot.Slot.{Slot}
 use Rattle.arj_world.specs.declared.fault.FormatFault.TheVariants.{Stopped}

@@ -13,6 +13,8 @@ use Rattle.arj_world.specs.Wire.{dropped_line}
 use Rattle.arj_world.proofs.Disks.{moved_more, moved_none}
 use Rattle.arj_world.proofs.Hands.{goes_lose}
 use Rattle.arj_world.proofs.Runs.{accepted_junk, accepted_range, begins_on, goes_headed, goes_numbered, goes_on, on_ok_both, stands_on}
+use Rattle.arj_world.specs.Tells.{nobody}
+use Rattle.arj_world.proofs.Tells.{lost_line, tells_line, tells_none, tells_of}
 use Rattle.arj_world.proofs.world.World.happen.Goals as goal
 
 pub returns-in-Begin-clause-happens : goal.returns-in-Begin-clause-happens
@@ -177,3 +179,66 @@ returns-in-Lose-clause-disks g c = moved_none g.D.Disk 1 c.args.rack.now
 
 pub returns-in-Junk-clause-disks : goal.returns-in-Junk-clause-disks
 returns-in-Junk-clause-disks g c = moved_none g.D.Disk 1 c.args.rack.now
+
+pub returns-in-Begin-clause-tells : goal.returns-in-Begin-clause-tells
+returns-in-Begin-clause-tells g c = tells_of g.D.Disk c.begin_at.result (events.Begin c.in-Begin.label c.in-Begin.node) c.args.event c.args.rack.now c.begin_at.new.rack c.args.journal.now c.begin_at.new.journal c.in-Begin.is c.begin_at.ensures.tells
+
+pub returns-in-Serial-clause-tells : goal.returns-in-Serial-clause-tells
+returns-in-Serial-clause-tells g c = tells_of g.D.Disk c.begin_at-in-Serial.result (events.Serial c.in-Serial.label c.in-Serial.node) c.args.event c.args.rack.now c.begin_at-in-Serial.new.rack c.args.journal.now c.begin_at-in-Serial.new.journal c.in-Serial.is c.begin_at-in-Serial.ensures.tells
+
+pub returns-in-BeginIn-clause-tells : goal.returns-in-BeginIn-clause-tells
+returns-in-BeginIn-clause-tells g c = tells_of g.D.Disk c.begin_in.result (events.BeginIn c.in-BeginIn.label c.in-BeginIn.parent) c.args.event c.args.rack.now c.begin_in.new.rack c.args.journal.now c.begin_in.new.journal c.in-BeginIn.is c.begin_in.ensures.tells
+
+pub returns-in-Top-clause-tells : goal.returns-in-Top-clause-tells
+returns-in-Top-clause-tells g c = tells_of g.D.Disk c.begin_apart.result (events.Top c.in-Top.label c.in-Top.parent) c.args.event c.args.rack.now c.begin_apart.new.rack c.args.journal.now c.begin_apart.new.journal c.in-Top.is c.begin_apart.ensures.tells
+
+pub returns-in-Call-clause-tells : goal.returns-in-Call-clause-tells
+returns-in-Call-clause-tells g c = tells_of g.D.Disk c.ask.result (events.Call c.in-Call.label c.in-Call.x c.in-Call.op) c.args.event c.args.rack.now c.ask.new.rack c.args.journal.now c.ask.new.journal c.in-Call.is c.ask.ensures.tells
+
+pub returns-in-Include-clause-tells : goal.returns-in-Include-clause-tells
+returns-in-Include-clause-tells g c = tells_of g.D.Disk c.include.result (events.Include c.in-Include.label c.in-Include.x c.in-Include.node) c.args.event c.args.rack.now c.include.new.rack c.args.journal.now c.include.new.journal c.in-Include.is c.include.ensures.tells
+
+pub returns-in-Commit-clause-tells : goal.returns-in-Commit-clause-tells
+returns-in-Commit-clause-tells g c = tells_of g.D.Disk c.ask-in-Commit.result (events.Commit c.in-Commit.label) c.args.event c.args.rack.now c.ask-in-Commit.new.rack c.args.journal.now c.ask-in-Commit.new.journal c.in-Commit.is c.ask-in-Commit.ensures.tells
+
+pub returns-in-Abort-clause-tells : goal.returns-in-Abort-clause-tells
+returns-in-Abort-clause-tells g c = tells_of g.D.Disk c.ask-in-Abort.result (events.Abort c.in-Abort.label) c.args.event c.args.rack.now c.ask-in-Abort.new.rack c.args.journal.now c.ask-in-Abort.new.journal c.in-Abort.is c.ask-in-Abort.ensures.tells
+
+pub returns-in-GiveUp-clause-tells : goal.returns-in-GiveUp-clause-tells
+returns-in-GiveUp-clause-tells g c = tells_of g.D.Disk c.ask-in-GiveUp.result (events.GiveUp c.in-GiveUp.label) c.args.event c.args.rack.now c.ask-in-GiveUp.new.rack c.args.journal.now c.ask-in-GiveUp.new.journal c.in-GiveUp.is c.ask-in-GiveUp.ensures.tells
+
+pub returns-in-Deliver-clause-tells : goal.returns-in-Deliver-clause-tells
+returns-in-Deliver-clause-tells g c = tells_of g.D.Disk c.deliver.result (events.Deliver c.in-Deliver.frame) c.args.event c.args.rack.now c.deliver.new.rack c.args.journal.now c.deliver.new.journal c.in-Deliver.is c.deliver.ensures.tells
+
+pub returns-in-Tick-clause-tells : goal.returns-in-Tick-clause-tells
+returns-in-Tick-clause-tells g c = tells_of g.D.Disk c.ask_node.result (events.Tick c.in-Tick.node) c.args.event c.args.rack.now c.ask_node.new.rack c.args.journal.now c.ask_node.new.journal c.in-Tick.is c.ask_node.ensures.tells
+
+pub returns-in-Settle-clause-tells : goal.returns-in-Settle-clause-tells
+returns-in-Settle-clause-tells g c = tells_of g.D.Disk c.settle.result events.Settle c.args.event c.args.rack.now c.settle.new.rack c.args.journal.now c.settle.new.journal c.in-Settle.is c.settle.ensures.tells
+
+pub returns-in-Quiesce-clause-tells : goal.returns-in-Quiesce-clause-tells
+returns-in-Quiesce-clause-tells g c = tells_of g.D.Disk c.quiesce.result events.Quiesce c.args.event c.args.rack.now c.quiesce.new.rack c.args.journal.now c.quiesce.new.journal c.in-Quiesce.is c.quiesce.ensures.tells
+
+pub returns-in-Crash-clause-tells : goal.returns-in-Crash-clause-tells
+returns-in-Crash-clause-tells g c = tells_of g.D.Disk c.ask_node-in-Crash.result (events.Crash c.in-Crash.node) c.args.event c.args.rack.now c.ask_node-in-Crash.new.rack c.args.journal.now c.ask_node-in-Crash.new.journal c.in-Crash.is c.ask_node-in-Crash.ensures.tells
+
+pub returns-in-Restart-clause-tells : goal.returns-in-Restart-clause-tells
+returns-in-Restart-clause-tells g c = tells_of g.D.Disk c.restart.result (events.Restart c.in-Restart.node) c.args.event c.args.rack.now c.restart.new.rack c.args.journal.now c.restart.new.journal c.in-Restart.is c.restart.ensures.tells
+
+pub returns-in-Stop-clause-tells : goal.returns-in-Stop-clause-tells
+returns-in-Stop-clause-tells g c = tells_of g.D.Disk c.arm.result (events.Stop c.in-Stop.node c.in-Stop.calls c.in-Stop.kind) c.args.event c.args.rack.now c.arm.new.rack c.args.journal.now c.arm.new.journal c.in-Stop.is c.arm.ensures.tells
+
+pub returns-in-Show-clause-tells : goal.returns-in-Show-clause-tells
+returns-in-Show-clause-tells g c = tells_of g.D.Disk c.show_all.result (events.Show c.in-Show.x) c.args.event c.args.rack.now c.show_all.new.rack c.args.journal.now c.show_all.new.journal c.in-Show.is c.show_all.ensures.tells
+
+pub returns-in-Junk-clause-tells : goal.returns-in-Junk-clause-tells
+returns-in-Junk-clause-tells g c = tells_of g.D.Disk c.send_junk.result (events.Junk c.in-Junk.node c.in-Junk.bytes) c.args.event c.args.rack.now c.args.rack.now c.args.journal.now c.send_junk.new.journal c.in-Junk.is c.send_junk.ensures.tells
+
+pub returns-in-Lose-clause-tells : goal.returns-in-Lose-clause-tells
+returns-in-Lose-clause-tells g c =
+    let k = c.frame_number-k-in-Lose.result in
+    let line = numbered c.args.self.now.event (dropped_line k (frame_of c.args.self.now.net k)) in
+    tells_of g.D.Disk c.lose.result (events.Lose c.in-Lose.frame) c.args.event c.args.rack.now c.args.rack.now c.args.journal.now c.lose.new.journal c.in-Lose.is
+    (on_ok_weaker c.lose.result
+    (λ (said : c.lose.new.journal ≡ c.args.journal.now ++ line). tells_line g.D.Disk nobody c.args.rack.now c.args.rack.now c.args.journal.now c.args.journal.now c.lose.new.journal line
+    (λ n. lost_line n c.args.self.now.event k (frame_of c.args.self.now.net k)) said (tells_none g.D.Disk nobody c.args.rack.now c.args.journal.now)) c.lose.ensures.said)

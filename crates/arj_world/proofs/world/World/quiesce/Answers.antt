@@ -1,7 +1,11 @@
+use Rattle.std.proofs.Common.{◌≡◌, ◌++◌, ℕ, List}
 use Rattle.std.proofs.lemmas.Result.{on_ok_weaker}
 use Rattle.arj_world.specs.Stands.{hand}
 use Rattle.arj_world.proofs.Disks.{moved_on}
 use Rattle.arj_world.proofs.Hands.{quiesces, quiet_goes}
+use Rattle.arj_journal.specs.declared.body.Line.{Line}
+use Rattle.arj_world.specs.Tells.{halts, nobody}
+use Rattle.arj_world.proofs.Tells.{tells_line, tells_then}
 use Rattle.arj_world.proofs.world.World.quiesce.Goals as goal
 
 pub returns-clause-goes : goal.returns-clause-goes
@@ -23,3 +27,12 @@ returns-in_err-settle-2-clause-disks g c =
 pub returns-clause-disks : goal.returns-clause-disks
 returns-clause-disks g c =
     moved_on g.D.Disk c.args.rack.now c.tick_all.new.rack c.settle-2.new.rack (moved_on g.D.Disk c.args.rack.now c.settle.new.rack c.tick_all.new.rack c.settle.ensures.disks c.tick_all.ensures.disks) c.settle-2.ensures.disks
+
+pub returns-clause-tells : goal.returns-clause-tells
+returns-clause-tells g c =
+    on_ok_weaker c.say_quiet.result
+    (λ (more : (added : List Line) × (c.say_quiet.new.journal ≡ c.settle-2.new.journal ++ added) × ((n : ℕ) → halts n added ≡ 0)).
+    tells_line g.D.Disk nobody c.args.rack.now c.settle-2.new.rack c.args.journal.now c.settle-2.new.journal c.say_quiet.new.journal more.0 more.2 more.1
+    (tells_then g.D.Disk c.args.rack.now c.tick_all.new.rack c.settle-2.new.rack c.args.journal.now c.tick_all.new.journal c.settle-2.new.journal
+    (tells_then g.D.Disk c.args.rack.now c.settle.new.rack c.tick_all.new.rack c.args.journal.now c.settle.new.journal c.tick_all.new.journal c.in_ok-settle.ensures.tells c.in_ok-tick_all.ensures.tells) c.in_ok-settle-2.ensures.tells))
+    c.say_quiet.ensures.added

@@ -22,3 +22,6 @@ pub returns-in-None-clause-begins : goal.returns-in-None-clause-begins
 returns-in-None-clause-begins g c =
     let old = hand c.args.self.now c.args.rack.now c.args.journal.now in
     begins_so g.C.Core g.D.Disk.file (steps c.args.node input.Restart) old old (goes_not g.C.Core g.D.Disk.file c.args.node input.Restart old c.in-None.ensures)
+
+pub returns-in-Some-clause-tells : goal.returns-in-Some-clause-tells
+returns-in-Some-clause-tells g c = c.step_core.ensures.tells

@@ -4,6 +4,7 @@ use Rattle.arj_world.specs.Goes.{GoesPartTo}
 use Rattle.arj_world.specs.Stands.{hand}
 use Rattle.arj_world.proofs.Disks.{moved_on}
 use Rattle.arj_world.proofs.Hands.{settle_ends, settle_turns}
+use Rattle.arj_world.proofs.Tells.{tells_then}
 use Rattle.arj_world.proofs.world.World.settle.Goals as goal
 
 pub returns-in_default-clause-goes : goal.returns-in_default-clause-goes
@@ -21,7 +22,11 @@ loop-left-preserved g c =
           (sym c.lowest.ensures ∙ c.in-Some.is) c.in_ok-deliver.ensures.goes c.loop-left.invariant.header;
       header = c.in_ok-deliver.ensures.header ∙ c.loop-left.invariant.header;
       disks = moved_on g.D.Disk c.args.rack.now c.loop-left.rack c.deliver.new.rack c.loop-left.invariant.disks c.in_ok-deliver.ensures.disks;
+      tells = tells_then g.D.Disk c.args.rack.now c.loop-left.rack c.deliver.new.rack c.args.journal.now c.loop-left.journal c.deliver.new.journal c.loop-left.invariant.tells c.in_ok-deliver.ensures.tells;
     }
 
 pub returns-in_err-deliver-clause-disks : goal.returns-in_err-deliver-clause-disks
 returns-in_err-deliver-clause-disks g c = moved_on g.D.Disk c.args.rack.now c.loop-left.rack c.deliver.new.rack c.loop-left.invariant.disks c.deliver.ensures.disks
+
+pub returns-in_default-clause-tells : goal.returns-in_default-clause-tells
+returns-in_default-clause-tells g c = c.loop-left.invariant.tells

@@ -4,6 +4,7 @@ use Rattle.arj_protocol.specs.World.{settle, settle_for}
 use Rattle.arj_world.specs.Disks.{HaveMoved}
 use Rattle.arj_world.specs.Goes.{GoesPartTo}
 use Rattle.arj_world.specs.Stands.{hand}
+use Rattle.arj_world.specs.Tells.{TellsStops, nobody}
 use Rattle.arj_world.proofs.world.World.settle.Given as goal
 
 abbrev pub invariant-loop-left : goal.invariant-loop-left
@@ -11,6 +12,7 @@ invariant-loop-left g l = record {
   goes : GoesPartTo g.C.Core g.D.Disk.file settle (settle_for l.left) (hand l.fn.self l.fn.rack l.fn.journal) (hand l.self l.rack l.journal);
   header : l.self.header ≡ l.fn.self.header;
   disks : HaveMoved g.D.Disk 0 l.fn.rack l.rack;
+  tells : TellsStops g.D.Disk nobody l.fn.rack l.rack l.fn.journal l.journal;
 }
 
 abbrev pub decreases-loop-left : goal.decreases-loop-left

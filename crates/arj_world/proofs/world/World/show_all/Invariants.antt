@@ -6,6 +6,7 @@ use Rattle.arj_world.specs.Disks.{HaveMoved}
 use Rattle.arj_world.specs.Goes.{GoesPartTo}
 use Rattle.arj_world.specs.Stands.{hand}
 use Rattle.arj_world.proofs.Hands.{numbers_left}
+use Rattle.arj_world.specs.Tells.{TellsStops, nobody}
 use Rattle.arj_world.proofs.world.World.show_all.Given as goal
 
 abbrev pub invariant-loop-node : goal.invariant-loop-node
@@ -14,4 +15,5 @@ invariant-loop-node g l = record {
   goes : GoesPartTo g.C.Core g.D.Disk.file (show_all l.x (numbers_to l.nodes)) (show_all l.x (numbers_left l.node l.nodes)) (hand l.fn.self l.fn.rack l.fn.journal) (hand l.self l.rack l.journal);
   header : l.self.header ≡ l.fn.self.header;
   disks : HaveMoved g.D.Disk 0 l.fn.rack l.rack;
+  tells : TellsStops g.D.Disk nobody l.fn.rack l.rack l.fn.journal l.journal;
 }

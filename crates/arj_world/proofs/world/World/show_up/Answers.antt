@@ -17,3 +17,6 @@ returns-clause-goes g c =
     (λ to. show_goes g.C.Core g.D.Disk.file c.args.x c.args.node old new c.requires.least c.requires.greatest c.if-not-is_up.ensures
     (goes_step g.C.Core g.D.Disk.file c.args.node (input.Show c.args.x) old new c.requires.least c.requires.greatest refl to))
     c.step_core.ensures.steps
+
+pub returns-clause-tells : goal.returns-clause-tells
+returns-clause-tells g c = c.step_core.ensures.tells

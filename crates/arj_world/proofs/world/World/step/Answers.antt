@@ -6,7 +6,10 @@ use Rattle.arj_protocol.specs.World.{counted, numbered}
 use Rattle.arj_world.specs.Happens.{HappensTo, RunsTo, done}
 use Rattle.arj_world.specs.Stands.{Keeps, StandsSome, hand}
 use Rattle.arj_world.proofs.Counts.{counts_once, grows_over, grows_so}
+use Rattle.arj_world.proofs.Owns.{answers_over, answers_so, settles_go, settles_so}
 use Rattle.arj_world.proofs.Runs.{counted_stands, keeps_uncounted, on_ok_both, runs_accepted, runs_over, runs_refused}
+use Rattle.arj_world.specs.Tells.{TellsStops, crashed_by}
+use Rattle.arj_world.proofs.Tells.{tells_line, tells_none}
 use Rattle.arj_world.proofs.world.World.step.Goals as goal
 
 pub returns-in-Some-clause-ran : goal.returns-in-Some-clause-ran
@@ -124,3 +127,46 @@ returns-clause-grown_over g c = λ e.
     (runs_over g.C.Core g.D.Disk.file c.args.event old new (λ w keeps. sym c.in_default.is ∙ c.in_ok-cause.ensures w keeps) c.if-lacks_labels.ensures
     (subst (λ s. HappensTo g.C.Core g.D.Disk.file (done c.args.event) (hand s c.args.rack.now c.args.journal.now) new) c.count.ensures c.in_ok-happen.ensures.happens)
     c.end.new.journal (c.end.ensures.full e) (c.end.ensures.said e)) c.requires.stands
+
+pub returns-in-Some-clause-stops : goal.returns-in-Some-clause-stops
+returns-in-Some-clause-stops g c =
+    let line = numbered (c.args.self.now.event + 1) (body.Refused c.in-Some.cause ∷ []) in
+    on_ok_weaker c.refuse.result
+    (λ (said : c.refuse.new.journal ≡ c.args.journal.now ++ line). tells_line g.D.Disk (crashed_by c.args.event) c.args.rack.now c.args.rack.now c.args.journal.now c.args.journal.now c.refuse.new.journal line
+    (λ n. refl) said (tells_none g.D.Disk (crashed_by c.args.event) c.args.rack.now c.args.journal.now)) c.refuse.ensures.said
+
+pub returns-in-Some-clause-stops_over : goal.returns-in-Some-clause-stops_over
+returns-in-Some-clause-stops_over g c = λ e. absurd (c.refuse.ensures.frames e)
+
+pub returns-clause-stops : goal.returns-clause-stops
+returns-clause-stops g c = on_ok_weaker c.end.result
+    (λ (still : c.end.new.journal ≡ c.happen.new.journal). subst (TellsStops g.D.Disk (crashed_by c.args.event) c.args.rack.now c.happen.new.rack c.args.journal.now) (sym still) c.in_ok-happen.ensures.tells)
+    c.end.ensures.still
+
+pub returns-clause-stops_over : goal.returns-clause-stops_over
+returns-clause-stops_over g c = λ e.
+    tells_line g.D.Disk (crashed_by c.args.event) c.args.rack.now c.happen.new.rack c.args.journal.now c.happen.new.journal c.end.new.journal
+    (numbered c.happen.new.self.event (body.Limit which.Frames ∷ [])) (λ n. refl) (c.end.ensures.said e) c.in_ok-happen.ensures.tells
+
+pub returns-in-Some-clause-answers : goal.returns-in-Some-clause-answers
+returns-in-Some-clause-answers g c = on_ok_weaker c.refuse.result
+    (answers_so g.C.Core g.D.Disk.file c.args.event (hand c.args.self.now c.args.rack.now c.args.journal.now) (hand c.refuse.new.self c.args.rack.now c.refuse.new.journal)) (returns-in-Some-clause-ran g c)
+
+pub returns-in-Some-clause-answers_over : goal.returns-in-Some-clause-answers_over
+returns-in-Some-clause-answers_over g c = λ e. absurd (c.refuse.ensures.frames e)
+
+pub returns-clause-answers : goal.returns-clause-answers
+returns-clause-answers g c = on_ok_weaker c.end.result
+    (answers_so g.C.Core g.D.Disk.file c.args.event (hand c.args.self.now c.args.rack.now c.args.journal.now) (hand c.happen.new.self c.happen.new.rack c.end.new.journal)) (returns-clause-ran g c)
+
+pub returns-clause-answers_over : goal.returns-clause-answers_over
+returns-clause-answers_over g c = λ e.
+    answers_over g.C.Core g.D.Disk.file c.args.event (hand c.args.self.now c.args.rack.now c.args.journal.now) (hand c.happen.new.self c.happen.new.rack c.end.new.journal) (returns-clause-frames g c e)
+
+pub returns-in-Some-clause-settled : goal.returns-in-Some-clause-settled
+returns-in-Some-clause-settled g c = on_ok_weaker c.refuse.result
+    (λ said which. absurd (settles_go g.C.Core g.D.Disk.file c.args.event c.in-Some.cause (hand c.args.self.now c.args.rack.now c.args.journal.now) (λ w keeps. sym c.in-Some.is ∙ c.in_ok-cause.ensures w keeps) c.requires.stands which)) c.refuse.ensures.said
+
+pub returns-clause-settled : goal.returns-clause-settled
+returns-clause-settled g c = on_ok_weaker c.end.result
+    (λ ran. settles_so g.C.Core g.D.Disk.file c.args.event (hand c.args.self.now c.args.rack.now c.args.journal.now) (hand c.happen.new.self c.happen.new.rack c.end.new.journal) ran c.requires.stands c.end.ensures.few) (returns-clause-ran g c)

@@ -6,9 +6,10 @@ use Rattle.arj_core.specs.Steps.{Did, WasCut, input_of, seen_of}
 use Rattle.arj_protocol.specs.Step.{step}
 use Rattle.arj_protocol.specs.Words.body
 use Rattle.arj_protocol.specs.World.{numbered}
-use Rattle.arj_world.specs.Wire.{frame_of, put_seen}
+use Rattle.arj_world.specs.Wire.{frame_of, put_seen, Put, shown}
 use Rattle.arj_world.specs.Stands.{hand}
 use Rattle.arj_world.proofs.Stepping.{done_kept, cut_kept, some_node}
+use Rattle.arj_world.proofs.Tells.{tells_cut, tells_done}
 use Rattle.arj_world.proofs.world.World.step_core.Goals as goal
 
 pub step-requires : goal.step-requires
@@ -54,3 +55,32 @@ returns-in_ok-put-in-Err-Halted-clause-steps g c =
     (line ∙ (λ i. c.put-in-Err-Halted.new.journal ++ numbered ((c.in_ok-put-in-Err-Halted.ensures.event ∙ ap (λ k. k.event) c.self.view_is) i) (body.Halted c.args.node ∷ [])))
     _ ((λ i. record { kept = record { header = c.self.inside.header; cores = cores'; net = c.put-in-Err-Halted.new.self.net; labels = c.self.inside.labels.entries; event = c.in_ok-put-in-Err-Halted.ensures.event i; full = c.put-in-Err-Halted.new.self.full }; disks = disks'; journal = c.say.new.journal })
     ∙ (λ i. record { kept = record (c.self.view_is i) { cores = cores'; net = c.put-in-Err-Halted.new.self.net; full = c.put-in-Err-Halted.new.self.full }; disks = disks'; journal = c.say.new.journal }))) c.say.ensures
+
+pub returns-in-Ok-clause-tells : goal.returns-in-Ok-clause-tells
+returns-in-Ok-clause-tells g c =
+    let place : c.from.result ≡ c.args.node - 1 = search rules in
+    let cores : c.self.inside.cores.items ≡ c.args.self.now.cores = ap (λ k. k.cores) c.self.view_is in
+    let within : c.from.result < length c.self.inside.cores.items = search rules in
+    let at_core : slice_get c.args.self.now.cores (c.args.node - 1) ≡ Some c.index_mut-core.result.now =
+    (λ i. slice_get (sym cores i) (sym place i)) ∙ slice_get_read c.self.inside.cores.items _ c.from.result c.index_mut-core.result.now refl within c.index_mut-core.ensures.value in
+    on_ok_weaker c.put.result
+    (λ (put : shown c.put.new.self c.put.new.journal ≡ put_seen c.args.node c.self.inside.wire.event (map seen_of c.step.new.out) (shown c.self.inside.wire c.args.journal.now)).
+    tells_done g.D.Disk g.C.Core g.D.Disk.file c.args.node (input_of c.args.input) c.index_mut-core.result.now c.step.new.self c.disk.result.now c.step.new.disk
+    (hand c.args.self.now c.args.rack.now c.args.journal.now) c.step.new.out c.put.new.journal c.self.inside.wire.event (length (map frame_of c.self.inside.wire.net)) c.requires.least c.requires.greatest at_core c.disk.ensures.value c.requires.stands
+    (λ h n st. subst (λ o. Did (g.C.Core.stands h c.step.new.self (g.D.Disk.file c.step.new.disk)) (step h n (input_of c.args.input)) o c.step.new.out) c.new-outputs.ensures (c.in-Ok.ensures.done h n st))
+    c.in-Ok.ensures.counts.ok (ap (λ (p : Put). p.lines) put)) c.put.ensures.put
+
+pub returns-in_ok-put-in-Err-Halted-clause-tells : goal.returns-in_ok-put-in-Err-Halted-clause-tells
+returns-in_ok-put-in-Err-Halted-clause-tells g c =
+    let place : c.from.result ≡ c.args.node - 1 = search rules in
+    let cores : c.self.inside.cores.items ≡ c.args.self.now.cores = ap (λ k. k.cores) c.self.view_is in
+    let within : c.from.result < length c.self.inside.cores.items = search rules in
+    let at_core : slice_get c.args.self.now.cores (c.args.node - 1) ≡ Some c.index_mut-core.result.now =
+    (λ i. slice_get (sym cores i) (sym place i)) ∙ slice_get_read c.self.inside.cores.items _ c.from.result c.index_mut-core.result.now refl within c.index_mut-core.ensures.value in
+    let counts = c.in-Err-Halted.ensures.counts in
+    on_ok_weaker c.say.result
+    (λ line. tells_cut g.D.Disk g.C.Core g.D.Disk.file c.args.node (input_of c.args.input) c.index_mut-core.result.now c.step.new.self c.disk.result.now c.step.new.disk
+    (hand c.args.self.now c.args.rack.now c.args.journal.now) c.step.new.out c.put-in-Err-Halted.new.journal c.say.new.journal c.self.inside.wire.event c.put-in-Err-Halted.new.self.event (length (map frame_of c.self.inside.wire.net))
+    c.requires.least c.requires.greatest at_core c.disk.ensures.value c.requires.stands
+    (λ h n st. subst (λ o. WasCut (g.C.Core.stands h c.step.new.self (g.D.Disk.file c.step.new.disk)) n (step h n (input_of c.args.input)) o c.step.new.out) c.new-outputs.ensures (c.in-Err-Halted.ensures.halted (ap Err c.in-Err-Halted.field-0-is) h n st))
+    (counts.rose (ap Err c.in-Err-Halted.field-0-is)) counts.later (ap (λ (p : Put). p.lines) c.in_ok-put-in-Err-Halted.ensures.put) line) c.say.ensures

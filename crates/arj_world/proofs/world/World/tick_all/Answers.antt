@@ -1,10 +1,12 @@
-use Rattle.std.proofs.Common.{◌≡◌, ◌∙◌, ◌+◌, refl, ap, subst}
+use Rattle.std.proofs.Common.{◌∙◌, ◌+◌, refl, ap, subst}
 use Rattle.arj_protocol.specs.Step.{numbers_to}
 use Rattle.arj_protocol.specs.World.{tick_all}
 use Rattle.arj_world.specs.Goes.{GoesTo}
 use Rattle.arj_world.specs.Stands.{hand}
 use Rattle.arj_world.proofs.Disks.{moved_none, moved_on}
 use Rattle.arj_world.proofs.Hands.{ticks_end, ticks_start, ticks_turn}
+use Rattle.arj_world.specs.Tells.{nobody}
+use Rattle.arj_world.proofs.Tells.{tells_none, tells_then}
 use Rattle.arj_world.proofs.world.World.tick_all.Goals as goal
 
 pub loop-node-init : goal.loop-node-init
@@ -13,6 +15,7 @@ loop-node-init g c = record {
   goes = ticks_start g.C.Core g.D.Disk.file c.self.inside.header.nodes (hand c.args.self.now c.args.rack.now c.args.journal.now);
   header = refl;
   disks = moved_none g.D.Disk 0 c.args.rack.now;
+  tells = tells_none g.D.Disk nobody c.args.rack.now c.args.journal.now;
 }
 
 pub loop-node-preserved : goal.loop-node-preserved
@@ -22,6 +25,7 @@ loop-node-preserved g c = record {
       (hand c.tick_up.new.self c.tick_up.new.rack c.tick_up.new.journal) c.loop-node.invariant.goes c.loop-node-test.true refl c.in_ok-tick_up.ensures.goes c.loop-node.invariant.header;
   header = c.in_ok-tick_up.ensures.header ∙ c.loop-node.invariant.header;
   disks = moved_on g.D.Disk c.args.rack.now c.loop-node.rack c.tick_up.new.rack c.loop-node.invariant.disks c.in_ok-tick_up.ensures.disks;
+  tells = tells_then g.D.Disk c.args.rack.now c.loop-node.rack c.tick_up.new.rack c.args.journal.now c.loop-node.journal c.tick_up.new.journal c.loop-node.invariant.tells c.in_ok-tick_up.ensures.tells;
 }
 
 pub returns-clause-goes : goal.returns-clause-goes
@@ -33,3 +37,6 @@ returns-clause-goes g c =
 
 pub returns-in_err-tick_up-clause-disks : goal.returns-in_err-tick_up-clause-disks
 returns-in_err-tick_up-clause-disks g c = moved_on g.D.Disk c.args.rack.now c.loop-node.rack c.tick_up.new.rack c.loop-node.invariant.disks c.tick_up.ensures.disks
+
+pub returns-clause-tells : goal.returns-clause-tells
+returns-clause-tells g c = c.loop-node.invariant.tells

@@ -19,3 +19,6 @@ returns-clause-goes g c =
     (λ to. tick_goes g.C.Core g.D.Disk.file c.args.node old new fits c.requires.least c.requires.greatest c.if-not-is_up.ensures
     (goes_step g.C.Core g.D.Disk.file c.args.node input.Tick old new c.requires.least c.requires.greatest refl to))
     c.step_core.ensures.steps
+
+pub returns-clause-tells : goal.returns-clause-tells
+returns-clause-tells g c = c.step_core.ensures.tells

@@ -1,0 +1,21 @@
+-- What each handler keeps holds after each turn.
+use Rattle.std.proofs.Common.{List, [], ◌∷◌}
+use Rattle.arj_protocol.specs.Words.{Header}
+use Rattle.arj_protocol.specs.World.{World, format, run_event}
+use Rattle.arj_view_law.specs.Keeps.{Holds, Keeps}
+use Rattle.arj_view_law.specs.Seen.{Seen}
+use Rattle.arj_view_law.proofs.Happens.{arms_hold, event_holds, first_holds}
+use Rattle.arj_world.specs.Turns.{Turn, all_turned, asked, turned, with_arms}
+
+module _ (hd : Header) (P : Seen → Type 0) (keeps : Keeps hd P) where
+  pub turn_holds : (t : Turn) (w : World) → Holds hd P w → Holds hd P (turned t w)
+  turn_holds t w h =
+      let v = with_arms t.falls w in
+      arms_hold hd P [] (run_event (asked t.event) v) (event_holds hd P keeps (asked t.event) v (arms_hold hd P t.falls w h))
+
+  all_hold : (ts : List Turn) (w : World) → Holds hd P w → Holds hd P (all_turned ts w)
+  all_hold [] w h = h
+  all_hold (t ∷ ts) w h = all_hold ts (turned t w) (turn_holds t w h)
+
+  pub turns_hold : (ts : List Turn) → Holds hd P (all_turned ts (format hd))
+  turns_hold ts = all_hold ts (format hd) (first_holds hd P keeps)

@@ -1,0 +1,20 @@
+-- The lines that an event owes, and what a settle leaves.
+use Rattle.std.specs.Prelude.{ℕ, ◌≡◌, true, false, List}
+use Rattle.arj_core.specs.declared.node.Core.{Ghosts}
+use Rattle.arj_disk.specs.FileMap.{FileMap}
+use Rattle.arj_event_law.specs.Writes.{IsAnswered, IsWhole, has_own}
+use Rattle.arj_journal.specs.declared.body.Line.{Line}
+use Rattle.arj_net.specs.Net.{is_open}
+use Rattle.arj_net.specs.declared.net.Sent.{Sent}
+use Rattle.arj_protocol.specs.Words.{Event}
+use Rattle.arj_protocol.specs.World.{World}
+use Rattle.arj_world.specs.Stands.{Hand, Stands}
+
+-- An event of a kind with a line of its own wrote it, or that it is refused, that its node halted, or that a limit was met: in
+-- each whole world that it was run in.
+abbrev pub AnswersEvent : {C D : Type 0} → Ghosts C → (D → FileMap) → Event → Hand C D → List Line → Type 0
+AnswersEvent core file e old journal = (w : World) → Stands core file old w → IsWhole w → has_own e ≡ true → IsAnswered e w journal
+
+-- each frame was delivered or lost
+abbrev pub HasNoOpen : List Sent → Type 0
+HasNoOpen sent = (k : ℕ) → is_open sent k ≡ false

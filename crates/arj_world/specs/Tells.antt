@@ -1,0 +1,45 @@
+-- Which lines of a journal tell of stops.
+use Rattle.std.specs.Prelude.{ℕ, ◌≡◌, ◌≤◌, ◌<◌, ◌+◌, ◌==◌, ◌&&◌, Bool, false, if◌then◌else◌, List, [], ◌∷◌, ◌++◌, Option, Some, None, length, slice_get}
+use Rattle.arj_disk.specs.declared.disk.Disk.{Ghosts}
+use Rattle.arj_event_law.specs.Halts.{halted_node, is_crash}
+use Rattle.arj_journal.specs.declared.body.Line.{Line}
+use Rattle.arj_protocol.specs.Step.{Input}
+use Rattle.arj_protocol.specs.Words.{Event}
+use Rattle.arj_protocol.specs.Words.event
+
+-- the node is this one
+abbrev pub is_this : ℕ → Option ℕ → Bool
+is_this n None = false
+is_this n (Some m) = m == n
+
+-- how many lines say that a node halted
+abbrev pub halts : ℕ → List Line → ℕ
+halts n [] = 0
+halts n (l ∷ ls) = (if is_this n (halted_node l.body) then 1 else 0) + halts n ls
+
+-- A count of stops, where so many lines tell of it: it rose by no fewer, or stands at its last value; and without a line it stays.
+pub record IsToldBy (lines old new : ℕ) : Type 0 where
+  pub later : old ≤ new
+  pub rose : new < 18446744073709551615 → old + lines ≤ new
+  pub only : lines ≡ 0 → new ≡ old
+
+-- Lines came that tell the stops of each disk, but of the nodes for which this test holds: whoever is crashed says so without
+-- a stop.
+pub record TellsStops {D : Type 0} (disk : Ghosts D) (crashed : ℕ → Bool) (old new : List D) (before after : List Line) : Type 0 where
+  pub added : List Line
+  pub are : after ≡ before ++ added
+  pub count : length new ≡ length old
+  pub each : (i : ℕ) (d e : D) → crashed (i + 1) ≡ false → slice_get old i ≡ Some d → slice_get new i ≡ Some e → IsToldBy (halts (i + 1) added) (disk.stops d) (disk.stops e)
+
+-- no node is crashed
+abbrev pub nobody : ℕ → Bool
+nobody n = false
+
+-- the node that takes the input is crashed by it
+abbrev pub crashed_at : ℕ → Input → ℕ → Bool
+crashed_at k i n = is_crash i && (n == k)
+
+-- the node is crashed by the event
+abbrev pub crashed_by : Event → ℕ → Bool
+crashed_by (event.Crash k) n = n == k
+crashed_by _ n = false
