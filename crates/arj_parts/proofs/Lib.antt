@@ -6,3 +6,8 @@ pub mod Rests
 pub mod Servings
 pub mod RecordWorks
 pub mod Coordinated
+pub mod Labels
+pub mod Acting
+pub mod Ticking
+pub mod Showing
+pub mod Settled

@@ -50,7 +50,7 @@ loud_sends [] = refl
 loud_sends (x ∷ xs) = ap (λ es. Send x.0 x.1 ∷ es) (loud_sends xs)
 
 -- what local effects say is what is loud of them
-says_loud : (es : List Effect) → AreLocal es → says_of (said es) ≡ loud es
+pub says_loud : (es : List Effect) → AreLocal es → says_of (said es) ≡ loud es
 says_loud [] local = refl
 says_loud (Say b ∷ es) local = ap (λ xs. Say b ∷ xs) (says_loud es local)
 says_loud (Send to m ∷ es) local = absurd local

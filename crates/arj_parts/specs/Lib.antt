@@ -4,3 +4,5 @@ pub mod Kept
 pub mod Said
 pub mod Calls
 pub mod Taken
+pub mod Named
+pub mod Acted
