@@ -1,4 +1,5 @@
 pub mod BindSteps
+pub mod CopySteps
 pub mod EndSteps
 pub mod NoteSteps
 pub mod PassSteps

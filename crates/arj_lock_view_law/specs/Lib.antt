@@ -4,3 +4,4 @@ pub mod Named
 pub mod Going
 pub mod Bindings
 pub mod Ends
+pub mod Copies

@@ -1,0 +1,83 @@
+-- One object at a server, as the lock machine has it, and what a server does with it.
+use Rattle.std.specs.Prelude.{⊤, ◌≡◌, ◌≢◌, ◌<◌, ℕ, List, [], ◌∷◌, ◌++◌, None}
+use Rattle.arj_protocol.specs.Words.{Path, Op, Value, ObjectState, Binding, object, last_uid, uids_of, op_mode, writes, value_after, first_conflict}
+use Rattle.arj_protocol.specs.Ask.{actor}
+use Rattle.arj_protocol.specs.Copy.{Copy, Over, current, run_copy, taken_copy}
+use Rattle.arj_protocol.specs.Order.{binding_number}
+use Rattle.arj_lock_law.specs.Actions.{Act, In}
+use Rattle.arj_lock_law.specs.State as machine
+use Rattle.arj_lock_law.specs.State.{State, Entry, Request, Answer}
+use Rattle.arj_lock_law.specs.Steps.{IsAt}
+use Rattle.arj_lock_view_law.specs.Acts.{Acts, AreOne, IsAlong}
+use Rattle.arj_lock_view_law.specs.Going.{Goes}
+use Rattle.arj_lock_view_law.specs.Rows.{SeesRows}
+
+-- what stands for a value in the machine
+abbrev pub Codes : Type 0
+Codes = Value → ℕ
+
+-- all of these writes are held by the action
+abbrev pub AreHeld : Act → List Entry → Type 0
+AreHeld a [] = ⊤
+AreHeld a (e ∷ es) = (e.holder ≡ a) × AreHeld a es
+
+-- The writes that make up an overlay, newest first: at least one, of which the newest left its value.
+pub record IsOver (act : Acts) (code : Codes) (o : Over) (own : List Entry) : Type 0 where
+  pub newest : Entry
+  pub older : List Entry
+  pub are : own ≡ newest ∷ older
+  pub held : AreHeld (act (last_uid o.holder)) own
+  pub value : newest.gives ≡ code o.value
+
+-- the overlays, the deepest first, are the machine's log
+abbrev pub SeesOvers : Acts → Codes → List Over → List Entry → Type 0
+SeesOvers act code [] log = log ≡ []
+SeesOvers act code (o ∷ os) log = (own : List Entry) × (rest : List Entry) × (log ≡ own ++ rest) × IsOver act code o own × SeesOvers act code os rest
+
+-- The copy of object x: its binding is active, what lies under all overlays is the machine's own value, and the overlays its log.
+pub record SeesCopy (act : Acts) (code : Codes) (x : ℕ) (c : Copy) (v : machine.Server) : Type 0 where
+  pub active : v.active ≡ binding_number c.binding
+  pub base : v.base ≡ code (let b = c.base in b.value)
+  pub overs : SeesOvers act code c.stack v.log
+  pub rows : SeesRows act (object x) c.rows v.rows
+
+-- Only the server of this node changed, and messages were sent.
+pub record OnlyServer (n : ℕ) (S T : State) : Type 0 where
+  pub rest : T ≡ record S { server = T.server; net = T.net }
+  pub others : (k : ℕ) → k ≢ n → T.server k ≡ S.server k
+  pub sent : (m : machine.Message) → In m S.net → In m T.net
+
+-- a request of the action at this copy
+abbrev pub request_for : Acts → Path → ℕ → Op → Copy → Request
+request_for act p number o c = record { act = act (actor p); number = number; binding = binding_number c.binding; write = writes o }
+
+-- A request came, at the node where its binding is active, and the action ran none of this number or a later one there.
+pub record IsNew (S : State) (n : ℕ) (q : Request) : Type 0 where
+  pub sent : In (machine.Invoke q) S.net
+  pub here : IsAt S n q.binding
+  pub later : (let v = S.server n in v.request q.act) < q.number
+
+-- what the answer to an operation shows: the value that it met, and the one that it left
+abbrev pub answer_for : Codes → State → Request → Op → Copy → Answer
+answer_for code S q o c = record { request = q; place = S.now; sees = code (current c.base c.stack); gives = code (value_after o (current c.base c.stack)) }
+
+-- A new request that meets no conflict is applied: the copy is seen again, and the answer is shown.
+abbrev pub OperationsAreSeen : Type 0
+OperationsAreSeen = (act : Acts) (code : Codes) (n x number : ℕ) (p : Path) (o : Op) (c : Copy) (S : State)
+    → AreOne act → IsAlong act (uids_of p) → first_conflict (uids_of p) (object x) (op_mode o) c.rows ≡ None
+    → SeesCopy act code x c (S.server n) → IsNew S n (request_for act p number o c)
+    → let r = run_copy n p x o c in
+    Goes S (λ T. SeesCopy act code x r.part (T.server n) × OnlyServer n S T × In (machine.Invoked (answer_for code S (request_for act p number o c) o c)) T.net)
+
+-- One that meets a conflict changes nothing of the copy, and the refusal is shown.
+abbrev pub RefusalsAreSeen : Type 0
+RefusalsAreSeen = (act : Acts) (code : Codes) (n x number : ℕ) (p : Path) (o : Op) (c : Copy) (S : State)
+    → SeesCopy act code x c (S.server n) → IsNew S n (request_for act p number o c)
+    → Goes S (λ T. SeesCopy act code x c (T.server n) × OnlyServer n S T × In (machine.Refused (request_for act p number o c)) T.net)
+
+-- A state came for a binding of this node that is above the active one: the copy is taken.
+abbrev pub ActivationsAreSeen : Type 0
+ActivationsAreSeen = (act : Acts) (code : Codes) (n x : ℕ) (b : Binding) (st : ObjectState) (S : State)
+    → In (machine.Activate (binding_number b) (code (let c = taken_copy b st in let d = c.base in d.value))) S.net
+    → (let c = S.binding (binding_number b) in c.server) ≡ n → (let v = S.server n in v.active) < binding_number b
+    → Goes S (λ T. SeesCopy act code x (taken_copy b st) (T.server n) × OnlyServer n S T × In (machine.Activated (binding_number b) (let v = S.server n in v.incarnation)) T.net)
