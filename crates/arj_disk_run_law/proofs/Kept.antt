@@ -9,6 +9,8 @@ use Rattle.arj_protocol.specs.Words.loaded
 use Rattle.arj_protocol.specs.Ask.{Reply, actor, answers}
 use Rattle.arj_protocol.specs.Asking.{again_all, begin_action, heard}
 use Rattle.arj_protocol.specs.Call.{Steps}
+use Rattle.arj_protocol.specs.Commit.{Plan}
+use Rattle.arj_disk_view_law.specs.Pairs.{Among}
 use Rattle.arj_protocol.specs.Coord.{Calling, Doing, doing_of}
 use Rattle.arj_protocol.specs.Effect.{Disk, Effect}
 use Rattle.arj_protocol.specs.Ending.{acked, answer_query}
@@ -46,7 +48,7 @@ use Rattle.arj_disk_run_law.specs.Facts.{Gives}
 use Rattle.arj_disk_run_law.specs.Kinds.{Agrees, AreOfOneNode, kinds_of}
 use Rattle.arj_disk_run_law.specs.Places.{ArePlaced}
 use Rattle.arj_disk_run_law.specs.Records.{AreRecorded}
-use Rattle.arj_disk_run_law.specs.Sound.{AreSound, VotesFit}
+use Rattle.arj_disk_run_law.specs.Sound.{AreOwnStates, AreSound, FitsVote, IsOwnVote, IsUsedAt, VotesFit, voted_in, voted_states}
 use Rattle.arj_disk_run_law.specs.Runs.{IsSeenInRun, RunsAgree}
 use Rattle.arj_disk_run_law.proofs.Begun.{kinds_agree}
 use Rattle.arj_disk_run_law.proofs.Copies.{copies_agree}
@@ -106,7 +108,7 @@ by_top x begun k m (Some (h, ask.Confirm grants excluded included)) c = c.4.0
 
 -- lines are said
 placed_said : (begun : List Action) (e : ℕ) (bs : List Body) (M : Seen) → ArePlaced begun M → ArePlaced begun (said e bs M)
-placed_said begun e bs M p = record { nodes = p.nodes; asks = p.asks; lines = λ a c. line_stays (act_of a) M.lines (numbered e bs) (p.lines a c) }
+placed_said begun e bs M p = record { nodes = p.nodes; asks = p.asks; votes = p.votes; lines = λ a c. line_stays (act_of a) M.lines (numbered e bs) (p.lines a c) }
 
 -- what a good coordinator says is about actions that were begun
 module _ (begun : List Action) (e k : ℕ) (d : Disk) (t : Parts) (M : Seen) (good : IsGoodOf begun (up k d t M)) where
@@ -120,13 +122,16 @@ module _ (begun : List Action) (e k : ℕ) (d : Disk) (t : Parts) (M : Seen) (go
   heard_means from a r = let q = heard from a r d.intents t.coord in coord_means begun q.part q.outs (well_heard begun (paths_of begun) tree from a r d.intents t.coord coord).1 (heard_own from a r d.intents t.coord)
 
   -- an answer that can be meant is taken
-  heard_placed : (from : ℕ) (m : Message) → In (record { from = from; to = k; message = m }) M.sent → is_meant t m ≡ true → VotesFit k t M → AreSound t.coord → (a : Asked) (r : Reply) → answers m ≡ Some (a, r) → All begun (let q = heard from a r d.intents t.coord in q.outs) × AreSound (let q = heard from a r d.intents t.coord in q.part)
-  heard_placed from m sent meant votes sound a r is = (
+  heard_placed : (from : ℕ) (m : Message) → In (record { from = from; to = k; message = m }) M.sent → is_meant t m ≡ true → VotesFit k t M → IsOwnVote (voted_states m) → AreSound t.coord → (a : Asked) (r : Reply) → answers m ≡ Some (a, r) → All begun (let q = heard from a r d.intents t.coord in q.outs) × AreSound (let q = heard from a r d.intents t.coord in q.part)
+  heard_placed from m sent meant votes own sound a r is = (
     heard_means from a r,
     sound_heard from a r d.intents t.coord (λ st s q same at now. uid_is st.uid (object s.x) (sym (loads st s q same at now) ∙ (and_parts (asked_is_meant t.server (asks m)) (answer_is_meant t.coord (answers m)) meant).1))
-        (λ states q p left same at now req on. votes from m a states sent (is ∙ ap (λ z. Some (a, z)) same) q p left at now req on) sound,
+        (λ states q p left same at now req on. fits states p (subst IsOwnVote (ap voted_in (is ∙ ap (λ z. Some (a, z)) same)) own) (votes from m a states sent (is ∙ ap (λ z. Some (a, z)) same) q p left at now req on)) sound,
   )
     where
+      fits : (states : List ObjectState) (p : Plan) → AreOwnStates states → ((s : ObjectState) → Among s states → IsUsedAt p from s.uid.num) → FitsVote p from states
+      fits states p its used = record { used = λ s i. let u = used s i in record { own = its.own s i; used = u.used; found = u.found; server = u.server }; once = its.once }
+
       loads : (st : ObjectState) (s : Steps) (q : Doing) → r ≡ Reply.Loaded (loaded.State st) → doing_of a.act t.coord ≡ Some q → q.now ≡ Calling s → answer_is_meant t.coord (answers m) ≡ uid_eq st.uid (object s.x)
       loads st s q same at now = ap (answer_is_meant t.coord) is ∙ ap (reply_is_meant t.coord a) same ∙ ap (is_loaded_for st) at ∙ ap (is_loaded_in st) now
 
@@ -149,7 +154,7 @@ module _ (hd : Header) (x : ℕ) (has_it : HasObject hd x) (R : Seen → Type 0)
   message_keeps : (e k : ℕ) (d : Disk) (t v : Parts) (from : ℕ) (m : Message) (outs : List Effect) (M : Seen) → P (up k d t M) → In (record { from = from; to = k; message = m }) M.sent → is_meant t m ≡ true → handle k d t from m ≡ Took v outs → Walks P e k outs (Up P k v) d M
   message_keeps e k d t v from m outs M (begun, h) sent meant is = all_walk R x begun h.1 e k outs v d M (message_good e k d t M (begun, h.0) v from m outs sent is)
       (kept_walk begun e k d t v outs M (subst (KeptBy begun t.coord) is (message_kept begun k d t from (λ a r. heard_kept begun (paths_of begun) (begun_tree begun h.0.begun) from a r d.intents t.coord (good_coord e k d t M (begun, h.0))) (λ u. acked_kept begun from u d.intents t.coord) m)) h.2)
-      (let p = subst (PlacedBy begun k) is (message_placed begun h.0.begun k d t from (both_here begun h.0.begun k d t M h.3) (up_here begun h.0.begun k d t M h.3) m (heard_placed begun e k d t M h.0 from m sent meant (gives.votes begun k d t M h.4 h.0) (let u = up_here begun h.0.begun k d t M h.3 in u.coord)) (acked_means begun e k d t M h.0 from) (query_means begun e k d t M h.0 from) (h.0.fits (record { from = from; to = k; message = m }) sent)
+      (let p = subst (PlacedBy begun k) is (message_placed begun h.0.begun k d t from (both_here begun h.0.begun k d t M h.3) (up_here begun h.0.begun k d t M h.3) m (heard_placed begun e k d t M h.0 from m sent meant (gives.votes begun k d t M h.4 h.0) (h.3.votes (record { from = from; to = k; message = m }) sent) (let u = up_here begun h.0.begun k d t M h.3 in u.coord)) (acked_means begun e k d t M h.0 from) (query_means begun e k d t M h.0 from) (h.0.fits (record { from = from; to = k; message = m }) sent)
       (by_top x begun k m (asks m) (let s = h.5 (kinds_of begun) (kinds_agree begun h.0.begun h.1) in (kinds_of begun, s.0, M.lines, from, s.1.posts (record { from = from; to = k; message = m }) sent)))) in placed_walk begun e k d t v outs M p.0 p.1 h.3) (kept.message e k d t v from m outs M h.4 sent meant is)
       (λ tops agree. let s = h.5 tops agree in messages_are_walked x tops e k d t v from m outs M (knows_node tops begun k d t M h.0 agree h.2 h.3) sent s.0 s.1 (gives.booked x tops k d t M from m s.0 h.4 sent s.1) is)
 
@@ -175,7 +180,7 @@ module _ (hd : Header) (x : ℕ) (has_it : HasObject hd x) (R : Seen → Type 0)
       a = record { path = path_below how (parent_of parent t.coord) (next_uid t.coord.tree); kind = how }
 
       placed_given : ArePlaced begun (up k d t M) → ArePlaced begun (up k d t (given l (record { node = k; serial = is_serial_kind how }) M))
-      placed_given q = record { nodes = q.nodes; asks = q.asks; lines = q.lines }
+      placed_given q = record { nodes = q.nodes; asks = q.asks; votes = q.votes; lines = q.lines }
 
       uid : actor (path_below how (parent_of parent t.coord) (next_uid t.coord.tree)) ≡ next_uid t.coord.tree
       uid = its_uid e k d t l how parent M new may free (begun, h.0)

@@ -25,31 +25,37 @@ use Rattle.arj_part_law.specs.Actions.{Action}
 use Rattle.arj_part_law.specs.Claims.{AreTrue, is_of_coord}
 use Rattle.arj_disk_view_law.proofs.ConfirmWalks.{locks_say}
 use Rattle.arj_disk_view_law.proofs.HeardWalks.{is_say}
-use Rattle.arj_disk_run_law.specs.Places.{AsksBegun, IsAboutBegun, IsBegun, MeansBegun, asked_about}
+use Rattle.arj_disk_run_law.specs.Places.{IsAboutBegun, IsBegun, MeansBegun, asked_about}
+use Rattle.arj_disk_run_law.specs.Sound.{IsOwnVote, voted_of, voted_states}
 use Rattle.arj_disk_run_law.proofs.Lists.{all_append}
 
--- no request, and no end that is told, asks about anybody
-unasked : (m : Message) → is_of_coord m ≡ true → asked_about m ≡ None
+-- no request, and no end that is told, asks about anybody, or votes
+unasked : (m : Message) → is_of_coord m ≡ true → (asked_about m ≡ None) × (voted_states m ≡ None)
 unasked (message.Query m) is = let no_way : false ≡ true = is in cc
-unasked (message.Told m) is = refl
-unasked (message.Acked m) is = refl
-unasked (message.Hello m) is = refl
-unasked (message.Bind m) is = refl
-unasked (message.Bound m) is = refl
-unasked (message.Load m) is = refl
-unasked (message.Loaded m) is = refl
-unasked (message.Activate m) is = refl
-unasked (message.Activated m) is = refl
-unasked (message.RecordMsg m) is = refl
-unasked (message.Recorded m) is = refl
-unasked (message.Invoke m) is = refl
-unasked (message.Invoked m) is = refl
-unasked (message.Vote m) is = refl
-unasked (message.Voted m) is = refl
-unasked (message.Prepare m) is = refl
-unasked (message.Prepared m) is = refl
-unasked (message.Confirm m) is = refl
-unasked (message.Confirmed m) is = refl
+unasked (message.Voted m) is = let no_way : false ≡ true = is in cc
+unasked (message.Told m) is = (refl, refl)
+unasked (message.Acked m) is = (refl, refl)
+unasked (message.Hello m) is = (refl, refl)
+unasked (message.Bind m) is = (refl, refl)
+unasked (message.Bound m) is = (refl, refl)
+unasked (message.Load m) is = (refl, refl)
+unasked (message.Loaded m) is = (refl, refl)
+unasked (message.Activate m) is = (refl, refl)
+unasked (message.Activated m) is = (refl, refl)
+unasked (message.RecordMsg m) is = (refl, refl)
+unasked (message.Recorded m) is = (refl, refl)
+unasked (message.Invoke m) is = (refl, refl)
+unasked (message.Invoked m) is = (refl, refl)
+unasked (message.Vote m) is = (refl, refl)
+unasked (message.Prepare m) is = (refl, refl)
+unasked (message.Prepared m) is = (refl, refl)
+unasked (message.Confirm m) is = (refl, refl)
+unasked (message.Confirmed m) is = (refl, refl)
+
+-- an answer that votes has states of their own objects
+abbrev pub IsOwnReply : Option Reply → Type 0
+IsOwnReply None = Unit {0}
+IsOwnReply (Some r) = IsOwnVote (voted_of r)
 
 module _ (acts : List Action) where
   abbrev pub All : List Effect → Type 0
@@ -59,8 +65,8 @@ module _ (acts : List Action) where
   both es fs a b = all_append (MeansBegun acts) es fs a b
 
   -- a coordinator prepares nothing, and sends requests and ends
-  asks_of : (to : ℕ) (m : Message) → is_of_coord m ≡ true → AsksBegun acts to m
-  asks_of to m is = subst (IsAboutBegun acts to) (sym (unasked m is)) tt
+  asks_of : (to : ℕ) (m : Message) → is_of_coord m ≡ true → MeansBegun acts (Send to m)
+  asks_of to m is = let none = unasked m is in (subst (IsAboutBegun acts to) (sym none.0) tt, subst IsOwnVote (sym none.1) tt)
 
   pub coord_means : (c : Coord) (es : List Effect) → AreTrue c es → AreAll is_coord_effect es → All es
   coord_means c [] its own = tt
@@ -77,21 +83,21 @@ module _ (acts : List Action) where
   -- what is told again
   tells_mean : (root : Uid) (ack : Bool) (ends : List (Uid × End)) (ns : List ℕ) → All (tell_all root ack ends ns)
   tells_mean root ack ends [] = tt
-  tells_mean root ack ends (n ∷ ns) = (tt, tells_mean root ack ends ns)
+  tells_mean root ack ends (n ∷ ns) = ((tt, tt), tells_mean root ack ends ns)
 
   pub again_means : (telling : List (Uid × Intent)) → All (tolds_again telling)
   again_means [] = tt
   again_means (e ∷ es) = let i = e.1 in both (tell_all i.root true ((e.0, ending.Commit) ∷ []) i.nodes) (tolds_again es) (tells_mean i.root true ((e.0, ending.Commit) ∷ []) i.nodes) (again_means es)
 
-  pub response_means : (to : ℕ) (a : Asked) (r : Reply) → AsksBegun acts to (response a r)
-  response_means to a (Reply.Bound r) = tt
-  response_means to a (Reply.Loaded r) = tt
-  response_means to a (Reply.Activated i) = tt
-  response_means to a (Reply.Noted r) = tt
-  response_means to a (Reply.Invoked r) = tt
-  response_means to a (Reply.Voted r) = tt
-  response_means to a (Reply.Prepared r) = tt
-  response_means to a (Reply.Confirmed r) = tt
+  pub response_means : (to : ℕ) (a : Asked) (r : Reply) → IsOwnVote (voted_of r) → MeansBegun acts (Send to (response a r))
+  response_means to a (Reply.Bound r) own = (tt, tt)
+  response_means to a (Reply.Loaded r) own = (tt, tt)
+  response_means to a (Reply.Activated i) own = (tt, tt)
+  response_means to a (Reply.Noted r) own = (tt, tt)
+  response_means to a (Reply.Invoked r) own = (tt, tt)
+  response_means to a (Reply.Voted r) own = (tt, own)
+  response_means to a (Reply.Prepared r) own = (tt, tt)
+  response_means to a (Reply.Confirmed r) own = (tt, tt)
 
   pub says_mean : (es : List Effect) → AreAll is_say es → AllByRecursion (MeansBegun acts) es
   says_mean [] own = tt
@@ -108,7 +114,7 @@ module _ (acts : List Action) where
   -- questions about actions that were begun
   pub queries_mean : (us : List Uid) → AllByRecursion (IsBegun acts) us → All (map query_about us)
   queries_mean [] all = tt
-  queries_mean (u ∷ us) all = ((refl, all.0), queries_mean us all.1)
+  queries_mean (u ∷ us) all = (((refl, all.0), tt), queries_mean us all.1)
 
   -- ---- naming
 
@@ -172,7 +178,7 @@ module _ (acts : List Action) where
 
   pub hellos_mean : (k inc : ℕ) (ns : List ℕ) → All (map (hello_to k inc) ns)
   hellos_mean k inc [] = tt
-  hellos_mean k inc (n ∷ ns) = (tt, hellos_mean k inc ns)
+  hellos_mean k inc (n ∷ ns) = ((tt, tt), hellos_mean k inc ns)
 
   pub back_means : (o : Option Naming) → All (naming_back o)
   back_means None = tt

@@ -40,14 +40,14 @@ use Rattle.arj_disk_view_law.specs.Sees.{begins, was_begun}
 use Rattle.arj_disk_view_law.proofs.FirstSeen.{first_at}
 use Rattle.arj_disk_view_law.proofs.Frames.{node_here}
 use Rattle.arj_disk_view_law.proofs.ServedWalks.{bind_says, note_says}
-use Rattle.arj_disk_run_law.specs.Places.{AreBegunIn, AreCallRows, AreEntryRows, AreNamesRows, ArePlaced, AsksBegun, IsAboutBegun, IsBegun, IsCallRow, IsEntryRow, IsPlaced, IsPlacedUp, IsTopPath, MeansBegun, asked_about}
-use Rattle.arj_disk_run_law.specs.Sound.{AreSound}
+use Rattle.arj_disk_run_law.specs.Places.{AreBegunIn, AreCallRows, AreKeyed, AreEntryRows, AreNamesRows, ArePlaced, AsksBegun, IsAboutBegun, IsBegun, IsCallRow, IsEntryRow, IsPlaced, IsPlacedUp, IsTopPath, MeansBegun, asked_about}
+use Rattle.arj_disk_run_law.specs.Sound.{AreSound, IsOwnVote, voted_of, voted_states}
 use Rattle.arj_disk_run_law.proofs.EntryRows.{rows_bind, rows_confirm, rows_hello, rows_note, rows_recovered, rows_told}
 use Rattle.arj_disk_run_law.proofs.Holders.{begun_more, call_more, call_top, entry_top, path_more, top_path_is}
 use Rattle.arj_disk_run_law.proofs.Lists.{all_append, all_each, all_filter, all_keys, all_put, all_set, all_tops, all_without}
-use Rattle.arj_disk_run_law.proofs.Means.{All, again_means, back_means, both, confirm_means, hellos_mean, queries_mean, recovered_means, response_means, says_mean, server_means, told_means}
+use Rattle.arj_disk_run_law.proofs.Means.{All, IsOwnReply, again_means, back_means, both, confirm_means, hellos_mean, queries_mean, recovered_means, response_means, says_mean, server_means, told_means}
 use Rattle.arj_disk_run_law.proofs.SoundCoords.{sound_acked, sound_new}
-use Rattle.arj_disk_run_law.proofs.RowWalks.{rows_activate, rows_invoke, rows_told as rows_ended, rows_vote}
+use Rattle.arj_disk_run_law.proofs.RowWalks.{rows_activate, rows_invoke, rows_told as rows_ended, rows_vote, votes_own}
 
 -- ---- more lines
 
@@ -115,18 +115,18 @@ module _ (acts : List Action) where
   down_one k d b = record { store = b.0; names = b.1; live = λ t is. absurd (cc is) }
 
   abbrev Asks : Seen → Type 0
-  Asks M = (p : Post) → seen.In p M.sent → AsksBegun acts p.to p.message
+  Asks M = (p : Post) → seen.In p M.sent → AsksBegun acts p.to p.message × IsOwnVote (voted_states p.message)
 
   down_all : (e k : ℕ) (d : Disk) (M : Seen) → Others k M → Asks M → Lines M → Both d → ArePlaced acts (halted e k d M)
-  down_all e k d M others asks lines b = record { nodes = all_nodes k d None M others (down_one k d b); asks = asks; lines = lines_more M (numbered e (body.Halted k ∷ [])) lines }
+  down_all e k d M others asks lines b = record { nodes = all_nodes k d None M others (down_one k d b); asks = λ p i. (asks p i).0; votes = λ p i. (asks p i).1; lines = lines_more M (numbered e (body.Halted k ∷ [])) lines }
 
   pub stop_placed : (e k : ℕ) (d : Disk) (live : Option Parts) (M : Seen) → ArePlaced acts (at k d live M) → ArePlaced acts (halted e k d M)
-  stop_placed e k d live M all = let m = mine_of k d live M all in down_all e k d M (others_of k d live M all) all.asks all.lines (m.store, m.names)
+  stop_placed e k d live M all = let m = mine_of k d live M all in down_all e k d M (others_of k d live M all) (λ p i. (all.asks p i, all.votes p i)) all.lines (m.store, m.names)
 
   -- ---- walked through
 
   pub places_walk : (e k : ℕ) (v : Parts) → IsPlacedUp acts k v → (es : List Effect) (d : Disk) (M : Seen) → Others k M → Asks M → Lines M → Both d → AllByRecursion (MeansBegun acts) es → Walks (ArePlaced acts) e k es (Up (ArePlaced acts) k v) d M
-  places_walk e k v placed [] d M others asks lines b all = record { nodes = all_nodes k d (Some v) M others (record { store = b.0; names = b.1; live = λ t is. let same : v ≡ t = some_is refl is in subst (IsPlacedUp acts k) same placed }); asks = asks; lines = lines }
+  places_walk e k v placed [] d M others asks lines b all = record { nodes = all_nodes k d (Some v) M others (record { store = b.0; names = b.1; live = λ t is. let same : v ≡ t = some_is refl is in subst (IsPlacedUp acts k) same placed }); asks = λ p i. (asks p i).0; votes = λ p i. (asks p i).1; lines = lines }
   places_walk e k v placed (Do w ∷ es) d M others asks lines b all = (
     λ how. down_all e k (stopped how w d) M others asks lines (both_stopped how w d all.0 b),
     places_walk e k v placed es (worked w d) M others asks lines (both_worked w d all.0 b) all.1,
@@ -134,8 +134,8 @@ module _ (acts : List Action) where
   places_walk e k v placed (Say l ∷ es) d M others asks lines b all = places_walk e k v placed es d (said e (l ∷ []) M) others asks (lines_more M (numbered e (l ∷ [])) lines) b all.1
   places_walk e k v placed (Send to m ∷ es) d M others asks lines b all = λ more quiet. places_walk e k v placed es d (said e more (posted (record { from = k; to = to; message = m }) M)) others (asked all.0) (lines_more M (numbered e more) lines) b all.1
     where
-      asked : AsksBegun acts to m → (p : Post) → seen.In p (record { from = k; to = to; message = m } ∷ M.sent) → AsksBegun acts p.to p.message
-      asked its p (inl same) = subst (λ (q : Post). AsksBegun acts q.to q.message) same its
+      asked : MeansBegun acts (Send to m) → (p : Post) → seen.In p (record { from = k; to = to; message = m } ∷ M.sent) → AsksBegun acts p.to p.message × IsOwnVote (voted_states p.message)
+      asked its p (inl same) = subst (λ (q : Post). AsksBegun acts q.to q.message × IsOwnVote (voted_states q.message)) same its
       asked its p (inr old) = asks p old
 
   -- what a handler has to show
@@ -144,11 +144,11 @@ module _ (acts : List Action) where
   PlacedBy k (Took v outs) = AllByRecursion (MeansBegun acts) outs × IsPlacedUp acts k v
 
   pub placed_walk : (e k : ℕ) (d : Disk) (t v : Parts) (outs : List Effect) (M : Seen) → AllByRecursion (MeansBegun acts) outs → IsPlacedUp acts k v → ArePlaced acts (up k d t M) → Walks (ArePlaced acts) e k outs (Up (ArePlaced acts) k v) d M
-  placed_walk e k d t v outs M all up placed = let m = mine_of k d (Some t) M placed in places_walk e k v up outs d M (others_of k d (Some t) M placed) placed.asks placed.lines (m.store, m.names) all
+  placed_walk e k d t v outs M all up placed = let m = mine_of k d (Some t) M placed in places_walk e k v up outs d M (others_of k d (Some t) M placed) (λ p i. (placed.asks p i, placed.votes p i)) placed.lines (m.store, m.names) all
 
   -- with another coordinator
   pub other_coord : (k : ℕ) (t : Parts) (c : Coord) → AreSound c → IsPlacedUp acts k t → IsPlacedUp acts k (with_coord t c)
-  other_coord k t c sound p = record { naming = p.naming; calls = p.calls; entries = p.entries; coord = sound }
+  other_coord k t c sound p = record { naming = p.naming; calls = p.calls; keys = p.keys; entries = p.entries; coord = sound }
 
   -- ---- who holds something was begun
 
@@ -186,20 +186,25 @@ module _ (acts : List Action) where
     abbrev By : Handled → Type 0
     By h = PlacedBy k h
 
-    answered : (h : Head) (v : Parts) (outs : List Effect) (o : Option Reply) → All acts outs → IsPlacedUp acts k v → By (sends_answer from h v outs o)
-    answered h v outs None all up = tt
-    answered h v outs (Some r) all up = (both acts outs (Send from (response (asked_by h) r) ∷ []) all (response_means acts from (asked_by h) r, tt), up)
+    answered : (h : Head) (v : Parts) (outs : List Effect) (o : Option Reply) → IsOwnReply o → All acts outs → IsPlacedUp acts k v → By (sends_answer from h v outs o)
+    answered h v outs None own all up = tt
+    answered h v outs (Some r) own all up = (both acts outs (Send from (response (asked_by h) r) ∷ []) all (response_means acts from (asked_by h) r own, tt), up)
+
+    -- an answer of another kind votes nothing
+    no_vote : {R : Type 0} (say : R → Reply) → ((r : R) → IsOwnVote (voted_of (say r))) → (o : Option R) → IsOwnReply (option_map say o)
+    no_vote say each None = tt
+    no_vote say each (Some r) = each r
 
     with_it : (f : Naming → Handled) (o : Option Naming) → t.naming ≡ o → ((m : Naming) → t.naming ≡ Some m → By (f m)) → By (if_naming f o)
     with_it f None is each = tt
     with_it f (Some m) is each = each m is
 
     -- with another server, and with naming's locks
-    served_so : (s : Server) → AreCallRows acts s.objects → IsPlacedUp acts k (with_server t s)
-    served_so s calls = record { naming = placed.naming; calls = calls; entries = placed.entries; coord = placed.coord }
+    served_so : (s : Server) → AreCallRows acts s.objects × AreKeyed s.objects → IsPlacedUp acts k (with_server t s)
+    served_so s calls = record { naming = placed.naming; calls = calls.0; keys = calls.1; entries = placed.entries; coord = placed.coord }
 
     named_so : (m n : Naming) → t.naming ≡ Some m → AreEntryRows acts n.objects → IsPlacedUp acts k (with_naming t n)
-    named_so m n is entries = record { naming = sym (ap (λ (o : Option Naming). is_some o) is) ∙ placed.naming; calls = placed.calls; entries = entries; coord = placed.coord }
+    named_so m n is entries = record { naming = sym (ap (λ (o : Option Naming). is_some o) is) ∙ placed.naming; calls = placed.calls; keys = placed.keys; entries = entries; coord = placed.coord }
 
     its_rows : (m : Naming) → t.naming ≡ Some m → AreEntryRows acts m.objects
     its_rows m is = subst (AreNamesRows acts) is placed.entries
@@ -215,34 +220,34 @@ module _ (acts : List Action) where
 
         by : (a : Ask) → ByTop (Some (h, a)) → By (serve k d t from h a)
         by (ask.Bind x include avoid) top = with_it (λ o. served from h (with_naming t) Reply.Bound (naming.bind h.path x include avoid d.names o)) t.naming refl
-            (λ m is. let r = naming.bind h.path x include avoid d.names m in answered h (with_naming t r.part) r.outs (option_map Reply.Bound r.reply) (says_mean acts r.outs (bind_says h.path x include avoid d.names m)) (named_so m r.part is (rows_bind acts begun h.path path x include avoid d.names m (its_rows m is))))
+            (λ m is. let r = naming.bind h.path x include avoid d.names m in answered h (with_naming t r.part) r.outs (option_map Reply.Bound r.reply) (no_vote Reply.Bound (λ r. tt) r.reply) (says_mean acts r.outs (bind_says h.path x include avoid d.names m)) (named_so m r.part is (rows_bind acts begun h.path path x include avoid d.names m (its_rows m is))))
         by (ask.Load x) top = load (holder_of (object x) d.store)
           where
             held : (s : Option ObjectState) → By (load_held from h t s)
             held None = tt
-            held (Some s) = ((tt, (tt, tt)), placed)
+            held (Some s) = ((tt, ((tt, tt), tt)), placed)
 
             load : (o : Option Uid) → By (load_by x d.store from h t o)
-            load (Some u) = ((tt, tt), placed)
+            load (Some u) = (((tt, tt), tt), placed)
             load None = held (held_at (object x) d.store)
-        by (ask.Activate b st) top = let r = server.activate k h.path b st t.server in answered h (with_server t r.part) r.outs (option_map Reply.Activated r.reply) (server_means acts k r.outs (activate_own k h.path b st t.server)) (served_so r.part (rows_activate acts begun k h.path b st t.server placed.calls))
+        by (ask.Activate b st) top = let r = server.activate k h.path b st t.server in answered h (with_server t r.part) r.outs (option_map Reply.Activated r.reply) (no_vote Reply.Activated (λ r. tt) r.reply) (server_means acts k r.outs (activate_own k h.path b st t.server)) (served_so r.part (rows_activate acts begun k h.path b st t.server (placed.calls, placed.keys)))
         by (ask.Record x b i g) top = with_it (λ o. served from h (with_naming t) Reply.Noted (naming.note h.path x b i g o)) t.naming refl
-            (λ m is. let r = naming.note h.path x b i g m in answered h (with_naming t r.part) r.outs (option_map Reply.Noted r.reply) (says_mean acts r.outs (note_says h.path x b i g m)) (named_so m r.part is (rows_note acts begun h.path x b i g m (its_rows m is))))
-        by (ask.Invoke x b i ends o) top = let r = server.invoke k h x b i ends o t.server in answered h (with_server t r.part) r.outs (option_map Reply.Invoked r.reply) (server_means acts k r.outs (invoke_own k h x b i ends o t.server)) (served_so r.part (rows_invoke acts begun k h x b i ends o t.server (who.0, who.1, ap uids_of (sym who.2), ap tops_of (sym who.2)) placed.calls))
-        by (ask.Vote i ties ends) top = let r = server.vote k h.path i ties ends t.server in answered h (with_server t r.part) r.outs (option_map Reply.Voted r.reply) (server_means acts k r.outs (vote_own k h.path i ties ends t.server)) (served_so r.part (rows_vote acts begun k h.path i ties ends t.server placed.calls))
+            (λ m is. let r = naming.note h.path x b i g m in answered h (with_naming t r.part) r.outs (option_map Reply.Noted r.reply) (no_vote Reply.Noted (λ r. tt) r.reply) (says_mean acts r.outs (note_says h.path x b i g m)) (named_so m r.part is (rows_note acts begun h.path x b i g m (its_rows m is))))
+        by (ask.Invoke x b i ends o) top = let r = server.invoke k h x b i ends o t.server in answered h (with_server t r.part) r.outs (option_map Reply.Invoked r.reply) (no_vote Reply.Invoked (λ r. tt) r.reply) (server_means acts k r.outs (invoke_own k h x b i ends o t.server)) (served_so r.part (rows_invoke acts begun k h x b i ends o t.server (who.0, who.1, ap uids_of (sym who.2), ap tops_of (sym who.2)) (placed.calls, placed.keys)))
+        by (ask.Vote i ties ends) top = let r = server.vote k h.path i ties ends t.server in answered h (with_server t r.part) r.outs (option_map Reply.Voted r.reply) (votes_own acts begun k h.path i ties ends t.server (placed.calls, placed.keys)) (server_means acts k r.outs (vote_own k h.path i ties ends t.server)) (served_so r.part (rows_vote acts begun k h.path i ties ends t.server (placed.calls, placed.keys)))
         by (ask.Prepare states) top = one (is_prepared (actor h.path) d.store)
           where
             new : (a : Prep) → By (prepare_by k states from h t a)
-            new Ready = ((tt, (act, (tt, (tt, tt)))), placed)
+            new Ready = ((tt, (act, (tt, ((tt, tt), tt)))), placed)
             new (Already u) = tt
-            new (Old u v) = ((tt, (tt, tt)), placed)
-            new (InDoubt u holder) = ((tt, (tt, tt)), placed)
+            new (Old u v) = ((tt, ((tt, tt), tt)), placed)
+            new (InDoubt u holder) = ((tt, ((tt, tt), tt)), placed)
 
             one : (b : Bool) → By (cond b (sends_answer from h t [] (Some (Reply.Prepared prepared.Yes))) (prepare_by k states from h t (prepare_answer (actor h.path) states d.store)))
-            one true = ((tt, tt), placed)
+            one true = (((tt, tt), tt), placed)
             one false = new (prepare_answer (actor h.path) states d.store)
         by (ask.Confirm grants excluded included) top = with_it (λ o. served from h (with_naming t) Reply.Confirmed (confirm h.path grants excluded included d.names o)) t.naming refl
-            (λ m is. let r = confirm h.path grants excluded included d.names m in answered h (with_naming t r.part) r.outs (option_map Reply.Confirmed r.reply) (confirm_means acts h.path grants excluded included d.names m (subst (IsBegun acts) top act)) (named_so m r.part is (rows_confirm acts begun h.path path grants excluded included d.names m (its_rows m is))))
+            (λ m is. let r = confirm h.path grants excluded included d.names m in answered h (with_naming t r.part) r.outs (option_map Reply.Confirmed r.reply) (no_vote Reply.Confirmed (λ r. tt) r.reply) (confirm_means acts h.path grants excluded included d.names m (subst (IsBegun acts) top act)) (named_so m r.part is (rows_confirm acts begun h.path path grants excluded included d.names m (its_rows m is))))
 
     coord_left : (r : Served Coord (Unit {0})) → All acts r.outs → AreSound r.part → By (coord_heard t r)
     coord_left r all sound = by r.reply
@@ -255,9 +260,10 @@ module _ (acts : List Action) where
     ends_left ack ends None = (tt, placed)
     ends_left ack ends (Some e) =
         let s = server.told k ends t.server in
+        let ended = rows_ended acts begun k ends t.server (placed.calls, placed.keys) in
         let o = naming_told e.0 e.1 d.names t.naming in (
           both acts (store_told k e.0 e.1 d.store ++ o.outs ++ s.outs) (ack_told from e.0 ack) (both acts (store_told k e.0 e.1 d.store ++ o.outs) s.outs (both acts (store_told k e.0 e.1 d.store) o.outs (stored (is_prepared e.0 d.store) e.1) (names t.naming)) (server_means acts k s.outs (ends_own k ends t.server))) (acked_told ack),
-          record { naming = named t.naming ∙ placed.naming; calls = rows_ended acts begun k ends t.server placed.calls; entries = rows t.naming placed.entries; coord = placed.coord },
+          record { naming = named t.naming ∙ placed.naming; calls = ended.0; keys = ended.1; entries = rows t.naming placed.entries; coord = placed.coord },
         )
       where
         stored : (b : Bool) (how : End) → All acts (if b then end_states k e.0 how else [])
@@ -274,7 +280,7 @@ module _ (acts : List Action) where
         rows (Some m) its = rows_told acts begun e.0 e.1 d.names m its
 
         acked_told : (b : Bool) → All acts (ack_told from e.0 b)
-        acked_told true = (tt, tt)
+        acked_told true = ((tt, tt), tt)
         acked_told false = tt
 
         named : (o : Option Naming) → is_some (let r = naming_told e.0 e.1 d.names o in r.part) ≡ is_some o
@@ -292,7 +298,7 @@ module _ (acts : List Action) where
       other (message.Told m) = ends_left m.ack m.ends (last_end m.ends)
       other (message.Acked m) = coord_left (acked from m.act d.intents t.coord) (acks m.act) (sound_acked from m.act d.intents t.coord placed.coord)
       other (message.Query m) = (answers_it m.act, placed)
-      other (message.Hello m) = let h = hello_so m.node m.inc t.naming placed.naming placed.entries in (queries_mean acts (filter (is_earlier m.node m.inc) (holders d t)) (all_filter (IsBegun acts) (is_earlier m.node m.inc) (holders d t) (holders_in k d t begun mine placed)), record { naming = h.0; calls = placed.calls; entries = h.1; coord = placed.coord })
+      other (message.Hello m) = let h = hello_so m.node m.inc t.naming placed.naming placed.entries in (queries_mean acts (filter (is_earlier m.node m.inc) (holders d t)) (all_filter (IsBegun acts) (is_earlier m.node m.inc) (holders d t) (holders_in k d t begun mine placed)), record { naming = h.0; calls = placed.calls; keys = placed.keys; entries = h.1; coord = placed.coord })
       other (message.Bind m) = tt
       other (message.Bound m) = tt
       other (message.Load m) = tt
@@ -328,7 +334,7 @@ module _ (acts : List Action) where
       both acts (r.outs ++ tolds_again t.coord.telling) (map query_about (holders d t)) (both acts r.outs (tolds_again t.coord.telling) again (again_means acts t.coord.telling)) (queries_mean acts (holders d t) (holders_in k d t begun b placed))
 
   starts_placed : (k inc : ℕ) (d : Disk) → AreBegun acts → Both d → IsPlacedUp acts k (parts_in k inc d)
-  starts_placed k inc d begun b = record { naming = (by (k == 1)).0; calls = tt; entries = (by (k == 1)).1; coord = sound_new k inc d.intents }
+  starts_placed k inc d begun b = record { naming = (by (k == 1)).0; calls = tt; keys = tt; entries = (by (k == 1)).1; coord = sound_new k inc d.intents }
     where
       by : (c : Bool) → (is_some (if c then Some (recovered_naming inc d.names) else None) ≡ c) × AreNamesRows acts (if c then Some (recovered_naming inc d.names) else None)
       by true = (refl, rows_recovered acts begun inc d.names b.1)
@@ -338,7 +344,7 @@ module _ (acts : List Action) where
   prepared_in d b = all_set (IsBegun acts) (prepared_actions d.store ++ prepared_actions d.names) (all_append (IsBegun acts) (prepared_actions d.store) (prepared_actions d.names) (all_keys (IsBegun acts) d.store.pend b.0) (all_keys (IsBegun acts) d.names.pend b.1))
 
   pub restart_placed : (hd : Header) (e k : ℕ) (d : Disk) (M : Seen) → AreBegun acts → ArePlaced acts (down k d M) → Walks (ArePlaced acts) e k (restart_outs hd k (d.inc + 1) d) (Up (ArePlaced acts) k (parts_in k (d.inc + 1) d)) d M
-  restart_placed hd e k d M begun all = places_walk e k (parts_in k (d.inc + 1) d) (starts_placed k (d.inc + 1) d begun mine) (restart_outs hd k (d.inc + 1) d) d M (others_of k d None M all) all.asks all.lines mine means
+  restart_placed hd e k d M begun all = places_walk e k (parts_in k (d.inc + 1) d) (starts_placed k (d.inc + 1) d begun mine) (restart_outs hd k (d.inc + 1) d) d M (others_of k d None M all) (λ p i. (all.asks p i, all.votes p i)) all.lines mine means
     where
       mine : Both d
       mine = let m = mine_of k d None M all in (m.store, m.names)
@@ -388,6 +394,7 @@ up_more : (a : Action) (acts : List Action) (k : ℕ) (t : Parts) → IsPlacedUp
 up_more a acts k t p = record {
   naming = p.naming;
   calls = all_each (λ (e : ℕ × Copy). (r : Row) → Contains (let c = e.1 in c.rows) r → IsCallRow acts r) (λ (e : ℕ × Copy). (r : Row) → Contains (let c = e.1 in c.rows) r → IsCallRow (a ∷ acts) r) (let s = t.server in s.objects) (λ e each r c. call_more a acts r (each r c)) p.calls;
+  keys = p.keys;
   entries = rows_more a acts t.naming p.entries;
   coord = p.coord;
 }
@@ -402,6 +409,7 @@ begin_placed a acts e k d t c l how parent u M same sound all = record {
   nodes = all_nodes (a ∷ acts) k d (Some (with_coord t c)) M (λ j n off is. more j n (others_of acts k d (Some t) M all j n off is)) (let m = more k (record { number = k; disk = d; live = Some t }) (mine_of acts k d (Some t) M all) in
       record { store = m.store; names = m.names; live = λ v is. let it : with_coord t c ≡ v = some_is refl is in subst (IsPlacedUp (a ∷ acts) k) it (other_coord (a ∷ acts) k t c sound (m.live t refl)) });
   asks = λ p i. about_more a acts p.to (asked_about p.message) (all.asks p i);
+  votes = all.votes;
   lines = λ b i. ⊎_elim (λ new. new_line b new) (λ old. lines_more acts M (numbered e (began_line l how u parent ∷ [])) all.lines b (in_to b acts old)) (in_from b (a ∷ acts) i);
 }
   where
@@ -429,4 +437,4 @@ first_placed hd k = record {
 }
 
 pub format_placed : (hd : Header) → ArePlaced [] (see [] (format hd))
-format_placed hd = record { nodes = λ k n is. subst (IsPlaced [] k) (first_at hd k n is) (first_placed hd k); asks = λ p none. absurd none; lines = λ a c. absurd (in_from a [] c) }
+format_placed hd = record { nodes = λ k n is. subst (IsPlaced [] k) (first_at hd k n is) (first_placed hd k); asks = λ p none. absurd none; votes = λ p none. absurd none; lines = λ a c. absurd (in_from a [] c) }

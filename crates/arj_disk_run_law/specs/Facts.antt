@@ -12,8 +12,8 @@ use Rattle.arj_disk_view_law.specs.Coordinating.{ConfirmsAreBooked}
 use Rattle.arj_disk_view_law.specs.Sees.{Kinds, SeesDisks}
 use Rattle.arj_disk_run_law.specs.Sound.{VotesFit}
 
--- The relation gives that votes fit the plans of the commits that wait for them, and that a Confirm which naming checks anew is
--- booked in each object's machine.
+-- The relation gives that an object of which a server votes a state is one that the plan which waits for the vote uses there, and
+-- that a Confirm which naming checks anew is booked in each object's machine.
 pub record Gives (R : Seen → Type 0) : Type 0 where
   pub votes : (acts : List Action) (k : ℕ) (d : Disk) (t : Parts) (M : Seen) → R (up k d t M) → IsGoodOf acts (up k d t M) → VotesFit k t M
   pub booked : (x : ℕ) (tops : Kinds) (k : ℕ) (d : Disk) (t : Parts) (M : Seen) (from : ℕ) (m : Message) (W : World) → R (up k d t M) → seen.In (record { from = from; to = k; message = m }) M.sent → SeesDisks x tops W (up k d t M) → ConfirmsAreBooked d t W (asks m)

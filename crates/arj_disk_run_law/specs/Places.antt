@@ -1,5 +1,6 @@
--- Who has something prepared or locked was begun, and so was who is asked about; where naming is; and that coordinators are sound.
-use Rattle.std.specs.Prelude.{⊤, ◌≡◌, ◌⊎◌, ℕ, true, ◌==◌, List, [], ◌∷◌, Option, Some, None, is_some, Contains}
+-- Who has something prepared or locked was begun, and so was who is asked about; where naming is; that coordinators are sound, and
+-- that votes' states are each of its own object.
+use Rattle.std.specs.Prelude.{⊤, ◌≡◌, ◌⊎◌, ◌<◌, ℕ, true, ◌==◌, List, [], ◌∷◌, Option, Some, None, is_some, Contains}
 use Rattle.std.specs.List.{AllByRecursion}
 use Rattle.arj_protocol.specs.Words.{Uid, Message, ObjectState, Row, tops_of, uids_of}
 use Rattle.arj_protocol.specs.Words.kind
@@ -14,7 +15,7 @@ use Rattle.arj_part_law.specs.Actions.{Action, act_of}
 use Rattle.arj_view_law.specs.Seen as seen
 use Rattle.arj_view_law.specs.Seen.{Post, Seen}
 use Rattle.arj_disk_view_law.specs.Sees.{was_begun}
-use Rattle.arj_disk_run_law.specs.Sound.{AreSound}
+use Rattle.arj_disk_run_law.specs.Sound.{AreSound, IsOwnVote, voted_states}
 
 -- the action was begun
 abbrev pub IsBegun : List Action → Uid → Type 0
@@ -45,6 +46,11 @@ IsEntryRow acts r = IsTopPath acts r.holder r.tops
 abbrev pub AreCallRows : List Action → List (ℕ × Copy) → Type 0
 AreCallRows acts objects = AllByRecursion (λ (e : ℕ × Copy). (r : Row) → Contains (let c = e.1 in c.rows) r → IsCallRow acts r) objects
 
+-- each object's copy stands once, by increasing numbers
+abbrev pub AreKeyed : List (ℕ × Copy) → Type 0
+AreKeyed [] = ⊤
+AreKeyed (e ∷ es) = AllByRecursion (λ (f : ℕ × Copy). e.0 < f.0) es × AreKeyed es
+
 abbrev pub AreEntryRows : List Action → List (ℕ × Named) → Type 0
 AreEntryRows acts objects = AllByRecursion (λ (e : ℕ × Named). (r : Row) → Contains (let o = e.1 in o.rows) r → IsEntryRow acts r) objects
 
@@ -58,6 +64,7 @@ AreNamesRows acts (Some n) = AreEntryRows acts n.objects
 pub record IsPlacedUp (acts : List Action) (k : ℕ) (t : Parts) : Type 0 where
   pub naming : HasNaming k t
   pub calls : AreCallRows acts (let s = t.server in s.objects)
+  pub keys : AreKeyed (let s = t.server in s.objects)
   pub entries : AreNamesRows acts t.naming
   pub coord : AreSound t.coord
 
@@ -80,14 +87,15 @@ IsAboutBegun acts to (Some u) = (to ≡ u.node) × IsBegun acts u
 abbrev pub AsksBegun : List Action → ℕ → Message → Type 0
 AsksBegun acts to m = IsAboutBegun acts to (asked_about m)
 
--- who prepares something was begun, and who is asked about
+-- who prepares something was begun, and who is asked about; and a vote's states are each of its own object
 abbrev pub MeansBegun : List Action → Effect → Type 0
 MeansBegun acts (Do (Prepare r u states)) = IsBegun acts u
-MeansBegun acts (Send to m) = AsksBegun acts to m
+MeansBegun acts (Send to m) = AsksBegun acts to m × IsOwnVote (voted_states m)
 MeansBegun acts _ = ⊤
 
 -- So it is at each node, and of each message that was sent; and each action that was begun has its line.
 pub record ArePlaced (acts : List Action) (M : Seen) : Type 0 where
   pub nodes : (k : ℕ) (n : Node) → M.nodes k ≡ Some n → IsPlaced acts k n
   pub asks : (p : Post) → seen.In p M.sent → AsksBegun acts p.to p.message
+  pub votes : (p : Post) → seen.In p M.sent → IsOwnVote (voted_states p.message)
   pub lines : (a : Action) → Contains acts a → was_begun (act_of a) M.lines ≡ true

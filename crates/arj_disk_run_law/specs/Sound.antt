@@ -1,7 +1,7 @@
 -- Commits under way have tidy plans, and states stand for their objects.
-use Rattle.std.specs.Prelude.{⊤, ◌≡◌, ℕ, true, false, List, [], ◌∷◌, Some}
+use Rattle.std.specs.Prelude.{⊤, ◌≡◌, ℕ, true, false, List, [], ◌∷◌, Option, Some, None}
 use Rattle.std.specs.List.{AllByRecursion}
-use Rattle.arj_protocol.specs.Words.{Asked, Message, ObjectState, Uid, object}
+use Rattle.arj_protocol.specs.Words.{Asked, Message, ObjectState, Uid, VotedReply, object}
 use Rattle.arj_protocol.specs.Words.voted
 use Rattle.arj_protocol.specs.Ask.{Reply, answers}
 use Rattle.arj_protocol.specs.Commit as commit
@@ -24,6 +24,32 @@ pub record IsUsedState (p : commit.Plan) (Q : ℕ → Type 0) (s : ObjectState) 
 -- two of these states that are of one object are one
 abbrev pub AreOneEach : List ObjectState → Type 0
 AreOneEach states = (s t : ObjectState) → Among s states → Among t states → s.uid ≡ t.uid → s ≡ t
+
+-- of a Yes to a vote its states
+abbrev pub states_in : VotedReply → Option (List ObjectState)
+states_in (voted.Yes states) = Some states
+states_in (voted.Changed w) = None
+
+abbrev pub voted_of : Reply → Option (List ObjectState)
+voted_of (Reply.Voted r) = states_in r
+voted_of _ = None
+
+abbrev pub voted_in : Option (Asked × Reply) → Option (List ObjectState)
+voted_in None = None
+voted_in (Some a) = voted_of a.1
+
+-- the states that a message votes
+abbrev pub voted_states : Message → Option (List ObjectState)
+voted_states m = voted_in (answers m)
+
+-- they are each of the object of its number, of each object one
+pub record AreOwnStates (states : List ObjectState) : Type 0 where
+  pub own : (s : ObjectState) → Among s states → s.uid ≡ object (let u = s.uid in u.num)
+  pub once : AreOneEach states
+
+abbrev pub IsOwnVote : Option (List ObjectState) → Type 0
+IsOwnVote None = ⊤
+IsOwnVote (Some states) = AreOwnStates states
 
 -- What a server votes fits a plan: states of objects that the plan uses there, of each object one.
 pub record FitsVote (p : commit.Plan) (from : ℕ) (states : List ObjectState) : Type 0 where
@@ -63,7 +89,14 @@ pub record AreSound (c : Coord) : Type 0 where
   pub works : (u : Uid) (q : Doing) → doing_of u c ≡ Some q → IsSoundNow q.now
   pub roots : AllByRecursion (λ (e : ℕ × Root). IsOwnRoot e.1) c.roots
 
--- A vote that was sent and that a commit of this node waits for fits its plan.
+-- the plan uses the object at this server
+pub record IsUsedAt (p : commit.Plan) (from x : ℕ) : Type 0 where
+  pub used : commit.Used
+  pub found : used_at x p.used ≡ Some used
+  pub server : used.server ≡ from
+
+-- Of a vote that was sent and that a commit of this node waits for each state is of an object that the plan uses at the server
+-- which votes.
 abbrev pub VotesFit : ℕ → Parts → Seen → Type 0
 VotesFit k t M = (from : ℕ) (m : Message) (a : Asked) (states : List ObjectState) → seen.In (record { from = from; to = k; message = m }) M.sent → answers m ≡ Some (a, Reply.Voted (voted.Yes states))
-    → (q : Doing) (p : commit.Plan) (left : List ℕ) → doing_of a.act t.coord ≡ Some q → q.now ≡ Committing (commit.Voting p left) → p.req ≡ a.req → order.has left from ≡ true → FitsVote p from states
+    → (q : Doing) (p : commit.Plan) (left : List ℕ) → doing_of a.act t.coord ≡ Some q → q.now ≡ Committing (commit.Voting p left) → p.req ≡ a.req → order.has left from ≡ true → (s : ObjectState) → Among s states → IsUsedAt p from (let u = s.uid in u.num)
