@@ -10,4 +10,3 @@ pub mod Labels
 pub mod Acting
 pub mod Ticking
 pub mod Showing
-pub mod Settled
