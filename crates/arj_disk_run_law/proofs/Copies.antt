@@ -1,10 +1,11 @@
 -- Copies agree in what the disk machine is seen in.
 use Rattle.std.proofs.Common.{◌≡◌, ◌⊎◌, ℕ, List, [], ◌∷◌, true, Option, Some, None, refl, sym, ◌∙◌, ap, inl, inr, ⊎_elim, arith}
 use Rattle.std.specs.Prelude.{option_map}
-use Rattle.arj_protocol.specs.Words.{ObjectState, entry, is_listed, object}
+use Rattle.arj_protocol.specs.Words.{ObjectState, Uid, entry, is_listed, object}
 use Rattle.arj_protocol.specs.Effect.{held_at, holder_of}
 use Rattle.arj_protocol.specs.Step.{Node}
 use Rattle.arj_protocol.specs.Values.{state_entry}
+use Rattle.arj_protocol.proofs.Numbers.{number_tells}
 use Rattle.arj_disk_law.specs.Core.{Chain}
 use Rattle.arj_disk_law.specs.Effects.{World}
 use Rattle.arj_disk_law.specs.State as disk
@@ -15,12 +16,12 @@ use Rattle.arj_disk_law.proofs.History.{effective_done, effective_none, effectiv
 use Rattle.arj_disk_law.proofs.Results.{clean}
 use Rattle.arj_view_law.specs.Seen.{Seen}
 use Rattle.arj_disk_view_law.specs.Entries.{SeesEntry}
-use Rattle.arj_disk_view_law.specs.Pairs.{packed, packed_entry}
+use Rattle.arj_disk_view_law.specs.Pairs.{hold_of, packed, packed_entry}
 use Rattle.arj_disk_view_law.specs.Sees.{Kinds, SeesDisks}
 use Rattle.arj_disk_view_law.specs.Stores.{SeesStore}
 use Rattle.arj_disk_view_law.proofs.ConfirmWalks.{has_listed}
 use Rattle.arj_disk_view_law.proofs.StoreSteps.{place_free}
-use Rattle.arj_disk_run_law.specs.Runs.{CopiesAgree, HasNext, HasState}
+use Rattle.arj_disk_run_law.specs.Runs.{CopiesAgree, HasNext, HasPrepared, HasState}
 
 -- two states that were last once, in one version, are one
 known_one : (first : Packed) (ds : List Done) (g h : Packed) → Chain first ds → KnownIn first ds g → KnownIn first ds h → g.version ≡ h.version → g ≡ h
@@ -43,7 +44,7 @@ has_state x last m None is h = absurd (cc h)
 has_state x last m (Some st) is h = (st, is, (let same : packed st ≡ last = cc h in same))
 
 pub copies_agree : (x : ℕ) (tops : Kinds) (W : World) (M : Seen) → SeesDisks x tops W M → CopiesAgree x M
-copies_agree x tops W M s = (disk.last W.disk, record { listed = each; kept = kept; stored = stored; below = below; one = one })
+copies_agree x tops W M s = (disk.last W.disk, record { listed = each; kept = kept; stored = stored; below = below; one = one; alone = alone; changer = changer; rises = rises })
   where
     each : (n m : Node) (q : ObjectState) (j : ℕ) → M.nodes 1 ≡ Some n → holder_of (entry x) n.disk.names ≡ None → held_at (entry x) n.disk.names ≡ Some q → is_listed j (state_entry q).stores ≡ true → M.nodes j ≡ Some m → holder_of (object x) m.disk.store ≡ None → HasState x (disk.last W.disk) m
     each n m q j is free held on there clear =
@@ -91,6 +92,18 @@ copies_agree x tops W M s = (disk.last W.disk, record { listed = each; kept = ke
         by : (p : Option Hold) → W.disk.pend j ≡ p → HasState x (disk.last W.disk) m ⊎ HasNext x (disk.last W.disk) m
         by None none = inl (holds (sym (effective_none (disk.decided W.disk) Some (W.disk.pend j) (W.disk.held j) none) ∙ will))
         by (Some h) there_is = ⊎_elim
-            (λ done. let r = o.pair.holder h there_is in inr (r.action, r.states, r.state, r.prepared, r.of, ap (λ (z : Hold). z.new) r.is ∙ some_is (effective_done (disk.decided W.disk) Some (W.disk.pend j) h (W.disk.held j) there_is done) will))
+            (λ done. let r = o.pair.holder h there_is in inr (r.action, r.state, (r.states, r.prepared, r.of), ap (λ (z : Hold). z.new) r.is ∙ some_is (effective_done (disk.decided W.disk) Some (W.disk.pend j) h (W.disk.held j) there_is done) will))
             (λ open_yet. inl (holds (sym (effective_open (disk.decided W.disk) Some (W.disk.pend j) h (W.disk.held j) there_is open_yet) ∙ will)))
             (bool_cases (disk.decided W.disk h.top))
+
+    alone : (m : Node) (j : ℕ) (a b : Uid) (st su : ObjectState) → M.nodes j ≡ Some m → HasPrepared a (object x) st m.disk.store → HasPrepared b (object x) su m.disk.store → a ≡ b
+    alone m j a b st su there p q = let o : SeesStore x j m.disk.store W.disk = s.stores j m there in
+        number_tells a b (ap (λ (h : Hold). h.top) (some_is (o.pair.held_by a p.0 st p.1 p.2) (o.pair.held_by b q.0 su q.1 q.2)))
+
+    changer : (n : Node) (a b : Uid) (st su : ObjectState) → M.nodes 1 ≡ Some n → HasPrepared a (entry x) st n.disk.names → HasPrepared b (entry x) su n.disk.names → a ≡ b
+    changer n a b st su is p q = let e : SeesEntry x n.disk.names W.disk = s.entry n is in
+        number_tells a b (ap (λ (h : Hold). h.top) (some_is (e.pair.held_by a p.0 st p.1 p.2) (e.pair.held_by b q.0 su q.1 q.2)))
+
+    rises : (m : Node) (j : ℕ) (a : Uid) (st su : ObjectState) → M.nodes j ≡ Some m → held_at (object x) m.disk.store ≡ Some st → HasPrepared a (object x) su m.disk.store → Below (packed st) (packed su)
+    rises m j a st su there held p = let o : SeesStore x j m.disk.store W.disk = s.stores j m there in
+        s.whole.core.forms.below j (hold_of packed a su) (packed st) (o.pair.held_by a p.0 su p.1 p.2) (sym o.pair.held_is ∙ ap (option_map packed) held)

@@ -4,8 +4,8 @@ ghost use Rattle.arj_disk_run_law.specs.Runs.{RunsAgree};
 /// Take what each handler keeps and that gives what the disk half of the view counts on beside good nodes. Then after each run,
 /// with all frames that came in any order, again or never, all stops, crashes and restarts, an object's copies agree: if its
 /// entry isn't in doubt, one state is held or prepared by each store that the entry lists, and held where the object isn't in
-/// doubt; the entry lists some store; no store holds a later version, and stores that hold one version hold one state. It does
-/// nothing when it runs.
+/// doubt; the entry lists some store; no store holds a later version, and stores that hold one version hold one state; and what is in
+/// doubt at a store, or at naming, is so by one action. It does nothing when it runs.
 pub fn runs_keep_the_disk_half()
     ensures { RunsAgree }
 {}
