@@ -22,7 +22,7 @@ use Rattle.arj_lock_view_law.specs.Rows.{SeesRows, strength}
 use Rattle.arj_lock_view_law.proofs.RowSteps.{clear_seen, raised_seen}
 
 -- another server stays
-server_else : (S : State) (n k : ℕ) (v : Server) → k ≢ n → at S.server n v k ≡ S.server k
+pub server_else : (S : State) (n k : ℕ) (v : Server) → k ≢ n → at S.server n v k ≡ S.server k
 server_else S n k v other = by (k == n) refl
   where
     by : (b : Bool) → (k == n) ≡ b → cond b v (S.server k) ≡ S.server k

@@ -5,3 +5,4 @@ pub mod NoteSteps
 pub mod PassSteps
 pub mod RestartSteps
 pub mod RowSteps
+pub mod UndoSteps

@@ -1,13 +1,16 @@
 -- One object at a server, as the lock machine has it, and what a server does with it.
-use Rattle.std.specs.Prelude.{⊤, ◌≡◌, ◌≢◌, ◌<◌, ℕ, List, [], ◌∷◌, ◌++◌, None}
-use Rattle.arj_protocol.specs.Words.{Path, Op, Value, ObjectState, Binding, object, last_uid, uids_of, op_mode, writes, value_after, first_conflict}
+use Rattle.std.specs.Prelude.{⊤, ◌≡◌, ◌≢◌, ◌<◌, ℕ, true, List, [], ◌∷◌, ◌++◌, None}
+use Rattle.std.specs.List.{AllByRecursion}
+use Rattle.arj_protocol.specs.Words.{Path, Op, Value, ObjectState, Binding, object, is_on, last_uid, uids_of, op_mode, writes, value_after, first_conflict, Uid, Row}
+use Rattle.arj_protocol.specs.Words.ending
 use Rattle.arj_protocol.specs.Ask.{actor}
-use Rattle.arj_protocol.specs.Copy.{Copy, Over, current, run_copy, taken_copy}
+use Rattle.arj_protocol.specs.Copy.{Copy, Over, current, end_copy, run_copy, taken_copy}
 use Rattle.arj_protocol.specs.Order.{binding_number}
-use Rattle.arj_lock_law.specs.Actions.{Act, In}
+use Rattle.arj_lock_law.specs.Actions.{Act, In, on}
+use Rattle.arj_lock_law.specs.Machine.{Guard}
 use Rattle.arj_lock_law.specs.State as machine
 use Rattle.arj_lock_law.specs.State.{State, Entry, Request, Answer}
-use Rattle.arj_lock_law.specs.Steps.{IsAt}
+use Rattle.arj_lock_law.specs.Steps.{DropRows, IsAt}
 use Rattle.arj_lock_view_law.specs.Acts.{Acts, AreOne, IsAlong}
 use Rattle.arj_lock_view_law.specs.Going.{Goes}
 use Rattle.arj_lock_view_law.specs.Rows.{SeesRows}
@@ -81,3 +84,15 @@ ActivationsAreSeen = (act : Acts) (code : Codes) (n x : ℕ) (b : Binding) (st :
     → In (machine.Activate (binding_number b) (code (let c = taken_copy b st in let d = c.base in d.value))) S.net
     → (let c = S.binding (binding_number b) in c.server) ≡ n → (let v = S.server n in v.active) < binding_number b
     → Goes S (λ T. SeesCopy act code x (taken_copy b st) (T.server n) × OnlyServer n S T × In (machine.Activated (binding_number b) (let v = S.server n in v.incarnation)) T.net)
+
+-- Whose overlays and rows an end takes in the protocol and in the machine are the same: each holder's path stands in the machine
+-- as it does there.
+pub record IsTold (act : Acts) (u : Uid) (c : Copy) : Type 0 where
+  pub overs : AllByRecursion (λ (o : Over). is_on o.holder u ≡ on (act (last_uid o.holder)) (act u)) c.stack
+  pub rows : AllByRecursion (λ (r : Row). is_on r.holder u ≡ true → on (act (last_uid r.holder)) (act u) ≡ true) c.rows
+
+-- An end that a server takes for an abort, where the machine may drop rows: what the action and all below it wrote is undone,
+-- and their rows go.
+abbrev pub UndoingsAreSeen : Type 0
+UndoingsAreSeen = (act : Acts) (code : Codes) (n x : ℕ) (u : Uid) (c : Copy) (S : State) → IsTold act u c → Guard (DropRows n (act u)) S
+    → SeesCopy act code x c (S.server n) → Goes S (λ T. SeesCopy act code x (end_copy u ending.Abort c) (T.server n) × OnlyServer n S T)

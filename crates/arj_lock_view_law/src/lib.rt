@@ -7,8 +7,8 @@
 //! `specs/Acts.antt` has the machine's paths of actions, `specs/Rows.antt` the rows of a lock table, `specs/Named.antt` an
 //! object at naming, `specs/Going.antt` what a run leaves alone and what an answer shows. What it gives upward: a Bind, a
 //! Record and a Hello go (`specs/Bindings.antt`), and so do ends, exclude locks and a restart (`specs/Ends.antt`): that is what
-//! naming does with one object. A server's activations, operations and refusals go too (`specs/Copies.antt`). Confirmations of
-//! whole tops, a server's ends and votes, and coordinators aren't seen yet.
+//! naming does with one object. A server's activations, operations, refusals and undoings go too (`specs/Copies.antt`).
+//! Confirmations of whole tops, a server's commits and votes, and coordinators aren't seen yet.
 #![tactic(auto)]
 
 mod naming;

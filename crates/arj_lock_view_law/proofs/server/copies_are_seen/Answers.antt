@@ -1,4 +1,5 @@
 use Rattle.arj_lock_view_law.proofs.CopySteps.{activations_are_seen, operations_are_seen, refusals_are_seen}
+use Rattle.arj_lock_view_law.proofs.UndoSteps.{undoings_are_seen}
 use Rattle.arj_lock_view_law.proofs.server.copies_are_seen.Goals as goal
 
 pub returns-clause-activations : goal.returns-clause-activations
@@ -9,3 +10,6 @@ returns-clause-operations c = operations_are_seen
 
 pub returns-clause-refusals : goal.returns-clause-refusals
 returns-clause-refusals c = refusals_are_seen
+
+pub returns-clause-undoings : goal.returns-clause-undoings
+returns-clause-undoings c = undoings_are_seen
