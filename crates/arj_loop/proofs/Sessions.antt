@@ -25,7 +25,7 @@ use Rattle.arj_loop.specs.declared.machine.Machine.{Ghosts}
 use Rattle.arj_loop.specs.Built.{HasFormOf, IsBadOf, IsBadWhy}
 use Rattle.arj_loop.specs.Input.{Arrived, Came, SourceView, WentOn, ReadsFewPast, arrived, script, script_of, source_view}
 use Rattle.arj_loop.specs.Replayed.{Answer, Closes, EndsSo, Outside, StopsShort, answer, outside}
-use Rattle.arj_loop.specs.Running.{Stage, StageOf, Reached, Halfway, Hand, Gathers, Fronts, Work, IsGoing, IsAtLine, HasEnded, IsOverflown, Moved, built_by, end_of, hand, hand_of, lines_before, status_of, why_of, work}
+use Rattle.arj_loop.specs.Running.{Stage, StageOf, Reached, Halfway, Hand, Gathers, Fronts, Work, IsGoing, IsAtLine, HasEnded, IsOverflown, Moved, built_by, end_of, hand, hand_of, lines_before, overflown, status_of, why_of, work}
 use Rattle.arj_loop.proofs.Bytes.{short_of}
 use Rattle.arj_loop.proofs.Cuts.{fed_none, fed_line, fed_long, lines_line, lines_long, lines_last, lines_none}
 use Rattle.arj_loop.proofs.Stages.{Limited, moved_none}
@@ -96,13 +96,13 @@ ended_write {D} {M} view first before given done rest now whole s went front =
 
 -- a frame didn't fit in a line that was run
 pub ended_frames : {D M : Type 0} (view : Ghosts M D) (first : List D) (before : Option (List ℕ)) (given : Arrived) (done rest : List (List ℕ)) (line : List ℕ) (now : Work D M)
-    → (let s = script_of given in s.lines) ≡ (done ++ line ∷ []) ++ rest → StageOf view first now.rack (done ++ line ∷ []) now.session.runner now.journal → IsOverflown view now.journal → WentOn given (length done) → ReadsFewPast given (length done)
+    → (let s = script_of given in s.lines) ≡ (done ++ line ∷ []) ++ rest → StageOf view first now.rack (done ++ line ∷ []) now.session.runner now.journal → IsOverflown view now.session.runner.machine now.journal → WentOn given (length done) → ReadsFewPast given (length done)
     → Gathers now.journal now.session.gather.waiting.items before now.taken → HasEnded view first before given now ending.Frames
 ended_frames view first before given done rest line now whole s over went past g =
     let count : now.session.runner.lines - 1 ≡ length done = omega (arith, stage_count view first now.rack (done ++ line ∷ []) now.session.runner now.journal s, length-append done (line ∷ [])) in
     ended_reached view first before given now ending.Frames
     (λ e. (let never : ending.Frames ≡ ending.Write = e in cc)) (λ e. (let never : ending.Frames ≡ ending.Memory = e in cc)) (λ e. (let never : ending.Frames ≡ ending.Format = e in cc))
-    (record { place = now.session.runner.reader; done = done ++ line ∷ []; rest = rest; whole = whole; stage = s; why = over })
+    (record { place = now.session.runner.reader; done = done ++ line ∷ []; rest = rest; whole = whole; stage = s; why = over; going = λ no. absurd (no refl) })
     (went_as given (length done) (now.session.runner.lines - 1) count went) (past_as given (length done) (now.session.runner.lines - 1) count past) g
 
 -- a disk was stopped at `run`
@@ -123,6 +123,7 @@ ended_format {D} {M} view first rack before given done line tail runner journal 
       whole = whole;
       stage = subst (λ js. Stage view first first done runner.reader (hand None runner.lines js)) (sym still) bare.1;
       why = (line, tail, refl, form, room, refl);
+      going = λ _. refl;
     } in
     record {
       reached = λ _ _ f. absurd (f refl);
@@ -168,6 +169,7 @@ pub record RunnerEnds {D M : Type 0} (view : Ghosts M D) (was : Work D M) (now :
   pub kept : ((w : BadLine) × IsEnd end (ending.Bad w)) ⊎ IsEnd end ending.Lines → (now.session.runner.machine ≡ was.session.runner.machine) × (now.session.runner.lines ≡ was.session.runner.lines) × (now.rack ≡ was.rack)
   pub labels : IsEnd end ending.Labels → (first : List D) (lines : List (List ℕ)) → StageOf view first was.rack lines was.session.runner was.journal
       → Limited view first now.rack lines now.session.runner.reader now.session.runner.machine now.session.runner.lines now.journal was.session.cutter
+  pub labels_going : IsEnd end ending.Labels → overflown view now.session.runner.machine ≡ false
   pub format : IsEnd end ending.Format → HasFormOf (built_by view) was.session.runner.reader was.session.cutter Run × (was.session.runner.lines < 100000) × (was.session.runner.machine ≡ None) × view.stopped was.rack now.rack
   pub still : (end ≡ ending.Memory → ⊥) → now.journal ≡ was.journal
   pub only : (end ≡ ending.Whole → ⊥) × (end ≡ ending.Fault → ⊥) × (end ≡ ending.Write → ⊥) × (end ≡ ending.Frames → ⊥)
@@ -192,7 +194,7 @@ ended_line {D} view first before given done was now end r at =
     let before_is = same_before end now.session.runner.lines r.only.3 ∙ same in
     ended_reached view first before given now end other.write other.memory other.format
     (line_reached view first was.rack now.rack given.stopped (lines_of given.stopped given.came) done (was.session.cutter ∷ at.tail) was.session.cutter at.tail was.session.runner now.session.runner was.journal now.journal end at.cut refl at.stage (r.still other.memory)
-    r.bad r.many r.kept (λ is. r.labels is first done at.stage) other.write other.memory other.format r.only.0 r.only.1 r.only.3)
+    r.bad r.many r.kept (λ is. r.labels is first done at.stage) at.going r.labels_going other.write other.memory other.format r.only.0 r.only.1 r.only.3)
     (went_as given (length done) (lines_before end now.session.runner.lines) before_is at.went_on) (past_as given (length done) (lines_before end now.session.runner.lines) before_is at.past)
     (subst (λ js. Gathers js now.session.gather.waiting.items before now.taken) (sym (r.still other.memory)) gathers))
     more)
@@ -216,20 +218,20 @@ going_on view first before used bytes after was takes g =
       in_hand = f.1;
       short = takes.2;
       gathers = g.gathers;
-      fits = g.fits;
+      going = g.going;
     }
 
 -- a line that was run, and cleared
-pub going_behind : {D M : Type 0} (view : Ghosts M D) (first : List D) (before : Option (List ℕ)) (used bytes after : List ℕ) (was now : Work D M) → Takes was.session.cutter bytes full.Line after → IsGoing view first before used was → now.session.cutter ≡ [] → now.session.runner.full ≡ false
+pub going_behind : {D M : Type 0} (view : Ghosts M D) (first : List D) (before : Option (List ℕ)) (used bytes after : List ℕ) (was now : Work D M) → Takes was.session.cutter bytes full.Line after → IsGoing view first before used was → now.session.cutter ≡ [] → overflown view now.session.runner.machine ≡ false
     → StageOf view first now.rack (ended_lines used ++ after ∷ []) now.session.runner now.journal → Gathers now.journal now.session.gather.waiting.items before now.taken → IsGoing view first before (used ++ bytes) now
-going_behind view first before used bytes after was now takes g cleared fits stage gathers =
+going_behind view first before used bytes after was now takes g cleared going stage gathers =
     let f = fed_line used was.session.cutter bytes after g.in_hand takes in
     record {
       stage = subst (λ ls. StageOf view first now.rack ls now.session.runner now.journal) (sym f.0) stage;
       in_hand = cleared ∙ sym f.1;
       short = omega (arith, ap length cleared);
       gathers = gathers;
-      fits = fits;
+      going = going;
     }
 
 -- the line that a feed ended
@@ -243,6 +245,7 @@ at_line view first before used bytes earlier after count was takes g some within
     record {
       stage = g.stage;
       gathers = g.gathers;
+      going = g.going;
       tail = cut.0;
       cut = ap (λ bs. lines_of AtRunEnd bs) (sym whole) ∙ cut.1;
       went_on = record { earlier = no_more; to_the_end = λ go. absurd (go refl) };
@@ -273,6 +276,7 @@ ended_long view first before used bytes earlier after count was takes g some wit
       whole = ap (λ bs. lines_of AtRunEnd bs) (sym whole) ∙ cut.2;
       stage = g.stage;
       why = inl (cut.0, cut.1, refl, inr cut.3, (λ form h. omega (arith, h.has.short, cut.3)), cut.3);
+      going = λ _. g.going;
     })
     (record { earlier = omega (arith, no_more, size); to_the_end = λ go. absurd (go refl) })
     (λ _. (used ++ take count bytes, drop count bytes, sym whole, omega (arith, length-drop count bytes, some, within, few), inr (ap length f.0 ∙ sym size, f.1)))
@@ -284,6 +288,7 @@ pub at_last : {D M : Type 0} (view : Ghosts M D) (first : List D) (before : Opti
 at_last view first before used earlier was g some no_more = record {
   stage = g.stage;
   gathers = g.gathers;
+  going = g.going;
   tail = [];
   cut = lines_last used was.session.cutter g.in_hand some;
   went_on = record { earlier = no_more; to_the_end = λ _. omega arith };
@@ -296,30 +301,31 @@ not_others None = ((λ e. (let never : ending.Bad why.Missing ≡ ending.Write =
 not_others (Some machine) = ((λ e. (let never : ending.Whole ≡ ending.Write = e in cc)), (λ e. (let never : ending.Whole ≡ ending.Memory = e in cc)), (λ e. (let never : ending.Whole ≡ ending.Format = e in cc)), (λ e. (let never : ending.Whole ≡ ending.Frames = e in cc)))
 
 pub ended_end : {D M : Type 0} (view : Ghosts M D) (first : List D) (before : Option (List ℕ)) (used earlier : List ℕ) (done : List (List ℕ)) (now : Work D M) (end : End) → end ≡ end_of now.session.runner.machine
-    → lines_of AtEnd used ≡ done → StageOf view first now.rack done now.session.runner now.journal → Gathers now.journal now.session.gather.waiting.items before now.taken → length (ended_lines earlier) ≤ length done → length (ended_lines used) ≤ length done
+    → lines_of AtEnd used ≡ done → StageOf view first now.rack done now.session.runner now.journal → overflown view now.session.runner.machine ≡ false → Gathers now.journal now.session.gather.waiting.items before now.taken → length (ended_lines earlier) ≤ length done → length (ended_lines used) ≤ length done
     → HasEnded view first before (arrived used earlier AtEnd) now end
-ended_end view first before used earlier done now end is whole s g no_more all =
+ended_end view first before used earlier done now end is whole s going g no_more all =
     let size = stage_count view first now.rack done now.session.runner now.journal s in
     let others = not_others now.session.runner.machine in
     let before_is = same_before (end_of now.session.runner.machine) now.session.runner.lines others.3 in
     subst (λ e. HasEnded view first before (arrived used earlier AtEnd) now e) (sym is) (ended_reached view first before (arrived used earlier AtEnd) now (end_of now.session.runner.machine) others.0 others.1 others.2
-    (end_reached view first now.rack (lines_of AtEnd used) done now.session.runner now.journal whole s)
+    (end_reached view first now.rack (lines_of AtEnd used) done now.session.runner now.journal whole s going)
     (record { earlier = omega (arith, no_more, size, before_is); to_the_end = λ _. omega (arith, all, size, before_is) })
     (λ e. absurd (let never : AtEnd ≡ AtRunEnd = e in cc))
     g)
 
 pub ended_none : {D M : Type 0} (view : Ghosts M D) (first : List D) (before : Option (List ℕ)) (used earlier : List ℕ) (now : Work D M) (end : End) → end ≡ end_of now.session.runner.machine
     → IsGoing view first before used now → now.session.cutter ≡ [] → length (ended_lines earlier) ≤ length (ended_lines used) → HasEnded view first before (arrived used earlier AtEnd) now end
-ended_none view first before used earlier now end is g none no_more = ended_end view first before used earlier (ended_lines used) now end is (lines_none used now.session.cutter g.in_hand none) g.stage g.gathers no_more (omega arith)
+ended_none view first before used earlier now end is g none no_more = ended_end view first before used earlier (ended_lines used) now end is (lines_none used now.session.cutter g.in_hand none) g.stage g.going g.gathers no_more (omega arith)
 
 -- a read failed
 pub ended_fault : {D M : Type 0} (view : Ghosts M D) (first : List D) (before : Option (List ℕ)) (used earlier : List ℕ) (now : Work D M)
-    → StageOf view first now.rack (ended_lines used) now.session.runner now.journal → Gathers now.journal now.session.gather.waiting.items before now.taken → length (ended_lines earlier) ≤ length (ended_lines used) → HasEnded view first before (arrived used earlier AtFault) now ending.Fault
-ended_fault view first before used earlier now s g no_more =
+    → StageOf view first now.rack (ended_lines used) now.session.runner now.journal → overflown view now.session.runner.machine ≡ false → Gathers now.journal now.session.gather.waiting.items before now.taken → length (ended_lines earlier) ≤ length (ended_lines used)
+    → HasEnded view first before (arrived used earlier AtFault) now ending.Fault
+ended_fault view first before used earlier now s going g no_more =
     let size = stage_count view first now.rack (ended_lines used) now.session.runner now.journal s in
     ended_reached view first before (arrived used earlier AtFault) now ending.Fault
     (λ e. (let never : ending.Fault ≡ ending.Write = e in cc)) (λ e. (let never : ending.Fault ≡ ending.Memory = e in cc)) (λ e. (let never : ending.Fault ≡ ending.Format = e in cc))
-    (fault_reached view first now.rack (lines_of AtFault used) (ended_lines used) now.session.runner now.journal (append-nil (ended_lines used)) s)
+    (fault_reached view first now.rack (lines_of AtFault used) (ended_lines used) now.session.runner now.journal (append-nil (ended_lines used)) s going)
     (record { earlier = omega (arith, no_more, size); to_the_end = λ _. omega (arith, size) })
     (λ e. absurd (let never : AtFault ≡ AtRunEnd = e in cc))
     g
@@ -361,14 +367,14 @@ pub gives_nothing : (left : Option (List ℕ)) → Gives left [] left
 gives_nothing None = tt
 gives_nothing (Some bytes) = refl
 
-pub going_first : {D M : Type 0} (view : Ghosts M D) (was : Work D M) → view.ready was.rack → was.session.runner.full ≡ false → was.session.runner.reader ≡ Start → was.session.runner.machine ≡ None → was.session.runner.lines ≡ 0 → was.session.cutter ≡ [] → was.session.gather.waiting.items ≡ [] → was.journal ≡ []
+pub going_first : {D M : Type 0} (view : Ghosts M D) (was : Work D M) → view.ready was.rack → was.session.runner.reader ≡ Start → was.session.runner.machine ≡ None → was.session.runner.lines ≡ 0 → was.session.cutter ≡ [] → was.session.gather.waiting.items ≡ [] → was.journal ≡ []
     → IsGoing view was.rack was.taken [] was
-going_first view was ready full place machine count line waiting journal = record {
+going_first view was ready place machine count line waiting journal = record {
   stage = stage_start view was.rack was.session.runner.reader was.session.runner.machine was.session.runner.lines was.journal ready place machine count journal;
   in_hand = line;
   short = omega (arith, ap length line);
   gathers = gathers_first was.journal was.session.gather.waiting.items was.taken journal waiting;
-  fits = full;
+  going = ap (overflown view) machine;
 }
 
 -- what waits is written
@@ -382,7 +388,7 @@ going_flushed view first before used was gather taken g none took = record {
   in_hand = g.in_hand;
   short = g.short;
   gathers = gathers_empty was.journal was.session.gather.waiting.items gather.waiting.items before was.taken taken none g.gathers took;
-  fits = g.fits;
+  going = g.going;
 }
 
 -- or it isn't

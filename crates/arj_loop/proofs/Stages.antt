@@ -1,5 +1,5 @@
 -- One line more of a run.
-use Rattle.std.proofs.Common.{◌≡◌, ℕ, ◌+◌, ◌<◌, ◌⊎◌, List, [], ◌∷◌, ◌++◌, length, length-append, Bool, true, Option, Some, None, Result, Ok, Err, OnOk, IsOk, refl, sym, ◌∙◌, ap, subst, arith}
+use Rattle.std.proofs.Common.{◌≡◌, ℕ, ◌+◌, ◌<◌, ◌⊎◌, List, [], ◌∷◌, ◌++◌, length, length-append, Bool, true, false, Option, Some, None, Result, Ok, Err, OnOk, IsOk, refl, sym, ◌∙◌, ap, subst, arith}
 use Rattle.std.proofs.Math.Logic.{⊎_elim}
 use Rattle.std.proofs.lemmas.List.{append-nil}
 use Rattle.arj_journal.specs.ScriptForm.{EventInForm}
@@ -16,7 +16,7 @@ use Rattle.arj_loop.specs.declared.machine.Machine.{Ghosts}
 use Rattle.arj_loop.specs.Built.{HasFormOf, HaveFormsOf, HasTakenNodes, takes}
 use Rattle.arj_loop.proofs.BuiltForms.{have_forms_more}
 use Rattle.arj_loop.specs.Input.{header_from}
-use Rattle.arj_loop.specs.Running.{MachineRuns, Stage, Started, Stepped, Refused, IsStanding, AsksTooMany, Moved, Chain, built_by, hand, held_by}
+use Rattle.arj_loop.specs.Running.{MachineRuns, Stage, Started, Stepped, Refused, IsStanding, AsksTooMany, Moved, Chain, built_by, hand, held_by, overflown}
 use Rattle.arj_loop.proofs.Steps.{header_then, header_stays, events_within}
 
 -- the reader's answer
@@ -259,10 +259,10 @@ stage_event view first rack after_rack lines line place after e machine after_ma
 
 -- behind `run` the machine is there, with room for an event more
 pub standing : {D M : Type 0} (view : Ghosts M D) (first rack : List D) (lines : List (List ℕ)) (line : List ℕ) (place after : Place) (e : Event) (machine : Option M) (count : ℕ) (journal : List Line)
-    → Taken (built_by view) place line (item.Event e) after → Stage view first rack lines place (hand machine count journal) → IsStanding view rack journal machine
-standing view first rack lines line place after e None count journal taken s = absurd (s.machine_is.0 (event_of (built_by view) place line taken.0 e taken.1 taken.2).place_is)
-standing view first rack lines line place after e (Some machine) count journal taken s =
-    (omega (arith, s.machine_is.3, events_within s.forms, s.counted, s.within), (first, s.header, events_of s.forms, s.machine_is.2))
+    → Taken (built_by view) place line (item.Event e) after → Stage view first rack lines place (hand machine count journal) → overflown view machine ≡ false → IsStanding view rack journal machine
+standing view first rack lines line place after e None count journal taken s going = absurd (s.machine_is.0 (event_of (built_by view) place line taken.0 e taken.1 taken.2).place_is)
+standing view first rack lines line place after e (Some machine) count journal taken s going =
+    (omega (arith, s.machine_is.3, events_within s.forms, s.counted, s.within), going, (first, s.header, events_of s.forms, s.machine_is.2))
 
 -- an event that the machine refused for want of labels
 pub stage_labels : {D M : Type 0} (view : Ghosts M D) (first rack after_rack : List D) (lines : List (List ℕ)) (line : List ℕ) (place after : Place) (e : Event) (machine after_machine : Option M) (count : ℕ) (journal after_journal : List Line)

@@ -15,7 +15,7 @@ use Rattle.arj_script.specs.Input.{Stopped, AtEnd, AtFault, is_too_long}
 use Rattle.arj_loop.specs.Input.{script}
 use Rattle.arj_loop.specs.Replayed.{TookFront}
 use Rattle.arj_loop.specs.declared.machine.Machine.{Ghosts}
-use Rattle.arj_loop.specs.Running.{Stage, StageOf, Reached, Gathers, Fronts, built_by, end_of, hand}
+use Rattle.arj_loop.specs.Running.{Stage, StageOf, Reached, Gathers, Fronts, built_by, end_of, hand, overflown}
 use Rattle.arj_loop.specs.declared.ending.BadLine.{BadLine}
 use Rattle.arj_loop.specs.declared.ending.End.{End}
 use Rattle.arj_loop.specs.declared.ending.End.TheVariants as ending
@@ -103,18 +103,18 @@ whole_next lines done rest line tail whole cut = whole ∙ (ap (λ ls. done ++ l
 
 -- why the run ends where the input was read to its end and every line was run
 pub end_reached : {D M : Type 0} (view : Ghosts M D) (first rack : List D) (lines done : List (List ℕ)) (runner : Runner M) (journal : List Line)
-    → lines ≡ done → StageOf view first rack done runner journal → Reached view first rack (script AtEnd lines) (hand runner.machine runner.lines journal) (end_of runner.machine)
-end_reached view first rack lines done runner journal whole s = end_by view first rack lines done runner.reader runner.machine runner.lines journal (whole ∙ sym (append-nil done)) s
+    → lines ≡ done → StageOf view first rack done runner journal → overflown view runner.machine ≡ false → Reached view first rack (script AtEnd lines) (hand runner.machine runner.lines journal) (end_of runner.machine)
+end_reached view first rack lines done runner journal whole s going = end_by view first rack lines done runner.reader runner.machine runner.lines journal (whole ∙ sym (append-nil done)) s going
   where
     end_by : {D M : Type 0} (view : Ghosts M D) (first rack : List D) (lines done : List (List ℕ)) (place : Place) (machine : Option M) (count : ℕ) (journal : List Line)
-        → lines ≡ done ++ [] → Stage view first rack done place (hand machine count journal) → Reached view first rack (script AtEnd lines) (hand machine count journal) (end_of machine)
-    end_by view first rack lines done place (Some machine) count journal whole s = record { place = place; done = done; rest = []; whole = whole; stage = s; why = (refl, refl, s.machine_is.0) }
-    end_by view first rack lines done place None count journal whole s = record { place = place; done = done; rest = []; whole = whole; stage = s; why = inr (refl, refl, s.machine_is.0, refl) }
+        → lines ≡ done ++ [] → Stage view first rack done place (hand machine count journal) → overflown view machine ≡ false → Reached view first rack (script AtEnd lines) (hand machine count journal) (end_of machine)
+    end_by view first rack lines done place (Some machine) count journal whole s going = record { place = place; done = done; rest = []; whole = whole; stage = s; why = (refl, refl, s.machine_is.0); going = λ _. going }
+    end_by view first rack lines done place None count journal whole s going = record { place = place; done = done; rest = []; whole = whole; stage = s; why = inr (refl, refl, s.machine_is.0, refl); going = λ _. going }
 
 -- or a read failed
 pub fault_reached : {D M : Type 0} (view : Ghosts M D) (first rack : List D) (lines done : List (List ℕ)) (runner : Runner M) (journal : List Line)
-    → lines ≡ done → StageOf view first rack done runner journal → Reached view first rack (script AtFault lines) (hand runner.machine runner.lines journal) ending.Fault
-fault_reached view first rack lines done runner journal whole s = record { place = runner.reader; done = done; rest = []; whole = whole ∙ sym (append-nil done); stage = s; why = (refl, refl) }
+    → lines ≡ done → StageOf view first rack done runner journal → overflown view runner.machine ≡ false → Reached view first rack (script AtFault lines) (hand runner.machine runner.lines journal) ending.Fault
+fault_reached view first rack lines done runner journal whole s going = record { place = runner.reader; done = done; rest = []; whole = whole ∙ sym (append-nil done); stage = s; why = (refl, refl); going = λ _. going }
 
 abbrev pub IsEnd : End → End → Type 0
 IsEnd end other = let found : Result (Unit {0}) End = Err end in found ≡ Err other
@@ -136,24 +136,25 @@ pub line_reached : {D M : Type 0} (view : Ghosts M D) (first rack after_rack : L
     → (IsEnd end ending.Lines → (100000 ≤ before.lines) × (length line ≤ 200))
     → (((w : BadLine) × IsEnd end (ending.Bad w)) ⊎ IsEnd end ending.Lines → (after.machine ≡ before.machine) × (after.lines ≡ before.lines) × (after_rack ≡ rack))
     → (IsEnd end ending.Labels → Limited view first after_rack done after.reader after.machine after.lines after_journal line)
+    → overflown view before.machine ≡ false → (IsEnd end ending.Labels → overflown view after.machine ≡ false)
     → (end ≡ ending.Write → ⊥) → (end ≡ ending.Memory → ⊥) → (end ≡ ending.Format → ⊥) → (end ≡ ending.Whole → ⊥) → (end ≡ ending.Fault → ⊥) → (end ≡ ending.Frames → ⊥)
     → Reached view first after_rack (script stopped lines) (hand after.machine after.lines after_journal) end
-line_reached view first rack after_rack stopped lines done rest line tail before after journal after_journal (ending.Bad why) whole cut s still bad many kept labels a b c d e f =
+line_reached view first rack after_rack stopped lines done rest line tail before after journal after_journal (ending.Bad why) whole cut s still bad many kept labels going labels_going a b c d e f =
     let k = kept (inl (why, refl)) in
     let w = bad why refl in
     kept_reached view first rack after_rack stopped lines before after journal after_journal (ending.Bad why) k.0 k.1 k.2 still
-    (record { place = before.reader; done = done; rest = rest; whole = whole; stage = s; why = inl (line, tail, cut, w.0, w.1, w.2) })
-line_reached view first rack after_rack stopped lines done rest line tail before after journal after_journal ending.Lines whole cut s still bad many kept labels a b c d e f =
+    (record { place = before.reader; done = done; rest = rest; whole = whole; stage = s; why = inl (line, tail, cut, w.0, w.1, w.2); going = λ _. going })
+line_reached view first rack after_rack stopped lines done rest line tail before after journal after_journal ending.Lines whole cut s still bad many kept labels going labels_going a b c d e f =
     let k = kept (inr refl) in
     let w = many refl in
     kept_reached view first rack after_rack stopped lines before after journal after_journal ending.Lines k.0 k.1 k.2 still
-    (record { place = before.reader; done = done; rest = rest; whole = whole; stage = s; why = (line, tail, cut, omega (arith, w.0, s.within), w.1) })
-line_reached view first rack after_rack stopped lines done rest line tail before after journal after_journal ending.Labels whole cut s still bad many kept labels a b c d e f =
+    (record { place = before.reader; done = done; rest = rest; whole = whole; stage = s; why = (line, tail, cut, omega (arith, w.0, s.within), w.1); going = λ _. going })
+line_reached view first rack after_rack stopped lines done rest line tail before after journal after_journal ending.Labels whole cut s still bad many kept labels going labels_going a b c d e f =
     let w = labels refl in
-    record { place = after.reader; done = done; rest = rest; whole = whole; stage = w.0; why = (line, tail, cut, w.1, w.2) }
-line_reached view first rack after_rack stopped lines done rest line tail before after journal after_journal ending.Write whole cut s still bad many kept labels a b c d e f = absurd (a refl)
-line_reached view first rack after_rack stopped lines done rest line tail before after journal after_journal ending.Memory whole cut s still bad many kept labels a b c d e f = absurd (b refl)
-line_reached view first rack after_rack stopped lines done rest line tail before after journal after_journal ending.Format whole cut s still bad many kept labels a b c d e f = absurd (c refl)
-line_reached view first rack after_rack stopped lines done rest line tail before after journal after_journal ending.Whole whole cut s still bad many kept labels a b c d e f = absurd (d refl)
-line_reached view first rack after_rack stopped lines done rest line tail before after journal after_journal ending.Fault whole cut s still bad many kept labels a b c d e f = absurd (e refl)
-line_reached view first rack after_rack stopped lines done rest line tail before after journal after_journal ending.Frames whole cut s still bad many kept labels a b c d e f = absurd (f refl)
+    record { place = after.reader; done = done; rest = rest; whole = whole; stage = w.0; why = (line, tail, cut, w.1, w.2); going = λ _. labels_going refl }
+line_reached view first rack after_rack stopped lines done rest line tail before after journal after_journal ending.Write whole cut s still bad many kept labels going labels_going a b c d e f = absurd (a refl)
+line_reached view first rack after_rack stopped lines done rest line tail before after journal after_journal ending.Memory whole cut s still bad many kept labels going labels_going a b c d e f = absurd (b refl)
+line_reached view first rack after_rack stopped lines done rest line tail before after journal after_journal ending.Format whole cut s still bad many kept labels going labels_going a b c d e f = absurd (c refl)
+line_reached view first rack after_rack stopped lines done rest line tail before after journal after_journal ending.Whole whole cut s still bad many kept labels going labels_going a b c d e f = absurd (d refl)
+line_reached view first rack after_rack stopped lines done rest line tail before after journal after_journal ending.Fault whole cut s still bad many kept labels going labels_going a b c d e f = absurd (e refl)
+line_reached view first rack after_rack stopped lines done rest line tail before after journal after_journal ending.Frames whole cut s still bad many kept labels going labels_going a b c d e f = absurd (f refl)

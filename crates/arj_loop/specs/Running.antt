@@ -69,6 +69,7 @@ pub record Started {D M : Type 0} (m : Ghosts M D) (before after : List D) (head
   pub machine_is : machine ≡ Some made
   pub ran : m.ran before header [] after [] made
   pub steps : m.steps made ≡ 0
+  pub going : m.over made ≡ false
 
 -- The disks, the machine and the journal at one moment of a run.
 pub record Held (D M : Type 0) : Type 0 where
@@ -99,20 +100,26 @@ pub record Refused {D M : Type 0} (m : Ghosts M D) (from to : Held D M) (e : Eve
   pub full : (first : List D) (header : Header) (events : List Event) → m.ran first header events from.rack from.journal before
       → m.ran first header events to.rack to.journal after × m.is_full header e to.rack after
   pub steps : m.steps after ≡ m.steps before
+  pub going : m.over after ≡ false
 
 -- the machine is there, and can run an event more
 abbrev pub IsStanding : {D M : Type 0} → Ghosts M D → List D → List Line → Option M → Type 0
 IsStanding m rack journal None = ⊥
-IsStanding {D} m rack journal (Some machine) = (m.steps machine < 200000) × ((first : List D) × (header : Header) × (events : List Event) × m.ran first header events rack journal machine)
+IsStanding {D} m rack journal (Some machine) = (m.steps machine < 200000) × (m.over machine ≡ false) × ((first : List D) × (header : Header) × (events : List Event) × m.ran first header events rack journal machine)
 
 -- The line asks for an event that would give one label too many.
 abbrev pub AsksTooMany : {D M : Type 0} → Ghosts M D → Header → List D → Option M → Place → List ℕ → Type 0
 AsksTooMany m header rack None place line = ⊥
 AsksTooMany m header rack (Some machine) place line = (e : Event) × HasFormOf (built_by m) place line (Asks e) × m.is_full header e rack machine
 
+-- a frame didn't fit, in the last event that was run
+abbrev pub overflown : {D M : Type 0} → Ghosts M D → Option M → Bool
+overflown m None = false
+overflown m (Some machine) = m.over machine
+
 -- a frame didn't fit, and the journal's last line says so
-abbrev pub IsOverflown : {D M : Type 0} → Ghosts M D → List Line → Type 0
-IsOverflown m journal = (m.sends ≡ true) × EndsAtFrames journal
+abbrev pub IsOverflown : {D M : Type 0} → Ghosts M D → Option M → List Line → Type 0
+IsOverflown m machine journal = (overflown m machine ≡ true) × EndsAtFrames journal
 
 -- the text of the journal was taken, but for the bytes that wait
 abbrev pub Gathers : List Line → List ℕ → Option (List ℕ) → Option (List ℕ) → Type 0
@@ -132,7 +139,7 @@ Why m (ending.Bad w) stopped rest place rack at header =
 Why m ending.Lines stopped rest place rack at header = (line : List ℕ) × (tail : List (List ℕ)) × (rest ≡ line ∷ tail) × (at.count ≡ SCRIPT_LINES) × (length line ≤ LINE_BYTES)
 Why m ending.Labels stopped rest place rack at header =
     (line : List ℕ) × (tail : List (List ℕ)) × (rest ≡ line ∷ tail) × (at.count < SCRIPT_LINES) × AsksTooMany m header rack at.machine place line
-Why m ending.Frames stopped rest place rack at header = IsOverflown m at.journal
+Why m ending.Frames stopped rest place rack at header = IsOverflown m at.machine at.journal
 Why m ending.Format stopped rest place rack at header =
     (line : List ℕ) × (tail : List (List ℕ)) × (rest ≡ line ∷ tail) × HasFormOf (built_by m) place line Run × (at.count < SCRIPT_LINES) × (at.machine ≡ None)
 Why m ending.Write stopped rest place rack at header = ⊥
@@ -151,6 +158,8 @@ pub record Reached {D M : Type 0} (m : Ghosts M D) (first rack : List D) (given 
   pub whole : given.lines ≡ done ++ rest
   pub stage : Stage m first rack done place at
   pub why : Why m end given.stopped rest place rack at stage.header
+  -- no frame was too many, but where that ended the run
+  pub going : end ≢ ending.Frames → overflown m at.machine ≡ false
 
 -- The run of these lines has come so far that this journal is that of their events. The disks may have changed since.
 pub record Halfway {D M : Type 0} (m : Ghosts M D) (first rack : List D) (given : Script) (at : Hand M) : Type 0 where
@@ -220,7 +229,7 @@ pub record IsGoing {D M : Type 0} (m : Ghosts M D) (first : List D) (before : Op
   pub in_hand : now.session.cutter ≡ rest_line used
   pub short : length now.session.cutter ≤ LINE_BYTES
   pub gathers : Gathers now.journal now.session.gather.waiting.items before now.taken
-  pub fits : now.session.runner.full ≡ false
+  pub going : overflown m now.session.runner.machine ≡ false
 
 -- Some run is going on.
 abbrev pub Goes : {D M : Type 0} → Ghosts M D → Work D M → Type 0
@@ -230,6 +239,7 @@ Goes {D} m now = (first : List D) × (before : Option (List ℕ)) × (used : Lis
 pub record IsAtLine {D M : Type 0} (m : Ghosts M D) (first : List D) (before : Option (List ℕ)) (given : Arrived) (done : List (List ℕ)) (now : Work D M) : Type 0 where
   pub stage : StageOf m first now.rack done now.session.runner now.journal
   pub gathers : Gathers now.journal now.session.gather.waiting.items before now.taken
+  pub going : overflown m now.session.runner.machine ≡ false
   pub tail : List (List ℕ)
   pub cut : (let s = script_of given in s.lines) ≡ done ++ now.session.cutter ∷ tail
   pub went_on : WentOn given (length done)

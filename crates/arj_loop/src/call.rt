@@ -53,7 +53,7 @@ fn run_through<S: Source, K: Sink, D: Disk, M: Machine<D>>(
     journal: &mut Lines,
     why: &mut Option<BadLine>,
 ) -> u8
-    requires runner { (session.runner.reader ≡ Start) × (session.runner.machine ≡ None) × (session.runner.lines ≡ 0) × (session.runner.full ≡ false) }
+    requires runner { (session.runner.reader ≡ Start) × (session.runner.machine ≡ None) × (session.runner.lines ≡ 0) }
     requires nothing { (session.cutter ≡ []) × (session.gather.waiting.items ≡ []) }
     requires ready { M.ready rack.old }
     requires fresh { journal.old ≡ [] }

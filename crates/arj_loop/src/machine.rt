@@ -1,5 +1,5 @@
 // What runs the events of a script.
-ghost use Rattle.std.specs.Prelude.{◌≡◌, ◌<◌, ◌+◌, ◌∷◌, [], ◌++◌, true, ℕ, Bool, List, length, OnOk, OnErr, IfOk, IsErrOf};
+ghost use Rattle.std.specs.Prelude.{◌≡◌, ◌<◌, ◌+◌, ◌∷◌, [], ◌++◌, true, false, ℕ, Bool, List, length, OnOk, OnErr, IfOk, IsErrOf};
 ghost use Rattle.arj_journal.specs.ScriptForm.{EventInForm, HeaderInForm};
 ghost use Rattle.arj_journal.specs.ScriptText.{event_text};
 ghost use Rattle.arj_journal.specs.declared.body.Line.{Line};
@@ -61,8 +61,8 @@ pub trait Machine<D: Disk>: Sized + Drop {
     /// What it did to them where a disk was stopped while it was formatted.
     ghost stopped: { List D → List D → Type 0 };
 
-    /// Whether it sends frames, of which there may be too many.
-    ghost sends: { Bool };
+    /// Whether a frame didn't fit: no other event may follow.
+    ghost over: { Self → Bool };
 
     /// Whether it takes this count of nodes.
     fn takes_nodes(count: u8) -> bool
@@ -78,13 +78,17 @@ pub trait Machine<D: Disk>: Sized + Drop {
         requires form { HeaderInForm header }
         requires takes { takes_nodes header.nodes ≡ true }
         requires ready { ready rack.old }
-        ensures made { IfOk result (λ machine. ran rack.old header [] rack.new [] machine × (steps machine ≡ 0)) }
+        ensures made { IfOk result (λ machine. ran rack.old header [] rack.new [] machine × (steps machine ≡ 0) × (over machine ≡ false)) }
         ensures stopped { IsErrOf result StartFault.Stopped → stopped rack.old rack.new }
         ensures moved { moved rack.old rack.new };
 
     /// How many events were run.
     fn stepped(&self) -> u32
         ensures { result ≡ steps self.now };
+
+    /// Whether a frame didn't fit.
+    fn is_over(&self) -> bool
+        ensures { result ≡ over self.now };
 
     /// Runs an event: its lines go to the end of the journal.
     fn step(
@@ -96,15 +100,17 @@ pub trait Machine<D: Disk>: Sized + Drop {
         requires form { EventInForm event }
         requires takes { takes_event event ≡ true }
         requires room { steps self.old < 200000 }
+        requires going { over self.old ≡ false }
         requires ran { (first : List D) × (header : script_header) × (events : List script_event) × ran first header events rack.old journal.old self.old }
         ensures ran { OnOk result ((first : List D) (header : script_header) (events : List script_event) → ran first header events rack.old journal.old self.old
             → ran first header (events ++ event ∷ []) rack.new journal.new self.new) }
         ensures grown { OnOk result ((steps self.new ≡ steps self.old + 1) × ((lines : List Line) × (journal.new ≡ journal.old ++ lines))) }
+        ensures going { OnOk result (over self.new ≡ false) }
         ensures labels { IsErrOf result EventFault.Labels → (first : List D) (header : script_header) (events : List script_event) → ran first header events rack.old journal.old self.old
             → ran first header events rack.new journal.new self.new × is_full header event rack.new self.new }
-        ensures kept { IsErrOf result EventFault.Labels → (steps self.new ≡ steps self.old) × (journal.new ≡ journal.old) }
+        ensures kept { IsErrOf result EventFault.Labels → (steps self.new ≡ steps self.old) × (over self.new ≡ false) × (journal.new ≡ journal.old) }
         ensures frames { IsErrOf result EventFault.Frames → (first : List D) (header : script_header) (events : List script_event) → ran first header events rack.old journal.old self.old
             → ran first header (events ++ event ∷ []) rack.new journal.new self.new }
-        ensures overflown { IsErrOf result EventFault.Frames → (sends ≡ true) × (steps self.new ≡ steps self.old + 1) × ((lines : List Line) × (journal.new ≡ journal.old ++ lines)) × EndsAtFrames journal.new }
+        ensures overflown { IsErrOf result EventFault.Frames → (over self.new ≡ true) × (steps self.new ≡ steps self.old + 1) × ((lines : List Line) × (journal.new ≡ journal.old ++ lines)) × EndsAtFrames journal.new }
         ensures moved { moved rack.old rack.new };
 }

@@ -5,8 +5,9 @@ ghost use Rattle.arj_journal.specs.ScriptForm.{EventInForm, HeaderInForm};
 ghost use Rattle.arj_script.specs.Grammar.{Run, Start};
 ghost use Rattle.arj_loop.specs.declared.ending.BadLine.{BadLine};
 ghost use Rattle.arj_loop.specs.Built.{HasFormOf, IsBadOf, IsBadWhy, takes};
+ghost use Rattle.arj_loop.specs.Limits.{EndsAtFrames};
 ghost use Rattle.arj_script.specs.declared.limits.TheConstants.{LINE_BYTES, SCRIPT_LINES};
-ghost use Rattle.arj_loop.specs.Running.{StageOf, Started, Stepped, Refused, IsStanding, IsOverflown, AsksTooMany, Moved, end_of, events_run, held_by, last_body};
+ghost use Rattle.arj_loop.specs.Running.{StageOf, Started, Stepped, Refused, IsStanding, AsksTooMany, Moved, end_of, events_run, held_by, last_body, overflown};
 
 use crate::built::read_built;
 use crate::ending::{BadLine, End};
@@ -16,14 +17,13 @@ use arj_journal::{Body, Event, Header, Lines, Which};
 use arj_script::{Item, LINE_BYTES, Reader, SCRIPT_LINES};
 use std::alloc::Global;
 
-/// The reader, the machine once `run` was read, how many lines were run, and whether a frame didn't fit.
+/// The reader, the machine once `run` was read, and how many lines were run.
 #[derive(Drop)]
 pub struct Runner<M> {
     alloc: Global,
     reader: Reader,
     machine: Option<M>,
     lines: u32,
-    full: bool,
 }
 
 impl<M> Runner<M> {
@@ -32,22 +32,25 @@ impl<M> Runner<M> {
         ensures reader { result.reader ≡ Start }
         ensures machine { result.machine ≡ None }
         ensures lines { result.lines ≡ 0 }
-        ensures full { result.full ≡ false }
     {
         Runner {
             alloc,
             reader: Reader::new(alloc),
             machine: None,
             lines: 0,
-            full: false,
         }
     }
 
     /// Whether a frame didn't fit.
-    pub fn is_overflown(&self) -> bool
-        ensures { result ≡ self.now.full }
+    pub fn is_overflown<D: Disk>(&self) -> bool
+    where
+        M: Machine<D>,
+        ensures { result ≡ overflown M.Machine self.now.machine }
     {
-        self.full
+        match &self.machine {
+            Some(machine) => machine.is_over(),
+            None => false,
+        }
     }
 
     /// How the run ends where the input was read to its end and every line was run.
@@ -118,11 +121,12 @@ impl<M> Runner<M> {
     ) -> Result<(), End>
     where
         M: Machine<D>,
-        requires { (first : List D) × (lines : List (List ℕ)) × StageOf M.Machine first rack.old lines self.old journal.old }
+        requires stage { (first : List D) × (lines : List (List ℕ)) × StageOf M.Machine first rack.old lines self.old journal.old }
+        requires going { overflown M.Machine self.old.machine ≡ false }
         ensures went { OnOk result ((first : List D) (lines : List (List ℕ)) → StageOf M.Machine first rack.old lines self.old journal.old
             → StageOf M.Machine first rack.new (lines ++ line.now ∷ []) self.new journal.new) }
         ensures grown { OnOk result ((added : List Line) × (journal.new ≡ journal.old ++ added)) }
-        ensures full { OnOk result (self.old.full ≡ false → self.new.full ≡ true → IsOverflown M.Machine journal.new) }
+        ensures full { OnOk result (overflown M.Machine self.new.machine ≡ true → EndsAtFrames journal.new) }
         ensures bad { (why : BadLine) → IsErrOf result (End.Bad why) → (self.old.lines < SCRIPT_LINES ⊎ (LINE_BYTES < length line.now))
             × IsBadOf (takes M.takes_nodes M.takes_event) self.old.reader line.now × IsBadWhy (takes M.takes_nodes M.takes_event) why self.old.reader line.now }
         ensures many { IsErrOf result End.Lines → (SCRIPT_LINES ≤ self.old.lines) × (length line.now ≤ LINE_BYTES) }
@@ -130,6 +134,7 @@ impl<M> Runner<M> {
             × (rack.new ≡ rack.old) }
         ensures labels { IsErrOf result End.Labels → (first : List D) (lines : List (List ℕ)) → StageOf M.Machine first rack.old lines self.old journal.old
             → (now : StageOf M.Machine first rack.new lines self.new journal.new) × (self.new.lines < SCRIPT_LINES) × AsksTooMany M.Machine now.header rack.new self.new.machine self.new.reader line.now }
+        ensures labels_going { IsErrOf result End.Labels → overflown M.Machine self.new.machine ≡ false }
         ensures format { IsErrOf result End.Format → HasFormOf (takes M.takes_nodes M.takes_event) self.old.reader line.now Run × (self.old.lines < SCRIPT_LINES) × (self.old.machine ≡ None) × M.stopped rack.old rack.new }
         ensures still { IfErr result (λ end. end ≢ End.Memory → journal.new ≡ journal.old) }
         ensures only { IfErr result (λ end. (end ≢ End.Whole) × (end ≢ End.Fault) × (end ≢ End.Write) × (end ≢ End.Frames)) }
@@ -156,7 +161,7 @@ impl<M> Runner<M> {
         requires ready { M.ready rack.old }
         requires room { self.old.lines < SCRIPT_LINES }
         ensures started { OnOk result (Started M.Machine rack.old rack.new header self.new.machine) }
-        ensures line { OnOk result ((self.new.reader ≡ self.old.reader) × (self.new.lines ≡ self.old.lines + 1) × (self.new.full ≡ self.old.full)) }
+        ensures line { OnOk result ((self.new.reader ≡ self.old.reader) × (self.new.lines ≡ self.old.lines + 1)) }
         ensures format { IsErrOf result End.Format → M.stopped rack.old rack.new }
         ensures only { IfErr result (λ end. (end ≡ End.Format) ⊎ (end ≡ End.Memory)) }
         ensures moved { Moved M.Machine rack.old rack.new }
@@ -187,7 +192,7 @@ impl<M> Runner<M> {
         requires room { self.old.lines < SCRIPT_LINES }
         ensures ran { OnOk result (Stepped M.Machine (held_by rack.old self.old.machine journal.old) (held_by rack.new self.new.machine journal.new) event) }
         ensures line { OnOk result ((self.new.reader ≡ self.old.reader) × (self.new.lines ≡ self.old.lines + 1)) }
-        ensures full { OnOk result (self.old.full ≡ false → self.new.full ≡ true → IsOverflown M.Machine journal.new) }
+        ensures full { OnOk result (overflown M.Machine self.new.machine ≡ true → EndsAtFrames journal.new) }
         ensures labels { IsErrOf result End.Labels → Refused M.Machine (held_by rack.old self.old.machine journal.old) (held_by rack.new self.new.machine journal.new) event }
         ensures kept { IsErrOf result End.Labels → (journal.new ≡ journal.old) × (self.new.reader ≡ self.old.reader) × (self.new.lines ≡ self.old.lines) }
         ensures only { IfErr result (λ end. (end ≡ End.Labels) ⊎ (end ≡ End.Memory)) }
@@ -203,7 +208,6 @@ impl<M> Runner<M> {
             }
             Err(EventFault::Frames) => {
                 self.lines += 1;
-                self.full = true;
                 Ok(())
             }
             Err(EventFault::Labels) => Err(End::Labels),

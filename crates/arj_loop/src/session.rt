@@ -5,7 +5,7 @@ ghost use Rattle.arj_script.specs.Grammar.{Start};
 ghost use Rattle.arj_script.specs.Input.{AtEnd, AtRunEnd, ended_lines};
 ghost use Rattle.arj_loop.specs.declared.limits.TheConstants.{READ_BYTES};
 ghost use Rattle.arj_loop.specs.Input.{Arrived, Came, arrived, source_view};
-ghost use Rattle.arj_loop.specs.Running.{StageOf, Gathers, Goes, IsGoing, IsAtLine, HasEnded, Moved, work};
+ghost use Rattle.arj_loop.specs.Running.{StageOf, Gathers, Goes, IsGoing, IsAtLine, HasEnded, Moved, overflown, work};
 
 use crate::ending::{BadLine, End};
 use crate::gather::Gather;
@@ -29,7 +29,7 @@ pub struct Session<M> {
 impl<M> Session<M> {
     /// No byte has come.
     pub fn new(alloc: Global) -> Result<Session<M>, AllocError>
-        ensures runner { IfOk result (λ session. (session.runner.reader ≡ Start) × (session.runner.machine ≡ None) × (session.runner.lines ≡ 0) × (session.runner.full ≡ false)) }
+        ensures runner { IfOk result (λ session. (session.runner.reader ≡ Start) × (session.runner.machine ≡ None) × (session.runner.lines ≡ 0)) }
         ensures nothing { IfOk result (λ session. (session.cutter ≡ []) × (session.gather.waiting.items ≡ [])) }
     {
         let cutter = LineCutter::new(alloc)?;
@@ -51,7 +51,7 @@ impl<M> Session<M> {
     ) -> End
     where
         M: Machine<D>,
-        requires runner { (self.old.runner.reader ≡ Start) × (self.old.runner.machine ≡ None) × (self.old.runner.lines ≡ 0) × (self.old.runner.full ≡ false) }
+        requires runner { (self.old.runner.reader ≡ Start) × (self.old.runner.machine ≡ None) × (self.old.runner.lines ≡ 0) }
         requires nothing { (self.old.cutter ≡ []) × (self.old.gather.waiting.items ≡ []) }
         requires fresh { journal.old ≡ [] }
         requires ready { M.ready rack.old }
@@ -188,8 +188,8 @@ impl<M> Session<M> {
     where
         M: Machine<D>,
         requires stage { (first : List D) × (done : List (List ℕ)) × StageOf M.Machine first rack.old done self.old.runner journal.old }
-        requires fits { self.old.runner.full ≡ false }
-        ensures fits { OnOk result (self.new.runner.full ≡ false) }
+        requires going { overflown M.Machine self.old.runner.machine ≡ false }
+        ensures going { OnOk result (overflown M.Machine self.new.runner.machine ≡ false) }
         ensures went { OnOk result ((first : List D) (done : List (List ℕ)) → StageOf M.Machine first rack.old done self.old.runner journal.old
             → StageOf M.Machine first rack.new (done ++ self.old.cutter ∷ []) self.new.runner journal.new) }
         ensures gathers { OnOk result ((before : Option (List ℕ)) → Gathers journal.old self.old.gather.waiting.items before (K.taken sink.old)
@@ -211,7 +211,7 @@ impl<M> Session<M> {
             Ok(()) => {}
             Err(end) => return Err(end),
         }
-        if self.runner.is_overflown() {
+        if self.runner.is_overflown::<D>() {
             return Err(End::Frames);
         }
         Ok(())

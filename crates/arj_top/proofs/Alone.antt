@@ -1,5 +1,5 @@
 -- What the engine of one node did, event after event.
-use Rattle.std.proofs.Common.{◌≡◌, ℕ, ◌+◌, ◌-◌, ◌≤◌, ◌<◌, ◌⊎◌, inl, inr, List, [], ◌∷◌, ◌++◌, length, length-append, slice_get, slice_set, filter, Bool, true, false, Option, Some, None, refl, sym, ◌||◌, ◌∙◌, ap, subst, arith}
+use Rattle.std.proofs.Common.{◌≡◌, ℕ, ◌+◌, ◌-◌, ◌≤◌, ◌<◌, ◌⊎◌, inl, inr, List, [], ◌∷◌, ◌++◌, length, length-append, slice_get, slice_set, filter, Bool, true, false, Some, None, refl, sym, ◌||◌, ◌∙◌, ap, subst, arith}
 use Rattle.std.specs.List.{list_any, AllByRecursion}
 use Rattle.std.specs.Prelude.{if◌then◌else◌, map, drop}
 use Rattle.std.proofs.Math.Logic.{⊎_elim}
@@ -18,8 +18,8 @@ use Rattle.arj_journal.specs.declared.event.Event.{Event}
 use Rattle.arj_journal.specs.declared.header.Header.{Header}
 use Rattle.arj_model.specs.Causes.{IsPastLabels, Moment, count_halts, is_halt}
 use Rattle.arj_model.specs.Refusals.{is_down}
-use Rattle.arj_model.specs.Past.{Past, Along, nothing_yet, next, block}
-use Rattle.arj_top.specs.OneNode.{Engaged, IsFull, RanAlone}
+use Rattle.arj_model.specs.Past.{Past, nothing_yet, next, block}
+use Rattle.arj_top.specs.OneNode.{IsFull, RanAlone}
 use Rattle.arj_top.specs.Outside.{DiskView, TouchesFirstAlone, SameArms}
 use Rattle.arj_top.proofs.Along.{along_more}
 

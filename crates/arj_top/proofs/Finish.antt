@@ -38,9 +38,9 @@ use Rattle.arj_loop.specs.declared.ending.BadLine.{BadLine}
 use Rattle.arj_loop.specs.declared.ending.End.{End}
 use Rattle.arj_loop.specs.declared.ending.End.TheVariants as ending
 use Rattle.arj_loop.specs.declared.machine.Machine.{Ghosts}
-use Rattle.arj_loop.specs.Input.{Arrived, Script, WentOn, ReadsFewPast, header_from, script_of, IsHeader}
+use Rattle.arj_loop.specs.Input.{Arrived, WentOn, ReadsFewPast, header_from, script_of, IsHeader}
 use Rattle.arj_loop.specs.Replayed.{EndsSo, answer}
-use Rattle.arj_loop.specs.Running.{Chain, Hand, Halfway, MachineRuns, Moved, Stage, Reached, Why, AsksTooMany, last_body, last_lines, lines_before, status_of, why_of, events_run}
+use Rattle.arj_loop.specs.Running.{Chain, Hand, Halfway, MachineRuns, Moved, Why, AsksTooMany, last_body, last_lines, lines_before, overflown, status_of, why_of, events_run}
 use Rattle.arj_loop.proofs.Steps.{forms_length, events_within}
 use Rattle.arj_top.specs.declared.one_node.OneNode.{OneNode}
 use Rattle.arj_top.specs.OneNode.{Engaged, RanAlone, IsFull}
@@ -62,8 +62,13 @@ lone view = record {
   is_full = λ header e rack node. IsFull view header e rack node.engine;
   moved = TouchesFirstAlone view;
   stopped = FirstRose view.stops;
-  sends = false;
+  over = λ _. false;
 }
+
+-- it sends no frames
+never_over : {D : Type 0} (view : DiskView D) (node : Option OneNode) → overflown (lone view) node ≡ false
+never_over view None = refl
+never_over view (Some node) = refl
 
 runs_of : (header : Header) (P : Past → Event → List Body → Type 0) (es : List Event) (past : Past) (ending journal : List Line) → ((p : Past) (e : Event) (bodies : List Body) → Moment header p e bodies → P p e bodies)
     → Along (Moment header) nothing_yet es past → journal ≡ past.lines ++ ending → AreEnding (length es) ending → Runs P es journal
@@ -468,7 +473,7 @@ means view ending.Format stopped lines done rest reach rack at whole read counte
   tells = λ e. absurd (omega (arith, e));
   cut = cut_by stopped lines reach [] (inl refl);
 }
-means view ending.Frames stopped lines done rest reach rack at whole read counted nothing full why = absurd (both_ways false refl why.0)
+means view ending.Frames stopped lines done rest reach rack at whole read counted nothing full why = absurd (both_ways (overflown (lone view) at.machine) (never_over view at.machine) why.0)
 means view ending.Write stopped lines done rest reach rack at whole read counted nothing full why = absurd why
 means view ending.Memory stopped lines done rest reach rack at whole read counted nothing full why = absurd why
 
@@ -498,7 +503,7 @@ none_sent view ending.Memory stopped rest place rack at header count why = refl
 none_sent view ending.Lines stopped rest place rack at header count why = refl
 none_sent view ending.Labels stopped rest place rack at header count why = refl
 none_sent view ending.Format stopped rest place rack at header count why = refl
-none_sent view ending.Frames stopped rest place rack at header count why = absurd (both_ways false refl why.0)
+none_sent view ending.Frames stopped rest place rack at header count why = absurd (both_ways (overflown (lone view) at.machine) (never_over view at.machine) why.0)
 
 pub closed : {D : Type 0} (view : DiskView D) (given : Arrived) (first after_rack : List D) (journal : List Line) (end : End) → EndsSo (lone view) given first after_rack end journal → Closed view given first after_rack journal end
 closed {D} view given first after_rack journal end e =

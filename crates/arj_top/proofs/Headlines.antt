@@ -1,18 +1,18 @@
 -- What the top call shows, from what the loop left.
-use Rattle.std.proofs.Common.{◌≡◌, ◌⊎◌, inl, inr, ℕ, List, refl, sym, ◌∙◌, ap, subst, arith}
-use Rattle.std.specs.Prelude.{length, ◌++◌, []}
+use Rattle.std.proofs.Common.{◌≡◌, ◌⊎◌, ℕ, List, sym, ◌∙◌, subst}
+use Rattle.std.specs.Prelude.{◌++◌, []}
 use Rattle.std.proofs.Math.Logic.{⊎_elim}
 use Rattle.arj_base.specs.Count.{Rose}
 use Rattle.arj_journal.specs.declared.body.Line.{Line}
 use Rattle.arj_loop.specs.declared.ending.End.{End}
 use Rattle.arj_loop.specs.declared.ending.End.TheVariants as ending
-use Rattle.arj_loop.specs.Input.{Arrived, WentOn, script_of}
-use Rattle.arj_loop.specs.Replayed.{Answer, Closes, ComesSoFar, EndsSo, Outside, StopsShort, TookFront, answer}
+use Rattle.arj_loop.specs.Input.{Arrived}
+use Rattle.arj_loop.specs.Replayed.{Answer, Closes, ComesSoFar, EndsSo, Outside, StopsShort, answer}
 use Rattle.arj_loop.specs.Running.{status_of, why_of}
 use Rattle.arj_loop.proofs.Statuses.{is_format}
-use Rattle.arj_top.specs.Outcome.{Headline, RunEnds, RunStops, Shown}
+use Rattle.arj_top.specs.Outcome.{Headline, Shown}
 use Rattle.arj_top.specs.Outside.{DiskView, FirstRose}
-use Rattle.arj_top.proofs.Finish.{Closed, Short, closed, lone, stops_at}
+use Rattle.arj_top.proofs.Finish.{Short, closed, lone, stops_at}
 
 pub headline_of : {D : Type 0} (view : DiskView D) (before after : Outside D) (given_answer : Answer) → Closes (lone view) before after given_answer → Headline view before after given_answer
 headline_of view before after given_answer c =

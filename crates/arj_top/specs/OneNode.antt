@@ -1,5 +1,5 @@
 -- What a run of one node has done.
-use Rattle.std.specs.Prelude.{◌≡◌, ◌⊎◌, ◌≤◌, ℕ, ◌-◌, List, [], slice_get, slice_set, Some}
+use Rattle.std.specs.Prelude.{◌≡◌, ◌⊎◌, ◌≤◌, ◌-◌, List, slice_get, slice_set, Some}
 use Rattle.std.specs.List.{AllByRecursion}
 use Rattle.arj_engine.specs.declared.engine.Engine.{Engine}
 use Rattle.arj_engine.specs.Engine.{Stands}

@@ -1,5 +1,5 @@
 -- How a run ends, by its status.
-use Rattle.std.specs.Prelude.{None, ◌≡◌, ◌≢◌, ◌⊎◌, ◌≤◌, ◌<◌, ℕ, ◌+◌, List, [], ◌∷◌, ◌++◌, length, take, slice_get, true, false, is_some, Option, Some}
+use Rattle.std.specs.Prelude.{None, ◌≡◌, ◌≢◌, ◌⊎◌, ◌≤◌, ◌<◌, ℕ, ◌+◌, List, [], ◌∷◌, ◌++◌, length, take, slice_get, true, is_some, Option, Some}
 use Rattle.std.specs.List.{AllByRecursion}
 use Rattle.arj_io.specs.Told.{Takes}
 use Rattle.arj_journal.specs.declared.body.Body.{Body}
@@ -10,8 +10,8 @@ use Rattle.arj_journal.specs.declared.event.Event.{Event}
 use Rattle.arj_journal.specs.declared.header.Header.{Header}
 use Rattle.arj_journal.specs.LineForm.{LineInForm}
 use Rattle.arj_journal.specs.LineText.{text}
-use Rattle.arj_script.specs.Grammar.{Form, Run, Asks, Place, Start, Running, HasForm}
-use Rattle.arj_script.specs.Input.{Stopped, AtEnd, AtFault, lines_of, events_of}
+use Rattle.arj_script.specs.Grammar.{Form, Run, Asks, Place, Start, Running}
+use Rattle.arj_script.specs.Input.{Stopped, AtEnd, AtFault, events_of}
 use Rattle.arj_model.specs.Arms.{ArmsFit}
 use Rattle.arj_model.specs.Past.{Past, Along, nothing_yet}
 use Rattle.arj_model.specs.Causes.{IsPastLabels, Moment}

@@ -48,7 +48,7 @@ impl<D: Disk> Machine<D> for OneNode {
 
     ghost stopped = { FirstRose D.stops };
 
-    ghost sends = { false };
+    ghost over = { λ _. false };
 
     fn takes_nodes(count: u8) -> bool {
         count == 1
@@ -68,6 +68,10 @@ impl<D: Disk> Machine<D> for OneNode {
 
     fn stepped(&self) -> u32 {
         self.engine.stepped()
+    }
+
+    fn is_over(&self) -> bool {
+        false
     }
 
     fn step(

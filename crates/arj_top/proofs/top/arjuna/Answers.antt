@@ -1,8 +1,7 @@
 -- what the loop left, as the headline says it
-use Rattle.std.proofs.Common.{refl, sym, subst, arith}
+use Rattle.std.proofs.Common.{arith}
 use Rattle.arj_loop.specs.Replayed.{answer, outside}
 use Rattle.arj_top.specs.Outside.{told_by}
-use Rattle.arj_top.proofs.Alone.{alone_none}
 use Rattle.arj_top.proofs.Finish.{touched}
 use Rattle.arj_top.proofs.Headlines.{headline_of, shown_of, read_failed, format_stopped}
 use Rattle.arj_top.proofs.top.arjuna.Goals as goal

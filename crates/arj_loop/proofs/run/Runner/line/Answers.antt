@@ -13,22 +13,25 @@ use Rattle.arj_loop.proofs.run.Runner.line.Goals as goal
 -- the header that is being read has a count of nodes that is taken
 pub read_built-requires : goal.read_built-requires
 read_built-requires g c =
-    let s = c.requires.2 in
-    place_taken g.M.Machine.takes_nodes g.M.Machine.takes_event Start c.requires.1 s.forms c.args.self.now.reader tt s.read
+    let r = c.requires.stage in
+    let s = r.2 in
+    place_taken g.M.Machine.takes_nodes g.M.Machine.takes_event Start r.1 s.forms c.args.self.now.reader tt s.read
 
 pub start-requires-clause-form : goal.start-requires-clause-form
 start-requires-clause-form g c = subst TellsInForm c.in-Ok-Run.field-0-is c.in-Ok-Run.ensures.form
 
 pub start-requires-clause-takes : goal.start-requires-clause-takes
 start-requires-clause-takes g c =
-    let s = c.requires.2 in
+    let r = c.requires.stage in
+    let s = r.2 in
     let taken = subst (λ i. Taken (takes g.M.Machine.takes_nodes g.M.Machine.takes_event) c.args.self.now.reader c.args.line.now i c.read_built.new.reader) c.in-Ok-Run.field-0-is c.in-Ok-Run.ensures.taken in
-    header_taken g.M.Machine.takes_nodes g.M.Machine.takes_event c.requires.1 c.args.line.now s.forms c.args.self.now.reader c.read_built.new.reader c.in-Ok-Run.header s.read taken
+    header_taken g.M.Machine.takes_nodes g.M.Machine.takes_event r.1 c.args.line.now s.forms c.args.self.now.reader c.read_built.new.reader c.in-Ok-Run.header s.read taken
 
 pub start-requires-clause-ready : goal.start-requires-clause-ready
 start-requires-clause-ready g c =
     let taken = subst (λ i. Taken (takes g.M.Machine.takes_nodes g.M.Machine.takes_event) c.args.self.now.reader c.args.line.now i c.read_built.new.reader) c.in-Ok-Run.field-0-is c.in-Ok-Run.ensures.taken in
-    ready_at g.M.Machine c.requires.0 c.args.rack.now c.requires.1 c.args.line.now c.args.self.now.reader c.read_built.new.reader c.in-Ok-Run.header c.args.self.now.machine c.args.self.now.lines c.args.journal.now taken c.requires.2
+    let r = c.requires.stage in
+    ready_at g.M.Machine r.0 c.args.rack.now r.1 c.args.line.now c.args.self.now.reader c.read_built.new.reader c.in-Ok-Run.header c.args.self.now.machine c.args.self.now.lines c.args.journal.now taken r.2
 
 pub step-requires-clause-form : goal.step-requires-clause-form
 step-requires-clause-form g c =
@@ -43,7 +46,8 @@ step-requires-clause-takes g c =
 pub step-requires-clause-step : goal.step-requires-clause-step
 step-requires-clause-step g c =
     let taken = subst (λ i. Taken (takes g.M.Machine.takes_nodes g.M.Machine.takes_event) c.args.self.now.reader c.args.line.now i c.read_built.new.reader) c.in-Ok-Event.field-0-is c.in-Ok-Event.ensures.taken in
-    standing g.M.Machine c.requires.0 c.args.rack.now c.requires.1 c.args.line.now c.args.self.now.reader c.read_built.new.reader c.in-Ok-Event.event c.args.self.now.machine c.args.self.now.lines c.args.journal.now taken c.requires.2
+    let r = c.requires.stage in
+    standing g.M.Machine r.0 c.args.rack.now r.1 c.args.line.now c.args.self.now.reader c.read_built.new.reader c.in-Ok-Event.event c.args.self.now.machine c.args.self.now.lines c.args.journal.now taken r.2 c.requires.going
 
 pub returns-in-Ok-Blank-clause-went : goal.returns-in-Ok-Blank-clause-went
 returns-in-Ok-Blank-clause-went g c =

@@ -15,15 +15,15 @@ returns-in-Err-Frames-clause-ran g c =
     record { before = c.in-Some.machine; after = c.step.new.self; machine_was = c.in-Some.is; machine_is = refl; ran = c.in-Err-Frames.ensures.frames is; steps = over.1; lines = (let found = over.2 in found.0); grown = (let found = over.2 in found.1) }
 
 pub returns-in-Err-Frames-clause-full : goal.returns-in-Err-Frames-clause-full
-returns-in-Err-Frames-clause-full g c _ _ =
+returns-in-Err-Frames-clause-full g c _ =
     let over = c.in-Err-Frames.ensures.overflown (ap Err c.in-Err-Frames.field-0-is) in
-    (over.0, over.3)
+    over.3
 
 pub returns-in-Err-Labels-clause-labels : goal.returns-in-Err-Labels-clause-labels
 returns-in-Err-Labels-clause-labels g c _ =
     let is = ap Err c.in-Err-Labels.field-0-is in
     let kept = c.in-Err-Labels.ensures.kept is in
-    record { before = c.in-Some.machine; after = c.step.new.self; machine_was = c.in-Some.is; machine_is = refl; full = c.in-Err-Labels.ensures.labels is; steps = kept.0 }
+    record { before = c.in-Some.machine; after = c.step.new.self; machine_was = c.in-Some.is; machine_is = refl; full = c.in-Err-Labels.ensures.labels is; steps = kept.0; going = kept.1 }
 
 pub returns-in-Ok-clause-moved : goal.returns-in-Ok-clause-moved
 returns-in-Ok-clause-moved g c = moved_once g.M.Machine c.args.rack.now c.step.new.rack c.step.ensures.moved

@@ -21,7 +21,7 @@ returns-in-Long-clause-ended g c first before used earlier going few no_more =
 pub returns-in-Ok-clause-went : goal.returns-in-Ok-clause-went
 returns-in-Ok-clause-went g c first before used going =
     let bytes = take c.feed-fed.result.used c.args.bytes.now in
-    going_behind g.M.Machine first before used bytes c.feed-fed.new.self (work c.args.rack.now c.args.self.now c.args.journal.now (g.K.Sink.taken c.args.sink.now)) _ (subst (λ f. Takes c.args.self.now.cutter bytes f c.feed-fed.new.self) c.in-Line.is c.feed-fed.ensures.feeds.takes) going c.clear.ensures c.in-Ok.ensures.fits
+    going_behind g.M.Machine first before used bytes c.feed-fed.new.self (work c.args.rack.now c.args.self.now c.args.journal.now (g.K.Sink.taken c.args.sink.now)) _ (subst (λ f. Takes c.args.self.now.cutter bytes f c.feed-fed.new.self) c.in-Line.is c.feed-fed.ensures.feeds.takes) going c.clear.ensures c.in-Ok.ensures.going
     (c.in-Ok.ensures.went first (ended_lines used) going.stage) (c.in-Ok.ensures.gathers before going.gathers)
 
 pub returns-in-Err-clause-ended : goal.returns-in-Err-clause-ended

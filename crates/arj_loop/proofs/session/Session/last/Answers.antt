@@ -19,7 +19,7 @@ returns-in-Ok-clause-ended g c first before used earlier going no_more =
     let some = some_line line (ap (λ l. length l == 0) (sym c.line.ensures.is) ∙ (sym c.is_empty.ensures ∙ c.if-is_empty.false)) in
     let size = length-append (ended_lines used) (line ∷ []) in
     ended_end g.M.Machine first before used earlier (ended_lines used ++ line ∷ []) _ c.at_end-in-Ok.result c.at_end-in-Ok.ensures (lines_last used line going.in_hand some)
-    (c.in-Ok.ensures.went first (ended_lines used) going.stage) (c.in-Ok.ensures.gathers before going.gathers) (omega (arith, no_more, size)) (omega (arith, size))
+    (c.in-Ok.ensures.went first (ended_lines used) going.stage) c.in-Ok.ensures.going (c.in-Ok.ensures.gathers before going.gathers) (omega (arith, no_more, size)) (omega (arith, size))
 
 pub returns-in-Err-clause-ended : goal.returns-in-Err-clause-ended
 returns-in-Err-clause-ended g c first before used earlier going no_more =

@@ -12,7 +12,7 @@ returns-in-Err-clause-ended g c first before given done at =
     ended_line g.M.Machine first before given done (work c.args.rack.now c.args.self.now c.args.journal.now (g.K.Sink.taken c.args.sink.now)) _ c.in-Err.end
     (subst (λ line. RunnerEnds g.M.Machine (work c.args.rack.now (with_line c.args.self.now line) c.args.journal.now (g.K.Sink.taken c.args.sink.now))
     (work c.line-2.new.rack (record { runner = c.line-2.new.self; cutter = c.args.self.now.cutter; gather = c.args.self.now.gather }) c.line-2.new.journal (g.K.Sink.taken c.args.sink.now)) c.in-Err.end) c.line.ensures.is
-    (record { bad = e.bad; many = e.many; kept = e.kept; labels = e.labels; format = e.format; still = e.still; only = e.only; moved = e.moved; waits = refl; taken = refl }))
+    (record { bad = e.bad; many = e.many; kept = e.kept; labels = e.labels; labels_going = e.labels_going; format = e.format; still = e.still; only = e.only; moved = e.moved; waits = refl; taken = refl }))
     at
 
 pub returns-clause-gathers : goal.returns-clause-gathers
@@ -26,7 +26,7 @@ returns-then-is_overflown-clause-ended g c first before given done at =
     ended_frames g.M.Machine first before given done at.tail line _
     (whole_next (let s = script_of given in s.lines) done (line ∷ at.tail) line at.tail at.cut refl)
     (subst (λ l. StageOf g.M.Machine first c.line-2.new.rack (done ++ l ∷ []) c.line-2.new.self c.line-2.new.journal) c.line.ensures.is (c.in-Ok.ensures.went first done at.stage))
-    (c.in-Ok.ensures.full c.requires.fits (sym c.is_overflown.ensures ∙ c.if-is_overflown.true)) at.went_on at.past
+    (let over = sym c.is_overflown.ensures ∙ c.if-is_overflown.true in (over, c.in-Ok.ensures.full over)) at.went_on at.past
     (subst (λ js. Gathers js c.put_lines.new.self.waiting.items before (g.K.Sink.taken c.put_lines.new.sink)) (behind_as c.args.journal.now c.line-2.new.journal c.in-Ok.ensures.grown.0 c.as_slice-before.result.now c.as_slice.result.now c.as_slice-before.ensures c.as_slice.ensures c.in-Ok.ensures.grown.1)
     (c.in-Ok-put_lines.ensures.gathers c.args.journal.now before at.gathers))
 

@@ -15,7 +15,7 @@ loop-buffer-init g c =
     let r = c.requires.runner in
     let n = c.requires.nothing in
     record {
-      used = ([], [], [], going_first g.M.Machine (work c.args.rack.now c.args.self.now c.args.journal.now (g.K.Sink.taken c.args.sink.now)) c.requires.ready r.3 r.0 r.1 r.2 n.0 n.1 c.requires.fresh, gives_nothing (g.S.Source.left c.args.source.now), refl, omega arith, refl, refl);
+      used = ([], [], [], going_first g.M.Machine (work c.args.rack.now c.args.self.now c.args.journal.now (g.K.Sink.taken c.args.sink.now)) c.requires.ready r.0 r.1 r.2 n.0 n.1 c.requires.fresh, gives_nothing (g.S.Source.left c.args.source.now), refl, omega arith, refl, refl);
       no_fault = refl;
       steady = refl;
       moved = moved_none g.M.Machine c.args.rack.now;
@@ -36,7 +36,7 @@ returns-in_default-clause-ended g c =
     let going = going_flushed g.M.Machine c.args.rack.now (g.K.Sink.taken c.args.sink.now) i.0 (work c.loop-buffer.rack c.loop-buffer.self c.loop-buffer.journal (g.K.Sink.taken c.loop-buffer.sink)) c.flush.new.self (g.K.Sink.taken c.flush.new.sink) i.3 c.in-Ok.ensures.empty c.in-Ok.ensures.wrote in (
       arrived i.0 i.1 AtFault,
       came_fault (source_view (g.S.Source.left c.args.source.now) (g.S.Source.faults c.args.source.now)) (source_view (g.S.Source.left c.loop-buffer.source) (g.S.Source.faults c.loop-buffer.source)) (source_view (g.S.Source.left c.read.new.self) (g.S.Source.faults c.read.new.self)) i.0 i.1 i.2 i.4 c.in_default.ensures.kept c.loop-buffer.invariant.no_fault c.in_default.ensures.failed i.5 i.6 i.7 (going_short g.M.Machine c.args.rack.now (g.K.Sink.taken c.args.sink.now) i.0 (work c.loop-buffer.rack c.loop-buffer.self c.loop-buffer.journal (g.K.Sink.taken c.loop-buffer.sink)) i.3),
-      ended_fault g.M.Machine c.args.rack.now (g.K.Sink.taken c.args.sink.now) i.0 i.1 _ going.stage going.gathers (no_more i.0 i.1 i.2 i.5),
+      ended_fault g.M.Machine c.args.rack.now (g.K.Sink.taken c.args.sink.now) i.0 i.1 _ going.stage going.going going.gathers (no_more i.0 i.1 i.2 i.5),
     )
 
 pub last-requires : goal.last-requires

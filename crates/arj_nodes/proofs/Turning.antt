@@ -1,0 +1,100 @@
+-- One event more of a run of all nodes.
+use Rattle.std.proofs.Common.{◌≡◌, ℕ, ◌+◌, ◌<◌, ◌≤◌, List, [], ◌∷◌, ◌++◌, length, length-append, map, Bool, true, false, Some, refl, sym, ◌∙◌, ap, subst, arith}
+use Rattle.std.specs.Prelude.{All, get_or, slice_get}
+use Rattle.std.proofs.lemmas.List.{map-append}
+use Rattle.std.proofs.lemmas.Option.{slice_get-get_or, slice_get_within}
+use Rattle.std.proofs.lemmas.List.Elements.{All-get_or}
+use Rattle.arj_core.specs.declared.node.Core as core
+use Rattle.arj_disk.specs.Counted.{counts}
+use Rattle.arj_disk.specs.declared.disk.Disk as disk
+use Rattle.arj_disk.specs.declared.slot.Slot.{Slot}
+use Rattle.arj_journal.specs.declared.body.Line.{Line}
+use Rattle.arj_journal.specs.declared.event.Event.{Event}
+use Rattle.arj_journal.specs.declared.header.Header.{Header}
+use Rattle.arj_nodes.specs.AllNodes.{AreFresh, RanAll, world_after}
+use Rattle.arj_protocol.specs.World.{World, format}
+use Rattle.arj_world.specs.Disks.{HaveMoved, Moves}
+use Rattle.arj_world.specs.Happens.{IsOver, RunsOver, RunsTo}
+use Rattle.arj_world.specs.Stands.{Hand, Kept, Stands, StandsSome, hand}
+use Rattle.arj_world.specs.Turns.{Turn, all_turned, turned}
+use Rattle.arj_world.proofs.Disks.{moved_more, moved_none, moved_then}
+use Rattle.arj_world.proofs.First.{all_at}
+use Rattle.arj_world.proofs.Stepping.{is_there}
+
+turned_more : (turns : List Turn) (t : Turn) (w : World) → all_turned (turns ++ t ∷ []) w ≡ turned t (all_turned turns w)
+turned_more [] t w = refl
+turned_more (s ∷ turns) t w = turned_more turns t (turned s w)
+
+abbrev unmarked : World → World
+unmarked w = record w { over = false }
+
+module _ {C D : Type 0} (c : core.Ghosts C) (d : disk.Ghosts D) where
+  -- the mark that a run is over
+  opened : (h : Hand C D) (w : World) → Stands c d.file h w → Stands c d.file h (unmarked w)
+  opened h w s = record { header = s.header; frames = s.frames; lines = s.lines; labels = s.labels; arms = s.arms; event = s.event; full = s.full; over = refl; nodes = s.nodes }
+
+  as_it_is : (h : Hand C D) (w : World) → w.over ≡ false → Stands c d.file h (unmarked w) → Stands c d.file h w
+  as_it_is h w is s = record { header = s.header; frames = s.frames; lines = s.lines; labels = s.labels; arms = s.arms; event = s.event; full = s.full; over = is; nodes = s.nodes }
+
+  -- where no frame was too many, the nodes stand for what the protocol made
+  stands_now : (first : List D) (header : Header) (events : List Event) (now : Hand C D) → (r : RanAll c d first header events false now) → Stands c d.file now (world_after header r.turns)
+  stands_now first header events now r = as_it_is now (world_after header r.turns) r.is_over r.stands
+
+  pub stands_some : (first : List D) (header : Header) (events : List Event) (now : Hand C D) → RanAll c d first header events false now → StandsSome c d.file now
+  stands_some first header events now r = (world_after header r.turns, stands_now first header events now r)
+
+  -- no disk was armed too often
+  pub arms_left : (first : List D) (header : Header) (events : List Event) (over : Bool) (now : Hand C D) → RanAll c d first header events over now → now.kept.event < 200000 → All (λ one. d.arms one < 4294967295) now.disks
+  arms_left first header events over now r room k one less =
+      let at : slice_get now.disks k ≡ Some (get_or now.disks k one) = slice_get-get_or now.disks k one less in
+      let was = is_there k first (omega (arith, less, r.disks.count)) in
+      let moves : Moves (length events) (counts d was.0) (counts d (get_or now.disks k one)) = r.disks.each k was.0 (get_or now.disks k one) was.1 at in
+      let few : d.arms was.0 < 1000 = all_at (λ some. d.arms some < 1000) k first was.0 r.fresh was.1 in
+      let rose : d.arms (get_or now.disks k one) ≤ d.arms was.0 + length events = moves.few in
+      omega (arith, few, rose, r.counted, room)
+
+  -- the nodes are formatted
+  pub ran_first : (header : Header) (kept : Kept C) (first rack : List D) → AreFresh d first → Stands c d.file (hand kept rack []) (format header) → HaveMoved d 0 first rack → RanAll c d first header [] false (hand kept rack [])
+  ran_first header kept first rack fresh s moved = record {
+    turns = [];
+    are = refl;
+    stands = opened (hand kept rack []) (format header) s;
+    is_over = refl;
+    counted = sym s.event;
+    disks = moved;
+    fresh = fresh.1;
+  }
+
+  -- a turn more, by what it left
+  ran_turn : (first : List D) (header : Header) (events : List Event) (e : Event) (over : Bool) (old new : Hand C D) (t : Turn) → (r : RanAll c d first header events false old) → t.event ≡ e
+      → Stands c d.file new (unmarked (turned t (world_after header r.turns))) → (let w = turned t (world_after header r.turns) in w.over) ≡ over
+      → new.kept.event ≡ old.kept.event + 1 → HaveMoved d 1 old.disks new.disks → RanAll c d first header (events ++ e ∷ []) over new
+  ran_turn first header events e over old new t r is s is_over counted moved =
+      let more = turned_more r.turns t (format header) in
+      let size = length-append events (e ∷ []) in record {
+        turns = r.turns ++ t ∷ [];
+        are = map-append (λ s. s.event) r.turns (t ∷ []) ∙ (λ i. r.are i ++ is i ∷ []);
+        stands = subst (λ w. Stands c d.file new (unmarked w)) (sym more) s;
+        is_over = ap (λ w. w.over) more ∙ is_over;
+        counted = omega (arith, counted, r.counted, size);
+        disks = subst (λ n. HaveMoved d n first new.disks) (sym size) (moved_then d (length events) 1 first old.disks new.disks r.disks moved);
+        fresh = r.fresh;
+      }
+
+  -- an event was run
+  pub ran_more : (first : List D) (header : Header) (events : List Event) (e : Event) (old new : Hand C D) → RunsTo c d.file e old new → new.kept.event ≡ old.kept.event + 1 → HaveMoved d 1 old.disks new.disks
+      → RanAll c d first header events false old → RanAll c d first header (events ++ e ∷ []) false new
+  ran_more first header events e old new runs counted moved r =
+      let w = world_after header r.turns in
+      let ran = runs w (stands_now first header events old r) in
+      let t : Turn = record { event = e; falls = ran.falls } in
+      let s = ran.stands in
+      ran_turn first header events e false old new t r refl (opened new (turned t w) s) s.over counted moved
+
+  -- an event was run, and a frame didn't fit
+  pub ran_over : (first : List D) (header : Header) (events : List Event) (e : Event) (old new : Hand C D) → RunsOver c d.file e old new → new.kept.event ≡ old.kept.event + 1 → HaveMoved d 1 old.disks new.disks
+      → RanAll c d first header events false old → RanAll c d first header (events ++ e ∷ []) true new
+  ran_over first header events e old new runs counted moved r =
+      let ran = runs (world_after header r.turns) (stands_now first header events old r) in
+      let s = ran.stands in
+      ran_turn first header events e true old new (record { event = e; falls = ran.falls }) r refl s.stands s.over counted moved

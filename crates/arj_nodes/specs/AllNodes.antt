@@ -1,0 +1,41 @@
+-- What all nodes have run of a script.
+use Rattle.std.specs.Prelude.{ℕ, ◌≡◌, ◌<◌, Bool, true, false, All, List, length, map, None}
+use Rattle.arj_core.specs.declared.node.Core as core
+use Rattle.arj_disk.specs.declared.disk.Disk as disk
+use Rattle.arj_disk.specs.declared.slot.Slot.{Slot}
+use Rattle.arj_journal.specs.declared.event.Event.{Event}
+use Rattle.arj_journal.specs.declared.header.Header.{Header}
+use Rattle.arj_protocol.specs.Step.{first_reason}
+use Rattle.arj_protocol.specs.World.{World, format, giving, lacks_labels, reasons}
+use Rattle.arj_world.specs.Disks.{HaveMoved}
+use Rattle.arj_world.specs.Stands.{Hand, Keeps, Kept, Stands}
+use Rattle.arj_world.specs.Turns.{Turn, all_turned}
+
+-- the disks on which a run may begin: empty, and not armed often so far
+abbrev pub AreFresh : {D : Type 0} → disk.Ghosts D → List D → Type 0
+AreFresh d rack = All (λ one. (slot : Slot) → d.file one slot ≡ None) rack × All (λ one. d.arms one < 1000) rack
+
+-- the world that the protocol makes of these turns
+abbrev pub world_after : Header → List Turn → World
+world_after header turns = all_turned turns (format header)
+
+-- From these disks on, under this header, these events were run: the world in hand is what the protocol makes of a turn for
+-- each of them, which says what stops fell in it. Whether it is over, since a frame didn't fit, is told beside.
+pub record RanAll {C D : Type 0} (c : core.Ghosts C) (d : disk.Ghosts D) (first : List D) (header : Header) (events : List Event) (over : Bool) (now : Hand C D) : Type 0 where
+  pub turns : List Turn
+  pub are : map (λ t. t.event) turns ≡ events
+  -- but for the mark that a limit ended the run
+  pub stands : Stands c d.file now (record (world_after header turns) { over = false })
+  pub is_over : (let w = world_after header turns in w.over) ≡ over
+  -- the nodes' own count of events, and what became of the disks' counts
+  pub counted : now.kept.event ≡ length events
+  pub disks : HaveMoved d (length events) first now.disks
+  pub fresh : All (λ one. d.arms one < 1000) first
+
+-- wherever the nodes are those of a world, it doesn't refuse the event, which would give one label too many
+abbrev pub LacksLabels : {C : Type 0} → core.Ghosts C → Kept C → Event → Type 0
+LacksLabels c kept e = (w : World) → Keeps c kept w → (None ≡ first_reason (reasons e w)) × (lacks_labels (giving e w) w ≡ true)
+
+-- What calls one after another did to the disks: no count of stops fell, and each of them armed one of them once at most.
+abbrev pub MovesOn : {D : Type 0} → disk.Ghosts D → List D → List D → Type 0
+MovesOn d before after = (calls : ℕ) × HaveMoved d calls before after

@@ -1,0 +1,4 @@
+pub mod Built
+pub mod AllNodes
+pub mod AsMachine
+pub mod Command
