@@ -10,3 +10,6 @@ pub mod Labels
 pub mod Acting
 pub mod Ticking
 pub mod Showing
+pub mod Voids
+pub mod Hearing
+pub mod Taking
