@@ -9,9 +9,9 @@ use Rattle.arj_protocol.specs.Words.loaded
 use Rattle.arj_protocol.specs.Ask.{Reply, actor, answers}
 use Rattle.arj_protocol.specs.Asking.{again_all, begin_action, heard}
 use Rattle.arj_protocol.specs.Call.{Steps}
-use Rattle.arj_protocol.specs.Commit.{Plan}
+use Rattle.arj_protocol.specs.Commit.{Plan, Voting}
 use Rattle.arj_disk_view_law.specs.Pairs.{Among}
-use Rattle.arj_protocol.specs.Coord.{Calling, Doing, doing_of}
+use Rattle.arj_protocol.specs.Coord.{Calling, Committing, Doing, doing_of}
 use Rattle.arj_protocol.specs.Effect.{Disk, Effect}
 use Rattle.arj_protocol.specs.Ending.{acked, answer_query}
 use Rattle.arj_protocol.specs.Follow.{tick_outs}
@@ -21,7 +21,7 @@ use Rattle.arj_protocol.specs.Tree.{next_uid, path_below}
 use Rattle.arj_protocol.specs.World.{format, is_serial_kind, numbered, run_all}
 use Rattle.arj_protocol.proofs.CoordSays.{acked_own, acts_own, again_own, heard_own, query_own}
 use Rattle.arj_part_law.specs.Actions.{Action, act_of, paths_of}
-use Rattle.arj_part_law.specs.Coords.{IsGoodCoord}
+use Rattle.arj_part_law.specs.Coords.{IsBusy, IsGoodCoord, IsVoting}
 use Rattle.arj_part_law.specs.Copies.{IsTree}
 use Rattle.arj_part_law.proofs.Begun.{begun_tree}
 use Rattle.arj_part_law.proofs.TrueSteps.{true_query, well_acked, well_acts, well_again, well_heard}
@@ -48,7 +48,7 @@ use Rattle.arj_disk_run_law.specs.Facts.{Gives}
 use Rattle.arj_disk_run_law.specs.Kinds.{Agrees, AreOfOneNode, kinds_of}
 use Rattle.arj_disk_run_law.specs.Places.{ArePlaced}
 use Rattle.arj_disk_run_law.specs.Records.{AreRecorded}
-use Rattle.arj_disk_run_law.specs.Sound.{AreOwnStates, AreSound, FitsVote, IsOwnVote, IsUsedAt, VotesFit, voted_in, voted_states}
+use Rattle.arj_disk_run_law.specs.Sound.{AreOwnStates, AreSound, FitsVote, IsOwnAnswer, IsOwnVote, IsUsedAt, VotesFit}
 use Rattle.arj_disk_run_law.specs.Runs.{IsSeenInRun, RunsAgree}
 use Rattle.arj_disk_run_law.proofs.Begun.{kinds_agree}
 use Rattle.arj_disk_run_law.proofs.Copies.{copies_agree}
@@ -122,15 +122,19 @@ module _ (begun : List Action) (e k : ℕ) (d : Disk) (t : Parts) (M : Seen) (go
   heard_means from a r = let q = heard from a r d.intents t.coord in coord_means begun q.part q.outs (well_heard begun (paths_of begun) tree from a r d.intents t.coord coord).1 (heard_own from a r d.intents t.coord)
 
   -- an answer that can be meant is taken
-  heard_placed : (from : ℕ) (m : Message) → In (record { from = from; to = k; message = m }) M.sent → is_meant t m ≡ true → VotesFit k t M → IsOwnVote (voted_states m) → AreSound t.coord → (a : Asked) (r : Reply) → answers m ≡ Some (a, r) → All begun (let q = heard from a r d.intents t.coord in q.outs) × AreSound (let q = heard from a r d.intents t.coord in q.part)
+  heard_placed : (from : ℕ) (m : Message) → In (record { from = from; to = k; message = m }) M.sent → is_meant t m ≡ true → VotesFit k t M → IsOwnVote m → AreSound t.coord → (a : Asked) (r : Reply) → answers m ≡ Some (a, r) → All begun (let q = heard from a r d.intents t.coord in q.outs) × AreSound (let q = heard from a r d.intents t.coord in q.part)
   heard_placed from m sent meant votes own sound a r is = (
     heard_means from a r,
     sound_heard from a r d.intents t.coord (λ st s q same at now. uid_is st.uid (object s.x) (sym (loads st s q same at now) ∙ (and_parts (asked_is_meant t.server (asks m)) (answer_is_meant t.coord (answers m)) meant).1))
-        (λ states q p left same at now req on. fits states p (subst IsOwnVote (ap voted_in (is ∙ ap (λ z. Some (a, z)) same)) own) (votes from m a states sent (is ∙ ap (λ z. Some (a, z)) same) q p left at now req on)) sound,
+        (λ states q p left same at now req on. fits states p (its_path q p left at now) (subst IsOwnAnswer (is ∙ ap (λ z. Some (a, z)) same) own) (votes from m a states sent (is ∙ ap (λ z. Some (a, z)) same) q p left at now req on)) sound,
   )
     where
-      fits : (states : List ObjectState) (p : Plan) → AreOwnStates states → ((s : ObjectState) → Among s states → IsUsedAt p from s.uid.num) → FitsVote p from states
-      fits states p its used = record { used = λ s i. let u = used s i in record { own = its.own s i; used = u.used; found = u.found; server = u.server }; once = its.once }
+      -- the plan is by the top's path
+      its_path : (q : Doing) (p : Plan) (left : List ℕ) → doing_of a.act t.coord ≡ Some q → q.now ≡ Committing (Voting p left) → actor p.path ≡ a.act
+      its_path q p left at now = let v : IsVoting t.coord.tree a.act p = subst (IsBusy t.coord.tree a.act) now (coord.busy a.act q at) in let b = v.asking in ap actor (sym b.path) ∙ coord.tree.lists.places a.act b.branch b.found
+
+      fits : (states : List ObjectState) (p : Plan) → actor p.path ≡ a.act → AreOwnStates a.act states → ((s : ObjectState) → Among s states → IsUsedAt p from s.uid.num) → FitsVote p from states
+      fits states p path its used = record { used = λ s i. let u = used s i in record { own = its.own s i; writer = its.writer s i ∙ sym path; used = u.used; found = u.found; server = u.server }; once = its.once }
 
       loads : (st : ObjectState) (s : Steps) (q : Doing) → r ≡ Reply.Loaded (loaded.State st) → doing_of a.act t.coord ≡ Some q → q.now ≡ Calling s → answer_is_meant t.coord (answers m) ≡ uid_eq st.uid (object s.x)
       loads st s q same at now = ap (answer_is_meant t.coord) is ∙ ap (reply_is_meant t.coord a) same ∙ ap (is_loaded_for st) at ∙ ap (is_loaded_in st) now

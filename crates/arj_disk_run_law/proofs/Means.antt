@@ -26,36 +26,36 @@ use Rattle.arj_part_law.specs.Claims.{AreTrue, is_of_coord}
 use Rattle.arj_disk_view_law.proofs.ConfirmWalks.{locks_say}
 use Rattle.arj_disk_view_law.proofs.HeardWalks.{is_say}
 use Rattle.arj_disk_run_law.specs.Places.{IsAboutBegun, IsBegun, MeansBegun, asked_about}
-use Rattle.arj_disk_run_law.specs.Sound.{IsOwnVote, voted_of, voted_states}
+use Rattle.arj_disk_run_law.specs.Sound.{AreOwnIn, IsOwnVote, voted_of}
 use Rattle.arj_disk_run_law.proofs.Lists.{all_append}
 
 -- no request, and no end that is told, asks about anybody, or votes
-unasked : (m : Message) → is_of_coord m ≡ true → (asked_about m ≡ None) × (voted_states m ≡ None)
+unasked : (m : Message) → is_of_coord m ≡ true → (asked_about m ≡ None) × IsOwnVote m
 unasked (message.Query m) is = let no_way : false ≡ true = is in cc
 unasked (message.Voted m) is = let no_way : false ≡ true = is in cc
-unasked (message.Told m) is = (refl, refl)
-unasked (message.Acked m) is = (refl, refl)
-unasked (message.Hello m) is = (refl, refl)
-unasked (message.Bind m) is = (refl, refl)
-unasked (message.Bound m) is = (refl, refl)
-unasked (message.Load m) is = (refl, refl)
-unasked (message.Loaded m) is = (refl, refl)
-unasked (message.Activate m) is = (refl, refl)
-unasked (message.Activated m) is = (refl, refl)
-unasked (message.RecordMsg m) is = (refl, refl)
-unasked (message.Recorded m) is = (refl, refl)
-unasked (message.Invoke m) is = (refl, refl)
-unasked (message.Invoked m) is = (refl, refl)
-unasked (message.Vote m) is = (refl, refl)
-unasked (message.Prepare m) is = (refl, refl)
-unasked (message.Prepared m) is = (refl, refl)
-unasked (message.Confirm m) is = (refl, refl)
-unasked (message.Confirmed m) is = (refl, refl)
+unasked (message.Told m) is = (refl, tt)
+unasked (message.Acked m) is = (refl, tt)
+unasked (message.Hello m) is = (refl, tt)
+unasked (message.Bind m) is = (refl, tt)
+unasked (message.Bound m) is = (refl, tt)
+unasked (message.Load m) is = (refl, tt)
+unasked (message.Loaded m) is = (refl, tt)
+unasked (message.Activate m) is = (refl, tt)
+unasked (message.Activated m) is = (refl, tt)
+unasked (message.RecordMsg m) is = (refl, tt)
+unasked (message.Recorded m) is = (refl, tt)
+unasked (message.Invoke m) is = (refl, tt)
+unasked (message.Invoked m) is = (refl, tt)
+unasked (message.Vote m) is = (refl, tt)
+unasked (message.Prepare m) is = (refl, tt)
+unasked (message.Prepared m) is = (refl, tt)
+unasked (message.Confirm m) is = (refl, tt)
+unasked (message.Confirmed m) is = (refl, tt)
 
 -- an answer that votes has states of their own objects
-abbrev pub IsOwnReply : Option Reply → Type 0
-IsOwnReply None = Unit {0}
-IsOwnReply (Some r) = IsOwnVote (voted_of r)
+abbrev pub IsOwnReply : Uid → Option Reply → Type 0
+IsOwnReply top None = Unit {0}
+IsOwnReply top (Some r) = AreOwnIn top (voted_of r)
 
 module _ (acts : List Action) where
   abbrev pub All : List Effect → Type 0
@@ -66,7 +66,7 @@ module _ (acts : List Action) where
 
   -- a coordinator prepares nothing, and sends requests and ends
   asks_of : (to : ℕ) (m : Message) → is_of_coord m ≡ true → MeansBegun acts (Send to m)
-  asks_of to m is = let none = unasked m is in (subst (IsAboutBegun acts to) (sym none.0) tt, subst IsOwnVote (sym none.1) tt)
+  asks_of to m is = let none = unasked m is in (subst (IsAboutBegun acts to) (sym none.0) tt, none.1)
 
   pub coord_means : (c : Coord) (es : List Effect) → AreTrue c es → AreAll is_coord_effect es → All es
   coord_means c [] its own = tt
@@ -89,7 +89,7 @@ module _ (acts : List Action) where
   again_means [] = tt
   again_means (e ∷ es) = let i = e.1 in both (tell_all i.root true ((e.0, ending.Commit) ∷ []) i.nodes) (tolds_again es) (tells_mean i.root true ((e.0, ending.Commit) ∷ []) i.nodes) (again_means es)
 
-  pub response_means : (to : ℕ) (a : Asked) (r : Reply) → IsOwnVote (voted_of r) → MeansBegun acts (Send to (response a r))
+  pub response_means : (to : ℕ) (a : Asked) (r : Reply) → AreOwnIn a.act (voted_of r) → MeansBegun acts (Send to (response a r))
   response_means to a (Reply.Bound r) own = (tt, tt)
   response_means to a (Reply.Loaded r) own = (tt, tt)
   response_means to a (Reply.Activated i) own = (tt, tt)

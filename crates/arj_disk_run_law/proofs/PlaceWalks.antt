@@ -41,7 +41,7 @@ use Rattle.arj_disk_view_law.proofs.FirstSeen.{first_at}
 use Rattle.arj_disk_view_law.proofs.Frames.{node_here}
 use Rattle.arj_disk_view_law.proofs.ServedWalks.{bind_says, note_says}
 use Rattle.arj_disk_run_law.specs.Places.{AreBegunIn, AreCallRows, AreKeyed, AreEntryRows, AreNamesRows, ArePlaced, AsksBegun, IsAboutBegun, IsBegun, IsCallRow, IsEntryRow, IsPlaced, IsPlacedUp, IsTopPath, MeansBegun, asked_about}
-use Rattle.arj_disk_run_law.specs.Sound.{AreSound, IsOwnVote, voted_of, voted_states}
+use Rattle.arj_disk_run_law.specs.Sound.{AreOwnIn, AreSound, IsOwnVote, voted_of}
 use Rattle.arj_disk_run_law.proofs.EntryRows.{rows_bind, rows_confirm, rows_hello, rows_note, rows_recovered, rows_told}
 use Rattle.arj_disk_run_law.proofs.Holders.{begun_more, call_more, call_top, entry_top, path_more, top_path_is}
 use Rattle.arj_disk_run_law.proofs.Lists.{all_append, all_each, all_filter, all_keys, all_put, all_set, all_tops, all_without}
@@ -115,7 +115,7 @@ module _ (acts : List Action) where
   down_one k d b = record { store = b.0; names = b.1; live = λ t is. absurd (cc is) }
 
   abbrev Asks : Seen → Type 0
-  Asks M = (p : Post) → seen.In p M.sent → AsksBegun acts p.to p.message × IsOwnVote (voted_states p.message)
+  Asks M = (p : Post) → seen.In p M.sent → AsksBegun acts p.to p.message × IsOwnVote p.message
 
   down_all : (e k : ℕ) (d : Disk) (M : Seen) → Others k M → Asks M → Lines M → Both d → ArePlaced acts (halted e k d M)
   down_all e k d M others asks lines b = record { nodes = all_nodes k d None M others (down_one k d b); asks = λ p i. (asks p i).0; votes = λ p i. (asks p i).1; lines = lines_more M (numbered e (body.Halted k ∷ [])) lines }
@@ -134,8 +134,8 @@ module _ (acts : List Action) where
   places_walk e k v placed (Say l ∷ es) d M others asks lines b all = places_walk e k v placed es d (said e (l ∷ []) M) others asks (lines_more M (numbered e (l ∷ [])) lines) b all.1
   places_walk e k v placed (Send to m ∷ es) d M others asks lines b all = λ more quiet. places_walk e k v placed es d (said e more (posted (record { from = k; to = to; message = m }) M)) others (asked all.0) (lines_more M (numbered e more) lines) b all.1
     where
-      asked : MeansBegun acts (Send to m) → (p : Post) → seen.In p (record { from = k; to = to; message = m } ∷ M.sent) → AsksBegun acts p.to p.message × IsOwnVote (voted_states p.message)
-      asked its p (inl same) = subst (λ (q : Post). AsksBegun acts q.to q.message × IsOwnVote (voted_states q.message)) same its
+      asked : MeansBegun acts (Send to m) → (p : Post) → seen.In p (record { from = k; to = to; message = m } ∷ M.sent) → AsksBegun acts p.to p.message × IsOwnVote p.message
+      asked its p (inl same) = subst (λ (q : Post). AsksBegun acts q.to q.message × IsOwnVote q.message) same its
       asked its p (inr old) = asks p old
 
   -- what a handler has to show
@@ -186,14 +186,14 @@ module _ (acts : List Action) where
     abbrev By : Handled → Type 0
     By h = PlacedBy k h
 
-    answered : (h : Head) (v : Parts) (outs : List Effect) (o : Option Reply) → IsOwnReply o → All acts outs → IsPlacedUp acts k v → By (sends_answer from h v outs o)
+    answered : (h : Head) (v : Parts) (outs : List Effect) (o : Option Reply) → IsOwnReply (actor h.path) o → All acts outs → IsPlacedUp acts k v → By (sends_answer from h v outs o)
     answered h v outs None own all up = tt
     answered h v outs (Some r) own all up = (both acts outs (Send from (response (asked_by h) r) ∷ []) all (response_means acts from (asked_by h) r own, tt), up)
 
     -- an answer of another kind votes nothing
-    no_vote : {R : Type 0} (say : R → Reply) → ((r : R) → IsOwnVote (voted_of (say r))) → (o : Option R) → IsOwnReply (option_map say o)
-    no_vote say each None = tt
-    no_vote say each (Some r) = each r
+    no_vote : {R : Type 0} (top : Uid) (say : R → Reply) → ((r : R) → AreOwnIn top (voted_of (say r))) → (o : Option R) → IsOwnReply top (option_map say o)
+    no_vote top say each None = tt
+    no_vote top say each (Some r) = each r
 
     with_it : (f : Naming → Handled) (o : Option Naming) → t.naming ≡ o → ((m : Naming) → t.naming ≡ Some m → By (f m)) → By (if_naming f o)
     with_it f None is each = tt
@@ -220,7 +220,7 @@ module _ (acts : List Action) where
 
         by : (a : Ask) → ByTop (Some (h, a)) → By (serve k d t from h a)
         by (ask.Bind x include avoid) top = with_it (λ o. served from h (with_naming t) Reply.Bound (naming.bind h.path x include avoid d.names o)) t.naming refl
-            (λ m is. let r = naming.bind h.path x include avoid d.names m in answered h (with_naming t r.part) r.outs (option_map Reply.Bound r.reply) (no_vote Reply.Bound (λ r. tt) r.reply) (says_mean acts r.outs (bind_says h.path x include avoid d.names m)) (named_so m r.part is (rows_bind acts begun h.path path x include avoid d.names m (its_rows m is))))
+            (λ m is. let r = naming.bind h.path x include avoid d.names m in answered h (with_naming t r.part) r.outs (option_map Reply.Bound r.reply) (no_vote (actor h.path) Reply.Bound (λ r. tt) r.reply) (says_mean acts r.outs (bind_says h.path x include avoid d.names m)) (named_so m r.part is (rows_bind acts begun h.path path x include avoid d.names m (its_rows m is))))
         by (ask.Load x) top = load (holder_of (object x) d.store)
           where
             held : (s : Option ObjectState) → By (load_held from h t s)
@@ -230,10 +230,10 @@ module _ (acts : List Action) where
             load : (o : Option Uid) → By (load_by x d.store from h t o)
             load (Some u) = (((tt, tt), tt), placed)
             load None = held (held_at (object x) d.store)
-        by (ask.Activate b st) top = let r = server.activate k h.path b st t.server in answered h (with_server t r.part) r.outs (option_map Reply.Activated r.reply) (no_vote Reply.Activated (λ r. tt) r.reply) (server_means acts k r.outs (activate_own k h.path b st t.server)) (served_so r.part (rows_activate acts begun k h.path b st t.server (placed.calls, placed.keys)))
+        by (ask.Activate b st) top = let r = server.activate k h.path b st t.server in answered h (with_server t r.part) r.outs (option_map Reply.Activated r.reply) (no_vote (actor h.path) Reply.Activated (λ r. tt) r.reply) (server_means acts k r.outs (activate_own k h.path b st t.server)) (served_so r.part (rows_activate acts begun k h.path b st t.server (placed.calls, placed.keys)))
         by (ask.Record x b i g) top = with_it (λ o. served from h (with_naming t) Reply.Noted (naming.note h.path x b i g o)) t.naming refl
-            (λ m is. let r = naming.note h.path x b i g m in answered h (with_naming t r.part) r.outs (option_map Reply.Noted r.reply) (no_vote Reply.Noted (λ r. tt) r.reply) (says_mean acts r.outs (note_says h.path x b i g m)) (named_so m r.part is (rows_note acts begun h.path x b i g m (its_rows m is))))
-        by (ask.Invoke x b i ends o) top = let r = server.invoke k h x b i ends o t.server in answered h (with_server t r.part) r.outs (option_map Reply.Invoked r.reply) (no_vote Reply.Invoked (λ r. tt) r.reply) (server_means acts k r.outs (invoke_own k h x b i ends o t.server)) (served_so r.part (rows_invoke acts begun k h x b i ends o t.server (who.0, who.1, ap uids_of (sym who.2), ap tops_of (sym who.2)) (placed.calls, placed.keys)))
+            (λ m is. let r = naming.note h.path x b i g m in answered h (with_naming t r.part) r.outs (option_map Reply.Noted r.reply) (no_vote (actor h.path) Reply.Noted (λ r. tt) r.reply) (says_mean acts r.outs (note_says h.path x b i g m)) (named_so m r.part is (rows_note acts begun h.path x b i g m (its_rows m is))))
+        by (ask.Invoke x b i ends o) top = let r = server.invoke k h x b i ends o t.server in answered h (with_server t r.part) r.outs (option_map Reply.Invoked r.reply) (no_vote (actor h.path) Reply.Invoked (λ r. tt) r.reply) (server_means acts k r.outs (invoke_own k h x b i ends o t.server)) (served_so r.part (rows_invoke acts begun k h x b i ends o t.server (who.0, who.1, ap uids_of (sym who.2), ap tops_of (sym who.2)) (placed.calls, placed.keys)))
         by (ask.Vote i ties ends) top = let r = server.vote k h.path i ties ends t.server in answered h (with_server t r.part) r.outs (option_map Reply.Voted r.reply) (votes_own acts begun k h.path i ties ends t.server (placed.calls, placed.keys)) (server_means acts k r.outs (vote_own k h.path i ties ends t.server)) (served_so r.part (rows_vote acts begun k h.path i ties ends t.server (placed.calls, placed.keys)))
         by (ask.Prepare states) top = one (is_prepared (actor h.path) d.store)
           where
@@ -247,7 +247,7 @@ module _ (acts : List Action) where
             one true = (((tt, tt), tt), placed)
             one false = new (prepare_answer (actor h.path) states d.store)
         by (ask.Confirm grants excluded included) top = with_it (λ o. served from h (with_naming t) Reply.Confirmed (confirm h.path grants excluded included d.names o)) t.naming refl
-            (λ m is. let r = confirm h.path grants excluded included d.names m in answered h (with_naming t r.part) r.outs (option_map Reply.Confirmed r.reply) (no_vote Reply.Confirmed (λ r. tt) r.reply) (confirm_means acts h.path grants excluded included d.names m (subst (IsBegun acts) top act)) (named_so m r.part is (rows_confirm acts begun h.path path grants excluded included d.names m (its_rows m is))))
+            (λ m is. let r = confirm h.path grants excluded included d.names m in answered h (with_naming t r.part) r.outs (option_map Reply.Confirmed r.reply) (no_vote (actor h.path) Reply.Confirmed (λ r. tt) r.reply) (confirm_means acts h.path grants excluded included d.names m (subst (IsBegun acts) top act)) (named_so m r.part is (rows_confirm acts begun h.path path grants excluded included d.names m (its_rows m is))))
 
     coord_left : (r : Served Coord (Unit {0})) → All acts r.outs → AreSound r.part → By (coord_heard t r)
     coord_left r all sound = by r.reply

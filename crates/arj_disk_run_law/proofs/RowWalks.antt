@@ -63,12 +63,12 @@ keyed_each f (e ∷ es) keyed = (above_each f e.0 es keyed.0, keyed_each f es ke
 -- ---- what a server votes
 
 -- a state that a top made is of the object in whose copy it made it
-state_of : (top : Uid) (x : ℕ) (c : Copy) (s : ObjectState) → changed_state top x c ≡ Some s → s.uid ≡ object x
+state_of : (top : Uid) (x : ℕ) (c : Copy) (s : ObjectState) → changed_state top x c ≡ Some s → (s.uid ≡ object x) × (s.writer ≡ top)
 state_of top x c s is = by (over_of top c.stack) is
   where
-    by : (o : Option Over) → option_map (λ (e : Over). record { uid = object x; class = class_of c.base.value; version = next_version c.base.version; writer = top; payload = payload_of e.value }) o ≡ Some s → s.uid ≡ object x
+    by : (o : Option Over) → option_map (λ (e : Over). record { uid = object x; class = class_of c.base.value; version = next_version c.base.version; writer = top; payload = payload_of e.value }) o ≡ Some s → (s.uid ≡ object x) × (s.writer ≡ top)
     by None h = absurd (cc h)
-    by (Some e) h = let same : record { uid = object x; class = class_of c.base.value; version = next_version c.base.version; writer = top; payload = payload_of e.value } ≡ s = cc h in ap (λ (z : ObjectState). z.uid) (sym same)
+    by (Some e) h = let same : record { uid = object x; class = class_of c.base.value; version = next_version c.base.version; writer = top; payload = payload_of e.value } ≡ s = cc h in (ap (λ (z : ObjectState). z.uid) (sym same), ap (λ (z : ObjectState). z.writer) (sym same))
 
 module _ (top : Uid) where
   abbrev Changed : List (ℕ × Copy) → List ObjectState
@@ -83,7 +83,7 @@ module _ (top : Uid) where
       by None is i ih = ih i
       by (Some t) is (inr more) ih = ih more
       by (Some t) is (inl same) ih =
-          let of : s.uid ≡ object e.0 = ap (λ (z : ObjectState). z.uid) (sym same) ∙ state_of top e.0 e.1 t is in
+          let of : s.uid ≡ object e.0 = ap (λ (z : ObjectState). z.uid) (sym same) ∙ (state_of top e.0 e.1 t is).0 in
           (of ∙ ap (λ (u : Uid). object u.num) (sym of), subst (λ n. k < n) (ap (λ (u : Uid). u.num) (sym of)) all.0)
 
   one_each : (objects : List (ℕ × Copy)) → AreKeyed objects → (s t : ObjectState) → Among s (Changed objects) → Among t (Changed objects) → s.uid ≡ t.uid → s ≡ t
@@ -92,7 +92,7 @@ module _ (top : Uid) where
     where
       apart : (a b w : ObjectState) → changed_state top e.0 e.1 ≡ Some w → w ≡ a → Among b (Changed es) → a.uid ≡ b.uid → ⊥
       apart a b w is here there equal =
-          let of : a.uid ≡ object e.0 = ap (λ (z : ObjectState). z.uid) (sym here) ∙ state_of top e.0 e.1 w is in
+          let of : a.uid ≡ object e.0 = ap (λ (z : ObjectState). z.uid) (sym here) ∙ (state_of top e.0 e.1 w is).0 in
           let less = (places es e.0 keyed.0 b there).1 in
           omega (arith, less, ap (λ (u : Uid). u.num) (sym of ∙ equal))
 
@@ -103,20 +103,20 @@ module _ (top : Uid) where
       by (Some w) is (inl a) (inr j) ih = absurd (apart s t w is a j same)
       by (Some w) is (inr i) (inl b) ih = absurd (apart t s w is b i (sym same))
 
-changed_own : (top : Uid) (s : Server) → AreKeyed s.objects → AreOwnStates (changed_states top s)
-changed_own top s keyed = record { own = own; once = one_each top s.objects keyed }
+changed_own : (top : Uid) (s : Server) → AreKeyed s.objects → AreOwnStates top (changed_states top s)
+changed_own top s keyed = record { own = λ w i. (each_own s.objects w i).0; once = one_each top s.objects keyed; writer = λ w i. (each_own s.objects w i).1 }
   where
-    each_own : (objects : List (ℕ × Copy)) (w : ObjectState) → Among w (filter_map (λ (e : ℕ × Copy). changed_state top e.0 e.1) objects) → w.uid ≡ object w.uid.num
+    Its : ObjectState → Type 0
+    Its w = (w.uid ≡ object w.uid.num) × (w.writer ≡ top)
+
+    each_own : (objects : List (ℕ × Copy)) (w : ObjectState) → Among w (filter_map (λ (e : ℕ × Copy). changed_state top e.0 e.1) objects) → Its w
     each_own [] w none = absurd none
     each_own (e ∷ es) w i = by (changed_state top e.0 e.1) refl i (each_own es w)
       where
-        by : (o : Option ObjectState) → changed_state top e.0 e.1 ≡ o → Among w (cons_option o (filter_map (λ (e : ℕ × Copy). changed_state top e.0 e.1) es)) → (Among w (filter_map (λ (e : ℕ × Copy). changed_state top e.0 e.1) es) → w.uid ≡ object w.uid.num) → w.uid ≡ object w.uid.num
+        by : (o : Option ObjectState) → changed_state top e.0 e.1 ≡ o → Among w (cons_option o (filter_map (λ (e : ℕ × Copy). changed_state top e.0 e.1) es)) → (Among w (filter_map (λ (e : ℕ × Copy). changed_state top e.0 e.1) es) → Its w) → Its w
         by None is j ih = ih j
         by (Some t) is (inr more) ih = ih more
-        by (Some t) is (inl same) ih = let of : w.uid ≡ object e.0 = ap (λ (z : ObjectState). z.uid) (sym same) ∙ state_of top e.0 e.1 t is in of ∙ ap (λ (u : Uid). object u.num) (sym of)
-
-    own : (w : ObjectState) → Among w (changed_states top s) → w.uid ≡ object w.uid.num
-    own w i = each_own s.objects w i
+        by (Some t) is (inl same) ih = let f = state_of top e.0 e.1 t is in let of : w.uid ≡ object e.0 = ap (λ (z : ObjectState). z.uid) (sym same) ∙ f.0 in (of ∙ ap (λ (u : Uid). object u.num) (sym of), ap (λ (z : ObjectState). z.writer) (sym same) ∙ f.1)
 
 module _ (acts : List Action) (begun : AreBegun acts) where
   abbrev CopyKnown : Copy → Type 0
@@ -209,13 +209,13 @@ module _ (acts : List Action) (begun : AreBegun acts) where
       by false = now (either (other_inc i s.inc) (first_unbound ties s))
 
   -- a vote's states are each of its own object
-  pub votes_own : (n : ℕ) (p : Path) (i : ℕ) (ties : List (ℕ × Binding)) (ends : List (Uid × End)) (s : Server) → AreSo s.objects → IsOwnReply (option_map Reply.Voted (let r = vote n p i ties ends s in r.reply))
+  pub votes_own : (n : ℕ) (p : Path) (i : ℕ) (ties : List (ℕ × Binding)) (ends : List (Uid × End)) (s : Server) → AreSo s.objects → IsOwnReply (actor p) (option_map Reply.Voted (let r = vote n p i ties ends s in r.reply))
   votes_own n p i ties ends s all = by (has_ended p s)
     where
-      now : (w : Option What) → IsOwnReply (option_map Reply.Voted (let r = vote_now n (actor p) ends s w in r.reply))
+      now : (w : Option What) → IsOwnReply (actor p) (option_map Reply.Voted (let r = vote_now n (actor p) ends s w in r.reply))
       now (Some w) = tt
       now None = let d = apply_ends n ends s in changed_own (actor p) d.part (rows_told n ends s all).1
 
-      by : (b : Bool) → IsOwnReply (option_map Reply.Voted (let r = cond {A = Served Server VotedReply} b (void s) (vote_now n (actor p) ends s (either (other_inc i s.inc) (first_unbound ties s))) in r.reply))
+      by : (b : Bool) → IsOwnReply (actor p) (option_map Reply.Voted (let r = cond {A = Served Server VotedReply} b (void s) (vote_now n (actor p) ends s (either (other_inc i s.inc) (first_unbound ties s))) in r.reply))
       by true = tt
       by false = now (either (other_inc i s.inc) (first_unbound ties s))

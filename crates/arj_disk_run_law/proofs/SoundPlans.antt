@@ -184,9 +184,9 @@ tidy_on p q same t = let r = subst All (sym same) (t.apart, t.once, t.distinct, 
     All : List Used → Type 0
     All us = AreApart us × ((u : Used) → Uses u us → used_at u.x us ≡ Some u) × ((u : Used) → Uses u us → AreDistinct u.joins) × ((u : Used) (s : ℕ) → Uses u us → order.has u.joins s ≡ true → (st : ObjectState) × (u.loaded ≡ Some st)) × ((u : Used) (st : ObjectState) → Uses u us → u.loaded ≡ Some st → st.uid ≡ object u.x)
 
-changed_on : (p q : Plan) (left : List ℕ) → q.used ≡ p.used → q.changed ≡ p.changed → AreChanged p left → AreChanged q left
-changed_on p q left used changed c = record {
-  used = λ s i. let u = c.used s (subst (Among s) changed i) in record { own = u.own; used = u.used; found = ap (λ us. used_at s.uid.num us) used ∙ u.found; server = u.server };
+changed_on : (p q : Plan) (left : List ℕ) → q.path ≡ p.path → q.used ≡ p.used → q.changed ≡ p.changed → AreChanged p left → AreChanged q left
+changed_on p q left path used changed c = record {
+  used = λ s i. let u = c.used s (subst (Among s) changed i) in record { own = u.own; writer = u.writer ∙ ap actor (sym path); used = u.used; found = ap (λ us. used_at s.uid.num us) used ∙ u.found; server = u.server };
   once = subst AreOneEach (sym changed) c.once;
 }
 
@@ -207,7 +207,7 @@ IsNextSound (Aborts why p) = Unit {0}
 
 confirm_sound : (p : Plan) → IsTidy p → AreChanged p [] → (us : List Used) → p.used ≡ us → IsNextSound (begin_confirm us p)
 confirm_sound p tidy changed [] is = changed
-confirm_sound p tidy changed (u ∷ us) is = record { tidy = tidy_on p (further (1 ∷ []) p) refl tidy; changed = changed_on p (further (1 ∷ []) p) [] refl refl changed; way = tt; used = u; more = us; uses = is }
+confirm_sound p tidy changed (u ∷ us) is = record { tidy = tidy_on p (further (1 ∷ []) p) refl tidy; changed = changed_on p (further (1 ∷ []) p) [] refl refl refl changed; way = tt; used = u; more = us; uses = is }
 
 -- whoever asks a node uses something
 asks_using : (p : Plan) (f : List Used → List ℕ) → f [] ≡ [] → (n : ℕ) (ns : List ℕ) → f p.used ≡ n ∷ ns → (u : Used) × (us : List Used) × (p.used ≡ u ∷ us)
@@ -224,7 +224,7 @@ prepare_sound : (p : Plan) → IsTidy p → AreChanged p [] → (ns : List ℕ) 
 prepare_sound p tidy changed [] is = confirm_sound p tidy changed p.used refl
 prepare_sound p tidy changed (s ∷ ss) is =
     let u = asks_using p (λ us. number_set (flat_map (λ (v : Used). stores_by v (changed_of v.x p)) us)) refl s ss is in
-    record { tidy = tidy_on p (further (s ∷ ss) p) refl tidy; changed = changed_on p (further (s ∷ ss) p) [] refl refl changed; way = (s, first_on s ss); used = u.0; more = u.1; uses = u.2 }
+    record { tidy = tidy_on p (further (s ∷ ss) p) refl tidy; changed = changed_on p (further (s ∷ ss) p) [] refl refl refl changed; way = (s, first_on s ss); used = u.0; more = u.1; uses = u.2 }
 
 vote_sound : (p : Plan) → IsTidy p → IsUnanswered p → p.changed ≡ [] → (ns : List ℕ) → servers_of p ≡ ns → IsNextSound (begin_vote ns p)
 vote_sound p tidy new none [] is = prepare_sound p tidy (none_changed p [] none) (targets_of p) refl
@@ -240,8 +240,8 @@ stores_sound : (p : Plan) (ns : List ℕ) → IsTidy p → AreChanged p [] → (
 stores_sound p [] tidy changed u us is = confirm_sound p tidy changed p.used refl
 stores_sound p (n ∷ ns) tidy changed u us is = record { tidy = tidy; changed = changed; way = (n, first_on n ns); used = u; more = us; uses = is }
 
-marks_used : (ns : List ℕ) (p : Plan) → (let q = marks_stores ns p in (q.used ≡ p.used) × (q.changed ≡ p.changed))
-marks_used [] p = (refl, refl)
+marks_used : (ns : List ℕ) (p : Plan) → (let q = marks_stores ns p in (q.used ≡ p.used) × (q.changed ≡ p.changed) × (q.path ≡ p.path))
+marks_used [] p = (refl, refl, refl)
 marks_used (n ∷ ns) p = marks_used ns (marks_store n p)
 
 -- ---- a vote
@@ -262,8 +262,8 @@ with_all s (w ∷ ws) all i = ⊎_elim (λ more. inl (inr more)) (λ rest. ⊎_e
 vote_changed : (p : Plan) (left : List ℕ) (from : ℕ) (states : List ObjectState) → order.has left from ≡ true → AreChanged p left → FitsVote p from states → AreChanged (record p { changed = with_states states p.changed }) (without_number from left)
 vote_changed p left from states on changed fits = record {
   used = λ s i. ⊎_elim
-      (λ new. let f = fits.used s new in record { own = f.own; used = f.used; found = f.found; server = ap (order.has (without_number from left)) f.server ∙ gone from left })
-      (λ old. let f = changed.used s old in record { own = f.own; used = f.used; found = f.found; server = fewer from f.used.server left f.server })
+      (λ new. let f = fits.used s new in record { own = f.own; writer = f.writer; used = f.used; found = f.found; server = ap (order.has (without_number from left)) f.server ∙ gone from left })
+      (λ old. let f = changed.used s old in record { own = f.own; writer = f.writer; used = f.used; found = f.found; server = fewer from f.used.server left f.server })
       (with_all s states p.changed i);
   once = λ s t i j same. ⊎_elim
       (λ new. ⊎_elim (λ other_new. fits.once s t new other_new same) (λ old. absurd (crosses s t new old same)) (with_all t states p.changed j))
@@ -292,8 +292,8 @@ answer_sound from (Voting p left) (Reply.Noted r) s on votes = s
 answer_sound from (Voting p left) (Reply.Invoked r) s on votes = s
 answer_sound from (Voting p left) (Reply.Prepared r) s on votes = s
 answer_sound from (Voting p left) (Reply.Confirmed r) s on votes = s
-answer_sound from (Preparing p left) (Reply.Prepared prepared.Yes) s on votes = let q : Plan = record p { prepared = with_number from p.prepared } in stores_sound q (without_number from left) (tidy_on p q refl s.tidy) (changed_on p q [] refl refl s.changed) s.used s.more s.uses
-answer_sound from (Preparing p left) (Reply.Prepared (prepared.InDoubt x h)) s on votes = stores_sound (marks_store from p) (without_number from left) (tidy_on p (marks_store from p) refl s.tidy) (changed_on p (marks_store from p) [] refl refl s.changed) s.used s.more s.uses
+answer_sound from (Preparing p left) (Reply.Prepared prepared.Yes) s on votes = let q : Plan = record p { prepared = with_number from p.prepared } in stores_sound q (without_number from left) (tidy_on p q refl s.tidy) (changed_on p q [] refl refl refl s.changed) s.used s.more s.uses
+answer_sound from (Preparing p left) (Reply.Prepared (prepared.InDoubt x h)) s on votes = stores_sound (marks_store from p) (without_number from left) (tidy_on p (marks_store from p) refl s.tidy) (changed_on p (marks_store from p) [] refl refl refl s.changed) s.used s.more s.uses
 answer_sound from (Preparing p left) (Reply.Prepared (prepared.Old x v)) s on votes = tt
 answer_sound from (Preparing p left) (Reply.Bound r) s on votes = s
 answer_sound from (Preparing p left) (Reply.Loaded r) s on votes = s
@@ -302,7 +302,7 @@ answer_sound from (Preparing p left) (Reply.Noted r) s on votes = s
 answer_sound from (Preparing p left) (Reply.Invoked r) s on votes = s
 answer_sound from (Preparing p left) (Reply.Voted r) s on votes = s
 answer_sound from (Preparing p left) (Reply.Confirmed r) s on votes = s
-answer_sound from (Confirming p) (Reply.Confirmed confirmed.Yes) s on votes = changed_on p (record p { confirmed = true }) [] refl refl s.changed
+answer_sound from (Confirming p) (Reply.Confirmed confirmed.Yes) s on votes = changed_on p (record p { confirmed = true }) [] refl refl refl s.changed
 answer_sound from (Confirming p) (Reply.Confirmed (confirmed.Conflict h m)) s on votes = tt
 answer_sound from (Confirming p) (Reply.Confirmed (confirmed.Changed w)) s on votes = tt
 answer_sound from (Confirming p) (Reply.Confirmed (confirmed.NoStores x)) s on votes = tt
@@ -317,7 +317,7 @@ answer_sound from (Confirming p) (Reply.Prepared r) s on votes = s
 
 pub given_up_sound : (m : Machine) → IsSound m → IsNextSound (commit.given_up m).step
 given_up_sound (Voting p left) s = tt
-given_up_sound (Preparing p left) s = let u = marks_used left p in stores_sound (marks_stores left p) [] (tidy_on p (marks_stores left p) u.0 s.tidy) (changed_on p (marks_stores left p) [] u.0 u.1 s.changed) s.used s.more (u.0 ∙ s.uses)
+given_up_sound (Preparing p left) s = let u = marks_used left p in stores_sound (marks_stores left p) [] (tidy_on p (marks_stores left p) u.0 s.tidy) (changed_on p (marks_stores left p) [] u.2 u.0 u.1 s.changed) s.used s.more (u.0 ∙ s.uses)
 given_up_sound (Confirming p) s = tt
 
 pub start_sound : (p : Path) (req : ℕ) (r : Root) (c : Coord) → IsOwnRoot r → IsNextSound (let m = commit.start (plan_for p req r c) in m.step)

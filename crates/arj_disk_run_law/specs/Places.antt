@@ -15,7 +15,7 @@ use Rattle.arj_part_law.specs.Actions.{Action, act_of}
 use Rattle.arj_view_law.specs.Seen as seen
 use Rattle.arj_view_law.specs.Seen.{Post, Seen}
 use Rattle.arj_disk_view_law.specs.Sees.{was_begun}
-use Rattle.arj_disk_run_law.specs.Sound.{AreSound, IsOwnVote, voted_states}
+use Rattle.arj_disk_run_law.specs.Sound.{AreSound, IsOwnVote}
 
 -- the action was begun
 abbrev pub IsBegun : List Action → Uid → Type 0
@@ -90,12 +90,12 @@ AsksBegun acts to m = IsAboutBegun acts to (asked_about m)
 -- who prepares something was begun, and who is asked about; and a vote's states are each of its own object
 abbrev pub MeansBegun : List Action → Effect → Type 0
 MeansBegun acts (Do (Prepare r u states)) = IsBegun acts u
-MeansBegun acts (Send to m) = AsksBegun acts to m × IsOwnVote (voted_states m)
+MeansBegun acts (Send to m) = AsksBegun acts to m × IsOwnVote m
 MeansBegun acts _ = ⊤
 
 -- So it is at each node, and of each message that was sent; and each action that was begun has its line.
 pub record ArePlaced (acts : List Action) (M : Seen) : Type 0 where
   pub nodes : (k : ℕ) (n : Node) → M.nodes k ≡ Some n → IsPlaced acts k n
   pub asks : (p : Post) → seen.In p M.sent → AsksBegun acts p.to p.message
-  pub votes : (p : Post) → seen.In p M.sent → IsOwnVote (voted_states p.message)
+  pub votes : (p : Post) → seen.In p M.sent → IsOwnVote p.message
   pub lines : (a : Action) → Contains acts a → was_begun (act_of a) M.lines ≡ true

@@ -3,7 +3,7 @@ use Rattle.std.specs.Prelude.{⊤, ◌≡◌, ℕ, true, false, List, [], ◌∷
 use Rattle.std.specs.List.{AllByRecursion}
 use Rattle.arj_protocol.specs.Words.{Asked, Message, ObjectState, Uid, VotedReply, object}
 use Rattle.arj_protocol.specs.Words.voted
-use Rattle.arj_protocol.specs.Ask.{Reply, answers}
+use Rattle.arj_protocol.specs.Ask.{Reply, actor, answers}
 use Rattle.arj_protocol.specs.Commit as commit
 use Rattle.arj_protocol.specs.Coord.{Coord, Doing, Joined, Now, Committing, Root, doing_of}
 use Rattle.arj_protocol.specs.Node.{Parts}
@@ -14,9 +14,10 @@ use Rattle.arj_disk_view_law.specs.Knows.{IsUnderWay}
 use Rattle.arj_disk_view_law.specs.Pairs.{Among}
 use Rattle.arj_disk_view_law.specs.Plans.{IsTidy, used_at}
 
--- the state is of an object that the plan uses, at a server of which this holds
+-- the state is of an object that the plan uses, at a server of which this holds, and its action wrote it
 pub record IsUsedState (p : commit.Plan) (Q : ℕ → Type 0) (s : ObjectState) : Type 0 where
   pub own : s.uid ≡ object (let u = s.uid in u.num)
+  pub writer : s.writer ≡ actor p.path
   pub used : commit.Used
   pub found : used_at (let u = s.uid in u.num) p.used ≡ Some used
   pub server : Q used.server
@@ -34,22 +35,23 @@ abbrev pub voted_of : Reply → Option (List ObjectState)
 voted_of (Reply.Voted r) = states_in r
 voted_of _ = None
 
-abbrev pub voted_in : Option (Asked × Reply) → Option (List ObjectState)
-voted_in None = None
-voted_in (Some a) = voted_of a.1
-
--- the states that a message votes
-abbrev pub voted_states : Message → Option (List ObjectState)
-voted_states m = voted_in (answers m)
-
--- they are each of the object of its number, of each object one
-pub record AreOwnStates (states : List ObjectState) : Type 0 where
+-- They are each of the object of its number, of each object one, and this top wrote them.
+pub record AreOwnStates (top : Uid) (states : List ObjectState) : Type 0 where
   pub own : (s : ObjectState) → Among s states → s.uid ≡ object (let u = s.uid in u.num)
   pub once : AreOneEach states
+  pub writer : (s : ObjectState) → Among s states → s.writer ≡ top
 
-abbrev pub IsOwnVote : Option (List ObjectState) → Type 0
-IsOwnVote None = ⊤
-IsOwnVote (Some states) = AreOwnStates states
+abbrev pub AreOwnIn : Uid → Option (List ObjectState) → Type 0
+AreOwnIn top None = ⊤
+AreOwnIn top (Some states) = AreOwnStates top states
+
+-- an answer that votes has states of its asker's own
+abbrev pub IsOwnAnswer : Option (Asked × Reply) → Type 0
+IsOwnAnswer None = ⊤
+IsOwnAnswer (Some a) = AreOwnIn (let q = a.0 in q.act) (voted_of a.1)
+
+abbrev pub IsOwnVote : Message → Type 0
+IsOwnVote m = IsOwnAnswer (answers m)
 
 -- What a server votes fits a plan: states of objects that the plan uses there, of each object one.
 pub record FitsVote (p : commit.Plan) (from : ℕ) (states : List ObjectState) : Type 0 where
