@@ -60,7 +60,7 @@ filter_both f g (s ∷ ss) = by (g s) (f s) refl refl (filter_both f g ss)
     by false true e h ih = ih
     by false false e h ih = ih
 
-take_out : (ms ss : List ℕ) → without_stores ms ss ≡ filter (λ s. not (is_listed s ms)) ss
+pub take_out : (ms ss : List ℕ) → without_stores ms ss ≡ filter (λ s. not (is_listed s ms)) ss
 take_out [] ss = sym (all ss)
   where
     all : (ss : List ℕ) → filter (λ (s : ℕ). true) ss ≡ ss

@@ -1,6 +1,7 @@
 pub mod Binding
 pub mod EndActs
 pub mod GrantSteps
+pub mod ListEnds
 pub mod ListSteps
 pub mod Locks
 pub mod NewConfirms

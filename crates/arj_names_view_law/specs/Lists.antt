@@ -1,18 +1,22 @@
 -- What a root keeps of an object's store list, as the disk machine's naming half has it.
-use Rattle.std.specs.Prelude.{◌≡◌, ◌⊎◌, ◌<◌, ℕ, Bool, true, false, List, Some, None, Contains}
+use Rattle.std.specs.Prelude.{◌≡◌, ◌⊎◌, ◌<◌, ℕ, Bool, true, false, List, map, Some, None, Contains}
 use Rattle.arj_protocol.specs.Words.{Uid, Binding, is_on}
 use Rattle.arj_protocol.specs.Asking.{is_named}
 use Rattle.arj_protocol.specs.Call.{At, Known, bound_by}
+use Rattle.arj_protocol.specs.Commit as commit
+use Rattle.arj_protocol.specs.Commit.{Used, included_of}
 use Rattle.arj_protocol.specs.Coord as coord
 use Rattle.arj_protocol.specs.Coord.{Coord, Grant, Root, Said, granted_with, is_called, kept_of, survives}
+use Rattle.arj_protocol.specs.Ending.{kept_after}
 use Rattle.arj_protocol.specs.Order.{uid_number}
 use Rattle.arj_protocol.specs.Tree.{is_spent}
 use Rattle.arj_disk_law.specs.Guards.{IsPresent}
 use Rattle.arj_disk_law.specs.Named.{Named}
 use Rattle.arj_disk_law.specs.Names as machine
-use Rattle.arj_disk_law.specs.Names.{Names, Office, Answer, Kept}
+use Rattle.arj_disk_law.specs.Names.{Names, Office, Answer, Kept, lists_after, retained}
 use Rattle.arj_disk_law.specs.State.{State, Idle}
 use Rattle.arj_disk_law.specs.Words.{In, has}
+use Rattle.arj_disk_view_law.specs.Confirming.{SaysMarks}
 use Rattle.arj_disk_view_law.specs.Sees.{Kinds, IsFixed}
 use Rattle.arj_names_view_law.specs.Grants.{SeesGrants}
 use Rattle.arj_names_view_law.specs.Memory.{NamesGo}
@@ -102,3 +106,43 @@ pub record HasKeptList (x : ℕ) (root t : Uid) (r : Root) (S : State) (N : Name
 abbrev pub CommitsHaveLists : Type 0
 CommitsHaveLists = (x : ℕ) (tops : Kinds) (root t : Uid) (c : Coord) (r : Root) (A : Office) → Named A → IsFixed tops A.world.disk → SeesLists x tops root c r A.names → IsLasting x c r → IsTopOf tops root t
     → ((s : Said) → Contains r.said s → survives t s.path c ≡ true → is_spent s.path c.tree ≡ false) → is_called x t r c ≡ true → HasKeptList x root t r A.world.disk A.names
+
+-- ---- a call is answered
+
+-- The root after a call on an object is answered: it is noted, for an action below a top.
+pub record AfterCall (y : ℕ) (path : List Uid) (r q : Root) : Type 0 where
+  pub grants : q.grants ≡ r.grants
+  pub kept : (x : ℕ) → kept_of x q ≡ kept_of x r
+  pub said : (s : Said) → Contains q.said s → Contains r.said s ⊎ (s ≡ record { path = path; x = y })
+
+-- Where the object is the call's, its tops have a list; what is kept there is no nothing.
+abbrev pub AnsweredCallsHaveLists : Type 0
+AnsweredCallsHaveLists = (x y : ℕ) (tops : Kinds) (root : Uid) (c : Coord) (r q : Root) (path : List Uid) (N : Names) → SeesLists x tops root c r N → AfterCall y path r q
+    → (y ≡ x → (k : Known) × (kept_of x r ≡ Some k) × ((t : Uid) → is_on path t ≡ true → IsTopOf tops root t → HasList N (uid_number t) k ⊎ HasRetained N (uid_number root) k) × (coord.is_retained path c ≡ true → HasRetained N (uid_number root) k))
+    → SeesLists x tops root c q N
+
+-- ---- a decision
+
+-- The root after a decision of a top: its exclusions are out of the kept list, and its inclusions are in it. No call is spent by
+-- it; and who is retained from now on is below the top.
+pub record AfterDecision (x : ℕ) (t : Uid) (p : commit.Plan) (c d : Coord) (r q : Root) : Type 0 where
+  pub grants : q.grants ≡ r.grants
+  pub said : q.said ≡ r.said
+  pub kept : kept_of x q ≡ kept_after p x (kept_of x r)
+  pub spent : (s : Said) → Contains r.said s → is_spent s.path d.tree ≡ is_spent s.path c.tree
+
+-- what the Confirm of the plan says is what the machine has of the top
+abbrev pub IsSaid : ℕ → State → Uid → commit.Plan → Type 0
+IsSaid x S t p = SaysMarks x (S.plan (uid_number t)) (S.got (uid_number t)) (map {A = Used} {B = ℕ × ℕ} (λ u. (u.x, u.grant)) p.used) p.excluded (included_of p)
+
+-- Lists stay the root's by a decision of which nothing is retained, and by one that is retained.
+abbrev pub DecisionsKeepLists : Type 0
+DecisionsKeepLists = (x : ℕ) (tops : Kinds) (root t : Uid) (c d : Coord) (r q : Root) (p : commit.Plan) (S : State) (N : Names) → IsFixed tops S → SeesLists x tops root c r N → IsTopOf tops root t → tops.root (uid_number root) ≡ uid_number root → IsSaid x S t p → AfterDecision x t p c d r q
+    → ((s : Said) → Contains r.said s → coord.is_retained s.path d ≡ true → coord.is_retained s.path c ≡ true)
+    → SeesLists x tops root d q (record N { kept = lists_after S (uid_number t) N.kept })
+
+abbrev pub RetainedListsAreSeen : Type 0
+RetainedListsAreSeen = (x : ℕ) (tops : Kinds) (root t : Uid) (c d : Coord) (r q : Root) (p : commit.Plan) (S : State) (N : Names) → IsFixed tops S → SeesLists x tops root c r N → ((h : ℕ) (l : Kept) → N.kept h ≡ Some l → N.had h l.since ≡ true)
+    → IsTopOf tops root t → tops.root (uid_number root) ≡ uid_number root → tops.is_serial (uid_number root) ≡ true → IsSaid x S t p → AfterDecision x t p c d r q
+    → ((s : Said) → Contains r.said s → coord.is_retained s.path d ≡ true → (coord.is_retained s.path c ≡ true) ⊎ ((is_on s.path t ≡ true) × (is_spent s.path c.tree ≡ false)))
+    → SeesLists x tops root d q (retained S (uid_number t) (record N { kept = lists_after S (uid_number t) N.kept }))
