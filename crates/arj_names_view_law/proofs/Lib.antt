@@ -3,6 +3,7 @@ pub mod EndActs
 pub mod GrantSteps
 pub mod ListEnds
 pub mod ListSteps
+pub mod LoadSteps
 pub mod Locks
 pub mod NewConfirms
 pub mod Noting

@@ -4,16 +4,18 @@
 //! told of and whom it confirmed. `specs/Memory.antt` ties that to what the protocol's naming has. Each call of naming is then
 //! a list of the machine's acts, each of which may be done when it comes (`specs/Calls.antt`, `specs/Restarts.antt`); and what a
 //! Confirm counts on of the locks, which the disk half takes as known, follows (`specs/Booked.antt`). What it gives upward:
-//! naming's calls, one by one, `new_confirms_are_booked`, and what coordinators have of naming's grants and store lists
-//! (`specs/Grants.antt`, `specs/Lists.antt`).
+//! naming's calls, one by one, `new_confirms_are_booked`, and what coordinators have of naming's grants, store lists and loads
+//! (`specs/Grants.antt`, `specs/Lists.antt`, `specs/Loads.antt`).
 #![tactic(auto)]
 
 mod booked;
 mod calls;
 mod coordinators;
+mod loads;
 mod restarts;
 
 pub use booked::new_confirms_are_booked;
 pub use calls::{ends_are_acts, locks_are_acts};
 pub use coordinators::{grants_are_seen, lists_are_seen};
+pub use loads::loads_are_seen;
 pub use restarts::restarts_are_acts;
