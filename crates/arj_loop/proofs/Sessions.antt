@@ -26,6 +26,7 @@ use Rattle.arj_loop.specs.Built.{HasFormOf, IsBadOf, IsBadWhy}
 use Rattle.arj_loop.specs.Input.{Arrived, Came, SourceView, WentOn, ReadsFewPast, arrived, script, script_of, source_view}
 use Rattle.arj_loop.specs.Replayed.{Answer, Closes, EndsSo, Outside, StopsShort, answer, outside}
 use Rattle.arj_loop.specs.Running.{Stage, StageOf, Reached, Halfway, Hand, Gathers, Fronts, Work, IsGoing, IsAtLine, HasEnded, IsOverflown, Moved, built_by, end_of, hand, hand_of, lines_before, overflown, status_of, why_of, work}
+use Rattle.arj_loop.specs.Written.{IsWritten}
 use Rattle.arj_loop.proofs.Bytes.{short_of}
 use Rattle.arj_loop.proofs.Cuts.{fed_none, fed_line, fed_long, lines_line, lines_long, lines_last, lines_none}
 use Rattle.arj_loop.proofs.Stages.{Limited, moved_none}
@@ -390,6 +391,11 @@ going_flushed view first before used was gather taken g none took = record {
   gathers = gathers_empty was.journal was.session.gather.waiting.items gather.waiting.items before was.taken taken none g.gathers took;
   going = g.going;
 }
+
+-- where nothing waits the sink took all
+pub all_written : (journal : List Line) (waiting : List ℕ) (before after : Option (List ℕ)) → Gathers journal waiting before after → waiting ≡ [] → IsWritten journal after
+all_written journal waiting before after gathers none =
+    (before, subst (λ bytes. IsTaken before bytes after) (sym (gathers.1 ∙ ap (λ w. gathers.0 ++ w) none ∙ append-nil gathers.0)) gathers.2)
 
 -- or it isn't
 pub ended_flush : {D M : Type 0} (view : Ghosts M D) (first : List D) (before : Option (List ℕ)) (used earlier : List ℕ) (was : Work D M) (gather : Gather) (taken : Option (List ℕ)) (count : ℕ) → IsGoing view first before used was → length (ended_lines earlier) ≤ length (ended_lines used)

@@ -4,3 +4,4 @@ pub mod Limits
 pub mod Replayed
 pub mod Running
 pub mod TextTells
+pub mod Written

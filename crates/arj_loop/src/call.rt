@@ -7,21 +7,23 @@ ghost use Rattle.arj_loop.specs.Running.{Moved, last_body, last_lines, events_ru
 ghost use Rattle.arj_script.specs.Grammar.{Start};
 ghost use Rattle.arj_script.specs.declared.limits.TheConstants.{SCRIPT_LINES};
 
+use crate::asked::AskedSource;
 use crate::ending::{BadLine, End};
 use crate::machine::Machine;
 use crate::session::Session;
 use arj_disk::{Disk, Rack};
-use arj_io::{Failed, Sink, Source};
+use arj_io::{Failed, Sink};
 use arj_journal::{Body, Line, Lines};
 use std::alloc::{AllocError, Global};
 
 /// Runs the script that comes from the source on a machine over these disks, writes its journal, and answers the status.
 /// The journal is left in `journal` at every status but 4 and 5, and at status 2 why a line is bad in `why`. Each line is
-/// run before more is asked for than the piece in hand, and the text of the lines that were run is written before.
+/// run before more is asked for than the piece in hand, and the text of the lines that were run is written before: the bound on
+/// the source has no other way to read.
 ///
 /// 0: the input was read to its end and every line was run. 2: a line isn't in the grammar. 3: a read failed. 4: a write
 /// failed. 5: memory was wanting. 6: a limit was met. 7: a disk stopped while it was formatted.
-pub fn replay<S: Source, K: Sink, D: Disk, M: Machine<D>>(
+pub fn replay<S: AskedSource, K: Sink, D: Disk, M: Machine<D>>(
     alloc: Global,
     source: &mut S,
     sink: &mut K,
@@ -45,7 +47,7 @@ pub fn replay<S: Source, K: Sink, D: Disk, M: Machine<D>>(
 }
 
 // Runs the script, and answers the status.
-fn run_through<S: Source, K: Sink, D: Disk, M: Machine<D>>(
+fn run_through<S: AskedSource, K: Sink, D: Disk, M: Machine<D>>(
     session: Session<M>,
     source: &mut S,
     sink: &mut K,

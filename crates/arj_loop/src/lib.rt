@@ -3,9 +3,11 @@
 //!
 //! It stands on `arj_script`, which reads, and `arj_journal`, which writes; what runs the events is a trait, `Machine`. The
 //! contract that it gives upward is that of `replay`: which lines came and were run, what of the journal was written, and why
-//! the run ended (`specs/Replayed.antt`).
+//! the run ended (`specs/Replayed.antt`). It reads through `AskedSource` alone, which is asked only when the sink took the text of
+//! the whole journal.
 #![tactic(auto)]
 
+mod asked;
 mod built;
 mod call;
 mod ending;
@@ -15,6 +17,7 @@ mod machine;
 mod run;
 mod session;
 
+pub use asked::AskedSource;
 pub use call::replay;
 pub use ending::BadLine;
 pub use machine::{EventFault, Machine, StartFault};

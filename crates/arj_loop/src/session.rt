@@ -7,13 +7,14 @@ ghost use Rattle.arj_loop.specs.declared.limits.TheConstants.{READ_BYTES};
 ghost use Rattle.arj_loop.specs.Input.{Arrived, Came, arrived, source_view};
 ghost use Rattle.arj_loop.specs.Running.{StageOf, Gathers, Goes, IsGoing, IsAtLine, HasEnded, Moved, overflown, work};
 
+use crate::asked::AskedSource;
 use crate::ending::{BadLine, End};
 use crate::gather::Gather;
 use crate::limits::READ_BYTES;
 use crate::machine::Machine;
 use crate::run::Runner;
 use arj_disk::{Disk, Rack};
-use arj_io::{Failed, Sink, Source};
+use arj_io::{Failed, Sink};
 use arj_journal::Lines;
 use arj_script::{Full, LineCutter};
 use std::alloc::{AllocError, Global};
@@ -42,7 +43,7 @@ impl<M> Session<M> {
 
     /// Runs what comes from the source, line by line, until the run ends. The text of the lines that were run is written
     /// before more is read.
-    pub fn run<S: Source, K: Sink, D: Disk>(
+    pub fn run<S: AskedSource, K: Sink, D: Disk>(
         &mut self,
         source: &mut S,
         sink: &mut K,
@@ -69,7 +70,7 @@ impl<M> Session<M> {
                 Err(Failed) => return End::Write,
             }
             let mut buffer = [0; READ_BYTES];
-            let Ok(count) = source.read(&mut buffer) else {
+            let Ok(count) = source.ask(journal, sink, &mut buffer) else {
                 return End::Fault;
             };
             if count == 0 {

@@ -4,7 +4,7 @@ use Rattle.arj_loop.proofs.Stages.{moved_none}
 use Rattle.arj_loop.proofs.call.replay.Goals as goal
 
 pub returns-in-Err-clause-short : goal.returns-in-Err-clause-short
-returns-in-Err-clause-short g c _ = short_first g.M.Machine (g.S.Source.left c.args.source.now) (g.S.Source.faults c.args.source.now) (g.K.Sink.taken c.args.sink.now) c.args.rack.now c.requires.ready
+returns-in-Err-clause-short g c _ = short_first g.M.Machine (g.S.AskedSource.left c.args.source.now) (g.S.AskedSource.faults c.args.source.now) (g.K.Sink.taken c.args.sink.now) c.args.rack.now c.requires.ready
 
 pub returns-in-Err-clause-moved : goal.returns-in-Err-clause-moved
 returns-in-Err-clause-moved g c = moved_none g.M.Machine c.args.rack.now

@@ -9,9 +9,9 @@ abbrev pub invariant-loop-buffer : goal.invariant-loop-buffer
 invariant-loop-buffer g l = record {
   used : (bytes : List ℕ) × (earlier : List ℕ) × (piece : List ℕ)
       × IsGoing g.M.Machine l.initial.rack (g.K.Sink.taken l.initial.sink) bytes (work l.rack l.self l.journal (g.K.Sink.taken l.sink))
-      × Gives (g.S.Source.left l.initial.source) bytes (g.S.Source.left l.source) × (bytes ≡ earlier ++ piece) × (length piece ≤ 512) × (is_enough earlier ≡ false)
+      × Gives (g.S.AskedSource.left l.initial.source) bytes (g.S.AskedSource.left l.source) × (bytes ≡ earlier ++ piece) × (length piece ≤ 512) × (is_enough earlier ≡ false)
       × (l.came ≡ length bytes);
-  no_fault : g.S.Source.faults l.source ≡ g.S.Source.faults l.initial.source;
+  no_fault : g.S.AskedSource.faults l.source ≡ g.S.AskedSource.faults l.initial.source;
   steady : g.K.Sink.faults l.sink ≡ g.K.Sink.faults l.initial.sink;
   moved : Moved g.M.Machine l.initial.rack l.rack;
 }
