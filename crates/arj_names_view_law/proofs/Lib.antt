@@ -7,4 +7,5 @@ pub mod LoadSteps
 pub mod Locks
 pub mod NewConfirms
 pub mod Noting
+pub mod Openings
 pub mod RestartActs

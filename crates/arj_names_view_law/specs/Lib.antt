@@ -1,3 +1,4 @@
+pub mod Begins
 pub mod Booked
 pub mod Calls
 pub mod Grants

@@ -5,15 +5,17 @@
 //! a list of the machine's acts, each of which may be done when it comes (`specs/Calls.antt`, `specs/Restarts.antt`); and what a
 //! Confirm counts on of the locks, which the disk half takes as known, follows (`specs/Booked.antt`). What it gives upward:
 //! naming's calls, one by one, `new_confirms_are_booked`, and what coordinators have of naming's grants, store lists and loads
-//! (`specs/Grants.antt`, `specs/Lists.antt`, `specs/Loads.antt`).
+//! (`specs/Grants.antt`, `specs/Lists.antt`, `specs/Loads.antt`), by which a commit may begin (`specs/Begins.antt`).
 #![tactic(auto)]
 
+mod begins;
 mod booked;
 mod calls;
 mod coordinators;
 mod loads;
 mod restarts;
 
+pub use begins::commits_may_begin;
 pub use booked::new_confirms_are_booked;
 pub use calls::{ends_are_acts, locks_are_acts};
 pub use coordinators::{grants_are_seen, lists_are_seen};
