@@ -21,3 +21,5 @@ pub mod EndParts
 pub mod LastEnd
 pub mod Showing
 pub mod Quiet
+pub mod Servers
+pub mod Pendings

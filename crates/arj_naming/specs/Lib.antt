@@ -10,3 +10,5 @@ pub mod Found
 pub mod Kept
 pub mod Ends
 pub mod Touched
+pub mod Bound
+pub mod Back

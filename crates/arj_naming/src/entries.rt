@@ -1,11 +1,12 @@
 // The entries of objects in memory.
-ghost use Rattle.std.specs.Prelude.{◌≡◌, ◌↔◌, ◌&&◌, ◌++◌, ℕ, true, List, [], map, find, IfOk, IfSome, OnOk, option_copied, option_map};
+ghost use Rattle.std.specs.Prelude.{◌≡◌, ◌↔◌, ◌&&◌, ◌++◌, ℕ, true, List, [], map, IfOk, IfSome, OnOk, option_copied, option_map};
 ghost use Rattle.std.specs.List.{AllByRecursion, flat_map, list_any};
 ghost use Rattle.arj_base.specs.declared.state.ObjectState.{ObjectState};
 ghost use Rattle.arj_base.specs.declared.uid.Uid.{Uid};
 ghost use Rattle.arj_base.specs.Uid.{entry, uid_eq};
 ghost use Rattle.arj_entry.specs.Entry.{is_listed};
 ghost use Rattle.arj_msg.specs.InForm.{IsObject};
+ghost use Rattle.arj_naming.specs.Back.{ArePending};
 ghost use Rattle.arj_naming.specs.Entries.{AreEntries, AreOfEntries, IsEntryState};
 ghost use Rattle.arj_naming.specs.Found.{AreFound};
 ghost use Rattle.arj_store_law.specs.Found.{pair_found};
@@ -19,6 +20,7 @@ ghost use Rattle.arj_protocol.specs.Values.{state_entry};
 use crate::found::{states_by_action, states_by_uid};
 use crate::object::NamedObject;
 use crate::payload::{entry_of, stores_of};
+use crate::pending::{Pending, put_states as put_pending};
 use arj_base::{Mode, NodeList, ObjectState, States, Uid, Uids, entry_uid};
 use arj_entry::Entry;
 use arj_journal::Lines;
@@ -68,30 +70,45 @@ impl Entries {
         Ok(Entries { alloc, held, pend })
     }
 
+    // What is prepared of each entry. It walks once over all that is prepared.
+    fn pending(&self) -> Result<BTreeMap<Uid, Pending>, AllocError>
+        ensures { IfOk result (λ pending. ArePending self.now.pend pending.entries) }
+    {
+        let mut pending = BTreeMap::new(self.alloc);
+        for (action, states) in self.pend.iter() {
+            put_pending(self.alloc, &mut pending, *action, states.as_slice())?;
+        }
+        Ok(pending)
+    }
+
     // The lock that an entry gives back, if it is prepared: its action, and the mode.
-    fn lock_back(&self, uid: Uid, stores: &[u8]) -> Option<(Uid, Mode)>
+    fn lock_back(
+        &self,
+        pending: &BTreeMap<Uid, Pending>,
+        uid: Uid,
+        stores: &[u8],
+    ) -> Option<(Uid, Mode)>
+        requires { ArePending self.now.pend pending.now.entries }
         ensures { result ≡ option_map (λ p. (p.0, mode_back (state_entry p.1).stores stores.now)) (pending_of uid self.now.pend) }
     {
-        for (action, states) in self.pend.iter() {
-            if let Some(state) = state_of(states.as_slice(), uid) {
-                return Some((*action, mode_back(stores_of(state), stores)));
-            }
-        }
-        None
+        let pending = pending.get(&uid)?;
+        Some((pending.action, mode_back(pending.stores.as_slice(), stores)))
     }
 
     // The object of an entry after a restart.
     fn object_back(
         &self,
+        pending: &BTreeMap<Uid, Pending>,
         uid: Uid,
         held: &ObjectState,
         out: &mut Lines,
     ) -> Result<NamedObject, AllocError>
-        requires { IsEntryState uid held.now }
+        requires pending { ArePending self.now.pend pending.now.entries }
+        requires held { IsEntryState uid held.now }
         ensures object { IfOk result (λ object. object ≡ unnamed (rows_back uid held.now (pending_of uid self.now.pend))) }
         ensures lines { OnOk result (out.new ≡ out.old ++ said (back_lines (unnamed (rows_back uid held.now (pending_of uid self.now.pend))))) }
     {
-        match self.lock_back(uid, stores_of(held)) {
+        match self.lock_back(pending, uid, stores_of(held)) {
             Some((action, mode)) => {
                 NamedObject::locked(self.alloc, object_of(uid), action, mode, out)
             }
@@ -104,9 +121,10 @@ impl Entries {
         ensures objects { IfOk result (λ objects. objects.entries ≡ map (named_back self.now) self.now.held) }
         ensures lines { OnOk result (out.new ≡ out.old ++ said (flat_map (λ (e : ℕ × Named). back_lines e.1) (map (named_back self.now) self.now.held))) }
     {
+        let prepared = self.pending()?;
         let mut objects = BTreeMap::new(self.alloc);
         for (uid, held) in self.held.iter() {
-            let object = self.object_back(*uid, held, out)?;
+            let object = self.object_back(&prepared, *uid, held, out)?;
             objects.insert(object_of(*uid), object)?;
         }
         Ok(objects)
@@ -235,13 +253,6 @@ impl Entries {
     {
         self.pend.remove(&action);
     }
-}
-
-// The state of this entry, if there is one.
-fn state_of(states: &[ObjectState], uid: Uid) -> Option<&ObjectState>
-    ensures { option_copied result ≡ find (λ (s : ObjectState). uid_eq s.uid uid) states.now }
-{
-    states.iter().find(|state| state.uid == uid)
 }
 
 // The object of an entry.

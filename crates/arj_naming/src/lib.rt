@@ -11,6 +11,8 @@
 #![tactic(auto)]
 
 mod bindings;
+mod bound;
+mod change;
 mod checks;
 mod confirm;
 mod counter;
@@ -26,6 +28,7 @@ mod naming;
 mod object;
 mod part;
 mod payload;
+mod pending;
 mod recover;
 mod show;
 mod told;

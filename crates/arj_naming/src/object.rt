@@ -14,11 +14,13 @@ ghost use Rattle.arj_protocol.specs.Named.{Named, unnamed, conflict_on, locked, 
 ghost use Rattle.arj_protocol.specs.Order.{at_uid, with_uid, drop_uid};
 ghost use Rattle.arj_protocol.specs.Server.{row_top};
 ghost use Rattle.arj_protocol.specs.Words.body;
-ghost use Rattle.arj_naming.specs.Objects.{live_of, counted, IsServed};
+ghost use Rattle.arj_naming.specs.Bound.{is_to};
+ghost use Rattle.arj_naming.specs.Objects.{live_of, changed_by, counted, IsServed};
 ghost use Rattle.arj_naming.specs.Said.{said};
 ghost use Rattle.arj_naming.specs.Touched.{IsQuiet};
 
 use crate::bindings::{is_below, is_same, next_server};
+use crate::change::Change;
 use crate::counter::Counter;
 use crate::lines::{NAMING_NODE, say};
 use crate::locks::grant;
@@ -389,6 +391,33 @@ impl NamedObject {
             if live.server == node && live.inc < inc {
                 self.live = None;
             }
+        }
+    }
+
+    /// After an end or a hello. It takes no memory.
+    pub fn apply(&mut self, change: Change)
+        ensures { self.new ≡ changed_by change self.old }
+    {
+        match change {
+            Change::End { action, end } => self.end(action, end),
+            Change::Hello { node, inc } => self.hello(node, inc),
+        }
+    }
+
+    /// The server of the live binding.
+    pub fn server(&self) -> Option<u8>
+        ensures { result ≡ option_map (λ l. l.server) self.now.live }
+    {
+        Some(self.live?.server)
+    }
+
+    /// Whether the live binding is to this node.
+    pub fn is_to(&self, node: u8) -> bool
+        ensures { result ≡ is_to node self.now.live }
+    {
+        match self.live {
+            Some(live) => live.server == node,
+            None => false,
         }
     }
 

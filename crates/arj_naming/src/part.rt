@@ -9,6 +9,7 @@ ghost use Rattle.arj_protocol.specs.Ask.{asked_by};
 ghost use Rattle.arj_protocol.specs.Confirm.{confirms, recovered_lines, recovered_naming};
 ghost use Rattle.arj_protocol.specs.Naming.{is_over, loses_row, has_locks, taken_end, end_locks, end_lines, hello, naming_holders};
 
+use crate::bound::{hello_all, put_all};
 use crate::counter::Counter;
 use crate::entries::Entries;
 use crate::lines::{NAMING_NODE, say};
@@ -23,25 +24,27 @@ use std::collections::{BTreeMap, BTreeSet};
 use std::marker::Model;
 
 /// The objects at naming, the tops that it confirmed, and the actions whose end it was told. Contracts see the protocol's
-/// naming part. Each object that an end may change is among the touched ones, so that an end looks at no other.
+/// naming part. Each object that an end may change is among the touched ones, so that an end looks at no other; and each
+/// that is bound stands under its server or is touched, so that a hello looks at no other.
 #[derive(Drop)]
 pub struct Part {
     pub counter: Counter,
     pub objects: BTreeMap<u16, NamedObject>,
     pub touched: BTreeSet<u16>,
+    pub bound: BTreeMap<u8, BTreeSet<u16>>,
     pub confirmed: BTreeSet<Uid>,
     pub told: BTreeSet<Uid>,
 }
 
 impl Model for Part {
-    ghost use Rattle.arj_naming.specs.Touched.{AreTouched};
+    ghost use Rattle.arj_naming.specs.Bound.{AreIndexed};
     ghost use Rattle.arj_protocol.specs.Naming.{Naming};
 
     ghost Value = { Naming };
 
     ghost view = { λ p. record { inc = p.counter.inc; count = p.counter.count; objects = p.objects.entries; confirmed = p.confirmed.keys; told = p.told.keys } };
 
-    ghost invariant = { λ p. AreTouched p.objects.entries p.touched.keys };
+    ghost invariant = { λ p. AreIndexed p.objects.entries p.touched.keys p.bound.entries };
 }
 
 /// The head of an answer.
@@ -83,6 +86,7 @@ impl Part {
             counter: Counter { inc, count: 0 },
             objects,
             touched,
+            bound: BTreeMap::new(alloc),
             confirmed,
             told: BTreeSet::new(alloc),
         })
@@ -218,6 +222,7 @@ impl Part {
     {
         self.told.insert(action)?;
         end_all(&mut self.objects, &self.touched, action, end);
+        put_all(alloc, &self.objects, &self.touched, &mut self.bound)?;
         self.touched = still_touched(alloc, &self.objects, &self.touched)?;
         drop_uid(&mut self.confirmed, action);
         Ok(())
@@ -227,11 +232,13 @@ impl Part {
     pub fn hello(&mut self, m: &Hello)
         ensures { self.new ≡ hello m.now.node m.now.inc self.old }
     {
-        let (node, inc) = (m.node, m.inc);
-        self.objects.retain(|_, object| {
-            object.hello(node, inc);
-            true
-        });
+        hello_all(
+            &mut self.objects,
+            &self.touched,
+            &mut self.bound,
+            m.node,
+            m.inc,
+        );
     }
 
     /// The tops of the holders of locks, each once, in increasing order.

@@ -5,6 +5,8 @@ ghost use Rattle.std.specs.Map.{keys_of};
 ghost use Rattle.std.specs.Ordering.{is_eq, nat_cmp};
 ghost use Rattle.arj_base.specs.Rows.{is_on};
 ghost use Rattle.arj_base.specs.declared.uid.Uid.{Uid};
+ghost use Rattle.arj_naming.specs.Bound.{live_at};
+ghost use Rattle.arj_naming.specs.Objects.{changed_by};
 ghost use Rattle.arj_naming.specs.Touched.{AreTouched, IsQuiet, any_of, changed_at, is_in, test_at};
 ghost use Rattle.arj_protocol.specs.Copy.{holds};
 ghost use Rattle.arj_protocol.specs.Named.{Named, end_named};
@@ -12,19 +14,30 @@ ghost use Rattle.arj_protocol.specs.Naming.{loses};
 ghost use Rattle.arj_protocol.specs.Order.{at_number, each};
 ghost use Rattle.arj_protocol.specs.Server.{row_top};
 
+use crate::change::Change;
 use crate::object::NamedObject;
 use crate::uids::insert_all;
 use arj_base::{End, Uid, Uids};
 use std::alloc::{AllocError, Global};
 use std::collections::{BTreeMap, BTreeSet};
 
-// The end of an action at one object, if it is there.
-fn end_at(objects: &mut BTreeMap<u16, NamedObject>, x: u16, action: Uid, end: End)
-    ensures at { (q : ℕ) → at_number q objects.new.entries ≡ changed_at (end_named action end) (is_eq (nat_cmp x q)) (at_number q objects.old.entries) }
+// A change of one object, if it is there.
+fn change_at(objects: &mut BTreeMap<u16, NamedObject>, x: u16, change: Change)
+    ensures at { (q : ℕ) → at_number q objects.new.entries ≡ changed_at (changed_by change) (is_eq (nat_cmp x q)) (at_number q objects.old.entries) }
     ensures keys { keys_of objects.new.entries ≡ keys_of objects.old.entries }
 {
     if let Some(object) = objects.get_mut(&x) {
-        object.end(action, end);
+        object.apply(change);
+    }
+}
+
+/// A change of these objects.
+pub fn change_each(objects: &mut BTreeMap<u16, NamedObject>, xs: &BTreeSet<u16>, change: Change)
+    ensures at { (q : ℕ) → at_number q objects.new.entries ≡ changed_at (changed_by change) (is_in xs.now.keys q) (at_number q objects.old.entries) }
+    ensures keys { keys_of objects.new.entries ≡ keys_of objects.old.entries }
+{
+    for x in xs.iter() {
+        change_at(objects, *x, change);
     }
 }
 
@@ -38,10 +51,9 @@ pub fn end_all(
     requires { AreTouched objects.old.entries touched.now.keys }
     ensures objects { objects.new.entries ≡ each (λ x. end_named action end) objects.old.entries }
     ensures touched { AreTouched objects.new.entries touched.now.keys }
+    ensures lives { (q : ℕ) → live_at q objects.new.entries ≡ live_at q objects.old.entries }
 {
-    for x in touched.iter() {
-        end_at(objects, *x, action, end);
-    }
+    change_each(objects, touched, Change::End { action, end });
 }
 
 // Whether an object is quiet, or isn't there.

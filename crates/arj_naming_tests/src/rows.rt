@@ -38,6 +38,22 @@ const HELLOS: &[Row] = &[
     (Ask::Record(1, 1, 1), Seen::Recorded, 5),
 ];
 
+// And so where no top has a lock on the entry any more.
+const HELLOS_AT_REST: &[Row] = &[
+    (Ask::Bind(1, 0), Seen::Make(1, 2), 2),
+    (Ask::Record(1, 1, 1), Seen::Recorded, 3),
+    (Ask::Told(1, End::Abort), Seen::Nothing, 4),
+    (Ask::Hello(1), Seen::Nothing, 4),
+    (Ask::Bind(2, 0), Seen::Live(1, 2), 5),
+    (Ask::Told(2, End::Abort), Seen::Nothing, 6),
+    (Ask::Hello(2), Seen::Nothing, 6),
+    (Ask::Bind(3, 0), Seen::Make(2, 3), 8),
+    (Ask::Record(3, 2, 1), Seen::Recorded, 9),
+    (Ask::Told(3, End::Abort), Seen::Nothing, 10),
+    (Ask::Hello(3), Seen::Nothing, 10),
+    (Ask::Bind(4, 0), Seen::Live(2, 3), 11),
+];
+
 // An exclusion, under an exclude lock that goes with a read lock of another top.
 const EXCLUSION: &[Row] = &[
     (Ask::Bind(1, 0), Seen::Make(1, 2), 2),
@@ -143,7 +159,15 @@ fn answers_again(alloc: Global, before: &[Row], after: &[Row]) -> Result<bool, F
 #[test]
 fn rows(rt: HostRuntime) -> Result<(), Fail> {
     let alloc = rt.alloc();
-    let all = [BINDINGS, HELLOS, EXCLUSION, INCLUSION, NO_STORES, REFUSALS];
+    let all = [
+        BINDINGS,
+        HELLOS,
+        HELLOS_AT_REST,
+        EXCLUSION,
+        INCLUSION,
+        NO_STORES,
+        REFUSALS,
+    ];
     for (i, rows) in all.iter().enumerate() {
         assert!(rt; answers(alloc, rows)?, "rows {i}");
     }

@@ -20,7 +20,7 @@ returns c =
     (λ list is. record {
       each = listed_by holders list (λ u. (λ j. is_on (is j) u)
           ∙ (c.in_ok-tops.ensures u
-          ∙ (any_touched (λ (o : Named). is_on (map row_top o.rows) u) m c.self.inside.touched.keys c.self.invariant (λ o quiet. λ i. is_on (map row_top (quiet.rows i)) u)
+          ∙ (any_touched (λ (o : Named). is_on (map row_top o.rows) u) m c.self.inside.touched.keys c.self.invariant.touched (λ o quiet. λ i. is_on (map row_top (quiet.rows i)) u)
           ∙ (sym (tops_of_all m u) ∙ ap (λ (n : Naming). is_on (naming_holders n) u) c.self.view_is))));
       increasing = subst (IsStrictlySortedBy uid_order) (sym is) c.list_of.ensures.increasing;
     }) c.list_of.ensures.list

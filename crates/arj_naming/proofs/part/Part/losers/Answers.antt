@@ -15,5 +15,5 @@ returns c =
     let xs = c.self.inside.touched.keys in
     IfOk-weaker c.all_losers.result (λ losers. (act : Uid) → is_on losers.keys act ≡ any_of (λ (o : Named). list_any (loses c.args.action act) o.rows) m xs)
     (λ losers. (act : Uid) → is_on losers.keys act ≡ loses_row c.args.action act c.args.self.now)
-    (λ losers is act. is act ∙ (any_touched (λ (o : Named). list_any (loses c.args.action act) o.rows) m xs c.self.invariant (λ o quiet. ap (list_any (loses c.args.action act)) quiet.rows) ∙ ap (loses_row c.args.action act) c.self.view_is))
+    (λ losers is act. is act ∙ (any_touched (λ (o : Named). list_any (loses c.args.action act) o.rows) m xs c.self.invariant.touched (λ o quiet. ap (list_any (loses c.args.action act)) quiet.rows) ∙ ap (loses_row c.args.action act) c.self.view_is))
     c.all_losers.ensures
