@@ -6,9 +6,11 @@ use Rattle.std.proofs.lemmas.List.{length-append, length-map}
 use Rattle.std.proofs.Math.Logic.{⊎_elim}
 use Rattle.arj_core.specs.declared.node.Core.{Ghosts}
 use Rattle.arj_disk.specs.FileMap.{FileMap}
+use Rattle.arj_event_law.proofs.EndLines.{ends_write}
 use Rattle.arj_event_law.proofs.Settled.{events_settle}
 use Rattle.arj_event_law.proofs.Spoken.{event_writes}
 use Rattle.arj_event_law.proofs.Whole.{event_whole, format_whole}
+use Rattle.arj_event_law.specs.Named.{AnswersEnd, AreNamed, EndHalted, EndRefused, IsEndAnswered, OwnEnd, ends_label}
 use Rattle.arj_event_law.specs.Writes.{Answers, Own, IsRefused, HasHalted, IsFrames, IsLabels, IsAnswered, IsOwn, IsWhole, halts_for, has_own}
 use Rattle.arj_journal.specs.declared.body.Line.{Line}
 use Rattle.arj_journal.specs.declared.header.Header.{Header}
@@ -17,12 +19,12 @@ use Rattle.arj_net.specs.declared.net.Sent.{Sent}
 use Rattle.arj_protocol.proofs.Growth.{event_grows}
 use Rattle.arj_protocol.specs.Laws.{as_sent}
 use Rattle.arj_protocol.specs.Step.{first_reason}
-use Rattle.arj_protocol.specs.Words.{Body, Event}
+use Rattle.arj_protocol.specs.Words.{Body, Event, Label}
 use Rattle.arj_protocol.specs.Words.event
 use Rattle.arj_protocol.specs.Words.frame_no
 use Rattle.arj_protocol.specs.World.{World, Arm, format, lowest_from, most_frames, reasons, run_event}
 use Rattle.arj_world.specs.Happens.{RunsOver, RunsTo}
-use Rattle.arj_world.specs.Owns.{AnswersEvent, HasNoOpen}
+use Rattle.arj_world.specs.Owns.{AnswersEvent, EndsEvent, HasNoOpen}
 use Rattle.arj_world.specs.Stands.{Hand, Keeps, StandsSome}
 use Rattle.arj_world.specs.Turns.{Turn, all_turned, asked, turned, with_arms}
 use Rattle.arj_world.specs.Wire.{AreFew, frame_of}
@@ -83,6 +85,11 @@ answers_without arms w e b (HasHalted m halts is) = HasHalted m (halts_without a
 answers_without arms w e b (IsFrames is) = IsFrames is
 answers_without arms w e b (IsLabels is) = IsLabels is
 
+end_without : (arms : List (ℕ × Arm)) (w : World) (e : Event) (l : Label) (b : Body) → AnswersEnd e l (with_arms arms w) b → AnswersEnd e l w b
+end_without arms w e l b (OwnEnd m named is) = OwnEnd m named is
+end_without arms w e l b (EndRefused c is) = EndRefused c is
+end_without arms w e l b (EndHalted is) = EndHalted is
+
 -- ---- frames
 
 -- where there is no lowest none waits
@@ -112,6 +119,18 @@ module _ {C D : Type 0} (core : Ghosts C) (file : D → FileMap) where
 
   pub answers_over : (e : Event) (old new : Hand C D) → RunsOver core file e old new → AnswersEvent core file e old new.journal
   answers_over e old new to w st whole own = let r = to w st in turn_answers e r.falls w new.journal r.stands.stands.lines st.over whole own
+
+  -- and so do the lines of an end
+  turn_ends : (e : Event) (falls : List (ℕ × Arm)) (l : Label) (w : World) (journal : List Line) → (turned (record { event = e; falls = falls }) w).lines ≡ journal → w.over ≡ false → IsWhole w → AreNamed w → ends_label e l → IsEndAnswered e l w journal
+  turn_ends e falls l w journal lines over whole named is =
+      let x = ends_write (asked e) l (with_arms falls w) (whole_with falls w whole) (λ k n t at live. named k n t at live) over is in
+      record { before = x.before; line = x.line; after = x.after; are = sym lines ∙ x.are; answers = end_without falls w e l x.line.body x.answers }
+
+  pub ends_so : (e : Event) (old new : Hand C D) → RunsTo core file e old new → EndsEvent core file e old new.journal
+  ends_so e old new to l w st whole named is = let r = to w st in turn_ends e r.falls l w new.journal r.stands.lines st.over whole named is
+
+  pub ends_over : (e : Event) (old new : Hand C D) → RunsOver core file e old new → EndsEvent core file e old new.journal
+  ends_over e old new to l w st whole named is = let r = to w st in turn_ends e r.falls l w new.journal r.stands.stands.lines st.over whole named is
 
   -- an event that settles leaves no frame open
   pub settles_so : (e : Event) (old new : Hand C D) → RunsTo core file e old new → StandsSome core file old → AreFew new.kept.net → (e ≡ event.Settle) ⊎ (e ≡ event.Quiesce) → HasNoOpen new.kept.net

@@ -1,5 +1,7 @@
 -- What each handler keeps holds after each turn.
 use Rattle.std.proofs.Common.{List, [], ◌∷◌}
+use Rattle.arj_coord_law.proofs.RunCoords.{IsSo, holds_named, keeps_names, names_are_kept}
+use Rattle.arj_event_law.specs.Named.{AreNamed, HasNames}
 use Rattle.arj_protocol.specs.Words.{Header}
 use Rattle.arj_protocol.specs.World.{World, format, run_event}
 use Rattle.arj_view_law.specs.Keeps.{Holds, Keeps}
@@ -19,3 +21,7 @@ module _ (hd : Header) (P : Seen → Type 0) (keeps : Keeps hd P) where
 
   pub turns_hold : (ts : List Turn) → Holds hd P (all_turned ts (format hd))
   turns_hold ts = all_hold ts (format hd) (first_holds hd P keeps)
+
+-- coordinators know their labels
+pub turns_named : (hd : Header) (ts : List Turn) → AreNamed (all_turned ts (format hd))
+turns_named hd ts = holds_named hd (all_turned ts (format hd)) (turns_hold hd (IsSo HasNames names_are_kept) (keeps_names hd) ts)

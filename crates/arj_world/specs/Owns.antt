@@ -2,11 +2,12 @@
 use Rattle.std.specs.Prelude.{ℕ, ◌≡◌, true, false, List}
 use Rattle.arj_core.specs.declared.node.Core.{Ghosts}
 use Rattle.arj_disk.specs.FileMap.{FileMap}
+use Rattle.arj_event_law.specs.Named.{AreNamed, IsEndAnswered, ends_label}
 use Rattle.arj_event_law.specs.Writes.{IsAnswered, IsWhole, has_own}
 use Rattle.arj_journal.specs.declared.body.Line.{Line}
 use Rattle.arj_net.specs.Net.{is_open}
 use Rattle.arj_net.specs.declared.net.Sent.{Sent}
-use Rattle.arj_protocol.specs.Words.{Event}
+use Rattle.arj_protocol.specs.Words.{Event, Label}
 use Rattle.arj_protocol.specs.World.{World}
 use Rattle.arj_world.specs.Stands.{Hand, Stands}
 
@@ -14,6 +15,11 @@ use Rattle.arj_world.specs.Stands.{Hand, Stands}
 -- each whole world that it was run in.
 abbrev pub AnswersEvent : {C D : Type 0} → Ghosts C → (D → FileMap) → Event → Hand C D → List Line → Type 0
 AnswersEvent core file e old journal = (w : World) → Stands core file old w → IsWhole w → has_own e ≡ true → IsAnswered e w journal
+
+-- A commit and an abort wrote the line that answers them, or that they are refused, or that the action's node halted: in each
+-- whole world whose coordinators know their labels.
+abbrev pub EndsEvent : {C D : Type 0} → Ghosts C → (D → FileMap) → Event → Hand C D → List Line → Type 0
+EndsEvent core file e old journal = (l : Label) (w : World) → Stands core file old w → IsWhole w → AreNamed w → ends_label e l → IsEndAnswered e l w journal
 
 -- each frame was delivered or lost
 abbrev pub HasNoOpen : List Sent → Type 0

@@ -23,5 +23,5 @@ mod world;
 
 pub use fault::{FormatFault, StepFault};
 pub use labelled::Labelled;
-pub use whole::{runs_stay_whole, turns_keep_what_handlers_keep};
+pub use whole::{runs_know_their_labels, runs_stay_whole, turns_keep_what_handlers_keep};
 pub use world::World;

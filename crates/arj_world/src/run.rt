@@ -14,7 +14,7 @@ ghost use Rattle.arj_protocol.specs.World as protocol;
 ghost use Rattle.arj_world.specs.Disks.{HaveMoved};
 ghost use Rattle.arj_world.specs.Goes.{GoesTo};
 ghost use Rattle.arj_world.specs.Happens.{HappensTo, RunsOver, RunsTo, done};
-ghost use Rattle.arj_world.specs.Owns.{AnswersEvent, HasNoOpen};
+ghost use Rattle.arj_world.specs.Owns.{AnswersEvent, EndsEvent, HasNoOpen};
 ghost use Rattle.arj_world.specs.Stands.{Keeps, StandsSome, hand};
 ghost use Rattle.arj_world.specs.Tells.{TellsStops, crashed_by, nobody};
 ghost use Rattle.arj_world.specs.Wire.{AreFew};
@@ -191,6 +191,8 @@ impl<C: Core> World<C> {
         ensures stops_over { IsErrOf result StepFault.Frames → TellsStops D.Disk (crashed_by event) rack.old rack.new journal.old journal.new }
         ensures answers { OnOk result (AnswersEvent C.Core D.file event (hand self.old rack.old journal.old) journal.new) }
         ensures answers_over { IsErrOf result StepFault.Frames → AnswersEvent C.Core D.file event (hand self.old rack.old journal.old) journal.new }
+        ensures ends { OnOk result (EndsEvent C.Core D.file event (hand self.old rack.old journal.old) journal.new) }
+        ensures ends_over { IsErrOf result StepFault.Frames → EndsEvent C.Core D.file event (hand self.old rack.old journal.old) journal.new }
         ensures settled { OnOk result ((event ≡ events.Settle) ⊎ (event ≡ events.Quiesce) → HasNoOpen self.new.net) }
     {
         if let Some(cause) = self.refusal(&event)? {

@@ -1,5 +1,6 @@
 // What holds of every world of a run.
 ghost use Rattle.std.specs.Prelude.{◌≡◌, Bool, List, true};
+ghost use Rattle.arj_event_law.specs.Named.{AreNamed};
 ghost use Rattle.arj_event_law.specs.Writes.{IsWhole};
 ghost use Rattle.arj_journal.specs.declared.header.Header.{Header};
 ghost use Rattle.arj_protocol.specs.World.{World, format};
@@ -12,6 +13,11 @@ ghost use Rattle.arj_world.specs.Turns.{Turn, all_turned, turned};
 pub fn runs_stay_whole()
     ensures turn { (t : Turn) (w : World) → IsWhole w → IsWhole (turned t w) }
     ensures runs { (hd : Header) (ts : List Turn) → IsWhole (all_turned ts (format hd)) }
+{}
+
+/// In every run, with whatever stops, the coordinators that are up know their labels. It does nothing when it runs.
+pub fn runs_know_their_labels()
+    ensures runs { (hd : Header) (ts : List Turn) → AreNamed (all_turned ts (format hd)) }
 {}
 
 /// A test of what is seen that each handler keeps, wherever a stop falls into it, holds after every turn, and so after each run of

@@ -6,7 +6,7 @@ use Rattle.arj_protocol.specs.World.{counted, numbered}
 use Rattle.arj_world.specs.Happens.{HappensTo, RunsTo, done}
 use Rattle.arj_world.specs.Stands.{Keeps, StandsSome, hand}
 use Rattle.arj_world.proofs.Counts.{counts_once, grows_over, grows_so}
-use Rattle.arj_world.proofs.Owns.{answers_over, answers_so, settles_go, settles_so}
+use Rattle.arj_world.proofs.Owns.{answers_over, answers_so, ends_over, ends_so, settles_go, settles_so}
 use Rattle.arj_world.proofs.Runs.{counted_stands, keeps_uncounted, on_ok_both, runs_accepted, runs_over, runs_refused}
 use Rattle.arj_world.specs.Tells.{TellsStops, crashed_by}
 use Rattle.arj_world.proofs.Tells.{tells_line, tells_none}
@@ -170,3 +170,18 @@ returns-in-Some-clause-settled g c = on_ok_weaker c.refuse.result
 pub returns-clause-settled : goal.returns-clause-settled
 returns-clause-settled g c = on_ok_weaker c.end.result
     (λ ran. settles_so g.C.Core g.D.Disk.file c.args.event (hand c.args.self.now c.args.rack.now c.args.journal.now) (hand c.happen.new.self c.happen.new.rack c.end.new.journal) ran c.requires.stands c.end.ensures.few) (returns-clause-ran g c)
+
+pub returns-in-Some-clause-ends : goal.returns-in-Some-clause-ends
+returns-in-Some-clause-ends g c = on_ok_weaker c.refuse.result
+    (ends_so g.C.Core g.D.Disk.file c.args.event (hand c.args.self.now c.args.rack.now c.args.journal.now) (hand c.refuse.new.self c.args.rack.now c.refuse.new.journal)) (returns-in-Some-clause-ran g c)
+
+pub returns-in-Some-clause-ends_over : goal.returns-in-Some-clause-ends_over
+returns-in-Some-clause-ends_over g c = λ e. absurd (c.refuse.ensures.frames e)
+
+pub returns-clause-ends : goal.returns-clause-ends
+returns-clause-ends g c = on_ok_weaker c.end.result
+    (ends_so g.C.Core g.D.Disk.file c.args.event (hand c.args.self.now c.args.rack.now c.args.journal.now) (hand c.happen.new.self c.happen.new.rack c.end.new.journal)) (returns-clause-ran g c)
+
+pub returns-clause-ends_over : goal.returns-clause-ends_over
+returns-clause-ends_over g c = λ e.
+    ends_over g.C.Core g.D.Disk.file c.args.event (hand c.args.self.now c.args.rack.now c.args.journal.now) (hand c.happen.new.self c.happen.new.rack c.end.new.journal) (returns-clause-frames g c e)
