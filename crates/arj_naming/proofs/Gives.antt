@@ -8,7 +8,7 @@ use Rattle.arj_disk.specs.declared.slot.Role.{Role}
 use Rattle.arj_disk.specs.declared.slot.Role.TheVariants.{Names}
 use Rattle.arj_naming.specs.Entries.{AreEntries, AreOfEntries, IsEntryState}
 use Rattle.arj_naming.specs.Files.{GivesEntries}
-use Rattle.arj_naming.proofs.Store.{one_each}
+use Rattle.arj_naming.proofs.Store.{in_form, one_each}
 use Rattle.arj_protocol.specs.Effect.{Pair, held_at, moved_some, new_states, pair_prepared, pair_committed, pair_aborted, pair_in_part}
 use Rattle.arj_protocol.specs.Order.{at_uid, put_uid}
 use Rattle.arj_protocol.specs.Words.{Uid, ObjectState}
@@ -18,31 +18,9 @@ use Rattle.arj_store.specs.declared.answer.Prep.{Prep}
 use Rattle.arj_store.specs.declared.answer.Prep.TheVariants as prep
 use Rattle.arj_store_law.specs.Files.{IsPairOf}
 use Rattle.arj_store_law.proofs.Held.{all_put, all_without, found}
-use Rattle.arj_store_law.proofs.Pairs.{moved_all, pair_adds, pair_drops, pair_moves, pair_moves_some, pair_same}
+use Rattle.arj_store_law.proofs.Pairs.{moved_all, packed_once, pair_adds, pair_drops, pair_moves, pair_moves_some, pair_same}
 
 -- ---- from the pair
-
-in_form : (ss : List ObjectState) → AllByRecursion (λ s. IsEntryState s.uid s) ss → AllByRecursion StateInForm ss
-in_form [] all = tt
-in_form (s ∷ ss) all = (all.0.state.in_form, in_form ss all.1)
-
-abbrev bytes_first : List ℕ → List (Uid × List ℕ) → List ℕ
-bytes_first other [] = other
-bytes_first other (e ∷ es) = e.1
-
-abbrev behind : List (Uid × List ℕ) → List (Uid × List ℕ)
-behind [] = []
-behind (e ∷ es) = es
-
--- states in form that are packed alike are one list
-packed_once : (ss ts : List ObjectState) → AllByRecursion StateInForm ss → AllByRecursion StateInForm ts → packed ss ≡ packed ts → ss ≡ ts
-packed_once [] [] a b same = refl
-packed_once [] (t ∷ ts) a b same = absurd (cc same)
-packed_once (s ∷ ss) [] a b same = absurd (cc same)
-packed_once (s ∷ ss) (t ∷ ts) a b same =
-    let here : s ≡ t = state_once s t a.0 b.0 (ap (bytes_first []) same) in
-    let rest : ss ≡ ts = packed_once ss ts a.1 b.1 (ap behind same) in
-    λ i. here i ∷ rest i
 
 pub gives_entries : (p : files.Pair) (d : Pair) → IsPairOf p d → AreEntries d → GivesEntries p
 gives_entries p d are good = record { held = held; pend = pend }
@@ -123,7 +101,7 @@ module _ (P Q : Role → files.Pair) (r : Role) (names_role : r ≡ Names) (d : 
   pub prepare_gives : (states : List ObjectState) → AreOfEntries states → files.SamePair (P r) (Q r) ⊎ files.Prepares (P r) (Q r) act states → GivesEntries (Q Names)
   prepare_gives states new did = ⊎_elim
       (λ (same : files.SamePair (P Names) (Q Names)). gives_entries (Q Names) d (pair_same (P Names) (Q Names) d same stands) good)
-      (λ (more : files.Prepares (P Names) (Q Names) act states). gives_entries (Q Names) (pair_prepared act states d) (pair_adds (P Names) (Q Names) d act states more.adds stands) (good_prepared d good act states new))
+      (λ (more : files.Prepares (P Names) (Q Names) act states). gives_entries (Q Names) (pair_prepared act states d) (pair_adds (P Names) (Q Names) d act states (in_form states new.each) more.adds stands) (good_prepared d good act states new))
       (subst (λ k. files.SamePair (P k) (Q k) ⊎ files.Prepares (P k) (Q k) act states) names_role did)
 
   -- a prepare that is answered left the pair, or prepared the action

@@ -56,6 +56,10 @@ one_each d act good = by (at_uid act d.pend) refl (found (λ a states. AreOfEntr
     by None is all = subst (λ o. IsDistinct uid_eq (map uid_of (unwrap_or o []))) (sym is) nothing_twice
     by (Some states) is all = subst (λ o. IsDistinct uid_eq (map uid_of (unwrap_or o []))) (sym is) all.distinct
 
+pub in_form : (ss : List ObjectState) → AllByRecursion (λ s. IsEntryState s.uid s) ss → AllByRecursion StateInForm ss
+in_form [] all = tt
+in_form (s ∷ ss) all = (all.0.state.in_form, in_form ss all.1)
+
 module _ (P Q : Role → files.Pair) (r : Role) (names_role : r ≡ Names) (d : Pair) (stands : IsPairOf (P Names) d) where
   -- ---- abort
 
@@ -138,7 +142,7 @@ module _ (P Q : Role → files.Pair) (r : Role) (names_role : r ≡ Names) (d : 
     now_prepared : files.AnswersPrepare (P r) (Q r) act states prep.Prepared → IsPairOf (Q Names) (pair_prepared act states d)
     now_prepared answers = ⊎_elim
         (λ (again : IsSome ((P Names).pend act) × files.SamePair (P Names) (Q Names)). absurd (cc (subst IsSome (none_prepared act first) again.0)))
-        (λ (did : files.Prepares (P Names) (Q Names) act states). pair_adds (P Names) (Q Names) d act states did.adds stands) (subst (λ k. files.AnswersPrepare (P k) (Q k) act states prep.Prepared) names_role answers)
+        (λ (did : files.Prepares (P Names) (Q Names) act states). pair_adds (P Names) (Q Names) d act states (in_form states new.each) did.adds stands) (subst (λ k. files.AnswersPrepare (P k) (Q k) act states prep.Prepared) names_role answers)
 
     look_first : (a : protocol.Prep) → (back : List Effect) × ((prepared_by act states (record { part = n; outs = [] }) a).outs ≡ Do Look ∷ back)
     look_first protocol.Ready = (Do (Prepare role.Names act states) ∷ Say (body.Prepared 1 act role.Names) ∷ [], refl)

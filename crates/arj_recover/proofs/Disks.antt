@@ -22,7 +22,7 @@ abbrev pub Stays : {O : Type 0} → Ghosts O → Type 0
 Stays o = (r : Role) (old new : FileMap) → SameOfRole r old new → o.formed old r → o.formed new r × files.SamePair (o.pair old r) (o.pair new r)
 
 pub same_pair : (p q : files.Pair) (d : Pair) → files.SamePair p q → IsPairOf p d → IsPairOf q d
-same_pair p q d same are = record { held = λ u. same.committed u ∙ are.held u; pend = λ a. same.prepared a ∙ are.pend a; held_rises = are.held_rises; pend_rises = are.pend_rises }
+same_pair p q d same are = record { held = λ u. same.committed u ∙ are.held u; pend = λ a. same.prepared a ∙ are.pend a; held_rises = are.held_rises; pend_rises = are.pend_rises; in_form = are.in_form }
 
 -- each record is as before
 abbrev pub SameRecords : FileMap → FileMap → Type 0
@@ -50,6 +50,10 @@ only_own old new others = record {
   names = λ q is. others q (λ (e : q ≡ slot.Incarnation). let never : None ≡ Some role.Names = sym (ap slot_role e) ∙ is in cc) (λ (e : q ≡ slot.Tmp). let never : None ≡ Some role.Names = sym (ap slot_role e) ∙ is in cc);
   intents = λ u. others (slot.Intent u) (λ e. cc) (λ e. cc);
 }
+
+pub roles_own : (old new : FileMap) → OnlyOwn old new → (r : Role) → SameOfRole r old new
+roles_own old new own role.Store = own.store
+roles_own old new own role.Names = own.names
 
 pub inc_same : (old new : FileMap) → new slot.Incarnation ≡ old slot.Incarnation → inc new ≡ inc old
 inc_same old new same = rw same refl

@@ -3,7 +3,7 @@ use Rattle.std.proofs.Common.{◌≡◌, ◌∙◌, ◌<◌, ℕ, zero, suc, Boo
 use Rattle.std.specs.Prelude.{IsSome, IfSome, option_map}
 use Rattle.std.specs.List.{AllByRecursion, IsDistinct}
 use Rattle.std.specs.List.Sorted.{IsStrictlySortedBy}
-use Rattle.arj_base.specs.State.{state_bytes}
+use Rattle.arj_base.specs.State.{state_bytes, StateInForm}
 use Rattle.arj_base.specs.Uid.{uid_eq, nobody}
 use Rattle.arj_base.proofs.Uids.{uid_is, uid_same, uid_other}
 use Rattle.arj_disk.specs.Says.{new_of}
@@ -50,8 +50,8 @@ put_moved : (ss : List ObjectState) (held : List (Uid × ObjectState)) → moved
 put_moved [] held = refl
 put_moved (s ∷ ss) held = put_moved ss (put_uid s.uid s held)
 
--- as if one action had prepared the states, and were committed
-module _ (ss : List ObjectState) where
+-- as if one action had prepared the states, which are in form, and were committed
+module _ (ss : List ObjectState) (form : AllByRecursion StateInForm ss) where
   abbrev before : Pair
   before = record { held = []; pend = (nobody, ss) ∷ [] }
 
@@ -60,7 +60,7 @@ module _ (ss : List ObjectState) where
 
   is_before : IsPairOf shown before
   unfolding IsStrictlySortedBy
-  is_before = record { held = λ u. refl; pend = λ a. refl; held_rises = tt; pend_rises = (tt, tt) }
+  is_before = record { held = λ u. refl; pend = λ a. refl; held_rises = tt; pend_rises = (tt, tt); in_form = record { held = tt; pend = (form, tt) } }
 
   pub first_pair : (q : files.Pair) → IsDistinct uid_eq (map uid_of ss) → HasOnly q ss → IsPairOf q (pair_with ss)
   first_pair q once only = subst (λ held. IsPairOf q (record { held = held; pend = [] })) (put_moved ss [])

@@ -3,6 +3,7 @@ use Rattle.std.proofs.Common.{◌≡◌, ◌<◌, ◌≤◌, ◌+◌, ℕ, Bool,
 use Rattle.std.proofs.lemmas.Bool.Decides.{nat_tests}
 use Rattle.std.specs.Prelude.{nat_lt, ◌&&◌}
 use Rattle.std.specs.List.{AllByRecursion, IsDistinct}
+use Rattle.arj_base.specs.State.{state_bytes, StateInForm}
 use Rattle.arj_base.specs.Uid.{uid_eq, object}
 use Rattle.arj_disk.specs.Says.{role_of}
 use Rattle.arj_disk.specs.declared.slot.Role.TheVariants as role
@@ -98,3 +99,17 @@ pub are_few : (n : ℕ) (hd : Header) → HeaderInForm hd → length (map first_
 are_few n hd form =
     let all : length hd.objects + 0 ≤ 256 = few_above 0 hd.nodes hd.objects form.objects.1 (positive hd.nodes hd.objects form.objects.0) form.objects.0 (omega arith) in
     omega (arith, all, fewer n hd.objects, length_states (stored n hd.objects))
+
+-- ---- in form
+
+form_one : (k : ℕ) (o : ObjectLine) → ObjectLineInForm k o → length (state_bytes (first_state o)) ≤ 65535 → StateInForm (first_state o)
+form_one k o form small = ((omega arith, omega arith, omega (arith, form.number.1)), omega arith, (omega arith, omega arith, omega arith), omega (arith, small))
+
+pub firsts_form : (n k : ℕ) (os : List ObjectLine) → AllByRecursion (ObjectLineInForm k) os → AllByRecursion (λ s. length (state_bytes s) ≤ 65535) (map first_state (stored n os)) → AllByRecursion StateInForm (map first_state (stored n os))
+firsts_form n k [] form small = tt
+firsts_form n k (o ∷ os) form small = by (has o.stores n) (λ more. firsts_form n k os form.1 more) small
+  where
+    by : (b : Bool) → (AllByRecursion (λ s. length (state_bytes s) ≤ 65535) (map first_state (stored n os)) → AllByRecursion StateInForm (map first_state (stored n os)))
+        → AllByRecursion (λ s. length (state_bytes s) ≤ 65535) (map first_state (cond b (o ∷ stored n os) (stored n os))) → AllByRecursion StateInForm (map first_state (cond b (o ∷ stored n os) (stored n os)))
+    by true rest all = (form_one k o form.0 all.0, rest all.1)
+    by false rest all = rest all

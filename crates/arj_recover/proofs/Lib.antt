@@ -1,4 +1,4 @@
 mod Disks
 mod Raised
 mod Firsts
-mod FirstPair
+pub mod FirstPair

@@ -5,7 +5,7 @@ ghost use Rattle.arj_base.specs.State.{state_bytes};
 ghost use Rattle.arj_base.specs.declared.limits.TheConstants.{MOST_BYTES};
 ghost use Rattle.arj_disk.specs.Counted.{counts};
 ghost use Rattle.arj_disk.specs.Disk.{CountsCall};
-ghost use Rattle.arj_disk.specs.Says.{slot_role, OnlyOfRole};
+ghost use Rattle.arj_disk.specs.Says.{slot_role, OnlyOfRole, SameOfRole};
 ghost use Rattle.arj_disk.specs.declared.slot.Role.{Role};
 ghost use Rattle.arj_disk.specs.declared.slot.Slot.{Slot};
 ghost use Rattle.arj_journal.specs.ScriptForm.{HeaderInForm};
@@ -95,13 +95,15 @@ fn first_state(alloc: Global, object: &ObjectLine) -> Result<ObjectState, AllocE
     })
 }
 
-/// Puts the first incarnation behind the first states of both roles: the disk is formed, and says what they say.
+/// Puts the first incarnation behind the first states of both roles: the disk is formed, and says what they say. No file of
+/// a role changes.
 pub fn format_inc<D: Disk, O: ObjectStore>(alloc: Global, disk: &mut D) -> Result<(), StoreFault>
     requires store { O.formed (D.file disk.old) Role.Store }
     requires names { O.formed (D.file disk.old) Role.Names }
     requires intents { (u : Uid) → D.file disk.old (Slot.Intent u) ≡ None }
     ensures formed { OnOk result (IsFormed O.ObjectStore (D.file disk.new)) }
     ensures first { OnOk result (IsFirst O.ObjectStore (D.file disk.old) (D.file disk.new)) }
+    ensures roles { OnOk result ((role : Role) → SameOfRole role (D.file disk.old) (D.file disk.new)) }
     ensures counts { CountsCall (counts D.Disk disk.old) (counts D.Disk disk.new) result StoreFault.Stopped }
 {
     put_inc(alloc, disk, 1)?;

@@ -50,6 +50,10 @@ use Rattle.arj_store.specs.declared.store.ObjectStore.{Ghosts}
 
 -- ---- load
 
+in_form : (ss : List ObjectState) → AllByRecursion (λ s. IsObjectState s.uid s) ss → AllByRecursion StateInForm ss
+in_form [] all = tt
+in_form (s ∷ ss) all = (all.0.in_form, in_form ss all.1)
+
 module _ {O : Type 0} (o : Ghosts O) (call : Call O) (d : Disk) (from : ℕ) (c : Coord) (h : Head) (x : ℕ) where
   abbrev load : Handled
   load = serve call.old.number d (parts_with call.old c) from h (ask.Load x)
@@ -166,7 +170,7 @@ module _ {O : Type 0} (o : Ghosts O) (keeps_on : KeepsOn o) (stays : Stays o) (c
     pub now_prepared : files.AnswersPrepare (P Store) (Q Store) preparer states prep.Prepared → IsPairOf (Q Store) (pair_prepared preparer states d.store)
     now_prepared answers = ⊎_elim
         (λ (again : IsSome ((P Store).pend preparer) × files.SamePair (P Store) (Q Store)). absurd (cc (subst IsSome none_prepared again.0)))
-        (λ (did : files.Prepares (P Store) (Q Store) preparer states). pair_adds (P Store) (Q Store) d.store preparer states did.adds stands.pair) answers
+        (λ (did : files.Prepares (P Store) (Q Store) preparer states). pair_adds (P Store) (Q Store) d.store preparer states (in_form states new.each) did.adds stands.pair) answers
 
     pub now_same : files.SamePair (P Store) (Q Store) → IsPairOf (Q Store) d.store
     now_same same = pair_same (P Store) (Q Store) d.store same stands.pair

@@ -51,10 +51,19 @@ module _ (q : files.Pair) where
   packed_by_action [] all = tt
   packed_by_action (e ∷ es) all = (all.0.0, packed_by_action es all.1)
 
+  held_form : (ss : List ObjectState) → AllByRecursion (λ (s : ObjectState). files.IsHeld q s.uid s) ss → AllByRecursion (λ (e : Uid × ObjectState). StateInForm e.1) (by_uid ss)
+  held_form [] all = tt
+  held_form (s ∷ ss) all = (all.0.in_form, held_form ss all.1)
+
+  pend_form : (es : List (Uid × List ObjectState)) → AllByRecursion (λ (e : Uid × List ObjectState). (q.pend e.0 ≡ Some (packed e.1)) × AllByRecursion StateInForm e.1) es → AllByRecursion (λ (e : Uid × List ObjectState). AllByRecursion StateInForm e.1) es
+  pend_form [] all = tt
+  pend_form (e ∷ es) all = (all.0.1, pend_form es all.1)
+
   pub pair_of_found : (f : Found) → files.FindsPair q f → IsPairOf q (pair_found f)
   pair_of_found f finds = record {
     held = same_at q.held state_bytes (by_uid f.committed) (bytes_by_uid f.committed finds.committed) (λ u is. subst (λ ks. Contains ks u) (sym (keys_by_uid f.committed)) (finds.every_committed u is));
     pend = same_at q.pend packed f.prepared (packed_by_action f.prepared finds.prepared) finds.every_prepared;
     held_rises = subst (IsStrictlySortedBy uid_order) (sym (keys_by_uid f.committed)) finds.by_uid;
     pend_rises = finds.by_action;
+    in_form = record { held = held_form f.committed finds.committed; pend = pend_form f.prepared finds.prepared };
   }

@@ -16,9 +16,9 @@ use Rattle.arj_store_law.specs.Prep.{prep_of}
 abbrev pub StaysSame : Type 0
 StaysSame = (p q : files.Pair) (d : Pair) → files.SamePair p q → IsPairOf p d → IsPairOf q d
 
--- an action becomes prepared
+-- an action becomes prepared, with states that are in form
 abbrev pub Prepares : Type 0
-Prepares = (p q : files.Pair) (d : Pair) (act : Uid) (states : List ObjectState) → files.Adds p q act states → IsPairOf p d → IsPairOf q (pair_prepared act states d)
+Prepares = (p q : files.Pair) (d : Pair) (act : Uid) (states : List ObjectState) → AllByRecursion StateInForm states → files.Adds p q act states → IsPairOf p d → IsPairOf q (pair_prepared act states d)
 
 -- an action is prepared no more
 abbrev pub Aborts : Type 0
@@ -41,6 +41,10 @@ IsOwnAt d s = StateInForm s × IfSome (held_at s.uid d) (λ (t : ObjectState). S
 abbrev pub AnswersAlike : Type 0
 AnswersAlike = (p q : files.Pair) (d : Pair) (act : Uid) (states : List ObjectState) (a : Prep) → IsPairOf p d → ((b c u : Uid) → names (p.pend b) u → names (p.pend c) u → b ≡ c)
     → p.pend act ≡ None → AllByRecursion (IsOwnAt d) states → files.AnswersPrepare p q act states a → prepare_answer act states d ≡ prep_of a
+
+-- files give one pair
+abbrev pub GiveOne : Type 0
+GiveOne = (p : files.Pair) (d e : Pair) → IsPairOf p d → IsPairOf p e → d ≡ e
 
 -- what a recovery finds is the pair that the files give
 abbrev pub FindsIt : Type 0

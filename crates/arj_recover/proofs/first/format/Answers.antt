@@ -1,6 +1,7 @@
 use Rattle.std.proofs.Common.{◌∙◌, ◌≤◌, List, filter, map, ap, sym, subst, length}
 use Rattle.std.proofs.lemmas.Result.{on_ok_weaker}
-use Rattle.std.specs.List.{IsDistinct}
+use Rattle.std.specs.List.{AllByRecursion, IsDistinct}
+use Rattle.arj_base.specs.State.{state_bytes, StateInForm}
 use Rattle.arj_base.specs.Uid.{uid_eq}
 use Rattle.arj_disk.specs.declared.slot.Role.TheVariants as role
 use Rattle.arj_protocol.specs.Order.{has}
@@ -9,7 +10,7 @@ use Rattle.arj_protocol.specs.Words.{ObjectLine, ObjectState}
 use Rattle.arj_store.specs.Pair.{AreDistinct, HasOnly, uid_of}
 use Rattle.arj_store_law.specs.Files.{IsPairOf}
 use Rattle.arj_recover.proofs.FirstPair.{first_pair}
-use Rattle.arj_recover.proofs.Firsts.{are_distinct, are_few, distinct_at}
+use Rattle.arj_recover.proofs.Firsts.{are_distinct, are_few, distinct_at, firsts_form}
 use Rattle.arj_recover.proofs.first.format.Goals as goal
 
 pub format-requires-clause-states : goal.format-requires-clause-states
@@ -23,8 +24,11 @@ format-requires-clause-count g c = subst (λ (ss : List ObjectState). length ss 
 pub returns-clause-pair : goal.returns-clause-pair
 returns-clause-pair g c =
     let are = c.in_ok-states.ensures.states ∙ ap (λ (os : List ObjectLine). map first_state (filter (λ (o : ObjectLine). has o.stores c.args.node) os)) c.as_slice.ensures in
+    let sizes = subst (AllByRecursion (λ (s : ObjectState). length (state_bytes s) ≤ 65535)) are c.in_ok-states.ensures.sizes in
     on_ok_weaker c.format.result
     (λ (only : HasOnly (g.O.ObjectStore.pair (g.D.Disk.file c.format.new.disk) role.Store) c.in_ok-states.states).
     subst (λ ss. IsPairOf (g.O.ObjectStore.pair (g.D.Disk.file c.format.new.disk) role.Store) (pair_with ss)) are
-    (first_pair c.in_ok-states.states (g.O.ObjectStore.pair (g.D.Disk.file c.format.new.disk) role.Store)
+    (first_pair c.in_ok-states.states
+    (subst (AllByRecursion StateInForm) (sym are) (firsts_form c.args.node c.args.header.now.nodes c.args.header.now.objects c.requires.header.objects.0 sizes))
+    (g.O.ObjectStore.pair (g.D.Disk.file c.format.new.disk) role.Store)
     (subst (λ (ss : List ObjectState). IsDistinct uid_eq (map uid_of ss)) (sym are) (distinct_at c.args.node c.args.header.now.objects c.requires.header.objects.1)) only)) c.format.ensures.pair

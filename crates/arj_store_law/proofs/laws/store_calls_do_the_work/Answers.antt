@@ -1,5 +1,5 @@
 use Rattle.arj_store_law.proofs.Finds.{pair_of_found}
-use Rattle.arj_store_law.proofs.Pairs.{pair_same, pair_adds, pair_drops, pair_moves, pair_moves_some}
+use Rattle.arj_store_law.proofs.Pairs.{one_pair, pair_same, pair_adds, pair_drops, pair_moves, pair_moves_some}
 use Rattle.arj_store_law.proofs.Refused.{answer_is}
 use Rattle.arj_store_law.proofs.laws.store_calls_do_the_work.Goals as goal
 
@@ -23,3 +23,6 @@ returns-clause-answers c = λ p q d act states a are once first own answers. ans
 
 pub returns-clause-finds : goal.returns-clause-finds
 returns-clause-finds c = pair_of_found
+
+pub returns-clause-one : goal.returns-clause-one
+returns-clause-one c = one_pair
