@@ -13,3 +13,6 @@ pub mod Showing
 pub mod Voids
 pub mod Hearing
 pub mod Taking
+pub mod FirstHere
+pub mod Hellos
+pub mod Again

@@ -6,3 +6,4 @@ pub mod Calls
 pub mod Taken
 pub mod Named
 pub mod Acted
+pub mod Begun
