@@ -6,12 +6,11 @@
 ghost use Rattle.std.specs.Prelude.{◌≡◌, []};
 
 use arj_io::{StdSink, StdSource};
-use arj_journal::{Body, Line, Lines, Which};
+use arj_journal::Lines;
+use arj_main::{explain, words};
 use arj_top::{BadLine, arjuna, empty_rack};
-use std::alloc::Global;
-use std::io::BufReader;
+use std::io::{self, BufReader};
 use std::process::ExitCode;
-use std::{env, io};
 
 fn main(rt: HostRuntime) -> ExitCode {
     let alloc = rt.alloc();
@@ -46,73 +45,4 @@ fn run(rt: &HostRuntime, journal: &mut Lines, why: &mut Option<BadLine>) -> io::
         journal,
         why,
     ))
-}
-
-// The words behind the program's name.
-fn words(rt: &HostRuntime, alloc: Global) -> io::Result<Vec<String>> {
-    let mut words = Vec::new(alloc);
-    for word in env::args(rt)?.skip(1) {
-        words.push(word)?;
-    }
-    Ok(words)
-}
-
-// Says on standard error what ended the run, and where.
-fn explain(
-    rt: &impl Eprint,
-    status: u8,
-    last: Option<&Line>,
-    why: Option<BadLine>,
-) -> io::Result<()> {
-    match status {
-        0 => Ok(()),
-        1 => eprintln!(rt; "usage: arjuna replay | arjuna generate N"),
-        2 => bad_line(rt, last, why),
-        3 => eprintln!(rt; "arjuna: standard input could not be read"),
-        4 => eprintln!(rt; "arjuna: standard output could not be written"),
-        6 => limit(rt, last),
-        7 => eprintln!(rt; "arjuna: a disk stopped while it was formatted"),
-        _ => eprintln!(rt; "arjuna: out of memory"),
-    }
-}
-
-fn bad_line(rt: &impl Eprint, last: Option<&Line>, why: Option<BadLine>) -> io::Result<()> {
-    let Some(why) = why else {
-        return eprintln!(rt; "arjuna: a line of the script is bad");
-    };
-    if let BadLine::Missing = why {
-        return eprintln!(rt; "arjuna: the input ended before `run`");
-    }
-    match number_of(last) {
-        Some(number) => eprintln!(rt; "arjuna: line {number} of the script is {why}"),
-        None => eprintln!(rt; "arjuna: a line of the script is {why}"),
-    }
-}
-
-// The number of the bad line that a journal line tells of.
-fn number_of(last: Option<&Line>) -> Option<u32> {
-    match &last?.body {
-        Body::Bad { line } => Some(*line),
-        _ => None,
-    }
-}
-
-fn limit(rt: &impl Eprint, last: Option<&Line>) -> io::Result<()> {
-    if let Some(line) = last {
-        if let Body::Limit { which } = &line.body {
-            let event = line.event;
-            return match which {
-                Which::Lines => eprintln!(rt;
-                    "arjuna: more than 100000 script lines, after event {event}"
-                ),
-                Which::Labels => eprintln!(rt;
-                    "arjuna: more than 4096 labels, after event {event}"
-                ),
-                Which::Frames => eprintln!(rt;
-                    "arjuna: more than 100000 frames, after event {event}"
-                ),
-            };
-        }
-    }
-    eprintln!(rt; "arjuna: a limit was met")
 }
