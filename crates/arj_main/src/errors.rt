@@ -1,4 +1,7 @@
 // What is said on standard error.
+ghost use Rattle.std.specs.Prelude.{◌≡◌, IfSome};
+ghost use Rattle.arj_journal.specs.declared.body.Body.{Body};
+
 use arj_journal::{Body, Line, Which};
 use arj_loop::BadLine;
 use std::io;
@@ -37,7 +40,9 @@ fn bad_line(rt: &impl Eprint, last: Option<&Line>, why: Option<BadLine>) -> io::
 }
 
 // The number of the bad line that a journal line tells of.
-fn number_of(last: Option<&Line>) -> Option<u32> {
+fn number_of(last: Option<&Line>) -> Option<u32>
+    ensures { IfSome result (λ number. IfSome last.entry (λ line. line.now.body ≡ Body.Bad number)) }
+{
     match &last?.body {
         Body::Bad { line } => Some(*line),
         _ => None,
