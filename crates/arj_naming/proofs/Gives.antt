@@ -1,5 +1,5 @@
 -- The states that the files give are of entries, whatever a call of the store left.
-use Rattle.std.proofs.Common.{◌≡◌, ◌⊎◌, ◌∙◌, ℕ, Bool, true, false, cond, List, [], ◌∷◌, refl, sym, ap, subst, inl, inr, ⊎_elim, Option, Some, None}
+use Rattle.std.proofs.Common.{◌≡◌, ◌⊎◌, ◌∙◌, Bool, true, false, cond, List, [], ◌∷◌, refl, sym, ap, subst, inl, inr, ⊎_elim, Option, Some, None}
 use Rattle.std.specs.Prelude.{IfSome, IsSome, option_map, unwrap_or}
 use Rattle.std.specs.List.{AllByRecursion}
 use Rattle.arj_base.specs.State.{state_bytes, StateInForm}

@@ -23,3 +23,6 @@ pub mod Showing
 pub mod Quiet
 pub mod Servers
 pub mod Pendings
+pub mod Among
+pub mod Apart
+pub mod Indexed

@@ -1,7 +1,7 @@
--- A look at the touched objects alone finds what a look at all finds, and an end of these alone is one of all.
-use Rattle.std.proofs.Common.{◌≡◌, ◌∙◌, ◌||◌, ◌⊎◌, inl, inr, zero, length, arith, ℕ, Bool, true, false, cond, List, [], ◌∷◌, refl, sym, ap, subst, Some, None}
+-- A look at the objects that an action has touched finds what a look at all finds, and its end at these alone is one at all.
+use Rattle.std.proofs.Common.{◌≡◌, ◌∙◌, ◌||◌, ◌⊎◌, inl, inr, ℕ, Bool, true, false, cond, List, [], ◌∷◌, refl, sym, ap, subst, Some, None}
 use Rattle.std.proofs.Math.Logic.{⊎_elim}
-use Rattle.std.specs.Prelude.{Contains, Option, is_some, map, option_map}
+use Rattle.std.specs.Prelude.{Option, map, option_map}
 use Rattle.std.specs.BTreeMap.{is_at}
 use Rattle.std.specs.Cmp.{both_ways, Equal-is, eq_by_cmp_equiv, nat_cmp_total}
 use Rattle.std.specs.List.{AllByRecursion, flat_map, list_any}
@@ -15,23 +15,20 @@ use Rattle.std.proofs.lemmas.Map.{lookup-none}
 use Rattle.std.proofs.lemmas.Map.Entries.{none_past_head}
 use Rattle.std.proofs.lemmas.Map.Keys.{IsDistinct-from_sorted, sorted_head, sorted_tail}
 use Rattle.std.proofs.lemmas.Map.Lookups.{exact_unsigned}
-use Rattle.std.proofs.lemmas.Map.Made.{is_some-lookup, keys_of-map_values, lookup-map_values}
-use Rattle.arj_base.specs.Rows.{Row, drop_rows, is_on, pass_rows}
-use Rattle.arj_base.specs.declared.mode.End.{End}
-use Rattle.arj_base.specs.declared.mode.End.TheVariants as ending
+use Rattle.std.proofs.lemmas.Map.Made.{lookup-map_values}
+use Rattle.arj_base.specs.Rows.{is_on}
 use Rattle.arj_base.specs.declared.uid.Uid.{Uid}
 use Rattle.arj_naming.proofs.Listed.{on_append}
-use Rattle.arj_lock.specs.Held.{AreListed}
-use Rattle.arj_protocol.specs.Named.{Made, Named, end_named, hello_named}
-use Rattle.arj_protocol.specs.Order.{at_number, drop_uid, each, without_uid}
+use Rattle.arj_protocol.specs.Named.{Named}
+use Rattle.arj_protocol.specs.Order.{at_number, each}
 use Rattle.arj_protocol.specs.Server.{row_top}
-use Rattle.arj_naming.specs.Touched.{is_in, IsQuiet, AreTouched, test_at, any_of, changed_at}
+use Rattle.arj_naming.specs.Touched.{is_in, AreTouched, IsApart, test_at, any_of, changed_at}
 
-or_true : (b : Bool) → (b || true) ≡ true
+pub or_true : (b : Bool) → (b || true) ≡ true
 or_true true = refl
 or_true false = refl
 
-itself : (x : ℕ) → nat_cmp x x ≡ Equal
+pub itself : (x : ℕ) → nat_cmp x x ≡ Equal
 itself x = tied_itself nat_cmp_total x
 
 pub tied : (x y : ℕ) → is_eq (nat_cmp x y) ≡ true → x ≡ y
@@ -47,7 +44,7 @@ turned x y = ap is_eq (nat_cmp_total.antisymm x y) ∙ by (nat_cmp y x)
 
 -- ---- what is found
 
-any_here : (t : ℕ → Bool) (xs : List ℕ) (x : ℕ) → is_in xs x ≡ true → t x ≡ true → list_any t xs ≡ true
+pub any_here : (t : ℕ → Bool) (xs : List ℕ) (x : ℕ) → is_in xs x ≡ true → t x ≡ true → list_any t xs ≡ true
 any_here t [] x among passes = absurd (cc among)
 any_here t (y ∷ ys) x among passes = by (is_eq (nat_cmp x y)) refl among (any_here t ys x)
   where
@@ -55,7 +52,7 @@ any_here t (y ∷ ys) x among passes = by (is_eq (nat_cmp x y)) refl among (any_
     by true is on rest = let here : t y ≡ true = subst (λ k. t k ≡ true) (tied x y is) passes in rw here refl
     by false is on rest = let more : list_any t ys ≡ true = rest on passes in rw more (or_true (t y))
 
-any_where : (t : ℕ → Bool) (xs : List ℕ) → list_any t xs ≡ true → (x : ℕ) × (t x ≡ true)
+pub any_where : (t : ℕ → Bool) (xs : List ℕ) → list_any t xs ≡ true → (x : ℕ) × (t x ≡ true)
 any_where t [] passes = absurd (cc passes)
 any_where t (y ∷ ys) passes = by (t y) refl passes (any_where t ys)
   where
@@ -63,7 +60,7 @@ any_where t (y ∷ ys) passes = by (t y) refl passes (any_where t ys)
     by true is on rest = (y, is)
     by false is on rest = rest on
 
-looked_any : (t : Named → Bool) (x : ℕ) (m : List (ℕ × Named)) → test_at t (at_number x m) ≡ true → list_any (λ (e : ℕ × Named). t e.1) m ≡ true
+pub looked_any : (t : Named → Bool) (x : ℕ) (m : List (ℕ × Named)) → test_at t (at_number x m) ≡ true → list_any (λ (e : ℕ × Named). t e.1) m ≡ true
 looked_any t x [] passes = absurd (cc passes)
 looked_any t x (f ∷ m) passes = by (is_eq (nat_cmp x f.0)) (looked_any t x m) passes
   where
@@ -82,7 +79,7 @@ later x o f m sorted at = by (is_eq (nat_cmp x f.0)) refl
     by true is = let never : None ≡ Some o = sym (no_more x f m sorted is) ∙ at in cc
     by false is = at
 
-any_looked : (t : Named → Bool) (m : List (ℕ × Named)) → IsStrictlySortedBy nat_cmp (keys_of m) → list_any (λ (e : ℕ × Named). t e.1) m ≡ true → (x : ℕ) × (o : Named) × (at_number x m ≡ Some o) × (t o ≡ true)
+pub any_looked : (t : Named → Bool) (m : List (ℕ × Named)) → IsStrictlySortedBy nat_cmp (keys_of m) → list_any (λ (e : ℕ × Named). t e.1) m ≡ true → (x : ℕ) × (o : Named) × (at_number x m ≡ Some o) × (t o ≡ true)
 any_looked t [] sorted passes = absurd (cc passes)
 any_looked t (f ∷ m) sorted passes = by (t f.1) refl passes (any_looked t m (sorted_tail nat_cmp f.0 (keys_of m) sorted))
   where
@@ -91,14 +88,14 @@ any_looked t (f ∷ m) sorted passes = by (t f.1) refl passes (any_looked t m (s
     by true is on rest = let here : at_number f.0 (f ∷ m) ≡ Some f.1 = rw (itself f.0) refl in (f.0, f.1, here, is)
     by false is on rest = let w = rest on in (w.0, w.1, later w.0 w.1 f m sorted w.2, w.3)
 
--- a test that no quiet object passes finds one among all where it finds one among the touched ones
-pub any_touched : (t : Named → Bool) (m : List (ℕ × Named)) (xs : List ℕ) → AreTouched m xs → ((o : Named) → IsQuiet o → t o ≡ false) → any_of t m xs ≡ list_any (λ (e : ℕ × Named). t e.1) m
-any_touched t m xs are quiet = both_ways (any_of t m xs) (list_any (λ (e : ℕ × Named). t e.1) m)
+-- a test that no object passes from which an action is apart finds one among all where it finds one among those that it has touched
+pub any_touched : (u : Uid) (t : Named → Bool) (m : List (ℕ × Named)) (xs : List ℕ) → IsStrictlySortedBy nat_cmp (keys_of m) → AreTouched u m (is_in xs) → ((o : Named) → IsApart u o → t o ≡ false) → any_of t m xs ≡ list_any (λ (e : ℕ × Named). t e.1) m
+any_touched u t m xs sorted are fails = both_ways (any_of t m xs) (list_any (λ (e : ℕ × Named). t e.1) m)
     (λ on. let w = any_where (λ x. test_at t (at_number x m)) xs on in looked_any t w.0 m w.1)
     (λ on.
-    let w = any_looked t m are.sorted on in
+    let w = any_looked t m sorted on in
     let passes : test_at t (at_number w.0 m) ≡ true = rw w.2 w.3 in
-    ⊎_elim (λ (q : IsQuiet w.1). let never : true ≡ false = sym w.3 ∙ quiet w.1 q in cc) (λ (among : is_in xs w.0 ≡ true). any_here (λ x. test_at t (at_number x m)) xs w.0 among passes) (are.each w.0 w.1 w.2))
+    ⊎_elim (λ (apart : IsApart u w.1). let never : true ≡ false = sym w.3 ∙ fails w.1 apart in cc) (λ (among : is_in xs w.0 ≡ true). any_here (λ x. test_at t (at_number x m)) xs w.0 among passes) (are w.0 w.1 w.2))
 
 -- ---- what is changed
 
@@ -116,14 +113,14 @@ module _ (f : Named → Named) where
       by true is = (λ i. changed_at f (none_in q x xs ((Equal-is (nat_cmp q x)).0 is) (sorted_head nat_cmp x xs sorted) i) (at_number q es)) ∙ (at q ∙ (λ i. changed_at f ((turned x q ∙ is) i) (at_number q m)))
       by false is = λ i. changed_at f (is_in xs q) ((at q ∙ (λ j. changed_at f ((turned x q ∙ is) j) (at_number q m))) i)
 
-  -- quiet objects stay as they are, so a change of the touched ones is one of all
-  pub touched_all : ((o : Named) → IsQuiet o → f o ≡ o) → (m : List (ℕ × Named)) (xs : List ℕ) → AreTouched m xs → (q : ℕ) → changed_at f (is_in xs q) (at_number q m) ≡ option_map f (at_number q m)
-  touched_all idle m xs are q = by (is_in xs q) refl (at_number q m) refl
+  -- the others stay as they are, so a change of those that the action has touched is one of all
+  pub touched_all : (u : Uid) → ((o : Named) → IsApart u o → f o ≡ o) → (m : List (ℕ × Named)) (among : ℕ → Bool) → AreTouched u m among → (q : ℕ) → changed_at f (among q) (at_number q m) ≡ option_map f (at_number q m)
+  touched_all u idle m among are q = by (among q) refl (at_number q m) refl
     where
-      by : (b : Bool) → is_in xs q ≡ b → (o : Option Named) → at_number q m ≡ o → changed_at f b o ≡ option_map f o
+      by : (b : Bool) → among q ≡ b → (o : Option Named) → at_number q m ≡ o → changed_at f b o ≡ option_map f o
       by true is o at = refl
       by false is None at = refl
-      by false is (Some o) at = ⊎_elim (λ (quiet : IsQuiet o). ap (λ n. Some n) (sym (idle o quiet))) (λ (among : is_in xs q ≡ true). let never : true ≡ false = sym among ∙ is in cc) (are.each q o at)
+      by false is (Some o) at = ⊎_elim (λ (apart : IsApart u o). ap (λ n. Some n) (sym (idle o apart))) (λ (on : among q ≡ true). let never : true ≡ false = sym on ∙ is in cc) (are q o at)
 
   pub all_changed : (m es : List (ℕ × Named)) → keys_of es ≡ keys_of m → IsStrictlySortedBy nat_cmp (keys_of m) → ((q : ℕ) → at_number q es ≡ option_map f (at_number q m)) → es ≡ each (λ x. f) m
   all_changed [] [] keys sorted at = refl
@@ -147,87 +144,15 @@ module _ (f : Named → Named) where
       tail d e m es key sorted es_sorted q at false is =
           (λ i. cond (sym ((λ j. is_eq (nat_cmp q (key j))) ∙ is) i) (Some e.1) (at_number q es)) ∙ (at ∙ (λ i. option_map f (cond (is i) (Some d.1) (at_number q m))))
 
-  -- and the touched ones are so afterwards
-  pub still_touched : ((o : Named) → IsQuiet o → IsQuiet (f o)) → (m : List (ℕ × Named)) (xs : List ℕ) → AreTouched m xs → AreTouched (each (λ x. f) m) xs
-  still_touched still m xs are = record {
-    sorted = subst (IsStrictlySortedBy nat_cmp) (sym (keys_of-map_values f m)) are.sorted;
-    each = λ x o at. by x o (at_number x m) refl (sym (lookup-map_values f (is_at (nat_cmp x)) m) ∙ at);
-  }
+  -- and those that an action has touched are so afterwards
+  pub still_touched : (u : Uid) → ((o : Named) → IsApart u o → IsApart u (f o)) → (m : List (ℕ × Named)) (among : ℕ → Bool) → AreTouched u m among → AreTouched u (each (λ x. f) m) among
+  still_touched u still m among are x o at = by (at_number x m) refl (sym (lookup-map_values f (is_at (nat_cmp x)) m) ∙ at)
     where
-      by : (x : ℕ) (o : Named) (before : Option Named) → at_number x m ≡ before → option_map f before ≡ Some o → IsQuiet o ⊎ (is_in xs x ≡ true)
-      by x o None is after = cc
-      by x o (Some p) is after = let same : f p ≡ o = cc in ⊎_elim (λ (quiet : IsQuiet p). inl (subst IsQuiet same (still p quiet))) (λ (among : is_in xs x ≡ true). inr among) (are.each x p is)
-
--- an end of an action leaves a quiet object as it is
-pub ended_quiet : (u : Uid) (e : End) (o : Named) → IsQuiet o → end_named u e o ≡ o
-ended_quiet u ending.Commit o quiet = (λ i. record o { made = without_uid u (quiet.made i); asked = drop_uid u (quiet.asked i); rows = pass_rows u (quiet.rows i) }) ∙ (λ i. record o { made = sym quiet.made i; asked = sym quiet.asked i; rows = sym quiet.rows i })
-ended_quiet u ending.Abort o quiet = (λ i. record o { made = without_uid u (quiet.made i); asked = drop_uid u (quiet.asked i); rows = drop_rows u (quiet.rows i) }) ∙ (λ i. record o { made = sym quiet.made i; asked = sym quiet.asked i; rows = sym quiet.rows i })
-
-pub ended_still : (u : Uid) (e : End) (o : Named) → IsQuiet o → IsQuiet (end_named u e o)
-ended_still u e o quiet = subst IsQuiet (sym (ended_quiet u e o quiet)) quiet
-
--- a server that comes back leaves a quiet object quiet
-pub hello_still : (node inc : ℕ) (o : Named) → IsQuiet o → IsQuiet (hello_named node inc o)
-hello_still node inc o quiet = record { made = quiet.made; asked = quiet.asked; rows = quiet.rows }
+      by : (before : Option Named) → at_number x m ≡ before → option_map f before ≡ Some o → IsApart u o ⊎ (among x ≡ true)
+      by None is after = cc
+      by (Some p) is after = let same : f p ≡ o = cc in ⊎_elim (λ (apart : IsApart u p). inl (subst (IsApart u) same (still p apart))) (λ (on : among x ≡ true). inr on) (are x p is)
 
 -- the tops of all holders, object by object
 pub tops_of_all : (m : List (ℕ × Named)) (u : Uid) → is_on (flat_map (λ (e : ℕ × Named). map row_top e.1.rows) m) u ≡ list_any (λ (e : ℕ × Named). is_on (map row_top e.1.rows) u) m
 tops_of_all [] u = refl
 tops_of_all (e ∷ m) u = on_append (map row_top e.1.rows) (flat_map (λ (f : ℕ × Named). map row_top f.1.rows) m) u ∙ (λ i. is_on (map row_top e.1.rows) u || tops_of_all m u i)
-
--- where no one is a holder's top there is no lock
-pub no_rows : (rows : List Row) (tops : List Uid) → AreListed (map row_top rows) tops → length tops ≡ 0 → rows ≡ []
-no_rows [] tops are none = refl
-no_rows (r ∷ rows) tops are none =
-    let on : Contains (map row_top (r ∷ rows)) (row_top r) = (zero, omega arith, refl) in
-    let there = (are.each (row_top r)).1 on in
-    absurd (omega (arith, there.1, none))
-
-pub none_made : (es : List (Uid × Made)) → length es ≡ 0 → es ≡ []
-none_made [] none = refl
-none_made (e ∷ es) none = absurd (omega (arith, none))
-
-pub none_asked : (us : List Uid) → length us ≡ 0 → us ≡ []
-none_asked [] none = refl
-none_asked (u ∷ us) none = absurd (omega (arith, none))
-
--- ---- what stays touched
-
-pub all_in : (m : List (ℕ × Named)) (x : ℕ) (o : Named) → at_number x m ≡ Some o → is_in (keys_of m) x ≡ true
-all_in m x o at = sym (is_some-lookup (is_at (nat_cmp x)) m) ∙ ap is_some at
-
--- an object among the touched ones is changed
-pub put_touched : (x : ℕ) (new : Named) (m es : List (ℕ × Named)) (xs : List ℕ) → AreTouched m xs → is_in xs x ≡ true → ((q : ℕ) → at_number q es ≡ cond (is_eq (nat_cmp x q)) (Some new) (at_number q m)) → IsStrictlySortedBy nat_cmp (keys_of es) → AreTouched es xs
-put_touched x new m es xs are among at sorted = record {
-  sorted = sorted;
-  each = λ q o is. by q o (is_eq (nat_cmp x q)) refl (sym (at q) ∙ is);
-}
-  where
-    by : (q : ℕ) (o : Named) (b : Bool) → is_eq (nat_cmp x q) ≡ b → cond b (Some new) (at_number q m) ≡ Some o → IsQuiet o ⊎ (is_in xs q ≡ true)
-    by q o true is after = inr ((λ i. is_in xs (sym (tied x q is) i)) ∙ among)
-    by q o false is after = are.each q o after
-
--- one more object is among the touched ones
-pub more_touched : (x : ℕ) (m : List (ℕ × Named)) (xs ys : List ℕ) → AreTouched m xs → ((q : ℕ) → is_in ys q ≡ cond (is_eq (nat_cmp x q)) true (is_in xs q)) → AreTouched m ys
-more_touched x m xs ys are has = record {
-  sorted = are.sorted;
-  each = λ q o at. ⊎_elim (λ (quiet : IsQuiet o). inl quiet) (λ (among : is_in xs q ≡ true). inr (has q ∙ ((λ i. cond (is_eq (nat_cmp x q)) true (among i)) ∙ both (is_eq (nat_cmp x q))))) (are.each q o at);
-}
-  where
-    both : (b : Bool) → cond b true true ≡ true
-    both true = refl
-    both false = refl
-
--- the number that was looked at is left out where its object is quiet, or kept
-pub next_left : (m : List (ℕ × Named)) (x : ℕ) (xs old new : List ℕ) → ((q : ℕ) (o : Named) → at_number q m ≡ Some o → IsQuiet o ⊎ ((is_in old q || is_in (x ∷ xs) q) ≡ true))
-    → ((o : Named) → at_number x m ≡ Some o → IsQuiet o ⊎ (is_in new x ≡ true)) → ((q : ℕ) → is_in old q ≡ true → is_in new q ≡ true)
-    → (q : ℕ) (o : Named) → at_number q m ≡ Some o → IsQuiet o ⊎ ((is_in new q || is_in xs q) ≡ true)
-next_left m x xs old new are here kept q o at = ⊎_elim (λ (quiet : IsQuiet o). inl quiet) (λ on. by (is_in old q) refl (is_eq (nat_cmp q x)) refl on) (are q o at)
-  where
-    or_left : (a b : Bool) → a ≡ true → (a || b) ≡ true
-    or_left a b is = rw is refl
-
-    by : (a : Bool) → is_in old q ≡ a → (b : Bool) → is_eq (nat_cmp q x) ≡ b → (a || (b || is_in xs q)) ≡ true → IsQuiet o ⊎ ((is_in new q || is_in xs q) ≡ true)
-    by true is b at_x on = inr (or_left (is_in new q) (is_in xs q) (kept q is))
-    by false is true at_x on = ⊎_elim (λ (quiet : IsQuiet o). inl quiet) (λ (among : is_in new x ≡ true). inr (or_left (is_in new q) (is_in xs q) ((λ i. is_in new (tied q x at_x i)) ∙ among))) (here o ((λ i. at_number (sym (tied q x at_x) i) m) ∙ at))
-    by false is false at_x on = inr ((λ i. is_in new q || on i) ∙ or_true (is_in new q))

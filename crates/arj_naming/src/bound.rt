@@ -1,7 +1,9 @@
-// The objects that are bound to a node: when it is up again, a look at these and at the touched ones does for a look at all.
-ghost use Rattle.std.specs.Prelude.{◌≡◌, [], ℕ, true, Some, OnOk, filter, option_map};
+// The objects that are bound to a node: when it is up again, a look at these does for a look at all.
+ghost use Rattle.std.specs.Prelude.{◌≡◌, ℕ, true, Some, OnOk, filter};
+ghost use Rattle.std.specs.List.Sorted.{IsStrictlySortedBy};
 ghost use Rattle.std.specs.Map.{keys_of};
-ghost use Rattle.arj_naming.specs.Bound.{AreBound, AreIndexed, is_to, is_under, live_at};
+ghost use Rattle.std.specs.Ordering.{nat_cmp};
+ghost use Rattle.arj_naming.specs.Bound.{AreBound, KeepsBound, is_to, is_under, live_at, made_in};
 ghost use Rattle.arj_naming.specs.Touched.{changed_at};
 ghost use Rattle.arj_protocol.specs.Named.{Live, hello_named};
 ghost use Rattle.arj_protocol.specs.Order.{at_number, each};
@@ -9,6 +11,7 @@ ghost use Rattle.arj_protocol.specs.Order.{at_number, each};
 use crate::change::Change;
 use crate::object::NamedObject;
 use crate::touched::change_each;
+use arj_base::Uid;
 use std::alloc::{AllocError, Global};
 use std::collections::{BTreeMap, BTreeSet};
 
@@ -20,7 +23,7 @@ fn put_under(
     x: u16,
 ) -> Result<(), AllocError>
     ensures here { OnOk result (is_under bound.new.entries node x ≡ true) }
-    ensures kept { (n q : ℕ) → is_under bound.old.entries n q ≡ true → is_under bound.new.entries n q ≡ true }
+    ensures kept { KeepsBound bound.old.entries bound.new.entries }
 {
     if let Some(xs) = bound.get_mut(&node) {
         xs.insert(x)?;
@@ -32,44 +35,28 @@ fn put_under(
     Ok(())
 }
 
-// The server of an object's live binding, if the object is there.
-fn server_of(objects: &BTreeMap<u16, NamedObject>, x: u16) -> Option<u8>
-    ensures { result ≡ option_map (λ l. l.server) (live_at x objects.now.entries) }
+// The server of the binding that was made last for the top at an object, if the object is there.
+fn server_made(objects: &BTreeMap<u16, NamedObject>, x: u16, top: Uid) -> Option<u8>
+    ensures { result ≡ made_in top (at_number x objects.now.entries) }
 {
-    objects.get(&x)?.server()
+    objects.get(&x)?.made_server(top)
 }
 
-// Puts an object under its server, if it is bound.
-fn put_bound(
+/// Puts an object under the server of the binding that was made last for the top.
+pub fn put_made(
     alloc: Global,
     objects: &BTreeMap<u16, NamedObject>,
     x: u16,
+    top: Uid,
     bound: &mut BTreeMap<u8, BTreeSet<u16>>,
 ) -> Result<(), AllocError>
-    ensures here { OnOk result ((l : Live) → live_at x objects.now.entries ≡ Some l → is_under bound.new.entries l.server x ≡ true) }
-    ensures kept { (n q : ℕ) → is_under bound.old.entries n q ≡ true → is_under bound.new.entries n q ≡ true }
+    ensures here { OnOk result ((n : ℕ) → made_in top (at_number x objects.now.entries) ≡ Some n → is_under bound.new.entries n x ≡ true) }
+    ensures kept { KeepsBound bound.old.entries bound.new.entries }
 {
-    match server_of(objects, x) {
+    match server_made(objects, x, top) {
         Some(node) => put_under(alloc, bound, node, x),
         None => Ok(()),
     }
-}
-
-/// Puts these objects under their servers, those that are bound.
-pub fn put_all(
-    alloc: Global,
-    objects: &BTreeMap<u16, NamedObject>,
-    xs: &BTreeSet<u16>,
-    bound: &mut BTreeMap<u8, BTreeSet<u16>>,
-) -> Result<(), AllocError>
-    requires { AreBound objects.now.entries xs.now.keys bound.old.entries }
-    ensures all { OnOk result (AreBound objects.now.entries [] bound.new.entries) }
-    ensures kept { (n q : ℕ) → is_under bound.old.entries n q ≡ true → is_under bound.new.entries n q ≡ true }
-{
-    for x in xs.iter() {
-        put_bound(alloc, objects, *x, bound)?;
-    }
-    Ok(())
 }
 
 // Whether an object's live binding is to this node.
@@ -110,15 +97,14 @@ fn hello_under(
 /// A server is up again: live bindings to its earlier incarnations are dropped. It takes no memory.
 pub fn hello_all(
     objects: &mut BTreeMap<u16, NamedObject>,
-    touched: &BTreeSet<u16>,
     bound: &mut BTreeMap<u8, BTreeSet<u16>>,
     node: u8,
     inc: u32,
 )
-    requires { AreIndexed objects.old.entries touched.now.keys bound.old.entries }
+    requires sorted { IsStrictlySortedBy nat_cmp (keys_of objects.old.entries) }
+    requires bound { AreBound objects.old.entries bound.old.entries }
     ensures objects { objects.new.entries ≡ each (λ x. hello_named node inc) objects.old.entries }
-    ensures indexed { AreIndexed objects.new.entries touched.now.keys bound.new.entries }
+    ensures bound { AreBound objects.new.entries bound.new.entries }
 {
-    change_each(objects, touched, Change::Hello { node, inc });
     hello_under(objects, bound, node, inc);
 }

@@ -14,6 +14,7 @@ ghost use Rattle.arj_protocol.specs.Values.{state_entry};
 use crate::entries::Entries;
 use crate::part::Part;
 use crate::payload::{entry_of, stores_of};
+use crate::touched::touch_path;
 use arj_base::{Class, ObjectState, Path, States, Uid, entry_uid, next_version};
 use arj_entry::Entry;
 use arj_journal::Lines;
@@ -67,28 +68,45 @@ impl Part {
     }
 
     // The exclude lock on an object's entry.
-    fn lock_in(&mut self, x: u16, path: &Path, out: &mut Lines) -> Result<(), AllocError>
+    fn lock_in(
+        &mut self,
+        alloc: Global,
+        x: u16,
+        path: &Path,
+        out: &mut Lines,
+    ) -> Result<(), AllocError>
         requires { refused_exclude path.now self.old x ≡ None }
         ensures part { OnOk result (self.new ≡ (lock_in x path.now self.old (at_number x self.old.objects)).part) }
         ensures lines { OnOk result (out.new ≡ out.old ++ said (lock_in x path.now self.old (at_number x self.old.objects)).outs) }
     {
-        self.touched.insert(x)?;
+        touch_path(alloc, &mut self.touched, path, x)?;
         let Some(object) = self.objects.get_mut(&x) else {
             return Ok(());
         };
-        object.exclude(x, path, out)?;
-        Ok(())
+        match object.exclude(x, path, out) {
+            Ok(()) => Ok(()),
+            Err(e) => {
+                self.objects.remove(&x);
+                Err(e)
+            }
+        }
     }
 
     /// The exclude locks on these objects' entries, one after another.
-    pub fn lock_all(&mut self, xs: &[u16], path: &Path, out: &mut Lines) -> Result<(), AllocError>
+    pub fn lock_all(
+        &mut self,
+        alloc: Global,
+        xs: &[u16],
+        path: &Path,
+        out: &mut Lines,
+    ) -> Result<(), AllocError>
         requires free { first_of_each (refused_exclude path.now self.old) xs.now ≡ None }
         requires once { IsOnce xs.now }
         ensures part { OnOk result (self.new ≡ (lock_all xs.now path.now self.old).part) }
         ensures lines { OnOk result (out.new ≡ out.old ++ said (lock_all xs.now path.now self.old).outs) }
     {
         for x in xs {
-            self.lock_in(*x, path, out)?;
+            self.lock_in(alloc, *x, path, out)?;
         }
         Ok(())
     }

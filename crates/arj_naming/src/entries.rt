@@ -1,8 +1,9 @@
 // The entries of objects in memory.
-ghost use Rattle.std.specs.Prelude.{◌≡◌, ◌↔◌, ◌&&◌, ◌++◌, ℕ, true, List, [], map, IfOk, IfSome, OnOk, option_copied, option_map};
+ghost use Rattle.std.specs.Prelude.{◌≡◌, ◌↔◌, ◌&&◌, ◌++◌, ℕ, true, not, List, [], filter, map, IfOk, IfSome, OnOk, option_copied, option_map};
 ghost use Rattle.std.specs.List.{AllByRecursion, flat_map, list_any};
 ghost use Rattle.arj_base.specs.declared.state.ObjectState.{ObjectState};
 ghost use Rattle.arj_base.specs.declared.uid.Uid.{Uid};
+ghost use Rattle.arj_base.specs.Rows.{is_on};
 ghost use Rattle.arj_base.specs.Uid.{entry, uid_eq};
 ghost use Rattle.arj_entry.specs.Entry.{is_listed};
 ghost use Rattle.arj_msg.specs.InForm.{IsObject};
@@ -224,6 +225,20 @@ impl Entries {
         let mut actions = Uids::new(self.alloc);
         for (action, _) in self.pend.iter() {
             actions.push(*action)?;
+        }
+        Ok(actions)
+    }
+
+    /// The actions of the set that are prepared, but for this one. It walks the set.
+    pub fn prepared_among(&self, set: &BTreeSet<Uid>, but: Uid) -> Result<Uids, AllocError>
+        ensures { IfOk result (λ actions. actions ≡ filter (λ act. not (uid_eq act but) && is_on set.now.keys act) (map (λ (p : Uid × List ObjectState). p.0) self.now.pend)) }
+    {
+        let _by_action = self.pend.len();
+        let mut actions = Uids::new(self.alloc);
+        for act in set.iter() {
+            if *act != but && self.is_prepared(*act) {
+                actions.push(*act)?;
+            }
         }
         Ok(actions)
     }

@@ -1,5 +1,5 @@
 // Naming on a new disk.
-ghost use Rattle.std.specs.Prelude.{◌≡◌, ◌≤◌, ◌-◌, Some, None, map, IfOk, OnOk};
+ghost use Rattle.std.specs.Prelude.{◌≡◌, ◌≤◌, ◌-◌, Some, None, map, IfOk, OnOk, OnErr};
 ghost use Rattle.std.specs.List.{AllByRecursion};
 ghost use Rattle.arj_disk.specs.Counted.{counts};
 ghost use Rattle.arj_disk.specs.Disk.{CountsCall};
@@ -12,6 +12,7 @@ ghost use Rattle.arj_journal.specs.declared.header.ObjectLine.{ObjectLine};
 ghost use Rattle.arj_naming.specs.Files.{GivesEntries};
 ghost use Rattle.arj_naming.specs.Kept.{StandsOn};
 ghost use Rattle.arj_protocol.specs.Step.{first_disk, first_entry as first_entry_of, parts_in};
+ghost use Rattle.arj_store.specs.Pair.{HasFirst};
 ghost use Rattle.arj_store.specs.declared.answer.StoreFault.{StoreFault};
 ghost use Rattle.arj_store.specs.declared.limits.TheConstants.{MOST_ROOM};
 
@@ -59,7 +60,7 @@ fn first_entries(alloc: Global, objects: &[ObjectLine]) -> Result<States, AllocE
 
 impl<O: ObjectStore + Drop> Naming<O> {
     /// The naming service of a new run, in incarnation 1, on a disk without files of entries: the entries of the header's
-    /// objects, in version 0. Of a disk that was stopped nothing is said.
+    /// objects, in version 0. Where it fails, the first few of them are there, or none.
     pub fn format<D: Disk>(
         alloc: Global,
         disk: &mut D,
@@ -72,7 +73,8 @@ impl<O: ObjectStore + Drop> Naming<O> {
         ensures part { IfOk result (λ n. Some n.part ≡ (parts_in 1 1 (first_disk header.now 1)).naming) }
         ensures entries { OnOk result (GivesEntries (O.pair (D.file disk.new) Role.Names)) }
         ensures room { OnOk result (MOST_ROOM - 1 ≤ O.room (D.file disk.new) Role.Names) }
-        ensures formed { OnOk result (O.formed (D.file disk.new) Role.Names) }
+        ensures fault { OnErr result (HasFirst (O.pair (D.file disk.new) Role.Names) (map first_entry_of header.now.objects)) }
+        ensures formed { O.formed (D.file disk.new) Role.Names }
         ensures others { OnlyOfRole Role.Names (D.file disk.old) (D.file disk.new) }
         ensures counts { CountsCall (counts D.Disk disk.old) (counts D.Disk disk.new) result StoreFault.Stopped }
     {

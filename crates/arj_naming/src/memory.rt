@@ -1,7 +1,5 @@
 // A Confirm in memory: all of it but the store's part.
-ghost use Rattle.std.specs.Prelude.{◌≡◌, ◌++◌, ◌∷◌, ◌&&◌, [], false, filter, not, IfOk, OnOk};
-ghost use Rattle.arj_base.specs.Rows.{is_on};
-ghost use Rattle.arj_base.specs.Uid.{uid_eq};
+ghost use Rattle.std.specs.Prelude.{◌≡◌, ◌++◌, ◌∷◌, [], false, IfOk, OnOk};
 ghost use Rattle.std.specs.List.{AllByRecursion};
 ghost use Rattle.arj_naming.specs.Calls.{confirm_by, IsSingle};
 ghost use Rattle.arj_naming.specs.Ends.{finished, orphans_by, taken_by};
@@ -19,12 +17,10 @@ use crate::checks::bare_entry;
 use crate::entries::Entries;
 use crate::lines::{NAMING_NODE, say};
 use crate::part::Part;
-use crate::uids::is_among;
 use arj_base::{End, ObjectState, States, Uid, Uids};
 use arj_journal::{Body, Lines, Role};
 use arj_msg::{Confirm, ConfirmedReply};
-use std::alloc::{AllocError, Global};
-use std::collections::BTreeSet;
+use std::alloc::AllocError;
 
 /// What naming has in memory.
 #[derive(Drop)]
@@ -91,7 +87,9 @@ impl Memory {
         if let Some(refused) = self.refused(m, wanted.as_slice(), states.as_slice()) {
             return Ok(Ready::Answer(Some(refused)));
         }
-        self.part.lock_all(wanted.as_slice(), &m.head.path, out)?;
+        let alloc = self.entries.allocator();
+        self.part
+            .lock_all(alloc, wanted.as_slice(), &m.head.path, out)?;
         if states.as_slice().is_empty() {
             self.part.confirm(top)?;
             return Ok(Ready::Answer(Some(ConfirmedReply::Yes)));
@@ -164,13 +162,7 @@ impl Memory {
         ensures { IfOk result (λ us. us ≡ orphans action self.now.entries self.now.part) }
     {
         let losers = self.part.losers(self.entries.allocator(), action)?;
-        let actions = self.entries.actions()?;
-        others_among(
-            self.entries.allocator(),
-            actions.as_slice(),
-            action,
-            &losers,
-        )
+        self.entries.prepared_among(&losers, action)
     }
 
     /// The lines and the locks of an end.
@@ -190,22 +182,4 @@ impl Memory {
         self.part.say_told(action, end, out)?;
         self.part.end(self.entries.allocator(), action, end)
     }
-}
-
-// The actions that are in the set, but for this one.
-fn others_among(
-    alloc: Global,
-    actions: &[Uid],
-    action: Uid,
-    set: &BTreeSet<Uid>,
-) -> Result<Uids, AllocError>
-    ensures { IfOk result (λ us. us ≡ filter (λ act. not (uid_eq act action) && is_on set.now.keys act) actions.now) }
-{
-    let mut others = Uids::new(alloc);
-    for act in actions {
-        if *act != action && is_among(set, *act) {
-            others.push(*act)?;
-        }
-    }
-    Ok(others)
 }

@@ -59,7 +59,8 @@ impl<O> Naming<O> {
         ensures pair { self.new.pair ≡ self.old.pair }
         ensures store { self.new.store ≡ self.old.store }
     {
-        self.memory.part.note(m, out)
+        let alloc = self.memory.entries.allocator();
+        self.memory.part.note(alloc, m, out)
     }
 
     /// A server is up again: live bindings to its earlier incarnations are dropped. It takes no memory.

@@ -17,10 +17,11 @@ ghost use Rattle.arj_protocol.specs.Words.body;
 ghost use Rattle.arj_naming.specs.Bound.{is_to};
 ghost use Rattle.arj_naming.specs.Objects.{live_of, changed_by, counted, IsServed};
 ghost use Rattle.arj_naming.specs.Said.{said};
-ghost use Rattle.arj_naming.specs.Touched.{IsQuiet};
+ghost use Rattle.arj_naming.specs.Touched.{looks_apart};
 
 use crate::bindings::{is_below, is_same, next_server};
 use crate::change::Change;
+use crate::confirm::NOBODY;
 use crate::counter::Counter;
 use crate::lines::{NAMING_NODE, say};
 use crate::locks::grant;
@@ -404,13 +405,6 @@ impl NamedObject {
         }
     }
 
-    /// The server of the live binding.
-    pub fn server(&self) -> Option<u8>
-        ensures { result ≡ option_map (λ l. l.server) self.now.live }
-    {
-        Some(self.live?.server)
-    }
-
     /// Whether the live binding is to this node.
     pub fn is_to(&self, node: u8) -> bool
         ensures { result ≡ is_to node self.now.live }
@@ -421,18 +415,21 @@ impl NamedObject {
         }
     }
 
-    /// Whether no end changes the object.
-    pub fn is_quiet(&self, alloc: Global) -> Result<bool, AllocError>
-        ensures { IfOk result (λ b. b ≡ true → IsQuiet self.now) }
+    /// The server of the binding that was made last for the top.
+    pub fn made_server(&self, top: Uid) -> Option<u8>
+        ensures { result ≡ option_map (λ m. m.server) (at_uid top self.now.made) }
     {
-        if self.made.len() != 0 {
-            return Ok(false);
-        }
-        if self.asked.len() != 0 {
-            return Ok(false);
-        }
-        let held = self.locks.held(alloc)?;
-        Ok(held.as_slice().is_empty())
+        Some(self.made.get(&top)?.server)
+    }
+
+    /// Whether it is seen that no end of the action changes the object.
+    pub fn is_apart(&self, action: Uid) -> bool
+        ensures { result ≡ looks_apart action self.now }
+    {
+        action != NOBODY
+            && !self.made.contains_key(&action)
+            && !is_among(&self.asked, action)
+            && !self.locks.holds(action)
     }
 
     /// Whether the action or a descendant of it has a lock.

@@ -9,12 +9,15 @@ ghost use Rattle.arj_protocol.specs.Ask.{asked_by};
 ghost use Rattle.arj_protocol.specs.Confirm.{confirms, recovered_lines, recovered_naming};
 ghost use Rattle.arj_protocol.specs.Naming.{is_over, loses_row, has_locks, taken_end, end_locks, end_lines, hello, naming_holders};
 
-use crate::bound::{hello_all, put_all};
+use crate::bound::{hello_all, put_made};
 use crate::counter::Counter;
 use crate::entries::Entries;
 use crate::lines::{NAMING_NODE, say};
 use crate::object::NamedObject;
-use crate::touched::{all_losers, all_tops, any_holds, end_all, still_touched, touched_first};
+use crate::touched::{
+    all_losers, all_tops, any_holds, end_under, tidy, tidy_all, tidy_path, touch_path,
+    touched_first,
+};
 use crate::uids::{drop_uid, is_among, list_of};
 use arj_base::{End, Path, Uid, Uids};
 use arj_journal::{Body, Lines, Part as JournalPart};
@@ -24,13 +27,14 @@ use std::collections::{BTreeMap, BTreeSet};
 use std::marker::Model;
 
 /// The objects at naming, the tops that it confirmed, and the actions whose end it was told. Contracts see the protocol's
-/// naming part. Each object that an end may change is among the touched ones, so that an end looks at no other; and each
-/// that is bound stands under its server or is touched, so that a hello looks at no other.
+/// naming part. Each object that an end of an action may change stands under the action, so that the end looks at no other;
+/// and each that is bound stands under its server, so that a hello looks at no other. An object whose call failed for want
+/// of memory goes: the part isn't used again.
 #[derive(Drop)]
 pub struct Part {
     pub counter: Counter,
     pub objects: BTreeMap<u16, NamedObject>,
-    pub touched: BTreeSet<u16>,
+    pub touched: BTreeMap<Uid, BTreeSet<u16>>,
     pub bound: BTreeMap<u8, BTreeSet<u16>>,
     pub confirmed: BTreeSet<Uid>,
     pub told: BTreeSet<Uid>,
@@ -44,7 +48,7 @@ impl Model for Part {
 
     ghost view = { λ p. record { inc = p.counter.inc; count = p.counter.count; objects = p.objects.entries; confirmed = p.confirmed.keys; told = p.told.keys } };
 
-    ghost invariant = { λ p. AreIndexed p.objects.entries p.touched.keys p.bound.entries };
+    ghost invariant = { λ p. AreIndexed p.objects.entries p.touched.entries p.bound.entries };
 }
 
 /// The head of an answer.
@@ -115,19 +119,32 @@ impl Part {
             return Ok(None);
         }
         let entry = entries.entry(m.x)?;
-        self.touched.insert(m.x)?;
+        touch_path(entries.allocator(), &mut self.touched, &m.head.path, m.x)?;
         let Some(object) = self.objects.get_mut(&m.x) else {
             return Ok(None);
         };
-        let reply = object.bind(&mut self.counter, m, entry, out)?;
-        Ok(Some(Bound {
-            asked: asked(&m.head),
-            reply,
-        }))
+        match object.bind(&mut self.counter, m, entry, out) {
+            Ok(reply) => {
+                tidy_path(&self.objects, &mut self.touched, &m.head.path);
+                Ok(Some(Bound {
+                    asked: asked(&m.head),
+                    reply,
+                }))
+            }
+            Err(e) => {
+                self.objects.remove(&m.x);
+                Err(e)
+            }
+        }
     }
 
     /// Answers a Record. None where it is void.
-    pub fn note(&mut self, m: &RecordMsg, out: &mut Lines) -> Result<Option<Recorded>, AllocError>
+    pub fn note(
+        &mut self,
+        alloc: Global,
+        m: &RecordMsg,
+        out: &mut Lines,
+    ) -> Result<Option<Recorded>, AllocError>
         ensures part { OnOk result (self.new ≡ (note_by m.now self.old).part) }
         ensures lines { OnOk result (out.new ≡ out.old ++ said (note_by m.now self.old).outs) }
         ensures reply { IfOk result (λ r. r ≡ option_map (recorded_to m.now.head) (note_by m.now self.old).reply) }
@@ -145,12 +162,18 @@ impl Part {
                 reply: RecordedReply::Changed(changed),
             }));
         }
-        self.touched.insert(m.x)?;
+        let top = m.head.path.top_path().last();
+        put_made(alloc, &self.objects, m.x, top, &mut self.bound)?;
         let Some(object) = self.objects.get_mut(&m.x) else {
             return Ok(None);
         };
-        let reply = object.note(m, out)?;
-        Ok(recorded(&m.head, reply))
+        match object.note(m, out) {
+            Ok(reply) => Ok(recorded(&m.head, reply)),
+            Err(e) => {
+                self.objects.remove(&m.x);
+                Err(e)
+            }
+        }
     }
 
     /// Whether naming was told of the action's end.
@@ -190,14 +213,20 @@ impl Part {
     pub fn has_locks(&self, action: Uid) -> bool
         ensures { result ≡ has_locks action self.now }
     {
-        any_holds(&self.objects, &self.touched, action)
+        match self.touched.get(&action) {
+            Some(xs) => any_holds(&self.objects, xs, action),
+            None => false,
+        }
     }
 
     /// The holders of the locks that an abort of the action drops.
     pub fn losers(&self, alloc: Global, action: Uid) -> Result<BTreeSet<Uid>, AllocError>
         ensures { IfOk result (λ losers. (act : Uid) → is_on losers.keys act ≡ loses_row action act self.now) }
     {
-        all_losers(alloc, &self.objects, &self.touched, action)
+        match self.touched.get(&action) {
+            Some(xs) => all_losers(alloc, &self.objects, xs, action),
+            None => Ok(BTreeSet::new(alloc)),
+        }
     }
 
     /// Says that the action's end came, where it has locks.
@@ -220,10 +249,11 @@ impl Part {
     pub fn end(&mut self, alloc: Global, action: Uid, end: End) -> Result<(), AllocError>
         ensures { OnOk result (self.new ≡ end_locks action end self.old) }
     {
+        let losers = self.losers(alloc, action)?;
         self.told.insert(action)?;
-        end_all(&mut self.objects, &self.touched, action, end);
-        put_all(alloc, &self.objects, &self.touched, &mut self.bound)?;
-        self.touched = still_touched(alloc, &self.objects, &self.touched)?;
+        end_under(&mut self.objects, &self.touched, action, end);
+        tidy_all(&self.objects, &mut self.touched, &losers);
+        tidy(&self.objects, &mut self.touched, action);
         drop_uid(&mut self.confirmed, action);
         Ok(())
     }
@@ -232,13 +262,7 @@ impl Part {
     pub fn hello(&mut self, m: &Hello)
         ensures { self.new ≡ hello m.now.node m.now.inc self.old }
     {
-        hello_all(
-            &mut self.objects,
-            &self.touched,
-            &mut self.bound,
-            m.node,
-            m.inc,
-        );
+        hello_all(&mut self.objects, &mut self.bound, m.node, m.inc);
     }
 
     /// The tops of the holders of locks, each once, in increasing order.

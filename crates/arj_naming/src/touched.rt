@@ -1,13 +1,13 @@
-// The objects that an end may change: a look at these alone does for a look at all.
-ghost use Rattle.std.specs.Prelude.{◌≡◌, ◌⊎◌, ℕ, true, map, Some, IfOk, OnOk};
+// The objects that each action has touched: at its end a look at these alone does for a look at all.
+ghost use Rattle.std.specs.Prelude.{◌≡◌, ◌⊎◌, ◌||◌, not, ℕ, true, filter, map, Some, IfOk, OnOk};
 ghost use Rattle.std.specs.List.{list_any};
+ghost use Rattle.std.specs.List.Sorted.{IsStrictlySortedBy};
 ghost use Rattle.std.specs.Map.{keys_of};
 ghost use Rattle.std.specs.Ordering.{is_eq, nat_cmp};
 ghost use Rattle.arj_base.specs.Rows.{is_on};
 ghost use Rattle.arj_base.specs.declared.uid.Uid.{Uid};
-ghost use Rattle.arj_naming.specs.Bound.{live_at};
 ghost use Rattle.arj_naming.specs.Objects.{changed_by};
-ghost use Rattle.arj_naming.specs.Touched.{AreTouched, IsQuiet, any_of, changed_at, is_in, test_at};
+ghost use Rattle.arj_naming.specs.Touched.{AreTouched, IsOff, KeepsTouched, any_of, any_under, changed_at, is_in, is_touched, looks_apart_in, test_at};
 ghost use Rattle.arj_protocol.specs.Copy.{holds};
 ghost use Rattle.arj_protocol.specs.Named.{Named, end_named};
 ghost use Rattle.arj_protocol.specs.Naming.{loses};
@@ -17,7 +17,7 @@ ghost use Rattle.arj_protocol.specs.Server.{row_top};
 use crate::change::Change;
 use crate::object::NamedObject;
 use crate::uids::insert_all;
-use arj_base::{End, Uid, Uids};
+use arj_base::{End, Path, Uid, Uids};
 use std::alloc::{AllocError, Global};
 use std::collections::{BTreeMap, BTreeSet};
 
@@ -41,71 +41,126 @@ pub fn change_each(objects: &mut BTreeMap<u16, NamedObject>, xs: &BTreeSet<u16>,
     }
 }
 
-/// The end of an action, at the touched objects.
-pub fn end_all(
+/// The end of an action, at the objects that it has touched.
+pub fn end_under(
     objects: &mut BTreeMap<u16, NamedObject>,
-    touched: &BTreeSet<u16>,
+    touched: &BTreeMap<Uid, BTreeSet<u16>>,
     action: Uid,
     end: End,
 )
-    requires { AreTouched objects.old.entries touched.now.keys }
-    ensures objects { objects.new.entries ≡ each (λ x. end_named action end) objects.old.entries }
-    ensures touched { AreTouched objects.new.entries touched.now.keys }
-    ensures lives { (q : ℕ) → live_at q objects.new.entries ≡ live_at q objects.old.entries }
+    requires sorted { IsStrictlySortedBy nat_cmp (keys_of objects.old.entries) }
+    requires touched { AreTouched action objects.old.entries (is_touched touched.now.entries action) }
+    ensures { objects.new.entries ≡ each (λ x. end_named action end) objects.old.entries }
 {
-    change_each(objects, touched, Change::End { action, end });
+    let Some(xs) = touched.get(&action) else {
+        return;
+    };
+    change_each(objects, xs, Change::End { action, end });
 }
 
-// Whether an object is quiet, or isn't there.
-fn is_quiet_at(
+// Puts an object under an action.
+fn touch(
     alloc: Global,
-    objects: &BTreeMap<u16, NamedObject>,
+    touched: &mut BTreeMap<Uid, BTreeSet<u16>>,
+    action: Uid,
     x: u16,
-) -> Result<bool, AllocError>
-    ensures { IfOk result (λ b. b ≡ true → (o : Named) → at_number x objects.now.entries ≡ Some o → IsQuiet o) }
-{
-    match objects.get(&x) {
-        Some(object) => object.is_quiet(alloc),
-        None => Ok(true),
-    }
-}
-
-// Keeps an object among those that are left, unless it is quiet.
-fn keep_busy(
-    alloc: Global,
-    objects: &BTreeMap<u16, NamedObject>,
-    x: u16,
-    left: &mut BTreeSet<u16>,
 ) -> Result<(), AllocError>
-    ensures here { OnOk result ((o : Named) → at_number x objects.now.entries ≡ Some o → IsQuiet o ⊎ (is_in left.new.keys x ≡ true)) }
-    ensures kept { (q : ℕ) → is_in left.old.keys q ≡ true → is_in left.new.keys q ≡ true }
+    ensures here { OnOk result (is_touched touched.new.entries action x ≡ true) }
+    ensures kept { KeepsTouched touched.old.entries touched.new.entries }
 {
-    if is_quiet_at(alloc, objects, x)? {
+    if let Some(xs) = touched.get_mut(&action) {
+        xs.insert(x)?;
         return Ok(());
     }
-    left.insert(x)?;
+    let mut xs = BTreeSet::new(alloc);
+    xs.insert(x)?;
+    touched.insert(action, xs)?;
     Ok(())
 }
 
-/// The touched objects that aren't quiet.
-pub fn still_touched(
+// Puts an object under each of these actions.
+fn touch_all(
     alloc: Global,
-    objects: &BTreeMap<u16, NamedObject>,
-    touched: &BTreeSet<u16>,
-) -> Result<BTreeSet<u16>, AllocError>
-    requires { AreTouched objects.now.entries touched.now.keys }
-    ensures { IfOk result (λ left. AreTouched objects.now.entries left.keys) }
+    touched: &mut BTreeMap<Uid, BTreeSet<u16>>,
+    actions: &[Uid],
+    x: u16,
+) -> Result<(), AllocError>
+    ensures here { OnOk result ((u : Uid) → is_on actions.now u ≡ true → is_touched touched.new.entries u x ≡ true) }
+    ensures kept { KeepsTouched touched.old.entries touched.new.entries }
 {
-    let mut left = BTreeSet::new(alloc);
-    for x in touched.iter() {
-        keep_busy(alloc, objects, *x, &mut left)?;
+    for action in actions {
+        touch(alloc, touched, *action, x)?;
     }
-    Ok(left)
+    Ok(())
+}
+
+/// Puts an object under each action on the path to the top.
+pub fn touch_path(
+    alloc: Global,
+    touched: &mut BTreeMap<Uid, BTreeSet<u16>>,
+    path: &Path,
+    x: u16,
+) -> Result<(), AllocError>
+    ensures here { OnOk result ((u : Uid) → IsOff u path.now ⊎ (is_touched touched.new.entries u x ≡ true)) }
+    ensures kept { KeepsTouched touched.old.entries touched.new.entries }
+{
+    let top = path.top_path();
+    touch(alloc, touched, top.last(), x)?;
+    touch_all(alloc, touched, top.as_slice(), x)
+}
+
+// Whether no end of the action changes an object, as far as it is looked at, or it isn't there.
+fn is_apart_at(objects: &BTreeMap<u16, NamedObject>, x: u16, action: Uid) -> bool
+    ensures { result ≡ looks_apart_in action (at_number x objects.now.entries) }
+{
+    match objects.get(&x) {
+        Some(object) => object.is_apart(action),
+        None => true,
+    }
+}
+
+// Keeps those of some objects that an end of the action may change.
+fn keep_touched(objects: &BTreeMap<u16, NamedObject>, action: Uid, xs: &mut BTreeSet<u16>)
+    ensures { xs.new.keys ≡ filter (λ x. not (looks_apart_in action (at_number x objects.now.entries))) xs.old.keys }
+{
+    xs.retain(|x| !is_apart_at(objects, *x, action));
+}
+
+/// Leaves under an action those objects alone that its end may change.
+pub fn tidy(
+    objects: &BTreeMap<u16, NamedObject>,
+    touched: &mut BTreeMap<Uid, BTreeSet<u16>>,
+    action: Uid,
+)
+    ensures { (u : Uid) → AreTouched u objects.now.entries (is_touched touched.old.entries u) → AreTouched u objects.now.entries (is_touched touched.new.entries u) }
+{
+    let Some(xs) = touched.get_mut(&action) else {
+        return;
+    };
+    keep_touched(objects, action, xs);
+    if xs.len() != 0 {
+        return;
+    }
+    touched.remove(&action);
+}
+
+/// And so under each of these actions.
+pub fn tidy_all(
+    objects: &BTreeMap<u16, NamedObject>,
+    touched: &mut BTreeMap<Uid, BTreeSet<u16>>,
+    actions: &BTreeSet<Uid>,
+)
+    ensures { (u : Uid) → AreTouched u objects.now.entries (is_touched touched.old.entries u) → AreTouched u objects.now.entries (is_touched touched.new.entries u) }
+{
+    for action in actions.iter() {
+        tidy(objects, touched, *action);
+    }
 }
 
 // All objects by number.
 fn numbers(alloc: Global, objects: &BTreeMap<u16, NamedObject>) -> Result<BTreeSet<u16>, AllocError>
-    ensures { IfOk result (λ all. AreTouched objects.now.entries all.keys) }
+    ensures all { IfOk result (λ all. all.keys ≡ keys_of objects.now.entries) }
+    ensures sorted { OnOk result (IsStrictlySortedBy nat_cmp (keys_of objects.now.entries)) }
 {
     let mut all = BTreeSet::new(alloc);
     for (x, _) in objects.iter() {
@@ -114,15 +169,48 @@ fn numbers(alloc: Global, objects: &BTreeMap<u16, NamedObject>) -> Result<BTreeS
     Ok(all)
 }
 
-/// The objects that an end may change, found by a look at all.
+/// And so under each action on the path to the top.
+pub fn tidy_path(
+    objects: &BTreeMap<u16, NamedObject>,
+    touched: &mut BTreeMap<Uid, BTreeSet<u16>>,
+    path: &Path,
+)
+    ensures { (u : Uid) → AreTouched u objects.now.entries (is_touched touched.old.entries u) → AreTouched u objects.now.entries (is_touched touched.new.entries u) }
+{
+    let top = path.top_path();
+    for action in top.as_slice() {
+        tidy(objects, touched, *action);
+    }
+}
+
+// Puts an object under the tops that have a lock on its entry.
+fn touch_tops(
+    alloc: Global,
+    objects: &BTreeMap<u16, NamedObject>,
+    x: u16,
+    touched: &mut BTreeMap<Uid, BTreeSet<u16>>,
+) -> Result<(), AllocError>
+    ensures here { OnOk result ((u : Uid) → test_at (λ o. is_on (map row_top o.rows) u) (at_number x objects.now.entries) ≡ true → is_touched touched.new.entries u x ≡ true) }
+    ensures kept { KeepsTouched touched.old.entries touched.new.entries }
+{
+    let tops = tops_at(alloc, objects, x)?;
+    touch_all(alloc, touched, tops.as_slice(), x)
+}
+
+/// All objects, each under the tops that have a lock on its entry.
 pub fn touched_first(
     alloc: Global,
     objects: &BTreeMap<u16, NamedObject>,
-) -> Result<BTreeSet<u16>, AllocError>
-    ensures { IfOk result (λ touched. AreTouched objects.now.entries touched.keys) }
+) -> Result<BTreeMap<Uid, BTreeSet<u16>>, AllocError>
+    ensures sorted { OnOk result (IsStrictlySortedBy nat_cmp (keys_of objects.now.entries)) }
+    ensures touched { IfOk result (λ touched. (u : Uid) (x : ℕ) (o : Named) → at_number x objects.now.entries ≡ Some o → is_on (map row_top o.rows) u ≡ true → is_touched touched.entries u x ≡ true) }
 {
     let all = numbers(alloc, objects)?;
-    still_touched(alloc, objects, &all)
+    let mut touched = BTreeMap::new(alloc);
+    for x in all.iter() {
+        touch_tops(alloc, objects, *x, &mut touched)?;
+    }
+    Ok(touched)
 }
 
 // Whether the action or a descendant of it has a lock on one object's entry.
@@ -135,11 +223,11 @@ fn holds_at(objects: &BTreeMap<u16, NamedObject>, x: u16, action: Uid) -> bool
     }
 }
 
-/// Whether the action or a descendant of it has a lock on the entry of a touched object.
-pub fn any_holds(objects: &BTreeMap<u16, NamedObject>, touched: &BTreeSet<u16>, action: Uid) -> bool
-    ensures { result ≡ any_of (λ o. holds action o.rows) objects.now.entries touched.now.keys }
+/// Whether the action or a descendant of it has a lock on the entry of one of these objects.
+pub fn any_holds(objects: &BTreeMap<u16, NamedObject>, xs: &BTreeSet<u16>, action: Uid) -> bool
+    ensures { result ≡ any_of (λ o. holds action o.rows) objects.now.entries xs.now.keys }
 {
-    for x in touched.iter() {
+    for x in xs.iter() {
         if holds_at(objects, *x, action) {
             return true;
         }
@@ -162,17 +250,17 @@ fn losers_at(
     }
 }
 
-/// And so of the touched objects.
+/// And so of these objects.
 pub fn all_losers(
     alloc: Global,
     objects: &BTreeMap<u16, NamedObject>,
-    touched: &BTreeSet<u16>,
+    xs: &BTreeSet<u16>,
     action: Uid,
 ) -> Result<BTreeSet<Uid>, AllocError>
-    ensures { IfOk result (λ losers. (act : Uid) → is_on losers.keys act ≡ any_of (λ o. list_any (loses action act) o.rows) objects.now.entries touched.now.keys) }
+    ensures { IfOk result (λ losers. (act : Uid) → is_on losers.keys act ≡ any_of (λ o. list_any (loses action act) o.rows) objects.now.entries xs.now.keys) }
 {
     let mut losers = BTreeSet::new(alloc);
-    for x in touched.iter() {
+    for x in xs.iter() {
         let holders = losers_at(alloc, objects, *x, action)?;
         insert_all(&mut losers, holders.as_slice())?;
     }
@@ -189,18 +277,33 @@ fn tops_at(alloc: Global, objects: &BTreeMap<u16, NamedObject>, x: u16) -> Resul
     }
 }
 
-/// And so of the touched objects.
+// And so of these objects.
+fn put_tops(
+    alloc: Global,
+    objects: &BTreeMap<u16, NamedObject>,
+    xs: &BTreeSet<u16>,
+    tops: &mut BTreeSet<Uid>,
+) -> Result<(), AllocError>
+    ensures { OnOk result ((u : Uid) → is_on tops.new.keys u ≡ (is_on tops.old.keys u || any_of (λ o. is_on (map row_top o.rows) u) objects.now.entries xs.now.keys)) }
+{
+    for x in xs.iter() {
+        let held = tops_at(alloc, objects, *x)?;
+        insert_all(tops, held.as_slice())?;
+    }
+    Ok(())
+}
+
+/// And so of the objects that some action has touched.
 pub fn all_tops(
     alloc: Global,
     objects: &BTreeMap<u16, NamedObject>,
-    touched: &BTreeSet<u16>,
+    touched: &BTreeMap<Uid, BTreeSet<u16>>,
 ) -> Result<BTreeSet<Uid>, AllocError>
-    ensures { IfOk result (λ tops. (u : Uid) → is_on tops.keys u ≡ any_of (λ o. is_on (map row_top o.rows) u) objects.now.entries touched.now.keys) }
+    ensures { IfOk result (λ tops. (u : Uid) → is_on tops.keys u ≡ any_under (λ o. is_on (map row_top o.rows) u) objects.now.entries touched.now.entries) }
 {
     let mut tops = BTreeSet::new(alloc);
-    for x in touched.iter() {
-        let held = tops_at(alloc, objects, *x)?;
-        insert_all(&mut tops, held.as_slice())?;
+    for (_, xs) in touched.iter() {
+        put_tops(alloc, objects, xs, &mut tops)?;
     }
     Ok(tops)
 }

@@ -1,5 +1,5 @@
 // How a node begins: the first states of the objects that it stores.
-ghost use Rattle.std.specs.Prelude.{◌≡◌, ◌≤◌, ◌++◌, ◌∷◌, [], None, Some, filter, map, length, IfOk, OnOk};
+ghost use Rattle.std.specs.Prelude.{◌≡◌, ◌≤◌, ◌++◌, ◌∷◌, [], None, Some, filter, map, length, IfOk, OnOk, OnErr};
 ghost use Rattle.std.specs.List.{AllByRecursion};
 ghost use Rattle.arj_base.specs.State.{state_bytes};
 ghost use Rattle.arj_base.specs.declared.limits.TheConstants.{MOST_BYTES};
@@ -14,6 +14,7 @@ ghost use Rattle.arj_protocol.specs.Order.{has};
 ghost use Rattle.arj_protocol.specs.Step as step;
 ghost use Rattle.arj_base.specs.declared.uid.Uid.{Uid};
 ghost use Rattle.arj_recover.specs.OnDisk.{IsFirst, IsFormed, states_at};
+ghost use Rattle.arj_store.specs.Pair.{HasFirst};
 ghost use Rattle.arj_store.specs.declared.answer.StoreFault.{StoreFault};
 ghost use Rattle.arj_store_law.specs.Files.{IsPairOf};
 
@@ -32,7 +33,7 @@ const NOBODY: Uid = Uid {
 };
 
 /// Puts the first states of the objects that the node stores on a disk without files of its store, in order of their
-/// numbers.
+/// numbers. Where it fails, the first few of them are there, or none.
 pub fn format<D: Disk, O: ObjectStore>(
     alloc: Global,
     disk: &mut D,
@@ -44,7 +45,8 @@ pub fn format<D: Disk, O: ObjectStore>(
     ensures role { IfOk result (λ store. O.own_role store ≡ Role.Store) }
     ensures keeps { IfOk result (λ store. O.keeps store (D.file disk.new)) }
     ensures pair { OnOk result (IsPairOf (O.pair (D.file disk.new) Role.Store) (step.pair_with (states_at node header.now))) }
-    ensures formed { OnOk result (O.formed (D.file disk.new) Role.Store) }
+    ensures fault { OnErr result (HasFirst (O.pair (D.file disk.new) Role.Store) (states_at node header.now)) }
+    ensures formed { O.formed (D.file disk.new) Role.Store }
     ensures others { OnlyOfRole Role.Store (D.file disk.old) (D.file disk.new) }
     ensures counts { CountsCall (counts D.Disk disk.old) (counts D.Disk disk.new) result StoreFault.Stopped }
 {

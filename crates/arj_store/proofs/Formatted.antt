@@ -1,5 +1,5 @@
 -- A formatted disk.
-use Rattle.std.proofs.Common.{◌≡◌, ◌⊎◌, ◌∙◌, true, false, ◌==◌, ◌&&◌, List, [], ◌∷◌, ℕ, ◌≤◌, arith, refl, sym, ap, subst, inl, inr, ⊎_elim, map, Option, Some, None, length}
+use Rattle.std.proofs.Common.{◌≡◌, ◌⊎◌, ◌∙◌, true, false, ◌==◌, ◌&&◌, List, [], ◌∷◌, ℕ, ◌≤◌, arith, refl, sym, ap, subst, inl, inr, ⊎_elim, map, take, Option, Some, None, length}
 use Rattle.std.specs.Prelude.{IsSome, is_some, IfSome, option_map, Contains, MatchOption}
 use Rattle.std.specs.List.{AllByRecursion, IsDistinct}
 use Rattle.arj_base.specs.State.{state_bytes}
@@ -14,10 +14,11 @@ use Rattle.arj_disk.specs.Formed.{FormedFor, IsStateOf, IsPreparedOf}
 use Rattle.arj_disk.specs.Says.{role_of, slot_role, held, pend, names, OnlyOfRole}
 use Rattle.arj_store.specs.declared.memory.Holding.{Holding}
 use Rattle.arj_store.specs.declared.prepare.Place.TheVariants as place
-use Rattle.arj_store.specs.OfFiles.{HasOnly}
+use Rattle.arj_store.specs.OfFiles.{HasFirst, HasOnly}
 use Rattle.arj_store.specs.Pair.{uid_of}
-use Rattle.arj_store.specs.Shadow.{is_in, is_named, objects_of, has_shadow, Keeps, PutsStates, HasStates}
+use Rattle.arj_store.specs.Shadow.{is_in, is_named, objects_of, has_shadow, Keeps, PutsFirst, PutsStates, HasStates}
 use Rattle.arj_store.specs.Named.{held_own, held_of_role}
+use Rattle.arj_store.proofs.Lists.{all_take}
 use Rattle.arj_store.proofs.Prepared.{all_in, among}
 use Rattle.arj_store.proofs.Puts.{length_map}
 use Rattle.arj_store.proofs.Uids.{uid_is, uid_same}
@@ -107,3 +108,11 @@ module _ (role : Role) (states : List ObjectState) (old new : FileMap) (empty : 
     where
       count : (us : List Uid) → IsDistinct uid_eq us → ((u : Uid) → Contains us u → is_in (map uid_of states) u ≡ true) → length us ≤ 65535
       count us distinct each = let le : length us ≤ length (map uid_of states) = length-le_from_is_member uid_equivalence us (map uid_of states) distinct (λ q is. each q (among us q is)) in omega (arith, length_map states)
+
+-- a format that ended too soon
+pub format_first : (role : Role) (states : List ObjectState) (old new : FileMap) → ((q : Slot) → slot_role q ≡ Some role → old q ≡ None) → AllByRecursion (λ s. role_of s.uid ≡ role) states
+    → PutsFirst place.Committed states old new → HasFirst role new states
+format_first role states old new empty owns first = (
+  first.count,
+  format_pair role (take first.count states) old new empty (all_take (λ s. role_of s.uid ≡ role) states first.count owns) first.puts first.there,
+)

@@ -14,3 +14,8 @@ pub all_at : {X : Type 0} (P : X → Type 0) (xs : List X) (i : ℕ) (d : X) →
 all_at P [] i d within all = let never : ⊥ = omega arith in absurd never
 all_at P (x ∷ xs) zero d within all = all.0
 all_at P (x ∷ xs) (suc i) d within all = all_at P xs i d (omega arith) all.1
+
+pub all_take : {X : Type 0} (P : X → Type 0) (xs : List X) (n : ℕ) → AllByRecursion P xs → AllByRecursion P (take n xs)
+all_take P xs zero all = tt
+all_take P [] (suc n) all = tt
+all_take P (x ∷ xs) (suc n) all = (all.0, all_take P xs n all.1)

@@ -1,3 +1,4 @@
+pub mod Blank
 pub mod Effects
 pub mod Fault
 pub mod Kept

@@ -55,6 +55,9 @@ AnswersPrepare role old new act states answer = pair.AnswersPrepare (pair_of old
 abbrev pub HasOnly : Role → FileMap → List ObjectState → Type 0
 HasOnly role file states = pair.HasOnly (pair_of file role) states
 
+abbrev pub HasFirst : Role → FileMap → List ObjectState → Type 0
+HasFirst role file states = pair.HasFirst (pair_of file role) states
+
 abbrev pub FindsPair : Role → FileMap → Found → Type 0
 FindsPair role file found = pair.FindsPair (pair_of file role) found
 

@@ -1,6 +1,6 @@
 -- The pair of a role, and what the calls of a store do with it: relations between the pair before a call and after it.
 -- A store says which pair the files of a disk give; nothing here speaks of files.
-use Rattle.std.specs.Prelude.{◌≡◌, ◌≢◌, ◌⊎◌, ◌<◌, ℕ, List, [], ◌∷◌, map, Contains, Option, Some, None, IsSome, IfSome, ◌↔◌}
+use Rattle.std.specs.Prelude.{◌≡◌, ◌≢◌, ◌⊎◌, ◌<◌, ℕ, List, [], ◌∷◌, map, take, Contains, Option, Some, None, IsSome, IfSome, ◌↔◌}
 use Rattle.std.specs.List.{IsDistinct, AllByRecursion}
 use Rattle.std.specs.List.Sorted.{IsStrictlySortedBy}
 use Rattle.arj_base.specs.State.{state_bytes, StateInForm}
@@ -146,6 +146,10 @@ pub record HasOnly (p : Pair) (states : List ObjectState) : Type 0 where
   pub each : AllByRecursion (λ s. p.held s.uid ≡ Some (state_bytes s)) states
   pub others : (u : Uid) → IsSome (p.held u) → Contains (map uid_of states) u
   pub none : (a : Uid) → p.pend a ≡ None
+
+-- the pair has the first few of these states and no others, and nothing is prepared
+abbrev pub HasFirst : Pair → List ObjectState → Type 0
+HasFirst p states = (count : ℕ) × HasOnly p (take count states)
 
 -- What a recovery finds: each committed state and each prepared action with its new states, by Uid.
 pub record FindsPair (p : Pair) (found : Found) : Type 0 where

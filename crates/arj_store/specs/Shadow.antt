@@ -1,5 +1,5 @@
 -- How the shadow store keeps the pair: what it has in memory, and what its calls do with the files.
-use Rattle.std.specs.Prelude.{◌≡◌, ◌≢◌, ◌⊎◌, ◌<◌, Bool, true, false, List, map, Option, Some, None, IsSome, is_some, IfSome, option_map, MatchOption}
+use Rattle.std.specs.Prelude.{◌≡◌, ◌≢◌, ◌⊎◌, ◌<◌, Bool, true, false, ℕ, List, map, take, Option, Some, None, IsSome, is_some, IfSome, option_map, MatchOption}
 use Rattle.std.specs.List.{list_any, AllByRecursion}
 use Rattle.arj_base.specs.State.{state_bytes}
 use Rattle.arj_base.specs.Uid.{uid_eq, UidFits}
@@ -88,6 +88,12 @@ PutsStates kind us old new = ChangesStates kind (λ u. is_in us u ≡ true) old 
 -- each state has its file
 abbrev pub HasStates : Place → List ObjectState → FileMap → Type 0
 HasStates kind states file = AllByRecursion (λ s. file (slot_at kind s.uid) ≡ Some (state_bytes s)) states
+
+-- The first few states have their files; all other files but Tmp are as before.
+pub record PutsFirst (kind : Place) (states : List ObjectState) (old new : FileMap) : Type 0 where
+  pub count : ℕ
+  pub puts : PutsStates kind (map uid_of (take count states)) old new
+  pub there : HasStates kind (take count states) new
 
 -- the action's file is there; all other files but Tmp are as before
 pub record PutsFile (role : Role) (act : Uid) (us : List Uid) (old new : FileMap) : Type 0 where

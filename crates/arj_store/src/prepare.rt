@@ -1,5 +1,5 @@
 // The preparing of new states.
-ghost use Rattle.std.specs.Prelude.{◌≡◌, ◌≢◌, ◌⊎◌, ◌≤◌, true, false, None, Some, length, map, option_map, IfOk, OnOk, IfSome, MatchOption, ◌↔◌};
+ghost use Rattle.std.specs.Prelude.{◌≡◌, ◌≢◌, ◌⊎◌, ◌≤◌, true, false, None, Some, length, map, option_map, IfOk, OnOk, OnErr, IfSome, MatchOption, ◌↔◌};
 ghost use Rattle.std.specs.List.{AllByRecursion, IsDistinct};
 ghost use Rattle.arj_base.specs.State.{state_bytes, StateInForm};
 ghost use Rattle.arj_base.specs.Uid.{uid_eq};
@@ -9,7 +9,7 @@ ghost use Rattle.arj_disk.specs.Formed.{FormedFor, IsStateOf};
 ghost use Rattle.arj_disk.specs.Says.{role_of};
 ghost use Rattle.arj_store.specs.OfFiles.{Refuses, IsRefused, IsClear};
 ghost use Rattle.arj_store.specs.Pair.{uid_of, IsNoOlder};
-ghost use Rattle.arj_store.specs.Shadow.{PendingKeeps, PutsStates, HasStates, PutsAll, IsBelow, HeldRefuses, slot_at};
+ghost use Rattle.arj_store.specs.Shadow.{PendingKeeps, PutsFirst, PutsStates, HasStates, PutsAll, IsBelow, HeldRefuses, slot_at};
 ghost use Rattle.arj_store.specs.Table.{at};
 ghost use Rattle.arj_disk.specs.declared.slot.Slot.{Slot};
 ghost use Rattle.arj_base.specs.declared.limits.TheConstants.{MOST_BYTES};
@@ -179,6 +179,7 @@ pub fn put_states<D: Disk>(
     requires sizes { AllByRecursion (λ s. length (state_bytes s) ≤ MOST_BYTES) states.now }
     ensures ok { OnOk result (HasStates place states.now (D.file disk.new)) }
     ensures files { PutsStates place (map uid_of states.now) (D.file disk.old) (D.file disk.new) }
+    ensures fault { OnErr result (PutsFirst place states.now (D.file disk.old) (D.file disk.new)) }
     ensures counts { CountsCall (counts D.Disk disk.old) (counts D.Disk disk.new) result StoreFault.Stopped }
 {
     for state in states {

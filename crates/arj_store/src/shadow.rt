@@ -23,6 +23,7 @@ pub struct ShadowStore {
 
 impl ObjectStore for ShadowStore {
     ghost use Rattle.arj_store.specs.Kept.{role_kept, found_kept, StoreKeeps};
+    ghost use Rattle.arj_store.specs.Blank.{files_blank};
     ghost use Rattle.arj_store.specs.KeepsOn.{store_keeps_on};
     ghost use Rattle.arj_store.specs.OfFiles.{pair_of};
     ghost use Rattle.arj_store.specs.Stays.{files_stay, files_sound};
@@ -154,6 +155,8 @@ impl ObjectStore for ShadowStore {
     ghost keeps_on = { store_keeps_on };
 
     ghost stays = { files_stay };
+
+    ghost blank = { files_blank };
 
     ghost sound = { files_sound };
 

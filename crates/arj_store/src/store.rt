@@ -1,5 +1,5 @@
 // The store as the layers above see it.
-ghost use Rattle.std.specs.Prelude.{◌≡◌, ◌-◌, ◌⊎◌, ◌+◌, ◌≤◌, ◌↔◌, ℕ, List, Option, None, Some, true, map, Contains, length, IsSome, MatchOption, IfOk, OnOk, OnErr, IsErrOf};
+ghost use Rattle.std.specs.Prelude.{◌≡◌, ◌-◌, ◌⊎◌, ◌+◌, ◌≤◌, ◌↔◌, ℕ, List, [], Option, None, Some, true, map, Contains, length, IsSome, MatchOption, IfOk, OnOk, OnErr, IsErrOf};
 ghost use Rattle.std.specs.List.{AllByRecursion};
 ghost use Rattle.arj_base.specs.State.{state_bytes};
 ghost use Rattle.arj_disk.specs.Counted.{counts};
@@ -8,7 +8,7 @@ ghost use Rattle.arj_disk.specs.Formed.{AtMost};
 ghost use Rattle.arj_disk.specs.Says.{names, slot_role, OnlyOfRole, SameOfRole};
 ghost use Rattle.arj_disk.specs.declared.slot.Role.{Role};
 ghost use Rattle.arj_disk.specs.declared.slot.Slot.{Slot};
-ghost use Rattle.arj_store.specs.Pair.{Pair, IsKnown, InDoubt, AreClear, IsSound, SamePair, Drops, Moves, MovesSome, Reads, Prepares, AnswersPrepare, HasOnly, AreDistinct, Finds, FindsNothing, ListsActions, uid_of};
+ghost use Rattle.arj_store.specs.Pair.{Pair, IsKnown, InDoubt, AreClear, IsSound, SamePair, Drops, Moves, MovesSome, Reads, Prepares, AnswersPrepare, HasFirst, HasOnly, AreDistinct, Finds, FindsNothing, ListsActions, uid_of};
 ghost use Rattle.arj_store.specs.declared.answer.Found.{Found};
 ghost use Rattle.arj_base.specs.declared.limits.TheConstants.{MOST_BYTES};
 ghost use Rattle.arj_disk.specs.declared.limits.TheConstants.{MOST_KNOWN, MOST_PREPARED};
@@ -41,7 +41,8 @@ pub trait ObjectStore: Sized {
     /// What the store's recovery found.
     ghost finding: { Self → Found };
 
-    /// Puts the first states on a disk without files of the role. Of a disk that was stopped nothing is said.
+    /// Puts the first states on a disk without files of the role, in their order. Where it fails, the first few of them
+    /// are there, or none.
     fn format<D: Disk>(
         alloc: Global,
         disk: &mut D,
@@ -55,9 +56,10 @@ pub trait ObjectStore: Sized {
         ensures role { IfOk result (λ store. own_role store ≡ role) }
         ensures keeps { IfOk result (λ store. keeps store (D.file disk.new)) }
         ensures pair { OnOk result (HasOnly (pair (D.file disk.new) role) states.now) }
+        ensures fault { OnErr result (HasFirst (pair (D.file disk.new) role) states.now) }
         ensures found { IfOk result (λ store. FindsNothing (finding store)) }
         ensures room { OnOk result (MOST_ROOM - 1 ≤ room (D.file disk.new) role) }
-        ensures formed { OnOk result (formed (D.file disk.new) role) }
+        ensures formed { formed (D.file disk.new) role }
         ensures others { OnlyOfRole role (D.file disk.old) (D.file disk.new) }
         ensures counts { CountsCall (counts D.Disk disk.old) (counts D.Disk disk.new) result StoreFault.Stopped };
 
@@ -174,6 +176,9 @@ pub trait ObjectStore: Sized {
 
     /// What changes no file of the role leaves its files formed, and its pair.
     ghost stays: { (r : Role) (old new : Slot → Option (List ℕ)) → SameOfRole r old new → formed old r → formed new r × SamePair (pair old r) (pair new r) };
+
+    /// Files among which there is none of the role are formed for it, and its pair is empty.
+    ghost blank: { (r : Role) (file : Slot → Option (List ℕ)) → ((q : Slot) → slot_role q ≡ Some r → file q ≡ None) → formed file r × HasOnly (pair file r) [] };
 
     /// Where the files are formed, the pair is sound.
     ghost sound: { (r : Role) (file : Slot → Option (List ℕ)) → formed file r → IsSound r (pair file r) };

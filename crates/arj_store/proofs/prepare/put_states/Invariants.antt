@@ -8,7 +8,7 @@ use Rattle.arj_store.proofs.prepare.put_states.Given as goal
 -- the states so far have their files
 abbrev pub invariant-loop-state : goal.invariant-loop-state
 invariant-loop-state g l = record {
-  puts : PutsStates l.place (map uid_of l.states) (g.D.Disk.file l.initial.disk) (g.D.Disk.file l.disk);
+  puts : PutsStates l.place (map uid_of (take l.state-index l.states)) (g.D.Disk.file l.initial.disk) (g.D.Disk.file l.disk);
   has : HasStates l.place (take l.state-index l.states) (g.D.Disk.file l.disk);
   counts : SameCounts (counts g.D.Disk l.initial.disk) (counts g.D.Disk l.disk);
 }

@@ -1,4 +1,5 @@
-use Rattle.std.proofs.Common.{◌≡◌, ◌∙◌, ap, refl, subst, sym, Some}
+use Rattle.std.proofs.Common.{◌≡◌, ◌∙◌, ap, length, refl, subst, sym, Some}
+use Rattle.std.proofs.Math.Seq.{take-length}
 use Rattle.std.specs.List.{AllByRecursion}
 use Rattle.arj_disk.specs.declared.slot.Role.TheVariants.{Names}
 use Rattle.arj_entry.specs.Entry.{EntryInForm}
@@ -6,8 +7,10 @@ use Rattle.arj_journal.specs.declared.header.ObjectLine.{ObjectLine}
 use Rattle.arj_naming.proofs.First.{first_found, firsts, header_all, header_distinct, header_few, header_pair, header_rises, header_saves, header_sizes, only_pair}
 use Rattle.arj_naming.proofs.Gives.{gives_entries}
 use Rattle.arj_naming.proofs.Recovered.{each_by_uid}
+use Rattle.arj_naming.proofs.Store.{on_err}
 use Rattle.arj_protocol.specs.Confirm.{recovered_naming}
 use Rattle.arj_protocol.specs.Step.{first_disk}
+use Rattle.arj_store.specs.Pair.{HasFirst, HasOnly}
 use Rattle.arj_store.specs.declared.answer.Found.{Found}
 use Rattle.arj_store_law.specs.Files.{IsPairOf}
 use Rattle.arj_store_law.specs.Found.{by_uid, pair_found}
@@ -32,6 +35,22 @@ recovered-requires g c =
     let are : ss ≡ firsts hd.objects = c.in_ok-states.ensures ∙ ap firsts c.as_slice.ensures in
     let f : Found = record { committed = ss; prepared = c.new.result } in
     first_found f (header_all hd c.requires.header ss are) (header_rises hd c.requires.header ss are) c.new.ensures
+
+-- where memory is wanting before it begins, nothing is there
+pub returns-in_err-states-clause-fault : goal.returns-in_err-states-clause-fault
+returns-in_err-states-clause-fault g c = on_err c.from_residual.result (0, (g.met.O.ObjectStore.blank Names (g.D.Disk.file c.args.disk.now) c.requires.empty).1)
+
+pub returns-in_err-states-clause-formed : goal.returns-in_err-states-clause-formed
+returns-in_err-states-clause-formed g c = (g.met.O.ObjectStore.blank Names (g.D.Disk.file c.args.disk.now) c.requires.empty).0
+
+pub returns-in_err-store-clause-fault : goal.returns-in_err-store-clause-fault
+returns-in_err-store-clause-fault g c = on_err c.from_residual-in_err-store.result (subst (HasFirst (g.O.ObjectStore.pair (g.D.Disk.file c.format.new.disk) Names)) (c.in_ok-states.ensures ∙ ap firsts c.as_slice.ensures) c.in_err-store.ensures.fault)
+
+-- all of them are there
+pub returns-in_err-memory-clause-fault : goal.returns-in_err-memory-clause-fault
+returns-in_err-memory-clause-fault g c =
+    let q = g.O.ObjectStore.pair (g.D.Disk.file c.format.new.disk) Names in
+    on_err c.from_residual-in_err-memory.result (subst (HasFirst q) (c.in_ok-states.ensures ∙ ap firsts c.as_slice.ensures) (length c.in_ok-states.states, subst (HasOnly q) (sym (take-length c.in_ok-states.states)) c.in_ok-store.ensures.pair))
 
 pub returns-clause-stands : goal.returns-clause-stands
 returns-clause-stands g c =

@@ -5,7 +5,8 @@ use Rattle.arj_base.specs.Order.{uid_order}
 use Rattle.arj_base.specs.Rows.{is_on}
 use Rattle.arj_lock.specs.Held.{AreListed}
 use Rattle.arj_naming.proofs.Listed.{listed_by}
-use Rattle.arj_naming.proofs.Quiet.{any_touched, tops_of_all}
+use Rattle.arj_naming.proofs.Indexed.{tops_touched}
+use Rattle.arj_naming.proofs.Quiet.{tops_of_all}
 use Rattle.arj_protocol.specs.Named.{Named}
 use Rattle.arj_protocol.specs.Naming.{Naming, naming_holders}
 use Rattle.arj_protocol.specs.Server.{row_top}
@@ -20,7 +21,7 @@ returns c =
     (λ list is. record {
       each = listed_by holders list (λ u. (λ j. is_on (is j) u)
           ∙ (c.in_ok-tops.ensures u
-          ∙ (any_touched (λ (o : Named). is_on (map row_top o.rows) u) m c.self.inside.touched.keys c.self.invariant.touched (λ o quiet. λ i. is_on (map row_top (quiet.rows i)) u)
+          ∙ (tops_touched (λ (o : Named). is_on (map row_top o.rows) u) m c.self.inside.touched.entries c.self.invariant.sorted c.self.invariant.touched (λ o none. λ i. is_on (map row_top (none i)) u)
           ∙ (sym (tops_of_all m u) ∙ ap (λ (n : Naming). is_on (naming_holders n) u) c.self.view_is))));
       increasing = subst (IsStrictlySortedBy uid_order) (sym is) c.list_of.ensures.increasing;
     }) c.list_of.ensures.list

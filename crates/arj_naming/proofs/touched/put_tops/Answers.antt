@@ -5,7 +5,7 @@ use Rattle.arj_protocol.specs.Named.{Named}
 use Rattle.arj_protocol.specs.Server.{row_top}
 use Rattle.arj_protocol.specs.Order.{at_number}
 use Rattle.arj_store_law.proofs.Keys.{or_three}
-use Rattle.arj_naming.proofs.touched.all_tops.Goals as goal
+use Rattle.arj_naming.proofs.touched.put_tops.Goals as goal
 
 pub loop-x-preserved : goal.loop-x-preserved
 loop-x-preserved c = λ u.
