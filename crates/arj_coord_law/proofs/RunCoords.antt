@@ -6,6 +6,7 @@ use Rattle.arj_event_law.proofs.CoordNames.{names_kept, same_acked, same_acts, s
 use Rattle.arj_part_law.specs.Actions.{Action, AreBegun, MayBegin, paths_of}
 use Rattle.arj_part_law.specs.Coords.{IsGoodCoord}
 use Rattle.arj_part_law.specs.Copies.{IsTree, Paths}
+use Rattle.arj_part_law.specs.Requests.{IsNumbered}
 use Rattle.arj_protocol.specs.Ask.{Reply}
 use Rattle.arj_protocol.specs.Asking.{again_all, begin_action, heard}
 use Rattle.arj_protocol.specs.Coord.{Coord, Doing, new_coord, uid_at}
@@ -19,7 +20,7 @@ use Rattle.arj_protocol.specs.Tree.{Tree, at_place}
 use Rattle.arj_protocol.specs.Words.{Asked, Header, Kind, Label, Message, Uid}
 use Rattle.arj_protocol.specs.World.{Asked as event_asked, World, format, is_serial_kind, run_all}
 use Rattle.arj_part_law.proofs.Begun.{begun_tree, path_found}
-use Rattle.arj_run_law.specs.Worlds.{IsGood, IsMemory}
+use Rattle.arj_run_law.specs.Worlds.{IsGood, IsMemory, IsUp}
 use Rattle.arj_run_law.proofs.AllRuns.{all_keep}
 use Rattle.arj_run_law.proofs.Begins.{may as may_begin}
 use Rattle.arj_run_law.proofs.Handled.{begun_of, it, one_agrees, one_tree}
@@ -182,17 +183,19 @@ names_are_kept = record {
 
 -- the place of an action's number, where nodes are good
 module _ (k : ℕ) (n : Node) (t : Parts) (M : Seen) (all : IsSo HasNames names_are_kept M) (at_k : M.nodes k ≡ Some n) (live : n.live ≡ Some t) where
+  its : IsUp all.0.0 M.sent M.labels k n.disk.inc t
+  its = let good = all.0 in let world = good.1 in let place = world.places k n at_k in subst (IsMemory good.0 M.sent M.labels k n.disk.inc) live place.memory
+
   knows_names : KnowsNames t.coord
   knows_names = record {
     names = all.1 k n t at_k live;
     places = λ j b at.
         let good = all.0 in
         let world = good.1 in
-        let place = world.places k n at_k in
-        let is_up = subst (IsMemory good.0 M.sent M.labels k n.disk.inc) live place.memory in
-        let node = is_up.good (paths_of good.0) (begun_tree good.0 world.begun) (path_found good.0 world.begun) in
+        let node = its.good (paths_of good.0) (begun_tree good.0 world.begun) (path_found good.0 world.begun) in
         let tree = node.coord.tree in
         tree.lists.places (uid_at j t.coord) b ((λ i. cond (same_number t.coord.tree.node i && same_number t.coord.tree.inc i) (at_place j t.coord.tree.branches) None) ∙ at);
+    waits = λ u d m found is. (subst (IsNumbered d.req) is (its.numbered u d found)).1.1;
   }
 
 pub labels_named : (hd : Header) (es : List event_asked) → AreNamed (run_all es (format hd))

@@ -5,8 +5,8 @@ ghost use Rattle.arj_journal.specs.declared.header.Header.{Header};
 ghost use Rattle.arj_protocol.specs.World.{Asked, format, run_all};
 
 /// In each run, with all frames in any order, again or never, all stops, crashes and restarts, each label that a coordinator knows
-/// is that of the action at work at its number, so that what it says of an action it says by the label that it was begun with.
-/// It does nothing when it runs.
+/// is that of the action at work at its number, so that what it says of an action it says by the label that it was begun with;
+/// and a commit under way waits for some node, so that a giveup says of which. It does nothing when it runs.
 pub fn labels_are_known()
     ensures runs { (hd : Header) (es : List Asked) → AreNamed (run_all es (format hd)) }
 {}

@@ -1,6 +1,6 @@
--- A commit and an abort write their lines.
+-- A commit, an abort and a giveup write their lines.
 use Rattle.std.proofs.Common.{◌≡◌, ◌∙◌, ◌+◌, ◌==◌, ◌&&◌, ℕ, zero, suc, Bool, true, false, not, cond, List, [], ◌∷◌, ◌++◌, length, map, nat_le, refl, sym, ap, subst, inl, inr, arith, Option, Some, None}
-use Rattle.std.specs.Prelude.{slice_get}
+use Rattle.std.specs.Prelude.{is_some, slice_get}
 use Rattle.std.proofs.lemmas.List.{append_assoc}
 use Rattle.arj_event_law.specs.Named.{AnswersEnd, AreNamed, EndHalted, EndRefused, EndsWriteTheirLines, IsEndAnswered, IsEndOf, KnowsNames, OwnEnd, ends_label, names_of}
 use Rattle.arj_event_law.specs.Writes.{IsWhole}
@@ -9,14 +9,16 @@ use Rattle.arj_event_law.proofs.Spoken.{first_not, given_node, not_not, unless, 
 use Rattle.arj_event_law.proofs.Written.{Halt, Its, Or, Says, Stands, first_stands, node_says, numbered_in, said_of, stands_before, stands_behind, whole_says}
 use Rattle.arj_protocol.proofs.Steps.{steps_lines}
 use Rattle.arj_protocol.specs.Ask.{actor}
-use Rattle.arj_protocol.specs.Asking.{commit_action, commit_open}
-use Rattle.arj_protocol.specs.Coord.{Coord, Doing, Idle, change_doing, doing_of, number_of, on_doing, uid_at}
+use Rattle.arj_protocol.specs.Asking.{commit_action, commit_open, gaveup_lines, give_up, give_up_call, give_up_doing, gives_up, moved_commit}
+use Rattle.arj_protocol.specs.Call.{next_node}
+use Rattle.arj_protocol.specs.Commit.{Confirming, Machine, Preparing, Voting, first_of, given_up, is_empty, left_of, nodes_given_up}
+use Rattle.arj_protocol.specs.Coord.{Calling, Committing, Coord, Doing, Idle, Now, change_doing, doing_of, number_of, on_doing, uid_at}
 use Rattle.arj_protocol.specs.Effect.{Did, Disk, Effect, Intent, Say, Send, Do, worked}
 use Rattle.arj_protocol.specs.Ending.{abort_action, aborts_with, all_aborted, ended, say_for, says}
 use Rattle.arj_protocol.specs.Laws.{effects_of}
 use Rattle.arj_protocol.specs.Node.{Parts, Ran, first_done, first_queued, ran, with_coord}
 use Rattle.arj_protocol.specs.Step as input
-use Rattle.arj_protocol.specs.Step.{Input, Node, Step, abort_reasons, acts, branch_named, branch_numbered, commit_reasons, first_reason, on_branch, only_says, refusal_at, refusal_up, refused_by, step, step_of, step_unless}
+use Rattle.arj_protocol.specs.Step.{Input, Node, Step, abort_reasons, acts, branch_named, branch_numbered, commit_reasons, first_reason, giveup_reasons, is_waiting, is_waiting_now, on_branch, only_says, refusal_at, refusal_up, refused_by, step, step_of, step_unless, waits}
 use Rattle.arj_protocol.specs.Tree.{Branch, Tree, at_place, branch_of, ended_at, ended_branch, family_of, is_own, open_below, root_of, set_place, with_family}
 use Rattle.arj_protocol.specs.Words.{Body, End, Event, Header, Kind, Label, Line, Uid, name, uids_of}
 use Rattle.arj_protocol.specs.Words.body
@@ -157,6 +159,27 @@ abort_speaks l b intents c d found = record {
   is = refl;
 }
 
+-- a giveup says of some node that it isn't waited for any more
+giveup_speaks : (l : Label) (u : Uid) (intents : List (Uid × Intent)) (c : Coord) → KnowsNames c → (d : Doing) → doing_of u c ≡ Some d → is_waiting_now d.now ≡ true → Speaks (event.GiveUp l) d.label (give_up u intents c).outs
+giveup_speaks l u intents c known d found waits = subst (λ o. Speaks (event.GiveUp l) d.label (give_up_doing u intents c o).outs) (sym found) (now d.now refl waits)
+  where
+    first : (n : ℕ) (ns : List ℕ) (rest : List Effect) → Speaks (event.GiveUp l) d.label (gaveup_lines u (n ∷ ns) c ++ rest)
+    first n ns rest = record { line = body.GaveUp d.label n; stands = stands_before (Say (body.GaveUp d.label n)) (gaveup_lines u (n ∷ ns) c) rest (says_first u (λ m. body.GaveUp m n) c d (gaveup_lines u ns c) found); is = (n, refl) }
+
+    some : (ns : List ℕ) (rest : List Effect) → is_empty ns ≡ false → Speaks (event.GiveUp l) d.label (gaveup_lines u ns c ++ rest)
+    some [] rest none = let no_way : true ≡ false = none in cc
+    some (n ∷ ns) rest there = first n ns rest
+
+    machine : (m : Machine) (rest : List Effect) → is_empty (left_of m) ≡ false → Speaks (event.GiveUp l) d.label (gaveup_lines u (nodes_given_up m) c ++ rest)
+    machine (Voting p left) rest there = first (first_of left) [] rest
+    machine (Preparing p left) rest there = some left rest there
+    machine (Confirming p) rest there = first 1 [] rest
+
+    now : (q : Now) → d.now ≡ q → is_waiting_now q ≡ true → Speaks (event.GiveUp l) d.label (gives_up u intents c q).outs
+    now Idle is none = let no_way : false ≡ true = none in cc
+    now (Calling s) is there = first (next_node s) [] (give_up_call s c).outs
+    now (Committing m) is there = machine m (moved_commit u (given_up m) intents c).outs (known.waits u d m found is)
+
 -- ---- what a node says
 
 -- the line is the event's own, or says that it is refused
@@ -173,7 +196,7 @@ module _ (e : Event) (l : Label) (i : Input) (reasons : Branch → Coord → Lis
     down : (hd : Header) → refusal_at hd i None ≡ Some 6
     refuses : (hd : Header) (c : Coord) → refusal_up hd i c ≡ refused_by reasons c (branch_named l c)
     does : (hd : Header) (n : Node) (t : Parts) → step_of hd i n (Some t) ≡ input.coord_did n t (on_branch (λ b. f b n.disk.intents t.coord) t.coord (branch_named l t.coord))
-    speaks : (b : Branch) (intents : List (Uid × Intent)) (c : Coord) → KnowsNames c → branch_named l c ≡ Some b → (m : Label) × (name m ≡ name l) × Speaks e m (f b intents c).outs
+    speaks : (b : Branch) (intents : List (Uid × Intent)) (c : Coord) → KnowsNames c → branch_named l c ≡ Some b → first_reason (reasons b c) ≡ None → (m : Label) × (name m ≡ name l) × Speaks e m (f b intents c).outs
 
   node_speaks : IsSpoken → (hd : Header) (n : Node) → ((t : Parts) → n.live ≡ Some t → KnowsNames t.coord) → Says (SaysEnd e l) (step hd n i).outs
   node_speaks spoken hd n known = subst (λ (s : Step). Says (SaysEnd e l) s.outs) (sym (unless_is hd i n (refusal_at hd i n.live))) (by n.live refl)
@@ -181,7 +204,7 @@ module _ (e : Event) (l : Label) (i : Input) (reasons : Branch → Coord → Lis
       done : (t : Parts) → KnowsNames t.coord → (o : Option Branch) → branch_named l t.coord ≡ o → refused_by reasons t.coord o ≡ None → Says (SaysEnd e l) (input.coord_did n t (on_branch (λ b. f b n.disk.intents t.coord) t.coord o)).outs
       done t knows None is none = let no_way : ◌≡◌ {A = Option ℕ} (Some 6) None = none in cc
       done t knows (Some b) is none =
-          let s = spoken.speaks b n.disk.intents t.coord knows is in
+          let s = spoken.speaks b n.disk.intents t.coord knows is none in
           let d = f b n.disk.intents t.coord in
           record { line = s.2.line; stands = did_says n (with_coord t d.part) d.outs s.2.line s.2.stands; holds = ItsEnd s.0 s.1 s.2.is }
 
@@ -198,7 +221,7 @@ commit_spoken l = record {
   down = λ hd. refl;
   refuses = λ hd c. refl;
   does = λ hd n t. refl;
-  speaks = λ b intents c known is. let d = its_doing l c known b is in (d.doing.label, d.named, commit_speaks l b intents c d.doing d.found);
+  speaks = λ b intents c known is none. let d = its_doing l c known b is in (d.doing.label, d.named, commit_speaks l b intents c d.doing d.found);
 }
 
 abort_spoken : (l : Label) → IsSpoken (event.Abort l) l (input.Abort l) abort_reasons (λ b intents c. abort_action (actor b.path) intents c)
@@ -206,11 +229,22 @@ abort_spoken l = record {
   down = λ hd. refl;
   refuses = λ hd c. refl;
   does = λ hd n t. refl;
-  speaks = λ b intents c known is.
+  speaks = λ b intents c known is none.
       let us = open_below (actor b.path) c.tree in
       let own = all_own us c in
       let d = still_doing l c known us b is own.0 own.1 in
       (d.doing.label, d.named, abort_speaks l b intents c d.doing d.found);
+}
+
+giveup_spoken : (l : Label) → IsSpoken (event.GiveUp l) l (input.GiveUp l) giveup_reasons (λ b intents c. give_up (actor b.path) intents c)
+giveup_spoken l = record {
+  down = λ hd. refl;
+  refuses = λ hd c. refl;
+  does = λ hd n t. refl;
+  speaks = λ b intents c known is none.
+      let d = its_doing l c known b is in
+      let busy = (first_not 8 (not (waits c (actor b.path))) [] (first_not 6 (is_some b.ended) ((8, not (waits c (actor b.path))) ∷ []) none).1).0 in
+      (d.doing.label, d.named, giveup_speaks l (actor b.path) intents c known d.doing d.found (subst (λ o. is_waiting o ≡ true) d.found (not_not (waits c (actor b.path)) busy)));
 }
 
 -- ---- what an event writes
@@ -268,15 +302,16 @@ module _ (l : Label) (w : World) (whole : IsWhole w) (named : AreNamed w) where
   event_ends : (e : Event) (a : Arm) → ends_label e l → (r : Option ℕ) → first_reason (reasons e w) ≡ r → IsEndAnswered e l w (run_unless e a w r).lines
   event_ends (event.Commit m) a is (Some c) at = refused (event.Commit m) c
   event_ends (event.Abort m) a is (Some c) at = refused (event.Abort m) c
+  event_ends (event.GiveUp m) a is (Some c) at = refused (event.GiveUp m) c
   event_ends (event.Commit m) a is None at = subst (λ x. IsEndAnswered (event.Commit x) l w (limited (happens (event.Commit x) a (counted w))).lines) is (node_says_end (event.Commit l) (input.Commit l) (given m (sym is) at) (node_speaks (event.Commit l) l (input.Commit l) commit_reasons (λ b intents c. commit_action b intents c) (commit_spoken l)))
   event_ends (event.Abort m) a is None at = subst (λ x. IsEndAnswered (event.Abort x) l w (limited (happens (event.Abort x) a (counted w))).lines) is (node_says_end (event.Abort l) (input.Abort l) (given m (sym is) at) (node_speaks (event.Abort l) l (input.Abort l) abort_reasons (λ b intents c. abort_action (actor b.path) intents c) (abort_spoken l)))
+  event_ends (event.GiveUp m) a is None at = subst (λ x. IsEndAnswered (event.GiveUp x) l w (limited (happens (event.GiveUp x) a (counted w))).lines) is (node_says_end (event.GiveUp l) (input.GiveUp l) (given m (sym is) at) (node_speaks (event.GiveUp l) l (input.GiveUp l) giveup_reasons (λ b intents c. give_up (actor b.path) intents c) (giveup_spoken l)))
   event_ends (event.Begin m n) a is r at = absurd is
   event_ends (event.BeginIn m p) a is r at = absurd is
   event_ends (event.Top m p) a is r at = absurd is
   event_ends (event.Serial m n) a is r at = absurd is
   event_ends (event.Call m x o) a is r at = absurd is
   event_ends (event.Include m x n) a is r at = absurd is
-  event_ends (event.GiveUp m) a is r at = absurd is
   event_ends (event.Deliver k) a is r at = absurd is
   event_ends (event.Lose k) a is r at = absurd is
   event_ends (event.Tick n) a is r at = absurd is

@@ -1,21 +1,21 @@
 -- Event by event.
-use Rattle.std.proofs.Common.{◌≡◌, ◌∙◌, ◌+◌, ℕ, zero, suc, Bool, true, false, not, cond, List, [], ◌∷◌, ◌++◌, length, refl, sym, ap, subst, Option, Some, None}
-use Rattle.std.specs.Prelude.{IfSome, is_some, nat_lt, ◌||◌}
+use Rattle.std.proofs.Common.{◌≡◌, ◌∙◌, ◌+◌, ℕ, zero, suc, Bool, true, false, not, cond, List, [], ◌∷◌, ◌++◌, length, refl, sym, ap, subst, inl, inr, Option, Some, None}
+use Rattle.std.specs.Prelude.{◌⊎◌, IfSome, is_some, nat_lt, ◌||◌}
 use Rattle.std.proofs.lemmas.List.{append-nil, append_assoc}
 use Rattle.std.specs.BTreeMap.{is_at}
 use Rattle.std.specs.List.{AllByRecursion}
 use Rattle.std.specs.Map.{lookup}
-use Rattle.arj_event_law.specs.Writes.{Answers, Own, IsRefused, IsFrames, IsLabels, IsWhole, Writes, halts_for, has_own, IsOwn}
-use Rattle.arj_event_law.proofs.Written.{Says, node_says, step_writes, whole_says, first_stands, third_stands}
+use Rattle.arj_event_law.specs.Writes.{Answers, Own, IsRefused, IsFrames, IsLabels, IsWhole, Owes, Writes, halts_for, IsOwn}
+use Rattle.arj_event_law.proofs.Written.{Says, SaysFirst, node_says, node_says_first, says_written, step_writes, whole_says, first_stands, stands_behind, third_stands}
 use Rattle.arj_protocol.proofs.Steps.{steps_lines}
 use Rattle.arj_protocol.specs.Asking.{begin_action}
-use Rattle.arj_protocol.specs.Effect.{Say, Do, Look, PutInc}
+use Rattle.arj_protocol.specs.Effect.{Effect, Say, Do, Look, PutInc}
 use Rattle.arj_protocol.specs.Laws.{effects_of}
-use Rattle.arj_protocol.specs.Node.{Parts, with_coord}
+use Rattle.arj_protocol.specs.Node.{Handled, Parts, Took, Void, taken, whole, with_coord}
 use Rattle.arj_protocol.specs.Step as input
-use Rattle.arj_protocol.specs.Step.{Node, Step, Input, first_reason, only_says, parent_of, parts_in, refusal_at, refusal_up, restart_outs, step, step_of, step_unless}
+use Rattle.arj_protocol.specs.Step.{Node, Step, Input, first_reason, frame_step, handled_step, only_says, void_step, parent_of, parts_in, refusal_at, refusal_up, restart_outs, step, step_of, step_unless}
 use Rattle.arj_protocol.specs.Tree.{at_place, next_uid}
-use Rattle.arj_protocol.specs.Words.{Body, Event, Header, Kind, Label, Line, Uid, label_cmp}
+use Rattle.arj_protocol.specs.Words.{Body, Event, Header, Kind, Label, Line, Message, Uid, label_cmp}
 use Rattle.arj_protocol.specs.Words.body
 use Rattle.arj_protocol.specs.Words.event
 use Rattle.arj_protocol.specs.Words.kind
@@ -227,6 +227,36 @@ given_node w p whole given = by (labelled p w) given (found_label w.labels (is_a
     by None isnt good = absurd (cc isnt)
     by (Some g) is good = good
 
+-- ---- a frame is delivered
+
+-- got or void
+abbrev IsTaken : ℕ → Body → Type 0
+IsTaken k b = (b ≡ body.Got k) ⊎ (b ≡ body.Void k)
+
+frame_says : (k from : ℕ) (m : Option Message) (hd : Header) (n : Node) → Says (IsTaken k) (step hd n (input.Frame k from m)).outs × SaysFirst (IsTaken k) (step hd n (input.Frame k from m)).halting
+frame_says k from m hd n = subst (λ (s : Step). Says (IsTaken k) s.outs × SaysFirst (IsTaken k) s.halting) (sym (unless_is hd (input.Frame k from m) n (refusal_at hd (input.Frame k from m) n.live))) (by n.live)
+  where
+    void : (outs : List Effect) → Says (IsTaken k) (void_step k n outs).outs × SaysFirst (IsTaken k) (void_step k n outs).halting
+    void outs = (
+      record { line = body.Void k; stands = stands_behind (Say (body.Void k)) outs (Say (body.Void k) ∷ []) (first_stands (Say (body.Void k)) []); holds = inr refl },
+      record { line = body.Got k; rest = outs; are = refl; holds = inl refl },
+    )
+
+    taken_so : (h : Handled) → Says (IsTaken k) (handled_step k n h).outs × SaysFirst (IsTaken k) (handled_step k n h).halting
+    taken_so (Void outs) = void outs
+    taken_so (Took t outs) = (
+      record { line = body.Got k; stands = first_stands (Say (body.Got k)) (whole n.number t outs n.disk).outs; holds = inl refl },
+      record { line = body.Got k; rest = (whole n.number t outs n.disk).outs; are = refl; holds = inl refl },
+    )
+
+    read : (t : Parts) (x : Option Message) → Says (IsTaken k) (frame_step k from n t x).outs × SaysFirst (IsTaken k) (frame_step k from n t x).halting
+    read t None = void []
+    read t (Some x) = taken_so (taken n.number n.disk t from x)
+
+    by : (o : Option Parts) → Says (IsTaken k) (unless hd (input.Frame k from m) n (refusal_at hd (input.Frame k from m) o) o).outs × SaysFirst (IsTaken k) (unless hd (input.Frame k from m) n (refusal_at hd (input.Frame k from m) o) o).halting
+    by None = void []
+    by (Some t) = read t m
+
 -- ---- what happens
 
 module _ (w : World) (whole : IsWhole w) (a : Arm) where
@@ -236,6 +266,17 @@ module _ (w : World) (whole : IsWhole w) (a : Arm) where
       by : (o : Option Frame) → is_some o ≡ true → Writes e w (lose_frame k (counted w) o)
       by None isnt = absurd (cc isnt)
       by (Some f) is = says_writes e w (change_frame k as_lost f (counted w)) (body.Dropped k) refl answers
+
+  -- a frame that is there is got or void at its node
+  delivers : (k : ℕ) (e : Event) → IfSome (at_place k w.frames) (λ (f : Frame). is_node f.to w ≡ true) → is_some (at_place k w.frames) ≡ true → ((b : Body) → IsTaken k b → Answers e w b) → Writes e w (deliver k (counted w))
+  delivers k e its is answers = by (at_place k w.frames) its is
+    where
+      by : (o : Option Frame) → IfSome o (λ (f : Frame). is_node f.to w ≡ true) → is_some o ≡ true → Writes e w (deliver_frame k (counted w) o)
+      by None there isnt = absurd (cc isnt)
+      by (Some f) there is =
+          let v : World = change_frame k as_delivered f (counted w) in
+          says_written e w v f.to (input.Frame k f.from f.message) (IsTaken k) refl
+          (node_says_first (IsTaken k) f.to (input.Frame k f.from f.message) v (whole.nodes f.to there) (λ m at. frame_says k f.from f.message w.header m)) answers
 
   crashes : (n : ℕ) → is_node n w ≡ true → is_up_at n w ≡ true → Writes (event.Crash n) w (steps n input.Crash (counted w))
   crashes n there up =
@@ -275,7 +316,7 @@ module _ (w : World) (whole : IsWhole w) (a : Arm) where
       by false = full_writes (event.Junk n bytes) w (record (counted w) { full = true }) (adds_none w (record (counted w) { full = true }) refl) refl
 
   -- an event that isn't refused
-  happens_writes : (e : Event) → has_own e ≡ true → first_reason (reasons e w) ≡ None → Writes e w (limited (happens e a (counted w)))
+  happens_writes : (e : Event) → Owes e w → first_reason (reasons e w) ≡ None → Writes e w (limited (happens e a (counted w)))
   happens_writes (event.Begin l n) own none =
       let r = first_not 1 (not (is_node n w)) ((2, not (is_up_at n w)) ∷ (4, is_given l w) ∷ []) none in
       limited_writes (event.Begin l n) w (happens (event.Begin l n) a (counted w)) (begins_writes (event.Begin l n) w (record { label = l; kind = kind.Top; parent = None; node = n }) whole (not_not (is_node n w) r.0) refl (λ u b is. (u, is)))
@@ -290,6 +331,12 @@ module _ (w : World) (whole : IsWhole w) (a : Arm) where
       let r = first_not 4 (is_given l w) ((5, not (is_given p w)) ∷ []) none in
       let q = first_not 5 (not (is_given p w)) [] r.1 in
       limited_writes (event.Top l p) w (happens (event.Top l p) a (counted w)) (begins_writes (event.Top l p) w (record { label = l; kind = kind.Independent; parent = Some p; node = node_of p w }) whole (given_node w p whole (not_not (is_given p w) q.0)) refl (λ u b is. (u, is)))
+  happens_writes (event.Deliver (frame_no.Number k)) own none =
+      let r = first_not 17 (not (is_frame (frame_no.Number k) w)) [] none in
+      limited_writes (event.Deliver (frame_no.Number k)) w (deliver k (counted w)) (delivers k (event.Deliver (frame_no.Number k)) own (not_not (is_frame (frame_no.Number k) w) r.0) (λ b is. Own is))
+  happens_writes (event.Deliver frame_no.Last) own none =
+      let r = first_not 17 (not (is_frame frame_no.Last w)) [] none in
+      limited_writes (event.Deliver frame_no.Last) w (deliver (length w.frames) (counted w)) (delivers (length w.frames) (event.Deliver frame_no.Last) own (not_not (is_frame frame_no.Last w) r.0) (λ b is. Own is))
   happens_writes (event.Lose (frame_no.Number k)) own none =
       let r = first_not 17 (not (is_frame (frame_no.Number k) w)) [] none in
       limited_writes (event.Lose (frame_no.Number k)) w (lose k (counted w)) (loses k (event.Lose (frame_no.Number k)) (not_not (is_frame (frame_no.Number k) w) r.0) (Own refl))
@@ -312,12 +359,11 @@ module _ (w : World) (whole : IsWhole w) (a : Arm) where
   happens_writes (event.Commit l) own none = absurd (cc own)
   happens_writes (event.Abort l) own none = absurd (cc own)
   happens_writes (event.GiveUp l) own none = absurd (cc own)
-  happens_writes (event.Deliver k) own none = absurd (cc own)
   happens_writes (event.Tick n) own none = absurd (cc own)
   happens_writes event.Settle own none = absurd (cc own)
   happens_writes (event.Show x) own none = absurd (cc own)
 
-pub event_writes : (e : Asked) (w : World) → IsWhole w → w.over ≡ false → has_own e.event ≡ true → Writes e.event w (run_event e w)
+pub event_writes : (e : Asked) (w : World) → IsWhole w → w.over ≡ false → Owes e.event w → Writes e.event w (run_event e w)
 event_writes e w whole over own = subst (λ b. Writes e.event w (cond b w (run_unless e.event e.arm w (first_reason (reasons e.event w))))) (sym over) (by (first_reason (reasons e.event w)) refl)
   where
     accepted : (b : Bool) → first_reason (reasons e.event w) ≡ None → Writes e.event w (cond b (no_labels w) (limited (happens e.event e.arm (counted w))))

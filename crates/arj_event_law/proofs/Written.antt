@@ -4,7 +4,7 @@ use Rattle.std.specs.Prelude.{is_some, nat_lt}
 use Rattle.std.proofs.lemmas.List.{append-nil, append_assoc}
 use Rattle.arj_event_law.specs.Writes.{Answers, HasHalted, Writes, halts_for}
 use Rattle.arj_protocol.proofs.Steps.{steps_lines}
-use Rattle.arj_protocol.specs.Effect.{Disk, Effect, Say, Send, Do}
+use Rattle.arj_protocol.specs.Effect.{Disk, Effect, Say, Send, Do, Stop}
 use Rattle.arj_protocol.specs.Laws.{effects_of, effects_of_node, effects_until}
 use Rattle.arj_protocol.specs.Node.{Parts, Ran, handle_all, most_rounds, next_round, ran, rounds, whole}
 use Rattle.arj_protocol.specs.Order.{at_number}
@@ -95,6 +95,35 @@ until_says P k n s (Some a) says = by (nat_lt (count_works s.halting) a.works)
     by true = record { line = says.line; stands = says.stands; holds = Its says.holds }
     by false = record { line = body.Halted k; stands = last_stands (Say (body.Halted k)) (cut (a.works - 1) a.how s.halting n.disk).outs; holds = Halt refl }
 
+-- what is said first stands before any stop
+pub record SaysFirst (P : Body → Type 0) (es : List Effect) : Type 0 where
+  pub line : Body
+  pub rest : List Effect
+  pub are : es ≡ Say line ∷ rest
+  pub holds : P line
+
+until_first : (P : Body → Type 0) (k : ℕ) (n : Node) (s : Step) (a : Option Arm) → Says P s.outs → SaysFirst P s.halting → Says P (effects_until k n s a)
+until_first P k n s None says first = says
+until_first P k n s (Some a) says first = by (nat_lt (count_works s.halting) a.works)
+  where
+    stays : (c : ℕ) (how : Stop) (es : List Effect) → (more : List Effect) × ((cut c how (Say first.line ∷ es) n.disk).outs ≡ Say first.line ∷ more)
+    stays zero how es = ((cut zero how es n.disk).outs, refl)
+    stays (suc c) how es = ((cut (suc c) how es n.disk).outs, refl)
+
+    left : Stands (Say first.line) (cut (a.works - 1) a.how s.halting n.disk).outs
+    left = let m = stays (a.works - 1) a.how first.rest in subst (λ es. Stands (Say first.line) (cut (a.works - 1) a.how es n.disk).outs) (sym first.are) (subst (Stands (Say first.line)) (sym m.1) (first_stands (Say first.line) m.0))
+
+    by : (b : Bool) → Says P (cond b s.outs (halted_outs k (cut (a.works - 1) a.how s.halting n.disk)))
+    by true = says
+    by false = record { line = first.line; stands = stands_before (Say first.line) (cut (a.works - 1) a.how s.halting n.disk).outs (Say (body.Halted k) ∷ []) left; holds = first.holds }
+
+pub node_says_first : (P : Body → Type 0) (k : ℕ) (i : Input) (v : World) → is_some (at_place k v.nodes) ≡ true → ((n : Node) → at_place k v.nodes ≡ Some n → Says P (step v.header n i).outs × SaysFirst P (step v.header n i).halting) → Says P (effects_of k i v)
+node_says_first P k i v there says = by (at_place k v.nodes) refl there
+  where
+    by : (o : Option Node) → at_place k v.nodes ≡ o → is_some o ≡ true → Says P (effects_of_node k i v o)
+    by None is none = absurd (cc none)
+    by (Some n) is some = let s = says n is in until_first P k n (step v.header n i) (at_number k v.arms) s.0 s.1
+
 -- a node that is there says it
 pub node_says : (P : Body → Type 0) (k : ℕ) (i : Input) (v : World) → is_some (at_place k v.nodes) ≡ true → ((n : Node) → at_place k v.nodes ≡ Some n → Says P (step v.header n i).outs) → Says (Or P k) (effects_of k i v)
 node_says P k i v there says = by (at_place k v.nodes) refl there
@@ -104,17 +133,21 @@ node_says P k i v there says = by (at_place k v.nodes) refl there
     by (Some n) is some = until_says P k n (step v.header n i) (at_number k v.arms) (says n is)
 
 -- what a step says is written
-pub step_writes : (e : Event) (w v : World) (k : ℕ) (i : Input) (P : Body → Type 0) → v.lines ≡ w.lines → Says (Or P k) (effects_of k i v) → ((b : Body) → P b → Answers e w b) → halts_for e w k → Writes e w (steps k i v)
-step_writes e w v k i P same says good halts =
+pub says_written : (e : Event) (w v : World) (k : ℕ) (i : Input) (P : Body → Type 0) → v.lines ≡ w.lines → Says P (effects_of k i v) → ((b : Body) → P b → Answers e w b) → Writes e w (steps k i v)
+says_written e w v k i P same says good =
     let s = numbered_in v.event says.line (bodies k (length v.frames) (effects_of k i v)) (said_of k (length v.frames) says.line (effects_of k i v) says.stands) in
     record {
       before = s.before;
       line = record { event = v.event; body = says.line };
       after = s.after;
       are = steps_lines k i v ∙ ((λ j. same j ++ numbered v.event (bodies k (length v.frames) (effects_of k i v))) ∙ ap (λ ls. w.lines ++ ls) s.are);
-      answers = by says.holds;
+      answers = good says.line says.holds;
     }
+
+-- or the halt in its place
+pub step_writes : (e : Event) (w v : World) (k : ℕ) (i : Input) (P : Body → Type 0) → v.lines ≡ w.lines → Says (Or P k) (effects_of k i v) → ((b : Body) → P b → Answers e w b) → halts_for e w k → Writes e w (steps k i v)
+step_writes e w v k i P same says good halts = says_written e w v k i (Or P k) same says by
   where
-    by : Or P k says.line → Answers e w says.line
-    by (Its p) = good says.line p
-    by (Halt is) = HasHalted k halts is
+    by : (b : Body) → Or P k b → Answers e w b
+    by b (Its p) = good b p
+    by b (Halt is) = HasHalted k halts is

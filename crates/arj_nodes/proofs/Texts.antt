@@ -1,16 +1,16 @@
 -- The text of an event tells whether it is built.
-use Rattle.std.proofs.Common.{◌≡◌, ℕ, List, [], ◌∷◌, Bool, true, false, ◌==◌, not, refl, sym, ◌∙◌, ap}
+use Rattle.std.proofs.Common.{◌≡◌, ℕ, List, [], ◌∷◌, Bool, true, ◌==◌, not, refl, sym, ◌∙◌, ap}
 use Rattle.arj_journal.specs.declared.event.Event.{Event}
 use Rattle.arj_journal.specs.declared.event.Event.TheVariants as event
 use Rattle.arj_journal.specs.ScriptText.{event_text}
 use Rattle.arj_nodes.specs.Built.{is_built_event}
 
 -- no other word of an event begins with a `j`
-abbrev is_built_text : List ℕ → Bool
+abbrev pub is_built_text : List ℕ → Bool
 is_built_text [] = true
 is_built_text (b ∷ bytes) = not (b == 106)
 
-event_tells : (e : Event) → is_built_text (event_text e) ≡ is_built_event e
+pub event_tells : (e : Event) → is_built_text (event_text e) ≡ is_built_event e
 event_tells (event.Begin l n) = refl
 event_tells (event.BeginIn l p) = refl
 event_tells (event.Top l p) = refl

@@ -1,23 +1,21 @@
 -- One event more of a run of all nodes.
-use Rattle.std.proofs.Common.{◌≡◌, ℕ, ◌+◌, ◌<◌, ◌≤◌, List, [], ◌∷◌, ◌++◌, length, length-append, map, Bool, true, false, Some, refl, sym, ◌∙◌, ap, subst, arith}
+use Rattle.std.proofs.Common.{◌≡◌, ◌+◌, ◌<◌, ◌≤◌, List, [], ◌∷◌, ◌++◌, length, length-append, Bool, true, false, Some, refl, sym, ◌∙◌, ap, subst, arith}
 use Rattle.std.specs.Prelude.{All, get_or, slice_get}
 use Rattle.std.proofs.lemmas.List.{map-append}
-use Rattle.std.proofs.lemmas.Option.{slice_get-get_or, slice_get_within}
-use Rattle.std.proofs.lemmas.List.Elements.{All-get_or}
+use Rattle.std.proofs.lemmas.Option.{slice_get-get_or}
 use Rattle.arj_core.specs.declared.node.Core as core
 use Rattle.arj_disk.specs.Counted.{counts}
 use Rattle.arj_disk.specs.declared.disk.Disk as disk
-use Rattle.arj_disk.specs.declared.slot.Slot.{Slot}
-use Rattle.arj_journal.specs.declared.body.Line.{Line}
 use Rattle.arj_journal.specs.declared.event.Event.{Event}
 use Rattle.arj_journal.specs.declared.header.Header.{Header}
-use Rattle.arj_nodes.specs.AllNodes.{AreFresh, RanAll, world_after}
+use Rattle.arj_nodes.specs.AllNodes.{AreFresh, RanAll, TellTurns, world_after}
 use Rattle.arj_protocol.specs.World.{World, format}
 use Rattle.arj_world.specs.Disks.{HaveMoved, Moves}
-use Rattle.arj_world.specs.Happens.{IsOver, RunsOver, RunsTo}
+use Rattle.arj_world.specs.Happens.{RunsOver, RunsTo}
 use Rattle.arj_world.specs.Stands.{Hand, Kept, Stands, StandsSome, hand}
+use Rattle.arj_world.specs.Tells.{TellsStops, crashed_by}
 use Rattle.arj_world.specs.Turns.{Turn, all_turned, turned}
-use Rattle.arj_world.proofs.Disks.{moved_more, moved_none, moved_then}
+use Rattle.arj_world.proofs.Disks.{moved_then}
 use Rattle.arj_world.proofs.First.{all_at}
 use Rattle.arj_world.proofs.Stepping.{is_there}
 
@@ -43,6 +41,12 @@ module _ {C D : Type 0} (c : core.Ghosts C) (d : disk.Ghosts D) where
   pub stands_some : (first : List D) (header : Header) (events : List Event) (now : Hand C D) → RanAll c d first header events false now → StandsSome c d.file now
   stands_some first header events now r = (world_after header r.turns, stands_now first header events now r)
 
+  -- a turn more is told too
+  told_more : (turns : List Turn) (t : Turn) (w : World) (before between after : List D) → TellTurns d w turns before between
+      → TellsStops d (crashed_by t.event) between after (let v = all_turned turns w in v.lines) (let v = turned t (all_turned turns w) in v.lines) → TellTurns d w (turns ++ t ∷ []) before after
+  told_more [] t w before between after same tells = (after, subst (λ disks. TellsStops d (crashed_by t.event) disks after w.lines (turned t w).lines) same tells, refl)
+  told_more (s ∷ turns) t w before between after told tells = (told.0, told.1, told_more turns t (turned s w) told.0 between after told.2 tells)
+
   -- no disk was armed too often
   pub arms_left : (first : List D) (header : Header) (events : List Event) (over : Bool) (now : Hand C D) → RanAll c d first header events over now → now.kept.event < 200000 → All (λ one. d.arms one < 4294967295) now.disks
   arms_left first header events over now r room k one less =
@@ -63,13 +67,16 @@ module _ {C D : Type 0} (c : core.Ghosts C) (d : disk.Ghosts D) where
     counted = sym s.event;
     disks = moved;
     fresh = fresh.1;
+    formed = rack;
+    formatted = moved;
+    told = refl;
   }
 
   -- a turn more, by what it left
   ran_turn : (first : List D) (header : Header) (events : List Event) (e : Event) (over : Bool) (old new : Hand C D) (t : Turn) → (r : RanAll c d first header events false old) → t.event ≡ e
       → Stands c d.file new (unmarked (turned t (world_after header r.turns))) → (let w = turned t (world_after header r.turns) in w.over) ≡ over
-      → new.kept.event ≡ old.kept.event + 1 → HaveMoved d 1 old.disks new.disks → RanAll c d first header (events ++ e ∷ []) over new
-  ran_turn first header events e over old new t r is s is_over counted moved =
+      → new.kept.event ≡ old.kept.event + 1 → HaveMoved d 1 old.disks new.disks → TellsStops d (crashed_by e) old.disks new.disks old.journal new.journal → RanAll c d first header (events ++ e ∷ []) over new
+  ran_turn first header events e over old new t r is s is_over counted moved tells =
       let more = turned_more r.turns t (format header) in
       let size = length-append events (e ∷ []) in record {
         turns = r.turns ++ t ∷ [];
@@ -79,22 +86,32 @@ module _ {C D : Type 0} (c : core.Ghosts C) (d : disk.Ghosts D) where
         counted = omega (arith, counted, r.counted, size);
         disks = subst (λ n. HaveMoved d n first new.disks) (sym size) (moved_then d (length events) 1 first old.disks new.disks r.disks moved);
         fresh = r.fresh;
+        formed = r.formed;
+        formatted = r.formatted;
+        told = told_more r.turns t (format header) r.formed old.disks new.disks r.told
+            (subst (λ f. TellsStops d (crashed_by f) old.disks new.disks (world_after header r.turns).lines (turned t (world_after header r.turns)).lines) (sym is)
+            (subst (λ ls. TellsStops d (crashed_by e) old.disks new.disks ls (turned t (world_after header r.turns)).lines) (sym r.stands.lines)
+            (subst (TellsStops d (crashed_by e) old.disks new.disks old.journal) (sym s.lines) tells)));
       }
+
+  -- what is in hand has stayed
+  pub ran_still : (first : List D) (header : Header) (events : List Event) (over : Bool) (old new : Hand C D) → new.kept ≡ old.kept → new.disks ≡ old.disks → new.journal ≡ old.journal → RanAll c d first header events over old → RanAll c d first header events over new
+  ran_still first header events over old new kept disks journal r = subst (RanAll c d first header events over) (λ i. hand (sym kept i) (sym disks i) (sym journal i)) r
 
   -- an event was run
   pub ran_more : (first : List D) (header : Header) (events : List Event) (e : Event) (old new : Hand C D) → RunsTo c d.file e old new → new.kept.event ≡ old.kept.event + 1 → HaveMoved d 1 old.disks new.disks
-      → RanAll c d first header events false old → RanAll c d first header (events ++ e ∷ []) false new
-  ran_more first header events e old new runs counted moved r =
+      → TellsStops d (crashed_by e) old.disks new.disks old.journal new.journal → RanAll c d first header events false old → RanAll c d first header (events ++ e ∷ []) false new
+  ran_more first header events e old new runs counted moved tells r =
       let w = world_after header r.turns in
       let ran = runs w (stands_now first header events old r) in
       let t : Turn = record { event = e; falls = ran.falls } in
       let s = ran.stands in
-      ran_turn first header events e false old new t r refl (opened new (turned t w) s) s.over counted moved
+      ran_turn first header events e false old new t r refl (opened new (turned t w) s) s.over counted moved tells
 
   -- an event was run, and a frame didn't fit
   pub ran_over : (first : List D) (header : Header) (events : List Event) (e : Event) (old new : Hand C D) → RunsOver c d.file e old new → new.kept.event ≡ old.kept.event + 1 → HaveMoved d 1 old.disks new.disks
-      → RanAll c d first header events false old → RanAll c d first header (events ++ e ∷ []) true new
-  ran_over first header events e old new runs counted moved r =
+      → TellsStops d (crashed_by e) old.disks new.disks old.journal new.journal → RanAll c d first header events false old → RanAll c d first header (events ++ e ∷ []) true new
+  ran_over first header events e old new runs counted moved tells r =
       let ran = runs (world_after header r.turns) (stands_now first header events old r) in
       let s = ran.stands in
-      ran_turn first header events e true old new (record { event = e; falls = ran.falls }) r refl s.stands s.over counted moved
+      ran_turn first header events e true old new (record { event = e; falls = ran.falls }) r refl s.stands s.over counted moved tells

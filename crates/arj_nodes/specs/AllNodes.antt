@@ -1,5 +1,5 @@
 -- What all nodes have run of a script.
-use Rattle.std.specs.Prelude.{ℕ, ◌≡◌, ◌<◌, Bool, true, false, All, List, length, map, None}
+use Rattle.std.specs.Prelude.{ℕ, ◌≡◌, ◌<◌, Bool, true, false, All, List, [], ◌∷◌, length, map, None}
 use Rattle.arj_core.specs.declared.node.Core as core
 use Rattle.arj_disk.specs.declared.disk.Disk as disk
 use Rattle.arj_disk.specs.declared.slot.Slot.{Slot}
@@ -9,7 +9,8 @@ use Rattle.arj_protocol.specs.Step.{first_reason}
 use Rattle.arj_protocol.specs.World.{World, format, giving, lacks_labels, reasons}
 use Rattle.arj_world.specs.Disks.{HaveMoved}
 use Rattle.arj_world.specs.Stands.{Hand, Keeps, Kept, Stands}
-use Rattle.arj_world.specs.Turns.{Turn, all_turned}
+use Rattle.arj_world.specs.Tells.{TellsStops, crashed_by}
+use Rattle.arj_world.specs.Turns.{Turn, all_turned, turned}
 
 -- the disks on which a run may begin: empty, and not armed often so far
 abbrev pub AreFresh : {D : Type 0} → disk.Ghosts D → List D → Type 0
@@ -19,8 +20,15 @@ AreFresh d rack = All (λ one. (slot : Slot) → d.file one slot ≡ None) rack 
 abbrev pub world_after : Header → List Turn → World
 world_after header turns = all_turned turns (format header)
 
+-- Turn by turn, from this world and these disks on: the lines that a turn added tell the stops that the disks made in it. So a
+-- stop that halted a node in a turn is one that its disk counted.
+abbrev pub TellTurns : {D : Type 0} → disk.Ghosts D → World → List Turn → List D → List D → Type 0
+TellTurns d w [] before after = after ≡ before
+TellTurns d w (t ∷ ts) before after = (between : List _) × TellsStops d (crashed_by t.event) before between w.lines (let v = turned t w in v.lines) × TellTurns d (turned t w) ts between after
+
 -- From these disks on, under this header, these events were run: the world in hand is what the protocol makes of a turn for
--- each of them, which says what stops fell in it. Whether it is over, since a frame didn't fit, is told beside.
+-- each of them, which says what stops fell in it, as the disks counted them. Whether it is over, since a frame didn't fit, is
+-- told beside.
 pub record RanAll {C D : Type 0} (c : core.Ghosts C) (d : disk.Ghosts D) (first : List D) (header : Header) (events : List Event) (over : Bool) (now : Hand C D) : Type 0 where
   pub turns : List Turn
   pub are : map (λ t. t.event) turns ≡ events
@@ -31,6 +39,10 @@ pub record RanAll {C D : Type 0} (c : core.Ghosts C) (d : disk.Ghosts D) (first 
   pub counted : now.kept.event ≡ length events
   pub disks : HaveMoved d (length events) first now.disks
   pub fresh : All (λ one. d.arms one < 1000) first
+  -- the disks as they were formatted, and the stops that they made since, turn by turn
+  pub formed : List D
+  pub formatted : HaveMoved d 0 first formed
+  pub told : TellTurns d (format header) turns formed now.disks
 
 -- wherever the nodes are those of a world, it doesn't refuse the event, which would give one label too many
 abbrev pub LacksLabels : {C : Type 0} → core.Ghosts C → Kept C → Event → Type 0

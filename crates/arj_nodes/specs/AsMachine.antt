@@ -1,5 +1,4 @@
 -- All nodes as a machine of the loop.
-use Rattle.std.specs.Prelude.{◌≡◌}
 use Rattle.arj_core.specs.declared.node.Core as core
 use Rattle.arj_disk.specs.declared.disk.Disk as disk
 use Rattle.arj_loop.specs.declared.machine.Machine as machine

@@ -9,4 +9,5 @@
 mod all_nodes;
 mod top;
 
+pub use all_nodes::AllNodes;
 pub use top::nodes;

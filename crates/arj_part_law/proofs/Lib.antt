@@ -16,23 +16,23 @@ mod GoodEnds
 pub mod GoodNodes
 mod GoodObjects
 mod GoodRestart
-mod GoodServers
+pub mod GoodServers
 pub mod GoodTrees
 mod Kept
 pub mod InTurn
 mod KeptCalls
 pub mod Keys
-mod LivesCoords
-mod LivesKnown
+pub mod LivesCoords
+pub mod LivesKnown
 pub mod LivesNamed
 mod Locked
 mod NamingNode
 pub mod Numbered
 pub mod ObjectsAsked
-mod Pairs
+pub mod Pairs
 pub mod SaidIncs
 mod Sends
-mod ServerRuns
+pub mod ServerRuns
 pub mod Settled
 mod Stands
 mod StatesLeft

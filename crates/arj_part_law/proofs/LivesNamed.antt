@@ -91,24 +91,25 @@ module _ (home : Homes) (limit : Limits) where
   named_same : (o v : Named) → v.live ≡ o.live → v.made ≡ o.made → IsNamedSo home limit o → IsNamedSo home limit v
   named_same o v live made so = record { live = subst (IsLiveSo home limit) (sym live) so.live; made = subst (AllByRecursion (IsMadeSo home)) (sym made) so.made }
 
-  -- what a bind leaves, and what it answers
-  abbrev IsBoundSo : Served Counted BoundReply → Type 0
-  IsBoundSo r = IsNamedSo home limit (let c = r.part in c.named) × ((a : BoundReply) → r.reply ≡ Some a → NamesBound home limit a)
 
   answers_so : (r a : BoundReply) → NamesBound home limit r → Some r ≡ Some a → NamesBound home limit a
   answers_so r a so is = let k : ◌≡◌ {A = Option BoundReply} (Some r) (Some a) = is in let same : r ≡ a = cc in subst (NamesBound home limit) same so
 
-  module _ (inc x : ℕ) (p : Path) (e : Entry) (c : Counted) (so : IsNamedSo home limit c.named) (new : home_of home (record { inc = inc; count = c.count + 1 }) ≡ next_server c.named.turn e.servers) where
+  module _ (inc x : ℕ) (p : Path) (e : Entry) (c : Counted) (so : IsNamedSo home limit c.named) where
+    -- what a bind leaves, and what it answers, where a binding that it makes goes to its server
+    abbrev IsBoundSo : Served Counted BoundReply → Type 0
+    IsBoundSo r = ((let v = r.part in v.count) ≡ c.count + 1 → home_of home (record { inc = inc; count = c.count + 1 }) ≡ next_server c.named.turn e.servers) → IsNamedSo home limit (let v = r.part in v.named) × ((a : BoundReply) → r.reply ≡ Some a → NamesBound home limit a)
+
     live_so : (l : Live) → IsLiveSo home limit (Some l) → (r : Option Row) → IsBoundSo (live_asked inc x p e c l r)
-    live_so l its (Some r) = (so, λ a is. answers_so (bound.Conflict _ r.mode) a tt is)
-    live_so l its None = (named_same c.named (locked x p mode.Read c.named) refl refl so, λ a is. answers_so (bound.Live l.binding l.server l.inc inc e.stores) a its is)
+    live_so l its (Some r) = λ new. (so, λ a is. answers_so (bound.Conflict _ r.mode) a tt is)
+    live_so l its None = λ new. (named_same c.named (locked x p mode.Read c.named) refl refl so, λ a is. answers_so (bound.Live l.binding l.server l.inc inc e.stores) a its is)
 
     made_so : (q : Option Made) → ((m : Made) → q ≡ Some m → m.server ≡ home_of home m.binding) → IsBoundSo (bind_made inc x p e c q)
-    made_so (Some m) its = (named_same c.named (locked x p mode.Write c.named) refl refl so, λ a is. answers_so (bound.Make m.binding m.server inc e.stores) a (its m refl) is)
+    made_so (Some m) its = λ new. (named_same c.named (locked x p mode.Write c.named) refl refl so, λ a is. answers_so (bound.Make m.binding m.server inc e.stores) a (its m refl) is)
     made_so None its =
         let s = next_server c.named.turn e.servers in
         let b : Binding = record { inc = inc; count = c.count + 1 } in
-        (record { live = so.live; made = made_put (top_of p) (record { binding = b; server = s; recorded = false }) c.named.made (sym new) so.made }, λ a is. answers_so (bound.Make b s inc e.stores) a (sym new) is)
+        λ new. (record { live = so.live; made = made_put (top_of p) (record { binding = b; server = s; recorded = false }) c.named.made (sym (new refl)) so.made }, λ a is. answers_so (bound.Make b s inc e.stores) a (sym (new refl)) is)
 
     above_so : (avoid : Binding) (q : Option Made) → ((m : Made) → q ≡ Some m → m.server ≡ home_of home m.binding) → (m : Made) → made_above avoid q ≡ Some m → m.server ≡ home_of home m.binding
     above_so avoid None its m is = let no_way : ◌≡◌ {A = Option Made} None (Some m) = is in cc
@@ -119,7 +120,7 @@ module _ (home : Homes) (limit : Limits) where
         by false s = let no_way : ◌≡◌ {A = Option Made} None (Some m) = s in cc
 
     asked_so : (avoid : Binding) (r : Option Row) → IsBoundSo (make_asked inc x p avoid e c r)
-    asked_so avoid (Some r) = (so, λ a is. answers_so (bound.Conflict _ r.mode) a tt is)
+    asked_so avoid (Some r) = λ new. (so, λ a is. answers_so (bound.Conflict _ r.mode) a tt is)
     asked_so avoid None = made_so (made_above avoid (at_uid (top_of p) c.named.made)) (above_so avoid (at_uid (top_of p) c.named.made) (λ m is. made_found (top_of p) m c.named.made so.made is))
 
     call_so : (avoid : Binding) (l : Option Live) → IsLiveSo home limit l → IsBoundSo (bind_call inc x p avoid e c l)
@@ -135,8 +136,8 @@ module _ (home : Homes) (limit : Limits) where
         by false = tt
 
     include_so : (r : Option Row) → IsBoundSo (include_asked inc x p e c r)
-    include_so (Some r) = (so, λ a is. answers_so (bound.Conflict _ r.mode) a tt is)
-    include_so None = (record { live = so.live; made = so.made }, λ a is. answers_so (bound.Write inc e.stores) a tt is)
+    include_so (Some r) = λ new. (so, λ a is. answers_so (bound.Conflict _ r.mode) a tt is)
+    include_so None = λ new. (record { live = so.live; made = so.made }, λ a is. answers_so (bound.Write inc e.stores) a tt is)
 
     bound_so : (include : Bool) (avoid : Binding) → IsBoundSo (bind_named inc x p include avoid e c)
     bound_so true avoid = include_so (conflict_on x p mode.Write c.named)
@@ -145,22 +146,22 @@ module _ (home : Homes) (limit : Limits) where
   -- ---- naming
 
   pub bind_so : (p : Path) (x : ℕ) (include : Bool) (avoid : Binding) (d : Pair) (n : Naming)
-      → ((o : Named) → at_number x n.objects ≡ Some o → home_of home (record { inc = n.inc; count = n.count + 1 }) ≡ next_server o.turn (listed_entry x d).servers)
+      → ((o : Named) → at_number x n.objects ≡ Some o → (let r = bind p x include avoid d n in let v = r.part in v.count) ≡ n.count + 1 → home_of home (record { inc = n.inc; count = n.count + 1 }) ≡ next_server o.turn (listed_entry x d).servers)
       → IsNamingSo home limit n → (let r = bind p x include avoid d n in IsNamingSo home limit r.part × ((a : BoundReply) → r.reply ≡ Some a → NamesBound home limit a))
-  bind_so p x include avoid d n new so = by (is_over p n)
+  bind_so p x include avoid d n new so = by (is_over p n) new
     where
       call : Counted → Served Counted BoundReply
       call = bind_named n.inc x p include avoid (listed_entry x d)
 
       Well : Served Naming BoundReply → Type 0
-      Well r = IsNamingSo home limit r.part × ((a : BoundReply) → r.reply ≡ Some a → NamesBound home limit a)
+      Well r = ((o : Named) → at_number x n.objects ≡ Some o → (let v = r.part in v.count) ≡ n.count + 1 → home_of home (record { inc = n.inc; count = n.count + 1 }) ≡ next_server o.turn (listed_entry x d).servers) → IsNamingSo home limit r.part × ((a : BoundReply) → r.reply ≡ Some a → NamesBound home limit a)
 
       nothing : Well (void n)
-      nothing = (so, λ a is. let no_way : ◌≡◌ {A = Option BoundReply} None (Some a) = is in cc)
+      nothing = λ made. (so, λ a is. let no_way : ◌≡◌ {A = Option BoundReply} None (Some a) = is in cc)
 
       there : (o : Option Named) → at_number x n.objects ≡ o → Well (on_counted x call n o)
       there None is = nothing
-      there (Some o) is = let r = bound_so n.inc x p (listed_entry x d) (record { named = o; count = n.count }) (all_found (IsNamedSo home limit) x n.objects o so is) (new o is) include avoid in (all_put (IsNamedSo home limit) x _ n.objects r.0 so, r.1)
+      there (Some o) is = λ made. let r = bound_so n.inc x p (listed_entry x d) (record { named = o; count = n.count }) (all_found (IsNamedSo home limit) x n.objects o so is) include avoid (made o is) in (all_put (IsNamedSo home limit) x _ n.objects r.0 so, r.1)
 
       by : (b : Bool) → Well (cond b (void n) (on_counted x call n (at_number x n.objects)))
       by true = nothing

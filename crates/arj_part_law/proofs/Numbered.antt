@@ -1,4 +1,4 @@
--- Request numbers, and the objects that plans use, through all that a coordinator does.
+-- Request numbers, the objects that plans use, and whom commits wait for, through all that a coordinator does.
 use Rattle.std.proofs.Common.{◌≡◌, ◌<◌, ◌+◌, arith, ℕ, zero, suc, List, [], ◌∷◌, ◌++◌, Bool, true, false, cond, map, Option, Some, None, refl, sym, ◌∙◌, ap, subst, ⊎_elim}
 use Rattle.std.specs.Prelude.{⊤}
 use Rattle.std.specs.List.{AllByRecursion}
@@ -26,7 +26,7 @@ use Rattle.arj_protocol.specs.Order.{at_uid, has, number_set, put_uid, unbound, 
 use Rattle.arj_protocol.specs.Step.{Input, acts, branch_named, on_branch, parent_of}
 use Rattle.arj_protocol.specs.Step as input
 use Rattle.arj_protocol.specs.Tree.{Branch, is_own, at_place, root_of, open_below, uses_object, doomed_at, ended_at}
-use Rattle.arj_part_law.specs.Requests.{AreNumbered, AreOnce, IsNumbered}
+use Rattle.arj_part_law.specs.Requests.{AreNumbered, AreOnce, IsAwaited, IsNumbered}
 use Rattle.arj_part_law.proofs.GoodCoords.{doomed_same, uses_same}
 use Rattle.arj_part_law.proofs.GoodTrees.{get_more}
 use Rattle.arj_part_law.proofs.Settled.{doing_other, doing_put, end_tree_on}
@@ -76,37 +76,37 @@ abbrev Once : Plan → Type 0
 Once p = AreOnce p.used
 
 abbrev IsNextSo : CommitStep → Type 0
-IsNextSo (Stays m) = Once (plan_of m)
-IsNextSo (Asks m) = Once (plan_of m)
+IsNextSo (Stays m) = IsAwaited m
+IsNextSo (Asks m) = IsAwaited m
 IsNextSo (Decides q) = Once q
 IsNextSo (Aborts why q) = ⊤
 
 confirm_step : (us : List Used) (p q : Plan) → Once q → IsNextSo (begin_confirm us q)
 confirm_step [] p q same = same
-confirm_step (u ∷ us) p q same = same
+confirm_step (u ∷ us) p q same = (same, refl)
 
 prepare_step : (ns : List ℕ) (p q : Plan) → Once q → IsNextSo (begin_prepare ns q)
 prepare_step [] p q same = confirm_step q.used p q same
-prepare_step (n ∷ ns) p q same = same
+prepare_step (n ∷ ns) p q same = (same, refl)
 
 vote_step : (ns : List ℕ) (p q : Plan) → Once q → IsNextSo (begin_vote ns q)
 vote_step [] p q same = prepare_step (targets_of q) p q same
-vote_step (n ∷ ns) p q same = same
+vote_step (n ∷ ns) p q same = (same, refl)
 
 stores_step : (ns : List ℕ) (p q : Plan) → Once q → IsNextSo (let m = stores_left ns q in m.step)
 stores_step [] p q same = confirm_step q.used p q same
-stores_step (n ∷ ns) p q same = same
+stores_step (n ∷ ns) p q same = (same, refl)
 
 votes_step : (ns : List ℕ) (p q : Plan) → Once q → IsNextSo (votes_left ns q)
 votes_step [] p q same = prepare_step (targets_of q) p q same
-votes_step (n ∷ ns) p q same = same
+votes_step (n ∷ ns) p q same = (same, refl)
 
 marks_same : (ns : List ℕ) (p q : Plan) → Once q → Once (marks_stores ns q)
 marks_same [] p q same = same
 marks_same (n ∷ ns) p q same = marks_same ns p (marks_store n q) same
 
-answer_step : (from : ℕ) (m : Machine) (r : Reply) → Once (plan_of m) → IsNextSo (commit.answered from m r).step
-answer_step from (Voting p left) (Reply.Voted (voted.Yes states)) so = votes_step (without_number from left) p (record p { changed = with_states states p.changed }) so
+answer_step : (from : ℕ) (m : Machine) (r : Reply) → IsAwaited m → IsNextSo (commit.answered from m r).step
+answer_step from (Voting p left) (Reply.Voted (voted.Yes states)) so = votes_step (without_number from left) p (record p { changed = with_states states p.changed }) so.0
 answer_step from (Voting p left) (Reply.Voted (voted.Changed w)) so = tt
 answer_step from (Voting p left) (Reply.Bound r) so = so
 answer_step from (Voting p left) (Reply.Loaded r) so = so
@@ -115,8 +115,8 @@ answer_step from (Voting p left) (Reply.Noted r) so = so
 answer_step from (Voting p left) (Reply.Invoked r) so = so
 answer_step from (Voting p left) (Reply.Prepared r) so = so
 answer_step from (Voting p left) (Reply.Confirmed r) so = so
-answer_step from (Preparing p left) (Reply.Prepared prepared.Yes) so = stores_step (without_number from left) p (record p { prepared = with_number from p.prepared }) so
-answer_step from (Preparing p left) (Reply.Prepared (prepared.InDoubt x h)) so = stores_step (without_number from left) p (marks_store from p) so
+answer_step from (Preparing p left) (Reply.Prepared prepared.Yes) so = stores_step (without_number from left) p (record p { prepared = with_number from p.prepared }) so.0
+answer_step from (Preparing p left) (Reply.Prepared (prepared.InDoubt x h)) so = stores_step (without_number from left) p (marks_store from p) so.0
 answer_step from (Preparing p left) (Reply.Prepared (prepared.Old x v)) so = tt
 answer_step from (Preparing p left) (Reply.Bound r) so = so
 answer_step from (Preparing p left) (Reply.Loaded r) so = so
@@ -125,7 +125,7 @@ answer_step from (Preparing p left) (Reply.Noted r) so = so
 answer_step from (Preparing p left) (Reply.Invoked r) so = so
 answer_step from (Preparing p left) (Reply.Voted r) so = so
 answer_step from (Preparing p left) (Reply.Confirmed r) so = so
-answer_step from (Confirming p) (Reply.Confirmed confirmed.Yes) so = so
+answer_step from (Confirming p) (Reply.Confirmed confirmed.Yes) so = so.0
 answer_step from (Confirming p) (Reply.Confirmed (confirmed.Conflict h m)) so = tt
 answer_step from (Confirming p) (Reply.Confirmed (confirmed.Changed w)) so = tt
 answer_step from (Confirming p) (Reply.Confirmed (confirmed.NoStores x)) so = tt
@@ -138,9 +138,9 @@ answer_step from (Confirming p) (Reply.Invoked r) so = so
 answer_step from (Confirming p) (Reply.Voted r) so = so
 answer_step from (Confirming p) (Reply.Prepared r) so = so
 
-giveup_step : (m : Machine) → Once (plan_of m) → IsNextSo (commit.given_up m).step
+giveup_step : (m : Machine) → IsAwaited m → IsNextSo (commit.given_up m).step
 giveup_step (Voting p left) so = tt
-giveup_step (Preparing p left) so = stores_step [] p (marks_stores left p) (marks_same left p p so)
+giveup_step (Preparing p left) so = stores_step [] p (marks_stores left p) (marks_same left p p so.0)
 giveup_step (Confirming p) so = tt
 
 pub plan_once : (p : Path) (req : ℕ) (r : Root) (c : Coord) → Once (plan_for p req r c)
@@ -224,7 +224,7 @@ num_asked : (p : Path) (req : ℕ) (as_asked : List (ℕ × Ask)) (c : Coord) �
 num_asked p req [] c n = n
 num_asked p req (a ∷ rest) c n = num_asked p req rest (asks_node p req a c).part (λ u d at. n u d at)
 
-num_commits : (u : Uid) (m : Machine) (c : Coord) → AreNumbered c → Once (plan_of m) → AreNumbered (commits_in u m c)
+num_commits : (u : Uid) (m : Machine) (c : Coord) → AreNumbered c → IsAwaited m → AreNumbered (commits_in u m c)
 num_commits u m c n so = num_do u (λ (d : Doing). record d { req = (plan_of m).req; now = Committing m }) c (λ d found. (refl, so)) n
 
 num_decide : (p : Plan) (c : Coord) → AreNumbered c → AreNumbered (decide p c).part
@@ -255,7 +255,7 @@ num_step_commit u (Aborts why p) intents c n so = num_ended u ending.Abort c n
 pub num_heard : (from : ℕ) (a : Asked) (r : Reply) (intents : List (Uid × Intent)) (c : Coord) → AreNumbered c → AreNumbered (heard from a r intents c).part
 num_heard from a r intents c n = by (doing_of a.act c) refl
   where
-    now : (q : Now) → ((m : Machine) → q ≡ Committing m → Once (plan_of m)) → AreNumbered (heard_now from a r intents c q).part
+    now : (q : Now) → ((m : Machine) → q ≡ Committing m → IsAwaited m) → AreNumbered (heard_now from a r intents c q).part
     now Idle so = n
     now (Calling s) so = one (waits_for_call from a r s)
       where
@@ -278,7 +278,7 @@ num_heard from a r intents c n = by (doing_of a.act c) refl
 num_give_up : (u : Uid) (intents : List (Uid × Intent)) (c : Coord) → AreNumbered c → AreNumbered (give_up u intents c).part
 num_give_up u intents c n = by (doing_of u c) refl
   where
-    now : (q : Now) → ((m : Machine) → q ≡ Committing m → Once (plan_of m)) → AreNumbered (gives_up u intents c q).part
+    now : (q : Now) → ((m : Machine) → q ≡ Committing m → IsAwaited m) → AreNumbered (gives_up u intents c q).part
     now Idle so = n
     now (Calling s) so = num_step_call s (given_up s.at) (on_root (root_of s.path) (root_lost s (given_up s.at)) c) (num_root (root_of s.path) (root_lost s (given_up s.at)) c n)
     now (Committing m) so = num_step_commit u (commit.given_up m).step intents c n (giveup_step m (so m refl))

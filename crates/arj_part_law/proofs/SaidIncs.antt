@@ -275,7 +275,7 @@ module _ (n i : ℕ) (c : Coord) where
   fit_queries us = (all_map (IsClaimsOf c) query_about us (λ w u s. absurd s), all_map (IsOfInc n i) query_about us (λ w. tt))
 
 -- an answer to an Activate names the server's incarnation
-activate_inc : (n : ℕ) (p : Path) (b : Binding) (st : ObjectState) (s : Server) (j : ℕ) → (server.activate n p b st s).reply ≡ Some j → j ≡ s.inc
+pub activate_inc : (n : ℕ) (p : Path) (b : Binding) (st : ObjectState) (s : Server) (j : ℕ) → (server.activate n p b st s).reply ≡ Some j → j ≡ s.inc
 activate_inc n p b st s j = by (has_ended p s || binding_less b (active_binding st.uid.num s)) (binding_eq b (active_binding st.uid.num s))
   where
     some : Some s.inc ≡ Some j → j ≡ s.inc

@@ -1,4 +1,4 @@
-// Request numbers, and what plans use.
+// Request numbers, what plans use, and whom commits wait for.
 ghost use Rattle.std.specs.Prelude.{◌≡◌, ℕ, List};
 ghost use Rattle.arj_base.specs.declared.uid.Uid.{Uid};
 ghost use Rattle.arj_part_law.specs.Requests.{AreNumbered};
@@ -10,9 +10,9 @@ ghost use Rattle.arj_protocol.specs.Ending.{acked};
 ghost use Rattle.arj_protocol.specs.Step.{Input, acts};
 ghost use Rattle.arj_protocol.specs.Words.{Asked};
 
-/// What an action waits for is its last request, by its number, and a plan of a commit names each object that it uses once,
-/// in increasing order: at each input, refused or not, at each answer and acknowledgement and at a tick, from a coordinator's
-/// start on. It does nothing when it runs.
+/// What an action waits for is its last request, by its number, and a commit names each object that it uses once, in increasing
+/// order, and waits for some node: at each input, refused or not, at each answer and acknowledgement and at a tick, from a
+/// coordinator's start on. It does nothing when it runs.
 pub fn requests_are_numbered()
     ensures inputs { (i : Input) (intents : List (Uid × Intent)) (c : Coord) → AreNumbered c → AreNumbered (acts i intents c).part }
     ensures heard { (from : ℕ) (a : Asked) (r : Reply) (intents : List (Uid × Intent)) (c : Coord) → AreNumbered c → AreNumbered (heard from a r intents c).part }

@@ -208,7 +208,7 @@ number_at zero k j is = let no_way : ◌≡◌ {A = Option ℕ} None (Some j) = 
 number_at (suc n) k j is = ⊎_elim (λ old. number_at n k j old) (λ new. sym new.1 ∙ ap suc (sym (new.0 ∙ as_many n))) (get_more k (suc n) j (numbers_to n) is)
 
 module _ (hd : Header) where
-  first_at : (k : ℕ) (n : Node) → at_place k (map (first_node hd) (numbers_to hd.nodes)) ≡ Some n → first_node hd k ≡ n
+  pub first_at : (k : ℕ) (n : Node) → at_place k (map (first_node hd) (numbers_to hd.nodes)) ≡ Some n → first_node hd k ≡ n
   first_at zero n is = let no_way : ◌≡◌ {A = Option Node} None (Some n) = is in cc
   first_at (suc k) n is = let q = got_map (first_node hd) (numbers_to hd.nodes) k n is in ap (first_node hd) (sym (number_at hd.nodes k q.0 q.1)) ∙ q.2
 

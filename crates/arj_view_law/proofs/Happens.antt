@@ -8,7 +8,7 @@ use Rattle.std.specs.BTreeMap.{insert_entry, is_at}
 use Rattle.std.proofs.lemmas.Bool.{and_parts}
 use Rattle.std.proofs.lemmas.List.{map-append}
 use Rattle.std.proofs.lemmas.Bool.Decides.{nat_tests}
-use Rattle.arj_protocol.specs.Words.{Header, Label, label_cmp, Kind, Body, Message, Event, Line}
+use Rattle.arj_protocol.specs.Words.{Header, Label, label_cmp, Kind, Body, Message, Event, Line, read_message}
 use Rattle.arj_protocol.specs.Words.body
 use Rattle.arj_protocol.specs.Words.kind
 use Rattle.arj_protocol.specs.Words.event
@@ -16,16 +16,16 @@ use Rattle.arj_protocol.specs.Words.which
 use Rattle.arj_protocol.specs.Words.frame
 use Rattle.arj_protocol.specs.Words.{FrameNo}
 use Rattle.arj_protocol.specs.Words.frame_no as input_frame
-use Rattle.arj_protocol.specs.Effect.{Effect}
+use Rattle.arj_protocol.specs.Effect.{Do, Effect, Say, Send}
 use Rattle.arj_protocol.specs.Order.{at_number}
 use Rattle.arj_protocol.specs.Tree.{at_place, set_place}
 use Rattle.arj_protocol.specs.Step.{Node, Input, Step, step, step_unless, refusal, refusal_at, first_reason, first_node, numbers_to}
 use Rattle.arj_protocol.specs.Step as input
-use Rattle.arj_protocol.specs.World.{World, Frame, Arm, Giving, Labelled, Asked, most_frames, sends, bodies, numbered, put, says, steps, step_node, step_with, done_step, halted_at, halted_outs, set_node, armed, disarmed, count_works, cut, change_frame, as_delivered, as_lost, deliver_frame, deliver, lose_frame, lowest, settle_for, settle, tick_up, tick_all, is_up_at, node_numbers, is_quiet, quiesce, show_up, show_all, junk_fits, new_frame, labels_unless, gives_label, refused_at, begins, giving, happens, limited, counted, no_labels, lacks_labels, run_unless, run_event, run_all, reasons, node_of, node_in, kind_in, labelled, is_given, is_node, frame_number, is_serial_kind, format}
+use Rattle.arj_protocol.specs.World.{World, Frame, Arm, Giving, Labelled, Asked, most_frames, sends, bodies, numbered, put, says, steps, step_node, step_with, done_step, halted_at, halted_outs, set_node, armed, disarmed, count_works, cut, change_frame, as_delivered, as_lost, deliver_frame, deliver, lose_frame, lowest, settle_for, settle, tick_up, tick_all, is_up_at, node_numbers, is_quiet, quiesce, show_up, show_all, junk_fits, new_frame, labels_unless, gives_label, refused_at, begins, giving, happens, limited, counted, no_labels, lacks_labels, run_unless, run_event, run_all, reasons, node_of, node_in, kind_in, labelled, is_given, is_node, frame_number, is_serial_kind, format, reads_whole}
 use Rattle.arj_protocol.proofs.Maps.{place_other}
 use Rattle.arj_view_law.specs.Seen.{Post, Seen, In, Within, AreQuiet, see, at, with_node, with_sent}
 use Rattle.arj_view_law.specs.Walks.{halted}
-use Rattle.arj_view_law.specs.Keeps.{Keeps, Holds, Stands, IsSent, MayGive, label_at}
+use Rattle.arj_view_law.specs.Keeps.{Keeps, KeepsAsked, HasPlace, Holds, Stands, IsSent, MayGive, label_at}
 use Rattle.arj_view_law.proofs.Cuts.{Besides, with_lines, flat_done, flat_cut}
 use Rattle.arj_view_law.proofs.Inputs.{Goes, IsSentTo, step_goes, begin_goes, unless_refused}
 
@@ -110,7 +110,7 @@ no_reason : (n : ℕ) (b : Bool) (rs : List (ℕ × Bool)) → first_reason ((n,
 no_reason n true rs h = absurd (cc h)
 no_reason n false rs h = (refl, h)
 
-module _ (hd : Header) (P : Seen → Type 0) (keeps : Keeps hd P) where
+module _ (hd : Header) (P : Seen → Type 0) (keeps : KeepsAsked hd P) where
   -- ---- a step of a node in its world
 
   -- a node is what stands at its place
@@ -151,6 +151,16 @@ module _ (hd : Header) (P : Seen → Type 0) (keeps : Keeps hd P) where
       by None h = h
       by (Some x) h = more (record { from = f.from; to = f.to; message = x }) h
 
+  abbrev IsPlaced : Frame → Type 0
+  IsPlaced f = HasPlace hd f.to f.message
+
+  -- what a node sends are messages
+  sends_placed : (k : ℕ) (outs : List Effect) → AllByRecursion IsPlaced (sends k outs)
+  sends_placed k [] = tt
+  sends_placed k (Send to m ∷ es) = (tt, sends_placed k es)
+  sends_placed k (Say b ∷ es) = sends_placed k es
+  sends_placed k (Do w ∷ es) = sends_placed k es
+
   -- a node with its effects becomes a world
   put_holds : (k : ℕ) (n a : Node) (outs : List Effect) (sent : List Post) (w : World) → Stands hd sent w → at_place k w.nodes ≡ Some n → a.number ≡ k
       → Besides (λ N. P (with_node k a N)) (sends k outs) (numbered w.event (bodies k (length w.frames) outs)) (see sent w) → Holds hd P (put k outs (set_node k a w))
@@ -158,6 +168,7 @@ module _ (hd : Header) (P : Seen → Type 0) (keeps : Keeps hd P) where
     sent = b.0;
     stands = record {
       frames = all_on (IsSent b.0) w.frames (take (most_frames - length w.frames) (sends k outs)) (all_to (IsSent sent) (IsSent b.0) w.frames (sent_more sent b.0 b.1) s.frames) (all_taken (IsSent b.0) (most_frames - length w.frames) (sends k outs) b.2);
+      junk = all_on IsPlaced w.frames (take (most_frames - length w.frames) (sends k outs)) s.junk (all_taken IsPlaced (most_frames - length w.frames) (sends k outs) (sends_placed k outs));
       header = s.header;
       numbers = λ m c. numbers m c (m == k) refl;
       places = λ m h. set_there m k a w.nodes (s.places m h);
@@ -192,7 +203,7 @@ module _ (hd : Header) (P : Seen → Type 0) (keeps : Keeps hd P) where
 
   -- what stands is not about disks that will stop
   arms_stand : (sent : List Post) (w : World) (arms : List (ℕ × Arm)) → Stands hd sent w → Stands hd sent (record w { arms = arms })
-  arms_stand sent w arms s = record { frames = s.frames; header = s.header; numbers = s.numbers; places = s.places; labels = s.labels }
+  arms_stand sent w arms s = record { frames = s.frames; junk = s.junk; header = s.header; numbers = s.numbers; places = s.places; labels = s.labels }
 
   with_holds : (k : ℕ) (n : Node) (s : Step) (sent : List Post) (w : World) (arm : Option Arm) → Stands hd sent w → at_place k w.nodes ≡ Some n → n.number ≡ k → Goes hd P keeps w.event k n.disk s (see sent w)
       → Holds hd P (step_with k n s w arm)
@@ -219,16 +230,17 @@ module _ (hd : Header) (P : Seen → Type 0) (keeps : Keeps hd P) where
   says_hold : (bs : List Body) (w : World) → AreQuiet bs → Holds hd P w → Holds hd P (says bs w)
   says_hold bs w quiet h = record {
     sent = h.sent;
-    stands = record { frames = h.stands.frames; header = h.stands.header; numbers = h.stands.numbers; places = h.stands.places; labels = h.stands.labels };
+    stands = record { frames = h.stands.frames; junk = h.stands.junk; header = h.stands.header; numbers = h.stands.numbers; places = h.stands.places; labels = h.stands.labels };
     holds = keeps.quiet w.event bs (see h.sent w) quiet h.holds;
   }
 
   -- a frame is marked
-  marks_hold : (k : ℕ) (mark : Frame → Frame) (f : Frame) (w : World) → ((sent : List Post) → IsSent sent f → IsSent sent (mark f)) → at_place k w.frames ≡ Some f → Holds hd P w → Holds hd P (change_frame k mark f w)
-  marks_hold k mark f w same there h = record {
+  marks_hold : (k : ℕ) (mark : Frame → Frame) (f : Frame) (w : World) → ((sent : List Post) → IsSent sent f → IsSent sent (mark f)) → (IsPlaced f → IsPlaced (mark f)) → at_place k w.frames ≡ Some f → Holds hd P w → Holds hd P (change_frame k mark f w)
+  marks_hold k mark f w same placed there h = record {
     sent = h.sent;
     stands = record {
       frames = all_set (IsSent h.sent) k (mark f) w.frames h.stands.frames (same h.sent (all_placed (IsSent h.sent) k f w.frames h.stands.frames there));
+      junk = all_set IsPlaced k (mark f) w.frames h.stands.junk (placed (all_placed IsPlaced k f w.frames h.stands.junk there));
       header = h.stands.header;
       numbers = h.stands.numbers;
       places = h.stands.places;
@@ -241,7 +253,7 @@ module _ (hd : Header) (P : Seen → Type 0) (keeps : Keeps hd P) where
   unfolding marks_hold
   delivered_hold k w None there h = h
   delivered_hold k w (Some f) there h =
-      steps_hold f.to (input.Frame k f.from f.message) (change_frame k as_delivered f w) (marks_hold k as_delivered f w (λ sent s. s) there h)
+      steps_hold f.to (input.Frame k f.from f.message) (change_frame k as_delivered f w) (marks_hold k as_delivered f w (λ sent s. s) (λ s. s) there h)
       (all_placed (IsSent h.sent) k f w.frames h.stands.frames there)
 
   pub deliver_holds : (k : ℕ) (w : World) → Holds hd P w → Holds hd P (deliver k w)
@@ -249,7 +261,7 @@ module _ (hd : Header) (P : Seen → Type 0) (keeps : Keeps hd P) where
 
   lost_holds : (k : ℕ) (w : World) (o : Option Frame) → at_place k w.frames ≡ o → Holds hd P w → Holds hd P (lose_frame k w o)
   lost_holds k w None there h = h
-  lost_holds k w (Some f) there h = says_hold (body.Dropped k ∷ []) (change_frame k as_lost f w) refl (marks_hold k as_lost f w (λ sent s. s) there h)
+  lost_holds k w (Some f) there h = says_hold (body.Dropped k ∷ []) (change_frame k as_lost f w) refl (marks_hold k as_lost f w (λ sent s. s) (λ s. s) there h)
 
   settled_holds : (fuel : ℕ) (w : World) → Holds hd P w → Holds hd P (settle_for fuel w)
   settled_holds zero w h = h
@@ -285,6 +297,7 @@ module _ (hd : Header) (P : Seen → Type 0) (keeps : Keeps hd P) where
     sent = h.sent;
     stands = record {
       frames = subst (λ fs. AllByRecursion (IsSent h.sent) fs) (sym frames) h.stands.frames;
+      junk = subst (λ fs. AllByRecursion IsPlaced fs) (sym frames) h.stands.junk;
       header = header ∙ h.stands.header;
       numbers = λ k n there. h.stands.numbers k n (ap (λ ns. at_place k ns) (sym nodes) ∙ there);
       places = λ k is. ap (λ ns. is_some (at_place k ns)) nodes ∙ h.stands.places k is;
@@ -293,11 +306,12 @@ module _ (hd : Header) (P : Seen → Type 0) (keeps : Keeps hd P) where
     holds = subst (λ (s : Seen). P s) (λ i. record { sent = h.sent; lines = sym lines i; labels = sym labels i; nodes = λ m. at_place m (sym nodes i) }) h.holds;
   }
 
-  junk_holds : (n : ℕ) (w : World) (b : Bool) → Holds hd P w → Holds hd P (junk_fits n w b)
-  junk_holds n w true h = says_hold (body.Sent (length w.frames + 1) 0 n frame.Junk ∷ []) (record w { frames = w.frames ++ new_frame 0 n None ∷ [] }) refl (record {
+  junk_holds : (n : ℕ) (w : World) (b : Bool) → (nat_le 1 n && nat_le n hd.nodes) ≡ true → Holds hd P w → Holds hd P (junk_fits n w b)
+  junk_holds n w true its h = says_hold (body.Sent (length w.frames + 1) 0 n frame.Junk ∷ []) (record w { frames = w.frames ++ new_frame 0 n None ∷ [] }) refl (record {
     sent = h.sent;
     stands = record {
       frames = all_on (IsSent h.sent) w.frames (new_frame 0 n None ∷ []) h.stands.frames (tt, tt);
+      junk = all_on IsPlaced w.frames (new_frame 0 n None ∷ []) h.stands.junk (its, tt);
       header = h.stands.header;
       numbers = h.stands.numbers;
       places = h.stands.places;
@@ -305,7 +319,7 @@ module _ (hd : Header) (P : Seen → Type 0) (keeps : Keeps hd P) where
     };
     holds = h.holds;
   })
-  junk_holds n w false h = same_seen w (junk_fits n w false) refl refl refl refl refl h
+  junk_holds n w false its h = same_seen w (junk_fits n w false) refl refl refl refl refl h
 
   -- ---- actions that begin
 
@@ -323,6 +337,7 @@ module _ (hd : Header) (P : Seen → Type 0) (keeps : Keeps hd P) where
   labels_stand g sent w (Some c) there s = s
   labels_stand g sent w None there s = record {
     frames = s.frames;
+    junk = s.junk;
     header = s.header;
     numbers = s.numbers;
     places = s.places;
@@ -424,13 +439,20 @@ module _ (hd : Header) (P : Seen → Type 0) (keeps : Keeps hd P) where
       by (Some g) is free there =
           begins_hold (record { label = l; kind = kind.Independent; parent = Some p; node = g.node }) w (below_new l p kind.Independent w g is (g, is, refl) free h) h
 
+  -- what an event names is a node of the header
+  node_of_header : (n : ℕ) (w : World) (rs : List (ℕ × Bool)) → first_reason ((1, not (is_node n w)) ∷ rs) ≡ None → Holds hd P w → (nat_le 1 n && nat_le n hd.nodes) ≡ true
+  node_of_header n w rs free h =
+      let first = no_reason 1 (not (is_node n w)) rs free in
+      subst (λ v. (nat_le 1 n && nat_le n v.nodes) ≡ true) h.stands.header (not_false (is_node n w) first.0)
+
   pub happens_hold : (e : Event) (a : Arm) (w : World) → first_reason (reasons e w) ≡ None → Holds hd P w → Holds hd P (happens e a w)
   happens_hold (event.Begin l n) a w free h = begins_hold (record { label = l; kind = kind.Top; parent = None; node = n }) w (top_new l n kind.Top w tt free h) h
   happens_hold (event.Serial l n) a w free h = begins_hold (record { label = l; kind = kind.Serial; parent = None; node = n }) w (top_new l n kind.Serial w tt free h) h
   happens_hold (event.BeginIn l p) a w free h = in_new l p w free h
   happens_hold (event.Top l p) a w free h = apart_new l p w free h
   happens_hold (event.Call l x o) a w free h = steps_hold (node_of l w) (input.Call l x o) w h tt
-  happens_hold (event.Include l x n) a w free h = steps_hold (node_of l w) (input.Include l x n) w h tt
+  happens_hold (event.Include l x n) a w free h =
+      steps_hold (node_of l w) (input.Include l x n) w h (node_of_header n w ((5, not (is_given l w)) ∷ []) free h)
   happens_hold (event.Commit l) a w free h = steps_hold (node_of l w) (input.Commit l) w h tt
   happens_hold (event.Abort l) a w free h = steps_hold (node_of l w) (input.Abort l) w h tt
   happens_hold (event.GiveUp l) a w free h = steps_hold (node_of l w) (input.GiveUp l) w h tt
@@ -442,7 +464,7 @@ module _ (hd : Header) (P : Seen → Type 0) (keeps : Keeps hd P) where
   happens_hold (event.Crash n) a w free h = steps_hold n input.Crash w h tt
   happens_hold (event.Restart n) a w free h = steps_hold n input.Restart w h tt
   happens_hold (event.Stop n c how) a w free h = says_hold (body.Armed n ∷ []) (armed n a w) refl (same_seen w (armed n a w) refl refl refl refl refl h)
-  happens_hold (event.Junk n bytes) a w free h = junk_holds n w (nat_lt (length w.frames) most_frames) h
+  happens_hold (event.Junk n bytes) a w free h = junk_holds n w (nat_lt (length w.frames) most_frames) (node_of_header n w ((18, reads_whole (read_message bytes)) ∷ []) free h) h
   happens_hold (event.Show x) a w free h = shows_hold x (node_numbers w) w h
 
   limited_holds : (w : World) → Holds hd P w → Holds hd P (limited w)
@@ -484,12 +506,12 @@ module _ (hd : Header) (P : Seen → Type 0) (keeps : Keeps hd P) where
       counted_free (event.Junk n bytes) w is = is
       counted_free (event.Show x) w is = is
 
-  pub event_holds : (e : Asked) (w : World) → Holds hd P w → Holds hd P (run_event e w)
-  event_holds e w h = either_holds w.over w (run_unless e.event e.arm w (first_reason (reasons e.event w))) h (unless_holds e.event e.arm w (first_reason (reasons e.event w)) refl h)
+  pub event_asked : (e : Asked) (w : World) → Holds hd P w → Holds hd P (run_event e w)
+  event_asked e w h = either_holds w.over w (run_unless e.event e.arm w (first_reason (reasons e.event w))) h (unless_holds e.event e.arm w (first_reason (reasons e.event w)) refl h)
 
-  pub all_hold : (es : List Asked) (w : World) → Holds hd P w → Holds hd P (run_all es w)
-  all_hold [] w h = h
-  all_hold (e ∷ es) w h = all_hold es (run_event e w) (event_holds e w h)
+  pub all_asked : (es : List Asked) (w : World) → Holds hd P w → Holds hd P (run_all es w)
+  all_asked [] w h = h
+  all_asked (e ∷ es) w h = all_asked es (run_event e w) (event_asked e w h)
 
 -- ---- as a run begins
 
@@ -535,6 +557,7 @@ module _ (hd : Header) where
   first_stands : Stands hd [] (format hd)
   first_stands = record {
     frames = tt;
+    junk = tt;
     header = refl;
     numbers = λ k a h. numbers k a h;
     places = λ k h. places k h;
@@ -552,16 +575,39 @@ module _ (hd : Header) where
           below : (j n : ℕ) → nat_le (suc j) n ≡ true → nat_lt j n ≡ true
           below j n h = grind (arith, nat_tests)
 
-  pub first_holds : (P : Seen → Type 0) → Keeps hd P → Holds hd P (format hd)
-  first_holds P keeps = record { sent = []; stands = first_stands; holds = keeps.first }
+  pub first_asked : (P : Seen → Type 0) → KeepsAsked hd P → Holds hd P (format hd)
+  first_asked P keeps = record { sent = []; stands = first_stands; holds = keeps.first }
 
-  pub runs_hold : (P : Seen → Type 0) → Keeps hd P → (es : List Asked) → Holds hd P (run_all es (format hd))
-  runs_hold P keeps es = all_hold hd P keeps es (format hd) (first_holds P keeps)
+  pub runs_asked : (P : Seen → Type 0) → KeepsAsked hd P → (es : List Asked) → Holds hd P (run_all es (format hd))
+  runs_asked P keeps es = all_asked hd P keeps es (format hd) (first_asked P keeps)
+
+-- ---- what is kept whatever an include asks for
+
+pub keeps_asked : (hd : Header) (P : Seen → Type 0) → Keeps hd P → KeepsAsked hd P
+keeps_asked hd P keeps = record {
+  quiet = keeps.quiet;
+  stop = keeps.stop;
+  message = keeps.message;
+  act = λ e k d t i M is asks free h. keeps.act e k d t i M is free h;
+  begin = keeps.begin;
+  tick = keeps.tick;
+  restart = keeps.restart;
+  first = keeps.first;
+}
+
+pub event_holds : (hd : Header) (P : Seen → Type 0) → Keeps hd P → (e : Asked) (w : World) → Holds hd P w → Holds hd P (run_event e w)
+event_holds hd P keeps e w h = event_asked hd P (keeps_asked hd P keeps) e w h
+
+pub first_holds : (hd : Header) (P : Seen → Type 0) → Keeps hd P → Holds hd P (format hd)
+first_holds hd P keeps = first_asked hd P (keeps_asked hd P keeps)
+
+pub runs_hold : (hd : Header) (P : Seen → Type 0) → Keeps hd P → (es : List Asked) → Holds hd P (run_all es (format hd))
+runs_hold hd P keeps es = runs_asked hd P (keeps_asked hd P keeps) es
 
 -- which stops are still to fall is nothing to it
 pub arms_hold : (hd : Header) (P : Seen → Type 0) (arms : List (ℕ × Arm)) (w : World) → Holds hd P w → Holds hd P (record w { arms = arms })
 arms_hold hd P arms w h = record {
   sent = h.sent;
-  stands = record { frames = h.stands.frames; header = h.stands.header; numbers = h.stands.numbers; places = h.stands.places; labels = h.stands.labels };
+  stands = record { frames = h.stands.frames; junk = h.stands.junk; header = h.stands.header; numbers = h.stands.numbers; places = h.stands.places; labels = h.stands.labels };
   holds = h.holds;
 }

@@ -17,7 +17,7 @@ use Rattle.arj_protocol.proofs.PartSays.{all_both}
 use Rattle.arj_protocol.proofs.Taken.{taken_took}
 use Rattle.arj_view_law.specs.Seen.{Seen, In, at, up, down, with_node, said, given, is_quiet_line}
 use Rattle.arj_view_law.specs.Walks.{Walks, Up, halted}
-use Rattle.arj_view_law.specs.Keeps.{Keeps, MayGive, label_at, is_act}
+use Rattle.arj_view_law.specs.Keeps.{AsksNode, KeepsAsked, MayGive, label_at, is_act}
 use Rattle.arj_view_law.proofs.Flat.{Flat, Behind, within_same, flat_to}
 use Rattle.arj_view_law.proofs.Rounds.{AreLooks, LooksAlone, taken_looks, taken_meant, whole_ended, Ended}
 
@@ -53,7 +53,7 @@ show_still k x d = all_both is_still (show_entry k x d.names) (shown (copy_line 
     by true = shown_still (entry_line x) entries (entry x) d.names (holder_of (entry x) d.names)
     by false = refl
 
-module _ (hd : Header) (P : Seen → Type 0) (keeps : Keeps hd P) (e k : ℕ) where
+module _ (hd : Header) (P : Seen → Type 0) (keeps : KeepsAsked hd P) (e k : ℕ) where
   -- the relation holds after the step, and where a stop falls into it; the node keeps its number
   abbrev pub Goes : Disk → Step → Seen → Type 0
   Goes d s M = Flat P e k s.outs (λ c N. P (with_node k s.after N)) d M × Flat P e k s.halting (λ c N. P (halted e k c N)) d M × (s.after.number ≡ k)
@@ -117,10 +117,11 @@ module _ (hd : Header) (P : Seen → Type 0) (keeps : Keeps hd P) (e k : ℕ) wh
   abbrev pub IsSentTo : Input → Seen → Type 0
   IsSentTo (input.Frame f from m) M = IfSome m (λ x. In (record { from = from; to = k; message = x }) M.sent)
   IsSentTo (input.Begin l how parent) M = ⊥
+  IsSentTo (input.Include l x s) M = AsksNode hd (input.Include l x s)
   IsSentTo i M = ⊤
 
-  act_goes : (i : Input) (d : Disk) (t : Parts) (M : Seen) → is_act i ≡ true → input.refusal_up hd i t.coord ≡ None → P (up k d t M) → Goes d (coord_did (record { number = k; disk = d; live = Some t }) t (acts i d.intents t.coord)) M
-  act_goes i d t M is free h = let a = acts i d.intents t.coord in did_goes (Some t) (with_coord t a.part) a.outs d M (keeps.act e k d t i M is free h)
+  act_goes : (i : Input) (d : Disk) (t : Parts) (M : Seen) → is_act i ≡ true → AsksNode hd i → input.refusal_up hd i t.coord ≡ None → P (up k d t M) → Goes d (coord_did (record { number = k; disk = d; live = Some t }) t (acts i d.intents t.coord)) M
+  act_goes i d t M is asks free h = let a = acts i d.intents t.coord in did_goes (Some t) (with_coord t a.part) a.outs d M (keeps.act e k d t i M is asks free h)
 
   up_goes : (i : Input) (d : Disk) (t : Parts) (M : Seen) → IsSentTo i M → input.refusal_up hd i t.coord ≡ None → P (up k d t M) → Goes d (step_up i (record { number = k; disk = d; live = Some t }) t) M
   up_goes (input.Frame f from m) d t M sent free h = frame_goes f from m d t M sent h
@@ -131,11 +132,11 @@ module _ (hd : Header) (P : Seen → Type 0) (keeps : Keeps hd P) (e k : ℕ) wh
   up_goes input.Crash d t M sent free h = crash_goes d t M h
   up_goes (input.Show x) d t M sent free h = still_goes (show_step x (record { number = k; disk = d; live = Some t })) d (Some t) M refl (show_still k x d) (show_still k x d) h
   up_goes (input.Begin l how parent) d t M sent free h = absurd sent
-  up_goes (input.Call l x o) d t M sent free h = act_goes (input.Call l x o) d t M refl free h
-  up_goes (input.Include l x s) d t M sent free h = act_goes (input.Include l x s) d t M refl free h
-  up_goes (input.Commit l) d t M sent free h = act_goes (input.Commit l) d t M refl free h
-  up_goes (input.Abort l) d t M sent free h = act_goes (input.Abort l) d t M refl free h
-  up_goes (input.GiveUp l) d t M sent free h = act_goes (input.GiveUp l) d t M refl free h
+  up_goes (input.Call l x o) d t M sent free h = act_goes (input.Call l x o) d t M refl sent free h
+  up_goes (input.Include l x s) d t M sent free h = act_goes (input.Include l x s) d t M refl sent free h
+  up_goes (input.Commit l) d t M sent free h = act_goes (input.Commit l) d t M refl sent free h
+  up_goes (input.Abort l) d t M sent free h = act_goes (input.Abort l) d t M refl sent free h
+  up_goes (input.GiveUp l) d t M sent free h = act_goes (input.GiveUp l) d t M refl sent free h
 
   nothing_goes : (d : Disk) (M : Seen) → P (down k d M) → Goes d (does_nothing (record { number = k; disk = d; live = None })) M
   nothing_goes d M h = still_goes (does_nothing (record { number = k; disk = d; live = None })) d None M refl refl refl h

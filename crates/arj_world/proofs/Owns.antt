@@ -11,7 +11,7 @@ use Rattle.arj_event_law.proofs.Settled.{events_settle}
 use Rattle.arj_event_law.proofs.Spoken.{event_writes}
 use Rattle.arj_event_law.proofs.Whole.{event_whole, format_whole}
 use Rattle.arj_event_law.specs.Named.{AnswersEnd, AreNamed, EndHalted, EndRefused, IsEndAnswered, OwnEnd, ends_label}
-use Rattle.arj_event_law.specs.Writes.{Answers, Own, IsRefused, HasHalted, IsFrames, IsLabels, IsAnswered, IsOwn, IsWhole, halts_for, has_own}
+use Rattle.arj_event_law.specs.Writes.{Answers, Own, IsRefused, HasHalted, IsFrames, IsLabels, IsAnswered, IsOwn, IsWhole, Owes, halts_for}
 use Rattle.arj_journal.specs.declared.body.Line.{Line}
 use Rattle.arj_journal.specs.declared.header.Header.{Header}
 use Rattle.arj_net.specs.Net as nets
@@ -40,6 +40,8 @@ own_without arms w (event.Begin l n) b own = own
 own_without arms w (event.Serial l n) b own = own
 own_without arms w (event.BeginIn l p) b own = own
 own_without arms w (event.Top l p) b own = own
+own_without arms w (event.Deliver (frame_no.Number k)) b own = own
+own_without arms w (event.Deliver frame_no.Last) b own = own
 own_without arms w (event.Lose (frame_no.Number k)) b own = own
 own_without arms w (event.Lose frame_no.Last) b own = own
 own_without arms w (event.Stop n c how) b own = own
@@ -52,10 +54,31 @@ own_without arms w (event.Include l x n) b own = absurd own
 own_without arms w (event.Commit l) b own = absurd own
 own_without arms w (event.Abort l) b own = absurd own
 own_without arms w (event.GiveUp l) b own = absurd own
-own_without arms w (event.Deliver k) b own = absurd own
 own_without arms w (event.Tick n) b own = absurd own
 own_without arms w event.Settle b own = absurd own
 own_without arms w (event.Show x) b own = absurd own
+
+owes_with : (arms : List (ℕ × Arm)) (w : World) (e : Event) → Owes e w → Owes e (with_arms arms w)
+owes_with arms w (event.Deliver (frame_no.Number k)) owes = owes
+owes_with arms w (event.Deliver frame_no.Last) owes = owes
+owes_with arms w (event.Begin l n) owes = owes
+owes_with arms w (event.Serial l n) owes = owes
+owes_with arms w (event.BeginIn l p) owes = owes
+owes_with arms w (event.Top l p) owes = owes
+owes_with arms w (event.Lose k) owes = owes
+owes_with arms w (event.Stop n c how) owes = owes
+owes_with arms w event.Quiesce owes = owes
+owes_with arms w (event.Crash n) owes = owes
+owes_with arms w (event.Restart n) owes = owes
+owes_with arms w (event.Junk n bytes) owes = owes
+owes_with arms w (event.Call l x o) owes = owes
+owes_with arms w (event.Include l x n) owes = owes
+owes_with arms w (event.Commit l) owes = owes
+owes_with arms w (event.Abort l) owes = owes
+owes_with arms w (event.GiveUp l) owes = owes
+owes_with arms w (event.Tick n) owes = owes
+owes_with arms w event.Settle owes = owes
+owes_with arms w (event.Show x) owes = owes
 
 halts_without : (arms : List (ℕ × Arm)) (w : World) (e : Event) (m : ℕ) → halts_for e (with_arms arms w) m → halts_for e w m
 halts_without arms w (event.Begin l n) m is = is
@@ -109,16 +132,16 @@ none_open sent is (suc k) = none_waits 1 sent is k
 
 module _ {C D : Type 0} (core : Ghosts C) (file : D → FileMap) where
   -- what a turn writes answers its event
-  turn_answers : (e : Event) (falls : List (ℕ × Arm)) (w : World) (journal : List Line) → (turned (record { event = e; falls = falls }) w).lines ≡ journal → w.over ≡ false → IsWhole w → has_own e ≡ true → IsAnswered e w journal
-  turn_answers e falls w journal lines over whole own =
-      let x = event_writes (asked e) (with_arms falls w) (whole_with falls w whole) over own in
+  turn_answers : (e : Event) (falls : List (ℕ × Arm)) (w : World) (journal : List Line) → (turned (record { event = e; falls = falls }) w).lines ≡ journal → w.over ≡ false → IsWhole w → Owes e w → IsAnswered e w journal
+  turn_answers e falls w journal lines over whole owes =
+      let x = event_writes (asked e) (with_arms falls w) (whole_with falls w whole) over (owes_with falls w e owes) in
       record { before = x.before; line = x.line; after = x.after; are = sym lines ∙ x.are; answers = answers_without falls w e x.line.body x.answers }
 
   pub answers_so : (e : Event) (old new : Hand C D) → RunsTo core file e old new → AnswersEvent core file e old new.journal
-  answers_so e old new to w st whole own = let r = to w st in turn_answers e r.falls w new.journal r.stands.lines st.over whole own
+  answers_so e old new to w st whole owes = let r = to w st in turn_answers e r.falls w new.journal r.stands.lines st.over whole owes
 
   pub answers_over : (e : Event) (old new : Hand C D) → RunsOver core file e old new → AnswersEvent core file e old new.journal
-  answers_over e old new to w st whole own = let r = to w st in turn_answers e r.falls w new.journal r.stands.stands.lines st.over whole own
+  answers_over e old new to w st whole owes = let r = to w st in turn_answers e r.falls w new.journal r.stands.stands.lines st.over whole owes
 
   -- and so do the lines of an end
   turn_ends : (e : Event) (falls : List (ℕ × Arm)) (l : Label) (w : World) (journal : List Line) → (turned (record { event = e; falls = falls }) w).lines ≡ journal → w.over ≡ false → IsWhole w → AreNamed w → ends_label e l → IsEndAnswered e l w journal

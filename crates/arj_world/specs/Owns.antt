@@ -1,9 +1,9 @@
 -- The lines that an event owes, and what a settle leaves.
-use Rattle.std.specs.Prelude.{ℕ, ◌≡◌, true, false, List}
+use Rattle.std.specs.Prelude.{ℕ, ◌≡◌, false, List}
 use Rattle.arj_core.specs.declared.node.Core.{Ghosts}
 use Rattle.arj_disk.specs.FileMap.{FileMap}
 use Rattle.arj_event_law.specs.Named.{AreNamed, IsEndAnswered, ends_label}
-use Rattle.arj_event_law.specs.Writes.{IsAnswered, IsWhole, has_own}
+use Rattle.arj_event_law.specs.Writes.{IsAnswered, IsWhole, Owes}
 use Rattle.arj_journal.specs.declared.body.Line.{Line}
 use Rattle.arj_net.specs.Net.{is_open}
 use Rattle.arj_net.specs.declared.net.Sent.{Sent}
@@ -12,12 +12,12 @@ use Rattle.arj_protocol.specs.World.{World}
 use Rattle.arj_world.specs.Stands.{Hand, Stands}
 
 -- An event of a kind with a line of its own wrote it, or that it is refused, that its node halted, or that a limit was met: in
--- each whole world that it was run in.
+-- each whole world that it was run in, and in which a frame that it delivers is for a node.
 abbrev pub AnswersEvent : {C D : Type 0} → Ghosts C → (D → FileMap) → Event → Hand C D → List Line → Type 0
-AnswersEvent core file e old journal = (w : World) → Stands core file old w → IsWhole w → has_own e ≡ true → IsAnswered e w journal
+AnswersEvent core file e old journal = (w : World) → Stands core file old w → IsWhole w → Owes e w → IsAnswered e w journal
 
--- A commit and an abort wrote the line that answers them, or that they are refused, or that the action's node halted: in each
--- whole world whose coordinators know their labels.
+-- A commit, an abort and a giveup wrote the line that answers them, or that they are refused, or that the action's node halted: in
+-- each whole world whose coordinators know their labels, and whom their commits wait for.
 abbrev pub EndsEvent : {C D : Type 0} → Ghosts C → (D → FileMap) → Event → Hand C D → List Line → Type 0
 EndsEvent core file e old journal = (l : Label) (w : World) → Stands core file old w → IsWhole w → AreNamed w → ends_label e l → IsEndAnswered e l w journal
 

@@ -163,8 +163,9 @@ impl<C: Core> World<C> {
     /// Runs one event: its lines go to the end of the journal, and the world is then what the protocol makes of it, with
     /// the stops that fell. Where a frame didn't fit, a line says so last, and the run is over. An event that would give
     /// one label too many changes nothing. A line that says that a node halted stands for a stop of its disk, but in the event
-    /// that crashes it; an event of a kind with a line of its own writes it, or why it doesn't; and after a settle or a quiesce
-    /// each frame was delivered or lost.
+    /// that crashes it; an event of a kind with a line of its own writes it, or why it doesn't, and so does a commit, an abort, a
+    /// giveup, and a delivery of a frame for a node of the header; and after a settle or a quiesce each frame was delivered or
+    /// lost.
     #[tactic(auto, using(crate::proofs::Disks::moved_none, crate::proofs::Tells::tells_none))]
     pub fn step<D: Disk>(
         &mut self,

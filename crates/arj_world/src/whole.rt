@@ -15,7 +15,8 @@ pub fn runs_stay_whole()
     ensures runs { (hd : Header) (ts : List Turn) → IsWhole (all_turned ts (format hd)) }
 {}
 
-/// In every run, with whatever stops, the coordinators that are up know their labels. It does nothing when it runs.
+/// In every run, with whatever stops, the coordinators that are up know their labels, and whom their commits wait for. It does
+/// nothing when it runs.
 pub fn runs_know_their_labels()
     ensures runs { (hd : Header) (ts : List Turn) → AreNamed (all_turned ts (format hd)) }
 {}

@@ -1,7 +1,7 @@
 -- what the loop left
 use Rattle.std.proofs.Common.{arith}
 use Rattle.arj_loop.specs.Replayed.{answer, outside}
-use Rattle.arj_nodes.proofs.Closing.{format_stopped, moves_none, moves_on, read_failed}
+use Rattle.arj_nodes.proofs.Closing.{format_stopped, moves_on, read_failed}
 use Rattle.arj_nodes.proofs.top.nodes.Goals as goal
 
 pub returns-clause-closes : goal.returns-clause-closes

@@ -2,7 +2,7 @@
 use Rattle.std.proofs.Common.{Err, [], ◌∷◌, ◌++◌, ap, refl, subst, sym}
 use Rattle.arj_world.specs.Stands.{hand}
 use Rattle.arj_nodes.specs.AllNodes.{LacksLabels, RanAll}
-use Rattle.arj_nodes.proofs.Turning.{arms_left, ran_more, ran_over, stands_some}
+use Rattle.arj_nodes.proofs.Turning.{arms_left, ran_more, ran_over, ran_still, stands_some}
 use Rattle.arj_nodes.proofs.all_nodes.AllNodesMachine.step.Goals as goal
 
 pub step-requires-clause-arms : goal.step-requires-clause-arms
@@ -22,7 +22,7 @@ returns-in-Ok-clause-ran g c first header events ran =
     let old = hand c.args.self.now.world c.args.rack.now c.args.journal.now in
     let new = hand c.step.new.self c.step.new.rack c.step.new.journal in
     subst (λ over. RanAll g.C.Core g.D.Disk first header (events ++ c.args.event ∷ []) over new) (sym c.requires.going)
-    (ran_more g.C.Core g.D.Disk first header events c.args.event old new e.ran e.counted c.step.ensures.disks (subst (λ over. RanAll g.C.Core g.D.Disk first header events over old) c.requires.going ran))
+    (ran_more g.C.Core g.D.Disk first header events c.args.event old new e.ran e.counted c.step.ensures.disks e.stops (subst (λ over. RanAll g.C.Core g.D.Disk first header events over old) c.requires.going ran))
 
 pub returns-in-Ok-clause-grown : goal.returns-in-Ok-clause-grown
 returns-in-Ok-clause-grown g c = let e = c.in-Ok.ensures in (e.counted, e.grown)
@@ -33,7 +33,7 @@ returns-in-Err-Frames-clause-frames g c _ first header events ran =
     let e = c.in-Err-Frames.ensures in
     let old = hand c.args.self.now.world c.args.rack.now c.args.journal.now in
     ran_over g.C.Core g.D.Disk first header events c.args.event old (hand c.step.new.self c.step.new.rack c.step.new.journal)
-    (e.frames is) (e.counted_over is) c.step.ensures.disks (subst (λ over. RanAll g.C.Core g.D.Disk first header events over old) c.requires.going ran)
+    (e.frames is) (e.counted_over is) c.step.ensures.disks (e.stops_over is) (subst (λ over. RanAll g.C.Core g.D.Disk first header events over old) c.requires.going ran)
 
 pub returns-in-Err-Frames-clause-overflown : goal.returns-in-Err-Frames-clause-overflown
 returns-in-Err-Frames-clause-overflown g c _ =
@@ -46,7 +46,7 @@ returns-in-Err-Labels-clause-labels g c _ first header events ran =
     let is = ap Err c.in-Err-Labels.field-0-is in
     let e = c.in-Err-Labels.ensures in
     let kept = e.kept is in (
-      subst (λ now. RanAll g.C.Core g.D.Disk first header events c.args.self.now.over now) (λ i. hand (sym kept.0 i) (sym kept.1 i) (sym kept.2 i)) ran,
+      ran_still g.C.Core g.D.Disk first header events c.args.self.now.over (hand c.args.self.now.world c.args.rack.now c.args.journal.now) (hand c.step.new.self c.step.new.rack c.step.new.journal) kept.0 kept.1 kept.2 ran,
       subst (λ world. LacksLabels g.C.Core world c.args.event) (sym kept.0) (e.labels is),
     )
 

@@ -1,0 +1,220 @@
+-- Nodes that are named, in messages, on disks and in memory: this holds of each of their numbers.
+use Rattle.std.specs.Prelude.{⊤, ◌≡◌, ℕ, true, nat_le, List, Option, Some, None}
+use Rattle.std.specs.List.{AllByRecursion}
+use Rattle.arj_protocol.specs.Words.{Uid, Ask, Asked, BoundReply, Entry, Head, Message, ObjectLine, ObjectState, Path, Row, asks, uids_of}
+use Rattle.arj_protocol.specs.Words.ask
+use Rattle.arj_protocol.specs.Words.bound
+use Rattle.arj_protocol.specs.Words.role
+use Rattle.arj_protocol.specs.Ask.{Reply, answers}
+use Rattle.arj_protocol.specs.Call.{At, AtBind, AtLoad, AtActivate, AtNote, AtInvoke, CallStep, Ended, Goal, Include, Known, Moved, On, Run, Steps}
+use Rattle.arj_protocol.specs.Commit.{Machine, Plan, Used, left_of, plan_of}
+use Rattle.arj_protocol.specs.Coord.{Calling, Committing, Coord, Doing, Idle, Joined, Keeping, Now, Root, Went, doing_of}
+use Rattle.arj_protocol.specs.Copy.{Copy}
+use Rattle.arj_protocol.specs.Effect.{Disk, Do, Effect, Intent, Prepare, PutIntent, Say, Send, Work}
+use Rattle.arj_protocol.specs.Named.{Live, Made, Named}
+use Rattle.arj_protocol.specs.Naming.{Naming}
+use Rattle.arj_protocol.specs.Node.{Parts}
+use Rattle.arj_protocol.specs.Step.{Node}
+use Rattle.arj_protocol.specs.Tree.{Branch}
+use Rattle.arj_protocol.specs.Values.{state_entry}
+use Rattle.arj_protocol.specs.World.{Frame, World}
+use Rattle.arj_view_law.specs.Seen.{In, Post, Seen}
+
+-- ---- numbers, Uids and entries
+
+abbrev pub AreOf : (ℕ → Type 0) → List ℕ → Type 0
+AreOf G ns = AllByRecursion G ns
+
+-- the Uids are of such nodes
+abbrev pub UidsOf : (ℕ → Type 0) → List Uid → Type 0
+UidsOf G us = AllByRecursion (λ (u : Uid). G u.node) us
+
+abbrev pub PathOf : (ℕ → Type 0) → Path → Type 0
+PathOf G p = UidsOf G (uids_of p)
+
+-- servers and stores of an entry
+pub record EntryOf (G : ℕ → Type 0) (e : Entry) : Type 0 where
+  pub servers : AreOf G e.servers
+  pub stores : AreOf G e.stores
+
+abbrev pub StateOf : (ℕ → Type 0) → ObjectState → Type 0
+StateOf G s = EntryOf G (state_entry s)
+
+-- ---- locks
+
+abbrev pub RowsOf : (ℕ → Type 0) → List Row → Type 0
+RowsOf G rows = AllByRecursion (λ (r : Row). UidsOf G r.holder) rows
+
+abbrev pub CopiesOf : (ℕ → Type 0) → List (ℕ × Copy) → Type 0
+CopiesOf G objects = AllByRecursion (λ (e : ℕ × Copy). RowsOf G (let c = e.1 in c.rows)) objects
+
+abbrev pub LiveOf : (ℕ → Type 0) → Option Live → Type 0
+LiveOf G None = ⊤
+LiveOf G (Some l) = G l.server
+
+abbrev pub TurnOf : (ℕ → Type 0) → Option ℕ → Type 0
+TurnOf G None = ⊤
+TurnOf G (Some n) = G n
+
+-- what naming has of an object
+pub record NamedOf (G : ℕ → Type 0) (o : Named) : Type 0 where
+  pub rows : RowsOf G o.rows
+  pub live : LiveOf G o.live
+  pub made : AllByRecursion (λ (e : Uid × Made). G (let m = e.1 in m.server)) o.made
+  pub turn : TurnOf G o.turn
+
+abbrev pub NamingOf : (ℕ → Type 0) → Naming → Type 0
+NamingOf G n = AllByRecursion (λ (e : ℕ × Named). NamedOf G e.1) n.objects
+
+abbrev pub NamesOf : (ℕ → Type 0) → Option Naming → Type 0
+NamesOf G None = ⊤
+NamesOf G (Some n) = NamingOf G n
+
+-- ---- disks
+
+-- who has something prepared; the entries, committed and prepared; and the participants of records
+pub record DiskOf (G : ℕ → Type 0) (d : Disk) : Type 0 where
+  pub store : AllByRecursion (λ (e : Uid × List ObjectState). G (let u = e.0 in u.node)) (let p = d.store in p.pend)
+  pub names : AllByRecursion (λ (e : Uid × List ObjectState). G (let u = e.0 in u.node) × AllByRecursion (StateOf G) e.1) (let p = d.names in p.pend)
+  pub held : AllByRecursion (λ (e : Uid × ObjectState). StateOf G e.1) (let p = d.names in p.held)
+  pub intents : AllByRecursion (λ (e : Uid × Intent). AreOf G (let i = e.1 in i.nodes)) d.intents
+
+-- ---- messages
+
+abbrev pub AskOf : (ℕ → Type 0) → Ask → Type 0
+AskOf G (ask.Confirm grants excluded included) = AllByRecursion (λ (m : ℕ × ℕ). G m.1) included
+AskOf G _ = ⊤
+
+abbrev pub AskedOf : (ℕ → Type 0) → Option (Head × Ask) → Type 0
+AskedOf G None = ⊤
+AskedOf G (Some a) = PathOf G (let h = a.0 in h.path) × AskOf G a.1
+
+abbrev pub BoundOf : (ℕ → Type 0) → BoundReply → Type 0
+BoundOf G (bound.Live b server i g stores) = G server × AreOf G stores
+BoundOf G (bound.Make b server g stores) = G server × AreOf G stores
+BoundOf G (bound.Write g stores) = AreOf G stores
+BoundOf G (bound.Conflict holder m) = ⊤
+
+abbrev pub ReplyOf : (ℕ → Type 0) → Reply → Type 0
+ReplyOf G (Reply.Bound r) = BoundOf G r
+ReplyOf G _ = ⊤
+
+abbrev pub AnsweredOf : (ℕ → Type 0) → Option (Asked × Reply) → Type 0
+AnsweredOf G None = ⊤
+AnsweredOf G (Some a) = ReplyOf G a.1
+
+abbrev pub MessageOf : (ℕ → Type 0) → Message → Type 0
+MessageOf G m = AskedOf G (asks m) × AnsweredOf G (answers m)
+
+-- ---- effects
+
+abbrev pub WorkOf : (ℕ → Type 0) → Work → Type 0
+WorkOf G (Prepare role.Store u states) = G u.node
+WorkOf G (Prepare role.Names u states) = G u.node × AllByRecursion (StateOf G) states
+WorkOf G (PutIntent u i) = AreOf G i.nodes
+WorkOf G _ = ⊤
+
+-- a message goes to such a node
+abbrev pub EffectOf : (ℕ → Type 0) → Effect → Type 0
+EffectOf G (Send to m) = G to × MessageOf G m
+EffectOf G (Say b) = ⊤
+EffectOf G (Do w) = WorkOf G w
+
+abbrev pub AllOf : (ℕ → Type 0) → List Effect → Type 0
+AllOf G outs = AllByRecursion (EffectOf G) outs
+
+-- ---- coordinators
+
+abbrev pub KnownOf : (ℕ → Type 0) → Known → Type 0
+KnownOf G k = G k.server × AreOf G k.stores
+
+abbrev pub KeptOf : (ℕ → Type 0) → Option Known → Type 0
+KeptOf G None = ⊤
+KeptOf G (Some k) = KnownOf G k
+
+abbrev pub AtOf : (ℕ → Type 0) → At → Type 0
+AtOf G (AtBind avoid) = ⊤
+AtOf G (AtLoad k s rest) = KnownOf G k × G s × AreOf G rest
+AtOf G (AtActivate k st) = KnownOf G k
+AtOf G (AtNote k i) = KnownOf G k
+AtOf G (AtInvoke k i) = KnownOf G k
+
+abbrev pub StepOf : (ℕ → Type 0) → CallStep → Type 0
+StepOf G (On at) = AtOf G at
+StepOf G (Ended e) = ⊤
+
+-- a step of a call: what it goes on to, and what the root keeps
+abbrev pub MovedOf : (ℕ → Type 0) → Moved → Type 0
+MovedOf G m = StepOf G m.step × KeptOf G m.kept
+
+abbrev pub GoalOf : (ℕ → Type 0) → Goal → Type 0
+GoalOf G (Run o) = ⊤
+GoalOf G (Include s) = G s
+
+pub record StepsOf (G : ℕ → Type 0) (s : Steps) : Type 0 where
+  pub path : PathOf G s.path
+  pub at : AtOf G s.at
+  pub goal : GoalOf G s.goal
+
+abbrev pub UsedOf : (ℕ → Type 0) → Used → Type 0
+UsedOf G u = G u.server × AreOf G u.stores × AreOf G u.joins
+
+pub record PlanOf (G : ℕ → Type 0) (p : Plan) : Type 0 where
+  pub path : PathOf G p.path
+  pub used : AllByRecursion (UsedOf G) p.used
+  pub sent : AreOf G p.sent
+  pub prepared : AreOf G p.prepared
+
+abbrev pub MachineOf : (ℕ → Type 0) → Machine → Type 0
+MachineOf G m = PlanOf G (plan_of m) × AreOf G (left_of m)
+
+abbrev pub NowOf : (ℕ → Type 0) → Now → Type 0
+NowOf G Idle = ⊤
+NowOf G (Calling s) = StepsOf G s
+NowOf G (Committing m) = MachineOf G m
+
+pub record RootOf (G : ℕ → Type 0) (r : Root) : Type 0 where
+  pub went : AllByRecursion (λ (w : Went). G w.node) r.went
+  pub joined : AllByRecursion (λ (j : Joined). G j.store) r.joined
+  pub keeping : AllByRecursion (λ (e : ℕ × Keeping). KeptOf G (let k = e.1 in k.kept)) r.keeping
+
+pub record CoordOf (G : ℕ → Type 0) (c : Coord) : Type 0 where
+  pub node : G (let t = c.tree in t.node)
+  pub paths : AllByRecursion (λ (b : Branch). PathOf G b.path) (let t = c.tree in t.branches)
+  pub works : (u : Uid) (d : Doing) → doing_of u c ≡ Some d → NowOf G d.now
+  pub roots : AllByRecursion (λ (e : ℕ × Root). RootOf G e.1) c.roots
+  pub telling : AllByRecursion (λ (e : Uid × Intent). AreOf G (let i = e.1 in i.nodes)) c.telling
+
+-- ---- nodes
+
+pub record PartsOf (G : ℕ → Type 0) (t : Parts) : Type 0 where
+  pub server : CopiesOf G (let s = t.server in s.objects)
+  pub naming : NamesOf G t.naming
+  pub coord : CoordOf G t.coord
+
+-- ---- all that is seen
+
+-- servers and stores of an object of the header
+abbrev pub LineOf : (ℕ → Type 0) → ObjectLine → Type 0
+LineOf G o = AreOf G o.servers × AreOf G o.stores
+
+abbrev pub UpOf : (ℕ → Type 0) → Option Parts → Type 0
+UpOf G None = ⊤
+UpOf G (Some t) = PartsOf G t
+
+-- a node's number, its disk, and its memory where it is up
+abbrev pub NodeOf : (ℕ → Type 0) → Node → Type 0
+NodeOf G n = G n.number × DiskOf G n.disk × UpOf G n.live
+
+abbrev pub PostOf : (ℕ → Type 0) → Post → Type 0
+PostOf G p = G p.from × G p.to × MessageOf G p.message
+
+-- of every node, and of every message that was ever sent
+abbrev pub AreSo : (ℕ → Type 0) → Seen → Type 0
+AreSo G M = ((j : ℕ) (n : Node) → M.nodes j ≡ Some n → NodeOf G n) × ((p : Post) → In p M.sent → PostOf G p)
+
+-- ---- frames
+
+-- each frame goes to a number that is at most that
+abbrev pub GoWithin : ℕ → World → Type 0
+GoWithin most w = AllByRecursion (λ (f : Frame). nat_le f.to most ≡ true) w.frames
