@@ -1,5 +1,5 @@
 // The script of a number.
-ghost use Rattle.std.specs.Prelude.{◌≡◌, ◌≤◌, [], ◌∷◌, ◌++◌, ◌-◌, map, codes, OnOk, IfOk};
+ghost use Rattle.std.specs.Prelude.{◌≡◌, ◌≤◌, [], ◌∷◌, ◌++◌, ◌-◌, length, map, codes, OnOk, IfOk};
 ghost use Rattle.std.specs.List.{AllByRecursion};
 ghost use Rattle.arj_gen.specs.Bank.{accounts, account_line, bank_header, event_lines};
 ghost use Rattle.arj_journal.specs.ScriptForm.{EventInForm, HeaderInForm};
@@ -12,6 +12,12 @@ use arj_class::{Account, Value};
 use arj_journal::{Event, Events, Header, ObjectLine, ObjectLines};
 use std::alloc::{AllocError, Global};
 
+/// How many accounts the bank has.
+pub const ACCOUNTS: u16 = 20;
+
+/// How many events its script has.
+pub const EVENTS: usize = 1627;
+
 /// A header, and the events behind its `run`.
 #[derive(Drop)]
 pub struct Script {
@@ -23,6 +29,7 @@ pub struct Script {
 pub fn generate(alloc: Global, n: u32) -> Result<Script, AllocError>
     ensures header { IfOk result (λ script. (script.header ≡ bank_header) × HeaderInForm script.header) }
     ensures events { IfOk result (λ script. (map event_text script.events ≡ event_lines n) × AllByRecursion EventInForm script.events) }
+    ensures count { IfOk result (λ script. length script.events ≡ EVENTS) }
 {
     let header = header(alloc)?;
     let events = events(alloc, n)?;
@@ -41,10 +48,10 @@ fn header(alloc: Global) -> Result<Header, AllocError>
 // The accounts, by their numbers.
 #[tactic(auto, using(crate::proofs::Counts::accounts_more))]
 fn accounts_of(alloc: Global) -> Result<ObjectLines, AllocError>
-    ensures { IfOk result (λ objects. objects ≡ accounts 20) }
+    ensures { IfOk result (λ objects. objects ≡ accounts ACCOUNTS) }
 {
     let mut objects = ObjectLines::new(alloc);
-    for k in 0..20u16 {
+    for k in 0..ACCOUNTS {
         objects.push(account(alloc, k + 1)?)?;
     }
     Ok(objects)
@@ -77,6 +84,7 @@ fn account(alloc: Global, x: u16) -> Result<ObjectLine, AllocError>
 fn events(alloc: Global, n: u32) -> Result<Events, AllocError>
     ensures texts { IfOk result (λ events. map event_text events ≡ event_lines n) }
     ensures form { IfOk result (λ events. AllByRecursion EventInForm events) }
+    ensures count { IfOk result (λ events. length events ≡ EVENTS) }
 {
     let mut events = Events::new(alloc);
     let mut draws = Draws {

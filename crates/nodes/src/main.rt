@@ -1,18 +1,18 @@
 //! The program: words, standard input and standard output, sixteen empty disks in memory, and the top call over them.
 //!
-//! It stands on `arj_nodes`, whose `nodes` does all the work, over nodes that `arj_node` and `arj_parts` make with shadow
+//! It stands on `arj_bank`, whose `nodes` does all the work, over nodes that `arj_node` and `arj_parts` make with shadow
 //! stores. Its exit status is the answer of that call.
 #![tactic(auto)]
 
 ghost use Rattle.std.specs.Prelude.{◌≡◌, []};
 
+use arj_bank::nodes;
 use arj_disk::MemDisk;
 use arj_io::{StdSink, StdSource};
 use arj_journal::Lines;
 use arj_loop::BadLine;
 use arj_main::{explain, words};
 use arj_node::NodeCore;
-use arj_nodes::nodes;
 use arj_parts::NodeParts;
 use arj_store::ShadowStore;
 use arj_top::empty_rack;

@@ -1,0 +1,31 @@
+-- from the entry to the balance
+use Rattle.std.proofs.Common.{Err, ap, refl, subst}
+use Rattle.arj_bank.specs.Balances.{Holds, files_at}
+use Rattle.arj_disk.specs.declared.disk.DiskFault.TheVariants.{Stopped}
+use Rattle.arj_world.proofs.Disks.{moved_on, same_fault, stopped_later}
+use Rattle.arj_bank.proofs.balances.balance.Goals as goal
+
+pub returns-in_ok-balance-in-Ok-clause-balance : goal.returns-in_ok-balance-in-Ok-clause-balance
+returns-in_ok-balance-in-Ok-clause-balance g c =
+    let file = g.D.Disk.file in record {
+      named = c.in_ok-named.named;
+      named_is = subst (λ uid. Holds (files_at file c.args.rack.now 1) uid c.in_ok-named.named) c.entry_uid.ensures c.in_ok-named.ensures.holds;
+      store = c.in_ok-store.store;
+      listed = c.in_ok-store.ensures;
+      state = c.in-Ok.state;
+      state_is = subst (λ uid. Holds (files_at file c.args.rack.now c.in_ok-store.store) uid c.in-Ok.state) c.object_uid.ensures
+          (subst (λ files. Holds (files c.in_ok-store.store) c.object_uid.result c.in-Ok.state) c.committed_at.ensures.files c.in-Ok.ensures.holds);
+      balance_is = c.in_ok-balance-in-Ok.ensures;
+    }
+
+pub returns-in_ok-balance-in-Ok-clause-moved : goal.returns-in_ok-balance-in-Ok-clause-moved
+returns-in_ok-balance-in-Ok-clause-moved g c = moved_on g.D.Disk c.args.rack.now c.committed_at.new.rack c.committed_at-2.new.rack c.committed_at.ensures.moved c.committed_at-2.ensures.moved
+
+pub returns-in_err-balance-in-Ok-clause-moved : goal.returns-in_err-balance-in-Ok-clause-moved
+returns-in_err-balance-in-Ok-clause-moved g c = moved_on g.D.Disk c.args.rack.now c.committed_at.new.rack c.committed_at-2.new.rack c.committed_at.ensures.moved c.committed_at-2.ensures.moved
+
+pub returns-in-Err-clause-moved : goal.returns-in-Err-clause-moved
+returns-in-Err-clause-moved g c = moved_on g.D.Disk c.args.rack.now c.committed_at.new.rack c.committed_at-2.new.rack c.committed_at.ensures.moved c.committed_at-2.ensures.moved
+
+pub returns-in-Err-clause-stopped : goal.returns-in-Err-clause-stopped
+returns-in-Err-clause-stopped g c is = stopped_later g.D.Disk c.args.rack.now c.committed_at.new.rack c.committed_at-2.new.rack c.committed_at.ensures.moved c.committed_at-2.ensures.moved (c.in-Err.ensures.stopped (ap Err (same_fault (Err c.in-Err.fault) c.in-Err.fault Stopped refl is)))

@@ -1,0 +1,32 @@
+-- the run, and what it came to
+use Rattle.std.proofs.Common.{Err, ap, inl, inr, refl, subst}
+use Rattle.std.proofs.lemmas.Result.{IfOk-weaker}
+use Rattle.arj_bank.specs.Bank.{IsSummary, SumsUp, left}
+use Rattle.arj_bank.specs.declared.stop.Stop.TheVariants.{Disk, Limit}
+use Rattle.arj_world.proofs.Disks.{moved_none, same_fault}
+use Rattle.arj_bank.proofs.generated.summary.Goals as goal
+
+pub returns-in-Ok-clause-text : goal.returns-in-Ok-clause-text
+returns-in-Ok-clause-text g c =
+    let file = g.D.Disk.file in
+    IfOk-weaker c.sum_up.result (SumsUp file c.in-Ok.events c.run_bank.new.rack c.run_bank.new.journal) (IsSummary g.M.Machine file c.args.n c.args.rack.now (left c.sum_up.new.rack c.run_bank.new.journal))
+    (λ text sums. record { mid = c.run_bank.new.rack; ran = c.in-Ok.ensures.ran; sums = subst (λ count. SumsUp file count c.run_bank.new.rack c.run_bank.new.journal text) c.in-Ok.ensures.count sums; kept = c.sum_up.ensures.files })
+    c.sum_up.ensures.text
+
+pub returns-in-Ok-clause-limit : goal.returns-in-Ok-clause-limit
+returns-in-Ok-clause-limit g c is = absurd (c.sum_up.ensures.limit is)
+
+pub returns-in-Ok-clause-stopped : goal.returns-in-Ok-clause-stopped
+returns-in-Ok-clause-stopped g c is = inr (record { mid = c.run_bank.new.rack; ran = c.in-Ok.ensures.ran; stopped = c.sum_up.ensures.stopped is })
+
+pub returns-in-Ok-clause-moved : goal.returns-in-Ok-clause-moved
+returns-in-Ok-clause-moved g c = record { mid = c.run_bank.new.rack; moved = c.run_bank.ensures.moved; since = c.sum_up.ensures.moved }
+
+pub returns-in-Err-clause-limit : goal.returns-in-Err-clause-limit
+returns-in-Err-clause-limit g c is = c.in-Err.ensures.limit (ap Err (same_fault (Err c.in-Err.stop) c.in-Err.stop Limit refl is))
+
+pub returns-in-Err-clause-stopped : goal.returns-in-Err-clause-stopped
+returns-in-Err-clause-stopped g c is = inl (c.in-Err.ensures.stopped (ap Err (same_fault (Err c.in-Err.stop) c.in-Err.stop Disk refl is)))
+
+pub returns-in-Err-clause-moved : goal.returns-in-Err-clause-moved
+returns-in-Err-clause-moved g c = record { mid = c.run_bank.new.rack; moved = c.run_bank.ensures.moved; since = moved_none g.D.Disk 0 c.run_bank.new.rack }

@@ -1,0 +1,104 @@
+-- What the disks hold of the bank.
+use Rattle.std.specs.Prelude.{ℕ, zero, suc, ◌≡◌, ◌+◌, ◌-◌, ◌&&◌, Bool, List, [], ◌∷◌, Option, Some, None, slice_get, nat_le, nat_lt, if◌then◌else◌}
+use Rattle.arj_base.specs.State.{StateInForm, state_bytes}
+use Rattle.arj_base.specs.Uid.{entry, object}
+use Rattle.arj_base.specs.declared.state.Class.{Class}
+use Rattle.arj_base.specs.declared.state.ObjectState.{ObjectState}
+use Rattle.arj_base.specs.declared.uid.Uid.{Uid}
+use Rattle.arj_class.specs.Forms.{ValueInForm, payload_of}
+use Rattle.arj_class.specs.Table.{class_of}
+use Rattle.arj_class.specs.declared.value.Value.{Value}
+use Rattle.arj_class.specs.declared.value.Value.TheVariants.{Account}
+use Rattle.arj_disk.specs.FileMap.{FileMap}
+use Rattle.arj_disk.specs.declared.slot.Slot.TheVariants.{Committed}
+use Rattle.arj_entry.specs.Entry.{EntryInForm, entry_payload}
+use Rattle.arj_entry.specs.declared.entry.Entry.{Entry}
+use Rattle.arj_text.specs.Fields.{IsRead}
+
+-- ---- files
+
+-- none at all
+abbrev pub no_files : FileMap
+no_files slot = None
+
+-- those of a disk, if there is one
+abbrev pub files_in : {D : Type 0} → (D → FileMap) → Option D → FileMap
+files_in file None = no_files
+files_in file (Some disk) = file disk
+
+-- nodes are numbered from 1 to 16
+abbrev pub is_number : ℕ → Bool
+is_number node = nat_le 1 node && nat_le node 16
+
+-- the files of the disk of a node, the first of which is node 1's; none for a number that is no node's
+abbrev pub files_at : {D : Type 0} → (D → FileMap) → List D → ℕ → FileMap
+files_at file rack node = if is_number node then files_in file (slice_get rack (node - 1)) else no_files
+
+-- ---- states
+
+-- the state that a file packs: none where there is no file, or it packs no state
+abbrev pub Packs : Option (List ℕ) → Option ObjectState → Type 0
+Packs None state = state ≡ None
+Packs (Some bytes) state = IsRead StateInForm state_bytes bytes state
+
+-- the committed state of an object or an entry, among these files
+abbrev pub Holds : FileMap → Uid → Option ObjectState → Type 0
+Holds file uid state = Packs (file (Committed uid)) state
+
+-- ---- entries
+
+-- the first of these nodes, 0 where there is none
+abbrev pub first_node : List ℕ → ℕ
+first_node [] = 0
+first_node (node ∷ nodes) = node
+
+-- the first store of an entry, 0 where there is no entry or it lists none
+abbrev pub first_listed : Option Entry → ℕ
+first_listed None = 0
+first_listed (Some e) = first_node e.stores
+
+-- the first store that an entry's state lists: 0 where there is no state, or it is no entry's, or it lists no store
+abbrev pub ListsFirst : Option ObjectState → ℕ → Type 0
+ListsFirst None store = store ≡ 0
+ListsFirst (Some state) store = (found : Option Entry) × IsRead EntryInForm entry_payload state.payload found × (store ≡ first_listed found)
+
+-- ---- balances
+
+-- the balance of a value, 0 where it is no account
+abbrev pub number_in : Value → ℕ
+number_in (Account balance) = balance
+number_in _ = 0
+
+-- the same, 0 where there is no value
+abbrev pub balance_in : Option Value → ℕ
+balance_in None = 0
+balance_in (Some value) = number_in value
+
+-- a value in form, of this class
+abbrev pub IsOfClass : Class → Value → Type 0
+IsOfClass class value = (class_of value ≡ class) × ValueInForm value
+
+-- the balance of an object's state: 0 where there is no state, or it is no account's
+abbrev pub HasBalance : Option ObjectState → ℕ → Type 0
+HasBalance None balance = balance ≡ 0
+HasBalance (Some state) balance = (found : Option Value) × IsRead (IsOfClass state.class) payload_of state.payload found × (balance ≡ balance_in found)
+
+-- The balance of account x: that of its committed state on the first store that its entry, committed at node 1, lists. It is
+-- 0 where one of these isn't there.
+pub record IsBalance (files : ℕ → FileMap) (x balance : ℕ) : Type 0 where
+  pub named : Option ObjectState
+  pub named_is : Holds (files 1) (entry x) named
+  pub store : ℕ
+  pub listed : ListsFirst named store
+  pub state : Option ObjectState
+  pub state_is : Holds (files store) (object x) state
+  pub balance_is : HasBalance state balance
+
+-- a sum of 64 bits: it stands still at the largest number
+abbrev pub capped : ℕ → ℕ
+capped n = if nat_lt n 18446744073709551616 then n else 18446744073709551615
+
+-- the balances of the first so many accounts add up to this sum
+abbrev pub AddUpTo : (ℕ → FileMap) → ℕ → ℕ → Type 0
+AddUpTo files zero sum = sum ≡ 0
+AddUpTo files (suc k) sum = (before : ℕ) × (balance : ℕ) × AddUpTo files k before × IsBalance files (k + 1) balance × (sum ≡ capped (before + balance))

@@ -1,0 +1,161 @@
+// What the disks hold of the bank.
+ghost use Rattle.std.specs.Prelude.{◌≡◌, ◌+◌, Some, IfOk, IsErrOf};
+ghost use Rattle.arj_base.specs.State.{StateInForm, state_bytes};
+ghost use Rattle.arj_bank.specs.Balances.{AddUpTo, HasBalance, Holds, IsBalance, ListsFirst, capped, files_at, first_node, is_number, number_in};
+ghost use Rattle.arj_disk.specs.Counted.{counts};
+ghost use Rattle.arj_disk.specs.Disk.{CountsCall, Same};
+ghost use Rattle.arj_text.specs.Fields.{IsRead};
+ghost use Rattle.arj_world.specs.Disks.{HasStopped, HaveMoved};
+
+use arj_base::{ObjectState, StateFault, Uid, entry_uid, object_uid, unpack};
+use arj_class::{ClassFault, Value};
+use arj_disk::{Disk, DiskFault, Rack, Slot};
+use arj_entry::Entry;
+use arj_gen::ACCOUNTS;
+use arj_journal::NODES;
+use std::alloc::{AllocError, Global};
+
+// The state that bytes pack, if they pack one.
+fn state_in(alloc: Global, bytes: &[u8]) -> Result<Option<ObjectState>, AllocError>
+    ensures { IfOk result (λ state. IsRead StateInForm state_bytes bytes.now state) }
+{
+    match unpack(alloc, bytes) {
+        Ok(state) => Ok(Some(state)),
+        Err(StateFault::Memory) => Err(AllocError),
+        Err(_) => Ok(None),
+    }
+}
+
+// The committed state that a disk has of an object or an entry.
+fn committed<D: Disk>(
+    alloc: Global,
+    disk: &mut D,
+    uid: Uid,
+) -> Result<Option<ObjectState>, DiskFault>
+    ensures holds { IfOk result (λ state. Holds (D.file disk.old) uid state) }
+    ensures files { Same (D.file disk.old) (D.file disk.new) }
+    ensures counts { CountsCall (counts D.Disk disk.old) (counts D.Disk disk.new) result DiskFault.Stopped }
+{
+    let Some(bytes) = disk.read(alloc, Slot::Committed(uid))? else {
+        return Ok(None);
+    };
+    let state = state_in(alloc, bytes.as_slice())?;
+    Ok(state)
+}
+
+// Whether a number is that of a node.
+fn is_number(node: u8) -> bool
+    ensures { result ≡ is_number node }
+{
+    1 <= node && u64::from(node) <= NODES
+}
+
+// The same of a node's disk. There is none for a number that is no node's.
+#[tactic(auto, using(arj_world::proofs::Disks::moved_call, arj_world::proofs::Disks::moved_none, arj_world::proofs::Disks::stopped_at))]
+fn committed_at<D: Disk>(
+    alloc: Global,
+    rack: &mut Rack<D>,
+    node: u8,
+    uid: Uid,
+) -> Result<Option<ObjectState>, DiskFault>
+    ensures holds { IfOk result (λ state. Holds (files_at D.file rack.old node) uid state) }
+    ensures files { files_at D.file rack.new ≡ files_at D.file rack.old }
+    ensures moved { HaveMoved D.Disk 0 rack.old rack.new }
+    ensures stopped { IsErrOf result DiskFault.Stopped → HasStopped D.Disk rack.old rack.new }
+{
+    if !is_number(node) {
+        return Ok(None);
+    }
+    committed(alloc, rack.disk(node), uid)
+}
+
+// The first of these nodes, 0 where there is none.
+fn first_of(nodes: &[u8]) -> u8
+    ensures { result ≡ first_node nodes.now }
+{
+    match nodes {
+        [] => 0,
+        [first, ..] => *first,
+    }
+}
+
+// The first store that an entry lists, 0 where it lists none.
+fn first_store(alloc: Global, state: Option<ObjectState>) -> Result<u8, AllocError>
+    ensures { IfOk result (λ store. ListsFirst state store) }
+{
+    let Some(state) = state else {
+        return Ok(0);
+    };
+    match Entry::restore(alloc, state.payload.as_slice()) {
+        Ok(listed) => Ok(first_of(listed.stores.as_slice())),
+        Err(ClassFault::Memory) => Err(AllocError),
+        Err(ClassFault::Payload) => Ok(0),
+    }
+}
+
+// The balance of a value, 0 where it is no account.
+fn number_of(value: &Value) -> u64
+    ensures { result ≡ number_in value.now }
+{
+    match value {
+        Value::Account(account) => account.balance(),
+        _ => 0,
+    }
+}
+
+// The balance of a state, 0 where it is no account's.
+fn balance_of(alloc: Global, state: Option<ObjectState>) -> Result<u64, AllocError>
+    ensures { IfOk result (λ balance. HasBalance state balance) }
+{
+    let Some(state) = state else {
+        return Ok(0);
+    };
+    match Value::restore_state(alloc, state.class, state.payload.as_slice()) {
+        Ok(value) => Ok(number_of(&value)),
+        Err(ClassFault::Memory) => Err(AllocError),
+        Err(ClassFault::Payload) => Ok(0),
+    }
+}
+
+// The balance of an account: of its committed state on the first store that naming lists for it, 0 where there is none.
+fn balance<D: Disk>(alloc: Global, rack: &mut Rack<D>, x: u16) -> Result<u64, DiskFault>
+    ensures balance { IfOk result (λ balance. IsBalance (files_at D.file rack.old) x balance) }
+    ensures files { files_at D.file rack.new ≡ files_at D.file rack.old }
+    ensures moved { HaveMoved D.Disk 0 rack.old rack.new }
+    ensures stopped { IsErrOf result DiskFault.Stopped → HasStopped D.Disk rack.old rack.new }
+{
+    let named = committed_at(alloc, rack, 1, entry_uid(x))?;
+    let store = first_store(alloc, named)?;
+    match committed_at(alloc, rack, store, object_uid(x)) {
+        Ok(state) => {
+            let balance = balance_of(alloc, state)?;
+            Ok(balance)
+        }
+        Err(fault) => Err(fault),
+    }
+}
+
+// A sum of 64 bits, which stands still at the largest number.
+fn added(sum: u64, balance: u64) -> u64
+    ensures { result ≡ capped (sum + balance) }
+{
+    sum.saturating_add(balance)
+}
+
+/// The sum of the balances of all accounts, each read from the first store that naming lists for it. It stands still at the
+/// largest number of 64 bits. Stopped: a disk was stopped.
+pub fn sum<D: Disk>(alloc: Global, rack: &mut Rack<D>) -> Result<u64, DiskFault>
+    ensures sum { IfOk result (λ sum. AddUpTo (files_at D.file rack.old) ACCOUNTS sum) }
+    ensures files { files_at D.file rack.new ≡ files_at D.file rack.old }
+    ensures moved { HaveMoved D.Disk 0 rack.old rack.new }
+    ensures stopped { IsErrOf result DiskFault.Stopped → HasStopped D.Disk rack.old rack.new }
+{
+    let mut sum: u64 = 0;
+    for k in 0..ACCOUNTS {
+        match balance(alloc, rack, k + 1) {
+            Ok(balance) => sum = added(sum, balance),
+            Err(fault) => return Err(fault),
+        }
+    }
+    Ok(sum)
+}
