@@ -1,0 +1,16 @@
+pub mod Books
+pub mod Effects
+pub mod Likes
+pub mod Endings
+pub mod Opens
+pub mod Coords
+pub mod Again
+pub mod Parts
+pub mod Walks
+pub mod Begun
+pub mod Runs
+pub mod Models
+pub mod Tops
+pub mod Turns
+pub mod Paths
+pub mod Agreeing

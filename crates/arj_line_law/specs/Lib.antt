@@ -1,0 +1,5 @@
+pub mod Book
+pub mod Knows
+pub mod Laws
+pub mod Right
+pub mod Paths
