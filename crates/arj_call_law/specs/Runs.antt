@@ -1,0 +1,64 @@
+-- What is known of calls and votes in each run, and what a run's relation has to give for it.
+use Rattle.std.specs.Prelude.{◌≡◌, ℕ, true, List, Some}
+use Rattle.arj_protocol.specs.Words.{Asked, Binding, Message, ObjectState}
+use Rattle.arj_protocol.specs.Words.voted
+use Rattle.arj_lock.proofs.Members as list
+use Rattle.arj_protocol.specs.Ask.{Reply, answers}
+use Rattle.arj_protocol.specs.Asking.{kept_at, waits_for_call}
+use Rattle.arj_protocol.specs.Call.{Known, Steps}
+use Rattle.arj_protocol.specs.Commit.{Machine, plan_of}
+use Rattle.arj_protocol.specs.Coord.{Calling, Committing, Doing, doing_of}
+use Rattle.arj_protocol.specs.Effect.{Disk}
+use Rattle.arj_protocol.specs.Node.{Parts}
+use Rattle.arj_protocol.specs.Order.{binding_number}
+use Rattle.arj_protocol.specs.Step.{Node}
+use Rattle.arj_part_law.specs.Actions.{Action, Agree}
+use Rattle.arj_part_law.specs.Copies.{IsTree, Paths}
+use Rattle.arj_run_law.specs.Worlds.{IsGood, IsGoodOf}
+use Rattle.arj_view_law.specs.Seen.{In, Seen, up}
+use Rattle.arj_call_law.specs.Coords.{IsUsed}
+use Rattle.arj_call_law.specs.Homes.{NamesIn}
+use Rattle.arj_call_law.specs.Lived.{CountFits, LivesRun}
+use Rattle.arj_call_law.specs.Worlds.{CallsReach, KnowsWorld}
+
+-- a tree of paths that has these actions
+abbrev pub Trees : List Action → Type 0
+Trees acts = (paths : Paths) × IsTree paths × Agree acts paths
+
+-- in each such tree calls and votes are known
+abbrev pub AreKnown : List Action → Seen → Type 0
+AreKnown acts M = (p : Trees acts) → KnowsWorld p.0 M
+
+-- so it is with all actions that were begun
+abbrev pub KnowsRun : Seen → Type 0
+KnowsRun M = (acts : List Action) × IsGoodOf acts M × AreKnown acts M
+
+-- Where a Bind is answered with the binding that its root keeps of the object already, the answer names the same server.
+abbrev pub HasHomes : ℕ → Parts → Seen → Type 0
+HasHomes k t M = (from : ℕ) (m : Message) (a : Asked) (r : Reply) → In (record { from = from; to = k; message = m }) M.sent → answers m ≡ Some (a, r)
+    → (d : Doing) (s : Steps) → doing_of a.act t.coord ≡ Some d → d.now ≡ Calling s → waits_for_call from a r s ≡ true
+    → (old : Known) (b : Binding) (n : ℕ) → kept_at s t.coord ≡ Some old → NamesIn r b n → binding_number old.binding ≡ binding_number b → old.server ≡ n
+
+-- Each call that was sent names an incarnation of its server and a binding which the server had, or a later one; and a binding has one
+-- server.
+pub record Grounds (R : Seen → Type 0) : Type 0 where
+  pub reached : (M : Seen) → R M → CallsReach M
+  pub homes : (k : ℕ) (d : Disk) (t : Parts) (M : Seen) → R (up k d t M) → HasHomes k t (up k d t M)
+
+-- The relation gives the first, and that naming's count of bindings has 32 bits, by which a binding has one server.
+pub record Grants (R : Seen → Type 0) : Type 0 where
+  pub reached : (M : Seen) → R M → CallsReach M
+  pub counts : (k : ℕ) (d : Disk) (t : Parts) (M : Seen) → R (up k d t M) → CountFits t
+
+-- with what is known of nodes, of servers and of calls
+abbrev pub WithCalls : (Seen → Type 0) → Seen → Type 0
+WithCalls R M = ((R M × IsGood M) × LivesRun M) × KnowsRun M
+
+-- A vote that was sent to a node has states of objects only that the plan there uses at the server which votes.
+abbrev pub VotesAreUsed : ℕ → Parts → Seen → Type 0
+VotesAreUsed k t M = (from : ℕ) (m : Message) (a : Asked) (states : List ObjectState) → In (record { from = from; to = k; message = m }) M.sent → answers m ≡ Some (a, Reply.Voted (voted.Yes states))
+    → (d : Doing) (q : Machine) → doing_of a.act t.coord ≡ Some d → d.now ≡ Committing q → (s : ObjectState) → list.In s states → IsUsed (plan_of q).used (let u = s.uid in u.num) from
+
+-- so it is at each node that is up
+abbrev pub AllVotesAreUsed : Seen → Type 0
+AllVotesAreUsed M = (k : ℕ) (n : Node) (t : Parts) → M.nodes k ≡ Some n → n.live ≡ Some t → VotesAreUsed k t M
