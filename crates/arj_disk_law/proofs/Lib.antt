@@ -22,6 +22,7 @@ pub mod OfficeViews
 pub mod Opening
 pub mod Orders
 pub mod Plain
+pub mod PlainActs
 pub mod Restarts
 pub mod Results
 pub mod SmallRuns

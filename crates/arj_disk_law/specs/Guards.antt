@@ -1,5 +1,5 @@
 -- What the naming node, and the coordinators towards it, look at before an act.
-use Rattle.std.specs.Prelude.{◌≡◌, ◌⊎◌, ℕ, ◌+◌, ◌≤◌, List, [], ◌∷◌, Bool, true, false, Some, None, is_some, bytes_eq, ⊤}
+use Rattle.std.specs.Prelude.{◌≡◌, ◌⊎◌, ℕ, ◌+◌, ◌≤◌, ◌==◌, ◌||◌, not, List, [], ◌∷◌, Bool, true, false, Some, None, is_some, bytes_eq, ⊤}
 use Rattle.arj_disk_law.specs.Effects.{Effect, Begin, Take, Seal, Intend, Decide, Remove, EndBare, Halt, Keep, Move, Finish, Drop, Agree, Pass, Enter, MoveEntry, FinishEntry, DropEntry, Forget, Send, Allowed, MaySend, IsNot, IsUnlisted, NoneIsListed, new_list}
 use Rattle.arj_disk_law.specs.Laws.{IsBased}
 use Rattle.arj_disk_law.specs.Messages.{Message, Prepare, Prepared, Confirm, Confirmed, ToldCommit, ToldBare, ToldAbort, Acked, ToldSerial}
@@ -120,6 +120,75 @@ MayDo A (MoveEntry h) = Allowed A.world (MoveEntry h)
 MayDo A (FinishEntry h) = Allowed A.world (FinishEntry h)
 MayDo A (DropEntry h) = Allowed A.world (DropEntry h)
 MayDo A (Forget r h) = Allowed A.world (Forget r h)
+
+-- In what the naming node's half has a part: a top's commit begins; it is decided, or ends without a record; it is confirmed;
+-- and the naming node acknowledges its end.
+pub data Note : Type 0 where
+  Begins Decides Confirms Acks : ℕ → Note
+
+-- naming's half has no part in what is sent, or one of these
+abbrev pub tells_only_of : (Note → Bool) → Message → Bool
+tells_only_of f (Prepare t s) = true
+tells_only_of f (Prepared t s) = true
+tells_only_of f (Confirm t) = true
+tells_only_of f (Confirmed t) = true
+tells_only_of f (ToldCommit t m) = true
+tells_only_of f (ToldBare t m) = true
+tells_only_of f (ToldAbort t m) = true
+tells_only_of f (Acked t m) = not (m == naming) || f (Acks t)
+tells_only_of f (ToldSerial r m) = true
+
+-- nor in the effect, or one of these
+abbrev pub is_only_of : (Note → Bool) → Effect → Bool
+is_only_of f (Begin t p) = f (Begins t)
+is_only_of f (Take t s) = true
+is_only_of f (Seal t) = true
+is_only_of f (Intend t nodes) = true
+is_only_of f (Decide t) = f (Decides t)
+is_only_of f (Remove t nodes) = true
+is_only_of f (EndBare t) = f (Decides t)
+is_only_of f (Halt t) = true
+is_only_of f (Keep t s) = true
+is_only_of f (Move s h) = true
+is_only_of f (Finish s h) = true
+is_only_of f (Drop s h) = true
+is_only_of f (Agree t) = f (Confirms t)
+is_only_of f (Pass t) = f (Confirms t)
+is_only_of f (Enter t) = f (Confirms t)
+is_only_of f (MoveEntry h) = true
+is_only_of f (FinishEntry h) = true
+is_only_of f (DropEntry h) = true
+is_only_of f (Forget r h) = true
+is_only_of f (Send m) = tells_only_of f m
+
+abbrev pub AreOnlyOf : (Note → Bool) → List Effect → Type 0
+AreOnlyOf f [] = ⊤
+AreOnlyOf f (e ∷ es) = (is_only_of f e ≡ true) × AreOnlyOf f es
+
+-- the naming node's half has no part in it
+abbrev pub ArePlain : List Effect → Type 0
+ArePlain es = AreOnlyOf (λ n. false) es
+
+-- naming acknowledges the top's end
+abbrev pub only_acks : ℕ → Note → Bool
+only_acks t (Acks z) = z == t
+only_acks t (Begins z) = false
+only_acks t (Decides z) = false
+only_acks t (Confirms z) = false
+
+-- tops of these are decided
+abbrev pub only_decides : (ℕ → Bool) → Note → Bool
+only_decides g (Decides z) = g z
+only_decides g (Begins z) = false
+only_decides g (Confirms z) = false
+only_decides g (Acks z) = false
+
+-- the top's commit begins
+abbrev pub only_begins : ℕ → Note → Bool
+only_begins t (Begins z) = z == t
+only_begins t (Decides z) = false
+only_begins t (Confirms z) = false
+only_begins t (Acks z) = false
 
 -- a top asks for a lock that is free for it
 pub record MayLock (A : Office) (t m : ℕ) : Type 0 where

@@ -1,7 +1,7 @@
 -- What follows with the naming node's half.
-use Rattle.std.specs.Prelude.{◌≡◌, ℕ, ◌+◌, List, [], ◌∷◌, take, true, false, Some, None}
+use Rattle.std.specs.Prelude.{◌≡◌, ℕ, ◌+◌, List, [], ◌∷◌, map, take, true, false, Some, None}
 use Rattle.arj_disk_law.specs.Effects.{Effect, Locked, Decide, EndBare, Follows, run}
-use Rattle.arj_disk_law.specs.Guards.{HasRow, May, Runs, end_of, IsPresent, MayAgree, MayEnter}
+use Rattle.arj_disk_law.specs.Guards.{ArePlain, HasRow, May, Runs, end_of, IsPresent, MayAgree, MayEnter}
 use Rattle.arj_disk_law.specs.Laws.{IsFirst}
 use Rattle.arj_disk_law.specs.Named.{Named}
 use Rattle.arj_disk_law.specs.Names.{Names, Office, Act, Do, Commit, CommitBare, Read, Write, Exclude, Lower, Unbind, EndTop, EndSerial, Restart, Hear, KeepList, AnswerLoad, acted}
@@ -52,6 +52,12 @@ effects_of (AnswerLoad t i s l g) = []
 -- what may be done with the naming node's half is allowed on the disks, and does there what its effects do
 abbrev pub ActsAreAllowed : Type 0
 ActsAreAllowed = (A : Office) (a : Act) → May A a → Named A → Follows A.world (effects_of a) × ((acted A a).world ≡ run A.world (effects_of a))
+
+-- Effects in which the naming node's half has no part may be done as they are allowed, and leave it as it was; no top is
+-- decided by them.
+abbrev pub PlainEffectsAreActs : Type 0
+PlainEffectsAreActs = (A : Office) (es : List Effect) → Follows A.world es → ArePlain es
+    → Runs A (map Do es) × (end_of A (map Do es) ≡ record { world = run A.world es; names = A.names }) × ((run A.world es).disk.tops ≡ A.world.disk.tops)
 
 -- The book of locks: what a confirmation counts on, from the naming node's half and the stores; and where it prepares a
 -- new entry, no other one is prepared, so that it is never refused.

@@ -1,15 +1,17 @@
 // Laws with the naming node's half: locks, grants, kept lists.
 ghost use Rattle.arj_disk_law.specs.Named.{Named};
 ghost use Rattle.arj_disk_law.specs.Names.{Office};
-ghost use Rattle.arj_disk_law.specs.NamingLaws.{ActsAreAllowed, EntryStays, FirstIsNamed, IsBooked, LoadsTheLast, OldNeedsRestart, StopsStayNamed};
+ghost use Rattle.arj_disk_law.specs.NamingLaws.{ActsAreAllowed, EntryStays, FirstIsNamed, IsBooked, LoadsTheLast, OldNeedsRestart, PlainEffectsAreActs, StopsStayNamed};
 
 /// What holds of a formatted object with the naming node's half holds after every list of acts that may be done, stopped
 /// anywhere; for tops with locks of their own and for constituents that use what their serializing action retains. What
-/// may be done is allowed on the disks. It does nothing when it runs.
+/// may be done is allowed on the disks; and what is allowed there in which naming has no part may be done. It does nothing when
+/// it runs.
 pub fn naming_stays_whole()
     ensures first { FirstIsNamed }
     ensures acts { StopsStayNamed }
     ensures allowed { ActsAreAllowed }
+    ensures plain { PlainEffectsAreActs }
 {}
 
 /// All that a confirmation counts on follows from the naming node's half and the stores, with no lock of a server: it is

@@ -3,7 +3,7 @@ use Rattle.std.proofs.Common.{◌≡◌, ◌≢◌, ◌≤◌, ℕ, ◌+◌, ◌
 use Rattle.std.specs.Prelude.{if◌then◌else◌, nat_le}
 use Rattle.std.proofs.lemmas.Bool.{and_parts}
 use Rattle.std.proofs.lemmas.Bool.Decides.{nat_tests}
-use Rattle.arj_base.proofs.Uids.{uid_same}
+use Rattle.arj_base.proofs.Uids.{uid_cases, uid_same}
 use Rattle.arj_lock.proofs.Members.{In, in_from, in_to}
 use Rattle.arj_protocol.specs.Words.{Uid, Kind, Path, uid_eq, uids_of, tops_of, is_on, first_uid}
 use Rattle.arj_protocol.specs.Words.kind
@@ -12,9 +12,9 @@ use Rattle.arj_protocol.specs.Tree.{root_of, is_serial}
 use Rattle.arj_protocol.proofs.Numbers.{number_tells}
 use Rattle.arj_part_law.specs.Actions.{Action, AreBegun, IsNew, Stands, act_of}
 use Rattle.arj_part_law.proofs.Begun.{on_own, path_some}
-use Rattle.arj_disk_law.proofs.Base.{never, or_cases, or_left, test_is, test_not, test_same}
+use Rattle.arj_disk_law.proofs.Base.{bool_cases, never, or_cases, or_left, test_is, test_not, test_same}
 use Rattle.arj_disk_view_law.specs.Knows.{IsOfKind}
-use Rattle.arj_disk_run_law.specs.Kinds.{Agrees, AreOfOneNode, is_of_kind, is_top_kind, kinds_of, root_in}
+use Rattle.arj_disk_run_law.specs.Kinds.{Agrees, AreOfOneNode, is_of_kind, is_top_kind, kinds_of, root_in, root_number}
 
 -- ---- where an action of each kind stands
 
@@ -77,10 +77,30 @@ kind_in f (c ∷ acts) begun a (inr i) = (λ j. (other_number (act_of c) (act_of
 kind_in f (c ∷ acts) begun a (inl same) = subst (λ (x : Action). is_of_kind f (c ∷ acts) (uid_number (act_of x)) ≡ f x.kind) same
     ((λ j. (test_same (uid_number (act_of c)) j && f c.kind) || none_of f (act_of c) acts (λ b i. apart (act_of c) acts begun.0.new b i) j) ∙ or_none (f c.kind))
 
-root_is : (acts : List Action) → AreBegun acts → (a : Action) → In a acts → root_in acts (uid_number (act_of a)) ≡ uid_number (root_of a.path)
+root_is : (acts : List Action) → AreBegun acts → (a : Action) → In a acts → root_in acts (uid_number (act_of a)) ≡ root_number a
 root_is [] begun a i = absurd i
-root_is (c ∷ acts) begun a (inr i) = ap (λ b. if b then uid_number (root_of c.path) else root_in acts (uid_number (act_of a))) (other_number (act_of c) (act_of a) (λ same. apart (act_of c) acts begun.0.new a i (sym same))) ∙ root_is acts begun.1 a i
-root_is (c ∷ acts) begun a (inl same) = subst (λ (x : Action). root_in (c ∷ acts) (uid_number (act_of x)) ≡ uid_number (root_of x.path)) same (ap (λ b. if b then uid_number (root_of c.path) else root_in acts (uid_number (act_of c))) (test_same (uid_number (act_of c))))
+root_is (c ∷ acts) begun a (inr i) = ap (λ b. if b then root_number c else root_in acts (uid_number (act_of a))) (other_number (act_of c) (act_of a) (λ same. apart (act_of c) acts begun.0.new a i (sym same))) ∙ root_is acts begun.1 a i
+root_is (c ∷ acts) begun a (inl same) = subst (λ (x : Action). root_in (c ∷ acts) (uid_number (act_of x)) ≡ root_number x) same (ap (λ b. if b then root_number c else root_in acts (uid_number (act_of c))) (test_same (uid_number (act_of c))))
+
+of_top : (a : Action) (b : Bool) → is_top_kind a.kind ≡ b → root_number a ≡ (if b then uid_number (root_of a.path) else uid_number (act_of a))
+of_top a b is = ap (λ c. if c then uid_number (root_of a.path) else uid_number (act_of a)) is
+
+-- who is no top is its own root
+own_root : (acts : List Action) (z : ℕ) → is_of_kind is_top_kind acts z ≡ false → root_in acts z ≡ z
+own_root [] z none = refl
+own_root (a ∷ acts) z none = by (uid_number (act_of a) == z) refl (is_top_kind a.kind) refl none (own_root acts z)
+  where
+    by : (b : Bool) → (uid_number (act_of a) == z) ≡ b → (c : Bool) → is_top_kind a.kind ≡ c → ((b && c) || is_of_kind is_top_kind acts z) ≡ false → (is_of_kind is_top_kind acts z ≡ false → root_in acts z ≡ z) → (if b then root_number a else root_in acts z) ≡ z
+    by false other c is n rest = rest n
+    by true same true is n rest = absurd (never refl n)
+    by true same false is n rest = of_top a false is ∙ test_is (uid_number (act_of a)) z same
+
+no_top : (kd : Kind) → is_serial kd ≡ true → is_top_kind kd ≡ false
+no_top kind.Nested h = refl
+no_top kind.Serial h = refl
+no_top kind.Constituent h = absurd (never h refl)
+no_top kind.Top h = absurd (never h refl)
+no_top kind.Independent h = absurd (never h refl)
 
 -- the action of a kind
 kind_from : (f : Kind → Bool) (acts : List Action) (z : ℕ) → is_of_kind f acts z ≡ true → (a : Action) × In a acts × (uid_number (act_of a) ≡ z) × (f a.kind ≡ true)
@@ -117,7 +137,7 @@ module _ (acts : List Action) (begun : AreBegun acts) (home : AreOfOneNode acts)
   top_of w on =
       let r = kind_from is_top_kind acts (uid_number w) on in
       let same : act_of r.0 ≡ w = number_tells (act_of r.0) w r.2 in
-      record { it = r.0; there = r.1; is = same; top = r.3; root = ap (λ u. root_in acts (uid_number u)) (sym same) ∙ root_is acts begun r.0 r.1 }
+      record { it = r.0; there = r.1; is = same; top = r.3; root = ap (λ u. root_in acts (uid_number u)) (sym same) ∙ root_is acts begun r.0 r.1 ∙ of_top r.0 true r.3 }
 
   -- a root that isn't the top itself is a serializing action's
   serial_root : (w r : Uid) (t : TopOf w) → root_of t.it.path ≡ r → w ≢ r → (is_of_kind is_top_kind acts (uid_number r) ≡ false) × (is_of_kind is_serial acts (uid_number r) ≡ true)
@@ -137,6 +157,23 @@ module _ (acts : List Action) (begun : AreBegun acts) (home : AreOfOneNode acts)
           let b = in_from q.0 acts q.1 in
           (ap (λ u. is_of_kind is_top_kind acts (uid_number u)) (sym same) ∙ kind_in is_top_kind acts begun q.0 b ∙ ap is_top_kind q.2, ap (λ u. is_of_kind is_serial acts (uid_number u)) (sym same) ∙ kind_in is_serial acts begun q.0 b ∙ ap is_serial q.2)
 
+  -- a serializing action is its own root, and so is whoever has no such root
+  alone : (z : ℕ) → is_of_kind is_serial acts z ≡ true → root_in acts z ≡ z
+  alone z on =
+      let r = kind_from is_serial acts z on in
+      ap (root_in acts) (sym r.2) ∙ root_is acts begun r.0 r.1 ∙ of_top r.0 false (no_top (let a = r.0 in a.kind) r.3) ∙ r.2
+
+  plain : (z : ℕ) → is_of_kind is_serial acts (root_in acts z) ≡ false → root_in acts z ≡ z
+  plain z none = ⊎_elim top (own_root acts z) (bool_cases (is_of_kind is_top_kind acts z))
+    where
+      top : is_of_kind is_top_kind acts z ≡ true → root_in acts z ≡ z
+      top on =
+          let r = kind_from is_top_kind acts z on in
+          let t = top_of (act_of r.0) (ap (is_of_kind is_top_kind acts) r.2 ∙ on) in
+          let root : root_in acts z ≡ uid_number (root_of t.it.path) = ap (root_in acts) (sym r.2) ∙ t.root in
+          ⊎_elim (λ same. root ∙ ap uid_number (sym same) ∙ r.2)
+          (λ other. absurd (never (ap (is_of_kind is_serial acts) root ∙ (serial_root (act_of r.0) (root_of t.it.path) t refl other).1) none)) (uid_cases (act_of r.0) (root_of t.it.path))
+
   pub kinds_agree : Agrees (kinds_of acts) acts
   kinds_agree = record {
     kinds = record {
@@ -144,8 +181,12 @@ module _ (acts : List Action) (begun : AreBegun acts) (home : AreOfOneNode acts)
       serial = λ w r top root other. let t = top_of w top in serial_root w r t (number_tells (root_of t.it.path) r (sym t.root ∙ root)) other;
       own = λ w r top root. own w r (top_of w top) root;
       rooted = λ w top. let t = top_of w top in (root_of t.it.path, t.root);
+      alone = alone;
+      plain = plain;
+      idem = λ z. ⊎_elim (alone (root_in acts z)) (λ none. ap (root_in acts) (plain z none)) (bool_cases (is_of_kind is_serial acts (root_in acts z)));
     };
-    each = λ a c. let i = in_from a acts c in (of_kind a i a.kind refl (stood_in acts begun a i), root_is acts begun a i);
+    unwalked = refl;
+    each = λ a c. let i = in_from a acts c in (of_kind a i a.kind refl (stood_in acts begun a i), λ top. root_is acts begun a i ∙ of_top a true (sym (kind_in is_top_kind acts begun a i) ∙ top));
   }
     where
       own : (w r : Uid) → TopOf w → root_in acts (uid_number w) ≡ uid_number r → (w.node ≡ r.node) × (w.inc ≡ r.inc)

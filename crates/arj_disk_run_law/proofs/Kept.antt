@@ -1,12 +1,14 @@
--- Each handler keeps that an object is seen, for every kinds that agree with the actions begun; and copies agree.
-use Rattle.std.proofs.Common.{◌≡◌, ℕ, ◌+◌, List, [], ◌∷◌, true, false, Option, Some, None, refl, sym, ◌∙◌, ap, subst, inl, inr, ⊎_elim}
+-- Each handler keeps what it keeps of each kinds, for every kinds that agree with the actions begun: so it is with an object that
+-- is seen; and copies agree.
+use Rattle.std.proofs.Common.{◌≡◌, ℕ, ◌+◌, List, [], ◌∷◌, ◌++◌, true, false, Option, Some, None, refl, sym, ◌∙◌, ap, subst, inl, inr, ⊎_elim}
+use Rattle.std.specs.List.{AllByRecursion}
 use Rattle.std.proofs.lemmas.Bool.{and_parts}
 use Rattle.arj_base.proofs.Uids.{uid_is}
 use Rattle.arj_lock.proofs.Members.{in_from, in_to}
 use Rattle.arj_protocol.specs.Words.{Uid, Ask, Asked, Body, Head, Header, Kind, Label, Line, ObjectState, Message, asks, object, is_on, uid_eq, uids_of}
 use Rattle.arj_protocol.specs.Words.ask
 use Rattle.arj_protocol.specs.Words.loaded
-use Rattle.arj_protocol.specs.Ask.{Reply, actor, answers}
+use Rattle.arj_protocol.specs.Ask.{Reply, actor, answers, top_of}
 use Rattle.arj_protocol.specs.Asking.{again_all, begin_action, heard}
 use Rattle.arj_protocol.specs.Call.{Steps}
 use Rattle.arj_protocol.specs.Commit.{Plan, Voting}
@@ -15,7 +17,8 @@ use Rattle.arj_protocol.specs.Coord.{Calling, Committing, Doing, doing_of}
 use Rattle.arj_protocol.specs.Effect.{Disk, Effect}
 use Rattle.arj_protocol.specs.Ending.{acked, answer_query}
 use Rattle.arj_protocol.specs.Follow.{tick_outs}
-use Rattle.arj_protocol.specs.Node.{Parts, Took, answer_is_meant, asked_is_meant, handle, is_loaded_for, is_loaded_in, is_meant, reply_is_meant, with_coord}
+use Rattle.arj_protocol.specs.Order.{uid_number, uid_set}
+use Rattle.arj_protocol.specs.Node.{Parts, Took, answer_is_meant, asked_is_meant, handle, is_loaded_for, is_loaded_in, is_meant, prepared_actions, reply_is_meant, with_coord}
 use Rattle.arj_protocol.specs.Step.{Input, acts, begin_refusal, parent_of, parts_in, refusal_up, restart_outs}
 use Rattle.arj_protocol.specs.Tree.{next_uid, path_below}
 use Rattle.arj_protocol.specs.World.{format, is_serial_kind, numbered, run_all}
@@ -30,21 +33,26 @@ use Rattle.arj_run_law.proofs.Begins.{begin_good, its_node, its_uid}
 use Rattle.arj_run_law.proofs.Handled.{act_good, good_coord, it, message_good, own_of_disk, stopped_good, tick_good, tops_of_disk}
 use Rattle.arj_run_law.proofs.Starts.{first_of, restart_good}
 use Rattle.arj_disk_law.specs.Effects.{World}
+use Rattle.arj_disk_law.specs.Guards.{Note, Begins, Decides, Confirms, Acks}
 use Rattle.arj_view_law.specs.Keeps.{DidKeeps, Keeps, MayGive, is_act, label_at}
-use Rattle.arj_view_law.specs.Seen.{In, Seen, given, said, see, up}
-use Rattle.arj_view_law.specs.Walks.{Walks, Up}
+use Rattle.arj_view_law.specs.Seen.{AreQuiet, In, Seen, at, down, given, said, see, up}
+use Rattle.arj_view_law.specs.Walks.{Walks, Up, halted}
 use Rattle.arj_view_law.proofs.Happens.{runs_hold}
 use Rattle.arj_view_law.proofs.Together.{walks_both, walks_each, walks_to}
+use Rattle.arj_disk_view_law.specs.Coordinating.{KnowsNode, commit_note}
 use Rattle.arj_disk_view_law.specs.Formats.{HasObject}
 use Rattle.arj_disk_view_law.specs.Knows.{IsOfKind}
-use Rattle.arj_disk_view_law.specs.Sees.{Kinds, ClaimsAsked, IsSeenByDisks}
+use Rattle.arj_disk_view_law.specs.Sees.{Kinds, ClaimsAsked, IsSeenByDisks, may_note, was_begun}
 use Rattle.arj_disk_view_law.proofs.FirstSeen.{formats_are_seen}
 use Rattle.arj_disk_view_law.proofs.Halts.{stops_seen, lines_seen}
 use Rattle.arj_disk_view_law.proofs.NewActions.{actions_begin}
 use Rattle.arj_disk_view_law.proofs.RestartWalks.{restarts_are_walked}
 use Rattle.arj_disk_view_law.proofs.TickWalks.{ticks_are_walked}
 use Rattle.arj_disk_view_law.proofs.WholeWalks.{acts_are_walked, messages_are_walked}
-use Rattle.arj_disk_run_law.specs.Facts.{Gives}
+use Rattle.arj_call_law.specs.Runs.{WithCalls}
+use Rattle.arj_call_law.proofs.WholeRuns.{with_calls}
+use Rattle.arj_disk_run_law.proofs.Given.{gives_votes}
+use Rattle.arj_disk_run_law.specs.Facts.{GivesVotes}
 use Rattle.arj_disk_run_law.specs.Kinds.{Agrees, AreOfOneNode, kinds_of}
 use Rattle.arj_disk_run_law.specs.Places.{ArePlaced}
 use Rattle.arj_disk_run_law.specs.Records.{AreRecorded}
@@ -59,18 +67,45 @@ use Rattle.arj_disk_run_law.proofs.SoundCoords.{sound_acts, sound_again, sound_b
 use Rattle.arj_disk_run_law.proofs.RecordWalks.{KeptBy, format_recorded, kept_walk, message_kept, recorded_more, restart_recorded, stop_recorded, tick_kept}
 use Rattle.arj_disk_run_law.proofs.Telling.{acked_kept, acts_kept, heard_kept, same_kept}
 
+-- ---- what is kept
+
+-- Good nodes, with what they have recorded and placed; the relation; and something for each kinds that agree with the actions.
+abbrev pub IsKeptWith : (Seen → Type 0) → (Kinds → Seen → Type 0) → List Action → Seen → Type 0
+IsKeptWith R Q begun M = IsGoodOf begun M × AreOfOneNode begun × AreRecorded begun M × ArePlaced begun M × R M × ((tops : Kinds) → Agrees tops begun → Q tops M)
+
+abbrev pub IsKeptInRun : (Seen → Type 0) → (Kinds → Seen → Type 0) → Seen → Type 0
+IsKeptInRun R Q M = (begun : List Action) × IsKeptWith R Q begun M
+
+-- It holds at first, and is kept by each handler, at a node of which is known what the disk half counts on. The object is seen by it.
+pub record KeepsEach (hd : Header) (x : ℕ) (R : Seen → Type 0) (Q : Kinds → Seen → Type 0) : Type 0 where
+  pub sees : (tops : Kinds) (M : Seen) → Q tops M → IsSeenByDisks x tops M
+  pub quiet : (tops : Kinds) (e : ℕ) (bs : List Body) (M : Seen) → tops.walk ≡ None → AreQuiet bs → R M → Q tops M → Q tops (said e bs M)
+  pub stop : (tops : Kinds) (e k : ℕ) (d : Disk) (live : Option Parts) (M : Seen) → tops.walk ≡ None → R (at k d live M) → Q tops (at k d live M) → Q tops (halted e k d M)
+  pub message : (tops : Kinds) (e k : ℕ) (d : Disk) (t v : Parts) (from : ℕ) (m : Message) (outs : List Effect) (M : Seen) → tops.walk ≡ None → KnowsNode tops k d t M → R (up k d t M)
+      → In (record { from = from; to = k; message = m }) M.sent → is_meant t m ≡ true → handle k d t from m ≡ Took v outs → Q tops (up k d t M) → Walks (Q tops) e k outs (Up (Q tops) k v) d M
+  pub act : (tops : Kinds) (e k : ℕ) (d : Disk) (t : Parts) (i : Input) (M : Seen) → tops.walk ≡ None → KnowsNode tops k d t M → R (up k d t M)
+      → is_act i ≡ true → refusal_up hd i t.coord ≡ None → Q tops (up k d t M) → DidKeeps (Q tops) e k d t (acts i d.intents t.coord) M
+  pub begin : (tops : Kinds) (e k : ℕ) (d : Disk) (t : Parts) (l : Label) (how : Kind) (parent : Option Label) (M : Seen) → tops.walk ≡ None → KnowsNode tops k d t M → R (up k d t M)
+      → label_at l M.labels ≡ None → MayGive M.labels k how parent → begin_refusal how t.coord parent ≡ None → IsOfKind tops (next_uid t.coord.tree) how (path_below how (parent_of parent t.coord) (next_uid t.coord.tree))
+      → Q tops (up k d t M) → DidKeeps (Q tops) e k d t (begin_action l how parent (parent_of parent t.coord) t.coord) (given l (record { node = k; serial = is_serial_kind how }) M)
+  pub tick : (tops : Kinds) (e k : ℕ) (d : Disk) (t : Parts) (M : Seen) → tops.walk ≡ None → KnowsNode tops k d t M → R (up k d t M) → Q tops (up k d t M)
+      → Walks (Q tops) e k (tick_outs (record { number = k; disk = d; live = Some t }) t) (Up (Q tops) k (with_coord t (again_all t.coord.doings t.coord).part)) d M
+  pub restart : (tops : Kinds) (e k : ℕ) (d : Disk) (M : Seen) → tops.walk ≡ None → AllByRecursion (λ u. was_begun u M.lines ≡ true) (uid_set (prepared_actions d.store ++ prepared_actions d.names)) → R (down k d M) → Q tops (down k d M)
+      → Walks (Q tops) e k (restart_outs hd k (d.inc + 1) d) (Up (Q tops) k (parts_in k (d.inc + 1) d)) d M
+  pub first : (tops : Kinds) → tops.walk ≡ None → Q tops (see [] (format hd))
+
 -- ---- what is walked through
 
 -- With the nodes, the relation and each machine walked through, all together is.
-module _ (R : Seen → Type 0) (x : ℕ) (begun : List Action) (home : AreOfOneNode begun) (e k : ℕ) (outs : List Effect) (v : Parts) (d : Disk) (M : Seen) where
+module _ (R : Seen → Type 0) (Q : Kinds → Seen → Type 0) (begun : List Action) (home : AreOfOneNode begun) (e k : ℕ) (outs : List Effect) (v : Parts) (d : Disk) (M : Seen) where
   abbrev Kept_kinds : Type 0
   Kept_kinds = (tops : Kinds) × Agrees tops begun
 
   abbrev Seen_by : Kept_kinds → Seen → Type 0
-  Seen_by p N = IsSeenByDisks x p.0 N
+  Seen_by p N = Q p.0 N
 
   abbrev All_seen : Seen → Type 0
-  All_seen N = (p : Kept_kinds) → IsSeenByDisks x p.0 N
+  All_seen N = (p : Kept_kinds) → Q p.0 N
 
   abbrev Known_here : Seen → Type 0
   Known_here N = (IsGoodOf begun N × AreRecorded begun N) × (ArePlaced begun N × R N)
@@ -78,21 +113,25 @@ module _ (R : Seen → Type 0) (x : ℕ) (begun : List Action) (home : AreOfOneN
   abbrev Known_up : ℕ → Parts → Disk → Seen → Type 0
   Known_up k v c N = (Up (IsGoodOf begun) k v c N × Up (AreRecorded begun) k v c N) × (Up (ArePlaced begun) k v c N × Up R k v c N)
 
-  all_walk : Walks (IsGoodOf begun) e k outs (Up (IsGoodOf begun) k v) d M → Walks (AreRecorded begun) e k outs (Up (AreRecorded begun) k v) d M → Walks (ArePlaced begun) e k outs (Up (ArePlaced begun) k v) d M → Walks R e k outs (Up R k v) d M → ((tops : Kinds) → Agrees tops begun → Walks (IsSeenByDisks x tops) e k outs (Up (IsSeenByDisks x tops) k v) d M)
-      → Walks (IsSeenInRun R x) e k outs (Up (IsSeenInRun R x) k v) d M
+  all_walk : Walks (IsGoodOf begun) e k outs (Up (IsGoodOf begun) k v) d M → Walks (AreRecorded begun) e k outs (Up (AreRecorded begun) k v) d M → Walks (ArePlaced begun) e k outs (Up (ArePlaced begun) k v) d M → Walks R e k outs (Up R k v) d M → ((tops : Kinds) → Agrees tops begun → Walks (Q tops) e k outs (Up (Q tops) k v) d M)
+      → Walks (IsKeptInRun R Q) e k outs (Up (IsKeptInRun R Q) k v) d M
   all_walk good recs placed rest seen =
-      let each : Walks All_seen e k outs (λ c N. (p : Kept_kinds) → Up (IsSeenByDisks x p.0) k v c N) d M = walks_each {A = Kept_kinds} Seen_by e k outs (λ p. Up (IsSeenByDisks x p.0) k v) d M (λ p. seen p.0 p.1) in
+      let each : Walks All_seen e k outs (λ c N. (p : Kept_kinds) → Up (Q p.0) k v c N) d M = walks_each {A = Kept_kinds} Seen_by e k outs (λ p. Up (Q p.0) k v) d M (λ p. seen p.0 p.1) in
       let one = walks_both (IsGoodOf begun) (AreRecorded begun) e k outs (Up (IsGoodOf begun) k v) (Up (AreRecorded begun) k v) d M good recs in
       let two = walks_both (ArePlaced begun) R e k outs (Up (ArePlaced begun) k v) (Up R k v) d M placed rest in
       let three = walks_both (λ N. IsGoodOf begun N × AreRecorded begun N) (λ N. ArePlaced begun N × R N) e k outs (λ c N. Up (IsGoodOf begun) k v c N × Up (AreRecorded begun) k v c N) (λ c N. Up (ArePlaced begun) k v c N × Up R k v c N) d M one two in
-      let four = walks_both Known_here All_seen e k outs (Known_up k v) (λ c N. (p : Kept_kinds) → Up (IsSeenByDisks x p.0) k v c N) d M three each in
-      walks_to (λ N. Known_here N × All_seen N) (IsSeenInRun R x) e k outs (λ c N. Known_up k v c N × ((p : Kept_kinds) → Up (IsSeenByDisks x p.0) k v c N)) (Up (IsSeenInRun R x) k v) d M
+      let four = walks_both Known_here All_seen e k outs (Known_up k v) (λ c N. (p : Kept_kinds) → Up (Q p.0) k v c N) d M three each in
+      walks_to (λ N. Known_here N × All_seen N) (IsKeptInRun R Q) e k outs (λ c N. Known_up k v c N × ((p : Kept_kinds) → Up (Q p.0) k v c N)) (Up (IsKeptInRun R Q) k v) d M
       (λ N h. (begun, (h.0.0.0, home, h.0.0.1, h.0.1.0, h.0.1.1, λ tops agree. h.1 (tops, agree)))) (λ c N h. (begun, (h.0.0.0, home, h.0.0.1, h.0.1.0, h.0.1.1, λ tops agree. h.1 (tops, agree)))) four
+
+-- where no walk is followed anything may be noted
+any_noted : (tops : Kinds) → tops.walk ≡ None → (n : Note) → may_note tops.walk n ≡ true
+any_noted tops unwalked n = ap (λ o. may_note o n) unwalked
 
 -- ---- an action that begins
 
 agree_less : (a : Action) (begun : List Action) (tops : Kinds) → Agrees tops (a ∷ begun) → Agrees tops begun
-agree_less a begun tops agree = record { kinds = agree.kinds; each = λ b c. agree.each b (in_to b (a ∷ begun) (inr (in_from b begun c))) }
+agree_less a begun tops agree = record { kinds = agree.kinds; unwalked = agree.unwalked; each = λ b c. agree.each b (in_to b (a ∷ begun) (inr (in_from b begun c))) }
 
 -- a Confirm that was sent is asked by a top
 by_top : (x : ℕ) (begun : List Action) (k : ℕ) (m : Message) (o : Option (Head × Ask)) → (tops : Kinds) × (W : World) × (lines : List Line) × (from : ℕ) × ClaimsAsked x tops W lines from k m o → ByTop begun o
@@ -151,34 +190,33 @@ module _ (begun : List Action) (e k : ℕ) (d : Disk) (t : Parts) (M : Seen) (go
   all_again : All begun (let q = again_all t.coord.doings t.coord in q.outs)
   all_again = let q = again_all t.coord.doings t.coord in coord_means begun q.part q.outs (well_again begun (paths_of begun) tree t.coord coord).1 (again_own t.coord.doings t.coord)
 
-module _ (hd : Header) (x : ℕ) (has_it : HasObject hd x) (R : Seen → Type 0) (kept : Keeps hd R) (gives : Gives R) where
+module _ (hd : Header) (x : ℕ) (R : Seen → Type 0) (Q : Kinds → Seen → Type 0) (kept : Keeps hd R) (gives : GivesVotes R) (each : KeepsEach hd x R Q) where
   abbrev P : Seen → Type 0
-  P = IsSeenInRun R x
+  P = IsKeptInRun R Q
 
   message_keeps : (e k : ℕ) (d : Disk) (t v : Parts) (from : ℕ) (m : Message) (outs : List Effect) (M : Seen) → P (up k d t M) → In (record { from = from; to = k; message = m }) M.sent → is_meant t m ≡ true → handle k d t from m ≡ Took v outs → Walks P e k outs (Up P k v) d M
-  message_keeps e k d t v from m outs M (begun, h) sent meant is = all_walk R x begun h.1 e k outs v d M (message_good e k d t M (begun, h.0) v from m outs sent is)
+  message_keeps e k d t v from m outs M (begun, h) sent meant is = all_walk R Q begun h.1 e k outs v d M (message_good e k d t M (begun, h.0) v from m outs sent is)
       (kept_walk begun e k d t v outs M (subst (KeptBy begun t.coord) is (message_kept begun k d t from (λ a r. heard_kept begun (paths_of begun) (begun_tree begun h.0.begun) from a r d.intents t.coord (good_coord e k d t M (begun, h.0))) (λ u. acked_kept begun from u d.intents t.coord) m)) h.2)
       (let p = subst (PlacedBy begun k) is (message_placed begun h.0.begun k d t from (both_here begun h.0.begun k d t M h.3) (up_here begun h.0.begun k d t M h.3) m (heard_placed begun e k d t M h.0 from m sent meant (gives.votes begun k d t M h.4 h.0) (h.3.votes (record { from = from; to = k; message = m }) sent) (let u = up_here begun h.0.begun k d t M h.3 in u.coord)) (acked_means begun e k d t M h.0 from) (query_means begun e k d t M h.0 from) (h.0.fits (record { from = from; to = k; message = m }) sent)
-      (by_top x begun k m (asks m) (let s = h.5 (kinds_of begun) (kinds_agree begun h.0.begun h.1) in (kinds_of begun, s.0, M.lines, from, s.1.posts (record { from = from; to = k; message = m }) sent)))) in placed_walk begun e k d t v outs M p.0 p.1 h.3) (kept.message e k d t v from m outs M h.4 sent meant is)
-      (λ tops agree. let s = h.5 tops agree in messages_are_walked x tops e k d t v from m outs M (knows_node tops begun k d t M h.0 agree h.2 h.3) sent s.0 s.1 (gives.booked x tops k d t M from m s.0 h.4 sent s.1) is)
+      (by_top x begun k m (asks m) (let s = each.sees (kinds_of begun) (up k d t M) (h.5 (kinds_of begun) (kinds_agree begun h.0.begun h.1)) in (kinds_of begun, s.0, M.lines, from, s.1.posts (record { from = from; to = k; message = m }) sent)))) in placed_walk begun e k d t v outs M p.0 p.1 h.3) (kept.message e k d t v from m outs M h.4 sent meant is)
+      (λ tops agree. each.message tops e k d t v from m outs M agree.unwalked (knows_node tops begun k d t M h.0 agree h.2 h.3) h.4 sent meant is (h.5 tops agree))
 
   act_keeps : (e k : ℕ) (d : Disk) (t : Parts) (i : Input) (M : Seen) → is_act i ≡ true → refusal_up hd i t.coord ≡ None → P (up k d t M) → DidKeeps P e k d t (acts i d.intents t.coord) M
   act_keeps e k d t i M is free (begun, h) = let did = acts i d.intents t.coord in
-      all_walk R x begun h.1 e k did.outs (with_coord t did.part) d M (act_good e k d t M (begun, h.0) hd i is free)
+      all_walk R Q begun h.1 e k did.outs (with_coord t did.part) d M (act_good e k d t M (begun, h.0) hd i is free)
       (kept_walk begun e k d t (with_coord t did.part) did.outs M (acts_kept begun (paths_of begun) (begun_tree begun h.0.begun) d.intents t.coord (good_coord e k d t M (begun, h.0)) hd i free) h.2)
       (placed_walk begun e k d t (with_coord t did.part) did.outs M (acts_mean begun e k d t M h.0 hd i is free) (let u = up_here begun h.0.begun k d t M h.3 in other_coord begun k t did.part (sound_acts i d.intents t.coord u.coord) u) h.3) (kept.act e k d t i M is free h.4)
-      (λ tops agree. let s = h.5 tops agree in let n = knows_node tops begun k d t M h.0 agree h.2 h.3 in acts_are_walked hd x tops e k d t i M n.kinds n.coord is free s.0 s.1)
+      (λ tops agree. each.act tops e k d t i M agree.unwalked (knows_node tops begun k d t M h.0 agree h.2 h.3) h.4 is free (h.5 tops agree))
 
   begin_keeps : (e k : ℕ) (d : Disk) (t : Parts) (l : Label) (how : Kind) (parent : Option Label) (M : Seen) → label_at l M.labels ≡ None → MayGive M.labels k how parent → begin_refusal how t.coord parent ≡ None
       → P (up k d t M) → DidKeeps P e k d t (begin_action l how parent (parent_of parent t.coord) t.coord) (given l (record { node = k; serial = is_serial_kind how }) M)
   begin_keeps e k d t l how parent M new may free (begun, h) =
       let did = begin_action l how parent (parent_of parent t.coord) t.coord in
-      all_walk R x (a ∷ begun) home e k did.outs (with_coord t did.part) d (given l (record { node = k; serial = is_serial_kind how }) M) (begin_good e k d t l how parent M new may free (begun, h.0))
+      all_walk R Q (a ∷ begun) home e k did.outs (with_coord t did.part) d (given l (record { node = k; serial = is_serial_kind how }) M) (begin_good e k d t l how parent M new may free (begun, h.0))
       (kept_walk (a ∷ begun) e k d t (with_coord t did.part) did.outs (given l (record { node = k; serial = is_serial_kind how }) M) (same_kept (a ∷ begun) t.coord did.part did.outs refl refl) (recorded_more a begun (up k d t M) h.2))
       (begin_placed a begun e k d t did.part l how parent (next_uid t.coord.tree) (given l (record { node = k; serial = is_serial_kind how }) M) uid (let u = up_here begun h.0.begun k d t M h.3 in sound_begins l how parent (parent_of parent t.coord) t.coord u.coord) (placed_given h.3)) (kept.begin e k d t l how parent M new may free h.4)
-      (λ tops agree. let less = agree_less a begun tops agree in let s = h.5 tops less in let n = knows_node tops begun k d t M h.0 less h.2 h.3 in
-      actions_begin x tops e k d t l (record { node = k; serial = is_serial_kind how }) how parent (parent_of parent t.coord) M n.coord
-      (subst (λ u. IsOfKind tops u how (path_below how (parent_of parent t.coord) (next_uid t.coord.tree))) uid (agree.each a (in_to a (a ∷ begun) (inl refl))).0) s.0 s.1)
+      (λ tops agree. let less = agree_less a begun tops agree in each.begin tops e k d t l how parent M agree.unwalked (knows_node tops begun k d t M h.0 less h.2 h.3) h.4 new may free
+      (subst (λ u. IsOfKind tops u how (path_below how (parent_of parent t.coord) (next_uid t.coord.tree))) uid (agree.each a (in_to a (a ∷ begun) (inl refl))).0) (h.5 tops less))
     where
       a : Action
       a = record { path = path_below how (parent_of parent t.coord) (next_uid t.coord.tree); kind = how }
@@ -196,30 +234,57 @@ module _ (hd : Header) (x : ℕ) (has_it : HasObject hd x) (R : Seen → Type 0)
           newest w on = let q = its_node e k d t l how parent M new may free (begun, h.0) w on in (q.0 ∙ sym (ap (λ (u : Uid). u.node) uid), q.1 ∙ sym (ap (λ (u : Uid). u.inc) uid))
 
   tick_keeps : (e k : ℕ) (d : Disk) (t : Parts) (M : Seen) → P (up k d t M) → Walks P e k (tick_outs (record { number = k; disk = d; live = Some t }) t) (Up P k (with_coord t (again_all t.coord.doings t.coord).part)) d M
-  tick_keeps e k d t M (begun, h) = all_walk R x begun h.1 e k (tick_outs (record { number = k; disk = d; live = Some t }) t) (with_coord t (again_all t.coord.doings t.coord).part) d M (tick_good e k d t M (begun, h.0))
+  tick_keeps e k d t M (begun, h) = all_walk R Q begun h.1 e k (tick_outs (record { number = k; disk = d; live = Some t }) t) (with_coord t (again_all t.coord.doings t.coord).part) d M (tick_good e k d t M (begun, h.0))
       (kept_walk begun e k d t (with_coord t (again_all t.coord.doings t.coord).part) (tick_outs (record { number = k; disk = d; live = Some t }) t) M (tick_kept begun k d t) h.2)
       (placed_walk begun e k d t (with_coord t (again_all t.coord.doings t.coord).part) (tick_outs (record { number = k; disk = d; live = Some t }) t) M (tick_means begun k d t h.0.begun (both_here begun h.0.begun k d t M h.3) (up_here begun h.0.begun k d t M h.3) (all_again begun e k d t M h.0)) (let u = up_here begun h.0.begun k d t M h.3 in other_coord begun k t (again_all t.coord.doings t.coord).part (sound_again t.coord.doings t.coord u.coord) u) h.3) (kept.tick e k d t M h.4)
-      (λ tops agree. let s = h.5 tops agree in let n = knows_node tops begun k d t M h.0 agree h.2 h.3 in ticks_are_walked x tops e k d t M n.coord n.begun s.0 s.1)
+      (λ tops agree. each.tick tops e k d t M agree.unwalked (knows_node tops begun k d t M h.0 agree h.2 h.3) h.4 (h.5 tops agree))
 
   pub all_keep : Keeps hd P
   all_keep = record {
-    quiet = λ e bs M quiet p. let h = p.1 in (p.0, (h.0, h.1, h.2, placed_said p.0 e bs M h.3, kept.quiet e bs M quiet h.4, λ tops agree. lines_seen x tops e bs M (h.5 tops agree)));
-    stop = λ e k d live M p. let h = p.1 in (p.0, (stopped_good k d live M (p.0, h.0) e, h.1, stop_recorded p.0 e k d live M h.2, stop_placed p.0 e k d live M h.3, kept.stop e k d live M h.4, λ tops agree. stops_seen x tops e k d live M (h.5 tops agree)));
+    quiet = λ e bs M quiet p. let h = p.1 in (p.0, (h.0, h.1, h.2, placed_said p.0 e bs M h.3, kept.quiet e bs M quiet h.4, λ tops agree. each.quiet tops e bs M agree.unwalked quiet h.4 (h.5 tops agree)));
+    stop = λ e k d live M p. let h = p.1 in (p.0, (stopped_good k d live M (p.0, h.0) e, h.1, stop_recorded p.0 e k d live M h.2, stop_placed p.0 e k d live M h.3, kept.stop e k d live M h.4, λ tops agree. each.stop tops e k d live M agree.unwalked h.4 (h.5 tops agree)));
     message = message_keeps;
     act = act_keeps;
     begin = begin_keeps;
     tick = tick_keeps;
-    restart = λ e k d M p. let h = p.1 in all_walk R x p.0 h.1 e k (restart_outs hd k (d.inc + 1) d) (parts_in k (d.inc + 1) d) d M (restart_good hd e k d M (p.0, h.0)) (restart_recorded p.0 hd e k d M h.2) (restart_placed p.0 hd e k d M h.0.begun h.3) (kept.restart e k d M h.4)
-        (λ tops agree. let s = h.5 tops agree in restarts_are_walked x tops e k hd d M (prepared_begun p.0 k d None M h.3) s.0 s.1);
-    first = ([], (first_of hd, (λ a w c on. absurd (in_from a [] c)), format_recorded hd, format_placed hd, kept.first, λ tops agree. formats_are_seen hd x tops has_it));
+    restart = λ e k d M p. let h = p.1 in all_walk R Q p.0 h.1 e k (restart_outs hd k (d.inc + 1) d) (parts_in k (d.inc + 1) d) d M (restart_good hd e k d M (p.0, h.0)) (restart_recorded p.0 hd e k d M h.2) (restart_placed p.0 hd e k d M h.0.begun h.3) (kept.restart e k d M h.4)
+        (λ tops agree. each.restart tops e k d M agree.unwalked (prepared_begun p.0 k d None M h.3) h.4 (h.5 tops agree));
+    first = ([], (first_of hd, (λ a w c on. absurd (in_from a [] c)), format_recorded hd, format_placed hd, kept.first, λ tops agree. each.first tops agree.unwalked));
   }
+
+-- ---- an object is seen
+
+-- each handler is walked through, where any beginning, decision, confirmation and acknowledgement may be noted
+pub seen_each : (hd : Header) (x : ℕ) (R : Seen → Type 0) → HasObject hd x → GivesVotes R → KeepsEach hd x R (IsSeenByDisks x)
+seen_each hd x R has_it gives = record {
+  sees = λ tops M s. s;
+  quiet = λ tops e bs M walk quiet r s. lines_seen x tops e bs M s;
+  stop = λ tops e k d live M walk r s. stops_seen x tops e k d live M s;
+  message = λ tops e k d t v from m outs M walk n r sent meant is s. messages_are_walked x tops e k d t v from m outs M n
+      (record { asker = λ z grants excluded included at. any_noted tops walk (Confirms (uid_number (top_of z.path))); answered = λ a b q z at here now. any_noted tops walk (commit_note z (uid_number a.act)); told = λ root ack ends u how at last on. any_noted tops walk (Acks (uid_number u)) })
+      sent s.0 s.1 (gives.booked x tops k d t M from m s.0 r sent s.1) is;
+  act = λ tops e k d t i M walk n r is free s. acts_are_walked hd x tops e k d t i M n.kinds n.coord is free (λ l b which at. any_noted tops walk (Begins (uid_number (actor b.path)))) s.0 s.1;
+  begin = λ tops e k d t l how parent M walk n r new may free kind s. actions_begin x tops e k d t l (record { node = k; serial = is_serial_kind how }) how parent (parent_of parent t.coord) M n.coord kind s.0 s.1;
+  tick = λ tops e k d t M walk n r s. ticks_are_walked x tops e k d t M n.coord n.begun s.0 s.1;
+  restart = λ tops e k d M walk held r s. restarts_are_walked x tops e k hd d M held (λ u i at. any_noted tops walk (Decides (uid_number u))) s.0 s.1;
+  first = λ tops walk. formats_are_seen hd x tops walk has_it;
+}
 
 -- ---- copies agree
 
 pub runs_agree : RunsAgree
 runs_agree hd x has_it test kept gives es =
-    let r = runs_hold hd (IsSeenInRun (λ M. test M ≡ true) x) (all_keep hd x has_it (λ M. test M ≡ true) kept gives) es in
+    let r = runs_hold hd (IsSeenInRun Known x) (all_keep hd x Known (IsSeenByDisks x) calls votes (seen_each hd x Known has_it votes)) es in
     let h = r.holds in
     let g = h.1 in
     let s = g.5 (kinds_of h.0) (kinds_agree h.0 g.0.begun g.1) in
     record { sent = r.sent; stands = r.stands; holds = copies_agree x (kinds_of h.0) s.0 (see r.sent (run_all es (format hd))) s.1 }
+  where
+    Known : Seen → Type 0
+    Known M = WithCalls (λ M. test M ≡ true) M
+
+    calls : Keeps hd (WithCalls (λ M. test M ≡ true))
+    calls = with_calls hd (λ M. test M ≡ true) kept gives.calls
+
+    votes : GivesVotes (WithCalls (λ M. test M ≡ true))
+    votes = gives_votes (λ M. test M ≡ true) gives

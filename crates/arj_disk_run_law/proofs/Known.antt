@@ -91,8 +91,8 @@ module _ (tops : Kinds) (acts : List Action) (k : ℕ) (d : Disk) (t : Parts) (M
   of_kind : (u : Uid) (b : Branch) → branch_of u t.coord.tree ≡ Some b → IsOfKind tops u b.kind b.path
   of_kind u b is = subst (λ w. IsOfKind tops w b.kind b.path) (path u b is) (agree.each (action_of b) (coord.known u b is)).0
 
-  root : (u : Uid) (b : Branch) → branch_of u t.coord.tree ≡ Some b → tops.root (uid_number u) ≡ uid_number (root_of b.path)
-  root u b is = subst (λ w. tops.root (uid_number w) ≡ uid_number (root_of b.path)) (path u b is) (agree.each (action_of b) (coord.known u b is)).1
+  root : (u : Uid) (b : Branch) → branch_of u t.coord.tree ≡ Some b → tops.is_top (uid_number u) ≡ true → tops.root (uid_number u) ≡ uid_number (root_of b.path)
+  root u b is = subst (λ w. tops.is_top (uid_number w) ≡ true → tops.root (uid_number w) ≡ uid_number (root_of b.path)) (path u b is) (agree.each (action_of b) (coord.known u b is)).1
 
   -- where the action stands
   stands : (u : Uid) (b : Branch) → branch_of u t.coord.tree ≡ Some b → Stood acts (action_of b) b.kind
@@ -243,8 +243,8 @@ module _ (tops : Kinds) (acts : List Action) (k : ℕ) (d : Disk) (t : Parts) (M
   awaited : HaveRecords d.intents t.coord.telling
   awaited = (mine_recorded.live t refl).0
 
-  rooted : (u : Uid) (i : Intent) → at_uid u d.intents ≡ Some i → tops.root (uid_number u) ≡ uid_number i.root
-  rooted u i is = let r = (let q = mine_recorded.disk in q.each u i is) in ap (λ w. tops.root (uid_number w)) (sym r.2) ∙ (agree.each r.0 r.1).1 ∙ ap uid_number r.3
+  rooted : (u : Uid) (i : Intent) → at_uid u d.intents ≡ Some i → tops.is_top (uid_number u) ≡ true → tops.root (uid_number u) ≡ uid_number i.root
+  rooted u i is top = let r = (let q = mine_recorded.disk in q.each u i is) in ap (λ w. tops.root (uid_number w)) (sym r.2) ∙ (agree.each r.0 r.1).1 (ap (λ w. tops.is_top (uid_number w)) r.2 ∙ top) ∙ ap uid_number r.3
 
   knows_coord : KnowsCoord tops d.intents t.coord
   knows_coord = record {
@@ -311,7 +311,8 @@ module _ (tops : Kinds) (acts : List Action) (k : ℕ) (d : Disk) (t : Parts) (M
           let path : r.holder ≡ act_of s.0 ∷ act_of f.0 ∷ [] = f.3 ∙ s.3 in
           let held : act_of f.0 ≡ a = sym (ap last_uid path) ∙ uid_is (last_uid r.holder) a p.0 in
           let of = (subst (λ k. IsOfKind tops (act_of s.0) k (let b = s.0 in b.path)) s.2 (agree.each s.0 s.1).0) in
-          ⊎_elim (λ first. let on = uid_is (act_of s.0) u first in (ap (λ w. tops.root (uid_number w)) (sym held) ∙ (agree.each f.0 f.1).1 ∙ ap uid_number (ap first_uid s.3 ∙ on), ap (λ w. tops.is_top (uid_number w)) (sym on) ∙ of.0, ap (λ w. tops.is_serial (uid_number w)) (sym on) ∙ of.1))
+          let top = (subst (λ k. IsOfKind tops (act_of f.0) k (let b = f.0 in b.path)) f.2 (agree.each f.0 f.1).0).0 in
+          ⊎_elim (λ first. let on = uid_is (act_of s.0) u first in (ap (λ w. tops.root (uid_number w)) (sym held) ∙ (agree.each f.0 f.1).1 top ∙ ap uid_number (ap first_uid s.3 ∙ on), ap (λ w. tops.is_top (uid_number w)) (sym on) ∙ of.0, ap (λ w. tops.is_serial (uid_number w)) (sym on) ∙ of.1))
           (λ second. absurd (never (ap (λ w. uid_eq w u) (sym held ∙ on_one (act_of f.0) u second) ∙ uid_same u) other))
           (or_cases (uid_eq (act_of s.0) u) (is_on (act_of f.0 ∷ []) u) (ap (λ us. is_on us u) (sym path) ∙ p.1))
 

@@ -2,6 +2,7 @@ pub mod Begun
 pub mod Copies
 pub mod EntryRows
 pub mod Holders
+pub mod Given
 pub mod Kept
 pub mod Known
 pub mod Lists

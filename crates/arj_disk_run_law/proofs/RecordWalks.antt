@@ -277,13 +277,10 @@ module _ (acts : List Action) where
       all [] = refl
       all (e ∷ es) = plain_both (back_lines e.1) (flat_map (λ (z : ℕ × Named). back_lines z.1) es) (rows (let o = e.1 in o.rows)) (all es)
 
-  -- after a restart each record is told again
-  pub restart_recorded : (hd : Header) (e k : ℕ) (d : Disk) (M : Seen) → AreRecorded acts (down k d M) → Walks (AreRecorded acts) e k (restart_outs hd k (d.inc + 1) d) (Up (AreRecorded acts) k (parts_in k (d.inc + 1) d)) d M
-  restart_recorded hd e k d M all =
-      let m = mine_of k d None M all in
-      let r = m.disk in
-      records_walk e k (parts_in k (d.inc + 1) d) r.sorted (restart_outs hd k (d.inc + 1) d) d M (others_of k d None M all) r
-      (subst (λ es. LeavesRecords acts d.intents es d.intents) (append-nil (restart_outs hd k (d.inc + 1) d)) (leaves_behind acts d.intents (restart_outs hd k (d.inc + 1) d) [] d.intents plain (λ u j is. (j, is))))
+  -- a restart leaves the records as they are
+  pub restart_plain : (hd : Header) (k : ℕ) (d : Disk) → Plain (restart_outs hd k (d.inc + 1) d)
+  restart_plain hd k d = plain_both (one ++ two ++ tolds_again d.intents ++ queries) hellos (plain_both (one ++ two ++ tolds_again d.intents) queries (plain_both (one ++ two) (tolds_again d.intents) (plain_both one two (back_plain (naming_at k (d.inc + 1) d.names)) (recovered_plain k d.intents)) (plain_again d.intents))
+      (asks_about (uid_set (prepared_actions d.store ++ prepared_actions d.names)))) (hellos_plain k (d.inc + 1) (without_number k (numbers_to hd.nodes)))
     where
       one : List Effect
       one = Do Look ∷ Do (PutInc (d.inc + 1)) ∷ Say (body.Up k (d.inc + 1)) ∷ Do Look ∷ naming_back (naming_at k (d.inc + 1) d.names)
@@ -297,9 +294,13 @@ module _ (acts : List Action) where
       hellos : List Effect
       hellos = map (hello_to k (d.inc + 1)) (without_number k (numbers_to hd.nodes))
 
-      plain : Plain (restart_outs hd k (d.inc + 1) d)
-      plain = plain_both (one ++ two ++ tolds_again d.intents ++ queries) hellos (plain_both (one ++ two ++ tolds_again d.intents) queries (plain_both (one ++ two) (tolds_again d.intents) (plain_both one two (back_plain (naming_at k (d.inc + 1) d.names)) (recovered_plain k d.intents)) (plain_again d.intents))
-          (asks_about (uid_set (prepared_actions d.store ++ prepared_actions d.names)))) (hellos_plain k (d.inc + 1) (without_number k (numbers_to hd.nodes)))
+  -- after a restart each record is told again
+  pub restart_recorded : (hd : Header) (e k : ℕ) (d : Disk) (M : Seen) → AreRecorded acts (down k d M) → Walks (AreRecorded acts) e k (restart_outs hd k (d.inc + 1) d) (Up (AreRecorded acts) k (parts_in k (d.inc + 1) d)) d M
+  restart_recorded hd e k d M all =
+      let m = mine_of k d None M all in
+      let r = m.disk in
+      records_walk e k (parts_in k (d.inc + 1) d) r.sorted (restart_outs hd k (d.inc + 1) d) d M (others_of k d None M all) r
+      (subst (λ es. LeavesRecords acts d.intents es d.intents) (append-nil (restart_outs hd k (d.inc + 1) d)) (leaves_behind acts d.intents (restart_outs hd k (d.inc + 1) d) [] d.intents (restart_plain hd k d) (λ u j is. (j, is))))
 
 first_recorded : (hd : Header) (k : ℕ) → IsRecorded [] (first_node hd k)
 first_recorded hd k = record {

@@ -1,5 +1,5 @@
 -- Of what kind each action is, by those that were begun.
-use Rattle.std.specs.Prelude.{◌≡◌, ℕ, Bool, true, false, ◌&&◌, ◌==◌, if◌then◌else◌, List, [], ◌∷◌, Contains}
+use Rattle.std.specs.Prelude.{◌≡◌, ℕ, Bool, true, false, ◌&&◌, ◌==◌, if◌then◌else◌, List, [], ◌∷◌, None, Contains}
 use Rattle.std.specs.List.{list_any}
 use Rattle.arj_protocol.specs.Words.{Uid, Kind, uids_of, is_on}
 use Rattle.arj_protocol.specs.Words.kind
@@ -19,19 +19,24 @@ is_top_kind _ = true
 abbrev pub is_of_kind : (Kind → Bool) → List Action → ℕ → Bool
 is_of_kind f acts z = list_any (λ (a : Action). (uid_number (act_of a) == z) && f a.kind) acts
 
+-- the number of an action's root: a top's begins its path, any other action is its own
+abbrev pub root_number : Action → ℕ
+root_number a = if is_top_kind a.kind then uid_number (root_of a.path) else uid_number (act_of a)
+
 -- the root of the action with this number; who wasn't begun is its own
 abbrev pub root_in : List Action → ℕ → ℕ
 root_in [] z = z
-root_in (a ∷ acts) z = if uid_number (act_of a) == z then uid_number (root_of a.path) else root_in acts z
+root_in (a ∷ acts) z = if uid_number (act_of a) == z then root_number a else root_in acts z
 
--- the kinds of the actions that were begun; any other is nested
+-- the kinds of the actions that were begun; any other is nested; and no walk is followed
 abbrev pub kinds_of : List Action → Kinds
-kinds_of acts = record { is_top = is_of_kind is_top_kind acts; is_serial = is_of_kind is_serial acts; root = root_in acts }
+kinds_of acts = record { is_top = is_of_kind is_top_kind acts; is_serial = is_of_kind is_serial acts; root = root_in acts; walk = None }
 
--- These kinds are those of the actions that were begun so far, whatever those of others are.
+-- These kinds are those of the actions that were begun so far, whatever those of others are; no walk is followed.
 pub record Agrees (tops : Kinds) (acts : List Action) : Type 0 where
   pub kinds : KnowsKinds tops
-  pub each : (a : Action) → Contains acts a → IsOfKind tops (act_of a) a.kind a.path × (tops.root (uid_number (act_of a)) ≡ uid_number (root_of a.path))
+  pub unwalked : tops.walk ≡ None
+  pub each : (a : Action) → Contains acts a → IsOfKind tops (act_of a) a.kind a.path × (tops.is_top (uid_number (act_of a)) ≡ true → tops.root (uid_number (act_of a)) ≡ uid_number (root_of a.path))
 
 -- each action's path is of its own node and incarnation
 abbrev pub AreOfOneNode : List Action → Type 0

@@ -87,7 +87,7 @@ module _ (x : ℕ) (tops : Kinds) (e k : ℕ) (d : Disk) (t : Parts) (act : Uid)
       let U : World = after V (machine.Send m) in
       let p : Post = record { from = k; to = n; message = message.Told (record { root = root; ack = false; ends = (act, ending.Abort) ∷ [] }) } in
       tolds root ns (said e more (posted p N)) U may (says_seen x tops U (up k d (with_coord t C) (posted p N)) (numbered e more)
-      (posts_seen x tops U (up k d (with_coord t C) N) p (inl (top, inl (inl refl)), λ a. absurd (cc a)) (sends_seen x tops V (up k d (with_coord t C) N) m (may n) s)))
+      (posts_seen x tops U (up k d (with_coord t C) N) p (inl (top, inl (inl refl)), λ a. absurd (cc a)) (sends_seen x tops V (up k d (with_coord t C) N) m (may n) refl s)))
 
   says_abort : AreAll is_say (says act (λ l. body.Aborted l why) t.coord)
   says_abort = by (doing_of act t.coord)

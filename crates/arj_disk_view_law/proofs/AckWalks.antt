@@ -42,7 +42,7 @@ use Rattle.arj_disk_view_law.proofs.TopFrames.{apart_number, branch_at, not_futu
 -- ---- an action that is over may be let go again
 
 pub halts_again : (x k : ℕ) (tops : Kinds) (W : World) (M : Seen) (d : Disk) (t : Parts) (u : Uid) → SeesDisks x tops W (up k d t M) → u.node ≡ k → is_open u t.coord.tree ≡ false → (IsFuture t.coord u → ⊥) → SeesDisks x tops (after W (machine.Halt (uid_number u))) (up k d t M)
-halts_again x k tops W M d t u s here closed past = calm_seen x k tops W M d t u (machine.Halt (uid_number u)) d.intents t.coord s here tt halts.0 refl stages (λ w other. refl) halts.1 (λ m n apart r. record { sorted = r.sorted; own = r.own; is = r.is }) coord
+halts_again x k tops W M d t u s here closed past = calm_seen x k tops W M d t u (machine.Halt (uid_number u)) d.intents t.coord s here tt refl halts.0 refl stages (λ w other. refl) halts.1 (λ m n apart r. record { sorted = r.sorted; own = r.own; is = r.is }) coord
     (notes_later x W V (effects_are_later W (machine.Halt (uid_number u) ∷ []) (tt, tt) s.whole) d.intents t.coord (s.notes k (record { number = k; disk = d; live = Some t }) t (node_here M k (record { number = k; disk = d; live = Some t })) refl))
   where
     V : World
@@ -88,7 +88,7 @@ open_root tops intents c w r knows o top root apart = by (branch_of w c.tree) re
 
     by : (g : Option Branch) → branch_of w c.tree ≡ g → is_open_branch g ≡ true → IsOpenSerial c r
     by None is h = absurd (cc h)
-    by (Some z) is h = by_kind z is (not_ended z.ended h) (number_tells (root_of z.path) r (sym (knows.root w z is) ∙ root)) z.kind refl (knows.kind w z is)
+    by (Some z) is h = by_kind z is (not_ended z.ended h) (number_tells (root_of z.path) r (sym (knows.root w z is top) ∙ root)) z.kind refl (knows.kind w z is)
 
 -- ---- lists of numbers
 
@@ -220,7 +220,7 @@ module _ (x : ℕ) (tops : Kinds) (e k : ℕ) (d : Disk) (t : Parts) (from : ℕ
   coord_now = let h : SeesCoord x k d.inc tops t.coord V.disk = coord_same x k d.inc tops t.coord W.disk V.disk refl refl refl refl refl mine_now in record { node = h.node; present = h.present; working = h.working; closed = h.closed; future = h.future; bare = h.bare }
 
   seen1 : SeesDisks x tops V (up k d1 (with_coord t Done) M)
-  seen1 = calm_seen x k tops W M d t act (machine.Remove (uid_number act) j.nodes) (without_uid act d.intents) Done sees here removed.0 removed.1 refl (λ w other. refl) (λ w other. refl) removed.2 others coord_now noted
+  seen1 = calm_seen x k tops W M d t act (machine.Remove (uid_number act) j.nodes) (without_uid act d.intents) Done sees here removed.0 refl removed.1 refl (λ w other. refl) (λ w other. refl) removed.2 others coord_now noted
 
   stops : Stops Q e k (RemoveIntent act) d M
   stops Before = stops_seen x tops e k d (Some t) M (W, sees)
@@ -252,7 +252,7 @@ module _ (x : ℕ) (tops : Kinds) (e k : ℕ) (d : Disk) (t : Parts) (from : ℕ
       seen2 = halts_again x k tops V M d1 (with_coord t Done) j.root seen1 root_here closed (not_future j.root t.coord rb found)
 
       sort : (tops.is_top (uid_number j.root) ≡ false) × (tops.is_serial (uid_number j.root) ≡ true)
-      sort = kinds.serial act j.root was_top (knows.rooted act j there) (λ same. other (sym same))
+      sort = kinds.serial act j.root was_top (knows.rooted act j there was_top) (λ same. other (sym same))
 
       none_open : (w : Uid) → is_open w t.coord.tree ≡ true → tops.is_top (uid_number w) ≡ true → tops.root (uid_number w) ≡ uid_number j.root → w ≢ j.root → ⊥
       none_open w o top root apart =

@@ -87,7 +87,7 @@ module _ (x k : ℕ) (tops : Kinds) (d : Disk) (t : Parts) (C : Coord) (N : Seen
   -- a serializing action with no open constituent is over
   pub serial_over : (r : Uid) → r.node ≡ k → is_gone (V.disk.stage (uid_number r)) ≡ true → tops.is_serial (uid_number r) ≡ true → tops.is_top (uid_number r) ≡ false
       → ((w : Uid) → is_open w C.tree ≡ true → tops.is_top (uid_number w) ≡ true → tops.root (uid_number w) ≡ uid_number r → w ≢ r → ⊥)
-      → ((w : Uid) (i : Intent) → at_uid w d.intents ≡ Some i → tops.root (uid_number w) ≡ uid_number i.root) → SerialOver V.disk r (is_deferred r d.intents)
+      → ((w : Uid) (i : Intent) → at_uid w d.intents ≡ Some i → tops.is_top (uid_number w) ≡ true → tops.root (uid_number w) ≡ uid_number i.root) → SerialOver V.disk r (is_deferred r d.intents)
   serial_over r here gone serial no_top none rooted = record {
     serial = ap (λ f. f (uid_number r)) s.fixed.serial ∙ serial;
     over = (gone, λ z of. falls_to (undecided V.disk z) (λ o. still z of o));
@@ -95,14 +95,14 @@ module _ (x k : ℕ) (tops : Kinds) (d : Disk) (t : Parts) (C : Coord) (N : Seen
   }
     where
       -- a begun constituent is one of this coordinator's, or of an earlier incarnation
-      whose : (z : ℕ) → V.disk.root z ≡ uid_number r → V.disk.begun z ≡ true → (w : Uid) × (uid_number w ≡ z) × (w.node ≡ k) × (w ≢ r) × (tops.root (uid_number w) ≡ uid_number r) × (is_open w C.tree ≡ false)
+      whose : (z : ℕ) → V.disk.root z ≡ uid_number r → V.disk.begun z ≡ true → (w : Uid) × (uid_number w ≡ z) × (w.node ≡ k) × (w ≢ r) × (tops.root (uid_number w) ≡ uid_number r) × (is_open w C.tree ≡ false) × (tops.is_top (uid_number w) ≡ true)
       whose z of began =
           let top = (s.kinds z began).0 in
           let w = kinds.named z top in
           let is_top : tops.is_top (uid_number w.0) ≡ true = ap tops.is_top w.1 ∙ top in
           let root : tops.root (uid_number w.0) ≡ uid_number r = ap tops.root w.1 ∙ ap (λ f. f z) (sym s.fixed.root) ∙ of in
           let other : w.0 ≢ r = λ same. never (ap (λ a. tops.is_top (uid_number a)) (sym same) ∙ is_top) no_top in
-          (w.0, w.1, (kinds.own w.0 r is_top root).0 ∙ here, other, root, falls_to (is_open w.0 C.tree) (λ o. none w.0 o is_top root other))
+          (w.0, w.1, (kinds.own w.0 r is_top root).0 ∙ here, other, root, falls_to (is_open w.0 C.tree) (λ o. none w.0 o is_top root other), is_top)
 
       recorded : (w : Uid) → w.node ≡ k → is_open w C.tree ≡ false → (o : Option Intent) → at_uid w d.intents ≡ o → is_some (nodes_of o) ≡ true → disk.decided V.disk (uid_number w) ≡ true
       recorded w at closed None is on = absurd (cc on)
@@ -121,16 +121,16 @@ module _ (x k : ℕ) (tops : Kinds) (d : Disk) (t : Parts) (C : Coord) (N : Seen
       listed : (n : ℕ) → is_deferred r d.intents n ≡ false → (z : ℕ) → V.disk.root z ≡ uid_number r → lists V.disk z n ≡ true → ⊥
       listed n free z of on =
           let w = whose z of (open_begun z (inr (there (V.disk.intent z) on))) in
-          by w.0 w.3 w.4 (at_uid w.0 d.intents) refl (ap (λ q. listed_by q n) (sym (records.is w.0 w.2) ∙ ap V.disk.intent w.1) ∙ on)
+          by w.0 w.3 w.4 w.6 (at_uid w.0 d.intents) refl (ap (λ q. listed_by q n) (sym (records.is w.0 w.2) ∙ ap V.disk.intent w.1) ∙ on)
         where
           there : (q : Option (List ℕ)) → listed_by q n ≡ true → is_some q ≡ true
           there None h = absurd (cc h)
           there (Some ns) h = refl
 
-          by : (w : Uid) → w ≢ r → tops.root (uid_number w) ≡ uid_number r → (q : Option Intent) → at_uid w d.intents ≡ q → listed_by (nodes_of q) n ≡ true → ⊥
-          by w other root None is h = absurd (cc h)
-          by w other root (Some i) is h =
-              let rooted_here : i.root ≡ r = number_tells i.root r (sym (rooted w i is) ∙ root) in
+          by : (w : Uid) → w ≢ r → tops.root (uid_number w) ≡ uid_number r → tops.is_top (uid_number w) ≡ true → (q : Option Intent) → at_uid w d.intents ≡ q → listed_by (nodes_of q) n ≡ true → ⊥
+          by w other root top None is h = absurd (cc h)
+          by w other root top (Some i) is h =
+              let rooted_here : i.root ≡ r = number_tells i.root r (sym (rooted w i is top) ∙ root) in
               never (found_stands (is_member_of r n) w i d.intents is
               ((λ j. uid_eq (rooted_here j) r && (not (uid_eq w r) && order.has i.nodes n)) ∙ (λ j. uid_same r j && (not (uid_other w r other j) && order.has i.nodes n)) ∙ sym (has_same n i.nodes) ∙ h)) free
 
@@ -328,7 +328,7 @@ module _ (x : ℕ) (tops : Kinds) (e k : ℕ) (d : Disk) (t : Parts) (act : Uid)
       by : (g : Option Branch) → branch_of w t.coord.tree ≡ g → is_open_branch g ≡ true → ⊥
       by None is h = absurd (cc h)
       by (Some z) is h =
-          let of : root_of z.path ≡ act = number_tells (root_of z.path) act (sym (knows.root w z is) ∙ root) in
+          let of : root_of z.path ≡ act = number_tells (root_of z.path) act (sym (knows.root w z is top) ∙ root) in
           let on : is_on (uids_of z.path) act ≡ true = ap (λ a. is_on (uids_of z.path) a) (sym of) ∙ knows.headed w z is in
           let last : actor z.path ≡ w = knows.path w z is in
           let apart : uid_eq (actor z.path) act ≡ false = uid_other (actor z.path) act (λ same. other (sym last ∙ same)) in

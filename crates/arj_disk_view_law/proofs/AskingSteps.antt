@@ -55,6 +55,7 @@ module _ (x : ℕ) where
   pub begins : (W : World) (t : ℕ) (p : commit.Plan) (nodes : List ℕ) → Fresh W.disk → CanBegin W.disk t (plan_at x p) → IsTidy p → IsUnanswered p → TopGoes t (λ S. SeesPreparing x S t (commit.further nodes p) (targets_of p)) W
   begins W t p nodes fresh can tidy unanswered = record {
     effects = Begin t (plan_at x p) ∷ [];
+    own = (test_same t, tt);
     allowed = (can, tt);
     there = record {
       stage = put_same t Preparing W.disk.stage;
@@ -146,12 +147,14 @@ module _ (x : ℕ) where
       by : (target (plan_at x p) s ≡ true) ⊎ (target (plan_at x p) s ≡ false) → TopGoes t (λ S. SeesPreparing x S t (YesOf s p) (without_number s left)) W
       by (inr off) = record {
         effects = [];
+        own = tt;
         allowed = tt;
         there = yes_seen W.disk W.disk t s p left sees asked refl refl refl (λ r other. refl) (λ on. absurd (never on off));
         only = record { rest = refl; sent = refl; plans = λ z b. (b, refl); stages = λ z other. refl; starts = λ z other. refl; texts = λ z other. refl; gots = λ z other. refl; outcomes = λ z b u. u };
       }
       by (inl on) = record {
         effects = Take t s ∷ [];
+        own = (refl, tt);
         allowed = ((sees.stage, claim on), tt);
         there = yes_seen W.disk (after W (Take t s)).disk t s p left sees asked refl refl refl (λ r other. ap (λ f. f r) (put_same t (put s true (W.disk.got t)) W.disk.got) ∙ put_other s true (W.disk.got t) r other) (λ e. put2_same t s W.disk.got);
         only = record { rest = refl; sent = refl; plans = λ z b. (b, refl); stages = λ z other. refl; starts = λ z other. refl; texts = λ z other. refl; gots = λ z other. put_other t (put s true (W.disk.got t)) W.disk.got z other; outcomes = λ z b u. u };
@@ -256,6 +259,7 @@ module _ (x : ℕ) where
   pub ends : (W : World) (t : ℕ) (p : commit.Plan) → SeesPreparing x W.disk t p [] → TopGoes t (λ S. SeesConfirming x S t p) W
   ends W t p sees = record {
     effects = Seal t ∷ [];
+    own = (refl, tt);
     allowed = (sees.stage, tt);
     there = record {
       stage = put_same t Confirming W.disk.stage;

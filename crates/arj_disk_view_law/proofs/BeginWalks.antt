@@ -21,12 +21,13 @@ use Rattle.arj_disk_view_law.specs.Asking.{SeesPreparing, SeesConfirming, TopGoe
 use Rattle.arj_disk_view_law.specs.Coordinating.{DidIsWalked, IsBefore, UsesNothing, TopsPrepare}
 use Rattle.arj_disk_view_law.specs.Knows.{KnowsCoord, KnowsPlan, IsOfKind}
 use Rattle.arj_disk_view_law.specs.Plans.{Uses, loads, plan_at, plan_by, used_at}
-use Rattle.arj_disk_view_law.specs.Sees.{Kinds, SeesDisks, SeesCoord, IsKnownIfThere, KnowsNow, Works, WorksBy, MayPrepare}
+use Rattle.arj_disk_view_law.specs.Sees.{may_note, Kinds, SeesDisks, SeesCoord, IsKnownIfThere, KnowsNow, Works, WorksBy, MayPrepare}
 use Rattle.arj_disk_view_law.proofs.AskingSteps.{prepares_begin, prepares_end}
 use Rattle.arj_disk_view_law.proofs.Frames.{node_here}
 use Rattle.arj_disk_view_law.proofs.HeardWalks.{top_asks, top_both, prepares_are_asked}
 use Rattle.arj_disk_view_law.proofs.Planned.{has_same, used_there}
 use Rattle.arj_disk_view_law.proofs.UnusedWalks.{unused_are_decided}
+use Rattle.arj_disk_law.specs.Guards.{Begins}
 
 -- who hasn't begun its prepare step is idle
 pub before_idle : (x : ℕ) (tops : Kinds) (S : State) (t : ℕ) (kd : Kind) (now : Now) → IsBefore now → tops.is_top t ≡ true → Works x tops S t kd now → S.stage t ≡ disk.Idle
@@ -52,7 +53,7 @@ used_all Q (v ∷ vs) u all (inl same) = subst Q same all.0
 used_all Q (v ∷ vs) u all (inr more) = used_all Q vs u all.1 more
 
 module _ (x : ℕ) (tops : Kinds) (e k : ℕ) (d : Disk) (t : Parts) (act : Uid) (b : Branch) (q : Doing) (p : commit.Plan) (M : Seen) (knows : KnowsCoord tops d.intents t.coord) (found : branch_of act t.coord.tree ≡ Some b) (unended : b.ended ≡ None)
-    (at_work : doing_of act t.coord ≡ Some q) (before : IsBefore q.now) (top : tops.is_top (uid_number act) ≡ true) (plan : KnowsPlan act p) (unanswered : IsUnanswered p) (unused : p.used ≡ [] → UsesNothing p)
+    (at_work : doing_of act t.coord ≡ Some q) (before : IsBefore q.now) (top : tops.is_top (uid_number act) ≡ true) (note : may_note tops.walk (Begins (uid_number act)) ≡ true) (plan : KnowsPlan act p) (unanswered : IsUnanswered p) (unused : p.used ≡ [] → UsesNothing p)
     (W : World) (sees : SeesDisks x tops W (up k d t M)) (known : KnowsNow x W (Committing (Voting p []))) where
   mine : SeesCoord x k d.inc tops t.coord W.disk
   mine = sees.coords k (record { number = k; disk = d; live = Some t }) t (node_here M k (record { number = k; disk = d; live = Some t })) refl
@@ -72,7 +73,7 @@ module _ (x : ℕ) (tops : Kinds) (e k : ℕ) (d : Disk) (t : Parts) (act : Uid)
 
   -- its root is there
   root_there : is_gone (W.disk.stage (W.disk.root (uid_number act))) ≡ false
-  root_there = ap (λ n. is_gone (W.disk.stage n)) (ap (λ f. f (uid_number act)) sees.fixed.root ∙ knows.root act b found) ∙ by b.kind refl (knows.kind act b found)
+  root_there = ap (λ n. is_gone (W.disk.stage n)) (ap (λ f. f (uid_number act)) sees.fixed.root ∙ knows.root act b found top) ∙ by b.kind refl (knows.kind act b found)
     where
       own : uids_of b.path ≡ act ∷ [] → is_gone (W.disk.stage (uid_number (root_of b.path))) ≡ false
       own is = ap (λ us. is_gone (W.disk.stage (uid_number (first_uid us)))) is ∙ ap is_gone idle
@@ -105,7 +106,7 @@ module _ (x : ℕ) (tops : Kinds) (e k : ℕ) (d : Disk) (t : Parts) (act : Uid)
 
   by_used : targets_of p ≡ [] → (us : List Used) → p.used ≡ us → DidIsWalked x tops e k d t (step_commit act (begin_confirm us p) d.intents t.coord) M
   by_used none [] is = unused_are_decided x tops e k d t act b p M knows found unended top plan.actor_is (unused is) W sees
-  by_used none (u ∷ us) is = top_asks x tops e k d t act b q d.intents M found unended at_work top W plain sees (further (1 ∷ []) p) plan.top_is plan.actor_is confirming []
+  by_used none (u ∷ us) is = top_asks x tops e k d t act b q d.intents M found unended at_work top note W plain sees (further (1 ∷ []) p) plan.top_is plan.actor_is confirming []
     where
       begun : TopGoes (uid_number act) (λ S. SeesPreparing x S (uid_number act) (further (1 ∷ []) p) []) W
       begun = subst (λ ts. TopGoes (uid_number act) (λ S. SeesPreparing x S (uid_number act) (further (1 ∷ []) p) ts) W) none (prepares_begin x W (uid_number act) p (1 ∷ []) sees.whole.core.fresh can plan.tidy unanswered)
@@ -115,10 +116,10 @@ module _ (x : ℕ) (tops : Kinds) (e k : ℕ) (d : Disk) (t : Parts) (act : Uid)
 
   by_targets : (ts : List ℕ) → targets_of p ≡ ts → DidIsWalked x tops e k d t (step_commit act (begin_prepare ts p) d.intents t.coord) M
   by_targets [] is = by_used is p.used refl
-  by_targets (s ∷ ss) is = subst (λ ts. DidIsWalked x tops e k d t (step_commit act (begin_prepare ts p) d.intents t.coord) M) is (prepares_are_asked x tops e k d t act p s ss d.intents M W is may sees)
+  by_targets (s ∷ ss) is = subst (λ ts. DidIsWalked x tops e k d t (step_commit act (begin_prepare ts p) d.intents t.coord) M) is (prepares_are_asked x tops e k d t act p s ss d.intents M W is may note sees)
 
   pub begin_walks : DidIsWalked x tops e k d t (step_commit act (begin_prepare (targets_of p) p) d.intents t.coord) M
   begin_walks = by_targets (targets_of p) refl
 
 pub tops_prepare : TopsPrepare
-tops_prepare x tops e k d t act b q p M knows found unended at_work before top plan unanswered unused W sees known = begin_walks x tops e k d t act b q p M knows found unended at_work before top plan unanswered unused W sees known
+tops_prepare x tops e k d t act b q p M knows found unended at_work before top note plan unanswered unused W sees known = begin_walks x tops e k d t act b q p M knows found unended at_work before top note plan unanswered unused W sees known

@@ -27,9 +27,9 @@ use Rattle.arj_disk_law.specs.Effects.{World}
 use Rattle.arj_disk_law.proofs.Base.{never, test_is}
 use Rattle.arj_view_law.specs.Seen.{Seen, up}
 use Rattle.arj_view_law.specs.Walks.{Walks, Up}
-use Rattle.arj_disk_view_law.specs.Coordinating.{DidIsWalked, IsBefore, ActionsCommit, CommitsAreHeard, CommitsAreGivenUp}
+use Rattle.arj_disk_view_law.specs.Coordinating.{DidIsWalked, IsBefore, ActionsCommit, CommitsAreHeard, CommitsAreGivenUp, MayCommit}
 use Rattle.arj_disk_view_law.specs.Knows.{KnowsKinds, KnowsCoord, KnowsPlan, KnowsMachine, IsOfKind}
-use Rattle.arj_disk_view_law.specs.Sees.{Kinds, SeesDisks, SeesCoord, SeesNotes, IsSeenByDisks, IsKnown, IsKnownIfThere, KnowsRoot, KnowsNow, ClaimsReply, WorksBy, WaitsForStore, WaitsForNaming}
+use Rattle.arj_disk_view_law.specs.Sees.{may_note, Kinds, SeesDisks, SeesCoord, SeesNotes, IsSeenByDisks, IsKnown, IsKnownIfThere, KnowsRoot, KnowsNow, ClaimsReply, WorksBy, WaitsForStore, WaitsForNaming}
 use Rattle.arj_disk_view_law.proofs.BeginWalks.{before_idle, begin_walks}
 use Rattle.arj_disk_view_law.proofs.DecideWalks.{confirmed_is_heard}
 use Rattle.arj_disk_view_law.proofs.Frames.{node_here}
@@ -37,6 +37,7 @@ use Rattle.arj_disk_view_law.proofs.FreeAsks.{MayAsk, asks_walk}
 use Rattle.arj_disk_view_law.proofs.HeardWalks.{is_say, say_walk, top_moved, top_stays, prepared_is_heard, silent_are_given_up, gaveup_say}
 use Rattle.arj_disk_view_law.proofs.Notes.{all_at, known_at, now_later}
 use Rattle.arj_disk_view_law.proofs.OneEnd.{actions_end}
+use Rattle.arj_disk_law.specs.Guards.{Begins}
 
 -- ---- what a plan loaded
 
@@ -102,7 +103,7 @@ top_plain x k tops d t act b M knows found top W sees = ap (λ f. f (uid_number 
     by kind.Constituent of = of.1
 
 module _ (x : ℕ) (tops : Kinds) (e k : ℕ) (d : Disk) (t : Parts) (b : Branch) (q : Doing) (M : Seen) (knows : KnowsCoord tops d.intents t.coord) (found : branch_of (actor b.path) t.coord.tree ≡ Some b) (unended : b.ended ≡ None)
-    (at_work : doing_of (actor b.path) t.coord ≡ Some q) (idle_now : q.now ≡ Idle) (top : tops.is_top (uid_number (actor b.path)) ≡ true) (W : World) (sees : SeesDisks x tops W (up k d t M)) where
+    (at_work : doing_of (actor b.path) t.coord ≡ Some q) (idle_now : q.now ≡ Idle) (top : tops.is_top (uid_number (actor b.path)) ≡ true) (note : may_note tops.walk (Begins (uid_number (actor b.path))) ≡ true) (W : World) (sees : SeesDisks x tops W (up k d t M)) where
   abbrev p : commit.Plan
   p = plan_for b.path (last_req (doing_of (actor b.path) t.coord)) (root_at (root_of b.path) t.coord) t.coord
 
@@ -126,18 +127,18 @@ module _ (x : ℕ) (tops : Kinds) (e k : ℕ) (d : Disk) (t : Parts) (b : Branch
   votes_free ps V (s ∷ ss) = (tt, votes_free ps V ss)
 
   by_servers : (ss : List ℕ) → DidIsWalked x tops e k d t (step_commit (actor b.path) (begin_vote ss p) d.intents t.coord) M
-  by_servers [] = begin_walks x tops e k d t (actor b.path) b q p M knows found unended at_work before top plan (record { prepared = refl; excluded = refl }) (λ is. record { used = is; changed = refl; prepared = refl; confirmed = refl }) W sees known
+  by_servers [] = begin_walks x tops e k d t (actor b.path) b q p M knows found unended at_work before top note plan (record { prepared = refl; excluded = refl }) (λ is. record { used = is; changed = refl; prepared = refl; confirmed = refl }) W sees known
   by_servers (s ∷ ss) =
       let m : Machine = Voting (further (s ∷ ss) p) (s ∷ ss) in
       asks_walk x tops e k d t p.path (further (s ∷ ss) p).req (map {A = ℕ} {B = ℕ × Ask} (λ n. (n, vote_ask (further (s ∷ ss) p) n)) (s ∷ ss)) (commits_in (actor b.path) m t.coord) M W (votes_free (further (s ∷ ss) p) W (s ∷ ss))
-      (top_moved x tops e k d t (actor b.path) b q d.intents M found unended at_work top W (top_plain x k tops d t (actor b.path) b M knows found top W sees) sees (further (s ∷ ss) p).req (Committing m)
+      (top_moved x tops e k d t (actor b.path) b q d.intents M found unended at_work top note W (top_plain x k tops d t (actor b.path) b M knows found top W sees) sees (further (s ∷ ss) p).req (Committing m)
       (λ U l. now_later x W U l (Committing (Voting p [])) known) (top_stays (uid_number (actor b.path)) (λ S. WorksBy x S (uid_number (actor b.path)) (Committing m)) W (before_idle x tops W.disk (uid_number (actor b.path)) b.kind q.now before top (mine.working (actor b.path) b q found unended at_work))))
 
   pub votes_walk : DidIsWalked x tops e k d t (moved_commit (actor b.path) (start p) d.intents t.coord) M
   votes_walk = by_servers (servers_of p)
 
 module _ (x : ℕ) (tops : Kinds) (e k : ℕ) (d : Disk) (t : Parts) (b : Branch) (q : Doing) (M : Seen) (kinds : KnowsKinds tops) (knows : KnowsCoord tops d.intents t.coord) (found : branch_of (actor b.path) t.coord.tree ≡ Some b) (unended : b.ended ≡ None)
-    (at_work : doing_of (actor b.path) t.coord ≡ Some q) (idle_now : q.now ≡ Idle) (childless : has_open_child (actor b.path) t.coord.tree ≡ false) (W : World) (sees : SeesDisks x tops W (up k d t M)) where
+    (at_work : doing_of (actor b.path) t.coord ≡ Some q) (idle_now : q.now ≡ Idle) (childless : has_open_child (actor b.path) t.coord.tree ≡ false) (note : may_note tops.walk (Begins (uid_number (actor b.path))) ≡ true) (W : World) (sees : SeesDisks x tops W (up k d t M)) where
   line_says : AreAll is_say (says (actor b.path) body.Committing t.coord)
   line_says = by (doing_of (actor b.path) t.coord)
     where
@@ -148,7 +149,7 @@ module _ (x : ℕ) (tops : Kinds) (e k : ℕ) (d : Disk) (t : Parts) (b : Branch
   start_walks : tops.is_top (uid_number (actor b.path)) ≡ true → DidIsWalked x tops e k d t (commit_top b.path d.intents t.coord) M
   start_walks top =
       let did = moved_commit (actor b.path) (start (plan_for b.path (last_req (doing_of (actor b.path) t.coord)) (root_at (root_of b.path) t.coord) t.coord)) d.intents t.coord in
-      say_walk x k tops e t (with_coord t did.part) (says (actor b.path) body.Committing t.coord) did.outs d W line_says (λ N s. votes_walk x tops e k d t b q N knows found unended at_work idle_now top W s) M sees
+      say_walk x k tops e t (with_coord t did.part) (says (actor b.path) body.Committing t.coord) did.outs d W line_says (λ N s. votes_walk x tops e k d t b q N knows found unended at_work idle_now top note W s) M sees
 
   by_kind : (kd : Kind) → IsOfKind tops (actor b.path) kd b.path → DidIsWalked x tops e k d t (commit_open b d.intents t.coord kd) M
   by_kind kind.Nested of = actions_end x tops e k d t (actor b.path) b ending.Commit body.Committed M kinds knows found unended (λ s. childless) W sees
@@ -165,9 +166,9 @@ module _ (x : ℕ) (tops : Kinds) (e k : ℕ) (d : Disk) (t : Parts) (b : Branch
   commit_walks = by_doomed b.doomed
 
 pub actions_commit : ActionsCommit
-actions_commit x tops e k d t act b q M kinds knows found unended at_work idle_now childless W sees =
+actions_commit x tops e k d t act b q M kinds knows found unended at_work idle_now childless note W sees =
     let last : actor b.path ≡ act = knows.path act b found in
-    commit_walks x tops e k d t b q M kinds knows (ap (λ a. branch_of a t.coord.tree) last ∙ found) unended (ap (λ a. doing_of a t.coord) last ∙ at_work) idle_now (ap (λ a. has_open_child a t.coord.tree) last ∙ childless) W sees
+    commit_walks x tops e k d t b q M kinds knows (ap (λ a. branch_of a t.coord.tree) last ∙ found) unended (ap (λ a. doing_of a t.coord) last ∙ at_work) idle_now (ap (λ a. has_open_child a t.coord.tree) last ∙ childless) (ap (λ a. may_note tops.walk (Begins (uid_number a))) last ∙ note) W sees
 
 -- ---- answers
 
@@ -176,9 +177,9 @@ module _ (x : ℕ) (tops : Kinds) (e k : ℕ) (d : Disk) (t : Parts) (from : ℕ
   aborts : (m : Machine) → KnowsMachine tops t.coord act m → (why : Cause) → DidIsWalked x tops e k d t (aborts_with act why d.intents t.coord) M
   aborts m h why = actions_end x tops e k d t act h.branch ending.Abort (λ l. body.Aborted l why) M kinds knows h.found h.unended (λ s. absurd (top_not_serial tops act h.branch.kind h.branch.path (knows.kind act h.branch h.found) h.top s)) W sees
 
-  voted_walk : (p : commit.Plan) (left : List ℕ) → q.now ≡ Committing (Voting p left) → KnowsMachine tops t.coord act (Voting p left) → (states : List ObjectState) (rest : List ℕ)
+  voted_walk : (p : commit.Plan) (left : List ℕ) → q.now ≡ Committing (Voting p left) → KnowsMachine tops t.coord act (Voting p left) → may_note tops.walk (Begins (uid_number act)) ≡ true → (states : List ObjectState) (rest : List ℕ)
       → DidIsWalked x tops e k d t (step_commit act (votes_left rest (record p { changed = with_states states p.changed })) d.intents t.coord) M
-  voted_walk p left now h states [] = begin_walks x tops e k d t act h.branch q (record p { changed = with_states states p.changed }) M knows h.found h.unended at_work (subst IsBefore (sym now) tt) h.top
+  voted_walk p left now h note states [] = begin_walks x tops e k d t act h.branch q (record p { changed = with_states states p.changed }) M knows h.found h.unended at_work (subst IsBefore (sym now) tt) h.top note
       (record { actor_is = h.plan.actor_is; top_is = h.plan.top_is; tidy = record { apart = h.plan.tidy.apart; once = h.plan.tidy.once; distinct = h.plan.tidy.distinct; loaded = h.plan.tidy.loaded; of = h.plan.tidy.of } })
       (record { prepared = h.way.prepared; excluded = h.way.excluded }) (λ is. absurd (never_empty (sym h.uses ∙ is))) W sees (subst (λ n. KnowsNow x W n) now (notes.plans act q at_work))
     where
@@ -187,9 +188,9 @@ module _ (x : ℕ) (tops : Kinds) (e k : ℕ) (d : Disk) (t : Parts) (from : ℕ
 
       never_empty : {u : Used} {us : List Used} → u ∷ us ≡ [] → ⊥
       never_empty is = cc is
-  voted_walk p left now h states (n ∷ ns) = (
+  voted_walk p left now h note states (n ∷ ns) = (
     W,
-    top_moved x tops e k d t act h.branch q d.intents M h.found h.unended at_work h.top W (top_plain x k tops d t act h.branch M knows h.found h.top W sees) sees p.req (Committing (Voting (record p { changed = with_states states p.changed }) (n ∷ ns)))
+    top_moved x tops e k d t act h.branch q d.intents M h.found h.unended at_work h.top note W (top_plain x k tops d t act h.branch M knows h.found h.top W sees) sees p.req (Committing (Voting (record p { changed = with_states states p.changed }) (n ∷ ns)))
         (λ U l. now_later x W U l (Committing (Voting p left)) (subst (λ n. KnowsNow x W n) now (notes.plans act q at_work)))
         (top_stays (uid_number act) (λ S. WorksBy x S (uid_number act) (Committing (Voting (record p { changed = with_states states p.changed }) (n ∷ ns)))) W (before_idle x tops W.disk (uid_number act) h.branch.kind q.now (subst IsBefore (sym now) tt) h.top (mine.working act h.branch q h.found h.unended at_work))),
   )
@@ -208,49 +209,49 @@ module _ (x : ℕ) (tops : Kinds) (e k : ℕ) (d : Disk) (t : Parts) (from : ℕ
   for_naming p now h = record { branch = h.branch; found = h.found; unended = h.unended; doing = q; at_work = at_work; now = now; path = h.plan.actor_is; unrecorded = knows.unrecorded act (ap is_open_branch h.found ∙ ap (λ o. is_open_branch (Some (record h.branch { ended = o }))) h.unended); changes = h.changes }
 
   -- an answer of the kind that the step waits for
-  heard_walk : (m : Machine) (r : Reply) → q.now ≡ Committing m → KnowsMachine tops t.coord act m → reply_kind r ≡ ask_kind (ask_of m from) → order.has (left_of m) from ≡ true → ClaimsReply x W from act r → DidIsWalked x tops e k d t (moved_commit act (commit.answered from m r) d.intents t.coord) M
-  heard_walk (Voting p left) (Reply.Voted (voted.Yes states)) now h kd asked claims = voted_walk p left now h states (without_number from left)
-  heard_walk (Voting p left) (Reply.Voted (voted.Changed w)) now h kd asked claims = aborts (Voting p left) h (cause.Changed from (differs w))
-  heard_walk (Voting p left) (Reply.Bound r) now h kd asked claims = absurd (cc kd)
-  heard_walk (Voting p left) (Reply.Loaded r) now h kd asked claims = absurd (cc kd)
-  heard_walk (Voting p left) (Reply.Activated r) now h kd asked claims = absurd (cc kd)
-  heard_walk (Voting p left) (Reply.Noted r) now h kd asked claims = absurd (cc kd)
-  heard_walk (Voting p left) (Reply.Invoked r) now h kd asked claims = absurd (cc kd)
-  heard_walk (Voting p left) (Reply.Prepared r) now h kd asked claims = absurd (cc kd)
-  heard_walk (Voting p left) (Reply.Confirmed r) now h kd asked claims = absurd (cc kd)
-  heard_walk (Preparing p left) (Reply.Prepared prepared.Yes) now h kd asked claims = prepared_is_heard x tops e k d t from act prepared.Yes p left d.intents M (for_store p left now h asked) h.top tt W sees claims
-  heard_walk (Preparing p left) (Reply.Prepared (prepared.InDoubt y holder)) now h kd asked claims = prepared_is_heard x tops e k d t from act (prepared.InDoubt y holder) p left d.intents M (for_store p left now h asked) h.top tt W sees claims
-  heard_walk (Preparing p left) (Reply.Prepared (prepared.Old y v)) now h kd asked claims = aborts (Preparing p left) h (cause.Old from y v)
-  heard_walk (Preparing p left) (Reply.Bound r) now h kd asked claims = absurd (cc kd)
-  heard_walk (Preparing p left) (Reply.Loaded r) now h kd asked claims = absurd (cc kd)
-  heard_walk (Preparing p left) (Reply.Activated r) now h kd asked claims = absurd (cc kd)
-  heard_walk (Preparing p left) (Reply.Noted r) now h kd asked claims = absurd (cc kd)
-  heard_walk (Preparing p left) (Reply.Invoked r) now h kd asked claims = absurd (cc kd)
-  heard_walk (Preparing p left) (Reply.Voted r) now h kd asked claims = absurd (cc kd)
-  heard_walk (Preparing p left) (Reply.Confirmed r) now h kd asked claims = absurd (cc kd)
-  heard_walk (Confirming p) (Reply.Confirmed confirmed.Yes) now h kd asked claims = confirmed_is_heard x tops e k d t from act p M (for_naming p now h) h.top W sees claims
-  heard_walk (Confirming p) (Reply.Confirmed (confirmed.Conflict holder mode)) now h kd asked claims = aborts (Confirming p) h (cause.Conflict holder mode 1)
-  heard_walk (Confirming p) (Reply.Confirmed (confirmed.Changed w)) now h kd asked claims = aborts (Confirming p) h (cause.Changed 1 (differs w))
-  heard_walk (Confirming p) (Reply.Confirmed (confirmed.NoStores y)) now h kd asked claims = aborts (Confirming p) h (cause.NoStores y)
-  heard_walk (Confirming p) (Reply.Confirmed (confirmed.Listed y s)) now h kd asked claims = aborts (Confirming p) h (cause.Listed y s)
-  heard_walk (Confirming p) (Reply.Bound r) now h kd asked claims = absurd (cc kd)
-  heard_walk (Confirming p) (Reply.Loaded r) now h kd asked claims = absurd (cc kd)
-  heard_walk (Confirming p) (Reply.Activated r) now h kd asked claims = absurd (cc kd)
-  heard_walk (Confirming p) (Reply.Noted r) now h kd asked claims = absurd (cc kd)
-  heard_walk (Confirming p) (Reply.Invoked r) now h kd asked claims = absurd (cc kd)
-  heard_walk (Confirming p) (Reply.Voted r) now h kd asked claims = absurd (cc kd)
-  heard_walk (Confirming p) (Reply.Prepared r) now h kd asked claims = absurd (cc kd)
+  heard_walk : (m : Machine) (r : Reply) → q.now ≡ Committing m → KnowsMachine tops t.coord act m → reply_kind r ≡ ask_kind (ask_of m from) → order.has (left_of m) from ≡ true → ClaimsReply x W from act r → MayCommit tops.walk m (uid_number act) → DidIsWalked x tops e k d t (moved_commit act (commit.answered from m r) d.intents t.coord) M
+  heard_walk (Voting p left) (Reply.Voted (voted.Yes states)) now h kd asked claims note = voted_walk p left now h note states (without_number from left)
+  heard_walk (Voting p left) (Reply.Voted (voted.Changed w)) now h kd asked claims note = aborts (Voting p left) h (cause.Changed from (differs w))
+  heard_walk (Voting p left) (Reply.Bound r) now h kd asked claims note = absurd (cc kd)
+  heard_walk (Voting p left) (Reply.Loaded r) now h kd asked claims note = absurd (cc kd)
+  heard_walk (Voting p left) (Reply.Activated r) now h kd asked claims note = absurd (cc kd)
+  heard_walk (Voting p left) (Reply.Noted r) now h kd asked claims note = absurd (cc kd)
+  heard_walk (Voting p left) (Reply.Invoked r) now h kd asked claims note = absurd (cc kd)
+  heard_walk (Voting p left) (Reply.Prepared r) now h kd asked claims note = absurd (cc kd)
+  heard_walk (Voting p left) (Reply.Confirmed r) now h kd asked claims note = absurd (cc kd)
+  heard_walk (Preparing p left) (Reply.Prepared prepared.Yes) now h kd asked claims note = prepared_is_heard x tops e k d t from act prepared.Yes p left d.intents M (for_store p left now h asked) h.top note tt W sees claims
+  heard_walk (Preparing p left) (Reply.Prepared (prepared.InDoubt y holder)) now h kd asked claims note = prepared_is_heard x tops e k d t from act (prepared.InDoubt y holder) p left d.intents M (for_store p left now h asked) h.top note tt W sees claims
+  heard_walk (Preparing p left) (Reply.Prepared (prepared.Old y v)) now h kd asked claims note = aborts (Preparing p left) h (cause.Old from y v)
+  heard_walk (Preparing p left) (Reply.Bound r) now h kd asked claims note = absurd (cc kd)
+  heard_walk (Preparing p left) (Reply.Loaded r) now h kd asked claims note = absurd (cc kd)
+  heard_walk (Preparing p left) (Reply.Activated r) now h kd asked claims note = absurd (cc kd)
+  heard_walk (Preparing p left) (Reply.Noted r) now h kd asked claims note = absurd (cc kd)
+  heard_walk (Preparing p left) (Reply.Invoked r) now h kd asked claims note = absurd (cc kd)
+  heard_walk (Preparing p left) (Reply.Voted r) now h kd asked claims note = absurd (cc kd)
+  heard_walk (Preparing p left) (Reply.Confirmed r) now h kd asked claims note = absurd (cc kd)
+  heard_walk (Confirming p) (Reply.Confirmed confirmed.Yes) now h kd asked claims note = confirmed_is_heard x tops e k d t from act p M (for_naming p now h) h.top note W sees claims
+  heard_walk (Confirming p) (Reply.Confirmed (confirmed.Conflict holder mode)) now h kd asked claims note = aborts (Confirming p) h (cause.Conflict holder mode 1)
+  heard_walk (Confirming p) (Reply.Confirmed (confirmed.Changed w)) now h kd asked claims note = aborts (Confirming p) h (cause.Changed 1 (differs w))
+  heard_walk (Confirming p) (Reply.Confirmed (confirmed.NoStores y)) now h kd asked claims note = aborts (Confirming p) h (cause.NoStores y)
+  heard_walk (Confirming p) (Reply.Confirmed (confirmed.Listed y s)) now h kd asked claims note = aborts (Confirming p) h (cause.Listed y s)
+  heard_walk (Confirming p) (Reply.Bound r) now h kd asked claims note = absurd (cc kd)
+  heard_walk (Confirming p) (Reply.Loaded r) now h kd asked claims note = absurd (cc kd)
+  heard_walk (Confirming p) (Reply.Activated r) now h kd asked claims note = absurd (cc kd)
+  heard_walk (Confirming p) (Reply.Noted r) now h kd asked claims note = absurd (cc kd)
+  heard_walk (Confirming p) (Reply.Invoked r) now h kd asked claims note = absurd (cc kd)
+  heard_walk (Confirming p) (Reply.Voted r) now h kd asked claims note = absurd (cc kd)
+  heard_walk (Confirming p) (Reply.Prepared r) now h kd asked claims note = absurd (cc kd)
 
 pub commits_are_heard : CommitsAreHeard
-commits_are_heard x tops e k d t from a q m r M kinds knows at_work now waits W sees claims =
+commits_are_heard x tops e k d t from a q m r M kinds knows at_work now waits note W sees claims =
     let one = and_parts ((plan_of m).req == a.req) ((reply_kind r == ask_kind (ask_of m from)) && order.has (left_of m) from) waits in
     let two = and_parts (reply_kind r == ask_kind (ask_of m from)) (order.has (left_of m) from) one.1 in
-    heard_walk x tops e k d t from a.act q M kinds knows at_work W sees m r now (knows.machines a.act q m at_work now) (test_is (reply_kind r) (ask_kind (ask_of m from)) two.0) two.1 claims
+    heard_walk x tops e k d t from a.act q M kinds knows at_work W sees m r now (knows.machines a.act q m at_work now) (test_is (reply_kind r) (ask_kind (ask_of m from)) two.0) two.1 claims note
 
 -- ---- giveups
 
 pub commits_are_given_up : CommitsAreGivenUp
-commits_are_given_up x tops e k d t act q m M kinds knows at_work now W sees = by m now (knows.machines act q m at_work now)
+commits_are_given_up x tops e k d t act q m M kinds knows at_work now note W sees = by m now (knows.machines act q m at_work now)
   where
     lost : (m : Machine) → KnowsMachine tops t.coord act m → (nodes : List ℕ) (why : Cause) → let did = aborts_with act why d.intents t.coord in Walks (IsSeenByDisks x tops) e k (gaveup_lines act nodes t.coord ++ did.outs) (Up (IsSeenByDisks x tops) k (with_coord t did.part)) d M
     lost m h nodes why =
@@ -259,5 +260,5 @@ commits_are_given_up x tops e k d t act q m M kinds knows at_work now W sees = b
 
     by : (m : Machine) → q.now ≡ Committing m → KnowsMachine tops t.coord act m → DidIsWalked x tops e k d t (gives_up act d.intents t.coord (Committing m)) M
     by (Voting p left) now h = lost (Voting p left) h (first_of left ∷ []) (cause.Lost (first_of left))
-    by (Preparing p left) now h = silent_are_given_up x tops e k d t h.way.0 act p left d.intents M (for_store x tops e k d t h.way.0 act q M kinds knows at_work W sees p left now h h.way.1) h.top W sees
+    by (Preparing p left) now h = silent_are_given_up x tops e k d t h.way.0 act p left d.intents M (for_store x tops e k d t h.way.0 act q M kinds knows at_work W sees p left now h h.way.1) h.top note W sees
     by (Confirming p) now h = lost (Confirming p) h (1 ∷ []) (cause.Lost 1)

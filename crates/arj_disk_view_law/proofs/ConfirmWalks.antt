@@ -36,24 +36,28 @@ use Rattle.arj_disk_law.proofs.Keeps.{effect_keeps}
 use Rattle.arj_disk_law.proofs.Listing.{entry_content, has_filtered, join_target, list_joins, list_lacks, plain_target, same_list}
 use Rattle.arj_view_law.specs.Seen.{Post, Seen, up, said, posted}
 use Rattle.arj_view_law.specs.Walks.{Walks, Stops, Up}
-use Rattle.arj_disk_view_law.specs.Confirming.{AreNew, FitsVersion, IsBooked, IsNewConfirm}
-use Rattle.arj_disk_view_law.specs.Coordinating.{ConfirmsAreWalked}
+use Rattle.arj_disk_view_law.specs.Confirming.{AreNew, FitsVersion, IsBooked, IsConfirmation, IsNewConfirm, IsUnconfirmed, with_locks}
+use Rattle.arj_disk_view_law.specs.Coordinating.{ConfirmsAreWalked, ConfirmsWalkOnce, IsConfirmedNow}
 use Rattle.arj_disk_view_law.specs.Deciding.{SeesRecords}
 use Rattle.arj_disk_view_law.specs.Entries.{SeesEntry}
 use Rattle.arj_disk_view_law.specs.Pairs.{Among, AreOne, HasNone, IsOf, packed_entry}
 use Rattle.arj_disk_view_law.specs.Stores.{SeesStore}
-use Rattle.arj_disk_view_law.specs.Sees.{Kinds, Claims, ClaimsConfirm, SeesDisks, SeesCoord, SeesNotes, SeesDown, SeesConfirmed, IsLater, IsSeenByDisks}
+use Rattle.arj_disk_view_law.specs.Sees.{IsAlong, followed, may_note, Kinds, Claims, ClaimsConfirm, SeesDisks, SeesCoord, SeesNotes, SeesDown, SeesConfirmed, IsLater, IsSeenByDisks}
 use Rattle.arj_disk_view_law.proofs.ConfirmKeeps.{agreeing_keeps, entering_keeps, marked_now, marked_stays, passing_keeps, prepared_is_taken, quiet_confirms_keep}
 use Rattle.arj_disk_view_law.proofs.ConfirmSteps.{Held, has_target, held_is, is_one, rests, stands_there}
 use Rattle.arj_disk_view_law.proofs.Frames.{nodes_to, node_here, claim_here, coord_same, down_same, says_seen, posts_seen, sends_seen}
 use Rattle.arj_disk_view_law.proofs.Halts.{stops_seen}
-use Rattle.arj_disk_view_law.proofs.HeardWalks.{is_say, say_walk}
+use Rattle.arj_disk_view_law.proofs.HeardWalks.{is_say, says_walk}
 use Rattle.arj_disk_view_law.proofs.Later.{effects_are_later}
 use Rattle.arj_disk_view_law.proofs.Notes.{fixed_later, notes_later}
 use Rattle.arj_disk_view_law.proofs.ServedWalks.{lock_says}
 use Rattle.arj_disk_view_law.proofs.StoreSteps.{free_state, no_refusal, place_free}
 use Rattle.arj_disk_view_law.proofs.StoreWalks.{took_is}
 use Rattle.arj_disk_view_law.proofs.ToldWalks.{parts_seen}
+use Rattle.arj_disk_view_law.proofs.Along.{along_goes, along_then}
+use Rattle.arj_disk_view_law.proofs.Follows.{walks_are_followed}
+use Rattle.arj_view_law.proofs.Together.{walks_to}
+use Rattle.arj_disk_law.specs.Guards.{is_only_of}
 
 -- ---- a confirmation of one object
 
@@ -61,6 +65,7 @@ use Rattle.arj_disk_view_law.proofs.ToldWalks.{parts_seen}
 pub record ConfirmGoes (x : ℕ) (c : Pair) (t : ℕ) (W : World) : Type 0 where
   pub effect : machine.Effect
   pub allowed : Allowed W effect
+  pub which : IsConfirmation t effect
   pub rest : (after W effect).disk ≡ record W.disk { entry_pend = (after W effect).disk.entry_pend; conf = (after W effect).disk.conf; light = (after W effect).disk.light }
   pub confs : (z : ℕ) → W.disk.conf z ≡ true → (after W effect).disk.conf z ≡ true
   pub lights : (z : ℕ) → W.disk.light z ≡ true → (after W effect).disk.light z ≡ true
@@ -68,7 +73,7 @@ pub record ConfirmGoes (x : ℕ) (c : Pair) (t : ℕ) (W : World) : Type 0 where
   pub sent : (after W effect).sent ≡ W.sent
   pub there : SeesEntry x c (after W effect).disk
 
-module _ (x : ℕ) (tops : Kinds) (W : World) (M : Seen) (d : Disk) (t : Parts) (sees : SeesDisks x tops W (up 1 d t M)) (c : Pair) (u : ℕ) (goes : ConfirmGoes x c u W) where
+module _ (x : ℕ) (tops : Kinds) (W : World) (M : Seen) (d : Disk) (t : Parts) (sees : SeesDisks x tops W (up 1 d t M)) (c : Pair) (u : ℕ) (goes : ConfirmGoes x c u W) (unwalked : tops.walk ≡ None) where
   abbrev V : World
   V = after W goes.effect
 
@@ -109,6 +114,7 @@ module _ (x : ℕ) (tops : Kinds) (W : World) (M : Seen) (d : Disk) (t : Parts) 
   pub confirm_goes_seen : SeesDisks x tops V (up 1 (record d { names = c }) t M)
   confirm_goes_seen = record {
     whole = effect_keeps W goes.effect goes.allowed sees.whole;
+    along = subst (λ o. IsAlong o V) (sym unwalked) tt;
     fixed = fixed_later tops W V goes_later sees.fixed;
     kinds = λ z b. let r = sees.kinds z (ap (λ f. f z) (sym begun_same) ∙ b) in (r.0, ap (λ (S : State). S.serial z) goes.rest ∙ r.1);
     stores = to (λ m n. SeesStore x m n.disk.store W.disk) (λ m n. SeesStore x m n.disk.store V.disk) sees.stores (λ s. store_goes 1 d.store s) (λ m n e s. store_goes m n.disk.store s);
@@ -235,6 +241,7 @@ module _ (x : ℕ) (d : Pair) (W : World) (top : Uid) (grants : Grants) (exclude
       by None plain = record {
         effect = machine.Pass (uid_number top);
         allowed = record { asked = claims.asked; plain = plain; none = none_got plain same; unlisted = none_listed plain same; clear = booked.clear; unconfirmed = booked.unconfirmed };
+        which = inr (inl refl);
         rest = refl;
         confs = λ z h. h;
         lights = λ z h. marked_stays W.disk (uid_number top) W.disk.light z h;
@@ -245,6 +252,7 @@ module _ (x : ℕ) (d : Pair) (W : World) (top : Uid) (grants : Grants) (exclude
       by (Some w) writes = record {
         effect = machine.Agree (uid_number top);
         allowed = record { asked = claims.asked; writes = ap is_some writes; same = same; unlisted = unlisted; clear = booked.clear; locked = booked.locked (inl (ap is_some writes)) };
+        which = inl refl;
         rest = refl;
         confs = λ z h. marked_stays W.disk (uid_number top) W.disk.conf z h;
         lights = λ z h. h;
@@ -279,6 +287,7 @@ module _ (x : ℕ) (d : Pair) (W : World) (top : Uid) (grants : Grants) (exclude
           unlisted = unlisted;
           locked = booked.locked (inr other);
         };
+        which = inr (inr refl);
         rest = refl;
         confs = λ z h. marked_stays W.disk (uid_number top) W.disk.conf z h;
         lights = λ z h. h;
@@ -404,17 +413,38 @@ on_with u w (v ∷ vs) on = by (uid_order w v) on (on_with u w vs)
 module _ (x : ℕ) (tops : Kinds) (e : ℕ) (d : Disk) (t v : Parts) (n : Naming) (from : ℕ) (h : Head) (grants : Grants) (excluded included : Marks) (outs : List Effect) (M : Seen) (named : t.naming ≡ Some n)
     (W : World) (sees : SeesDisks x tops W (up 1 d t M)) (own : actor h.path ≡ top_of h.path) (claims : ClaimsConfirm x W (uid_number (top_of h.path)) grants excluded included)
     (booked : IsNewConfirm h.path grants excluded included d.names n → IsBooked W.disk (uid_number (top_of h.path))) where
-  abbrev P : Seen → Type 0
-  P = IsSeenByDisks x tops
-
   abbrev top : Uid
   top = top_of h.path
+
+  abbrev New : Type 0
+  New = IsNewConfirm h.path grants excluded included d.names n
+
+  -- the walk is followed from the beginning, and again from the confirmation
+  abbrev Early : Kinds
+  Early = followed tops W (λ n. false)
+
+  abbrev Late : machine.Effect → Kinds
+  Late f = followed tops (after W f) (λ n. false)
+
+  abbrev P : Seen → Type 0
+  P N = IsSeenByDisks x Early N ⊎ (IsNewConfirm h.path grants excluded included d.names n × IsConfirmedNow x tops (uid_number (top_of h.path)) W N)
+
+  abbrev End : Parts → Disk → Seen → Type 0
+  End p c N = ((o : Naming) × (p ≡ with_naming t o) × IsUnconfirmed h.path grants excluded included d.names n o × IsSeenByDisks x Early (up 1 c p N))
+      ⊎ (IsNewConfirm h.path grants excluded included d.names n × (p ≡ with_naming t (confirms (top_of h.path) (with_locks h.path grants excluded d.names n))) × IsConfirmedNow x tops (uid_number (top_of h.path)) W (up 1 c p N))
+
+  early : SeesDisks x Early W (up 1 d t M)
+  early = walks_are_followed x tops (Some (record { from = W; noted = λ n. false })) W (up 1 d t M) (record { effects = []; allowed = tt; here = refl; only = tt }) sees
+
+  confirmed_seen : (c : Pair) (goes : ConfirmGoes x c (uid_number (top_of h.path)) W) (N : Seen) → SeesDisks x Early W (up 1 d t N) → SeesDisks x (Late goes.effect) (after W goes.effect) (up 1 (record d { names = c }) t N)
+  confirmed_seen c goes N s = walks_are_followed x (record tops { walk = None }) (Some (record { from = after W goes.effect; noted = λ n. false })) (after W goes.effect) (up 1 (record d { names = c }) t N) (record { effects = []; allowed = tt; here = refl; only = tt })
+      (confirm_goes_seen x (record tops { walk = None }) W N d t (walks_are_followed x Early None W (up 1 d t N) tt s) c (uid_number (top_of h.path)) goes refl)
 
   abbrev Answer : ConfirmedReply → Effect
   Answer r = Send from (response (asked_by h) (Reply.Confirmed r))
 
   abbrev Goal : Served Naming ConfirmedReply → Type 0
-  Goal r = sends_answer from h (with_naming t r.part) r.outs (option_map Reply.Confirmed r.reply) ≡ Took v outs → Walks P e 1 outs (Up P 1 v) d M
+  Goal r = sends_answer from h (with_naming t r.part) r.outs (option_map Reply.Confirmed r.reply) ≡ Took v outs → Walks P e 1 outs (End v) d M
 
   entry_now : SeesEntry x d.names W.disk
   entry_now = sees.entry (record { number = 1; disk = d; live = Some t }) (node_here M 1 (record { number = 1; disk = d; live = Some t }))
@@ -425,20 +455,25 @@ module _ (x : ℕ) (tops : Kinds) (e : ℕ) (d : Disk) (t v : Parts) (n : Naming
   begun_now : W.disk.begun (uid_number top) ≡ true
   begun_now = (sees.whole.mail (mail.Confirm (uid_number top)) claims.asked).0
 
-  took : (o : Naming) (es : List Effect) (r : ConfirmedReply) → Walks P e 1 (es ++ Answer r ∷ []) (Up P 1 (with_naming t o)) d M → Goal (record { part = o; outs = es; reply = Some r })
-  took o es r walk is = took_is x 1 tops e (λ a b. Walks P e 1 b (Up P 1 a) d M) (with_naming t o) (es ++ Answer r ∷ []) v outs is walk
+  took : (o : Naming) (es : List Effect) (r : ConfirmedReply) → Walks P e 1 (es ++ Answer r ∷ []) (End (with_naming t o)) d M → Goal (record { part = o; outs = es; reply = Some r })
+  took o es r walk is = took_is x 1 tops e (λ a b. Walks P e 1 b (End a) d M) (with_naming t o) (es ++ Answer r ∷ []) v outs is walk
 
   -- an answer that claims nothing
-  refused : (r : ConfirmedReply) → (r ≡ confirmed.Yes → ⊥) → (o : Naming) → o.confirmed ≡ n.confirmed → (N : Seen) → SeesDisks x tops W (up 1 d t N) → Walks P e 1 (Answer r ∷ []) (Up P 1 (with_naming t o)) d N
-  refused r other o same N s = λ more quiet.
-      let p : Post = record { from = 1; to = from; message = response (asked_by h) (Reply.Confirmed r) } in (
-        W,
-        parts_seen x 1 tops W (said e more (posted p N)) d t (with_naming t o) refl
-            (λ f z is. let it : o ≡ z = (let j : ◌≡◌ {A = Option Naming} (Some o) (Some z) = is in cc j) in subst (λ (q : Naming). SeesConfirmed q W.disk) it (λ a on. f n named a (ap (λ us. is_on us a) (sym same) ∙ on)))
-            (says_seen x tops W (up 1 d t (posted p N)) (numbered e more) (posts_seen x tops W (up 1 d t N) p (claim r other) s)),
+  refused : (r : ConfirmedReply) → (r ≡ confirmed.Yes → ⊥) → (o : Naming) → o.confirmed ≡ n.confirmed → IsUnconfirmed h.path grants excluded included d.names n o → (N : Seen) → SeesDisks x Early W (up 1 d t N) → Walks P e 1 (Answer r ∷ []) (End (with_naming t o)) d N
+  refused r other o same left N s = λ more quiet.
+      let p : Post = record { from = 1; to = from; message = response (asked_by h) (Reply.Confirmed r) } in inl (
+        o,
+        refl,
+        left,
+        (
+          W,
+          parts_seen x 1 Early W (said e more (posted p N)) d t (with_naming t o) refl
+              (λ f z is. let it : o ≡ z = (let j : ◌≡◌ {A = Option Naming} (Some o) (Some z) = is in cc j) in subst (λ (q : Naming). SeesConfirmed q W.disk) it (λ a on. f n named a (ap (λ us. is_on us a) (sym same) ∙ on)))
+              (says_seen x Early W (up 1 d t (posted p N)) (numbered e more) (posts_seen x Early W (up 1 d t N) p (claim r other) s)),
+        ),
       )
     where
-      claim : (r : ConfirmedReply) → (r ≡ confirmed.Yes → ⊥) → Claims x tops W N.lines (record { from = 1; to = from; message = response (asked_by h) (Reply.Confirmed r) })
+      claim : (r : ConfirmedReply) → (r ≡ confirmed.Yes → ⊥) → Claims x Early W N.lines (record { from = 1; to = from; message = response (asked_by h) (Reply.Confirmed r) })
       claim confirmed.Yes other = absurd (other refl)
       claim (confirmed.Conflict holder m) other = tt
       claim (confirmed.Changed w) other = tt
@@ -446,24 +481,24 @@ module _ (x : ℕ) (tops : Kinds) (e : ℕ) (d : Disk) (t v : Parts) (n : Naming
       claim (confirmed.Listed y s) other = tt
 
   -- the top is taken: Yes
-  says_yes : (V : World) (o : Naming) → o.confirmed ≡ with_uid top n.confirmed → V.disk.begun (uid_number top) ≡ true → In (mail.Confirm (uid_number top)) V.sent → (undecided V.disk (uid_number top) ≡ true → (V.disk.conf (uid_number top) ≡ true) ⊎ (V.disk.light (uid_number top) ≡ true))
-      → (c : Disk) (N : Seen) → SeesDisks x tops V (up 1 c t N) → Walks P e 1 (Answer confirmed.Yes ∷ []) (Up P 1 (with_naming t o)) c N
-  says_yes V o with_top begun asked taken c N s = λ more quiet.
+  says_yes : (T : Kinds) (V : World) (o : Naming) → ((c : Disk) (N : Seen) → IsSeenByDisks x T (up 1 c (with_naming t o) N) → End (with_naming t o) c N) → o.confirmed ≡ with_uid top n.confirmed → V.disk.begun (uid_number top) ≡ true → In (mail.Confirm (uid_number top)) V.sent → (undecided V.disk (uid_number top) ≡ true → (V.disk.conf (uid_number top) ≡ true) ⊎ (V.disk.light (uid_number top) ≡ true))
+      → (c : Disk) (N : Seen) → SeesDisks x T V (up 1 c t N) → Walks P e 1 (Answer confirmed.Yes ∷ []) (End (with_naming t o)) c N
+  says_yes T V o to with_top begun asked taken c N s = λ more quiet.
       let m : mail.Message = mail.Confirmed (uid_number top) in
       let U : World = after V (machine.Send m) in
-      let p : Post = record { from = 1; to = from; message = response (asked_by h) (Reply.Confirmed confirmed.Yes) } in (
+      let p : Post = record { from = 1; to = from; message = response (asked_by h) (Reply.Confirmed confirmed.Yes) } in to c (said e more (posted p N)) (
         U,
-        parts_seen x 1 tops U (said e more (posted p N)) c t (with_naming t o) refl
+        parts_seen x 1 T U (said e more (posted p N)) c t (with_naming t o) refl
             (λ f z is. let it : o ≡ z = (let j : ◌≡◌ {A = Option Naming} (Some o) (Some z) = is in cc j) in subst (λ (q : Naming). SeesConfirmed q V.disk) it
             (λ a on. ⊎_elim (λ same. (ap (λ w. V.disk.begun (uid_number w)) same ∙ begun, subst (λ w. undecided V.disk (uid_number w) ≡ true → (V.disk.conf (uid_number w) ≡ true) ⊎ (V.disk.light (uid_number w) ≡ true)) (sym same) taken))
             (λ old. f n named a old) (on_with a top n.confirmed (ap (λ us. is_on us a) (sym with_top) ∙ on))))
-            (says_seen x tops U (up 1 c t (posted p N)) (numbered e more) (posts_seen x tops U (up 1 c t N) p (subst (λ w. In (mail.Confirmed (uid_number w)) U.sent) (sym own) (inl refl)) (sends_seen x tops V (up 1 c t N) m (asked, taken) s))),
+            (says_seen x T U (up 1 c t (posted p N)) (numbered e more) (posts_seen x T U (up 1 c t N) p (subst (λ w. In (mail.Confirmed (uid_number w)) U.sent) (sym own) (inl refl)) (sends_seen x T V (up 1 c t N) m (asked, taken) refl s))),
       )
 
   -- ---- answered again
 
-  again : (is_on n.confirmed top || is_prepared top d.names) ≡ true → Goal (reply (confirms top n) confirmed.Yes)
-  again on = took (confirms top n) [] confirmed.Yes (says_yes W (confirms top n) refl begun_now claims.asked (⊎_elim (λ c. (confirmed_now top c).1) (λ p. (prepared_is_taken x d.names W top entry_now p claims.asked).1) (or_cases (is_on n.confirmed top) (is_prepared top d.names) on)) d M sees)
+  again : (is_on n.confirmed top || is_prepared top d.names) ≡ true → is_over h.path n ≡ false → Goal (reply (confirms top n) confirmed.Yes)
+  again on untold = took (confirms top n) [] confirmed.Yes (says_yes Early W (confirms top n) (λ c N z. inl (confirms top n, refl, inr (inr (refl, on, untold)), z)) refl begun_now claims.asked (⊎_elim (λ c. (confirmed_now top c).1) (λ p. (prepared_is_taken x d.names W top entry_now p claims.asked).1) (or_cases (is_on n.confirmed top) (is_prepared top d.names) on)) d M early)
 
   -- ---- checked anew
 
@@ -487,56 +522,56 @@ module _ (x : ℕ) (tops : Kinds) (e : ℕ) (d : Disk) (t v : Parts) (n : Naming
     are_new_now = are_new x d.names W.disk entry_now included two.0
 
     -- the machine has confirmed it
-    confirmed_by : (c : Pair) (goes : ConfirmGoes x c (uid_number top) W) (N : Seen) → SeesDisks x tops (after W goes.effect) (up 1 (record d { names = c }) t N)
-        → Walks P e 1 (Answer confirmed.Yes ∷ []) (Up P 1 (with_naming t (confirms top Locks.part))) (record d { names = c }) N
-    confirmed_by c goes N s = says_yes (after W goes.effect) (confirms top Locks.part) (ap (λ us. with_uid top us) same_confirmed) (ap (λ (S : State). S.begun (uid_number top)) goes.rest ∙ begun_now) (subst (λ ms. In (mail.Confirm (uid_number top)) ms) (sym goes.sent) claims.asked)
+    confirmed_by : (c : Pair) (goes : ConfirmGoes x c (uid_number top) W) (N : Seen) → SeesDisks x (Late goes.effect) (after W goes.effect) (up 1 (record d { names = c }) t N)
+        → Walks P e 1 (Answer confirmed.Yes ∷ []) (End (with_naming t (confirms top Locks.part))) (record d { names = c }) N
+    confirmed_by c goes N s = says_yes (Late goes.effect) (after W goes.effect) (confirms top Locks.part) (λ b L z. inr (new, refl, (goes.effect, goes.which, goes.allowed, z))) (ap (λ us. with_uid top us) same_confirmed) (ap (λ (S : State). S.begun (uid_number top)) goes.rest ∙ begun_now) (subst (λ ms. In (mail.Confirm (uid_number top)) ms) (sym goes.sent) claims.asked)
         (λ u. goes.taken (sym (ap (λ (S : State). undecided S (uid_number top)) goes.rest) ∙ u)) (record d { names = c }) N s
 
     quiet : New_entries ≡ [] → Goal (confirm_entries top [] d.names Locks)
-    quiet empty = took (confirms top Locks.part) Locks.outs confirmed.Yes (say_walk x 1 tops e t (with_naming t (confirms top Locks.part)) Locks.outs (Answer confirmed.Yes ∷ []) d (after W goes.effect) locks_are (λ N s. confirmed_by d.names goes N s) M
-        (confirm_goes_seen x tops W M d t sees d.names (uid_number top) goes))
+    quiet empty = took (confirms top Locks.part) Locks.outs confirmed.Yes (says_walk P x 1 (Late goes.effect) e t (End (with_naming t (confirms top Locks.part))) Locks.outs (Answer confirmed.Yes ∷ []) d (after W goes.effect) locks_are (λ N s. confirmed_by d.names goes N s) M
+        (confirmed_seen d.names goes M early))
       where
         goes : ConfirmGoes x d.names (uid_number top) W
         goes = quiet_goes x d.names W top grants excluded included entry_now sees.whole.core claims begun_now are_new_now (booked new) new.unprepared empty
 
     looked : (ss : List ObjectState) (r : ConfirmedReply) → (r ≡ confirmed.Yes → ⊥) → Goal (record { part = Locks.part; outs = Locks.outs ++ Do Look ∷ []; reply = Some r })
-    looked ss r other = took Locks.part (Locks.outs ++ Do Look ∷ []) r (subst (λ es. Walks P e 1 es (Up P 1 (with_naming t Locks.part)) d M) (sym (append_assoc Locks.outs (Do Look ∷ []) (Answer r ∷ [])))
-        (say_walk x 1 tops e t (with_naming t Locks.part) Locks.outs (Do Look ∷ Answer r ∷ []) d W locks_are (λ N s. (stops N s, refused r other Locks.part same_confirmed N s)) M sees))
+    looked ss r other = took Locks.part (Locks.outs ++ Do Look ∷ []) r (subst (λ es. Walks P e 1 es (End (with_naming t Locks.part)) d M) (sym (append_assoc Locks.outs (Do Look ∷ []) (Answer r ∷ [])))
+        (says_walk P x 1 Early e t (End (with_naming t Locks.part)) Locks.outs (Do Look ∷ Answer r ∷ []) d W locks_are (λ N s. (stops N s, refused r other Locks.part same_confirmed (inr (inl (refl, new))) N s)) M early))
       where
-        stops : (N : Seen) → SeesDisks x tops W (up 1 d t N) → Stops P e 1 Look d N
-        stops N s Before = stops_seen x tops e 1 d (Some t) N (W, s)
-        stops N s After = stops_seen x tops e 1 d (Some t) N (W, s)
-        stops N s (InPart which) = stops_seen x tops e 1 d (Some t) N (W, s)
+        stops : (N : Seen) → SeesDisks x Early W (up 1 d t N) → Stops P e 1 Look d N
+        stops N s Before = inl (stops_seen x Early e 1 d (Some t) N (W, s))
+        stops N s After = inl (stops_seen x Early e 1 d (Some t) N (W, s))
+        stops N s (InPart which) = inl (stops_seen x Early e 1 d (Some t) N (W, s))
 
     readied : (ss : List ObjectState) → New_entries ≡ ss → prepare_answer top ss d.names ≡ Ready → Goal (prepared_by top ss Locks Ready)
     readied ss is ready = took (confirms top Locks.part) (Locks.outs ++ Do Look ∷ Do (Prepare role.Names top ss) ∷ Say (body.Prepared 1 top role.Names) ∷ []) confirmed.Yes
-        (subst (λ es. Walks P e 1 es (Up P 1 (with_naming t (confirms top Locks.part))) d M) (sym (append_assoc Locks.outs (Do Look ∷ Do (Prepare role.Names top ss) ∷ Say (body.Prepared 1 top role.Names) ∷ []) (Answer confirmed.Yes ∷ [])))
-        (say_walk x 1 tops e t (with_naming t (confirms top Locks.part)) Locks.outs (Do Look ∷ Do (Prepare role.Names top ss) ∷ Say (body.Prepared 1 top role.Names) ∷ Answer confirmed.Yes ∷ []) d W locks_are
+        (subst (λ es. Walks P e 1 es (End (with_naming t (confirms top Locks.part))) d M) (sym (append_assoc Locks.outs (Do Look ∷ Do (Prepare role.Names top ss) ∷ Say (body.Prepared 1 top role.Names) ∷ []) (Answer confirmed.Yes ∷ [])))
+        (says_walk P x 1 Early e t (End (with_naming t (confirms top Locks.part))) Locks.outs (Do Look ∷ Do (Prepare role.Names top ss) ∷ Say (body.Prepared 1 top role.Names) ∷ Answer confirmed.Yes ∷ []) d W locks_are
         (λ N s. (
           looks N s,
           (
             prepares N s,
             confirmed_by (pair_prepared top ss d.names) goes (said e (body.Prepared 1 top role.Names ∷ []) N)
-                (says_seen x tops (after W goes.effect) (up 1 (record d { names = pair_prepared top ss d.names }) t N) (numbered e (body.Prepared 1 top role.Names ∷ [])) (after_it N s)),
+                (says_seen x (Late goes.effect) (after W goes.effect) (up 1 (record d { names = pair_prepared top ss d.names }) t N) (numbered e (body.Prepared 1 top role.Names ∷ [])) (after_it N s)),
           ),
-        )) M sees))
+        )) M early))
       where
         goes : ConfirmGoes x (pair_prepared top ss d.names) (uid_number top) W
         goes = subst (λ qs. ConfirmGoes x (pair_prepared top qs d.names) (uid_number top) W) is
             (prepared_goes x d.names W top grants excluded included entry_now sees.whole.core claims begun_now are_new_now (booked new) new.unprepared (ap (λ qs. prepare_answer top qs d.names) is ∙ ready) two.1)
 
-        after_it : (N : Seen) → SeesDisks x tops W (up 1 d t N) → SeesDisks x tops (after W goes.effect) (up 1 (record d { names = pair_prepared top ss d.names }) t N)
-        after_it N s = confirm_goes_seen x tops W N d t s (pair_prepared top ss d.names) (uid_number top) goes
+        after_it : (N : Seen) → SeesDisks x Early W (up 1 d t N) → SeesDisks x (Late goes.effect) (after W goes.effect) (up 1 (record d { names = pair_prepared top ss d.names }) t N)
+        after_it N s = confirmed_seen (pair_prepared top ss d.names) goes N s
 
-        looks : (N : Seen) → SeesDisks x tops W (up 1 d t N) → Stops P e 1 Look d N
-        looks N s Before = stops_seen x tops e 1 d (Some t) N (W, s)
-        looks N s After = stops_seen x tops e 1 d (Some t) N (W, s)
-        looks N s (InPart which) = stops_seen x tops e 1 d (Some t) N (W, s)
+        looks : (N : Seen) → SeesDisks x Early W (up 1 d t N) → Stops P e 1 Look d N
+        looks N s Before = inl (stops_seen x Early e 1 d (Some t) N (W, s))
+        looks N s After = inl (stops_seen x Early e 1 d (Some t) N (W, s))
+        looks N s (InPart which) = inl (stops_seen x Early e 1 d (Some t) N (W, s))
 
-        prepares : (N : Seen) → SeesDisks x tops W (up 1 d t N) → Stops P e 1 (Prepare role.Names top ss) d N
-        prepares N s Before = stops_seen x tops e 1 d (Some t) N (W, s)
-        prepares N s After = stops_seen x tops e 1 (record d { names = pair_prepared top ss d.names }) (Some t) N (after W goes.effect, after_it N s)
-        prepares N s (InPart which) = stops_seen x tops e 1 d (Some t) N (W, s)
+        prepares : (N : Seen) → SeesDisks x Early W (up 1 d t N) → Stops P e 1 (Prepare role.Names top ss) d N
+        prepares N s Before = inl (stops_seen x Early e 1 d (Some t) N (W, s))
+        prepares N s After = inr (new, (goes.effect, goes.which, goes.allowed, stops_seen x (Late goes.effect) e 1 (record d { names = pair_prepared top ss d.names }) (Some t) N (after W goes.effect, after_it N s)))
+        prepares N s (InPart which) = inl (stops_seen x Early e 1 d (Some t) N (W, s))
 
     by_answer : (ss : List ObjectState) → New_entries ≡ ss → (a : Prep) → prepare_answer top ss d.names ≡ a → Goal (prepared_by top ss Locks a)
     by_answer ss is Ready a = readied ss is a
@@ -551,21 +586,41 @@ module _ (x : ℕ) (tops : Kinds) (e : ℕ) (d : Disk) (t v : Parts) (n : Naming
   -- ---- the whole
 
   by_checks : is_over h.path n ≡ false → has_all grants n ≡ true → is_on n.confirmed top ≡ false → is_prepared top d.names ≡ false → (o : Option ConfirmedReply) → checked h.path grants excluded included d.names n ≡ o → Goal (confirm_new h.path grants excluded included d.names n o)
-  by_checks untold has_each off unprepared (Some r) is = took n [] r (refused r (λ same. checks_refuse h.path grants excluded included d.names n (is ∙ ap Some same)) n refl M sees)
+  by_checks untold has_each off unprepared (Some r) is = took n [] r (refused r (λ same. checks_refuse h.path grants excluded included d.names n (is ∙ ap Some same)) n refl (inl refl) M early)
   by_checks untold has_each off unprepared None is = by_entries (record { untold = untold; named = has_each; unconfirmed = off; unprepared = unprepared; free = is }) (entries_after top grants excluded included d.names) refl
 
   by_all : (a b c f : Bool) → is_over h.path n ≡ a → has_all grants n ≡ b → is_on n.confirmed top ≡ c → is_prepared top d.names ≡ f
       → Goal (if a || not b then void n else (if c || f then reply (confirms top n) confirmed.Yes else confirm_new h.path grants excluded included d.names n (checked h.path grants excluded included d.names n)))
   by_all true b c f is_a is_b is_c is_f = λ is. absurd (cc is)
   by_all false false c f is_a is_b is_c is_f = λ is. absurd (cc is)
-  by_all false true true f is_a is_b is_c is_f = again (or_left (is_on n.confirmed top) (is_prepared top d.names) is_c)
-  by_all false true false true is_a is_b is_c is_f = again (or_right (is_on n.confirmed top) (is_prepared top d.names) is_f)
+  by_all false true true f is_a is_b is_c is_f = again (or_left (is_on n.confirmed top) (is_prepared top d.names) is_c) is_a
+  by_all false true false true is_a is_b is_c is_f = again (or_right (is_on n.confirmed top) (is_prepared top d.names) is_f) is_a
   by_all false true false false is_a is_b is_c is_f = by_checks is_a is_b is_c is_f (checked h.path grants excluded included d.names n) refl
 
   pub confirm_walks : Goal (confirm h.path grants excluded included d.names n)
   confirm_walks = by_all (is_over h.path n) (has_all grants n) (is_on n.confirmed top) (is_prepared top d.names) refl refl refl refl
 
-pub confirms_are_walked : ConfirmsAreWalked
-confirms_are_walked x tops e d t v n from h grants excluded included outs M named W sees claims booked is =
+pub confirms_walk_once : ConfirmsWalkOnce
+confirms_walk_once x tops e d t v n from h grants excluded included outs M named W sees claims booked is =
     confirm_walks x tops e d t v n from h grants excluded included outs M named W sees claims.0 claims.1 booked
     (sym (ap (λ o. if_naming (λ z. served from h (with_naming t) Reply.Confirmed (confirm h.path grants excluded included d.names z)) o) named) ∙ is)
+
+pub confirms_are_walked : ConfirmsAreWalked
+confirms_are_walked x tops e d t v n from h grants excluded included outs M named noted W sees claims booked is =
+    walks_to (λ N. IsSeenByDisks x (followed tops W (λ n. false)) N ⊎ (IsNewConfirm h.path grants excluded included d.names n × IsConfirmedNow x tops (uid_number (top_of h.path)) W N)) (IsSeenByDisks x tops) e 1 outs
+    (End x tops e d t v n from h grants excluded included outs M named W sees claims.0 claims.1 booked v) (Up (IsSeenByDisks x tops) 1 v) d M
+    (λ N s. ⊎_elim (λ early. before N early) (λ late. behind N late.1) s)
+    (λ c N s. ⊎_elim (λ early. before (up 1 c v N) early.3) (λ late. behind (up 1 c v N) late.2) s)
+    (confirms_walk_once x tops e d t v n from h grants excluded included outs M named W sees claims booked is)
+  where
+    before : (N : Seen) → IsSeenByDisks x (followed tops W (λ n. false)) N → IsSeenByDisks x tops N
+    before N (U, s) = (U, walks_are_followed x (followed tops W (λ n. false)) tops.walk U N (along_then tops.walk W U sees.along s.along) s)
+
+    may : (f : machine.Effect) → IsConfirmation (uid_number (top_of h.path)) f → is_only_of (may_note tops.walk) f ≡ true
+    may f (inl is) = subst (λ z. is_only_of (may_note tops.walk) z ≡ true) (sym is) noted
+    may f (inr (inl is)) = subst (λ z. is_only_of (may_note tops.walk) z ≡ true) (sym is) noted
+    may f (inr (inr is)) = subst (λ z. is_only_of (may_note tops.walk) z ≡ true) (sym is) noted
+
+    behind : (N : Seen) → IsConfirmedNow x tops (uid_number (top_of h.path)) W N → IsSeenByDisks x tops N
+    behind N (f, which, allowed, (U, s)) =
+        (U, walks_are_followed x (followed tops (after W f) (λ n. false)) tops.walk U N (along_then tops.walk (after W f) U (along_goes tops.walk W (f ∷ []) (allowed, tt) (may f which, tt) sees.along) s.along) s)

@@ -34,7 +34,7 @@ use Rattle.arj_disk_view_law.specs.Asking.{SeesConfirming}
 use Rattle.arj_disk_view_law.specs.Deciding.{SeesRecords, Stills}
 use Rattle.arj_disk_view_law.specs.Pairs.{Among}
 use Rattle.arj_disk_view_law.specs.Plans.{plan_at}
-use Rattle.arj_disk_view_law.specs.Sees.{IsOneChange, Kinds, SeesDisks, SeesCoord, SeesNotes, IsSettled, KnowsRoot, KnowsNow, IsLater, is_awaited_by, IsSeenByDisks, Works, WorksBy, WaitsForNaming, ConfirmedIsHeard}
+use Rattle.arj_disk_view_law.specs.Sees.{may_note, IsOneChange, Kinds, SeesDisks, SeesCoord, SeesNotes, IsSettled, KnowsRoot, KnowsNow, IsLater, is_awaited_by, IsSeenByDisks, Works, WorksBy, WaitsForNaming, ConfirmedIsHeard}
 use Rattle.arj_disk_view_law.proofs.DecidedCoord.{decided_tree, decided_doings, decided_tellings, decided_telling, decided_doing, decided_roots}
 use Rattle.arj_disk_view_law.proofs.DecidingSteps.{takes_part, record_is_written, decision_is_made, commits_are_undecided, bare_commit_ends, decision_tells}
 use Rattle.arj_disk_view_law.proofs.Ended.{HasEnded, ended_coord, ended_noted, calm_seen}
@@ -46,6 +46,7 @@ use Rattle.arj_disk_view_law.proofs.Later.{effects_are_later}
 use Rattle.arj_disk_view_law.proofs.Notes.{notes_later}
 use Rattle.arj_disk_view_law.proofs.Planned.{has_same}
 use Rattle.arj_disk_view_law.proofs.TopFrames.{branch_at, apart_number}
+use Rattle.arj_disk_law.specs.Guards.{Decides}
 
 -- an open top that waits for naming
 pub confirming_of : (x : ℕ) (tops : Kinds) (S : State) (t : ℕ) (k : Kind) (now : Now) (p : commit.Plan) → tops.is_top t ≡ true → now ≡ Committing (Confirming p) → Works x tops S t k now → SeesConfirming x S t p
@@ -127,13 +128,13 @@ module _ (x : ℕ) (tops : Kinds) (e k : ℕ) (d : Disk) (v : Parts) (u root : U
           let U : World = after V (machine.Send m) in
           let q : Post = record { from = k; to = n; message = message.Told (record { root = root; ack = has_record p; ends = (u, ending.Commit) ∷ [] }) } in
           ih (said e more (posted q N)) U (record { done = r.done; there = r.there }) (says_seen x tops U (up k d v (posted q N)) (numbered e more)
-          (posts_seen x tops U (up k d v N) q (inl (inl (inl refl)), λ a. inl refl) (sends_seen x tops V (up k d v N) m r.done s)))
+          (posts_seen x tops U (up k d v N) q (inl (inl (inl refl)), λ a. inl refl) (sends_seen x tops V (up k d v N) m r.done refl s)))
       by false is ih = λ more quiet.
           let m : mail.Message = mail.ToldAbort (uid_number u) n in
           let U : World = after V (machine.Send m) in
           let q : Post = record { from = k; to = n; message = message.Told (record { root = root; ack = false; ends = (u, ending.Abort) ∷ [] }) } in
           ih (said e more (posted q N)) U (record { done = r.done; there = r.there }) (says_seen x tops U (up k d v (posted q N)) (numbered e more)
-          (posts_seen x tops U (up k d v N) q (inl (top, inl (inl refl)), λ a. absurd (cc a)) (sends_seen x tops V (up k d v N) m ((decision_tells V u n (participants p) s.whole.core r.done r.there).1 is) s)))
+          (posts_seen x tops U (up k d v N) q (inl (top, inl (inl refl)), λ a. absurd (cc a)) (sends_seen x tops V (up k d v N) m ((decision_tells V u n (participants p) s.whole.core r.done r.there).1 is) refl s)))
 
   -- without one
   bare_told : has_record p ≡ false → p.confirmed ≡ true → (ns : List ℕ) (N : Seen) (V : World) → V.disk.bare (uid_number u) ≡ true → SeesDisks x tops V (up k d v N) → Walks P e k (map (decided_told root u p) ns) (Up P k v) d N
@@ -155,7 +156,7 @@ module _ (x : ℕ) (tops : Kinds) (e k : ℕ) (d : Disk) (v : Parts) (u root : U
 
 -- ---- the decision
 
-module _ (x : ℕ) (tops : Kinds) (e k : ℕ) (d : Disk) (t : Parts) (act : Uid) (p0 : commit.Plan) (M : Seen) (waits : WaitsForNaming t d.intents act p0) (top : tops.is_top (uid_number act) ≡ true) (W : World) (sees : SeesDisks x tops W (up k d t M))
+module _ (x : ℕ) (tops : Kinds) (e k : ℕ) (d : Disk) (t : Parts) (act : Uid) (p0 : commit.Plan) (M : Seen) (waits : WaitsForNaming t d.intents act p0) (top : tops.is_top (uid_number act) ≡ true) (note : may_note tops.walk (Decides (uid_number act)) ≡ true) (W : World) (sees : SeesDisks x tops W (up k d t M))
     (answered : In (mail.Confirmed (uid_number act)) W.sent) where
   abbrev Q : Seen → Type 0
   Q = IsSeenByDisks x tops
@@ -260,7 +261,7 @@ module _ (x : ℕ) (tops : Kinds) (e k : ℕ) (d : Disk) (t : Parts) (act : Uid)
       notes1 = put_noted x LaterWorld d.intents t.coord act i0 open_here (notes_later x W LaterWorld (effects_are_later W (machine.Intend (uid_number act) (participants p) ∷ []) (written.0, tt) sees.whole) d.intents t.coord notes)
 
       s1 : SeesDisks x tops LaterWorld (up k d1 t M)
-      s1 = calm_seen x k tops W M d t act (machine.Intend (uid_number act) (participants p)) (put_uid act i0 d.intents) t.coord sees here written.0 written.1 refl (λ w other. refl) (λ w other. refl) written.2
+      s1 = calm_seen x k tops W M d t act (machine.Intend (uid_number act) (participants p)) (put_uid act i0 d.intents) t.coord sees here written.0 refl written.1 refl (λ w other. refl) (λ w other. refl) written.2
           (λ m n apart s. records_apart LaterWorld.disk (Some (participants p)) refl m n apart s) mine1 notes1
 
       made : Allowed LaterWorld (machine.Decide (uid_number act)) × Stills LaterWorld (machine.Decide (uid_number act)) × SeesRecords k (put_uid act i0 d.intents) (after LaterWorld (machine.Decide (uid_number act))).disk
@@ -276,7 +277,7 @@ module _ (x : ℕ) (tops : Kinds) (e k : ℕ) (d : Disk) (t : Parts) (act : Uid)
       told = record { done = ap (λ b. b || disk.decided LaterWorld.disk (uid_number act)) (test_same (uid_number act)); there = put_same (uid_number act) (Some (participants p)) W.disk.intent }
 
       s2 : SeesDisks x tops LastWorld (up k d1 (with_coord t C) M)
-      s2 = calm_seen x k tops LaterWorld M d1 t act (machine.Decide (uid_number act)) (put_uid act i0 d.intents) C s1 here made.0 made.1 refl stages (λ w other. refl) made.2
+      s2 = calm_seen x k tops LaterWorld M d1 t act (machine.Decide (uid_number act)) (put_uid act i0 d.intents) C s1 here made.0 note made.1 refl stages (λ w other. refl) made.2
           (λ m n apart s. record { sorted = s.sorted; own = s.own; is = s.is })
           (ended_coord x k d.inc tops t.coord C LaterWorld.disk LastWorld.disk act waits.branch ending.Commit mine1 waits.found has_ended doings_stay stages refl refl refl (ap is_gone (put_same (uid_number act) disk.Gone LaterWorld.disk.stage)) (λ w other. refl) (λ bare r is. absurd (not_bare bare)))
           (ended_noted x (put_uid act i0 d.intents) t.coord C LastWorld act waits.branch ending.Commit (notes_later x LaterWorld LastWorld (effects_are_later LaterWorld (machine.Decide (uid_number act) ∷ []) ((made.0.0, made.0.1), tt) s1.whole) (put_uid act i0 d.intents) t.coord notes1) waits.found has_ended tellings_stay doings_stay
@@ -316,7 +317,7 @@ module _ (x : ℕ) (tops : Kinds) (e k : ℕ) (d : Disk) (t : Parts) (act : Uid)
           ⊎_elim (λ conf. let one = writers_have_targets W.disk (uid_number act) sees.whole.core conf open_yet (ap is_some written) in never one.1 (ends.0.untouched one.0)) (λ light. never_some written (sees.whole.core.light.plain (uid_number act) light)) taken
 
       s1 : SeesDisks x tops LaterWorld (up k d (with_coord t C) M)
-      s1 = calm_seen x k tops W M d t act (machine.EndBare (uid_number act)) d.intents C sees here ends.0 ends.1 refl stages bares ends.2
+      s1 = calm_seen x k tops W M d t act (machine.EndBare (uid_number act)) d.intents C sees here ends.0 note ends.1 refl stages bares ends.2
           (λ m n apart s. record { sorted = s.sorted; own = s.own; is = s.is })
           (ended_coord x k d.inc tops t.coord C W.disk LaterWorld.disk act waits.branch ending.Commit mine waits.found has_ended doings_stay stages refl refl refl (ap is_gone (put_same (uid_number act) disk.Gone W.disk.stage)) bares (λ bare r is. (refl, ap (λ (z : Doing). order.has z.took naming) (sym (some_is doing_now is)) ∙ naming_takes_part p refl)))
           (ended_noted x d.intents t.coord C LaterWorld act waits.branch ending.Commit (notes_later x W LaterWorld later d.intents t.coord notes) waits.found has_ended tellings_stay doings_stay (λ i there. absurd (never_some there waits.unrecorded))
@@ -333,9 +334,9 @@ abbrev sure : commit.Plan → commit.Plan
 sure p = record p { confirmed = true }
 
 pub confirmed_is_heard : ConfirmedIsHeard
-confirmed_is_heard x tops e k d t from act p1 M waits top W sees claims =
+confirmed_is_heard x tops e k d t from act p1 M waits top note W sees claims =
     subst (λ a. Walks (IsSeenByDisks x tops) e k ((record_work a (sure p1) ++ says a body.Committed t.coord) ++ map (decided_told (root_of p1.path) a (sure p1)) p1.sent) (Up (IsSeenByDisks x tops) k (with_coord t (decided a (sure p1) t.coord))) d M)
     (sym waits.path)
     (subst (λ es. Walks (IsSeenByDisks x tops) e k es (Up (IsSeenByDisks x tops) k (with_coord t (decided act (sure p1) t.coord))) d M)
     (sym (append_assoc (record_work act (sure p1)) (says act body.Committed t.coord) (map (decided_told (root_of p1.path) act (sure p1)) p1.sent)))
-    (decides_walk x tops e k d t act p1 M waits top W sees claims))
+    (decides_walk x tops e k d t act p1 M waits top note W sees claims))

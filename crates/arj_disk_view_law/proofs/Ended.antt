@@ -26,12 +26,14 @@ use Rattle.arj_view_law.proofs.Happens.{place_same}
 use Rattle.arj_disk_view_law.specs.Deciding.{SeesRecords, IsCalm}
 use Rattle.arj_disk_view_law.specs.Entries.{SeesEntry}
 use Rattle.arj_disk_view_law.specs.Stores.{SeesStore}
-use Rattle.arj_disk_view_law.specs.Sees.{Kinds, IsFuture, IsNamedCommit, SeesDisks, SeesCoord, SeesNotes, IsSettled, KnowsNow, KnowsRoot, is_awaited_by, IsLater, SeesDown, SeesConfirmed, Works}
+use Rattle.arj_disk_view_law.specs.Sees.{may_note, Kinds, IsFuture, IsNamedCommit, SeesDisks, SeesCoord, SeesNotes, IsSettled, KnowsNow, KnowsRoot, is_awaited_by, IsLater, SeesDown, SeesConfirmed, Works}
 use Rattle.arj_disk_view_law.proofs.DecidingSteps.{stores_stay_calm, entry_stays_calm}
 use Rattle.arj_disk_view_law.proofs.Frames.{nodes_to, works_same, claim_here}
 use Rattle.arj_disk_view_law.proofs.Later.{effects_are_later}
 use Rattle.arj_disk_view_law.proofs.Notes.{fixed_later, notes_later}
 use Rattle.arj_disk_view_law.proofs.TopFrames.{branch_at, not_future}
+use Rattle.arj_disk_law.specs.Guards.{is_only_of}
+use Rattle.arj_disk_view_law.proofs.Along.{along_goes}
 
 -- ---- the tree
 
@@ -162,12 +164,13 @@ ended_noted x intents c C W u b how s found ended tellings doings mine own roots
 -- ---- effects that open nothing
 
 -- The stage of one action may change, and the records of its node; the node's coordinator becomes another one.
-pub calm_seen : (x k : ℕ) (tops : Kinds) (W : World) (M : Seen) (d : Disk) (t : Parts) (u : Uid) (eff : machine.Effect) (intents : List (Uid × Intent)) (c : Coord) → SeesDisks x tops W (up k d t M) → u.node ≡ k → Allowed W eff
+pub calm_seen : (x k : ℕ) (tops : Kinds) (W : World) (M : Seen) (d : Disk) (t : Parts) (u : Uid) (eff : machine.Effect) (intents : List (Uid × Intent)) (c : Coord) → SeesDisks x tops W (up k d t M) → u.node ≡ k → Allowed W eff → is_only_of (may_note tops.walk) eff ≡ true
     → IsCalm W (after W eff) → (after W eff).disk.got ≡ W.disk.got → ((w : Uid) → w ≢ u → (after W eff).disk.stage (uid_number w) ≡ W.disk.stage (uid_number w))
     → ((w : Uid) → w ≢ u → (after W eff).disk.bare (uid_number w) ≡ W.disk.bare (uid_number w)) → SeesRecords k intents (after W eff).disk → ((m : ℕ) (n : Node) → (m == k) ≡ false → SeesRecords m n.disk.intents W.disk → SeesRecords m n.disk.intents (after W eff).disk)
     → SeesCoord x k d.inc tops c (after W eff).disk → SeesNotes x intents c (after W eff) → SeesDisks x tops (after W eff) (up k (record d { intents = intents }) (with_coord t c) M)
-calm_seen x k tops W M d t u eff intents c s here allowed calm got stages bares records others coord noted = record {
+calm_seen x k tops W M d t u eff intents c s here allowed only calm got stages bares records others coord noted = record {
   whole = effect_keeps W eff allowed s.whole;
+  along = along_goes tops.walk W (eff ∷ []) (allowed, tt) (only, tt) s.along;
   fixed = fixed_later tops W (after W eff) later s.fixed;
   kinds = λ z b. let r = s.kinds z (ap (λ f. f z) (sym begun) ∙ b) in (r.0, ap (λ (S : State). S.serial z) calm.rest ∙ r.1);
   stores = to (λ m n. SeesStore x m n.disk.store W.disk) (λ m n. SeesStore x m n.disk.store V.disk) s.stores (λ h. stores_stay_calm x k d.store W V calm h) (λ m n e h. stores_stay_calm x m n.disk.store W V calm h);

@@ -62,7 +62,7 @@ module _ (c : Coord) (u : Uid) (b : Branch) (q : Doing) (how : End) (found : bra
 
   -- the machine lets it go
   pub one_halts : (x k : ℕ) (tops : Kinds) (W : World) (M : Seen) (d : Disk) (t : Parts) → at_uid u d.intents ≡ None → (W.disk.bare (uid_number u) ≡ true → ⊥) → SeesDisks x tops W (up k d (with_coord t c) M) → SeesDisks x tops (after W (machine.Halt (uid_number u))) (up k d (with_coord t (ended u how c)) M)
-  one_halts x k tops W M d t none whole s = calm_seen x k tops W M d (with_coord t c) u (machine.Halt (uid_number u)) d.intents (ended u how c) s here tt halts.0 refl stages (λ w other. refl) halts.1 (λ m n apart r. record { sorted = r.sorted; own = r.own; is = r.is })
+  one_halts x k tops W M d t none whole s = calm_seen x k tops W M d (with_coord t c) u (machine.Halt (uid_number u)) d.intents (ended u how c) s here tt refl halts.0 refl stages (λ w other. refl) halts.1 (λ m n apart r. record { sorted = r.sorted; own = r.own; is = r.is })
       (ended_coord x k d.inc tops c (ended u how c) W.disk V.disk u b how mine found one_tree one_doings stages refl refl refl (ap is_gone (put_same (uid_number u) disk.Gone W.disk.stage)) (λ w other. refl) (λ bare r is. absurd (whole bare)))
       (one_noted x d.intents V none (notes_later x W V (effects_are_later W (machine.Halt (uid_number u) ∷ []) (tt, tt) s.whole) d.intents c (s.notes k (record { number = k; disk = d; live = Some (with_coord t c) }) (with_coord t c) (node_here M k (record { number = k; disk = d; live = Some (with_coord t c) })) refl)))
     where

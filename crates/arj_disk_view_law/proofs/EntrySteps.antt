@@ -25,7 +25,7 @@ module _ (x : ℕ) (d : Pair) (W : World) (sees : SeesEntry x d W.disk) where
 
   -- nothing is done
   rests : (c : Pair) → SeesEntry x c W.disk → EntryGoes x c W
-  rests c seen = record { effects = []; allowed = tt; there = seen; only = record { rest = refl; sent = refl } }
+  rests c seen = record { effects = []; allowed = tt; plain = tt; there = seen; only = record { rest = refl; sent = refl } }
 
   -- what is left prepared is as it was
   left : (a : Uid) (c : Pair) (V : State) → c.pend ≡ without_uid a d.pend → V.begun ≡ W.disk.begun → V.plan ≡ W.disk.plan → ((t : ℕ) → undecided V t ≡ undecided W.disk t) → V.conf ≡ W.disk.conf → V.light ≡ W.disk.light
@@ -64,6 +64,7 @@ module _ (x : ℕ) (d : Pair) (W : World) (sees : SeesEntry x d W.disk) where
           let mine : In (mail.ToldCommit h.top naming) W.sent = subst (λ k. In (mail.ToldCommit k naming) W.sent) (sym f.2) told in
           record {
             effects = MoveEntry h ∷ FinishEntry h ∷ [];
+            plain = (refl, (refl, tt));
             allowed = ((f.1, mine), ((f.1, mine, refl), tt));
             there = left a (pair_committed a d) (run W (MoveEntry h ∷ FinishEntry h ∷ [])).disk refl refl refl (λ t. refl) refl refl (commits_own packed_entry (entry x) d (Some W.disk.entry) W.disk.entry_pend sees.pair a q.0 h q.1 f.1 f.2);
             only = record { rest = refl; sent = refl };
@@ -95,6 +96,7 @@ module _ (x : ℕ) (d : Pair) (W : World) (sees : SeesEntry x d W.disk) where
           let h : Hold = f.0 in
           record {
             effects = MoveEntry h ∷ [];
+            plain = (refl, tt);
             allowed = ((f.1, subst (λ k. In (mail.ToldCommit k naming) W.sent) (sym f.2) told), tt);
             there = same (after W (MoveEntry h)).disk refl refl (λ t. refl) refl refl (parts_own packed_entry (entry x) d (Some W.disk.entry) W.disk.entry_pend sees.pair which a q.0 h q.1 f.1 f.2 passes);
             only = record { rest = refl; sent = refl };
@@ -107,6 +109,7 @@ module _ (x : ℕ) (d : Pair) (W : World) (sees : SeesEntry x d W.disk) where
       by (inr other) = rests (pair_aborted a d) (left a (pair_aborted a d) W.disk refl refl refl (λ t. refl) refl refl (aborts_other packed_entry (entry x) d (Some W.disk.entry) W.disk.entry_pend sees.pair a other))
       by (inl f) = record {
         effects = DropEntry f.0 ∷ [];
+        plain = (refl, tt);
         allowed = ((f.1, subst (λ k. In (mail.ToldAbort k naming) W.sent) (sym f.2) told), tt);
         there = left a (pair_aborted a d) (after W (DropEntry f.0)).disk refl refl refl (λ t. refl) refl refl (aborts_own packed_entry (entry x) d (Some W.disk.entry) W.disk.entry_pend sees.pair a f.0 f.1 f.2);
         only = record { rest = refl; sent = refl };
@@ -119,6 +122,7 @@ module _ (x : ℕ) (d : Pair) (W : World) (sees : SeesEntry x d W.disk) where
       by (inr other) = rests (pair_aborted a d) (left a (pair_aborted a d) W.disk refl refl refl (λ t. refl) refl refl (aborts_other packed_entry (entry x) d (Some W.disk.entry) W.disk.entry_pend sees.pair a other))
       by (inl f) = record {
         effects = Forget r f.0 ∷ [];
+        plain = (refl, tt);
         allowed = ((f.1, told, ap (λ k. W.disk.root k) f.2 ∙ of_root), tt);
         there = left a (pair_aborted a d) (after W (Forget r f.0)).disk refl refl refl (λ t. refl) refl refl (aborts_own packed_entry (entry x) d (Some W.disk.entry) W.disk.entry_pend sees.pair a f.0 f.1 f.2);
         only = record { rest = refl; sent = refl };

@@ -25,7 +25,7 @@ use Rattle.arj_disk_view_law.specs.Deciding.{SeesRecords}
 use Rattle.arj_disk_view_law.specs.Entries.{SeesEntry}
 use Rattle.arj_disk_view_law.specs.Formats.{IsLine, HasObject, FormatsAreSeen}
 use Rattle.arj_disk_view_law.specs.Pairs.{Among, packed, packed_entry}
-use Rattle.arj_disk_view_law.specs.Sees.{Kinds, SeesDisks, SeesCoord, SeesNotes, SeesConfirmed}
+use Rattle.arj_disk_view_law.specs.Sees.{IsAlong, Kinds, SeesDisks, SeesCoord, SeesNotes, SeesConfirmed}
 use Rattle.arj_disk_view_law.specs.Stores.{SeesStore}
 use Rattle.arj_disk_view_law.proofs.Keys as keys
 use Rattle.arj_disk_view_law.proofs.Planned.{has_same}
@@ -133,7 +133,7 @@ module _ (hd : Header) (x : ℕ) (tops : Kinds) (has_it : HasObject hd x) where
   abbrev no_plan : Plan
   no_plan = record { writes = None; list = []; joins = []; loaded = packed (first_state has_it.line) }
 
-  abbrev S : State
+  abbrev pub S : State
   S = record {
     first = packed (first_state has_it.line);
     first_entry = record { version = 0; writer = uid_number nobody; content = line.stores };
@@ -155,7 +155,7 @@ module _ (hd : Header) (x : ℕ) (tops : Kinds) (has_it : HasObject hd x) where
     light = λ t. false;
   }
 
-  first_is : IsFirst S
+  pub first_is : IsFirst S
   first_is = record {
     idle = λ t. refl;
     unbegun = λ t. refl;
@@ -178,7 +178,7 @@ module _ (hd : Header) (x : ℕ) (tops : Kinds) (has_it : HasObject hd x) where
       other true g is = some_is refl is
       other false g is = absurd (cc is)
 
-  abbrev W : World
+  abbrev pub W : World
   W = record { disk = S; sent = [] }
 
   -- ---- the pairs
@@ -221,7 +221,7 @@ module _ (hd : Header) (x : ℕ) (tops : Kinds) (has_it : HasObject hd x) where
       (λ q among of. let f = from_lines first_entry hd.objects q among in sym f.2 ∙ ap first_entry (has_it.once f.0 f.1 (ap (λ (u : Uid). u.num) (ap (λ (r : ObjectState). r.uid) f.2 ∙ of))))
       (inl (to_states first_entry hd.objects has_it.line has_it.there))
 
-  entry_seen : SeesEntry x (first_disk hd 1).names S
+  pub entry_seen : SeesEntry x (first_disk hd 1).names S
   entry_seen = record {
     pair = record {
       sorted = tt;
@@ -287,9 +287,10 @@ module _ (hd : Header) (x : ℕ) (tops : Kinds) (has_it : HasObject hd x) where
   each : (Q : ℕ → Node → Type 0) → ((k : ℕ) → Q k (first_node hd k)) → (k : ℕ) (n : Node) → at_place k (map (first_node hd) (numbers_to hd.nodes)) ≡ Some n → Q k n
   each Q first k n is = subst (Q k) (first_at hd k n is) (first k)
 
-  pub format_seen : SeesDisks x tops W (see [] (format hd))
-  format_seen = record {
+  pub format_seen : tops.walk ≡ None → SeesDisks x tops W (see [] (format hd))
+  format_seen unwalked = record {
     whole = first_is_whole S first_is;
+    along = subst (λ o. IsAlong o W) (sym unwalked) tt;
     fixed = record { root = refl; serial = refl };
     kinds = λ t began. absurd (cc began);
     stores = each (λ s n. SeesStore x s n.disk.store S) store_seen;
@@ -305,4 +306,4 @@ module _ (hd : Header) (x : ℕ) (tops : Kinds) (has_it : HasObject hd x) where
   }
 
 pub formats_are_seen : FormatsAreSeen
-formats_are_seen hd x tops has_it = (W hd x tops has_it, format_seen hd x tops has_it)
+formats_are_seen hd x tops unwalked has_it = (W hd x tops has_it, format_seen hd x tops has_it unwalked)

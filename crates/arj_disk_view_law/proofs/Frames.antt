@@ -21,11 +21,13 @@ use Rattle.arj_view_law.specs.Seen.{Post, Seen, at, up, down, with_node, posted,
 use Rattle.arj_disk_view_law.specs.Deciding.{SeesRecords}
 use Rattle.arj_disk_view_law.specs.Entries.{SeesEntry}
 use Rattle.arj_disk_view_law.specs.Stores.{SeesStore, StoreGoes}
-use Rattle.arj_disk_view_law.specs.Sees.{Kinds, Claims, IsLater, SeesDisks, SeesCoord, SeesNotes, SeesDown, SeesConfirmed, Works, WorksBy}
+use Rattle.arj_disk_view_law.specs.Sees.{may_note, Kinds, Claims, IsLater, SeesDisks, SeesCoord, SeesNotes, SeesDown, SeesConfirmed, Works, WorksBy}
 use Rattle.arj_disk_view_law.proofs.EntrySteps.{entry_by_store}
 use Rattle.arj_disk_view_law.proofs.Later.{effects_are_later, later_same, claims_stay}
 use Rattle.arj_disk_view_law.proofs.Notes.{fixed_later, notes_later}
 use Rattle.arj_disk_view_law.proofs.StoreSteps.{other_stores_stay}
+use Rattle.arj_disk_law.specs.Guards.{tells_only_of}
+use Rattle.arj_disk_view_law.proofs.Along.{along_goes, plain_only}
 
 -- ---- nodes
 
@@ -93,6 +95,7 @@ claim_here x tops W V lines p whole later c = subst (λ ls. Claims x tops V ls p
 pub says_seen : (x : ℕ) (tops : Kinds) (W : World) (M : Seen) (more : List Line) → SeesDisks x tops W M → SeesDisks x tops W (record M { lines = M.lines ++ more })
 says_seen x tops W M more s = record {
   whole = s.whole;
+  along = s.along;
   fixed = s.fixed;
   kinds = s.kinds;
   stores = s.stores;
@@ -109,6 +112,7 @@ says_seen x tops W M more s = record {
 pub posts_seen : (x : ℕ) (tops : Kinds) (W : World) (M : Seen) (p : Post) → Claims x tops W M.lines p → SeesDisks x tops W M → SeesDisks x tops W (posted p M)
 posts_seen x tops W M p claim s = record {
   whole = s.whole;
+  along = s.along;
   fixed = s.fixed;
   kinds = s.kinds;
   stores = s.stores;
@@ -122,9 +126,10 @@ posts_seen x tops W M p claim s = record {
 }
 
 -- the machine sends one
-pub sends_seen : (x : ℕ) (tops : Kinds) (W : World) (M : Seen) (m : mail.Message) → MaySend W m → SeesDisks x tops W M → SeesDisks x tops (after W (Effects.Send m)) M
-sends_seen x tops W M m may s = record {
+pub sends_seen : (x : ℕ) (tops : Kinds) (W : World) (M : Seen) (m : mail.Message) → MaySend W m → tells_only_of (may_note tops.walk) m ≡ true → SeesDisks x tops W M → SeesDisks x tops (after W (Effects.Send m)) M
+sends_seen x tops W M m may only s = record {
   whole = effect_keeps W (Effects.Send m) may s.whole;
+  along = along_goes tops.walk W (Effects.Send m ∷ []) (may, tt) (only, tt) s.along;
   fixed = record { root = s.fixed.root; serial = s.fixed.serial };
   kinds = s.kinds;
   stores = s.stores;
@@ -190,6 +195,7 @@ module _ (x k : ℕ) (tops : Kinds) (W : World) (M : Seen) (d : Disk) (t : Parts
   pub store_goes_seen : SeesDisks x tops V (up k (record d { store = c }) t M)
   store_goes_seen = record {
     whole = run_keeps W goes.effects goes.allowed sees.whole;
+    along = along_goes tops.walk W goes.effects goes.allowed (plain_only (may_note tops.walk) goes.effects goes.plain) sees.along;
     fixed = fixed_later tops W V later sees.fixed;
     kinds = λ z b. let r = sees.kinds z (ap (λ f. f z) (sym begun_same) ∙ b) in (r.0, ap (λ (S : State). S.serial z) goes.only.rest ∙ r.1);
     stores = nodes_go (λ m n. SeesStore x m n.disk.store W.disk) (λ m n. SeesStore x m n.disk.store V.disk) sees.stores (λ s. goes.there) (λ m n other s. other_stores_stay x k m n.disk.store W V goes.only other s);

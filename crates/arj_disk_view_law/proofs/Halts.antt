@@ -25,16 +25,18 @@ use Rattle.arj_view_law.specs.Walks.{halted}
 use Rattle.arj_disk_view_law.specs.Deciding.{SeesRecords}
 use Rattle.arj_disk_view_law.specs.Entries.{SeesEntry}
 use Rattle.arj_disk_view_law.specs.Stores.{SeesStore}
-use Rattle.arj_disk_view_law.specs.Sees.{Kinds, Claims, IsFixed, SeesDisks, SeesCoord, SeesNotes, SeesDown, SeesConfirmed, IsSeenByDisks}
+use Rattle.arj_disk_view_law.specs.Sees.{IsAlong, Kinds, Claims, IsFixed, SeesDisks, SeesCoord, SeesNotes, SeesDown, SeesConfirmed, IsSeenByDisks}
 use Rattle.arj_disk_view_law.proofs.DecidingSteps.{halt_calm, actions_may_halt, stores_stay_calm, entry_stays_calm}
 use Rattle.arj_disk_view_law.proofs.Frames.{nodes_to, node_here, works_same, says_seen, claim_here}
 use Rattle.arj_disk_view_law.proofs.Later.{effects_are_later}
 use Rattle.arj_disk_view_law.proofs.Notes.{notes_later}
+use Rattle.arj_disk_view_law.proofs.Along.{along_goes}
 
 -- ---- what is tied but coordinators
 
 record SeesRest (x : ℕ) (tops : Kinds) (W : World) (M : Seen) : Type 0 where
   whole : Whole W
+  along : IsAlong tops.walk W
   fixed : IsFixed tops W.disk
   kinds : (t : ℕ) → W.disk.begun t ≡ true → (tops.is_top t ≡ true) × (W.disk.serial t ≡ false)
   stores : (s : ℕ) (n : Node) → M.nodes s ≡ Some n → SeesStore x s n.disk.store W.disk
@@ -47,6 +49,7 @@ record SeesRest (x : ℕ) (tops : Kinds) (W : World) (M : Seen) : Type 0 where
 halt_rest : (x : ℕ) (tops : Kinds) (W : World) (M : Seen) (t : ℕ) → SeesRest x tops W M → SeesRest x tops (after W (Effects.Halt t)) M
 halt_rest x tops W M t s = record {
   whole = effect_keeps W (Effects.Halt t) tt s.whole;
+  along = along_goes tops.walk W (Effects.Halt t ∷ []) (tt, tt) (refl, tt) s.along;
   fixed = record { root = s.fixed.root; serial = s.fixed.serial };
   notes = λ k n p there live. notes_later x W (after W (Effects.Halt t)) (effects_are_later W (Effects.Halt t ∷ []) (tt, tt) s.whole) n.disk.intents p.coord (s.notes k n p there live);
   kinds = s.kinds;
@@ -164,7 +167,7 @@ module _ (x k : ℕ) (tops : Kinds) (W : World) (M : Seen) (d : Disk) (t : Parts
   V = Halted (owns t.coord) W
 
   rest_before : SeesRest x tops W (up k d t M)
-  rest_before = record { whole = sees.whole; fixed = sees.fixed; notes = sees.notes; kinds = sees.kinds; stores = sees.stores; entry = sees.entry; records = sees.records; confirmed = sees.confirmed; posts = sees.posts }
+  rest_before = record { whole = sees.whole; along = sees.along; fixed = sees.fixed; notes = sees.notes; kinds = sees.kinds; stores = sees.stores; entry = sees.entry; records = sees.records; confirmed = sees.confirmed; posts = sees.posts }
 
   rest_after : SeesRest x tops V (up k d t M)
   rest_after = halts_rest x tops W (up k d t M) (owns t.coord) rest_before
@@ -229,6 +232,7 @@ module _ (x k : ℕ) (tops : Kinds) (W : World) (M : Seen) (d : Disk) (t : Parts
   pub stop_seen : SeesDisks x tops V (down k d M)
   stop_seen = record {
     whole = rest_after.whole;
+    along = rest_after.along;
     fixed = rest_after.fixed;
     notes = λ m n p is live. nodes_stop (λ m n. (p : Parts) → n.live ≡ Some p → SeesNotes x n.disk.intents p.coord V) (λ m n. (p : Parts) → n.live ≡ Some p → SeesNotes x n.disk.intents p.coord V) (λ m n there p live. rest_after.notes m n p there live)
         (λ s p live. absurd (cc live)) (λ m n other s. s) m n is p live;

@@ -35,26 +35,20 @@ use Rattle.arj_disk_view_law.specs.Deciding.{SeesRecords}
 use Rattle.arj_disk_view_law.specs.Entries.{SeesEntry}
 use Rattle.arj_disk_view_law.specs.Plans.{IsTidy, plan_at}
 use Rattle.arj_disk_view_law.specs.Stores.{IsPlanned, SeesStore}
-use Rattle.arj_disk_view_law.specs.Sees.{Kinds, SilentAreGivenUp, PreparesAreAsked, ClaimsConfirm, SeesDisks, SeesCoord, SeesNotes, KnowsRoot, SeesDown, SeesConfirmed, IsSeenByDisks, IsLater, KnowsNow, Works, WorksBy, WaitsForStore, PreparedIsHeard}
+use Rattle.arj_disk_view_law.specs.Sees.{may_note, Kinds, SilentAreGivenUp, PreparesAreAsked, ClaimsConfirm, SeesDisks, SeesCoord, SeesNotes, KnowsRoot, SeesDown, SeesConfirmed, IsSeenByDisks, IsLater, KnowsNow, Works, WorksBy, WaitsForStore, PreparedIsHeard}
 use Rattle.arj_disk_view_law.proofs.Asked.{confirm_says}
 use Rattle.arj_disk_view_law.proofs.AskingSteps.{prepares_begin, yes_is_taken, doubt_is_marked, silent_are_marked, prepares_end}
 use Rattle.arj_disk_view_law.proofs.Planned.{states_are_planned}
 use Rattle.arj_disk_view_law.proofs.Frames.{nodes_to, node_here, says_seen, posts_seen, sends_seen}
 use Rattle.arj_disk_view_law.proofs.Notes.{all_put, known_at, went_known, roots_noted}
 use Rattle.arj_disk_view_law.proofs.TopFrames.{top_goes_seen}
+use Rattle.arj_disk_view_law.proofs.Along.{follows_both, only_both, run_both}
+use Rattle.arj_disk_law.specs.Guards.{Begins, only_begins}
 
 -- ---- the machine goes in steps
 
-follows_both : (W : World) (es fs : List machine.Effect) → Follows W es → Follows (run W es) fs → Follows W (es ++ fs)
-follows_both W [] fs a b = b
-follows_both W (e ∷ es) fs a b = (a.0, follows_both (after W e) es fs a.1 b)
-
-run_both : (W : World) (es fs : List machine.Effect) → run W (es ++ fs) ≡ run (run W es) fs
-run_both W [] fs = refl
-run_both W (e ∷ es) fs = run_both (after W e) es fs
-
-only_both : (t : ℕ) (U V W : World) → OnlyTop t U V → OnlyTop t V W → OnlyTop t U W
-only_both t U V W a b = record {
+one_both : (t : ℕ) (U V W : World) → OnlyTop t U V → OnlyTop t V W → OnlyTop t U W
+one_both t U V W a b = record {
   rest = b.rest ∙ ap (λ (S : State). record S { stage = W.disk.stage; plan = W.disk.plan; begun = W.disk.begun; got = W.disk.got }) a.rest;
   sent = b.sent ∙ a.sent;
   plans = λ z h. let p = a.plans z h in let q = b.plans z p.0 in (q.0, q.1 ∙ p.1);
@@ -69,15 +63,16 @@ pub top_both : (t : ℕ) (Q R : State → Type 0) (W : World) (a : TopGoes t Q W
 top_both t Q R W a b = record {
   effects = a.effects ++ b.effects;
   allowed = follows_both W a.effects b.effects a.allowed b.allowed;
+  own = only_both (only_begins t) a.effects b.effects a.own b.own;
   there = subst (λ (V : World). R V.disk) (sym (run_both W a.effects b.effects)) b.there;
-  only = subst (λ V. OnlyTop t W V) (sym (run_both W a.effects b.effects)) (only_both t W (run W a.effects) (run (run W a.effects) b.effects) a.only b.only);
+  only = subst (λ V. OnlyTop t W V) (sym (run_both W a.effects b.effects)) (one_both t W (run W a.effects) (run (run W a.effects) b.effects) a.only b.only);
 }
 
 abbrev pub top_to : (t : ℕ) (Q R : State → Type 0) (W : World) → ((S : State) → Q S → R S) → TopGoes t Q W → TopGoes t R W
-top_to t Q R W f a = record { effects = a.effects; allowed = a.allowed; there = f (run W a.effects).disk a.there; only = a.only }
+top_to t Q R W f a = record { effects = a.effects; allowed = a.allowed; own = a.own; there = f (run W a.effects).disk a.there; only = a.only }
 
 abbrev pub top_stays : (t : ℕ) (Q : State → Type 0) (W : World) → Q W.disk → TopGoes t Q W
-top_stays t Q W h = record { effects = []; allowed = tt; there = h; only = record { rest = refl; sent = refl; plans = λ z b. (b, refl); stages = λ z e. refl; starts = λ z e. refl; texts = λ z e. refl; gots = λ z e. refl; outcomes = λ z b u. u } }
+top_stays t Q W h = record { effects = []; allowed = tt; own = tt; there = h; only = record { rest = refl; sent = refl; plans = λ z b. (b, refl); stages = λ z e. refl; starts = λ z e. refl; texts = λ z e. refl; gots = λ z e. refl; outcomes = λ z b u. u } }
 
 -- ---- kinds of actions
 
@@ -102,6 +97,7 @@ works_as x tops S V t kind.Constituent now next top w h = (top, h)
 pub coord_seen : (x k : ℕ) (tops : Kinds) (W : World) (M : Seen) (d : Disk) (t : Parts) (c C : Coord) → (SeesCoord x k d.inc tops c W.disk → SeesCoord x k d.inc tops C W.disk) → (SeesNotes x d.intents c W → SeesNotes x d.intents C W) → SeesDisks x tops W (up k d (with_coord t c) M) → SeesDisks x tops W (up k d (with_coord t C) M)
 coord_seen x k tops W M d t c C mine noted s = record {
   whole = s.whole;
+  along = s.along;
   fixed = s.fixed;
   kinds = s.kinds;
   stores = to (λ m n. SeesStore x m n.disk.store W.disk) s.stores (λ h. h);
@@ -140,12 +136,16 @@ is_say (Say b) = true
 is_say (Send to m) = false
 is_say (Do w) = false
 
+pub says_walk : (P : Seen → Type 0) (x k : ℕ) (tops : Kinds) (e : ℕ) (t : Parts) (end : Disk → Seen → Type 0) (outs rest : List Effect) (d : Disk) (W : World) → AreAll is_say outs
+    → ((M : Seen) → SeesDisks x tops W (up k d t M) → Walks P e k rest end d M) → (M : Seen) → SeesDisks x tops W (up k d t M) → Walks P e k (outs ++ rest) end d M
+says_walk P x k tops e t end [] rest d W own go M s = go M s
+says_walk P x k tops e t end (Say b ∷ es) rest d W own go M s = says_walk P x k tops e t end es rest d W own go (said e (b ∷ []) M) (says_seen x tops W (up k d t M) (numbered e (b ∷ [])) s)
+says_walk P x k tops e t end (Send to m ∷ es) rest d W own go M s = absurd (cc own)
+says_walk P x k tops e t end (Do w ∷ es) rest d W own go M s = absurd (cc own)
+
 pub say_walk : (x k : ℕ) (tops : Kinds) (e : ℕ) (t v : Parts) (outs rest : List Effect) (d : Disk) (W : World) → AreAll is_say outs
     → ((M : Seen) → SeesDisks x tops W (up k d t M) → Walks (IsSeenByDisks x tops) e k rest (Up (IsSeenByDisks x tops) k v) d M) → (M : Seen) → SeesDisks x tops W (up k d t M) → Walks (IsSeenByDisks x tops) e k (outs ++ rest) (Up (IsSeenByDisks x tops) k v) d M
-say_walk x k tops e t v [] rest d W own go M s = go M s
-say_walk x k tops e t v (Say b ∷ es) rest d W own go M s = say_walk x k tops e t v es rest d W own go (said e (b ∷ []) M) (says_seen x tops W (up k d t M) (numbered e (b ∷ [])) s)
-say_walk x k tops e t v (Send to m ∷ es) rest d W own go M s = absurd (cc own)
-say_walk x k tops e t v (Do w ∷ es) rest d W own go M s = absurd (cc own)
+say_walk x k tops e t v outs rest d W own go M s = says_walk (IsSeenByDisks x tops) x k tops e t (Up (IsSeenByDisks x tops) k v) outs rest d W own go M s
 
 marks_say : (u : Uid) (marks : List (ℕ × ℕ)) (c : Coord) → AreAll is_say (mark_lines u marks c)
 marks_say u [] c = refl
@@ -158,13 +158,13 @@ marks_say u (m ∷ ms) c = all_both is_say (says u (λ l. body.Excluded l m.0 m.
 -- ---- an open top
 
 module _ (x : ℕ) (tops : Kinds) (e k : ℕ) (d : Disk) (t : Parts) (act : Uid) (b : Branch) (r0 : Doing) (intents : List (Uid × Intent)) (M : Seen) (found : branch_of act t.coord.tree ≡ Some b) (unended : b.ended ≡ None) (at_work : doing_of act t.coord ≡ Some r0)
-    (top : tops.is_top (uid_number act) ≡ true) (W : World) (plain : W.disk.serial (uid_number act) ≡ false) (sees : SeesDisks x tops W (up k d t M)) where
+    (top : tops.is_top (uid_number act) ≡ true) (may : may_note tops.walk (Begins (uid_number act)) ≡ true) (W : World) (plain : W.disk.serial (uid_number act) ≡ false) (sees : SeesDisks x tops W (up k d t M)) where
   works : Works x tops W.disk (uid_number act) b.kind r0.now
   works = (sees.coords k (record { number = k; disk = d; live = Some t }) t (node_here M k (record { number = k; disk = d; live = Some t })) refl).working act b r0 found unended at_work
 
   -- the action waits for this from now on, where the machine has gone so
   pub top_moved : (req : ℕ) (next : Now) → ((U : World) → IsLater W U → KnowsNow x U next) → (goes : TopGoes (uid_number act) (λ S. WorksBy x S (uid_number act) next) W) → SeesDisks x tops (run W goes.effects) (up k d (with_coord t (on_doing act (λ (q : Doing). record q { req = req; now = next }) t.coord)) M)
-  top_moved req next now goes = top_goes_seen x k tops W M d t act b r0 (λ q. record q { req = req; now = next }) sees found unended at_work top plain refl now
+  top_moved req next now goes = top_goes_seen x k tops W M d t act b r0 (λ q. record q { req = req; now = next }) sees found unended at_work top may plain refl now
       (top_to (uid_number act) (λ S. WorksBy x S (uid_number act) next) (λ S. Works x tops S (uid_number act) b.kind next) W (λ S h. works_as x tops W.disk S (uid_number act) b.kind r0.now next top works h) goes)
 
   -- the confirmation is asked
@@ -192,7 +192,7 @@ module _ (x : ℕ) (tops : Kinds) (e k : ℕ) (d : Disk) (t : Parts) (act : Uid)
         after V (machine.Send m),
         roots_seen x k tops (after V (machine.Send m)) (said e more (posted (record { from = k; to = 1; message = msg }) N)) d t c1 noted.roots (λ known. one_noted x (after V (machine.Send m)) q.path 1 false c1 known.roots)
             (says_seen x tops (after V (machine.Send m)) (up k d (with_coord t c1) (posted (record { from = k; to = 1; message = msg }) N)) (numbered e more)
-            (posts_seen x tops (after V (machine.Send m)) (up k d (with_coord t c1) N) (record { from = k; to = 1; message = msg }) claim (sends_seen x tops V (up k d (with_coord t c1) N) m goes.there.stage s))),
+            (posts_seen x tops (after V (machine.Send m)) (up k d (with_coord t c1) N) (record { from = k; to = 1; message = msg }) claim (sends_seen x tops V (up k d (with_coord t c1) N) m goes.there.stage refl s))),
       )
         where
           confirms : ClaimsConfirm x (after V (machine.Send m)) (uid_number (top_of q.path)) (map {A = Used} {B = ℕ × ℕ} (λ u. (u.x, u.grant)) q.used) q.excluded (included_of q)
@@ -205,7 +205,7 @@ module _ (x : ℕ) (tops : Kinds) (e k : ℕ) (d : Disk) (t : Parts) (act : Uid)
 -- ---- the answer
 
 module _ (x : ℕ) (tops : Kinds) (e k : ℕ) (d : Disk) (t : Parts) (from : ℕ) (act : Uid) (p : commit.Plan) (left : List ℕ) (intents : List (Uid × Intent)) (M : Seen)
-    (waits : WaitsForStore t from act p left) (top : tops.is_top (uid_number act) ≡ true) (W : World) (sees : SeesDisks x tops W (up k d t M)) where
+    (waits : WaitsForStore t from act p left) (top : tops.is_top (uid_number act) ≡ true) (may : may_note tops.walk (Begins (uid_number act)) ≡ true) (W : World) (sees : SeesDisks x tops W (up k d t M)) where
   works_here : Works x tops W.disk (uid_number act) waits.branch.kind waits.doing.now
   works_here = (sees.coords k (record { number = k; disk = d; live = Some t }) t (node_here M k (record { number = k; disk = d; live = Some t })) refl).working act waits.branch waits.doing waits.found waits.unended waits.at_work
 
@@ -216,11 +216,11 @@ module _ (x : ℕ) (tops : Kinds) (e k : ℕ) (d : Disk) (t : Parts) (from : ℕ
   plain = (sees.kinds (uid_number act) preparing.begun).1
 
   moved_seen : (req : ℕ) (next : Now) → ((U : World) → IsLater W U → KnowsNow x U next) → (goes : TopGoes (uid_number act) (λ S. WorksBy x S (uid_number act) next) W) → SeesDisks x tops (run W goes.effects) (up k d (with_coord t (on_doing act (λ (q : Doing). record q { req = req; now = next }) t.coord)) M)
-  moved_seen req next now goes = top_moved x tops e k d t act waits.branch waits.doing intents M waits.found waits.unended waits.at_work top W plain sees req next now goes
+  moved_seen req next now goes = top_moved x tops e k d t act waits.branch waits.doing intents M waits.found waits.unended waits.at_work top may W plain sees req next now goes
 
   asks_walk : (q : commit.Plan) → top_of q.path ≡ act → actor q.path ≡ act → TopGoes (uid_number act) (λ S. SeesConfirming x S (uid_number act) q) W → (marks : List (ℕ × ℕ))
       → let did = moved_commit act (record { step = Asks (Confirming q); marks = marks }) intents t.coord in Walks (IsSeenByDisks x tops) e k did.outs (Up (IsSeenByDisks x tops) k (with_coord t did.part)) d M
-  asks_walk q path own goes marks = top_asks x tops e k d t act waits.branch waits.doing intents M waits.found waits.unended waits.at_work top W plain sees q path own goes marks
+  asks_walk q path own goes marks = top_asks x tops e k d t act waits.branch waits.doing intents M waits.found waits.unended waits.at_work top may W plain sees q path own goes marks
 
   -- after an answer
   answered_walk : (q : commit.Plan) (rest : List ℕ) → q.path ≡ p.path → q.used ≡ p.used → TopGoes (uid_number act) (λ S. SeesPreparing x S (uid_number act) q rest) W
@@ -235,16 +235,16 @@ module _ (x : ℕ) (tops : Kinds) (e k : ℕ) (d : Disk) (t : Parts) (from : ℕ
           (top_both (uid_number act) (λ S. SeesPreparing x S (uid_number act) q []) (λ S. SeesConfirming x S (uid_number act) q) W goes (prepares_end x (run W goes.effects) (uid_number act) q goes.there))
 
 pub prepared_is_heard : PreparedIsHeard
-prepared_is_heard x tops e k d t from act prepared.Yes p left intents M waits top taken W sees claims =
-    answered_walk x tops e k d t from act p left intents M waits top W sees (record p { prepared = order.with_number from p.prepared }) (order.without_number from left) refl refl
+prepared_is_heard x tops e k d t from act prepared.Yes p left intents M waits top may taken W sees claims =
+    answered_walk x tops e k d t from act p left intents M waits top may W sees (record p { prepared = order.with_number from p.prepared }) (order.without_number from left) refl refl
     (yes_is_taken x W (uid_number act) from p left prep waits.asked (λ on. claims.1 (ap (λ g. target g from) prep.plan ∙ on)))
   where
     prep : SeesPreparing x W.disk (uid_number act) p left
-    prep = preparing x tops e k d t from act p left intents M waits top W sees
-prepared_is_heard x tops e k d t from act (prepared.InDoubt y holder) p left intents M waits top taken W sees claims =
-    answered_walk x tops e k d t from act p left intents M waits top W sees (marks_store from p) (order.without_number from left) refl refl
-    (top_stays (uid_number act) (λ S. SeesPreparing x S (uid_number act) (marks_store from p) (order.without_number from left)) W (doubt_is_marked x W.disk (uid_number act) from p left (preparing x tops e k d t from act p left intents M waits top W sees) waits.asked))
-prepared_is_heard x tops e k d t from act (prepared.Old y v) p left intents M waits top taken W sees claims = absurd taken
+    prep = preparing x tops e k d t from act p left intents M waits top may W sees
+prepared_is_heard x tops e k d t from act (prepared.InDoubt y holder) p left intents M waits top may taken W sees claims =
+    answered_walk x tops e k d t from act p left intents M waits top may W sees (marks_store from p) (order.without_number from left) refl refl
+    (top_stays (uid_number act) (λ S. SeesPreparing x S (uid_number act) (marks_store from p) (order.without_number from left)) W (doubt_is_marked x W.disk (uid_number act) from p left (preparing x tops e k d t from act p left intents M waits top may W sees) waits.asked))
+prepared_is_heard x tops e k d t from act (prepared.Old y v) p left intents M waits top may taken W sees claims = absurd taken
 
 -- ---- given up
 
@@ -265,12 +265,12 @@ gaveup_say u (n ∷ ns) c = all_both is_say (says u (λ l. body.GaveUp l n) c) (
     by (Some d) = refl
 
 pub silent_are_given_up : SilentAreGivenUp
-silent_are_given_up x tops e k d t from act p left intents M waits top W sees =
+silent_are_given_up x tops e k d t from act p left intents M waits top may W sees =
     let q : commit.Plan = marks_stores left p in
     let did = moved_commit act (stores_left [] q) intents t.coord in
     say_walk x k tops e t (with_coord t did.part) (gaveup_lines act left t.coord) did.outs d W (gaveup_say act left t.coord)
-    (λ N s. answered_walk x tops e k d t from act p left intents N waits top W s q [] (marks_path left p) (marks_used left p)
-    (top_stays (uid_number act) (λ S. SeesPreparing x S (uid_number act) q []) W (silent_are_marked x W.disk (uid_number act) p left (preparing x tops e k d t from act p left intents N waits top W s))))
+    (λ N s. answered_walk x tops e k d t from act p left intents N waits top may W s q [] (marks_path left p) (marks_used left p)
+    (top_stays (uid_number act) (λ S. SeesPreparing x S (uid_number act) q []) W (silent_are_marked x W.disk (uid_number act) p left (preparing x tops e k d t from act p left intents N waits top may W s))))
     M sees
 
 -- ---- the prepare step begins
@@ -308,7 +308,7 @@ module _ (x : ℕ) (tops : Kinds) (e k : ℕ) (d : Disk) (t : Parts) (act : Uid)
           let m : mail.Message = mail.Prepare (uid_number act) s in
           let U : World = after V (machine.Send m) in
           let later : Begun U = record { begun = begun.begun; plan = begun.plan; tidy = begun.tidy } in
-          (U, later, posts_seen x tops U (up k d (with_coord t c) N) p (record { planned = planned U later; asked = λ also. subst (λ w. In (mail.Prepare (uid_number w) s) U.sent) (sym mine) (inl refl) }) (sends_seen x tops V (up k d (with_coord t c) N) m (begun.begun, on) sees))
+          (U, later, posts_seen x tops U (up k d (with_coord t c) N) p (record { planned = planned U later; asked = λ also. subst (λ w. In (mail.Prepare (uid_number w) s) U.sent) (sym mine) (inl refl) }) (sends_seen x tops V (up k d (with_coord t c) N) m (begun.begun, on) refl sees))
 
   -- and all of them
   all_sent : (ss : List ℕ) (c c2 : Coord) (v : Parts) (N : Seen) (V : World) → Begun V → SeesDisks x tops V (up k d (with_coord t c) N)
@@ -321,7 +321,7 @@ module _ (x : ℕ) (tops : Kinds) (e k : ℕ) (d : Disk) (t : Parts) (act : Uid)
       all_sent ss c (asks_node q.path q.req (s, ask.Prepare (states_for s q)) c2).part v (said e more (posted p N)) one.0 one.1 (says_seen x tops one.0 (up k d (with_coord t c) (posted p N)) (numbered e more) one.2) last
 
 pub prepares_are_asked : PreparesAreAsked
-prepares_are_asked x tops e k d t act p s ss intents M W targets may sees = subst (λ ts. let did = step_commit act (begin_prepare ts p) intents t.coord in Walks (IsSeenByDisks x tops) e k did.outs (Up (IsSeenByDisks x tops) k (with_coord t did.part)) d M) (sym targets) walk
+prepares_are_asked x tops e k d t act p s ss intents M W targets may note sees = subst (λ ts. let did = step_commit act (begin_prepare ts p) intents t.coord in Walks (IsSeenByDisks x tops) e k did.outs (Up (IsSeenByDisks x tops) k (with_coord t did.part)) d M) (sym targets) walk
   where
     q : commit.Plan
     q = further (s ∷ ss) p
@@ -339,7 +339,7 @@ prepares_are_asked x tops e k d t act p s ss intents M W targets may sees = subs
     works = (sees.coords k (record { number = k; disk = d; live = Some t }) t (node_here M k (record { number = k; disk = d; live = Some t })) refl).working act may.branch may.doing may.found may.unended may.at_work
 
     seen : SeesDisks x tops (run W goes.effects) (up k d (with_coord t c1) M)
-    seen = top_goes_seen x k tops W M d t act may.branch may.doing (λ r. record r { req = (further (s ∷ ss) p).req; now = Committing (Preparing (further (s ∷ ss) p) (s ∷ ss)) }) sees may.found may.unended may.at_work may.top may.plain refl (λ U l. tt)
+    seen = top_goes_seen x k tops W M d t act may.branch may.doing (λ r. record r { req = (further (s ∷ ss) p).req; now = Committing (Preparing (further (s ∷ ss) p) (s ∷ ss)) }) sees may.found may.unended may.at_work may.top note may.plain refl (λ U l. tt)
         (top_to (uid_number act) (λ S. SeesPreparing x S (uid_number act) (further (s ∷ ss) p) (s ∷ ss)) (λ S. Works x tops S (uid_number act) may.branch.kind (Committing (Preparing (further (s ∷ ss) p) (s ∷ ss)))) W
         (λ S h. works_as x tops W.disk S (uid_number act) may.branch.kind may.doing.now (Committing (Preparing (further (s ∷ ss) p) (s ∷ ss))) may.top works h) goes)
 

@@ -1,6 +1,7 @@
 pub mod AbortWalks
 pub mod AckWalks
 pub mod ActionAborts
+pub mod Along
 pub mod Asked
 pub mod AskingSteps
 pub mod BeginWalks
@@ -18,6 +19,8 @@ pub mod Ending
 pub mod Ends
 pub mod EntrySteps
 pub mod FirstSeen
+pub mod Followed
+pub mod Follows
 pub mod Frames
 pub mod FreeAsks
 pub mod Halts

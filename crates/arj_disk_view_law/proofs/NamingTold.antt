@@ -37,7 +37,7 @@ use Rattle.arj_disk_view_law.specs.Coordinating.{NamingIsTold, AreOrphansOf}
 use Rattle.arj_disk_view_law.specs.Deciding.{SeesRecords}
 use Rattle.arj_disk_view_law.specs.Entries.{SeesEntry, EntryGoes}
 use Rattle.arj_disk_view_law.specs.Stores.{SeesStore, ClaimsCommit}
-use Rattle.arj_disk_view_law.specs.Sees.{Kinds, ClaimsEnd, ClaimsLast, SeesDisks, SeesCoord, SeesNotes, SeesDown, SeesConfirmed, IsLater, IsSeenByDisks}
+use Rattle.arj_disk_view_law.specs.Sees.{may_note, Kinds, ClaimsEnd, ClaimsLast, SeesDisks, SeesCoord, SeesNotes, SeesDown, SeesConfirmed, IsLater, IsSeenByDisks}
 use Rattle.arj_disk_view_law.proofs.EntrySteps.{entries_commit, entries_stop_in_part, entries_abort, entries_forget, stores_by_entry}
 use Rattle.arj_disk_view_law.proofs.Frames.{nodes_to, node_here, claim_here, coord_same, down_same, says_seen, posts_seen, sends_seen}
 use Rattle.arj_disk_view_law.proofs.Halts.{stops_seen}
@@ -48,6 +48,8 @@ use Rattle.arj_disk_view_law.proofs.Notes.{all_to, fixed_later, notes_later}
 use Rattle.arj_disk_view_law.proofs.StoreSteps.{prepared_is, unprepared}
 use Rattle.arj_disk_view_law.proofs.StoreWalks.{took_is}
 use Rattle.arj_disk_view_law.proofs.ToldWalks.{parts_seen, lines_walk, holds_not, store_walks}
+use Rattle.arj_disk_view_law.proofs.Along.{along_goes, plain_only}
+use Rattle.arj_disk_law.specs.Guards.{Acks}
 
 -- ---- an entry's work
 
@@ -80,6 +82,7 @@ module _ (x : ℕ) (tops : Kinds) (W : World) (M : Seen) (d : Disk) (t : Parts) 
   pub entry_goes_seen : SeesDisks x tops V (up 1 (record d { names = c }) t M)
   entry_goes_seen = record {
     whole = run_keeps W goes.effects goes.allowed sees.whole;
+    along = along_goes tops.walk W goes.effects goes.allowed (plain_only (may_note tops.walk) goes.effects goes.plain) sees.along;
     fixed = fixed_later tops W V goes_later sees.fixed;
     kinds = λ z b. let r = sees.kinds z (ap (λ f. f z) (sym begun_same) ∙ b) in (r.0, ap (λ (S : State). S.serial z) goes.only.rest ∙ r.1);
     stores = to (λ m n. SeesStore x m n.disk.store W.disk) (λ m n. SeesStore x m n.disk.store V.disk) sees.stores (λ s. stores_by_entry x 1 d.store W V goes.only s) (λ m n e s. stores_by_entry x m n.disk.store W V goes.only s);
@@ -96,7 +99,7 @@ module _ (x : ℕ) (tops : Kinds) (W : World) (M : Seen) (d : Disk) (t : Parts) 
 -- ---- one action's entries end
 
 -- what isn't there isn't taken out
-without_none : {X : Type 0} (u : Uid) (m : List (Uid × X)) → at_uid u m ≡ None → without_uid u m ≡ m
+pub without_none : {X : Type 0} (u : Uid) (m : List (Uid × X)) → at_uid u m ≡ None → without_uid u m ≡ m
 without_none u [] none = refl
 without_none {X} u (z ∷ zs) none = by (uid_order u z.0) refl (without_none u zs)
   where
@@ -196,28 +199,28 @@ module _ (x : ℕ) (tops : Kinds) (e : ℕ) (t v : Parts) where
 
       goes : (b : Bool) → is_prepared a d.names ≡ b → EntryGoes x (pair_aborted a d.names) W
       goes true is = entries_forget x d.names W a (uid_number u) (entry_at d M W s) facts.0.1 (ap (λ f. f (uid_number a)) s.fixed.root ∙ facts.0.0)
-      goes false is = record { effects = []; allowed = tt; there = subst (λ m. SeesEntry x (record d.names { pend = m }) W.disk) (sym (without_none a d.names.pend (unprepared a d.names is))) (entry_at d M W s); only = record { rest = refl; sent = refl } }
+      goes false is = record { effects = []; allowed = tt; plain = tt; there = subst (λ m. SeesEntry x (record d.names { pend = m }) W.disk) (sym (without_none a d.names.pend (unprepared a d.names is))) (entry_at d M W s); only = record { rest = refl; sent = refl } }
 
       none_left : at_uid u (without_uid a d.names.pend) ≡ None
       none_left = ⊎_elim (λ same. ap (λ w. at_uid w (without_uid a d.names.pend)) same ∙ keys.without_same a d.names.pend (let z = entry_at d M W s in z.pair.sorted)) (λ other. keys.without_other u a d.names.pend other ∙ none) (uid_cases u a)
 
   -- ---- the acknowledgement
 
-  names_not : (d : Disk) (M : Seen) (W : World) (u : Uid) → SeesDisks x tops W (up 1 d t M) → at_uid u d.names.pend ≡ None → IsNot W.disk.entry_pend (uid_number u)
+  pub names_not : (d : Disk) (M : Seen) (W : World) (u : Uid) → SeesDisks x tops W (up 1 d t M) → at_uid u d.names.pend ≡ None → IsNot W.disk.entry_pend (uid_number u)
   names_not d M W u s none h is own =
       let f = (entry_at d M W s).pair.holder h is in
       let same : f.action ≡ u = number_tells f.action u (ap (λ (g : Hold). g.top) f.is ∙ own) in
       never_some (ap (λ w. at_uid w d.names.pend) (sym same) ∙ f.prepared) none
 
-  acks_walk : (d : Disk) (from : ℕ) (u : Uid) (ack : Bool) (M : Seen) (W : World) → v.coord ≡ t.coord → (((o : Naming) → t.naming ≡ Some o → SeesConfirmed o W.disk) → (o : Naming) → v.naming ≡ Some o → SeesConfirmed o W.disk) → SeesDisks x tops W (up 1 d t M)
+  acks_walk : (d : Disk) (from : ℕ) (u : Uid) (ack : Bool) (M : Seen) (W : World) → (ack ≡ true → may_note tops.walk (Acks (uid_number u)) ≡ true) → v.coord ≡ t.coord → (((o : Naming) → t.naming ≡ Some o → SeesConfirmed o W.disk) → (o : Naming) → v.naming ≡ Some o → SeesConfirmed o W.disk) → SeesDisks x tops W (up 1 d t M)
       → at_uid u d.store.pend ≡ None → at_uid u d.names.pend ≡ None → (ack ≡ true → In (mail.ToldCommit (uid_number u) 1) W.sent) → Walks P e 1 (ack_told from u ack) (Up P 1 v) d M
-  acks_walk d from u false M W coord named s store names told = (W, parts_seen x 1 tops W M d t v coord named s)
-  acks_walk d from u true M W coord named s store names told = λ more quiet.
+  acks_walk d from u false M W note coord named s store names told = (W, parts_seen x 1 tops W M d t v coord named s)
+  acks_walk d from u true M W note coord named s store names told = λ more quiet.
       let m : mail.Message = mail.Acked (uid_number u) 1 in
       let own : SeesStore x 1 d.store W.disk = s.stores 1 (record { number = 1; disk = d; live = Some t }) (node_here M 1 (record { number = 1; disk = d; live = Some t })) in
       let V : World = after W (machine.Send m) in
       let p : Post = record { from = 1; to = from; message = message.Acked (record { act = u }) } in
-      let sent : SeesDisks x tops V (up 1 d t M) = sends_seen x tops W (up 1 d t M) m (told refl, holds_not x 1 tops e d.store W u own store, λ one. names_not d M W u s names) s in
+      let sent : SeesDisks x tops V (up 1 d t M) = sends_seen x tops W (up 1 d t M) m (told refl, holds_not x 1 tops e d.store W u own store, λ one. names_not d M W u s names) (note refl) s in
       (V, parts_seen x 1 tops V (said e more (posted p M)) d t v coord named (says_seen x tops V (up 1 d t (posted p M)) (numbered e more) (posts_seen x tops V (up 1 d t M) p (inl refl) sent)))
 
 -- ---- the whole told
@@ -231,7 +234,7 @@ left_on f (u ∷ us) a on = by (f u) (left_on f us a) on
     by true ih h = ⊎_elim (λ same. or_left (uid_eq u a) (is_on us a) same) (λ more. or_right (uid_eq u a) (is_on us a) (ih more)) (or_cases (uid_eq u a) (is_on (filter f us) a) h)
     by false ih h = or_right (uid_eq u a) (is_on us a) (ih h)
 
-module _ (x : ℕ) (tops : Kinds) (e : ℕ) (d : Disk) (t : Parts) (n : Naming) (from : ℕ) (ack : Bool) (ends : List (Uid × End)) (u : Uid) (how : End) (M : Seen) (named : t.naming ≡ Some n) (theirs : AreOrphansOf tops u d n)
+module _ (x : ℕ) (tops : Kinds) (e : ℕ) (d : Disk) (t : Parts) (n : Naming) (from : ℕ) (ack : Bool) (ends : List (Uid × End)) (u : Uid) (how : End) (M : Seen) (named : t.naming ≡ Some n) (theirs : AreOrphansOf tops u d n) (note : ack ≡ true → may_note tops.walk (Acks (uid_number u)) ≡ true)
     (W : World) (sees : SeesDisks x tops W (up 1 d t M)) (claims : ClaimsLast tops W 1 ack (Some (u, how))) where
   abbrev Q : Seen → Type 0
   Q = IsSeenByDisks x tops
@@ -282,7 +285,7 @@ module _ (x : ℕ) (tops : Kinds) (e : ℕ) (d : Disk) (t : Parts) (n : Naming) 
   last_walk : (c c2 : Pair) (N : Seen) (V : World) → SeesDisks x tops V (up 1 (record d { store = c; names = c2 }) t N) → at_uid u c.pend ≡ None → at_uid u c2.pend ≡ None → (ack ≡ true → In (mail.ToldCommit (uid_number u) 1) V.sent)
       → Walks Q e 1 ((server.told 1 ends t.server).outs ++ ack_told from u ack) (Up Q 1 left) (record d { store = c; names = c2 }) N
   last_walk c c2 N V s store names told = lines_walk x 1 tops e t left (server.told 1 ends t.server).outs (ack_told from u ack) (record d { store = c; names = c2 }) V (ends_own 1 ends t.server)
-      (λ L seen. acks_walk x tops e t left (record d { store = c; names = c2 }) from u ack L V refl (confirmed_seen V) seen store names told) N s
+      (λ L seen. acks_walk x tops e t left (record d { store = c; names = c2 }) from u ack L V note refl (confirmed_seen V) seen store names told) N s
 
   -- naming's lines
   lines_next : (how : End) (c c2 : Pair) (N : Seen) (V : World) → SeesDisks x tops V (up 1 (record d { store = c; names = c2 }) t N) → at_uid u c.pend ≡ None → at_uid u c2.pend ≡ None → (ack ≡ true → In (mail.ToldCommit (uid_number u) 1) V.sent)
@@ -317,9 +320,9 @@ module _ (x : ℕ) (tops : Kinds) (e : ℕ) (d : Disk) (t : Parts) (n : Naming) 
       (λ c2 L U on seen2 gone. part_next (is_on n.told u) c c2 L U (later_on W V U later on) seen2 none gone (λ a. on.sent (mail.ToldCommit (uid_number u) 1) (told a))))
 
 pub naming_is_told : NamingIsTold
-naming_is_told x tops e d t v n from ack ends u how outs M named theirs W sees claims is =
-    took_is x 1 tops e (λ a b. Walks (IsSeenByDisks x tops) e 1 b (Up (IsSeenByDisks x tops) 1 a) d M) (left x tops e d t n from ack ends u how M named theirs W sees claims) (store_told 1 u how d.store ++ (own_entries u how d.names ++ part_outs) ++ served ++ ack_told from u ack) v outs (sym told_is ∙ is)
-    (subst (λ es. Walks (IsSeenByDisks x tops) e 1 es (Up (IsSeenByDisks x tops) 1 (left x tops e d t n from ack ends u how M named theirs W sees claims)) d M) joined (whole_walk x tops e d t n from ack ends u how M named theirs W sees claims))
+naming_is_told x tops e d t v n from ack ends u how outs M named theirs note W sees claims is =
+    took_is x 1 tops e (λ a b. Walks (IsSeenByDisks x tops) e 1 b (Up (IsSeenByDisks x tops) 1 a) d M) (left x tops e d t n from ack ends u how M named theirs note W sees claims) (store_told 1 u how d.store ++ (own_entries u how d.names ++ part_outs) ++ served ++ ack_told from u ack) v outs (sym told_is ∙ is)
+    (subst (λ es. Walks (IsSeenByDisks x tops) e 1 es (Up (IsSeenByDisks x tops) 1 (left x tops e d t n from ack ends u how M named theirs note W sees claims)) d M) joined (whole_walk x tops e d t n from ack ends u how M named theirs note W sees claims))
   where
     part_outs : List Effect
     part_outs = let r = (if is_on n.told u then did_nothing n else told_new u (taken_end u how n) d.names n) in r.outs

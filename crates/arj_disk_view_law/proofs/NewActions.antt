@@ -186,7 +186,7 @@ module _ (x k : ℕ) (tops : Kinds) (W : World) (M : Seen) (d : Disk) (t : Parts
 -- ---- the label is given
 
 given_seen : (x k : ℕ) (tops : Kinds) (W : World) (M : Seen) (d : Disk) (t : Parts) (l : Label) (g : Labelled) → SeesDisks x tops W (up k d t M) → SeesDisks x tops W (up k d t (given l g M))
-given_seen x k tops W M d t l g s = record { whole = s.whole; fixed = s.fixed; kinds = s.kinds; stores = s.stores; entry = s.entry; records = s.records; coords = s.coords; notes = s.notes; downs = s.downs; confirmed = s.confirmed; posts = s.posts }
+given_seen x k tops W M d t l g s = record { whole = s.whole; along = s.along; fixed = s.fixed; kinds = s.kinds; stores = s.stores; entry = s.entry; records = s.records; coords = s.coords; notes = s.notes; downs = s.downs; confirmed = s.confirmed; posts = s.posts }
 
 pub actions_begin : ActionsBegin
 actions_begin x tops e k d t l g how parent above M knows fits W sees =

@@ -95,7 +95,7 @@ module _ (x : ℕ) (tops : Kinds) (e k : ℕ) (d : Disk) (t : Parts) (act : Uid)
 
       by : (g : Option Branch) → branch_of w t.coord.tree ≡ g → is_open_branch g ≡ true → ⊥
       by None is h = absurd (cc h)
-      by (Some z) is h = by_kind z is h (number_tells (root_of z.path) act (sym (knows.root w z is) ∙ root)) z.kind (knows.kind w z is)
+      by (Some z) is h = by_kind z is h (number_tells (root_of z.path) act (sym (knows.root w z is top) ∙ root)) z.kind (knows.kind w z is)
 
   may_tell : (kd : Kind) → b.kind ≡ kd → IsOfKind tops act kd b.path → MayTell tops d C V.disk act kd b.path
   may_tell kind.Nested is of = let r = up_to_ends act (ends_of (root_of b.path) C.tree) (one_listed t.coord act b (knows.at_work act b found).0 how found at_work of.2) in subst (λ o. EndsNoTop tops o) (sym r.1) (of.0, of.1)

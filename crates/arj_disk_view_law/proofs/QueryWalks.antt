@@ -54,7 +54,7 @@ module _ (x : ℕ) (tops : Kinds) (e k : ℕ) (d : Disk) (t : Parts) (from : ℕ
   committed : (root : Uid) (ack : Bool) → disk.decided W.disk (uid_number act) ≡ true → Walks P e k (tell root ack ((act, ending.Commit) ∷ []) from ∷ []) (Up P k t) d M
   committed root ack done =
       let m : mail.Message = mail.ToldCommit (uid_number act) from in
-      told (after W (machine.Send m)) root ack ending.Commit (inl (inl (inl refl)), λ a. inl refl) (sends_seen x tops W (up k d t M) m done sees)
+      told (after W (machine.Send m)) root ack ending.Commit (inl (inl (inl refl)), λ a. inl refl) (sends_seen x tops W (up k d t M) m done refl sees)
 
   -- who isn't open is at its end
   settled : is_open act t.coord.tree ≡ false → (i : Intent) → at_uid act d.intents ≡ Some i → disk.decided W.disk (uid_number act) ≡ true
@@ -98,15 +98,15 @@ module _ (x : ℕ) (tops : Kinds) (e k : ℕ) (d : Disk) (t : Parts) (from : ℕ
       by_kind : (z : Branch) → branch_of act t.coord.tree ≡ Some z → (kd : Kind) → z.kind ≡ kd → IsOfKind tops act kd z.path → (r : Uid) × IsLastRoot r
       by_kind z there kind.Nested kd p = absurd (never top p.0)
       by_kind z there kind.Serial kd p = absurd (never top p.0)
-      by_kind z there kind.Top kd p = (act, record { is = knows.root act z there ∙ ap (λ us. uid_number (first_uid us)) p.2; closed = closed; past = begun.past })
-      by_kind z there kind.Independent kd p = (act, record { is = knows.root act z there ∙ ap (λ us. uid_number (first_uid us)) p.2; closed = closed; past = begun.past })
+      by_kind z there kind.Top kd p = (act, record { is = knows.root act z there top ∙ ap (λ us. uid_number (first_uid us)) p.2; closed = closed; past = begun.past })
+      by_kind z there kind.Independent kd p = (act, record { is = knows.root act z there top ∙ ap (λ us. uid_number (first_uid us)) p.2; closed = closed; past = begun.past })
       by_kind z there kind.Constituent kd p =
           let q = knows.at_work act z there in
           let n = mine.bare act z q.0 there q.1 bare in
           let kept : is_open (root_of z.path) t.coord.tree ≡ true → is_kept_commit from act t.coord ≡ true = (λ o. (λ i. (is_constituent_branch (there i) && ended_so ending.Commit (there i)) && (is_open (root_or_self act (there i)) t.coord.tree && took_part from (q.1 i)))
           ∙ (λ i. (is_constituent (kd i) && has_end ending.Commit (n.committed i)) && (o i && order.has (let r = q.0 in r.took) (same i))) ∙ n.named) in
           let stem = knows.stem act z there (ap is_constituent kd) in
-          (root_of z.path, record { is = knows.root act z there; closed = falls_to (is_open (root_of z.path) t.coord.tree) (λ o. never (kept o) unkept); past = not_future (root_of z.path) t.coord stem.0 stem.1 })
+          (root_of z.path, record { is = knows.root act z there top; closed = falls_to (is_open (root_of z.path) t.coord.tree) (λ o. never (kept o) unkept); past = not_future (root_of z.path) t.coord stem.0 stem.1 })
 
       by : (b : Bool) → is_own act t.coord.tree ≡ b → (r : Uid) × IsLastRoot r
       by false apart = earlier apart
@@ -118,7 +118,7 @@ module _ (x : ℕ) (tops : Kinds) (e k : ℕ) (d : Disk) (t : Parts) (from : ℕ
   bare_told root closed unlisted top bare r last =
       let m : mail.Message = mail.ToldAbort (uid_number act) from in
       told (after V2 (machine.Send m)) root false ending.Abort (inl (top, inl (inl refl)), λ a. absurd (cc a))
-      (sends_seen x tops V2 (up k d t M) m (ends_may_be_told k V1 act from d.intents records1 begun.here (λ i there. (unlisted i there, settled closed i there)) (λ b. subst (λ n. IsOver V2.disk n) (sym (ap (λ f. f (uid_number act)) sees.fixed.root ∙ last.is)) over)) seen2)
+      (sends_seen x tops V2 (up k d t M) m (ends_may_be_told k V1 act from d.intents records1 begun.here (λ i there. (unlisted i there, settled closed i there)) (λ b. subst (λ n. IsOver V2.disk n) (sym (ap (λ f. f (uid_number act)) sees.fixed.root ∙ last.is)) over)) refl seen2)
     where
       V1 : World
       V1 = after W (machine.Halt (uid_number r))
@@ -163,7 +163,7 @@ module _ (x : ℕ) (tops : Kinds) (e k : ℕ) (d : Disk) (t : Parts) (from : ℕ
       top_told top over =
           let m : mail.Message = mail.ToldAbort (uid_number act) from in
           told (after (after W (machine.Halt (uid_number act))) (machine.Send m)) root false ending.Abort (inl (top, inl (inl refl)), λ a. absurd (cc a))
-          (sends_seen x tops (after W (machine.Halt (uid_number act))) (up k d t M) m (ends_may_be_told k W act from d.intents records begun.here (λ i there. (unlisted i there, settled closed i there)) over) seen)
+          (sends_seen x tops (after W (machine.Halt (uid_number act))) (up k d t M) m (ends_may_be_told k W act from d.intents records begun.here (λ i there. (unlisted i there, settled closed i there)) over) refl seen)
 
       by_naming : tops.is_top (uid_number act) ≡ true → (from ≡ naming) ⊎ ((from == naming) ≡ false) → (W.disk.bare (uid_number act) ≡ true) ⊎ (W.disk.bare (uid_number act) ≡ false) → Walks P e k (tell root false ((act, ending.Abort) ∷ []) from ∷ []) (Up P k t) d M
       by_naming top same (inr plain) = top_told top (λ bare. absurd (never bare plain))
@@ -175,7 +175,7 @@ module _ (x : ℕ) (tops : Kinds) (e k : ℕ) (d : Disk) (t : Parts) (from : ℕ
           let m : mail.Message = mail.ToldSerial (uid_number act) from in
           let over : SerialOver (after W (machine.Halt (uid_number act))).disk act (is_deferred act d.intents) = serial_over x k tops d t t.coord M (after W (machine.Halt (uid_number act))) seen kinds act begun.here (ap is_gone (put_same (uid_number act) disk.Gone W.disk.stage)) serial no_top
           (λ w o top root apart. let r = open_root tops d.intents t.coord w act knows o top root apart in never (opened act r.branch r.found r.unended) closed) knows.rooted in
-          told (after (after W (machine.Halt (uid_number act))) (machine.Send m)) root false ending.Abort (inr (inl (over.serial, inl refl)), λ a. absurd (cc a)) (sends_seen x tops (after W (machine.Halt (uid_number act))) (up k d t M) m (over.over, over.unlisted from free) seen)
+          told (after (after W (machine.Halt (uid_number act))) (machine.Send m)) root false ending.Abort (inr (inl (over.serial, inl refl)), λ a. absurd (cc a)) (sends_seen x tops (after W (machine.Halt (uid_number act))) (up k d t M) m (over.over, over.unlisted from free) refl seen)
 
       by : (tops.is_top (uid_number act) ≡ true) ⊎ (tops.is_top (uid_number act) ≡ false) → (tops.is_serial (uid_number act) ≡ true) ⊎ (tops.is_serial (uid_number act) ≡ false) → Walks P e k (tell root false ((act, ending.Abort) ∷ []) from ∷ []) (Up P k t) d M
       by (inl top) s = by_naming top (test_cases from naming) (bool_cases (W.disk.bare (uid_number act)))

@@ -33,7 +33,7 @@ use Rattle.arj_disk_view_law.specs.Deciding.{SeesRecords, Stills, nodes_of}
 use Rattle.arj_disk_view_law.specs.Pairs.{AreAbove, AreSorted}
 use Rattle.arj_disk_view_law.specs.Entries.{SeesEntry}
 use Rattle.arj_disk_view_law.specs.Stores.{SeesStore}
-use Rattle.arj_disk_view_law.specs.Sees.{Kinds, IsLater, SeesDisks, SeesCoord, SeesNotes, SeesDown, SeesConfirmed, IsSeenByDisks, is_awaited_by}
+use Rattle.arj_disk_view_law.specs.Sees.{may_note, Kinds, IsLater, SeesDisks, SeesCoord, SeesNotes, SeesDown, SeesConfirmed, IsSeenByDisks, is_awaited_by}
 use Rattle.arj_disk_view_law.proofs.DecidingSteps.{decision_is_made, stores_stay_calm, entry_stays_calm}
 use Rattle.arj_disk_view_law.proofs.Frames.{nodes_to, node_here, works_same, claim_here, says_seen, posts_seen}
 use Rattle.arj_disk_view_law.proofs.Halts.{stops_seen}
@@ -44,10 +44,12 @@ use Rattle.arj_disk_view_law.proofs.Notes.{fixed_later, notes_later}
 use Rattle.arj_disk_view_law.proofs.ServedWalks.{HaveBegun, begun_on}
 use Rattle.arj_disk_view_law.proofs.TickWalks.{Next, tolds_walk_again}
 use Rattle.arj_disk_view_law.proofs.TopFrames.{apart_number, branch_at}
+use Rattle.arj_disk_view_law.proofs.Along.{along_goes}
+use Rattle.arj_disk_law.specs.Guards.{Decides}
 
 -- ---- a top is decided whose node is down
 
-module _ (x k : ℕ) (tops : Kinds) (W : World) (M : Seen) (d : Disk) (u : Uid) (i : Intent) (s : SeesDisks x tops W (down k d M)) (there : at_uid u d.intents ≡ Some i) (open_yet : disk.decided W.disk (uid_number u) ≡ false) where
+module _ (x k : ℕ) (tops : Kinds) (W : World) (M : Seen) (d : Disk) (u : Uid) (i : Intent) (s : SeesDisks x tops W (down k d M)) (there : at_uid u d.intents ≡ Some i) (open_yet : disk.decided W.disk (uid_number u) ≡ false) (noted : may_note tops.walk (Decides (uid_number u)) ≡ true) where
   abbrev V : World
   V = after W (machine.Decide (uid_number u))
 
@@ -106,6 +108,7 @@ module _ (x k : ℕ) (tops : Kinds) (W : World) (M : Seen) (d : Disk) (u : Uid) 
   pub decided_down : SeesDisks x tops V (down k d M)
   decided_down = record {
     whole = effect_keeps W (machine.Decide (uid_number u)) made.0 s.whole;
+    along = along_goes tops.walk W (machine.Decide (uid_number u) ∷ []) (made.0, tt) (noted, tt) s.along;
     fixed = fixed_later tops W V later s.fixed;
     kinds = s.kinds;
     stores = λ m n is. stores_stay_calm x m n.disk.store W V made.1 (s.stores m n is);
@@ -127,18 +130,18 @@ record AllDecided (x k : ℕ) (tops : Kinds) (M : Seen) (d : Disk) (W : World) (
   later : IsLater W world
   done : AllByRecursion (λ (z : Uid × Intent). disk.decided world.disk (uid_number z.0) ≡ true) is
 
-decide_all : (x k : ℕ) (tops : Kinds) (M : Seen) (d : Disk) (is : List (Uid × Intent)) → AllByRecursion (λ (z : Uid × Intent). at_uid z.0 d.intents ≡ Some z.1) is → (W : World) → SeesDisks x tops W (down k d M) → AllDecided x k tops M d W is
-decide_all x k tops M d [] there W s = record { world = W; seen = s; later = later_same W; done = tt }
-decide_all x k tops M d (z ∷ zs) there W s = by (bool_cases (disk.decided W.disk (uid_number z.0))) (λ U h. decide_all x k tops M d zs there.1 U h)
+decide_all : (x k : ℕ) (tops : Kinds) (M : Seen) (d : Disk) (is : List (Uid × Intent)) → ((u : Uid) (i : Intent) → at_uid u d.intents ≡ Some i → may_note tops.walk (Decides (uid_number u)) ≡ true) → AllByRecursion (λ (z : Uid × Intent). at_uid z.0 d.intents ≡ Some z.1) is → (W : World) → SeesDisks x tops W (down k d M) → AllDecided x k tops M d W is
+decide_all x k tops M d [] noted there W s = record { world = W; seen = s; later = later_same W; done = tt }
+decide_all x k tops M d (z ∷ zs) noted there W s = by (bool_cases (disk.decided W.disk (uid_number z.0))) (λ U h. decide_all x k tops M d zs noted there.1 U h)
   where
     by : (disk.decided W.disk (uid_number z.0) ≡ true) ⊎ (disk.decided W.disk (uid_number z.0) ≡ false) → ((U : World) → SeesDisks x tops U (down k d M) → AllDecided x k tops M d U zs) → AllDecided x k tops M d W (z ∷ zs)
     by (inl done) ih = let r = ih W s in record { world = r.world; seen = r.seen; later = r.later; done = (r.later.decided (uid_number z.0) done, r.done) }
     by (inr open_yet) ih =
-        let r = ih (after W (machine.Decide (uid_number z.0))) (decided_down x k tops W M d z.0 z.1 s there.0 open_yet) in
+        let r = ih (after W (machine.Decide (uid_number z.0))) (decided_down x k tops W M d z.0 z.1 s there.0 open_yet (noted z.0 z.1 there.0)) in
         record {
           world = r.world;
           seen = r.seen;
-          later = later_on W (after W (machine.Decide (uid_number z.0))) r.world (later x k tops W M d z.0 z.1 s there.0 open_yet) r.later;
+          later = later_on W (after W (machine.Decide (uid_number z.0))) r.world (later x k tops W M d z.0 z.1 s there.0 open_yet (noted z.0 z.1 there.0)) r.later;
           done = (r.later.decided (uid_number z.0) (ap (λ b. b || disk.decided W.disk (uid_number z.0)) (test_same (uid_number z.0))), r.done);
         }
 
@@ -175,9 +178,10 @@ module _ (x k : ℕ) (tops : Kinds) (M : Seen) (d : Disk) (U : World) (s : SeesD
   up_parts = parts_in k (d.inc + 1) d
 
   -- the incarnation rises
-  raised : SeesDisks x tops U (down k d1 M)
+  pub raised : SeesDisks x tops U (down k d1 M)
   raised = record {
     whole = s.whole;
+    along = s.along;
     fixed = s.fixed;
     kinds = s.kinds;
     stores = moved (λ m n. SeesStore x m n.disk.store U.disk) s.stores (λ h. h);
@@ -261,6 +265,7 @@ module _ (x k : ℕ) (tops : Kinds) (M : Seen) (d : Disk) (U : World) (s : SeesD
   pub up_again : AllByRecursion (λ (z : Uid × Intent). disk.decided U.disk (uid_number z.0) ≡ true) d.intents → SeesDisks x tops U (up k d1 up_parts M)
   up_again done = record {
     whole = s.whole;
+    along = s.along;
     fixed = s.fixed;
     kinds = s.kinds;
     stores = moved (λ m n. SeesStore x m n.disk.store U.disk) s.stores (λ h. h);
@@ -303,17 +308,17 @@ module _ (x k : ℕ) (tops : Kinds) (e : ℕ) (d : Disk) (t : Parts) (S : State)
       let p : Post = record { from = k; to = n; message = message.Hello (record { node = k; inc = inc }) } in
       hellos_next inc ns rest go (said e more (posted p N)) V same (begun_on N.lines (numbered e more) hs hb) (says_seen x tops V (up k d t (posted p N)) (numbered e more) (posts_seen x tops V (up k d t N) p tt s))
 
-map_says : {A : Type 0} (f : A → Effect) (xs : List A) → ((a : A) → is_say (f a) ≡ true) → AreAll is_say (map f xs)
+pub map_says : {A : Type 0} (f : A → Effect) (xs : List A) → ((a : A) → is_say (f a) ≡ true) → AreAll is_say (map f xs)
 map_says f [] each = refl
 map_says f (a ∷ more) each = all_both is_say (f a ∷ []) (map f more) (ap (λ b. b && true) (each a)) (map_says f more each)
 
-back_says : (o : Option Naming) → AreAll is_say (naming_back o)
+pub back_says : (o : Option Naming) → AreAll is_say (naming_back o)
 back_says None = refl
 back_says (Some n) = all_flat is_say (λ (z : ℕ × Named). back_lines z.1) n.objects (λ z. map_says (λ (r : Row). Say (body.Granted 1 (last_uid r.holder) r.object r.mode)) (let o = z.1 in o.rows) (λ r. refl))
 
 -- ---- the restart
 
-module _ (x : ℕ) (tops : Kinds) (e k : ℕ) (hd : Header) (d : Disk) (M : Seen) (W : World) where
+module _ (x : ℕ) (tops : Kinds) (e k : ℕ) (hd : Header) (d : Disk) (M : Seen) (noted : (u : Uid) (i : Intent) → at_uid u d.intents ≡ Some i → may_note tops.walk (Decides (uid_number u)) ≡ true) (W : World) where
   abbrev Q : Seen → Type 0
   Q = IsSeenByDisks x tops
 
@@ -334,7 +339,7 @@ module _ (x : ℕ) (tops : Kinds) (e k : ℕ) (hd : Header) (d : Disk) (M : Seen
 
   last_walks : (N : Seen) → HaveBegun N.lines Hs → SeesDisks x tops W (down k d N) → Walks Q e k (recovered_records k d.intents ++ Sent) (Up Q k back) risen N
   last_walks N hb s =
-      let r : AllDecided x k tops N d W d.intents = decide_all x k tops N d d.intents (sorted_found d.intents (let z = s.records k (record { number = k; disk = d; live = None }) (node_here N k (record { number = k; disk = d; live = None })) in z.sorted)) W s in
+      let r : AllDecided x k tops N d W d.intents = decide_all x k tops N d d.intents noted (sorted_found d.intents (let z = s.records k (record { number = k; disk = d; live = None }) (node_here N k (record { number = k; disk = d; live = None })) in z.sorted)) W s in
       says_next x k tops e risen back r.world.disk Hs (recovered_records k d.intents) Sent (map_says (λ (z : Uid × Intent). Say (body.Recovered k z.0)) d.intents (λ z. refl))
       (tolds_walk_again x k tops e risen back r.world.disk back Hs d.intents (map query_about Hs ++ Hellos) r.done
       (queries_next x k tops e risen back r.world.disk Hs Hs Hellos (λ L h. h)
@@ -384,7 +389,7 @@ module _ (x : ℕ) (tops : Kinds) (e k : ℕ) (hd : Header) (d : Disk) (M : Seen
   )
 
 pub restarts_are_walked : RestartsAreWalked
-restarts_are_walked x tops e k hd d M begun W sees =
+restarts_are_walked x tops e k hd d M begun noted W sees =
     let hs : List Uid = uid_set (prepared_actions d.store ++ prepared_actions d.names) in
     let first : List Effect = Do Look ∷ Do (PutInc (d.inc + 1)) ∷ Say (body.Up k (d.inc + 1)) ∷ Do Look ∷ naming_back (naming_at k (d.inc + 1) d.names) in
     let next : List Effect = Do Look ∷ recovered_records k d.intents in
@@ -393,4 +398,4 @@ restarts_are_walked x tops e k hd d M begun W sees =
     let hellos : List Effect = map (hello_to k (d.inc + 1)) (without_number k (numbers_to hd.nodes)) in
     subst (λ es. Walks (IsSeenByDisks x tops) e k es (Up (IsSeenByDisks x tops) k (parts_in k (d.inc + 1) d)) d M)
     (sym (append_assoc ((first ++ next) ++ tolds) queries hellos ∙ append_assoc (first ++ next) tolds (queries ++ hellos) ∙ append_assoc first next (tolds ++ (queries ++ hellos))))
-    (restart_walks x tops e k hd d M W begun sees)
+    (restart_walks x tops e k hd d M noted W begun sees)

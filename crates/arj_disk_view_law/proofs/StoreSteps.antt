@@ -158,7 +158,7 @@ above_held s held new =
 module _ (x s : ℕ) (d : Pair) (W : World) (sees : SeesStore x s d W.disk) where
   -- nothing is done
   stays : (c : Pair) → SeesStore x s c W.disk → StoreGoes x s c W
-  stays c seen = record { effects = []; allowed = tt; there = seen; only = record { rest = refl; sent = refl; held = λ r e. refl; pend = λ r e. refl } }
+  stays c seen = record { effects = []; allowed = tt; plain = tt; there = seen; only = record { rest = refl; sent = refl; held = λ r e. refl; pend = λ r e. refl } }
 
   -- what is prepared besides is the plan's too
   planned_put : (a : Uid) (states : List ObjectState) → IsPlanned x W.disk a s states → (b : Uid) (ss : List ObjectState) → at_uid b (put_uid a states d.pend) ≡ Some ss → IsPlanned x W.disk b s ss
@@ -186,6 +186,7 @@ module _ (x s : ℕ) (d : Pair) (W : World) (sees : SeesStore x s d W.disk) wher
           let pair = prepares packed (object x) d (W.disk.held s) (W.disk.pend s) sees.pair a states (state_for (W.disk.plan t)) unsent none st f.1 (λ q of. (claims.planned.named q of).1) in
           record {
             effects = Keep t s ∷ [];
+            plain = (refl, tt);
             allowed = (record { asked = claims.asked named.0; free = none; below = λ g held. below st f.1.1 free.1 named.1 g held }, tt);
             there = record {
               pair = subst (λ o. SeesPair packed (object x) (pair_prepared a states d) (W.disk.held s) o) (sym (put_same s (Some (hold W.disk t)) W.disk.pend)) pair;
@@ -240,6 +241,7 @@ module _ (x s : ℕ) (d : Pair) (W : World) (sees : SeesStore x s d W.disk) wher
       by (inl f) (inr untouched) = absurd (never (own_target a f.0 f.1 f.2) (bare.untouched (uid_number a) untouched.0 s))
       by (inl f) (inl told) = record {
         effects = Drop s f.0 ∷ [];
+        plain = (refl, tt);
         allowed = ((f.1, subst (λ k. In (mail.ToldAbort k s) W.sent) (sym f.2) told), tt);
         there = record {
           pair = subst (λ o. SeesPair packed (object x) (pair_aborted a d) (W.disk.held s) o) (sym (put_same s None W.disk.pend)) (aborts_own packed (object x) d (W.disk.held s) (W.disk.pend s) sees.pair a f.0 f.1 f.2);
@@ -265,6 +267,7 @@ module _ (x s : ℕ) (d : Pair) (W : World) (sees : SeesStore x s d W.disk) wher
           let mine : In (mail.ToldCommit h.top s) W.sent = subst (λ k. In (mail.ToldCommit k s) W.sent) (sym f.2) told in
           record {
             effects = Move s h ∷ Finish s h ∷ [];
+            plain = (refl, (refl, tt));
             allowed = ((f.1, mine), ((f.1, mine, put_same s (Some h.new) W.disk.held), tt));
             there = record {
               pair = subst (λ o. SeesPair packed (object x) (pair_committed a d) o (put s None W.disk.pend s)) (sym (put_same s (Some h.new) W.disk.held))
@@ -296,6 +299,7 @@ module _ (x s : ℕ) (d : Pair) (W : World) (sees : SeesStore x s d W.disk) wher
           let h : Hold = f.0 in
           record {
             effects = Move s h ∷ [];
+            plain = (refl, tt);
             allowed = ((f.1, subst (λ k. In (mail.ToldCommit k s) W.sent) (sym f.2) told), tt);
             there = record {
               pair = subst (λ o. SeesPair packed (object x) (pair_in_part which a d) o (W.disk.pend s)) (sym (put_same s (Some h.new) W.disk.held)) (parts_own packed (object x) d (W.disk.held s) (W.disk.pend s) sees.pair which a q.0 h q.1 f.1 f.2 passes);

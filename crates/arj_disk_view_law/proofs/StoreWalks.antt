@@ -84,7 +84,7 @@ module _ (x k : ℕ) (tops : Kinds) (e : ℕ) where
       by (inl on) =
           let m : mail.Message = mail.Prepared (uid_number (actor h.path)) k in
           answers d t M (after W (machine.Send m)) from (response (asked_by h) (Reply.Prepared prepared.Yes))
-          (sends_seen x tops W (up k d t M) m (stores_answer x k d.store W (actor h.path) states own is on) s)
+          (sends_seen x tops W (up k d t M) m (stores_answer x k d.store W (actor h.path) states own is on) refl s)
           ((own.planned (actor h.path) states is).begun, λ also. inl refl)
 
   prepare_walks : (d : Disk) (t v : Parts) (from : ℕ) (h : Head) (states : List ObjectState) (outs : List Effect) (M : Seen) (W : World) → SeesDisks x tops W (up k d t M) → ClaimsPrepare x W (actor h.path) k states

@@ -68,7 +68,7 @@ module _ (x k : ℕ) (tops : Kinds) (e : ℕ) (d : Disk) (t : Parts) (C : Coord)
       let m : mail.Message = mail.ToldAbort (uid_number u) n in
       let p : Post = record { from = k; to = n; message = message.Told (record { root = root; ack = false; ends = (u, ending.Abort) ∷ [] }) } in
       aborted u root rest go top may ns (said e more (posted p N)) (after V (machine.Send m)) same
-      (sends_told (after V (machine.Send m)) N root ((u, ending.Abort) ∷ []) n more (inl (top, inl (inl refl)), λ a. absurd (cc a)) (sends_seen x tops V (up k d (with_coord t C) N) m (subst (λ D. Meaning D m) (sym same) (may n)) s))
+      (sends_told (after V (machine.Send m)) N root ((u, ending.Abort) ∷ []) n more (inl (top, inl (inl refl)), λ a. absurd (cc a)) (sends_seen x tops V (up k d (with_coord t C) N) m (subst (λ D. Meaning D m) (sym same) (may n)) refl s))
 
   nested : (root : Uid) (ends : List (Uid × End)) (rest : List Effect) → Goes rest → EndsNoTop tops (last_end ends) → (ns : List ℕ) → Goes (tell_all root false ends ns ++ rest)
   nested root ends rest go none [] N V same s = go N V same s
@@ -95,7 +95,7 @@ module _ (x k : ℕ) (tops : Kinds) (e : ℕ) (d : Disk) (t : Parts) (C : Coord)
           let p : Post = record { from = k; to = n; message = message.Told (record { root = u; ack = false; ends = (u, ending.Abort) ∷ [] }) } in
           ih (said e more (posted p N)) (after V (machine.Send m)) same
           (sends_told (after V (machine.Send m)) N u ((u, ending.Abort) ∷ []) n more (inr (inl (ap (λ (D : State). D.serial (uid_number u)) same ∙ over.serial, inl refl)), λ a. absurd (cc a))
-          (sends_seen x tops V (up k d (with_coord t C) N) m (subst (λ D. Meaning D m) (sym same) (over.over, over.unlisted n (free n is))) s))
+          (sends_seen x tops V (up k d (with_coord t C) N) m (subst (λ D. Meaning D m) (sym same) (over.over, over.unlisted n (free n is))) refl s))
 
   by_kind : (u : Uid) (kd : Kind) (p : Path) (rest : List Effect) → Goes rest → MayTell tops d C S u kd p → Goes (tolds_by u kd p d.intents C ++ rest)
   by_kind u kind.Nested p rest go may = nested (root_of p) (up_to u (ends_of (root_of p) C.tree)) rest go may (servers_told u (root_at (root_of p) C) C)

@@ -92,7 +92,7 @@ module _ (x k : ℕ) (tops : Kinds) (e : ℕ) (d : Disk) (t : Parts) (S : State)
           record {
             world = after V (machine.Send m);
             same = same;
-            seen = sends_seen x tops V (up k d t N) m (ap (λ (D : State). D.begun (uid_number act)) same ∙ prep.begun, ap (λ (D : State). target (D.plan (uid_number act)) n) same ∙ on) s;
+            seen = sends_seen x tops V (up k d t N) m (ap (λ (D : State). D.begun (uid_number act)) same ∙ prep.begun, ap (λ (D : State). target (D.plan (uid_number act)) n) same ∙ on) refl s;
             may = record { planned = planned (after V (machine.Send m)) same; asked = λ also. subst (λ w. In (mail.Prepare (uid_number w) n) (after V (machine.Send (mail.Prepare (uid_number act) n))).sent) (sym mine) (inl refl) };
           }
 
@@ -104,7 +104,7 @@ module _ (x k : ℕ) (tops : Kinds) (e : ℕ) (d : Disk) (t : Parts) (S : State)
       record {
         world = after V (machine.Send m);
         same = same;
-        seen = sends_seen x tops V (up k d t N) m now.stage s;
+        seen = sends_seen x tops V (up k d t N) m now.stage refl s;
         may = (
           own ∙ sym mine,
           subst (λ w. ClaimsConfirm x (after V (machine.Send (mail.Confirm (uid_number act)))) (uid_number w) (map {A = Used} {B = ℕ × ℕ} (λ u. (u.x, u.grant)) p.used) p.excluded (included_of p)) (sym mine)
@@ -153,7 +153,7 @@ module _ (x k : ℕ) (tops : Kinds) (e : ℕ) (d : Disk) (t : Parts) (S : State)
       let p : Post = record { from = k; to = n; message = message.Told (record { root = root; ack = true; ends = (u, ending.Commit) ∷ [] }) } in
       tolds_of_one u root ns rest done go (said e more (posted p N)) (after V (machine.Send m)) same (begun_on N.lines (numbered e more) hs hb)
       (says_seen x tops (after V (machine.Send m)) (up k d t (posted p N)) (numbered e more) (posts_seen x tops (after V (machine.Send m)) (up k d t N) p (inl (inl (inl refl)), λ a. inl refl)
-      (sends_seen x tops V (up k d t N) m (ap (λ D. disk.decided D (uid_number u)) same ∙ done) s)))
+      (sends_seen x tops V (up k d t N) m (ap (λ D. disk.decided D (uid_number u)) same ∙ done) refl s)))
 
   pub tolds_walk_again : (telling : List (Uid × Intent)) (rest : List Effect) → AllByRecursion (λ (z : Uid × Intent). disk.decided S (uid_number z.0) ≡ true) telling → Next rest → Next (tolds_again telling ++ rest)
   tolds_walk_again [] rest done go = go

@@ -1,5 +1,5 @@
 -- Ends that are told to a store, walked through.
-use Rattle.std.proofs.Common.{◌≡◌, ℕ, ◌==◌, List, [], ◌∷◌, ◌++◌, Bool, true, false, Option, Some, None, refl, sym, ◌∙◌, ap, subst, inl, inr, append_assoc, append-nil}
+use Rattle.std.proofs.Common.{◌≡◌, ℕ, ◌==◌, List, [], ◌∷◌, ◌++◌, Bool, true, false, Option, Some, None, refl, sym, ◌∙◌, ap, subst, inl, inr, append_assoc, append-nil, not, ◌||◌}
 use Rattle.std.specs.Prelude.{if◌then◌else◌}
 use Rattle.std.specs.List.{list_all}
 use Rattle.std.proofs.lemmas.Bool.{and_parts}
@@ -30,18 +30,20 @@ use Rattle.arj_view_law.specs.Walks.{Walks, Stops, Up}
 use Rattle.arj_disk_view_law.specs.Entries.{SeesEntry}
 use Rattle.arj_disk_view_law.specs.Deciding.{SeesRecords}
 use Rattle.arj_disk_view_law.specs.Stores.{SeesStore, StoreGoes, ClaimsCommit, ClaimsAbort}
-use Rattle.arj_disk_view_law.specs.Sees.{Kinds, ClaimsEnd, ClaimsLast, SeesDisks, SeesCoord, SeesNotes, SeesDown, SeesConfirmed, IsLater, IsSeenByDisks, EndsAreWalked}
+use Rattle.arj_disk_view_law.specs.Sees.{may_note, Kinds, ClaimsEnd, ClaimsLast, SeesDisks, SeesCoord, SeesNotes, SeesDown, SeesConfirmed, IsLater, IsSeenByDisks, EndsAreWalked}
 use Rattle.arj_disk_view_law.proofs.Frames.{nodes_to, node_here, says_seen, posts_seen, sends_seen, store_goes_seen}
 use Rattle.arj_disk_view_law.proofs.Halts.{stops_seen}
 use Rattle.arj_disk_view_law.proofs.Keys as keys
 use Rattle.arj_disk_view_law.proofs.Later.{effects_are_later, later_same}
 use Rattle.arj_disk_view_law.proofs.StoreSteps.{prepared_is, unprepared, stores_commit, stores_stop_in_part, stores_abort}
+use Rattle.arj_disk_law.specs.Guards.{Acks}
 
 -- ---- a node whose coordinator and naming stay
 
 pub parts_seen : (x k : ℕ) (tops : Kinds) (W : World) (M : Seen) (d : Disk) (t v : Parts) → v.coord ≡ t.coord → (((o : Naming) → t.naming ≡ Some o → SeesConfirmed o W.disk) → (o : Naming) → v.naming ≡ Some o → SeesConfirmed o W.disk) → SeesDisks x tops W (up k d t M) → SeesDisks x tops W (up k d v M)
 parts_seen x k tops W M d t v coord named s = record {
   whole = s.whole;
+  along = s.along;
   fixed = s.fixed;
   kinds = s.kinds;
   stores = to (λ m n. SeesStore x m n.disk.store W.disk) s.stores (λ h. h);
@@ -90,7 +92,7 @@ module _ (x k : ℕ) (tops : Kinds) (e : ℕ) where
       let own = s.stores k (record { number = k; disk = d; live = Some t }) (node_here M k (record { number = k; disk = d; live = Some t })) in
       let V : World = after W (machine.Send m) in
       let p : Post = record { from = k; to = from; message = message.Acked (record { act = u }) } in
-      let sent : SeesDisks x tops V (up k d t M) = sends_seen x tops W (up k d t M) m (told refl, holds_not d.store W u own none, λ one. absurd (never (ap (λ n. n == 1) one ∙ test_same 1) apart)) s in
+      let sent : SeesDisks x tops V (up k d t M) = sends_seen x tops W (up k d t M) m (told refl, holds_not d.store W u own none, λ one. absurd (never (ap (λ n. n == 1) one ∙ test_same 1) apart)) (ap (λ b. not b || may_note tops.walk (Acks (uid_number u))) apart) s in
       (V, parts_seen x k tops V (said e more (posted p M)) d t v coord (λ f o is. f o (sym named ∙ is)) (says_seen x tops V (up k d t (posted p M)) (numbered e more) (posts_seen x tops V (up k d t M) p (inl refl) sent)))
 
   -- ---- the store's part

@@ -21,12 +21,14 @@ use Rattle.arj_disk_view_law.specs.Asking.{TopGoes}
 use Rattle.arj_disk_view_law.specs.Deciding.{SeesRecords}
 use Rattle.arj_disk_view_law.specs.Entries.{SeesEntry}
 use Rattle.arj_disk_view_law.specs.Stores.{SeesStore}
-use Rattle.arj_disk_view_law.specs.Sees.{Kinds, IsFuture, IsNamedCommit, SeesDisks, SeesCoord, SeesNotes, SeesDown, SeesConfirmed, KnowsNow, IsLater, Works, TopsAreSeen}
+use Rattle.arj_disk_view_law.specs.Sees.{may_note, Kinds, IsFuture, IsNamedCommit, SeesDisks, SeesCoord, SeesNotes, SeesDown, SeesConfirmed, KnowsNow, IsLater, Works, TopsAreSeen}
 use Rattle.arj_disk_view_law.proofs.AskingSteps.{stores_by_top, entry_by_top}
 use Rattle.arj_disk_view_law.proofs.Doings.{doing_here, doing_other, doing_tree}
 use Rattle.arj_disk_view_law.proofs.Frames.{nodes_to, node_here, works_same, claim_here}
 use Rattle.arj_disk_view_law.proofs.Later.{effects_are_later}
 use Rattle.arj_disk_view_law.proofs.Notes.{fixed_later, notes_later, doing_noted}
+use Rattle.arj_disk_view_law.proofs.Along.{along_goes, begins_only}
+use Rattle.arj_disk_law.specs.Guards.{Begins}
 
 -- ---- an action and its place
 
@@ -57,7 +59,7 @@ pub apart_number : (u w : Uid) → w ≢ u → (uid_number w == uid_number u) �
 apart_number u w other = test_not (uid_number w) (uid_number u) (λ e. other (number_tells w u e))
 
 module _ (x k : ℕ) (tops : Kinds) (W : World) (M : Seen) (d : Disk) (t : Parts) (u : Uid) (b : Branch) (q : Doing) (f : Doing → Doing) (sees : SeesDisks x tops W (up k d t M))
-    (found : branch_of u t.coord.tree ≡ Some b) (is_open_yet : b.ended ≡ None) (doing : doing_of u t.coord ≡ Some q) (top : tops.is_top (uid_number u) ≡ true) (plain : W.disk.serial (uid_number u) ≡ false) (took : (let r = f q in r.took) ≡ q.took) (now : (U : World) → IsLater W U → KnowsNow x U (let r = f q in r.now))
+    (found : branch_of u t.coord.tree ≡ Some b) (is_open_yet : b.ended ≡ None) (doing : doing_of u t.coord ≡ Some q) (top : tops.is_top (uid_number u) ≡ true) (may : may_note tops.walk (Begins (uid_number u)) ≡ true) (plain : W.disk.serial (uid_number u) ≡ false) (took : (let r = f q in r.took) ≡ q.took) (now : (U : World) → IsLater W U → KnowsNow x U (let r = f q in r.now))
     (goes : TopGoes (uid_number u) (λ S. Works x tops S (uid_number u) b.kind (f q).now) W) where
   abbrev V : World
   V = run W goes.effects
@@ -163,6 +165,7 @@ module _ (x k : ℕ) (tops : Kinds) (W : World) (M : Seen) (d : Disk) (t : Parts
   pub top_goes_seen : SeesDisks x tops V (up k d (with_coord t (on_doing u f t.coord)) M)
   top_goes_seen = record {
     whole = run_keeps W goes.effects goes.allowed sees.whole;
+    along = along_goes tops.walk W goes.effects goes.allowed (begins_only (may_note tops.walk) (uid_number u) goes.effects may goes.own) sees.along;
     fixed = fixed_later tops W V later sees.fixed;
     kinds = kinds_stay;
     stores = nodes_go (λ m n. SeesStore x m n.disk.store W.disk) (λ m n. SeesStore x m n.disk.store V.disk) sees.stores (λ s. stores_by_top x k (uid_number u) d.store W V goes.only s) (λ m n e s. stores_by_top x m (uid_number u) n.disk.store W V goes.only s);
@@ -181,4 +184,4 @@ module _ (x k : ℕ) (tops : Kinds) (W : World) (M : Seen) (d : Disk) (t : Parts
   }
 
 pub tops_are_seen : TopsAreSeen
-tops_are_seen x k tops W M d t u b q f sees found open_yet doing top plain took now goes = top_goes_seen x k tops W M d t u b q f sees found open_yet doing top plain took now goes
+tops_are_seen x k tops W M d t u b q f sees found open_yet doing top may plain took now goes = top_goes_seen x k tops W M d t u b q f sees found open_yet doing top may plain took now goes

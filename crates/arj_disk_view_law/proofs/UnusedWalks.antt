@@ -95,7 +95,7 @@ module _ (x : ℕ) (tops : Kinds) (e k : ℕ) (d : Disk) (t : Parts) (act : Uid)
       nobody_in n on = cc on
 
   seen : SeesDisks x tops V (up k d (with_coord t C) M)
-  seen = calm_seen x k tops W M d t act (machine.Halt (uid_number act)) d.intents C sees here tt halts.0 refl stages (λ w other. refl) halts.1 (λ m n apart r. record { sorted = r.sorted; own = r.own; is = r.is })
+  seen = calm_seen x k tops W M d t act (machine.Halt (uid_number act)) d.intents C sees here tt refl halts.0 refl stages (λ w other. refl) halts.1 (λ m n apart r. record { sorted = r.sorted; own = r.own; is = r.is })
       (ended_coord x k d.inc tops t.coord C W.disk V.disk act b ending.Commit mine found tree_now (decided_doings t.coord act b (knows.at_work act b found).0 p found at_work) stages refl refl refl (ap is_gone (put_same (uid_number act) disk.Gone W.disk.stage)) (λ w other. refl) (λ bare r is. absurd (not_bare bare)))
       (ended_noted x d.intents t.coord C V act b ending.Commit (notes_later x W V later d.intents t.coord notes) found tree_now (decided_tellings t.coord act b (knows.at_work act b found).0 p found at_work) (decided_doings t.coord act b (knows.at_work act b found).0 p found at_work)
       (λ i there. absurd (never_some there none)) (λ r is. own r (some_is (decided_doing t.coord act b (knows.at_work act b found).0 p found at_work) is))

@@ -6,6 +6,7 @@ use Rattle.arj_protocol.specs.Effect.{Pair}
 use Rattle.arj_protocol.specs.Order as order
 use Rattle.arj_disk_law.specs.Core.{Fresh}
 use Rattle.arj_disk_law.specs.Effects.{World, Effect, CanBegin, Follows, run}
+use Rattle.arj_disk_law.specs.Guards.{AreOnlyOf, only_begins}
 use Rattle.arj_disk_law.specs.Messages as mail
 use Rattle.arj_disk_law.specs.State.{State, Preparing, Confirming, target, undecided}
 use Rattle.arj_disk_law.specs.Words.{In}
@@ -44,10 +45,11 @@ pub record OnlyTop (t : ℕ) (W V : World) : Type 0 where
   pub gots : (z : ℕ) → (z == t) ≡ false → V.disk.got z ≡ W.disk.got z
   pub outcomes : (z : ℕ) → W.disk.begun z ≡ true → undecided V.disk z ≡ true → undecided W.disk z ≡ true
 
--- The machine goes to a state of which this holds.
+-- The machine goes to a state of which this holds. Naming's half has no part but in the beginning of the top's commit.
 pub record TopGoes (t : ℕ) (Q : State → Type 0) (W : World) : Type 0 where
   pub effects : List Effect
   pub allowed : Follows W effects
+  pub own : AreOnlyOf (only_begins t) effects
   pub there : Q (run W effects).disk
   pub only : OnlyTop t W (run W effects)
 

@@ -1,16 +1,16 @@
 -- What naming does at a Confirm, in the machine's terms: the list that a top leaves, and the entry that it has prepared.
-use Rattle.std.specs.Prelude.{⊤, ◌≡◌, ◌⊎◌, ◌<◌, ℕ, Bool, true, false, not, ◌&&◌, ◌==◌, List, [], ◌∷◌, filter, None, bytes_eq, is_some, map}
+use Rattle.std.specs.Prelude.{⊤, ◌≡◌, ◌⊎◌, ◌<◌, ℕ, Bool, true, false, not, ◌&&◌, ◌||◌, ◌==◌, List, [], ◌∷◌, filter, None, bytes_eq, is_some, map}
 use Rattle.std.specs.List.{list_any}
 use Rattle.arj_protocol.specs.Words.{Uid, Path, ObjectState, Entry, entry, is_listed, is_on}
 use Rattle.arj_protocol.specs.Ask.{top_of}
 use Rattle.arj_protocol.specs.Commit as commit
 use Rattle.arj_protocol.specs.Commit.{Used, included_of}
-use Rattle.arj_protocol.specs.Confirm.{Grants, Marks, marked, stores_after, entries_after, has_all, checked}
+use Rattle.arj_protocol.specs.Confirm.{Grants, Marks, marked, stores_after, entries_after, has_all, checked, confirms, lock_all, wanted}
 use Rattle.arj_protocol.specs.Effect.{Pair, is_prepared, pair_prepared}
 use Rattle.arj_protocol.specs.Laws.{names_grant}
 use Rattle.arj_protocol.specs.Naming.{Naming, is_over}
 use Rattle.arj_protocol.specs.Order.{uid_number}
-use Rattle.arj_disk_law.specs.Effects.{World, Agree, Pass, Enter, Locked, IsClear, MaySend, changed, entry_hold, new_list}
+use Rattle.arj_disk_law.specs.Effects.{World, Effect, Agree, Pass, Enter, Locked, IsClear, MaySend, changed, entry_hold, new_list}
 use Rattle.arj_disk_law.specs.Messages as mail
 use Rattle.arj_disk_law.specs.State.{State, Plan, Packed, decided, undecided, target, list_after}
 use Rattle.arj_disk_law.specs.Words.{In}
@@ -90,6 +90,20 @@ pub record IsNewConfirm (p : Path) (grants : Grants) (excluded included : Marks)
   pub unconfirmed : is_on n.confirmed (top_of p) ≡ false
   pub unprepared : is_prepared (top_of p) d ≡ false
   pub free : checked p grants excluded included d n ≡ None
+
+-- the three kinds of confirmation
+abbrev pub IsConfirmation : ℕ → Effect → Type 0
+IsConfirmation t e = (e ≡ Agree t) ⊎ (e ≡ Pass t) ⊎ (e ≡ Enter t)
+
+-- naming's part with the exclude locks of a new Confirm
+abbrev pub with_locks : Path → Grants → Marks → Pair → Naming → Naming
+with_locks p grants excluded d n = let l = lock_all (wanted (top_of p) grants excluded d) p n in l.part
+
+-- Naming's part where the machine confirms nothing: it refused, after it has taken the exclude locks or before, or it answered
+-- Yes again.
+abbrev pub IsUnconfirmed : Path → Grants → Marks → Marks → Pair → Naming → Naming → Type 0
+IsUnconfirmed p grants excluded included d n o = (o ≡ n) ⊎ ((o ≡ with_locks p grants excluded d n) × IsNewConfirm p grants excluded included d n)
+    ⊎ ((o ≡ confirms (top_of p) n) × ((is_on n.confirmed (top_of p) || is_prepared (top_of p) d) ≡ true) × (is_over p n ≡ false))
 
 -- ---- what a coordinator asks
 

@@ -5,6 +5,7 @@ use Rattle.arj_protocol.specs.Effect.{Pair, is_prepared, pair_committed, pair_ab
 use Rattle.arj_protocol.specs.Order.{at_uid, uid_number}
 use Rattle.arj_disk_law.specs.Core.{Bare}
 use Rattle.arj_disk_law.specs.Effects.{World, Effect, Follows, run}
+use Rattle.arj_disk_law.specs.Guards.{ArePlain}
 use Rattle.arj_disk_law.specs.Messages as mail
 use Rattle.arj_disk_law.specs.State.{State, naming, undecided, target}
 use Rattle.arj_disk_law.specs.Words.{In}
@@ -24,10 +25,11 @@ pub record OnlyEntry (W V : World) : Type 0 where
   pub rest : V.disk ≡ record W.disk { entry = V.disk.entry; entry_pend = V.disk.entry_pend }
   pub sent : V.sent ≡ W.sent
 
--- The machine goes to a state in which the entry is seen with this pair.
+-- The machine goes to a state in which the entry is seen with this pair. Naming's memory has no part in it.
 pub record EntryGoes (x : ℕ) (d : Pair) (W : World) : Type 0 where
   pub effects : List Effect
   pub allowed : Follows W effects
+  pub plain : ArePlain effects
   pub there : SeesEntry x d (run W effects).disk
   pub only : OnlyEntry W (run W effects)
 

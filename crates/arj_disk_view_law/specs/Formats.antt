@@ -1,5 +1,5 @@
 -- The object as a format leaves it.
-use Rattle.std.specs.Prelude.{◌≡◌, ◌⊎◌, ℕ, true, List, [], ◌∷◌}
+use Rattle.std.specs.Prelude.{◌≡◌, ◌⊎◌, ℕ, true, List, [], ◌∷◌, None}
 use Rattle.arj_protocol.specs.Words.{Header, ObjectLine}
 use Rattle.arj_protocol.specs.Order.{has}
 use Rattle.arj_protocol.specs.World.{format}
@@ -21,4 +21,4 @@ pub record HasObject (hd : Header) (x : ℕ) : Type 0 where
 
 -- Of each object of the header the machine's first state is seen in a formatted world.
 abbrev pub FormatsAreSeen : Type 0
-FormatsAreSeen = (hd : Header) (x : ℕ) (tops : Kinds) → HasObject hd x → IsSeenByDisks x tops (see [] (format hd))
+FormatsAreSeen = (hd : Header) (x : ℕ) (tops : Kinds) → tops.walk ≡ None → HasObject hd x → IsSeenByDisks x tops (see [] (format hd))

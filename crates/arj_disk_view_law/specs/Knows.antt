@@ -16,12 +16,16 @@ use Rattle.arj_disk_view_law.specs.Asking.{IsUnanswered}
 use Rattle.arj_disk_view_law.specs.Plans.{IsTidy}
 use Rattle.arj_disk_view_law.specs.Sees.{Kinds, AreOneChange}
 
--- Tops are actions, each of its root's node and incarnation; the root of a constituent is a serializing action.
+-- Tops are actions, each of its root's node and incarnation; the root of a constituent is a serializing action, which is its own, as
+-- is whoever has no such root.
 pub record KnowsKinds (tops : Kinds) : Type 0 where
   pub named : (z : ℕ) → tops.is_top z ≡ true → (w : Uid) × (uid_number w ≡ z)
   pub serial : (w r : Uid) → tops.is_top (uid_number w) ≡ true → tops.root (uid_number w) ≡ uid_number r → w ≢ r → (tops.is_top (uid_number r) ≡ false) × (tops.is_serial (uid_number r) ≡ true)
   pub own : (w r : Uid) → tops.is_top (uid_number w) ≡ true → tops.root (uid_number w) ≡ uid_number r → (w.node ≡ r.node) × (w.inc ≡ r.inc)
   pub rooted : (w : Uid) → tops.is_top (uid_number w) ≡ true → (r : Uid) × (tops.root (uid_number w) ≡ uid_number r)
+  pub alone : (z : ℕ) → tops.is_serial z ≡ true → tops.root z ≡ z
+  pub plain : (z : ℕ) → tops.is_serial (tops.root z) ≡ false → tops.root z ≡ z
+  pub idem : (z : ℕ) → tops.root (tops.root z) ≡ tops.root z
 
 -- An action's path by its kind: tops that are no constituents and serializing actions are their own roots.
 abbrev pub IsOfKind : Kinds → Uid → Kind → Path → Type 0
@@ -69,18 +73,18 @@ pub record IsOpenSerial (c : Coord) (u : Uid) : Type 0 where
   pub unended : branch.ended ≡ None
   pub serial : branch.kind ≡ kind.Serial
 
--- What is known of a coordinator and the records beside it: each action stands at its place, at the end of its path, which its
--- root begins; it is at work in its place; an open one has no record; and a record has its top's root.
+-- What is known of a coordinator and the records beside it: each action stands at its place, at the end of its path, which a
+-- top's root begins; it is at work in its place; an open one has no record; and a record has its top's root.
 pub record KnowsCoord (tops : Kinds) (intents : List (Uid × Intent)) (c : Coord) : Type 0 where
   pub path : (u : Uid) (b : tree.Branch) → branch_of u c.tree ≡ Some b → actor b.path ≡ u
   pub kind : (u : Uid) (b : tree.Branch) → branch_of u c.tree ≡ Some b → IsOfKind tops u b.kind b.path
-  pub root : (u : Uid) (b : tree.Branch) → branch_of u c.tree ≡ Some b → tops.root (uid_number u) ≡ uid_number (root_of b.path)
+  pub root : (u : Uid) (b : tree.Branch) → branch_of u c.tree ≡ Some b → tops.is_top (uid_number u) ≡ true → tops.root (uid_number u) ≡ uid_number (root_of b.path)
   pub headed : (u : Uid) (b : tree.Branch) → branch_of u c.tree ≡ Some b → is_on (uids_of b.path) (root_of b.path) ≡ true
   pub stem : (u : Uid) (b : tree.Branch) → branch_of u c.tree ≡ Some b → is_constituent b.kind ≡ true → (r : tree.Branch) × (branch_of (root_of b.path) c.tree ≡ Some r)
   pub at_work : (u : Uid) (b : tree.Branch) → branch_of u c.tree ≡ Some b → (q : Doing) × (doing_of u c ≡ Some q)
   pub unrecorded : (u : Uid) → is_open u c.tree ≡ true → at_uid u intents ≡ None
   pub awaited : (u : Uid) (j : Intent) → at_uid u c.telling ≡ Some j → (i : Intent) × (at_uid u intents ≡ Some i)
-  pub rooted : (u : Uid) (i : Intent) → at_uid u intents ≡ Some i → tops.root (uid_number u) ≡ uid_number i.root
+  pub rooted : (u : Uid) (i : Intent) → at_uid u intents ≡ Some i → tops.is_top (uid_number u) ≡ true → tops.root (uid_number u) ≡ uid_number i.root
   pub machines : (u : Uid) (q : Doing) (m : commit.Machine) → doing_of u c ≡ Some q → q.now ≡ Committing m → KnowsMachine tops c u m
   pub starts : (u : Uid) (b : tree.Branch) (req : ℕ) → branch_of u c.tree ≡ Some b → tops.is_top (uid_number u) ≡ true → KnowsPlan u (plan_for b.path req (root_at (root_of b.path) c) c)
   pub above : (u : Uid) (b : tree.Branch) → branch_of u c.tree ≡ Some b → b.ended ≡ None → is_constituent b.kind ≡ true → IsOpenSerial c (root_of b.path)

@@ -25,6 +25,7 @@ use Rattle.arj_protocol.specs.Step.{Node}
 use Rattle.arj_protocol.specs.Tree.{Branch, branch_of, is_open}
 use Rattle.arj_disk_law.specs.Effects as machine
 use Rattle.arj_disk_law.specs.Effects.{World, Follows, Whole, run}
+use Rattle.arj_disk_law.specs.Guards.{AreOnlyOf, Note, Begins, Decides}
 use Rattle.arj_disk_law.specs.Messages as mail
 use Rattle.arj_disk_law.specs.State as disk
 use Rattle.arj_disk_law.specs.State.{State, naming, target, is_gone, is_sealed, undecided, KnownIn, Known}
@@ -40,12 +41,34 @@ use Rattle.arj_disk_view_law.specs.Pairs.{Among, packed}
 use Rattle.arj_disk_view_law.specs.Plans.{IsTidy, plan_at, used_at}
 use Rattle.arj_disk_view_law.specs.Stores.{SeesStore, ClaimsPrepare, ClaimsCommit, ClaimsAbort}
 
+-- A walk through a handler's effects: the machine's world where it begins, and what it may do in which naming's half has a part.
+pub record Walk : Type 0 where
+  pub from : World
+  pub noted : Note → Bool
+
 -- Of each action, by its number: whether it is a top, constituents among them; whether it is a serializing action; and its
--- root. A run's journal fixes them.
+-- root. A run's journal fixes them. And the walk, where what the machine does is followed from its beginning.
 pub record Kinds : Type 0 where
   pub is_top : ℕ → Bool
   pub is_serial : ℕ → Bool
   pub root : ℕ → ℕ
+  pub walk : Option Walk
+
+-- what may be done of that: anything, where no walk is followed
+abbrev pub may_note : Option Walk → Note → Bool
+may_note None n = true
+may_note (Some w) n = w.noted n
+
+-- the machine has come here from the beginning of the walk, by effects that it may do
+pub record Along (w : Walk) (W : World) : Type 0 where
+  pub effects : List machine.Effect
+  pub allowed : Follows w.from effects
+  pub here : run w.from effects ≡ W
+  pub only : AreOnlyOf w.noted effects
+
+abbrev pub IsAlong : Option Walk → World → Type 0
+IsAlong None W = ⊤
+IsAlong (Some w) W = Along w W
 
 -- ---- what messages claim
 
@@ -188,9 +211,10 @@ SeesConfirmed o S = (a : Uid) → is_on o.confirmed a ≡ true → (S.begun (uid
 
 -- ---- the disk half
 
--- `tops` says of what kind each action is.
+-- `tops` says of what kind each action is, and where the walk began that is followed.
 pub record SeesDisks (x : ℕ) (tops : Kinds) (W : World) (M : Seen) : Type 0 where
   pub whole : Whole W
+  pub along : IsAlong tops.walk W
   pub fixed : IsFixed tops W.disk
   pub kinds : (t : ℕ) → W.disk.begun t ≡ true → (tops.is_top t ≡ true) × (W.disk.serial t ≡ false)
   pub stores : (s : ℕ) (n : Node) → M.nodes s ≡ Some n → SeesStore x s n.disk.store W.disk
@@ -227,6 +251,14 @@ EffectsAreLater = (W : World) (es : List machine.Effect) → Follows W es → Wh
 
 abbrev pub ClaimsStay : Type 0
 ClaimsStay = (x : ℕ) (tops : Kinds) (W V : World) (lines more : List Line) (p : Post) → Whole W → IsLater W V → Claims x tops W lines p → Claims x tops V (lines ++ more) p
+
+-- from here on the walk is followed, where this may be noted
+abbrev pub followed : Kinds → World → (Note → Bool) → Kinds
+followed tops W f = record tops { walk = Some (record { from = W; noted = f }) }
+
+-- another walk may be followed, or none, where the machine is along it
+abbrev pub WalksAreFollowed : Type 0
+WalksAreFollowed = (x : ℕ) (tops : Kinds) (o : Option Walk) (W : World) (M : Seen) → IsAlong o W → SeesDisks x tops W M → SeesDisks x (record tops { walk = o }) W M
 
 -- ---- what handlers keep of the disk half
 
@@ -274,7 +306,7 @@ EndsAreWalked = (x : ℕ) (tops : Kinds) (e k : ℕ) (d : Disk) (t v : Parts) (f
 -- A step of an open top's commit machine: where the machine goes with it, the whole stays seen.
 abbrev pub TopsAreSeen : Type 0
 TopsAreSeen = (x k : ℕ) (tops : Kinds) (W : World) (M : Seen) (d : Disk) (t : Parts) (u : Uid) (b : Branch) (q : Doing) (f : Doing → Doing) → SeesDisks x tops W (up k d t M)
-    → branch_of u t.coord.tree ≡ Some b → b.ended ≡ None → doing_of u t.coord ≡ Some q → tops.is_top (uid_number u) ≡ true → W.disk.serial (uid_number u) ≡ false → (let r = f q in r.took) ≡ q.took → ((V : World) → IsLater W V → KnowsNow x V (let r = f q in r.now))
+    → branch_of u t.coord.tree ≡ Some b → b.ended ≡ None → doing_of u t.coord ≡ Some q → tops.is_top (uid_number u) ≡ true → may_note tops.walk (Begins (uid_number u)) ≡ true → W.disk.serial (uid_number u) ≡ false → (let r = f q in r.took) ≡ q.took → ((V : World) → IsLater W V → KnowsNow x V (let r = f q in r.now))
     → (goes : TopGoes (uid_number u) (λ S. let r = f q in Works x tops S (uid_number u) b.kind r.now) W) → SeesDisks x tops (run W goes.effects) (up k d (with_coord t (on_doing u f t.coord)) M)
 
 -- A store's answer to a Prepare that isn't Old: it is taken, and with the last one the coordinator asks naming.
@@ -300,13 +332,13 @@ pub record WaitsForStore (t : Parts) (from : ℕ) (act : Uid) (p : commit.Plan) 
 
 abbrev pub PreparedIsHeard : Type 0
 PreparedIsHeard = (x : ℕ) (tops : Kinds) (e k : ℕ) (d : Disk) (t : Parts) (from : ℕ) (act : Uid) (r : PreparedReply) (p : commit.Plan) (left : List ℕ) (intents : List (Uid × Intent)) (M : Seen)
-    → WaitsForStore t from act p left → tops.is_top (uid_number act) ≡ true → IsTaken r → (W : World) → SeesDisks x tops W (up k d t M) → ClaimsReply x W from act (Reply.Prepared r)
+    → WaitsForStore t from act p left → tops.is_top (uid_number act) ≡ true → may_note tops.walk (Begins (uid_number act)) ≡ true → IsTaken r → (W : World) → SeesDisks x tops W (up k d t M) → ClaimsReply x W from act (Reply.Prepared r)
     → let did = moved_commit act (commit.answered from (Preparing p left) (Reply.Prepared r)) intents t.coord in Walks (IsSeenByDisks x tops) e k did.outs (Up (IsSeenByDisks x tops) k (with_coord t did.part)) d M
 
 -- Stores that don't answer are given up: the coordinator asks naming.
 abbrev pub SilentAreGivenUp : Type 0
 SilentAreGivenUp = (x : ℕ) (tops : Kinds) (e k : ℕ) (d : Disk) (t : Parts) (from : ℕ) (act : Uid) (p : commit.Plan) (left : List ℕ) (intents : List (Uid × Intent)) (M : Seen)
-    → WaitsForStore t from act p left → tops.is_top (uid_number act) ≡ true → (W : World) → SeesDisks x tops W (up k d t M)
+    → WaitsForStore t from act p left → tops.is_top (uid_number act) ≡ true → may_note tops.walk (Begins (uid_number act)) ≡ true → (W : World) → SeesDisks x tops W (up k d t M)
     → let did = gives_up act intents t.coord (Committing (Preparing p left)) in Walks (IsSeenByDisks x tops) e k did.outs (Up (IsSeenByDisks x tops) k (with_coord t did.part)) d M
 
 -- An open top that is to begin its prepare step: it waits for its votes, or its commit just starts.
@@ -326,7 +358,7 @@ pub record MayPrepare (x k : ℕ) (tops : Kinds) (W : World) (t : Parts) (act : 
 -- The prepare step begins: each target is sent its states.
 abbrev pub PreparesAreAsked : Type 0
 PreparesAreAsked = (x : ℕ) (tops : Kinds) (e k : ℕ) (d : Disk) (t : Parts) (act : Uid) (p : commit.Plan) (s : ℕ) (ss : List ℕ) (intents : List (Uid × Intent)) (M : Seen) (W : World)
-    → targets_of p ≡ s ∷ ss → MayPrepare x k tops W t act p → SeesDisks x tops W (up k d t M)
+    → targets_of p ≡ s ∷ ss → MayPrepare x k tops W t act p → may_note tops.walk (Begins (uid_number act)) ≡ true → SeesDisks x tops W (up k d t M)
     → let did = step_commit act (begin_prepare (targets_of p) p) intents t.coord in Walks (IsSeenByDisks x tops) e k did.outs (Up (IsSeenByDisks x tops) k (with_coord t did.part)) d M
 
 -- what a plan changes: of each object one state, of an object that it uses
@@ -353,7 +385,7 @@ pub record WaitsForNaming (t : Parts) (intents : List (Uid × Intent)) (act : Ui
 -- Naming's Yes: the record is written where there is one, the top is decided, and all nodes that it sent something are told.
 abbrev pub ConfirmedIsHeard : Type 0
 ConfirmedIsHeard = (x : ℕ) (tops : Kinds) (e k : ℕ) (d : Disk) (t : Parts) (from : ℕ) (act : Uid) (p : commit.Plan) (M : Seen)
-    → WaitsForNaming t d.intents act p → tops.is_top (uid_number act) ≡ true → (W : World) → SeesDisks x tops W (up k d t M) → ClaimsReply x W from act (Reply.Confirmed confirmed.Yes)
+    → WaitsForNaming t d.intents act p → tops.is_top (uid_number act) ≡ true → may_note tops.walk (Decides (uid_number act)) ≡ true → (W : World) → SeesDisks x tops W (up k d t M) → ClaimsReply x W from act (Reply.Confirmed confirmed.Yes)
     → let did = moved_commit act (commit.answered from (Confirming p) (Reply.Confirmed confirmed.Yes)) d.intents t.coord in Walks (IsSeenByDisks x tops) e k did.outs (Up (IsSeenByDisks x tops) k (with_coord t did.part)) d M
 
 -- An open top without a record may be aborted by itself, whatever the cause: all nodes that it sent something are told.

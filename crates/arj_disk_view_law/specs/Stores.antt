@@ -6,6 +6,7 @@ use Rattle.arj_protocol.specs.Effect.{Pair, Ready, held_at, holder_of, is_prepar
 use Rattle.arj_protocol.specs.Order.{at_uid, uid_number}
 use Rattle.arj_disk_law.specs.Core.{Bare}
 use Rattle.arj_disk_law.specs.Effects.{World, Effect, Follows, MaySend, run}
+use Rattle.arj_disk_law.specs.Guards.{ArePlain}
 use Rattle.arj_disk_law.specs.Messages as mail
 use Rattle.arj_disk_law.specs.State.{State, target, state_for, naming}
 use Rattle.arj_disk_law.specs.Words.{In}
@@ -30,10 +31,11 @@ pub record OnlyStore (s : ℕ) (W V : World) : Type 0 where
   pub held : (r : ℕ) → (r == s) ≡ false → V.disk.held r ≡ W.disk.held r
   pub pend : (r : ℕ) → (r == s) ≡ false → V.disk.pend r ≡ W.disk.pend r
 
--- The machine goes to a state in which the store is seen with this pair.
+-- The machine goes to a state in which the store is seen with this pair. Naming's half has no part in it.
 pub record StoreGoes (x s : ℕ) (d : Pair) (W : World) : Type 0 where
   pub effects : List Effect
   pub allowed : Follows W effects
+  pub plain : ArePlain effects
   pub there : SeesStore x s d (run W effects).disk
   pub only : OnlyStore s W (run W effects)
 

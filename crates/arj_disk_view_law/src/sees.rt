@@ -1,11 +1,12 @@
 // The disk half of the view, whole.
-ghost use Rattle.arj_disk_view_law.specs.Sees.{ClaimsStay, EffectsAreLater, EndsAreWalked, HellosAreWalked, IsLoad, IsPrepare, IsServed, LinesAreSeen, RequestIsWalked, StopsAreSeen};
+ghost use Rattle.arj_disk_view_law.specs.Sees.{ClaimsStay, EffectsAreLater, EndsAreWalked, HellosAreWalked, IsLoad, IsPrepare, IsServed, LinesAreSeen, RequestIsWalked, StopsAreSeen, WalksAreFollowed};
 
 /// What messages claim in the machine's terms stays true as the machine goes on and the journal grows, so that an old frame
-/// may be taken at any time. It does nothing when it runs.
+/// may be taken at any time; and what is seen doesn't depend on the walk that is followed. It does nothing when it runs.
 pub fn claims_stay_true()
     ensures later { EffectsAreLater }
     ensures claims { ClaimsStay }
+    ensures followed { WalksAreFollowed }
 {}
 
 /// The whole disk half is kept where a node stops at any time, and where lines are said; and by the requests to stores and

@@ -540,7 +540,7 @@ module _ (x : ℕ) (tops : Kinds) (u : Uid) (d : Pair) (n : Naming) (A : Office)
   -- ---- a serializing action
 
   module _ (kind : tops.is_serial (uid_number u) ≡ true) (serial : A.world.disk.serial (uid_number u) ≡ true) (telling : In (ToldSerial (uid_number u) naming) A.world.sent)
-      (ended : (h : Hold) → A.world.disk.entry_pend ≡ Some h → A.world.disk.root h.top ≡ uid_number u → A.names.given h.top ≡ true) where
+      (ended : is_on n.told u ≡ false → (h : Hold) → A.world.disk.entry_pend ≡ Some h → A.world.disk.root h.top ≡ uid_number u → A.names.given h.top ≡ true) where
     plain_kind : IsNested tops (uid_number u) → ⊥
     plain_kind nested = never kind nested.1
 
@@ -561,7 +561,7 @@ module _ (x : ℕ) (tops : Kinds) (u : Uid) (d : Pair) (n : Naming) (A : Office)
     by_serial true on = record { acts = []; may = tt; there = (only_here, sees) }
     by_serial false off = record {
       acts = machine.EndSerial (uid_number u) ∷ [];
-      may = (record { serial = serial; told = telling; clear = ended }, tt);
+      may = (record { serial = serial; told = telling; clear = ended off }, tt);
       there = (
         record { world = refl; inc = refl; confd = refl; had = refl; kept = refl; answers = refl; told = λ h on. put_cases (λ b. b ≡ true) (uid_number u) true A.names.told h (λ same. refl) (λ other. on) },
         ended_memory x tops n A.world.disk A.names (let B = acted A (machine.EndSerial (uid_number u)) in B.names) u ending.Abort sees refl refl plain_kind refl serial_named,

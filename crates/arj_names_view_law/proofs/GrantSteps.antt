@@ -102,7 +102,7 @@ module _ (x : ℕ) (root : Uid) (c : Coord) (r : Root) (g : Grant) (A : Office) 
     kept = λ i serial had. let f = s.kept i serial had in (f.0, f.1, least_with x f.0 i g r.grants f.2);
   }
 
-  heard : g.x ≡ x → SeesGrants x root c (with_grant g r) A.world.disk (record A.names { had = put2 (uid_number g.top) g.least true A.names.had })
+  pub heard : g.x ≡ x → SeesGrants x root c (with_grant g r) A.world.disk (record A.names { had = put2 (uid_number g.top) g.least true A.names.had })
   heard same = record {
     own = λ w i is off had. ⊎_elim
         (λ (here : (uid_number w ≡ t) × (i ≡ g.least)). let f = taken_new g r.grants in record { grant = f.grant; there = in_to f.grant (granted_with g r.grants) f.there; top_is = f.top_is ∙ sym (number_tells w g.top here.0); of = f.of ∙ same; low = omega (arith, f.low, here.1) })

@@ -19,10 +19,10 @@ use Rattle.arj_disk_law.specs.Names as machine
 use Rattle.arj_disk_law.specs.Names.{Names, Office, Act, Kept, acted}
 use Rattle.arj_disk_law.specs.State.{Idle}
 use Rattle.arj_disk_law.specs.Words.{In, has, put2}
-use Rattle.arj_disk_law.proofs.Base.{never, never_some, or_cases, or_left, or_right, put2_rises, put2_same, some_is, test_is, test_same}
+use Rattle.arj_disk_law.proofs.Base.{falls_to, never, never_some, or_cases, or_left, or_right, put2_rises, put2_same, some_is, test_is, test_same}
 use Rattle.arj_disk_view_law.specs.Sees.{Kinds, IsFixed}
 use Rattle.arj_names_view_law.specs.Grants.{HasLeast, SeesGrants}
-use Rattle.arj_names_view_law.specs.Lists.{AfterAnswer, AreSame, CommitsHaveLists, HasKeptList, HasList, HasRetained, IsLasting, IsNamedNow, IsShort, IsTopOf, ListsAreHeard, OnlyKept, SeesLists}
+use Rattle.arj_names_view_law.specs.Lists.{AfterAnswer, AreSame, CommitsHaveLists, HasKeptList, HasList, HasRetained, IsLasting, IsNamedNow, LeavesOthers, IsShort, IsTopOf, ListsAreHeard, OnlyKept, SeesLists}
 use Rattle.arj_names_view_law.specs.Memory.{NamesGo}
 use Rattle.arj_names_view_law.proofs.GrantSteps.{Taken, came_from, taken_old}
 
@@ -302,7 +302,7 @@ module _ (x g : ℕ) (tops : Kinds) (root t : Uid) (c : Coord) (r q : Root) (kno
       nothing = λ e. absurd (never_some is e);
     }
 
-  keeping : SeesLists x tops root c q M → NamesGo A (λ C. OnlyKept A C × SeesLists x tops root c q C.names)
+  keeping : SeesLists x tops root c q M → NamesGo A (λ C. OnlyKept A C × SeesLists x tops root c q C.names × (C.names.had ≡ put2 (uid_number t) g true A.names.had) × LeavesOthers tops root A C)
   keeping seen = record {
     acts = machine.Hear (uid_number t) g false known.stores ∷ keeps (uid_number t) g known.stores chosen;
     may = (record { answered = answered; idle = idle }, keep_runs (uid_number t) g known.stores chosen B answered idle chosen_may);
@@ -313,9 +313,14 @@ module _ (x g : ℕ) (tops : Kinds) (root t : Uid) (c : Coord) (r q : Root) (kno
         had = λ z i h. had_is z i (rises z i h);
       },
       seen,
+      ap (λ (N : Names). N.had) (keep_names (uid_number t) g known.stores chosen B),
+      λ h o. kept_is h ∙ ap (λ b. if b then Some (record { since = g; list = known.stores }) else A.names.kept h) (falls_to (has h chosen) (λ on. o (of_root_chosen h on))),
     );
   }
     where
+      of_root_chosen : (h : ℕ) → has h chosen ≡ true → tops.root h ≡ uid_number root
+      of_root_chosen h on = ap (λ f. f h) (sym fixed.root) ∙ (chosen_may h on).0 ∙ ap (λ f. f (uid_number t)) fixed.root ∙ top.of_root
+
       had_same : (z j : ℕ) → put2 (uid_number t) g true A.names.had z j ≡ M.had z j
       had_same z j = sym (ap (λ (N : Names). N.had z j) (keep_names (uid_number t) g known.stores chosen B))
 
@@ -350,14 +355,14 @@ module _ (x g : ℕ) (tops : Kinds) (root t : Uid) (c : Coord) (r q : Root) (kno
           by true on = record { had = had_now; kept = record { since = g; list = known.stores }; there = kept_is (uid_number root) ∙ ap (λ b. if b then Some (record { since = g; list = known.stores }) else A.names.kept (uid_number root)) on }
           by false off = record { had = had_now; kept = h.kept; there = kept_is (uid_number root) ∙ ap (λ b. if b then Some (record { since = g; list = known.stores }) else A.names.kept (uid_number root)) off ∙ h.there }
 
-  pub lists_heard : NamesGo A (λ C. OnlyKept A C × SeesLists x tops root c q C.names)
+  pub lists_heard : NamesGo A (λ C. OnlyKept A C × SeesLists x tops root c q C.names × (C.names.had ≡ put2 (uid_number t) g true A.names.had) × LeavesOthers tops root A C)
   lists_heard = by (kept_of x r) refl (becomes known at free (kept_of x r))
     where
-      by : (o : Option Known) → kept_of x r ≡ o → Becomes known free o (let m = bound_by free known at (kept_of x r) in m.kept) → NamesGo A (λ C. OnlyKept A C × SeesLists x tops root c q C.names)
+      by : (o : Option Known) → kept_of x r ≡ o → Becomes known free o (let m = bound_by free known at (kept_of x r) in m.kept) → NamesGo A (λ C. OnlyKept A C × SeesLists x tops root c q C.names × (C.names.had ≡ put2 (uid_number t) g true A.names.had) × LeavesOthers tops root A C)
       by o e (stays k was is apart) = record {
         acts = machine.Hear (uid_number t) g false known.stores ∷ [];
         may = (record { answered = answered; idle = idle }, tt);
-        there = (record { names = refl; world = refl; had = rises }, stayed k (e ∙ was) (after.kept ∙ is) apart);
+        there = (record { names = refl; world = refl; had = rises }, stayed k (e ∙ was) (after.kept ∙ is) apart, refl, λ h o. refl);
       }
       by o e (first l was is binding stores) = keeping (fresh l (after.kept ∙ is) binding stores (s.nothing (e ∙ was)))
       by o e (again k l was is alike binding stores) = keeping (repeated k l (e ∙ was) (after.kept ∙ is) alike binding stores)

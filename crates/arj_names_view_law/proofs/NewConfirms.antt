@@ -8,7 +8,7 @@ use Rattle.arj_protocol.specs.Words.{Uid, Entry, ObjectState, ConfirmedReply, Pa
 use Rattle.arj_protocol.specs.Words.confirmed
 use Rattle.arj_protocol.specs.Words.what
 use Rattle.arj_protocol.specs.Ask.{top_of}
-use Rattle.arj_protocol.specs.Confirm.{Grants, Marks, confirms, conflict_in, entries_after, entry_state, first_of_each, has_all, is_bare, is_prepared_with, is_there, is_wanted, lock_all, marked, other_grant, refused_exclude, same_nodes, wanted, wants_lock}
+use Rattle.arj_protocol.specs.Confirm.{Grants, Marks, checked, confirms, conflict_in, entries_after, entry_state, first_of_each, has_all, is_bare, is_prepared_with, is_there, is_wanted, lock_all, marked, other_grant, refused_exclude, same_nodes, wanted, wants_lock}
 use Rattle.arj_protocol.specs.Effect.{Pair, either}
 use Rattle.arj_protocol.specs.Laws.{names_grant}
 use Rattle.arj_protocol.specs.Naming.{Naming, entry_of, listed_entry}
@@ -28,14 +28,14 @@ use Rattle.arj_disk_law.proofs.Base.{bool_cases, falls_to, never, or_cases, or_l
 use Rattle.arj_disk_law.proofs.Booking.{changes_part, clear, unconfirmed, undone}
 use Rattle.arj_disk_law.proofs.Listing.{has_filtered}
 use Rattle.arj_disk_law.proofs.NamingResults.{booked}
-use Rattle.arj_disk_view_law.specs.Confirming.{AreNew, IsBooked, IsNewConfirm}
+use Rattle.arj_disk_view_law.specs.Confirming.{IsConfirmation, AreNew, IsBooked, IsNewConfirm}
 use Rattle.arj_disk_view_law.specs.Entries.{SeesEntry}
 use Rattle.arj_disk_view_law.specs.Pairs.{Among, Holder, IsOf, packed_entry}
 use Rattle.arj_disk_view_law.specs.Sees.{Kinds, ClaimsConfirm}
 use Rattle.arj_disk_view_law.proofs.ConfirmSteps.{Held, held_is, marked_is, stands_there}
 use Rattle.arj_disk_view_law.proofs.ConfirmWalks.{are_new, both_none, each_none, has_listed, last_two, new_not, not_empty, not_there}
 use Rattle.arj_disk_view_law.proofs.Keys as keys
-use Rattle.arj_names_view_law.specs.Booked.{HasGrant, IsConfirmation, IsConfirmedBy, IsNext, NamesGrants, NewConfirmsAreActs, NewConfirmsAreBooked, OldConfirmsAreNothing}
+use Rattle.arj_names_view_law.specs.Booked.{HasGrant, IsConfirmedBy, IsNext, NamesGrants, NewConfirmsAreActs, NewConfirmsAreBooked, OldConfirmsAreNothing}
 use Rattle.arj_names_view_law.specs.Calls.{HasExclude, OnlyLocks}
 use Rattle.arj_names_view_law.specs.Memory.{IsOfTop, NamesGo, SeesNaming, SeesRows}
 use Rattle.arj_names_view_law.proofs.Binding.{path_untold, with_is}
@@ -120,6 +120,17 @@ any_prepared {X} f u v (e ∷ es) is h = ⊎_elim
     (λ (apart : u ≢ e.0). or_right (f e) (list_any f es) (any_prepared f u v es (sym (keys.at_there u e.0 e.1 es apart) ∙ is) h))
     (uid_cases u e.0)
 
+-- with nothing to refuse the grants are naming's, and each exclude lock is free
+no_refusal : (p : Path) (grants : Grants) (excluded included : Marks) (d : Pair) (n : Naming) → checked p grants excluded included d n ≡ None
+    → (first_of_each (other_grant n) grants ≡ None) × (first_of_each (refused_exclude p n) (wanted (top_of p) grants excluded d) ≡ None)
+no_refusal p grants excluded included d n free =
+    let last : Option ConfirmedReply = either (first_of_each (is_there d) included) (first_of_each is_bare (entries_after (top_of p) grants excluded included d)) in
+    let one = both_none (first_of_each (other_grant n) grants) (either (first_of_each (refused_exclude p n) (wanted (top_of p) grants excluded d)) last) free in
+    (one.0, (both_none (first_of_each (refused_exclude p n) (wanted (top_of p) grants excluded d)) last one.1).0)
+
+pub exclude_free : (p : Path) (grants : Grants) (excluded included : Marks) (d : Pair) (n : Naming) → checked p grants excluded included d n ≡ None → (y : ℕ) → order.has (wanted (top_of p) grants excluded d) y ≡ true → conflict_in y p (at_number y n.objects) ≡ None
+exclude_free p grants excluded included d n free y on = unrefused (λ (r : Row). confirmed.Conflict (last_uid r.holder) r.mode) (conflict_in y p (at_number y n.objects)) (each_free (refused_exclude p n) y (wanted (top_of p) grants excluded d) on (no_refusal p grants excluded included d n free).1)
+
 -- ---- the whole
 
 module _ (x : ℕ) (tops : Kinds) (p : Path) (grants : Grants) (excluded included : Marks) (d : Pair) (n : Naming) (A : Office) (c : names.Named A) (sees : SeesNaming x tops n A.world.disk A.names) (here : SeesEntry x d A.world.disk)
@@ -141,9 +152,7 @@ module _ (x : ℕ) (tops : Kinds) (p : Path) (grants : Grants) (excluded include
   Entries_now = entries_after (top_of p) grants excluded included d
 
   first_two : (first_of_each (other_grant n) grants ≡ None) × (first_of_each (refused_exclude p n) Wanted_now ≡ None)
-  first_two =
-      let one = both_none (first_of_each (other_grant n) grants) (either (first_of_each (refused_exclude p n) Wanted_now) (either (first_of_each (is_there d) included) (first_of_each is_bare Entries_now))) new.free in
-      (one.0, (both_none (first_of_each (refused_exclude p n) Wanted_now) (either (first_of_each (is_there d) included) (first_of_each is_bare Entries_now)) one.1).0)
+  first_two = no_refusal p grants excluded included d n new.free
 
   others : (first_of_each (is_there d) included ≡ None) × (first_of_each is_bare Entries_now ≡ None)
   others = last_two p grants excluded included d n new.free
@@ -209,7 +218,7 @@ module _ (x : ℕ) (tops : Kinds) (p : Path) (grants : Grants) (excluded include
   Locks B = OnlyLocks A B × SeesNaming x tops (let l = lock_all (wanted (top_of p) grants excluded d) p n in l.part) B.world.disk B.names × HasExclude x (uid_number (top_of p)) (wanted (top_of p) grants excluded d) n A B
 
   first : NamesGo A Locks
-  first = excludes x tops p Wanted_now n A c sees of (λ y on. unrefused (λ (r : Row). confirmed.Conflict (last_uid r.holder) r.mode) (conflict_in y p (at_number y n.objects)) (each_free (refused_exclude p n) y Wanted_now on first_two.1))
+  first = excludes x tops p Wanted_now n A c sees of (exclude_free p grants excluded included d n new.free)
 
   abbrev M : Names
   M = let C = end_of A first.acts in C.names

@@ -1,5 +1,5 @@
 -- A commit may begin in the machine.
-use Rattle.std.proofs.Common.{◌≡◌, ◌⊎◌, ℕ, ◌==◌, List, [], ◌∷◌, Bool, true, false, cond, Option, Some, None, refl, sym, ◌∙◌, ap, inl, inr, ⊎_elim, map, is_some}
+use Rattle.std.proofs.Common.{◌≡◌, ◌⊎◌, ℕ, ◌==◌, List, [], ◌∷◌, Bool, true, false, cond, Option, Some, None, refl, sym, ◌∙◌, ap, subst, inl, inr, ⊎_elim, map, is_some}
 use Rattle.std.specs.Prelude.{unwrap_or}
 use Rattle.arj_protocol.specs.Words.{Uid, ObjectState}
 use Rattle.arj_protocol.specs.Commit as commit
@@ -7,15 +7,16 @@ use Rattle.arj_protocol.specs.Commit.{Used, changed_of}
 use Rattle.arj_protocol.specs.Coord.{Coord, Joined, Root, joins_on, known_for, later_state, latest_of, nothing_known, objects_in, or_kept_state, used_of}
 use Rattle.arj_protocol.specs.Order.{at_number, number_set, uid_number}
 use Rattle.arj_disk_law.specs.Guards.{IsPresent, MayBegin}
+use Rattle.arj_disk_law.specs.Laws.{BasedIn}
 use Rattle.arj_disk_law.specs.Named as names
 use Rattle.arj_disk_law.specs.Names as machine
 use Rattle.arj_disk_law.specs.Names.{Names, Office, Kept, load_of}
-use Rattle.arj_disk_law.specs.State.{State, Packed, Plan}
+use Rattle.arj_disk_law.specs.State.{State, Packed, Plan, undecided}
 use Rattle.arj_disk_law.specs.Words.{In, has}
-use Rattle.arj_disk_law.proofs.Base.{never, some_is, test_is}
+use Rattle.arj_disk_law.proofs.Base.{falls_to, never, some_is, test_is}
 use Rattle.arj_disk_view_law.specs.Plans.{loads, plan_at, plan_by, used_at}
 use Rattle.arj_disk_view_law.specs.Sees.{Kinds, IsFixed}
-use Rattle.arj_names_view_law.specs.Begins.{CommitsMayBegin, IsOpening, SeesRoot}
+use Rattle.arj_names_view_law.specs.Begins.{CommitsMayBegin, IsOpening, OpeningsStay, SeesRoot}
 use Rattle.arj_names_view_law.specs.Lists.{HasKeptList, IsTopOf}
 use Rattle.arj_names_view_law.specs.Loads.{HasLoaded}
 use Rattle.arj_names_view_law.proofs.ListSteps.{commits_have_lists}
@@ -100,3 +101,13 @@ module _ (x : ℕ) (tops : Kinds) (root t : Uid) (c : Coord) (r : Root) (p : com
 
 pub commits_may_begin : CommitsMayBegin
 commits_may_begin x tops root t c r p A named fixed sees top used opening = may_begin x tops root t c r p A named fixed sees top used opening
+
+pub openings_stay : OpeningsStay
+openings_stay x t c r p A C later tops none can o = record {
+  idle = can.idle;
+  root = can.root;
+  first = λ z of. falls_to (undecided C.world.disk z) (λ u. never (none.opened z u) (o.first z (ap (λ f. f z) (sym later.root) ∙ of ∙ ap (λ f. f (uid_number t)) later.root)));
+  called = o.called;
+  based = λ w is. subst (λ f. BasedIn f C.world.disk.tops w) (sym none.first) (subst (λ ds. BasedIn A.world.disk.first ds w) (sym tops) (o.based w is));
+  writer = λ w is. let q = o.writer w is in (q.0, λ e. q.1 (ap (λ (g : Packed). g.writer) (sym none.first) ∙ e));
+}

@@ -5,13 +5,15 @@ use Rattle.arj_protocol.specs.Commit as commit
 use Rattle.arj_protocol.specs.Coord.{Coord, Root, Said, is_called, objects_in, survives, used_of}
 use Rattle.arj_protocol.specs.Order.{uid_number}
 use Rattle.arj_protocol.specs.Tree.{is_spent}
+use Rattle.arj_disk_law.specs.Effects.{Allowed, Begin}
 use Rattle.arj_disk_law.specs.Guards.{MayBegin}
 use Rattle.arj_disk_law.specs.Laws.{IsBased}
 use Rattle.arj_disk_law.specs.Named.{Named}
 use Rattle.arj_disk_law.specs.Names.{Office}
 use Rattle.arj_disk_law.specs.State.{Packed, Plan, Idle, is_gone, undecided}
 use Rattle.arj_disk_view_law.specs.Plans.{plan_at}
-use Rattle.arj_disk_view_law.specs.Sees.{Kinds, IsFixed}
+use Rattle.arj_disk_view_law.specs.Sees.{Kinds, IsFixed, IsLater}
+use Rattle.arj_names_view_law.specs.Both.{OpensNone}
 use Rattle.arj_names_view_law.specs.Lists.{IsLasting, IsTopOf, SeesLists}
 use Rattle.arj_names_view_law.specs.Loads.{HaveLoads, KeepsState}
 
@@ -37,3 +39,7 @@ pub record IsOpening (x : ℕ) (t : Uid) (c : Coord) (r : Root) (p : Plan) (A : 
 abbrev pub CommitsMayBegin : Type 0
 CommitsMayBegin = (x : ℕ) (tops : Kinds) (root t : Uid) (c : Coord) (r : Root) (p : commit.Plan) (A : Office) → Named A → IsFixed tops A.world.disk → SeesRoot x tops root t c r A → IsTopOf tops root t
     → p.used ≡ map (used_of t r c) (objects_in t r c) → IsOpening x t c r (plan_at x p) A → MayBegin A (uid_number t) (plan_at x p)
+
+-- It is so still where the disk half has gone on and opened no outcome, as long as the commit may begin there.
+abbrev pub OpeningsStay : Type 0
+OpeningsStay = (x : ℕ) (t : Uid) (c : Coord) (r : Root) (p : Plan) (A C : Office) → IsLater A.world C.world → C.world.disk.tops ≡ A.world.disk.tops → OpensNone A.world.disk C.world.disk → Allowed C.world (Begin (uid_number t) p) → IsOpening x t c r p A → IsOpening x t c r p C

@@ -6,13 +6,13 @@ use Rattle.arj_protocol.specs.Confirm.{Grants, Marks, confirms, lock_all, wanted
 use Rattle.arj_protocol.specs.Effect.{Pair}
 use Rattle.arj_protocol.specs.Naming.{Naming}
 use Rattle.arj_protocol.specs.Order.{uid_number}
-use Rattle.arj_disk_law.specs.Effects.{Effect, Agree, Pass, Enter, Allowed, after}
+use Rattle.arj_disk_law.specs.Effects.{Effect, Allowed, after}
 use Rattle.arj_disk_law.specs.Guards.{HasPart}
 use Rattle.arj_disk_law.specs.Named.{Named}
 use Rattle.arj_disk_law.specs.Names.{Names, Office, Answer}
 use Rattle.arj_disk_law.specs.State.{State, Packed, last}
 use Rattle.arj_disk_law.specs.Words.{has, In}
-use Rattle.arj_disk_view_law.specs.Confirming.{IsBooked, IsNewConfirm}
+use Rattle.arj_disk_view_law.specs.Confirming.{IsBooked, IsConfirmation, IsNewConfirm}
 use Rattle.arj_disk_view_law.specs.Entries.{SeesEntry}
 use Rattle.arj_disk_view_law.specs.Sees.{Kinds, ClaimsConfirm}
 use Rattle.arj_names_view_law.specs.Memory.{IsOfTop, NamesGo, SeesNaming}
@@ -37,9 +37,6 @@ NewConfirmsAreBooked = (x : ℕ) (tops : Kinds) (p : Path) (grants : Grants) (ex
     → IsNewConfirm p grants excluded included d n → IsBooked A.world.disk (uid_number (top_of p))
 
 -- ---- what the call does
-
-abbrev pub IsConfirmation : ℕ → Effect → Type 0
-IsConfirmation t e = (e ≡ Agree t) ⊎ (e ≡ Pass t) ⊎ (e ≡ Enter t)
 
 -- Of the machine only this effect is done, and naming's locks and whom it confirmed change.
 pub record IsConfirmedBy (A B : Office) (e : Effect) : Type 0 where

@@ -88,7 +88,7 @@ TopsEndByActs = (x : ℕ) (tops : Kinds) (u : Uid) (e : End) (d : Pair) (n : Nam
 -- The end of a serializing action, once the entries of those whose locks go with it have ended.
 abbrev pub SerialsEndByActs : Type 0
 SerialsEndByActs = (x : ℕ) (tops : Kinds) (u : Uid) (d : Pair) (n : Naming) (A : Office) → Named A → SeesNaming x tops n A.world.disk A.names → IsFixed tops A.world.disk → tops.is_serial (uid_number u) ≡ true → A.world.disk.serial (uid_number u) ≡ true
-    → In (ToldSerial (uid_number u) naming) A.world.sent → ((h : Hold) → A.world.disk.entry_pend ≡ Some h → A.world.disk.root h.top ≡ uid_number u → A.names.given h.top ≡ true)
+    → In (ToldSerial (uid_number u) naming) A.world.sent → (is_on n.told u ≡ false → (h : Hold) → A.world.disk.entry_pend ≡ Some h → A.world.disk.root h.top ≡ uid_number u → A.names.given h.top ≡ true)
     → NamesGo A (λ B. OnlyEnds A B × SeesNaming x tops (let s = told u ending.Abort d n in s.part) B.world.disk B.names)
 
 -- The end of a nested action is nothing to the machine, and so is the word that a node is up again.

@@ -1,8 +1,10 @@
 pub mod Begins
 pub mod Booked
+pub mod Both
 pub mod Calls
 pub mod Grants
 pub mod Lists
 pub mod Loads
 pub mod Memory
 pub mod Restarts
+pub mod Steps

@@ -15,7 +15,7 @@ use Rattle.arj_disk_law.specs.Named.{Named}
 use Rattle.arj_disk_law.specs.Names as machine
 use Rattle.arj_disk_law.specs.Names.{Names, Office, Answer, Kept, lists_after, retained}
 use Rattle.arj_disk_law.specs.State.{State, Idle}
-use Rattle.arj_disk_law.specs.Words.{In, has}
+use Rattle.arj_disk_law.specs.Words.{In, has, put2}
 use Rattle.arj_disk_view_law.specs.Confirming.{SaysMarks}
 use Rattle.arj_disk_view_law.specs.Sees.{Kinds, IsFixed}
 use Rattle.arj_names_view_law.specs.Grants.{SeesGrants}
@@ -86,11 +86,15 @@ pub record AfterAnswer (x g : ℕ) (t : Uid) (known : Known) (at : At) (free : B
   pub said : q.said ≡ r.said
   pub kept : kept_of x q ≡ (let m = bound_by free known at (kept_of x r) in m.kept)
 
--- The answer is taken, and with it its list for each of the root that has a grant of its incarnation.
+-- kept lists of other roots are left
+abbrev pub LeavesOthers : Kinds → Uid → Office → Office → Type 0
+LeavesOthers tops root A B = (h : ℕ) → (tops.root h ≡ uid_number root → ⊥) → B.names.kept h ≡ A.names.kept h
+
+-- The answer is taken, and with it its list for each of the root that has a grant of its incarnation; of grants it is the one new one.
 abbrev pub ListsAreHeard : Type 0
 ListsAreHeard = (x g : ℕ) (tops : Kinds) (root t : Uid) (c : Coord) (r q : Root) (known : Known) (at : At) (free : Bool) (A : Office) → Named A → IsFixed tops A.world.disk → SeesGrants x root c r A.world.disk A.names → SeesLists x tops root c r A.names → IsLasting x c r
     → IsTopOf tops root t → tops.root (uid_number root) ≡ uid_number root → A.world.disk.stage (uid_number t) ≡ Idle → In (machine.Bound (uid_number t) g false known.stores) A.names.answers → IsNamedNow x c r g known free → AfterAnswer x g t known at free r q
-    → NamesGo A (λ B. OnlyKept A B × SeesLists x tops root c q B.names)
+    → NamesGo A (λ B. OnlyKept A B × SeesLists x tops root c q B.names × (B.names.had ≡ put2 (uid_number t) g true A.names.had) × LeavesOthers tops root A B)
 
 -- ---- a commit's list
 

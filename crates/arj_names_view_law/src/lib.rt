@@ -3,13 +3,15 @@
 //! The machine (`arj_disk_law`, `specs/Names.antt`) has of naming's memory its incarnation, the locks on one entry, whom it was
 //! told of and whom it confirmed. `specs/Memory.antt` ties that to what the protocol's naming has. Each call of naming is then
 //! a list of the machine's acts, each of which may be done when it comes (`specs/Calls.antt`, `specs/Restarts.antt`); and what a
-//! Confirm counts on of the locks, which the disk half takes as known, follows (`specs/Booked.antt`). What it gives upward:
-//! naming's calls, one by one, `new_confirms_are_booked`, and what coordinators have of naming's grants, store lists and loads
-//! (`specs/Grants.antt`, `specs/Lists.antt`, `specs/Loads.antt`), by which a commit may begin (`specs/Begins.antt`).
+//! Confirm counts on of the locks, which the disk half takes as known, follows (`specs/Booked.antt`). Beside the disk half, of one
+//! state of the machine, naming's half is walked in `specs/Both.antt`. What it gives upward: naming's calls, one by one,
+//! `new_confirms_are_booked`, what coordinators have of naming's grants, store lists and loads (`specs/Grants.antt`,
+//! `specs/Lists.antt`, `specs/Loads.antt`), by which a commit may begin (`specs/Begins.antt`), and `walks_keep_both`.
 #![tactic(auto)]
 
 mod begins;
 mod booked;
+mod both;
 mod calls;
 mod coordinators;
 mod loads;
@@ -17,6 +19,7 @@ mod restarts;
 
 pub use begins::commits_may_begin;
 pub use booked::new_confirms_are_booked;
+pub use both::{roots_keep_their_part, walks_keep_both};
 pub use calls::{ends_are_acts, locks_are_acts};
 pub use coordinators::{grants_are_seen, lists_are_seen};
 pub use loads::loads_are_seen;

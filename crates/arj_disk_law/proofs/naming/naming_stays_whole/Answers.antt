@@ -1,4 +1,5 @@
 use Rattle.arj_disk_law.proofs.Acts.{acts_are_allowed}
+use Rattle.arj_disk_law.proofs.PlainActs.{plain_effects_are_acts}
 use Rattle.arj_disk_law.proofs.NamingResults.{first_is_named, stops_stay_named}
 use Rattle.arj_disk_law.proofs.naming.naming_stays_whole.Goals as goal
 
@@ -10,3 +11,6 @@ returns-clause-acts c = stops_stay_named
 
 pub returns-clause-allowed : goal.returns-clause-allowed
 returns-clause-allowed c = acts_are_allowed
+
+pub returns-clause-plain : goal.returns-clause-plain
+returns-clause-plain c = plain_effects_are_acts

@@ -1,4 +1,4 @@
-use Rattle.arj_disk_view_law.proofs.ConfirmWalks.{confirms_are_walked}
+use Rattle.arj_disk_view_law.proofs.ConfirmWalks.{confirms_are_walked, confirms_walk_once}
 use Rattle.arj_disk_view_law.proofs.WholeWalks.{acts_are_walked, messages_are_walked}
 use Rattle.arj_disk_view_law.proofs.inputs.inputs_keep_the_disk_half.Goals as goal
 
@@ -10,3 +10,6 @@ returns-clause-messages c = messages_are_walked
 
 pub returns-clause-confirms : goal.returns-clause-confirms
 returns-clause-confirms c = confirms_are_walked
+
+pub returns-clause-once : goal.returns-clause-once
+returns-clause-once c = confirms_walk_once

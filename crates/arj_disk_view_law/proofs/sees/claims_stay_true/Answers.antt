@@ -1,3 +1,4 @@
+use Rattle.arj_disk_view_law.proofs.Follows.{walks_are_followed}
 use Rattle.arj_disk_view_law.proofs.Later.{effects_are_later, claims_stay}
 use Rattle.arj_disk_view_law.proofs.sees.claims_stay_true.Goals as goal
 
@@ -6,3 +7,6 @@ returns-clause-later c = effects_are_later
 
 pub returns-clause-claims : goal.returns-clause-claims
 returns-clause-claims c = claims_stay
+
+pub returns-clause-followed : goal.returns-clause-followed
+returns-clause-followed c = walks_are_followed

@@ -1,0 +1,4 @@
+pub mod Decisions
+pub mod Doing
+pub mod Steps
+pub mod Tying

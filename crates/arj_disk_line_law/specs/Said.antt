@@ -1,0 +1,73 @@
+-- The decisions of an object's machine against the journal, and back.
+use Rattle.std.specs.Prelude.{◌≡◌, ◌⊎◌, ℕ, Bool, true, false, List, [], ◌++◌, None, Some, Contains}
+use Rattle.arj_model.specs.Actions.{Act, acts}
+use Rattle.arj_protocol.specs.Words.{Header, Line, Uid}
+use Rattle.arj_protocol.specs.Words.ending
+use Rattle.arj_protocol.specs.Coord.{Doing, doing_of}
+use Rattle.arj_protocol.specs.Effect.{Disk, Intent}
+use Rattle.arj_protocol.specs.Node.{Parts}
+use Rattle.arj_protocol.specs.Order.{uid_number}
+use Rattle.arj_protocol.specs.Step.{Node}
+use Rattle.arj_protocol.specs.Tree.{Branch, branch_of}
+use Rattle.arj_protocol.specs.World.{Asked, format, run_all}
+use Rattle.arj_disk_law.specs.Effects as machine
+use Rattle.arj_disk_law.specs.State.{decided}
+use Rattle.arj_view_law.specs.Keeps.{Holds, Keeps}
+use Rattle.arj_view_law.specs.Seen.{Seen, up}
+use Rattle.arj_disk_view_law.specs.Formats.{HasObject}
+use Rattle.arj_disk_view_law.specs.Sees.{Kinds, SeesDisks}
+use Rattle.arj_disk_run_law.specs.Facts.{Gives}
+use Rattle.arj_line_law.specs.Book.{book, is_decided, is_top}
+use Rattle.arj_line_law.specs.Knows.{IsKept}
+use Rattle.arj_line_law.specs.Laws.{IsCommittedIn, IsDone}
+
+-- ---- what the machine decides is said
+
+-- The node is down with the action's record on its disk: its restart will say that it found it.
+pub record IsLate (u : Uid) (n : Node) : Type 0 where
+  pub down : n.live ≡ None
+  pub intent : Intent
+  pub there : Contains (let d = n.disk in d.intents) (u, intent)
+
+-- Each top that is decided, by the machine, at a node that is there, is decided by the journal, or its node is late to say so.
+abbrev pub AreSaid : machine.World → Seen → Type 0
+AreSaid W M = (u : Uid) (n : Node) → M.nodes u.node ≡ Some n → decided W.disk (uid_number u) ≡ true → (is_decided (book M.lines) u ≡ true) ⊎ IsLate u n
+
+-- ---- what the journal says is decided
+
+-- it began, and is no top
+abbrev pub IsPlain : List Line → Uid → Type 0
+IsPlain lines u = (a : Act) × Contains (let B = book lines in B.acts) a × (a.uid ≡ u) × (is_top a.kind ≡ false)
+
+-- the machine has decided it, or it needed no record; or it is idle, by the journal; or no top
+abbrev pub IsDoneBy : (List Line → Uid → Type 0) → machine.World → List Line → Uid → Type 0
+IsDoneBy Idle W lines u = (decided W.disk (uid_number u) ≡ true) ⊎ (W.disk.bare (uid_number u) ≡ true) ⊎ Idle lines u ⊎ IsPlain lines u
+
+abbrev pub AreDone : (List Line → Uid → Type 0) → machine.World → Seen → Type 0
+AreDone Idle W M = (u : Uid) → is_decided (book M.lines) u ≡ true → IsDoneBy Idle W M.lines u
+
+-- Which tops are idle is said of a journal. Of a relation it is taken that a top that committed while nobody took part in it is idle,
+-- and that a decided one stays so as the journal goes on; nodes are good and know the journal there.
+pub record KnowsIdle (R : Seen → Type 0) (Idle : List Line → Uid → Type 0) : Type 0 where
+  pub stays : (M : Seen) → R M → IsKept M → (before more : List Line) (u : Uid) → M.lines ≡ before ++ more → is_decided (book before) u ≡ true → Idle before u → Idle M.lines u
+  pub alone : (k : ℕ) (d : Disk) (t : Parts) (M : Seen) → R (up k d t M) → IsKept (up k d t M) → (u : Uid) (b : Branch) (q : Doing) → branch_of u t.coord.tree ≡ Some b → doing_of u t.coord ≡ Some q → b.ended ≡ Some ending.Commit → is_top b.kind ≡ true → q.took ≡ [] → Idle M.lines u
+
+-- ---- runs
+
+-- the object is seen by a machine whose decisions are those of the journal
+abbrev pub IsTied : ℕ → (List Line → Uid → Type 0) → Kinds → Seen → Type 0
+IsTied x Idle tops M = (W : machine.World) × SeesDisks x tops W M × AreSaid W M × AreDone Idle W M
+
+-- the same, in the words of `arj_model`
+pub record IsJournalled (x : ℕ) (Idle : List Line → Uid → Type 0) (M : Seen) : Type 0 where
+  pub tops : Kinds
+  pub machine : machine.World
+  pub sees : SeesDisks x tops machine M
+  pub said : (u : Uid) (n : Node) → M.nodes u.node ≡ Some n → decided (let W = machine in W.disk) (uid_number u) ≡ true → IsCommittedIn M.lines u ⊎ IsLate u n
+  pub done : (a : Act) → Contains (acts M.lines) a → is_top a.kind ≡ true → IsDone M.lines a
+      → (decided (let W = machine in W.disk) (uid_number a.uid) ≡ true) ⊎ ((let W = machine in W.disk.bare) (uid_number a.uid) ≡ true) ⊎ Idle M.lines a.uid
+
+-- What is kept by each handler, and gives what the disk half counts on and who is idle, has it in every run.
+abbrev pub RunsAreJournalled : Type 0
+RunsAreJournalled = (hd : Header) (x : ℕ) → HasObject hd x → (test : Seen → Bool) → Keeps hd (λ M. test M ≡ true) → Gives (λ M. test M ≡ true) → (idle : List Line → Uid → Bool) → KnowsIdle (λ M. test M ≡ true) (λ lines u. idle lines u ≡ true)
+    → (es : List Asked) → Holds hd (IsJournalled x (λ lines u. idle lines u ≡ true)) (run_all es (format hd))

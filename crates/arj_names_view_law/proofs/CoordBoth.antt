@@ -1,0 +1,485 @@
+-- Coordinators' decisions, and beginnings of commits, walked with both halves.
+use Rattle.std.proofs.Common.{◌≡◌, ◌⊎◌, ◌==◌, ◌||◌, ℕ, List, [], ◌∷◌, Bool, true, false, Option, Some, None, refl, sym, ◌∙◌, ap, subst, inl, inr, ⊎_elim}
+use Rattle.std.specs.Prelude.{if◌then◌else◌}
+use Rattle.arj_protocol.specs.Effect.{Disk, Effect, Say, Send, Do}
+use Rattle.arj_protocol.specs.Naming.{Naming}
+use Rattle.arj_protocol.specs.Node.{Parts}
+use Rattle.arj_protocol.specs.Says.{AreAll}
+use Rattle.arj_disk_law.specs.Effects as machine
+use Rattle.arj_disk_law.specs.Effects.{World, Allowed, Follows, after, done_of, run}
+use Rattle.arj_disk_law.specs.Guards.{MayBegin, is_only_of, only_begins, only_decides, tells_only_of}
+use Rattle.arj_disk_law.specs.Messages as mail
+use Rattle.arj_disk_law.specs.Named.{Named}
+use Rattle.arj_disk_law.specs.Names.{Answer, AnswerLoad, Bound, Loaded, Names, Office, Do as act, Commit, CommitBare, Kept, lists_after, or_else, retained, with_list, written_in}
+use Rattle.arj_disk_law.specs.State.{State, Plan, Preparing, Confirming, Gone, decided as is_decided, is_open, open_by, undecided}
+use Rattle.arj_disk_law.proofs.Acts.{runs_keep}
+use Rattle.arj_disk_law.proofs.Base.{never, open_done, open_made, open_parts, put_cases, put_other, put_same, test_is, test_not, test_same}
+use Rattle.arj_disk_law.proofs.PlainActs.{plain_act}
+use Rattle.arj_view_law.specs.Seen.{Seen, at, posted, said, up}
+use Rattle.arj_disk_view_law.proofs.Frames.{node_here}
+use Rattle.arj_disk_law.specs.Words.{In}
+use Rattle.arj_view_law.specs.Walks.{Walks, Up, halted}
+use Rattle.arj_protocol.specs.Words.{Uid}
+use Rattle.arj_disk_view_law.specs.Sees.{Along, IsFixed, IsLater, IsSeenByDisks, Kinds, SeesDisks, followed}
+use Rattle.arj_disk_view_law.proofs.Later.{effects_are_later, later_on, later_same}
+use Rattle.arj_protocol.specs.Words.loaded
+use Rattle.arj_protocol.specs.Ask.{Reply, asked_by, response}
+use Rattle.arj_protocol.specs.Coord.{Grant, with_grant}
+use Rattle.arj_protocol.specs.Effect.{Look}
+use Rattle.arj_protocol.specs.Node.{load_by, load_held}
+use Rattle.arj_protocol.specs.Order.{uid_number}
+use Rattle.arj_disk_law.specs.Guards.{end_of}
+use Rattle.arj_disk_law.specs.State.{Idle}
+use Rattle.arj_disk_law.specs.Words.{put, put2}
+use Rattle.arj_disk_view_law.specs.Pairs.{packed}
+use Rattle.arj_disk_view_law.proofs.StoreSteps.{stores_load}
+use Rattle.arj_disk_view_law.proofs.StoreWalks.{took_is}
+use Rattle.arj_names_view_law.specs.Grants.{SeesGrants}
+use Rattle.arj_names_view_law.specs.Lists.{IsTopOf, LeavesOthers, OnlyKept, SeesLists}
+use Rattle.arj_names_view_law.specs.Memory.{NamesGo}
+use Rattle.arj_names_view_law.proofs.GrantSteps.{grants_stay, heard}
+use Rattle.arj_names_view_law.proofs.ListSteps.{lists_are_heard}
+use Rattle.arj_names_view_law.specs.Both.{CallsKeepBoth, IsAnswered, LoadsKeepBoth, HasGoneOn, OnlyAnswers, OnlyAtNode, BeginningsKeepBoth, BothWalk, DecisionsKeepBoth, DisksWalk, IsOther, IsSeenFrom, IsSeenIn, OnlyRoots, OpensNone, SeesBoth, is_no_work, leaves_the_inc}
+use Rattle.arj_names_view_law.specs.Memory.{SeesNaming}
+use Rattle.arj_names_view_law.proofs.Pairing.{Ends, walked_both, Stepped, left_disk, naming_on, seen_as, steps, steps_to, stopped_both, unfollowed, walks_at}
+
+-- ---- what may be noted
+
+decides_plainly : (g : ℕ → Bool) (m : mail.Message) → tells_only_of (only_decides g) m ≡ true → tells_only_of (λ n. false) m ≡ true
+decides_plainly g (mail.Prepare t s) is = is
+decides_plainly g (mail.Prepared t s) is = is
+decides_plainly g (mail.Confirm t) is = is
+decides_plainly g (mail.Confirmed t) is = is
+decides_plainly g (mail.ToldCommit t m) is = is
+decides_plainly g (mail.ToldBare t m) is = is
+decides_plainly g (mail.ToldAbort t m) is = is
+decides_plainly g (mail.Acked t m) is = is
+decides_plainly g (mail.ToldSerial r m) is = is
+
+-- an effect is plain, a decision of one of these tops, or the end of its commit without a record
+data Kind (g : ℕ → Bool) (a : machine.Effect) : Type 0 where
+  Plainly : is_only_of (λ n. false) a ≡ true → Kind g a
+  Decides_one : (t : ℕ) → g t ≡ true → a ≡ machine.Decide t → Kind g a
+  Ends_one : (t : ℕ) → g t ≡ true → a ≡ machine.EndBare t → Kind g a
+
+kind_of : (g : ℕ → Bool) (a : machine.Effect) → is_only_of (only_decides g) a ≡ true → Kind g a
+kind_of g (machine.Begin t p) is = absurd (never is refl)
+kind_of g (machine.Take t s) is = Plainly refl
+kind_of g (machine.Seal t) is = Plainly refl
+kind_of g (machine.Intend t nodes) is = Plainly refl
+kind_of g (machine.Decide t) is = Decides_one t is refl
+kind_of g (machine.Remove t nodes) is = Plainly refl
+kind_of g (machine.EndBare t) is = Ends_one t is refl
+kind_of g (machine.Halt t) is = Plainly refl
+kind_of g (machine.Keep t s) is = Plainly refl
+kind_of g (machine.Move s h) is = Plainly refl
+kind_of g (machine.Finish s h) is = Plainly refl
+kind_of g (machine.Drop s h) is = Plainly refl
+kind_of g (machine.Agree t) is = absurd (never is refl)
+kind_of g (machine.Pass t) is = absurd (never is refl)
+kind_of g (machine.Enter t) is = absurd (never is refl)
+kind_of g (machine.MoveEntry h) is = Plainly refl
+kind_of g (machine.FinishEntry h) is = Plainly refl
+kind_of g (machine.DropEntry h) is = Plainly refl
+kind_of g (machine.Forget r h) is = Plainly refl
+kind_of g (machine.Send m) is = Plainly (decides_plainly g m is)
+
+-- ---- a decision's acts
+
+-- grants and kept lists aren't naming's memory
+kept_naming : (x : ℕ) (tops : Kinds) (n : Naming) (S : State) (N : Names) (had : ℕ → ℕ → Bool) (kept : ℕ → Option Kept) → SeesNaming x tops n S N → SeesNaming x tops n S (record N { had = had; kept = kept })
+kept_naming x tops n S N had kept s = record {
+  inc_is = s.inc_is;
+  told_is = s.told_is;
+  confirmed_is = s.confirmed_is;
+  object = λ o is. let so = s.object o is in record { rows = so.rows; asked = so.asked; sorted = so.sorted; made = so.made; live = so.live };
+}
+
+module _ (g : ℕ → Bool) (A : Office) (c0 : Named A) where
+  record Inv (C : Office) : Type 0 where
+    only : OnlyRoots g A C
+    later : IsLater A.world C.world
+
+  begins : Inv A
+  begins = record { only = record { names = refl; root = refl; had = λ h o. refl; kept = λ h o. refl; tops = λ r o. refl }; later = later_same A.world }
+
+  module _ (C : Office) (c : Named C) (i : Inv C) where
+    abbrev S : State
+    S = C.world.disk
+
+    only : OnlyRoots g A C
+    only = i.only
+
+    goes_on : (a : machine.Effect) → Allowed C.world a → IsLater A.world (after C.world a)
+    goes_on a allowed = later_on A.world C.world (after C.world a) i.later (effects_are_later C.world (a ∷ []) (allowed, tt) c.whole)
+
+    plain_step : (a : machine.Effect) → Allowed C.world a → is_only_of (λ z. false) a ≡ true → Stepped Inv (after C.world a)
+    plain_step a allowed is =
+        let p = plain_act C a allowed is in
+        let on = goes_on a allowed in
+        record {
+          names = C.names;
+          named = subst (λ N. Named (record { world = after C.world a; names = N })) p.names (runs_keep C (act a ∷ []) (p.may, tt) c);
+          holds = record { only = record { names = only.names; root = on.root; had = only.had; kept = only.kept; tops = λ r o. ap (written_in A.world.disk.root r) p.tops ∙ only.tops r o }; later = on };
+        }
+
+    module _ (t : ℕ) (one : g t ≡ true) where
+      -- of another root, and of another action than the root
+      other_root : (h : ℕ) → IsOther g A.world.disk (A.world.disk.root h) → (C.world.disk.root h == C.world.disk.root t) ≡ false
+      other_root h o = test_not (C.world.disk.root h) (C.world.disk.root t) (λ e. o t one (sym (ap (λ f. f t) only.root) ∙ sym e ∙ ap (λ f. f h) only.root))
+
+      other_kept : (h : ℕ) → IsOther g A.world.disk (A.world.disk.root h) → (h == C.world.disk.root t) ≡ false
+      other_kept h o = test_not h (C.world.disk.root t) (λ e. o t one (sym (c0.roots.idem t) ∙ ap A.world.disk.root (sym (ap (λ f. f t) only.root)) ∙ ap A.world.disk.root (sym e)))
+
+      lists_other : (h : ℕ) → IsOther g A.world.disk (A.world.disk.root h) → lists_after C.world.disk t C.names.kept h ≡ C.names.kept h
+      lists_other h o = ap (λ b. if b then with_list (C.world.disk.plan t) (C.world.disk.got t) (C.names.kept h) else C.names.kept h) (other_root h o)
+
+      tops_other : (r : ℕ) → IsOther g A.world.disk r → written_in A.world.disk.root r (done_of C.world.disk t ∷ C.world.disk.tops) ≡ written_in A.world.disk.root r A.world.disk.tops
+      tops_other r o = ap (λ b. if b then or_else (C.world.disk.plan t).writes (written_in A.world.disk.root r C.world.disk.tops) else written_in A.world.disk.root r C.world.disk.tops) (test_not (A.world.disk.root t) r (λ e. o t one e)) ∙ only.tops r o
+
+      decided : Allowed C.world (machine.Decide t) → Stepped Inv (after C.world (machine.Decide t))
+      decided allowed = record {
+        names = retained C.world.disk t (record C.names { kept = lists_after C.world.disk t C.names.kept });
+        named = runs_keep C (Commit t ∷ []) (allowed, tt) c;
+        holds = record {
+          only = record {
+            names = ap (λ (N : Names). record N { had = (retained C.world.disk t (record C.names { kept = lists_after C.world.disk t C.names.kept })).had; kept = (retained C.world.disk t (record C.names { kept = lists_after C.world.disk t C.names.kept })).kept }) only.names;
+            root = on.root;
+            had = λ h o. put_other (C.world.disk.root t) (λ j. C.names.had (C.world.disk.root t) j || C.names.had t j) C.names.had h (other_kept h o) ∙ only.had h o;
+            kept = λ h o. put_other (C.world.disk.root t) (or_else (lists_after C.world.disk t C.names.kept (C.world.disk.root t)) (lists_after C.world.disk t C.names.kept t)) (lists_after C.world.disk t C.names.kept) h (other_kept h o) ∙ lists_other h o ∙ only.kept h o;
+            tops = tops_other;
+          };
+          later = on;
+        };
+      }
+        where
+          on : IsLater A.world (after C.world (machine.Decide t))
+          on = goes_on (machine.Decide t) allowed
+
+      ended_bare : Allowed C.world (machine.EndBare t) → Stepped Inv (after C.world (machine.EndBare t))
+      ended_bare allowed = record {
+        names = retained C.world.disk t C.names;
+        named = runs_keep C (CommitBare t ∷ []) (allowed, tt) c;
+        holds = record {
+          only = record {
+            names = ap (λ (N : Names). record N { had = (retained C.world.disk t C.names).had; kept = (retained C.world.disk t C.names).kept }) only.names;
+            root = on.root;
+            had = λ h o. put_other (C.world.disk.root t) (λ j. C.names.had (C.world.disk.root t) j || C.names.had t j) C.names.had h (other_kept h o) ∙ only.had h o;
+            kept = λ h o. put_other (C.world.disk.root t) (or_else (C.names.kept (C.world.disk.root t)) (C.names.kept t)) C.names.kept h (other_kept h o) ∙ only.kept h o;
+            tops = only.tops;
+          };
+          later = on;
+        };
+      }
+        where
+          on : IsLater A.world (after C.world (machine.EndBare t))
+          on = goes_on (machine.EndBare t) allowed
+
+    one_step : (a : machine.Effect) → Allowed C.world a → Kind g a → Stepped Inv (after C.world a)
+    one_step a allowed (Plainly is) = plain_step a allowed is
+    one_step a allowed (Decides_one t one same) = subst (λ z. Stepped Inv (after C.world z)) (sym same) (decided t one (subst (Allowed C.world) same allowed))
+    one_step a allowed (Ends_one t one same) = subst (λ z. Stepped Inv (after C.world z)) (sym same) (ended_bare t one (subst (Allowed C.world) same allowed))
+
+  stepped : (W : World) → Along (record { from = A.world; noted = only_decides g }) W → Stepped Inv W
+  stepped W a = subst (Stepped Inv) a.here (steps Inv (only_decides g) (λ C z c i allowed is. one_step C c i z allowed (kind_of g z is)) a.effects A c0 begins a.allowed a.only)
+
+  -- ---- the walk
+
+  module _ (x : ℕ) (tops : Kinds) (unwalked : tops.walk ≡ None) (e k : ℕ) (d : Disk) (was : Option Parts) (v : Parts) (M : Seen) (mine : (o : Naming) → k ≡ 1 → v.naming ≡ Some o → SeesNaming x tops o A.world.disk A.names) (both : SeesBoth x tops A (at k d was M)) where
+    memory_on : (W : World) (N : Names) → OnlyRoots g A (record { world = W; names = N }) → (o : Naming) → SeesNaming x tops o A.world.disk A.names → SeesNaming x tops o W.disk N
+    memory_on W N only o s = subst (λ L. SeesNaming x tops o W.disk L) (sym only.names) (kept_naming x tops o W.disk A.names N.had N.kept (naming_on x tops o A.world.disk W.disk A.names only.root s))
+
+    inc_on : (W : World) (N : Names) → OnlyRoots g A (record { world = W; names = N }) → N.inc ≡ A.names.inc
+    inc_on W N only = ap (λ (L : Names). L.inc) only.names
+
+    pub stops : (c : Disk) (N : Seen) → c.inc ≡ d.inc → N.nodes ≡ M.nodes → IsSeenByDisks x (followed tops A.world (only_decides g)) (halted e k c N) → IsSeenIn g x tops A (halted e k c N)
+    stops c N inc same (W, s) =
+        let st = stepped W s.along in
+        let i = st.holds in
+        (record { world = W; names = st.names }, i.only, stopped_both x tops k d was A M both e (record { world = W; names = st.names }) N c st.named (inc_on W st.names i.only) (unfollowed x tops unwalked (only_decides g) A.world W (halted e k c N) s) inc same (λ other. memory_on W st.names i.only))
+
+    ends : (c : Disk) (L : Seen) → c.inc ≡ d.inc → L.nodes ≡ M.nodes → Up (IsSeenByDisks x (followed tops A.world (only_decides g))) k v c L → Up (IsSeenIn g x tops A) k v c L
+    ends c L inc same (W, s) =
+        let st = stepped W s.along in
+        let i = st.holds in
+        (record { world = W; names = st.names }, i.only, seen_as x tops k d was A M both v (record { world = W; names = st.names }) L c st.named (inc_on W st.names i.only) (unfollowed x tops unwalked (only_decides g) A.world W (up k c v L) s) inc same (λ o one is. memory_on W st.names i.only o (mine o one is)) (λ other. memory_on W st.names i.only))
+
+    pub decisions_both : (outs : List Effect) → AreAll leaves_the_inc outs → Walks (IsSeenByDisks x (followed tops A.world (only_decides g))) e k outs (Up (IsSeenByDisks x (followed tops A.world (only_decides g))) k v) d M → Walks (IsSeenIn g x tops A) e k outs (Up (IsSeenIn g x tops A) k v) d M
+    decisions_both outs all walk = walks_at e k d M (IsSeenByDisks x (followed tops A.world (only_decides g))) (IsSeenIn g x tops A) (Up (IsSeenByDisks x (followed tops A.world (only_decides g))) k v) (Up (IsSeenIn g x tops A) k v) stops outs all d M refl refl (λ L inc same end. ends (left_disk outs d) L inc same end) walk
+
+pub decisions_keep_both : DecisionsKeepBoth
+decisions_keep_both x tops e k d was v outs g A M unwalked all mine both walk = decisions_both g A both.named x tops unwalked e k d was v M mine both outs all walk
+
+-- ---- a commit begins
+
+begins_plainly : (t : ℕ) (m : mail.Message) → tells_only_of (only_begins t) m ≡ true → tells_only_of (λ n. false) m ≡ true
+begins_plainly t (mail.Prepare z s) is = is
+begins_plainly t (mail.Prepared z s) is = is
+begins_plainly t (mail.Confirm z) is = is
+begins_plainly t (mail.Confirmed z) is = is
+begins_plainly t (mail.ToldCommit z m) is = is
+begins_plainly t (mail.ToldBare z m) is = is
+begins_plainly t (mail.ToldAbort z m) is = is
+begins_plainly t (mail.Acked z m) is = is
+begins_plainly t (mail.ToldSerial r m) is = is
+
+begin_of : (t : ℕ) (a : machine.Effect) → is_only_of (only_begins t) a ≡ true → (is_only_of (λ n. false) a ≡ true) ⊎ ((p : Plan) × (a ≡ machine.Begin t p))
+begin_of t (machine.Begin z p) is = inr (p, ap (λ y. machine.Begin y p) (test_is z t is))
+begin_of t (machine.Take z s) is = inl refl
+begin_of t (machine.Seal z) is = inl refl
+begin_of t (machine.Intend z nodes) is = inl refl
+begin_of t (machine.Decide z) is = absurd (never is refl)
+begin_of t (machine.Remove z nodes) is = inl refl
+begin_of t (machine.EndBare z) is = absurd (never is refl)
+begin_of t (machine.Halt z) is = inl refl
+begin_of t (machine.Keep z s) is = inl refl
+begin_of t (machine.Move s h) is = inl refl
+begin_of t (machine.Finish s h) is = inl refl
+begin_of t (machine.Drop s h) is = inl refl
+begin_of t (machine.Agree z) is = absurd (never is refl)
+begin_of t (machine.Pass z) is = absurd (never is refl)
+begin_of t (machine.Enter z) is = absurd (never is refl)
+begin_of t (machine.MoveEntry h) is = inl refl
+begin_of t (machine.FinishEntry h) is = inl refl
+begin_of t (machine.DropEntry h) is = inl refl
+begin_of t (machine.Forget r h) is = inl refl
+begin_of t (machine.Send m) is = inl (begins_plainly t m is)
+
+-- plain effects open no outcome, and nobody is idle again
+record StaysShut (S T : State) : Type 0 where
+  first : T.first ≡ S.first
+  opened : (z : ℕ) → undecided T z ≡ true → undecided S z ≡ true
+  idle : (z : ℕ) → T.stage z ≡ Idle → S.stage z ≡ Idle
+
+opens_none : (W : World) (a : machine.Effect) → Allowed W a → is_only_of (λ n. false) a ≡ true → StaysShut W.disk (after W a).disk
+opens_none W (machine.Begin t p) can is = absurd (never is refl)
+opens_none W (machine.Take t s) can is = record { first = refl; opened = λ z u. u; idle = λ z i. i }
+opens_none W (machine.Seal t) can is = record {
+  first = refl;
+  opened = λ z. put_cases (λ g. open_by (is_decided W.disk z) g (W.disk.intent z) ≡ true → undecided W.disk z ≡ true) t Confirming W.disk.stage z
+      (λ same u. subst (λ g. open_by (is_decided W.disk z) g (W.disk.intent z) ≡ true) (sym (ap W.disk.stage same ∙ can)) u) (λ other u. u);
+  idle = λ z. put_cases (λ g. g ≡ Idle → W.disk.stage z ≡ Idle) t Confirming W.disk.stage z (λ same i. cc i) (λ other i. i);
+}
+opens_none W (machine.Intend t nodes) can is = record {
+  first = refl;
+  opened = λ z. put_cases (λ o. open_by (is_decided W.disk z) (W.disk.stage z) o ≡ true → undecided W.disk z ≡ true) t (Some nodes) W.disk.intent z
+      (λ same u. open_made (is_decided W.disk z) (W.disk.stage z) (W.disk.intent z) (open_done (is_decided W.disk z) (W.disk.stage z) (Some nodes) u) (inl (ap is_open (ap W.disk.stage same ∙ can.sealed)))) (λ other u. u);
+  idle = λ z i. i;
+}
+opens_none W (machine.Decide t) can is = absurd (never is refl)
+opens_none W (machine.Remove t nodes) can is = record {
+  first = refl;
+  opened = λ z. put_cases (λ o. open_by (is_decided W.disk z) (W.disk.stage z) o ≡ true → undecided W.disk z ≡ true) t None W.disk.intent z
+      (λ same u. open_made (is_decided W.disk z) (W.disk.stage z) (W.disk.intent z) (open_done (is_decided W.disk z) (W.disk.stage z) None u) (⊎_elim (λ o. inl o) (λ n. absurd (never n refl)) (open_parts (is_decided W.disk z) (W.disk.stage z) None u))) (λ other u. u);
+  idle = λ z i. i;
+}
+opens_none W (machine.EndBare t) can is = absurd (never is refl)
+opens_none W (machine.Halt t) can is = record {
+  first = refl;
+  opened = λ z. put_cases (λ g. open_by (is_decided W.disk z) g (W.disk.intent z) ≡ true → undecided W.disk z ≡ true) t Gone W.disk.stage z
+      (λ same u. open_made (is_decided W.disk z) (W.disk.stage z) (W.disk.intent z) (open_done (is_decided W.disk z) Gone (W.disk.intent z) u) (⊎_elim (λ o. absurd (never o refl)) (λ n. inr n) (open_parts (is_decided W.disk z) Gone (W.disk.intent z) u))) (λ other u. u);
+  idle = λ z. put_cases (λ g. g ≡ Idle → W.disk.stage z ≡ Idle) t Gone W.disk.stage z (λ same i. cc i) (λ other i. i);
+}
+opens_none W (machine.Keep t s) can is = record { first = refl; opened = λ z u. u; idle = λ z i. i }
+opens_none W (machine.Move s h) can is = record { first = refl; opened = λ z u. u; idle = λ z i. i }
+opens_none W (machine.Finish s h) can is = record { first = refl; opened = λ z u. u; idle = λ z i. i }
+opens_none W (machine.Drop s h) can is = record { first = refl; opened = λ z u. u; idle = λ z i. i }
+opens_none W (machine.Agree t) can is = absurd (never is refl)
+opens_none W (machine.Pass t) can is = absurd (never is refl)
+opens_none W (machine.Enter t) can is = absurd (never is refl)
+opens_none W (machine.MoveEntry h) can is = record { first = refl; opened = λ z u. u; idle = λ z i. i }
+opens_none W (machine.FinishEntry h) can is = record { first = refl; opened = λ z u. u; idle = λ z i. i }
+opens_none W (machine.DropEntry h) can is = record { first = refl; opened = λ z u. u; idle = λ z i. i }
+opens_none W (machine.Forget r h) can is = record { first = refl; opened = λ z u. u; idle = λ z i. i }
+opens_none W (machine.Send m) can is = record { first = refl; opened = λ z u. u; idle = λ z i. i }
+
+-- a walk without work is over at its end alone
+no_work : (e k : ℕ) (M : Seen) (P R : Seen → Type 0) (E F : Disk → Seen → Type 0) (d : Disk) → ((L : Seen) → L.nodes ≡ M.nodes → E d L → F d L) → (es : List Effect) → AreAll is_no_work es → (N : Seen) → N.nodes ≡ M.nodes → Walks P e k es E d N → Walks R e k es F d N
+no_work e k M P R E F d end [] all N same walk = end N same walk
+no_work e k M P R E F d end (Say b ∷ es) all N same walk = no_work e k M P R E F d end es all (said e (b ∷ []) N) same walk
+no_work e k M P R E F d end (Send to m ∷ es) all N same walk = λ more quiet. no_work e k M P R E F d end es all (said e more (posted (record { from = k; to = to; message = m }) N)) same (walk more quiet)
+no_work e k M P R E F d end (Do w ∷ es) all N same walk = absurd (never all refl)
+
+module _ (x : ℕ) (tops : Kinds) (unwalked : tops.walk ≡ None) (e k : ℕ) (d : Disk) (t v : Parts) (top : ℕ) (p : Plan) (A : Office) (M : Seen) (naming : v.naming ≡ t.naming) (both : SeesBoth x tops A (up k d t M))
+    (planned : (W : World) (N : Seen) → SeesDisks x tops W (up k d v N) → W.disk.begun top ≡ true → W.disk.plan top ≡ p) (may : (C : Office) → Named C → C.names ≡ A.names → IsLater A.world C.world → C.world.disk.tops ≡ A.world.disk.tops → OpensNone A.world.disk C.world.disk → Allowed C.world (machine.Begin top p) → MayBegin C top p) where
+  record Begun (C : Office) : Type 0 where
+    names_same : C.names ≡ A.names
+    later : IsLater A.world C.world
+    tops_same : C.world.disk.tops ≡ A.world.disk.tops
+    unopened : C.world.disk.stage top ≡ Idle → OpensNone A.world.disk C.world.disk
+
+  module _ (W : World) (L : Seen) (disks : SeesDisks x tops W (up k d v L)) where
+    begun_step : (C : Office) (a : machine.Effect) → Named C → Begun C → Allowed C.world a → is_only_of (only_begins top) a ≡ true → IsLater (after C.world a) W → Stepped Begun (after C.world a)
+    begun_step C a c i allowed is later = ⊎_elim plain begins_now (begin_of top a is)
+      where
+        on : IsLater A.world (after C.world a)
+        on = later_on A.world C.world (after C.world a) i.later (effects_are_later C.world (a ∷ []) (allowed, tt) c.whole)
+
+        plain : is_only_of (λ n. false) a ≡ true → Stepped Begun (after C.world a)
+        plain plain_is =
+            let q = plain_act C a allowed plain_is in
+            let n = opens_none C.world a allowed plain_is in
+            record {
+              names = C.names;
+              named = subst (λ N. Named (record { world = after C.world a; names = N })) q.names (runs_keep C (act a ∷ []) (q.may, tt) c);
+              holds = record {
+                names_same = i.names_same;
+                later = on;
+                tops_same = q.tops ∙ i.tops_same;
+                unopened = λ idle. let o = i.unopened (n.idle top idle) in record { first = n.first ∙ o.first; opened = λ z u. o.opened z (n.opened z u) };
+              };
+            }
+
+        begins_now : (q : Plan) × (a ≡ machine.Begin top q) → Stepped Begun (after C.world a)
+        begins_now (q, same) = record {
+          names = C.names;
+          named = subst (λ z. Named (record { world = after C.world z; names = C.names })) (sym same) (subst (λ y. Named (record { world = after C.world (machine.Begin top y); names = C.names })) (sym plan_is)
+              (runs_keep C (act (machine.Begin top p) ∷ []) (may C c i.names_same i.later i.tops_same (i.unopened can.idle) (subst (λ y. Allowed C.world (machine.Begin top y)) plan_is can), tt) c));
+          holds = record {
+            names_same = i.names_same;
+            later = on;
+            tops_same = ap (λ z. (after C.world z).disk.tops) same ∙ i.tops_same;
+            unopened = λ idle. absurd (never refl (sym (ap is_open (put_same top Preparing C.world.disk.stage)) ∙ ap (λ z. is_open ((after C.world z).disk.stage top)) (sym same) ∙ ap is_open idle));
+          };
+        }
+          where
+            can : Allowed C.world (machine.Begin top q)
+            can = subst (Allowed C.world) same allowed
+
+            lately : IsLater (after C.world (machine.Begin top q)) W
+            lately = subst (λ z. IsLater (after C.world z) W) same later
+
+            has_begun : (after C.world (machine.Begin top q)).disk.begun top ≡ true
+            has_begun = put_same top true C.world.disk.begun
+
+            plan_is : q ≡ p
+            plan_is = sym (put_same top q C.world.disk.plan) ∙ sym (lately.plan top has_begun) ∙ planned W L disks (lately.begun top has_begun)
+
+    begun_office : Along (record { from = A.world; noted = only_begins top }) W → Stepped Begun W
+    begun_office a = steps_to Begun (only_begins top) W begun_step a.effects A both.named (record { names_same = refl; later = later_same A.world; tops_same = refl; unopened = λ idle. record { first = refl; opened = λ z u. u } }) a.allowed a.only a.here
+
+  begun_end : (L : Seen) → L.nodes ≡ M.nodes → Up (IsSeenByDisks x (followed tops A.world (only_begins top))) k v d L → Up (IsSeenFrom x tops A) k v d L
+  begun_end L same (W, s) =
+      let disks : SeesDisks x tops W (up k d v L) = unfollowed x tops unwalked (only_begins top) A.world W (up k d v L) s in
+      let st = begun_office W L disks s.along in
+      let i = st.holds in
+      let B : Office = record { world = W; names = st.names } in
+      let on : (o : Naming) → SeesNaming x tops o A.world.disk A.names → SeesNaming x tops o W.disk st.names = λ o z. subst (λ N. SeesNaming x tops o W.disk N) (sym i.names_same) (naming_on x tops o A.world.disk W.disk A.names i.later.root z) in (
+        B,
+        record { tops = i.tops_same; had = ap (λ (N : Names). N.had) i.names_same; kept = ap (λ (N : Names). N.kept) i.names_same; answers = λ a j. subst (λ (N : Names). In a N.answers) (sym i.names_same) j },
+        seen_as x tops k d (Some t) A M both v B L d st.named (ap (λ (N : Names). N.inc) i.names_same) disks refl same
+            (λ o one is. on o (both.names.memory (record { number = k; disk = d; live = Some t }) t o (ap (λ m. (up k d t M).nodes m) (sym one) ∙ node_here M k (record { number = k; disk = d; live = Some t })) refl (sym naming ∙ is))) (λ other. on),
+      )
+
+  pub beginnings_both : (outs : List Effect) → AreAll is_no_work outs → DisksWalk (only_begins top) x tops A e k outs v d M → BothWalk x tops A e k outs v d M
+  beginnings_both outs all walk = no_work e k M (IsSeenByDisks x (followed tops A.world (only_begins top))) (IsSeenFrom x tops A) (Up (IsSeenByDisks x (followed tops A.world (only_begins top))) k v) (Up (IsSeenFrom x tops A) k v) d begun_end outs all M refl walk
+
+pub beginnings_keep_both : BeginningsKeepBoth
+beginnings_keep_both x tops e k d t v outs top p A M unwalked all naming both planned may walk = beginnings_both x tops unwalked e k d t v top p A M naming both planned may outs all walk
+
+-- ---- answers
+
+-- grants, kept lists and answers aren't naming's memory
+answered_naming : (x : ℕ) (tops : Kinds) (n : Naming) (S : State) (N : Names) (had : ℕ → ℕ → Bool) (kept : ℕ → Option Kept) (answers : List Answer) → SeesNaming x tops n S N → SeesNaming x tops n S (record N { had = had; kept = kept; answers = answers })
+answered_naming x tops n S N had kept answers s = record {
+  inc_is = s.inc_is;
+  told_is = s.told_is;
+  confirmed_is = s.confirmed_is;
+  object = λ o is. let so = s.object o is in record { rows = so.rows; asked = so.asked; sorted = so.sorted; made = so.made; live = so.live };
+}
+
+-- Behind a walk in which naming's half has no part, and which leaves naming's memory, answers are taken or given by acts.
+pub answered_both : (x : ℕ) (tops : Kinds) (e k : ℕ) (d : Disk) (t v : Parts) (outs : List Effect) (Q : Office → Type 0) (A : Office) (M : Seen) → tops.walk ≡ None → AreAll leaves_the_inc outs → v.naming ≡ t.naming → SeesBoth x tops A (up k d t M)
+    → ((C : Office) (N : Seen) → Named C → HasGoneOn A C → SeesDisks x tops C.world (up k (left_disk outs d) v N) → NamesGo C (λ D. OnlyAnswers C D × Q D))
+    → DisksWalk (λ n. false) x tops A e k outs v d M → Walks (IsSeenFrom x tops A) e k outs (IsAnswered x tops k v A Q) d M
+answered_both x tops e k d t v outs Q A M unwalked all naming both acts walk = walked_both x tops unwalked e k d t v A M both (IsAnswered x tops k v A Q) outs all ends walk
+  where
+    ends : Ends x tops unwalked e k d t v A M both (IsAnswered x tops k v A Q) (left_disk outs d)
+    ends N W s disks inc same =
+        let C : Office = record { world = W; names = A.names } in
+        let on : HasGoneOn A C = record { names = refl; later = s.later; tops = s.tops } in
+        let go = acts C N s.named on disks in
+        let D : Office = end_of C go.acts in
+        let only : OnlyAnswers C D = go.there.0 in
+        let memory : (o : Naming) → SeesNaming x tops o A.world.disk A.names → SeesNaming x tops o D.world.disk D.names = λ o z.
+        subst (λ V. SeesNaming x tops o V.disk D.names) (sym only.world) (subst (λ L. SeesNaming x tops o W.disk L) (sym only.names) (answered_naming x tops o W.disk A.names D.names.had D.names.kept D.names.answers (naming_on x tops o A.world.disk W.disk A.names s.later.root z))) in (
+          C,
+          D,
+          on,
+          only,
+          seen_as x tops k d (Some t) A M both v D N (left_disk outs d) (runs_keep C go.acts go.may s.named) (ap (λ (L : Names). L.inc) only.names) (subst (λ V. SeesDisks x tops V (up k (left_disk outs d) v N)) (sym only.world) disks) inc same
+              (λ o one is. memory o (both.names.memory (record { number = k; disk = d; live = Some t }) t o (ap (λ m. (up k d t M).nodes m) (sym one) ∙ node_here M k (record { number = k; disk = d; live = Some t })) refl (sym naming ∙ is)))
+              (λ other. memory),
+          go.there.1,
+        )
+
+-- where grants and kept lists alone have changed no answer was given
+kept_only : (C D : Office) → OnlyKept C D → OnlyAnswers C D
+kept_only C D only = record {
+  world = only.world;
+  names = only.names ∙ ap (λ y. record C.names { had = D.names.had; kept = D.names.kept; answers = y }) (ap (λ (L : Names). L.answers) (sym only.names));
+  answers = λ a j. subst (λ (L : Names). In a L.answers) (sym only.names) j;
+}
+
+-- of roots nothing changes by an answer to a Load
+module _ (A C : Office) (on : HasGoneOn A C) where
+  nothing_of_roots : (a : Answer) → OnlyAtNode (λ n. false) A (record { world = C.world; names = record C.names { answers = a ∷ C.names.answers } })
+  nothing_of_roots a = record {
+    root = on.later.root;
+    had = λ h o. ap (λ (L : Names). L.had h) on.names;
+    kept = λ h o. ap (λ (L : Names). L.kept h) on.names;
+    tops = λ r o. ap (written_in A.world.disk.root r) on.tops;
+    answers = λ b j. inr (subst (λ (L : Names). In b L.answers) (sym on.names) j);
+  }
+
+  -- by an answer to a call of a top what is kept and had of another root stays
+  others_left : (tops : Kinds) (root top : Uid) (g : ℕ) (D : Office) → IsFixed tops A.world.disk → IsTopOf tops root top → OnlyKept C D → D.names.had ≡ put2 (uid_number top) g true C.names.had → LeavesOthers tops root C D → OnlyAtNode (λ n. n == uid_number top) A D
+  others_left tops root top g D fixed of only had leaves = record {
+    root = ap (λ (V : World). V.disk.root) only.world ∙ on.later.root;
+    had = λ h o. ap (λ f. f h) had ∙ put_other (uid_number top) (put g true (C.names.had (uid_number top))) C.names.had h (test_not h (uid_number top) (λ e. o (uid_number top) (test_same (uid_number top)) (ap A.world.disk.root (sym e)))) ∙ ap (λ (L : Names). L.had h) on.names;
+    kept = λ h o. leaves h (λ e. o (uid_number top) (test_same (uid_number top)) (ap (λ f. f (uid_number top)) fixed.root ∙ of.of_root ∙ sym e ∙ sym (ap (λ f. f h) fixed.root))) ∙ ap (λ (L : Names). L.kept h) on.names;
+    tops = λ r o. ap (λ (V : World). written_in A.world.disk.root r V.disk.tops) only.world ∙ ap (written_in A.world.disk.root r) on.tops;
+    answers = λ b j. subst (λ (L : Names). In b L.answers) (sym only.names) (subst (λ (L : Names). In b L.answers) (sym on.names) j);
+  }
+
+pub loads_keep_both : LoadsKeepBoth
+loads_keep_both x tops e k d t v from h st top i l outs A M unwalked is free held answered listed both walk =
+    took_is x k tops e (λ p es. DisksWalk (λ n. false) x tops A e k es p d M → Walks (IsSeenFrom x tops A) e k es (IsAnswered x tops k p A (λ D. In (Loaded top i (packed st)) D.names.answers × OnlyAtNode (λ n. false) A D)) d M) t (Do Look ∷ Send from (response (asked_by h) (Reply.Loaded (loaded.State st))) ∷ []) v outs
+    (sym (ap (λ o. load_by x d.store from h t o) free ∙ ap (λ o. load_held from h t o) held) ∙ is)
+    (answered_both x tops e k d t t (Do Look ∷ Send from (response (asked_by h) (Reply.Loaded (loaded.State st))) ∷ []) (λ D. In (Loaded top i (packed st)) D.names.answers × OnlyAtNode (λ n. false) A D) A M unwalked refl refl both acts) walk
+  where
+    acts : (C : Office) (N : Seen) → Named C → HasGoneOn A C → SeesDisks x tops C.world (up k d t N) → NamesGo C (λ D. OnlyAnswers C D × (In (Loaded top i (packed st)) D.names.answers × OnlyAtNode (λ n. false) A D))
+    acts C N c on disks =
+        let q = stores_load x k d.store C.world.disk st (disks.stores k (record { number = k; disk = d; live = Some t }) (node_here N k (record { number = k; disk = d; live = Some t }))) free held in
+        record {
+          acts = AnswerLoad top i k l (packed st) ∷ [];
+          may = (record { answered = subst (λ (L : Names). In (Bound top i true l) L.answers) (sym on.names) answered; listed = listed; free = q.0; held = q.1 }, tt);
+          there = (record { world = refl; names = refl; answers = λ a j. inr j }, (inl refl, nothing_of_roots A C on (Loaded top i (packed st))));
+        }
+
+pub calls_keep_both : CallsKeepBoth
+calls_keep_both x g tops e k d t v outs root top c r q known place free A M unwalked all naming idle answered grants lists lasting of own now step stays both walk =
+    answered_both x tops e k d t v outs (λ D. SeesGrants x root c q D.world.disk D.names × SeesLists x tops root c q D.names × OnlyAtNode (λ n. n == uid_number top) A D) A M unwalked all naming both acts walk
+  where
+    acts : (C : Office) (N : Seen) → Named C → HasGoneOn A C → SeesDisks x tops C.world (up k (left_disk outs d) v N) → NamesGo C (λ D. OnlyAnswers C D × (SeesGrants x root c q D.world.disk D.names × SeesLists x tops root c q D.names × OnlyAtNode (λ n. n == uid_number top) A D))
+    acts C N n on disks =
+        let z = idle C (left_disk outs d) N on disks in
+        let grants_now : SeesGrants x root c r C.world.disk C.names = grants_stay x root c c r r A.world.disk C.world.disk C.names (subst (λ L. SeesGrants x root c r A.world.disk L) (sym on.names) grants) refl (λ w h. h) on.later.root on.later.serial in
+        let asked : In (Bound (uid_number top) g false known.stores) C.names.answers = subst (λ (L : Names). In (Bound (uid_number top) g false known.stores) L.answers) (sym on.names) answered in
+        let go = lists_are_heard x g tops root top c r q known place free C n disks.fixed grants_now (subst (λ L. SeesLists x tops root c r L) (sym on.names) lists) lasting of own z asked now step in
+        let only = go.there.0 in
+        record {
+          acts = go.acts;
+          may = go.may;
+          there = (
+            kept_only C (end_of C go.acts) only,
+            (subst (λ V. SeesGrants x root c q V.disk (end_of C go.acts).names) (sym only.world) (granted_on (end_of C go.acts).names go.there.2 grants_now z), go.there.1, others_left A C on tops root top g (end_of C go.acts) (let f = both.disks in f.fixed) of only go.there.2 go.there.3),
+          );
+        }
+      where
+        granted_on : (L : Names) → L.had ≡ put2 (uid_number top) g true C.names.had → SeesGrants x root c r C.world.disk C.names → C.world.disk.stage (uid_number top) ≡ Idle → SeesGrants x root c q C.world.disk L
+        granted_on L had_is grants_now z =
+            let new : Grant = record { top = top; x = x; least = g; named = Some known.binding } in
+            let one : SeesGrants x root c (with_grant new r) C.world.disk (record C.names { had = put2 (uid_number top) g true C.names.had }) = heard x root c r new C grants_now (ap (λ f. f (uid_number top)) disks.fixed.root ∙ of.of_root) (ap (λ f. f (uid_number top)) disks.fixed.serial ∙ of.plain) refl in
+            let two : SeesGrants x root c (with_grant new r) C.world.disk L = record { own = λ w j is off has. one.own w j is off (ap (λ f. f (uid_number w) j) (sym had_is) ∙ has); least = λ m there is. ap (λ f. f (uid_number m.top) m.least) had_is ∙ one.least m there is; kept = λ j s has. one.kept j s (ap (λ f. f (uid_number root) j) (sym had_is) ∙ has) } in
+            grants_stay x root c c (with_grant new r) q C.world.disk C.world.disk L two step.grants stays refl refl
