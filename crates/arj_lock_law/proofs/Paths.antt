@@ -1,6 +1,6 @@
 -- Actions and their paths; functions that change at one place.
 use Rattle.std.proofs.Common.{◌≡◌, ◌≤◌, ◌+◌, ◌⊎◌, ℕ, ◌==◌, Bool, true, false, cond, ◌&&◌, ◌||◌, inl, inr, refl, sym, ◌∙◌, ap, subst, arith}
-use Rattle.arj_lock_law.specs.Actions.{Act, Root, Sub, same, on, root, top, is_top, is_action, at, at_act}
+use Rattle.arj_lock_law.specs.Actions.{Act, Root, Sub, depth, same, on, root, top, is_top, is_action, at, at_act}
 
 pub by_cases : (b : Bool) → (b ≡ true) ⊎ (b ≡ false)
 by_cases true = inl refl
@@ -79,13 +79,8 @@ on_root (Sub a n) b p = by (on_root a b) (on_up a n b p)
     by ih (inl is) = sym (ap root is)
     by ih (inr o) = ih o
 
-depth : Act → ℕ
-depth (Root u) = 0
-depth (Sub a n) = depth a + 1
-
 -- what stands on a path isn't deeper
 shallow : (a b : Act) → on a b ≡ true → depth b ≤ depth a
-unfolding depth
 shallow (Root u) b p = let is : depth b ≡ depth (Root u) = ap depth (sym (same_is (Root u) b p)) in omega (arith, is)
 shallow (Sub a n) b p = by (shallow a b) (on_up a n b p)
   where
@@ -95,7 +90,6 @@ shallow (Sub a n) b p = by (shallow a b) (on_up a n b p)
 
 -- what stands below an action isn't on its path
 pub not_below : (a : Act) (n : ℕ) → on a (Sub a n) ≡ false
-unfolding depth
 not_below a n = elim (by_cases (on a (Sub a n))) [ inl t ↦ (let l : depth a + 1 ≤ depth a = shallow a (Sub a n) t in absurd (omega (arith, l))) | inr f ↦ f ]
 
 pub not_same : (a : Act) (n : ℕ) → same a (Sub a n) ≡ false

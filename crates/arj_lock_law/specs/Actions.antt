@@ -1,6 +1,6 @@
 -- Actions are paths. A root stands for a unit: a serializing action, or what one plain or independent top-level action
 -- makes up alone. Its children are its top-level actions, and below them stand nested ones.
-use Rattle.std.proofs.Common.{◌≡◌, ◌⊎◌, ℕ, ◌==◌, List, [], ◌∷◌, Bool, true, false, cond, ◌&&◌, ◌||◌}
+use Rattle.std.proofs.Common.{◌≡◌, ◌⊎◌, ℕ, ◌+◌, ◌==◌, List, [], ◌∷◌, Bool, true, false, cond, ◌&&◌, ◌||◌}
 
 pub data Act : Type 0 where
   Root : ℕ → Act
@@ -17,6 +17,11 @@ same (Sub a m) (Sub b n) = same a b && (m == n)
 abbrev pub on : Act → Act → Bool
 on (Root u) b = same (Root u) b
 on (Sub a n) b = same (Sub a n) b || on a b
+
+-- how many actions stand above it, with its unit
+abbrev pub depth : Act → ℕ
+depth (Root u) = 0
+depth (Sub a n) = depth a + 1
 
 -- the unit that the action is of
 abbrev pub root : Act → ℕ

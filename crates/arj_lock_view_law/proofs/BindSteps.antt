@@ -1,5 +1,6 @@
 -- What naming does with a Bind goes in the machine.
 use Rattle.std.proofs.Common.{◌≡◌, ◌≢◌, ◌≤◌, ◌<◌, ◌⊎◌, ◌∙◌, ◌&&◌, ◌==◌, ◌+◌, not, ℕ, List, Bool, true, false, cond, Option, Some, None, refl, sym, ap, subst, inl, inr, ⊎_elim, arith, eqb-true}
+use Rattle.std.proofs.lemmas.Bool.{and_parts, ltb-true}
 use Rattle.arj_base.proofs.Uids.{uid_cases}
 use Rattle.arj_protocol.specs.Words.{Uid, Path, Binding, Mode, Row, Entry, BoundReply, entry, is_on, last_uid, tops_of}
 use Rattle.arj_protocol.specs.Words.mode
@@ -38,6 +39,23 @@ made_is avoid (Some k) m h = by (not k.recorded && binding_less avoid k.binding)
     by true h = h
     by false h = absurd (cc h)
 
+-- and it is above
+live_more : (avoid : Binding) (v : Option Live) (l : Live) → live_above avoid v ≡ Some l → binding_number avoid < binding_number l.binding
+live_more avoid None l h = absurd (cc h)
+live_more avoid (Some k) l h = by (binding_less avoid k.binding) refl h
+  where
+    by : (b : Bool) → binding_less avoid k.binding ≡ b → cond b (Some k) None ≡ Some l → binding_number avoid < binding_number l.binding
+    by true less some = let one : k ≡ l = cc some in subst (λ (m : Live). binding_number avoid < binding_number m.binding) one (ltb-true (binding_number avoid) (binding_number k.binding) less)
+    by false less some = absurd (cc some)
+
+made_more : (avoid : Binding) (v : Option Made) (m : Made) → made_above avoid v ≡ Some m → binding_number avoid < binding_number m.binding
+made_more avoid None m h = absurd (cc h)
+made_more avoid (Some k) m h = by (not k.recorded && binding_less avoid k.binding) refl h
+  where
+    by : (b : Bool) → (not k.recorded && binding_less avoid k.binding) ≡ b → cond b (Some k) None ≡ Some m → binding_number avoid < binding_number m.binding
+    by true both some = let one : k ≡ m = cc some in subst (λ (j : Made). binding_number avoid < binding_number j.binding) one (ltb-true (binding_number avoid) (binding_number k.binding) (and_parts (not k.recorded) (binding_less avoid k.binding) both).1)
+    by false both some = absurd (cc some)
+
 pub other_act : (act : Acts) → AreOne act → (u w : Uid) → u ≢ w → same (act u) (act w) ≡ false
 other_act act one u w apart = by (same (act u) (act w)) refl
   where
@@ -45,7 +63,7 @@ other_act act one u w apart = by (same (act u) (act w)) refl
     by true e = absurd (apart (one u w (same_is (act u) (act w) e)))
     by false e = refl
 
-module _ (act : Acts) (owner : Owners) (x : ℕ) (n : Place) (o : Named) (p : Path) (S : State) (one : AreOne act) (topped : IsTopped act p) (good : IsGood owner x n o) (sees : SeesNamed act x n o S) where
+module _ (act : Acts) (owner : Owners) (x : ℕ) (n : Place) (o : Named) (p : Path) (S : State) (one : AreOne act) (topped : IsTopped act p) (avoid : Binding) (before : binding_number avoid < S.naming.bound) (good : IsGood owner x n o) (sees : SeesNamed act x n o S) where
   abbrev inc : ℕ
   inc = n.inc
 
@@ -61,7 +79,7 @@ module _ (act : Acts) (owner : Owners) (x : ℕ) (n : Place) (o : Named) (p : Pa
 
   -- what an answer leaves and shows
   abbrev Answers : ℕ → Named → Option BoundReply → State → Type 0
-  Answers k v r T = SeesNamed act x (at_count k) v T × OnlyNaming S T × ShowsBound act (top_of p) T r
+  Answers k v r T = SeesNamed act x (at_count k) v T × OnlyNaming S T × ShowsBound act (top_of p) avoid T r
 
   nothing_else : OnlyNaming S S
   nothing_else = record { rest = refl; bindings = λ b l. refl; sent = λ m i. i }
@@ -76,7 +94,7 @@ module _ (act : Acts) (owner : Owners) (x : ℕ) (n : Place) (o : Named) (p : Pa
 
   -- ---- a live binding
 
-  module _ (l : Live) (live : o.live ≡ Some l) (free : conflict_on x p mode.Read o ≡ None) (stores : List ℕ) where
+  module _ (l : Live) (live : o.live ≡ Some l) (more : binding_number avoid < binding_number l.binding) (free : conflict_on x p mode.Read o ≡ None) (stores : List ℕ) where
     abbrev T : State
     T = next (BindLive a) S
 
@@ -103,14 +121,14 @@ module _ (act : Acts) (owner : Owners) (x : ℕ) (n : Place) (o : Named) (p : Pa
       holds = (
         live_sees,
         record { rest = refl; bindings = λ b i. refl; sent = λ m i. inr i },
-        (inl (ap (machine.Live a) (sym (sees.recorded l.binding (good.live l live)))), (let s = sees.live l live in s.server), (let s = sees.live l live in s.incarnation)),
+        (inl (ap (machine.Live a) (sym (sees.recorded l.binding (good.live l live)))), (let s = sees.live l live in s.server), (let s = sees.live l live in (s.named, s.incarnation)), more),
       );
     }
 
   -- ---- a binding that was made for the top before
 
-  again_goes : (m : Made) (stores : List ℕ) → at_uid (top_of p) o.made ≡ Some m → Goes S (Answers count (locked x p mode.Write o) (Some (bound.Make m.binding m.server inc stores)))
-  again_goes m stores is = record {
+  again_goes : (m : Made) (stores : List ℕ) → at_uid (top_of p) o.made ≡ Some m → binding_number avoid < binding_number m.binding → Goes S (Answers count (locked x p mode.Write o) (Some (bound.Make m.binding m.server inc stores)))
+  again_goes m stores is more = record {
     state = S;
     run = stay;
     holds = (
@@ -126,7 +144,7 @@ module _ (act : Acts) (owner : Owners) (x : ℕ) (n : Place) (o : Named) (p : Pa
         asked = sees.asked;
       },
       nothing_else,
-      (let s = sees.made (top_of p) m is in (s.sent, s.server, s.maker)),
+      (let s = sees.made (top_of p) m is in (s.sent, s.server, s.maker, more)),
     );
   }
 
@@ -200,7 +218,7 @@ module _ (act : Acts) (owner : Owners) (x : ℕ) (n : Place) (o : Named) (p : Pa
     new_goes = record {
       state = V;
       run = step (BindNew a b server) (topped.top, sees.bound, clear_seen act (entry x) (top_path p) mode.Write o.rows S.naming.rows topped.along sees.rows free) stay;
-      holds = (new_sees, record { rest = refl; bindings = λ k less. old_binding k (let m = sees.bound in omega (arith, less, m)); sent = λ m i. inr i }, (new_made.sent, new_made.server, new_made.maker));
+      holds = (new_sees, record { rest = refl; bindings = λ k less. old_binding k (let m = sees.bound in omega (arith, less, m)); sent = λ m i. inr i }, (new_made.sent, new_made.server, new_made.maker, (let m = sees.bound in omega (arith, m, before))));
     }
 
   -- ---- an include
@@ -234,7 +252,7 @@ module _ (act : Acts) (owner : Owners) (x : ℕ) (n : Place) (o : Named) (p : Pa
           asked = write_asked;
         },
         record { rest = refl; bindings = λ k less. refl; sent = λ m i. inr i },
-        inl refl,
+        inl (ap (machine.Granted a) (sym sees.first)),
       );
     }
 
@@ -243,33 +261,29 @@ module _ (act : Acts) (owner : Owners) (x : ℕ) (n : Place) (o : Named) (p : Pa
   abbrev c : Counted
   c = record { named = o; count = count }
 
-  by_live : (e : Entry) (l : Live) → o.live ≡ Some l → (r : Option Row) → conflict_on x p mode.Read o ≡ r → let s = live_asked inc x p e c l r in Goes S (Answers (let n = s.part in n.count) (let n = s.part in n.named) s.reply)
-  by_live e l is (Some r) found = refused (last_uid r.holder) r.mode
-  by_live e l is None free = live_goes l is free e.stores
+  by_live : (e : Entry) (l : Live) → o.live ≡ Some l → binding_number avoid < binding_number l.binding → (r : Option Row) → conflict_on x p mode.Read o ≡ r → let s = live_asked inc x p e c l r in Goes S (Answers (let n = s.part in n.count) (let n = s.part in n.named) s.reply)
+  by_live e l is more (Some r) found = refused (last_uid r.holder) r.mode
+  by_live e l is more None free = live_goes l is more free e.stores
 
-  by_made : (e : Entry) → conflict_on x p mode.Write o ≡ None → (v : Option Made) → at_uid (top_of p) o.made ≡ v ⊎ (v ≡ None) → let s = bind_made inc x p e c v in Goes S (Answers (let n = s.part in n.count) (let n = s.part in n.named) s.reply)
-  by_made e free (Some m) is = again_goes m e.stores (⊎_elim (λ h. h) (λ (none : Some m ≡ None). absurd (cc none)) is)
+  by_made : (e : Entry) → conflict_on x p mode.Write o ≡ None → (v : Option Made) → made_above avoid (at_uid (top_of p) o.made) ≡ v → let s = bind_made inc x p e c v in Goes S (Answers (let n = s.part in n.count) (let n = s.part in n.named) s.reply)
+  by_made e free (Some m) is = again_goes m e.stores (made_is avoid (at_uid (top_of p) o.made) m is) (made_more avoid (at_uid (top_of p) o.made) m is)
   by_made e free None is = new_goes free (next_server o.turn e.servers) e.stores
 
-  by_make : (avoid : Binding) (e : Entry) (r : Option Row) → conflict_on x p mode.Write o ≡ r → let s = make_asked inc x p avoid e c r in Goes S (Answers (let n = s.part in n.count) (let n = s.part in n.named) s.reply)
-  by_make avoid e (Some r) found = refused (last_uid r.holder) r.mode
-  by_make avoid e None free = by_made e free (made_above avoid (at_uid (top_of p) o.made)) (of (made_above avoid (at_uid (top_of p) o.made)) refl)
-    where
-      of : (v : Option Made) → made_above avoid (at_uid (top_of p) o.made) ≡ v → at_uid (top_of p) o.made ≡ v ⊎ (v ≡ None)
-      of None h = inr refl
-      of (Some m) h = inl (made_is avoid (at_uid (top_of p) o.made) m h)
+  by_make : (e : Entry) (r : Option Row) → conflict_on x p mode.Write o ≡ r → let s = make_asked inc x p avoid e c r in Goes S (Answers (let n = s.part in n.count) (let n = s.part in n.named) s.reply)
+  by_make e (Some r) found = refused (last_uid r.holder) r.mode
+  by_make e None free = by_made e free (made_above avoid (at_uid (top_of p) o.made)) refl
 
-  by_call : (avoid : Binding) (e : Entry) (v : Option Live) → live_above avoid o.live ≡ v → let s = bind_call inc x p avoid e c v in Goes S (Answers (let n = s.part in n.count) (let n = s.part in n.named) s.reply)
-  by_call avoid e (Some l) is = by_live e l (live_is avoid o.live l is) (conflict_on x p mode.Read o) refl
-  by_call avoid e None is = by_make avoid e (conflict_on x p mode.Write o) refl
+  by_call : (e : Entry) (v : Option Live) → live_above avoid o.live ≡ v → let s = bind_call inc x p avoid e c v in Goes S (Answers (let n = s.part in n.count) (let n = s.part in n.named) s.reply)
+  by_call e (Some l) is = by_live e l (live_is avoid o.live l is) (live_more avoid o.live l is) (conflict_on x p mode.Read o) refl
+  by_call e None is = by_make e (conflict_on x p mode.Write o) refl
 
   by_include : (e : Entry) (r : Option Row) → conflict_on x p mode.Write o ≡ r → let s = include_asked inc x p e c r in Goes S (Answers (let n = s.part in n.count) (let n = s.part in n.named) s.reply)
   by_include e (Some r) found = refused (last_uid r.holder) r.mode
   by_include e None free = write_goes free e.stores
 
-  pub bind_goes : (include : Bool) (avoid : Binding) (e : Entry) → let s = bind_named inc x p include avoid e c in Goes S (Answers (let n = s.part in n.count) (let n = s.part in n.named) s.reply)
-  bind_goes true avoid e = by_include e (conflict_on x p mode.Write o) refl
-  bind_goes false avoid e = by_call avoid e (live_above avoid o.live) refl
+  pub bind_goes : (include : Bool) (e : Entry) → let s = bind_named inc x p include avoid e c in Goes S (Answers (let n = s.part in n.count) (let n = s.part in n.named) s.reply)
+  bind_goes true e = by_include e (conflict_on x p mode.Write o) refl
+  bind_goes false e = by_call e (live_above avoid o.live) refl
 
 pub binds_are_seen : BindsAreSeen
-binds_are_seen act owner x n o p include avoid e S one topped good sees = bind_goes act owner x n o p S one topped good sees include avoid e
+binds_are_seen act owner x n o p include avoid e S one topped before good sees = bind_goes act owner x n o p S one topped avoid before good sees include e

@@ -17,9 +17,9 @@ use Rattle.arj_lock_law.proofs.Paths.{act_cases, other_way}
 use Rattle.arj_part_law.specs.Tops.{Owners}
 use Rattle.arj_part_law.proofs.Keys.{put_cases}
 use Rattle.arj_lock_view_law.specs.Acts.{Acts, AreOne}
-use Rattle.arj_lock_view_law.specs.Bindings.{HellosAreSeen, IsGood, IsNamedSo, IsUntold, NotesAreSeen}
+use Rattle.arj_lock_view_law.specs.Bindings.{HellosAreSeen, IsGood, IsUntold, NotesAreSeen}
 use Rattle.arj_lock_view_law.specs.Going.{Goes, OnlyNaming, ShowsNoted}
-use Rattle.arj_lock_view_law.specs.Named.{Place, SeesLive, SeesMade, SeesNamed}
+use Rattle.arj_lock_view_law.specs.Named.{IsNamedSo, Place, SeesLive, SeesMade, SeesNamed}
 use Rattle.arj_lock_view_law.specs.Rows.{SeesRows, held_in}
 use Rattle.arj_lock_view_law.proofs.RowSteps.{lowered_keeps, lowered_others}
 

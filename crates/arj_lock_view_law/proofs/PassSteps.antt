@@ -16,7 +16,8 @@ use Rattle.arj_lock_law.specs.Actions.{Act, Root, Sub, on, same}
 use Rattle.arj_lock_law.specs.Machine.{next, stay, step}
 use Rattle.arj_lock_law.specs.State.{State}
 use Rattle.arj_lock_law.specs.Steps.{DropEntry, PassEntry}
-use Rattle.arj_lock_law.proofs.Paths.{on_self, same_is, same_self}
+use Rattle.arj_lock_law.specs.Rows as machine
+use Rattle.arj_lock_law.proofs.Paths.{differ, not_below, on_same, on_self, same_is, same_self}
 use Rattle.arj_lock_law.proofs.Rows.{pass_cases}
 use Rattle.arj_part_law.specs.Objects.{IsToldOf}
 use Rattle.arj_part_law.specs.Rows.{Told}
@@ -133,6 +134,54 @@ module _ (act : Acts) (one : AreOne act) (object u : Uid) (all : List Row) where
         let k = mode_holds act object s m.0 (pass_rows u all) (pass_mode u all single object s ∙ (λ i. cond (apart i) None (strongest (mode_of object s all) (mode_passes i))) ∙ m.1) in
         let l = m.2 in omega (arith, k, l)
 
+-- A row of an action that the machine passes to the one above goes there in the protocol too, where each row has that one as its heir.
+module _ (act : Acts) (one : AreOne act) (object u h : Uid) (all : List Row) (single : IsOneEach all) (up : Act) (number : ℕ) (above : act h ≡ up) (below : act u ≡ Sub up number) (heirs : (r : Row) → In r all → is_held_by u r ≡ true → before_last r.holder ≡ Some h) (seen : machine.Rows) (old : SeesRows act object all seen) where
+  apart : h ≢ u
+  apart is = let e : up ≡ Sub up number = sym above ∙ ap act is ∙ below in differ (on_same up (Sub up number) e) (not_below up number)
+
+  apart_test : uid_eq h u ≡ false
+  apart_test = by (uid_eq h u) refl
+    where
+      by : (b : Bool) → uid_eq h u ≡ b → b ≡ false
+      by true e = absurd (apart (uid_is h u e))
+      by false e = refl
+
+  -- what the machine has of the action goes to the one above
+  goes_up : seen (act u) ≤ held_in act object (act h) (pass_rows u all)
+  goes_up = by (held_by act object (act u) all)
+    where
+      by : (held_in act object (act u) all ≡ 0) ⊎ ((r : Row) × In r all × (counts act object (act u) r ≡ true) × (held_in act object (act u) all ≤ strength r.mode)) → seen (act u) ≤ held_in act object (act h) (pass_rows u all)
+      by (inl none) = let i = old (act u) in omega (arith, i, none)
+      by (inr f) =
+          let both = and_parts (uid_eq f.0.object object) (same (act (last_uid f.0.holder)) (act u)) f.2 in
+          let holder : last_uid f.0.holder ≡ u = one (last_uid f.0.holder) u (same_is (act (last_uid f.0.holder)) (act u) both.1) in
+          let held : is_held_by u f.0 ≡ true = ap (λ (w : Uid). uid_eq w u) holder ∙ uid_same u in
+          let own : is_row_of object u f.0 ≡ true = λ i. both.0 i && held i in
+          let i = old (act u) in let j = f.3 in
+          let k = heir_gets act one object u all single h apart_test f.0 f.1 own (heirs f.0 f.1 held) in
+          omega (arith, i, j, k)
+
+  above_keeps : seen (act h) ≤ held_in act object (act h) (pass_rows u all)
+  above_keeps = let i = old (act h) in let j = others_keep act one object u all (act h) (λ same. apart (one h u same)) all in omega (arith, i, j)
+
+  pub passed_seen : SeesRows act object (pass_rows u all) (machine.pass seen up number)
+  passed_seen = pass_cases (λ (a : Act) (v : ℕ). v ≤ held_in act object a (pass_rows u all)) seen up number
+      (omega arith)
+      (subst (λ (b : Act). max (seen b) (seen (Sub up number)) ≤ held_in act object b (pass_rows u all)) above
+      (subst (λ (b : Act). max (seen (act h)) (seen b) ≤ held_in act object (act h) (pass_rows u all)) below (let i = goes_up in let j = above_keeps in omega (arith, i, j))))
+      (λ a here under. (let other : a ≡ act u → ⊥ = λ is. (let s = same_self a in absurd (cc (sym s ∙ ap (same a) (is ∙ below) ∙ under))) in
+      let i = old a in let j = others_keep act one object u all a other all in omega (arith, i, j)))
+
+-- or the machine drops it, with all below
+pub gone_seen : (act : Acts) (one : AreOne act) (object u : Uid) (all : List Row) (seen : machine.Rows) → SeesRows act object all seen → SeesRows act object (pass_rows u all) (machine.drop_below seen (act u))
+gone_seen act one object u all seen old a = by (on a (act u)) refl
+  where
+    by : (w : Bool) → on a (act u) ≡ w → cond w 0 (seen a) ≤ held_in act object a (pass_rows u all)
+    by true is = omega arith
+    by false is =
+        let other : a ≡ act u → ⊥ = λ same. (let up = on_self (act u) in absurd (cc (sym up ∙ ap (λ b. on b (act u)) (sym same) ∙ is))) in
+        let i = old a in let j = others_keep act one object u all a other all in omega (arith, i, j)
+
 -- ---- naming
 
 module _ (act : Acts) (owner : Owners) (x : ℕ) (n : Place) (told : Told) (o : Named) (u : Uid) (S : State) (one : AreOne act) (later : IsToldOf n.told told u) (good : IsGood owner x n o) (sees : SeesNamed act x n o S) where
@@ -142,20 +191,11 @@ module _ (act : Acts) (owner : Owners) (x : ℕ) (n : Place) (told : Told) (o : 
     abbrev T : State
     T = next (DropEntry (act u)) S
 
-    rows_gone : SeesRows act (entry x) (pass_rows u o.rows) T.naming.rows
-    rows_gone a = by (on a (act u)) refl
-      where
-        by : (w : Bool) → on a (act u) ≡ w → cond w 0 (S.naming.rows a) ≤ held_in act (entry x) a (pass_rows u o.rows)
-        by true is = omega arith
-        by false is =
-            let other : a ≡ act u → ⊥ = λ same. (let up = on_self (act u) in absurd (cc (sym up ∙ ap (λ b. on b (act u)) (sym same) ∙ is))) in
-            let i = sees.rows a in let j = others_keep act one (entry x) u o.rows a other o.rows in omega (arith, i, j)
-
     pub commit_goes : Goes S (λ V. SeesNamed act x (record n { told = told }) (end_named u ending.Commit o) V × OnlyNaming S V × OnlyTold act u S V)
     commit_goes = record {
       state = T;
       run = step (DropEntry (act u)) may stay;
-      holds = (ended_seen act owner x n told o u S later good sees (pass_rows u o.rows) T.naming.rows T.naming.told rows_gone, only_naming S T.naming, told_below act u S);
+      holds = (ended_seen act owner x n told o u S later good sees (pass_rows u o.rows) T.naming.rows T.naming.told (gone_seen act one (entry x) u o.rows S.naming.rows sees.rows), only_naming S T.naming, told_below act u S);
     }
 
   -- ---- or pass
@@ -164,41 +204,8 @@ module _ (act : Acts) (owner : Owners) (x : ℕ) (n : Place) (told : Told) (o : 
     abbrev V : State
     V = next (PassEntry may.unit may.number) S
 
-    apart : s ≢ u
-    apart same = let e : Root may.unit ≡ Sub (Root may.unit) may.number = sym may.serial ∙ ap act same ∙ may.below in absurd (cc e)
-
-    apart_test : uid_eq s u ≡ false
-    apart_test = by (uid_eq s u) refl
-      where
-        by : (b : Bool) → uid_eq s u ≡ b → b ≡ false
-        by true e = absurd (apart (uid_is s u e))
-        by false e = refl
-
-    -- what the machine has of the constituent goes to the unit
-    up : S.naming.rows (act u) ≤ held_in act (entry x) (act s) (pass_rows u o.rows)
-    up = by (held_by act (entry x) (act u) o.rows)
-      where
-        by : (held_in act (entry x) (act u) o.rows ≡ 0) ⊎ ((r : Row) × In r o.rows × (counts act (entry x) (act u) r ≡ true) × (held_in act (entry x) (act u) o.rows ≤ strength r.mode)) → S.naming.rows (act u) ≤ held_in act (entry x) (act s) (pass_rows u o.rows)
-        by (inl none) = let i = sees.rows (act u) in omega (arith, i, none)
-        by (inr f) =
-            let both = and_parts (uid_eq f.0.object (entry x)) (same (act (last_uid f.0.holder)) (act u)) f.2 in
-            let holder : last_uid f.0.holder ≡ u = one (last_uid f.0.holder) u (same_is (act (last_uid f.0.holder)) (act u) both.1) in
-            let held : is_held_by u f.0 ≡ true = ap (λ (w : Uid). uid_eq w u) holder ∙ uid_same u in
-            let own : is_row_of (entry x) u f.0 ≡ true = λ i. both.0 i && held i in
-            let i = sees.rows (act u) in let j = f.3 in
-            let k = heir_gets act one (entry x) u o.rows good.rows.one s apart_test f.0 f.1 own (may.heirs f.0 (in_to f.0 o.rows f.1) held) in
-            omega (arith, i, j, k)
-
-    serial_keeps : S.naming.rows (act s) ≤ held_in act (entry x) (act s) (pass_rows u o.rows)
-    serial_keeps = let i = sees.rows (act s) in let j = others_keep act one (entry x) u o.rows (act s) (λ same. apart (one s u same)) o.rows in omega (arith, i, j)
-
     rows_passed : SeesRows act (entry x) (pass_rows u o.rows) V.naming.rows
-    rows_passed = pass_cases (λ (a : Act) (v : ℕ). v ≤ held_in act (entry x) a (pass_rows u o.rows)) S.naming.rows (Root may.unit) may.number
-        (omega arith)
-        (subst (λ (b : Act). max (S.naming.rows b) (S.naming.rows (Sub (Root may.unit) may.number)) ≤ held_in act (entry x) b (pass_rows u o.rows)) may.serial
-        (subst (λ (b : Act). max (S.naming.rows (act s)) (S.naming.rows b) ≤ held_in act (entry x) (act s) (pass_rows u o.rows)) may.below (let i = up in let j = serial_keeps in omega (arith, i, j))))
-        (λ a here below. (let other : a ≡ act u → ⊥ = λ is. (let up = same_self a in absurd (cc (sym up ∙ ap (same a) (is ∙ may.below) ∙ below))) in
-        let i = sees.rows a in let j = others_keep act one (entry x) u o.rows a other o.rows in omega (arith, i, j)))
+    rows_passed = passed_seen act one (entry x) u s o.rows good.rows.one (Root may.unit) may.number may.serial may.below (λ r i held. may.heirs r (in_to r o.rows i) held) S.naming.rows sees.rows
 
     told_passed : OnlyTold act u S V
     told_passed a h = by (same a (Sub (Root may.unit) may.number)) refl h

@@ -1,8 +1,8 @@
 -- Actions as the lock machine names them: which path of the machine an action of the protocol is.
-use Rattle.std.specs.Prelude.{◌≡◌, true, List}
-use Rattle.arj_protocol.specs.Words.{Uid, Path, is_on, last_uid}
+use Rattle.std.specs.Prelude.{◌≡◌, ◌+◌, ℕ, true, List, length}
+use Rattle.arj_protocol.specs.Words.{Uid, Path, is_on, last_uid, uids_of, tops_of}
 use Rattle.arj_protocol.specs.Ask.{top_path, top_of}
-use Rattle.arj_lock_law.specs.Actions.{Act, on, is_top}
+use Rattle.arj_lock_law.specs.Actions.{Act, depth, on, is_top}
 
 -- The machine's path of each action. A run's journal fixes it.
 abbrev pub Acts : Type 0
@@ -21,3 +21,12 @@ pub record IsAlong (act : Acts) (us : List Uid) : Type 0 where
 pub record IsTopped (act : Acts) (p : Path) : Type 0 where
   pub along : IsAlong act (top_path p)
   pub top : is_top (act (top_of p)) ≡ true
+
+-- the machine has the last of the Uids as deep below its unit as these are below their top
+abbrev pub IsDeep : Acts → List Uid → ℕ → Type 0
+IsDeep act us tops = length us + 1 ≡ depth (act (last_uid us)) + tops
+
+-- the path of an action that calls
+pub record IsCaller (act : Acts) (p : Path) : Type 0 where
+  pub along : IsAlong act (uids_of p)
+  pub deep : IsDeep act (uids_of p) (tops_of p)

@@ -1,36 +1,33 @@
 -- What naming does with a Bind, a Record and a Hello, in the machine.
-use Rattle.std.specs.Prelude.{◌≡◌, ℕ, Bool, true, false}
+use Rattle.std.specs.Prelude.{◌≡◌, ◌<◌, ℕ, Bool, false}
 use Rattle.arj_protocol.specs.Words.{Uid, Path, Binding, Entry}
 use Rattle.arj_protocol.specs.Ask.{top_of}
+use Rattle.arj_protocol.specs.Order.{binding_number}
 use Rattle.arj_protocol.specs.Named.{Named, bind_named, note_named, hello_named}
 use Rattle.arj_lock_law.specs.State.{State}
 use Rattle.arj_part_law.specs.Objects.{IsGoodObject}
 use Rattle.arj_part_law.specs.Tops.{Owners}
 use Rattle.arj_lock_view_law.specs.Acts.{Acts, AreOne, IsTopped}
 use Rattle.arj_lock_view_law.specs.Going.{Goes, OnlyNaming, ShowsBound, ShowsNoted}
-use Rattle.arj_lock_view_law.specs.Named.{Place, SeesNamed, binding_at}
+use Rattle.arj_lock_view_law.specs.Named.{IsNamedSo, Place, SeesNamed}
 
 -- what the parts of naming keep of the object
 abbrev pub IsGood : Owners → ℕ → Place → Named → Type 0
 IsGood owner x n o = IsGoodObject owner n.told n.inc n.count x o
 
--- A Bind of an action with a top, at an object that is seen: the machine gives the top a row and the live binding, or a new
+-- A Bind of an action with a top, that avoids a binding which was made before, at an object that is seen: the machine gives the top a row and the live binding, or a new
 -- one, or the write row for an include; or it does nothing, where a lock conflicts or the answer is one that was given.
 abbrev pub BindsAreSeen : Type 0
 BindsAreSeen = (act : Acts) (owner : Owners) (x : ℕ) (n : Place) (o : Named) (p : Path) (include : Bool) (avoid : Binding) (e : Entry) (S : State)
-    → AreOne act → IsTopped act p → IsGood owner x n o → SeesNamed act x n o S
+    → AreOne act → IsTopped act p → binding_number avoid < S.naming.bound → IsGood owner x n o → SeesNamed act x n o S
     → let r = bind_named n.inc x p include avoid e (record { named = o; count = n.count }) in
-    Goes S (λ T. SeesNamed act x (record n { count = (let c = r.part in c.count) }) (let c = r.part in c.named) T × OnlyNaming S T × ShowsBound act (top_of p) T r.reply)
+    Goes S (λ T. SeesNamed act x (record n { count = (let c = r.part in c.count) }) (let c = r.part in c.named) T × OnlyNaming S T × ShowsBound act (top_of p) avoid T r.reply)
 
 -- Nobody told naming of the top's end, or of its owner's: neither in the protocol nor in the machine.
 pub record IsUntold (act : Acts) (owner : Owners) (n : Place) (S : State) (t : Uid) : Type 0 where
   pub own : n.told t ≡ false
   pub above : n.told (owner t) ≡ false
   pub seen : S.naming.told (act t) ≡ false
-
--- the root of the binding's maker heard this incarnation of its server
-abbrev pub IsNamedSo : State → Binding → ℕ → Type 0
-IsNamedSo S b i = ((let c = binding_at S b in c.named) ≡ true) × ((let c = binding_at S b in c.incarnation) ≡ i)
 
 -- A Record of a top that wasn't told of, with an incarnation that its root heard: the machine records the binding, or it did.
 abbrev pub NotesAreSeen : Type 0

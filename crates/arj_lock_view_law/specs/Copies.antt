@@ -6,12 +6,12 @@ use Rattle.arj_protocol.specs.Words.ending
 use Rattle.arj_protocol.specs.Ask.{actor}
 use Rattle.arj_protocol.specs.Copy.{Copy, Over, current, end_copy, run_copy, taken_copy}
 use Rattle.arj_protocol.specs.Order.{binding_number}
-use Rattle.arj_lock_law.specs.Actions.{Act, In, on}
+use Rattle.arj_lock_law.specs.Actions.{Act, In, at_act, on}
 use Rattle.arj_lock_law.specs.Machine.{Guard}
 use Rattle.arj_lock_law.specs.State as machine
 use Rattle.arj_lock_law.specs.State.{State, Entry, Request, Answer}
 use Rattle.arj_lock_law.specs.Steps.{DropRows, IsAt}
-use Rattle.arj_lock_view_law.specs.Acts.{Acts, AreOne, IsAlong}
+use Rattle.arj_lock_view_law.specs.Acts.{Acts, AreOne, IsCaller, IsDeep}
 use Rattle.arj_lock_view_law.specs.Going.{Goes}
 use Rattle.arj_lock_view_law.specs.Rows.{SeesRows}
 
@@ -31,6 +31,7 @@ pub record IsOver (act : Acts) (code : Codes) (o : Over) (own : List Entry) : Ty
   pub are : own ≡ newest ∷ older
   pub held : AreHeld (act (last_uid o.holder)) own
   pub value : newest.gives ≡ code o.value
+  pub deep : IsDeep act o.holder o.tops
 
 -- the overlays, the deepest first, are the machine's log
 abbrev pub SeesOvers : Acts → Codes → List Over → List Entry → Type 0
@@ -50,6 +51,12 @@ pub record OnlyServer (n : ℕ) (S T : State) : Type 0 where
   pub others : (k : ℕ) → k ≢ n → T.server k ≡ S.server k
   pub sent : (m : machine.Message) → In m S.net → In m T.net
 
+-- Of a server its incarnation stays, and who it voted for; and the numbers of the last requests are these.
+pub record KeepsServer (requests : Act → ℕ) (v w : machine.Server) : Type 0 where
+  pub incarnation : w.incarnation ≡ v.incarnation
+  pub voted : w.voted ≡ v.voted
+  pub request : w.request ≡ requests
+
 -- a request of the action at this copy
 abbrev pub request_for : Acts → Path → ℕ → Op → Copy → Request
 request_for act p number o c = record { act = act (actor p); number = number; binding = binding_number c.binding; write = writes o }
@@ -67,23 +74,23 @@ answer_for code S q o c = record { request = q; place = S.now; sees = code (curr
 -- A new request that meets no conflict is applied: the copy is seen again, and the answer is shown.
 abbrev pub OperationsAreSeen : Type 0
 OperationsAreSeen = (act : Acts) (code : Codes) (n x number : ℕ) (p : Path) (o : Op) (c : Copy) (S : State)
-    → AreOne act → IsAlong act (uids_of p) → first_conflict (uids_of p) (object x) (op_mode o) c.rows ≡ None
+    → AreOne act → IsCaller act p → first_conflict (uids_of p) (object x) (op_mode o) c.rows ≡ None
     → SeesCopy act code x c (S.server n) → IsNew S n (request_for act p number o c)
     → let r = run_copy n p x o c in
-    Goes S (λ T. SeesCopy act code x r.part (T.server n) × OnlyServer n S T × In (machine.Invoked (answer_for code S (request_for act p number o c) o c)) T.net)
+    Goes S (λ T. SeesCopy act code x r.part (T.server n) × OnlyServer n S T × KeepsServer (at_act (let v = S.server n in v.request) (act (actor p)) number) (S.server n) (T.server n) × In (machine.Invoked (answer_for code S (request_for act p number o c) o c)) T.net)
 
 -- One that meets a conflict changes nothing of the copy, and the refusal is shown.
 abbrev pub RefusalsAreSeen : Type 0
 RefusalsAreSeen = (act : Acts) (code : Codes) (n x number : ℕ) (p : Path) (o : Op) (c : Copy) (S : State)
     → SeesCopy act code x c (S.server n) → IsNew S n (request_for act p number o c)
-    → Goes S (λ T. SeesCopy act code x c (T.server n) × OnlyServer n S T × In (machine.Refused (request_for act p number o c)) T.net)
+    → Goes S (λ T. SeesCopy act code x c (T.server n) × OnlyServer n S T × KeepsServer (at_act (let v = S.server n in v.request) (act (actor p)) number) (S.server n) (T.server n) × In (machine.Refused (request_for act p number o c)) T.net)
 
 -- A state came for a binding of this node that is above the active one: the copy is taken.
 abbrev pub ActivationsAreSeen : Type 0
 ActivationsAreSeen = (act : Acts) (code : Codes) (n x : ℕ) (b : Binding) (st : ObjectState) (S : State)
     → In (machine.Activate (binding_number b) (code (let c = taken_copy b st in let d = c.base in d.value))) S.net
     → (let c = S.binding (binding_number b) in c.server) ≡ n → (let v = S.server n in v.active) < binding_number b
-    → Goes S (λ T. SeesCopy act code x (taken_copy b st) (T.server n) × OnlyServer n S T × In (machine.Activated (binding_number b) (let v = S.server n in v.incarnation)) T.net)
+    → Goes S (λ T. SeesCopy act code x (taken_copy b st) (T.server n) × OnlyServer n S T × KeepsServer (let v = S.server n in v.request) (S.server n) (T.server n) × In (machine.Activated (binding_number b) (let v = S.server n in v.incarnation)) T.net)
 
 -- Whose overlays and rows an end takes in the protocol and in the machine are the same: each holder's path stands in the machine
 -- as it does there.

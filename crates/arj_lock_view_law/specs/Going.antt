@@ -1,5 +1,5 @@
 -- The machine goes along: a run of it from the state that is seen to one that is seen again.
-use Rattle.std.specs.Prelude.{⊤, ◌≡◌, ◌<◌, ℕ, Option, Some}
+use Rattle.std.specs.Prelude.{⊤, ◌≡◌, ◌<◌, ◌*◌, ℕ, Option, Some}
 use Rattle.arj_protocol.specs.Words.{Uid, BoundReply, RecordedReply, Binding}
 use Rattle.arj_protocol.specs.Words.bound
 use Rattle.arj_protocol.specs.Words.recorded
@@ -9,7 +9,7 @@ use Rattle.arj_lock_law.specs.Machine.{Run}
 use Rattle.arj_lock_law.specs.State as machine
 use Rattle.arj_lock_law.specs.State.{State}
 use Rattle.arj_lock_view_law.specs.Acts.{Acts}
-use Rattle.arj_lock_view_law.specs.Named.{binding_at}
+use Rattle.arj_lock_view_law.specs.Named.{IsNamedSo, binding_at}
 
 -- The machine goes to a state in which this holds.
 pub record Goes (S : State) (P : State → Type 0) : Type 0 where
@@ -27,12 +27,13 @@ pub record OnlyNaming (S T : State) : Type 0 where
 abbrev pub IsServedBy : State → Binding → ℕ → Type 0
 IsServedBy T b server = (let c = binding_at T b in c.server) ≡ server
 
--- What an answer to a Bind shows to the top: a live binding, one that is made for it, or the write lock for an include.
-abbrev pub ShowsBound : Acts → Uid → State → Option BoundReply → Type 0
-ShowsBound act t T (Some (bound.Live b server i g stores)) = In (machine.Live (act t) (binding_number b)) T.net × IsServedBy T b server × ((let c = binding_at T b in c.incarnation) ≡ i)
-ShowsBound act t T (Some (bound.Make b server g stores)) = In (machine.Made (act t) (binding_number b)) T.net × IsServedBy T b server × ((let c = binding_at T b in c.maker) ≡ act t)
-ShowsBound act t T (Some (bound.Write g stores)) = In (machine.Granted (act t) T.naming.first) T.net
-ShowsBound act t T _ = ⊤
+-- What an answer to a Bind shows to the top: a live binding, or one that is made for it, above the one to avoid; or the write
+-- lock for an include, with the first binding of naming's incarnation.
+abbrev pub ShowsBound : Acts → Uid → Binding → State → Option BoundReply → Type 0
+ShowsBound act t avoid T (Some (bound.Live b server i g stores)) = In (machine.Live (act t) (binding_number b)) T.net × IsServedBy T b server × IsNamedSo T b i × (binding_number avoid < binding_number b)
+ShowsBound act t avoid T (Some (bound.Make b server g stores)) = In (machine.Made (act t) (binding_number b)) T.net × IsServedBy T b server × ((let c = binding_at T b in c.maker) ≡ act t) × (binding_number avoid < binding_number b)
+ShowsBound act t avoid T (Some (bound.Write g stores)) = In (machine.Granted (act t) (g * 4294967296)) T.net
+ShowsBound act t avoid T _ = ⊤
 
 -- what an answer to a Record shows: the binding is recorded
 abbrev pub ShowsNoted : Binding → State → Option RecordedReply → Type 0

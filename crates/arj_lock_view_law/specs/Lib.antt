@@ -1,7 +1,16 @@
 pub mod Acts
+pub mod Actions
+pub mod Acting
 pub mod Rows
 pub mod Named
 pub mod Going
 pub mod Bindings
 pub mod Ends
 pub mod Copies
+pub mod Commits
+pub mod Roots
+pub mod Calling
+pub mod Whole
+pub mod Asks
+pub mod Begins
+pub mod Servers

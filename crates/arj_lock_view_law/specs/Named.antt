@@ -14,6 +14,10 @@ use Rattle.arj_lock_view_law.specs.Rows.{SeesRows}
 abbrev pub binding_at : State → Binding → machine.Binding
 binding_at S b = S.binding (binding_number b)
 
+-- the root of the binding's maker heard this incarnation of its server
+abbrev pub IsNamedSo : State → Binding → ℕ → Type 0
+IsNamedSo S b i = ((let c = binding_at S b in c.named) ≡ true) × ((let c = binding_at S b in c.incarnation) ≡ i)
+
 -- the live binding's server, of which its maker's root heard this incarnation
 pub record SeesLive (l : Live) (S : State) : Type 0 where
   pub server : (let b = binding_at S l.binding in b.server) ≡ l.server
@@ -39,7 +43,7 @@ pub record Place : Type 0 where
 pub record SeesNamed (act : Acts) (x : ℕ) (n : Place) (o : Named) (S : State) : Type 0 where
   pub rows : SeesRows act (entry x) o.rows S.naming.rows
   pub bound : S.naming.bound ≤ binding_number (record { inc = n.inc; count = n.count + 1 })
-  pub first : S.naming.first ≤ n.inc * 4294967296
+  pub first : S.naming.first ≡ n.inc * 4294967296
   pub recorded : (b : Binding) → o.recorded ≡ Some b → S.naming.recorded ≡ binding_number b
   pub unrecorded : o.recorded ≡ None → S.naming.recorded < S.naming.first
   pub known : (b : Binding) → o.recorded ≡ Some b → In (machine.Recorded (binding_number b)) S.net

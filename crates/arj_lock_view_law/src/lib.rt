@@ -1,4 +1,4 @@
-//! The protocol seen by the lock machine of one object, begun: what naming does with an object.
+//! The protocol seen by the lock machine of one object, part by part: naming, servers, coordinators.
 //!
 //! The machine (`arj_lock_law`) has of one object what naming, servers and coordinators have of it, and its laws are about
 //! order, values and held locks. For each object a state of the machine is tied to the protocol place by place, as
@@ -7,15 +7,23 @@
 //! `specs/Acts.antt` has the machine's paths of actions, `specs/Rows.antt` the rows of a lock table, `specs/Named.antt` an
 //! object at naming, `specs/Going.antt` what a run leaves alone and what an answer shows. What it gives upward: a Bind, a
 //! Record and a Hello go (`specs/Bindings.antt`), and so do ends, exclude locks and a restart (`specs/Ends.antt`): that is what
-//! naming does with one object. A server's activations, operations, refusals and undoings go too (`specs/Copies.antt`).
-//! Confirmations of whole tops, a server's commits and votes, and coordinators aren't seen yet.
+//! naming does with one object. A server's activations, operations, refusals and undoings go too (`specs/Copies.antt`), its
+//! commits and votes (`specs/Commits.antt`), and the whole of it where it starts, takes a copy, answers calls
+//! and votes, but not yet where it is told of ends (`specs/Servers.antt`). Of a coordinator its tree is seen (`specs/Actions.antt`), how its actions begin and end
+//! (`specs/Begins.antt`, `specs/Acting.antt`, `specs/Whole.antt`); what its roots keep (`specs/Roots.antt`), how its calls go (`specs/Calling.antt`),
+//! and what their requests show (`specs/Asks.antt`). Lines of includes, and what a commit's requests show, aren't seen yet.
 #![tactic(auto)]
 
+mod coord;
 mod naming;
 mod server;
 
+pub use coord::{
+    actions_begin, calls_at_coordinators_are_seen, ends_at_coordinators_are_seen, ends_keep_roots,
+    other_calls_are_nothing, requests_are_shown,
+};
 pub use naming::{
     binds_are_seen, ends_are_seen, excludes_are_seen, hellos_are_seen, records_are_seen,
     restarts_are_seen,
 };
-pub use server::copies_are_seen;
+pub use server::{commits_at_servers_are_seen, copies_are_seen, servers_are_seen, votes_are_seen};

@@ -1,5 +1,7 @@
 // A server, as the lock machine of one object has it.
+ghost use Rattle.arj_lock_view_law.specs.Commits.{FoldingsAreSeen, ReadingsAreSeen, RetainingsAreSeen, SettlingsAreSeen, VotesAreSeen};
 ghost use Rattle.arj_lock_view_law.specs.Copies.{ActivationsAreSeen, OperationsAreSeen, RefusalsAreSeen, UndoingsAreSeen};
+ghost use Rattle.arj_lock_view_law.specs.Servers.{CallsAreAnswered, CopiesAreTaken, OtherCallsAreAnswered, OtherCopiesAreTaken, OtherVotesAreGiven, ServersStart, VotesAreGiven};
 
 /// What a server does with the copy of an object is allowed in the machine, and leaves the copy seen: it takes a copy, applies a
 /// new request in its lock, refuses one that meets a conflict, and undoes what an aborted action did. It does nothing when it runs.
@@ -8,4 +10,32 @@ pub fn copies_are_seen()
     ensures operations { OperationsAreSeen }
     ensures refusals { RefusalsAreSeen }
     ensures undoings { UndoingsAreSeen }
+{}
+
+/// What a server does with a commit is allowed in the machine, and leaves the copy seen: a nested action's rows and writes pass to
+/// its parent, what a top wrote becomes the copy's own value, and its rows pass to its serializing action or go. So are the rows of
+/// an action that wrote nothing here, where the machine may drop them. It does nothing when it runs.
+pub fn commits_at_servers_are_seen()
+    ensures nested { FoldingsAreSeen }
+    ensures constituents { RetainingsAreSeen }
+    ensures plain { SettlingsAreSeen }
+    ensures readers { ReadingsAreSeen }
+{}
+
+/// A server that votes has voted in the machine, where the first vote under a binding gives the value that the top left here and
+/// the copy's own. It does nothing when it runs.
+pub fn votes_are_seen()
+    ensures { VotesAreSeen }
+{}
+
+/// A whole server is seen where it starts, where an Activate comes, and where an Invoke or a Vote comes that brings no new end: what it
+/// answers the machine has said. What it does so with other objects is nothing to the machine. It does nothing when it runs.
+pub fn servers_are_seen()
+    ensures starts { ServersStart }
+    ensures copies { CopiesAreTaken }
+    ensures calls { CallsAreAnswered }
+    ensures other_copies { OtherCopiesAreTaken }
+    ensures other_calls { OtherCallsAreAnswered }
+    ensures votes { VotesAreGiven }
+    ensures other_votes { OtherVotesAreGiven }
 {}

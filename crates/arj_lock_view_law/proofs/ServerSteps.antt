@@ -1,0 +1,404 @@
+-- A whole server goes: it starts, takes copies, and answers calls.
+use Rattle.std.proofs.Common.{◌≡◌, ◌≢◌, ◌<◌, ◌≤◌, ◌∙◌, ◌==◌, ◌||◌, ℕ, List, [], ◌∷◌, length, Bool, true, false, cond, nat_lt, Option, Some, None, refl, sym, ap, subst, inl, inr, ⊎_elim, arith, eqb-true}
+use Rattle.std.specs.List.{list_any}
+use Rattle.std.proofs.lemmas.Bool.{or_parts}
+use Rattle.arj_base.proofs.Uids.{uid_cases}
+use Rattle.arj_protocol.specs.Words.{Binding, End, Head, InvokedReply, ObjectState, Op, Path, Row, Uid, What, answer_of, first_conflict, last_uid, object, op_mode, uids_of}
+use Rattle.arj_protocol.specs.Words.invoked
+use Rattle.arj_protocol.specs.Words.what
+use Rattle.arj_protocol.specs.Ask.{actor}
+use Rattle.arj_protocol.specs.Copy.{Copy, ask_copy, current, invoke_copy, run_copy, taken_copy}
+use Rattle.arj_protocol.specs.Effect.{Served, either, reply, void}
+use Rattle.arj_protocol.specs.Order.{at_number, at_uid, binding_eq, binding_less, binding_number, put_number, put_uid, unbound}
+use Rattle.arj_protocol.specs.Server.{Kept, Server, activate, active_binding, apply_ends, binding_of, changed_by, changed_copy, has_ended, invoke, invoke_kept, invoke_new, invoke_now, is_below, is_told, kept_after, on_copy, took_copy}
+use Rattle.arj_protocol.specs.Values.{state_value}
+use Rattle.arj_protocol.proofs.Maps.{put_other as put_number_other, put_same as put_number_same}
+use Rattle.arj_protocol.proofs.RowSteps.{one_or_two}
+use Rattle.arj_lock_law.specs.Actions.{Act, In, at_act, same}
+use Rattle.arj_lock_law.specs.Machine.{after_crash, next, stay, step}
+use Rattle.arj_lock_law.specs.State as machine
+use Rattle.arj_lock_law.specs.State.{Request, State}
+use Rattle.arj_lock_law.specs.Steps.{Change, CrashServer, IsElsewhere}
+use Rattle.arj_lock_law.proofs.Paths.{act_here, act_other, at_here, same_is}
+use Rattle.arj_part_law.proofs.Begun.{path_some}
+use Rattle.arj_part_law.proofs.Keys.{put_other, put_same}
+use Rattle.arj_lock_view_law.specs.Acts.{Acts, AreOne}
+use Rattle.arj_lock_view_law.specs.Copies.{Codes, IsNew, KeepsServer, OnlyServer, SeesCopy, answer_for, request_for}
+use Rattle.arj_lock_view_law.specs.Going.{Goes, IsServedBy}
+use Rattle.arj_lock_view_law.specs.Servers.{CallsAreAnswered, CopiesAreTaken, IsAsked, OtherCallsAreAnswered, OtherCopiesAreTaken, SeesObject, SeesServer, ServersStart, ShowsActivated, ShowsIfInvoked, ShowsInvoked, Wanted, Wants, last_of, wanted_by}
+use Rattle.arj_lock_view_law.proofs.CopySteps.{activations_are_seen, operations_are_seen, refusals_are_seen, server_else}
+use Rattle.arj_lock_view_law.proofs.RunSteps.{goes_to}
+
+only_itself : (n : ℕ) (S : State) → OnlyServer n S S
+only_itself n S = record { rest = refl; others = λ k other. refl; sent = λ m i. i }
+
+-- what an answer shows it shows for ever
+pub shows_later : (act : Acts) (code : Codes) (u : Uid) (number : ℕ) (w : Wanted) (S T : State) → ((m : machine.Message) → In m S.net → In m T.net) → (a : InvokedReply) → ShowsInvoked act code u number w S a → ShowsInvoked act code u number w T a
+shows_later act code u number w S T sent (invoked.Answered a) h = (h.0, h.1, (let p = h.2 in record { answer = p.answer; sent = sent (machine.Invoked p.answer) p.sent; of = p.of; sees = p.sees; gives = p.gives }))
+shows_later act code u number w S T sent (invoked.Conflict k m) h = sent (machine.Refused (wanted_by act u number w)) h
+shows_later act code u number w S T sent (invoked.Changed d) h = sent (machine.Changed (binding_number w.binding)) h
+
+object_sent : (act : Acts) (code : Codes) (x i : ℕ) (o : Option Copy) (m : machine.Server) (S T : State) → ((z : machine.Message) → In z S.net → In z T.net) → SeesObject act code x i o m S → SeesObject act code x i o m T
+object_sent act code x i None m S T sent h = h
+object_sent act code x i (Some c) m S T sent h = (h.0, sent (machine.Activated (binding_number c.binding) i) h.1)
+
+-- ---- it starts
+
+pub servers_start : ServersStart
+servers_start act code wants x n i S up = record {
+  state = next (CrashServer n i) S;
+  run = step (CrashServer n i) up stay;
+  holds = (
+    record {
+      incarnation = ap (λ (m : machine.Server). m.incarnation) (at_here S.server n (after_crash i));
+      object = ap (λ (m : machine.Server). m.active) (at_here S.server n (after_crash i));
+      latest = λ u fresh. subst (λ (m : machine.Server). m.request (act u) ≤ 0) (sym (at_here S.server n (after_crash i))) (omega arith);
+      kept = λ u k w found. absurd (let no_way : ◌≡◌ {A = Option Kept} None (Some k) = found in cc no_way);
+      voted = λ u fresh off. ap (λ (m : machine.Server). m.voted (act u)) (at_here S.server n (after_crash i));
+    },
+    record { rest = refl; others = λ k other. server_else S n k (after_crash i) other; sent = λ m i. i },
+  );
+}
+
+-- ---- it takes a copy
+
+module _ (act : Acts) (code : Codes) (wants : Wants) (x n : ℕ) (p : Path) (b : Binding) (st : ObjectState) (s : Server) (S : State) (bound : 1 ≤ binding_number b) (served : IsServedBy S b n) (given : In (machine.Activate (binding_number b) (code (state_value st))) S.net) (sees : SeesServer act code wants x n s S) where
+  abbrev Takes : Served Server ℕ → Type 0
+  Takes r = Goes S (λ T. SeesServer act code wants x n r.part T × OnlyServer n S T × ShowsActivated b T r.reply)
+
+  has : (o : Option Copy) → at_number x s.objects ≡ o → SeesObject act code x s.inc o (S.server n) S
+  has o is = subst (λ (f : Option Copy). SeesObject act code x s.inc f (S.server n) S) is sees.object
+
+  active_is : (let m = S.server n in m.active) ≡ binding_number (active_binding x s)
+  active_is = by (at_number x s.objects) refl
+    where
+      by : (o : Option Copy) → at_number x s.objects ≡ o → (let m = S.server n in m.active) ≡ binding_number (binding_of o)
+      by None none = has None none
+      by (Some c) there = let h = has (Some c) there in let copy = h.0 in copy.active
+
+  again : binding_eq b (active_binding x s) ≡ true → Takes (reply s s.inc)
+  again same_one = record { state = S; run = stay; holds = (sees, only_itself n S, by (at_number x s.objects) refl (eqb-true (binding_number b) (binding_number (active_binding x s)) same_one)) }
+    where
+      none_is : (k : ℕ) → 1 ≤ k → k ≡ 0 → ⊥
+      none_is k low is = omega (arith, low, is)
+
+      by : (o : Option Copy) → at_number x s.objects ≡ o → binding_number b ≡ binding_number (binding_of o) → In (machine.Activated (binding_number b) s.inc) S.net
+      by None none is = absurd (none_is (binding_number b) bound is)
+      by (Some c) there is = let h = has (Some c) there in subst (λ (k : ℕ). In (machine.Activated k s.inc) S.net) (sym is) h.1
+
+  takes : binding_less b (active_binding x s) ≡ false → binding_eq b (active_binding x s) ≡ false → Takes (took_copy n x b st s)
+  takes unless unlike = goes_to (activations_are_seen act code n x b st S given served (subst (λ (k : ℕ). k < binding_number b) (sym active_is) (above (binding_number b) (binding_number (active_binding x s)) unless unlike)))
+      (λ T h. (
+        record {
+          incarnation = (let k = h.2 in k.incarnation ∙ sees.incarnation);
+          object = subst (λ (f : Option Copy). SeesObject act code x s.inc f (T.server n) T) (sym (put_number_same x (taken_copy b st) s.objects)) (h.0, subst (λ (k : ℕ). In (machine.Activated (binding_number b) k) T.net) sees.incarnation h.3);
+          latest = λ u fresh. (let k = h.2 in subst (λ (f : Act → ℕ). f (act u) ≤ last_of (at_uid u s.kept)) (sym k.request) (sees.latest u fresh));
+          kept = λ u k w found wanted. (let o = h.1 in shows_later act code u k.req w S T o.sent k.answer (sees.kept u k w found wanted));
+          voted = λ u fresh off. (let k = h.2 in ap (λ (f : Act → Bool). f (act u)) k.voted ∙ sees.voted u fresh off);
+        },
+        h.1,
+        subst (λ (k : ℕ). In (machine.Activated (binding_number b) k) T.net) sees.incarnation h.3,
+      ))
+    where
+      above : (j k : ℕ) → nat_lt j k ≡ false → (j == k) ≡ false → k < j
+      above j k less like = grind (arith, less, like)
+
+  at_object : (y : ℕ) → Served Server ℕ
+  at_object y = cond (has_ended p s || binding_less b (active_binding y s)) (void s) (cond (binding_eq b (active_binding y s)) (reply s s.inc) (took_copy n y b st s))
+
+  here : Takes (at_object x)
+  unfolding at_object
+  here = by (has_ended p s) (binding_less b (active_binding x s)) (binding_eq b (active_binding x s)) refl refl
+    where
+      by : (e l q : Bool) → binding_less b (active_binding x s) ≡ l → binding_eq b (active_binding x s) ≡ q → Takes (cond (e || l) (void s) (cond q (reply s s.inc) (took_copy n x b st s)))
+      by true l q less like = record { state = S; run = stay; holds = (sees, only_itself n S, tt) }
+      by false true q less like = record { state = S; run = stay; holds = (sees, only_itself n S, tt) }
+      by false false true less like = again like
+      by false false false less like = takes less like
+
+  pub copy_taken : (let u = st.uid in u.num) ≡ x → Takes (activate n p b st s)
+  unfolding at_object
+  copy_taken is = subst (λ (y : ℕ). Takes (at_object y)) (sym is) here
+
+pub copies_are_taken : CopiesAreTaken
+copies_are_taken act code wants x n p b st s S about bound served given sees = copy_taken act code wants x n p b st s S bound served given sees about
+
+-- ---- it answers calls
+
+module _ (act : Acts) (code : Codes) (wants : Wants) (x n : ℕ) (h : Head) (b : Binding) (i : ℕ) (ends : List (Uid × End)) (o : Op) (s : Server) (S : State) (one : AreOne act) (asked : IsAsked act wants n h b i o S) (nothing : (let d = apply_ends n ends s in d.part) ≡ s) (sees : SeesServer act code wants x n s S) where
+  abbrev u : Uid
+  u = actor h.path
+
+  abbrev w0 : Wanted
+  w0 = record { binding = b; op = o }
+
+  abbrev q : Request
+  q = wanted_by act u h.req w0
+
+  abbrev Answers : Served Server InvokedReply → Type 0
+  Answers r = Goes S (λ T. SeesServer act code wants x n r.part T × OnlyServer n S T × ShowsIfInvoked act code u h.req w0 T r.reply)
+
+  stays : Answers (void s)
+  stays = record { state = S; run = stay; holds = (sees, only_itself n S, tt) }
+
+  -- it has another incarnation or binding
+  changed : (d : What) → IsElsewhere (S.server n) (let c = S.binding (binding_number b) in c.incarnation) (binding_number b) → Answers (reply s (invoked.Changed d))
+  changed d away = record {
+    state = next (Change n q) S;
+    run = step (Change n q) (asked.sent, asked.served, away) stay;
+    holds = (
+      record {
+        incarnation = sees.incarnation;
+        object = object_sent act code x s.inc (at_number x s.objects) (S.server n) S (next (Change n q) S) (λ m i. inr i) sees.object;
+        latest = sees.latest;
+        kept = λ u k w found wanted. shows_later act code u k.req w S (next (Change n q) S) (λ m i. inr i) k.answer (sees.kept u k w found wanted);
+        voted = sees.voted;
+      },
+      record { rest = refl; others = λ k other. refl; sent = λ m i. inr i },
+      inl refl,
+    );
+  }
+
+  -- the request again
+  again_kept : (k : Kept) → at_uid u s.kept ≡ Some k → k.req ≡ h.req → Answers (reply s k.answer)
+  again_kept k found is = record {
+    state = S;
+    run = stay;
+    holds = (sees, only_itself n S, subst (λ (r : ℕ). ShowsInvoked act code u r w0 S k.answer) is (sees.kept u k w0 found (ap (wants u) is ∙ asked.wish)));
+  }
+
+  -- ---- a new request
+
+  module _ (c : Copy) (there : at_number x s.objects ≡ Some c) (tied : binding_number b ≡ binding_number c.binding) (inc_is : i ≡ s.inc) (later : (let m = S.server n in m.request (act u)) < h.req) where
+    has_copy : SeesCopy act code x c (S.server n) × In (machine.Activated (binding_number c.binding) s.inc) S.net
+    has_copy = subst (λ (f : Option Copy). SeesObject act code x s.inc f (S.server n) S) there sees.object
+
+    request_is : request_for act h.path h.req o c ≡ q
+    request_is = λ j. record { act = act u; number = h.req; binding = sym tied j; write = q.write }
+
+    new_one : IsNew S n (request_for act h.path h.req o c)
+    new_one = record {
+      sent = subst (λ (r : Request). In (machine.Invoke r) S.net) (sym request_is) asked.sent;
+      here = (let copy = has_copy.0 in (
+        ap (λ (k : ℕ). (let v = S.binding k in v.server)) (sym tied) ∙ asked.served,
+        sees.incarnation ∙ sym inc_is ∙ sym (let m = asked.named in m.1) ∙ ap (λ (k : ℕ). (let v = S.binding k in v.incarnation)) tied,
+        copy.active,
+      ));
+      later = later;
+    }
+
+    -- the server with a copy, and an answer that is kept
+    after : Copy → InvokedReply → Server
+    after r a = record s { objects = put_number x r s.objects; kept = put_uid u (record { req = h.req; answer = a }) s.kept }
+
+    server_then : (T : State) (r : Copy) (a : InvokedReply) → SeesCopy act code x r (T.server n) → In (machine.Activated (binding_number r.binding) s.inc) T.net → OnlyServer n S T → KeepsServer (at_act (let m = S.server n in m.request) (act u) h.req) (S.server n) (T.server n) → ShowsInvoked act code u h.req w0 T a
+        → SeesServer act code wants x n (record s { objects = put_number x r s.objects; kept = put_uid u (record { req = h.req; answer = a }) s.kept }) T
+    server_then T r a copy activated only keeps shows = record {
+      incarnation = keeps.incarnation ∙ sees.incarnation;
+      object = subst (λ (f : Option Copy). SeesObject act code x s.inc f (T.server n) T) (sym (put_number_same x r s.objects)) (copy, activated);
+      latest = λ v fresh. subst (λ (f : Act → ℕ). f (act v) ≤ last_of (at_uid v (put_uid u mine s.kept))) (sym keeps.request) (⊎_elim
+          (λ (is : v ≡ u). subst (λ (z : Uid). at_act (let m = S.server n in m.request) (act u) h.req (act z) ≤ last_of (at_uid z (put_uid u mine s.kept))) (sym is)
+          (same_low (act_here (let m = S.server n in m.request) (act u) h.req) (ap last_of (put_same u mine s.kept))))
+          (λ (other : v ≢ u). old_low (act_other (let m = S.server n in m.request) (act u) h.req (act v) (apart v other)) (ap last_of (put_other v u mine s.kept other)) (sees.latest v fresh))
+          (uid_cases v u));
+      kept = λ v k w found wanted. ⊎_elim
+          (λ (is : v ≡ u).
+          let two : ◌≡◌ {A = Option Kept} (Some mine) (Some k) = sym (put_same u mine s.kept) ∙ ap (λ (z : Uid). at_uid z (put_uid u mine s.kept)) (sym is) ∙ found in
+          let its : mine ≡ k = cc two in
+          let both : ◌≡◌ {A = Option Wanted} (Some w0) (Some w) = sym asked.wish ∙ ap (λ (z : Uid). wants z h.req) (sym is) ∙ ap (λ (z : Kept). wants v z.req) its ∙ wanted in
+          let same_wish : w0 ≡ w = cc both in
+          subst (λ (z : Kept). ShowsInvoked act code v z.req w T z.answer) its (subst (λ (z : Uid). ShowsInvoked act code z h.req w T a) (sym is) (subst (λ (z : Wanted). ShowsInvoked act code u h.req z T a) same_wish shows)))
+          (λ (other : v ≢ u). shows_later act code v k.req w S T only.sent k.answer (sees.kept v k w (sym (put_other v u mine s.kept other) ∙ found) wanted))
+          (uid_cases v u);
+      voted = λ v fresh off. ap (λ (f : Act → Bool). f (act v)) keeps.voted ∙ sees.voted v fresh off;
+    }
+      where
+        mine : Kept
+        mine = record { req = h.req; answer = a }
+
+        same_low : {j k : ℕ} → j ≡ h.req → k ≡ h.req → j ≤ k
+        same_low a b = omega (arith, a, b)
+
+        old_low : {j k l m : ℕ} → j ≡ k → l ≡ m → k ≤ m → j ≤ l
+        old_low a b c = omega (arith, a, b, c)
+
+        apart : (v : Uid) → v ≢ u → same (act v) (act u) ≡ false
+        apart v other = by (same (act v) (act u)) refl
+          where
+            by : (t : Bool) → same (act v) (act u) ≡ t → t ≡ false
+            by true is = absurd (other (one v u (same_is (act v) (act u) is)))
+            by false is = refl
+
+    on_it : Answers (kept_after h (on_copy x (invoke_copy n h.path x o) s (Some c)))
+    on_it = by (first_conflict (uids_of h.path) (object x) (op_mode o) c.rows) refl
+      where
+        by : (r : Option Row) → first_conflict (uids_of h.path) (object x) (op_mode o) c.rows ≡ r → Answers (kept_after h (record { part = record s { objects = put_number x (let k = ask_copy n h.path x o c r in k.part) s.objects }; outs = (let k = ask_copy n h.path x o c r in k.outs); reply = (let k = ask_copy n h.path x o c r in k.reply) }))
+        by None free = goes_to (operations_are_seen act code n x h.req h.path o c S one asked.caller free has_copy.0 new_one) (λ T g.
+            let shown : ShowsInvoked act code u h.req w0 T (invoked.Answered (answer_of o (current c.base c.stack))) = (current c.base c.stack, refl, record { answer = answer_for code S (request_for act h.path h.req o c) o c; sent = g.3; of = request_is; sees = refl; gives = refl }) in
+            (server_then T (let k = run_copy n h.path x o c in k.part) (invoked.Answered (answer_of o (current c.base c.stack))) g.0 (let y = g.1 in y.sent (machine.Activated (binding_number c.binding) s.inc) has_copy.1) g.1 g.2 shown, g.1, shown))
+        by (Some r) is = goes_to (refusals_are_seen act code n x h.req h.path o c S has_copy.0 new_one) (λ T g.
+            let shown : In (machine.Refused q) T.net = subst (λ (z : Request). In (machine.Refused z) T.net) request_is g.3 in
+            (server_then T c (invoked.Conflict (last_uid r.holder) r.mode) g.0 (let y = g.1 in y.sent (machine.Activated (binding_number c.binding) s.inc) has_copy.1) g.1 g.2 shown, g.1, shown))
+
+    fresh_one : Answers (invoke_new n h x ends o s)
+    fresh_one = subst (λ (t : Server). Answers (kept_after h (on_copy x (invoke_copy n h.path x o) t (at_number x t.objects)))) (sym nothing)
+        (subst (λ (f : Option Copy). Answers (kept_after h (on_copy x (invoke_copy n h.path x o) s f))) (sym there) on_it)
+
+  -- ---- any request
+
+  module _ (unended : has_ended h.path s ≡ false) (not_below : is_below h.req (at_uid u s.kept) ≡ false) (untold : is_told u s ≡ false) where
+    -- of a request with this copy
+    with_copy : (c : Copy) → at_number x s.objects ≡ Some c → binding_number b ≡ binding_number c.binding → i ≡ s.inc → Answers (invoke_kept n h x ends o s (at_uid u s.kept))
+    with_copy c there tied inc_is = by (at_uid u s.kept) refl
+      where
+        low : (k : Option Kept) → at_uid u s.kept ≡ k → last_of k < h.req → (let m = S.server n in m.request (act u)) < h.req
+        low k is less = lower (subst (λ (z : Option Kept). (let m = S.server n in m.request (act u)) ≤ last_of z) is (sees.latest u untold)) less
+          where
+            lower : {j l : ℕ} → j ≤ l → l < h.req → j < h.req
+            lower a b = omega (arith, a, b)
+
+        by : (k : Option Kept) → at_uid u s.kept ≡ k → Answers (invoke_kept n h x ends o s k)
+        by None none = fresh_one c there tied inc_is (low None none (positive asked.number))
+          where
+            positive : 1 ≤ h.req → 0 < h.req
+            positive a = omega (arith, a)
+        by (Some k) found = at (k.req == h.req) refl
+          where
+            at : (t : Bool) → (k.req == h.req) ≡ t → Answers (cond t (reply s k.answer) (invoke_new n h x ends o s))
+            at true is = again_kept k found (eqb-true k.req h.req is)
+            at false is = fresh_one c there tied inc_is (low (Some k) found (less k.req h.req is (ap (is_below h.req) (sym found) ∙ not_below)))
+              where
+                less : (j l : ℕ) → (j == l) ≡ false → nat_lt l j ≡ false → j < l
+                less j l a b = grind (arith, a, b)
+
+    now : Answers (invoke_now n h x ends o s (changed_by i x b s))
+    now = by_inc (i == s.inc) refl
+      where
+        by_copy : i ≡ s.inc → (f : Option Copy) → at_number x s.objects ≡ f → Answers (invoke_now n h x ends o s (changed_copy b f))
+        by_copy inc_is None none = changed (what.Bind b unbound) (inr (λ is. not_none (subst (λ (f : Option Copy). SeesObject act code x s.inc f (S.server n) S) none sees.object) is asked.bound))
+          where
+            not_none : {j l : ℕ} → j ≡ 0 → j ≡ l → 1 ≤ l → ⊥
+            not_none a b c = omega (arith, a, b, c)
+        by_copy inc_is (Some c) there = by_bound (binding_eq b c.binding) refl
+          where
+            by_bound : (t : Bool) → binding_eq b c.binding ≡ t → Answers (invoke_now n h x ends o s (cond t None (Some (what.Bind b c.binding))))
+            by_bound true like = with_copy c there (eqb-true (binding_number b) (binding_number c.binding) like) inc_is
+            by_bound false unlike = changed (what.Bind b c.binding) (inr (λ is. (let k = subst (λ (f : Option Copy). SeesObject act code x s.inc f (S.server n) S) there sees.object in let copy = k.0 in not_same (binding_number b) (binding_number c.binding) unlike (sym is ∙ copy.active))))
+              where
+                not_same : (j l : ℕ) → (j == l) ≡ false → j ≡ l → ⊥
+                not_same j l a b = grind (arith, a, b)
+
+        by_inc : (t : Bool) → (i == s.inc) ≡ t → Answers (invoke_now n h x ends o s (either (cond t None (Some (what.Inc i s.inc))) (changed_copy b (at_number x s.objects))))
+        by_inc true is = by_copy (eqb-true i s.inc is) (at_number x s.objects) refl
+        by_inc false is = changed (what.Inc i s.inc) (inl (λ same_inc. not_same i s.inc is (sym (let m = asked.named in m.1) ∙ sym same_inc ∙ sees.incarnation)))
+          where
+            not_same : (j l : ℕ) → (j == l) ≡ false → j ≡ l → ⊥
+            not_same j l a b = grind (arith, a, b)
+
+pub calls_are_answered : CallsAreAnswered
+calls_are_answered act code wants x n h b i ends o s S one asked nothing sees = by (has_ended h.path s) (is_below h.req (at_uid (actor h.path) s.kept)) refl refl
+  where
+    untold : has_ended h.path s ≡ false → is_told (actor h.path) s ≡ false
+    untold none = unended (uids_of h.path) (path_some h.path) none
+      where
+        unended : (us : List Uid) → 1 ≤ length us → list_any (λ v. is_told v s) us ≡ false → is_told (last_uid us) s ≡ false
+        unended [] some none = absurd (let no_way = some in omega (arith, no_way))
+        unended (v ∷ []) some none = (or_parts (is_told v s) false none).0
+        unended (v ∷ w ∷ us) some none = unended (w ∷ us) (omega arith) (or_parts (is_told v s) (list_any (λ z. is_told z s) (w ∷ us)) none).1
+
+    by : (e l : Bool) → has_ended h.path s ≡ e → is_below h.req (at_uid (actor h.path) s.kept) ≡ l
+        → Goes S (λ T. SeesServer act code wants x n (let r = cond (e || l) (void s) (invoke_now n h x ends o s (changed_by i x b s)) in r.part) T × OnlyServer n S T × ShowsIfInvoked act code (actor h.path) h.req (record { binding = b; op = o }) T (let r = cond (e || l) (void s) (invoke_now n h x ends o s (changed_by i x b s)) in r.reply))
+    by true l ended below = stays act code wants x n h b i ends o s S one asked nothing sees
+    by false true ended below = stays act code wants x n h b i ends o s S one asked nothing sees
+    by false false ended below = now act code wants x n h b i ends o s S one asked nothing sees ended below (untold ended)
+
+-- ---- other objects
+
+other_object : (x y : ℕ) (c : Copy) (m : List (ℕ × Copy)) → y ≢ x → at_number x (put_number y c m) ≡ at_number x m
+other_object x y c m other = ⊎_elim (λ same_one. absurd (other same_one)) (λ apart. put_number_other y x c m apart.0) (one_or_two y x)
+
+pub other_copies_are_taken : OtherCopiesAreTaken
+other_copies_are_taken act code wants x n p b st s S other sees = by (has_ended p s || binding_less b (active_binding (let u = st.uid in u.num) s)) (binding_eq b (active_binding (let u = st.uid in u.num) s))
+  where
+    by : (e q : Bool) → SeesServer act code wants x n (let r = cond e (void s) (cond q (reply s s.inc) (took_copy n (let u = st.uid in u.num) b st s)) in r.part) S
+    by true q = sees
+    by false true = sees
+    by false false = record {
+      incarnation = sees.incarnation;
+      object = subst (λ (f : Option Copy). SeesObject act code x s.inc f (S.server n) S) (sym (other_object x (let u = st.uid in u.num) (taken_copy b st) s.objects other)) sees.object;
+      latest = sees.latest;
+      kept = sees.kept;
+      voted = sees.voted;
+    }
+
+module _ (act : Acts) (code : Codes) (wants : Wants) (x y n : ℕ) (h : Head) (b : Binding) (i : ℕ) (ends : List (Uid × End)) (o : Op) (s : Server) (S : State) (other : y ≢ x) (unwanted : wants (actor h.path) h.req ≡ None) (nothing : (let d = apply_ends n ends s in d.part) ≡ s) (sees : SeesServer act code wants x n s S) where
+  abbrev v0 : Uid
+  v0 = actor h.path
+
+  abbrev Stays : Served Server InvokedReply → Type 0
+  Stays r = SeesServer act code wants x n r.part S
+
+  -- another answer is kept
+  noted : (objects : List (ℕ × Copy)) (a : InvokedReply) → at_number x objects ≡ at_number x s.objects → last_of (at_uid v0 s.kept) ≤ h.req → SeesServer act code wants x n (record s { objects = objects; kept = put_uid v0 (record { req = h.req; answer = a }) s.kept }) S
+  noted objects a same_copy low = record {
+    incarnation = sees.incarnation;
+    object = subst (λ (f : Option Copy). SeesObject act code x s.inc f (S.server n) S) (sym same_copy) sees.object;
+    latest = λ v fresh. ⊎_elim
+        (λ (is : v ≡ v0). subst (λ (z : Uid). (let m = S.server n in m.request (act z)) ≤ last_of (at_uid z (put_uid v0 mine s.kept))) (sym is)
+        (higher (sees.latest v0 (ap (λ (z : Uid). is_told z s) (sym is) ∙ fresh)) low (ap last_of (put_same v0 mine s.kept))))
+        (λ (apart : v ≢ v0). subst (λ (k : Option Kept). (let m = S.server n in m.request (act v)) ≤ last_of k) (sym (put_other v v0 mine s.kept apart)) (sees.latest v fresh))
+        (uid_cases v v0);
+    kept = λ v k w found wanted. ⊎_elim
+        (λ (is : v ≡ v0).
+        let two : ◌≡◌ {A = Option Kept} (Some mine) (Some k) = sym (put_same v0 mine s.kept) ∙ ap (λ (z : Uid). at_uid z (put_uid v0 mine s.kept)) (sym is) ∙ found in
+        let its : mine ≡ k = cc two in
+        let no_way : ◌≡◌ {A = Option Wanted} None (Some w) = sym unwanted ∙ ap (λ (z : Uid). wants z h.req) (sym is) ∙ ap (λ (z : Kept). wants v z.req) its ∙ wanted in
+        absurd (cc no_way))
+        (λ (apart : v ≢ v0). sees.kept v k w (sym (put_other v v0 mine s.kept apart) ∙ found) wanted)
+        (uid_cases v v0);
+    voted = sees.voted;
+  }
+    where
+      mine : Kept
+      mine = record { req = h.req; answer = a }
+
+      higher : {j k l : ℕ} → j ≤ k → k ≤ h.req → l ≡ h.req → j ≤ l
+      higher p q r = omega (arith, p, q, r)
+
+  -- a request that wasn't run yet
+  noted_new : last_of (at_uid v0 s.kept) ≤ h.req → Stays (invoke_new n h y ends o s)
+  noted_new low = subst (λ (t : Server). Stays (kept_after h (on_copy y (invoke_copy n h.path y o) t (at_number y t.objects)))) (sym nothing) (by_copy (at_number y s.objects))
+    where
+      by_copy : (f : Option Copy) → Stays (kept_after h (on_copy y (invoke_copy n h.path y o) s f))
+      by_copy None = noted s.objects (invoked.Changed (what.Bind unbound unbound)) refl low
+      by_copy (Some c) = by (first_conflict (uids_of h.path) (object y) (op_mode o) c.rows)
+        where
+          by : (r : Option Row) → Stays (kept_after h (record { part = record s { objects = put_number y (let k = ask_copy n h.path y o c r in k.part) s.objects }; outs = (let k = ask_copy n h.path y o c r in k.outs); reply = (let k = ask_copy n h.path y o c r in k.reply) }))
+          by None = let r = run_copy n h.path y o c in noted (put_number y r.part s.objects) (invoked.Answered (answer_of o (current c.base c.stack))) (other_object x y r.part s.objects other) low
+          by (Some r) = noted (put_number y c s.objects) (invoked.Conflict (last_uid r.holder) r.mode) (other_object x y c s.objects other) low
+
+  pub other_answered : Stays (invoke n h y b i ends o s)
+  other_answered = by (has_ended h.path s) (is_below h.req (at_uid v0 s.kept)) refl
+    where
+      by_kept : (k : Option Kept) → at_uid v0 s.kept ≡ k → is_below h.req k ≡ false → Stays (invoke_kept n h y ends o s k)
+      by_kept None none low = noted_new (subst (λ (z : Option Kept). last_of z ≤ h.req) (sym none) (omega arith))
+      by_kept (Some k) found low = at (k.req == h.req)
+        where
+          at_most : (j l : ℕ) → nat_lt l j ≡ false → j ≤ l
+          at_most j l a = grind (arith, a)
+
+          at : (t : Bool) → Stays (cond t (reply s k.answer) (invoke_new n h y ends o s))
+          at true = sees
+          at false = noted_new (subst (λ (z : Option Kept). last_of z ≤ h.req) (sym found) (at_most k.req h.req low))
+
+      by_what : is_below h.req (at_uid v0 s.kept) ≡ false → (w : Option What) → Stays (invoke_now n h y ends o s w)
+      by_what low (Some w) = sees
+      by_what low None = by_kept (at_uid v0 s.kept) refl low
+
+      by : (e l : Bool) → is_below h.req (at_uid v0 s.kept) ≡ l → Stays (cond (e || l) (void s) (invoke_now n h y ends o s (changed_by i y b s)))
+      by true l below = sees
+      by false true below = sees
+      by false false below = by_what below (changed_by i y b s)
+
+pub other_calls_are_answered : OtherCallsAreAnswered
+other_calls_are_answered act code wants x y n h b i ends o s S other unwanted nothing sees = other_answered act code wants x y n h b i ends o s S other unwanted nothing sees

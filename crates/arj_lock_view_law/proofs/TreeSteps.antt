@@ -1,0 +1,328 @@
+-- Ends of actions at their coordinator go in the machine.
+use Rattle.std.proofs.Common.{◌≡◌, ◌≢◌, ◌≤◌, ◌⊎◌, ◌∙◌, ◌||◌, ◌++◌, ℕ, zero, suc, List, [], ◌∷◌, Bool, true, false, cond, length, nat_le, Option, Some, None, refl, sym, ap, subst, inl, inr, ⊎_elim, arith, is_some}
+use Rattle.arj_base.proofs.Uids.{uid_same, uid_cases}
+use Rattle.arj_protocol.specs.Words.{Uid, End, Kind, is_on, first_uid, uids_of}
+use Rattle.arj_protocol.specs.Words.ending
+use Rattle.arj_protocol.specs.Words.kind
+use Rattle.arj_protocol.specs.Coord.{Coord, Doing, Now, Idle, Calling, Committing, change_doing, doing_of, on_doing, set_doing}
+use Rattle.arj_protocol.specs.Ending.{ended}
+use Rattle.arj_protocol.specs.Step.{is_committing_now, is_waiting_now}
+use Rattle.arj_protocol.specs.Tree.{Branch, Tree, at_place, branch_of, ended_at, ended_branch, has_end, has_open_child, family_of, is_own, root_of, set_place, with_family}
+use Rattle.arj_lock_law.specs.Actions.{Act, Root, Sub, is_action, is_top, on, root, same}
+use Rattle.arj_lock_law.specs.State.{Action}
+use Rattle.arj_lock_law.proofs.Paths.{by_cases, differ, on_root, on_same, on_self, on_up, root_is, same_is, top_action}
+use Rattle.arj_part_law.specs.Copies.{IsTree, Paths}
+use Rattle.arj_part_law.specs.Coords.{IsBusy}
+use Rattle.arj_part_law.specs.Trees.{HasLists}
+use Rattle.arj_part_law.proofs.Begun.{path_some}
+use Rattle.arj_part_law.proofs.GoodTrees as tree
+use Rattle.arj_part_law.proofs.GoodTrees.{above_of, all_over, over_below, shorter}
+use Rattle.arj_part_law.proofs.Settled.{doing_other, doing_put}
+use Rattle.arj_part_law.proofs.TrueSteps.{work_there}
+use Rattle.arj_lock_view_law.specs.Acts.{Acts}
+use Rattle.arj_lock_view_law.specs.Actions.{IsHere, IsIdle, IsLone, IsPlaced, IsSteady, SeesAction, SeesActions, invokes, stage_of}
+
+-- ---- paths
+
+-- of two on a path one stands above the other
+pub kin : (a b c : Act) → on a b ≡ true → on a c ≡ true → (on b c ≡ true) ⊎ (on c b ≡ true)
+kin (Root u) b c p q = inl (on_same b c (sym (same_is (Root u) b p) ∙ same_is (Root u) c q))
+kin (Sub a n) b c p q = by (kin a b c) (on_up a n b p) (on_up a n c q)
+  where
+    by : (on a b ≡ true → on a c ≡ true → (on b c ≡ true) ⊎ (on c b ≡ true)) → (b ≡ Sub a n) ⊎ (on a b ≡ true) → (c ≡ Sub a n) ⊎ (on a c ≡ true) → (on b c ≡ true) ⊎ (on c b ≡ true)
+    by ih (inl is) r = inl (ap (λ (d : Act). on d c) is ∙ q)
+    by ih (inr o) (inl is) = inr (ap (λ (d : Act). on d b) is ∙ p)
+    by ih (inr o) (inr r) = ih o r
+
+pub first_on : (us : List Uid) → 1 ≤ length us → is_on us (first_uid us) ≡ true
+first_on [] some = absurd (omega (arith, some))
+first_on (u ∷ us) some = ap (λ b. b || is_on us u) (uid_same u)
+
+-- who stands above one of the tree's is of the tree
+module _ (paths : Paths) (whole : IsTree paths) (t : Tree) (lists : HasLists paths t) (u : Uid) where
+  there_by : (k : ℕ) (w : Uid) (b : Branch) → length (paths w) ≤ k → branch_of w t ≡ Some b → is_on (paths w) u ≡ true → (c : Branch) × (branch_of u t ≡ Some c)
+  there_by zero w b short found above = absurd (none (paths w) short above)
+    where
+      none : (us : List Uid) → length us ≤ 0 → is_on us u ≡ true → ⊥
+      none [] le o = cc o
+      none (x ∷ us) le o = omega (arith, le)
+  there_by (suc k) w b short found above = ⊎_elim
+      (λ (is : w ≡ u). (b, ap (λ (v : Uid). branch_of v t) (sym is) ∙ found))
+      (λ (other : w ≢ u). let up = above_of paths whole t lists u w b found above other in let p = lists.parents w up.0 b found up.1 in there_by k up.0 p.0 (shorter paths whole t lists w up.0 k up.1 up.3 short) p.1 up.2)
+      (uid_cases w u)
+
+  pub above_there : (w : Uid) (b : Branch) → branch_of w t ≡ Some b → is_on (paths w) u ≡ true → (c : Branch) × (branch_of u t ≡ Some c)
+  above_there w b found above = there_by (length (paths w)) w b (omega arith) found above
+
+-- ---- who does what
+
+module _ (act : Acts) (paths : Paths) (x : ℕ) (c : Coord) (f : Act → Action) (steady : IsSteady act paths c) (sees : SeesActions act x c f) where
+  abbrev t : Tree
+  t = c.tree
+
+  -- an action, with its work
+  pub seen_at : (u : Uid) (b : Branch) → branch_of u t ≡ Some b → is_action (act u) ≡ true → (d : Doing) × (doing_of u c ≡ Some d) × SeesAction x b d (f (act u))
+  seen_at u b found action = let d = work_there c steady.works u b found in (d.0, d.1, sees.each u b d.0 found d.1 action)
+
+  -- the root's branch
+  pub root_there : (u : Uid) (b : Branch) → branch_of u t ≡ Some b → (r : Branch) × (branch_of (root_of b.path) t ≡ Some r) × (is_on (paths u) (root_of b.path) ≡ true)
+  root_there u b found =
+      let up : is_on (paths u) (root_of b.path) ≡ true = ap (λ (us : List Uid). is_on us (root_of b.path)) (sym (steady.good.tree.lists.paths_are u b found)) ∙ first_on (uids_of b.path) (path_some b.path) in
+      let r = above_there paths steady.whole t steady.good.tree.lists (root_of b.path) u b found up in
+      (r.0, r.1, up)
+
+  -- above an open action all are open
+  pub open_above : (u w : Uid) (b e : Branch) → branch_of u t ≡ Some b → is_some b.ended ≡ false → branch_of w t ≡ Some e → is_on (paths u) w ≡ true → is_some e.ended ≡ false
+  open_above u w b e found unended there above = by (is_some e.ended) refl
+    where
+      by : (o : Bool) → is_some e.ended ≡ o → o ≡ false
+      by true over = absurd (let k = over_below paths steady.whole t steady.good.tree.lists steady.good.tree.closed w e there over u b found above in cc (sym k ∙ unended))
+      by false is = refl
+
+  stage_open : (e : Branch) (d : Doing) (a : Action) → SeesAction x e d a → is_some e.ended ≡ false → is_committing_now d.now ≡ false → a.stage ≡ 0
+  stage_open e d a s unended quiet = s.stage ∙ by e.ended d.now unended quiet
+    where
+      by : (o : Option End) (n : Now) → is_some o ≡ false → is_committing_now n ≡ false → stage_of o n ≡ 0
+      by (Some k) n un q = absurd (cc un)
+      by None Idle un q = refl
+      by None (Calling k) un q = refl
+      by None (Committing k) un q = absurd (cc q)
+
+  pub stage_over : (e : Branch) (d : Doing) (a : Action) → SeesAction x e d a → is_some e.ended ≡ true → (a.stage ≡ 3) ⊎ (a.stage ≡ 4)
+  stage_over e d a s over = by e.ended over s.stage
+    where
+      by : (o : Option End) → is_some o ≡ true → a.stage ≡ stage_of o d.now → (a.stage ≡ 3) ⊎ (a.stage ≡ 4)
+      by None un is = absurd (cc un)
+      by (Some ending.Commit) un is = inl is
+      by (Some ending.Abort) un is = inr is
+
+  not_waiting : (n : Now) → is_waiting_now n ≡ false → is_committing_now n ≡ false
+  not_waiting Idle isnt = refl
+  not_waiting (Calling s) isnt = absurd (cc isnt)
+  not_waiting (Committing m) isnt = absurd (cc isnt)
+
+  invoking_waits : (n : Now) → invokes x n ≡ true → is_waiting_now n ≡ true
+  invoking_waits Idle is = absurd (cc is)
+  invoking_waits (Calling s) is = refl
+  invoking_waits (Committing m) is = absurd (cc is)
+
+  -- the path of an action that isn't at its commit is open, where nothing waits above it
+  pub opens : (u : Uid) (b : Branch) (d : Doing) → branch_of u t ≡ Some b → is_some b.ended ≡ false → doing_of u c ≡ Some d → is_committing_now d.now ≡ false → IsLone paths u c → (a : Act) → on (act u) a ≡ true → (f a).stage ≡ 0
+  opens u b d found unended works quiet lone a above = ⊎_elim action unit (by_cases (is_action a))
+    where
+      unit : is_action a ≡ false → (f a).stage ≡ 0
+      unit isnt =
+          let r = root_there u b found in
+          let home : a ≡ Root (root (act u)) = root_is a isnt ∙ ap Root (sym (on_root (act u) a above)) in
+          ap (λ (v : Act). (f v).stage) home ∙ sees.opened u b r.0 found r.1 (open_above u (root_of b.path) b r.0 found unended r.1 r.2)
+
+      action : is_action a ≡ true → (f a).stage ≡ 0
+      action holds =
+          let w = steady.alike.filled u a above holds in
+          let up : is_on (paths u) w.0 ≡ true = sym (steady.alike.above u w.0) ∙ ap (on (act u)) (sym w.1) ∙ above in
+          let e = above_there paths steady.whole t steady.good.tree.lists w.0 u b found up in
+          let s = seen_at w.0 e.0 e.1 (ap is_action (sym w.1) ∙ holds) in
+          ap (λ (v : Act). (f v).stage) w.1 ∙ stage_open e.0 s.0 (f (act w.0)) s.2 (open_above u w.0 b e.0 found unended e.1 up) (calm w.0 s.0 s.1 up (uid_cases w.0 u))
+        where
+          calm : (w : Uid) (e : Doing) → doing_of w c ≡ Some e → is_on (paths u) w ≡ true → (w ≡ u) ⊎ (w ≢ u) → is_committing_now e.now ≡ false
+          calm w e it up (inl is) = let one : ◌≡◌ {A = Option Doing} (Some d) (Some e) = sym works ∙ ap (λ (v : Uid). doing_of v c) (sym is) ∙ it in let k : d ≡ e = cc one in ap (λ (v : Doing). is_committing_now v.now) (sym k) ∙ quiet
+          calm w e it up (inr other) = by (is_waiting_now e.now) refl
+            where
+              by : (o : Bool) → is_waiting_now e.now ≡ o → is_committing_now e.now ≡ false
+              by true holds = absurd (let l = lone w e it holds other in cc (sym up ∙ l.0))
+              by false isnt = not_waiting e.now isnt
+
+  -- Who waits in a unit of this coordinator is one of its actions, which is open and waits for an Invoke.
+  pub record IsWaiter (a : Act) : Type 0 where
+    pub who : Uid
+    pub branch : Branch
+    pub work : Doing
+    pub is : a ≡ act who
+    pub there : branch_of who t ≡ Some branch
+    pub works : doing_of who c ≡ Some work
+    pub invoking : invokes x work.now ≡ true
+    pub unended : is_some branch.ended ≡ false
+
+  unaborted : (e : Branch) (d : Doing) (a : Action) → SeesAction x e d a → a.stage ≤ 3 → has_end ending.Abort e.ended ≡ false
+  unaborted e d a s low = by e.ended s.stage
+    where
+      by : (o : Option End) → a.stage ≡ stage_of o d.now → has_end ending.Abort o ≡ false
+      by None st = refl
+      by (Some ending.Commit) st = refl
+      by (Some ending.Abort) st = absurd (omega (arith, st, low))
+
+  -- who waits is open
+  invoker_open : (w : Uid) (e : Branch) (d : Doing) → branch_of w t ≡ Some e → doing_of w c ≡ Some d → invokes x d.now ≡ true → is_some e.ended ≡ false
+  invoker_open w e d there works busy = by d.now busy (steady.good.busy w d works)
+    where
+      by : (n : Now) → invokes x n ≡ true → IsBusy t w n → is_some e.ended ≡ false
+      by Idle is asks = absurd (cc is)
+      by (Committing m) is asks = absurd (cc is)
+      by (Calling s) is asks = let one : ◌≡◌ {A = Option Branch} (Some asks.branch) (Some e) = sym asks.found ∙ there in let k : asks.branch ≡ e = cc one in ap (λ (v : Branch). is_some v.ended) (sym k) ∙ asks.opened
+
+  pub waiter : (u : Uid) (b : Branch) (a : Act) → branch_of u t ≡ Some b → root a ≡ root (act u) → (f a).waits ≡ true → (f a).stage ≤ 3 → IsWaiter a
+  waiter u b a found home waits alive = ⊎_elim action unit (by_cases (is_action a))
+    where
+      unit : is_action a ≡ false → IsWaiter a
+      unit isnt = absurd (let q = sees.quiet u b found in cc (sym waits ∙ ap (λ (v : Act). (f v).waits) (root_is a isnt ∙ ap Root home) ∙ q))
+
+      action : is_action a ≡ true → IsWaiter a
+      action holds = by (sees.others u b a found home holds)
+        where
+          by : IsHere act t a ⊎ IsIdle (f a) → IsWaiter a
+          by (inr idle) = absurd (let q = idle.waits in cc (sym waits ∙ q))
+          by (inl (w, e, there, is)) =
+              let s = seen_at w e there (ap is_action (sym is) ∙ holds) in
+              let low : (f (act w)).stage ≤ 3 = subst (λ (v : Act). (f v).stage ≤ 3) is alive in
+              let busy : invokes x (let d = s.0 in d.now) ≡ true = sym (s.2.waits (unaborted e s.0 (f (act w)) s.2 low)) ∙ ap (λ (v : Act). (f v).waits) (sym is) ∙ waits in
+              record { who = w; branch = e; work = s.0; is = is; there = there; works = s.1; invoking = busy; unended = invoker_open w e s.0 there s.1 busy }
+
+  -- ---- below an action in which nothing is open
+
+  module _ (u : Uid) (b : Branch) (d : Doing) (found : branch_of u t ≡ Some b) (its : is_action (act u) ≡ true) (childless : has_open_child u t ≡ false) (works : doing_of u c ≡ Some d) (idle : d.now ≡ Idle) where
+    pub over : (w : Uid) (e : Branch) → branch_of w t ≡ Some e → is_on (paths w) u ≡ true → w ≢ u → is_some e.ended ≡ true
+    over w e there above other = all_over paths steady.whole t steady.good.tree.lists u steady.good.tree.closed childless w e there (ap (λ (us : List Uid). is_on us u) (steady.good.tree.lists.paths_are w e there) ∙ above) other
+
+    below_action : (a m : Act) → is_action m ≡ true → on a m ≡ true → is_action a ≡ true
+    below_action (Root n) m holds o = ap is_action (same_is (Root n) m o) ∙ holds
+    below_action (Sub q n) m holds o = refl
+
+    -- one that stands below it and isn't aborted is committed
+    committed_below : (w : Uid) (e : Branch) → branch_of w t ≡ Some e → is_action (act w) ≡ true → on (act w) (act u) ≡ true → w ≢ u → (f (act w)).stage ≤ 3 → (f (act w)).stage ≡ 3
+    committed_below w e there holds below other low =
+        let s = seen_at w e there holds in
+        ⊎_elim (λ (three : (f (act w)).stage ≡ 3). three) (λ (four : (f (act w)).stage ≡ 4). absurd (omega (arith, four, low)))
+        (stage_over e s.0 (f (act w)) s.2 (over w e there (sym (steady.alike.above w u) ∙ below) other))
+
+    pub merged_below : (w : Uid) (e : Branch) (a : Act) → branch_of w t ≡ Some e → on (act w) a ≡ true → on (act w) (act u) ≡ true → on (act u) a ≡ false → (f a).stage ≤ 3 → (f a).stage ≡ 3
+    merged_below w e a there above below off low = ⊎_elim of (λ (up : on (act u) a ≡ true). differ up off) (kin (act w) a (act u) above below)
+      where
+        of : on a (act u) ≡ true → (f a).stage ≡ 3
+        of down =
+            let holds = below_action a (act u) its down in
+            let v = steady.alike.filled w a above holds in
+            let g = above_there paths steady.whole t steady.good.tree.lists v.0 w e there (sym (steady.alike.above w v.0) ∙ ap (on (act w)) (sym v.1) ∙ above) in
+            let other : v.0 ≢ u = λ same_one. differ (ap (on (act u)) (v.1 ∙ ap act same_one) ∙ on_self (act u)) off in
+            ap (λ (q : Act). (f q).stage) v.1 ∙ committed_below v.0 g.0 g.1 (ap is_action (sym v.1) ∙ holds) (ap (λ (q : Act). on q (act u)) (sym v.1) ∙ down) other (subst (λ (q : Act). (f q).stage ≤ 3) v.1 low)
+
+    pub none_waits : (a : Act) → on a (act u) ≡ true → (f a).waits ≡ true → (f a).stage ≤ 3 → ⊥
+    none_waits a below waiting low = by (waiter u b a found (on_root a (act u) below) waiting low)
+      where
+        by : IsWaiter a → ⊥
+        by w = ⊎_elim
+            (λ (same_one : w.who ≡ u).
+            let one : ◌≡◌ {A = Option Doing} (Some d) (Some w.work) = sym works ∙ ap (λ (v : Uid). doing_of v c) (sym same_one) ∙ w.works in
+            let k : d ≡ w.work = cc one in
+            differ w.invoking (ap (λ (v : Doing). invokes x v.now) (sym k) ∙ ap (invokes x) idle))
+            (λ (other : w.who ≢ u). let k = over w.who w.branch w.there (sym (steady.alike.above w.who u) ∙ ap (λ (q : Act). on q (act u)) (sym w.is) ∙ below) other in differ k w.unended)
+            (uid_cases w.who u)
+
+  -- ---- one action changes
+
+  -- The coordinator after it: one branch and its work are others.
+  pub record OnlyOne (u : Uid) (b : Branch) (d : Doing) (e : Coord) : Type 0 where
+    pub branch : branch_of u e.tree ≡ Some b
+    pub doing : doing_of u e ≡ Some d
+    pub branches : (w : Uid) → w ≢ u → branch_of w e.tree ≡ branch_of w t
+    pub doings : (w : Uid) → w ≢ u → doing_of w e ≡ doing_of w c
+
+  module _ (u : Uid) (b0 b : Branch) (d : Doing) (e : Coord) (g : Act → Action) (found : branch_of u t ≡ Some b0) (only : OnlyOne u b d e) (path : b.path ≡ b0.path) (later : is_some b.ended ≡ false → is_some b0.ended ≡ false) where
+    -- a branch was there, by the same path
+    pub was : (w : Uid) (q : Branch) → branch_of w e.tree ≡ Some q → (r : Branch) × (branch_of w t ≡ Some r) × (r.path ≡ q.path) × (is_some q.ended ≡ false → is_some r.ended ≡ false)
+    was w q is = ⊎_elim
+        (λ (same_one : w ≡ u).
+        let one : ◌≡◌ {A = Option Branch} (Some b) (Some q) = sym only.branch ∙ ap (λ (v : Uid). branch_of v e.tree) (sym same_one) ∙ is in
+        let k : b ≡ q = cc one in
+        (b0, ap (λ (v : Uid). branch_of v t) same_one ∙ found, sym path ∙ ap (λ (v : Branch). v.path) k, λ un. later (ap (λ (v : Branch). is_some v.ended) k ∙ un)))
+        (λ (other : w ≢ u). (q, sym (only.branches w other) ∙ is, refl, λ un. un))
+        (uid_cases w u)
+
+    still : (w : Uid) (q : Branch) → branch_of w t ≡ Some q → (r : Branch) × (branch_of w e.tree ≡ Some r)
+    still w q is = ⊎_elim (λ (same_one : w ≡ u). (b, ap (λ (v : Uid). branch_of v e.tree) same_one ∙ only.branch)) (λ (other : w ≢ u). (q, only.branches w other ∙ is)) (uid_cases w u)
+
+    pub one_changed : (is_action (act u) ≡ true → SeesAction x b d (g (act u))) → ((a : Act) → same a (act u) ≡ false → is_action a ≡ true → g a ≡ f a)
+        → ((w : Uid) (q r : Branch) → branch_of w e.tree ≡ Some q → branch_of (root_of q.path) e.tree ≡ Some r → is_some r.ended ≡ false → g (Root (root (act w))) ≡ f (Root (root (act w))))
+        → ((n : ℕ) → (g (Root n)).waits ≡ (f (Root n)).waits) → SeesActions act x e g
+    one_changed its others units quiet = record {
+      each = λ w q k there work holds. ⊎_elim
+          (λ (same_one : w ≡ u).
+          let one : ◌≡◌ {A = Option Branch} (Some b) (Some q) = sym only.branch ∙ ap (λ (v : Uid). branch_of v e.tree) (sym same_one) ∙ there in
+          let two : ◌≡◌ {A = Option Doing} (Some d) (Some k) = sym only.doing ∙ ap (λ (v : Uid). doing_of v e) (sym same_one) ∙ work in
+          let b_is : b ≡ q = cc one in let d_is : d ≡ k = cc two in
+          subst (λ (v : Uid). SeesAction x q k (g (act v))) (sym same_one) (subst (λ (v : Branch). SeesAction x v k (g (act u))) b_is (subst (λ (v : Doing). SeesAction x b v (g (act u))) d_is (its (ap (λ (v : Uid). is_action (act v)) (sym same_one) ∙ holds)))))
+          (λ (other : w ≢ u).
+          let apart : same (act w) (act u) ≡ false = off w other in
+          subst (SeesAction x q k) (sym (others (act w) apart holds)) (sees.each w q k (sym (only.branches w other) ∙ there) (sym (only.doings w other) ∙ work) holds))
+          (uid_cases w u);
+      opened = λ w q r there root_is_there un.
+          let q0 = was w q there in let r0 = was (root_of q.path) r root_is_there in
+          ap (λ (v : Action). v.stage) (units w q r there root_is_there un) ∙ sees.opened w q0.0 r0.0 q0.1 (ap (λ p. branch_of (root_of p) t) q0.2 ∙ r0.1) (r0.3 un);
+      quiet = λ w q there. let q0 = was w q there in quiet (root (act w)) ∙ sees.quiet w q0.0 q0.1;
+      others = λ w q a there home holds. let q0 = was w q there in by a holds (sees.others w q0.0 a q0.1 home holds) (by_cases (same a (act u)));
+    }
+      where
+        off : (w : Uid) → w ≢ u → same (act w) (act u) ≡ false
+        off w other = ⊎_elim (λ holds. absurd (other (steady.alike.one w u (same_is (act w) (act u) holds)))) (λ isnt. isnt) (by_cases (same (act w) (act u)))
+
+        by : (a : Act) → is_action a ≡ true → IsHere act t a ⊎ IsIdle (f a) → (same a (act u) ≡ true) ⊎ (same a (act u) ≡ false) → IsHere act e.tree a ⊎ IsIdle (g a)
+        by a holds (inl (v, q, there, is)) cases = let r = still v q there in inl (v, r.0, r.1, is)
+        by a holds (inr idle) (inl own) = inl (u, b, only.branch, same_is a (act u) own)
+        by a holds (inr idle) (inr other) = inr (subst IsIdle (sym (others a other holds)) idle)
+
+-- ---- kinds
+
+pub action_kind : (a : Act) (k : Kind) → k ≢ kind.Serial → IsPlaced a k → is_action a ≡ true
+action_kind a kind.Serial isnt is = absurd (isnt refl)
+action_kind a kind.Nested isnt is = is.0
+action_kind a kind.Top isnt is = top_action a is
+action_kind a kind.Constituent isnt is = top_action a is
+action_kind a kind.Independent isnt is = top_action a is
+
+pub top_kind : (a : Act) (k : Kind) → k ≢ kind.Serial → k ≢ kind.Nested → IsPlaced a k → is_top a ≡ true
+top_kind a kind.Serial isnt not_nested is = absurd (isnt refl)
+top_kind a kind.Nested isnt not_nested is = absurd (not_nested refl)
+top_kind a kind.Top isnt not_nested is = is
+top_kind a kind.Constituent isnt not_nested is = is
+top_kind a kind.Independent isnt not_nested is = is
+
+-- ---- an end in the coordinator
+
+module _ (act : Acts) (paths : Paths) (x : ℕ) (c : Coord) (f : Act → Action) (steady : IsSteady act paths c) (sees : SeesActions act x c f) (u : Uid) (b : Branch) (d : Doing) (found : branch_of u c.tree ≡ Some b) (works : doing_of u c ≡ Some d) where
+  -- its work after it changes
+  pub work_changed : (h : Doing → Doing) → OnlyOne act paths x c f steady sees u b (h d) (on_doing u h c)
+  work_changed h = subst (λ (e : Coord). OnlyOne act paths x c f steady sees u b (h d) e) (sym (λ i. change_doing h u c (works i)))
+      (record { branch = found; doing = doing_put u (h d) d c works; branches = λ w other. refl; doings = λ w other. doing_other u w (h d) d c works other })
+
+  pub end_changed : (e : End) → OnlyOne act paths x c f steady sees u (record b { ended = Some e }) (record d { now = Idle }) (ended u e c)
+  end_changed e = record {
+    branch = ap (branch_of u) tree_is ∙ tree.at_u u e c.tree b found;
+    doing = subst (λ (v : Coord). doing_of u v ≡ Some (record d { now = Idle })) (sym after_is) (doing_put u (record d { now = Idle }) d mid mid_works);
+    branches = λ w other. ap (branch_of w) tree_is ∙ tree.at_others u e c.tree b found w other;
+    doings = λ w other. ap (doing_of w) after_is ∙ doing_other u w (record d { now = Idle }) d mid mid_works other ∙ own_same w;
+  }
+    where
+      mid : Coord
+      mid = record c { tree = ended_at u e c.tree }
+
+      own_ended : (w : Uid) (o : Option Branch) → is_own w (ended_branch u e c.tree o) ≡ is_own w c.tree
+      own_ended w None = refl
+      own_ended w (Some q) = by (nat_le (length (uids_of q.path)) 1)
+        where
+          marked : Tree
+          marked = record c.tree { branches = set_place u.num (record q { ended = Some e }) c.tree.branches }
+
+          by : (k : Bool) → is_own w (cond k marked (with_family (root_of q.path) (let g = family_of (root_of q.path) marked in record g { ends = g.ends ++ (u, e) ∷ [] }) marked)) ≡ is_own w c.tree
+          by true = refl
+          by false = refl
+
+      own_same : (w : Uid) → doing_of w mid ≡ doing_of w c
+      own_same w = λ i. cond (own_ended w (branch_of u c.tree) i) (at_place w.num c.doings) None
+
+      mid_works : doing_of u mid ≡ Some d
+      mid_works = own_same u ∙ works
+
+      after_is : ended u e c ≡ set_doing u (record d { now = Idle }) mid
+      after_is = λ i. change_doing (λ (q : Doing). record q { now = Idle }) u mid (mid_works i)
+
+      tree_is : (let v = ended u e c in v.tree) ≡ tree.after u e c.tree b found
+      tree_is = ap (λ (v : Coord). v.tree) after_is ∙ (λ i. ended_branch u e c.tree (found i))

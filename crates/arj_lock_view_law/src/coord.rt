@@ -1,0 +1,63 @@
+// A coordinator, as the lock machine of one object has it.
+ghost use Rattle.arj_lock_view_law.specs.Acting.{AbortionsAreSeen, DecisionsAreSeen, NestedCommitsAreSeen, PlainUnitsEnd, TopsBegin, UnitsEnd};
+ghost use Rattle.arj_lock_view_law.specs.Asks.{AsksAreNothing, CommitsAskOnly, RequestsAreShown, RequestsStayShown, TicksAreNothing};
+ghost use Rattle.arj_lock_view_law.specs.Begins.{ActionsBegin, NewCoordsAreSeen};
+ghost use Rattle.arj_lock_view_law.specs.Calling.{AnswersAreTaken, CallsAreGivenUp, CallsBegin, IncludesBegin, OtherAnswersAreTaken, OtherCallsAreGivenUp, OtherCallsBegin};
+ghost use Rattle.arj_lock_view_law.specs.Whole.{CommitsKeepRoots, DecisionsKeepRoots, EndsKeepRoots, UnitsKeepRoots};
+
+/// What a coordinator does to its own actions is allowed in the machine, and leaves them seen: a nested action is committed, an
+/// action is aborted, a top is at its commit and is decided, where votes and naming stand behind it, and a root's end ends its
+/// unit. It does nothing when it runs.
+pub fn ends_at_coordinators_are_seen()
+    ensures nested { NestedCommitsAreSeen }
+    ensures aborts { AbortionsAreSeen }
+    ensures begins { TopsBegin }
+    ensures decisions { DecisionsAreSeen }
+    ensures units { UnitsEnd }
+    ensures plain { PlainUnitsEnd }
+{}
+
+/// What a coordinator does with a call on the object is allowed in the machine, and leaves the coordinator seen: its actions, what its
+/// roots keep of the object and who called it, and what its calls stand on. A call begins, is answered step by step, where a binding
+/// is kept, an incarnation heard, a state given, an Invoke sent, has its line or ends without one, and is given up. It does nothing
+/// when it runs.
+pub fn calls_at_coordinators_are_seen()
+    ensures begins { CallsBegin }
+    ensures answers { AnswersAreTaken }
+    ensures given_up { CallsAreGivenUp }
+{}
+
+/// Where an action's end, its commit or the end of its unit leaves a coordinator's actions seen, it leaves the whole coordinator seen;
+/// and so does what a decision changes of store lists. It does nothing when it runs.
+pub fn ends_keep_roots()
+    ensures ends { EndsKeepRoots }
+    ensures commits { CommitsKeepRoots }
+    ensures units { UnitsKeepRoots }
+    ensures decisions { DecisionsKeepRoots }
+{}
+
+/// Calls on other objects, and includes, are nothing to the machine: where they begin, are answered or given up, the coordinator is
+/// seen in the same state. It does nothing when it runs.
+pub fn other_calls_are_nothing()
+    ensures begins { OtherCallsBegin }
+    ensures includes { IncludesBegin }
+    ensures answers { OtherAnswersAreTaken }
+    ensures given_up { OtherCallsAreGivenUp }
+{}
+
+/// A request that is sent, or sent again, is nothing to the machine; and the request of each call on the object that waits shows what its
+/// call stands on, for ever. It does nothing when it runs.
+pub fn requests_are_shown()
+    ensures shown { RequestsAreShown }
+    ensures stay { RequestsStayShown }
+    ensures asks { AsksAreNothing }
+    ensures commits { CommitsAskOnly }
+    ensures ticks { TicksAreNothing }
+{}
+
+/// An action that begins is nothing to the machine, where that has done nothing for it; and a coordinator that has just started is seen
+/// in every state. It does nothing when it runs.
+pub fn actions_begin()
+    ensures begin { ActionsBegin }
+    ensures started { NewCoordsAreSeen }
+{}
