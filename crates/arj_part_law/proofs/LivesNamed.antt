@@ -91,7 +91,6 @@ module _ (home : Homes) (limit : Limits) where
   named_same : (o v : Named) → v.live ≡ o.live → v.made ≡ o.made → IsNamedSo home limit o → IsNamedSo home limit v
   named_same o v live made so = record { live = subst (IsLiveSo home limit) (sym live) so.live; made = subst (AllByRecursion (IsMadeSo home)) (sym made) so.made }
 
-
   answers_so : (r a : BoundReply) → NamesBound home limit r → Some r ≡ Some a → NamesBound home limit a
   answers_so r a so is = let k : ◌≡◌ {A = Option BoundReply} (Some r) (Some a) = is in let same : r ≡ a = cc in subst (NamesBound home limit) same so
 
