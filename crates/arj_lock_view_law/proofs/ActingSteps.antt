@@ -1,6 +1,6 @@
 -- What a coordinator does to its own actions goes in the machine.
 use Rattle.std.proofs.Common.{◌≡◌, ◌≢◌, ◌≤◌, ◌+◌, ◌⊎◌, ◌∙◌, ◌==◌, ℕ, Bool, true, false, cond, Option, Some, None, refl, sym, ap, subst, inl, inr, ⊎_elim, arith, is_some, eqb-true}
-use Rattle.arj_protocol.specs.Words.{Uid, End, first_uid, is_on}
+use Rattle.arj_protocol.specs.Words.{Uid, End, first_uid, is_on, uids_of}
 use Rattle.arj_protocol.specs.Words.ending
 use Rattle.arj_protocol.specs.Asking.{commits_in}
 use Rattle.arj_protocol.specs.Commit.{Machine, plan_of}
@@ -16,10 +16,12 @@ use Rattle.arj_lock_law.proofs.Paths.{act_here, act_other, by_cases, differ, on_
 use Rattle.arj_part_law.proofs.GoodTrees.{all_over}
 use Rattle.arj_part_law.proofs.TrueSteps.{work_there}
 use Rattle.arj_part_law.specs.Copies.{Paths}
-use Rattle.arj_lock_view_law.specs.Acts.{Acts}
+use Rattle.arj_lock_view_law.specs.Acts.{Acts, AreOne}
 use Rattle.arj_lock_view_law.specs.Acting.{AbortionsAreSeen, CallersAreHere, DecisionsAreSeen, IsBacked, IsEndSeen, IsFirst, NestedCommitsAreSeen, OnlyActed, PlainUnitsEnd, TopsBegin, UnitsEnd}
-use Rattle.arj_lock_view_law.specs.Actions.{IsHere, IsIdle, IsLone, IsPlaced, IsSteady, SeesAction, SeesActions, invokes, stage_of}
+use Rattle.arj_lock_view_law.specs.Actions.{AreAlike, IsHere, IsIdle, IsLone, IsPlaced, IsSteady, SeesAction, SeesActions, invokes, stage_of}
 use Rattle.arj_lock_view_law.specs.Going.{Goes}
+use Rattle.arj_lock_view_law.proofs.OneSteps as single
+use Rattle.arj_lock_view_law.proofs.RunSteps.{goes_to}
 use Rattle.arj_lock_view_law.proofs.TreeSteps.{OnlyOne, action_kind, end_changed, merged_below, none_waits, one_changed, open_above, opens, root_there, seen_at, stage_over, top_kind, was, work_changed}
 
 -- an action isn't a unit
@@ -50,19 +52,115 @@ root_back : (a b : Branch) → a.path ≡ b.path → root_of b.path ≡ root_of 
 root_back a b same_path = ap (λ p. root_of p) (sym same_path)
 
 -- one action of the machine changes
-only_acted : (S : State) (a : Act) (v : Action) (p : ℕ) → (S.action a).stage ≤ 2 → OnlyActed (root a) S (record S { action = at_act S.action a v; now = p })
+pub only_acted : (S : State) (a : Act) (v : Action) (p : ℕ) → (S.action a).stage ≤ 2 → OnlyActed (root a) S (record S { action = at_act S.action a v; now = p })
 only_acted S a v p low = record {
   rest = refl;
   others = λ q away. act_other S.action a v q (⊎_elim (λ one. absurd (away (ap root (same_is q a one)))) (λ none. none) (by_cases (same q a)));
   ended = λ q over. act_other S.action a v q (⊎_elim (λ one. absurd (let e : (S.action q).stage ≡ (S.action a).stage = ap (λ (r : Act). (S.action r).stage) (same_is q a one) in omega (arith, over, e, low))) (λ none. none) (by_cases (same q a)));
 }
 
+-- ---- an abort
+
+open_low : (o : Option End) (n : Now) → is_some o ≡ false → stage_of o n ≤ 1
+open_low (Some e) n un = absurd (cc un)
+open_low None Idle un = omega arith
+open_low None (Calling k) un = omega arith
+open_low None (Committing m) un = omega arith
+
+-- an open action isn't decided
+pub low_stage : (x : ℕ) (b : Branch) (d : Doing) (a : Action) → SeesAction x b d a → is_some b.ended ≡ false → a.stage ≤ 1
+low_stage x b d a seen unended = let s = seen.stage in let k = open_low b.ended d.now unended in omega (arith, s, k)
+
+-- it needs nothing of the tree but that two actions have two paths
+module _ (act : Acts) (x : ℕ) (c : Coord) (S : State) (apart : AreOne act) (sees : SeesActions act x c S.action) (u : Uid) (b : Branch) (d : Doing) (found : branch_of u c.tree ≡ Some b) (works : doing_of u c ≡ Some d) (its : is_action (act u) ≡ true) where
+  pub abort_goes : is_some b.ended ≡ false → IsEndSeen act x c u ending.Abort S (λ T. (T.now ≡ S.now) × ((T.action (act u)).stage ≡ 4) × ((n : ℕ) → T.action (Root n) ≡ S.action (Root n)))
+  abort_goes unended = record {
+    state = next (Abort (act u)) S;
+    run = step (Abort (act u)) (its, low) stay;
+    holds = (
+      single.one_changed c u b (record b { ended = Some ending.Abort }) (record d { now = Idle }) (ended u ending.Abort c) found (single.end_changed c u b d found works ending.Abort) refl (λ un. absurd (cc un)) act x S.action (at_act S.action (act u) gone) apart sees
+          (λ h. subst (SeesAction x (record b { ended = Some ending.Abort }) (record d { now = Idle })) (sym (act_here S.action (act u) gone)) (let a = was in record { stage = refl; request = a.request; waits = λ k. absurd (cc k); last = λ k. absurd (cc k); doomed = a.doomed }))
+          (λ v other h. act_other S.action (act u) gone v other)
+          (λ w r s there root_is_there un. act_other S.action (act u) gone (Root (root (act w))) (unit_other (root (act w)) (act u) its))
+          (λ n. ap (λ (v : Action). v.waits) (act_other S.action (act u) gone (Root n) (unit_other n (act u) its))),
+      only_acted S (act u) gone S.now (omega (arith, low)),
+      (refl, ap (λ (v : Action). v.stage) (act_here S.action (act u) gone), λ n. act_other S.action (act u) gone (Root n) (unit_other n (act u) its)),
+    );
+  }
+    where
+      was : SeesAction x b d (S.action (act u))
+      was = sees.each u b d found works its
+
+      gone : Action
+      gone = record (S.action (act u)) { stage = 4 }
+
+      low : (S.action (act u)).stage ≤ 1
+      low = low_stage x b d (S.action (act u)) was unended
+
+-- ---- the end of a unit
+
+-- a root that is no action ends where all else of its unit has ended
+module _ (act : Acts) (paths : Paths) (x : ℕ) (c : Coord) (S : State) (alike : AreAlike act paths) (sees : SeesActions act x c S.action) (u : Uid) (b : Branch) (d : Doing) (found : branch_of u c.tree ≡ Some b) (works : doing_of u c ≡ Some d) (its : is_action (act u) ≡ false) (own_root : root_of b.path ≡ u)
+    (paths_are : (w : Uid) (q : Branch) → branch_of w c.tree ≡ Some q → uids_of q.path ≡ paths w) (working : (w : Uid) (q : Branch) → branch_of w c.tree ≡ Some q → (k : Doing) × (doing_of w c ≡ Some k)) (over : (w : Uid) (q : Branch) → branch_of w c.tree ≡ Some q → root (act w) ≡ root (act u) → w ≢ u → is_some q.ended ≡ true) where
+  abbrev unit : ℕ
+  unit = root (act u)
+
+  abbrev ended_unit : Action
+  ended_unit = record (S.action (Root unit)) { stage = 3 }
+
+  itself : act u ≡ Root unit
+  itself = root_is (act u) its
+
+  pub unit_ends : (S.action (Root unit)).stage ≡ 0 → (e : End) → IsEndSeen act x c u e S (λ T. (T.now ≡ S.now) × ((T.action (act u)).stage ≡ 3))
+  unit_ends zero_now e = record {
+    state = next (EndUnit unit) S;
+    run = step (EndUnit unit) (zero_now, tops) stay;
+    holds = (
+      single.one_changed c u b (record b { ended = Some e }) (record d { now = Idle }) (ended u e c) found changed refl (λ un. absurd (cc un)) act x S.action (at_act S.action (Root unit) ended_unit) alike.one sees
+          (λ h. absurd (differ h its))
+          (λ v other h. act_other S.action (Root unit) ended_unit v (ap (same v) (sym itself) ∙ other))
+          (λ w q r there root_is_there un. act_other S.action (Root unit) ended_unit (Root (root (act w))) (other_unit (root (act w)) unit (apart w q r there root_is_there un)))
+          (λ k. quiet k (same (Root k) (Root unit)) refl),
+      only_acted S (Root unit) ended_unit S.now (omega (arith, zero_now)),
+      (refl, ap (λ (v : Action). v.stage) (ap (at_act S.action (Root unit) ended_unit) itself ∙ act_here S.action (Root unit) ended_unit)),
+    );
+  }
+    where
+      changed : single.OnlyOne c u (record b { ended = Some e }) (record d { now = Idle }) (ended u e c)
+      changed = single.end_changed c u b d found works e
+
+      quiet : (k : ℕ) (t : Bool) → same (Root k) (Root unit) ≡ t → (cond t ended_unit (S.action (Root k))).waits ≡ (S.action (Root k)).waits
+      quiet k true is = ap (λ (a : Act). (S.action a).waits) (sym (same_is (Root k) (Root unit) is))
+      quiet k false is = refl
+
+      -- another root's unit is another one
+      apart : (w : Uid) (q r : Branch) → branch_of w (let v = ended u e c in v.tree) ≡ Some q → branch_of (root_of q.path) (let v = ended u e c in v.tree) ≡ Some r → is_some r.ended ≡ false → root (act w) ≢ unit
+      apart w q r there root_is_there un same_unit =
+          let old = single.was c u b (record b { ended = Some e }) (record d { now = Idle }) (ended u e c) found changed refl (λ k. absurd (cc k)) w q there in
+          let one_root : root_of q.path ≡ u = root_back old.0 q old.2 ∙ ap first_uid (paths_are w old.0 old.1) ∙ alike.units w u same_unit ∙ ap first_uid (sym (paths_are u b found)) ∙ own_root in
+          let gone = ended_twice (let k = ended u e c in k.tree) u (root_of q.path) (record b { ended = Some e }) r one_root changed.branch root_is_there refl in
+          differ gone un
+
+      -- all tops of it have ended
+      tops : (t : Act) → is_top t ≡ true → root t ≡ unit → ((S.action t).stage ≢ 1) × ((S.action t).stage ≢ 2)
+      tops t top home = by (sees.others u b t found home (top_action t top))
+        where
+          by : IsHere act c.tree t ⊎ IsIdle (S.action t) → ((S.action t).stage ≢ 1) × ((S.action t).stage ≢ 2)
+          by (inr idle_one) = let z = idle_one.stage in ((λ k. omega (arith, z, k)), (λ k. omega (arith, z, k)))
+          by (inl (w, q, there, is)) =
+              let act_w : is_action (act w) ≡ true = ap is_action (sym is) ∙ top_action t top in
+              let s = working w q there in
+              let gone = over w q there (ap root (sym is) ∙ home) (λ one. differ act_w (ap (λ (v : Uid). is_action (act v)) one ∙ its)) in
+              let st = ap (λ (v : Act). (S.action v).stage) is in
+              ⊎_elim (λ (three : (S.action (act w)).stage ≡ 3). ((λ k. omega (arith, st, three, k)), (λ k. omega (arith, st, three, k)))) (λ (four : (S.action (act w)).stage ≡ 4). ((λ k. omega (arith, st, four, k)), (λ k. omega (arith, st, four, k))))
+              (single.over_stage x q s.0 (S.action (act w)) (sees.each w q s.0 there s.1 act_w) gone)
+
 module _ (act : Acts) (paths : Paths) (x : ℕ) (c : Coord) (S : State) (steady : IsSteady act paths c) (sees : SeesActions act x c S.action) (u : Uid) (b : Branch) (d : Doing) (found : branch_of u c.tree ≡ Some b) (works : doing_of u c ≡ Some d) where
   abbrev f : Act → Action
   f = S.action
 
   -- its unit is open while it is
-  unit_open : is_some b.ended ≡ false → (f (Root (root (act u)))).stage ≡ 0
+  pub unit_open : is_some b.ended ≡ false → (f (Root (root (act u)))).stage ≡ 0
   unit_open unended = let r = root_there act paths x c f steady sees u b found in sees.opened u b r.0 found r.1 (open_above act paths x c f steady sees u (root_of b.path) b r.0 found unended r.1 r.2)
 
   -- ---- an action that isn't serializing
@@ -112,32 +210,6 @@ module _ (act : Acts) (paths : Paths) (x : ℕ) (c : Coord) (S : State) (steady 
       where
         done : Action
         done = record (f (act u)) { stage = 3; done = p }
-
-    -- ---- an abort
-
-    open_low : (o : Option End) (n : Now) → is_some o ≡ false → stage_of o n ≤ 1
-    open_low (Some e) n un = absurd (cc un)
-    open_low None Idle un = omega arith
-    open_low None (Calling k) un = omega arith
-    open_low None (Committing m) un = omega arith
-
-    abort_goes : is_some b.ended ≡ false → IsEndSeen act x c u ending.Abort S (λ T. (T.now ≡ S.now) × ((T.action (act u)).stage ≡ 4))
-    abort_goes unended = record {
-      state = next (Abort (act u)) S;
-      run = step (Abort (act u)) (its, low) stay;
-      holds = (
-        set_one (ended u ending.Abort c) (record b { ended = Some ending.Abort }) (record d { now = Idle }) gone (end_changed act paths x c f steady sees u b d found works ending.Abort) refl (λ un. absurd (cc un))
-            (record { stage = refl; request = its_own.request; waits = λ h. absurd (cc h); last = λ h. absurd (cc h); doomed = its_own.doomed }),
-        only_acted S (act u) gone S.now (omega (arith, low)),
-        (refl, ap (λ (v : Action). v.stage) (act_here f (act u) gone)),
-      );
-    }
-      where
-        gone : Action
-        gone = record (f (act u)) { stage = 4 }
-
-        low : (f (act u)).stage ≤ 1
-        low = let s = its_own.stage in let k = open_low b.ended d.now unended in omega (arith, s, k)
 
     -- ---- a top at its commit
 
@@ -233,59 +305,19 @@ module _ (act : Acts) (paths : Paths) (x : ℕ) (c : Coord) (S : State) (steady 
     unit_is = root_is (act u) its
 
     -- it is its own root
-    own_root : root_of b.path ≡ u
+    pub own_root : root_of b.path ≡ u
     own_root =
         let r = root_there act paths x c f steady sees u b found in
         let up : on (Root n) (act (root_of b.path)) ≡ true = ap (λ (a : Act). on a (act (root_of b.path))) (sym unit_is) ∙ steady.alike.above u (root_of b.path) ∙ r.2 in
         steady.alike.one (root_of b.path) u (sym (same_is (Root n) (act (root_of b.path)) up) ∙ sym unit_is)
 
     unit_goes : (e : End) → is_some b.ended ≡ false → has_open_child u c.tree ≡ false → IsEndSeen act x c u e S (λ T. (T.now ≡ S.now) × ((T.action (act u)).stage ≡ 3))
-    unit_goes e unended childless = record {
-      state = next (EndUnit n) S;
-      run = step (EndUnit n) (unit_open unended, tops) stay;
-      holds = (
-        one_changed act paths x c f steady sees u b (record b { ended = Some e }) (record d { now = Idle }) (ended u e c) (at_act f (Root n) over_now) found changed refl (λ un. absurd (cc un))
-            (λ h. absurd (differ h its))
-            (λ v other h. act_other f (Root n) over_now v (ap (same v) (sym unit_is) ∙ other))
-            (λ w q r there root_is_there un. act_other f (Root n) over_now (Root (root (act w))) (other_unit (root (act w)) n (apart w q r there root_is_there un)))
-            (λ k. quiet k (same (Root k) (Root n)) refl),
-        subst (λ (k : ℕ). OnlyActed k S (next (EndUnit n) S)) refl (only_acted S (Root n) over_now S.now (let z = unit_open unended in omega (arith, z))),
-        (refl, ap (λ (v : Action). v.stage) (ap (at_act f (Root n) over_now) unit_is ∙ act_here f (Root n) over_now)),
-      );
-    }
+    unit_goes e unended childless = unit_ends act paths x c S steady.alike sees u b d found works its own_root steady.good.tree.lists.paths_are (work_there c steady.works) over (unit_open unended) e
       where
-        over_now : Action
-        over_now = record (f (Root n)) { stage = 3 }
-
-        changed : OnlyOne act paths x c f steady sees u (record b { ended = Some e }) (record d { now = Idle }) (ended u e c)
-        changed = end_changed act paths x c f steady sees u b d found works e
-
-        quiet : (k : ℕ) (t : Bool) → same (Root k) (Root n) ≡ t → (cond t over_now (f (Root k))).waits ≡ (f (Root k)).waits
-        quiet k true is = ap (λ (a : Act). (f a).waits) (sym (same_is (Root k) (Root n) is))
-        quiet k false is = refl
-
-        -- another root's unit is another one
-        apart : (w : Uid) (q r : Branch) → branch_of w (let v = ended u e c in v.tree) ≡ Some q → branch_of (root_of q.path) (let v = ended u e c in v.tree) ≡ Some r → is_some r.ended ≡ false → root (act w) ≢ n
-        apart w q r there root_is_there un same_unit =
-            let old = was act paths x c f steady sees u b (record b { ended = Some e }) (record d { now = Idle }) (ended u e c) (at_act f (Root n) over_now) found changed refl (λ k. absurd (cc k)) w q there in
-            let one_root : root_of q.path ≡ u = root_back old.0 q old.2 ∙ ap first_uid (steady.good.tree.lists.paths_are w old.0 old.1) ∙ steady.alike.units w u same_unit ∙ ap first_uid (sym (steady.good.tree.lists.paths_are u b found)) ∙ own_root in
-            let gone = ended_twice (let k = ended u e c in k.tree) u (root_of q.path) (record b { ended = Some e }) r one_root changed.branch root_is_there refl in
-            differ gone un
-
-        -- all tops of it have ended
-        tops : (t : Act) → is_top t ≡ true → root t ≡ n → ((f t).stage ≢ 1) × ((f t).stage ≢ 2)
-        tops t top home = by (sees.others u b t found home (top_action t top))
-          where
-            by : IsHere act c.tree t ⊎ IsIdle (f t) → ((f t).stage ≢ 1) × ((f t).stage ≢ 2)
-            by (inr idle_one) = let z = idle_one.stage in ((λ k. omega (arith, z, k)), (λ k. omega (arith, z, k)))
-            by (inl (w, q, there, is)) =
-                let act_w : is_action (act w) ≡ true = ap is_action (sym is) ∙ top_action t top in
-                let s = seen_at act paths x c f steady sees w q there act_w in
-                let down : on (act w) (act u) ≡ true = (λ i. on (act w) ((unit_is ∙ ap Root (sym home ∙ ap root is)) i)) ∙ on_base (act w) in
-                let gone = all_over paths steady.whole c.tree steady.good.tree.lists u steady.good.tree.closed childless w q there (ap (λ us. is_on us u) (steady.good.tree.lists.paths_are w q there) ∙ sym (steady.alike.above w u) ∙ down) (λ one. differ act_w (ap (λ (v : Uid). is_action (act v)) one ∙ its)) in
-                let st = ap (λ (v : Act). (f v).stage) is in
-                ⊎_elim (λ (three : (f (act w)).stage ≡ 3). ((λ k. omega (arith, st, three, k)), (λ k. omega (arith, st, three, k)))) (λ (four : (f (act w)).stage ≡ 4). ((λ k. omega (arith, st, four, k)), (λ k. omega (arith, st, four, k))))
-                (stage_over act paths x c f steady sees q s.0 (f (act w)) s.2 gone)
+        over : (w : Uid) (q : Branch) → branch_of w c.tree ≡ Some q → root (act w) ≡ root (act u) → w ≢ u → is_some q.ended ≡ true
+        over w q there home other =
+            let down : on (act w) (act u) ≡ true = (λ i. on (act w) ((unit_is ∙ ap Root (sym home)) i)) ∙ on_base (act w) in
+            all_over paths steady.whole c.tree steady.good.tree.lists u steady.good.tree.closed childless w q there (ap (λ us. is_on us u) (steady.good.tree.lists.paths_are w q there) ∙ sym (steady.alike.above w u) ∙ down) other
 
 pub nested_commits_are_seen : NestedCommitsAreSeen
 nested_commits_are_seen act paths x p c u b d S free is undoomed childless callers now sees =
@@ -294,7 +326,7 @@ nested_commits_are_seen act paths x p c u b d S free is undoomed childless calle
 
 pub abortions_are_seen : AbortionsAreSeen
 abortions_are_seen act paths x c u b d S steady found unended works plain sees =
-    abort_goes act paths x c S steady sees u b d found works (action_kind (act u) b.kind plain (steady.placed u b found)) unended
+    goes_to (abort_goes act x c S steady.alike.one sees u b d found works (action_kind (act u) b.kind plain (steady.placed u b found)) unended) (λ T h. (h.0, h.1, (h.2.0, h.2.1)))
 
 pub units_end : UnitsEnd
 units_end act paths x c u b e S steady found unended is childless sees =
@@ -317,7 +349,7 @@ module _ (act : Acts) (paths : Paths) (x : ℕ) (c : Coord) (u : Uid) (b : Branc
   abbrev over_unit : Action
   over_unit = record (S.action (Root unit)) { stage = 3 }
 
-  plain_goes : (S.action (Root unit)).stage ≡ 0 → Goes S (λ T. SeesActions act x c T.action × OnlyActed unit S T × (T.now ≡ S.now) × ((T.action (Root unit)).stage ≡ 3))
+  pub plain_goes : (S.action (Root unit)).stage ≡ 0 → Goes S (λ T. SeesActions act x c T.action × OnlyActed unit S T × (T.now ≡ S.now) × ((T.action (Root unit)).stage ≡ 3))
   plain_goes zero_now = record {
     state = next (EndUnit unit) S;
     run = step (EndUnit unit) (zero_now, tops) stay;

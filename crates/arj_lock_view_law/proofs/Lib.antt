@@ -1,3 +1,4 @@
+pub mod AbortSteps
 pub mod ActingSteps
 pub mod AnswerSteps
 pub mod AskSteps
@@ -15,6 +16,7 @@ pub mod InvokedSteps
 pub mod LogSteps
 pub mod NewSteps
 pub mod NoteSteps
+pub mod OneSteps
 pub mod PassSteps
 pub mod RestartSteps
 pub mod RootSteps

@@ -1,11 +1,11 @@
 -- What roots keep and calls stand on stays where actions end.
-use Rattle.std.proofs.Common.{◌≡◌, ◌≢◌, ◌≤◌, ◌⊎◌, ◌∙◌, ◌||◌, ℕ, List, [], ◌∷◌, Bool, true, false, cond, Option, Some, None, refl, sym, ap, subst, ⊎_elim, option_map, unwrap_or, arith}
+use Rattle.std.proofs.Common.{◌≡◌, ◌≢◌, ◌≤◌, ◌⊎◌, ◌∙◌, ◌||◌, ℕ, List, [], ◌∷◌, Bool, true, false, cond, Option, Some, None, is_some, refl, sym, ap, subst, ⊎_elim, option_map, unwrap_or, arith}
 use Rattle.std.specs.declared.cmp.Ordering.{Ordering}
 use Rattle.std.specs.declared.cmp.Ordering.TheVariants.{Less, Equal, Greater}
 use Rattle.std.specs.Ordering.{nat_cmp, is_eq}
 use Rattle.std.specs.FinMap.{nat_cmp-IsAntisymmetric}
 use Rattle.arj_base.proofs.Uids.{uid_cases}
-use Rattle.arj_protocol.specs.Words.{Binding, Op, Uid, last_uid, uids_of}
+use Rattle.arj_protocol.specs.Words.{Binding, End, Op, Uid, last_uid, uids_of}
 use Rattle.arj_protocol.specs.Words.ending
 use Rattle.arj_protocol.specs.Asking.{commits_in}
 use Rattle.arj_protocol.specs.Call.{At, AtActivate, AtBind, AtInvoke, AtLoad, AtNote, Known, Steps}
@@ -29,7 +29,7 @@ use Rattle.arj_lock_view_law.proofs.ActingSteps.{unended_none}
 use Rattle.arj_lock_view_law.proofs.BeginSteps.{same_coord}
 use Rattle.arj_lock_view_law.proofs.CallingSteps.{kept_same}
 use Rattle.arj_lock_view_law.proofs.RootSteps.{root_else, root_here}
-use Rattle.arj_lock_view_law.proofs.TreeSteps.{OnlyOne, end_changed, work_changed}
+use Rattle.arj_lock_view_law.proofs.OneSteps.{OnlyOne, end_changed, work_changed}
 
 -- ---- actions and the clock are another
 
@@ -66,28 +66,28 @@ module _ (act : Acts) (code : Codes) (x : ℕ) (c e : Coord) (S : State) (f : Ac
     plain = λ u d s works calling. sees.plain u d s (calls u d s works calling) calling;
   }
 
--- ---- one open action is another
+-- ---- one action is another
 
-module _ (act : Acts) (code : Codes) (paths : Paths) (x unit : ℕ) (c e : Coord) (u : Uid) (b b' : Branch) (d d' : Doing) (S T : State) (opened : IsOpen act paths c u b d) (sees : SeesCoord act code x c S) (only : OnlyActed unit S T) (acts : SeesActions act x e T.action)
-    (one : OnlyOne act paths x c S.action opened.steady sees.actions u b' d' e) (path : b'.path ≡ b.path) (roots : (w : Uid) → root_at w e ≡ root_at w c) (quiet : (s : Steps) → d'.now ≡ Calling s → ⊥) where
+module _ (act : Acts) (code : Codes) (x : ℕ) (c e : Coord) (u : Uid) (b b' : Branch) (d' : Doing) (S T : State) (found : branch_of u c.tree ≡ Some b) (gone : is_aborted u c.tree ≡ true → is_aborted u e.tree ≡ true) (sees : SeesCoord act code x c S) (rest : T ≡ record S { action = T.action; now = T.now }) (acts : SeesActions act x e T.action)
+    (one : OnlyOne c u b' d' e) (path : b'.path ≡ b.path) (roots : (w : Uid) → root_at w e ≡ root_at w c) (quiet : (s : Steps) → d'.now ≡ Calling s → ⊥) where
   same_found : (t : Tree) (w : Uid) (k l : Branch) → w ≡ u → branch_of u t ≡ Some k → branch_of w t ≡ Some l → k ≡ l
   same_found t w k l is p q = let two : ◌≡◌ {A = Option Branch} (Some k) (Some l) = sym p ∙ ap (λ (v : Uid). branch_of v t) (sym is) ∙ q in cc two
 
-  was : (w : Uid) (k : Branch) → branch_of w e.tree ≡ Some k → (q : Branch) × (branch_of w c.tree ≡ Some q) × (q.path ≡ k.path)
+  pub was : (w : Uid) (k : Branch) → branch_of w e.tree ≡ Some k → (q : Branch) × (branch_of w c.tree ≡ Some q) × (q.path ≡ k.path)
   was w k there = ⊎_elim
-      (λ (is : w ≡ u). (b, ap (λ (v : Uid). branch_of v c.tree) is ∙ opened.there, sym path ∙ ap (λ (v : Branch). v.path) (same_found e.tree w b' k is one.branch there)))
+      (λ (is : w ≡ u). (b, ap (λ (v : Uid). branch_of v c.tree) is ∙ found, sym path ∙ ap (λ (v : Branch). v.path) (same_found e.tree w b' k is one.branch there)))
       (λ (other : w ≢ u). (k, sym (one.branches w other) ∙ there, refl))
       (uid_cases w u)
 
   still : (w : Uid) (k : Branch) → branch_of w c.tree ≡ Some k → (q : Branch) × (branch_of w e.tree ≡ Some q) × (q.path ≡ k.path)
   still w k there = ⊎_elim
-      (λ (is : w ≡ u). (b', ap (λ (v : Uid). branch_of v e.tree) is ∙ one.branch, path ∙ ap (λ (v : Branch). v.path) (same_found c.tree w b k is opened.there there)))
+      (λ (is : w ≡ u). (b', ap (λ (v : Uid). branch_of v e.tree) is ∙ one.branch, path ∙ ap (λ (v : Branch). v.path) (same_found c.tree w b k is found there)))
       (λ (other : w ≢ u). (k, one.branches w other ∙ there, refl))
       (uid_cases w u)
 
   aborted : (w : Uid) → is_aborted w c.tree ≡ true → is_aborted w e.tree ≡ true
   aborted w h = ⊎_elim
-      (λ (is : w ≡ u). absurd (let gone : is_aborted u c.tree ≡ false = ap (ended_so ending.Abort) opened.there ∙ ap (has_end ending.Abort) (unended_none b.ended opened.unended) in cc (sym (ap (λ (v : Uid). is_aborted v c.tree) (sym is) ∙ h) ∙ gone)))
+      (λ (is : w ≡ u). ap (λ (v : Uid). is_aborted v e.tree) is ∙ gone (ap (λ (v : Uid). is_aborted v c.tree) (sym is) ∙ h))
       (λ (other : w ≢ u). ap (ended_so ending.Abort) (one.branches w other) ∙ h)
       (uid_cases w u)
 
@@ -103,25 +103,33 @@ module _ (act : Acts) (code : Codes) (paths : Paths) (x unit : ℕ) (c e : Coord
       by true is all ih = ap (λ (t : Bool). t || is_spent us e.tree) (aborted w is)
       by false is all ih = right (is_aborted w e.tree) (is_spent us e.tree) (ih all)
 
-  one_stays : SeesCoord act code x e T
-  one_stays = subst (SeesCoord act code x e) (sym only.rest) (stays_coord act code x c e S T.action T.now sees acts was still spent roots (λ w k s works calling. ⊎_elim
+  pub one_stays : SeesCoord act code x e T
+  one_stays = subst (SeesCoord act code x e) (sym rest) (stays_coord act code x c e S T.action T.now sees acts was still spent roots (λ w k s works calling. ⊎_elim
       (λ (is : w ≡ u). absurd (let two : ◌≡◌ {A = Option Doing} (Some d') (Some k) = sym one.doing ∙ ap (λ (v : Uid). doing_of v e) (sym is) ∙ works in let same : d' ≡ k = cc two in quiet s (ap (λ (v : Doing). v.now) same ∙ calling)))
       (λ (other : w ≢ u). sym (one.doings w other) ∙ works)
       (uid_cases w u)))
 
+-- an open action isn't aborted
+open_unaborted : (c : Coord) (u : Uid) (b : Branch) → branch_of u c.tree ≡ Some b → is_some b.ended ≡ false → is_aborted u c.tree ≡ true → ⊥
+open_unaborted c u b found unended h = let none : is_aborted u c.tree ≡ false = ap (ended_so ending.Abort) found ∙ ap (has_end ending.Abort) (unended_none b.ended unended) in cc (sym h ∙ none)
+
+-- an end is nothing to roots
+pub ended_roots : (u : Uid) (e : End) (c : Coord) (w : Uid) → root_at w (ended u e c) ≡ root_at w c
+ended_roots u e c w = on_roots (doing_of u (record c { tree = ended_at u e c.tree }))
+  where
+    on_roots : (o : Option Doing) → root_at w (change_doing (λ (q : Doing). record q { now = Idle }) u (record c { tree = ended_at u e c.tree }) o) ≡ root_at w c
+    on_roots None = refl
+    on_roots (Some q) = refl
+
 pub ends_keep_roots : EndsKeepRoots
 ends_keep_roots act code paths x unit c u b d e S T opened sees only acts =
-    one_stays act code paths x unit c (ended u e c) u b (record b { ended = Some e }) d (record d { now = Idle }) S T opened sees only acts
-    (end_changed act paths x c S.action opened.steady sees.actions u b d opened.there opened.works e) refl (λ w. on_roots w (doing_of u (record c { tree = ended_at u e c.tree }))) (λ s is. absurd (cc is))
-  where
-    on_roots : (w : Uid) (o : Option Doing) → root_at w (change_doing (λ (q : Doing). record q { now = Idle }) u (record c { tree = ended_at u e c.tree }) o) ≡ root_at w c
-    on_roots w None = refl
-    on_roots w (Some q) = refl
+    one_stays act code x c (ended u e c) u b (record b { ended = Some e }) (record d { now = Idle }) S T opened.there (λ h. absurd (open_unaborted c u b opened.there opened.unended h)) sees only.rest acts
+    (end_changed c u b d opened.there opened.works e) refl (ended_roots u e c) (λ s is. absurd (cc is))
 
 pub commits_keep_roots : CommitsKeepRoots
 commits_keep_roots act code paths x unit c u b d m S T opened sees only acts =
-    one_stays act code paths x unit c (commits_in u m c) u b b d (h d) S T opened sees only acts
-    (work_changed act paths x c S.action opened.steady sees.actions u b d opened.there opened.works h) refl (λ w. on_roots w (doing_of u c)) (λ s is. absurd (cc is))
+    one_stays act code x c (commits_in u m c) u b b (h d) S T opened.there (λ k. absurd (open_unaborted c u b opened.there opened.unended k)) sees only.rest acts
+    (work_changed c u b d opened.there opened.works h) refl (λ w. on_roots w (doing_of u c)) (λ s is. absurd (cc is))
   where
     h : Doing → Doing
     h q = record q { req = (let v = plan_of m in v.req); now = Committing m }

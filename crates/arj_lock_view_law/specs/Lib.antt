@@ -14,3 +14,4 @@ pub mod Whole
 pub mod Asks
 pub mod Begins
 pub mod Servers
+pub mod Stops

@@ -3,6 +3,7 @@ ghost use Rattle.arj_lock_view_law.specs.Acting.{AbortionsAreSeen, DecisionsAreS
 ghost use Rattle.arj_lock_view_law.specs.Asks.{AsksAreNothing, CommitsAskOnly, RequestsAreShown, RequestsStayShown, TicksAreNothing};
 ghost use Rattle.arj_lock_view_law.specs.Begins.{ActionsBegin, NewCoordsAreSeen};
 ghost use Rattle.arj_lock_view_law.specs.Calling.{AnswersAreTaken, CallsAreGivenUp, CallsBegin, IncludesBegin, OtherAnswersAreTaken, OtherCallsAreGivenUp, OtherCallsBegin};
+ghost use Rattle.arj_lock_view_law.specs.Stops.{AbortionsGoDown};
 ghost use Rattle.arj_lock_view_law.specs.Whole.{CommitsKeepRoots, DecisionsKeepRoots, EndsKeepRoots, UnitsKeepRoots};
 
 /// What a coordinator does to its own actions is allowed in the machine, and leaves them seen: a nested action is committed, an
@@ -60,4 +61,11 @@ pub fn requests_are_shown()
 pub fn actions_begin()
     ensures begin { ActionsBegin }
     ensures started { NewCoordsAreSeen }
+{}
+
+/// An action is aborted with all that is open below it, and its unit is over where it is a root. When the node stops each open action is
+/// aborted, but for a top whose record is on the disk, which is decided; a restart finds the record, and commits the top by its line.
+/// It does nothing when it runs.
+pub fn many_end_at_coordinators()
+    ensures aborts { AbortionsGoDown }
 {}

@@ -19,7 +19,7 @@ mod naming;
 mod server;
 
 pub use coord::{
-    actions_begin, calls_at_coordinators_are_seen, ends_at_coordinators_are_seen, ends_keep_roots,
+    actions_begin, calls_at_coordinators_are_seen, ends_at_coordinators_are_seen, ends_keep_roots, many_end_at_coordinators,
     other_calls_are_nothing, requests_are_shown,
 };
 pub use naming::{
