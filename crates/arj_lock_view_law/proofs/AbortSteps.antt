@@ -172,7 +172,7 @@ module _ (act : Acts) (code : Codes) (x : ℕ) (apart : AreOne act) where
 -- ---- what is open below an action
 
 -- a branch of the tree is found by its action
-branch_found : (paths : Paths) (t : Tree) (lists : HasLists paths t) (b : Branch) → list.In b t.branches → branch_of (actor b.path) t ≡ Some b
+pub branch_found : (paths : Paths) (t : Tree) (lists : HasLists paths t) (b : Branch) → list.In b t.branches → branch_of (actor b.path) t ≡ Some b
 branch_found paths t lists b i = subst (λ (v : Uid). branch_of v t ≡ Some b) (sym (lists.places it b there)) there
   where
     k : (n : ℕ) × (at_place n t.branches ≡ Some b)

@@ -23,6 +23,7 @@ pub mod RootSteps
 pub mod RowSteps
 pub mod RunSteps
 pub mod ServerSteps
+pub mod StopSteps
 pub mod TreeSteps
 pub mod UndoSteps
 pub mod VoteSteps

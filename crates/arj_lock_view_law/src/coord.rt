@@ -3,7 +3,7 @@ ghost use Rattle.arj_lock_view_law.specs.Acting.{AbortionsAreSeen, DecisionsAreS
 ghost use Rattle.arj_lock_view_law.specs.Asks.{AsksAreNothing, CommitsAskOnly, RequestsAreShown, RequestsStayShown, TicksAreNothing};
 ghost use Rattle.arj_lock_view_law.specs.Begins.{ActionsBegin, NewCoordsAreSeen};
 ghost use Rattle.arj_lock_view_law.specs.Calling.{AnswersAreTaken, CallsAreGivenUp, CallsBegin, IncludesBegin, OtherAnswersAreTaken, OtherCallsAreGivenUp, OtherCallsBegin};
-ghost use Rattle.arj_lock_view_law.specs.Stops.{AbortionsGoDown};
+ghost use Rattle.arj_lock_view_law.specs.Stops.{AbortionsGoDown, RecordsAreFound, RestartedCoordsAreSeen, StopsAreSeen, StopsStay};
 ghost use Rattle.arj_lock_view_law.specs.Whole.{CommitsKeepRoots, DecisionsKeepRoots, EndsKeepRoots, UnitsKeepRoots};
 
 /// What a coordinator does to its own actions is allowed in the machine, and leaves them seen: a nested action is committed, an
@@ -68,4 +68,8 @@ pub fn actions_begin()
 /// It does nothing when it runs.
 pub fn many_end_at_coordinators()
     ensures aborts { AbortionsGoDown }
+    ensures stops { StopsAreSeen }
+    ensures stay { StopsStay }
+    ensures records { RecordsAreFound }
+    ensures restarted { RestartedCoordsAreSeen }
 {}
