@@ -2,18 +2,15 @@
 use Rattle.std.proofs.Common.{◌≡◌, ◌≢◌, ◌≤◌, ◌⊎◌, ◌∙◌, ◌==◌, ◌&&◌, ◌++◌, not, filter, ℕ, List, [], ◌∷◌, Bool, true, false, cond, length, Option, Some, None, refl, sym, ap, subst, inl, inr, ⊎_elim, is_some, arith}
 use Rattle.std.proofs.lemmas.Bool.{and_parts}
 use Rattle.arj_base.proofs.Uids.{uid_cases, uid_same}
-use Rattle.arj_base.specs.Path.{before_last}
-use Rattle.arj_base.specs.Rows.{last_uid}
 use Rattle.arj_lock.proofs.Members as list
 use Rattle.arj_lock.proofs.Members.{in_filter}
 use Rattle.arj_protocol.specs.Words.{Uid, first_uid, is_on, uid_eq, uids_of}
 use Rattle.arj_protocol.specs.Words.ending
-use Rattle.arj_protocol.specs.Words.kind
 use Rattle.arj_protocol.specs.Ask.{actor}
 use Rattle.arj_protocol.specs.Coord.{Coord, Doing, Idle, doing_of}
 use Rattle.arj_protocol.specs.Effect.{Intent}
 use Rattle.arj_protocol.specs.Ending.{abort_action, all_aborted, ended}
-use Rattle.arj_protocol.specs.Tree.{Branch, Tree, at_place, branch_of, ended_so, is_aborted, is_below, is_open_below, is_own, open_below, root_of}
+use Rattle.arj_protocol.specs.Tree.{Branch, Tree, at_place, branch_of, ended_so, is_below, is_open_below, open_below, root_of}
 use Rattle.arj_lock_law.specs.Actions.{Act, Root, is_action, on, root}
 use Rattle.arj_lock_law.specs.Machine.{stay}
 use Rattle.arj_lock_law.specs.State.{Action, State}
@@ -37,7 +34,7 @@ use Rattle.arj_lock_view_law.specs.Stops.{AbortionsGoDown, AreAborted, AreUnitsO
 use Rattle.arj_lock_view_law.proofs.ActingSteps.{abort_goes, own_root, plain_goes, unit_ends, unit_open}
 use Rattle.arj_lock_view_law.proofs.OneSteps.{OnlyOne, end_changed, one_changed}
 use Rattle.arj_lock_view_law.proofs.RunSteps.{goes_then, goes_to}
-use Rattle.arj_lock_view_law.proofs.TreeSteps.{first_on, root_there}
+use Rattle.arj_lock_view_law.proofs.TreeSteps.{first_on}
 use Rattle.arj_lock_view_law.proofs.WholeSteps.{ended_roots, one_stays, units_keep_roots}
 
 -- ---- what changes of actions

@@ -22,7 +22,7 @@ use Rattle.arj_lock_view_law.specs.Actions.{AreAlike, IsHere, IsIdle, IsLone, Is
 use Rattle.arj_lock_view_law.specs.Going.{Goes}
 use Rattle.arj_lock_view_law.proofs.OneSteps as single
 use Rattle.arj_lock_view_law.proofs.RunSteps.{goes_to}
-use Rattle.arj_lock_view_law.proofs.TreeSteps.{OnlyOne, action_kind, end_changed, merged_below, none_waits, one_changed, open_above, opens, root_there, seen_at, stage_over, top_kind, was, work_changed}
+use Rattle.arj_lock_view_law.proofs.TreeSteps.{OnlyOne, action_kind, end_changed, merged_below, none_waits, one_changed, open_above, opens, root_there, seen_at, stage_over, top_kind, work_changed}
 
 -- an action isn't a unit
 pub unit_other : (n : ℕ) (a : Act) → is_action a ≡ true → same (Root n) a ≡ false

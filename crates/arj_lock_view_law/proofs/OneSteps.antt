@@ -1,5 +1,5 @@
 -- One action of a coordinator changes, and the machine's action with it.
-use Rattle.std.proofs.Common.{◌≡◌, ◌≢◌, ◌⊎◌, ◌∙◌, ◌++◌, ℕ, List, [], ◌∷◌, Bool, true, false, cond, length, nat_le, Option, Some, None, refl, sym, ap, subst, inl, inr, ⊎_elim, is_some}
+use Rattle.std.proofs.Common.{◌≡◌, ◌≢◌, ◌⊎◌, ◌∙◌, ◌++◌, ℕ, [], ◌∷◌, Bool, true, false, cond, length, nat_le, Option, Some, None, refl, sym, ap, subst, inl, inr, ⊎_elim, is_some}
 use Rattle.arj_base.proofs.Uids.{uid_cases}
 use Rattle.arj_protocol.specs.Words.{Uid, End, uids_of}
 use Rattle.arj_protocol.specs.Words.ending

@@ -2,27 +2,26 @@
 use Rattle.std.proofs.Common.{◌≡◌, ◌≢◌, ◌≤◌, ◌+◌, ◌⊎◌, ◌∙◌, ◌==◌, ℕ, List, [], ◌∷◌, Bool, true, false, cond, Option, Some, None, refl, sym, ap, subst, inl, inr, ⊎_elim, is_some, arith, eqb-true}
 use Rattle.arj_base.proofs.Uids.{uid_cases}
 use Rattle.arj_lock.proofs.Members as list
-use Rattle.arj_protocol.specs.Words.{End, Uid, first_uid, is_on, uids_of}
+use Rattle.arj_protocol.specs.Words.{Uid, first_uid, is_on}
 use Rattle.arj_protocol.specs.Ask.{actor}
-use Rattle.arj_protocol.specs.Coord.{Committing, Coord, Doing, Now, doing_of, new_coord}
-use Rattle.arj_protocol.specs.Effect.{Intent}
+use Rattle.arj_protocol.specs.Coord.{Coord, new_coord}
 use Rattle.arj_protocol.specs.Tree.{Branch, Tree, branch_of, new_tree, root_of}
-use Rattle.arj_lock_law.specs.Actions.{Act, Root, Sub, at_act, is_action, is_top, on, root, same}
+use Rattle.arj_lock_law.specs.Actions.{Act, Root, Sub, at_act, is_action, is_top, root, same}
 use Rattle.arj_lock_law.specs.Machine.{next, stay, step}
 use Rattle.arj_lock_law.specs.State.{Action, State}
 use Rattle.arj_lock_law.specs.Steps.{Abort, Decide, EndUnit, Report}
-use Rattle.arj_lock_law.proofs.Paths.{act_here, act_other, by_cases, differ, number_self, on_root, same_is, same_self, top_action}
+use Rattle.arj_lock_law.proofs.Paths.{act_here, act_other, by_cases, differ, on_root, same_is, same_self, top_action}
 use Rattle.arj_part_law.specs.Copies.{Paths}
 use Rattle.arj_part_law.proofs.GoodTrees.{found_by, place_in}
 use Rattle.arj_part_law.proofs.TrueSteps.{work_there}
 use Rattle.arj_lock_view_law.specs.Acting.{OnlyActed}
-use Rattle.arj_lock_view_law.specs.Actions.{IsHere, IsIdle, IsSteady, SeesAction, stage_of}
+use Rattle.arj_lock_view_law.specs.Actions.{IsHere, IsSteady, stage_of}
 use Rattle.arj_lock_view_law.specs.Acts.{Acts}
 use Rattle.arj_lock_view_law.specs.Copies.{Codes}
 use Rattle.arj_lock_view_law.specs.Going.{Goes}
 use Rattle.arj_lock_view_law.specs.Roots.{SeesCoord}
 use Rattle.arj_lock_view_law.specs.Stops.{AreUnitsOver, HasEnded, HasStopped, IfDecided, IsDecided, IsUnitOf, OnlyStopped, RecordsAreFound, RestartedCoordsAreSeen, StopsAreSeen, StopsStay}
-use Rattle.arj_lock_view_law.proofs.AbortSteps.{acted_both, acted_none, branch_found}
+use Rattle.arj_lock_view_law.proofs.AbortSteps.{acted_both, branch_found}
 use Rattle.arj_lock_view_law.proofs.ActingSteps.{low_stage, only_acted, unended_none, unit_open, unit_other}
 use Rattle.arj_lock_view_law.proofs.BeginSteps.{same_coord}
 use Rattle.arj_lock_view_law.proofs.NewSteps.{new_coords_are_seen}

@@ -1,13 +1,13 @@
 -- Ends of actions at their coordinator go in the machine.
-use Rattle.std.proofs.Common.{◌≡◌, ◌≢◌, ◌≤◌, ◌⊎◌, ◌∙◌, ◌||◌, ◌++◌, ℕ, zero, suc, List, [], ◌∷◌, Bool, true, false, cond, length, nat_le, Option, Some, None, refl, sym, ap, subst, inl, inr, ⊎_elim, arith, is_some}
+use Rattle.std.proofs.Common.{◌≡◌, ◌≢◌, ◌≤◌, ◌⊎◌, ◌∙◌, ◌||◌, ℕ, zero, suc, List, [], ◌∷◌, Bool, true, false, length, Option, Some, None, refl, sym, ap, subst, inl, inr, ⊎_elim, arith, is_some}
 use Rattle.arj_base.proofs.Uids.{uid_same, uid_cases}
 use Rattle.arj_protocol.specs.Words.{Uid, End, Kind, is_on, first_uid, uids_of}
 use Rattle.arj_protocol.specs.Words.ending
 use Rattle.arj_protocol.specs.Words.kind
-use Rattle.arj_protocol.specs.Coord.{Coord, Doing, Now, Idle, Calling, Committing, change_doing, doing_of, on_doing, set_doing}
+use Rattle.arj_protocol.specs.Coord.{Coord, Doing, Now, Idle, Calling, Committing, doing_of, on_doing}
 use Rattle.arj_protocol.specs.Ending.{ended}
 use Rattle.arj_protocol.specs.Step.{is_committing_now, is_waiting_now}
-use Rattle.arj_protocol.specs.Tree.{Branch, Tree, at_place, branch_of, ended_at, ended_branch, has_end, has_open_child, family_of, is_own, root_of, set_place, with_family}
+use Rattle.arj_protocol.specs.Tree.{Branch, Tree, branch_of, has_end, has_open_child, root_of}
 use Rattle.arj_lock_law.specs.Actions.{Act, Root, Sub, is_action, is_top, on, root, same}
 use Rattle.arj_lock_law.specs.State.{Action}
 use Rattle.arj_lock_law.proofs.Paths.{by_cases, differ, on_root, on_same, on_self, on_up, root_is, same_is, top_action}
@@ -15,9 +15,7 @@ use Rattle.arj_part_law.specs.Copies.{IsTree, Paths}
 use Rattle.arj_part_law.specs.Coords.{IsBusy}
 use Rattle.arj_part_law.specs.Trees.{HasLists}
 use Rattle.arj_part_law.proofs.Begun.{path_some}
-use Rattle.arj_part_law.proofs.GoodTrees as tree
 use Rattle.arj_part_law.proofs.GoodTrees.{above_of, all_over, over_below, shorter}
-use Rattle.arj_part_law.proofs.Settled.{doing_other, doing_put}
 use Rattle.arj_part_law.proofs.TrueSteps.{work_there}
 use Rattle.arj_lock_view_law.specs.Acts.{Acts}
 use Rattle.arj_lock_view_law.specs.Actions.{IsHere, IsIdle, IsLone, IsPlaced, IsSteady, SeesAction, SeesActions, invokes, stage_of}

@@ -17,13 +17,11 @@ use Rattle.arj_protocol.specs.Order.{at_number, each, put_uid}
 use Rattle.arj_protocol.specs.Tree.{Branch, Tree, branch_of, ended_at, ended_so, has_end, is_aborted, is_spent, root_of}
 use Rattle.arj_lock_law.specs.Actions.{Act, root}
 use Rattle.arj_lock_law.specs.State.{Action, State}
-use Rattle.arj_part_law.specs.Copies.{Paths}
-use Rattle.arj_lock_view_law.specs.Acting.{OnlyActed}
 use Rattle.arj_lock_view_law.specs.Actions.{SeesActions, invokes, stage_of}
 use Rattle.arj_lock_view_law.specs.Acts.{Acts}
 use Rattle.arj_lock_view_law.specs.Copies.{Codes}
 use Rattle.arj_lock_view_law.specs.Roots.{IsTied, SeesCoord, SeesKeeping, SeesRoot, SeesStep}
-use Rattle.arj_lock_view_law.specs.Whole.{CommitsKeepRoots, DecisionsKeepRoots, EndsKeepRoots, IsOpen, UnitsKeepRoots}
+use Rattle.arj_lock_view_law.specs.Whole.{CommitsKeepRoots, DecisionsKeepRoots, EndsKeepRoots, UnitsKeepRoots}
 use Rattle.arj_part_law.proofs.Settled.{doing_other, doing_put}
 use Rattle.arj_lock_view_law.proofs.ActingSteps.{unended_none}
 use Rattle.arj_lock_view_law.proofs.BeginSteps.{same_coord}
