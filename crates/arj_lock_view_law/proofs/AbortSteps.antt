@@ -215,10 +215,13 @@ module _ (act : Acts) (code : Codes) (paths : Paths) (x : ℕ) (c : Coord) (u : 
           let f = in_filter (is_open_below u) q c.tree.branches j in
           let two = and_parts (is_below u q) (not (is_some q.ended)) f.1 in
           let more = and_parts (is_on (uids_of q.path) u) (not (uid_eq (actor q.path) u)) two.0 in
-          let there = ap (λ (v : Uid). branch_of v c.tree) (sym is) ∙ branch_found paths c.tree steady.good.tree.lists q f.0 in
-          (q, there, not_true (is_some q.ended) two.1,
+          let there = ap (λ (v : Uid). branch_of v c.tree) (sym is) ∙ branch_found paths c.tree steady.good.tree.lists q f.0 in (
+            q,
+            there,
+            not_true (is_some q.ended) two.1,
             (λ same. differ (uid_same u) (sym (ap (λ (v : Uid). uid_eq v u) (is ∙ same)) ∙ not_true (uid_eq (actor q.path) u) more.1)),
-            ap (λ (us : List Uid). is_on us u) (sym (steady.good.tree.lists.paths_are w q there)) ∙ more.0)
+            ap (λ (us : List Uid). is_on us u) (sym (steady.good.tree.lists.paths_are w q there)) ∙ more.0,
+          )
 
   may_go : (w : Uid) → list.In w below → IsAbortable act c w × (root (act w) ≡ unit)
   may_go w i = (record { branch = q.0; work = d.0; there = q.1; works = d.1; left = inl q.2; its = its }, on_root (act w) (act u) on_u)

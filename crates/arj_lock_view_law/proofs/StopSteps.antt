@@ -178,10 +178,15 @@ module _ (act : Acts) (code : Codes) (paths : Paths) (x : ℕ) (c : Coord) (last
   settle_all : (bs : List Branch) → ((b : Branch) → list.In b bs → branch_of (actor b.path) t ≡ Some b) → (T : State) → Frame T → AllStand T → Goes T (Further T (AllSettled bs))
   settle_all [] there T g all = record { state = T; run = stay; holds = (g, all, (λ a high. refl), λ b i. absurd i) }
   settle_all (b ∷ bs) there T g all = goes_then (settle T (actor b.path) b (there b (inl refl)) g all) (λ V h. goes_to (settle_all bs (λ q i. there q (inr i)) V h.0 h.1)
-      (λ W k. (k.0, k.1, keeps_both T V W h.2 k.2, λ q i its. ⊎_elim
-      (λ (is : b ≡ q). subst (λ (y : Branch). IsSettled W (actor y.path)) is (settled_still V W (actor b.path) k.2 (h.3 (ap (λ (y : Branch). is_action (act (actor y.path))) is ∙ its))))
-      (λ j. k.3 q j its)
-      i)))
+      (λ W k. (
+        k.0,
+        k.1,
+        keeps_both T V W h.2 k.2,
+        λ q i its. ⊎_elim
+            (λ (is : b ≡ q). subst (λ (y : Branch). IsSettled W (actor y.path)) is (settled_still V W (actor b.path) k.2 (h.3 (ap (λ (y : Branch). is_action (act (actor y.path))) is ∙ its))))
+            (λ j. k.3 q j its)
+            i,
+      )))
 
   -- ---- the units
 
@@ -288,10 +293,15 @@ module _ (act : Acts) (code : Codes) (paths : Paths) (x : ℕ) (c : Coord) (last
   end_units : (bs : List Branch) → ((b : Branch) → list.In b bs → branch_of (actor b.path) t ≡ Some b) → (T : State) → Frame T → AllStand T → AreSettled T → Goes T (Further T (AreDone bs))
   end_units [] there T g all settled = record { state = T; run = stay; holds = (g, all, (λ a high. refl), λ b i. absurd i) }
   end_units (b ∷ bs) there T g all settled = goes_then (end_unit T (actor b.path) b (there b (inl refl)) g all settled) (λ V h. goes_to (end_units bs (λ q i. there q (inr i)) V h.0 h.1 (still_settled T V h.2 settled))
-      (λ W k. (k.0, k.1, keeps_both T V W h.2 k.2, λ q i. ⊎_elim
-      (λ (is : b ≡ q). subst (λ (y : Branch). IsUnitDone W (root (act (actor y.path)))) is (done_still V W (root (act (actor b.path))) k.2 h.3))
-      (λ j. k.3 q j)
-      i)))
+      (λ W k. (
+        k.0,
+        k.1,
+        keeps_both T V W h.2 k.2,
+        λ q i. ⊎_elim
+            (λ (is : b ≡ q). subst (λ (y : Branch). IsUnitDone W (root (act (actor y.path)))) is (done_still V W (root (act (actor b.path))) k.2 h.3))
+            (λ j. k.3 q j)
+            i,
+      )))
 
   -- ---- all of it
 
