@@ -18,6 +18,8 @@ pub mod WorldVotes
 pub mod WorldSteps
 pub mod WorldMessages
 pub mod WorldRuns
+pub mod Given
+pub mod MadeLines
 pub mod LivedWalks
 pub mod LivedMessages
 pub mod LivedCounts

@@ -1,5 +1,5 @@
 -- A server goes on from call to call: what it wrote comes from calls that it ran and never refuses.
-use Rattle.std.proofs.Common.{◌≡◌, ◌⊎◌, ◌<◌, ◌==◌, ◌||◌, ℕ, List, [], ◌∷◌, ◌++◌, Bool, true, false, cond, Option, Some, None, refl, sym, ◌∙◌, ap, subst, inl, inr, ⊎_elim, arith, nat_lt, filter}
+use Rattle.std.proofs.Common.{◌≡◌, ◌⊎◌, ◌<◌, ◌==◌, ◌||◌, ℕ, List, [], ◌∷◌, ◌++◌, Bool, true, false, cond, Option, Some, None, refl, sym, ◌∙◌, ap, subst, inl, inr, ⊎_elim, arith, nat_lt, eqb-true, filter}
 use Rattle.std.specs.Prelude.{is_some, not, min, length}
 use Rattle.arj_base.proofs.Uids.{uid_cases, uid_is}
 use Rattle.arj_lock.proofs.Members as list
@@ -56,11 +56,15 @@ pub past_on : (s t : Server) → GoesOn s t → (c : Call) → IsPast c s → Is
 past_on s t g c (inl done) = inl (done_on s t g true (asked_by c.head) done)
 past_on s t g c (inr less) = let f = g.follows in inr (lower (binding_number (active_binding c.x s)) (binding_number (active_binding c.x t)) (binding_number c.binding) (f.bindings c.x) less)
 
-pub reached_on : (s t : Server) → GoesOn s t → (x : ℕ) (b : Binding) → HasReached x b s → HasReached x b t
-reached_on s t g x b (c, at, low) =
+-- a copy is there still, under no lower binding
+pub copy_on : (s t : Server) → GoesOn s t → (x n : ℕ) (c : Copy) → at_number x s.objects ≡ Some c → nat_lt (binding_number c.binding) n ≡ false → (q : Copy) × (at_number x t.objects ≡ Some q) × (nat_lt (binding_number q.binding) n ≡ false)
+copy_on s t g x n c at low =
     let q = g.there x c at in
     let f = g.follows in
-    (q.0, q.1, not_lower (binding_number c.binding) (binding_number (let z = q.0 in z.binding)) (binding_number b) ((λ i. binding_less (binding_of (sym q.1 i)) (binding_of (sym at i))) ∙ f.bindings x) low)
+    (q.0, q.1, not_lower (binding_number c.binding) (binding_number (let z = q.0 in z.binding)) n ((λ i. binding_less (binding_of (sym q.1 i)) (binding_of (sym at i))) ∙ f.bindings x) low)
+
+pub reached_on : (s t : Server) → GoesOn s t → (x : ℕ) (b : Binding) → HasReached x b s → HasReached x b t
+reached_on s t g x b (c, at, low) = copy_on s t g x (binding_number b) c at low
 
 pub itself : (s : Server) → GoesOn s s
 itself s = record { follows = told_itself; kept = λ u k found. inr (k, found, inl refl); there = λ x c at. (c, at) }
@@ -204,6 +208,27 @@ module _ (n : ℕ) where
       by false true equal f = itself s
       by false false true f = itself s
       by false false false f = record { follows = f; kept = λ u k found. inr (k, found, inl refl); there = λ x c at. put_there st.uid.num (taken_copy b st) s.objects x c at }
+
+  -- who answers an Activate has the copy, under its binding or a later one
+  pub activate_reached : (p : Path) (b : Binding) (st : ObjectState) (s : Server) (j : ℕ) → (binding_number b ≡ 0 → ⊥) → (activate n p b st s).reply ≡ Some j → HasReached st.uid.num b (activate n p b st s).part
+  activate_reached p b st s j some = by (has_ended p s) (binding_less b (active_binding st.uid.num s)) (binding_eq b (active_binding st.uid.num s)) refl
+    where
+      low : (x y : ℕ) → y ≡ x → nat_lt x y ≡ false
+      low x y same = grind (arith, same)
+
+      there : (o : Option Copy) → at_number st.uid.num s.objects ≡ o → binding_eq b (binding_of o) ≡ true → HasReached st.uid.num b s
+      there None is same = absurd (some (eqb-true (binding_number b) 0 same))
+      there (Some c) is same = (c, is, low (binding_number c.binding) (binding_number b) (eqb-true (binding_number b) (binding_number c.binding) same))
+
+      none : {P : Type 0} → ◌≡◌ {A = Option ℕ} None (Some j) → P
+      none is = absurd (cc is)
+
+      by : (over lower equal : Bool) → binding_eq b (active_binding st.uid.num s) ≡ equal → (cond {A = Served Server ℕ} (over || lower) (void s) (cond equal (reply s s.inc) (took_copy n st.uid.num b st s))).reply ≡ Some j
+          → HasReached st.uid.num b (cond {A = Served Server ℕ} (over || lower) (void s) (cond equal (reply s s.inc) (took_copy n st.uid.num b st s))).part
+      by true lower equal e is = none is
+      by false true equal e is = none is
+      by false false true e is = there (at_number st.uid.num s.objects) refl e
+      by false false false e is = (taken_copy b st, put_number_same st.uid.num (taken_copy b st) s.objects, low (binding_number b) (binding_number b) refl)
 
   goes_new : (u : Uid) (e : End) (s : Server) → Follows s (end_new n u e s).part → GoesOn s (end_new n u e s).part
   goes_new u e s f = record {

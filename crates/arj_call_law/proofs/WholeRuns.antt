@@ -1,35 +1,44 @@
 -- What servers vote is used in each run: servers that are named, and calls, together.
-use Rattle.std.proofs.Common.{◌≡◌, ◌≤◌, ◌<◌, ◌==◌, ◌+◌, ℕ, List, [], ◌∷◌, true, false, cond, Option, Some, None, refl, sym, ◌∙◌, ap, subst, arith}
+use Rattle.std.proofs.Common.{◌≡◌, ◌≤◌, ◌<◌, ◌==◌, ◌+◌, ◌&&◌, ◌||◌, not, nat_lt, ℕ, List, [], ◌∷◌, ◌++◌, Bool, true, false, cond, Option, Some, None, refl, sym, ◌∙◌, ap, subst, inl, inr, arith, eqb-true}
 use Rattle.std.specs.List.{AllByRecursion}
-use Rattle.arj_protocol.specs.Words.{Binding, Header}
+use Rattle.std.proofs.lemmas.Bool.{and_parts}
+use Rattle.arj_protocol.specs.Words.{Ask, Binding, Header, Line, asks}
+use Rattle.arj_protocol.specs.Words.ask
 use Rattle.arj_protocol.specs.Words.bound
 use Rattle.arj_protocol.specs.Ask.{Reply}
-use Rattle.arj_protocol.specs.Asking.{again_all, begin_action, kept_at}
+use Rattle.arj_protocol.specs.Asking.{kept_at}
 use Rattle.arj_protocol.specs.Call.{Steps}
 use Rattle.arj_protocol.specs.Coord.{Coord, Keeping, Root, no_keeping, no_root, root_at}
-use Rattle.arj_protocol.specs.Effect.{Disk, Effect}
-use Rattle.arj_protocol.specs.Follow.{tick_outs}
-use Rattle.arj_protocol.specs.Node.{Parts, with_coord}
-use Rattle.arj_protocol.specs.Order.{binding_number}
-use Rattle.arj_protocol.specs.Step.{Node, acts, parent_of, parts_in, restart_outs}
+use Rattle.arj_protocol.specs.Copy.{Copy}
+use Rattle.arj_protocol.specs.Effect.{Disk}
+use Rattle.arj_protocol.specs.Node.{Parts}
+use Rattle.arj_protocol.specs.Order.{at_number, binding_number}
+use Rattle.arj_protocol.specs.Server.{Server}
+use Rattle.arj_protocol.specs.Step.{Node}
 use Rattle.arj_protocol.specs.Tree.{root_of}
-use Rattle.arj_protocol.specs.World.{format, is_serial_kind, run_all}
-use Rattle.arj_part_law.specs.Lives.{Homes, IsKeptSo, IsRootSo, KnowsServers, Limits, NamesReply}
-use Rattle.arj_part_law.proofs.LivesNamed.{all_at}
+use Rattle.arj_protocol.specs.World.{format, run_all}
+use Rattle.arj_part_law.specs.Lives.{Homes, IsKeptSo, IsRootSo, IsUnbound, KnowsServers, NamesAsk, NamesAsked, NamesBind, NamesReply, Reach}
+use Rattle.arj_part_law.proofs.LivesNamed.{all_at, keyed_at}
 use Rattle.arj_run_law.specs.Worlds.{IsGood}
 use Rattle.arj_run_law.proofs.AllRuns.{all_keep}
 use Rattle.arj_run_law.proofs.Walked.{same_number}
 use Rattle.arj_view_law.specs.Keeps.{Keeps}
-use Rattle.arj_view_law.specs.Seen.{Seen, given, see, up}
-use Rattle.arj_view_law.specs.Walks.{Up, Walks}
+use Rattle.arj_view_law.specs.Seen.{Seen, see, up}
 use Rattle.arj_view_law.proofs.Happens.{runs_hold}
-use Rattle.arj_view_law.proofs.Together.{walks_both}
+use Rattle.arj_call_law.specs.Bindings.{HasFewBindings, bindings_made}
+use Rattle.arj_call_law.specs.Calls.{Call, call_in}
 use Rattle.arj_call_law.specs.Homes.{NamesIn}
-use Rattle.arj_call_law.specs.Lived.{AreApart, AreBelow, Gifts, IsHome, IsLimit, LivesRun}
-use Rattle.arj_call_law.specs.Runs.{Grants, HasHomes, WithCalls}
+use Rattle.arj_call_law.specs.Lived.{AreApart, AreBelow, CountFits, Gifts, IsHome, LivesRun, LivesWith, NamesPost, PassesAll, PassesIn}
+use Rattle.arj_call_law.specs.Runs.{Grants, HasHomes, KnowsRun, WithCalls}
+use Rattle.arj_call_law.specs.Servers.{HasReached, IsSoUp, Since}
 use Rattle.arj_call_law.specs.Voting.{RunsVote}
-use Rattle.arj_call_law.proofs.LivedRuns.{lives_keep}
-use Rattle.arj_call_law.proofs.WorldRuns.{calls_keep, votes_in}
+use Rattle.arj_call_law.specs.Worlds.{CallsReach}
+use Rattle.arj_call_law.proofs.CoordSends.{asked_call}
+use Rattle.arj_call_law.proofs.Given.{KeepsGiven, both_given, kept_both, keeps_given, while_given}
+use Rattle.arj_call_law.proofs.LivedRuns.{lives_given}
+use Rattle.arj_call_law.proofs.MadeLines.{AreSaid, counts_are_said, fewer}
+use Rattle.arj_call_law.proofs.ServerCalls.{some_is}
+use Rattle.arj_call_law.proofs.WorldRuns.{calls_given, votes_in}
 
 -- ---- the servers that were given
 
@@ -58,74 +67,175 @@ is_home (g ∷ gs) apart =
 
 -- ---- a binding has one server
 
-abbrev inc_at : Option Node → ℕ
-inc_at None = 0
-inc_at (Some n) = n.disk.inc
+-- ---- what servers reached, by what is seen
 
-module _ (home : Homes) (limit : Limits) where
-  kept_so : (s : Steps) (c : Coord) → KnowsServers home limit c → IsKeptSo home limit (kept_at s c)
-  kept_so s c knows = all_at (λ (z : Keeping). IsKeptSo home limit z.kept) no_keeping tt s.x (let r = root_at_of in r.keeping) (all_at (IsRootSo home limit) no_root tt (let u = root_of s.path in u.num) c.roots knows.roots)
+abbrev has_copy : Option Copy → ℕ → Bool
+has_copy None n = false
+has_copy (Some c) n = not (nat_lt (binding_number c.binding) n)
+
+abbrev reached_up : Option Parts → ℕ → ℕ → Bool
+reached_up None x n = true
+reached_up (Some t) x n = has_copy (at_number x t.server.objects) n
+
+abbrev reached_at : Option Node → ℕ → ℕ → ℕ → Bool
+reached_at None x n i = true
+reached_at (Some m) x n i = nat_lt i m.disk.inc || ((i == m.disk.inc) && reached_up m.live x n)
+
+abbrev reach_of : Seen → Reach
+reach_of M j x n i = reached_at (M.nodes j) x n i
+
+passes_of : (given : Gifts) (M : Seen) → LivesWith given M → PassesAll (reach_of M) M
+passes_of given M l = record { zero = λ j x n. zero j x n (M.nodes j) refl; nodes = λ j m is. record { past = λ x n h less. (λ i. reached_at (is i) x n h) ∙ first (nat_lt h m.disk.inc) _ (lower h m.disk.inc less); here = up j m is m.live refl } }
+  where
+    lower : (a b : ℕ) → a < b → nat_lt a b ≡ true
+    lower a b less = grind (arith, less)
+
+    first : (a b : Bool) → a ≡ true → (a || b) ≡ true
+    first true b is = refl
+    first false b is = absurd (cc is)
+
+    second : (a b c : Bool) → b ≡ true → c ≡ true → (a || (b && c)) ≡ true
+    second true b c x y = refl
+    second false true true x y = refl
+    second false true false x y = absurd (cc y)
+    second false false c x y = absurd (cc x)
+
+    zero : (j x n : ℕ) (o : Option Node) → M.nodes j ≡ o → reached_at o x n 0 ≡ true
+    zero j x n None is = refl
+    zero j x n (Some m) is = first (nat_lt 0 m.disk.inc) _ (lower 0 m.disk.inc (let p = l.places j m is in p.first))
+
+    up : (j : ℕ) (m : Node) → M.nodes j ≡ Some m → (o : Option Parts) → m.live ≡ o → PassesIn (reach_of M) j m.disk.inc o
+    up j m is None down = λ x n. (λ i. reached_at (is i) x n m.disk.inc) ∙ second (nat_lt m.disk.inc m.disk.inc) (m.disk.inc == m.disk.inc) (reached_up m.live x n) (same_number m.disk.inc) (ap (λ z. reached_up z x n) down)
+    up j m is (Some t) live = λ x n c at low. (λ i. reached_at (is i) x n m.disk.inc) ∙ second (nat_lt m.disk.inc m.disk.inc) (m.disk.inc == m.disk.inc) (reached_up m.live x n) (same_number m.disk.inc) (ap (λ z. reached_up z x n) live ∙ ap (λ z. has_copy z n) at ∙ ap not low)
+
+-- ---- calls name what their servers reached
+
+reached_of : (M : Seen) → LivesRun M → CallsReach M
+reached_of M (given, l) j m is from c asked = by (nat_lt c.inc m.disk.inc) refl ((λ i. reached_at (sym is i) c.x (binding_number c.binding) c.inc) ∙ named q.0 q.2 (subst (NamesAsked (home_in given) (reach_of M) j) q.1 its.asking))
+  where
+    its : NamesPost (home_in given) (reach_of M) M.sent (record { from = from; to = j; message = asked.message })
+    its = let f = l.lived (home_in given) (reach_of M) (is_home given l.apart) (passes_of given M l) in f.sent (record { from = from; to = j; message = asked.message }) asked.posted
+
+    q : (a : Ask) × (asks asked.message ≡ Some (c.head, a)) × (call_in c.head a ≡ Some c)
+    q = asked_call asked.message c asked.call
+
+    none_is : {P : Type 0} → ◌≡◌ {A = Option Call} None (Some c) → P
+    none_is is = absurd (cc is)
+
+    named : (a : Ask) → call_in c.head a ≡ Some c → NamesAsk (home_in given) (reach_of M) j a → reach_of M j c.x (binding_number c.binding) c.inc ≡ true
+    named (ask.Invoke x b i ends op) same n = subst (λ (z : Call). reach_of M j z.x (binding_number z.binding) z.inc ≡ true) (some_is same) n.1
+    named (ask.Bind x i avoid) same n = none_is same
+    named (ask.Load x) same n = none_is same
+    named (ask.Activate b st) same n = none_is same
+    named (ask.Record x b i g) same n = none_is same
+    named (ask.Vote i ties ends) same n = none_is same
+    named (ask.Prepare states) same n = none_is same
+    named (ask.Confirm grants ex inc) same n = none_is same
+
+    lower : (a b : ℕ) → nat_lt a b ≡ true → a < b
+    lower a b less = grind (arith, less)
+
+    copy : (s : Server) (o : Option Copy) → at_number c.x s.objects ≡ o → has_copy o (binding_number c.binding) ≡ true → HasReached c.x c.binding s
+    copy s None at has = absurd (cc has)
+    copy s (Some e) at has = (e, at, low (nat_lt (binding_number e.binding) (binding_number c.binding)) has)
+      where
+        low : (b : Bool) → not b ≡ true → b ≡ false
+        low true is = absurd (cc is)
+        low false is = refl
+
+    present : (o : Option Parts) → reached_up o c.x (binding_number c.binding) ≡ true → IsSoUp (HasReached c.x c.binding) o
+    present None has = tt
+    present (Some t) has = copy t.server (at_number c.x t.server.objects) refl has
+
+    by : (b : Bool) → nat_lt c.inc m.disk.inc ≡ b → (b || ((c.inc == m.disk.inc) && reached_up m.live c.x (binding_number c.binding))) ≡ true → Since c.inc (HasReached c.x c.binding) m
+    by true less has = inl (lower c.inc m.disk.inc less)
+    by false less has = let p = and_parts (c.inc == m.disk.inc) (reached_up m.live c.x (binding_number c.binding)) has in inr (eqb-true c.inc m.disk.inc p.0, present m.live p.1)
+
+-- ---- a binding has one server
+
+module _ (home : Homes) (reach : Reach) where
+  kept_so : (s : Steps) (c : Coord) → KnowsServers home reach c → IsKeptSo home reach s.x (kept_at s c)
+  kept_so s c knows = keyed_at (λ y (z : Keeping). IsKeptSo home reach y z.kept) no_keeping s.x tt (let r = root_at_of in r.keeping) (all_at (IsRootSo home reach) no_root tt (let u = root_of s.path in u.num) c.roots knows.roots)
     where
       root_at_of : Root
       root_at_of = root_at (root_of s.path) c
 
-  named_so : (r : Reply) (b : Binding) (n from : ℕ) → NamesReply home limit from r → NamesIn r b n → n ≡ home (binding_number b)
-  named_so (Reply.Bound (bound.Live c server i g stores)) b n from so names = sym names.1 ∙ so.0 ∙ ap (λ z. home (binding_number z)) names.0
-  named_so (Reply.Bound (bound.Make c server g stores)) b n from so names = sym names.1 ∙ so ∙ ap (λ z. home (binding_number z)) names.0
-  named_so (Reply.Bound (bound.Write g stores)) b n from so names = absurd names
-  named_so (Reply.Bound (bound.Conflict holder m)) b n from so names = absurd names
-  named_so (Reply.Loaded r) b n from so names = absurd names
-  named_so (Reply.Activated r) b n from so names = absurd names
-  named_so (Reply.Noted r) b n from so names = absurd names
-  named_so (Reply.Invoked r) b n from so names = absurd names
-  named_so (Reply.Voted r) b n from so names = absurd names
-  named_so (Reply.Prepared r) b n from so names = absurd names
-  named_so (Reply.Confirmed r) b n from so names = absurd names
+  named_so : (x : ℕ) (r : Reply) (b : Binding) (n : ℕ) → NamesBind home reach x r → NamesIn r b n → n ≡ home (binding_number b)
+  named_so x (Reply.Bound (bound.Live c server i g stores)) b n so names = sym names.1 ∙ so.0 ∙ ap (λ z. home (binding_number z)) names.0
+  named_so x (Reply.Bound (bound.Make c server g stores)) b n so names = sym names.1 ∙ so ∙ ap (λ z. home (binding_number z)) names.0
+  named_so x (Reply.Bound (bound.Write g stores)) b n so names = absurd names
+  named_so x (Reply.Bound (bound.Conflict holder m)) b n so names = absurd names
+  named_so x (Reply.Loaded r) b n so names = absurd names
+  named_so x (Reply.Activated r) b n so names = absurd names
+  named_so x (Reply.Noted r) b n so names = absurd names
+  named_so x (Reply.Invoked r) b n so names = absurd names
+  named_so x (Reply.Voted r) b n so names = absurd names
+  named_so x (Reply.Prepared r) b n so names = absurd names
+  named_so x (Reply.Confirmed r) b n so names = absurd names
+
+  -- an answer that names a binding answers a Bind
+  unbound_so : {P : Type 0} (r : Reply) (b : Binding) (n : ℕ) → IsUnbound r → NamesIn r b n → P
+  unbound_so (Reply.Bound r) b n so names = absurd so
+  unbound_so (Reply.Loaded r) b n so names = absurd names
+  unbound_so (Reply.Activated r) b n so names = absurd names
+  unbound_so (Reply.Noted r) b n so names = absurd names
+  unbound_so (Reply.Invoked r) b n so names = absurd names
+  unbound_so (Reply.Voted r) b n so names = absurd names
+  unbound_so (Reply.Prepared r) b n so names = absurd names
+  unbound_so (Reply.Confirmed r) b n so names = absurd names
+
+  reply_so : (from : ℕ) (a : Ask) (r : Reply) (b : Binding) (n : ℕ) → NamesReply home reach from a r → NamesIn r b n → n ≡ home (binding_number b)
+  reply_so from (ask.Bind x include avoid) r b n so names = named_so x r b n so names
+  reply_so from (ask.Load x) r b n so names = unbound_so r b n so names
+  reply_so from (ask.Activate c st) r b n so names = unbound_so r b n so.1 names
+  reply_so from (ask.Record x c i g) r b n so names = unbound_so r b n so names
+  reply_so from (ask.Invoke x c i ends op) r b n so names = unbound_so r b n so names
+  reply_so from (ask.Vote i ties ends) r b n so names = unbound_so r b n so names
+  reply_so from (ask.Prepare states) r b n so names = unbound_so r b n so names
+  reply_so from (ask.Confirm grants ex inc) r b n so names = unbound_so r b n so names
 
 homes_of : (k : ℕ) (d : Disk) (t : Parts) (M : Seen) → LivesRun (up k d t M) → HasHomes k t (up k d t M)
 homes_of k d t M (gs, l) from m a r there is q s found now waits old b n keeps names same =
     let home = home_in gs in
-    let limit : Limits = λ j. inc_at (let S = up k d t M in S.nodes j) in
-    let f = l.lived home limit (is_home gs l.apart) limits in
+    let reach = reach_of (up k d t M) in
+    let f = l.lived home reach (is_home gs l.apart) (passes_of gs (up k d t M) l) in
     let mine = (f.nodes k (record { number = k; disk = d; live = Some t }) (λ i. cond (same_number k i) (Some (record { number = k; disk = d; live = Some t })) (M.nodes k)) t refl).0 in
-    let its = f.sent (record { from = from; to = k; message = m }) there in
-    let known = subst (IsKeptSo home limit) keeps (kept_so home limit s t.coord mine) in
-    known.0 ∙ ap home same ∙ sym (named_so home limit r b n from (its.answering a r is) names)
-  where
-    limits : IsLimit (λ j. inc_at (let S = up k d t M in S.nodes j)) (up k d t M)
-    limits j n is = least n.disk.inc (inc_at (let S = up k d t M in S.nodes j)) (sym (ap inc_at is))
-      where
-        least : (x y : ℕ) → x ≡ y → x ≤ y
-        least x y same = omega (arith, same)
+    let its = (f.sent (record { from = from; to = k; message = m }) there).answering a r is in
+    let known = subst (IsKeptSo home reach s.x) keeps (kept_so home reach s t.coord mine) in
+    known.0 ∙ ap home same ∙ sym (reply_so home reach from its.ask r b n its.so names)
 
 -- ---- all runs
 
-module _ (hd : Header) (P Q : Seen → Type 0) (one : Keeps hd P) (two : Keeps hd Q) where
-  abbrev Both : Seen → Type 0
-  Both M = P M × Q M
-
-  both : (e k : ℕ) (outs : List Effect) (v : Parts) (d : Disk) (M : Seen) → Walks P e k outs (Up P k v) d M → Walks Q e k outs (Up Q k v) d M → Walks Both e k outs (Up Both k v) d M
-  both e k outs v d M a b = walks_both P Q e k outs (Up P k v) (Up Q k v) d M a b
-
-  keeps_both : Keeps hd (λ M. P M × Q M)
-  keeps_both = record {
-    quiet = λ e bs M quiet p. (one.quiet e bs M quiet p.0, two.quiet e bs M quiet p.1);
-    stop = λ e k d live M p. (one.stop e k d live M p.0, two.stop e k d live M p.1);
-    message = λ e k d t v from m outs M p there meant is. both e k outs v d M (one.message e k d t v from m outs M p.0 there meant is) (two.message e k d t v from m outs M p.1 there meant is);
-    act = λ e k d t i M is none p. let did = acts i d.intents t.coord in both e k did.outs (with_coord t did.part) d M (one.act e k d t i M is none p.0) (two.act e k d t i M is none p.1);
-    begin = λ e k d t l how parent M new may none p. let did = begin_action l how parent (parent_of parent t.coord) t.coord in both e k did.outs (with_coord t did.part) d (given l (record { node = k; serial = is_serial_kind how }) M) (one.begin e k d t l how parent M new may none p.0) (two.begin e k d t l how parent M new may none p.1);
-    tick = λ e k d t M p. both e k (tick_outs (record { number = k; disk = d; live = Some t }) t) (with_coord t (again_all t.coord.doings t.coord).part) d M (one.tick e k d t M p.0) (two.tick e k d t M p.1);
-    restart = λ e k d M p. both e k (restart_outs hd k (d.inc + 1) d) (parts_in k (d.inc + 1) d) d M (one.restart e k d M p.0) (two.restart e k d M p.1);
-    first = (one.first, two.first);
-  }
+-- where nodes are good and naming's count fits
+pub calls_go : (hd : Header) (G : Seen → Type 0) → ((M : Seen) → G M → IsGood M) → ((k : ℕ) (d : Disk) (t : Parts) (M : Seen) → G (up k d t M) → CountFits t) → KeepsGiven hd G (λ M. LivesRun M × KnowsRun M)
+calls_go hd G good fits = both_given hd G LivesRun KnowsRun
+    (lives_given hd (λ M. G M × KnowsRun M) (λ M g. good M g.0) (λ M g. g.1) (λ k d t M g. fits k d t M g.0))
+    (calls_given hd (λ M. G M × LivesRun M) (record { reached = λ M g. reached_of M g.1; homes = λ k d t M g. homes_of k d t M g.1 }))
 
 pub with_calls : (hd : Header) (R : Seen → Type 0) → Keeps hd R → Grants R → Keeps hd (WithCalls R)
-with_calls hd R kept grants = calls_keep hd (λ M. (R M × IsGood M) × LivesRun M)
-    (lives_keep hd (λ M. R M × IsGood M) (keeps_both hd R IsGood kept (all_keep hd)) (λ M p. p.1) (λ k d t M p. grants.counts k d t M p.0))
-    (record { reached = λ M p. grants.reached M p.0.0; homes = λ k d t M p. homes_of k d t M p.1 })
+with_calls hd R kept grants = kept_both hd (λ M. R M × IsGood M) (λ M. LivesRun M × KnowsRun M) (kept_both hd R IsGood kept (keeps_given hd R IsGood (all_keep hd))) (calls_go hd (λ M. R M × IsGood M) (λ M g. g.1) (λ k d t M g. grants.counts k d t M g.0))
+
+-- as long as few bindings were made
+abbrev pub KnownWhileFew : Seen → Type 0
+KnownWhileFew M = (IsGood M × AreSaid M) × (HasFewBindings M.lines → LivesRun M × KnowsRun M)
+
+pub few_go : (hd : Header) → Keeps hd KnownWhileFew
+few_go hd = kept_both hd (λ M. IsGood M × AreSaid M) (λ M. HasFewBindings M.lines → LivesRun M × KnowsRun M)
+    (kept_both hd IsGood AreSaid (all_keep hd) (keeps_given hd IsGood AreSaid (counts_are_said hd)))
+    (while_given HasFewBindings few_before (λ M. LivesRun M × KnowsRun M) hd (λ M. IsGood M × AreSaid M)
+    (calls_go hd (λ M. (IsGood M × AreSaid M) × HasFewBindings M.lines) (λ M g. g.0.0) (λ k d t M g o its. few (bindings_made M.lines) o.count (g.0.1 k (record { number = k; disk = d; live = Some t }) (λ i. cond (same_number k i) (Some (record { number = k; disk = d; live = Some t })) (M.nodes k)) t o refl its) g.1)))
+  where
+    few : (n c : ℕ) → c ≤ n → n < 4294967295 → c + 1 < 4294967296
+    few n c le less = omega (arith, le, less)
+
+    below : (a b : ℕ) → a ≤ b → b < 4294967295 → a < 4294967295
+    below a b le less = omega (arith, le, less)
+
+    few_before : (lines more : List Line) → HasFewBindings (lines ++ more) → HasFewBindings lines
+    few_before lines more less = below (bindings_made lines) (bindings_made (lines ++ more)) (fewer lines more) less
 
 pub runs_vote : RunsVote
-runs_vote hd test kept grants es =
-    let h = runs_hold hd (WithCalls (λ M. test M ≡ true)) (with_calls hd (λ M. test M ≡ true) kept grants) es in
-    let k = h.holds in
-    record { sent = h.sent; stands = h.stands; holds = votes_in (see h.sent (run_all es (format hd))) k.1 }
+runs_vote hd es few =
+    let h = runs_hold hd KnownWhileFew (few_go hd) es in
+    let known = h.holds.1 few in
+    record { sent = h.sent; stands = h.stands; holds = votes_in (see h.sent (run_all es (format hd))) known.1 }

@@ -45,7 +45,7 @@ use Rattle.arj_run_law.proofs.Begins.{begin_good}
 use Rattle.arj_run_law.proofs.Handled.{act_good, counted_of, message_good, own_of_disk, stopped_good, tick_good, tops_of_disk}
 use Rattle.arj_run_law.proofs.Starts.{first_of, restart_good}
 use Rattle.arj_run_law.proofs.Walked.{other_number, same_number}
-use Rattle.arj_view_law.specs.Keeps.{DidKeeps, Keeps, is_act}
+use Rattle.arj_view_law.specs.Keeps.{DidKeeps, is_act}
 use Rattle.arj_view_law.specs.Seen.{In, Post, Seen, at, down, given, said, see, up}
 use Rattle.arj_view_law.specs.Walks.{Up, Walks, halted}
 use Rattle.arj_view_law.proofs.Together.{walks_both, walks_each, walks_to}
@@ -54,6 +54,7 @@ use Rattle.arj_call_law.specs.Coords.{IsOwn, IsUsed, KnowsCalls}
 use Rattle.arj_call_law.specs.Runs.{AreKnown, Grounds, HasHomes, AllVotesAreUsed, KnowsRun, Trees, VotesAreUsed}
 use Rattle.arj_call_law.specs.Servers.{AreFromCalls, IsPast, Since}
 use Rattle.arj_call_law.specs.Worlds.{AreKeyed, CallsReach, KnowsNode, KnowsWorld, vote_by}
+use Rattle.arj_call_law.proofs.Given.{KeepsGiven}
 use Rattle.arj_call_law.proofs.CoordInputs.{known_acked, known_acts, known_begins, known_heard}
 use Rattle.arj_call_law.proofs.CoordOuts.{acked_so, acts_so, again_so, heard_so, tolds_so}
 use Rattle.arj_call_law.proofs.CoordSends.{AllSo, asked_call}
@@ -414,13 +415,8 @@ module _ (acts_begun : List Action) (e k : ℕ) (outs : List Effect) (v : Parts)
   run_walk good each = walks_to (λ N. IsGoodOf acts_begun N × AreKnown acts_begun N) KnowsRun e k outs (λ c N. Up (IsGoodOf acts_begun) k v c N × Up (AreKnown acts_begun) k v c N) (Up KnowsRun k v) d M (λ N h. (acts_begun, h.0, h.1)) (λ c N h. (acts_begun, h.0, h.1))
       (walks_both (IsGoodOf acts_begun) (AreKnown acts_begun) e k outs (Up (IsGoodOf acts_begun) k v) (Up (AreKnown acts_begun) k v) d M good (walks_each {A = Trees acts_begun} (λ p N. KnowsWorld p.0 N) e k outs (λ p. Up (KnowsWorld p.0) k v) d M each))
 
-module _ (hd : Header) (R : Seen → Type 0) (kept : Keeps hd R) (grounds : Grounds R) where
-  abbrev With : Seen → Type 0
-  With M = R M × KnowsRun M
-
-  both_walk : (e k : ℕ) (outs : List Effect) (v : Parts) (d : Disk) (M : Seen) → Walks R e k outs (Up R k v) d M → Walks KnowsRun e k outs (Up KnowsRun k v) d M → Walks With e k outs (Up With k v) d M
-  both_walk e k outs v d M one two = walks_both R KnowsRun e k outs (Up R k v) (Up KnowsRun k v) d M one two
-
+-- where calls name what their servers reached, and bindings have one server
+module _ (hd : Header) (G : Seen → Type 0) (grounds : Grounds G) where
   quietly : (paths : Paths) (e : ℕ) (bs : List Body) (M : Seen) → KnowsWorld paths M → KnowsWorld paths (said e bs M)
   quietly paths e bs M w = record { none = w.none; one = w.one; senders = w.senders; votes = w.votes; nodes = w.nodes }
 
@@ -430,21 +426,20 @@ module _ (hd : Header) (R : Seen → Type 0) (kept : Keeps hd R) (grounds : Grou
       least : (n : ℕ) → n ≤ n
       least n = omega arith
 
-  pub calls_keep : Keeps hd (λ M. R M × KnowsRun M)
-  calls_keep = record {
-    quiet = λ e bs M quiet p. let h = p.1 in (kept.quiet e bs M quiet p.0, (h.0, h.1, λ q. quietly q.0 e bs M (h.2 q)));
-    stop = λ e k d live M p. let h = p.1 in (kept.stop e k d live M p.0, (h.0, stopped_good k d live M (h.0, h.1) e, λ q. stop_known h.0 q.0 e k d live M (h.2 q)));
-    message = λ e k d t v from m outs M p there meant is. let h = p.1 in both_walk e k outs v d M (kept.message e k d t v from m outs M p.0 there meant is) (run_walk h.0 e k outs v d M (message_good e k d t M (h.0, h.1) v from m outs there is) (λ q. message_walk h.0 q.0 q.1 q.2 e k d t M h.1 (h.2 q) from m there (grounds.reached (up k d t M) p.0) (grounds.homes k d t M p.0) v outs is));
-    act = λ e k d t i M is none p. let h = p.1 in let did = acts i d.intents t.coord in both_walk e k did.outs (with_coord t did.part) d M (kept.act e k d t i M is none p.0) (run_walk h.0 e k did.outs (with_coord t did.part) d M (act_good e k d t M (h.0, h.1) hd i is none) (λ q. act_walk h.0 q.0 q.1 q.2 e k d t M h.1 (h.2 q) hd i is none));
-    begin = λ e k d t l how parent M new may none p.
-        let h = p.1 in
+  pub calls_given : KeepsGiven hd G KnowsRun
+  calls_given = record {
+    quiet = λ e bs M quiet g h. (h.0, h.1, λ q. quietly q.0 e bs M (h.2 q));
+    stop = λ e k d live M g h. (h.0, stopped_good k d live M (h.0, h.1) e, λ q. stop_known h.0 q.0 e k d live M (h.2 q));
+    message = λ e k d t v from m outs M g h there meant is. run_walk h.0 e k outs v d M (message_good e k d t M (h.0, h.1) v from m outs there is) (λ q. message_walk h.0 q.0 q.1 q.2 e k d t M h.1 (h.2 q) from m there (grounds.reached (up k d t M) g) (grounds.homes k d t M g) v outs is);
+    act = λ e k d t i M is none g h. let did = acts i d.intents t.coord in run_walk h.0 e k did.outs (with_coord t did.part) d M (act_good e k d t M (h.0, h.1) hd i is none) (λ q. act_walk h.0 q.0 q.1 q.2 e k d t M h.1 (h.2 q) hd i is none);
+    begin = λ e k d t l how parent M new may none g h.
         let did = begin_action l how parent (parent_of parent t.coord) t.coord in
         let a : Action = record { path = path_below how (parent_of parent t.coord) (next_uid t.coord.tree); kind = how } in
         let N = given l (record { node = k; serial = is_serial_kind how }) M in
-        both_walk e k did.outs (with_coord t did.part) d N (kept.begin e k d t l how parent M new may none p.0) (run_walk (a ∷ h.0) e k did.outs (with_coord t did.part) d N (begin_good e k d t l how parent M new may none (h.0, h.1)) (λ q. let less = agree_less a h.0 q.0 q.2 in begin_walk h.0 q.0 q.1 less e k d t M h.1 (h.2 (q.0, q.1, less)) l how parent (record { node = k; serial = is_serial_kind how })));
-    tick = λ e k d t M p. let h = p.1 in let outs = tick_outs (record { number = k; disk = d; live = Some t }) t in let v = with_coord t (again_all t.coord.doings t.coord).part in both_walk e k outs v d M (kept.tick e k d t M p.0) (run_walk h.0 e k outs v d M (tick_good e k d t M (h.0, h.1)) (λ q. tick_walk h.0 q.0 q.1 q.2 e k d t M h.1 (h.2 q)));
-    restart = λ e k d M p. let h = p.1 in let outs = restart_outs hd k (d.inc + 1) d in let v = parts_in k (d.inc + 1) d in both_walk e k outs v d M (kept.restart e k d M p.0) (run_walk h.0 e k outs v d M (restart_good hd e k d M (h.0, h.1)) (λ q. restart_walk h.0 q.0 q.1 q.2 hd e k d M h.1 (h.2 q)));
-    first = (kept.first, ([], first_of hd, λ q. first_known hd q.0));
+        run_walk (a ∷ h.0) e k did.outs (with_coord t did.part) d N (begin_good e k d t l how parent M new may none (h.0, h.1)) (λ q. let less = agree_less a h.0 q.0 q.2 in begin_walk h.0 q.0 q.1 less e k d t M h.1 (h.2 (q.0, q.1, less)) l how parent (record { node = k; serial = is_serial_kind how }));
+    tick = λ e k d t M g h. let outs = tick_outs (record { number = k; disk = d; live = Some t }) t in let v = with_coord t (again_all t.coord.doings t.coord).part in run_walk h.0 e k outs v d M (tick_good e k d t M (h.0, h.1)) (λ q. tick_walk h.0 q.0 q.1 q.2 e k d t M h.1 (h.2 q));
+    restart = λ e k d M g h. let outs = restart_outs hd k (d.inc + 1) d in let v = parts_in k (d.inc + 1) d in run_walk h.0 e k outs v d M (restart_good hd e k d M (h.0, h.1)) (λ q. restart_walk h.0 q.0 q.1 q.2 hd e k d M h.1 (h.2 q));
+    first = ([], first_of hd, λ q. first_known hd q.0);
   }
 
 -- what was voted fits the plan that waits

@@ -6,3 +6,4 @@ pub mod Homes
 pub mod Runs
 pub mod Voting
 pub mod Lived
+pub mod Bindings

@@ -45,14 +45,13 @@ pub record Grounds (R : Seen → Type 0) : Type 0 where
   pub reached : (M : Seen) → R M → CallsReach M
   pub homes : (k : ℕ) (d : Disk) (t : Parts) (M : Seen) → R (up k d t M) → HasHomes k t (up k d t M)
 
--- The relation gives the first, and that naming's count of bindings has 32 bits, by which a binding has one server.
+-- The relation gives that naming's count of bindings has 32 bits, by which a binding has one server.
 pub record Grants (R : Seen → Type 0) : Type 0 where
-  pub reached : (M : Seen) → R M → CallsReach M
   pub counts : (k : ℕ) (d : Disk) (t : Parts) (M : Seen) → R (up k d t M) → CountFits t
 
 -- with what is known of nodes, of servers and of calls
 abbrev pub WithCalls : (Seen → Type 0) → Seen → Type 0
-WithCalls R M = ((R M × IsGood M) × LivesRun M) × KnowsRun M
+WithCalls R M = (R M × IsGood M) × (LivesRun M × KnowsRun M)
 
 -- A vote that was sent to a node has states of objects only that the plan there uses at the server which votes.
 abbrev pub VotesAreUsed : ℕ → Parts → Seen → Type 0

@@ -270,7 +270,7 @@ one_act (x ∷ xs) apart a b (inr i) (inr j) same = one_act xs apart.3 a b i j s
 
 -- with what is known of calls
 idle_with : (R : Seen → Type 0) (Idle : List Line → Uid → Type 0) → KnowsIdle R Idle → KnowsIdle (WithCalls R) Idle
-idle_with R Idle idles = record { stays = λ M h. idles.stays M h.0.0.0; alone = λ k d t M h. idles.alone k d t M h.0.0.0 }
+idle_with R Idle idles = record { stays = λ M h. idles.stays M h.0.0; alone = λ k d t M h. idles.alone k d t M h.0.0 }
 
 pub runs_are_journalled : RunsAreJournalled
 runs_are_journalled hd x has_it test kept gives idle idles es =

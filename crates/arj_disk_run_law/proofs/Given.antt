@@ -16,6 +16,6 @@ listed s (t ∷ ts) (inr i) = inr (listed s ts i)
 
 pub gives_votes : (R : Seen → Type 0) → Gives R → GivesVotes (WithCalls R)
 gives_votes R gives = record {
-  votes = λ acts k d t M h good from m a states sent is q p left found now req on s i. let u = votes_used k d t M h.1 from m a states sent is q (commit.Voting p left) found now s (listed s states i) in record { used = u.0; found = u.1; server = u.2 };
-  booked = λ x tops k d t M from m W h. gives.booked x tops k d t M from m W h.0.0.0;
+  votes = λ acts k d t M h good from m a states sent is q p left found now req on s i. let u = votes_used k d t M h.1.1 from m a states sent is q (commit.Voting p left) found now s (listed s states i) in record { used = u.0; found = u.1; server = u.2 };
+  booked = λ x tops k d t M from m W h. gives.booked x tops k d t M from m W h.0.0;
 }

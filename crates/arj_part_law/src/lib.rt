@@ -6,7 +6,7 @@
 //! `calls_keep_their_locks` for a server; `coordinators_stay_good` for a coordinator; `begun_actions_make_a_tree` for the
 //! actions that were begun. `nodes_stay_good` puts them together: whatever message fits the actions that were begun, a node
 //! stays good and sends what fits. `coordinators_say_what_is_true` and `messages_say_how_actions_ended` are about what messages
-//! say of ends, for ever, `naming_names_incarnations_on_disk` and its neighbours about incarnations. What a law takes as known
+//! say of ends, for ever, `naming_names_copies_that_were_reached` and its neighbours about the copies of servers that are named. What a law takes as known
 //! of the tree of actions or of what a coordinator sends is a premise, with a comment that says who shows it; of servers and
 //! coordinators `arj_run_law` shows it in every run.
 #![tactic(auto)]
@@ -42,8 +42,8 @@ pub use frames::{messages_leave_other_entries, messages_leave_other_states};
 pub use grants::{bindings_rise, grants_of_naming_stand};
 pub use incs::incarnations_are_on_disk;
 pub use lives::{
-    calls_name_incarnations_on_disk, coordinators_name_incarnations_on_disk,
-    naming_names_incarnations_on_disk,
+    calls_name_copies_that_were_reached, coordinators_name_copies_that_were_reached,
+    naming_names_copies_that_were_reached,
 };
 pub use messages::{coordinators_send_what_fits, what_was_decided_stands};
 pub use naming::naming_stays_good;

@@ -1,8 +1,8 @@
 use Rattle.arj_part_law.proofs.LivesNamed.{bind_so, note_so, confirm_so, told_so, hello_so, recovered_so, hello_drops}
-use Rattle.arj_part_law.proofs.lives.naming_names_incarnations_on_disk.Goals as goal
+use Rattle.arj_part_law.proofs.lives.naming_names_copies_that_were_reached.Goals as goal
 
 pub returns-clause-bind : goal.returns-clause-bind
-returns-clause-bind c = λ home limit p x include avoid d n new so. bind_so home limit p x include avoid d n (λ o is made. new o is) so
+returns-clause-bind c = λ home reach p x include avoid d n new so. bind_so home reach p x include avoid d n (λ o is made. new o is) so
 
 pub returns-clause-note : goal.returns-clause-note
 returns-clause-note c = note_so

@@ -1,5 +1,5 @@
 use Rattle.arj_part_law.proofs.LivesKnown.{start_so, answered_so, given_up_so, asks_so}
-use Rattle.arj_part_law.proofs.lives.calls_name_incarnations_on_disk.Goals as goal
+use Rattle.arj_part_law.proofs.lives.calls_name_copies_that_were_reached.Goals as goal
 
 pub returns-clause-starts : goal.returns-clause-starts
 returns-clause-starts c = start_so

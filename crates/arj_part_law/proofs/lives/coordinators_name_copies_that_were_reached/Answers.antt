@@ -1,5 +1,5 @@
 use Rattle.arj_part_law.proofs.LivesCoords.{know_acts, know_heard, know_acked, know_again, know_new}
-use Rattle.arj_part_law.proofs.lives.coordinators_name_incarnations_on_disk.Goals as goal
+use Rattle.arj_part_law.proofs.lives.coordinators_name_copies_that_were_reached.Goals as goal
 
 pub returns-clause-inputs : goal.returns-clause-inputs
 returns-clause-inputs c = know_acts
