@@ -1,5 +1,5 @@
 -- What is known of servers, walked through a node's effects.
-use Rattle.std.proofs.Common.{◌≡◌, ◌<◌, ◌==◌, ◌+◌, ◌*◌, ℕ, List, [], ◌∷◌, Bool, true, false, cond, Option, Some, None, refl, sym, ◌∙◌, ap, subst, inl, inr, ⊎_elim, eqb-true}
+use Rattle.std.proofs.Common.{◌≡◌, ◌<◌, ◌==◌, ◌+◌, ◌*◌, ℕ, List, [], ◌∷◌, Bool, true, false, cond, Option, Some, None, refl, sym, ◌∙◌, ap, subst, inr, ⊎_elim, eqb-true}
 use Rattle.std.specs.Prelude.{⊤}
 use Rattle.std.specs.List.{AllByRecursion}
 use Rattle.arj_protocol.specs.Words.{Message}
@@ -15,7 +15,7 @@ use Rattle.arj_part_law.proofs.SaidIncs.{stopped_inc, worked_inc}
 use Rattle.arj_run_law.proofs.Walked.{other_number, same_number}
 use Rattle.arj_view_law.specs.Seen.{In, Post, Seen, Within, at, posted, said, up}
 use Rattle.arj_view_law.specs.Walks.{Up, Walks}
-use Rattle.arj_call_law.specs.Lived.{AreApart, AreBelow, Gifts, HasGiven, HasServers, IsHome, LivesWith, NamesPost, Passes, PassesAll}
+use Rattle.arj_call_law.specs.Lived.{AreApart, AreBelow, Gifts, HasGiven, HasServers, IsHome, LivesWith, NamesPost, Passes}
 use Rattle.arj_call_law.proofs.ServerCalls.{some_is}
 
 -- the test passes for what the other nodes reached

@@ -1,20 +1,19 @@
 -- Naming's count of bindings is no more than the journal's lines of new bindings, in each run.
-use Rattle.std.proofs.Common.{◌≡◌, ◌≤◌, ◌==◌, ◌+◌, ℕ, List, [], ◌∷◌, ◌++◌, Bool, true, false, cond, Option, Some, None, refl, sym, ◌∙◌, ap, subst, arith, eqb-true}
+use Rattle.std.proofs.Common.{◌≡◌, ◌≤◌, ◌==◌, ◌+◌, ℕ, List, [], ◌∷◌, ◌++◌, Bool, true, false, cond, Option, Some, None, refl, sym, ◌∙◌, ap, subst, arith}
 use Rattle.arj_protocol.specs.Words.{Body, Header, Line, Message}
 use Rattle.arj_protocol.specs.Words.body
 use Rattle.arj_protocol.specs.Asking.{again_all, begin_action}
 use Rattle.arj_protocol.specs.Confirm.{recovered_naming}
-use Rattle.arj_protocol.specs.Coord.{Coord}
 use Rattle.arj_protocol.specs.Effect.{Disk, Do, Effect, Say, Send, stopped, worked}
 use Rattle.arj_protocol.specs.Follow.{tick_outs}
 use Rattle.arj_protocol.specs.Naming.{Naming}
 use Rattle.arj_protocol.specs.Node.{Parts, Took, handle, with_coord}
 use Rattle.arj_protocol.specs.Step.{Node, acts, first_disk, naming_at, parent_of, parts_in, restart_outs}
-use Rattle.arj_protocol.specs.World.{format, is_serial_kind, numbered}
+use Rattle.arj_protocol.specs.World.{is_serial_kind, numbered}
 use Rattle.arj_run_law.proofs.Starts.{first_at}
 use Rattle.arj_run_law.proofs.Walked.{other_number, same_number}
 use Rattle.arj_view_law.specs.Keeps.{Keeps}
-use Rattle.arj_view_law.specs.Seen.{Seen, at, down, given, posted, said, see, up}
+use Rattle.arj_view_law.specs.Seen.{Seen, at, down, given, posted, said, up}
 use Rattle.arj_view_law.specs.Walks.{Up, Walks, halted}
 use Rattle.arj_call_law.specs.Bindings.{bindings_made, bound_by}
 use Rattle.arj_call_law.proofs.LivedCounts.{GrowsBy, made_in, message_grows}
