@@ -19,8 +19,8 @@ pub record GivesVotes (R : Seen → Type 0) : Type 0 where
   pub votes : (acts : List Action) (k : ℕ) (d : Disk) (t : Parts) (M : Seen) → R (up k d t M) → IsGoodOf acts (up k d t M) → VotesFit k t M
   pub booked : (x : ℕ) (tops : Kinds) (k : ℕ) (d : Disk) (t : Parts) (M : Seen) (from : ℕ) (m : Message) (W : World) → R (up k d t M) → seen.In (record { from = from; to = k; message = m }) M.sent → SeesDisks x tops W (up k d t M) → ConfirmsAreBooked d t W (asks m)
 
--- The relation gives that calls name bindings which their servers had, and that naming's count has 32 bits (`arj_call_law` has what
--- servers vote from that); and that a Confirm which naming checks anew is booked in each object's machine.
+-- The relation gives that naming's count of bindings has 32 bits (`arj_call_law` has what servers vote from that); and that a Confirm
+-- which naming checks anew is booked in each object's machine.
 pub record Gives (R : Seen → Type 0) : Type 0 where
   pub calls : Grants R
   pub booked : (x : ℕ) (tops : Kinds) (k : ℕ) (d : Disk) (t : Parts) (M : Seen) (from : ℕ) (m : Message) (W : World) → R (up k d t M) → seen.In (record { from = from; to = k; message = m }) M.sent → SeesDisks x tops W (up k d t M) → ConfirmsAreBooked d t W (asks m)
