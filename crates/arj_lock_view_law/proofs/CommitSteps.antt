@@ -23,13 +23,14 @@ use Rattle.arj_lock_law.proofs.Rows.{pass_cases}
 use Rattle.arj_part_law.specs.Copies.{IsChain, IsTree, Paths}
 use Rattle.arj_lock_view_law.specs.Acts.{Acts}
 use Rattle.arj_lock_view_law.specs.Commits.{FoldingsAreSeen, IsAlone, IsCommitSeen, IsCommitting, IsRightBelow, ReadingsAreSeen, RetainingsAreSeen, SettlingsAreSeen, value_in}
-use Rattle.arj_lock_view_law.specs.Copies.{AreHeld, Codes, IsOver, OnlyServer, SeesCopy, SeesOvers}
+use Rattle.arj_lock_view_law.specs.Copies.{AreHeld, Codes, IsOver, OnlyEnds, SeesCopy, SeesOvers}
 use Rattle.arj_lock_view_law.specs.Going.{Goes}
 use Rattle.arj_lock_view_law.specs.Rows.{SeesRows, held_in}
-use Rattle.arj_lock_view_law.proofs.CopySteps.{put_seen, server_else}
+use Rattle.arj_lock_view_law.proofs.CopySteps.{put_seen}
+use Rattle.arj_lock_view_law.proofs.LeftSteps.{ends_both, ends_only, left_handed, left_kept}
 use Rattle.arj_lock_view_law.proofs.LogSteps.{all_handed, all_kept, folded_here, held_for, held_seen, lowest_over, none_undone, others_handed, over_deep, own_undone}
 use Rattle.arj_lock_view_law.proofs.PassSteps.{gone_seen, others_keep, passed_seen}
-use Rattle.arj_lock_view_law.proofs.RunSteps.{goes_then, goes_to, only_both}
+use Rattle.arj_lock_view_law.proofs.RunSteps.{goes_then, goes_to}
 use Rattle.arj_lock_view_law.proofs.UndoSteps.{drop_goes, keeps, undone_seen, without}
 
 -- a path with one before its last Uid is one longer than its front
@@ -68,11 +69,11 @@ module _ (act : Acts) (code : Codes) (paths : Paths) (n x : ℕ) (u : Uid) (c : 
     abbrev settled_server : Server
     settled_server = record v { rows = machine.pass v.rows (Root unit) number; base = held_value (Sub (Root unit) number) v.base v.log; log = filter (keeps (Sub (Root unit) number)) v.log }
 
-    settles : Goes S (λ T. (T.server n ≡ settled_server) × OnlyServer n S T)
+    settles : Goes S (λ T. (T.server n ≡ settled_server) × OnlyEnds n S T)
     settles = record {
       state = next (PassTop n unit number) S;
       run = step (PassTop n unit number) (ap (λ (a : Act). (S.action a).stage) (sym below) ∙ committed, subst (IsFolded S v.log) below (folded_here act paths x u c ends code S v.log sees.overs)) stay;
-      holds = (at_here S.server n settled_server, record { rest = refl; others = λ k other. server_else S n k settled_server other; sent = λ m i. i });
+      holds = (at_here S.server n settled_server, ends_only n S settled_server (record { incarnation = refl; voted = refl; request = refl }) (left_kept (keeps (Sub (Root unit) number)) v.log));
     }
 
     left : SeesOvers act code (filter (λ (o : Over). not (is_of u o)) c.stack) settled_server.log
@@ -165,14 +166,14 @@ module _ (act : Acts) (code : Codes) (paths : Paths) (n x : ℕ) (u : Uid) (c : 
             let i = sees.rows d in let j = others_keep act ends.one (object x) u c.rows d other c.rows in omega (arith, i, j)))
             b is
 
-    drained : (T : State) → T.server n ≡ w → OnlyServer n S T → Guard (DropRows n a) T
+    drained : (T : State) → T.server n ≡ w → OnlyEnds n S T → Guard (DropRows n a) T
     drained T is only =
         inr (inl (ap (λ (s : State). (s.action a).stage) only.rest ∙ alone.over, (λ e i above. absurd (let k = none_left e (subst (λ (r : Server). In e r.log) is i) in cc (sym above ∙ k)))))
 
     settlings_go : IsCommitSeen act code n x u c S
     settlings_go = goes_then (settles alone.unit alone.number alone.below alone.committed) (λ T g. goes_to (drop_goes n a T (drained T g.0 g.1)) (λ V h. (
       subst (SeesCopy act code x (end_copy u ending.Commit c)) (sym (h.0 ∙ ap (without a) g.0)) (top_seen alone.unit alone.number alone.below alone.committed (without a w) refl refl stays_left rows_left),
-      only_both g.1 h.1,
+      ends_both g.1 h.1,
     )))
 
   -- ---- the commit of a nested action
@@ -286,7 +287,7 @@ module _ (act : Acts) (code : Codes) (paths : Paths) (n x : ℕ) (u : Uid) (c : 
       run = step (PassRow n (act h) j) (action, ap (λ (b : Act). (S.action b).stage) (sym under.below) ∙ under.committed) stay;
       holds = (
         subst (SeesCopy act code x (end_copy u ending.Commit c)) (sym (at_here S.server n passed_server)) copy_after,
-        record { rest = refl; others = λ k other. server_else S n k passed_server other; sent = λ m i. i },
+        ends_only n S passed_server (record { incarnation = refl; voted = refl; request = refl }) (left_handed (act h) j v.log),
       );
     }
 

@@ -23,8 +23,8 @@ use Rattle.arj_lock_view_law.specs.Copies.{Codes, SeesCopy}
 use Rattle.arj_lock_view_law.specs.Going.{Goes}
 use Rattle.arj_lock_view_law.specs.Servers.{IsTiedToVote, OtherVotesAreGiven, SeesObject, SeesServer, ShowsVoted, VotesAreGiven, Wants, last_of}
 use Rattle.arj_lock_view_law.proofs.BindSteps.{other_act}
+use Rattle.arj_lock_view_law.proofs.LeftSteps.{shows_later}
 use Rattle.arj_lock_view_law.proofs.RunSteps.{goes_to}
-use Rattle.arj_lock_view_law.proofs.ServerSteps.{shows_later}
 use Rattle.arj_lock_view_law.proofs.VoteSteps.{votes_are_seen}
 
 -- who isn't on the longer list isn't on the list, nor who was put on it

@@ -27,20 +27,11 @@ use Rattle.arj_lock_view_law.specs.Copies.{Codes, IsNew, KeepsServer, OnlyServer
 use Rattle.arj_lock_view_law.specs.Going.{Goes, IsServedBy}
 use Rattle.arj_lock_view_law.specs.Servers.{CallsAreAnswered, CopiesAreTaken, IsAsked, OtherCallsAreAnswered, OtherCopiesAreTaken, SeesObject, SeesServer, ServersStart, ShowsActivated, ShowsIfInvoked, ShowsInvoked, Wanted, Wants, last_of, wanted_by}
 use Rattle.arj_lock_view_law.proofs.CopySteps.{activations_are_seen, operations_are_seen, refusals_are_seen, server_else}
+use Rattle.arj_lock_view_law.proofs.LeftSteps.{object_sent, shows_later}
 use Rattle.arj_lock_view_law.proofs.RunSteps.{goes_to}
 
 only_itself : (n : ℕ) (S : State) → OnlyServer n S S
 only_itself n S = record { rest = refl; others = λ k other. refl; sent = λ m i. i }
-
--- what an answer shows it shows for ever
-pub shows_later : (act : Acts) (code : Codes) (u : Uid) (number : ℕ) (w : Wanted) (S T : State) → ((m : machine.Message) → In m S.net → In m T.net) → (a : InvokedReply) → ShowsInvoked act code u number w S a → ShowsInvoked act code u number w T a
-shows_later act code u number w S T sent (invoked.Answered a) h = (h.0, h.1, (let p = h.2 in record { answer = p.answer; sent = sent (machine.Invoked p.answer) p.sent; of = p.of; sees = p.sees; gives = p.gives }))
-shows_later act code u number w S T sent (invoked.Conflict k m) h = sent (machine.Refused (wanted_by act u number w)) h
-shows_later act code u number w S T sent (invoked.Changed d) h = sent (machine.Changed (binding_number w.binding)) h
-
-object_sent : (act : Acts) (code : Codes) (x i : ℕ) (o : Option Copy) (m : machine.Server) (S T : State) → ((z : machine.Message) → In z S.net → In z T.net) → SeesObject act code x i o m S → SeesObject act code x i o m T
-object_sent act code x i None m S T sent h = h
-object_sent act code x i (Some c) m S T sent h = (h.0, sent (machine.Activated (binding_number c.binding) i) h.1)
 
 -- ---- it starts
 

@@ -12,9 +12,9 @@ use Rattle.arj_lock_law.specs.State.{Entry, Server, State}
 use Rattle.arj_lock_law.specs.Steps.{DropRows}
 use Rattle.arj_lock_law.proofs.Paths.{at_here}
 use Rattle.arj_lock_view_law.specs.Acts.{Acts}
-use Rattle.arj_lock_view_law.specs.Copies.{AreHeld, Codes, IsOver, OnlyServer, SeesCopy, SeesOvers, UndoingsAreSeen}
+use Rattle.arj_lock_view_law.specs.Copies.{AreHeld, Codes, IsOver, OnlyEnds, SeesCopy, SeesOvers, UndoingsAreSeen}
 use Rattle.arj_lock_view_law.specs.Going.{Goes}
-use Rattle.arj_lock_view_law.proofs.CopySteps.{server_else}
+use Rattle.arj_lock_view_law.proofs.LeftSteps.{ends_only, left_kept}
 use Rattle.arj_lock_view_law.proofs.RunSteps.{goes_to}
 use Rattle.arj_lock_view_law.proofs.RowSteps.{AreAlong, dropped_seen}
 
@@ -55,11 +55,11 @@ abbrev pub without : Act → Server → Server
 without a v = record v { rows = machine.drop_below v.rows a; log = filter (keeps a) v.log }
 
 -- the machine drops it, where it may
-pub drop_goes : (n : ℕ) (a : Act) (S : State) → Guard (DropRows n a) S → Goes S (λ T. (T.server n ≡ without a (S.server n)) × OnlyServer n S T)
+pub drop_goes : (n : ℕ) (a : Act) (S : State) → Guard (DropRows n a) S → Goes S (λ T. (T.server n ≡ without a (S.server n)) × OnlyEnds n S T)
 drop_goes n a S may = record {
   state = next (DropRows n a) S;
   run = step (DropRows n a) may stay;
-  holds = (at_here S.server n (without a (S.server n)), record { rest = refl; others = λ k other. server_else S n k (without a (S.server n)) other; sent = λ m i. i });
+  holds = (at_here S.server n (without a (S.server n)), ends_only n S (without a (S.server n)) (record { incarnation = refl; voted = refl; request = refl }) (left_kept (keeps a) (let v = S.server n in v.log)));
 }
 
 pub undoings_are_seen : UndoingsAreSeen

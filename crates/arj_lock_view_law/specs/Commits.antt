@@ -11,12 +11,12 @@ use Rattle.arj_lock_law.specs.State.{Ballot, State}
 use Rattle.arj_lock_law.specs.Steps.{DropRows}
 use Rattle.arj_part_law.specs.Copies.{IsGoodCopy, IsLowest, IsTree, Paths}
 use Rattle.arj_lock_view_law.specs.Acts.{Acts, AreOne}
-use Rattle.arj_lock_view_law.specs.Copies.{Codes, IsTold, OnlyServer, SeesCopy}
+use Rattle.arj_lock_view_law.specs.Copies.{Codes, IsTold, OnlyEnds, SeesCopy}
 use Rattle.arj_lock_view_law.specs.Going.{Goes}
 
 -- the copy is seen after this commit, and nothing else changed
 abbrev pub IsCommitSeen : Acts → Codes → ℕ → ℕ → Uid → Copy → State → Type 0
-IsCommitSeen act code n x u c S = Goes S (λ T. SeesCopy act code x (end_copy u ending.Commit c) (T.server n) × OnlyServer n S T)
+IsCommitSeen act code n x u c S = Goes S (λ T. SeesCopy act code x (end_copy u ending.Commit c) (T.server n) × OnlyEnds n S T)
 
 -- What is known of a copy where an action commits: it is good, and no descendant of the action has a lock.
 pub record IsCommitting (act : Acts) (paths : Paths) (x : ℕ) (u : Uid) (c : Copy) : Type 0 where

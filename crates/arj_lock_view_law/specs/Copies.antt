@@ -57,6 +57,17 @@ pub record KeepsServer (requests : Act → ℕ) (v w : machine.Server) : Type 0 
   pub voted : w.voted ≡ v.voted
   pub request : w.request ≡ requests
 
+-- each write of the second log stands in the first one, held by the same action or by one below it
+abbrev pub AreLeft : List Entry → List Entry → Type 0
+AreLeft before after = (e : Entry) → In e after → (f : Entry) × In f before × (e.by ≡ f.by) × ((a : Act) → on e.holder a ≡ true → on f.holder a ≡ true)
+
+-- Only rows and writes at the server of this node changed: rows passed or went, and no write is new.
+pub record OnlyEnds (n : ℕ) (S T : State) : Type 0 where
+  pub rest : T ≡ record S { server = T.server }
+  pub others : (k : ℕ) → k ≢ n → T.server k ≡ S.server k
+  pub keeps : KeepsServer (let v = S.server n in v.request) (S.server n) (T.server n)
+  pub left : AreLeft (let v = S.server n in v.log) (let w = T.server n in w.log)
+
 -- a request of the action at this copy
 abbrev pub request_for : Acts → Path → ℕ → Op → Copy → Request
 request_for act p number o c = record { act = act (actor p); number = number; binding = binding_number c.binding; write = writes o }
@@ -102,4 +113,4 @@ pub record IsTold (act : Acts) (u : Uid) (c : Copy) : Type 0 where
 -- and their rows go.
 abbrev pub UndoingsAreSeen : Type 0
 UndoingsAreSeen = (act : Acts) (code : Codes) (n x : ℕ) (u : Uid) (c : Copy) (S : State) → IsTold act u c → Guard (DropRows n (act u)) S
-    → SeesCopy act code x c (S.server n) → Goes S (λ T. SeesCopy act code x (end_copy u ending.Abort c) (T.server n) × OnlyServer n S T)
+    → SeesCopy act code x c (S.server n) → Goes S (λ T. SeesCopy act code x (end_copy u ending.Abort c) (T.server n) × OnlyEnds n S T)

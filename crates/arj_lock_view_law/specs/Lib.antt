@@ -15,3 +15,4 @@ pub mod Asks
 pub mod Begins
 pub mod Servers
 pub mod Stops
+pub mod Telling

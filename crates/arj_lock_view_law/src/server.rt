@@ -1,6 +1,7 @@
 // A server, as the lock machine of one object has it.
 ghost use Rattle.arj_lock_view_law.specs.Commits.{FoldingsAreSeen, ReadingsAreSeen, RetainingsAreSeen, SettlingsAreSeen, VotesAreSeen};
 ghost use Rattle.arj_lock_view_law.specs.Copies.{ActivationsAreSeen, OperationsAreSeen, RefusalsAreSeen, UndoingsAreSeen};
+ghost use Rattle.arj_lock_view_law.specs.Telling.{EndsAreTaken};
 ghost use Rattle.arj_lock_view_law.specs.Servers.{CallsAreAnswered, CopiesAreTaken, OtherCallsAreAnswered, OtherCopiesAreTaken, OtherVotesAreGiven, ServersStart, VotesAreGiven};
 
 /// What a server does with the copy of an object is allowed in the machine, and leaves the copy seen: it takes a copy, applies a
@@ -38,4 +39,5 @@ pub fn servers_are_seen()
     ensures other_calls { OtherCallsAreAnswered }
     ensures votes { VotesAreGiven }
     ensures other_votes { OtherVotesAreGiven }
+    ensures ends { EndsAreTaken }
 {}

@@ -1,3 +1,4 @@
+use Rattle.arj_lock_view_law.proofs.ToldSteps.{ends_are_taken}
 use Rattle.arj_lock_view_law.proofs.GivenSteps.{other_votes_are_given, votes_are_given}
 use Rattle.arj_lock_view_law.proofs.ServerSteps.{calls_are_answered, copies_are_taken, other_calls_are_answered, other_copies_are_taken, servers_start}
 use Rattle.arj_lock_view_law.proofs.server.servers_are_seen.Goals as goal
@@ -22,3 +23,6 @@ returns-clause-votes c = votes_are_given
 
 pub returns-clause-other_votes : goal.returns-clause-other_votes
 returns-clause-other_votes c = other_votes_are_given
+
+pub returns-clause-ends : goal.returns-clause-ends
+returns-clause-ends c = ends_are_taken

@@ -1,0 +1,104 @@
+-- What stays where ends are applied at a server.
+use Rattle.std.proofs.Common.{◌≡◌, ◌≢◌, ◌∙◌, ℕ, List, [], ◌∷◌, Bool, true, false, cond, filter, map, Option, Some, None, refl, sym, ap, subst, inl, inr}
+use Rattle.arj_protocol.specs.Words.{InvokedReply, Uid}
+use Rattle.arj_protocol.specs.Words.invoked
+use Rattle.arj_protocol.specs.Copy.{Copy}
+use Rattle.arj_protocol.specs.Order.{binding_number}
+use Rattle.arj_lock_law.specs.Actions.{Act, In, Sub, on, same, top}
+use Rattle.arj_lock_law.specs.Machine.{Guard, handed, with_server}
+use Rattle.arj_lock_law.specs.State as machine
+use Rattle.arj_lock_law.specs.State.{Entry, Server, State}
+use Rattle.arj_lock_law.specs.Steps.{DropRows}
+use Rattle.arj_lock_law.proofs.Paths.{at_here, on_above, same_is}
+use Rattle.arj_lock_view_law.specs.Acts.{Acts}
+use Rattle.arj_lock_view_law.specs.Copies.{AreLeft, Codes, KeepsServer, OnlyEnds, OnlyServer}
+use Rattle.arj_lock_view_law.specs.Servers.{SeesObject, ShowsInvoked, Wanted, wanted_by}
+use Rattle.arj_lock_view_law.proofs.CopySteps.{server_else}
+
+-- ---- what was sent
+
+-- what an answer shows it shows for ever
+pub shows_later : (act : Acts) (code : Codes) (u : Uid) (number : ℕ) (w : Wanted) (S T : State) → ((m : machine.Message) → In m S.net → In m T.net) → (a : InvokedReply) → ShowsInvoked act code u number w S a → ShowsInvoked act code u number w T a
+shows_later act code u number w S T sent (invoked.Answered a) h = (h.0, h.1, (let p = h.2 in record { answer = p.answer; sent = sent (machine.Invoked p.answer) p.sent; of = p.of; sees = p.sees; gives = p.gives }))
+shows_later act code u number w S T sent (invoked.Conflict k m) h = sent (machine.Refused (wanted_by act u number w)) h
+shows_later act code u number w S T sent (invoked.Changed d) h = sent (machine.Changed (binding_number w.binding)) h
+
+pub object_sent : (act : Acts) (code : Codes) (x i : ℕ) (o : Option Copy) (m : machine.Server) (S T : State) → ((z : machine.Message) → In z S.net → In z T.net) → SeesObject act code x i o m S → SeesObject act code x i o m T
+object_sent act code x i None m S T sent h = h
+object_sent act code x i (Some c) m S T sent h = (h.0, sent (machine.Activated (binding_number c.binding) i) h.1)
+
+-- ---- writes that are left
+
+pub left_itself : (es : List Entry) → AreLeft es es
+left_itself es e i = (e, i, refl, λ a o. o)
+
+left_both : (es fs gs : List Entry) → AreLeft es fs → AreLeft fs gs → AreLeft es gs
+left_both es fs gs p q e i = let f = q e i in let g = p f.0 f.1 in (g.0, g.1, f.2 ∙ g.2, λ a o. g.3 a (f.3 a o))
+
+pub left_kept : (p : Entry → Bool) (es : List Entry) → AreLeft es (filter p es)
+left_kept p es e i = (e, in_kept es i, refl, λ a o. o)
+  where
+    in_kept : (ys : List Entry) → In e (filter p ys) → In e ys
+    in_kept [] j = absurd j
+    in_kept (y ∷ ys) j = by (p y) j (in_kept ys)
+      where
+        by : (b : Bool) → In e (cond b (y ∷ filter p ys) (filter p ys)) → (In e (filter p ys) → In e ys) → In e (y ∷ ys)
+        by true (inl is) rest = inl is
+        by true (inr k) rest = inr (rest k)
+        by false k rest = inr (rest k)
+
+pub left_handed : (b : Act) (j : ℕ) (es : List Entry) → AreLeft es (map (handed b j) es)
+left_handed b j [] e i = absurd i
+left_handed b j (f ∷ fs) e (inr i) = let g = left_handed b j fs e i in (g.0, inr g.1, g.2, g.3)
+left_handed b j (f ∷ fs) e (inl is) = (f, inl refl, ap (λ (y : Entry). y.by) is, λ a o. up a (same f.holder (Sub b j)) refl (ap (λ (y : Entry). on y.holder a) (sym is) ∙ o))
+  where
+    up : (a : Act) (t : Bool) → same f.holder (Sub b j) ≡ t → on (cond t b f.holder) a ≡ true → on f.holder a ≡ true
+    up a true own o = ap (λ (h : Act). on h a) (same_is f.holder (Sub b j) own) ∙ on_above b j a o
+    up a false own o = o
+
+-- ---- only ends
+
+-- a server that keeps the rest, with no new write
+pub ends_only : (n : ℕ) (S : State) (w : Server) → KeepsServer (let v = S.server n in v.request) (S.server n) w → AreLeft (let v = S.server n in v.log) w.log → OnlyEnds n S (with_server S n w)
+ends_only n S w keeps left = record {
+  rest = refl;
+  others = λ k other. server_else S n k w other;
+  keeps = subst (KeepsServer (let v = S.server n in v.request) (S.server n)) (sym (at_here S.server n w)) keeps;
+  left = subst (λ (z : Server). AreLeft (let v = S.server n in v.log) z.log) (sym (at_here S.server n w)) left;
+}
+
+pub ends_none : (n : ℕ) (S : State) → OnlyEnds n S S
+ends_none n S = record { rest = refl; others = λ k other. refl; keeps = record { incarnation = refl; voted = refl; request = refl }; left = left_itself (let v = S.server n in v.log) }
+
+pub ends_both : {n : ℕ} {S T V : State} → OnlyEnds n S T → OnlyEnds n T V → OnlyEnds n S V
+ends_both {n} {S} {T} {V} a b = record {
+  rest = b.rest ∙ ap (λ (s : State). record s { server = V.server }) a.rest;
+  others = λ k other. b.others k other ∙ a.others k other;
+  keeps = (let p = a.keeps in let q = b.keeps in record { incarnation = q.incarnation ∙ p.incarnation; voted = q.voted ∙ p.voted; request = q.request ∙ p.request });
+  left = left_both (let v = S.server n in v.log) (let v = T.server n in v.log) (let v = V.server n in v.log) a.left b.left;
+}
+
+-- no message is lost, nor sent
+pub net_stays : {n : ℕ} {S T : State} → OnlyEnds n S T → T.net ≡ S.net
+net_stays a = ap (λ (s : State). s.net) a.rest
+
+pub ends_sent : {n : ℕ} {S T : State} → OnlyEnds n S T → (m : machine.Message) → In m S.net → In m T.net
+ends_sent a m i = subst (λ (net : List machine.Message). In m net) (sym (net_stays a)) i
+
+pub only_server : {n : ℕ} {S T : State} → OnlyEnds n S T → OnlyServer n S T
+only_server {n} {S} {T} a = record {
+  rest = a.rest ∙ (λ i. record S { server = T.server; net = sym (net_stays a) i });
+  others = a.others;
+  sent = ends_sent a;
+}
+
+-- ---- what the machine may drop it may drop later too
+
+pub drop_later : (n : ℕ) (a : Act) (S T : State) → OnlyEnds n S T → Guard (DropRows n a) S → Guard (DropRows n a) T
+drop_later n a S T only may = subst (Guard (DropRows n a)) (sym only.rest) (by may)
+  where
+    by : Guard (DropRows n a) S → Guard (DropRows n a) (record S { server = T.server })
+    by (inl aborted) = inl aborted
+    by (inr (inl over)) = inr (inl (over.0, λ e i above committed c called write survives. (let f = only.left e i in
+      (λ is. over.1 f.0 f.1 (f.3 a above) (ap (λ (b : Act). (let z = S.action (top b) in z.stage)) (sym f.2) ∙ committed) c called write survives (is ∙ ap top f.2)))))
+    by (inr (inr apart)) = inr (inr (apart.0, apart.1, (let k = only.keeps in ap (λ (f : Act → Bool). f a) k.voted ∙ apart.2)))

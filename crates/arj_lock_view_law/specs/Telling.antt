@@ -1,0 +1,94 @@
+-- A server that is told of ends, in the machine of one object.
+use Rattle.std.specs.Prelude.{◌≡◌, ◌≢◌, ℕ, Bool, true, false, List, [], Some, Contains}
+use Rattle.arj_protocol.specs.Words.{End, Kind, Uid}
+use Rattle.arj_protocol.specs.Words.ending
+use Rattle.arj_protocol.specs.Words.kind
+use Rattle.arj_protocol.specs.Copy.{Copy}
+use Rattle.arj_protocol.specs.Order.{at_number}
+use Rattle.arj_protocol.specs.Server.{Server, is_told, told}
+use Rattle.arj_lock_law.specs.Actions.{Root, root}
+use Rattle.arj_lock_law.specs.Machine.{Guard}
+use Rattle.arj_lock_law.specs.State.{State}
+use Rattle.arj_lock_law.specs.Steps.{DropRows}
+use Rattle.arj_part_law.specs.Actions.{Action, Agree, AreBegun, act_of}
+use Rattle.arj_part_law.specs.Copies.{IsTree, Paths}
+use Rattle.arj_part_law.specs.Servers.{AreOrdered, IsGoodServer, KnowsActions}
+use Rattle.arj_lock_view_law.specs.Actions.{AreAlike, IsPlaced}
+use Rattle.arj_lock_view_law.specs.Acts.{Acts}
+use Rattle.arj_lock_view_law.specs.Copies.{Codes, OnlyEnds}
+use Rattle.arj_lock_view_law.specs.Going.{Goes}
+use Rattle.arj_lock_view_law.specs.Servers.{SeesServer, Wants}
+
+-- ---- what is known beside the machine
+
+-- The actions of a run: who was begun, and the path of each in the protocol and in the machine.
+pub record Family : Type 0 where
+  pub begun : List Action
+  pub paths : Paths
+  pub act : Acts
+
+-- They make a tree, in which each has its path; the machine has the same tree, and places each action by its kind.
+pub record AreOneTree (g : Family) : Type 0 where
+  pub tree : IsTree g.paths
+  pub alike : AreAlike g.act g.paths
+  pub begun : AreBegun g.begun
+  pub agree : Agree g.begun g.paths
+  pub placed : (a : Action) → Contains g.begun a → IsPlaced (g.act (act_of a)) a.kind
+
+-- A server is good and knows these actions, and each copy that it lists is found by its object's number.
+pub record IsOfFamily (g : Family) (s : Server) : Type 0 where
+  pub good : IsGoodServer g.paths s
+  pub knows : KnowsActions g.begun s
+  pub listed : (y : ℕ) (c : Copy) → Contains {X = ℕ × Copy} s.objects (y, c) → at_number y s.objects ≡ Some c
+
+-- What a run fixes of one object and one server: the actions, what stands for values, what requests want, the object's number
+-- and the node's.
+pub record View : Type 0 where
+  pub family : Family
+  pub code : Codes
+  pub wants : Wants
+  pub x : ℕ
+  pub node : ℕ
+
+abbrev pub Sees : View → Server → State → Type 0
+Sees v s S = SeesServer v.family.act v.code v.wants v.x v.node s S
+
+-- ---- what ends show
+
+-- an action of this kind is a unit of its own
+abbrev pub is_plain : Kind → Bool
+is_plain kind.Top = true
+is_plain kind.Independent = true
+is_plain _ = false
+
+-- The action was begun, isn't serializing, and is committed in the machine; where it is a unit of its own that is over.
+pub record IsCommittedSo (g : Family) (u : Uid) (S : State) : Type 0 where
+  pub action : Action
+  pub begun : Contains g.begun action
+  pub of : act_of action ≡ u
+  pub unserial : action.kind ≢ kind.Serial
+  pub committed : (let a = S.action (g.act u) in a.stage) ≡ 3
+  pub over : is_plain action.kind ≡ true → (let a = S.action (Root (root (g.act u))) in a.stage) ≡ 3
+
+-- An end that comes to the server: of an abort the machine may drop the rows there, a commit stands.
+abbrev pub ShowsEnd : View → State → Uid → End → Type 0
+ShowsEnd v S u ending.Abort = Guard (DropRows v.node (v.family.act u)) S
+ShowsEnd v S u ending.Commit = IsCommittedSo v.family u S
+
+-- so it is with each end of the list that is new to the server
+abbrev pub ShowEnds : View → Server → State → List (Uid × End) → Type 0
+ShowEnds v s S ends = (u : Uid) (e : End) → Contains {X = Uid × End} ends (u, e) → is_told u s ≡ false → ShowsEnd v S u e
+
+-- Ends come to the server in the order of a coordinator, and are shown.
+pub record AreBrought (v : View) (ends : List (Uid × End)) (s : Server) (S : State) : Type 0 where
+  pub whole : AreOneTree v.family
+  pub server : IsOfFamily v.family s
+  pub ordered : AreOrdered (let g = v.family in g.begun) [] ends
+  pub shown : ShowEnds v s S ends
+
+-- ---- what the server does with them
+
+-- A server is told of ends: of each that is new the rows and writes that its action has here go, pass, or become the copy's own value.
+abbrev pub EndsAreTaken : Type 0
+EndsAreTaken = (v : View) (ends : List (Uid × End)) (s : Server) (S : State)
+    → AreBrought v ends s S → Sees v s S → Goes S (λ T. Sees v (let d = told v.node ends s in d.part) T × OnlyEnds v.node S T)
