@@ -1,8 +1,11 @@
 -- A whole server votes.
-use Rattle.std.proofs.Common.{◌≡◌, ◌≢◌, ◌≤◌, ◌∙◌, ◌==◌, ℕ, List, [], ◌∷◌, Bool, true, false, cond, Option, Some, None, refl, sym, ap, subst, inl, inr, eqb-true}
+use Rattle.std.proofs.Common.{◌≡◌, ◌≢◌, ◌≤◌, ◌<◌, ◌⊎◌, ◌∙◌, ◌==◌, ℕ, List, [], ◌∷◌, Bool, true, false, cond, Option, Some, None, refl, sym, ap, subst, inl, inr, ⊎_elim, Contains, arith, eqb-true}
+use Rattle.arj_base.proofs.Uids.{uid_cases}
 use Rattle.arj_lock.proofs.Members as list
-use Rattle.arj_lock.proofs.Members.{in_from}
-use Rattle.arj_protocol.specs.Words.{Binding, End, Path, Uid, VotedReply, What, is_on}
+use Rattle.arj_lock.proofs.Members.{in_from, in_to}
+use Rattle.arj_lock.proofs.OneEach.{none_in}
+use Rattle.arj_protocol.specs.Words.{Binding, End, Head, Row, Uid, VotedReply, What, is_on, last_uid}
+use Rattle.arj_protocol.specs.Words.ask
 use Rattle.arj_protocol.specs.Words.voted
 use Rattle.arj_protocol.specs.Words.what
 use Rattle.arj_protocol.specs.Ask.{actor}
@@ -13,18 +16,25 @@ use Rattle.arj_protocol.specs.Server.{Server, apply_ends, changed_copy, changed_
 use Rattle.arj_lock_law.specs.Actions.{Act, In}
 use Rattle.arj_lock_law.specs.Machine.{stay}
 use Rattle.arj_lock_law.specs.State as machine
-use Rattle.arj_lock_law.specs.State.{State}
-use Rattle.arj_lock_law.proofs.Paths.{act_other}
-use Rattle.arj_part_law.specs.Copies.{Paths}
+use Rattle.arj_lock_law.specs.State.{Ballot, State}
+use Rattle.arj_lock_law.proofs.Paths.{act_other, differ}
+use Rattle.arj_part_law.specs.Actions.{act_of}
+use Rattle.arj_part_law.specs.Copies.{IsLowest}
+use Rattle.arj_part_law.proofs.Begun.{on_own}
+use Rattle.arj_part_law.proofs.InTurn.{all_told}
 use Rattle.arj_part_law.proofs.Keys.{with_on}
-use Rattle.arj_lock_view_law.specs.Acts.{Acts, AreOne}
-use Rattle.arj_lock_view_law.specs.Commits.{HasVoted, OnlyVote, ballot_for}
-use Rattle.arj_lock_view_law.specs.Copies.{Codes, SeesCopy}
+use Rattle.arj_part_law.proofs.ServerRuns.{told_follows}
+use Rattle.arj_lock_view_law.specs.Acts.{Acts}
+use Rattle.arj_lock_view_law.specs.Commits.{HasVoted, IsCommitting, OnlyVote, ballot_for}
+use Rattle.arj_lock_view_law.specs.Copies.{Codes, OnlyEnds, SeesCopy}
 use Rattle.arj_lock_view_law.specs.Going.{Goes}
-use Rattle.arj_lock_view_law.specs.Servers.{IsTiedToVote, OtherVotesAreGiven, SeesObject, SeesServer, ShowsVoted, VotesAreGiven, Wants, last_of}
+use Rattle.arj_lock_view_law.specs.Servers.{SeesObject, last_of}
+use Rattle.arj_lock_view_law.specs.Serving.{HasVotedHere, IsShown, IsVoteFor, VotesAreTaken, is_yes}
+use Rattle.arj_lock_view_law.specs.Telling.{AreBrought, IsOfFamily, Sees, View}
 use Rattle.arj_lock_view_law.proofs.BindSteps.{other_act}
-use Rattle.arj_lock_view_law.proofs.LeftSteps.{shows_later}
-use Rattle.arj_lock_view_law.proofs.RunSteps.{goes_to}
+use Rattle.arj_lock_view_law.proofs.LeftSteps.{ends_sent, shows_later}
+use Rattle.arj_lock_view_law.proofs.RunSteps.{goes_then, goes_to}
+use Rattle.arj_lock_view_law.proofs.ToldSteps.{brought_go, copy_told, family_told, told_of, turn_of}
 use Rattle.arj_lock_view_law.proofs.VoteSteps.{votes_are_seen}
 
 -- who isn't on the longer list isn't on the list, nor who was put on it
@@ -56,69 +66,178 @@ tied_copy (t ∷ ts) s x b none i = by (changed_copy t.1 (at_number t.0 s.object
 only_no_vote : (n : ℕ) (m : Act) (S : State) → OnlyVote n m S S
 only_no_vote n m S = record { rest = refl; others = λ k other. refl; tops = λ a other. (refl, refl) }
 
-module _ (act : Acts) (code : Codes) (wants : Wants) (paths : Paths) (x n : ℕ) (p : Path) (i : ℕ) (ties : List (ℕ × Binding)) (b : Binding) (ends : List (Uid × End)) (s : Server) (S : State) (one : AreOne act) (tied : IsTiedToVote act paths x n p i ties b s S) (nothing : (let d = apply_ends n ends s in d.part) ≡ s) (sees : SeesServer act code wants x n s S) where
+-- ends, and then a vote
+vote_after : {n : ℕ} {m : Act} {S T V : State} → OnlyEnds n S T → OnlyVote n m T V → OnlyVote n m S V
+vote_after {n} {m} {S} {T} {V} a b = record {
+  rest = b.rest ∙ ap (λ (z : State). record z { server = V.server; yes = V.yes; vote = V.vote }) a.rest;
+  others = λ k other. b.others k other ∙ a.others k other;
+  tops = λ c other. (let k = b.tops c other in (k.0 ∙ ap (λ (z : State). z.yes c) a.rest, k.1 ∙ ap (λ (z : State). z.vote c) a.rest));
+}
+
+ends_and_no_vote : (n : ℕ) (m : Act) (S T : State) → OnlyEnds n S T → OnlyVote n m S T
+ends_and_no_vote n m S T a = vote_after a (only_no_vote n m T)
+
+voted_after : (code : Codes) (n : ℕ) (m : Act) (b : ℕ) (given : Ballot) (S T V : State) → OnlyEnds n S T → HasVoted code n m b given T V → HasVoted code n m b given S V
+voted_after code n m b given S T V only h = record {
+  voted = h.voted;
+  yes = h.yes;
+  first = λ less. h.first (subst (λ (k : ℕ). k < b) (sym yes_is) less);
+  again = λ more. (let k = h.again (subst (λ (k : ℕ). b ≤ k) (sym yes_is) more) in (k.0 ∙ ap (λ (z : State). z.vote m) only.rest, k.1 ∙ yes_is));
+}
+  where
+    yes_is : T.yes m ≡ S.yes m
+    yes_is = ap (λ (z : State). z.yes m) only.rest
+
+-- a tie of the object, or none
+tie_of : (x : ℕ) (ties : List (ℕ × Binding)) → ((b : Binding) × list.In {X = ℕ × Binding} (x, b) ties) ⊎ ((b : Binding) → list.In {X = ℕ × Binding} (x, b) ties → ⊥)
+tie_of x [] = inr (λ b i. i)
+tie_of x (t ∷ ts) = by (t.0 == x) refl (tie_of x ts)
+  where
+    by : (e : Bool) → (t.0 == x) ≡ e → ((b : Binding) × list.In {X = ℕ × Binding} (x, b) ts) ⊎ ((b : Binding) → list.In {X = ℕ × Binding} (x, b) ts → ⊥) → ((b : Binding) × list.In {X = ℕ × Binding} (x, b) (t ∷ ts)) ⊎ ((b : Binding) → list.In {X = ℕ × Binding} (x, b) (t ∷ ts) → ⊥)
+    by true is rest = inl (t.1, inl (λ j. (eqb-true t.0 x is j, t.1)))
+    by false is (inl f) = inl (f.0, inr f.1)
+    by false is (inr none) = inr (λ b i. off b i)
+      where
+        unlike : (j l : ℕ) → (j == l) ≡ false → j ≡ l → ⊥
+        unlike j l a b = grind (arith, a, b)
+
+        off : (b : Binding) → list.In {X = ℕ × Binding} (x, b) (t ∷ ts) → ⊥
+        off b (inl same) = unlike t.0 x is (ap (λ (z : ℕ × Binding). z.0) same)
+        off b (inr j) = none b j
+
+module _ (v : View) (h : Head) (i : ℕ) (ties : List (ℕ × Binding)) (ends : List (Uid × End)) (s : Server) (S : State) (shown : IsShown v h (ask.Vote i ties ends) s S) (sees : Sees v s S) where
+  abbrev act : Acts
+  act = v.family.act
+
+  abbrev n : ℕ
+  n = v.node
+
   abbrev u : Uid
-  u = actor p
+  u = actor h.path
+
+  abbrev t : Server
+  t = let d = apply_ends n ends s in d.part
 
   abbrev Votes : Served Server VotedReply → Type 0
-  Votes r = Goes S (λ T. SeesServer act code wants x n r.part T × OnlyVote n (act u) S T × ShowsVoted act code x n p b s S T r.reply)
+  Votes r = Goes S (λ T. Sees v r.part T × OnlyVote n (act u) S T × ((b : Binding) → Contains {X = ℕ × Binding} ties (v.x, b) → is_yes r.reply ≡ true → HasVotedHere v u b r.part S T))
 
-  -- the server that voted
-  yes_part : (t : Server) → t ≡ s → (c : Copy) → at_number x s.objects ≡ Some c → binding_number b ≡ binding_number c.binding → i ≡ s.inc
-      → Votes (record { part = record t { voted = with_uid u t.voted }; outs = (let d = apply_ends n ends s in d.outs); reply = Some (voted.Yes (changed_states u t)) })
-  yes_part t is c there same_one inc_is = subst (λ (z : Server). Votes (record { part = record z { voted = with_uid u z.voted }; outs = (let d = apply_ends n ends s in d.outs); reply = Some (voted.Yes (changed_states u z)) })) (sym is)
-      (goes_to (votes_are_seen act code paths n x i u c S (tied.committing c there) (subst (λ (k : ℕ). In (machine.Vote (act u) k i) S.net) same_one tied.sent) (ap (λ (k : ℕ). (let v = S.binding k in v.server)) (sym same_one) ∙ tied.served) (sees.incarnation ∙ sym inc_is) has_copy.0) (λ T g. (
-        record {
-          incarnation = (let k = g.2 in k.incarnation ∙ sees.incarnation);
-          object = subst (λ (f : Option Copy). SeesObject act code x s.inc f (T.server n) T) (sym there) (g.0, sent_later T g.1 (machine.Activated (binding_number c.binding) s.inc) has_copy.1);
-          latest = λ v fresh. (let k = g.2 in subst (λ (f : Act → ℕ). f (act v) ≤ last_of (at_uid v s.kept)) (sym k.request) (sees.latest v fresh));
-          kept = λ v k w found wanted. shows_later act code v k.req w S T (sent_later T g.1) k.answer (sees.kept v k w found wanted);
-          voted = λ v fresh off. (let k = g.2 in let q = not_on v u s.voted off in ap (λ (f : Act → Bool). f (act v)) k.voted ∙ act_other (let m = S.server n in m.voted) (act u) true (act v) (other_act act one v u q.0) ∙ sees.voted v fresh q.1);
-        },
-        g.1,
-        (c, there, subst (λ (k : ℕ). HasVoted code n (act u) k (ballot_for code u c) S T) (sym same_one) g.3),
-      )))
-    where
-      has_copy : SeesCopy act code x c (S.server n) × In (machine.Activated (binding_number c.binding) s.inc) S.net
-      has_copy = subst (λ (f : Option Copy). SeesObject act code x s.inc f (S.server n) S) there sees.object
+  brought : AreBrought v ends s S
+  brought = record { whole = shown.whole; server = shown.server; ordered = shown.fits.2; shown = shown.shown }
 
-      sent_later : (T : State) → OnlyVote n (act u) S T → (m : machine.Message) → In m S.net → In m T.net
-      sent_later T only m i = subst (λ (net : List machine.Message). In m net) (sym (ap (λ (z : State). z.net) only.rest)) i
+  -- what is known of the server after the ends
+  after : IsOfFamily v.family t
+  after = family_told v ends s shown.whole (turn_of v ends s shown.whole shown.server shown.fits.2) shown.server
+
+  -- all below the top were told of, and no descendant has a lock
+  lowest : (c : Copy) → at_number v.x t.objects ≡ Some c → IsLowest u c.rows
+  lowest c there r k on =
+      let d = after.knows.rows v.x c r there k in
+      ⊎_elim (λ (is : act_of d.0 ≡ u). ap last_uid d.2 ∙ is)
+          (λ (other : act_of d.0 ≢ u).
+          let told_of_it = all_told v.family.begun shown.whole.begun n ends s (act_of d.0) (shown.fits.1 d.0 d.1 (ap (λ us. is_on us u) (sym d.2) ∙ on) other) in
+          absurd (differ (ap (λ us. is_on us (act_of d.0)) d.2 ∙ on_own (let a = d.0 in a.path)) (none_in (λ (q : Row). is_on q.holder (act_of d.0)) r c.rows (after.good.none v.x c (act_of d.0) there told_of_it) (in_from r c.rows k))))
+          (uid_cases (act_of d.0) u)
+
+  committing : (c : Copy) → at_number v.x t.objects ≡ Some c → IsCommitting act v.family.paths v.x u c
+  committing c there = record { one = (let w = shown.whole in let k = w.alike in k.one); good = after.good.copies v.x c there; lowest = lowest c there; told = told_of act v.family.paths v.x c shown.whole.alike (after.good.copies v.x c there) u }
+
+  -- ---- yes
+
+  module _ (untied : first_unbound ties s ≡ None) (inc_is : i ≡ s.inc) where
+    abbrev bound_server : Server
+    bound_server = record t { voted = with_uid u t.voted }
+
+    inc_after : t.inc ≡ s.inc
+    inc_after = let k = told_follows n ends s in k.same
+
+    sent_later : (T V : State) → OnlyVote n (act u) T V → (m : machine.Message) → In m T.net → In m V.net
+    sent_later T V only m j = subst (λ (net : List machine.Message). In m net) (sym (ap (λ (z : State). z.net) only.rest)) j
+
+    -- the server that voted, where the machine's may have too
+    voted_too : (T V : State) → Sees v t T → SeesObject act v.code v.x t.inc (at_number v.x t.objects) (V.server n) V → OnlyVote n (act u) T V → (let m = V.server n in m.incarnation) ≡ (let m = T.server n in m.incarnation) → (let m = V.server n in m.request) ≡ (let m = T.server n in m.request)
+        → ((w : Uid) → w ≢ u → (let m = V.server n in m.voted (act w)) ≡ (let m = T.server n in m.voted (act w))) → Sees v bound_server V
+    voted_too T V k object only inc request others = record {
+      incarnation = inc ∙ k.incarnation;
+      object = object;
+      latest = λ w fresh. subst (λ (f : Act → ℕ). f (act w) ≤ last_of (at_uid w t.kept)) (sym request) (k.latest w fresh);
+      kept = λ w e d found wanted. shows_later act v.code w e.req d T V (sent_later T V only) e.answer (k.kept w e d found wanted);
+      voted = λ w fresh off. (let q = not_on w u t.voted off in others w q.0 ∙ k.voted w fresh q.1);
+    }
+
+    abbrev yes_part : Served Server VotedReply
+    yes_part = record { part = bound_server; outs = (let d = apply_ends n ends s in d.outs); reply = Some (voted.Yes (changed_states u t)) }
+
+    abbrev Yes : State → State → Type 0
+    Yes T V = Sees v bound_server V × OnlyVote n (act u) T V × ((b : Binding) → Contains {X = ℕ × Binding} ties (v.x, b) → HasVotedHere v u b bound_server S V)
+
+    -- the object is tied to a binding, which its copy has
+    module _ (b : Binding) (j : list.In {X = ℕ × Binding} (v.x, b) ties) (T : State) (k : Sees v t T) (only : OnlyEnds n S T) where
+      f : (c : Copy) × (at_number v.x s.objects ≡ Some c) × (binding_number b ≡ binding_number c.binding)
+      f = tied_copy ties s v.x b untied j
+
+      abbrev c : Copy
+      c = let g = copy_told n ends s v.x f.0 f.1 in g.0
+
+      there : at_number v.x t.objects ≡ Some c
+      there = let g = copy_told n ends s v.x f.0 f.1 in g.1
+
+      number_of : (d : Binding) → list.In {X = ℕ × Binding} (v.x, d) ties → binding_number d ≡ binding_number c.binding
+      number_of d l =
+          let e = tied_copy ties s v.x d untied l in
+          let two : ◌≡◌ {A = Option Copy} (Some e.0) (Some f.0) = sym e.1 ∙ f.1 in
+          let same : e.0 ≡ f.0 = cc two in
+          let g = copy_told n ends s v.x f.0 f.1 in
+          e.2 ∙ ap (λ (z : Copy). binding_number z.binding) same ∙ ap binding_number (sym g.2)
+
+      asked : IsVoteFor v u i b S
+      asked = shown.says b (in_to {X = ℕ × Binding} (v.x, b) ties j)
+
+      has_copy : SeesCopy act v.code v.x c (T.server n) × In (machine.Activated (binding_number c.binding) t.inc) T.net
+      has_copy = subst (λ (z : Option Copy). SeesObject act v.code v.x t.inc z (T.server n) T) there k.object
+
+      tied_votes : Goes T (λ V. Yes T V)
+      tied_votes = goes_to (votes_are_seen act v.code v.family.paths n v.x i u c T (committing c there)
+          (subst (λ (z : ℕ). In (machine.Vote (act u) z i) T.net) (number_of b j) (ends_sent only (machine.Vote (act u) (binding_number b) i) asked.sent))
+          (ap (λ (z : ℕ). (let w = T.binding z in w.server)) (sym (number_of b j)) ∙ ap (λ (z : State). (let w = z.binding (binding_number b) in w.server)) only.rest ∙ asked.served)
+          (k.incarnation ∙ inc_after ∙ sym inc_is) has_copy.0) (λ V g. (let keeps = g.2 in (
+            voted_too T V k (subst (λ (z : Option Copy). SeesObject act v.code v.x t.inc z (V.server n) V) (sym there) (g.0, sent_later T V g.1 (machine.Activated (binding_number c.binding) t.inc) has_copy.1)) g.1 keeps.incarnation keeps.request
+                (λ w other. ap (λ (z : Act → Bool). z (act w)) keeps.voted ∙ act_other (let m = T.server n in m.voted) (act u) true (act w) (other_act act (let l = shown.whole in let e = l.alike in e.one) w u other)),
+            g.1,
+            (λ d l. (let is = number_of d (in_from {X = ℕ × Binding} (v.x, d) ties l) in record { copy = c; there = there; bound = is; voted = subst (λ (z : ℕ). HasVoted v.code n (act u) z (ballot_for v.code u c) S V) (sym is) (voted_after v.code n (act u) (binding_number c.binding) (ballot_for v.code u c) S T V only g.3) })),
+          )))
+
+    votes_yes : Votes yes_part
+    votes_yes = goes_then (brought_go v ends s S brought sees) (λ T g. ⊎_elim
+        (λ (some : (b : Binding) × list.In {X = ℕ × Binding} (v.x, b) ties). goes_to (tied_votes some.0 some.1 T g.0 g.1) (λ V y. (y.0, vote_after g.1 y.1, λ b l yes. y.2 b l)))
+        (λ (none : (b : Binding) → list.In {X = ℕ × Binding} (v.x, b) ties → ⊥). record {
+          state = T;
+          run = stay;
+          holds = (voted_too T T g.0 (let k = g.0 in k.object) (only_no_vote n (act u) T) refl refl (λ w other. refl), ends_and_no_vote n (act u) S T g.1, λ b l yes. absurd (none b (in_from {X = ℕ × Binding} (v.x, b) ties l)));
+        })
+        (tie_of v.x ties))
+
+  -- ---- any vote
+
+  as_it_was : (r : Served Server VotedReply) → r.part ≡ s → is_yes r.reply ≡ false → Votes r
+  as_it_was r same none = record { state = S; run = stay; holds = (subst (λ (z : Server). Sees v z S) (sym same) sees, only_no_vote n (act u) S, λ b l yes. absurd (differ yes none)) }
 
   now : Votes (vote_now n u ends s (either (other_inc i s.inc) (first_unbound ties s)))
   now = by_inc (i == s.inc) refl
     where
       by_ties : i ≡ s.inc → (w : Option What) → first_unbound ties s ≡ w → Votes (vote_now n u ends s w)
-      by_ties inc_is (Some w) is = record { state = S; run = stay; holds = (sees, only_no_vote n (act u) S, tt) }
-      by_ties inc_is None is = let f = tied_copy ties s x b is (in_from (x, b) ties tied.tied) in yes_part (let d = apply_ends n ends s in d.part) nothing f.0 f.1 f.2 inc_is
+      by_ties inc_is (Some w) is = as_it_was (vote_now n u ends s (Some w)) refl refl
+      by_ties inc_is None is = votes_yes is inc_is
 
-      by_inc : (t : Bool) → (i == s.inc) ≡ t → Votes (vote_now n u ends s (either (cond t None (Some (what.Inc i s.inc))) (first_unbound ties s)))
+      by_inc : (e : Bool) → (i == s.inc) ≡ e → Votes (vote_now n u ends s (either (cond e None (Some (what.Inc i s.inc))) (first_unbound ties s)))
       by_inc true is = by_ties (eqb-true i s.inc is) (first_unbound ties s) refl
-      by_inc false is = record { state = S; run = stay; holds = (sees, only_no_vote n (act u) S, tt) }
+      by_inc false is = as_it_was (vote_now n u ends s (Some (what.Inc i s.inc))) refl refl
 
-  pub given : Votes (vote n p i ties ends s)
-  given = by (has_ended p s)
+  pub given : Votes (vote n h.path i ties ends s)
+  given = by (has_ended h.path s)
     where
       by : (e : Bool) → Votes (cond e (void s) (vote_now n u ends s (either (other_inc i s.inc) (first_unbound ties s))))
-      by true = record { state = S; run = stay; holds = (sees, only_no_vote n (act u) S, tt) }
+      by true = as_it_was (void s) refl refl
       by false = now
 
-pub votes_are_given : VotesAreGiven
-votes_are_given act code wants paths x n p i ties b ends s S one tied nothing sees = given act code wants paths x n p i ties b ends s S one tied nothing sees
-
-pub other_votes_are_given : OtherVotesAreGiven
-other_votes_are_given act code wants x n p i ties ends s S nothing sees = by (has_ended p s) (either (other_inc i s.inc) (first_unbound ties s))
-  where
-    voted_too : (t : Server) → t ≡ s → SeesServer act code wants x n (record t { voted = with_uid (actor p) t.voted }) S
-    voted_too t is = subst (λ (z : Server). SeesServer act code wants x n (record z { voted = with_uid (actor p) z.voted }) S) (sym is) (record {
-      incarnation = sees.incarnation;
-      object = sees.object;
-      latest = sees.latest;
-      kept = sees.kept;
-      voted = λ v fresh off. sees.voted v fresh (not_on v (actor p) s.voted off).1;
-    })
-
-    by : (e : Bool) (w : Option What) → SeesServer act code wants x n (let r = cond e (void s) (vote_now n (actor p) ends s w) in r.part) S
-    by true w = sees
-    by false (Some w) = sees
-    by false None = voted_too (let d = apply_ends n ends s in d.part) nothing
+pub votes_are_taken : VotesAreTaken
+votes_are_taken v h i ties ends s S shown sees = given v h i ties ends s S shown sees

@@ -1,8 +1,8 @@
 -- Where actions that were begun stand, in the protocol and in the machine.
-use Rattle.std.proofs.Common.{◌≡◌, ◌≢◌, ◌≤◌, ◌⊎◌, ◌∙◌, ◌++◌, ◌||◌, ℕ, List, [], ◌∷◌, length, take, Bool, true, false, Option, Some, None, refl, sym, ap, subst, inl, inr, ⊎_elim, Contains, arith}
+use Rattle.std.proofs.Common.{◌≡◌, ◌≢◌, ◌≤◌, ◌⊎◌, ◌∙◌, ◌++◌, ◌+◌, ◌||◌, ℕ, List, [], ◌∷◌, length, take, Bool, true, false, Option, Some, None, refl, sym, ap, subst, inl, inr, ⊎_elim, Contains, arith}
 use Rattle.std.specs.List.{list_any}
 use Rattle.std.proofs.lemmas.Bool.{or_cases}
-use Rattle.std.proofs.lemmas.List.{take-append-le}
+use Rattle.std.proofs.lemmas.List.{length-append, take-append-le}
 use Rattle.arj_base.specs.Path.{before_last}
 use Rattle.arj_base.proofs.Uids.{uid_is, uid_same}
 use Rattle.arj_lock.proofs.Members as list
@@ -14,7 +14,7 @@ use Rattle.arj_protocol.specs.Words.kind
 use Rattle.arj_protocol.specs.Copy.{Copy, Over, is_of, is_top_in, over_of}
 use Rattle.arj_protocol.specs.Order.{at_number}
 use Rattle.arj_protocol.specs.Server.{Server, is_top}
-use Rattle.arj_lock_law.specs.Actions.{Act, Root, Sub, is_action, on, root}
+use Rattle.arj_lock_law.specs.Actions.{Act, Root, Sub, depth, is_action, on, root}
 use Rattle.arj_lock_law.specs.Actions as machine
 use Rattle.arj_lock_law.specs.State.{State}
 use Rattle.arj_lock_law.proofs.Paths.{differ, not_below, on_above, on_base, on_root, on_same, on_self, on_trans, on_up, root_is, same_is, top_action}
@@ -22,6 +22,7 @@ use Rattle.arj_part_law.specs.Actions.{Action, AreBegun, Stands, act_of}
 use Rattle.arj_part_law.proofs.Begun.{before_more, on_more, on_own, one_action, path_length, path_some, serial_alone, where_stands, whole_top}
 use Rattle.arj_part_law.proofs.Pairs.{number_in}
 use Rattle.arj_lock_view_law.specs.Actions.{IsPlaced}
+use Rattle.arj_lock_view_law.specs.Acts.{IsCaller, IsDeep}
 use Rattle.arj_lock_view_law.specs.Commits.{IsAlone, IsRightBelow}
 use Rattle.arj_lock_view_law.specs.Telling.{AreOneTree, Family, IsCommittedSo, IsOfFamily, is_plain}
 use Rattle.arj_lock_view_law.proofs.TreeSteps.{first_on}
@@ -128,16 +129,70 @@ module _ (g : Family) (all : AreOneTree g) where
           let under : is_on (paths h) w.0 ≡ true = ⊎_elim (λ o. o) (λ same. absurd (apart same)) (on_more (paths h) u w.0 (ap (λ us. is_on us w.0) (sym path) ∙ near)) in
           w.1 ∙ ap act (all.tree.anti w.0 h far under)
 
+  -- so does one that was begun
+  sub_of : (a : Action) → Contains g.begun a → a.kind ≢ kind.Serial → (b : Action) → Contains g.begun b → uids_of a.path ≡ uids_of b.path ++ act_of a ∷ [] → (j : ℕ) × (act (act_of a) ≡ Sub (act (act_of b)) j) × (before_last (paths (act_of a)) ≡ Some (act_of b))
+  sub_of a i unserial b k path =
+      let its : paths (act_of a) ≡ paths (act_of b) ++ act_of a ∷ [] = all.agree a i ∙ path ∙ ap (λ us. us ++ act_of a ∷ []) (sym (all.agree b k)) in
+      let parent : before_last (paths (act_of a)) ≡ Some (act_of b) = ap before_last (all.agree a i ∙ path) ∙ before_more (uids_of b.path) (act_of a) (path_some b.path) in
+      let s = split (act (act_of a)) (acts_in (act (act_of a)) a.kind (all.placed a i) unserial) in
+      (s.1, s.2 ∙ ap (λ (p : Act). Sub p s.1) (below (act_of a) (act_of b) its parent s.0 s.1 s.2), parent)
+
+  -- the machine has it as deep below its unit as it stands below its top
+  deep_in : (acts : List Action) → AreBegun acts → ((b : Action) → list.In b acts → Contains g.begun b) → (a : Action) → list.In a acts → a.kind ≢ kind.Serial → IsDeep act (uids_of a.path) (tops_of a.path)
+  deep_in [] begun there a i unserial = absurd i
+  deep_in (c ∷ acts) begun there a (inr i) unserial = deep_in acts begun.1 (λ b j. there b (inr j)) a i unserial
+  deep_in (c ∷ acts) begun there a (inl is) unserial = subst (λ (z : Action). IsDeep act (uids_of z.path) (tops_of z.path)) is
+      (of (deep_in acts begun.1 (λ b j. there b (inr j))) c.kind refl (let new = begun.0 in new.stands) (all.placed c (there c (inl refl))))
+    where
+      mine : Contains g.begun c
+      mine = there c (inl refl)
+
+      unserial_too : c.kind ≢ kind.Serial
+      unserial_too serial = unserial (ap (λ (z : Action). z.kind) (sym is) ∙ serial)
+
+      one_deep : machine.is_top (act (act_of c)) ≡ true → depth (act (act_of c)) ≡ 1
+      one_deep top = let s = top_split (act (act_of c)) top in ap depth s.2
+
+      alone_deep : uids_of c.path ≡ act_of c ∷ [] → tops_of c.path ≡ 1 → machine.is_top (act (act_of c)) ≡ true → IsDeep act (uids_of c.path) (tops_of c.path)
+      alone_deep path tops top = let l = ap length path in let k = one_deep top in omega (arith, l, tops, k)
+
+      of : ((b : Action) → list.In b acts → b.kind ≢ kind.Serial → IsDeep act (uids_of b.path) (tops_of b.path)) → (k : Kind) → c.kind ≡ k → Stands acts c k → IsPlaced (act (act_of c)) k → IsDeep act (uids_of c.path) (tops_of c.path)
+      of ih kind.Top kind_is s top = alone_deep s.0 s.1 top
+      of ih kind.Independent kind_is s top = alone_deep s.0 s.1 top
+      of ih kind.Serial kind_is s placed = absurd (unserial_too kind_is)
+      of ih kind.Constituent kind_is s top =
+          let b : Action = s.0 in
+          let up = serial_alone acts begun.1 b (in_from b acts s.1) s.2 in
+          let l : length (uids_of c.path) ≡ 2 = ap length (s.3 ∙ ap (λ us. us ++ act_of c ∷ []) up.0) in
+          let k = one_deep top in
+          let t : tops_of c.path ≡ 2 = s.4 in
+          omega (arith, l, t, k)
+      of ih kind.Nested kind_is s placed =
+          let b : Action = s.0 in
+          let j = in_from b acts s.1 in
+          let under = ih b j s.2 in
+          let l : length (uids_of c.path) ≡ length (uids_of b.path) + 1 = ap length s.3 ∙ length-append (uids_of b.path) (act_of c ∷ []) in
+          let t : tops_of c.path ≡ tops_of b.path = s.4 in
+          let f = sub_of c mine unserial_too b (there b (inr j)) s.3 in
+          let d : depth (act (act_of c)) ≡ depth (act (act_of b)) + 1 = ap depth f.1 in
+          omega (arith, under, l, t, d)
+
+  -- so it may call
+  pub caller_of : (a : Action) → Contains g.begun a → a.kind ≢ kind.Serial → IsCaller act a.path
+  caller_of a i unserial = record {
+    along = record {
+      above = λ w o. all.alike.above (act_of a) w ∙ ap (λ us. is_on us w) (all.agree a i) ∙ o;
+      alone = λ w o. ap (λ us. is_on us w) (sym (all.agree a i)) ∙ sym (all.alike.above (act_of a) w) ∙ o;
+    };
+    deep = deep_in g.begun all.begun (λ b j. in_to b g.begun j) a (in_from a g.begun i) unserial;
+  }
+
   module _ (a : Action) (i : Contains g.begun a) (unserial : a.kind ≢ kind.Serial) (S : State) (committed : (let z = S.action (act (act_of a)) in z.stage) ≡ 3) where
     abbrev u : Uid
     u = act_of a
 
     stands_below : (b : Action) → Contains g.begun b → uids_of a.path ≡ uids_of b.path ++ u ∷ [] → IsRightBelow act paths u (act_of b) S
-    stands_below b k path =
-        let its : paths u ≡ paths (act_of b) ++ u ∷ [] = all.agree a i ∙ path ∙ ap (λ us. us ++ u ∷ []) (sym (all.agree b k)) in
-        let parent : before_last (paths u) ≡ Some (act_of b) = ap before_last (all.agree a i ∙ path) ∙ before_more (uids_of b.path) u (path_some b.path) in
-        let s = split (act u) (acts_in (act u) a.kind (all.placed a i) unserial) in
-        record { number = s.1; below = s.2 ∙ ap (λ (p : Act). Sub p s.1) (below u (act_of b) its parent s.0 s.1 s.2); parent = parent; committed = committed }
+    stands_below b k path = let s = sub_of a i unserial b k path in record { number = s.0; below = s.1; parent = s.2; committed = committed }
 
     stands_alone : uids_of a.path ≡ u ∷ [] → machine.is_top (act u) ≡ true → (let z = S.action (Root (root (act u))) in z.stage) ≡ 3 → IsAlone act u S
     stands_alone path top over =
@@ -191,16 +246,22 @@ module _ (g : Family) (all : AreOneTree g) where
       by false is h rest = let f = rest h in (f.0, inr f.1, f.2)
 
   module _ (s : Server) (of : IsOfFamily g s) (a : Action) (i : Contains g.begun a) where
+    other_kind : (b : Action) → list.In b g.begun → act_of b ≡ act_of a → b.kind ≢ kind.Nested → a.kind ≢ kind.Nested
+    other_kind b j same unlike nest = unlike (ap (λ (z : Action). z.kind) (one_action g.begun all.begun b a j (in_from a g.begun i) same) ∙ nest)
+
+    leads_here : (r : Row) (d : Action) → Contains g.begun d → r.holder ≡ uids_of d.path → r.tops ≡ tops_of d.path → is_on (take r.tops r.holder) (act_of a) ≡ true → a.kind ≢ kind.Nested
+    leads_here r d k holder tops above = let b = leads g.begun all.begun d (in_from d g.begun k) (act_of a) (subst (λ (us : List Uid). is_on us (act_of a) ≡ true) (λ j. take (tops j) (holder j)) above) in other_kind b.0 b.1 b.2 b.3
+
+    top_here : (y : ℕ) (c : Copy) → list.In {X = ℕ × Copy} (y, c) s.objects → is_top_in (act_of a) c.rows ≡ true → a.kind ≢ kind.Nested
+    top_here y c j top =
+        let r = which (λ (q : Row). is_on (take q.tops q.holder) (act_of a)) c.rows top in
+        let d = of.knows.rows y c r.0 (of.listed y c (in_to {X = ℕ × Copy} (y, c) s.objects j)) (in_to r.0 c.rows r.1) in
+        leads_here r.0 d.0 d.1 d.2 d.3 r.2
+
     -- a nested one in none
     pub nested_no_top : a.kind ≡ kind.Nested → is_top (act_of a) s ≡ false
     nested_no_top nest = by (is_top (act_of a) s) refl
       where
         by : (b : Bool) → is_top (act_of a) s ≡ b → b ≡ false
         by false is = refl
-        by true is =
-            let f = some_in (λ (e : ℕ × Copy). is_top_in (act_of a) e.1.rows) s.objects is in
-            let c : Copy = f.0.1 in
-            let r = which (λ (q : Row). is_on (take q.tops q.holder) (act_of a)) c.rows f.2 in
-            let d = of.knows.rows f.0.0 c r.0 (of.listed f.0.0 c (in_to {X = ℕ × Copy} f.0 s.objects f.1)) (in_to r.0 c.rows r.1) in
-            let b = leads g.begun all.begun d.0 (in_from d.0 g.begun d.1) (act_of a) (subst (λ (us : List Uid). is_on us (act_of a) ≡ true) (λ j. take (d.3 j) (d.2 j)) r.2) in
-            absurd (b.3 (ap (λ (z : Action). z.kind) (one_action g.begun all.begun b.0 a b.1 (in_from a g.begun i) b.2) ∙ nest))
+        by true is = let f = some_in (λ (e : ℕ × Copy). is_top_in (act_of a) e.1.rows) s.objects is in absurd (top_here f.0.0 f.0.1 f.1 f.2 nest)

@@ -2,10 +2,11 @@
 use Rattle.std.proofs.Common.{◌≡◌, ◌≢◌, ◌≤◌, ◌⊎◌, ◌∙◌, ◌&&◌, not, ℕ, List, [], ◌∷◌, Bool, true, false, cond, Option, Some, None, refl, sym, ap, subst, inl, inr, ⊎_elim, Contains, arith}
 use Rattle.std.specs.List.{AllByRecursion}
 use Rattle.std.specs.Prelude.{is_some}
-use Rattle.arj_base.proofs.Uids.{uid_cases}
+use Rattle.std.proofs.lemmas.Bool.{or_parts}
+use Rattle.arj_base.proofs.Uids.{uid_cases, uid_same}
 use Rattle.arj_lock.proofs.Members as list
 use Rattle.arj_lock.proofs.Members.{in_from, in_map, in_to}
-use Rattle.arj_protocol.specs.Words.{End, Row, Uid, is_on, last_uid}
+use Rattle.arj_protocol.specs.Words.{End, Row, Uid, is_on, last_uid, uid_eq}
 use Rattle.arj_protocol.specs.Words.ending
 use Rattle.arj_protocol.specs.Copy.{Copy, Over, end_copy, over_of}
 use Rattle.arj_protocol.specs.Effect.{Did, did_nothing}
@@ -19,8 +20,8 @@ use Rattle.arj_lock_law.specs.State.{State}
 use Rattle.arj_lock_law.specs.Steps.{DropRows}
 use Rattle.arj_lock_law.proofs.Paths.{differ}
 use Rattle.arj_part_law.specs.Copies.{IsGoodCopy, IsLowest, Paths}
-use Rattle.arj_part_law.specs.Servers.{AreInTurn, IsInTurn}
-use Rattle.arj_part_law.proofs.GoodServers.{good_end_one}
+use Rattle.arj_part_law.specs.Servers.{AreInTurn, AreOrdered, IsInTurn, has_end_of}
+use Rattle.arj_part_law.proofs.GoodServers.{good_end_one, told_ends}
 use Rattle.arj_part_law.proofs.InTurn.{in_turn, knows_told, told_stays}
 use Rattle.arj_part_law.proofs.Keys.{drop_on, put_other, put_same, without_cases, without_other}
 use Rattle.arj_part_law.proofs.Pairs.{at_each, each_at}
@@ -213,8 +214,44 @@ pub family_told : (v : View) (ends : List (Uid × End)) (s : Server) → AreOneT
 family_told v [] s whole turn of = of
 family_told v (e ∷ es) s whole turn of = let d = end_one v.node e.0 e.1 s in family_told v es d.part whole turn.1 (family_after v whole e.0 e.1 s turn.0 of)
 
-pub turn_of : (v : View) (ends : List (Uid × End)) (s : Server) (S : State) → AreBrought v ends s S → AreInTurn v.node ends s
-turn_of v ends s S b = in_turn v.family.begun b.whole.begun v.family.paths b.whole.tree v.node [] ends s b.ordered (λ w none. absurd (cc none)) b.server.good b.server.knows
+-- each copy has its binding
+pub copy_told : (n : ℕ) (ends : List (Uid × End)) (s : Server) (x : ℕ) (c : Copy) → at_number x s.objects ≡ Some c → (d : Copy) × (at_number x (let k = apply_ends n ends s in let t = k.part in t.objects) ≡ Some d) × (d.binding ≡ c.binding)
+copy_told n [] s x c there = (c, there, refl)
+copy_told n (e ∷ es) s x c there = by (is_told e.0 s) (λ d at same. (let k = end_one n e.0 e.1 s in let f = copy_told n es k.part x d at in (f.0, f.1, f.2 ∙ same)))
+  where
+    Found : Type 0
+    Found = (d : Copy) × (at_number x (let k = apply_ends n (e ∷ es) s in let t = k.part in t.objects) ≡ Some d) × (d.binding ≡ c.binding)
+
+    by : (b : Bool) → ((d : Copy) → at_number x (let k = cond {A = Did Server} b (did_nothing s) (end_new n e.0 (taken_end e.0 e.1 s) s) in let t = k.part in t.objects) ≡ Some d → d.binding ≡ c.binding → Found) → Found
+    by true found = found c there refl
+    by false found = found (end_copy e.0 (taken_end e.0 e.1 s) c) (each_at (λ y. end_copy e.0 (taken_end e.0 e.1 s)) x s.objects c there) (end_binding e.0 (taken_end e.0 e.1 s) c)
+
+-- who isn't in it has the same last answer
+pub kept_told : (n : ℕ) (ends : List (Uid × End)) (s : Server) (u : Uid) → has_end_of u ends ≡ false → at_uid u (let k = apply_ends n ends s in let t = k.part in t.kept) ≡ at_uid u s.kept
+kept_told n [] s u none = refl
+kept_told n (e ∷ es) s u none = (let k = end_one n e.0 e.1 s in kept_told n es k.part u (or_parts (uid_eq e.0 u) (has_end_of u es) none).1) ∙ by (is_told e.0 s)
+  where
+    other : u ≢ e.0
+    other same = differ (ap (λ (w : Uid). uid_eq w u) (sym same) ∙ uid_same u) (or_parts (uid_eq e.0 u) (has_end_of u es) none).0
+
+    by : (b : Bool) → at_uid u (let k = cond {A = Did Server} b (did_nothing s) (end_new n e.0 (taken_end e.0 e.1 s) s) in let t = k.part in t.kept) ≡ at_uid u s.kept
+    by true = refl
+    by false = without_other u e.0 s.kept other
+
+-- and wasn't told of
+pub untold_after : (n : ℕ) (ends : List (Uid × End)) (s : Server) (u : Uid) → is_told u s ≡ false → has_end_of u ends ≡ false → is_told u (let k = apply_ends n ends s in k.part) ≡ false
+untold_after n ends s u fresh none = by (is_told u (let k = apply_ends n ends s in k.part)) refl
+  where
+    by : (b : Bool) → is_told u (let k = apply_ends n ends s in k.part) ≡ b → b ≡ false
+    by false is = refl
+    by true is = absurd (⊎_elim (λ old. differ old fresh) (λ new. differ new none) (told_ends n ends s u is))
+
+-- a coordinator's list comes in turn
+pub turn_of : (v : View) (ends : List (Uid × End)) (s : Server) → AreOneTree v.family → IsOfFamily v.family s → AreOrdered v.family.begun [] ends → AreInTurn v.node ends s
+turn_of v ends s whole of ordered = in_turn v.family.begun whole.begun v.family.paths whole.tree v.node [] ends s ordered (λ w none. absurd (cc none)) of.good of.knows
+
+pub brought_go : (v : View) (ends : List (Uid × End)) (s : Server) (S : State) → AreBrought v ends s S → Sees v s S → Goes S (λ T. Sees v (let d = apply_ends v.node ends s in d.part) T × OnlyEnds v.node S T)
+brought_go v ends s S b sees = ends_go v b.whole ends s S b.server (turn_of v ends s b.whole b.server b.ordered) b.shown sees
 
 pub ends_are_taken : EndsAreTaken
-ends_are_taken v ends s S b sees = ends_go v b.whole ends s S b.server (turn_of v ends s S b) b.shown sees
+ends_are_taken v ends s S b sees = brought_go v ends s S b sees

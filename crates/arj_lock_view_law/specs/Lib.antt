@@ -16,3 +16,4 @@ pub mod Begins
 pub mod Servers
 pub mod Stops
 pub mod Telling
+pub mod Serving

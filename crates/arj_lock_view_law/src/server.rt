@@ -1,8 +1,8 @@
 // A server, as the lock machine of one object has it.
 ghost use Rattle.arj_lock_view_law.specs.Commits.{FoldingsAreSeen, ReadingsAreSeen, RetainingsAreSeen, SettlingsAreSeen, VotesAreSeen};
 ghost use Rattle.arj_lock_view_law.specs.Copies.{ActivationsAreSeen, OperationsAreSeen, RefusalsAreSeen, UndoingsAreSeen};
+ghost use Rattle.arj_lock_view_law.specs.Serving.{ActivatesAreSeen, InvokesAreSeen, ServersAreDown, ServersStart, ServersStop, VotesAreTaken};
 ghost use Rattle.arj_lock_view_law.specs.Telling.{EndsAreTaken};
-ghost use Rattle.arj_lock_view_law.specs.Servers.{CallsAreAnswered, CopiesAreTaken, OtherCallsAreAnswered, OtherCopiesAreTaken, OtherVotesAreGiven, ServersStart, VotesAreGiven};
 
 /// What a server does with the copy of an object is allowed in the machine, and leaves the copy seen: it takes a copy, applies a
 /// new request in its lock, refuses one that meets a conflict, and undoes what an aborted action did. It does nothing when it runs.
@@ -29,15 +29,15 @@ pub fn votes_are_seen()
     ensures { VotesAreSeen }
 {}
 
-/// A whole server is seen where it starts, where an Activate comes, and where an Invoke or a Vote comes that brings no new end: what it
-/// answers the machine has said. What it does so with other objects is nothing to the machine. It does nothing when it runs.
+/// A whole server is seen where it stops, where it starts, and after each message that is for it: an Activate, an Invoke, a Vote, a Told.
+/// The ends that a message brings are applied first where they are new. What it answers about the object the machine has said; what it
+/// does with other objects is nothing to the machine but for these ends. It does nothing when it runs.
 pub fn servers_are_seen()
+    ensures stops { ServersStop }
+    ensures down { ServersAreDown }
     ensures starts { ServersStart }
-    ensures copies { CopiesAreTaken }
-    ensures calls { CallsAreAnswered }
-    ensures other_copies { OtherCopiesAreTaken }
-    ensures other_calls { OtherCallsAreAnswered }
-    ensures votes { VotesAreGiven }
-    ensures other_votes { OtherVotesAreGiven }
-    ensures ends { EndsAreTaken }
+    ensures activates { ActivatesAreSeen }
+    ensures invokes { InvokesAreSeen }
+    ensures votes { VotesAreTaken }
+    ensures tolds { EndsAreTaken }
 {}

@@ -1,28 +1,25 @@
+use Rattle.arj_lock_view_law.proofs.GivenSteps.{votes_are_taken}
+use Rattle.arj_lock_view_law.proofs.ServerSteps.{activates_are_seen, invokes_are_seen, servers_are_down, servers_start, servers_stop}
 use Rattle.arj_lock_view_law.proofs.ToldSteps.{ends_are_taken}
-use Rattle.arj_lock_view_law.proofs.GivenSteps.{other_votes_are_given, votes_are_given}
-use Rattle.arj_lock_view_law.proofs.ServerSteps.{calls_are_answered, copies_are_taken, other_calls_are_answered, other_copies_are_taken, servers_start}
 use Rattle.arj_lock_view_law.proofs.server.servers_are_seen.Goals as goal
+
+pub returns-clause-stops : goal.returns-clause-stops
+returns-clause-stops c = servers_stop
+
+pub returns-clause-down : goal.returns-clause-down
+returns-clause-down c = servers_are_down
 
 pub returns-clause-starts : goal.returns-clause-starts
 returns-clause-starts c = servers_start
 
-pub returns-clause-copies : goal.returns-clause-copies
-returns-clause-copies c = copies_are_taken
+pub returns-clause-activates : goal.returns-clause-activates
+returns-clause-activates c = activates_are_seen
 
-pub returns-clause-calls : goal.returns-clause-calls
-returns-clause-calls c = calls_are_answered
-
-pub returns-clause-other_copies : goal.returns-clause-other_copies
-returns-clause-other_copies c = other_copies_are_taken
-
-pub returns-clause-other_calls : goal.returns-clause-other_calls
-returns-clause-other_calls c = other_calls_are_answered
+pub returns-clause-invokes : goal.returns-clause-invokes
+returns-clause-invokes c = invokes_are_seen
 
 pub returns-clause-votes : goal.returns-clause-votes
-returns-clause-votes c = votes_are_given
+returns-clause-votes c = votes_are_taken
 
-pub returns-clause-other_votes : goal.returns-clause-other_votes
-returns-clause-other_votes c = other_votes_are_given
-
-pub returns-clause-ends : goal.returns-clause-ends
-returns-clause-ends c = ends_are_taken
+pub returns-clause-tolds : goal.returns-clause-tolds
+returns-clause-tolds c = ends_are_taken

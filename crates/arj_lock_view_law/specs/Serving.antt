@@ -1,0 +1,118 @@
+-- What a server does in the machine of one object: it stops, starts, and takes the messages that are for it.
+use Rattle.std.specs.Prelude.{⊤, ◌≡◌, ◌≢◌, ◌<◌, ◌≤◌, ℕ, Bool, true, false, List, Option, Some, None, Contains}
+use Rattle.arj_protocol.specs.Words.{Ask, Binding, End, Head, ObjectState, Op, Path, Uid, VotedReply, writes}
+use Rattle.arj_protocol.specs.Words.ask
+use Rattle.arj_protocol.specs.Words.voted
+use Rattle.arj_protocol.specs.Ask.{actor}
+use Rattle.arj_protocol.specs.Copy.{Copy}
+use Rattle.arj_protocol.specs.Order.{at_number, binding_number}
+use Rattle.arj_protocol.specs.Server.{Server, activate, invoke, new_server, told, vote}
+use Rattle.arj_protocol.specs.Values.{state_value}
+use Rattle.arj_lock_law.specs.Actions.{In}
+use Rattle.arj_lock_law.specs.Machine.{start}
+use Rattle.arj_lock_law.specs.State as machine
+use Rattle.arj_lock_law.specs.State.{State}
+use Rattle.arj_part_law.specs.Ends.{ask_ends}
+use Rattle.arj_part_law.specs.Messages.{FitsAsk}
+use Rattle.arj_part_law.specs.Servers.{AreOrdered}
+use Rattle.arj_lock_view_law.specs.Commits.{HasVoted, OnlyVote, ballot_for}
+use Rattle.arj_lock_view_law.specs.Copies.{OnlyEnds, OnlyServer}
+use Rattle.arj_lock_view_law.specs.Going.{Goes, IsServedBy}
+use Rattle.arj_lock_view_law.specs.Named.{IsNamedSo}
+use Rattle.arj_lock_view_law.specs.Servers.{ShowsIfInvoked, wanted_by}
+use Rattle.arj_lock_view_law.specs.Telling.{AreOneTree, Family, IsOfFamily, Sees, ShowEnds, View}
+
+-- ---- it stops and starts
+
+-- Its node is down, and the machine's server is of no later incarnation than the disk's.
+abbrev pub IsDown : View → ℕ → State → Type 0
+IsDown v inc S = (let m = S.server v.node in m.incarnation) ≤ inc
+
+-- It stops: the machine waits.
+abbrev pub ServersStop : Type 0
+ServersStop = (v : View) (s : Server) (S : State) → Sees v s S → IsDown v s.inc S
+
+-- Before it first starts it is down too.
+abbrev pub ServersAreDown : Type 0
+ServersAreDown = (v : View) (first inc : ℕ) → IsDown v inc (start first)
+
+-- It starts in a later incarnation, with nothing: so does the machine's.
+abbrev pub ServersStart : Type 0
+ServersStart = (v : View) (inc i : ℕ) (S : State) → inc < i → IsDown v inc S → Goes S (λ T. Sees v (new_server i) T × OnlyServer v.node S T)
+
+-- ---- what requests show
+
+-- An Activate of the object: its binding is of this node, and a state was sent for it.
+pub record IsGiven (v : View) (b : Binding) (st : ObjectState) (S : State) : Type 0 where
+  pub bound : 1 ≤ binding_number b
+  pub served : IsServedBy S b v.node
+  pub sent : In (machine.Activate (binding_number b) (v.code (state_value st))) S.net
+
+-- An Invoke on the object: one of this number was sent, to the node of its binding, the incarnation that it says was heard for that,
+-- and it is what the action wants by this number.
+pub record IsAsked (v : View) (h : Head) (b : Binding) (i : ℕ) (o : Op) (S : State) : Type 0 where
+  pub number : 1 ≤ h.req
+  pub bound : 1 ≤ binding_number b
+  pub served : IsServedBy S b v.node
+  pub named : IsNamedSo S b i
+  pub sent : In (machine.Invoke (wanted_by v.family.act (actor h.path) h.req (record { binding = b; op = o }))) S.net
+  pub wish : v.wants (actor h.path) h.req ≡ Some (record { binding = b; op = o })
+
+-- A Vote that ties the object to this binding: it was sent with the incarnation that it says, to the binding's node.
+pub record IsVoteFor (v : View) (u : Uid) (i : ℕ) (b : Binding) (S : State) : Type 0 where
+  pub sent : In (machine.Vote (v.family.act u) (binding_number b) i) S.net
+  pub served : IsServedBy S b v.node
+
+-- What a request shows of the object, where it is about it. An Invoke of another object is no request that wants something of this one.
+abbrev pub ShowsAsk : View → Head → Ask → State → Type 0
+ShowsAsk v h (ask.Activate b st) S = (let u = st.uid in u.num) ≡ v.x → IsGiven v b st S
+ShowsAsk v h (ask.Invoke y b i ends o) S = (y ≡ v.x → IsAsked v h b i o S) × (y ≢ v.x → v.wants (actor h.path) h.req ≡ None)
+ShowsAsk v h (ask.Vote i ties ends) S = (b : Binding) → Contains {X = ℕ × Binding} ties (v.x, b) → IsVoteFor v (actor h.path) i b S
+ShowsAsk v h a S = ⊤
+
+-- A request comes to the server: both are of the actions that were begun, and it shows what it says of the object and of ends.
+pub record IsShown (v : View) (h : Head) (a : Ask) (s : Server) (S : State) : Type 0 where
+  pub whole : AreOneTree v.family
+  pub server : IsOfFamily v.family s
+  pub fits : FitsAsk (let g = v.family in g.begun) h a
+  pub says : ShowsAsk v h a S
+  pub shown : ShowEnds v s S (ask_ends a)
+
+-- ---- what it does with them
+
+-- what an answer to an Activate shows
+abbrev pub ShowsActivated : Binding → State → Option ℕ → Type 0
+ShowsActivated b S None = ⊤
+ShowsActivated b S (Some i) = In (machine.Activated (binding_number b) i) S.net
+
+-- An Activate: the server takes the state, or has it, or the message is void.
+abbrev pub ActivatesAreSeen : Type 0
+ActivatesAreSeen = (v : View) (h : Head) (b : Binding) (st : ObjectState) (s : Server) (S : State)
+    → ShowsAsk v h (ask.Activate b st) S → Sees v s S
+    → let r = activate v.node h.path b st s in Goes S (λ T. Sees v r.part T × OnlyServer v.node S T × ((let u = st.uid in u.num) ≡ v.x → ShowsActivated b T r.reply))
+
+-- An Invoke: the server answers that it has changed, answers as it did, or applies the ends that are new to it and then the operation, or
+-- refuses that.
+abbrev pub InvokesAreSeen : Type 0
+InvokesAreSeen = (v : View) (h : Head) (y : ℕ) (b : Binding) (i : ℕ) (ends : List (Uid × End)) (o : Op) (s : Server) (S : State)
+    → IsShown v h (ask.Invoke y b i ends o) s S → Sees v s S
+    → let r = invoke v.node h y b i ends o s in
+    Goes S (λ T. Sees v r.part T × OnlyServer v.node S T × (y ≡ v.x → ShowsIfInvoked v.family.act v.code (actor h.path) h.req (record { binding = b; op = o }) T r.reply))
+
+abbrev pub is_yes : Option VotedReply → Bool
+is_yes (Some (voted.Yes states)) = true
+is_yes _ = false
+
+-- The server has voted for the top, under this binding, which is its copy's, with what the top left in that.
+pub record HasVotedHere (v : View) (u : Uid) (b : Binding) (s : Server) (S T : State) : Type 0 where
+  pub copy : Copy
+  pub there : at_number v.x s.objects ≡ Some copy
+  pub bound : binding_number b ≡ binding_number copy.binding
+  pub voted : HasVoted v.code v.node (v.family.act u) (binding_number b) (ballot_for v.code u copy) S T
+
+-- A Vote: the server applies the ends that are new to it and votes, says that it has changed, or the message is void.
+abbrev pub VotesAreTaken : Type 0
+VotesAreTaken = (v : View) (h : Head) (i : ℕ) (ties : List (ℕ × Binding)) (ends : List (Uid × End)) (s : Server) (S : State)
+    → IsShown v h (ask.Vote i ties ends) s S → Sees v s S
+    → let r = vote v.node h.path i ties ends s in
+    Goes S (λ T. Sees v r.part T × OnlyVote v.node (v.family.act (actor h.path)) S T × ((b : Binding) → Contains {X = ℕ × Binding} ties (v.x, b) → is_yes r.reply ≡ true → HasVotedHere v (actor h.path) b r.part S T))
