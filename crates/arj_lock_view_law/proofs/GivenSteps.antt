@@ -133,10 +133,10 @@ module _ (v : View) (h : Head) (i : ℕ) (ties : List (ℕ × Binding)) (ends : 
   lowest c there r k on =
       let d = after.knows.rows v.x c r there k in
       ⊎_elim (λ (is : act_of d.0 ≡ u). ap last_uid d.2 ∙ is)
-          (λ (other : act_of d.0 ≢ u).
-          let told_of_it = all_told v.family.begun shown.whole.begun n ends s (act_of d.0) (shown.fits.1 d.0 d.1 (ap (λ us. is_on us u) (sym d.2) ∙ on) other) in
-          absurd (differ (ap (λ us. is_on us (act_of d.0)) d.2 ∙ on_own (let a = d.0 in a.path)) (none_in (λ (q : Row). is_on q.holder (act_of d.0)) r c.rows (after.good.none v.x c (act_of d.0) there told_of_it) (in_from r c.rows k))))
-          (uid_cases (act_of d.0) u)
+      (λ (other : act_of d.0 ≢ u).
+      let told_of_it = all_told v.family.begun shown.whole.begun n ends s (act_of d.0) (shown.fits.1 d.0 d.1 (ap (λ us. is_on us u) (sym d.2) ∙ on) other) in
+      absurd (differ (ap (λ us. is_on us (act_of d.0)) d.2 ∙ on_own (let a = d.0 in a.path)) (none_in (λ (q : Row). is_on q.holder (act_of d.0)) r c.rows (after.good.none v.x c (act_of d.0) there told_of_it) (in_from r c.rows k))))
+      (uid_cases (act_of d.0) u)
 
   committing : (c : Copy) → at_number v.x t.objects ≡ Some c → IsCommitting act v.family.paths v.x u c
   committing c there = record { one = (let w = shown.whole in let k = w.alike in k.one); good = after.good.copies v.x c there; lowest = lowest c there; told = told_of act v.family.paths v.x c shown.whole.alike (after.good.copies v.x c there) u }

@@ -1,5 +1,5 @@
 -- What stays where ends are applied at a server.
-use Rattle.std.proofs.Common.{◌≡◌, ◌≢◌, ◌∙◌, ℕ, List, [], ◌∷◌, Bool, true, false, cond, filter, map, Option, Some, None, refl, sym, ap, subst, inl, inr}
+use Rattle.std.proofs.Common.{◌≡◌, ◌∙◌, ℕ, List, [], ◌∷◌, Bool, true, false, cond, filter, map, Option, Some, None, refl, sym, ap, subst, inl, inr}
 use Rattle.arj_protocol.specs.Words.{InvokedReply, Uid}
 use Rattle.arj_protocol.specs.Words.invoked
 use Rattle.arj_protocol.specs.Copy.{Copy}
@@ -99,6 +99,9 @@ drop_later n a S T only may = subst (Guard (DropRows n a)) (sym only.rest) (by m
   where
     by : Guard (DropRows n a) S → Guard (DropRows n a) (record S { server = T.server })
     by (inl aborted) = inl aborted
-    by (inr (inl over)) = inr (inl (over.0, λ e i above committed c called write survives. (let f = only.left e i in
-      (λ is. over.1 f.0 f.1 (f.3 a above) (ap (λ (b : Act). (let z = S.action (top b) in z.stage)) (sym f.2) ∙ committed) c called write survives (is ∙ ap top f.2)))))
+    by (inr (inl over)) = inr (inl (
+      over.0,
+      λ e i above committed c called write survives. (let f = only.left e i in
+          (λ is. over.1 f.0 f.1 (f.3 a above) (ap (λ (b : Act). (let z = S.action (top b) in z.stage)) (sym f.2) ∙ committed) c called write survives (is ∙ ap top f.2))),
+    ))
     by (inr (inr apart)) = inr (inr (apart.0, apart.1, (let k = only.keeps in ap (λ (f : Act → Bool). f a) k.voted ∙ apart.2)))

@@ -1,30 +1,27 @@
 -- Where actions that were begun stand, in the protocol and in the machine.
-use Rattle.std.proofs.Common.{◌≡◌, ◌≢◌, ◌≤◌, ◌⊎◌, ◌∙◌, ◌++◌, ◌+◌, ◌||◌, ℕ, List, [], ◌∷◌, length, take, Bool, true, false, Option, Some, None, refl, sym, ap, subst, inl, inr, ⊎_elim, Contains, arith}
+use Rattle.std.proofs.Common.{◌≡◌, ◌≢◌, ◌≤◌, ◌∙◌, ◌++◌, ◌+◌, ◌||◌, ℕ, List, [], ◌∷◌, length, take, Bool, true, false, Some, refl, sym, ap, subst, inl, inr, ⊎_elim, Contains, arith}
 use Rattle.std.specs.List.{list_any}
 use Rattle.std.proofs.lemmas.Bool.{or_cases}
 use Rattle.std.proofs.lemmas.List.{length-append, take-append-le}
 use Rattle.arj_base.specs.Path.{before_last}
-use Rattle.arj_base.proofs.Uids.{uid_is, uid_same}
+use Rattle.arj_base.proofs.Uids.{uid_is}
 use Rattle.arj_lock.proofs.Members as list
 use Rattle.arj_lock.proofs.Members.{in_find, in_from, in_to}
-use Rattle.arj_lock.proofs.OneEach.{none_in}
-use Rattle.arj_lock.proofs.PassLeaves.{has, which}
-use Rattle.arj_protocol.specs.Words.{Kind, Row, Uid, first_uid, is_on, last_uid, tops_of, uid_eq, uids_of}
+use Rattle.arj_lock.proofs.PassLeaves.{which}
+use Rattle.arj_protocol.specs.Words.{Kind, Row, Uid, first_uid, is_on, tops_of, uid_eq, uids_of}
 use Rattle.arj_protocol.specs.Words.kind
-use Rattle.arj_protocol.specs.Copy.{Copy, Over, is_of, is_top_in, over_of}
-use Rattle.arj_protocol.specs.Order.{at_number}
+use Rattle.arj_protocol.specs.Copy.{Copy, is_top_in}
 use Rattle.arj_protocol.specs.Server.{Server, is_top}
 use Rattle.arj_lock_law.specs.Actions.{Act, Root, Sub, depth, is_action, on, root}
 use Rattle.arj_lock_law.specs.Actions as machine
 use Rattle.arj_lock_law.specs.State.{State}
-use Rattle.arj_lock_law.proofs.Paths.{differ, not_below, on_above, on_base, on_root, on_same, on_self, on_trans, on_up, root_is, same_is, top_action}
+use Rattle.arj_lock_law.proofs.Paths.{differ, not_below, on_above, on_base, on_root, on_self, on_trans, on_up, root_is, same_is, top_action}
 use Rattle.arj_part_law.specs.Actions.{Action, AreBegun, Stands, act_of}
-use Rattle.arj_part_law.proofs.Begun.{before_more, on_more, on_own, one_action, path_length, path_some, serial_alone, where_stands, whole_top}
-use Rattle.arj_part_law.proofs.Pairs.{number_in}
+use Rattle.arj_part_law.proofs.Begun.{before_more, on_more, one_action, path_length, path_some, serial_alone, where_stands}
 use Rattle.arj_lock_view_law.specs.Actions.{IsPlaced}
 use Rattle.arj_lock_view_law.specs.Acts.{IsCaller, IsDeep}
 use Rattle.arj_lock_view_law.specs.Commits.{IsAlone, IsRightBelow}
-use Rattle.arj_lock_view_law.specs.Telling.{AreOneTree, Family, IsCommittedSo, IsOfFamily, is_plain}
+use Rattle.arj_lock_view_law.specs.Telling.{AreOneTree, Family, IsOfFamily, is_plain}
 use Rattle.arj_lock_view_law.proofs.TreeSteps.{first_on}
 
 -- ---- the first Uids of a path
@@ -59,8 +56,8 @@ leads (a ∷ acts) begun d (inl is) u above = of (leads acts begun.1) a.kind ref
         let up = serial_alone acts begun.1 b (in_from b acts s.1) s.2 in
         let path : uids_of a.path ≡ act_of b ∷ act_of a ∷ [] = s.3 ∙ ap (λ us. us ++ act_of a ∷ []) up.0 in
         ⊎_elim (λ same. (b, inr (in_from b acts s.1), uid_is (act_of b) u same, λ nested. cc (sym s.2 ∙ nested)))
-            (λ rest. (a, inl refl, one rest, λ nested. cc (sym kind_is ∙ nested)))
-            (or_cases (uid_eq (act_of b) u) (is_on (act_of a ∷ []) u) (subst (λ (us : List Uid). is_on us u ≡ true) (λ j. take (s.4 j) (path j)) o))
+        (λ rest. (a, inl refl, one rest, λ nested. cc (sym kind_is ∙ nested)))
+        (or_cases (uid_eq (act_of b) u) (is_on (act_of a ∷ []) u) (subst (λ (us : List Uid). is_on us u ≡ true) (λ j. take (s.4 j) (path j)) o))
 
 -- ---- paths of the machine
 

@@ -1,17 +1,17 @@
 -- A server that is told of ends goes in the machine.
-use Rattle.std.proofs.Common.{◌≡◌, ◌≢◌, ◌≤◌, ◌⊎◌, ◌∙◌, ◌&&◌, not, ℕ, List, [], ◌∷◌, Bool, true, false, cond, Option, Some, None, refl, sym, ap, subst, inl, inr, ⊎_elim, Contains, arith}
+use Rattle.std.proofs.Common.{◌≡◌, ◌≢◌, ◌≤◌, ◌∙◌, ◌&&◌, not, ℕ, List, [], ◌∷◌, Bool, true, false, cond, Option, Some, None, refl, sym, ap, subst, inl, inr, ⊎_elim, Contains, arith}
 use Rattle.std.specs.List.{AllByRecursion}
 use Rattle.std.specs.Prelude.{is_some}
 use Rattle.std.proofs.lemmas.Bool.{or_parts}
-use Rattle.arj_base.proofs.Uids.{uid_cases, uid_same}
+use Rattle.arj_base.proofs.Uids.{uid_same}
 use Rattle.arj_lock.proofs.Members as list
 use Rattle.arj_lock.proofs.Members.{in_from, in_map, in_to}
 use Rattle.arj_protocol.specs.Words.{End, Row, Uid, is_on, last_uid, uid_eq}
 use Rattle.arj_protocol.specs.Words.ending
-use Rattle.arj_protocol.specs.Copy.{Copy, Over, end_copy, over_of}
+use Rattle.arj_protocol.specs.Copy.{Copy, Over, end_copy}
 use Rattle.arj_protocol.specs.Effect.{Did, did_nothing}
-use Rattle.arj_protocol.specs.Order.{at_number, at_uid, binding_number, drop_uid, each, put_uid, without_uid}
-use Rattle.arj_protocol.specs.Server.{Kept, Server, apply_ends, end_new, end_one, is_told, is_top, taken_end}
+use Rattle.arj_protocol.specs.Order.{at_number, at_uid, binding_number, drop_uid, each, put_uid}
+use Rattle.arj_protocol.specs.Server.{Server, apply_ends, end_new, end_one, is_told, is_top, taken_end}
 use Rattle.arj_lock_law.specs.Actions.{Act, In, Root, Sub, on}
 use Rattle.arj_lock_law.specs.Actions as path
 use Rattle.arj_lock_law.specs.Machine.{Guard, stay}
@@ -29,9 +29,9 @@ use Rattle.arj_part_law.proofs.ServerRuns.{end_binding, one_follows}
 use Rattle.arj_lock_view_law.specs.Acts.{Acts}
 use Rattle.arj_lock_view_law.specs.Actions.{AreAlike}
 use Rattle.arj_lock_view_law.specs.Commits.{IsAlone, IsCommitting, IsRightBelow}
-use Rattle.arj_lock_view_law.specs.Copies.{Codes, IsTold, OnlyEnds, SeesCopy}
+use Rattle.arj_lock_view_law.specs.Copies.{IsTold, OnlyEnds, SeesCopy}
 use Rattle.arj_lock_view_law.specs.Going.{Goes}
-use Rattle.arj_lock_view_law.specs.Servers.{SeesObject, Wants, last_of}
+use Rattle.arj_lock_view_law.specs.Servers.{SeesObject, last_of}
 use Rattle.arj_lock_view_law.specs.Telling.{AreBrought, AreOneTree, EndsAreTaken, Family, IsCommittedSo, IsOfFamily, Sees, ShowEnds, ShowsEnd, View}
 use Rattle.arj_lock_view_law.proofs.CommitSteps.{foldings_are_seen, retainings_are_seen, settlings_are_seen}
 use Rattle.arj_lock_view_law.proofs.LeftSteps.{drop_later, ends_both, ends_none, ends_sent, shows_later}
@@ -88,7 +88,7 @@ module _ (v : View) (whole : AreOneTree v.family) where
       incarnation = (let k = only.keeps in k.incarnation ∙ sees.incarnation);
       object = object;
       latest = λ w none. (let o = untold e w none in let k = only.keeps in
-        low (ap (λ (f : Act → ℕ). f (act w)) k.request) (ap last_of (without_other w u s.kept o.0)) (sees.latest w o.1));
+          low (ap (λ (f : Act → ℕ). f (act w)) k.request) (ap last_of (without_other w u s.kept o.0)) (sees.latest w o.1));
       kept = λ w k d found wanted. (let f = without_cases w u k s.kept (let good = of.good in good.sorted) found in shows_later act v.code w k.req d S T (ends_sent only) k.answer (sees.kept w k d f.1 wanted));
       voted = λ w none off. (let o = untold e w none in let k = only.keeps in ap (λ (f : Act → Bool). f (act w)) k.voted ∙ sees.voted w o.1 (off_before w o.0 off));
     }

@@ -1,12 +1,12 @@
 -- What a server does in the machine of one object: it stops, starts, and takes the messages that are for it.
 use Rattle.std.specs.Prelude.{⊤, ◌≡◌, ◌≢◌, ◌<◌, ◌≤◌, ℕ, Bool, true, false, List, Option, Some, None, Contains}
-use Rattle.arj_protocol.specs.Words.{Ask, Binding, End, Head, ObjectState, Op, Path, Uid, VotedReply, writes}
+use Rattle.arj_protocol.specs.Words.{Ask, Binding, End, Head, ObjectState, Op, Uid, VotedReply}
 use Rattle.arj_protocol.specs.Words.ask
 use Rattle.arj_protocol.specs.Words.voted
 use Rattle.arj_protocol.specs.Ask.{actor}
 use Rattle.arj_protocol.specs.Copy.{Copy}
 use Rattle.arj_protocol.specs.Order.{at_number, binding_number}
-use Rattle.arj_protocol.specs.Server.{Server, activate, invoke, new_server, told, vote}
+use Rattle.arj_protocol.specs.Server.{Server, activate, invoke, new_server, vote}
 use Rattle.arj_protocol.specs.Values.{state_value}
 use Rattle.arj_lock_law.specs.Actions.{In}
 use Rattle.arj_lock_law.specs.Machine.{start}
@@ -14,13 +14,13 @@ use Rattle.arj_lock_law.specs.State as machine
 use Rattle.arj_lock_law.specs.State.{State}
 use Rattle.arj_part_law.specs.Ends.{ask_ends}
 use Rattle.arj_part_law.specs.Messages.{FitsAsk}
-use Rattle.arj_part_law.specs.Servers.{AreOrdered}
+use Rattle.arj_lock_view_law.specs.Asks.{IsLater}
 use Rattle.arj_lock_view_law.specs.Commits.{HasVoted, OnlyVote, ballot_for}
-use Rattle.arj_lock_view_law.specs.Copies.{OnlyEnds, OnlyServer}
+use Rattle.arj_lock_view_law.specs.Copies.{OnlyServer}
 use Rattle.arj_lock_view_law.specs.Going.{Goes, IsServedBy}
 use Rattle.arj_lock_view_law.specs.Named.{IsNamedSo}
 use Rattle.arj_lock_view_law.specs.Servers.{ShowsIfInvoked, wanted_by}
-use Rattle.arj_lock_view_law.specs.Telling.{AreOneTree, Family, IsOfFamily, Sees, ShowEnds, View}
+use Rattle.arj_lock_view_law.specs.Telling.{AreOneTree, IsOfFamily, Sees, ShowEnds, View}
 
 -- ---- it stops and starts
 
@@ -64,19 +64,23 @@ pub record IsVoteFor (v : View) (u : Uid) (i : ℕ) (b : Binding) (S : State) : 
   pub served : IsServedBy S b v.node
 
 -- What a request shows of the object, where it is about it. An Invoke of another object is no request that wants something of this one.
-abbrev pub ShowsAsk : View → Head → Ask → State → Type 0
-ShowsAsk v h (ask.Activate b st) S = (let u = st.uid in u.num) ≡ v.x → IsGiven v b st S
-ShowsAsk v h (ask.Invoke y b i ends o) S = (y ≡ v.x → IsAsked v h b i o S) × (y ≢ v.x → v.wants (actor h.path) h.req ≡ None)
-ShowsAsk v h (ask.Vote i ties ends) S = (b : Binding) → Contains {X = ℕ × Binding} ties (v.x, b) → IsVoteFor v (actor h.path) i b S
-ShowsAsk v h a S = ⊤
+abbrev pub ShowsToServer : View → Head → Ask → State → Type 0
+ShowsToServer v h (ask.Activate b st) S = (let u = st.uid in u.num) ≡ v.x → IsGiven v b st S
+ShowsToServer v h (ask.Invoke y b i ends o) S = (y ≡ v.x → IsAsked v h b i o S) × (y ≢ v.x → v.wants (actor h.path) h.req ≡ None)
+ShowsToServer v h (ask.Vote i ties ends) S = (b : Binding) → Contains {X = ℕ × Binding} ties (v.x, b) → IsVoteFor v (actor h.path) i b S
+ShowsToServer v h a S = ⊤
 
 -- A request comes to the server: both are of the actions that were begun, and it shows what it says of the object and of ends.
 pub record IsShown (v : View) (h : Head) (a : Ask) (s : Server) (S : State) : Type 0 where
   pub whole : AreOneTree v.family
   pub server : IsOfFamily v.family s
   pub fits : FitsAsk (let g = v.family in g.begun) h a
-  pub says : ShowsAsk v h a S
+  pub says : ShowsToServer v h a S
   pub shown : ShowEnds v s S (ask_ends a)
+
+-- What a request shows it shows for ever.
+abbrev pub StaysShown : Type 0
+StaysShown = (v : View) (h : Head) (a : Ask) (S T : State) → IsLater S T → ShowsToServer v h a S → ShowsToServer v h a T
 
 -- ---- what it does with them
 
@@ -88,7 +92,7 @@ ShowsActivated b S (Some i) = In (machine.Activated (binding_number b) i) S.net
 -- An Activate: the server takes the state, or has it, or the message is void.
 abbrev pub ActivatesAreSeen : Type 0
 ActivatesAreSeen = (v : View) (h : Head) (b : Binding) (st : ObjectState) (s : Server) (S : State)
-    → ShowsAsk v h (ask.Activate b st) S → Sees v s S
+    → ShowsToServer v h (ask.Activate b st) S → Sees v s S
     → let r = activate v.node h.path b st s in Goes S (λ T. Sees v r.part T × OnlyServer v.node S T × ((let u = st.uid in u.num) ≡ v.x → ShowsActivated b T r.reply))
 
 -- An Invoke: the server answers that it has changed, answers as it did, or applies the ends that are new to it and then the operation, or
