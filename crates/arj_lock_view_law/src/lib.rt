@@ -8,8 +8,9 @@
 //! object at naming, `specs/Going.antt` what a run leaves alone and what an answer shows. What it gives upward: a Bind, a
 //! Record and a Hello go (`specs/Bindings.antt`), and so do ends, exclude locks and a restart (`specs/Ends.antt`): that is what
 //! naming does with one object. A server's activations, operations, refusals and undoings go too (`specs/Copies.antt`), its
-//! commits and votes (`specs/Commits.antt`), and the whole of it where it starts, takes a copy, answers calls
-//! and votes, but not yet where it is told of ends (`specs/Servers.antt`). Of a coordinator its tree is seen (`specs/Actions.antt`), how its actions begin and end
+//! commits and votes (`specs/Commits.antt`), and the whole of it (`specs/Servers.antt`): where it is told of ends
+//! (`specs/Telling.antt`), where it stops and starts, and at each message that is for it, which may bring ends too
+//! (`specs/Serving.antt`). Of a coordinator its tree is seen (`specs/Actions.antt`), how its actions begin and end
 //! (`specs/Begins.antt`, `specs/Acting.antt`, `specs/Whole.antt`); what its roots keep (`specs/Roots.antt`), how its calls go (`specs/Calling.antt`),
 //! and what their requests show (`specs/Asks.antt`). Lines of includes, and what a commit's requests show, aren't seen yet.
 #![tactic(auto)]
