@@ -64,7 +64,7 @@ tied_copy (t ∷ ts) s x b none i = by (changed_copy t.1 (at_number t.0 s.object
     by None is un (inr more) ih = ih un more
 
 only_no_vote : (n : ℕ) (m : Act) (S : State) → OnlyVote n m S S
-only_no_vote n m S = record { rest = refl; others = λ k other. refl; tops = λ a other. (refl, refl) }
+only_no_vote n m S = record { rest = refl; others = λ k other. refl; tops = λ a other. (refl, refl); raised = omega arith }
 
 -- ends, and then a vote
 vote_after : {n : ℕ} {m : Act} {S T V : State} → OnlyEnds n S T → OnlyVote n m T V → OnlyVote n m S V
@@ -72,6 +72,7 @@ vote_after {n} {m} {S} {T} {V} a b = record {
   rest = b.rest ∙ ap (λ (z : State). record z { server = V.server; yes = V.yes; vote = V.vote }) a.rest;
   others = λ k other. b.others k other ∙ a.others k other;
   tops = λ c other. (let k = b.tops c other in (k.0 ∙ ap (λ (z : State). z.yes c) a.rest, k.1 ∙ ap (λ (z : State). z.vote c) a.rest));
+  raised = subst (λ (k : ℕ). k ≤ V.yes m) (ap (λ (z : State). z.yes m) a.rest) b.raised;
 }
 
 ends_and_no_vote : (n : ℕ) (m : Act) (S T : State) → OnlyEnds n S T → OnlyVote n m S T

@@ -12,6 +12,7 @@ pub mod EndSteps
 pub mod FreeSteps
 pub mod GivenSteps
 pub mod GivingSteps
+pub mod HandledSteps
 pub mod InvokedSteps
 pub mod LeftSteps
 pub mod LogSteps

@@ -29,7 +29,7 @@ use Rattle.arj_lock_view_law.specs.Acts.{Acts, AreOne, IsCaller}
 use Rattle.arj_lock_view_law.specs.Copies.{Codes, IsNew, KeepsServer, OnlyEnds, OnlyServer, SeesCopy, answer_for, request_for}
 use Rattle.arj_lock_view_law.specs.Going.{Goes, IsServedBy}
 use Rattle.arj_lock_view_law.specs.Servers.{SeesObject, SeesServer, ShowsIfInvoked, ShowsInvoked, Wanted, Wants, last_of, wanted_by}
-use Rattle.arj_lock_view_law.specs.Serving.{ActivatesAreSeen, InvokesAreSeen, IsAsked, IsShown, ServersAreDown, ServersStart, ServersStop, ShowsActivated, StaysShown}
+use Rattle.arj_lock_view_law.specs.Serving.{ActivatesAreSeen, InvokesAreSeen, IsAsked, IsShown, ServersAreDown, ServersStart, ServersStop, ShowsActivated}
 use Rattle.arj_lock_view_law.specs.Telling.{AreBrought, Sees, View}
 use Rattle.arj_lock_view_law.proofs.CopySteps.{activations_are_seen, operations_are_seen, refusals_are_seen, server_else}
 use Rattle.arj_lock_view_law.proofs.LeftSteps.{object_sent, only_server, shows_later}
@@ -69,28 +69,6 @@ servers_start v inc i S up down = record {
   where
     n : ℕ
     n = v.node
-
--- ---- what requests show
-
-pub stays_shown : StaysShown
-stays_shown v h (ask.Activate b st) S T later says = λ about. let g = says about in record { bound = g.bound; served = later.server b v.node g.served; sent = later.sent (machine.Activate (binding_number b) (v.code (state_value st))) g.sent }
-stays_shown v h (ask.Invoke y b i ends o) S T later says = (
-  (λ about. (let g = says.0 about in record {
-    number = g.number;
-    bound = g.bound;
-    served = later.server b v.node g.served;
-    named = later.named b i g.named;
-    sent = later.sent (machine.Invoke (wanted_by v.family.act (actor h.path) h.req (record { binding = b; op = o }))) g.sent;
-    wish = g.wish;
-  })),
-  says.1,
-)
-stays_shown v h (ask.Vote i ties ends) S T later says = λ b tied. let g = says b tied in record { sent = later.sent (machine.Vote (v.family.act (actor h.path)) (binding_number b) i) g.sent; served = later.server b v.node g.served }
-stays_shown v h (ask.Bind y include avoid) S T later says = tt
-stays_shown v h (ask.Load y) S T later says = tt
-stays_shown v h (ask.Record y b i g) S T later says = tt
-stays_shown v h (ask.Prepare states) S T later says = tt
-stays_shown v h (ask.Confirm grants excluded included) S T later says = tt
 
 -- ---- it takes a copy
 

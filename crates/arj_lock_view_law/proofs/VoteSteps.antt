@@ -65,7 +65,7 @@ module _ (act : Acts) (code : Codes) (paths : Paths) (n x i : ℕ) (u : Uid) (c 
     run = step (VoteTop n m b i) (sent, server, incarnation, sees.active, folded_here act paths x u c ends code S v.log sees.overs) stay;
     holds = (
       subst (SeesCopy act code x c) (sym (at_here S.server n bound)) (record { active = sees.active; base = sees.base; overs = sees.overs; rows = sees.rows }),
-      record { rest = refl; others = λ k other. server_else S n k bound other; tops = λ a other. (act_other S.yes m (max (S.yes m) b) a other, act_other S.vote m (ballot S n m b) a other) },
+      record { rest = refl; others = λ k other. server_else S n k bound other; tops = λ a other. (act_other S.yes m (max (S.yes m) b) a other, act_other S.vote m (ballot S n m b) a other); raised = subst (λ (k : ℕ). S.yes m ≤ k) (sym (act_here S.yes m (max (S.yes m) b))) (omega arith) },
       subst (KeepsVoter m v) (sym (at_here S.server n bound)) (record { incarnation = refl; request = refl; voted = refl }),
       record {
         voted = ap (λ (w : Server). w.voted m) (at_here S.server n bound) ∙ act_here v.voted m true;

@@ -72,11 +72,12 @@ value_in b (Some o) = o.value
 abbrev pub ballot_for : Codes → Uid → Copy → Ballot
 ballot_for code u c = record { value = code (value_in c.base (over_of u c.stack)); under = code (let b = c.base in b.value) }
 
--- Only the server of this node changed, and what votes for this top gave.
+-- Only the server of this node changed, and what votes for this top gave: under no lesser binding.
 pub record OnlyVote (n : ℕ) (m : Act) (S T : State) : Type 0 where
   pub rest : T ≡ record S { server = T.server; yes = T.yes; vote = T.vote }
   pub others : (k : ℕ) → k ≢ n → T.server k ≡ S.server k
   pub tops : (a : Act) → same a m ≡ false → (T.yes a ≡ S.yes a) × (T.vote a ≡ S.vote a)
+  pub raised : S.yes m ≤ T.yes m
 
 -- The server has voted for the top under the binding. The first such vote gives what the copy has; a vote that comes again, or of
 -- an earlier binding, gives nothing new.

@@ -17,3 +17,4 @@ pub mod Servers
 pub mod Stops
 pub mod Telling
 pub mod Serving
+pub mod Handling

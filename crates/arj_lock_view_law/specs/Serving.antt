@@ -14,7 +14,6 @@ use Rattle.arj_lock_law.specs.State as machine
 use Rattle.arj_lock_law.specs.State.{State}
 use Rattle.arj_part_law.specs.Ends.{ask_ends}
 use Rattle.arj_part_law.specs.Messages.{FitsAsk}
-use Rattle.arj_lock_view_law.specs.Asks.{IsLater}
 use Rattle.arj_lock_view_law.specs.Commits.{HasVoted, OnlyVote, ballot_for}
 use Rattle.arj_lock_view_law.specs.Copies.{OnlyServer}
 use Rattle.arj_lock_view_law.specs.Going.{Goes, IsServedBy}
@@ -77,10 +76,6 @@ pub record IsShown (v : View) (h : Head) (a : Ask) (s : Server) (S : State) : Ty
   pub fits : FitsAsk (let g = v.family in g.begun) h a
   pub says : ShowsToServer v h a S
   pub shown : ShowEnds v s S (ask_ends a)
-
--- What a request shows it shows for ever.
-abbrev pub StaysShown : Type 0
-StaysShown = (v : View) (h : Head) (a : Ask) (S T : State) → IsLater S T → ShowsToServer v h a S → ShowsToServer v h a T
 
 -- ---- what it does with them
 

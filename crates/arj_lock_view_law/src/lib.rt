@@ -9,8 +9,8 @@
 //! Record and a Hello go (`specs/Bindings.antt`), and so do ends, exclude locks and a restart (`specs/Ends.antt`): that is what
 //! naming does with one object. A server's activations, operations, refusals and undoings go too (`specs/Copies.antt`), its
 //! commits and votes (`specs/Commits.antt`), and the whole of it (`specs/Servers.antt`): where it is told of ends
-//! (`specs/Telling.antt`), where it stops and starts, and at each message that is for it, which may bring ends too
-//! (`specs/Serving.antt`). Of a coordinator its tree is seen (`specs/Actions.antt`), how its actions begin and end
+//! (`specs/Telling.antt`), where it stops and starts, at each message that is for it, which may bring ends too
+//! (`specs/Serving.antt`), and at each that its node takes (`specs/Handling.antt`). Of a coordinator its tree is seen (`specs/Actions.antt`), how its actions begin and end
 //! (`specs/Begins.antt`, `specs/Acting.antt`, `specs/Whole.antt`); what its roots keep (`specs/Roots.antt`), how its calls go (`specs/Calling.antt`),
 //! and what their requests show (`specs/Asks.antt`). Lines of includes, and what a commit's requests show, aren't seen yet.
 #![tactic(auto)]
@@ -27,4 +27,7 @@ pub use naming::{
     binds_are_seen, ends_are_seen, excludes_are_seen, hellos_are_seen, records_are_seen,
     restarts_are_seen,
 };
-pub use server::{commits_at_servers_are_seen, copies_are_seen, servers_are_seen, votes_are_seen};
+pub use server::{
+    commits_at_servers_are_seen, copies_are_seen, messages_at_servers_are_seen, servers_are_seen,
+    votes_are_seen,
+};

@@ -1,7 +1,8 @@
 // A server, as the lock machine of one object has it.
 ghost use Rattle.arj_lock_view_law.specs.Commits.{FoldingsAreSeen, ReadingsAreSeen, RetainingsAreSeen, SettlingsAreSeen, VotesAreSeen};
 ghost use Rattle.arj_lock_view_law.specs.Copies.{ActivationsAreSeen, OperationsAreSeen, RefusalsAreSeen, UndoingsAreSeen};
-ghost use Rattle.arj_lock_view_law.specs.Serving.{ActivatesAreSeen, InvokesAreSeen, ServersAreDown, ServersStart, ServersStop, StaysShown, VotesAreTaken};
+ghost use Rattle.arj_lock_view_law.specs.Handling.{MessagesAreTaken};
+ghost use Rattle.arj_lock_view_law.specs.Serving.{ActivatesAreSeen, InvokesAreSeen, ServersAreDown, ServersStart, ServersStop, VotesAreTaken};
 ghost use Rattle.arj_lock_view_law.specs.Telling.{EndsAreTaken};
 
 /// What a server does with the copy of an object is allowed in the machine, and leaves the copy seen: it takes a copy, applies a
@@ -31,7 +32,7 @@ pub fn votes_are_seen()
 
 /// A whole server is seen where it stops, where it starts, and after each message that is for it: an Activate, an Invoke, a Vote, a Told.
 /// The ends that a message brings are applied first where they are new. What it answers about the object the machine has said; what it
-/// does with other objects is nothing to the machine but for these ends. What a request shows to it stays. It does nothing when it runs.
+/// does with other objects is nothing to the machine but for these ends. It does nothing when it runs.
 pub fn servers_are_seen()
     ensures stops { ServersStop }
     ensures down { ServersAreDown }
@@ -40,5 +41,10 @@ pub fn servers_are_seen()
     ensures invokes { InvokesAreSeen }
     ensures votes { VotesAreTaken }
     ensures tolds { EndsAreTaken }
-    ensures stay { StaysShown }
+{}
+
+/// A whole message that a node takes leaves its server seen: one that is for the server, as above, or one for another part, which the machine
+/// doesn't see at the server. What the server answers is shown. It does nothing when it runs.
+pub fn messages_at_servers_are_seen()
+    ensures { MessagesAreTaken }
 {}

@@ -1,5 +1,5 @@
 use Rattle.arj_lock_view_law.proofs.GivenSteps.{votes_are_taken}
-use Rattle.arj_lock_view_law.proofs.ServerSteps.{activates_are_seen, invokes_are_seen, servers_are_down, servers_start, servers_stop, stays_shown}
+use Rattle.arj_lock_view_law.proofs.ServerSteps.{activates_are_seen, invokes_are_seen, servers_are_down, servers_start, servers_stop}
 use Rattle.arj_lock_view_law.proofs.ToldSteps.{ends_are_taken}
 use Rattle.arj_lock_view_law.proofs.server.servers_are_seen.Goals as goal
 
@@ -23,6 +23,3 @@ returns-clause-votes c = votes_are_taken
 
 pub returns-clause-tolds : goal.returns-clause-tolds
 returns-clause-tolds c = ends_are_taken
-
-pub returns-clause-stay : goal.returns-clause-stay
-returns-clause-stay c = stays_shown
