@@ -1,12 +1,12 @@
 -- What a coordinator does: whom it asks, tells and lists.
-use Rattle.std.proofs.Common.{◌≡◌, ◌∙◌, ◌+◌, ◌==◌, ◌-◌, ℕ, zero, suc, List, [], ◌∷◌, ◌++◌, Bool, true, false, cond, not, ◌&&◌, ◌||◌, length, map, filter, nat_le, replicate, Option, Some, None, refl, sym, ap, subst, inl, inr, ⊎_elim, arith}
+use Rattle.std.proofs.Common.{◌≡◌, ◌∙◌, ◌≤◌, ◌<◌, ◌+◌, ◌==◌, ℕ, zero, suc, List, [], ◌∷◌, ◌++◌, Bool, true, false, cond, not, ◌&&◌, ◌||◌, length, map, filter, nat_le, Option, Some, None, refl, sym, ap, subst, inl, inr, ⊎_elim, arith}
 use Rattle.std.specs.Prelude.{⊤, IfSome, unwrap_or}
 use Rattle.std.specs.List.{AllByRecursion, flat_map, list_any}
-use Rattle.std.proofs.lemmas.List.{take_at}
+use Rattle.std.proofs.lemmas.Bool.Decides.{nat_tests}
+use Rattle.std.proofs.lemmas.List.{length-append}
 use Rattle.arj_base.proofs.Uids.{uid_cases}
-use Rattle.arj_base.specs.Uid.{nobody}
 use Rattle.arj_lock.proofs.Members.{In}
-use Rattle.arj_msg.specs.Head.{path_if}
+use Rattle.arj_msg.proofs.PathLaws.{path_is}
 use Rattle.arj_protocol.specs.Words.{Ask, Asked, Body, End, Kind, Label, ObjectState, Op, Path, Uid, path_of, tops_of, uid_eq, uids_of}
 use Rattle.arj_protocol.specs.Words.body
 use Rattle.arj_protocol.specs.Words.cause
@@ -25,19 +25,22 @@ use Rattle.arj_protocol.specs.Coord.{Calling, Committing, Coord, Doing, Grant, I
 use Rattle.arj_protocol.specs.Effect.{Did, Do, Effect, Intent, PutIntent, Served}
 use Rattle.arj_protocol.specs.Ending.{abort_action, aborts_with, acked, acked_by, acked_left, all_aborted, answer_decided, answer_query, answer_recorded, decide, decided_told, ended, ends_with, is_deferred, is_kept_commit, is_over, keeping_after, kept_after, let_go, root_after, root_or_self, say_for, says, tell, tell_all, tolds_by, tolds_let_go, tolds_of, tolds_of_branch, up_to}
 use Rattle.arj_protocol.specs.Order.{at_uid, each, has, number_set, put_uid, unbound, with_number, without_number, without_uid}
-use Rattle.arj_protocol.specs.Step.{Input, acts, branch_named, branch_numbered, on_branch, parent_of, tolds_again}
+use Rattle.arj_protocol.specs.Step.{Input, acts, begin_reasons, begin_refusal, branch_named, branch_numbered, is_below_16, on_branch, parent_of, refused_by, tolds_again}
 use Rattle.arj_protocol.specs.Step as input
 use Rattle.arj_protocol.specs.Tree.{Branch, Tree, at_place, branch_of, doomed_at, doomed_branch, ended_at, ended_branch, ends_of, family_of, is_open, is_own, next_uid, open_below, path_below, path_in, root_of, set_place, uses_object, with_family}
+use Rattle.arj_part_law.proofs.Begun.{path_length, path_some}
+use Rattle.arj_part_law.proofs.CoordInputs.{behind, off}
 use Rattle.arj_part_law.proofs.GoodCoords.{doomed_same, uses_same}
 use Rattle.arj_part_law.proofs.GoodTrees.{get_more, placed}
 use Rattle.arj_part_law.proofs.LivesNamed.{all_at, all_each, all_put as all_put_number}
 use Rattle.arj_part_law.proofs.Settled.{doing_other, doing_put, end_tree_on}
-use Rattle.arj_address_law.specs.Addresses.{AllOf, AreOf, AskOf, CoordOf, GoalOf, KeptOf, KnownOf, MachineOf, MovedOf, NowOf, PathOf, PlanOf, ReplyOf, RootOf, StepOf, StepsOf, UidsOf, UsedOf}
+use Rattle.arj_address_law.specs.Addresses.{AllOf, AreOf, AskOf, CoordOf, EndOf, GoalOf, KeptOf, KnownOf, MachineOf, MovedOf, NowOf, PathOf, PlanOf, ReplyOf, RootOf, StepOf, StepsOf, StoreOf, UidsOf, UsedOf}
+use Rattle.arj_address_law.specs.Binds.{AnswersAt, AnswersWaiting, IsThere, KeepsCalled}
 use Rattle.arj_address_law.proofs.Calls.{answered_of, asks_of, given_up_of, node_of, request_of, start_of}
 use Rattle.arj_address_law.proofs.Lists.{all_append, all_at_uid, all_filter, all_flat, all_map, all_number, all_numbers, all_placed, all_put, all_set, all_without}
 use Rattle.arj_address_law.proofs.Namings.{listed_after}
 
-module _ (G : ℕ → Type 0) (none : G 0) (one : G 1) where
+module _ (G : ℕ → Type 0) (one : G 1) where
   -- ---- effects
 
   both : (es fs : List Effect) → AllOf G es → AllOf G fs → AllOf G (es ++ fs)
@@ -103,16 +106,16 @@ module _ (G : ℕ → Type 0) (none : G 0) (one : G 1) where
   keep_is : (x : ℕ) (k : Keeping) (r : Root) → KeptOf G k.kept → RootOf G r → RootOf G (with_keeping x k r)
   keep_is x k r its so = record { went = so.went; joined = so.joined; keeping = all_put_number (λ (q : Keeping). KeptOf G q.kept) x k r.keeping its so.keeping }
 
-  goal_store : (g : Goal) → GoalOf G g → G (store_of g)
-  goal_store (calls.Run o) its = none
+  goal_store : (g : Goal) → StoreOf G g → G (store_of g)
+  goal_store (calls.Run o) its = absurd its
   goal_store (calls.Include s) its = its
 
-  heard_is : (s : Steps) (e : CallEnd) (r : Root) → GoalOf G s.goal → RootOf G r → RootOf G (root_heard s e r)
-  heard_is s (Answered a) r goal so = said_is (record { path = uids_of s.path; x = s.x }) r so
-  heard_is s (Included st) r goal so = record { went = so.went; joined = joined_is (record { path = uids_of s.path; x = s.x; store = store_of s.goal; loaded = st }) r.joined (goal_store s.goal goal) so.joined; keeping = so.keeping }
-  heard_is s (Conflict h m n) r goal so = so
-  heard_is s (Changed n w) r goal so = so
-  heard_is s (Lost n b) r goal so = so
+  heard_is : (s : Steps) (e : CallEnd) (r : Root) → EndOf G s.goal e → RootOf G r → RootOf G (root_heard s e r)
+  heard_is s (Answered a) r its so = said_is (record { path = uids_of s.path; x = s.x }) r so
+  heard_is s (Included st) r its so = record { went = so.went; joined = joined_is (record { path = uids_of s.path; x = s.x; store = store_of s.goal; loaded = st }) r.joined (goal_store s.goal its) so.joined; keeping = so.keeping }
+  heard_is s (Conflict h m n) r its so = so
+  heard_is s (Changed n w) r its so = so
+  heard_is s (Lost n b) r its so = so
 
   after_is : (g : Goal) (spoilt : Bool) (kept : Option Known) (k : Keeping) → KeptOf G kept → KeptOf G k.kept → KeptOf G (let q = keeps_after g spoilt kept k in q.kept)
   after_is (calls.Run o) spoilt kept k a b = a
@@ -201,13 +204,13 @@ module _ (G : ℕ → Type 0) (none : G 0) (one : G 1) where
   asks_is : (p : Path) (req : ℕ) (a : ℕ × Ask) (c : Coord) → CoordOf G c → PathOf G p → G a.0 → AskOf G a.1 → IsDone (asks_node p req a c)
   asks_is p req a c k path to so = (
     on_root_is (root_of p) (with_went (record { path = uids_of p; node = a.0; invoke = is_invoke_ask a.1 })) c (λ r s. went_is (record { path = uids_of p; node = a.0; invoke = is_invoke_ask a.1 }) r to s) k,
-    ((to, request_of G none one (record { path = p; req = req }) a.1 path so), tt),
+    ((to, request_of G one (record { path = p; req = req }) a.1 path so), tt),
   )
 
   -- ---- calls
 
   step_is : (s : Steps) (c : Coord) → CoordOf G c → StepsOf G s → IsDone (asks_step s c)
-  step_is s c k so = asks_is s.path s.req (next_node s, next_ask (ends_of (root_of s.path) c.tree) s) c k so.path (node_of G none one s.at so.at) (asks_of G none one s.x s.goal (ends_of (root_of s.path) c.tree) s.at)
+  step_is s c k so = asks_is s.path s.req (next_node s, next_ask (ends_of (root_of s.path) c.tree) s) c k so.path (node_of G one s.goal s.at so.at) (asks_of G one s.x s.goal (ends_of (root_of s.path) c.tree) s.at)
 
   goes_is : (s : Steps) (c : Coord) → CoordOf G c → StepsOf G s → IsDone (goes_on s c)
   goes_is s c k so = step_is s (on_doing (actor s.path) (λ (d : Doing). record d { req = s.req; now = Calling s }) c) (on_do_is (actor s.path) (λ (d : Doing). record d { req = s.req; now = Calling s }) c (λ d found. so) k) so
@@ -236,12 +239,12 @@ module _ (G : ℕ → Type 0) (none : G 0) (one : G 1) where
       let its = renewed_is (is_free (root_of p) (actor p) x c) old old.kept (kept_is x r (root_is (root_of p) c k)) in
       let u : Coord = record c { tree = uses_object p x c.tree } in
       goes_is (call_steps p x o (next_req (actor p) c) r c kept) (on_root (root_of p) (with_keeping x kept) u) (on_root_is (root_of p) (with_keeping x kept) u (λ q so. keep_is x kept q its so) (uses_is p x c k))
-      (record { path = path; at = start_of G none one (known_at_start (top_of p) x r c kept.kept) kept.avoid (known_is (top_of p) x r c kept.kept its); goal = tt })
+      (record { path = path; at = start_of G one (calls.Run o) (known_at_start (top_of p) x r c kept.kept) kept.avoid (known_is (top_of p) x r c kept.kept its); goal = tt })
 
   include_is : (p : Path) (x s : ℕ) (c : Coord) → PathOf G p → G s → CoordOf G c → IsDone (include p x s c)
   include_is p x s c path store k = goes_is (start p x (calls.Include s) None unbound (next_req (actor p) c)) (record c { tree = uses_object p x c.tree }) (uses_is p x c k) (record { path = path; at = tt; goal = store })
 
-  step_call_is : (s : Steps) (t : CallStep) (c : Coord) → StepsOf G s → CoordOf G c → StepOf G t → IsDone (step_call s t c)
+  step_call_is : (s : Steps) (t : CallStep) (c : Coord) → StepsOf G s → CoordOf G c → StepOf G s.goal t → IsDone (step_call s t c)
   step_call_is s (On at) c its k so = goes_is (record s { req = s.req + 1; at = at }) c k (record { path = its.path; at = so; goal = its.goal })
   step_call_is s (Ended e) c its k so = (by e, lines (actor s.path) (end_line s.x s.goal e) c)
     where
@@ -249,7 +252,7 @@ module _ (G : ℕ → Type 0) (none : G 0) (one : G 1) where
       i = on_root (root_of s.path) (root_heard s e) (on_doing (actor s.path) (λ (d : Doing). record d { now = Idle }) c)
 
       so_far : CoordOf G (on_root (root_of s.path) (root_heard s e) (on_doing (actor s.path) (λ (d : Doing). record d { now = Idle }) c))
-      so_far = on_root_is (root_of s.path) (root_heard s e) (on_doing (actor s.path) (λ (d : Doing). record d { now = Idle }) c) (λ r q. heard_is s e r its.goal q) (idle_is (actor s.path) c k)
+      so_far = on_root_is (root_of s.path) (root_heard s e) (on_doing (actor s.path) (λ (d : Doing). record d { now = Idle }) c) (λ r q. heard_is s e r so q) (idle_is (actor s.path) c k)
 
       by : (g : CallEnd) → CoordOf G (doomed_by (actor s.path) g (on_root (root_of s.path) (root_heard s e) (on_doing (actor s.path) (λ (d : Doing). record d { now = Idle }) c)))
       by (Answered a) = so_far
@@ -263,15 +266,15 @@ module _ (G : ℕ → Type 0) (none : G 0) (one : G 1) where
   granted_is None r so = so
   granted_is (Some g) r so = record { went = so.went; joined = so.joined; keeping = so.keeping }
 
-  moved_is : (s : Steps) (r : Reply) (m : Moved) → MovedOf G m → (q : Root) → RootOf G q → RootOf G (root_moved s r m q)
+  moved_is : (s : Steps) (r : Reply) (m : Moved) → MovedOf G s.goal m → (q : Root) → RootOf G q → RootOf G (root_moved s r m q)
   moved_is s r m its q so =
       let k = keeping_of s.x q in
       keep_is s.x (keeps_after s.goal (has_changed m.step) m.kept k) (notes_grant (granted_by (top_of s.path) s.x r) q) (after_is s.goal (has_changed m.step) m.kept k its.1 (kept_is s.x q so)) (granted_is (granted_by (top_of s.path) s.x r) q so)
 
-  heard_call_is : (s : Steps) (r : Reply) (c : Coord) → CoordOf G c → StepsOf G s → ReplyOf G r → IsDone (heard_call s r c)
-  heard_call_is s r c k so rs =
+  heard_call_is : (s : Steps) (r : Reply) (c : Coord) → CoordOf G c → StepsOf G s → AnswersAt s.goal s.at r → ReplyOf G r → IsDone (heard_call s r c)
+  heard_call_is s r c k so fits rs =
       let m = answered (is_free (root_of s.path) (actor s.path) s.x c) (kept_at s c) s.goal s.at r in
-      let its = answered_of G none one (is_free (root_of s.path) (actor s.path) s.x c) (kept_at s c) s.goal s.at r (kept_is s.x (root_at (root_of s.path) c) (root_is (root_of s.path) c k)) so.at rs in
+      let its = answered_of G one (is_free (root_of s.path) (actor s.path) s.x c) (kept_at s c) s.goal s.at r so.goal fits (kept_is s.x (root_at (root_of s.path) c) (root_is (root_of s.path) c k)) so.at rs in
       step_call_is s m.step (on_root (root_of s.path) (root_moved s r m) c) so (on_root_is (root_of s.path) (root_moved s r m) c (moved_is s r m its) k) its.0
 
   lost_is : (s : Steps) (t : CallStep) (q : Root) → RootOf G q → RootOf G (root_lost s t q)
@@ -319,7 +322,15 @@ module _ (G : ℕ → Type 0) (none : G 0) (one : G 1) where
   further_is ns p all so = record { path = so.path; used = so.used; sent = all_numbers G (p.sent ++ ns) (all_append G p.sent ns so.sent all); prepared = so.prepared }
 
   servers_is : (p : Plan) → PlanOf G p → AreOf G (servers_of p)
-  servers_is p so = all_numbers G (map (λ (u : Used). u.server) (filter (λ (u : Used). u.called) p.used)) (all_map (UsedOf G) G (λ (u : Used). u.server) (filter (λ (u : Used). u.called) p.used) (λ u s. s.0) (all_filter (UsedOf G) (λ (u : Used). u.called) p.used so.used))
+  servers_is p so = all_numbers G (map (λ (u : Used). u.server) (filter (λ (u : Used). u.called) p.used)) (called p.used so.used)
+    where
+      called : (us : List Used) → AllByRecursion (UsedOf G) us → AreOf G (map (λ (u : Used). u.server) (filter (λ (u : Used). u.called) us))
+      called [] all = tt
+      called (u ∷ us) all = by u.called refl (called us all.1)
+        where
+          by : (b : Bool) → u.called ≡ b → AreOf G (map (λ (v : Used). v.server) (filter (λ (v : Used). v.called) us)) → AreOf G (map (λ (v : Used). v.server) (cond b (u ∷ filter (λ (v : Used). v.called) us) (filter (λ (v : Used). v.called) us)))
+          by true is ih = (all.0.0 is, ih)
+          by false is ih = ih
 
   targets_is : (p : Plan) → PlanOf G p → AreOf G (targets_of p)
   targets_is p so = all_numbers G (flat_map (λ (u : Used). stores_by u (changed_of u.x p)) p.used) (all_flat (UsedOf G) G (λ (u : Used). stores_by u (changed_of u.x p)) p.used (λ u s. by u s (changed_of u.x p)) so.used)
@@ -426,7 +437,7 @@ module _ (G : ℕ → Type 0) (none : G 0) (one : G 1) where
     where
       by : (x : ℕ) (o : Option Known) → KeptOf G o → KeptOf G (kept_after p x o)
       by x None s = tt
-      by x (Some k) s = (s.0, listed_after G none x p.excluded (included_of p) k.stores (included_is p its) s.1)
+      by x (Some k) s = (s.0, listed_after G x p.excluded (included_of p) k.stores (included_is p its) s.1)
 
   participants_is : (p : Plan) → PlanOf G p → AreOf G (participants p)
   participants_is p so = all_numbers G (servers_of p ++ p.prepared ++ naming_node p) (all_append G (servers_of p ++ p.prepared) (naming_node p) (all_append G (servers_of p) p.prepared (servers_is p so) so.prepared) (by p.confirmed))
@@ -488,43 +499,46 @@ module _ (G : ℕ → Type 0) (none : G 0) (one : G 1) where
       (w.0, both (mark_lines u m.marks c) t.outs (flat (λ (x : ℕ × ℕ). says u (λ l. body.Excluded l x.0 x.1) c) m.marks (λ x. lines u (λ l. body.Excluded l x.0 x.1) c)) w.1)
 
   -- what a plan uses
-  used_is : (top : Uid) (r : Root) (c : Coord) (x : ℕ) → RootOf G r → UsedOf G (used_of top r c x)
-  used_is top r c x so = by (is_called x top r c)
+  used_is : (top : Uid) (r : Root) (c : Coord) (x : ℕ) → KeepsCalled top r c → RootOf G r → UsedOf G (used_of top r c x)
+  used_is top r c x keeps so = by (is_called x top r c) refl
     where
-      kept : (o : Option Known) → KeptOf G o → KnownOf G (unwrap_or o nothing_known)
-      kept None s = (none, tt)
-      kept (Some k) s = s
+      kept : (o : Option Known) → IsThere o → KeptOf G o → KnownOf G (unwrap_or o nothing_known)
+      kept None there s = absurd there
+      kept (Some k) there s = s
 
       joins : AreOf G (number_set (map (λ (j : Joined). j.store) (joins_on x top r c)))
       joins = all_numbers G (map (λ (j : Joined). j.store) (joins_on x top r c)) (all_map (λ (j : Joined). G j.store) G (λ (j : Joined). j.store) (joins_on x top r c) (λ j s. s) (all_filter (λ (j : Joined). G j.store) _ r.joined so.joined))
 
-      by : (b : Bool) → UsedOf G (used_with x b top r c (known_for b x r))
-      by true = let s = kept (kept_of x r) (kept_is x r so) in (s.0, s.1, joins)
-      by false = (none, tt, joins)
+      no_call : false ≡ true → G 0
+      no_call is = let no_way : false ≡ true = is in cc
 
-  plan_is : (p : Path) (req : ℕ) (r : Root) (c : Coord) → PathOf G p → RootOf G r → PlanOf G (plan_for p req r c)
-  plan_is p req r c path so = record { path = path; used = by (objects_in (actor p) r c); sent = sent_is (actor p) r so; prepared = tt }
+      by : (b : Bool) → is_called x top r c ≡ b → UsedOf G (used_with x b top r c (known_for b x r))
+      by true is = let s = kept (kept_of x r) (keeps x is) (kept_is x r so) in ((λ called. s.0), s.1, joins)
+      by false is = (no_call, tt, joins)
+
+  plan_is : (p : Path) (req : ℕ) (r : Root) (c : Coord) → KeepsCalled (actor p) r c → PathOf G p → RootOf G r → PlanOf G (plan_for p req r c)
+  plan_is p req r c keeps path so = record { path = path; used = by (objects_in (actor p) r c); sent = sent_is (actor p) r so; prepared = tt }
     where
       by : (xs : List ℕ) → AllByRecursion (UsedOf G) (map (used_of (actor p) r c) xs)
       by [] = tt
-      by (x ∷ xs) = (used_is (actor p) r c x so, by xs)
+      by (x ∷ xs) = (used_is (actor p) r c x keeps so, by xs)
 
   -- ---- what a coordinator hears, and inputs
 
   abbrev IsServed : Served Coord (Unit {0}) → Type 0
   IsServed d = CoordOf G d.part × AllOf G d.outs
 
-  pub heard_of : (from : ℕ) (a : Asked) (r : Reply) (intents : List (Uid × Intent)) (c : Coord) → G from → CoordOf G c → ReplyOf G r → IsServed (heard from a r intents c)
-  heard_of from a r intents c its k rs = by (doing_of a.act c) refl
+  pub heard_of : (from : ℕ) (a : Asked) (r : Reply) (intents : List (Uid × Intent)) (c : Coord) → G from → CoordOf G c → ReplyOf G r → AnswersWaiting from a r c → IsServed (heard from a r intents c)
+  heard_of from a r intents c its k rs fits = by (doing_of a.act c) refl
     where
-      now : (n : Now) → NowOf G n → IsServed (heard_now from a r intents c n)
-      now Idle so = (k, tt)
-      now (Calling s) so = each (waits_for_call from a r s)
+      now : (d : Doing) → doing_of a.act c ≡ Some d → (n : Now) → d.now ≡ n → NowOf G n → IsServed (heard_now from a r intents c n)
+      now d found Idle at so = (k, tt)
+      now d found (Calling s) at so = each (waits_for_call from a r s) refl
         where
-          each : (w : Bool) → IsServed (cond {A = Served Coord (Unit {0})} w (heard_by (heard_call s r c)) (heard_none c))
-          each true = heard_call_is s r c k so rs
-          each false = (k, tt)
-      now (Committing m) so = each (waits_for_commit from a r m)
+          each : (w : Bool) → waits_for_call from a r s ≡ w → IsServed (cond {A = Served Coord (Unit {0})} w (heard_by (heard_call s r c)) (heard_none c))
+          each true on = heard_call_is s r c k so (fits d s found at on) rs
+          each false off = (k, tt)
+      now d found (Committing m) at so = each (waits_for_commit from a r m)
         where
           each : (w : Bool) → IsServed (cond {A = Served Coord (Unit {0})} w (heard_by (moved_commit a.act (commit.answered from m r) intents c)) (heard_none c))
           each true = moved_commit_is a.act (commit.answered from m r) intents c k (answer_step from m r its so)
@@ -532,7 +546,7 @@ module _ (G : ℕ → Type 0) (none : G 0) (one : G 1) where
 
       by : (o : Option Doing) → doing_of a.act c ≡ o → IsServed (heard_doing from a r intents c o)
       by None is = (k, tt)
-      by (Some d) is = now d.now (k.works a.act d is)
+      by (Some d) is = now d is d.now refl (k.works a.act d is)
 
   give_up_is : (u : Uid) (intents : List (Uid × Intent)) (c : Coord) → CoordOf G c → IsDone (give_up u intents c)
   give_up_is u intents c k = by (doing_of u c) refl
@@ -545,7 +559,7 @@ module _ (G : ℕ → Type 0) (none : G 0) (one : G 1) where
       now (Calling s) so =
           let t : Coord = on_root (root_of s.path) (root_lost s (given_up s.at)) c in
           let x = step_call s (given_up s.at) t in
-          with_lines (next_node s ∷ []) x (step_call_is s (given_up s.at) t so (on_root_is (root_of s.path) (root_lost s (given_up s.at)) c (lost_is s (given_up s.at)) k) (given_up_of G none one s.at so.at))
+          with_lines (next_node s ∷ []) x (step_call_is s (given_up s.at) t so (on_root_is (root_of s.path) (root_lost s (given_up s.at)) c (lost_is s (given_up s.at)) k) (given_up_of G one s.goal s.at so.at))
       now (Committing m) so = let x = moved_commit u (commit.given_up m) intents c in with_lines (nodes_given_up m) x (moved_commit_is u (commit.given_up m) intents c k (giveup_step m so))
 
       by : (o : Option Doing) → doing_of u c ≡ o → IsDone (give_up_doing u intents c o)
@@ -578,8 +592,8 @@ module _ (G : ℕ → Type 0) (none : G 0) (one : G 1) where
       all [] there = tt
       all (d ∷ ds) there = (let f = found d (there d (inl refl)) in k.works f.0 d f.1, all ds (λ e i. there e (inr i)))
 
-  commit_is : (b : Branch) (intents : List (Uid × Intent)) (c : Coord) → PathOf G b.path → CoordOf G c → IsDone (commit_action b intents c)
-  commit_is b intents c path k = by b.doomed
+  commit_is : (b : Branch) (intents : List (Uid × Intent)) (c : Coord) → KeepsCalled (actor b.path) (root_at (root_of b.path) c) c → PathOf G b.path → CoordOf G c → IsDone (commit_action b intents c)
+  commit_is b intents c keeps path k = by b.doomed
     where
       u : Uid
       u = actor b.path
@@ -588,7 +602,7 @@ module _ (G : ℕ → Type 0) (none : G 0) (one : G 1) where
       plan = plan_for b.path (last_req (doing_of u c)) (root_at (root_of b.path) c) c
 
       its : PlanOf G (plan_for b.path (last_req (doing_of u c)) (root_at (root_of b.path) c) c)
-      its = plan_is b.path (last_req (doing_of u c)) (root_at (root_of b.path) c) c path (root_is (root_of b.path) c k)
+      its = plan_is b.path (last_req (doing_of u c)) (root_at (root_of b.path) c) c keeps path (root_is (root_of b.path) c k)
 
       top : IsDone (commit_top b.path intents c)
       top =
@@ -611,42 +625,50 @@ module _ (G : ℕ → Type 0) (none : G 0) (one : G 1) where
   named_is c None b is k = let no_way : ◌≡◌ {A = Option Branch} None (Some b) = is in cc
   named_is c (Some j) b is k = all_placed (λ (q : Branch). PathOf G q.path) j c.tree.branches b k.paths is
 
-  on_named : (l : Label) (f : Branch → Did Coord) (c : Coord) → CoordOf G c → ((b : Branch) → PathOf G b.path → IsDone (f b)) → IsDone (on_branch f c (branch_named l c))
+  on_named : (l : Label) (f : Branch → Did Coord) (c : Coord) → CoordOf G c → ((b : Branch) → branch_named l c ≡ Some b → PathOf G b.path → IsDone (f b)) → IsDone (on_branch f c (branch_named l c))
   on_named l f c k each = by (branch_named l c) refl
     where
       by : (o : Option Branch) → branch_named l c ≡ o → IsDone (on_branch f c o)
       by None is = (k, tt)
-      by (Some b) is = each b (named_is c _ b is k)
+      by (Some b) is = each b is (named_is c _ b is k)
 
   -- ---- actions that begin
 
-  path_made : (us : List Uid) (tops : ℕ) (a b d e f : Bool) (some : nat_le 1 (length us) ≡ a) (most : nat_le (length us) 16 ≡ b) (first : nat_le 1 tops ≡ d) (two : nat_le tops 2 ≡ e) (within : nat_le tops (length us) ≡ f) → UidsOf G us → PathOf G (path_if us tops a b d e f some most first two within)
-  path_made us tops true true true true true some most first two within all = subst (UidsOf G) (sym (take_at us (replicate (16 - length us) nobody) (length us) refl)) all
-  path_made us tops false b d e f some most first two within all = (none, tt)
-  path_made us tops true false d e f some most first two within all = (none, tt)
-  path_made us tops true true false e f some most first two within all = (none, tt)
-  path_made us tops true true true false f some most first two within all = (none, tt)
-  path_made us tops true true true true false some most first two within all = (none, tt)
+  path_of_is : (us : List Uid) (tops : ℕ) → 1 ≤ length us → length us ≤ 16 → 1 ≤ tops → tops ≤ 2 → tops ≤ length us → UidsOf G us → PathOf G (path_of us tops)
+  path_of_is us tops some most first two within all = let m = path_is us tops some most first two within in subst (UidsOf G) (sym m.has) all
 
-  path_of_is : (us : List Uid) (tops : ℕ) → UidsOf G us → PathOf G (path_of us tops)
-  path_of_is us tops all = path_made us tops _ _ _ _ _ refl refl refl refl refl all
+  -- the parent's path isn't the longest
+  abbrev IsShallow : Kind → Option Branch → Type 0
+  IsShallow q None = ⊤
+  IsShallow q (Some b) = is_below_16 q ≡ true → length (uids_of b.path) < 16
 
-  below_is : (q : Kind) (o : Option Branch) (u : Uid) → G u.node → IfSome o (λ (b : Branch). PathOf G b.path) → PathOf G (path_below q o u)
-  below_is q None u its all = path_of_is (u ∷ []) 1 (its, tt)
-  below_is q (Some b) u its all = by q
+  below_is : (q : Kind) (o : Option Branch) (u : Uid) → IsShallow q o → G u.node → IfSome o (λ (b : Branch). PathOf G b.path) → PathOf G (path_below q o u)
+  below_is q None u shallow its all = alone u its
     where
-      by : (q : Kind) → PathOf G (path_in q b.path u)
-      by kind.Nested = path_of_is (uids_of b.path ++ u ∷ []) (tops_of b.path) (all_append _ (uids_of b.path) (u ∷ []) all (its, tt))
-      by kind.Constituent = path_of_is (uids_of b.path ++ u ∷ []) 2 (all_append _ (uids_of b.path) (u ∷ []) all (its, tt))
-      by kind.Top = path_of_is (u ∷ []) 1 (its, tt)
-      by kind.Serial = path_of_is (u ∷ []) 1 (its, tt)
-      by kind.Independent = path_of_is (u ∷ []) 1 (its, tt)
+      alone : (u : Uid) → G u.node → PathOf G (path_of (u ∷ []) 1)
+      alone u its = path_of_is (u ∷ []) 1 (omega arith) (omega arith) (omega arith) (omega arith) (omega arith) (its, tt)
+  below_is q (Some b) u shallow its all = by q shallow
+    where
+      alone : PathOf G (path_of (u ∷ []) 1)
+      alone = path_of_is (u ∷ []) 1 (omega arith) (omega arith) (omega arith) (omega arith) (omega arith) (its, tt)
 
-  pub begin_of : (l : Label) (q : Kind) (parent : Option Label) (c : Coord) → CoordOf G c → IsDone (begin_action l q parent (parent_of parent c) c)
-  begin_of l q parent c k = (
+      longer : (n : ℕ) → 1 ≤ n → length (uids_of b.path) < 16 → n ≤ 2 → n ≤ length (uids_of b.path) + 1 → PathOf G (path_of (uids_of b.path ++ u ∷ []) n)
+      longer n first less two within =
+          let long = length-append (uids_of b.path) (u ∷ []) in
+          path_of_is (uids_of b.path ++ u ∷ []) n (omega (arith, long)) (omega (arith, long, less)) first two (omega (arith, long, within)) (all_append _ (uids_of b.path) (u ∷ []) all (its, tt))
+
+      by : (q : Kind) → (is_below_16 q ≡ true → length (uids_of b.path) < 16) → PathOf G (path_in q b.path u)
+      by kind.Nested less = let p = b.path in longer (tops_of b.path) p.one_top (less refl) p.two_tops (omega (arith, path_length b.path, p.within))
+      by kind.Constituent less = longer 2 (omega arith) (less refl) (omega arith) (omega (arith, path_some b.path))
+      by kind.Top less = alone
+      by kind.Serial less = alone
+      by kind.Independent less = alone
+
+  pub begin_of : (l : Label) (q : Kind) (parent : Option Label) (c : Coord) → begin_refusal q c parent ≡ None → CoordOf G c → IsDone (begin_action l q parent (parent_of parent c) c)
+  begin_of l q parent c free k = (
     record {
       node = k.node;
-      paths = all_append _ c.tree.branches (record { path = path_below q (parent_of parent c) (next_uid c.tree); kind = q; ended = None; doomed = false } ∷ []) k.paths (below_is q (parent_of parent c) (next_uid c.tree) k.node (above parent), tt);
+      paths = all_append _ c.tree.branches (record { path = path_below q (parent_of parent c) (next_uid c.tree); kind = q; ended = None; doomed = false } ∷ []) k.paths (below_is q (parent_of parent c) (next_uid c.tree) (shallow parent free) k.node (above parent), tt);
       works = λ u d at. was (is_own u c.tree) u.num d at (λ f. k.works u d f);
       roots = k.roots;
       telling = k.telling;
@@ -656,6 +678,24 @@ module _ (G : ℕ → Type 0) (none : G 0) (one : G 1) where
     where
       fresh : Doing
       fresh = record { label = l; req = 0; now = Idle; took = [] }
+
+      shallow : (o : Option Label) → begin_refusal q c o ≡ None → IsShallow q (parent_of o c)
+      shallow None no_reason = tt
+      shallow (Some p) no_reason = by (branch_named p c) refl no_reason
+        where
+          less : (b : Branch) (n : Bool) → n ≡ true → (n && nat_le 16 (length (uids_of b.path))) ≡ false → length (uids_of b.path) < 16
+          less b true on is = let low : nat_le 16 (length (uids_of b.path)) ≡ false = is in grind (arith, nat_tests, low)
+          less b false on is = let no_way : false ≡ true = on in absurd (cc no_way)
+
+          by : (o : Option Branch) → branch_named p c ≡ o → refused_by (begin_reasons q) c o ≡ None → IsShallow q o
+          by None is no_reason = tt
+          by (Some b) is no_reason = λ on.
+              let rs = begin_reasons q b c in
+              let first = off rs no_reason in
+              let second = off (behind rs) first.1 in
+              let third = off (behind (behind rs)) second.1 in
+              let fourth = off (behind (behind (behind rs))) third.1 in
+              less b (is_below_16 q) on (off (behind (behind (behind (behind rs)))) fourth.1).0
 
       above : (o : Option Label) → IfSome (parent_of o c) (λ (b : Branch). PathOf G b.path)
       above None = tt
@@ -670,18 +710,20 @@ module _ (G : ℕ → Type 0) (none : G 0) (one : G 1) where
       was true (suc j) d at f = ⊎_elim (λ old. f old) (λ new. subst (λ (x : Doing). NowOf G x.now) new.1 tt) (get_more j fresh d c.doings at)
       was false j d at f = let no_way : ◌≡◌ {A = Option Doing} None (Some d) = at in cc
 
-  -- the node that an include names
-  abbrev pub Names : Input → Type 0
-  Names (input.Include l x s) = G s
-  Names _ = ⊤
+  -- an include names a node, and of what a commit has called its root keeps bindings
+  abbrev pub Needs : Input → Coord → Type 0
+  Needs (input.Begin l q parent) c = ⊥
+  Needs (input.Include l x s) c = G s
+  Needs (input.Commit l) c = (b : Branch) → branch_named l c ≡ Some b → KeepsCalled (actor b.path) (root_at (root_of b.path) c) c
+  Needs _ c = ⊤
 
-  pub acts_of : (i : Input) (intents : List (Uid × Intent)) (c : Coord) → Names i → CoordOf G c → IsDone (acts i intents c)
-  acts_of (input.Begin l q parent) intents c its k = begin_of l q parent c k
-  acts_of (input.Call l x o) intents c its k = on_named l (λ b. call b.path x o c) c k (λ b path. call_is b.path x o c path k)
-  acts_of (input.Include l x s) intents c its k = on_named l (λ b. include b.path x s c) c k (λ b path. include_is b.path x s c path its k)
-  acts_of (input.Commit l) intents c its k = on_named l (λ b. commit_action b intents c) c k (λ b path. commit_is b intents c path k)
-  acts_of (input.Abort l) intents c its k = on_named l (λ b. abort_action (actor b.path) intents c) c k (λ b path. abort_is (actor b.path) intents c k)
-  acts_of (input.GiveUp l) intents c its k = on_named l (λ b. give_up (actor b.path) intents c) c k (λ b path. give_up_is (actor b.path) intents c k)
+  pub acts_of : (i : Input) (intents : List (Uid × Intent)) (c : Coord) → Needs i c → CoordOf G c → IsDone (acts i intents c)
+  acts_of (input.Begin l q parent) intents c its k = absurd its
+  acts_of (input.Call l x o) intents c its k = on_named l (λ b. call b.path x o c) c k (λ b is path. call_is b.path x o c path k)
+  acts_of (input.Include l x s) intents c its k = on_named l (λ b. include b.path x s c) c k (λ b is path. include_is b.path x s c path its k)
+  acts_of (input.Commit l) intents c its k = on_named l (λ b. commit_action b intents c) c k (λ b is path. commit_is b intents c (its b is) path k)
+  acts_of (input.Abort l) intents c its k = on_named l (λ b. abort_action (actor b.path) intents c) c k (λ b is path. abort_is (actor b.path) intents c k)
+  acts_of (input.GiveUp l) intents c its k = on_named l (λ b. give_up (actor b.path) intents c) c k (λ b is path. give_up_is (actor b.path) intents c k)
   acts_of (input.Frame j from m) intents c its k = (k, tt)
   acts_of input.Tick intents c its k = (k, tt)
   acts_of input.Restart intents c its k = (k, tt)

@@ -4,4 +4,10 @@ pub mod Namings
 pub mod Calls
 pub mod Coords
 pub mod Nodes
+pub mod BindAnswers
+pub mod BindCoords
+pub mod BindSteps
+pub mod BindPlans
+pub mod BindNodes
+pub mod BindRuns
 pub mod Runs

@@ -1,14 +1,16 @@
 -- What holds of each item of a list, through what is done with lists.
-use Rattle.std.proofs.Common.{◌≡◌, ℕ, zero, suc, List, [], ◌∷◌, ◌++◌, Bool, true, false, cond, filter, map, Option, Some, None, subst}
-use Rattle.std.specs.Prelude.{IfSome, slice_get, slice_set}
+use Rattle.std.proofs.Common.{◌≡◌, ℕ, zero, suc, List, [], ◌∷◌, ◌++◌, Bool, true, false, cond, filter, map, Option, Some, None, refl, sym, ◌∙◌, ap, subst, ⊎_elim}
+use Rattle.std.specs.Prelude.{IfSome, is_some, slice_get, slice_set}
 use Rattle.std.specs.List.{AllByRecursion, cons_option, filter_map, flat_map}
 use Rattle.std.specs.Ordering.{is_eq, match_ordering, nat_cmp}
 use Rattle.std.specs.declared.cmp.Ordering.{Ordering}
 use Rattle.std.specs.declared.cmp.Ordering.TheVariants.{Less, Equal, Greater}
 use Rattle.arj_base.specs.Order.{uid_order}
-use Rattle.arj_protocol.specs.Order.{at_uid, number_set, put_uid, uid_set, with_number, with_uid, without_uid}
+use Rattle.arj_protocol.specs.Order.{at_number, at_uid, each, number_set, put_number, put_uid, uid_set, with_number, with_uid, without_uid}
 use Rattle.arj_protocol.specs.Tree.{at_place, set_place}
 use Rattle.arj_protocol.specs.Words.{Uid}
+use Rattle.arj_protocol.proofs.RowSteps.{one_or_two}
+use Rattle.arj_part_law.proofs.Keys.{order_itself}
 
 pub all_append : {A : Type 0} (Q : A → Type 0) (xs ys : List A) → AllByRecursion Q xs → AllByRecursion Q ys → AllByRecursion Q (xs ++ ys)
 all_append Q [] ys a b = b
@@ -121,3 +123,73 @@ all_with Q u (w ∷ ws) its all = by (uid_order u w) (all_with Q u ws its all.1)
 pub all_uids : (Q : Uid → Type 0) (us : List Uid) → AllByRecursion Q us → AllByRecursion Q (uid_set us)
 all_uids Q [] all = tt
 all_uids Q (u ∷ us) all = all_with Q u (uid_set us) all.0 (all_uids Q us all.1)
+
+-- ---- maps by numbers, with what holds of their keys
+
+pub some_is : {A : Type 0} {a b : A} → Some a ≡ Some b → a ≡ b
+some_is {A} {a} {b} is = let k : ◌≡◌ {A = Option A} (Some a) (Some b) = is in cc
+
+pub never : {P : Type 0} {b : Bool} → b ≡ true → b ≡ false → P
+never {P} {b} holds fails = let no_way : true ≡ false = sym holds ∙ fails in cc
+
+module _ {X : Type 0} (K : ℕ → Type 0) (P : X → Type 0) where
+  abbrev Keyed : List (ℕ × X) → Type 0
+  Keyed m = AllByRecursion (λ (e : ℕ × X). K e.0 × P e.1) m
+
+  pub keyed_found : (k : ℕ) (m : List (ℕ × X)) (x : X) → Keyed m → at_number k m ≡ Some x → K k × P x
+  keyed_found k [] x all is = let no_way : ◌≡◌ {A = Option X} None (Some x) = is in cc
+  keyed_found k (e ∷ es) x all is = by (is_eq (nat_cmp k e.0)) refl is (keyed_found k es x all.1)
+    where
+      by : (b : Bool) → is_eq (nat_cmp k e.0) ≡ b → cond b (Some e.1) (at_number k es) ≡ Some x → (at_number k es ≡ Some x → K k × P x) → K k × P x
+      by true at s ih = let same : e.1 ≡ x = some_is s in let key : e.0 ≡ k = ⊎_elim (λ is. is) (λ apart. never at apart.0) (one_or_two e.0 k) in (subst K key all.0.0, subst P same all.0.1)
+      by false at s ih = ih s
+
+  pub keyed_put : (k : ℕ) (v : X) (m : List (ℕ × X)) → K k → P v → Keyed m → Keyed (put_number k v m)
+  keyed_put k v [] key its all = ((key, its), tt)
+  keyed_put k v (e ∷ es) key its all = by (nat_cmp k e.0) (keyed_put k v es key its all.1)
+    where
+      by : (r : Ordering) → Keyed (put_number k v es) → Keyed (match_ordering r ((k, v) ∷ e ∷ es) ((e.0, v) ∷ es) (e ∷ put_number k v es))
+      by Less ih = ((key, its), all)
+      by Equal ih = ((all.0.0, its), all.1)
+      by Greater ih = (all.0, ih)
+
+  pub keyed_each : (f : ℕ → X → X) → ((k : ℕ) (x : X) → P x → P (f k x)) → (m : List (ℕ × X)) → Keyed m → Keyed (each f m)
+  keyed_each f step [] all = tt
+  keyed_each f step (e ∷ es) all = ((all.0.0, step e.0 e.1 all.0.1), keyed_each f step es all.1)
+
+-- ---- what a map by Uids has
+
+-- each key of a map is found there
+pub keys_found : {X : Type 0} (m : List (Uid × X)) → AllByRecursion (λ (e : Uid × X). is_some (at_uid e.0 m) ≡ true) m
+keys_found {X} m = by m (λ u found. found)
+  where
+    itself : (u : Uid) → is_eq (uid_order u u) ≡ true
+    itself u = ap is_eq (order_itself u)
+
+    by : (es : List (Uid × X)) → ((u : Uid) → is_some (at_uid u es) ≡ true → is_some (at_uid u m) ≡ true) → AllByRecursion (λ (e : Uid × X). is_some (at_uid e.0 m) ≡ true) es
+    by [] up = tt
+    by (e ∷ es) up = (up e.0 (λ i. is_some (cond (itself e.0 i) (Some e.1) (at_uid e.0 es))), by es (λ u found. up u (one u (is_eq (uid_order u e.0)) found)))
+      where
+        one : (u : Uid) (b : Bool) → is_some (at_uid u es) ≡ true → is_some (cond b (Some e.1) (at_uid u es)) ≡ true
+        one u true found = refl
+        one u false found = found
+
+-- what is found is found after a put
+pub found_put : {X : Type 0} (u w : Uid) (v : X) (m : List (Uid × X)) → is_some (at_uid u m) ≡ true → is_some (at_uid u (put_uid w v m)) ≡ true
+found_put u w v [] found = let no_way : false ≡ true = found in cc
+found_put {X} u w v (e ∷ es) found = by (uid_order w e.0) (is_eq (uid_order u e.0)) refl found (found_put u w v es)
+  where
+    first : (b : Bool) → is_some (at_uid u es) ≡ true → is_some (cond b (Some e.1) (at_uid u es)) ≡ true
+    first true h = refl
+    first false h = h
+
+    by : (r : Ordering) (b : Bool) → is_eq (uid_order u e.0) ≡ b → is_some (cond b (Some e.1) (at_uid u es)) ≡ true → (is_some (at_uid u es) ≡ true → is_some (at_uid u (put_uid w v es)) ≡ true) → is_some (at_uid u (match_ordering r ((w, v) ∷ e ∷ es) ((e.0, v) ∷ es) (e ∷ put_uid w v es))) ≡ true
+    by Less b is h ih = either (is_eq (uid_order u w)) ((λ i. is_some (cond (is i) (Some e.1) (at_uid u es))) ∙ h)
+      where
+        either : (c : Bool) → is_some (at_uid u (e ∷ es)) ≡ true → is_some (cond c (Some v) (at_uid u (e ∷ es))) ≡ true
+        either true q = refl
+        either false q = q
+    by Equal true is h ih = λ i. is_some (cond (is i) (Some v) (at_uid u es))
+    by Equal false is h ih = (λ i. is_some (cond (is i) (Some v) (at_uid u es))) ∙ h
+    by Greater true is h ih = λ i. is_some (cond (is i) (Some e.1) (at_uid u (put_uid w v es)))
+    by Greater false is h ih = (λ i. is_some (cond (is i) (Some e.1) (at_uid u (put_uid w v es)))) ∙ ih h

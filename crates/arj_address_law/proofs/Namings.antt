@@ -1,5 +1,5 @@
 -- What naming does: the nodes that it has, that it answers, and that it writes.
-use Rattle.std.proofs.Common.{◌≡◌, ◌+◌, ◌==◌, ◌||◌, ◌&&◌, ℕ, List, [], ◌∷◌, ◌++◌, Bool, true, false, cond, filter, find, map, nat_le, not, Option, Some, None, refl, sym, subst}
+use Rattle.std.proofs.Common.{◌≡◌, ◌≤◌, ◌+◌, ◌==◌, ◌||◌, ◌&&◌, arith, length, ℕ, List, [], ◌∷◌, ◌++◌, Bool, true, false, cond, filter, find, map, nat_le, not, Option, Some, None, refl, sym, ◌∙◌, ap, subst}
 use Rattle.std.specs.Prelude.{⊤, IfSome, is_some, option_map}
 use Rattle.std.specs.List.{AllByRecursion, flat_map}
 use Rattle.arj_protocol.proofs.Payloads.{entry_back}
@@ -21,12 +21,11 @@ use Rattle.arj_protocol.specs.Naming.{Naming, bind, end_entries, end_lines, end_
 use Rattle.arj_protocol.specs.Order.{at_number, at_uid, binding_eq, binding_less}
 use Rattle.arj_protocol.specs.Server.{row_top}
 use Rattle.arj_protocol.specs.Values.{state_entry}
-use Rattle.arj_part_law.proofs.LivesNamed.{all_each, all_found, all_put as all_put_number}
-use Rattle.arj_address_law.specs.Addresses.{AllOf, AreOf, BoundOf, EntryOf, LiveOf, NamedOf, NamingOf, PathOf, RowsOf, StateOf, UidsOf}
-use Rattle.arj_address_law.proofs.Lists.{all_append, all_at_uid, all_filter, all_flat, all_map, all_put, all_some, all_without}
-use Rattle.arj_address_law.proofs.Servers.{asked_of, drop_of, lower_of, pass_of, take_of, tops_of_rows}
+use Rattle.arj_address_law.specs.Addresses.{AllOf, AreOf, BoundOf, EntryOf, HasEntry, IsEntry, LiveOf, NamedOf, NamingOf, PathOf, RowsOf, StateOf, UidsOf}
+use Rattle.arj_address_law.proofs.Lists.{all_append, all_at_uid, all_filter, all_flat, all_map, all_put, all_some, all_without, keyed_each, keyed_found, keyed_put, keys_found}
+use Rattle.arj_address_law.proofs.Servers.{asked_of, drop_of, lower_of, pass_of, take_of, top_fits, tops_of_rows}
 
-module _ (G : ℕ → Type 0) (none : G 0) where
+module _ (G : ℕ → Type 0) where
   abbrev IsMade : Uid × Made → Type 0
   IsMade e = G (let m = e.1 in m.server)
 
@@ -35,22 +34,22 @@ module _ (G : ℕ → Type 0) (none : G 0) where
 
   -- ---- servers in turn
 
-  first_of : (ns : List ℕ) → AreOf G ns → G (first_server ns)
-  first_of [] all = none
-  first_of (n ∷ ns) all = all.0
+  first_of : (ns : List ℕ) → 1 ≤ length ns → AreOf G ns → G (first_server ns)
+  first_of [] some all = absurd (let z : 1 ≤ 0 = some in omega (arith, z))
+  first_of (n ∷ ns) some all = all.0
 
-  behind_of : (last : ℕ) (every ns : List ℕ) → AreOf G every → AreOf G ns → G (server_behind last every ns)
-  behind_of last every [] all its = first_of every all
-  behind_of last every (n ∷ []) all its = first_of every all
-  behind_of last every (n ∷ m ∷ ns) all its = by (n == last) (behind_of last every (m ∷ ns) all its.1)
+  behind_of : (last : ℕ) (every ns : List ℕ) → 1 ≤ length every → AreOf G every → AreOf G ns → G (server_behind last every ns)
+  behind_of last every [] some all its = first_of every some all
+  behind_of last every (n ∷ []) some all its = first_of every some all
+  behind_of last every (n ∷ m ∷ ns) some all its = by (n == last) (behind_of last every (m ∷ ns) some all its.1)
     where
       by : (b : Bool) → G (server_behind last every (m ∷ ns)) → G (cond b m (server_behind last every (m ∷ ns)))
       by true ih = its.1.0
       by false ih = ih
 
-  next_of : (turn : Option ℕ) (ns : List ℕ) → AreOf G ns → G (next_server turn ns)
-  next_of None ns all = first_of ns all
-  next_of (Some last) ns all = behind_of last ns ns all all
+  next_of : (turn : Option ℕ) (ns : List ℕ) → 1 ≤ length ns → AreOf G ns → G (next_server turn ns)
+  next_of None ns some all = first_of ns some all
+  next_of (Some last) ns some all = behind_of last ns ns some all all
 
   -- ---- requests about one object
 
@@ -66,7 +65,7 @@ module _ (G : ℕ → Type 0) (none : G 0) where
 
   module _ (p : Path) (path : PathOf G p) where
     locked_of : (x : ℕ) (m : Mode) (o : Named) → Is o → Is (locked x p m o)
-    locked_of x m o its = record { rows = asked_of G none (entry_row x p m) o.rows (take_of G none (tops_of p) (uids_of p) path) its.rows; live = its.live; made = its.made; turn = its.turn }
+    locked_of x m o its = record { rows = asked_of G (entry_row x p m) o.rows (take_of G (tops_of p) (uids_of p) path, top_fits p) its.rows; live = its.live; made = its.made; turn = its.turn }
 
     module _ (inc x : ℕ) (e : Entry) (its_entry : EntryOf G e) (c : Counted) (its : Is c.named) where
       live_asked_of : (l : Live) → G l.server → (r : Option Row) → IsBound (live_asked inc x p e c l r)
@@ -77,7 +76,7 @@ module _ (G : ℕ → Type 0) (none : G 0) where
       made_of (Some m) server = (locked_of x mode.Write c.named its, (server, its_entry.stores), lines_of 1 (entry_row x p mode.Write) c.named.rows)
       made_of None tells =
           let s = next_server c.named.turn e.servers in
-          let next = next_of c.named.turn e.servers its_entry.servers in
+          let next = next_of c.named.turn e.servers its_entry.some its_entry.servers in
           let l = locked_of x mode.Write c.named its in
           (record { rows = l.rows; live = l.live; made = all_put IsMade (top_of p) (record { binding = record { inc = inc; count = c.count + 1 }; server = s; recorded = false }) c.named.made (λ w. next) its.made; turn = next }, (next, its_entry.stores), all_append _ (lock_lines x p mode.Write c.named) (Say (body.Bound x (record { inc = inc; count = c.count + 1 }) s) ∷ []) (lines_of 1 (entry_row x p mode.Write) c.named.rows) (tt, tt))
 
@@ -120,27 +119,34 @@ module _ (G : ℕ → Type 0) (none : G 0) where
   -- ---- entries
 
   abbrev IsHeld : List (Uid × ObjectState) → Type 0
-  IsHeld held = AllByRecursion (λ (e : Uid × ObjectState). StateOf G e.1) held
+  IsHeld held = AllByRecursion (λ (e : Uid × ObjectState). IsEntry e.0 × StateOf G e.1) held
 
-  listed_of : (x : ℕ) (d : Pair) → IsHeld d.held → EntryOf G (listed_entry x d)
-  listed_of x d held = by (held_at (entry x) d) refl
+  held_of : (u : Uid) (s : ObjectState) (held : List (Uid × ObjectState)) → IsHeld held → at_uid u held ≡ Some s → StateOf G s
+  held_of u s held all is = all_at_uid (StateOf G) u s held (states held all) is
+    where
+      states : (es : List (Uid × ObjectState)) → IsHeld es → AllByRecursion (λ (e : Uid × ObjectState). StateOf G e.1) es
+      states [] k = tt
+      states (e ∷ es) k = (k.0.1, states es k.1)
+
+  listed_of : (x : ℕ) (d : Pair) → HasEntry d x → IsHeld d.held → EntryOf G (listed_entry x d)
+  listed_of x d has held = by (held_at (entry x) d) refl
     where
       by : (o : Option ObjectState) → held_at (entry x) d ≡ o → EntryOf G (entry_of o)
-      by None is = record { servers = tt; stores = tt }
-      by (Some s) is = all_at_uid (StateOf G) (entry x) s d.held held is
+      by None is = let no_way : false ≡ true = sym (ap is_some is) ∙ has in absurd (cc no_way)
+      by (Some s) is = (held_of (entry x) s d.held held is).1
 
-  pub bind_of : (p : Path) (x : ℕ) (include : Bool) (avoid : Binding) (d : Pair) (n : Naming) → PathOf G p → IsHeld d.held → NamingOf G n → (let r = bind p x include avoid d n in NamingOf G r.part × IfSome r.reply (BoundOf G) × AllOf G r.outs)
+  pub bind_of : (p : Path) (x : ℕ) (include : Bool) (avoid : Binding) (d : Pair) (n : Naming) → PathOf G p → IsHeld d.held → NamingOf G d n → (let r = bind p x include avoid d n in NamingOf G d r.part × IfSome r.reply (BoundOf G) × AllOf G r.outs)
   bind_of p x include avoid d n path held all = by (is_over p n)
     where
       call : Counted → Served Counted BoundReply
       call = bind_named n.inc x p include avoid (listed_entry x d)
 
       Well : Served Naming BoundReply → Type 0
-      Well r = NamingOf G r.part × IfSome r.reply (BoundOf G) × AllOf G r.outs
+      Well r = NamingOf G d r.part × IfSome r.reply (BoundOf G) × AllOf G r.outs
 
       there : (o : Option Named) → at_number x n.objects ≡ o → Well (on_counted x call n o)
       there None is = (all, tt, tt)
-      there (Some o) is = let r = bound_of p path n.inc x (listed_entry x d) (listed_of x d held) (record { named = o; count = n.count }) (all_found Is x n.objects o all is) include avoid in (all_put_number Is x _ n.objects r.0 all, r.1, r.2)
+      there (Some o) is = let f = keyed_found (HasEntry d) Is x n.objects o all is in let r = bound_of p path n.inc x (listed_entry x d) (listed_of x d f.0 held) (record { named = o; count = n.count }) f.1 include avoid in (keyed_put (HasEntry d) Is x _ n.objects f.0 r.0 all, r.1, r.2)
 
       by : (b : Bool) → Well (cond b (void n) (on_counted x call n (at_number x n.objects)))
       by true = (all, tt, tt)
@@ -155,7 +161,7 @@ module _ (G : ℕ → Type 0) (none : G 0) where
       lowered_of v s = one (is_lowered x top v)
         where
           one : (c : Bool) → Is (cond c (record v { rows = lower_row top (entry x) v.rows }) v)
-          one true = record { rows = lower_of G none top (entry x) v.rows s.rows; live = s.live; made = s.made; turn = s.turn }
+          one true = record { rows = lower_of G top (entry x) v.rows s.rows; live = s.live; made = s.made; turn = s.turn }
           one false = s
 
       made : (m : Made) → G m.server → Is (note_made x top i o m).part
@@ -200,15 +206,15 @@ module _ (G : ℕ → Type 0) (none : G 0) where
       by true = tt
       by false = other (at_uid top o.made)
 
-  pub note_of : (p : Path) (x : ℕ) (b : Binding) (i g : ℕ) (n : Naming) → NamingOf G n → (let r = note p x b i g n in NamingOf G r.part × AllOf G r.outs)
-  note_of p x b i g n all = by (is_over p n || not (is_some (at_number x n.objects))) (g == n.inc)
+  pub note_of : (p : Path) (x : ℕ) (b : Binding) (i g : ℕ) (d : Pair) (n : Naming) → NamingOf G d n → (let r = note p x b i g n in NamingOf G d r.part × AllOf G r.outs)
+  note_of p x b i g d n all = by (is_over p n || not (is_some (at_number x n.objects))) (g == n.inc)
     where
       Well : Served Naming RecordedReply → Type 0
-      Well r = NamingOf G r.part × AllOf G r.outs
+      Well r = NamingOf G d r.part × AllOf G r.outs
 
       there : (o : Option Named) → at_number x n.objects ≡ o → Well (on_named x (note_named x (top_of p) b i) n o)
       there None is = (all, tt)
-      there (Some o) is = (all_put_number Is x (note_named x (top_of p) b i o).part n.objects (noted_of x (top_of p) b i o (all_found Is x n.objects o all is)) all, note_says x (top_of p) b i o)
+      there (Some o) is = let f = keyed_found (HasEntry d) Is x n.objects o all is in (keyed_put (HasEntry d) Is x (note_named x (top_of p) b i o).part n.objects f.0 (noted_of x (top_of p) b i o f.1) all, note_says x (top_of p) b i o)
 
       by : (over ours : Bool) → Well (cond {A = Served Naming RecordedReply} over (void n) (cond {A = Served Naming RecordedReply} ours (on_named x (note_named x (top_of p) b i) n (at_number x n.objects)) (reply n (recorded.Changed (what.Inc g n.inc)))))
       by true ours = (all, tt)
@@ -247,46 +253,46 @@ module _ (G : ℕ → Type 0) (none : G 0) where
       by x (Some s) is = one (same_nodes (stores_after x excluded included (state_entry s)) (state_entry s).stores)
         where
           was : EntryOf G (state_entry s)
-          was = all_at_uid (StateOf G) (entry x) s d.held held is
+          was = (held_of (entry x) s d.held held is).1
 
           stores : List ℕ
           stores = stores_after x excluded included (state_entry s)
 
           one : (b : Bool) → IfSome (cond b None (Some (entry_state x top s stores))) (StateOf G)
           one true = tt
-          one false = subst (EntryOf G) (sym (entry_back (record { servers = (state_entry s).servers; stores = stores }))) (record { servers = was.servers; stores = listed_after x excluded included (state_entry s).stores its was.stores })
+          one false = (refl, subst (EntryOf G) (sym (entry_back (record { servers = (state_entry s).servers; stores = stores }))) (record { servers = was.servers; stores = listed_after x excluded included (state_entry s).stores its was.stores; some = was.some }))
 
   module _ (p : Path) (path : PathOf G p) (act : G (let u = top_of p in u.node)) where
-    locks_of : (xs : List ℕ) (n : Naming) → NamingOf G n → (let d = lock_all xs p n in NamingOf G d.part × AllOf G d.outs)
-    locks_of [] n all = (all, tt)
-    locks_of (x ∷ xs) n all =
+    locks_of : (q : Pair) (xs : List ℕ) (n : Naming) → NamingOf G q n → (let d = lock_all xs p n in NamingOf G q d.part × AllOf G d.outs)
+    locks_of q [] n all = (all, tt)
+    locks_of q (x ∷ xs) n all =
         let f = one (at_number x n.objects) refl in
-        let r = locks_of xs (lock_in x p n (at_number x n.objects)).part f.0 in
+        let r = locks_of q xs (lock_in x p n (at_number x n.objects)).part f.0 in
         (r.0, all_append _ (lock_in x p n (at_number x n.objects)).outs (lock_all xs p (lock_in x p n (at_number x n.objects)).part).outs f.1 r.1)
       where
-        one : (o : Option Named) → at_number x n.objects ≡ o → (let d = lock_in x p n o in NamingOf G d.part × AllOf G d.outs)
+        one : (o : Option Named) → at_number x n.objects ≡ o → (let d = lock_in x p n o in NamingOf G q d.part × AllOf G d.outs)
         one None is = (all, tt)
-        one (Some o) is = (all_put_number Is x (locked x p mode.Exclude o) n.objects (locked_of p path x mode.Exclude o (all_found Is x n.objects o all is)) all, lines_of 1 (entry_row x p mode.Exclude) o.rows)
+        one (Some o) is = let f = keyed_found (HasEntry q) Is x n.objects o all is in (keyed_put (HasEntry q) Is x (locked x p mode.Exclude o) n.objects f.0 (locked_of p path x mode.Exclude o f.1) all, lines_of 1 (entry_row x p mode.Exclude) o.rows)
 
-    pub confirm_of : (grants : Grants) (excluded included : Marks) (d : Pair) (n : Naming) → AllByRecursion (λ (m : ℕ × ℕ). G m.1) included → IsHeld d.held → NamingOf G n → (let r = confirm p grants excluded included d n in NamingOf G r.part × AllOf G r.outs)
+    pub confirm_of : (grants : Grants) (excluded included : Marks) (d : Pair) (n : Naming) → AllByRecursion (λ (m : ℕ × ℕ). G m.1) included → IsHeld d.held → NamingOf G d n → (let r = confirm p grants excluded included d n in NamingOf G d r.part × AllOf G r.outs)
     confirm_of grants excluded included d n its held all = by (is_over p n || not (has_all grants n)) (is_on n.confirmed (top_of p) || is_prepared (top_of p) d)
       where
         Well : Served Naming ConfirmedReply → Type 0
-        Well r = NamingOf G r.part × AllOf G r.outs
+        Well r = NamingOf G d r.part × AllOf G r.outs
 
-        answered : (states : List ObjectState) (t : Did Naming) (a : Prep) → AllByRecursion (StateOf G) states → NamingOf G t.part × AllOf G t.outs → Well (prepared_by (top_of p) states t a)
+        answered : (states : List ObjectState) (t : Did Naming) (a : Prep) → AllByRecursion (StateOf G) states → NamingOf G d t.part × AllOf G t.outs → Well (prepared_by (top_of p) states t a)
         answered states t Ready all_states s = (s.0, all_append _ t.outs (Do Look ∷ Do (Prepare role.Names (top_of p) states) ∷ Say (body.Prepared 1 (top_of p) role.Names) ∷ []) s.1 (tt, ((act, all_states), (tt, tt))))
         answered states t (Already u) all_states s = (s.0, all_append _ t.outs (Do Look ∷ []) s.1 (tt, tt))
         answered states t (Old u v) all_states s = (s.0, all_append _ t.outs (Do Look ∷ []) s.1 (tt, tt))
         answered states t (InDoubt u v) all_states s = (s.0, all_append _ t.outs (Do Look ∷ []) s.1 (tt, tt))
 
-        entries : (states : List ObjectState) (t : Did Naming) → AllByRecursion (StateOf G) states → NamingOf G t.part × AllOf G t.outs → Well (confirm_entries (top_of p) states d t)
+        entries : (states : List ObjectState) (t : Did Naming) → AllByRecursion (StateOf G) states → NamingOf G d t.part × AllOf G t.outs → Well (confirm_entries (top_of p) states d t)
         entries [] t all_states s = s
         entries (x ∷ xs) t all_states s = answered (x ∷ xs) t (prepare_answer (top_of p) (x ∷ xs) d) all_states s
 
         new : (c : Option ConfirmedReply) → Well (confirm_new p grants excluded included d n c)
         new (Some r) = (all, tt)
-        new None = entries (entries_after (top_of p) grants excluded included d) (lock_all (wanted (top_of p) grants excluded d) p n) (entries_of (top_of p) grants excluded included d its held) (locks_of (wanted (top_of p) grants excluded d) n all)
+        new None = entries (entries_after (top_of p) grants excluded included d) (lock_all (wanted (top_of p) grants excluded d) p n) (entries_of (top_of p) grants excluded included d its held) (locks_of d (wanted (top_of p) grants excluded d) n all)
 
         by : (over again : Bool) → Well (cond {A = Served Naming ConfirmedReply} over (void n) (cond {A = Served Naming ConfirmedReply} again (reply (confirms (top_of p) n) confirmed.Yes) (confirm_new p grants excluded included d n (checked p grants excluded included d n))))
         by true again = (all, tt)
@@ -299,16 +305,16 @@ module _ (G : ℕ → Type 0) (none : G 0) where
   ends_of u ending.Commit = (tt, (tt, tt))
   ends_of u ending.Abort = (tt, (tt, tt))
 
-  pub told_of : (u : Uid) (e : End) (d : Pair) (n : Naming) → NamingOf G n → (let r = told u e d n in NamingOf G r.part × AllOf G r.outs)
+  pub told_of : (u : Uid) (e : End) (d : Pair) (n : Naming) → NamingOf G d n → (let r = told u e d n in NamingOf G d r.part × AllOf G r.outs)
   told_of u e d n all = (part_of (is_on n.told u), all_append _ (own_entries u e d) (let t = cond {A = Did Naming} (is_on n.told u) (did_nothing n) (told_new u (taken_end u e n) d n) in t.outs) (own (is_prepared u d)) (outs_of (is_on n.told u)))
     where
       ended : (end : End) (o : Named) → Is o → Is (end_named u end o)
-      ended ending.Commit o s = record { rows = pass_of G none u o.rows s.rows; live = s.live; made = all_without IsMade u o.made s.made; turn = s.turn }
-      ended ending.Abort o s = record { rows = drop_of G none u o.rows s.rows; live = s.live; made = all_without IsMade u o.made s.made; turn = s.turn }
+      ended ending.Commit o s = record { rows = pass_of G u o.rows s.rows; live = s.live; made = all_without IsMade u o.made s.made; turn = s.turn }
+      ended ending.Abort o s = record { rows = drop_of G u o.rows s.rows; live = s.live; made = all_without IsMade u o.made s.made; turn = s.turn }
 
-      part_of : (b : Bool) → NamingOf G (cond {A = Did Naming} b (did_nothing n) (told_new u (taken_end u e n) d n)).part
+      part_of : (b : Bool) → NamingOf G d (cond {A = Did Naming} b (did_nothing n) (told_new u (taken_end u e n) d n)).part
       part_of true = all
-      part_of false = all_each Is (λ k. end_named u (taken_end u e n)) (λ k o s. ended (taken_end u e n) o s) n.objects all
+      part_of false = keyed_each (HasEntry d) Is (λ k. end_named u (taken_end u e n)) (λ k o s. ended (taken_end u e n) o s) n.objects all
 
       own : (b : Bool) → AllOf G (cond b (end_entries u e) [])
       own true = ends_of u e
@@ -330,8 +336,8 @@ module _ (G : ℕ → Type 0) (none : G 0) where
       outs_of true = tt
       outs_of false = all_append _ (end_orphans u (taken_end u e n) d n) (end_lines u (taken_end u e n) n) (orphan (taken_end u e n)) (lines (taken_end u e n) (has_locks u n))
 
-  pub hello_of : (node inc : ℕ) (n : Naming) → NamingOf G n → NamingOf G (hello node inc n)
-  hello_of node inc n all = all_each Is (λ k. hello_named node inc) (λ k o s. record { rows = s.rows; live = after o.live s.live; made = s.made; turn = s.turn }) n.objects all
+  pub hello_of : (node inc : ℕ) (d : Pair) (n : Naming) → NamingOf G d n → NamingOf G d (hello node inc n)
+  hello_of node inc d n all = keyed_each (HasEntry d) Is (λ k. hello_named node inc) (λ k o s. record { rows = s.rows; live = after o.live s.live; made = s.made; turn = s.turn }) n.objects all
     where
       after : (l : Option Live) → LiveOf G l → LiveOf G (live_after node inc l)
       after None its = tt
@@ -341,11 +347,11 @@ module _ (G : ℕ → Type 0) (none : G 0) where
           by true = tt
           by false = its
 
-  pub holders_of : (n : Naming) → NamingOf G n → UidsOf G (naming_holders n)
-  holders_of n all = all_flat (λ (e : ℕ × Named). Is e.1) (λ (u : Uid). G u.node) (λ (e : ℕ × Named). map row_top e.1.rows) n.objects (λ e its. tops_of_rows G none e.1.rows its.rows) all
+  pub holders_of : (d : Pair) (n : Naming) → NamingOf G d n → UidsOf G (naming_holders n)
+  holders_of d n all = all_flat (λ (e : ℕ × Named). HasEntry d e.0 × Is e.1) (λ (u : Uid). G u.node) (λ (e : ℕ × Named). map row_top e.1.rows) n.objects (λ e its. tops_of_rows G e.1.rows its.1.rows) all
 
-  pub recovered_of : (inc : ℕ) (d : Pair) → AllByRecursion (λ (e : Uid × List ObjectState). G e.0.node × AllByRecursion (StateOf G) e.1) d.pend → NamingOf G (recovered_naming inc d)
-  recovered_of inc d pend = by d.held
+  pub recovered_of : (inc : ℕ) (d : Pair) → AllByRecursion (λ (e : Uid × List ObjectState). G e.0.node × AllByRecursion (StateOf G) e.1) d.pend → IsHeld d.held → NamingOf G d (recovered_naming inc d)
+  recovered_of inc d pend held = by d.held held (keys_found d.held)
     where
       pending : (u : Uid) (ps : List (Uid × List ObjectState)) → AllByRecursion (λ (e : Uid × List ObjectState). G e.0.node × AllByRecursion (StateOf G) e.1) ps → IfSome (pending_of u ps) (λ (q : Uid × ObjectState). G q.0.node)
       pending u [] all = tt
@@ -357,11 +363,11 @@ module _ (G : ℕ → Type 0) (none : G 0) where
 
       back : (u : Uid) (held : ObjectState) (q : Option (Uid × ObjectState)) → IfSome q (λ (p : Uid × ObjectState). G p.0.node) → RowsOf G (rows_back u held q)
       back u held None its = tt
-      back u held (Some p) its = ((its, tt), tt)
+      back u held (Some p) its = (((its, tt), omega arith), tt)
 
-      by : (held : List (Uid × ObjectState)) → AllByRecursion (λ (e : ℕ × Named). Is e.1) (map (named_back d) held)
-      by [] = tt
-      by (e ∷ es) = (record { rows = back e.0 e.1 (pending_of e.0 d.pend) (pending e.0 d.pend pend); live = tt; made = tt; turn = tt }, by es)
+      by : (es : List (Uid × ObjectState)) → IsHeld es → AllByRecursion (λ (e : Uid × ObjectState). is_some (at_uid e.0 d.held) ≡ true) es → AllByRecursion (λ (e : ℕ × Named). HasEntry d e.0 × Is e.1) (map (named_back d) es)
+      by [] all found = tt
+      by (e ∷ es) all found = ((ap (λ u. is_some (at_uid u d.held)) (sym all.0.0) ∙ found.0, record { rows = back e.0 e.1 (pending_of e.0 d.pend) (pending e.0 d.pend pend); live = tt; made = tt; turn = tt }), by es all.1 found.1)
 
   pub back_of : (n : Naming) → AllOf G (recovered_lines n)
   back_of n = by n.objects

@@ -1,8 +1,8 @@
 -- Each number that stands for a node, wherever it's named, in every run.
-use Rattle.std.proofs.Common.{◌≡◌, ◌∙◌, ◌+◌, ◌==◌, ◌&&◌, ℕ, zero, suc, Bool, true, false, cond, List, [], ◌∷◌, length, map, refl, sym, subst, arith, ⊎_elim, Option, Some, None}
+use Rattle.std.proofs.Common.{◌≡◌, ◌∙◌, ◌≤◌, ◌+◌, ◌==◌, ◌&&◌, ℕ, zero, suc, Bool, true, false, cond, List, [], ◌∷◌, length, map, refl, sym, subst, arith, ⊎_elim, Option, Some, None}
 use Rattle.std.specs.Prelude.{IfSome, if◌then◌else◌, nat_le, slice_get}
 use Rattle.std.specs.List.{AllByRecursion, list_all}
-use Rattle.std.proofs.lemmas.Bool.{and_parts}
+use Rattle.std.proofs.lemmas.Bool.{and_parts, leb-true}
 use Rattle.std.proofs.lemmas.Bool.Decides.{nat_tests}
 use Rattle.arj_journal.specs.ScriptForm.{HeaderInForm, ObjectLineInForm}
 use Rattle.arj_journal.specs.declared.limits.TheConstants.{SERVERS, STORES}
@@ -15,17 +15,19 @@ use Rattle.arj_protocol.specs.Follow.{tick_outs}
 use Rattle.arj_protocol.specs.Node.{Parts, with_coord}
 use Rattle.arj_protocol.specs.Order.{put_uid}
 use Rattle.arj_protocol.specs.Step as input
-use Rattle.arj_protocol.specs.Step.{Input, Node, acts, entries_at, first_disk, first_entry, first_node, numbers_to, parent_of, parts_in, put_states, restart_outs}
+use Rattle.arj_protocol.specs.Step.{Input, Node, acts, entries_at, first_disk, first_entry, first_node, numbers_to, parent_of, parts_in, put_states, refusal_up, restart_outs}
 use Rattle.arj_protocol.specs.World.{Asked, Frame, format, is_serial_kind, run_all}
 use Rattle.arj_protocol.proofs.Payloads.{entry_back}
-use Rattle.arj_view_law.specs.Keeps.{AsksNode, HasPlace, Holds, IsSent, KeepsAsked}
-use Rattle.arj_view_law.specs.Seen.{In, Post, Seen, at, given, posted, said, see}
+use Rattle.arj_view_law.specs.Keeps.{AsksNode, HasPlace, Holds, IsSent, KeepsAsked, is_act}
+use Rattle.arj_view_law.specs.Seen.{In, Post, Seen, at, given, posted, said, see, up}
 use Rattle.arj_view_law.specs.Walks.{Up, Walks}
-use Rattle.arj_view_law.proofs.Happens.{runs_asked}
-use Rattle.arj_address_law.specs.Addresses.{AllOf, AreOf, AreSo, CoordOf, DiskOf, EntryOf, GoWithin, LineOf, NodeOf, PartsOf, PostOf, StateOf}
-use Rattle.arj_address_law.proofs.Lists.{all_append, all_map, all_put}
-use Rattle.arj_address_law.proofs.Coords.{Names, acts_of, begin_of}
-use Rattle.arj_address_law.proofs.Nodes.{handled_of, restart_of, starts_of, stopped_of, tick_of, worked_of}
+use Rattle.arj_view_law.proofs.Happens.{keeps_asked, runs_asked}
+use Rattle.arj_view_law.proofs.Together.{walks_both}
+use Rattle.arj_address_law.specs.Addresses.{AllOf, AreOf, AreSo, CoordOf, DiskOf, EntryOf, GoWithin, IsEntry, LineOf, NodeOf, PartsOf, PostOf, StateOf}
+use Rattle.arj_address_law.proofs.BindRuns.{AreBound, answers_fit, binds_keep, commit_keeps}
+use Rattle.arj_address_law.proofs.Lists.{all_append, all_key, all_map}
+use Rattle.arj_address_law.proofs.Coords.{Needs, acts_of, begin_of}
+use Rattle.arj_address_law.proofs.Nodes.{handled_of, parts_stay, restart_of, starts_of, stopped_of, tick_of, worked_of}
 
 module _ (G : ℕ → Type 0) where
   abbrev Is : Node → Type 0
@@ -57,13 +59,13 @@ module _ (G : ℕ → Type 0) where
       by j n true same there = let here : x ≡ n = cc in subst Is here its
       by j n false apart there = all.0 j n apart there
 
-  module _ (none : G 0) (one : G 1) where
+  module _ (one : G 1) where
     -- whatever a node does
-    walk : (e k : ℕ) (outs : List Effect) (v : Parts) (d : Disk) (M : Seen) → G k → DiskOf G d → PartsOf G v → AllOf G outs → RestIsSo k M → Walks All e k outs (Up All k v) d M
+    walk : (e k : ℕ) (outs : List Effect) (v : Parts) (d : Disk) (M : Seen) → G k → DiskOf G d → PartsOf G d v → AllOf G outs → RestIsSo k M → Walks All e k outs (Up All k v) d M
     walk e k [] v d M num disk its outs all = back k d (Some v) M (num, disk, its) all
     walk e k (Do w ∷ es) v d M num disk its outs all = (
-      λ how. back k (stopped how w d) None (said e [] M) (num, stopped_of G none one how w d outs.0 disk, tt) all,
-      walk e k es v (worked w d) M num (worked_of G none one w d outs.0 disk) its outs.1 all,
+      λ how. back k (stopped how w d) None (said e [] M) (num, stopped_of G one how w d outs.0 disk, tt) all,
+      walk e k es v (worked w d) M num (worked_of G one w d outs.0 disk) (parts_stay G one w d v its) outs.1 all,
     )
     walk e k (Say b ∷ es) v d M num disk its outs all = walk e k es v d (said e (b ∷ []) M) num disk its outs.1 all
     walk e k (Send to m ∷ es) v d M num disk its outs all = λ more quiet.
@@ -92,20 +94,20 @@ module _ (G : ℕ → Type 0) where
 
       -- ---- as a run begins
 
-      states : (ss : List ObjectState) (held : List (Uid × ObjectState)) → AllByRecursion (StateOf G) ss → AllByRecursion (λ (e : Uid × ObjectState). StateOf G e.1) held → AllByRecursion (λ (e : Uid × ObjectState). StateOf G e.1) (put_states ss held)
+      states : (ss : List ObjectState) (held : List (Uid × ObjectState)) → AllByRecursion (StateOf G) ss → AllByRecursion (λ (e : Uid × ObjectState). IsEntry e.0 × StateOf G e.1) held → AllByRecursion (λ (e : Uid × ObjectState). IsEntry e.0 × StateOf G e.1) (put_states ss held)
       states [] held all had = had
-      states (s ∷ ss) held all had = states ss (put_uid s.uid s held) all.1 (all_put (λ (e : Uid × ObjectState). StateOf G e.1) s.uid s held (λ w. all.0) had)
+      states (s ∷ ss) held all had = states ss (put_uid s.uid s held) all.1 (all_key IsEntry (StateOf G) s.uid s held all.0.0 all.0 had)
 
       entries : (b : Bool) → AllByRecursion (StateOf G) (if b then map first_entry hd.objects else [])
       entries true = all_map (LineOf G) (StateOf G) first_entry hd.objects
-          (λ o l. subst (EntryOf G) (sym (entry_back (record { servers = o.servers; stores = o.stores }))) (record { servers = l.0; stores = l.1 })) objects
+          (λ o l. (refl, subst (EntryOf G) (sym (entry_back (record { servers = o.servers; stores = o.stores }))) (record { servers = l.0; stores = l.1; some = l.2 }))) objects
       entries false = tt
 
       disk_of : (k : ℕ) → DiskOf G (first_disk hd k)
       disk_of k = record { store = tt; names = tt; held = states (entries_at k hd) [] (entries (k == 1)) tt; intents = tt }
 
       first_of : (k : ℕ) → G k → Is (first_node hd k)
-      first_of k its = (its, disk_of k, starts_of G none one k 1 (first_disk hd k) its (disk_of k))
+      first_of k its = (its, disk_of k, starts_of G one k 1 (first_disk hd k) its (disk_of k))
 
       first_at : (ns : List ℕ) (i : ℕ) (n : Node) → AreOf G ns → slice_get (map (first_node hd) ns) i ≡ Some n → Is n
       first_at [] i n all is = absurd (cc is)
@@ -121,91 +123,100 @@ module _ (G : ℕ → Type 0) where
 
       -- ---- handlers
 
-      names : (i : Input) → AsksNode hd i → Names G none one i
-      names (input.Include l x s) asks = nodes s asks
-      names (input.Begin l q parent) asks = tt
-      names (input.Call l x o) asks = tt
-      names (input.Commit l) asks = tt
-      names (input.Abort l) asks = tt
-      names (input.GiveUp l) asks = tt
-      names (input.Frame j from m) asks = tt
-      names input.Tick asks = tt
-      names input.Restart asks = tt
-      names input.Crash asks = tt
-      names (input.Show x) asks = tt
+      needs : (i : Input) (e k : ℕ) (d : Disk) (t : Parts) (M : Seen) → AreBound (up k d t M) → is_act i ≡ true → AsksNode hd i → refusal_up hd i t.coord ≡ None → Needs G one i t.coord
+      needs (input.Begin l q parent) e k d t M known is asks free = let no_way : false ≡ true = is in cc
+      needs (input.Include l x s) e k d t M known is asks free = nodes s asks
+      needs (input.Commit l) e k d t M known is asks free = let h = known.0 in commit_keeps h.0 e k d t M h.1 known.1 hd l free
+      needs (input.Call l x o) e k d t M known is asks free = tt
+      needs (input.Abort l) e k d t M known is asks free = tt
+      needs (input.GiveUp l) e k d t M known is asks free = tt
+      needs (input.Frame j from m) e k d t M known is asks free = tt
+      needs input.Tick e k d t M known is asks free = tt
+      needs input.Restart e k d t M known is asks free = tt
+      needs input.Crash e k d t M known is asks free = tt
+      needs (input.Show x) e k d t M known is asks free = tt
 
-      pub so_kept : KeepsAsked hd All
+      abbrev Whole : Seen → Type 0
+      Whole M = AreBound M × All M
+
+      both : (e k : ℕ) (outs : List Effect) (v : Parts) (d : Disk) (M : Seen) → Walks AreBound e k outs (Up AreBound k v) d M → Walks All e k outs (Up All k v) d M → Walks Whole e k outs (Up Whole k v) d M
+      both e k outs v d M a b = walks_both AreBound All e k outs (Up AreBound k v) (Up All k v) d M a b
+
+      base : KeepsAsked hd AreBound
+      base = keeps_asked hd AreBound (binds_keep hd)
+
+      pub so_kept : KeepsAsked hd Whole
       so_kept = record {
-        quiet = λ e bs M quiet all. all;
-        stop = λ e k d live M all. let n = own k d live M all in back k d None M (n.0, n.1, tt) (rest k d live M all);
+        quiet = λ e bs M quiet all. (base.quiet e bs M quiet all.0, all.1);
+        stop = λ e k d live M all. let n = own k d live M all.1 in (base.stop e k d live M all.0, back k d None M (n.0, n.1, tt) (rest k d live M all.1));
         message = λ e k d t v from m outs M all there meant is.
-            let n = own k d (Some t) M all in
-            let p = all.1 (record { from = from; to = k; message = m }) there in
-            let h = handled_of G none one k d t from p.0 n.1 n.2 m v outs p.2 is in
-            walk e k outs v d M n.0 n.1 h.0 h.1 (rest k d (Some t) M all);
+            let n = own k d (Some t) M all.1 in
+            let known = all.0 in
+            let good = known.0 in
+            let p = all.1.1 (record { from = from; to = k; message = m }) there in
+            let h = handled_of G one k d t from p.0 n.1 n.2 m v outs (answers_fit good.0 e k d t M good.1 known.1 from m there) p.2 is in
+            both e k outs v d M (base.message e k d t v from m outs M known there meant is) (walk e k outs v d M n.0 n.1 h.0 h.1 (rest k d (Some t) M all.1));
         act = λ e k d t i M is asks free all.
-            let n = own k d (Some t) M all in
+            let n = own k d (Some t) M all.1 in
             let did = acts i d.intents t.coord in
-            let a = acts_of G none one i d.intents t.coord (names i asks) n.2.coord in
-            walk e k did.outs (with_coord t did.part) d M n.0 n.1 (with_it t did.part n.2 a.0) a.1 (rest k d (Some t) M all);
+            let a = acts_of G one i d.intents t.coord (needs i e k d t M all.0 is asks free) n.2.coord in
+            both e k did.outs (with_coord t did.part) d M (base.act e k d t i M is asks free all.0) (walk e k did.outs (with_coord t did.part) d M n.0 n.1 (with_it d t did.part n.2 a.0) a.1 (rest k d (Some t) M all.1));
         begin = λ e k d t l how parent M new may free all.
-            let n = own k d (Some t) M all in
+            let n = own k d (Some t) M all.1 in
             let did = begin_action l how parent (parent_of parent t.coord) t.coord in
-            let a = begin_of G none one l how parent t.coord n.2.coord in
-            walk e k did.outs (with_coord t did.part) d (given l (record { node = k; serial = is_serial_kind how }) M) n.0 n.1 (with_it t did.part n.2 a.0) a.1 (rest k d (Some t) M all);
+            let a = begin_of G one l how parent t.coord free n.2.coord in
+            let N = given l (record { node = k; serial = is_serial_kind how }) M in
+            both e k did.outs (with_coord t did.part) d N (base.begin e k d t l how parent M new may free all.0) (walk e k did.outs (with_coord t did.part) d N n.0 n.1 (with_it d t did.part n.2 a.0) a.1 (rest k d (Some t) M all.1));
         tick = λ e k d t M all.
-            let n = own k d (Some t) M all in
+            let n = own k d (Some t) M all.1 in
             let x : Node = record { number = k; disk = d; live = Some t } in
-            let a = tick_of G none one x t n.1 n.2 in
-            walk e k (tick_outs x t) (with_coord t (again_all t.coord.doings t.coord).part) d M n.0 n.1 a.0 a.1 (rest k d (Some t) M all);
+            let a = tick_of G one x t n.1 n.2 in
+            let v = with_coord t (again_all t.coord.doings t.coord).part in
+            both e k (tick_outs x t) v d M (base.tick e k d t M all.0) (walk e k (tick_outs x t) v d M n.0 n.1 a.0 a.1 (rest k d (Some t) M all.1));
         restart = λ e k d M all.
-            let n = own k d None M all in
-            walk e k (restart_outs hd k (d.inc + 1) d) (parts_in k (d.inc + 1) d) d M n.0 n.1 (starts_of G none one k (d.inc + 1) d n.0 n.1) (restart_of G none one hd k d numbers n.1) (rest k d None M all);
-        first = first_so;
+            let n = own k d None M all.1 in
+            both e k (restart_outs hd k (d.inc + 1) d) (parts_in k (d.inc + 1) d) d M (base.restart e k d M all.0) (walk e k (restart_outs hd k (d.inc + 1) d) (parts_in k (d.inc + 1) d) d M n.0 n.1 (starts_of G one k (d.inc + 1) d n.0 n.1) (restart_of G one hd k d numbers n.1) (rest k d None M all.1));
+        first = (base.first, first_so);
       }
         where
-          with_it : (t : Parts) (c : Coord) → PartsOf G t → CoordOf G c → PartsOf G (with_coord t c)
-          with_it t c its k = record { server = its.server; naming = its.naming; coord = k }
+          with_it : (d : Disk) (t : Parts) (c : Coord) → PartsOf G d t → CoordOf G c → PartsOf G d (with_coord t c)
+          with_it d t c its k = record { server = its.server; naming = its.naming; coord = k }
 
       pub runs_so : (es : List Asked) → Holds hd All (run_all es (format hd))
-      runs_so es = runs_asked hd All so_kept es
+      runs_so es = let h = runs_asked hd Whole so_kept es in record { sent = h.sent; stands = h.stands; holds = let all = h.holds in all.1 }
 
 -- ---- the numbers up to the header's
 
 module _ (hd : Header) (form : HeaderInForm hd) where
   abbrev Fits : ℕ → Type 0
-  Fits n = nat_le n hd.nodes ≡ true
-
-  fits_none : Fits 0
-  fits_none = grind (arith, nat_tests)
+  Fits n = (nat_le 1 n && nat_le n hd.nodes) ≡ true
 
   fits_one : Fits 1
   fits_one = let n = form.nodes.0 in grind (arith, nat_tests, n)
 
-  fits_nodes : (s : ℕ) → (nat_le 1 s && nat_le s hd.nodes) ≡ true → Fits s
-  fits_nodes s is = (and_parts (nat_le 1 s) (nat_le s hd.nodes) is).1
-
   listed : (ns : List ℕ) → list_all (λ m. nat_le 1 m && nat_le m hd.nodes) ns ≡ true → AreOf Fits ns
   listed [] are = tt
-  listed (n ∷ ns) are = let p = and_parts (nat_le 1 n && nat_le n hd.nodes) (list_all (λ m. nat_le 1 m && nat_le m hd.nodes) ns) are in (fits_nodes n p.0, listed ns p.1)
+  listed (n ∷ ns) are = let p = and_parts (nat_le 1 n && nat_le n hd.nodes) (list_all (λ m. nat_le 1 m && nat_le m hd.nodes) ns) are in (p.0, listed ns p.1)
 
-  in_form : (most : ℕ) (ns : List ℕ) → NodesInForm hd.nodes most ns → AreOf Fits ns
-  in_form most ns are = listed ns (and_parts (list_all (λ m. nat_le 1 m && nat_le m hd.nodes) ns) (is_distinct ns) (and_parts (nat_le 1 (length ns) && nat_le (length ns) most) (list_all (λ m. nat_le 1 m && nat_le m hd.nodes) ns && is_distinct ns) are).1).0
+  in_form : (most : ℕ) (ns : List ℕ) → NodesInForm hd.nodes most ns → AreOf Fits ns × (1 ≤ length ns)
+  in_form most ns are =
+      let p = and_parts (nat_le 1 (length ns) && nat_le (length ns) most) (list_all (λ m. nat_le 1 m && nat_le m hd.nodes) ns && is_distinct ns) are in
+      (listed ns (and_parts (list_all (λ m. nat_le 1 m && nat_le m hd.nodes) ns) (is_distinct ns) p.1).0, leb-true 1 (length ns) (and_parts (nat_le 1 (length ns)) (nat_le (length ns) most) p.0).0)
 
   lines : (os : List ObjectLine) → AllByRecursion (ObjectLineInForm hd.nodes) os → AllByRecursion (LineOf Fits) os
   lines [] all = tt
-  lines (o ∷ os) all = let f = all.0 in ((in_form SERVERS o.servers f.servers, in_form STORES o.stores f.stores), lines os all.1)
+  lines (o ∷ os) all = let f = all.0 in let s = in_form SERVERS o.servers f.servers in ((s.0, (in_form STORES o.stores f.stores).0, s.1), lines os all.1)
 
-  frames_fit : (sent : List Post) → ((p : Post) → In p sent → PostOf Fits p) → (fs : List Frame) → AllByRecursion (IsSent sent) fs → AllByRecursion (λ (f : Frame). HasPlace hd f.to f.message) fs → AllByRecursion (λ (f : Frame). nat_le f.to hd.nodes ≡ true) fs
+  frames_fit : (sent : List Post) → ((p : Post) → In p sent → PostOf Fits p) → (fs : List Frame) → AllByRecursion (IsSent sent) fs → AllByRecursion (λ (f : Frame). HasPlace hd f.to f.message) fs → AllByRecursion (λ (f : Frame). (nat_le 1 f.to && nat_le f.to hd.nodes) ≡ true) fs
   frames_fit sent posts [] are have = tt
   frames_fit sent posts (f ∷ fs) are have = (by f.message are.0 have.0, frames_fit sent posts fs are.1 have.1)
     where
       by : (m : Option Message) → IfSome m (λ x. In (record { from = f.from; to = f.to; message = x }) sent) → HasPlace hd f.to m → Fits f.to
-      by None there place = fits_nodes f.to place
+      by None there place = place
       by (Some m) there place = let p = posts (record { from = f.from; to = f.to; message = m }) there in p.1
 
   pub within : (es : List Asked) → GoWithin hd.nodes (run_all es (format hd))
   within es =
-      let h = runs_so Fits fits_none fits_one hd fits_nodes (lines hd.objects form.objects.0) es in
+      let h = runs_so Fits fits_one hd (λ s is. is) (lines hd.objects form.objects.0) es in
       let all = h.holds in
       frames_fit h.sent all.1 (let w = run_all es (format hd) in w.frames) h.stands.frames h.stands.junk

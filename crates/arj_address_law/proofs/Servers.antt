@@ -1,7 +1,9 @@
 -- Locks, and what a server does with them.
-use Rattle.std.proofs.Common.{◌≡◌, ◌-◌, ◌==◌, ◌||◌, ℕ, zero, suc, List, [], ◌∷◌, Bool, true, false, cond, map, not, take, Option, Some, None, refl}
+use Rattle.std.proofs.Common.{◌≡◌, ◌≤◌, ◌<◌, ◌-◌, ◌==◌, ◌||◌, ℕ, zero, suc, List, [], ◌∷◌, Bool, true, false, cond, length, map, nat_lt, not, take, Option, Some, None, refl, arith}
 use Rattle.std.specs.Prelude.{IfSome, find, slice_index_or}
 use Rattle.arj_base.specs.Rows.{first_conflict, goes_to, handed_on, has_row, is_held_by, passed, renamed, strengthened}
+use Rattle.std.proofs.lemmas.Bool.Decides.{nat_tests}
+use Rattle.std.proofs.lemmas.List.{length-take-le}
 use Rattle.arj_base.specs.Mode.{stronger}
 use Rattle.arj_base.specs.Path.{before_last}
 use Rattle.arj_base.specs.Uid.{nobody}
@@ -13,23 +15,47 @@ use Rattle.arj_protocol.specs.Copy.{Copy, ask_copy, end_copy, invoke_copy, is_gr
 use Rattle.arj_protocol.specs.Effect.{Served, Did, did_nothing, either, reply, void}
 use Rattle.arj_protocol.specs.Order.{at_number, at_uid, binding_eq, binding_less, put_number}
 use Rattle.arj_protocol.specs.Server.{Kept, Server, activate, active_binding, apply_ends, changed_by, end_new, end_one, first_unbound, has_ended, invoke, invoke_kept, invoke_new, invoke_now, is_below, is_told, keeps, on_copy, other_inc, row_top, server_holders, taken_end, told, took_copy, vote, vote_now}
+use Rattle.arj_part_law.proofs.Begun.{path_length, path_some}
 use Rattle.arj_part_law.proofs.LivesNamed.{all_each, all_found, all_put}
-use Rattle.arj_address_law.specs.Addresses.{CopiesOf, PathOf, RowsOf, UidsOf}
+use Rattle.arj_address_law.specs.Addresses.{CopiesOf, PathOf, RowOf, RowsOf, UidsOf}
 use Rattle.arj_address_law.proofs.Lists.{all_filter, all_flat, all_map, all_some}
 
-module _ (G : ℕ → Type 0) (none : G 0) where
-  abbrev RowOf : Row → Type 0
-  RowOf r = UidsOf G r.holder
+-- ---- where the top of a path stands
 
+-- the top of a path is on it
+pub path_fits : (p : Path) → tops_of p - 1 < length (uids_of p)
+path_fits p = omega (arith, path_length p, p.one_top, p.within)
+
+-- as many Uids lead to the top as the path says
+pub top_length : (p : Path) → length (take (tops_of p) (uids_of p)) ≡ tops_of p
+top_length p = length-take-le (tops_of p) (uids_of p) (omega (arith, path_length p, p.within))
+
+pub top_fits : (p : Path) → tops_of p - 1 < length (take (tops_of p) (uids_of p))
+top_fits p = omega (arith, top_length p, p.one_top)
+
+-- and the top of a row that passes
+passes_fit : (n t : ℕ) → 1 ≤ n → cond (nat_lt n t) n t - 1 < n
+passes_fit n t some = by (nat_lt n t) refl
+  where
+    by : (b : Bool) → nat_lt n t ≡ b → cond b n t - 1 < n
+    by true is = omega (arith, some)
+    by false is = let low : t ≤ n = grind (arith, nat_tests, is) in omega (arith, some, low)
+
+front_some : (us : List Uid) {h : Uid} → before_last us ≡ Some h → 1 ≤ length (front us)
+front_some [] {h} is = let no_way : ◌≡◌ {A = Option Uid} None (Some h) = is in cc
+front_some (u ∷ []) {h} is = let no_way : ◌≡◌ {A = Option Uid} None (Some h) = is in cc
+front_some (u ∷ w ∷ us) is = omega arith
+
+module _ (G : ℕ → Type 0) where
   -- ---- Uids
 
-  last_of : (us : List Uid) → UidsOf G us → G (last_uid us).node
-  last_of [] all = none
-  last_of (u ∷ []) all = all.0
-  last_of (u ∷ w ∷ us) all = last_of (w ∷ us) all.1
+  last_of : (us : List Uid) → 1 ≤ length us → UidsOf G us → G (last_uid us).node
+  last_of [] some all = absurd (let z : 1 ≤ 0 = some in omega (arith, z))
+  last_of (u ∷ []) some all = all.0
+  last_of (u ∷ w ∷ us) some all = last_of (w ∷ us) (omega arith) all.1
 
   pub actor_of : (p : Path) → PathOf G p → G (actor p).node
-  actor_of p all = last_of (uids_of p) all
+  actor_of p all = last_of (uids_of p) (path_some p) all
 
   pub take_of : (n : ℕ) (us : List Uid) → UidsOf G us → UidsOf G (take n us)
   take_of zero us all = tt
@@ -37,21 +63,21 @@ module _ (G : ℕ → Type 0) (none : G 0) where
   take_of (suc n) (u ∷ us) all = (all.0, take_of n us all.1)
 
   pub top_is : (p : Path) → PathOf G p → G (top_of p).node
-  top_is p all = last_of (take (tops_of p) (uids_of p)) (take_of (tops_of p) (uids_of p) all)
+  top_is p all = last_of (take (tops_of p) (uids_of p)) (omega (arith, top_length p, p.one_top)) (take_of (tops_of p) (uids_of p) all)
 
   front_of : (us : List Uid) → UidsOf G us → UidsOf G (front us)
   front_of [] all = tt
   front_of (u ∷ []) all = tt
   front_of (u ∷ w ∷ us) all = (all.0, front_of (w ∷ us) all.1)
 
-  at_of : (us : List Uid) (n : ℕ) → UidsOf G us → G (slice_index_or us n nobody).node
-  at_of [] n all = none
-  at_of (u ∷ us) zero all = all.0
-  at_of (u ∷ us) (suc n) all = at_of us n all.1
+  at_of : (us : List Uid) (n : ℕ) → n < length us → UidsOf G us → G (slice_index_or us n nobody).node
+  at_of [] n less all = absurd (let z : n < 0 = less in omega (arith, z))
+  at_of (u ∷ us) zero less all = all.0
+  at_of (u ∷ us) (suc n) less all = at_of us n (omega (arith, less)) all.1
 
   -- ---- rows
 
-  grant_of : (new : Row) (rows : List Row) → RowOf new → RowsOf G rows → RowsOf G (grant_row new rows)
+  grant_of : (new : Row) (rows : List Row) → RowOf G new → RowsOf G rows → RowsOf G (grant_row new rows)
   grant_of new [] its all = (its, tt)
   grant_of new (r ∷ rs) its all = by (is_row_of new.object (last_uid new.holder) r) (grant_of new rs its all.1)
     where
@@ -59,7 +85,7 @@ module _ (G : ℕ → Type 0) (none : G 0) where
       by true ih = all
       by false ih = (all.0, ih)
 
-  pub asked_of : (new : Row) (rows : List Row) → RowOf new → RowsOf G rows → RowsOf G (rows_asked new rows)
+  pub asked_of : (new : Row) (rows : List Row) → RowOf G new → RowsOf G rows → RowsOf G (rows_asked new rows)
   asked_of new rows its all = by (is_granted new.object (last_uid new.holder) new.mode rows)
     where
       by : (b : Bool) → RowsOf G (cond b rows (grant_row new rows))
@@ -67,37 +93,37 @@ module _ (G : ℕ → Type 0) (none : G 0) where
       by false = grant_of new rows its all
 
   pub drop_of : (u : Uid) (rows : List Row) → RowsOf G rows → RowsOf G (drop_rows u rows)
-  drop_of u rows all = all_filter RowOf (λ row. not (is_on row.holder u)) rows all
+  drop_of u rows all = all_filter (RowOf G) (λ row. not (is_on row.holder u)) rows all
 
   pub lower_of : (top x : Uid) (rows : List Row) → RowsOf G rows → RowsOf G (lower_row top x rows)
-  lower_of top x rows all = all_map RowOf RowOf _ rows (λ row its. by row (is_row_of x top row) its) all
+  lower_of top x rows all = all_map (RowOf G) (RowOf G) _ rows (λ row its. by row (is_row_of x top row) its) all
     where
-      by : (row : Row) (b : Bool) → RowOf row → RowOf (cond b (record row { mode = mode.Read }) row)
+      by : (row : Row) (b : Bool) → RowOf G row → RowOf G (cond b (record row { mode = mode.Read }) row)
       by row true its = its
       by row false its = its
 
   pub pass_of : (u : Uid) (rows : List Row) → RowsOf G rows → RowsOf G (pass_rows u rows)
-  pass_of u rows all = all_some RowOf RowOf (passed u rows) rows (λ row its. by row (is_held_by u row) its) all
+  pass_of u rows all = all_some (RowOf G) (RowOf G) (passed u rows) rows (λ row its. by row (is_held_by u row) its) all
     where
-      strong : (row : Row) (o : Option Row) → RowOf row → RowOf (strengthened row o)
+      strong : (row : Row) (o : Option Row) → RowOf G row → RowOf G (strengthened row o)
       strong row None its = its
       strong row (Some r) its = its
 
-      heir : (row : Row) (o : Option Uid) → RowOf row → IfSome (handed_on rows row o) RowOf
-      heir row None its = tt
-      heir row (Some h) its = one (has_row row.object h rows)
+      heir : (row : Row) (o : Option Uid) → before_last row.holder ≡ o → RowOf G row → IfSome (handed_on rows row o) (RowOf G)
+      heir row None is its = tt
+      heir row (Some h) is its = one (has_row row.object h rows)
         where
-          one : (b : Bool) → IfSome (cond b None (Some (renamed row))) RowOf
+          one : (b : Bool) → IfSome (cond b None (Some (renamed row))) (RowOf G)
           one true = tt
-          one false = front_of row.holder its
+          one false = (front_of row.holder its.0, passes_fit (length (front row.holder)) row.tops (front_some row.holder is))
 
-      by : (row : Row) (b : Bool) → RowOf row → IfSome (cond b (handed_on rows row (before_last row.holder)) (Some (strengthened row (find (goes_to u row) rows)))) RowOf
-      by row true its = heir row (before_last row.holder) its
+      by : (row : Row) (b : Bool) → RowOf G row → IfSome (cond b (handed_on rows row (before_last row.holder)) (Some (strengthened row (find (goes_to u row) rows)))) (RowOf G)
+      by row true its = heir row (before_last row.holder) refl its
       by row false its = strong row (find (goes_to u row) rows) its
 
   -- whom a question is about
   pub tops_of_rows : (rows : List Row) → RowsOf G rows → UidsOf G (map row_top rows)
-  tops_of_rows rows all = all_map RowOf (λ (u : Uid). G u.node) row_top rows (λ r its. at_of r.holder (r.tops - 1) its) all
+  tops_of_rows rows all = all_map (RowOf G) (λ (u : Uid). G u.node) row_top rows (λ r its. at_of r.holder (r.tops - 1) its.1 its.0) all
 
   -- ---- a server
 
@@ -142,7 +168,7 @@ module _ (G : ℕ → Type 0) (none : G 0) where
       its = all_found IsOf x s.objects c all there
 
       by : (r : Option Row) → All (let a = ask_copy n p x o c r in record s { objects = put_number x a.part s.objects })
-      by None = all_put IsOf x (run_copy n p x o c).part s.objects (asked_of (row_for (object x) (uids_of p) (tops_of p) (op_mode o)) c.rows path its) all
+      by None = all_put IsOf x (run_copy n p x o c).part s.objects (asked_of (row_for (object x) (uids_of p) (tops_of p) (op_mode o)) c.rows (path, path_fits p) its) all
       by (Some r) = all_put IsOf x c s.objects its all
 
   pub invoke_of : (n : ℕ) (h : Head) (x : ℕ) (b : Binding) (i : ℕ) (ends : List (Uid × End)) (o : Op) (s : Server) → PathOf G h.path → All s → All (invoke n h x b i ends o s).part

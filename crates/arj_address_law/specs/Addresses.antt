@@ -1,16 +1,16 @@
 -- Nodes that are named, in messages, on disks and in memory: this holds of each of their numbers.
-use Rattle.std.specs.Prelude.{⊤, ◌≡◌, ℕ, true, nat_le, List, Option, Some, None}
+use Rattle.std.specs.Prelude.{⊤, ◌≡◌, ◌≤◌, ◌<◌, ◌-◌, ◌&&◌, ℕ, true, is_some, length, nat_le, List, Option, Some, None}
 use Rattle.std.specs.List.{AllByRecursion}
-use Rattle.arj_protocol.specs.Words.{Uid, Ask, Asked, BoundReply, Entry, Head, Message, ObjectLine, ObjectState, Path, Row, asks, uids_of}
+use Rattle.arj_protocol.specs.Words.{Uid, Ask, Asked, BoundReply, Entry, Head, Message, ObjectLine, ObjectState, Path, Row, asks, entry, uids_of}
 use Rattle.arj_protocol.specs.Words.ask
 use Rattle.arj_protocol.specs.Words.bound
 use Rattle.arj_protocol.specs.Words.role
 use Rattle.arj_protocol.specs.Ask.{Reply, answers}
-use Rattle.arj_protocol.specs.Call.{At, AtBind, AtLoad, AtActivate, AtNote, AtInvoke, CallStep, Ended, Goal, Include, Known, Moved, On, Run, Steps}
+use Rattle.arj_protocol.specs.Call.{At, AtBind, AtLoad, AtActivate, AtNote, AtInvoke, CallEnd, CallStep, Ended, Goal, Include, Included, Known, Moved, On, Run, Steps}
 use Rattle.arj_protocol.specs.Commit.{Machine, Plan, Used, left_of, plan_of}
 use Rattle.arj_protocol.specs.Coord.{Calling, Committing, Coord, Doing, Idle, Joined, Keeping, Now, Root, Went, doing_of}
 use Rattle.arj_protocol.specs.Copy.{Copy}
-use Rattle.arj_protocol.specs.Effect.{Disk, Do, Effect, Intent, Prepare, PutIntent, Say, Send, Work}
+use Rattle.arj_protocol.specs.Effect.{Disk, Do, Effect, Intent, Pair, Prepare, PutIntent, Say, Send, Work, held_at}
 use Rattle.arj_protocol.specs.Named.{Live, Made, Named}
 use Rattle.arj_protocol.specs.Naming.{Naming}
 use Rattle.arj_protocol.specs.Node.{Parts}
@@ -32,18 +32,32 @@ UidsOf G us = AllByRecursion (λ (u : Uid). G u.node) us
 abbrev pub PathOf : (ℕ → Type 0) → Path → Type 0
 PathOf G p = UidsOf G (uids_of p)
 
--- servers and stores of an entry
+-- servers and stores of an entry, which lists some server
 pub record EntryOf (G : ℕ → Type 0) (e : Entry) : Type 0 where
   pub servers : AreOf G e.servers
   pub stores : AreOf G e.stores
+  pub some : 1 ≤ length e.servers
 
+-- the Uid is that of an object's entry
+abbrev pub IsEntry : Uid → Type 0
+IsEntry u = u ≡ entry u.num
+
+-- the state of an object's entry
 abbrev pub StateOf : (ℕ → Type 0) → ObjectState → Type 0
-StateOf G s = EntryOf G (state_entry s)
+StateOf G s = IsEntry s.uid × EntryOf G (state_entry s)
+
+-- the pair has an entry of the object
+abbrev pub HasEntry : Pair → ℕ → Type 0
+HasEntry d x = is_some (held_at (entry x) d) ≡ true
 
 -- ---- locks
 
+-- the Uids of a row's holder, among which its top is
+abbrev pub RowOf : (ℕ → Type 0) → Row → Type 0
+RowOf G r = UidsOf G r.holder × (r.tops - 1 < length r.holder)
+
 abbrev pub RowsOf : (ℕ → Type 0) → List Row → Type 0
-RowsOf G rows = AllByRecursion (λ (r : Row). UidsOf G r.holder) rows
+RowsOf G rows = AllByRecursion (RowOf G) rows
 
 abbrev pub CopiesOf : (ℕ → Type 0) → List (ℕ × Copy) → Type 0
 CopiesOf G objects = AllByRecursion (λ (e : ℕ × Copy). RowsOf G (let c = e.1 in c.rows)) objects
@@ -63,12 +77,13 @@ pub record NamedOf (G : ℕ → Type 0) (o : Named) : Type 0 where
   pub made : AllByRecursion (λ (e : Uid × Made). G (let m = e.1 in m.server)) o.made
   pub turn : TurnOf G o.turn
 
-abbrev pub NamingOf : (ℕ → Type 0) → Naming → Type 0
-NamingOf G n = AllByRecursion (λ (e : ℕ × Named). NamedOf G e.1) n.objects
+-- each object of naming has its entry in the pair
+abbrev pub NamingOf : (ℕ → Type 0) → Pair → Naming → Type 0
+NamingOf G d n = AllByRecursion (λ (e : ℕ × Named). HasEntry d e.0 × NamedOf G e.1) n.objects
 
-abbrev pub NamesOf : (ℕ → Type 0) → Option Naming → Type 0
-NamesOf G None = ⊤
-NamesOf G (Some n) = NamingOf G n
+abbrev pub NamesOf : (ℕ → Type 0) → Pair → Option Naming → Type 0
+NamesOf G d None = ⊤
+NamesOf G d (Some n) = NamingOf G d n
 
 -- ---- disks
 
@@ -76,7 +91,7 @@ NamesOf G (Some n) = NamingOf G n
 pub record DiskOf (G : ℕ → Type 0) (d : Disk) : Type 0 where
   pub store : AllByRecursion (λ (e : Uid × List ObjectState). G (let u = e.0 in u.node)) (let p = d.store in p.pend)
   pub names : AllByRecursion (λ (e : Uid × List ObjectState). G (let u = e.0 in u.node) × AllByRecursion (StateOf G) e.1) (let p = d.names in p.pend)
-  pub held : AllByRecursion (λ (e : Uid × ObjectState). StateOf G e.1) (let p = d.names in p.held)
+  pub held : AllByRecursion (λ (e : Uid × ObjectState). IsEntry e.0 × StateOf G e.1) (let p = d.names in p.held)
   pub intents : AllByRecursion (λ (e : Uid × Intent). AreOf G (let i = e.1 in i.nodes)) d.intents
 
 -- ---- messages
@@ -132,32 +147,48 @@ abbrev pub KeptOf : (ℕ → Type 0) → Option Known → Type 0
 KeptOf G None = ⊤
 KeptOf G (Some k) = KnownOf G k
 
-abbrev pub AtOf : (ℕ → Type 0) → At → Type 0
-AtOf G (AtBind avoid) = ⊤
-AtOf G (AtLoad k s rest) = KnownOf G k × G s × AreOf G rest
-AtOf G (AtActivate k st) = KnownOf G k
-AtOf G (AtNote k i) = KnownOf G k
-AtOf G (AtInvoke k i) = KnownOf G k
+-- what is known of a binding has its server where a call is to run there; an include wants the stores alone
+abbrev pub KnownFor : (ℕ → Type 0) → Goal → Known → Type 0
+KnownFor G (Run o) k = KnownOf G k
+KnownFor G (Include s) k = AreOf G k.stores
 
-abbrev pub StepOf : (ℕ → Type 0) → CallStep → Type 0
-StepOf G (On at) = AtOf G at
-StepOf G (Ended e) = ⊤
-
--- a step of a call: what it goes on to, and what the root keeps
-abbrev pub MovedOf : (ℕ → Type 0) → Moved → Type 0
-MovedOf G m = StepOf G m.step × KeptOf G m.kept
+abbrev pub AtOf : (ℕ → Type 0) → Goal → At → Type 0
+AtOf G g (AtBind avoid) = ⊤
+AtOf G g (AtLoad k s rest) = KnownFor G g k × G s × AreOf G rest
+AtOf G g (AtActivate k st) = KnownOf G k
+AtOf G g (AtNote k i) = KnownOf G k
+AtOf G g (AtInvoke k i) = KnownOf G k
 
 abbrev pub GoalOf : (ℕ → Type 0) → Goal → Type 0
 GoalOf G (Run o) = ⊤
 GoalOf G (Include s) = G s
 
+-- the store of an include
+abbrev pub StoreOf : (ℕ → Type 0) → Goal → Type 0
+StoreOf G (Run o) = ⊥
+StoreOf G (Include s) = G s
+
+-- only an include ends as one
+abbrev pub EndOf : (ℕ → Type 0) → Goal → CallEnd → Type 0
+EndOf G g (Included st) = StoreOf G g
+EndOf G g _ = ⊤
+
+abbrev pub StepOf : (ℕ → Type 0) → Goal → CallStep → Type 0
+StepOf G g (On at) = AtOf G g at
+StepOf G g (Ended e) = EndOf G g e
+
+-- a step of a call: what it goes on to, and what the root keeps
+abbrev pub MovedOf : (ℕ → Type 0) → Goal → Moved → Type 0
+MovedOf G g m = StepOf G g m.step × KeptOf G m.kept
+
 pub record StepsOf (G : ℕ → Type 0) (s : Steps) : Type 0 where
   pub path : PathOf G s.path
-  pub at : AtOf G s.at
+  pub at : AtOf G s.goal s.at
   pub goal : GoalOf G s.goal
 
+-- its server where it was called
 abbrev pub UsedOf : (ℕ → Type 0) → Used → Type 0
-UsedOf G u = G u.server × AreOf G u.stores × AreOf G u.joins
+UsedOf G u = (u.called ≡ true → G u.server) × AreOf G u.stores × AreOf G u.joins
 
 pub record PlanOf (G : ℕ → Type 0) (p : Plan) : Type 0 where
   pub path : PathOf G p.path
@@ -187,24 +218,25 @@ pub record CoordOf (G : ℕ → Type 0) (c : Coord) : Type 0 where
 
 -- ---- nodes
 
-pub record PartsOf (G : ℕ → Type 0) (t : Parts) : Type 0 where
+-- a node's memory, beside its disk
+pub record PartsOf (G : ℕ → Type 0) (d : Disk) (t : Parts) : Type 0 where
   pub server : CopiesOf G (let s = t.server in s.objects)
-  pub naming : NamesOf G t.naming
+  pub naming : NamesOf G d.names t.naming
   pub coord : CoordOf G t.coord
 
 -- ---- all that is seen
 
--- servers and stores of an object of the header
+-- servers and stores of an object of the header, which lists some server
 abbrev pub LineOf : (ℕ → Type 0) → ObjectLine → Type 0
-LineOf G o = AreOf G o.servers × AreOf G o.stores
+LineOf G o = AreOf G o.servers × AreOf G o.stores × (1 ≤ length o.servers)
 
-abbrev pub UpOf : (ℕ → Type 0) → Option Parts → Type 0
-UpOf G None = ⊤
-UpOf G (Some t) = PartsOf G t
+abbrev pub UpOf : (ℕ → Type 0) → Disk → Option Parts → Type 0
+UpOf G d None = ⊤
+UpOf G d (Some t) = PartsOf G d t
 
 -- a node's number, its disk, and its memory where it is up
 abbrev pub NodeOf : (ℕ → Type 0) → Node → Type 0
-NodeOf G n = G n.number × DiskOf G n.disk × UpOf G n.live
+NodeOf G n = G n.number × DiskOf G n.disk × UpOf G n.disk n.live
 
 abbrev pub PostOf : (ℕ → Type 0) → Post → Type 0
 PostOf G p = G p.from × G p.to × MessageOf G p.message
@@ -215,6 +247,6 @@ AreSo G M = ((j : ℕ) (n : Node) → M.nodes j ≡ Some n → NodeOf G n) × ((
 
 -- ---- frames
 
--- each frame goes to a number that is at most that
+-- each frame goes to a number that is at least 1 and at most that
 abbrev pub GoWithin : ℕ → World → Type 0
-GoWithin most w = AllByRecursion (λ (f : Frame). nat_le f.to most ≡ true) w.frames
+GoWithin most w = AllByRecursion (λ (f : Frame). (nat_le 1 f.to && nat_le f.to most) ≡ true) w.frames

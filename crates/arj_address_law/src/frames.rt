@@ -7,11 +7,11 @@ ghost use Rattle.arj_protocol.specs.World.{Asked, format, run_all};
 ghost use Rattle.arj_view_law.specs.Keeps.{Holds};
 ghost use Rattle.arj_address_law.specs.Addresses.{AreSo, GoWithin, LineOf};
 
-/// In every run what holds of 0, of 1, of each node of the header, and of the servers and stores of its objects holds of
-/// every number that stands for a node: in every message that was ever sent, with whom it came from and to whom it goes, on every
-/// disk and in the memory of each node that's up. So each frame goes to a number that's at most the header's number of
-/// nodes. It doesn't say that the number isn't 0. It does nothing when it runs.
+/// In every run what holds of 1, of each node of the header, and of the servers and stores of its objects, each of which lists a
+/// server, holds of every number that stands for a node: in every message that was ever sent, with whom it came from and to whom it
+/// goes, on every disk and in the memory of each node that's up. So each frame goes to a node of the header: to a number that's at
+/// least 1 and at most the header's number of nodes. It does nothing when it runs.
 pub fn frames_go_within()
-    ensures named { (hd : Header) (test : ℕ → Bool) → test 0 ≡ true → test 1 ≡ true → ((s : ℕ) → (nat_le 1 s && nat_le s hd.nodes) ≡ true → test s ≡ true) → AllByRecursion (LineOf (λ n. test n ≡ true)) hd.objects → (es : List Asked) → Holds hd (AreSo (λ n. test n ≡ true)) (run_all es (format hd)) }
+    ensures named { (hd : Header) (test : ℕ → Bool) → test 1 ≡ true → ((s : ℕ) → (nat_le 1 s && nat_le s hd.nodes) ≡ true → test s ≡ true) → AllByRecursion (LineOf (λ n. test n ≡ true)) hd.objects → (es : List Asked) → Holds hd (AreSo (λ n. test n ≡ true)) (run_all es (format hd)) }
     ensures runs { (hd : Header) → HeaderInForm hd → (es : List Asked) → GoWithin hd.nodes (run_all es (format hd)) }
 {}
