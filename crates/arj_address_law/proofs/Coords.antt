@@ -2,11 +2,8 @@
 use Rattle.std.proofs.Common.{◌≡◌, ◌∙◌, ◌≤◌, ◌<◌, ◌+◌, ◌==◌, ℕ, zero, suc, List, [], ◌∷◌, ◌++◌, Bool, true, false, cond, not, ◌&&◌, ◌||◌, length, map, filter, nat_le, Option, Some, None, refl, sym, ap, subst, inl, inr, ⊎_elim, arith}
 use Rattle.std.specs.Prelude.{⊤, IfSome, unwrap_or}
 use Rattle.std.specs.List.{AllByRecursion, flat_map, list_any}
-use Rattle.std.proofs.lemmas.Bool.Decides.{nat_tests}
-use Rattle.std.proofs.lemmas.List.{length-append}
 use Rattle.arj_base.proofs.Uids.{uid_cases}
 use Rattle.arj_lock.proofs.Members.{In}
-use Rattle.arj_msg.proofs.PathLaws.{path_is}
 use Rattle.arj_protocol.specs.Words.{Ask, Asked, Body, End, Kind, Label, ObjectState, Op, Path, Uid, path_of, tops_of, uid_eq, uids_of}
 use Rattle.arj_protocol.specs.Words.body
 use Rattle.arj_protocol.specs.Words.cause
@@ -25,17 +22,16 @@ use Rattle.arj_protocol.specs.Coord.{Calling, Committing, Coord, Doing, Grant, I
 use Rattle.arj_protocol.specs.Effect.{Did, Do, Effect, Intent, PutIntent, Served}
 use Rattle.arj_protocol.specs.Ending.{abort_action, aborts_with, acked, acked_by, acked_left, all_aborted, answer_decided, answer_query, answer_recorded, decide, decided_told, ended, ends_with, is_deferred, is_kept_commit, is_over, keeping_after, kept_after, let_go, root_after, root_or_self, say_for, says, tell, tell_all, tolds_by, tolds_let_go, tolds_of, tolds_of_branch, up_to}
 use Rattle.arj_protocol.specs.Order.{at_uid, each, has, number_set, put_uid, unbound, with_number, without_number, without_uid}
-use Rattle.arj_protocol.specs.Step.{Input, acts, begin_reasons, begin_refusal, branch_named, branch_numbered, is_below_16, on_branch, parent_of, refused_by, tolds_again}
+use Rattle.arj_protocol.specs.Step.{Input, acts, begin_refusal, branch_named, branch_numbered, on_branch, parent_of, tolds_again}
 use Rattle.arj_protocol.specs.Step as input
 use Rattle.arj_protocol.specs.Tree.{Branch, Tree, at_place, branch_of, doomed_at, doomed_branch, ended_at, ended_branch, ends_of, family_of, is_open, is_own, next_uid, open_below, path_below, path_in, root_of, set_place, uses_object, with_family}
-use Rattle.arj_part_law.proofs.Begun.{path_length, path_some}
-use Rattle.arj_part_law.proofs.CoordInputs.{behind, off}
 use Rattle.arj_part_law.proofs.GoodCoords.{doomed_same, uses_same}
 use Rattle.arj_part_law.proofs.GoodTrees.{get_more, placed}
 use Rattle.arj_part_law.proofs.LivesNamed.{all_at, all_each, all_put as all_put_number}
 use Rattle.arj_part_law.proofs.Settled.{doing_other, doing_put, end_tree_on}
 use Rattle.arj_address_law.specs.Addresses.{AllOf, AreOf, AskOf, CoordOf, EndOf, GoalOf, KeptOf, KnownOf, MachineOf, MovedOf, NowOf, PathOf, PlanOf, ReplyOf, RootOf, StepOf, StepsOf, StoreOf, UidsOf, UsedOf}
 use Rattle.arj_address_law.specs.Binds.{AnswersAt, AnswersWaiting, IsThere, KeepsCalled}
+use Rattle.arj_address_law.proofs.Begins.{below_is, shallow}
 use Rattle.arj_address_law.proofs.Calls.{answered_of, asks_of, given_up_of, node_of, request_of, start_of}
 use Rattle.arj_address_law.proofs.Lists.{all_append, all_at_uid, all_filter, all_flat, all_map, all_number, all_numbers, all_placed, all_put, all_set, all_without}
 use Rattle.arj_address_law.proofs.Namings.{listed_after}
@@ -634,41 +630,11 @@ module _ (G : ℕ → Type 0) (one : G 1) where
 
   -- ---- actions that begin
 
-  path_of_is : (us : List Uid) (tops : ℕ) → 1 ≤ length us → length us ≤ 16 → 1 ≤ tops → tops ≤ 2 → tops ≤ length us → UidsOf G us → PathOf G (path_of us tops)
-  path_of_is us tops some most first two within all = let m = path_is us tops some most first two within in subst (UidsOf G) (sym m.has) all
-
-  -- the parent's path isn't the longest
-  abbrev IsShallow : Kind → Option Branch → Type 0
-  IsShallow q None = ⊤
-  IsShallow q (Some b) = is_below_16 q ≡ true → length (uids_of b.path) < 16
-
-  below_is : (q : Kind) (o : Option Branch) (u : Uid) → IsShallow q o → G u.node → IfSome o (λ (b : Branch). PathOf G b.path) → PathOf G (path_below q o u)
-  below_is q None u shallow its all = alone u its
-    where
-      alone : (u : Uid) → G u.node → PathOf G (path_of (u ∷ []) 1)
-      alone u its = path_of_is (u ∷ []) 1 (omega arith) (omega arith) (omega arith) (omega arith) (omega arith) (its, tt)
-  below_is q (Some b) u shallow its all = by q shallow
-    where
-      alone : PathOf G (path_of (u ∷ []) 1)
-      alone = path_of_is (u ∷ []) 1 (omega arith) (omega arith) (omega arith) (omega arith) (omega arith) (its, tt)
-
-      longer : (n : ℕ) → 1 ≤ n → length (uids_of b.path) < 16 → n ≤ 2 → n ≤ length (uids_of b.path) + 1 → PathOf G (path_of (uids_of b.path ++ u ∷ []) n)
-      longer n first less two within =
-          let long = length-append (uids_of b.path) (u ∷ []) in
-          path_of_is (uids_of b.path ++ u ∷ []) n (omega (arith, long)) (omega (arith, long, less)) first two (omega (arith, long, within)) (all_append _ (uids_of b.path) (u ∷ []) all (its, tt))
-
-      by : (q : Kind) → (is_below_16 q ≡ true → length (uids_of b.path) < 16) → PathOf G (path_in q b.path u)
-      by kind.Nested less = let p = b.path in longer (tops_of b.path) p.one_top (less refl) p.two_tops (omega (arith, path_length b.path, p.within))
-      by kind.Constituent less = longer 2 (omega arith) (less refl) (omega arith) (omega (arith, path_some b.path))
-      by kind.Top less = alone
-      by kind.Serial less = alone
-      by kind.Independent less = alone
-
   pub begin_of : (l : Label) (q : Kind) (parent : Option Label) (c : Coord) → begin_refusal q c parent ≡ None → CoordOf G c → IsDone (begin_action l q parent (parent_of parent c) c)
   begin_of l q parent c free k = (
     record {
       node = k.node;
-      paths = all_append _ c.tree.branches (record { path = path_below q (parent_of parent c) (next_uid c.tree); kind = q; ended = None; doomed = false } ∷ []) k.paths (below_is q (parent_of parent c) (next_uid c.tree) (shallow parent free) k.node (above parent), tt);
+      paths = all_append _ c.tree.branches (record { path = path_below q (parent_of parent c) (next_uid c.tree); kind = q; ended = None; doomed = false } ∷ []) k.paths (below_is G q (parent_of parent c) (next_uid c.tree) (shallow q c parent free) k.node (above parent), tt);
       works = λ u d at. was (is_own u c.tree) u.num d at (λ f. k.works u d f);
       roots = k.roots;
       telling = k.telling;
@@ -678,24 +644,6 @@ module _ (G : ℕ → Type 0) (one : G 1) where
     where
       fresh : Doing
       fresh = record { label = l; req = 0; now = Idle; took = [] }
-
-      shallow : (o : Option Label) → begin_refusal q c o ≡ None → IsShallow q (parent_of o c)
-      shallow None no_reason = tt
-      shallow (Some p) no_reason = by (branch_named p c) refl no_reason
-        where
-          less : (b : Branch) (n : Bool) → n ≡ true → (n && nat_le 16 (length (uids_of b.path))) ≡ false → length (uids_of b.path) < 16
-          less b true on is = let low : nat_le 16 (length (uids_of b.path)) ≡ false = is in grind (arith, nat_tests, low)
-          less b false on is = let no_way : false ≡ true = on in absurd (cc no_way)
-
-          by : (o : Option Branch) → branch_named p c ≡ o → refused_by (begin_reasons q) c o ≡ None → IsShallow q o
-          by None is no_reason = tt
-          by (Some b) is no_reason = λ on.
-              let rs = begin_reasons q b c in
-              let first = off rs no_reason in
-              let second = off (behind rs) first.1 in
-              let third = off (behind (behind rs)) second.1 in
-              let fourth = off (behind (behind (behind rs))) third.1 in
-              less b (is_below_16 q) on (off (behind (behind (behind (behind rs)))) fourth.1).0
 
       above : (o : Option Label) → IfSome (parent_of o c) (λ (b : Branch). PathOf G b.path)
       above None = tt

@@ -2,6 +2,7 @@ pub mod Lists
 pub mod Servers
 pub mod Namings
 pub mod Calls
+pub mod Begins
 pub mod Coords
 pub mod Nodes
 pub mod BindAnswers

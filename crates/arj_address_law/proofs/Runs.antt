@@ -16,14 +16,14 @@ use Rattle.arj_protocol.specs.Node.{Parts, with_coord}
 use Rattle.arj_protocol.specs.Order.{put_uid}
 use Rattle.arj_protocol.specs.Step as input
 use Rattle.arj_protocol.specs.Step.{Input, Node, acts, entries_at, first_disk, first_entry, first_node, numbers_to, parent_of, parts_in, put_states, refusal_up, restart_outs}
-use Rattle.arj_protocol.specs.World.{Asked, Frame, format, is_serial_kind, run_all}
+use Rattle.arj_protocol.specs.World.{Asked, Frame, World, format, is_serial_kind, run_all, run_event}
 use Rattle.arj_protocol.proofs.Payloads.{entry_back}
 use Rattle.arj_view_law.specs.Keeps.{AsksNode, HasPlace, Holds, IsSent, KeepsAsked, is_act}
 use Rattle.arj_view_law.specs.Seen.{In, Post, Seen, at, given, posted, said, see, up}
 use Rattle.arj_view_law.specs.Walks.{Up, Walks}
-use Rattle.arj_view_law.proofs.Happens.{keeps_asked, runs_asked}
+use Rattle.arj_view_law.proofs.Happens.{event_asked, first_asked, keeps_asked, runs_asked}
 use Rattle.arj_view_law.proofs.Together.{walks_both}
-use Rattle.arj_address_law.specs.Addresses.{AllOf, AreOf, AreSo, CoordOf, DiskOf, EntryOf, GoWithin, IsEntry, LineOf, NodeOf, PartsOf, PostOf, StateOf}
+use Rattle.arj_address_law.specs.Addresses.{AllOf, AreAddressed, AreOf, AreSo, CoordOf, DiskOf, EntryOf, GoWithin, IsEntry, IsNode, LineOf, NodeOf, PartsOf, PostOf, StateOf}
 use Rattle.arj_address_law.proofs.BindRuns.{AreBound, answers_fit, binds_keep, commit_keeps}
 use Rattle.arj_address_law.proofs.Lists.{all_append, all_key, all_map}
 use Rattle.arj_address_law.proofs.Coords.{Needs, acts_of, begin_of}
@@ -189,7 +189,7 @@ module _ (G : ℕ → Type 0) where
 
 module _ (hd : Header) (form : HeaderInForm hd) where
   abbrev Fits : ℕ → Type 0
-  Fits n = (nat_le 1 n && nat_le n hd.nodes) ≡ true
+  Fits n = IsNode hd n
 
   fits_one : Fits 1
   fits_one = let n = form.nodes.0 in grind (arith, nat_tests, n)
@@ -215,8 +215,18 @@ module _ (hd : Header) (form : HeaderInForm hd) where
       by None there place = place
       by (Some m) there place = let p = posts (record { from = f.from; to = f.to; message = m }) there in p.1
 
+  -- what a relation that each handler keeps says of a world's frames
+  pub within_of : (w : World) → Holds hd (AreAddressed hd) w → GoWithin hd.nodes w
+  within_of w h = let all = h.holds in let so = all.1 in frames_fit h.sent so.1 w.frames h.stands.frames h.stands.junk
+
+  kept : KeepsAsked hd (AreAddressed hd)
+  kept = so_kept Fits fits_one hd (λ s is. is) (lines hd.objects form.objects.0)
+
+  pub first_within : Holds hd (AreAddressed hd) (format hd)
+  first_within = first_asked hd (AreAddressed hd) kept
+
+  pub event_within : (e : Asked) (w : World) → Holds hd (AreAddressed hd) w → Holds hd (AreAddressed hd) (run_event e w)
+  event_within e w h = event_asked hd (AreAddressed hd) kept e w h
+
   pub within : (es : List Asked) → GoWithin hd.nodes (run_all es (format hd))
-  within es =
-      let h = runs_so Fits fits_one hd (λ s is. is) (lines hd.objects form.objects.0) es in
-      let all = h.holds in
-      frames_fit h.sent all.1 (let w = run_all es (format hd) in w.frames) h.stands.frames h.stands.junk
+  within es = within_of (run_all es (format hd)) (runs_asked hd (AreAddressed hd) kept es)

@@ -1,7 +1,7 @@
 -- Nodes that are named, in messages, on disks and in memory: this holds of each of their numbers.
 use Rattle.std.specs.Prelude.{⊤, ◌≡◌, ◌≤◌, ◌<◌, ◌-◌, ◌&&◌, ℕ, true, is_some, length, nat_le, List, Option, Some, None}
 use Rattle.std.specs.List.{AllByRecursion}
-use Rattle.arj_protocol.specs.Words.{Uid, Ask, Asked, BoundReply, Entry, Head, Message, ObjectLine, ObjectState, Path, Row, asks, entry, uids_of}
+use Rattle.arj_protocol.specs.Words.{Uid, Ask, Asked, BoundReply, Entry, Head, Header, Message, ObjectLine, ObjectState, Path, Row, asks, entry, uids_of}
 use Rattle.arj_protocol.specs.Words.ask
 use Rattle.arj_protocol.specs.Words.bound
 use Rattle.arj_protocol.specs.Words.role
@@ -18,7 +18,9 @@ use Rattle.arj_protocol.specs.Step.{Node}
 use Rattle.arj_protocol.specs.Tree.{Branch}
 use Rattle.arj_protocol.specs.Values.{state_entry}
 use Rattle.arj_protocol.specs.World.{Frame, World}
+use Rattle.arj_run_law.specs.Worlds.{IsGood}
 use Rattle.arj_view_law.specs.Seen.{In, Post, Seen}
+use Rattle.arj_address_law.specs.Binds.{BindsAreKnown}
 
 -- ---- numbers, Uids and entries
 
@@ -245,7 +247,16 @@ PostOf G p = G p.from × G p.to × MessageOf G p.message
 abbrev pub AreSo : (ℕ → Type 0) → Seen → Type 0
 AreSo G M = ((j : ℕ) (n : Node) → M.nodes j ≡ Some n → NodeOf G n) × ((p : Post) → In p M.sent → PostOf G p)
 
--- ---- frames
+-- ---- runs
+
+-- the number is that of a node of the header
+abbrev pub IsNode : Header → ℕ → Type 0
+IsNode hd n = (nat_le 1 n && nat_le n hd.nodes) ≡ true
+
+-- What each handler keeps: nodes are good, coordinators know what their calls stand on, and every number that stands for a node is that of
+-- one.
+abbrev pub AreAddressed : Header → Seen → Type 0
+AreAddressed hd M = (IsGood M × BindsAreKnown M) × AreSo (IsNode hd) M
 
 -- each frame goes to a number that is at least 1 and at most that
 abbrev pub GoWithin : ℕ → World → Type 0

@@ -1,2 +1,2 @@
-pub mod Addresses
 pub mod Binds
+pub mod Addresses

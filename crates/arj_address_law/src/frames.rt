@@ -1,11 +1,11 @@
 // To whom frames go.
-ghost use Rattle.std.specs.Prelude.{◌≡◌, ℕ, Bool, List, true, nat_le, ◌&&◌};
+ghost use Rattle.std.specs.Prelude.{◌≡◌, ◌&&◌, ℕ, Bool, List, true, nat_le};
 ghost use Rattle.std.specs.List.{AllByRecursion};
 ghost use Rattle.arj_journal.specs.ScriptForm.{HeaderInForm};
 ghost use Rattle.arj_journal.specs.declared.header.Header.{Header};
-ghost use Rattle.arj_protocol.specs.World.{Asked, format, run_all};
+ghost use Rattle.arj_protocol.specs.World.{Arm, Asked, World, format, run_all, run_event};
 ghost use Rattle.arj_view_law.specs.Keeps.{Holds};
-ghost use Rattle.arj_address_law.specs.Addresses.{AreSo, GoWithin, LineOf};
+ghost use Rattle.arj_address_law.specs.Addresses.{AreAddressed, AreSo, GoWithin, LineOf};
 
 /// In every run what holds of 1, of each node of the header, and of the servers and stores of its objects, each of which lists a
 /// server, holds of every number that stands for a node: in every message that was ever sent, with whom it came from and to whom it
@@ -14,4 +14,13 @@ ghost use Rattle.arj_address_law.specs.Addresses.{AreSo, GoWithin, LineOf};
 pub fn frames_go_within()
     ensures named { (hd : Header) (test : ℕ → Bool) → test 1 ≡ true → ((s : ℕ) → (nat_le 1 s && nat_le s hd.nodes) ≡ true → test s ≡ true) → AllByRecursion (LineOf (λ n. test n ≡ true)) hd.objects → (es : List Asked) → Holds hd (AreSo (λ n. test n ≡ true)) (run_all es (format hd)) }
     ensures runs { (hd : Header) → HeaderInForm hd → (es : List Asked) → GoWithin hd.nodes (run_all es (format hd)) }
+{}
+
+/// What holds of a world that is formatted, is left by each event and by stops that are armed, and says where its frames go: so each
+/// frame goes to a node of the header whatever stops fall where. It does nothing when it runs.
+pub fn events_keep_addresses()
+    ensures first { (hd : Header) → HeaderInForm hd → Holds hd (AreAddressed hd) (format hd) }
+    ensures event { (hd : Header) → HeaderInForm hd → (e : Asked) (w : World) → Holds hd (AreAddressed hd) w → Holds hd (AreAddressed hd) (run_event e w) }
+    ensures arms { (hd : Header) (arms : List (ℕ × Arm)) (w : World) → Holds hd (AreAddressed hd) w → Holds hd (AreAddressed hd) (record w { arms = arms }) }
+    ensures within { (hd : Header) → HeaderInForm hd → (w : World) → Holds hd (AreAddressed hd) w → GoWithin hd.nodes w }
 {}
