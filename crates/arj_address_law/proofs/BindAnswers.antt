@@ -1,7 +1,7 @@
 -- What a root keeps of an object stays through each answer, and the next step stands on it.
 use Rattle.std.proofs.Common.{◌≡◌, ◌==◌, ◌&&◌, refl, ℕ, List, [], ◌∷◌, Bool, true, false, cond, Option, Some, None}
 use Rattle.std.specs.Prelude.{⊤}
-use Rattle.arj_protocol.specs.Words.{BoundReply, Binding, InvokedReply, LoadedReply, Op, RecordedReply}
+use Rattle.arj_protocol.specs.Words.{BoundReply, Op}
 use Rattle.arj_protocol.specs.Words.bound
 use Rattle.arj_protocol.specs.Words.invoked
 use Rattle.arj_protocol.specs.Words.loaded
@@ -9,7 +9,7 @@ use Rattle.arj_protocol.specs.Words.recorded
 use Rattle.arj_protocol.specs.Ask.{Reply}
 use Rattle.arj_protocol.specs.Asking.{keeps_after}
 use Rattle.arj_protocol.specs.Call as calls
-use Rattle.arj_protocol.specs.Call.{At, AtActivate, AtBind, AtInvoke, AtLoad, AtNote, CallEnd, CallStep, Changed, Ended, Goal, Include, Known, Moved, On, Run, activated_by, answered, bound_answer, bound_by, finds, given_up, live_known, load_from, loaded_answer, made_by, made_known, moves, named_again, or_lost, other_binding, recorded_answer, recorded_kept, same_binding, two_bindings, two_incs, with_inc, write_known}
+use Rattle.arj_protocol.specs.Call.{At, AtActivate, AtBind, AtInvoke, AtLoad, AtNote, CallEnd, CallStep, Changed, Ended, Goal, Include, Known, Moved, On, Run, activated_by, answered, bound_answer, bound_by, finds, given_up, live_known, load_from, made_by, made_known, moves, named_again, or_lost, other_binding, recorded_kept, same_binding, two_bindings, two_incs, with_inc, write_known}
 use Rattle.arj_protocol.specs.Coord.{Keeping, is_call}
 use Rattle.arj_protocol.specs.Order.{binding_eq, binding_less}
 use Rattle.arj_address_law.specs.Binds.{Answers, AnswersAt, IsThere, StandsOn}

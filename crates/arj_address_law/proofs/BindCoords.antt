@@ -1,7 +1,6 @@
 -- What a coordinator knows of its calls and Binds stays as its tree, its work and its roots change.
-use Rattle.std.proofs.Common.{◌≡◌, ◌≢◌, ◌⊎◌, ◌≤◌, ◌<◌, ◌+◌, ◌==◌, ◌&&◌, ℕ, List, [], ◌∷◌, ◌++◌, Bool, true, false, cond, Option, Some, None, refl, sym, ◌∙◌, ap, subst, inl, inr, ⊎_elim, arith}
+use Rattle.std.proofs.Common.{◌≡◌, ◌⊎◌, ◌≤◌, ◌<◌, ℕ, List, [], ◌∷◌, Bool, true, false, cond, Option, Some, None, refl, sym, ◌∙◌, ap, subst, inl, inr, ⊎_elim, arith}
 use Rattle.std.specs.Prelude.{is_some, unwrap_or}
-use Rattle.std.specs.List.{list_any}
 use Rattle.std.specs.Ordering.{is_eq, nat_cmp}
 use Rattle.arj_base.proofs.Uids.{uid_cases}
 use Rattle.arj_lock.proofs.Members as list
@@ -10,22 +9,21 @@ use Rattle.arj_protocol.specs.Words.ask
 use Rattle.arj_protocol.specs.Words.ending
 use Rattle.arj_protocol.specs.Ask.{actor}
 use Rattle.arj_protocol.specs.Asking.{asks_all, asks_node, is_invoke_ask}
-use Rattle.arj_protocol.specs.Call.{Known, Steps, is_include}
-use Rattle.arj_protocol.specs.Coord.{Calling, Coord, Doing, Idle, Keeping, Root, Said, Went, change_doing, doing_of, is_call, kept_of, no_keeping, no_root, on_doing, on_root, root_at, same_went, set_doing, with_keeping, with_went}
+use Rattle.arj_protocol.specs.Call.{Known, Steps}
+use Rattle.arj_protocol.specs.Coord.{Calling, Coord, Doing, Idle, Root, Said, Went, change_doing, doing_of, is_call, kept_of, no_keeping, no_root, on_doing, on_root, root_at, set_doing, with_went}
 use Rattle.arj_protocol.specs.Effect.{Intent}
 use Rattle.arj_protocol.specs.Ending.{ended}
 use Rattle.arj_protocol.specs.Order.{at_number, put_number}
 use Rattle.arj_protocol.specs.Tree.{Branch, Tree, at_place, branch_of, doomed_at, ended_at, ended_branch, is_own, root_of, uses_object}
 use Rattle.arj_protocol.proofs.Maps.{put_same as put_number_same, put_other as put_number_other}
 use Rattle.arj_protocol.proofs.RowSteps.{one_or_two}
-use Rattle.arj_part_law.specs.Messages.{IsDecided}
 use Rattle.arj_part_law.proofs.Decided.{stand_ended}
-use Rattle.arj_part_law.proofs.GoodCoords.{IsSameTree, doomed_same, on_tree, uses_same}
+use Rattle.arj_part_law.proofs.GoodCoords.{IsSameTree, doomed_same, uses_same}
 use Rattle.arj_part_law.proofs.GoodTrees.{after, at_others, at_u, ended_b}
 use Rattle.arj_part_law.proofs.Settled.{doing_other, doing_put, end_tree_on}
 use Rattle.arj_view_law.specs.Seen.{In, Post}
 use Rattle.arj_call_law.specs.Coords.{IsSpent}
-use Rattle.arj_call_law.proofs.CoordCalls.{not_idle, root_of_same, went_keeping}
+use Rattle.arj_call_law.proofs.CoordCalls.{not_idle, went_keeping}
 use Rattle.arj_call_law.proofs.CoordEnds.{aborts_ended}
 use Rattle.arj_call_law.proofs.CoordKnown.{went_said}
 use Rattle.arj_call_law.proofs.CoordSteps.{KeepsAborts}

@@ -1,36 +1,32 @@
 -- What nodes send: Binds of the steps that wait, and answers to the Binds that came.
-use Rattle.std.proofs.Common.{◌≡◌, ◌≤◌, ◌==◌, ◌||◌, ℕ, List, [], ◌∷◌, ◌++◌, Bool, true, false, cond, Option, Some, None, refl, sym, ◌∙◌, ap, subst, inl, inr, arith, map, filter}
+use Rattle.std.proofs.Common.{◌≡◌, ◌≤◌, ℕ, List, [], ◌∷◌, ◌++◌, Bool, true, false, cond, Option, Some, None, refl, sym, ◌∙◌, ap, subst, arith, map, filter}
 use Rattle.std.specs.Prelude.{⊤, IfSome, option_map}
 use Rattle.std.specs.List.{AllByRecursion, list_all}
 use Rattle.std.proofs.lemmas.Bool.{and_parts}
 use Rattle.arj_protocol.specs.Words.{Ask, Asked, Binding, BoundReply, End, Entry, Head, Message, ObjectState, Path, PreparedReply, Row, Uid, asks, object}
 use Rattle.arj_protocol.specs.Words.ask
-use Rattle.arj_protocol.specs.Words.body
-use Rattle.arj_protocol.specs.Words.bound
 use Rattle.arj_protocol.specs.Words.ending
 use Rattle.arj_protocol.specs.Words.loaded
 use Rattle.arj_protocol.specs.Words.message
 use Rattle.arj_protocol.specs.Words.mode
 use Rattle.arj_protocol.specs.Words.prepared
-use Rattle.arj_protocol.specs.Words.role
 use Rattle.arj_protocol.specs.Ask.{Reply, actor, answers, asked_by, last_end, response}
 use Rattle.arj_protocol.specs.Asking.{heard}
 use Rattle.arj_protocol.specs.Call.{At, AtActivate, AtBind, AtInvoke, AtLoad, AtNote, Steps, ask_at, is_include}
 use Rattle.arj_protocol.specs.Confirm.{confirm}
-use Rattle.arj_protocol.specs.Coord.{Calling, Coord}
-use Rattle.arj_protocol.specs.Effect.{Already, Disk, Do, Effect, InDoubt, Look, Old, Pair, Prep, Prepare, Ready, Say, Send, Served, held_at, holder_of, is_prepared, prepare_answer, void}
+use Rattle.arj_protocol.specs.Coord.{Coord}
+use Rattle.arj_protocol.specs.Effect.{Already, Disk, Do, Effect, InDoubt, Old, Pair, Prep, Prepare, Ready, Say, Send, Served, held_at, holder_of, is_prepared, prepare_answer, void}
 use Rattle.arj_protocol.specs.Ending.{acked, answer_query}
 use Rattle.arj_protocol.specs.Named.{Counted, Live, Made, Named, bind_call, bind_made, bind_named, conflict_on, include_asked, live_above, live_asked, made_above, make_asked}
 use Rattle.arj_protocol.specs.Naming as naming
 use Rattle.arj_protocol.specs.Naming.{Naming, is_over, listed_entry, on_counted}
-use Rattle.arj_protocol.specs.Node.{Handled, Parts, Took, Void, ack_told, by_reply, coord_heard, end_states, handle, handle_answer, handle_ask, handle_ends, handle_other, holders, if_naming, is_earlier, load_by, load_held, naming_told, prepare_by, query_about, sends_answer, serve, served, store_told, with_coord, with_naming, with_server}
+use Rattle.arj_protocol.specs.Node.{Handled, Parts, Took, Void, ack_told, by_reply, coord_heard, end_states, handle, handle_answer, handle_ask, handle_ends, handle_other, holders, if_naming, is_earlier, load_by, load_held, naming_told, prepare_by, query_about, sends_answer, serve, store_told, with_coord, with_naming, with_server}
 use Rattle.arj_protocol.specs.Order.{at_number, at_uid}
 use Rattle.arj_protocol.specs.Says.{AreAll, is_naming_effect, is_server_effect}
 use Rattle.arj_protocol.specs.Server as server
 use Rattle.arj_protocol.proofs.PartSays.{activate_own, bind_own, confirm_own, ends_own, invoke_own, note_own, told_own, vote_own}
 use Rattle.arj_part_law.specs.Claims.{AreTrue}
 use Rattle.arj_view_law.specs.Seen.{In, Post}
-use Rattle.arj_call_law.specs.Coords.{head_of}
 use Rattle.arj_call_law.proofs.CoordOuts.{query_so}
 use Rattle.arj_call_law.proofs.CoordSends.{AllSo, IsSentBy}
 use Rattle.arj_call_law.proofs.WorldSteps.{no_answer, no_request, reads_back}

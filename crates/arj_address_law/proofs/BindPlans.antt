@@ -9,8 +9,8 @@ use Rattle.arj_lock.proofs.Members as list
 use Rattle.arj_protocol.specs.Words.{Uid, first_uid, front, is_on, last_uid, uid_eq, uids_of}
 use Rattle.arj_protocol.specs.Words.ending
 use Rattle.arj_protocol.specs.Ask.{actor}
-use Rattle.arj_protocol.specs.Coord.{Coord, Root, Said, counts, is_constituent_branch, is_kept_top, is_retained, kept_of, retained_in, root_at, second_uid, survives}
-use Rattle.arj_protocol.specs.Tree.{Branch, Tree, behind, branch_of, ended_so, has_end, is_committed, is_merged, is_own, root_of}
+use Rattle.arj_protocol.specs.Coord.{Coord, Said, counts, is_constituent_branch, is_kept_top, is_retained, kept_of, retained_in, root_at, second_uid, survives}
+use Rattle.arj_protocol.specs.Tree.{Branch, Tree, behind, branch_of, ended_so, has_end, is_committed, is_merged, root_of}
 use Rattle.arj_part_law.specs.Actions.{Action}
 use Rattle.arj_part_law.specs.Coords.{IsGoodCoord}
 use Rattle.arj_part_law.specs.Copies.{IsTree, Paths}
@@ -20,7 +20,7 @@ use Rattle.arj_part_law.proofs.GoodTrees.{above_of, over_below, own_is, shorter}
 use Rattle.arj_view_law.specs.Seen.{Post}
 use Rattle.arj_call_law.proofs.CoordKnown.{root_own}
 use Rattle.arj_address_law.specs.Binds.{IsSaid, IsThere, KeepsCalled, KnowsBinds}
-use Rattle.arj_address_law.proofs.Lists.{never, some_is}
+use Rattle.arj_address_law.proofs.Lists.{never}
 
 -- ---- lists
 

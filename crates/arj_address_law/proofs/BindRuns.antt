@@ -1,21 +1,18 @@
 -- In every run coordinators know what their calls stand on, and each answer to a Bind is one to it.
 use Rattle.std.proofs.Common.{◌≡◌, ◌≢◌, ◌⊎◌, ◌≤◌, ◌<◌, ◌+◌, ◌==◌, ◌&&◌, ℕ, zero, suc, List, [], ◌∷◌, ◌++◌, Bool, true, false, cond, length, map, slice_get, Option, Some, None, refl, sym, ◌∙◌, ap, subst, inl, inr, ⊎_elim, arith, eqb-true}
-use Rattle.std.specs.Prelude.{⊤}
 use Rattle.std.proofs.lemmas.Bool.{and_parts}
-use Rattle.arj_lock.proofs.Members as list
-use Rattle.arj_lock.proofs.Members.{in_from}
 use Rattle.arj_protocol.specs.Words.{Uid, Asked, Binding, Body, BoundReply, Head, Header, Kind, Label, Message, asks, is_on, uids_of}
 use Rattle.arj_protocol.specs.Words.ask
 use Rattle.arj_protocol.specs.Words.body
 use Rattle.arj_protocol.specs.Words.bound
 use Rattle.arj_protocol.specs.Words.ending
-use Rattle.arj_protocol.specs.Ask.{Reply, actor, answers, ask_kind, asked_by, reply_kind}
-use Rattle.arj_protocol.specs.Asking.{again_all, begin_action, heard, waits_for_call}
-use Rattle.arj_protocol.specs.Call.{At, AtActivate, AtBind, AtInvoke, AtLoad, AtNote, Goal, Include, Run, Steps, is_include, next_ask, next_node}
+use Rattle.arj_protocol.specs.Ask.{Reply, actor, answers, ask_kind, reply_kind}
+use Rattle.arj_protocol.specs.Asking.{again_all, begin_action, heard}
+use Rattle.arj_protocol.specs.Call.{At, AtActivate, AtBind, AtInvoke, AtLoad, AtNote, Goal, Include, Run, is_include, next_ask, next_node}
 use Rattle.arj_protocol.specs.Confirm.{back_lines}
-use Rattle.arj_protocol.specs.Coord.{Calling, Coord, Doing, doing_of, root_at}
-use Rattle.arj_protocol.specs.Effect.{Did, Disk, Do, Effect, Intent, Look, PutInc, Say, Send, stopped, worked}
-use Rattle.arj_protocol.specs.Ending.{acked, answer_query, tell, tell_all}
+use Rattle.arj_protocol.specs.Coord.{Coord, Doing, doing_of, root_at}
+use Rattle.arj_protocol.specs.Effect.{Disk, Do, Effect, Intent, Look, PutInc, Say, Send, stopped, worked}
+use Rattle.arj_protocol.specs.Ending.{acked, tell, tell_all}
 use Rattle.arj_protocol.specs.Follow.{tick_outs}
 use Rattle.arj_protocol.specs.Named.{Named}
 use Rattle.arj_protocol.specs.Naming.{Naming}
@@ -25,7 +22,7 @@ use Rattle.arj_protocol.specs.Step.{Input, Node, acts, branch_named, commit_reas
 use Rattle.arj_protocol.specs.Step as input
 use Rattle.arj_protocol.specs.Tree.{Branch, at_place, is_own, new_tree, root_of}
 use Rattle.arj_protocol.specs.World.{Asked as AskedEvent, Labelled, format, is_serial_kind, run_all}
-use Rattle.arj_part_law.specs.Actions.{Action, Agree, AreCounted, paths_of}
+use Rattle.arj_part_law.specs.Actions.{Action, paths_of}
 use Rattle.arj_part_law.specs.Coords.{IsGoodCoord}
 use Rattle.arj_part_law.specs.Copies.{IsTree, Paths}
 use Rattle.arj_part_law.specs.Requests.{IsNumbered}
@@ -41,12 +38,12 @@ use Rattle.arj_run_law.proofs.Handled.{counted_of, own_of_disk, tops_of_disk}
 use Rattle.arj_run_law.proofs.Walked.{other_number, same_number}
 use Rattle.arj_view_law.specs.Keeps.{Holds, Keeps, is_act}
 use Rattle.arj_view_law.specs.Seen.{In, Post, Seen, at, down, given, posted, said, see, up}
-use Rattle.arj_view_law.specs.Walks.{Up, Walks, halted}
+use Rattle.arj_view_law.specs.Walks.{Up, Walks}
 use Rattle.arj_view_law.proofs.Happens.{runs_hold}
 use Rattle.arj_view_law.proofs.Together.{walks_both}
 use Rattle.arj_call_law.proofs.CoordOuts.{acked_so, acts_so, again_so, heard_so, tolds_so}
 use Rattle.arj_call_law.proofs.WorldVotes.{fits_asked}
-use Rattle.arj_address_law.specs.Binds.{Answers, AnswersAt, AnswersWaiting, BindsAreKnown, IsAnswerOf, IsAsked, IsCounted, IsReply, KeepsCalled, KnowsBinds}
+use Rattle.arj_address_law.specs.Binds.{Answers, AnswersAt, AnswersWaiting, BindsAreKnown, IsAnswerOf, IsAsked, IsReply, KeepsCalled, KnowsBinds}
 use Rattle.arj_address_law.proofs.BindNodes.{AllFine, FineEffect, IsFine, fine_both, handled_fine, queries, quiet, sent_fine}
 use Rattle.arj_address_law.proofs.BindPlans.{plan_keeps}
 use Rattle.arj_address_law.proofs.BindSteps.{acked_binds, acts_binds, again_binds, begin_binds, heard_binds}

@@ -6,23 +6,23 @@ use Rattle.std.specs.Ordering.{is_eq, nat_cmp}
 use Rattle.std.proofs.lemmas.Bool.{or_cases, or_parts}
 use Rattle.arj_base.proofs.Uids.{uid_cases, uid_is}
 use Rattle.arj_lock.proofs.Members as list
-use Rattle.arj_protocol.specs.Words.{Uid, Answer, Asked, End, Head, Header, Kind, Label, Op, Path, is_on, last_uid, uid_eq, uids_of}
+use Rattle.arj_protocol.specs.Words.{Uid, Answer, Asked, Head, Header, Kind, Label, Op, Path, is_on, uid_eq, uids_of}
 use Rattle.arj_protocol.specs.Words.cause
 use Rattle.arj_protocol.specs.Words.ending
 use Rattle.arj_protocol.specs.Words.kind
 use Rattle.arj_protocol.specs.Ask.{Reply, actor, top_of}
-use Rattle.arj_protocol.specs.Asking.{again_all, again_now, begin_action, call, call_steps, commit_action, commit_open, commit_top, commits_in, doomed_by, ends_call, give_up, give_up_doing, gives_up, goes_on, granted_by, heard, heard_by, heard_call, heard_doing, heard_none, heard_now, include, is_ended, keeps_after, kept_at, known_at_start, last_req, moved_commit, next_req, notes_grant, renewed, root_heard, root_lost, root_moved, step_call, step_commit, waits_for_call, waits_for_commit, was_named}
+use Rattle.arj_protocol.specs.Asking.{again_all, again_now, begin_action, call, call_steps, commit_action, commit_open, commit_top, commits_in, doomed_by, ends_call, give_up, give_up_doing, gives_up, goes_on, granted_by, heard, heard_by, heard_call, heard_doing, heard_none, heard_now, include, is_ended, keeps_after, kept_at, known_at_start, last_req, moved_commit, next_req, notes_grant, renewed, root_heard, root_lost, step_call, step_commit, waits_for_call, waits_for_commit, was_named}
 use Rattle.arj_protocol.specs.Call as calls
-use Rattle.arj_protocol.specs.Call.{At, AtBind, AtInvoke, CallEnd, CallStep, Ended, Goal, Include, Known, Moved, On, Run, Steps, answered, given_up, has_changed, next_ask, next_node, spoils, start, start_at}
+use Rattle.arj_protocol.specs.Call.{CallEnd, CallStep, Ended, Goal, Include, Known, On, Run, Steps, answered, given_up, has_changed, spoils, start, start_at}
 use Rattle.arj_protocol.specs.Commit as commit
 use Rattle.arj_protocol.specs.Commit.{Aborts, Asks, CommitStep, Decides, Machine, Plan, Stays, has_record, participants, plan_of, servers_of}
-use Rattle.arj_protocol.specs.Coord.{Calling, Committing, Coord, Doing, Grant, Idle, Keeping, Now, Root, Said, doing_of, is_call, is_free, keeping_of, kept_of, no_keeping, no_root, on_doing, on_root, plan_for, retains, root_at, same_said, with_keeping}
+use Rattle.arj_protocol.specs.Coord.{Calling, Committing, Coord, Doing, Grant, Idle, Keeping, Now, Root, Said, doing_of, is_free, keeping_of, kept_of, no_keeping, no_root, on_doing, on_root, plan_for, retains, root_at, same_said, with_keeping}
 use Rattle.arj_protocol.specs.Effect.{Did, Intent, Served}
 use Rattle.arj_protocol.specs.Ending.{abort_action, aborts_with, acked, acked_by, acked_left, all_aborted, decide, ended, kept_after, keeping_after, root_after}
-use Rattle.arj_protocol.specs.Order.{at_number, at_uid, has, put_number, put_uid, unbound, without_number, without_uid}
-use Rattle.arj_protocol.specs.Step.{Input, acts, branch_named, call_reasons, commit_reasons, first_reason, is_waiting, is_waiting_now, on_branch, parent_of, refusal_up, refused_by, waits, waits_above, waits_below}
+use Rattle.arj_protocol.specs.Order.{at_number, at_uid, has, put_uid, unbound, without_number, without_uid}
+use Rattle.arj_protocol.specs.Step.{Input, acts, branch_named, call_reasons, commit_reasons, is_waiting, is_waiting_now, on_branch, parent_of, refusal_up, refused_by, waits, waits_above, waits_below}
 use Rattle.arj_protocol.specs.Step as input
-use Rattle.arj_protocol.specs.Tree.{Branch, Tree, at_place, begun as begun_tree, branch_of, doomed_at, is_own, next_uid, open_below, path_below, root_of, uses_object}
+use Rattle.arj_protocol.specs.Tree.{Branch, at_place, begun as begun_tree, branch_of, doomed_at, is_own, next_uid, open_below, path_below, root_of, uses_object}
 use Rattle.arj_protocol.proofs.Maps.{put_same as put_number_same, put_other as put_number_other}
 use Rattle.arj_protocol.proofs.RowSteps.{one_or_two}
 use Rattle.arj_part_law.specs.Actions.{Action}
@@ -32,10 +32,9 @@ use Rattle.arj_part_law.specs.Requests.{AreNumbered, IsNumbered}
 use Rattle.arj_part_law.proofs.Begun.{on_own}
 use Rattle.arj_part_law.proofs.CoordInputs.{behind, named_found, off}
 use Rattle.arj_part_law.proofs.Decided.{stand_begins}
-use Rattle.arj_part_law.proofs.GoodCoords.{IsStepOf, actor_is, answer_step, giveup_step, on_tree, uses_same, vote_step}
+use Rattle.arj_part_law.proofs.GoodCoords.{IsStepOf, actor_is, answer_step, giveup_step, on_tree, vote_step}
 use Rattle.arj_part_law.proofs.GoodTrees.{get_more, grown_still}
 use Rattle.arj_part_law.proofs.Pairs.{each_at}
-use Rattle.arj_part_law.proofs.TrueSteps.{work_there}
 use Rattle.arj_view_law.specs.Seen.{Post}
 use Rattle.arj_call_law.proofs.CommitPlans.{IsNextOf, answer_next, giveup_next, vote_next}
 use Rattle.arj_call_law.proofs.CoordCalls.{heard_keeping, kept_put, not_idle, step_is}
@@ -43,7 +42,7 @@ use Rattle.arj_call_law.proofs.CoordCommits.{not_calling}
 use Rattle.arj_call_law.proofs.CoordKnown.{loose_of, roots_work}
 use Rattle.arj_address_law.specs.Binds.{AnswersAt, AnswersWaiting, IsCounted, IsSaid, IsThere, KnowsBinds, StandsOn}
 use Rattle.arj_address_law.proofs.BindAnswers.{EndsOn, NextOn, after_there, gives_up_on, kept_now, moved_on}
-use Rattle.arj_address_law.proofs.BindCoords.{IsLater, IsLoose, IsNext, asked_binds, asks_binds, ended_binds, idle_binds, later_doomed, later_uses, root_binds, same_binds, telling_binds, tree_binds, work_binds}
+use Rattle.arj_address_law.proofs.BindCoords.{IsLoose, IsNext, asked_binds, asks_binds, ended_binds, idle_binds, later_doomed, later_uses, root_binds, same_binds, telling_binds, tree_binds, work_binds}
 use Rattle.arj_address_law.proofs.Lists.{some_is}
 
 -- ---- keepings

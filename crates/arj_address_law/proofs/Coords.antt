@@ -1,10 +1,10 @@
 -- What a coordinator does: whom it asks, tells and lists.
-use Rattle.std.proofs.Common.{◌≡◌, ◌∙◌, ◌≤◌, ◌<◌, ◌+◌, ◌==◌, ℕ, zero, suc, List, [], ◌∷◌, ◌++◌, Bool, true, false, cond, not, ◌&&◌, ◌||◌, length, map, filter, nat_le, Option, Some, None, refl, sym, ap, subst, inl, inr, ⊎_elim, arith}
+use Rattle.std.proofs.Common.{◌≡◌, ◌∙◌, ◌+◌, ◌==◌, ℕ, zero, suc, List, [], ◌∷◌, ◌++◌, Bool, true, false, cond, not, ◌&&◌, ◌||◌, length, map, filter, nat_le, Option, Some, None, refl, sym, ap, subst, inl, inr, ⊎_elim, arith}
 use Rattle.std.specs.Prelude.{⊤, IfSome, unwrap_or}
 use Rattle.std.specs.List.{AllByRecursion, flat_map, list_any}
 use Rattle.arj_base.proofs.Uids.{uid_cases}
 use Rattle.arj_lock.proofs.Members.{In}
-use Rattle.arj_protocol.specs.Words.{Ask, Asked, Body, End, Kind, Label, ObjectState, Op, Path, Uid, path_of, tops_of, uid_eq, uids_of}
+use Rattle.arj_protocol.specs.Words.{Ask, Asked, Body, End, Kind, Label, ObjectState, Op, Path, Uid, uid_eq, uids_of}
 use Rattle.arj_protocol.specs.Words.body
 use Rattle.arj_protocol.specs.Words.cause
 use Rattle.arj_protocol.specs.Words.confirmed
@@ -14,7 +14,7 @@ use Rattle.arj_protocol.specs.Words.prepared
 use Rattle.arj_protocol.specs.Words.voted
 use Rattle.arj_protocol.specs.Ask.{Reply, actor, top_of}
 use Rattle.arj_protocol.specs.Asking.{again_all, again_now, asks_all, asks_machine, asks_node, asks_step, begin_action, call, call_steps, commit_action, commit_open, commit_top, commits_in, doomed_by, end_line, gaveup_lines, give_up, give_up_doing, given_away, gives_up, goes_on, granted_by, heard, heard_by, heard_call, heard_doing, heard_none, heard_now, include, is_ended, is_invoke_ask, keeps_after, kept_at, known_at_start, last_req, mark_lines, moved_commit, next_req, notes_grant, renewed, root_heard, root_lost, root_moved, step_call, step_commit, store_of, waits_for_call, waits_for_commit, was_named}
-use Rattle.arj_protocol.specs.Call.{Answered, At, CallEnd, CallStep, Changed, Conflict, Ended, Goal, Included, Known, Lost, Moved, On, Steps, answered, ask_at, given_up, has_changed, next_ask, next_node, node_at, spoils, start, start_at}
+use Rattle.arj_protocol.specs.Call.{Answered, CallEnd, CallStep, Changed, Conflict, Ended, Goal, Included, Known, Lost, Moved, On, Steps, answered, given_up, has_changed, next_ask, next_node, spoils, start}
 use Rattle.arj_protocol.specs.Call as calls
 use Rattle.arj_protocol.specs.Commit.{Aborts, Asks, CommitStep, Confirming, Decides, Machine, Plan, Preparing, Stays, Used, Voting, ask_of, begin_confirm, begin_prepare, begin_vote, changed_of, further, has_record, included_of, is_marked, joins_left, left_of, marks_store, marks_stores, naming_node, nodes_given_up, participants, plan_of, servers_of, stores_by, stores_left, targets_of, votes_left, with_states}
 use Rattle.arj_protocol.specs.Commit as commit
@@ -24,12 +24,12 @@ use Rattle.arj_protocol.specs.Ending.{abort_action, aborts_with, acked, acked_by
 use Rattle.arj_protocol.specs.Order.{at_uid, each, has, number_set, put_uid, unbound, with_number, without_number, without_uid}
 use Rattle.arj_protocol.specs.Step.{Input, acts, begin_refusal, branch_named, branch_numbered, on_branch, parent_of, tolds_again}
 use Rattle.arj_protocol.specs.Step as input
-use Rattle.arj_protocol.specs.Tree.{Branch, Tree, at_place, branch_of, doomed_at, doomed_branch, ended_at, ended_branch, ends_of, family_of, is_open, is_own, next_uid, open_below, path_below, path_in, root_of, set_place, uses_object, with_family}
+use Rattle.arj_protocol.specs.Tree.{Branch, Tree, at_place, branch_of, doomed_at, doomed_branch, ended_at, ended_branch, ends_of, family_of, is_open, is_own, next_uid, open_below, path_below, root_of, set_place, uses_object, with_family}
 use Rattle.arj_part_law.proofs.GoodCoords.{doomed_same, uses_same}
 use Rattle.arj_part_law.proofs.GoodTrees.{get_more, placed}
 use Rattle.arj_part_law.proofs.LivesNamed.{all_at, all_each, all_put as all_put_number}
 use Rattle.arj_part_law.proofs.Settled.{doing_other, doing_put, end_tree_on}
-use Rattle.arj_address_law.specs.Addresses.{AllOf, AreOf, AskOf, CoordOf, EndOf, GoalOf, KeptOf, KnownOf, MachineOf, MovedOf, NowOf, PathOf, PlanOf, ReplyOf, RootOf, StepOf, StepsOf, StoreOf, UidsOf, UsedOf}
+use Rattle.arj_address_law.specs.Addresses.{AllOf, AreOf, AskOf, CoordOf, EndOf, KeptOf, KnownOf, MachineOf, MovedOf, NowOf, PathOf, PlanOf, ReplyOf, RootOf, StepOf, StepsOf, StoreOf, UsedOf}
 use Rattle.arj_address_law.specs.Binds.{AnswersAt, AnswersWaiting, IsThere, KeepsCalled}
 use Rattle.arj_address_law.proofs.Begins.{below_is, shallow}
 use Rattle.arj_address_law.proofs.Calls.{answered_of, asks_of, given_up_of, node_of, request_of, start_of}

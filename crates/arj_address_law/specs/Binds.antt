@@ -5,7 +5,7 @@ use Rattle.arj_protocol.specs.Words.ask
 use Rattle.arj_protocol.specs.Words.bound
 use Rattle.arj_protocol.specs.Ask.{Reply, actor, answers, asked_by}
 use Rattle.arj_protocol.specs.Asking.{waits_for_call}
-use Rattle.arj_protocol.specs.Call.{At, AtActivate, AtBind, AtInvoke, AtLoad, AtNote, Goal, Include, Known, Run, Steps, is_include}
+use Rattle.arj_protocol.specs.Call.{At, AtBind, AtLoad, Goal, Include, Known, Run, Steps, is_include}
 use Rattle.arj_protocol.specs.Coord.{Calling, Coord, Doing, Root, Said, doing_of, is_called, kept_of, root_at}
 use Rattle.arj_protocol.specs.Node.{Parts}
 use Rattle.arj_protocol.specs.Step.{Node}
