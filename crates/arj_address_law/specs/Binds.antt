@@ -56,6 +56,7 @@ IsReply sent p = (a : Asked) (r : BoundReply) → answers p.message ≡ Some (a,
 
 -- ---- what calls stand on
 
+-- something is kept
 abbrev pub IsThere : Option Known → Type 0
 IsThere None = ⊥
 IsThere (Some k) = ⊤

@@ -1,9 +1,10 @@
 -- Deliveries in whole runs, with the stops of a script's own arms, and with others.
-use Rattle.std.proofs.Common.{◌≡◌, ◌&&◌, true, false, List, [], ◌∷◌, ◌∙◌, ap, nat_le}
+use Rattle.std.proofs.Common.{◌≡◌, ◌&&◌, ℕ, true, false, List, [], ◌∷◌, ◌∙◌, ap, nat_le}
 use Rattle.std.specs.List.{AllByRecursion}
 use Rattle.arj_protocol.specs.Words.{Event, FrameNo, Header}
 use Rattle.arj_protocol.specs.Words.event
-use Rattle.arj_protocol.specs.World.{Asked, Frame, World, format, frame_number, is_node, run_all, run_event}
+use Rattle.arj_protocol.specs.Words.frame_no
+use Rattle.arj_protocol.specs.World.{Arm, Asked, Frame, World, format, frame_number, is_node, run_all, run_event}
 use Rattle.arj_event_law.specs.Writes.{Owes, Writes, has_own}
 use Rattle.arj_event_law.proofs.Spoken.{event_writes}
 use Rattle.arj_event_law.proofs.Whole.{runs_whole}
@@ -49,12 +50,21 @@ module _ (hd : Header) (form : HeaderInForm hd) where
   pub runs_take : (es : List Asked) (e : Asked) (k : FrameNo) → (let w = run_all es (format hd) in Delivers e.event k w → IsTaken (frame_number k w) w (run_event e w))
   runs_take es e k d = delivery_taken (run_all es (format hd)) (runs_whole hd es) (run_nodes es) e k d
 
+  -- which stops fall is nothing to a frame
+  same_frames : (arms : List (ℕ × Arm)) (w : World) (e : Event) (k : FrameNo) → Delivers e k w → Delivers e k (with_arms arms w)
+  same_frames arms w e (frame_no.Number n) d = record { delivery = d.delivery; frame = d.frame; running = d.running }
+  same_frames arms w e frame_no.Last d = record { delivery = d.delivery; frame = d.frame; running = d.running }
+
+  same_taken : (arms : List (ℕ × Arm)) (w v : World) (k : FrameNo) → IsTaken (frame_number k (with_arms arms w)) (with_arms arms w) v → IsTaken (frame_number k w) w (with_arms [] v)
+  same_taken arms w v (frame_no.Number n) r = record { before = r.before; line = r.line; after = r.after; are = r.are; taken = r.taken }
+  same_taken arms w v frame_no.Last r = record { before = r.before; line = r.line; after = r.after; are = r.are; taken = r.taken }
+
   pub turns_take : (ts : List Turn) (t : Turn) (k : FrameNo) → (let w = all_turned ts (format hd) in Delivers t.event k w → IsTaken (frame_number k w) w (turned t w))
   turns_take ts t k d =
       let w = all_turned ts (format hd) in
       let g = turns_whole hd ts in
-      let r = delivery_taken (with_arms t.falls w) (record { nodes = g.nodes; numbers = g.numbers; labels = g.labels }) (turn_nodes ts) (asked t.event) k (record { delivery = d.delivery; frame = d.frame; running = d.running }) in
-      record { before = r.before; line = r.line; after = r.after; are = r.are; taken = r.taken }
+      let r = delivery_taken (with_arms t.falls w) (record { nodes = g.nodes; numbers = g.numbers; labels = g.labels }) (turn_nodes ts) (asked t.event) k (same_frames t.falls w t.event k d) in
+      same_taken t.falls w (run_event (asked t.event) (with_arms t.falls w)) k r
 
   -- an event of a kind with a line owes it
   owes_of : (w : World) → AreForNodes w → (e : Event) → has_own e ≡ true → Owes e w

@@ -27,10 +27,11 @@ pub record Delivers (e : Event) (k : FrameNo) (w : World) : Type 0 where
   pub frame : is_frame k w ≡ true
   pub running : w.over ≡ false
 
--- in a world that a run of events leaves, and in one that a run with other stops leaves
+-- In each world that a run of events leaves, a delivery is said to be taken.
 abbrev pub RunsTake : Type 0
 RunsTake = (hd : Header) → HeaderInForm hd → (es : List Asked) (e : Asked) (k : FrameNo) → (let w = run_all es (format hd) in Delivers e.event k w → IsTaken (frame_number k w) w (run_event e w))
 
+-- and so it is in each that a run leaves with the stops that disks make
 abbrev pub TurnsTake : Type 0
 TurnsTake = (hd : Header) → HeaderInForm hd → (ts : List Turn) (t : Turn) (k : FrameNo) → (let w = all_turned ts (format hd) in Delivers t.event k w → IsTaken (frame_number k w) w (turned t w))
 
@@ -42,5 +43,6 @@ RunsWriteTheirLines = (hd : Header) → HeaderInForm hd → (es : List Asked) (e
 abbrev pub TurnsOweTheirLines : Type 0
 TurnsOweTheirLines = (hd : Header) → HeaderInForm hd → (ts : List Turn) (e : Event) → has_own e ≡ true → Owes e (all_turned ts (format hd))
 
+-- in such a run each frame is for a node
 abbrev pub TurnsGoToNodes : Type 0
 TurnsGoToNodes = (hd : Header) → HeaderInForm hd → (ts : List Turn) → AreForNodes (all_turned ts (format hd))
