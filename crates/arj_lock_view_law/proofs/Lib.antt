@@ -26,6 +26,7 @@ pub mod RootSteps
 pub mod RowSteps
 pub mod RunSteps
 pub mod ServerSteps
+pub mod ShownSteps
 pub mod StopSteps
 pub mod ToldSteps
 pub mod TreeSteps

@@ -58,7 +58,7 @@ servers_start v inc i S up down = record {
   holds = (
     record {
       incarnation = ap (λ (m : machine.Server). m.incarnation) (at_here S.server n (after_crash i));
-      object = ap (λ (m : machine.Server). m.active) (at_here S.server n (after_crash i));
+      object = (ap (λ (m : machine.Server). m.active) (at_here S.server n (after_crash i)), ap (λ (m : machine.Server). m.log) (at_here S.server n (after_crash i)));
       latest = λ u fresh. subst (λ (m : machine.Server). m.request (v.family.act u) ≤ 0) (sym (at_here S.server n (after_crash i))) (omega arith);
       kept = λ u k w found. absurd (let no_way : ◌≡◌ {A = Option Kept} None (Some k) = found in cc no_way);
       voted = λ u fresh off. ap (λ (m : machine.Server). m.voted (v.family.act u)) (at_here S.server n (after_crash i));
@@ -83,7 +83,7 @@ module _ (act : Acts) (code : Codes) (wants : Wants) (x n : ℕ) (p : Path) (b :
   active_is = by (at_number x s.objects) refl
     where
       by : (o : Option Copy) → at_number x s.objects ≡ o → (let m = S.server n in m.active) ≡ binding_number (binding_of o)
-      by None none = has None none
+      by None none = (has None none).0
       by (Some c) there = let h = has (Some c) there in let copy = h.0 in copy.active
 
   again : binding_eq b (active_binding x s) ≡ true → Takes (reply s s.inc)
@@ -368,7 +368,7 @@ module _ (v : View) (h : Head) (b : Binding) (i : ℕ) (ends : List (Uid × End)
     now = by_inc (i == s.inc) refl
       where
         by_copy : i ≡ s.inc → (f : Option Copy) → at_number v.x s.objects ≡ f → Replies (invoke_now v.node h v.x ends o s (changed_copy b f))
-        by_copy inc_is None none = changed v h b i o s S asked sees (what.Bind b unbound) (inr (λ is. not_none (subst (λ (f : Option Copy). SeesObject v.family.act v.code v.x s.inc f (S.server v.node) S) none sees.object) is asked.bound))
+        by_copy inc_is None none = changed v h b i o s S asked sees (what.Bind b unbound) (inr (λ is. not_none (subst (λ (f : Option Copy). SeesObject v.family.act v.code v.x s.inc f (S.server v.node) S) none sees.object).0 is asked.bound))
           where
             not_none : {j l : ℕ} → j ≡ 0 → j ≡ l → 1 ≤ l → ⊥
             not_none a b c = omega (arith, a, b, c)

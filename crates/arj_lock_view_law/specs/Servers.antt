@@ -1,5 +1,5 @@
 -- A server, as the lock machine of one object has it.
-use Rattle.std.specs.Prelude.{⊤, ◌≡◌, ◌≤◌, ℕ, false, Option, Some, None}
+use Rattle.std.specs.Prelude.{⊤, ◌≡◌, ◌≤◌, ℕ, false, [], Option, Some, None}
 use Rattle.arj_protocol.specs.Words.{Binding, InvokedReply, Op, Uid, Value, answer_of, is_on, writes}
 use Rattle.arj_protocol.specs.Words.invoked
 use Rattle.arj_protocol.specs.Copy.{Copy}
@@ -40,7 +40,7 @@ ShowsIfInvoked act code u number w S (Some a) = ShowsInvoked act code u number w
 
 -- Its copy of the object, with the answer that said so; or nothing since it started.
 abbrev pub SeesObject : Acts → Codes → ℕ → ℕ → Option Copy → machine.Server → State → Type 0
-SeesObject act code x i None m S = m.active ≡ 0
+SeesObject act code x i None m S = (m.active ≡ 0) × (m.log ≡ [])
 SeesObject act code x i (Some c) m S = SeesCopy act code x c m × In (machine.Activated (binding_number c.binding) i) S.net
 
 -- the number of the last request that was answered

@@ -1,20 +1,21 @@
 -- A server that is told of ends, in the machine of one object.
 use Rattle.std.specs.Prelude.{◌≡◌, ◌≢◌, ℕ, Bool, true, false, List, [], Some, Contains}
-use Rattle.arj_protocol.specs.Words.{End, Kind, Uid}
+use Rattle.arj_protocol.specs.Words.{End, Kind, Uid, is_on}
 use Rattle.arj_protocol.specs.Words.ending
 use Rattle.arj_protocol.specs.Words.kind
-use Rattle.arj_protocol.specs.Copy.{Copy}
+use Rattle.arj_protocol.specs.Copy.{Copy, Over}
 use Rattle.arj_protocol.specs.Order.{at_number}
 use Rattle.arj_protocol.specs.Server.{Server, is_told, told}
-use Rattle.arj_lock_law.specs.Actions.{Root, root}
-use Rattle.arj_lock_law.specs.Machine.{Guard}
-use Rattle.arj_lock_law.specs.State.{State}
-use Rattle.arj_lock_law.specs.Steps.{DropRows}
+use Rattle.arj_lock_law.specs.Actions.{In, Root, is_top, root, top}
+use Rattle.arj_lock_law.specs.Machine.{Guard, Run}
+use Rattle.arj_lock_law.specs.State.{Call, State}
+use Rattle.arj_lock_law.specs.Steps.{DropRows, Survives}
 use Rattle.arj_part_law.specs.Actions.{Action, Agree, AreBegun, act_of}
 use Rattle.arj_part_law.specs.Copies.{IsTree, Paths}
 use Rattle.arj_part_law.specs.Servers.{AreOrdered, IsGoodServer, KnowsActions}
 use Rattle.arj_lock_view_law.specs.Actions.{AreAlike, IsPlaced}
 use Rattle.arj_lock_view_law.specs.Acts.{Acts}
+use Rattle.arj_lock_view_law.specs.Calling.{IsReached}
 use Rattle.arj_lock_view_law.specs.Copies.{Codes, OnlyEnds}
 use Rattle.arj_lock_view_law.specs.Going.{Goes}
 use Rattle.arj_lock_view_law.specs.Servers.{SeesServer, Wants}
@@ -92,3 +93,29 @@ pub record AreBrought (v : View) (ends : List (Uid × End)) (s : Server) (S : St
 abbrev pub EndsAreTaken : Type 0
 EndsAreTaken = (v : View) (ends : List (Uid × End)) (s : Server) (S : State)
     → AreBrought v ends s S → Sees v s S → Goes S (λ T. Sees v (let d = told v.node ends s in d.part) T × OnlyEnds v.node S T)
+
+-- ---- which ends are shown
+
+-- An abort is shown where the action was aborted,
+abbrev pub AbortedAreShown : Type 0
+AbortedAreShown = (v : View) (u : Uid) (S : State) → (let a = S.action (v.family.act u) in a.stage) ≡ 4 → ShowsEnd v S u ending.Abort
+
+-- where a top is committed for which the server didn't vote,
+abbrev pub UnvotedAreShown : Type 0
+UnvotedAreShown = (v : View) (u : Uid) (s : Server) (S : State) → Sees v s S → is_told u s ≡ false → is_on s.voted u ≡ false → is_top (v.family.act u) ≡ true → (let a = S.action (v.family.act u) in a.stage) ≡ 3 → ShowsEnd v S u ending.Abort
+
+-- No top of the action's unit that has a surviving write has an overlay here, nor has an action below it.
+abbrev pub HasNoneLeft : View → Uid → Server → State → Type 0
+HasNoneLeft v u s S = (t : Uid) (k : Call) (c : Copy) (o : Over) → root (v.family.act t) ≡ root (v.family.act u) → In k S.calls → k.write ≡ true → Survives S k.act → top k.act ≡ v.family.act t → at_number v.x s.objects ≡ Some c → Contains c.stack o → is_on o.holder t ≡ false
+
+-- and where the unit is over, and nothing of it is left here that counts.
+abbrev pub OverAreShown : Type 0
+OverAreShown = (v : View) (u : Uid) (s : Server) (S : State) → IsReached S → AreOneTree v.family → IsOfFamily v.family s → Sees v s S → (let a = S.action (Root (root (v.family.act u))) in a.stage) ≡ 3 → HasNoneLeft v u s S → ShowsEnd v S u ending.Abort
+
+-- A commit that is shown stays so in every later state.
+abbrev pub CommitsStayShown : Type 0
+CommitsStayShown = (v : View) (u : Uid) (S T : State) → IsReached S → Run S T → ShowsEnd v S u ending.Commit → ShowsEnd v T u ending.Commit
+
+-- So does the abort of an aborted action.
+abbrev pub AbortsStayShown : Type 0
+AbortsStayShown = (v : View) (u : Uid) (S T : State) → Run S T → (let a = S.action (v.family.act u) in a.stage) ≡ 4 → (let a = T.action (v.family.act u) in a.stage) ≡ 4

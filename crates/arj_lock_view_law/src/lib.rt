@@ -28,6 +28,6 @@ pub use naming::{
     restarts_are_seen,
 };
 pub use server::{
-    commits_at_servers_are_seen, copies_are_seen, messages_at_servers_are_seen, servers_are_seen,
-    votes_are_seen,
+    commits_at_servers_are_seen, copies_are_seen, ends_are_shown, messages_at_servers_are_seen,
+    servers_are_seen, votes_are_seen,
 };

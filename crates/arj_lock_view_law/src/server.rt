@@ -3,7 +3,7 @@ ghost use Rattle.arj_lock_view_law.specs.Commits.{FoldingsAreSeen, ReadingsAreSe
 ghost use Rattle.arj_lock_view_law.specs.Copies.{ActivationsAreSeen, OperationsAreSeen, RefusalsAreSeen, UndoingsAreSeen};
 ghost use Rattle.arj_lock_view_law.specs.Handling.{MessagesAreTaken};
 ghost use Rattle.arj_lock_view_law.specs.Serving.{ActivatesAreSeen, InvokesAreSeen, ServersAreDown, ServersStart, ServersStop, VotesAreTaken};
-ghost use Rattle.arj_lock_view_law.specs.Telling.{EndsAreTaken};
+ghost use Rattle.arj_lock_view_law.specs.Telling.{AbortedAreShown, AbortsStayShown, CommitsStayShown, EndsAreTaken, OverAreShown, UnvotedAreShown};
 
 /// What a server does with the copy of an object is allowed in the machine, and leaves the copy seen: it takes a copy, applies a
 /// new request in its lock, refuses one that meets a conflict, and undoes what an aborted action did. It does nothing when it runs.
@@ -47,4 +47,14 @@ pub fn servers_are_seen()
 /// doesn't see at the server. What the server answers is shown. It does nothing when it runs.
 pub fn messages_at_servers_are_seen()
     ensures { MessagesAreTaken }
+{}
+
+/// Which aborts may be told to a server: of an aborted action, of a committed top for which it didn't vote, and where a unit is over of
+/// which nothing is left here that counts. Commits and aborts are for ever. It does nothing when it runs.
+pub fn ends_are_shown()
+    ensures aborted { AbortedAreShown }
+    ensures unvoted { UnvotedAreShown }
+    ensures over { OverAreShown }
+    ensures commits { CommitsStayShown }
+    ensures aborts { AbortsStayShown }
 {}
