@@ -17,7 +17,8 @@ use Rattle.arj_protocol.specs.Order.{at_uid}
 use Rattle.arj_store_law.proofs.Keys.{among}
 use Rattle.arj_store_law.proofs.Sets.{same_set}
 
-on_filter : (p : Uid → Bool) (us : List Uid) (u : Uid) → is_on (filter p us) u ≡ (p u && is_on us u)
+-- who is among those of a list that pass a test
+pub on_filter : (p : Uid → Bool) (us : List Uid) (u : Uid) → is_on (filter p us) u ≡ (p u && is_on us u)
 on_filter p us u = any-filter_same (λ w. uid_eq w u) p (p u) (λ w is. ap p (uid_is w u is)) us
 
 keys_are : (es : List (Uid × List ObjectState)) → keys_of es ≡ map (λ (e : Uid × List ObjectState). e.0) es

@@ -13,7 +13,7 @@ use Rattle.std.specs.declared.cmp.Ordering.{Ordering}
 use Rattle.std.specs.declared.cmp.Ordering.TheVariants.{Less, Equal, Greater}
 use Rattle.std.proofs.lemmas.Bool.{and_parts, false_from_ne_true}
 use Rattle.std.proofs.lemmas.List.{take_more}
-use Rattle.std.proofs.lemmas.Map.{keys-set_value, lookup-remove_entry, lookup-set_value}
+use Rattle.std.proofs.lemmas.Map.{keys-set_value, lookup-remove_entry}
 use Rattle.std.proofs.lemmas.Map.Made.{is_some-lookup}
 use Rattle.std.proofs.lemmas.Map.Keys.{IsDistinct-from_sorted}
 use Rattle.arj_base.specs.Order.{uid_order}
@@ -22,10 +22,11 @@ use Rattle.arj_base.specs.declared.state.ObjectState.{ObjectState}
 use Rattle.arj_base.proofs.Uids.{uid_is, uid_same}
 use Rattle.arj_lock.proofs.OneEach.{none_in}
 use Rattle.arj_lock.proofs.Paths.{on_last}
-use Rattle.arj_store_law.proofs.Keys.{order_itself, put_other, total, tied as tied_uid, without_other}
+use Rattle.arj_store_law.proofs.Keys.{order_itself, put_other, tied as tied_uid, without_other}
 use Rattle.arj_naming.proofs.Apart.{none_each}
 use Rattle.arj_naming.proofs.Listed.{on_append, or_nothing}
-use Rattle.arj_naming.proofs.Servers.{in_passed, written_at}
+use Rattle.arj_naming.proofs.Servers.{in_passed}
+use Rattle.arj_naming.proofs.Written.{written_at, written_uid}
 use Rattle.arj_naming.proofs.Quiet.{any_here, any_looked, any_where, itself, looked_any, tied}
 use Rattle.arj_naming.specs.Bound.{AreBound, AreIndexed, KeepsBound, is_under, live_at, live_in}
 use Rattle.arj_naming.specs.Touched.{AreTouched, IsApart, IsOff, KeepsTouched, any_of, any_under, is_in, is_in_set, is_touched, looks_apart, looks_apart_in, test_at}
@@ -97,7 +98,7 @@ more_indexed m acts more under wider keeps stays are = record {
 module _ (x : ℕ) (o new : Named) (m es : List (ℕ × Named)) (at : at_number x m ≡ Some o) (written : es ≡ set_value (is_at (nat_cmp x)) m new) (acts more : List (Uid × BTreeSet ℕ)) (under wider : List (ℕ × BTreeSet ℕ))
     (keeps : KeepsTouched acts more) (stays : KeepsBound under wider) (are : AreIndexed m acts under) where
   now_at : (q : ℕ) → at_number q es ≡ cond (is_eq (nat_cmp x q)) (Some new) (at_number q m)
-  now_at q = ap (at_number q) written ∙ written_at x new m (subst IsSome (sym at) refl) q
+  now_at q = ap (at_number q) written ∙ written_at nat_cmp nat_cmp_total tied x new m (subst IsSome (sym at) refl) q
 
   still_sorted : IsStrictlySortedBy nat_cmp (keys_of es)
   still_sorted = subst (IsStrictlySortedBy nat_cmp) (sym (ap keys_of written ∙ keys-set_value (is_at (nat_cmp x)) m new)) are.sorted
@@ -158,17 +159,25 @@ seen_apart u o is =
           let never : true ≡ false = sym (holds_on u r.holder a.0 own) ∙ none_in (λ (q : Row). is_on q.holder u) r o.rows off i in cc));
     }
 
--- what is left out of those that an action has touched is apart from it
-pub kept_touched : (u : Uid) (m : List (ℕ × Named)) (xs ys : List ℕ) → ys ≡ filter (λ x. not (looks_apart_in u (at_number x m))) xs → AreTouched u m (is_in xs) → AreTouched u m (is_in ys)
-kept_touched u m xs ys are touched x o at = by (looks_apart u o) refl
+-- those that are left out are apart from the action
+pub kept_left : (u : Uid) (m : List (ℕ × Named)) (xs ys : List ℕ) → ys ≡ filter (λ x. not (looks_apart_in u (at_number x m))) xs → (x : ℕ) (o : Named) → at_number x m ≡ Some o → is_in xs x ≡ true → IsApart u o ⊎ (is_in ys x ≡ true)
+kept_left u m xs ys are x o at on = by (looks_apart u o) refl
   where
     passes : (b : Bool) → looks_apart u o ≡ b → not (looks_apart_in u (at_number x m)) ≡ not b
     passes b is = (λ i. not (looks_apart_in u (at i))) ∙ ap not is
 
     by : (b : Bool) → looks_apart u o ≡ b → IsApart u o ⊎ (is_in ys x ≡ true)
     by true is = inl (seen_apart u o is)
-    by false is = ⊎_elim (λ (apart : IsApart u o). inl apart)
-        (λ (on : is_in xs x ≡ true). inr (ap (λ zs. is_in zs x) are ∙ in_passed (λ y. not (looks_apart_in u (at_number y m))) xs x on (passes false is))) (touched x o at)
+    by false is = inr (ap (λ zs. is_in zs x) are ∙ in_passed (λ y. not (looks_apart_in u (at_number y m))) xs x on (passes false is))
+
+-- and so where one is taken out
+pub removed_left : (u : Uid) (m : List (ℕ × Named)) (x : ℕ) (xs ys : List ℕ) → ((q : ℕ) → is_eq (nat_cmp x q) ≡ false → is_in ys q ≡ is_in xs q) → looks_apart_in u (at_number x m) ≡ true
+    → (q : ℕ) (o : Named) → at_number q m ≡ Some o → is_in xs q ≡ true → IsApart u o ⊎ (is_in ys q ≡ true)
+removed_left u m x xs ys others apart q o at on = by (is_eq (nat_cmp x q)) refl
+  where
+    by : (b : Bool) → is_eq (nat_cmp x q) ≡ b → IsApart u o ⊎ (is_in ys q ≡ true)
+    by true is = inl (seen_apart u o (ap (looks_apart_in u) (sym at ∙ ap (λ k. at_number k m) (sym (tied x q is))) ∙ apart))
+    by false other = inr (others q other ∙ on)
 
 -- ---- after a restart
 
@@ -280,20 +289,18 @@ passes_in t m q on = sym (is_some-lookup (is_at (nat_cmp q)) m) ∙ by (at_numbe
 
 module _ (action : Uid) (m : List (ℕ × Named)) (xs kept : BTreeSet ℕ) (old new : List (Uid × BTreeSet ℕ)) (at : at_uid action old ≡ Some xs) (written : new ≡ set_value (is_at (uid_order action)) old kept) where
   found : (u : Uid) → at_uid u new ≡ cond (is_eq (uid_order action u)) (Some kept) (at_uid u old)
-  found u = ap (at_uid u) written
-      ∙ lookup-set_value {eq = eq_by_cmp uid_order} (eq_by_cmp_equiv total) (is_at (uid_order action)) (λ v w is. λ i. is_eq (uid_order (tied_uid action v is i) w)) u kept old (subst IsSome (sym at) refl)
+  found = written_uid action xs kept old new at written
 
-  pub tidied : kept.keys ≡ filter (λ x. not (looks_apart_in action (at_number x m))) xs.keys → (u : Uid) → AreTouched u m (is_touched old u) → AreTouched u m (is_touched new u)
-  tidied keys u are x o there = by (is_eq (uid_order action u)) refl
+  pub tidied : ((x : ℕ) (o : Named) → at_number x m ≡ Some o → is_in xs.keys x ≡ true → IsApart action o ⊎ (is_in kept.keys x ≡ true)) → (u : Uid) → AreTouched u m (is_touched old u) → AreTouched u m (is_touched new u)
+  tidied left u are x o there = ⊎_elim (λ (apart : IsApart u o). inl apart) (by (is_eq (uid_order action u)) refl) (are x o there)
     where
-      by : (b : Bool) → is_eq (uid_order action u) ≡ b → IsApart u o ⊎ (is_touched new u x ≡ true)
-      by true is =
+      by : (b : Bool) → is_eq (uid_order action u) ≡ b → is_touched old u x ≡ true → IsApart u o ⊎ (is_touched new u x ≡ true)
+      by true is on =
           let same : action ≡ u = tied_uid action u is in
-          let before : AreTouched action m (is_in xs.keys) = λ y p is_at_y. ⊎_elim (λ (apart : IsApart u p). inl (subst (λ w. IsApart w p) (sym same) apart))
-          (λ (on : is_touched old u y ≡ true). inr (ap (is_in_set y) (sym at) ∙ (ap (λ w. is_touched old w y) same ∙ on))) (are y p is_at_y) in
+          let among : is_in xs.keys x ≡ true = ap (is_in_set x) (sym at) ∙ (ap (λ w. is_touched old w x) same ∙ on) in
           ⊎_elim (λ (apart : IsApart action o). inl (subst (λ w. IsApart w o) same apart))
-          (λ (on : is_in kept.keys x ≡ true). inr (ap (is_in_set x) (found u ∙ (λ i. cond (is i) (Some kept) (at_uid u old))) ∙ on)) (kept_touched action m xs.keys kept.keys keys before x o there)
-      by false other = ⊎_elim (λ (apart : IsApart u o). inl apart) (λ (on : is_touched old u x ≡ true). inr (ap (is_in_set x) (found u ∙ (λ i. cond (other i) (Some kept) (at_uid u old))) ∙ on)) (are x o there)
+          (λ (stays : is_in kept.keys x ≡ true). inr (ap (is_in_set x) (found u ∙ (λ i. cond (is i) (Some kept) (at_uid u old))) ∙ stays)) (left x o there among)
+      by false other on = inr (ap (is_in_set x) (found u ∙ (λ i. cond (other i) (Some kept) (at_uid u old))) ∙ on)
 
   -- where nothing is left under it, the action goes
   pub untouched : kept.keys ≡ [] → (u : Uid) → AreTouched u m (is_touched new u) → AreTouched u m (is_touched (without_uid action new) u)
@@ -338,8 +345,7 @@ pub more_under : (action : Uid) (xs more : BTreeSet ℕ) (old new : List (Uid ×
 more_under action xs more old new at written keeps u x on = by (is_eq (uid_order action u)) refl
   where
     now : at_uid u new ≡ cond (is_eq (uid_order action u)) (Some more) (at_uid u old)
-    now = ap (at_uid u) written
-        ∙ lookup-set_value {eq = eq_by_cmp uid_order} (eq_by_cmp_equiv total) (is_at (uid_order action)) (λ v w is. λ i. is_eq (uid_order (tied_uid action v is i) w)) u more old (subst IsSome (sym at) refl)
+    now = written_uid action xs more old new at written u
 
     by : (b : Bool) → is_eq (uid_order action u) ≡ b → is_touched new u x ≡ true
     by true is =

@@ -26,3 +26,5 @@ pub mod Pendings
 pub mod Among
 pub mod Apart
 pub mod Indexed
+pub mod Written
+pub mod EntryIndex

@@ -4,11 +4,10 @@ use Rattle.std.proofs.Math.Logic.{⊎_elim}
 use Rattle.std.specs.Prelude.{Option, option_map, nat_le, IsSome}
 use Rattle.std.specs.BTreeMap.{is_at}
 use Rattle.std.specs.BTreeSet.{BTreeSet}
-use Rattle.std.specs.Cmp.{eq_by_cmp_equiv, nat_cmp_total}
+use Rattle.std.specs.Cmp.{nat_cmp_total}
 use Rattle.std.specs.Map.{set_value}
-use Rattle.std.specs.Ordering.{eq_by_cmp, is_eq, nat_cmp}
+use Rattle.std.specs.Ordering.{is_eq, nat_cmp}
 use Rattle.std.proofs.lemmas.Bool.{eq-eqb, eqb-true}
-use Rattle.std.proofs.lemmas.Map.{lookup-set_value}
 use Rattle.std.proofs.lemmas.Map.Made.{lookup-map_values}
 use Rattle.std.proofs.lemmas.Map.Views.{any-filter_same}
 use Rattle.arj_base.specs.declared.mode.End.{End}
@@ -16,6 +15,7 @@ use Rattle.arj_base.specs.declared.mode.End.TheVariants as ending
 use Rattle.arj_base.specs.declared.state.ObjectState.{ObjectState}
 use Rattle.arj_base.specs.declared.uid.Uid.{Uid}
 use Rattle.arj_naming.proofs.Quiet.{tied}
+use Rattle.arj_naming.proofs.Written.{written_at}
 use Rattle.arj_naming.specs.Bound.{AreBound, is_to, is_under, live_at, live_in}
 use Rattle.arj_naming.specs.Touched.{changed_at, is_in, is_in_set}
 use Rattle.arj_protocol.specs.Confirm.{named_back}
@@ -96,10 +96,6 @@ module _ (node inc : ℕ) where
 
 -- ---- under the nodes
 
--- what is found where a value was written
-pub written_at : {X : Type 0} (x : ℕ) (v : X) (m : List (ℕ × X)) → IsSome (at_number x m) → (q : ℕ) → at_number q (set_value (is_at (nat_cmp x)) m v) ≡ cond (is_eq (nat_cmp x q)) (Some v) (at_number q m)
-written_at x v m there q = lookup-set_value {eq = eq_by_cmp nat_cmp} (eq_by_cmp_equiv nat_cmp_total) (is_at (nat_cmp x)) (λ y z is. λ i. is_eq (nat_cmp (tied x y is i) z)) q v m there
-
 -- what passes a test is found among those that pass
 pub in_passed : (p : ℕ → Bool) (xs : List ℕ) (q : ℕ) → is_in xs q ≡ true → p q ≡ true → is_in (filter p xs) q ≡ true
 in_passed p xs q among passes = any-filter_same (is_at (nat_cmp q)) p true (λ k is. (λ i. p (sym (tied q k is) i)) ∙ passes) xs ∙ among
@@ -107,7 +103,7 @@ in_passed p xs q among passes = any-filter_same (is_at (nat_cmp q)) p true (λ k
 -- those of a node that are bound to it still stand under it
 pub kept_under : (node : ℕ) (m : List (ℕ × Named)) (xs kept : BTreeSet ℕ) (bound new : List (ℕ × BTreeSet ℕ)) → at_number node bound ≡ Some xs → new ≡ set_value (is_at (nat_cmp node)) bound kept
     → kept.keys ≡ filter (λ x. is_to node (live_at x m)) xs.keys → (q : ℕ) (l : Live) → live_at q m ≡ Some l → is_under bound l.server q ≡ true → is_under new l.server q ≡ true
-kept_under node m xs kept bound new at written keys q l live under = by (is_eq (nat_cmp node l.server)) refl (ap (at_number l.server) written ∙ written_at node kept bound (subst IsSome (sym at) refl) l.server)
+kept_under node m xs kept bound new at written keys q l live under = by (is_eq (nat_cmp node l.server)) refl (ap (at_number l.server) written ∙ written_at nat_cmp nat_cmp_total tied node kept bound (subst IsSome (sym at) refl) l.server)
   where
     by : (b : Bool) → is_eq (nat_cmp node l.server) ≡ b → at_number l.server new ≡ cond b (Some kept) (at_number l.server bound) → is_under new l.server q ≡ true
     by true is found =

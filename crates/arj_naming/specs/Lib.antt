@@ -12,3 +12,4 @@ pub mod Ends
 pub mod Touched
 pub mod Bound
 pub mod Back
+pub mod ByEntry

@@ -1,6 +1,8 @@
 // The entries of objects in memory.
 ghost use Rattle.std.specs.Prelude.{◌≡◌, ◌↔◌, ◌&&◌, ◌++◌, ℕ, true, not, List, [], filter, map, IfOk, IfSome, OnOk, option_copied, option_map};
-ghost use Rattle.std.specs.List.{AllByRecursion, flat_map, list_any};
+ghost use Rattle.std.specs.List.{AllByRecursion, flat_map};
+ghost use Rattle.std.specs.List.Sorted.{IsStrictlySortedBy};
+ghost use Rattle.arj_base.specs.Order.{uid_order};
 ghost use Rattle.arj_base.specs.declared.state.ObjectState.{ObjectState};
 ghost use Rattle.arj_base.specs.declared.uid.Uid.{Uid};
 ghost use Rattle.arj_base.specs.Rows.{is_on};
@@ -8,6 +10,7 @@ ghost use Rattle.arj_base.specs.Uid.{entry, uid_eq};
 ghost use Rattle.arj_entry.specs.Entry.{is_listed};
 ghost use Rattle.arj_msg.specs.InForm.{IsObject};
 ghost use Rattle.arj_naming.specs.Back.{ArePending};
+ghost use Rattle.arj_naming.specs.ByEntry.{any_lists, lists_store, lists_store_in};
 ghost use Rattle.arj_naming.specs.Entries.{AreEntries, AreOfEntries, IsEntryState};
 ghost use Rattle.arj_naming.specs.Found.{AreFound};
 ghost use Rattle.arj_store_law.specs.Found.{pair_found};
@@ -16,9 +19,11 @@ ghost use Rattle.arj_protocol.specs.Confirm.{adds_store, back_lines, is_prepared
 ghost use Rattle.arj_protocol.specs.Effect.{held_at, is_prepared, moved, pair_prepared, pair_committed, pair_aborted};
 ghost use Rattle.arj_protocol.specs.Named.{Named, unnamed};
 ghost use Rattle.arj_protocol.specs.Naming.{listed_entry};
+ghost use Rattle.arj_protocol.specs.Order.{at_uid};
 ghost use Rattle.arj_protocol.specs.Values.{state_entry};
 
-use crate::found::{states_by_action, states_by_uid};
+use crate::by_entry::{put_prepared, take_prepared};
+use crate::found::{copies, states_by_uid};
 use crate::object::NamedObject;
 use crate::payload::{entry_of, stores_of};
 use crate::pending::{Pending, put_states as put_pending};
@@ -31,44 +36,55 @@ use std::collections::{BTreeMap, BTreeSet};
 use std::marker::Model;
 
 /// The committed entries by Uid, and the prepared actions, each with its new entries. Contracts see the protocol's pair.
+/// Each action stands under the entries that it has prepared, so that who asks about an entry looks at no other.
 #[derive(Drop)]
 pub struct Entries {
     alloc: Global,
     held: BTreeMap<Uid, ObjectState>,
     pend: BTreeMap<Uid, States>,
+    by_entry: BTreeMap<Uid, BTreeSet<Uid>>,
 }
 
 impl Model for Entries {
-    ghost use Rattle.arj_naming.specs.Entries.{AreEntries};
+    ghost use Rattle.arj_naming.specs.ByEntry.{AreKept};
     ghost use Rattle.arj_protocol.specs.Effect.{Pair};
 
     ghost Value = { Pair };
 
     ghost view = { λ e. record { held = e.held.entries; pend = e.pend.entries } };
 
-    ghost invariant = { λ e. AreEntries (record { held = e.held.entries; pend = e.pend.entries }) };
+    ghost invariant = { λ e. AreKept (record { held = e.held.entries; pend = e.pend.entries }) e.by_entry.entries };
 }
 
 impl Entries {
-    /// No entries. It allocates nothing.
-    pub fn new(alloc: Global) -> Entries
-        ensures { result ≡ record { held = []; pend = [] } }
-    {
-        Entries {
-            alloc,
-            held: BTreeMap::new(alloc),
-            pend: BTreeMap::new(alloc),
-        }
-    }
-
     /// The entries that a recovery found.
     pub fn of_found(alloc: Global, found: &Found) -> Result<Entries, AllocError>
         requires { AreFound found.now }
         ensures { IfOk result (λ entries. entries ≡ pair_found found.now) }
     {
         let held = states_by_uid(alloc, found.committed.as_slice())?;
-        let pend = states_by_action(alloc, found.prepared.as_slice())?;
-        Ok(Entries { alloc, held, pend })
+        let mut entries = Entries {
+            alloc,
+            held,
+            pend: BTreeMap::new(alloc),
+            by_entry: BTreeMap::new(alloc),
+        };
+        entries.prepare_all(found.prepared.as_slice())?;
+        Ok(entries)
+    }
+
+    // These actions, which stand by Uid, are prepared with these states, and no other.
+    fn prepare_all(&mut self, prepared: &[(Uid, States)]) -> Result<(), AllocError>
+        requires none { self.old.pend ≡ [] }
+        requires states { AllByRecursion (λ (e : Uid × List ObjectState). AreOfEntries e.1) prepared.now }
+        requires by_action { IsStrictlySortedBy uid_order (map (λ (e : Uid × List ObjectState). e.0) prepared.now) }
+        ensures { OnOk result (self.new ≡ record { held = self.old.held; pend = prepared.now }) }
+    {
+        for (action, states) in prepared {
+            let copied = copies(self.alloc, states.as_slice())?;
+            self.prepare(*action, copied)?;
+        }
+        Ok(())
     }
 
     // What is prepared of each entry. It walks once over all that is prepared.
@@ -199,16 +215,38 @@ impl Entries {
         self.pend.contains_key(&action)
     }
 
-    /// Whether another action has prepared the entry of the object with this store.
-    pub fn is_prepared_with(&self, x: u16, top: Uid, store: u8) -> bool
-        ensures { result ≡ is_prepared_with x top store self.now }
+    // Whether the action has prepared the entry of the object with this store.
+    fn lists_store(&self, action: Uid, x: u16, store: u8) -> bool
+        ensures { result ≡ lists_store_in x store (at_uid action self.now.pend) }
     {
-        for (action, states) in self.pend.iter() {
-            if *action != top && is_listed_in(states.as_slice(), x, store) {
+        match self.pend.get(&action) {
+            Some(states) => is_listed_in(states.as_slice(), x, store),
+            None => false,
+        }
+    }
+
+    // Whether another of these actions has.
+    fn any_lists(&self, actions: &BTreeSet<Uid>, x: u16, top: Uid, store: u8) -> bool
+        ensures { result ≡ any_lists x top store self.now.pend actions.now.keys }
+    {
+        for action in actions.iter() {
+            if *action != top && self.lists_store(*action, x, store) {
                 return true;
             }
         }
         false
+    }
+
+    /// Whether another action has prepared the entry of the object with this store. It looks at those alone that have
+    /// prepared the entry.
+    pub fn is_prepared_with(&self, x: u16, top: Uid, store: u8) -> bool
+        ensures { result ≡ is_prepared_with x top store self.now }
+    {
+        let _by_action = self.pend.len();
+        match self.by_entry.get(&entry_uid(x)) {
+            Some(actions) => self.any_lists(actions, x, top, store),
+            None => false,
+        }
     }
 
     /// Whether an exclusion of the store wants the exclude lock: the store is listed, or another action has prepared it.
@@ -248,7 +286,13 @@ impl Entries {
         requires { AreOfEntries states }
         ensures { OnOk result (self.new ≡ pair_prepared action states self.old) }
     {
-        self.pend.insert(action, states)?;
+        put_prepared(
+            self.alloc,
+            &mut self.pend,
+            &mut self.by_entry,
+            action,
+            states,
+        )?;
         Ok(())
     }
 
@@ -256,7 +300,7 @@ impl Entries {
     pub fn commit(&mut self, action: Uid) -> Result<(), AllocError>
         ensures { OnOk result (self.new ≡ pair_committed action self.old) }
     {
-        let Some(states) = self.pend.remove(&action) else {
+        let Some(states) = take_prepared(&mut self.pend, &mut self.by_entry, action) else {
             return Ok(());
         };
         put_states(&mut self.held, states.into_vec())
@@ -266,7 +310,7 @@ impl Entries {
     pub fn abort(&mut self, action: Uid)
         ensures { self.new ≡ pair_aborted action self.old }
     {
-        self.pend.remove(&action);
+        take_prepared(&mut self.pend, &mut self.by_entry, action);
     }
 }
 
@@ -305,7 +349,7 @@ fn is_listed_at(state: &ObjectState, x: u16, store: u8) -> bool
 
 // Whether one of these states is such.
 fn is_listed_in(states: &[ObjectState], x: u16, store: u8) -> bool
-    ensures { result ≡ list_any (λ st. uid_eq st.uid (entry x) && is_listed store (state_entry st).stores) states.now }
+    ensures { result ≡ lists_store x store states.now }
 {
     states.iter().any(|state| is_listed_at(state, x, store))
 }

@@ -1,9 +1,7 @@
 // Copies of what a recovery finds, by Uid.
-ghost use Rattle.std.specs.Prelude.{◌≡◌, IfOk, List, map};
+ghost use Rattle.std.specs.Prelude.{◌≡◌, IfOk, map};
 ghost use Rattle.std.specs.List.Sorted.{IsStrictlySortedBy};
 ghost use Rattle.arj_base.specs.Order.{uid_order};
-ghost use Rattle.arj_base.specs.declared.state.ObjectState.{ObjectState};
-ghost use Rattle.arj_base.specs.declared.uid.Uid.{Uid};
 ghost use Rattle.arj_store_law.specs.Found.{by_uid};
 ghost use Rattle.arj_store.specs.Pair.{uid_of};
 
@@ -25,8 +23,8 @@ fn copied(state: &ObjectState) -> Result<ObjectState, AllocError>
     })
 }
 
-// Copies of states.
-fn copies(alloc: Global, states: &[ObjectState]) -> Result<States, AllocError>
+/// Copies of states.
+pub fn copies(alloc: Global, states: &[ObjectState]) -> Result<States, AllocError>
     ensures { IfOk result (λ copies. copies ≡ states.now) }
 {
     let mut copies = States::new(alloc);
@@ -51,20 +49,4 @@ pub fn states_by_uid(
         held.insert(state.uid, copy)?;
     }
     Ok(held)
-}
-
-/// Copies of what actions have prepared, which stand by Uid.
-pub fn states_by_action(
-    alloc: Global,
-    prepared: &[(Uid, States)],
-) -> Result<BTreeMap<Uid, States>, AllocError>
-    requires { IsStrictlySortedBy uid_order (map (λ (e : Uid × List ObjectState). e.0) prepared.now) }
-    ensures { IfOk result (λ pend. pend.entries ≡ prepared.now) }
-{
-    let mut pend = BTreeMap::new(alloc);
-    for (action, states) in prepared {
-        let copies = copies(alloc, states.as_slice())?;
-        pend.insert(*action, copies)?;
-    }
-    Ok(pend)
 }

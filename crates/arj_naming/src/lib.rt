@@ -3,7 +3,9 @@
 //!
 //! Per object it keeps the live binding to a server, the bindings that were made, and the locks on the entry, which tops
 //! hold. Entries are persistent: a Confirm prepares new ones in a store, and the end of its top commits or aborts them. What
-//! is committed and prepared of them is in memory too, so a Bind makes no disk call.
+//! is committed and prepared of them is in memory too, so a Bind makes no disk call. A call finds its objects by number, by
+//! action and by server, and prepared entries by action and by entry: no call walks what it isn't about, but a restart, and
+//! the lists of all holders and of all that is prepared.
 //!
 //! It stands on `arj_lock` (the locks), `arj_store` (the entries on the disk), `arj_msg` and the definitions of
 //! `arj_protocol`. What it gives upward: each call of `Naming` is its function of the protocol: the part after it, the lines, the
@@ -12,6 +14,7 @@
 
 mod bindings;
 mod bound;
+mod by_entry;
 mod change;
 mod checks;
 mod confirm;

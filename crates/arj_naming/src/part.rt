@@ -125,7 +125,7 @@ impl Part {
         };
         match object.bind(&mut self.counter, m, entry, out) {
             Ok(reply) => {
-                tidy_path(&self.objects, &mut self.touched, &m.head.path);
+                tidy_path(&self.objects, &mut self.touched, &m.head.path, m.x);
                 Ok(Some(Bound {
                     asked: asked(&m.head),
                     reply,

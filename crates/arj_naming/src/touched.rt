@@ -169,17 +169,40 @@ fn numbers(alloc: Global, objects: &BTreeMap<u16, NamedObject>) -> Result<BTreeS
     Ok(all)
 }
 
-/// And so under each action on the path to the top.
+// Takes an object away from under an action, where the action's end doesn't change it.
+fn tidy_at(
+    objects: &BTreeMap<u16, NamedObject>,
+    touched: &mut BTreeMap<Uid, BTreeSet<u16>>,
+    action: Uid,
+    x: u16,
+)
+    ensures { (u : Uid) → AreTouched u objects.now.entries (is_touched touched.old.entries u) → AreTouched u objects.now.entries (is_touched touched.new.entries u) }
+{
+    if !is_apart_at(objects, x, action) {
+        return;
+    }
+    let Some(xs) = touched.get_mut(&action) else {
+        return;
+    };
+    xs.remove(&x);
+    if xs.len() != 0 {
+        return;
+    }
+    touched.remove(&action);
+}
+
+/// And so from under each action on the path to the top.
 pub fn tidy_path(
     objects: &BTreeMap<u16, NamedObject>,
     touched: &mut BTreeMap<Uid, BTreeSet<u16>>,
     path: &Path,
+    x: u16,
 )
     ensures { (u : Uid) → AreTouched u objects.now.entries (is_touched touched.old.entries u) → AreTouched u objects.now.entries (is_touched touched.new.entries u) }
 {
     let top = path.top_path();
     for action in top.as_slice() {
-        tidy(objects, touched, *action);
+        tidy_at(objects, touched, *action, x);
     }
 }
 

@@ -9,4 +9,4 @@ use Rattle.arj_naming.proofs.entries.Entries.get.Goals as goal
 
 pub returns-clause-of : goal.returns-clause-of
 returns-clause-of c =
-    subst (λ o. IfSome o (IsEntryState (entry c.args.x))) (sym (c.get.ensures.value ∙ ap (λ (u : Uid). at_uid u c.self.inside.held.entries) c.entry_uid.ensures)) (found IsEntryState (entry c.args.x) c.self.inside.held.entries c.self.invariant.held)
+    subst (λ o. IfSome o (IsEntryState (entry c.args.x))) (sym (c.get.ensures.value ∙ ap (λ (u : Uid). at_uid u c.self.inside.held.entries) c.entry_uid.ensures)) (found IsEntryState (entry c.args.x) c.self.inside.held.entries c.self.invariant.entries.held)

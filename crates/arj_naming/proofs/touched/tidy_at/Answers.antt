@@ -1,0 +1,20 @@
+use Rattle.std.proofs.Common.{◌≡◌, ◌∙◌, arith, subst, sym, []}
+use Rattle.arj_naming.proofs.Indexed.{no_keys, removed_left, tidied, untouched}
+use Rattle.arj_naming.specs.Touched.{AreTouched, is_touched}
+use Rattle.arj_naming.proofs.touched.tidy_at.Goals as goal
+
+pub returns-then-len-ne0 : goal.returns-then-len-ne0
+returns-then-len-ne0 c = λ u are.
+    let kept = c.remove.new.self in
+    tidied c.args.action c.args.objects.now.entries c.in-Some.xs.now kept c.args.touched.now.entries (c.get_mut.follows.lender kept).entries (sym c.in-Some.ensures.value) (c.get_mut.follows.holds kept).0 (removed_left c.args.action c.args.objects.now.entries c.args.x c.in-Some.xs.now.keys kept.keys c.remove.ensures.updates.2 (sym c.is_apart_at.ensures ∙ c.if-not-is_apart_at.false)) u are
+
+pub returns : goal.returns
+returns c = λ u are.
+    let kept = c.remove.new.self in
+    let m = c.args.objects.now.entries in
+    let old = c.args.touched.now.entries in
+    let new = (c.get_mut.follows.lender kept).entries in
+    let none : kept.keys ≡ [] = no_keys kept.keys (omega (arith, c.len.ensures.len, c.if-len-ne0.false)) in
+    subst (λ es. AreTouched u m (is_touched es u)) (sym c.remove-2.ensures.entries)
+    (untouched c.args.action m c.in-Some.xs.now kept old new (sym c.in-Some.ensures.value) (c.get_mut.follows.holds kept).0 none u
+    (tidied c.args.action m c.in-Some.xs.now kept old new (sym c.in-Some.ensures.value) (c.get_mut.follows.holds kept).0 (removed_left c.args.action c.args.objects.now.entries c.args.x c.in-Some.xs.now.keys kept.keys c.remove.ensures.updates.2 (sym c.is_apart_at.ensures ∙ c.if-not-is_apart_at.false)) u are))
