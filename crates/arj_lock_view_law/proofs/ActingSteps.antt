@@ -258,7 +258,7 @@ module _ (act : Acts) (paths : Paths) (x : ℕ) (c : Coord) (S : State) (steady 
 
     -- ---- its decision
 
-    decide_goes : (p : ℕ) (m : Machine) → is_top (act u) ≡ true → is_some b.ended ≡ false → d.now ≡ Committing m → IsBacked act u S → S.now ≤ p → IsEndSeen act x c u ending.Commit S (λ T. (T.now ≡ p + 1) × ((T.action (act u)).stage ≡ 3))
+    decide_goes : (p : ℕ) (m : Machine) → is_top (act u) ≡ true → is_some b.ended ≡ false → d.now ≡ Committing m → IsBacked (act u) S → S.now ≤ p → IsEndSeen act x c u ending.Commit S (λ T. (T.now ≡ p + 1) × ((T.action (act u)).stage ≡ 3))
     decide_goes p m top unended at_commit backed now = record {
       state = T;
       run = step (Decide (act u)) (top, one_now, backed.calls, backed.includes) (step (Report (act u) p) (top, ap (λ (v : Action). v.stage) (act_here f (act u) mid), now) stay);

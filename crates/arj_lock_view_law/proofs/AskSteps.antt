@@ -1,7 +1,7 @@
 -- Requests are nothing to the machine, and show what their calls stand on.
-use Rattle.std.proofs.Common.{◌≡◌, ◌≢◌, ◌⊎◌, ◌∙◌, ◌++◌, ℕ, List, [], ◌∷◌, Bool, true, false, cond, refl, sym, ap, subst, ⊎_elim, arith, unwrap_or}
+use Rattle.std.proofs.Common.{◌<◌, ◌≡◌, ◌≢◌, ◌⊎◌, ◌∙◌, ◌++◌, ◌*◌, ℕ, List, [], ◌∷◌, Bool, true, false, cond, refl, sym, ap, subst, ⊎_elim, arith, unwrap_or}
 use Rattle.std.specs.List.{list_any}
-use Rattle.arj_protocol.specs.Words.{End, Op, Path, Uid, uids_of, writes}
+use Rattle.arj_protocol.specs.Words.{Binding, End, Op, Path, Uid, uids_of, writes}
 use Rattle.arj_protocol.specs.Words.ask
 use Rattle.arj_protocol.specs.Ask.{actor, top_of}
 use Rattle.arj_protocol.specs.Asking.{again_now, asks_node, is_invoke_ask}
@@ -11,18 +11,25 @@ use Rattle.arj_protocol.specs.Coord.{Calling, Committing, Coord, Idle, Keeping, 
 use Rattle.arj_protocol.specs.Order.{at_number, binding_number}
 use Rattle.arj_protocol.specs.Tree.{ends_of, root_of}
 use Rattle.arj_protocol.specs.Values.{state_value}
+use Rattle.arj_lock_law.specs.Actions.{Act, In}
+use Rattle.arj_lock_law.specs.Machine.{Run as MachineRun}
 use Rattle.arj_lock_law.specs.State as machine
 use Rattle.arj_lock_law.specs.State.{State}
+use Rattle.arj_lock_law.proofs.Claims.{Holds}
 use Rattle.arj_lock_view_law.specs.Acts.{Acts}
 use Rattle.arj_lock_view_law.specs.Asks.{AsksAreNothing, CommitsAskOnly, RequestsAreShown, RequestsStayShown, ShowsAsk, TicksAreNothing}
+use Rattle.arj_lock_view_law.specs.Calling.{IsReached}
 use Rattle.arj_lock_view_law.specs.Copies.{Codes}
+use Rattle.arj_lock_view_law.specs.Going.{IsServedBy}
+use Rattle.arj_lock_view_law.specs.Named.{IsNamedSo}
 use Rattle.arj_lock_view_law.specs.Roots.{SeesCoord, SeesRoot, SeesStep}
+use Rattle.arj_lock_view_law.proofs.EverSteps.{Ever, ever, reached_kept}
 use Rattle.arj_lock_view_law.proofs.RootSteps.{root_else, root_here, same_root}
 
 -- ---- what requests show
 
 -- a call's request is shown by its step
-shows_step : (act : Acts) (code : Codes) (p : Path) (x number : ℕ) (o : Op) (ends : List (Uid × End)) (kp : Keeping) (S : State) (a : At) → SeesStep act code (record { path = p; x = x; goal = Run o; req = number; at = a }) o kp S a → ShowsAsk act code p number S (node_at a) (ask_at x (Run o) ends a)
+shows_step : (act : Acts) (code : Codes) (p : Path) (x number : ℕ) (o : Op) (ends : List (Uid × End)) (kp : Keeping) (S : State) (a : At) → SeesStep act code (record { path = p; x = x; goal = Run o; req = number; at = a }) o kp S a → ShowsAsk act code (record { x = x; path = p; number = number; node = node_at a }) S (ask_at x (Run o) ends a)
 shows_step act code p x number o ends kp S (AtBind avoid) h = tt
 shows_step act code p x number o ends kp S (AtLoad k n rest) h = tt
 shows_step act code p x number o ends kp S (AtActivate k st) h = (h.1.1, h.2)
@@ -31,8 +38,9 @@ shows_step act code p x number o ends kp S (AtInvoke k i) h = (h.1, h.2, h.3)
 
 pub requests_are_shown : RequestsAreShown
 requests_are_shown act code x c u d s o ends S sees works calling about goal =
-    subst (λ (g : Goal). ShowsAsk act code s.path s.req S (node_at s.at) (ask_at s.x g ends s.at)) (sym goal)
-    (shows_step act code s.path s.x s.req o ends (keeping_of x (root_at (root_of s.path) c)) S s.at (of_parts s.at (sees.calls u d s o works calling about goal)))
+    subst (λ (y : ℕ). ShowsAsk act code (record { x = y; path = s.path; number = s.req; node = node_at s.at }) S (ask_at s.x s.goal ends s.at)) about
+    (subst (λ (g : Goal). ShowsAsk act code (record { x = s.x; path = s.path; number = s.req; node = node_at s.at }) S (ask_at s.x g ends s.at)) (sym goal)
+    (shows_step act code s.path s.x s.req o ends (keeping_of x (root_at (root_of s.path) c)) S s.at (of_parts s.at (sees.calls u d s o works calling about goal))))
   where
     of_parts : (a : At) → SeesStep act code s o (keeping_of x (root_at (root_of s.path) c)) S a → SeesStep act code (record { path = s.path; x = s.x; goal = Run o; req = s.req; at = s.at }) o (keeping_of x (root_at (root_of s.path) c)) S a
     of_parts (AtBind avoid) h = h
@@ -41,15 +49,38 @@ requests_are_shown act code x c u d s o ends S sees works calling about goal =
     of_parts (AtNote k i) h = h
     of_parts (AtInvoke k i) h = h
 
+-- what is shown of a binding stays
+module _ (S T : State) (reached : IsReached S) (run : MachineRun S T) where
+  now_on : Ever S T
+  now_on = ever reached run
+
+  its : Holds S
+  its = let k = reached_kept S reached in k.holds
+
+  pub server_stays : (b : Binding) (n : ℕ) → binding_number b < S.naming.bound → IsServedBy S b n → IsServedBy T b n
+  server_stays b n below served = now_on.server (binding_number b) below ∙ served
+
+  pub named_stays : (b : Binding) (i : ℕ) → IsNamedSo S b i → IsNamedSo T b i
+  named_stays b i named = let k = now_on.named (binding_number b) named.0 in (k.0, k.1 ∙ named.1)
+
+  pub vote_stays : (m : Act) (b : Binding) (i n : ℕ) → IsServedBy S b n × In (machine.Vote m (binding_number b) i) S.net → IsServedBy T b n × In (machine.Vote m (binding_number b) i) T.net
+  vote_stays m b i n h = (server_stays b n (let k = its.mail (machine.Vote m (binding_number b) i) h.1 in let q = its.bindings (binding_number b) k.1 in q.below) h.0, now_on.sent (machine.Vote m (binding_number b) i) h.1)
+
 pub requests_stay_shown : RequestsStayShown
-requests_stay_shown act code p number n (ask.Activate b st) S T later h = (later.server b n h.0, later.sent (machine.Activate (binding_number b) (code (state_value st))) h.1)
-requests_stay_shown act code p number n (ask.Record y b i g) S T later h = (later.sent (machine.Made (act (top_of p)) (binding_number b)) h.0, later.named b i h.1)
-requests_stay_shown act code p number n (ask.Invoke y b i ends o) S T later h = (later.server b n h.0, later.named b i h.1, later.sent (machine.Invoke (record { act = act (actor p); number = number; binding = binding_number b; write = writes o })) h.2)
-requests_stay_shown act code p number n (ask.Bind y include avoid) S T later h = tt
-requests_stay_shown act code p number n (ask.Load y) S T later h = tt
-requests_stay_shown act code p number n (ask.Vote i objects ends) S T later h = tt
-requests_stay_shown act code p number n (ask.Prepare states) S T later h = tt
-requests_stay_shown act code p number n (ask.Confirm objects excluded included) S T later h = tt
+requests_stay_shown act code o (ask.Activate b st) S T reached run h =
+    let sent = machine.Activate (binding_number b) (code (state_value st)) in
+    (server_stays S T reached run b o.node (let k = its S T reached run in let q = k.mail sent h.1 in q.1) h.0, (let k = now_on S T reached run in k.sent sent h.1))
+requests_stay_shown act code o (ask.Record y b i g) S T reached run h = ((let k = now_on S T reached run in k.sent (machine.Made (act (top_of o.path)) (binding_number b)) h.0), named_stays S T reached run b i h.1)
+requests_stay_shown act code o (ask.Invoke y b i ends op) S T reached run h = (
+  server_stays S T reached run b o.node (let k = its S T reached run in let q = k.bindings (binding_number b) h.1.0 in q.below) h.0,
+  named_stays S T reached run b i h.1,
+  (let k = now_on S T reached run in k.sent (machine.Invoke (record { act = act (actor o.path); number = o.number; binding = binding_number b; write = writes op })) h.2),
+)
+requests_stay_shown act code o (ask.Vote i ties ends) S T reached run h = λ b there. vote_stays S T reached run (act (actor o.path)) b i o.node (h b there)
+requests_stay_shown act code o (ask.Confirm grants excluded included) S T reached run h = λ g there. (let k = now_on S T reached run in k.sent (machine.Confirm (act (actor o.path)) (g * 4294967296)) (h g there))
+requests_stay_shown act code o (ask.Bind y include avoid) S T reached run h = tt
+requests_stay_shown act code o (ask.Load y) S T reached run h = tt
+requests_stay_shown act code o (ask.Prepare states) S T reached run h = tt
 
 -- ---- what roots take note of
 

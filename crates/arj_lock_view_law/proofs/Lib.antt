@@ -9,6 +9,7 @@ pub mod CommitSteps
 pub mod CopySteps
 pub mod ElseSteps
 pub mod EndSteps
+pub mod EverSteps
 pub mod FreeSteps
 pub mod GivenSteps
 pub mod GivingSteps

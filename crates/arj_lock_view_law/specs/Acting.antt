@@ -67,15 +67,15 @@ TopsBegin = (act : Acts) (paths : Paths) (x p : ℕ) (c : Coord) (u : Uid) (b : 
     → IsFreeToEnd act paths c u b d → b.kind ≢ kind.Serial → b.kind ≢ kind.Nested → b.doomed ≡ false → has_open_child u c.tree ≡ false → CallersAreHere act c.tree S → IsFirst act c u → d.req ≤ (let q = plan_of m in q.req) → S.now ≤ p
     → SeesActions act x c S.action → Goes S (λ T. SeesActions act x (commits_in u m c) T.action × OnlyActed (root (act u)) S T × (T.now ≡ p + 1) × ((T.action (act u)).stage ≡ 1) × ((T.action (act u)).place ≡ p))
 
--- What a decision stands on: the votes and the confirmation for each call and include that counts.
-pub record IsBacked (act : Acts) (u : Uid) (S : State) : Type 0 where
-  pub calls : (k : Call) → In k S.calls → Alive S k.act → Covered S (act u) k.act → (S.yes (act u) ≡ S.kept (root (act u))) × (S.confirmed (act u) ≡ true)
-  pub includes : (k : Include) → In k S.includes → Alive S k.act → Covered S (act u) k.act → S.confirmed (act u) ≡ true
+-- What the decision of a top stands on: the votes and the confirmation for each call and include that counts.
+pub record IsBacked (m : Act) (S : State) : Type 0 where
+  pub calls : (k : Call) → In k S.calls → Alive S k.act → Covered S m k.act → (S.yes m ≡ S.kept (root m)) × (S.confirmed m ≡ true)
+  pub includes : (k : Include) → In k S.includes → Alive S k.act → Covered S m k.act → S.confirmed m ≡ true
 
 -- A top at its commit is decided and has its line.
 abbrev pub DecisionsAreSeen : Type 0
 DecisionsAreSeen = (act : Acts) (paths : Paths) (x p : ℕ) (c : Coord) (u : Uid) (b : Branch) (d : Doing) (m : Machine) (S : State)
-    → IsSteady act paths c → branch_of u c.tree ≡ Some b → is_some b.ended ≡ false → doing_of u c ≡ Some d → d.now ≡ Committing m → b.kind ≢ kind.Serial → b.kind ≢ kind.Nested → IsBacked act u S → S.now ≤ p → SeesActions act x c S.action
+    → IsSteady act paths c → branch_of u c.tree ≡ Some b → is_some b.ended ≡ false → doing_of u c ≡ Some d → d.now ≡ Committing m → b.kind ≢ kind.Serial → b.kind ≢ kind.Nested → IsBacked (act u) S → S.now ≤ p → SeesActions act x c S.action
     → IsEndSeen act x c u ending.Commit S (λ T. (T.now ≡ p + 1) × ((T.action (act u)).stage ≡ 3))
 
 -- An open unit whose root has ended alone is over: the unit of a plain top, after its end.

@@ -48,7 +48,7 @@ pub record IsDecided (act : Acts) (c : Coord) (u : Uid) (S : State) : Type 0 whe
   pub unnested : branch.kind ≢ kind.Nested
   pub works : doing_of u c ≡ Some work
   pub at_commit : work.now ≡ Committing plan
-  pub backed : IsBacked act u S
+  pub backed : IsBacked (act u) S
 
 -- the same of the top of whose decision the stop left the record alone, where there is one
 abbrev pub IfDecided : Acts → Coord → Option Uid → State → Type 0
