@@ -413,7 +413,7 @@ number_cases : (m n : ℕ) → (m ≡ n) ⊎ (m ≢ n)
 number_cases m n = grind arith
 
 -- an include waits for its lock or its state
-include_early : (act : Acts) (code : Codes) (x : ℕ) (c : Coord) (u : Uid) (d : Doing) (s : Steps) (S : State) → SeesCoord act code x c S → doing_of u c ≡ Some d → d.now ≡ Calling s → s.x ≡ x → (store : ℕ) → s.goal ≡ Include store → is_early s.at ≡ true
+pub include_early : (act : Acts) (code : Codes) (x : ℕ) (c : Coord) (u : Uid) (d : Doing) (s : Steps) (S : State) → SeesCoord act code x c S → doing_of u c ≡ Some d → d.now ≡ Calling s → s.x ≡ x → (store : ℕ) → s.goal ≡ Include store → is_early s.at ≡ true
 include_early act code x c u d s S sees works calling about store goal = by (is_early s.at) refl
   where
     by : (t : Bool) → is_early s.at ≡ t → t ≡ true

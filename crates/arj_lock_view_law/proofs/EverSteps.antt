@@ -1,6 +1,6 @@
 -- What a run of the machine leaves for ever: messages, votes and confirmations; and what a vote that was asked says of the kept binding.
-use Rattle.std.proofs.Common.{◌≡◌, ◌≤◌, ◌<◌, ◌⊎◌, ◌∙◌, ◌==◌, ℕ, List, [], ◌∷◌, Bool, true, false, cond, max, refl, sym, ap, subst, inl, inr, ⊎_elim, arith}
-use Rattle.arj_lock_law.specs.Actions.{Act, In, at_act, root, same, top}
+use Rattle.std.proofs.Common.{◌≡◌, ◌≤◌, ◌<◌, ◌⊎◌, ◌∙◌, ℕ, ◌∷◌, Bool, true, false, cond, max, refl, sym, ap, subst, inl, inr, ⊎_elim, arith}
+use Rattle.arj_lock_law.specs.Actions.{Act, In, root, same, top}
 use Rattle.arj_lock_law.specs.Machine.{Guard, Run, next, start, stay, step}
 use Rattle.arj_lock_law.specs.State as machine
 use Rattle.arj_lock_law.specs.State.{Alive, Call, Covered, Message, State}
@@ -8,7 +8,7 @@ use Rattle.arj_lock_law.specs.Steps.{Event, CrashNaming, BindLive, BindNew, Gran
 use Rattle.arj_lock_law.proofs.Claims.{Holds, Mean}
 use Rattle.arj_lock_law.proofs.Later.{Later, alive_back, covered_back}
 use Rattle.arj_lock_law.proofs.Order.{start_holds, step_keeps}
-use Rattle.arj_lock_law.proofs.Paths.{by_cases, same_is}
+use Rattle.arj_lock_law.proofs.Paths.{same_is}
 use Rattle.arj_lock_view_law.specs.Calling.{IsReached}
 
 is_vote : Message → Bool

@@ -14,14 +14,17 @@ pub mod FreeSteps
 pub mod GivenSteps
 pub mod GivingSteps
 pub mod HandledSteps
+pub mod IncludeSteps
 pub mod InvokedSteps
 pub mod LeftSteps
 pub mod LogSteps
+pub mod MoveSteps
 pub mod NewSteps
 pub mod NoteSteps
 pub mod OneSteps
 pub mod PassSteps
 pub mod PlaceSteps
+pub mod PlanSteps
 pub mod RestartSteps
 pub mod RootSteps
 pub mod RowSteps

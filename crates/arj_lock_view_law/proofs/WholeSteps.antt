@@ -16,7 +16,7 @@ use Rattle.arj_protocol.specs.Ending.{ended, kept_after, keeping_after, list_aft
 use Rattle.arj_protocol.specs.Order.{at_number, each, put_uid}
 use Rattle.arj_protocol.specs.Tree.{Branch, Tree, branch_of, ended_at, ended_so, has_end, is_aborted, is_spent, root_of}
 use Rattle.arj_lock_law.specs.Actions.{Act, root}
-use Rattle.arj_lock_law.specs.State.{Action, State}
+use Rattle.arj_lock_law.specs.State.{Action, Include, State}
 use Rattle.arj_lock_view_law.specs.Actions.{SeesActions, invokes, stage_of}
 use Rattle.arj_lock_view_law.specs.Acts.{Acts}
 use Rattle.arj_lock_view_law.specs.Copies.{Codes}
@@ -29,13 +29,13 @@ use Rattle.arj_lock_view_law.proofs.CallingSteps.{kept_same}
 use Rattle.arj_lock_view_law.proofs.RootSteps.{root_else, root_here}
 use Rattle.arj_lock_view_law.proofs.OneSteps.{OnlyOne, end_changed, work_changed}
 
--- ---- actions and the clock are another
+-- ---- actions, the clock and includes are another
 
-module _ (act : Acts) (code : Codes) (x : ℕ) (c e : Coord) (S : State) (f : Act → Action) (now : ℕ) (sees : SeesCoord act code x c S) (acts : SeesActions act x e f)
+module _ (act : Acts) (code : Codes) (x : ℕ) (c e : Coord) (S : State) (f : Act → Action) (now : ℕ) (includes : List Include) (sees : SeesCoord act code x c S) (acts : SeesActions act x e f)
     (was : (w : Uid) (k : Branch) → branch_of w e.tree ≡ Some k → (q : Branch) × (branch_of w c.tree ≡ Some q) × (q.path ≡ k.path)) (still : (w : Uid) (k : Branch) → branch_of w c.tree ≡ Some k → (q : Branch) × (branch_of w e.tree ≡ Some q) × (q.path ≡ k.path))
     (spent : (us : List Uid) → is_spent us c.tree ≡ true → is_spent us e.tree ≡ true) (roots : (w : Uid) → root_at w e ≡ root_at w c) (calls : (w : Uid) (d : Doing) (s : Steps) → doing_of w e ≡ Some d → d.now ≡ Calling s → doing_of w c ≡ Some d) where
   abbrev T : State
-  T = record S { action = f; now = now }
+  T = record S { action = f; now = now; includes = includes }
 
   kept_stays : (v : ℕ) (o : Option Known) (avoid : Binding) → SeesKeeping v o avoid S → SeesKeeping v o avoid T
   kept_stays v None avoid low = low
@@ -102,7 +102,7 @@ module _ (act : Acts) (code : Codes) (x : ℕ) (c e : Coord) (u : Uid) (b b' : B
       by false is all ih = right (is_aborted w e.tree) (is_spent us e.tree) (ih all)
 
   pub one_stays : SeesCoord act code x e T
-  one_stays = subst (SeesCoord act code x e) (sym rest) (stays_coord act code x c e S T.action T.now sees acts was still spent roots (λ w k s works calling. ⊎_elim
+  one_stays = subst (SeesCoord act code x e) (sym rest) (stays_coord act code x c e S T.action T.now S.includes sees acts was still spent roots (λ w k s works calling. ⊎_elim
       (λ (is : w ≡ u). absurd (let two : ◌≡◌ {A = Option Doing} (Some d') (Some k) = sym one.doing ∙ ap (λ (v : Uid). doing_of v e) (sym is) ∙ works in let same : d' ≡ k = cc two in quiet s (ap (λ (v : Doing). v.now) same ∙ calling)))
       (λ (other : w ≢ u). sym (one.doings w other) ∙ works)
       (uid_cases w u)))
@@ -138,7 +138,7 @@ commits_keep_roots act code paths x unit c u b d m S T opened sees only acts =
 
 pub units_keep_roots : UnitsKeepRoots
 units_keep_roots act code x unit c S T sees only acts =
-    subst (SeesCoord act code x c) (sym only.rest) (stays_coord act code x c c S T.action T.now sees acts (λ w k there. (k, there, refl)) (λ w k there. (k, there, refl)) (λ us h. h) (λ w. refl) (λ w d s works calling. works))
+    subst (SeesCoord act code x c) (sym only.rest) (stays_coord act code x c c S T.action T.now S.includes sees acts (λ w k there. (k, there, refl)) (λ w k there. (k, there, refl)) (λ us h. h) (λ w. refl) (λ w d s works calling. works))
 
 -- ---- a decision
 

@@ -121,7 +121,7 @@ CallsAreGivenUp = (act : Acts) (code : Codes) (paths : Paths) (x : ℕ) (c : Coo
 abbrev pub IsElsewhere : ℕ → Steps → Type 0
 IsElsewhere x s = (s.x ≢ x) ⊎ ((store : ℕ) × (s.goal ≡ Include store))
 
--- an include is answered by the write lock, or a conflict
+-- An answer that names a binding, live or made, is none to an include; any other may be: the write row, a conflict, a state.
 abbrev pub IsToInclude : Reply → Type 0
 IsToInclude (Reply.Bound (bound.Live b server i g stores)) = ⊥
 IsToInclude (Reply.Bound (bound.Make b server g stores)) = ⊥

@@ -14,6 +14,7 @@ pub mod Whole
 pub mod Asks
 pub mod Begins
 pub mod Servers
+pub mod Including
 pub mod Plans
 pub mod Stops
 pub mod Telling

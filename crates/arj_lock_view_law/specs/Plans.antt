@@ -4,7 +4,7 @@ use Rattle.arj_protocol.specs.Words.{Uid}
 use Rattle.arj_protocol.specs.Words.confirmed
 use Rattle.arj_protocol.specs.Words.voted
 use Rattle.arj_protocol.specs.Ask.{Reply, actor}
-use Rattle.arj_protocol.specs.Commit.{Aborts, Asks, CommitStep, Confirming, Decides, Machine, Plan, Preparing, Stays, Used, Voting, answered, ask_of, begin_vote, given_up, is_at_server, least_of, plan_of, servers_of}
+use Rattle.arj_protocol.specs.Commit.{Aborts, Asks, CommitStep, Confirming, Decides, Machine, Plan, Preparing, Stays, Used, Voting, answered, ask_of, begin_vote, given_up, is_at_server, least_of, servers_of}
 use Rattle.arj_protocol.specs.Order.{binding_number, has}
 use Rattle.arj_lock_law.specs.Actions.{Act, In, is_top, root}
 use Rattle.arj_lock_law.specs.Machine.{Run}

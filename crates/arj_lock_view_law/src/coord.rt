@@ -3,6 +3,8 @@ ghost use Rattle.arj_lock_view_law.specs.Acting.{AbortionsAreSeen, DecisionsAreS
 ghost use Rattle.arj_lock_view_law.specs.Asks.{AsksAreNothing, CommitsAskOnly, RequestsAreShown, RequestsStayShown, TicksAreNothing};
 ghost use Rattle.arj_lock_view_law.specs.Begins.{ActionsBegin, NewCoordsAreSeen};
 ghost use Rattle.arj_lock_view_law.specs.Calling.{AnswersAreTaken, CallsAreGivenUp, CallsBegin, IncludesBegin, OtherAnswersAreTaken, OtherCallsAreGivenUp, OtherCallsBegin};
+ghost use Rattle.arj_lock_view_law.specs.Including.{IncludeAnswersAreTaken};
+ghost use Rattle.arj_lock_view_law.specs.Plans.{CommitAnswersAreTaken, CommitRequestsAreShown, CommitsAreGivenUp, CommitsSetOut, CommitsStaySeen};
 ghost use Rattle.arj_lock_view_law.specs.Stops.{AbortionsGoDown, RecordsAreFound, RestartedCoordsAreSeen, StopsAreSeen, StopsStay};
 ghost use Rattle.arj_lock_view_law.specs.Whole.{CommitsKeepRoots, DecisionsKeepRoots, EndsKeepRoots, UnitsKeepRoots};
 
@@ -72,4 +74,22 @@ pub fn many_end_at_coordinators()
     ensures stay { StopsStay }
     ensures records { RecordsAreFound }
     ensures restarted { RestartedCoordsAreSeen }
+{}
+
+/// A top's commit sets out by its plan: the machine's servers are asked for their votes. It is seen in every later state of the machine; what
+/// it asks shows the machine's Vote, with the binding that its unit keeps and the least incarnation of its objects at that server, and its
+/// Confirm, with its grant. With each answer, and given up, it goes on, and is decided where votes and naming stand behind it. It does
+/// nothing when it runs.
+pub fn commits_go_on()
+    ensures out { CommitsSetOut }
+    ensures stay { CommitsStaySeen }
+    ensures shown { CommitRequestsAreShown }
+    ensures answers { CommitAnswersAreTaken }
+    ensures given_up { CommitsAreGivenUp }
+{}
+
+/// An answer to an include on the object is taken: where it ends well the machine has its line, by the write row that its top was
+/// granted, and the root has the state that was loaded. It does nothing when it runs.
+pub fn includes_are_seen()
+    ensures { IncludeAnswersAreTaken }
 {}
