@@ -5,13 +5,12 @@ use Rattle.std.proofs.lemmas.Bool.{and_parts}
 use Rattle.arj_base.proofs.Uids.{uid_cases, uid_is}
 use Rattle.arj_lock.proofs.Members as list
 use Rattle.arj_lock.proofs.Members.{in_from, in_to}
-use Rattle.arj_protocol.specs.Words.{Binding, ObjectState, Uid, first_uid, is_on, last_uid, uid_eq, uids_of}
+use Rattle.arj_protocol.specs.Words.{Binding, ObjectState, Uid, first_uid, last_uid, uid_eq, uids_of}
 use Rattle.arj_protocol.specs.Words.bound
-use Rattle.arj_protocol.specs.Words.kind
 use Rattle.arj_protocol.specs.Words.loaded
 use Rattle.arj_protocol.specs.Words.mode
 use Rattle.arj_protocol.specs.Ask.{Reply, actor, top_of}
-use Rattle.arj_protocol.specs.Asking.{asks_step, is_invoke_ask, doomed_by, ends_call, goes_on, granted_by, heard_call, kept_at, root_heard, root_moved, step_call, store_of}
+use Rattle.arj_protocol.specs.Asking.{asks_step, is_invoke_ask, doomed_by, ends_call, goes_on, kept_at, root_heard, root_moved, step_call, store_of}
 use Rattle.arj_protocol.specs.Call.{At, AtActivate, AtBind, AtInvoke, AtLoad, AtNote, CallEnd, CallStep, Ended, Goal, Include as IncludeStore, Included, Known, Moved, On, Steps, answered, load_from, next_ask, next_node, or_lost, write_known}
 use Rattle.arj_protocol.specs.Call as protocol
 use Rattle.arj_protocol.specs.Coord.{Calling, Coord, Doing, Grant, Idle, Joined, Root, Went, change_doing, doing_of, granted_with, is_free, joined_with, later_state, no_root, on_doing, on_root, root_at, same_join, set_doing, with_join, with_went}
@@ -19,23 +18,22 @@ use Rattle.arj_protocol.specs.Order.{at_number}
 use Rattle.arj_protocol.specs.Step.{is_committing_now}
 use Rattle.arj_protocol.specs.Tree.{Branch, at_place, branch_of, ends_of, root_of}
 use Rattle.arj_lock_law.specs.Actions.{Act, In, is_action, on, root, top}
-use Rattle.arj_lock_law.specs.Machine.{Run, next, stay, step}
+use Rattle.arj_lock_law.specs.Machine.{next, stay, step}
 use Rattle.arj_lock_law.specs.State as machine
 use Rattle.arj_lock_law.specs.State.{Include, Message, State}
 use Rattle.arj_lock_law.specs.Steps as event
-use Rattle.arj_lock_law.proofs.Paths.{on_root as same_unit}
 use Rattle.arj_part_law.specs.Copies.{Paths}
 use Rattle.arj_part_law.proofs.GoodCoords.{doomed_same}
 use Rattle.arj_part_law.proofs.Settled.{doing_other, doing_put}
 use Rattle.arj_part_law.specs.Coords.{IsAsking, IsBusy}
 use Rattle.arj_lock_view_law.specs.Acts.{Acts}
-use Rattle.arj_lock_view_law.specs.Calling.{IsAtWork, IsElsewhere, IsReached, IsToInclude, IsWaiting}
+use Rattle.arj_lock_view_law.specs.Calling.{IsAtWork, IsToInclude, IsWaiting}
 use Rattle.arj_lock_view_law.specs.Copies.{Codes}
 use Rattle.arj_lock_view_law.specs.Going.{Goes}
 use Rattle.arj_lock_view_law.specs.Including.{HasGrant, HasState, IncludeAnswersAreTaken, IsGranted, IsJoined, IsLoading, IsNoted, OnlyIncluded, SeesIncludes, ShowsInclude, WritesInclude, included_by}
 use Rattle.arj_lock_view_law.specs.Roots.{SeesCoord, is_early}
 use Rattle.arj_lock_view_law.proofs.ElseSteps.{include_early, other_answers_are_taken}
-use Rattle.arj_lock_view_law.proofs.MoveSteps.{Grows, Moves, grows_moved, grows_said, grows_same, grows_went, moves_both, moves_doing, moves_none, moves_root, moves_tree, new_grant}
+use Rattle.arj_lock_view_law.proofs.MoveSteps.{Grows, Moves, grows_moved, grows_said, grows_same, grows_went, moves_both, moves_doing, moves_root, moves_tree, new_grant}
 use Rattle.arj_lock_view_law.proofs.RootSteps.{root_else, root_here}
 use Rattle.arj_lock_view_law.proofs.TreeSteps.{action_kind, opens}
 use Rattle.arj_lock_view_law.proofs.WholeSteps.{stays_coord}

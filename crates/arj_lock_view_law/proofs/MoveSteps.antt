@@ -1,5 +1,5 @@
 -- What a coordinator does to what its roots note of includes, and to what waits: one change after another.
-use Rattle.std.proofs.Common.{◌≡◌, ◌≢◌, ◌≤◌, ◌⊎◌, ◌∙◌, ◌==◌, ◌&&◌, ◌*◌, ◌++◌, ℕ, List, [], ◌∷◌, Bool, true, false, cond, Option, Some, None, refl, sym, ap, subst, inl, inr, ⊎_elim, arith, is_some, unwrap_or, min, eqb-true}
+use Rattle.std.proofs.Common.{◌≡◌, ◌≢◌, ◌≤◌, ◌⊎◌, ◌∙◌, ◌==◌, ◌*◌, ◌++◌, ℕ, List, [], ◌∷◌, Bool, true, false, cond, Option, Some, None, refl, sym, ap, subst, inl, inr, ⊎_elim, arith, is_some, unwrap_or, min, eqb-true}
 use Rattle.std.specs.Prelude.{Contains}
 use Rattle.std.specs.List.{list_any}
 use Rattle.std.proofs.lemmas.Bool.{and_parts}
@@ -11,12 +11,12 @@ use Rattle.arj_protocol.specs.Ask.{Reply}
 use Rattle.arj_protocol.specs.Asking.{notes_grant, root_lost, root_moved}
 use Rattle.arj_protocol.specs.Call.{CallStep, Moved, Steps}
 use Rattle.arj_protocol.specs.Commit.{Machine, Plan}
-use Rattle.arj_protocol.specs.Coord.{Calling, Committing, Coord, Doing, Grant, Idle, Joined, Keeping, Root, Said, Went, change_doing, doing_of, granted_with, is_grant_of, named_last, no_root, on_doing, on_root, root_at, same_said, same_went, set_doing, with_grant, with_keeping, with_said, with_went}
+use Rattle.arj_protocol.specs.Coord.{Calling, Committing, Coord, Doing, Grant, Idle, Joined, Keeping, Root, Said, Went, change_doing, doing_of, granted_with, is_grant_of, named_last, no_root, on_doing, on_root, root_at, same_said, same_went, with_keeping, with_said, with_went}
 use Rattle.arj_protocol.specs.Ending.{ended, root_after}
 use Rattle.arj_protocol.specs.Order.{at_number}
-use Rattle.arj_protocol.specs.Tree.{Branch, Tree, at_place, branch_of, ended_at, is_own, root_of}
-use Rattle.arj_part_law.proofs.GoodCoords.{IsSameTree, doing_by}
-use Rattle.arj_part_law.proofs.Settled.{doing_other, doing_put}
+use Rattle.arj_protocol.specs.Tree.{Branch, Tree, at_place, branch_of}
+use Rattle.arj_part_law.proofs.GoodCoords.{IsSameTree}
+use Rattle.arj_part_law.proofs.Settled.{doing_other}
 use Rattle.arj_lock_view_law.specs.Including.{HasGrant}
 use Rattle.arj_lock_view_law.proofs.OneSteps.{OnlyOne, end_changed}
 use Rattle.arj_lock_view_law.proofs.RootSteps.{root_else, root_here}

@@ -20,8 +20,9 @@ mod naming;
 mod server;
 
 pub use coord::{
-    actions_begin, calls_at_coordinators_are_seen, commits_go_on, includes_are_seen, ends_at_coordinators_are_seen,
-    ends_keep_roots, many_end_at_coordinators, other_calls_are_nothing, requests_are_shown,
+    actions_begin, calls_at_coordinators_are_seen, commits_go_on, ends_at_coordinators_are_seen,
+    ends_keep_roots, includes_are_seen, many_end_at_coordinators, other_calls_are_nothing,
+    requests_are_shown,
 };
 pub use naming::{
     binds_are_seen, ends_are_seen, excludes_are_seen, hellos_are_seen, records_are_seen,
