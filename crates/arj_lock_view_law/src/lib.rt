@@ -10,9 +10,11 @@
 //! naming does with one object. A server's activations, operations, refusals and undoings go too (`specs/Copies.antt`), its
 //! commits and votes (`specs/Commits.antt`), and the whole of it (`specs/Servers.antt`): where it is told of ends
 //! (`specs/Telling.antt`), where it stops and starts, at each message that is for it, which may bring ends too
-//! (`specs/Serving.antt`), and at each that its node takes (`specs/Handling.antt`). Of a coordinator its tree is seen (`specs/Actions.antt`), how its actions begin and end
-//! (`specs/Begins.antt`, `specs/Acting.antt`, `specs/Whole.antt`); what its roots keep (`specs/Roots.antt`), how its calls go (`specs/Calling.antt`),
-//! and what their requests show (`specs/Asks.antt`). Lines of includes, and what a commit's requests show, aren't seen yet.
+//! (`specs/Serving.antt`), and at each that its node takes (`specs/Handling.antt`).
+//! Of a coordinator its tree is seen (`specs/Actions.antt`), how its actions begin and end (`specs/Begins.antt`, `specs/Acting.antt`,
+//! `specs/Whole.antt`), one by one or many at once, as by an abort, a stop and a restart (`specs/Stops.antt`); what its roots keep
+//! (`specs/Roots.antt`), how its calls go (`specs/Calling.antt`) and its includes (`specs/Including.antt`), how the commit of a top goes
+//! and what it asks (`specs/Plans.antt`), and what requests show for ever (`specs/Asks.antt`).
 #![tactic(auto)]
 
 mod coord;
