@@ -63,8 +63,8 @@ quiet_query from u intents c = by (is_open u c.tree || is_deferred u intents fro
 pub query_so : (e : Coord) (from : ℕ) (u : Uid) (intents : List (Uid × Intent)) (c : Coord) → AllSo e (answer_query from u intents c)
 query_so e from u intents c = quiet_so e (answer_query from u intents c) (quiet_query from u intents c)
 
-pub acked_so : (from : ℕ) (u : Uid) (intents : List (Uid × Intent)) (c : Coord) → AllSo (acked from u intents c).part (acked from u intents c).outs
-acked_so from u intents c = quiet_so (acked from u intents c).part (acked from u intents c).outs (by (at_uid u c.telling))
+pub quiet_acked : (from : ℕ) (u : Uid) (intents : List (Uid × Intent)) (c : Coord) → AllQuiet (acked from u intents c).outs
+quiet_acked from u intents c = by (at_uid u c.telling)
   where
     gone : (o : Option Intent) → AllQuiet (tolds_let_go u (without_uid u intents) c o)
     gone None = tt
@@ -86,6 +86,9 @@ acked_so from u intents c = quiet_so (acked from u intents c).part (acked from u
         one true = left i (without_number from i.nodes)
         one false = tt
 
+pub acked_so : (from : ℕ) (u : Uid) (intents : List (Uid × Intent)) (c : Coord) → AllSo (acked from u intents c).part (acked from u intents c).outs
+acked_so from u intents c = quiet_so (acked from u intents c).part (acked from u intents c).outs (quiet_acked from u intents c)
+
 pub quiet_again : (telling : List (Uid × Intent)) → AllQuiet (tolds_again telling)
 quiet_again telling = quiet_flat (λ (z : Uid × Intent). tell_all z.1.root true ((z.0, ending.Commit) ∷ []) z.1.nodes) telling (λ z. quiet_tells (let i = z.1 in i.root) true ((z.0, ending.Commit) ∷ []) (let i = z.1 in i.nodes))
 
@@ -97,7 +100,7 @@ begins_so l k parent c = (tt, tt)
 
 -- ---- answers and inputs
 
-quiet_all : (us : List Uid) (c : Coord) → AllQuiet (all_aborted us c).outs
+pub quiet_all : (us : List Uid) (c : Coord) → AllQuiet (all_aborted us c).outs
 quiet_all [] c = tt
 quiet_all (u ∷ us) c = quiet_both (says u (λ l. body.Aborted l cause.Asked) c) (all_aborted us (ended u ending.Abort c)).outs (quiet_says u (λ l. body.Aborted l cause.Asked) c) (quiet_all us (ended u ending.Abort c))
 

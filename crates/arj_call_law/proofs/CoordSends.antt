@@ -256,7 +256,7 @@ pub step_call_so : (s : Steps) (step : CallStep) (t : Coord) (d : Doing) → doi
 step_call_so s (On at) t d found = goes_so (record s { req = s.req + 1; at = at }) t d found
 step_call_so s (Ended e) t d found = quiet_so (step_call s (Ended e) t).part (says (actor s.path) (end_line s.x s.goal e) t) (quiet_says (actor s.path) (end_line s.x s.goal e) t)
 
-quiet_marks : (u : Uid) (marks : List (ℕ × ℕ)) (c : Coord) → AllQuiet (mark_lines u marks c)
+pub quiet_marks : (u : Uid) (marks : List (ℕ × ℕ)) (c : Coord) → AllQuiet (mark_lines u marks c)
 quiet_marks u marks c = quiet_flat (λ (m : ℕ × ℕ). says u (λ l. body.Excluded l m.0 m.1) c) marks (λ m. quiet_says u (λ l. body.Excluded l m.0 m.1) c)
 
 pub quiet_gaveup : (u : Uid) (nodes : List ℕ) (c : Coord) → AllQuiet (gaveup_lines u nodes c)
@@ -265,7 +265,7 @@ quiet_gaveup u nodes c = quiet_flat (λ n. says u (λ l. body.GaveUp l n) c) nod
 pub quiet_ends : (u : Uid) (e : End) (f : Label → Body) (intents : List (Uid × Intent)) (c : Coord) → AllQuiet (ends_with u e f intents c).outs
 quiet_ends u e f intents c = quiet_both (says u f c) (tolds_of intents (ended u e c) u) (quiet_says u f c) (quiet_tolds intents (ended u e c) u)
 
-quiet_decide : (p : Plan) (c : Coord) → AllQuiet (decide p c).outs
+pub quiet_decide : (p : Plan) (c : Coord) → AllQuiet (decide p c).outs
 quiet_decide p c = quiet_both (record_work (actor p.path) p ++ says (actor p.path) body.Committed c) (map (decided_told (root_of p.path) (actor p.path) p) p.sent) (quiet_both (record_work (actor p.path) p) (says (actor p.path) body.Committed c) (work (has_record p)) (quiet_says (actor p.path) body.Committed c)) (tolds p.sent)
   where
     work : (b : Bool) → AllQuiet (cond b (Do (PutIntent (actor p.path) (record { root = root_of p.path; nodes = participants p })) ∷ []) [])

@@ -23,7 +23,7 @@ none_is : {A : Type 0} {x : A} → None ≡ Some x → ⊥
 none_is {A} {x} is = let no_way : ◌≡◌ {A = Option A} None (Some x) = is in cc
 
 -- the lines of both
-lines_both : (ls ms : List Line) → bindings_made (ls ++ ms) ≡ bindings_made ls + bindings_made ms
+pub lines_both : (ls ms : List Line) → bindings_made (ls ++ ms) ≡ bindings_made ls + bindings_made ms
 lines_both [] ms = none (bindings_made ms)
   where
     none : (n : ℕ) → n ≡ 0 + n

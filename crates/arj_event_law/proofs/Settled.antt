@@ -32,7 +32,7 @@ delivered j w f o =
     one : (k : ℕ) → 1 + k ≡ suc k
     one k = grind arith
 
-uses_up : (j : ℕ) (w : World) → lowest_from 1 w.frames ≡ Some j → UsesUp w (deliver j w)
+pub uses_up : (j : ℕ) (w : World) → lowest_from 1 w.frames ≡ Some j → UsesUp w (deliver j w)
 uses_up j w is =
     let o = lowest_open 1 j w.frames is in
     let there : at_place j w.frames ≡ Some o.frame = subst (λ k. at_place k w.frames ≡ Some o.frame) (sym (o.is ∙ one o.place)) o.there in
