@@ -274,7 +274,7 @@ module _ (A : Office) (c : Named A) (t : ℕ) (may : MayConfirm A t) (present : 
 
   -- a top with a new entry
   pub enter_locked : S.entry_pend ≡ None → HasPart (S.plan t) → (s : ℕ) × (has s (new_list S t) ≡ true)
-      → ((w : Packed) → (S.plan t).writes ≡ Some w → ((s : ℕ) → has s S.entry.content ≡ true → S.got t s ≡ false) → w.version ≡ (last S).version + 1) → undecided S t ≡ true → Locked S t
+      → (undecided S t ≡ true → (w : Packed) (s : ℕ) → (S.plan t).writes ≡ Some w → has s (S.plan t).joins ≡ true → w.version ≡ (S.plan t).loaded.version + 1) → undecided S t ≡ true → Locked S t
   enter_locked free part stores corner u = locked_from part u alone next
     where
       is_last : S.entry ≡ last_entry S
@@ -286,8 +286,16 @@ module _ (A : Office) (c : Named A) (t : ℕ) (may : MayConfirm A t) (present : 
       next : (w : Packed) → (S.plan t).writes ≡ Some w → w.version ≡ (last S).version + 1
       next w e = ⊎_elim
           (λ (x : (s : ℕ) × (has s S.entry.content ≡ true) × (S.got t s ≡ true)). next_by_store u x.0 w e (listed x.0 x.1) x.2)
-          (λ (none : (s : ℕ) → has s S.entry.content ≡ true → S.got t s ≡ false). corner w e none)
+          (λ (none : (s : ℕ) → has s S.entry.content ≡ true → S.got t s ≡ false). by none (list_from (S.plan t) (S.got t) S.entry.content stores.0 stores.1))
           (find_true (S.got t) S.entry.content)
+        where
+          -- a store of the new list that the entry hasn't is included, with the last state
+          by : ((s : ℕ) → has s S.entry.content ≡ true → S.got t s ≡ false) → ((has stores.0 S.entry.content ≡ true) × (target (S.plan t) stores.0 ≡ true → S.got t stores.0 ≡ true)) ⊎ ((has stores.0 (S.plan t).joins ≡ true) × (S.got t stores.0 ≡ true)) → w.version ≡ (last S).version + 1
+          by none (inr y) = corner u w stores.0 e y.0 ∙ ap (λ (g : Packed). g.version + 1) (loaded part u stores.0 y.0).0
+          by none (inl y) = absurd (⊎_elim
+              (λ (g : target (S.plan t) stores.0 ≡ true). never (y.1 g) (none stores.0 y.0))
+              (λ (z : IsLeaving S.root (decided S) S.entry_pend (S.root t) stores.0). never_some z.there free)
+              (wide part u stores.0 (ap is_some e) (inl y.0)))
 
       alone : ((s : ℕ) → has s (S.plan t).joins ≡ false) → (z : ℕ) → S.conf z ≡ true → undecided S z ≡ true → is_some (S.plan z).writes ≡ true → ⊥
       alone none z cz uz wz = from (list_from (S.plan t) (S.got t) S.entry.content stores.0 stores.1)

@@ -56,7 +56,7 @@ excluding_runs = (
                         (
                           record { top = refl; free = λ h n e less. grind (arith, nat_tests) },
                           (
-                            record { confirm = record { asked = inl refl; new = refl; untold = (refl, refl); unlisted = λ s j. cc; exclude = λ s t g l. (1, refl, le_refl 1) }; present = λ i h. grind (arith, nat_tests); other = refl; stores = (2, refl); corner = λ w e none. some_that e (λ x. x.version ≡ 1) refl },
+                            record { confirm = record { asked = inl refl; new = refl; untold = (refl, refl); unlisted = λ s j. cc; exclude = λ s t g l. (1, refl, le_refl 1) }; present = λ i h. grind (arith, nat_tests); other = refl; stores = (2, refl); corner = λ u w s e j. cc },
                             (
                               ((inl refl, λ u. inl refl), tt),
                               tt,
@@ -212,7 +212,7 @@ including_runs = (
                   (
                     (refl, tt),
                     (
-                      record { confirm = record { asked = inl refl; new = refl; untold = (refl, refl); unlisted = λ s j. grind (arith, nat_tests); exclude = λ s t g l. (2, refl, omega arith) }; present = λ i h. grind (arith, nat_tests); other = refl; stores = (3, refl); corner = λ w e none. cc },
+                      record { confirm = record { asked = inl refl; new = refl; untold = (refl, refl); unlisted = λ s j. grind (arith, nat_tests); exclude = λ s t g l. (2, refl, omega arith) }; present = λ i h. grind (arith, nat_tests); other = refl; stores = (3, refl); corner = λ u w s e j. cc },
                       (
                         ((inl refl, λ u. inl refl), tt),
                         (

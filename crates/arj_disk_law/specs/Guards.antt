@@ -4,7 +4,7 @@ use Rattle.arj_disk_law.specs.Effects.{Effect, Begin, Take, Seal, Intend, Decide
 use Rattle.arj_disk_law.specs.Laws.{IsBased}
 use Rattle.arj_disk_law.specs.Messages.{Message, Prepare, Prepared, Confirm, Confirmed, ToldCommit, ToldBare, ToldAbort, Acked, ToldSerial}
 use Rattle.arj_disk_law.specs.Names.{Names, Office, Kept, Bound, Loaded, Act, Do, Commit, CommitBare, Read, Write, Exclude, Lower, Unbind, EndTop, EndSerial, Restart, Hear, KeepList, AnswerLoad, acted, load_of}
-use Rattle.arj_disk_law.specs.State.{State, Packed, Plan, Hold, Idle, naming, is_gone, undecided, target, last}
+use Rattle.arj_disk_law.specs.State.{State, Packed, Plan, Hold, Idle, naming, is_gone, undecided, target}
 use Rattle.arj_disk_law.specs.Words.{has, In}
 
 -- the holder has a lock of at least this mode
@@ -73,13 +73,14 @@ pub record MayPass (A : Office) (t : ℕ) : Type 0 where
   pub none : (s : ℕ) → A.world.disk.got t s ≡ false
   pub idle : NoneIsListed A.world.disk t
 
--- The last condition is what the servers give where the top wrote and includes a store, and no store of the entry said Yes.
+-- The last condition is what the servers give where the top wrote and includes a store: while its outcome is open, its state is one
+-- version above the one that it loaded.
 pub record MayEnter (A : Office) (t : ℕ) : Type 0 where
   pub confirm : MayConfirm A t
   pub present : IsPresent A.world.disk A.names t
   pub other : bytes_eq (new_list A.world.disk t) A.world.disk.entry.content ≡ false
   pub stores : (s : ℕ) × (has s (new_list A.world.disk t) ≡ true)
-  pub corner : (w : Packed) → (A.world.disk.plan t).writes ≡ Some w → ((s : ℕ) → has s A.world.disk.entry.content ≡ true → A.world.disk.got t s ≡ false) → w.version ≡ (last A.world.disk).version + 1
+  pub corner : undecided A.world.disk t ≡ true → (w : Packed) (s : ℕ) → (A.world.disk.plan t).writes ≡ Some w → has s (A.world.disk.plan t).joins ≡ true → w.version ≡ (A.world.disk.plan t).loaded.version + 1
 
 -- who acknowledges at the naming node was told there
 abbrev pub IsToldFirst : Names → Message → Type 0

@@ -223,7 +223,7 @@ begins_plainly t (mail.ToldAbort z m) is = is
 begins_plainly t (mail.Acked z m) is = is
 begins_plainly t (mail.ToldSerial r m) is = is
 
-begin_of : (t : ℕ) (a : machine.Effect) → is_only_of (only_begins t) a ≡ true → (is_only_of (λ n. false) a ≡ true) ⊎ ((p : Plan) × (a ≡ machine.Begin t p))
+pub begin_of : (t : ℕ) (a : machine.Effect) → is_only_of (only_begins t) a ≡ true → (is_only_of (λ n. false) a ≡ true) ⊎ ((p : Plan) × (a ≡ machine.Begin t p))
 begin_of t (machine.Begin z p) is = inr (p, ap (λ y. machine.Begin y p) (test_is z t is))
 begin_of t (machine.Take z s) is = inl refl
 begin_of t (machine.Seal z) is = inl refl
@@ -294,7 +294,7 @@ opens_none W (machine.Forget r h) can is = record { first = refl; opened = λ z 
 opens_none W (machine.Send m) can is = record { first = refl; opened = λ z u. u; idle = λ z i. i }
 
 -- a walk without work is over at its end alone
-no_work : (e k : ℕ) (M : Seen) (P R : Seen → Type 0) (E F : Disk → Seen → Type 0) (d : Disk) → ((L : Seen) → L.nodes ≡ M.nodes → E d L → F d L) → (es : List Effect) → AreAll is_no_work es → (N : Seen) → N.nodes ≡ M.nodes → Walks P e k es E d N → Walks R e k es F d N
+pub no_work : (e k : ℕ) (M : Seen) (P R : Seen → Type 0) (E F : Disk → Seen → Type 0) (d : Disk) → ((L : Seen) → L.nodes ≡ M.nodes → E d L → F d L) → (es : List Effect) → AreAll is_no_work es → (N : Seen) → N.nodes ≡ M.nodes → Walks P e k es E d N → Walks R e k es F d N
 no_work e k M P R E F d end [] all N same walk = end N same walk
 no_work e k M P R E F d end (Say b ∷ es) all N same walk = no_work e k M P R E F d end es all (said e (b ∷ []) N) same walk
 no_work e k M P R E F d end (Send to m ∷ es) all N same walk = λ more quiet. no_work e k M P R E F d end es all (said e more (posted (record { from = k; to = to; message = m }) N)) same (walk more quiet)

@@ -38,7 +38,7 @@ use Rattle.arj_disk_law.proofs.Acts.{runs_keep}
 use Rattle.arj_disk_law.proofs.Base.{falls_to, never, or_cases, or_left, or_right, put_cases, put_same, test_is, test_same}
 use Rattle.arj_disk_view_law.specs.Sees.{Kinds, IsNested}
 use Rattle.arj_disk_view_law.proofs.Keys as keys
-use Rattle.arj_names_view_law.specs.Calls.{ExcludesAreActs, HasExclude, MayNote, NotesAreActs, OnlyLocks}
+use Rattle.arj_names_view_law.specs.Calls.{ExcludesAreActs, HasExclude, IsUnrecorded, MayNote, NotesAreActs, OnlyLocks}
 use Rattle.arj_names_view_law.specs.Memory.{IsAlone, IsBehind, IsOfTop, NamesGo, SeesNamed, SeesNaming, SeesRows, lock_in}
 use Rattle.arj_names_view_law.proofs.Binding.{locked_named, may, only_same, other_object, path_untold, with_object}
 use Rattle.arj_names_view_law.proofs.Locks.{RowOf, row_behind}
@@ -111,7 +111,8 @@ module _ (x : ℕ) (tops : Kinds) (top : Uid) (rows : List Row) (root : ℕ → 
 -- ---- a Record of the object
 
 module _ (x : ℕ) (tops : Kinds) (p : Path) (n : Naming) (A : Office) (o : Named) (c : names.Named A) (sees : SeesNaming x tops n A.world.disk A.names) (so : SeesNamed x tops o A.world.disk A.names) (of : IsOfTop tops A.world.disk p)
-    (untold : IsUntold A.world.disk A.names (uid_number (top_of p))) (i : ℕ) (note_may : (A.names.had (uid_number (top_of p)) A.names.inc ≡ true) × (A.names.asked (uid_number (top_of p)) ≡ false → IsNot A.world.disk.entry_pend (uid_number (top_of p)))) (r : RecordedReply) where
+    (untold : IsUntold A.world.disk A.names (uid_number (top_of p))) (i : ℕ) (found : at_number x n.objects ≡ Some o)
+    (note_may : IsUnrecorded x (top_of p) n → (A.names.had (uid_number (top_of p)) A.names.inc ≡ true) × (A.names.asked (uid_number (top_of p)) ≡ false → IsNot A.world.disk.entry_pend (uid_number (top_of p)))) (r : RecordedReply) where
   abbrev u : ℕ
   u = uid_number (top_of p)
 
@@ -168,7 +169,7 @@ module _ (x : ℕ) (tops : Kinds) (p : Path) (n : Naming) (A : Office) (o : Name
     goes : (outs : List Effect) → Goal (record { part = lowered x (top_of p) (in_use (top_of p) m i o); outs = outs; reply = Some recorded.Yes })
     goes outs is = record {
       acts = machine.Lower u ∷ [];
-      may = (record { held = write; had = note_may.0; clear = note_may.1 }, tt);
+      may = (let q = note_may (o, m, found, there, un) in record { held = write; had = q.0; clear = q.1 }, tt);
       there = (
         record { world = refl; inc = refl; told = refl; given = refl; confd = refl; had = refl; kept = refl; answers = λ a j. j },
         with_object x tops n (lowered x (top_of p) (in_use (top_of p) m i o)) n.count A.world.disk A.names (let B = acted A (machine.Lower u) in B.names) sees refl refl refl (subst (Sees (N.asked u)) (sym lowered_is) (seen (N.asked u))),
@@ -195,13 +196,13 @@ module _ (x : ℕ) (tops : Kinds) (p : Path) (n : Naming) (A : Office) (o : Name
 
 module _ (x : ℕ) (tops : Kinds) (p : Path) (b : Binding) (i g : ℕ) (n : Naming) (A : Office) (r : RecordedReply) (c : names.Named A) (sees : SeesNaming x tops n A.world.disk A.names) (of : IsOfTop tops A.world.disk p) where
   abbrev Note_goal : ℕ → Served Naming RecordedReply → Type 0
-  Note_goal y s = MayNote x y (uid_number (top_of p)) g A → s.reply ≡ Some r → NamesGo A (λ B. OnlyLocks A B × SeesNaming x tops s.part B.world.disk B.names)
+  Note_goal y s = MayNote x y (top_of p) g n A → s.reply ≡ Some r → NamesGo A (λ B. OnlyLocks A B × SeesNaming x tops s.part B.world.disk B.names)
 
   of_object : is_over p n ≡ false → g ≡ n.inc → (y : ℕ) (q : Option Named) → at_number y n.objects ≡ q → Note_goal y (on_named y (note_named y (top_of p) b i) n q)
   of_object off now y None e = λ note_may is. absurd (cc is)
   of_object off now y (Some o) e = ⊎_elim
       (λ (same : y ≡ x). subst (λ z. Note_goal z (on_named z (note_named z (top_of p) b i) n (Some o))) (sym same)
-      (λ note_may. noted x tops p n A o c sees (sees.object o (ap (λ z. at_number z n.objects) (sym same) ∙ e)) of (path_untold x tops n A.world.disk A.names p sees of off) i (note_may refl (now ∙ sym sees.inc_is)) r b))
+      (λ note_may. noted x tops p n A o c sees (sees.object o (ap (λ z. at_number z n.objects) (sym same) ∙ e)) of (path_untold x tops n A.world.disk A.names p sees of off) i (ap (λ z. at_number z n.objects) (sym same) ∙ e) (note_may refl (now ∙ sym sees.inc_is)) r b))
       (λ other note_may is. record { acts = []; may = tt; there = (only_same A, other_object x y tops n (let s = note_named y (top_of p) b i o in s.part) n.count A.world.disk A.names other.0 sees) })
       (one_or_two y x)
 

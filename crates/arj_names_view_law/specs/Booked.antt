@@ -10,7 +10,7 @@ use Rattle.arj_disk_law.specs.Effects.{Effect, Allowed, after}
 use Rattle.arj_disk_law.specs.Guards.{HasPart}
 use Rattle.arj_disk_law.specs.Named.{Named}
 use Rattle.arj_disk_law.specs.Names.{Names, Office, Answer}
-use Rattle.arj_disk_law.specs.State.{State, Packed, last}
+use Rattle.arj_disk_law.specs.State.{State, Packed, undecided}
 use Rattle.arj_disk_law.specs.Words.{has, In}
 use Rattle.arj_disk_view_law.specs.Confirming.{IsBooked, IsConfirmation, IsNewConfirm}
 use Rattle.arj_disk_view_law.specs.Entries.{SeesEntry}
@@ -27,9 +27,10 @@ HasGrant x i (g ∷ gs) = (g ≡ (x, i)) ⊎ HasGrant x i gs
 abbrev pub NamesGrants : ℕ → State → Names → ℕ → Grants → Type 0
 NamesGrants x S N t grants = HasPart (S.plan t) → (i : ℕ) → (N.had t i ≡ true) ⊎ (N.had (S.root t) i ≡ true) → (g : ℕ) × HasGrant x g grants × (g ≤ i)
 
--- What the servers' locks give: where a top wrote and no store of the entry said Yes, its version is the next one.
+-- What the servers' locks give: where a top wrote and includes a store, its state is one version above the one that it loaded, while
+-- its outcome is open.
 abbrev pub IsNext : State → ℕ → Type 0
-IsNext S t = (w : Packed) → (S.plan t).writes ≡ Some w → ((s : ℕ) → has s S.entry.content ≡ true → S.got t s ≡ false) → w.version ≡ (last S).version + 1
+IsNext S t = undecided S t ≡ true → (w : Packed) (s : ℕ) → (S.plan t).writes ≡ Some w → has s (S.plan t).joins ≡ true → w.version ≡ (S.plan t).loaded.version + 1
 
 abbrev pub NewConfirmsAreBooked : Type 0
 NewConfirmsAreBooked = (x : ℕ) (tops : Kinds) (p : Path) (grants : Grants) (excluded included : Marks) (d : Pair) (n : Naming) (A : Office) → Named A → SeesNaming x tops n A.world.disk A.names → SeesEntry x d A.world.disk
