@@ -12,7 +12,7 @@ use Rattle.arj_protocol.specs.Tree.{root_of, is_serial}
 use Rattle.arj_protocol.proofs.Numbers.{number_tells}
 use Rattle.arj_part_law.specs.Actions.{Action, AreBegun, IsNew, Stands, act_of}
 use Rattle.arj_part_law.proofs.Begun.{on_own, path_some}
-use Rattle.arj_disk_law.proofs.Base.{bool_cases, never, or_cases, or_left, test_is, test_not, test_same}
+use Rattle.arj_disk_law.proofs.Base.{bool_cases, falls_to, never, or_cases, or_left, test_is, test_not, test_same}
 use Rattle.arj_disk_view_law.specs.Knows.{IsOfKind}
 use Rattle.arj_disk_run_law.specs.Kinds.{Agrees, AreOfOneNode, is_of_kind, is_top_kind, kinds_of, root_in, root_number}
 
@@ -174,10 +174,17 @@ module _ (acts : List Action) (begun : AreBegun acts) (home : AreOfOneNode acts)
           ⊎_elim (λ same. root ∙ ap uid_number (sym same) ∙ r.2)
           (λ other. absurd (never (ap (is_of_kind is_serial acts) root ∙ (serial_root (act_of r.0) (root_of t.it.path) t refl other).1) none)) (uid_cases (act_of r.0) (root_of t.it.path))
 
+  -- a top is no serializing action
+  never_both : (z : ℕ) → is_of_kind is_top_kind acts z ≡ true → is_of_kind is_serial acts z ≡ false
+  never_both z on =
+      let r = kind_from is_top_kind acts z on in
+      ap (is_of_kind is_serial acts) (sym r.2) ∙ kind_in is_serial acts begun r.0 r.1 ∙ falls_to (is_serial (let a = r.0 in a.kind)) (λ serial. never r.3 (no_top (let a = r.0 in a.kind) serial))
+
   pub kinds_agree : Agrees (kinds_of acts) acts
   kinds_agree = record {
     kinds = record {
       named = λ z on. let r = kind_from is_top_kind acts z on in (act_of r.0, r.2);
+      apart = never_both;
       serial = λ w r top root other. let t = top_of w top in serial_root w r t (number_tells (root_of t.it.path) r (sym t.root ∙ root)) other;
       own = λ w r top root. own w r (top_of w top) root;
       rooted = λ w top. let t = top_of w top in (root_of t.it.path, t.root);

@@ -174,7 +174,7 @@ actions_commit x tops e k d t act b q M kinds knows found unended at_work idle_n
 
 module _ (x : ℕ) (tops : Kinds) (e k : ℕ) (d : Disk) (t : Parts) (from : ℕ) (act : Uid) (q : Doing) (M : Seen) (kinds : KnowsKinds tops) (knows : KnowsCoord tops d.intents t.coord) (at_work : doing_of act t.coord ≡ Some q) (W : World) (sees : SeesDisks x tops W (up k d t M)) where
   -- a commit's top is aborted
-  aborts : (m : Machine) → KnowsMachine tops t.coord act m → (why : Cause) → DidIsWalked x tops e k d t (aborts_with act why d.intents t.coord) M
+  pub aborts : (m : Machine) → KnowsMachine tops t.coord act m → (why : Cause) → DidIsWalked x tops e k d t (aborts_with act why d.intents t.coord) M
   aborts m h why = actions_end x tops e k d t act h.branch ending.Abort (λ l. body.Aborted l why) M kinds knows h.found h.unended (λ s. absurd (top_not_serial tops act h.branch.kind h.branch.path (knows.kind act h.branch h.found) h.top s)) W sees
 
   voted_walk : (p : commit.Plan) (left : List ℕ) → q.now ≡ Committing (Voting p left) → KnowsMachine tops t.coord act (Voting p left) → may_note tops.walk (Begins (uid_number act)) ≡ true → (states : List ObjectState) (rest : List ℕ)

@@ -16,7 +16,7 @@ module _ (tops : Kinds) (o : Option Walk) where
   On = record tops { walk = o }
 
   pub kinds_on : KnowsKinds tops → KnowsKinds On
-  kinds_on n = record { named = n.named; serial = n.serial; own = n.own; rooted = n.rooted; alone = n.alone; plain = n.plain; idem = n.idem }
+  kinds_on n = record { named = n.named; apart = n.apart; serial = n.serial; own = n.own; rooted = n.rooted; alone = n.alone; plain = n.plain; idem = n.idem }
 
   pub kind_on : (u : Uid) (k : Kind) (p : Path) → IsOfKind tops u k p → IsOfKind On u k p
   kind_on u kind.Nested p h = h

@@ -46,21 +46,21 @@ use Rattle.arj_disk_law.specs.Guards.{Acks, Begins}
 
 -- ---- inputs about actions
 
-no_reason : (n : ℕ) (b : Bool) (rs : List (ℕ × Bool)) → first_reason ((n, b) ∷ rs) ≡ None → (b ≡ false) × (first_reason rs ≡ None)
+pub no_reason : (n : ℕ) (b : Bool) (rs : List (ℕ × Bool)) → first_reason ((n, b) ∷ rs) ≡ None → (b ≡ false) × (first_reason rs ≡ None)
 no_reason n true rs h = absurd (cc h)
 no_reason n false rs h = (refl, h)
 
-unended : (o : Option End) → is_some o ≡ false → o ≡ None
+pub unended : (o : Option End) → is_some o ≡ false → o ≡ None
 unended None h = refl
 unended (Some how) h = absurd (cc h)
 
-idle_is : (now : Now) → is_waiting_now now ≡ false → now ≡ Idle
+pub idle_is : (now : Now) → is_waiting_now now ≡ false → now ≡ Idle
 idle_is Idle h = refl
 idle_is (Calling s) h = absurd (cc h)
 idle_is (Committing m) h = absurd (cc h)
 
 -- none of a path waits, so its last doesn't
-last_not : (f : Uid → Bool) (us : List Uid) (r : Uid) → is_on us r ≡ true → list_any f us ≡ false → f (last_uid us) ≡ false
+pub last_not : (f : Uid → Bool) (us : List Uid) (r : Uid) → is_on us r ≡ true → list_any f us ≡ false → f (last_uid us) ≡ false
 last_not f [] r on none = absurd (cc on)
 last_not f (u ∷ []) r on none = (or_parts (f u) false none).0
 last_not f (u ∷ w ∷ us) r on none = last_not f (w ∷ us) w (ap (λ b. b || is_on us w) (uid_same w)) (or_parts (f u) (list_any f (w ∷ us)) none).1
@@ -72,7 +72,7 @@ module _ (hd : Header) (x : ℕ) (tops : Kinds) (e k : ℕ) (d : Disk) (t : Part
     is : o ≡ Some branch
     found : branch_of (actor branch.path) t.coord.tree ≡ Some branch
 
-  placed : (o : Option ℕ) (b : Branch) → branch_numbered t.coord o ≡ Some b → branch_of (actor b.path) t.coord.tree ≡ Some b
+  pub placed : (o : Option ℕ) (b : Branch) → branch_numbered t.coord o ≡ Some b → branch_of (actor b.path) t.coord.tree ≡ Some b
   placed None b is = absurd (cc is)
   placed (Some n) b is =
       let u : Uid = record { node = t.coord.tree.node; inc = t.coord.tree.inc; num = n } in
@@ -80,7 +80,7 @@ module _ (hd : Header) (x : ℕ) (tops : Kinds) (e k : ℕ) (d : Disk) (t : Part
       ap (λ a. branch_of a t.coord.tree) (knows.path u b there) ∙ there
 
   -- it waits for nothing
-  waits_not : (b : Branch) (q : Doing) → branch_of (actor b.path) t.coord.tree ≡ Some b → doing_of (actor b.path) t.coord ≡ Some q → waits_above b t.coord ≡ false → q.now ≡ Idle
+  pub waits_not : (b : Branch) (q : Doing) → branch_of (actor b.path) t.coord.tree ≡ Some b → doing_of (actor b.path) t.coord ≡ Some q → waits_above b t.coord ≡ false → q.now ≡ Idle
   waits_not b q found at_work none = idle_is q.now (sym (ap is_waiting at_work) ∙ last_not (waits t.coord) (uids_of b.path) (root_of b.path) (knows.headed (actor b.path) b found) none)
 
   by_label : (reasons : Branch → Coord → List (ℕ × Bool)) (f : Branch → Did Coord) (l : Label) → refused_by reasons t.coord (branch_named l t.coord) ≡ None

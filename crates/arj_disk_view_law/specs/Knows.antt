@@ -16,10 +16,11 @@ use Rattle.arj_disk_view_law.specs.Asking.{IsUnanswered}
 use Rattle.arj_disk_view_law.specs.Plans.{IsTidy}
 use Rattle.arj_disk_view_law.specs.Sees.{Kinds, AreOneChange}
 
--- Tops are actions, each of its root's node and incarnation; the root of a constituent is a serializing action, which is its own, as
--- is whoever has no such root.
+-- Tops are actions, each of its root's node and incarnation, and are no serializing ones; the root of a constituent is a serializing
+-- action, which is its own, as is whoever has no such root.
 pub record KnowsKinds (tops : Kinds) : Type 0 where
   pub named : (z : ℕ) → tops.is_top z ≡ true → (w : Uid) × (uid_number w ≡ z)
+  pub apart : (z : ℕ) → tops.is_top z ≡ true → tops.is_serial z ≡ false
   pub serial : (w r : Uid) → tops.is_top (uid_number w) ≡ true → tops.root (uid_number w) ≡ uid_number r → w ≢ r → (tops.is_top (uid_number r) ≡ false) × (tops.is_serial (uid_number r) ≡ true)
   pub own : (w r : Uid) → tops.is_top (uid_number w) ≡ true → tops.root (uid_number w) ≡ uid_number r → (w.node ≡ r.node) × (w.inc ≡ r.inc)
   pub rooted : (w : Uid) → tops.is_top (uid_number w) ≡ true → (r : Uid) × (tops.root (uid_number w) ≡ uid_number r)

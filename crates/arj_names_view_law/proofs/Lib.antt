@@ -1,4 +1,5 @@
 pub mod Binding
+pub mod CommitBoth
 pub mod ConfirmBoth
 pub mod CoordBoth
 pub mod EndActs
@@ -19,4 +20,5 @@ pub mod RestartBoth
 pub mod RootsBoth
 pub mod StepsBoth
 pub mod StepsFollowed
+pub mod StepsKept
 pub mod ToldBoth

@@ -3,6 +3,7 @@ pub mod Booked
 pub mod Both
 pub mod Calls
 pub mod Grants
+pub mod Handlers
 pub mod Lists
 pub mod Loads
 pub mod Memory

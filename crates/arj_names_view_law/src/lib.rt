@@ -14,6 +14,7 @@ mod booked;
 mod both;
 mod calls;
 mod coordinators;
+mod handlers;
 mod loads;
 mod restarts;
 
@@ -22,5 +23,6 @@ pub use booked::new_confirms_are_booked;
 pub use both::{roots_keep_their_part, walks_keep_both};
 pub use calls::{ends_are_acts, locks_are_acts};
 pub use coordinators::{grants_are_seen, lists_are_seen};
+pub use handlers::handlers_keep_both;
 pub use loads::loads_are_seen;
 pub use restarts::restarts_are_acts;

@@ -1,0 +1,8 @@
+use Rattle.arj_names_view_law.proofs.StepsKept.{actions_keep_both, ticks_keep_both}
+use Rattle.arj_names_view_law.proofs.handlers.handlers_keep_both.Goals as goal
+
+pub returns-clause-actions : goal.returns-clause-actions
+returns-clause-actions c = actions_keep_both
+
+pub returns-clause-ticks : goal.returns-clause-ticks
+returns-clause-ticks c = ticks_keep_both

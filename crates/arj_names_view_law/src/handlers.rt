@@ -1,0 +1,8 @@
+// Whole handlers, with both halves.
+ghost use Rattle.arj_names_view_law.specs.Handlers.{ActionsKeepBoth, TicksKeepBoth};
+
+/// Both halves are kept where an action begins, and where a node ticks. It does nothing when it runs.
+pub fn handlers_keep_both()
+    ensures actions { ActionsKeepBoth }
+    ensures ticks { TicksKeepBoth }
+{}
