@@ -102,6 +102,13 @@ says_work u f c = by (doing_of u c)
     by None = refl
     by (Some q) = refl
 
+pub says_say : (u : Uid) (f : Label → Body) (c : Coord) → AreAll is_say (says u f c)
+says_say u f c = by (doing_of u c)
+  where
+    by : (o : Option Doing) → AreAll is_say (say_for f o)
+    by None = refl
+    by (Some q) = refl
+
 marks_work : (u : Uid) (marks : List (ℕ × ℕ)) (c : Coord) → AreAll is_no_work (mark_lines u marks c)
 marks_work u [] c = refl
 marks_work u (m ∷ ms) c = all_both is_no_work (says u (λ l. body.Excluded l m.0 m.1) c) (mark_lines u ms c) (says_work u (λ l. body.Excluded l m.0 m.1) c) (marks_work u ms c)
@@ -177,12 +184,13 @@ module _ (x : ℕ) (tops : Kinds) (unwalked : tops.walk ≡ None) (e k : ℕ) (d
       by (Preparing p left) is = begins (Preparing p left) p refl is refl (λ W N s. (preparing_of x tops W.disk (uid_number u) b.kind q.now p left top is (works W N s)).plan)
       by (Confirming p) is = begins (Confirming p) p refl is refl (λ W N s. (confirming_of x tops W.disk (uid_number u) b.kind q.now p top is (works W N s)).plan)
 
-  abbrev Went : Uid → List (ℕ × ℕ) → List (Uid × Intent) → CommitStep → Type 0
-  Went u marks intents s = let did = moved_commit u (record { step = s; marks = marks }) intents t.coord in MayGoOn x A did.part → DisksWalk (only_begins (uid_number u)) x tops A e k did.outs (with_coord t did.part) d M → BothWalk x tops A e k did.outs (with_coord t did.part) d M
+  abbrev Went : List Effect → Uid → List (ℕ × ℕ) → List (Uid × Intent) → CommitStep → Type 0
+  Went first u marks intents s = let did = moved_commit u (record { step = s; marks = marks }) intents t.coord in MayGoOn x A did.part → DisksWalk (only_begins (uid_number u)) x tops A e k (first ++ did.outs) (with_coord t did.part) d M → BothWalk x tops A e k (first ++ did.outs) (with_coord t did.part) d M
 
-  -- and that takes such a step
-  pub going_both : (u : Uid) (b : Branch) (q : Doing) (step : CommitStep) (marks : List (ℕ × ℕ)) (intents : List (Uid × Intent)) → branch_of u t.coord.tree ≡ Some b → b.ended ≡ None → doing_of u t.coord ≡ Some q → tops.is_top (uid_number u) ≡ true → GoesOn step → Went u marks intents step
-  going_both u b q step marks intents found unended at_work top (m, kind) = ⊎_elim (λ same. subst (Went u marks intents) (sym same) asked) (λ same. subst (Went u marks intents) (sym same) stayed) kind
+  -- and that takes such a step, with something said before
+  pub going_both : (first : List Effect) (u : Uid) (b : Branch) (q : Doing) (step : CommitStep) (marks : List (ℕ × ℕ)) (intents : List (Uid × Intent)) → AreAll is_no_work first → branch_of u t.coord.tree ≡ Some b → b.ended ≡ None → doing_of u t.coord ≡ Some q → tops.is_top (uid_number u) ≡ true → GoesOn step
+      → Went first u marks intents step
+  going_both first u b q step marks intents quiet found unended at_work top (m, kind) = ⊎_elim (λ same. subst (Went first u marks intents) (sym same) asked) (λ same. subst (Went first u marks intents) (sym same) stayed) kind
     where
       c1 : Coord
       c1 = commits_in u m t.coord
@@ -193,12 +201,13 @@ module _ (x : ℕ) (tops : Kinds) (unwalked : tops.walk ≡ None) (e k : ℕ) (d
       doing : doing_of u c1 ≡ Some (record q { req = (plan_of m).req; now = Committing m })
       doing = doing_here u (λ (r : Doing). record r { req = (plan_of m).req; now = Committing m }) t.coord q at_work
 
-      asked : Went u marks intents (Asks m)
+      asked : Went first u marks intents (Asks m)
       asked may walk =
           let parts = asks_roots (plan_of m).path (plan_of m).req (waiting m) c1 in
-          open_both (with_coord t (asks_machine m c1).part) (mark_lines u marks t.coord ++ (asks_machine m c1).outs) u b (record q { req = (plan_of m).req; now = Committing m }) m
-          (all_both is_no_work (mark_lines u marks t.coord) (asks_machine m c1).outs (marks_work u marks t.coord) (asks_work (plan_of m).path (plan_of m).req (waiting m) c1)) refl
+          open_both (with_coord t (asks_machine m c1).part) (first ++ (mark_lines u marks t.coord ++ (asks_machine m c1).outs)) u b (record q { req = (plan_of m).req; now = Committing m }) m
+          (all_both is_no_work first (mark_lines u marks t.coord ++ (asks_machine m c1).outs) quiet (all_both is_no_work (mark_lines u marks t.coord) (asks_machine m c1).outs (marks_work u marks t.coord) (asks_work (plan_of m).path (plan_of m).req (waiting m) c1))) refl
           (ap (λ (c : Coord). branch_of u c.tree) parts ∙ tree) unended (ap (λ (c : Coord). doing_of u c) parts ∙ doing) refl top may walk
 
-      stayed : Went u marks intents (Stays m)
-      stayed may walk = open_both (with_coord t c1) (mark_lines u marks t.coord ++ []) u b (record q { req = (plan_of m).req; now = Committing m }) m (all_both is_no_work (mark_lines u marks t.coord) [] (marks_work u marks t.coord) refl) refl tree unended doing refl top may walk
+      stayed : Went first u marks intents (Stays m)
+      stayed may walk = open_both (with_coord t c1) (first ++ (mark_lines u marks t.coord ++ [])) u b (record q { req = (plan_of m).req; now = Committing m }) m
+          (all_both is_no_work first (mark_lines u marks t.coord ++ []) quiet (all_both is_no_work (mark_lines u marks t.coord) [] (marks_work u marks t.coord) refl)) refl tree unended doing refl top may walk

@@ -1,3 +1,4 @@
+use Rattle.arj_names_view_law.proofs.InputBoth.{inputs_keep_both}
 use Rattle.arj_names_view_law.proofs.StepsKept.{actions_keep_both, ticks_keep_both}
 use Rattle.arj_names_view_law.proofs.handlers.handlers_keep_both.Goals as goal
 
@@ -6,3 +7,6 @@ returns-clause-actions c = actions_keep_both
 
 pub returns-clause-ticks : goal.returns-clause-ticks
 returns-clause-ticks c = ticks_keep_both
+
+pub returns-clause-inputs : goal.returns-clause-inputs
+returns-clause-inputs c = inputs_keep_both
