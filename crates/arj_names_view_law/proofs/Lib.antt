@@ -10,6 +10,7 @@ pub mod ListEnds
 pub mod ListSteps
 pub mod LoadSteps
 pub mod Locks
+pub mod MessageBoth
 pub mod NamingWalks
 pub mod NewConfirms
 pub mod Noting

@@ -1,4 +1,5 @@
 use Rattle.arj_names_view_law.proofs.InputBoth.{inputs_keep_both}
+use Rattle.arj_names_view_law.proofs.MessageBoth.{messages_keep_both}
 use Rattle.arj_names_view_law.proofs.StepsKept.{actions_keep_both, ticks_keep_both}
 use Rattle.arj_names_view_law.proofs.handlers.handlers_keep_both.Goals as goal
 
@@ -10,3 +11,6 @@ returns-clause-ticks c = ticks_keep_both
 
 pub returns-clause-inputs : goal.returns-clause-inputs
 returns-clause-inputs c = inputs_keep_both
+
+pub returns-clause-messages : goal.returns-clause-messages
+returns-clause-messages c = messages_keep_both
