@@ -25,7 +25,8 @@ use Rattle.arj_view_law.specs.Walks.{Walks, Up, halted}
 use Rattle.arj_disk_view_law.specs.Confirming.{IsConfirmation, IsNewConfirm, IsUnconfirmed, with_locks}
 use Rattle.arj_disk_view_law.specs.Coordinating.{IsConfirmedNow}
 use Rattle.arj_disk_view_law.specs.Entries.{SeesEntry}
-use Rattle.arj_disk_view_law.specs.Sees.{Along, ClaimsAsk, Kinds, IsSeenByDisks, SeesDisks, followed}
+use Rattle.arj_disk_view_law.proofs.Later.{effects_are_later, later_on}
+use Rattle.arj_disk_view_law.specs.Sees.{Along, ClaimsAsk, IsLater, Kinds, IsSeenByDisks, SeesDisks, followed}
 use Rattle.arj_disk_view_law.proofs.ConfirmWalks.{confirms_walk_once}
 use Rattle.arj_disk_view_law.proofs.Frames.{node_here}
 use Rattle.arj_disk_view_law.proofs.StoreWalks.{took_is}
@@ -95,7 +96,7 @@ module _ (x : ℕ) (tops : Kinds) (unwalked : tops.walk ≡ None) (e : ℕ) (d :
         names = B.names;
         named_then = st.named;
         inc = by.inc;
-        only = record { tops = st.tops ∙ ap (λ (V : World). V.disk.tops) by.world ∙ fixed.0; had = by.had; kept = by.kept; answers = by.answers };
+        only = record { later = later_on A.world B.world U (subst (IsLater A.world) (sym by.world) (effects_are_later A.world (f ∷ []) (allowed, tt) (let c = both.named in c.whole))) st.later; tops = st.tops ∙ ap (λ (V : World). V.disk.tops) by.world ∙ fixed.0; had = by.had; kept = by.kept; answers = by.answers };
         seen = naming_on x tops (confirms (top_of h.path) (with_locks h.path grants excluded d.names n)) B.world.disk U.disk B.names (root ∙ sym (ap (λ (V : World). V.disk.root) by.world ∙ fixed.1)) go.there.1;
       }
 
@@ -131,7 +132,7 @@ module _ (x : ℕ) (tops : Kinds) (unwalked : tops.walk ≡ None) (e : ℕ) (d :
         only.world,
         runs_keep B go.acts go.may st.named,
         only.inc,
-        record { tops = ap (λ (V : World). V.disk.tops) only.world ∙ st.tops; had = only.had; kept = only.kept; answers = only.answers },
+        record { later = subst (IsLater A.world) (sym only.world) st.later; tops = ap (λ (V : World). V.disk.tops) only.world ∙ st.tops; had = only.had; kept = only.kept; answers = only.answers },
         subst (λ z. SeesNaming x tops z (end_of B go.acts).world.disk (end_of B go.acts).names) (sym is) go.there.1,
       )
   unconfirmed W st root of_now o (inr (inr (is, again, untold))) =

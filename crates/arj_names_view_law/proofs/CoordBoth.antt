@@ -196,13 +196,13 @@ module _ (g : ℕ → Bool) (A : Office) (c0 : Named A) where
     stops c N inc same (W, s) =
         let st = stepped W s.along in
         let i = st.holds in
-        (record { world = W; names = st.names }, i.only, stopped_both x tops k d was A M both e (record { world = W; names = st.names }) N c st.named (inc_on W st.names i.only) (unfollowed x tops unwalked (only_decides g) A.world W (halted e k c N) s) inc same (λ other. memory_on W st.names i.only))
+        (record { world = W; names = st.names }, record { only = i.only; along = s.along }, stopped_both x tops k d was A M both e (record { world = W; names = st.names }) N c st.named (inc_on W st.names i.only) (unfollowed x tops unwalked (only_decides g) A.world W (halted e k c N) s) inc same (λ other. memory_on W st.names i.only))
 
     ends : (c : Disk) (L : Seen) → c.inc ≡ d.inc → L.nodes ≡ M.nodes → Up (IsSeenByDisks x (followed tops A.world (only_decides g))) k v c L → Up (IsSeenIn g x tops A) k v c L
     ends c L inc same (W, s) =
         let st = stepped W s.along in
         let i = st.holds in
-        (record { world = W; names = st.names }, i.only, seen_as x tops k d was A M both v (record { world = W; names = st.names }) L c st.named (inc_on W st.names i.only) (unfollowed x tops unwalked (only_decides g) A.world W (up k c v L) s) inc same (λ o one is. memory_on W st.names i.only o (mine o one is)) (λ other. memory_on W st.names i.only))
+        (record { world = W; names = st.names }, record { only = i.only; along = s.along }, seen_as x tops k d was A M both v (record { world = W; names = st.names }) L c st.named (inc_on W st.names i.only) (unfollowed x tops unwalked (only_decides g) A.world W (up k c v L) s) inc same (λ o one is. memory_on W st.names i.only o (mine o one is)) (λ other. memory_on W st.names i.only))
 
     pub decisions_both : (outs : List Effect) → AreAll leaves_the_inc outs → Walks (IsSeenByDisks x (followed tops A.world (only_decides g))) e k outs (Up (IsSeenByDisks x (followed tops A.world (only_decides g))) k v) d M → Walks (IsSeenIn g x tops A) e k outs (Up (IsSeenIn g x tops A) k v) d M
     decisions_both outs all walk = walks_at e k d M (IsSeenByDisks x (followed tops A.world (only_decides g))) (IsSeenIn g x tops A) (Up (IsSeenByDisks x (followed tops A.world (only_decides g))) k v) (Up (IsSeenIn g x tops A) k v) stops outs all d M refl refl (λ L inc same end. ends (left_disk outs d) L inc same end) walk
@@ -366,7 +366,7 @@ module _ (x : ℕ) (tops : Kinds) (unwalked : tops.walk ≡ None) (e k : ℕ) (d
       let B : Office = record { world = W; names = st.names } in
       let on : (o : Naming) → SeesNaming x tops o A.world.disk A.names → SeesNaming x tops o W.disk st.names = λ o z. subst (λ N. SeesNaming x tops o W.disk N) (sym i.names_same) (naming_on x tops o A.world.disk W.disk A.names i.later.root z) in (
         B,
-        record { tops = i.tops_same; had = ap (λ (N : Names). N.had) i.names_same; kept = ap (λ (N : Names). N.kept) i.names_same; answers = λ a j. subst (λ (N : Names). In a N.answers) (sym i.names_same) j },
+        record { later = i.later; tops = i.tops_same; had = ap (λ (N : Names). N.had) i.names_same; kept = ap (λ (N : Names). N.kept) i.names_same; answers = λ a j. subst (λ (N : Names). In a N.answers) (sym i.names_same) j },
         seen_as x tops k d (Some t) A M both v B L d st.named (ap (λ (N : Names). N.inc) i.names_same) disks refl same
             (λ o one is. on o (both.names.memory (record { number = k; disk = d; live = Some t }) t o (ap (λ m. (up k d t M).nodes m) (sym one) ∙ node_here M k (record { number = k; disk = d; live = Some t })) refl (sym naming ∙ is))) (λ other. on),
       )

@@ -28,7 +28,7 @@ use Rattle.arj_disk_view_law.specs.Pairs.{AreSorted}
 use Rattle.arj_view_law.specs.Seen.{Seen, up}
 use Rattle.arj_view_law.specs.Walks.{Walks, Up, halted}
 use Rattle.arj_disk_view_law.specs.Entries.{SeesEntry}
-use Rattle.arj_disk_view_law.specs.Sees.{Along, Kinds, IsFixed, IsNested, IsSeenByDisks, SeesDisks, followed}
+use Rattle.arj_disk_view_law.specs.Sees.{Along, IsLater, Kinds, IsFixed, IsNested, IsSeenByDisks, SeesDisks, followed}
 use Rattle.arj_disk_view_law.proofs.Frames.{node_here}
 use Rattle.arj_disk_view_law.proofs.StoreWalks.{took_is}
 use Rattle.arj_disk_view_law.proofs.Later.{effects_are_later}
@@ -227,8 +227,12 @@ module _ (x : ℕ) (tops : Kinds) (unwalked : tops.walk ≡ None) (e : ℕ) (d :
     abbrev LateOne : Office → Type 0
     LateOne C = Late x tops u how d.names n A both.named now both.disks.fixed C
 
-    only_of : (B : Office) → B.world.disk.tops ≡ A.world.disk.tops → (B.names ≡ A.names) ⊎ LateOne B → OnlyMemory A B
-    only_of B tops_same either = record {
+    later_to : (W : World) → Along (record { from = A.world; noted = only_acks (uid_number u) }) W → IsLater A.world W
+    later_to W a = subst (IsLater A.world) a.here (effects_are_later A.world a.effects a.allowed (let c = both.named in c.whole))
+
+    only_of : (B : Office) → IsLater A.world B.world → B.world.disk.tops ≡ A.world.disk.tops → (B.names ≡ A.names) ⊎ LateOne B → OnlyMemory A B
+    only_of B later tops_same either = record {
+      later = later;
       tops = tops_same;
       had = ⊎_elim (λ e. ap (λ (N : Names). N.had) e) (λ l. l.had) either;
       kept = ⊎_elim (λ e. ap (λ (N : Names). N.kept) e) (λ l. l.kept) either;
@@ -243,7 +247,7 @@ module _ (x : ℕ) (tops : Kinds) (unwalked : tops.walk ≡ None) (e : ℕ) (d :
         let st = stepped W s.along in
         let i = st.holds in
         let B : Office = record { world = W; names = st.names } in
-        (B, only_of B i.tops_then i.either, stopped_both x tops 1 d (Some t) A M both e B N c st.named (inc_of B i.either) (unfollowed x tops unwalked (only_acks (uid_number u)) A.world W (halted e 1 c N) s) inc same (λ other. absurd (never refl other)))
+        (B, only_of B (later_to W s.along) i.tops_then i.either, stopped_both x tops 1 d (Some t) A M both e B N c st.named (inc_of B i.either) (unfollowed x tops unwalked (only_acks (uid_number u)) A.world W (halted e 1 c N) s) inc same (λ other. absurd (never refl other)))
 
     ended : (L : Seen) → (left_disk Outs d).inc ≡ d.inc → L.nodes ≡ M.nodes → IsSeenByDisks x (followed tops A.world (only_acks (uid_number u))) (up 1 (left_disk Outs d) Left L) → IsSeenFrom x tops A (up 1 (left_disk Outs d) Left L)
     ended L inc same (W, s) = ⊎_elim
@@ -256,7 +260,7 @@ module _ (x : ℕ) (tops : Kinds) (unwalked : tops.walk ≡ None) (e : ℕ) (d :
         seen : (B : Office) → B.world ≡ W → Named B → LateOne B → IsSeenFrom x tops A (up 1 (left_disk Outs d) Left L)
         seen B world b late = (
           B,
-          only_of B (ap (λ (V : World). V.disk.tops) world ∙ (stepped W s.along).holds.tops_then) (inr late),
+          only_of B (subst (IsLater A.world) (sym world) (later_to W s.along)) (ap (λ (V : World). V.disk.tops) world ∙ (stepped W s.along).holds.tops_then) (inr late),
           seen_as x tops 1 d (Some t) A M both Left B L (left_disk Outs d) b late.inc (subst (λ V. SeesDisks x tops V (up 1 (left_disk Outs d) Left L)) (sym world) disks) inc same
               (λ o one is. subst (λ z. SeesNaming x tops z B.world.disk B.names) (some_is refl is) late.seen) (λ other. absurd (never refl other)),
         )
@@ -303,7 +307,7 @@ module _ (x : ℕ) (tops : Kinds) (unwalked : tops.walk ≡ None) (e : ℕ) (d :
         only.world,
         runs_keep B go.acts go.may st.named,
         only.inc,
-        record { tops = ap (λ (V : World). V.disk.tops) only.world ∙ st.tops; had = only.had; kept = only.kept; answers = λ a i. subst (λ as_left. In a as_left) (sym only.answers) i },
+        record { later = subst (IsLater A.world) (sym only.world) st.later; tops = ap (λ (V : World). V.disk.tops) only.world ∙ st.tops; had = only.had; kept = only.kept; answers = λ a i. subst (λ as_left. In a as_left) (sym only.answers) i },
         subst (λ z. SeesNaming x tops (let s = naming.told u z d.names n in s.part) (end_of B go.acts).world.disk (end_of B go.acts).names) (sym aborted) go.there.1,
       )
     where

@@ -25,7 +25,7 @@ use Rattle.arj_view_law.specs.Seen.{Seen, at, down, given, said, see, up}
 use Rattle.arj_view_law.specs.Walks.{Walks, Up, halted}
 use Rattle.arj_disk_view_law.specs.Entries.{SeesEntry}
 use Rattle.arj_disk_view_law.specs.Confirming.{IsNewConfirm}
-use Rattle.arj_disk_view_law.specs.Sees.{ClaimsAsk, IsFixed, IsLater, IsNested, Kinds, SeesDisks, IsSeenByDisks, followed}
+use Rattle.arj_disk_view_law.specs.Sees.{Along, ClaimsAsk, IsFixed, IsLater, IsNested, Kinds, SeesDisks, IsSeenByDisks, followed}
 use Rattle.arj_names_view_law.specs.Booked.{IsNext, NamesGrants}
 use Rattle.arj_names_view_law.specs.Calls.{ClaimsBound, ClaimsTop, MayNote}
 use Rattle.arj_names_view_law.specs.Memory.{IsOfTop, SeesNaming}
@@ -46,8 +46,9 @@ pub record SeesBoth (x : ℕ) (tops : Kinds) (A : Office) (M : Seen) : Type 0 wh
   pub disks : SeesDisks x tops A.world M
   pub names : SeesNames x tops A M
 
--- Of naming's half nothing but naming's memory has changed, and answers were given; and no top was decided.
+-- The disk half has gone on; of naming's half nothing but naming's memory has changed, and answers were given; and no top was decided.
 pub record OnlyMemory (A B : Office) : Type 0 where
+  pub later : IsLater A.world B.world
   pub tops : B.world.disk.tops ≡ A.world.disk.tops
   pub had : B.names.had ≡ A.names.had
   pub kept : B.names.kept ≡ A.names.kept
@@ -161,8 +162,13 @@ pub record OnlyRoots (g : ℕ → Bool) (A B : Office) : Type 0 where
   pub kept : (h : ℕ) → IsOther g A.world.disk (A.world.disk.root h) → B.names.kept h ≡ A.names.kept h
   pub tops : (r : ℕ) → IsOther g A.world.disk r → written_in A.world.disk.root r B.world.disk.tops ≡ written_in A.world.disk.root r A.world.disk.tops
 
+-- and the disk half has come here by deciding none but these
+pub record OnlyDecided (g : ℕ → Bool) (A B : Office) : Type 0 where
+  pub only : OnlyRoots g A B
+  pub along : Along (record { from = A.world; noted = only_decides g }) B.world
+
 abbrev pub IsSeenIn : (ℕ → Bool) → ℕ → Kinds → Office → Seen → Type 0
-IsSeenIn g x tops A M = (B : Office) × OnlyRoots g A B × SeesBoth x tops B M
+IsSeenIn g x tops A M = (B : Office) × OnlyDecided g A B × SeesBoth x tops B M
 
 -- A node decides some of these tops, or ends their commits without a record, and naming's memory is as it was. The root of each may
 -- retain what the top has; what it has then isn't said.
@@ -197,8 +203,13 @@ pub record OnlyAtNode (g : ℕ → Bool) (A B : Office) : Type 0 where
   pub tops : (r : ℕ) → IsOther g A.world.disk r → written_in A.world.disk.root r B.world.disk.tops ≡ written_in A.world.disk.root r A.world.disk.tops
   pub answers : (a : Answer) → In a A.names.answers → In a B.names.answers
 
+-- and the disk half has come here by deciding none but these
+pub record OnlyFound (g : ℕ → Bool) (A B : Office) : Type 0 where
+  pub only : OnlyAtNode g A B
+  pub along : Along (record { from = A.world; noted = only_decides g }) B.world
+
 abbrev pub IsSeenAgain : (ℕ → Bool) → ℕ → Kinds → Office → Seen → Type 0
-IsSeenAgain g x tops A M = (B : Office) × OnlyAtNode g A B × SeesBoth x tops B M
+IsSeenAgain g x tops A M = (B : Office) × OnlyFound g A B × SeesBoth x tops B M
 
 -- A node restarts, which decides some of these tops; at naming what is held is held under the names of entries.
 abbrev pub RestartsKeepBoth : Type 0

@@ -32,7 +32,7 @@ use Rattle.arj_disk_view_law.specs.Knows.{KnowsCoord, KnowsKinds, IsOfKind}
 use Rattle.arj_disk_view_law.specs.Plans.{plan_at}
 use Rattle.arj_disk_view_law.specs.Sees.{IsLater, Kinds, was_begun}
 use Rattle.arj_names_view_law.specs.Booked.{IsNext, NamesGrants}
-use Rattle.arj_names_view_law.specs.Both.{BothWalk, OnlyMemory, OnlyRoots, OpensNone, SeesBoth}
+use Rattle.arj_names_view_law.specs.Both.{BothWalk, OnlyDecided, OnlyMemory, OpensNone, SeesBoth}
 use Rattle.arj_names_view_law.specs.Calls.{MayNote}
 use Rattle.arj_names_view_law.specs.Memory.{IsOfTop}
 
@@ -58,7 +58,7 @@ decided_by c m = decided_of c (answers m)
 -- Of naming's half nothing but naming's memory changes; where a top may be decided, nothing but grants and kept lists of its root.
 abbrev pub Changes : Option ℕ → Office → Office → Type 0
 Changes None A B = OnlyMemory A B
-Changes (Some t) A B = OnlyRoots (λ z. z == t) A B
+Changes (Some t) A B = OnlyDecided (λ z. z == t) A B
 
 abbrev pub IsSeenAfter : Option ℕ → ℕ → Kinds → Office → Seen → Type 0
 IsSeenAfter o x tops A M = (B : Office) × Changes o A B × SeesBoth x tops B M
