@@ -1,4 +1,4 @@
--- What servers vote is used, so a relation gives all that the disk half counts on.
+-- What servers vote is used.
 use Rattle.std.proofs.Common.{List, [], ◌∷◌, inl, inr}
 use Rattle.arj_lock.proofs.Members as list
 use Rattle.arj_protocol.specs.Words.{ObjectState}
@@ -7,15 +7,12 @@ use Rattle.arj_view_law.specs.Seen.{Seen}
 use Rattle.arj_disk_view_law.specs.Pairs.{Among}
 use Rattle.arj_call_law.specs.Runs.{WithCalls}
 use Rattle.arj_call_law.proofs.WorldRuns.{votes_used}
-use Rattle.arj_disk_run_law.specs.Facts.{Gives, GivesVotes}
+use Rattle.arj_disk_run_law.specs.Facts.{GivesVotes}
 
 listed : (s : ObjectState) (states : List ObjectState) → Among s states → list.In s states
 listed s [] i = absurd i
 listed s (t ∷ ts) (inl same) = inl same
 listed s (t ∷ ts) (inr i) = inr (listed s ts i)
 
-pub gives_votes : (R : Seen → Type 0) → Gives R → GivesVotes (WithCalls R)
-gives_votes R gives = record {
-  votes = λ acts k d t M h good from m a states sent is q p left found now req on s i. let u = votes_used k d t M h.1.1 from m a states sent is q (commit.Voting p left) found now s (listed s states i) in record { used = u.0; found = u.1; server = u.2 };
-  booked = λ x tops k d t M from m W h. gives.booked x tops k d t M from m W h.0.0;
-}
+pub gives_votes : (R : Seen → Type 0) → GivesVotes (WithCalls R)
+gives_votes R acts k d t M h good from m a states sent is q p left found now req on s i = let u = votes_used k d t M h.1.1 from m a states sent is q (commit.Voting p left) found now s (listed s states i) in record { used = u.0; found = u.1; server = u.2 }

@@ -26,7 +26,7 @@ call_more a acts r f = (f.0, in_to f.0 (a ∷ acts) (inr (in_from f.0 acts f.1))
 
 -- ---- up to its top, an action's path counts
 
-taken_front : (us : List Uid) (u : Uid) (n : ℕ) → n ≤ length us → take n (us ++ u ∷ []) ≡ take n us
+pub taken_front : (us : List Uid) (u : Uid) (n : ℕ) → n ≤ length us → take n (us ++ u ∷ []) ≡ take n us
 taken_front [] u zero le = refl
 taken_front [] u (suc n) le = let never : ◌≡◌ {A = ℕ} 0 1 = omega (arith, le) in cc
 taken_front (w ∷ us) u zero le = refl

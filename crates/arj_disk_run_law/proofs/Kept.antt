@@ -41,7 +41,7 @@ use Rattle.arj_view_law.proofs.Happens.{runs_hold}
 use Rattle.arj_view_law.proofs.Together.{walks_both, walks_each, walks_to}
 use Rattle.arj_disk_view_law.specs.Coordinating.{KnowsNode, commit_note}
 use Rattle.arj_disk_view_law.specs.Formats.{HasObject}
-use Rattle.arj_disk_view_law.specs.Knows.{IsOfKind}
+use Rattle.arj_disk_view_law.specs.Knows.{IsOfKind, KnowsKinds}
 use Rattle.arj_disk_view_law.specs.Sees.{Kinds, ClaimsAsked, IsSeenByDisks, may_note, was_begun}
 use Rattle.arj_disk_view_law.proofs.FirstSeen.{formats_are_seen}
 use Rattle.arj_disk_view_law.proofs.Halts.{stops_seen, lines_seen}
@@ -53,11 +53,11 @@ use Rattle.arj_call_law.specs.Runs.{WithCalls}
 use Rattle.arj_call_law.proofs.WholeRuns.{with_calls}
 use Rattle.arj_disk_run_law.proofs.Given.{gives_votes}
 use Rattle.arj_disk_run_law.specs.Facts.{GivesVotes}
-use Rattle.arj_disk_run_law.specs.Kinds.{Agrees, AreOfOneNode, kinds_of}
+use Rattle.arj_disk_run_law.specs.Kinds.{Agrees, AreOfOneNode, AreOfTops, kinds_of}
 use Rattle.arj_disk_run_law.specs.Places.{ArePlaced}
 use Rattle.arj_disk_run_law.specs.Records.{AreRecorded}
 use Rattle.arj_disk_run_law.specs.Sound.{AreOwnStates, AreSound, FitsVote, IsOwnAnswer, IsOwnVote, IsUsedAt, VotesFit}
-use Rattle.arj_disk_run_law.specs.Runs.{IsSeenInRun, RunsAgree}
+use Rattle.arj_disk_run_law.specs.Part.{IsCarried, KeepsPart}
 use Rattle.arj_disk_run_law.proofs.Begun.{kinds_agree}
 use Rattle.arj_disk_run_law.proofs.Copies.{copies_agree}
 use Rattle.arj_disk_run_law.proofs.Known.{knows_node}
@@ -65,6 +65,7 @@ use Rattle.arj_disk_run_law.proofs.Means.{All, coord_means}
 use Rattle.arj_disk_run_law.proofs.PlaceWalks.{ByTop, PlacedBy, begin_placed, both_here, format_placed, line_stays, message_placed, other_coord, placed_walk, prepared_begun, restart_placed, stop_placed, tick_means, up_here}
 use Rattle.arj_disk_run_law.proofs.SoundCoords.{sound_acts, sound_again, sound_begins, sound_heard}
 use Rattle.arj_disk_run_law.proofs.RecordWalks.{KeptBy, format_recorded, kept_walk, message_kept, recorded_more, restart_recorded, stop_recorded, tick_kept}
+use Rattle.arj_disk_run_law.proofs.TopPaths.{of_request}
 use Rattle.arj_disk_run_law.proofs.Telling.{acked_kept, acts_kept, heard_kept, same_kept}
 
 -- ---- what is kept
@@ -82,7 +83,7 @@ pub record KeepsEach (hd : Header) (x : ℕ) (R : Seen → Type 0) (Q : Kinds �
   pub quiet : (tops : Kinds) (e : ℕ) (bs : List Body) (M : Seen) → tops.walk ≡ None → AreQuiet bs → R M → Q tops M → Q tops (said e bs M)
   pub stop : (tops : Kinds) (e k : ℕ) (d : Disk) (live : Option Parts) (M : Seen) → tops.walk ≡ None → R (at k d live M) → Q tops (at k d live M) → Q tops (halted e k d M)
   pub message : (tops : Kinds) (e k : ℕ) (d : Disk) (t v : Parts) (from : ℕ) (m : Message) (outs : List Effect) (M : Seen) → tops.walk ≡ None → KnowsNode tops k d t M → R (up k d t M)
-      → In (record { from = from; to = k; message = m }) M.sent → is_meant t m ≡ true → handle k d t from m ≡ Took v outs → Q tops (up k d t M) → Walks (Q tops) e k outs (Up (Q tops) k v) d M
+      → In (record { from = from; to = k; message = m }) M.sent → is_meant t m ≡ true → handle k d t from m ≡ Took v outs → AreOfTops tops m → Q tops (up k d t M) → Walks (Q tops) e k outs (Up (Q tops) k v) d M
   pub act : (tops : Kinds) (e k : ℕ) (d : Disk) (t : Parts) (i : Input) (M : Seen) → tops.walk ≡ None → KnowsNode tops k d t M → R (up k d t M)
       → is_act i ≡ true → refusal_up hd i t.coord ≡ None → Q tops (up k d t M) → DidKeeps (Q tops) e k d t (acts i d.intents t.coord) M
   pub begin : (tops : Kinds) (e k : ℕ) (d : Disk) (t : Parts) (l : Label) (how : Kind) (parent : Option Label) (M : Seen) → tops.walk ≡ None → KnowsNode tops k d t M → R (up k d t M)
@@ -92,7 +93,7 @@ pub record KeepsEach (hd : Header) (x : ℕ) (R : Seen → Type 0) (Q : Kinds �
       → Walks (Q tops) e k (tick_outs (record { number = k; disk = d; live = Some t }) t) (Up (Q tops) k (with_coord t (again_all t.coord.doings t.coord).part)) d M
   pub restart : (tops : Kinds) (e k : ℕ) (d : Disk) (M : Seen) → tops.walk ≡ None → AllByRecursion (λ u. was_begun u M.lines ≡ true) (uid_set (prepared_actions d.store ++ prepared_actions d.names)) → R (down k d M) → Q tops (down k d M)
       → Walks (Q tops) e k (restart_outs hd k (d.inc + 1) d) (Up (Q tops) k (parts_in k (d.inc + 1) d)) d M
-  pub first : (tops : Kinds) → tops.walk ≡ None → Q tops (see [] (format hd))
+  pub first : (tops : Kinds) → tops.walk ≡ None → KnowsKinds tops → Q tops (see [] (format hd))
 
 -- ---- what is walked through
 
@@ -123,10 +124,6 @@ module _ (R : Seen → Type 0) (Q : Kinds → Seen → Type 0) (begun : List Act
       let four = walks_both Known_here All_seen e k outs (Known_up k v) (λ c N. (p : Kept_kinds) → Up (Q p.0) k v c N) d M three each in
       walks_to (λ N. Known_here N × All_seen N) (IsKeptInRun R Q) e k outs (λ c N. Known_up k v c N × ((p : Kept_kinds) → Up (Q p.0) k v c N)) (Up (IsKeptInRun R Q) k v) d M
       (λ N h. (begun, (h.0.0.0, home, h.0.0.1, h.0.1.0, h.0.1.1, λ tops agree. h.1 (tops, agree)))) (λ c N h. (begun, (h.0.0.0, home, h.0.0.1, h.0.1.0, h.0.1.1, λ tops agree. h.1 (tops, agree)))) four
-
--- where no walk is followed anything may be noted
-any_noted : (tops : Kinds) → tops.walk ≡ None → (n : Note) → may_note tops.walk n ≡ true
-any_noted tops unwalked n = ap (λ o. may_note o n) unwalked
 
 -- ---- an action that begins
 
@@ -197,9 +194,9 @@ module _ (hd : Header) (x : ℕ) (R : Seen → Type 0) (Q : Kinds → Seen → T
   message_keeps : (e k : ℕ) (d : Disk) (t v : Parts) (from : ℕ) (m : Message) (outs : List Effect) (M : Seen) → P (up k d t M) → In (record { from = from; to = k; message = m }) M.sent → is_meant t m ≡ true → handle k d t from m ≡ Took v outs → Walks P e k outs (Up P k v) d M
   message_keeps e k d t v from m outs M (begun, h) sent meant is = all_walk R Q begun h.1 e k outs v d M (message_good e k d t M (begun, h.0) v from m outs sent is)
       (kept_walk begun e k d t v outs M (subst (KeptBy begun t.coord) is (message_kept begun k d t from (λ a r. heard_kept begun (paths_of begun) (begun_tree begun h.0.begun) from a r d.intents t.coord (good_coord e k d t M (begun, h.0))) (λ u. acked_kept begun from u d.intents t.coord) m)) h.2)
-      (let p = subst (PlacedBy begun k) is (message_placed begun h.0.begun k d t from (both_here begun h.0.begun k d t M h.3) (up_here begun h.0.begun k d t M h.3) m (heard_placed begun e k d t M h.0 from m sent meant (gives.votes begun k d t M h.4 h.0) (h.3.votes (record { from = from; to = k; message = m }) sent) (let u = up_here begun h.0.begun k d t M h.3 in u.coord)) (acked_means begun e k d t M h.0 from) (query_means begun e k d t M h.0 from) (h.0.fits (record { from = from; to = k; message = m }) sent)
+      (let p = subst (PlacedBy begun k) is (message_placed begun h.0.begun k d t from (both_here begun h.0.begun k d t M h.3) (up_here begun h.0.begun k d t M h.3) m (heard_placed begun e k d t M h.0 from m sent meant (gives begun k d t M h.4 h.0) (h.3.votes (record { from = from; to = k; message = m }) sent) (let u = up_here begun h.0.begun k d t M h.3 in u.coord)) (acked_means begun e k d t M h.0 from) (query_means begun e k d t M h.0 from) (h.0.fits (record { from = from; to = k; message = m }) sent)
       (by_top x begun k m (asks m) (let s = each.sees (kinds_of begun) (up k d t M) (h.5 (kinds_of begun) (kinds_agree begun h.0.begun h.1)) in (kinds_of begun, s.0, M.lines, from, s.1.posts (record { from = from; to = k; message = m }) sent)))) in placed_walk begun e k d t v outs M p.0 p.1 h.3) (kept.message e k d t v from m outs M h.4 sent meant is)
-      (λ tops agree. each.message tops e k d t v from m outs M agree.unwalked (knows_node tops begun k d t M h.0 agree h.2 h.3) h.4 sent meant is (h.5 tops agree))
+      (λ tops agree. each.message tops e k d t v from m outs M agree.unwalked (knows_node tops begun k d t M h.0 agree h.2 h.3) h.4 sent meant is (of_request begun h.0.begun tops agree m (h.0.fits (record { from = from; to = k; message = m }) sent)) (h.5 tops agree))
 
   act_keeps : (e k : ℕ) (d : Disk) (t : Parts) (i : Input) (M : Seen) → is_act i ≡ true → refusal_up hd i t.coord ≡ None → P (up k d t M) → DidKeeps P e k d t (acts i d.intents t.coord) M
   act_keeps e k d t i M is free (begun, h) = let did = acts i d.intents t.coord in
@@ -249,42 +246,5 @@ module _ (hd : Header) (x : ℕ) (R : Seen → Type 0) (Q : Kinds → Seen → T
     tick = tick_keeps;
     restart = λ e k d M p. let h = p.1 in all_walk R Q p.0 h.1 e k (restart_outs hd k (d.inc + 1) d) (parts_in k (d.inc + 1) d) d M (restart_good hd e k d M (p.0, h.0)) (restart_recorded p.0 hd e k d M h.2) (restart_placed p.0 hd e k d M h.0.begun h.3) (kept.restart e k d M h.4)
         (λ tops agree. each.restart tops e k d M agree.unwalked (prepared_begun p.0 k d None M h.3) h.4 (h.5 tops agree));
-    first = ([], (first_of hd, (λ a w c on. absurd (in_from a [] c)), format_recorded hd, format_placed hd, kept.first, λ tops agree. each.first tops agree.unwalked));
+    first = ([], (first_of hd, (λ a w c on. absurd (in_from a [] c)), format_recorded hd, format_placed hd, kept.first, λ tops agree. each.first tops agree.unwalked agree.kinds));
   }
-
--- ---- an object is seen
-
--- each handler is walked through, where any beginning, decision, confirmation and acknowledgement may be noted
-pub seen_each : (hd : Header) (x : ℕ) (R : Seen → Type 0) → HasObject hd x → GivesVotes R → KeepsEach hd x R (IsSeenByDisks x)
-seen_each hd x R has_it gives = record {
-  sees = λ tops M s. s;
-  quiet = λ tops e bs M walk quiet r s. lines_seen x tops e bs M s;
-  stop = λ tops e k d live M walk r s. stops_seen x tops e k d live M s;
-  message = λ tops e k d t v from m outs M walk n r sent meant is s. messages_are_walked x tops e k d t v from m outs M n
-      (record { asker = λ z grants excluded included at. any_noted tops walk (Confirms (uid_number (top_of z.path))); answered = λ a b q z at here now. any_noted tops walk (commit_note z (uid_number a.act)); told = λ root ack ends u how at last on. any_noted tops walk (Acks (uid_number u)) })
-      sent s.0 s.1 (gives.booked x tops k d t M from m s.0 r sent s.1) is;
-  act = λ tops e k d t i M walk n r is free s. acts_are_walked hd x tops e k d t i M n.kinds n.coord is free (λ l b which at. any_noted tops walk (Begins (uid_number (actor b.path)))) s.0 s.1;
-  begin = λ tops e k d t l how parent M walk n r new may free kind s. actions_begin x tops e k d t l (record { node = k; serial = is_serial_kind how }) how parent (parent_of parent t.coord) M n.coord kind s.0 s.1;
-  tick = λ tops e k d t M walk n r s. ticks_are_walked x tops e k d t M n.coord n.begun s.0 s.1;
-  restart = λ tops e k d M walk held r s. restarts_are_walked x tops e k hd d M held (λ u i at. any_noted tops walk (Decides (uid_number u))) s.0 s.1;
-  first = λ tops walk. formats_are_seen hd x tops walk has_it;
-}
-
--- ---- copies agree
-
-pub runs_agree : RunsAgree
-runs_agree hd x has_it test kept gives es =
-    let r = runs_hold hd (IsSeenInRun Known x) (all_keep hd x Known (IsSeenByDisks x) calls votes (seen_each hd x Known has_it votes)) es in
-    let h = r.holds in
-    let g = h.1 in
-    let s = g.5 (kinds_of h.0) (kinds_agree h.0 g.0.begun g.1) in
-    record { sent = r.sent; stands = r.stands; holds = copies_agree x (kinds_of h.0) s.0 (see r.sent (run_all es (format hd))) s.1 }
-  where
-    Known : Seen → Type 0
-    Known M = WithCalls (λ M. test M ≡ true) M
-
-    calls : Keeps hd (WithCalls (λ M. test M ≡ true))
-    calls = with_calls hd (λ M. test M ≡ true) kept gives.calls
-
-    votes : GivesVotes (WithCalls (λ M. test M ≡ true))
-    votes = gives_votes (λ M. test M ≡ true) gives

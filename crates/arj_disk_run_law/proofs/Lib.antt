@@ -1,4 +1,5 @@
 pub mod Begun
+pub mod BothEach
 pub mod Copies
 pub mod EntryRows
 pub mod Holders
@@ -14,3 +15,4 @@ pub mod RowWalks
 pub mod SoundCoords
 pub mod SoundPlans
 pub mod Telling
+pub mod TopPaths

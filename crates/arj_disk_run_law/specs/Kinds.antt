@@ -1,8 +1,9 @@
 -- Of what kind each action is, by those that were begun.
-use Rattle.std.specs.Prelude.{◌≡◌, ℕ, Bool, true, false, ◌&&◌, ◌==◌, if◌then◌else◌, List, [], ◌∷◌, None, Contains}
+use Rattle.std.specs.Prelude.{◌≡◌, ◌⊎◌, ℕ, Bool, true, false, ◌&&◌, ◌==◌, if◌then◌else◌, List, [], ◌∷◌, None, Some, Contains}
 use Rattle.std.specs.List.{list_any}
-use Rattle.arj_protocol.specs.Words.{Uid, Kind, uids_of, is_on}
+use Rattle.arj_protocol.specs.Words.{Uid, Ask, Head, Kind, Message, Path, asks, uid_eq, uids_of, is_on}
 use Rattle.arj_protocol.specs.Words.kind
+use Rattle.arj_protocol.specs.Ask.{top_of, top_path}
 use Rattle.arj_protocol.specs.Order.{uid_number}
 use Rattle.arj_protocol.specs.Tree.{root_of, is_serial}
 use Rattle.arj_part_law.specs.Actions.{Action, act_of}
@@ -37,6 +38,16 @@ pub record Agrees (tops : Kinds) (acts : List Action) : Type 0 where
   pub kinds : KnowsKinds tops
   pub unwalked : tops.walk ≡ None
   pub each : (a : Action) → Contains acts a → IsOfKind tops (act_of a) a.kind a.path × (tops.is_top (uid_number (act_of a)) ≡ true → tops.root (uid_number (act_of a)) ≡ uid_number (root_of a.path))
+
+-- A path is of a top: of one that is its own root, or behind its root, which is a serializing action.
+pub record IsOfTops (tops : Kinds) (p : Path) : Type 0 where
+  pub top : tops.is_top (uid_number (top_of p)) ≡ true
+  pub path : ((top_path p ≡ top_of p ∷ []) × (tops.root (uid_number (top_of p)) ≡ uid_number (top_of p)))
+      ⊎ ((w : Uid) × (top_path p ≡ w ∷ top_of p ∷ []) × (tops.root (uid_number (top_of p)) ≡ uid_number w) × (uid_eq w (top_of p) ≡ false) × (tops.is_serial (uid_number w) ≡ true))
+
+-- so is that of each request
+abbrev pub AreOfTops : Kinds → Message → Type 0
+AreOfTops tops m = (h : Head) (a : Ask) → asks m ≡ Some (h, a) → IsOfTops tops h.path
 
 -- each action's path is of its own node and incarnation
 abbrev pub AreOfOneNode : List Action → Type 0

@@ -1,5 +1,6 @@
 pub mod Facts
 pub mod Kinds
+pub mod Part
 pub mod Places
 pub mod Records
 pub mod Runs

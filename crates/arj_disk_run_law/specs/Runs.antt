@@ -11,20 +11,14 @@ use Rattle.arj_run_law.specs.Worlds.{IsGoodOf}
 use Rattle.arj_disk_law.specs.State.{Below, Packed}
 use Rattle.arj_view_law.specs.Keeps.{Holds, Keeps}
 use Rattle.arj_view_law.specs.Seen.{Seen}
-use Rattle.arj_disk_view_law.specs.Formats.{HasObject}
 use Rattle.arj_disk_view_law.specs.Pairs.{IsOf, packed}
 use Rattle.arj_disk_view_law.specs.Sees.{Kinds, IsSeenByDisks}
-use Rattle.arj_disk_run_law.specs.Facts.{Gives}
+use Rattle.arj_call_law.specs.Runs.{Grants, WithCalls}
+use Rattle.arj_disk_law.specs.Names.{Office}
+use Rattle.arj_disk_run_law.specs.Part.{KeepsPart}
 use Rattle.arj_disk_run_law.specs.Kinds.{Agrees, AreOfOneNode}
 use Rattle.arj_disk_run_law.specs.Places.{ArePlaced}
 use Rattle.arj_disk_run_law.specs.Records.{AreRecorded}
-
--- Nodes are good, with these actions begun, and so are their records and what they have prepared; the relation holds; and the object is seen, whatever kinds later actions will have.
-abbrev pub IsSeenWith : (Seen → Type 0) → ℕ → List Action → Seen → Type 0
-IsSeenWith R x acts M = IsGoodOf acts M × AreOfOneNode acts × AreRecorded acts M × ArePlaced acts M × R M × ((tops : Kinds) → Agrees tops acts → IsSeenByDisks x tops M)
-
-abbrev pub IsSeenInRun : (Seen → Type 0) → ℕ → Seen → Type 0
-IsSeenInRun R x M = (acts : List Action) × IsSeenWith R x acts M
 
 -- a store that the entry lists, where the object isn't in doubt, holds this state
 abbrev pub HasState : ℕ → Packed → Node → Type 0
@@ -55,6 +49,8 @@ pub record AgreesOn (x : ℕ) (last : Packed) (M : Seen) : Type 0 where
 abbrev pub CopiesAgree : ℕ → Seen → Type 0
 CopiesAgree x M = (last : Packed) × AgreesOn x last M
 
--- What is kept by each handler, and gives what the disk half counts on, keeps copies in agreement in every run.
+-- What is kept by each handler and grants what calls stand on, with what is kept beside the machine's state of what coordinators have
+-- and messages claim, keeps copies in agreement in every run.
 abbrev pub RunsAgree : Type 0
-RunsAgree = (hd : Header) (x : ℕ) → HasObject hd x → (test : Seen → Bool) → Keeps hd (λ M. test M ≡ true) → Gives (λ M. test M ≡ true) → (es : List Asked) → Holds hd (CopiesAgree x) (run_all es (format hd))
+RunsAgree = (hd : Header) (x : ℕ) (test : Seen → Bool) (part : Kinds → Office → Seen → Bool) → Keeps hd (λ M. test M ≡ true) → Grants (λ M. test M ≡ true) → KeepsPart hd x (WithCalls (λ M. test M ≡ true)) (λ tops A M. part tops A M ≡ true)
+    → (es : List Asked) → Holds hd (CopiesAgree x) (run_all es (format hd))

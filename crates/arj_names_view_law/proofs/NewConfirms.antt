@@ -111,7 +111,7 @@ any_state f st [] a h = absurd a
 any_state f st (q ∷ qs) (inl same) h = or_left (f q) (list_any f qs) (ap f same ∙ h)
 any_state f st (q ∷ qs) (inr more) h = or_right (f q) (list_any f qs) (any_state f st qs more h)
 
-any_prepared : {X : Type 0} (f : Uid × X → Bool) (u : Uid) (v : X) (m : List (Uid × X)) → at_uid u m ≡ Some v → f (u, v) ≡ true → list_any f m ≡ true
+pub any_prepared : {X : Type 0} (f : Uid × X → Bool) (u : Uid) (v : X) (m : List (Uid × X)) → at_uid u m ≡ Some v → f (u, v) ≡ true → list_any f m ≡ true
 any_prepared f u v [] is h = absurd (cc is)
 any_prepared {X} f u v (e ∷ es) is h = ⊎_elim
     (λ (same : u ≡ e.0).

@@ -1,0 +1,91 @@
+-- Both halves of the object's machine are carried by each handler, and so through each run; and copies agree in it.
+use Rattle.std.proofs.Common.{◌≡◌, ◌==◌, ℕ, List, [], ◌∷◌, ◌+◌, Bool, true, false, Option, Some, None, refl, sym, ◌∙◌, ap, subst}
+use Rattle.std.specs.Prelude.{◌++◌}
+use Rattle.arj_protocol.specs.Words.{Header, Kind, Uid, uids_of}
+use Rattle.arj_protocol.specs.Asking.{again_all, begin_action}
+use Rattle.arj_protocol.specs.Effect.{Disk, Effect, Intent}
+use Rattle.arj_protocol.specs.Follow.{tick_outs}
+use Rattle.arj_protocol.specs.Node.{Parts, with_coord}
+use Rattle.arj_protocol.specs.Order.{at_uid, uid_number}
+use Rattle.arj_protocol.specs.Step.{acts, parent_of, parts_in, restart_outs}
+use Rattle.arj_protocol.specs.World.{format, is_serial_kind, run_all}
+use Rattle.arj_disk_law.specs.Guards.{Decides, only_decides}
+use Rattle.arj_disk_law.specs.Names.{Office}
+use Rattle.arj_disk_law.proofs.Base.{test_same}
+use Rattle.arj_view_law.specs.Keeps.{Keeps}
+use Rattle.arj_view_law.specs.Seen.{Seen, at, down, given, said, see, up}
+use Rattle.arj_view_law.specs.Walks.{Walks, Up, halted}
+use Rattle.arj_view_law.proofs.Happens.{runs_hold}
+use Rattle.arj_view_law.proofs.Together.{walks_both, walks_to}
+use Rattle.arj_disk_view_law.specs.Sees.{Kinds, followed}
+use Rattle.arj_disk_view_law.proofs.Halts.{lines_seen, stops_seen}
+use Rattle.arj_names_view_law.specs.Both.{IsSeenAgain, OnlyFound, SeesBoth}
+use Rattle.arj_names_view_law.specs.Handlers.{CountsOn, IsSeenAfter, decided_by}
+use Rattle.arj_names_view_law.proofs.InputBoth.{inputs_keep_both}
+use Rattle.arj_names_view_law.proofs.MessageBoth.{messages_keep_both}
+use Rattle.arj_names_view_law.proofs.NewConfirms.{any_prepared}
+use Rattle.arj_names_view_law.proofs.RestartBoth.{restarts_keep_both}
+use Rattle.arj_names_view_law.proofs.StepsBoth.{lines_keep_both, stops_keep_both, walks_start}
+use Rattle.arj_names_view_law.proofs.StepsFollowed.{restarts_are_followed}
+use Rattle.arj_names_view_law.proofs.StepsKept.{actions_keep_both, ticks_keep_both}
+use Rattle.arj_call_law.specs.Runs.{WithCalls}
+use Rattle.arj_call_law.proofs.WholeRuns.{with_calls}
+use Rattle.arj_disk_run_law.specs.Kinds.{kinds_of}
+use Rattle.arj_disk_run_law.specs.Part.{HoldsAgain, HoldsFrom, IsCarried, KeepsPart, are_recorded}
+use Rattle.arj_disk_run_law.specs.Runs.{RunsAgree}
+use Rattle.arj_disk_run_law.proofs.Begun.{kinds_agree}
+use Rattle.arj_disk_run_law.proofs.Copies.{copies_agree}
+use Rattle.arj_disk_run_law.proofs.Given.{gives_votes}
+use Rattle.arj_disk_run_law.proofs.Kept.{IsKeptInRun, KeepsEach, all_keep}
+
+module _ (P : Kinds → Office → Seen → Type 0) (x : ℕ) (tops : Kinds) where
+  -- where both halves are walked and the relation holds along, the state is carried
+  carried : (o : Option ℕ) (A : Office) (e k : ℕ) (outs : List Effect) (v : Parts) (d : Disk) (M : Seen) → Walks (IsSeenAfter o x tops A) e k outs (Up (IsSeenAfter o x tops A) k v) d M
+      → Walks (HoldsFrom P x tops o A) e k outs (Up (HoldsFrom P x tops o A) k v) d M → Walks (IsCarried P x tops) e k outs (Up (IsCarried P x tops) k v) d M
+  carried o A e k outs v d M seen holds = walks_to (λ N. IsSeenAfter o x tops A N × HoldsFrom P x tops o A N) (IsCarried P x tops) e k outs (λ c N. Up (IsSeenAfter o x tops A) k v c N × Up (HoldsFrom P x tops o A) k v c N) (Up (IsCarried P x tops) k v) d M
+      (λ N h. let s = h.0 in (s.0, s.2, h.1 s.0 s.1 s.2)) (λ c N h. let s = h.0 in (s.0, s.2, h.1 s.0 s.1 s.2))
+      (walks_both (IsSeenAfter o x tops A) (HoldsFrom P x tops o A) e k outs (Up (IsSeenAfter o x tops A) k v) (Up (HoldsFrom P x tops o A) k v) d M seen holds)
+
+  -- and so it is after a restart
+  carried_again : (g : ℕ → Bool) (A : Office) (e k : ℕ) (outs : List Effect) (v : Parts) (d : Disk) (M : Seen) → Walks (IsSeenAgain g x tops A) e k outs (Up (IsSeenAgain g x tops A) k v) d M
+      → Walks (HoldsAgain P x tops g A) e k outs (Up (HoldsAgain P x tops g A) k v) d M → Walks (IsCarried P x tops) e k outs (Up (IsCarried P x tops) k v) d M
+  carried_again g A e k outs v d M seen holds = walks_to (λ N. IsSeenAgain g x tops A N × HoldsAgain P x tops g A N) (IsCarried P x tops) e k outs (λ c N. Up (IsSeenAgain g x tops A) k v c N × Up (HoldsAgain P x tops g A) k v c N) (Up (IsCarried P x tops) k v) d M
+      (λ N h. let s = h.0 in (s.0, s.2, h.1 s.0 s.1 s.2)) (λ c N h. let s = h.0 in (s.0, s.2, h.1 s.0 s.1 s.2))
+      (walks_both (IsSeenAgain g x tops A) (HoldsAgain P x tops g A) e k outs (Up (IsSeenAgain g x tops A) k v) (Up (HoldsAgain P x tops g A) k v) d M seen holds)
+
+pub both_each : (hd : Header) (x : ℕ) (R : Seen → Type 0) (P : Kinds → Office → Seen → Type 0) → KeepsPart hd x R P → KeepsEach hd x R (IsCarried P x)
+both_each hd x R P parts = record {
+  sees = λ tops M s. (s.0.world, s.1.disks);
+  quiet = λ tops e bs M walk quiet r (A, both, part). let s = lines_keep_both x tops e bs A M walk both (lines_seen x (followed tops A.world (λ n. false)) e bs M (A.world, walks_start x tops (λ n. false) A M both)) in (s.0, s.2, parts.quiet tops e bs M A walk quiet r both part s.0 s.1 s.2);
+  stop = λ tops e k d live M walk r (A, both, part). let s = stops_keep_both x tops e k d live A M walk both (stops_seen x (followed tops A.world (λ n. false)) e k d live M (A.world, walks_start x tops (λ n. false) A (at k d live M) both)) in
+      (s.0, s.2, parts.stop tops e k d live M A walk r both part s.0 s.1 s.2);
+  message = λ tops e k d t v from m outs M walk n r sent meant is of (A, both, part). let p = parts.message tops e k d t v from m outs M A walk n r sent meant is of both part in let h = p.0 in
+      carried P x tops (decided_by t.coord m) h.office e k outs v d M (messages_keep_both x tops e k d t v from m outs h.office M walk n sent p.2 p.1 is h.both) h.along;
+  act = λ tops e k d t i M walk n r is free (A, both, part). let p = parts.act tops e k d t i M A walk n r is free both part in let h = p.0 in let did = acts i d.intents t.coord in
+      carried P x tops None h.office e k did.outs (with_coord t did.part) d M (inputs_keep_both hd x tops e k d t i h.office M walk n.kinds n.coord is free p.1 h.both) h.along;
+  begin = λ tops e k d t l how parent M walk n r new may free kind (A, both, part). let did = begin_action l how parent (parent_of parent t.coord) t.coord in
+      carried P x tops None A e k did.outs (with_coord t did.part) d (given l (record { node = k; serial = is_serial_kind how }) M) (actions_keep_both x tops e k d t l (record { node = k; serial = is_serial_kind how }) how parent (parent_of parent t.coord) A M walk n.coord kind both)
+      (parts.begin tops e k d t l how parent M A walk n r new may free kind both part);
+  tick = λ tops e k d t M walk n r (A, both, part). carried P x tops None A e k (tick_outs (record { number = k; disk = d; live = Some t }) t) (with_coord t (again_all t.coord.doings t.coord).part) d M (ticks_keep_both x tops e k d t A M walk n.coord n.begun both) (parts.tick tops e k d t M A walk n r both part);
+  restart = λ tops e k d M walk held r (A, both, part). let p = parts.restart tops e k d M A walk r both part in
+      carried_again P x tops (are_recorded d.intents) A e k (restart_outs hd k (d.inc + 1) d) (parts_in k (d.inc + 1) d) d M
+      (restarts_keep_both x tops e k hd d (are_recorded d.intents) A M walk p.0 both (restarts_are_followed x tops (only_decides (are_recorded d.intents)) e k hd d A M held (λ u i at. any_prepared (λ (z : Uid × Intent). uid_number z.0 == uid_number u) u i d.intents at (test_same (uid_number u))) both)) p.1;
+  first = λ tops walk kinds. let f = parts.first tops walk kinds in (f.0, f.1, f.2);
+}
+
+-- ---- copies agree
+
+-- both halves of the object's machine are carried through a run, and copies agree in it
+pub runs_agree : RunsAgree
+runs_agree hd x test part kept grants parts es =
+    let r = runs_hold hd (IsKeptInRun Known (IsCarried (λ tops A M. part tops A M ≡ true) x)) (all_keep hd x Known (IsCarried (λ tops A M. part tops A M ≡ true) x) calls (gives_votes (λ M. test M ≡ true)) (both_each hd x Known (λ tops A M. part tops A M ≡ true) parts)) es in
+    let h = r.holds in
+    let g = h.1 in
+    let s = g.5 (kinds_of h.0) (kinds_agree h.0 g.0.begun g.1) in
+    record { sent = r.sent; stands = r.stands; holds = copies_agree x (kinds_of h.0) s.0.world (see r.sent (run_all es (format hd))) s.1.disks }
+  where
+    Known : Seen → Type 0
+    Known M = WithCalls (λ M. test M ≡ true) M
+
+    calls : Keeps hd (WithCalls (λ M. test M ≡ true))
+    calls = with_calls hd (λ M. test M ≡ true) kept grants
