@@ -1,5 +1,5 @@
 -- Each handler keeps that decisions are said, and so they are after each run.
-use Rattle.std.proofs.Common.{◌≡◌, ◌⊎◌, ℕ, ◌+◌, not, List, [], Bool, true, false, Option, Some, None, is_some, refl, sym, ◌∙◌, ap, subst, inl, inr, ⊎_elim, ◌++◌, ◌∷◌}
+use Rattle.std.proofs.Common.{◌≡◌, ◌⊎◌, ◌==◌, ◌||◌, ℕ, ◌+◌, not, List, [], Bool, true, false, Option, Some, None, is_some, refl, sym, ◌∙◌, ap, subst, inl, inr, ⊎_elim, ◌++◌, ◌∷◌}
 use Rattle.std.specs.Prelude.{Contains}
 use Rattle.arj_lock.proofs.Members.{in_to, In as Among, in_from}
 use Rattle.arj_protocol.specs.Words.{Body, Header, Kind, Label, Message, Uid, Line}
@@ -17,40 +17,36 @@ use Rattle.arj_protocol.specs.Tree.{next_uid, path_below}
 use Rattle.arj_protocol.specs.World.{format, is_serial_kind, numbered, run_all}
 use Rattle.arj_part_law.proofs.Keys.{at_in, in_at}
 use Rattle.arj_disk_law.specs.Effects as machine
-use Rattle.arj_disk_law.specs.State.{decided, decided_in as is_among}
-use Rattle.arj_disk_law.proofs.Base.{bool_cases, never, some_is}
+use Rattle.arj_disk_law.specs.Guards.{Acks, AreOnlyOf, Begins, Confirms, Decides, Note, is_only_of, only_decides}
+use Rattle.arj_disk_law.specs.Messages as mail
+use Rattle.arj_disk_law.specs.Names.{Office}
+use Rattle.arj_disk_law.specs.State.{decided, decided_in as is_among, naming}
+use Rattle.arj_disk_law.proofs.Base.{bool_cases, never, or_cases, or_left, some_is}
 use Rattle.arj_view_law.specs.Keeps.{Keeps}
 use Rattle.arj_view_law.specs.Seen.{Seen, at, down, given, said, see, up, AreQuiet}
 use Rattle.arj_view_law.specs.Walks.{Up, Walks, halted}
 use Rattle.arj_view_law.proofs.Happens.{runs_hold}
 use Rattle.arj_view_law.proofs.Together.{walks_both, walks_to}
-use Rattle.arj_disk_view_law.specs.Coordinating.{MayCommit, NotesMessage}
 use Rattle.arj_disk_view_law.specs.Deciding.{nodes_of}
-use Rattle.arj_disk_view_law.specs.Formats.{HasObject}
-use Rattle.arj_disk_view_law.specs.Sees.{IsAlong, IsSeenByDisks, Kinds, SeesDisks, followed, IsLater}
-use Rattle.arj_disk_view_law.proofs.FirstSeen.{format_seen}
-use Rattle.arj_disk_view_law.proofs.Follows.{walks_are_followed}
-use Rattle.arj_disk_view_law.proofs.Halts.{lines_seen, stops_seen}
-use Rattle.arj_disk_view_law.proofs.NewActions.{actions_begin}
-use Rattle.arj_disk_view_law.proofs.RestartWalks.{restarts_are_walked}
-use Rattle.arj_disk_view_law.proofs.TickWalks.{ticks_are_walked}
-use Rattle.arj_disk_view_law.proofs.WholeWalks.{acts_are_walked, messages_are_walked}
-use Rattle.arj_disk_run_law.specs.Facts.{GivesVotes}
+use Rattle.arj_disk_view_law.specs.Sees.{Along, IsLater, Kinds, SeesDisks}
+use Rattle.arj_names_view_law.specs.Both.{OnlyFound, SeesBoth}
+use Rattle.arj_names_view_law.specs.Handlers.{Changes, decided_by}
+use Rattle.arj_disk_run_law.specs.Part.{Going, HasHeard, IsCarried, KeepsPart, are_recorded, going_of}
 use Rattle.arj_disk_run_law.specs.Kinds.{kinds_of}
 use Rattle.arj_disk_run_law.proofs.Begun.{kinds_agree}
 use Rattle.arj_call_law.specs.Runs.{WithCalls}
 use Rattle.arj_call_law.proofs.WholeRuns.{with_calls}
 use Rattle.arj_disk_run_law.proofs.Given.{gives_votes}
-use Rattle.arj_disk_run_law.proofs.Kept.{IsKeptInRun, KeepsEach, all_keep}
+use Rattle.arj_disk_run_law.proofs.BothEach.{both_each}
+use Rattle.arj_disk_run_law.proofs.Kept.{IsKeptInRun, all_keep}
 use Rattle.arj_disk_run_law.proofs.RecordWalks.{restart_plain}
 use Rattle.arj_line_law.specs.Book.{book, is_decided, is_top, new_book}
 use Rattle.arj_line_law.specs.Knows.{IsKept, IsWritten, KnowsUp, AreLate, HasBranch}
 use Rattle.arj_line_law.proofs.Books.{decided_later, Later, book_more, quiet_book}
 use Rattle.arj_line_law.proofs.Models.{decided_in, among}
 use Rattle.arj_line_law.proofs.Runs.{lines_keep, act_turns, message_turns, rest_goes, tick_turns}
-use Rattle.arj_disk_line_law.specs.Said.{AreSaid, IsLate, IsTied, RunsAreJournalled, AreDone, IsDoneBy, KnowsIdle}
+use Rattle.arj_disk_line_law.specs.Said.{AreSaid, IsLate, IsTied, RunsAreJournalled, AreDone, IsDoneBy, KnowsIdle, WithTie}
 use Rattle.arj_disk_line_law.proofs.Decisions.{may_decide, new_has_record}
-use Rattle.arj_disk_view_law.proofs.Followed.{coord_on, kind_on, kinds_on, node_on}
 use Rattle.arj_disk_line_law.proofs.Steps.{IsNear, IsStep, later_lines, near_same, step_halted, step_walk, nothing_more}
 use Rattle.arj_model.specs.Actions.{Act, acts as acts_of}
 use Rattle.arj_disk_view_law.proofs.Later.{effects_are_later}
@@ -71,16 +67,73 @@ by_record u n N written here i there = by n.live refl
     by None down = inr (record { down = down; intent = i; there = there })
     by (Some t) up = inl (let k = written.nodes u.node n here in let l : KnowsUp (book N.lines) (let d = n.disk in d.intents) t.coord = k.live t up in l.found u i there)
 
-module _ (R : Seen → Type 0) (Idle : List Line → Uid → Type 0) (idles : KnowsIdle R Idle) (x : ℕ) (tops : Kinds) (unwalked : tops.walk ≡ None) (b : Bool) (W : machine.World) (M : Seen) (sees : SeesDisks x tops W M) (before : AreSaid W M) (was : AreDone Idle W M) where
-  abbrev Now : Kinds
-  Now = followed tops W (may_decide b)
+-- ---- what may be noted
 
-  -- the walk begins here
-  pub begun_here : SeesDisks x Now W M
-  begun_here = walks_are_followed x tops (Some (record { from = W; noted = may_decide b })) W M (record { effects = []; allowed = tt; here = refl; only = tt }) sees
+only_more : (f g : Note → Bool) → ((n : Note) → f n ≡ true → g n ≡ true) → (g_acks : (t : ℕ) → f (Acks t) ≡ false) → (a : machine.Effect) → is_only_of f a ≡ true → is_only_of g a ≡ true
+only_more f g more acks (machine.Begin t p) is = more (Begins t) is
+only_more f g more acks (machine.Take t s) is = is
+only_more f g more acks (machine.Seal t) is = is
+only_more f g more acks (machine.Intend t nodes) is = is
+only_more f g more acks (machine.Decide t) is = more (Decides t) is
+only_more f g more acks (machine.Remove t nodes) is = is
+only_more f g more acks (machine.EndBare t) is = more (Decides t) is
+only_more f g more acks (machine.Halt t) is = is
+only_more f g more acks (machine.Keep t s) is = is
+only_more f g more acks (machine.Move s h) is = is
+only_more f g more acks (machine.Finish s h) is = is
+only_more f g more acks (machine.Drop s h) is = is
+only_more f g more acks (machine.Agree t) is = more (Confirms t) is
+only_more f g more acks (machine.Pass t) is = more (Confirms t) is
+only_more f g more acks (machine.Enter t) is = more (Confirms t) is
+only_more f g more acks (machine.MoveEntry h) is = is
+only_more f g more acks (machine.FinishEntry h) is = is
+only_more f g more acks (machine.DropEntry h) is = is
+only_more f g more acks (machine.Forget r h) is = is
+only_more f g more acks (machine.Send (mail.Prepare t s)) is = is
+only_more f g more acks (machine.Send (mail.Prepared t s)) is = is
+only_more f g more acks (machine.Send (mail.Confirm t)) is = is
+only_more f g more acks (machine.Send (mail.Confirmed t)) is = is
+only_more f g more acks (machine.Send (mail.ToldCommit t m)) is = is
+only_more f g more acks (machine.Send (mail.ToldBare t m)) is = is
+only_more f g more acks (machine.Send (mail.ToldAbort t m)) is = is
+only_more f g more acks (machine.Send (mail.ToldSerial r m)) is = is
+only_more f g more acks (machine.Send (mail.Acked t m)) is = ⊎_elim (λ other. or_left (not (m == naming)) (g (Acks t)) other) (λ on. absurd (never on (acks t))) (or_cases (not (m == naming)) (f (Acks t)) is)
 
-  said_now : (V : machine.World) (N : Seen) → SeesDisks x Now V N → IsWritten N → IsStep M N → AreSaid V N
-  said_now V N now written step u n here d = by (bool_cases (decided W.disk (uid_number u)))
+all_more : (f g : Note → Bool) → ((n : Note) → f n ≡ true → g n ≡ true) → ((t : ℕ) → f (Acks t) ≡ false) → (es : List machine.Effect) → AreOnlyOf f es → AreOnlyOf g es
+all_more f g more acks [] only = tt
+all_more f g more acks (a ∷ es) only = (only_more f g more acks a only.0, all_more f g more acks es only.1)
+
+decides_more : (g : ℕ → Bool) (n : Note) → only_decides g n ≡ true → may_decide true n ≡ true
+decides_more g (Begins z) is = refl
+decides_more g (Decides z) is = refl
+decides_more g (Confirms z) is = refl
+decides_more g (Acks z) is = absurd (never is refl)
+
+-- ---- from one state of the machine to another
+
+-- whoever is decided was so, or has its record
+abbrev Turns : machine.World → machine.World → Type 0
+Turns W V = (u : ℕ) → decided V.disk u ≡ true → (decided W.disk u ≡ true) ⊎ (is_some (V.disk.intent u) ≡ true)
+
+abbrev Goes : machine.World → machine.World → Type 0
+Goes W V = Turns W V × IsLater W V
+
+goes_along : (g : ℕ → Bool) (W V : machine.World) → machine.Whole W → Along (record { from = W; noted = only_decides g }) V → Goes W V
+goes_along g W V whole a = (
+  λ u d. ⊎_elim (λ old. inl old)
+      (λ new. inr (subst (λ (Z : machine.World). is_some (Z.disk.intent u) ≡ true) a.here (new_has_record true u W a.effects (all_more (only_decides g) (may_decide true) (decides_more g) (λ t. refl) a.effects a.only) a.allowed whole new (subst (λ (Z : machine.World). decided Z.disk u ≡ true) (sym a.here) d))))
+      (bool_cases (decided W.disk u)),
+  subst (IsLater W) a.here (effects_are_later W a.effects a.allowed whole),
+)
+
+-- by the changes of a step
+goes_by : (o : Option ℕ) (A B : Office) → machine.Whole A.world → Changes o A B → Goes A.world B.world
+goes_by None A B whole c = (λ u d. inl (ap (λ ds. is_among ds u) (sym c.tops) ∙ d), c.later)
+goes_by (Some t) A B whole c = goes_along (λ z. z == t) A.world B.world whole c.along
+
+module _ (R : Seen → Type 0) (Idle : List Line → Uid → Type 0) (idles : KnowsIdle R Idle) (x : ℕ) (tops : Kinds) (W : machine.World) (M : Seen) (before : AreSaid W M) (was : AreDone Idle W M) where
+  said_now : (V : machine.World) (N : Seen) → SeesDisks x tops V N → Turns W V → IsWritten N → IsStep M N → AreSaid V N
+  said_now V N now turns written step u n here d = by (turns (uid_number u) d)
     where
       recorded : is_some (V.disk.intent (uid_number u)) ≡ true → (is_decided (book N.lines) u ≡ true) ⊎ IsLate u n
       recorded some = at_disk (at_uid u (let c = n.disk in c.intents)) refl
@@ -89,65 +142,51 @@ module _ (R : Seen → Type 0) (Idle : List Line → Uid → Type 0) (idles : Kn
           at_disk None none = let r = now.records u.node n here in absurd (never some (ap is_some (r.is u refl ∙ ap nodes_of none)))
           at_disk (Some i) is = by_record u n N written here i (in_to (u, i) (let c = n.disk in c.intents) (at_in u i (let c = n.disk in c.intents) is))
 
-      by : (decided W.disk (uid_number u) ≡ true) ⊎ (decided W.disk (uid_number u) ≡ false) → (is_decided (book N.lines) u ≡ true) ⊎ IsLate u n
+      by : (decided W.disk (uid_number u) ≡ true) ⊎ (is_some (V.disk.intent (uid_number u)) ≡ true) → (is_decided (book N.lines) u ≡ true) ⊎ IsLate u n
       by (inl old) = let had = step.nodes u.node n here in
           ⊎_elim (λ (is : is_decided (book M.lines) u ≡ true). inl (decided_later (book M.lines) (book N.lines) (subst (λ ls. Later (book M.lines) (book ls)) (sym step.lines) (later_lines M.lines step.more)) u is))
           (λ (late : IsLate u had.0). by_record u n N written here late.intent (subst (λ is. Contains is (u, late.intent)) (sym (had.2 late.down)) late.there)) (before u had.0 had.1 old)
-      by (inr new) = let a = now.along in
-          recorded (subst (λ (Z : machine.World). is_some (Z.disk.intent (uid_number u)) ≡ true) a.here (new_has_record b (uid_number u) W a.effects a.only a.allowed sees.whole new (subst (λ (Z : machine.World). decided Z.disk (uid_number u) ≡ true) (sym a.here) d)))
+      by (inr new) = recorded new
 
   -- who was decided by the journal
-  old_done : (V : machine.World) (N : Seen) → SeesDisks x Now V N → R N → IsKept N → IsStep M N → (u : Uid) → is_decided (book M.lines) u ≡ true → IsDoneBy Idle V N.lines u
-  old_done V N now r known step u is = let a = now.along in
-      done_later R Idle W V N M.lines step.more u idles r known step.lines is (subst (IsLater W) a.here (effects_are_later W a.effects a.allowed sees.whole)) (was u is)
-
-  tied_by : (V : machine.World) (N : Seen) → SeesDisks x Now V N → IsWritten N → IsStep M N → AreDone Idle V N → IsTied x Idle tops N
-  tied_by V N now written step done = (V, walks_are_followed x Now tops.walk V N (subst (λ o. IsAlong o V) (sym unwalked) tt) now, said_now V N now written step, done)
+  old_done : (V : machine.World) (N : Seen) → IsLater W V → R N → IsKept N → IsStep M N → (u : Uid) → is_decided (book M.lines) u ≡ true → IsDoneBy Idle V N.lines u
+  old_done V N later r known step u is = done_later R Idle W V N M.lines step.more u idles r known step.lines is later (was u is)
 
   -- where nobody is newly decided by the journal
-  pub tied_still : (N : Seen) → IsSeenByDisks x Now N → R N → IsKept N → IsStep M N → IsOld (book M.lines) (book N.lines) → IsTied x Idle tops N
-  tied_still N (V, now) r known step old = tied_by V N now known.1 step (λ u is. old_done V N now r known step u (old u is))
+  pub tied_still : (V : machine.World) (N : Seen) → SeesDisks x tops V N → Goes W V → R N → IsKept N → IsStep M N → IsOld (book M.lines) (book N.lines) → IsTied Idle V N
+  tied_still V N now goes r known step old = (said_now V N now goes.0 known.1 step, λ u is. old_done V N goes.1 r known step u (old u is))
 
-  pub tied_walk : (Q : Uid → Type 0) (e k : ℕ) (outs : List Effect) (v : Parts) (d : Disk) (N : Seen)
-      → ((V : machine.World) (c : Disk) (Z : Seen) → SeesDisks x Now V (up k c v Z) → R (up k c v Z) → IsKept (up k c v Z) → IsStep M (up k c v Z) → (u : Uid) → Q u → is_decided (book Z.lines) u ≡ true → IsDoneBy Idle V Z.lines u)
-      → Walks (IsSeenByDisks x Now) e k outs (Up (IsSeenByDisks x Now) k v) d N → Walks (λ Z. R Z × IsKept Z) e k outs (Up (λ Z. R Z × IsKept Z) k v) d N → Walks (IsStep M) e k outs (Up (IsStep M) k v) d N
-      → Walks (λ Z. IsOld (book M.lines) (book Z.lines)) e k outs (λ c Z. IsOldOr Q (book M.lines) (book Z.lines)) d N → Walks (IsTied x Idle tops) e k outs (Up (IsTied x Idle tops) k v) d N
-  tied_walk Q e k outs v d N fresh seen kept steps turns =
-      let one = walks_both (IsSeenByDisks x Now) (λ Z. R Z × IsKept Z) e k outs (Up (IsSeenByDisks x Now) k v) (Up (λ Z. R Z × IsKept Z) k v) d N seen kept in
+  -- along a step, whatever comes of the machine
+  pub tied_walk : (C : Office → Type 0) → ((B : Office) → C B → Goes W B.world) → (Q : Uid → Type 0) (e k : ℕ) (outs : List Effect) (v : Parts) (d : Disk) (N : Seen)
+      → ((V : machine.World) (c : Disk) (Z : Seen) → SeesDisks x tops V (up k c v Z) → R (up k c v Z) → IsKept (up k c v Z) → IsStep M (up k c v Z) → (u : Uid) → Q u → is_decided (book Z.lines) u ≡ true → IsDoneBy Idle V Z.lines u)
+      → Walks (λ Z. R Z × IsKept Z) e k outs (Up (λ Z. R Z × IsKept Z) k v) d N → Walks (IsStep M) e k outs (Up (IsStep M) k v) d N
+      → Walks (λ Z. IsOld (book M.lines) (book Z.lines)) e k outs (λ c Z. IsOldOr Q (book M.lines) (book Z.lines)) d N
+      → Walks (λ Z. (B : Office) → C B → SeesBoth x tops B Z → IsTied Idle B.world Z) e k outs (Up (λ Z. (B : Office) → C B → SeesBoth x tops B Z → IsTied Idle B.world Z) k v) d N
+  tied_walk C goes Q e k outs v d N fresh kept steps turns =
       let two = walks_both (IsStep M) (λ Z. IsOld (book M.lines) (book Z.lines)) e k outs (Up (IsStep M) k v) (λ c Z. IsOldOr Q (book M.lines) (book Z.lines)) d N steps turns in
-      let three = walks_both (λ Z. IsSeenByDisks x Now Z × (R Z × IsKept Z)) (λ Z. IsStep M Z × IsOld (book M.lines) (book Z.lines)) e k outs (λ c Z. Up (IsSeenByDisks x Now) k v c Z × Up (λ Y. R Y × IsKept Y) k v c Z) (λ c Z. Up (IsStep M) k v c Z × IsOldOr Q (book M.lines) (book Z.lines)) d N one two in
-      walks_to (λ Z. (IsSeenByDisks x Now Z × (R Z × IsKept Z)) × (IsStep M Z × IsOld (book M.lines) (book Z.lines))) (IsTied x Idle tops) e k outs
-      (λ c Z. (Up (IsSeenByDisks x Now) k v c Z × Up (λ Y. R Y × IsKept Y) k v c Z) × (Up (IsStep M) k v c Z × IsOldOr Q (book M.lines) (book Z.lines))) (Up (IsTied x Idle tops) k v) d N
-      (λ Z h. tied_still Z h.0.0 h.0.1.0 h.0.1.1 h.1.0 h.1.1)
-      (λ c Z h. at_end c Z h.0.0 h.0.1 h.1.0 h.1.1) three
+      let three = walks_both (λ Z. R Z × IsKept Z) (λ Z. IsStep M Z × IsOld (book M.lines) (book Z.lines)) e k outs (Up (λ Y. R Y × IsKept Y) k v) (λ c Z. Up (IsStep M) k v c Z × IsOldOr Q (book M.lines) (book Z.lines)) d N kept two in
+      walks_to (λ Z. (R Z × IsKept Z) × (IsStep M Z × IsOld (book M.lines) (book Z.lines))) (λ Z. (B : Office) → C B → SeesBoth x tops B Z → IsTied Idle B.world Z) e k outs
+      (λ c Z. Up (λ Y. R Y × IsKept Y) k v c Z × (Up (IsStep M) k v c Z × IsOldOr Q (book M.lines) (book Z.lines))) (Up (λ Z. (B : Office) → C B → SeesBoth x tops B Z → IsTied Idle B.world Z) k v) d N
+      (λ Z h B c seen. tied_still B.world Z seen.disks (goes B c) h.0.0 h.0.1 h.1.0 h.1.1)
+      (λ c Z h B changed seen. at_end c Z h.0 h.1.0 h.1.1 B (goes B changed) seen.disks) three
     where
-      at_end : (c : Disk) (Z : Seen) → IsSeenByDisks x Now (up k c v Z) → R (up k c v Z) × IsKept (up k c v Z) → IsStep M (up k c v Z) → IsOldOr Q (book M.lines) (book Z.lines) → IsTied x Idle tops (up k c v Z)
-      at_end c Z (V, now) kept step turned = tied_by V (up k c v Z) now (let w = kept.1 in w.1) step (λ u is. ⊎_elim (λ old. old_done V (up k c v Z) now kept.0 kept.1 step u old) (λ new. fresh V c Z now kept.0 kept.1 step u new is) (turned u is))
+      at_end : (c : Disk) (Z : Seen) → R (up k c v Z) × IsKept (up k c v Z) → IsStep M (up k c v Z) → IsOldOr Q (book M.lines) (book Z.lines) → (B : Office) → Goes W B.world → SeesDisks x tops B.world (up k c v Z) → IsTied Idle B.world (up k c v Z)
+      at_end c Z kept step turned B goes now = (
+        said_now B.world (up k c v Z) now goes.0 (let w = kept.1 in w.1) step,
+        λ u is. ⊎_elim (λ old. old_done B.world (up k c v Z) goes.1 kept.0 kept.1 step u old) (λ new. fresh B.world c Z now kept.0 kept.1 step u new is) (turned u is),
+      )
 
 -- nothing is decided
-tied_first : {W : machine.World} (x : ℕ) (Idle : List Line → Uid → Type 0) (tops : Kinds) (M : Seen) → SeesDisks x tops W M → (let S = W.disk in S.tops) ≡ [] → M.lines ≡ [] → IsTied x Idle tops M
-tied_first {W} x Idle tops M s none empty = (W, s, (λ u n here d. absurd (never d (ap (λ ds. is_among ds (uid_number u)) none))), λ u is. absurd (never is (ap (λ ls. is_decided (book ls) u) empty)))
+tied_first : (Idle : List Line → Uid → Type 0) (W : machine.World) (M : Seen) → (let S = W.disk in S.tops) ≡ [] → M.lines ≡ [] → IsTied Idle W M
+tied_first Idle W M none empty = ((λ u n here d. absurd (never d (ap (λ ds. is_among ds (uid_number u)) none))), λ u is. absurd (never is (ap (λ ls. is_decided (book ls) u) empty)))
 
 -- ---- each handler
-
--- an answer may decide; else naming may acknowledge
-notes : (m : Message) (c : Coord) (tops : Kinds) (W : machine.World) → NotesMessage (let z = followed tops W (may_decide (is_some (answers m))) in z.walk) c m
-notes m c tops W = record {
-  asker = λ h grants excluded included at. refl;
-  answered = λ a r q z at here now. may_it z (uid_number a.act) (ap is_some at);
-  told = λ root ack ends u how at last on. ap (λ z. not (is_some (answers z))) at;
-}
-  where
-    may_it : (z : commit.Machine) (u : ℕ) → is_some (answers m) ≡ true → MayCommit (let w = followed tops W (may_decide (is_some (answers m))) in w.walk) z u
-    may_it (commit.Voting p left) u is = refl
-    may_it (commit.Preparing p left) u is = refl
-    may_it (commit.Confirming p) u is = is
 
 -- a node that is up was not down
 was_up : {A : Type 0} (t : Parts) → Some t ≡ None → A
 was_up t is = absurd (cc is)
 
-module _ (hd : Header) (x : ℕ) (R : Seen → Type 0) (Idle : List Line → Uid → Type 0) (has_it : HasObject hd x) (kept : Keeps hd R) (gives : GivesVotes R) (idles : KnowsIdle R Idle) where
+module _ (hd : Header) (x : ℕ) (R : Seen → Type 0) (P : Kinds → Office → Seen → Type 0) (Idle : List Line → Uid → Type 0) (kept : Keeps hd R) (parts : KeepsPart hd x R P) (idles : KnowsIdle R Idle) where
   abbrev Both : Seen → Type 0
   Both M = R M × IsKept M
 
@@ -170,20 +209,14 @@ module _ (hd : Header) (x : ℕ) (R : Seen → Type 0) (Idle : List Line → Uid
     first = (kept.first, lines_too.first);
   }
 
-  both_give : GivesVotes Both
-  both_give = record {
-    votes = λ begun k d t M h. gives.votes begun k d t M h.0;
-    booked = λ y tops k d t M from m W h. gives.booked y tops k d t M from m W h.0;
-  }
-
   -- who is decided at the end of a step has a branch there
-  fresh : (tops : Kinds) (W : machine.World) (b : Bool) (M : Seen) (k : ℕ) (v : Parts) (V : machine.World) (c : Disk) (Z : Seen) → SeesDisks x (followed tops W (may_decide b)) V (up k c v Z) → R (up k c v Z) → IsKept (up k c v Z) → IsStep M (up k c v Z) → (u : Uid) → HasBranch v.coord u → is_decided (book Z.lines) u ≡ true → IsDoneBy Idle V Z.lines u
-  fresh tops W b M k v V c Z now r known step u has_it done = branch_done x (followed tops W (may_decide b)) R Idle idles k c v Z V now r known u has_it.0 has_it.1 done
+  fresh : (tops : Kinds) (M : Seen) (k : ℕ) (v : Parts) (V : machine.World) (c : Disk) (Z : Seen) → SeesDisks x tops V (up k c v Z) → R (up k c v Z) → IsKept (up k c v Z) → IsStep M (up k c v Z) → (u : Uid) → HasBranch v.coord u → is_decided (book Z.lines) u ≡ true → IsDoneBy Idle V Z.lines u
+  fresh tops M k v V c Z now r known step u has_it done = branch_done x tops R Idle idles k c v Z V now r known u has_it.0 has_it.1 done
 
   -- and after a restart a record
-  found : (tops : Kinds) (W : machine.World) (M : Seen) (k : ℕ) (d : Disk) (V : machine.World) (c : Disk) (Z : Seen) → SeesDisks x (followed tops W (may_decide true)) V (up k c (parts_in k (d.inc + 1) d) Z) → R (up k c (parts_in k (d.inc + 1) d) Z) → IsKept (up k c (parts_in k (d.inc + 1) d) Z)
+  found : (tops : Kinds) (M : Seen) (k : ℕ) (d : Disk) (V : machine.World) (c : Disk) (Z : Seen) → SeesDisks x tops V (up k c (parts_in k (d.inc + 1) d) Z) → R (up k c (parts_in k (d.inc + 1) d) Z) → IsKept (up k c (parts_in k (d.inc + 1) d) Z)
       → IsStep (down k d M) (up k c (parts_in k (d.inc + 1) d) Z) → (u : Uid) → (i : Intent) × Among (u, i) d.intents → is_decided (book Z.lines) u ≡ true → IsDoneBy Idle V Z.lines u
-  found tops W M k d V c Z now r known step u there done =
+  found tops M k d V c Z now r known step u there done =
       let v = parts_in k (d.inc + 1) d in
       let n : Node = record { number = k; disk = c; live = Some v } in
       let here = node_here Z k n in
@@ -192,7 +225,7 @@ module _ (hd : Header) (x : ℕ) (R : Seen → Type 0) (Idle : List Line → Uid
       let same : record { number = k; disk = d; live = None } ≡ had.0 = some_is down_now had.1 in
       let kept_is : c.intents ≡ d.intents = had.2 (ap (λ (m : Node). m.live) (sym same)) ∙ ap (λ (m : Node). let q = m.disk in q.intents) (sym same) in
       let records = now.records k n here in
-      record_done x (followed tops W (may_decide true)) R Idle idles k c v Z V now u there.0 (in_at (u, there.0) c.intents records.sorted (subst (λ is. Among (u, there.0) is) (sym kept_is) there.1)) (none_open k (d.inc + 1) d.intents u)
+      record_done x tops R Idle idles k c v Z V now u there.0 (in_at (u, there.0) c.intents records.sorted (subst (λ is. Among (u, there.0) is) (sym kept_is) there.1)) (none_open k (d.inc + 1) d.intents u)
 
   no_lines : (e k : ℕ) (M : Seen) → IsOld (book M.lines) (book (M.lines ++ numbered e (body.Halted k ∷ [])))
   no_lines e k M = subst (IsOld (book M.lines)) (sym (book_more new_book M.lines (numbered e (body.Halted k ∷ [])))) (λ u on. on)
@@ -204,52 +237,73 @@ module _ (hd : Header) (x : ℕ) (R : Seen → Type 0) (Idle : List Line → Uid
   turns : (Q : Uid → Type 0) (e k : ℕ) (outs : List Effect) (d : Disk) (M N : Seen) → N.lines ≡ M.lines → AreLate Q (book M.lines) outs → Walks (λ Z. IsOld (book M.lines) (book Z.lines)) e k outs (λ c Z. IsOldOr Q (book M.lines) (book Z.lines)) d N
   turns Q e k outs d M N same late = late_walk Q (book M.lines) e k outs d N (book M.lines) (ap book same) late (inl (λ u on. on)) (λ u on. inl on)
 
-  tied_each : KeepsEach hd x Both (IsTied x Idle)
-  tied_each = record {
-    sees = λ tops M h. (h.0, h.1);
-    quiet = λ tops e bs M walk quiet r h. let w = lines_too.quiet e bs M quiet r.1 in
-        tied_still R Idle idles x tops walk false h.0 M h.1 h.2 h.3 (said e bs M) (lines_seen x (followed tops h.0 (may_decide false)) e bs M (h.0, begun_here R Idle idles x tops walk false h.0 M h.1 h.2 h.3)) (kept.quiet e bs M quiet r.0) w (quiet_step e bs M) (quiet_lines e bs M quiet);
-    stop = λ tops e k d live M walk r h. let w = lines_too.stop e k d live M r.1 in
-        tied_still R Idle idles x tops walk false h.0 (at k d live M) h.1 h.2 h.3 (halted e k d M) (stops_seen x (followed tops h.0 (may_decide false)) e k d live M (h.0, begun_here R Idle idles x tops walk false h.0 (at k d live M) h.1 h.2 h.3)) (kept.stop e k d live M r.0) w (step_halted k d live M e d M (near_same M) (λ down. refl)) (no_lines e k M);
-    message = λ tops e k d t v from m outs M walk n r sent meant is h.
-        let b = is_some (answers m) in
-        let s = begun_here R Idle idles x tops walk b h.0 (up k d t M) h.1 h.2 h.3 in
+  abbrev Tie : Kinds → Office → Seen → Type 0
+  Tie tops A M = WithTie P Idle tops A M
+
+  abbrev Tied_from : Kinds → (Office → Type 0) → Seen → Type 0
+  Tied_from tops C Z = (B : Office) → C B → SeesBoth x tops B Z → IsTied Idle B.world Z
+
+  -- both along one step
+  both_along : (tops : Kinds) (C : Office → Type 0) (e k : ℕ) (outs : List Effect) (v : Parts) (d : Disk) (N : Seen) → Walks (λ Z. (B : Office) → C B → SeesBoth x tops B Z → P tops B Z) e k outs (Up (λ Z. (B : Office) → C B → SeesBoth x tops B Z → P tops B Z) k v) d N
+      → Walks (λ Z. (B : Office) → C B → SeesBoth x tops B Z → IsTied Idle B.world Z) e k outs (Up (λ Z. (B : Office) → C B → SeesBoth x tops B Z → IsTied Idle B.world Z) k v) d N
+      → Walks (λ Z. (B : Office) → C B → SeesBoth x tops B Z → WithTie P Idle tops B Z) e k outs (Up (λ Z. (B : Office) → C B → SeesBoth x tops B Z → WithTie P Idle tops B Z) k v) d N
+  both_along tops C e k outs v d N a b = walks_to (λ Z. ((B : Office) → C B → SeesBoth x tops B Z → P tops B Z) × Tied_from tops C Z) (λ Z. (B : Office) → C B → SeesBoth x tops B Z → WithTie P Idle tops B Z) e k outs
+      (λ c Z. ((B : Office) → C B → SeesBoth x tops B (up k c v Z) → P tops B (up k c v Z)) × Tied_from tops C (up k c v Z)) (Up (λ Z. (B : Office) → C B → SeesBoth x tops B Z → WithTie P Idle tops B Z) k v) d N
+      (λ Z h B c s. (h.0 B c s, h.1 B c s)) (λ c Z h B changed s. (h.0 B changed s, h.1 B changed s))
+      (walks_both (λ Z. (B : Office) → C B → SeesBoth x tops B Z → P tops B Z) (Tied_from tops C) e k outs (Up (λ Z. (B : Office) → C B → SeesBoth x tops B Z → P tops B Z) k v) (Up (Tied_from tops C) k v) d N a b)
+
+  -- where answers were taken first
+  abbrev heard_too : (tops : Kinds) (o : Option ℕ) (A : Office) (g : Going) (M : Seen) → IsTied Idle A.world (up g.node g.disk g.before M) → (h : HasHeard P x tops o A (g, M))
+      → ((B : Office) → B.world ≡ A.world → Walks (Tied_from tops (Changes o B)) g.event g.node g.outs (Up (Tied_from tops (Changes o B)) g.node g.after) g.disk M) → HasHeard (WithTie P Idle) x tops o A (g, M)
+  heard_too tops o A g M tie h walk = record { office = h.office; only = h.only; both = h.both; along = both_along tops (Changes o h.office) g.event g.node g.outs g.after g.disk M h.along (walk h.office (let z = h.only in z.world)) }
+
+  goes_from : (o : Option ℕ) (A C : Office) → C.world ≡ A.world → machine.Whole A.world → (B : Office) → Changes o C B → Goes A.world B.world
+  goes_from o A C same whole B c = subst (λ W. Goes W B.world) same (goes_by o C B (subst machine.Whole (sym same) whole) c)
+
+  tied_part : KeepsPart hd x Both (WithTie P Idle)
+  tied_part = record {
+    quiet = λ tops e bs M A walk quiet r both (part, tie) B changed seen. let w = lines_too.quiet e bs M quiet r.1 in
+        (parts.quiet tops e bs M A walk quiet r.0 both part B changed seen,
+        tied_still R Idle idles x tops A.world M tie.0 tie.1 B.world (said e bs M) seen.disks (goes_by None A B (let c = both.disks in c.whole) changed) (kept.quiet e bs M quiet r.0) w (quiet_step e bs M) (quiet_lines e bs M quiet));
+    stop = λ tops e k d live M A walk r both (part, tie) B changed seen. let w = lines_too.stop e k d live M r.1 in
+        (parts.stop tops e k d live M A walk r.0 both part B changed seen,
+        tied_still R Idle idles x tops A.world (at k d live M) tie.0 tie.1 B.world (halted e k d M) seen.disks (goes_by None A B (let c = both.disks in c.whole) changed) (kept.stop e k d live M r.0) w (step_halted k d live M e d M (near_same M) (λ down. refl)) (no_lines e k M));
+    message = λ tops e k d t v from m outs M A walk n r sent meant is of both (part, tie).
+        let p = parts.message tops e k d t v from m outs M A walk n r.0 sent meant is of both part in
         let g = message_turns e k d t M r.1.0 r.1.1 v from m outs sent is in
-        tied_walk R Idle idles x tops walk b h.0 (up k d t M) h.1 h.2 h.3 (HasBranch v.coord) e k outs v d M (fresh tops h.0 b (up k d t M) k v)
-        (messages_are_walked x (followed tops h.0 (may_decide b)) e k d t v from m outs M (node_on tops (Some (record { from = h.0; noted = may_decide b })) k d t M n) (notes m t.coord tops h.0) sent h.0 s (gives.booked x tops k d t M from m h.0 r.0 sent h.1) is)
-        (both_keep.message e k d t v from m outs M r sent meant is) (step_walk k d (Some t) M e v outs d M (near_same M) (was_up t) (was_up t)) (turns (HasBranch v.coord) e k outs d M M refl g.late);
-    act = λ tops e k d t i M walk n r is free h.
+        (heard_too tops (decided_by t.coord m) A (record { event = e; node = k; disk = d; before = t; outs = outs; after = v }) M tie p.0
+        (λ C same. tied_walk R Idle idles x tops A.world (up k d t M) tie.0 tie.1 (Changes (decided_by t.coord m) C) (goes_from (decided_by t.coord m) A C same (let c = both.disks in c.whole)) (HasBranch v.coord) e k outs v d M (fresh tops (up k d t M) k v)
+        (both_keep.message e k d t v from m outs M r sent meant is) (step_walk k d (Some t) M e v outs d M (near_same M) (was_up t) (was_up t)) (turns (HasBranch v.coord) e k outs d M M refl g.late)), p.1, p.2);
+    act = λ tops e k d t i M A walk n r is free both (part, tie).
         let did = acts i d.intents t.coord in
-        let s = begun_here R Idle idles x tops walk false h.0 (up k d t M) h.1 h.2 h.3 in
+        let p = parts.act tops e k d t i M A walk n r.0 is free both part in
         let g = act_turns e k d t M r.1.0 r.1.1 hd i is free in
-        tied_walk R Idle idles x tops walk false h.0 (up k d t M) h.1 h.2 h.3 (HasBranch did.part) e k did.outs (with_coord t did.part) d M (fresh tops h.0 false (up k d t M) k (with_coord t did.part))
-        (acts_are_walked hd x (followed tops h.0 (may_decide false)) e k d t i M (kinds_on tops (Some (record { from = h.0; noted = may_decide false })) n.kinds) (coord_on tops (Some (record { from = h.0; noted = may_decide false })) d.intents t.coord n.coord) is free (λ l b which at. refl) h.0 s)
-        (both_keep.act e k d t i M is free r) (step_walk k d (Some t) M e (with_coord t did.part) did.outs d M (near_same M) (was_up t) (was_up t)) (turns (HasBranch did.part) e k did.outs d M M refl g.late);
-    begin = λ tops e k d t l how parent M walk n r new may free kind h.
+        (heard_too tops None A (going_of e k d t did) M tie p.0
+        (λ C same. tied_walk R Idle idles x tops A.world (up k d t M) tie.0 tie.1 (Changes None C) (goes_from None A C same (let c = both.disks in c.whole)) (HasBranch did.part) e k did.outs (with_coord t did.part) d M (fresh tops (up k d t M) k (with_coord t did.part))
+        (both_keep.act e k d t i M is free r) (step_walk k d (Some t) M e (with_coord t did.part) did.outs d M (near_same M) (was_up t) (was_up t)) (turns (HasBranch did.part) e k did.outs d M M refl g.late)), p.1);
+    begin = λ tops e k d t l how parent M A walk n r new may free kind both (part, tie).
         let did = begin_action l how parent (parent_of parent t.coord) t.coord in
-        let s = begun_here R Idle idles x tops walk false h.0 (up k d t M) h.1 h.2 h.3 in
-        tied_walk R Idle idles x tops walk false h.0 (up k d t M) h.1 h.2 h.3 (HasBranch did.part) e k did.outs (with_coord t did.part) d (given l (record { node = k; serial = is_serial_kind how }) M) (fresh tops h.0 false (up k d t M) k (with_coord t did.part))
-        (actions_begin x (followed tops h.0 (may_decide false)) e k d t l (record { node = k; serial = is_serial_kind how }) how parent (parent_of parent t.coord) M (coord_on tops (Some (record { from = h.0; noted = may_decide false })) d.intents t.coord n.coord)
-        (kind_on tops (Some (record { from = h.0; noted = may_decide false })) (next_uid t.coord.tree) how (path_below how (parent_of parent t.coord) (next_uid t.coord.tree)) kind) h.0 s)
-        (both_keep.begin e k d t l how parent M new may free r) (step_walk k d (Some t) M e (with_coord t did.part) did.outs d (given l (record { node = k; serial = is_serial_kind how }) M) (given_near l how k M) (was_up t) (was_up t))
-        (turns (HasBranch did.part) e k did.outs d M (given l (record { node = k; serial = is_serial_kind how }) M) refl ((λ u is. absurd (cc is)), tt));
-    tick = λ tops e k d t M walk n r h.
+        let N : Seen = given l (record { node = k; serial = is_serial_kind how }) M in
+        both_along tops (Changes None A) e k did.outs (with_coord t did.part) d N (parts.begin tops e k d t l how parent M A walk n r.0 new may free kind both part)
+        (tied_walk R Idle idles x tops A.world (up k d t M) tie.0 tie.1 (Changes None A) (λ B c. goes_by None A B (let z = both.disks in z.whole) c) (HasBranch did.part) e k did.outs (with_coord t did.part) d N (fresh tops (up k d t M) k (with_coord t did.part))
+        (both_keep.begin e k d t l how parent M new may free r) (step_walk k d (Some t) M e (with_coord t did.part) did.outs d N (given_near l how k M) (was_up t) (was_up t))
+        (turns (HasBranch did.part) e k did.outs d M N refl ((λ u is. absurd (cc is)), tt)));
+    tick = λ tops e k d t M A walk n r both (part, tie).
         let outs = tick_outs (record { number = k; disk = d; live = Some t }) t in
         let v = with_coord t (again_all t.coord.doings t.coord).part in
-        let s = begun_here R Idle idles x tops walk false h.0 (up k d t M) h.1 h.2 h.3 in
         let g = tick_turns e k d t M r.1.0 r.1.1 in
-        tied_walk R Idle idles x tops walk false h.0 (up k d t M) h.1 h.2 h.3 (HasBranch v.coord) e k outs v d M (fresh tops h.0 false (up k d t M) k v)
-        (ticks_are_walked x (followed tops h.0 (may_decide false)) e k d t M (coord_on tops (Some (record { from = h.0; noted = may_decide false })) d.intents t.coord n.coord) n.begun h.0 s)
-        (both_keep.tick e k d t M r) (step_walk k d (Some t) M e v outs d M (near_same M) (was_up t) (was_up t)) (turns (HasBranch v.coord) e k outs d M M refl g.late);
-    restart = λ tops e k d M walk held r h.
+        both_along tops (Changes None A) e k outs v d M (parts.tick tops e k d t M A walk n r.0 both part)
+        (tied_walk R Idle idles x tops A.world (up k d t M) tie.0 tie.1 (Changes None A) (λ B c. goes_by None A B (let z = both.disks in z.whole) c) (HasBranch v.coord) e k outs v d M (fresh tops (up k d t M) k v)
+        (both_keep.tick e k d t M r) (step_walk k d (Some t) M e v outs d M (near_same M) (was_up t) (was_up t)) (turns (HasBranch v.coord) e k outs d M M refl g.late));
+    restart = λ tops e k d M A walk r both (part, tie).
         let outs = restart_outs hd k (d.inc + 1) d in
         let v = parts_in k (d.inc + 1) d in
-        let s = begun_here R Idle idles x tops walk true h.0 (down k d M) h.1 h.2 h.3 in
+        let p = parts.restart tops e k d M A walk r.0 both part in
         let g = rest_goes hd e k d M r.1.0 r.1.1 in
-        tied_walk R Idle idles x tops walk true h.0 (down k d M) h.1 h.2 h.3 (λ u. (i : Intent) × Among (u, i) d.intents) e k outs v d M (found tops h.0 M k d)
-        (restarts_are_walked x (followed tops h.0 (may_decide true)) e k hd d M held (λ u i at. refl) h.0 s)
-        (both_keep.restart e k d M r) (step_walk k d None M e v outs d M (near_same M) (λ down. restart_plain [] hd k d) (λ down. refl)) (turns (λ u. (i : Intent) × Among (u, i) d.intents) e k outs d M M refl g.late);
-    first = λ tops walk. tied_first x Idle tops (see [] (format hd)) (format_seen hd x tops has_it walk) refl refl;
+        (p.0, both_along tops (OnlyFound (are_recorded d.intents) A) e k outs v d M p.1
+        (tied_walk R Idle idles x tops A.world (down k d M) tie.0 tie.1 (OnlyFound (are_recorded d.intents) A) (λ B c. goes_along (are_recorded d.intents) A.world B.world (let z = both.disks in z.whole) c.along) (λ u. (i : Intent) × Among (u, i) d.intents) e k outs v d M (found tops M k d)
+        (both_keep.restart e k d M r) (step_walk k d None M e v outs d M (near_same M) (λ down. restart_plain [] hd k d) (λ down. refl)) (turns (λ u. (i : Intent) × Among (u, i) d.intents) e k outs d M M refl g.late)));
+    first = λ tops walk kinds. let f = parts.first tops walk kinds in (f.0, f.1, (f.2, tied_first Idle f.0.world (see [] (format hd)) f.3 refl), f.3);
   }
     where
       quiet_step : (e : ℕ) (bs : List Body) (M : Seen) → IsStep M (said e bs M)
@@ -273,13 +327,15 @@ idle_with : (R : Seen → Type 0) (Idle : List Line → Uid → Type 0) → Know
 idle_with R Idle idles = record { stays = λ M h. idles.stays M h.0.0; alone = λ k d t M h. idles.alone k d t M h.0.0 }
 
 pub runs_are_journalled : RunsAreJournalled
-runs_are_journalled hd x has_it test kept gives idle idles es =
+runs_are_journalled hd x test part kept grants parts idle idles es =
     let R : Seen → Type 0 = WithCalls (λ M. test M ≡ true) in
-    let keeps_too = with_calls hd (λ M. test M ≡ true) kept gives.calls in
-    let votes = gives_votes (λ M. test M ≡ true) gives in
+    let keeps_too = with_calls hd (λ M. test M ≡ true) kept grants in
     let idle_too = idle_with (λ M. test M ≡ true) (λ ls u. idle ls u ≡ true) idles in
     let Idle : List Line → Uid → Type 0 = λ ls u. idle ls u ≡ true in
-    let r = runs_hold hd (IsKeptInRun (Both hd x R Idle has_it keeps_too votes idle_too) (IsTied x Idle)) (all_keep hd x (Both hd x R Idle has_it keeps_too votes idle_too) (IsTied x Idle) (both_keep hd x R Idle has_it keeps_too votes idle_too) (both_give hd x R Idle has_it keeps_too votes idle_too) (tied_each hd x R Idle has_it keeps_too votes idle_too)) es in
+    let P : Kinds → Office → Seen → Type 0 = λ tops A M. part tops A M ≡ true in
+    let Q : Kinds → Seen → Type 0 = IsCarried (WithTie P Idle) x in
+    let r = runs_hold hd (IsKeptInRun (Both hd x R P Idle keeps_too parts idle_too) Q) (all_keep hd x (Both hd x R P Idle keeps_too parts idle_too) Q (both_keep hd x R P Idle keeps_too parts idle_too)
+    (λ begun k d t M h. gives_votes (λ M. test M ≡ true) begun k d t M h.0) (both_each hd x (Both hd x R P Idle keeps_too parts idle_too) (WithTie P Idle) (tied_part hd x R P Idle keeps_too parts idle_too))) es in
     let h = r.holds in
     let g = h.1 in
     let s = g.5 (kinds_of h.0) (kinds_agree h.0 g.0.begun g.1) in
@@ -290,10 +346,10 @@ runs_are_journalled hd x has_it test kept gives idle idles es =
       stands = r.stands;
       holds = record {
         tops = kinds_of h.0;
-        machine = s.0;
-        sees = s.1;
-        said = λ u n here d. ⊎_elim (λ is. inl (decided_in lines right u is)) (λ late. inr late) (s.2 u n here d);
-        done = λ a there top is. its_own Idle lines (is_sound lines right) a there top s.0 (s.3 a.uid (sym (let b = (is_sound lines right).reads in b.decided a there) ∙ is));
+        machine = s.0.world;
+        sees = s.1.disks;
+        said = λ u n here d. ⊎_elim (λ is. inl (decided_in lines right u is)) (λ late. inr late) (s.2.1.0 u n here d);
+        done = λ a there top is. its_own Idle lines (is_sound lines right) a there top s.0.world (s.2.1.1 a.uid (sym (let b = (is_sound lines right).reads in b.decided a there) ∙ is));
       };
     }
   where

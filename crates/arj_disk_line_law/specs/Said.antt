@@ -14,9 +14,10 @@ use Rattle.arj_disk_law.specs.Effects as machine
 use Rattle.arj_disk_law.specs.State.{decided}
 use Rattle.arj_view_law.specs.Keeps.{Holds, Keeps}
 use Rattle.arj_view_law.specs.Seen.{Seen, up}
-use Rattle.arj_disk_view_law.specs.Formats.{HasObject}
 use Rattle.arj_disk_view_law.specs.Sees.{Kinds, SeesDisks}
-use Rattle.arj_disk_run_law.specs.Facts.{Gives}
+use Rattle.arj_call_law.specs.Runs.{Grants, WithCalls}
+use Rattle.arj_disk_law.specs.Names.{Office}
+use Rattle.arj_disk_run_law.specs.Part.{KeepsPart}
 use Rattle.arj_line_law.specs.Book.{book, is_decided, is_top}
 use Rattle.arj_line_law.specs.Knows.{IsKept}
 use Rattle.arj_line_law.specs.Laws.{IsCommittedIn, IsDone}
@@ -54,9 +55,13 @@ pub record KnowsIdle (R : Seen → Type 0) (Idle : List Line → Uid → Type 0)
 
 -- ---- runs
 
--- the object is seen by a machine whose decisions are those of the journal
-abbrev pub IsTied : ℕ → (List Line → Uid → Type 0) → Kinds → Seen → Type 0
-IsTied x Idle tops M = (W : machine.World) × SeesDisks x tops W M × AreSaid W M × AreDone Idle W M
+-- the machine's decisions are those of the journal
+abbrev pub IsTied : (List Line → Uid → Type 0) → machine.World → Seen → Type 0
+IsTied Idle W M = AreSaid W M × AreDone Idle W M
+
+-- with what is carried beside the machine's state
+abbrev pub WithTie : (Kinds → Office → Seen → Type 0) → (List Line → Uid → Type 0) → Kinds → Office → Seen → Type 0
+WithTie P Idle tops A M = P tops A M × IsTied Idle A.world M
 
 -- the same, in the words of `arj_model`
 pub record IsJournalled (x : ℕ) (Idle : List Line → Uid → Type 0) (M : Seen) : Type 0 where
@@ -67,7 +72,8 @@ pub record IsJournalled (x : ℕ) (Idle : List Line → Uid → Type 0) (M : See
   pub done : (a : Act) → Contains (acts M.lines) a → is_top a.kind ≡ true → IsDone M.lines a
       → (decided (let W = machine in W.disk) (uid_number a.uid) ≡ true) ⊎ ((let W = machine in W.disk.bare) (uid_number a.uid) ≡ true) ⊎ Idle M.lines a.uid
 
--- What is kept by each handler, and gives what the disk half counts on and who is idle, has it in every run.
+-- What is kept by each handler, grants what calls stand on, and gives who is idle, with what is kept beside the machine's state of what
+-- coordinators have and messages claim, has it in every run.
 abbrev pub RunsAreJournalled : Type 0
-RunsAreJournalled = (hd : Header) (x : ℕ) → HasObject hd x → (test : Seen → Bool) → Keeps hd (λ M. test M ≡ true) → Gives (λ M. test M ≡ true) → (idle : List Line → Uid → Bool) → KnowsIdle (λ M. test M ≡ true) (λ lines u. idle lines u ≡ true)
+RunsAreJournalled = (hd : Header) (x : ℕ) (test : Seen → Bool) (part : Kinds → Office → Seen → Bool) → Keeps hd (λ M. test M ≡ true) → Grants (λ M. test M ≡ true) → KeepsPart hd x (WithCalls (λ M. test M ≡ true)) (λ tops A M. part tops A M ≡ true) → (idle : List Line → Uid → Bool) → KnowsIdle (λ M. test M ≡ true) (λ lines u. idle lines u ≡ true)
     → (es : List Asked) → Holds hd (IsJournalled x (λ lines u. idle lines u ≡ true)) (run_all es (format hd))
