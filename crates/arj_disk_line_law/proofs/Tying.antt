@@ -262,25 +262,32 @@ module _ (hd : Header) (x : ℕ) (R : Seen → Type 0) (P : Kinds → Office →
 
   tied_part : KeepsPart hd x Both (WithTie P Idle)
   tied_part = record {
-    quiet = λ tops e bs M A walk quiet r both (part, tie) B changed seen. let w = lines_too.quiet e bs M quiet r.1 in
-        (parts.quiet tops e bs M A walk quiet r.0 both part B changed seen,
-        tied_still R Idle idles x tops A.world M tie.0 tie.1 B.world (said e bs M) seen.disks (goes_by None A B (let c = both.disks in c.whole) changed) (kept.quiet e bs M quiet r.0) w (quiet_step e bs M) (quiet_lines e bs M quiet));
-    stop = λ tops e k d live M A walk r both (part, tie) B changed seen. let w = lines_too.stop e k d live M r.1 in
-        (parts.stop tops e k d live M A walk r.0 both part B changed seen,
-        tied_still R Idle idles x tops A.world (at k d live M) tie.0 tie.1 B.world (halted e k d M) seen.disks (goes_by None A B (let c = both.disks in c.whole) changed) (kept.stop e k d live M r.0) w (step_halted k d live M e d M (near_same M) (λ down. refl)) (no_lines e k M));
+    quiet = λ tops e bs M A walk quiet r both (part, tie) B changed seen. let w = lines_too.quiet e bs M quiet r.1 in (
+      parts.quiet tops e bs M A walk quiet r.0 both part B changed seen,
+      tied_still R Idle idles x tops A.world M tie.0 tie.1 B.world (said e bs M) seen.disks (goes_by None A B (let c = both.disks in c.whole) changed) (kept.quiet e bs M quiet r.0) w (quiet_step e bs M) (quiet_lines e bs M quiet),
+    );
+    stop = λ tops e k d live M A walk r both (part, tie) B changed seen. let w = lines_too.stop e k d live M r.1 in (
+      parts.stop tops e k d live M A walk r.0 both part B changed seen,
+      tied_still R Idle idles x tops A.world (at k d live M) tie.0 tie.1 B.world (halted e k d M) seen.disks (goes_by None A B (let c = both.disks in c.whole) changed) (kept.stop e k d live M r.0) w (step_halted k d live M e d M (near_same M) (λ down. refl)) (no_lines e k M),
+    );
     message = λ tops e k d t v from m outs M A walk n r sent meant is of both (part, tie).
         let p = parts.message tops e k d t v from m outs M A walk n r.0 sent meant is of both part in
-        let g = message_turns e k d t M r.1.0 r.1.1 v from m outs sent is in
-        (heard_too tops (decided_by t.coord m) A (record { event = e; node = k; disk = d; before = t; outs = outs; after = v }) M tie p.0
-        (λ C same. tied_walk R Idle idles x tops A.world (up k d t M) tie.0 tie.1 (Changes (decided_by t.coord m) C) (goes_from (decided_by t.coord m) A C same (let c = both.disks in c.whole)) (HasBranch v.coord) e k outs v d M (fresh tops (up k d t M) k v)
-        (both_keep.message e k d t v from m outs M r sent meant is) (step_walk k d (Some t) M e v outs d M (near_same M) (was_up t) (was_up t)) (turns (HasBranch v.coord) e k outs d M M refl g.late)), p.1, p.2);
+        let g = message_turns e k d t M r.1.0 r.1.1 v from m outs sent is in (
+          heard_too tops (decided_by t.coord m) A (record { event = e; node = k; disk = d; before = t; outs = outs; after = v }) M tie p.0
+              (λ C same. tied_walk R Idle idles x tops A.world (up k d t M) tie.0 tie.1 (Changes (decided_by t.coord m) C) (goes_from (decided_by t.coord m) A C same (let c = both.disks in c.whole)) (HasBranch v.coord) e k outs v d M (fresh tops (up k d t M) k v)
+              (both_keep.message e k d t v from m outs M r sent meant is) (step_walk k d (Some t) M e v outs d M (near_same M) (was_up t) (was_up t)) (turns (HasBranch v.coord) e k outs d M M refl g.late)),
+          p.1,
+          p.2,
+        );
     act = λ tops e k d t i M A walk n r is free both (part, tie).
         let did = acts i d.intents t.coord in
         let p = parts.act tops e k d t i M A walk n r.0 is free both part in
-        let g = act_turns e k d t M r.1.0 r.1.1 hd i is free in
-        (heard_too tops None A (going_of e k d t did) M tie p.0
-        (λ C same. tied_walk R Idle idles x tops A.world (up k d t M) tie.0 tie.1 (Changes None C) (goes_from None A C same (let c = both.disks in c.whole)) (HasBranch did.part) e k did.outs (with_coord t did.part) d M (fresh tops (up k d t M) k (with_coord t did.part))
-        (both_keep.act e k d t i M is free r) (step_walk k d (Some t) M e (with_coord t did.part) did.outs d M (near_same M) (was_up t) (was_up t)) (turns (HasBranch did.part) e k did.outs d M M refl g.late)), p.1);
+        let g = act_turns e k d t M r.1.0 r.1.1 hd i is free in (
+          heard_too tops None A (going_of e k d t did) M tie p.0
+              (λ C same. tied_walk R Idle idles x tops A.world (up k d t M) tie.0 tie.1 (Changes None C) (goes_from None A C same (let c = both.disks in c.whole)) (HasBranch did.part) e k did.outs (with_coord t did.part) d M (fresh tops (up k d t M) k (with_coord t did.part))
+              (both_keep.act e k d t i M is free r) (step_walk k d (Some t) M e (with_coord t did.part) did.outs d M (near_same M) (was_up t) (was_up t)) (turns (HasBranch did.part) e k did.outs d M M refl g.late)),
+          p.1,
+        );
     begin = λ tops e k d t l how parent M A walk n r new may free kind both (part, tie).
         let did = begin_action l how parent (parent_of parent t.coord) t.coord in
         let N : Seen = given l (record { node = k; serial = is_serial_kind how }) M in
@@ -299,10 +306,12 @@ module _ (hd : Header) (x : ℕ) (R : Seen → Type 0) (P : Kinds → Office →
         let outs = restart_outs hd k (d.inc + 1) d in
         let v = parts_in k (d.inc + 1) d in
         let p = parts.restart tops e k d M A walk r.0 both part in
-        let g = rest_goes hd e k d M r.1.0 r.1.1 in
-        (p.0, both_along tops (OnlyFound (are_recorded d.intents) A) e k outs v d M p.1
-        (tied_walk R Idle idles x tops A.world (down k d M) tie.0 tie.1 (OnlyFound (are_recorded d.intents) A) (λ B c. goes_along (are_recorded d.intents) A.world B.world (let z = both.disks in z.whole) c.along) (λ u. (i : Intent) × Among (u, i) d.intents) e k outs v d M (found tops M k d)
-        (both_keep.restart e k d M r) (step_walk k d None M e v outs d M (near_same M) (λ down. restart_plain [] hd k d) (λ down. refl)) (turns (λ u. (i : Intent) × Among (u, i) d.intents) e k outs d M M refl g.late)));
+        let g = rest_goes hd e k d M r.1.0 r.1.1 in (
+          p.0,
+          both_along tops (OnlyFound (are_recorded d.intents) A) e k outs v d M p.1
+              (tied_walk R Idle idles x tops A.world (down k d M) tie.0 tie.1 (OnlyFound (are_recorded d.intents) A) (λ B c. goes_along (are_recorded d.intents) A.world B.world (let z = both.disks in z.whole) c.along) (λ u. (i : Intent) × Among (u, i) d.intents) e k outs v d M (found tops M k d)
+              (both_keep.restart e k d M r) (step_walk k d None M e v outs d M (near_same M) (λ down. restart_plain [] hd k d) (λ down. refl)) (turns (λ u. (i : Intent) × Among (u, i) d.intents) e k outs d M M refl g.late)),
+        );
     first = λ tops walk kinds. let f = parts.first tops walk kinds in (f.0, f.1, (f.2, tied_first Idle f.0.world (see [] (format hd)) f.3 refl), f.3);
   }
     where

@@ -59,9 +59,16 @@ module _ (acts : List Action) (begun : AreBegun acts) (tops : Kinds) (agree : Ag
       by kind.Independent is t of s = alone of.0 of.2
       by kind.Constituent is t of s =
           let b : Action = s.0 in
-          let serial : tops.is_serial (uid_number (act_of b)) ≡ true = (subst (λ k. IsOfKind tops (act_of b) k b.path) s.2 (agree.each b s.1).0).1 in
-          (of.0, inr (act_of b, s.3, (agree.each c there).1 of.0 ∙ ap (λ us. uid_number (first_uid us)) s.3,
-          uid_other (act_of b) (act_of c) (λ same. never serial (ap (λ u. tops.is_serial (uid_number u)) same ∙ of.1)), serial))
+          let serial : tops.is_serial (uid_number (act_of b)) ≡ true = (subst (λ k. IsOfKind tops (act_of b) k b.path) s.2 (agree.each b s.1).0).1 in (
+            of.0,
+            inr (
+              act_of b,
+              s.3,
+              (agree.each c there).1 of.0 ∙ ap (λ us. uid_number (first_uid us)) s.3,
+              uid_other (act_of b) (act_of c) (λ same. never serial (ap (λ u. tops.is_serial (uid_number u)) same ∙ of.1)),
+              serial,
+            ),
+          )
 
   pub of_asker : (p : Path) → IsAsker acts p → IsOfTops tops p
   of_asker p (a, there, path, plain) =

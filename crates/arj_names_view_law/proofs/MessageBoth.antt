@@ -454,9 +454,11 @@ module _ (x : ℕ) (tops : Kinds) (unwalked : tops.walk ≡ None) (e k : ℕ) (d
       told_leaves u how named g =
           let s = server.told k ends t.server in
           left_by (record { server = s.part; naming = None; coord = t.coord }) (store_told k u how d.store ++ [] ++ s.outs ++ ack_told from u ack)
-          (sym (ap (λ o. Took (record { server = s.part; naming = (naming_told u how d.names o).part; coord = t.coord }) (store_told k u how d.store ++ (naming_told u how d.names o).outs ++ s.outs ++ ack_told from u ack)) named) ∙ g)
-          (sym named, all_both leaves_the_inc (store_told k u how d.store ++ [] ++ s.outs) (ack_told from u ack)
-          (all_both leaves_the_inc (store_told k u how d.store ++ []) s.outs (all_both leaves_the_inc (store_told k u how d.store) [] (stored_leaves k u how (is_prepared u d.store)) refl) (server_leaves k s.outs (ends_own k ends t.server))) (acks_leave from u ack))
+          (sym (ap (λ o. Took (record { server = s.part; naming = (naming_told u how d.names o).part; coord = t.coord }) (store_told k u how d.store ++ (naming_told u how d.names o).outs ++ s.outs ++ ack_told from u ack)) named) ∙ g) (
+            sym named,
+            all_both leaves_the_inc (store_told k u how d.store ++ [] ++ s.outs) (ack_told from u ack)
+                (all_both leaves_the_inc (store_told k u how d.store ++ []) s.outs (all_both leaves_the_inc (store_told k u how d.store) [] (stored_leaves k u how (is_prepared u d.store)) refl) (server_leaves k s.outs (ends_own k ends t.server))) (acks_leave from u ack),
+          )
 
       ends_leave : (o : Option (Uid × End)) → t.naming ≡ None → handle_ends k d t from ack ends o ≡ Took v outs → Leaves v outs
       ends_leave None named g = left_by t [] g (refl, refl)

@@ -4,9 +4,10 @@
 //! told of and whom it confirmed. `specs/Memory.antt` ties that to what the protocol's naming has. Each call of naming is then
 //! a list of the machine's acts, each of which may be done when it comes (`specs/Calls.antt`, `specs/Restarts.antt`); and what a
 //! Confirm counts on of the locks, which the disk half takes as known, follows (`specs/Booked.antt`). Beside the disk half, of one
-//! state of the machine, naming's half is walked in `specs/Both.antt`. What it gives upward: naming's calls, one by one,
+//! state of the machine, naming's half is walked in `specs/Both.antt`, and by whole handlers in `specs/Handlers.antt`. What it gives
+//! upward: `handlers_keep_both`, with `walks_keep_both` and `steps_keep_both` for restarts, stops and lines; naming's calls, one by one,
 //! `new_confirms_are_booked`, what coordinators have of naming's grants, store lists and loads (`specs/Grants.antt`,
-//! `specs/Lists.antt`, `specs/Loads.antt`), by which a commit may begin (`specs/Begins.antt`), and `walks_keep_both`.
+//! `specs/Lists.antt`, `specs/Loads.antt`), by which a commit may begin (`specs/Begins.antt`).
 #![tactic(auto)]
 
 mod begins;
