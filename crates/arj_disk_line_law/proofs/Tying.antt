@@ -1,19 +1,15 @@
 -- Each handler keeps that decisions are said, and so they are after each run.
-use Rattle.std.proofs.Common.{◌≡◌, ◌⊎◌, ◌==◌, ◌||◌, ℕ, ◌+◌, not, List, [], Bool, true, false, Option, Some, None, is_some, refl, sym, ◌∙◌, ap, subst, inl, inr, ⊎_elim, ◌++◌, ◌∷◌}
+use Rattle.std.proofs.Common.{◌≡◌, ◌⊎◌, ◌==◌, ℕ, ◌+◌, not, List, [], Bool, true, false, Option, Some, None, is_some, refl, sym, ◌∙◌, ap, subst, inl, inr, ⊎_elim, ◌++◌, ◌∷◌}
 use Rattle.std.specs.Prelude.{Contains}
 use Rattle.arj_lock.proofs.Members.{in_to, In as Among, in_from}
-use Rattle.arj_protocol.specs.Words.{Body, Header, Kind, Label, Message, Uid, Line}
+use Rattle.arj_protocol.specs.Words.{Body, Header, Kind, Label, Uid, Line}
 use Rattle.arj_protocol.specs.Words.body
-use Rattle.arj_protocol.specs.Ask.{answers}
 use Rattle.arj_protocol.specs.Asking.{again_all, begin_action}
 use Rattle.arj_protocol.specs.Effect.{Disk, Effect, Intent}
 use Rattle.arj_protocol.specs.Follow.{tick_outs}
 use Rattle.arj_protocol.specs.Node.{Parts, with_coord}
 use Rattle.arj_protocol.specs.Order.{at_uid, uid_number}
-use Rattle.arj_protocol.specs.Commit as commit
-use Rattle.arj_protocol.specs.Coord.{Coord}
 use Rattle.arj_protocol.specs.Step.{Node, acts, parent_of, parts_in, restart_outs}
-use Rattle.arj_protocol.specs.Tree.{next_uid, path_below}
 use Rattle.arj_protocol.specs.World.{format, is_serial_kind, numbered, run_all}
 use Rattle.arj_part_law.proofs.Keys.{at_in, in_at}
 use Rattle.arj_disk_law.specs.Effects as machine

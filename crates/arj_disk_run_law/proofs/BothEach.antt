@@ -1,26 +1,25 @@
 -- Both halves of the object's machine are carried by each handler, and so through each run; and copies agree in it.
-use Rattle.std.proofs.Common.{◌≡◌, ◌==◌, ℕ, List, [], ◌∷◌, ◌+◌, Bool, true, false, Option, Some, None, refl, sym, ◌∙◌, ap, subst}
-use Rattle.std.specs.Prelude.{◌++◌}
-use Rattle.arj_protocol.specs.Words.{Header, Kind, Uid, uids_of}
+use Rattle.std.proofs.Common.{◌≡◌, ◌==◌, ℕ, List, ◌+◌, Bool, true, false, Option, Some, None}
+use Rattle.arj_protocol.specs.Words.{Header, Uid}
 use Rattle.arj_protocol.specs.Asking.{again_all, begin_action}
 use Rattle.arj_protocol.specs.Effect.{Disk, Effect, Intent}
 use Rattle.arj_protocol.specs.Follow.{tick_outs}
 use Rattle.arj_protocol.specs.Node.{Parts, with_coord}
-use Rattle.arj_protocol.specs.Order.{at_uid, uid_number}
+use Rattle.arj_protocol.specs.Order.{uid_number}
 use Rattle.arj_protocol.specs.Step.{acts, parent_of, parts_in, restart_outs}
 use Rattle.arj_protocol.specs.World.{format, is_serial_kind, run_all}
-use Rattle.arj_disk_law.specs.Guards.{Decides, only_decides}
+use Rattle.arj_disk_law.specs.Guards.{only_decides}
 use Rattle.arj_disk_law.specs.Names.{Office}
 use Rattle.arj_disk_law.proofs.Base.{test_same}
 use Rattle.arj_view_law.specs.Keeps.{Keeps}
-use Rattle.arj_view_law.specs.Seen.{Seen, at, down, given, said, see, up}
-use Rattle.arj_view_law.specs.Walks.{Walks, Up, halted}
+use Rattle.arj_view_law.specs.Seen.{Seen, at, given, see}
+use Rattle.arj_view_law.specs.Walks.{Walks, Up}
 use Rattle.arj_view_law.proofs.Happens.{runs_hold}
 use Rattle.arj_view_law.proofs.Together.{walks_both, walks_to}
 use Rattle.arj_disk_view_law.specs.Sees.{Kinds, followed}
 use Rattle.arj_disk_view_law.proofs.Halts.{lines_seen, stops_seen}
-use Rattle.arj_names_view_law.specs.Both.{IsSeenAgain, OnlyFound, SeesBoth}
-use Rattle.arj_names_view_law.specs.Handlers.{CountsOn, IsSeenAfter, decided_by}
+use Rattle.arj_names_view_law.specs.Both.{IsSeenAgain}
+use Rattle.arj_names_view_law.specs.Handlers.{IsSeenAfter, decided_by}
 use Rattle.arj_names_view_law.proofs.InputBoth.{inputs_keep_both}
 use Rattle.arj_names_view_law.proofs.MessageBoth.{messages_keep_both}
 use Rattle.arj_names_view_law.proofs.NewConfirms.{any_prepared}

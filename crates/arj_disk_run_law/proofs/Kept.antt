@@ -8,7 +8,7 @@ use Rattle.arj_lock.proofs.Members.{in_from, in_to}
 use Rattle.arj_protocol.specs.Words.{Uid, Ask, Asked, Body, Head, Header, Kind, Label, Line, ObjectState, Message, asks, object, is_on, uid_eq, uids_of}
 use Rattle.arj_protocol.specs.Words.ask
 use Rattle.arj_protocol.specs.Words.loaded
-use Rattle.arj_protocol.specs.Ask.{Reply, actor, answers, top_of}
+use Rattle.arj_protocol.specs.Ask.{Reply, actor, answers}
 use Rattle.arj_protocol.specs.Asking.{again_all, begin_action, heard}
 use Rattle.arj_protocol.specs.Call.{Steps}
 use Rattle.arj_protocol.specs.Commit.{Plan, Voting}
@@ -17,11 +17,11 @@ use Rattle.arj_protocol.specs.Coord.{Calling, Committing, Doing, doing_of}
 use Rattle.arj_protocol.specs.Effect.{Disk, Effect}
 use Rattle.arj_protocol.specs.Ending.{acked, answer_query}
 use Rattle.arj_protocol.specs.Follow.{tick_outs}
-use Rattle.arj_protocol.specs.Order.{uid_number, uid_set}
+use Rattle.arj_protocol.specs.Order.{uid_set}
 use Rattle.arj_protocol.specs.Node.{Parts, Took, answer_is_meant, asked_is_meant, handle, is_loaded_for, is_loaded_in, is_meant, prepared_actions, reply_is_meant, with_coord}
 use Rattle.arj_protocol.specs.Step.{Input, acts, begin_refusal, parent_of, parts_in, refusal_up, restart_outs}
 use Rattle.arj_protocol.specs.Tree.{next_uid, path_below}
-use Rattle.arj_protocol.specs.World.{format, is_serial_kind, numbered, run_all}
+use Rattle.arj_protocol.specs.World.{format, is_serial_kind, numbered}
 use Rattle.arj_protocol.proofs.CoordSays.{acked_own, acts_own, again_own, heard_own, query_own}
 use Rattle.arj_part_law.specs.Actions.{Action, act_of, paths_of}
 use Rattle.arj_part_law.specs.Coords.{IsBusy, IsGoodCoord, IsVoting}
@@ -33,33 +33,19 @@ use Rattle.arj_run_law.proofs.Begins.{begin_good, its_node, its_uid}
 use Rattle.arj_run_law.proofs.Handled.{act_good, good_coord, it, message_good, own_of_disk, stopped_good, tick_good, tops_of_disk}
 use Rattle.arj_run_law.proofs.Starts.{first_of, restart_good}
 use Rattle.arj_disk_law.specs.Effects.{World}
-use Rattle.arj_disk_law.specs.Guards.{Note, Begins, Decides, Confirms, Acks}
 use Rattle.arj_view_law.specs.Keeps.{DidKeeps, Keeps, MayGive, is_act, label_at}
 use Rattle.arj_view_law.specs.Seen.{AreQuiet, In, Seen, at, down, given, said, see, up}
 use Rattle.arj_view_law.specs.Walks.{Walks, Up, halted}
-use Rattle.arj_view_law.proofs.Happens.{runs_hold}
 use Rattle.arj_view_law.proofs.Together.{walks_both, walks_each, walks_to}
-use Rattle.arj_disk_view_law.specs.Coordinating.{KnowsNode, commit_note}
-use Rattle.arj_disk_view_law.specs.Formats.{HasObject}
+use Rattle.arj_disk_view_law.specs.Coordinating.{KnowsNode}
 use Rattle.arj_disk_view_law.specs.Knows.{IsOfKind, KnowsKinds}
-use Rattle.arj_disk_view_law.specs.Sees.{Kinds, ClaimsAsked, IsSeenByDisks, may_note, was_begun}
-use Rattle.arj_disk_view_law.proofs.FirstSeen.{formats_are_seen}
-use Rattle.arj_disk_view_law.proofs.Halts.{stops_seen, lines_seen}
-use Rattle.arj_disk_view_law.proofs.NewActions.{actions_begin}
-use Rattle.arj_disk_view_law.proofs.RestartWalks.{restarts_are_walked}
-use Rattle.arj_disk_view_law.proofs.TickWalks.{ticks_are_walked}
-use Rattle.arj_disk_view_law.proofs.WholeWalks.{acts_are_walked, messages_are_walked}
-use Rattle.arj_call_law.specs.Runs.{WithCalls}
-use Rattle.arj_call_law.proofs.WholeRuns.{with_calls}
-use Rattle.arj_disk_run_law.proofs.Given.{gives_votes}
+use Rattle.arj_disk_view_law.specs.Sees.{Kinds, ClaimsAsked, IsSeenByDisks, was_begun}
 use Rattle.arj_disk_run_law.specs.Facts.{GivesVotes}
 use Rattle.arj_disk_run_law.specs.Kinds.{Agrees, AreOfOneNode, AreOfTops, kinds_of}
 use Rattle.arj_disk_run_law.specs.Places.{ArePlaced}
 use Rattle.arj_disk_run_law.specs.Records.{AreRecorded}
 use Rattle.arj_disk_run_law.specs.Sound.{AreOwnStates, AreSound, FitsVote, IsOwnAnswer, IsOwnVote, IsUsedAt, VotesFit}
-use Rattle.arj_disk_run_law.specs.Part.{IsCarried, KeepsPart}
 use Rattle.arj_disk_run_law.proofs.Begun.{kinds_agree}
-use Rattle.arj_disk_run_law.proofs.Copies.{copies_agree}
 use Rattle.arj_disk_run_law.proofs.Known.{knows_node}
 use Rattle.arj_disk_run_law.proofs.Means.{All, coord_means}
 use Rattle.arj_disk_run_law.proofs.PlaceWalks.{ByTop, PlacedBy, begin_placed, both_here, format_placed, line_stays, message_placed, other_coord, placed_walk, prepared_begun, restart_placed, stop_placed, tick_means, up_here}

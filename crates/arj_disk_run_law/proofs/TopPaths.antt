@@ -1,11 +1,11 @@
 -- Requests are by paths of tops.
-use Rattle.std.proofs.Common.{◌≡◌, ◌≢◌, ◌≤◌, ⊎_elim, ◌⊎◌, ℕ, List, [], ◌∷◌, ◌++◌, length, take, true, false, Option, Some, None, refl, sym, ◌∙◌, ap, subst, inl, inr, Contains, arith}
+use Rattle.std.proofs.Common.{◌≡◌, ◌≢◌, ◌≤◌, ◌⊎◌, List, [], ◌∷◌, ◌++◌, length, take, true, false, Some, refl, sym, ◌∙◌, ap, subst, inl, inr, Contains, arith}
 use Rattle.arj_base.proofs.Uids.{uid_other}
 use Rattle.arj_lock.proofs.Members.{In, in_from, in_to}
-use Rattle.arj_protocol.specs.Words.{Uid, Ask, Head, Kind, Message, Path, asks, first_uid, last_uid, tops_of, uid_eq, uids_of}
+use Rattle.arj_protocol.specs.Words.{Uid, Ask, Kind, Message, Path, asks, first_uid, last_uid, tops_of, uid_eq, uids_of}
 use Rattle.arj_protocol.specs.Words.kind
 use Rattle.arj_protocol.specs.Words.ask
-use Rattle.arj_protocol.specs.Ask.{top_of, top_path}
+use Rattle.arj_protocol.specs.Ask.{top_path}
 use Rattle.arj_protocol.specs.Order.{uid_number}
 use Rattle.arj_part_law.specs.Actions.{Action, AreBegun, Stands, act_of}
 use Rattle.arj_part_law.specs.Messages.{FitsAsked, IsAsker}

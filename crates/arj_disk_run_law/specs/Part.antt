@@ -1,8 +1,8 @@
 -- What coordinators have of naming's answers, and what messages claim of them, as a relation between the machine's state and what
 -- is seen: what it has to give so that naming's half is kept beside the disk half, and what has to be kept of it.
 use Rattle.std.specs.Prelude.{◌≡◌, ◌+◌, ◌==◌, ℕ, Bool, true, List, [], Option, None, Some}
-use Rattle.std.specs.List.{AllByRecursion, list_any}
-use Rattle.arj_protocol.specs.Words.{Uid, Body, Header, Kind, Label, Message, is_on, uids_of}
+use Rattle.std.specs.List.{list_any}
+use Rattle.arj_protocol.specs.Words.{Uid, Body, Header, Kind, Label, Message}
 use Rattle.arj_protocol.specs.Asking.{again_all, begin_action}
 use Rattle.arj_protocol.specs.Coord.{Coord}
 use Rattle.arj_protocol.specs.Effect.{Did, Disk, Effect, Intent}

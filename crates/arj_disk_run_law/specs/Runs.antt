@@ -6,19 +6,14 @@ use Rattle.arj_protocol.specs.Order.{at_uid}
 use Rattle.arj_protocol.specs.Step.{Node}
 use Rattle.arj_protocol.specs.Values.{state_entry}
 use Rattle.arj_protocol.specs.World.{Asked, format, run_all}
-use Rattle.arj_part_law.specs.Actions.{Action}
-use Rattle.arj_run_law.specs.Worlds.{IsGoodOf}
 use Rattle.arj_disk_law.specs.State.{Below, Packed}
 use Rattle.arj_view_law.specs.Keeps.{Holds, Keeps}
 use Rattle.arj_view_law.specs.Seen.{Seen}
 use Rattle.arj_disk_view_law.specs.Pairs.{IsOf, packed}
-use Rattle.arj_disk_view_law.specs.Sees.{Kinds, IsSeenByDisks}
+use Rattle.arj_disk_view_law.specs.Sees.{Kinds}
 use Rattle.arj_call_law.specs.Runs.{Grants, WithCalls}
 use Rattle.arj_disk_law.specs.Names.{Office}
 use Rattle.arj_disk_run_law.specs.Part.{KeepsPart}
-use Rattle.arj_disk_run_law.specs.Kinds.{Agrees, AreOfOneNode}
-use Rattle.arj_disk_run_law.specs.Places.{ArePlaced}
-use Rattle.arj_disk_run_law.specs.Records.{AreRecorded}
 
 -- a store that the entry lists, where the object isn't in doubt, holds this state
 abbrev pub HasState : ℕ → Packed → Node → Type 0

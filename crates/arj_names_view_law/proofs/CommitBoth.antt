@@ -1,5 +1,5 @@
 -- A commit's steps at a coordinator, walked with both halves.
-use Rattle.std.proofs.Common.{◌≡◌, ◌⊎◌, ℕ, List, [], ◌∷◌, ◌++◌, ◌&&◌, Bool, true, false, map, Option, Some, None, refl, sym, ◌∙◌, ap, subst, inl, inr, ⊎_elim}
+use Rattle.std.proofs.Common.{◌≡◌, ◌⊎◌, ℕ, List, [], ◌∷◌, ◌++◌, ◌&&◌, true, false, Option, Some, None, refl, sym, ◌∙◌, ap, subst, inl, inr, ⊎_elim}
 use Rattle.std.specs.List.{list_all}
 use Rattle.std.proofs.lemmas.Bool.{and_parts}
 use Rattle.arj_protocol.specs.Words.{Uid, Ask, Body, Label, Path}
@@ -7,7 +7,7 @@ use Rattle.arj_protocol.specs.Words.body
 use Rattle.arj_protocol.specs.Asking.{asks_all, asks_machine, asks_node, commits_in, mark_lines, moved_commit}
 use Rattle.arj_protocol.specs.Commit as commit
 use Rattle.arj_protocol.specs.Commit.{CommitStep, Asks, Stays, Machine, Used, Voting, Preparing, Confirming, begin_confirm, begin_prepare, begin_vote, further, plan_of, targets_of, votes_left, waiting}
-use Rattle.arj_protocol.specs.Coord.{Coord, Doing, Now, Idle, Calling, Committing, doing_of, on_doing}
+use Rattle.arj_protocol.specs.Coord.{Coord, Doing, Committing, doing_of}
 use Rattle.arj_protocol.specs.Effect.{Disk, Effect, Intent, Say, Send, Do, Work, Look, PutInc, Prepare, Commit, Abort, PutIntent, RemoveIntent}
 use Rattle.arj_protocol.specs.Ending.{say_for, says}
 use Rattle.arj_protocol.specs.Node.{Parts, with_coord}
@@ -24,10 +24,10 @@ use Rattle.arj_disk_law.specs.State.{is_idle}
 use Rattle.arj_disk_law.proofs.Base.{falls_to, never, put_same}
 use Rattle.arj_disk_law.proofs.Keeps.{effect_keeps}
 use Rattle.arj_view_law.specs.Seen.{Seen, up}
-use Rattle.arj_view_law.specs.Walks.{Walks, Up}
+use Rattle.arj_view_law.specs.Walks.{Up}
 use Rattle.arj_view_law.proofs.Together.{walks_to}
 use Rattle.arj_disk_view_law.specs.Plans.{plan_at}
-use Rattle.arj_disk_view_law.specs.Sees.{Along, IsLater, IsSeenByDisks, Kinds, SeesDisks, Works, WorksBy, followed}
+use Rattle.arj_disk_view_law.specs.Sees.{Along, IsLater, IsSeenByDisks, Kinds, SeesDisks, Works, followed}
 use Rattle.arj_disk_view_law.proofs.BeginWalks.{before_idle}
 use Rattle.arj_disk_view_law.proofs.DecideWalks.{confirming_of}
 use Rattle.arj_disk_view_law.proofs.Doings.{doing_here, doing_tree}
@@ -35,7 +35,7 @@ use Rattle.arj_disk_view_law.proofs.Follows.{walks_are_followed}
 use Rattle.arj_disk_view_law.proofs.Frames.{node_here}
 use Rattle.arj_disk_view_law.proofs.HeardWalks.{asks_roots, is_say, preparing_of}
 use Rattle.arj_disk_view_law.proofs.Later.{effects_are_later}
-use Rattle.arj_names_view_law.specs.Both.{BothWalk, DisksWalk, SeesBoth, is_no_work, leaves_inc, leaves_the_inc}
+use Rattle.arj_names_view_law.specs.Both.{BothWalk, DisksWalk, SeesBoth, is_no_work, leaves_the_inc}
 use Rattle.arj_names_view_law.specs.Handlers.{BeginsLater, MayGoOn, is_voting}
 use Rattle.arj_names_view_law.proofs.CoordBoth.{begin_of, beginnings_keep_both, no_work}
 use Rattle.arj_names_view_law.proofs.Pairing.{quiet_walks_keep_both, unfollowed}

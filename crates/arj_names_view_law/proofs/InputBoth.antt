@@ -1,8 +1,8 @@
 -- An input about an action, walked with both halves.
-use Rattle.std.proofs.Common.{◌≡◌, ◌⊎◌, ℕ, List, [], ◌∷◌, ◌++◌, ◌||◌, Bool, true, false, Option, Some, None, refl, sym, ◌∙◌, ap, subst, inl, inr, ⊎_elim, is_some, map, filter}
+use Rattle.std.proofs.Common.{◌≡◌, ◌⊎◌, ℕ, List, [], ◌∷◌, ◌++◌, ◌||◌, Bool, true, false, Option, Some, None, refl, sym, ◌∙◌, ap, subst, inl, inr, is_some, map, filter}
 use Rattle.std.specs.Prelude.{if◌then◌else◌}
 use Rattle.std.specs.List.{flat_map}
-use Rattle.arj_protocol.specs.Words.{Cause, Header, Kind, Label, Op, Uid}
+use Rattle.arj_protocol.specs.Words.{Cause, Header, Kind, Label, Uid}
 use Rattle.arj_protocol.specs.Words.body
 use Rattle.arj_protocol.specs.Words.cause
 use Rattle.arj_protocol.specs.Words.ending
@@ -22,12 +22,12 @@ use Rattle.arj_protocol.specs.Step.{Input, acts, branch_named, commit_reasons, f
 use Rattle.arj_protocol.specs.Coord.{number_of}
 use Rattle.arj_protocol.specs.Tree.{Branch, branch_of, has_open_child, root_of}
 use Rattle.arj_protocol.proofs.CoordSays.{acts_own}
-use Rattle.arj_disk_law.specs.Guards.{Begins, Note, only_begins}
+use Rattle.arj_disk_law.specs.Guards.{Begins, only_begins}
 use Rattle.arj_disk_law.specs.Names.{Office}
 use Rattle.arj_disk_law.proofs.Base.{never, some_is, test_same}
 use Rattle.arj_view_law.specs.Keeps.{is_act}
 use Rattle.arj_view_law.specs.Seen.{Seen, up}
-use Rattle.arj_disk_view_law.specs.Coordinating.{DidIsWalked, UsesNothing}
+use Rattle.arj_disk_view_law.specs.Coordinating.{DidIsWalked}
 use Rattle.arj_disk_view_law.specs.Knows.{IsOfKind, KnowsCoord, KnowsKinds, KnowsPlan}
 use Rattle.arj_disk_view_law.specs.Sees.{Kinds, SeesDisks, Walk, Works, followed}
 use Rattle.arj_disk_view_law.proofs.CallWalks.{calls_are_given_up}
@@ -38,7 +38,7 @@ use Rattle.arj_disk_view_law.proofs.Frames.{node_here}
 use Rattle.arj_disk_view_law.proofs.HeardWalks.{gaveup_say, preparing_of, say_walk}
 use Rattle.arj_disk_view_law.proofs.OneEnd.{actions_end}
 use Rattle.arj_disk_view_law.proofs.UnusedWalks.{unused_are_decided}
-use Rattle.arj_disk_view_law.proofs.WholeWalks.{no_reason, placed, unended, waits_not}
+use Rattle.arj_disk_view_law.proofs.WholeWalks.{no_reason, placed, unended}
 use Rattle.arj_names_view_law.specs.Both.{SeesBoth}
 use Rattle.arj_names_view_law.specs.Handlers.{DidKeepsBoth, InputsKeepBoth, MayGoOn}
 use Rattle.arj_names_view_law.specs.Steps.{DidIsFollowed}

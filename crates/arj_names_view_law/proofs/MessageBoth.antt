@@ -1,9 +1,9 @@
 -- A message, walked with both halves.
-use Rattle.std.proofs.Common.{◌≡◌, ◌⊎◌, ◌==◌, ℕ, List, [], ◌∷◌, ◌++◌, ◌&&◌, Bool, true, false, Option, Some, None, refl, sym, ◌∙◌, ap, subst, inl, inr, ⊎_elim, is_some, filter, map}
+use Rattle.std.proofs.Common.{◌≡◌, ◌⊎◌, ◌==◌, ℕ, List, [], ◌∷◌, ◌++◌, Bool, true, false, Option, Some, None, refl, sym, ◌∙◌, ap, subst, inl, inr, ⊎_elim, is_some, filter, map}
 use Rattle.std.specs.Prelude.{if◌then◌else◌, option_map}
 use Rattle.std.specs.List.{list_all}
 use Rattle.std.proofs.lemmas.Bool.{and_parts}
-use Rattle.arj_protocol.specs.Words.{Uid, Ask, Asked, Binding, BoundReply, End, Head, Message, ObjectState, What, asks, object}
+use Rattle.arj_protocol.specs.Words.{Uid, Ask, Asked, BoundReply, End, Head, Message, ObjectState, What, asks, object}
 use Rattle.arj_protocol.specs.Words.ask
 use Rattle.arj_protocol.specs.Words.body
 use Rattle.arj_protocol.specs.Words.cause
@@ -17,7 +17,7 @@ use Rattle.arj_protocol.specs.Ask.{Reply, actor, answers, asked_by, differs, las
 use Rattle.arj_protocol.specs.Asking.{heard, heard_by, heard_doing, heard_none, heard_now, moved_commit, waits_for_commit}
 use Rattle.arj_protocol.specs.Commit as commit
 use Rattle.arj_protocol.specs.Commit.{CommitStep, Aborts, Stays, Machine, Voting, Preparing, Confirming, plainly, votes_left, with_states}
-use Rattle.arj_protocol.specs.Confirm.{Grants, Marks, confirm}
+use Rattle.arj_protocol.specs.Confirm.{confirm}
 use Rattle.arj_protocol.specs.Coord.{Calling, Committing, Coord, Doing, Idle, Now, doing_of}
 use Rattle.arj_protocol.specs.Effect.{Disk, Effect, Look, Prep, Ready, Already, Old, InDoubt, Say, Send, Do, Served, Prepare, held_at, holder_of, is_prepared, prepare_answer}
 use Rattle.arj_protocol.specs.Ending.{acked, answer_query}
@@ -32,7 +32,7 @@ use Rattle.arj_protocol.proofs.CoordSays.{acked_own, heard_own, query_own}
 use Rattle.arj_protocol.proofs.PartSays.{activate_own, all_both, ends_own, invoke_own, vote_own}
 use Rattle.arj_disk_law.specs.Effects as machine
 use Rattle.arj_disk_law.specs.Effects.{World, Whole, after}
-use Rattle.arj_disk_law.specs.Guards.{Acks, Note, end_of, only_acks, only_begins, only_decides}
+use Rattle.arj_disk_law.specs.Guards.{Acks, Note, only_acks, only_begins, only_decides}
 use Rattle.arj_disk_law.specs.Messages as mail
 use Rattle.arj_disk_law.specs.Named.{Named}
 use Rattle.arj_disk_law.specs.Names.{Office, Do as act}
@@ -47,7 +47,7 @@ use Rattle.arj_view_law.specs.Walks.{Walks, Up}
 use Rattle.arj_view_law.proofs.Together.{walks_to}
 use Rattle.arj_disk_view_law.specs.Coordinating.{ConfirmsAreBooked, KnowsNode, NotesMessage, commit_note}
 use Rattle.arj_disk_view_law.specs.Knows.{KnowsKinds, KnowsMachine}
-use Rattle.arj_disk_view_law.specs.Sees.{ClaimsAnswered, ClaimsAsk, ClaimsAsked, ClaimsLast, ClaimsOther, IsNested, Kinds, SeesDisks, Walk, Works, followed}
+use Rattle.arj_disk_view_law.specs.Sees.{ClaimsAnswered, ClaimsAsk, ClaimsAsked, ClaimsLast, ClaimsOther, IsNested, Kinds, SeesDisks, Walk, followed}
 use Rattle.arj_disk_view_law.specs.Stores.{ClaimsAbort}
 use Rattle.arj_disk_view_law.proofs.CommitWalks.{aborts}
 use Rattle.arj_disk_view_law.proofs.Followed.{coord_on, kinds_on}

@@ -1,5 +1,5 @@
 -- A Confirm that naming checks anew is booked, by its locks and the grants that the Confirm names.
-use Rattle.std.specs.Prelude.{◌≡◌, ◌⊎◌, ◌≤◌, ℕ, ◌+◌, [], ◌∷◌, true, false, Some}
+use Rattle.std.specs.Prelude.{◌≡◌, ◌⊎◌, ◌≤◌, ℕ, ◌+◌, [], ◌∷◌, true, Some}
 use Rattle.arj_protocol.specs.Words.{Path}
 use Rattle.arj_protocol.specs.Ask.{top_of}
 use Rattle.arj_protocol.specs.Confirm.{Grants, Marks, confirms, lock_all, wanted}

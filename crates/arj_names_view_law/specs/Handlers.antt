@@ -1,5 +1,5 @@
 -- Whole handlers from where both halves are seen: a message, an input about an action, an action that begins, a tick.
-use Rattle.std.specs.Prelude.{◌≡◌, ◌+◌, ◌==◌, ℕ, Bool, true, false, List, Option, Some, None, is_some, if◌then◌else◌}
+use Rattle.std.specs.Prelude.{◌≡◌, ◌==◌, ℕ, Bool, true, false, List, Option, Some, None, is_some, if◌then◌else◌}
 use Rattle.arj_protocol.specs.Words.{Uid, Asked, Binding, Head, Ask, Header, Kind, Label, Message, asks}
 use Rattle.arj_protocol.specs.Words.ask
 use Rattle.arj_protocol.specs.Ask.{Reply, answers, top_of}
