@@ -72,7 +72,7 @@ pub record IsJournalled (x : ℕ) (Idle : List Line → Uid → Type 0) (M : See
   pub done : (a : Act) → Contains (acts M.lines) a → is_top a.kind ≡ true → IsDone M.lines a
       → (decided (let W = machine in W.disk) (uid_number a.uid) ≡ true) ⊎ ((let W = machine in W.disk.bare) (uid_number a.uid) ≡ true) ⊎ Idle M.lines a.uid
 
--- What is kept by each handler, grants what calls stand on, and gives who is idle, with what is kept beside the machine's state of what
+-- What is kept by each handler, gives that counts have 32 bits, and who is idle, with what is kept beside the machine's state of what
 -- coordinators have and messages claim, has it in every run.
 abbrev pub RunsAreJournalled : Type 0
 RunsAreJournalled = (hd : Header) (x : ℕ) (test : Seen → Bool) (part : Kinds → Office → Seen → Bool) → Keeps hd (λ M. test M ≡ true) → Grants (λ M. test M ≡ true) → KeepsPart hd x (WithCalls (λ M. test M ≡ true)) (λ tops A M. part tops A M ≡ true) → (idle : List Line → Uid → Bool) → KnowsIdle (λ M. test M ≡ true) (λ lines u. idle lines u ≡ true)

@@ -1,7 +1,7 @@
 // The decisions of an object's machine, and those of the journal.
 ghost use Rattle.arj_disk_line_law.specs.Said.{RunsAreJournalled};
 
-/// Take what each handler keeps and that grants what calls stand on, a relation that is kept beside the machine's state of what
+/// Take what each handler keeps and that gives that counts of bindings have 32 bits, a relation that is kept beside the machine's state of what
 /// coordinators have of naming's answers and what messages claim of them, and who is idle by the journal: a top that committed while
 /// nobody took part in it. Then after each run, with all frames that came in any order, again or never, all
 /// stops, crashes and restarts, there is a state of an object's machine that sees the object. Each top that it has as decided is committed by

@@ -44,7 +44,7 @@ pub record AgreesOn (x : ℕ) (last : Packed) (M : Seen) : Type 0 where
 abbrev pub CopiesAgree : ℕ → Seen → Type 0
 CopiesAgree x M = (last : Packed) × AgreesOn x last M
 
--- What is kept by each handler and grants what calls stand on, with what is kept beside the machine's state of what coordinators have
+-- What is kept by each handler and gives that counts have 32 bits, with what is kept beside the machine's state of what coordinators have
 -- and messages claim, keeps copies in agreement in every run.
 abbrev pub RunsAgree : Type 0
 RunsAgree = (hd : Header) (x : ℕ) (test : Seen → Bool) (part : Kinds → Office → Seen → Bool) → Keeps hd (λ M. test M ≡ true) → Grants (λ M. test M ≡ true) → KeepsPart hd x (WithCalls (λ M. test M ≡ true)) (λ tops A M. part tops A M ≡ true)
