@@ -27,9 +27,9 @@ use Rattle.arj_part_law.proofs.ServerRuns.{told_follows}
 use Rattle.arj_lock_view_law.specs.Acts.{Acts}
 use Rattle.arj_lock_view_law.specs.Commits.{HasVoted, IsCommitting, OnlyVote, ballot_for}
 use Rattle.arj_lock_view_law.specs.Copies.{Codes, OnlyEnds, SeesCopy}
-use Rattle.arj_lock_view_law.specs.Going.{Goes}
+use Rattle.arj_lock_view_law.specs.Going.{Goes, IsServedBy}
 use Rattle.arj_lock_view_law.specs.Servers.{SeesObject, last_of}
-use Rattle.arj_lock_view_law.specs.Serving.{HasVotedHere, IsShown, IsVoteFor, VotesAreTaken, is_yes}
+use Rattle.arj_lock_view_law.specs.Serving.{HasVotedHere, IsShown, VotesAreTaken, is_yes}
 use Rattle.arj_lock_view_law.specs.Telling.{AreBrought, IsOfFamily, Sees, View}
 use Rattle.arj_lock_view_law.proofs.BindSteps.{other_act}
 use Rattle.arj_lock_view_law.proofs.LeftSteps.{ends_sent, shows_later}
@@ -190,16 +190,16 @@ module _ (v : View) (h : Head) (i : ℕ) (ties : List (ℕ × Binding)) (ends : 
           let g = copy_told n ends s v.x f.0 f.1 in
           e.2 ∙ ap (λ (z : Copy). binding_number z.binding) same ∙ ap binding_number (sym g.2)
 
-      asked : IsVoteFor v u i b S
-      asked = shown.says b (in_to {X = ℕ × Binding} (v.x, b) ties j)
+      asked : IsServedBy S b n × In (machine.Vote (act u) (binding_number b) i) S.net
+      asked = shown.says tt b (in_to {X = ℕ × Binding} (v.x, b) ties j)
 
       has_copy : SeesCopy act v.code v.x c (T.server n) × In (machine.Activated (binding_number c.binding) t.inc) T.net
       has_copy = subst (λ (z : Option Copy). SeesObject act v.code v.x t.inc z (T.server n) T) there k.object
 
       tied_votes : Goes T (λ V. Yes T V)
       tied_votes = goes_to (votes_are_seen act v.code v.family.paths n v.x i u c T (committing c there)
-          (subst (λ (z : ℕ). In (machine.Vote (act u) z i) T.net) (number_of b j) (ends_sent only (machine.Vote (act u) (binding_number b) i) asked.sent))
-          (ap (λ (z : ℕ). (let w = T.binding z in w.server)) (sym (number_of b j)) ∙ ap (λ (z : State). (let w = z.binding (binding_number b) in w.server)) only.rest ∙ asked.served)
+          (subst (λ (z : ℕ). In (machine.Vote (act u) z i) T.net) (number_of b j) (ends_sent only (machine.Vote (act u) (binding_number b) i) asked.1))
+          (ap (λ (z : ℕ). (let w = T.binding z in w.server)) (sym (number_of b j)) ∙ ap (λ (z : State). (let w = z.binding (binding_number b) in w.server)) only.rest ∙ asked.0)
           (k.incarnation ∙ inc_after ∙ sym inc_is) has_copy.0) (λ V g. (let keeps = g.2 in (
             voted_too T V k (subst (λ (z : Option Copy). SeesObject act v.code v.x t.inc z (V.server n) V) (sym there) (g.0, sent_later T V g.1 (machine.Activated (binding_number c.binding) t.inc) has_copy.1)) g.1 keeps.incarnation keeps.request
                 (λ w other. ap (λ (z : Act → Bool). z (act w)) keeps.voted ∙ act_other (let m = T.server n in m.voted) (act u) true (act w) (other_act act (let l = shown.whole in let e = l.alike in e.one) w u other)),

@@ -214,7 +214,7 @@ module _ (v : View) (d : Disk) (t : Parts) (from : ℕ) (m : Message) (S : State
     activated b st = server.activate n h.path b st t.server
 
     activate_goes : (b : Binding) (st : ObjectState) → IsShown v h (ask.Activate b st) t.server S → Takes (Some (h, ask.Activate b st)) (serve n d t from h (ask.Activate b st))
-    activate_goes b st shown = goes_to (activates_are_seen v h b st t.server S shown.says sees) (λ T g. (
+    activate_goes b st shown = goes_to (activates_are_seen v h b st t.server S shown sees) (λ T g. (
       seen_after h (activated b st).part (activated b st).outs (option_map Reply.Activated (activated b st).reply) T (λ none. void_activate n h b st t.server (no_reply Reply.Activated (activated b st).reply none)) g.0,
       serving_server v m S T g.1,
       answers_go h (ask.Activate b st) T (with_server t (activated b st).part) (activated b st).outs (option_map Reply.Activated (activated b st).reply) (activate_own n h.path b st t.server) (λ a is.

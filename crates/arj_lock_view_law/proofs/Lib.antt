@@ -2,6 +2,7 @@ pub mod AbortSteps
 pub mod ActingSteps
 pub mod AnswerSteps
 pub mod AskSteps
+pub mod AskedSteps
 pub mod BeginSteps
 pub mod BindSteps
 pub mod CallingSteps
@@ -10,6 +11,7 @@ pub mod CopySteps
 pub mod ElseSteps
 pub mod EndSteps
 pub mod EverSteps
+pub mod FamilySteps
 pub mod FreeSteps
 pub mod GivenSteps
 pub mod GivingSteps

@@ -70,7 +70,7 @@ top_split (Root k) is = absurd (cc is)
 top_split (Sub (Root k) j) is = (k, j, refl)
 top_split (Sub (Sub p i) j) is = absurd (cc is)
 
-acts_in : (a : Act) (k : Kind) → IsPlaced a k → k ≢ kind.Serial → is_action a ≡ true
+pub acts_in : (a : Act) (k : Kind) → IsPlaced a k → k ≢ kind.Serial → is_action a ≡ true
 acts_in a kind.Top placed unlike = top_action a placed
 acts_in a kind.Independent placed unlike = top_action a placed
 acts_in a kind.Constituent placed unlike = top_action a placed

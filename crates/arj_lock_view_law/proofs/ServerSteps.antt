@@ -29,8 +29,9 @@ use Rattle.arj_lock_view_law.specs.Acts.{Acts, AreOne, IsCaller}
 use Rattle.arj_lock_view_law.specs.Copies.{Codes, IsNew, KeepsServer, OnlyEnds, OnlyServer, SeesCopy, answer_for, request_for}
 use Rattle.arj_lock_view_law.specs.Going.{Goes, IsServedBy}
 use Rattle.arj_lock_view_law.specs.Servers.{SeesObject, SeesServer, ShowsIfInvoked, ShowsInvoked, Wanted, Wants, last_of, wanted_by}
-use Rattle.arj_lock_view_law.specs.Serving.{ActivatesAreSeen, InvokesAreSeen, IsAsked, IsShown, ServersAreDown, ServersStart, ServersStop, ShowsActivated}
+use Rattle.arj_lock_view_law.specs.Serving.{ActivatesAreSeen, InvokesAreSeen, IsShown, ServersAreDown, ServersStart, ServersStop, ShowsActivated}
 use Rattle.arj_lock_view_law.specs.Telling.{AreBrought, Sees, View}
+use Rattle.arj_lock_view_law.proofs.AskedSteps.{IsAsked, asked_of, given_of}
 use Rattle.arj_lock_view_law.proofs.CopySteps.{activations_are_seen, operations_are_seen, refusals_are_seen, server_else}
 use Rattle.arj_lock_view_law.proofs.LeftSteps.{object_sent, only_server, shows_later}
 use Rattle.arj_lock_view_law.proofs.PlaceSteps.{caller_of}
@@ -149,12 +150,12 @@ other_copies act code wants x n p b st s S other sees = by (has_ended p s || bin
     }
 
 pub activates_are_seen : ActivatesAreSeen
-activates_are_seen v h b st s S given sees = by ((let u = st.uid in u.num) == v.x) refl
+activates_are_seen v h b st s S shown sees = by ((let u = st.uid in u.num) == v.x) refl
   where
     by : (t : Bool) → ((let u = st.uid in u.num) == v.x) ≡ t → let r = activate v.node h.path b st s in Goes S (λ T. Sees v r.part T × OnlyServer v.node S T × ((let u = st.uid in u.num) ≡ v.x → ShowsActivated b T r.reply))
     by true is =
         let its : (let u = st.uid in u.num) ≡ v.x = eqb-true (let u = st.uid in u.num) v.x is in
-        let g = given its in
+        let g = given_of v h b st s S shown its in
         goes_to (copy_taken v.family.act v.code v.wants v.x v.node h.path b st s S g.bound g.served g.sent sees its) (λ T k. (k.0, k.1, λ same. k.2))
     by false is = let other : (let u = st.uid in u.num) ≢ v.x = λ same. unlike (let u = st.uid in u.num) v.x is same in record {
       state = S;
@@ -489,8 +490,8 @@ invokes_are_seen v h y b i ends o s S shown sees = by (y == v.x) refl
             Goes S (λ T. Sees v r.part T × OnlyServer v.node S T × (z ≡ v.x → ShowsIfInvoked v.family.act v.code (actor h.path) h.req (record { binding = b; op = o }) T r.reply))
         own z its = subst (λ (k : ℕ). IsShown v h (ask.Invoke k b i ends o) s S → let r = invoke v.node h k b i ends o s in
             Goes S (λ T. Sees v r.part T × OnlyServer v.node S T × (k ≡ v.x → ShowsIfInvoked v.family.act v.code (actor h.path) h.req (record { binding = b; op = o }) T r.reply))) (sym its)
-            (λ here. let says = here.says in goes_to (own_answered v h b i ends o s S (says.0 refl) here sees) (λ T k. (k.0, k.1, λ same. k.2)))
+            (λ here. goes_to (own_answered v h b i ends o s S (asked_of v h b i ends o s S here) here sees) (λ T k. (k.0, k.1, λ same. k.2)))
     by false is =
         let other : y ≢ v.x = λ same. unlike y v.x is same in
-        let says = shown.says in
-        goes_to (other_answered v y h b i ends o s S other (says.1 other) shown sees) (λ T k. (k.0, k.1, λ same. absurd (other same)))
+        let wanted = shown.wanted in
+        goes_to (other_answered v y h b i ends o s S other (wanted.2 other) shown sees) (λ T k. (k.0, k.1, λ same. absurd (other same)))

@@ -19,4 +19,5 @@ pub mod Plans
 pub mod Stops
 pub mod Telling
 pub mod Serving
+pub mod Families
 pub mod Handling

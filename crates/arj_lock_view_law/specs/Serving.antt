@@ -7,18 +7,18 @@ use Rattle.arj_protocol.specs.Ask.{actor}
 use Rattle.arj_protocol.specs.Copy.{Copy}
 use Rattle.arj_protocol.specs.Order.{at_number, binding_number}
 use Rattle.arj_protocol.specs.Server.{Server, activate, invoke, new_server, vote}
-use Rattle.arj_protocol.specs.Values.{state_value}
 use Rattle.arj_lock_law.specs.Actions.{In}
 use Rattle.arj_lock_law.specs.Machine.{start}
 use Rattle.arj_lock_law.specs.State as machine
 use Rattle.arj_lock_law.specs.State.{State}
 use Rattle.arj_part_law.specs.Ends.{ask_ends}
 use Rattle.arj_part_law.specs.Messages.{FitsAsk}
+use Rattle.arj_lock_view_law.specs.Asks.{Post, ShowsAsk}
+use Rattle.arj_lock_view_law.specs.Calling.{IsReached}
 use Rattle.arj_lock_view_law.specs.Commits.{HasVoted, OnlyVote, ballot_for}
 use Rattle.arj_lock_view_law.specs.Copies.{OnlyServer}
-use Rattle.arj_lock_view_law.specs.Going.{Goes, IsServedBy}
-use Rattle.arj_lock_view_law.specs.Named.{IsNamedSo}
-use Rattle.arj_lock_view_law.specs.Servers.{ShowsIfInvoked, wanted_by}
+use Rattle.arj_lock_view_law.specs.Going.{Goes}
+use Rattle.arj_lock_view_law.specs.Servers.{ShowsIfInvoked}
 use Rattle.arj_lock_view_law.specs.Telling.{AreOneTree, IsOfFamily, Sees, ShowEnds, View}
 
 -- ---- it stops and starts
@@ -41,40 +41,32 @@ ServersStart = (v : View) (inc i : ℕ) (S : State) → inc < i → IsDown v inc
 
 -- ---- what requests show
 
--- An Activate of the object: its binding is of this node, and a state was sent for it.
-pub record IsGiven (v : View) (b : Binding) (st : ObjectState) (S : State) : Type 0 where
-  pub bound : 1 ≤ binding_number b
-  pub served : IsServedBy S b v.node
-  pub sent : In (machine.Activate (binding_number b) (v.code (state_value st))) S.net
+-- the request, as one about the object that comes to this node
+abbrev pub post_to : View → Head → Post
+post_to v h = record { x = v.x; path = h.path; number = h.req; node = v.node }
 
--- An Invoke on the object: one of this number was sent, to the node of its binding, the incarnation that it says was heard for that,
--- and it is what the action wants by this number.
-pub record IsAsked (v : View) (h : Head) (b : Binding) (i : ℕ) (o : Op) (S : State) : Type 0 where
-  pub number : 1 ≤ h.req
-  pub bound : 1 ≤ binding_number b
-  pub served : IsServedBy S b v.node
-  pub named : IsNamedSo S b i
-  pub sent : In (machine.Invoke (wanted_by v.family.act (actor h.path) h.req (record { binding = b; op = o }))) S.net
-  pub wish : v.wants (actor h.path) h.req ≡ Some (record { binding = b; op = o })
+-- It is for the server, and about the object, which a Vote may tie.
+abbrev pub IsForServer : ℕ → Ask → Type 0
+IsForServer x (ask.Activate b st) = (let u = st.uid in u.num) ≡ x
+IsForServer x (ask.Invoke y b i ends o) = y ≡ x
+IsForServer x (ask.Vote i ties ends) = ⊤
+IsForServer x a = ⊥
 
--- A Vote that ties the object to this binding: it was sent with the incarnation that it says, to the binding's node.
-pub record IsVoteFor (v : View) (u : Uid) (i : ℕ) (b : Binding) (S : State) : Type 0 where
-  pub sent : In (machine.Vote (v.family.act u) (binding_number b) i) S.net
-  pub served : IsServedBy S b v.node
+-- An Invoke has a number, and is what its action wants of the object by that; one of another object is no request that wants something of
+-- this one.
+abbrev pub IsWanted : View → Head → Ask → Type 0
+IsWanted v h (ask.Invoke y b i ends o) = (1 ≤ h.req) × (y ≡ v.x → v.wants (actor h.path) h.req ≡ Some (record { binding = b; op = o })) × (y ≢ v.x → v.wants (actor h.path) h.req ≡ None)
+IsWanted v h a = ⊤
 
--- What a request shows of the object, where it is about it. An Invoke of another object is no request that wants something of this one.
-abbrev pub ShowsToServer : View → Head → Ask → State → Type 0
-ShowsToServer v h (ask.Activate b st) S = (let u = st.uid in u.num) ≡ v.x → IsGiven v b st S
-ShowsToServer v h (ask.Invoke y b i ends o) S = (y ≡ v.x → IsAsked v h b i o S) × (y ≢ v.x → v.wants (actor h.path) h.req ≡ None)
-ShowsToServer v h (ask.Vote i ties ends) S = (b : Binding) → Contains {X = ℕ × Binding} ties (v.x, b) → IsVoteFor v (actor h.path) i b S
-ShowsToServer v h a S = ⊤
-
--- A request comes to the server: both are of the actions that were begun, and it shows what it says of the object and of ends.
+-- A request comes to the server: both are of the actions that were begun, and it shows what its coordinator did about the object, what it
+-- wants, and its ends.
 pub record IsShown (v : View) (h : Head) (a : Ask) (s : Server) (S : State) : Type 0 where
+  pub reached : IsReached S
   pub whole : AreOneTree v.family
   pub server : IsOfFamily v.family s
   pub fits : FitsAsk (let g = v.family in g.begun) h a
-  pub says : ShowsToServer v h a S
+  pub says : IsForServer v.x a → ShowsAsk v.family.act v.code (post_to v h) S a
+  pub wanted : IsWanted v h a
   pub shown : ShowEnds v s S (ask_ends a)
 
 -- ---- what it does with them
@@ -87,7 +79,7 @@ ShowsActivated b S (Some i) = In (machine.Activated (binding_number b) i) S.net
 -- An Activate: the server takes the state, or has it, or the message is void.
 abbrev pub ActivatesAreSeen : Type 0
 ActivatesAreSeen = (v : View) (h : Head) (b : Binding) (st : ObjectState) (s : Server) (S : State)
-    → ShowsToServer v h (ask.Activate b st) S → Sees v s S
+    → IsShown v h (ask.Activate b st) s S → Sees v s S
     → let r = activate v.node h.path b st s in Goes S (λ T. Sees v r.part T × OnlyServer v.node S T × ((let u = st.uid in u.num) ≡ v.x → ShowsActivated b T r.reply))
 
 -- An Invoke: the server answers that it has changed, answers as it did, or applies the ends that are new to it and then the operation, or

@@ -4,13 +4,14 @@
 //! order, values and held locks. For each object a state of the machine is tied to the protocol place by place, as
 //! `arj_disk_view_law` does for the disk machine; a call of a part is then a run of the machine, allowed step by step, after
 //! which the place is seen again. It stands on `arj_protocol`, `arj_lock_law` and what the parts keep (`arj_part_law`).
-//! `specs/Acts.antt` has the machine's paths of actions, `specs/Rows.antt` the rows of a lock table, `specs/Named.antt` an
-//! object at naming, `specs/Going.antt` what a run leaves alone and what an answer shows. What it gives upward: a Bind, a
+//! `specs/Acts.antt` has the machine's paths of actions, which any actions that were begun have (`specs/Families.antt`),
+//! `specs/Rows.antt` the rows of a lock table, `specs/Named.antt` an object at naming, `specs/Going.antt` what a run leaves
+//! alone and what an answer shows. What it gives upward: a Bind, a
 //! Record and a Hello go (`specs/Bindings.antt`), and so do ends, exclude locks and a restart (`specs/Ends.antt`): that is what
 //! naming does with one object. A server's activations, operations, refusals and undoings go too (`specs/Copies.antt`), its
 //! commits and votes (`specs/Commits.antt`), and the whole of it (`specs/Servers.antt`): where it is told of ends
-//! (`specs/Telling.antt`), where it stops and starts, at each message that is for it, which may bring ends too
-//! (`specs/Serving.antt`), and at each that its node takes (`specs/Handling.antt`).
+//! (`specs/Telling.antt`, which also says which ends may be told), where it stops and starts, at each message that is for it,
+//! which may bring ends too (`specs/Serving.antt`), and at each that its node takes (`specs/Handling.antt`).
 //! Of a coordinator its tree is seen (`specs/Actions.antt`), how its actions begin and end (`specs/Begins.antt`, `specs/Acting.antt`,
 //! `specs/Whole.antt`), one by one or many at once, as by an abort, a stop and a restart (`specs/Stops.antt`); what its roots keep
 //! (`specs/Roots.antt`), how its calls go (`specs/Calling.antt`) and its includes (`specs/Including.antt`), how the commit of a top goes
@@ -31,6 +32,6 @@ pub use naming::{
     restarts_are_seen,
 };
 pub use server::{
-    commits_at_servers_are_seen, copies_are_seen, ends_are_shown, messages_at_servers_are_seen,
-    servers_are_seen, votes_are_seen,
+    begun_actions_have_places, commits_at_servers_are_seen, copies_are_seen, ends_are_shown,
+    messages_at_servers_are_seen, servers_are_seen, votes_are_seen,
 };

@@ -1,6 +1,7 @@
 // A server, as the lock machine of one object has it.
 ghost use Rattle.arj_lock_view_law.specs.Commits.{FoldingsAreSeen, ReadingsAreSeen, RetainingsAreSeen, SettlingsAreSeen, VotesAreSeen};
 ghost use Rattle.arj_lock_view_law.specs.Copies.{ActivationsAreSeen, OperationsAreSeen, RefusalsAreSeen, UndoingsAreSeen};
+ghost use Rattle.arj_lock_view_law.specs.Families.{FamiliesAreTrees, OlderAreTrees};
 ghost use Rattle.arj_lock_view_law.specs.Handling.{MessagesAreTaken};
 ghost use Rattle.arj_lock_view_law.specs.Serving.{ActivatesAreSeen, InvokesAreSeen, ServersAreDown, ServersStart, ServersStop, VotesAreTaken};
 ghost use Rattle.arj_lock_view_law.specs.Telling.{AbortedAreShown, AbortsStayShown, CommitsStayShown, EndsAreTaken, OverAreShown, UnvotedAreShown};
@@ -57,4 +58,11 @@ pub fn ends_are_shown()
     ensures over { OverAreShown }
     ensures commits { CommitsStayShown }
     ensures aborts { AbortsStayShown }
+{}
+
+/// Actions that were begun, on whatever nodes, have places in the machine, in which they are one tree; and so have those that were begun
+/// earlier, in the same places. It does nothing when it runs.
+pub fn begun_actions_have_places()
+    ensures all { FamiliesAreTrees }
+    ensures older { OlderAreTrees }
 {}
