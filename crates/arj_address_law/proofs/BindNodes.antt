@@ -15,7 +15,7 @@ use Rattle.arj_protocol.specs.Asking.{heard}
 use Rattle.arj_protocol.specs.Call.{At, AtActivate, AtBind, AtInvoke, AtLoad, AtNote, Steps, ask_at, is_include}
 use Rattle.arj_protocol.specs.Confirm.{confirm}
 use Rattle.arj_protocol.specs.Coord.{Coord}
-use Rattle.arj_protocol.specs.Effect.{Already, Disk, Do, Effect, InDoubt, Old, Pair, Prep, Prepare, Ready, Say, Send, Served, held_at, holder_of, is_prepared, prepare_answer, void}
+use Rattle.arj_protocol.specs.Effect.{Already, Disk, Do, Effect, InDoubt, Old, Pair, Prep, Ready, Say, Send, Served, held_at, holder_of, is_prepared, prepare_answer, void}
 use Rattle.arj_protocol.specs.Ending.{acked, answer_query}
 use Rattle.arj_protocol.specs.Named.{Counted, Live, Made, Named, bind_call, bind_made, bind_named, conflict_on, include_asked, live_above, live_asked, made_above, make_asked}
 use Rattle.arj_protocol.specs.Naming as naming
