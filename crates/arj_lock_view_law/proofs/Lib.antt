@@ -19,6 +19,7 @@ pub mod HandledSteps
 pub mod IncludeSteps
 pub mod InvokedSteps
 pub mod LeftSteps
+pub mod ListedSteps
 pub mod LogSteps
 pub mod MoveSteps
 pub mod NewSteps

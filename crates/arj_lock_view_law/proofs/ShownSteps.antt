@@ -2,6 +2,7 @@
 use Rattle.std.proofs.Common.{◌≡◌, ◌∙◌, Bool, true, false, cond, Option, Some, None, refl, sym, ap, subst, inl, inr, arith}
 use Rattle.arj_lock.proofs.Members.{in_to}
 use Rattle.arj_protocol.specs.Words.{Uid, is_on, last_uid}
+use Rattle.arj_protocol.specs.Words.ending
 use Rattle.arj_protocol.specs.Copy.{Copy}
 use Rattle.arj_protocol.specs.Order.{at_number}
 use Rattle.arj_protocol.specs.Server.{Server}
@@ -18,11 +19,12 @@ use Rattle.arj_lock_view_law.specs.Acts.{Acts}
 use Rattle.arj_lock_view_law.specs.Calling.{IsReached}
 use Rattle.arj_lock_view_law.specs.Copies.{SeesCopy}
 use Rattle.arj_lock_view_law.specs.Servers.{SeesObject}
-use Rattle.arj_lock_view_law.specs.Telling.{AbortedAreShown, AbortsStayShown, AreOneTree, CommitsStayShown, HasNoneLeft, IsOfFamily, OverAreShown, Sees, UnvotedAreShown, View}
+use Rattle.arj_lock_view_law.specs.Telling.{AreOneTree, EndedAreShown, EndedStay, HasNoneLeft, IsOfFamily, OverAreShown, Sees, UnvotedAreShown, View}
 use Rattle.arj_lock_view_law.proofs.LogSteps.{held_for}
 
-pub aborted_are_shown : AbortedAreShown
-aborted_are_shown v u S aborted = inl aborted
+pub ended_are_shown : EndedAreShown
+ended_are_shown v u ending.Abort S aborted = inl aborted
+ended_are_shown v u ending.Commit S committed = committed
 
 pub unvoted_are_shown : UnvotedAreShown
 unvoted_are_shown v u s S sees fresh off top committed = inr (inr (top, committed, sees.voted u fresh off))
@@ -69,19 +71,6 @@ over_are_shown v u s S reached whole of sees over none = inr (inl (over, drained
 pub committed_on : {S T : State} → Run S T → Holds S → (a : Act) → (let z = S.action a in z.stage) ≡ 3 → (let z = T.action a in z.stage) ≡ 3
 committed_on stay holds a is = is
 committed_on (step e guard rest) holds a is = let k = step_keeps e _ guard holds in let later = k.0 in committed_on rest k.1 a (later.ends a is).0
-
-pub commits_stay_shown : CommitsStayShown
-commits_stay_shown v u S T reached run so = record {
-  action = so.action;
-  begun = so.begun;
-  of = so.of;
-  unserial = so.unserial;
-  committed = committed_on run holds (v.family.act u) so.committed;
-  over = λ plain. committed_on run holds (Root (root (v.family.act u))) (so.over plain);
-}
-  where
-    holds : Holds S
-    holds = run_keeps reached.1 (start_holds reached.0)
 
 -- ---- an abort is for ever
 
@@ -142,5 +131,18 @@ pub aborted_on : {S T : State} → Run S T → (a : Act) → (let z = S.action a
 aborted_on stay a is = is
 aborted_on (step e guard rest) a is = aborted_on rest a (aborted_next e _ guard a is)
 
-pub aborts_stay_shown : AbortsStayShown
-aborts_stay_shown v u S T run is = aborted_on run (v.family.act u) is
+-- ---- any end is
+
+pub ended_stay : EndedStay
+ended_stay v u ending.Abort S T reached run aborted = aborted_on run (v.family.act u) aborted
+ended_stay v u ending.Commit S T reached run so = record {
+  action = so.action;
+  begun = so.begun;
+  of = so.of;
+  unserial = so.unserial;
+  committed = committed_on run holds (v.family.act u) so.committed;
+  over = λ plain. committed_on run holds (Root (root (v.family.act u))) (so.over plain);
+}
+  where
+    holds : Holds S
+    holds = run_keeps reached.1 (start_holds reached.0)

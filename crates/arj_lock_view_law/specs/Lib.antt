@@ -20,4 +20,5 @@ pub mod Stops
 pub mod Telling
 pub mod Serving
 pub mod Families
+pub mod Listed
 pub mod Handling

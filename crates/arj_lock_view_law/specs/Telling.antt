@@ -96,9 +96,18 @@ EndsAreTaken = (v : View) (ends : List (Uid × End)) (s : Server) (S : State)
 
 -- ---- which ends are shown
 
--- An abort is shown where the action was aborted,
-abbrev pub AbortedAreShown : Type 0
-AbortedAreShown = (v : View) (u : Uid) (S : State) → (let a = S.action (v.family.act u) in a.stage) ≡ 4 → ShowsEnd v S u ending.Abort
+-- The action has this end in the machine.
+abbrev pub HasEnded : View → State → Uid → End → Type 0
+HasEnded v S u ending.Abort = (let a = S.action (v.family.act u) in a.stage) ≡ 4
+HasEnded v S u ending.Commit = IsCommittedSo v.family u S
+
+-- It has it for ever.
+abbrev pub EndedStay : Type 0
+EndedStay = (v : View) (u : Uid) (e : End) (S T : State) → IsReached S → Run S T → HasEnded v S u e → HasEnded v T u e
+
+-- An end is shown that the action has. An abort is shown, besides,
+abbrev pub EndedAreShown : Type 0
+EndedAreShown = (v : View) (u : Uid) (e : End) (S : State) → HasEnded v S u e → ShowsEnd v S u e
 
 -- where a top is committed for which the server didn't vote,
 abbrev pub UnvotedAreShown : Type 0
@@ -111,11 +120,3 @@ HasNoneLeft v u s S = (t : Uid) (k : Call) (c : Copy) (o : Over) → root (v.fam
 -- and where the unit is over, and nothing of it is left here that counts.
 abbrev pub OverAreShown : Type 0
 OverAreShown = (v : View) (u : Uid) (s : Server) (S : State) → IsReached S → AreOneTree v.family → IsOfFamily v.family s → Sees v s S → (let a = S.action (Root (root (v.family.act u))) in a.stage) ≡ 3 → HasNoneLeft v u s S → ShowsEnd v S u ending.Abort
-
--- A commit that is shown stays so in every later state.
-abbrev pub CommitsStayShown : Type 0
-CommitsStayShown = (v : View) (u : Uid) (S T : State) → IsReached S → Run S T → ShowsEnd v S u ending.Commit → ShowsEnd v T u ending.Commit
-
--- So does the abort of an aborted action.
-abbrev pub AbortsStayShown : Type 0
-AbortsStayShown = (v : View) (u : Uid) (S T : State) → Run S T → (let a = S.action (v.family.act u) in a.stage) ≡ 4 → (let a = T.action (v.family.act u) in a.stage) ≡ 4

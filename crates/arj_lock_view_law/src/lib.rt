@@ -10,8 +10,9 @@
 //! Record and a Hello go (`specs/Bindings.antt`), and so do ends, exclude locks and a restart (`specs/Ends.antt`): that is what
 //! naming does with one object. A server's activations, operations, refusals and undoings go too (`specs/Copies.antt`), its
 //! commits and votes (`specs/Commits.antt`), and the whole of it (`specs/Servers.antt`): where it is told of ends
-//! (`specs/Telling.antt`, which also says which ends may be told), where it stops and starts, at each message that is for it,
-//! which may bring ends too (`specs/Serving.antt`), and at each that its node takes (`specs/Handling.antt`).
+//! (`specs/Telling.antt`, which also says which ends may be told; `specs/Listed.antt`: those that coordinators list), where it
+//! stops and starts, at each message that is for it, which may bring ends too (`specs/Serving.antt`), and at each that its
+//! node takes (`specs/Handling.antt`).
 //! Of a coordinator its tree is seen (`specs/Actions.antt`), how its actions begin and end (`specs/Begins.antt`, `specs/Acting.antt`,
 //! `specs/Whole.antt`), one by one or many at once, as by an abort, a stop and a restart (`specs/Stops.antt`); what its roots keep
 //! (`specs/Roots.antt`), how its calls go (`specs/Calling.antt`) and its includes (`specs/Including.antt`), how the commit of a top goes

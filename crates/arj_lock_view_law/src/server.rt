@@ -3,8 +3,9 @@ ghost use Rattle.arj_lock_view_law.specs.Commits.{FoldingsAreSeen, ReadingsAreSe
 ghost use Rattle.arj_lock_view_law.specs.Copies.{ActivationsAreSeen, OperationsAreSeen, RefusalsAreSeen, UndoingsAreSeen};
 ghost use Rattle.arj_lock_view_law.specs.Families.{FamiliesAreTrees, OlderAreTrees};
 ghost use Rattle.arj_lock_view_law.specs.Handling.{MessagesAreTaken};
+ghost use Rattle.arj_lock_view_law.specs.Listed.{DecidedHaveEnded, ListedHaveEnded};
 ghost use Rattle.arj_lock_view_law.specs.Serving.{ActivatesAreSeen, InvokesAreSeen, ServersAreDown, ServersStart, ServersStop, VotesAreTaken};
-ghost use Rattle.arj_lock_view_law.specs.Telling.{AbortedAreShown, AbortsStayShown, CommitsStayShown, EndsAreTaken, OverAreShown, UnvotedAreShown};
+ghost use Rattle.arj_lock_view_law.specs.Telling.{EndedAreShown, EndedStay, EndsAreTaken, OverAreShown, UnvotedAreShown};
 
 /// What a server does with the copy of an object is allowed in the machine, and leaves the copy seen: it takes a copy, applies a
 /// new request in its lock, refuses one that meets a conflict, and undoes what an aborted action did. It does nothing when it runs.
@@ -50,14 +51,16 @@ pub fn messages_at_servers_are_seen()
     ensures { MessagesAreTaken }
 {}
 
-/// Which aborts may be told to a server: of an aborted action, of a committed top for which it didn't vote, and where a unit is over of
-/// which nothing is left here that counts. Commits and aborts are for ever. It does nothing when it runs.
+/// Which ends may be told to a server: those that the machine's actions have, for ever, and those that a coordinator lists or has decided
+/// are such; besides, the abort of a committed top for which the server didn't vote, and where a unit is over of which nothing is left
+/// here that counts. It does nothing when it runs.
 pub fn ends_are_shown()
-    ensures aborted { AbortedAreShown }
+    ensures ended { EndedAreShown }
+    ensures stay { EndedStay }
+    ensures decided { DecidedHaveEnded }
+    ensures listed { ListedHaveEnded }
     ensures unvoted { UnvotedAreShown }
     ensures over { OverAreShown }
-    ensures commits { CommitsStayShown }
-    ensures aborts { AbortsStayShown }
 {}
 
 /// Actions that were begun, on whatever nodes, have places in the machine, in which they are one tree; and so have those that were begun

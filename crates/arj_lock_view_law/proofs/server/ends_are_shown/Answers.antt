@@ -1,17 +1,21 @@
-use Rattle.arj_lock_view_law.proofs.ShownSteps.{aborted_are_shown, aborts_stay_shown, commits_stay_shown, over_are_shown, unvoted_are_shown}
+use Rattle.arj_lock_view_law.proofs.ListedSteps.{decided_have_ended, listed_have_ended}
+use Rattle.arj_lock_view_law.proofs.ShownSteps.{ended_are_shown, ended_stay, over_are_shown, unvoted_are_shown}
 use Rattle.arj_lock_view_law.proofs.server.ends_are_shown.Goals as goal
 
-pub returns-clause-aborted : goal.returns-clause-aborted
-returns-clause-aborted c = aborted_are_shown
+pub returns-clause-ended : goal.returns-clause-ended
+returns-clause-ended c = ended_are_shown
+
+pub returns-clause-stay : goal.returns-clause-stay
+returns-clause-stay c = ended_stay
+
+pub returns-clause-decided : goal.returns-clause-decided
+returns-clause-decided c = decided_have_ended
+
+pub returns-clause-listed : goal.returns-clause-listed
+returns-clause-listed c = listed_have_ended
 
 pub returns-clause-unvoted : goal.returns-clause-unvoted
 returns-clause-unvoted c = unvoted_are_shown
 
 pub returns-clause-over : goal.returns-clause-over
 returns-clause-over c = over_are_shown
-
-pub returns-clause-commits : goal.returns-clause-commits
-returns-clause-commits c = commits_stay_shown
-
-pub returns-clause-aborts : goal.returns-clause-aborts
-returns-clause-aborts c = aborts_stay_shown
