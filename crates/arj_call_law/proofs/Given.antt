@@ -77,6 +77,19 @@ keeps_given hd G P one = record {
   first = one.first;
 }
 
+-- where more holds, too
+pub given_more : (hd : Header) (G H P : Seen → Type 0) → ((M : Seen) → H M → G M) → KeepsGiven hd G P → KeepsGiven hd H P
+given_more hd G H P less one = record {
+  quiet = λ e bs M quiet h p. one.quiet e bs M quiet (less M h) p;
+  stop = λ e k d live M h p. one.stop e k d live M (less (at k d live M) h) p;
+  message = λ e k d t v from m outs M h p there meant is. one.message e k d t v from m outs M (less (up k d t M) h) p there meant is;
+  act = λ e k d t i M is none h p. one.act e k d t i M is none (less (up k d t M) h) p;
+  begin = λ e k d t l how parent M new may none h p. one.begin e k d t l how parent M new may none (less (up k d t M) h) p;
+  tick = λ e k d t M h p. one.tick e k d t M (less (up k d t M) h) p;
+  restart = λ e k d M h p. one.restart e k d M (less (down k d M) h) p;
+  first = one.first;
+}
+
 -- ---- as long as the journal is so
 
 module _ (S : List Line → Type 0) (before : (lines more : List Line) → S (lines ++ more) → S lines) (P : Seen → Type 0) where

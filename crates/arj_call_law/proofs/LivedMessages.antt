@@ -89,7 +89,6 @@ module _ (k : ℕ) (home : Homes) (reach : Reach) (sent : List Post) where
         asked = is;
         same = ap (λ (z : Asked × Reply). z.0) same;
         from = refl;
-        to = refl;
         so = subst (NamesReply home reach k a) (ap (λ (z : Asked × Reply). z.1) same) so;
       };
     }

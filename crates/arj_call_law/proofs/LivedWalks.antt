@@ -46,7 +46,7 @@ IsNumberedSo k i given o = (k ≡ 1) × (o.inc ≡ i) × AreBelow (binding_numbe
 names_within : (home : Homes) (reach : Reach) (few many : List Post) → Within few many → (p : Post) → NamesPost home reach few p → NamesPost home reach many p
 names_within home reach few many more p its = record {
   asking = its.asking;
-  answering = λ a r is. let f = its.answering a r is in record { post = f.post; head = f.head; ask = f.ask; posted = more f.post f.posted; asked = f.asked; same = f.same; from = f.from; to = f.to; so = f.so };
+  answering = λ a r is. let f = its.answering a r is in record { post = f.post; head = f.head; ask = f.ask; posted = more f.post f.posted; asked = f.asked; same = f.same; from = f.from; so = f.so };
 }
 
 -- a node that is down passes more

@@ -15,7 +15,7 @@ use Rattle.arj_run_law.proofs.Walked.{other_number, same_number}
 use Rattle.arj_view_law.specs.Keeps.{Keeps}
 use Rattle.arj_view_law.specs.Seen.{Seen, at, down, given, posted, said, up}
 use Rattle.arj_view_law.specs.Walks.{Up, Walks, halted}
-use Rattle.arj_call_law.specs.Bindings.{bindings_made, bound_by}
+use Rattle.arj_call_law.specs.Bindings.{AreSaid, IsSaidBy, bindings_made, bound_by}
 use Rattle.arj_call_law.proofs.LivedCounts.{GrowsBy, made_in, message_grows}
 use Rattle.arj_call_law.proofs.ServerCalls.{never, some_is}
 
@@ -39,14 +39,6 @@ fewer ls ms = less (bindings_made (ls ++ ms)) (bindings_made ls) (bindings_made 
   where
     less : (n a b : ℕ) → n ≡ a + b → a ≤ n
     less n a b same = omega (arith, same)
-
--- naming counted no more bindings than these lines say, while the node is up
-abbrev IsSaidBy : List Line → Option Parts → Type 0
-IsSaidBy lines live = (t : Parts) (o : Naming) → live ≡ Some t → t.naming ≡ Some o → o.count ≤ bindings_made lines
-
--- so it is at each node
-abbrev pub AreSaid : Seen → Type 0
-AreSaid M = (j : ℕ) (n : Node) → M.nodes j ≡ Some n → IsSaidBy M.lines n.live
 
 -- at the other nodes
 abbrev AreSaidOff : ℕ → Seen → Type 0

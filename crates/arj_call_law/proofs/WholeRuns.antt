@@ -25,18 +25,18 @@ use Rattle.arj_run_law.proofs.Walked.{same_number}
 use Rattle.arj_view_law.specs.Keeps.{Keeps}
 use Rattle.arj_view_law.specs.Seen.{Seen, see, up}
 use Rattle.arj_view_law.proofs.Happens.{runs_hold}
-use Rattle.arj_call_law.specs.Bindings.{HasFewBindings, bindings_made}
+use Rattle.arj_call_law.specs.Bindings.{AreSaid, HasFewBindings, bindings_made}
 use Rattle.arj_call_law.specs.Calls.{Call, call_in}
 use Rattle.arj_call_law.specs.Homes.{NamesIn}
 use Rattle.arj_call_law.specs.Lived.{AreApart, AreBelow, CountFits, Gifts, IsHome, LivesRun, LivesWith, NamesPost, PassesAll, PassesIn}
-use Rattle.arj_call_law.specs.Runs.{Grants, HasHomes, KnowsRun, WithCalls}
+use Rattle.arj_call_law.specs.Runs.{HasHomes, KnowsFew, KnowsRun}
 use Rattle.arj_call_law.specs.Servers.{HasReached, IsSoUp, Since}
 use Rattle.arj_call_law.specs.Voting.{RunsVote}
 use Rattle.arj_call_law.specs.Worlds.{CallsReach}
 use Rattle.arj_call_law.proofs.CoordSends.{asked_call}
-use Rattle.arj_call_law.proofs.Given.{KeepsGiven, both_given, kept_both, keeps_given, while_given}
+use Rattle.arj_call_law.proofs.Given.{KeepsGiven, both_given, given_more, kept_both, keeps_given, while_given}
 use Rattle.arj_call_law.proofs.LivedRuns.{lives_given}
-use Rattle.arj_call_law.proofs.MadeLines.{AreSaid, counts_are_said, fewer}
+use Rattle.arj_call_law.proofs.MadeLines.{counts_are_said, fewer}
 use Rattle.arj_call_law.proofs.ServerCalls.{some_is}
 use Rattle.arj_call_law.proofs.WorldRuns.{calls_given, votes_in}
 
@@ -212,19 +212,27 @@ calls_go hd G good fits = both_given hd G LivesRun KnowsRun
     (lives_given hd (λ M. G M × KnowsRun M) (λ M g. good M g.0) (λ M g. g.1) (λ k d t M g. fits k d t M g.0))
     (calls_given hd (λ M. G M × LivesRun M) (record { reached = λ M g. reached_of M g.1; homes = λ k d t M g. homes_of k d t M g.1 }))
 
-pub with_calls : (hd : Header) (R : Seen → Type 0) → Keeps hd R → Grants R → Keeps hd (WithCalls R)
-with_calls hd R kept grants = kept_both hd (λ M. R M × IsGood M) (λ M. LivesRun M × KnowsRun M) (kept_both hd R IsGood kept (keeps_given hd R IsGood (all_keep hd))) (calls_go hd (λ M. R M × IsGood M) (λ M g. g.1) (λ k d t M g. grants.counts k d t M g.0))
+-- as long as few bindings were made, with what is kept beside it
+abbrev pub WhileFew : (Seen → Type 0) → Seen → Type 0
+WhileFew P M = (IsGood M × AreSaid M) × (HasFewBindings M.lines → (LivesRun M × KnowsRun M) × P M)
 
--- as long as few bindings were made
-abbrev pub KnownWhileFew : Seen → Type 0
-KnownWhileFew M = (IsGood M × AreSaid M) × (HasFewBindings M.lines → LivesRun M × KnowsRun M)
-
-pub few_go : (hd : Header) → Keeps hd KnownWhileFew
-few_go hd = kept_both hd (λ M. IsGood M × AreSaid M) (λ M. HasFewBindings M.lines → LivesRun M × KnowsRun M)
+pub few_go : (hd : Header) (P : Seen → Type 0) → KeepsGiven hd KnowsFew P → Keeps hd (WhileFew P)
+few_go hd P kept = kept_both hd Counted (λ M. HasFewBindings M.lines → Known M × P M)
     (kept_both hd IsGood AreSaid (all_keep hd) (keeps_given hd IsGood AreSaid (counts_are_said hd)))
-    (while_given HasFewBindings few_before (λ M. LivesRun M × KnowsRun M) hd (λ M. IsGood M × AreSaid M)
-    (calls_go hd (λ M. (IsGood M × AreSaid M) × HasFewBindings M.lines) (λ M g. g.0.0) (λ k d t M g o its. few (bindings_made M.lines) o.count (g.0.1 k (record { number = k; disk = d; live = Some t }) (λ i. cond (same_number k i) (Some (record { number = k; disk = d; live = Some t })) (M.nodes k)) t o refl its) g.1)))
+    (while_given HasFewBindings few_before (λ M. Known M × P M) hd Counted
+    (both_given hd Few Known P
+    (given_more hd Few (λ M. Few M × P M) Known (λ M g. g.0) (calls_go hd Few (λ M g. g.0.0) (λ k d t M g o its. few (bindings_made M.lines) o.count (g.0.1 k (record { number = k; disk = d; live = Some t }) (λ i. cond (same_number k i) (Some (record { number = k; disk = d; live = Some t })) (M.nodes k)) t o refl its) g.1)))
+    (given_more hd KnowsFew (λ M. Few M × Known M) P (λ M g. (g.0.1, g.1)) kept)))
   where
+    Counted : Seen → Type 0
+    Counted M = IsGood M × AreSaid M
+
+    Few : Seen → Type 0
+    Few M = Counted M × HasFewBindings M.lines
+
+    Known : Seen → Type 0
+    Known M = LivesRun M × KnowsRun M
+
     few : (n c : ℕ) → c ≤ n → n < 4294967295 → c + 1 < 4294967296
     few n c le less = omega (arith, le, less)
 
@@ -236,6 +244,6 @@ few_go hd = kept_both hd (λ M. IsGood M × AreSaid M) (λ M. HasFewBindings M.l
 
 pub runs_vote : RunsVote
 runs_vote hd es few =
-    let h = runs_hold hd KnownWhileFew (few_go hd) es in
-    let known = h.holds.1 few in
+    let h = runs_hold hd (WhileFew IsGood) (few_go hd IsGood (keeps_given hd KnowsFew IsGood (all_keep hd))) es in
+    let known = (h.holds.1 few).0 in
     record { sent = h.sent; stands = h.stands; holds = votes_in (see h.sent (run_all es (format hd))) known.1 }

@@ -1,3 +1,4 @@
+pub mod Bindings
 pub mod Calls
 pub mod Servers
 pub mod Coords
@@ -6,4 +7,3 @@ pub mod Homes
 pub mod Runs
 pub mod Voting
 pub mod Lived
-pub mod Bindings

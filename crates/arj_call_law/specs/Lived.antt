@@ -32,7 +32,7 @@ pub record IsHome (given : Gifts) (home : Homes) : Type 0 where
 abbrev pub HasServers : Homes → Reach → Parts → Type 0
 HasServers home reach t = KnowsServers home reach t.coord × ((o : Naming) → t.naming ≡ Some o → IsNamingSo home reach o)
 
--- an answer that was sent: it goes back to who sent the request, to the node that answers, and is so
+-- an answer that was sent: it goes back to who sent the request, and is so
 pub record IsAnswer (home : Homes) (reach : Reach) (sent : List Post) (p : Post) (a : Asked) (r : Reply) : Type 0 where
   pub post : Post
   pub head : Head
@@ -41,7 +41,6 @@ pub record IsAnswer (home : Homes) (reach : Reach) (sent : List Post) (p : Post)
   pub asked : asks post.message ≡ Some (head, ask)
   pub same : asked_by head ≡ a
   pub from : post.from ≡ p.to
-  pub to : post.to ≡ p.from
   pub so : NamesReply home reach p.from ask r
 
 -- what a message says of servers is so

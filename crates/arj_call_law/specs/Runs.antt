@@ -14,11 +14,12 @@ use Rattle.arj_protocol.specs.Order.{binding_number}
 use Rattle.arj_protocol.specs.Step.{Node}
 use Rattle.arj_part_law.specs.Actions.{Action, Agree}
 use Rattle.arj_part_law.specs.Copies.{IsTree, Paths}
-use Rattle.arj_run_law.specs.Worlds.{IsGood, IsGoodOf}
+use Rattle.arj_run_law.specs.Worlds.{IsGoodOf}
 use Rattle.arj_view_law.specs.Seen.{In, Seen, up}
+use Rattle.arj_call_law.specs.Bindings.{HasFewBindings}
 use Rattle.arj_call_law.specs.Coords.{IsUsed}
 use Rattle.arj_call_law.specs.Homes.{NamesIn}
-use Rattle.arj_call_law.specs.Lived.{CountFits, LivesRun}
+use Rattle.arj_call_law.specs.Lived.{LivesRun}
 use Rattle.arj_call_law.specs.Worlds.{CallsReach, KnowsWorld}
 
 -- a tree of paths that has these actions
@@ -45,13 +46,9 @@ pub record Grounds (R : Seen → Type 0) : Type 0 where
   pub reached : (M : Seen) → R M → CallsReach M
   pub homes : (k : ℕ) (d : Disk) (t : Parts) (M : Seen) → R (up k d t M) → HasHomes k t (up k d t M)
 
--- The relation gives that naming's count of bindings has 32 bits, by which a binding has one server.
-pub record Grants (R : Seen → Type 0) : Type 0 where
-  pub counts : (k : ℕ) (d : Disk) (t : Parts) (M : Seen) → R (up k d t M) → CountFits t
-
--- with what is known of nodes, of servers and of calls
-abbrev pub WithCalls : (Seen → Type 0) → Seen → Type 0
-WithCalls R M = (R M × IsGood M) × (LivesRun M × KnowsRun M)
+-- few bindings were made so far, and so much is known of servers and of calls
+abbrev pub KnowsFew : Seen → Type 0
+KnowsFew M = HasFewBindings M.lines × (LivesRun M × KnowsRun M)
 
 -- A vote that was sent to a node has states of objects only that the plan there uses at the server which votes.
 abbrev pub VotesAreUsed : ℕ → Parts → Seen → Type 0

@@ -30,8 +30,9 @@ use Rattle.arj_names_view_law.specs.Handlers.{Changes, decided_by}
 use Rattle.arj_disk_run_law.specs.Part.{Going, HasHeard, IsCarried, KeepsPart, are_recorded, going_of}
 use Rattle.arj_disk_run_law.specs.Kinds.{kinds_of}
 use Rattle.arj_disk_run_law.proofs.Begun.{kinds_agree}
-use Rattle.arj_call_law.specs.Runs.{WithCalls}
-use Rattle.arj_call_law.proofs.WholeRuns.{with_calls}
+use Rattle.arj_call_law.specs.Runs.{KnowsFew}
+use Rattle.arj_call_law.proofs.WholeRuns.{WhileFew, few_go}
+use Rattle.arj_binding_law.proofs.Events.{scripts_few}
 use Rattle.arj_disk_run_law.proofs.Given.{gives_votes}
 use Rattle.arj_disk_run_law.proofs.BothEach.{both_each}
 use Rattle.arj_disk_run_law.proofs.Kept.{IsKeptInRun, all_keep}
@@ -182,7 +183,7 @@ tied_first Idle W M none empty = ((λ u n here d. absurd (never d (ap (λ ds. is
 was_up : {A : Type 0} (t : Parts) → Some t ≡ None → A
 was_up t is = absurd (cc is)
 
-module _ (hd : Header) (x : ℕ) (R : Seen → Type 0) (P : Kinds → Office → Seen → Type 0) (Idle : List Line → Uid → Type 0) (kept : Keeps hd R) (parts : KeepsPart hd x R P) (idles : KnowsIdle R Idle) where
+module _ (hd : Header) (x : ℕ) (R G : Seen → Type 0) (P : Kinds → Office → Seen → Type 0) (Idle : List Line → Uid → Type 0) (kept : Keeps hd R) (parts : KeepsPart hd x (λ M. R M × G M) P) (idles : KnowsIdle R Idle) where
   abbrev Both : Seen → Type 0
   Both M = R M × IsKept M
 
@@ -256,57 +257,57 @@ module _ (hd : Header) (x : ℕ) (R : Seen → Type 0) (P : Kinds → Office →
   goes_from : (o : Option ℕ) (A C : Office) → C.world ≡ A.world → machine.Whole A.world → (B : Office) → Changes o C B → Goes A.world B.world
   goes_from o A C same whole B c = subst (λ W. Goes W B.world) same (goes_by o C B (subst machine.Whole (sym same) whole) c)
 
-  tied_part : KeepsPart hd x Both (WithTie P Idle)
+  tied_part : KeepsPart hd x (λ M. Both M × G M) (WithTie P Idle)
   tied_part = record {
-    quiet = λ tops e bs M A walk quiet r both (part, tie) B changed seen. let w = lines_too.quiet e bs M quiet r.1 in (
-      parts.quiet tops e bs M A walk quiet r.0 both part B changed seen,
-      tied_still R Idle idles x tops A.world M tie.0 tie.1 B.world (said e bs M) seen.disks (goes_by None A B (let c = both.disks in c.whole) changed) (kept.quiet e bs M quiet r.0) w (quiet_step e bs M) (quiet_lines e bs M quiet),
+    quiet = λ tops e bs M A walk quiet r both (part, tie) B changed seen. let w = lines_too.quiet e bs M quiet r.0.1 in (
+      parts.quiet tops e bs M A walk quiet (r.0.0, r.1) both part B changed seen,
+      tied_still R Idle idles x tops A.world M tie.0 tie.1 B.world (said e bs M) seen.disks (goes_by None A B (let c = both.disks in c.whole) changed) (kept.quiet e bs M quiet r.0.0) w (quiet_step e bs M) (quiet_lines e bs M quiet),
     );
-    stop = λ tops e k d live M A walk r both (part, tie) B changed seen. let w = lines_too.stop e k d live M r.1 in (
-      parts.stop tops e k d live M A walk r.0 both part B changed seen,
-      tied_still R Idle idles x tops A.world (at k d live M) tie.0 tie.1 B.world (halted e k d M) seen.disks (goes_by None A B (let c = both.disks in c.whole) changed) (kept.stop e k d live M r.0) w (step_halted k d live M e d M (near_same M) (λ down. refl)) (no_lines e k M),
+    stop = λ tops e k d live M A walk r both (part, tie) B changed seen. let w = lines_too.stop e k d live M r.0.1 in (
+      parts.stop tops e k d live M A walk (r.0.0, r.1) both part B changed seen,
+      tied_still R Idle idles x tops A.world (at k d live M) tie.0 tie.1 B.world (halted e k d M) seen.disks (goes_by None A B (let c = both.disks in c.whole) changed) (kept.stop e k d live M r.0.0) w (step_halted k d live M e d M (near_same M) (λ down. refl)) (no_lines e k M),
     );
     message = λ tops e k d t v from m outs M A walk n r sent meant is of both (part, tie).
-        let p = parts.message tops e k d t v from m outs M A walk n r.0 sent meant is of both part in
-        let g = message_turns e k d t M r.1.0 r.1.1 v from m outs sent is in (
+        let p = parts.message tops e k d t v from m outs M A walk n (r.0.0, r.1) sent meant is of both part in
+        let g = message_turns e k d t M r.0.1.0 r.0.1.1 v from m outs sent is in (
           heard_too tops (decided_by t.coord m) A (record { event = e; node = k; disk = d; before = t; outs = outs; after = v }) M tie p.0
               (λ C same. tied_walk R Idle idles x tops A.world (up k d t M) tie.0 tie.1 (Changes (decided_by t.coord m) C) (goes_from (decided_by t.coord m) A C same (let c = both.disks in c.whole)) (HasBranch v.coord) e k outs v d M (fresh tops (up k d t M) k v)
-              (both_keep.message e k d t v from m outs M r sent meant is) (step_walk k d (Some t) M e v outs d M (near_same M) (was_up t) (was_up t)) (turns (HasBranch v.coord) e k outs d M M refl g.late)),
+              (both_keep.message e k d t v from m outs M r.0 sent meant is) (step_walk k d (Some t) M e v outs d M (near_same M) (was_up t) (was_up t)) (turns (HasBranch v.coord) e k outs d M M refl g.late)),
           p.1,
           p.2,
         );
     act = λ tops e k d t i M A walk n r is free both (part, tie).
         let did = acts i d.intents t.coord in
-        let p = parts.act tops e k d t i M A walk n r.0 is free both part in
-        let g = act_turns e k d t M r.1.0 r.1.1 hd i is free in (
+        let p = parts.act tops e k d t i M A walk n (r.0.0, r.1) is free both part in
+        let g = act_turns e k d t M r.0.1.0 r.0.1.1 hd i is free in (
           heard_too tops None A (going_of e k d t did) M tie p.0
               (λ C same. tied_walk R Idle idles x tops A.world (up k d t M) tie.0 tie.1 (Changes None C) (goes_from None A C same (let c = both.disks in c.whole)) (HasBranch did.part) e k did.outs (with_coord t did.part) d M (fresh tops (up k d t M) k (with_coord t did.part))
-              (both_keep.act e k d t i M is free r) (step_walk k d (Some t) M e (with_coord t did.part) did.outs d M (near_same M) (was_up t) (was_up t)) (turns (HasBranch did.part) e k did.outs d M M refl g.late)),
+              (both_keep.act e k d t i M is free r.0) (step_walk k d (Some t) M e (with_coord t did.part) did.outs d M (near_same M) (was_up t) (was_up t)) (turns (HasBranch did.part) e k did.outs d M M refl g.late)),
           p.1,
         );
     begin = λ tops e k d t l how parent M A walk n r new may free kind both (part, tie).
         let did = begin_action l how parent (parent_of parent t.coord) t.coord in
         let N : Seen = given l (record { node = k; serial = is_serial_kind how }) M in
-        both_along tops (Changes None A) e k did.outs (with_coord t did.part) d N (parts.begin tops e k d t l how parent M A walk n r.0 new may free kind both part)
+        both_along tops (Changes None A) e k did.outs (with_coord t did.part) d N (parts.begin tops e k d t l how parent M A walk n (r.0.0, r.1) new may free kind both part)
         (tied_walk R Idle idles x tops A.world (up k d t M) tie.0 tie.1 (Changes None A) (λ B c. goes_by None A B (let z = both.disks in z.whole) c) (HasBranch did.part) e k did.outs (with_coord t did.part) d N (fresh tops (up k d t M) k (with_coord t did.part))
-        (both_keep.begin e k d t l how parent M new may free r) (step_walk k d (Some t) M e (with_coord t did.part) did.outs d N (given_near l how k M) (was_up t) (was_up t))
+        (both_keep.begin e k d t l how parent M new may free r.0) (step_walk k d (Some t) M e (with_coord t did.part) did.outs d N (given_near l how k M) (was_up t) (was_up t))
         (turns (HasBranch did.part) e k did.outs d M N refl ((λ u is. absurd (cc is)), tt)));
     tick = λ tops e k d t M A walk n r both (part, tie).
         let outs = tick_outs (record { number = k; disk = d; live = Some t }) t in
         let v = with_coord t (again_all t.coord.doings t.coord).part in
-        let g = tick_turns e k d t M r.1.0 r.1.1 in
-        both_along tops (Changes None A) e k outs v d M (parts.tick tops e k d t M A walk n r.0 both part)
+        let g = tick_turns e k d t M r.0.1.0 r.0.1.1 in
+        both_along tops (Changes None A) e k outs v d M (parts.tick tops e k d t M A walk n (r.0.0, r.1) both part)
         (tied_walk R Idle idles x tops A.world (up k d t M) tie.0 tie.1 (Changes None A) (λ B c. goes_by None A B (let z = both.disks in z.whole) c) (HasBranch v.coord) e k outs v d M (fresh tops (up k d t M) k v)
-        (both_keep.tick e k d t M r) (step_walk k d (Some t) M e v outs d M (near_same M) (was_up t) (was_up t)) (turns (HasBranch v.coord) e k outs d M M refl g.late));
+        (both_keep.tick e k d t M r.0) (step_walk k d (Some t) M e v outs d M (near_same M) (was_up t) (was_up t)) (turns (HasBranch v.coord) e k outs d M M refl g.late));
     restart = λ tops e k d M A walk r both (part, tie).
         let outs = restart_outs hd k (d.inc + 1) d in
         let v = parts_in k (d.inc + 1) d in
-        let p = parts.restart tops e k d M A walk r.0 both part in
-        let g = rest_goes hd e k d M r.1.0 r.1.1 in (
+        let p = parts.restart tops e k d M A walk (r.0.0, r.1) both part in
+        let g = rest_goes hd e k d M r.0.1.0 r.0.1.1 in (
           p.0,
           both_along tops (OnlyFound (are_recorded d.intents) A) e k outs v d M p.1
               (tied_walk R Idle idles x tops A.world (down k d M) tie.0 tie.1 (OnlyFound (are_recorded d.intents) A) (λ B c. goes_along (are_recorded d.intents) A.world B.world (let z = both.disks in z.whole) c.along) (λ u. (i : Intent) × Among (u, i) d.intents) e k outs v d M (found tops M k d)
-              (both_keep.restart e k d M r) (step_walk k d None M e v outs d M (near_same M) (λ down. restart_plain [] hd k d) (λ down. refl)) (turns (λ u. (i : Intent) × Among (u, i) d.intents) e k outs d M M refl g.late)),
+              (both_keep.restart e k d M r.0) (step_walk k d None M e v outs d M (near_same M) (λ down. restart_plain [] hd k d) (λ down. refl)) (turns (λ u. (i : Intent) × Among (u, i) d.intents) e k outs d M M refl g.late)),
         );
     first = λ tops walk kinds. let f = parts.first tops walk kinds in (f.0, f.1, (f.2, tied_first Idle f.0.world (see [] (format hd)) f.3 refl), f.3);
   }
@@ -327,21 +328,15 @@ one_act (x ∷ xs) apart a b (inl i) (inr j) same = absurd (never (among xs b j)
 one_act (x ∷ xs) apart a b (inr i) (inl j) same = absurd (never (among xs a i) (ap (has_act xs) (same ∙ ap (λ (y : Act). y.uid) (sym j)) ∙ apart.2))
 one_act (x ∷ xs) apart a b (inr i) (inr j) same = one_act xs apart.3 a b i j same
 
--- with what is known of calls
-idle_with : (R : Seen → Type 0) (Idle : List Line → Uid → Type 0) → KnowsIdle R Idle → KnowsIdle (WithCalls R) Idle
-idle_with R Idle idles = record { stays = λ M h. idles.stays M h.0.0; alone = λ k d t M h. idles.alone k d t M h.0.0 }
-
 pub runs_are_journalled : RunsAreJournalled
-runs_are_journalled hd x test part kept grants parts idle idles es =
-    let R : Seen → Type 0 = WithCalls (λ M. test M ≡ true) in
-    let keeps_too = with_calls hd (λ M. test M ≡ true) kept grants in
-    let idle_too = idle_with (λ M. test M ≡ true) (λ ls u. idle ls u ≡ true) idles in
+runs_are_journalled hd x test part kept parts idle idles es short =
+    let R : Seen → Type 0 = λ M. test M ≡ true in
     let Idle : List Line → Uid → Type 0 = λ ls u. idle ls u ≡ true in
     let P : Kinds → Office → Seen → Type 0 = λ tops A M. part tops A M ≡ true in
     let Q : Kinds → Seen → Type 0 = IsCarried (WithTie P Idle) x in
-    let r = runs_hold hd (IsKeptInRun (Both hd x R P Idle keeps_too parts idle_too) Q) (all_keep hd x (Both hd x R P Idle keeps_too parts idle_too) Q (both_keep hd x R P Idle keeps_too parts idle_too)
-    (λ begun k d t M h. gives_votes (λ M. test M ≡ true) begun k d t M h.0) (both_each hd x (Both hd x R P Idle keeps_too parts idle_too) (WithTie P Idle) (tied_part hd x R P Idle keeps_too parts idle_too))) es in
-    let h = r.holds in
+    let B : Seen → Type 0 = Both hd x R KnowsFew P Idle kept parts idles in
+    let r = runs_hold hd (WhileFew (IsKeptInRun B Q)) (few_go hd (IsKeptInRun B Q) (all_keep hd x B KnowsFew Q (both_keep hd x R KnowsFew P Idle kept parts idles) (gives_votes B) (both_each hd x (λ M. B M × KnowsFew M) (WithTie P Idle) (tied_part hd x R KnowsFew P Idle kept parts idles)))) es in
+    let h = (r.holds.1 (scripts_few hd es short)).1 in
     let g = h.1 in
     let s = g.5 (kinds_of h.0) (kinds_agree h.0 g.0.begun g.1) in
     let lines = (run_all es (format hd)).lines in

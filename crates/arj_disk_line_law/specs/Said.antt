@@ -1,5 +1,5 @@
 -- The decisions of an object's machine against the journal, and back.
-use Rattle.std.specs.Prelude.{◌≡◌, ◌⊎◌, ℕ, Bool, true, false, List, [], ◌++◌, None, Some, Contains}
+use Rattle.std.specs.Prelude.{◌≡◌, ◌⊎◌, ◌≤◌, ℕ, Bool, true, false, List, [], ◌++◌, None, Some, Contains, length}
 use Rattle.arj_model.specs.Actions.{Act, acts}
 use Rattle.arj_protocol.specs.Words.{Header, Line, Uid}
 use Rattle.arj_protocol.specs.Words.ending
@@ -15,7 +15,8 @@ use Rattle.arj_disk_law.specs.State.{decided}
 use Rattle.arj_view_law.specs.Keeps.{Holds, Keeps}
 use Rattle.arj_view_law.specs.Seen.{Seen, up}
 use Rattle.arj_disk_view_law.specs.Sees.{Kinds, SeesDisks}
-use Rattle.arj_call_law.specs.Runs.{Grants, WithCalls}
+use Rattle.arj_call_law.specs.Runs.{KnowsFew}
+use Rattle.arj_binding_law.specs.Scripts.{most_events}
 use Rattle.arj_disk_law.specs.Names.{Office}
 use Rattle.arj_disk_run_law.specs.Part.{KeepsPart}
 use Rattle.arj_line_law.specs.Book.{book, is_decided, is_top}
@@ -72,8 +73,8 @@ pub record IsJournalled (x : ℕ) (Idle : List Line → Uid → Type 0) (M : See
   pub done : (a : Act) → Contains (acts M.lines) a → is_top a.kind ≡ true → IsDone M.lines a
       → (decided (let W = machine in W.disk) (uid_number a.uid) ≡ true) ⊎ ((let W = machine in W.disk.bare) (uid_number a.uid) ≡ true) ⊎ Idle M.lines a.uid
 
--- What is kept by each handler, gives that counts have 32 bits, and who is idle, with what is kept beside the machine's state of what
--- coordinators have and messages claim, has it in every run.
+-- What is kept by each handler and says who is idle, with what is kept beside the machine's state of what coordinators have and messages
+-- claim, has it in the run of every script; calls are known while few bindings were made.
 abbrev pub RunsAreJournalled : Type 0
-RunsAreJournalled = (hd : Header) (x : ℕ) (test : Seen → Bool) (part : Kinds → Office → Seen → Bool) → Keeps hd (λ M. test M ≡ true) → Grants (λ M. test M ≡ true) → KeepsPart hd x (WithCalls (λ M. test M ≡ true)) (λ tops A M. part tops A M ≡ true) → (idle : List Line → Uid → Bool) → KnowsIdle (λ M. test M ≡ true) (λ lines u. idle lines u ≡ true)
-    → (es : List Asked) → Holds hd (IsJournalled x (λ lines u. idle lines u ≡ true)) (run_all es (format hd))
+RunsAreJournalled = (hd : Header) (x : ℕ) (test : Seen → Bool) (part : Kinds → Office → Seen → Bool) → Keeps hd (λ M. test M ≡ true) → KeepsPart hd x (λ M. (test M ≡ true) × KnowsFew M) (λ tops A M. part tops A M ≡ true) → (idle : List Line → Uid → Bool) → KnowsIdle (λ M. test M ≡ true) (λ lines u. idle lines u ≡ true)
+    → (es : List Asked) → length es ≤ most_events → Holds hd (IsJournalled x (λ lines u. idle lines u ≡ true)) (run_all es (format hd))

@@ -27,8 +27,11 @@ use Rattle.arj_names_view_law.proofs.RestartBoth.{restarts_keep_both}
 use Rattle.arj_names_view_law.proofs.StepsBoth.{lines_keep_both, stops_keep_both, walks_start}
 use Rattle.arj_names_view_law.proofs.StepsFollowed.{restarts_are_followed}
 use Rattle.arj_names_view_law.proofs.StepsKept.{actions_keep_both, ticks_keep_both}
-use Rattle.arj_call_law.specs.Runs.{WithCalls}
-use Rattle.arj_call_law.proofs.WholeRuns.{with_calls}
+use Rattle.arj_run_law.specs.Worlds.{IsGood}
+use Rattle.arj_run_law.proofs.AllRuns.{all_keep as parts_good}
+use Rattle.arj_call_law.specs.Runs.{KnowsFew}
+use Rattle.arj_call_law.proofs.WholeRuns.{WhileFew, few_go}
+use Rattle.arj_binding_law.proofs.Events.{scripts_few}
 use Rattle.arj_disk_run_law.specs.Kinds.{kinds_of}
 use Rattle.arj_disk_run_law.specs.Part.{HoldsAgain, HoldsFrom, IsCarried, KeepsPart, are_recorded}
 use Rattle.arj_disk_run_law.specs.Runs.{RunsAgree}
@@ -76,15 +79,15 @@ both_each hd x R P parts = record {
 
 -- both halves of the object's machine are carried through a run, and copies agree in it
 pub runs_agree : RunsAgree
-runs_agree hd x test part kept grants parts es =
-    let r = runs_hold hd (IsKeptInRun Known (IsCarried (λ tops A M. part tops A M ≡ true) x)) (all_keep hd x Known (IsCarried (λ tops A M. part tops A M ≡ true) x) calls (gives_votes (λ M. test M ≡ true)) (both_each hd x Known (λ tops A M. part tops A M ≡ true) parts)) es in
-    let h = r.holds in
+runs_agree hd x part parts es short =
+    let r = runs_hold hd (WhileFew (IsKeptInRun IsGood Q)) (few_go hd (IsKeptInRun IsGood Q) (all_keep hd x IsGood KnowsFew Q good_everywhere (gives_votes IsGood) (both_each hd x (λ M. IsGood M × KnowsFew M) (λ tops A M. part tops A M ≡ true) parts))) es in
+    let h = (r.holds.1 (scripts_few hd es short)).1 in
     let g = h.1 in
     let s = g.5 (kinds_of h.0) (kinds_agree h.0 g.0.begun g.1) in
     record { sent = r.sent; stands = r.stands; holds = copies_agree x (kinds_of h.0) s.0.world (see r.sent (run_all es (format hd))) s.1.disks }
   where
-    Known : Seen → Type 0
-    Known M = WithCalls (λ M. test M ≡ true) M
+    Q : Kinds → Seen → Type 0
+    Q = IsCarried (λ tops A M. part tops A M ≡ true) x
 
-    calls : Keeps hd (WithCalls (λ M. test M ≡ true))
-    calls = with_calls hd (λ M. test M ≡ true) kept grants
+    good_everywhere : Keeps hd IsGood
+    good_everywhere = parts_good hd

@@ -40,6 +40,7 @@ use Rattle.arj_view_law.proofs.Together.{walks_both, walks_each, walks_to}
 use Rattle.arj_disk_view_law.specs.Coordinating.{KnowsNode}
 use Rattle.arj_disk_view_law.specs.Knows.{IsOfKind, KnowsKinds}
 use Rattle.arj_disk_view_law.specs.Sees.{Kinds, ClaimsAsked, IsSeenByDisks, was_begun}
+use Rattle.arj_call_law.proofs.Given.{KeepsGiven}
 use Rattle.arj_disk_run_law.specs.Facts.{GivesVotes}
 use Rattle.arj_disk_run_law.specs.Kinds.{Agrees, AreOfOneNode, AreOfTops, kinds_of}
 use Rattle.arj_disk_run_law.specs.Places.{ArePlaced}
@@ -173,32 +174,33 @@ module _ (begun : List Action) (e k : ℕ) (d : Disk) (t : Parts) (M : Seen) (go
   all_again : All begun (let q = again_all t.coord.doings t.coord in q.outs)
   all_again = let q = again_all t.coord.doings t.coord in coord_means begun q.part q.outs (well_again begun (paths_of begun) tree t.coord coord).1 (again_own t.coord.doings t.coord)
 
-module _ (hd : Header) (x : ℕ) (R : Seen → Type 0) (Q : Kinds → Seen → Type 0) (kept : Keeps hd R) (gives : GivesVotes R) (each : KeepsEach hd x R Q) where
+-- where more holds before each handler
+module _ (hd : Header) (x : ℕ) (R G : Seen → Type 0) (Q : Kinds → Seen → Type 0) (kept : Keeps hd R) (gives : GivesVotes (λ M. R M × G M)) (each : KeepsEach hd x (λ M. R M × G M) Q) where
   abbrev P : Seen → Type 0
   P = IsKeptInRun R Q
 
-  message_keeps : (e k : ℕ) (d : Disk) (t v : Parts) (from : ℕ) (m : Message) (outs : List Effect) (M : Seen) → P (up k d t M) → In (record { from = from; to = k; message = m }) M.sent → is_meant t m ≡ true → handle k d t from m ≡ Took v outs → Walks P e k outs (Up P k v) d M
-  message_keeps e k d t v from m outs M (begun, h) sent meant is = all_walk R Q begun h.1 e k outs v d M (message_good e k d t M (begun, h.0) v from m outs sent is)
+  message_keeps : (e k : ℕ) (d : Disk) (t v : Parts) (from : ℕ) (m : Message) (outs : List Effect) (M : Seen) → G (up k d t M) → P (up k d t M) → In (record { from = from; to = k; message = m }) M.sent → is_meant t m ≡ true → handle k d t from m ≡ Took v outs → Walks P e k outs (Up P k v) d M
+  message_keeps e k d t v from m outs M more (begun, h) sent meant is = all_walk R Q begun h.1 e k outs v d M (message_good e k d t M (begun, h.0) v from m outs sent is)
       (kept_walk begun e k d t v outs M (subst (KeptBy begun t.coord) is (message_kept begun k d t from (λ a r. heard_kept begun (paths_of begun) (begun_tree begun h.0.begun) from a r d.intents t.coord (good_coord e k d t M (begun, h.0))) (λ u. acked_kept begun from u d.intents t.coord) m)) h.2)
-      (let p = subst (PlacedBy begun k) is (message_placed begun h.0.begun k d t from (both_here begun h.0.begun k d t M h.3) (up_here begun h.0.begun k d t M h.3) m (heard_placed begun e k d t M h.0 from m sent meant (gives begun k d t M h.4 h.0) (h.3.votes (record { from = from; to = k; message = m }) sent) (let u = up_here begun h.0.begun k d t M h.3 in u.coord)) (acked_means begun e k d t M h.0 from) (query_means begun e k d t M h.0 from) (h.0.fits (record { from = from; to = k; message = m }) sent)
+      (let p = subst (PlacedBy begun k) is (message_placed begun h.0.begun k d t from (both_here begun h.0.begun k d t M h.3) (up_here begun h.0.begun k d t M h.3) m (heard_placed begun e k d t M h.0 from m sent meant (gives begun k d t M (h.4, more) h.0) (h.3.votes (record { from = from; to = k; message = m }) sent) (let u = up_here begun h.0.begun k d t M h.3 in u.coord)) (acked_means begun e k d t M h.0 from) (query_means begun e k d t M h.0 from) (h.0.fits (record { from = from; to = k; message = m }) sent)
       (by_top x begun k m (asks m) (let s = each.sees (kinds_of begun) (up k d t M) (h.5 (kinds_of begun) (kinds_agree begun h.0.begun h.1)) in (kinds_of begun, s.0, M.lines, from, s.1.posts (record { from = from; to = k; message = m }) sent)))) in placed_walk begun e k d t v outs M p.0 p.1 h.3) (kept.message e k d t v from m outs M h.4 sent meant is)
-      (λ tops agree. each.message tops e k d t v from m outs M agree.unwalked (knows_node tops begun k d t M h.0 agree h.2 h.3) h.4 sent meant is (of_request begun h.0.begun tops agree m (h.0.fits (record { from = from; to = k; message = m }) sent)) (h.5 tops agree))
+      (λ tops agree. each.message tops e k d t v from m outs M agree.unwalked (knows_node tops begun k d t M h.0 agree h.2 h.3) (h.4, more) sent meant is (of_request begun h.0.begun tops agree m (h.0.fits (record { from = from; to = k; message = m }) sent)) (h.5 tops agree))
 
-  act_keeps : (e k : ℕ) (d : Disk) (t : Parts) (i : Input) (M : Seen) → is_act i ≡ true → refusal_up hd i t.coord ≡ None → P (up k d t M) → DidKeeps P e k d t (acts i d.intents t.coord) M
-  act_keeps e k d t i M is free (begun, h) = let did = acts i d.intents t.coord in
+  act_keeps : (e k : ℕ) (d : Disk) (t : Parts) (i : Input) (M : Seen) → is_act i ≡ true → refusal_up hd i t.coord ≡ None → G (up k d t M) → P (up k d t M) → DidKeeps P e k d t (acts i d.intents t.coord) M
+  act_keeps e k d t i M is free more (begun, h) = let did = acts i d.intents t.coord in
       all_walk R Q begun h.1 e k did.outs (with_coord t did.part) d M (act_good e k d t M (begun, h.0) hd i is free)
       (kept_walk begun e k d t (with_coord t did.part) did.outs M (acts_kept begun (paths_of begun) (begun_tree begun h.0.begun) d.intents t.coord (good_coord e k d t M (begun, h.0)) hd i free) h.2)
       (placed_walk begun e k d t (with_coord t did.part) did.outs M (acts_mean begun e k d t M h.0 hd i is free) (let u = up_here begun h.0.begun k d t M h.3 in other_coord begun k t did.part (sound_acts i d.intents t.coord u.coord) u) h.3) (kept.act e k d t i M is free h.4)
-      (λ tops agree. each.act tops e k d t i M agree.unwalked (knows_node tops begun k d t M h.0 agree h.2 h.3) h.4 is free (h.5 tops agree))
+      (λ tops agree. each.act tops e k d t i M agree.unwalked (knows_node tops begun k d t M h.0 agree h.2 h.3) (h.4, more) is free (h.5 tops agree))
 
   begin_keeps : (e k : ℕ) (d : Disk) (t : Parts) (l : Label) (how : Kind) (parent : Option Label) (M : Seen) → label_at l M.labels ≡ None → MayGive M.labels k how parent → begin_refusal how t.coord parent ≡ None
-      → P (up k d t M) → DidKeeps P e k d t (begin_action l how parent (parent_of parent t.coord) t.coord) (given l (record { node = k; serial = is_serial_kind how }) M)
-  begin_keeps e k d t l how parent M new may free (begun, h) =
+      → G (up k d t M) → P (up k d t M) → DidKeeps P e k d t (begin_action l how parent (parent_of parent t.coord) t.coord) (given l (record { node = k; serial = is_serial_kind how }) M)
+  begin_keeps e k d t l how parent M new may free more (begun, h) =
       let did = begin_action l how parent (parent_of parent t.coord) t.coord in
       all_walk R Q (a ∷ begun) home e k did.outs (with_coord t did.part) d (given l (record { node = k; serial = is_serial_kind how }) M) (begin_good e k d t l how parent M new may free (begun, h.0))
       (kept_walk (a ∷ begun) e k d t (with_coord t did.part) did.outs (given l (record { node = k; serial = is_serial_kind how }) M) (same_kept (a ∷ begun) t.coord did.part did.outs refl refl) (recorded_more a begun (up k d t M) h.2))
       (begin_placed a begun e k d t did.part l how parent (next_uid t.coord.tree) (given l (record { node = k; serial = is_serial_kind how }) M) uid (let u = up_here begun h.0.begun k d t M h.3 in sound_begins l how parent (parent_of parent t.coord) t.coord u.coord) (placed_given h.3)) (kept.begin e k d t l how parent M new may free h.4)
-      (λ tops agree. let less = agree_less a begun tops agree in each.begin tops e k d t l how parent M agree.unwalked (knows_node tops begun k d t M h.0 less h.2 h.3) h.4 new may free
+      (λ tops agree. let less = agree_less a begun tops agree in each.begin tops e k d t l how parent M agree.unwalked (knows_node tops begun k d t M h.0 less h.2 h.3) (h.4, more) new may free
       (subst (λ u. IsOfKind tops u how (path_below how (parent_of parent t.coord) (next_uid t.coord.tree))) uid (agree.each a (in_to a (a ∷ begun) (inl refl))).0) (h.5 tops less))
     where
       a : Action
@@ -216,21 +218,21 @@ module _ (hd : Header) (x : ℕ) (R : Seen → Type 0) (Q : Kinds → Seen → T
           newest : (w : Uid) → is_on (uids_of (path_below how (parent_of parent t.coord) (next_uid t.coord.tree))) w ≡ true → (w.node ≡ (actor (path_below how (parent_of parent t.coord) (next_uid t.coord.tree))).node) × (w.inc ≡ (actor (path_below how (parent_of parent t.coord) (next_uid t.coord.tree))).inc)
           newest w on = let q = its_node e k d t l how parent M new may free (begun, h.0) w on in (q.0 ∙ sym (ap (λ (u : Uid). u.node) uid), q.1 ∙ sym (ap (λ (u : Uid). u.inc) uid))
 
-  tick_keeps : (e k : ℕ) (d : Disk) (t : Parts) (M : Seen) → P (up k d t M) → Walks P e k (tick_outs (record { number = k; disk = d; live = Some t }) t) (Up P k (with_coord t (again_all t.coord.doings t.coord).part)) d M
-  tick_keeps e k d t M (begun, h) = all_walk R Q begun h.1 e k (tick_outs (record { number = k; disk = d; live = Some t }) t) (with_coord t (again_all t.coord.doings t.coord).part) d M (tick_good e k d t M (begun, h.0))
+  tick_keeps : (e k : ℕ) (d : Disk) (t : Parts) (M : Seen) → G (up k d t M) → P (up k d t M) → Walks P e k (tick_outs (record { number = k; disk = d; live = Some t }) t) (Up P k (with_coord t (again_all t.coord.doings t.coord).part)) d M
+  tick_keeps e k d t M more (begun, h) = all_walk R Q begun h.1 e k (tick_outs (record { number = k; disk = d; live = Some t }) t) (with_coord t (again_all t.coord.doings t.coord).part) d M (tick_good e k d t M (begun, h.0))
       (kept_walk begun e k d t (with_coord t (again_all t.coord.doings t.coord).part) (tick_outs (record { number = k; disk = d; live = Some t }) t) M (tick_kept begun k d t) h.2)
       (placed_walk begun e k d t (with_coord t (again_all t.coord.doings t.coord).part) (tick_outs (record { number = k; disk = d; live = Some t }) t) M (tick_means begun k d t h.0.begun (both_here begun h.0.begun k d t M h.3) (up_here begun h.0.begun k d t M h.3) (all_again begun e k d t M h.0)) (let u = up_here begun h.0.begun k d t M h.3 in other_coord begun k t (again_all t.coord.doings t.coord).part (sound_again t.coord.doings t.coord u.coord) u) h.3) (kept.tick e k d t M h.4)
-      (λ tops agree. each.tick tops e k d t M agree.unwalked (knows_node tops begun k d t M h.0 agree h.2 h.3) h.4 (h.5 tops agree))
+      (λ tops agree. each.tick tops e k d t M agree.unwalked (knows_node tops begun k d t M h.0 agree h.2 h.3) (h.4, more) (h.5 tops agree))
 
-  pub all_keep : Keeps hd P
+  pub all_keep : KeepsGiven hd G P
   all_keep = record {
-    quiet = λ e bs M quiet p. let h = p.1 in (p.0, (h.0, h.1, h.2, placed_said p.0 e bs M h.3, kept.quiet e bs M quiet h.4, λ tops agree. each.quiet tops e bs M agree.unwalked quiet h.4 (h.5 tops agree)));
-    stop = λ e k d live M p. let h = p.1 in (p.0, (stopped_good k d live M (p.0, h.0) e, h.1, stop_recorded p.0 e k d live M h.2, stop_placed p.0 e k d live M h.3, kept.stop e k d live M h.4, λ tops agree. each.stop tops e k d live M agree.unwalked h.4 (h.5 tops agree)));
+    quiet = λ e bs M quiet more p. let h = p.1 in (p.0, (h.0, h.1, h.2, placed_said p.0 e bs M h.3, kept.quiet e bs M quiet h.4, λ tops agree. each.quiet tops e bs M agree.unwalked quiet (h.4, more) (h.5 tops agree)));
+    stop = λ e k d live M more p. let h = p.1 in (p.0, (stopped_good k d live M (p.0, h.0) e, h.1, stop_recorded p.0 e k d live M h.2, stop_placed p.0 e k d live M h.3, kept.stop e k d live M h.4, λ tops agree. each.stop tops e k d live M agree.unwalked (h.4, more) (h.5 tops agree)));
     message = message_keeps;
     act = act_keeps;
     begin = begin_keeps;
     tick = tick_keeps;
-    restart = λ e k d M p. let h = p.1 in all_walk R Q p.0 h.1 e k (restart_outs hd k (d.inc + 1) d) (parts_in k (d.inc + 1) d) d M (restart_good hd e k d M (p.0, h.0)) (restart_recorded p.0 hd e k d M h.2) (restart_placed p.0 hd e k d M h.0.begun h.3) (kept.restart e k d M h.4)
-        (λ tops agree. each.restart tops e k d M agree.unwalked (prepared_begun p.0 k d None M h.3) h.4 (h.5 tops agree));
+    restart = λ e k d M more p. let h = p.1 in all_walk R Q p.0 h.1 e k (restart_outs hd k (d.inc + 1) d) (parts_in k (d.inc + 1) d) d M (restart_good hd e k d M (p.0, h.0)) (restart_recorded p.0 hd e k d M h.2) (restart_placed p.0 hd e k d M h.0.begun h.3) (kept.restart e k d M h.4)
+        (λ tops agree. each.restart tops e k d M agree.unwalked (prepared_begun p.0 k d None M h.3) (h.4, more) (h.5 tops agree));
     first = ([], (first_of hd, (λ a w c on. absurd (in_from a [] c)), format_recorded hd, format_placed hd, kept.first, λ tops agree. each.first tops agree.unwalked agree.kinds));
   }

@@ -1,5 +1,5 @@
 -- The disk half of the view, for whole runs: the machine's state for every kinds that agree with the actions begun so far.
-use Rattle.std.specs.Prelude.{◌≡◌, ◌⊎◌, ℕ, Bool, true, List, Some, None}
+use Rattle.std.specs.Prelude.{◌≡◌, ◌⊎◌, ◌≤◌, ℕ, Bool, true, List, Some, None, length}
 use Rattle.arj_protocol.specs.Words.{Uid, Header, ObjectState, entry, object, is_listed}
 use Rattle.arj_protocol.specs.Effect.{Pair, held_at, holder_of}
 use Rattle.arj_protocol.specs.Order.{at_uid}
@@ -7,11 +7,13 @@ use Rattle.arj_protocol.specs.Step.{Node}
 use Rattle.arj_protocol.specs.Values.{state_entry}
 use Rattle.arj_protocol.specs.World.{Asked, format, run_all}
 use Rattle.arj_disk_law.specs.State.{Below, Packed}
-use Rattle.arj_view_law.specs.Keeps.{Holds, Keeps}
+use Rattle.arj_view_law.specs.Keeps.{Holds}
 use Rattle.arj_view_law.specs.Seen.{Seen}
 use Rattle.arj_disk_view_law.specs.Pairs.{IsOf, packed}
 use Rattle.arj_disk_view_law.specs.Sees.{Kinds}
-use Rattle.arj_call_law.specs.Runs.{Grants, WithCalls}
+use Rattle.arj_run_law.specs.Worlds.{IsGood}
+use Rattle.arj_call_law.specs.Runs.{KnowsFew}
+use Rattle.arj_binding_law.specs.Scripts.{most_events}
 use Rattle.arj_disk_law.specs.Names.{Office}
 use Rattle.arj_disk_run_law.specs.Part.{KeepsPart}
 
@@ -44,8 +46,8 @@ pub record AgreesOn (x : ℕ) (last : Packed) (M : Seen) : Type 0 where
 abbrev pub CopiesAgree : ℕ → Seen → Type 0
 CopiesAgree x M = (last : Packed) × AgreesOn x last M
 
--- What is kept by each handler and gives that counts have 32 bits, with what is kept beside the machine's state of what coordinators have
--- and messages claim, keeps copies in agreement in every run.
+-- What is kept beside the machine's state of what coordinators have and messages claim keeps copies in agreement in the run of every
+-- script: nodes are good there, and calls are known while few bindings were made.
 abbrev pub RunsAgree : Type 0
-RunsAgree = (hd : Header) (x : ℕ) (test : Seen → Bool) (part : Kinds → Office → Seen → Bool) → Keeps hd (λ M. test M ≡ true) → Grants (λ M. test M ≡ true) → KeepsPart hd x (WithCalls (λ M. test M ≡ true)) (λ tops A M. part tops A M ≡ true)
-    → (es : List Asked) → Holds hd (CopiesAgree x) (run_all es (format hd))
+RunsAgree = (hd : Header) (x : ℕ) (part : Kinds → Office → Seen → Bool) → KeepsPart hd x (λ M. IsGood M × KnowsFew M) (λ tops A M. part tops A M ≡ true)
+    → (es : List Asked) → length es ≤ most_events → Holds hd (CopiesAgree x) (run_all es (format hd))
