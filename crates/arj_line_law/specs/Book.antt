@@ -1,5 +1,5 @@
 -- What a journal says of actions and their ends, read line by line: a book that each line turns on.
-use Rattle.std.specs.Prelude.{Bool, true, false, ◌||◌, List, [], ◌∷◌, Option}
+use Rattle.std.specs.Prelude.{Bool, true, false, ◌||◌, List, [], ◌∷◌, ℕ, Option, None, Some}
 use Rattle.std.specs.List.{cons_option}
 use Rattle.std.specs.Option.{option_map}
 use Rattle.arj_base.specs.declared.uid.Uid.{Uid}
@@ -13,8 +13,14 @@ use Rattle.arj_text.specs.Label.{name}
 use Rattle.arj_text.specs.declared.label.Label.{Label}
 use Rattle.arj_model.specs.Actions.{Act, act_in, acts_after}
 
+-- An action accessed an object: by a call that was answered, or, where there is a store, by an include of it.
+pub record Access : Type 0 where
+  pub act : Act
+  pub x : ℕ
+  pub store : Option ℕ
+
 -- The actions that began, the newest first; and of these whose commit was called, who committed, who was aborted, which
--- serializing actions ended, and whose records restarts found.
+-- serializing actions ended, and whose records restarts found; and their accesses.
 pub record Book : Type 0 where
   pub acts : List Act
   pub called : List Uid
@@ -22,10 +28,11 @@ pub record Book : Type 0 where
   pub aborted : List Uid
   pub ended : List Uid
   pub found : List Uid
+  pub accesses : List Access
 
 -- before the first line
 abbrev pub new_book : Book
-new_book = record { acts = []; called = []; committed = []; aborted = []; ended = []; found = [] }
+new_book = record { acts = []; called = []; committed = []; aborted = []; ended = []; found = []; accesses = [] }
 
 -- the action of a label
 abbrev pub uid_in : List Act → Label → Option Uid
@@ -35,6 +42,10 @@ uid_in acts l = option_map (λ a. a.uid) (act_in acts (name l))
 abbrev pub with_named : List Act → Label → List Uid → List Uid
 with_named acts l us = cons_option (uid_in acts l) us
 
+-- these, with an access by the action of a label, where there is one
+abbrev pub with_access : Option Act → ℕ → Option ℕ → List Access → List Access
+with_access a x s rs = cons_option (option_map (λ b. record { act = b; x = x; store = s }) a) rs
+
 -- the book after a line
 abbrev pub turned : Book → Body → Book
 turned B (body.Began l k u p) = record B { acts = acts_after B.acts (body.Began l k u p) }
@@ -43,6 +54,8 @@ turned B (body.Committed l) = record B { committed = with_named B.acts l B.commi
 turned B (body.Aborted l c) = record B { aborted = with_named B.acts l B.aborted }
 turned B (body.Ended l) = record B { ended = with_named B.acts l B.ended }
 turned B (body.Recovered n u) = record B { found = u ∷ B.found }
+turned B (body.Ok l x o r) = record B { accesses = with_access (act_in B.acts (name l)) x None B.accesses }
+turned B (body.Includes l x n) = record B { accesses = with_access (act_in B.acts (name l)) x (Some n) B.accesses }
 turned B _ = B
 
 -- the book after lines, from this one on

@@ -1,25 +1,26 @@
 -- What nodes know of the journal: each action at work, each record and each message against the book.
-use Rattle.std.specs.Prelude.{⊤, ◌≡◌, ℕ, true, false, if◌then◌else◌, List, [], ◌∷◌, length, Option, Some, None, Contains}
+use Rattle.std.specs.Prelude.{⊤, ◌≡◌, ◌⊎◌, ℕ, true, false, if◌then◌else◌, List, [], ◌∷◌, length, Option, Some, None, Contains, unwrap_or}
 use Rattle.std.specs.List.{AllByRecursion}
 use Rattle.arj_base.specs.Rows.{is_on}
-use Rattle.arj_model.specs.Actions.{Act, act_in, is_serial}
+use Rattle.arj_model.specs.Actions.{Act, act_in, is_serial, path, uids}
 use Rattle.arj_part_law.specs.Actions.{IsCounted}
 use Rattle.arj_part_law.specs.Ends.{brought, told_by}
-use Rattle.arj_protocol.specs.Words.{Uid, End, Kind, Label, Message, Body, name}
+use Rattle.arj_protocol.specs.Words.{Uid, End, Kind, Label, Message, Body, name, uids_of}
 use Rattle.arj_protocol.specs.Words.body
 use Rattle.arj_protocol.specs.Words.ending
 use Rattle.arj_protocol.specs.Commit.{Machine, plan_of}
-use Rattle.arj_protocol.specs.Coord.{Coord, Doing, Committing, doing_of}
+use Rattle.arj_protocol.specs.Coord.{Coord, Doing, Committing, Joined, Root, Said, doing_of, no_root}
 use Rattle.arj_protocol.specs.Effect.{Effect, Say, Send, Do, PutInc, PutIntent, Intent}
 use Rattle.arj_protocol.specs.Node.{Parts}
 use Rattle.arj_protocol.specs.Step.{Node, is_committing_now}
-use Rattle.arj_protocol.specs.Tree.{Branch, branch_of, ends_of}
+use Rattle.arj_protocol.specs.Order.{at_number}
+use Rattle.arj_protocol.specs.Tree.{Branch, Tree, branch_of, ends_of, is_own, root_of}
 use Rattle.arj_protocol.specs.World.{Labelled}
 use Rattle.arj_run_law.specs.Worlds.{IsGood}
 use Rattle.arj_view_law.specs.Keeps.{label_at}
 use Rattle.arj_view_law.specs.Seen as seen
 use Rattle.arj_view_law.specs.Seen.{Post, Seen}
-use Rattle.arj_line_law.specs.Book.{Book, book, new_book, turned, uid_in, is_decided, is_over}
+use Rattle.arj_line_law.specs.Book.{Access, Book, book, new_book, turned, uid_in, is_decided, is_over}
 use Rattle.arj_line_law.specs.Right.{AreRight, IsSaid, MayBeFound, Right}
 
 -- ---- coordinators
@@ -46,13 +47,36 @@ AreSaid B ends = AllByRecursion (λ (e : Uid × End). IsSaid B e.0 e.1) ends
 abbrev pub EachRecord : (Uid → Type 0) → List (Uid × Intent) → Type 0
 EachRecord P intents = (u : Uid) (i : Intent) → Contains intents (u, i) → P u
 
+-- what a coordinator has of a root
+abbrev pub root_in : Uid → List (ℕ × Root) → Root
+root_in root roots = unwrap_or (at_number root.num roots) no_root
+
+-- The root has taken note of an access under this path. That an answer to an include is none to a call isn't said.
+abbrev pub HasNoted : Option ℕ → ℕ → List Uid → Root → Type 0
+HasNoted None x us r = (s : Said) × Contains r.said s × (s.path ≡ us) × (s.x ≡ x)
+HasNoted (Some n) x us r = ((j : Joined) × Contains r.joined j × (j.path ≡ us) × (j.x ≡ x) × (j.store ≡ n)) ⊎ HasNoted None x us r
+
+-- an action of this tree, with this path, accessed the object, as the book has it
+abbrev pub IsAccess : List Access → Tree → List Uid → ℕ → (Option ℕ → Type 0) → Type 0
+IsAccess accesses t us x P = (a : Access) × (b : Branch) × Contains accesses a × (branch_of (let c = a.act in c.uid) t ≡ Some b) × (us ≡ uids_of b.path) × (a.x ≡ x) × P a.store
+
+-- What a coordinator's tree and roots have of the actions and accesses of a book: its actions stand at their places, with all that is below
+-- them; and its roots have noted the accesses of its actions, and no others.
+pub record Ties (acts : List Act) (accesses : List Access) (t : Tree) (roots : List (ℕ × Root)) : Type 0 where
+  pub paths : (a : Act) (b : Branch) → Contains acts a → branch_of a.uid t ≡ Some b → uids (path acts a.label) ≡ uids_of b.path
+  pub homes : (a : Act) (u : Uid) → Contains acts a → is_on (uids (path acts a.label)) u ≡ true → is_own u t ≡ true → (b : Branch) × (branch_of a.uid t ≡ Some b)
+  pub noted : (a : Access) (b : Branch) → Contains accesses a → branch_of (let c = a.act in c.uid) t ≡ Some b → HasNoted a.store a.x (uids_of b.path) (root_in (root_of b.path) roots)
+  pub said : (root : Uid) (s : Said) → Contains (root_in root roots).said s → IsAccess accesses t s.path s.x (λ store. ⊤)
+  pub joined : (root : Uid) (j : Joined) → Contains (root_in root roots).joined j → IsAccess accesses t j.path j.x (λ store. store ≡ Some j.store)
+
 -- A coordinator: its actions are known, and the commits that it lists, that its commits bring and that it tells again are
--- decided.
+-- decided; and its tree and its roots have the book's actions and accesses.
 pub record Knows (B : Book) (c : Coord) : Type 0 where
   pub acts : (u : Uid) (b : Branch) (q : Doing) → branch_of u c.tree ≡ Some b → doing_of u c ≡ Some q → IsKnown B u b.kind b.ended q.label
   pub lists : (root : Uid) → AreSaid B (ends_of root c.tree)
   pub plans : (u : Uid) (q : Doing) (m : Machine) → doing_of u c ≡ Some q → q.now ≡ Committing m → AreSaid B (let p = plan_of m in p.ends)
   pub telling : EachRecord (λ u. is_decided B u ≡ true) c.telling
+  pub ties : Ties B.acts B.accesses c.tree c.roots
 
 -- of an open action the commit was called exactly if it is under way
 abbrev pub Calls : Book → Coord → Type 0
@@ -72,6 +96,8 @@ IsAbout k B (body.Committed l) = (a : Act) → act_in B.acts (name l) ≡ Some a
 IsAbout k B (body.Aborted l c) = (a : Act) → act_in B.acts (name l) ≡ Some a → a.uid.node ≡ k
 IsAbout k B (body.Ended l) = (a : Act) → act_in B.acts (name l) ≡ Some a → a.uid.node ≡ k
 IsAbout k B (body.Recovered n u) = u.node ≡ k
+IsAbout k B (body.Ok l x o r) = (a : Act) → act_in B.acts (name l) ≡ Some a → a.uid.node ≡ k
+IsAbout k B (body.Includes l x n) = (a : Act) → act_in B.acts (name l) ≡ Some a → a.uid.node ≡ k
 IsAbout k B _ = ⊤
 
 -- the action's commit was called at this node

@@ -1,5 +1,5 @@
 -- What is right at each line of a journal, by the book of the lines before it.
-use Rattle.std.specs.Prelude.{⊤, ◌≡◌, ℕ, Bool, true, false, List, [], ◌∷◌, Option, None, Some}
+use Rattle.std.specs.Prelude.{⊤, ◌≡◌, ℕ, Bool, true, false, List, [], ◌∷◌, Option, None, Some, Contains}
 use Rattle.std.specs.List.{list_any}
 use Rattle.std.specs.Option.{option_map}
 use Rattle.arj_base.specs.declared.mode.End.{End}
@@ -14,7 +14,7 @@ use Rattle.arj_journal.specs.declared.body.Kind.TheVariants as kind
 use Rattle.arj_journal.specs.declared.body.Line.{Line}
 use Rattle.arj_text.specs.Label.{name}
 use Rattle.arj_text.specs.declared.label.Label.{Label}
-use Rattle.arj_model.specs.Actions.{Act, act_in, is_serial}
+use Rattle.arj_model.specs.Actions.{Act, act_in, is_serial, path, uids}
 use Rattle.arj_line_law.specs.Book.{Book, turned, is_decided, is_over, is_top}
 
 -- the label is that of an open action: no line has ended it, and no restart has found its record
@@ -52,13 +52,22 @@ IsBelow acts k parent = ⊥
 abbrev pub IsOpenSo : Bool → Book → Label → Type 0
 IsOpenSo c B l = (a : Act) × IsOpen B l a × (is_on B.called a.uid ≡ c)
 
--- An action begins with a new label and a new Uid, and fits its parent. The commit of a top is called once. Who commits, is aborted or ends was
--- open; a top commits once its commit was called, and no other action's commit is called. A restart finds records of tops
+-- An action with this Uid begins in one that is open, whose commit wasn't called, and that is of its node and incarnation.
+abbrev pub BeginsIn : Book → Uid → Option Label → Type 0
+BeginsIn B u None = ⊤
+BeginsIn B u (Some p) = (s : Act) × IsOpen B p s × (is_on B.called s.uid ≡ false) × (s.uid.node ≡ u.node) × (s.uid.inc ≡ u.inc)
+
+-- each action below this one has an end
+abbrev pub IsClosed : Book → Uid → Type 0
+IsClosed B u = (a : Act) → Contains B.acts a → is_on (uids (path B.acts a.label)) u ≡ true → (a.uid ≡ u → ⊥) → is_over B a.uid ≡ true
+
+-- An action begins with a new label and a new Uid, fits its parent, and begins while that is open and its commit isn't called. The commit of a
+-- top is called once, and then nothing below it is open. Who commits, is aborted or ends was open; a top commits once its commit was called, and no other action's commit is called. A restart finds records of tops
 -- that weren't aborted. A call, and an include, is answered to an open action whose commit wasn't called; an exclusion is made by one whose
 -- commit was. And a commit is told, and done, after the line that says that it is decided.
 abbrev pub Right : Book → Body → Type 0
-Right B (body.Began l k u p) = (act_in B.acts (name l) ≡ None) × (has_act B.acts u ≡ false) × IsBelow B.acts k (option_map name p)
-Right B (body.Committing l) = (a : Act) × IsOpen B l a × (is_top a.kind ≡ true) × (is_on B.called a.uid ≡ false)
+Right B (body.Began l k u p) = (act_in B.acts (name l) ≡ None) × (has_act B.acts u ≡ false) × IsBelow B.acts k (option_map name p) × BeginsIn B u p
+Right B (body.Committing l) = (a : Act) × IsOpen B l a × (is_top a.kind ≡ true) × (is_on B.called a.uid ≡ false) × IsClosed B a.uid
 Right B (body.Committed l) = (a : Act) × IsOpen B l a × (is_serial a.kind ≡ false) × (is_on B.called a.uid ≡ is_top a.kind)
 Right B (body.Ended l) = (a : Act) × IsOpen B l a × (is_serial a.kind ≡ true)
 Right B (body.Aborted l c) = (a : Act) × IsOpen B l a
