@@ -68,7 +68,7 @@ module _ (k : ℕ) where
       Serves d = Goes k B d.outs d.part
 
       told_on : (m : List (Uid × Intent)) → ((w : Uid) (j : Intent) → In (w, j) m → (h : Intent) × In (w, h) c.telling) → Knows B (record c { telling = m })
-      told_on m old = record { acts = knows.acts; lists = knows.lists; plans = knows.plans; telling = λ w j there. let o = old w j (in_from (w, j) m there) in knows.telling w o.0 (in_to (w, o.0) c.telling o.1) }
+      told_on m old = record { acts = knows.acts; lists = knows.lists; plans = knows.plans; telling = λ w j there. let o = old w j (in_from (w, j) m there) in knows.telling w o.0 (in_to (w, o.0) c.telling o.1); ties = knows.ties }
 
       gone : (o : Option Intent) → ArePartly k B (tolds_let_go u (without_uid u intents) c o)
       gone None = tt

@@ -12,8 +12,8 @@ use Rattle.arj_base.proofs.Uids.{uid_is}
 use Rattle.arj_text.proofs.Labels.{same_key}
 use Rattle.arj_base.specs.Rows.{is_on}
 use Rattle.arj_base.specs.Uid.{uid_eq}
-use Rattle.arj_model.specs.Actions.{Act, act_in}
-use Rattle.arj_protocol.specs.Words.{Body, End, Kind, Label, Path, Uid, label_cmp, name}
+use Rattle.arj_model.specs.Actions.{Act, act_in, path_in, uids}
+use Rattle.arj_protocol.specs.Words.{Body, End, Kind, Label, Path, Uid, label_cmp, name, uids_of}
 use Rattle.arj_protocol.specs.Words.body
 use Rattle.arj_protocol.specs.Asking.{begin_action}
 use Rattle.arj_protocol.specs.Coord.{Committing, Coord, Doing, Idle, Now, doing_of}
@@ -31,6 +31,7 @@ use Rattle.arj_line_law.specs.Right.{has_act}
 use Rattle.arj_line_law.proofs.Books.{Sane, decided_later, later_turn, never, still_named}
 use Rattle.arj_line_law.proofs.Effects.{are_later}
 use Rattle.arj_line_law.proofs.Endings.{end_same}
+use Rattle.arj_line_law.proofs.Ties.{ties_begun}
 
 -- ---- a new label and a new Uid
 
@@ -91,7 +92,8 @@ place_cases xs b a zero is = absurd (cc is)
 place_cases xs b a (suc k) is = ⊎_elim (λ old. inl old) (λ last. inr (ap suc last.0, last.1)) (get_more k b a xs is)
 
 module _ (B : Book) (sane : Sane B) (c : Coord) (l : Label) (how : Kind) (parent : Option Label) (works : length c.doings ≡ length c.tree.branches) (knows : Knows B c) (calls : Calls B c)
-    (named : act_in B.acts (name l) ≡ None) (unknown : has_act B.acts (next_uid c.tree) ≡ false) where
+    (named : act_in B.acts (name l) ≡ None) (unknown : has_act B.acts (next_uid c.tree) ≡ false)
+    (its_path : uids (path_in B.acts (record { id = length B.acts; label = name l; kind = how; uid = next_uid c.tree; parent = option_map name parent })) ≡ uids_of (path_below how (parent_of parent c) (next_uid c.tree))) where
   abbrev fresh : Doing
   fresh = record { label = l; req = 0; now = Idle; took = [] }
 
@@ -177,6 +179,7 @@ module _ (B : Book) (sane : Sane B) (c : Coord) (l : Label) (how : Kind) (parent
     lists = λ r. subst (AreSaid V) (sym (same_ends how p c.tree r)) (are_later B V (later_turn B line) _ (knows.lists r));
     plans = λ w q m does is. ⊎_elim (λ old. are_later B V (later_turn B line) _ (knows.plans w q m old is)) (λ last. let no_way : ◌≡◌ {A = Now} Idle (Committing m) = ap (λ (d : Doing). d.now) last.1 ∙ is in absurd (cc no_way)) (doing_cases w q does);
     telling = λ w i there. decided_later B V (later_turn B line) w (knows.telling w i there);
+    ties = ties_begun B.acts B.accesses c.tree c.roots how p act refl named unknown its_path sane.acted knows.ties;
   }
     where
       p : Path

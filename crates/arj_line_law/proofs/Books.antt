@@ -1,5 +1,5 @@
 -- The book of a journal, line by line: what it keeps, what other nodes see of it, and that it is sane.
-use Rattle.std.proofs.Common.{◌≡◌, ◌≢◌, ◌⊎◌, ◌||◌, ℕ, List, [], ◌∷◌, ◌++◌, Bool, true, false, cond, Option, Some, None, refl, sym, ◌∙◌, ap, subst, inl, inr, ⊎_elim}
+use Rattle.std.proofs.Common.{◌≡◌, ◌≢◌, ◌⊎◌, ◌||◌, arith, ℕ, suc, Contains, List, [], ◌∷◌, ◌++◌, Bool, true, false, cond, Option, Some, None, refl, sym, ◌∙◌, ap, subst, inl, inr, ⊎_elim}
 use Rattle.std.specs.List.{AllByRecursion, cons_option, list_all}
 use Rattle.std.specs.Option.{option_map}
 use Rattle.std.specs.Str.{bytes_eq}
@@ -8,13 +8,14 @@ use Rattle.std.proofs.lemmas.Slice.Eq.{bytes_eq-Decides}
 use Rattle.arj_base.proofs.Uids.{uid_is, uid_other, uid_same}
 use Rattle.arj_base.specs.Rows.{is_on}
 use Rattle.arj_base.specs.Uid.{uid_eq}
+use Rattle.arj_lock.proofs.Members.{In, in_find, in_from, in_to}
 use Rattle.arj_model.specs.Actions.{Act, act_in}
 use Rattle.arj_part_law.specs.Actions.{IsCounted}
 use Rattle.arj_protocol.specs.Words.{Uid, Body, Label, Line, name}
 use Rattle.arj_protocol.specs.Words.body
 use Rattle.arj_protocol.specs.World.{Labelled, numbered}
 use Rattle.arj_view_law.specs.Seen.{AreQuiet, is_quiet_line}
-use Rattle.arj_line_law.specs.Book.{Book, book_from, is_decided, is_over, new_book, turned, with_named}
+use Rattle.arj_line_law.specs.Book.{Access, Book, book_from, is_decided, is_over, new_book, turned, with_access, with_named}
 use Rattle.arj_line_law.specs.Knows.{Counts, IsAbout, IsGiven}
 use Rattle.arj_line_law.specs.Right.{AreRight, Right, has_act}
 
@@ -39,6 +40,8 @@ quiet_turn B (body.Committed l) is = absurd (cc is)
 quiet_turn B (body.Aborted l c) is = absurd (cc is)
 quiet_turn B (body.Ended l) is = absurd (cc is)
 quiet_turn B (body.Recovered n u) is = absurd (cc is)
+quiet_turn B (body.Ok l x o r) is = absurd (cc is)
+quiet_turn B (body.Includes l x n) is = absurd (cc is)
 quiet_turn B b is = refl
 
 quiet_right : (B : Book) (b : Body) → is_quiet_line b ≡ true → Right B b
@@ -106,6 +109,8 @@ later_turn B (body.Committed l) = let s = later_same B in record { called = s.ca
 later_turn B (body.Aborted l c) = let s = later_same B in record { called = s.called; committed = s.committed; aborted = λ u on. on_behind _ B.aborted u on; found = s.found; acts = s.acts; given = s.given }
 later_turn B (body.Ended l) = let s = later_same B in record { called = s.called; committed = s.committed; aborted = s.aborted; found = s.found; acts = s.acts; given = s.given }
 later_turn B (body.Recovered n w) = let s = later_same B in record { called = s.called; committed = s.committed; aborted = s.aborted; found = λ u on. on_behind (Some w) B.found u on; acts = s.acts; given = s.given }
+later_turn B (body.Ok l x o r) = let s = later_same B in record { called = s.called; committed = s.committed; aborted = s.aborted; found = s.found; acts = s.acts; given = s.given }
+later_turn B (body.Includes l x n) = let s = later_same B in record { called = s.called; committed = s.committed; aborted = s.aborted; found = s.found; acts = s.acts; given = s.given }
 later_turn B b = later_same B
 
 or_left : (a b : Bool) → a ≡ true → (a || b) ≡ true
@@ -114,6 +119,15 @@ or_left a b is = ap (λ x. x || b) is
 or_right : (a b : Bool) → b ≡ true → (a || b) ≡ true
 or_right true b is = refl
 or_right false b is = is
+
+pub over_by_commit : (B : Book) (u : Uid) → is_on B.committed u ≡ true → is_over B u ≡ true
+over_by_commit B u on = or_left (is_on B.committed u) (is_on B.aborted u || is_on B.ended u) on
+
+pub over_by_abort : (B : Book) (u : Uid) → is_on B.aborted u ≡ true → is_over B u ≡ true
+over_by_abort B u on = or_right (is_on B.committed u) (is_on B.aborted u || is_on B.ended u) (or_left (is_on B.aborted u) (is_on B.ended u) on)
+
+pub over_by_end : (B : Book) (u : Uid) → is_on B.ended u ≡ true → is_over B u ≡ true
+over_by_end B u on = or_right (is_on B.committed u) (is_on B.aborted u || is_on B.ended u) (or_right (is_on B.aborted u) (is_on B.ended u) on)
 
 -- one of two is so
 pub or_which : (a b : Bool) → (a || b) ≡ true → (a ≡ true) ⊎ (b ≡ true)
@@ -183,6 +197,8 @@ apart_turn k B (body.Committed l) right at = let s = apart_same k B in let r = r
 apart_turn k B (body.Aborted l c) right at = let s = apart_same k B in let r = right.1 in record { acts = s.acts; called = s.called; committed = s.committed; aborted = named_other k B.acts l B.aborted right.0 r.named (at right.0 r.named); ended = s.ended; found = s.found; counts = s.counts }
 apart_turn k B (body.Ended l) right at = let s = apart_same k B in let r = right.1 in record { acts = s.acts; called = s.called; committed = s.committed; aborted = s.aborted; ended = named_other k B.acts l B.ended right.0 r.named (at right.0 r.named); found = s.found; counts = s.counts }
 apart_turn k B (body.Recovered n w) right at = let s = apart_same k B in record { acts = s.acts; called = s.called; committed = s.committed; aborted = s.aborted; ended = s.ended; found = λ u other. on_other w u B.found (λ same. other (ap (λ (x : Uid). x.node) (sym same) ∙ at)); counts = s.counts }
+apart_turn k B (body.Ok l x o r) right at = let s = apart_same k B in record { acts = s.acts; called = s.called; committed = s.committed; aborted = s.aborted; ended = s.ended; found = s.found; counts = s.counts }
+apart_turn k B (body.Includes l x n) right at = let s = apart_same k B in record { acts = s.acts; called = s.called; committed = s.committed; aborted = s.aborted; ended = s.ended; found = s.found; counts = s.counts }
 apart_turn k B b right at = apart_same k B
 
 -- ---- a sane book
@@ -195,6 +211,7 @@ pub record Sane (B : Book) : Type 0 where
   pub aborted : (u : Uid) → is_on B.aborted u ≡ true → has_act B.acts u ≡ true
   pub ended : (u : Uid) → is_on B.ended u ≡ true → has_act B.acts u ≡ true
   pub found : (u : Uid) → is_on B.found u ≡ true → has_act B.acts u ≡ true
+  pub acted : (a : Access) → Contains B.accesses a → Contains B.acts a.act
 
 named_there : (acts : List Act) (l : List ℕ) (a : Act) → act_in acts l ≡ Some a → has_act acts a.uid ≡ true
 named_there [] l a is = absurd (cc is)
@@ -218,6 +235,11 @@ open_is B u is =
     let b = or_parts (is_on B.aborted u) (is_on B.ended u) a.1 in
     (a.0, b.0, b.1)
 
+-- an access more is by an action that began
+acted_more : (acts : List Act) (accesses : List Access) (o : Option Act) (x : ℕ) (s : Option ℕ) → ((a : Act) → o ≡ Some a → In a acts) → ((a : Access) → Contains accesses a → Contains acts a.act) → (a : Access) → Contains (with_access o x s accesses) a → Contains acts a.act
+acted_more acts accesses None x s began old a there = old a there
+acted_more acts accesses (Some b) x s began old a there = ⊎_elim (λ same. subst (λ (y : Access). Contains acts y.act) same (in_to b acts (began b refl))) (λ i. old a (in_to a accesses i)) (in_from a (record { act = b; x = x; store = s } ∷ accesses) there)
+
 pub sane_turn : (B : Book) (b : Body) → Right B b → Sane B → Sane (turned B b)
 sane_turn B (body.Began l k w p) right s = record {
   kept = s.kept;
@@ -226,8 +248,9 @@ sane_turn B (body.Began l k w p) right s = record {
   aborted = λ u on. or_right (uid_eq w u) (has_act B.acts u) (s.aborted u on);
   ended = λ u on. or_right (uid_eq w u) (has_act B.acts u) (s.ended u on);
   found = λ u on. or_right (uid_eq w u) (has_act B.acts u) (s.found u on);
+  acted = λ a there. let i = s.acted a there in (suc i.0, omega (arith, i.1), i.2);
 }
-sane_turn B (body.Committing l) right s = let r = right.1 in record { kept = s.kept; called = named_known B.acts l B.called right.0 r.named s.called; committed = s.committed; aborted = s.aborted; ended = s.ended; found = s.found }
+sane_turn B (body.Committing l) right s = let r = right.1 in record { kept = s.kept; called = named_known B.acts l B.called right.0 r.named s.called; committed = s.committed; aborted = s.aborted; ended = s.ended; found = s.found; acted = s.acted }
 sane_turn B (body.Committed l) right s = let r = right.1 in let a = right.0 in record {
   kept = λ u is. ⊎_elim
       (λ on. ⊎_elim (λ same. subst (λ w. is_on B.aborted w ≡ false) same (open_is B a.uid r.unended).1) (λ old. s.kept u (committed_decided B u old)) (on_cases a.uid u B.committed (ap (λ ws. is_on ws u) (sym (named_is B.acts l B.committed a r.named)) ∙ on)))
@@ -237,6 +260,7 @@ sane_turn B (body.Committed l) right s = let r = right.1 in let a = right.0 in r
   aborted = s.aborted;
   ended = s.ended;
   found = s.found;
+  acted = s.acted;
 }
 sane_turn B (body.Aborted l c) right s = let r = right.1 in let a = right.0 in record {
   kept = λ u is. ap (λ ws. is_on ws u) (named_is B.acts l B.aborted a r.named) ∙ on_other a.uid u B.aborted (λ same. undecided (subst (λ w. is_decided B w ≡ true) (sym same) is)) ∙ s.kept u is;
@@ -245,11 +269,12 @@ sane_turn B (body.Aborted l c) right s = let r = right.1 in let a = right.0 in r
   aborted = named_known B.acts l B.aborted a r.named s.aborted;
   ended = s.ended;
   found = s.found;
+  acted = s.acted;
 }
   where
     undecided : is_decided B (let a = right.0 in a.uid) ≡ true → ⊥
     undecided is = let r = right.1 in let a = right.0 in ⊎_elim (λ on. never on (open_is B a.uid r.unended).0) (λ on. never on r.unfound) (or_which (is_on B.committed a.uid) (is_on B.found a.uid) is)
-sane_turn B (body.Ended l) right s = let r = right.1 in record { kept = s.kept; called = s.called; committed = s.committed; aborted = s.aborted; ended = named_known B.acts l B.ended right.0 r.named s.ended; found = s.found }
+sane_turn B (body.Ended l) right s = let r = right.1 in record { kept = s.kept; called = s.called; committed = s.committed; aborted = s.aborted; ended = named_known B.acts l B.ended right.0 r.named s.ended; found = s.found; acted = s.acted }
 sane_turn B (body.Recovered n w) right s = record {
   kept = λ u is. ⊎_elim (λ on. s.kept u (committed_decided B u on)) (λ on. ⊎_elim (λ same. subst (λ x. is_on B.aborted x ≡ false) same right.kept) (λ old. s.kept u (found_decided B u old)) (on_cases w u B.found on)) (or_which (is_on B.committed u) (is_on (w ∷ B.found) u) is);
   called = s.called;
@@ -257,7 +282,10 @@ sane_turn B (body.Recovered n w) right s = record {
   aborted = s.aborted;
   ended = s.ended;
   found = λ u on. ⊎_elim (λ same. s.called u (subst (λ x. is_on B.called x ≡ true) same right.called)) (λ old. s.found u old) (on_cases w u B.found on);
+  acted = s.acted;
 }
+sane_turn B (body.Ok l x o r) right s = record { kept = s.kept; called = s.called; committed = s.committed; aborted = s.aborted; ended = s.ended; found = s.found; acted = acted_more B.acts B.accesses (act_in B.acts (name l)) x None (λ a is. (in_find (λ (b : Act). bytes_eq b.label (name l)) a B.acts is).0) s.acted }
+sane_turn B (body.Includes l x n) right s = record { kept = s.kept; called = s.called; committed = s.committed; aborted = s.aborted; ended = s.ended; found = s.found; acted = acted_more B.acts B.accesses (act_in B.acts (name l)) x (Some n) (λ a is. (in_find (λ (b : Act). bytes_eq b.label (name l)) a B.acts is).0) s.acted }
 sane_turn B b right s = s
 
 pub sane_lines : (B : Book) (ls : List Line) → AreRight B ls → Sane B → Sane (book_from B ls)
@@ -265,4 +293,4 @@ sane_lines B [] right s = s
 sane_lines B (l ∷ ls) right s = sane_lines (turned B l.body) ls right.1 (sane_turn B l.body right.0 s)
 
 pub sane_new : Sane new_book
-sane_new = record { kept = λ u is. refl; called = λ u on. on; committed = λ u on. on; aborted = λ u on. on; ended = λ u on. on; found = λ u on. on }
+sane_new = record { kept = λ u is. refl; called = λ u on. on; committed = λ u on. on; aborted = λ u on. on; ended = λ u on. on; found = λ u on. on; acted = λ a there. absurd (in_from a [] there) }

@@ -16,7 +16,7 @@ use Rattle.arj_protocol.specs.Asking.{asks_all, asks_node, asks_step, call, call
 use Rattle.arj_protocol.specs.Call.{Answered, At, AtActivate, AtBind, AtInvoke, AtLoad, AtNote, CallEnd, CallStep, Changed, Conflict, Ended, Goal, Include, Included, Lost, On, Run, Steps, answered, ask_at, given_up, next_ask, next_node, start}
 use Rattle.arj_protocol.specs.Commit.{Aborts, Asks, CommitStep, Confirming, Decides, Machine, Plan, Preparing, Stays, Voting, ask_of, has_record, left_of, nodes_given_up, participants, plan_of, servers_of}
 use Rattle.arj_protocol.specs.Commit as commit
-use Rattle.arj_protocol.specs.Coord.{Calling, Committing, Coord, Doing, Idle, Now, change_doing, doing_of, is_free, keeping_of, on_doing, on_root, plan_for, root_at, set_doing, with_keeping, with_went, Root}
+use Rattle.arj_protocol.specs.Coord.{Calling, Committing, Coord, Doing, Idle, Now, change_doing, doing_of, is_free, keeping_of, on_doing, on_root, plan_for, root_at, set_doing, with_keeping, with_went, Root, Went}
 use Rattle.arj_protocol.specs.Effect.{Did, Effect, Intent, PutIntent, Do, Say, Served}
 use Rattle.arj_protocol.specs.Ending.{abort_action, aborts_with, all_aborted, decide, decided_told, ended, ends_with, record_work, root_after, say_for, says, tell, tolds_by, tolds_of, tolds_of_branch, up_to}
 use Rattle.arj_protocol.specs.Order.{has, put_uid, unbound}
@@ -24,7 +24,7 @@ use Rattle.arj_protocol.specs.Step.{Input, acts, branch_named, call_reasons, com
 use Rattle.arj_protocol.specs.Step as input
 use Rattle.arj_protocol.specs.Tree.{Branch, branch_of, doomed_at, ends_of, has_open_child, is_own, open_below, root_of, uses_object, ended_at, ended_branch}
 use Rattle.arj_part_law.specs.Actions.{Action, AreBegun, action_of}
-use Rattle.arj_part_law.specs.Coords.{IsBusy, IsGoodCoord, IsVoting}
+use Rattle.arj_part_law.specs.Coords.{IsAsking, IsBusy, IsGoodCoord, IsVoting}
 use Rattle.arj_part_law.specs.Copies.{IsTree, Paths}
 use Rattle.arj_part_law.specs.Ends.{ask_ends}
 use Rattle.arj_part_law.proofs.Begun.{on_own, serial_alone}
@@ -35,13 +35,15 @@ use Rattle.arj_part_law.proofs.Settled.{doing_other, doing_put}
 use Rattle.arj_part_law.proofs.TrueSteps.{work_there}
 use Rattle.arj_part_law.proofs.Truths.{IsFree, put_in}
 use Rattle.arj_model.specs.Actions.{is_serial}
-use Rattle.arj_line_law.specs.Book.{Book, is_decided, is_top, turned}
-use Rattle.arj_line_law.specs.Knows.{AreSaid, Calls, EachRecord, IsEnd, IsKnown, IsLined, Knows, after, decides, HasBranch, AreIdle, IsIdle}
-use Rattle.arj_line_law.specs.Right.{IsSaid, IsOpenSo}
-use Rattle.arj_line_law.proofs.Books.{committed_decided, decided_later, later_turn, named_is, never, on_here, on_other}
+use Rattle.arj_line_law.specs.Book.{Book, is_decided, is_over, is_top, turned}
+use Rattle.arj_line_law.specs.Knows.{AreSaid, Calls, Ties, EachRecord, IsEnd, IsKnown, IsLined, Knows, after, decides, HasBranch, AreIdle, IsIdle}
+use Rattle.arj_line_law.specs.Right.{IsClosed, IsSaid, IsOpenSo}
+use Rattle.arj_line_law.proofs.Answering.{goes_answered, goes_included, goes_line, says_is}
+use Rattle.arj_line_law.proofs.Books.{over_by_abort, over_by_commit, over_by_end, committed_decided, decided_later, later_turn, named_is, never, on_here, on_other}
 use Rattle.arj_line_law.proofs.Effects.{ArePartly, Goes, IsPartly, are_later, all_flat, all_map, goes_before, goes_behind, goes_partly, partly_after, request_claims, says_partly, sends_partly, tells_partly, tells_idle}
 use Rattle.arj_line_law.proofs.Endings.{CallsBut, Ends, about_it, aborts, calls_ended, commits, finishes, knows_ended, open_act}
-use Rattle.arj_line_law.proofs.Likes.{Alike, alike_calls, alike_knows, alike_on, alike_root, alike_same, alike_then, alike_tree, both_free, not_committing, same_now, some_is}
+use Rattle.arj_coord_law.proofs.CoordUses.{KeepsUses, moved_keeps, on_roots, went_keeps}
+use Rattle.arj_line_law.proofs.Likes.{Alike, alike_idle, alike_calls, alike_knows, alike_on, alike_root, alike_same, alike_then, alike_tree, both_free, not_committing, same_now, some_is}
 use Rattle.arj_line_law.proofs.Opens.{AreApart, IsAtWork, all_still, below_all, below_apart, none_of}
 
 -- ---- lists of ends
@@ -53,6 +55,12 @@ said_up_to B u (e ∷ es) all = by (uid_eq e.0 u) (said_up_to B u es all.1)
     by : (b : Bool) → AreSaid B (up_to u es) → AreSaid B (cond b (e ∷ []) (e ∷ up_to u es))
     by true ih = (all.0, tt)
     by false ih = (all.0, ih)
+
+-- a call ended without an answer
+abbrev IsQuietEnd : CallEnd → Type 0
+IsQuietEnd (Answered a) = ⊥
+IsQuietEnd (Included st) = ⊥
+IsQuietEnd e = Unit {0}
 
 module _ (k : ℕ) (B : Book) where
   -- a step of a call brings the ends of its root at most
@@ -115,13 +123,13 @@ module _ (k : ℕ) (B : Book) where
   gaveup_partly : (u : Uid) (nodes : List ℕ) (c : Coord) → ArePartly k B (gaveup_lines u nodes c)
   gaveup_partly u nodes c = all_flat (IsPartly k B) (λ n. says u (λ l. body.GaveUp l n) c) nodes (λ n i. says_partly k B u (λ l. body.GaveUp l n) c (λ l. record { lined = (tt, tt); same = refl; puts = tt }))
 
-  end_partly : (x : ℕ) (g : Goal) (e : CallEnd) (l : Label) → IsOpenSo false B l → IsPartly k B (Say (end_line x g e l))
-  end_partly x (Run o) (Answered a) l timely = record { lined = (timely, tt); same = refl; puts = tt }
-  end_partly x (Include s) (Answered a) l timely = record { lined = (timely, tt); same = refl; puts = tt }
-  end_partly x g (Included st) l timely = record { lined = (timely, tt); same = refl; puts = tt }
-  end_partly x g (Conflict h m n) l timely = record { lined = (tt, tt); same = refl; puts = tt }
-  end_partly x g (Changed n w) l timely = record { lined = (tt, tt); same = refl; puts = tt }
-  end_partly x g (Lost n b) l timely = record { lined = (tt, tt); same = refl; puts = tt }
+  -- the ends of calls that leave the book as it is
+  end_partly : (x : ℕ) (g : Goal) (e : CallEnd) (l : Label) → IsQuietEnd e → IsPartly k B (Say (end_line x g e l))
+  end_partly x g (Answered a) l quiet = absurd quiet
+  end_partly x g (Included st) l quiet = absurd quiet
+  end_partly x g (Conflict h m n) l quiet = record { lined = (tt, tt); same = refl; puts = tt }
+  end_partly x g (Changed n w) l quiet = record { lined = (tt, tt); same = refl; puts = tt }
+  end_partly x g (Lost n b) l quiet = record { lined = (tt, tt); same = refl; puts = tt }
 
 -- ---- calls
 
@@ -130,38 +138,40 @@ idle d = record d { now = Idle }
 
 pub alike_asks : (p : Path) (req : ℕ) (asked : List (ℕ × Ask)) (c : Coord) → Alike c (asks_all p req asked c).part
 alike_asks p req [] c = alike_same c
-alike_asks p req (a ∷ rest) c = let d = asks_node p req a c in alike_then c d.part (asks_all p req rest d.part).part (alike_root (root_of p) (with_went (record { path = uids_of p; node = a.0; invoke = is_invoke_ask a.1 })) c) (alike_asks p req rest d.part)
+alike_asks p req (a ∷ rest) c =
+    let went : Went = record { path = uids_of p; node = a.0; invoke = is_invoke_ask a.1 } in
+    let d = asks_node p req a c in
+    alike_then c d.part (asks_all p req rest d.part).part (alike_root (root_of p) (with_went went) c (went_keeps went)) (alike_asks p req rest d.part)
 
 pub alike_step : (s : Steps) (c : Coord) → Alike c (asks_step s c).part
-alike_step s c = alike_root (root_of s.path) (with_went (record { path = uids_of s.path; node = next_node s; invoke = is_invoke_ask (next_ask (ends_of (root_of s.path) c.tree) s) })) c
+alike_step s c = let went : Went = record { path = uids_of s.path; node = next_node s; invoke = is_invoke_ask (next_ask (ends_of (root_of s.path) c.tree) s) } in alike_root (root_of s.path) (with_went went) c (went_keeps went)
 
 alike_goes : (s : Steps) (c : Coord) → IsFree (actor s.path) c → Alike c (goes_on s c).part
 alike_goes s c free =
     let w : Coord = on_doing (actor s.path) (λ (d : Doing). record d { req = s.req; now = Calling s }) c in
     alike_then c w (goes_on s c).part (alike_on (actor s.path) (λ (d : Doing). record d { req = s.req; now = Calling s }) c (λ d found. (refl, both_free d.now (Calling s) (λ m is. free d m found is) (λ m is. absurd (cc is))))) (alike_step s w)
 
-alike_idle : (u : Uid) (c : Coord) → IsFree u c → Alike c (on_doing u (λ (d : Doing). record d { now = Idle }) c)
-alike_idle u c free = alike_on u (λ (d : Doing). record d { now = Idle }) c (λ d found. (refl, both_free d.now Idle (λ m is. free d m found is) (λ m is. absurd (cc is))))
-
-alike_ends : (s : Steps) (e : CallEnd) (c : Coord) → IsFree (actor s.path) c → Alike c (step_call s (Ended e) c).part
-alike_ends s e c free = by e
+alike_ends : (s : Steps) (e : CallEnd) (c : Coord) → IsQuietEnd e → IsFree (actor s.path) c → Alike c (step_call s (Ended e) c).part
+alike_ends s e c quiet free = by e quiet
   where
     w : Coord
     w = on_doing (actor s.path) (λ (d : Doing). record d { now = Idle }) c
 
-    at : Coord
-    at = on_root (root_of s.path) (root_heard s e) (on_doing (actor s.path) (λ (d : Doing). record d { now = Idle }) c)
+    at : CallEnd → Coord
+    at f = on_root (root_of s.path) (root_heard s f) (on_doing (actor s.path) (λ (d : Doing). record d { now = Idle }) c)
 
-    its : Alike c at
-    its = alike_then c w at (alike_idle (actor s.path) c free) (alike_root (root_of s.path) (root_heard s e) w)
+    its : (f : CallEnd) → KeepsUses (root_heard s f) → Alike c (at f)
+    its f keeps = alike_then c w (at f) (alike_idle (actor s.path) c free) (alike_root (root_of s.path) (root_heard s f) w keeps)
 
-    by : (f : CallEnd) → Alike c (doomed_by (actor s.path) f at)
-    by (Answered a) = its
-    by (Included st) = its
-    by (Conflict h m n) = its
-    by (Changed n x) = its
-    by (Lost n false) = its
-    by (Lost n true) = alike_then c at (record at { tree = doomed_at (actor s.path) at.tree }) its (alike_tree at (doomed_at (actor s.path) at.tree) (doomed_same (actor s.path) at.tree))
+    by : (f : CallEnd) → IsQuietEnd f → Alike c (doomed_by (actor s.path) f (at f))
+    by (Answered a) q = absurd q
+    by (Included st) q = absurd q
+    by (Conflict h m n) q = its (Conflict h m n) (record { said = λ r. refl; joined = λ r. refl })
+    by (Changed n x) q = its (Changed n x) (record { said = λ r. refl; joined = λ r. refl })
+    by (Lost n false) q = its (Lost n false) (record { said = λ r. refl; joined = λ r. refl })
+    by (Lost n true) q =
+        let v : Coord = at (Lost n true) in
+        alike_then c v (record v { tree = doomed_at (actor s.path) v.tree }) (its (Lost n true) (record { said = λ r. refl; joined = λ r. refl })) (alike_tree v (doomed_at (actor s.path) v.tree) (doomed_same (actor s.path) v.tree))
 
 module _ (k : ℕ) (B : Book) where
   like_goes : (c v : Coord) (outs : List Effect) → ArePartly k B outs → Alike c v → Knows B c → Calls B c → Goes k B outs v
@@ -172,18 +182,22 @@ module _ (k : ℕ) (B : Book) where
       let w : Coord = on_doing (actor s.path) (λ (x : Doing). record x { req = s.req; now = Calling s }) c in
       like_goes d (goes_on s c).part (goes_on s c).outs (step_partly k B s w (λ r. subst (λ t. AreSaid B (ends_of r t)) (sym (on_tree (actor s.path) (λ (x : Doing). record x { req = s.req; now = Calling s }) c)) (let q = alike_knows B d c a knows in q.lists r))) (alike_then d c (goes_on s c).part a (alike_goes s c free)) knows calls
 
-  -- the action at work is open, and its commit wasn't called
-  open_at_work : (u : Uid) (c : Coord) (w : IsAtWork k c u) → IsFree u c → Knows B c → Calls B c → IsOpenSo false B (let q = w.doing in q.label)
-  open_at_work u c w free knows calls =
-      let s : IsKnown B u (let b = w.branch in b.kind) None (let q = w.doing in q.label) = subst (λ o. IsKnown B u (let b = w.branch in b.kind) o (let q = w.doing in q.label)) w.opened (knows.acts u w.branch w.doing w.found w.does) in
-      let q = w.doing in
-      (s.act, open_act k B u (let b = w.branch in b.kind) q.label s w.here, ap (is_on B.called) s.uid ∙ calls u w.branch w.doing w.found w.does w.opened ∙ not_committing q.now (λ m is. free q m w.does is))
+  goes_call_step : (s : Steps) (t : CallStep) (d c : Coord) → Alike d c → IsFree (actor s.path) c → (w : IsAtWork k c (actor s.path)) → ((z : Branch) → branch_of (actor s.path) c.tree ≡ Some z → z.path ≡ s.path) → ((v : Uid) (z : Branch) → branch_of v c.tree ≡ Some z → actor z.path ≡ v) → Knows B d → Calls B d → Goes k B (step_call s t c).outs (step_call s t c).part
+  goes_call_step s (On at) d c a free w asks places knows calls = goes_step (record s { req = s.req + 1; at = at }) d c a free knows calls
+  goes_call_step s (Ended e) d c a free w asks places knows calls = by e
+    where
+      q : Doing
+      q = w.doing
 
-  goes_call_step : (s : Steps) (t : CallStep) (d c : Coord) → Alike d c → IsFree (actor s.path) c → IsAtWork k c (actor s.path) → Knows B d → Calls B d → Goes k B (step_call s t c).outs (step_call s t c).part
-  goes_call_step s (On at) d c a free w knows calls = goes_step (record s { req = s.req + 1; at = at }) d c a free knows calls
-  goes_call_step s (Ended e) d c a free w knows calls =
-      let q = w.doing in
-      like_goes d (step_call s (Ended e) c).part (step_call s (Ended e) c).outs (says_one k B (actor s.path) (end_line s.x s.goal e) c q w.does (end_partly k B s.x s.goal e q.label (open_at_work (actor s.path) c w free (alike_knows B d c a knows) (alike_calls B d c a calls)))) (alike_then d c (step_call s (Ended e) c).part a (alike_ends s e c free)) knows calls
+      quiet : (f : CallEnd) → IsQuietEnd f → Goes k B (step_call s (Ended f) c).outs (step_call s (Ended f) c).part
+      quiet f so = like_goes d (step_call s (Ended f) c).part (step_call s (Ended f) c).outs (says_one k B (actor s.path) (end_line s.x s.goal f) c q w.does (end_partly k B s.x s.goal f q.label so)) (alike_then d c (step_call s (Ended f) c).part a (alike_ends s f c so free)) knows calls
+
+      by : (f : CallEnd) → Goes k B (step_call s (Ended f) c).outs (step_call s (Ended f) c).part
+      by (Answered x) = goes_answered k B s c free w asks places (alike_knows B d c a knows) (alike_calls B d c a calls) x
+      by (Included st) = goes_included k B s c free w asks places (alike_knows B d c a knows) (alike_calls B d c a calls) st
+      by (Conflict h m n) = quiet (Conflict h m n) tt
+      by (Changed n x) = quiet (Changed n x) tt
+      by (Lost n x) = quiet (Lost n x) tt
 
   goes_call : (p : Path) (x : ℕ) (o : Op) (c : Coord) → IsFree (actor p) c → Knows B c → Calls B c → Goes k B (call p x o c).outs (call p x o c).part
   goes_call p x o c free knows calls =
@@ -193,19 +207,12 @@ module _ (k : ℕ) (B : Book) where
       let u : Coord = record c { tree = uses_object p x c.tree } in
       let t : Coord = on_root (root_of p) (with_keeping x h) u in
       let same = uses_same p x c.tree in
-      goes_step (call_steps p x o (next_req (actor p) c) r c h) c t (alike_then c u t (alike_tree c (uses_object p x c.tree) same) (alike_root (root_of p) (with_keeping x h) u)) free knows calls
+      goes_step (call_steps p x o (next_req (actor p) c) r c h) c t (alike_then c u t (alike_tree c (uses_object p x c.tree) same) (alike_root (root_of p) (with_keeping x h) u (record { said = λ q. refl; joined = λ q. refl }))) free knows calls
 
   goes_include : (p : Path) (x s : ℕ) (c : Coord) → IsFree (actor p) c → Knows B c → Calls B c → Goes k B (include p x s c).outs (include p x s c).part
   goes_include p x s c free knows calls = let u : Coord = record c { tree = uses_object p x c.tree } in goes_step (start p x (Include s) None unbound (next_req (actor p) c)) c u (alike_tree c (uses_object p x c.tree) (uses_same p x c.tree)) free knows calls
 
 -- ---- ends
-
-says_is : (u : Uid) (f : Label → Body) (c : Coord) (q : Doing) → doing_of u c ≡ Some q → says u f c ≡ Say (f q.label) ∷ []
-says_is u f c q does = ap (λ o. say_for f o) does
-
--- a line of its own, and then what goes behind it
-goes_line : (k : ℕ) (B : Book) (b : Body) (es : List Effect) (v : Coord) → IsLined k B (Say b) → (let V = turned B b in V.acts) ≡ B.acts → ((u : Uid) → decides B b ≡ Some u → HasBranch v u × AreIdle es) → Goes k (turned B b) es v → Goes k B (Say b ∷ es) v
-goes_line k B b es v lined acts late g = record { lined = (lined, g.lined); knows = g.knows; calls = g.calls; puts = (tt, g.puts); acts = g.acts ∙ acts; late = (late, g.late) }
 
 -- who has ended is still there
 ended_there : (k : ℕ) (c : Coord) (u : Uid) (e : End) → IsAtWork k c u → HasBranch (ended u e c) u
@@ -352,7 +359,7 @@ module _ (k : ℕ) (actions : List Action) (begun : AreBegun actions) (paths : P
       r = on_root (root_of p.path) (root_after p) took
 
       like : Alike e r
-      like = alike_then e took r (alike_on (actor p.path) (λ (d : Doing). record d { took = participants p }) e (λ d found. (refl, same_now d.now))) (alike_root (root_of p.path) (root_after p) took)
+      like = alike_then e took r (alike_on (actor p.path) (λ (d : Doing). record d { took = participants p }) e (λ d found. (refl, same_now d.now))) (alike_root (root_of p.path) (root_after p) took (record { said = λ q. refl; joined = λ q. refl }))
 
       knows_r : Knows V r
       knows_r = alike_knows V e r like (end_knows B c (actor p.path) w knows ending.Commit (body.Committed (let d = w.doing in d.label)) ends (λ long. decided_now) calls)
@@ -369,6 +376,7 @@ module _ (k : ℕ) (actions : List Action) (begun : AreBegun actions) (paths : P
         lists = knows_r.lists;
         plans = knows_r.plans;
         telling = λ x j there. ⊎_elim (λ same. subst (λ y. is_decided V y ≡ true) (sym same) decided_now) (λ old. knows_r.telling x old.0 (in_to (x, old.0) r.telling old.1)) (put_in (actor p.path) i x j r.telling (in_from (x, j) (put_uid (actor p.path) i r.telling) there));
+        ties = knows_r.ties;
       }
 
       tolds : List Effect
@@ -431,6 +439,7 @@ module _ (k : ℕ) (actions : List Action) (begun : AreBegun actions) (paths : P
       lists = λ r. subst (λ t. AreSaid B (ends_of r t)) (sym (on_tree u f c)) (knows.lists r);
       plans = λ x q h does is. ⊎_elim (λ same. subst (λ (z : Machine). AreSaid B (let p = plan_of z in p.ends)) (machine_is h (ap (λ (d : Doing). d.now) same.1 ∙ is)) said) (λ other. knows.plans x q h other.1 is) (cases x q does);
       telling = subst (EachRecord (λ z. is_decided B z ≡ true)) (sym telling) knows.telling;
+      ties = subst (λ t. Ties B.acts B.accesses t (commits_in u m c).roots) (sym (on_tree u f c)) (subst (λ rs. Ties B.acts B.accesses c.tree rs) (sym (on_roots u f c)) knows.ties);
     },
     λ x b q found does opened. ⊎_elim
         (λ same. ap (is_on B.called) same.0 ∙ called ∙ ap (λ (d : Doing). is_committing_now d.now) same.1)
@@ -510,6 +519,10 @@ module _ (k : ℕ) (actions : List Action) (begun : AreBegun actions) (paths : P
       let z = subst (IsAtWork k c) (sym same) at in
       record { branch = z.branch; doing = z.doing; found = z.found; opened = z.opened; does = z.does; here = z.here }
 
+  -- who asks is there with its path
+  asks_so : (c : Coord) (u : Uid) (p : Path) → Good c → IsAsking c.tree u p → (z : Branch) → branch_of (actor p) c.tree ≡ Some z → z.path ≡ p
+  asks_so c u p good a z at = ap (λ (b : Branch). b.path) (some_is z a.branch (sym at ∙ ap (λ v. branch_of v c.tree) (actor_is actions paths tree u p c good a) ∙ a.found)) ∙ a.path
+
   calling_free : (c : Coord) (u w : Uid) (d : Doing) (s : Steps) → w ≡ u → doing_of u c ≡ Some d → d.now ≡ Calling s → IsFree w c
   calling_free c u w d s same found is e m at commits =
       let one : e ≡ d = some_is e d (sym at ∙ ap (λ v. doing_of v c) same ∙ found) in
@@ -533,7 +546,7 @@ module _ (k : ℕ) (actions : List Action) (begun : AreBegun actions) (paths : P
           its_step =
               let m = answered (is_free (root_of s.path) (actor s.path) s.x c) (kept_at s c) s.goal s.at r in
               let t : Coord = on_root (root_of s.path) (root_moved s r m) c in
-              goes_call_step k B s m.step c t (alike_root (root_of s.path) (root_moved s r m) c) (calling_free c a.act (actor s.path) d s (actor_is actions paths tree a.act s.path c good b) found is) (on_its_root c a.act (actor s.path) (root_of s.path) (root_moved s r m) (actor_is actions paths tree a.act s.path c good b) (at_work c works mine a.act b.branch b.found b.opened)) knows calls
+              goes_call_step k B s m.step c t (alike_root (root_of s.path) (root_moved s r m) c (moved_keeps s r m)) (calling_free c a.act (actor s.path) d s (actor_is actions paths tree a.act s.path c good b) found is) (on_its_root c a.act (actor s.path) (root_of s.path) (root_moved s r m) (actor_is actions paths tree a.act s.path c good b) (at_work c works mine a.act b.branch b.found b.opened)) (asks_so c a.act s.path good b) (let l = good.tree.lists in l.places) knows calls
 
           one : (w : Bool) → Serves (cond {A = Served Coord (Unit {0})} w (heard_by (heard_call s r c)) (heard_none c))
           one true = its_step
@@ -567,7 +580,7 @@ module _ (k : ℕ) (actions : List Action) (begun : AreBegun actions) (paths : P
       now d found Idle is b = nothing
       now d found (Calling s) is b =
           let t : Coord = on_root (root_of s.path) (root_lost s (given_up s.at)) c in
-          with_lines (next_node s ∷ []) (step_call s (given_up s.at) t) (goes_call_step k B s (given_up s.at) c t (alike_root (root_of s.path) (root_lost s (given_up s.at)) c) (calling_free c u (actor s.path) d s (actor_is actions paths tree u s.path c good b) found is) (on_its_root c u (actor s.path) (root_of s.path) (root_lost s (given_up s.at)) (actor_is actions paths tree u s.path c good b) (at_work c works mine u b.branch b.found b.opened)) knows calls)
+          with_lines (next_node s ∷ []) (step_call s (given_up s.at) t) (goes_call_step k B s (given_up s.at) c t (alike_root (root_of s.path) (root_lost s (given_up s.at)) c (record { said = λ q. refl; joined = λ q. refl })) (calling_free c u (actor s.path) d s (actor_is actions paths tree u s.path c good b) found is) (on_its_root c u (actor s.path) (root_of s.path) (root_lost s (given_up s.at)) (actor_is actions paths tree u s.path c good b) (at_work c works mine u b.branch b.found b.opened)) (asks_so c u s.path good b) (let l = good.tree.lists in l.places) knows calls)
       now d found (Committing m) is b =
           with_lines (nodes_given_up m) (moved_commit u (commit.given_up m) intents c) (goes_moved B c u (plan_of m) (commit.given_up m) intents good mine works b (giveup_step actions paths tree m) (knows.plans u d m found is) (was_called B c u d m calls found is b) knows (but u B c calls))
 
@@ -590,11 +603,11 @@ module _ (k : ℕ) (actions : List Action) (begun : AreBegun actions) (paths : P
     called_is : (x : Uid) → is_on (let V = asked_book in V.called) x ≡ is_on (u ∷ B.called) x
     called_is x = let s = its B c u w knows in ap (λ us. is_on us x) (named_is B.acts (let q = w.doing in q.label) B.called s.act s.named) ∙ ap (λ y. is_on (y ∷ B.called) x) s.uid
 
-    called_right : is_top (let b = w.branch in b.kind) ≡ true → IsLined k B (Say asks_line)
-    called_right top =
+    called_right : is_top (let b = w.branch in b.kind) ≡ true → IsClosed B u → IsLined k B (Say asks_line)
+    called_right top closed =
         let s = its B c u w knows in
         let q = w.doing in
-        ((s.act, open_act k B u _ q.label s w.here, ap is_top s.kind ∙ top, ap (is_on B.called) s.uid ∙ calls u w.branch q w.found w.does w.opened ∙ not_committing q.now (λ m is. free q m w.does is)), about_it k B u _ q.label s w.here)
+        ((s.act, open_act k B u _ q.label s w.here, ap is_top s.kind ∙ top, ap (is_on B.called) s.uid ∙ calls u w.branch q w.found w.does w.opened ∙ not_committing q.now (λ m is. free q m w.does is), subst (IsClosed B) (sym s.uid) closed), about_it k B u _ q.label s w.here)
 
     end_called : (x : Uid) (h : Kind) (o : Option End) → IsEnd B x h o → IsEnd asked_book x h o
     end_called x h None is = is
@@ -607,6 +620,7 @@ module _ (k : ℕ) (actions : List Action) (begun : AreBegun actions) (paths : P
       lists = λ r. are_later B asked_book (later_turn B asks_line) (ends_of r c.tree) (knows.lists r);
       plans = λ x q m does is. are_later B asked_book (later_turn B asks_line) _ (knows.plans x q m does is);
       telling = λ x i there. decided_later B asked_book (later_turn B asks_line) x (knows.telling x i there);
+      ties = knows.ties;
     }
 
     called_now : is_on (let V = asked_book in V.called) u ≡ true
@@ -614,6 +628,26 @@ module _ (k : ℕ) (actions : List Action) (begun : AreBegun actions) (paths : P
 
     called_but : CallsBut u asked_book c
     called_but x b q other found does opened = called_is x ∙ on_other u x B.called (λ same. other (sym same)) ∙ calls x b q found does opened
+
+  -- what is below who commits has ended
+  closed_below : (B : Book) (c : Coord) (u : Uid) {p : Plan} → length c.doings ≡ length c.tree.branches → IsVoting c.tree u p → Knows B c → IsClosed B u
+  closed_below B c u works v knows a there on other =
+      let own = (found_by u c.tree (let z = v.asking in z.branch) (let z = v.asking in z.found)).0 in
+      let home = knows.ties.homes a u there on own in
+      let at = knows.ties.paths a home.0 there home.1 in
+      let over = v.over a.uid (v.below a.uid home.0 home.1 (ap (λ us. is_on us u) (sym at) ∙ on) other) in
+      let work = work_there c works a.uid over.0 over.1 in
+      let s = knows.acts a.uid over.0 work.0 over.1 work.1 in
+      by over.0 (let b = over.0 in b.ended) over.2 s.end
+    where
+      by : (b : Branch) (o : Option End) → is_some o ≡ true → IsEnd B a.uid b.kind o → is_over B a.uid ≡ true
+      by b None e i = absurd (cc e)
+      by b (Some ending.Abort) e i = over_by_abort B a.uid i
+      by b (Some ending.Commit) e i = kinds (is_serial b.kind) i
+        where
+          kinds : (x : Bool) → cond x (is_on B.ended a.uid) (is_on B.committed a.uid) ≡ true → is_over B a.uid ≡ true
+          kinds true is = over_by_end B a.uid is
+          kinds false is = over_by_commit B a.uid is
 
   -- a top's commit is called
   goes_top : (B : Book) (b : Branch) (intents : List (Uid × Intent)) (c : Coord) → Good c → Mine c → length c.doings ≡ length c.tree.branches → branch_of (actor b.path) c.tree ≡ Some b → is_some b.ended ≡ false → has_open_child (actor b.path) c.tree ≡ false → b.kind ≢ kind.Serial → b.kind ≢ kind.Nested → IsFree (actor b.path) c → Knows B c → Calls B c → DidGo B (commit_top b.path intents c)
@@ -627,7 +661,7 @@ module _ (k : ℕ) (actions : List Action) (begun : AreBegun actions) (paths : P
       let t = moved_commit u (commit.start plan) intents c in
       let now = called_knows B c u w knows calls free in
       subst (λ es. Goes k B (es ++ t.outs) t.part) (sym (says_is u body.Committing c w.doing w.does))
-      (goes_line k B (asks_line B c u w knows calls free) t.outs t.part (called_right B c u w knows calls free v.2) refl (λ x is. absurd (cc is))
+      (goes_line k B (asks_line B c u w knows calls free) t.outs t.part (called_right B c u w knows calls free v.2 (closed_below B c u works voting knows)) refl (λ x is. absurd (cc is))
       (goes_moved V c u plan (commit.start plan) intents good mine works voting (vote_step actions paths tree (servers_of plan) plan plan (refl, refl)) (now.lists (root_of b.path)) (called_now B c u w knows calls free) now (called_but B c u w knows calls free)))
 
   goes_commit : (B : Book) (b : Branch) (intents : List (Uid × Intent)) (c : Coord) → Good c → Mine c → length c.doings ≡ length c.tree.branches → branch_of (actor b.path) c.tree ≡ Some b → is_some b.ended ≡ false → has_open_child (actor b.path) c.tree ≡ false → IsFree (actor b.path) c → Knows B c → Calls B c → DidGo B (commit_action b intents c)
@@ -654,7 +688,7 @@ module _ (k : ℕ) (actions : List Action) (begun : AreBegun actions) (paths : P
       by false = kinds b.kind refl
 
   -- who doesn't wait isn't at its commit
-  waits_free : (c : Coord) (b : Branch) → waits_above b c ≡ false → IsFree (actor b.path) c
+  pub waits_free : (c : Coord) (b : Branch) → waits_above b c ≡ false → IsFree (actor b.path) c
   waits_free c b none d m found is = never (ap is_waiting found ∙ ap is_waiting_now is) (quiet (uids_of b.path) none (on_own b.path))
     where
       quiet : (us : List Uid) → list_any (waits c) us ≡ false → is_on us (actor b.path) ≡ true → waits c (actor b.path) ≡ false

@@ -11,16 +11,18 @@ use Rattle.arj_protocol.specs.Commit.{Machine}
 use Rattle.arj_protocol.specs.Coord.{Committing, Coord, Doing, Idle, Now, change_doing, doing_of, on_doing, set_doing}
 use Rattle.arj_protocol.specs.Ending.{ended}
 use Rattle.arj_protocol.specs.Step.{is_committing_now}
-use Rattle.arj_protocol.specs.Tree.{Branch, Tree, at_place, branch_of, ended_at, ended_branch, ends_of, family_of, root_of, with_family}
+use Rattle.arj_protocol.specs.Tree.{Branch, Tree, at_place, branch_of, ended_at, ended_branch, ends_of, family_of, is_own, root_of, with_family}
+use Rattle.arj_coord_law.proofs.CoordUses.{on_roots}
 use Rattle.arj_part_law.proofs.GoodCoords.{on_tree}
-use Rattle.arj_part_law.proofs.GoodTrees.{after as ended_tree, after_cases, ends_after, marked}
+use Rattle.arj_part_law.proofs.GoodTrees.{after as ended_tree, after_cases, at_others, at_u, ended_b, ends_after, marked, was_there}
 use Rattle.arj_part_law.proofs.Settled.{doing_other, doing_put, end_tree_on}
 use Rattle.arj_line_law.specs.Book.{Book, is_decided, is_over, is_top, turned}
-use Rattle.arj_line_law.specs.Knows.{AreSaid, Calls, EachRecord, IsAbout, IsEnd, IsKnown, Knows, decides}
+use Rattle.arj_line_law.specs.Knows.{AreSaid, Calls, EachRecord, IsAbout, IsEnd, IsKnown, Knows, Ties, decides, root_in}
 use Rattle.arj_line_law.specs.Right.{IsOpen, IsSaid, Right}
 use Rattle.arj_line_law.proofs.Books.{decided_later, later_turn, named_is, on_here, on_other}
 use Rattle.arj_line_law.proofs.Effects.{all_both, are_later}
 use Rattle.arj_line_law.proofs.Likes.{some_is}
+use Rattle.arj_line_law.proofs.Ties.{SameTies, ties_on}
 use Rattle.std.specs.Option.{option_map}
 
 -- ---- lines
@@ -47,6 +49,7 @@ pub record Ends (n : ℕ) (B : Book) (u : Uid) (k : Kind) (e : End) (b : Body) :
   pub right : Right B b
   pub about : IsAbout n B b
   pub acts : (let V = turned B b in V.acts) ≡ B.acts
+  pub accesses : (let V = turned B b in V.accesses) ≡ B.accesses
   pub others : (w : Uid) → w ≢ u → SaysSame B (turned B b) w
   pub here : IsEnd (turned B b) u k (Some e)
   pub only : (x : Uid) → decides B b ≡ Some x → x ≡ u
@@ -69,6 +72,7 @@ module _ (n : ℕ) (B : Book) (u : Uid) (k : Kind) (l : Label) (s : IsKnown B u 
     right = (s.act, open_act);
     about = about_it;
     acts = refl;
+    accesses = refl;
     others = λ w other. record { called = refl; committed = refl; aborted = ap (λ us. is_on us w) (named_is B.acts l B.aborted s.act s.named) ∙ other_on B.aborted w other; ended = refl; found = refl };
     here = ap (λ us. is_on us u) (named_is B.acts l B.aborted s.act s.named) ∙ ap (λ x. is_on (x ∷ B.aborted) u) s.uid ∙ on_here u B.aborted;
     only = λ x is. absurd (cc is);
@@ -79,6 +83,7 @@ module _ (n : ℕ) (B : Book) (u : Uid) (k : Kind) (l : Label) (s : IsKnown B u 
     right = (s.act, open_act, ap is_serial s.kind ∙ plain, ap (is_on B.called) s.uid ∙ called ∙ ap is_top (sym s.kind));
     about = about_it;
     acts = refl;
+    accesses = refl;
     others = λ w other. record { called = refl; committed = ap (λ us. is_on us w) (named_is B.acts l B.committed s.act s.named) ∙ other_on B.committed w other; aborted = refl; ended = refl; found = refl };
     here = ap (λ x. if x then is_on B.ended u else is_on (let V = turned B (body.Committed l) in V.committed) u) plain ∙ ap (λ us. is_on us u) (named_is B.acts l B.committed s.act s.named) ∙ ap (λ x. is_on (x ∷ B.committed) u) s.uid ∙ on_here u B.committed;
     only = λ x is. some_is x (let y = s.act in y.uid) (sym is ∙ ap (λ o. option_map (λ (y : Act). y.uid) o) s.named) ∙ s.uid;
@@ -89,6 +94,7 @@ module _ (n : ℕ) (B : Book) (u : Uid) (k : Kind) (l : Label) (s : IsKnown B u 
     right = (s.act, open_act, ap is_serial s.kind ∙ serial);
     about = about_it;
     acts = refl;
+    accesses = refl;
     others = λ w other. record { called = refl; committed = refl; aborted = refl; ended = ap (λ us. is_on us w) (named_is B.acts l B.ended s.act s.named) ∙ other_on B.ended w other; found = refl };
     here = ap (λ x. if x then is_on (let V = turned B (body.Ended l) in V.ended) u else is_on B.committed u) serial ∙ ap (λ us. is_on us u) (named_is B.acts l B.ended s.act s.named) ∙ ap (λ x. is_on (x ∷ B.ended) u) s.uid ∙ on_here u B.ended;
     only = λ x is. absurd (cc is);
@@ -184,7 +190,22 @@ module _ (n : ℕ) (B : Book) (u : Uid) (e : End) (c : Coord) (line : Body) (b :
         (lists_ended u e c.tree b found r));
     plans = λ w p m does_it is. ⊎_elim (λ same. idle_not same.1 p m same.3 is) (λ other. are_later B V (later_turn B line) _ (s.plans w p m other.1 is)) (works w p does_it);
     telling = subst (EachRecord (λ w. is_decided V w ≡ true)) (sym its_telling) (λ w i there. decided_later B V (later_turn B line) w (s.telling w i there));
+    ties = subst (λ xs. Ties xs V.accesses v.tree v.roots) (sym ends.acts) (subst (λ rs. Ties B.acts rs v.tree v.roots) (sym ends.accesses) (ties_on B.acts B.accesses c.tree v.tree c.roots v.roots same_ties s.ties));
   }
+    where
+      same_ties : SameTies c.tree v.tree c.roots v.roots
+      same_ties = record {
+        back = λ w z at. let x = was_there u e c.tree b found w z (ap (branch_of w) (sym its_tree) ∙ at) in (x.0, x.1, x.2);
+        forth = λ w a at. ⊎_elim
+            (λ same. (ended_b u e c.tree b found, ap (branch_of w) its_tree ∙ ap (λ x. branch_of x (ended_tree u e c.tree b found)) same ∙ at_u u e c.tree b found, ap (λ (x : Branch). x.path) (some_is a b (sym at ∙ ap (λ x. branch_of x c.tree) same ∙ found))))
+            (λ other. (a, ap (branch_of w) its_tree ∙ at_others u e c.tree b found w other ∙ at, refl)) (uid_cases w u);
+        own = λ w. ap (is_own w) (on_tree u (λ (d : Doing). record d { now = Idle }) mid) ∙ (let g = end_tree_on u e c in g.own w);
+        said = λ r. ap (λ rs. (root_in r rs).said) its_roots;
+        joined = λ r. ap (λ rs. (root_in r rs).joined) its_roots;
+      }
+        where
+          its_roots : (ended u e c).roots ≡ c.roots
+          its_roots = on_roots u (λ (d : Doing). record d { now = Idle }) mid
 
   pub calls_ended : CallsBut u B c → Calls V v
   calls_ended calls w z p at does_it opened = by (after_cases u e c.tree b found w z (ap (branch_of w) (sym its_tree) ∙ at)) (works w p does_it)

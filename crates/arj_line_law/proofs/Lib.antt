@@ -1,9 +1,12 @@
 pub mod Books
 pub mod Effects
+pub mod Ties
 pub mod Likes
 pub mod Endings
 pub mod Opens
+pub mod Answering
 pub mod Coords
+pub mod Beginning
 pub mod Again
 pub mod Parts
 pub mod Walks

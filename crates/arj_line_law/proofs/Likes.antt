@@ -3,13 +3,16 @@ use Rattle.std.proofs.Common.{◌≡◌, true, false, cond, Option, Some, None, 
 use Rattle.arj_base.proofs.Uids.{uid_cases}
 use Rattle.arj_protocol.specs.Words.{Uid, End, Kind, Label}
 use Rattle.arj_protocol.specs.Commit.{Machine}
-use Rattle.arj_protocol.specs.Coord.{Calling, Committing, Coord, Doing, Idle, Now, Root, change_doing, doing_of, on_doing, on_root, set_doing}
+use Rattle.arj_protocol.specs.Coord.{Calling, Committing, Coord, Doing, Idle, Now, Root, change_doing, doing_of, on_doing, on_root, root_at, set_doing}
 use Rattle.arj_protocol.specs.Step.{is_committing_now}
 use Rattle.arj_protocol.specs.Tree.{Branch, Tree, at_place, branch_of, ends_of}
+use Rattle.arj_coord_law.proofs.CoordUses.{KeepsUses, root_cases}
 use Rattle.arj_part_law.proofs.GoodCoords.{IsSameTree}
 use Rattle.arj_part_law.proofs.Settled.{doing_other, doing_put}
+use Rattle.arj_part_law.proofs.Truths.{IsFree}
 use Rattle.arj_line_law.specs.Book.{Book, is_decided}
 use Rattle.arj_line_law.specs.Knows.{AreSaid, Calls, EachRecord, IsKnown, Knows}
+use Rattle.arj_line_law.proofs.Ties.{SameTies, ties_on, ties_same, ties_then}
 
 pub some_is : {A : Type 0} (a b : A) → Some a ≡ Some b → a ≡ b
 some_is {A} a b is = let k : ◌≡◌ {A = Option A} (Some a) (Some b) = is in cc
@@ -27,12 +30,13 @@ pub record Alike (c v : Coord) : Type 0 where
   pub doings : (w : Uid) (q : Doing) → doing_of w v ≡ Some q → (p : Doing) × (doing_of w c ≡ Some p) × (p.label ≡ q.label) × SameNow p.now q.now
   pub lists : (r : Uid) → ends_of r v.tree ≡ ends_of r c.tree
   pub telling : v.telling ≡ c.telling
+  pub ties : SameTies c.tree v.tree c.roots v.roots
 
 pub same_now : (n : Now) → SameNow n n
 same_now n = record { test = refl; machine = λ x is. is }
 
 pub alike_same : (c : Coord) → Alike c c
-alike_same c = record { branches = λ w b at. (b, at, refl, refl); doings = λ w q at. (q, at, refl, same_now q.now); lists = λ r. refl; telling = refl }
+alike_same c = record { branches = λ w b at. (b, at, refl, refl); doings = λ w q at. (q, at, refl, same_now q.now); lists = λ r. refl; telling = refl; ties = ties_same c.tree c.roots }
 
 pub alike_then : (c d v : Coord) → Alike c d → Alike d v → Alike c v
 alike_then c d v a b = record {
@@ -40,11 +44,18 @@ alike_then c d v a b = record {
   doings = λ w q at. let x = b.doings w q at in let y = a.doings w x.0 x.1 in let m = y.3 in let n = x.3 in (y.0, y.1, y.2 ∙ x.2, record { test = m.test ∙ n.test; machine = λ z is. m.machine z (n.machine z is) });
   lists = λ r. b.lists r ∙ a.lists r;
   telling = b.telling ∙ a.telling;
+  ties = ties_then c.tree d.tree v.tree c.roots d.roots v.roots a.ties b.ties;
 }
 
 -- a root changes
-pub alike_root : (r : Uid) (f : Root → Root) (c : Coord) → Alike c (on_root r f c)
-alike_root r f c = record { branches = λ w b at. (b, at, refl, refl); doings = λ w q at. (q, at, refl, same_now q.now); lists = λ q. refl; telling = refl }
+pub alike_root : (r : Uid) (f : Root → Root) (c : Coord) → KeepsUses f → Alike c (on_root r f c)
+alike_root r f c keeps = record { branches = λ w b at. (b, at, refl, refl); doings = λ w q at. (q, at, refl, same_now q.now); lists = λ q. refl; telling = refl; ties = record { back = λ w z at. (z, at, refl); forth = λ w a at. (a, at, refl); own = λ w. refl; said = λ q. one q; joined = λ q. two q } }
+  where
+    one : (q : Uid) → (root_at q (on_root r f c)).said ≡ (root_at q c).said
+    one q = ⊎_elim (λ same. ap (λ (x : Root). x.said) same.1 ∙ keeps.said (root_at q c)) (λ same. ap (λ (x : Root). x.said) same) (root_cases r f c q)
+
+    two : (q : Uid) → (root_at q (on_root r f c)).joined ≡ (root_at q c).joined
+    two q = ⊎_elim (λ same. ap (λ (x : Root). x.joined) same.1 ∙ keeps.joined (root_at q c)) (λ same. ap (λ (x : Root). x.joined) same) (root_cases r f c q)
 
 -- an action at work changes
 pub alike_on : (u : Uid) (f : Doing → Doing) (c : Coord) → ((d : Doing) → doing_of u c ≡ Some d → ((f d).label ≡ d.label) × SameNow d.now (f d).now) → Alike c (on_doing u f c)
@@ -57,6 +68,7 @@ alike_on u f c so = by (doing_of u c) refl
       doings = λ w q at. ⊎_elim (λ same. its w q same at) (λ other. (q, sym (doing_other u w (f old) old c found other) ∙ at, refl, same_now q.now)) (uid_cases w u);
       lists = λ r. refl;
       telling = refl;
+      ties = ties_same c.tree c.roots;
     }
       where
         its : (w : Uid) (q : Doing) → w ≡ u → doing_of w (set_doing u (f old) c) ≡ Some q → (p : Doing) × (doing_of w c ≡ Some p) × (p.label ≡ q.label) × SameNow p.now q.now
@@ -72,6 +84,7 @@ alike_tree c t same = record {
   doings = λ w q at. (q, (λ i. cond (sym (same.own w) i) (at_place w.num c.doings) None) ∙ at, refl, same_now q.now);
   lists = same.ends;
   telling = refl;
+  ties = record { back = λ w z at. let x = same.back w z at in (x.0, x.1, x.2); forth = λ w a at. let x = same.forth w a at in (x.0, x.1, x.2); own = same.own; said = λ r. refl; joined = λ r. refl };
 }
 
 pub alike_knows : (B : Book) (c v : Coord) → Alike c v → Knows B c → Knows B v
@@ -80,6 +93,7 @@ alike_knows B c v a s = record {
   lists = λ r. subst (AreSaid B) (sym (a.lists r)) (s.lists r);
   plans = λ w q m does is. let y = a.doings w q does in let n = y.3 in s.plans w y.0 m y.1 (n.machine m is);
   telling = subst (EachRecord (λ u. is_decided B u ≡ true)) (sym a.telling) s.telling;
+  ties = ties_on B.acts B.accesses c.tree v.tree c.roots v.roots a.ties s.ties;
 }
 
 pub alike_calls : (B : Book) (c v : Coord) → Alike c v → Calls B c → Calls B v
@@ -94,3 +108,7 @@ not_committing (Committing m) free = absurd (free m refl)
 -- it is at no commit before, and at none after
 pub both_free : (m n : Now) → ((x : Machine) → m ≡ Committing x → ⊥) → ((x : Machine) → n ≡ Committing x → ⊥) → SameNow m n
 both_free m n before now = record { test = not_committing m before ∙ sym (not_committing n now); machine = λ x is. absurd (now x is) }
+
+-- an action at work goes idle, that isn't at its commit
+pub alike_idle : (u : Uid) (c : Coord) → IsFree u c → Alike c (on_doing u (λ (d : Doing). record d { now = Idle }) c)
+alike_idle u c free = alike_on u (λ (d : Doing). record d { now = Idle }) c (λ d found. (refl, both_free d.now Idle (λ m is. free d m found is) (λ m is. absurd (cc is))))

@@ -360,7 +360,7 @@ commits_called lines right = record {
 }
   where
     one : (before : List Line) → AreRight new_book before → (b : Body) → Right (book before) b → (id : ℕ) → called_of (acts before) b ≡ Some id → (has_end (ended before) id ≡ false) × (has_end (called before) id ≡ false)
-    one before its (body.Committing l) (a, o, top, off) id e = timely before its false l id (a, o, off) e
+    one before its (body.Committing l) (a, o, top, off, closed) id e = timely before its false l id (a, o, off) e
     one before its b h id e = absurd (cc e)
 
     commit : (before : List Line) → AreRight new_book before → (l : Label) (a : Act) → Right (book before) (body.Committed l) → act_in (acts before) (name l) ≡ Some a → has_end (called before) a.id ≡ is_top a.kind

@@ -36,6 +36,7 @@ use Rattle.arj_view_law.proofs.Together.{walks_both, walks_to}
 use Rattle.arj_line_law.specs.Book.{Book, book, new_book, turned}
 use Rattle.arj_line_law.specs.Knows.{IsKept, IsWritten, Knows, KnowsUp, after}
 use Rattle.arj_line_law.specs.Paths.{AreAlike, IsAlike, PathsAgree}
+use Rattle.arj_line_law.proofs.Beginning.{above_of, new_path}
 use Rattle.arj_line_law.proofs.Books.{book_more, quiet_book}
 use Rattle.arj_line_law.proofs.Models.{its_acts}
 use Rattle.arj_line_law.proofs.Runs.{act_turns, lines_keep, message_turns, rest_goes, tick_turns}
@@ -88,42 +89,6 @@ module _ (begun : List Action) (all : AreBegun begun) (B : Book) (c : Coord) (al
           ∙ its_path u b x.0 ((λ i. cond (same_number c.tree.node i && same_number c.tree.inc i) (at_place j c.tree.branches) None) ∙ f) ((λ i. cond (same_number c.tree.node i && same_number c.tree.inc i) (at_place j c.doings) None) ∙ x.1)
 
 -- ---- an action begins
-
--- the path above an action that begins
-abbrev above_of : Kind → Option Branch → List Uid
-above_of kind.Nested (Some b) = uids_of b.path
-above_of kind.Constituent (Some b) = uids_of b.path
-above_of k o = []
-
-new_path : (begun : List Action) → AreBegun begun → (k : Kind) (o : Option Branch) (u : Uid) → MayBegin begun k o → uids_of (path_below k o u) ≡ above_of k o ++ u ∷ []
-new_path begun all k o u may = by k o may
-  where
-    longer : (us : List Uid) → length (us ++ u ∷ []) ≡ length us + 1
-    longer us = length-append us (u ∷ [])
-
-    alone : uids_of (path_of (u ∷ []) 1) ≡ u ∷ []
-    alone = let m = path_is (u ∷ []) 1 (omega arith) (omega arith) (omega arith) (omega arith) (omega arith) in m.has
-
-    by : (k' : Kind) (o' : Option Branch) → MayBegin begun k' o' → uids_of (path_below k' o' u) ≡ above_of k' o' ++ u ∷ []
-    by kind.Nested None m = absurd m
-    by kind.Nested (Some b) m =
-        let us : List Uid = uids_of b.path in
-        let long = longer us in
-        let made = path_is (us ++ u ∷ []) (tops_of b.path) (omega (arith, long)) (omega (arith, long, m.2)) b.path.one_top b.path.two_tops (omega (arith, long, b.path.within, path_length b.path)) in
-        made.has
-    by kind.Constituent None m = absurd m
-    by kind.Constituent (Some b) m =
-        let up_alone = serial_alone begun all (action_of b) (in_from (action_of b) begun m.0) m.1 in
-        let us : List Uid = uids_of b.path in
-        let long : length (us ++ u ∷ []) ≡ 2 = longer us ∙ ap (λ vs. length vs + 1) up_alone.0 in
-        let made = path_is (us ++ u ∷ []) 2 (omega (arith, long)) (omega (arith, long)) (omega arith) (omega arith) (omega (arith, long)) in
-        made.has
-    by kind.Top None m = alone
-    by kind.Top (Some b) m = alone
-    by kind.Serial None m = alone
-    by kind.Serial (Some b) m = alone
-    by kind.Independent None m = alone
-    by kind.Independent (Some b) m = alone
 
 module _ (e k : ℕ) (d : Disk) (t : Parts) (M : Seen) (begun : List Action) (good : IsGoodOf begun (up k d t M)) (alike : AreAlike begun (let B = book M.lines in B.acts)) (w : IsWritten (up k d t M)) (names : HasNames t.coord)
     (l : Label) (how : Kind) (parent : Option Label) (new : label_at l M.labels ≡ None) (may_give : MayGive M.labels k how parent) (free : begin_refusal how t.coord parent ≡ None) where

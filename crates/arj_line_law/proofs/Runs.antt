@@ -5,15 +5,20 @@ use Rattle.std.specs.Ordering.{is_eq}
 use Rattle.std.specs.List.{AllByRecursion}
 use Rattle.std.proofs.lemmas.Bool.{and_parts}
 use Rattle.arj_lock.proofs.Members.{in_from, in_to, In}
-use Rattle.arj_model.specs.Actions.{Act, act_in, is_serial}
+use Rattle.arj_model.specs.Actions.{Act, act_in, is_serial, path_in, uids}
 use Rattle.arj_event_law.proofs.CoordNames.{same_acked, same_acts, same_again, same_heard}
-use Rattle.arj_protocol.specs.Words.{Body, Header, Kind, Label, Message, Row, Uid, label_cmp, last_uid, name}
+use Rattle.arj_protocol.specs.Words.{Body, Header, Kind, Label, Message, Row, Uid, label_cmp, last_uid, name, uids_of}
 use Rattle.arj_protocol.specs.Words.body
 use Rattle.arj_protocol.specs.Words.ending
 use Rattle.arj_protocol.specs.Words.kind
 use Rattle.arj_protocol.specs.Asking.{again_all, began_line, begin_action}
 use Rattle.arj_protocol.specs.Confirm.{back_lines}
 use Rattle.arj_protocol.specs.Coord.{Doing, doing_of, new_coord}
+use Rattle.arj_coord_law.proofs.RunUses.{tops_are_kept}
+use Rattle.arj_coord_law.specs.Uses.{KnowsTops}
+use Rattle.arj_run_law.proofs.Begins.{may as may_begin}
+use Rattle.arj_line_law.proofs.Beginning.{begins_in, new_path_is}
+use Rattle.arj_line_law.proofs.Ties.{ties_new, ties_turn}
 use Rattle.arj_protocol.specs.Ending.{tell_all}
 use Rattle.arj_protocol.specs.Effect.{After, Before, Disk, Do, Effect, InPart, Intent, Look, PutInc, Say, Send, Stop, stopped}
 use Rattle.arj_protocol.specs.Follow.{tick_outs}
@@ -23,7 +28,7 @@ use Rattle.arj_protocol.specs.Node.{Parts, Took, handle, holders, prepared_actio
 use Rattle.arj_protocol.specs.Order.{uid_set, without_number}
 use Rattle.arj_protocol.specs.Step.{Input, Node, acts, begin_refusal, first_disk, first_node, hello_to, naming_at, naming_back, numbers_to, parent_of, parts_in, recovered_records, refusal_up, restart_outs, tolds_again}
 use Rattle.arj_protocol.specs.Step as input
-use Rattle.arj_protocol.specs.Tree.{Branch, at_place, branch_of, is_own, next_uid}
+use Rattle.arj_protocol.specs.Tree.{Branch, at_place, branch_of, is_own, new_tree, next_uid, path_below}
 use Rattle.arj_protocol.specs.World.{Asked, Labelled, format, is_serial_kind, numbered, run_all}
 use Rattle.arj_part_law.specs.Actions.{IsCounted, paths_of}
 use Rattle.arj_run_law.specs.Worlds.{IsGood, IsMemory}
@@ -90,13 +95,13 @@ module _ (e k : ℕ) (d : Disk) (t : Parts) (M : Seen) (good : IsGood (up k d t 
   called u i there = let o = its_own k d (Some t) M w in let r = o.records u i there in (r.here, r.called)
 
   -- the walk of a step
-  walk : (v : Parts) (outs : List Effect) → Goes k (book M.lines) outs v.coord → length v.coord.tree.branches ≡ length t.coord.tree.branches → Walks IsWritten e k outs (Up IsWritten k v) d M
-  walk v outs g count =
+  walk : (v : Parts) (outs : List Effect) → Goes k (book M.lines) outs v.coord → length v.coord.tree.branches ≡ length t.coord.tree.branches → KnowsTops v.coord → Walks IsWritten e k outs (Up IsWritten k v) d M
+  walk v outs g count tops =
       let V = after (book M.lines) outs in
       let o = its_own k d (Some t) M w in
       written_walk e k v V (sane_after k (book M.lines) outs g.lined (sane_book (up k d t M) w)) d.inc
       (subst (λ xs. AllByRecursion (λ (a : Act). IsCounted k d.inc (length v.coord.tree.branches) a.uid) xs) (sym g.acts) (subst (λ n. Counts k d.inc n (book M.lines)) (sym count) o.counts))
-      g.knows g.calls outs d M (book M.lines) (base_of k d (Some t) M w (homes_of k d (Some t) M good)) (subst (λ xs. AllByRecursion (IsGiven M.labels) xs) (sym g.acts) w.labels) refl g.lined g.puts called
+      g.knows g.calls tops outs d M (book M.lines) (base_of k d (Some t) M w (homes_of k d (Some t) M good)) (subst (λ xs. AllByRecursion (IsGiven M.labels) xs) (sym g.acts) w.labels) refl g.lined g.puts called
       (λ u i there. decided_later (book M.lines) V (later_after (book M.lines) outs) u (let q = knows_up in q.found u i there)) refl
 
   queries : (X : Book) (us : List Uid) → ArePartly k X (map query_about us)
@@ -114,8 +119,13 @@ module _ (e k : ℕ) (d : Disk) (t : Parts) (M : Seen) (good : IsGood (up k d t 
       m (w.posts (record { from = from; to = k; message = m }) there))
 
   message_written : (v : Parts) (from : ℕ) (m : Message) (outs : List Effect) → seen.In (record { from = from; to = k; message = m }) M.sent → handle k d t from m ≡ Took v outs → Walks IsWritten e k outs (Up IsWritten k v) d M
-  message_written v from m outs there is = walk v outs (message_turns v from m outs there is) count
+  message_written v from m outs there is = walk v outs (message_turns v from m outs there is) count tops
     where
+      tops : KnowsTops v.coord
+      tops = let q = knows_up in subst (IsLeft KnowsTops) is (coord_kept KnowsTops k d t from q.tops
+          (λ a r. tops_are_kept.hears good.0 (paths_of good.0) (one_tree e k d t M good) from a r d.intents t.coord (good_coord e k d t M good) q.tops)
+          (λ u. tops_are_kept.acks from u d.intents t.coord q.tops) m)
+
       count : length v.coord.tree.branches ≡ length t.coord.tree.branches
       count = subst (IsLeft (λ c. length c.tree.branches ≡ length t.coord.tree.branches)) is
           (coord_kept (λ c. length c.tree.branches ≡ length t.coord.tree.branches) k d t from refl (λ a r. let s = same_heard from a r d.intents t.coord in s.count) (λ u. let s = same_acked from u d.intents t.coord in s.count) m)
@@ -130,6 +140,7 @@ module _ (e k : ℕ) (d : Disk) (t : Parts) (M : Seen) (good : IsGood (up k d t 
   act_written hd i is none =
       let did = acts i d.intents t.coord in
       walk (with_coord t did.part) did.outs (act_turns hd i is none) (let s = same_acts i d.intents t.coord (no_begin i is) in s.count)
+      (let q = knows_up in tops_are_kept.does good.0 (paths_of good.0) (one_tree e k d t M good) d.intents t.coord (good_coord e k d t M good) q.tops hd i none (no_begin i is))
 
   pub tick_turns : Goes k (book M.lines) (tick_outs (record { number = k; disk = d; live = Some t }) t) (again_all t.coord.doings t.coord).part
   tick_turns =
@@ -140,7 +151,7 @@ module _ (e k : ℕ) (d : Disk) (t : Parts) (M : Seen) (good : IsGood (up k d t 
       goes_before k (book M.lines) (r.outs ++ tolds_again t.coord.telling) (map query_about (holders d t)) r.part g (queries (after (book M.lines) (r.outs ++ tolds_again t.coord.telling)) (holders d t)) (queries_idle (holders d t))
 
   tick_written : Walks IsWritten e k (tick_outs (record { number = k; disk = d; live = Some t }) t) (Up IsWritten k (with_coord t (again_all t.coord.doings t.coord).part)) d M
-  tick_written = walk (with_coord t (again_all t.coord.doings t.coord).part) (tick_outs (record { number = k; disk = d; live = Some t }) t) tick_turns (let s = same_again t.coord.doings t.coord in s.count)
+  tick_written = walk (with_coord t (again_all t.coord.doings t.coord).part) (tick_outs (record { number = k; disk = d; live = Some t }) t) tick_turns (let s = same_again t.coord.doings t.coord in s.count) (let q = knows_up in tops_are_kept.asks t.coord.doings t.coord q.tops)
 
 -- ---- an action begins
 
@@ -173,7 +184,7 @@ below labels acts k kind.Nested None begun may = absurd may
 below labels acts k kind.Constituent None begun may = absurd may
 below labels acts k kind.Independent None begun may = absurd may
 
-module _ (e k : ℕ) (d : Disk) (t : Parts) (M : Seen) (good : IsGood (up k d t M)) (w : IsWritten (up k d t M)) (l : Label) (how : Kind) (parent : Option Label) (new : label_at l M.labels ≡ None) (may : MayGive M.labels k how parent) where
+module _ (e k : ℕ) (d : Disk) (t : Parts) (M : Seen) (good : IsGood (up k d t M)) (w : IsWritten (up k d t M)) (l : Label) (how : Kind) (parent : Option Label) (new : label_at l M.labels ≡ None) (may : MayGive M.labels k how parent) (free : begin_refusal how t.coord parent ≡ None) where
   abbrev acts_now : List Act
   acts_now = let b = book M.lines in b.acts
 
@@ -202,7 +213,20 @@ module _ (e k : ℕ) (d : Disk) (t : Parts) (M : Seen) (good : IsGood (up k d t 
   unknown = let o = its_own k d (Some t) M w in new_uid k d.inc (length t.coord.tree.branches) (next_uid t.coord.tree) (let b = book M.lines in b.acts) node inc refl o.counts
 
   right : Right (book M.lines) (began_line l how (next_uid t.coord.tree) parent)
-  right = (named, unknown, below M.labels (let b = book M.lines in b.acts) k how parent w.begun may)
+  right = (
+    named,
+    unknown,
+    below M.labels (let b = book M.lines in b.acts) k how parent w.begun may,
+    (let q = knows_up e k d t M good w in begins_in k good.0 (begun_of e k d t M good) (paths_of good.0) (one_tree e k d t M good) (book M.lines) t.coord (good_coord e k d t M good) q.knows q.calls (let n = q.tops in n.names) how parent free),
+  )
+
+  its_path : uids (path_in (let b = book M.lines in b.acts) (record { id = length (let b = book M.lines in b.acts); label = name l; kind = how; uid = next_uid t.coord.tree; parent = option_map name parent })) ≡ uids_of (path_below how (parent_of parent t.coord) (next_uid t.coord.tree))
+  its_path = let q = knows_up e k d t M good w in
+      new_path_is k good.0 (begun_of e k d t M good) (paths_of good.0) (one_tree e k d t M good) (book M.lines) t.coord (good_coord e k d t M good) q.knows q.calls (let n = q.tops in n.names) M.labels k how parent
+      (record { id = length (let b = book M.lines in b.acts); label = name l; kind = how; uid = next_uid t.coord.tree; parent = option_map name parent }) refl refl refl may free (may_begin e k d t l how parent M new may free good)
+
+  tops_begun : KnowsTops (begin_action l how parent (parent_of parent t.coord) t.coord).part
+  tops_begun = let q = knows_up e k d t M good w in tops_are_kept.begins good.0 (begun_of e k d t M good) (paths_of good.0) (one_tree e k d t M good) l how parent t.coord (good_coord e k d t M good) (may_begin e k d t l how parent M new may free good) free q.tops
 
   longer : length v.coord.tree.branches ≡ length t.coord.tree.branches + 1
   longer = length-append t.coord.tree.branches _
@@ -240,7 +264,7 @@ module _ (e k : ℕ) (d : Disk) (t : Parts) (M : Seen) (good : IsGood (up k d t 
       (record {
         is = book_more new_book M.lines (numbered e (line ∷ []));
         right = right_more new_book M.lines (numbered e (line ∷ [])) w.right (right, tt);
-        others = λ j n other is. node_apart k B V (apart_turn k B line right node) (later_turn B line) j other n (λ x live. b.homes j n x other is live) (b.others j n other is);
+        others = λ j n other is. node_apart k B V (apart_turn k B line right node) (later_turn B line) (λ x roots away ties. ties_turn k B x roots away line right node ties) j other n (λ x live. b.homes j n x other is live) (b.others j n other is);
         homes = b.homes;
         posts = λ p there. claims_later B V (later_turn B line) p.message (b.posts p there);
         labels = ((l, g, refl, given_now M.labels l g), still_given M.labels l g acts_now new w.labels);
@@ -250,8 +274,9 @@ module _ (e k : ℕ) (d : Disk) (t : Parts) (M : Seen) (good : IsGood (up k d t 
         records = λ u i there. let r = o.records u i there in record { here = r.here; called = r.called; kept = r.kept };
         counts = ((λ at. inr (inc, omega (arith, longer))), more acts_now o.counts);
         live = λ x is. let one : v ≡ x = cc is in subst (λ (y : Parts). KnowsUp V d.intents y.coord) one (record {
-          knows = begun_knows B sane t.coord l how parent (works e k d t M good w) up_now.knows up_now.calls named unknown;
-          calls = begun_calls B sane t.coord l how parent (works e k d t M good w) up_now.knows up_now.calls named unknown;
+          knows = begun_knows B sane t.coord l how parent (works e k d t M good w) up_now.knows up_now.calls named unknown its_path;
+          calls = begun_calls B sane t.coord l how parent (works e k d t M good w) up_now.knows up_now.calls named unknown its_path;
+          tops = tops_begun;
           found = λ u i there. decided_later B V (later_turn B line) u (up_now.found u i there);
         });
       })
@@ -295,8 +320,8 @@ recovered_acts k B [] = refl
 recovered_acts k B (x ∷ is) = recovered_acts k (turned B (body.Recovered k x.0)) is
 
 -- a coordinator that starts knows what is decided
-new_knows : (B : Book) (k i : ℕ) (telling : List (Uid × Intent)) → EachRecord (λ u. is_decided B u ≡ true) telling → Knows B (record (new_coord k i) { telling = telling })
-new_knows B k i telling found = record { acts = λ u b q at does. absurd (none u b at); lists = λ r. tt; plans = λ u q m does is. absurd (no_doing u q does); telling = found }
+new_knows : (B : Book) (k i : ℕ) (telling : List (Uid × Intent)) → ((a : Act) → In a B.acts → is_own a.uid (new_tree k i) ≡ true → ⊥) → EachRecord (λ u. is_decided B u ≡ true) telling → Knows B (record (new_coord k i) { telling = telling })
+new_knows B k i telling off found = record { acts = λ u b q at does. absurd (none u b at); lists = λ r. tt; plans = λ u q m does is. absurd (no_doing u q does); telling = found; ties = ties_new B.acts B.accesses (new_tree k i) none off }
   where
     none : (u : Uid) (b : Branch) → branch_of u (let c = new_coord k i in c.tree) ≡ Some b → ⊥
     none u b at = by (_) u.num at
@@ -353,6 +378,23 @@ module _ (hd : Header) (e k : ℕ) (d : Disk) (M : Seen) (good : IsGood (down k 
   again_idle : (is : List (Uid × Intent)) → AreIdle (tolds_again is)
   again_idle is = all_flat IsIdle (λ (e : Uid × Intent). tell_all e.1.root true ((e.0, ending.Commit) ∷ []) e.1.nodes) is (λ e i. tells_idle e.1.root true ((e.0, ending.Commit) ∷ []) e.1.nodes)
 
+  -- nobody began in the new incarnation
+  not_yet : (a : Act) → In a (let b = book M.lines in b.acts) → is_own a.uid (new_tree k (d.inc + 1)) ≡ true → ⊥
+  not_yet a i own = let o = own_node in let c = o.counts in earlier c.0 (let b = book M.lines in b.acts) c.1 i
+    where
+      own_node : KnowsNode (book M.lines) k (record { number = k; disk = d; live = None })
+      own_node = its_own k d None M w
+
+      parts : ((let u = a.uid in u.node == k) ≡ true) × ((let u = a.uid in u.inc == d.inc + 1) ≡ true)
+      parts = and_parts (let u = a.uid in u.node == k) (let u = a.uid in u.inc == d.inc + 1) own
+
+      earlier : (count : ℕ) (xs : List Act) → AllByRecursion (λ (x : Act). IsCounted k d.inc count x.uid) xs → In a xs → ⊥
+      earlier count [] all j = j
+      earlier count (x ∷ xs) all (inl same) =
+          let inc : (let u = x.uid in u.inc) ≡ d.inc + 1 = ap (λ (y : Act). let u = y.uid in u.inc) same ∙ eqb-true (let u = a.uid in u.inc) (d.inc + 1) parts.1 in
+          ⊎_elim (λ lower. omega (arith, lower, inc)) (λ here. omega (arith, here.0, inc)) (all.0 (ap (λ (y : Act). let u = y.uid in u.node) same ∙ eqb-true (let u = a.uid in u.node) k parts.0))
+      earlier count (x ∷ xs) all (inr j) = earlier count xs all.1 j
+
   -- behind the new incarnation
   pub rest_goes : GoesBy (λ u. (i : Intent) × In (u, i) d.intents) k (book M.lines) (behind_first (behind_first (restart_outs hd k (d.inc + 1) d))) (let p = parts_in k (d.inc + 1) d in p.coord)
   rest_goes =
@@ -362,7 +404,7 @@ module _ (hd : Header) (e k : ℕ) (d : Disk) (M : Seen) (good : IsGood (down k 
       let found : List Effect = Do Look ∷ recovered_records k d.intents in
       let V = after B (recovered_records k d.intents) in
       let is_found = recovered_found k B d.intents in
-      let g : GoesBy (λ u. (i : Intent) × In (u, i) d.intents) k B found c = record { lined = (tt, recovered_lined k B d.intents (let o = own in o.records)); knows = new_knows V k (d.inc + 1) d.intents is_found; calls = new_calls V k (d.inc + 1) d.intents; puts = (tt, recovered_puts k V d.intents); acts = recovered_acts k B d.intents; late = recovered_late k d.intents B d.intents (λ x i. i) } in
+      let g : GoesBy (λ u. (i : Intent) × In (u, i) d.intents) k B found c = record { lined = (tt, recovered_lined k B d.intents (let o = own in o.records)); knows = new_knows V k (d.inc + 1) d.intents (λ a i. not_yet a (subst (λ xs. In a xs) (recovered_acts k B d.intents) i)) is_found; calls = new_calls V k (d.inc + 1) d.intents; puts = (tt, recovered_puts k V d.intents); acts = recovered_acts k B d.intents; late = recovered_late k d.intents B d.intents (λ x i. i) } in
       let g1 = goes_behind k B one found c (record { lined = (tt, tt); same = refl; puts = tt }, (record { lined = tt; same = refl; puts = tt }, back_partly B (naming_at k (d.inc + 1) d.names))) g in
       let tolds : List Effect = tolds_again d.intents in
       let k1 = g1.knows in
@@ -406,7 +448,7 @@ module _ (hd : Header) (e k : ℕ) (d : Disk) (M : Seen) (good : IsGood (down k 
           let o = own in
           let n = g.knows in
           written_walk e k (parts_in k (d.inc + 1) d) V (sane_after k B es g.lined (sane_book (down k d M) w)) (d.inc + 1)
-          (subst (λ xs. AllByRecursion (λ (a : Act). IsCounted k (d.inc + 1) 0 a.uid) xs) (sym g.acts) counted) g.knows g.calls
+          (subst (λ xs. AllByRecursion (λ (a : Act). IsCounted k (d.inc + 1) 0 a.uid) xs) (sym g.acts) counted) g.knows g.calls (tops_are_kept.new k (d.inc + 1) d.intents)
           es (record d { inc = d.inc + 1 }) M B (base_of k d None M w homes) (subst (λ xs. AllByRecursion (IsGiven M.labels) xs) (sym g.acts) w.labels) refl g.lined g.puts
           (λ u i there. let r = o.records u i there in (r.here, r.called)) n.telling refl
 
@@ -426,7 +468,7 @@ first_knows hd j m = record {
   counts = tt;
   live = λ t is.
       let same : parts_in m 1 (first_disk hd m) ≡ t = cc is in
-      subst (λ (x : Parts). KnowsUp new_book [] x.coord) same (record { knows = new_knows new_book m 1 [] (nothing_found (λ u. is_decided new_book u ≡ true)); calls = new_calls new_book m 1 []; found = nothing_found (λ u. is_decided new_book u ≡ true) });
+      subst (λ (x : Parts). KnowsUp new_book [] x.coord) same (record { knows = new_knows new_book m 1 [] (λ a i own. i) (nothing_found (λ u. is_decided new_book u ≡ true)); calls = new_calls new_book m 1 []; tops = tops_are_kept.new m 1 []; found = nothing_found (λ u. is_decided new_book u ≡ true) });
 }
 
 first_written : (hd : Header) → IsWritten (see [] (format hd))
@@ -463,7 +505,7 @@ lines_keep hd = record {
   act = λ e k d t i M is none all. let did = acts i d.intents t.coord in both e k did.outs (with_coord t did.part) d M (keep.act e k d t i M is none all.0) (act_written e k d t M all.0 all.1 hd i is none);
   begin = λ e k d t l how parent M new may none all.
       let did = begin_action l how parent (parent_of parent t.coord) t.coord in
-      both e k did.outs (with_coord t did.part) d (given l (record { node = k; serial = is_serial_kind how }) M) (keep.begin e k d t l how parent M new may none all.0) (begin_written e k d t M all.0 all.1 l how parent new may);
+      both e k did.outs (with_coord t did.part) d (given l (record { node = k; serial = is_serial_kind how }) M) (keep.begin e k d t l how parent M new may none all.0) (begin_written e k d t M all.0 all.1 l how parent new may none);
   tick = λ e k d t M all. both e k (tick_outs (record { number = k; disk = d; live = Some t }) t) (with_coord t (again_all t.coord.doings t.coord).part) d M (keep.tick e k d t M all.0) (tick_written e k d t M all.0 all.1);
   restart = λ e k d M all. both e k (restart_outs hd k (d.inc + 1) d) (parts_in k (d.inc + 1) d) d M (keep.restart e k d M all.0) (restart_written hd e k d M all.0 all.1);
   first = (keep.first, first_written hd);

@@ -9,12 +9,12 @@ use Rattle.arj_protocol.specs.Words.{Body, End, Kind, Message, Uid, name}
 use Rattle.arj_protocol.specs.Words.body
 use Rattle.arj_protocol.specs.Words.ending
 use Rattle.arj_protocol.specs.Words.role
-use Rattle.arj_protocol.specs.Coord.{Coord}
+use Rattle.arj_protocol.specs.Coord.{Coord, Root}
 use Rattle.arj_protocol.specs.Effect.{Abort, After, Before, Commit, Disk, Do, Effect, InPart, Look, Prepare, PutInc, PutIntent, RemoveIntent, Say, Send, Stop, Work, in_part, stopped, worked}
 use Rattle.arj_protocol.specs.Node.{Parts}
 use Rattle.arj_protocol.specs.Order.{put_uid, without_uid}
 use Rattle.arj_protocol.specs.Step.{Node}
-use Rattle.arj_protocol.specs.Tree.{is_own}
+use Rattle.arj_protocol.specs.Tree.{Tree, is_own}
 use Rattle.arj_protocol.specs.World.{numbered}
 use Rattle.arj_part_law.proofs.GoodTrees.{found_by}
 use Rattle.arj_part_law.proofs.TrueSteps.{without_in}
@@ -25,14 +25,16 @@ use Rattle.arj_view_law.specs.Seen.{AreQuiet, Post, Seen, at, posted, said, up}
 use Rattle.arj_view_law.specs.Walks.{Up, Walks, halted}
 use Rattle.arj_model.specs.Actions.{is_serial}
 use Rattle.arj_line_law.specs.Book.{Book, book, is_decided, new_book, turned}
-use Rattle.arj_line_law.specs.Knows.{AreBegun, AreLined, Calls, Claims, Counts, EachRecord, IsAbout, IsCalled, IsEnd, IsGiven, IsLined, IsWritten, Knows, KnowsNode, KnowsUp, Puts, Remembers, after}
+use Rattle.arj_line_law.specs.Knows.{Ties, AreBegun, AreLined, Calls, Claims, Counts, EachRecord, IsAbout, IsCalled, IsEnd, IsGiven, IsLined, IsWritten, Knows, KnowsNode, KnowsUp, Puts, Remembers, after}
 use Rattle.arj_line_law.specs.Right.{AreRight, MayBeFound, Right}
 use Rattle.arj_line_law.proofs.Books.{Apart, Later, Sane, apart_turn, book_more, decided_later, later_turn, never, quiet_book, quiet_lines, right_more}
 use Rattle.arj_line_law.proofs.Effects.{are_later, claims_later, later_after}
+use Rattle.arj_line_law.proofs.Ties.{ties_turn}
+use Rattle.arj_coord_law.specs.Uses.{KnowsTops}
 
 -- ---- another node
 
-module _ (k : ℕ) (B V : Book) (apart : Apart k B V) (later : Later B V) where
+module _ (k : ℕ) (B V : Book) (apart : Apart k B V) (later : Later B V) (tied : (t : Tree) (roots : List (ℕ × Root)) → (t.node ≡ k → ⊥) → Ties B.acts B.accesses t roots → Ties V.acts V.accesses t roots) where
   end_apart : (u : Uid) (h : Kind) (o : Option End) → (u.node ≡ k → ⊥) → IsEnd B u h o → IsEnd V u h o
   end_apart u h None off is = ((λ i. apart.committed u off i || (apart.aborted u off i || apart.ended u off i)) ∙ is.0, apart.found u off ∙ is.1)
   end_apart u h (Some ending.Commit) off is = (λ i. if is_serial h then apart.ended u off i else apart.committed u off i) ∙ is
@@ -48,6 +50,7 @@ module _ (k : ℕ) (B V : Book) (apart : Apart k B V) (later : Later B V) where
       lists = λ r. are_later B V later _ (s.lists r);
       plans = λ u q m does is. are_later B V later _ (s.plans u q m does is);
       telling = λ u i there. decided_later B V later u (s.telling u i there);
+      ties = tied c.tree c.roots (λ here. other (sym home ∙ here)) s.ties;
     }
 
     pub node_apart : (n : Node) → ((t : Parts) → n.live ≡ Some t → t.coord.tree.node ≡ j) → KnowsNode B j n → KnowsNode V j n
@@ -57,6 +60,7 @@ module _ (k : ℕ) (B V : Book) (apart : Apart k B V) (later : Later B V) where
       live = λ t is. let l = s.live t is in record {
         knows = coord_apart t.coord (home t is) l.knows;
         calls = λ u b q found does opened. apart.called u (off t.coord (home t is) u (found_by u t.coord.tree b found).0) ∙ l.calls u b q found does opened;
+        tops = l.tops;
         found = λ u i there. decided_later B V later u (l.found u i there);
       };
     }
@@ -187,7 +191,7 @@ module _ (e k : ℕ) where
   base_said B M l right about labels b = record {
     is = book_more new_book M.lines (numbered e (l ∷ [])) ∙ ap (λ X. turned X l) b.is;
     right = right_more new_book M.lines (numbered e (l ∷ [])) b.right (subst (λ X. Right X l) (sym b.is) right, tt);
-    others = λ j n other is. node_apart k B (turned B l) (apart_turn k B l right about) (later_turn B l) j other n (λ t up. b.homes j n t other is up) (b.others j n other is);
+    others = λ j n other is. node_apart k B (turned B l) (apart_turn k B l right about) (later_turn B l) (λ t roots away ties. ties_turn k B t roots away l right about ties) j other n (λ t up. b.homes j n t other is up) (b.others j n other is);
     homes = b.homes;
     posts = λ p there. claims_later B (turned B l) (later_turn B l) p.message (b.posts p there);
     labels = labels;
@@ -243,7 +247,7 @@ stop_written e k d live M w homes = let o = its_own k d live M w in by live o.co
 
 -- ---- the walk
 
-module _ (e k : ℕ) (v : Parts) (V : Book) (sane : Sane V) (inc : ℕ) (counted : Counts k inc (length v.coord.tree.branches) V) (knows : Knows V v.coord) (calls : Calls V v.coord) where
+module _ (e k : ℕ) (v : Parts) (V : Book) (sane : Sane V) (inc : ℕ) (counted : Counts k inc (length v.coord.tree.branches) V) (knows : Knows V v.coord) (calls : Calls V v.coord) (tops : KnowsTops v.coord) where
   -- a record of a top that is decided at the end may be found before
   kept_yet : (B : Book) → Later B V → (u : Uid) → is_decided V u ≡ true → is_on B.aborted u ≡ false
   kept_yet B later u is = by (is_on B.aborted u) refl
@@ -260,7 +264,7 @@ module _ (e k : ℕ) (v : Parts) (V : Book) (sane : Sane V) (inc : ℕ) (counted
   written_walk [] d M B b given end lined puts called fin same = all_written k V d (Some v) M (subst (λ X. Base k X M) end b) (record {
     records = λ u i there. let c = called u i there in record { here = c.0; called = subst (λ (X : Book). is_on X.called u ≡ true) end c.1; kept = sane.kept u (fin u i there) };
     counts = subst (λ j. Counts k j (length v.coord.tree.branches) V) (sym same) counted;
-    live = λ t is. let one : v ≡ t = cc is in subst (λ (x : Parts). KnowsUp V d.intents x.coord) one (record { knows = knows; calls = calls; found = fin });
+    live = λ t is. let one : v ≡ t = cc is in subst (λ (x : Parts). KnowsUp V d.intents x.coord) one (record { knows = knows; calls = calls; tops = tops; found = fin });
   })
   written_walk (Do w ∷ es) d M B b given end lined puts called fin same = (
     λ how.

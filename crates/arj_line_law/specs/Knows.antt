@@ -2,6 +2,7 @@
 use Rattle.std.specs.Prelude.{⊤, ◌≡◌, ◌⊎◌, ℕ, true, false, if◌then◌else◌, List, [], ◌∷◌, length, Option, Some, None, Contains, unwrap_or}
 use Rattle.std.specs.List.{AllByRecursion}
 use Rattle.arj_base.specs.Rows.{is_on}
+use Rattle.arj_coord_law.specs.Uses.{KnowsTops}
 use Rattle.arj_model.specs.Actions.{Act, act_in, is_serial, path, uids}
 use Rattle.arj_part_law.specs.Actions.{IsCounted}
 use Rattle.arj_part_law.specs.Ends.{brought, told_by}
@@ -51,10 +52,14 @@ EachRecord P intents = (u : Uid) (i : Intent) → Contains intents (u, i) → P 
 abbrev pub root_in : Uid → List (ℕ × Root) → Root
 root_in root roots = unwrap_or (at_number root.num roots) no_root
 
--- The root has taken note of an access under this path. That an answer to an include is none to a call isn't said.
+-- the root was answered a call on the object under this path
+abbrev pub HasSaid : ℕ → List Uid → Root → Type 0
+HasSaid x us r = (s : Said) × Contains r.said s × (s.path ≡ us) × (s.x ≡ x)
+
+-- The root has taken note of an access under this path. That an include isn't answered as a call is isn't said.
 abbrev pub HasNoted : Option ℕ → ℕ → List Uid → Root → Type 0
-HasNoted None x us r = (s : Said) × Contains r.said s × (s.path ≡ us) × (s.x ≡ x)
-HasNoted (Some n) x us r = ((j : Joined) × Contains r.joined j × (j.path ≡ us) × (j.x ≡ x) × (j.store ≡ n)) ⊎ HasNoted None x us r
+HasNoted None x us r = HasSaid x us r
+HasNoted (Some n) x us r = ((j : Joined) × Contains r.joined j × (j.path ≡ us) × (j.x ≡ x) × (j.store ≡ n)) ⊎ HasSaid x us r
 
 -- an action of this tree, with this path, accessed the object, as the book has it
 abbrev pub IsAccess : List Access → Tree → List Uid → ℕ → (Option ℕ → Type 0) → Type 0
@@ -166,10 +171,12 @@ abbrev pub Remembers : Book → ℕ → ℕ → Option Parts → Type 0
 Remembers B k inc None = (count : ℕ) × Counts k inc count B
 Remembers B k inc (Some t) = Counts k inc (length t.coord.tree.branches) B
 
--- a node that is up: its coordinator knows the book, and the records on its disk are of actions that are decided
+-- a node that is up: its coordinator knows the book, its labels and who took part in its commits, and the records on its disk are of
+-- actions that are decided
 pub record KnowsUp (B : Book) (intents : List (Uid × Intent)) (c : Coord) : Type 0 where
   pub knows : Knows B c
   pub calls : Calls B c
+  pub tops : KnowsTops c
   pub found : EachRecord (λ u. is_decided B u ≡ true) intents
 
 -- A node: each record on its disk may be found by a restart, its actions are counted, and while it is up it knows the book.
