@@ -1,30 +1,27 @@
 -- What a coordinator does keeps what it has of answered calls, includes and participants.
-use Rattle.std.proofs.Common.{◌≡◌, ◌≢◌, ◌⊎◌, ◌∙◌, ℕ, suc, ◌+◌, ◌==◌, ◌&&◌, ◌||◌, Bool, true, false, cond, not, List, [], ◌∷◌, ◌++◌, refl, sym, ap, subst, inl, inr, ⊎_elim, arith, Option, Some, None, Contains}
+use Rattle.std.proofs.Common.{◌≡◌, ◌≢◌, ◌⊎◌, ◌∙◌, ℕ, ◌+◌, Bool, true, false, cond, List, [], ◌∷◌, ◌++◌, refl, sym, ap, subst, inl, inr, ⊎_elim, arith, Option, Some, None, Contains}
 use Rattle.std.specs.Prelude.{unwrap_or, is_some}
 use Rattle.std.specs.List.{list_any}
 use Rattle.std.specs.Ordering.{is_eq, nat_cmp}
-use Rattle.std.proofs.lemmas.Bool.{or_cases, or_parts, and_parts}
-use Rattle.arj_base.proofs.Uids.{uid_cases, uid_is}
+use Rattle.arj_base.proofs.Uids.{uid_cases}
 use Rattle.arj_lock.proofs.Members.{In, in_from, in_to}
-use Rattle.arj_part_law.specs.Actions.{Action, AreBegun, MayBegin}
-use Rattle.arj_part_law.specs.Coords.{IsAsking, IsBusy, IsGoodCoord, IsVoting}
+use Rattle.arj_part_law.specs.Actions.{Action}
+use Rattle.arj_part_law.specs.Coords.{IsAsking, IsGoodCoord}
 use Rattle.arj_part_law.specs.Copies.{IsTree, Paths}
-use Rattle.arj_part_law.proofs.CoordInputs.{named_found, off, off_third}
-use Rattle.arj_part_law.proofs.GoodCoords.{IsSameTree, actor_is, doomed_same, on_tree, uses_same}
-use Rattle.arj_part_law.proofs.GoodTrees.{after as ended_tree, after_cases, all_over, at_others, at_u, ended_b, over_below, was_there}
+use Rattle.arj_part_law.proofs.GoodCoords.{IsSameTree, doomed_same, on_tree, uses_same}
+use Rattle.arj_part_law.proofs.GoodTrees.{after as ended_tree, after_cases, at_others, at_u, ended_b, over_below}
 use Rattle.arj_part_law.proofs.Settled.{doing_other, doing_put, end_tree_on}
 use Rattle.arj_protocol.proofs.Maps.{put_other, put_same}
 use Rattle.arj_protocol.specs.Ask.{Reply, actor}
-use Rattle.arj_protocol.specs.Asking.{asks_all, asks_node, call, call_steps, commits_in, doomed_by, ends_call, goes_on, granted_by, heard_call, include, is_invoke_ask, kept_at, next_req, notes_grant, renewed, root_heard, root_lost, root_moved, step_call}
+use Rattle.arj_protocol.specs.Asking.{call, call_steps, doomed_by, ends_call, goes_on, granted_by, include, is_invoke_ask, next_req, notes_grant, renewed, root_heard, root_moved, step_call}
 use Rattle.arj_protocol.specs.Call.{Answered, CallEnd, CallStep, Changed, Conflict, Ended, Included, Lost, Moved, On, Steps, answered, next_ask, next_node, start}
 use Rattle.arj_protocol.specs.Call as calls
-use Rattle.arj_protocol.specs.Commit.{Machine, Plan, has_record, participants, plan_of}
-use Rattle.arj_protocol.specs.Coord.{Calling, Committing, Coord, Doing, Grant, Idle, Joined, Now, Root, Said, Went, change_doing, doing_of, is_free, joined_with, keeping_of, later_state, no_root, on_doing, on_root, root_at, same_join, same_said, same_went, set_doing, with_grant, with_join, with_keeping, with_said, with_went}
-use Rattle.arj_protocol.specs.Effect.{Intent}
-use Rattle.arj_protocol.specs.Ending.{decide, ended, root_after}
-use Rattle.arj_protocol.specs.Order.{at_number, put_number, put_uid, unbound}
-use Rattle.arj_protocol.specs.Tree.{Branch, Tree, at_place, behind, branch_of, doomed_at, ended_at, ended_branch, ends_of, ended_so, has_end, is_aborted, is_own, root_of, uses_object}
-use Rattle.arj_protocol.specs.Words.{Ask, End, Op, Path, Uid, is_on, uids_of}
+use Rattle.arj_protocol.specs.Commit.{Machine, plan_of}
+use Rattle.arj_protocol.specs.Coord.{Calling, Committing, Coord, Doing, Grant, Idle, Joined, Now, Root, Said, Went, change_doing, doing_of, is_free, joined_with, keeping_of, later_state, no_root, on_doing, on_root, root_at, same_join, same_said, same_went, set_doing, with_join, with_keeping, with_said, with_went}
+use Rattle.arj_protocol.specs.Ending.{ended}
+use Rattle.arj_protocol.specs.Order.{at_number, put_number, unbound}
+use Rattle.arj_protocol.specs.Tree.{Branch, Tree, at_place, branch_of, doomed_at, ended_at, ended_branch, ends_of, ended_so, has_end, is_aborted, root_of, uses_object}
+use Rattle.arj_protocol.specs.Words.{End, Op, Path, Uid, is_on, uids_of}
 use Rattle.arj_protocol.specs.Words.ending
 use Rattle.arj_protocol.specs.Words.kind
 use Rattle.arj_coord_law.specs.Uses.{IsAlone, IsCut, IsUsed, KnowsUses}

@@ -1,7 +1,6 @@
 -- In every run each coordinator has the labels of its actions, and who took part in its commits.
-use Rattle.std.proofs.Common.{◌≡◌, ◌≢◌, ◌⊎◌, ◌∙◌, ◌+◌, ℕ, zero, suc, Bool, true, false, cond, List, [], ◌∷◌, ◌++◌, length, refl, sym, ap, subst, inl, inr, ⊎_elim, arith, Option, Some, None}
+use Rattle.std.proofs.Common.{◌≡◌, ◌⊎◌, ◌∙◌, ℕ, zero, suc, Bool, true, false, cond, List, [], ◌∷◌, ◌++◌, length, refl, sym, ap, inl, inr, ⊎_elim, Option, Some, None}
 use Rattle.std.specs.Prelude.{slice_get}
-use Rattle.arj_event_law.specs.Named.{HasNames}
 use Rattle.arj_event_law.proofs.CoordNames.{names_kept, same_acked, same_acts, same_again, same_heard}
 use Rattle.arj_lock.proofs.Members.{in_from}
 use Rattle.arj_part_law.proofs.GoodTrees.{get_more, grown_cases, grown_still}
@@ -10,16 +9,16 @@ use Rattle.arj_protocol.specs.Asking.{again_all, again_now, begin_action}
 use Rattle.arj_protocol.specs.Call.{next_ask, next_node}
 use Rattle.arj_protocol.specs.Commit.{Machine, plan_of}
 use Rattle.arj_protocol.specs.Commit as commit
-use Rattle.arj_protocol.specs.Coord.{Calling, Committing, Coord, Doing, Idle, Now, Went, doing_of, new_coord, no_root}
+use Rattle.arj_protocol.specs.Coord.{Calling, Committing, Coord, Doing, Idle, Now, doing_of, new_coord, no_root}
 use Rattle.arj_protocol.specs.Effect.{Intent}
 use Rattle.arj_protocol.specs.Ending.{acked, acked_by, acked_left}
 use Rattle.arj_protocol.specs.Order.{at_uid, has, without_number}
 use Rattle.arj_protocol.specs.Step.{parent_of}
 use Rattle.arj_protocol.specs.Tree.{Branch, at_place, branch_of, ended_so, ends_of, root_of, is_aborted, next_uid, path_below}
-use Rattle.arj_protocol.specs.Words.{End, Kind, Label, Path, Uid, is_on}
+use Rattle.arj_protocol.specs.Words.{End, Kind, Label, Path, Uid}
 use Rattle.arj_protocol.specs.Words.ending
-use Rattle.arj_coord_law.specs.Uses.{IsAlone, IsCut, IsUsed, KnowsTops, KnowsUses}
-use Rattle.arj_coord_law.proofs.CoordUses.{Any, Uses, some_is, uses_all, uses_of}
+use Rattle.arj_coord_law.specs.Uses.{IsUsed, KnowsTops, KnowsUses}
+use Rattle.arj_coord_law.proofs.CoordUses.{Any, Uses, uses_all, uses_of}
 use Rattle.arj_coord_law.proofs.NewNames.{names_begin, names_new}
 use Rattle.arj_coord_law.proofs.RunCoords.{IsKept}
 use Rattle.arj_coord_law.proofs.UsesCommits.{uses_acts, uses_asks, uses_heard}

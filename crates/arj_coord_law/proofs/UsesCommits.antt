@@ -1,16 +1,16 @@
 -- A commit in which something survives asks somebody, and what coordinators have of that is kept in every run.
-use Rattle.std.proofs.Common.{◌≡◌, ◌≢◌, ◌⊎◌, ◌∙◌, ◌≤◌, ℕ, zero, suc, ◌+◌, ◌==◌, ◌&&◌, ◌||◌, Bool, true, false, cond, not, List, [], ◌∷◌, ◌++◌, map, filter, length, refl, sym, ap, subst, inl, inr, ⊎_elim, arith, Option, Some, None, Contains}
+use Rattle.std.proofs.Common.{◌≡◌, ◌≢◌, ◌⊎◌, ◌∙◌, ◌≤◌, ℕ, zero, suc, ◌&&◌, ◌||◌, Bool, true, false, cond, not, List, [], ◌∷◌, ◌++◌, map, filter, length, refl, sym, ap, subst, inl, inr, ⊎_elim, arith, Option, Some, None}
 use Rattle.std.specs.Prelude.{unwrap_or, is_some}
 use Rattle.std.specs.List.{list_any, flat_map}
 use Rattle.std.specs.BTreeSet.{insert_key}
 use Rattle.std.specs.Ordering.{match_ordering, nat_cmp}
 use Rattle.std.specs.declared.cmp.Ordering.{Ordering}
 use Rattle.std.specs.declared.cmp.Ordering.TheVariants.{Less, Equal, Greater}
-use Rattle.std.proofs.lemmas.Bool.{or_cases, or_parts, and_parts}
+use Rattle.std.proofs.lemmas.Bool.{or_cases, or_parts}
 use Rattle.arj_base.specs.Path.{before_last}
 use Rattle.arj_base.specs.Rows.{front, last_uid}
-use Rattle.arj_base.proofs.Uids.{uid_cases, uid_is, uid_same}
-use Rattle.arj_lock.proofs.Members.{In, in_from, in_to}
+use Rattle.arj_base.proofs.Uids.{uid_is, uid_same}
+use Rattle.arj_lock.proofs.Members.{In, in_from}
 use Rattle.arj_lock.proofs.Paths.{on_front}
 use Rattle.arj_part_law.proofs.Begun.{path_some}
 use Rattle.arj_part_law.specs.Trees.{HasLists}
@@ -18,7 +18,7 @@ use Rattle.arj_protocol.specs.Tree.{Branch, Tree, behind, branch_of, ended_at, e
 use Rattle.arj_protocol.specs.Words.{End, Path, is_on, uid_eq, uids_of}
 use Rattle.arj_protocol.specs.Words.ending
 use Rattle.arj_protocol.specs.Words.kind
-use Rattle.arj_part_law.specs.Actions.{Action, AreBegun, MayBegin}
+use Rattle.arj_part_law.specs.Actions.{Action}
 use Rattle.arj_part_law.specs.Coords.{IsAsking, IsBusy, IsGoodCoord, IsVoting}
 use Rattle.arj_part_law.specs.Copies.{IsTree, Paths}
 use Rattle.arj_part_law.proofs.CoordInputs.{named_found, off, off_third}
@@ -40,8 +40,8 @@ use Rattle.arj_protocol.specs.Words.cause
 use Rattle.arj_protocol.specs.Words.voted
 use Rattle.arj_protocol.specs.Words.prepared
 use Rattle.arj_protocol.specs.Words.confirmed
-use Rattle.arj_coord_law.specs.Uses.{IsAlone, IsCut, IsUsed, KnowsUses}
-use Rattle.arj_coord_law.proofs.CoordUses.{Any, KeepsUses, Uses, ended_cut, ended_tree_is, moved_keeps, on_roots, some_is, uses_all, uses_call, uses_ended, uses_include, uses_of, uses_on, uses_root, uses_step_call, uses_took, went_keeps}
+use Rattle.arj_coord_law.specs.Uses.{IsCut, IsUsed}
+use Rattle.arj_coord_law.proofs.CoordUses.{Any, Uses, ended_cut, ended_tree_is, moved_keeps, on_roots, some_is, uses_call, uses_ended, uses_include, uses_on, uses_root, uses_step_call, uses_took, went_keeps}
 
 never : {P : Type 0} {b : Bool} → b ≡ true → b ≡ false → P
 never holds fails = let no_way : true ≡ false = sym holds ∙ fails in absurd (cc no_way)
@@ -209,8 +209,8 @@ module _ (paths : Paths) (tree : IsTree paths) (t : Tree) (lists : HasLists path
       let q = tree.heir v h p in
       let up = lists.parents v h b found p in
       ⊎_elim
-          (λ old. behind_below u k h up.0 (shorter paths tree t lists v h k p q.0 short) up.1 w (ap (λ us. is_on (behind u us) w) (sym q.0) ∙ old))
-          (λ same. (b, ap (λ x. branch_of x t) same ∙ found, ap (λ x. is_on (paths x) u) same ∙ on_front (paths v) u m.0, λ is. never (ap (is_on (front (paths v))) (sym same ∙ is) ∙ m.0) q.1)) m.1
+      (λ old. behind_below u k h up.0 (shorter paths tree t lists v h k p q.0 short) up.1 w (ap (λ us. is_on (behind u us) w) (sym q.0) ∙ old))
+      (λ same. (b, ap (λ x. branch_of x t) same ∙ found, ap (λ x. is_on (paths x) u) same ∙ on_front (paths v) u m.0, λ is. never (ap (is_on (front (paths v))) (sym same ∙ is) ∙ m.0) q.1)) m.1
 
 -- ---- a commit that uses nothing
 
@@ -326,7 +326,7 @@ module _ (acts : List Action) (paths : Paths) (tree : IsTree paths) (c : Coord) 
           let same : ended_b (actor p.path) ending.Commit c.tree a.branch a.found ≡ b = some_is (ended_b (actor p.path) ending.Commit c.tree a.branch a.found) b (sym (at_u (actor p.path) ending.Commit c.tree a.branch a.found) ∙ ap (branch_of (actor p.path)) (sym tree_is) ∙ at) in
           let path : b.path ≡ p.path = ap (λ (d : Branch). d.path) (sym same) ∙ a.path in
           ended_cut (actor p.path) ending.Commit c a.branch a.found (inr (opened a.branch a.found)) (actor p.path) us
-              (its none us (subst (λ q. IsUsed us (root_at (root_of q) c)) path (subst (λ rs. IsUsed us (unwrap_or (at_number (root_of b.path).num rs) no_root)) (on_roots (actor p.path) (λ (d : Doing). record d { now = Idle }) (record c { tree = ended_at (actor p.path) ending.Commit c.tree })) i)) on))
+          (its none us (subst (λ q. IsUsed us (root_at (root_of q) c)) path (subst (λ rs. IsUsed us (unwrap_or (at_number (root_of b.path).num rs) no_root)) (on_roots (actor p.path) (λ (d : Doing). record d { now = Idle }) (record c { tree = ended_at (actor p.path) ending.Commit c.tree })) i)) on))
           but
 
       its_root : Uses Any r

@@ -1,8 +1,8 @@
 -- A call or an include is answered: its line is right, and its coordinator knows the book after it.
-use Rattle.std.proofs.Common.{◌≡◌, ℕ, List, [], ◌∷◌, true, false, Option, Some, None, refl, sym, ◌∙◌, ap, subst, Contains}
+use Rattle.std.proofs.Common.{◌≡◌, ℕ, List, [], ◌∷◌, false, Option, Some, None, refl, sym, ◌∙◌, ap, subst}
 use Rattle.arj_base.specs.Rows.{is_on}
 use Rattle.arj_model.specs.Actions.{Act, act_in}
-use Rattle.arj_protocol.specs.Words.{Answer, Body, Kind, Label, ObjectState, Path, Uid, answer_text, name, uids_of}
+use Rattle.arj_protocol.specs.Words.{Answer, Body, Label, ObjectState, Path, Uid, answer_text, name, uids_of}
 use Rattle.arj_protocol.specs.Words.body
 use Rattle.arj_protocol.specs.Ask.{actor}
 use Rattle.arj_protocol.specs.Asking.{end_line, root_heard, step_call, store_of}
@@ -10,11 +10,11 @@ use Rattle.arj_protocol.specs.Call.{Answered, Ended, Goal, Include, Included, Ru
 use Rattle.arj_protocol.specs.Coord.{Coord, Doing, Idle, Root, doing_of, on_doing, on_root, with_join, with_said}
 use Rattle.arj_protocol.specs.Effect.{Effect, Say}
 use Rattle.arj_protocol.specs.Ending.{say_for, says}
-use Rattle.arj_protocol.specs.Tree.{Branch, branch_of, ends_of, root_of}
+use Rattle.arj_protocol.specs.Tree.{Branch, branch_of, root_of}
 use Rattle.arj_part_law.proofs.GoodCoords.{on_tree}
 use Rattle.arj_part_law.proofs.Truths.{IsFree}
 use Rattle.arj_line_law.specs.Book.{Access, Book, turned, with_access}
-use Rattle.arj_line_law.specs.Knows.{AreIdle, Calls, HasBranch, IsAbout, IsKnown, IsLined, Knows, Ties, decides}
+use Rattle.arj_line_law.specs.Knows.{AreIdle, Calls, HasBranch, IsKnown, IsLined, Knows, Ties, decides}
 use Rattle.arj_line_law.specs.Right.{IsOpenSo}
 use Rattle.arj_line_law.proofs.Books.{decided_later, later_turn}
 use Rattle.arj_line_law.proofs.Effects.{Goes, are_later, goes_partly}
@@ -133,4 +133,4 @@ module _ (k : ℕ) (B : Book) (s : Steps) (c : Coord) (free : IsFree (actor s.pa
       subst (λ es. Goes k B es (step_call s (Ended (Included st)) c).part) (sym (says_is (actor s.path) (end_line s.x s.goal (Included st)) c q w.does))
       (goes_reply k B (actor s.path) (root_of s.path) c (root_heard s (Included st)) free knows calls (access (Some n)) (body.Includes q.label s.x n) (includes_reply n)
       (subst (λ (p : Path). Ties B.acts (access (Some n) ∷ B.accesses) (let d = m in d.tree) (let v = on_root (root_of p) (with_join (record { path = uids_of p; x = s.x; store = n; loaded = st })) m in v.roots)) path
-          (ties_joined B.acts B.accesses m (let z = now in z.ties) places_now (let i = known in i.act) w.branch found_now s.x n st)))
+      (ties_joined B.acts B.accesses m (let z = now in z.ties) places_now (let i = known in i.act) w.branch found_now s.x n st)))

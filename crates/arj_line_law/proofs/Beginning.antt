@@ -1,11 +1,11 @@
 -- An action begins: its path, and what it begins in.
-use Rattle.std.proofs.Common.{◌≡◌, ◌≤◌, ◌&&◌, ◌||◌, ◌==◌, arith, ℕ, zero, suc, ◌+◌, List, [], ◌∷◌, ◌++◌, length, map, Bool, true, false, cond, slice_get, Option, Some, None, refl, sym, ◌∙◌, ap, subst, length-append, eqb-true}
-use Rattle.std.specs.Prelude.{is_some, option_map}
-use Rattle.std.proofs.lemmas.Bool.{and_parts, or_parts}
+use Rattle.std.proofs.Common.{◌≡◌, ◌&&◌, ◌==◌, arith, ℕ, zero, suc, ◌+◌, List, [], ◌∷◌, ◌++◌, length, map, Bool, true, false, cond, slice_get, Option, Some, None, refl, sym, ◌∙◌, ap, subst, length-append, eqb-true}
+use Rattle.std.specs.Prelude.{option_map}
+use Rattle.std.proofs.lemmas.Bool.{and_parts}
 use Rattle.std.proofs.lemmas.List.{map-append}
 use Rattle.arj_base.specs.Rows.{is_on}
 use Rattle.arj_event_law.specs.Named.{HasNames}
-use Rattle.arj_lock.proofs.Members.{In, in_from, in_to}
+use Rattle.arj_lock.proofs.Members.{in_from, in_to}
 use Rattle.arj_model.specs.Actions.{Act, act_in, path, path_in, uids, upwards}
 use Rattle.arj_msg.proofs.PathLaws.{path_is}
 use Rattle.arj_part_law.specs.Actions.{Action, AreBegun, MayBegin, action_of}
@@ -14,18 +14,18 @@ use Rattle.arj_part_law.specs.Copies.{IsTree, Paths}
 use Rattle.arj_part_law.proofs.Begun.{path_length, serial_alone}
 use Rattle.arj_part_law.proofs.CoordInputs.{behind, off}
 use Rattle.arj_part_law.proofs.GoodTrees.{found_by}
-use Rattle.arj_protocol.specs.Words.{End, Kind, Label, Uid, name, path_of, tops_of, uids_of}
+use Rattle.arj_protocol.specs.Words.{Kind, Label, Uid, name, path_of, tops_of, uids_of}
 use Rattle.arj_protocol.specs.Words.kind
 use Rattle.arj_protocol.specs.Ask.{actor}
 use Rattle.arj_protocol.specs.Coord.{Coord, Doing, doing_of, number_of}
-use Rattle.arj_protocol.specs.Step.{begin_reasons, begin_refusal, branch_named, branch_numbered, is_committing_now, parent_of, refused_by, waits_above}
-use Rattle.arj_protocol.specs.Tree.{Branch, at_place, branch_of, is_own, next_uid, path_below}
+use Rattle.arj_protocol.specs.Step.{begin_reasons, begin_refusal, branch_named, branch_numbered, parent_of, refused_by}
+use Rattle.arj_protocol.specs.Tree.{Branch, at_place, branch_of, next_uid, path_below}
 use Rattle.arj_run_law.proofs.Walked.{same_number}
-use Rattle.arj_view_law.specs.Keeps.{MayGive, label_at}
+use Rattle.arj_view_law.specs.Keeps.{MayGive}
 use Rattle.arj_protocol.specs.World.{Labelled}
 use Rattle.arj_line_law.specs.Book.{Book, is_over}
 use Rattle.arj_line_law.specs.Knows.{Calls, IsKnown, Knows}
-use Rattle.arj_line_law.specs.Right.{BeginsIn, IsOpen}
+use Rattle.arj_line_law.specs.Right.{BeginsIn}
 use Rattle.arj_line_law.proofs.Coords.{waits_free}
 use Rattle.arj_line_law.proofs.Likes.{not_committing}
 use Rattle.arj_line_law.proofs.Models.{named_in}

@@ -13,7 +13,7 @@ use Rattle.arj_protocol.specs.Words.ending
 use Rattle.arj_protocol.specs.Words.kind
 use Rattle.arj_protocol.specs.Ask.{Reply, actor}
 use Rattle.arj_protocol.specs.Asking.{asks_all, asks_node, asks_step, call, call_steps, commit_action, commit_open, commit_top, commits_in, doomed_by, end_line, gaveup_lines, give_up, give_up_doing, gives_up, goes_on, heard, heard_by, heard_call, heard_doing, heard_none, heard_now, include, is_invoke_ask, kept_at, last_req, mark_lines, moved_commit, next_req, renewed, root_heard, root_lost, root_moved, step_call, step_commit, waits_for_call, waits_for_commit}
-use Rattle.arj_protocol.specs.Call.{Answered, At, AtActivate, AtBind, AtInvoke, AtLoad, AtNote, CallEnd, CallStep, Changed, Conflict, Ended, Goal, Include, Included, Lost, On, Run, Steps, answered, ask_at, given_up, next_ask, next_node, start}
+use Rattle.arj_protocol.specs.Call.{Answered, At, AtActivate, AtBind, AtInvoke, AtLoad, AtNote, CallEnd, CallStep, Changed, Conflict, Ended, Goal, Include, Included, Lost, On, Steps, answered, ask_at, given_up, next_ask, next_node, start}
 use Rattle.arj_protocol.specs.Commit.{Aborts, Asks, CommitStep, Confirming, Decides, Machine, Plan, Preparing, Stays, Voting, ask_of, has_record, left_of, nodes_given_up, participants, plan_of, servers_of}
 use Rattle.arj_protocol.specs.Commit as commit
 use Rattle.arj_protocol.specs.Coord.{Calling, Committing, Coord, Doing, Idle, Now, change_doing, doing_of, is_free, keeping_of, on_doing, on_root, plan_for, root_at, set_doing, with_keeping, with_went, Root, Went}
@@ -36,7 +36,7 @@ use Rattle.arj_part_law.proofs.TrueSteps.{work_there}
 use Rattle.arj_part_law.proofs.Truths.{IsFree, put_in}
 use Rattle.arj_model.specs.Actions.{is_serial}
 use Rattle.arj_line_law.specs.Book.{Book, is_decided, is_over, is_top, turned}
-use Rattle.arj_line_law.specs.Knows.{AreSaid, Calls, Ties, EachRecord, IsEnd, IsKnown, IsLined, Knows, after, decides, HasBranch, AreIdle, IsIdle}
+use Rattle.arj_line_law.specs.Knows.{AreSaid, Calls, Ties, EachRecord, IsEnd, IsKnown, IsLined, Knows, after, HasBranch, AreIdle, IsIdle}
 use Rattle.arj_line_law.specs.Right.{IsClosed, IsSaid, IsOpenSo}
 use Rattle.arj_line_law.proofs.Answering.{goes_answered, goes_included, goes_line, says_is}
 use Rattle.arj_line_law.proofs.Books.{over_by_abort, over_by_commit, over_by_end, committed_decided, decided_later, later_turn, named_is, never, on_here, on_other}

@@ -17,3 +17,6 @@ pub mod Tops
 pub mod Turns
 pub mod Paths
 pub mod Agreeing
+pub mod Closed
+pub mod Idles
+pub mod Nothing

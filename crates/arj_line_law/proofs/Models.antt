@@ -321,7 +321,7 @@ ended_once lines right before line behind is id ends = by line.body (right_befor
 -- ---- calls and exclusions
 
 -- an open action has no end, and its commit was called, or wasn't
-timely : (before : List Line) → AreRight new_book before → (c : Bool) (l : Label) (id : ℕ) → IsOpenSo c (book before) l → id_in (acts before) (name l) ≡ Some id → (has_end (ended before) id ≡ false) × (has_end (called before) id ≡ c)
+pub timely : (before : List Line) → AreRight new_book before → (c : Bool) (l : Label) (id : ℕ) → IsOpenSo c (book before) l → id_in (acts before) (name l) ≡ Some id → (has_end (ended before) id ≡ false) × (has_end (called before) id ≡ c)
 timely before its c l id (a, o, on) number =
     let named : act_in (acts before) (name l) ≡ Some a = ap (λ xs. act_in xs (name l)) (sym (its_acts before its)) ∙ o.named in
     let same : a.id ≡ id = (let e : ◌≡◌ {A = Option ℕ} (Some a.id) (Some id) = sym (ap (option_map (λ (x : Act). x.id)) named) ∙ number in cc) in

@@ -1,17 +1,16 @@
 -- The paths of a coordinator's actions are those of the journal, in every run.
-use Rattle.std.proofs.Common.{◌≡◌, ◌≤◌, ◌&&◌, arith, ℕ, zero, suc, ◌+◌, List, [], ◌∷◌, ◌++◌, length, map, Bool, true, false, cond, slice_get, Option, Some, None, refl, sym, ◌∙◌, ap, subst, inl, inr, length-append}
+use Rattle.std.proofs.Common.{◌≡◌, ◌≤◌, ◌&&◌, arith, ℕ, zero, suc, ◌+◌, List, [], ◌∷◌, ◌++◌, length, map, Bool, true, false, cond, slice_get, Option, Some, None, refl, sym, ◌∙◌, ap, subst, inl, inr}
 use Rattle.std.specs.Prelude.{option_map}
 use Rattle.std.specs.Str.{bytes_eq}
 use Rattle.std.proofs.lemmas.List.{map-append}
 use Rattle.arj_coord_law.proofs.RunCoords.{IsSo, keeps_names, names_are_kept}
 use Rattle.arj_event_law.specs.Named.{HasNames}
-use Rattle.arj_lock.proofs.Members.{In, in_from, in_to}
+use Rattle.arj_lock.proofs.Members.{In, in_to}
 use Rattle.arj_model.specs.Actions.{Act, act_in, acts, path, path_in, uids, upwards}
-use Rattle.arj_msg.proofs.PathLaws.{path_is}
-use Rattle.arj_part_law.specs.Actions.{Action, AreBegun, MayBegin, act_of, action_of, paths_of}
+use Rattle.arj_part_law.specs.Actions.{Action, AreBegun, act_of, action_of, paths_of}
 use Rattle.arj_part_law.specs.Coords.{IsGoodCoord}
-use Rattle.arj_part_law.proofs.Begun.{path_found, path_length, serial_alone, begun_tree}
-use Rattle.arj_protocol.specs.Words.{Body, Header, Kind, Label, Uid, name, path_of, tops_of, uids_of}
+use Rattle.arj_part_law.proofs.Begun.{path_found, begun_tree}
+use Rattle.arj_protocol.specs.Words.{Body, Header, Kind, Label, Uid, name, uids_of}
 use Rattle.arj_protocol.specs.Words.body
 use Rattle.arj_protocol.specs.Words.kind
 use Rattle.arj_protocol.specs.Asking.{again_all, began_line}

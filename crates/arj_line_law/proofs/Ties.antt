@@ -1,20 +1,20 @@
 -- What a coordinator's tree and roots have of the actions and accesses of a book, from line to line.
-use Rattle.std.proofs.Common.{◌≡◌, ◌⊎◌, ◌+◌, ◌==◌, ◌&&◌, ◌||◌, ℕ, List, [], ◌∷◌, ◌++◌, Bool, true, false, cond, length, map, Option, Some, None, refl, sym, ◌∙◌, ap, subst, inl, inr, ⊎_elim, Contains, eqb-true}
+use Rattle.std.proofs.Common.{◌≡◌, ◌⊎◌, ◌==◌, ◌&&◌, ℕ, List, [], ◌∷◌, ◌++◌, Bool, true, false, cond, length, Option, Some, None, refl, sym, ◌∙◌, ap, subst, inl, inr, ⊎_elim, Contains, eqb-true}
 use Rattle.std.specs.Prelude.{unwrap_or}
-use Rattle.std.specs.List.{cons_option, list_any}
+use Rattle.std.specs.List.{list_any}
 use Rattle.std.specs.Option.{option_map}
 use Rattle.std.specs.Str.{bytes_eq}
 use Rattle.std.proofs.lemmas.Bool.{and_parts, or_cases}
 use Rattle.std.proofs.lemmas.List.{map-append}
 use Rattle.std.proofs.lemmas.Slice.Eq.{bytes_eq-Decides}
-use Rattle.arj_base.proofs.Uids.{uid_is, uid_same}
+use Rattle.arj_base.proofs.Uids.{uid_is}
 use Rattle.arj_base.specs.Rows.{is_on, last_uid}
 use Rattle.arj_base.specs.Uid.{uid_eq}
 use Rattle.arj_coord_law.proofs.CoordUses.{root_cases, some_is}
 use Rattle.arj_lock.proofs.Members.{In, in_from, in_to}
 use Rattle.arj_model.specs.Actions.{Act, act_in, path, path_in, uids, upwards}
 use Rattle.arj_part_law.proofs.Begun.{on_more}
-use Rattle.arj_part_law.proofs.GoodTrees.{found_by, grown, grown_cases, grown_still, new as new_branch, new_there, not_yet}
+use Rattle.arj_part_law.proofs.GoodTrees.{found_by, grown, grown_cases, grown_still, new as new_branch, new_there}
 use Rattle.arj_protocol.specs.Ask.{actor}
 use Rattle.arj_protocol.proofs.Maps.{put_same}
 use Rattle.arj_protocol.specs.Coord.{Coord, Joined, Root, Said, joined_with, later_state, no_root, on_root, same_join, same_said, with_join, with_said}
@@ -299,6 +299,7 @@ join_there j (x ∷ xs) = by (same_join j x) refl (join_there j xs)
         (record x { loaded = later_state x.loaded j.loaded }, inl refl, sym (eqb-true j.x x.x r.0), sym (eqb-true j.store x.store r.1), inr (x, inl refl, refl, uid_is (last_uid j.path) (last_uid x.path) q.0))
     by false is (o, i, at, store, inl same) = (o, inr i, at, store, inl same)
     by false is (o, i, at, store, inr (y, k, p, l)) = (o, inr i, at, store, inr (y, inr k, p, l))
+
 module _ (acts : List Act) (accesses : List Access) (c : Coord) (ties : Ties acts accesses c.tree c.roots) (places : (w : Uid) (z : Branch) → branch_of w c.tree ≡ Some z → actor z.path ≡ w) (a : Act) (b : Branch) (found : branch_of a.uid c.tree ≡ Some b) (x : ℕ) where
   -- an access by the same action has its path
   same_path : (us vs : List Uid) (y : ℕ) (P : Option ℕ → Type 0) → us ≡ uids_of b.path → last_uid us ≡ last_uid vs → IsAccess accesses c.tree vs y P → vs ≡ uids_of b.path

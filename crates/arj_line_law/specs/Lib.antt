@@ -1,4 +1,5 @@
 pub mod Book
+pub mod Idle
 pub mod Knows
 pub mod Laws
 pub mod Right

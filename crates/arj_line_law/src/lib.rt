@@ -9,8 +9,10 @@
 //! `paths_are_those_of_journals` (`specs/Paths.antt`), for which it takes the labels of coordinators from `arj_coord_law`.
 #![tactic(auto)]
 
+mod below;
 mod lines;
 
+pub use below::{commits_close_what_is_below, idle_tops_have_nothing};
 pub use lines::{
     journals_are_right, journals_are_sound, nodes_agree_with_journals, paths_are_those_of_journals,
 };

@@ -1,0 +1,32 @@
+// Tops, by a journal and by their coordinators.
+ghost use Rattle.std.specs.Prelude.{◌≡◌, ◌++◌, ℕ, List, Contains};
+ghost use Rattle.arj_base.specs.declared.uid.Uid.{Uid};
+ghost use Rattle.arj_journal.specs.declared.body.Line.{Line};
+ghost use Rattle.arj_journal.specs.declared.header.Header.{Header};
+ghost use Rattle.arj_model.specs.Actions.{Act, acts};
+ghost use Rattle.arj_protocol.specs.Effect.{Disk};
+ghost use Rattle.arj_protocol.specs.Node.{Parts};
+ghost use Rattle.arj_protocol.specs.World.{Asked, journal};
+ghost use Rattle.arj_line_law.specs.Book.{book, new_book};
+ghost use Rattle.arj_line_law.specs.Idle.{BeginningsAreTimely, BelowCommitsIsOver, HasNothing, IsIdle, IsLeftAlone};
+ghost use Rattle.arj_line_law.specs.Knows.{IsKept};
+ghost use Rattle.arj_line_law.specs.Laws.{IsDone};
+ghost use Rattle.arj_line_law.specs.Right.{AreRight};
+ghost use Rattle.arj_view_law.specs.Seen.{Seen, up};
+
+/// A top that its coordinator has as committed while nobody took part in it is idle by the journal, at every moment of a run; it
+/// stays so as the journal goes on; and of an idle top no call survives, and no include. It does nothing when it runs.
+pub fn idle_tops_have_nothing()
+    ensures alone { (k : ℕ) (d : Disk) (t : Parts) (M : Seen) → IsKept (up k d t M) → (u : Uid) → IsLeftAlone t.coord u → IsIdle (book M.lines) u }
+    ensures stays { (before more : List Line) (u : Uid) → AreRight new_book (before ++ more) → IsIdle (book before) u → IsIdle (book (before ++ more)) u }
+    ensures nothing { (lines : List Line) → AreRight new_book lines → (a : Act) → Contains (acts lines) a → IsDone lines a → IsIdle (book lines) a.uid → HasNothing lines a }
+{}
+
+/// A journal whose lines are right, as that of each run, begins an action only in one that has no end and whose commit isn't called;
+/// and where the commit of a top was called each action below it has an end, so that nothing begins, calls or ends there any more.
+/// It does nothing when it runs.
+pub fn commits_close_what_is_below()
+    ensures beginnings { (lines : List Line) → AreRight new_book lines → BeginningsAreTimely lines }
+    ensures below { (lines : List Line) → AreRight new_book lines → BelowCommitsIsOver lines }
+    ensures runs { (hd : Header) (es : List Asked) → BeginningsAreTimely (journal hd es) × BelowCommitsIsOver (journal hd es) }
+{}
