@@ -1,12 +1,15 @@
 //! The journal and what nodes know of it: which lines stand in what order, in every run of the whole protocol.
 //!
-//! A journal is read line by line by a book of the actions that it names and of their ends (`specs/Book.antt`); `specs/Right.antt`
-//! says what is right at each line by the book of the lines before it: labels and Uids are new, an action has one end, a top's
-//! commit is called once and before it commits, a restart finds the records of tops that weren't aborted, calls are answered to
-//! open actions whose commit isn't called, and a commit is told and done after the line that decides it. `specs/Knows.antt` says
-//! what each node, record and message knows of the book; each handler keeps it, wherever a stop falls. It stands on good nodes in
-//! every run (`arj_run_law`). What it gives upward: `journals_are_right`, and in the words of `arj_model` (`specs/Laws.antt`) `journals_are_sound` and `nodes_agree_with_journals`; and
-//! `paths_are_those_of_journals` (`specs/Paths.antt`), for which it takes the labels of coordinators from `arj_coord_law`.
+//! A journal is read line by line by a book of the actions that it names, of their ends and of their accesses
+//! (`specs/Book.antt`); `specs/Right.antt` says what is right at each line by the book of the lines before it: labels and Uids are
+//! new, an action begins in one that is open, it has one end, a top's commit is called once, when all below it has ended, and
+//! before it commits, a restart finds the records of tops that weren't aborted, calls are answered to open actions whose commit
+//! isn't called, and a commit is told and done after the line that decides it. `specs/Knows.antt` says what each node, record and
+//! message knows of the book, and that a coordinator's roots have noted each access; each handler keeps it, wherever a stop falls.
+//! It stands on good nodes in every run (`arj_run_law`), and takes from `arj_coord_law` the labels of coordinators and who takes
+//! part in their commits. What it gives upward: `journals_are_right`, and in the words of `arj_model` (`specs/Laws.antt`)
+//! `journals_are_sound` and `nodes_agree_with_journals`; `paths_are_those_of_journals` (`specs/Paths.antt`); and of tops
+//! (`specs/Idle.antt`) `commits_close_what_is_below` and `idle_tops_have_nothing`.
 #![tactic(auto)]
 
 mod below;
