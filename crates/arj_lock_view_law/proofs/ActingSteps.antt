@@ -17,7 +17,7 @@ use Rattle.arj_part_law.proofs.GoodTrees.{all_over}
 use Rattle.arj_part_law.proofs.TrueSteps.{work_there}
 use Rattle.arj_part_law.specs.Copies.{Paths}
 use Rattle.arj_lock_view_law.specs.Acts.{Acts, AreOne}
-use Rattle.arj_lock_view_law.specs.Acting.{AbortionsAreSeen, CallersAreHere, DecisionsAreSeen, IsBacked, IsEndSeen, IsFirst, NestedCommitsAreSeen, OnlyActed, PlainUnitsEnd, TopsBegin, UnitsEnd}
+use Rattle.arj_lock_view_law.specs.Acting.{AbortionsAreSeen, CallersAreHere, DecisionsAreSeen, IsBacked, IsEndSeen, IsFirst, KeepsUnits, NestedCommitsAreSeen, OnlyActed, PlainUnitsEnd, TopsBegin, UnitsEnd}
 use Rattle.arj_lock_view_law.specs.Actions.{AreAlike, IsHere, IsIdle, IsLone, IsPlaced, IsSteady, SeesAction, SeesActions, invokes, stage_of}
 use Rattle.arj_lock_view_law.specs.Going.{Goes}
 use Rattle.arj_lock_view_law.proofs.OneSteps as single
@@ -73,7 +73,7 @@ low_stage x b d a seen unended = let s = seen.stage in let k = open_low b.ended 
 
 -- it needs nothing of the tree but that two actions have two paths
 module _ (act : Acts) (x : ℕ) (c : Coord) (S : State) (apart : AreOne act) (sees : SeesActions act x c S.action) (u : Uid) (b : Branch) (d : Doing) (found : branch_of u c.tree ≡ Some b) (works : doing_of u c ≡ Some d) (its : is_action (act u) ≡ true) where
-  pub abort_goes : is_some b.ended ≡ false → IsEndSeen act x c u ending.Abort S (λ T. (T.now ≡ S.now) × ((T.action (act u)).stage ≡ 4) × ((n : ℕ) → T.action (Root n) ≡ S.action (Root n)))
+  pub abort_goes : is_some b.ended ≡ false → IsEndSeen act x c u ending.Abort S (λ T. (T.now ≡ S.now) × ((T.action (act u)).stage ≡ 4) × KeepsUnits S T)
   abort_goes unended = record {
     state = next (Abort (act u)) S;
     run = step (Abort (act u)) (its, low) stay;
@@ -196,7 +196,7 @@ module _ (act : Acts) (paths : Paths) (x : ℕ) (c : Coord) (S : State) (steady 
 
     -- ---- the commit of a nested action
 
-    nested_goes : (p : ℕ) → is_some b.ended ≡ false → d.now ≡ Idle → IsLone paths u c → is_top (act u) ≡ false → b.doomed ≡ false → has_open_child u c.tree ≡ false → CallersAreHere act c.tree S → S.now ≤ p → IsEndSeen act x c u ending.Commit S (λ T. (T.now ≡ p + 1) × ((T.action (act u)).stage ≡ 3))
+    nested_goes : (p : ℕ) → is_some b.ended ≡ false → d.now ≡ Idle → IsLone paths u c → is_top (act u) ≡ false → b.doomed ≡ false → has_open_child u c.tree ≡ false → CallersAreHere act c.tree S → S.now ≤ p → IsEndSeen act x c u ending.Commit S (λ T. (T.now ≡ p + 1) × ((T.action (act u)).stage ≡ 3) × KeepsUnits S T)
     nested_goes p unended idle lone nested undoomed childless callers now = record {
       state = next (CommitNested (act u) p) S;
       run = step (CommitNested (act u) p) (its, nested, opened unended idle lone, its_own.doomed undoomed, whole unended childless idle callers, now) stay;
@@ -204,7 +204,7 @@ module _ (act : Acts) (paths : Paths) (x : ℕ) (c : Coord) (S : State) (steady 
         set_one (ended u ending.Commit c) (record b { ended = Some ending.Commit }) (record d { now = Idle }) done (end_changed act paths x c f steady sees u b d found works ending.Commit) refl (λ un. absurd (cc un))
             (record { stage = refl; request = its_own.request; waits = λ h. waits_not unended (ap (invokes x) idle); last = λ h. absurd (cc h); doomed = its_own.doomed }),
         only_acted S (act u) done (p + 1) (let z = idle_stage unended idle in omega (arith, z)),
-        (refl, ap (λ (v : Action). v.stage) (act_here f (act u) done)),
+        (refl, ap (λ (v : Action). v.stage) (act_here f (act u) done), λ n. act_other f (act u) done (Root n) (unit_other n (act u) its)),
       );
     }
       where
@@ -258,7 +258,7 @@ module _ (act : Acts) (paths : Paths) (x : ℕ) (c : Coord) (S : State) (steady 
 
     -- ---- its decision
 
-    decide_goes : (p : ℕ) (m : Machine) → is_top (act u) ≡ true → is_some b.ended ≡ false → d.now ≡ Committing m → IsBacked (act u) S → S.now ≤ p → IsEndSeen act x c u ending.Commit S (λ T. (T.now ≡ p + 1) × ((T.action (act u)).stage ≡ 3))
+    decide_goes : (p : ℕ) (m : Machine) → is_top (act u) ≡ true → is_some b.ended ≡ false → d.now ≡ Committing m → IsBacked (act u) S → S.now ≤ p → IsEndSeen act x c u ending.Commit S (λ T. (T.now ≡ p + 1) × ((T.action (act u)).stage ≡ 3) × KeepsUnits S T)
     decide_goes p m top unended at_commit backed now = record {
       state = T;
       run = step (Decide (act u)) (top, one_now, backed.calls, backed.includes) (step (Report (act u) p) (top, ap (λ (v : Action). v.stage) (act_here f (act u) mid), now) stay);
@@ -273,7 +273,7 @@ module _ (act : Acts) (paths : Paths) (x : ℕ) (c : Coord) (S : State) (steady 
           others = λ q far. away q (⊎_elim (λ one. absurd (far (ap root (same_is q (act u) one)))) (λ none. none) (by_cases (same q (act u))));
           ended = λ q gone. away q (⊎_elim (λ one. absurd (let e : (f q).stage ≡ (f (act u)).stage = ap (λ (r : Act). (f r).stage) (same_is q (act u) one) in let k = one_now in omega (arith, gone, e, k))) (λ none. none) (by_cases (same q (act u))));
         },
-        (refl, ap (λ (v : Action). v.stage) its_after),
+        (refl, ap (λ (v : Action). v.stage) its_after, λ n. away (Root n) (unit_other n (act u) its)),
       );
     }
       where
@@ -325,8 +325,7 @@ nested_commits_are_seen act paths x p c u b d S free is undoomed childless calle
     nested_goes act paths x c S free.steady sees u b d free.there free.works placed.0 p free.unended free.idle free.lone placed.1 undoomed childless callers now
 
 pub abortions_are_seen : AbortionsAreSeen
-abortions_are_seen act paths x c u b d S steady found unended works plain sees =
-    goes_to (abort_goes act x c S steady.alike.one sees u b d found works (action_kind (act u) b.kind plain (steady.placed u b found)) unended) (λ T h. (h.0, h.1, (h.2.0, h.2.1)))
+abortions_are_seen act paths x c u b d S steady found unended works plain sees = abort_goes act x c S steady.alike.one sees u b d found works (action_kind (act u) b.kind plain (steady.placed u b found)) unended
 
 pub units_end : UnitsEnd
 units_end act paths x c u b e S steady found unended is childless sees =

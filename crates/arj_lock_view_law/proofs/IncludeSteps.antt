@@ -16,7 +16,7 @@ use Rattle.arj_protocol.specs.Call as protocol
 use Rattle.arj_protocol.specs.Coord.{Calling, Coord, Doing, Grant, Idle, Joined, Root, Went, change_doing, doing_of, granted_with, is_free, joined_with, later_state, no_root, on_doing, on_root, root_at, same_join, set_doing, with_join, with_went}
 use Rattle.arj_protocol.specs.Order.{at_number}
 use Rattle.arj_protocol.specs.Step.{is_committing_now}
-use Rattle.arj_protocol.specs.Tree.{Branch, at_place, branch_of, ends_of, root_of}
+use Rattle.arj_protocol.specs.Tree.{Branch, at_place, branch_of, doomed_at, ends_of, root_of}
 use Rattle.arj_lock_law.specs.Actions.{Act, In, is_action, on, root, top}
 use Rattle.arj_lock_law.specs.Machine.{next, stay, step}
 use Rattle.arj_lock_law.specs.State as machine
@@ -40,7 +40,7 @@ use Rattle.arj_lock_view_law.proofs.WholeSteps.{stays_coord}
 
 -- ---- what is seen of includes stays
 
-module _ (act : Acts) (x : ℕ) (c e : Coord) (S T : State) (New : Uid → Type 0) (moves : Moves x c e New) (sent : (m : Message) → In m S.net → In m T.net) (includes : T.includes ≡ S.includes) (sees : SeesIncludes act x c S)
+module _ (act : Acts) (x : ℕ) (c e : Coord) (S T : State) (Ends New : Uid → Type 0) (moves : Moves x c e Ends New) (sent : (m : Message) → In m S.net → In m T.net) (includes : T.includes ≡ S.includes) (sees : SeesIncludes act x c S)
     (news : (u : Uid) (d : Doing) (s : Steps) (k : Known) → New u → doing_of u e ≡ Some d → d.now ≡ Calling s → IsLoading x s k → IsGranted act x s k (root_at (root_of s.path) e) T) where
   pub includes_stay : SeesIncludes act x e T
   includes_stay = record {
@@ -70,8 +70,8 @@ abbrev pub nobody : Uid → Type 0
 nobody w = ⊥
 
 -- the action goes on
-pub moves_on : (x : ℕ) (s : Steps) (c : Coord) (New : Uid → Type 0) → New (actor s.path) → Moves x c (let e = goes_on s c in e.part) New
-moves_on x s c New new = moves_both x c (on_doing (actor s.path) busy c) (let e = goes_on s c in e.part) New (moves_doing x c New (actor s.path) busy new) (moves_root x (on_doing (actor s.path) busy c) New (root_of s.path) (with_went note) (grows_went x note))
+pub moves_on : (x : ℕ) (s : Steps) (c : Coord) (Ends New : Uid → Type 0) → New (actor s.path) → Moves x c (let e = goes_on s c in e.part) Ends New
+moves_on x s c Ends New new = moves_both x c (on_doing (actor s.path) busy c) (let e = goes_on s c in e.part) Ends New (moves_doing x c Ends New (actor s.path) busy new) (moves_root x (on_doing (actor s.path) busy c) Ends New (root_of s.path) (with_went note) (grows_went x note))
   where
     busy : Doing → Doing
     busy d = record d { req = s.req; now = Calling s }
@@ -96,14 +96,14 @@ on_now s c d e z works found is = same (sym (ap (λ (v : Doing). v.now) one) ∙
     same h = cc h
 
 -- or the call ends, but for an include that ends well
-pub moves_over : (x : ℕ) (s : Steps) (end : CallEnd) (c : Coord) (New : Uid → Type 0) → ((st : ObjectState) → end ≢ Included st) → New (actor s.path) → Moves x c (let e = ends_call s end c in e.part) New
-moves_over x s end c New other new = by end other
+pub moves_over : (x : ℕ) (s : Steps) (end : CallEnd) (c : Coord) (Ends New : Uid → Type 0) → ((st : ObjectState) → end ≢ Included st) → New (actor s.path) → Moves x c (let e = ends_call s end c in e.part) Ends New
+moves_over x s end c Ends New other new = by end other
   where
     idle : Coord
     idle = on_doing (actor s.path) (λ (d : Doing). record d { now = Idle }) c
 
-    after : (v : CallEnd) → ((st : ObjectState) → v ≢ Included st) → Moves x c (on_root (root_of s.path) (root_heard s v) idle) New
-    after v isnt = moves_both x c idle (on_root (root_of s.path) (root_heard s v) idle) New (moves_doing x c New (actor s.path) (λ (d : Doing). record d { now = Idle }) new) (moves_root x idle New (root_of s.path) (root_heard s v) (λ r. grows v isnt r))
+    after : (v : CallEnd) → ((st : ObjectState) → v ≢ Included st) → Moves x c (on_root (root_of s.path) (root_heard s v) idle) Ends New
+    after v isnt = moves_both x c idle (on_root (root_of s.path) (root_heard s v) idle) Ends New (moves_doing x c Ends New (actor s.path) (λ (d : Doing). record d { now = Idle }) new) (moves_root x idle Ends New (root_of s.path) (root_heard s v) (λ r. grows v isnt r))
       where
         grows : (v : CallEnd) → ((st : ObjectState) → v ≢ Included st) → (r : Root) → Grows x r (root_heard s v r)
         grows (protocol.Answered a) isnt r = grows_said x (record { path = uids_of s.path; x = s.x }) r
@@ -112,13 +112,13 @@ moves_over x s end c New other new = by end other
         grows (protocol.Changed n w) isnt r = grows_same x r r refl refl
         grows (protocol.Lost n t) isnt r = grows_same x r r refl refl
 
-    by : (v : CallEnd) → ((st : ObjectState) → v ≢ Included st) → Moves x c (doomed_by (actor s.path) v (on_root (root_of s.path) (root_heard s v) idle)) New
+    by : (v : CallEnd) → ((st : ObjectState) → v ≢ Included st) → Moves x c (doomed_by (actor s.path) v (on_root (root_of s.path) (root_heard s v) idle)) Ends New
     by (protocol.Answered a) isnt = after (protocol.Answered a) isnt
     by (protocol.Included st) isnt = absurd (isnt st refl)
     by (protocol.Conflict h m n) isnt = after (protocol.Conflict h m n) isnt
     by (protocol.Changed n w) isnt = after (protocol.Changed n w) isnt
     by (protocol.Lost n false) isnt = after (protocol.Lost n false) isnt
-    by (protocol.Lost n true) isnt = let k : Coord = on_root (root_of s.path) (root_heard s (protocol.Lost n true)) idle in moves_both x c k (doomed_by (actor s.path) (protocol.Lost n true) k) New (after (protocol.Lost n true) isnt) (moves_tree x k New _ (doomed_same (actor s.path) k.tree))
+    by (protocol.Lost n true) isnt = let k : Coord = on_root (root_of s.path) (root_heard s (protocol.Lost n true)) idle in moves_both x c k (doomed_by (actor s.path) (protocol.Lost n true) k) Ends New (after (protocol.Lost n true) isnt) (moves_tree x k Ends New (doomed_at (actor s.path) k.tree) (doomed_same (actor s.path) k.tree))
 
 -- nobody calls anew where it ends
 pub over_now : (s : Steps) (end : CallEnd) (c : Coord) (d e : Doing) (z : Steps) → doing_of (actor s.path) c ≡ Some d → doing_of (actor s.path) (let k = ends_call s end c in k.part) ≡ Some e → e.now ≡ Calling z → ⊥
@@ -214,7 +214,7 @@ module _ (act : Acts) (code : Codes) (paths : Paths) (x p store : ℕ) (c : Coor
     Result mv = Goes S (λ T. SeesCoord act code x (after mv) T × SeesIncludes act x (after mv) T × OnlyIncluded S T × WritesInclude act p s o S T × HasState s o (root_at rt (after mv)))
 
     inc_first : (mv : Moved) → SeesIncludes act x (first mv) S
-    inc_first mv = includes_stay act x c (first mv) S S nobody (moves_root x c nobody rt (root_moved s r mv) (λ q. grows_moved x s r mv q)) (λ m i. i) refl inc (λ v k z w none. absurd none)
+    inc_first mv = includes_stay act x c (first mv) S S nobody nobody (moves_root x c nobody nobody rt (root_moved s r mv) (λ q. grows_moved x s r mv q)) (λ m i. i) refl inc (λ v k z w none. absurd none)
 
     -- it goes on
     goes : (kept : Option Known) (a : At) → o ≡ None → SeesCoord act code x (after (record { step = On a; kept = kept })) S → ((k : Known) → IsLoading x (record s { req = s.req + 1; at = a }) k → IsGranted act x (record s { req = s.req + 1; at = a }) k (root_at rt (first (record { step = On a; kept = kept }))) S) → Result (record { step = On a; kept = kept })
@@ -223,7 +223,7 @@ module _ (act : Acts) (code : Codes) (paths : Paths) (x p store : ℕ) (c : Coor
       run = stay;
       holds = (
         sees_E,
-        includes_stay act x (first mv) (after mv) S S (λ w. w ≡ u) on_moves (λ m i. i) refl (inc_first mv) news,
+        includes_stay act x (first mv) (after mv) S S nobody (λ w. w ≡ u) on_moves (λ m i. i) refl (inc_first mv) news,
         refl,
         subst (λ (v : Option (ℕ × ObjectState)). WritesInclude act p s v S S) (sym none) (refl, refl),
         subst (λ (v : Option (ℕ × ObjectState)). HasState s v (root_at rt (after mv))) (sym none) tt,
@@ -236,8 +236,8 @@ module _ (act : Acts) (code : Codes) (paths : Paths) (x p store : ℕ) (c : Coor
         z : Steps
         z = record s { req = s.req + 1; at = a }
 
-        on_moves : Moves x (first mv) (after mv) (λ w. w ≡ u)
-        on_moves = moves_on x z (first mv) (λ w. w ≡ u) refl
+        on_moves : Moves x (first mv) (after mv) nobody (λ w. w ≡ u)
+        on_moves = moves_on x z (first mv) nobody (λ w. w ≡ u) refl
 
         news : (w : Uid) (e : Doing) (y : Steps) (k : Known) → w ≡ u → doing_of w (after mv) ≡ Some e → e.now ≡ Calling y → IsLoading x y k → IsGranted act x y k (root_at (root_of y.path) (after mv)) S
         news w e y k is works calling load = subst (λ (v : Steps). IsGranted act x v k (root_at (root_of v.path) (after mv)) S) one (record { sent = g.sent; noted = (let n = on_moves.roots rt in n.grants (top_of s.path) (k.grant * 4294967296) g.noted) })
@@ -255,7 +255,7 @@ module _ (act : Acts) (code : Codes) (paths : Paths) (x p store : ℕ) (c : Coor
       run = stay;
       holds = (
         sees_E,
-        includes_stay act x (first mv) (after mv) S S (λ w. w ≡ u) (moves_over x s end (first mv) (λ w. w ≡ u) other refl) (λ m i. i) refl (inc_first mv) (λ w e y k is works calling load. absurd (over_now s end (first mv) d e y work.works (ap (λ (v : Uid). doing_of v (after mv)) (sym is) ∙ works) calling)),
+        includes_stay act x (first mv) (after mv) S S nobody (λ w. w ≡ u) (moves_over x s end (first mv) nobody (λ w. w ≡ u) other refl) (λ m i. i) refl (inc_first mv) (λ w e y k is works calling load. absurd (over_now s end (first mv) d e y work.works (ap (λ (v : Uid). doing_of v (after mv)) (sym is) ∙ works) calling)),
         refl,
         subst (λ (v : Option (ℕ × ObjectState)). WritesInclude act p s v S S) (sym none) (refl, refl),
         subst (λ (v : Option (ℕ × ObjectState)). HasState s v (root_at rt (after mv))) (sym none) tt,

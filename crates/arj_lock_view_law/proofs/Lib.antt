@@ -16,7 +16,9 @@ pub mod FreeSteps
 pub mod GivenSteps
 pub mod GivingSteps
 pub mod HandledSteps
+pub mod HeardSteps
 pub mod IncludeSteps
+pub mod InputSteps
 pub mod InvokedSteps
 pub mod LeftSteps
 pub mod ListedSteps

@@ -106,17 +106,17 @@ grows_decided x p q = grows_same x q (root_after p q) refl refl
 
 -- ---- a coordinator
 
--- From one coordinator to the next: what roots note grows, branches stand where they stood, and but for these actions none ends, calls
--- anew or sets out to commit.
-pub record Moves (x : ℕ) (c e : Coord) (New : Uid → Type 0) : Type 0 where
+-- From one coordinator to the next: what roots note grows, branches stand where they stood, and but for some actions none ends, and but for
+-- some none calls anew or sets out to commit.
+pub record Moves (x : ℕ) (c e : Coord) (Ends New : Uid → Type 0) : Type 0 where
   pub roots : (w : Uid) → Grows x (root_at w c) (root_at w e)
-  pub was : (w : Uid) (q : Branch) → branch_of w e.tree ≡ Some q → (r : Branch) × (branch_of w c.tree ≡ Some r) × (r.path ≡ q.path) × (is_some q.ended ≡ true → (is_some r.ended ≡ true) ⊎ New w)
+  pub was : (w : Uid) (q : Branch) → branch_of w e.tree ≡ Some q → (r : Branch) × (branch_of w c.tree ≡ Some r) × (r.path ≡ q.path) × (is_some q.ended ≡ true → (is_some r.ended ≡ true) ⊎ Ends w)
   pub still : (w : Uid) (r : Branch) → branch_of w c.tree ≡ Some r → (q : Branch) × (branch_of w e.tree ≡ Some q) × (r.path ≡ q.path)
   pub calls : (w : Uid) (d : Doing) (s : Steps) → doing_of w e ≡ Some d → d.now ≡ Calling s → ((k : Doing) × (doing_of w c ≡ Some k) × (k.now ≡ Calling s)) ⊎ New w
   pub commits : (w : Uid) (d : Doing) (m : Machine) → doing_of w e ≡ Some d → d.now ≡ Committing m → ((k : Doing) × (doing_of w c ≡ Some k) × (k.now ≡ Committing m)) ⊎ New w
 
-pub moves_both : (x : ℕ) (c e f : Coord) (New : Uid → Type 0) → Moves x c e New → Moves x e f New → Moves x c f New
-moves_both x c e f New a b = record {
+pub moves_both : (x : ℕ) (c e f : Coord) (Ends New : Uid → Type 0) → Moves x c e Ends New → Moves x e f Ends New → Moves x c f Ends New
+moves_both x c e f Ends New a b = record {
   roots = λ w. grows_both x (root_at w c) (root_at w e) (root_at w f) (a.roots w) (b.roots w);
   was = λ w q there. (let r = b.was w q there in let p = a.was w r.0 r.1 in (p.0, p.1, p.2 ∙ r.2, λ gone. ⊎_elim p.3 (λ new. inr new) (r.3 gone)));
   still = λ w r there. (let q = a.still w r there in let p = b.still w q.0 q.1 in (p.0, p.1, q.2 ∙ p.2));
@@ -124,22 +124,12 @@ moves_both x c e f New a b = record {
   commits = λ w d m works is. ⊎_elim (λ k. a.commits w k.0 m k.1 k.2) (λ new. inr new) (b.commits w d m works is);
 }
 
-pub moves_none : (x : ℕ) (c : Coord) (New : Uid → Type 0) → Moves x c c New
-moves_none x c New = record { roots = λ w. grows_same x (root_at w c) (root_at w c) refl refl; was = λ w q there. (q, there, refl, λ gone. inl gone); still = λ w r there. (r, there, refl); calls = λ w d s works is. inl (d, works, is); commits = λ w d m works is. inl (d, works, is) }
-
--- what is known of the new ones may be less
-pub moves_less : (x : ℕ) (c e : Coord) (New Other : Uid → Type 0) → ((w : Uid) → New w → Other w) → Moves x c e New → Moves x c e Other
-moves_less x c e New Other to m = record {
-  roots = m.roots;
-  was = λ w q there. (let r = m.was w q there in (r.0, r.1, r.2, λ gone. ⊎_elim (λ old. inl old) (λ new. inr (to w new)) (r.3 gone)));
-  still = m.still;
-  calls = λ w d s works is. ⊎_elim (λ k. inl k) (λ new. inr (to w new)) (m.calls w d s works is);
-  commits = λ w d j works is. ⊎_elim (λ k. inl k) (λ new. inr (to w new)) (m.commits w d j works is);
-}
+pub moves_none : (x : ℕ) (c : Coord) (Ends New : Uid → Type 0) → Moves x c c Ends New
+moves_none x c Ends New = record { roots = λ w. grows_same x (root_at w c) (root_at w c) refl refl; was = λ w q there. (q, there, refl, λ gone. inl gone); still = λ w r there. (r, there, refl); calls = λ w d s works is. inl (d, works, is); commits = λ w d m works is. inl (d, works, is) }
 
 -- a root notes something
-pub moves_root : (x : ℕ) (c : Coord) (New : Uid → Type 0) (rt : Uid) (f : Root → Root) → ((r : Root) → Grows x r (f r)) → Moves x c (on_root rt f c) New
-moves_root x c New rt f grows = record {
+pub moves_root : (x : ℕ) (c : Coord) (Ends New : Uid → Type 0) (rt : Uid) (f : Root → Root) → ((r : Root) → Grows x r (f r)) → Moves x c (on_root rt f c) Ends New
+moves_root x c Ends New rt f grows = record {
   roots = λ w. ⊎_elim
       (λ (is : w.num ≡ rt.num). subst (Grows x (root_at w c)) (sym (by_num (on_root rt f c) w is ∙ root_here rt f c ∙ ap f (sym (by_num c w is)))) (grows (root_at w c)))
       (λ (apart : w.num ≢ rt.num). subst (Grows x (root_at w c)) (sym (root_else rt f c w apart)) (grows_same x (root_at w c) (root_at w c) refl refl))
@@ -157,11 +147,11 @@ moves_root x c New rt f grows = record {
     by_num z w is = ap (λ (n : ℕ). unwrap_or (at_number n z.roots) no_root) is
 
 -- one action's work changes
-pub moves_doing : (x : ℕ) (c : Coord) (New : Uid → Type 0) (u : Uid) (g : Doing → Doing) → New u → Moves x c (on_doing u g c) New
-moves_doing x c New u g new = by (doing_of u c) refl
+pub moves_doing : (x : ℕ) (c : Coord) (Ends New : Uid → Type 0) (u : Uid) (g : Doing → Doing) → New u → Moves x c (on_doing u g c) Ends New
+moves_doing x c Ends New u g new = by (doing_of u c) refl
   where
-    by : (o : Option Doing) → doing_of u c ≡ o → Moves x c (change_doing g u c o) New
-    by None none = moves_none x c New
+    by : (o : Option Doing) → doing_of u c ≡ o → Moves x c (change_doing g u c o) Ends New
+    by None none = moves_none x c Ends New
     by (Some d) works = record {
       roots = λ w. grows_same x (root_at w c) (root_at w c) refl refl;
       was = λ w q there. (q, there, refl, λ gone. inl gone);
@@ -171,8 +161,8 @@ moves_doing x c New u g new = by (doing_of u c) refl
     }
 
 -- the tree changes in nothing that matters
-pub moves_tree : (x : ℕ) (c : Coord) (New : Uid → Type 0) (t : Tree) → IsSameTree c.tree t → Moves x c (record c { tree = t }) New
-moves_tree x c New t same = record {
+pub moves_tree : (x : ℕ) (c : Coord) (Ends New : Uid → Type 0) (t : Tree) → IsSameTree c.tree t → Moves x c (record c { tree = t }) Ends New
+moves_tree x c Ends New t same = record {
   roots = λ w. grows_same x (root_at w c) (root_at w c) refl refl;
   was = λ w q there. (let r = same.back w q there in (r.0, r.1, r.2, λ gone. inl (ap is_some r.4 ∙ gone)));
   still = λ w r there. (let q = same.forth w r there in (q.0, q.1, q.2));
@@ -184,8 +174,8 @@ moves_tree x c New t same = record {
     own w = λ i. cond (sym (same.own w) i) (at_place w.num c.doings) None
 
 -- nothing but what is told changes
-pub moves_told : (x : ℕ) (c e : Coord) (New : Uid → Type 0) → e.tree ≡ c.tree → ((w : Uid) → doing_of w e ≡ doing_of w c) → ((w : Uid) → root_at w e ≡ root_at w c) → Moves x c e New
-moves_told x c e New tree doings roots = record {
+pub moves_told : (x : ℕ) (c e : Coord) (Ends New : Uid → Type 0) → e.tree ≡ c.tree → ((w : Uid) → doing_of w e ≡ doing_of w c) → ((w : Uid) → root_at w e ≡ root_at w c) → Moves x c e Ends New
+moves_told x c e Ends New tree doings roots = record {
   roots = λ w. subst (Grows x (root_at w c)) (sym (roots w)) (grows_same x (root_at w c) (root_at w c) refl refl);
   was = λ w q there. (q, ap (branch_of w) (sym tree) ∙ there, refl, λ gone. inl gone);
   still = λ w r there. (r, ap (branch_of w) tree ∙ there, refl);
@@ -194,14 +184,14 @@ moves_told x c e New tree doings roots = record {
 }
 
 -- an action ends
-pub moves_end : (x : ℕ) (c : Coord) (New : Uid → Type 0) (u : Uid) (b : Branch) (d : Doing) (e : End) → branch_of u c.tree ≡ Some b → doing_of u c ≡ Some d → New u → ((w : Uid) → root_at w (ended u e c) ≡ root_at w c) → Moves x c (ended u e c) New
-moves_end x c New u b d e found works new roots = record {
+pub moves_end : (x : ℕ) (c : Coord) (Ends New : Uid → Type 0) (u : Uid) (b : Branch) (d : Doing) (e : End) → branch_of u c.tree ≡ Some b → doing_of u c ≡ Some d → Ends u → New u → ((w : Uid) → root_at w (ended u e c) ≡ root_at w c) → Moves x c (ended u e c) Ends New
+moves_end x c Ends New u b d e found works over new roots = record {
   roots = λ w. subst (Grows x (root_at w c)) (sym (roots w)) (grows_same x (root_at w c) (root_at w c) refl refl);
   was = λ w q there. ⊎_elim
       (λ (is : w ≡ u).
       let two : ◌≡◌ {A = Option Branch} (Some (record b { ended = Some e })) (Some q) = sym one.branch ∙ ap (λ (v : Uid). branch_of v (let k = ended u e c in k.tree)) (sym is) ∙ there in
       let same : record b { ended = Some e } ≡ q = cc two in
-      (b, ap (λ (v : Uid). branch_of v c.tree) is ∙ found, ap (λ (v : Branch). v.path) same, λ gone. inr (subst New (sym is) new)))
+      (b, ap (λ (v : Uid). branch_of v c.tree) is ∙ found, ap (λ (v : Branch). v.path) same, λ gone. inr (subst Ends (sym is) over)))
       (λ (other : w ≢ u). (q, sym (one.branches w other) ∙ there, refl, λ gone. inl gone))
       (uid_cases w u);
   still = λ w r there. ⊎_elim

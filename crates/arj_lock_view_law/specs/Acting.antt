@@ -35,6 +35,10 @@ pub record OnlyActed (unit : ℕ) (S T : State) : Type 0 where
   pub others : (a : Act) → root a ≢ unit → T.action a ≡ S.action a
   pub ended : (a : Act) → 3 ≤ (S.action a).stage → T.action a ≡ S.action a
 
+-- No unit changed.
+abbrev pub KeepsUnits : State → State → Type 0
+KeepsUnits S T = (n : ℕ) → T.action (Root n) ≡ S.action (Root n)
+
 -- the actions are seen after the action's end
 abbrev pub IsEndSeen : Acts → ℕ → Coord → Uid → End → State → (State → Type 0) → Type 0
 IsEndSeen act x c u e S P = Goes S (λ T. SeesActions act x (ended u e c) T.action × OnlyActed (root (act u)) S T × P T)
@@ -43,13 +47,13 @@ IsEndSeen act x c u e S P = Goes S (λ T. SeesActions act x (ended u e c) T.acti
 abbrev pub NestedCommitsAreSeen : Type 0
 NestedCommitsAreSeen = (act : Acts) (paths : Paths) (x p : ℕ) (c : Coord) (u : Uid) (b : Branch) (d : Doing) (S : State)
     → IsFreeToEnd act paths c u b d → b.kind ≡ kind.Nested → b.doomed ≡ false → has_open_child u c.tree ≡ false → CallersAreHere act c.tree S → S.now ≤ p → SeesActions act x c S.action
-    → IsEndSeen act x c u ending.Commit S (λ T. (T.now ≡ p + 1) × ((T.action (act u)).stage ≡ 3))
+    → IsEndSeen act x c u ending.Commit S (λ T. (T.now ≡ p + 1) × ((T.action (act u)).stage ≡ 3) × KeepsUnits S T)
 
 -- An open action that isn't serializing is aborted.
 abbrev pub AbortionsAreSeen : Type 0
 AbortionsAreSeen = (act : Acts) (paths : Paths) (x : ℕ) (c : Coord) (u : Uid) (b : Branch) (d : Doing) (S : State)
     → IsSteady act paths c → branch_of u c.tree ≡ Some b → is_some b.ended ≡ false → doing_of u c ≡ Some d → b.kind ≢ kind.Serial → SeesActions act x c S.action
-    → IsEndSeen act x c u ending.Abort S (λ T. (T.now ≡ S.now) × ((T.action (act u)).stage ≡ 4))
+    → IsEndSeen act x c u ending.Abort S (λ T. (T.now ≡ S.now) × ((T.action (act u)).stage ≡ 4) × KeepsUnits S T)
 
 -- A root ends in which nothing is open: its unit is over.
 abbrev pub UnitsEnd : Type 0
@@ -76,7 +80,7 @@ pub record IsBacked (m : Act) (S : State) : Type 0 where
 abbrev pub DecisionsAreSeen : Type 0
 DecisionsAreSeen = (act : Acts) (paths : Paths) (x p : ℕ) (c : Coord) (u : Uid) (b : Branch) (d : Doing) (m : Machine) (S : State)
     → IsSteady act paths c → branch_of u c.tree ≡ Some b → is_some b.ended ≡ false → doing_of u c ≡ Some d → d.now ≡ Committing m → b.kind ≢ kind.Serial → b.kind ≢ kind.Nested → IsBacked (act u) S → S.now ≤ p → SeesActions act x c S.action
-    → IsEndSeen act x c u ending.Commit S (λ T. (T.now ≡ p + 1) × ((T.action (act u)).stage ≡ 3))
+    → IsEndSeen act x c u ending.Commit S (λ T. (T.now ≡ p + 1) × ((T.action (act u)).stage ≡ 3) × KeepsUnits S T)
 
 -- An open unit whose root has ended alone is over: the unit of a plain top, after its end.
 abbrev pub PlainUnitsEnd : Type 0

@@ -15,6 +15,7 @@ pub mod Asks
 pub mod Begins
 pub mod Servers
 pub mod Including
+pub mod Inputs
 pub mod Plans
 pub mod Stops
 pub mod Telling

@@ -4,6 +4,7 @@ ghost use Rattle.arj_lock_view_law.specs.Asks.{AsksAreNothing, CommitsAskOnly, R
 ghost use Rattle.arj_lock_view_law.specs.Begins.{ActionsBegin, NewCoordsAreSeen};
 ghost use Rattle.arj_lock_view_law.specs.Calling.{AnswersAreTaken, CallsAreGivenUp, CallsBegin, IncludesBegin, OtherAnswersAreTaken, OtherCallsAreGivenUp, OtherCallsBegin};
 ghost use Rattle.arj_lock_view_law.specs.Including.{IncludeAnswersAreTaken};
+ghost use Rattle.arj_lock_view_law.specs.Inputs.{CommitAnswersAreHeard, CommitsAreLost, DoomedCommitsAreTaken, NestedCommitsAreTaken};
 ghost use Rattle.arj_lock_view_law.specs.Plans.{CommitAnswersAreTaken, CommitRequestsAreShown, CommitsAreGivenUp, CommitsSetOut, CommitsStaySeen};
 ghost use Rattle.arj_lock_view_law.specs.Stops.{AbortionsGoDown, RecordsAreFound, RestartedCoordsAreSeen, StopsAreSeen, StopsStay};
 ghost use Rattle.arj_lock_view_law.specs.Whole.{CommitsKeepRoots, DecisionsKeepRoots, EndsKeepRoots, UnitsKeepRoots};
@@ -92,4 +93,12 @@ pub fn commits_go_on()
 /// granted, and the root has the state that was loaded. It does nothing when it runs.
 pub fn includes_are_seen()
     ensures { IncludeAnswersAreTaken }
+{}
+
+/// A whole coordinator is seen after each input and each answer. It does nothing when it runs.
+pub fn coordinators_are_seen()
+    ensures nested { NestedCommitsAreTaken }
+    ensures doomed { DoomedCommitsAreTaken }
+    ensures answers { CommitAnswersAreHeard }
+    ensures given_up { CommitsAreLost }
 {}
