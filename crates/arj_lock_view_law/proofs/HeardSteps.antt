@@ -159,7 +159,7 @@ module _ (act : Acts) (code : Codes) (x : ℕ) (c : Coord) (S : State) (net : Li
 
 -- ---- a step of a commit
 
-module _ (act : Acts) (code : Codes) (paths : Paths) (x p : ℕ) (c : Coord) (u : Uid) (b : Branch) (d : Doing) (k : Machine) (intents : List (Uid × Intent)) (S : State) (reached : IsReached S) (steady : IsSteady act paths c) (found : branch_of u c.tree ≡ Some b) (unended : is_some b.ended ≡ false) (works : doing_of u c ≡ Some d) (at : d.now ≡ Committing k) (number : (let q = plan_of k in d.req ≡ q.req)) (now : S.now ≤ p) (whole : SeesWhole act code x c S) where
+module _ (act : Acts) (code : Codes) (paths : Paths) (x p : ℕ) (c : Coord) (u : Uid) (b : Branch) (d : Doing) (k : Machine) (intents : List (Uid × Intent)) (S : State) (reached : IsReached S) (steady : IsSteady act paths c) (found : branch_of u c.tree ≡ Some b) (unended : is_some b.ended ≡ false) (works : doing_of u c ≡ Some d) (at : d.now ≡ Committing k) (number : (let q = plan_of k in d.req ≤ q.req)) (now : S.now ≤ p) (whole : SeesWhole act code x c S) where
   abbrev unit : ℕ
   unit = root (act u)
 

@@ -33,7 +33,7 @@ use Rattle.arj_lock_view_law.specs.Going.{Goes}
 use Rattle.arj_lock_view_law.specs.Including.{HasGrant, HasState, IncludeAnswersAreTaken, IsGranted, IsJoined, IsLoading, IsNoted, OnlyIncluded, SeesIncludes, ShowsInclude, WritesInclude, included_by}
 use Rattle.arj_lock_view_law.specs.Roots.{SeesCoord, is_early}
 use Rattle.arj_lock_view_law.proofs.ElseSteps.{include_early, other_answers_are_taken}
-use Rattle.arj_lock_view_law.proofs.MoveSteps.{Grows, Moves, grows_moved, grows_said, grows_same, grows_went, moves_both, moves_doing, moves_root, moves_tree, new_grant}
+use Rattle.arj_lock_view_law.proofs.MoveSteps.{Grows, Moves, grows_join, grows_moved, grows_said, grows_same, grows_went, moves_both, moves_doing, moves_root, moves_tree, new_grant}
 use Rattle.arj_lock_view_law.proofs.RootSteps.{root_else, root_here}
 use Rattle.arj_lock_view_law.proofs.TreeSteps.{action_kind, opens}
 use Rattle.arj_lock_view_law.proofs.WholeSteps.{stays_coord}
@@ -80,8 +80,8 @@ moves_on x s c Ends New new = moves_both x c (on_doing (actor s.path) busy c) (l
     note = record { path = uids_of s.path; node = next_node s; invoke = is_invoke_ask (next_ask (ends_of (root_of s.path) (let k = on_doing (actor s.path) busy c in k.tree)) s) }
 
 -- in this step
-pub on_now : (s : Steps) (c : Coord) (d e : Doing) (z : Steps) → doing_of (actor s.path) c ≡ Some d → doing_of (actor s.path) (let k = goes_on s c in k.part) ≡ Some e → e.now ≡ Calling z → s ≡ z
-on_now s c d e z works found is = same (sym (ap (λ (v : Doing). v.now) one) ∙ is)
+pub on_is : (s : Steps) (c : Coord) (d e : Doing) → doing_of (actor s.path) c ≡ Some d → doing_of (actor s.path) (let k = goes_on s c in k.part) ≡ Some e → e.now ≡ Calling s
+on_is s c d e works found = ap (λ (v : Doing). v.now) one
   where
     busy : Doing
     busy = record d { req = s.req; now = Calling s }
@@ -92,37 +92,40 @@ on_now s c d e z works found is = same (sym (ap (λ (v : Doing). v.now) one) ∙
     one : e ≡ busy
     one = let two : ◌≡◌ {A = Option Doing} (Some e) (Some busy) = sym found ∙ now_is in cc two
 
+pub on_now : (s : Steps) (c : Coord) (d e : Doing) (z : Steps) → doing_of (actor s.path) c ≡ Some d → doing_of (actor s.path) (let k = goes_on s c in k.part) ≡ Some e → e.now ≡ Calling z → s ≡ z
+on_now s c d e z works found is = same (sym (on_is s c d e works found) ∙ is)
+  where
     same : Calling s ≡ Calling z → s ≡ z
     same h = cc h
 
--- or the call ends, but for an include that ends well
-pub moves_over : (x : ℕ) (s : Steps) (end : CallEnd) (c : Coord) (Ends New : Uid → Type 0) → ((st : ObjectState) → end ≢ Included st) → New (actor s.path) → Moves x c (let e = ends_call s end c in e.part) Ends New
+-- or the call ends, but for an include on the object that ends well
+pub moves_over : (x : ℕ) (s : Steps) (end : CallEnd) (c : Coord) (Ends New : Uid → Type 0) → ((st : ObjectState) → end ≡ Included st → s.x ≢ x) → New (actor s.path) → Moves x c (let e = ends_call s end c in e.part) Ends New
 moves_over x s end c Ends New other new = by end other
   where
     idle : Coord
     idle = on_doing (actor s.path) (λ (d : Doing). record d { now = Idle }) c
 
-    after : (v : CallEnd) → ((st : ObjectState) → v ≢ Included st) → Moves x c (on_root (root_of s.path) (root_heard s v) idle) Ends New
+    after : (v : CallEnd) → ((st : ObjectState) → v ≡ Included st → s.x ≢ x) → Moves x c (on_root (root_of s.path) (root_heard s v) idle) Ends New
     after v isnt = moves_both x c idle (on_root (root_of s.path) (root_heard s v) idle) Ends New (moves_doing x c Ends New (actor s.path) (λ (d : Doing). record d { now = Idle }) new) (moves_root x idle Ends New (root_of s.path) (root_heard s v) (λ r. grows v isnt r))
       where
-        grows : (v : CallEnd) → ((st : ObjectState) → v ≢ Included st) → (r : Root) → Grows x r (root_heard s v r)
+        grows : (v : CallEnd) → ((st : ObjectState) → v ≡ Included st → s.x ≢ x) → (r : Root) → Grows x r (root_heard s v r)
         grows (protocol.Answered a) isnt r = grows_said x (record { path = uids_of s.path; x = s.x }) r
-        grows (protocol.Included st) isnt r = absurd (isnt st refl)
+        grows (protocol.Included st) isnt r = grows_join x (record { path = uids_of s.path; x = s.x; store = store_of s.goal; loaded = st }) r (isnt st refl)
         grows (protocol.Conflict h m n) isnt r = grows_same x r r refl refl
         grows (protocol.Changed n w) isnt r = grows_same x r r refl refl
         grows (protocol.Lost n t) isnt r = grows_same x r r refl refl
 
-    by : (v : CallEnd) → ((st : ObjectState) → v ≢ Included st) → Moves x c (doomed_by (actor s.path) v (on_root (root_of s.path) (root_heard s v) idle)) Ends New
+    by : (v : CallEnd) → ((st : ObjectState) → v ≡ Included st → s.x ≢ x) → Moves x c (doomed_by (actor s.path) v (on_root (root_of s.path) (root_heard s v) idle)) Ends New
     by (protocol.Answered a) isnt = after (protocol.Answered a) isnt
-    by (protocol.Included st) isnt = absurd (isnt st refl)
+    by (protocol.Included st) isnt = after (protocol.Included st) isnt
     by (protocol.Conflict h m n) isnt = after (protocol.Conflict h m n) isnt
     by (protocol.Changed n w) isnt = after (protocol.Changed n w) isnt
     by (protocol.Lost n false) isnt = after (protocol.Lost n false) isnt
     by (protocol.Lost n true) isnt = let k : Coord = on_root (root_of s.path) (root_heard s (protocol.Lost n true)) idle in moves_both x c k (doomed_by (actor s.path) (protocol.Lost n true) k) Ends New (after (protocol.Lost n true) isnt) (moves_tree x k Ends New (doomed_at (actor s.path) k.tree) (doomed_same (actor s.path) k.tree))
 
 -- nobody calls anew where it ends
-pub over_now : (s : Steps) (end : CallEnd) (c : Coord) (d e : Doing) (z : Steps) → doing_of (actor s.path) c ≡ Some d → doing_of (actor s.path) (let k = ends_call s end c in k.part) ≡ Some e → e.now ≡ Calling z → ⊥
-over_now s end c d e z works found is = absurd (cc (sym (ap (λ (v : Doing). v.now) one) ∙ is))
+pub over_is : (s : Steps) (end : CallEnd) (c : Coord) (d e : Doing) → doing_of (actor s.path) c ≡ Some d → doing_of (actor s.path) (let k = ends_call s end c in k.part) ≡ Some e → e.now ≡ Idle
+over_is s end c d e works found = ap (λ (v : Doing). v.now) one
   where
     idle : Doing
     idle = record d { now = Idle }
@@ -255,7 +258,7 @@ module _ (act : Acts) (code : Codes) (paths : Paths) (x p store : ℕ) (c : Coor
       run = stay;
       holds = (
         sees_E,
-        includes_stay act x (first mv) (after mv) S S nobody (λ w. w ≡ u) (moves_over x s end (first mv) nobody (λ w. w ≡ u) other refl) (λ m i. i) refl (inc_first mv) (λ w e y k is works calling load. absurd (over_now s end (first mv) d e y work.works (ap (λ (v : Uid). doing_of v (after mv)) (sym is) ∙ works) calling)),
+        includes_stay act x (first mv) (after mv) S S nobody (λ w. w ≡ u) (moves_over x s end (first mv) nobody (λ w. w ≡ u) (λ st is. absurd (other st is)) refl) (λ m i. i) refl (inc_first mv) (λ w e y k is works calling load. absurd (let bad : Idle ≡ Calling y = sym (over_is s end (first mv) d e work.works (ap (λ (v : Uid). doing_of v (after mv)) (sym is) ∙ works)) ∙ calling in cc bad)),
         refl,
         subst (λ (v : Option (ℕ × ObjectState)). WritesInclude act p s v S S) (sym none) (refl, refl),
         subst (λ (v : Option (ℕ × ObjectState)). HasState s v (root_at rt (after mv))) (sym none) tt,

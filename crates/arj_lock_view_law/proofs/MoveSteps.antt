@@ -1,17 +1,17 @@
 -- What a coordinator does to what its roots note of includes, and to what waits: one change after another.
-use Rattle.std.proofs.Common.{◌≡◌, ◌≢◌, ◌≤◌, ◌⊎◌, ◌∙◌, ◌==◌, ◌*◌, ◌++◌, ℕ, List, [], ◌∷◌, Bool, true, false, cond, Option, Some, None, refl, sym, ap, subst, inl, inr, ⊎_elim, arith, is_some, unwrap_or, min, eqb-true}
+use Rattle.std.proofs.Common.{Bool, List, None, Option, Some, [], ap, arith, cond, eqb-true, false, inl, inr, is_some, min, refl, subst, sym, true, unwrap_or, ℕ, ⊎_elim, ◌&&◌, ◌*◌, ◌++◌, ◌==◌, ◌∙◌, ◌∷◌, ◌≡◌, ◌≢◌, ◌≤◌, ◌⊎◌}
 use Rattle.std.specs.Prelude.{Contains}
 use Rattle.std.specs.List.{list_any}
 use Rattle.std.proofs.lemmas.Bool.{and_parts}
 use Rattle.arj_base.proofs.Uids.{uid_cases, uid_is}
 use Rattle.arj_lock.proofs.Members as list
 use Rattle.arj_lock.proofs.Members.{in_from, in_to}
-use Rattle.arj_protocol.specs.Words.{End, Uid, uid_eq}
+use Rattle.arj_protocol.specs.Words.{End, Uid, last_uid, uid_eq}
 use Rattle.arj_protocol.specs.Ask.{Reply}
 use Rattle.arj_protocol.specs.Asking.{notes_grant, root_lost, root_moved}
 use Rattle.arj_protocol.specs.Call.{CallStep, Moved, Steps}
 use Rattle.arj_protocol.specs.Commit.{Machine, Plan}
-use Rattle.arj_protocol.specs.Coord.{Calling, Committing, Coord, Doing, Grant, Idle, Joined, Keeping, Root, Said, Went, change_doing, doing_of, granted_with, is_grant_of, named_last, no_root, on_doing, on_root, root_at, same_said, same_went, with_keeping, with_said, with_went}
+use Rattle.arj_protocol.specs.Coord.{Calling, Committing, Coord, Doing, Grant, Idle, Joined, Keeping, Root, Said, Went, change_doing, doing_of, granted_with, is_grant_of, joined_with, later_state, named_last, no_root, on_doing, on_root, root_at, same_join, same_said, same_went, with_join, with_keeping, with_said, with_went}
 use Rattle.arj_protocol.specs.Ending.{ended, root_after}
 use Rattle.arj_protocol.specs.Order.{at_number}
 use Rattle.arj_protocol.specs.Tree.{Branch, Tree, at_place, branch_of}
@@ -55,6 +55,38 @@ grows_said x z r = by (list_any (same_said z) r.said)
 
 pub grows_kept : (x y : ℕ) (k : Keeping) (r : Root) → Grows x r (with_keeping y k r)
 grows_kept x y k r = grows_same x r (with_keeping y k r) refl refl
+
+-- an answered include of another object
+pub grows_join : (x : ℕ) (j : Joined) (r : Root) → j.x ≢ x → Grows x r (with_join j r)
+grows_join x j r other = record {
+  back = λ k there about. in_to k r.joined (from r.joined k (in_from k (joined_with j r.joined) there) about);
+  forth = λ k there about. in_to k (joined_with j r.joined) (still r.joined k (in_from k r.joined there) about);
+  grants = λ top n h. h;
+}
+  where
+    same_x : (f : Joined) → same_join j f ≡ true → j.x ≡ f.x
+    same_x f e = let two = and_parts (uid_eq (last_uid j.path) (last_uid f.path)) ((j.x == f.x) && (j.store == f.store)) e in let more = and_parts (j.x == f.x) (j.store == f.store) two.1 in eqb-true j.x f.x more.0
+
+    from : (js : List Joined) (k : Joined) → list.In k (joined_with j js) → k.x ≡ x → list.In k js
+    from [] k (inl is) about = absurd (other (ap (λ (y : Joined). y.x) is ∙ about))
+    from [] k (inr i) about = absurd i
+    from (f ∷ fs) k i about = by (same_join j f) refl i (λ q. from fs k q about)
+      where
+        by : (t : Bool) → same_join j f ≡ t → list.In k (cond t (record f { loaded = later_state f.loaded j.loaded } ∷ fs) (f ∷ joined_with j fs)) → (list.In k (joined_with j fs) → list.In k fs) → list.In k (f ∷ fs)
+        by true e (inl is) ih = absurd (other (same_x f e ∙ ap (λ (y : Joined). y.x) is ∙ about))
+        by true e (inr q) ih = inr q
+        by false e (inl is) ih = inl is
+        by false e (inr q) ih = inr (ih q)
+
+    still : (js : List Joined) (k : Joined) → list.In k js → k.x ≡ x → list.In k (joined_with j js)
+    still [] k i about = absurd i
+    still (f ∷ fs) k i about = by (same_join j f) refl i (λ q. still fs k q about)
+      where
+        by : (t : Bool) → same_join j f ≡ t → list.In k (f ∷ fs) → (list.In k fs → list.In k (joined_with j fs)) → list.In k (cond t (record f { loaded = later_state f.loaded j.loaded } ∷ fs) (f ∷ joined_with j fs))
+        by true e (inl is) ih = absurd (other (same_x f e ∙ ap (λ (y : Joined). y.x) is ∙ about))
+        by true e (inr q) ih = inr q
+        by false e (inl is) ih = inl is
+        by false e (inr q) ih = inr (ih q)
 
 -- a grant that was there is there, no worse
 old_grant : (g : Grant) (gs : List Grant) (h : Grant) → list.In h gs → (k : Grant) × list.In k (granted_with g gs) × (k.top ≡ h.top) × (k.x ≡ h.x) × (k.least ≤ h.least)

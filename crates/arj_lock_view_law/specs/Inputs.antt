@@ -3,11 +3,13 @@ use Rattle.std.specs.Prelude.{◌≡◌, ◌≢◌, ◌⊎◌, ◌≤◌, ◌+�
 use Rattle.arj_protocol.specs.Words.{Op, Uid}
 use Rattle.arj_protocol.specs.Words.kind
 use Rattle.arj_protocol.specs.Ask.{Reply, actor, top_of}
-use Rattle.arj_protocol.specs.Asking.{commit_action, moved_commit}
+use Rattle.arj_protocol.specs.Asking.{again_all, call, commit_action, give_up_call, heard_call, include, moved_commit}
+use Rattle.arj_protocol.specs.Call.{Include as IncludeStore, Steps}
 use Rattle.arj_protocol.specs.Commit as commit
 use Rattle.arj_protocol.specs.Commit.{Machine, Plan, Used}
-use Rattle.arj_protocol.specs.Coord.{Committing, Coord, Doing, doing_of, plan_for, root_at}
+use Rattle.arj_protocol.specs.Coord.{Committing, Coord, Doing, Idle, doing_of, new_coord, plan_for, root_at}
 use Rattle.arj_protocol.specs.Effect.{Intent}
+use Rattle.arj_protocol.specs.Ending.{acked}
 use Rattle.arj_protocol.specs.Tree.{Branch, branch_of, has_open_child, root_of}
 use Rattle.arj_lock_law.specs.Actions.{Act, In, root, top}
 use Rattle.arj_lock_law.specs.State.{Alive, Call, Include, State}
@@ -15,10 +17,10 @@ use Rattle.arj_part_law.specs.Copies.{Paths}
 use Rattle.arj_lock_view_law.specs.Acting.{IsFirst, IsFreeToEnd, OnlyActed}
 use Rattle.arj_lock_view_law.specs.Actions.{IsSteady}
 use Rattle.arj_lock_view_law.specs.Acts.{Acts}
-use Rattle.arj_lock_view_law.specs.Calling.{IsReached}
+use Rattle.arj_lock_view_law.specs.Calling.{IsAtWork, IsCalling, IsElsewhere, IsReached, IsWaiting, OnlyCalled, ShowsAnswer, WritesLine, WritesNone}
 use Rattle.arj_lock_view_law.specs.Copies.{Codes}
 use Rattle.arj_lock_view_law.specs.Going.{Goes}
-use Rattle.arj_lock_view_law.specs.Including.{SeesIncludes}
+use Rattle.arj_lock_view_law.specs.Including.{OnlyIncluded, SeesIncludes, ShowsInclude, WritesInclude, included_by}
 use Rattle.arj_lock_view_law.specs.Plans.{AreKept, SeesMachine, ShowsToCommit}
 use Rattle.arj_lock_view_law.specs.Roots.{SeesCoord}
 use Rattle.arj_lock_view_law.specs.Stops.{AreUnitsOver}
@@ -60,11 +62,66 @@ DoomedCommitsAreTaken = (act : Acts) (code : Codes) (paths : Paths) (x p : ℕ) 
 -- An answer to a commit under way is taken: it stays, asks the next nodes, is decided, or is aborted.
 abbrev pub CommitAnswersAreHeard : Type 0
 CommitAnswersAreHeard = (act : Acts) (code : Codes) (paths : Paths) (x p from : ℕ) (c : Coord) (u : Uid) (b : Branch) (d : Doing) (k : Machine) (r : Reply) (intents : List (Uid × Intent)) (S : State)
-    → IsReached S → IsSteady act paths c → branch_of u c.tree ≡ Some b → is_some b.ended ≡ false → doing_of u c ≡ Some d → d.now ≡ Committing k → (let q = commit.plan_of k in d.req ≡ q.req) → S.now ≤ p → ShowsToCommit x (act u) k from r S → SeesWhole act code x c S
+    → IsReached S → IsSteady act paths c → branch_of u c.tree ≡ Some b → is_some b.ended ≡ false → doing_of u c ≡ Some d → d.now ≡ Committing k → (let q = commit.plan_of k in d.req ≤ q.req) → S.now ≤ p → ShowsToCommit x (act u) k from r S → SeesWhole act code x c S
     → GoesWhole act code x (let e = moved_commit u (commit.answered from k r) intents c in e.part) S (λ T. OnlyEnded (root (act u)) S T × (T.now ≤ p + 1))
 
 -- So is one that is given up.
 abbrev pub CommitsAreLost : Type 0
 CommitsAreLost = (act : Acts) (code : Codes) (paths : Paths) (x p : ℕ) (c : Coord) (u : Uid) (b : Branch) (d : Doing) (k : Machine) (intents : List (Uid × Intent)) (S : State)
-    → IsReached S → IsSteady act paths c → branch_of u c.tree ≡ Some b → is_some b.ended ≡ false → doing_of u c ≡ Some d → d.now ≡ Committing k → (let q = commit.plan_of k in d.req ≡ q.req) → S.now ≤ p → SeesWhole act code x c S
+    → IsReached S → IsSteady act paths c → branch_of u c.tree ≡ Some b → is_some b.ended ≡ false → doing_of u c ≡ Some d → d.now ≡ Committing k → (let q = commit.plan_of k in d.req ≤ q.req) → S.now ≤ p → SeesWhole act code x c S
     → GoesWhole act code x (let e = moved_commit u (commit.given_up k) intents c in e.part) S (λ T. OnlyEnded (root (act u)) S T × (T.now ≤ p + 1))
+
+-- ---- calls and includes
+
+-- A call begins, on this object or another one.
+abbrev pub CallsAreMade : Type 0
+CallsAreMade = (act : Acts) (code : Codes) (paths : Paths) (x y : ℕ) (c : Coord) (u : Uid) (b : Branch) (d : Doing) (o : Op) (S : State)
+    → IsReached S → IsAtWork act paths c u b d → d.now ≡ Idle → b.kind ≢ kind.Serial → SeesWhole act code x c S
+    → GoesWhole act code x (let e = call b.path y o c in e.part) S (λ T. OnlyCalled (root (act u)) S T × WritesNone S T)
+
+-- An include begins: the machine waits.
+abbrev pub IncludesAreMade : Type 0
+IncludesAreMade = (act : Acts) (code : Codes) (paths : Paths) (x y store : ℕ) (c : Coord) (u : Uid) (b : Branch) (d : Doing) (S : State)
+    → IsReached S → IsAtWork act paths c u b d → d.now ≡ Idle → b.kind ≢ kind.Serial → SeesWhole act code x c S → SeesWhole act code x (let e = include b.path y store c in e.part) S
+
+-- An answer to a call on the object is taken.
+abbrev pub CallAnswersAreHeard : Type 0
+CallAnswersAreHeard = (act : Acts) (code : Codes) (paths : Paths) (x p : ℕ) (c : Coord) (u : Uid) (b : Branch) (d : Doing) (s : Steps) (o : Op) (r : Reply) (S : State)
+    → IsReached S → IsAtWork act paths c u b d → IsCalling x b d s o → S.now ≤ p → ShowsAnswer act code s o S s.at r → SeesWhole act code x c S
+    → GoesWhole act code x (let e = heard_call s r c in e.part) S (λ T. OnlyCalled (root (act u)) S T × WritesLine act code p s o S T s.at r)
+
+-- An answer to an include on the object is taken.
+abbrev pub IncludeAnswersAreHeard : Type 0
+IncludeAnswersAreHeard = (act : Acts) (code : Codes) (paths : Paths) (x p store : ℕ) (c : Coord) (u : Uid) (b : Branch) (d : Doing) (s : Steps) (r : Reply) (S : State)
+    → IsReached S → IsAtWork act paths c u b d → IsWaiting b d s → s.x ≡ x → s.goal ≡ IncludeStore store → S.now ≤ p → ShowsInclude act (top_of s.path) S r → SeesWhole act code x c S
+    → GoesWhole act code x (let e = heard_call s r c in e.part) S (λ T. OnlyIncluded S T × WritesInclude act p s (included_by s.at r) S T)
+
+-- An answer to a call or an include on another object is taken: the machine waits.
+abbrev pub OtherAnswersAreHeard : Type 0
+OtherAnswersAreHeard = (act : Acts) (code : Codes) (paths : Paths) (x : ℕ) (c : Coord) (u : Uid) (b : Branch) (d : Doing) (s : Steps) (r : Reply) (S : State)
+    → IsReached S → IsAtWork act paths c u b d → IsWaiting b d s → s.x ≢ x → SeesWhole act code x c S → SeesWhole act code x (let e = heard_call s r c in e.part) S
+
+-- A call on the object is given up.
+abbrev pub CallsAreLost : Type 0
+CallsAreLost = (act : Acts) (code : Codes) (paths : Paths) (x : ℕ) (c : Coord) (u : Uid) (b : Branch) (d : Doing) (s : Steps) (o : Op) (S : State)
+    → IsReached S → IsAtWork act paths c u b d → IsCalling x b d s o → SeesWhole act code x c S
+    → GoesWhole act code x (let e = give_up_call s c in e.part) S (λ T. OnlyCalled (root (act u)) S T × WritesNone S T)
+
+-- An include, or a call on another object, is given up: the machine waits.
+abbrev pub OtherCallsAreLost : Type 0
+OtherCallsAreLost = (act : Acts) (code : Codes) (paths : Paths) (x : ℕ) (c : Coord) (u : Uid) (b : Branch) (d : Doing) (s : Steps) (S : State)
+    → IsReached S → IsAtWork act paths c u b d → IsWaiting b d s → IsElsewhere x s → SeesWhole act code x c S → SeesWhole act code x (let e = give_up_call s c in e.part) S
+
+-- ---- ticks, acknowledgements, restarts
+
+-- A tick sends again what waits: the machine waits.
+abbrev pub TicksAreTaken : Type 0
+TicksAreTaken = (act : Acts) (code : Codes) (x : ℕ) (works : List Doing) (c : Coord) (S : State) → IsReached S → SeesWhole act code x c S → SeesWhole act code x (let e = again_all works c in e.part) S
+
+-- So it does at an acknowledgement.
+abbrev pub AcksAreTaken : Type 0
+AcksAreTaken = (act : Acts) (code : Codes) (x from : ℕ) (u : Uid) (intents : List (Uid × Intent)) (c : Coord) (S : State) → IsReached S → SeesWhole act code x c S → SeesWhole act code x (let e = acked from u intents c in e.part) S
+
+-- A coordinator that has just started, with the records that it found, is seen in every state.
+abbrev pub RestartsAreTaken : Type 0
+RestartsAreTaken = (act : Acts) (code : Codes) (x node inc : ℕ) (records : List (Uid × Intent)) (S : State) → SeesWhole act code x (record (new_coord node inc) { telling = records }) S
