@@ -190,20 +190,20 @@ aborted_last [] u c = refl
 aborted_last (w ∷ ws) u c = aborted_last ws u (ended w ending.Abort c)
 
 module _ (act : Acts) (code : Codes) (paths : Paths) (x : ℕ) (c : Coord) (u : Uid) (b : Branch) (intents : List (Uid × Intent)) (S : State) (steady : IsSteady act paths c) (found : branch_of u c.tree ≡ Some b) (unended : is_some b.ended ≡ false) (units : AreUnitsOver act c.tree S) (sees : SeesCoord act code x c S) where
-  abbrev below : List Uid
+  abbrev pub below : List Uid
   below = open_below u c.tree
 
   abbrev unit : ℕ
   unit = root (act u)
 
-  abbrev E : Coord
+  abbrev pub E : Coord
   E = let e = abort_action u intents c in e.part
 
   d0 : (d : Doing) × (doing_of u c ≡ Some d)
   d0 = work_there c steady.works u b found
 
   -- one of them is another action of the unit, and open
-  is_below_it : (w : Uid) → list.In w below → (q : Branch) × (branch_of w c.tree ≡ Some q) × (is_some q.ended ≡ false) × (w ≢ u) × (is_on (paths w) u ≡ true)
+  pub is_below_it : (w : Uid) → list.In w below → (q : Branch) × (branch_of w c.tree ≡ Some q) × (is_some q.ended ≡ false) × (w ≢ u) × (is_on (paths w) u ≡ true)
   is_below_it w i = ⊎_elim (λ none. absurd none) (λ f. by f.0 f.1 f.2) (in_latest w (filter (is_open_below u) c.tree.branches) [] i)
     where
       not_true : (t : Bool) → not t ≡ true → t ≡ false
@@ -240,7 +240,7 @@ module _ (act : Acts) (code : Codes) (paths : Paths) (x : ℕ) (c : Coord) (u : 
 
   -- ---- the coordinator after it
 
-  good_E : IsGoodCoord steady.actions paths E
+  pub good_E : IsGoodCoord steady.actions paths E
   good_E = good_abort steady.actions paths steady.whole u intents c steady.good
 
   on_E : GoesOn c E
@@ -257,7 +257,7 @@ module _ (act : Acts) (code : Codes) (paths : Paths) (x : ℕ) (c : Coord) (u : 
   still_there w r there = let g = on_E.kinds w r there in (g.0, g.1)
 
   -- all at the action and below it has ended
-  over_E : (w : Uid) (q : Branch) → branch_of w E.tree ≡ Some q → is_on (paths w) u ≡ true → is_some q.ended ≡ true
+  pub over_E : (w : Uid) (q : Branch) → branch_of w E.tree ≡ Some q → is_on (paths w) u ≡ true → is_some q.ended ≡ true
   over_E w q there above = let k = still_there u b found in over_below paths steady.whole E.tree good_E.tree.lists good_E.tree.closed u k.0 k.1 (own_ended k.0 k.1) w q there above
 
   -- of a root's unit is whoever has it on its path

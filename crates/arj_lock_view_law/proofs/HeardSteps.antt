@@ -120,7 +120,7 @@ later_given_up (Confirming p) = tt
 
 -- ---- requests go out
 
-moves_asks : (x : ℕ) (p : Path) (number : ℕ) (asked : List (ℕ × Ask)) (c : Coord) (Ends New : Uid → Type 0) → Moves x c (let e = asks_all p number asked c in e.part) Ends New
+pub moves_asks : (x : ℕ) (p : Path) (number : ℕ) (asked : List (ℕ × Ask)) (c : Coord) (Ends New : Uid → Type 0) → Moves x c (let e = asks_all p number asked c in e.part) Ends New
 moves_asks x p number [] c Ends New = moves_none x c Ends New
 moves_asks x p number (a ∷ rest) c Ends New = moves_both x c (let e = asks_node p number a c in e.part) (let e = asks_all p number (a ∷ rest) c in e.part) Ends New (moves_root x c Ends New (root_of p) (with_went note) (grows_went x note)) (moves_asks x p number rest (let e = asks_node p number a c in e.part) Ends New)
   where

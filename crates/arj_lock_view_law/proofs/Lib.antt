@@ -1,3 +1,4 @@
+pub mod AbortInputSteps
 pub mod AbortSteps
 pub mod ActingSteps
 pub mod AnswerSteps
@@ -5,6 +6,7 @@ pub mod AskSteps
 pub mod AskedSteps
 pub mod BeginSteps
 pub mod BindSteps
+pub mod CallInputSteps
 pub mod CallingSteps
 pub mod CommitSteps
 pub mod CopySteps

@@ -3,13 +3,13 @@ use Rattle.std.specs.Prelude.{◌≡◌, ◌≢◌, ◌⊎◌, ◌≤◌, ◌+�
 use Rattle.arj_protocol.specs.Words.{Op, Uid}
 use Rattle.arj_protocol.specs.Words.kind
 use Rattle.arj_protocol.specs.Ask.{Reply, actor, top_of}
-use Rattle.arj_protocol.specs.Asking.{again_all, call, commit_action, give_up_call, heard_call, include, moved_commit}
+use Rattle.arj_protocol.specs.Asking.{again_all, call, commit_action, give_up_call, heard_call, include, last_req, moved_commit}
 use Rattle.arj_protocol.specs.Call.{Include as IncludeStore, Steps}
 use Rattle.arj_protocol.specs.Commit as commit
 use Rattle.arj_protocol.specs.Commit.{Machine, Plan, Used}
 use Rattle.arj_protocol.specs.Coord.{Committing, Coord, Doing, Idle, doing_of, new_coord, plan_for, root_at}
 use Rattle.arj_protocol.specs.Effect.{Intent}
-use Rattle.arj_protocol.specs.Ending.{acked}
+use Rattle.arj_protocol.specs.Ending.{abort_action, acked}
 use Rattle.arj_protocol.specs.Tree.{Branch, branch_of, has_open_child, root_of}
 use Rattle.arj_lock_law.specs.Actions.{Act, In, root, top}
 use Rattle.arj_lock_law.specs.State.{Alive, Call, Include, State}
@@ -23,7 +23,7 @@ use Rattle.arj_lock_view_law.specs.Going.{Goes}
 use Rattle.arj_lock_view_law.specs.Including.{OnlyIncluded, SeesIncludes, ShowsInclude, WritesInclude, included_by}
 use Rattle.arj_lock_view_law.specs.Plans.{AreKept, SeesMachine, ShowsToCommit}
 use Rattle.arj_lock_view_law.specs.Roots.{SeesCoord}
-use Rattle.arj_lock_view_law.specs.Stops.{AreUnitsOver}
+use Rattle.arj_lock_view_law.specs.Stops.{AreAborted, AreUnitsOver}
 
 -- ---- what is seen
 
@@ -59,6 +59,29 @@ DoomedCommitsAreTaken = (act : Acts) (code : Codes) (paths : Paths) (x p : ℕ) 
     → IsReached S → IsFreeToEnd act paths c u b d → b.doomed ≡ true → has_open_child u c.tree ≡ false → S.now ≤ p → SeesWhole act code x c S
     → GoesWhole act code x (let e = commit_action b intents c in e.part) S (λ T. OnlyEnded (root (act u)) S T × (T.now ≤ p + 1))
 
+-- the action is the top's, or of a committed top of its unit
+abbrev pub IsOfUnit : Act → Act → State → Type 0
+IsOfUnit m a S = (root a ≡ root m) × ((top a ≡ m) ⊎ ((let k = S.action (top a) in k.stage) ≡ 3))
+
+-- What a top's plan covers as its commit is called: each call on the object that wasn't undone, and each include, of the top or of a
+-- committed top of its unit; and the grant that it says isn't above the binding that the unit keeps, nor above such an include's.
+pub record CoversUnit (x : ℕ) (m : Act) (p : Plan) (S : State) : Type 0 where
+  pub calls : (k : Call) → In k S.calls → Alive S k.act → IsOfUnit m k.act S → (q : Used) × Contains p.used q × (q.x ≡ x) × (q.called ≡ true)
+  pub includes : (k : Include) → In k S.includes → Alive S k.act → IsOfUnit m k.act S → (q : Used) × Contains p.used q × (q.x ≡ x)
+  pub below : (q : Used) (k : Call) → Contains p.used q → q.x ≡ x → In k S.calls → Alive S k.act → IsOfUnit m k.act S → q.grant * 4294967296 ≤ S.kept (root m)
+  pub granted : (q : Used) (k : Include) → Contains p.used q → q.x ≡ x → In k S.includes → Alive S k.act → IsOfUnit m k.act S → q.grant * 4294967296 ≤ k.grant
+
+-- the plan of a commit that is called now
+abbrev pub plan_now : Branch → Coord → Plan
+plan_now b c = plan_for b.path (last_req (doing_of (actor b.path) c)) (root_at (root_of b.path) c) c
+
+-- The commit of a top that isn't doomed is called: it has its line, and asks the first nodes, or is decided at once.
+abbrev pub TopCommitsAreTaken : Type 0
+TopCommitsAreTaken = (act : Acts) (code : Codes) (paths : Paths) (x p : ℕ) (c : Coord) (u : Uid) (b : Branch) (d : Doing) (intents : List (Uid × Intent)) (S : State)
+    → IsReached S → IsFreeToEnd act paths c u b d → b.kind ≢ kind.Serial → b.kind ≢ kind.Nested → b.doomed ≡ false → has_open_child u c.tree ≡ false → IsFirst act c u → S.now ≤ p
+    → CoversUnit x (act u) (plan_now b c) S → AreKept x (act u) (plan_now b c) S → SeesWhole act code x c S
+    → GoesWhole act code x (let e = commit_action b intents c in e.part) S (λ T. OnlyEnded (root (act u)) S T × (T.now ≤ p + 2))
+
 -- An answer to a commit under way is taken: it stays, asks the next nodes, is decided, or is aborted.
 abbrev pub CommitAnswersAreHeard : Type 0
 CommitAnswersAreHeard = (act : Acts) (code : Codes) (paths : Paths) (x p from : ℕ) (c : Coord) (u : Uid) (b : Branch) (d : Doing) (k : Machine) (r : Reply) (intents : List (Uid × Intent)) (S : State)
@@ -70,6 +93,14 @@ abbrev pub CommitsAreLost : Type 0
 CommitsAreLost = (act : Acts) (code : Codes) (paths : Paths) (x p : ℕ) (c : Coord) (u : Uid) (b : Branch) (d : Doing) (k : Machine) (intents : List (Uid × Intent)) (S : State)
     → IsReached S → IsSteady act paths c → branch_of u c.tree ≡ Some b → is_some b.ended ≡ false → doing_of u c ≡ Some d → d.now ≡ Committing k → (let q = commit.plan_of k in d.req ≤ q.req) → S.now ≤ p → SeesWhole act code x c S
     → GoesWhole act code x (let e = moved_commit u (commit.given_up k) intents c in e.part) S (λ T. OnlyEnded (root (act u)) S T × (T.now ≤ p + 1))
+
+-- ---- aborts
+
+-- An open action is aborted with all that is open below it.
+abbrev pub ActionsAreAborted : Type 0
+ActionsAreAborted = (act : Acts) (code : Codes) (paths : Paths) (x : ℕ) (c : Coord) (u : Uid) (b : Branch) (intents : List (Uid × Intent)) (S : State)
+    → IsReached S → IsSteady act paths c → branch_of u c.tree ≡ Some b → is_some b.ended ≡ false → SeesWhole act code x c S
+    → GoesWhole act code x (let e = abort_action u intents c in e.part) S (λ T. OnlyEnded (root (act u)) S T × ((T.now ≡ S.now) × AreAborted act paths c.tree u T))
 
 -- ---- calls and includes
 

@@ -4,7 +4,7 @@ ghost use Rattle.arj_lock_view_law.specs.Asks.{AsksAreNothing, CommitsAskOnly, R
 ghost use Rattle.arj_lock_view_law.specs.Begins.{ActionsBegin, NewCoordsAreSeen};
 ghost use Rattle.arj_lock_view_law.specs.Calling.{AnswersAreTaken, CallsAreGivenUp, CallsBegin, IncludesBegin, OtherAnswersAreTaken, OtherCallsAreGivenUp, OtherCallsBegin};
 ghost use Rattle.arj_lock_view_law.specs.Including.{IncludeAnswersAreTaken};
-ghost use Rattle.arj_lock_view_law.specs.Inputs.{CommitAnswersAreHeard, CommitsAreLost, DoomedCommitsAreTaken, NestedCommitsAreTaken};
+ghost use Rattle.arj_lock_view_law.specs.Inputs.{AcksAreTaken, ActionsAreAborted, CallAnswersAreHeard, CallsAreLost, CallsAreMade, CommitAnswersAreHeard, CommitsAreLost, DoomedCommitsAreTaken, IncludeAnswersAreHeard, IncludesAreMade, NestedCommitsAreTaken, OtherAnswersAreHeard, OtherCallsAreLost, RestartsAreTaken, TicksAreTaken};
 ghost use Rattle.arj_lock_view_law.specs.Plans.{CommitAnswersAreTaken, CommitRequestsAreShown, CommitsAreGivenUp, CommitsSetOut, CommitsStaySeen};
 ghost use Rattle.arj_lock_view_law.specs.Stops.{AbortionsGoDown, RecordsAreFound, RestartedCoordsAreSeen, StopsAreSeen, StopsStay};
 ghost use Rattle.arj_lock_view_law.specs.Whole.{CommitsKeepRoots, DecisionsKeepRoots, EndsKeepRoots, UnitsKeepRoots};
@@ -97,8 +97,19 @@ pub fn includes_are_seen()
 
 /// A whole coordinator is seen after each input and each answer. It does nothing when it runs.
 pub fn coordinators_are_seen()
+    ensures calls { CallsAreMade }
+    ensures includes { IncludesAreMade }
+    ensures call_answers { CallAnswersAreHeard }
+    ensures include_answers { IncludeAnswersAreHeard }
+    ensures other_answers { OtherAnswersAreHeard }
+    ensures calls_lost { CallsAreLost }
+    ensures others_lost { OtherCallsAreLost }
     ensures nested { NestedCommitsAreTaken }
     ensures doomed { DoomedCommitsAreTaken }
+    ensures aborts { ActionsAreAborted }
     ensures answers { CommitAnswersAreHeard }
     ensures given_up { CommitsAreLost }
+    ensures ticks { TicksAreTaken }
+    ensures acks { AcksAreTaken }
+    ensures restarts { RestartsAreTaken }
 {}

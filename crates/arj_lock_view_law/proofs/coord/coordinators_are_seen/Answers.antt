@@ -1,3 +1,5 @@
+use Rattle.arj_lock_view_law.proofs.AbortInputSteps.{actions_are_aborted}
+use Rattle.arj_lock_view_law.proofs.CallInputSteps.{acks_are_taken, call_answers_are_heard, calls_are_lost, calls_are_made, include_answers_are_heard, includes_are_made, other_answers_are_heard, other_calls_are_lost, restarts_are_taken, ticks_are_taken}
 use Rattle.arj_lock_view_law.proofs.HeardSteps.{commit_answers_are_heard, commits_are_lost}
 use Rattle.arj_lock_view_law.proofs.InputSteps.{doomed_commits_are_taken, nested_commits_are_taken}
 use Rattle.arj_lock_view_law.proofs.coord.coordinators_are_seen.Goals as goal
@@ -13,3 +15,36 @@ returns-clause-answers c = commit_answers_are_heard
 
 pub returns-clause-given_up : goal.returns-clause-given_up
 returns-clause-given_up c = commits_are_lost
+
+pub returns-clause-calls : goal.returns-clause-calls
+returns-clause-calls c = calls_are_made
+
+pub returns-clause-includes : goal.returns-clause-includes
+returns-clause-includes c = includes_are_made
+
+pub returns-clause-call_answers : goal.returns-clause-call_answers
+returns-clause-call_answers c = call_answers_are_heard
+
+pub returns-clause-other_answers : goal.returns-clause-other_answers
+returns-clause-other_answers c = other_answers_are_heard
+
+pub returns-clause-calls_lost : goal.returns-clause-calls_lost
+returns-clause-calls_lost c = calls_are_lost
+
+pub returns-clause-others_lost : goal.returns-clause-others_lost
+returns-clause-others_lost c = other_calls_are_lost
+
+pub returns-clause-include_answers : goal.returns-clause-include_answers
+returns-clause-include_answers c = include_answers_are_heard
+
+pub returns-clause-ticks : goal.returns-clause-ticks
+returns-clause-ticks c = ticks_are_taken
+
+pub returns-clause-acks : goal.returns-clause-acks
+returns-clause-acks c = acks_are_taken
+
+pub returns-clause-restarts : goal.returns-clause-restarts
+returns-clause-restarts c = restarts_are_taken
+
+pub returns-clause-aborts : goal.returns-clause-aborts
+returns-clause-aborts c = actions_are_aborted
