@@ -239,7 +239,7 @@ module _ (act : Acts) (paths : Paths) (x : ℕ) (c : Coord) (S : State) (steady 
             ((λ one. first w s.0 s.1 (one_commits e.ended (let k = s.0 in k.now) (sym st ∙ one)) (ap root (sym is) ∙ home)), (λ two. no_two e.ended (let k = s.0 in k.now) (sym st ∙ two)))
 
     begin_goes : (p : ℕ) (m : Machine) → is_top (act u) ≡ true → is_some b.ended ≡ false → d.now ≡ Idle → IsLone paths u c → b.doomed ≡ false → has_open_child u c.tree ≡ false → CallersAreHere act c.tree S → IsFirst act c u → d.req ≤ (let q = plan_of m in q.req) → S.now ≤ p
-        → Goes S (λ T. SeesActions act x (commits_in u m c) T.action × OnlyActed (root (act u)) S T × (T.now ≡ p + 1) × ((T.action (act u)).stage ≡ 1) × ((T.action (act u)).place ≡ p))
+        → Goes S (λ T. SeesActions act x (commits_in u m c) T.action × OnlyActed (root (act u)) S T × (T.now ≡ p + 1) × ((T.action (act u)).stage ≡ 1) × ((T.action (act u)).place ≡ p) × ((a : Act) → same a (act u) ≡ false → T.action a ≡ S.action a))
     begin_goes p m top unended idle lone undoomed childless callers first more now = record {
       state = next (CommitTop (act u) p) S;
       run = step (CommitTop (act u) p) (top, opened unended idle lone, its_own.doomed undoomed, whole unended childless idle callers, first_here first unended idle, now) stay;
@@ -250,6 +250,7 @@ module _ (act : Acts) (paths : Paths) (x : ℕ) (c : Coord) (S : State) (steady 
         refl,
         ap (λ (v : Action). v.stage) (act_here f (act u) called),
         ap (λ (v : Action). v.place) (act_here f (act u) called),
+        λ a other. act_other f (act u) called a other,
       );
     }
       where

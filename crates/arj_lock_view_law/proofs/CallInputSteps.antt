@@ -350,7 +350,7 @@ moves_again x (d ∷ ds) c = moves_both x c (let t = again_now c d.now in t.part
     one (Committing m) = moves_asks x (let p = plan_of m in p.path) (let p = plan_of m in p.req) (waiting m) c nobody nobody
 
 -- where nothing new waits or ends it is seen
-quiet_whole : (act : Acts) (code : Codes) (x : ℕ) (c e : Coord) (S : State) → IsReached S → Moves x c e nobody nobody → SeesWhole act code x c S → SeesCoord act code x e S → SeesWhole act code x e S
+pub quiet_whole : (act : Acts) (code : Codes) (x : ℕ) (c e : Coord) (S : State) → IsReached S → Moves x c e nobody nobody → SeesWhole act code x c S → SeesCoord act code x e S → SeesWhole act code x e S
 quiet_whole act code x c e S reached moves whole coord = whole_stays act code x c e S S nobody nobody reached stay moves refl whole coord (λ w y s k new. absurd new) (λ w y m new. absurd new) (λ w q new. absurd new)
 
 pub ticks_are_taken : TicksAreTaken

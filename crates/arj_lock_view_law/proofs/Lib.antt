@@ -40,6 +40,7 @@ pub mod ServerSteps
 pub mod ShownSteps
 pub mod StopSteps
 pub mod ToldSteps
+pub mod TopInputSteps
 pub mod TreeSteps
 pub mod UndoSteps
 pub mod VoteSteps

@@ -82,36 +82,32 @@ module _ (c : Coord) (u : Uid) (b : Branch) (d : Doing) (found : branch_of u c.t
   work_changed h = subst (λ (e : Coord). OnlyOne c u b (h d) e) (sym (λ i. change_doing h u c (works i)))
       (record { branch = found; doing = doing_put u (h d) d c works; branches = λ w other. refl; doings = λ w other. doing_other u w (h d) d c works other })
 
+  -- its end by parts
+  module _ (e : End) where
+    own_ended : (w : Uid) (o : Option Branch) → is_own w (ended_branch u e c.tree o) ≡ is_own w c.tree
+    own_ended w None = refl
+    own_ended w (Some q) = by (nat_le (length (uids_of q.path)) 1)
+      where
+        marked : Tree
+        marked = record c.tree { branches = set_place u.num (record q { ended = Some e }) c.tree.branches }
+
+        by : (k : Bool) → is_own w (cond k marked (with_family (root_of q.path) (let g = family_of (root_of q.path) marked in record g { ends = g.ends ++ (u, e) ∷ [] }) marked)) ≡ is_own w c.tree
+        by true = refl
+        by false = refl
+
+    own_same : (w : Uid) → doing_of w (record c { tree = ended_at u e c.tree }) ≡ doing_of w c
+    own_same w = λ i. cond (own_ended w (branch_of u c.tree) i) (at_place w.num c.doings) None
+
+    pub ended_is : ended u e c ≡ set_doing u (record d { now = Idle }) (record c { tree = ended_at u e c.tree })
+    ended_is = λ i. change_doing (λ (q : Doing). record q { now = Idle }) u (record c { tree = ended_at u e c.tree }) ((own_same u ∙ works) i)
+
   pub end_changed : (e : End) → OnlyOne c u (record b { ended = Some e }) (record d { now = Idle }) (ended u e c)
   end_changed e = record {
     branch = ap (branch_of u) tree_is ∙ tree.at_u u e c.tree b found;
-    doing = subst (λ (v : Coord). doing_of u v ≡ Some (record d { now = Idle })) (sym after_is) (doing_put u (record d { now = Idle }) d mid mid_works);
+    doing = subst (λ (v : Coord). doing_of u v ≡ Some (record d { now = Idle })) (sym (ended_is e)) (doing_put u (record d { now = Idle }) d (record c { tree = ended_at u e c.tree }) (own_same e u ∙ works));
     branches = λ w other. ap (branch_of w) tree_is ∙ tree.at_others u e c.tree b found w other;
-    doings = λ w other. ap (doing_of w) after_is ∙ doing_other u w (record d { now = Idle }) d mid mid_works other ∙ own_same w;
+    doings = λ w other. ap (doing_of w) (ended_is e) ∙ doing_other u w (record d { now = Idle }) d (record c { tree = ended_at u e c.tree }) (own_same e u ∙ works) other ∙ own_same e w;
   }
     where
-      mid : Coord
-      mid = record c { tree = ended_at u e c.tree }
-
-      own_ended : (w : Uid) (o : Option Branch) → is_own w (ended_branch u e c.tree o) ≡ is_own w c.tree
-      own_ended w None = refl
-      own_ended w (Some q) = by (nat_le (length (uids_of q.path)) 1)
-        where
-          marked : Tree
-          marked = record c.tree { branches = set_place u.num (record q { ended = Some e }) c.tree.branches }
-
-          by : (k : Bool) → is_own w (cond k marked (with_family (root_of q.path) (let g = family_of (root_of q.path) marked in record g { ends = g.ends ++ (u, e) ∷ [] }) marked)) ≡ is_own w c.tree
-          by true = refl
-          by false = refl
-
-      own_same : (w : Uid) → doing_of w mid ≡ doing_of w c
-      own_same w = λ i. cond (own_ended w (branch_of u c.tree) i) (at_place w.num c.doings) None
-
-      mid_works : doing_of u mid ≡ Some d
-      mid_works = own_same u ∙ works
-
-      after_is : ended u e c ≡ set_doing u (record d { now = Idle }) mid
-      after_is = λ i. change_doing (λ (q : Doing). record q { now = Idle }) u mid (mid_works i)
-
       tree_is : (let v = ended u e c in v.tree) ≡ tree.after u e c.tree b found
-      tree_is = ap (λ (v : Coord). v.tree) after_is ∙ (λ i. ended_branch u e c.tree (found i))
+      tree_is = ap (λ (v : Coord). v.tree) (ended_is e) ∙ (λ i. ended_branch u e c.tree (found i))

@@ -9,7 +9,7 @@ use Rattle.arj_protocol.specs.Coord.{Coord, Doing, Idle, Committing, doing_of}
 use Rattle.arj_protocol.specs.Ending.{ended}
 use Rattle.arj_protocol.specs.Step.{is_committing_now}
 use Rattle.arj_protocol.specs.Tree.{Branch, Tree, branch_of, has_open_child}
-use Rattle.arj_lock_law.specs.Actions.{Act, In, Root, root}
+use Rattle.arj_lock_law.specs.Actions.{Act, In, Root, root, same}
 use Rattle.arj_lock_law.specs.State.{Call, Include, State, Alive, Covered}
 use Rattle.arj_part_law.specs.Copies.{Paths}
 use Rattle.arj_lock_view_law.specs.Acts.{Acts}
@@ -69,7 +69,7 @@ IsFirst act c u = (w : Uid) (e : Doing) → doing_of w c ≡ Some e → is_commi
 abbrev pub TopsBegin : Type 0
 TopsBegin = (act : Acts) (paths : Paths) (x p : ℕ) (c : Coord) (u : Uid) (b : Branch) (d : Doing) (m : Machine) (S : State)
     → IsFreeToEnd act paths c u b d → b.kind ≢ kind.Serial → b.kind ≢ kind.Nested → b.doomed ≡ false → has_open_child u c.tree ≡ false → CallersAreHere act c.tree S → IsFirst act c u → d.req ≤ (let q = plan_of m in q.req) → S.now ≤ p
-    → SeesActions act x c S.action → Goes S (λ T. SeesActions act x (commits_in u m c) T.action × OnlyActed (root (act u)) S T × (T.now ≡ p + 1) × ((T.action (act u)).stage ≡ 1) × ((T.action (act u)).place ≡ p))
+    → SeesActions act x c S.action → Goes S (λ T. SeesActions act x (commits_in u m c) T.action × OnlyActed (root (act u)) S T × (T.now ≡ p + 1) × ((T.action (act u)).stage ≡ 1) × ((T.action (act u)).place ≡ p) × ((a : Act) → same a (act u) ≡ false → T.action a ≡ S.action a))
 
 -- What the decision of a top stands on: the votes and the confirmation for each call and include that counts.
 pub record IsBacked (m : Act) (S : State) : Type 0 where

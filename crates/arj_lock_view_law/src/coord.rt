@@ -4,7 +4,7 @@ ghost use Rattle.arj_lock_view_law.specs.Asks.{AsksAreNothing, CommitsAskOnly, R
 ghost use Rattle.arj_lock_view_law.specs.Begins.{ActionsBegin, NewCoordsAreSeen};
 ghost use Rattle.arj_lock_view_law.specs.Calling.{AnswersAreTaken, CallsAreGivenUp, CallsBegin, IncludesBegin, OtherAnswersAreTaken, OtherCallsAreGivenUp, OtherCallsBegin};
 ghost use Rattle.arj_lock_view_law.specs.Including.{IncludeAnswersAreTaken};
-ghost use Rattle.arj_lock_view_law.specs.Inputs.{AcksAreTaken, ActionsAreAborted, CallAnswersAreHeard, CallsAreLost, CallsAreMade, CommitAnswersAreHeard, CommitsAreLost, DoomedCommitsAreTaken, IncludeAnswersAreHeard, IncludesAreMade, NestedCommitsAreTaken, OtherAnswersAreHeard, OtherCallsAreLost, RestartsAreTaken, TicksAreTaken};
+ghost use Rattle.arj_lock_view_law.specs.Inputs.{AcksAreTaken, ActionsAreAborted, CallAnswersAreHeard, CallsAreLost, CallsAreMade, CommitAnswersAreHeard, CommitsAreLost, DoomedCommitsAreTaken, IncludeAnswersAreHeard, IncludesAreMade, NestedCommitsAreTaken, OtherAnswersAreHeard, OtherCallsAreLost, RestartsAreTaken, TicksAreTaken, TopCommitsAreTaken};
 ghost use Rattle.arj_lock_view_law.specs.Plans.{CommitAnswersAreTaken, CommitRequestsAreShown, CommitsAreGivenUp, CommitsSetOut, CommitsStaySeen};
 ghost use Rattle.arj_lock_view_law.specs.Stops.{AbortionsGoDown, RecordsAreFound, RestartedCoordsAreSeen, StopsAreSeen, StopsStay};
 ghost use Rattle.arj_lock_view_law.specs.Whole.{CommitsKeepRoots, DecisionsKeepRoots, EndsKeepRoots, UnitsKeepRoots};
@@ -105,6 +105,7 @@ pub fn coordinators_are_seen()
     ensures calls_lost { CallsAreLost }
     ensures others_lost { OtherCallsAreLost }
     ensures nested { NestedCommitsAreTaken }
+    ensures tops { TopCommitsAreTaken }
     ensures doomed { DoomedCommitsAreTaken }
     ensures aborts { ActionsAreAborted }
     ensures answers { CommitAnswersAreHeard }

@@ -1,3 +1,4 @@
+use Rattle.arj_lock_view_law.proofs.TopInputSteps.{top_commits_are_taken}
 use Rattle.arj_lock_view_law.proofs.AbortInputSteps.{actions_are_aborted}
 use Rattle.arj_lock_view_law.proofs.CallInputSteps.{acks_are_taken, call_answers_are_heard, calls_are_lost, calls_are_made, include_answers_are_heard, includes_are_made, other_answers_are_heard, other_calls_are_lost, restarts_are_taken, ticks_are_taken}
 use Rattle.arj_lock_view_law.proofs.HeardSteps.{commit_answers_are_heard, commits_are_lost}
@@ -48,3 +49,6 @@ returns-clause-restarts c = restarts_are_taken
 
 pub returns-clause-aborts : goal.returns-clause-aborts
 returns-clause-aborts c = actions_are_aborted
+
+pub returns-clause-tops : goal.returns-clause-tops
+returns-clause-tops c = top_commits_are_taken
