@@ -1,12 +1,11 @@
 -- A whole coordinator goes in the machine: an action is aborted with all that is open below it.
-use Rattle.std.proofs.Common.{◌≡◌, ◌≢◌, ◌⊎◌, ◌∙◌, ◌++◌, ℕ, List, [], ◌∷◌, true, false, Option, Some, None, refl, sym, ap, subst, inl, inr, ⊎_elim, is_some}
+use Rattle.std.proofs.Common.{◌≡◌, ◌≢◌, ◌∙◌, ◌++◌, ℕ, List, [], ◌∷◌, true, false, Some, refl, sym, ap, subst, inl, inr, ⊎_elim, is_some}
 use Rattle.arj_base.proofs.Uids.{uid_cases}
 use Rattle.arj_lock.proofs.Members as list
 use Rattle.arj_protocol.specs.Words.{Path, Uid, is_on, uids_of}
 use Rattle.arj_protocol.specs.Words.ending
-use Rattle.arj_protocol.specs.Ask.{actor}
-use Rattle.arj_protocol.specs.Commit.{Machine, plan_of}
-use Rattle.arj_protocol.specs.Coord.{Calling, Committing, Coord, Doing, Idle, Now, doing_of}
+use Rattle.arj_protocol.specs.Commit.{plan_of}
+use Rattle.arj_protocol.specs.Coord.{Coord, Doing, Idle, doing_of}
 use Rattle.arj_protocol.specs.Effect.{Intent}
 use Rattle.arj_protocol.specs.Ending.{abort_action, all_aborted, ended}
 use Rattle.arj_protocol.specs.Tree.{Branch, branch_of}
@@ -83,13 +82,16 @@ module _ (act : Acts) (code : Codes) (paths : Paths) (x : ℕ) (c : Coord) (u : 
 
 pub actions_are_aborted : ActionsAreAborted
 actions_are_aborted act code paths x c u b intents S reached steady found unended whole =
-    to_run (abortions_go_down act code paths x c u b intents S steady found unended whole.units whole.coord) (λ T run h. (record {
-      coord = h.0;
-      includes = includes_stay act x c (E act code paths x c u b intents S steady found unended whole) S T (λ w. list.In w (us act code paths x c u b intents S steady found unended whole)) (λ w. list.In w (us act code paths x c u b intents S steady found unended whole)) (moves act code paths x c u b intents S steady found unended whole) (let v = ever reached run in v.sent) (ap (λ (s : State). s.includes) (let o = h.1 in o.rest)) whole.includes
-          (λ w d s k new works is load. absurd (asks_none act code paths x c u b intents S steady found unended whole w s.path new (subst (IsBusy (let e = E act code paths x c u b intents S steady found unended whole in e.tree) w) is (busy act code paths x c u b intents S steady found unended whole w d works))));
-      commits = λ w d m works is. ⊎_elim
-          (λ old. commits_stay_seen x (act w) m S T reached run (whole.commits w old.0 m old.1 old.2))
-          (λ new. absurd (let v : IsVoting (let e = E act code paths x c u b intents S steady found unended whole in e.tree) w (plan_of m) = subst (IsBusy (let e = E act code paths x c u b intents S steady found unended whole in e.tree) w) is (busy act code paths x c u b intents S steady found unended whole w d works) in asks_none act code paths x c u b intents S steady found unended whole w (let p = plan_of m in p.path) new v.asking))
-          (let q = moves act code paths x c u b intents S steady found unended whole in q.commits w d m works is);
-      units = h.4;
-    }, (only_ended (root (act u)) S T h.1, (h.2, h.3))))
+    to_run (abortions_go_down act code paths x c u b intents S steady found unended whole.units whole.coord) (λ T run h. (
+      record {
+        coord = h.0;
+        includes = includes_stay act x c (E act code paths x c u b intents S steady found unended whole) S T (λ w. list.In w (us act code paths x c u b intents S steady found unended whole)) (λ w. list.In w (us act code paths x c u b intents S steady found unended whole)) (moves act code paths x c u b intents S steady found unended whole) (let v = ever reached run in v.sent) (ap (λ (s : State). s.includes) (let o = h.1 in o.rest)) whole.includes
+            (λ w d s k new works is load. absurd (asks_none act code paths x c u b intents S steady found unended whole w s.path new (subst (IsBusy (let e = E act code paths x c u b intents S steady found unended whole in e.tree) w) is (busy act code paths x c u b intents S steady found unended whole w d works))));
+        commits = λ w d m works is. ⊎_elim
+            (λ old. commits_stay_seen x (act w) m S T reached run (whole.commits w old.0 m old.1 old.2))
+            (λ new. absurd (let v : IsVoting (let e = E act code paths x c u b intents S steady found unended whole in e.tree) w (plan_of m) = subst (IsBusy (let e = E act code paths x c u b intents S steady found unended whole in e.tree) w) is (busy act code paths x c u b intents S steady found unended whole w d works) in asks_none act code paths x c u b intents S steady found unended whole w (let p = plan_of m in p.path) new v.asking))
+            (let q = moves act code paths x c u b intents S steady found unended whole in q.commits w d m works is);
+        units = h.4;
+      },
+      (only_ended (root (act u)) S T h.1, (h.2, h.3)),
+    ))

@@ -21,7 +21,6 @@ use Rattle.arj_lock_view_law.specs.Acting.{AbortionsAreSeen, CallersAreHere, Dec
 use Rattle.arj_lock_view_law.specs.Actions.{AreAlike, IsHere, IsIdle, IsLone, IsPlaced, IsSteady, SeesAction, SeesActions, invokes, stage_of}
 use Rattle.arj_lock_view_law.specs.Going.{Goes}
 use Rattle.arj_lock_view_law.proofs.OneSteps as single
-use Rattle.arj_lock_view_law.proofs.RunSteps.{goes_to}
 use Rattle.arj_lock_view_law.proofs.TreeSteps.{OnlyOne, action_kind, end_changed, merged_below, none_waits, one_changed, open_above, opens, root_there, seen_at, stage_over, top_kind, work_changed}
 
 -- an action isn't a unit

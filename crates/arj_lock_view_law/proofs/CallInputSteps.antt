@@ -1,29 +1,28 @@
 -- A whole coordinator goes in the machine: its calls and includes.
-use Rattle.std.proofs.Common.{◌≡◌, ◌≢◌, ◌≤◌, ◌<◌, ◌+◌, ◌*◌, ◌⊎◌, ◌∙◌, ◌==◌, ◌&&◌, ℕ, List, [], ◌∷◌, Bool, true, false, cond, Option, Some, None, refl, sym, ap, subst, inl, inr, ⊎_elim, arith}
-use Rattle.arj_protocol.specs.Words.{Binding, ObjectState, Op, Uid, What, uids_of}
+use Rattle.std.proofs.Common.{◌≡◌, ◌≢◌, ◌+◌, ◌*◌, ◌⊎◌, ◌∙◌, ◌==◌, ◌&&◌, ℕ, List, [], ◌∷◌, Bool, true, false, cond, Option, Some, None, refl, sym, ap, subst, inl, inr, ⊎_elim, arith}
+use Rattle.arj_protocol.specs.Words.{ObjectState, Op, Uid, What, uids_of}
 use Rattle.arj_protocol.specs.Words.bound
 use Rattle.arj_protocol.specs.Words.invoked
-use Rattle.arj_protocol.specs.Words.kind
 use Rattle.arj_protocol.specs.Words.loaded
 use Rattle.arj_protocol.specs.Words.recorded
 use Rattle.arj_protocol.specs.Ask.{Reply, actor, top_of}
-use Rattle.arj_protocol.specs.Asking.{again_all, again_now, asks_machine, asks_step, call, call_steps, give_up_call, goes_on, heard_call, include, is_invoke_ask, kept_at, last_req, renewed, root_lost, root_moved, step_call}
+use Rattle.arj_protocol.specs.Asking.{again_all, again_now, call, call_steps, give_up_call, goes_on, heard_call, is_invoke_ask, kept_at, last_req, renewed, root_lost, root_moved, step_call}
 use Rattle.arj_protocol.specs.Call.{At, AtActivate, AtBind, AtInvoke, AtLoad, AtNote, CallEnd, CallStep, Ended, Goal, Include as IncludeStore, Included, Known, Moved, On, Run, Steps, answered, bound_by, given_up, named_again, next_ask, next_node, same_binding, two_bindings, two_incs, with_inc}
 use Rattle.arj_protocol.specs.Call as protocol
 use Rattle.arj_protocol.specs.Commit.{Machine, plan_of, waiting}
-use Rattle.arj_protocol.specs.Coord.{Calling, Committing, Coord, Doing, Idle, Keeping, Now, Root, Went, doing_of, is_free, keeping_of, new_coord, on_root, root_at, with_keeping, with_went}
+use Rattle.arj_protocol.specs.Coord.{Calling, Committing, Coord, Doing, Idle, Keeping, Now, Went, doing_of, is_free, keeping_of, new_coord, on_root, root_at, with_keeping, with_went}
 use Rattle.arj_protocol.specs.Effect.{Intent, Served}
-use Rattle.arj_protocol.specs.Ending.{acked, acked_by, acked_left}
+use Rattle.arj_protocol.specs.Ending.{acked_by, acked_left}
 use Rattle.arj_protocol.specs.Order.{at_uid, binding_eq, binding_less, has, put_uid, unbound, without_number, without_uid}
 use Rattle.arj_protocol.specs.Tree.{Branch, branch_of, ends_of, new_tree, root_of, uses_object}
-use Rattle.arj_lock_law.specs.Actions.{Act, In, Root as Unit_of, root}
+use Rattle.arj_lock_law.specs.Actions.{Root as Unit_of, root}
 use Rattle.arj_lock_law.specs.Machine.{Run as MachineRun, stay}
 use Rattle.arj_lock_law.specs.State.{State}
 use Rattle.arj_part_law.specs.Copies.{Paths}
 use Rattle.arj_part_law.proofs.GoodCoords.{doing_by, uses_same}
 use Rattle.arj_part_law.proofs.GoodTrees.{found_by, place_in}
 use Rattle.arj_lock_view_law.specs.Acts.{Acts}
-use Rattle.arj_lock_view_law.specs.Calling.{IsAtWork, IsCalling, IsElsewhere, IsReached, IsWaiting, OnlyCalled, WritesLine, WritesNone}
+use Rattle.arj_lock_view_law.specs.Calling.{IsAtWork, IsReached, OnlyCalled, WritesNone}
 use Rattle.arj_lock_view_law.specs.Copies.{Codes}
 use Rattle.arj_lock_view_law.specs.Going.{Goes}
 use Rattle.arj_lock_view_law.specs.Including.{IsGranted, IsLoading}
@@ -36,10 +35,10 @@ use Rattle.arj_lock_view_law.proofs.ElseSteps.{includes_begin, other_answers_are
 use Rattle.arj_lock_view_law.proofs.EverSteps.{ever, on_run, reached_kept}
 use Rattle.arj_lock_view_law.proofs.GivingSteps.{calls_are_given_up}
 use Rattle.arj_lock_view_law.proofs.HeardSteps.{moves_asks}
-use Rattle.arj_lock_view_law.proofs.IncludeSteps.{include_answers_are_taken, includes_stay, moves_on, moves_over, nobody, on_is, on_now, over_is}
+use Rattle.arj_lock_view_law.proofs.IncludeSteps.{include_answers_are_taken, moves_on, moves_over, nobody, on_is, on_now, over_is}
 use Rattle.arj_lock_view_law.proofs.InputSteps.{to_run, whole_stays}
 use Rattle.arj_lock_view_law.proofs.InvokedSteps.{answers_are_taken}
-use Rattle.arj_lock_view_law.proofs.MoveSteps.{Grows, Moves, grows_kept, grows_lost, grows_moved, grows_went, moves_both, moves_none, moves_root, moves_told, moves_tree}
+use Rattle.arj_lock_view_law.proofs.MoveSteps.{Moves, grows_kept, grows_lost, grows_moved, grows_went, moves_both, moves_none, moves_root, moves_told, moves_tree}
 use Rattle.arj_lock_view_law.proofs.PlanSteps.{commits_stay_seen}
 use Rattle.arj_lock_view_law.proofs.StopSteps.{restarted_coords_are_seen}
 
@@ -137,7 +136,7 @@ module _ (act : Acts) (code : Codes) (x : ℕ) (c c1 : Coord) (d : Doing) (S T :
   goes_whole z works coord loads = whole_stays act code x c (let e = goes_on z c1 in e.part) S T nobody (λ w. w ≡ actor z.path) reached run
       (moves_both x c c1 (let e = goes_on z c1 in e.part) nobody (λ w. w ≡ actor z.path) (less moves) (moves_on x z c1 nobody (λ w. w ≡ actor z.path) refl)) same whole coord
       (λ w e y k new has_it is load. (let one : z ≡ y = on_now z c1 d e y works (ap (λ (v : Uid). doing_of v (let q = goes_on z c1 in q.part)) (sym new) ∙ has_it) is in
-          subst (λ (v : Steps). IsGranted act x v k (root_at (root_of v.path) (let q = goes_on z c1 in q.part)) T) one (loads k (subst (λ (v : Steps). IsLoading x v k) (sym one) load))))
+      subst (λ (v : Steps). IsGranted act x v k (root_at (root_of v.path) (let q = goes_on z c1 in q.part)) T) one (loads k (subst (λ (v : Steps). IsLoading x v k) (sym one) load))))
       (λ w e m new has_it is. absurd (let bad : Calling z ≡ Committing m = sym (on_is z c1 d e works (ap (λ (v : Uid). doing_of v (let q = goes_on z c1 in q.part)) (sym new) ∙ has_it)) ∙ is in cc bad))
       (λ w q new. absurd new)
     where
@@ -310,18 +309,21 @@ uncommitted s (Ended end) c d e m works found is = let bad : Idle ≡ Committing
 pub include_answers_are_heard : IncludeAnswersAreHeard
 include_answers_are_heard act code paths x p store c u b d s r S reached work on about goal now shows whole =
     to_run (include_answers_are_taken act code paths x p store c u b d s r S reached work on about goal now shows whole.coord whole.includes)
-    (λ T run h. (record {
-      coord = h.0;
-      includes = h.1;
-      commits = λ w y m has_it is. ⊎_elim
-          (λ old. commits_stay_seen x (act w) m S T reached run (whole.commits w old.0 m old.1 old.2))
-          (λ new. absurd (uncommitted s mv.step c1 d y m works_at (ap (λ (v : Uid). doing_of v (let e = step_call s mv.step c1 in e.part)) (sym new) ∙ has_it) is))
-          (moves.commits w y m has_it is);
-      units = λ w q there own gone. (let f = moves.was w q there in ⊎_elim
-          (λ old. (on_run (λ v. (v.action (Unit_of (root (act w)))).stage ≡ 3) (λ v t k later on_ q'. (later.ends (Unit_of (root (act w))) q').0) run (reached_kept S reached) (whole.units w f.0 f.1 (ap (λ y. root_of y) f.2 ∙ own) old)).2)
-          (λ none. absurd none)
-          (f.3 gone));
-    }, (h.2, h.3)))
+    (λ T run h. (
+      record {
+        coord = h.0;
+        includes = h.1;
+        commits = λ w y m has_it is. ⊎_elim
+            (λ old. commits_stay_seen x (act w) m S T reached run (whole.commits w old.0 m old.1 old.2))
+            (λ new. absurd (uncommitted s mv.step c1 d y m works_at (ap (λ (v : Uid). doing_of v (let e = step_call s mv.step c1 in e.part)) (sym new) ∙ has_it) is))
+            (moves.commits w y m has_it is);
+        units = λ w q there own gone. (let f = moves.was w q there in ⊎_elim
+            (λ old. (on_run (λ v. (v.action (Unit_of (root (act w)))).stage ≡ 3) (λ v t k later on_ q'. (later.ends (Unit_of (root (act w))) q').0) run (reached_kept S reached) (whole.units w f.0 f.1 (ap (λ y. root_of y) f.2 ∙ own) old)).2)
+            (λ none. absurd none)
+            (f.3 gone));
+      },
+      (h.2, h.3),
+    ))
   where
     mv : Moved
     mv = answered (is_free (root_of s.path) (actor s.path) s.x c) (kept_at s c) s.goal s.at r

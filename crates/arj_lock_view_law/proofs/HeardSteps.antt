@@ -1,32 +1,27 @@
 -- A whole coordinator goes in the machine: the commit of a top, from answer to answer.
-use Rattle.std.proofs.Common.{◌≡◌, ◌≢◌, ◌≤◌, ◌+◌, ◌⊎◌, ◌∙◌, ◌++◌, ℕ, List, [], ◌∷◌, Bool, true, false, cond, Option, Some, None, refl, sym, ap, subst, inl, inr, ⊎_elim, arith, is_some}
-use Rattle.std.specs.Prelude.{Contains}
-use Rattle.arj_base.proofs.Uids.{uid_cases}
-use Rattle.arj_protocol.specs.Words.{Ask, Binding, Op, Path, Uid, last_uid, uids_of}
-use Rattle.arj_protocol.specs.Words.cause
+use Rattle.std.proofs.Common.{◌≡◌, ◌≢◌, ◌≤◌, ◌+◌, ◌∙◌, ℕ, List, [], ◌∷◌, Bool, true, false, cond, Option, Some, None, refl, sym, ap, subst, arith, is_some}
+use Rattle.arj_protocol.specs.Words.{Ask, Binding, Path, Uid, uids_of}
 use Rattle.arj_protocol.specs.Words.confirmed
 use Rattle.arj_protocol.specs.Words.ending
 use Rattle.arj_protocol.specs.Words.kind
 use Rattle.arj_protocol.specs.Words.prepared
 use Rattle.arj_protocol.specs.Words.voted
 use Rattle.arj_protocol.specs.Ask.{Reply, actor}
-use Rattle.arj_protocol.specs.Asking.{asks_all, asks_machine, asks_node, commits_in, is_invoke_ask, moved_commit, step_commit}
-use Rattle.arj_protocol.specs.Call.{Known, Steps}
-use Rattle.arj_protocol.specs.Commit as commit
+use Rattle.arj_protocol.specs.Asking.{asks_all, asks_machine, asks_node, commits_in, is_invoke_ask, step_commit}
+use Rattle.arj_protocol.specs.Call.{Known}
 use Rattle.arj_protocol.specs.Commit.{Aborts, Asks, CommitStep, Confirming, Decides, Machine, Plan, Preparing, Stays, Used, Voting, answered, begin_confirm, begin_prepare, given_up, has_record, marks_store, marks_stores, participants, plan_of, stores_left, targets_of, votes_left, waiting, with_states}
-use Rattle.arj_protocol.specs.Coord.{Calling, Committing, Coord, Doing, Grant, Idle, Keeping, Now, Root, Said, Went, change_doing, doing_of, keeping_of, kept_of, on_doing, on_root, root_at, with_went}
+use Rattle.arj_protocol.specs.Coord.{Calling, Committing, Coord, Doing, Idle, Root, Went, change_doing, doing_of, keeping_of, kept_of, on_doing, on_root, root_at, with_went}
 use Rattle.arj_protocol.specs.Effect.{Intent}
 use Rattle.arj_protocol.specs.Ending.{decide, decided, ended, root_after}
 use Rattle.arj_protocol.specs.Order.{binding_number, put_uid, with_number, without_number}
-use Rattle.arj_protocol.specs.Tree.{Branch, branch_of, has_open_child, root_of}
-use Rattle.arj_lock_law.specs.Actions.{Act, In, is_action, is_top, root}
+use Rattle.arj_protocol.specs.Tree.{Branch, branch_of, root_of}
+use Rattle.arj_lock_law.specs.Actions.{In, is_action, root}
 use Rattle.arj_lock_law.specs.Machine.{Run, stay}
-use Rattle.arj_lock_law.specs.State as machine
-use Rattle.arj_lock_law.specs.State.{Action, Call, Message, State}
+use Rattle.arj_lock_law.specs.State.{Action, Message, State}
 use Rattle.arj_lock_law.proofs.Order.{go_on}
 use Rattle.arj_part_law.specs.Copies.{Paths}
 use Rattle.arj_part_law.specs.Coords.{IsBusy, IsVoting}
-use Rattle.arj_part_law.proofs.GoodCoords.{IsStepOf, SamePlan, answer_step, giveup_step}
+use Rattle.arj_part_law.proofs.GoodCoords.{IsStepOf, answer_step, giveup_step}
 use Rattle.arj_part_law.proofs.Settled.{doing_put}
 use Rattle.arj_lock_view_law.specs.Acting.{IsBacked, OnlyActed}
 use Rattle.arj_lock_view_law.specs.Actions.{IsSteady, SeesAction, SeesActions, invokes, stage_of}
@@ -35,11 +30,11 @@ use Rattle.arj_lock_view_law.specs.Calling.{IsReached, OnlyCalled}
 use Rattle.arj_lock_view_law.specs.Copies.{Codes}
 use Rattle.arj_lock_view_law.specs.Going.{Goes}
 use Rattle.arj_lock_view_law.specs.Inputs.{CommitAnswersAreHeard, CommitsAreLost, OnlyEnded, SeesWhole}
-use Rattle.arj_lock_view_law.specs.Plans.{OnlySent, SeesMachine, SeesNext, ShowsToCommit}
-use Rattle.arj_lock_view_law.specs.Roots.{SeesCoord, SeesKeeping, SeesRoot, SeesStep}
+use Rattle.arj_lock_view_law.specs.Plans.{OnlySent, SeesMachine, SeesNext}
+use Rattle.arj_lock_view_law.specs.Roots.{SeesCoord, SeesKeeping, SeesRoot}
 use Rattle.arj_lock_view_law.proofs.AbortSteps.{acted_none}
 use Rattle.arj_lock_view_law.proofs.ActingSteps.{decisions_are_seen, unended_none}
-use Rattle.arj_lock_view_law.proofs.AskSteps.{asks_are_nothing, commits_ask_only}
+use Rattle.arj_lock_view_law.proofs.AskSteps.{commits_ask_only}
 use Rattle.arj_lock_view_law.proofs.CallingSteps.{called_none, kept_same}
 use Rattle.arj_lock_view_law.proofs.IncludeSteps.{nobody}
 use Rattle.arj_lock_view_law.proofs.InputSteps.{abort_whole, end_goes, only_ended, then_run, to_run, whole_stays}

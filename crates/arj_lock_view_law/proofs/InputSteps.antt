@@ -1,8 +1,7 @@
 -- A whole coordinator goes in the machine: how its actions end.
-use Rattle.std.proofs.Common.{◌≡◌, ◌≢◌, ◌≤◌, ◌+◌, ◌⊎◌, ◌∙◌, ◌++◌, ℕ, List, [], ◌∷◌, Bool, true, false, cond, length, Option, Some, None, refl, sym, ap, subst, inl, inr, ⊎_elim, arith, is_some}
-use Rattle.std.specs.Prelude.{Contains}
+use Rattle.std.proofs.Common.{◌≡◌, ◌≢◌, ◌≤◌, ◌+◌, ◌⊎◌, ◌∙◌, ℕ, List, true, false, cond, length, Option, Some, refl, sym, ap, subst, inl, inr, ⊎_elim, arith, is_some}
 use Rattle.arj_base.proofs.Uids.{uid_cases}
-use Rattle.arj_protocol.specs.Words.{End, Kind, Uid, first_uid, is_on, last_uid, uids_of}
+use Rattle.arj_protocol.specs.Words.{End, Kind, Uid, first_uid, is_on, last_uid}
 use Rattle.arj_protocol.specs.Words.cause
 use Rattle.arj_protocol.specs.Words.ending
 use Rattle.arj_protocol.specs.Words.kind
@@ -10,13 +9,12 @@ use Rattle.arj_protocol.specs.Ask.{actor}
 use Rattle.arj_protocol.specs.Asking.{commit_action, commit_open}
 use Rattle.arj_protocol.specs.Call.{Known, Steps}
 use Rattle.arj_protocol.specs.Commit.{Machine}
-use Rattle.arj_protocol.specs.Coord.{Calling, Committing, Coord, Doing, Idle, Said, doing_of, root_at}
+use Rattle.arj_protocol.specs.Coord.{Calling, Committing, Coord, Doing, Idle, doing_of, root_at}
 use Rattle.arj_protocol.specs.Ending.{aborts_with, ended}
 use Rattle.arj_protocol.specs.Tree.{Branch, branch_of, has_open_child, root_of}
-use Rattle.arj_lock_law.specs.Actions.{Act, In, Root, is_action, root}
+use Rattle.arj_lock_law.specs.Actions.{Act, Root, is_action, root}
 use Rattle.arj_lock_law.specs.Machine.{Run, stay}
-use Rattle.arj_lock_law.specs.State as machine
-use Rattle.arj_lock_law.specs.State.{Action, Call, State}
+use Rattle.arj_lock_law.specs.State.{Action, State}
 use Rattle.arj_lock_law.proofs.Order.{go_on}
 use Rattle.arj_lock_law.proofs.Paths.{by_cases, differ, on_root as same_unit, root_is}
 use Rattle.arj_part_law.specs.Claims.{GoesOn}
@@ -37,7 +35,7 @@ use Rattle.arj_lock_view_law.specs.Plans.{SeesMachine}
 use Rattle.arj_lock_view_law.specs.Roots.{SeesCoord}
 use Rattle.arj_lock_view_law.proofs.AbortSteps.{acted_both}
 use Rattle.arj_lock_view_law.proofs.ActingSteps.{abortions_are_seen, nested_commits_are_seen, plain_goes, unit_open, units_end}
-use Rattle.arj_lock_view_law.proofs.EverSteps.{Ever, ever, on_run, reached_kept}
+use Rattle.arj_lock_view_law.proofs.EverSteps.{ever, on_run, reached_kept}
 use Rattle.arj_lock_view_law.proofs.IncludeSteps.{includes_stay}
 use Rattle.arj_lock_view_law.proofs.MoveSteps.{Moves, moves_end}
 use Rattle.arj_lock_view_law.proofs.OneSteps.{OnlyOne, end_changed}

@@ -1,7 +1,6 @@
 -- A whole coordinator goes in the machine: the commit of a top is called.
-use Rattle.std.proofs.Common.{◌≡◌, ◌≢◌, ◌≤◌, ◌+◌, ◌*◌, ◌⊎◌, ◌∙◌, ℕ, zero, suc, List, [], ◌∷◌, Bool, true, false, cond, length, Option, Some, None, refl, sym, ap, subst, inl, inr, ⊎_elim, is_some, arith}
+use Rattle.std.proofs.Common.{◌≡◌, ◌≢◌, ◌≤◌, ◌+◌, ◌*◌, ◌⊎◌, ◌∙◌, ℕ, zero, suc, List, [], ◌∷◌, true, false, cond, length, Option, Some, refl, sym, ap, subst, inl, inr, ⊎_elim, arith}
 use Rattle.std.specs.Prelude.{Contains, slice_set}
-use Rattle.arj_base.proofs.Uids.{uid_cases}
 use Rattle.arj_lock.proofs.Members.{in_from}
 use Rattle.arj_protocol.specs.Words.{Kind, Uid}
 use Rattle.arj_protocol.specs.Words.cause
@@ -15,7 +14,7 @@ use Rattle.arj_protocol.specs.Effect.{Intent}
 use Rattle.arj_protocol.specs.Ending.{aborts_with, decide, ended, root_after}
 use Rattle.arj_protocol.specs.Tree.{Branch, branch_of, ended_at, has_open_child, root_of, set_place}
 use Rattle.arj_lock_law.specs.Actions.{Act, In, root, same, top}
-use Rattle.arj_lock_law.specs.Machine.{Run, stay}
+use Rattle.arj_lock_law.specs.Machine.{Run}
 use Rattle.arj_lock_law.specs.State.{Action, Alive, Call, Covered, Include, State}
 use Rattle.arj_lock_law.proofs.Order.{go_on}
 use Rattle.arj_lock_law.proofs.Paths.{by_cases, same_is}
@@ -24,13 +23,13 @@ use Rattle.arj_part_law.specs.Coords.{IsVoting}
 use Rattle.arj_part_law.proofs.GoodCoords.{good_on, voting_at}
 use Rattle.arj_part_law.proofs.Settled.{doing_put, place_length}
 use Rattle.arj_lock_view_law.specs.Acting.{IsFirst, IsFreeToEnd, OnlyActed}
-use Rattle.arj_lock_view_law.specs.Actions.{IsPlaced, IsSteady, SeesAction, stage_of}
+use Rattle.arj_lock_view_law.specs.Actions.{IsSteady, SeesAction, stage_of}
 use Rattle.arj_lock_view_law.specs.Acts.{Acts}
 use Rattle.arj_lock_view_law.specs.Calling.{IsReached}
 use Rattle.arj_lock_view_law.specs.Copies.{Codes}
 use Rattle.arj_lock_view_law.specs.Going.{Goes}
 use Rattle.arj_lock_view_law.specs.Inputs.{CoversUnit, IsOfUnit, OnlyEnded, SeesWhole, TopCommitsAreTaken, plan_now}
-use Rattle.arj_lock_view_law.specs.Plans.{AreKept, IsCounted, IsIncluded, OnlySent, SeesMachine, SeesNext, SeesPlan}
+use Rattle.arj_lock_view_law.specs.Plans.{AreKept, OnlySent, SeesMachine, SeesNext, SeesPlan}
 use Rattle.arj_lock_view_law.specs.Roots.{SeesCoord}
 use Rattle.arj_lock_view_law.proofs.ActingSteps.{tops_begin, unended_none}
 use Rattle.arj_lock_view_law.proofs.AskSteps.{commits_ask_only}
@@ -38,7 +37,7 @@ use Rattle.arj_lock_view_law.proofs.CallInputSteps.{quiet_whole}
 use Rattle.arj_lock_view_law.proofs.HeardSteps.{coord_sent, moves_asks, step_goes}
 use Rattle.arj_lock_view_law.proofs.IncludeSteps.{nobody}
 use Rattle.arj_lock_view_law.proofs.InputSteps.{callers_here, then_run, to_run, whole_stays}
-use Rattle.arj_lock_view_law.proofs.MoveSteps.{Moves, moves_doing}
+use Rattle.arj_lock_view_law.proofs.MoveSteps.{moves_doing}
 use Rattle.arj_lock_view_law.proofs.OneSteps.{OnlyOne, ended_is, work_changed}
 use Rattle.arj_lock_view_law.proofs.PlanSteps.{commits_set_out}
 use Rattle.arj_lock_view_law.proofs.TreeSteps.{action_kind, top_kind}
@@ -145,10 +144,13 @@ module _ (act : Acts) (code : Codes) (paths : Paths) (x p : ℕ) (c : Coord) (u 
 
           unit_S : (a : Act) → Covered T (act u) a → IsOfUnit (act u) a S
           unit_S a (r, inl is) = (r, inl is)
-          unit_S a (r, inr (three, less)) = (r, inr (⊎_elim
-              (λ (is : same (top a) (act u) ≡ true). absurd (let e : (T.action (top a)).stage ≡ (T.action (act u)).stage = ap (λ (y : Act). (T.action y).stage) (same_is (top a) (act u) is) in omega (arith, e, three, one)))
-              (λ (isnt : same (top a) (act u) ≡ false). ap (λ (y : Action). y.stage) (sym (others (top a) isnt)) ∙ three)
-              (by_cases (same (top a) (act u)))))
+          unit_S a (r, inr (three, less)) = (
+            r,
+            inr (⊎_elim
+                (λ (is : same (top a) (act u) ≡ true). absurd (let e : (T.action (top a)).stage ≡ (T.action (act u)).stage = ap (λ (y : Act). (T.action y).stage) (same_is (top a) (act u) is) in omega (arith, e, three, one)))
+                (λ (isnt : same (top a) (act u) ≡ false). ap (λ (y : Action). y.stage) (sym (others (top a) isnt)) ∙ three)
+                (by_cases (same (top a) (act u)))),
+          )
 
   abbrev After : Coord → State → Type 0
   After e V = SeesWhole act code x e V × (OnlyEnded unit S V × (V.now ≤ p + 2))
@@ -182,9 +184,10 @@ module _ (act : Acts) (code : Codes) (paths : Paths) (x p : ℕ) (c : Coord) (u 
       to_run (commits_set_out x (act u) pl T (reached.0, go_on reached.1 run) y.one y.kept y.plan) (λ V run_V z.
       let sent = z.1 in
       let coord_V : SeesCoord act code x (commits_in u m c) V = subst (SeesCoord act code x (commits_in u m c)) (sym sent.rest) (coord_sent act code x (commits_in u m c) T V.net sent.sent y.coord) in
-      let at_V = whole_at m V (go_on run run_V) (ap (λ (s : State). s.includes) sent.rest ∙ ap (λ (s : State). s.includes) (let o = y.only in o.rest)) coord_V (subst (λ (t : CommitStep). SeesNext x (act u) t V) is z.0) in
-      (quiet_whole act code x (commits_in u m c) (let a = asks_machine m (commits_in u m c) in a.part) V (reached.0, go_on reached.1 (go_on run run_V)) (moves_asks x (let q = plan_of m in q.path) (let q = plan_of m in q.req) (waiting m) (commits_in u m c) nobody nobody) at_V (commits_ask_only act code x m (commits_in u m c) V coord_V),
-        (only_all T V y.only sent, (let e : V.now ≡ T.now = ap (λ (s : State). s.now) sent.rest in let f = y.then in omega (arith, e, f))))))
+      let at_V = whole_at m V (go_on run run_V) (ap (λ (s : State). s.includes) sent.rest ∙ ap (λ (s : State). s.includes) (let o = y.only in o.rest)) coord_V (subst (λ (t : CommitStep). SeesNext x (act u) t V) is z.0) in (
+        quiet_whole act code x (commits_in u m c) (let a = asks_machine m (commits_in u m c) in a.part) V (reached.0, go_on reached.1 (go_on run run_V)) (moves_asks x (let q = plan_of m in q.path) (let q = plan_of m in q.req) (waiting m) (commits_in u m c) nobody nobody) at_V (commits_ask_only act code x m (commits_in u m c) V coord_V),
+        (only_all T V y.only sent, (let e : V.now ≡ T.now = ap (λ (s : State). s.now) sent.rest in let f = y.then in omega (arith, e, f))),
+      )))
 
   -- or is decided
   module _ (unused : pl.used ≡ []) where

@@ -14,7 +14,7 @@ use Rattle.arj_protocol.specs.Tree.{Branch, branch_of, has_open_child, root_of}
 use Rattle.arj_lock_law.specs.Actions.{Act, In, root, top}
 use Rattle.arj_lock_law.specs.State.{Alive, Call, Include, State}
 use Rattle.arj_part_law.specs.Copies.{Paths}
-use Rattle.arj_lock_view_law.specs.Acting.{IsFirst, IsFreeToEnd, OnlyActed}
+use Rattle.arj_lock_view_law.specs.Acting.{IsFirst, IsFreeToEnd}
 use Rattle.arj_lock_view_law.specs.Actions.{IsSteady}
 use Rattle.arj_lock_view_law.specs.Acts.{Acts}
 use Rattle.arj_lock_view_law.specs.Calling.{IsAtWork, IsCalling, IsElsewhere, IsReached, IsWaiting, OnlyCalled, ShowsAnswer, WritesLine, WritesNone}

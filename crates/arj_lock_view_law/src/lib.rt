@@ -16,7 +16,8 @@
 //! Of a coordinator its tree is seen (`specs/Actions.antt`), how its actions begin and end (`specs/Begins.antt`, `specs/Acting.antt`,
 //! `specs/Whole.antt`), one by one or many at once, as by an abort, a stop and a restart (`specs/Stops.antt`); what its roots keep
 //! (`specs/Roots.antt`), how its calls go (`specs/Calling.antt`) and its includes (`specs/Including.antt`), how the commit of a top goes
-//! and what it asks (`specs/Plans.antt`), and what requests show for ever (`specs/Asks.antt`).
+//! and what it asks (`specs/Plans.antt`), what requests show for ever (`specs/Asks.antt`), and the whole of it at each input and each answer
+//! (`specs/Inputs.antt`).
 #![tactic(auto)]
 
 mod coord;
@@ -24,9 +25,9 @@ mod naming;
 mod server;
 
 pub use coord::{
-    actions_begin, calls_at_coordinators_are_seen, commits_go_on, coordinators_are_seen, ends_at_coordinators_are_seen,
-    ends_keep_roots, includes_are_seen, many_end_at_coordinators, other_calls_are_nothing,
-    requests_are_shown,
+    actions_begin, calls_at_coordinators_are_seen, commits_go_on, coordinators_are_seen,
+    ends_at_coordinators_are_seen, ends_keep_roots, includes_are_seen, many_end_at_coordinators,
+    other_calls_are_nothing, requests_are_shown,
 };
 pub use naming::{
     binds_are_seen, ends_are_seen, excludes_are_seen, hellos_are_seen, records_are_seen,
