@@ -5,6 +5,7 @@ pub mod AnswerSteps
 pub mod AskSteps
 pub mod AskedSteps
 pub mod BeginSteps
+pub mod BesideSteps
 pub mod BindSteps
 pub mod CallInputSteps
 pub mod CallingSteps

@@ -22,4 +22,5 @@ pub mod Telling
 pub mod Serving
 pub mod Families
 pub mod Listed
+pub mod Beside
 pub mod Handling

@@ -1,4 +1,5 @@
 // A server, as the lock machine of one object has it.
+ghost use Rattle.arj_lock_view_law.specs.Beside.{CoordsStaySeen, NamedStaysSeen, OtherServersStaySeen, ServersStaySeen};
 ghost use Rattle.arj_lock_view_law.specs.Commits.{FoldingsAreSeen, ReadingsAreSeen, RetainingsAreSeen, SettlingsAreSeen, VotesAreSeen};
 ghost use Rattle.arj_lock_view_law.specs.Copies.{ActivationsAreSeen, OperationsAreSeen, RefusalsAreSeen, UndoingsAreSeen};
 ghost use Rattle.arj_lock_view_law.specs.Families.{FamiliesAreTrees, OlderAreTrees};
@@ -68,4 +69,13 @@ pub fn ends_are_shown()
 pub fn begun_actions_have_places()
     ensures all { FamiliesAreTrees }
     ensures older { OlderAreTrees }
+{}
+
+/// What a server does with a message leaves coordinators, the object at naming and the servers of other nodes seen, and what coordinators and
+/// naming do leaves it seen. It does nothing when it runs.
+pub fn servers_stay_beside()
+    ensures coords { CoordsStaySeen }
+    ensures named { NamedStaysSeen }
+    ensures others { OtherServersStaySeen }
+    ensures servers { ServersStaySeen }
 {}

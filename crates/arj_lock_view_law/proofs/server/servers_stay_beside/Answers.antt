@@ -1,0 +1,14 @@
+use Rattle.arj_lock_view_law.proofs.BesideSteps.{coords_stay_seen, named_stays_seen, other_servers_stay_seen, servers_stay_seen}
+use Rattle.arj_lock_view_law.proofs.server.servers_stay_beside.Goals as goal
+
+pub returns-clause-coords : goal.returns-clause-coords
+returns-clause-coords c = coords_stay_seen
+
+pub returns-clause-named : goal.returns-clause-named
+returns-clause-named c = named_stays_seen
+
+pub returns-clause-others : goal.returns-clause-others
+returns-clause-others c = other_servers_stay_seen
+
+pub returns-clause-servers : goal.returns-clause-servers
+returns-clause-servers c = servers_stay_seen
