@@ -1,6 +1,7 @@
 -- Numbers of banks, and what a run of one left.
 use Rattle.std.proofs.Common.{◌≡◌, ℕ, ◌+◌, List, [], ◌∷◌, String, sym, ◌∙◌, subst, arith}
 use Rattle.std.specs.Fmt.{decimal}
+use Rattle.std.specs.Prelude.{Result, Ok, Err, IfOk, OnOk}
 use Rattle.std.specs.declared.alloc.Global.{Global}
 use Rattle.std.proofs.lemmas.Fmt.{decimal_injective}
 use Rattle.arj_bank.specs.Bank.{Generates, MovesBank}
@@ -14,6 +15,11 @@ use Rattle.arj_nodes.specs.AsMachine.{all_nodes}
 use Rattle.arj_nodes.specs.Command.{IsReplay}
 use Rattle.arj_nodes.proofs.Closing.{moves_on}
 use Rattle.arj_world.proofs.Disks.{moved_then}
+
+-- what an answer has and what holds beside it
+pub if_ok_with : {T E : Type 0} (r : Result T E) (P R : T → Type 0) (Q : Type 0) → ((value : T) → P value → Q → R value) → IfOk r P → OnOk r Q → IfOk r R
+if_ok_with (Ok value) P R Q f p q = f value p q
+if_ok_with (Err fault) P R Q f p q = tt
 
 -- words name one text
 one_text : (words : List (String Global)) (a b : List ℕ) → NamesBank words a → NamesBank words b → a ≡ b

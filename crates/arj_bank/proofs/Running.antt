@@ -2,7 +2,7 @@
 use Rattle.std.proofs.Common.{◌≡◌, inl, inr, ℕ, ◌+◌, ◌≤◌, ◌<◌, List, [], ◌∷◌, ◌++◌, length, length-append, append_assoc, true, false, map, refl, sym, ◌∙◌, ap, subst, arith}
 use Rattle.std.specs.List.{AllByRecursion}
 use Rattle.std.proofs.lemmas.List.{append-nil, length-map}
-use Rattle.arj_bank.specs.Bank.{AtLimit, EndsAtLimit, Left, RanBank, RanWhole, TakesAll, left, task}
+use Rattle.arj_bank.specs.Bank.{AtLimit, EndsAtLimit, Left, RanBank, RanWhole, TakesAll, left}
 use Rattle.arj_bank.specs.Underway.{Moment, Underway}
 use Rattle.arj_gen.specs.Bank.{bank_header, event_lines}
 use Rattle.arj_journal.specs.ScriptForm.{EventInForm}
@@ -14,7 +14,9 @@ use Rattle.arj_journal.specs.declared.event.Event.{Event}
 use Rattle.arj_journal.specs.declared.header.Header.{Header}
 use Rattle.arj_loop.specs.Limits.{EndsAtFrames}
 use Rattle.arj_loop.specs.Running.{Moved}
+use Rattle.arj_loop.specs.declared.limits.TheConstants.{MOST_EVENTS}
 use Rattle.arj_loop.specs.declared.machine.Machine.{Ghosts}
+use Rattle.arj_nodes.specs.AllNodes.{task}
 use Rattle.arj_loop.proofs.Stages.{moved_more, moved_none, moved_once}
 
 -- what a call makes of every run so far, where it runs these events more
@@ -39,7 +41,7 @@ module _ {D M : Type 0} (m : Ghosts M D) where
   }
 
   -- there is room for one more
-  pub has_room : (given : List Event) (e : Event) (rest : List Event) (old now : Moment D M) → Underway m given (e ∷ rest) old now → length given ≤ 200000 → m.steps now.machine < 200000
+  pub has_room : (given : List Event) (e : Event) (rest : List Event) (old now : Moment D M) → Underway m given (e ∷ rest) old now → length given ≤ MOST_EVENTS → m.steps now.machine < MOST_EVENTS
   has_room given e rest old now u few = omega (arith, u.steps, ap length u.cut, length-append u.done (e ∷ rest), few)
 
   -- some run has come so far

@@ -19,18 +19,10 @@ use Rattle.arj_loop.specs.Limits.{EndsAtFrames}
 use Rattle.arj_loop.specs.Replayed.{Answer, Outside}
 use Rattle.arj_loop.specs.Running.{Moved}
 use Rattle.arj_loop.specs.declared.machine.Machine.{Ghosts}
-use Rattle.arj_world.specs.Disks.{HasStopped, HaveMoved}
+use Rattle.arj_nodes.specs.AllNodes.{Task, task}
+use Rattle.arj_world.specs.Disks.{HasStopped, HaveMoved, HaveNotStopped}
 
 -- ---- runs of any events
-
--- What is to be run: the disks on which it begins, its header and its events.
-pub record Task (D : Type 0) : Type 0 where
-  pub first : List D
-  pub header : Header
-  pub events : List Event
-
-abbrev pub task : {D : Type 0} → List D → Header → List Event → Task D
-task first header events = record { first = first; header = header; events = events }
 
 -- What a run leaves: the disks and the journal.
 pub record Left (D : Type 0) : Type 0 where
@@ -84,7 +76,7 @@ TakesAll m events = AllByRecursion (λ e. m.takes_event e ≡ true) events
 
 -- the machine takes the bank of n: its count of nodes, and each of its events
 pub record TakesBank {D M : Type 0} (m : Ghosts M D) (n : ℕ) : Type 0 where
-  pub nodes : m.takes_nodes 5 ≡ true
+  pub nodes : m.takes_nodes bank_header.nodes ≡ true
   pub events : (events : List Event) → map event_text events ≡ event_lines n → TakesAll m events
 
 -- The whole bank of n was run, from these disks on.
@@ -104,12 +96,13 @@ abbrev pub SumsUp : {D : Type 0} → (D → FileMap) → ℕ → List D → List
 SumsUp file events rack journal bytes = (sum : ℕ) × AddUpTo (files_at file rack) ACCOUNTS sum × (bytes ≡ summary_text (summary_of events journal sum))
 
 -- The whole bank of n was run, and these bytes are its summary. The sum was read from the disks that the run left, and the reads
--- left their files as they were.
-pub record IsSummary {D M : Type 0} (m : Ghosts M D) (file : D → FileMap) (n : ℕ) (first : List D) (now : Left D) (bytes : List ℕ) : Type 0 where
+-- left their files as they were. None of them was stopped.
+pub record IsSummary {D M : Type 0} (m : Ghosts M D) (d : disk.Ghosts D) (n : ℕ) (first : List D) (now : Left D) (bytes : List ℕ) : Type 0 where
   pub mid : List D
   pub ran : RanBank m n first (left mid now.journal)
-  pub sums : SumsUp file (length (event_lines n)) mid now.journal bytes
-  pub kept : files_at file now.rack ≡ files_at file mid
+  pub sums : SumsUp d.file (length (event_lines n)) mid now.journal bytes
+  pub kept : files_at d.file now.rack ≡ files_at d.file mid
+  pub unstopped : HaveNotStopped d mid now.rack
 
 -- The whole bank of n was run, and a disk was stopped while the sum was read.
 pub record StopsAtSum {D M : Type 0} (m : Ghosts M D) (d : disk.Ghosts D) (n : ℕ) (first : List D) (now : Left D) : Type 0 where
@@ -130,9 +123,9 @@ pub record MovesBank {D M : Type 0} (m : Ghosts M D) (d : disk.Ghosts D) (before
 -- A run of `generate n`: what it found and left outside of it, and what it answers, status by status.
 pub record Generates {D M : Type 0} (m : Ghosts M D) (d : disk.Ghosts D) (n : ℕ) (before after : Outside D) (answer : Answer) : Type 0 where
   -- the sink took the summary
-  pub summed : answer.status ≡ 0 → (text : List ℕ) × IsSummary m d.file n before.rack (left after.rack answer.journal) text × Takes before.taken text after.taken
+  pub summed : answer.status ≡ 0 → (text : List ℕ) × IsSummary m d n before.rack (left after.rack answer.journal) text × Takes before.taken text after.taken
   -- a write failed: the sink took a front of it
-  pub front : answer.status ≡ 4 → (text : List ℕ) × (count : ℕ) × IsSummary m d.file n before.rack (left after.rack answer.journal) text × Takes before.taken (take count text) after.taken
+  pub front : answer.status ≡ 4 → (text : List ℕ) × (count : ℕ) × IsSummary m d n before.rack (left after.rack answer.journal) text × Takes before.taken (take count text) after.taken
   -- else it took nothing
   pub unwritten : answer.status ≢ 0 → answer.status ≢ 4 → after.taken ≡ before.taken
   pub limit : answer.status ≡ 6 → EndsAtLimit m n before.rack (left after.rack answer.journal)

@@ -12,9 +12,13 @@ abbrev pub NamesBank : List (String Global) → List ℕ → Type 0
 NamesBank (word ∷ number ∷ []) text = (string_bytes word ≡ codes "generate") × (string_bytes number ≡ text)
 NamesBank _ text = ⊥
 
--- it is the word `generate` and this number of 32 bits, in decimal without leading zeros
+-- how many banks there are: one for each number of 32 bits
+abbrev pub most_banks : ℕ
+most_banks = 4294967296
+
+-- it is the word `generate` and the number of a bank, in decimal without leading zeros
 abbrev pub IsGenerate : List (String Global) → ℕ → Type 0
-IsGenerate words n = (n < 4294967296) × NamesBank words (decimal n)
+IsGenerate words n = (n < most_banks) × NamesBank words (decimal n)
 
 -- it is one of the two
 abbrev pub IsCommand : List (String Global) → Type 0

@@ -1,13 +1,15 @@
 -- A run that is under way: how far it has come.
 use Rattle.std.specs.Prelude.{◌≡◌, ◌≤◌, List, [], ◌∷◌, ◌++◌, false, length}
 use Rattle.std.specs.List.{AllByRecursion}
-use Rattle.arj_bank.specs.Bank.{AtLimit, Left, TakesAll, task}
+use Rattle.arj_bank.specs.Bank.{AtLimit, Left, TakesAll}
 use Rattle.arj_journal.specs.ScriptForm.{EventInForm}
 use Rattle.arj_journal.specs.declared.body.Line.{Line}
 use Rattle.arj_journal.specs.declared.event.Event.{Event}
 use Rattle.arj_journal.specs.declared.header.Header.{Header}
 use Rattle.arj_loop.specs.Running.{Moved}
+use Rattle.arj_loop.specs.declared.limits.TheConstants.{MOST_EVENTS}
 use Rattle.arj_loop.specs.declared.machine.Machine.{Ghosts}
+use Rattle.arj_nodes.specs.AllNodes.{task}
 
 -- the disks, the machine and the journal at one moment
 pub record Moment (D M : Type 0) : Type 0 where
@@ -35,7 +37,7 @@ HasRun {D} m old = (first : List D) × (header : Header) × m.ran first header [
 
 -- some run has come to this event
 abbrev pub Goes : {D M : Type 0} → Ghosts M D → Event → Moment D M → Type 0
-Goes {D} {M} m e now = (given : List Event) × (rest : List Event) × (old : Moment D M) × Underway m given (e ∷ rest) old now × (length given ≤ 200000) × HasRun m old
+Goes {D} {M} m e now = (given : List Event) × (rest : List Event) × (old : Moment D M) × Underway m given (e ∷ rest) old now × (length given ≤ MOST_EVENTS) × HasRun m old
 
 -- the run of these events came to a limit
 abbrev pub Ends : {D M : Type 0} → Ghosts M D → List Event → Moment D M → Left D → Type 0

@@ -1,11 +1,11 @@
 // What the disks hold of the bank.
-ghost use Rattle.std.specs.Prelude.{◌≡◌, ◌+◌, Some, IfOk, IsErrOf};
+ghost use Rattle.std.specs.Prelude.{◌≡◌, ◌+◌, Some, IfOk, IsErrOf, OnOk};
 ghost use Rattle.arj_base.specs.State.{StateInForm, state_bytes};
 ghost use Rattle.arj_bank.specs.Balances.{AddUpTo, HasBalance, Holds, IsBalance, ListsFirst, capped, files_at, first_node, is_number, number_in};
 ghost use Rattle.arj_disk.specs.Counted.{counts};
 ghost use Rattle.arj_disk.specs.Disk.{CountsCall, Same};
 ghost use Rattle.arj_text.specs.Fields.{IsRead};
-ghost use Rattle.arj_world.specs.Disks.{HasStopped, HaveMoved};
+ghost use Rattle.arj_world.specs.Disks.{HasStopped, HaveMoved, HaveNotStopped};
 
 use arj_base::{ObjectState, StateFault, Uid, entry_uid, object_uid, unpack};
 use arj_class::{ClassFault, Value};
@@ -51,7 +51,7 @@ fn is_number(node: u8) -> bool
 }
 
 // The same of a node's disk. There is none for a number that is no node's.
-#[tactic(auto, using(arj_world::proofs::Disks::moved_call, arj_world::proofs::Disks::moved_none, arj_world::proofs::Disks::stopped_at))]
+#[tactic(auto, using(arj_world::proofs::Disks::moved_call, arj_world::proofs::Disks::moved_none, arj_world::proofs::Disks::stopped_at, arj_world::proofs::Disks::unstopped_none))]
 fn committed_at<D: Disk>(
     alloc: Global,
     rack: &mut Rack<D>,
@@ -62,6 +62,7 @@ fn committed_at<D: Disk>(
     ensures files { files_at D.file rack.new ≡ files_at D.file rack.old }
     ensures moved { HaveMoved D.Disk 0 rack.old rack.new }
     ensures stopped { IsErrOf result DiskFault.Stopped → HasStopped D.Disk rack.old rack.new }
+    ensures unstopped { OnOk result (HaveNotStopped D.Disk rack.old rack.new) }
 {
     if !is_number(node) {
         return Ok(None);
@@ -123,6 +124,7 @@ fn balance<D: Disk>(alloc: Global, rack: &mut Rack<D>, x: u16) -> Result<u64, Di
     ensures files { files_at D.file rack.new ≡ files_at D.file rack.old }
     ensures moved { HaveMoved D.Disk 0 rack.old rack.new }
     ensures stopped { IsErrOf result DiskFault.Stopped → HasStopped D.Disk rack.old rack.new }
+    ensures unstopped { OnOk result (HaveNotStopped D.Disk rack.old rack.new) }
 {
     let named = committed_at(alloc, rack, 1, entry_uid(x))?;
     let store = first_store(alloc, named)?;
@@ -149,6 +151,7 @@ pub fn sum<D: Disk>(alloc: Global, rack: &mut Rack<D>) -> Result<u64, DiskFault>
     ensures files { files_at D.file rack.new ≡ files_at D.file rack.old }
     ensures moved { HaveMoved D.Disk 0 rack.old rack.new }
     ensures stopped { IsErrOf result DiskFault.Stopped → HasStopped D.Disk rack.old rack.new }
+    ensures unstopped { OnOk result (HaveNotStopped D.Disk rack.old rack.new) }
 {
     let mut sum: u64 = 0;
     for k in 0..ACCOUNTS {

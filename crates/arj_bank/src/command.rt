@@ -1,7 +1,7 @@
 // What the words of the command line ask for.
 ghost use Rattle.std.specs.Prelude.{◌≡◌, ◌<◌, ℕ, List, MatchOption, IfOk, OnErr};
 ghost use Rattle.std.specs.Fmt.{decimal};
-ghost use Rattle.arj_bank.specs.Command.{IsGenerate, NamesBank, Says};
+ghost use Rattle.arj_bank.specs.Command.{IsGenerate, NamesBank, Says, most_banks};
 ghost use Rattle.arj_nodes.specs.Command.{IsReplay};
 
 use arj_text::field::{WORD_MAX, number};
@@ -33,7 +33,7 @@ fn bank_word(words: &[String]) -> Option<&str>
 
 // The number that a word says: of 32 bits, in decimal without leading zeros.
 fn bank_number(alloc: Global, word: &str) -> Result<Option<u32>, AllocError>
-    ensures { IfOk result (λ found. MatchOption found ((n : ℕ) → n < 4294967296 → word.now ≡ decimal n → ⊥) (λ n. word.now ≡ decimal n)) }
+    ensures { IfOk result (λ found. MatchOption found ((n : ℕ) → n < most_banks → word.now ≡ decimal n → ⊥) (λ n. word.now ≡ decimal n)) }
 {
     match number(alloc, word.as_bytes(), 0, WORD_MAX)? {
         Some(n) => Ok(Some(n as u32)),

@@ -1,10 +1,10 @@
 // The generated bank, run and summed up.
-ghost use Rattle.std.specs.Prelude.{◌≡◌, ◌≢◌, ◌≤◌, ℕ, List, [], take, IfOk, IsErrOf};
+ghost use Rattle.std.specs.Prelude.{◌≡◌, ◌≢◌, ◌≤◌, ℕ, List, [], take, IfOk, IsErrOf, OnOk};
 ghost use Rattle.arj_base.specs.Count.{Rose};
 ghost use Rattle.arj_bank.specs.Balances.{files_at};
 ghost use Rattle.arj_bank.specs.Bank.{EndsAtLimit, IsSummary, MovesBank, StopsBank, SumsUp, TakesBank, left};
 ghost use Rattle.arj_io.specs.Told.{Takes};
-ghost use Rattle.arj_world.specs.Disks.{HasStopped, HaveMoved};
+ghost use Rattle.arj_world.specs.Disks.{HasStopped, HaveMoved, HaveNotStopped};
 
 use crate::balances::sum;
 use crate::run::run_bank;
@@ -27,6 +27,7 @@ fn sum_up<D: Disk>(
     ensures text { IfOk result (λ text. SumsUp D.file events rack.old journal.now text) }
     ensures files { files_at D.file rack.new ≡ files_at D.file rack.old }
     ensures stopped { IsErrOf result Stop.Disk → HasStopped D.Disk rack.old rack.new }
+    ensures unstopped { OnOk result (HaveNotStopped D.Disk rack.old rack.new) }
     ensures limit { IsErrOf result Stop.Limit → ⊥ }
     ensures moved { HaveMoved D.Disk 0 rack.old rack.new }
 {
@@ -50,7 +51,7 @@ fn summary<D: Disk, M: Machine<D>>(
     requires ready { M.ready rack.old }
     requires fresh { journal.old ≡ [] }
     requires takes { TakesBank M.Machine n }
-    ensures text { IfOk result (λ text. IsSummary M.Machine D.file n rack.old (left rack.new journal.new) text) }
+    ensures text { IfOk result (λ text. IsSummary M.Machine D.Disk n rack.old (left rack.new journal.new) text) }
     ensures limit { IsErrOf result Stop.Limit → EndsAtLimit M.Machine n rack.old (left rack.new journal.new) }
     ensures stopped { IsErrOf result Stop.Disk → StopsBank M.Machine D.Disk n rack.old (left rack.new journal.new) }
     ensures moved { MovesBank M.Machine D.Disk rack.old rack.new }
@@ -76,8 +77,8 @@ pub fn generated<K: Sink, D: Disk, M: Machine<D>>(
     requires ready { M.ready rack.old }
     requires fresh { journal.old ≡ [] }
     requires takes { TakesBank M.Machine n }
-    ensures summed { result ≡ 0 → (text : List ℕ) × IsSummary M.Machine D.file n rack.old (left rack.new journal.new) text × Takes (K.taken sink.old) text (K.taken sink.new) }
-    ensures front { result ≡ 4 → (text : List ℕ) × (count : ℕ) × IsSummary M.Machine D.file n rack.old (left rack.new journal.new) text × Takes (K.taken sink.old) (take count text) (K.taken sink.new) }
+    ensures summed { result ≡ 0 → (text : List ℕ) × IsSummary M.Machine D.Disk n rack.old (left rack.new journal.new) text × Takes (K.taken sink.old) text (K.taken sink.new) }
+    ensures front { result ≡ 4 → (text : List ℕ) × (count : ℕ) × IsSummary M.Machine D.Disk n rack.old (left rack.new journal.new) text × Takes (K.taken sink.old) (take count text) (K.taken sink.new) }
     ensures limit { result ≡ 6 → EndsAtLimit M.Machine n rack.old (left rack.new journal.new) }
     ensures stopped { result ≡ 7 → StopsBank M.Machine D.Disk n rack.old (left rack.new journal.new) }
     ensures statuses { (result ≤ 7) × (result ≢ 1) × (result ≢ 2) × (result ≢ 3) }

@@ -1,13 +1,15 @@
 // The bank's script on a machine.
 ghost use Rattle.std.specs.Prelude.{◌≡◌, ◌≤◌, ◌+◌, ◌++◌, ◌∷◌, [], ℕ, List, length, false, OnOk, IfOk, IsErrOf};
 ghost use Rattle.std.specs.List.{AllByRecursion};
-ghost use Rattle.arj_bank.specs.Bank.{EndsAtLimit, RanBank, RanWhole, TakesAll, TakesBank, left, task};
+ghost use Rattle.arj_bank.specs.Bank.{EndsAtLimit, RanBank, RanWhole, TakesAll, TakesBank, left};
 ghost use Rattle.arj_bank.specs.Underway.{Ends, Goes, HasRun, Moment, Underway, moment};
 ghost use Rattle.arj_gen.specs.Bank.{event_lines};
 ghost use Rattle.arj_journal.specs.ScriptForm.{EventInForm};
 ghost use Rattle.arj_journal.specs.declared.event.Event.{Event as script_event};
 ghost use Rattle.arj_journal.specs.declared.header.Header.{Header as script_header};
 ghost use Rattle.arj_loop.specs.Running.{Moved};
+ghost use Rattle.arj_loop.specs.declared.limits.TheConstants.{MOST_EVENTS};
+ghost use Rattle.arj_nodes.specs.AllNodes.{task};
 
 use crate::stop::Stop;
 use arj_disk::{Disk, Rack};
@@ -61,7 +63,7 @@ fn run_events<D: Disk, M: Machine<D>>(
     requires form { AllByRecursion EventInForm events }
     requires takes { TakesAll M.Machine events }
     requires first { M.steps machine ≡ 0 }
-    requires room { length events ≤ 200000 }
+    requires room { length events ≤ MOST_EVENTS }
     requires going { M.over machine ≡ false }
     requires ran { HasRun M.Machine (moment rack.old machine journal.old) }
     ensures ran { OnOk result ((first : List D) (header : script_header) → M.ran first header [] rack.old journal.old machine → RanWhole M.Machine (task first header events) (left rack.new journal.new)) }

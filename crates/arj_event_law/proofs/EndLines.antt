@@ -3,10 +3,10 @@ use Rattle.std.proofs.Common.{◌≡◌, ◌∙◌, ◌+◌, ◌==◌, ◌&&◌,
 use Rattle.std.specs.Prelude.{is_some, slice_get}
 use Rattle.std.proofs.lemmas.List.{append_assoc}
 use Rattle.arj_event_law.specs.Named.{AnswersEnd, AreNamed, EndHalted, EndRefused, EndsWriteTheirLines, IsEndAnswered, IsEndOf, KnowsNames, OwnEnd, ends_label, names_of}
-use Rattle.arj_event_law.specs.Writes.{IsWhole}
+use Rattle.arj_event_law.specs.Writes.{IsDone, IsRun, IsWhole, asks, node_refusal, refused_to}
 use Rattle.arj_event_law.proofs.CoordNames.{same_all}
-use Rattle.arj_event_law.proofs.Spoken.{first_not, given_node, not_not, unless, unless_is}
-use Rattle.arj_event_law.proofs.Written.{Halt, Its, Or, Says, Stands, first_stands, node_says, numbered_in, said_of, stands_before, stands_behind, whole_says}
+use Rattle.arj_event_law.proofs.Spoken.{first_not, given_node, not_not}
+use Rattle.arj_event_law.proofs.Written.{Halt, Its, Or, Says, Stands, first_stands, node_refuses, node_says, numbered_in, said_of, stands_before, stands_behind, whole_says}
 use Rattle.arj_protocol.proofs.Steps.{steps_lines}
 use Rattle.arj_protocol.specs.Ask.{actor}
 use Rattle.arj_protocol.specs.Asking.{commit_action, commit_open, gaveup_lines, give_up, give_up_call, give_up_doing, gives_up, moved_commit}
@@ -18,7 +18,7 @@ use Rattle.arj_protocol.specs.Ending.{abort_action, aborts_with, all_aborted, en
 use Rattle.arj_protocol.specs.Laws.{effects_of}
 use Rattle.arj_protocol.specs.Node.{Parts, Ran, first_done, first_queued, ran, with_coord}
 use Rattle.arj_protocol.specs.Step as input
-use Rattle.arj_protocol.specs.Step.{Input, Node, Step, abort_reasons, acts, branch_named, branch_numbered, commit_reasons, first_reason, giveup_reasons, is_waiting, is_waiting_now, on_branch, only_says, refusal_at, refusal_up, refused_by, step, step_of, step_unless, waits}
+use Rattle.arj_protocol.specs.Step.{Input, Node, Step, abort_reasons, acts, branch_named, branch_numbered, commit_reasons, first_reason, giveup_reasons, is_waiting, is_waiting_now, on_branch, refusal, refusal_at, refusal_up, refused_by, step, step_of, step_unless, waits}
 use Rattle.arj_protocol.specs.Tree.{Branch, Tree, at_place, branch_of, ended_at, ended_branch, family_of, is_own, open_below, root_of, set_place, with_family}
 use Rattle.arj_protocol.specs.Words.{Body, End, Event, Header, Kind, Label, Line, Uid, name, uids_of}
 use Rattle.arj_protocol.specs.Words.body
@@ -27,7 +27,7 @@ use Rattle.arj_protocol.specs.Words.event
 use Rattle.arj_protocol.specs.Words.kind
 use Rattle.arj_protocol.specs.Words.ending
 use Rattle.arj_protocol.specs.Words.which
-use Rattle.arj_protocol.specs.World.{Arm, World, bodies, counted, happens, is_given, limited, node_of, numbered, reasons, run_unless, says as world_says, steps}
+use Rattle.arj_protocol.specs.World.{Arm, World, bodies, counted, happens, is_given, limited, node_of, numbered, reasons, refused_at, run_unless, says as world_says, steps}
 
 -- ---- a line in the middle of a step
 
@@ -182,13 +182,9 @@ giveup_speaks l u intents c known d found waits = subst (λ o. Speaks (event.Giv
 
 -- ---- what a node says
 
--- the line is the event's own, or says that it is refused
-data SaysEnd (e : Event) (l : Label) (b : Body) : Type 0 where
-  ItsEnd : (m : Label) → name m ≡ name l → IsEndOf e m b → SaysEnd e l b
-  Refused : (c : ℕ) → b ≡ body.Refused c → SaysEnd e l b
-
-refused_says : (e : Event) (l : Label) (n : Node) (c : ℕ) → Says (SaysEnd e l) (only_says n (body.Refused c)).outs
-refused_says e l n c = record { line = body.Refused c; stands = first_stands (Say (body.Refused c)) []; holds = Refused c refl }
+-- the line is the event's own, by a label of that name
+abbrev SaysEnd : Event → Label → Body → Type 0
+SaysEnd e l b = (m : Label) × (name m ≡ name l) × IsEndOf e m b
 
 module _ (e : Event) (l : Label) (i : Input) (reasons : Branch → Coord → List (ℕ × Bool)) (f : Branch → List (Uid × Intent) → Coord → Did Coord) where
   -- an input about an action by its label, which speaks where it isn't refused
@@ -198,23 +194,19 @@ module _ (e : Event) (l : Label) (i : Input) (reasons : Branch → Coord → Lis
     does : (hd : Header) (n : Node) (t : Parts) → step_of hd i n (Some t) ≡ input.coord_did n t (on_branch (λ b. f b n.disk.intents t.coord) t.coord (branch_named l t.coord))
     speaks : (b : Branch) (intents : List (Uid × Intent)) (c : Coord) → KnowsNames c → branch_named l c ≡ Some b → first_reason (reasons b c) ≡ None → (m : Label) × (name m ≡ name l) × Speaks e m (f b intents c).outs
 
-  node_speaks : IsSpoken → (hd : Header) (n : Node) → ((t : Parts) → n.live ≡ Some t → KnowsNames t.coord) → Says (SaysEnd e l) (step hd n i).outs
-  node_speaks spoken hd n known = subst (λ (s : Step). Says (SaysEnd e l) s.outs) (sym (unless_is hd i n (refusal_at hd i n.live))) (by n.live refl)
+  node_speaks : IsSpoken → (hd : Header) (n : Node) → ((t : Parts) → n.live ≡ Some t → KnowsNames t.coord) → refusal hd i n ≡ None → Says (SaysEnd e l) (step hd n i).outs
+  node_speaks spoken hd n known none = subst (λ r. Says (SaysEnd e l) (step_unless hd i n r).outs) (sym none) (by n.live refl none)
     where
       done : (t : Parts) → KnowsNames t.coord → (o : Option Branch) → branch_named l t.coord ≡ o → refused_by reasons t.coord o ≡ None → Says (SaysEnd e l) (input.coord_did n t (on_branch (λ b. f b n.disk.intents t.coord) t.coord o)).outs
       done t knows None is none = let no_way : ◌≡◌ {A = Option ℕ} (Some 6) None = none in cc
       done t knows (Some b) is none =
           let s = spoken.speaks b n.disk.intents t.coord knows is none in
           let d = f b n.disk.intents t.coord in
-          record { line = s.2.line; stands = did_says n (with_coord t d.part) d.outs s.2.line s.2.stands; holds = ItsEnd s.0 s.1 s.2.is }
+          record { line = s.2.line; stands = did_says n (with_coord t d.part) d.outs s.2.line s.2.stands; holds = (s.0, s.1, s.2.is) }
 
-      up : (t : Parts) → KnowsNames t.coord → (r : Option ℕ) → refused_by reasons t.coord (branch_named l t.coord) ≡ r → Says (SaysEnd e l) (unless hd i n r (Some t)).outs
-      up t knows (Some c) is = refused_says e l n c
-      up t knows None is = subst (λ (s : Step). Says (SaysEnd e l) s.outs) (sym (spoken.does hd n t)) (done t knows (branch_named l t.coord) refl is)
-
-      by : (o : Option Parts) → n.live ≡ o → Says (SaysEnd e l) (unless hd i n (refusal_at hd i o) o).outs
-      by None is = subst (λ r. Says (SaysEnd e l) (unless hd i n r None).outs) (sym (spoken.down hd)) (refused_says e l n 6)
-      by (Some t) is = subst (λ r. Says (SaysEnd e l) (unless hd i n r (Some t)).outs) (sym (spoken.refuses hd t.coord)) (up t (known t is) (refused_by reasons t.coord (branch_named l t.coord)) refl)
+      by : (o : Option Parts) → n.live ≡ o → refusal_at hd i o ≡ None → Says (SaysEnd e l) (step_of hd i n o).outs
+      by None is down = let no_way : ◌≡◌ {A = Option ℕ} (Some 6) None = sym (spoken.down hd) ∙ down in cc
+      by (Some t) is up = subst (λ (s : Step). Says (SaysEnd e l) s.outs) (sym (spoken.does hd n t)) (done t (known t is) (branch_named l t.coord) refl (sym (spoken.refuses hd t.coord) ∙ up))
 
 commit_spoken : (l : Label) → IsSpoken (event.Commit l) l (input.Commit l) commit_reasons (λ b intents c. commit_action b intents c)
 commit_spoken l = record {
@@ -250,23 +242,20 @@ giveup_spoken l = record {
 -- ---- what an event writes
 
 -- what a node says of an end is written
-end_written : (e : Event) (l : Label) (w v : World) (i : Input) → v.lines ≡ w.lines → node_of l v ≡ node_of l w → Says (Or (SaysEnd e l) (node_of l v)) (effects_of (node_of l v) i v)
-    → IsEndAnswered e l w (steps (node_of l v) i v).lines
-end_written e l w v i same node says_it =
-    let k = node_of l v in
+said_end : (e : Event) (l : Label) (w v : World) (k : ℕ) (i : Input) (P : Body → Type 0) → v.lines ≡ w.lines → Says P (effects_of k i v) → ((b : Body) → P b → AnswersEnd e l w b) → IsEndAnswered e l w (steps k i v).lines
+said_end e l w v k i P same says_it good =
     let s = numbered_in v.event says_it.line (bodies k (length v.frames) (effects_of k i v)) (said_of k (length v.frames) says_it.line (effects_of k i v) says_it.stands) in
     record {
       before = s.before;
       line = record { event = v.event; body = says_it.line };
       after = s.after;
       are = steps_lines k i v ∙ ((λ j. same j ++ numbered v.event (bodies k (length v.frames) (effects_of k i v))) ∙ ap (λ ls. w.lines ++ ls) s.are);
-      answers = by says_it.holds;
+      answers = good says_it.line says_it.holds;
     }
-  where
-    by : Or (SaysEnd e l) (node_of l v) says_it.line → AnswersEnd e l w says_it.line
-    by (Its (ItsEnd m named is)) = OwnEnd m named is
-    by (Its (Refused c is)) = EndRefused c is
-    by (Halt is) = EndHalted (is ∙ ap body.Halted node)
+
+end_answers : (e : Event) (l : Label) (w : World) → IsDone e w → (b : Body) → Or (SaysEnd e l) (node_of l w) b → AnswersEnd e l w b
+end_answers e l w done b (Its own) = OwnEnd own.0 done own.1 own.2
+end_answers e l w done b (Halt is) = EndHalted done is
 
 -- a line of a limit behind it
 limited_end : (e : Event) (l : Label) (w v : World) → IsEndAnswered e l w v.lines → IsEndAnswered e l w (limited v).lines
@@ -286,26 +275,45 @@ limited_end e l w v x = by v.full
     }
 
 module _ (l : Label) (w : World) (whole : IsWhole w) (named : AreNamed w) where
-  -- the node of a label that was given says it
-  node_says_end : (e : Event) (i : Input) → is_given l w ≡ true → ((hd : Header) (n : Node) → ((t : Parts) → n.live ≡ Some t → KnowsNames t.coord) → Says (SaysEnd e l) (step hd n i).outs)
+  -- the node of a label that was given says it, or that it refuses it
+  node_says_end : (e : Event) (i : Input) → IsRun e w → asks e w ≡ Some (node_of l w, i) → is_given l w ≡ true → ((hd : Header) (n : Node) → ((t : Parts) → n.live ≡ Some t → KnowsNames t.coord) → refusal hd i n ≡ None → Says (SaysEnd e l) (step hd n i).outs)
       → IsEndAnswered e l w (limited (steps (node_of l w) i (counted w))).lines
-  node_says_end e i given spoken =
-      limited_end e l w (steps (node_of l w) i (counted w)) (end_written e l w (counted w) i refl refl
-      (node_says (SaysEnd e l) (node_of l w) i (counted w) (whole.nodes (node_of l w) (given_node w l whole given)) (λ n at. spoken w.header n (λ t live. named (node_of l w) n t at live))))
+  node_says_end e i run asked given spoken = limited_end e l w (steps k i (counted w)) (by (refused_at i w (at_place k w.nodes)) refl)
+    where
+      k : ℕ
+      k = node_of l w
+
+      refusal_is : (r : Option ℕ) → refused_at i w (at_place k w.nodes) ≡ r → node_refusal e w ≡ r
+      refusal_is r is = ap (refused_to w) asked ∙ is
+
+      by : (r : Option ℕ) → refused_at i w (at_place k w.nodes) ≡ r → IsEndAnswered e l w (steps k i (counted w)).lines
+      by None none = said_end e l w (counted w) k i (Or (SaysEnd e l) k) refl
+          (node_says (SaysEnd e l) k i (counted w) (whole.nodes k (given_node w l whole given)) (λ n at. spoken w.header n (λ t live. named k n t at live) (ap (refused_at i w) (sym at) ∙ none)))
+          (end_answers e l w (record { run = run; granted = refusal_is None none }))
+      by (Some c) some = said_end e l w (counted w) k i (λ b. b ≡ body.Refused c) refl (node_refuses k i c (counted w) some) (λ b is. EndRefused c (inr (run, refusal_is (Some c) some)) is)
 
   given : (x : Label) → x ≡ l → first_reason ((5, not (is_given x w)) ∷ []) ≡ None → is_given l w ≡ true
   given x same none = subst (λ y. is_given y w ≡ true) same (not_not (is_given x w) (first_not 5 (not (is_given x w)) [] none).0)
 
-  refused : (e : Event) (c : ℕ) → IsEndAnswered e l w (world_says (body.Refused c ∷ []) (counted w)).lines
-  refused e c = record { before = []; line = record { event = w.event + 1; body = body.Refused c }; after = []; are = refl; answers = EndRefused c refl }
+  refused : (e : Event) (c : ℕ) → first_reason (reasons e w) ≡ Some c → IsEndAnswered e l w (world_says (body.Refused c ∷ []) (counted w)).lines
+  refused e c is = record { before = []; line = record { event = w.event + 1; body = body.Refused c }; after = []; are = refl; answers = EndRefused c (inl is) refl }
 
   event_ends : (e : Event) (a : Arm) → ends_label e l → (r : Option ℕ) → first_reason (reasons e w) ≡ r → IsEndAnswered e l w (run_unless e a w r).lines
-  event_ends (event.Commit m) a is (Some c) at = refused (event.Commit m) c
-  event_ends (event.Abort m) a is (Some c) at = refused (event.Abort m) c
-  event_ends (event.GiveUp m) a is (Some c) at = refused (event.GiveUp m) c
-  event_ends (event.Commit m) a is None at = subst (λ x. IsEndAnswered (event.Commit x) l w (limited (happens (event.Commit x) a (counted w))).lines) is (node_says_end (event.Commit l) (input.Commit l) (given m (sym is) at) (node_speaks (event.Commit l) l (input.Commit l) commit_reasons (λ b intents c. commit_action b intents c) (commit_spoken l)))
-  event_ends (event.Abort m) a is None at = subst (λ x. IsEndAnswered (event.Abort x) l w (limited (happens (event.Abort x) a (counted w))).lines) is (node_says_end (event.Abort l) (input.Abort l) (given m (sym is) at) (node_speaks (event.Abort l) l (input.Abort l) abort_reasons (λ b intents c. abort_action (actor b.path) intents c) (abort_spoken l)))
-  event_ends (event.GiveUp m) a is None at = subst (λ x. IsEndAnswered (event.GiveUp x) l w (limited (happens (event.GiveUp x) a (counted w))).lines) is (node_says_end (event.GiveUp l) (input.GiveUp l) (given m (sym is) at) (node_speaks (event.GiveUp l) l (input.GiveUp l) giveup_reasons (λ b intents c. give_up (actor b.path) intents c) (giveup_spoken l)))
+  event_ends (event.Commit m) a is (Some c) at = refused (event.Commit m) c at
+  event_ends (event.Abort m) a is (Some c) at = refused (event.Abort m) c at
+  event_ends (event.GiveUp m) a is (Some c) at = refused (event.GiveUp m) c at
+  event_ends (event.Commit m) a is None at =
+      let at_l : first_reason (reasons (event.Commit l) w) ≡ None = subst (λ x. first_reason (reasons (event.Commit x) w) ≡ None) (sym is) at in
+      subst (λ x. IsEndAnswered (event.Commit x) l w (limited (happens (event.Commit x) a (counted w))).lines) is
+      (node_says_end (event.Commit l) (input.Commit l) (record { accepted = at_l; labels = refl }) refl (given m (sym is) at) (node_speaks (event.Commit l) l (input.Commit l) commit_reasons (λ b intents c. commit_action b intents c) (commit_spoken l)))
+  event_ends (event.Abort m) a is None at =
+      let at_l : first_reason (reasons (event.Abort l) w) ≡ None = subst (λ x. first_reason (reasons (event.Abort x) w) ≡ None) (sym is) at in
+      subst (λ x. IsEndAnswered (event.Abort x) l w (limited (happens (event.Abort x) a (counted w))).lines) is
+      (node_says_end (event.Abort l) (input.Abort l) (record { accepted = at_l; labels = refl }) refl (given m (sym is) at) (node_speaks (event.Abort l) l (input.Abort l) abort_reasons (λ b intents c. abort_action (actor b.path) intents c) (abort_spoken l)))
+  event_ends (event.GiveUp m) a is None at =
+      let at_l : first_reason (reasons (event.GiveUp l) w) ≡ None = subst (λ x. first_reason (reasons (event.GiveUp x) w) ≡ None) (sym is) at in
+      subst (λ x. IsEndAnswered (event.GiveUp x) l w (limited (happens (event.GiveUp x) a (counted w))).lines) is
+      (node_says_end (event.GiveUp l) (input.GiveUp l) (record { accepted = at_l; labels = refl }) refl (given m (sym is) at) (node_speaks (event.GiveUp l) l (input.GiveUp l) giveup_reasons (λ b intents c. give_up (actor b.path) intents c) (giveup_spoken l)))
   event_ends (event.Begin m n) a is r at = absurd is
   event_ends (event.BeginIn m p) a is r at = absurd is
   event_ends (event.Top m p) a is r at = absurd is

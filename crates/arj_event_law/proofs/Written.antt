@@ -2,17 +2,17 @@
 use Rattle.std.proofs.Common.{◌≡◌, ◌∙◌, ◌+◌, ◌-◌, ℕ, zero, suc, Bool, true, false, cond, List, [], ◌∷◌, ◌++◌, length, refl, sym, ap, subst, Option, Some, None}
 use Rattle.std.specs.Prelude.{is_some, nat_lt}
 use Rattle.std.proofs.lemmas.List.{append-nil, append_assoc}
-use Rattle.arj_event_law.specs.Writes.{Answers, HasHalted, Writes, halts_for}
+use Rattle.arj_event_law.specs.Writes.{Answers, HasHalted, IsAnswered, IsDone, IsOwn, IsRefused, IsRefusedWith, Own, halts_for}
 use Rattle.arj_protocol.proofs.Steps.{steps_lines}
 use Rattle.arj_protocol.specs.Effect.{Disk, Effect, Say, Send, Do, Stop}
 use Rattle.arj_protocol.specs.Laws.{effects_of, effects_of_node, effects_until}
 use Rattle.arj_protocol.specs.Node.{Parts, Ran, handle_all, most_rounds, next_round, ran, rounds, whole}
 use Rattle.arj_protocol.specs.Order.{at_number}
-use Rattle.arj_protocol.specs.Step.{Node, Step, Input, step}
+use Rattle.arj_protocol.specs.Step.{Node, Step, Input, refusal, step, step_unless}
 use Rattle.arj_protocol.specs.Tree.{at_place}
-use Rattle.arj_protocol.specs.Words.{Body, Event, Message}
+use Rattle.arj_protocol.specs.Words.{Body, Event, Header, Message}
 use Rattle.arj_protocol.specs.Words.body
-use Rattle.arj_protocol.specs.World.{World, Arm, bodies, count_works, cut, halted_outs, numbered, sent_line, steps}
+use Rattle.arj_protocol.specs.World.{World, Arm, bodies, count_works, cut, halted_outs, numbered, refused_at, sent_line, steps}
 
 -- ---- a line among others
 
@@ -132,22 +132,49 @@ node_says P k i v there says = by (at_place k v.nodes) refl there
     by None is none = absurd (cc none)
     by (Some n) is some = until_says P k n (step v.header n i) (at_number k v.arms) (says n is)
 
+-- ---- a node that refuses
+
+refusal_says : (hd : Header) (n : Node) (i : Input) (c : ℕ) → refusal hd i n ≡ Some c → Says (λ b. b ≡ body.Refused c) (step hd n i).outs × SaysFirst (λ b. b ≡ body.Refused c) (step hd n i).halting
+refusal_says hd n i c is =
+    subst (λ r. Says (λ b. b ≡ body.Refused c) (step_unless hd i n r).outs × SaysFirst (λ b. b ≡ body.Refused c) (step_unless hd i n r).halting) (sym is) (
+      record { line = body.Refused c; stands = first_stands (Say (body.Refused c)) []; holds = refl },
+      record { line = body.Refused c; rest = []; are = refl; holds = refl },
+    )
+
+-- no stop falls before it has said so
+pub node_refuses : (k : ℕ) (i : Input) (c : ℕ) (v : World) → refused_at i v (at_place k v.nodes) ≡ Some c → Says (λ b. b ≡ body.Refused c) (effects_of k i v)
+node_refuses k i c v is = by (at_place k v.nodes) is
+  where
+    by : (o : Option Node) → refused_at i v o ≡ Some c → Says (λ b. b ≡ body.Refused c) (effects_of_node k i v o)
+    by None none = absurd (cc none)
+    by (Some n) some = let s = refusal_says v.header n i c some in until_first (λ b. b ≡ body.Refused c) k n (step v.header n i) (at_number k v.arms) s.0 s.1
+
+-- ---- what is written
+
+-- Lines answer the event, whether the run is then over or not.
+abbrev pub Written : Event → World → World → Type 0
+Written e w v = (over : Bool) → IsAnswered e w over v.lines
+
 -- what a step says is written
-pub says_written : (e : Event) (w v : World) (k : ℕ) (i : Input) (P : Body → Type 0) → v.lines ≡ w.lines → Says P (effects_of k i v) → ((b : Body) → P b → Answers e w b) → Writes e w (steps k i v)
-says_written e w v k i P same says good =
+pub says_written : (e : Event) (w v : World) (k : ℕ) (i : Input) (P : Body → Type 0) → v.lines ≡ w.lines → Says P (effects_of k i v) → ((over : Bool) (b : Body) → P b → Answers e w over b) → Written e w (steps k i v)
+says_written e w v k i P same says good over =
     let s = numbered_in v.event says.line (bodies k (length v.frames) (effects_of k i v)) (said_of k (length v.frames) says.line (effects_of k i v) says.stands) in
     record {
       before = s.before;
       line = record { event = v.event; body = says.line };
       after = s.after;
       are = steps_lines k i v ∙ ((λ j. same j ++ numbered v.event (bodies k (length v.frames) (effects_of k i v))) ∙ ap (λ ls. w.lines ++ ls) s.are);
-      answers = good says.line says.holds;
+      answers = good over says.line says.holds;
     }
 
 -- or the halt in its place
-pub step_writes : (e : Event) (w v : World) (k : ℕ) (i : Input) (P : Body → Type 0) → v.lines ≡ w.lines → Says (Or P k) (effects_of k i v) → ((b : Body) → P b → Answers e w b) → halts_for e w k → Writes e w (steps k i v)
-step_writes e w v k i P same says good halts = says_written e w v k i (Or P k) same says by
+pub step_writes : (e : Event) (w v : World) (k : ℕ) (i : Input) (P : Body → Type 0) → v.lines ≡ w.lines → Says (Or P k) (effects_of k i v) → IsDone e w → ((b : Body) → P b → IsOwn e w b) → halts_for e w k → Written e w (steps k i v)
+step_writes e w v k i P same says done own halts = says_written e w v k i (Or P k) same says by
   where
-    by : (b : Body) → Or P k b → Answers e w b
-    by b (Its p) = good b p
-    by b (Halt is) = HasHalted k halts is
+    by : (over : Bool) (b : Body) → Or P k b → Answers e w over b
+    by over b (Its p) = Own done (own b p)
+    by over b (Halt is) = HasHalted k done halts is
+
+-- or that the node refuses
+pub refusal_writes : (e : Event) (w v : World) (k : ℕ) (i : Input) (c : ℕ) → v.lines ≡ w.lines → refused_at i v (at_place k v.nodes) ≡ Some c → IsRefusedWith e w c → Written e w (steps k i v)
+refusal_writes e w v k i c same is refused = says_written e w v k i (λ b. b ≡ body.Refused c) same (node_refuses k i c v is) (λ over b said. IsRefused c refused said)

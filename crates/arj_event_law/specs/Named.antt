@@ -11,7 +11,7 @@ use Rattle.arj_protocol.specs.Words.body
 use Rattle.arj_protocol.specs.Words.cause
 use Rattle.arj_protocol.specs.Words.event
 use Rattle.arj_protocol.specs.World.{Asked, World, node_of, run_event}
-use Rattle.arj_event_law.specs.Writes.{IsWhole}
+use Rattle.arj_event_law.specs.Writes.{IsDone, IsRefusedWith, IsWhole}
 
 -- the labels of the actions at work, in order of beginning
 abbrev pub names_of : Coord → List Label
@@ -47,11 +47,12 @@ ends_label (event.Abort l) m = m ≡ l
 ends_label (event.GiveUp l) m = m ≡ l
 ends_label _ m = ⊥
 
--- the line answers the event: it is its own, or says that it is refused, or that the action's node halted
+-- The line answers the event: where it was done it is its own, or says that the action's node halted; and where it wasn't, with
+-- which number it is refused.
 pub data AnswersEnd (e : Event) (l : Label) (w : World) (b : Body) : Type 0 where
-  OwnEnd : (m : Label) → name m ≡ name l → IsEndOf e m b → AnswersEnd e l w b
-  EndRefused : (c : ℕ) → b ≡ body.Refused c → AnswersEnd e l w b
-  EndHalted : b ≡ body.Halted (node_of l w) → AnswersEnd e l w b
+  OwnEnd : (m : Label) → IsDone e w → name m ≡ name l → IsEndOf e m b → AnswersEnd e l w b
+  EndHalted : IsDone e w → b ≡ body.Halted (node_of l w) → AnswersEnd e l w b
+  EndRefused : (c : ℕ) → IsRefusedWith e w c → b ≡ body.Refused c → AnswersEnd e l w b
 
 -- among the lines that the event added is one that answers it
 pub record IsEndAnswered (e : Event) (l : Label) (old : World) (lines : List Line) : Type 0 where

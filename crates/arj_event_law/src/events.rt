@@ -18,9 +18,11 @@ pub fn only_crashes_say_halted()
     ensures own { CrashesSayTheirOwn }
 {}
 
-/// An event of a kind with a line of its own writes it, or that it is refused, that its node halted, or that a limit was met,
-/// in a world that has the nodes of its header, as each world of a run has; a delivery of a frame that is for such a node says
-/// that it was got or void, whatever stop falls into it. It does nothing when it runs.
+/// An event of a kind with a line of its own writes it, or that its node halted, in a world that has the nodes of its header, as
+/// each world of a run has; and exactly where the world refuses it, or else the node that it asks, it writes with which number,
+/// and where no label is left, that. In a quiesce, and of bytes that are no message, the line may be that a frame didn't fit. A
+/// delivery of a frame that is for such a node says that it was got or void, whatever stop falls into it. It does nothing when it
+/// runs.
 pub fn events_write_their_lines()
     ensures lines { EventsWriteTheirLines }
     ensures first { FormatsAreWhole }
@@ -28,9 +30,9 @@ pub fn events_write_their_lines()
     ensures whole { RunsAreWhole }
 {}
 
-/// A commit, an abort and a giveup write the line that answers them, by a label with the action's name, or that they are refused,
-/// or that the action's node halted, where the coordinators that are up know their labels, and whom their commits wait for. It
-/// does nothing when it runs.
+/// A commit, an abort and a giveup write the line that answers them, by a label with the action's name, or that the action's node
+/// halted, or, exactly where the world or that node refuses them, with which number, where the coordinators that are up know their
+/// labels, and whom their commits wait for. It does nothing when it runs.
 pub fn ends_write_their_lines()
     ensures lines { EndsWriteTheirLines }
 {}

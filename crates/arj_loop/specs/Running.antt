@@ -14,6 +14,7 @@ use Rattle.arj_loop.specs.declared.ending.BadLine.{BadLine}
 use Rattle.arj_loop.specs.declared.ending.BadLine.TheVariants as why
 use Rattle.arj_loop.specs.declared.ending.End.{End}
 use Rattle.arj_loop.specs.declared.ending.End.TheVariants as ending
+use Rattle.arj_loop.specs.declared.limits.TheConstants.{MOST_EVENTS}
 use Rattle.arj_loop.specs.declared.machine.Machine.{Ghosts}
 use Rattle.arj_loop.specs.declared.run.Runner.{Runner}
 use Rattle.arj_loop.specs.declared.session.Session.{Session}
@@ -105,7 +106,7 @@ pub record Refused {D M : Type 0} (m : Ghosts M D) (from to : Held D M) (e : Eve
 -- the machine is there, and can run an event more
 abbrev pub IsStanding : {D M : Type 0} → Ghosts M D → List D → List Line → Option M → Type 0
 IsStanding m rack journal None = ⊥
-IsStanding {D} m rack journal (Some machine) = (m.steps machine < 200000) × (m.over machine ≡ false) × ((first : List D) × (header : Header) × (events : List Event) × m.ran first header events rack journal machine)
+IsStanding {D} m rack journal (Some machine) = (m.steps machine < MOST_EVENTS) × (m.over machine ≡ false) × ((first : List D) × (header : Header) × (events : List Event) × m.ran first header events rack journal machine)
 
 -- The line asks for an event that would give one label too many.
 abbrev pub AsksTooMany : {D M : Type 0} → Ghosts M D → Header → List D → Option M → Place → List ℕ → Type 0

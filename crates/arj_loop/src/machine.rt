@@ -6,6 +6,7 @@ ghost use Rattle.arj_journal.specs.declared.body.Line.{Line};
 ghost use Rattle.arj_journal.specs.declared.event.Event.{Event as script_event};
 ghost use Rattle.arj_journal.specs.declared.header.Header.{Header as script_header};
 ghost use Rattle.arj_loop.specs.Limits.{EndsAtFrames};
+ghost use Rattle.arj_loop.specs.declared.limits.TheConstants.{MOST_EVENTS};
 
 use arj_disk::{Disk, Rack};
 use arj_journal::{Event, Header, Lines};
@@ -99,7 +100,7 @@ pub trait Machine<D: Disk>: Sized + Drop {
     ) -> Result<(), EventFault>
         requires form { EventInForm event }
         requires takes { takes_event event ≡ true }
-        requires room { steps self.old < 200000 }
+        requires room { steps self.old < MOST_EVENTS }
         requires going { over self.old ≡ false }
         requires ran { (first : List D) × (header : script_header) × (events : List script_event) × ran first header events rack.old journal.old self.old }
         ensures ran { OnOk result ((first : List D) (header : script_header) (events : List script_event) → ran first header events rack.old journal.old self.old

@@ -8,9 +8,10 @@ use Rattle.arj_disk.specs.Counted.{counts}
 use Rattle.arj_disk.specs.declared.disk.Disk as disk
 use Rattle.arj_journal.specs.declared.event.Event.{Event}
 use Rattle.arj_journal.specs.declared.header.Header.{Header}
-use Rattle.arj_nodes.specs.AllNodes.{AreFresh, RanAll, TellTurns, world_after}
+use Rattle.arj_loop.specs.declared.limits.TheConstants.{MOST_EVENTS}
+use Rattle.arj_nodes.specs.AllNodes.{AreFresh, RanAll, TellTurns, task, world_after}
 use Rattle.arj_protocol.specs.World.{World, format}
-use Rattle.arj_world.specs.Disks.{HaveMoved, Moves}
+use Rattle.arj_world.specs.Disks.{HaveMoved, HaveNotStopped, Moves}
 use Rattle.arj_world.specs.Happens.{RunsOver, RunsTo}
 use Rattle.arj_world.specs.Stands.{Hand, Kept, Stands, StandsSome, hand}
 use Rattle.arj_world.specs.Tells.{TellsStops, crashed_by}
@@ -35,10 +36,10 @@ module _ {C D : Type 0} (c : core.Ghosts C) (d : disk.Ghosts D) where
   as_it_is h w is s = record { header = s.header; frames = s.frames; lines = s.lines; labels = s.labels; arms = s.arms; event = s.event; full = s.full; over = is; nodes = s.nodes }
 
   -- where no frame was too many, the nodes stand for what the protocol made
-  stands_now : (first : List D) (header : Header) (events : List Event) (now : Hand C D) → (r : RanAll c d first header events false now) → Stands c d.file now (world_after header r.turns)
+  stands_now : (first : List D) (header : Header) (events : List Event) (now : Hand C D) → (r : RanAll c d (task first header events) false now) → Stands c d.file now (world_after header r.turns)
   stands_now first header events now r = as_it_is now (world_after header r.turns) r.is_over r.stands
 
-  pub stands_some : (first : List D) (header : Header) (events : List Event) (now : Hand C D) → RanAll c d first header events false now → StandsSome c d.file now
+  pub stands_some : (first : List D) (header : Header) (events : List Event) (now : Hand C D) → RanAll c d (task first header events) false now → StandsSome c d.file now
   stands_some first header events now r = (world_after header r.turns, stands_now first header events now r)
 
   -- a turn more is told too
@@ -48,7 +49,7 @@ module _ {C D : Type 0} (c : core.Ghosts C) (d : disk.Ghosts D) where
   told_more (s ∷ turns) t w before between after told tells = (told.0, told.1, told_more turns t (turned s w) told.0 between after told.2 tells)
 
   -- no disk was armed too often
-  pub arms_left : (first : List D) (header : Header) (events : List Event) (over : Bool) (now : Hand C D) → RanAll c d first header events over now → now.kept.event < 200000 → All (λ one. d.arms one < 4294967295) now.disks
+  pub arms_left : (first : List D) (header : Header) (events : List Event) (over : Bool) (now : Hand C D) → RanAll c d (task first header events) over now → now.kept.event < MOST_EVENTS → All (λ one. d.arms one < 4294967295) now.disks
   arms_left first header events over now r room k one less =
       let at : slice_get now.disks k ≡ Some (get_or now.disks k one) = slice_get-get_or now.disks k one less in
       let was = is_there k first (omega (arith, less, r.disks.count)) in
@@ -58,8 +59,8 @@ module _ {C D : Type 0} (c : core.Ghosts C) (d : disk.Ghosts D) where
       omega (arith, few, rose, r.counted, room)
 
   -- the nodes are formatted
-  pub ran_first : (header : Header) (kept : Kept C) (first rack : List D) → AreFresh d first → Stands c d.file (hand kept rack []) (format header) → HaveMoved d 0 first rack → RanAll c d first header [] false (hand kept rack [])
-  ran_first header kept first rack fresh s moved = record {
+  pub ran_first : (header : Header) (kept : Kept C) (first rack : List D) → AreFresh d first → Stands c d.file (hand kept rack []) (format header) → HaveMoved d 0 first rack → HaveNotStopped d first rack → RanAll c d (task first header []) false (hand kept rack [])
+  ran_first header kept first rack fresh s moved unstopped = record {
     turns = [];
     are = refl;
     stands = opened (hand kept rack []) (format header) s;
@@ -69,13 +70,14 @@ module _ {C D : Type 0} (c : core.Ghosts C) (d : disk.Ghosts D) where
     fresh = fresh.1;
     formed = rack;
     formatted = moved;
+    unstopped = unstopped;
     told = refl;
   }
 
   -- a turn more, by what it left
-  ran_turn : (first : List D) (header : Header) (events : List Event) (e : Event) (over : Bool) (old new : Hand C D) (t : Turn) → (r : RanAll c d first header events false old) → t.event ≡ e
+  ran_turn : (first : List D) (header : Header) (events : List Event) (e : Event) (over : Bool) (old new : Hand C D) (t : Turn) → (r : RanAll c d (task first header events) false old) → t.event ≡ e
       → Stands c d.file new (unmarked (turned t (world_after header r.turns))) → (let w = turned t (world_after header r.turns) in w.over) ≡ over
-      → new.kept.event ≡ old.kept.event + 1 → HaveMoved d 1 old.disks new.disks → TellsStops d (crashed_by e) old.disks new.disks old.journal new.journal → RanAll c d first header (events ++ e ∷ []) over new
+      → new.kept.event ≡ old.kept.event + 1 → HaveMoved d 1 old.disks new.disks → TellsStops d (crashed_by e) old.disks new.disks old.journal new.journal → RanAll c d (task first header (events ++ e ∷ [])) over new
   ran_turn first header events e over old new t r is s is_over counted moved tells =
       let more = turned_more r.turns t (format header) in
       let size = length-append events (e ∷ []) in record {
@@ -88,6 +90,7 @@ module _ {C D : Type 0} (c : core.Ghosts C) (d : disk.Ghosts D) where
         fresh = r.fresh;
         formed = r.formed;
         formatted = r.formatted;
+        unstopped = r.unstopped;
         told = told_more r.turns t (format header) r.formed old.disks new.disks r.told
             (subst (λ f. TellsStops d (crashed_by f) old.disks new.disks (world_after header r.turns).lines (turned t (world_after header r.turns)).lines) (sym is)
             (subst (λ ls. TellsStops d (crashed_by e) old.disks new.disks ls (turned t (world_after header r.turns)).lines) (sym r.stands.lines)
@@ -95,12 +98,12 @@ module _ {C D : Type 0} (c : core.Ghosts C) (d : disk.Ghosts D) where
       }
 
   -- what is in hand has stayed
-  pub ran_still : (first : List D) (header : Header) (events : List Event) (over : Bool) (old new : Hand C D) → new.kept ≡ old.kept → new.disks ≡ old.disks → new.journal ≡ old.journal → RanAll c d first header events over old → RanAll c d first header events over new
-  ran_still first header events over old new kept disks journal r = subst (RanAll c d first header events over) (λ i. hand (sym kept i) (sym disks i) (sym journal i)) r
+  pub ran_still : (first : List D) (header : Header) (events : List Event) (over : Bool) (old new : Hand C D) → new.kept ≡ old.kept → new.disks ≡ old.disks → new.journal ≡ old.journal → RanAll c d (task first header events) over old → RanAll c d (task first header events) over new
+  ran_still first header events over old new kept disks journal r = subst (RanAll c d (task first header events) over) (λ i. hand (sym kept i) (sym disks i) (sym journal i)) r
 
   -- an event was run
   pub ran_more : (first : List D) (header : Header) (events : List Event) (e : Event) (old new : Hand C D) → RunsTo c d.file e old new → new.kept.event ≡ old.kept.event + 1 → HaveMoved d 1 old.disks new.disks
-      → TellsStops d (crashed_by e) old.disks new.disks old.journal new.journal → RanAll c d first header events false old → RanAll c d first header (events ++ e ∷ []) false new
+      → TellsStops d (crashed_by e) old.disks new.disks old.journal new.journal → RanAll c d (task first header events) false old → RanAll c d (task first header (events ++ e ∷ [])) false new
   ran_more first header events e old new runs counted moved tells r =
       let w = world_after header r.turns in
       let ran = runs w (stands_now first header events old r) in
@@ -110,7 +113,7 @@ module _ {C D : Type 0} (c : core.Ghosts C) (d : disk.Ghosts D) where
 
   -- an event was run, and a frame didn't fit
   pub ran_over : (first : List D) (header : Header) (events : List Event) (e : Event) (old new : Hand C D) → RunsOver c d.file e old new → new.kept.event ≡ old.kept.event + 1 → HaveMoved d 1 old.disks new.disks
-      → TellsStops d (crashed_by e) old.disks new.disks old.journal new.journal → RanAll c d first header events false old → RanAll c d first header (events ++ e ∷ []) true new
+      → TellsStops d (crashed_by e) old.disks new.disks old.journal new.journal → RanAll c d (task first header events) false old → RanAll c d (task first header (events ++ e ∷ [])) true new
   ran_over first header events e old new runs counted moved tells r =
       let ran = runs (world_after header r.turns) (stands_now first header events old r) in
       let s = ran.stands in

@@ -7,7 +7,7 @@ use Rattle.arj_journal.specs.declared.event.Event.{Event}
 use Rattle.arj_journal.specs.declared.header.Header.{Header}
 use Rattle.arj_protocol.specs.Step.{first_reason}
 use Rattle.arj_protocol.specs.World.{World, format, giving, lacks_labels, reasons}
-use Rattle.arj_world.specs.Disks.{HaveMoved}
+use Rattle.arj_world.specs.Disks.{HaveMoved, HaveNotStopped}
 use Rattle.arj_world.specs.Stands.{Hand, Keeps, Kept, Stands}
 use Rattle.arj_world.specs.Tells.{TellsStops, crashed_by}
 use Rattle.arj_world.specs.Turns.{Turn, all_turned, turned}
@@ -26,23 +26,33 @@ abbrev pub TellTurns : {D : Type 0} → disk.Ghosts D → World → List Turn �
 TellTurns d w [] before after = after ≡ before
 TellTurns d w (t ∷ ts) before after = (between : List _) × TellsStops d (crashed_by t.event) before between w.lines (let v = turned t w in v.lines) × TellTurns d (turned t w) ts between after
 
--- From these disks on, under this header, these events were run: the world in hand is what the protocol makes of a turn for
--- each of them, which says what stops fell in it, as the disks counted them. Whether it is over, since a frame didn't fit, is
--- told beside.
-pub record RanAll {C D : Type 0} (c : core.Ghosts C) (d : disk.Ghosts D) (first : List D) (header : Header) (events : List Event) (over : Bool) (now : Hand C D) : Type 0 where
+-- What is run: the disks on which it begins, its header and its events.
+pub record Task (D : Type 0) : Type 0 where
+  pub first : List D
+  pub header : Header
+  pub events : List Event
+
+abbrev pub task : {D : Type 0} → List D → Header → List Event → Task D
+task first header events = record { first = first; header = header; events = events }
+
+-- The events of a task were run on its disks, under its header: the world in hand is what the protocol makes of a turn for
+-- each of them, which says what stops fell in it, as the disks counted them. No disk was stopped while it was formatted.
+-- Whether the run is over, since a frame didn't fit, is told beside.
+pub record RanAll {C D : Type 0} (c : core.Ghosts C) (d : disk.Ghosts D) (t : Task D) (over : Bool) (now : Hand C D) : Type 0 where
   pub turns : List Turn
-  pub are : map (λ t. t.event) turns ≡ events
+  pub are : map (λ s. s.event) turns ≡ t.events
   -- but for the mark that a limit ended the run
-  pub stands : Stands c d.file now (record (world_after header turns) { over = false })
-  pub is_over : (let w = world_after header turns in w.over) ≡ over
+  pub stands : Stands c d.file now (record (world_after t.header turns) { over = false })
+  pub is_over : (let w = world_after t.header turns in w.over) ≡ over
   -- the nodes' own count of events, and what became of the disks' counts
-  pub counted : now.kept.event ≡ length events
-  pub disks : HaveMoved d (length events) first now.disks
-  pub fresh : All (λ one. d.arms one < 1000) first
-  -- the disks as they were formatted, and the stops that they made since, turn by turn
+  pub counted : now.kept.event ≡ length t.events
+  pub disks : HaveMoved d (length t.events) t.first now.disks
+  pub fresh : All (λ one. d.arms one < 1000) t.first
+  -- the disks as they were formatted, by calls of which none was stopped, and the stops that they made since, turn by turn
   pub formed : List D
-  pub formatted : HaveMoved d 0 first formed
-  pub told : TellTurns d (format header) turns formed now.disks
+  pub formatted : HaveMoved d 0 t.first formed
+  pub unstopped : HaveNotStopped d t.first formed
+  pub told : TellTurns d (format t.header) turns formed now.disks
 
 -- wherever the nodes are those of a world, it doesn't refuse the event, which would give one label too many
 abbrev pub LacksLabels : {C : Type 0} → core.Ghosts C → Kept C → Event → Type 0

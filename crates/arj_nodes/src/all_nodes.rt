@@ -24,7 +24,7 @@ fn is_built(event: &Event) -> bool
 }
 
 impl<C: Core + Drop, D: Disk> Machine<D> for AllNodes<C> {
-    ghost use Rattle.arj_nodes.specs.AllNodes.{AreFresh, LacksLabels, RanAll};
+    ghost use Rattle.arj_nodes.specs.AllNodes.{AreFresh, LacksLabels, RanAll, task};
     ghost use Rattle.arj_nodes.specs.Built.{any_count, is_built_event};
     ghost use Rattle.arj_world.specs.Disks.{HasStopped, HaveMoved};
     ghost use Rattle.arj_world.specs.Stands.{hand};
@@ -35,7 +35,7 @@ impl<C: Core + Drop, D: Disk> Machine<D> for AllNodes<C> {
 
     ghost ready = { AreFresh D.Disk };
 
-    ghost ran = { λ first header events rack journal nodes. RanAll C.Core D.Disk first header events nodes.over (hand nodes.world rack journal) };
+    ghost ran = { λ first header events rack journal nodes. RanAll C.Core D.Disk (task first header events) nodes.over (hand nodes.world rack journal) };
 
     ghost steps = { λ nodes. nodes.world.event };
 

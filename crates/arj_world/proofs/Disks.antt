@@ -1,15 +1,15 @@
 -- The counts of disks, over one call and over several.
 use Rattle.std.proofs.Common.{◌≡◌, ℕ, zero, suc, ◌+◌, ◌-◌, ◌<◌, ◌==◌, Bool, true, false, List, [], ◌∷◌, length, refl, ap, sym, ◌∙◌, subst, Some, arith}
-use Rattle.std.specs.Prelude.{slice_get, slice_set, Result, Ok, Err, IsErrAnd}
+use Rattle.std.specs.Prelude.{slice_get, slice_set, Result, Ok, Err, IsErrAnd, OnOk}
 use Rattle.std.proofs.lemmas.Bool.{cases_lt}
 use Rattle.std.proofs.Math.Logic.{⊎_elim}
 use Rattle.std.proofs.lemmas.List.{length-set}
 use Rattle.arj_base.specs.Count.{Rose}
 use Rattle.arj_core.specs.Steps.{CountsStep}
 use Rattle.arj_disk.specs.Counted.{counts}
-use Rattle.arj_disk.specs.Disk.{CountsCall}
+use Rattle.arj_disk.specs.Disk.{Counts, CountsCall}
 use Rattle.arj_disk.specs.declared.disk.Disk.{Ghosts}
-use Rattle.arj_world.specs.Disks.{HasStopped, HaveMoved, Moves}
+use Rattle.arj_world.specs.Disks.{HasStopped, HaveMoved, HaveNotStopped, Moves}
 use Rattle.arj_world.proofs.Stepping.{is_there}
 
 pub some_one : {A : Type 0} (a b : A) → Some a ≡ Some b → a ≡ b
@@ -42,15 +42,44 @@ pub same_fault : {T E : Type 0} (r : Result T E) (fault stopped : E) → IsErrAn
 same_fault (Ok value) fault stopped is e = absurd is
 same_fault (Err other) fault stopped is e = cc
 
+pub is_fault : {T E : Type 0} (r : Result T E) (fault : E) → IsErrAnd r (λ e. e ≡ fault) → r ≡ Err fault
+is_fault (Ok value) fault is = absurd is
+is_fault (Err other) fault is = ap Err is
+
+-- What relates each thing to itself relates the things of a list, and those of one in which one thing has changed.
+each_same : {D : Type 0} (R : D → D → Type 0) → ((d : D) → R d d) → (disks : List D) (i : ℕ) (d e : D) → slice_get disks i ≡ Some d → slice_get disks i ≡ Some e → R d e
+each_same R itself disks i d e at then_at = subst (R d) (some_one d e (sym at ∙ then_at)) (itself d)
+
+each_at : {D : Type 0} (R : D → D → Type 0) → ((d : D) → R d d) → (node : ℕ) (disks : List D) (d e : D) → slice_get disks (node - 1) ≡ Some d → R d e
+    → (i : ℕ) (x y : D) → slice_get disks i ≡ Some x → slice_get (slice_set disks (node - 1) e) i ≡ Some y → R x y
+each_at {D} R itself node disks d e at moves i x y at_x at_y = by (i == (node - 1)) refl
+  where
+    by : (b : Bool) → (i == (node - 1)) ≡ b → R x y
+    by true is =
+        let same : i ≡ node - 1 = grind (arith, is) in
+        let old : d ≡ x = some_one d x (sym at ∙ ap (slice_get disks) (sym same) ∙ at_x) in
+        let new : e ≡ y = set_here (node - 1) e d y disks at (ap (slice_get (slice_set disks (node - 1) e)) (sym same) ∙ at_y) in
+        subst (λ z. R z y) old (subst (λ z. R d z) new moves)
+    by false is =
+        let apart : i ≡ node - 1 → ⊥ = λ same. grind (arith, is, same) in
+        let stays : x ≡ y = some_one x y (sym at_x ∙ sym (set_other (node - 1) i e disks apart) ∙ at_y) in
+        subst (λ z. R x z) stays (itself x)
+
+-- A call that wasn't stopped leaves the count of stops.
+pub same_stops : {T E : Type 0} (old new : Counts) (r : Result T E) (stopped : E) → CountsCall old new r stopped → (r ≡ Err stopped → ⊥) → new.stops ≡ old.stops
+same_stops old new (Ok value) stopped c none = c.stops.ok
+same_stops old new (Err other) stopped c none = c.stops.other (λ is. none (ap Err is))
+
 module _ {D : Type 0} (disk : Ghosts D) where
+  stays : (arms : ℕ) (d : D) → Moves arms (counts disk d) (counts disk d)
+  stays arms d = record { later = omega arith; before = omega arith; few = omega arith }
+
   -- no call at all
   pub moved_none : (arms : ℕ) (disks : List D) → HaveMoved disk arms disks disks
-  moved_none arms disks = record {
-    count = refl;
-    each = λ i d e at then_at.
-        let same : d ≡ e = some_one d e (sym at ∙ then_at) in
-        subst (λ x. Moves arms (counts disk d) (counts disk x)) same (record { later = omega arith; before = omega arith; few = omega arith });
-  }
+  moved_none arms disks = record { count = refl; each = each_same (λ d e. Moves arms (counts disk d) (counts disk e)) (stays arms) disks }
+
+  pub unstopped_none : (disks : List D) → HaveNotStopped disk disks disks
+  unstopped_none disks = record { count = refl; each = each_same (λ d e. disk.stops e ≡ disk.stops d) (λ d. refl) disks }
 
   -- one behind the other
   pub moved_then : (some more : ℕ) (first second third : List D) → HaveMoved disk some first second → HaveMoved disk more second third → HaveMoved disk (some + more) first third
@@ -63,26 +92,20 @@ module _ {D : Type 0} (disk : Ghosts D) where
         record { later = omega (arith, x.later, y.later); before = omega (arith, x.before, y.before); few = omega (arith, x.few, y.few) };
   }
 
+  pub unstopped_on : (first second third : List D) → HaveNotStopped disk first second → HaveNotStopped disk second third → HaveNotStopped disk first third
+  unstopped_on first second third a b = record {
+    count = b.count ∙ a.count;
+    each = λ i d e at_first at_third.
+        let m = is_there i second (omega (arith, a.count, within i d first at_first)) in
+        b.each i m.0 e m.1 at_third ∙ a.each i d m.0 at_first m.1;
+  }
+
   pub moved_on : (first second third : List D) → HaveMoved disk 0 first second → HaveMoved disk 0 second third → HaveMoved disk 0 first third
   moved_on first second third a b = moved_then 0 0 first second third a b
 
   -- one disk has moved
   pub moved_at : (arms node : ℕ) (disks : List D) (d e : D) → slice_get disks (node - 1) ≡ Some d → Moves arms (counts disk d) (counts disk e) → HaveMoved disk arms disks (slice_set disks (node - 1) e)
-  moved_at arms node disks d e at moves = record {
-    count = length-set disks (node - 1) e;
-    each = λ i x y at_x at_y. by i x y at_x at_y (i == (node - 1)) refl;
-  }
-    where
-      by : (i : ℕ) (x y : D) → slice_get disks i ≡ Some x → slice_get (slice_set disks (node - 1) e) i ≡ Some y → (b : Bool) → (i == (node - 1)) ≡ b → Moves arms (counts disk x) (counts disk y)
-      by i x y at_x at_y true is =
-          let same : i ≡ node - 1 = grind (arith, is) in
-          let old : d ≡ x = some_one d x (sym at ∙ ap (slice_get disks) (sym same) ∙ at_x) in
-          let new : e ≡ y = set_here (node - 1) e d y disks at (ap (slice_get (slice_set disks (node - 1) e)) (sym same) ∙ at_y) in
-          subst (λ z. Moves arms (counts disk z) (counts disk y)) old (subst (λ z. Moves arms (counts disk d) (counts disk z)) new moves)
-      by i x y at_x at_y false is =
-          let apart : i ≡ node - 1 → ⊥ = λ same. grind (arith, is, same) in
-          let stays : x ≡ y = some_one x y (sym at_x ∙ sym (set_other (node - 1) i e disks apart) ∙ at_y) in
-          subst (λ z. Moves arms (counts disk x) (counts disk z)) stays (record { later = omega arith; before = omega arith; few = omega arith })
+  moved_at arms node disks d e at moves = record { count = length-set disks (node - 1) e; each = each_at (λ x y. Moves arms (counts disk x) (counts disk y)) (stays arms) node disks d e at moves }
 
   -- by a step of its node
   pub moved_set : {T E : Type 0} (node : ℕ) (disks : List D) (d e : D) (r : Result T E) (h : E) → slice_get disks (node - 1) ≡ Some d → CountsStep (counts disk d) (counts disk e) r h → HaveMoved disk 0 disks (slice_set disks (node - 1) e)
@@ -97,6 +120,17 @@ module _ {D : Type 0} (disk : Ghosts D) where
   -- by a format of its node
   pub moved_call : {T E : Type 0} (node : ℕ) (disks : List D) (d e : D) (r : Result T E) (h : E) → slice_get disks (node - 1) ≡ Some d → CountsCall (counts disk d) (counts disk e) r h → HaveMoved disk 0 disks (slice_set disks (node - 1) e)
   moved_call node disks d e r h at counted = moved_at 0 node disks d e at (record { later = counted.stops.later; before = omega (arith, counted.arms); few = omega (arith, counted.arms) })
+
+  -- and where it wasn't stopped, no disk was
+  pub unstopped_call : {T E : Type 0} (node : ℕ) (disks : List D) (d e : D) (r : Result T E) (stopped : E) → slice_get disks (node - 1) ≡ Some d → CountsCall (counts disk d) (counts disk e) r stopped → (r ≡ Err stopped → ⊥)
+      → HaveNotStopped disk disks (slice_set disks (node - 1) e)
+  unstopped_call node disks d e r stopped at counted none =
+      record { count = length-set disks (node - 1) e; each = each_at (λ x y. disk.stops y ≡ disk.stops x) (λ x. refl) node disks d e at (same_stops (counts disk d) (counts disk e) r stopped counted none) }
+
+  pub unstopped_ok : {T E : Type 0} (node : ℕ) (disks : List D) (d e : D) (r : Result T E) (stopped : E) → slice_get disks (node - 1) ≡ Some d → CountsCall (counts disk d) (counts disk e) r stopped
+      → OnOk r (HaveNotStopped disk disks (slice_set disks (node - 1) e))
+  unstopped_ok node disks d e (Ok value) stopped at counted = unstopped_call node disks d e (Ok value) stopped at counted (λ is. absurd (cc is))
+  unstopped_ok node disks d e (Err other) stopped at counted = tt
 
   pub stopped_at : (node : ℕ) (disks : List D) (d e : D) → slice_get disks (node - 1) ≡ Some d → Rose (disk.stops d) (disk.stops e) → HasStopped disk disks (slice_set disks (node - 1) e)
   stopped_at node disks d e at rose = record { place = node - 1; was = d; is = e; there = at; now = set_there (node - 1) e d disks at; rose = rose }

@@ -1,5 +1,5 @@
 -- Events that were run write their lines, and leave no frame open where they settle.
-use Rattle.std.proofs.Common.{◌≡◌, ◌⊎◌, ◌∙◌, ◌+◌, ◌≤◌, ℕ, zero, suc, Bool, true, false, List, [], ◌∷◌, length, map, refl, sym, ap, Option, Some, None, arith}
+use Rattle.std.proofs.Common.{◌≡◌, ◌⊎◌, inl, inr, ◌∙◌, ◌+◌, ◌≤◌, ℕ, zero, suc, Bool, true, false, List, [], ◌∷◌, length, map, refl, sym, ap, subst, Option, Some, None, arith}
 use Rattle.std.specs.Prelude.{if◌then◌else◌, slice_get}
 use Rattle.std.specs.Option.{option_map_or}
 use Rattle.std.proofs.lemmas.List.{length-append, length-map}
@@ -11,18 +11,19 @@ use Rattle.arj_event_law.proofs.Settled.{events_settle}
 use Rattle.arj_event_law.proofs.Spoken.{event_writes}
 use Rattle.arj_event_law.proofs.Whole.{event_whole, format_whole}
 use Rattle.arj_event_law.specs.Named.{AnswersEnd, AreNamed, EndHalted, EndRefused, IsEndAnswered, OwnEnd, ends_label}
-use Rattle.arj_event_law.specs.Writes.{Answers, Own, IsRefused, HasHalted, IsFrames, IsLabels, IsAnswered, IsOwn, IsWhole, Owes, halts_for}
+use Rattle.arj_event_law.specs.Writes.{Answers, Own, IsRefused, HasHalted, IsFrames, IsLabels, IsAnswered, IsDone, IsOwn, IsRefusedWith, IsRun, IsWhole, Owes, asks, halts_for, may_lack_frames, node_refusal, refused_to}
 use Rattle.arj_journal.specs.declared.body.Line.{Line}
 use Rattle.arj_journal.specs.declared.header.Header.{Header}
 use Rattle.arj_net.specs.Net as nets
 use Rattle.arj_net.specs.declared.net.Sent.{Sent}
 use Rattle.arj_protocol.proofs.Growth.{event_grows}
 use Rattle.arj_protocol.specs.Laws.{as_sent}
-use Rattle.arj_protocol.specs.Step.{first_reason}
+use Rattle.arj_protocol.specs.Step.{Input, Node, first_reason}
+use Rattle.arj_protocol.specs.Tree.{at_place}
 use Rattle.arj_protocol.specs.Words.{Body, Event, Label}
 use Rattle.arj_protocol.specs.Words.event
 use Rattle.arj_protocol.specs.Words.frame_no
-use Rattle.arj_protocol.specs.World.{World, Arm, format, lowest_from, most_frames, reasons, run_event}
+use Rattle.arj_protocol.specs.World.{World, Arm, Giving, format, giving, lacks_labels, lowest_from, most_frames, reasons, refused_at, run_event}
 use Rattle.arj_world.specs.Happens.{RunsOver, RunsTo}
 use Rattle.arj_world.specs.Owns.{AnswersEvent, EndsEvent, HasNoOpen}
 use Rattle.arj_world.specs.Stands.{Hand, Keeps, StandsSome}
@@ -101,17 +102,116 @@ halts_without arms w (event.Tick n) m is = absurd is
 halts_without arms w event.Settle m is = absurd is
 halts_without arms w (event.Show x) m is = absurd is
 
-answers_without : (arms : List (ℕ × Arm)) (w : World) (e : Event) (b : Body) → Answers e (with_arms arms w) b → Answers e w b
-answers_without arms w e b (Own own) = Own (own_without arms w e b own)
-answers_without arms w e b (IsRefused c is) = IsRefused c is
-answers_without arms w e b (HasHalted m halts is) = HasHalted m (halts_without arms w e m halts) is
-answers_without arms w e b (IsFrames is) = IsFrames is
-answers_without arms w e b (IsLabels is) = IsLabels is
+-- ---- nor of what comes in its place
+
+-- the conditions under which the world refuses an event
+reasons_without : (arms : List (ℕ × Arm)) (w : World) (e : Event) → reasons e (with_arms arms w) ≡ reasons e w
+reasons_without arms w (event.Begin l n) = refl
+reasons_without arms w (event.Serial l n) = refl
+reasons_without arms w (event.BeginIn l p) = refl
+reasons_without arms w (event.Top l p) = refl
+reasons_without arms w (event.Call l x o) = refl
+reasons_without arms w (event.Include l x n) = refl
+reasons_without arms w (event.Commit l) = refl
+reasons_without arms w (event.Abort l) = refl
+reasons_without arms w (event.GiveUp l) = refl
+reasons_without arms w (event.Deliver (frame_no.Number k)) = refl
+reasons_without arms w (event.Deliver frame_no.Last) = refl
+reasons_without arms w (event.Lose (frame_no.Number k)) = refl
+reasons_without arms w (event.Lose frame_no.Last) = refl
+reasons_without arms w (event.Tick n) = refl
+reasons_without arms w event.Settle = refl
+reasons_without arms w event.Quiesce = refl
+reasons_without arms w (event.Crash n) = refl
+reasons_without arms w (event.Restart n) = refl
+reasons_without arms w (event.Stop n c how) = refl
+reasons_without arms w (event.Junk n bytes) = refl
+reasons_without arms w (event.Show x) = refl
+
+-- the label that it gives, and what it asks of which node
+giving_without : (arms : List (ℕ × Arm)) (w : World) (e : Event) → (giving e (with_arms arms w) ≡ giving e w) × (asks e (with_arms arms w) ≡ asks e w)
+giving_without arms w (event.Begin l n) = (refl, refl)
+giving_without arms w (event.Serial l n) = (refl, refl)
+giving_without arms w (event.BeginIn l p) = (refl, refl)
+giving_without arms w (event.Top l p) = (refl, refl)
+giving_without arms w (event.Call l x o) = (refl, refl)
+giving_without arms w (event.Include l x n) = (refl, refl)
+giving_without arms w (event.Commit l) = (refl, refl)
+giving_without arms w (event.Abort l) = (refl, refl)
+giving_without arms w (event.GiveUp l) = (refl, refl)
+giving_without arms w (event.Deliver k) = (refl, refl)
+giving_without arms w (event.Lose k) = (refl, refl)
+giving_without arms w (event.Tick n) = (refl, refl)
+giving_without arms w event.Settle = (refl, refl)
+giving_without arms w event.Quiesce = (refl, refl)
+giving_without arms w (event.Crash n) = (refl, refl)
+giving_without arms w (event.Restart n) = (refl, refl)
+giving_without arms w (event.Stop n c how) = (refl, refl)
+giving_without arms w (event.Junk n bytes) = (refl, refl)
+giving_without arms w (event.Show x) = (refl, refl)
+
+lacks_same : (arms : List (ℕ × Arm)) (w : World) (g : Option Giving) → lacks_labels g (with_arms arms w) ≡ lacks_labels g w
+lacks_same arms w None = refl
+lacks_same arms w (Some g) = refl
+
+refused_same : (arms : List (ℕ × Arm)) (w : World) (a : Option (ℕ × Input)) → refused_to (with_arms arms w) a ≡ refused_to w a
+refused_same arms w None = refl
+refused_same arms w (Some a) = by (at_place a.0 w.nodes)
+  where
+    by : (o : Option Node) → refused_at a.1 (with_arms arms w) o ≡ refused_at a.1 w o
+    by None = refl
+    by (Some n) = refl
+
+accepted_without : (arms : List (ℕ × Arm)) (w : World) (e : Event) (r : Option ℕ) → first_reason (reasons e (with_arms arms w)) ≡ r → first_reason (reasons e w) ≡ r
+accepted_without arms w e r is = ap first_reason (sym (reasons_without arms w e)) ∙ is
+
+lacks_without : (arms : List (ℕ × Arm)) (w : World) (e : Event) (b : Bool) → lacks_labels (giving e (with_arms arms w)) (with_arms arms w) ≡ b → lacks_labels (giving e w) w ≡ b
+lacks_without arms w e b is = sym (lacks_same arms w (giving e w)) ∙ (ap (λ g. lacks_labels g (with_arms arms w)) (sym (giving_without arms w e).0) ∙ is)
+
+refusal_without : (arms : List (ℕ × Arm)) (w : World) (e : Event) (r : Option ℕ) → node_refusal e (with_arms arms w) ≡ r → node_refusal e w ≡ r
+refusal_without arms w e r is = sym (refused_same arms w (asks e w)) ∙ (ap (refused_to (with_arms arms w)) (sym (giving_without arms w e).1) ∙ is)
+
+run_without : (arms : List (ℕ × Arm)) (w : World) (e : Event) → IsRun e (with_arms arms w) → IsRun e w
+run_without arms w e run = record { accepted = accepted_without arms w e None run.accepted; labels = lacks_without arms w e false run.labels }
+
+done_without : (arms : List (ℕ × Arm)) (w : World) (e : Event) → IsDone e (with_arms arms w) → IsDone e w
+done_without arms w e done = record { run = run_without arms w e done.run; granted = refusal_without arms w e None done.granted }
+
+refused_without : (arms : List (ℕ × Arm)) (w : World) (e : Event) (c : ℕ) → IsRefusedWith e (with_arms arms w) c → IsRefusedWith e w c
+refused_without arms w e c is = ⊎_elim (λ by_world. inl (accepted_without arms w e (Some c) by_world)) (λ by_node. inr (run_without arms w e by_node.0, refusal_without arms w e (Some c) by_node.1)) is
+
+frames_without : (arms : List (ℕ × Arm)) (w : World) (e : Event) → may_lack_frames e (with_arms arms w) → may_lack_frames e w
+frames_without arms w (event.Junk n bytes) lacks = lacks
+frames_without arms w event.Quiesce lacks = lacks
+frames_without arms w (event.Begin l n) lacks = absurd lacks
+frames_without arms w (event.Serial l n) lacks = absurd lacks
+frames_without arms w (event.BeginIn l p) lacks = absurd lacks
+frames_without arms w (event.Top l p) lacks = absurd lacks
+frames_without arms w (event.Call l x o) lacks = absurd lacks
+frames_without arms w (event.Include l x n) lacks = absurd lacks
+frames_without arms w (event.Commit l) lacks = absurd lacks
+frames_without arms w (event.Abort l) lacks = absurd lacks
+frames_without arms w (event.GiveUp l) lacks = absurd lacks
+frames_without arms w (event.Deliver k) lacks = absurd lacks
+frames_without arms w (event.Lose k) lacks = absurd lacks
+frames_without arms w (event.Tick n) lacks = absurd lacks
+frames_without arms w event.Settle lacks = absurd lacks
+frames_without arms w (event.Crash n) lacks = absurd lacks
+frames_without arms w (event.Restart n) lacks = absurd lacks
+frames_without arms w (event.Stop n c how) lacks = absurd lacks
+frames_without arms w (event.Show x) lacks = absurd lacks
+
+answers_without : (arms : List (ℕ × Arm)) (w : World) (e : Event) (over : Bool) (b : Body) → Answers e (with_arms arms w) over b → Answers e w over b
+answers_without arms w e over b (Own done own) = Own (done_without arms w e done) (own_without arms w e b own)
+answers_without arms w e over b (HasHalted m done halts is) = HasHalted m (done_without arms w e done) (halts_without arms w e m halts) is
+answers_without arms w e over b (IsFrames done lacks ends is) = IsFrames (done_without arms w e done) (frames_without arms w e lacks) ends is
+answers_without arms w e over b (IsRefused c refused is) = IsRefused c (refused_without arms w e c refused) is
+answers_without arms w e over b (IsLabels lacks ends is) = IsLabels (record { accepted = accepted_without arms w e None lacks.accepted; full = lacks_without arms w e true lacks.full }) ends is
 
 end_without : (arms : List (ℕ × Arm)) (w : World) (e : Event) (l : Label) (b : Body) → AnswersEnd e l (with_arms arms w) b → AnswersEnd e l w b
-end_without arms w e l b (OwnEnd m named is) = OwnEnd m named is
-end_without arms w e l b (EndRefused c is) = EndRefused c is
-end_without arms w e l b (EndHalted is) = EndHalted is
+end_without arms w e l b (OwnEnd m done named is) = OwnEnd m (done_without arms w e done) named is
+end_without arms w e l b (EndHalted done is) = EndHalted (done_without arms w e done) is
+end_without arms w e l b (EndRefused c refused is) = EndRefused c (refused_without arms w e c refused) is
 
 -- ---- frames
 
@@ -132,16 +232,17 @@ none_open sent is (suc k) = none_waits 1 sent is k
 
 module _ {C D : Type 0} (core : Ghosts C) (file : D → FileMap) where
   -- what a turn writes answers its event
-  turn_answers : (e : Event) (falls : List (ℕ × Arm)) (w : World) (journal : List Line) → (turned (record { event = e; falls = falls }) w).lines ≡ journal → w.over ≡ false → IsWhole w → Owes e w → IsAnswered e w journal
-  turn_answers e falls w journal lines over whole owes =
-      let x = event_writes (asked e) (with_arms falls w) (whole_with falls w whole) over (owes_with falls w e owes) in
-      record { before = x.before; line = x.line; after = x.after; are = sym lines ∙ x.are; answers = answers_without falls w e x.line.body x.answers }
+  turn_answers : (e : Event) (falls : List (ℕ × Arm)) (w : World) (over : Bool) (journal : List Line) → (turned (record { event = e; falls = falls }) w).lines ≡ journal → (turned (record { event = e; falls = falls }) w).over ≡ over
+      → w.over ≡ false → IsWhole w → Owes e w → IsAnswered e w over journal
+  turn_answers e falls w over journal lines ends going whole owes =
+      let x = event_writes (asked e) (with_arms falls w) (whole_with falls w whole) going (owes_with falls w e owes) in
+      record { before = x.before; line = x.line; after = x.after; are = sym lines ∙ x.are; answers = answers_without falls w e over x.line.body (subst (λ o. Answers e (with_arms falls w) o x.line.body) ends x.answers) }
 
-  pub answers_so : (e : Event) (old new : Hand C D) → RunsTo core file e old new → AnswersEvent core file e old new.journal
-  answers_so e old new to w st whole owes = let r = to w st in turn_answers e r.falls w new.journal r.stands.lines st.over whole owes
+  pub answers_so : (e : Event) (old new : Hand C D) → RunsTo core file e old new → AnswersEvent core file e old false new.journal
+  answers_so e old new to w st whole owes = let r = to w st in turn_answers e r.falls w false new.journal r.stands.lines r.stands.over st.over whole owes
 
-  pub answers_over : (e : Event) (old new : Hand C D) → RunsOver core file e old new → AnswersEvent core file e old new.journal
-  answers_over e old new to w st whole owes = let r = to w st in turn_answers e r.falls w new.journal r.stands.stands.lines st.over whole owes
+  pub answers_over : (e : Event) (old new : Hand C D) → RunsOver core file e old new → AnswersEvent core file e old true new.journal
+  answers_over e old new to w st whole owes = let r = to w st in turn_answers e r.falls w true new.journal r.stands.stands.lines r.stands.over st.over whole owes
 
   -- and so do the lines of an end
   turn_ends : (e : Event) (falls : List (ℕ × Arm)) (l : Label) (w : World) (journal : List Line) → (turned (record { event = e; falls = falls }) w).lines ≡ journal → w.over ≡ false → IsWhole w → AreNamed w → ends_label e l → IsEndAnswered e l w journal

@@ -16,6 +16,11 @@ pub record HaveMoved {D : Type 0} (disk : Ghosts D) (arms : ℕ) (old new : List
   pub count : length new ≡ length old
   pub each : (i : ℕ) (d e : D) → slice_get old i ≡ Some d → slice_get new i ≡ Some e → Moves arms (counts disk d) (counts disk e)
 
+-- No disk was stopped: each count of stops is as before.
+pub record HaveNotStopped {D : Type 0} (disk : Ghosts D) (old new : List D) : Type 0 where
+  pub count : length new ≡ length old
+  pub each : (i : ℕ) (d e : D) → slice_get old i ≡ Some d → slice_get new i ≡ Some e → disk.stops e ≡ disk.stops d
+
 -- A disk's count of stops rose.
 pub record HasStopped {D : Type 0} (disk : Ghosts D) (old new : List D) : Type 0 where
   pub place : ℕ

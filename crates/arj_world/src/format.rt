@@ -3,7 +3,7 @@ ghost use Rattle.std.specs.Prelude.{◌≡◌, ◌≤◌, ◌-◌, [], None, Som
 ghost use Rattle.arj_disk.specs.declared.slot.Slot.{Slot};
 ghost use Rattle.arj_journal.specs.ScriptForm.{HeaderInForm};
 ghost use Rattle.arj_protocol.specs.World as protocol;
-ghost use Rattle.arj_world.specs.Disks.{HasStopped, HaveMoved};
+ghost use Rattle.arj_world.specs.Disks.{HasStopped, HaveMoved, HaveNotStopped};
 ghost use Rattle.arj_world.specs.First.{Formatted};
 ghost use Rattle.arj_world.specs.Stands.{Stands, hand};
 
@@ -30,6 +30,7 @@ fn format_node<C: Core, D: Disk>(
     ensures formatted { IfOk result (λ core. Formatted C.Core D.file header.now node core rack.old rack.new) }
     ensures disks { HaveMoved D.Disk 0 rack.old rack.new }
     ensures stopped { IsErrOf result FormatFault.Stopped → HasStopped D.Disk rack.old rack.new }
+    ensures unstopped { (IsErrOf result FormatFault.Stopped → ⊥) → HaveNotStopped D.Disk rack.old rack.new }
 {
     match C::format(alloc, node, header, rack.disk(node)) {
         Ok(core) => Ok(core),
@@ -39,7 +40,8 @@ fn format_node<C: Core, D: Disk>(
 }
 
 impl<C: Core + Drop> World<C> {
-    /// All nodes over empty disks, up in incarnation 1, with the header's states and entries, no frame and no label.
+    /// All nodes over empty disks, up in incarnation 1, with the header's states and entries, no frame and no label. Stopped:
+    /// a disk was stopped; at any other answer none was.
     pub fn format<D: Disk>(
         alloc: Global,
         header: Header,
@@ -50,6 +52,7 @@ impl<C: Core + Drop> World<C> {
         ensures stands { IfOk result (λ world. Stands C.Core D.file (hand world rack.new []) (protocol.format header)) }
         ensures disks { HaveMoved D.Disk 0 rack.old rack.new }
         ensures stopped { IsErrOf result FormatFault.Stopped → HasStopped D.Disk rack.old rack.new }
+        ensures unstopped { (IsErrOf result FormatFault.Stopped → ⊥) → HaveNotStopped D.Disk rack.old rack.new }
     {
         let mut cores = Vec::new(alloc);
         for node in 0..header.nodes {

@@ -18,12 +18,16 @@ ghost use Rattle.arj_world.specs.Owns.{AnswersEvent, EndsEvent, HasNoOpen};
 ghost use Rattle.arj_world.specs.Stands.{Keeps, StandsSome, hand};
 ghost use Rattle.arj_world.specs.Tells.{TellsStops, crashed_by, nobody};
 ghost use Rattle.arj_world.specs.Wire.{AreFew};
+ghost use Rattle.arj_world.specs.declared.run.TheConstants.{MOST_EVENTS};
 
 use crate::{StepFault, World};
 use arj_core::{Core, Input};
 use arj_disk::{Disk, Rack};
 use arj_journal::{Body, Event, Kind, Label, Lines, Which};
 use std::alloc::AllocError;
+
+/// The most events that a world runs.
+pub const MOST_EVENTS: u32 = 200_000;
 
 /// The most labels that a run gives.
 pub const MOST_LABELS: usize = 4096;
@@ -114,7 +118,7 @@ impl<C: Core> World<C> {
 
     // The next event.
     fn count(&mut self)
-        requires { self.old.event < 200000 }
+        requires { self.old.event < MOST_EVENTS }
         ensures { self.new ≡ record self.old { event = self.old.event + 1 } }
     {
         self.wire.event += 1;
@@ -122,7 +126,7 @@ impl<C: Core> World<C> {
 
     // Counts a refused event, and writes its line.
     fn refuse(&mut self, cause: u8, journal: &mut Lines) -> Result<(), StepFault>
-        requires { self.old.event < 200000 }
+        requires { self.old.event < MOST_EVENTS }
         ensures counted { OnOk result (self.new ≡ record self.old { event = self.old.event + 1 }) }
         ensures said { OnOk result (journal.new ≡ journal.old ++ numbered (self.old.event + 1) (body.Refused cause ∷ [])) }
         ensures labels { IsErrOf result StepFault.Labels → ⊥ }
@@ -163,9 +167,9 @@ impl<C: Core> World<C> {
     /// Runs one event: its lines go to the end of the journal, and the world is then what the protocol makes of it, with
     /// the stops that fell. Where a frame didn't fit, a line says so last, and the run is over. An event that would give
     /// one label too many changes nothing. A line that says that a node halted stands for a stop of its disk, but in the event
-    /// that crashes it; an event of a kind with a line of its own writes it, or why it doesn't, and so does a commit, an abort, a
-    /// giveup, and a delivery of a frame for a node of the header; and after a settle or a quiesce each frame was delivered or
-    /// lost.
+    /// that crashes it; an event of a kind with a line of its own writes it, or why it doesn't, with the number of the refusal, and
+    /// so does a commit, an abort, a giveup, and a delivery of a frame for a node of the header; and after a settle or a quiesce
+    /// each frame was delivered or lost.
     #[tactic(auto, using(crate::proofs::Disks::moved_none, crate::proofs::Tells::tells_none))]
     pub fn step<D: Disk>(
         &mut self,
@@ -173,7 +177,7 @@ impl<C: Core> World<C> {
         event: Event,
         journal: &mut Lines,
     ) -> Result<(), StepFault>
-        requires room { self.old.event < 200000 }
+        requires room { self.old.event < MOST_EVENTS }
         requires form { EventInForm event }
         requires arms { All (λ d. D.arms d < LAST_ARM) rack.old }
         requires stands { StandsSome C.Core D.file (hand self.old rack.old journal.old) }
@@ -190,8 +194,8 @@ impl<C: Core> World<C> {
         ensures disks { HaveMoved D.Disk 1 rack.old rack.new }
         ensures stops { OnOk result (TellsStops D.Disk (crashed_by event) rack.old rack.new journal.old journal.new) }
         ensures stops_over { IsErrOf result StepFault.Frames → TellsStops D.Disk (crashed_by event) rack.old rack.new journal.old journal.new }
-        ensures answers { OnOk result (AnswersEvent C.Core D.file event (hand self.old rack.old journal.old) journal.new) }
-        ensures answers_over { IsErrOf result StepFault.Frames → AnswersEvent C.Core D.file event (hand self.old rack.old journal.old) journal.new }
+        ensures answers { OnOk result (AnswersEvent C.Core D.file event (hand self.old rack.old journal.old) false journal.new) }
+        ensures answers_over { IsErrOf result StepFault.Frames → AnswersEvent C.Core D.file event (hand self.old rack.old journal.old) true journal.new }
         ensures ends { OnOk result (EndsEvent C.Core D.file event (hand self.old rack.old journal.old) journal.new) }
         ensures ends_over { IsErrOf result StepFault.Frames → EndsEvent C.Core D.file event (hand self.old rack.old journal.old) journal.new }
         ensures settled { OnOk result ((event ≡ events.Settle) ⊎ (event ≡ events.Quiesce) → HasNoOpen self.new.net) }

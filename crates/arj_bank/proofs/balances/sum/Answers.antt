@@ -3,7 +3,7 @@ use Rattle.std.proofs.Common.{Err, ap, refl, ◌∙◌}
 use Rattle.arj_bank.specs.Balances.{files_at}
 use Rattle.arj_bank.proofs.Reading.{add_more}
 use Rattle.arj_disk.specs.declared.disk.DiskFault.TheVariants.{Stopped}
-use Rattle.arj_world.proofs.Disks.{moved_on, same_fault, stopped_later}
+use Rattle.arj_world.proofs.Disks.{moved_on, same_fault, stopped_later, unstopped_on}
 use Rattle.arj_bank.proofs.balances.sum.Goals as goal
 
 pub returns-in-Err-clause-moved : goal.returns-in-Err-clause-moved
@@ -17,4 +17,5 @@ loop-k-preserved g c = record {
   adds = add_more (files_at g.D.Disk.file c.args.rack.now) (files_at g.D.Disk.file c.loop-k.rack) c.loop-k.k c.loop-k.sum c.in-Ok.balance c.added-sum.result c.loop-k.invariant.files c.loop-k.invariant.adds c.in-Ok.ensures.balance c.added-sum.ensures;
   files = c.balance.ensures.files ∙ c.loop-k.invariant.files;
   moved = moved_on g.D.Disk c.args.rack.now c.loop-k.rack c.balance.new.rack c.loop-k.invariant.moved c.balance.ensures.moved;
+  unstopped = unstopped_on g.D.Disk c.args.rack.now c.loop-k.rack c.balance.new.rack c.loop-k.invariant.unstopped c.in-Ok.ensures.unstopped;
 }

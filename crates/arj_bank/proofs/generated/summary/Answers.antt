@@ -1,17 +1,25 @@
 -- the run, and what it came to
 use Rattle.std.proofs.Common.{Err, ap, inl, inr, refl, subst}
-use Rattle.std.proofs.lemmas.Result.{IfOk-weaker}
 use Rattle.arj_bank.specs.Bank.{IsSummary, SumsUp, left}
 use Rattle.arj_bank.specs.declared.stop.Stop.TheVariants.{Disk, Limit}
+use Rattle.arj_world.specs.Disks.{HaveNotStopped}
 use Rattle.arj_world.proofs.Disks.{moved_none, same_fault}
+use Rattle.arj_bank.proofs.Ending.{if_ok_with}
 use Rattle.arj_bank.proofs.generated.summary.Goals as goal
 
 pub returns-in-Ok-clause-text : goal.returns-in-Ok-clause-text
 returns-in-Ok-clause-text g c =
     let file = g.D.Disk.file in
-    IfOk-weaker c.sum_up.result (SumsUp file c.in-Ok.events c.run_bank.new.rack c.run_bank.new.journal) (IsSummary g.M.Machine file c.args.n c.args.rack.now (left c.sum_up.new.rack c.run_bank.new.journal))
-    (λ text sums. record { mid = c.run_bank.new.rack; ran = c.in-Ok.ensures.ran; sums = subst (λ count. SumsUp file count c.run_bank.new.rack c.run_bank.new.journal text) c.in-Ok.ensures.count sums; kept = c.sum_up.ensures.files })
-    c.sum_up.ensures.text
+    if_ok_with c.sum_up.result (SumsUp file c.in-Ok.events c.run_bank.new.rack c.run_bank.new.journal) (IsSummary g.M.Machine g.D.Disk c.args.n c.args.rack.now (left c.sum_up.new.rack c.run_bank.new.journal))
+    (HaveNotStopped g.D.Disk c.run_bank.new.rack c.sum_up.new.rack)
+    (λ text sums unstopped. record {
+      mid = c.run_bank.new.rack;
+      ran = c.in-Ok.ensures.ran;
+      sums = subst (λ count. SumsUp file count c.run_bank.new.rack c.run_bank.new.journal text) c.in-Ok.ensures.count sums;
+      kept = c.sum_up.ensures.files;
+      unstopped = unstopped;
+    })
+    c.sum_up.ensures.text c.sum_up.ensures.unstopped
 
 pub returns-in-Ok-clause-limit : goal.returns-in-Ok-clause-limit
 returns-in-Ok-clause-limit g c is = absurd (c.sum_up.ensures.limit is)

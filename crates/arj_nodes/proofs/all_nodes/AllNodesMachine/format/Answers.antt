@@ -7,7 +7,7 @@ use Rattle.arj_nodes.proofs.all_nodes.AllNodesMachine.format.Goals as goal
 pub returns-in-Ok-clause-made : goal.returns-in-Ok-clause-made
 returns-in-Ok-clause-made g c =
     let s = c.in-Ok.ensures.stands in
-    (ran_first g.C.Core g.D.Disk c.args.header c.in-Ok.world c.args.rack.now c.format.new.rack c.requires.ready s c.format.ensures.disks, sym s.event, refl)
+    (ran_first g.C.Core g.D.Disk c.args.header c.in-Ok.world c.args.rack.now c.format.new.rack c.requires.ready s c.format.ensures.disks (c.in-Ok.ensures.unstopped (λ e. absurd (cc e))), sym s.event, refl)
 
 pub returns-in-Ok-clause-moved : goal.returns-in-Ok-clause-moved
 returns-in-Ok-clause-moved g c = moved_more g.D.Disk c.args.rack.now c.format.new.rack c.format.ensures.disks

@@ -1,7 +1,7 @@
 -- what an event makes of the nodes
 use Rattle.std.proofs.Common.{Err, [], ◌∷◌, ◌++◌, ap, refl, subst, sym}
 use Rattle.arj_world.specs.Stands.{hand}
-use Rattle.arj_nodes.specs.AllNodes.{LacksLabels, RanAll}
+use Rattle.arj_nodes.specs.AllNodes.{LacksLabels, RanAll, task}
 use Rattle.arj_nodes.proofs.Turning.{arms_left, ran_more, ran_over, ran_still, stands_some}
 use Rattle.arj_nodes.proofs.all_nodes.AllNodesMachine.step.Goals as goal
 
@@ -14,15 +14,15 @@ pub step-requires-clause-stands : goal.step-requires-clause-stands
 step-requires-clause-stands g c =
     let r = c.requires.ran in
     let now = hand c.args.self.now.world c.args.rack.now c.args.journal.now in
-    stands_some g.C.Core g.D.Disk r.0 r.1 r.2 now (subst (λ over. RanAll g.C.Core g.D.Disk r.0 r.1 r.2 over now) c.requires.going r.3)
+    stands_some g.C.Core g.D.Disk r.0 r.1 r.2 now (subst (λ over. RanAll g.C.Core g.D.Disk (task r.0 r.1 r.2) over now) c.requires.going r.3)
 
 pub returns-in-Ok-clause-ran : goal.returns-in-Ok-clause-ran
 returns-in-Ok-clause-ran g c first header events ran =
     let e = c.in-Ok.ensures in
     let old = hand c.args.self.now.world c.args.rack.now c.args.journal.now in
     let new = hand c.step.new.self c.step.new.rack c.step.new.journal in
-    subst (λ over. RanAll g.C.Core g.D.Disk first header (events ++ c.args.event ∷ []) over new) (sym c.requires.going)
-    (ran_more g.C.Core g.D.Disk first header events c.args.event old new e.ran e.counted c.step.ensures.disks e.stops (subst (λ over. RanAll g.C.Core g.D.Disk first header events over old) c.requires.going ran))
+    subst (λ over. RanAll g.C.Core g.D.Disk (task first header (events ++ c.args.event ∷ [])) over new) (sym c.requires.going)
+    (ran_more g.C.Core g.D.Disk first header events c.args.event old new e.ran e.counted c.step.ensures.disks e.stops (subst (λ over. RanAll g.C.Core g.D.Disk (task first header events) over old) c.requires.going ran))
 
 pub returns-in-Ok-clause-grown : goal.returns-in-Ok-clause-grown
 returns-in-Ok-clause-grown g c = let e = c.in-Ok.ensures in (e.counted, e.grown)
@@ -33,7 +33,7 @@ returns-in-Err-Frames-clause-frames g c _ first header events ran =
     let e = c.in-Err-Frames.ensures in
     let old = hand c.args.self.now.world c.args.rack.now c.args.journal.now in
     ran_over g.C.Core g.D.Disk first header events c.args.event old (hand c.step.new.self c.step.new.rack c.step.new.journal)
-    (e.frames is) (e.counted_over is) c.step.ensures.disks (e.stops_over is) (subst (λ over. RanAll g.C.Core g.D.Disk first header events over old) c.requires.going ran)
+    (e.frames is) (e.counted_over is) c.step.ensures.disks (e.stops_over is) (subst (λ over. RanAll g.C.Core g.D.Disk (task first header events) over old) c.requires.going ran)
 
 pub returns-in-Err-Frames-clause-overflown : goal.returns-in-Err-Frames-clause-overflown
 returns-in-Err-Frames-clause-overflown g c _ =
