@@ -23,8 +23,8 @@ use Rattle.arj_view_law.specs.Keeps.{Holds, KeepsAsked}
 use Rattle.arj_view_law.proofs.Happens.{deliver_holds, event_holds, first_holds, keeps_asked, steps_hold}
 use Rattle.arj_call_law.specs.Bindings.{HasFewBindings, bindings_made}
 use Rattle.arj_call_law.proofs.MadeLines.{lines_both}
-use Rattle.arj_call_law.proofs.WholeRuns.{runs_vote}
-use Rattle.arj_binding_law.specs.Scripts.{ScriptsMakeFew, ScriptsVote, most_events}
+use Rattle.arj_call_law.proofs.WholeRuns.{runs_reach, runs_vote}
+use Rattle.arj_binding_law.specs.Scripts.{ScriptsMakeFew, ScriptsReach, ScriptsVote, most_events}
 use Rattle.arj_binding_law.proofs.CoordBinds.{at_naming}
 use Rattle.arj_binding_law.proofs.Doings.{HaveLabels, labels_go}
 use Rattle.arj_binding_law.proofs.Worlds.{cost_at, made, steps_labels, steps_made}
@@ -640,3 +640,6 @@ scripts_few hd es short = few_made hd es short
 
 pub scripts_vote : ScriptsVote
 scripts_vote hd es short = runs_vote hd es (few_made hd es short)
+
+pub scripts_reach : ScriptsReach
+scripts_reach hd es short = runs_reach hd es (few_made hd es short)

@@ -16,22 +16,22 @@ use Rattle.arj_protocol.specs.Order.{at_number, binding_number}
 use Rattle.arj_protocol.specs.Server.{Server}
 use Rattle.arj_protocol.specs.Step.{Node}
 use Rattle.arj_protocol.specs.Tree.{root_of}
-use Rattle.arj_protocol.specs.World.{format, run_all}
+use Rattle.arj_protocol.specs.World.{Asked, format, run_all}
 use Rattle.arj_part_law.specs.Lives.{Homes, IsKeptSo, IsRootSo, IsUnbound, KnowsServers, NamesAsk, NamesAsked, NamesBind, NamesReply, Reach}
 use Rattle.arj_part_law.proofs.LivesNamed.{all_at, keyed_at}
 use Rattle.arj_run_law.specs.Worlds.{IsGood}
 use Rattle.arj_run_law.proofs.AllRuns.{all_keep}
 use Rattle.arj_run_law.proofs.Walked.{same_number}
-use Rattle.arj_view_law.specs.Keeps.{Keeps}
+use Rattle.arj_view_law.specs.Keeps.{Holds, Keeps}
 use Rattle.arj_view_law.specs.Seen.{Seen, see, up}
 use Rattle.arj_view_law.proofs.Happens.{runs_hold}
 use Rattle.arj_call_law.specs.Bindings.{AreSaid, HasFewBindings, bindings_made}
 use Rattle.arj_call_law.specs.Calls.{Call, call_in}
 use Rattle.arj_call_law.specs.Homes.{NamesIn}
 use Rattle.arj_call_law.specs.Lived.{AreApart, AreBelow, CountFits, Gifts, IsHome, LivesRun, LivesWith, NamesPost, PassesAll, PassesIn}
-use Rattle.arj_call_law.specs.Runs.{HasHomes, KnowsFew, KnowsRun}
+use Rattle.arj_call_law.specs.Runs.{AllVotesAreUsed, HasHomes, KnowsFew, KnowsRun}
 use Rattle.arj_call_law.specs.Servers.{HasReached, IsSoUp, Since}
-use Rattle.arj_call_law.specs.Voting.{RunsVote}
+use Rattle.arj_call_law.specs.Voting.{RunsReach, RunsVote}
 use Rattle.arj_call_law.specs.Worlds.{CallsReach}
 use Rattle.arj_call_law.proofs.CoordSends.{asked_call}
 use Rattle.arj_call_law.proofs.Given.{KeepsGiven, both_given, given_more, kept_both, keeps_given, while_given}
@@ -242,8 +242,14 @@ few_go hd P kept = kept_both hd Counted (λ M. HasFewBindings M.lines → Known 
     few_before : (lines more : List Line) → HasFewBindings (lines ++ more) → HasFewBindings lines
     few_before lines more less = below (bindings_made lines) (bindings_made (lines ++ more)) (fewer lines more) less
 
-pub runs_vote : RunsVote
-runs_vote hd es few =
+-- what is known of servers and of calls after a run
+known_in : (hd : Header) (es : List Asked) (P : Seen → Type 0) → ((M : Seen) → LivesRun M × KnowsRun M → P M) → HasFewBindings (run_all es (format hd)).lines → Holds hd P (run_all es (format hd))
+known_in hd es P so few =
     let h = runs_hold hd (WhileFew IsGood) (few_go hd IsGood (keeps_given hd KnowsFew IsGood (all_keep hd))) es in
-    let known = (h.holds.1 few).0 in
-    record { sent = h.sent; stands = h.stands; holds = votes_in (see h.sent (run_all es (format hd))) known.1 }
+    record { sent = h.sent; stands = h.stands; holds = so (see h.sent (run_all es (format hd))) (h.holds.1 few).0 }
+
+pub runs_vote : RunsVote
+runs_vote hd es few = known_in hd es AllVotesAreUsed (λ M k. votes_in M k.1) few
+
+pub runs_reach : RunsReach
+runs_reach hd es few = known_in hd es CallsReach (λ M k. reached_of M k.0) few
