@@ -1,17 +1,17 @@
 -- An action that begins is seen.
 use Rattle.std.proofs.Common.{◌≡◌, ◌≢◌, ◌≤◌, ◌+◌, ◌⊎◌, ◌∙◌, ◌||◌, ◌++◌, zero, suc, ℕ, List, [], ◌∷◌, true, false, cond, length, Option, Some, None, is_some, refl, sym, ap, subst, inl, inr, ⊎_elim, arith}
-use Rattle.std.specs.Prelude.{slice_get}
+use Rattle.std.specs.Prelude.{Contains, slice_get}
 use Rattle.arj_base.specs.Path.{before_last, first_uid}
 use Rattle.arj_base.specs.Rows.{front, last_uid}
 use Rattle.arj_lock.proofs.Members.{in_from}
 use Rattle.arj_protocol.specs.Words.{Kind, Label, Path, Uid, uids_of}
 use Rattle.arj_protocol.specs.Words.ending
 use Rattle.arj_protocol.specs.Asking.{begin_action}
-use Rattle.arj_protocol.specs.Coord.{Coord, Doing, Idle, Root, doing_of, new_coord, root_at}
+use Rattle.arj_protocol.specs.Coord.{Calling, Committing, Coord, Doing, Idle, Root, doing_of, new_coord, root_at}
 use Rattle.arj_protocol.specs.Tree.{Branch, at_place, branch_of, ended_so, is_aborted, is_open, is_open_branch, is_own, is_spent, new_tree, next_uid, path_below, root_of}
 use Rattle.arj_lock_law.specs.Actions.{Act, is_action, root}
 use Rattle.arj_lock_law.specs.Actions as machine
-use Rattle.arj_lock_law.specs.State.{State}
+use Rattle.arj_lock_law.specs.State.{Include, State}
 use Rattle.arj_lock_law.proofs.Paths.{on_root as same_unit}
 use Rattle.arj_part_law.specs.Copies.{Paths}
 use Rattle.arj_part_law.proofs.Begun.{before_on}
@@ -21,6 +21,8 @@ use Rattle.arj_lock_view_law.specs.Acts.{Acts}
 use Rattle.arj_lock_view_law.specs.Actions.{IsHere, IsIdle, SeesAction, SeesActions}
 use Rattle.arj_lock_view_law.specs.Begins.{ActionsBegin, IsBeginning, NewCoordsAreSeen}
 use Rattle.arj_lock_view_law.specs.Copies.{Codes}
+use Rattle.arj_lock_view_law.specs.Including.{IsNoted, SeesIncludes}
+use Rattle.arj_lock_view_law.specs.Inputs.{BeginsAreTaken, SeesWhole}
 use Rattle.arj_lock_view_law.specs.Roots.{SeesCoord, SeesRoot}
 use Rattle.arj_lock_view_law.proofs.TreeSteps.{root_there}
 
@@ -266,6 +268,58 @@ module _ (act : Acts) (code : Codes) (paths : Paths) (x : ℕ) (l : Label) (k : 
         (λ (old : doing_of w c ≡ Some d). sees.plain w d s old calling)
         (waits_before w d works);
   }
+
+  -- ---- and the whole coordinator
+
+  module _ (whole : SeesWhole act code x c S) where
+    inc : SeesIncludes act x c S
+    inc = whole.includes
+
+    -- who included was begun before
+    noted : (w : Uid) (b : Branch) (i : Include) → branch_of w c.tree ≡ Some b → root_of b.path ≡ w → IsNoted act x i (root_at w c) c.tree → IsNoted act x i (root_at w c) e.tree
+    noted w b i there own n = record {
+      join = n.join;
+      there = n.there;
+      about = n.about;
+      by = n.by;
+      granted = λ q found. ⊎_elim
+          (λ (old : branch_of (last_uid (let j = n.join in j.path)) c.tree ≡ Some q). n.granted q old)
+          (λ (f : (last_uid (let j = n.join in j.path) ≡ u) × (fresh ≡ q)). absurd (let j = inc.joins w b n.join there own n.there n.about in unborn (last_uid (let y = n.join in y.path)) j.branch f.0 j.found))
+          (cases (last_uid (let j = n.join in j.path)) q found);
+    }
+
+    mine : (w : Uid) (b : Branch) → root_of b.path ≡ w → (w ≡ u) × (fresh ≡ b) → root_of p ≡ u
+    mine w b own f = ap (λ (v : Branch). root_of v.path) f.1 ∙ own ∙ f.0
+
+    begins_whole : SeesWhole act code x e S
+    begins_whole = record {
+      coord = action_begins;
+      includes = record {
+        lines = λ w b i there own has home. ⊎_elim
+            (λ (old : branch_of w c.tree ≡ Some b). noted w b i old own (inc.lines w b i old own has home))
+            (λ (f : (w ≡ u) × (fresh ≡ b)). absurd (let n = (begins.unit (mine w b own f)).0 in n.includes i has (home ∙ ap (λ (v : Uid). root (act v)) f.0)))
+            (cases w b there);
+        joins = λ w b j there own has about. ⊎_elim
+            (λ (old : branch_of w c.tree ≡ Some b). let n = inc.joins w b j old own has about in record { branch = n.branch; found = grows (last_uid j.path) n.branch n.found; path = n.path })
+            (λ (f : (w ≡ u) × (fresh ≡ b)). absurd (let n = begins.unit (mine w b own f) in in_from j [] (subst (λ (r : Root). Contains r.joined j) (ap (λ (v : Uid). root_at v c) f.0 ∙ n.1) has)))
+            (cases w b there);
+        waits = λ w d s y works is load. ⊎_elim
+            (λ (new : d ≡ idle). absurd (let bad : Idle ≡ Calling s = sym (ap (λ (v : Doing). v.now) new) ∙ is in cc bad))
+            (λ (old : doing_of w c ≡ Some d). inc.waits w d s y old is load)
+            (waits_before w d works);
+      };
+      commits = λ w d m works is. ⊎_elim
+          (λ (new : d ≡ idle). absurd (let bad : Idle ≡ Committing m = sym (ap (λ (v : Doing). v.now) new) ∙ is in cc bad))
+          (λ (old : doing_of w c ≡ Some d). whole.commits w d m old is)
+          (waits_before w d works);
+      units = λ w b there own gone. ⊎_elim
+          (λ (old : branch_of w c.tree ≡ Some b). whole.units w b old own gone)
+          (λ (f : (w ≡ u) × (fresh ≡ b)). absurd (let bad = ap (λ (v : Branch). is_some v.ended) f.1 ∙ gone in cc bad))
+          (cases w b there);
+    }
+
+pub begins_are_taken : BeginsAreTaken
+begins_are_taken act code paths x l k parent above c S begins whole = begins_whole act code paths x l k parent above c S begins whole.coord whole
 
 pub actions_begin : ActionsBegin
 actions_begin act code paths x l k parent above c S begins sees = action_begins act code paths x l k parent above c S begins sees

@@ -19,6 +19,7 @@ use Rattle.arj_lock_view_law.specs.Actions.{IsHere, IsSteady, stage_of}
 use Rattle.arj_lock_view_law.specs.Acts.{Acts}
 use Rattle.arj_lock_view_law.specs.Copies.{Codes}
 use Rattle.arj_lock_view_law.specs.Going.{Goes}
+use Rattle.arj_lock_view_law.specs.Inputs.{StopsAreTaken}
 use Rattle.arj_lock_view_law.specs.Roots.{SeesCoord}
 use Rattle.arj_lock_view_law.specs.Stops.{AreUnitsOver, HasEnded, HasStopped, IfDecided, IsDecided, IsUnitOf, OnlyStopped, RecordsAreFound, RestartedCoordsAreSeen, StopsAreSeen, StopsStay}
 use Rattle.arj_lock_view_law.proofs.AbortSteps.{acted_both, branch_found}
@@ -335,6 +336,9 @@ module _ (act : Acts) (code : Codes) (paths : Paths) (x : ℕ) (c : Coord) (last
 
 pub stops_are_seen : StopsAreSeen
 stops_are_seen act code paths x c last S steady decided over sees = stops act code paths x c last S steady (decided_one act c S last decided) over sees
+
+pub stops_are_taken : StopsAreTaken
+stops_are_taken act code paths x c last S steady decided whole = stops_are_seen act code paths x c last S steady decided whole.units whole.coord
 
 pub stops_stay : StopsStay
 stops_stay act t last S T same_there h = record {

@@ -6,7 +6,7 @@ use Rattle.arj_protocol.specs.Coord.{Coord, new_coord, no_root, root_at}
 use Rattle.arj_protocol.specs.Tree.{Branch, next_uid, path_below, root_of}
 use Rattle.arj_lock_law.specs.Actions.{Act, In, Root, is_action, root}
 use Rattle.arj_lock_law.specs.State as machine
-use Rattle.arj_lock_law.specs.State.{Call, State}
+use Rattle.arj_lock_law.specs.State.{Call, Include, State}
 use Rattle.arj_part_law.specs.Copies.{Paths}
 use Rattle.arj_part_law.specs.Trees.{MayStand}
 use Rattle.arj_lock_view_law.specs.Acts.{Acts}
@@ -21,13 +21,14 @@ pub record IsUntouched (a : machine.Action) : Type 0 where
   pub waits : a.waits ≡ false
   pub doomed : a.doomed ≡ false
 
--- nor for the unit: it is open, none of its actions did anything, it keeps nothing, and nobody called for it
+-- nor for the unit: it is open, none of its actions did anything, it keeps nothing, and nobody called or included for it
 pub record IsNewUnit (unit : ℕ) (S : State) : Type 0 where
   pub stage : (let a = S.action (Root unit) in a.stage) ≡ 0
   pub waits : (let a = S.action (Root unit) in a.waits) ≡ false
   pub idle : (a : Act) → root a ≡ unit → is_action a ≡ true → IsIdle (S.action a)
   pub kept : S.kept unit ≡ 0
   pub calls : (d : Call) → In d S.calls → root d.act ≢ unit
+  pub includes : (k : Include) → In k S.includes → root k.act ≢ unit
 
 -- The next action may stand there, the machine did nothing for it, and for a root nothing for its unit.
 pub record IsBeginning (act : Acts) (paths : Paths) (k : Kind) (above : Option Branch) (c : Coord) (S : State) : Type 0 where

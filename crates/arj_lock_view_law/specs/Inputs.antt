@@ -1,9 +1,9 @@
 -- A whole coordinator, in the machine of one object, at each input and each answer.
-use Rattle.std.specs.Prelude.{◌≡◌, ◌≢◌, ◌⊎◌, ◌≤◌, ◌+◌, ◌*◌, ℕ, List, true, false, Some, Contains, is_some}
-use Rattle.arj_protocol.specs.Words.{Op, Uid}
+use Rattle.std.specs.Prelude.{◌≡◌, ◌≢◌, ◌⊎◌, ◌≤◌, ◌+◌, ◌*◌, ℕ, List, true, false, Some, Contains, is_some, Option}
+use Rattle.arj_protocol.specs.Words.{Kind, Label, Op, Uid}
 use Rattle.arj_protocol.specs.Words.kind
 use Rattle.arj_protocol.specs.Ask.{Reply, actor, top_of}
-use Rattle.arj_protocol.specs.Asking.{again_all, call, commit_action, give_up_call, heard_call, include, last_req, moved_commit}
+use Rattle.arj_protocol.specs.Asking.{again_all, begin_action, call, commit_action, give_up_call, heard_call, include, last_req, moved_commit}
 use Rattle.arj_protocol.specs.Call.{Include as IncludeStore, Steps}
 use Rattle.arj_protocol.specs.Commit as commit
 use Rattle.arj_protocol.specs.Commit.{Machine, Plan, Used}
@@ -17,13 +17,14 @@ use Rattle.arj_part_law.specs.Copies.{Paths}
 use Rattle.arj_lock_view_law.specs.Acting.{IsFirst, IsFreeToEnd}
 use Rattle.arj_lock_view_law.specs.Actions.{IsSteady}
 use Rattle.arj_lock_view_law.specs.Acts.{Acts}
+use Rattle.arj_lock_view_law.specs.Begins.{IsBeginning}
 use Rattle.arj_lock_view_law.specs.Calling.{IsAtWork, IsCalling, IsElsewhere, IsReached, IsWaiting, OnlyCalled, ShowsAnswer, WritesLine, WritesNone}
 use Rattle.arj_lock_view_law.specs.Copies.{Codes}
 use Rattle.arj_lock_view_law.specs.Going.{Goes}
 use Rattle.arj_lock_view_law.specs.Including.{OnlyIncluded, SeesIncludes, ShowsInclude, WritesInclude, included_by}
 use Rattle.arj_lock_view_law.specs.Plans.{AreKept, SeesMachine, ShowsToCommit}
 use Rattle.arj_lock_view_law.specs.Roots.{SeesCoord}
-use Rattle.arj_lock_view_law.specs.Stops.{AreAborted, AreUnitsOver}
+use Rattle.arj_lock_view_law.specs.Stops.{AreAborted, AreUnitsOver, HasStopped, IfDecided, OnlyStopped}
 
 -- ---- what is seen
 
@@ -44,6 +45,18 @@ pub record OnlyEnded (unit : ℕ) (S T : State) : Type 0 where
 -- It is seen after something.
 abbrev pub GoesWhole : Acts → Codes → ℕ → Coord → State → (State → Type 0) → Type 0
 GoesWhole act code x e S P = Goes S (λ T. SeesWhole act code x e T × P T)
+
+-- ---- beginnings and stops
+
+-- An action begins: the machine waits.
+abbrev pub BeginsAreTaken : Type 0
+BeginsAreTaken = (act : Acts) (code : Codes) (paths : Paths) (x : ℕ) (l : Label) (k : Kind) (parent : Option Label) (above : Option Branch) (c : Coord) (S : State)
+    → IsBeginning act paths k above c S → SeesWhole act code x c S → SeesWhole act code x (let e = begin_action l k parent above c in e.part) S
+
+-- The node stops: the machine has ended the coordinator's actions, but for a top whose record is on the disk.
+abbrev pub StopsAreTaken : Type 0
+StopsAreTaken = (act : Acts) (code : Codes) (paths : Paths) (x : ℕ) (c : Coord) (last : Option Uid) (S : State)
+    → IsSteady act paths c → IfDecided act c last S → SeesWhole act code x c S → Goes S (λ T. HasStopped act c.tree last T × OnlyStopped act c.tree S T)
 
 -- ---- commits
 

@@ -4,7 +4,7 @@ ghost use Rattle.arj_lock_view_law.specs.Asks.{AsksAreNothing, CommitsAskOnly, R
 ghost use Rattle.arj_lock_view_law.specs.Begins.{ActionsBegin, NewCoordsAreSeen};
 ghost use Rattle.arj_lock_view_law.specs.Calling.{AnswersAreTaken, CallsAreGivenUp, CallsBegin, IncludesBegin, OtherAnswersAreTaken, OtherCallsAreGivenUp, OtherCallsBegin};
 ghost use Rattle.arj_lock_view_law.specs.Including.{IncludeAnswersAreTaken};
-ghost use Rattle.arj_lock_view_law.specs.Inputs.{AcksAreTaken, ActionsAreAborted, CallAnswersAreHeard, CallsAreLost, CallsAreMade, CommitAnswersAreHeard, CommitsAreLost, DoomedCommitsAreTaken, IncludeAnswersAreHeard, IncludesAreMade, NestedCommitsAreTaken, OtherAnswersAreHeard, OtherCallsAreLost, RestartsAreTaken, TicksAreTaken, TopCommitsAreTaken};
+ghost use Rattle.arj_lock_view_law.specs.Inputs.{AcksAreTaken, ActionsAreAborted, BeginsAreTaken, CallAnswersAreHeard, CallsAreLost, CallsAreMade, CommitAnswersAreHeard, CommitsAreLost, DoomedCommitsAreTaken, IncludeAnswersAreHeard, IncludesAreMade, NestedCommitsAreTaken, OtherAnswersAreHeard, OtherCallsAreLost, RestartsAreTaken, StopsAreTaken, TicksAreTaken, TopCommitsAreTaken};
 ghost use Rattle.arj_lock_view_law.specs.Plans.{CommitAnswersAreTaken, CommitRequestsAreShown, CommitsAreGivenUp, CommitsSetOut, CommitsStaySeen};
 ghost use Rattle.arj_lock_view_law.specs.Stops.{AbortionsGoDown, RecordsAreFound, RestartedCoordsAreSeen, StopsAreSeen, StopsStay};
 ghost use Rattle.arj_lock_view_law.specs.Whole.{CommitsKeepRoots, DecisionsKeepRoots, EndsKeepRoots, UnitsKeepRoots};
@@ -95,8 +95,11 @@ pub fn includes_are_seen()
     ensures { IncludeAnswersAreTaken }
 {}
 
-/// A whole coordinator is seen after each input and each answer. It does nothing when it runs.
+/// A whole coordinator is seen after each input: where an action begins, calls, includes a store, is committed, aborted or gives up; after each
+/// answer to a call, an include or a commit; at a tick and an acknowledgement, and when its node starts again. Where the node stops the
+/// machine has ended its actions. It does nothing when it runs.
 pub fn coordinators_are_seen()
+    ensures begins { BeginsAreTaken }
     ensures calls { CallsAreMade }
     ensures includes { IncludesAreMade }
     ensures call_answers { CallAnswersAreHeard }
@@ -112,5 +115,6 @@ pub fn coordinators_are_seen()
     ensures given_up { CommitsAreLost }
     ensures ticks { TicksAreTaken }
     ensures acks { AcksAreTaken }
+    ensures stops { StopsAreTaken }
     ensures restarts { RestartsAreTaken }
 {}

@@ -1,3 +1,5 @@
+use Rattle.arj_lock_view_law.proofs.NewSteps.{begins_are_taken}
+use Rattle.arj_lock_view_law.proofs.StopSteps.{stops_are_taken}
 use Rattle.arj_lock_view_law.proofs.TopInputSteps.{top_commits_are_taken}
 use Rattle.arj_lock_view_law.proofs.AbortInputSteps.{actions_are_aborted}
 use Rattle.arj_lock_view_law.proofs.CallInputSteps.{acks_are_taken, call_answers_are_heard, calls_are_lost, calls_are_made, include_answers_are_heard, includes_are_made, other_answers_are_heard, other_calls_are_lost, restarts_are_taken, ticks_are_taken}
@@ -52,3 +54,9 @@ returns-clause-aborts c = actions_are_aborted
 
 pub returns-clause-tops : goal.returns-clause-tops
 returns-clause-tops c = top_commits_are_taken
+
+pub returns-clause-begins : goal.returns-clause-begins
+returns-clause-begins c = begins_are_taken
+
+pub returns-clause-stops : goal.returns-clause-stops
+returns-clause-stops c = stops_are_taken
