@@ -1,8 +1,9 @@
 -- What is seen beside a server stays so, and a server beside the rest.
-use Rattle.std.proofs.Common.{◌≤◌, ◌∙◌, ℕ, List, Option, Some, None, sym, ap, subst, inl, inr}
+use Rattle.std.proofs.Common.{◌≤◌, ◌∙◌, ◌*◌, ℕ, List, [], Option, Some, None, sym, ap, subst, inl, inr, arith}
 use Rattle.arj_protocol.specs.Words.{Binding, Op, Uid}
 use Rattle.arj_protocol.specs.Ask.{top_of}
 use Rattle.arj_protocol.specs.Call.{At, AtActivate, AtBind, AtInvoke, AtLoad, AtNote, Known, Steps}
+use Rattle.arj_protocol.specs.Commit.{Confirming, Machine, Plan, Preparing, Voting}
 use Rattle.arj_protocol.specs.Coord.{Coord, Keeping, Root, keeping_of, kept_of, root_at}
 use Rattle.arj_protocol.specs.Named.{Named}
 use Rattle.arj_protocol.specs.Order.{at_number, at_uid, binding_number}
@@ -10,11 +11,13 @@ use Rattle.arj_protocol.specs.Tree.{Tree, root_of}
 use Rattle.arj_protocol.specs.Values.{state_value}
 use Rattle.arj_lock_law.specs.Actions.{Act, In, root}
 use Rattle.arj_lock_law.specs.State as machine
-use Rattle.arj_lock_law.specs.State.{Ballot, State}
+use Rattle.arj_lock_law.specs.State.{Ballot, Call, Include, State}
 use Rattle.arj_lock_view_law.specs.Acts.{Acts}
-use Rattle.arj_lock_view_law.specs.Beside.{CoordsStaySeen, NamedStaysSeen, OtherServersStaySeen, ServersStaySeen}
+use Rattle.arj_lock_view_law.specs.Beside.{CoordsStaySeen, NamedStaysSeen, OtherServersStaySeen, ServersStaySeen, WholesStaySeen}
 use Rattle.arj_lock_view_law.specs.Copies.{Codes}
+use Rattle.arj_lock_view_law.specs.Inputs.{SeesWhole}
 use Rattle.arj_lock_view_law.specs.Named.{Place, SeesNamed}
+use Rattle.arj_lock_view_law.specs.Plans.{IsCounted, IsIncluded, SeesMachine, SeesPlan, SeesVotes, least_inc}
 use Rattle.arj_lock_view_law.specs.Roots.{HasHeard, SeesCoord, SeesKeeping, SeesRoot, SeesStep, invoke_of}
 use Rattle.arj_lock_view_law.specs.Servers.{SeesObject, last_of}
 use Rattle.arj_lock_view_law.proofs.LeftSteps.{object_sent, shows_later}
@@ -58,6 +61,48 @@ module _ (S : State) (servers : ℕ → machine.Server) (yes : Act → ℕ) (vot
     plain = s.plain;
   }
 
+  -- ---- a commit under way, and includes
+
+  counted_back : (m : Act) (k : Call) → IsCounted m k T → IsCounted m k S
+  counted_back m k h = record { there = h.there; alive = h.alive; covered = h.covered }
+
+  included_back : (m : Act) (k : Include) → IsIncluded m k T → IsIncluded m k S
+  included_back m k h = record { there = h.there; alive = h.alive; covered = h.covered }
+
+  plan_beside : (x : ℕ) (m : Act) (p : Plan) → SeesPlan x m p S → SeesPlan x m p T
+  plan_beside x m p s = record {
+    top = s.top;
+    begun = s.begun;
+    calls = λ k h. s.calls k (counted_back m k h);
+    includes = λ k h. s.includes k (included_back m k h);
+    below = λ q k there of h. s.below q k there of (counted_back m k h);
+    granted = λ q k there of h. s.granted q k there of (included_back m k h);
+  }
+
+  module _ (raised : (a : Act) → S.yes a ≤ yes a) where
+    votes_beside : (x : ℕ) (m : Act) (p : Plan) (left : List ℕ) → SeesVotes x m p left S → SeesVotes x m p left T
+    votes_beside x m p left s = record {
+      asked = λ q there of called. (let h = s.asked q there of called in (h.0, sent (machine.Vote m (binding_number q.binding) (least_inc p q.server)) h.1));
+      given = λ q there of called off. (let h = s.given q there of called off in let r = raised m in omega (arith, h, r));
+    }
+
+    machine_beside : (x : ℕ) (m : Act) (k : Machine) → SeesMachine x m k S → SeesMachine x m k T
+    machine_beside x m (Voting p left) s = (plan_beside x m p s.0, votes_beside x m p left s.1)
+    machine_beside x m (Preparing p left) s = (plan_beside x m p s.0, votes_beside x m p [] s.1)
+    machine_beside x m (Confirming p) s = (plan_beside x m p s.0, λ q there of. sent (machine.Confirm m (q.grant * 4294967296)) (s.1 q there of))
+
+    whole_beside : (act : Acts) (code : Codes) (x : ℕ) (c : Coord) → SeesWhole act code x c S → SeesWhole act code x c T
+    whole_beside act code x c s = record {
+      coord = coord_beside act code x c s.coord;
+      includes = (let i = s.includes in record {
+        lines = i.lines;
+        joins = i.joins;
+        waits = λ u d st k works calling loads. (let g = i.waits u d st k works calling loads in record { sent = sent (machine.Granted (act (top_of st.path)) (k.grant * 4294967296)) g.sent; noted = g.noted });
+      });
+      commits = λ u d k works committing. machine_beside x (act u) k (s.commits u d k works committing);
+      units = s.units;
+    }
+
   named_beside : (act : Acts) (x : ℕ) (n : Place) (o : Named) → SeesNamed act x n o S → SeesNamed act x n o T
   named_beside act x n o s = record {
     rows = s.rows;
@@ -73,6 +118,9 @@ module _ (S : State) (servers : ℕ → machine.Server) (yes : Act → ℕ) (vot
 
 pub coords_stay_seen : CoordsStaySeen
 coords_stay_seen v m act code x c S T only sees = subst (SeesCoord act code x c) (sym only.rest) (coord_beside S T.server T.yes T.vote T.net only.sent act code x c sees)
+
+pub wholes_stay_seen : WholesStaySeen
+wholes_stay_seen v m act code x c S T only sees = subst (SeesWhole act code x c) (sym only.rest) (whole_beside S T.server T.yes T.vote T.net only.sent only.raised act code x c sees)
 
 pub named_stays_seen : NamedStaysSeen
 named_stays_seen v m act x n o S T only sees = subst (SeesNamed act x n o) (sym only.rest) (named_beside S T.server T.yes T.vote T.net only.sent act x n o sees)

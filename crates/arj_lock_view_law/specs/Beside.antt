@@ -10,6 +10,7 @@ use Rattle.arj_lock_law.specs.State.{State}
 use Rattle.arj_lock_view_law.specs.Acts.{Acts}
 use Rattle.arj_lock_view_law.specs.Copies.{Codes}
 use Rattle.arj_lock_view_law.specs.Handling.{OnlyServing}
+use Rattle.arj_lock_view_law.specs.Inputs.{SeesWhole}
 use Rattle.arj_lock_view_law.specs.Named.{Place, SeesNamed}
 use Rattle.arj_lock_view_law.specs.Roots.{SeesCoord}
 use Rattle.arj_lock_view_law.specs.Telling.{Sees, View}
@@ -17,6 +18,10 @@ use Rattle.arj_lock_view_law.specs.Telling.{Sees, View}
 -- A message that a node's server takes leaves each coordinator seen,
 abbrev pub CoordsStaySeen : Type 0
 CoordsStaySeen = (v : View) (m : Message) (act : Acts) (code : Codes) (x : ℕ) (c : Coord) (S T : State) → OnlyServing v m S T → SeesCoord act code x c S → SeesCoord act code x c T
+
+-- also with its includes, its commits under way and the units that are over,
+abbrev pub WholesStaySeen : Type 0
+WholesStaySeen = (v : View) (m : Message) (act : Acts) (code : Codes) (x : ℕ) (c : Coord) (S T : State) → OnlyServing v m S T → SeesWhole act code x c S → SeesWhole act code x c T
 
 -- the object at naming,
 abbrev pub NamedStaysSeen : Type 0

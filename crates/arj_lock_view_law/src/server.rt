@@ -1,5 +1,5 @@
 // A server, as the lock machine of one object has it.
-ghost use Rattle.arj_lock_view_law.specs.Beside.{CoordsStaySeen, NamedStaysSeen, OtherServersStaySeen, ServersStaySeen};
+ghost use Rattle.arj_lock_view_law.specs.Beside.{CoordsStaySeen, NamedStaysSeen, OtherServersStaySeen, ServersStaySeen, WholesStaySeen};
 ghost use Rattle.arj_lock_view_law.specs.Commits.{FoldingsAreSeen, ReadingsAreSeen, RetainingsAreSeen, SettlingsAreSeen, VotesAreSeen};
 ghost use Rattle.arj_lock_view_law.specs.Copies.{ActivationsAreSeen, OperationsAreSeen, RefusalsAreSeen, UndoingsAreSeen};
 ghost use Rattle.arj_lock_view_law.specs.Families.{FamiliesAreTrees, OlderAreTrees};
@@ -75,6 +75,7 @@ pub fn begun_actions_have_places()
 /// naming do leaves it seen. It does nothing when it runs.
 pub fn servers_stay_beside()
     ensures coords { CoordsStaySeen }
+    ensures wholes { WholesStaySeen }
     ensures named { NamedStaysSeen }
     ensures others { OtherServersStaySeen }
     ensures servers { ServersStaySeen }

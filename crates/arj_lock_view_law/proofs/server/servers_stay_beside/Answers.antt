@@ -1,4 +1,4 @@
-use Rattle.arj_lock_view_law.proofs.BesideSteps.{coords_stay_seen, named_stays_seen, other_servers_stay_seen, servers_stay_seen}
+use Rattle.arj_lock_view_law.proofs.BesideSteps.{coords_stay_seen, named_stays_seen, other_servers_stay_seen, servers_stay_seen, wholes_stay_seen}
 use Rattle.arj_lock_view_law.proofs.server.servers_stay_beside.Goals as goal
 
 pub returns-clause-coords : goal.returns-clause-coords
@@ -12,3 +12,6 @@ returns-clause-others c = other_servers_stay_seen
 
 pub returns-clause-servers : goal.returns-clause-servers
 returns-clause-servers c = servers_stay_seen
+
+pub returns-clause-wholes : goal.returns-clause-wholes
+returns-clause-wholes c = wholes_stay_seen
