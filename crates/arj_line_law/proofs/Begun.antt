@@ -55,7 +55,7 @@ still_given labels l g [] new given = tt
 still_given labels l g (a ∷ acts) new given = (one given.0, still_given labels l g acts new given.1)
   where
     one : IsGiven labels a → IsGiven (insert_entry label_cmp labels l g) a
-    one h = (h.0, h.1, h.2, put_label h.0 l g labels ∙ by (is_eq (label_cmp h.0 l)) refl)
+    one h = (h.0, h.1, h.2, put_label h.0 l g labels ∙ by (is_eq (label_cmp h.0 l)) refl, h.4)
       where
         by : (b : Bool) → is_eq (label_cmp h.0 l) ≡ b → cond b (Some g) (label_at h.0 labels) ≡ Some h.1
         by true same = let no_way : ◌≡◌ {A = Option Labelled} (Some h.1) None = sym h.3 ∙ by_name labels h.0 l (one_name h.0 l same) ∙ new in absurd (cc no_way)

@@ -59,10 +59,11 @@ one_act (x ∷ xs) apart a b (inl i) (inr j) same = absurd (never (among xs b j)
 one_act (x ∷ xs) apart a b (inr i) (inl j) same = absurd (never (among xs a i) (ap (has_act xs) (same ∙ ap (λ (y : Act). y.uid) (sym j)) ∙ apart.2))
 one_act (x ∷ xs) apart a b (inr i) (inr j) same = one_act xs apart.3 a b i j same
 
--- What is below a top whose commit was called has ended; and who committed as a top had its commit called.
+-- What is below a top whose commit was called has ended; who committed as a top had its commit called, and a commit is called of tops.
 pub record Closes (B : Book) : Type 0 where
   pub closed : (u : Uid) → is_on B.called u ≡ true → IsClosed B u
   pub tops : (a : Act) → In a B.acts → is_top a.kind ≡ true → is_on B.committed a.uid ≡ true → is_on B.called a.uid ≡ true
+  pub calls : (a : Act) → In a B.acts → is_on B.called a.uid ≡ true → is_top a.kind ≡ true
 
 -- who is among these with one more is that one, or was among them
 on_cases : (w u : Uid) (us : List Uid) → is_on (w ∷ us) u ≡ true → (w ≡ u) ⊎ (is_on us u ≡ true)
@@ -91,6 +92,7 @@ closes_turn B b right sane sound c = by b right
           (λ i. c.closed u on a (in_to a B.acts i) (ap (λ q. is_on (uids q) u) (sym (path_old new B.acts a r.0 i)) ∙ below) other)
           (in_from a (new ∷ B.acts) there);
       tops = λ a i top on. ⊎_elim (λ same. absurd (never (sane.committed w (ap (λ (x : Act). is_on B.committed x.uid) same ∙ on)) r.1)) (λ old. c.tops a old top on) i;
+      calls = λ a i on. ⊎_elim (λ same. absurd (never (sane.called w (ap (λ (x : Act). is_on B.called x.uid) same ∙ on)) r.1)) (λ old. c.calls a old on) i;
     }
       where
         new : Act
@@ -111,6 +113,10 @@ closes_turn B b right sane sound c = by b right
           (λ old. c.closed u old x there below other)
           (on_cases a.uid u B.called (ap (λ us. is_on us u) (sym (named_is B.acts l B.called a o.named)) ∙ on));
       tops = λ x i top on. let t = later_turn B (body.Committing l) in t.called x.uid (c.tops x i top on);
+      calls = λ x i on. ⊎_elim
+          (λ same. let one : a ≡ x = one_act B.acts sound.distinct a x (named_in B.acts (name l) a o.named) i same in ap (λ (y : Act). is_top y.kind) (sym one) ∙ r.2)
+          (λ old. c.calls x i old)
+          (on_cases a.uid x.uid B.called (ap (λ us. is_on us x.uid) (sym (named_is B.acts l B.called a o.named)) ∙ on));
     }
     by (body.Committed l) r = let s = r.0 in let o = r.1 in record {
       closed = still (body.Committed l) refl refl;
@@ -118,12 +124,13 @@ closes_turn B b right sane sound c = by b right
           (λ same. let one : s ≡ x = one_act B.acts sound.distinct s x (named_in B.acts (name l) s o.named) i same in ap (λ (y : Act). is_on B.called y.uid) (sym one) ∙ r.3 ∙ ap (λ (y : Act). is_top y.kind) one ∙ top)
           (λ old. c.tops x i top old)
           (on_cases s.uid x.uid B.committed (ap (λ us. is_on us x.uid) (sym (named_is B.acts l B.committed s o.named)) ∙ on));
+      calls = c.calls;
     }
-    by (body.Aborted l why) r = record { closed = still (body.Aborted l why) refl refl; tops = c.tops }
-    by (body.Ended l) r = record { closed = still (body.Ended l) refl refl; tops = c.tops }
-    by (body.Recovered n w) r = record { closed = still (body.Recovered n w) refl refl; tops = c.tops }
-    by (body.Ok l x o a) r = record { closed = still (body.Ok l x o a) refl refl; tops = c.tops }
-    by (body.Includes l x n) r = record { closed = still (body.Includes l x n) refl refl; tops = c.tops }
+    by (body.Aborted l why) r = record { closed = still (body.Aborted l why) refl refl; tops = c.tops; calls = c.calls }
+    by (body.Ended l) r = record { closed = still (body.Ended l) refl refl; tops = c.tops; calls = c.calls }
+    by (body.Recovered n w) r = record { closed = still (body.Recovered n w) refl refl; tops = c.tops; calls = c.calls }
+    by (body.Ok l x o a) r = record { closed = still (body.Ok l x o a) refl refl; tops = c.tops; calls = c.calls }
+    by (body.Includes l x n) r = record { closed = still (body.Includes l x n) refl refl; tops = c.tops; calls = c.calls }
     by d r = c
 
 -- a book that is sane, sound and closed
@@ -140,7 +147,7 @@ stands_lines B [] right s = s
 stands_lines B (l ∷ ls) right s = stands_lines (turned B l.body) ls right.1 (stands_turn B l.body right.0 s)
 
 pub stands_new : Stands new_book
-stands_new = record { sane = sane_new; sound = record { distinct = tt; formed = tt }; closes = record { closed = λ u on. absurd (cc on); tops = λ a i top on. absurd i } }
+stands_new = record { sane = sane_new; sound = record { distinct = tt; formed = tt }; closes = record { closed = λ u on. absurd (cc on); tops = λ a i top on. absurd i; calls = λ a i on. absurd i } }
 
 -- ---- an idle top stays so
 

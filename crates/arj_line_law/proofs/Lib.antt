@@ -20,3 +20,4 @@ pub mod Agreeing
 pub mod Closed
 pub mod Idles
 pub mod Nothing
+pub mod Owners

@@ -267,7 +267,7 @@ module _ (e k : ℕ) (d : Disk) (t : Parts) (M : Seen) (good : IsGood (up k d t 
         others = λ j n other is. node_apart k B V (apart_turn k B line right node) (later_turn B line) (λ x roots away ties. ties_turn k B x roots away line right node ties) j other n (λ x live. b.homes j n x other is live) (b.others j n other is);
         homes = b.homes;
         posts = λ p there. claims_later B V (later_turn B line) p.message (b.posts p there);
-        labels = ((l, g, refl, given_now M.labels l g), still_given M.labels l g acts_now new w.labels);
+        labels = ((l, g, refl, given_now M.labels l g, sym node), still_given M.labels l g acts_now new w.labels);
         begun = begun_now;
       })
       (record {

@@ -187,9 +187,9 @@ pub record KnowsNode (B : Book) (k : ℕ) (n : Node) : Type 0 where
 
 -- ---- all of it
 
--- the label of an action was given
+-- the label of an action was given, at the action's node
 abbrev pub IsGiven : List (Label × Labelled) → Act → Type 0
-IsGiven given a = (l : Label) × (g : Labelled) × (name l ≡ a.label) × (label_at l given ≡ Some g)
+IsGiven given a = (l : Label) × (g : Labelled) × (name l ≡ a.label) × (label_at l given ≡ Some g) × (g.node ≡ a.uid.node)
 
 -- each label that was given stands for an action that began, of its kind
 abbrev pub AreBegun : List (Label × Labelled) → List Act → Type 0

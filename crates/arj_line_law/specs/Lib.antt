@@ -4,3 +4,4 @@ pub mod Knows
 pub mod Laws
 pub mod Right
 pub mod Paths
+pub mod Whose

@@ -6,12 +6,13 @@ ghost use Rattle.arj_journal.specs.declared.header.Header.{Header};
 ghost use Rattle.arj_model.specs.Actions.{Act, acts};
 ghost use Rattle.arj_protocol.specs.Effect.{Disk};
 ghost use Rattle.arj_protocol.specs.Node.{Parts};
-ghost use Rattle.arj_protocol.specs.World.{Asked, journal};
+ghost use Rattle.arj_protocol.specs.World.{Asked, format, journal, run_all};
 ghost use Rattle.arj_line_law.specs.Book.{book, new_book};
 ghost use Rattle.arj_line_law.specs.Idle.{BeginningsAreTimely, BelowCommitsIsOver, HasNothing, IsIdle, IsLeftAlone};
 ghost use Rattle.arj_line_law.specs.Knows.{IsKept};
 ghost use Rattle.arj_line_law.specs.Laws.{IsDone};
 ghost use Rattle.arj_line_law.specs.Right.{AreRight};
+ghost use Rattle.arj_line_law.specs.Whose.{HasOwners, HaveNodes};
 ghost use Rattle.arj_view_law.specs.Seen.{Seen, up};
 
 /// A top that its coordinator has as committed while nobody took part in it is idle by the journal, at every moment of a run; it
@@ -29,4 +30,13 @@ pub fn commits_close_what_is_below()
     ensures beginnings { (lines : List Line) → AreRight new_book lines → BeginningsAreTimely lines }
     ensures below { (lines : List Line) → AreRight new_book lines → BelowCommitsIsOver lines }
     ensures runs { (hd : Header) (es : List Asked) → BeginningsAreTimely (journal hd es) × BelowCommitsIsOver (journal hd es) }
+{}
+
+/// Who is decided by a line of a journal began before, and is told apart from all others by the number of its Uid; and in each run
+/// the node of each action that began is there, with an incarnation on its disk that is none before the action's. It does nothing
+/// when it runs.
+pub fn decisions_have_owners()
+    ensures lines { (lines : List Line) → AreRight new_book lines → HasOwners lines }
+    ensures runs { (hd : Header) (es : List Asked) → HasOwners (journal hd es) }
+    ensures nodes { (hd : Header) (es : List Asked) → HaveNodes (run_all es (format hd)) }
 {}

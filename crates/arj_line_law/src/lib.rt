@@ -8,14 +8,14 @@
 //! message knows of the book, and that a coordinator's roots have noted each access; each handler keeps it, wherever a stop falls.
 //! It stands on good nodes in every run (`arj_run_law`), and takes from `arj_coord_law` the labels of coordinators and who takes
 //! part in their commits. What it gives upward: `journals_are_right`, and in the words of `arj_model` (`specs/Laws.antt`)
-//! `journals_are_sound` and `nodes_agree_with_journals`; `paths_are_those_of_journals` (`specs/Paths.antt`); and of tops
-//! (`specs/Idle.antt`) `commits_close_what_is_below` and `idle_tops_have_nothing`.
+//! `journals_are_sound` and `nodes_agree_with_journals`; `paths_are_those_of_journals` (`specs/Paths.antt`); of tops
+//! (`specs/Idle.antt`) `commits_close_what_is_below` and `idle_tops_have_nothing`; and `decisions_have_owners` (`specs/Whose.antt`).
 #![tactic(auto)]
 
 mod below;
 mod lines;
 
-pub use below::{commits_close_what_is_below, idle_tops_have_nothing};
+pub use below::{commits_close_what_is_below, decisions_have_owners, idle_tops_have_nothing};
 pub use lines::{
     journals_are_right, journals_are_sound, nodes_agree_with_journals, paths_are_those_of_journals,
 };
