@@ -33,6 +33,7 @@ pub mod OneSteps
 pub mod PassSteps
 pub mod PlaceSteps
 pub mod PlanSteps
+pub mod ReplySteps
 pub mod RestartSteps
 pub mod RootSteps
 pub mod RowSteps

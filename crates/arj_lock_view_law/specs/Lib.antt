@@ -23,4 +23,5 @@ pub mod Serving
 pub mod Families
 pub mod Listed
 pub mod Beside
+pub mod Replies
 pub mod Handling

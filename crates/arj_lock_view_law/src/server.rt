@@ -5,6 +5,7 @@ ghost use Rattle.arj_lock_view_law.specs.Copies.{ActivationsAreSeen, OperationsA
 ghost use Rattle.arj_lock_view_law.specs.Families.{FamiliesAreTrees, OlderAreTrees};
 ghost use Rattle.arj_lock_view_law.specs.Handling.{MessagesAreTaken};
 ghost use Rattle.arj_lock_view_law.specs.Listed.{DecidedHaveEnded, ListedHaveEnded};
+ghost use Rattle.arj_lock_view_law.specs.Replies.{ActivatesAreAnswered, InvokesAreAnswered, RepliesStayShown, VotesAreAnswered};
 ghost use Rattle.arj_lock_view_law.specs.Serving.{ActivatesAreSeen, InvokesAreSeen, ServersAreDown, ServersStart, ServersStop, VotesAreTaken};
 ghost use Rattle.arj_lock_view_law.specs.Telling.{EndedAreShown, EndedStay, EndsAreTaken, OverAreShown, UnvotedAreShown};
 
@@ -79,4 +80,13 @@ pub fn servers_stay_beside()
     ensures named { NamedStaysSeen }
     ensures others { OtherServersStaySeen }
     ensures servers { ServersStaySeen }
+{}
+
+/// What an answer of a server shows it shows for ever, and that is what the call or the commit that waits for it wants. It does nothing when it
+/// runs.
+pub fn replies_are_shown()
+    ensures stay { RepliesStayShown }
+    ensures activates { ActivatesAreAnswered }
+    ensures invokes { InvokesAreAnswered }
+    ensures votes { VotesAreAnswered }
 {}
