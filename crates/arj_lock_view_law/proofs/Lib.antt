@@ -38,6 +38,7 @@ pub mod RestartSteps
 pub mod RootSteps
 pub mod RowSteps
 pub mod RunSteps
+pub mod SentSteps
 pub mod ServerSteps
 pub mod ShownSteps
 pub mod StopSteps

@@ -24,4 +24,5 @@ pub mod Families
 pub mod Listed
 pub mod Beside
 pub mod Replies
+pub mod Sent
 pub mod Handling

@@ -12,8 +12,8 @@
 //! commits and votes (`specs/Commits.antt`), and the whole of it (`specs/Servers.antt`): where it is told of ends
 //! (`specs/Telling.antt`, which also says which ends may be told; `specs/Listed.antt`: those that coordinators list), where it
 //! stops and starts, at each message that is for it, which may bring ends too (`specs/Serving.antt`), and at each that its
-//! node takes (`specs/Handling.antt`), which leaves what is seen beside it (`specs/Beside.antt`), and what its answers
-//! show (`specs/Replies.antt`).
+//! node takes (`specs/Handling.antt`), which leaves what is seen beside it (`specs/Beside.antt`), what its answers
+//! show (`specs/Replies.antt`), and that what was sent is shown however late it comes (`specs/Sent.antt`).
 //! Of a coordinator its tree is seen (`specs/Actions.antt`), how its actions begin and end (`specs/Begins.antt`, `specs/Acting.antt`,
 //! `specs/Whole.antt`), one by one or many at once, as by an abort, a stop and a restart (`specs/Stops.antt`); what its roots keep
 //! (`specs/Roots.antt`), how its calls go (`specs/Calling.antt`) and its includes (`specs/Including.antt`), how the commit of a top goes
@@ -36,6 +36,6 @@ pub use naming::{
 };
 pub use server::{
     begun_actions_have_places, commits_at_servers_are_seen, copies_are_seen, ends_are_shown,
-    messages_at_servers_are_seen, replies_are_shown, servers_are_seen, servers_stay_beside,
-    votes_are_seen,
+    messages_at_servers_are_seen, replies_are_shown, sent_messages_are_shown, servers_are_seen,
+    servers_stay_beside, votes_are_seen,
 };

@@ -6,6 +6,7 @@ ghost use Rattle.arj_lock_view_law.specs.Families.{FamiliesAreTrees, OlderAreTre
 ghost use Rattle.arj_lock_view_law.specs.Handling.{MessagesAreTaken};
 ghost use Rattle.arj_lock_view_law.specs.Listed.{DecidedHaveEnded, ListedHaveEnded};
 ghost use Rattle.arj_lock_view_law.specs.Replies.{ActivatesAreAnswered, InvokesAreAnswered, RepliesStayShown, VotesAreAnswered};
+ghost use Rattle.arj_lock_view_law.specs.Sent.{EndsAreBrought, EndsStay, SentAreShown, SentStay};
 ghost use Rattle.arj_lock_view_law.specs.Serving.{ActivatesAreSeen, InvokesAreSeen, ServersAreDown, ServersStart, ServersStop, VotesAreTaken};
 ghost use Rattle.arj_lock_view_law.specs.Telling.{EndedAreShown, EndedStay, EndsAreTaken, OverAreShown, UnvotedAreShown};
 
@@ -89,4 +90,13 @@ pub fn replies_are_shown()
     ensures activates { ActivatesAreAnswered }
     ensures invokes { InvokesAreAnswered }
     ensures votes { VotesAreAnswered }
+{}
+
+/// What was sent to a server is shown when it comes, however late: a request with what its coordinator did, wants and brings, and ends that
+/// their actions have. It does nothing when it runs.
+pub fn sent_messages_are_shown()
+    ensures requests { SentAreShown }
+    ensures requests_stay { SentStay }
+    ensures ends { EndsAreBrought }
+    ensures ends_stay { EndsStay }
 {}
