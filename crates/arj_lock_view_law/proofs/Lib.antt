@@ -30,6 +30,7 @@ pub mod MoveSteps
 pub mod NewSteps
 pub mod NoteSteps
 pub mod OneSteps
+pub mod OutsideSteps
 pub mod PassSteps
 pub mod PlaceSteps
 pub mod PlanSteps

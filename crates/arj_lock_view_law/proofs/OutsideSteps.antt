@@ -1,0 +1,107 @@
+-- A coordinator is seen whole beside what others do.
+use Rattle.std.proofs.Common.{◌≡◌, ◌≢◌, ◌⊎◌, ◌∙◌, ◌*◌, ℕ, Some, refl, sym, ap, subst, inl, ⊎_elim}
+use Rattle.arj_protocol.specs.Words.{Binding, Op, Uid}
+use Rattle.arj_protocol.specs.Ask.{top_of}
+use Rattle.arj_protocol.specs.Call.{At, AtActivate, AtBind, AtInvoke, AtLoad, AtNote, Known, Steps}
+use Rattle.arj_protocol.specs.Coord.{Coord, Keeping, Root, keeping_of, kept_of, root_at}
+use Rattle.arj_protocol.specs.Tree.{Branch, Tree, branch_of, root_of}
+use Rattle.arj_lock_law.specs.Actions.{Act, In, Root as Unit, is_action, root}
+use Rattle.arj_lock_law.specs.Machine.{Run}
+use Rattle.arj_lock_law.specs.State as machine
+use Rattle.arj_lock_law.specs.State.{Include, State}
+use Rattle.arj_lock_view_law.specs.Acts.{Acts}
+use Rattle.arj_lock_view_law.specs.Actions.{IsHere, IsIdle, SeesAction, SeesActions}
+use Rattle.arj_lock_view_law.specs.Calling.{IsReached, OnlyCalled}
+use Rattle.arj_lock_view_law.specs.Copies.{Codes}
+use Rattle.arj_lock_view_law.specs.Inputs.{OnlyEnded, SeesWhole}
+use Rattle.arj_lock_view_law.specs.Outside.{CallsElsewhere, EndsElsewhere, IncludesElsewhere, IsAway, ServersElsewhere}
+use Rattle.arj_lock_view_law.specs.Roots.{SeesCoord, SeesRoot}
+use Rattle.arj_lock_view_law.proofs.BesideSteps.{coords_stay_seen}
+use Rattle.arj_lock_view_law.proofs.EverSteps.{ever}
+use Rattle.arj_lock_view_law.proofs.IncludeSteps.{nobody}
+use Rattle.arj_lock_view_law.proofs.InputSteps.{whole_stays}
+use Rattle.arj_lock_view_law.proofs.MoveSteps.{moves_none}
+use Rattle.arj_lock_view_law.proofs.PlanSteps.{commits_stay_seen}
+use Rattle.arj_lock_view_law.proofs.RootSteps.{heard_later, keeping_later, step_later}
+use Rattle.arj_lock_view_law.proofs.WholeSteps.{stays_coord}
+
+-- a coordinator that did nothing is seen whole where it is seen, and no include has a line
+module _ (act : Acts) (code : Codes) (x : ℕ) (c : Coord) (S T : State) (reached : IsReached S) (run : Run S T) (whole : SeesWhole act code x c S) where
+  still_whole : T.includes ≡ S.includes → SeesCoord act code x c T → SeesWhole act code x c T
+  still_whole same coord = whole_stays act code x c c S T nobody nobody reached run (moves_none x c nobody nobody) same whole coord (λ w e s l new. absurd new) (λ w e m new. absurd new) (λ w q new. absurd new)
+
+-- ---- a call of another unit
+
+module _ (act : Acts) (code : Codes) (x unit : ℕ) (c : Coord) (S T : State) (away : IsAway act unit c) (only : OnlyCalled unit S T) (sees : SeesCoord act code x c S) where
+  actions_away : SeesActions act x c T.action
+  actions_away = let a = sees.actions in record {
+    each = λ u b d found works its. subst (SeesAction x b d) (sym (only.actions (act u) (away u b found))) (a.each u b d found works its);
+    opened = λ u b r found above un. ap (λ (q : machine.Action). q.stage) (only.actions (Unit (root (act u))) (away u b found)) ∙ a.opened u b r found above un;
+    quiet = λ u b found. ap (λ (q : machine.Action). q.waits) (only.actions (Unit (root (act u))) (away u b found)) ∙ a.quiet u b found;
+    others = λ u b k found home its. subst (λ (q : machine.Action). IsHere act c.tree k ⊎ IsIdle q) (sym (only.actions k (λ same. away u b found (sym home ∙ same)))) (a.others u b k found home its);
+  }
+
+  root_away : (u : Uid) (r : Root) (t : Tree) → root (act u) ≢ unit → SeesRoot act x u r t S → SeesRoot act x u r t T
+  root_away u r t other s = record {
+    keeping = keeping_later unit S T only (root (act u)) (kept_of x r) (let k = keeping_of x r in k.avoid) other s.keeping;
+    spent = s.spent;
+    said = λ z there of. (let q = s.said z there of in record { branch = q.branch; there = q.there; path = q.path; of = q.of; call = q.call; called = only.calls q.call q.called; by = q.by });
+    calls = λ d i home. ⊎_elim (λ old. s.calls d old home) (λ its. absurd (other (sym home ∙ its))) (only.fresh d i);
+    heard = λ g b there of named. heard_later unit S T only (act g.top) _ (s.heard g b there of named);
+  }
+
+  coord_away : SeesCoord act code x c T
+  coord_away = record {
+    actions = actions_away;
+    roots = λ u b found own. root_away u (root_at u c) c.tree (away u b found) (sees.roots u b found own);
+    calls = λ u d st o works calling about goal. (let kp = keeping_of x (root_at (root_of st.path) c) in step_later unit S T only act code st o kp kp (λ k tied. tied) (λ none. (none, refl)) st.at (sees.calls u d st o works calling about goal));
+    plain = sees.plain;
+  }
+
+pub calls_elsewhere : CallsElsewhere
+calls_elsewhere act code x unit c S T reached run away only whole = still_whole act code x c S T reached run whole (ap (λ (s : State). s.includes) only.rest) (coord_away act code x unit c S T away only whole.coord)
+
+-- ends of another unit leave bindings and calls as they are
+ended_called : (unit : ℕ) (S T : State) → ((m : machine.Message) → In m S.net → In m T.net) → OnlyEnded unit S T → OnlyCalled unit S T
+ended_called unit S T sent only = record {
+  rest = only.rest ∙ (λ i. record S { now = T.now; binding = sym bindings i; action = T.action; kept = sym kept i; calls = sym calls i; net = T.net });
+  actions = only.others;
+  ended = only.ended;
+  kept = λ k other. ap (λ (f : ℕ → ℕ). f k) kept;
+  bindings = λ b. (ap (λ (f : ℕ → machine.Binding). (f b).server) bindings, ap (λ (f : ℕ → machine.Binding). (f b).maker) bindings);
+  named = λ b which. ap (λ (f : ℕ → machine.Binding). f b) bindings;
+  calls = λ d i. subst (In d) (sym calls) i;
+  fresh = λ d i. inl (subst (In d) calls i);
+  sent = sent;
+}
+  where
+    bindings : T.binding ≡ S.binding
+    bindings = ap (λ (s : State). s.binding) only.rest
+
+    kept : T.kept ≡ S.kept
+    kept = ap (λ (s : State). s.kept) only.rest
+
+    calls : T.calls ≡ S.calls
+    calls = ap (λ (s : State). s.calls) only.rest
+
+pub ends_elsewhere : EndsElsewhere
+ends_elsewhere act code x unit c S T reached run away only whole = calls_elsewhere act code x unit c S T reached run away (ended_called unit S T (let v = ever reached run in v.sent) only) whole
+
+-- ---- an include of another unit
+
+pub includes_elsewhere : IncludesElsewhere
+includes_elsewhere act code x unit c S T reached run away only fresh whole = record {
+  coord = subst (SeesCoord act code x c) (sym only) (stays_coord act code x c c S S.action T.now T.includes whole.coord (let k = whole.coord in k.actions) (λ w q there. (q, there, refl)) (λ w q there. (q, there, refl)) (λ us h. h) (λ w. refl) (λ w y z works calling. works));
+  includes = (let i = whole.includes in record {
+    lines = λ u b k found own there home. ⊎_elim (λ old. i.lines u b k found own old home) (λ its. absurd (away u b found (sym home ∙ its))) (fresh k there);
+    joins = i.joins;
+    waits = λ u d s k works is load. (let g = i.waits u d s k works is load in record { sent = (let v = ever reached run in v.sent (machine.Granted (act (top_of s.path)) (k.grant * 4294967296)) g.sent); noted = g.noted });
+  });
+  commits = λ u d k works is. commits_stay_seen x (act u) k S T reached run (whole.commits u d k works is);
+  units = λ u b found own over. ap (λ (s : State). (s.action (Unit (root (act u)))).stage) only ∙ whole.units u b found own over;
+}
+
+-- ---- a server
+
+pub servers_elsewhere : ServersElsewhere
+servers_elsewhere v m act code x c S T reached run only whole = still_whole act code x c S T reached run whole (ap (λ (s : State). s.includes) only.rest) (coords_stay_seen v m act code x c S T only whole.coord)

@@ -1,0 +1,14 @@
+use Rattle.arj_lock_view_law.proofs.OutsideSteps.{calls_elsewhere, ends_elsewhere, includes_elsewhere, servers_elsewhere}
+use Rattle.arj_lock_view_law.proofs.coord.coordinators_stay_whole.Goals as goal
+
+pub returns-clause-ends : goal.returns-clause-ends
+returns-clause-ends c = ends_elsewhere
+
+pub returns-clause-calls : goal.returns-clause-calls
+returns-clause-calls c = calls_elsewhere
+
+pub returns-clause-includes : goal.returns-clause-includes
+returns-clause-includes c = includes_elsewhere
+
+pub returns-clause-servers : goal.returns-clause-servers
+returns-clause-servers c = servers_elsewhere
