@@ -1,7 +1,9 @@
 pub mod Begun
 pub mod BothEach
 pub mod Copies
+pub mod EntryKeeps
 pub mod EntryRows
+pub mod EntryWalks
 pub mod Holders
 pub mod Given
 pub mod Kept

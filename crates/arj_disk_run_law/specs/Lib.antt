@@ -1,3 +1,4 @@
+pub mod Entries
 pub mod Facts
 pub mod Kinds
 pub mod Part

@@ -59,7 +59,7 @@ found_each {X} f k m y is = by (at_number k m) refl (sym (at_each f k m) ∙ is)
     by None e h = absurd (cc h)
     by (Some x) e h = (x, e, some_is refl h)
 
-drop_stays : (u w : Uid) (us : List Uid) → u ≢ w → is_on (drop_uid w us) u ≡ is_on us u
+pub drop_stays : (u w : Uid) (us : List Uid) → u ≢ w → is_on (drop_uid w us) u ≡ is_on us u
 drop_stays u w [] other = refl
 drop_stays u w (v ∷ vs) other = by (uid_eq v w) refl (drop_stays u w vs other)
   where

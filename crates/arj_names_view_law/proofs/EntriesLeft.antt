@@ -28,7 +28,7 @@ use Rattle.arj_disk_law.proofs.Base.{never_some, or_cases}
 -- ---- the entries on the disk
 
 -- the entries that effects leave on the disk
-abbrev names_worked : Work → Pair → Pair
+abbrev pub names_worked : Work → Pair → Pair
 names_worked (Prepare role.Names a states) p = pair_prepared a states p
 names_worked (Commit role.Names a) p = pair_committed a p
 names_worked (Abort role.Names a) p = pair_aborted a p
@@ -40,7 +40,7 @@ names_left (Do w ∷ es) p = names_left es (names_worked w p)
 names_left (Say b ∷ es) p = names_left es p
 names_left (Send to m ∷ es) p = names_left es p
 
-worked_names : (w : Work) (d : Disk) → (worked w d).names ≡ names_worked w d.names
+pub worked_names : (w : Work) (d : Disk) → (worked w d).names ≡ names_worked w d.names
 worked_names Look d = refl
 worked_names (PutInc i) d = refl
 worked_names (Prepare role.Store a states) d = refl
@@ -58,14 +58,14 @@ left_names (Say b ∷ es) d = left_names es d
 left_names (Send to m ∷ es) d = left_names es d
 left_names (Do w ∷ es) d = left_names es (worked w d) ∙ ap (names_left es) (worked_names w d)
 
-left_both : (es fs : List Effect) (p : Pair) → names_left (es ++ fs) p ≡ names_left fs (names_left es p)
+pub left_both : (es fs : List Effect) (p : Pair) → names_left (es ++ fs) p ≡ names_left fs (names_left es p)
 left_both [] fs p = refl
 left_both (Say b ∷ es) fs p = left_both es fs p
 left_both (Send to m ∷ es) fs p = left_both es fs p
 left_both (Do w ∷ es) fs p = left_both es fs (names_worked w p)
 
 -- nothing is prepared
-abbrev prepares_none : Effect → Bool
+abbrev pub prepares_none : Effect → Bool
 prepares_none (Do (Prepare r a states)) = false
 prepares_none _ = true
 
@@ -196,7 +196,7 @@ module _ (u : Uid) (how : End) (d : Disk) (t : Parts) (n : Naming) (from : ℕ) 
   abbrev pub Whole_outs : List Effect
   Whole_outs = store_told 1 u how d.store ++ (own_entries u how d.names ++ Part_outs u how d t n from ack ends) ++ Served u how d t n from ack ends ++ ack_told from u ack
 
-  outs_none : AreAll prepares_none Whole_outs
+  pub outs_none : AreAll prepares_none Whole_outs
   outs_none = all_both prepares_none (store_told 1 u how d.store ++ (own_entries u how d.names ++ Part_outs u how d t n from ack ends) ++ Served u how d t n from ack ends) (ack_told from u ack)
       (all_both prepares_none (store_told 1 u how d.store ++ (own_entries u how d.names ++ Part_outs u how d t n from ack ends)) (Served u how d t n from ack ends)
       (all_both prepares_none (store_told 1 u how d.store) (own_entries u how d.names ++ Part_outs u how d t n from ack ends) (stored how (is_prepared u d.store))

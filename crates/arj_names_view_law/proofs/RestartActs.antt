@@ -1,6 +1,6 @@
 -- What naming finds at a restart.
 use Rattle.std.proofs.Common.{◌≡◌, ◌≢◌, ◌⊎◌, ℕ, ◌+◌, ◌==◌, ◌&&◌, ◌||◌, not, List, [], ◌∷◌, Bool, true, false, cond, Option, Some, None, refl, sym, ◌∙◌, ap, subst, inl, inr, ⊎_elim, find, map, arith}
-use Rattle.std.specs.Prelude.{if◌then◌else◌, option_map}
+use Rattle.std.specs.Prelude.{if◌then◌else◌, is_some, option_map}
 use Rattle.std.specs.List.{list_any}
 use Rattle.std.specs.Ordering.{nat_cmp, is_eq}
 use Rattle.std.specs.declared.cmp.Ordering.{Ordering}
@@ -99,6 +99,22 @@ found_back d x o (e ∷ es) all is = by (nat_cmp x e.0.num) refl is (λ h. found
         let same : e.0 ≡ entry x = own ∙ ap entry (sym (nat_cmp-IsAntisymmetric x e.0.num c)) in
         (e.1, ap (λ w. at_uid w (e ∷ es)) (sym same) ∙ keys.at_here e.0 e.1 es, ap (λ w. unnamed (rows_back w e.1 (pending_of w d.pend))) (sym same) ∙ some_is refl h)
 
+-- so the object is there, where its entry is held
+pub found_there : (d : Pair) (x : ℕ) (m : List (Uid × ObjectState)) → is_some (at_uid (entry x) m) ≡ true → is_some (at_number x (map (named_back d) m)) ≡ true
+found_there d x [] there = absurd (cc there)
+found_there d x (e ∷ es) there = by (nat_cmp x e.0.num) refl (found_there d x es)
+  where
+    itself : (n : ℕ) → is_eq (nat_cmp n n) ≡ true
+    itself n = grind arith
+
+    apart : is_eq (nat_cmp x e.0.num) ≡ false → is_some (at_uid (entry x) es) ≡ true
+    apart off = ap is_some (sym (keys.at_there (entry x) e.0 e.1 es (λ same. never (ap (λ n. is_eq (nat_cmp n e.0.num)) (ap (λ (w : Uid). w.num) same) ∙ itself e.0.num) off))) ∙ there
+
+    by : (r : Ordering) → nat_cmp x e.0.num ≡ r → (is_some (at_uid (entry x) es) ≡ true → is_some (at_number x (map (named_back d) es)) ≡ true) → is_some (cond (is_eq r) (Some (unnamed (rows_back e.0 e.1 (pending_of e.0 d.pend)))) (at_number x (map (named_back d) es))) ≡ true
+    by Less c ih = ih (apart (ap is_eq c))
+    by Greater c ih = ih (apart (ap is_eq c))
+    by Equal c ih = refl
+
 -- ---- the locks that are given back
 
 adds_is : (new old : List ℕ) → adds_store new old ≡ list_any (λ s. not (has s old)) new
@@ -114,7 +130,7 @@ back_is new held h e is prepared =
     by true = refl
     by false = refl
 
-is_on_pend : (u : Uid) (m : List (Uid × List ObjectState)) → is_on (map (λ (p : Uid × List ObjectState). p.0) m) u ≡ list_any (λ (p : Uid × List ObjectState). uid_number p.0 == uid_number u) m
+pub is_on_pend : (u : Uid) (m : List (Uid × List ObjectState)) → is_on (map (λ (p : Uid × List ObjectState). p.0) m) u ≡ list_any (λ (p : Uid × List ObjectState). uid_number p.0 == uid_number u) m
 is_on_pend u [] = refl
 is_on_pend u (p ∷ ps) = λ i. number_test p.0 u i || is_on_pend u ps i
 
@@ -129,7 +145,7 @@ prepared_from t (p ∷ ps) on = ⊎_elim
     by a states there is (inl same) = (p.0, p.1, keys.at_here p.0 p.1 ps, ap uid_number (sym same) ∙ is)
     by a states there is (inr other) = (a, states, keys.at_there a p.0 p.1 ps other ∙ there, is)
 
-prepared_in : (a : Uid) (states : List ObjectState) (m : List (Uid × List ObjectState)) → at_uid a m ≡ Some states → list_any (λ (p : Uid × List ObjectState). uid_number p.0 == uid_number a) m ≡ true
+pub prepared_in : (a : Uid) (states : List ObjectState) (m : List (Uid × List ObjectState)) → at_uid a m ≡ Some states → list_any (λ (p : Uid × List ObjectState). uid_number p.0 == uid_number a) m ≡ true
 prepared_in a states [] is = absurd (cc is)
 prepared_in a states (p ∷ ps) is = ⊎_elim
     (λ same. or_left (uid_number p.0 == uid_number a) (list_any (λ (q : Uid × List ObjectState). uid_number q.0 == uid_number a) ps) (ap (λ w. uid_number p.0 == uid_number w) same ∙ test_same (uid_number p.0)))
