@@ -34,7 +34,9 @@ use Rattle.arj_call_law.specs.Runs.{KnowsFew}
 use Rattle.arj_call_law.proofs.WholeRuns.{WhileFew, few_go}
 use Rattle.arj_binding_law.proofs.Events.{scripts_few}
 use Rattle.arj_disk_run_law.proofs.Given.{gives_votes}
-use Rattle.arj_disk_run_law.proofs.BothEach.{both_each}
+use Rattle.arj_disk_run_law.specs.Entries.{HaveEntries}
+use Rattle.arj_disk_run_law.proofs.BothEach.{both_each, with_entries}
+use Rattle.arj_disk_run_law.proofs.EntryKeeps.{both_keep}
 use Rattle.arj_disk_run_law.proofs.Kept.{IsKeptInRun, all_keep}
 use Rattle.arj_disk_run_law.proofs.RecordWalks.{restart_plain}
 use Rattle.arj_line_law.specs.Book.{book, is_decided, is_top, new_book}
@@ -190,21 +192,8 @@ module _ (hd : Header) (x : ℕ) (R G : Seen → Type 0) (P : Kinds → Office �
   lines_too : Keeps hd IsKept
   lines_too = lines_keep hd
 
-  walks_same : (e k : ℕ) (outs : List Effect) (v : Parts) (d : Disk) (M : Seen) → Walks R e k outs (Up R k v) d M → Walks IsKept e k outs (Up IsKept k v) d M → Walks Both e k outs (Up Both k v) d M
-  walks_same e k outs v d M a b = walks_both R IsKept e k outs (Up R k v) (Up IsKept k v) d M a b
-
-  both_keep : Keeps hd Both
-  both_keep = record {
-    quiet = λ e bs M quiet h. (kept.quiet e bs M quiet h.0, lines_too.quiet e bs M quiet h.1);
-    stop = λ e k d live M h. (kept.stop e k d live M h.0, lines_too.stop e k d live M h.1);
-    message = λ e k d t v from m outs M h sent meant is. walks_same e k outs v d M (kept.message e k d t v from m outs M h.0 sent meant is) (lines_too.message e k d t v from m outs M h.1 sent meant is);
-    act = λ e k d t i M is free h. let did = acts i d.intents t.coord in walks_same e k did.outs (with_coord t did.part) d M (kept.act e k d t i M is free h.0) (lines_too.act e k d t i M is free h.1);
-    begin = λ e k d t l how parent M new may free h. let did = begin_action l how parent (parent_of parent t.coord) t.coord in
-        walks_same e k did.outs (with_coord t did.part) d (given l (record { node = k; serial = is_serial_kind how }) M) (kept.begin e k d t l how parent M new may free h.0) (lines_too.begin e k d t l how parent M new may free h.1);
-    tick = λ e k d t M h. walks_same e k (tick_outs (record { number = k; disk = d; live = Some t }) t) (with_coord t (again_all t.coord.doings t.coord).part) d M (kept.tick e k d t M h.0) (lines_too.tick e k d t M h.1);
-    restart = λ e k d M h. walks_same e k (restart_outs hd k (d.inc + 1) d) (parts_in k (d.inc + 1) d) d M (kept.restart e k d M h.0) (lines_too.restart e k d M h.1);
-    first = (kept.first, lines_too.first);
-  }
+  both_too : Keeps hd Both
+  both_too = both_keep hd R IsKept kept lines_too
 
   -- who is decided at the end of a step has a branch there
   fresh : (tops : Kinds) (M : Seen) (k : ℕ) (v : Parts) (V : machine.World) (c : Disk) (Z : Seen) → SeesDisks x tops V (up k c v Z) → R (up k c v Z) → IsKept (up k c v Z) → IsStep M (up k c v Z) → (u : Uid) → HasBranch v.coord u → is_decided (book Z.lines) u ≡ true → IsDoneBy Idle V Z.lines u
@@ -272,7 +261,7 @@ module _ (hd : Header) (x : ℕ) (R G : Seen → Type 0) (P : Kinds → Office �
         let g = message_turns e k d t M r.0.1.0 r.0.1.1 v from m outs sent is in (
           heard_too tops (decided_by t.coord m) A (record { event = e; node = k; disk = d; before = t; outs = outs; after = v }) M tie p.0
               (λ C same. tied_walk R Idle idles x tops A.world (up k d t M) tie.0 tie.1 (Changes (decided_by t.coord m) C) (goes_from (decided_by t.coord m) A C same (let c = both.disks in c.whole)) (HasBranch v.coord) e k outs v d M (fresh tops (up k d t M) k v)
-              (both_keep.message e k d t v from m outs M r.0 sent meant is) (step_walk k d (Some t) M e v outs d M (near_same M) (was_up t) (was_up t)) (turns (HasBranch v.coord) e k outs d M M refl g.late)),
+              (both_too.message e k d t v from m outs M r.0 sent meant is) (step_walk k d (Some t) M e v outs d M (near_same M) (was_up t) (was_up t)) (turns (HasBranch v.coord) e k outs d M M refl g.late)),
           p.1,
           p.2,
         );
@@ -282,7 +271,7 @@ module _ (hd : Header) (x : ℕ) (R G : Seen → Type 0) (P : Kinds → Office �
         let g = act_turns e k d t M r.0.1.0 r.0.1.1 hd i is free in (
           heard_too tops None A (going_of e k d t did) M tie p.0
               (λ C same. tied_walk R Idle idles x tops A.world (up k d t M) tie.0 tie.1 (Changes None C) (goes_from None A C same (let c = both.disks in c.whole)) (HasBranch did.part) e k did.outs (with_coord t did.part) d M (fresh tops (up k d t M) k (with_coord t did.part))
-              (both_keep.act e k d t i M is free r.0) (step_walk k d (Some t) M e (with_coord t did.part) did.outs d M (near_same M) (was_up t) (was_up t)) (turns (HasBranch did.part) e k did.outs d M M refl g.late)),
+              (both_too.act e k d t i M is free r.0) (step_walk k d (Some t) M e (with_coord t did.part) did.outs d M (near_same M) (was_up t) (was_up t)) (turns (HasBranch did.part) e k did.outs d M M refl g.late)),
           p.1,
         );
     begin = λ tops e k d t l how parent M A walk n r new may free kind both (part, tie).
@@ -290,7 +279,7 @@ module _ (hd : Header) (x : ℕ) (R G : Seen → Type 0) (P : Kinds → Office �
         let N : Seen = given l (record { node = k; serial = is_serial_kind how }) M in
         both_along tops (Changes None A) e k did.outs (with_coord t did.part) d N (parts.begin tops e k d t l how parent M A walk n (r.0.0, r.1) new may free kind both part)
         (tied_walk R Idle idles x tops A.world (up k d t M) tie.0 tie.1 (Changes None A) (λ B c. goes_by None A B (let z = both.disks in z.whole) c) (HasBranch did.part) e k did.outs (with_coord t did.part) d N (fresh tops (up k d t M) k (with_coord t did.part))
-        (both_keep.begin e k d t l how parent M new may free r.0) (step_walk k d (Some t) M e (with_coord t did.part) did.outs d N (given_near l how k M) (was_up t) (was_up t))
+        (both_too.begin e k d t l how parent M new may free r.0) (step_walk k d (Some t) M e (with_coord t did.part) did.outs d N (given_near l how k M) (was_up t) (was_up t))
         (turns (HasBranch did.part) e k did.outs d M N refl ((λ u is. absurd (cc is)), tt)));
     tick = λ tops e k d t M A walk n r both (part, tie).
         let outs = tick_outs (record { number = k; disk = d; live = Some t }) t in
@@ -298,17 +287,14 @@ module _ (hd : Header) (x : ℕ) (R G : Seen → Type 0) (P : Kinds → Office �
         let g = tick_turns e k d t M r.0.1.0 r.0.1.1 in
         both_along tops (Changes None A) e k outs v d M (parts.tick tops e k d t M A walk n (r.0.0, r.1) both part)
         (tied_walk R Idle idles x tops A.world (up k d t M) tie.0 tie.1 (Changes None A) (λ B c. goes_by None A B (let z = both.disks in z.whole) c) (HasBranch v.coord) e k outs v d M (fresh tops (up k d t M) k v)
-        (both_keep.tick e k d t M r.0) (step_walk k d (Some t) M e v outs d M (near_same M) (was_up t) (was_up t)) (turns (HasBranch v.coord) e k outs d M M refl g.late));
+        (both_too.tick e k d t M r.0) (step_walk k d (Some t) M e v outs d M (near_same M) (was_up t) (was_up t)) (turns (HasBranch v.coord) e k outs d M M refl g.late));
     restart = λ tops e k d M A walk r both (part, tie).
         let outs = restart_outs hd k (d.inc + 1) d in
         let v = parts_in k (d.inc + 1) d in
-        let p = parts.restart tops e k d M A walk (r.0.0, r.1) both part in
-        let g = rest_goes hd e k d M r.0.1.0 r.0.1.1 in (
-          p.0,
-          both_along tops (OnlyFound (are_recorded d.intents) A) e k outs v d M p.1
-              (tied_walk R Idle idles x tops A.world (down k d M) tie.0 tie.1 (OnlyFound (are_recorded d.intents) A) (λ B c. goes_along (are_recorded d.intents) A.world B.world (let z = both.disks in z.whole) c.along) (λ u. (i : Intent) × Among (u, i) d.intents) e k outs v d M (found tops M k d)
-              (both_keep.restart e k d M r.0) (step_walk k d None M e v outs d M (near_same M) (λ down. restart_plain [] hd k d) (λ down. refl)) (turns (λ u. (i : Intent) × Among (u, i) d.intents) e k outs d M M refl g.late)),
-        );
+        let g = rest_goes hd e k d M r.0.1.0 r.0.1.1 in
+        both_along tops (OnlyFound (are_recorded d.intents) A) e k outs v d M (parts.restart tops e k d M A walk (r.0.0, r.1) both part)
+        (tied_walk R Idle idles x tops A.world (down k d M) tie.0 tie.1 (OnlyFound (are_recorded d.intents) A) (λ B c. goes_along (are_recorded d.intents) A.world B.world (let z = both.disks in z.whole) c.along) (λ u. (i : Intent) × Among (u, i) d.intents) e k outs v d M (found tops M k d)
+        (both_too.restart e k d M r.0) (step_walk k d None M e v outs d M (near_same M) (λ down. restart_plain [] hd k d) (λ down. refl)) (turns (λ u. (i : Intent) × Among (u, i) d.intents) e k outs d M M refl g.late));
     first = λ tops walk kinds. let f = parts.first tops walk kinds in (f.0, f.1, (f.2, tied_first Idle f.0.world (see [] (format hd)) f.3 refl), f.3);
   }
     where
@@ -335,12 +321,15 @@ runs_are_journalled hd x test part kept parts idle idles es short =
     let P : Kinds → Office → Seen → Type 0 = λ tops A M. part tops A M ≡ true in
     let Q : Kinds → Seen → Type 0 = IsCarried (WithTie P Idle) x in
     let B : Seen → Type 0 = Both hd x R KnowsFew P Idle kept parts idles in
-    let r = runs_hold hd (WhileFew (IsKeptInRun B Q)) (few_go hd (IsKeptInRun B Q) (all_keep hd x B KnowsFew Q (both_keep hd x R KnowsFew P Idle kept parts idles) (gives_votes B) (both_each hd x (λ M. B M × KnowsFew M) (WithTie P Idle) (tied_part hd x R KnowsFew P Idle kept parts idles)))) es in
+    let Known : Seen → Type 0 = λ M. B M × HaveEntries x M in
+    let tied = tied_part hd x R KnowsFew P Idle kept parts idles in
+    let known = with_entries hd x B (λ M. B M × KnowsFew M) (WithTie P Idle) tied (both_too hd x R KnowsFew P Idle kept parts idles) in
+    let r = runs_hold hd (WhileFew (IsKeptInRun Known Q)) (few_go hd (IsKeptInRun Known Q) (all_keep hd x Known KnowsFew Q known (gives_votes Known) (both_each hd x B KnowsFew (WithTie P Idle) tied))) es in
     let h = (r.holds.1 (scripts_few hd es short)).1 in
     let g = h.1 in
     let s = g.5 (kinds_of h.0) (kinds_agree h.0 g.0.begun g.1) in
     let lines = (run_all es (format hd)).lines in
-    let right = (let w = g.4.1.1 in w.right) in
+    let right = (let w = g.4.0.1.1 in w.right) in
     record {
       sent = r.sent;
       stands = r.stands;

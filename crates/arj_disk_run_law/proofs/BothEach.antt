@@ -1,25 +1,34 @@
 -- Both halves of the object's machine are carried by each handler, and so through each run; and copies agree in it.
-use Rattle.std.proofs.Common.{◌≡◌, ◌==◌, ℕ, List, ◌+◌, Bool, true, false, Option, Some, None}
-use Rattle.arj_protocol.specs.Words.{Header, Uid}
+use Rattle.std.proofs.Common.{◌≡◌, ◌==◌, ℕ, List, [], ◌+◌, Bool, true, false, Option, Some, None, refl, ◌∙◌, ap, subst, inl, inr, ⊎_elim, is_some}
+use Rattle.std.specs.Prelude.{option_map}
+use Rattle.arj_lock.proofs.Members.{in_from}
+use Rattle.arj_protocol.specs.Words.{Header, Message, ObjectState, Path, Uid, entry}
+use Rattle.arj_protocol.specs.Ask.{top_of}
 use Rattle.arj_protocol.specs.Asking.{again_all, begin_action}
-use Rattle.arj_protocol.specs.Effect.{Disk, Effect, Intent}
+use Rattle.arj_protocol.specs.Effect.{Disk, Effect, Intent, held_at}
 use Rattle.arj_protocol.specs.Follow.{tick_outs}
+use Rattle.arj_protocol.specs.Naming.{Naming}
 use Rattle.arj_protocol.specs.Node.{Parts, with_coord}
 use Rattle.arj_protocol.specs.Order.{uid_number}
-use Rattle.arj_protocol.specs.Step.{acts, parent_of, parts_in, restart_outs}
+use Rattle.arj_protocol.specs.Step.{Node, acts, parent_of, parts_in, restart_outs}
 use Rattle.arj_protocol.specs.World.{format, is_serial_kind, run_all}
 use Rattle.arj_disk_law.specs.Guards.{only_decides}
 use Rattle.arj_disk_law.specs.Names.{Office}
+use Rattle.arj_disk_law.specs.State.{Packed, State}
 use Rattle.arj_disk_law.proofs.Base.{test_same}
 use Rattle.arj_view_law.specs.Keeps.{Keeps}
-use Rattle.arj_view_law.specs.Seen.{Seen, at, given, see}
+use Rattle.arj_view_law.specs.Seen.{Seen, at, given, see, up}
 use Rattle.arj_view_law.specs.Walks.{Walks, Up}
 use Rattle.arj_view_law.proofs.Happens.{runs_hold}
 use Rattle.arj_view_law.proofs.Together.{walks_both, walks_to}
-use Rattle.arj_disk_view_law.specs.Sees.{Kinds, followed}
+use Rattle.arj_disk_view_law.specs.Coordinating.{KnowsNode}
+use Rattle.arj_disk_view_law.specs.Knows.{KnowsKinds}
+use Rattle.arj_disk_view_law.specs.Pairs.{packed_entry}
+use Rattle.arj_disk_view_law.specs.Sees.{IsFixed, Kinds, followed}
 use Rattle.arj_disk_view_law.proofs.Halts.{lines_seen, stops_seen}
-use Rattle.arj_names_view_law.specs.Both.{IsSeenAgain}
-use Rattle.arj_names_view_law.specs.Handlers.{IsSeenAfter, decided_by}
+use Rattle.arj_names_view_law.specs.Both.{IsSeenAgain, SeesBoth}
+use Rattle.arj_names_view_law.specs.Handlers.{CountsOn, IsForGrants, IsSeenAfter, MayRecord, decided_by}
+use Rattle.arj_names_view_law.specs.Memory.{IsOfTop}
 use Rattle.arj_names_view_law.proofs.InputBoth.{inputs_keep_both}
 use Rattle.arj_names_view_law.proofs.MessageBoth.{messages_keep_both}
 use Rattle.arj_names_view_law.proofs.NewConfirms.{any_prepared}
@@ -32,11 +41,14 @@ use Rattle.arj_run_law.proofs.AllRuns.{all_keep as parts_good}
 use Rattle.arj_call_law.specs.Runs.{KnowsFew}
 use Rattle.arj_call_law.proofs.WholeRuns.{WhileFew, few_go}
 use Rattle.arj_binding_law.proofs.Events.{scripts_few}
-use Rattle.arj_disk_run_law.specs.Kinds.{kinds_of}
+use Rattle.arj_disk_run_law.specs.Entries.{HaveEntries, IsInStep, KnowsEntries}
+use Rattle.arj_disk_run_law.specs.Kinds.{Agrees, AreOfTops, IsOfTops, kinds_of}
 use Rattle.arj_disk_run_law.specs.Part.{HoldsAgain, HoldsFrom, IsCarried, KeepsPart, are_recorded}
 use Rattle.arj_disk_run_law.specs.Runs.{RunsAgree}
 use Rattle.arj_disk_run_law.proofs.Begun.{kinds_agree}
 use Rattle.arj_disk_run_law.proofs.Copies.{copies_agree}
+use Rattle.arj_disk_run_law.proofs.EntryKeeps.{both_keep, keeps_entries}
+use Rattle.arj_disk_run_law.proofs.EntryWalks.{mine_of}
 use Rattle.arj_disk_run_law.proofs.Given.{gives_votes}
 use Rattle.arj_disk_run_law.proofs.Kept.{IsKeptInRun, KeepsEach, all_keep}
 
@@ -55,32 +67,74 @@ module _ (P : Kinds → Office → Seen → Type 0) (x : ℕ) (tops : Kinds) whe
       (λ N h. let s = h.0 in (s.0, s.2, h.1 s.0 s.1 s.2)) (λ c N h. let s = h.0 in (s.0, s.2, h.1 s.0 s.1 s.2))
       (walks_both (IsSeenAgain g x tops A) (HoldsAgain P x tops g A) e k outs (Up (IsSeenAgain g x tops A) k v) (Up (HoldsAgain P x tops g A) k v) d M seen holds)
 
-pub both_each : (hd : Header) (x : ℕ) (R : Seen → Type 0) (P : Kinds → Office → Seen → Type 0) → KeepsPart hd x R P → KeepsEach hd x R (IsCarried P x)
-both_each hd x R P parts = record {
+-- ---- what naming's half counts on
+
+-- a request that is of a top by the kinds is so in the machine
+of_top : (tops : Kinds) (S : State) (p : Path) → KnowsKinds tops → IsFixed tops S → IsOfTops tops p → IsOfTop tops S p
+of_top tops S p kinds fixed o = record {
+  top = o.top;
+  plain = ap (λ f. f (uid_number (top_of p))) fixed.serial ∙ kinds.apart (uid_number (top_of p)) o.top;
+  path = ⊎_elim (λ alone. inl (alone.0, ap (λ f. f (uid_number (top_of p))) fixed.root ∙ alone.1)) (λ behind. inr (behind.0, behind.1, ap (λ f. f (uid_number (top_of p))) fixed.root ∙ behind.2, behind.3, behind.4)) o.path;
+}
+
+counted : (x : ℕ) (tops : Kinds) (k : ℕ) (d : Disk) (t : Parts) (M : Seen) (m : Message) (A : Office) (n : Naming) → KnowsNode tops k d t M → HaveEntries x (up k d t M) → SeesBoth x tops A (up k d t M) → AreOfTops tops m → t.naming ≡ Some n
+    → MayRecord x d n m A × IsForGrants x d n m A → CountsOn x tops d n m A
+counted x tops k d t M m A n knows have both of is it = record {
+  path = λ h a asked. of_top tops A.world.disk h.path knows.kinds (let s = both.disks in s.fixed) (of h a asked);
+  recorded = it.0;
+  taken = λ h grants excluded included asked on. here.taken (top_of h.path) on;
+  confirmed = it.1;
+  there = here.there;
+}
+  where
+    here : IsInStep x n d.names
+    here = let e = mine_of x k d (Some t) M have (ap (λ z. 1 == z) (knows.naming_here n is).0) in subst (λ o. KnowsEntries x o d.names) is (e.live t refl)
+
+-- where more holds before each handler
+pub both_each : (hd : Header) (x : ℕ) (R G : Seen → Type 0) (P : Kinds → Office → Seen → Type 0) → KeepsPart hd x (λ M. R M × G M) P → KeepsEach hd x (λ M. (R M × HaveEntries x M) × G M) (IsCarried P x)
+both_each hd x R G P parts = record {
   sees = λ tops M s. (s.0.world, s.1.disks);
-  quiet = λ tops e bs M walk quiet r (A, both, part). let s = lines_keep_both x tops e bs A M walk both (lines_seen x (followed tops A.world (λ n. false)) e bs M (A.world, walks_start x tops (λ n. false) A M both)) in (s.0, s.2, parts.quiet tops e bs M A walk quiet r both part s.0 s.1 s.2);
+  quiet = λ tops e bs M walk quiet r (A, both, part). let s = lines_keep_both x tops e bs A M walk both (lines_seen x (followed tops A.world (λ n. false)) e bs M (A.world, walks_start x tops (λ n. false) A M both)) in (s.0, s.2, parts.quiet tops e bs M A walk quiet (r.0.0, r.1) both part s.0 s.1 s.2);
   stop = λ tops e k d live M walk r (A, both, part). let s = stops_keep_both x tops e k d live A M walk both (stops_seen x (followed tops A.world (λ n. false)) e k d live M (A.world, walks_start x tops (λ n. false) A (at k d live M) both)) in
-      (s.0, s.2, parts.stop tops e k d live M A walk r both part s.0 s.1 s.2);
-  message = λ tops e k d t v from m outs M walk n r sent meant is of (A, both, part). let p = parts.message tops e k d t v from m outs M A walk n r sent meant is of both part in let h = p.0 in
-      carried P x tops (decided_by t.coord m) h.office e k outs v d M (messages_keep_both x tops e k d t v from m outs h.office M walk n sent p.2 p.1 is h.both) h.along;
-  act = λ tops e k d t i M walk n r is free (A, both, part). let p = parts.act tops e k d t i M A walk n r is free both part in let h = p.0 in let did = acts i d.intents t.coord in
+      (s.0, s.2, parts.stop tops e k d live M A walk (r.0.0, r.1) both part s.0 s.1 s.2);
+  message = λ tops e k d t v from m outs M walk n r sent meant is of (A, both, part). let p = parts.message tops e k d t v from m outs M A walk n (r.0.0, r.1) sent meant is of both part in let h = p.0 in
+      carried P x tops (decided_by t.coord m) h.office e k outs v d M (messages_keep_both x tops e k d t v from m outs h.office M walk n sent (λ o here. counted x tops k d t M m h.office o n r.0.1 h.both of here (p.2 o here)) p.1 is h.both) h.along;
+  act = λ tops e k d t i M walk n r is free (A, both, part). let p = parts.act tops e k d t i M A walk n (r.0.0, r.1) is free both part in let h = p.0 in let did = acts i d.intents t.coord in
       carried P x tops None h.office e k did.outs (with_coord t did.part) d M (inputs_keep_both hd x tops e k d t i h.office M walk n.kinds n.coord is free p.1 h.both) h.along;
   begin = λ tops e k d t l how parent M walk n r new may free kind (A, both, part). let did = begin_action l how parent (parent_of parent t.coord) t.coord in
       carried P x tops None A e k did.outs (with_coord t did.part) d (given l (record { node = k; serial = is_serial_kind how }) M) (actions_keep_both x tops e k d t l (record { node = k; serial = is_serial_kind how }) how parent (parent_of parent t.coord) A M walk n.coord kind both)
-      (parts.begin tops e k d t l how parent M A walk n r new may free kind both part);
-  tick = λ tops e k d t M walk n r (A, both, part). carried P x tops None A e k (tick_outs (record { number = k; disk = d; live = Some t }) t) (with_coord t (again_all t.coord.doings t.coord).part) d M (ticks_keep_both x tops e k d t A M walk n.coord n.begun both) (parts.tick tops e k d t M A walk n r both part);
-  restart = λ tops e k d M walk held r (A, both, part). let p = parts.restart tops e k d M A walk r both part in
+      (parts.begin tops e k d t l how parent M A walk n (r.0.0, r.1) new may free kind both part);
+  tick = λ tops e k d t M walk n r (A, both, part). carried P x tops None A e k (tick_outs (record { number = k; disk = d; live = Some t }) t) (with_coord t (again_all t.coord.doings t.coord).part) d M (ticks_keep_both x tops e k d t A M walk n.coord n.begun both) (parts.tick tops e k d t M A walk n (r.0.0, r.1) both part);
+  restart = λ tops e k d M walk held r (A, both, part). let p = parts.restart tops e k d M A walk (r.0.0, r.1) both part in
       carried_again P x tops (are_recorded d.intents) A e k (restart_outs hd k (d.inc + 1) d) (parts_in k (d.inc + 1) d) d M
-      (restarts_keep_both x tops e k hd d (are_recorded d.intents) A M walk p.0 both (restarts_are_followed x tops (only_decides (are_recorded d.intents)) e k hd d A M held (λ u i at. any_prepared (λ (z : Uid × Intent). uid_number z.0 == uid_number u) u i d.intents at (test_same (uid_number u))) both)) p.1;
+      (restarts_keep_both x tops e k hd d (are_recorded d.intents) A M walk (λ same. let e = mine_of x k d None M r.0.1 (ap (λ z. 1 == z) same) in let h = e.disk in h.held) both (restarts_are_followed x tops (only_decides (are_recorded d.intents)) e k hd d A M held (λ u i at. any_prepared (λ (z : Uid × Intent). uid_number z.0 == uid_number u) u i d.intents at (test_same (uid_number u))) both)) p;
   first = λ tops walk kinds. let f = parts.first tops walk kinds in (f.0, f.1, f.2);
 }
+
+-- entries at naming are kept beside, where both halves of the object are seen at first
+pub with_entries : (hd : Header) (x : ℕ) (R S : Seen → Type 0) (P : Kinds → Office → Seen → Type 0) → KeepsPart hd x S P → Keeps hd R → Keeps hd (λ M. R M × HaveEntries x M)
+with_entries hd x R S P parts kept = both_keep hd R (HaveEntries x) kept (keeps_entries x hd there)
+  where
+    none : Agrees (kinds_of []) []
+    none = kinds_agree [] tt (λ a w c on. absurd (in_from a [] c))
+
+    there : (n : Node) → (let M = see [] (format hd) in M.nodes 1) ≡ Some n → is_some (held_at (entry x) (let d = n.disk in d.names)) ≡ true
+    there n is =
+        let f = parts.first (kinds_of []) none.unwalked none.kinds in
+        let e = (let both = f.1 in let s = both.disks in s.entry n is) in
+        let p = e.pair in
+        held (held_at (entry x) (let d = n.disk in d.names)) p.held_is
+      where
+        held : {p : Packed} (o : Option ObjectState) → option_map packed_entry o ≡ Some p → is_some o ≡ true
+        held None h = absurd (cc h)
+        held (Some st) h = refl
 
 -- ---- copies agree
 
 -- both halves of the object's machine are carried through a run, and copies agree in it
 pub runs_agree : RunsAgree
 runs_agree hd x part parts es short =
-    let r = runs_hold hd (WhileFew (IsKeptInRun IsGood Q)) (few_go hd (IsKeptInRun IsGood Q) (all_keep hd x IsGood KnowsFew Q good_everywhere (gives_votes IsGood) (both_each hd x (λ M. IsGood M × KnowsFew M) (λ tops A M. part tops A M ≡ true) parts))) es in
+    let r = runs_hold hd (WhileFew (IsKeptInRun Known Q)) (few_go hd (IsKeptInRun Known Q) (all_keep hd x Known KnowsFew Q known_everywhere (gives_votes Known) (both_each hd x IsGood KnowsFew (λ tops A M. part tops A M ≡ true) parts))) es in
     let h = (r.holds.1 (scripts_few hd es short)).1 in
     let g = h.1 in
     let s = g.5 (kinds_of h.0) (kinds_agree h.0 g.0.begun g.1) in
@@ -89,5 +143,8 @@ runs_agree hd x part parts es short =
     Q : Kinds → Seen → Type 0
     Q = IsCarried (λ tops A M. part tops A M ≡ true) x
 
-    good_everywhere : Keeps hd IsGood
-    good_everywhere = parts_good hd
+    Known : Seen → Type 0
+    Known M = IsGood M × HaveEntries x M
+
+    known_everywhere : Keeps hd Known
+    known_everywhere = with_entries hd x IsGood (λ M. IsGood M × KnowsFew M) (λ tops A M. part tops A M ≡ true) parts (parts_good hd)

@@ -42,6 +42,7 @@ use Rattle.arj_disk_law.proofs.Base.{never, never_some, some_is}
 use Rattle.arj_view_law.specs.Keeps.{Keeps}
 use Rattle.arj_view_law.specs.Seen.{Seen, at, down, given, posted, said, see, up}
 use Rattle.arj_view_law.specs.Walks.{Walks, Up, halted}
+use Rattle.arj_view_law.proofs.Together.{walks_both}
 use Rattle.arj_disk_view_law.specs.Pairs.{AreSorted}
 use Rattle.arj_disk_view_law.proofs.ConfirmWalks.{locks_say}
 use Rattle.arj_disk_view_law.proofs.FirstSeen.{first_at}
@@ -296,7 +297,7 @@ module _ (x : ℕ) where
       own (l ∷ ls) s (inl same) = let its : (let f = first_entry l in f.uid) ≡ entry (let f = first_entry l in let u = f.uid in u.num) = refl in subst (λ (z : ObjectState). z.uid ≡ entry z.uid.num) same its
       own (l ∷ ls) s (inr j) = own ls s j
 
-  first_entries : (hd : Header) → is_some (held_at (entry x) (let d = first_disk hd 1 in d.names)) ≡ true → HaveEntries x (see [] (format hd))
+  first_entries : (hd : Header) → ((n : Node) → (let M = see [] (format hd) in M.nodes 1) ≡ Some n → is_some (held_at (entry x) (let d = n.disk in d.names)) ≡ true) → HaveEntries x (see [] (format hd))
   first_entries hd there n is = subst (IsEntryNode x) (first_at hd 1 n is) (record {
     disk = has;
     live = λ t up. subst (λ (q : Parts). KnowsEntries x q.naming (let d = first_disk hd 1 in d.names)) (some_is refl up) (starts_so 1 1 (first_disk hd 1) has);
@@ -306,13 +307,13 @@ module _ (x : ℕ) where
       has = record {
         sorted = tt;
         held = λ e c. put_entries hd.objects [] (λ f i. absurd i) e (in_from e (put_states (map first_entry hd.objects) []) c);
-        there = there;
-        states = λ a ss is. absurd (cc is);
+        there = subst (λ (z : Node). is_some (held_at (entry x) (let d = z.disk in d.names)) ≡ true) (sym (first_at hd 1 n is)) (there n is);
+        states = λ a ss at. absurd (cc at);
       }
 
   -- ---- in each run
 
-  pub keeps_entries : (hd : Header) → is_some (held_at (entry x) (let d = first_disk hd 1 in d.names)) ≡ true → Keeps hd (HaveEntries x)
+  pub keeps_entries : (hd : Header) → ((n : Node) → (let M = see [] (format hd) in M.nodes 1) ≡ Some n → is_some (held_at (entry x) (let d = n.disk in d.names)) ≡ true) → Keeps hd (HaveEntries x)
   keeps_entries hd there = record {
     quiet = λ e bs M quiet have n is. have n is;
     stop = λ e k d live M have. stop_entries x e k d live M have;
@@ -322,4 +323,24 @@ module _ (x : ℕ) where
     tick = λ e k d t M have. let r = again_all t.coord.doings t.coord in quiet_walk x e k d t (with_coord t r.part) (tick_outs (record { number = k; disk = d; live = Some t }) t) M (tick_leaves k d t) refl have;
     restart = λ e k d M have. restart_entries hd e k d M have;
     first = first_entries hd there;
+  }
+
+-- ---- two relations
+
+-- what each handler keeps of two relations it keeps of both
+module _ (hd : Header) (P Q : Seen → Type 0) (one : Keeps hd P) (two : Keeps hd Q) where
+  walks_too : (e k : ℕ) (outs : List Effect) (v : Parts) (d : Disk) (M : Seen) → Walks P e k outs (Up P k v) d M → Walks Q e k outs (Up Q k v) d M → Walks (λ M. P M × Q M) e k outs (Up (λ M. P M × Q M) k v) d M
+  walks_too e k outs v d M a b = walks_both P Q e k outs (Up P k v) (Up Q k v) d M a b
+
+  pub both_keep : Keeps hd (λ M. P M × Q M)
+  both_keep = record {
+    quiet = λ e bs M quiet h. (one.quiet e bs M quiet h.0, two.quiet e bs M quiet h.1);
+    stop = λ e k d live M h. (one.stop e k d live M h.0, two.stop e k d live M h.1);
+    message = λ e k d t v from m outs M h sent meant is. walks_too e k outs v d M (one.message e k d t v from m outs M h.0 sent meant is) (two.message e k d t v from m outs M h.1 sent meant is);
+    act = λ e k d t i M is free h. let did = acts i d.intents t.coord in walks_too e k did.outs (with_coord t did.part) d M (one.act e k d t i M is free h.0) (two.act e k d t i M is free h.1);
+    begin = λ e k d t l how parent M new may free h. let did = begin_action l how parent (parent_of parent t.coord) t.coord in
+        walks_too e k did.outs (with_coord t did.part) d (given l (record { node = k; serial = is_serial_kind how }) M) (one.begin e k d t l how parent M new may free h.0) (two.begin e k d t l how parent M new may free h.1);
+    tick = λ e k d t M h. walks_too e k (tick_outs (record { number = k; disk = d; live = Some t }) t) (with_coord t (again_all t.coord.doings t.coord).part) d M (one.tick e k d t M h.0) (two.tick e k d t M h.1);
+    restart = λ e k d M h. walks_too e k (restart_outs hd k (d.inc + 1) d) (parts_in k (d.inc + 1) d) d M (one.restart e k d M h.0) (two.restart e k d M h.1);
+    first = (one.first, two.first);
   }

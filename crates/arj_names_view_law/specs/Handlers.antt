@@ -65,15 +65,22 @@ IsSeenAfter o x tops A M = (B : Office) × Changes o A B × SeesBoth x tops B M
 
 -- ---- what is counted on
 
+-- a Record may be noted, whatever the disk half does before
+abbrev pub MayRecord : ℕ → Disk → Naming → Message → Office → Type 0
+MayRecord x d n m A = (h : Head) (y : ℕ) (b : Binding) (i g : ℕ) → asks m ≡ Some (h, ask.Record y b i g) → (B : Office) → B.names ≡ A.names → SeesEntry x d.names B.world.disk → MayNote x y (top_of h.path) g n B
+
+-- a new Confirm names its top's grants, and what the servers' locks give holds of it
+abbrev pub IsForGrants : ℕ → Disk → Naming → Message → Office → Type 0
+IsForGrants x d n m A = (h : Head) (grants : Grants) (excluded included : Marks) → asks m ≡ Some (h, ask.Confirm grants excluded included) → IsNewConfirm h.path grants excluded included d.names n
+    → NamesGrants x A.world.disk A.names (uid_number (top_of h.path)) grants × IsNext A.world.disk (uid_number (top_of h.path))
+
 -- What naming's half counts on at a message to naming: who asks is a top that is its own root or stands behind it; what a Record
--- counts on; a top that has an entry prepared is known as confirmed; a new Confirm names its top's grants, and what the servers'
--- locks give holds of it; and naming has the object.
+-- counts on; a top that has an entry prepared is known as confirmed; what a new Confirm counts on; and naming has the object.
 pub record CountsOn (x : ℕ) (tops : Kinds) (d : Disk) (n : Naming) (m : Message) (A : Office) : Type 0 where
   pub path : (h : Head) (a : Ask) → asks m ≡ Some (h, a) → IsOfTop tops A.world.disk h.path
-  pub recorded : (h : Head) (y : ℕ) (b : Binding) (i g : ℕ) → asks m ≡ Some (h, ask.Record y b i g) → (B : Office) → B.names ≡ A.names → SeesEntry x d.names B.world.disk → MayNote x y (top_of h.path) g n B
+  pub recorded : MayRecord x d n m A
   pub taken : (h : Head) (grants : Grants) (excluded included : Marks) → asks m ≡ Some (h, ask.Confirm grants excluded included) → is_prepared (top_of h.path) d.names ≡ true → is_on n.confirmed (top_of h.path) ≡ true
-  pub confirmed : (h : Head) (grants : Grants) (excluded included : Marks) → asks m ≡ Some (h, ask.Confirm grants excluded included) → IsNewConfirm h.path grants excluded included d.names n
-      → NamesGrants x A.world.disk A.names (uid_number (top_of h.path)) grants × IsNext A.world.disk (uid_number (top_of h.path))
+  pub confirmed : IsForGrants x d n m A
   pub there : is_some (at_number x n.objects) ≡ true
 
 abbrev pub is_voting : Machine → Bool
