@@ -31,12 +31,12 @@ use Rattle.arj_disk_run_law.specs.Part.{Going, HasHeard, IsCarried, KeepsPart, a
 use Rattle.arj_disk_run_law.specs.Kinds.{kinds_of}
 use Rattle.arj_disk_run_law.proofs.Begun.{kinds_agree}
 use Rattle.arj_call_law.specs.Runs.{KnowsFew}
+use Rattle.arj_call_law.proofs.Given.{kept_both, keeps_given}
 use Rattle.arj_call_law.proofs.WholeRuns.{WhileFew, few_go}
 use Rattle.arj_binding_law.proofs.Events.{scripts_few}
 use Rattle.arj_disk_run_law.proofs.Given.{gives_votes}
 use Rattle.arj_disk_run_law.specs.Entries.{HaveEntries}
 use Rattle.arj_disk_run_law.proofs.BothEach.{both_each, with_entries}
-use Rattle.arj_disk_run_law.proofs.EntryKeeps.{both_keep}
 use Rattle.arj_disk_run_law.proofs.Kept.{IsKeptInRun, all_keep}
 use Rattle.arj_disk_run_law.proofs.RecordWalks.{restart_plain}
 use Rattle.arj_line_law.specs.Book.{book, is_decided, is_top, new_book}
@@ -193,7 +193,7 @@ module _ (hd : Header) (x : ℕ) (R G : Seen → Type 0) (P : Kinds → Office �
   lines_too = lines_keep hd
 
   both_too : Keeps hd Both
-  both_too = both_keep hd R IsKept kept lines_too
+  both_too = kept_both hd R IsKept kept (keeps_given hd R IsKept lines_too)
 
   -- who is decided at the end of a step has a branch there
   fresh : (tops : Kinds) (M : Seen) (k : ℕ) (v : Parts) (V : machine.World) (c : Disk) (Z : Seen) → SeesDisks x tops V (up k c v Z) → R (up k c v Z) → IsKept (up k c v Z) → IsStep M (up k c v Z) → (u : Uid) → HasBranch v.coord u → is_decided (book Z.lines) u ≡ true → IsDoneBy Idle V Z.lines u

@@ -39,6 +39,7 @@ use Rattle.arj_names_view_law.proofs.StepsKept.{actions_keep_both, ticks_keep_bo
 use Rattle.arj_run_law.specs.Worlds.{IsGood}
 use Rattle.arj_run_law.proofs.AllRuns.{all_keep as parts_good}
 use Rattle.arj_call_law.specs.Runs.{KnowsFew}
+use Rattle.arj_call_law.proofs.Given.{kept_both, keeps_given}
 use Rattle.arj_call_law.proofs.WholeRuns.{WhileFew, few_go}
 use Rattle.arj_binding_law.proofs.Events.{scripts_few}
 use Rattle.arj_disk_run_law.specs.Entries.{HaveEntries, IsInStep, KnowsEntries}
@@ -47,7 +48,7 @@ use Rattle.arj_disk_run_law.specs.Part.{HoldsAgain, HoldsFrom, IsCarried, KeepsP
 use Rattle.arj_disk_run_law.specs.Runs.{RunsAgree}
 use Rattle.arj_disk_run_law.proofs.Begun.{kinds_agree}
 use Rattle.arj_disk_run_law.proofs.Copies.{copies_agree}
-use Rattle.arj_disk_run_law.proofs.EntryKeeps.{both_keep, keeps_entries}
+use Rattle.arj_disk_run_law.proofs.EntryKeeps.{keeps_entries}
 use Rattle.arj_disk_run_law.proofs.EntryWalks.{mine_of}
 use Rattle.arj_disk_run_law.proofs.Given.{gives_votes}
 use Rattle.arj_disk_run_law.proofs.Kept.{IsKeptInRun, KeepsEach, all_keep}
@@ -113,7 +114,7 @@ both_each hd x R G P parts = record {
 
 -- entries at naming are kept beside, where both halves of the object are seen at first
 pub with_entries : (hd : Header) (x : ℕ) (R S : Seen → Type 0) (P : Kinds → Office → Seen → Type 0) → KeepsPart hd x S P → Keeps hd R → Keeps hd (λ M. R M × HaveEntries x M)
-with_entries hd x R S P parts kept = both_keep hd R (HaveEntries x) kept (keeps_entries x hd there)
+with_entries hd x R S P parts kept = kept_both hd R (HaveEntries x) kept (keeps_given hd R (HaveEntries x) (keeps_entries x hd there))
   where
     none : Agrees (kinds_of []) []
     none = kinds_agree [] tt (λ a w c on. absurd (in_from a [] c))

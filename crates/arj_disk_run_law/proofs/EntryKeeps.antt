@@ -1,11 +1,9 @@
 -- Entries at naming in each run: each handler keeps them, and a format and a restart find them so.
-use Rattle.std.proofs.Common.{◌≡◌, ◌≢◌, ℕ, ◌+◌, ◌==◌, List, [], ◌∷◌, ◌++◌, Bool, true, false, cond, filter, map, not, Option, Some, None, refl, sym, ◌∙◌, ap, subst, inl, inr, ⊎_elim, Contains, eqb-true}
-use Rattle.std.specs.Prelude.{⊤, if◌then◌else◌, is_some, option_map, unwrap_or, ◌||◌}
-use Rattle.std.specs.List.{AllByRecursion, filter_map, flat_map, list_all}
-use Rattle.std.proofs.lemmas.Bool.{and_parts}
-use Rattle.arj_base.proofs.Uids.{uid_cases, uid_is}
-use Rattle.arj_lock.proofs.Members.{In, in_filter, in_filter_map, in_from, in_to}
-use Rattle.arj_protocol.specs.Words.{Uid, Ask, Asked, Binding, End, Head, Header, Message, ObjectLine, ObjectState, Path, Row, ConfirmedReply, asks, entry, is_on, last_uid, object, uid_eq}
+use Rattle.std.proofs.Common.{◌≡◌, ◌≢◌, ℕ, ◌+◌, ◌==◌, List, [], ◌∷◌, ◌++◌, Bool, true, false, cond, filter, map, Option, Some, None, refl, sym, ◌∙◌, ap, subst, inl, inr, eqb-true}
+use Rattle.std.specs.Prelude.{⊤, if◌then◌else◌, is_some, option_map}
+use Rattle.std.specs.List.{flat_map}
+use Rattle.arj_lock.proofs.Members.{In, in_from}
+use Rattle.arj_protocol.specs.Words.{Uid, Ask, Asked, End, Head, Header, Message, ObjectLine, ObjectState, Row, asks, entry, is_on, last_uid, object}
 use Rattle.arj_protocol.specs.Words.ask
 use Rattle.arj_protocol.specs.Words.body
 use Rattle.arj_protocol.specs.Words.confirmed
@@ -13,47 +11,38 @@ use Rattle.arj_protocol.specs.Words.ending
 use Rattle.arj_protocol.specs.Words.loaded
 use Rattle.arj_protocol.specs.Words.message
 use Rattle.arj_protocol.specs.Words.prepared
-use Rattle.arj_protocol.specs.Words.recorded
 use Rattle.arj_protocol.specs.Words.role
-use Rattle.arj_protocol.specs.Words.what
-use Rattle.arj_protocol.specs.Ask.{Reply, actor, answers, asked_by, last_end, response, top_of}
+use Rattle.arj_protocol.specs.Ask.{Reply, actor, answers, asked_by, last_end, response}
 use Rattle.arj_protocol.specs.Asking.{again_all, begin_action, heard}
-use Rattle.arj_protocol.specs.Confirm.{Grants, Marks, back_lines, checked, confirm, confirm_entries, confirm_new, confirms, entries_after, entry_after, entry_state, has_all, lock_all, lock_in, named_back, prepared_by, recovered_naming, same_nodes, stores_after, wanted}
+use Rattle.arj_protocol.specs.Confirm.{back_lines, confirm, recovered_naming}
 use Rattle.arj_protocol.specs.Coord.{Coord}
-use Rattle.arj_protocol.specs.Effect.{did_nothing, Disk, Did, Effect, Say, Send, Do, Work, Look, Pair, Prep, Ready, Already, Old, InDoubt, Prepare, Commit, Abort, PutInc, PutIntent, RemoveIntent, Served, Stop, Before, After, InPart, Intent, held_at, holder_of, is_prepared, moved, moved_some, new_states, pair_committed, pair_in_part, prepare_answer, reply, stopped, void, worked}
+use Rattle.arj_protocol.specs.Effect.{did_nothing, Disk, Effect, Say, Send, Do, Look, Pair, Prep, Ready, Already, Old, InDoubt, Prepare, Commit, Abort, PutInc, Served, Intent, held_at, holder_of, is_prepared, moved, prepare_answer, reply}
 use Rattle.arj_protocol.specs.Ending.{acked, answer_query}
 use Rattle.arj_protocol.specs.Follow.{tick_outs}
-use Rattle.arj_protocol.specs.Named.{Named, bind_named, end_named, hello_named, note_named}
+use Rattle.arj_protocol.specs.Named.{Named, end_named, hello_named}
 use Rattle.arj_protocol.specs.Naming as naming
-use Rattle.arj_protocol.specs.Naming.{Naming, end_locks, taken_end, told_new}
+use Rattle.arj_protocol.specs.Naming.{Naming, taken_end, told_new}
 use Rattle.arj_protocol.specs.Node.{Parts, Handled, Void, Took, ack_told, by_reply, coord_heard, end_states, handle, handle_answer, handle_ask, handle_ends, handle_other, holders, if_naming, is_earlier, load_by, load_held, naming_hello, naming_told, prepare_by, prepared_actions, query_about, sends_answer, serve, served, store_told, with_coord, with_naming, with_server}
-use Rattle.arj_protocol.specs.Order.{at_number, at_uid, drop_uid, each, put_number, put_uid, uid_set, without_number, without_uid}
-use Rattle.arj_protocol.specs.Says.{AreAll, is_coord_effect, is_server_effect}
+use Rattle.arj_protocol.specs.Order.{at_number, at_uid, each, put_uid, uid_set, without_number}
+use Rattle.arj_protocol.specs.Says.{AreAll, is_coord_effect}
 use Rattle.arj_protocol.specs.Server as server
-use Rattle.arj_protocol.specs.Step.{Node, entries_at, first_disk, first_node, hello_to, naming_at, naming_back, numbers_to, parts_in, put_states, recovered_records, restart_outs, tolds_again, acts, parent_of, first_entry}
+use Rattle.arj_protocol.specs.Step.{Node, first_disk, hello_to, naming_at, naming_back, numbers_to, parts_in, put_states, recovered_records, restart_outs, tolds_again, acts, parent_of, first_entry}
 use Rattle.arj_protocol.specs.World.{format, is_serial_kind}
 use Rattle.arj_protocol.proofs.CoordSays.{acked_own, acts_own, again_own, heard_own, query_own, tolds_again_own}
-use Rattle.arj_protocol.proofs.Maps.{put_other as number_other, put_same as number_same}
-use Rattle.arj_protocol.proofs.PartSays.{activate_own, all_both, all_if, ends_own, invoke_own, vote_own}
-use Rattle.arj_protocol.proofs.RowSteps.{one_or_two}
-use Rattle.arj_part_law.proofs.Keys.{with_on}
-use Rattle.arj_part_law.proofs.Pairs.{each_at, moved_names, moved_stays}
-use Rattle.arj_disk_law.proofs.Base.{never, never_some, some_is}
+use Rattle.arj_protocol.proofs.PartSays.{activate_own, ends_own, invoke_own, vote_own}
+use Rattle.arj_part_law.proofs.Pairs.{moved_names}
+use Rattle.arj_disk_law.proofs.Base.{never_some, some_is}
 use Rattle.arj_view_law.specs.Keeps.{Keeps}
-use Rattle.arj_view_law.specs.Seen.{Seen, at, down, given, posted, said, see, up}
-use Rattle.arj_view_law.specs.Walks.{Walks, Up, halted}
-use Rattle.arj_view_law.proofs.Together.{walks_both}
-use Rattle.arj_disk_view_law.specs.Pairs.{AreSorted}
-use Rattle.arj_disk_view_law.proofs.ConfirmWalks.{locks_say}
+use Rattle.arj_view_law.specs.Seen.{Seen, at, down, given, see, up}
+use Rattle.arj_view_law.specs.Walks.{Walks, Up}
 use Rattle.arj_disk_view_law.proofs.FirstSeen.{first_at}
-use Rattle.arj_disk_view_law.proofs.Keys as keys
 use Rattle.arj_disk_view_law.proofs.HeardWalks.{is_say}
 use Rattle.arj_disk_view_law.proofs.ServedWalks.{bind_says, note_says}
 use Rattle.arj_names_view_law.proofs.EndActs.{drop_stays}
-use Rattle.arj_names_view_law.proofs.EntriesLeft.{Whole_outs, left_both, left_was, names_left, names_worked, outs_gone, outs_none, prepares_none, worked_names}
+use Rattle.arj_names_view_law.proofs.EntriesLeft.{Whole_outs, left_both, left_was, names_left, outs_gone, outs_none}
 use Rattle.arj_names_view_law.proofs.RestartActs.{found_there, is_on_pend, prepared_in}
 use Rattle.arj_disk_run_law.proofs.EntryWalks.{LeftBy, Leaves, Stays, all_prepare, bind_stays, confirm_leaves, coord_leaves, each_stays, entries_walk, leaves_both, leaves_prepare, left_alone, left_same, mine_of, none_prepare, note_stays, others_of, queries_leave, quiet_walk, says_leave, server_leaves, stays_known, stop_entries}
-use Rattle.arj_disk_run_law.specs.Entries.{AreOfEntries, HasEntries, HaveEntries, IsEntryNode, IsInStep, KnowsEntries}
+use Rattle.arj_disk_run_law.specs.Entries.{HasEntries, HaveEntries, IsEntryNode, IsInStep, KnowsEntries}
 
 module _ (x : ℕ) where
   -- ---- messages at the naming node
@@ -323,24 +312,4 @@ module _ (x : ℕ) where
     tick = λ e k d t M have. let r = again_all t.coord.doings t.coord in quiet_walk x e k d t (with_coord t r.part) (tick_outs (record { number = k; disk = d; live = Some t }) t) M (tick_leaves k d t) refl have;
     restart = λ e k d M have. restart_entries hd e k d M have;
     first = first_entries hd there;
-  }
-
--- ---- two relations
-
--- what each handler keeps of two relations it keeps of both
-module _ (hd : Header) (P Q : Seen → Type 0) (one : Keeps hd P) (two : Keeps hd Q) where
-  walks_too : (e k : ℕ) (outs : List Effect) (v : Parts) (d : Disk) (M : Seen) → Walks P e k outs (Up P k v) d M → Walks Q e k outs (Up Q k v) d M → Walks (λ M. P M × Q M) e k outs (Up (λ M. P M × Q M) k v) d M
-  walks_too e k outs v d M a b = walks_both P Q e k outs (Up P k v) (Up Q k v) d M a b
-
-  pub both_keep : Keeps hd (λ M. P M × Q M)
-  both_keep = record {
-    quiet = λ e bs M quiet h. (one.quiet e bs M quiet h.0, two.quiet e bs M quiet h.1);
-    stop = λ e k d live M h. (one.stop e k d live M h.0, two.stop e k d live M h.1);
-    message = λ e k d t v from m outs M h sent meant is. walks_too e k outs v d M (one.message e k d t v from m outs M h.0 sent meant is) (two.message e k d t v from m outs M h.1 sent meant is);
-    act = λ e k d t i M is free h. let did = acts i d.intents t.coord in walks_too e k did.outs (with_coord t did.part) d M (one.act e k d t i M is free h.0) (two.act e k d t i M is free h.1);
-    begin = λ e k d t l how parent M new may free h. let did = begin_action l how parent (parent_of parent t.coord) t.coord in
-        walks_too e k did.outs (with_coord t did.part) d (given l (record { node = k; serial = is_serial_kind how }) M) (one.begin e k d t l how parent M new may free h.0) (two.begin e k d t l how parent M new may free h.1);
-    tick = λ e k d t M h. walks_too e k (tick_outs (record { number = k; disk = d; live = Some t }) t) (with_coord t (again_all t.coord.doings t.coord).part) d M (one.tick e k d t M h.0) (two.tick e k d t M h.1);
-    restart = λ e k d M h. walks_too e k (restart_outs hd k (d.inc + 1) d) (parts_in k (d.inc + 1) d) d M (one.restart e k d M h.0) (two.restart e k d M h.1);
-    first = (one.first, two.first);
   }

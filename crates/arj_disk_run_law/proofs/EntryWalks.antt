@@ -1,55 +1,40 @@
 -- Entries at naming, under each handler.
-use Rattle.std.proofs.Common.{◌≡◌, ◌≢◌, ◌⊎◌, ℕ, ◌+◌, ◌==◌, List, [], ◌∷◌, ◌++◌, Bool, true, false, cond, filter, map, not, Option, Some, None, refl, sym, ◌∙◌, ap, subst, inl, inr, ⊎_elim, Contains}
-use Rattle.std.specs.Prelude.{if◌then◌else◌, is_some, option_map, unwrap_or, ◌||◌}
-use Rattle.std.specs.List.{AllByRecursion, filter_map, flat_map, list_all}
+use Rattle.std.proofs.Common.{◌≡◌, ◌⊎◌, ℕ, ◌+◌, ◌==◌, List, [], ◌∷◌, ◌++◌, Bool, true, false, cond, filter, map, not, Option, Some, None, refl, sym, ◌∙◌, ap, subst, inl, inr, ⊎_elim}
+use Rattle.std.specs.Prelude.{if◌then◌else◌, is_some, unwrap_or, ◌||◌}
+use Rattle.std.specs.List.{AllByRecursion, list_all}
 use Rattle.std.proofs.lemmas.Bool.{and_parts}
-use Rattle.arj_base.proofs.Uids.{uid_cases, uid_is}
 use Rattle.arj_lock.proofs.Members.{In, in_filter, in_filter_map, in_from, in_to}
-use Rattle.arj_protocol.specs.Words.{Uid, Ask, Asked, Binding, End, Head, Header, Message, ObjectState, Path, Row, ConfirmedReply, asks, entry, is_on, last_uid, nobody, object, uid_eq}
-use Rattle.arj_protocol.specs.Words.ask
+use Rattle.arj_protocol.specs.Words.{Uid, Binding, ObjectState, Path, ConfirmedReply, entry, is_on, nobody}
 use Rattle.arj_protocol.specs.Words.body
 use Rattle.arj_protocol.specs.Words.confirmed
-use Rattle.arj_protocol.specs.Words.ending
-use Rattle.arj_protocol.specs.Words.loaded
 use Rattle.arj_protocol.specs.Words.message
 use Rattle.arj_protocol.specs.Words.mode
-use Rattle.arj_protocol.specs.Words.prepared
 use Rattle.arj_protocol.specs.Words.recorded
 use Rattle.arj_protocol.specs.Words.role
 use Rattle.arj_protocol.specs.Words.what
-use Rattle.arj_protocol.specs.Ask.{Reply, actor, answers, asked_by, last_end, response, top_of}
-use Rattle.arj_protocol.specs.Asking.{again_all, begin_action, heard}
-use Rattle.arj_protocol.specs.Confirm.{Grants, Marks, back_lines, checked, confirm, confirm_entries, confirm_new, confirms, entries_after, entry_after, entry_state, has_all, lock_all, lock_in, named_back, prepared_by, recovered_naming, same_nodes, stores_after, wanted}
-use Rattle.arj_protocol.specs.Coord.{Coord}
-use Rattle.arj_protocol.specs.Effect.{Disk, Did, Effect, Say, Send, Do, Work, Look, Pair, Prep, Ready, Already, Old, InDoubt, Prepare, Commit, Abort, PutInc, PutIntent, RemoveIntent, Served, Stop, Before, After, InPart, Intent, held_at, holder_of, is_prepared, moved, moved_some, new_states, pair_committed, pair_in_part, prepare_answer, reply, stopped, void, worked}
-use Rattle.arj_protocol.specs.Ending.{acked, answer_query}
-use Rattle.arj_protocol.specs.Follow.{tick_outs}
-use Rattle.arj_protocol.specs.Named.{Named, bind_named, end_named, hello_named, note_named}
+use Rattle.arj_protocol.specs.Ask.{top_of}
+use Rattle.arj_protocol.specs.Confirm.{Grants, Marks, checked, confirm, confirm_entries, confirm_new, confirms, entries_after, entry_after, entry_state, has_all, lock_all, lock_in, prepared_by, same_nodes, stores_after, wanted}
+use Rattle.arj_protocol.specs.Effect.{Disk, Did, Effect, Say, Send, Do, Work, Look, Pair, Prep, Ready, Already, Old, InDoubt, Prepare, Commit, Abort, PutInc, PutIntent, RemoveIntent, Served, Stop, Before, After, InPart, held_at, is_prepared, moved, moved_some, new_states, pair_in_part, prepare_answer, reply, stopped, void, worked}
+use Rattle.arj_protocol.specs.Named.{Named, bind_named, note_named}
 use Rattle.arj_protocol.specs.Naming as naming
-use Rattle.arj_protocol.specs.Naming.{Naming, end_locks, is_over, listed_entry, on_counted, on_named, taken_end}
-use Rattle.arj_protocol.specs.Node.{Parts, Handled, Void, Took, ack_told, by_reply, coord_heard, end_states, handle, handle_answer, handle_ask, handle_ends, handle_other, holders, if_naming, is_earlier, load_by, load_held, naming_hello, naming_told, prepare_by, prepared_actions, query_about, sends_answer, serve, store_told, with_coord, with_naming, with_server}
-use Rattle.arj_protocol.specs.Order.{at_number, at_uid, drop_uid, each, put_number, put_uid, uid_set, without_number, without_uid}
+use Rattle.arj_protocol.specs.Naming.{Naming, is_over, listed_entry, on_counted, on_named}
+use Rattle.arj_protocol.specs.Node.{Parts, query_about}
+use Rattle.arj_protocol.specs.Order.{at_number, at_uid, each, put_number, put_uid, without_uid}
 use Rattle.arj_protocol.specs.Says.{AreAll, is_coord_effect, is_server_effect}
-use Rattle.arj_protocol.specs.Server as server
-use Rattle.arj_protocol.specs.Step.{Node, entries_at, first_disk, first_node, hello_to, naming_at, naming_back, numbers_to, parts_in, put_states, recovered_records, restart_outs, tolds_again}
+use Rattle.arj_protocol.specs.Step.{Node}
 use Rattle.arj_protocol.specs.Values.{state_entry}
-use Rattle.arj_protocol.proofs.CoordSays.{acked_own, acts_own, again_own, heard_own, query_own, tolds_again_own}
 use Rattle.arj_protocol.proofs.Maps.{put_other as number_other, put_same as number_same}
-use Rattle.arj_protocol.proofs.PartSays.{activate_own, all_both, all_if, ends_own, invoke_own, vote_own}
+use Rattle.arj_protocol.proofs.PartSays.{all_both}
 use Rattle.arj_protocol.proofs.RowSteps.{one_or_two}
 use Rattle.arj_part_law.proofs.Keys.{with_on}
 use Rattle.arj_part_law.proofs.Pairs.{each_at, moved_names, moved_stays}
-use Rattle.arj_disk_law.proofs.Base.{never, never_some, some_is}
-use Rattle.arj_view_law.specs.Seen.{Seen, at, down, posted, said, up}
+use Rattle.arj_disk_law.proofs.Base.{some_is}
+use Rattle.arj_view_law.specs.Seen.{Seen, at, posted, said, up}
 use Rattle.arj_view_law.specs.Walks.{Walks, Up, halted}
-use Rattle.arj_disk_view_law.specs.Pairs.{AreSorted}
 use Rattle.arj_disk_view_law.proofs.ConfirmWalks.{locks_say}
 use Rattle.arj_disk_view_law.proofs.Keys as keys
 use Rattle.arj_disk_view_law.proofs.HeardWalks.{is_say}
-use Rattle.arj_disk_view_law.proofs.ServedWalks.{bind_says, note_says}
-use Rattle.arj_names_view_law.proofs.EndActs.{drop_stays}
-use Rattle.arj_names_view_law.proofs.EntriesLeft.{Whole_outs, left_both, left_was, names_left, names_worked, outs_gone, outs_none, prepares_none, worked_names}
-use Rattle.arj_names_view_law.proofs.RestartActs.{found_there, is_on_pend}
+use Rattle.arj_names_view_law.proofs.EntriesLeft.{left_both, names_left, names_worked, prepares_none, worked_names}
 use Rattle.arj_disk_run_law.specs.Entries.{AreOfEntries, HasEntries, HaveEntries, IsEntryNode, IsInStep, KnowsEntries, PreparesEntries}
 
 -- ---- effects that leave entries as they are

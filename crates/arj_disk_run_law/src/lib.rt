@@ -4,8 +4,8 @@
 //! (`arj_disk_view_law`), and naming's half beside it, of one state of the machine (`arj_names_view_law`). The kinds of actions that the
 //! view takes as fixed are those of the actions that were begun (`specs/Kinds.antt`): the object is seen for every kinds that agree with
 //! them, so that a later action may have any. What the view takes of the protocol alone is shown here: of records, of who was begun, of
-//! the paths of requests, and of commits under way. What servers vote `arj_call_law` has, while few bindings were made, as in the run of
-//! every script (`arj_binding_law`). One thing is taken as known: a relation, kept beside the machine's state, of what coordinators have
+//! the paths of requests, of entries at naming, and of commits under way. What servers vote `arj_call_law` has, while few bindings were
+//! made, as in the run of every script (`arj_binding_law`). One thing is taken as known: a relation, kept beside the machine's state, of what coordinators have
 //! of naming's answers and what messages claim of them (`specs/Part.antt`), by which commits begin and Confirms are booked. It
 //! gives upward `runs_keep_the_disk_half`.
 #![tactic(auto)]
