@@ -1,28 +1,33 @@
 -- A coordinator is seen whole beside what others do.
-use Rattle.std.proofs.Common.{◌≡◌, ◌≢◌, ◌⊎◌, ◌∙◌, ◌*◌, ℕ, Some, refl, sym, ap, subst, inl, ⊎_elim}
+use Rattle.std.proofs.Common.{◌≡◌, ◌≢◌, ◌⊎◌, ◌∙◌, ◌*◌, ◌≤◌, ◌<◌, ℕ, Option, Some, None, refl, sym, ap, subst, inl, inr, ⊎_elim}
 use Rattle.arj_protocol.specs.Words.{Binding, Op, Uid}
 use Rattle.arj_protocol.specs.Ask.{top_of}
 use Rattle.arj_protocol.specs.Call.{At, AtActivate, AtBind, AtInvoke, AtLoad, AtNote, Known, Steps}
 use Rattle.arj_protocol.specs.Coord.{Coord, Keeping, Root, keeping_of, kept_of, root_at}
-use Rattle.arj_protocol.specs.Tree.{Branch, Tree, branch_of, root_of}
-use Rattle.arj_lock_law.specs.Actions.{Act, In, Root as Unit, is_action, root}
+use Rattle.arj_protocol.specs.Order.{binding_number}
+use Rattle.arj_protocol.specs.Tree.{Tree, root_of}
+use Rattle.arj_protocol.specs.Values.{state_value}
+use Rattle.arj_lock_law.specs.Actions.{Act, In, Root as Unit, root}
 use Rattle.arj_lock_law.specs.Machine.{Run}
 use Rattle.arj_lock_law.specs.State as machine
 use Rattle.arj_lock_law.specs.State.{Include, State}
+use Rattle.arj_lock_law.proofs.Claims.{Holds}
 use Rattle.arj_lock_view_law.specs.Acts.{Acts}
 use Rattle.arj_lock_view_law.specs.Actions.{IsHere, IsIdle, SeesAction, SeesActions}
 use Rattle.arj_lock_view_law.specs.Calling.{IsReached, OnlyCalled}
 use Rattle.arj_lock_view_law.specs.Copies.{Codes}
+use Rattle.arj_lock_view_law.specs.Going.{OnlyNaming}
 use Rattle.arj_lock_view_law.specs.Inputs.{OnlyEnded, SeesWhole}
-use Rattle.arj_lock_view_law.specs.Outside.{CallsElsewhere, EndsElsewhere, IncludesElsewhere, IsAway, ServersElsewhere}
-use Rattle.arj_lock_view_law.specs.Roots.{SeesCoord, SeesRoot}
+use Rattle.arj_lock_view_law.specs.Outside.{CallsElsewhere, EndsElsewhere, IncludesElsewhere, IsAway, NamingElsewhere, ServersElsewhere}
+use Rattle.arj_lock_view_law.specs.Roots.{HasHeard, IsMadeFor, SeesCoord, SeesKeeping, SeesKept, SeesRoot, SeesStep, invoke_of}
+use Rattle.arj_lock_view_law.proofs.AskSteps.{named_stays, server_stays}
 use Rattle.arj_lock_view_law.proofs.BesideSteps.{coords_stay_seen}
-use Rattle.arj_lock_view_law.proofs.EverSteps.{ever}
+use Rattle.arj_lock_view_law.proofs.EverSteps.{ever, reached_kept}
 use Rattle.arj_lock_view_law.proofs.IncludeSteps.{nobody}
 use Rattle.arj_lock_view_law.proofs.InputSteps.{whole_stays}
 use Rattle.arj_lock_view_law.proofs.MoveSteps.{moves_none}
 use Rattle.arj_lock_view_law.proofs.PlanSteps.{commits_stay_seen}
-use Rattle.arj_lock_view_law.proofs.RootSteps.{heard_later, keeping_later, step_later}
+use Rattle.arj_lock_view_law.proofs.RootSteps.{heard_later, keeping_later, knows_later, step_later}
 use Rattle.arj_lock_view_law.proofs.WholeSteps.{stays_coord}
 
 -- a coordinator that did nothing is seen whole where it is seen, and no include has a line
@@ -100,6 +105,65 @@ includes_elsewhere act code x unit c S T reached run away only fresh whole = rec
   commits = λ u d k works is. commits_stay_seen x (act u) k S T reached run (whole.commits u d k works is);
   units = λ u b found own over. ap (λ (s : State). (s.action (Unit (root (act u)))).stage) only ∙ whole.units u b found own over;
 }
+
+-- ---- naming
+
+module _ (act : Acts) (code : Codes) (x : ℕ) (c : Coord) (S T : State) (reached : IsReached S) (run : Run S T) (only : OnlyNaming S T) (sees : SeesCoord act code x c S) where
+  its : Holds S
+  its = let k = reached_kept S reached in k.holds
+
+  made_below : (m : Act) (b : ℕ) → In (machine.Made m b) S.net → b < S.naming.bound
+  made_below m b i = let k = its.mail (machine.Made m b) i in k.3
+
+  kept_named : (unit : ℕ) (k : Known) → SeesKept unit k S → SeesKept unit k T
+  kept_named unit k s = record {
+    kept = ap (λ (q : State). q.kept unit) only.rest ∙ s.kept;
+    server = server_stays S T reached run k.binding k.server below s.server;
+    named = λ i is. named_stays S T reached run k.binding i (s.named i is);
+    unnamed = λ none. (let u = s.unnamed none in let e = only.bindings (binding_number k.binding) below in (ap (λ (b : machine.Binding). b.named) e ∙ u.0, ap (λ (b : machine.Binding). root b.maker) e ∙ u.1));
+    recorded = λ is. (let r = s.recorded is in (knows_later S T (binding_number k.binding) only.sent r.0, r.1));
+  }
+    where
+      below : binding_number k.binding < S.naming.bound
+      below = subst (λ (b : ℕ). b < S.naming.bound) s.kept (let n = its.naming in n.kept_below unit)
+
+  keeping_named : (unit : ℕ) (o : Option Known) (avoid : Binding) → SeesKeeping unit o avoid S → SeesKeeping unit o avoid T
+  keeping_named unit None avoid s = subst (λ (k : ℕ). k ≤ binding_number avoid) (sym (ap (λ (q : State). q.kept unit) only.rest)) s
+  keeping_named unit (Some k) avoid s = kept_named unit k s
+
+  heard_named : (m : Act) (b : ℕ) → HasHeard m b S → HasHeard m b T
+  heard_named m b (inl i) = inl (only.sent (machine.Live m b) i)
+  heard_named m b (inr i) = inr (only.sent (machine.Made m b) i)
+
+  made_named : (m : Act) (k : Known) → IsMadeFor m k S → IsMadeFor m k T
+  made_named m k h = (only.sent (machine.Made m (binding_number k.binding)) h.0, server_stays S T reached run k.binding k.server (made_below m (binding_number k.binding) h.0) h.1)
+
+  step_named : (s : Steps) (o : Op) (kp : Keeping) (a : At) → SeesStep act code s o kp S a → SeesStep act code s o kp T a
+  step_named s o kp (AtBind avoid) h = h
+  step_named s o kp (AtLoad k n rest) h = (h.0, made_named (act (top_of s.path)) k h.1)
+  step_named s o kp (AtActivate k st) h = (h.0, made_named (act (top_of s.path)) k h.1, only.sent (machine.Activate (binding_number k.binding) (code (state_value st))) h.2)
+  step_named s o kp (AtNote k i) h = (h.0, made_named (act (top_of s.path)) k h.1, named_stays S T reached run k.binding i h.2)
+  step_named s o kp (AtInvoke k i) h = (h.0, server_stays S T reached run k.binding k.server (let n = its.bindings (binding_number k.binding) h.2.0 in n.below) h.1, named_stays S T reached run k.binding i h.2, only.sent (machine.Invoke (invoke_of act s o k)) h.3)
+
+  same_calls : T.calls ≡ S.calls
+  same_calls = ap (λ (q : State). q.calls) only.rest
+
+  coord_named : SeesCoord act code x c T
+  coord_named = record {
+    actions = subst (SeesActions act x c) (sym (ap (λ (q : State). q.action) only.rest)) sees.actions;
+    roots = λ u b found own. (let r = root_at u c in let s = sees.roots u b found own in record {
+      keeping = keeping_named (root (act u)) (kept_of x r) (let k = keeping_of x r in k.avoid) s.keeping;
+      spent = s.spent;
+      said = λ z there of. (let q = s.said z there of in record { branch = q.branch; there = q.there; path = q.path; of = q.of; call = q.call; called = subst (In q.call) (sym same_calls) q.called; by = q.by });
+      calls = λ d i home. s.calls d (subst (In d) same_calls i) home;
+      heard = λ g b there of named. heard_named (act g.top) (binding_number b) (s.heard g b there of named);
+    });
+    calls = λ u d st o works calling about goal. step_named st o (keeping_of x (root_at (root_of st.path) c)) st.at (sees.calls u d st o works calling about goal);
+    plain = sees.plain;
+  }
+
+pub naming_elsewhere : NamingElsewhere
+naming_elsewhere act code x c S T reached run only whole = still_whole act code x c S T reached run whole (ap (λ (s : State). s.includes) only.rest) (coord_named act code x c S T reached run only whole.coord)
 
 -- ---- a server
 

@@ -9,6 +9,7 @@ use Rattle.arj_lock_law.specs.State.{Include, State}
 use Rattle.arj_lock_view_law.specs.Acts.{Acts}
 use Rattle.arj_lock_view_law.specs.Calling.{IsReached, OnlyCalled}
 use Rattle.arj_lock_view_law.specs.Copies.{Codes}
+use Rattle.arj_lock_view_law.specs.Going.{OnlyNaming}
 use Rattle.arj_lock_view_law.specs.Handling.{OnlyServing}
 use Rattle.arj_lock_view_law.specs.Including.{OnlyIncluded}
 use Rattle.arj_lock_view_law.specs.Inputs.{OnlyEnded, SeesWhole}
@@ -30,6 +31,10 @@ CallsElsewhere = (act : Acts) (code : Codes) (x unit : ℕ) (c : Coord) (S T : S
 abbrev pub IncludesElsewhere : Type 0
 IncludesElsewhere = (act : Acts) (code : Codes) (x unit : ℕ) (c : Coord) (S T : State)
     → IsReached S → Run S T → IsAway act unit c → OnlyIncluded S T → ((k : Include) → In k T.includes → In k S.includes ⊎ (root k.act ≡ unit)) → SeesWhole act code x c S → SeesWhole act code x c T
+
+-- naming takes a Bind, a Record, an end, or starts again,
+abbrev pub NamingElsewhere : Type 0
+NamingElsewhere = (act : Acts) (code : Codes) (x : ℕ) (c : Coord) (S T : State) → IsReached S → Run S T → OnlyNaming S T → SeesWhole act code x c S → SeesWhole act code x c T
 
 -- and a node's server takes a message.
 abbrev pub ServersElsewhere : Type 0

@@ -5,7 +5,7 @@ ghost use Rattle.arj_lock_view_law.specs.Begins.{ActionsBegin, NewCoordsAreSeen}
 ghost use Rattle.arj_lock_view_law.specs.Calling.{AnswersAreTaken, CallsAreGivenUp, CallsBegin, IncludesBegin, OtherAnswersAreTaken, OtherCallsAreGivenUp, OtherCallsBegin};
 ghost use Rattle.arj_lock_view_law.specs.Including.{IncludeAnswersAreTaken};
 ghost use Rattle.arj_lock_view_law.specs.Inputs.{AcksAreTaken, ActionsAreAborted, BeginsAreTaken, CallAnswersAreHeard, CallsAreLost, CallsAreMade, CommitAnswersAreHeard, CommitsAreLost, DoomedCommitsAreTaken, IncludeAnswersAreHeard, IncludesAreMade, NestedCommitsAreTaken, OtherAnswersAreHeard, OtherCallsAreLost, RestartsAreTaken, StopsAreTaken, TicksAreTaken, TopCommitsAreTaken};
-ghost use Rattle.arj_lock_view_law.specs.Outside.{CallsElsewhere, EndsElsewhere, IncludesElsewhere, ServersElsewhere};
+ghost use Rattle.arj_lock_view_law.specs.Outside.{CallsElsewhere, EndsElsewhere, IncludesElsewhere, NamingElsewhere, ServersElsewhere};
 ghost use Rattle.arj_lock_view_law.specs.Plans.{CommitAnswersAreTaken, CommitRequestsAreShown, CommitsAreGivenUp, CommitsSetOut, CommitsStaySeen};
 ghost use Rattle.arj_lock_view_law.specs.Stops.{AbortionsGoDown, RecordsAreFound, RestartedCoordsAreSeen, StopsAreSeen, StopsStay};
 ghost use Rattle.arj_lock_view_law.specs.Whole.{CommitsKeepRoots, DecisionsKeepRoots, EndsKeepRoots, UnitsKeepRoots};
@@ -120,11 +120,12 @@ pub fn coordinators_are_seen()
     ensures restarts { RestartsAreTaken }
 {}
 
-/// What others do keeps a coordinator seen whole: where actions of a unit in which it has none end, call the object or include it, and
-/// where a node's server takes a message. It does nothing when it runs.
+/// What others do keeps a coordinator seen whole: where actions of a unit in which it has none end, call the object or include it, where
+/// naming takes a message or starts again, and where a node's server takes a message. It does nothing when it runs.
 pub fn coordinators_stay_whole()
     ensures ends { EndsElsewhere }
     ensures calls { CallsElsewhere }
     ensures includes { IncludesElsewhere }
+    ensures naming { NamingElsewhere }
     ensures servers { ServersElsewhere }
 {}

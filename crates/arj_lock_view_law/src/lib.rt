@@ -18,7 +18,7 @@
 //! `specs/Whole.antt`), one by one or many at once, as by an abort, a stop and a restart (`specs/Stops.antt`); what its roots keep
 //! (`specs/Roots.antt`), how its calls go (`specs/Calling.antt`) and its includes (`specs/Including.antt`), how the commit of a top goes
 //! and what it asks (`specs/Plans.antt`), what requests show for ever (`specs/Asks.antt`), and the whole of it at each input and each answer
-//! (`specs/Inputs.antt`).
+//! (`specs/Inputs.antt`), which stays seen beside what others do (`specs/Outside.antt`).
 #![tactic(auto)]
 
 mod coord;
@@ -27,8 +27,8 @@ mod server;
 
 pub use coord::{
     actions_begin, calls_at_coordinators_are_seen, commits_go_on, coordinators_are_seen,
-    coordinators_stay_whole, ends_at_coordinators_are_seen, ends_keep_roots, includes_are_seen, many_end_at_coordinators,
-    other_calls_are_nothing, requests_are_shown,
+    coordinators_stay_whole, ends_at_coordinators_are_seen, ends_keep_roots, includes_are_seen,
+    many_end_at_coordinators, other_calls_are_nothing, requests_are_shown,
 };
 pub use naming::{
     binds_are_seen, ends_are_seen, excludes_are_seen, hellos_are_seen, records_are_seen,
