@@ -194,7 +194,7 @@ behind_more (x ∷ us) u v w on = by (uid_eq x u) (λ e. behind_more us u v w e)
 
 module _ (paths : Paths) (tree : IsTree paths) (t : Tree) (lists : HasLists paths t) where
   -- who is behind an action on a path is below it
-  behind_below : (u : Uid) (k : ℕ) (v : Uid) (b : Branch) → length (paths v) ≤ k → branch_of v t ≡ Some b → (w : Uid) → is_on (behind u (paths v)) w ≡ true → (d : Branch) × (branch_of w t ≡ Some d) × (is_on (paths w) u ≡ true) × (w ≢ u)
+  pub behind_below : (u : Uid) (k : ℕ) (v : Uid) (b : Branch) → length (paths v) ≤ k → branch_of v t ≡ Some b → (w : Uid) → is_on (behind u (paths v)) w ≡ true → (d : Branch) × (branch_of w t ≡ Some d) × (is_on (paths w) u ≡ true) × (w ≢ u)
   behind_below u zero v b short found w on = absurd (none (paths v) short on)
     where
       none : (us : List Uid) → length us ≤ 0 → is_on (behind u us) w ≡ true → ⊥

@@ -48,7 +48,7 @@ first_front (u ∷ w ∷ us) h is = refl
 
 module _ (paths : Paths) (tree : IsTree paths) (t : Tree) (lists : HasLists paths t) where
   -- who is on a path has its root
-  root_same : (u : Uid) (k : ℕ) (v : Uid) (b : Branch) → length (paths v) ≤ k → branch_of v t ≡ Some b → is_on (paths v) u ≡ true → first_uid (paths v) ≡ first_uid (paths u)
+  pub root_same : (u : Uid) (k : ℕ) (v : Uid) (b : Branch) → length (paths v) ≤ k → branch_of v t ≡ Some b → is_on (paths v) u ≡ true → first_uid (paths v) ≡ first_uid (paths u)
   root_same u zero v b short found on = absurd (none (paths v) short on)
     where
       none : (us : List Uid) → length us ≤ 0 → is_on us u ≡ true → ⊥

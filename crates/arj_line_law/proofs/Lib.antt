@@ -21,3 +21,4 @@ pub mod Closed
 pub mod Idles
 pub mod Nothing
 pub mod Owners
+pub mod UsedObjects

@@ -5,3 +5,4 @@ pub mod Laws
 pub mod Right
 pub mod Paths
 pub mod Whose
+pub mod Plans

@@ -1,16 +1,19 @@
 // Tops, by a journal and by their coordinators.
-ghost use Rattle.std.specs.Prelude.{◌≡◌, ◌++◌, ℕ, List, Contains};
+ghost use Rattle.std.specs.Prelude.{◌≡◌, ◌++◌, ℕ, List, Some, Contains};
 ghost use Rattle.arj_base.specs.declared.uid.Uid.{Uid};
 ghost use Rattle.arj_journal.specs.declared.body.Line.{Line};
 ghost use Rattle.arj_journal.specs.declared.header.Header.{Header};
 ghost use Rattle.arj_model.specs.Actions.{Act, acts};
+ghost use Rattle.arj_protocol.specs.Coord.{plan_for, root_at};
 ghost use Rattle.arj_protocol.specs.Effect.{Disk};
 ghost use Rattle.arj_protocol.specs.Node.{Parts};
+ghost use Rattle.arj_protocol.specs.Tree.{Branch, branch_of, root_of};
 ghost use Rattle.arj_protocol.specs.World.{Asked, format, journal, run_all};
 ghost use Rattle.arj_line_law.specs.Book.{book, new_book};
 ghost use Rattle.arj_line_law.specs.Idle.{BeginningsAreTimely, BelowCommitsIsOver, HasNothing, IsIdle, IsLeftAlone};
 ghost use Rattle.arj_line_law.specs.Knows.{IsKept};
 ghost use Rattle.arj_line_law.specs.Laws.{IsDone};
+ghost use Rattle.arj_line_law.specs.Plans.{UsesWhatIsLeft};
 ghost use Rattle.arj_line_law.specs.Right.{AreRight};
 ghost use Rattle.arj_line_law.specs.Whose.{HasOwners, HaveNodes};
 ghost use Rattle.arj_view_law.specs.Seen.{Seen, up};
@@ -39,4 +42,11 @@ pub fn decisions_have_owners()
     ensures lines { (lines : List Line) → AreRight new_book lines → HasOwners lines }
     ensures runs { (hd : Header) (es : List Asked) → HasOwners (journal hd es) }
     ensures nodes { (hd : Header) (es : List Asked) → HaveNodes (run_all es (format hd)) }
+{}
+
+/// At each moment of a run, of each action that a coordinator which is up has: the plan that its commit begins with uses the objects of
+/// the accesses that survive in it by the journal; and each object that it uses is that of one that survives in it, or that its
+/// serializing action retains. It does nothing when it runs.
+pub fn plans_use_what_is_left()
+    ensures { (k : ℕ) (d : Disk) (t : Parts) (M : Seen) → IsKept (up k d t M) → (u : Uid) (b : Branch) → branch_of u t.coord.tree ≡ Some b → (req : ℕ) → UsesWhatIsLeft (book M.lines) t.coord u (plan_for b.path req (root_at (root_of b.path) t.coord) t.coord) }
 {}

@@ -9,13 +9,17 @@
 //! It stands on good nodes in every run (`arj_run_law`), and takes from `arj_coord_law` the labels of coordinators and who takes
 //! part in their commits. What it gives upward: `journals_are_right`, and in the words of `arj_model` (`specs/Laws.antt`)
 //! `journals_are_sound` and `nodes_agree_with_journals`; `paths_are_those_of_journals` (`specs/Paths.antt`); of tops
-//! (`specs/Idle.antt`) `commits_close_what_is_below` and `idle_tops_have_nothing`; and `decisions_have_owners` (`specs/Whose.antt`).
+//! (`specs/Idle.antt`) `commits_close_what_is_below` and `idle_tops_have_nothing`; `decisions_have_owners` (`specs/Whose.antt`); and
+//! `plans_use_what_is_left` (`specs/Plans.antt`).
 #![tactic(auto)]
 
 mod below;
 mod lines;
 
-pub use below::{commits_close_what_is_below, decisions_have_owners, idle_tops_have_nothing};
+pub use below::{
+    commits_close_what_is_below, decisions_have_owners, idle_tops_have_nothing,
+    plans_use_what_is_left,
+};
 pub use lines::{
     journals_are_right, journals_are_sound, nodes_agree_with_journals, paths_are_those_of_journals,
 };
