@@ -65,7 +65,7 @@ IsThere (Some k) = ⊤
 abbrev pub KeepsCalled : Uid → Root → Coord → Type 0
 KeepsCalled top r c = (x : ℕ) → is_called x top r c ≡ true → IsThere (kept_of x r)
 
--- Past its Bind a call stands on what the root keeps of the object; an include doesn't go past its Load.
+-- Past its Bind a call is on an object of which its root keeps a binding; an include doesn't go past its Load.
 abbrev pub StandsOn : Goal → Option Known → At → Type 0
 StandsOn g kept (AtBind avoid) = ⊤
 StandsOn (Run o) kept at = IsThere kept

@@ -5,8 +5,8 @@ ghost use Rattle.arj_protocol.specs.World.{Asked, format, run_all};
 ghost use Rattle.arj_view_law.specs.Keeps.{Holds};
 ghost use Rattle.arj_address_law.specs.Binds.{BindsAreKnown};
 
-/// In every run a call that is past its Bind stands on what its root keeps of the object; of an object that was called a root keeps
-/// a binding, as long as no action on the call's path was aborted; and who is answered a Bind asked for it, a call not as an
+/// In every run a root keeps some binding of the object of each of its calls that is past its Bind, and of each object that was
+/// called, as long as no action on the call's path was aborted; and who is answered a Bind asked for it, a call not as an
 /// include, and an include not as a call. It does nothing when it runs.
 pub fn calls_stand_on_bindings()
     ensures { (hd : Header) (es : List Asked) → Holds hd BindsAreKnown (run_all es (format hd)) }

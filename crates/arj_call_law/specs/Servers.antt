@@ -63,10 +63,11 @@ AreRefusals sent n m = (a : Asked) → IsRefused sent n a → IsRefusal sent n m
 abbrev pub HasReached : ℕ → Binding → Server → Type 0
 HasReached x b s = (c : Copy) × (at_number x s.objects ≡ Some c) × (binding_less c.binding b ≡ false)
 
--- a call names a binding and an incarnation that its server had
+-- a call names an earlier incarnation of its server, or this one, in which the object has a copy there under the call's binding or a
+-- greater one
 abbrev pub HaveReached : List Post → ℕ → Node → Type 0
 HaveReached sent n m = (from : ℕ) (c : Call) → IsAsked sent from n c → Since c.inc (HasReached c.x c.binding) m
 
--- two calls with one request are one call
+-- two calls with one request are on one object, under one binding and of one incarnation
 abbrev pub AreOneCall : List Post → Type 0
 AreOneCall sent = (from from2 to to2 : ℕ) (c e : Call) → IsAsked sent from to c → IsAsked sent from2 to2 e → asked_by c.head ≡ asked_by e.head → (c.x ≡ e.x) × (c.binding ≡ e.binding) × (c.inc ≡ e.inc)
