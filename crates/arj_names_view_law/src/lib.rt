@@ -21,7 +21,7 @@ mod restarts;
 
 pub use begins::commits_may_begin;
 pub use booked::new_confirms_are_booked;
-pub use both::{roots_keep_their_part, walks_keep_both};
+pub use both::{handlers_are_followed, roots_keep_their_part, steps_keep_both, walks_keep_both};
 pub use calls::{ends_are_acts, locks_are_acts};
 pub use coordinators::{grants_are_seen, lists_are_seen};
 pub use handlers::handlers_keep_both;
