@@ -61,10 +61,11 @@ BeginsIn B u (Some p) = (s : Act) × IsOpen B p s × (is_on B.called s.uid ≡ f
 abbrev pub IsClosed : Book → Uid → Type 0
 IsClosed B u = (a : Act) → Contains B.acts a → is_on (uids (path B.acts a.label)) u ≡ true → (a.uid ≡ u → ⊥) → is_over B a.uid ≡ true
 
--- An action begins with a new label and a new Uid, fits its parent, and begins while that is open and its commit isn't called. The commit of a
--- top is called once, and then nothing below it is open. Who commits, is aborted or ends was open; a top commits once its commit was called, and no other action's commit is called. A restart finds records of tops
--- that weren't aborted. A call, and an include, is answered to an open action whose commit wasn't called; an exclusion is made by one whose
--- commit was. And a commit is told, and done, after the line that says that it is decided.
+-- An action begins with a new label and a new Uid, fits its parent, and begins while that is open and its commit isn't called. The
+-- commit of a top is called once, and then nothing below it is open. Who commits, is aborted or ends was open; a top commits once its
+-- commit was called, and no other action's commit is called. A restart finds records of tops that weren't aborted. A call, and an
+-- include, is answered to an open action whose commit wasn't called; an exclusion is made by one whose commit was. And a commit is
+-- told, and done, after the line that says that it is decided.
 abbrev pub Right : Book → Body → Type 0
 Right B (body.Began l k u p) = (act_in B.acts (name l) ≡ None) × (has_act B.acts u ≡ false) × IsBelow B.acts k (option_map name p) × BeginsIn B u p
 Right B (body.Committing l) = (a : Act) × IsOpen B l a × (is_top a.kind ≡ true) × (is_on B.called a.uid ≡ false) × IsClosed B a.uid

@@ -14,7 +14,7 @@ use Rattle.arj_text.specs.Label.{name}
 use Rattle.arj_text.specs.declared.label.Label.{Label}
 use Rattle.arj_line_law.specs.Book.{is_top}
 
--- the top that a line decides began before it: by its label, or by the Uid whose record a restart of its node found
+-- the action that a line decides began before it: by its label, or a top, by the Uid whose record a restart of its node found
 abbrev pub IsOfBegun : List Line → Body → Type 0
 IsOfBegun before (body.Committed l) = (a : Act) × Contains (acts before) a × (act_in (acts before) (name l) ≡ Some a)
 IsOfBegun before (body.Recovered n u) = (a : Act) × Contains (acts before) a × (a.uid ≡ u) × (u.node ≡ n) × (is_top a.kind ≡ true)

@@ -36,7 +36,7 @@ IsMessageShown v s S m = IsAskingShown v s S m (asks m)
 -- ---- what answers show
 
 -- What an answer of a server to this request shows, where the request is about the object: the copy is active, the operation was applied
--- or refused, or the copy has changed; and a Yes, that the machine has a vote for the top under the binding.
+-- or refused, or the copy has changed; and a Yes, that the machine has a vote for the top under the binding, or a greater one.
 abbrev pub ShowsReply : View → Head → Ask → State → Reply → Type 0
 ShowsReply v h (ask.Activate b st) T (Reply.Activated i) = (let u = st.uid in u.num) ≡ v.x → In (machine.Activated (binding_number b) i) T.net
 ShowsReply v h (ask.Invoke y b i ends o) T (Reply.Invoked r) = y ≡ v.x → ShowsInvoked v.family.act v.code (actor h.path) h.req (record { binding = b; op = o }) T r
