@@ -25,6 +25,7 @@ abbrev pub IsTellingShown : View → Server → State → Message → Type 0
 IsTellingShown v s S (message.Told m) = AreBrought v m.ends s S
 IsTellingShown v s S m = ⊤
 
+-- or a request
 abbrev pub IsAskingShown : View → Server → State → Message → Option (Head × Ask) → Type 0
 IsAskingShown v s S m None = IsTellingShown v s S m
 IsAskingShown v s S m (Some q) = IsShown v q.0 q.1 s S
@@ -57,6 +58,7 @@ AreAnswersShown v T outs (Some q) = is_for_server q.1 ≡ true → (to : ℕ) (z
 
 -- ---- what the node does with it
 
+-- the request asks for a vote for this top
 abbrev pub is_vote : View → Act → Head → Ask → Bool
 is_vote v a h (ask.Vote i ties ends) = same a (v.family.act (actor h.path))
 is_vote v a h _ = false

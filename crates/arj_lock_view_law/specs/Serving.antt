@@ -90,6 +90,7 @@ InvokesAreSeen = (v : View) (h : Head) (y : ℕ) (b : Binding) (i : ℕ) (ends :
     → let r = invoke v.node h y b i ends o s in
     Goes S (λ T. Sees v r.part T × OnlyServer v.node S T × (y ≡ v.x → ShowsIfInvoked v.family.act v.code (actor h.path) h.req (record { binding = b; op = o }) T r.reply))
 
+-- the server has voted
 abbrev pub is_yes : Option VotedReply → Bool
 is_yes (Some (voted.Yes states)) = true
 is_yes _ = false

@@ -51,6 +51,7 @@ pub record View : Type 0 where
   pub x : ℕ
   pub node : ℕ
 
+-- the server, as the machine of the object has it
 abbrev pub Sees : View → Server → State → Type 0
 Sees v s S = SeesServer v.family.act v.code v.wants v.x v.node s S
 
