@@ -13,7 +13,7 @@ use Rattle.arj_disk_law.specs.Named.{Named}
 use Rattle.arj_disk_law.specs.Names.{Answer, AnswerLoad, Bound, Loaded, Names, Office, Do as act, Commit, CommitBare, Kept, lists_after, or_else, retained, with_list, written_in}
 use Rattle.arj_disk_law.specs.State.{State, Plan, Preparing, Confirming, Gone, decided as is_decided, is_open, open_by, undecided}
 use Rattle.arj_disk_law.proofs.Acts.{runs_keep}
-use Rattle.arj_disk_law.proofs.Base.{never, open_done, open_made, open_parts, put_cases, put_other, put_same, test_is, test_not, test_same}
+use Rattle.arj_disk_law.proofs.Base.{never, open_done, open_made, open_parts, or_cases, or_left, put2_rises, put_cases, put_other, put_same, test_is, test_not, test_same}
 use Rattle.arj_disk_law.proofs.PlainActs.{plain_act}
 use Rattle.arj_view_law.specs.Seen.{Seen, at, posted, said, up}
 use Rattle.arj_disk_view_law.proofs.Frames.{node_here}
@@ -101,7 +101,7 @@ module _ (g : ℕ → Bool) (A : Office) (c0 : Named A) where
     later : IsLater A.world C.world
 
   begins : Inv A
-  begins = record { only = record { names = refl; root = refl; had = λ h o. refl; kept = λ h o. refl; tops = λ r o. refl }; later = later_same A.world }
+  begins = record { only = record { names = refl; root = refl; grows = λ h j on. on; from = λ h j on. inl on; had = λ h o. refl; kept = λ h o. refl; tops = λ r o. refl }; later = later_same A.world }
 
   module _ (C : Office) (c : Named C) (i : Inv C) where
     abbrev S : State
@@ -120,7 +120,7 @@ module _ (g : ℕ → Bool) (A : Office) (c0 : Named A) where
         record {
           names = C.names;
           named = subst (λ N. Named (record { world = after C.world a; names = N })) p.names (runs_keep C (act a ∷ []) (p.may, tt) c);
-          holds = record { only = record { names = only.names; root = on.root; had = only.had; kept = only.kept; tops = λ r o. ap (written_in A.world.disk.root r) p.tops ∙ only.tops r o }; later = on };
+          holds = record { only = record { names = only.names; root = on.root; grows = only.grows; from = only.from; had = only.had; kept = only.kept; tops = λ r o. ap (written_in A.world.disk.root r) p.tops ∙ only.tops r o }; later = on };
         }
 
     module _ (t : ℕ) (one : g t ≡ true) where
@@ -137,6 +137,23 @@ module _ (g : ℕ → Bool) (A : Office) (c0 : Named A) where
       tops_other : (r : ℕ) → IsOther g A.world.disk r → written_in A.world.disk.root r (done_of C.world.disk t ∷ C.world.disk.tops) ≡ written_in A.world.disk.root r A.world.disk.tops
       tops_other r o = ap (λ b. if b then or_else (C.world.disk.plan t).writes (written_in A.world.disk.root r C.world.disk.tops) else written_in A.world.disk.root r C.world.disk.tops) (test_not (A.world.disk.root t) r (λ e. o t one e)) ∙ only.tops r o
 
+      -- what is had once the root has what the top had
+      abbrev Had_then : ℕ → ℕ → Bool
+      Had_then = put (C.world.disk.root t) (λ j. C.names.had (C.world.disk.root t) j || C.names.had t j) C.names.had
+
+      retains_more : (h j : ℕ) → A.names.had h j ≡ true → Had_then h j ≡ true
+      retains_more h j on = put_cases (λ (row : ℕ → Bool). row j ≡ true) (C.world.disk.root t) (λ j. C.names.had (C.world.disk.root t) j || C.names.had t j) C.names.had h
+          (λ same. or_left (C.names.had (C.world.disk.root t) j) (C.names.had t j) (subst (λ z. C.names.had z j ≡ true) same (only.grows h j on))) (λ other. only.grows h j on)
+
+      retains_from : (h j : ℕ) → Had_then h j ≡ true → (A.names.had h j ≡ true) ⊎ ((z : ℕ) × (g z ≡ true) × (A.world.disk.root z ≡ h) × (A.names.had z j ≡ true))
+      retains_from h j on = put_cases (λ (row : ℕ → Bool). row j ≡ true → (A.names.had h j ≡ true) ⊎ ((z : ℕ) × (g z ≡ true) × (A.world.disk.root z ≡ h) × (A.names.had z j ≡ true))) (C.world.disk.root t) (λ j. C.names.had (C.world.disk.root t) j || C.names.had t j) C.names.had h
+          (λ same both. ⊎_elim (λ own. only.from h j (subst (λ z. C.names.had z j ≡ true) (sym same) own)) (λ its. tops_own same (only.from t j its)) (or_cases (C.names.had (C.world.disk.root t) j) (C.names.had t j) both))
+          (λ other here. only.from h j here) on
+        where
+          tops_own : h ≡ C.world.disk.root t → (A.names.had t j ≡ true) ⊎ ((z : ℕ) × (g z ≡ true) × (A.world.disk.root z ≡ t) × (A.names.had z j ≡ true)) → (A.names.had h j ≡ true) ⊎ ((z : ℕ) × (g z ≡ true) × (A.world.disk.root z ≡ h) × (A.names.had z j ≡ true))
+          tops_own same (inl its) = inr (t, one, ap (λ f. f t) (sym only.root) ∙ sym same, its)
+          tops_own same (inr (z, on_z, root_z, had_z)) = inr (z, on_z, sym (c0.roots.idem z) ∙ ap A.world.disk.root root_z ∙ ap (λ f. f t) (sym only.root) ∙ sym same, had_z)
+
       decided : Allowed C.world (machine.Decide t) → Stepped Inv (after C.world (machine.Decide t))
       decided allowed = record {
         names = retained C.world.disk t (record C.names { kept = lists_after C.world.disk t C.names.kept });
@@ -145,6 +162,8 @@ module _ (g : ℕ → Bool) (A : Office) (c0 : Named A) where
           only = record {
             names = ap (λ (N : Names). record N { had = (retained C.world.disk t (record C.names { kept = lists_after C.world.disk t C.names.kept })).had; kept = (retained C.world.disk t (record C.names { kept = lists_after C.world.disk t C.names.kept })).kept }) only.names;
             root = on.root;
+            grows = retains_more;
+            from = retains_from;
             had = λ h o. put_other (C.world.disk.root t) (λ j. C.names.had (C.world.disk.root t) j || C.names.had t j) C.names.had h (other_kept h o) ∙ only.had h o;
             kept = λ h o. put_other (C.world.disk.root t) (or_else (lists_after C.world.disk t C.names.kept (C.world.disk.root t)) (lists_after C.world.disk t C.names.kept t)) (lists_after C.world.disk t C.names.kept) h (other_kept h o) ∙ lists_other h o ∙ only.kept h o;
             tops = tops_other;
@@ -164,6 +183,8 @@ module _ (g : ℕ → Bool) (A : Office) (c0 : Named A) where
           only = record {
             names = ap (λ (N : Names). record N { had = (retained C.world.disk t C.names).had; kept = (retained C.world.disk t C.names).kept }) only.names;
             root = on.root;
+            grows = retains_more;
+            from = retains_from;
             had = λ h o. put_other (C.world.disk.root t) (λ j. C.names.had (C.world.disk.root t) j || C.names.had t j) C.names.had h (other_kept h o) ∙ only.had h o;
             kept = λ h o. put_other (C.world.disk.root t) (or_else (C.names.kept (C.world.disk.root t)) (C.names.kept t)) C.names.kept h (other_kept h o) ∙ only.kept h o;
             tops = only.tops;
@@ -426,6 +447,7 @@ module _ (A C : Office) (on : HasGoneOn A C) where
   nothing_of_roots : (a : Answer) → OnlyAtNode (λ n. false) A (record { world = C.world; names = record C.names { answers = a ∷ C.names.answers } })
   nothing_of_roots a = record {
     root = on.later.root;
+    grows = λ h i had. ap (λ (L : Names). L.had h i) on.names ∙ had;
     had = λ h o. ap (λ (L : Names). L.had h) on.names;
     kept = λ h o. ap (λ (L : Names). L.kept h) on.names;
     tops = λ r o. ap (written_in A.world.disk.root r) on.tops;
@@ -436,6 +458,7 @@ module _ (A C : Office) (on : HasGoneOn A C) where
   others_left : (tops : Kinds) (root top : Uid) (g : ℕ) (D : Office) → IsFixed tops A.world.disk → IsTopOf tops root top → OnlyKept C D → D.names.had ≡ put2 (uid_number top) g true C.names.had → LeavesOthers tops root C D → OnlyAtNode (λ n. n == uid_number top) A D
   others_left tops root top g D fixed of only had leaves = record {
     root = ap (λ (V : World). V.disk.root) only.world ∙ on.later.root;
+    grows = λ h i old. ap (λ f. f h i) had ∙ put2_rises (uid_number top) g C.names.had h i (ap (λ (L : Names). L.had h i) on.names ∙ old);
     had = λ h o. ap (λ f. f h) had ∙ put_other (uid_number top) (put g true (C.names.had (uid_number top))) C.names.had h (test_not h (uid_number top) (λ e. o (uid_number top) (test_same (uid_number top)) (ap A.world.disk.root (sym e)))) ∙ ap (λ (L : Names). L.had h) on.names;
     kept = λ h o. leaves h (λ e. o (uid_number top) (test_same (uid_number top)) (ap (λ f. f (uid_number top)) fixed.root ∙ of.of_root ∙ sym e ∙ sym (ap (λ f. f h) fixed.root))) ∙ ap (λ (L : Names). L.kept h) on.names;
     tops = λ r o. ap (λ (V : World). written_in A.world.disk.root r V.disk.tops) only.world ∙ ap (written_in A.world.disk.root r) on.tops;

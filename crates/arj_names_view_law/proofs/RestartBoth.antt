@@ -26,7 +26,7 @@ use Rattle.arj_view_law.proofs.Together.{walks_to}
 use Rattle.arj_disk_view_law.specs.Sees.{IsSeenByDisks, Kinds, followed}
 use Rattle.arj_disk_view_law.proofs.Frames.{node_cases, node_here, says_seen}
 use Rattle.arj_disk_view_law.proofs.RestartWalks.{back_says, map_says, raised}
-use Rattle.arj_names_view_law.specs.Both.{IsSeenAgain, IsSeenIn, OnlyAtNode, OnlyRoots, RestartsKeepBoth, SeesBoth, SeesNames, leaves_the_inc}
+use Rattle.arj_names_view_law.specs.Both.{IsFrom, IsSeenAgain, IsSeenIn, OnlyAtNode, OnlyRoots, RestartsKeepBoth, SeesBoth, SeesNames, leaves_the_inc}
 use Rattle.arj_names_view_law.specs.Memory.{SeesNaming}
 use Rattle.arj_names_view_law.specs.Restarts.{AreEntries, has_prepared}
 use Rattle.arj_names_view_law.proofs.CoordBoth.{decisions_keep_both, stops}
@@ -37,11 +37,15 @@ use Rattle.arj_names_view_law.proofs.RestartActs.{restarts_are_acts}
 again : (g : ℕ → Bool) (A : Office) (N : Names) → N.had ≡ A.names.had → N.kept ≡ A.names.kept → N.answers ≡ A.names.answers → (B : Office) → OnlyRoots g (record { world = A.world; names = N }) B → OnlyAtNode g A B
 again g A N had kept answers B only = record {
   root = only.root;
+  grows = λ h i old. only.grows h i (ap (λ f. f h i) had ∙ old);
   had = λ h o. only.had h o ∙ ap (λ f. f h) had;
   kept = λ h o. only.kept h o ∙ ap (λ f. f h) kept;
   tops = only.tops;
   answers = λ a i. subst (λ (L : Names). In a L.answers) (sym only.names) (subst (In a) (sym answers) i);
 }
+
+from_again : (g : ℕ → Bool) (A : Office) (N : Names) → N.had ≡ A.names.had → (B : Office) → IsFrom g (record { world = A.world; names = N }) B → IsFrom g A B
+from_again g A N had B from h i on = ⊎_elim (λ own. inl (sym (ap (λ f. f h i) had) ∙ own)) (λ its. inr (its.0, its.1, its.2, sym (ap (λ f. f its.0 i) had) ∙ its.3)) (from h i on)
 
 module _ (x : ℕ) (tops : Kinds) (unwalked : tops.walk ≡ None) (e k : ℕ) (hd : Header) (d : Disk) (g : ℕ → Bool) (A : Office) (M : Seen) (entries : k ≡ 1 → AreEntries d.names) (both : SeesBoth x tops A (down k d M)) where
   abbrev d1 : Disk
@@ -159,10 +163,10 @@ module _ (x : ℕ) (tops : Kinds) (unwalked : tops.walk ≡ None) (e k : ℕ) (h
   both_said = record { named = risen.named; disks = says_seen x tops A.world (down k d1 M) (numbered e (body.Up k (d.inc + 1) ∷ [])) both_risen.disks; names = record { inc = risen.seen.inc; memory = risen.seen.memory } }
 
   early : P (halted e k d M) → IsSeenAgain g x tops A (halted e k d M)
-  early p = let r = stops g A both.named x tops unwalked e k d None Nobody M (no_naming A.names) both d M refl refl p in (r.0, record { only = again g A A.names refl refl refl r.0 r.1.only; along = r.1.along }, r.2)
+  early p = let r = stops g A both.named x tops unwalked e k d None Nobody M (no_naming A.names) both d M refl refl p in (r.0, record { only = again g A A.names refl refl refl r.0 r.1.only; from = from_again g A A.names refl r.0 (let o = r.1.only in o.from); along = r.1.along }, r.2)
 
   late : P (halted e k d1 M) → IsSeenAgain g x tops A (halted e k d1 M)
-  late p = let r = stops g Now_office risen.named x tops unwalked e k d1 None Nobody M (no_naming risen.names) both_risen d1 M refl refl p in (r.0, record { only = again g A risen.names risen.had risen.kept risen.answers r.0 r.1.only; along = r.1.along }, r.2)
+  late p = let r = stops g Now_office risen.named x tops unwalked e k d1 None Nobody M (no_naming risen.names) both_risen d1 M refl refl p in (r.0, record { only = again g A risen.names risen.had risen.kept risen.answers r.0 r.1.only; from = from_again g A risen.names risen.had r.0 (let o = r.1.only in o.from); along = r.1.along }, r.2)
 
   looks : (how : Stop) → P (halted e k (stopped how Look d) M) → IsSeenAgain g x tops A (halted e k (stopped how Look d) M)
   looks Before p = early p
@@ -181,7 +185,7 @@ module _ (x : ℕ) (tops : Kinds) (unwalked : tops.walk ≡ None) (e k : ℕ) (h
     (
       λ how. rises how (walk.1.0 how),
       walks_to (IsSeenIn g x tops Now_office) (IsSeenAgain g x tops A) e k Rest (Up (IsSeenIn g x tops Now_office) k (parts_in k (d.inc + 1) d)) (Up (IsSeenAgain g x tops A) k (parts_in k (d.inc + 1) d)) d1 (said e (body.Up k (d.inc + 1) ∷ []) M)
-          (λ N r. (r.0, record { only = again g A risen.names risen.had risen.kept risen.answers r.0 r.1.only; along = r.1.along }, r.2)) (λ c N r. (r.0, record { only = again g A risen.names risen.had risen.kept risen.answers r.0 r.1.only; along = r.1.along }, r.2))
+          (λ N r. (r.0, record { only = again g A risen.names risen.had risen.kept risen.answers r.0 r.1.only; from = from_again g A risen.names risen.had r.0 (let o = r.1.only in o.from); along = r.1.along }, r.2)) (λ c N r. (r.0, record { only = again g A risen.names risen.had risen.kept risen.answers r.0 r.1.only; from = from_again g A risen.names risen.had r.0 (let o = r.1.only in o.from); along = r.1.along }, r.2))
           (decisions_keep_both x tops e k d1 None (parts_in k (d.inc + 1) d) Rest g Now_office (said e (body.Up k (d.inc + 1) ∷ []) M) unwalked rest_leaves risen.memory both_said walk.1.1),
     ),
   )

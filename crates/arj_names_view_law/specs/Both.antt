@@ -154,10 +154,17 @@ OtherEndsKeepBoth = (x : ℕ) (tops : Kinds) (e : ℕ) (d : Disk) (t v : Parts) 
 abbrev pub IsOther : (ℕ → Bool) → State → ℕ → Type 0
 IsOther g S r = (t : ℕ) → g t ≡ true → S.root t ≡ r → ⊥
 
--- Of naming's half nothing has changed but grants and kept lists of the roots of these tops; of another root none was decided.
+-- what an action has it had, or one of these tops had it whose root it is
+abbrev pub IsFrom : (ℕ → Bool) → Office → Office → Type 0
+IsFrom g A B = (h i : ℕ) → B.names.had h i ≡ true → (A.names.had h i ≡ true) ⊎ ((t : ℕ) × (g t ≡ true) × (A.world.disk.root t ≡ h) × (A.names.had t i ≡ true))
+
+-- Of naming's half nothing has changed but grants and kept lists of the roots of these tops: what was had is had still, and a root has
+-- nothing that it and these tops hadn't; of another root none was decided.
 pub record OnlyRoots (g : ℕ → Bool) (A B : Office) : Type 0 where
   pub names : B.names ≡ record A.names { had = B.names.had; kept = B.names.kept }
   pub root : B.world.disk.root ≡ A.world.disk.root
+  pub grows : (h i : ℕ) → A.names.had h i ≡ true → B.names.had h i ≡ true
+  pub from : IsFrom g A B
   pub had : (h : ℕ) → IsOther g A.world.disk (A.world.disk.root h) → B.names.had h ≡ A.names.had h
   pub kept : (h : ℕ) → IsOther g A.world.disk (A.world.disk.root h) → B.names.kept h ≡ A.names.kept h
   pub tops : (r : ℕ) → IsOther g A.world.disk r → written_in A.world.disk.root r B.world.disk.tops ≡ written_in A.world.disk.root r A.world.disk.tops
@@ -171,7 +178,7 @@ abbrev pub IsSeenIn : (ℕ → Bool) → ℕ → Kinds → Office → Seen → T
 IsSeenIn g x tops A M = (B : Office) × OnlyDecided g A B × SeesBoth x tops B M
 
 -- A node decides some of these tops, or ends their commits without a record, and naming's memory is as it was. The root of each may
--- retain what the top has; what it has then isn't said.
+-- retain what the top has.
 abbrev pub DecisionsKeepBoth : Type 0
 DecisionsKeepBoth = (x : ℕ) (tops : Kinds) (e k : ℕ) (d : Disk) (was : Option Parts) (v : Parts) (outs : List Effect) (g : ℕ → Bool) (A : Office) (M : Seen) → tops.walk ≡ None → AreAll leaves_the_inc outs
     → ((o : Naming) → k ≡ 1 → v.naming ≡ Some o → SeesNaming x tops o A.world.disk A.names) → SeesBoth x tops A (at k d was M)
@@ -195,9 +202,11 @@ BeginningsKeepBoth = (x : ℕ) (tops : Kinds) (e k : ℕ) (d : Disk) (t v : Part
     → ((C : Office) → Named C → C.names ≡ A.names → IsLater A.world C.world → C.world.disk.tops ≡ A.world.disk.tops → OpensNone A.world.disk C.world.disk → Allowed C.world (Begin top p) → MayBegin C top p)
     → DisksWalk (only_begins top) x tops A e k outs v d M → BothWalk x tops A e k outs v d M
 
--- Of naming's half naming's memory may be another one, and grants and kept lists of the roots of these tops have changed.
+-- Of naming's half naming's memory may be another one, and grants and kept lists of the roots of these tops have changed; what was had
+-- is had still.
 pub record OnlyAtNode (g : ℕ → Bool) (A B : Office) : Type 0 where
   pub root : B.world.disk.root ≡ A.world.disk.root
+  pub grows : (h i : ℕ) → A.names.had h i ≡ true → B.names.had h i ≡ true
   pub had : (h : ℕ) → IsOther g A.world.disk (A.world.disk.root h) → B.names.had h ≡ A.names.had h
   pub kept : (h : ℕ) → IsOther g A.world.disk (A.world.disk.root h) → B.names.kept h ≡ A.names.kept h
   pub tops : (r : ℕ) → IsOther g A.world.disk r → written_in A.world.disk.root r B.world.disk.tops ≡ written_in A.world.disk.root r A.world.disk.tops
@@ -206,6 +215,7 @@ pub record OnlyAtNode (g : ℕ → Bool) (A B : Office) : Type 0 where
 -- and the disk half has come here by deciding none but these
 pub record OnlyFound (g : ℕ → Bool) (A B : Office) : Type 0 where
   pub only : OnlyAtNode g A B
+  pub from : IsFrom g A B
   pub along : Along (record { from = A.world; noted = only_decides g }) B.world
 
 abbrev pub IsSeenAgain : (ℕ → Bool) → ℕ → Kinds → Office → Seen → Type 0
