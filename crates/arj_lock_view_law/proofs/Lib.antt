@@ -12,6 +12,7 @@ pub mod CallingSteps
 pub mod CommitSteps
 pub mod CopySteps
 pub mod ElseSteps
+pub mod CoverSteps
 pub mod EndSteps
 pub mod EverSteps
 pub mod FamilySteps

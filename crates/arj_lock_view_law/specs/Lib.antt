@@ -16,6 +16,7 @@ pub mod Begins
 pub mod Servers
 pub mod Including
 pub mod Inputs
+pub mod Covers
 pub mod Outside
 pub mod Plans
 pub mod Stops

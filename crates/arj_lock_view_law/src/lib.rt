@@ -28,7 +28,7 @@ mod server;
 pub use coord::{
     actions_begin, calls_at_coordinators_are_seen, commits_go_on, coordinators_are_seen,
     coordinators_stay_whole, ends_at_coordinators_are_seen, ends_keep_roots, includes_are_seen,
-    many_end_at_coordinators, other_calls_are_nothing, requests_are_shown,
+    many_end_at_coordinators, other_calls_are_nothing, plans_cover_tops, requests_are_shown,
 };
 pub use naming::{
     binds_are_seen, ends_are_seen, excludes_are_seen, hellos_are_seen, records_are_seen,

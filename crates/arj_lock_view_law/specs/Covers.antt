@@ -1,0 +1,31 @@
+-- What the plan of a top's commit covers of the machine's calls and includes, at its coordinator.
+use Rattle.std.specs.Prelude.{◌≡◌, ◌≢◌, ℕ, false, true, Contains}
+use Rattle.arj_protocol.specs.Words.{Uid}
+use Rattle.arj_protocol.specs.Words.kind
+use Rattle.arj_protocol.specs.Commit.{Plan, Used}
+use Rattle.arj_protocol.specs.Coord.{Coord, Doing}
+use Rattle.arj_protocol.specs.Tree.{Branch, has_open_child}
+use Rattle.arj_lock_law.specs.Actions.{Act, In, top}
+use Rattle.arj_lock_law.specs.State.{Alive, Call, Include, State}
+use Rattle.arj_part_law.specs.Copies.{Paths}
+use Rattle.arj_lock_view_law.specs.Acting.{IsFreeToEnd}
+use Rattle.arj_lock_view_law.specs.Acts.{Acts}
+use Rattle.arj_lock_view_law.specs.Copies.{Codes}
+use Rattle.arj_lock_view_law.specs.Inputs.{SeesWhole, plan_now}
+
+-- the plan has the object as called
+abbrev pub HasCalled : ℕ → Plan → Type 0
+HasCalled x p = (q : Used) × Contains p.used q × (q.x ≡ x) × (q.called ≡ true)
+
+-- the plan has the object
+abbrev pub HasUsed : ℕ → Plan → Type 0
+HasUsed x p = (q : Used) × Contains p.used q × (q.x ≡ x)
+
+-- The plan has the object as called where an action of this top called it, and has it where one included it, unless that was undone.
+abbrev pub HasOwn : ℕ → Act → Plan → State → Type 0
+HasOwn x m p S = ((k : Call) → In k S.calls → Alive S k.act → top k.act ≡ m → HasCalled x p) × ((k : Include) → In k S.includes → Alive S k.act → top k.act ≡ m → HasUsed x p)
+
+-- The commit of a top is called in which nothing is open: its plan has what its own actions called and included.
+abbrev pub PlansHaveOwn : Type 0
+PlansHaveOwn = (act : Acts) (code : Codes) (paths : Paths) (x : ℕ) (c : Coord) (u : Uid) (b : Branch) (d : Doing) (S : State)
+    → IsFreeToEnd act paths c u b d → b.kind ≢ kind.Serial → has_open_child u c.tree ≡ false → SeesWhole act code x c S → HasOwn x (act u) (plan_now b c) S
