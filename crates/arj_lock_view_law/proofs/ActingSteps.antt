@@ -180,7 +180,7 @@ module _ (act : Acts) (paths : Paths) (x : ℕ) (c : Coord) (S : State) (steady 
     waits_not : is_some b.ended ≡ false → invokes x d.now ≡ false → (f (act u)).waits ≡ false
     waits_not unended quiet = its_own.waits (ap (has_end ending.Abort) (unended_none b.ended unended)) ∙ quiet
 
-    idle_stage : is_some b.ended ≡ false → d.now ≡ Idle → (f (act u)).stage ≡ 0
+    pub idle_stage : is_some b.ended ≡ false → d.now ≡ Idle → (f (act u)).stage ≡ 0
     idle_stage unended idle = its_own.stage ∙ (λ i. stage_of (unended_none b.ended unended i) (idle i))
 
     whole : is_some b.ended ≡ false → has_open_child u c.tree ≡ false → d.now ≡ Idle → CallersAreHere act c.tree S → IsWhole S (act u)

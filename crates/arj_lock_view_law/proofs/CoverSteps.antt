@@ -9,25 +9,32 @@ use Rattle.arj_base.proofs.Uids.{uid_cases, uid_same}
 use Rattle.arj_base.specs.Rows.{front}
 use Rattle.arj_lock.proofs.Members as list
 use Rattle.arj_lock.proofs.Members.{in_from, in_to}
-use Rattle.arj_protocol.specs.Words.{End, Path, Uid, before_last, first_uid, is_on, last_uid, uid_eq, uids_of}
+use Rattle.arj_protocol.specs.Words.{End, Kind, Path, Uid, before_last, first_uid, is_on, last_uid, uid_eq, uids_of}
 use Rattle.arj_protocol.specs.Words.ending
+use Rattle.arj_protocol.specs.Words.kind
 use Rattle.arj_protocol.specs.Ask.{actor}
 use Rattle.arj_protocol.specs.Asking.{last_req}
-use Rattle.arj_protocol.specs.Coord.{Coord, Doing, Joined, Root, Said, counts, is_called, is_retained, joined_in, objects_in, plan_for, root_at, said_in, survives, used_of, doing_of}
+use Rattle.arj_protocol.specs.Commit.{Plan}
+use Rattle.arj_protocol.specs.Coord.{Calling, Committing, Coord, Doing, Idle, Joined, Now, Root, Said, counts, is_called, is_constituent_branch, is_kept_top, is_retained, retained_in, second_uid, joined_in, objects_in, plan_for, root_at, said_in, survives, used_of, doing_of}
 use Rattle.arj_protocol.specs.Order.{number_set, with_number}
-use Rattle.arj_protocol.specs.Tree.{Branch, Tree, behind, branch_of, ended_so, has_end, has_open_child, is_committed, is_merged, root_of}
-use Rattle.arj_lock_law.specs.Actions.{Act, In, Root as Unit, Sub, is_action, on, root, top}
-use Rattle.arj_lock_law.specs.State.{Action, Alive, Call, Include, State}
-use Rattle.arj_lock_law.proofs.Paths.{differ, on_root as same_unit, on_top, same_is, top_root}
+use Rattle.arj_protocol.specs.Tree.{Branch, Tree, behind, branch_of, ended_so, has_end, has_open_child, is_committed, is_constituent, is_merged, root_of}
+use Rattle.arj_lock_law.specs.Actions.{Act, In, Root as Unit, Sub, is_action, is_top, on, root, top}
+use Rattle.arj_lock_law.specs.State.{Alive, Call, Include, State}
+use Rattle.arj_lock_law.proofs.Paths.{by_cases, differ, on_kin, on_root as same_unit, on_top, root_is, same_is, top_action, top_is, top_root}
+use Rattle.arj_part_law.specs.Actions.{Action as Begun, AreBegun, Stands, act_of, action_of}
 use Rattle.arj_part_law.specs.Copies.{IsTree, Paths}
 use Rattle.arj_part_law.specs.Trees.{HasLists, IsGoodTree}
-use Rattle.arj_part_law.proofs.GoodTrees.{above_of, all_over, shorter}
+use Rattle.arj_part_law.proofs.GoodTrees.{above_of, all_over, over_below, shorter}
+use Rattle.arj_part_law.proofs.Begun.{path_some}
 use Rattle.arj_lock_view_law.specs.Acts.{Acts}
-use Rattle.arj_lock_view_law.specs.Actions.{IsSteady, stage_of}
+use Rattle.arj_lock_view_law.specs.Acting.{IsFreeToEnd}
+use Rattle.arj_lock_view_law.specs.Actions.{IsPlaced, IsSteady, SeesAction, stage_of}
 use Rattle.arj_lock_view_law.specs.Copies.{Codes}
-use Rattle.arj_lock_view_law.specs.Covers.{HasCalled, HasUsed, PlansHaveOwn}
+use Rattle.arj_lock_view_law.specs.Covers.{HasCalled, HasOfUnit, HasOwn, HasUsed, PlansCoverUnits, PlansHaveOwn}
+use Rattle.arj_lock_view_law.specs.Inputs.{IsOfUnit, SeesWhole}
 use Rattle.arj_lock_view_law.specs.Roots.{SeesCoord}
-use Rattle.arj_lock_view_law.proofs.TreeSteps.{action_kind, root_there, seen_at}
+use Rattle.arj_lock_view_law.proofs.ActingSteps.{idle_stage, unit_open}
+use Rattle.arj_lock_view_law.proofs.TreeSteps.{above_there, action_kind, first_on, root_there, seen_at, top_kind}
 
 -- ---- lists
 
@@ -205,6 +212,41 @@ module _ (paths : Paths) (tree : IsTree paths) (t : Tree) (lists : HasLists path
           let done : not (is_committed w t) ≡ false = ap not (each w b there above other (fine w (ap (λ us. is_on us w) whole ∙ on_last (paths h) w))) in
           ap (λ us. list_any (λ z. not (is_committed z t)) (behind u us)) whole ∙ ap (list_any (λ z. not (is_committed z t))) (behind_more u (paths h) w up) ∙ none_more (λ z. not (is_committed z t)) (behind u (paths h)) w rest done
 
+  -- below a constituent a path begins with its two Uids
+  starts : (r : Uid) → paths u ≡ r ∷ u ∷ [] → (k : ℕ) (w : Uid) (b : Branch) → length (paths w) ≤ k → branch_of w t ≡ Some b → is_on (paths w) u ≡ true → (rest : List Uid) × (paths w ≡ r ∷ u ∷ rest)
+  starts r two zero w b short there above = absurd (empty_short (paths w) u short above)
+  starts r two (suc k) w b short there above = ⊎_elim
+      (λ (is : w ≡ u). ([], ap paths is ∙ two))
+      (λ (other : w ≢ u). deeper (above_of paths tree t lists u w b there above other) (λ h p. starts r two k h p))
+      (uid_cases w u)
+    where
+      deeper : (h : Uid) × (before_last (paths w) ≡ Some h) × (is_on (paths h) u ≡ true) × (front (paths w) ≡ paths h) → ((h : Uid) (p : Branch) → length (paths h) ≤ k → branch_of h t ≡ Some p → is_on (paths h) u ≡ true → (rest : List Uid) × (paths h ≡ r ∷ u ∷ rest)) → (rest : List Uid) × (paths w ≡ r ∷ u ∷ rest)
+      deeper (h, parent, up, is) ih =
+          let p = lists.parents w h b there parent in
+          let z = ih h p.0 (shorter paths tree t lists w h k parent is short) p.1 up in
+          (z.0 ++ w ∷ [], split_last (paths w) parent ∙ (λ i. is i ++ own_last w b there i ∷ []) ∙ ap (λ us. us ++ w ∷ []) z.1)
+
+-- ---- where actions stand
+
+stood : (acts : List Begun) (a : Begun) → AreBegun acts → list.In a acts → (older : List Begun) × Stands older a a.kind × ((b : Begun) → list.In b older → list.In b acts)
+stood [] a begun i = absurd i
+stood (z ∷ acts) a (first, rest) (inl is) = (acts, subst (λ (y : Begun). Stands acts y y.kind) is first.stands, λ b j. inr j)
+stood (z ∷ acts) a (first, rest) (inr i) = let r = stood acts a rest i in (r.0, r.1, λ b j. inr (r.2 b j))
+
+-- a top's path: it is alone, or a constituent below its serializing action
+top_paths : (acts : List Begun) (a : Begun) → AreBegun acts → list.In a acts → a.kind ≢ kind.Serial → a.kind ≢ kind.Nested → ((a.kind ≡ kind.Constituent) × (r : Uid) × (uids_of a.path ≡ r ∷ act_of a ∷ [])) ⊎ (uids_of a.path ≡ act_of a ∷ [])
+top_paths acts a begun there unserial unnested = let s = stood acts a begun there in by s.0 a.kind refl s.1 s.2
+  where
+    by : (older : List Begun) (k : Kind) → a.kind ≡ k → Stands older a k → ((b : Begun) → list.In b older → list.In b acts) → ((a.kind ≡ kind.Constituent) × (r : Uid) × (uids_of a.path ≡ r ∷ act_of a ∷ [])) ⊎ (uids_of a.path ≡ act_of a ∷ [])
+    by older kind.Serial is s more = absurd (unserial is)
+    by older kind.Nested is s more = absurd (unnested is)
+    by older kind.Top is s more = inr s.0
+    by older kind.Independent is s more = inr s.0
+    by older kind.Constituent is (b, i, serial, path, tops) more =
+        let z = stood acts b begun (more b (in_from b older i)) in
+        let alone = subst (λ (k : Kind). Stands z.0 b k) serial z.1 in
+        inl (is, act_of b, path ∙ ap (λ us. us ++ act_of a ∷ []) alone.0)
+
 -- ---- at a coordinator
 
 committed_is : (o : Option End) (d : Doing) (n : ℕ) → n ≡ stage_of o d.now → is_some o ≡ true → n ≤ 3 → has_end ending.Commit o ≡ true
@@ -216,71 +258,184 @@ below_action : (a m : Act) → is_action m ≡ true → on a m ≡ true → is_a
 below_action (Unit n) m holds o = ap is_action (same_is (Unit n) m o) ∙ holds
 below_action (Sub q n) m holds o = refl
 
-pub plans_have_own : PlansHaveOwn
-plans_have_own act code paths x c u b d S free unserial childless whole = (calls, includes)
+committed_stage : (o : Option End) (d : Doing) (n : ℕ) → n ≡ stage_of o d.now → n ≡ 3 → has_end ending.Commit o ≡ true
+committed_stage None d n st three = absurd (early d.now (sym st ∙ three))
   where
-    steady : IsSteady act paths c
-    steady = free.steady
+    early : (w : Now) → stage_of None w ≡ 3 → ⊥
+    early Idle e = omega (arith, e)
+    early (Calling s) e = omega (arith, e)
+    early (Committing m) e = omega (arith, e)
+committed_stage (Some ending.Commit) d n st three = refl
+committed_stage (Some ending.Abort) d n st three = absurd (omega (arith, st, three))
 
-    good : IsGoodTree paths c.tree
-    good = steady.good.tree
+ended_some : (o : Option End) → has_end ending.Commit o ≡ true → is_some o ≡ true
+ended_some None is = absurd (cc is)
+ended_some (Some e) is = refl
 
-    coord : SeesCoord act code x c S
-    coord = whole.coord
+top_kinds : (a : Act) (k : Kind) → IsPlaced a k → is_top a ≡ true → (k ≢ kind.Serial) × (k ≢ kind.Nested)
+top_kinds a k placed top_it = (
+  λ is. differ (top_action a top_it) (subst (IsPlaced a) is placed),
+  λ is. differ top_it (let p = subst (IsPlaced a) is placed in p.1),
+)
 
-    its : actor b.path ≡ u
-    its = good.lists.places u b free.there
+module _ (act : Acts) (code : Codes) (paths : Paths) (x : ℕ) (c : Coord) (u : Uid) (b : Branch) (d : Doing) (S : State) (free : IsFreeToEnd act paths c u b d) (unserial : b.kind ≢ kind.Serial) (childless : has_open_child u c.tree ≡ false) (whole : SeesWhole act code x c S) where
+  abbrev steady : IsSteady act paths c
+  steady = free.steady
 
-    acts : is_action (act u) ≡ true
-    acts = action_kind (act u) b.kind unserial (steady.placed u b free.there)
+  abbrev good : IsGoodTree paths c.tree
+  good = steady.good.tree
 
-    rt : Uid
-    rt = root_of b.path
+  abbrev coord : SeesCoord act code x c S
+  coord = whole.coord
 
-    -- an action of its own that wasn't aborted survives in it
-    own_survives : (w : Uid) (q : Branch) (us : List Uid) → branch_of w c.tree ≡ Some q → uids_of q.path ≡ us → Alive S (act w) → top (act w) ≡ act u → counts (actor b.path) us c ≡ true
-    own_survives w q us there path alive home = λ i. both i || is_retained us c
+  its : actor b.path ≡ u
+  its = good.lists.places u b free.there
+
+  acts : is_action (act u) ≡ true
+  acts = action_kind (act u) b.kind unserial (steady.placed u b free.there)
+
+  abbrev rt : Uid
+  rt = root_of b.path
+
+  abbrev plan : Plan
+  plan = plan_for b.path (last_req (doing_of (actor b.path) c)) (root_at (root_of b.path) c) c
+
+  abbrev Fine : Uid → Type 0
+  Fine v = (S.action (act v)).stage ≤ 3
+
+  -- an action that wasn't aborted survives in one above it, below which all have ended
+  survives_in : (v : Uid) (e : Branch) → branch_of v c.tree ≡ Some e → is_action (act v) ≡ true → ((w : Uid) (q : Branch) → branch_of w c.tree ≡ Some q → is_on (paths w) v ≡ true → w ≢ v → is_some q.ended ≡ true)
+      → (w : Uid) (q : Branch) → branch_of w c.tree ≡ Some q → Alive S (act w) → is_on (paths w) v ≡ true → survives v (paths w) c ≡ true
+  survives_in v e found holds over w q there alive above = λ i. above i && merged i
+    where
+      each : (z : Uid) (k : Branch) → branch_of z c.tree ≡ Some k → is_on (paths z) v ≡ true → z ≢ v → Fine z → is_committed z c.tree ≡ true
+      each z k at up other low =
+          let s = seen_at act paths x c S.action steady coord.actions z k at (below_action (act z) (act v) holds (steady.alike.above z v ∙ up)) in
+          ap (ended_so ending.Commit) at ∙ committed_is k.ended s.0 (S.action (act z)).stage (let y = s.2 in y.stage) (over z k at up other) low
+
+      merged : is_merged v (paths w) c.tree ≡ true
+      merged = ap not (all_committed paths steady.whole c.tree good.lists v e found Fine each (length (paths w)) w q (omega arith) there above (λ z on_it. alive (act z) (steady.alike.above w z ∙ on_it)))
+
+  -- an action of its own does
+  own_counts : (w : Uid) (q : Branch) → branch_of w c.tree ≡ Some q → Alive S (act w) → top (act w) ≡ act u → counts (actor b.path) (paths w) c ≡ true
+  own_counts w q there alive home = λ i. subst (λ (v : Uid). survives v (paths w) c ≡ true) (sym its) done i || is_retained (paths w) c
+    where
+      done : survives u (paths w) c ≡ true
+      done = survives_in u b free.there acts (λ z k at up other. all_over paths steady.whole c.tree good.lists u good.closed childless z k at (ap (λ us. is_on us u) (good.lists.paths_are z k at) ∙ up) other) w q there alive (sym (steady.alike.above w u) ∙ subst (λ (m : Act). on (act w) m ≡ true) home (on_top (act w)))
+
+  root_home : root (act u) ≡ root (act rt)
+  root_home = let r = root_there act paths x c S.action steady coord.actions u b free.there in same_unit (act u) (act rt) (steady.alike.above u rt ∙ r.2)
+
+  root_branch : (r : Branch) × (branch_of rt c.tree ≡ Some r) × (root_of r.path ≡ rt)
+  root_branch = let r = root_there act paths x c S.action steady coord.actions u b free.there in (r.0, r.1, ap first_uid (good.lists.paths_are rt r.0 r.1) ∙ steady.alike.units rt u (sym root_home) ∙ ap first_uid (sym (good.lists.paths_are u b free.there)))
+
+  -- a call of the unit whose action counts is in the plan
+  called : (k : Call) → In k S.calls → root k.act ≡ root (act u) → ((w : Uid) (q : Branch) → branch_of w c.tree ≡ Some q → k.act ≡ act w → counts (actor b.path) (paths w) c ≡ true) → HasCalled x plan
+  called k there home count =
+      let r = root_branch in
+      let s = coord.roots rt r.0 r.1 r.2 in
+      let z = s.calls k there (home ∙ root_home) in
+      let y = s.said z.0 z.1 z.2 in
+      let w = last_uid (let v = z.0 in v.path) in
+      subst (λ (n : ℕ). HasCalled n plan) z.2
+      (has_said b.path (last_req (doing_of (actor b.path) c)) (root_at rt c) c z.0 z.1 (subst (λ us. counts (actor b.path) us c ≡ true) (sym (good.lists.paths_are w y.branch y.there) ∙ y.path) (count w y.branch y.there z.3)))
+
+  used : (k : Include) → In k S.includes → root k.act ≡ root (act u) → ((w : Uid) (q : Branch) → branch_of w c.tree ≡ Some q → k.act ≡ act w → counts (actor b.path) (paths w) c ≡ true) → HasUsed x plan
+  used k there home count =
+      let r = root_branch in
+      let i = whole.includes in
+      let n = i.lines rt r.0 k r.1 r.2 there (home ∙ root_home) in
+      let y = i.joins rt r.0 n.join r.1 r.2 n.there n.about in
+      let w = last_uid (let v = n.join in v.path) in
+      subst (λ (m : ℕ). HasUsed m plan) n.about
+      (has_joined b.path (last_req (doing_of (actor b.path) c)) (root_at rt c) c n.join n.there (subst (λ us. counts (actor b.path) us c ≡ true) (sym (good.lists.paths_are w y.branch y.found) ∙ y.path) (count w y.branch y.found n.by)))
+
+  own_home : (a : Act) → top a ≡ act u → root a ≡ root (act u)
+  own_home a home = sym (top_root a) ∙ ap root home
+
+  own_plan : HasOwn x (act u) plan S
+  own_plan = (
+    λ k there alive home. called k there (own_home k.act home) (λ w q at by. own_counts w q at (subst (Alive S) by alive) (ap top (sym by) ∙ home)),
+    λ k there alive home. used k there (own_home k.act home) (λ w q at by. own_counts w q at (subst (Alive S) by alive) (ap top (sym by) ∙ home)),
+  )
+
+  -- ---- what its serializing action retains
+
+  module _ (begun : AreBegun steady.actions) (unnested : b.kind ≢ kind.Nested) where
+    top_u : is_top (act u) ≡ true
+    top_u = top_kind (act u) b.kind unserial unnested (steady.placed u b free.there)
+
+    zero_u : (S.action (act u)).stage ≡ 0
+    zero_u = idle_stage act paths x c S steady coord.actions u b d free.there free.works acts free.unended free.idle
+
+    -- a committed top of the unit is a constituent
+    retained : (w : Uid) (q : Branch) → branch_of w c.tree ≡ Some q → Alive S (act w) → root (act w) ≡ root (act u) → (S.action (top (act w))).stage ≡ 3 → counts (actor b.path) (paths w) c ≡ true
+    retained w q there alive home three = either (survives (actor b.path) (paths w) c) (by_top (by_cases (is_action (act w))))
       where
-        same : paths w ≡ us
-        same = sym (good.lists.paths_are w q there) ∙ path
+        either : (o : Bool) → is_retained (paths w) c ≡ true → (o || is_retained (paths w) c) ≡ true
+        either true is = refl
+        either false is = is
 
-        above : is_on (paths w) u ≡ true
-        above = sym (steady.alike.above w u) ∙ subst (λ (m : Act). on (act w) m ≡ true) home (on_top (act w))
+        by_top : (is_action (act w) ≡ true) ⊎ (is_action (act w) ≡ false) → is_retained (paths w) c ≡ true
+        by_top (inr isnt) =
+            let unit : act w ≡ Unit (root (act u)) = root_is (act w) isnt ∙ ap Unit home in
+            let open_unit = unit_open act paths x c S steady coord.actions u b d free.there free.works free.unended in
+            let st : (S.action (Unit (root (act u)))).stage ≡ 3 = sym (ap (λ (a : Act). (S.action (top a)).stage) unit) ∙ three in
+            absurd (omega (arith, open_unit, st))
+        by_top (inl holds) =
+            let tops : is_top (top (act w)) ≡ true = top_is (act w) holds in
+            let v = steady.alike.filled w (top (act w)) (on_top (act w)) (top_action (top (act w)) tops) in
+            let above : is_on (paths w) v.0 ≡ true = sym (steady.alike.above w v.0) ∙ ap (on (act w)) (sym v.1) ∙ on_top (act w) in
+            let e = above_there paths steady.whole c.tree good.lists v.0 w q there above in
+            let top_v : is_top (act v.0) ≡ true = ap is_top (sym v.1) ∙ tops in
+            at_top v.0 e.0 e.1 above top_v (ap root (sym v.1) ∙ top_root (act w) ∙ home) (ap (λ (a : Act). (S.action a).stage) (sym v.1) ∙ three)
+          where
+            at_top : (v : Uid) (e : Branch) → branch_of v c.tree ≡ Some e → is_on (paths w) v ≡ true → is_top (act v) ≡ true → root (act v) ≡ root (act u) → (S.action (act v)).stage ≡ 3 → is_retained (paths w) c ≡ true
+            at_top v e found above top_v unit stage =
+                let kinds = top_kinds (act v) e.kind (steady.placed v e found) top_v in
+                ⊎_elim constituent alone (top_paths steady.actions (action_of e) begun (in_from (action_of e) steady.actions (steady.good.known v e found)) kinds.0 kinds.1)
+              where
+                own_v : actor e.path ≡ v
+                own_v = good.lists.places v e found
 
-        Fine : Uid → Type 0
-        Fine v = (S.action (act v)).stage ≤ 3
+                seen_v : (k : Doing) × (doing_of v c ≡ Some k) × SeesAction x e k (S.action (act v))
+                seen_v = seen_at act paths x c S.action steady coord.actions v e found (top_action (act v) top_v)
 
-        each : (v : Uid) (e : Branch) → branch_of v c.tree ≡ Some e → is_on (paths v) u ≡ true → v ≢ u → Fine v → is_committed v c.tree ≡ true
-        each v e found up other low =
-            let holds = below_action (act v) (act u) acts (steady.alike.above v u ∙ up) in
-            let s = seen_at act paths x c S.action steady coord.actions v e found holds in
-            ap (ended_so ending.Commit) found ∙ committed_is e.ended s.0 (S.action (act v)).stage (let k = s.2 in k.stage)
-            (all_over paths steady.whole c.tree good.lists u good.closed childless v e found (ap (λ us. is_on us u) (good.lists.paths_are v e found) ∙ up) other) low
+                committed_v : has_end ending.Commit e.ended ≡ true
+                committed_v = committed_stage e.ended seen_v.0 (S.action (act v)).stage (let k = seen_v.2 in k.stage) stage
 
-        merged : is_merged u (paths w) c.tree ≡ true
-        merged = ap not (all_committed paths steady.whole c.tree good.lists u b free.there Fine each (length (paths w)) w q (omega arith) there above (λ v on_it. alive (act v) (steady.alike.above w v ∙ on_it)))
+                over_v : (z : Uid) (k : Branch) → branch_of z c.tree ≡ Some k → is_on (paths z) v ≡ true → z ≢ v → is_some k.ended ≡ true
+                over_v z k at up other = over_below paths steady.whole c.tree good.lists good.closed v e found (ended_some e.ended committed_v) z k at up
 
-        both : survives (actor b.path) us c ≡ true
-        both = subst (λ (v : Uid). survives v us c ≡ true) (sym its) (subst (λ ws. survives u ws c ≡ true) same (λ i. above i && merged i))
+                -- it would be the root, and the top itself
+                alone : uids_of e.path ≡ actor e.path ∷ [] → is_retained (paths w) c ≡ true
+                alone one =
+                    let first : first_uid (paths u) ≡ v = steady.alike.units u v (sym unit) ∙ ap first_uid (sym (good.lists.paths_are v e found)) ∙ ap first_uid one ∙ own_v in
+                    let on_it : is_on (paths u) v ≡ true = subst (λ (z : Uid). is_on (paths u) z ≡ true) first (subst (λ us. is_on us (first_uid us) ≡ true) (good.lists.paths_are u b free.there) (first_on (uids_of b.path) (path_some b.path))) in
+                    let same_top : act u ≡ act v = on_kin (act u) (act v) top_u top_v (steady.alike.above u v ∙ on_it) in
+                    let zero_v : (S.action (act v)).stage ≡ 0 = ap (λ (a : Act). (S.action a).stage) (sym same_top) ∙ zero_u in
+                    absurd (omega (arith, zero_v, stage))
 
-    calls : (k : Call) → In k S.calls → Alive S k.act → top k.act ≡ act u → HasCalled x (plan_for b.path (last_req (doing_of (actor b.path) c)) (root_at rt c) c)
-    calls k there alive home =
-        let r = root_there act paths x c S.action steady coord.actions u b free.there in
-        let up = same_unit (act u) (act rt) (steady.alike.above u rt ∙ r.2) in
-        let own : root_of (let q = r.0 in q.path) ≡ rt = ap first_uid (good.lists.paths_are rt r.0 r.1) ∙ steady.alike.units rt u (sym up) ∙ ap first_uid (sym (good.lists.paths_are u b free.there)) in
-        let s = coord.roots rt r.0 r.1 own in
-        let z = s.calls k there (sym (top_root k.act) ∙ ap root home ∙ up) in
-        let y = s.said z.0 z.1 z.2 in
-        subst (λ (n : ℕ). HasCalled n (plan_for b.path (last_req (doing_of (actor b.path) c)) (root_at rt c) c)) z.2
-        (has_said b.path (last_req (doing_of (actor b.path) c)) (root_at rt c) c z.0 z.1 (own_survives (last_uid (let v = z.0 in v.path)) y.branch (let v = z.0 in v.path) y.there y.path (subst (Alive S) z.3 alive) (ap top (sym z.3) ∙ home)))
+                constituent : (e.kind ≡ kind.Constituent) × (r : Uid) × (uids_of e.path ≡ r ∷ actor e.path ∷ []) → is_retained (paths w) c ≡ true
+                constituent (is, r, two) =
+                    let shape : paths v ≡ r ∷ v ∷ [] = sym (good.lists.paths_are v e found) ∙ two ∙ ap (λ z. r ∷ z ∷ []) own_v in
+                    let long = starts paths steady.whole c.tree good.lists v e found (λ z. ⊥) (λ z k at up other none. absurd none) r shape (length (paths w)) w q (omega arith) there above in
+                    let last : is_retained (paths w) c ≡ retained_in (paths w) c (Some v) = ap (λ us. retained_in (paths w) c (second_uid us)) long.1 in
+                    let kept : is_kept_top v c ≡ true = ap (λ (o : Option Branch). is_constituent_branch o && ended_so ending.Commit o) found ∙ (λ i. is_constituent (is i) && committed_v i) in
+                    let in_it = survives_in v e found (top_action (act v) top_v) over_v w q there alive above in
+                    last ∙ (λ i. kept i && in_it i)
 
-    includes : (k : Include) → In k S.includes → Alive S k.act → top k.act ≡ act u → HasUsed x (plan_for b.path (last_req (doing_of (actor b.path) c)) (root_at rt c) c)
-    includes k there alive home =
-        let r = root_there act paths x c S.action steady coord.actions u b free.there in
-        let up = same_unit (act u) (act rt) (steady.alike.above u rt ∙ r.2) in
-        let own : root_of (let q = r.0 in q.path) ≡ rt = ap first_uid (good.lists.paths_are rt r.0 r.1) ∙ steady.alike.units rt u (sym up) ∙ ap first_uid (sym (good.lists.paths_are u b free.there)) in
-        let i = whole.includes in
-        let n = i.lines rt r.0 k r.1 own there (sym (top_root k.act) ∙ ap root home ∙ up) in
-        let y = i.joins rt r.0 n.join r.1 own n.there n.about in
-        subst (λ (m : ℕ). HasUsed m (plan_for b.path (last_req (doing_of (actor b.path) c)) (root_at rt c) c)) n.about
-        (has_joined b.path (last_req (doing_of (actor b.path) c)) (root_at rt c) c n.join n.there (own_survives (last_uid (let v = n.join in v.path)) y.branch (let v = n.join in v.path) y.found y.path (subst (Alive S) n.by alive) (ap top (sym n.by) ∙ home)))
+    unit_counts : (a : Act) → Alive S a → IsOfUnit (act u) a S → (w : Uid) (q : Branch) → branch_of w c.tree ≡ Some q → a ≡ act w → counts (actor b.path) (paths w) c ≡ true
+    unit_counts a alive (home, which) w q at by = ⊎_elim
+        (λ (own : top a ≡ act u). own_counts w q at (subst (Alive S) by alive) (ap top (sym by) ∙ own))
+        (λ (over : (S.action (top a)).stage ≡ 3). retained w q at (subst (Alive S) by alive) (ap root (sym by) ∙ home) (ap (λ (m : Act). (S.action (top m)).stage) (sym by) ∙ over))
+        which
+
+    unit_plan : HasOfUnit x (act u) plan S
+    unit_plan = (λ k there alive of. called k there of.0 (unit_counts k.act alive of), λ k there alive of. used k there of.0 (unit_counts k.act alive of))
+
+pub plans_have_own : PlansHaveOwn
+plans_have_own act code paths x c u b d S free unserial childless whole = own_plan act code paths x c u b d S free unserial childless whole
+
+pub plans_cover_units : PlansCoverUnits
+plans_cover_units act code paths x c u b d S free begun unserial unnested childless whole = unit_plan act code paths x c u b d S free unserial childless whole begun unnested

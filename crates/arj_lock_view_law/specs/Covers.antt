@@ -7,11 +7,12 @@ use Rattle.arj_protocol.specs.Coord.{Coord, Doing}
 use Rattle.arj_protocol.specs.Tree.{Branch, has_open_child}
 use Rattle.arj_lock_law.specs.Actions.{Act, In, top}
 use Rattle.arj_lock_law.specs.State.{Alive, Call, Include, State}
+use Rattle.arj_part_law.specs.Actions.{AreBegun}
 use Rattle.arj_part_law.specs.Copies.{Paths}
 use Rattle.arj_lock_view_law.specs.Acting.{IsFreeToEnd}
 use Rattle.arj_lock_view_law.specs.Acts.{Acts}
 use Rattle.arj_lock_view_law.specs.Copies.{Codes}
-use Rattle.arj_lock_view_law.specs.Inputs.{SeesWhole, plan_now}
+use Rattle.arj_lock_view_law.specs.Inputs.{IsOfUnit, SeesWhole, plan_now}
 
 -- the plan has the object as called
 abbrev pub HasCalled : ℕ → Plan → Type 0
@@ -29,3 +30,12 @@ HasOwn x m p S = ((k : Call) → In k S.calls → Alive S k.act → top k.act �
 abbrev pub PlansHaveOwn : Type 0
 PlansHaveOwn = (act : Acts) (code : Codes) (paths : Paths) (x : ℕ) (c : Coord) (u : Uid) (b : Branch) (d : Doing) (S : State)
     → IsFreeToEnd act paths c u b d → b.kind ≢ kind.Serial → has_open_child u c.tree ≡ false → SeesWhole act code x c S → HasOwn x (act u) (plan_now b c) S
+
+-- The plan has what was called and included in the top's whole unit, as far as it wasn't undone: by the top, or by committed tops.
+abbrev pub HasOfUnit : ℕ → Act → Plan → State → Type 0
+HasOfUnit x m p S = ((k : Call) → In k S.calls → Alive S k.act → IsOfUnit m k.act S → HasCalled x p) × ((k : Include) → In k S.includes → Alive S k.act → IsOfUnit m k.act S → HasUsed x p)
+
+-- Where the coordinator's actions were begun its plan has that too: a serializing action retains what its constituents did.
+abbrev pub PlansCoverUnits : Type 0
+PlansCoverUnits = (act : Acts) (code : Codes) (paths : Paths) (x : ℕ) (c : Coord) (u : Uid) (b : Branch) (d : Doing) (S : State) (free : IsFreeToEnd act paths c u b d)
+    → AreBegun (let s = free.steady in s.actions) → b.kind ≢ kind.Serial → b.kind ≢ kind.Nested → has_open_child u c.tree ≡ false → SeesWhole act code x c S → HasOfUnit x (act u) (plan_now b c) S

@@ -3,7 +3,7 @@ ghost use Rattle.arj_lock_view_law.specs.Acting.{AbortionsAreSeen, DecisionsAreS
 ghost use Rattle.arj_lock_view_law.specs.Asks.{AsksAreNothing, CommitsAskOnly, RequestsAreShown, RequestsStayShown, TicksAreNothing};
 ghost use Rattle.arj_lock_view_law.specs.Begins.{ActionsBegin, NewCoordsAreSeen};
 ghost use Rattle.arj_lock_view_law.specs.Calling.{AnswersAreTaken, CallsAreGivenUp, CallsBegin, IncludesBegin, OtherAnswersAreTaken, OtherCallsAreGivenUp, OtherCallsBegin};
-ghost use Rattle.arj_lock_view_law.specs.Covers.{PlansHaveOwn};
+ghost use Rattle.arj_lock_view_law.specs.Covers.{PlansCoverUnits, PlansHaveOwn};
 ghost use Rattle.arj_lock_view_law.specs.Including.{IncludeAnswersAreTaken};
 ghost use Rattle.arj_lock_view_law.specs.Inputs.{AcksAreTaken, ActionsAreAborted, BeginsAreTaken, CallAnswersAreHeard, CallsAreLost, CallsAreMade, CommitAnswersAreHeard, CommitsAreLost, DoomedCommitsAreTaken, IncludeAnswersAreHeard, IncludesAreMade, NestedCommitsAreTaken, OtherAnswersAreHeard, OtherCallsAreLost, RestartsAreTaken, StopsAreTaken, TicksAreTaken, TopCommitsAreTaken};
 ghost use Rattle.arj_lock_view_law.specs.Outside.{CallsElsewhere, EndsElsewhere, IncludesElsewhere, NamingElsewhere, ServersElsewhere};
@@ -132,7 +132,9 @@ pub fn coordinators_stay_whole()
     ensures servers { ServersElsewhere }
 {}
 
-/// The plan of a top's commit has what the top's own actions called and included, where that wasn't undone. It does nothing when it runs.
+/// The plan of a top's commit has what the top's own actions called and included, where that wasn't undone, and what its serializing
+/// action retains of committed constituents. It does nothing when it runs.
 pub fn plans_cover_tops()
-    ensures { PlansHaveOwn }
+    ensures own { PlansHaveOwn }
+    ensures units { PlansCoverUnits }
 {}

@@ -1,5 +1,8 @@
-use Rattle.arj_lock_view_law.proofs.CoverSteps.{plans_have_own}
+use Rattle.arj_lock_view_law.proofs.CoverSteps.{plans_cover_units, plans_have_own}
 use Rattle.arj_lock_view_law.proofs.coord.plans_cover_tops.Goals as goal
 
-pub returns : goal.returns
-returns c = plans_have_own
+pub returns-clause-own : goal.returns-clause-own
+returns-clause-own c = plans_have_own
+
+pub returns-clause-units : goal.returns-clause-units
+returns-clause-units c = plans_cover_units
