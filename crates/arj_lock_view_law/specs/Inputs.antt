@@ -13,6 +13,7 @@ use Rattle.arj_protocol.specs.Ending.{abort_action, acked}
 use Rattle.arj_protocol.specs.Tree.{Branch, branch_of, has_open_child, root_of}
 use Rattle.arj_lock_law.specs.Actions.{Act, In, root, top}
 use Rattle.arj_lock_law.specs.State.{Alive, Call, Include, State}
+use Rattle.arj_part_law.specs.Actions.{AreBegun}
 use Rattle.arj_part_law.specs.Copies.{Paths}
 use Rattle.arj_lock_view_law.specs.Acting.{IsFirst, IsFreeToEnd}
 use Rattle.arj_lock_view_law.specs.Actions.{IsSteady}
@@ -76,11 +77,9 @@ DoomedCommitsAreTaken = (act : Acts) (code : Codes) (paths : Paths) (x p : ℕ) 
 abbrev pub IsOfUnit : Act → Act → State → Type 0
 IsOfUnit m a S = (root a ≡ root m) × ((top a ≡ m) ⊎ ((let k = S.action (top a) in k.stage) ≡ 3))
 
--- What a top's plan covers as its commit is called: each call on the object that wasn't undone, and each include, of the top or of a
--- committed top of its unit; and the grant that it says isn't above the binding that the unit keeps, nor above such an include's.
-pub record CoversUnit (x : ℕ) (m : Act) (p : Plan) (S : State) : Type 0 where
-  pub calls : (k : Call) → In k S.calls → Alive S k.act → IsOfUnit m k.act S → (q : Used) × Contains p.used q × (q.x ≡ x) × (q.called ≡ true)
-  pub includes : (k : Include) → In k S.includes → Alive S k.act → IsOfUnit m k.act S → (q : Used) × Contains p.used q × (q.x ≡ x)
+-- As a top's commit is called, the grant that its plan says of the object isn't above the binding that the unit keeps, where a call of
+-- the unit counts, nor above the grant of an include that does.
+pub record HasLowGrant (x : ℕ) (m : Act) (p : Plan) (S : State) : Type 0 where
   pub below : (q : Used) (k : Call) → Contains p.used q → q.x ≡ x → In k S.calls → Alive S k.act → IsOfUnit m k.act S → q.grant * 4294967296 ≤ S.kept (root m)
   pub granted : (q : Used) (k : Include) → Contains p.used q → q.x ≡ x → In k S.includes → Alive S k.act → IsOfUnit m k.act S → q.grant * 4294967296 ≤ k.grant
 
@@ -91,8 +90,8 @@ plan_now b c = plan_for b.path (last_req (doing_of (actor b.path) c)) (root_at (
 -- The commit of a top that isn't doomed is called: it has its line, and asks the first nodes, or is decided at once.
 abbrev pub TopCommitsAreTaken : Type 0
 TopCommitsAreTaken = (act : Acts) (code : Codes) (paths : Paths) (x p : ℕ) (c : Coord) (u : Uid) (b : Branch) (d : Doing) (intents : List (Uid × Intent)) (S : State)
-    → IsReached S → IsFreeToEnd act paths c u b d → b.kind ≢ kind.Serial → b.kind ≢ kind.Nested → b.doomed ≡ false → has_open_child u c.tree ≡ false → IsFirst act c u → S.now ≤ p
-    → CoversUnit x (act u) (plan_now b c) S → AreKept x (act u) (plan_now b c) S → SeesWhole act code x c S
+    → IsReached S → (free : IsFreeToEnd act paths c u b d) → AreBegun (let k = free.steady in k.actions) → b.kind ≢ kind.Serial → b.kind ≢ kind.Nested → b.doomed ≡ false → has_open_child u c.tree ≡ false → IsFirst act c u → S.now ≤ p
+    → HasLowGrant x (act u) (plan_now b c) S → AreKept x (act u) (plan_now b c) S → SeesWhole act code x c S
     → GoesWhole act code x (let e = commit_action b intents c in e.part) S (λ T. OnlyEnded (root (act u)) S T × (T.now ≤ p + 2))
 
 -- An answer to a commit under way is taken: it stays, asks the next nodes, is decided, or is aborted.
