@@ -15,7 +15,7 @@ use Rattle.arj_protocol.specs.Words.kind
 use Rattle.arj_protocol.specs.Ask.{actor}
 use Rattle.arj_protocol.specs.Asking.{last_req}
 use Rattle.arj_protocol.specs.Commit.{Plan}
-use Rattle.arj_protocol.specs.Coord.{Calling, Committing, Coord, Doing, Idle, Joined, Now, Root, Said, counts, is_called, is_constituent_branch, is_kept_top, is_retained, retained_in, second_uid, joined_in, objects_in, plan_for, root_at, said_in, survives, used_of, doing_of}
+use Rattle.arj_protocol.specs.Coord.{Calling, Committing, Coord, Doing, Idle, Joined, Now, Root, Said, counts, is_constituent_branch, is_kept_top, is_retained, retained_in, second_uid, joined_in, objects_in, plan_for, root_at, said_in, survives, used_of, doing_of}
 use Rattle.arj_protocol.specs.Order.{number_set, with_number}
 use Rattle.arj_protocol.specs.Tree.{Branch, Tree, behind, branch_of, ended_so, has_end, has_open_child, is_committed, is_constituent, is_merged, root_of}
 use Rattle.arj_lock_law.specs.Actions.{Act, In, Root as Unit, Sub, is_action, is_top, on, root, top}

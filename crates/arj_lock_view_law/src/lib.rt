@@ -17,8 +17,8 @@
 //! Of a coordinator its tree is seen (`specs/Actions.antt`), how its actions begin and end (`specs/Begins.antt`, `specs/Acting.antt`,
 //! `specs/Whole.antt`), one by one or many at once, as by an abort, a stop and a restart (`specs/Stops.antt`); what its roots keep
 //! (`specs/Roots.antt`), how its calls go (`specs/Calling.antt`) and its includes (`specs/Including.antt`), how the commit of a top goes
-//! and what it asks (`specs/Plans.antt`), what a plan covers (`specs/Covers.antt`), what requests show for ever (`specs/Asks.antt`), and the whole of it at each input and each answer
-//! (`specs/Inputs.antt`), which stays seen beside what others do (`specs/Outside.antt`).
+//! and what it asks (`specs/Plans.antt`), what a plan covers (`specs/Covers.antt`), what requests show for ever (`specs/Asks.antt`), and
+//! the whole of it at each input and each answer (`specs/Inputs.antt`), which stays seen beside what others do (`specs/Outside.antt`).
 #![tactic(auto)]
 
 mod coord;
