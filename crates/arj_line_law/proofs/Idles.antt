@@ -42,7 +42,7 @@ use Rattle.arj_line_law.proofs.Walks.{its_own}
 -- ---- one root
 
 first_front : (us : List Uid) (h : Uid) → before_last us ≡ Some h → first_uid (front us) ≡ first_uid us
-first_front [] h is = cc is
+first_front [] h is = refl
 first_front (u ∷ []) h is = cc is
 first_front (u ∷ w ∷ us) h is = refl
 

@@ -7,11 +7,12 @@ ghost use Rattle.arj_model.specs.Actions.{Act, acts};
 ghost use Rattle.arj_protocol.specs.Coord.{plan_for, root_at};
 ghost use Rattle.arj_protocol.specs.Effect.{Disk};
 ghost use Rattle.arj_protocol.specs.Node.{Parts};
-ghost use Rattle.arj_protocol.specs.Tree.{Branch, branch_of, root_of};
+ghost use Rattle.arj_protocol.specs.Step.{Node};
+ghost use Rattle.arj_protocol.specs.Tree.{Branch, at_place, branch_of, root_of};
 ghost use Rattle.arj_protocol.specs.World.{Asked, format, journal, run_all};
 ghost use Rattle.arj_line_law.specs.Book.{book, new_book};
 ghost use Rattle.arj_line_law.specs.Idle.{BeginningsAreTimely, BelowCommitsIsOver, HasNothing, IsIdle, IsLeftAlone};
-ghost use Rattle.arj_line_law.specs.Knows.{IsKept};
+ghost use Rattle.arj_line_law.specs.Knows.{IsKept, Ties};
 ghost use Rattle.arj_line_law.specs.Laws.{IsDone};
 ghost use Rattle.arj_line_law.specs.Plans.{UsesWhatIsLeft};
 ghost use Rattle.arj_line_law.specs.Right.{AreRight};
@@ -49,4 +50,11 @@ pub fn decisions_have_owners()
 /// serializing action retains. It does nothing when it runs.
 pub fn plans_use_what_is_left()
     ensures { (k : ℕ) (d : Disk) (t : Parts) (M : Seen) → IsKept (up k d t M) → (u : Uid) (b : Branch) → branch_of u t.coord.tree ≡ Some b → (req : ℕ) → UsesWhatIsLeft (book M.lines) t.coord u (plan_for b.path req (root_at (root_of b.path) t.coord) t.coord) }
+{}
+
+/// In each run a coordinator that is up has its actions at the places and with the paths that the journal so far says, and all that the
+/// journal has below them; and its roots have noted each access of its actions by the journal, and no others: each call and include that
+/// was answered. It does nothing when it runs.
+pub fn roots_note_accesses()
+    ensures { (hd : Header) (es : List Asked) (k : ℕ) (n : Node) (t : Parts) → at_place k (run_all es (format hd)).nodes ≡ Some n → n.live ≡ Some t → Ties (book (journal hd es)).acts (book (journal hd es)).accesses t.coord.tree t.coord.roots }
 {}

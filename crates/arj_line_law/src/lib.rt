@@ -10,7 +10,7 @@
 //! part in their commits. What it gives upward: `journals_are_right`, and in the words of `arj_model` (`specs/Laws.antt`)
 //! `journals_are_sound` and `nodes_agree_with_journals`; `paths_are_those_of_journals` (`specs/Paths.antt`); of tops
 //! (`specs/Idle.antt`) `commits_close_what_is_below` and `idle_tops_have_nothing`; `decisions_have_owners` (`specs/Whose.antt`); and
-//! `plans_use_what_is_left` (`specs/Plans.antt`).
+//! `roots_note_accesses` and `plans_use_what_is_left` (`specs/Plans.antt`).
 #![tactic(auto)]
 
 mod below;
