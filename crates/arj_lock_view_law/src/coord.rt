@@ -99,8 +99,8 @@ pub fn includes_are_seen()
 
 /// A whole coordinator is seen after each input: where an action begins, calls, includes a store, is committed, aborted or gives up; after each
 /// answer to a call, an include or a commit; at a tick and an acknowledgement, and when its node starts again. Where the node stops the
-/// machine has ended its actions. What an answer shows is counted on, and where a top's commit is called that its plan covers what its
-/// unit did, with the binding that is kept. It does nothing when it runs.
+/// machine has ended its actions. What an answer shows is counted on, and where a top's commit is called that its plan has a grant as low
+/// as the machine asks, and the binding that is kept. It does nothing when it runs.
 pub fn coordinators_are_seen()
     ensures begins { BeginsAreTaken }
     ensures calls { CallsAreMade }
