@@ -41,7 +41,7 @@ of_begun before right (body.Recovered n u) found =
 of_begun before right b r = tt
 
 -- what began is there behind its line, and behind more
-acts_more : (acts_now : List Act) (before more : List Line) → acts_from acts_now (before ++ more) ≡ acts_from (acts_from acts_now before) more
+pub acts_more : (acts_now : List Act) (before more : List Line) → acts_from acts_now (before ++ more) ≡ acts_from (acts_from acts_now before) more
 acts_more xs [] more = refl
 acts_more xs (l ∷ ls) more = acts_more (acts_after xs l.body) ls more
 

@@ -11,7 +11,7 @@ ghost use Rattle.arj_protocol.specs.Step.{Node};
 ghost use Rattle.arj_protocol.specs.Tree.{Branch, at_place, branch_of, root_of};
 ghost use Rattle.arj_protocol.specs.World.{Asked, format, journal, run_all};
 ghost use Rattle.arj_line_law.specs.Book.{book, new_book};
-ghost use Rattle.arj_line_law.specs.Idle.{BeginningsAreTimely, BelowCommitsIsOver, HasNothing, IsIdle, IsLeftAlone};
+ghost use Rattle.arj_line_law.specs.Idle.{BeginningsAreTimely, BelowCommitsIsOver, HasNothing, IsIdle, IsLeftAlone, NothingGoesOnBelow};
 ghost use Rattle.arj_line_law.specs.Knows.{IsKept, Ties};
 ghost use Rattle.arj_line_law.specs.Laws.{IsDone};
 ghost use Rattle.arj_line_law.specs.Plans.{UsesWhatIsLeft};
@@ -33,7 +33,8 @@ pub fn idle_tops_have_nothing()
 pub fn commits_close_what_is_below()
     ensures beginnings { (lines : List Line) → AreRight new_book lines → BeginningsAreTimely lines }
     ensures below { (lines : List Line) → AreRight new_book lines → BelowCommitsIsOver lines }
-    ensures runs { (hd : Header) (es : List Asked) → BeginningsAreTimely (journal hd es) × BelowCommitsIsOver (journal hd es) }
+    ensures nothing { (lines : List Line) → AreRight new_book lines → NothingGoesOnBelow lines }
+    ensures runs { (hd : Header) (es : List Asked) → BeginningsAreTimely (journal hd es) × BelowCommitsIsOver (journal hd es) × NothingGoesOnBelow (journal hd es) }
 {}
 
 /// Who is decided by a line of a journal began before, and is told apart from all others by the number of its Uid; and in each run
