@@ -1,5 +1,5 @@
 -- A top's plan has what its own actions called and included.
-use Rattle.std.proofs.Common.{◌≡◌, ◌≢◌, ◌⊎◌, ◌≤◌, ◌∙◌, ◌||◌, ◌==◌, ◌&&◌, ◌++◌, ℕ, zero, suc, List, [], ◌∷◌, Bool, true, false, cond, length, Option, Some, None, refl, sym, ap, subst, inl, inr, ⊎_elim, arith, is_some, map, filter}
+use Rattle.std.proofs.Common.{◌*◌, ◌≡◌, ◌≢◌, ◌⊎◌, ◌≤◌, ◌∙◌, ◌||◌, ◌==◌, ◌&&◌, ◌++◌, ℕ, zero, suc, List, [], ◌∷◌, Bool, true, false, cond, length, Option, Some, None, refl, sym, ap, subst, inl, inr, ⊎_elim, arith, is_some, map, filter}
 use Rattle.std.specs.Prelude.{Contains, not}
 use Rattle.std.specs.List.{list_any}
 use Rattle.std.specs.Ordering.{match_ordering, nat_cmp}
@@ -12,10 +12,10 @@ use Rattle.arj_lock.proofs.Members.{in_from, in_to}
 use Rattle.arj_protocol.specs.Words.{End, Kind, Path, Uid, before_last, first_uid, is_on, last_uid, uid_eq, uids_of}
 use Rattle.arj_protocol.specs.Words.ending
 use Rattle.arj_protocol.specs.Words.kind
-use Rattle.arj_protocol.specs.Ask.{actor}
+use Rattle.arj_protocol.specs.Ask.{actor, top_of}
 use Rattle.arj_protocol.specs.Asking.{last_req}
-use Rattle.arj_protocol.specs.Commit.{Plan}
-use Rattle.arj_protocol.specs.Coord.{Calling, Committing, Coord, Doing, Idle, Joined, Now, Root, Said, counts, is_constituent_branch, is_kept_top, is_retained, retained_in, second_uid, joined_in, objects_in, plan_for, root_at, said_in, survives, used_of, doing_of}
+use Rattle.arj_protocol.specs.Commit.{Plan, Used, least_of}
+use Rattle.arj_protocol.specs.Coord.{Calling, Committing, Coord, counts_grant, least_grant, top_uses, Doing, Grant, Idle, Joined, Now, Root, Said, counts, is_constituent_branch, is_kept_top, is_retained, retained_in, second_uid, joined_in, objects_in, plan_for, root_at, said_in, survives, used_of, doing_of}
 use Rattle.arj_protocol.specs.Order.{number_set, with_number}
 use Rattle.arj_protocol.specs.Tree.{Branch, Tree, behind, branch_of, ended_so, has_end, has_open_child, is_committed, is_constituent, is_merged, root_of}
 use Rattle.arj_lock_law.specs.Actions.{Act, In, Root as Unit, Sub, is_action, is_top, on, root, top}
@@ -30,10 +30,12 @@ use Rattle.arj_lock_view_law.specs.Acts.{Acts}
 use Rattle.arj_lock_view_law.specs.Acting.{IsFreeToEnd}
 use Rattle.arj_lock_view_law.specs.Actions.{IsPlaced, IsSteady, SeesAction, stage_of}
 use Rattle.arj_lock_view_law.specs.Copies.{Codes}
-use Rattle.arj_lock_view_law.specs.Covers.{HasCalled, HasOfUnit, HasOwn, HasUsed, PlansCoverUnits, PlansHaveOwn}
+use Rattle.arj_lock_view_law.specs.Covers.{AreTopped, HasCalled, HasOfUnit, HasOwn, HasUsed, PlansCoverUnits, PlansHaveOwn, PlansSayLow}
+use Rattle.arj_lock_view_law.specs.Including.{HasGrant, IsJoined, IsNoted}
 use Rattle.arj_lock_view_law.specs.Inputs.{IsOfUnit, SeesWhole}
 use Rattle.arj_lock_view_law.specs.Roots.{SeesCoord}
 use Rattle.arj_lock_view_law.proofs.ActingSteps.{idle_stage, unit_open}
+use Rattle.arj_lock_view_law.proofs.PlanSteps.{least_below}
 use Rattle.arj_lock_view_law.proofs.TreeSteps.{above_there, action_kind, first_on, root_there, seen_at, top_kind}
 
 -- ---- lists
@@ -272,6 +274,10 @@ ended_some : (o : Option End) → has_end ending.Commit o ≡ true → is_some o
 ended_some None is = absurd (cc is)
 ended_some (Some e) is = refl
 
+action_below : (a : Act) → is_action (top a) ≡ true → is_action a ≡ true
+action_below (Unit n) holds = holds
+action_below (Sub a n) holds = refl
+
 top_kinds : (a : Act) (k : Kind) → IsPlaced a k → is_top a ≡ true → (k ≢ kind.Serial) × (k ≢ kind.Nested)
 top_kinds a k placed top_it = (
   λ is. differ (top_action a top_it) (subst (IsPlaced a) is placed),
@@ -299,6 +305,9 @@ module _ (act : Acts) (code : Codes) (paths : Paths) (x : ℕ) (c : Coord) (u : 
 
   abbrev plan : Plan
   plan = plan_for b.path (last_req (doing_of (actor b.path) c)) (root_at (root_of b.path) c) c
+
+  abbrev rr : Root
+  rr = root_at (root_of b.path) c
 
   abbrev Fine : Uid → Type 0
   Fine v = (S.action (act v)).stage ≤ 3
@@ -368,15 +377,20 @@ module _ (act : Acts) (code : Codes) (paths : Paths) (x : ℕ) (c : Coord) (u : 
     zero_u : (S.action (act u)).stage ≡ 0
     zero_u = idle_stage act paths x c S steady coord.actions u b d free.there free.works acts free.unended free.idle
 
-    -- a committed top of the unit is a constituent
-    retained : (w : Uid) (q : Branch) → branch_of w c.tree ≡ Some q → Alive S (act w) → root (act w) ≡ root (act u) → (S.action (top (act w))).stage ≡ 3 → counts (actor b.path) (paths w) c ≡ true
-    retained w q there alive home three = either (survives (actor b.path) (paths w) c) (by_top (by_cases (is_action (act w))))
-      where
-        either : (o : Bool) → is_retained (paths w) c ≡ true → (o || is_retained (paths w) c) ≡ true
-        either true is = refl
-        either false is = is
+    -- the committed constituent in which an action survives
+    record IsRetained (w : Uid) : Type 0 where
+      pub constituent : Uid
+      pub acts : is_action (act w) ≡ true
+      pub top : top (act w) ≡ act constituent
+      pub kept : is_kept_top constituent c ≡ true
+      pub survives : survives constituent (paths w) c ≡ true
+      pub retained : is_retained (paths w) c ≡ true
 
-        by_top : (is_action (act w) ≡ true) ⊎ (is_action (act w) ≡ false) → is_retained (paths w) c ≡ true
+    -- a committed top of the unit is a constituent
+    retainer : (w : Uid) (q : Branch) → branch_of w c.tree ≡ Some q → Alive S (act w) → root (act w) ≡ root (act u) → (S.action (top (act w))).stage ≡ 3 → IsRetained w
+    retainer w q there alive home three = by_top (by_cases (is_action (act w)))
+      where
+        by_top : (is_action (act w) ≡ true) ⊎ (is_action (act w) ≡ false) → IsRetained w
         by_top (inr isnt) =
             let unit : act w ≡ Unit (root (act u)) = root_is (act w) isnt ∙ ap Unit home in
             let open_unit = unit_open act paths x c S steady coord.actions u b d free.there free.works free.unended in
@@ -388,10 +402,10 @@ module _ (act : Acts) (code : Codes) (paths : Paths) (x : ℕ) (c : Coord) (u : 
             let above : is_on (paths w) v.0 ≡ true = sym (steady.alike.above w v.0) ∙ ap (on (act w)) (sym v.1) ∙ on_top (act w) in
             let e = above_there paths steady.whole c.tree good.lists v.0 w q there above in
             let top_v : is_top (act v.0) ≡ true = ap is_top (sym v.1) ∙ tops in
-            at_top v.0 e.0 e.1 above top_v (ap root (sym v.1) ∙ top_root (act w) ∙ home) (ap (λ (a : Act). (S.action a).stage) (sym v.1) ∙ three)
+            at_top v.0 e.0 e.1 above v.1 top_v (ap root (sym v.1) ∙ top_root (act w) ∙ home) (ap (λ (a : Act). (S.action a).stage) (sym v.1) ∙ three)
           where
-            at_top : (v : Uid) (e : Branch) → branch_of v c.tree ≡ Some e → is_on (paths w) v ≡ true → is_top (act v) ≡ true → root (act v) ≡ root (act u) → (S.action (act v)).stage ≡ 3 → is_retained (paths w) c ≡ true
-            at_top v e found above top_v unit stage =
+            at_top : (v : Uid) (e : Branch) → branch_of v c.tree ≡ Some e → is_on (paths w) v ≡ true → top (act w) ≡ act v → is_top (act v) ≡ true → root (act v) ≡ root (act u) → (S.action (act v)).stage ≡ 3 → IsRetained w
+            at_top v e found above its_top top_v unit stage =
                 let kinds = top_kinds (act v) e.kind (steady.placed v e found) top_v in
                 ⊎_elim constituent alone (top_paths steady.actions (action_of e) begun (in_from (action_of e) steady.actions (steady.good.known v e found)) kinds.0 kinds.1)
               where
@@ -408,7 +422,7 @@ module _ (act : Acts) (code : Codes) (paths : Paths) (x : ℕ) (c : Coord) (u : 
                 over_v z k at up other = over_below paths steady.whole c.tree good.lists good.closed v e found (ended_some e.ended committed_v) z k at up
 
                 -- it would be the root, and the top itself
-                alone : uids_of e.path ≡ actor e.path ∷ [] → is_retained (paths w) c ≡ true
+                alone : uids_of e.path ≡ actor e.path ∷ [] → IsRetained w
                 alone one =
                     let first : first_uid (paths u) ≡ v = steady.alike.units u v (sym unit) ∙ ap first_uid (sym (good.lists.paths_are v e found)) ∙ ap first_uid one ∙ own_v in
                     let on_it : is_on (paths u) v ≡ true = subst (λ (z : Uid). is_on (paths u) z ≡ true) first (subst (λ us. is_on us (first_uid us) ≡ true) (good.lists.paths_are u b free.there) (first_on (uids_of b.path) (path_some b.path))) in
@@ -416,14 +430,21 @@ module _ (act : Acts) (code : Codes) (paths : Paths) (x : ℕ) (c : Coord) (u : 
                     let zero_v : (S.action (act v)).stage ≡ 0 = ap (λ (a : Act). (S.action a).stage) (sym same_top) ∙ zero_u in
                     absurd (omega (arith, zero_v, stage))
 
-                constituent : (e.kind ≡ kind.Constituent) × (r : Uid) × (uids_of e.path ≡ r ∷ actor e.path ∷ []) → is_retained (paths w) c ≡ true
+                constituent : (e.kind ≡ kind.Constituent) × (r : Uid) × (uids_of e.path ≡ r ∷ actor e.path ∷ []) → IsRetained w
                 constituent (is, r, two) =
                     let shape : paths v ≡ r ∷ v ∷ [] = sym (good.lists.paths_are v e found) ∙ two ∙ ap (λ z. r ∷ z ∷ []) own_v in
                     let long = starts paths steady.whole c.tree good.lists v e found (λ z. ⊥) (λ z k at up other none. absurd none) r shape (length (paths w)) w q (omega arith) there above in
                     let last : is_retained (paths w) c ≡ retained_in (paths w) c (Some v) = ap (λ us. retained_in (paths w) c (second_uid us)) long.1 in
                     let kept : is_kept_top v c ≡ true = ap (λ (o : Option Branch). is_constituent_branch o && ended_so ending.Commit o) found ∙ (λ i. is_constituent (is i) && committed_v i) in
                     let in_it = survives_in v e found (top_action (act v) top_v) over_v w q there alive above in
-                    last ∙ (λ i. kept i && in_it i)
+                    record { constituent = v; acts = holds; top = its_top; kept = kept; survives = in_it; retained = last ∙ (λ i. kept i && in_it i) }
+
+    either : (o p : Bool) → p ≡ true → (o || p) ≡ true
+    either true p is = refl
+    either false p is = is
+
+    retained : (w : Uid) (q : Branch) → branch_of w c.tree ≡ Some q → Alive S (act w) → root (act w) ≡ root (act u) → (S.action (top (act w))).stage ≡ 3 → counts (actor b.path) (paths w) c ≡ true
+    retained w q there alive home three = let k = retainer w q there alive home three in either (survives (actor b.path) (paths w) c) (is_retained (paths w) c) k.retained
 
     unit_counts : (a : Act) → Alive S a → IsOfUnit (act u) a S → (w : Uid) (q : Branch) → branch_of w c.tree ≡ Some q → a ≡ act w → counts (actor b.path) (paths w) c ≡ true
     unit_counts a alive (home, which) w q at by = ⊎_elim
@@ -434,8 +455,67 @@ module _ (act : Acts) (code : Codes) (paths : Paths) (x : ℕ) (c : Coord) (u : 
     unit_plan : HasOfUnit x (act u) plan S
     unit_plan = (λ k there alive of. called k there of.0 (unit_counts k.act alive of), λ k there alive of. used k there of.0 (unit_counts k.act alive of))
 
+    -- its grant isn't above that of an include that counts
+    low_grants : AreTopped act c → (q : Used) (k : Include) → Contains plan.used q → q.x ≡ x → In k S.includes → Alive S k.act → IsOfUnit (act u) k.act S → q.grant * 4294967296 ≤ k.grant
+    low_grants topped q k there about i alive of = below (let f = list.in_map (used_of (actor b.path) (root_at rt c) c) q (objects_in (actor b.path) (root_at rt c) c) (in_from q plan.used there) in f)
+      where
+        note : IsNoted act x k rr c.tree
+        note = let r = root_branch in let n = whole.includes in n.lines rt r.0 k r.1 r.2 i (of.0 ∙ root_home)
+
+        join : IsJoined note.join c.tree
+        join = let r = root_branch in let n = whole.includes in n.joins rt r.0 note.join r.1 r.2 note.there note.about
+
+        w : Uid
+        w = last_uid (let v = note.join in v.path)
+
+        grant : HasGrant rr x (top_of (let y = join.branch in y.path)) k.grant
+        grant = note.granted join.branch join.found
+
+        below : (y : ℕ) × list.In y (objects_in (actor b.path) rr c) × (used_of (actor b.path) rr c y ≡ q) → q.grant * 4294967296 ≤ k.grant
+        below (y, yi, is) = by_least (least_below grant.0.least (map (λ (g : Grant). g.least) (filter (counts_grant (actor b.path) x rr c) rr.grants)) (map_in (λ (g : Grant). g.least) grant.0 (filter (counts_grant (actor b.path) x rr c) rr.grants) (filter_in (counts_grant (actor b.path) x rr c) grant.0 rr.grants (in_from grant.0 rr.grants grant.1) counted)))
+          where
+            same : y ≡ x
+            same = ap (λ (z : Used). z.x) is ∙ about
+
+            its_grant : q.grant ≡ least_grant (actor b.path) x rr c
+            its_grant = ap (λ (z : Used). z.grant) (sym is) ∙ ap (λ (n : ℕ). least_grant (actor b.path) n rr c) same
+
+            by_least : least_grant (actor b.path) x rr c ≤ grant.0.least → q.grant * 4294967296 ≤ k.grant
+            by_least le = let e = its_grant in let h = grant.4 in omega (arith, le, e, h)
+
+            counted : counts_grant (actor b.path) x rr c grant.0 ≡ true
+            counted = λ j. (ap (λ n. n == x) grant.3 ∙ equal x) j && who j
+              where
+                alive_w : Alive S (act w)
+                alive_w = subst (Alive S) note.by alive
+
+                -- it is the grant of the top of the include's action
+                by_top : (v : Uid) → is_action (act w) ≡ true → top (act w) ≡ act v → (let g = grant.0 in g.top) ≡ v
+                by_top v holds is = grant.2 ∙ steady.alike.one (top_of (let y = join.branch in y.path)) v (sym (topped w join.branch join.found holds) ∙ is)
+
+                own : top k.act ≡ act u → (uid_eq (let g = grant.0 in g.top) (actor b.path) || (is_kept_top (let g = grant.0 in g.top) c && top_uses (let g = grant.0 in g.top) x rr c)) ≡ true
+                own home =
+                    let top_w : top (act w) ≡ act u = ap top (sym note.by) ∙ home in
+                    let g = by_top u (action_below (act w) (ap is_action top_w ∙ acts)) top_w in
+                    λ j. (ap (λ (v : Uid). uid_eq v (actor b.path)) (g ∙ sym its) ∙ uid_same (actor b.path)) j || (is_kept_top (let y = grant.0 in y.top) c && top_uses (let y = grant.0 in y.top) x rr c)
+
+                held : (S.action (top k.act)).stage ≡ 3 → (uid_eq (let g = grant.0 in g.top) (actor b.path) || (is_kept_top (let g = grant.0 in g.top) c && top_uses (let g = grant.0 in g.top) x rr c)) ≡ true
+                held three =
+                    let r = retainer w join.branch join.found alive_w (ap root (sym note.by) ∙ of.0) (ap (λ (a : Act). (S.action (top a)).stage) (sym note.by) ∙ three) in
+                    let g = by_top r.constituent r.acts r.top in
+                    let there_it = subst (λ us. survives r.constituent us c ≡ true) (sym (good.lists.paths_are w join.branch join.found) ∙ join.path) r.survives in
+                    let uses : top_uses r.constituent x rr c ≡ true = either (list_any (λ (z : Said). (z.x == x) && survives r.constituent z.path c) rr.said) (list_any (λ (z : Joined). (z.x == x) && survives r.constituent z.path c) rr.joined)
+                          (any_in (λ (z : Joined). (z.x == x) && survives r.constituent z.path c) note.join rr.joined (in_from note.join rr.joined note.there) (λ j. (ap (λ n. n == x) note.about ∙ equal x) j && there_it j)) in
+                    either (uid_eq (let y = grant.0 in y.top) (actor b.path)) (is_kept_top (let y = grant.0 in y.top) c && top_uses (let y = grant.0 in y.top) x rr c) (ap (λ (v : Uid). is_kept_top v c && top_uses v x rr c) g ∙ (λ j. r.kept j && uses j))
+
+                who : (uid_eq (let g = grant.0 in g.top) (actor b.path) || (is_kept_top (let g = grant.0 in g.top) c && top_uses (let g = grant.0 in g.top) x rr c)) ≡ true
+                who = ⊎_elim own held of.1
+
 pub plans_have_own : PlansHaveOwn
 plans_have_own act code paths x c u b d S free unserial childless whole = own_plan act code paths x c u b d S free unserial childless whole
 
 pub plans_cover_units : PlansCoverUnits
 plans_cover_units act code paths x c u b d S free begun unserial unnested childless whole = unit_plan act code paths x c u b d S free unserial childless whole begun unnested
+
+pub plans_say_low : PlansSayLow
+plans_say_low act code paths x c u b d S free begun topped unserial unnested childless whole q k = low_grants act code paths x c u b d S free unserial childless whole begun unnested topped q k

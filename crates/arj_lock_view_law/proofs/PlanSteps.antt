@@ -54,6 +54,20 @@ in_set_of k [] i = absurd i
 in_set_of k (l ∷ ls) (inl is) = with_one k l (number_set ls) (inl is)
 in_set_of k (l ∷ ls) (inr i) = with_one k l (number_set ls) (inr (in_set_of k ls i))
 
+-- the least of numbers isn't above any
+pub least_below : (n : ℕ) (ns : List ℕ) → list.In n ns → least_of ns ≤ n
+least_below n [] i = absurd i
+least_below n (k ∷ []) (inl is) = omega (arith, is)
+least_below n (k ∷ []) (inr i) = absurd i
+least_below n (k ∷ l ∷ ks) (inl is) = least_left k n (least_of (l ∷ ks)) is
+  where
+    least_left : (a b c : ℕ) → a ≡ b → min a c ≤ b
+    least_left a b c e = grind (arith, e)
+least_below n (k ∷ l ∷ ks) (inr i) = least_right k (least_of (l ∷ ks)) n (least_below n (l ∷ ks) i)
+  where
+    least_right : (a b c : ℕ) → b ≤ c → min a b ≤ c
+    least_right a b c e = grind (arith, e)
+
 -- ---- a commit that waits
 
 module _ (x : ℕ) (m : Act) where
@@ -321,19 +335,6 @@ module _ (x : ℕ) (m : Act) (S : State) (reached : IsReached S) (one : (S.actio
   given_up_next (Confirming p) v = waits (Aborts (cause.Lost 1) p) tt
 
   -- ---- it sets out
-
-  least_below : (n : ℕ) (ns : List ℕ) → list.In n ns → least_of ns ≤ n
-  least_below n [] i = absurd i
-  least_below n (k ∷ []) (inl is) = omega (arith, is)
-  least_below n (k ∷ []) (inr i) = absurd i
-  least_below n (k ∷ l ∷ ks) (inl is) = least_left k n (least_of (l ∷ ks)) is
-    where
-      least_left : (a b c : ℕ) → a ≡ b → min a c ≤ b
-      least_left a b c e = grind (arith, e)
-  least_below n (k ∷ l ∷ ks) (inr i) = least_right k (least_of (l ∷ ks)) n (least_below n (l ∷ ks) i)
-    where
-      least_right : (a b c : ℕ) → b ≤ c → min a b ≤ c
-      least_right a b c e = grind (arith, e)
 
   kept_test : (f : Used → Bool) (q : Used) (us : List Used) → list.In q us → f q ≡ true → list.In q (filter f us)
   kept_test f q [] i h = absurd i

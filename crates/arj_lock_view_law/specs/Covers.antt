@@ -1,11 +1,12 @@
 -- What the plan of a top's commit covers of the machine's calls and includes, at its coordinator.
-use Rattle.std.specs.Prelude.{◌≡◌, ◌≢◌, ℕ, false, true, Contains}
+use Rattle.std.specs.Prelude.{◌≡◌, ◌≢◌, ◌≤◌, ◌*◌, ℕ, false, true, Contains, Some}
 use Rattle.arj_protocol.specs.Words.{Uid}
 use Rattle.arj_protocol.specs.Words.kind
+use Rattle.arj_protocol.specs.Ask.{top_of}
 use Rattle.arj_protocol.specs.Commit.{Plan, Used}
 use Rattle.arj_protocol.specs.Coord.{Coord, Doing}
-use Rattle.arj_protocol.specs.Tree.{Branch, has_open_child}
-use Rattle.arj_lock_law.specs.Actions.{Act, In, top}
+use Rattle.arj_protocol.specs.Tree.{Branch, branch_of, has_open_child}
+use Rattle.arj_lock_law.specs.Actions.{Act, In, is_action, top}
 use Rattle.arj_lock_law.specs.State.{Alive, Call, Include, State}
 use Rattle.arj_part_law.specs.Actions.{AreBegun}
 use Rattle.arj_part_law.specs.Copies.{Paths}
@@ -39,3 +40,13 @@ HasOfUnit x m p S = ((k : Call) → In k S.calls → Alive S k.act → IsOfUnit 
 abbrev pub PlansCoverUnits : Type 0
 PlansCoverUnits = (act : Acts) (code : Codes) (paths : Paths) (x : ℕ) (c : Coord) (u : Uid) (b : Branch) (d : Doing) (S : State) (free : IsFreeToEnd act paths c u b d)
     → AreBegun (let s = free.steady in s.actions) → b.kind ≢ kind.Serial → b.kind ≢ kind.Nested → has_open_child u c.tree ≡ false → SeesWhole act code x c S → HasOfUnit x (act u) (plan_now b c) S
+
+-- The machine has as top of each of the coordinator's actions the top of its path.
+abbrev pub AreTopped : Acts → Coord → Type 0
+AreTopped act c = (w : Uid) (q : Branch) → branch_of w c.tree ≡ Some q → is_action (act w) ≡ true → top (act w) ≡ act (top_of q.path)
+
+-- The grant that such a plan says of the object isn't above that of an include of its unit that wasn't undone.
+abbrev pub PlansSayLow : Type 0
+PlansSayLow = (act : Acts) (code : Codes) (paths : Paths) (x : ℕ) (c : Coord) (u : Uid) (b : Branch) (d : Doing) (S : State) (free : IsFreeToEnd act paths c u b d)
+    → AreBegun (let s = free.steady in s.actions) → AreTopped act c → b.kind ≢ kind.Serial → b.kind ≢ kind.Nested → has_open_child u c.tree ≡ false → SeesWhole act code x c S
+    → (q : Used) (k : Include) → Contains (let p = plan_now b c in p.used) q → q.x ≡ x → In k S.includes → Alive S k.act → IsOfUnit (act u) k.act S → q.grant * 4294967296 ≤ k.grant

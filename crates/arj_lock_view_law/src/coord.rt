@@ -3,7 +3,7 @@ ghost use Rattle.arj_lock_view_law.specs.Acting.{AbortionsAreSeen, DecisionsAreS
 ghost use Rattle.arj_lock_view_law.specs.Asks.{AsksAreNothing, CommitsAskOnly, RequestsAreShown, RequestsStayShown, TicksAreNothing};
 ghost use Rattle.arj_lock_view_law.specs.Begins.{ActionsBegin, NewCoordsAreSeen};
 ghost use Rattle.arj_lock_view_law.specs.Calling.{AnswersAreTaken, CallsAreGivenUp, CallsBegin, IncludesBegin, OtherAnswersAreTaken, OtherCallsAreGivenUp, OtherCallsBegin};
-ghost use Rattle.arj_lock_view_law.specs.Covers.{PlansCoverUnits, PlansHaveOwn};
+ghost use Rattle.arj_lock_view_law.specs.Covers.{PlansCoverUnits, PlansHaveOwn, PlansSayLow};
 ghost use Rattle.arj_lock_view_law.specs.Including.{IncludeAnswersAreTaken};
 ghost use Rattle.arj_lock_view_law.specs.Inputs.{AcksAreTaken, ActionsAreAborted, BeginsAreTaken, CallAnswersAreHeard, CallsAreLost, CallsAreMade, CommitAnswersAreHeard, CommitsAreLost, DoomedCommitsAreTaken, IncludeAnswersAreHeard, IncludesAreMade, NestedCommitsAreTaken, OtherAnswersAreHeard, OtherCallsAreLost, RestartsAreTaken, StopsAreTaken, TicksAreTaken, TopCommitsAreTaken};
 ghost use Rattle.arj_lock_view_law.specs.Outside.{CallsElsewhere, EndsElsewhere, IncludesElsewhere, NamingElsewhere, ServersElsewhere};
@@ -133,8 +133,9 @@ pub fn coordinators_stay_whole()
 {}
 
 /// The plan of a top's commit has what the top's own actions called and included, where that wasn't undone, and what its serializing
-/// action retains of committed constituents. It does nothing when it runs.
+/// action retains of committed constituents; and the grant that it says isn't above an include's. It does nothing when it runs.
 pub fn plans_cover_tops()
     ensures own { PlansHaveOwn }
     ensures units { PlansCoverUnits }
+    ensures grants { PlansSayLow }
 {}
