@@ -30,9 +30,9 @@ use Rattle.arj_lock_view_law.specs.Acts.{Acts}
 use Rattle.arj_lock_view_law.specs.Acting.{IsFreeToEnd}
 use Rattle.arj_lock_view_law.specs.Actions.{IsPlaced, IsSteady, SeesAction, stage_of}
 use Rattle.arj_lock_view_law.specs.Copies.{Codes}
-use Rattle.arj_lock_view_law.specs.Covers.{AreTopped, HasCalled, HasOfUnit, HasOwn, HasUsed, PlansCoverUnits, PlansHaveOwn, PlansSayLow}
+use Rattle.arj_lock_view_law.specs.Covers.{HasCalled, HasOfUnit, HasOwn, HasUsed, PlansCoverUnits, PlansHaveOwn, PlansSayLow}
 use Rattle.arj_lock_view_law.specs.Including.{HasGrant, IsJoined, IsNoted}
-use Rattle.arj_lock_view_law.specs.Inputs.{IsOfUnit, SeesWhole}
+use Rattle.arj_lock_view_law.specs.Inputs.{AreTopped, IsOfUnit, SeesWhole}
 use Rattle.arj_lock_view_law.specs.Roots.{SeesCoord}
 use Rattle.arj_lock_view_law.proofs.ActingSteps.{idle_stage, unit_open}
 use Rattle.arj_lock_view_law.proofs.PlanSteps.{least_below}

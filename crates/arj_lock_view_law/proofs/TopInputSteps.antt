@@ -30,10 +30,10 @@ use Rattle.arj_lock_view_law.specs.Calling.{IsReached}
 use Rattle.arj_lock_view_law.specs.Copies.{Codes}
 use Rattle.arj_lock_view_law.specs.Going.{Goes}
 use Rattle.arj_lock_view_law.specs.Covers.{HasOfUnit}
-use Rattle.arj_lock_view_law.specs.Inputs.{HasLowGrant, IsOfUnit, OnlyEnded, SeesWhole, TopCommitsAreTaken, plan_now}
+use Rattle.arj_lock_view_law.specs.Inputs.{AreTopped, HasLowGrant, IsOfUnit, OnlyEnded, SeesWhole, TopCommitsAreTaken, plan_now}
 use Rattle.arj_lock_view_law.specs.Plans.{AreKept, OnlySent, SeesMachine, SeesNext, SeesPlan}
 use Rattle.arj_lock_view_law.specs.Roots.{SeesCoord}
-use Rattle.arj_lock_view_law.proofs.CoverSteps.{plans_cover_units}
+use Rattle.arj_lock_view_law.proofs.CoverSteps.{plans_cover_units, plans_say_low}
 use Rattle.arj_lock_view_law.proofs.ActingSteps.{tops_begin, unended_none}
 use Rattle.arj_lock_view_law.proofs.AskSteps.{commits_ask_only}
 use Rattle.arj_lock_view_law.proofs.CallInputSteps.{quiet_whole}
@@ -82,7 +82,7 @@ open_top b intents c kind.Constituent s n = refl
 open_top b intents c kind.Independent s n = refl
 
 module _ (act : Acts) (code : Codes) (paths : Paths) (x p : ℕ) (c : Coord) (u : Uid) (b : Branch) (d : Doing) (intents : List (Uid × Intent)) (S : State) (reached : IsReached S) (free : IsFreeToEnd act paths c u b d) (unserial : b.kind ≢ kind.Serial) (unnested : b.kind ≢ kind.Nested) (undoomed : b.doomed ≡ false) (childless : has_open_child u c.tree ≡ false) (first : IsFirst act c u) (now : S.now ≤ p)
-    (begun : AreBegun (let k = free.steady in k.actions)) (low : HasLowGrant x (act u) (plan_now b c) S) (keeps : AreKept x (act u) (plan_now b c) S) (whole : SeesWhole act code x c S) where
+    (begun : AreBegun (let k = free.steady in k.actions)) (topped : AreTopped act c) (low : HasLowGrant x (act u) (plan_now b c) S) (keeps : AreKept x (act u) (plan_now b c) S) (whole : SeesWhole act code x c S) where
   abbrev unit : ℕ
   unit = root (act u)
 
@@ -132,8 +132,8 @@ module _ (act : Acts) (code : Codes) (paths : Paths) (x p : ℕ) (c : Coord) (u 
         begun = omega (arith, one);
         calls = λ k i. covered.0 k (calls_S k i.there) (alive_S k.act i.alive) (unit_S k.act i.covered);
         includes = λ k i. covered.1 k (includes_S k i.there) (alive_S k.act i.alive) (unit_S k.act i.covered);
-        below = λ q k there about i. subst (λ (s : State). q.grant * 4294967296 ≤ s.kept (root (act u))) (sym only.rest) (low.below q k there about (calls_S k i.there) (alive_S k.act i.alive) (unit_S k.act i.covered));
-        granted = λ q k there about i. low.granted q k there about (includes_S k i.there) (alive_S k.act i.alive) (unit_S k.act i.covered);
+        below = λ q k there about i. subst (λ (s : State). q.grant * 4294967296 ≤ s.kept (root (act u))) (sym only.rest) (low q k there about (calls_S k i.there) (alive_S k.act i.alive) (unit_S k.act i.covered));
+        granted = λ q k there about i. plans_say_low act code paths x c u b d S free begun topped unserial unnested childless whole q k there about (includes_S k i.there) (alive_S k.act i.alive) (unit_S k.act i.covered);
       }
         where
           calls_S : (k : Call) → In k T.calls → In k S.calls
@@ -254,4 +254,4 @@ module _ (act : Acts) (code : Codes) (paths : Paths) (x p : ℕ) (c : Coord) (u 
       decided_same unused = ap (λ (e : Coord). on_root (root_of b.path) (root_after pl) (on_doing (actor b.path) (λ (q : Doing). record q { took = participants pl }) e)) (subst (λ (v : Uid). ended v ending.Commit (commits_in u (Confirming pl) c) ≡ ended v ending.Commit c) (sym its) (same_end unused))
 
 pub top_commits_are_taken : TopCommitsAreTaken
-top_commits_are_taken act code paths x p c u b d intents S reached free begun unserial unnested undoomed childless first now low keeps whole = top_goes act code paths x p c u b d intents S reached free unserial unnested undoomed childless first now begun low keeps whole
+top_commits_are_taken act code paths x p c u b d intents S reached free begun topped unserial unnested undoomed childless first now low keeps whole = top_goes act code paths x p c u b d intents S reached free unserial unnested undoomed childless first now begun topped low keeps whole

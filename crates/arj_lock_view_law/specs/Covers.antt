@@ -1,19 +1,18 @@
 -- What the plan of a top's commit covers of the machine's calls and includes, at its coordinator.
-use Rattle.std.specs.Prelude.{◌≡◌, ◌≢◌, ◌≤◌, ◌*◌, ℕ, false, true, Contains, Some}
+use Rattle.std.specs.Prelude.{◌≡◌, ◌≢◌, ◌≤◌, ◌*◌, ℕ, false, true, Contains}
 use Rattle.arj_protocol.specs.Words.{Uid}
 use Rattle.arj_protocol.specs.Words.kind
-use Rattle.arj_protocol.specs.Ask.{top_of}
 use Rattle.arj_protocol.specs.Commit.{Plan, Used}
 use Rattle.arj_protocol.specs.Coord.{Coord, Doing}
-use Rattle.arj_protocol.specs.Tree.{Branch, branch_of, has_open_child}
-use Rattle.arj_lock_law.specs.Actions.{Act, In, is_action, top}
+use Rattle.arj_protocol.specs.Tree.{Branch, has_open_child}
+use Rattle.arj_lock_law.specs.Actions.{Act, In, top}
 use Rattle.arj_lock_law.specs.State.{Alive, Call, Include, State}
 use Rattle.arj_part_law.specs.Actions.{AreBegun}
 use Rattle.arj_part_law.specs.Copies.{Paths}
 use Rattle.arj_lock_view_law.specs.Acting.{IsFreeToEnd}
 use Rattle.arj_lock_view_law.specs.Acts.{Acts}
 use Rattle.arj_lock_view_law.specs.Copies.{Codes}
-use Rattle.arj_lock_view_law.specs.Inputs.{IsOfUnit, SeesWhole, plan_now}
+use Rattle.arj_lock_view_law.specs.Inputs.{AreTopped, IsOfUnit, SeesWhole, plan_now}
 
 -- the plan has the object as called
 abbrev pub HasCalled : ℕ → Plan → Type 0
@@ -40,10 +39,6 @@ HasOfUnit x m p S = ((k : Call) → In k S.calls → Alive S k.act → IsOfUnit 
 abbrev pub PlansCoverUnits : Type 0
 PlansCoverUnits = (act : Acts) (code : Codes) (paths : Paths) (x : ℕ) (c : Coord) (u : Uid) (b : Branch) (d : Doing) (S : State) (free : IsFreeToEnd act paths c u b d)
     → AreBegun (let s = free.steady in s.actions) → b.kind ≢ kind.Serial → b.kind ≢ kind.Nested → has_open_child u c.tree ≡ false → SeesWhole act code x c S → HasOfUnit x (act u) (plan_now b c) S
-
--- The machine has as top of each of the coordinator's actions the top of its path.
-abbrev pub AreTopped : Acts → Coord → Type 0
-AreTopped act c = (w : Uid) (q : Branch) → branch_of w c.tree ≡ Some q → is_action (act w) ≡ true → top (act w) ≡ act (top_of q.path)
 
 -- The grant that such a plan says of the object isn't above that of an include of its unit that wasn't undone.
 abbrev pub PlansSayLow : Type 0

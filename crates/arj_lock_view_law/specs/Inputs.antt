@@ -11,7 +11,7 @@ use Rattle.arj_protocol.specs.Coord.{Committing, Coord, Doing, Idle, doing_of, n
 use Rattle.arj_protocol.specs.Effect.{Intent}
 use Rattle.arj_protocol.specs.Ending.{abort_action, acked}
 use Rattle.arj_protocol.specs.Tree.{Branch, branch_of, has_open_child, root_of}
-use Rattle.arj_lock_law.specs.Actions.{Act, In, root, top}
+use Rattle.arj_lock_law.specs.Actions.{Act, In, is_action, root, top}
 use Rattle.arj_lock_law.specs.State.{Alive, Call, Include, State}
 use Rattle.arj_part_law.specs.Actions.{AreBegun}
 use Rattle.arj_part_law.specs.Copies.{Paths}
@@ -78,10 +78,13 @@ abbrev pub IsOfUnit : Act → Act → State → Type 0
 IsOfUnit m a S = (root a ≡ root m) × ((top a ≡ m) ⊎ ((let k = S.action (top a) in k.stage) ≡ 3))
 
 -- As a top's commit is called, the grant that its plan says of the object isn't above the binding that the unit keeps, where a call of
--- the unit counts, nor above the grant of an include that does.
-pub record HasLowGrant (x : ℕ) (m : Act) (p : Plan) (S : State) : Type 0 where
-  pub below : (q : Used) (k : Call) → Contains p.used q → q.x ≡ x → In k S.calls → Alive S k.act → IsOfUnit m k.act S → q.grant * 4294967296 ≤ S.kept (root m)
-  pub granted : (q : Used) (k : Include) → Contains p.used q → q.x ≡ x → In k S.includes → Alive S k.act → IsOfUnit m k.act S → q.grant * 4294967296 ≤ k.grant
+-- the unit counts.
+abbrev pub HasLowGrant : ℕ → Act → Plan → State → Type 0
+HasLowGrant x m p S = (q : Used) (k : Call) → Contains p.used q → q.x ≡ x → In k S.calls → Alive S k.act → IsOfUnit m k.act S → q.grant * 4294967296 ≤ S.kept (root m)
+
+-- The machine has as top of each of the coordinator's actions the top of its path.
+abbrev pub AreTopped : Acts → Coord → Type 0
+AreTopped act c = (w : Uid) (q : Branch) → branch_of w c.tree ≡ Some q → is_action (act w) ≡ true → top (act w) ≡ act (top_of q.path)
 
 -- the plan of a commit that is called now
 abbrev pub plan_now : Branch → Coord → Plan
@@ -90,7 +93,7 @@ plan_now b c = plan_for b.path (last_req (doing_of (actor b.path) c)) (root_at (
 -- The commit of a top that isn't doomed is called: it has its line, and asks the first nodes, or is decided at once.
 abbrev pub TopCommitsAreTaken : Type 0
 TopCommitsAreTaken = (act : Acts) (code : Codes) (paths : Paths) (x p : ℕ) (c : Coord) (u : Uid) (b : Branch) (d : Doing) (intents : List (Uid × Intent)) (S : State)
-    → IsReached S → (free : IsFreeToEnd act paths c u b d) → AreBegun (let k = free.steady in k.actions) → b.kind ≢ kind.Serial → b.kind ≢ kind.Nested → b.doomed ≡ false → has_open_child u c.tree ≡ false → IsFirst act c u → S.now ≤ p
+    → IsReached S → (free : IsFreeToEnd act paths c u b d) → AreBegun (let k = free.steady in k.actions) → AreTopped act c → b.kind ≢ kind.Serial → b.kind ≢ kind.Nested → b.doomed ≡ false → has_open_child u c.tree ≡ false → IsFirst act c u → S.now ≤ p
     → HasLowGrant x (act u) (plan_now b c) S → AreKept x (act u) (plan_now b c) S → SeesWhole act code x c S
     → GoesWhole act code x (let e = commit_action b intents c in e.part) S (λ T. OnlyEnded (root (act u)) S T × (T.now ≤ p + 2))
 
