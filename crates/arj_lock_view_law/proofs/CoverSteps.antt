@@ -14,7 +14,7 @@ use Rattle.arj_protocol.specs.Words.ending
 use Rattle.arj_protocol.specs.Words.kind
 use Rattle.arj_protocol.specs.Ask.{actor, top_of}
 use Rattle.arj_protocol.specs.Asking.{last_req}
-use Rattle.arj_protocol.specs.Commit.{Plan, Used, least_of}
+use Rattle.arj_protocol.specs.Commit.{Plan, Used}
 use Rattle.arj_protocol.specs.Coord.{Calling, Committing, Coord, counts_grant, least_grant, top_uses, Doing, Grant, Idle, Joined, Now, Root, Said, counts, is_constituent_branch, is_kept_top, is_retained, retained_in, second_uid, joined_in, objects_in, plan_for, root_at, said_in, survives, used_of, doing_of}
 use Rattle.arj_protocol.specs.Order.{number_set, with_number}
 use Rattle.arj_protocol.specs.Tree.{Branch, Tree, behind, branch_of, ended_so, has_end, has_open_child, is_committed, is_constituent, is_merged, root_of}
@@ -505,7 +505,7 @@ module _ (act : Acts) (code : Codes) (paths : Paths) (x : ℕ) (c : Coord) (u : 
                     let g = by_top r.constituent r.acts r.top in
                     let there_it = subst (λ us. survives r.constituent us c ≡ true) (sym (good.lists.paths_are w join.branch join.found) ∙ join.path) r.survives in
                     let uses : top_uses r.constituent x rr c ≡ true = either (list_any (λ (z : Said). (z.x == x) && survives r.constituent z.path c) rr.said) (list_any (λ (z : Joined). (z.x == x) && survives r.constituent z.path c) rr.joined)
-                          (any_in (λ (z : Joined). (z.x == x) && survives r.constituent z.path c) note.join rr.joined (in_from note.join rr.joined note.there) (λ j. (ap (λ n. n == x) note.about ∙ equal x) j && there_it j)) in
+                    (any_in (λ (z : Joined). (z.x == x) && survives r.constituent z.path c) note.join rr.joined (in_from note.join rr.joined note.there) (λ j. (ap (λ n. n == x) note.about ∙ equal x) j && there_it j)) in
                     either (uid_eq (let y = grant.0 in y.top) (actor b.path)) (is_kept_top (let y = grant.0 in y.top) c && top_uses (let y = grant.0 in y.top) x rr c) (ap (λ (v : Uid). is_kept_top v c && top_uses v x rr c) g ∙ (λ j. r.kept j && uses j))
 
                 who : (uid_eq (let g = grant.0 in g.top) (actor b.path) || (is_kept_top (let g = grant.0 in g.top) c && top_uses (let g = grant.0 in g.top) x rr c)) ≡ true

@@ -12,7 +12,7 @@ use Rattle.arj_protocol.specs.Effect.{Intent}
 use Rattle.arj_protocol.specs.Ending.{abort_action, acked}
 use Rattle.arj_protocol.specs.Tree.{Branch, branch_of, has_open_child, root_of}
 use Rattle.arj_lock_law.specs.Actions.{Act, In, is_action, root, top}
-use Rattle.arj_lock_law.specs.State.{Alive, Call, Include, State}
+use Rattle.arj_lock_law.specs.State.{Alive, Call, State}
 use Rattle.arj_part_law.specs.Actions.{AreBegun}
 use Rattle.arj_part_law.specs.Copies.{Paths}
 use Rattle.arj_lock_view_law.specs.Acting.{IsFirst, IsFreeToEnd}
