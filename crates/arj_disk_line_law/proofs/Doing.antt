@@ -21,7 +21,8 @@ use Rattle.arj_line_law.specs.Book.{book, is_decided, is_top, new_book}
 use Rattle.arj_line_law.specs.Knows.{IsEnd, IsKept, IsKnown, KnowsNode, KnowsUp}
 use Rattle.arj_line_law.proofs.Books.{Sane, open_is, sane_lines, sane_new}
 use Rattle.arj_line_law.proofs.Models.{named_in}
-use Rattle.arj_disk_line_law.specs.Said.{IsDoneBy, IsPlain, KnowsIdle}
+use Rattle.arj_disk_line_law.specs.Said.{IsDoneBy, IsPlain}
+use Rattle.arj_disk_line_law.proofs.IdleKnown.{KnowsIdle}
 use Rattle.arj_disk_line_law.proofs.Steps.{plain_more}
 
 -- it stays so

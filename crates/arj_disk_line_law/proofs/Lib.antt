@@ -1,4 +1,5 @@
 pub mod Decisions
 pub mod Doing
+pub mod IdleKnown
 pub mod Steps
 pub mod Tying

@@ -44,14 +44,19 @@ use Rattle.arj_line_law.specs.Knows.{IsKept, IsWritten, KnowsUp, AreLate, HasBra
 use Rattle.arj_line_law.proofs.Books.{decided_later, Later, book_more, quiet_book}
 use Rattle.arj_line_law.proofs.Models.{decided_in, among}
 use Rattle.arj_line_law.proofs.Runs.{lines_keep, act_turns, message_turns, rest_goes, tick_turns}
-use Rattle.arj_disk_line_law.specs.Said.{AreSaid, IsLate, IsTied, RunsAreJournalled, AreDone, IsDoneBy, KnowsIdle, WithTie}
+use Rattle.arj_disk_line_law.specs.Said.{AreSaid, IsLate, IsTied, RunsAreJournalled, AreDone, IsDoneBy, WithTie}
+use Rattle.arj_disk_line_law.proofs.IdleKnown.{KnowsIdle, knows_idle}
 use Rattle.arj_disk_line_law.proofs.Decisions.{may_decide, new_has_record}
 use Rattle.arj_disk_line_law.proofs.Steps.{IsNear, IsStep, later_lines, near_same, step_halted, step_walk, nothing_more}
 use Rattle.arj_model.specs.Actions.{Act, acts as acts_of}
 use Rattle.arj_disk_view_law.proofs.Later.{effects_are_later}
 use Rattle.arj_disk_view_law.proofs.Frames.{node_here}
-use Rattle.arj_line_law.specs.Laws.{AreDistinct, IsSound}
-use Rattle.arj_line_law.specs.Right.{has_act}
+use Rattle.arj_line_law.specs.Idle.{HasNothing, IsIdle}
+use Rattle.arj_line_law.specs.Laws.{AreDistinct, IsDone, IsSound}
+use Rattle.arj_line_law.specs.Right.{AreRight, has_act}
+use Rattle.arj_line_law.proofs.Nothing.{idle_has_nothing}
+use Rattle.arj_run_law.specs.Worlds.{IsGood}
+use Rattle.arj_run_law.proofs.AllRuns.{all_keep as parts_good}
 use Rattle.arj_line_law.proofs.Tops.{is_sound}
 use Rattle.arj_line_law.proofs.Turns.{IsOld, IsOldOr, late_walk}
 use Rattle.arj_disk_line_law.proofs.Doing.{branch_done, done_later, none_open, record_done}
@@ -315,9 +320,11 @@ one_act (x ∷ xs) apart a b (inr i) (inl j) same = absurd (never (among xs a i)
 one_act (x ∷ xs) apart a b (inr i) (inr j) same = one_act xs apart.3 a b i j same
 
 pub runs_are_journalled : RunsAreJournalled
-runs_are_journalled hd x test part kept parts idle idles es short =
-    let R : Seen → Type 0 = λ M. test M ≡ true in
-    let Idle : List Line → Uid → Type 0 = λ ls u. idle ls u ≡ true in
+runs_are_journalled hd x part parts es short =
+    let R : Seen → Type 0 = IsGood in
+    let Idle : List Line → Uid → Type 0 = λ ls u. IsIdle (book ls) u in
+    let kept = parts_good hd in
+    let idles = knows_idle R in
     let P : Kinds → Office → Seen → Type 0 = λ tops A M. part tops A M ≡ true in
     let Q : Kinds → Seen → Type 0 = IsCarried (WithTie P Idle) x in
     let B : Seen → Type 0 = Both hd x R KnowsFew P Idle kept parts idles in
@@ -338,15 +345,15 @@ runs_are_journalled hd x test part kept parts idle idles es short =
         machine = s.0.world;
         sees = s.1.disks;
         said = λ u n here d. ⊎_elim (λ is. inl (decided_in lines right u is)) (λ late. inr late) (s.2.1.0 u n here d);
-        done = λ a there top is. its_own Idle lines (is_sound lines right) a there top s.0.world (s.2.1.1 a.uid (sym (let b = (is_sound lines right).reads in b.decided a there) ∙ is));
+        done = λ a there top is. its_own lines right a there is (is_sound lines right) top s.0.world (s.2.1.1 a.uid (sym (let b = (is_sound lines right).reads in b.decided a there) ∙ is));
       };
     }
   where
-    its_own : (Idle : List Line → Uid → Type 0) (lines : List Line) → IsSound lines → (a : Act) → Contains (acts_of lines) a → is_top a.kind ≡ true → (W : machine.World) → IsDoneBy Idle W lines a.uid → (decided W.disk (uid_number a.uid) ≡ true) ⊎ (W.disk.bare (uid_number a.uid) ≡ true) ⊎ Idle lines a.uid
-    its_own Idle lines sound a there top W (inl d) = inl d
-    its_own Idle lines sound a there top W (inr (inl b)) = inr (inl b)
-    its_own Idle lines sound a there top W (inr (inr (inl i))) = inr (inr i)
-    its_own Idle lines sound a there top W (inr (inr (inr (p, its, uid, plain)))) =
+    its_own : (lines : List Line) → AreRight new_book lines → (a : Act) → Contains (acts_of lines) a → IsDone lines a → IsSound lines → is_top a.kind ≡ true → (W : machine.World) → IsDoneBy (λ ls u. IsIdle (book ls) u) W lines a.uid → (decided W.disk (uid_number a.uid) ≡ true) ⊎ (W.disk.bare (uid_number a.uid) ≡ true) ⊎ HasNothing lines a
+    its_own lines right a there is sound top W (inl d) = inl d
+    its_own lines right a there is sound top W (inr (inl b)) = inr (inl b)
+    its_own lines right a there is sound top W (inr (inr (inl i))) = inr (inr (idle_has_nothing lines right a there is i))
+    its_own lines right a there is sound top W (inr (inr (inr (p, its, uid, plain)))) =
         let b = sound.reads in
         let same = one_act (acts_of lines) sound.distinct p a (subst (λ xs. Among p xs) b.begun (in_from p (let B = book lines in B.acts) its)) (in_from a (acts_of lines) there) uid in
         absurd (never (ap (λ (y : Act). is_top y.kind) same ∙ top) plain)

@@ -1,27 +1,24 @@
 -- The decisions of an object's machine against the journal, and back.
-use Rattle.std.specs.Prelude.{◌≡◌, ◌⊎◌, ◌≤◌, ℕ, Bool, true, false, List, [], ◌++◌, None, Some, Contains, length}
+use Rattle.std.specs.Prelude.{◌≡◌, ◌⊎◌, ◌≤◌, ℕ, Bool, true, false, List, None, Some, Contains, length}
 use Rattle.arj_model.specs.Actions.{Act, acts}
 use Rattle.arj_protocol.specs.Words.{Header, Line, Uid}
-use Rattle.arj_protocol.specs.Words.ending
-use Rattle.arj_protocol.specs.Coord.{Doing, doing_of}
-use Rattle.arj_protocol.specs.Effect.{Disk, Intent}
-use Rattle.arj_protocol.specs.Node.{Parts}
+use Rattle.arj_protocol.specs.Effect.{Intent}
 use Rattle.arj_protocol.specs.Order.{uid_number}
 use Rattle.arj_protocol.specs.Step.{Node}
-use Rattle.arj_protocol.specs.Tree.{Branch, branch_of}
 use Rattle.arj_protocol.specs.World.{Asked, format, run_all}
 use Rattle.arj_disk_law.specs.Effects as machine
 use Rattle.arj_disk_law.specs.State.{decided}
-use Rattle.arj_view_law.specs.Keeps.{Holds, Keeps}
-use Rattle.arj_view_law.specs.Seen.{Seen, up}
+use Rattle.arj_view_law.specs.Keeps.{Holds}
+use Rattle.arj_view_law.specs.Seen.{Seen}
 use Rattle.arj_disk_view_law.specs.Sees.{Kinds, SeesDisks}
 use Rattle.arj_call_law.specs.Runs.{KnowsFew}
 use Rattle.arj_binding_law.specs.Scripts.{most_events}
 use Rattle.arj_disk_law.specs.Names.{Office}
 use Rattle.arj_disk_run_law.specs.Part.{KeepsPart}
 use Rattle.arj_line_law.specs.Book.{book, is_decided, is_top}
-use Rattle.arj_line_law.specs.Knows.{IsKept}
+use Rattle.arj_line_law.specs.Idle.{HasNothing}
 use Rattle.arj_line_law.specs.Laws.{IsCommittedIn, IsDone}
+use Rattle.arj_run_law.specs.Worlds.{IsGood}
 
 -- ---- what the machine decides is said
 
@@ -48,12 +45,6 @@ IsDoneBy Idle W lines u = (decided W.disk (uid_number u) ≡ true) ⊎ (W.disk.b
 abbrev pub AreDone : (List Line → Uid → Type 0) → machine.World → Seen → Type 0
 AreDone Idle W M = (u : Uid) → is_decided (book M.lines) u ≡ true → IsDoneBy Idle W M.lines u
 
--- Which tops are idle is said of a journal. Of a relation it is taken that a top that committed while nobody took part in it is idle,
--- and that a decided one stays so as the journal goes on; nodes are good and know the journal there.
-pub record KnowsIdle (R : Seen → Type 0) (Idle : List Line → Uid → Type 0) : Type 0 where
-  pub stays : (M : Seen) → R M → IsKept M → (before more : List Line) (u : Uid) → M.lines ≡ before ++ more → is_decided (book before) u ≡ true → Idle before u → Idle M.lines u
-  pub alone : (k : ℕ) (d : Disk) (t : Parts) (M : Seen) → R (up k d t M) → IsKept (up k d t M) → (u : Uid) (b : Branch) (q : Doing) → branch_of u t.coord.tree ≡ Some b → doing_of u t.coord ≡ Some q → b.ended ≡ Some ending.Commit → is_top b.kind ≡ true → q.took ≡ [] → Idle M.lines u
-
 -- ---- runs
 
 -- the machine's decisions are those of the journal
@@ -64,17 +55,17 @@ IsTied Idle W M = AreSaid W M × AreDone Idle W M
 abbrev pub WithTie : (Kinds → Office → Seen → Type 0) → (List Line → Uid → Type 0) → Kinds → Office → Seen → Type 0
 WithTie P Idle tops A M = P tops A M × IsTied Idle A.world M
 
--- the same, in the words of `arj_model`
-pub record IsJournalled (x : ℕ) (Idle : List Line → Uid → Type 0) (M : Seen) : Type 0 where
+-- the same, in the words of `arj_model`: a committed top is decided, or needed no record, or nothing of it survives in the journal
+pub record IsJournalled (x : ℕ) (M : Seen) : Type 0 where
   pub tops : Kinds
   pub machine : machine.World
   pub sees : SeesDisks x tops machine M
   pub said : (u : Uid) (n : Node) → M.nodes u.node ≡ Some n → decided (let W = machine in W.disk) (uid_number u) ≡ true → IsCommittedIn M.lines u ⊎ IsLate u n
   pub done : (a : Act) → Contains (acts M.lines) a → is_top a.kind ≡ true → IsDone M.lines a
-      → (decided (let W = machine in W.disk) (uid_number a.uid) ≡ true) ⊎ ((let W = machine in W.disk.bare) (uid_number a.uid) ≡ true) ⊎ Idle M.lines a.uid
+      → (decided (let W = machine in W.disk) (uid_number a.uid) ≡ true) ⊎ ((let W = machine in W.disk.bare) (uid_number a.uid) ≡ true) ⊎ HasNothing M.lines a
 
--- What is kept by each handler and says who is idle, with what is kept beside the machine's state of what coordinators have and messages
--- claim, has it in the run of every script; calls are known while few bindings were made.
+-- What is kept beside the machine's state of what coordinators have and messages claim has it in the run of every script: nodes are
+-- good there, and calls are known while few bindings were made.
 abbrev pub RunsAreJournalled : Type 0
-RunsAreJournalled = (hd : Header) (x : ℕ) (test : Seen → Bool) (part : Kinds → Office → Seen → Bool) → Keeps hd (λ M. test M ≡ true) → KeepsPart hd x (λ M. (test M ≡ true) × KnowsFew M) (λ tops A M. part tops A M ≡ true) → (idle : List Line → Uid → Bool) → KnowsIdle (λ M. test M ≡ true) (λ lines u. idle lines u ≡ true)
-    → (es : List Asked) → length es ≤ most_events → Holds hd (IsJournalled x (λ lines u. idle lines u ≡ true)) (run_all es (format hd))
+RunsAreJournalled = (hd : Header) (x : ℕ) (part : Kinds → Office → Seen → Bool) → KeepsPart hd x (λ M. IsGood M × KnowsFew M) (λ tops A M. part tops A M ≡ true)
+    → (es : List Asked) → length es ≤ most_events → Holds hd (IsJournalled x) (run_all es (format hd))
