@@ -6,7 +6,6 @@ use Rattle.arj_lock.proofs.Members.{In, in_from}
 use Rattle.arj_protocol.specs.Words.{Uid, Ask, Asked, End, Head, Header, Message, ObjectLine, ObjectState, Row, asks, entry, is_on, last_uid, object}
 use Rattle.arj_protocol.specs.Words.ask
 use Rattle.arj_protocol.specs.Words.body
-use Rattle.arj_protocol.specs.Words.confirmed
 use Rattle.arj_protocol.specs.Words.ending
 use Rattle.arj_protocol.specs.Words.loaded
 use Rattle.arj_protocol.specs.Words.message
@@ -16,7 +15,7 @@ use Rattle.arj_protocol.specs.Ask.{Reply, actor, answers, asked_by, last_end, re
 use Rattle.arj_protocol.specs.Asking.{again_all, begin_action, heard}
 use Rattle.arj_protocol.specs.Confirm.{back_lines, confirm, recovered_naming}
 use Rattle.arj_protocol.specs.Coord.{Coord}
-use Rattle.arj_protocol.specs.Effect.{did_nothing, Disk, Effect, Say, Send, Do, Look, Pair, Prep, Ready, Already, Old, InDoubt, Prepare, Commit, Abort, PutInc, Served, Intent, held_at, holder_of, is_prepared, moved, prepare_answer, reply}
+use Rattle.arj_protocol.specs.Effect.{did_nothing, Disk, Effect, Say, Send, Do, Look, Pair, Prep, Ready, Already, Old, InDoubt, Prepare, PutInc, Served, Intent, held_at, holder_of, is_prepared, moved, prepare_answer}
 use Rattle.arj_protocol.specs.Ending.{acked, answer_query}
 use Rattle.arj_protocol.specs.Follow.{tick_outs}
 use Rattle.arj_protocol.specs.Named.{Named, end_named, hello_named}
@@ -33,7 +32,7 @@ use Rattle.arj_protocol.proofs.PartSays.{activate_own, ends_own, invoke_own, vot
 use Rattle.arj_part_law.proofs.Pairs.{moved_names}
 use Rattle.arj_disk_law.proofs.Base.{never_some, some_is}
 use Rattle.arj_view_law.specs.Keeps.{Keeps}
-use Rattle.arj_view_law.specs.Seen.{Seen, at, down, given, see, up}
+use Rattle.arj_view_law.specs.Seen.{Seen, down, given, see, up}
 use Rattle.arj_view_law.specs.Walks.{Walks, Up}
 use Rattle.arj_disk_view_law.proofs.FirstSeen.{first_at}
 use Rattle.arj_disk_view_law.proofs.HeardWalks.{is_say}

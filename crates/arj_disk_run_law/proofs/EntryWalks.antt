@@ -1,5 +1,5 @@
 -- Entries at naming, under each handler.
-use Rattle.std.proofs.Common.{◌≡◌, ◌⊎◌, ℕ, ◌+◌, ◌==◌, List, [], ◌∷◌, ◌++◌, Bool, true, false, cond, filter, map, not, Option, Some, None, refl, sym, ◌∙◌, ap, subst, inl, inr, ⊎_elim}
+use Rattle.std.proofs.Common.{◌≡◌, ◌⊎◌, ℕ, ◌==◌, List, [], ◌∷◌, ◌++◌, Bool, true, false, cond, filter, map, not, Option, Some, None, refl, sym, ◌∙◌, ap, subst, inl, inr, ⊎_elim}
 use Rattle.std.specs.Prelude.{if◌then◌else◌, is_some, unwrap_or, ◌||◌}
 use Rattle.std.specs.List.{AllByRecursion, list_all}
 use Rattle.std.proofs.lemmas.Bool.{and_parts}
@@ -7,7 +7,6 @@ use Rattle.arj_lock.proofs.Members.{In, in_filter, in_filter_map, in_from, in_to
 use Rattle.arj_protocol.specs.Words.{Uid, Binding, ObjectState, Path, ConfirmedReply, entry, is_on, nobody}
 use Rattle.arj_protocol.specs.Words.body
 use Rattle.arj_protocol.specs.Words.confirmed
-use Rattle.arj_protocol.specs.Words.message
 use Rattle.arj_protocol.specs.Words.mode
 use Rattle.arj_protocol.specs.Words.recorded
 use Rattle.arj_protocol.specs.Words.role
