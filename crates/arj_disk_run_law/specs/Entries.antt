@@ -27,6 +27,7 @@ pub record IsInStep (x : ℕ) (n : Naming) (d : Pair) : Type 0 where
   pub taken : (a : Uid) → is_prepared a d ≡ true → is_on n.confirmed a ≡ true
   pub there : is_some (at_number x n.objects) ≡ true
 
+-- so it is while naming is up
 abbrev pub KnowsEntries : ℕ → Option Naming → Pair → Type 0
 KnowsEntries x None d = ⊤
 KnowsEntries x (Some n) d = IsInStep x n d
@@ -36,6 +37,7 @@ pub record IsEntryNode (x : ℕ) (n : Node) : Type 0 where
   pub disk : HasEntries x (let d = n.disk in d.names)
   pub live : (t : Parts) → n.live ≡ Some t → KnowsEntries x t.naming (let d = n.disk in d.names)
 
+-- so it is of node 1
 abbrev pub HaveEntries : ℕ → Seen → Type 0
 HaveEntries x M = (n : Node) → M.nodes 1 ≡ Some n → IsEntryNode x n
 

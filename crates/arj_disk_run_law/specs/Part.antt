@@ -39,6 +39,7 @@ pub record Going : Type 0 where
 abbrev pub going_of : ℕ → ℕ → Disk → Parts → Did Coord → Going
 going_of e k d t did = record { event = e; node = k; disk = d; before = t; outs = did.outs; after = with_coord t did.part }
 
+-- a node's tick
 abbrev pub ticking : ℕ → ℕ → Disk → Parts → Going
 ticking e k d t = record { event = e; node = k; disk = d; before = t; outs = tick_outs (record { number = k; disk = d; live = Some t }) t; after = with_coord t (again_all t.coord.doings t.coord).part }
 
@@ -48,6 +49,7 @@ ticking e k d t = record { event = e; node = k; disk = d; before = t; outs = tic
 abbrev pub HoldsFrom : (Kinds → Office → Seen → Type 0) → ℕ → Kinds → Option ℕ → Office → Seen → Type 0
 HoldsFrom P x tops o A N = (B : Office) → Changes o A B → SeesBoth x tops B N → P tops B N
 
+-- this holds at each work of a step, however a stop falls on it, and at its end
 abbrev pub HoldsAlong : (Seen → Type 0) → Going → Seen → Type 0
 HoldsAlong H g M = Walks H g.event g.node g.outs (Up H g.node g.after) g.disk M
 

@@ -33,5 +33,6 @@ pub record IsOfNode (w : World) (a : Act) : Type 0 where
   pub there : at_place a.uid.node w.nodes ≡ Some node
   pub present : a.uid.inc ≤ (let d = node.disk in d.inc)
 
+-- so it is of each action that began
 abbrev pub HaveNodes : World → Type 0
 HaveNodes w = (a : Act) → Contains (acts w.lines) a → IsOfNode w a

@@ -43,10 +43,12 @@ abbrev pub waits_for_naming : Now → Bool
 waits_for_naming (Committing (commit.Confirming p)) = true
 waits_for_naming _ = false
 
+-- a top's number, where its commit waits so
 abbrev pub decided_in : Uid → Option Doing → Option ℕ
 decided_in u None = None
 decided_in u (Some q) = if waits_for_naming q.now then Some (uid_number u) else None
 
+-- the number of the one that is answered
 abbrev pub decided_of : Coord → Option (Asked × Reply) → Option ℕ
 decided_of c None = None
 decided_of c (Some a) = decided_in (let q = a.0 in q.act) (doing_of (let q = a.0 in q.act) c)
@@ -60,6 +62,7 @@ abbrev pub Changes : Option ℕ → Office → Office → Type 0
 Changes None A B = OnlyMemory A B
 Changes (Some t) A B = OnlyDecided (λ z. z == t) A B
 
+-- so both halves are seen
 abbrev pub IsSeenAfter : Option ℕ → ℕ → Kinds → Office → Seen → Type 0
 IsSeenAfter o x tops A M = (B : Office) × Changes o A B × SeesBoth x tops B M
 
@@ -83,6 +86,7 @@ pub record CountsOn (x : ℕ) (tops : Kinds) (d : Disk) (n : Naming) (m : Messag
   pub confirmed : IsForGrants x d n m A
   pub there : is_some (at_number x n.objects) ≡ true
 
+-- it waits for votes
 abbrev pub is_voting : Machine → Bool
 is_voting (commit.Voting p left) = true
 is_voting _ = false
@@ -112,11 +116,12 @@ abbrev pub InputsKeepBoth : Type 0
 InputsKeepBoth = (hd : Header) (x : ℕ) (tops : Kinds) (e k : ℕ) (d : Disk) (t : Parts) (i : Input) (A : Office) (M : Seen) → tops.walk ≡ None → KnowsKinds tops → KnowsCoord tops d.intents t.coord → is_act i ≡ true → refusal_up hd i t.coord ≡ None
     → MayGoOn x A (let did = acts i d.intents t.coord in did.part) → SeesBoth x tops A (up k d t M) → DidKeepsBoth x tops A e k d t (acts i d.intents t.coord) M
 
--- An action begins, and a node ticks.
+-- An action begins.
 abbrev pub ActionsKeepBoth : Type 0
 ActionsKeepBoth = (x : ℕ) (tops : Kinds) (e k : ℕ) (d : Disk) (t : Parts) (l : Label) (g : Labelled) (how : Kind) (parent : Option Label) (above : Option Branch) (A : Office) (M : Seen) → tops.walk ≡ None → KnowsCoord tops d.intents t.coord
     → IsOfKind tops (next_uid t.coord.tree) how (path_below how above (next_uid t.coord.tree)) → SeesBoth x tops A (up k d t M) → DidKeepsBoth x tops A e k d t (begin_action l how parent above t.coord) (given l g M)
 
+-- A node ticks.
 abbrev pub TicksKeepBoth : Type 0
 TicksKeepBoth = (x : ℕ) (tops : Kinds) (e k : ℕ) (d : Disk) (t : Parts) (A : Office) (M : Seen) → tops.walk ≡ None → KnowsCoord tops d.intents t.coord → AllByRecursion (λ u. was_begun u M.lines ≡ true) (holders d t) → SeesBoth x tops A (up k d t M)
     → BothWalk x tops A e k (tick_outs (record { number = k; disk = d; live = Some t }) t) (with_coord t (again_all t.coord.doings t.coord).part) d M
