@@ -18,7 +18,7 @@ use Rattle.arj_part_law.specs.Tops.{Owners}
 use Rattle.arj_part_law.proofs.Keys.{put_cases, with_on}
 use Rattle.arj_lock_view_law.specs.Acts.{Acts, AreOne, IsTopped}
 use Rattle.arj_lock_view_law.specs.Bindings.{BindsAreSeen, IsGood}
-use Rattle.arj_lock_view_law.specs.Going.{Goes, OnlyNaming, ShowsBound}
+use Rattle.arj_lock_view_law.specs.Going.{Goes, NobodyTold, OnlyNaming, ShowsBound}
 use Rattle.arj_lock_view_law.specs.Named.{Place, SeesMade, SeesNamed, binding_at}
 use Rattle.arj_lock_view_law.proofs.RowSteps.{asked_seen, clear_seen, raised_seen}
 
@@ -79,14 +79,14 @@ module _ (act : Acts) (owner : Owners) (x : ℕ) (n : Place) (o : Named) (p : Pa
 
   -- what an answer leaves and shows
   abbrev Answers : ℕ → Named → Option BoundReply → State → Type 0
-  Answers k v r T = SeesNamed act x (at_count k) v T × OnlyNaming S T × ShowsBound act (top_of p) avoid T r
+  Answers k v r T = SeesNamed act x (at_count k) v T × OnlyNaming S T × NobodyTold S T × ShowsBound act (top_of p) avoid T r
 
   nothing_else : OnlyNaming S S
   nothing_else = record { rest = refl; bindings = λ b l. refl; sent = λ m i. i }
 
   -- a lock conflicts
   refused : (holder : Uid) (m : Mode) → Goes S (Answers count o (Some (bound.Conflict holder m)))
-  refused holder m = record { state = S; run = stay; holds = (sees, nothing_else, tt) }
+  refused holder m = record { state = S; run = stay; holds = (sees, nothing_else, (refl, refl), tt) }
 
   -- a recorded binding is of this incarnation
   present : (b : Binding) → o.recorded ≡ Some b → S.naming.first ≤ S.naming.recorded
@@ -121,6 +121,7 @@ module _ (act : Acts) (owner : Owners) (x : ℕ) (n : Place) (o : Named) (p : Pa
       holds = (
         live_sees,
         record { rest = refl; bindings = λ b i. refl; sent = λ m i. inr i },
+        (refl, refl),
         (inl (ap (machine.Live a) (sym (sees.recorded l.binding (good.live l live)))), (let s = sees.live l live in s.server), (let s = sees.live l live in (s.named, s.incarnation)), more),
       );
     }
@@ -144,6 +145,7 @@ module _ (act : Acts) (owner : Owners) (x : ℕ) (n : Place) (o : Named) (p : Pa
         asked = sees.asked;
       },
       nothing_else,
+      (refl, refl),
       (let s = sees.made (top_of p) m is in (s.sent, s.server, s.maker, more)),
     );
   }
@@ -218,7 +220,7 @@ module _ (act : Acts) (owner : Owners) (x : ℕ) (n : Place) (o : Named) (p : Pa
     new_goes = record {
       state = V;
       run = step (BindNew a b server) (topped.top, sees.bound, clear_seen act (entry x) (top_path p) mode.Write o.rows S.naming.rows topped.along sees.rows free) stay;
-      holds = (new_sees, record { rest = refl; bindings = λ k less. old_binding k (let m = sees.bound in omega (arith, less, m)); sent = λ m i. inr i }, (new_made.sent, new_made.server, new_made.maker, (let m = sees.bound in omega (arith, m, before))));
+      holds = (new_sees, record { rest = refl; bindings = λ k less. old_binding k (let m = sees.bound in omega (arith, less, m)); sent = λ m i. inr i }, (refl, refl), (new_made.sent, new_made.server, new_made.maker, (let m = sees.bound in omega (arith, m, before))));
     }
 
   -- ---- an include
@@ -252,6 +254,7 @@ module _ (act : Acts) (owner : Owners) (x : ℕ) (n : Place) (o : Named) (p : Pa
           asked = write_asked;
         },
         record { rest = refl; bindings = λ k less. refl; sent = λ m i. inr i },
+        (refl, refl),
         inl (ap (machine.Granted a) (sym sees.first)),
       );
     }

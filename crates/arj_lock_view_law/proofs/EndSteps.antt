@@ -82,5 +82,6 @@ aborts_are_seen act owner x n told o u S owned later may good sees = record {
         (dropped_seen act (entry x) u o.rows S.naming.rows (along_all act owner owned u o.rows (λ r i. good.rows.holders r (in_to r o.rows i))) sees.rows),
     only_naming S (let T = next (DropEntry (act u)) S in T.naming),
     told_below act u S,
+    refl,
   );
 }

@@ -28,6 +28,7 @@ pub mod LeftSteps
 pub mod ListedSteps
 pub mod LogSteps
 pub mod MoveSteps
+pub mod NamingSteps
 pub mod NewSteps
 pub mod NoteSteps
 pub mod OneSteps
@@ -44,6 +45,7 @@ pub mod SentSteps
 pub mod ServerSteps
 pub mod ShownSteps
 pub mod StopSteps
+pub mod ToldNamingSteps
 pub mod ToldSteps
 pub mod TopInputSteps
 pub mod TreeSteps

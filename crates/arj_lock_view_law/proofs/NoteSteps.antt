@@ -18,24 +18,24 @@ use Rattle.arj_part_law.specs.Tops.{Owners}
 use Rattle.arj_part_law.proofs.Keys.{put_cases}
 use Rattle.arj_lock_view_law.specs.Acts.{Acts, AreOne}
 use Rattle.arj_lock_view_law.specs.Bindings.{HellosAreSeen, IsGood, IsUntold, NotesAreSeen}
-use Rattle.arj_lock_view_law.specs.Going.{Goes, OnlyNaming, ShowsNoted}
+use Rattle.arj_lock_view_law.specs.Going.{Goes, NobodyTold, OnlyNaming, ShowsNoted}
 use Rattle.arj_lock_view_law.specs.Named.{IsNamedSo, Place, SeesLive, SeesMade, SeesNamed}
 use Rattle.arj_lock_view_law.specs.Rows.{SeesRows, held_in}
 use Rattle.arj_lock_view_law.proofs.RowSteps.{lowered_keeps, lowered_others}
 
 module _ (act : Acts) (owner : Owners) (x : ℕ) (n : Place) (o : Named) (t : Uid) (b : Binding) (i : ℕ) (S : State) (one : AreOne act) (untold : IsUntold act owner n S t) (named : IsNamedSo S b i) (good : IsGood owner x n o) (sees : SeesNamed act x n o S) where
   abbrev Answers : Named → Option RecordedReply → State → Type 0
-  Answers v r T = SeesNamed act x n v T × OnlyNaming S T × ShowsNoted b T r
+  Answers v r T = SeesNamed act x n v T × OnlyNaming S T × NobodyTold S T × ShowsNoted b T r
 
   nothing_else : OnlyNaming S S
   nothing_else = record { rest = refl; bindings = λ k l. refl; sent = λ m j. j }
 
   unknown : Goes S (Answers o None)
-  unknown = record { state = S; run = stay; holds = (sees, nothing_else, tt) }
+  unknown = record { state = S; run = stay; holds = (sees, nothing_else, (refl, refl), tt) }
 
   -- it was recorded before
   again : In (machine.Recorded (binding_number b)) S.net → Goes S (Answers o (Some recorded.Yes))
-  again there = record { state = S; run = stay; holds = (sees, nothing_else, there) }
+  again there = record { state = S; run = stay; holds = (sees, nothing_else, (refl, refl), there) }
 
   -- ---- it is recorded
 
@@ -136,7 +136,7 @@ module _ (act : Acts) (owner : Owners) (x : ℕ) (n : Place) (o : Named) (t : Ui
     noted_goes = record {
       state = T;
       run = step (Record k) guard stay;
-      holds = (subst (λ (v : Named). SeesNamed act x n v T) (same_rest (is_lowered x t used)) seen_after, record { rest = refl; bindings = λ j l. refl; sent = λ q j. inr j }, inl (ap machine.Recorded is));
+      holds = (subst (λ (v : Named). SeesNamed act x n v T) (same_rest (is_lowered x t used)) seen_after, record { rest = refl; bindings = λ j l. refl; sent = λ q j. inr j }, (refl, refl), inl (ap machine.Recorded is));
     }
 
   -- ---- whichever it is

@@ -25,7 +25,7 @@ use Rattle.arj_part_law.specs.Tops.{Owners}
 use Rattle.arj_lock_view_law.specs.Acts.{Acts, AreOne}
 use Rattle.arj_lock_view_law.specs.Bindings.{IsGood}
 use Rattle.arj_lock_view_law.specs.Ends.{CommitsAreSeen, MayGo, MayPass, OnlyTold, PassesAreSeen}
-use Rattle.arj_lock_view_law.specs.Going.{Goes, OnlyNaming}
+use Rattle.arj_lock_view_law.specs.Going.{Goes, OnlyNaming, SameConfirmed}
 use Rattle.arj_lock_view_law.specs.Named.{Place, SeesNamed}
 use Rattle.arj_lock_view_law.specs.Rows.{SeesRows, held_in, strength}
 use Rattle.arj_lock_view_law.proofs.EndSteps.{ended_seen, only_naming, told_below}
@@ -191,11 +191,11 @@ module _ (act : Acts) (owner : Owners) (x : ℕ) (n : Place) (told : Told) (o : 
     abbrev T : State
     T = next (DropEntry (act u)) S
 
-    pub commit_goes : Goes S (λ V. SeesNamed act x (record n { told = told }) (end_named u ending.Commit o) V × OnlyNaming S V × OnlyTold act u S V)
+    pub commit_goes : Goes S (λ V. SeesNamed act x (record n { told = told }) (end_named u ending.Commit o) V × OnlyNaming S V × OnlyTold act u S V × SameConfirmed S V)
     commit_goes = record {
       state = T;
       run = step (DropEntry (act u)) may stay;
-      holds = (ended_seen act owner x n told o u S later good sees (pass_rows u o.rows) T.naming.rows T.naming.told (gone_seen act one (entry x) u o.rows S.naming.rows sees.rows), only_naming S T.naming, told_below act u S);
+      holds = (ended_seen act owner x n told o u S later good sees (pass_rows u o.rows) T.naming.rows T.naming.told (gone_seen act one (entry x) u o.rows S.naming.rows sees.rows), only_naming S T.naming, told_below act u S, refl);
     }
 
   -- ---- or pass
@@ -214,11 +214,11 @@ module _ (act : Acts) (owner : Owners) (x : ℕ) (n : Place) (told : Told) (o : 
         by true is h = inr (subst (λ (b : Act). on b (act u) ≡ true) (may.below ∙ sym (same_is a (Sub (Root may.unit) may.number) is)) (on_self (act u)))
         by false is h = inl h
 
-    pub pass_goes : Goes S (λ W. SeesNamed act x (record n { told = told }) (end_named u ending.Commit o) W × OnlyNaming S W × OnlyTold act u S W)
+    pub pass_goes : Goes S (λ W. SeesNamed act x (record n { told = told }) (end_named u ending.Commit o) W × OnlyNaming S W × OnlyTold act u S W × SameConfirmed S W)
     pass_goes = record {
       state = V;
       run = step (PassEntry may.unit may.number) (ap (λ (b : Act). (S.action b).stage) (sym may.below) ∙ may.committed) stay;
-      holds = (ended_seen act owner x n told o u S later good sees (pass_rows u o.rows) V.naming.rows V.naming.told rows_passed, only_naming S V.naming, told_passed);
+      holds = (ended_seen act owner x n told o u S later good sees (pass_rows u o.rows) V.naming.rows V.naming.told rows_passed, only_naming S V.naming, told_passed, refl);
     }
 
 pub commits_are_seen : CommitsAreSeen

@@ -8,7 +8,7 @@ use Rattle.arj_lock_law.specs.State.{State}
 use Rattle.arj_part_law.specs.Objects.{IsGoodObject}
 use Rattle.arj_part_law.specs.Tops.{Owners}
 use Rattle.arj_lock_view_law.specs.Acts.{Acts, AreOne, IsTopped}
-use Rattle.arj_lock_view_law.specs.Going.{Goes, OnlyNaming, ShowsBound, ShowsNoted}
+use Rattle.arj_lock_view_law.specs.Going.{Goes, NobodyTold, OnlyNaming, ShowsBound, ShowsNoted}
 use Rattle.arj_lock_view_law.specs.Named.{IsNamedSo, Place, SeesNamed}
 
 -- what the parts of naming keep of the object
@@ -21,7 +21,7 @@ abbrev pub BindsAreSeen : Type 0
 BindsAreSeen = (act : Acts) (owner : Owners) (x : ℕ) (n : Place) (o : Named) (p : Path) (include : Bool) (avoid : Binding) (e : Entry) (S : State)
     → AreOne act → IsTopped act p → binding_number avoid < S.naming.bound → IsGood owner x n o → SeesNamed act x n o S
     → let r = bind_named n.inc x p include avoid e (record { named = o; count = n.count }) in
-    Goes S (λ T. SeesNamed act x (record n { count = (let c = r.part in c.count) }) (let c = r.part in c.named) T × OnlyNaming S T × ShowsBound act (top_of p) avoid T r.reply)
+    Goes S (λ T. SeesNamed act x (record n { count = (let c = r.part in c.count) }) (let c = r.part in c.named) T × OnlyNaming S T × NobodyTold S T × ShowsBound act (top_of p) avoid T r.reply)
 
 -- Nobody told naming of the top's end, or of its owner's: neither in the protocol nor in the machine.
 pub record IsUntold (act : Acts) (owner : Owners) (n : Place) (S : State) (t : Uid) : Type 0 where
@@ -33,7 +33,7 @@ pub record IsUntold (act : Acts) (owner : Owners) (n : Place) (S : State) (t : U
 abbrev pub NotesAreSeen : Type 0
 NotesAreSeen = (act : Acts) (owner : Owners) (x : ℕ) (n : Place) (o : Named) (t : Uid) (b : Binding) (i : ℕ) (S : State)
     → AreOne act → IsUntold act owner n S t → IsNamedSo S b i → IsGood owner x n o → SeesNamed act x n o S
-    → let r = note_named x t b i o in Goes S (λ T. SeesNamed act x n r.part T × OnlyNaming S T × ShowsNoted b T r.reply)
+    → let r = note_named x t b i o in Goes S (λ T. SeesNamed act x n r.part T × OnlyNaming S T × NobodyTold S T × ShowsNoted b T r.reply)
 
 -- A Hello may take a live binding away: the machine does nothing.
 abbrev pub HellosAreSeen : Type 0

@@ -12,7 +12,7 @@ use Rattle.arj_part_law.specs.Rows.{Told}
 use Rattle.arj_part_law.specs.Tops.{Owners}
 use Rattle.arj_lock_view_law.specs.Acts.{Acts, AreOne}
 use Rattle.arj_lock_view_law.specs.Bindings.{IsGood}
-use Rattle.arj_lock_view_law.specs.Going.{Goes, OnlyNaming}
+use Rattle.arj_lock_view_law.specs.Going.{Goes, OnlyNaming, SameConfirmed}
 use Rattle.arj_lock_view_law.specs.Named.{Place, SeesNamed}
 
 -- each action stands below its owner, which is itself or its serializing action
@@ -31,14 +31,14 @@ MayGo S a = IsGone S a ⊎ ((is_top a ≡ true) × ((S.action a).stage ≡ 3) ×
 abbrev pub AbortsAreSeen : Type 0
 AbortsAreSeen = (act : Acts) (owner : Owners) (x : ℕ) (n : Place) (told : Told) (o : Named) (u : Uid) (S : State)
     → AreOwned act owner → IsToldOf n.told told u → MayGo S (act u) → IsGood owner x n o → SeesNamed act x n o S
-    → Goes S (λ T. SeesNamed act x (record n { told = told }) (end_named u ending.Abort o) T × OnlyNaming S T × OnlyTold act u S T)
+    → Goes S (λ T. SeesNamed act x (record n { told = told }) (end_named u ending.Abort o) T × OnlyNaming S T × OnlyTold act u S T × SameConfirmed S T)
 
 -- A commit of a plain top, whose unit is over, or of a top that the machine's naming didn't confirm in this incarnation: the
 -- machine drops its rows.
 abbrev pub CommitsAreSeen : Type 0
 CommitsAreSeen = (act : Acts) (owner : Owners) (x : ℕ) (n : Place) (told : Told) (o : Named) (u : Uid) (S : State)
     → AreOne act → IsToldOf n.told told u → MayGo S (act u) → IsGood owner x n o → SeesNamed act x n o S
-    → Goes S (λ T. SeesNamed act x (record n { told = told }) (end_named u ending.Commit o) T × OnlyNaming S T × OnlyTold act u S T)
+    → Goes S (λ T. SeesNamed act x (record n { told = told }) (end_named u ending.Commit o) T × OnlyNaming S T × OnlyTold act u S T × SameConfirmed S T)
 
 -- A committed constituent stands right below its serializing action, and each of its rows can pass to that. A row that a restart
 -- gave back can't, since it has its action alone as its path: the machine has no row for it, and didn't confirm its action since.
@@ -54,7 +54,7 @@ pub record MayPass (act : Acts) (u s : Uid) (o : Named) (S : State) : Type 0 whe
 abbrev pub PassesAreSeen : Type 0
 PassesAreSeen = (act : Acts) (owner : Owners) (x : ℕ) (n : Place) (told : Told) (o : Named) (u s : Uid) (S : State)
     → AreOne act → IsToldOf n.told told u → MayPass act u s o S → IsGood owner x n o → SeesNamed act x n o S
-    → Goes S (λ T. SeesNamed act x (record n { told = told }) (end_named u ending.Commit o) T × OnlyNaming S T × OnlyTold act u S T)
+    → Goes S (λ T. SeesNamed act x (record n { told = told }) (end_named u ending.Commit o) T × OnlyNaming S T × OnlyTold act u S T × SameConfirmed S T)
 
 -- An exclude lock that a Confirm takes is no row of the machine's, which does nothing.
 abbrev pub ExcludesAreSeen : Type 0

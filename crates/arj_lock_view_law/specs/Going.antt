@@ -23,6 +23,14 @@ pub record OnlyNaming (S T : State) : Type 0 where
   pub bindings : (b : ℕ) → b < S.naming.bound → T.binding b ≡ S.binding b
   pub sent : (m : machine.Message) → In m S.net → In m T.net
 
+-- naming confirmed whom it had confirmed
+abbrev pub SameConfirmed : State → State → Type 0
+SameConfirmed S T = T.naming.confirmed ≡ S.naming.confirmed
+
+-- and was told of nobody else
+abbrev pub NobodyTold : State → State → Type 0
+NobodyTold S T = (T.naming.told ≡ S.naming.told) × SameConfirmed S T
+
 -- a granted binding's server in the machine
 abbrev pub IsServedBy : State → Binding → ℕ → Type 0
 IsServedBy T b server = (let c = binding_at T b in c.server) ≡ server

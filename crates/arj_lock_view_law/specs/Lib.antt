@@ -28,3 +28,4 @@ pub mod Beside
 pub mod Replies
 pub mod Sent
 pub mod Handling
+pub mod Namings

@@ -8,7 +8,7 @@
 //! `specs/Rows.antt` the rows of a lock table, `specs/Named.antt` an object at naming, `specs/Going.antt` what a run leaves
 //! alone and what an answer shows. What it gives upward: a Bind, a
 //! Record and a Hello go (`specs/Bindings.antt`), and so do ends, exclude locks and a restart (`specs/Ends.antt`): that is what
-//! naming does with one object. A server's activations, operations, refusals and undoings go too (`specs/Copies.antt`), its
+//! naming does with one object. Whole naming is seen at such messages, whatever object they are about (`specs/Namings.antt`). A server's activations, operations, refusals and undoings go too (`specs/Copies.antt`), its
 //! commits and votes (`specs/Commits.antt`), and the whole of it (`specs/Servers.antt`): where it is told of ends
 //! (`specs/Telling.antt`, which also says which ends may be told; `specs/Listed.antt`: those that coordinators list), where it
 //! stops and starts, at each message that is for it, which may bring ends too (`specs/Serving.antt`), and at each that its
@@ -31,8 +31,8 @@ pub use coord::{
     many_end_at_coordinators, other_calls_are_nothing, plans_cover_tops, requests_are_shown,
 };
 pub use naming::{
-    binds_are_seen, ends_are_seen, excludes_are_seen, hellos_are_seen, records_are_seen,
-    restarts_are_seen,
+    binds_are_seen, ends_are_seen, excludes_are_seen, hellos_are_seen, messages_at_naming_are_seen,
+    records_are_seen, restarts_are_seen,
 };
 pub use server::{
     begun_actions_have_places, commits_at_servers_are_seen, copies_are_seen, ends_are_shown,

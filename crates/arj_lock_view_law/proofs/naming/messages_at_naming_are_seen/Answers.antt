@@ -1,0 +1,15 @@
+use Rattle.arj_lock_view_law.proofs.NamingSteps.{binds_are_taken, hellos_are_taken, notes_are_taken}
+use Rattle.arj_lock_view_law.proofs.ToldNamingSteps.{ends_are_told}
+use Rattle.arj_lock_view_law.proofs.naming.messages_at_naming_are_seen.Goals as goal
+
+pub returns-clause-binds : goal.returns-clause-binds
+returns-clause-binds c = binds_are_taken
+
+pub returns-clause-records : goal.returns-clause-records
+returns-clause-records c = notes_are_taken
+
+pub returns-clause-hellos : goal.returns-clause-hellos
+returns-clause-hellos c = hellos_are_taken
+
+pub returns-clause-tolds : goal.returns-clause-tolds
+returns-clause-tolds c = ends_are_told

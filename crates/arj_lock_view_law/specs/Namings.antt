@@ -1,0 +1,85 @@
+-- Naming, whole, as the lock machine of one object has it, and what it does with the messages that are for it.
+use Rattle.std.specs.Prelude.{◌≡◌, ◌<◌, ◌⊎◌, ℕ, Bool, true, false, Some}
+use Rattle.arj_protocol.specs.Words.{Binding, End, Path, Uid, is_on}
+use Rattle.arj_protocol.specs.Words.ending
+use Rattle.arj_protocol.specs.Ask.{top_of}
+use Rattle.arj_protocol.specs.Effect.{Pair}
+use Rattle.arj_protocol.specs.Named.{Named}
+use Rattle.arj_protocol.specs.Naming.{Naming, bind, hello, is_over, note, told}
+use Rattle.arj_protocol.specs.Order.{at_number, binding_number}
+use Rattle.arj_lock_law.specs.State.{State}
+use Rattle.arj_part_law.specs.Tops.{Fits, Owners}
+use Rattle.arj_lock_view_law.specs.Acts.{AreOne, IsTopped}
+use Rattle.arj_lock_view_law.specs.Bindings.{IsGood}
+use Rattle.arj_lock_view_law.specs.Ends.{AreOwned, MayGo, MayPass}
+use Rattle.arj_lock_view_law.specs.Going.{Goes, OnlyNaming, ShowsBound, ShowsNoted}
+use Rattle.arj_lock_view_law.specs.Named.{IsNamedSo, Place, SeesNamed}
+use Rattle.arj_lock_view_law.specs.Telling.{View}
+
+-- ---- naming
+
+-- what one object needs of naming
+abbrev pub place_of : Naming → Place
+place_of n = record { told = is_on n.told; inc = n.inc; count = n.count }
+
+-- Naming has the object, which is seen. The machine's naming was told of no top on whose path nobody was told of, and confirmed nobody but
+-- who is confirmed, or was told of since.
+pub record SeesNaming (v : View) (n : Naming) (S : State) : Type 0 where
+  pub named : Named
+  pub there : at_number v.x n.objects ≡ Some named
+  pub seen : SeesNamed v.family.act v.x (place_of n) named S
+  pub told : (p : Path) → IsTopped v.family.act p → is_over p n ≡ false → S.naming.told (v.family.act (top_of p)) ≡ false
+  pub confirmed : (u : Uid) → S.naming.confirmed (v.family.act u) ≡ true → (is_on n.confirmed u ≡ true) ⊎ (is_on n.told u ≡ true)
+
+-- what the parts keep of the object at naming
+abbrev pub IsGoodAt : View → Owners → Naming → Type 0
+IsGoodAt v owner n = (o : Named) → at_number v.x n.objects ≡ Some o → IsGood owner v.x (place_of n) o
+
+-- ---- requests
+
+-- A request of this path comes to naming: two actions have two places in the machine, the path's top is one there and fits its owner, and the
+-- object is good.
+pub record IsAsking (v : View) (owner : Owners) (p : Path) (n : Naming) : Type 0 where
+  pub one : AreOne v.family.act
+  pub topped : IsTopped v.family.act p
+  pub fits : Fits owner p
+  pub good : IsGoodAt v owner n
+
+-- A Bind of any object, which avoids a binding that was made before where it is of this one: naming is seen again, and the answer is shown.
+abbrev pub BindsAreTaken : Type 0
+BindsAreTaken = (v : View) (owner : Owners) (p : Path) (y : ℕ) (include : Bool) (avoid : Binding) (d : Pair) (n : Naming) (S : State)
+    → IsAsking v owner p n → (y ≡ v.x → binding_number avoid < S.naming.bound) → SeesNaming v n S
+    → let r = bind p y include avoid d n in Goes S (λ T. SeesNaming v r.part T × OnlyNaming S T × (y ≡ v.x → ShowsBound v.family.act (top_of p) avoid T r.reply))
+
+-- A Record of any object, with an incarnation that its top's root heard where it is of this one: naming is seen again, and the answer is shown.
+abbrev pub NotesAreTaken : Type 0
+NotesAreTaken = (v : View) (owner : Owners) (p : Path) (y : ℕ) (b : Binding) (i g : ℕ) (n : Naming) (S : State)
+    → IsAsking v owner p n → (y ≡ v.x → IsNamedSo S b i) → SeesNaming v n S
+    → let r = note p y b i g n in Goes S (λ T. SeesNaming v r.part T × OnlyNaming S T × (y ≡ v.x → ShowsNoted b T r.reply))
+
+-- ---- a Hello
+
+-- Naming drops the live bindings of a node that is up again: the machine does nothing.
+abbrev pub HellosAreTaken : Type 0
+HellosAreTaken = (v : View) (node inc : ℕ) (n : Naming) (S : State) → SeesNaming v n S → SeesNaming v (hello node inc n) S
+
+-- ---- a Told
+
+-- An end of an action at naming, in the machine: the machine may drop the rows of one that was aborted, and may drop those of one that was
+-- committed, or pass them to its unit.
+abbrev pub ShowsEndAt : View → Named → State → Uid → End → Type 0
+ShowsEndAt v o S u ending.Abort = MayGo S (v.family.act u)
+ShowsEndAt v o S u ending.Commit = MayGo S (v.family.act u) ⊎ ((s : Uid) × MayPass v.family.act u s o S)
+
+-- An end comes to naming: two actions have two places in the machine, each stands there below its owner, the object is good, and an end that
+-- is new to naming is shown.
+pub record IsTelling (v : View) (owner : Owners) (u : Uid) (e : End) (n : Naming) (S : State) : Type 0 where
+  pub one : AreOne v.family.act
+  pub owned : AreOwned v.family.act owner
+  pub good : IsGoodAt v owner n
+  pub shown : (o : Named) → at_number v.x n.objects ≡ Some o → is_on n.told u ≡ false → ShowsEndAt v o S u e
+
+-- An end: naming takes it for an abort or a commit, or was told before, and is seen again.
+abbrev pub EndsAreTold : Type 0
+EndsAreTold = (v : View) (owner : Owners) (u : Uid) (e : End) (d : Pair) (n : Naming) (S : State)
+    → IsTelling v owner u e n S → SeesNaming v n S → let r = told u e d n in Goes S (λ T. SeesNaming v r.part T × OnlyNaming S T)
