@@ -1,5 +1,6 @@
 pub mod Decisions
 pub mod Doing
 pub mod IdleKnown
+pub mod Owners
 pub mod Steps
 pub mod Tying

@@ -46,6 +46,7 @@ use Rattle.arj_line_law.proofs.Models.{decided_in, among}
 use Rattle.arj_line_law.proofs.Runs.{lines_keep, act_turns, message_turns, rest_goes, tick_turns}
 use Rattle.arj_disk_line_law.specs.Said.{AreSaid, IsLate, IsTied, RunsAreJournalled, AreDone, IsDoneBy, WithTie}
 use Rattle.arj_disk_line_law.proofs.IdleKnown.{KnowsIdle, knows_idle}
+use Rattle.arj_disk_line_law.proofs.Owners.{decided_begun, whose_it_is}
 use Rattle.arj_disk_line_law.proofs.Decisions.{may_decide, new_has_record}
 use Rattle.arj_disk_line_law.proofs.Steps.{IsNear, IsStep, later_lines, near_same, step_halted, step_walk, nothing_more}
 use Rattle.arj_model.specs.Actions.{Act, acts as acts_of}
@@ -345,6 +346,7 @@ runs_are_journalled hd x part parts es short =
         machine = s.0.world;
         sees = s.1.disks;
         said = λ u n here d. ⊎_elim (λ is. inl (decided_in lines right u is)) (λ late. inr late) (s.2.1.0 u n here d);
+        whose = λ t d. whose_it_is h.0 lines t (s.1.disks.kinds t (decided_begun s.0.world s.1.disks.whole t d)).0 (let p = g.3 in p.lines);
         done = λ a there top is. its_own lines right a there is (is_sound lines right) top s.0.world (s.2.1.1 a.uid (sym (let b = (is_sound lines right).reads in b.decided a there) ∙ is));
       };
     }

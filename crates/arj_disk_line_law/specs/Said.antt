@@ -55,12 +55,14 @@ IsTied Idle W M = AreSaid W M × AreDone Idle W M
 abbrev pub WithTie : (Kinds → Office → Seen → Type 0) → (List Line → Uid → Type 0) → Kinds → Office → Seen → Type 0
 WithTie P Idle tops A M = P tops A M × IsTied Idle A.world M
 
--- the same, in the words of `arj_model`: a committed top is decided, or needed no record, or nothing of it survives in the journal
+-- The same, in the words of `arj_model`: each decided top is an action of the journal; and a committed top is decided, or needed no record,
+-- or nothing of it survives in the journal.
 pub record IsJournalled (x : ℕ) (M : Seen) : Type 0 where
   pub tops : Kinds
   pub machine : machine.World
   pub sees : SeesDisks x tops machine M
   pub said : (u : Uid) (n : Node) → M.nodes u.node ≡ Some n → decided (let W = machine in W.disk) (uid_number u) ≡ true → IsCommittedIn M.lines u ⊎ IsLate u n
+  pub whose : (t : ℕ) → decided (let W = machine in W.disk) t ≡ true → (a : Act) × Contains (acts M.lines) a × (uid_number a.uid ≡ t)
   pub done : (a : Act) → Contains (acts M.lines) a → is_top a.kind ≡ true → IsDone M.lines a
       → (decided (let W = machine in W.disk) (uid_number a.uid) ≡ true) ⊎ ((let W = machine in W.disk.bare) (uid_number a.uid) ≡ true) ⊎ HasNothing M.lines a
 
