@@ -10,6 +10,7 @@ pub mod BindSteps
 pub mod CallInputSteps
 pub mod CallingSteps
 pub mod CommitSteps
+pub mod ConfirmSteps
 pub mod CopySteps
 pub mod ElseSteps
 pub mod CoverSteps

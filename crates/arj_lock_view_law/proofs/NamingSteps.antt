@@ -59,7 +59,7 @@ untold_on told (w ∷ us) none u there = by (uid_eq w u) refl (untold_on told us
     by true same rest on = subst (λ (z : Uid). told z ≡ false) (uid_is w u same) (or_parts (told w) (list_any told us) none).0
     by false other rest on = rest on
 
-not_itself : (y x : ℕ) → (y == x) ≡ false → y ≡ x → ⊥
+pub not_itself : (y x : ℕ) → (y == x) ≡ false → y ≡ x → ⊥
 not_itself y x off same = (let one : (y == x) ≡ true = subst (λ (z : ℕ). (y == z) ≡ true) same (itself y) in cc (sym one ∙ off))
   where
     itself : (k : ℕ) → (k == k) ≡ true

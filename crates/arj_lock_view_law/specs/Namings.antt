@@ -1,12 +1,16 @@
 -- Naming, whole, as the lock machine of one object has it, and what it does with the messages that are for it.
-use Rattle.std.specs.Prelude.{◌≡◌, ◌<◌, ◌⊎◌, ℕ, Bool, true, false, Some}
-use Rattle.arj_protocol.specs.Words.{Binding, End, Path, Uid, is_on}
+use Rattle.std.specs.Prelude.{⊤, ◌≡◌, ◌<◌, ◌⊎◌, ◌*◌, ◌||◌, ℕ, Bool, true, false, Option, Some, Contains}
+use Rattle.arj_protocol.specs.Words.{Binding, ConfirmedReply, End, Path, Uid, is_on}
+use Rattle.arj_protocol.specs.Words.confirmed
 use Rattle.arj_protocol.specs.Words.ending
 use Rattle.arj_protocol.specs.Ask.{top_of}
-use Rattle.arj_protocol.specs.Effect.{Pair}
+use Rattle.arj_protocol.specs.Confirm.{Grants, Marks, confirm}
+use Rattle.arj_protocol.specs.Effect.{Pair, is_prepared}
 use Rattle.arj_protocol.specs.Named.{Named}
 use Rattle.arj_protocol.specs.Naming.{Naming, bind, hello, is_over, note, told}
 use Rattle.arj_protocol.specs.Order.{at_number, binding_number}
+use Rattle.arj_lock_law.specs.Actions.{In}
+use Rattle.arj_lock_law.specs.State as machine
 use Rattle.arj_lock_law.specs.State.{State}
 use Rattle.arj_part_law.specs.Tops.{Fits, Owners}
 use Rattle.arj_lock_view_law.specs.Acts.{AreOne, IsTopped}
@@ -83,3 +87,22 @@ pub record IsTelling (v : View) (owner : Owners) (u : Uid) (e : End) (n : Naming
 abbrev pub EndsAreTold : Type 0
 EndsAreTold = (v : View) (owner : Owners) (u : Uid) (e : End) (d : Pair) (n : Naming) (S : State)
     → IsTelling v owner u e n S → SeesNaming v n S → let r = told u e d n in Goes S (λ T. SeesNaming v r.part T × OnlyNaming S T)
+
+-- ---- a Confirm
+
+-- What its answer shows, where one of its grants is on the object: the machine's naming has confirmed the top.
+abbrev pub ShowsConfirmed : View → Uid → Grants → State → Option ConfirmedReply → Type 0
+ShowsConfirmed v t grants T (Some confirmed.Yes) = (g : ℕ) → Contains {X = ℕ × ℕ} grants (v.x, g) → T.confirmed (v.family.act t) ≡ true
+ShowsConfirmed v t grants T _ = ⊤
+
+-- A Confirm comes to naming: it was sent in the machine for each of its grants on the object; and where naming confirmed the top before, or
+-- has entries of it prepared, the machine's naming did confirm it once.
+pub record IsConfirming (v : View) (p : Path) (grants : Grants) (d : Pair) (n : Naming) (S : State) : Type 0 where
+  pub sent : (g : ℕ) → Contains {X = ℕ × ℕ} grants (v.x, g) → In (machine.Confirm (v.family.act (top_of p)) (g * 4294967296)) S.net
+  pub again : (g : ℕ) → Contains {X = ℕ × ℕ} grants (v.x, g) → (is_on n.confirmed (top_of p) || is_prepared (top_of p) d) ≡ true → S.confirmed (v.family.act (top_of p)) ≡ true
+
+-- A Confirm: naming takes exclude locks, prepares entries and confirms the top, or refuses, and is seen again; what it answers is shown.
+abbrev pub ConfirmsAreTaken : Type 0
+ConfirmsAreTaken = (v : View) (owner : Owners) (p : Path) (grants : Grants) (excluded included : Marks) (d : Pair) (n : Naming) (S : State)
+    → IsAsking v owner p n → IsConfirming v p grants d n S → SeesNaming v n S
+    → let r = confirm p grants excluded included d n in Goes S (λ T. SeesNaming v r.part T × OnlyNaming S T × ShowsConfirmed v (top_of p) grants T r.reply)
