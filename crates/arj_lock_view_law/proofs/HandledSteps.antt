@@ -97,7 +97,7 @@ none_sent n (e ∷ es) all to z i = by e (none_sent n es) all i
     by (Send k w) rest own i = cc own
     by (Do w) rest own i = cc own
 
-sent_last : (outs : List Effect) (from : ℕ) (w : Message) (to : ℕ) (z : Message) → list.In (Send to z) (outs ++ Send from w ∷ []) → list.In (Send to z) outs ⊎ (z ≡ w)
+pub sent_last : (outs : List Effect) (from : ℕ) (w : Message) (to : ℕ) (z : Message) → list.In (Send to z) (outs ++ Send from w ∷ []) → list.In (Send to z) outs ⊎ (z ≡ w)
 sent_last [] from w to z (inl is) = inr (message_of is)
   where
     message_of : Send from w ≡ Send to z → z ≡ w

@@ -22,6 +22,7 @@ pub mod GivenSteps
 pub mod GivingSteps
 pub mod HandledSteps
 pub mod HeardSteps
+pub mod HearingSteps
 pub mod IncludeSteps
 pub mod InputSteps
 pub mod InvokedSteps

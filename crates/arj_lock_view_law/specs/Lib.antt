@@ -29,3 +29,4 @@ pub mod Replies
 pub mod Sent
 pub mod Handling
 pub mod Namings
+pub mod Hearing

@@ -8,7 +8,8 @@
 //! `specs/Rows.antt` the rows of a lock table, `specs/Named.antt` an object at naming, `specs/Going.antt` what a run leaves
 //! alone and what an answer shows. What it gives upward: a Bind, a
 //! Record and a Hello go (`specs/Bindings.antt`), and so do ends, exclude locks and a restart (`specs/Ends.antt`): that is what
-//! naming does with one object. Whole naming is seen at such messages, whatever object they are about (`specs/Namings.antt`). A server's activations, operations, refusals and undoings go too (`specs/Copies.antt`), its
+//! naming does with one object. Whole naming is seen at each message that is for it, whatever object that is about
+//! (`specs/Namings.antt`), and at each that its node takes (`specs/Hearing.antt`). A server's activations, operations, refusals and undoings go too (`specs/Copies.antt`), its
 //! commits and votes (`specs/Commits.antt`), and the whole of it (`specs/Servers.antt`): where it is told of ends
 //! (`specs/Telling.antt`, which also says which ends may be told; `specs/Listed.antt`: those that coordinators list), where it
 //! stops and starts, at each message that is for it, which may bring ends too (`specs/Serving.antt`), and at each that its

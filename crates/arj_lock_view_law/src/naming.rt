@@ -1,6 +1,7 @@
 // Naming, as the lock machine of one object has it.
 ghost use Rattle.arj_lock_view_law.specs.Bindings.{BindsAreSeen, HellosAreSeen, NotesAreSeen};
 ghost use Rattle.arj_lock_view_law.specs.Ends.{AbortsAreSeen, CommitsAreSeen, ExcludesAreSeen, FallsAreSeen, PassesAreSeen, RestartsAreSeen};
+ghost use Rattle.arj_lock_view_law.specs.Hearing.{MessagesAreHeard};
 ghost use Rattle.arj_lock_view_law.specs.Namings.{BindsAreTaken, ConfirmsAreTaken, EndsAreTold, HellosAreTaken, NotesAreTaken};
 
 /// What naming answers to a Bind is allowed in the machine, for one object, and leaves the object seen: a row and the live
@@ -41,12 +42,14 @@ pub fn restarts_are_seen()
     ensures restarts { RestartsAreSeen }
 {}
 
-/// Whole naming is seen again after each message that is for it, whatever object that is about: a Bind, a Record, a Hello, a Told, a Confirm. What it answers
-/// about the object is shown; what it does with other objects is nothing to the machine. It does nothing when it runs.
+/// Whole naming is seen again after each message that is for it, whatever object that is about: a Bind, a Record, a Hello, a Told, a
+/// Confirm; and so it is after each message that its node takes. What naming answers about the object is shown; what it does with other objects is
+/// nothing to the machine. It does nothing when it runs.
 pub fn messages_at_naming_are_seen()
     ensures binds { BindsAreTaken }
     ensures records { NotesAreTaken }
     ensures hellos { HellosAreTaken }
     ensures tolds { EndsAreTold }
     ensures confirms { ConfirmsAreTaken }
+    ensures all { MessagesAreHeard }
 {}

@@ -1,4 +1,5 @@
 use Rattle.arj_lock_view_law.proofs.ConfirmSteps.{confirms_are_taken}
+use Rattle.arj_lock_view_law.proofs.HearingSteps.{messages_are_heard}
 use Rattle.arj_lock_view_law.proofs.NamingSteps.{binds_are_taken, hellos_are_taken, notes_are_taken}
 use Rattle.arj_lock_view_law.proofs.ToldNamingSteps.{ends_are_told}
 use Rattle.arj_lock_view_law.proofs.naming.messages_at_naming_are_seen.Goals as goal
@@ -17,3 +18,6 @@ returns-clause-tolds c = ends_are_told
 
 pub returns-clause-confirms : goal.returns-clause-confirms
 returns-clause-confirms c = confirms_are_taken
+
+pub returns-clause-all : goal.returns-clause-all
+returns-clause-all c = messages_are_heard
