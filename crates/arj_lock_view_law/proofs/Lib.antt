@@ -46,6 +46,7 @@ pub mod RunSteps
 pub mod SentSteps
 pub mod ServerSteps
 pub mod ShownSteps
+pub mod StartNamingSteps
 pub mod StopSteps
 pub mod ToldNamingSteps
 pub mod ToldSteps

@@ -1,21 +1,22 @@
 -- Naming, whole, as the lock machine of one object has it, and what it does with the messages that are for it.
-use Rattle.std.specs.Prelude.{⊤, ◌≡◌, ◌<◌, ◌⊎◌, ◌*◌, ◌||◌, ℕ, Bool, true, false, Option, Some, Contains}
+use Rattle.std.specs.Prelude.{⊤, ◌≡◌, ◌<◌, ◌⊎◌, ◌*◌, ◌+◌, ◌||◌, ℕ, Bool, true, false, Option, Some, Contains}
 use Rattle.arj_protocol.specs.Words.{Binding, ConfirmedReply, End, Path, Uid, is_on}
 use Rattle.arj_protocol.specs.Words.confirmed
 use Rattle.arj_protocol.specs.Words.ending
 use Rattle.arj_protocol.specs.Ask.{top_of}
-use Rattle.arj_protocol.specs.Confirm.{Grants, Marks, confirm}
+use Rattle.arj_protocol.specs.Confirm.{Grants, Marks, confirm, recovered_naming}
 use Rattle.arj_protocol.specs.Effect.{Pair, is_prepared}
 use Rattle.arj_protocol.specs.Named.{Named}
 use Rattle.arj_protocol.specs.Naming.{Naming, bind, hello, is_over, note, told}
 use Rattle.arj_protocol.specs.Order.{at_number, binding_number}
 use Rattle.arj_lock_law.specs.Actions.{In}
+use Rattle.arj_lock_law.specs.Machine.{start}
 use Rattle.arj_lock_law.specs.State as machine
 use Rattle.arj_lock_law.specs.State.{State}
 use Rattle.arj_part_law.specs.Tops.{Fits, Owners}
 use Rattle.arj_lock_view_law.specs.Acts.{AreOne, IsTopped}
 use Rattle.arj_lock_view_law.specs.Bindings.{IsGood}
-use Rattle.arj_lock_view_law.specs.Ends.{AreOwned, MayGo, MayPass}
+use Rattle.arj_lock_view_law.specs.Ends.{AreOwned, MayGo, MayPass, SeesNothing}
 use Rattle.arj_lock_view_law.specs.Going.{Goes, OnlyNaming, ShowsBound, ShowsNoted}
 use Rattle.arj_lock_view_law.specs.Named.{IsNamedSo, Place, SeesNamed}
 use Rattle.arj_lock_view_law.specs.Telling.{View}
@@ -106,3 +107,18 @@ abbrev pub ConfirmsAreTaken : Type 0
 ConfirmsAreTaken = (v : View) (owner : Owners) (p : Path) (grants : Grants) (excluded included : Marks) (d : Pair) (n : Naming) (S : State)
     → IsAsking v owner p n → IsConfirming v p grants d n S → SeesNaming v n S
     → let r = confirm p grants excluded included d n in Goes S (λ T. SeesNaming v r.part T × OnlyNaming S T × ShowsConfirmed v (top_of p) grants T r.reply)
+
+-- ---- it stops and starts
+
+-- It stops: the machine waits. Counts of bindings have 32 bits.
+abbrev pub NamingStops : Type 0
+NamingStops = (v : View) (owner : Owners) (n : Naming) (S : State) → n.count + 1 < 4294967296 → IsGoodAt v owner n → SeesNaming v n S → SeesNothing n.inc S
+
+-- Before it first starts it is down too.
+abbrev pub NamingIsDown : Type 0
+NamingIsDown = (first inc : ℕ) → SeesNothing inc (start first)
+
+-- It starts in a later incarnation, by what the disk says, where the object has an entry: the machine's naming restarts, and naming is seen.
+abbrev pub NamingStarts : Type 0
+NamingStarts = (v : View) (inc i : ℕ) (d : Pair) (o : Named) (S : State) → inc < i → at_number v.x (let n = recovered_naming i d in n.objects) ≡ Some o → SeesNothing inc S
+    → Goes S (λ T. SeesNaming v (recovered_naming i d) T × OnlyNaming S T)

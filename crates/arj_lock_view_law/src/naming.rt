@@ -2,7 +2,7 @@
 ghost use Rattle.arj_lock_view_law.specs.Bindings.{BindsAreSeen, HellosAreSeen, NotesAreSeen};
 ghost use Rattle.arj_lock_view_law.specs.Ends.{AbortsAreSeen, CommitsAreSeen, ExcludesAreSeen, FallsAreSeen, PassesAreSeen, RestartsAreSeen};
 ghost use Rattle.arj_lock_view_law.specs.Hearing.{MessagesAreHeard};
-ghost use Rattle.arj_lock_view_law.specs.Namings.{BindsAreTaken, ConfirmsAreTaken, EndsAreTold, HellosAreTaken, NotesAreTaken};
+ghost use Rattle.arj_lock_view_law.specs.Namings.{BindsAreTaken, ConfirmsAreTaken, EndsAreTold, HellosAreTaken, NamingIsDown, NamingStarts, NamingStops, NotesAreTaken};
 
 /// What naming answers to a Bind is allowed in the machine, for one object, and leaves the object seen: a row and the live
 /// binding, a new binding under the write row, or the write row alone. It does nothing when it runs.
@@ -52,4 +52,11 @@ pub fn messages_at_naming_are_seen()
     ensures tolds { EndsAreTold }
     ensures confirms { ConfirmsAreTaken }
     ensures all { MessagesAreHeard }
+{}
+
+/// Whole naming is seen where it stops and where it starts, by what the disk says. It does nothing when it runs.
+pub fn naming_stops_and_starts()
+    ensures stops { NamingStops }
+    ensures down { NamingIsDown }
+    ensures starts { NamingStarts }
 {}

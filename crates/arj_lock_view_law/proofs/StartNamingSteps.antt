@@ -1,0 +1,45 @@
+-- Whole naming stops and starts.
+use Rattle.std.proofs.Common.{◌≡◌, ◌∙◌, ℕ, List, [], ◌∷◌, Bool, true, false, cond, Some, refl, sym, subst, arith}
+use Rattle.std.specs.Ordering.{is_eq, nat_cmp}
+use Rattle.arj_protocol.specs.Words.{ObjectState, Row, Uid}
+use Rattle.arj_protocol.specs.Confirm.{named_back, pending_of, recovered_naming, rows_back}
+use Rattle.arj_protocol.specs.Effect.{Pair}
+use Rattle.arj_protocol.specs.Named.{Named, unnamed}
+use Rattle.arj_protocol.specs.Order.{at_number}
+use Rattle.arj_lock_view_law.specs.Named.{SeesNamed}
+use Rattle.arj_lock_view_law.specs.Namings.{NamingIsDown, NamingStarts, NamingStops, place_of}
+use Rattle.arj_lock_view_law.proofs.RestartSteps.{falls_are_seen, restarts_are_seen}
+use Rattle.arj_lock_view_law.proofs.RunSteps.{goes_to}
+use Rattle.std.specs.Prelude.{map}
+
+-- of what is found behind a restart naming knows the entry alone
+back_at : (d : Pair) (x : ℕ) (held : List (Uid × ObjectState)) (o : Named) → at_number x (map (named_back d) held) ≡ Some o → (rows : List Row) × (o ≡ unnamed rows)
+back_at d x [] o h = absurd (cc h)
+back_at d x (e ∷ es) o h = by (is_eq (nat_cmp x e.0.num)) h (back_at d x es o)
+  where
+    by : (b : Bool) → cond b (Some (unnamed (rows_back e.0 e.1 (pending_of e.0 d.pend)))) (at_number x (map (named_back d) es)) ≡ Some o → (at_number x (map (named_back d) es) ≡ Some o → (rows : List Row) × (o ≡ unnamed rows)) → (rows : List Row) × (o ≡ unnamed rows)
+    by true is rest = (let one : unnamed (rows_back e.0 e.1 (pending_of e.0 d.pend)) ≡ o = cc is in (rows_back e.0 e.1 (pending_of e.0 d.pend), sym one))
+    by false is rest = rest is
+
+pub naming_stops : NamingStops
+naming_stops v owner n S few good sees = falls_are_seen v.family.act owner v.x (place_of n) sees.named S few (good sees.named sees.there) sees.seen
+
+pub naming_is_down : NamingIsDown
+naming_is_down first inc = record { bound = omega arith; first = omega arith; recorded = omega arith }
+
+pub naming_starts : NamingStarts
+naming_starts v inc i d o S up there down = goes_to
+    (restarts_are_seen v.family.act v.x inc (place_of (recovered_naming i d)) back.0 S up refl down)
+    (λ T g. (
+      record {
+        named = o;
+        there = there;
+        seen = subst (λ (z : Named). SeesNamed v.family.act v.x (place_of (recovered_naming i d)) z T) (sym back.1) g.0;
+        told = λ p topped fresh. (g.2 _).0;
+        confirmed = λ u h. (let k = g.2 (v.family.act u) in absurd (cc (sym h ∙ k.1)));
+      },
+      g.1,
+    ))
+  where
+    back : (rows : List Row) × (o ≡ unnamed rows)
+    back = back_at d v.x d.held o there
