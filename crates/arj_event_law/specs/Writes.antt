@@ -89,6 +89,7 @@ abbrev pub refused_to : World → Option (ℕ × Input) → Option ℕ
 refused_to w None = None
 refused_to w (Some a) = refused_at a.1 w (at_place a.0 w.nodes)
 
+-- so it is of the node that the event asks
 abbrev pub node_refusal : Event → World → Option ℕ
 node_refusal e w = refused_to w (asks e w)
 

@@ -87,6 +87,7 @@ NamesBound home reach x (bound.Make b server g stores) = server ≡ home_of home
 NamesBound home reach x (bound.Write g stores) = ⊤
 NamesBound home reach x (bound.Conflict holder m) = ⊤
 
+-- an answer to a Bind of the object, where it is one
 abbrev pub NamesBind : Homes → Reach → ℕ → Reply → Type 0
 NamesBind home reach x (Reply.Bound r) = NamesBound home reach x r
 NamesBind home reach x _ = ⊤
@@ -112,6 +113,7 @@ abbrev pub IsLoadedOf : ℕ → LoadedReply → Type 0
 IsLoadedOf x (loaded.State st) = (let u = st.uid in u.num) ≡ x
 IsLoadedOf x (loaded.InDoubt holder) = ⊤
 
+-- so is the state that an answer brings, where it brings one
 abbrev pub IsOfObject : ℕ → Reply → Type 0
 IsOfObject x (Reply.Loaded r) = IsLoadedOf x r
 IsOfObject x _ = ⊤
