@@ -1,9 +1,11 @@
 -- Whole naming goes at an end that it is told of.
-use Rattle.std.proofs.Common.{◌≡◌, ◌≢◌, ◌⊎◌, ◌∙◌, ◌||◌, List, [], ◌∷◌, Bool, true, false, cond, refl, sym, ap, inl, inr, ⊎_elim}
+use Rattle.std.proofs.Common.{◌≡◌, ◌≢◌, ◌⊎◌, ◌∙◌, ◌||◌, List, [], ◌∷◌, Bool, true, false, cond, refl, sym, ap, inl, inr, ⊎_elim, not, subst}
 use Rattle.std.specs.List.{list_any}
 use Rattle.std.proofs.lemmas.Bool.{or_parts}
 use Rattle.arj_base.proofs.Uids.{uid_cases}
-use Rattle.arj_protocol.specs.Words.{End, Path, Uid, is_on}
+use Rattle.arj_lock.proofs.Members as list
+use Rattle.arj_lock.proofs.Members.{in_to}
+use Rattle.arj_protocol.specs.Words.{End, Path, Row, Uid, drop_rows, entry, is_on}
 use Rattle.arj_protocol.specs.Words.ending
 use Rattle.arj_protocol.specs.Ask.{top_of, top_path}
 use Rattle.arj_protocol.specs.Effect.{did_nothing}
@@ -22,12 +24,22 @@ use Rattle.arj_lock_view_law.specs.Acts.{Acts, IsTopped}
 use Rattle.arj_lock_view_law.specs.Ends.{MayGo, MayPass, OnlyTold}
 use Rattle.arj_lock_view_law.specs.Going.{Goes, OnlyNaming, SameConfirmed}
 use Rattle.arj_lock_view_law.specs.Named.{SeesNamed}
-use Rattle.arj_lock_view_law.specs.Namings.{EndsAreTold, IsTelling, SeesNaming, ShowsEndAt, place_of}
+use Rattle.arj_lock_view_law.specs.Namings.{EndsAreTold, HasNothingAt, IsTelling, SeesNaming, ShowsEndAt, place_of}
+use Rattle.arj_lock_view_law.specs.Rows.{SeesRows}
 use Rattle.arj_lock_view_law.specs.Telling.{View}
-use Rattle.arj_lock_view_law.proofs.EndSteps.{aborts_are_seen}
+use Rattle.arj_lock_view_law.proofs.EndSteps.{aborts_are_seen, ended_seen}
 use Rattle.arj_lock_view_law.proofs.NamingSteps.{naming_itself, untold_on}
 use Rattle.arj_lock_view_law.proofs.PassSteps.{commits_are_seen, passes_are_seen}
 use Rattle.arj_lock_view_law.proofs.RunSteps.{goes_to}
+
+-- rows of others stay
+none_dropped : (u : Uid) (rows : List Row) → ((r : Row) → list.In r rows → is_on r.holder u ≡ false) → drop_rows u rows ≡ rows
+none_dropped u [] none = refl
+none_dropped u (r ∷ rs) none = by (is_on r.holder u) (none r (inl refl)) (none_dropped u rs (λ q i. none q (inr i)))
+  where
+    by : (b : Bool) → b ≡ false → drop_rows u rs ≡ rs → cond (not b) (r ∷ drop_rows u rs) (drop_rows u rs) ≡ r ∷ rs
+    by true is rest = absurd (cc is)
+    by false is rest = ap (λ (k : List Row). r ∷ k) rest
 
 module _ (v : View) (owner : Owners) (u : Uid) (e : End) (n : Naming) (S : State) (telling : IsTelling v owner u e n S) (fresh : is_on n.told u ≡ false) (sees : SeesNaming v n S) where
   abbrev act : Acts
@@ -88,16 +100,30 @@ module _ (v : View) (owner : Owners) (u : Uid) (e : End) (n : Naming) (S : State
       by false is = refl
       by true is = absurd (⊎_elim (λ (there : is_on n.confirmed u ≡ true). cc (sym there ∙ none)) (λ (old : is_on n.told u ≡ true). cc (sym old ∙ fresh)) (sees.confirmed u is))
 
+  -- an action that has nothing here: the machine does nothing
+  nothing_goes : HasNothingAt n sees.named u → Takes ending.Abort
+  nothing_goes none = record {
+    state = S;
+    run = stay;
+    holds = (
+      ended ending.Abort S (λ b h. inl h) refl (ended_seen act owner v.x (place_of n) heard sees.named u S later (telling.good sees.named sees.there) sees.seen (drop_rows u (sees.named).rows) S.naming.rows S.naming.told
+          (subst (λ (rs : List Row). SeesRows act (entry v.x) rs S.naming.rows) (sym (none_dropped u (sees.named).rows (λ r i. none.rows r (in_to r (sees.named).rows i)))) (sees.seen).rows)),
+      naming_itself S,
+    );
+  }
+
   pub new_goes : Takes (taken_end u e n)
   new_goes = by e (telling.shown sees.named sees.there fresh)
     where
-      commit : (b : Bool) → is_on n.confirmed u ≡ b → MayGo S (act u) ⊎ ((s : Uid) × MayPass act u s sees.named S) → Takes (cond b ending.Commit ending.Abort)
+      commit : (b : Bool) → is_on n.confirmed u ≡ b → MayGo S (act u) ⊎ (((s : Uid) × MayPass act u s sees.named S) ⊎ HasNothingAt n sees.named u) → Takes (cond b ending.Commit ending.Abort)
       commit true is (inl may) = commit_goes may
-      commit true is (inr (s, may)) = pass_goes s may
+      commit true is (inr (inl (s, may))) = pass_goes s may
+      commit true is (inr (inr none)) = absurd (let e = none.unconfirmed in cc (sym is ∙ e))
       commit false is (inl may) = abort_goes may
-      commit false is (inr (s, may)) = abort_goes (unconfirmed s may is)
+      commit false is (inr (inl (s, may))) = abort_goes (unconfirmed s may is)
+      commit false is (inr (inr none)) = nothing_goes none
 
-      by : (f : End) → ShowsEndAt v sees.named S u f → Takes (taken_end u f n)
+      by : (f : End) → ShowsEndAt v n sees.named S u f → Takes (taken_end u f n)
       by ending.Abort shown = abort_goes shown
       by ending.Commit shown = commit (is_on n.confirmed u) refl shown
 

@@ -1,6 +1,6 @@
 -- Naming, whole, as the lock machine of one object has it, and what it does with the messages that are for it.
 use Rattle.std.specs.Prelude.{⊤, ◌≡◌, ◌<◌, ◌⊎◌, ◌*◌, ◌+◌, ◌||◌, ℕ, Bool, true, false, Option, Some, Contains}
-use Rattle.arj_protocol.specs.Words.{Binding, ConfirmedReply, End, Path, Uid, is_on}
+use Rattle.arj_protocol.specs.Words.{Binding, ConfirmedReply, End, Path, Row, Uid, is_on}
 use Rattle.arj_protocol.specs.Words.confirmed
 use Rattle.arj_protocol.specs.Words.ending
 use Rattle.arj_protocol.specs.Ask.{top_of}
@@ -70,11 +70,16 @@ HellosAreTaken = (v : View) (node inc : ℕ) (n : Naming) (S : State) → SeesNa
 
 -- ---- a Told
 
+-- naming didn't confirm the action, which is on the path of no lock here: a nested one
+pub record HasNothingAt (n : Naming) (o : Named) (u : Uid) : Type 0 where
+  pub unconfirmed : is_on n.confirmed u ≡ false
+  pub rows : (r : Row) → Contains o.rows r → is_on r.holder u ≡ false
+
 -- An end of an action at naming, in the machine: the machine may drop the rows of one that was aborted, and may drop those of one that was
--- committed, or pass them to its unit.
-abbrev pub ShowsEndAt : View → Named → State → Uid → End → Type 0
-ShowsEndAt v o S u ending.Abort = MayGo S (v.family.act u)
-ShowsEndAt v o S u ending.Commit = MayGo S (v.family.act u) ⊎ ((s : Uid) × MayPass v.family.act u s o S)
+-- committed, or pass them to its unit, or the action has nothing here.
+abbrev pub ShowsEndAt : View → Naming → Named → State → Uid → End → Type 0
+ShowsEndAt v n o S u ending.Abort = MayGo S (v.family.act u)
+ShowsEndAt v n o S u ending.Commit = MayGo S (v.family.act u) ⊎ (((s : Uid) × MayPass v.family.act u s o S) ⊎ HasNothingAt n o u)
 
 -- An end comes to naming: two actions have two places in the machine, each stands there below its owner, the object is good, and an end that
 -- is new to naming is shown.
@@ -82,7 +87,7 @@ pub record IsTelling (v : View) (owner : Owners) (u : Uid) (e : End) (n : Naming
   pub one : AreOne v.family.act
   pub owned : AreOwned v.family.act owner
   pub good : IsGoodAt v owner n
-  pub shown : (o : Named) → at_number v.x n.objects ≡ Some o → is_on n.told u ≡ false → ShowsEndAt v o S u e
+  pub shown : (o : Named) → at_number v.x n.objects ≡ Some o → is_on n.told u ≡ false → ShowsEndAt v n o S u e
 
 -- An end: naming takes it for an abort or a commit, or was told before, and is seen again.
 abbrev pub EndsAreTold : Type 0

@@ -9,8 +9,8 @@
 //! alone and what an answer shows. What it gives upward: a Bind, a
 //! Record and a Hello go (`specs/Bindings.antt`), and so do ends, exclude locks and a restart (`specs/Ends.antt`): that is what
 //! naming does with one object. Whole naming is seen at each message that is for it, whatever object that is about
-//! (`specs/Namings.antt`), where it stops and starts, and at each message that its node takes (`specs/Hearing.antt`), but not
-//! yet where it is told of a nested action's commit. A server's activations, operations, refusals and undoings go too (`specs/Copies.antt`), its
+//! (`specs/Namings.antt`), where it stops and starts, and at each message that its node takes (`specs/Hearing.antt`).
+//! A server's activations, operations, refusals and undoings go too (`specs/Copies.antt`), its
 //! commits and votes (`specs/Commits.antt`), and the whole of it (`specs/Servers.antt`): where it is told of ends
 //! (`specs/Telling.antt`, which also says which ends may be told; `specs/Listed.antt`: those that coordinators list), where it
 //! stops and starts, at each message that is for it, which may bring ends too (`specs/Serving.antt`), and at each that its

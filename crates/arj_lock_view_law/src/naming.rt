@@ -43,8 +43,8 @@ pub fn restarts_are_seen()
 {}
 
 /// Whole naming is seen again after each message that is for it, whatever object that is about: a Bind, a Record, a Hello, a Told, a
-/// Confirm; and so it is after each message that its node takes. An end that is told is one whose rows may go or pass in the machine, which
-/// that of a nested action's commit isn't. What naming answers about the object is shown; what it does with other objects is nothing to
+/// Confirm; and so it is after each message that its node takes. An end that is told is one whose rows may go or pass in the machine, or
+/// the commit of an action that has nothing at naming, as a nested one hasn't. What naming answers about the object is shown; what it does with other objects is nothing to
 /// the machine. It does nothing when it runs.
 pub fn messages_at_naming_are_seen()
     ensures binds { BindsAreTaken }
