@@ -24,6 +24,3 @@ pub use commits::commit_action;
 pub use giving::give_up;
 pub use rooms::has_room;
 pub use ticks::again_all;
-
-#[cfg(test)]
-mod tests;

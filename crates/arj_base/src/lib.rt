@@ -26,6 +26,3 @@ pub use state::{
     unpack,
 };
 pub use uid::{Uid, entry_uid, object_uid};
-
-#[cfg(test)]
-mod tests;

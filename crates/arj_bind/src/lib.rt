@@ -31,6 +31,3 @@ pub use known::{Known, copy_state};
 pub use laws::calls_go_in_order;
 pub use step::{CallStep, Unanswered};
 pub use steps::CallSteps;
-
-#[cfg(test)]
-mod tests;

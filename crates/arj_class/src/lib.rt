@@ -27,6 +27,3 @@ pub use queue::Queue;
 pub use register::Register;
 pub use table::Table;
 pub use value::Value;
-
-#[cfg(test)]
-mod tests;

@@ -23,6 +23,3 @@ pub use memory::{MemDisk, SureDisk};
 pub use putting::put;
 pub use rack::Rack;
 pub use slot::{Outcome, Role, Slot, Slots, role_of_uid};
-
-#[cfg(test)]
-mod tests;

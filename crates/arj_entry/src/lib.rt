@@ -9,6 +9,3 @@
 mod entry;
 
 pub use entry::Entry;
-
-#[cfg(test)]
-mod tests;

@@ -11,8 +11,3 @@ mod records;
 
 pub use intent::{Intent, Intents};
 pub use records::{list, put, remove};
-
-#[cfg(test)]
-mod recorder;
-#[cfg(test)]
-mod tests;

@@ -19,6 +19,3 @@ pub use mem_source::{MemSource, SureSource};
 pub use sink::{Sink, write_all};
 pub use source::Source;
 pub use std_ends::{StdSink, StdSource};
-
-#[cfg(test)]
-mod tests;

@@ -23,6 +23,3 @@ pub use effects::{close_leaves, drop_leaves, grant_leaves, lower_leaves, pass_le
 pub use fault::LockFault;
 pub use laws::{rows_are_one_each, rows_exclude, rows_stay_apart};
 pub use table::LockTable;
-
-#[cfg(test)]
-mod tests;

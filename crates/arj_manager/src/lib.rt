@@ -33,6 +33,3 @@ pub use laws::{aborts_agree, records_agree, views_agree};
 pub use manager::StateManager;
 pub use object::ActiveObject;
 pub use ran::Ran;
-
-#[cfg(test)]
-mod tests;

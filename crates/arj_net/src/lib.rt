@@ -8,6 +8,3 @@
 mod net;
 
 pub use net::{Frame, MOST_FRAMES, Net, NetFault};
-
-#[cfg(test)]
-mod tests;

@@ -57,6 +57,7 @@ const DECIDED: Play = Play {
     ],
 };
 
+// What node 1 writes in that run, and its disk calls.
 const DECIDES: &[u8] = b"0 disk write tmp
 0 disk rename tmp committed 0.1.1
 0 disk write tmp
@@ -116,6 +117,7 @@ const UNDECIDED: Play = Play {
     ],
 };
 
+// What node 1 writes in that one, and its disk calls.
 const PRESUMES: &[u8] = b"0 disk write tmp
 0 disk rename tmp committed 0.1.1
 0 disk write tmp
@@ -157,7 +159,7 @@ const PRESUMES: &[u8] = b"0 disk write tmp
 9 disk read committed 0.0.1
 ";
 
-// Store 2 in the first of these runs, and in the second.
+// Store 2 in the first of these runs.
 const COMMITS: Play = Play {
     number: 2,
     before: &[
@@ -171,6 +173,7 @@ const COMMITS: Play = Play {
     after: &[],
 };
 
+// What store 2 writes where the record was put, and its disk calls.
 const HAS_COMMITTED: &[u8] = b"0 disk write tmp
 0 disk rename tmp committed 0.0.1
 0 disk write tmp
@@ -196,6 +199,7 @@ const HAS_COMMITTED: &[u8] = b"0 disk write tmp
 9 disk read committed 0.0.1
 ";
 
+// Store 2 in the second of these runs.
 const ABORTS: Play = Play {
     number: 2,
     before: &[
@@ -209,6 +213,7 @@ const ABORTS: Play = Play {
     after: &[],
 };
 
+// What store 2 writes where it was not put, and its disk calls.
 const HAS_ABORTED: &[u8] = b"0 disk write tmp
 0 disk rename tmp committed 0.0.1
 0 disk write tmp
@@ -243,6 +248,7 @@ pub const FOUR_NODES: &[&[u8]] = &[
     b"run",
 ];
 
+// Naming in the second run: it stops behind a Confirm and is told of the commit, once before it is up again and once behind it.
 const NAMES: Play = Play {
     number: 1,
     before: &[
@@ -260,6 +266,7 @@ const NAMES: Play = Play {
     after: &[],
 };
 
+// What naming writes in the second run, and its disk calls.
 const HAS_NAMED: &[u8] = b"0 disk write tmp
 0 disk rename tmp committed 0.1.1
 0 disk write tmp
@@ -311,6 +318,7 @@ const HAS_NAMED: &[u8] = b"0 disk write tmp
 18 disk read committed 0.0.1
 ";
 
+// The coordinator and server in the second run: store 4 is silent and excluded.
 const EXCLUDES: Play = Play {
     number: 2,
     before: &[
@@ -333,6 +341,7 @@ const EXCLUDES: Play = Play {
     after: &[],
 };
 
+// What the coordinator and server writes in the second run, and its disk calls.
 const HAS_EXCLUDED: &[u8] = b"0 disk write tmp
 0 disk rename tmp incarnation
 1 began A top 2.1.1 -

@@ -1,6 +1,7 @@
-//! Tests of the parts that nodes are made of: messages, and stores and beginnings over disks that write down their calls.
+//! Tests of the parts that nodes are made of: messages, and stores, records and beginnings over disks that write down their
+//! calls.
 //!
-//! It stands on `arj_msg`, `arj_store`, `arj_recover` and `arj_disk`, which it knows by their contracts. It has tests, and
+//! It stands on `arj_msg`, `arj_store`, `arj_intent`, `arj_recover` and `arj_disk`, which it knows by their contracts. It has tests, and
 //! the recording disk, which the tests of crates above use too.
 #![tactic(auto)]
 
@@ -9,6 +10,8 @@ mod beginnings;
 #[cfg(test)]
 mod messages;
 mod recorder;
+#[cfg(test)]
+mod records;
 #[cfg(test)]
 mod stores;
 #[cfg(test)]

@@ -28,6 +28,3 @@ pub use questions::{least_grant, objects_in, top_uses};
 pub use root::Root;
 pub use sends::{Sends, Went};
 pub use survival::{counts, is_kept_top, is_retained, survives};
-
-#[cfg(test)]
-mod tests;

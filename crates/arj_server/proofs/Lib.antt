@@ -4,4 +4,4 @@ mod Said
 mod Runs
 mod Loops
 mod Means
-mod Stays
+pub mod Stays

@@ -19,6 +19,3 @@ pub use laws::{
     messages_are_void_exactly, repeats_change_nothing,
 };
 pub use server::Server;
-
-#[cfg(test)]
-mod tests;

@@ -18,6 +18,3 @@ pub use arj_journal::Kind;
 pub use fault::TreeFault;
 pub use laws::refusals_are_the_protocols;
 pub use tree::{Tree, is_misplaced};
-
-#[cfg(test)]
-mod tests;

@@ -1,6 +1,0 @@
-use Rattle.std.proofs.Common.{refl, sym}
-use Rattle.arj_class.specs.declared.value.Value.TheVariants.{Counter}
-use Rattle.arj_asking.proofs.tests.state.Goals as goal
-
-pub returns : goal.returns
-returns c = (Counter c.new.result, refl, c.in_ok-save_state.ensures.in_form, sym c.in_ok-save_state.ensures.payload)

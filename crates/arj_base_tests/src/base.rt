@@ -1,0 +1,52 @@
+// What callers get from the contracts: tops, orders and versions.
+ghost use Rattle.std.specs.Prelude.{◌≡◌};
+ghost use Rattle.std.specs.Ordering.{is_lt};
+ghost use Rattle.arj_base.specs.Order.{uid_order};
+ghost use Rattle.arj_base.specs.Path.{uids_of, tops_of, top_uid};
+
+use arj_base::{
+    LAST_VERSION, Path, Uid, next_version, object_uid, orders_are_by_fields, uids_are_told_apart,
+};
+use std::test::Fail;
+
+// The top, by its path.
+fn top_by_path(path: &Path) -> Uid
+    ensures { result ≡ top_uid (tops_of path.now) (uids_of path.now) }
+{
+    path.top_path().last()
+}
+
+// Whether a Uid stands before another one in increasing order.
+fn stands_before(u: Uid, w: Uid) -> bool
+    ensures order { result ≡ is_lt (uid_order u w) }
+{
+    orders_are_by_fields();
+    u < w
+}
+
+// Two equal Uids are one and the same.
+fn one_of(u: Uid, w: Uid) -> Uid
+    ensures { result ≡ w }
+{
+    uids_are_told_apart();
+    if u == w { u } else { w }
+}
+
+#[test]
+fn tops_orders_and_versions(rt: HostRuntime) -> Result<(), Fail> {
+    let serializing = Path::new(object_uid(5));
+    let Some(constituent) = serializing.push(object_uid(6), true) else {
+        return Err(Fail::new("too long"));
+    };
+    let Some(nested) = constituent.push(object_uid(7), false) else {
+        return Err(Fail::new("too long"));
+    };
+    assert_eq!(rt; nested.top_path().as_slice(), constituent.as_slice());
+    assert_eq!(rt; serializing.top_path().as_slice(), serializing.as_slice());
+    assert_eq!(rt; top_by_path(&nested), object_uid(6));
+    assert!(rt; stands_before(object_uid(6), object_uid(7)));
+    assert_eq!(rt; one_of(object_uid(6), object_uid(7)), object_uid(7));
+    assert_eq!(rt; next_version(1), 2);
+    assert_eq!(rt; next_version(LAST_VERSION), LAST_VERSION);
+    Ok(())
+}
