@@ -20,6 +20,7 @@ ghost use Rattle.arj_tree.specs.declared.fault.TreeFault.TheVariants as fault;
 
 use crate::doing::Doing;
 use crate::doings::Doings;
+use crate::now::discard;
 use crate::{Now, Records};
 use arj_base::{End, NodeList, Numbers, Uid};
 use arj_intent::Intent;
@@ -171,9 +172,11 @@ impl Coord {
         requires { NowFits action req (now_of now) }
         ensures { OnOk result (self.new ≡ on_doing action (λ (d : coord.Doing). record d { req = req; now = now_of now }) self.old) }
     {
-        if self.tree.is_own(action) {
-            self.doings.wait(action.num, req, now)?;
+        if !self.tree.is_own(action) {
+            discard(now);
+            return Ok(());
         }
+        self.doings.wait(action.num, req, now)?;
         Ok(())
     }
 

@@ -10,7 +10,7 @@ ghost use Rattle.arj_protocol.specs.Tree.{at_place};
 
 use crate::Now;
 use crate::doing::Doing;
-use crate::now::is_waiting;
+use crate::now::{discard, is_waiting};
 use arj_base::{NodeList, Numbers};
 use arj_journal::Label;
 use std::alloc::{AllocError, Global};
@@ -114,9 +114,13 @@ impl Doings {
         ensures waits { OnOk result (self.new ≡ changed_at number (λ (d : coord.Doing). record d { req = req; now = now_of now }) self.old) }
     {
         let Some(place) = self.place(number) else {
+            discard(now);
             return Ok(());
         };
-        mark(&mut self.pending, is_waiting(&now), number)?;
+        if let Err(fault) = mark(&mut self.pending, is_waiting(&now), number) {
+            discard(now);
+            return Err(fault);
+        }
         self.all[place].wait(req, now);
         Ok(())
     }

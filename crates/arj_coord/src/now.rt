@@ -23,6 +23,9 @@ pub enum Now {
     Committing(Commit),
 }
 
+/// Lets go of what was waited for: so that a function with several ends lets it go in one way at each.
+pub(crate) fn discard(_now: Now) {}
+
 /// Whether it waits.
 pub fn is_waiting(now: &Now) -> bool
     ensures { result ≡ is_waiting_now (now_of now.now) }

@@ -11,7 +11,7 @@ pub invariant_of-self-2 : goal.invariant_of-self-2
 invariant_of-self-2 c =
     changed_keeps c.self.inside.pending.keys c.mark.new.pending.keys c.in-Some.place c.args.number c.is_waiting.result c.self.inside.all.items c.index_mut.result.now c.wait.new.self
     (read_at _ c.args.self.now c.in-Some.place c.index_mut.result.now c.self.view_is c.in-Some.ensures.1 c.index_mut.ensures.value)
-    c.self.invariant c.in-Some.ensures.0 (ap (λ (d : Doing). is_waiting_now d.now) c.wait.ensures ∙ sym c.is_waiting.ensures) c.in_ok-mark.ensures.marked
+    c.self.invariant c.in-Some.ensures.0 (ap (λ (d : Doing). is_waiting_now d.now) c.wait.ensures ∙ sym c.is_waiting.ensures) c.in_default-mark.ensures.marked
 
 pub returns-clause-waits : goal.returns-clause-waits
 returns-clause-waits c =
