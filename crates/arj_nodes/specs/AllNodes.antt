@@ -32,6 +32,7 @@ pub record Task (D : Type 0) : Type 0 where
   pub header : Header
   pub events : List Event
 
+-- first disks, a header and events, as one
 abbrev pub task : {D : Type 0} → List D → Header → List Event → Task D
 task first header events = record { first = first; header = header; events = events }
 
