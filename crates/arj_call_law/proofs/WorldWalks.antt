@@ -131,8 +131,8 @@ module _ (acts : List Action) (paths : Paths) where
 
   -- ---- a call once more
 
-  same_call : (k e : Call) → k ≡ e → (k.x ≡ e.x) × (k.binding ≡ e.binding) × (k.inc ≡ e.inc)
-  same_call k e is = (ap (λ (z : Call). z.x) is, ap (λ (z : Call). z.binding) is, ap (λ (z : Call). z.inc) is)
+  same_call : (k e : Call) → k ≡ e → (k.x ≡ e.x) × (k.binding ≡ e.binding) × (k.inc ≡ e.inc) × (k.op ≡ e.op)
+  same_call k e is = (ap (λ (z : Call). z.x) is, ap (λ (z : Call). z.binding) is, ap (λ (z : Call). z.inc) is, ap (λ (z : Call). z.op) is)
 
   -- a call that is sent is that of the step that waits, and so is every one by its request
   module _ (sent : List Post) (k : ℕ) (v : Parts) (knows : KnowsCalls paths sent v.coord) (node : v.coord.tree.node ≡ k) (senders : (p : Post) (h : Head) (a : Ask) → In p sent → asks p.message ≡ Some (h, a) → (let u = actor h.path in u.node) ≡ p.from) where
@@ -162,10 +162,10 @@ module _ (acts : List Action) (paths : Paths) where
       p : Post
       p = record { from = k; to = to; message = m }
 
-      by : In (record { from = from; to = to1; message = a.message }) (p ∷ sent) → In (record { from = from2; to = to2; message = b.message }) (p ∷ sent) → (c.x ≡ e.x) × (c.binding ≡ e.binding) × (c.inc ≡ e.inc)
+      by : In (record { from = from; to = to1; message = a.message }) (p ∷ sent) → In (record { from = from2; to = to2; message = b.message }) (p ∷ sent) → (c.x ≡ e.x) × (c.binding ≡ e.binding) × (c.inc ≡ e.inc) × (c.op ≡ e.op)
       by (inr old) (inr older) = one from from2 to1 to2 c e (record { message = a.message; posted = old; call = a.call }) (record { message = b.message; posted = older; call = b.call }) same
       by (inl new) r = same_call c e (of_step (p ∷ sent) k v knows node senders to m from2 to2 c e so (ap (λ (z : Post). call_of z.message) new ∙ a.call) b same)
-      by (inr old) (inl new) = let f = same_call e c (of_step (p ∷ sent) k v knows node senders to m from to1 e c so (ap (λ (z : Post). call_of z.message) new ∙ b.call) a (sym same)) in (sym f.0, sym f.1, sym f.2)
+      by (inr old) (inl new) = let f = same_call e c (of_step (p ∷ sent) k v knows node senders to m from to1 e c so (ap (λ (z : Post). call_of z.message) new ∙ b.call) a (sym same)) in (sym f.0, sym f.1, sym f.2, sym f.3)
 
 -- ---- a walk
 

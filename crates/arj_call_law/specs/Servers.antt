@@ -68,6 +68,6 @@ HasReached x b s = (c : Copy) × (at_number x s.objects ≡ Some c) × (binding_
 abbrev pub HaveReached : List Post → ℕ → Node → Type 0
 HaveReached sent n m = (from : ℕ) (c : Call) → IsAsked sent from n c → Since c.inc (HasReached c.x c.binding) m
 
--- two calls with one request are on one object, under one binding and of one incarnation
+-- two calls with one request are of one operation, on one object, under one binding and of one incarnation
 abbrev pub AreOneCall : List Post → Type 0
-AreOneCall sent = (from from2 to to2 : ℕ) (c e : Call) → IsAsked sent from to c → IsAsked sent from2 to2 e → asked_by c.head ≡ asked_by e.head → (c.x ≡ e.x) × (c.binding ≡ e.binding) × (c.inc ≡ e.inc)
+AreOneCall sent = (from from2 to to2 : ℕ) (c e : Call) → IsAsked sent from to c → IsAsked sent from2 to2 e → asked_by c.head ≡ asked_by e.head → (c.x ≡ e.x) × (c.binding ≡ e.binding) × (c.inc ≡ e.inc) × (c.op ≡ e.op)

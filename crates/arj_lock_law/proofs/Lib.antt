@@ -31,3 +31,4 @@ pub mod Worked
 pub mod VoteLasts
 pub mod VoteSteps
 pub mod VoteRun
+pub mod Kept

@@ -2,7 +2,8 @@
 use Rattle.std.proofs.Common.{◌≡◌, ◌≤◌, ◌<◌, ◌⊎◌, ◌==◌, ℕ, List, [], ◌∷◌, Bool, true, false, cond, max, inl, inr, refl, sym, ◌∙◌, ap, subst, arith}
 use Rattle.arj_lock_law.specs.Actions.{Act, Root, same, on, root, top, is_top, is_action, In}
 use Rattle.arj_lock_law.specs.State.{Entry, Server, Call, Answer, Ballot, Message, Live, Made, Granted, Activate, Activated, Recorded, Invoked, Refused, Changed, Vote, Confirm, State, Alive, Merged, Covered}
-use Rattle.arj_lock_law.specs.Steps.{Event, CrashNaming, BindLive, BindNew, Grant, Record, ConfirmTop, PassEntry, DropEntry, CrashServer, ActivateCopy, Apply, Refuse, Change, PassRow, PassTop, DropRows, VoteTop, Keep, Name, Load, SendInvoke, Answered, TurnedDown, Lost, GiveUp, CommitNested, Abort, CommitTop, SendVote, SendConfirm, Decide, Report, EndUnit, Included, Newest, newest, older, IsLast, Survives, held_value}
+use Rattle.arj_lock_law.specs.Steps.{Event, CrashNaming, BindLive, BindNew, Grant, Record, ConfirmTop, PassEntry, DropEntry, CrashServer, ActivateCopy, Apply, Refuse, Change, PassRow, PassTop, DropRows, VoteTop, Keep, Name, Load, SendInvoke, Answered, TurnedDown, Lost, GiveUp, CommitNested, Abort, CommitTop, SendVote, SendConfirm, Decide, Report, EndUnit, Included, Newest, none, newest, older, IsLast, Survives, held_value}
+use Rattle.arj_lock_law.specs.Laws.{VotesAgree}
 use Rattle.arj_lock_law.specs.Machine.{Guard, next, ballot}
 use Rattle.arj_lock_law.proofs.Paths.{by_cases, differ, same_is, same_self, same_number, on_top, above_top, one_top, top_root, act_cases, act_here, act_other}
 use Rattle.arj_lock_law.proofs.Claims.{server_of, IsUp, Reached, GoesOn, Mean, Sure, Holds}
@@ -86,26 +87,10 @@ module _ (s : State) (n : ℕ) (m : Act) (b i : ℕ) (guard : Guard (VoteTop n m
       inc (inl l) = absurd (let e = guard.2 in let k = mean.3 in omega (arith, l, e, k))
       inc (inr (e, l)) = sym e
 
-  -- the first vote under the kept binding, of a top with a write
-  module _ (fresh : s.yes m < b) (here : b ≡ s.kept (root m)) (three : (s.action m).stage ≤ 3) (c : Call) (ci : In c s.calls) (write : c.write ≡ true) (own : Theirs s m c.act) (present : (s.naming.first ≤ s.kept (root m)) ⊎ (s.confirmed m ≡ true)) where
-    r : root c.act ≡ root m
-    r = sym (top_root c.act) ∙ ap root own.0
-
-    covered : Covered s m c.act
-    covered = (r, inl own.0)
-
-    first : s.naming.first ≤ s.kept (root m)
-    first = elim present [ inl l ↦ l | inr conf ↦ absurd (let e = (o.tops m mean.0).asked conf c ci own.1 covered in let f = fresh in let k = here in omega (arith, e, f, k)) ]
-
-    one : (s.action m).stage ≡ 1
-    one = by (stage_cases (s.action m).stage mean.4)
-      where
-        stage_cases : (x : ℕ) → 1 ≤ x → (x ≡ 1) ⊎ (2 ≤ x)
-        stage_cases x l = grind arith
-
-        by : ((s.action m).stage ≡ 1) ⊎ (2 ≤ (s.action m).stage) → (s.action m).stage ≡ 1
-        by (inl e) = e
-        by (inr two) = absurd (let e = ((h.tops m mean.0).called two three c ci own.1 covered).0 in let f = fresh in let k = here in omega (arith, e, f, k))
+  -- a vote under the kept binding, of a top at its commit with a write, in the binding's incarnation of naming
+  module _ (one : (s.action m).stage ≡ 1) (first : s.naming.first ≤ s.kept (root m)) (here : b ≡ s.kept (root m)) (c : Call) (ci : In c s.calls) (write : c.write ≡ true) (own : Theirs s m c.act) where
+    three : (s.action m).stage ≤ 3
+    three = let e = one in omega (arith, e)
 
     goes : GoesOn s (root m)
     goes = (h.tops m mean.0).goes (let e = one in omega (arith, e)) (let e = one in omega (arith, e))
@@ -231,8 +216,8 @@ vote_top_votes s n m b i guard h v later ht vt o = record { tops = tops; mail = 
         first : (max (s.yes m) b == s.yes m) ≡ false → VoteHolds t m
         first e = record {
           asked = λ c. meant m (om.asked c);
-          right = λ c k. subst (λ (y : Ballot). Newest s.initial (Theirs t m) y.value s.calls) (sym z) (newest_on s.initial s.initial (Theirs s m) (Theirs t m) (held_value m (s.server n).base (s.server n).log) s.calls refl (λ d j w q. q) (λ d j w q. q) (value_right s n m b i guard h v o less (kept k) k.alive c k.call k.write k.stands k.present));
-          under = λ c k low. subst (λ (y : Ballot). IsLast s y.under s.calls) (sym z) (under_right s n m b i guard h v o less (kept k) k.alive c k.call k.write k.stands k.present);
+          right = λ c k. subst (λ (y : Ballot). Newest s.initial (Theirs t m) y.value s.calls) (sym z) (newest_on s.initial s.initial (Theirs s m) (Theirs t m) (held_value m (s.server n).base (s.server n).log) s.calls refl (λ d j w q. q) (λ d j w q. q) (value_right s n m b i guard h v o (one_of k) (first_of k) (kept k) c k.call k.write k.stands));
+          under = λ c k low. subst (λ (y : Ballot). IsLast s y.under s.calls) (sym z) (under_right s n m b i guard h v o (one_of k) (first_of k) (kept k) c k.call k.write k.stands);
         }
           where
             z : t.vote m ≡ record { value = held_value m (s.server n).base (s.server n).log; under = (s.server n).base }
@@ -246,6 +231,23 @@ vote_top_votes s n m b i guard h v later ht vt o = record { tops = tops; mail = 
 
             kept : {c : Call} → HasVoted t m c → b ≡ s.kept (root m)
             kept k = let y = k.yes in let e' = ym in let l = less in omega (arith, y, e', l)
+
+            covered : {c : Call} → HasVoted t m c → Covered s m c.act
+            covered {c} k = let e = k.stands.0 in (sym (top_root c.act) ∙ ap root e, inl e)
+
+            -- the first vote comes before the decision, and before naming's confirmation
+            first_of : {c : Call} → HasVoted t m c → s.naming.first ≤ s.kept (root m)
+            first_of {c} k = elim k.present [ inl l ↦ l | inr conf ↦ absurd (let e' = om.asked conf c k.call k.stands.1 (covered k) in let f = less in let q = kept k in omega (arith, e', f, q)) ]
+
+            one_of : {c : Call} → HasVoted t m c → (s.action m).stage ≡ 1
+            one_of {c} k = by (stage_cases (s.action m).stage mv.4)
+              where
+                stage_cases : (x : ℕ) → 1 ≤ x → (x ≡ 1) ⊎ (2 ≤ x)
+                stage_cases x l = grind arith
+
+                by : ((s.action m).stage ≡ 1) ⊎ (2 ≤ (s.action m).stage) → (s.action m).stage ≡ 1
+                by (inl e') = e'
+                by (inr two) = absurd (let e' = ((h.tops m mv.0).called two k.alive c k.call k.stands.1 (covered k)).0 in let f = less in let q = kept k in omega (arith, e', f, q))
 
         here : VoteHolds t m
         here = elim (by_cases (max (s.yes m) b == s.yes m)) [ inl e ↦ again e | inr e ↦ first e ]
@@ -315,3 +317,28 @@ step_votes (ConfirmTop m q) s guard h v later ht vt o = confirm_votes s m q guar
 step_votes (VoteTop n m b i) s guard h v later ht vt o = vote_top_votes s n m b i guard h v later ht vt o
 step_votes (Answered r p) s guard h v later ht vt o = answered_votes s r p guard h v later ht vt o
 step_votes (SendConfirm m q) s guard h v later ht vt o = send_confirm_votes s m q guard h v later ht vt o
+
+-- ---- the same vote again
+
+-- the newest write that counts left one value
+newest_one : (first : ℕ) (T : Act → Type 0) (x y : ℕ) (cs : List Call) → Newest first T x cs → Newest first T y cs → x ≡ y
+newest_one first T x y cs (none a) (none b) = sym a ∙ b
+newest_one first T x y (c ∷ cs) (newest _ w t g) (newest _ w2 t2 g2) = sym g ∙ g2
+newest_one first T x y (c ∷ cs) (newest _ w t g) (older _ f n) = absurd (f w t)
+newest_one first T x y (c ∷ cs) (older _ f n) (newest _ w t g) = absurd (f w t)
+newest_one first T x y (c ∷ cs) (older _ f n) (older _ f2 n2) = newest_one first T x y cs n n2
+
+pub votes_agree : {s : State} → Holds s → Values s → Votes s → VotesAgree s
+votes_agree {s} h v o n m i c guard one kept first ci write tops alive =
+    let value = newest_one s.initial (Theirs s m) _ _ s.calls ((o.tops m is).right c voted) (value_right s n m (s.yes m) i guard h v o one first kept c ci write (tops, alive)) in
+    let under = newest_one s.initial (Survives s) _ _ s.calls ((o.tops m is).under c voted low) (under_right s n m (s.yes m) i guard h v o one first kept c ci write (tops, alive)) in
+    λ k. record { value = value k; under = under k }
+  where
+    is : is_top m ≡ true
+    is = (h.mail (Vote m (s.yes m) i) guard.0).0
+
+    low : (s.action m).stage ≤ 2
+    low = let e = one in omega (arith, e)
+
+    voted : HasVoted s m c
+    voted = record { called = (let e = one in omega (arith, e)); alive = (let e = one in omega (arith, e)); call = ci; write = write; stands = (tops, alive); yes = kept; present = inl first }

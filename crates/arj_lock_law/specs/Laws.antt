@@ -1,9 +1,10 @@
 -- What every run of the lock machine keeps.
-use Rattle.std.proofs.Common.{◌≡◌, ◌≢◌, ◌≤◌, ◌<◌, ◌⊎◌, List, [], ◌∷◌, true}
+use Rattle.std.proofs.Common.{◌≡◌, ◌≢◌, ◌≤◌, ◌<◌, ◌⊎◌, ℕ, List, [], ◌∷◌, true}
 use Rattle.arj_lock_law.specs.Actions.{Act, Root, on, root, top, is_top, In}
 use Rattle.arj_lock_law.specs.Rows.{mode}
-use Rattle.arj_lock_law.specs.State.{Alive, Call, Include, State, Passed, Covered}
-use Rattle.arj_lock_law.specs.Steps.{Survives, Newest, IsLast}
+use Rattle.arj_lock_law.specs.Machine.{Guard}
+use Rattle.arj_lock_law.specs.State.{Alive, Ballot, Call, Include, State, Passed, Covered}
+use Rattle.arj_lock_law.specs.Steps.{Survives, Newest, IsLast, VoteTop, held_value}
 
 -- A top with its committed line.
 abbrev pub IsCommitted : State → Act → Type 0
@@ -69,3 +70,17 @@ SawTheLast s (d ∷ cs) = (Survives s d.act → IsLast s d.sees cs) × SawTheLas
 pub record VotesAreRight (s : State) : Type 0 where
   pub value : (m : Act) (c : Call) → is_top m ≡ true → 2 ≤ (s.action m).stage → (s.action m).stage ≤ 3 → In c s.calls → c.write ≡ true → top c.act ≡ m → Alive s c.act → Newest s.initial (λ a. (top a ≡ m) × Alive s a) (s.vote m).value s.calls
   pub under : (m : Act) (c : Call) → is_top m ≡ true → (s.action m).stage ≡ 2 → In c s.calls → c.write ≡ true → top c.act ≡ m → Alive s c.act → IsLast s (s.vote m).under s.calls
+
+-- what a vote of this server for the top gives now
+abbrev pub given_by : State → ℕ → Act → Ballot
+given_by s n m = record { value = held_value m (s.server n).base (s.server n).log; under = (s.server n).base }
+
+-- A server that may vote again as it did, under the binding that the top's unit keeps, gives the same: while the commit is called and not
+-- decided, naming is of the binding's incarnation, and the top has a write that wasn't undone.
+abbrev pub VotesAgree : State → Type 0
+VotesAgree s = (n : ℕ) (m : Act) (i : ℕ) (c : Call) → Guard (VoteTop n m (s.yes m) i) s → (s.action m).stage ≡ 1 → s.yes m ≡ s.kept (root m) → s.naming.first ≤ s.kept (root m)
+    → In c s.calls → c.write ≡ true → top c.act ≡ m → Alive s c.act → s.vote m ≡ given_by s n m
+
+-- Of the binding that a unit keeps an incarnation was heard, where a call of the unit wasn't undone; and it isn't 0.
+abbrev pub KeptAreNamed : State → Type 0
+KeptAreNamed s = (c : Call) → In c s.calls → Alive s c.act → ((s.binding (s.kept (root c.act))).named ≡ true) × (1 ≤ s.kept (root c.act))

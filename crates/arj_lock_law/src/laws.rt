@@ -4,7 +4,7 @@ ghost use Rattle.arj_lock_law.specs.Actions.{Act, In};
 ghost use Rattle.arj_lock_law.specs.State.{State, Call, Include};
 ghost use Rattle.arj_lock_law.specs.Steps.{Survives};
 ghost use Rattle.arj_lock_law.specs.Machine.{start, Run};
-ghost use Rattle.arj_lock_law.specs.Laws.{IsInOrder, IsNested, IsAtOneNode, IsHeld, IsEntryWritten, Closes, SawTheLast, VotesAreRight};
+ghost use Rattle.arj_lock_law.specs.Laws.{IsInOrder, IsNested, IsAtOneNode, IsHeld, IsEntryWritten, KeptAreNamed, Closes, SawTheLast, VotesAgree, VotesAreRight};
 
 /// Order: the ok lines of two conflicting surviving calls stand in the serial order of their tops, whatever restarts, lost
 /// locks, replaced bindings and old messages come between. It does nothing when it runs.
@@ -41,4 +41,16 @@ pub fn calls_saw_the_last_value()
 /// one. It does nothing when it runs.
 pub fn votes_are_right()
     ensures votes { (v : ℕ) (s : State) → Run (start v) s → VotesAreRight s }
+{}
+
+/// Votes again: a server that is asked once more for a vote that it gave under the binding which the top's unit keeps gives the same, for a top
+/// with a write that wasn't undone, between its commit call and its decision, while naming is of the binding's incarnation. It does
+/// nothing when it runs.
+pub fn repeated_votes_agree()
+    ensures votes { (v : ℕ) (s : State) → Run (start v) s → VotesAgree s }
+{}
+
+/// Kept bindings: a unit with a call that wasn't undone keeps a binding of which it heard an incarnation. It does nothing when it runs.
+pub fn kept_bindings_are_named()
+    ensures named { (v : ℕ) (s : State) → Run (start v) s → KeptAreNamed s }
 {}

@@ -5,7 +5,7 @@
 //! invariant in layers: order, then values given the order, then votes given both. What it gives upward are the laws of
 //! `laws`: surviving calls stand in the serial order, within a unit they are nested, each saw what all surviving writes
 //! before it left, overlapping ones ran at one node, their locks are held to the last commit call of their unit, and what
-//! a decided top gives to the stores is right. The one premise on stores is what a step `Load` asks: the state that a store
+//! a decided top gives to the stores is right, also where a server votes again. The one premise on stores is what a step `Load` asks: the state that a store
 //! gives for a current binding is the last committed one, and nothing is in doubt there.
 #![tactic(auto)]
 
@@ -14,6 +14,7 @@ mod runs;
 
 pub use laws::{
     calls_of_a_unit_are_nested, calls_saw_the_last_value, calls_stand_in_order,
-    overlapping_calls_ran_at_one_node, rows_are_held, votes_are_right,
+    kept_bindings_are_named, overlapping_calls_ran_at_one_node, repeated_votes_agree,
+    rows_are_held, votes_are_right,
 };
 pub use runs::{runs_go_on, these_runs_happen};
