@@ -93,5 +93,5 @@ actions_are_aborted act code paths x c u b intents S reached steady found unende
             (let q = moves act code paths x c u b intents S steady found unended whole in q.commits w d m works is);
         units = h.4;
       },
-      (only_ended (root (act u)) S T h.1, (h.2, h.3)),
+      (only_ended (root (act u)) S T h.1, (h.2, h.3, h.5)),
     ))

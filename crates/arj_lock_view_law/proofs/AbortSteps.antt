@@ -11,7 +11,7 @@ use Rattle.arj_protocol.specs.Coord.{Coord, Doing, Idle, doing_of}
 use Rattle.arj_protocol.specs.Effect.{Intent}
 use Rattle.arj_protocol.specs.Ending.{abort_action, all_aborted, ended}
 use Rattle.arj_protocol.specs.Tree.{Branch, Tree, at_place, branch_of, ended_so, is_below, is_open_below, open_below, root_of}
-use Rattle.arj_lock_law.specs.Actions.{Act, Root, is_action, on, root}
+use Rattle.arj_lock_law.specs.Actions.{Act, Root, is_action, on, root, same}
 use Rattle.arj_lock_law.specs.Machine.{stay}
 use Rattle.arj_lock_law.specs.State.{Action, State}
 use Rattle.arj_lock_law.proofs.Paths.{by_cases, differ, on_root, root_is, same_is}
@@ -20,7 +20,7 @@ use Rattle.arj_part_law.specs.Claims.{GoesOn}
 use Rattle.arj_part_law.specs.Coords.{IsGoodCoord}
 use Rattle.arj_part_law.specs.Trees.{HasLists}
 use Rattle.arj_part_law.proofs.GoodCoords.{good_abort}
-use Rattle.arj_part_law.proofs.Begun.{path_some}
+use Rattle.arj_part_law.proofs.Begun.{on_own, path_some}
 use Rattle.arj_part_law.proofs.GoodTrees.{aborted_tree, all_left, in_latest, in_more, over_below, placed}
 use Rattle.arj_part_law.proofs.Truths.{well_abort}
 use Rattle.arj_part_law.proofs.TrueSteps.{work_there}
@@ -28,6 +28,7 @@ use Rattle.arj_lock_view_law.specs.Acting.{OnlyActed}
 use Rattle.arj_lock_view_law.specs.Actions.{IsPlaced, IsSteady, SeesAction, SeesActions, stage_of}
 use Rattle.arj_lock_view_law.specs.Acts.{Acts, AreOne}
 use Rattle.arj_lock_view_law.specs.Copies.{Codes}
+use Rattle.arj_lock_view_law.specs.Ending.{AbortsOnly, ChangesOne, IsOpenAt, KeepsActions, aborted}
 use Rattle.arj_lock_view_law.specs.Going.{Goes}
 use Rattle.arj_lock_view_law.specs.Roots.{SeesCoord}
 use Rattle.arj_lock_view_law.specs.Stops.{AbortionsGoDown, AreAborted, AreUnitsOver}
@@ -64,6 +65,10 @@ record IsAbortable (act : Acts) (c : Coord) (w : Uid) : Type 0 where
   pub its : is_action (act w) ≡ true
 
 module _ (act : Acts) (code : Codes) (x : ℕ) (apart : AreOne act) where
+  -- as it was, or aborted as one of these
+  abbrev IsGoneOr : List Uid → State → Act → Action → Type 0
+  IsGoneOr ws S a v = (v ≡ S.action a) ⊎ ((v ≡ aborted (S.action a)) × ((w : Uid) × list.In w ws × (a ≡ act w)))
+
   -- what the aborts of these actions, all of one unit, leave
   record AreGone (unit : ℕ) (ws : List Uid) (c e : Coord) (S T : State) : Type 0 where
     sees : SeesCoord act code x e T
@@ -73,6 +78,7 @@ module _ (act : Acts) (code : Codes) (x : ℕ) (apart : AreOne act) where
     was : (w : Uid) (q : Branch) → branch_of w e.tree ≡ Some q → (r : Branch) × (branch_of w c.tree ≡ Some r) × ((q ≡ r) ⊎ (q ≡ record r { ended = Some ending.Abort }))
     works : (w : Uid) (d : Doing) → doing_of w c ≡ Some d → (k : Doing) × (doing_of w e ≡ Some k)
     elsewhere : (w : Uid) → (list.In w ws → ⊥) → branch_of w e.tree ≡ branch_of w c.tree
+    ends : (a : Act) → is_action a ≡ true → IsGoneOr ws S a (T.action a)
 
   -- ---- one of them
 
@@ -89,8 +95,8 @@ module _ (act : Acts) (code : Codes) (x : ℕ) (apart : AreOne act) where
     only_one : OnlyOne c w b' d' e
     only_one = end_changed c w a.branch a.work a.there a.works ending.Abort
 
-    gone : (T : State) → SeesActions act x e T.action → OnlyActed (root (act w)) S T → T.now ≡ S.now → ((n : ℕ) → T.action (Root n) ≡ S.action (Root n)) → AreGone (root (act w)) (w ∷ []) c e S T
-    gone T acts only now units = record {
+    gone : (T : State) → SeesActions act x e T.action → OnlyActed (root (act w)) S T → T.now ≡ S.now → ((n : ℕ) → T.action (Root n) ≡ S.action (Root n)) → ((a : Act) → is_action a ≡ true → IsGoneOr (w ∷ []) S a (T.action a)) → AreGone (root (act w)) (w ∷ []) c e S T
+    gone T acts only now units ends = record {
       sees = one_stays act code x c e w a.branch b' d' S T a.there (λ h. ap (ended_so ending.Abort) only_one.branch) sees only.rest acts only_one refl (ended_roots w ending.Abort c) (λ s is. absurd (cc is));
       only = only;
       now = now;
@@ -107,6 +113,7 @@ module _ (act : Acts) (code : Codes) (x : ℕ) (apart : AreOne act) where
           (λ (other : v ≢ w). (d, only_one.doings v other ∙ found))
           (uid_cases v w);
       elsewhere = λ v other. only_one.branches v (λ is. other (inl (sym is)));
+      ends = ends;
     }
 
     its_was : SeesAction x a.branch a.work (S.action (act w))
@@ -120,9 +127,15 @@ module _ (act : Acts) (code : Codes) (x : ℕ) (apart : AreOne act) where
 
     one_gone : Goes S (AreGone (root (act w)) (w ∷ []) c e S)
     one_gone = ⊎_elim
-        (λ un. goes_to (abort_goes act x c S apart sees.actions w a.branch a.work a.there a.works a.its un) (λ T h. gone T h.0 h.1 h.2.0 h.2.2))
-        (λ is. record { state = S; run = stay; holds = gone S (again is) (acted_none (root (act w)) S) refl (λ n. refl) })
+        (λ un. goes_to (abort_goes act x c S apart sees.actions w a.branch a.work a.there a.works a.its un) (λ T h. gone T h.0 h.1 h.2.0 h.2.2 (gone_one T h.2.3)))
+        (λ is. record { state = S; run = stay; holds = gone S (again is) (acted_none (root (act w)) S) refl (λ n. refl) (λ q its. inl refl) })
         a.left
+      where
+        gone_one : (T : State) → ChangesOne (act w) (aborted (S.action (act w))) S T → (q : Act) → is_action q ≡ true → IsGoneOr (w ∷ []) S q (T.action q)
+        gone_one T o q its = ⊎_elim
+            (λ (is : same q (act w) ≡ true). inr (subst (λ (k : Act). T.action k ≡ aborted (S.action k)) (sym (same_is q (act w) is)) (o.one (ap is_action (sym (same_is q (act w) is)) ∙ its)), (w, inl refl, same_is q (act w) is)))
+            (λ (isnt : same q (act w) ≡ false). inl (o.others q its isnt))
+            (by_cases (same q (act w)))
 
   -- ---- one after another
 
@@ -151,8 +164,16 @@ module _ (act : Acts) (code : Codes) (x : ℕ) (apart : AreOne act) where
     was = λ v q there. (let r = h.was v q there in let p = g.was v r.0 r.1 in (p.0, p.1, last p.0 r.0 q p.2 r.2));
     works = λ v k found. (let r = g.works v k found in h.works v r.0 r.1);
     elsewhere = λ v other. h.elsewhere v (λ i. other (inr i)) ∙ g.elsewhere v (λ i. ⊎_elim (λ is. other (inl is)) (λ none. none) i);
+    ends = λ q its. both_ends q (g.ends q its) (h.ends q its);
   }
     where
+      both_ends : (q : Act) → IsGoneOr (w ∷ []) S q (T.action q) → IsGoneOr ws T q (V.action q) → IsGoneOr (w ∷ ws) S q (V.action q)
+      both_ends q (inl is) (inl then) = inl (then ∙ is)
+      both_ends q (inr (is, (v, inl i, at))) (inl then) = inr (then ∙ is, (v, inl i, at))
+      both_ends q (inr (is, (v, inr none, at))) (inl then) = absurd none
+      both_ends q (inl is) (inr (then, (v, i, at))) = inr (then ∙ ap aborted is, (v, inr i, at))
+      both_ends q (inr (is, more)) (inr (then, (v, i, at))) = inr (then ∙ ap aborted is, (v, inr i, at))
+
       last : (p r q : Branch) → (r ≡ p) ⊎ (r ≡ gone_of p) → (q ≡ r) ⊎ (q ≡ gone_of r) → (q ≡ p) ⊎ (q ≡ gone_of p)
       last p r q (inl is) (inl same) = inl (same ∙ is)
       last p r q (inr is) (inl same) = inr (same ∙ is)
@@ -160,7 +181,7 @@ module _ (act : Acts) (code : Codes) (x : ℕ) (apart : AreOne act) where
       last p r q (inr is) (inr same) = inr (same ∙ ap gone_of is)
 
   all_gone : (ws : List Uid) (unit : ℕ) (c : Coord) (S : State) → ((w : Uid) → list.In w ws → IsAbortable act c w × (root (act w) ≡ unit)) → SeesCoord act code x c S → Goes S (AreGone unit ws c (let d = all_aborted ws c in d.part) S)
-  all_gone [] unit c S may sees = record { state = S; run = stay; holds = record { sees = sees; only = acted_none unit S; now = refl; units = λ n. refl; was = λ w q there. (q, there, inl refl); works = λ w d found. (d, found); elsewhere = λ w other. refl } }
+  all_gone [] unit c S may sees = record { state = S; run = stay; holds = record { sees = sees; only = acted_none unit S; now = refl; units = λ n. refl; was = λ w q there. (q, there, inl refl); works = λ w d found. (d, found); elsewhere = λ w other. refl; ends = λ q its. inl refl } }
   all_gone (w ∷ ws) unit c S may sees =
       let a = may w (inl refl) in
       goes_then (one_gone c S sees w a.0) (λ T g. goes_to (all_gone ws unit (ended w ending.Abort c) T (λ v i. (still_may c S sees w v a.0 (may v (inr i)).0, (may v (inr i)).1)) g.sees)
@@ -291,7 +312,23 @@ module _ (act : Acts) (code : Codes) (paths : Paths) (x : ℕ) (c : Coord) (u : 
   kind_is w q (r, there, inr is) = ap (λ (v : Branch). v.kind) is
 
   abbrev Result : State → Type 0
-  Result T = SeesCoord act code x E T × OnlyActed unit S T × (T.now ≡ S.now) × AreAborted act paths c.tree u T × AreUnitsOver act E.tree T
+  Result T = SeesCoord act code x E T × OnlyActed unit S T × (T.now ≡ S.now) × AreAborted act paths c.tree u T × AreUnitsOver act E.tree T × AbortsOnly act paths c.tree u S T
+
+  -- those of a list are open at the action or below it
+  aborts_of : (ws : List Uid) → ((w : Uid) → list.In w ws → IsOpenAt act paths c.tree u (act w)) → (T V : State) → ((a : Act) → is_action a ≡ true → IsGoneOr act code x steady.alike.one ws S a (T.action a)) → KeepsActions T V → AbortsOnly act paths c.tree u S V
+  aborts_of ws opens T V ends keeps a its = ⊎_elim
+      (λ is. inl (keeps a its ∙ is))
+      (λ g. inr (keeps a its ∙ g.0, subst (IsOpenAt act paths c.tree u) (sym g.1.2) (opens g.1.0 g.1.1)))
+      (ends a its)
+
+  open_below_it : (w : Uid) → list.In w below → IsOpenAt act paths c.tree u (act w)
+  open_below_it w i = let q = is_below_it w i in record { uid = w; branch = q.0; there = q.1; unended = q.2; below = q.4; is = refl }
+
+  open_there : (w : Uid) → list.In w (below ++ u ∷ []) → IsOpenAt act paths c.tree u (act w)
+  open_there w i = ⊎_elim (λ j. open_below_it w j) (λ (is : u ≡ w). subst (λ (v : Uid). IsOpenAt act paths c.tree u (act v)) is (record { uid = u; branch = b; there = found; unended = unended; below = on_itself; is = refl })) (in_more w below u i)
+    where
+      on_itself : is_on (paths u) u ≡ true
+      on_itself = ap (λ (vs : List Uid). is_on vs u) (sym (steady.good.tree.lists.paths_are u b found)) ∙ ap (is_on (uids_of b.path)) (sym (steady.good.tree.lists.places u b found)) ∙ on_own b.path
 
   module _ (was : (w : Uid) (q : Branch) → branch_of w E.tree ≡ Some q → Was w q) (elsewhere : (w : Uid) → w ≢ u → (list.In w below → ⊥) → branch_of w E.tree ≡ branch_of w c.tree) where
     steady_E : IsSteady act paths E
@@ -304,8 +341,8 @@ module _ (act : Acts) (code : Codes) (paths : Paths) (x : ℕ) (c : Coord) (u : 
       placed = λ w q there. (let r = was w q there in subst (IsPlaced (act w)) (sym (kind_is w q r)) (steady.placed w r.0 r.1));
     }
 
-    aborted : (T : State) → SeesCoord act code x E T → AreAborted act paths c.tree u T
-    aborted T sees_E w r there un above its = by q.0 q.1 (was w q.0 q.1) (over_E w q.0 q.1 above)
+    all_aborted_now : (T : State) → SeesCoord act code x E T → AreAborted act paths c.tree u T
+    all_aborted_now T sees_E w r there un above its = by q.0 q.1 (was w q.0 q.1) (over_E w q.0 q.1 above)
       where
         q : (q : Branch) × (branch_of w E.tree ≡ Some q)
         q = still_there w r there
@@ -344,19 +381,19 @@ module _ (act : Acts) (code : Codes) (paths : Paths) (x : ℕ) (c : Coord) (u : 
         (in_more w below u i)
 
     ends_action : Goes S Result
-    ends_action = goes_then (all_gone act code x steady.alike.one us unit c S may_all sees) (λ T g. ⊎_elim (unit_too T g) (λ other. record { state = T; run = stay; holds = all T g.sees g.only g.now g.was g.elsewhere (λ own. absurd (other own)) }) (uid_cases (root_of b.path) u))
+    ends_action = goes_then (all_gone act code x steady.alike.one us unit c S may_all sees) (λ T g. ⊎_elim (unit_too T g) (λ other. record { state = T; run = stay; holds = all T g.sees g.only g.now g.was g.elsewhere (λ own. absurd (other own)) (aborts_of us open_there T T g.ends (λ a its_one. refl)) }) (uid_cases (root_of b.path) u))
       where
         not_in : (w : Uid) → w ≢ u → (list.In w below → ⊥) → list.In w us → ⊥
         not_in w other none i = ⊎_elim none (λ is. other (sym is)) (in_more w below u i)
 
-        all : (T : State) → SeesCoord act code x E T → OnlyActed unit S T → T.now ≡ S.now → ((w : Uid) (q : Branch) → branch_of w E.tree ≡ Some q → Was w q) → ((w : Uid) → (list.In w us → ⊥) → branch_of w E.tree ≡ branch_of w c.tree) → (root_of b.path ≡ u → (T.action (Root unit)).stage ≡ 3) → Result T
-        all T sees_E only now was elsewhere mine = (sees_E, only, now, aborted was (λ w other none. elsewhere w (not_in w other none)) T sees_E, units_then was (λ w other none. elsewhere w (not_in w other none)) T only mine)
+        all : (T : State) → SeesCoord act code x E T → OnlyActed unit S T → T.now ≡ S.now → ((w : Uid) (q : Branch) → branch_of w E.tree ≡ Some q → Was w q) → ((w : Uid) → (list.In w us → ⊥) → branch_of w E.tree ≡ branch_of w c.tree) → (root_of b.path ≡ u → (T.action (Root unit)).stage ≡ 3) → AbortsOnly act paths c.tree u S T → Result T
+        all T sees_E only now was elsewhere mine ends = (sees_E, only, now, all_aborted_now was (λ w other none. elsewhere w (not_in w other none)) T sees_E, units_then was (λ w other none. elsewhere w (not_in w other none)) T only mine, ends)
 
         unit_too : (T : State) → AreGone act code x steady.alike.one unit us c E S T → root_of b.path ≡ u → Goes T Result
         unit_too T g own =
             let k = still_there u b found in
             goes_to (plain_goes act paths x E u k.0 unit T (steady_E g.was (λ w other none. g.elsewhere w (not_in w other none))) g.sees.actions k.1 refl (λ w e there home. over_E w e there (in_unit own w e (good_E.tree.lists.paths_are w e there) home)) (ap (λ (a : Action). a.stage) (g.units unit) ∙ unit_zero))
-            (λ V h. all V (units_keep_roots act code x unit E T V g.sees h.1 h.0) (acted_both unit S T V g.only h.1) (h.2 ∙ g.now) g.was g.elsewhere (λ is. h.3))
+            (λ V h. all V (units_keep_roots act code x unit E T V g.sees h.1 h.0) (acted_both unit S T V g.only h.1) (h.2 ∙ g.now) g.was g.elsewhere (λ is. h.3) (aborts_of us open_there T V g.ends h.4))
 
   -- ---- or a unit
 
@@ -372,7 +409,7 @@ module _ (act : Acts) (code : Codes) (paths : Paths) (x : ℕ) (c : Coord) (u : 
         (λ w q there. (let r = g.was w q there in ap uids_of (path_is w q r) ∙ steady.good.tree.lists.paths_are w r.0 r.1))
         (λ w q there. (let r = g.was w q there in let k = work_there c steady.works w r.0 r.1 in g.works w k.0 k.1))
         (λ w q there home other. over_E w q (ap (λ (v : Coord). branch_of w v.tree) last ∙ one.branches w other ∙ there) (in_unit own w q (let r = g.was w q there in ap uids_of (path_is w q r) ∙ steady.good.tree.lists.paths_are w r.0 r.1) home))
-        (ap (λ (a : Action). a.stage) (g.units unit) ∙ unit_zero) ending.Abort) (λ V h. all V h.0 h.1 h.2.0 h.2.1)
+        (ap (λ (a : Action). a.stage) (g.units unit) ∙ unit_zero) ending.Abort) (λ V h. all V h.0 h.1 h.2.0 h.2.1 h.2.2)
       where
         d1 : (k : Doing) × (doing_of u c1 ≡ Some k)
         d1 = g.works u d0.0 d0.1
@@ -398,11 +435,11 @@ module _ (act : Acts) (code : Codes) (paths : Paths) (x : ℕ) (c : Coord) (u : 
         elsewhere : (w : Uid) → w ≢ u → (list.In w below → ⊥) → branch_of w E.tree ≡ branch_of w c.tree
         elsewhere w other none = ap (λ (v : Coord). branch_of w v.tree) last ∙ one.branches w other ∙ g.elsewhere w none
 
-        all : (V : State) → SeesActions act x (ended u ending.Abort c1) V.action → OnlyActed unit T V → V.now ≡ T.now → (V.action (act u)).stage ≡ 3 → Result V
-        all V acts only now stage =
+        all : (V : State) → SeesActions act x (ended u ending.Abort c1) V.action → OnlyActed unit T V → V.now ≡ T.now → (V.action (act u)).stage ≡ 3 → KeepsActions T V → Result V
+        all V acts only now stage keeps =
             let sees_E : SeesCoord act code x E V = subst (λ (e : Coord). SeesCoord act code x e V) (sym last) (one_stays act code x c1 (ended u ending.Abort c1) u b (record b { ended = Some ending.Abort }) (let k = d1.0 in record k { now = Idle }) T V found_1 (λ h. ap (ended_so ending.Abort) one.branch) g.sees only.rest acts one refl (ended_roots u ending.Abort c1) (λ s is. absurd (cc is))) in
             let both = acted_both unit S T V g.only only in
-            (sees_E, both, now ∙ g.now, aborted was elsewhere V sees_E, units_then was elsewhere V both (λ is. ap (λ (a : Act). (V.action a).stage) (sym (root_is (act u) its)) ∙ stage))
+            (sees_E, both, now ∙ g.now, all_aborted_now was elsewhere V sees_E, units_then was elsewhere V both (λ is. ap (λ (a : Act). (V.action a).stage) (sym (root_is (act u) its)) ∙ stage), aborts_of below open_below_it T V g.ends keeps)
 
     ends_unit : Goes S Result
     ends_unit = goes_then (all_gone act code x steady.alike.one below unit c S may_go sees) unit_after

@@ -19,6 +19,7 @@ use Rattle.arj_part_law.specs.Copies.{Paths}
 use Rattle.arj_lock_view_law.specs.Acts.{Acts, AreOne}
 use Rattle.arj_lock_view_law.specs.Acting.{AbortionsAreSeen, CallersAreHere, DecisionsAreSeen, IsBacked, IsEndSeen, IsFirst, KeepsUnits, NestedCommitsAreSeen, OnlyActed, PlainUnitsEnd, TopsBegin, UnitsEnd}
 use Rattle.arj_lock_view_law.specs.Actions.{AreAlike, IsHere, IsIdle, IsLone, IsPlaced, IsSteady, SeesAction, SeesActions, invokes, stage_of}
+use Rattle.arj_lock_view_law.specs.Ending.{ChangesOne, KeepsActions, aborted, called_at, committed_at}
 use Rattle.arj_lock_view_law.specs.Going.{Goes}
 use Rattle.arj_lock_view_law.proofs.OneSteps as single
 use Rattle.arj_lock_view_law.proofs.TreeSteps.{OnlyOne, action_kind, end_changed, merged_below, none_waits, one_changed, open_above, opens, root_there, seen_at, stage_over, top_kind, work_changed}
@@ -27,6 +28,11 @@ use Rattle.arj_lock_view_law.proofs.TreeSteps.{OnlyOne, action_kind, end_changed
 pub unit_other : (n : ℕ) (a : Act) → is_action a ≡ true → same (Root n) a ≡ false
 unit_other n (Root m) its = absurd (cc its)
 unit_other n (Sub a m) its = refl
+
+-- and a unit isn't an action
+pub no_unit : (n : ℕ) (a : Act) → is_action a ≡ true → same a (Root n) ≡ false
+no_unit n (Root m) its = absurd (cc its)
+no_unit n (Sub a m) its = refl
 
 -- of two units one isn't the other
 other_unit : (m n : ℕ) → m ≢ n → same (Root m) (Root n) ≡ false
@@ -50,6 +56,10 @@ ended_twice t u w a b is first second gone =
 root_back : (a b : Branch) → a.path ≡ b.path → root_of b.path ≡ root_of a.path
 root_back a b same_path = ap (λ p. root_of p) (sym same_path)
 
+-- one action of the machine changes, to this
+pub changes_one : (S : State) (a : Act) (v : Action) (p : ℕ) → ChangesOne a v S (record S { action = at_act S.action a v; now = p })
+changes_one S a v p = record { one = λ its. act_here S.action a v; others = λ q its other. act_other S.action a v q other }
+
 -- one action of the machine changes
 pub only_acted : (S : State) (a : Act) (v : Action) (p : ℕ) → (S.action a).stage ≤ 2 → OnlyActed (root a) S (record S { action = at_act S.action a v; now = p })
 only_acted S a v p low = record {
@@ -72,7 +82,7 @@ low_stage x b d a seen unended = let s = seen.stage in let k = open_low b.ended 
 
 -- it needs nothing of the tree but that two actions have two paths
 module _ (act : Acts) (x : ℕ) (c : Coord) (S : State) (apart : AreOne act) (sees : SeesActions act x c S.action) (u : Uid) (b : Branch) (d : Doing) (found : branch_of u c.tree ≡ Some b) (works : doing_of u c ≡ Some d) (its : is_action (act u) ≡ true) where
-  pub abort_goes : is_some b.ended ≡ false → IsEndSeen act x c u ending.Abort S (λ T. (T.now ≡ S.now) × ((T.action (act u)).stage ≡ 4) × KeepsUnits S T)
+  pub abort_goes : is_some b.ended ≡ false → IsEndSeen act x c u ending.Abort S (λ T. (T.now ≡ S.now) × ((T.action (act u)).stage ≡ 4) × KeepsUnits S T × ChangesOne (act u) (aborted (S.action (act u))) S T)
   abort_goes unended = record {
     state = next (Abort (act u)) S;
     run = step (Abort (act u)) (its, low) stay;
@@ -83,7 +93,7 @@ module _ (act : Acts) (x : ℕ) (c : Coord) (S : State) (apart : AreOne act) (se
           (λ w r s there root_is_there un. act_other S.action (act u) gone (Root (root (act w))) (unit_other (root (act w)) (act u) its))
           (λ n. ap (λ (v : Action). v.waits) (act_other S.action (act u) gone (Root n) (unit_other n (act u) its))),
       only_acted S (act u) gone S.now (omega (arith, low)),
-      (refl, ap (λ (v : Action). v.stage) (act_here S.action (act u) gone), λ n. act_other S.action (act u) gone (Root n) (unit_other n (act u) its)),
+      (refl, ap (λ (v : Action). v.stage) (act_here S.action (act u) gone), (λ n. act_other S.action (act u) gone (Root n) (unit_other n (act u) its)), changes_one S (act u) gone S.now),
     );
   }
     where
@@ -110,7 +120,7 @@ module _ (act : Acts) (paths : Paths) (x : ℕ) (c : Coord) (S : State) (alike :
   itself : act u ≡ Root unit
   itself = root_is (act u) its
 
-  pub unit_ends : (S.action (Root unit)).stage ≡ 0 → (e : End) → IsEndSeen act x c u e S (λ T. (T.now ≡ S.now) × ((T.action (act u)).stage ≡ 3))
+  pub unit_ends : (S.action (Root unit)).stage ≡ 0 → (e : End) → IsEndSeen act x c u e S (λ T. (T.now ≡ S.now) × ((T.action (act u)).stage ≡ 3) × KeepsActions S T)
   unit_ends zero_now e = record {
     state = next (EndUnit unit) S;
     run = step (EndUnit unit) (zero_now, tops) stay;
@@ -121,7 +131,7 @@ module _ (act : Acts) (paths : Paths) (x : ℕ) (c : Coord) (S : State) (alike :
           (λ w q r there root_is_there un. act_other S.action (Root unit) ended_unit (Root (root (act w))) (other_unit (root (act w)) unit (apart w q r there root_is_there un)))
           (λ k. quiet k (same (Root k) (Root unit)) refl),
       only_acted S (Root unit) ended_unit S.now (omega (arith, zero_now)),
-      (refl, ap (λ (v : Action). v.stage) (ap (at_act S.action (Root unit) ended_unit) itself ∙ act_here S.action (Root unit) ended_unit)),
+      (refl, ap (λ (v : Action). v.stage) (ap (at_act S.action (Root unit) ended_unit) itself ∙ act_here S.action (Root unit) ended_unit), λ a h. act_other S.action (Root unit) ended_unit a (no_unit unit a h)),
     );
   }
     where
@@ -195,7 +205,7 @@ module _ (act : Acts) (paths : Paths) (x : ℕ) (c : Coord) (S : State) (steady 
 
     -- ---- the commit of a nested action
 
-    nested_goes : (p : ℕ) → is_some b.ended ≡ false → d.now ≡ Idle → IsLone paths u c → is_top (act u) ≡ false → b.doomed ≡ false → has_open_child u c.tree ≡ false → CallersAreHere act c.tree S → S.now ≤ p → IsEndSeen act x c u ending.Commit S (λ T. (T.now ≡ p + 1) × ((T.action (act u)).stage ≡ 3) × KeepsUnits S T)
+    nested_goes : (p : ℕ) → is_some b.ended ≡ false → d.now ≡ Idle → IsLone paths u c → is_top (act u) ≡ false → b.doomed ≡ false → has_open_child u c.tree ≡ false → CallersAreHere act c.tree S → S.now ≤ p → IsEndSeen act x c u ending.Commit S (λ T. (T.now ≡ p + 1) × ((T.action (act u)).stage ≡ 3) × KeepsUnits S T × ChangesOne (act u) (committed_at p (S.action (act u))) S T)
     nested_goes p unended idle lone nested undoomed childless callers now = record {
       state = next (CommitNested (act u) p) S;
       run = step (CommitNested (act u) p) (its, nested, opened unended idle lone, its_own.doomed undoomed, whole unended childless idle callers, now) stay;
@@ -203,7 +213,7 @@ module _ (act : Acts) (paths : Paths) (x : ℕ) (c : Coord) (S : State) (steady 
         set_one (ended u ending.Commit c) (record b { ended = Some ending.Commit }) (record d { now = Idle }) done (end_changed act paths x c f steady sees u b d found works ending.Commit) refl (λ un. absurd (cc un))
             (record { stage = refl; request = its_own.request; waits = λ h. waits_not unended (ap (invokes x) idle); last = λ h. absurd (cc h); doomed = its_own.doomed }),
         only_acted S (act u) done (p + 1) (let z = idle_stage unended idle in omega (arith, z)),
-        (refl, ap (λ (v : Action). v.stage) (act_here f (act u) done), λ n. act_other f (act u) done (Root n) (unit_other n (act u) its)),
+        (refl, ap (λ (v : Action). v.stage) (act_here f (act u) done), (λ n. act_other f (act u) done (Root n) (unit_other n (act u) its)), changes_one S (act u) done (p + 1)),
       );
     }
       where
@@ -238,7 +248,7 @@ module _ (act : Acts) (paths : Paths) (x : ℕ) (c : Coord) (S : State) (steady 
             ((λ one. first w s.0 s.1 (one_commits e.ended (let k = s.0 in k.now) (sym st ∙ one)) (ap root (sym is) ∙ home)), (λ two. no_two e.ended (let k = s.0 in k.now) (sym st ∙ two)))
 
     begin_goes : (p : ℕ) (m : Machine) → is_top (act u) ≡ true → is_some b.ended ≡ false → d.now ≡ Idle → IsLone paths u c → b.doomed ≡ false → has_open_child u c.tree ≡ false → CallersAreHere act c.tree S → IsFirst act c u → d.req ≤ (let q = plan_of m in q.req) → S.now ≤ p
-        → Goes S (λ T. SeesActions act x (commits_in u m c) T.action × OnlyActed (root (act u)) S T × (T.now ≡ p + 1) × ((T.action (act u)).stage ≡ 1) × ((T.action (act u)).place ≡ p) × ((a : Act) → same a (act u) ≡ false → T.action a ≡ S.action a))
+        → Goes S (λ T. SeesActions act x (commits_in u m c) T.action × OnlyActed (root (act u)) S T × (T.now ≡ p + 1) × ((T.action (act u)).stage ≡ 1) × (T.action (act u) ≡ called_at p (S.action (act u))) × ((a : Act) → same a (act u) ≡ false → T.action a ≡ S.action a))
     begin_goes p m top unended idle lone undoomed childless callers first more now = record {
       state = next (CommitTop (act u) p) S;
       run = step (CommitTop (act u) p) (top, opened unended idle lone, its_own.doomed undoomed, whole unended childless idle callers, first_here first unended idle, now) stay;
@@ -248,7 +258,7 @@ module _ (act : Acts) (paths : Paths) (x : ℕ) (c : Coord) (S : State) (steady 
         only_acted S (act u) called (p + 1) (let z = idle_stage unended idle in omega (arith, z)),
         refl,
         ap (λ (v : Action). v.stage) (act_here f (act u) called),
-        ap (λ (v : Action). v.place) (act_here f (act u) called),
+        act_here f (act u) called,
         λ a other. act_other f (act u) called a other,
       );
     }
@@ -258,7 +268,7 @@ module _ (act : Acts) (paths : Paths) (x : ℕ) (c : Coord) (S : State) (steady 
 
     -- ---- its decision
 
-    decide_goes : (p : ℕ) (m : Machine) → is_top (act u) ≡ true → is_some b.ended ≡ false → d.now ≡ Committing m → IsBacked (act u) S → S.now ≤ p → IsEndSeen act x c u ending.Commit S (λ T. (T.now ≡ p + 1) × ((T.action (act u)).stage ≡ 3) × KeepsUnits S T)
+    decide_goes : (p : ℕ) (m : Machine) → is_top (act u) ≡ true → is_some b.ended ≡ false → d.now ≡ Committing m → IsBacked (act u) S → S.now ≤ p → IsEndSeen act x c u ending.Commit S (λ T. (T.now ≡ p + 1) × ((T.action (act u)).stage ≡ 3) × KeepsUnits S T × ChangesOne (act u) (committed_at p (S.action (act u))) S T)
     decide_goes p m top unended at_commit backed now = record {
       state = T;
       run = step (Decide (act u)) (top, one_now, backed.calls, backed.includes) (step (Report (act u) p) (top, ap (λ (v : Action). v.stage) (act_here f (act u) mid), now) stay);
@@ -273,7 +283,7 @@ module _ (act : Acts) (paths : Paths) (x : ℕ) (c : Coord) (S : State) (steady 
           others = λ q far. away q (⊎_elim (λ one. absurd (far (ap root (same_is q (act u) one)))) (λ none. none) (by_cases (same q (act u))));
           ended = λ q gone. away q (⊎_elim (λ one. absurd (let e : (f q).stage ≡ (f (act u)).stage = ap (λ (r : Act). (f r).stage) (same_is q (act u) one) in let k = one_now in omega (arith, gone, e, k))) (λ none. none) (by_cases (same q (act u))));
         },
-        (refl, ap (λ (v : Action). v.stage) its_after, λ n. away (Root n) (unit_other n (act u) its)),
+        (refl, ap (λ (v : Action). v.stage) its_after, (λ n. away (Root n) (unit_other n (act u) its)), record { one = λ h. its_after; others = λ a h other. away a other }),
       );
     }
       where
@@ -311,7 +321,7 @@ module _ (act : Acts) (paths : Paths) (x : ℕ) (c : Coord) (S : State) (steady 
         let up : on (Root n) (act (root_of b.path)) ≡ true = ap (λ (a : Act). on a (act (root_of b.path))) (sym unit_is) ∙ steady.alike.above u (root_of b.path) ∙ r.2 in
         steady.alike.one (root_of b.path) u (sym (same_is (Root n) (act (root_of b.path)) up) ∙ sym unit_is)
 
-    unit_goes : (e : End) → is_some b.ended ≡ false → has_open_child u c.tree ≡ false → IsEndSeen act x c u e S (λ T. (T.now ≡ S.now) × ((T.action (act u)).stage ≡ 3))
+    unit_goes : (e : End) → is_some b.ended ≡ false → has_open_child u c.tree ≡ false → IsEndSeen act x c u e S (λ T. (T.now ≡ S.now) × ((T.action (act u)).stage ≡ 3) × KeepsActions S T)
     unit_goes e unended childless = unit_ends act paths x c S steady.alike sees u b d found works its own_root steady.good.tree.lists.paths_are (work_there c steady.works) over (unit_open unended) e
       where
         over : (w : Uid) (q : Branch) → branch_of w c.tree ≡ Some q → root (act w) ≡ root (act u) → w ≢ u → is_some q.ended ≡ true
@@ -348,27 +358,24 @@ module _ (act : Acts) (paths : Paths) (x : ℕ) (c : Coord) (u : Uid) (b : Branc
   abbrev over_unit : Action
   over_unit = record (S.action (Root unit)) { stage = 3 }
 
-  pub plain_goes : (S.action (Root unit)).stage ≡ 0 → Goes S (λ T. SeesActions act x c T.action × OnlyActed unit S T × (T.now ≡ S.now) × ((T.action (Root unit)).stage ≡ 3))
+  pub plain_goes : (S.action (Root unit)).stage ≡ 0 → Goes S (λ T. SeesActions act x c T.action × OnlyActed unit S T × (T.now ≡ S.now) × ((T.action (Root unit)).stage ≡ 3) × KeepsActions S T)
   plain_goes zero_now = record {
     state = next (EndUnit unit) S;
     run = step (EndUnit unit) (zero_now, tops) stay;
     holds = (
       record {
-        each = λ w e d there works h. subst (SeesAction x e d) (sym (act_other S.action (Root unit) over_unit (act w) (not_unit (act w) h))) (sees.each w e d there works h);
+        each = λ w e d there works h. subst (SeesAction x e d) (sym (act_other S.action (Root unit) over_unit (act w) (no_unit unit (act w) h))) (sees.each w e d there works h);
         opened = λ w e r there root_is_there un. ap (λ (v : Action). v.stage) (act_other S.action (Root unit) over_unit (Root (root (act w))) (other_unit (root (act w)) unit (λ same_unit. cc (sym (root_ended w e r there root_is_there same_unit) ∙ un)))) ∙ sees.opened w e r there root_is_there un;
         quiet = λ w e there. quiet (root (act w)) (same (Root (root (act w))) (Root unit)) refl ∙ sees.quiet w e there;
-        others = λ w e a there own h. ⊎_elim (λ here. inl here) (λ idle. inr (subst IsIdle (sym (act_other S.action (Root unit) over_unit a (not_unit a h))) idle)) (sees.others w e a there own h);
+        others = λ w e a there own h. ⊎_elim (λ here. inl here) (λ idle. inr (subst IsIdle (sym (act_other S.action (Root unit) over_unit a (no_unit unit a h))) idle)) (sees.others w e a there own h);
       },
       only_acted S (Root unit) over_unit S.now (omega (arith, zero_now)),
       refl,
       ap (λ (v : Action). v.stage) (act_here S.action (Root unit) over_unit),
+      λ a h. act_other S.action (Root unit) over_unit a (no_unit unit a h),
     );
   }
     where
-      not_unit : (a : Act) → is_action a ≡ true → same a (Root unit) ≡ false
-      not_unit (Root k) h = absurd (cc h)
-      not_unit (Sub a k) h = refl
-
       quiet : (k : ℕ) (t : Bool) → same (Root k) (Root unit) ≡ t → (cond t over_unit (S.action (Root k))).waits ≡ (S.action (Root k)).waits
       quiet k true is = ap (λ (a : Act). (S.action a).waits) (sym (same_is (Root k) (Root unit) is))
       quiet k false is = refl

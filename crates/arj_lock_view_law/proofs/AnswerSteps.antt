@@ -30,10 +30,12 @@ use Rattle.arj_part_law.specs.Copies.{Paths}
 use Rattle.arj_lock_view_law.specs.Acts.{Acts}
 use Rattle.arj_lock_view_law.specs.Calling.{IsAtWork, IsReached, OnlyCalled, WritesLine}
 use Rattle.arj_lock_view_law.specs.Copies.{Codes}
+use Rattle.arj_lock_view_law.specs.Ending.{KeepsEnds}
 use Rattle.arj_lock_view_law.specs.Going.{Goes, IsServedBy, ShowsBound}
 use Rattle.arj_lock_view_law.specs.Named.{IsNamedSo, binding_at}
 use Rattle.arj_lock_view_law.specs.Roots.{HasHeard, IsTied, SeesCoord, SeesKeeping, SeesKept, SeesStep}
 use Rattle.arj_lock_view_law.proofs.CallingSteps.{IsOnly, IsRebound, Looks, free_only, free_seen, holds, invoke_only, invoke_seen, kept_rebound, kept_same, named_here, kept_seen, kept_state, keeps_run, named_rebound, named_state, names_run, none_free, over_seen, root_seen, same_rebound, sends, silent_seen, stays_rebound, step_seen, tied_kept, top_unit, unit_same}
+use Rattle.arj_lock_view_law.proofs.EndingSteps.{ends_both, keeps_ends, keeps_one, same_end}
 
 -- where a grant of the list comes from: it stood there, it is the new one, or one that took the new one up
 pub grants_from : (P : Grant → Type 0) (g : Grant) (gs : List Grant) → ((h : Grant) → list.In h gs → P h) → P g → ((h : Grant) → list.In h gs → h.top ≡ g.top → h.x ≡ g.x → P (record h { least = min h.least g.least; named = named_last g.named h.named })) → (k : Grant) → list.In k (granted_with g gs) → P k
@@ -144,14 +146,14 @@ module _ (act : Acts) (code : Codes) (paths : Paths) (p : ℕ) (c : Coord) (b : 
 
   -- to one that is
   go_invoke : (a : At) (r : Reply) (w : Known) (i : ℕ) (k : Option Known) (T : State) → machine_run.Run S T → Rebound k T → (k ≡ None → kp.kept ≡ None) → is_invoke s.at ≡ false → HasAll (grants_after r) S → IsTied k w → IsServedBy T w.binding w.server → IsNamedSo T w.binding i → KnowsRecorded T (binding_number w.binding) → MayUse T m (binding_number w.binding)
-      → ((V : State) → V.calls ≡ S.calls → V.now ≡ S.now → WritesLine act code p s o S V a r) → Result a r (moves k (AtInvoke w i))
+      → ((V : State) → V.calls ≡ S.calls → V.now ≡ S.now → KeepsEnds S V → WritesLine act code p s o S V a r) → Result a r (moves k (AtInvoke w i))
   go_invoke a r w i k T run rebound none quiet grants tied server named knows may line = record {
     state = next (event.SendInvoke (act u) (s.req + 1) (writes o)) T;
     run = go_on run (step (event.SendInvoke (act u) (s.req + 1) (writes o)) (sends act code paths c b d s o S reached work calling goal path last sees (root_moved s r mv) (AtInvoke w i) k (spoilt_by mv) (grants_after r) T rebound (looks_moved r mv) none quiet w i refl tied server named knows may) stay);
     holds = (
       invoke_seen act code paths c b d s o S reached work calling goal path last sees (root_moved s r mv) (AtInvoke w i) k (spoilt_by mv) (grants_after r) T rebound (looks_moved r mv) none quiet w i refl tied server named knows may (later_grants (grants_after r) T rebound.only.sent grants),
       invoke_only act code paths c b d s o S reached work calling goal path last sees (root_moved s r mv) (AtInvoke w i) k (spoilt_by mv) (grants_after r) T rebound (looks_moved r mv) none quiet w i refl tied server named knows may,
-      line (next (event.SendInvoke (act u) (s.req + 1) (writes o)) T) rebound.calls rebound.now,
+      line (next (event.SendInvoke (act u) (s.req + 1) (writes o)) T) rebound.calls rebound.now (ends_both S T (next (event.SendInvoke (act u) (s.req + 1) (writes o)) T) (keeps_ends S T rebound.actions) (λ q. keeps_one T (act u) (let z = T.action (act u) in record z { request = s.req + 1; waits = true; since = T.now }) (record { stage = refl; place = refl; done = refl }) q)),
     );
   }
     where
@@ -176,11 +178,11 @@ module _ (act : Acts) (code : Codes) (paths : Paths) (p : ℕ) (c : Coord) (b : 
   -- ---- naming named a binding
 
   -- what the root keeps after it, where the call goes on by `a'`
-  module _ (r : Reply) (a : At) (quiet : is_invoke s.at ≡ false) (k : Known) (a' : At) (grants : HasAll (grants_after r) S) (line : (V : State) → V.calls ≡ S.calls → V.now ≡ S.now → WritesLine act code p s o S V a r)
+  module _ (r : Reply) (a : At) (quiet : is_invoke s.at ≡ false) (k : Known) (a' : At) (grants : HasAll (grants_after r) S) (line : (V : State) → V.calls ≡ S.calls → V.now ≡ S.now → KeepsEnds S V → WritesLine act code p s o S V a r)
       (heard : HasHeard m (binding_number k.binding) S) (server : IsServedBy S k.binding k.server) (named : (i : ℕ) → k.inc ≡ Some i → IsNamedSo S k.binding i) (above : kp.kept ≡ None → S.kept unit < binding_number k.binding) (unnamed : S.kept unit < binding_number k.binding → k.inc ≡ None → ((let n = binding_at S k.binding in n.named) ≡ false) × (root (let n = binding_at S k.binding in n.maker) ≡ unit)) (recorded : k.recorded ≡ true → KnowsRecorded S (binding_number k.binding) × ((i : ℕ) × (k.inc ≡ Some i)))
       (go : (q : Known) (T : State) → machine_run.Run S T → Rebound (Some q) T → binding_number q.binding ≡ binding_number k.binding → ((n : ℕ) → T.binding n ≡ S.binding n) → T.net ≡ S.net → Result a r (moves (Some q) a')) where
     ends_changed : (q : Known) (n : ℕ) (w : What) → Rebound (Some q) S → Result a r (finds (Some q) (Changed n w))
-    ends_changed q n w rebound = go_over a r (Changed n w) (λ j. refl) (λ j. refl) (Some q) S stay rebound (λ e. absurd (cc e)) quiet grants (line S refl refl)
+    ends_changed q n w rebound = go_over a r (Changed n w) (λ j. refl) (λ j. refl) (Some q) S stay rebound (λ e. absurd (cc e)) quiet grants (line S refl refl (λ q. same_end (S.action q)))
 
     -- a new one
     new_goes : S.kept unit < binding_number k.binding → IsFree S unit → ((((v : Known) → IsTied kp.kept v → IsTied (Some k) v) × (Some k ≡ None → kp.kept ≡ None)) ⊎ IsOnly act code paths c b d s o S reached work calling goal path last sees) → Result a r (moves (Some k) a')
@@ -264,7 +266,7 @@ module _ (act : Acts) (code : Codes) (paths : Paths) (p : ℕ) (c : Coord) (b : 
   -- ---- naming answered
 
   pub live_goes : (avoid n : Binding) (server i g : ℕ) (stores : List ℕ) → s.at ≡ AtBind avoid → ShowsBound act (top_of s.path) avoid S (Some (bound.Live n server i g stores)) → Result (AtBind avoid) (Reply.Bound (bound.Live n server i g stores)) (bound_answer free kp.kept (bound.Live n server i g stores))
-  live_goes avoid n server i g stores is shows = bound_goes r (AtBind avoid) quiet k (AtInvoke k i) grants (λ V calls same_now. (calls, same_now)) (inl shows.0) shows.1
+  live_goes avoid n server i g stores is shows = bound_goes r (AtBind avoid) quiet k (AtInvoke k i) grants (λ V calls same_now keeps. (calls, same_now, keeps)) (inl shows.0) shows.1
       (λ j e. (let one : i ≡ j = cc e in subst (IsNamedSo S n) one shows.2)) (avoids avoid (binding_number n) is shows.3) (λ less e. absurd (cc e)) (λ e. (inr (m, shows.0), (i, refl))) go
     where
       r : Reply
@@ -282,7 +284,7 @@ module _ (act : Acts) (code : Codes) (paths : Paths) (p : ℕ) (c : Coord) (b : 
       go : (q : Known) (T : State) → machine_run.Run S T → Rebound (Some q) T → binding_number q.binding ≡ binding_number n → ((j : ℕ) → T.binding j ≡ S.binding j) → T.net ≡ S.net → Result (AtBind avoid) r (moves (Some q) (AtInvoke k i))
       go q T run rebound same_number bindings net = go_invoke (AtBind avoid) r k i (Some q) T run rebound (λ e. absurd (cc e)) quiet grants (record { old = q; is = refl; same = same_number })
           (ap (λ (v : machine.Binding). v.server) (bindings (binding_number n)) ∙ shows.1) (ap (λ (v : machine.Binding). v.named) (bindings (binding_number n)) ∙ shows.2.0, ap (λ (v : machine.Binding). v.incarnation) (bindings (binding_number n)) ∙ shows.2.1)
-          (inr (m, live_in)) (inl live_in) (λ V calls same_now. (calls, same_now))
+          (inr (m, live_in)) (inl live_in) (λ V calls same_now keeps. (calls, same_now, keeps))
         where
           live_in : In (machine.Live m (binding_number n)) T.net
           live_in = subst (In (machine.Live m (binding_number n))) (sym net) shows.0
@@ -316,10 +318,10 @@ module _ (act : Acts) (code : Codes) (paths : Paths) (p : ℕ) (c : Coord) (b : 
               absurd (omega (arith, less, low))
 
       by : (ss : List ℕ) → Result (AtBind avoid) r (made_by free k kp.kept (load_from k ss))
-      by [] = over_here (AtBind avoid) r (Lost 1 false) (λ j. refl) (λ j. refl) quiet grants (refl, refl)
-      by (w ∷ ws) = bound_goes r (AtBind avoid) quiet k (AtLoad k w ws) grants (λ V calls same_now. (calls, same_now)) (inr shows.0) shows.1 (λ j e. absurd (cc e)) (avoids avoid (binding_number n) is shows.3) (λ less e. (unnamed less, maker_unit)) (λ e. absurd (cc e))
+      by [] = over_here (AtBind avoid) r (Lost 1 false) (λ j. refl) (λ j. refl) quiet grants (refl, refl, λ q. same_end (S.action q))
+      by (w ∷ ws) = bound_goes r (AtBind avoid) quiet k (AtLoad k w ws) grants (λ V calls same_now keeps. (calls, same_now, keeps)) (inr shows.0) shows.1 (λ j e. absurd (cc e)) (avoids avoid (binding_number n) is shows.3) (λ less e. (unnamed less, maker_unit)) (λ e. absurd (cc e))
           (λ q T run rebound same_number bindings net. go_silent (AtBind avoid) r (AtLoad k w ws) (Some q) T run rebound (λ e. absurd (cc e)) quiet refl grants
-          (record { old = q; is = refl; same = same_number }, (subst (In (machine.Made m (binding_number n))) (sym net) shows.0, ap (λ (v : machine.Binding). v.server) (bindings (binding_number n)) ∙ shows.1)) (rebound.calls, rebound.now))
+          (record { old = q; is = refl; same = same_number }, (subst (In (machine.Made m (binding_number n))) (sym net) shows.0, ap (λ (v : machine.Binding). v.server) (bindings (binding_number n)) ∙ shows.1)) (rebound.calls, rebound.now, keeps_ends S T rebound.actions))
 
   -- ---- a store answered
 
@@ -360,7 +362,7 @@ module _ (act : Acts) (code : Codes) (paths : Paths) (p : ℕ) (c : Coord) (b : 
 
     pub load_goes : Result (AtLoad k n rest) (Reply.Loaded (loaded.State st)) (moves kp.kept (AtActivate k st))
     load_goes = go_silent (AtLoad k n rest) (Reply.Loaded (loaded.State st)) (AtActivate k st) kp.kept loaded_state' load_run load_rebound (λ e. e) (quiet_at (AtLoad k n rest) is refl) refl old_grants
-        (stands.0, (inr stands.1.0, stands.1.1), inl refl) (refl, refl)
+        (stands.0, (inr stands.1.0, stands.1.1), inl refl) (refl, refl, λ q. same_end (S.action q))
 
   -- ---- the server took the copy
 
@@ -383,15 +385,15 @@ module _ (act : Acts) (code : Codes) (paths : Paths) (p : ℕ) (c : Coord) (b : 
             let T = named_state act code paths c b d s o S reached work calling goal path last sees old is_kept none i heard_old in
             let here : T.binding (binding_number k.binding) ≡ record (S.binding (binding_number old.binding)) { named = true; incarnation = i } = ap T.binding (sym same_number) ∙ named_here act code paths c b d s o S reached work calling goal path last sees old is_kept none i heard_old in
             go_silent (AtActivate k st) ra (AtNote k i) (Some (record old { inc = Some i })) T (names_run act code paths c b d s o S reached work calling goal path last sees old is_kept none i heard_old) (named_rebound act code paths c b d s o S reached work calling goal path last sees old is_kept none i heard_old) (λ e. absurd (cc e)) calm refl old_grants
-            (record { old = record old { inc = Some i }; is = refl; same = same_number }, (taken.1.0, ap (λ (v : machine.Binding). v.server) here ∙ ap (λ (j : ℕ). (S.binding j).server) same_number ∙ taken.1.1), (ap (λ (v : machine.Binding). v.named) here, ap (λ (v : machine.Binding). v.incarnation) here)) (refl, refl)
+            (record { old = record old { inc = Some i }; is = refl; same = same_number }, (taken.1.0, ap (λ (v : machine.Binding). v.server) here ∙ ap (λ (j : ℕ). (S.binding j).server) same_number ∙ taken.1.1), (ap (λ (v : machine.Binding). v.named) here, ap (λ (v : machine.Binding). v.incarnation) here)) (refl, refl, λ q. same_end (S.action q))
         noted old is_kept same_number (Some first) some = test (first == i) refl
           where
             test : (t : Bool) → (first == i) ≡ t → Result (AtActivate k st) ra (cond t (moves (Some old) (AtNote k i)) (finds (Some old) (Changed old.server (two_incs first i))))
-            test false e = go_over (AtActivate k st) ra (Changed old.server (two_incs first i)) (λ j. refl) (λ j. refl) (Some old) S stay (same_rebound act code paths c b d s o S reached work calling goal path last sees old old is_kept refl (kept_seen act code paths c b d s o S reached work calling goal path last sees old is_kept)) (λ f. absurd (cc f)) calm old_grants (refl, refl)
+            test false e = go_over (AtActivate k st) ra (Changed old.server (two_incs first i)) (λ j. refl) (λ j. refl) (Some old) S stay (same_rebound act code paths c b d s o S reached work calling goal path last sees old old is_kept refl (kept_seen act code paths c b d s o S reached work calling goal path last sees old is_kept)) (λ f. absurd (cc f)) calm old_grants (refl, refl, λ q. same_end (S.action q))
             test true e =
                 let n = (kept_seen act code paths c b d s o S reached work calling goal path last sees old is_kept).named first some in
                 go_silent (AtActivate k st) ra (AtNote k i) (Some old) S stay (same_rebound act code paths c b d s o S reached work calling goal path last sees old old is_kept refl (kept_seen act code paths c b d s o S reached work calling goal path last sees old is_kept)) (λ f. absurd (cc f)) calm refl old_grants
-                (record { old = old; is = refl; same = same_number }, taken.1, (ap (λ (j : ℕ). (S.binding j).named) (sym same_number) ∙ n.0, ap (λ (j : ℕ). (S.binding j).incarnation) (sym same_number) ∙ n.1 ∙ eqb-true first i e)) (refl, refl)
+                (record { old = old; is = refl; same = same_number }, taken.1, (ap (λ (j : ℕ). (S.binding j).named) (sym same_number) ∙ n.0, ap (λ (j : ℕ). (S.binding j).incarnation) (sym same_number) ∙ n.1 ∙ eqb-true first i e)) (refl, refl, λ q. same_end (S.action q))
 
         by : (v : Option Known) → kp.kept ≡ v → Result (AtActivate k st) ra (activated_by k i v)
         by None none = absurd (let t = taken.0 in let y = t.is in cc (sym none ∙ y))
@@ -414,7 +416,7 @@ module _ (act : Acts) (code : Codes) (paths : Paths) (p : ℕ) (c : Coord) (b : 
       where
         yes_goes : (old : Known) → kp.kept ≡ Some old → binding_number old.binding ≡ binding_number k.binding → Result (AtNote k i) (Reply.Noted recorded.Yes) (moves (Some (record old { recorded = true })) (AtInvoke k i))
         yes_goes old is_kept same_number = go_invoke (AtNote k i) (Reply.Noted recorded.Yes) k i (Some new) S stay (same_rebound act code paths c b d s o S reached work calling goal path last sees old new is_kept refl seen) (λ f. absurd (cc f)) (quiet_at (AtNote k i) is refl) old_grants
-            (record { old = new; is = refl; same = same_number }) noting.1.1 noting.2 (inl said_so) (inr (inl noting.1.0)) (λ V calls same_now. (calls, same_now))
+            (record { old = new; is = refl; same = same_number }) noting.1.1 noting.2 (inl said_so) (inr (inl noting.1.0)) (λ V calls same_now keeps. (calls, same_now, keeps))
           where
             new : Known
             new = record old { recorded = true }

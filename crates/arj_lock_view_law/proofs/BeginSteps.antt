@@ -36,6 +36,7 @@ use Rattle.arj_lock_view_law.specs.Named.{IsNamedSo}
 use Rattle.arj_lock_view_law.specs.Roots.{HasHeard, IsSaid, IsTied, SeesCoord, SeesKeeping, SeesKept, SeesRoot, SeesStep, is_early}
 use Rattle.arj_lock_view_law.proofs.ActingSteps.{unended_none}
 use Rattle.arj_lock_view_law.proofs.CallingSteps.{Becomes, Looks, called_none, goes_becomes, goes_coord, invoke_only, invoke_seen, kept_seen, root_seen, sends, silent_seen, stays_rebound, top_unit}
+use Rattle.arj_lock_view_law.proofs.EndingSteps.{keeps_one, same_end}
 use Rattle.arj_lock_view_law.proofs.FreeSteps.{free_only, free_spent}
 use Rattle.arj_lock_view_law.proofs.RootSteps.{IsMoved, assemble, root_else, root_here}
 use Rattle.arj_lock_view_law.proofs.TreeSteps.{action_kind, first_on, one_changed, open_above, root_there, seen_at}
@@ -284,7 +285,7 @@ module _ (act : Acts) (code : Codes) (paths : Paths) (x : ℕ) (c : Coord) (b : 
   bind_goes = record {
     state = S;
     run = stay;
-    holds = (lands (AtBind k.avoid) S (silent_seen act code paths C b d0 s0 o S reached work_C refl refl refl refl sees_C stays (AtBind k.avoid) kc.kept kc.spoiled (let z = root_at rt C in z.grants) S (stays_rebound act code paths C b d0 s0 o S reached work_C refl refl refl refl sees_C) looks (λ e. e) refl refl grants_heard (λ none. ap (λ (v : Keeping). v.avoid) (sym kc_is))), called_none unit S, (refl, refl));
+    holds = (lands (AtBind k.avoid) S (silent_seen act code paths C b d0 s0 o S reached work_C refl refl refl refl sees_C stays (AtBind k.avoid) kc.kept kc.spoiled (let z = root_at rt C in z.grants) S (stays_rebound act code paths C b d0 s0 o S reached work_C refl refl refl refl sees_C) looks (λ e. e) refl refl grants_heard (λ none. ap (λ (v : Keeping). v.avoid) (sym kc_is))), called_none unit S, (refl, refl, λ q. same_end (S.action q)));
   }
 
   invoke_goes : (w : Known) → k.kept ≡ Some w → w.recorded ≡ true → MayUse S (act (top_of b.path)) (binding_number w.binding) → Begun (AtInvoke w (unwrap_or w.inc 0))
@@ -294,7 +295,7 @@ module _ (act : Acts) (code : Codes) (paths : Paths) (x : ℕ) (c : Coord) (b : 
     holds = (
       lands at_w V (invoke_seen act code paths C b d0 s0 o S reached work_C refl refl refl refl sees_C stays at_w kc.kept kc.spoiled grants S (stays_rebound act code paths C b d0 s0 o S reached work_C refl refl refl refl sees_C) looks (λ e. e) refl w i refl tied kept.server named (kept.recorded known).0 may grants_heard),
       invoke_only act code paths C b d0 s0 o S reached work_C refl refl refl refl sees_C stays at_w kc.kept kc.spoiled grants S (stays_rebound act code paths C b d0 s0 o S reached work_C refl refl refl refl sees_C) looks (λ e. e) refl w i refl tied kept.server named (kept.recorded known).0 may,
-      (refl, refl),
+      (refl, refl, λ q. keeps_one S (act u) (let z = S.action (act u) in record z { request = d.req + 1; waits = true; since = S.now }) (record { stage = refl; place = refl; done = refl }) q),
     );
   }
     where

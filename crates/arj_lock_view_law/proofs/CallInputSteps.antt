@@ -32,6 +32,7 @@ use Rattle.arj_lock_view_law.proofs.AskSteps.{ticks_are_nothing}
 use Rattle.arj_lock_view_law.proofs.BeginSteps.{calls_begin, same_coord}
 use Rattle.arj_lock_view_law.proofs.CallingSteps.{called_none}
 use Rattle.arj_lock_view_law.proofs.ElseSteps.{includes_begin, other_answers_are_taken, other_calls_are_given_up, other_calls_begin}
+use Rattle.arj_lock_view_law.proofs.EndingSteps.{same_end}
 use Rattle.arj_lock_view_law.proofs.EverSteps.{ever, on_run, reached_kept}
 use Rattle.arj_lock_view_law.proofs.GivingSteps.{calls_are_given_up}
 use Rattle.arj_lock_view_law.proofs.HeardSteps.{moves_asks}
@@ -198,7 +199,7 @@ calls_are_made act code paths x y c u b d o S reached work idle plain whole = �
     after T run same coord = goes_whole act code x c c1 d S T reached run same whole moves_1 z works_1 coord (λ w load. absurd (let l = load.goal in no_run o l.0 l.1))
 
     away : y ≢ x → Goes S (λ T. SeesWhole act code x (let e = call b.path y o c in e.part) T × (OnlyCalled (root (act u)) S T × WritesNone S T))
-    away other = record { state = S; run = stay; holds = (after S stay refl (other_calls_begin act code paths x y c u b d o S work idle plain other whole.coord), (called_none (root (act u)) S, (refl, refl))) }
+    away other = record { state = S; run = stay; holds = (after S stay refl (other_calls_begin act code paths x y c u b d o S work idle plain other whole.coord), (called_none (root (act u)) S, (refl, refl, λ q. same_end (S.action q)))) }
 
     here : y ≡ x → Goes S (λ T. SeesWhole act code x (let e = call b.path y o c in e.part) T × (OnlyCalled (root (act u)) S T × WritesNone S T))
     here is = to_run (calls_begin act code paths x c u b d o S reached work idle plain whole.coord) (λ T run h. (after T run (ap (λ (s : State). s.includes) (let q = h.1 in q.rest)) (subst (λ (n : ℕ). SeesCoord act code x (let e = call b.path n o c in e.part) T) (sym is) h.0), (h.1, h.2)))

@@ -26,6 +26,7 @@ use Rattle.arj_lock_view_law.specs.Going.{Goes}
 use Rattle.arj_lock_view_law.specs.Roots.{HasHeard, IsTied, SeesCoord, SeesStep}
 use Rattle.arj_lock_view_law.proofs.CallingSteps.{Becomes, Looks, called_one, its, of, open_now, open_stage, over_seen, own_root, r0, root_found, root_seen, root_stays, silent_seen, stays_rebound, step_seen, waits_is, was}
 use Rattle.arj_lock_view_law.proofs.ActingSteps.{unit_other}
+use Rattle.arj_lock_view_law.proofs.EndingSteps.{keeps_one, same_end}
 use Rattle.arj_lock_view_law.proofs.RootSteps.{assemble, root_else, root_here}
 use Rattle.arj_lock_view_law.proofs.TreeSteps.{one_changed}
 
@@ -71,7 +72,7 @@ module _ (act : Acts) (code : Codes) (paths : Paths) (c : Coord) (b : Branch) (d
   lost_goes n quiet = record {
     state = S;
     run = stay;
-    holds = (over_seen act code paths c b d s o S reached work calling goal path last sees (root_lost s (Ended (Lost n false))) (Lost n false) (λ j. refl) kp.kept (spoilt_by (Ended (Lost n false))) grants_now S (stays_rebound act code paths c b d s o S reached work calling goal path last sees) (looks_lost (Ended (Lost n false))) (λ e. e) quiet grants_heard, (let r = stays_rebound act code paths c b d s o S reached work calling goal path last sees in r.only), (refl, refl));
+    holds = (over_seen act code paths c b d s o S reached work calling goal path last sees (root_lost s (Ended (Lost n false))) (Lost n false) (λ j. refl) kp.kept (spoilt_by (Ended (Lost n false))) grants_now S (stays_rebound act code paths c b d s o S reached work calling goal path last sees) (looks_lost (Ended (Lost n false))) (λ e. e) quiet grants_heard, (let r = stays_rebound act code paths c b d s o S reached work calling goal path last sees in r.only), (refl, refl, λ q. same_end (S.action q)));
   }
 
   -- a Load goes to the next store
@@ -79,7 +80,7 @@ module _ (act : Acts) (code : Codes) (paths : Paths) (c : Coord) (b : Branch) (d
   next_goes k n t rest is = record {
     state = S;
     run = stay;
-    holds = (silent_seen act code paths c b d s o S reached work calling goal path last sees (root_lost s (On (AtLoad k t rest))) (AtLoad k t rest) kp.kept (spoilt_by (On (AtLoad k t rest))) grants_now S (stays_rebound act code paths c b d s o S reached work calling goal path last sees) (looks_lost (On (AtLoad k t rest))) (λ e. e) (ap is_invoke is) refl grants_heard (subst (SeesStep act code s o kp S) is (step_seen act code paths c b d s o S reached work calling goal path last sees)), (let r = stays_rebound act code paths c b d s o S reached work calling goal path last sees in r.only), (refl, refl));
+    holds = (silent_seen act code paths c b d s o S reached work calling goal path last sees (root_lost s (On (AtLoad k t rest))) (AtLoad k t rest) kp.kept (spoilt_by (On (AtLoad k t rest))) grants_now S (stays_rebound act code paths c b d s o S reached work calling goal path last sees) (looks_lost (On (AtLoad k t rest))) (λ e. e) (ap is_invoke is) refl grants_heard (subst (SeesStep act code s o kp S) is (step_seen act code paths c b d s o S reached work calling goal path last sees)), (let r = stays_rebound act code paths c b d s o S reached work calling goal path last sees in r.only), (refl, refl, λ q. same_end (S.action q)));
   }
 
   -- after an Invoke the action is doomed
@@ -158,7 +159,7 @@ module _ (act : Acts) (code : Codes) (paths : Paths) (c : Coord) (b : Branch) (d
             (λ y z now_is. absurd (cc now_is))
             (λ y now_is. absurd (cc now_is)),
         only,
-        (refl, refl),
+        (refl, refl, λ q. keeps_one S (act u) dooms (record { stage = refl; place = refl; done = refl }) q),
       );
     }
       where

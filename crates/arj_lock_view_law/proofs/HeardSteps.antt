@@ -1,6 +1,6 @@
 -- A whole coordinator goes in the machine: the commit of a top, from answer to answer.
-use Rattle.std.proofs.Common.{◌≡◌, ◌≢◌, ◌≤◌, ◌+◌, ◌∙◌, ℕ, List, [], ◌∷◌, Bool, true, false, cond, Option, Some, None, refl, sym, ap, subst, arith, is_some}
-use Rattle.arj_protocol.specs.Words.{Ask, Binding, Path, Uid, uids_of}
+use Rattle.std.proofs.Common.{◌≡◌, ◌≢◌, ◌≤◌, ◌∙◌, ℕ, List, [], ◌∷◌, Bool, true, false, cond, Option, Some, None, refl, sym, ap, subst, arith, is_some}
+use Rattle.arj_protocol.specs.Words.{Ask, Binding, Cause, Path, Uid, uids_of}
 use Rattle.arj_protocol.specs.Words.confirmed
 use Rattle.arj_protocol.specs.Words.ending
 use Rattle.arj_protocol.specs.Words.kind
@@ -15,7 +15,7 @@ use Rattle.arj_protocol.specs.Effect.{Intent}
 use Rattle.arj_protocol.specs.Ending.{decide, decided, ended, root_after}
 use Rattle.arj_protocol.specs.Order.{binding_number, put_uid, with_number, without_number}
 use Rattle.arj_protocol.specs.Tree.{Branch, branch_of, root_of}
-use Rattle.arj_lock_law.specs.Actions.{In, is_action, root}
+use Rattle.arj_lock_law.specs.Actions.{Act, In, is_action, root}
 use Rattle.arj_lock_law.specs.Machine.{Run, stay}
 use Rattle.arj_lock_law.specs.State.{Action, Message, State}
 use Rattle.arj_lock_law.proofs.Order.{go_on}
@@ -28,6 +28,7 @@ use Rattle.arj_lock_view_law.specs.Actions.{IsSteady, SeesAction, SeesActions, i
 use Rattle.arj_lock_view_law.specs.Acts.{Acts}
 use Rattle.arj_lock_view_law.specs.Calling.{IsReached, OnlyCalled}
 use Rattle.arj_lock_view_law.specs.Copies.{Codes}
+use Rattle.arj_lock_view_law.specs.Ending.{ChangesOne, aborted, committed_at, moved_by, now_by}
 use Rattle.arj_lock_view_law.specs.Going.{Goes}
 use Rattle.arj_lock_view_law.specs.Inputs.{CommitAnswersAreHeard, CommitsAreLost, OnlyEnded, SeesWhole}
 use Rattle.arj_lock_view_law.specs.Plans.{OnlySent, SeesMachine, SeesNext}
@@ -211,8 +212,15 @@ module _ (act : Acts) (code : Codes) (paths : Paths) (x p : ℕ) (c : Coord) (u 
       ended = λ a over. e.ended a (subst (λ (q : Action). 3 ≤ q.stage) (sym (f.ended a over)) over) ∙ f.ended a over;
     }
 
-    abbrev After : Coord → State → Type 0
-    After e V = SeesWhole act code x e V × (OnlyEnded unit S V × (V.now ≤ p + 1))
+    abbrev After : CommitStep → Coord → State → Type 0
+    After st e V = SeesWhole act code x e V × (OnlyEnded unit S V × (V.now ≡ now_by st p S.now) × ChangesOne (act u) (moved_by st p (S.action (act u))) S V)
+
+    -- the machine's actions are as they were
+    same_actions : (a : Act) → T.action a ≡ S.action a
+    same_actions a = ap (λ (s : State). s.action a) sent.rest
+
+    same_now : T.now ≡ S.now
+    same_now = ap (λ (s : State). s.now) sent.rest
 
     -- it waits on
     module _ (m : Machine) (later : d.req ≤ (let q = plan_of m in q.req)) (next : SeesMachine x (act u) m T) where
@@ -257,23 +265,23 @@ module _ (act : Acts) (code : Codes) (paths : Paths) (x p : ℕ) (c : Coord) (u 
           (λ w q m' new has_it is. subst (λ (y : Machine). SeesMachine x (act w) y T) (same_machine m' (sym (its_work w q new has_it) ∙ is)) (subst (λ (v : Uid). SeesMachine x (act v) m T) (sym new) next))
           (λ w q new. absurd new)
 
-      stays_goes : Goes T (After e)
-      stays_goes = record { state = T; run = stay; holds = (whole_e, (only_sent, (let l = now_T in omega (arith, l)))) }
+      stays_goes : Goes T (After (Stays m) e)
+      stays_goes = record { state = T; run = stay; holds = (whole_e, (only_sent, same_now, record { one = λ its. same_actions (act u); others = λ a its other. same_actions a })) }
 
       -- and asks
-      asks_goes : Goes T (After (let a = asks_machine m e in a.part))
+      asks_goes : Goes T (After (Asks m) (let a = asks_machine m e in a.part))
       asks_goes = record {
         state = T;
         run = stay;
         holds = (
           whole_stays act code x e (let a = asks_machine m e in a.part) T T nobody nobody reached_T stay (moves_asks x (let v = plan_of m in v.path) (let v = plan_of m in v.req) (waiting m) e nobody nobody) refl whole_e (commits_ask_only act code x m e T coord_e) (λ w q s l new. absurd new) (λ w q m' new. absurd new) (λ w q new. absurd new),
-          (only_sent, (let l = now_T in omega (arith, l))),
+          (only_sent, same_now, record { one = λ its. same_actions (act u); others = λ a its other. same_actions a }),
         );
       }
 
     -- it is aborted
-    aborts_goes : Goes T (After (ended u ending.Abort c))
-    aborts_goes = goes_to (abort_whole act code paths x c u b d T reached_T steady found unended works (let v = voting in v.childless) whole_T) (λ V y. (y.0.0, (only_then V y.0.1, (let e : V.now ≡ T.now = y.1 in let l = now_T in omega (arith, e, l)))))
+    aborts_goes : (why : Cause) (q : Plan) → Goes T (After (Aborts why q) (ended u ending.Abort c))
+    aborts_goes why q = goes_to (abort_whole act code paths x c u b d T reached_T steady found unended works (let v = voting in v.childless) whole_T) (λ V y. (y.0.0, (only_then V y.0.1, y.1 ∙ same_now, record { one = λ its. (let o = y.2 in o.one its) ∙ ap aborted (same_actions (act u)); others = λ a its other. (let o = y.2 in o.others a its other) ∙ same_actions a })))
 
     -- it is decided
     module _ (q : Plan) (who : actor q.path ≡ u) (backed : IsBacked (act u) T) where
@@ -318,10 +326,10 @@ module _ (act : Acts) (code : Codes) (paths : Paths) (x p : ℕ) (c : Coord) (u 
           by true = put
           by false = put
 
-      decides_goes : Goes T (After (let v = decide q c in v.part))
+      decides_goes : Goes T (After (Decides q) (let v = decide q c in v.part))
       decides_goes = then_run (decisions_are_seen act paths x p c u b d k T steady found unended works at unserial unnested backed now_T (let v = whole_T in let w = v.coord in w.actions)) (λ V run_V y.
           to_run (end_goes act code paths x c u b d ending.Commit T V reached_T run_V steady found unended works (let v = voting in v.childless) whole_T y.0 y.1 (λ holds. y.2.2) (λ isnt. absurd (cc (sym acts ∙ isnt))))
-          (λ W run_W z. (whole_W W (go_on run_V run_W) z.0, (only_then W z.1, (let e : W.now ≡ V.now = z.2 in let f : V.now ≡ p + 1 = y.2.0 in omega (arith, e, f))))))
+          (λ W run_W z. (whole_W W (go_on run_V run_W) z.0, (only_then W z.1, z.2 ∙ y.2.0, record { one = λ its. z.3 (act u) its ∙ (let o = y.2.3 in o.one its) ∙ ap (committed_at p) (same_actions (act u)); others = λ a its other. z.3 a its ∙ (let o = y.2.3 in o.others a its other) ∙ same_actions a }))))
         where
           whole_W : (W : State) → Run T W → SeesWhole act code x E W → SeesWhole act code x (let v = decide q c in v.part) W
           whole_W W run_W seen = subst (λ (v : Uid). SeesWhole act code x (decided v q c) W) (sym who)
@@ -331,11 +339,11 @@ module _ (act : Acts) (code : Codes) (paths : Paths) (x p : ℕ) (c : Coord) (u 
               (λ w y new. absurd new))
 
   -- whatever the step is
-  pub step_goes : (st : CommitStep) → IsStepOf steady.actions paths steady.whole (plan_of k) st → IsLaterStep (plan_of k) st → Goes S (λ T. SeesNext x (act u) st T × OnlySent S T) → Goes S (λ V. SeesWhole act code x (let e = step_commit u st intents c in e.part) V × (OnlyEnded unit S V × (V.now ≤ p + 1)))
+  pub step_goes : (st : CommitStep) → IsStepOf steady.actions paths steady.whole (plan_of k) st → IsLaterStep (plan_of k) st → Goes S (λ T. SeesNext x (act u) st T × OnlySent S T) → Goes S (λ V. SeesWhole act code x (let e = step_commit u st intents c in e.part) V × (OnlyEnded unit S V × (V.now ≡ now_by st p S.now) × ChangesOne (act u) (moved_by st p (S.action (act u))) S V))
   step_goes (Stays m) same later g = then_run g (λ T run h. stays_goes T run h.1 m (omega (arith, number, later)) h.0)
   step_goes (Asks m) same later g = then_run g (λ T run h. asks_goes T run h.1 m (omega (arith, number, later)) h.0)
   step_goes (Decides q) same later g = then_run g (λ T run h. decides_goes T run h.1 q (ap actor same.0 ∙ its_path) h.0)
-  step_goes (Aborts why q) same later g = then_run g (λ T run h. aborts_goes T run h.1)
+  step_goes (Aborts why q) same later g = then_run g (λ T run h. aborts_goes T run h.1 why q)
 
 pub commit_answers_are_heard : CommitAnswersAreHeard
 commit_answers_are_heard act code paths x p from c u b d k r intents S reached steady found unended works at number now shows whole =

@@ -28,6 +28,7 @@ use Rattle.arj_lock_view_law.specs.Actions.{IsLone, IsPlaced, IsSteady, SeesActi
 use Rattle.arj_lock_view_law.specs.Acts.{Acts}
 use Rattle.arj_lock_view_law.specs.Calling.{IsReached}
 use Rattle.arj_lock_view_law.specs.Copies.{Codes}
+use Rattle.arj_lock_view_law.specs.Ending.{ChangesOne, KeepsActions, aborted, committed_at}
 use Rattle.arj_lock_view_law.specs.Going.{Goes}
 use Rattle.arj_lock_view_law.specs.Including.{IsGranted, IsLoading}
 use Rattle.arj_lock_view_law.specs.Inputs.{DoomedCommitsAreTaken, NestedCommitsAreTaken, OnlyEnded, SeesWhole}
@@ -145,13 +146,13 @@ module _ (act : Acts) (code : Codes) (paths : Paths) (x : ℕ) (c : Coord) (u : 
   rest_of : (V : State) → OnlyActed unit S V → V.includes ≡ S.includes
   rest_of V o = ap (λ (s : State). s.includes) o.rest
 
-  pub end_goes : Goes T (λ V. SeesWhole act code x E V × OnlyActed unit S V × (V.now ≡ T.now))
+  pub end_goes : Goes T (λ V. SeesWhole act code x E V × OnlyActed unit S V × (V.now ≡ T.now) × KeepsActions T V)
   end_goes = ⊎_elim
       (λ (own : root_of b.path ≡ u). ⊎_elim
       (λ holds. plain own holds)
-      (λ isnt. record { state = T; run = stay; holds = (all T run (rest_of T only) coord_T (λ is. unit_over isnt), only, refl) })
+      (λ isnt. record { state = T; run = stay; holds = (all T run (rest_of T only) coord_T (λ is. unit_over isnt), only, refl, λ a h. refl) })
       (by_cases (is_action (act u))))
-      (λ (other : root_of b.path ≢ u). record { state = T; run = stay; holds = (all T run (rest_of T only) coord_T (λ is. absurd (other is)), only, refl) })
+      (λ (other : root_of b.path ≢ u). record { state = T; run = stay; holds = (all T run (rest_of T only) coord_T (λ is. absurd (other is)), only, refl, λ a h. refl) })
       (uid_cases (root_of b.path) u)
     where
       steady_E : IsSteady act paths E
@@ -164,14 +165,18 @@ module _ (act : Acts) (code : Codes) (paths : Paths) (x : ℕ) (c : Coord) (u : 
           let first_is : first_uid (paths w) ≡ u = steady.alike.units w u home ∙ ap first_uid (sym (steady.good.tree.lists.paths_are u b found)) ∙ own in
           over_below paths steady.whole E.tree l.lists l.closed u b' one.branch refl w q there (ap (is_on (paths w)) (sym first_is) ∙ first_on (paths w) (subst (λ (us : List Uid). 1 ≤ length us) path (path_some q.path)))
 
-      plain : root_of b.path ≡ u → is_action (act u) ≡ true → Goes T (λ V. SeesWhole act code x E V × OnlyActed unit S V × (V.now ≡ T.now))
+      plain : root_of b.path ≡ u → is_action (act u) ≡ true → Goes T (λ V. SeesWhole act code x E V × OnlyActed unit S V × (V.now ≡ T.now) × KeepsActions T V)
       plain own holds =
           let g = plain_goes act paths x E u b' unit T steady_E coord_T.actions one.branch refl (all_over own) (ap (λ (a : Action). a.stage) (units holds unit) ∙ unit_open act paths x c S steady (let k = whole.coord in k.actions) u b d found works unended) in
           let h = g.holds in
           let both = acted_both unit S T g.state only h.1 in
-          record { state = g.state; run = g.run; holds = (all g.state (go_on run g.run) (rest_of g.state both) (units_keep_roots act code x unit E T g.state coord_T h.1 h.0) (λ is. h.3), both, h.2) }
+          record { state = g.state; run = g.run; holds = (all g.state (go_on run g.run) (rest_of g.state both) (units_keep_roots act code x unit E T g.state coord_T h.1 h.0) (λ is. h.3), both, h.2, h.4) }
 
 -- ---- the commit of a nested action, and aborts
+
+-- one action changed, and none behind it
+pub one_then : (m : Act) (new : Action) (S T V : State) → ChangesOne m new S T → KeepsActions T V → ChangesOne m new S V
+one_then m new S T V o keeps = record { one = λ its. keeps m its ∙ o.one its; others = λ a its other. keeps a its ∙ o.others a its other }
 
 pub only_ended : (n : ℕ) (S T : State) → OnlyActed n S T → OnlyEnded n S T
 only_ended n S T o = record {
@@ -184,33 +189,37 @@ module _ (act : Acts) (code : Codes) (paths : Paths) (x : ℕ) (c : Coord) (u : 
   abbrev Ended : End → State → Type 0
   Ended e V = SeesWhole act code x (ended u e c) V × OnlyActed (root (act u)) S V
 
+  -- where a serializing action ends no action changed
+  pub unit_alone : b.kind ≡ kind.Serial → (new : Action) (V : State) → KeepsActions S V → ChangesOne (act u) new S V
+  unit_alone is new V keeps = record { one = λ its. absurd (differ its (subst (IsPlaced (act u)) is (steady.placed u b found))); others = λ a its other. keeps a its }
+
   -- the end of a serializing action
-  pub serial_goes : (e : End) → b.kind ≡ kind.Serial → Goes S (λ V. Ended e V × (V.now ≡ S.now))
+  pub serial_goes : (e : End) → b.kind ≡ kind.Serial → Goes S (λ V. Ended e V × (V.now ≡ S.now) × KeepsActions S V)
   serial_goes e is = then_run (units_end act paths x c u b e S steady found unended is childless (let k = whole.coord in k.actions)) (λ T run h.
       goes_to (end_goes act code paths x c u b d e S T reached run steady found unended works childless whole h.0 h.1 (λ holds. absurd (differ holds placed)) (λ isnt. ap (λ (a : Act). (T.action a).stage) (sym (root_is (act u) isnt)) ∙ h.2.1))
-      (λ V k. ((k.0, k.1), k.2 ∙ h.2.0)))
+      (λ V k. ((k.0, k.1), k.2 ∙ h.2.0, (λ a its. k.3 a its ∙ h.2.2 a its))))
     where
       placed : is_action (act u) ≡ false
       placed = subst (IsPlaced (act u)) is (steady.placed u b found)
 
   -- an abort
-  pub abort_whole : Goes S (λ V. Ended ending.Abort V × (V.now ≡ S.now))
-  abort_whole = ⊎_elim (λ is. serial_goes ending.Abort is) (λ isnt. then_run (abortions_are_seen act paths x c u b d S steady found unended works isnt (let k = whole.coord in k.actions)) (λ T run h.
+  pub abort_whole : Goes S (λ V. Ended ending.Abort V × (V.now ≡ S.now) × ChangesOne (act u) (aborted (S.action (act u))) S V)
+  abort_whole = ⊎_elim (λ is. goes_to (serial_goes ending.Abort is) (λ V k. (k.0, k.1, unit_alone is (aborted (S.action (act u))) V k.2))) (λ isnt. then_run (abortions_are_seen act paths x c u b d S steady found unended works isnt (let k = whole.coord in k.actions)) (λ T run h.
       goes_to (end_goes act code paths x c u b d ending.Abort S T reached run steady found unended works childless whole h.0 h.1 (λ holds. h.2.2) (λ un. absurd (differ (action_kind (act u) b.kind isnt (steady.placed u b found)) un)))
-      (λ V k. ((k.0, k.1), k.2 ∙ h.2.0)))) (serial_or b.kind)
+      (λ V k. ((k.0, k.1), k.2 ∙ h.2.0, one_then (act u) (aborted (S.action (act u))) S T V h.2.3 k.3)))) (serial_or b.kind)
 
   -- the commit of a nested action
-  pub nested_goes : (p : ℕ) → b.kind ≡ kind.Nested → d.now ≡ Idle → IsLone paths u c → b.doomed ≡ false → S.now ≤ p → Goes S (λ V. Ended ending.Commit V × (V.now ≡ p + 1))
+  pub nested_goes : (p : ℕ) → b.kind ≡ kind.Nested → d.now ≡ Idle → IsLone paths u c → b.doomed ≡ false → S.now ≤ p → Goes S (λ V. Ended ending.Commit V × (V.now ≡ p + 1) × ChangesOne (act u) (committed_at p (S.action (act u))) S V)
   nested_goes p is idle lone undoomed now = then_run (nested_commits_are_seen act paths x p c u b d S (record { steady = steady; there = found; unended = unended; works = works; idle = idle; lone = lone }) is undoomed childless (callers_here act code paths x c S steady whole.coord) now (let k = whole.coord in k.actions)) (λ T run h.
       goes_to (end_goes act code paths x c u b d ending.Commit S T reached run steady found unended works childless whole h.0 h.1 (λ holds. h.2.2) (λ un. absurd (differ (let k = subst (IsPlaced (act u)) is (steady.placed u b found) in k.0) un)))
-      (λ V k. ((k.0, k.1), k.2 ∙ h.2.0)))
+      (λ V k. ((k.0, k.1), k.2 ∙ h.2.0, one_then (act u) (committed_at p (S.action (act u))) S T V h.2.3 k.3)))
 
 pub nested_commits_are_taken : NestedCommitsAreTaken
 nested_commits_are_taken act code paths x p c u b d intents S reached free kinds undoomed childless now whole = ⊎_elim
     (λ is. goes_to (nested_goes act code paths x c u b d S reached free.steady free.there free.unended free.works childless whole p is free.idle free.lone undoomed now)
-    (λ V h. (subst (λ (e : Coord). SeesWhole act code x e V) (sym (part_is is)) h.0.0, (only_ended (root (act u)) S V h.0.1, (let e = h.1 in omega (arith, e))))))
+    (λ V h. (subst (λ (e : Coord). SeesWhole act code x e V) (sym (part_is is)) h.0.0, (only_ended (root (act u)) S V h.0.1, (let e = h.1 in omega (arith, e)), h.2))))
     (λ is. goes_to (serial_goes act code paths x c u b d S reached free.steady free.there free.unended free.works childless whole ending.Commit is)
-    (λ V h. (subst (λ (e : Coord). SeesWhole act code x e V) (sym (serial_is is)) h.0.0, (only_ended (root (act u)) S V h.0.1, (let e = h.1 in omega (arith, e, now))))))
+    (λ V h. (subst (λ (e : Coord). SeesWhole act code x e V) (sym (serial_is is)) h.0.0, (only_ended (root (act u)) S V h.0.1, (let e = h.1 in omega (arith, e, now)), unit_alone act code paths x c u b d S reached free.steady free.there free.unended free.works childless whole is (committed_at p (S.action (act u))) V h.2))))
     kinds
   where
     its : actor b.path ≡ u
@@ -228,7 +237,7 @@ nested_commits_are_taken act code paths x p c u b d intents S reached free kinds
 pub doomed_commits_are_taken : DoomedCommitsAreTaken
 doomed_commits_are_taken act code paths x p c u b d intents S reached free doomed childless now whole =
     goes_to (abort_whole act code paths x c u b d S reached free.steady free.there free.unended free.works childless whole)
-    (λ V h. (subst (λ (e : Coord). SeesWhole act code x e V) (sym part_is) h.0.0, (only_ended (root (act u)) S V h.0.1, (let e = h.1 in omega (arith, e, now)))))
+    (λ V h. (subst (λ (e : Coord). SeesWhole act code x e V) (sym part_is) h.0.0, (only_ended (root (act u)) S V h.0.1, h.1, h.2)))
   where
     part_is : (let e = commit_action b intents c in e.part) ≡ ended u ending.Abort c
     part_is = (λ i. (let e = cond (doomed i) (aborts_with (actor b.path) cause.Doomed intents c) (commit_open b intents c b.kind) in e.part)) ∙ ap (λ (v : Uid). ended v ending.Abort c) (free.steady.good.tree.lists.places u b free.there)

@@ -20,7 +20,7 @@ use Rattle.arj_protocol.specs.Coord.{Calling, Coord, Doing, Grant, Idle, Keeping
 use Rattle.arj_protocol.specs.Order.{binding_number}
 use Rattle.arj_protocol.specs.Step.{is_committing_now}
 use Rattle.arj_protocol.specs.Tree.{Branch, root_of}
-use Rattle.arj_lock_law.specs.Actions.{In, at_act, on, root}
+use Rattle.arj_lock_law.specs.Actions.{Act, In, at_act, on, root}
 use Rattle.arj_lock_law.specs.Machine.{Guard, next, start, stay, step}
 use Rattle.arj_lock_law.specs.Machine as machine_run
 use Rattle.arj_lock_law.specs.State as machine
@@ -32,10 +32,12 @@ use Rattle.arj_lock_view_law.specs.Acts.{Acts}
 use Rattle.arj_lock_view_law.specs.Actions.{SeesAction, invokes}
 use Rattle.arj_lock_view_law.specs.Calling.{AnswersAreTaken, IsApplied, IsAtWork, IsReached, OnlyCalled, ShowsAnswer, WritesLine}
 use Rattle.arj_lock_view_law.specs.Copies.{Codes}
+use Rattle.arj_lock_view_law.specs.Ending.{SameEnd}
 use Rattle.arj_lock_view_law.specs.Going.{Goes}
 use Rattle.arj_lock_view_law.specs.Roots.{IsSaid, IsTied, SeesCoord, SeesRoot, SeesStep, invoke_of}
 use Rattle.arj_lock_view_law.proofs.AnswerSteps.{HasAll, Result, activated_goes, grants_after, live_goes, load_goes, looks_moved, make_goes, old_grants, over_here, quiet_at, recorded_goes, spoilt_by}
 use Rattle.arj_lock_view_law.proofs.CallingSteps.{Becomes, Looks, acts_after, called_one, ends_becomes, ends_coord, ends_seen, of, open_now, open_stage, own_root, r0, root_after, root_found, root_seen, stays_rebound, step_seen, tied_kept, unit_same, waits_is, was}
+use Rattle.arj_lock_view_law.proofs.EndingSteps.{keeps_one, same_end}
 use Rattle.arj_lock_view_law.proofs.RootSteps.{assemble}
 use Rattle.arj_lock_view_law.proofs.TreeSteps.{opens}
 
@@ -123,6 +125,9 @@ module _ (act : Acts) (code : Codes) (paths : Paths) (p : ℕ) (c : Coord) (b : 
   rests_seen : SeesAction x b (record d { now = Idle }) stopped_one
   rests_seen = let w = was act code paths c b d s o S reached work calling goal path last sees in record { stage = open_stage act code paths c b d s o S reached work calling goal path last sees ∙ sym (open_now act code paths c b d s o S reached work calling goal path last sees Idle refl); request = w.request; waits = λ h. refl; last = λ h. absurd (cc h); doomed = w.doomed }
 
+  keeps_stopped : (q : Act) → SameEnd (S.action q) (at_act S.action (act u) stopped_one q)
+  keeps_stopped q = keeps_one S (act u) stopped_one (record { stage = refl; place = refl; done = refl }) q
+
   low : (S.action (act u)).stage ≤ 2
   low = let z = open_stage act code paths c b d s o S reached work calling goal path last sees in omega (arith, z)
 
@@ -153,11 +158,11 @@ module _ (act : Acts) (code : Codes) (paths : Paths) (p : ℕ) (c : Coord) (b : 
         only = called_one S (act u) stopped_one S.now S.calls S.net low (λ y j. j) (λ y j. inl j) (λ y j. j)
 
     refused_goes : (h : Uid) (m : Mode) → In (machine.Refused (invoke_of act s o k)) S.net → To (AtInvoke k i) (Reply.Invoked (invoked.Conflict h m)) (finds kp.kept (protocol.Conflict h m k.server))
-    refused_goes h m shown = stop_goes (Reply.Invoked (invoked.Conflict h m)) (protocol.Conflict h m k.server) (λ j. refl) (λ q. refl) (step (event.TurnedDown (invoke_of act s o k)) (shown, last_number) stay) (old_grants act code paths p c b d s o S reached work calling goal path last sees now) (refl, refl)
+    refused_goes h m shown = stop_goes (Reply.Invoked (invoked.Conflict h m)) (protocol.Conflict h m k.server) (λ j. refl) (λ q. refl) (step (event.TurnedDown (invoke_of act s o k)) (shown, last_number) stay) (old_grants act code paths p c b d s o S reached work calling goal path last sees now) (refl, refl, keeps_stopped)
 
     changed_goes : (w : What) → In (machine.Changed (binding_number k.binding)) S.net → To (AtInvoke k i) (Reply.Invoked (invoked.Changed w)) (finds kp.kept (protocol.Changed k.server w))
     changed_goes w shown = stop_goes (Reply.Invoked (invoked.Changed w)) (protocol.Changed k.server w) (λ j. refl) (λ q. refl)
-        (step (event.Lost (act u)) (subst (λ (n : ℕ). In (machine.Changed n) S.net) (sym (tied_kept act code paths c b d s o S reached work calling goal path last sees kp.kept S (stays_rebound act code paths c b d s o S reached work calling goal path last sees).keeping k stands.0)) shown) stay) (old_grants act code paths p c b d s o S reached work calling goal path last sees now) (refl, refl)
+        (step (event.Lost (act u)) (subst (λ (n : ℕ). In (machine.Changed n) S.net) (sym (tied_kept act code paths c b d s o S reached work calling goal path last sees kp.kept S (stays_rebound act code paths c b d s o S reached work calling goal path last sees).keeping k stands.0)) shown) stay) (old_grants act code paths p c b d s o S reached work calling goal path last sees now) (refl, refl, keeps_stopped)
 
     -- the call has its line
     module _ (a : Answer) (v : Value) (fits : a ≡ answer_of o v) (applied : IsApplied code (invoke_of act s o k) o v S) where
@@ -244,7 +249,7 @@ module _ (act : Acts) (code : Codes) (paths : Paths) (p : ℕ) (c : Coord) (b : 
               (λ y z now_is. absurd (cc now_is))
               (λ y now_is. absurd (cc now_is)),
           only,
-          (v, fits, refl, refl),
+          (v, fits, refl, refl, keeps_stopped),
         );
       }
 
@@ -257,15 +262,15 @@ module _ (act : Acts) (code : Codes) (paths : Paths) (p : ℕ) (c : Coord) (b : 
   by_bound avoid is (bound.Live w server i g stores) shows = live_goes act code paths p c b d s o S reached work calling goal path last sees now avoid w server i g stores is shows.1
   by_bound avoid is (bound.Make w server g stores) shows = make_goes act code paths p c b d s o S reached work calling goal path last sees now avoid w server g stores is shows.1
   by_bound avoid is (bound.Write g stores) shows = absurd shows.0
-  by_bound avoid is (bound.Conflict h m) shows = over_here act code paths p c b d s o S reached work calling goal path last sees now (AtBind avoid) (Reply.Bound (bound.Conflict h m)) (protocol.Conflict h m 1) (λ j. refl) (λ q. refl) (quiet_at act code paths p c b d s o S reached work calling goal path last sees now (AtBind avoid) is refl) (old_grants act code paths p c b d s o S reached work calling goal path last sees now) (refl, refl)
+  by_bound avoid is (bound.Conflict h m) shows = over_here act code paths p c b d s o S reached work calling goal path last sees now (AtBind avoid) (Reply.Bound (bound.Conflict h m)) (protocol.Conflict h m 1) (λ j. refl) (λ q. refl) (quiet_at act code paths p c b d s o S reached work calling goal path last sees now (AtBind avoid) is refl) (old_grants act code paths p c b d s o S reached work calling goal path last sees now) (refl, refl, λ q. same_end (S.action q))
 
   by_load : (k : Known) (n : ℕ) (rest : List ℕ) → s.at ≡ AtLoad k n rest → (r : LoadedReply) → ShowsAnswer act code s o S (AtLoad k n rest) (Reply.Loaded r) → To (AtLoad k n rest) (Reply.Loaded r) (answered free kp.kept s.goal (AtLoad k n rest) (Reply.Loaded r))
   by_load k n rest is (loaded.State st) shows = subst (λ (g : Goal). To (AtLoad k n rest) (Reply.Loaded (loaded.State st)) (loaded_state kp.kept k st g)) (sym goal) (load_goes act code paths p c b d s o S reached work calling goal path last sees now k n rest is st shows)
-  by_load k n rest is (loaded.InDoubt h) shows = over_here act code paths p c b d s o S reached work calling goal path last sees now (AtLoad k n rest) (Reply.Loaded (loaded.InDoubt h)) (protocol.Conflict h mode.Write n) (λ j. refl) (λ q. refl) (quiet_at act code paths p c b d s o S reached work calling goal path last sees now (AtLoad k n rest) is refl) (old_grants act code paths p c b d s o S reached work calling goal path last sees now) (refl, refl)
+  by_load k n rest is (loaded.InDoubt h) shows = over_here act code paths p c b d s o S reached work calling goal path last sees now (AtLoad k n rest) (Reply.Loaded (loaded.InDoubt h)) (protocol.Conflict h mode.Write n) (λ j. refl) (λ q. refl) (quiet_at act code paths p c b d s o S reached work calling goal path last sees now (AtLoad k n rest) is refl) (old_grants act code paths p c b d s o S reached work calling goal path last sees now) (refl, refl, λ q. same_end (S.action q))
 
   by_note : (k : Known) (i : ℕ) → s.at ≡ AtNote k i → (r : RecordedReply) → ShowsAnswer act code s o S (AtNote k i) (Reply.Noted r) → To (AtNote k i) (Reply.Noted r) (answered free kp.kept s.goal (AtNote k i) (Reply.Noted r))
   by_note k i is recorded.Yes shows = recorded_goes act code paths p c b d s o S reached work calling goal path last sees now k i is shows
-  by_note k i is (recorded.Changed w) shows = over_here act code paths p c b d s o S reached work calling goal path last sees now (AtNote k i) (Reply.Noted (recorded.Changed w)) (protocol.Changed 1 w) (λ j. refl) (λ q. refl) (quiet_at act code paths p c b d s o S reached work calling goal path last sees now (AtNote k i) is refl) (old_grants act code paths p c b d s o S reached work calling goal path last sees now) (refl, refl)
+  by_note k i is (recorded.Changed w) shows = over_here act code paths p c b d s o S reached work calling goal path last sees now (AtNote k i) (Reply.Noted (recorded.Changed w)) (protocol.Changed 1 w) (λ j. refl) (λ q. refl) (quiet_at act code paths p c b d s o S reached work calling goal path last sees now (AtNote k i) is refl) (old_grants act code paths p c b d s o S reached work calling goal path last sees now) (refl, refl, λ q. same_end (S.action q))
 
   by_invoke : (k : Known) (i : ℕ) → s.at ≡ AtInvoke k i → (r : InvokedReply) → ShowsAnswer act code s o S (AtInvoke k i) (Reply.Invoked r) → To (AtInvoke k i) (Reply.Invoked r) (answered free kp.kept s.goal (AtInvoke k i) (Reply.Invoked r))
   by_invoke k i is (invoked.Answered a) shows = answered_goes k i is a shows.0 shows.1 shows.2

@@ -15,6 +15,7 @@ pub mod CopySteps
 pub mod ElseSteps
 pub mod CoverSteps
 pub mod EndSteps
+pub mod EndingSteps
 pub mod EverSteps
 pub mod FamilySteps
 pub mod FreeSteps

@@ -18,12 +18,13 @@ use Rattle.arj_lock_view_law.specs.Acting.{OnlyActed}
 use Rattle.arj_lock_view_law.specs.Actions.{IsHere, IsSteady, stage_of}
 use Rattle.arj_lock_view_law.specs.Acts.{Acts}
 use Rattle.arj_lock_view_law.specs.Copies.{Codes}
+use Rattle.arj_lock_view_law.specs.Ending.{ChangesOne, aborted, committed_at, decided}
 use Rattle.arj_lock_view_law.specs.Going.{Goes}
 use Rattle.arj_lock_view_law.specs.Inputs.{StopsAreTaken}
 use Rattle.arj_lock_view_law.specs.Roots.{SeesCoord}
 use Rattle.arj_lock_view_law.specs.Stops.{AreUnitsOver, HasEnded, HasStopped, IfDecided, IsDecided, IsUnitOf, OnlyStopped, RecordsAreFound, RestartedCoordsAreSeen, StopsAreSeen, StopsStay}
 use Rattle.arj_lock_view_law.proofs.AbortSteps.{acted_both, branch_found}
-use Rattle.arj_lock_view_law.proofs.ActingSteps.{low_stage, only_acted, unended_none, unit_open, unit_other}
+use Rattle.arj_lock_view_law.proofs.ActingSteps.{changes_one, low_stage, only_acted, unended_none, unit_open, unit_other}
 use Rattle.arj_lock_view_law.proofs.BeginSteps.{same_coord}
 use Rattle.arj_lock_view_law.proofs.NewSteps.{new_coords_are_seen}
 use Rattle.arj_lock_view_law.proofs.OneSteps.{over_stage}
@@ -48,6 +49,10 @@ module _ (act : Acts) (code : Codes) (paths : Paths) (x : ℕ) (c : Coord) (last
 
   -- ---- what has changed so far
 
+  -- as it was, aborted, or decided
+  abbrev EndsSo : Act → Action → Type 0
+  EndsSo a v = (v ≡ S.action a) ⊎ (IsHere act t a × ((v ≡ aborted (S.action a)) ⊎ (v ≡ decided (S.action a))))
+
   record Frame (T : State) : Type 0 where
     rest : T ≡ record S { action = T.action }
     others : (a : Act) → (IsUnitOf act t (root a) → ⊥) → T.action a ≡ S.action a
@@ -55,6 +60,7 @@ module _ (act : Acts) (code : Codes) (paths : Paths) (x : ℕ) (c : Coord) (last
     idle : (a : Act) → is_action a ≡ true → IsHere act t a ⊎ (T.action a ≡ S.action a)
     units : (n : ℕ) → (T.action (Root n) ≡ S.action (Root n)) ⊎ ((T.action (Root n)).stage ≡ 3)
     spared : (u : Uid) → last ≡ Some u → T.action (Root (root (act u))) ≡ S.action (Root (root (act u)))
+    ends : (a : Act) → is_action a ≡ true → EndsSo a (T.action a)
 
   -- how an action stands
   abbrev Stands : State → Uid → Type 0
@@ -73,14 +79,15 @@ module _ (act : Acts) (code : Codes) (paths : Paths) (x : ℕ) (c : Coord) (last
   keeps_one T a v low q high = act_other T.action a v q (⊎_elim (λ same_one. absurd (let e : (T.action q).stage ≡ (T.action a).stage = ap (λ (r : Act). (T.action r).stage) (same_is q a same_one) in omega (arith, high, e, low))) (λ none. none) (by_cases (same q a)))
 
   -- an action of the tree changes that isn't decided
-  frame_one : (T : State) → Frame T → (w : Uid) (b : Branch) → branch_of w t ≡ Some b → is_action (act w) ≡ true → (T.action (act w)).stage ≤ 1 → (v : Action) → Frame (with_one T (act w) v)
-  frame_one T g w b there its low v = record {
+  frame_one : (T : State) → Frame T → (w : Uid) (b : Branch) → branch_of w t ≡ Some b → is_action (act w) ≡ true → (T.action (act w)).stage ≤ 1 → (v : Action) → EndsSo (act w) v → Frame (with_one T (act w) v)
+  frame_one T g w b there its low v so = record {
     rest = ap (λ (s : State). record s { action = at_act T.action (act w) v }) g.rest;
     others = λ a far. act_other T.action (act w) v a (⊎_elim (λ same_one. absurd (far (w, b, there, ap root (same_is a (act w) same_one)))) (λ none. none) (by_cases (same a (act w)))) ∙ g.others a far;
     ended = λ a high. act_other T.action (act w) v a (⊎_elim (λ same_one. absurd (let e : (T.action a).stage ≡ (T.action (act w)).stage = ap (λ (r : Act). (T.action r).stage) (same_is a (act w) same_one) in let k : (T.action a).stage ≡ (S.action a).stage = ap (λ (r : Action). r.stage) (g.ended a high) in omega (arith, high, e, k, low))) (λ none. none) (by_cases (same a (act w)))) ∙ g.ended a high;
     idle = λ a is. ⊎_elim (λ same_one. inl (w, b, there, same_is a (act w) same_one)) (λ none. ⊎_elim (λ here. inl here) (λ old. inr (act_other T.action (act w) v a none ∙ old)) (g.idle a is)) (by_cases (same a (act w)));
     units = λ n. (let e = act_other T.action (act w) v (Root n) (unit_other n (act w) its) in ⊎_elim (λ old. inl (e ∙ old)) (λ three. inr (ap (λ (r : Action). r.stage) e ∙ three)) (g.units n));
     spared = λ u is. act_other T.action (act w) v (Root (root (act u))) (unit_other (root (act u)) (act w) its) ∙ g.spared u is;
+    ends = λ a is. ⊎_elim (λ same_one. subst (λ (k : Act). EndsSo k (at_act T.action (act w) v k)) (sym (same_is a (act w) same_one)) (subst (EndsSo (act w)) (sym (act_here T.action (act w) v)) so)) (λ none. subst (EndsSo a) (sym (act_other T.action (act w) v a none)) (g.ends a is)) (by_cases (same a (act w)));
   }
 
   stand_one : (T : State) (w : Uid) (v : Action) → ((u : Uid) (b : Branch) → branch_of u t ≡ Some b → is_action (act u) ≡ true → u ≢ w → Stands T u) → ((last ≡ Some w) × (v.stage ≡ 2)) ⊎ ((last ≢ Some w) × HasEnded v) → AllStand (with_one T (act w) v)
@@ -95,7 +102,7 @@ module _ (act : Acts) (code : Codes) (paths : Paths) (x : ℕ) (c : Coord) (last
   -- ---- the decision
 
   frame_none : Frame S
-  frame_none = record { rest = refl; others = λ a far. refl; ended = λ a high. refl; idle = λ a is. inr refl; units = λ n. inl refl; spared = λ u is. refl }
+  frame_none = record { rest = refl; others = λ a far. refl; ended = λ a high. refl; idle = λ a is. inr refl; units = λ n. inl refl; spared = λ u is. refl; ends = λ a is. inl refl }
 
   seen : (u : Uid) (b : Branch) → branch_of u t ≡ Some b → is_action (act u) ≡ true → ((S.action (act u)).stage ≤ 1) ⊎ HasEnded (S.action (act u))
   seen u b there its =
@@ -114,7 +121,7 @@ module _ (act : Acts) (code : Codes) (paths : Paths) (x : ℕ) (c : Coord) (last
     state = with_one S (act v) mid;
     run = step (Decide (act v)) (top, at_one, it.backed.calls, it.backed.includes) stay;
     holds = (
-      frame_one S frame_none v it.branch it.there (top_action (act v) top) (omega (arith, at_one)) mid,
+      frame_one S frame_none v it.branch it.there (top_action (act v) top) (omega (arith, at_one)) mid (inr ((v, it.branch, it.there, refl), inr refl)),
       stand_one S v mid (λ u b there its other. inr ((λ k. other (cc (sym k ∙ is))), seen u b there its)) (inl (is, refl)),
     );
   }
@@ -159,6 +166,11 @@ module _ (act : Acts) (code : Codes) (paths : Paths) (x : ℕ) (c : Coord) (last
           gone : Action
           gone = record (T.action (act w)) { stage = 4 }
 
+          so : EndsSo (act w) (T.action (act w)) → EndsSo (act w) gone
+          so (inl is) = inr ((w, b, there, refl), inl (ap aborted is))
+          so (inr (here, inl is)) = inr (here, inl (ap aborted is))
+          so (inr (here, inr is)) = inr (here, inl (ap aborted is))
+
           by : Stands T w → Goes T (Further T (λ V. is_action (act w) ≡ true → IsSettled V w))
           by (inl d) = nothing (λ h. inl d.0)
           by (inr (other, inr done)) = nothing (λ h. inr done)
@@ -166,7 +178,7 @@ module _ (act : Acts) (code : Codes) (paths : Paths) (x : ℕ) (c : Coord) (last
             state = with_one T (act w) gone;
             run = step (Abort (act w)) (its, low) stay;
             holds = (
-              frame_one T g w b there its low gone,
+              frame_one T g w b there its low gone (so (g.ends (act w) its)),
               stand_one T w gone (λ u q found h apart. all u q found h) (inr (other, inr refl)),
               keeps_one T (act w) gone low,
               λ h. inr (inr (ap (λ (r : Action). r.stage) (act_here T.action (act w) gone))),
@@ -275,6 +287,7 @@ module _ (act : Acts) (code : Codes) (paths : Paths) (x : ℕ) (c : Coord) (last
                 idle = λ a is. ⊎_elim (λ here. inl here) (λ old. inr (act_other T.action (Root n) over_now a (off a is) ∙ old)) (g.idle a is);
                 units = λ k. units_then k (same (Root k) (Root n)) refl;
                 spared = λ w is. act_other T.action (Root n) over_now (Root (root (act w))) (apart (root (act w)) (free w is)) ∙ g.spared w is;
+                ends = λ a is. subst (EndsSo a) (sym (act_other T.action (Root n) over_now a (off a is))) (g.ends a is);
               }
                 where
                   off : (a : Act) → is_action a ≡ true → same a (Root n) ≡ false
@@ -320,7 +333,7 @@ module _ (act : Acts) (code : Codes) (paths : Paths) (x : ℕ) (c : Coord) (last
       units = λ u b there. ⊎_elim (λ l. inl (l.0, l.1, l.2, spare l.0 l.1 u l.2)) (λ three. inr three) (subst (λ (w : Uid). IsUnitDone T (root (act w))) (steady.good.tree.lists.places u b there) (done b (listed u b there)));
       others = λ u b a there home its. ⊎_elim (λ here. inl here) (λ idle. ⊎_elim (λ here. inl here) (λ old. inr (ap (λ (r : Action). r.stage) old ∙ idle.stage)) (g.idle a its)) (let k = sees.actions in k.others u b a there home its);
     },
-    record { rest = g.rest; others = g.others; ended = g.ended },
+    record { rest = g.rest; others = g.others; ended = g.ended; ends = g.ends },
   )
     where
       decided : (u : Uid) → last ≡ Some u → Stands T u → (T.action (act u)).stage ≡ 2
@@ -400,7 +413,7 @@ module _ (act : Acts) (t : Tree) (u : Uid) (p : ℕ) (S : State) (h : HasStopped
   }
 
   abbrev Found : State → Type 0
-  Found T = HasStopped act t None T × OnlyActed n S T × (T.now ≡ p + 1) × ((T.action (act u)).stage ≡ 3)
+  Found T = HasStopped act t None T × OnlyActed n S T × (T.now ≡ p + 1) × ((T.action (act u)).stage ≡ 3) × ChangesOne (act u) (committed_at p (S.action (act u))) S T
 
   told_run : Goes S (λ T. T ≡ told)
   told_run = record { state = told; run = step (Report (act u) p) (its.2, its.3, now) stay; holds = refl }
@@ -418,7 +431,7 @@ module _ (act : Acts) (t : Tree) (u : Uid) (p : ℕ) (S : State) (h : HasStopped
   records_found = ⊎_elim unit_zero unit_over (h.units u its.0 its.1)
     where
       unit_over : (S.action (Root n)).stage ≡ 3 → Goes S Found
-      unit_over three = goes_to told_run (λ T is. subst Found (sym is) (all_ended told told_here (ap (λ (a : Action). a.stage) (told_unit n) ∙ three) (λ a acts other. act_other S.action (act u) done a other) (λ k other. told_unit k), told_only, refl, told_here))
+      unit_over three = goes_to told_run (λ T is. subst Found (sym is) (all_ended told told_here (ap (λ (a : Action). a.stage) (told_unit n) ∙ three) (λ a acts other. act_other S.action (act u) done a other) (λ k other. told_unit k), told_only, refl, told_here, changes_one S (act u) done (p + 1)))
 
       over_now : Action
       over_now = record (told.action (Root n)) { stage = 3 }
@@ -435,6 +448,7 @@ module _ (act : Acts) (t : Tree) (u : Uid) (p : ℕ) (S : State) (h : HasStopped
           acted_both n S told V told_only (only_acted told (Root n) over_now (p + 1) (omega (arith, zero_now))),
           refl,
           mine,
+          record { one = λ e. act_other told.action (Root n) over_now (act u) (off (act u) e) ∙ act_here S.action (act u) done; others = λ a acts other. act_other told.action (Root n) over_now a (off a acts) ∙ act_other S.action (act u) done a other },
         );
       }
         where

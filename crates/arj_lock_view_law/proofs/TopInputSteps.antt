@@ -28,6 +28,7 @@ use Rattle.arj_lock_view_law.specs.Actions.{IsSteady, SeesAction, stage_of}
 use Rattle.arj_lock_view_law.specs.Acts.{Acts}
 use Rattle.arj_lock_view_law.specs.Calling.{IsReached}
 use Rattle.arj_lock_view_law.specs.Copies.{Codes}
+use Rattle.arj_lock_view_law.specs.Ending.{ChangesOne, called_at, committed_at, moved_by, now_by}
 use Rattle.arj_lock_view_law.specs.Going.{Goes}
 use Rattle.arj_lock_view_law.specs.Covers.{HasOfUnit}
 use Rattle.arj_lock_view_law.specs.Inputs.{AreTopped, HasLowGrant, IsOfUnit, OnlyEnded, SeesWhole, TopCommitsAreTaken, plan_now}
@@ -113,6 +114,7 @@ module _ (act : Acts) (code : Codes) (paths : Paths) (x p : ℕ) (c : Coord) (u 
     only : OnlyActed unit S T
     then : T.now ≡ p + 1
     one : (T.action (act u)).stage ≡ 1
+    changed : ChangesOne (act u) (called_at p (S.action (act u))) S T
     plan : SeesPlan x (act u) pl T
     kept : AreKept x (act u) pl T
 
@@ -122,6 +124,7 @@ module _ (act : Acts) (code : Codes) (paths : Paths) (x p : ℕ) (c : Coord) (u 
     only = y.1;
     then = y.2;
     one = y.3;
+    changed = record { one = λ its_one. y.4; others = λ a its_one other. y.5 a other };
     plan = plan_T T y.1 y.3 y.5;
     kept = subst (AreKept x (act u) pl) (sym (let o = y.1 in o.rest)) keeps;
   })
@@ -158,8 +161,8 @@ module _ (act : Acts) (code : Codes) (paths : Paths) (x p : ℕ) (c : Coord) (u 
                 (by_cases (same (top a) (act u)))),
           )
 
-  abbrev After : Coord → State → Type 0
-  After e V = SeesWhole act code x e V × (OnlyEnded unit S V × (V.now ≤ p + 2))
+  abbrev After : CommitStep → Coord → State → Type 0
+  After st e V = SeesWhole act code x e V × (OnlyEnded unit S V × (V.now ≡ now_by st (p + 1) (p + 1)) × ChangesOne (act u) (moved_by st (p + 1) (called_at p (S.action (act u)))) S V)
 
   -- an action's work by then
   its_work : (m : Machine) (w : Uid) (q : Doing) → w ≡ u → doing_of w (commits_in u m c) ≡ Some q → q.now ≡ Committing m
@@ -185,14 +188,14 @@ module _ (act : Acts) (code : Codes) (paths : Paths) (x p : ℕ) (c : Coord) (u 
   }
 
   -- it asks
-  asks : (m : Machine) → begin_vote (servers_of pl) pl ≡ Asks m → (let q = plan_of m in q.req) ≡ pl.req + 1 → Goes S (After (let a = asks_machine m (commits_in u m c) in a.part))
+  asks : (m : Machine) → begin_vote (servers_of pl) pl ≡ Asks m → (let q = plan_of m in q.req) ≡ pl.req + 1 → Goes S (After (Asks m) (let a = asks_machine m (commits_in u m c) in a.part))
   asks m is number = then_run (called m (let e = req_is in omega (arith, e, number))) (λ T run y.
       to_run (commits_set_out x (act u) pl T (reached.0, go_on reached.1 run) y.one y.kept y.plan) (λ V run_V z.
       let sent = z.1 in
       let coord_V : SeesCoord act code x (commits_in u m c) V = subst (SeesCoord act code x (commits_in u m c)) (sym sent.rest) (coord_sent act code x (commits_in u m c) T V.net sent.sent y.coord) in
       let at_V = whole_at m V (go_on run run_V) (ap (λ (s : State). s.includes) sent.rest ∙ ap (λ (s : State). s.includes) (let o = y.only in o.rest)) coord_V (subst (λ (t : CommitStep). SeesNext x (act u) t V) is z.0) in (
         quiet_whole act code x (commits_in u m c) (let a = asks_machine m (commits_in u m c) in a.part) V (reached.0, go_on reached.1 (go_on run run_V)) (moves_asks x (let q = plan_of m in q.path) (let q = plan_of m in q.req) (waiting m) (commits_in u m c) nobody nobody) at_V (commits_ask_only act code x m (commits_in u m c) V coord_V),
-        (only_all T V y.only sent, (let e : V.now ≡ T.now = ap (λ (s : State). s.now) sent.rest in let f = y.then in omega (arith, e, f))),
+        (only_all T V y.only sent, ap (λ (s : State). s.now) sent.rest ∙ y.then, record { one = λ its_one. ap (λ (s : State). s.action (act u)) sent.rest ∙ (let o = y.changed in o.one its_one); others = λ a its_one other. ap (λ (s : State). s.action a) sent.rest ∙ (let o = y.changed in o.others a its_one other) }),
       )))
 
   -- or is decided
@@ -219,12 +222,12 @@ module _ (act : Acts) (code : Codes) (paths : Paths) (x p : ℕ) (c : Coord) (u 
       placed = λ w q there. free.steady.placed w q (ap (λ (e : Coord). branch_of w e.tree) (sym c'_is) ∙ there);
     }
 
-    decides : begin_vote (servers_of pl) pl ≡ Decides pl → Goes S (After (let v = decide pl c' in v.part))
+    decides : begin_vote (servers_of pl) pl ≡ Decides pl → Goes S (After (Decides pl) (let v = decide pl c' in v.part))
     decides is = then_run (called m0 (let e = req_is in omega (arith, e))) (λ T run y.
         to_run (step_goes act code paths x (p + 1) c' u b (h m0 d) m0 intents T (reached.0, go_on reached.1 run) steady' (ap (λ (e : Coord). branch_of u e.tree) c'_is ∙ free.there) free.unended (ap (doing_of u) c'_is ∙ doing_put u (h m0 d) d c free.works) refl (omega arith) (let e = y.then in omega (arith, e))
         (whole_at m0 T run (ap (λ (s : State). s.includes) (let o = y.only in o.rest)) y.coord (y.plan, λ q there. absurd (in_from q [] (subst (λ (us : List Used). Contains us q) unused there))))
         (Decides pl) (refl, refl) tt (subst (λ (t : CommitStep). Goes T (λ V. SeesNext x (act u) t V × OnlySent T V)) is (commits_set_out x (act u) pl T (reached.0, go_on reached.1 run) y.one y.kept y.plan)))
-        (λ V run_V z. (z.0, (both T V y.only z.1.0, (let l = z.1.1 in omega (arith, l))))))
+        (λ V run_V z. (z.0, (both T V y.only z.1.0, z.1.1, record { one = λ its_one. (let o = z.1.2 in o.one its_one) ∙ ap (committed_at (p + 1)) (let o = y.changed in o.one its_one); others = λ a its_one other. (let o = z.1.2 in o.others a its_one other) ∙ (let o = y.changed in o.others a its_one other) }))))
       where
         both : (T V : State) → OnlyActed unit S T → OnlyEnded unit T V → OnlyEnded unit S V
         both T V o e = record {
@@ -241,10 +244,10 @@ module _ (act : Acts) (code : Codes) (paths : Paths) (x p : ℕ) (c : Coord) (u 
         ∙ (λ i. set_doing u (record d { req = req_is i; now = Idle }) (record c { tree = ended_at u ending.Commit c.tree }))
         ∙ sym (ended_is c u b d free.there free.works ending.Commit)
 
-  top_goes : Goes S (After (let e = commit_action b intents c in e.part))
-  top_goes = subst (λ (e : Coord). Goes S (After e)) (sym part_is) (⊎_elim
-      (λ f. subst (λ (t : CommitStep). Goes S (After (let e = step_commit u t intents c in e.part))) (sym f.1) (asks f.0 f.1 f.2))
-      (λ f. subst (λ (t : CommitStep). Goes S (After (let e = step_commit u t intents c in e.part))) (sym f.0) (subst (λ (e : Coord). Goes S (After e)) (decided_same f.1) (decides f.1 f.0)))
+  top_goes : Goes S (After (begin_vote (servers_of pl) pl) (let e = commit_action b intents c in e.part))
+  top_goes = subst (λ (e : Coord). Goes S (After (begin_vote (servers_of pl) pl) e)) (sym part_is) (⊎_elim
+      (λ f. subst (λ (t : CommitStep). Goes S (After t (let e = step_commit u t intents c in e.part))) (sym f.1) (asks f.0 f.1 f.2))
+      (λ f. subst (λ (t : CommitStep). Goes S (After t (let e = step_commit u t intents c in e.part))) (sym f.0) (subst (λ (e : Coord). Goes S (After (Decides pl) e)) (decided_same f.1) (decides f.1 f.0)))
       (sets_vote (servers_of pl) pl))
     where
       part_is : (let e = commit_action b intents c in e.part) ≡ (let e = step_commit u (begin_vote (servers_of pl) pl) intents c in e.part)

@@ -14,6 +14,7 @@ use Rattle.arj_lock_law.specs.State.{Call, Include, State, Alive, Covered}
 use Rattle.arj_part_law.specs.Copies.{Paths}
 use Rattle.arj_lock_view_law.specs.Acts.{Acts}
 use Rattle.arj_lock_view_law.specs.Actions.{IsHere, IsLone, IsSteady, SeesActions}
+use Rattle.arj_lock_view_law.specs.Ending.{ChangesOne, KeepsActions, aborted, called_at, committed_at}
 use Rattle.arj_lock_view_law.specs.Going.{Goes}
 
 -- An open action of a coordinator that waits for nothing, and nothing above or below it waits.
@@ -47,19 +48,19 @@ IsEndSeen act x c u e S P = Goes S (λ T. SeesActions act x (ended u e c) T.acti
 abbrev pub NestedCommitsAreSeen : Type 0
 NestedCommitsAreSeen = (act : Acts) (paths : Paths) (x p : ℕ) (c : Coord) (u : Uid) (b : Branch) (d : Doing) (S : State)
     → IsFreeToEnd act paths c u b d → b.kind ≡ kind.Nested → b.doomed ≡ false → has_open_child u c.tree ≡ false → CallersAreHere act c.tree S → S.now ≤ p → SeesActions act x c S.action
-    → IsEndSeen act x c u ending.Commit S (λ T. (T.now ≡ p + 1) × ((T.action (act u)).stage ≡ 3) × KeepsUnits S T)
+    → IsEndSeen act x c u ending.Commit S (λ T. (T.now ≡ p + 1) × ((T.action (act u)).stage ≡ 3) × KeepsUnits S T × ChangesOne (act u) (committed_at p (S.action (act u))) S T)
 
 -- An open action that isn't serializing is aborted.
 abbrev pub AbortionsAreSeen : Type 0
 AbortionsAreSeen = (act : Acts) (paths : Paths) (x : ℕ) (c : Coord) (u : Uid) (b : Branch) (d : Doing) (S : State)
     → IsSteady act paths c → branch_of u c.tree ≡ Some b → is_some b.ended ≡ false → doing_of u c ≡ Some d → b.kind ≢ kind.Serial → SeesActions act x c S.action
-    → IsEndSeen act x c u ending.Abort S (λ T. (T.now ≡ S.now) × ((T.action (act u)).stage ≡ 4) × KeepsUnits S T)
+    → IsEndSeen act x c u ending.Abort S (λ T. (T.now ≡ S.now) × ((T.action (act u)).stage ≡ 4) × KeepsUnits S T × ChangesOne (act u) (aborted (S.action (act u))) S T)
 
 -- A root ends in which nothing is open: its unit is over.
 abbrev pub UnitsEnd : Type 0
 UnitsEnd = (act : Acts) (paths : Paths) (x : ℕ) (c : Coord) (u : Uid) (b : Branch) (e : End) (S : State)
     → IsSteady act paths c → branch_of u c.tree ≡ Some b → is_some b.ended ≡ false → b.kind ≡ kind.Serial → has_open_child u c.tree ≡ false → SeesActions act x c S.action
-    → IsEndSeen act x c u e S (λ T. (T.now ≡ S.now) × ((T.action (act u)).stage ≡ 3))
+    → IsEndSeen act x c u e S (λ T. (T.now ≡ S.now) × ((T.action (act u)).stage ≡ 3) × KeepsActions S T)
 
 -- No other top of the root is at its commit.
 abbrev pub IsFirst : Acts → Coord → Uid → Type 0
@@ -69,7 +70,7 @@ IsFirst act c u = (w : Uid) (e : Doing) → doing_of w c ≡ Some e → is_commi
 abbrev pub TopsBegin : Type 0
 TopsBegin = (act : Acts) (paths : Paths) (x p : ℕ) (c : Coord) (u : Uid) (b : Branch) (d : Doing) (m : Machine) (S : State)
     → IsFreeToEnd act paths c u b d → b.kind ≢ kind.Serial → b.kind ≢ kind.Nested → b.doomed ≡ false → has_open_child u c.tree ≡ false → CallersAreHere act c.tree S → IsFirst act c u → d.req ≤ (let q = plan_of m in q.req) → S.now ≤ p
-    → SeesActions act x c S.action → Goes S (λ T. SeesActions act x (commits_in u m c) T.action × OnlyActed (root (act u)) S T × (T.now ≡ p + 1) × ((T.action (act u)).stage ≡ 1) × ((T.action (act u)).place ≡ p) × ((a : Act) → same a (act u) ≡ false → T.action a ≡ S.action a))
+    → SeesActions act x c S.action → Goes S (λ T. SeesActions act x (commits_in u m c) T.action × OnlyActed (root (act u)) S T × (T.now ≡ p + 1) × ((T.action (act u)).stage ≡ 1) × (T.action (act u) ≡ called_at p (S.action (act u))) × ((a : Act) → same a (act u) ≡ false → T.action a ≡ S.action a))
 
 -- What the decision of a top stands on: the votes and the confirmation for each call and include that counts.
 pub record IsBacked (m : Act) (S : State) : Type 0 where
@@ -80,10 +81,10 @@ pub record IsBacked (m : Act) (S : State) : Type 0 where
 abbrev pub DecisionsAreSeen : Type 0
 DecisionsAreSeen = (act : Acts) (paths : Paths) (x p : ℕ) (c : Coord) (u : Uid) (b : Branch) (d : Doing) (m : Machine) (S : State)
     → IsSteady act paths c → branch_of u c.tree ≡ Some b → is_some b.ended ≡ false → doing_of u c ≡ Some d → d.now ≡ Committing m → b.kind ≢ kind.Serial → b.kind ≢ kind.Nested → IsBacked (act u) S → S.now ≤ p → SeesActions act x c S.action
-    → IsEndSeen act x c u ending.Commit S (λ T. (T.now ≡ p + 1) × ((T.action (act u)).stage ≡ 3) × KeepsUnits S T)
+    → IsEndSeen act x c u ending.Commit S (λ T. (T.now ≡ p + 1) × ((T.action (act u)).stage ≡ 3) × KeepsUnits S T × ChangesOne (act u) (committed_at p (S.action (act u))) S T)
 
 -- An open unit whose root has ended alone is over: the unit of a plain top, after its end.
 abbrev pub PlainUnitsEnd : Type 0
 PlainUnitsEnd = (act : Acts) (paths : Paths) (x : ℕ) (c : Coord) (u : Uid) (b : Branch) (unit : ℕ) (S : State)
     → IsSteady act paths c → branch_of u c.tree ≡ Some b → is_some b.ended ≡ true → root (act u) ≡ unit → ((w : Uid) (e : Branch) → branch_of w c.tree ≡ Some e → root (act w) ≡ unit → is_some e.ended ≡ true) → (S.action (Root unit)).stage ≡ 0 → SeesActions act x c S.action
-    → Goes S (λ T. SeesActions act x c T.action × OnlyActed unit S T × (T.now ≡ S.now) × ((T.action (Root unit)).stage ≡ 3))
+    → Goes S (λ T. SeesActions act x c T.action × OnlyActed unit S T × (T.now ≡ S.now) × ((T.action (Root unit)).stage ≡ 3) × KeepsActions S T)

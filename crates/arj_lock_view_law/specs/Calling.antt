@@ -21,6 +21,7 @@ use Rattle.arj_part_law.specs.Copies.{Paths}
 use Rattle.arj_lock_view_law.specs.Acts.{Acts}
 use Rattle.arj_lock_view_law.specs.Actions.{IsLone, IsSteady}
 use Rattle.arj_lock_view_law.specs.Copies.{Codes}
+use Rattle.arj_lock_view_law.specs.Ending.{KeepsEnds}
 use Rattle.arj_lock_view_law.specs.Going.{Goes, ShowsBound, ShowsNoted}
 use Rattle.arj_lock_view_law.specs.Named.{binding_at}
 use Rattle.arj_lock_view_law.specs.Roots.{SeesCoord, invoke_of}
@@ -86,10 +87,10 @@ ShowsAnswer act code s o S (AtInvoke k i) (Reply.Invoked (invoked.Conflict h m))
 ShowsAnswer act code s o S (AtInvoke k i) (Reply.Invoked (invoked.Changed w)) = In (machine.Changed (binding_number k.binding)) S.net
 ShowsAnswer act code s o S at r = ⊥
 
--- the call's line, where the answer makes one: at this place, with the value met and the one left
+-- the call's line, where the answer makes one: at this place, with the value met and the one left; and no action ends
 abbrev pub WritesLine : Acts → Codes → ℕ → Steps → Op → State → State → At → Reply → Type 0
-WritesLine act code p s o S T (AtInvoke k i) (Reply.Invoked (invoked.Answered a)) = (v : Value) × (a ≡ answer_of o v) × (T.calls ≡ record { act = act (actor s.path); write = writes o; line = p; sees = code v; gives = code (value_after o v) } ∷ S.calls) × (T.now ≡ p + 1)
-WritesLine act code p s o S T at r = (T.calls ≡ S.calls) × (T.now ≡ S.now)
+WritesLine act code p s o S T (AtInvoke k i) (Reply.Invoked (invoked.Answered a)) = (v : Value) × (a ≡ answer_of o v) × (T.calls ≡ record { act = act (actor s.path); write = writes o; line = p; sees = code v; gives = code (value_after o v) } ∷ S.calls) × (T.now ≡ p + 1) × KeepsEnds S T
+WritesLine act code p s o S T at r = (T.calls ≡ S.calls) × (T.now ≡ S.now) × KeepsEnds S T
 
 -- An answer to a call on the object is taken: the machine goes along, and the coordinator is seen.
 abbrev pub AnswersAreTaken : Type 0
@@ -97,9 +98,9 @@ AnswersAreTaken = (act : Acts) (code : Codes) (paths : Paths) (x p : ℕ) (c : C
     → IsReached S → IsAtWork act paths c u b d → IsCalling x b d s o → S.now ≤ p → ShowsAnswer act code s o S s.at r → SeesCoord act code x c S
     → Goes S (λ T. SeesCoord act code x (let e = heard_call s r c in e.part) T × OnlyCalled (root (act u)) S T × WritesLine act code p s o S T s.at r)
 
--- The lines and calls of the machine are as they were.
+-- The lines and calls of the machine are as they were, and so are the ends of its actions.
 abbrev pub WritesNone : State → State → Type 0
-WritesNone S T = (T.calls ≡ S.calls) × (T.now ≡ S.now)
+WritesNone S T = (T.calls ≡ S.calls) × (T.now ≡ S.now) × KeepsEnds S T
 
 -- A call on the object begins, of an action that waits for nothing: with a Bind, where the root may give up a spoiled binding
 -- before, or with its Invoke under the binding that the root keeps.

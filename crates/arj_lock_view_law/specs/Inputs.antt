@@ -6,7 +6,7 @@ use Rattle.arj_protocol.specs.Ask.{Reply, actor, top_of}
 use Rattle.arj_protocol.specs.Asking.{again_all, begin_action, call, commit_action, give_up_call, heard_call, include, last_req, moved_commit}
 use Rattle.arj_protocol.specs.Call.{Include as IncludeStore, Steps}
 use Rattle.arj_protocol.specs.Commit as commit
-use Rattle.arj_protocol.specs.Commit.{Machine, Plan, Used}
+use Rattle.arj_protocol.specs.Commit.{Machine, Plan, Used, begin_vote, servers_of}
 use Rattle.arj_protocol.specs.Coord.{Committing, Coord, Doing, Idle, doing_of, new_coord, plan_for, root_at}
 use Rattle.arj_protocol.specs.Effect.{Intent}
 use Rattle.arj_protocol.specs.Ending.{abort_action, acked}
@@ -21,6 +21,7 @@ use Rattle.arj_lock_view_law.specs.Acts.{Acts}
 use Rattle.arj_lock_view_law.specs.Begins.{IsBeginning}
 use Rattle.arj_lock_view_law.specs.Calling.{IsAtWork, IsCalling, IsElsewhere, IsReached, IsWaiting, OnlyCalled, ShowsAnswer, WritesLine, WritesNone}
 use Rattle.arj_lock_view_law.specs.Copies.{Codes}
+use Rattle.arj_lock_view_law.specs.Ending.{AbortsOnly, ChangesOne, aborted, called_at, committed_at, moved_by, now_by}
 use Rattle.arj_lock_view_law.specs.Going.{Goes}
 use Rattle.arj_lock_view_law.specs.Including.{OnlyIncluded, SeesIncludes, ShowsInclude, WritesInclude, included_by}
 use Rattle.arj_lock_view_law.specs.Plans.{AreKept, SeesMachine, ShowsToCommit}
@@ -65,13 +66,13 @@ StopsAreTaken = (act : Acts) (code : Codes) (paths : Paths) (x : ℕ) (c : Coord
 abbrev pub NestedCommitsAreTaken : Type 0
 NestedCommitsAreTaken = (act : Acts) (code : Codes) (paths : Paths) (x p : ℕ) (c : Coord) (u : Uid) (b : Branch) (d : Doing) (intents : List (Uid × Intent)) (S : State)
     → IsReached S → IsFreeToEnd act paths c u b d → (b.kind ≡ kind.Nested) ⊎ (b.kind ≡ kind.Serial) → b.doomed ≡ false → has_open_child u c.tree ≡ false → S.now ≤ p → SeesWhole act code x c S
-    → GoesWhole act code x (let e = commit_action b intents c in e.part) S (λ T. OnlyEnded (root (act u)) S T × (T.now ≤ p + 1))
+    → GoesWhole act code x (let e = commit_action b intents c in e.part) S (λ T. OnlyEnded (root (act u)) S T × (T.now ≤ p + 1) × ChangesOne (act u) (committed_at p (S.action (act u))) S T)
 
 -- A commit of a doomed action: it is aborted.
 abbrev pub DoomedCommitsAreTaken : Type 0
 DoomedCommitsAreTaken = (act : Acts) (code : Codes) (paths : Paths) (x p : ℕ) (c : Coord) (u : Uid) (b : Branch) (d : Doing) (intents : List (Uid × Intent)) (S : State)
     → IsReached S → IsFreeToEnd act paths c u b d → b.doomed ≡ true → has_open_child u c.tree ≡ false → S.now ≤ p → SeesWhole act code x c S
-    → GoesWhole act code x (let e = commit_action b intents c in e.part) S (λ T. OnlyEnded (root (act u)) S T × (T.now ≤ p + 1))
+    → GoesWhole act code x (let e = commit_action b intents c in e.part) S (λ T. OnlyEnded (root (act u)) S T × (T.now ≡ S.now) × ChangesOne (act u) (aborted (S.action (act u))) S T)
 
 -- the action is the top's, or of a committed top of its unit
 abbrev pub IsOfUnit : Act → Act → State → Type 0
@@ -95,19 +96,19 @@ abbrev pub TopCommitsAreTaken : Type 0
 TopCommitsAreTaken = (act : Acts) (code : Codes) (paths : Paths) (x p : ℕ) (c : Coord) (u : Uid) (b : Branch) (d : Doing) (intents : List (Uid × Intent)) (S : State)
     → IsReached S → (free : IsFreeToEnd act paths c u b d) → AreBegun (let k = free.steady in k.actions) → AreTopped act c → b.kind ≢ kind.Serial → b.kind ≢ kind.Nested → b.doomed ≡ false → has_open_child u c.tree ≡ false → IsFirst act c u → S.now ≤ p
     → HasLowGrant x (act u) (plan_now b c) S → AreKept x (act u) (plan_now b c) S → SeesWhole act code x c S
-    → GoesWhole act code x (let e = commit_action b intents c in e.part) S (λ T. OnlyEnded (root (act u)) S T × (T.now ≤ p + 2))
+    → GoesWhole act code x (let e = commit_action b intents c in e.part) S (λ T. let st = begin_vote (servers_of (plan_now b c)) (plan_now b c) in OnlyEnded (root (act u)) S T × (T.now ≡ now_by st (p + 1) (p + 1)) × ChangesOne (act u) (moved_by st (p + 1) (called_at p (S.action (act u)))) S T)
 
 -- An answer to a commit under way is taken: it stays, asks the next nodes, is decided, or is aborted.
 abbrev pub CommitAnswersAreHeard : Type 0
 CommitAnswersAreHeard = (act : Acts) (code : Codes) (paths : Paths) (x p from : ℕ) (c : Coord) (u : Uid) (b : Branch) (d : Doing) (k : Machine) (r : Reply) (intents : List (Uid × Intent)) (S : State)
     → IsReached S → IsSteady act paths c → branch_of u c.tree ≡ Some b → is_some b.ended ≡ false → doing_of u c ≡ Some d → d.now ≡ Committing k → (let q = commit.plan_of k in d.req ≤ q.req) → S.now ≤ p → ShowsToCommit x (act u) k from r S → SeesWhole act code x c S
-    → GoesWhole act code x (let e = moved_commit u (commit.answered from k r) intents c in e.part) S (λ T. OnlyEnded (root (act u)) S T × (T.now ≤ p + 1))
+    → GoesWhole act code x (let e = moved_commit u (commit.answered from k r) intents c in e.part) S (λ T. let st = (let j = commit.answered from k r in j.step) in OnlyEnded (root (act u)) S T × (T.now ≡ now_by st p S.now) × ChangesOne (act u) (moved_by st p (S.action (act u))) S T)
 
 -- So is one that is given up.
 abbrev pub CommitsAreLost : Type 0
 CommitsAreLost = (act : Acts) (code : Codes) (paths : Paths) (x p : ℕ) (c : Coord) (u : Uid) (b : Branch) (d : Doing) (k : Machine) (intents : List (Uid × Intent)) (S : State)
     → IsReached S → IsSteady act paths c → branch_of u c.tree ≡ Some b → is_some b.ended ≡ false → doing_of u c ≡ Some d → d.now ≡ Committing k → (let q = commit.plan_of k in d.req ≤ q.req) → S.now ≤ p → SeesWhole act code x c S
-    → GoesWhole act code x (let e = moved_commit u (commit.given_up k) intents c in e.part) S (λ T. OnlyEnded (root (act u)) S T × (T.now ≤ p + 1))
+    → GoesWhole act code x (let e = moved_commit u (commit.given_up k) intents c in e.part) S (λ T. let st = (let j = commit.given_up k in j.step) in OnlyEnded (root (act u)) S T × (T.now ≡ now_by st p S.now) × ChangesOne (act u) (moved_by st p (S.action (act u))) S T)
 
 -- ---- aborts
 
@@ -115,7 +116,7 @@ CommitsAreLost = (act : Acts) (code : Codes) (paths : Paths) (x p : ℕ) (c : Co
 abbrev pub ActionsAreAborted : Type 0
 ActionsAreAborted = (act : Acts) (code : Codes) (paths : Paths) (x : ℕ) (c : Coord) (u : Uid) (b : Branch) (intents : List (Uid × Intent)) (S : State)
     → IsReached S → IsSteady act paths c → branch_of u c.tree ≡ Some b → is_some b.ended ≡ false → SeesWhole act code x c S
-    → GoesWhole act code x (let e = abort_action u intents c in e.part) S (λ T. OnlyEnded (root (act u)) S T × ((T.now ≡ S.now) × AreAborted act paths c.tree u T))
+    → GoesWhole act code x (let e = abort_action u intents c in e.part) S (λ T. OnlyEnded (root (act u)) S T × ((T.now ≡ S.now) × AreAborted act paths c.tree u T × AbortsOnly act paths c.tree u S T))
 
 -- ---- calls and includes
 

@@ -5,6 +5,7 @@ pub mod Rows
 pub mod Named
 pub mod Going
 pub mod Bindings
+pub mod Ending
 pub mod Ends
 pub mod Copies
 pub mod Commits
@@ -30,3 +31,4 @@ pub mod Sent
 pub mod Handling
 pub mod Namings
 pub mod Hearing
+pub mod Lines

@@ -16,6 +16,7 @@ use Rattle.arj_lock_view_law.specs.Acting.{IsBacked, OnlyActed}
 use Rattle.arj_lock_view_law.specs.Actions.{IsHere, IsSteady}
 use Rattle.arj_lock_view_law.specs.Acts.{Acts}
 use Rattle.arj_lock_view_law.specs.Copies.{Codes}
+use Rattle.arj_lock_view_law.specs.Ending.{AbortsOnly, ChangesOne, aborted, committed_at, decided}
 use Rattle.arj_lock_view_law.specs.Going.{Goes}
 use Rattle.arj_lock_view_law.specs.Roots.{SeesCoord}
 
@@ -33,7 +34,7 @@ AreAborted act paths t u T = (w : Uid) (b : Branch) → branch_of w t ≡ Some b
 abbrev pub AbortionsGoDown : Type 0
 AbortionsGoDown = (act : Acts) (code : Codes) (paths : Paths) (x : ℕ) (c : Coord) (u : Uid) (b : Branch) (intents : List (Uid × Intent)) (S : State)
     → IsSteady act paths c → branch_of u c.tree ≡ Some b → is_some b.ended ≡ false → AreUnitsOver act c.tree S → SeesCoord act code x c S
-    → Goes S (λ T. SeesCoord act code x (let e = abort_action u intents c in e.part) T × OnlyActed (root (act u)) S T × (T.now ≡ S.now) × AreAborted act paths c.tree u T × AreUnitsOver act (let e = abort_action u intents c in let k = e.part in k.tree) T)
+    → Goes S (λ T. SeesCoord act code x (let e = abort_action u intents c in e.part) T × OnlyActed (root (act u)) S T × (T.now ≡ S.now) × AreAborted act paths c.tree u T × AreUnitsOver act (let e = abort_action u intents c in let k = e.part in k.tree) T × AbortsOnly act paths c.tree u S T)
 
 -- ---- a stop
 
@@ -71,11 +72,12 @@ pub record HasStopped (act : Acts) (t : Tree) (last : Option Uid) (S : State) : 
 abbrev pub IsUnitOf : Acts → Tree → ℕ → Type 0
 IsUnitOf act t unit = (u : Uid) × (b : Branch) × (branch_of u t ≡ Some b) × (unit ≡ root (act u))
 
--- Only actions of the tree's units changed, and none that had ended.
+-- Only actions of the tree's units changed, and none that had ended: an action of the tree was aborted, or is decided, and units are over.
 pub record OnlyStopped (act : Acts) (t : Tree) (S T : State) : Type 0 where
   pub rest : T ≡ record S { action = T.action }
   pub others : (a : Act) → (IsUnitOf act t (root a) → ⊥) → T.action a ≡ S.action a
   pub ended : (a : Act) → 3 ≤ (let k = S.action a in k.stage) → T.action a ≡ S.action a
+  pub ends : (a : Act) → is_action a ≡ true → (T.action a ≡ S.action a) ⊎ (IsHere act t a × ((T.action a ≡ aborted (S.action a)) ⊎ (T.action a ≡ decided (S.action a))))
 
 -- A node stops: the coordinator's open actions are aborted, but for a top whose decision is on the disk, which is decided.
 abbrev pub StopsAreSeen : Type 0
@@ -92,7 +94,7 @@ StopsStay = (act : Acts) (t : Tree) (last : Option Uid) (S T : State) → ((a : 
 -- coordinator has ended.
 abbrev pub RecordsAreFound : Type 0
 RecordsAreFound = (act : Acts) (t : Tree) (u : Uid) (p : ℕ) (S : State) → HasStopped act t (Some u) S → S.now ≤ p
-    → Goes S (λ T. HasStopped act t None T × OnlyActed (root (act u)) S T × (T.now ≡ p + 1) × ((let a = T.action (act u) in a.stage) ≡ 3))
+    → Goes S (λ T. HasStopped act t None T × OnlyActed (root (act u)) S T × (T.now ≡ p + 1) × ((let a = T.action (act u) in a.stage) ≡ 3) × ChangesOne (act u) (committed_at p (S.action (act u))) S T)
 
 -- The new coordinator, with the records that it found, is seen in every state.
 abbrev pub RestartedCoordsAreSeen : Type 0
