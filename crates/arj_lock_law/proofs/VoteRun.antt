@@ -15,12 +15,16 @@ use Rattle.arj_lock_law.proofs.VoteSteps.{step_votes}
 pub start_votes : (x : ℕ) → Votes (start x)
 start_votes x = record { tops = λ m is. record { asked = λ e. (let never : false ≡ true = e in absurd (cc)); right = λ c k. absurd k.call; under = λ c k. absurd k.call }; mail = λ m q i. absurd i }
 
-pub run_votes : {s t : State} → Run s t → Holds s → Values s → Votes s → Holds t × Values t × Votes t
-run_votes stay h v o = (h, v, o)
-run_votes {s} (step e guard more') h v o =
+-- a run keeps all three: order, values and votes
+pub run_all_votes : {s t : State} → Run s t → Holds s → Values s → Votes s → Holds t × Values t × Votes t
+run_all_votes stay h v o = (h, v, o)
+run_all_votes {s} (step e guard more') h v o =
     let k = step_keeps e s guard h in
     let w = step_values e s guard h v k.0 in
-    run_votes more' k.1 w (step_votes e s guard h v k.0 k.1 w o)
+    run_all_votes more' k.1 w (step_votes e s guard h v k.0 k.1 w o)
+
+pub run_votes : {s t : State} → Run s t → Holds s → Values s → Votes s → Holds t × Votes t
+run_votes run h v o = let k = run_all_votes run h v o in (k.0, k.2)
 
 pub votes_are_right : {s : State} → Holds s → Votes s → VotesAreRight s
 votes_are_right {s} h o = record {
