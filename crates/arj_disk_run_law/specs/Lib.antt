@@ -1,5 +1,6 @@
 pub mod Entries
 pub mod Facts
+pub mod Heard
 pub mod Kinds
 pub mod Part
 pub mod Places
