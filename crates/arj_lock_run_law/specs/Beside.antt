@@ -1,0 +1,129 @@
+-- What a run's own relations have to give beside what is seen in the machine, so that what naming and servers do is seen again.
+use Rattle.std.specs.Prelude.{◌≡◌, ◌<◌, ◌+◌, ◌*◌, ◌||◌, ℕ, List, [], true, false, Some, Contains, is_some}
+use Rattle.arj_protocol.specs.Words.{End, Message, Path, Row, Uid, before_last, is_held_by, is_on}
+use Rattle.arj_protocol.specs.Words.ending
+use Rattle.arj_protocol.specs.Words.kind
+use Rattle.arj_protocol.specs.Words.message
+use Rattle.arj_protocol.specs.Ask.{last_end, top_of}
+use Rattle.arj_protocol.specs.Confirm.{recovered_naming}
+use Rattle.arj_protocol.specs.Copy.{Copy}
+use Rattle.arj_protocol.specs.Effect.{Disk, is_prepared}
+use Rattle.arj_protocol.specs.Named.{Named}
+use Rattle.arj_protocol.specs.Naming.{Naming}
+use Rattle.arj_protocol.specs.Node.{Parts}
+use Rattle.arj_protocol.specs.Order.{at_number}
+use Rattle.arj_protocol.specs.Server.{Server, is_told}
+use Rattle.arj_protocol.specs.Tree.{root_of}
+use Rattle.arj_lock_law.specs.Actions as machine
+use Rattle.arj_lock_law.specs.Actions.{Act, Root, is_top, root}
+use Rattle.arj_lock_law.specs.State as machine_state
+use Rattle.arj_lock_law.specs.State.{State}
+use Rattle.arj_part_law.specs.Actions.{Action, act_of, owners_of}
+use Rattle.arj_run_law.specs.Worlds.{IsGoodOf}
+use Rattle.arj_view_law.specs.Seen.{In, Post, Seen, up}
+use Rattle.arj_lock_view_law.specs.Namings.{HasNothingAt, IsGoodAt}
+use Rattle.arj_lock_view_law.specs.Telling.{HasNoneLeft, View}
+use Rattle.arj_lock_run_law.specs.Fixed.{Agrees, Fixed, view_of}
+use Rattle.arj_lock_run_law.specs.Sees.{SeesLocks}
+
+-- ---- where something comes
+
+-- A node that is up, in what is seen.
+pub record Spot : Type 0 where
+  pub node : ℕ
+  pub disk : Disk
+  pub parts : Parts
+  pub seen : Seen
+
+abbrev pub world_at : Spot → Seen
+world_at s = up s.node s.disk s.parts s.seen
+
+-- The object in a run, in a state of the machine.
+pub record Case : Type 0 where
+  pub fixed : Fixed
+  pub x : ℕ
+  pub begun : List Action
+  pub state : State
+
+-- as a node looks at it
+abbrev pub view_in : Case → ℕ → View
+view_in c k = view_of c.fixed c.x c.begun k
+
+-- Nodes are good, what is fixed agrees with what was done, and the object is seen.
+pub record IsSeenIn (c : Case) (M : Seen) : Type 0 where
+  pub good : IsGoodOf c.begun M
+  pub agrees : Agrees c.fixed c.x c.begun M.sent
+  pub sees : SeesLocks c.fixed c.x c.begun c.state M
+
+-- the action, in the machine's place, and what the machine has of it
+abbrev pub place_in : Case → Uid → Act
+place_in c u = let f = c.fixed in f.act u
+
+-- its unit is over
+abbrev pub IsUnitOver : Case → Uid → Type 0
+IsUnitOver c u = (let S = c.state in let a = S.action (Root (root (place_in c u))) in a.stage) ≡ 3
+
+-- it is a committed top
+abbrev pub IsCommittedTop : Case → Uid → Type 0
+IsCommittedTop c u = (is_top (place_in c u) ≡ true) × ((let S = c.state in let a = S.action (place_in c u) in a.stage) ≡ 3)
+
+-- ---- ends that come
+
+-- the ends that a message tells
+abbrev pub told_in : Message → List (Uid × End)
+told_in (message.Told m) = m.ends
+told_in m = []
+
+-- an abort of this action was told to the node
+pub record IsToldAbort (s : Spot) (u : Uid) : Type 0 where
+  pub post : Post
+  pub sent : In post (let M = s.seen in M.sent)
+  pub to : (let p = post in p.to) ≡ s.node
+  pub told : Contains {X = Uid × End} (told_in (let p = post in p.message)) (u, ending.Abort)
+
+-- a commit of this action was told to the node, as the last end
+pub record IsToldCommit (s : Spot) (u : Uid) : Type 0 where
+  pub post : Post
+  pub sent : In post (let M = s.seen in M.sent)
+  pub to : (let p = post in p.to) ≡ s.node
+  pub told : last_end (told_in (let p = post in p.message)) ≡ Some (u, ending.Commit)
+
+-- ---- what is known of servers
+
+abbrev pub server_at : Spot → Server
+server_at s = let t = s.parts in t.server
+
+-- A server lists each copy under its object. Where an abort comes to it of an action whose unit is over, and that is new to it, nothing of
+-- that is left there that counts; and where one comes of a committed top whose unit isn't over, it didn't vote for that.
+pub record KnowsServer (c : Case) (s : Spot) : Type 0 where
+  pub listed : (y : ℕ) (o : Copy) → Contains {X = ℕ × Copy} (let v = server_at s in v.objects) (y, o) → at_number y (let v = server_at s in v.objects) ≡ Some o
+  pub left : (u : Uid) → IsToldAbort s u → is_told u (server_at s) ≡ false → IsUnitOver c u → HasNoneLeft (view_in c s.node) u (server_at s) c.state
+  pub unvoted : (u : Uid) → IsToldAbort s u → is_told u (server_at s) ≡ false → IsCommittedTop c u → (IsUnitOver c u → ⊥) → is_on (let v = server_at s in v.voted) u ≡ false
+
+-- ---- what is known of naming
+
+-- the machine's naming has confirmed the action, in this incarnation
+abbrev pub IsConfirmedNow : Case → Uid → Type 0
+IsConfirmedNow c u = (let S = c.state in let m = S.naming in m.confirmed (place_in c u)) ≡ true
+
+-- Naming made fewer bindings than are told apart, and the object is good there. An abort that comes to it of a committed top whose
+-- unit isn't over is of one that it didn't confirm. Where the commit of a constituent comes that it confirmed, each row of that can
+-- pass to its serializing action; and of a nested action it has nothing. Where it confirmed a top before, or has entries of it
+-- prepared, the machine's naming confirmed that once, if it was asked to.
+pub record KnowsNaming (c : Case) (s : Spot) (n : Naming) : Type 0 where
+  pub count : n.count + 1 < 4294967296
+  pub good : IsGoodAt (view_in c s.node) (owners_of c.begun) n
+  pub unconfirmed : (u : Uid) → IsToldAbort s u → is_on n.told u ≡ false → IsCommittedTop c u → (IsUnitOver c u → ⊥) → IsConfirmedNow c u → ⊥
+  pub heirs : (o : Named) (a : Action) → at_number c.x n.objects ≡ Some o → Contains c.begun a → a.kind ≡ kind.Constituent → IsToldCommit s (act_of a) → is_on n.told (act_of a) ≡ false → IsConfirmedNow c (act_of a)
+      → (r : Row) → Contains o.rows r → is_held_by (act_of a) r ≡ true → before_last r.holder ≡ Some (root_of a.path)
+  pub nothing : (o : Named) (a : Action) → at_number c.x n.objects ≡ Some o → Contains c.begun a → a.kind ≡ kind.Nested → IsToldCommit s (act_of a) → is_on n.told (act_of a) ≡ false → HasNothingAt n o (act_of a)
+  pub again : (p : Path) (g : ℕ) → machine.In (machine_state.Confirm (place_in c (top_of p)) (g * 4294967296)) (let S = c.state in S.net) → (is_on n.confirmed (top_of p) || is_prepared (top_of p) (let d = s.disk in d.names)) ≡ true → (let S = c.state in S.confirmed (place_in c (top_of p))) ≡ true
+
+-- what is known at the node
+pub record KnowsSpot (c : Case) (s : Spot) : Type 0 where
+  pub server : KnowsServer c s
+  pub naming : (n : Naming) → (let t = s.parts in t.naming) ≡ Some n → KnowsNaming c s n
+
+-- of a node that is down: naming finds the object in the entries
+abbrev pub KnowsEntry : ℕ → ℕ → Disk → Type 0
+KnowsEntry x k d = k ≡ 1 → (inc : ℕ) → is_some (at_number x (let n = recovered_naming inc d.names in n.objects)) ≡ true

@@ -1,0 +1,5 @@
+pub mod Fixed
+pub mod Posts
+pub mod Sees
+pub mod Beside
+pub mod World

@@ -1,0 +1,92 @@
+-- The whole world, as the lock machine of one object has it: each node, up or down, every message that was sent, and what was not
+-- begun yet.
+use Rattle.std.specs.Prelude.{◌≡◌, ◌≢◌, ◌≤◌, ◌⊎◌, ℕ, ◌+◌, true, List, Option, Some, None, Contains, is_some, length}
+use Rattle.arj_protocol.specs.Words.{Uid}
+use Rattle.arj_protocol.specs.Words.ending
+use Rattle.arj_protocol.specs.Effect.{Disk, Intent}
+use Rattle.arj_protocol.specs.Naming.{Naming}
+use Rattle.arj_protocol.specs.Node.{Parts}
+use Rattle.arj_protocol.specs.Order.{at_uid}
+use Rattle.arj_protocol.specs.Step.{Node}
+use Rattle.arj_protocol.specs.Tree.{Branch, Tree, branch_of}
+use Rattle.arj_lock_law.specs.Actions.{Root, is_action, root}
+use Rattle.arj_lock_law.specs.Machine.{Run, start}
+use Rattle.arj_lock_law.specs.State.{State}
+use Rattle.arj_part_law.specs.Actions.{Action, act_of}
+use Rattle.arj_view_law.specs.Seen.{In, Post, Seen}
+use Rattle.arj_lock_view_law.specs.Begins.{IsNewUnit, IsUntouched}
+use Rattle.arj_lock_view_law.specs.Ends.{SeesNothing}
+use Rattle.arj_lock_view_law.specs.Hearing.{SeesNamingIn}
+use Rattle.arj_lock_view_law.specs.Inputs.{SeesWhole}
+use Rattle.arj_lock_view_law.specs.Serving.{IsDown}
+use Rattle.arj_lock_view_law.specs.Stops as stops
+use Rattle.arj_lock_view_law.specs.Stops.{HasStopped}
+use Rattle.arj_lock_view_law.specs.Telling.{HasEnded, Sees, View}
+use Rattle.arj_lock_run_law.specs.Fixed.{Fixed, view_of}
+use Rattle.arj_lock_run_law.specs.Posts.{IsPostSeen}
+
+-- ---- what earlier incarnations left
+
+-- the action has ended, and its unit is over
+pub record IsPast (v : View) (u : Uid) (S : State) : Type 0 where
+  pub ended : is_action (v.family.act u) ≡ true → stops.HasEnded (S.action (v.family.act u))
+  pub over : (let a = S.action (Root (root (v.family.act u))) in a.stage) ≡ 3
+
+-- each action that was begun at this node is one of the tree, or is past
+abbrev pub ArePast : View → Tree → State → Type 0
+ArePast v t S = (a : Action) → Contains v.family.begun a → (let u = act_of a in u.node) ≡ v.node → ((b : Branch) × (branch_of (act_of a) t ≡ Some b)) ⊎ IsPast v (act_of a) S
+
+-- a top with this record is committed, but for one
+abbrev pub AreRecordsOf : View → Option Uid → List (Uid × Intent) → State → Type 0
+AreRecordsOf v last intents S = (u : Uid) (i : Intent) → at_uid u intents ≡ Some i → (last ≡ Some u) ⊎ HasEnded v S u ending.Commit
+
+-- ---- a node
+
+-- A node that is up: its server, its coordinator, and naming where it has that, in the incarnation of its disk; all others of its
+-- actions are past, and each top with a record is committed.
+pub record SeesUp (v : View) (S : State) (d : Disk) (t : Parts) : Type 0 where
+  pub server : Sees v t.server S
+  pub coord : SeesWhole v.family.act v.code v.x t.coord S
+  pub naming : SeesNamingIn v S t.naming
+  pub inc : (n : Naming) → t.naming ≡ Some n → n.inc ≡ d.inc
+  pub there : v.node ≡ 1 → is_some t.naming ≡ true
+  pub past : ArePast v t.coord.tree S
+  pub records : AreRecordsOf v None d.intents S
+
+-- A node that is down: of the actions of its last coordinator all have ended, but for one top, of which the decision is on the disk and
+-- that has no line yet; all others are past, and each other top with a record is committed.
+pub record SeesDown (v : View) (S : State) (d : Disk) : Type 0 where
+  pub server : IsDown v d.inc S
+  pub naming : v.node ≡ 1 → SeesNothing d.inc S
+  pub tree : Tree
+  pub last : Option Uid
+  pub stopped : HasStopped v.family.act tree last S
+  pub decided : (u : Uid) → last ≡ Some u → is_some (at_uid u d.intents) ≡ true
+  pub past : ArePast v tree S
+  pub records : AreRecordsOf v last d.intents S
+
+abbrev pub SeesMemory : View → State → Disk → Option Parts → Type 0
+SeesMemory v S d None = SeesDown v S d
+SeesMemory v S d (Some t) = SeesUp v S d t
+
+-- ---- what isn't begun yet
+
+-- the action wasn't begun
+abbrev pub IsUnbegun : List Action → Uid → Type 0
+IsUnbegun begun u = (a : Action) → Contains begun a → act_of a ≢ u
+
+-- The machine did nothing for actions that weren't begun, nor for units of which no action was.
+pub record IsFresh (f : Fixed) (begun : List Action) (S : State) : Type 0 where
+  pub actions : (u : Uid) → IsUnbegun begun u → IsUntouched (S.action (f.act u))
+  pub units : (n : ℕ) → ((a : Action) → Contains begun a → root (f.act (act_of a)) ≢ n) → IsNewUnit n S
+
+-- ---- the world
+
+-- The object in the whole world: a run of the machine from its first value, whose state is seen at each node, in each message that was
+-- sent, and of what wasn't begun; and no line of the machine stands behind the journal's.
+pub record SeesLocks (f : Fixed) (x : ℕ) (begun : List Action) (S : State) (M : Seen) : Type 0 where
+  pub run : Run (start f.first) S
+  pub nodes : (k : ℕ) (n : Node) → M.nodes k ≡ Some n → SeesMemory (view_of f x begun k) S n.disk n.live
+  pub posts : (p : Post) → In p M.sent → IsPostSeen f x begun M.sent S p
+  pub fresh : IsFresh f begun S
+  pub now : S.now ≤ length M.lines + 1

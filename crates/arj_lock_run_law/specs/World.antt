@@ -1,0 +1,39 @@
+-- What is shown of the whole world: what each handler leaves seen, wherever a stop falls.
+use Rattle.std.specs.Prelude.{◌≡◌, ℕ, true, false, Bool, List, is_some, not, Contains}
+use Rattle.arj_protocol.specs.Words.{Message}
+use Rattle.arj_protocol.specs.Words.message
+use Rattle.arj_protocol.specs.Ask.{answers}
+use Rattle.arj_protocol.specs.Effect.{Effect}
+use Rattle.arj_protocol.specs.Node.{Parts, Took, handle, is_meant}
+use Rattle.arj_lock_law.specs.Machine.{Run}
+use Rattle.arj_lock_law.specs.State.{State}
+use Rattle.arj_part_law.specs.Actions.{Action}
+use Rattle.arj_view_law.specs.Seen.{In, Post, Seen, Within}
+use Rattle.arj_view_law.specs.Walks.{Up, Walks}
+use Rattle.arj_lock_view_law.specs.Calling.{IsReached}
+use Rattle.arj_lock_run_law.specs.Beside.{Case, IsSeenIn, KnowsSpot, Spot, world_at}
+use Rattle.arj_lock_run_law.specs.Fixed.{Agrees, Fixed}
+use Rattle.arj_lock_run_law.specs.Posts.{IsPostSeen}
+use Rattle.arj_lock_run_law.specs.Sees.{SeesLocks}
+
+-- Where what is fixed agrees with it, the object is seen, in some state of the machine.
+abbrev pub IsSeenSo : Case → Seen → Type 0
+IsSeenSo c M = Agrees c.fixed c.x c.begun M.sent → (S : State) × SeesLocks c.fixed c.x c.begun S M
+
+-- the message isn't for the coordinator
+abbrev pub is_for_parts : Message → Bool
+is_for_parts (message.Acked m) = false
+is_for_parts (message.Query m) = false
+is_for_parts m = not (is_some (answers m))
+
+-- A node takes a message that isn't for its coordinator: a request, ends that are told, a Hello. The object is seen again, wherever a
+-- stop falls.
+abbrev pub MessagesGo : Type 0
+MessagesGo = (c : Case) (s : Spot) (e from : ℕ) (m : Message) (v : Parts) (outs : List Effect)
+    → IsSeenIn c (world_at s) → KnowsSpot c s → In (record { from = from; to = s.node; message = m }) (let M = s.seen in M.sent) → is_for_parts m ≡ true → is_meant s.parts m ≡ true → handle s.node s.disk s.parts from m ≡ Took v outs
+    → Walks (IsSeenSo c) e s.node outs (Up (IsSeenSo c) s.node v) s.disk s.seen
+
+-- What a message shows it shows in every later state of the machine, as more is sent and more actions begin.
+abbrev pub PostsStay : Type 0
+PostsStay = (f : Fixed) (x : ℕ) (begun later : List Action) (sent more : List Post) (p : Post) (S T : State)
+    → ((a : Action) → Contains begun a → Contains later a) → Within sent more → IsReached S → Run S T → IsPostSeen f x begun sent S p → IsPostSeen f x later more T p

@@ -1,0 +1,12 @@
+//! Whole runs of the protocol, seen by the lock machine of one object, begun.
+//!
+//! It puts together what `arj_lock_view_law` has of naming, servers and coordinators: one state of the machine is tied to all nodes, up
+//! or down, and to every message that was ever sent (`specs/Sees.antt`, `specs/Posts.antt`), for every place of actions in the machine
+//! that agrees with those that were begun (`specs/Fixed.antt`). What is taken as known of the protocol alone where something comes is
+//! named in `specs/Beside.antt`. It stands on `arj_run_law` for what nodes and messages are by themselves. What it gives upward so far:
+//! `posts_stay_shown`.
+#![tactic(auto)]
+
+mod world;
+
+pub use world::posts_stay_shown;
