@@ -26,7 +26,7 @@ use Rattle.arj_view_law.proofs.Together.{walks_both, walks_to}
 use Rattle.arj_disk_view_law.specs.Deciding.{nodes_of}
 use Rattle.arj_disk_view_law.specs.Sees.{Along, IsLater, Kinds, SeesDisks}
 use Rattle.arj_names_view_law.specs.Both.{OnlyFound, SeesBoth}
-use Rattle.arj_names_view_law.specs.Handlers.{Changes, decided_by}
+use Rattle.arj_names_view_law.specs.Handlers.{Answering, Change, Changes, Deciding, Quietly, change_by}
 use Rattle.arj_disk_run_law.specs.Part.{Going, HasHeard, IsCarried, KeepsPart, are_recorded, going_of}
 use Rattle.arj_disk_run_law.specs.Kinds.{kinds_of}
 use Rattle.arj_disk_run_law.proofs.Begun.{kinds_agree}
@@ -132,9 +132,10 @@ goes_along g W V whole a = (
 )
 
 -- by the changes of a step
-goes_by : (o : Option ℕ) (A B : Office) → machine.Whole A.world → Changes o A B → Goes A.world B.world
-goes_by None A B whole c = (λ u d. inl (ap (λ ds. is_among ds u) (sym c.tops) ∙ d), c.later)
-goes_by (Some t) A B whole c = goes_along (λ z. z == t) A.world B.world whole c.along
+goes_by : (o : Change) (A B : Office) → machine.Whole A.world → Changes o A B → Goes A.world B.world
+goes_by Quietly A B whole c = (λ u d. inl (ap (λ ds. is_among ds u) (sym c.tops) ∙ d), c.later)
+goes_by (Answering t r) A B whole c = (λ u d. inl (ap (λ ds. is_among ds u) (sym (let o = c.0 in o.tops)) ∙ d), (let o = c.0 in o.later))
+goes_by (Deciding t keeps) A B whole c = goes_along (λ z. z == t) A.world B.world whole c.along
 
 module _ (R : Seen → Type 0) (Idle : List Line → Uid → Type 0) (idles : KnowsIdle R Idle) (x : ℕ) (tops : Kinds) (W : machine.World) (M : Seen) (before : AreSaid W M) (was : AreDone Idle W M) where
   said_now : (V : machine.World) (N : Seen) → SeesDisks x tops V N → Turns W V → IsWritten N → IsStep M N → AreSaid V N
@@ -245,28 +246,28 @@ module _ (hd : Header) (x : ℕ) (R G : Seen → Type 0) (P : Kinds → Office �
       (walks_both (λ Z. (B : Office) → C B → SeesBoth x tops B Z → P tops B Z) (Tied_from tops C) e k outs (Up (λ Z. (B : Office) → C B → SeesBoth x tops B Z → P tops B Z) k v) (Up (Tied_from tops C) k v) d N a b)
 
   -- where answers were taken first
-  abbrev heard_too : (tops : Kinds) (o : Option ℕ) (A : Office) (g : Going) (M : Seen) → IsTied Idle A.world (up g.node g.disk g.before M) → (h : HasHeard P x tops o A (g, M))
+  abbrev heard_too : (tops : Kinds) (o : Change) (A : Office) (g : Going) (M : Seen) → IsTied Idle A.world (up g.node g.disk g.before M) → (h : HasHeard P x tops o A (g, M))
       → ((B : Office) → B.world ≡ A.world → Walks (Tied_from tops (Changes o B)) g.event g.node g.outs (Up (Tied_from tops (Changes o B)) g.node g.after) g.disk M) → HasHeard (WithTie P Idle) x tops o A (g, M)
   heard_too tops o A g M tie h walk = record { office = h.office; only = h.only; both = h.both; along = both_along tops (Changes o h.office) g.event g.node g.outs g.after g.disk M h.along (walk h.office (let z = h.only in z.world)) }
 
-  goes_from : (o : Option ℕ) (A C : Office) → C.world ≡ A.world → machine.Whole A.world → (B : Office) → Changes o C B → Goes A.world B.world
+  goes_from : (o : Change) (A C : Office) → C.world ≡ A.world → machine.Whole A.world → (B : Office) → Changes o C B → Goes A.world B.world
   goes_from o A C same whole B c = subst (λ W. Goes W B.world) same (goes_by o C B (subst machine.Whole (sym same) whole) c)
 
   tied_part : KeepsPart hd x (λ M. Both M × G M) (WithTie P Idle)
   tied_part = record {
     quiet = λ tops e bs M A walk quiet r both (part, tie) B changed seen. let w = lines_too.quiet e bs M quiet r.0.1 in (
       parts.quiet tops e bs M A walk quiet (r.0.0, r.1) both part B changed seen,
-      tied_still R Idle idles x tops A.world M tie.0 tie.1 B.world (said e bs M) seen.disks (goes_by None A B (let c = both.disks in c.whole) changed) (kept.quiet e bs M quiet r.0.0) w (quiet_step e bs M) (quiet_lines e bs M quiet),
+      tied_still R Idle idles x tops A.world M tie.0 tie.1 B.world (said e bs M) seen.disks (goes_by Quietly A B (let c = both.disks in c.whole) changed) (kept.quiet e bs M quiet r.0.0) w (quiet_step e bs M) (quiet_lines e bs M quiet),
     );
     stop = λ tops e k d live M A walk r both (part, tie) B changed seen. let w = lines_too.stop e k d live M r.0.1 in (
       parts.stop tops e k d live M A walk (r.0.0, r.1) both part B changed seen,
-      tied_still R Idle idles x tops A.world (at k d live M) tie.0 tie.1 B.world (halted e k d M) seen.disks (goes_by None A B (let c = both.disks in c.whole) changed) (kept.stop e k d live M r.0.0) w (step_halted k d live M e d M (near_same M) (λ down. refl)) (no_lines e k M),
+      tied_still R Idle idles x tops A.world (at k d live M) tie.0 tie.1 B.world (halted e k d M) seen.disks (goes_by Quietly A B (let c = both.disks in c.whole) changed) (kept.stop e k d live M r.0.0) w (step_halted k d live M e d M (near_same M) (λ down. refl)) (no_lines e k M),
     );
     message = λ tops e k d t v from m outs M A walk n r sent meant is of both (part, tie).
         let p = parts.message tops e k d t v from m outs M A walk n (r.0.0, r.1) sent meant is of both part in
         let g = message_turns e k d t M r.0.1.0 r.0.1.1 v from m outs sent is in (
-          heard_too tops (decided_by t.coord m) A (record { event = e; node = k; disk = d; before = t; outs = outs; after = v }) M tie p.0
-              (λ C same. tied_walk R Idle idles x tops A.world (up k d t M) tie.0 tie.1 (Changes (decided_by t.coord m) C) (goes_from (decided_by t.coord m) A C same (let c = both.disks in c.whole)) (HasBranch v.coord) e k outs v d M (fresh tops (up k d t M) k v)
+          heard_too tops (change_by x d t m) A (record { event = e; node = k; disk = d; before = t; outs = outs; after = v }) M tie p.0
+              (λ C same. tied_walk R Idle idles x tops A.world (up k d t M) tie.0 tie.1 (Changes (change_by x d t m) C) (goes_from (change_by x d t m) A C same (let c = both.disks in c.whole)) (HasBranch v.coord) e k outs v d M (fresh tops (up k d t M) k v)
               (both_too.message e k d t v from m outs M r.0 sent meant is) (step_walk k d (Some t) M e v outs d M (near_same M) (was_up t) (was_up t)) (turns (HasBranch v.coord) e k outs d M M refl g.late)),
           p.1,
           p.2,
@@ -275,24 +276,24 @@ module _ (hd : Header) (x : ℕ) (R G : Seen → Type 0) (P : Kinds → Office �
         let did = acts i d.intents t.coord in
         let p = parts.act tops e k d t i M A walk n (r.0.0, r.1) is free both part in
         let g = act_turns e k d t M r.0.1.0 r.0.1.1 hd i is free in (
-          heard_too tops None A (going_of e k d t did) M tie p.0
-              (λ C same. tied_walk R Idle idles x tops A.world (up k d t M) tie.0 tie.1 (Changes None C) (goes_from None A C same (let c = both.disks in c.whole)) (HasBranch did.part) e k did.outs (with_coord t did.part) d M (fresh tops (up k d t M) k (with_coord t did.part))
+          heard_too tops Quietly A (going_of e k d t did) M tie p.0
+              (λ C same. tied_walk R Idle idles x tops A.world (up k d t M) tie.0 tie.1 (Changes Quietly C) (goes_from Quietly A C same (let c = both.disks in c.whole)) (HasBranch did.part) e k did.outs (with_coord t did.part) d M (fresh tops (up k d t M) k (with_coord t did.part))
               (both_too.act e k d t i M is free r.0) (step_walk k d (Some t) M e (with_coord t did.part) did.outs d M (near_same M) (was_up t) (was_up t)) (turns (HasBranch did.part) e k did.outs d M M refl g.late)),
           p.1,
         );
     begin = λ tops e k d t l how parent M A walk n r new may free kind both (part, tie).
         let did = begin_action l how parent (parent_of parent t.coord) t.coord in
         let N : Seen = given l (record { node = k; serial = is_serial_kind how }) M in
-        both_along tops (Changes None A) e k did.outs (with_coord t did.part) d N (parts.begin tops e k d t l how parent M A walk n (r.0.0, r.1) new may free kind both part)
-        (tied_walk R Idle idles x tops A.world (up k d t M) tie.0 tie.1 (Changes None A) (λ B c. goes_by None A B (let z = both.disks in z.whole) c) (HasBranch did.part) e k did.outs (with_coord t did.part) d N (fresh tops (up k d t M) k (with_coord t did.part))
+        both_along tops (Changes Quietly A) e k did.outs (with_coord t did.part) d N (parts.begin tops e k d t l how parent M A walk n (r.0.0, r.1) new may free kind both part)
+        (tied_walk R Idle idles x tops A.world (up k d t M) tie.0 tie.1 (Changes Quietly A) (λ B c. goes_by Quietly A B (let z = both.disks in z.whole) c) (HasBranch did.part) e k did.outs (with_coord t did.part) d N (fresh tops (up k d t M) k (with_coord t did.part))
         (both_too.begin e k d t l how parent M new may free r.0) (step_walk k d (Some t) M e (with_coord t did.part) did.outs d N (given_near l how k M) (was_up t) (was_up t))
         (turns (HasBranch did.part) e k did.outs d M N refl ((λ u is. absurd (cc is)), tt)));
     tick = λ tops e k d t M A walk n r both (part, tie).
         let outs = tick_outs (record { number = k; disk = d; live = Some t }) t in
         let v = with_coord t (again_all t.coord.doings t.coord).part in
         let g = tick_turns e k d t M r.0.1.0 r.0.1.1 in
-        both_along tops (Changes None A) e k outs v d M (parts.tick tops e k d t M A walk n (r.0.0, r.1) both part)
-        (tied_walk R Idle idles x tops A.world (up k d t M) tie.0 tie.1 (Changes None A) (λ B c. goes_by None A B (let z = both.disks in z.whole) c) (HasBranch v.coord) e k outs v d M (fresh tops (up k d t M) k v)
+        both_along tops (Changes Quietly A) e k outs v d M (parts.tick tops e k d t M A walk n (r.0.0, r.1) both part)
+        (tied_walk R Idle idles x tops A.world (up k d t M) tie.0 tie.1 (Changes Quietly A) (λ B c. goes_by Quietly A B (let z = both.disks in z.whole) c) (HasBranch v.coord) e k outs v d M (fresh tops (up k d t M) k v)
         (both_too.tick e k d t M r.0) (step_walk k d (Some t) M e v outs d M (near_same M) (was_up t) (was_up t)) (turns (HasBranch v.coord) e k outs d M M refl g.late));
     restart = λ tops e k d M A walk r both (part, tie).
         let outs = restart_outs hd k (d.inc + 1) d in

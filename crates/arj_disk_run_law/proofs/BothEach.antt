@@ -27,7 +27,7 @@ use Rattle.arj_disk_view_law.specs.Pairs.{packed_entry}
 use Rattle.arj_disk_view_law.specs.Sees.{IsFixed, Kinds, followed}
 use Rattle.arj_disk_view_law.proofs.Halts.{lines_seen, stops_seen}
 use Rattle.arj_names_view_law.specs.Both.{IsSeenAgain, SeesBoth}
-use Rattle.arj_names_view_law.specs.Handlers.{CountsOn, IsForGrants, IsSeenAfter, MayRecord, decided_by}
+use Rattle.arj_names_view_law.specs.Handlers.{Change, CountsOn, IsForGrants, IsSeenAfter, MayRecord, Quietly, change_by}
 use Rattle.arj_names_view_law.specs.Memory.{IsOfTop}
 use Rattle.arj_names_view_law.proofs.InputBoth.{inputs_keep_both}
 use Rattle.arj_names_view_law.proofs.MessageBoth.{messages_keep_both}
@@ -55,7 +55,7 @@ use Rattle.arj_disk_run_law.proofs.Kept.{IsKeptInRun, KeepsEach, all_keep}
 
 module _ (P : Kinds → Office → Seen → Type 0) (x : ℕ) (tops : Kinds) where
   -- where both halves are walked and the relation holds along, the state is carried
-  carried : (o : Option ℕ) (A : Office) (e k : ℕ) (outs : List Effect) (v : Parts) (d : Disk) (M : Seen) → Walks (IsSeenAfter o x tops A) e k outs (Up (IsSeenAfter o x tops A) k v) d M
+  carried : (o : Change) (A : Office) (e k : ℕ) (outs : List Effect) (v : Parts) (d : Disk) (M : Seen) → Walks (IsSeenAfter o x tops A) e k outs (Up (IsSeenAfter o x tops A) k v) d M
       → Walks (HoldsFrom P x tops o A) e k outs (Up (HoldsFrom P x tops o A) k v) d M → Walks (IsCarried P x tops) e k outs (Up (IsCarried P x tops) k v) d M
   carried o A e k outs v d M seen holds = walks_to (λ N. IsSeenAfter o x tops A N × HoldsFrom P x tops o A N) (IsCarried P x tops) e k outs (λ c N. Up (IsSeenAfter o x tops A) k v c N × Up (HoldsFrom P x tops o A) k v c N) (Up (IsCarried P x tops) k v) d M
       (λ N h. let s = h.0 in (s.0, s.2, h.1 s.0 s.1 s.2)) (λ c N h. let s = h.0 in (s.0, s.2, h.1 s.0 s.1 s.2))
@@ -99,13 +99,13 @@ both_each hd x R G P parts = record {
   stop = λ tops e k d live M walk r (A, both, part). let s = stops_keep_both x tops e k d live A M walk both (stops_seen x (followed tops A.world (λ n. false)) e k d live M (A.world, walks_start x tops (λ n. false) A (at k d live M) both)) in
       (s.0, s.2, parts.stop tops e k d live M A walk (r.0.0, r.1) both part s.0 s.1 s.2);
   message = λ tops e k d t v from m outs M walk n r sent meant is of (A, both, part). let p = parts.message tops e k d t v from m outs M A walk n (r.0.0, r.1) sent meant is of both part in let h = p.0 in
-      carried P x tops (decided_by t.coord m) h.office e k outs v d M (messages_keep_both x tops e k d t v from m outs h.office M walk n sent (λ o here. counted x tops k d t M m h.office o n r.0.1 h.both of here (p.2 o here)) p.1 is h.both) h.along;
+      carried P x tops (change_by x d t m) h.office e k outs v d M (messages_keep_both x tops e k d t v from m outs h.office M walk n sent (λ o here. counted x tops k d t M m h.office o n r.0.1 h.both of here (p.2 o here)) p.1 is h.both) h.along;
   act = λ tops e k d t i M walk n r is free (A, both, part). let p = parts.act tops e k d t i M A walk n (r.0.0, r.1) is free both part in let h = p.0 in let did = acts i d.intents t.coord in
-      carried P x tops None h.office e k did.outs (with_coord t did.part) d M (inputs_keep_both hd x tops e k d t i h.office M walk n.kinds n.coord is free p.1 h.both) h.along;
+      carried P x tops Quietly h.office e k did.outs (with_coord t did.part) d M (inputs_keep_both hd x tops e k d t i h.office M walk n.kinds n.coord is free p.1 h.both) h.along;
   begin = λ tops e k d t l how parent M walk n r new may free kind (A, both, part). let did = begin_action l how parent (parent_of parent t.coord) t.coord in
-      carried P x tops None A e k did.outs (with_coord t did.part) d (given l (record { node = k; serial = is_serial_kind how }) M) (actions_keep_both x tops e k d t l (record { node = k; serial = is_serial_kind how }) how parent (parent_of parent t.coord) A M walk n.coord kind both)
+      carried P x tops Quietly A e k did.outs (with_coord t did.part) d (given l (record { node = k; serial = is_serial_kind how }) M) (actions_keep_both x tops e k d t l (record { node = k; serial = is_serial_kind how }) how parent (parent_of parent t.coord) A M walk n.coord kind both)
       (parts.begin tops e k d t l how parent M A walk n (r.0.0, r.1) new may free kind both part);
-  tick = λ tops e k d t M walk n r (A, both, part). carried P x tops None A e k (tick_outs (record { number = k; disk = d; live = Some t }) t) (with_coord t (again_all t.coord.doings t.coord).part) d M (ticks_keep_both x tops e k d t A M walk n.coord n.begun both) (parts.tick tops e k d t M A walk n (r.0.0, r.1) both part);
+  tick = λ tops e k d t M walk n r (A, both, part). carried P x tops Quietly A e k (tick_outs (record { number = k; disk = d; live = Some t }) t) (with_coord t (again_all t.coord.doings t.coord).part) d M (ticks_keep_both x tops e k d t A M walk n.coord n.begun both) (parts.tick tops e k d t M A walk n (r.0.0, r.1) both part);
   restart = λ tops e k d M walk held r (A, both, part). let p = parts.restart tops e k d M A walk (r.0.0, r.1) both part in
       carried_again P x tops (are_recorded d.intents) A e k (restart_outs hd k (d.inc + 1) d) (parts_in k (d.inc + 1) d) d M
       (restarts_keep_both x tops e k hd d (are_recorded d.intents) A M walk (λ same. let e = mine_of x k d None M r.0.1 (ap (λ z. 1 == z) same) in let h = e.disk in h.held) both (restarts_are_followed x tops (only_decides (are_recorded d.intents)) e k hd d A M held (λ u i at. any_prepared (λ (z : Uid × Intent). uid_number z.0 == uid_number u) u i d.intents at (test_same (uid_number u))) both)) p;

@@ -21,7 +21,7 @@ use Rattle.arj_disk_view_law.specs.Coordinating.{KnowsNode}
 use Rattle.arj_disk_view_law.specs.Knows.{IsOfKind, KnowsKinds}
 use Rattle.arj_disk_view_law.specs.Sees.{Kinds}
 use Rattle.arj_names_view_law.specs.Both.{OnlyAnswers, OnlyFound, SeesBoth}
-use Rattle.arj_names_view_law.specs.Handlers.{Changes, IsForGrants, MayGoOn, MayRecord, decided_by}
+use Rattle.arj_names_view_law.specs.Handlers.{Change, Changes, IsForGrants, MayGoOn, MayRecord, Quietly, change_by}
 use Rattle.arj_disk_run_law.specs.Kinds.{AreOfTops}
 
 -- ---- a step
@@ -46,7 +46,7 @@ ticking e k d t = record { event = e; node = k; disk = d; before = t; outs = tic
 -- ---- what is kept
 
 -- it holds of each state that comes of this one by such changes
-abbrev pub HoldsFrom : (Kinds → Office → Seen → Type 0) → ℕ → Kinds → Option ℕ → Office → Seen → Type 0
+abbrev pub HoldsFrom : (Kinds → Office → Seen → Type 0) → ℕ → Kinds → Change → Office → Seen → Type 0
 HoldsFrom P x tops o A N = (B : Office) → Changes o A B → SeesBoth x tops B N → P tops B N
 
 -- this holds at each work of a step, however a stop falls on it, and at its end
@@ -54,7 +54,7 @@ abbrev pub HoldsAlong : (Seen → Type 0) → Going → Seen → Type 0
 HoldsAlong H g M = Walks H g.event g.node g.outs (Up H g.node g.after) g.disk M
 
 -- First answers are taken and given in the machine, of which nothing else changes; and from there it holds along the step.
-pub record HasHeard (P : Kinds → Office → Seen → Type 0) (x : ℕ) (tops : Kinds) (o : Option ℕ) (A : Office) (s : Going × Seen) : Type 0 where
+pub record HasHeard (P : Kinds → Office → Seen → Type 0) (x : ℕ) (tops : Kinds) (o : Change) (A : Office) (s : Going × Seen) : Type 0 where
   pub office : Office
   pub only : OnlyAnswers A office
   pub both : SeesBoth x tops office (let g = s.0 in up g.node g.disk g.before s.1)
@@ -71,17 +71,17 @@ are_recorded intents z = list_any (λ (e : Uid × Intent). uid_number e.0 == z) 
 -- The relation is kept by lines, by a node that stops, and by each handler; with a message to naming it gives what a Record and a new
 -- Confirm count on; and of each commit that is past its votes it gives that it may begin.
 pub record KeepsPart (hd : Header) (x : ℕ) (R : Seen → Type 0) (P : Kinds → Office → Seen → Type 0) : Type 0 where
-  pub quiet : (tops : Kinds) (e : ℕ) (bs : List Body) (M : Seen) (A : Office) → tops.walk ≡ None → AreQuiet bs → R M → SeesBoth x tops A M → P tops A M → HoldsFrom P x tops None A (said e bs M)
-  pub stop : (tops : Kinds) (e k : ℕ) (d : Disk) (live : Option Parts) (M : Seen) (A : Office) → tops.walk ≡ None → R (at k d live M) → SeesBoth x tops A (at k d live M) → P tops A (at k d live M) → HoldsFrom P x tops None A (halted e k d M)
+  pub quiet : (tops : Kinds) (e : ℕ) (bs : List Body) (M : Seen) (A : Office) → tops.walk ≡ None → AreQuiet bs → R M → SeesBoth x tops A M → P tops A M → HoldsFrom P x tops Quietly A (said e bs M)
+  pub stop : (tops : Kinds) (e k : ℕ) (d : Disk) (live : Option Parts) (M : Seen) (A : Office) → tops.walk ≡ None → R (at k d live M) → SeesBoth x tops A (at k d live M) → P tops A (at k d live M) → HoldsFrom P x tops Quietly A (halted e k d M)
   pub message : (tops : Kinds) (e k : ℕ) (d : Disk) (t v : Parts) (from : ℕ) (m : Message) (outs : List Effect) (M : Seen) (A : Office) → tops.walk ≡ None → KnowsNode tops k d t M → R (up k d t M)
       → In (record { from = from; to = k; message = m }) M.sent → is_meant t m ≡ true → handle k d t from m ≡ Took v outs → AreOfTops tops m → SeesBoth x tops A (up k d t M) → P tops A (up k d t M)
-      → (h : HasHeard P x tops (decided_by t.coord m) A (record { event = e; node = k; disk = d; before = t; outs = outs; after = v }, M)) × MayGoOn x h.office v.coord × ((n : Naming) → t.naming ≡ Some n → MayRecord x d n m h.office × IsForGrants x d n m h.office)
+      → (h : HasHeard P x tops (change_by x d t m) A (record { event = e; node = k; disk = d; before = t; outs = outs; after = v }, M)) × MayGoOn x h.office v.coord × ((n : Naming) → t.naming ≡ Some n → MayRecord x d n m h.office × IsForGrants x d n m h.office)
   pub act : (tops : Kinds) (e k : ℕ) (d : Disk) (t : Parts) (i : Input) (M : Seen) (A : Office) → tops.walk ≡ None → KnowsNode tops k d t M → R (up k d t M) → is_act i ≡ true → refusal_up hd i t.coord ≡ None → SeesBoth x tops A (up k d t M) → P tops A (up k d t M)
-      → (h : HasHeard P x tops None A (going_of e k d t (acts i d.intents t.coord), M)) × MayGoOn x h.office (let did = acts i d.intents t.coord in did.part)
+      → (h : HasHeard P x tops Quietly A (going_of e k d t (acts i d.intents t.coord), M)) × MayGoOn x h.office (let did = acts i d.intents t.coord in did.part)
   pub begin : (tops : Kinds) (e k : ℕ) (d : Disk) (t : Parts) (l : Label) (how : Kind) (parent : Option Label) (M : Seen) (A : Office) → tops.walk ≡ None → KnowsNode tops k d t M → R (up k d t M)
       → label_at l M.labels ≡ None → MayGive M.labels k how parent → begin_refusal how t.coord parent ≡ None → IsOfKind tops (next_uid t.coord.tree) how (path_below how (parent_of parent t.coord) (next_uid t.coord.tree)) → SeesBoth x tops A (up k d t M) → P tops A (up k d t M)
-      → HoldsAlong (HoldsFrom P x tops None A) (going_of e k d t (begin_action l how parent (parent_of parent t.coord) t.coord)) (given l (record { node = k; serial = is_serial_kind how }) M)
-  pub tick : (tops : Kinds) (e k : ℕ) (d : Disk) (t : Parts) (M : Seen) (A : Office) → tops.walk ≡ None → KnowsNode tops k d t M → R (up k d t M) → SeesBoth x tops A (up k d t M) → P tops A (up k d t M) → HoldsAlong (HoldsFrom P x tops None A) (ticking e k d t) M
+      → HoldsAlong (HoldsFrom P x tops Quietly A) (going_of e k d t (begin_action l how parent (parent_of parent t.coord) t.coord)) (given l (record { node = k; serial = is_serial_kind how }) M)
+  pub tick : (tops : Kinds) (e k : ℕ) (d : Disk) (t : Parts) (M : Seen) (A : Office) → tops.walk ≡ None → KnowsNode tops k d t M → R (up k d t M) → SeesBoth x tops A (up k d t M) → P tops A (up k d t M) → HoldsAlong (HoldsFrom P x tops Quietly A) (ticking e k d t) M
   pub restart : (tops : Kinds) (e k : ℕ) (d : Disk) (M : Seen) (A : Office) → tops.walk ≡ None → R (down k d M) → SeesBoth x tops A (down k d M) → P tops A (down k d M)
       → Walks (HoldsAgain P x tops (are_recorded d.intents) A) e k (restart_outs hd k (d.inc + 1) d) (Up (HoldsAgain P x tops (are_recorded d.intents) A) k (parts_in k (d.inc + 1) d)) d M
   pub first : (tops : Kinds) → tops.walk ≡ None → KnowsKinds tops → (A : Office) × SeesBoth x tops A (see [] (format hd)) × P tops A (see [] (format hd)) × (A.world.disk.tops ≡ [])

@@ -187,7 +187,7 @@ module _ (x : ℕ) (tops : Kinds) (p : Path) (avoid : Binding) (d : Pair) (n : N
   refused q is = record {
     acts = [];
     may = tt;
-    there = (only_same A, with_object x tops n o n.count A.world.disk A.names A.names sees refl refl refl so, (let same : bound.Conflict (last_uid q.holder) q.mode ≡ r = cc is in subst (λ z. ClaimsBound x x u z A.names) same tt));
+    there = (only_same A, with_object x tops n o n.count A.world.disk A.names A.names sees refl refl refl so, (let same : bound.Conflict (last_uid q.holder) q.mode ≡ r = cc is in subst (λ z. ClaimsBound x x u z A.names) same (λ e. tt)));
   }
 
   by_live : (l : Live) → A.names.live ≡ true → conflict_on x p Read o ≡ None → Goal (bound_live n.inc x p E C l)
@@ -283,14 +283,8 @@ module _ (x : ℕ) (tops : Kinds) (p : Path) (include : Bool) (avoid : Binding) 
   elsewhere y apart other o count outs reply is = record {
     acts = [];
     may = tt;
-    there = (only_same A, other_object x y tops n o count A.world.disk A.names apart sees, claim r);
+    there = (only_same A, other_object x y tops n o count A.world.disk A.names apart sees, λ e. absurd (other e));
   }
-    where
-      claim : (q : BoundReply) → ClaimsBound x y (uid_number (top_of p)) q A.names
-      claim (bound.Live b server i g stores) = λ e. absurd (other e)
-      claim (bound.Make b server g stores) = λ e. absurd (other e)
-      claim (bound.Write g stores) = λ e. absurd (other e)
-      claim (bound.Conflict holder m) = tt
 
   of_object : (y : ℕ) (q : Option Named) → at_number y n.objects ≡ q → Bound_goal y (on_counted y (bind_named n.inc y p include avoid (listed_entry y d)) n q)
   of_object y None e = λ is. absurd (cc is)

@@ -1,19 +1,20 @@
 -- Coordinators' decisions, and beginnings of commits, walked with both halves.
-use Rattle.std.proofs.Common.{◌≡◌, ◌⊎◌, ◌==◌, ◌||◌, ℕ, List, [], ◌∷◌, Bool, true, false, Option, Some, None, refl, sym, ◌∙◌, ap, subst, inl, inr, ⊎_elim}
+use Rattle.std.proofs.Common.{◌≡◌, ◌⊎◌, ◌==◌, ◌||◌, not, is_some, ℕ, List, [], ◌∷◌, Bool, true, false, Option, Some, None, refl, sym, ◌∙◌, ap, subst, inl, inr, ⊎_elim}
 use Rattle.std.specs.Prelude.{if◌then◌else◌}
 use Rattle.arj_protocol.specs.Effect.{Disk, Effect, Say, Send, Do}
 use Rattle.arj_protocol.specs.Naming.{Naming}
 use Rattle.arj_protocol.specs.Node.{Parts}
 use Rattle.arj_protocol.specs.Says.{AreAll}
 use Rattle.arj_disk_law.specs.Effects as machine
-use Rattle.arj_disk_law.specs.Effects.{World, Allowed, Follows, after, done_of, run}
-use Rattle.arj_disk_law.specs.Guards.{MayBegin, is_only_of, only_begins, only_decides, tells_only_of}
+use Rattle.arj_disk_law.specs.Effects.{World, Whole, Allowed, Follows, after, done_of, run}
+use Rattle.arj_disk_law.specs.Guards.{HasPart, MayBegin, is_only_of, only_begins, only_decides, tells_only_of}
 use Rattle.arj_disk_law.specs.Messages as mail
 use Rattle.arj_disk_law.specs.Named.{Named}
 use Rattle.arj_disk_law.specs.Names.{Answer, AnswerLoad, Bound, Loaded, Names, Office, Do as act, Commit, CommitBare, Kept, lists_after, or_else, retained, with_list, written_in}
-use Rattle.arj_disk_law.specs.State.{State, Plan, Preparing, Confirming, Gone, decided as is_decided, is_open, open_by, undecided}
+use Rattle.arj_disk_law.specs.Offices.{chosen}
+use Rattle.arj_disk_law.specs.State.{State, Plan, Stage, Preparing, Confirming, Gone, decided as is_decided, decided_in as in_these, is_gone, is_open, is_sealed, open_by, undecided}
 use Rattle.arj_disk_law.proofs.Acts.{runs_keep}
-use Rattle.arj_disk_law.proofs.Base.{never, open_done, open_made, open_parts, or_cases, or_left, put2_rises, put_cases, put_other, put_same, test_is, test_not, test_same}
+use Rattle.arj_disk_law.proofs.Base.{never, open_done, open_made, open_parts, or_cases, or_left, or_right, put2_rises, put_cases, put_other, put_same, test_is, test_not, test_same}
 use Rattle.arj_disk_law.proofs.PlainActs.{plain_act}
 use Rattle.arj_view_law.specs.Seen.{Seen, at, posted, said, up}
 use Rattle.arj_disk_view_law.proofs.Frames.{node_here}
@@ -30,7 +31,8 @@ use Rattle.arj_protocol.specs.Node.{load_by, load_held}
 use Rattle.arj_protocol.specs.Order.{uid_number}
 use Rattle.arj_disk_law.specs.Guards.{end_of}
 use Rattle.arj_disk_law.specs.State.{Idle}
-use Rattle.arj_disk_law.specs.Words.{put, put2}
+use Rattle.arj_disk_law.specs.Words.{has, put, put2}
+use Rattle.arj_protocol.specs.Commit.{is_empty}
 use Rattle.arj_disk_view_law.specs.Pairs.{packed}
 use Rattle.arj_disk_view_law.proofs.StoreSteps.{stores_load}
 use Rattle.arj_disk_view_law.proofs.StoreWalks.{took_is}
@@ -39,7 +41,7 @@ use Rattle.arj_names_view_law.specs.Lists.{IsTopOf, LeavesOthers, OnlyKept, Sees
 use Rattle.arj_names_view_law.specs.Memory.{NamesGo}
 use Rattle.arj_names_view_law.proofs.GrantSteps.{grants_stay, heard}
 use Rattle.arj_names_view_law.proofs.ListSteps.{lists_are_heard}
-use Rattle.arj_names_view_law.specs.Both.{CallsKeepBoth, IsAnswered, LoadsKeepBoth, HasGoneOn, OnlyAnswers, OnlyAtNode, BeginningsKeepBoth, BothWalk, DecisionsKeepBoth, DisksWalk, IsOther, IsSeenFrom, IsSeenIn, OnlyRoots, OpensNone, SeesBoth, is_no_work, leaves_the_inc}
+use Rattle.arj_names_view_law.specs.Both.{HasNoPart, HowDecided, IsEndedBare, IsOnly, IsRecorded, decided_names, ended_names, has_part, CallsKeepBoth, IsAnswered, LoadsKeepBoth, HasGoneOn, OnlyAnswers, OnlyAtNode, BeginningsKeepBoth, BothWalk, DecisionsKeepBoth, DisksWalk, IsOther, IsSeenFrom, IsSeenIn, OnlyRoots, OpensNone, SeesBoth, is_no_work, leaves_the_inc}
 use Rattle.arj_names_view_law.specs.Memory.{SeesNaming}
 use Rattle.arj_names_view_law.proofs.Pairing.{Ends, walked_both, Stepped, left_disk, naming_on, seen_as, steps, steps_to, stopped_both, unfollowed, walks_at}
 
@@ -95,13 +97,76 @@ kept_naming x tops n S N had kept s = record {
   object = λ o is. let so = s.object o is in record { rows = so.rows; asked = so.asked; sorted = so.sorted; made = so.made; live = so.live };
 }
 
-module _ (g : ℕ → Bool) (A : Office) (c0 : Named A) where
+-- ---- how a top is decided
+
+abbrev lists_by : (ℕ → ℕ) → Plan → (ℕ → Bool) → ℕ → (ℕ → Option Kept) → ℕ → Option Kept
+lists_by root p got t kept = λ h. if root h == root t then with_list p got (kept h) else kept h
+
+abbrev retained_by : (ℕ → ℕ) → ℕ → Names → Names
+retained_by root t N = record N { had = put (root t) (λ i. N.had (root t) i || N.had t i) N.had; kept = put (root t) (or_else (N.kept (root t)) (N.kept t)) N.kept }
+
+abbrev decided_by : Bool → (ℕ → ℕ) → Plan → (ℕ → Bool) → ℕ → Names → Names
+decided_by keeps root p got t N = let L = record N { kept = lists_by root p got t N.kept } in chosen keeps (retained_by root t L) L
+
+-- what is had and kept after a decision reads of the disk half the root, the plan and who said Yes
+pub decided_same : (keeps : Bool) (t : ℕ) (S T : State) (N : Names) → T.root ≡ S.root → T.plan t ≡ S.plan t → T.got t ≡ S.got t → decided_names keeps T t N ≡ decided_names keeps S t N
+decided_same keeps t S T N root plan got = λ i. decided_by keeps (root i) (plan i) (got i) t N
+
+pub ended_same : (keeps : Bool) (t : ℕ) (S T : State) (N : Names) → T.root ≡ S.root → ended_names keeps T t N ≡ ended_names keeps S t N
+ended_same keeps t S T N root = λ i. chosen keeps (retained_by (root i) t N) N
+
+-- who has a part is found so
+pub part_tested : (p : Plan) → HasPart p → has_part p ≡ true
+part_tested p (inl writes) = or_left (is_some p.writes) (not (is_empty p.joins)) writes
+part_tested p (inr (s, joins)) = or_right (is_some p.writes) (not (is_empty p.joins)) (by p.joins joins)
+  where
+    by : (ss : List ℕ) → has s ss ≡ true → not (is_empty ss) ≡ true
+    by [] is = absurd (never is refl)
+    by (n ∷ ns) is = refl
+
+-- a decided top is at its end
+decided_done : (keeps : Bool) (t : ℕ) (A B : Office) → IsRecorded keeps t A B → is_decided B.world.disk t ≡ true
+decided_done keeps t A B r = ap (λ ds. in_these ds t) r.tops ∙ or_left (let d = r.done in d.top == t) (in_these A.world.disk.tops t) (ap (λ z. z == t) r.top ∙ test_same t)
+
+sealed_gone : (g : Stage) → is_gone g ≡ true → is_sealed g ≡ true
+sealed_gone Idle is = absurd (never is refl)
+sealed_gone Preparing is = absurd (never is refl)
+sealed_gone Confirming is = refl
+sealed_gone Gone is = refl
+
+-- it is said so still where the disk half goes on and no top is decided
+how_on : (keeps : Bool) (t : ℕ) (A : Office) (N : Names) (W V : World) → Whole W → V.disk.tops ≡ W.disk.tops → IsLater W V → HowDecided keeps t A (record { world = W; names = N }) → HowDecided keeps t A (record { world = V; names = N })
+how_on keeps t A N W V whole tops later = ⊎_elim (λ u. inl (record { names = u.names; tops = tops ∙ u.tops }))
+    (λ h. inr (⊎_elim (λ r. inl (recorded r)) (λ b. inr (bare b)) h))
+  where
+    recorded : IsRecorded keeps t A (record { world = W; names = N }) → IsRecorded keeps t A (record { world = V; names = N })
+    recorded r =
+        let done = decided_done keeps t A (record { world = W; names = N }) r in
+        let begun : W.disk.begun t ≡ true = ⊎_elim (whole.core.fresh.conf t) (whole.core.fresh.light t) (whole.core.coordinators.decided_taken t done) in
+        let plan = later.plan t begun in
+        record {
+          names = r.names ∙ sym (decided_same keeps t W.disk V.disk A.names later.root plan (later.got t (sealed_gone (W.disk.stage t) (whole.core.coordinators.decided_closed t done))));
+          done = r.done;
+          tops = tops ∙ r.tops;
+          top = r.top;
+          plan = r.plan ∙ sym plan;
+        }
+
+    bare : IsEndedBare keeps t A (record { world = W; names = N }) → IsEndedBare keeps t A (record { world = V; names = N })
+    bare b = record { names = b.names ∙ sym (ended_same keeps t W.disk V.disk A.names later.root); tops = tops ∙ b.tops; bare = later.bare t b.bare }
+
+module _ (g keeps : ℕ → Bool) (A : Office) (c0 : Named A) (parts : (t : ℕ) → g t ≡ true → keeps t ≡ false → HasNoPart A.world.disk t) where
   record Inv (C : Office) : Type 0 where
     only : OnlyRoots g A C
     later : IsLater A.world C.world
+    how : (t : ℕ) → IsOnly g t → HowDecided (keeps t) t A C
 
   begins : Inv A
-  begins = record { only = record { names = refl; root = refl; grows = λ h j on. on; from = λ h j on. inl on; had = λ h o. refl; kept = λ h o. refl; tops = λ r o. refl }; later = later_same A.world }
+  begins = record {
+    only = record { names = refl; root = refl; grows = λ h j on. on; from = λ h j on. inl on; had = λ h o. refl; kept = λ h o. refl; tops = λ r o. refl };
+    later = later_same A.world;
+    how = λ t one. inl (record { names = refl; tops = refl });
+  }
 
   module _ (C : Office) (c : Named C) (i : Inv C) where
     abbrev S : State
@@ -120,7 +185,11 @@ module _ (g : ℕ → Bool) (A : Office) (c0 : Named A) where
         record {
           names = C.names;
           named = subst (λ N. Named (record { world = after C.world a; names = N })) p.names (runs_keep C (act a ∷ []) (p.may, tt) c);
-          holds = record { only = record { names = only.names; root = on.root; grows = only.grows; from = only.from; had = only.had; kept = only.kept; tops = λ r o. ap (written_in A.world.disk.root r) p.tops ∙ only.tops r o }; later = on };
+          holds = record {
+            only = record { names = only.names; root = on.root; grows = only.grows; from = only.from; had = only.had; kept = only.kept; tops = λ r o. ap (written_in A.world.disk.root r) p.tops ∙ only.tops r o };
+            later = on;
+            how = λ t one. how_on (keeps t) t A C.names C.world (after C.world a) c.whole p.tops (effects_are_later C.world (a ∷ []) (allowed, tt) c.whole) (i.how t one);
+          };
         }
 
     module _ (t : ℕ) (one : g t ≡ true) where
@@ -154,47 +223,87 @@ module _ (g : ℕ → Bool) (A : Office) (c0 : Named A) where
           tops_own same (inl its) = inr (t, one, ap (λ f. f t) (sym only.root) ∙ sym same, its)
           tops_own same (inr (z, on_z, root_z, had_z)) = inr (z, on_z, sym (c0.roots.idem z) ∙ ap A.world.disk.root root_z ∙ ap (λ f. f t) (sym only.root) ∙ sym same, had_z)
 
+      -- the top's root retains what it has, or not
+      either_way : (W : World) (X Y : Names) → OnlyRoots g A (record { world = W; names = X }) → OnlyRoots g A (record { world = W; names = Y }) → (b : Bool) → OnlyRoots g A (record { world = W; names = chosen b X Y })
+      either_way W X Y kept left true = kept
+      either_way W X Y kept left false = left
+
+      named_way : (W : World) (X Y : Names) → Named (record { world = W; names = X }) → (keeps t ≡ false → Named (record { world = W; names = Y })) → (b : Bool) → keeps t ≡ b → Named (record { world = W; names = chosen b X Y })
+      named_way W X Y kept left true is = kept
+      named_way W X Y kept left false is = left is
+
+      -- where it doesn't the top has no part in the object
+      no_parts : keeps t ≡ false → HasPart (C.world.disk.plan t) → ⊥
+      no_parts off part = let q = parts t one off in never (part_tested (A.world.disk.plan t) (subst HasPart ((i.later).plan t q.0) part)) q.1
+
+      abbrev L : Names
+      L = record C.names { kept = lists_after C.world.disk t C.names.kept }
+
       decided : Allowed C.world (machine.Decide t) → Stepped Inv (after C.world (machine.Decide t))
       decided allowed = record {
-        names = retained C.world.disk t (record C.names { kept = lists_after C.world.disk t C.names.kept });
-        named = runs_keep C (Commit t ∷ []) (allowed, tt) c;
+        names = decided_names (keeps t) C.world.disk t C.names;
+        named = named_way (after C.world (machine.Decide t)) (retained C.world.disk t L) L (runs_keep C (Commit t ∷ []) (allowed, tt) c) (λ off. runs_keep C (act (machine.Decide t) ∷ []) ((allowed, inr (inr (no_part off))), tt) c) (keeps t) refl;
         holds = record {
-          only = record {
-            names = ap (λ (N : Names). record N { had = (retained C.world.disk t (record C.names { kept = lists_after C.world.disk t C.names.kept })).had; kept = (retained C.world.disk t (record C.names { kept = lists_after C.world.disk t C.names.kept })).kept }) only.names;
-            root = on.root;
-            grows = retains_more;
-            from = retains_from;
-            had = λ h o. put_other (C.world.disk.root t) (λ j. C.names.had (C.world.disk.root t) j || C.names.had t j) C.names.had h (other_kept h o) ∙ only.had h o;
-            kept = λ h o. put_other (C.world.disk.root t) (or_else (lists_after C.world.disk t C.names.kept (C.world.disk.root t)) (lists_after C.world.disk t C.names.kept t)) (lists_after C.world.disk t C.names.kept) h (other_kept h o) ∙ lists_other h o ∙ only.kept h o;
-            tops = tops_other;
-          };
+          only = either_way (after C.world (machine.Decide t)) (retained C.world.disk t L) L
+              (record {
+                names = ap (λ (N : Names). record N { had = (retained C.world.disk t L).had; kept = (retained C.world.disk t L).kept }) only.names;
+                root = on.root;
+                grows = retains_more;
+                from = retains_from;
+                had = λ h o. put_other (C.world.disk.root t) (λ j. C.names.had (C.world.disk.root t) j || C.names.had t j) C.names.had h (other_kept h o) ∙ only.had h o;
+                kept = λ h o. put_other (C.world.disk.root t) (or_else (lists_after C.world.disk t C.names.kept (C.world.disk.root t)) (lists_after C.world.disk t C.names.kept t)) (lists_after C.world.disk t C.names.kept) h (other_kept h o) ∙ lists_other h o ∙ only.kept h o;
+                tops = tops_other;
+              })
+              (record { names = ap (λ (N : Names). record N { kept = lists_after C.world.disk t C.names.kept }) only.names; root = on.root; grows = only.grows; from = only.from; had = only.had; kept = λ h o. lists_other h o ∙ only.kept h o; tops = tops_other })
+              (keeps t);
           later = on;
+          how = λ z o. let e : t ≡ z = o t one in subst (λ y. HowDecided (keeps y) y A (record { world = after C.world (machine.Decide t); names = decided_names (keeps t) C.world.disk t C.names })) e (now (i.how t (subst (IsOnly g) (sym e) o)));
         };
       }
         where
           on : IsLater A.world (after C.world (machine.Decide t))
           on = goes_on (machine.Decide t) allowed
 
+          no_part : keeps t ≡ false → HasPart (C.world.disk.plan t) → ⊥
+          no_part off = no_parts off
+
+          now : HowDecided (keeps t) t A C → HowDecided (keeps t) t A (record { world = after C.world (machine.Decide t); names = decided_names (keeps t) C.world.disk t C.names })
+          now (inl u) = inr (inl (record { names = ap (decided_names (keeps t) C.world.disk t) u.names; done = done_of C.world.disk t; tops = ap (λ ds. done_of C.world.disk t ∷ ds) u.tops; top = refl; plan = refl }))
+          now (inr (inl r)) = absurd (never (decided_done (keeps t) t A C r) allowed.1)
+          now (inr (inr b)) = absurd (never allowed.0 (ap is_some (c.whole.core.bare.no_record t b.bare)))
+
       ended_bare : Allowed C.world (machine.EndBare t) → Stepped Inv (after C.world (machine.EndBare t))
       ended_bare allowed = record {
-        names = retained C.world.disk t C.names;
-        named = runs_keep C (CommitBare t ∷ []) (allowed, tt) c;
+        names = ended_names (keeps t) C.world.disk t C.names;
+        named = named_way (after C.world (machine.EndBare t)) (retained C.world.disk t C.names) C.names (runs_keep C (CommitBare t ∷ []) (allowed, tt) c) (λ off. runs_keep C (act (machine.EndBare t) ∷ []) (allowed, tt) c) (keeps t) refl;
         holds = record {
-          only = record {
-            names = ap (λ (N : Names). record N { had = (retained C.world.disk t C.names).had; kept = (retained C.world.disk t C.names).kept }) only.names;
-            root = on.root;
-            grows = retains_more;
-            from = retains_from;
-            had = λ h o. put_other (C.world.disk.root t) (λ j. C.names.had (C.world.disk.root t) j || C.names.had t j) C.names.had h (other_kept h o) ∙ only.had h o;
-            kept = λ h o. put_other (C.world.disk.root t) (or_else (C.names.kept (C.world.disk.root t)) (C.names.kept t)) C.names.kept h (other_kept h o) ∙ only.kept h o;
-            tops = only.tops;
-          };
+          only = either_way (after C.world (machine.EndBare t)) (retained C.world.disk t C.names) C.names
+              (record {
+                names = ap (λ (N : Names). record N { had = (retained C.world.disk t C.names).had; kept = (retained C.world.disk t C.names).kept }) only.names;
+                root = on.root;
+                grows = retains_more;
+                from = retains_from;
+                had = λ h o. put_other (C.world.disk.root t) (λ j. C.names.had (C.world.disk.root t) j || C.names.had t j) C.names.had h (other_kept h o) ∙ only.had h o;
+                kept = λ h o. put_other (C.world.disk.root t) (or_else (C.names.kept (C.world.disk.root t)) (C.names.kept t)) C.names.kept h (other_kept h o) ∙ only.kept h o;
+                tops = only.tops;
+              })
+              (record { names = only.names; root = on.root; grows = only.grows; from = only.from; had = only.had; kept = only.kept; tops = only.tops })
+              (keeps t);
           later = on;
+          how = λ z o. let e : t ≡ z = o t one in subst (λ y. HowDecided (keeps y) y A (record { world = after C.world (machine.EndBare t); names = ended_names (keeps t) C.world.disk t C.names })) e (now (i.how t (subst (IsOnly g) (sym e) o)));
         };
       }
         where
           on : IsLater A.world (after C.world (machine.EndBare t))
           on = goes_on (machine.EndBare t) allowed
+
+          confirming : is_gone (C.world.disk.stage t) ≡ false
+          confirming = ap is_gone allowed.sealed
+
+          now : HowDecided (keeps t) t A C → HowDecided (keeps t) t A (record { world = after C.world (machine.EndBare t); names = ended_names (keeps t) C.world.disk t C.names })
+          now (inl u) = inr (inr (record { names = ap (ended_names (keeps t) C.world.disk t) u.names; tops = u.tops; bare = put_same t true C.world.disk.bare }))
+          now (inr (inl r)) = absurd (never (c.whole.core.coordinators.decided_closed t (decided_done (keeps t) t A C r)) confirming)
+          now (inr (inr b)) = absurd (never (c.whole.core.bare.gone t b.bare) confirming)
 
     one_step : (a : machine.Effect) → Allowed C.world a → Kind g a → Stepped Inv (after C.world a)
     one_step a allowed (Plainly is) = plain_step a allowed is
@@ -213,23 +322,23 @@ module _ (g : ℕ → Bool) (A : Office) (c0 : Named A) where
     inc_on : (W : World) (N : Names) → OnlyRoots g A (record { world = W; names = N }) → N.inc ≡ A.names.inc
     inc_on W N only = ap (λ (L : Names). L.inc) only.names
 
-    pub stops : (c : Disk) (N : Seen) → c.inc ≡ d.inc → N.nodes ≡ M.nodes → IsSeenByDisks x (followed tops A.world (only_decides g)) (halted e k c N) → IsSeenIn g x tops A (halted e k c N)
+    pub stops : (c : Disk) (N : Seen) → c.inc ≡ d.inc → N.nodes ≡ M.nodes → IsSeenByDisks x (followed tops A.world (only_decides g)) (halted e k c N) → IsSeenIn g keeps x tops A (halted e k c N)
     stops c N inc same (W, s) =
         let st = stepped W s.along in
         let i = st.holds in
-        (record { world = W; names = st.names }, record { only = i.only; along = s.along }, stopped_both x tops k d was A M both e (record { world = W; names = st.names }) N c st.named (inc_on W st.names i.only) (unfollowed x tops unwalked (only_decides g) A.world W (halted e k c N) s) inc same (λ other. memory_on W st.names i.only))
+        (record { world = W; names = st.names }, record { only = i.only; along = s.along; how = i.how }, stopped_both x tops k d was A M both e (record { world = W; names = st.names }) N c st.named (inc_on W st.names i.only) (unfollowed x tops unwalked (only_decides g) A.world W (halted e k c N) s) inc same (λ other. memory_on W st.names i.only))
 
-    ends : (c : Disk) (L : Seen) → c.inc ≡ d.inc → L.nodes ≡ M.nodes → Up (IsSeenByDisks x (followed tops A.world (only_decides g))) k v c L → Up (IsSeenIn g x tops A) k v c L
+    ends : (c : Disk) (L : Seen) → c.inc ≡ d.inc → L.nodes ≡ M.nodes → Up (IsSeenByDisks x (followed tops A.world (only_decides g))) k v c L → Up (IsSeenIn g keeps x tops A) k v c L
     ends c L inc same (W, s) =
         let st = stepped W s.along in
         let i = st.holds in
-        (record { world = W; names = st.names }, record { only = i.only; along = s.along }, seen_as x tops k d was A M both v (record { world = W; names = st.names }) L c st.named (inc_on W st.names i.only) (unfollowed x tops unwalked (only_decides g) A.world W (up k c v L) s) inc same (λ o one is. memory_on W st.names i.only o (mine o one is)) (λ other. memory_on W st.names i.only))
+        (record { world = W; names = st.names }, record { only = i.only; along = s.along; how = i.how }, seen_as x tops k d was A M both v (record { world = W; names = st.names }) L c st.named (inc_on W st.names i.only) (unfollowed x tops unwalked (only_decides g) A.world W (up k c v L) s) inc same (λ o one is. memory_on W st.names i.only o (mine o one is)) (λ other. memory_on W st.names i.only))
 
-    pub decisions_both : (outs : List Effect) → AreAll leaves_the_inc outs → Walks (IsSeenByDisks x (followed tops A.world (only_decides g))) e k outs (Up (IsSeenByDisks x (followed tops A.world (only_decides g))) k v) d M → Walks (IsSeenIn g x tops A) e k outs (Up (IsSeenIn g x tops A) k v) d M
-    decisions_both outs all walk = walks_at e k d M (IsSeenByDisks x (followed tops A.world (only_decides g))) (IsSeenIn g x tops A) (Up (IsSeenByDisks x (followed tops A.world (only_decides g))) k v) (Up (IsSeenIn g x tops A) k v) stops outs all d M refl refl (λ L inc same end. ends (left_disk outs d) L inc same end) walk
+    pub decisions_both : (outs : List Effect) → AreAll leaves_the_inc outs → Walks (IsSeenByDisks x (followed tops A.world (only_decides g))) e k outs (Up (IsSeenByDisks x (followed tops A.world (only_decides g))) k v) d M → Walks (IsSeenIn g keeps x tops A) e k outs (Up (IsSeenIn g keeps x tops A) k v) d M
+    decisions_both outs all walk = walks_at e k d M (IsSeenByDisks x (followed tops A.world (only_decides g))) (IsSeenIn g keeps x tops A) (Up (IsSeenByDisks x (followed tops A.world (only_decides g))) k v) (Up (IsSeenIn g keeps x tops A) k v) stops outs all d M refl refl (λ L inc same end. ends (left_disk outs d) L inc same end) walk
 
 pub decisions_keep_both : DecisionsKeepBoth
-decisions_keep_both x tops e k d was v outs g A M unwalked all mine both walk = decisions_both g A both.named x tops unwalked e k d was v M mine both outs all walk
+decisions_keep_both x tops e k d was v outs g keeps A M unwalked all parts mine both walk = decisions_both g keeps A both.named parts x tops unwalked e k d was v M mine both outs all walk
 
 -- ---- a commit begins
 
@@ -437,6 +546,7 @@ answered_both x tops e k d t v outs Q A M unwalked all naming both acts walk = w
 -- where grants and kept lists alone have changed no answer was given
 kept_only : (C D : Office) → OnlyKept C D → OnlyAnswers C D
 kept_only C D only = record {
+  grows = only.had;
   world = only.world;
   names = only.names ∙ ap (λ y. record C.names { had = D.names.had; kept = D.names.kept; answers = y }) (ap (λ (L : Names). L.answers) (sym only.names));
   answers = λ a j. subst (λ (L : Names). In a L.answers) (sym only.names) j;
@@ -477,7 +587,7 @@ loads_keep_both x tops e k d t v from h st top i l outs A M unwalked is free hel
         record {
           acts = AnswerLoad top i k l (packed st) ∷ [];
           may = (record { answered = subst (λ (L : Names). In (Bound top i true l) L.answers) (sym on.names) answered; listed = listed; free = q.0; held = q.1 }, tt);
-          there = (record { world = refl; names = refl; answers = λ a j. inr j }, (inl refl, nothing_of_roots A C on (Loaded top i (packed st))));
+          there = (record { world = refl; names = refl; answers = λ a j. inr j; grows = λ h z old. old }, (inl refl, nothing_of_roots A C on (Loaded top i (packed st))));
         }
 
 pub calls_keep_both : CallsKeepBoth

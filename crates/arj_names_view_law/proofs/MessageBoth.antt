@@ -1,9 +1,9 @@
 -- A message, walked with both halves.
 use Rattle.std.proofs.Common.{◌≡◌, ◌⊎◌, ◌==◌, ℕ, List, [], ◌∷◌, ◌++◌, Bool, true, false, Option, Some, None, refl, sym, ◌∙◌, ap, subst, inl, inr, ⊎_elim, is_some, filter, map}
-use Rattle.std.specs.Prelude.{if◌then◌else◌, option_map}
+use Rattle.std.specs.Prelude.{⊤, if◌then◌else◌, option_map}
 use Rattle.std.specs.List.{list_all}
-use Rattle.std.proofs.lemmas.Bool.{and_parts}
-use Rattle.arj_protocol.specs.Words.{Uid, Ask, Asked, BoundReply, End, Head, Message, ObjectState, What, asks, object}
+use Rattle.std.proofs.lemmas.Bool.{and_parts, or_parts}
+use Rattle.arj_protocol.specs.Words.{Uid, Ask, Asked, Binding, BoundReply, End, Head, Message, ObjectState, What, asks, object}
 use Rattle.arj_protocol.specs.Words.ask
 use Rattle.arj_protocol.specs.Words.body
 use Rattle.arj_protocol.specs.Words.cause
@@ -18,7 +18,8 @@ use Rattle.arj_protocol.specs.Asking.{heard, heard_by, heard_doing, heard_none, 
 use Rattle.arj_protocol.specs.Commit as commit
 use Rattle.arj_protocol.specs.Commit.{CommitStep, Aborts, Stays, Machine, Voting, Preparing, Confirming, plainly, votes_left, with_states}
 use Rattle.arj_protocol.specs.Confirm.{confirm}
-use Rattle.arj_protocol.specs.Coord.{Calling, Committing, Coord, Doing, Idle, Now, doing_of}
+use Rattle.arj_protocol.specs.Coord.{Calling, Committing, Coord, Doing, Idle, Now, doing_of, root_at, top_uses}
+use Rattle.arj_protocol.specs.Tree.{root_of}
 use Rattle.arj_protocol.specs.Effect.{Disk, Effect, Look, Prep, Ready, Already, Old, InDoubt, Say, Send, Do, Served, Prepare, held_at, holder_of, is_prepared, prepare_answer}
 use Rattle.arj_protocol.specs.Ending.{acked, answer_query}
 use Rattle.arj_protocol.specs.Naming as naming
@@ -39,7 +40,7 @@ use Rattle.arj_disk_law.specs.Names.{Office, Do as act}
 use Rattle.arj_disk_law.specs.State.{naming as naming_node}
 use Rattle.arj_disk_law.specs.Words.{In}
 use Rattle.arj_disk_law.proofs.Acts.{runs_keep}
-use Rattle.arj_disk_law.proofs.Base.{never, some_is, test_same}
+use Rattle.arj_disk_law.proofs.Base.{never, some_is, test_is, test_same}
 use Rattle.arj_disk_law.proofs.PlainActs.{plain_act}
 use Rattle.arj_view_law.specs.Seen as seen
 use Rattle.arj_view_law.specs.Seen.{Seen, up}
@@ -52,17 +53,20 @@ use Rattle.arj_disk_view_law.specs.Stores.{ClaimsAbort}
 use Rattle.arj_disk_view_law.proofs.CommitWalks.{aborts}
 use Rattle.arj_disk_view_law.proofs.Followed.{coord_on, kinds_on}
 use Rattle.arj_disk_view_law.proofs.Frames.{node_here, sends_seen}
-use Rattle.arj_disk_view_law.proofs.HeardWalks.{preparing_of}
+use Rattle.arj_disk_view_law.proofs.DecideWalks.{confirming_of}
+use Rattle.arj_disk_view_law.proofs.HeardWalks.{is_say, preparing_of}
+use Rattle.arj_disk_view_law.proofs.ServedWalks.{bind_says}
+use Rattle.arj_disk_view_law.specs.Plans.{plan_at}
 use Rattle.arj_disk_view_law.proofs.Later.{effects_are_later, later_on}
 use Rattle.arj_disk_view_law.proofs.StoreWalks.{took_is}
 use Rattle.arj_disk_view_law.proofs.ToldWalks.{ends_are_walked}
-use Rattle.arj_names_view_law.specs.Both.{BothWalk, DisksWalk, IsOver, IsSeenFrom, OnlyMemory, SeesBoth, leaves_the_inc}
-use Rattle.arj_names_view_law.specs.Calls.{ClaimsBound, ClaimsTop}
-use Rattle.arj_names_view_law.specs.Handlers.{CountsOn, IsSeenAfter, MayGoOn, MessagesKeepBoth, decided_by, decided_in, decided_of, waits_for_naming}
+use Rattle.arj_names_view_law.specs.Both.{BothWalk, DisksWalk, HasNoPart, IsOver, IsSeenFrom, OnlyMemory, SeesBoth, has_part, is_no_work, leaves_the_inc}
+use Rattle.arj_names_view_law.specs.Calls.{ClaimsBound, ClaimsTop, HasGiven}
+use Rattle.arj_names_view_law.specs.Handlers.{Answering, Change, CountsOn, Deciding, IsSeenAfter, MayGoOn, MessagesKeepBoth, Quietly, answer_change, asked_change, bind_change, change_by, doing_change, now_change, reply_change, root_retains}
 use Rattle.arj_names_view_law.specs.Memory.{SeesNaming}
 use Rattle.arj_names_view_law.proofs.CommitBoth.{GoesOn, begun_both, coord_leaves, going_both, left_goes, plain_both}
 use Rattle.arj_names_view_law.proofs.ConfirmBoth.{confirms_keep_both}
-use Rattle.arj_names_view_law.proofs.CoordBoth.{decisions_keep_both}
+use Rattle.arj_names_view_law.proofs.CoordBoth.{decisions_keep_both, no_work}
 use Rattle.arj_names_view_law.proofs.NamingWalks.{binds_keep_both, hellos_keep_both, notes_keep_both, queries_leave}
 use Rattle.arj_names_view_law.proofs.StepsBoth.{walks_start}
 use Rattle.arj_names_view_law.proofs.StepsFollowed.{messages_are_followed}
@@ -248,6 +252,64 @@ module _ (x : ℕ) (tops : Kinds) (unwalked : tops.walk ≡ None) (e k : ℕ) (d
       by None none = absurd (let clash : Void [] ≡ Took v outs = sym (served_by None none) ∙ is in cc)
       by (Some n) named = at_one n named k (sym (knows.naming_here n named).0) both is
 
+  -- the answer to a Bind is among the machine's
+  abbrev Answered_so : Change → Office → Type 0
+  Answered_so Quietly B = ⊤
+  Answered_so (Answering u r) B = HasGiven u r B.names
+  Answered_so (Deciding u keeps) B = ⊤
+
+  abbrev Walked_to : Change → ℕ → Type 0
+  Walked_to o j = Walks (IsSeenFrom x tops A) e j outs (λ c N. (B : Office) × OnlyMemory A B × SeesBoth x tops B (up j c v N) × Answered_so o B) d M
+
+  by_bind : (h : Head) (y : ℕ) (include : Bool) (avoid : Binding) → asks m ≡ Some (h, ask.Bind y include avoid) → serve k d t from h (ask.Bind y include avoid) ≡ Took v outs
+      → Walks (IsSeenFrom x tops A) e k outs (λ c N. (B : Office) × OnlyMemory A B × SeesBoth x tops B (up k c v N) × Answered_so (bind_change x y include avoid h d t.naming) B) d M
+  by_bind h y include avoid it is = by t.naming refl
+    where
+      claimed : (b : Bool) (r : BoundReply) (B : Office) → (y == x) ≡ b → ClaimsBound x y (uid_number (top_of h.path)) r B.names → Answered_so (if b then Answering (uid_number (top_of h.path)) r else Quietly) B
+      claimed true r B same claim = claim (test_is y x same)
+      claimed false r B same claim = tt
+
+      bound : (n : Naming) → t.naming ≡ Some n → SeesBoth x tops A (up 1 d t M) → serve 1 d t from h (ask.Bind y include avoid) ≡ Took v outs → DisksWalk (λ n. false) x tops A e k outs v d M → Walked_to (bind_change x y include avoid h d (Some n)) 1
+      bound n named seen g walk = by (let s = naming.bind h.path y include avoid d.names n in s.reply) refl
+        where
+          took : served from h (with_naming t) Reply.Bound (naming.bind h.path y include avoid d.names n) ≡ Took v outs
+          took = sym (ap (if_naming (λ z. served from h (with_naming t) Reply.Bound (naming.bind h.path y include avoid d.names z))) named) ∙ g
+
+          walked : DisksWalk (λ n. false) x tops A e 1 outs v d M
+          walked = subst (λ j. DisksWalk (λ n. false) x tops A e j outs v d M) (knows.naming_here n named).0 walk
+
+          by : (o : Option BoundReply) → (let s = naming.bind h.path y include avoid d.names n in s.reply) ≡ o → Walked_to (bind_change x y include avoid h d (Some n)) 1
+          by None none = absurd (let clash : Void [] ≡ Took v outs = sym (ap (λ o. sends_answer from h (with_naming t (naming.bind h.path y include avoid d.names n).part) (naming.bind h.path y include avoid d.names n).outs (option_map Reply.Bound o)) none) ∙ took in cc)
+          by (Some r) reply = walks_to (IsSeenFrom x tops A) (IsSeenFrom x tops A) e 1 outs (λ c N. (B : Office) × OnlyMemory A B × SeesBoth x tops B (up 1 c v N) × ClaimsBound x y (uid_number (top_of h.path)) r B.names)
+              (λ c N. (B : Office) × OnlyMemory A B × SeesBoth x tops B (up 1 c v N) × Answered_so (bind_change x y include avoid h d (Some n)) B) d M (λ N s. s)
+              (λ c N s. (s.0, s.1, s.2, subst (λ z. Answered_so (answer_change x y (top_of h.path) z) s.0) (sym reply) (claimed (y == x) r s.0 refl s.3)))
+              (binds_keep_both x y tops e d t v n from h include avoid r outs A M unwalked named reply g ((counts n named).path h (ask.Bind y include avoid) it) seen walked)
+
+      by : (o : Option Naming) → t.naming ≡ o → Walked_to (bind_change x y include avoid h d o) k
+      by None none = absurd (let clash : Void [] ≡ Took v outs = sym (ap (if_naming (λ n. served from h (with_naming t) Reply.Bound (naming.bind h.path y include avoid d.names n))) none) ∙ is in cc)
+      by (Some n) named = at_one n named k (sym (knows.naming_here n named).0) both is
+        where
+          at_one : (n : Naming) → t.naming ≡ Some n → (j : ℕ) → 1 ≡ j → SeesBoth x tops A (up j d t M) → serve j d t from h (ask.Bind y include avoid) ≡ Took v outs → Walked_to (bind_change x y include avoid h d (Some n)) j
+          at_one n named j one = subst (λ j. SeesBoth x tops A (up j d t M) → serve j d t from h (ask.Bind y include avoid) ≡ Took v outs → Walked_to (bind_change x y include avoid h d (Some n)) j) one (λ seen g. bound n named seen g (asked_walk h (ask.Bind y include avoid) it refl))
+
+  says_work : (es : List Effect) → AreAll is_say es → AreAll is_no_work es
+  says_work [] all = refl
+  says_work (Say b ∷ es) all = says_work es all
+  says_work (Send to q ∷ es) all = absurd (cc all)
+  says_work (Do w ∷ es) all = absurd (cc all)
+
+  bind_work : (h : Head) (y : ℕ) (include : Bool) (avoid : Binding) → serve k d t from h (ask.Bind y include avoid) ≡ Took v outs → AreAll is_no_work outs
+  bind_work h y include avoid is = by t.naming refl
+    where
+      sent_work : (p : Parts) (es : List Effect) (o : Option Reply) → AreAll is_no_work es → sends_answer from h p es o ≡ Took v outs → AreAll is_no_work outs
+      sent_work p es None all g = absurd (cc g)
+      sent_work p es (Some q) all g = took_is x k tops e (λ w fs. AreAll is_no_work fs) p (es ++ Send from (response (asked_by h) q) ∷ []) v outs g (all_both is_no_work es (Send from (response (asked_by h) q) ∷ []) all refl)
+
+      by : (o : Option Naming) → t.naming ≡ o → AreAll is_no_work outs
+      by None none = absurd (let clash : Void [] ≡ Took v outs = sym (ap (if_naming (λ n. served from h (with_naming t) Reply.Bound (naming.bind h.path y include avoid d.names n))) none) ∙ is in cc)
+      by (Some n) named = let s = naming.bind h.path y include avoid d.names n in sent_work (with_naming t s.part) s.outs (option_map Reply.Bound s.reply) (says_work s.outs (bind_says h.path y include avoid d.names n))
+          (sym (ap (if_naming (λ z. served from h (with_naming t) Reply.Bound (naming.bind h.path y include avoid d.names z))) named) ∙ is)
+
   by_ask : (h : Head) (a : Ask) → asks m ≡ Some (h, a) → serve k d t from h a ≡ Took v outs → Calm
   by_ask h (ask.Load y) it is = asked_calm h (ask.Load y) it refl (by (holder_of (object y) d.store) is)
     where
@@ -275,23 +337,7 @@ module _ (x : ℕ) (tops : Kinds) (unwalked : tops.walk ≡ None) (e k : ℕ) (d
       by : (b : Bool) → (if b then sends_answer from h t [] (Some (Reply.Prepared prepared.Yes)) else prepare_by k states from h t (prepare_answer (actor h.path) states d.store)) ≡ Took v outs → Leaves v outs
       by true g = sends_leave h t [] (Some (Reply.Prepared prepared.Yes)) (refl, refl) g
       by false g = new (prepare_answer (actor h.path) states d.store) g
-  by_ask h (ask.Bind y include avoid) it is = to_naming h (ask.Bind y include avoid) it (λ n. served from h (with_naming t) Reply.Bound (naming.bind h.path y include avoid d.names n))
-      (λ o named. ap (if_naming (λ n. served from h (with_naming t) Reply.Bound (naming.bind h.path y include avoid d.names n))) named) is
-      (λ n named j one. subst (λ j. SeesBoth x tops A (up j d t M) → serve j d t from h (ask.Bind y include avoid) ≡ Took v outs → BothWalk x tops A e j outs v d M) one (λ seen g. bound n named seen g (asked_walk h (ask.Bind y include avoid) it refl)))
-    where
-      bound : (n : Naming) → t.naming ≡ Some n → SeesBoth x tops A (up 1 d t M) → serve 1 d t from h (ask.Bind y include avoid) ≡ Took v outs → DisksWalk (λ n. false) x tops A e k outs v d M → BothWalk x tops A e 1 outs v d M
-      bound n named seen g walk = by (let s = naming.bind h.path y include avoid d.names n in s.reply) refl
-        where
-          took : served from h (with_naming t) Reply.Bound (naming.bind h.path y include avoid d.names n) ≡ Took v outs
-          took = sym (ap (if_naming (λ z. served from h (with_naming t) Reply.Bound (naming.bind h.path y include avoid d.names z))) named) ∙ g
-
-          walked : DisksWalk (λ n. false) x tops A e 1 outs v d M
-          walked = subst (λ j. DisksWalk (λ n. false) x tops A e j outs v d M) (knows.naming_here n named).0 walk
-
-          by : (o : Option BoundReply) → (let s = naming.bind h.path y include avoid d.names n in s.reply) ≡ o → BothWalk x tops A e 1 outs v d M
-          by None none = absurd (let clash : Void [] ≡ Took v outs = sym (ap (λ o. sends_answer from h (with_naming t (naming.bind h.path y include avoid d.names n).part) (naming.bind h.path y include avoid d.names n).outs (option_map Reply.Bound o)) none) ∙ took in cc)
-          by (Some r) reply = walks_to (IsSeenFrom x tops A) (IsSeenFrom x tops A) e 1 outs (λ c N. (B : Office) × OnlyMemory A B × SeesBoth x tops B (up 1 c v N) × ClaimsBound x y (uid_number (top_of h.path)) r B.names) (Up (IsSeenFrom x tops A) 1 v) d M (λ N s. s) (λ c N s. (s.0, s.1, s.2))
-              (binds_keep_both x y tops e d t v n from h include avoid r outs A M unwalked named reply g ((counts n named).path h (ask.Bind y include avoid) it) seen walked)
+  by_ask h (ask.Bind y include avoid) it is = walks_to (IsSeenFrom x tops A) (IsSeenFrom x tops A) e k outs (λ c N. (B : Office) × OnlyMemory A B × SeesBoth x tops B (up k c v N) × Answered_so (bind_change x y include avoid h d t.naming) B) (Up (IsSeenFrom x tops A) k v) d M (λ N s. s) (λ c N s. (s.0, s.1, s.2)) (by_bind h y include avoid it is)
   by_ask h (ask.Record y b i g0) it is = to_naming h (ask.Record y b i g0) it (λ n. served from h (with_naming t) Reply.Noted (naming.note h.path y b i g0 n))
       (λ o named. ap (if_naming (λ n. served from h (with_naming t) Reply.Noted (naming.note h.path y b i g0 n))) named) is
       (λ n named j one. subst (λ j. SeesBoth x tops A (up j d t M) → serve j d t from h (ask.Record y b i g0) ≡ Took v outs → BothWalk x tops A e j outs v d M) one
@@ -315,7 +361,7 @@ module _ (x : ℕ) (tops : Kinds) (unwalked : tops.walk ≡ None) (e k : ℕ) (d
       by (Some u) g = left_by (with_coord t s.part) s.outs g (refl, coord_leaves s.outs own)
 
   module _ (a : Asked) (r : Reply) (it : answers m ≡ Some (a, r)) (none : asks m ≡ None) (took : coord_heard t (heard from a r d.intents t.coord) ≡ Took v outs) where
-    abbrev Answered : Option ℕ → Type 0
+    abbrev Answered : Change → Type 0
     Answered o = Walks (IsSeenAfter o x tops A) e k outs (Up (IsSeenAfter o x tops A) k v) d M
 
     abbrev top : ℕ
@@ -324,8 +370,8 @@ module _ (x : ℕ) (tops : Kinds) (unwalked : tops.walk ≡ None) (e k : ℕ) (d
     leaves : Leaves v outs
     leaves = coord_leaves_all (heard from a r d.intents t.coord) (heard_own from a r d.intents t.coord) took
 
-    decided : decided_by t.coord m ≡ decided_in a.act (doing_of a.act t.coord)
-    decided = ap (decided_of t.coord) it
+    decided : change_by x d t m ≡ doing_change x a.act t.coord (doing_of a.act t.coord)
+    decided = ap (asked_change x d t m) none ∙ ap (reply_change x t.coord) it
 
     notes : (f : Note → Bool) → ((q : Doing) (z : Machine) → doing_of a.act t.coord ≡ Some q → q.now ≡ Committing z → f (commit_note z (uid_number a.act)) ≡ true) → Notes_at f
     notes f ok = record {
@@ -343,7 +389,7 @@ module _ (x : ℕ) (tops : Kinds) (unwalked : tops.walk ≡ None) (e k : ℕ) (d
     answer_walk f ok = walk_at f (notes f ok) booked
 
     -- no commit is answered
-    uncommitted : is_committing (doing_of a.act t.coord) ≡ false → decided_in a.act (doing_of a.act t.coord) ≡ None → Answered (decided_by t.coord m)
+    uncommitted : is_committing (doing_of a.act t.coord) ≡ false → doing_change x a.act t.coord (doing_of a.act t.coord) ≡ Quietly → Answered (change_by x d t m)
     uncommitted off undecided = subst Answered (sym (decided ∙ undecided)) (calm leaves (answer_walk (λ n. false) (λ q z does now. absurd (never (ap is_committing does ∙ ap is_committing_now now) off))))
 
     module _ (q : Doing) (does : doing_of a.act t.coord ≡ Some q) where
@@ -354,17 +400,25 @@ module _ (x : ℕ) (tops : Kinds) (unwalked : tops.walk ≡ None) (e k : ℕ) (d
       knows_it : (z : Machine) → q.now ≡ Committing z → KnowsMachine tops t.coord a.act z
       knows_it z now = knows.coord.machines a.act q z does now
 
-      preparing : (p : commit.Plan) (left : List ℕ) → q.now ≡ Committing (Preparing p left) → Answered None
+      preparing : (p : commit.Plan) (left : List ℕ) → q.now ≡ Committing (Preparing p left) → Answered Quietly
       preparing p left now =
           let h = knows_it (Preparing p left) now in
           let works = (both.disks.coords k (record { number = k; disk = d; live = Some t }) t (node_here M k (record { number = k; disk = d; live = Some t })) refl).working a.act h.branch q h.found h.unended does in
           begun_both x tops unwalked e k d t A M both top v outs (preparing_of x tops A.world.disk top (let b = h.branch in b.kind) q.now p left h.top now works).begun leaves.1 leaves.0
           (answer_walk (only_begins top) (λ w y also now_then. subst (λ z. only_begins top (commit_note z top) ≡ true) (one_machine (Preparing p left) now w y also now_then) (test_same top)))
 
-      confirming : (p : commit.Plan) → q.now ≡ Committing (Confirming p) → Answered (Some top)
-      confirming p now = decisions_keep_both x tops e k d (Some t) v outs (λ z. z == top) A M unwalked leaves.1 mine both
+      confirming : (p : commit.Plan) → q.now ≡ Committing (Confirming p) → Answered (Deciding top (root_retains x a.act p t.coord))
+      confirming p now = decisions_keep_both x tops e k d (Some t) v outs (λ z. z == top) (λ z. root_retains x a.act p t.coord) A M unwalked leaves.1 no_part mine both
           (answer_walk (only_decides (λ z. z == top)) (λ w y also now_then. subst (λ z. only_decides (λ n. n == top) (commit_note z top) ≡ true) (one_machine (Confirming p) now w y also now_then) (test_same top)))
         where
+          no_part : (z : ℕ) → (z == top) ≡ true → root_retains x a.act p t.coord ≡ false → HasNoPart A.world.disk z
+          no_part z same off =
+              let h = knows_it (Confirming p) now in
+              let works = (both.disks.coords k (record { number = k; disk = d; live = Some t }) t (node_here M k (record { number = k; disk = d; live = Some t })) refl).working a.act h.branch q h.found h.unended does in
+              let sees = confirming_of x tops A.world.disk top (let b = h.branch in b.kind) q.now p h.top now works in
+              let parts = or_parts (top_uses a.act x (root_at (root_of p.path) t.coord) t.coord) (has_part (plan_at x p)) off in
+              subst (HasNoPart A.world.disk) (sym (test_is z top same)) (sees.begun, ap has_part sees.plan ∙ parts.1)
+
           mine : (o : Naming) → k ≡ 1 → v.naming ≡ Some o → SeesNaming x tops o A.world.disk A.names
           mine o one is = both.names.memory (record { number = k; disk = d; live = Some t }) t o (ap (λ j. (up k d t M).nodes j) (sym one) ∙ node_here M k (record { number = k; disk = d; live = Some t })) refl (sym leaves.0 ∙ is)
 
@@ -376,10 +430,10 @@ module _ (x : ℕ) (tops : Kinds) (unwalked : tops.walk ≡ None) (e k : ℕ) (d
         h = knows_it (Voting p left) now
 
         -- by what is asked next, or not yet
-        votes_go : (s : Reply) (step : CommitStep) → commit.answered from (Voting p left) s ≡ plainly step → GoesOn step → Took_by s → Answered None
+        votes_go : (s : Reply) (step : CommitStep) → commit.answered from (Voting p left) s ≡ plainly step → GoesOn step → Took_by s → Answered Quietly
         votes_go s step step_is goes = by (waits_for_commit from a s (Voting p left))
           where
-            by : (b : Bool) → coord_heard t (if b then heard_by (moved_commit a.act (commit.answered from (Voting p left) s) d.intents t.coord) else heard_none t.coord) ≡ Took v outs → Answered None
+            by : (b : Bool) → coord_heard t (if b then heard_by (moved_commit a.act (commit.answered from (Voting p left) s) d.intents t.coord) else heard_none t.coord) ≡ Took v outs → Answered Quietly
             by false g = absurd (cc g)
             by true g = let did = moved_commit a.act (plainly step) d.intents t.coord in
                 took_is x k tops e (λ w es. MayGoOn x A w.coord → DisksWalk (only_begins top) x tops A e k es w d M → BothWalk x tops A e k es w d M) (with_coord t did.part) did.outs v outs
@@ -388,10 +442,10 @@ module _ (x : ℕ) (tops : Kinds) (unwalked : tops.walk ≡ None) (e k : ℕ) (d
                 (answer_walk (only_begins top) (λ w y also now_then. subst (λ z. only_begins top (commit_note z top) ≡ true) (one_machine (Voting p left) now w y also now_then) (test_same top)))
 
         -- a vote is refused
-        changed : (w : What) → Took_by (Reply.Voted (voted.Changed w)) → Answered None
+        changed : (w : What) → Took_by (Reply.Voted (voted.Changed w)) → Answered Quietly
         changed w = by (waits_for_commit from a (Reply.Voted (voted.Changed w)) (Voting p left))
           where
-            by : (b : Bool) → coord_heard t (if b then heard_by (moved_commit a.act (commit.answered from (Voting p left) (Reply.Voted (voted.Changed w))) d.intents t.coord) else heard_none t.coord) ≡ Took v outs → Answered None
+            by : (b : Bool) → coord_heard t (if b then heard_by (moved_commit a.act (commit.answered from (Voting p left) (Reply.Voted (voted.Changed w))) d.intents t.coord) else heard_none t.coord) ≡ Took v outs → Answered Quietly
             by false g = absurd (cc g)
             by true g = let did = moved_commit a.act (plainly (Aborts (cause.Changed from (differs w)) p)) d.intents t.coord in
                 let Z : Option Walk = Some (record { from = A.world; noted = λ n. false }) in
@@ -402,7 +456,7 @@ module _ (x : ℕ) (tops : Kinds) (unwalked : tops.walk ≡ None) (e k : ℕ) (d
         stays : GoesOn (Stays (Voting p left))
         stays = (Voting p left, inr refl)
 
-        voting : (s : Reply) → Took_by s → Answered None
+        voting : (s : Reply) → Took_by s → Answered Quietly
         voting (Reply.Voted (voted.Yes states)) = votes_go (Reply.Voted (voted.Yes states)) (votes_left (without_number from left) (record p { changed = with_states states p.changed })) refl
             (left_goes (without_number from left) (record p { changed = with_states states p.changed }) h.used h.more h.uses)
         voting (Reply.Voted (voted.Changed w)) = changed w
@@ -414,17 +468,17 @@ module _ (x : ℕ) (tops : Kinds) (unwalked : tops.walk ≡ None) (e k : ℕ) (d
         voting (Reply.Prepared s) = votes_go (Reply.Prepared s) (Stays (Voting p left)) refl stays
         voting (Reply.Confirmed s) = votes_go (Reply.Confirmed s) (Stays (Voting p left)) refl stays
 
-      by_now : (now : Now) → q.now ≡ now → coord_heard t (heard_now from a r d.intents t.coord now) ≡ Took v outs → Answered (decided_by t.coord m)
-      by_now Idle is g = uncommitted (ap is_committing does ∙ ap is_committing_now is) (ap (decided_in a.act) does ∙ ap (λ n. if waits_for_naming n then Some (uid_number a.act) else None) is)
-      by_now (Calling s) is g = uncommitted (ap is_committing does ∙ ap is_committing_now is) (ap (decided_in a.act) does ∙ ap (λ n. if waits_for_naming n then Some (uid_number a.act) else None) is)
-      by_now (Committing (Voting p left)) is g = subst Answered (sym (decided ∙ ap (decided_in a.act) does ∙ ap (λ n. if waits_for_naming n then Some (uid_number a.act) else None) is)) (voting p left is r g)
-      by_now (Committing (Preparing p left)) is g = subst Answered (sym (decided ∙ ap (decided_in a.act) does ∙ ap (λ n. if waits_for_naming n then Some (uid_number a.act) else None) is)) (preparing p left is)
-      by_now (Committing (Confirming p)) is g = subst Answered (sym (decided ∙ ap (decided_in a.act) does ∙ ap (λ n. if waits_for_naming n then Some (uid_number a.act) else None) is)) (confirming p is)
+      by_now : (now : Now) → q.now ≡ now → coord_heard t (heard_now from a r d.intents t.coord now) ≡ Took v outs → Answered (change_by x d t m)
+      by_now Idle is g = uncommitted (ap is_committing does ∙ ap is_committing_now is) (ap (doing_change x a.act t.coord) does ∙ ap (now_change x a.act t.coord) is)
+      by_now (Calling s) is g = uncommitted (ap is_committing does ∙ ap is_committing_now is) (ap (doing_change x a.act t.coord) does ∙ ap (now_change x a.act t.coord) is)
+      by_now (Committing (Voting p left)) is g = subst Answered (sym (decided ∙ ap (doing_change x a.act t.coord) does ∙ ap (now_change x a.act t.coord) is)) (voting p left is r g)
+      by_now (Committing (Preparing p left)) is g = subst Answered (sym (decided ∙ ap (doing_change x a.act t.coord) does ∙ ap (now_change x a.act t.coord) is)) (preparing p left is)
+      by_now (Committing (Confirming p)) is g = subst Answered (sym (decided ∙ ap (doing_change x a.act t.coord) does ∙ ap (now_change x a.act t.coord) is)) (confirming p is)
 
-    by_answer : Answered (decided_by t.coord m)
+    by_answer : Answered (change_by x d t m)
     by_answer = by (doing_of a.act t.coord) refl took
       where
-        by : (o : Option Doing) → doing_of a.act t.coord ≡ o → coord_heard t (heard_doing from a r d.intents t.coord o) ≡ Took v outs → Answered (decided_by t.coord m)
+        by : (o : Option Doing) → doing_of a.act t.coord ≡ o → coord_heard t (heard_doing from a r d.intents t.coord o) ≡ Took v outs → Answered (change_by x d t m)
         by None is g = absurd (cc g)
         by (Some q) is g = by_now q is q.now refl g
 
@@ -529,21 +583,60 @@ module _ (x : ℕ) (tops : Kinds) (unwalked : tops.walk ≡ None) (e k : ℕ) (d
   -- ---- whichever it is
 
   abbrev So : Type 0
-  So = Walks (IsSeenAfter (decided_by t.coord m) x tops A) e k outs (Up (IsSeenAfter (decided_by t.coord m) x tops A) k v) d M
+  So = Walks (IsSeenAfter (change_by x d t m) x tops A) e k outs (Up (IsSeenAfter (change_by x d t m) x tops A) k v) d M
 
-  calmly : answers m ≡ None → Calm → So
-  calmly none walk = subst (λ o. Walks (IsSeenAfter o x tops A) e k outs (Up (IsSeenAfter o x tops A) k v) d M) (sym (ap (decided_of t.coord) none)) walk
+  calmly : change_by x d t m ≡ Quietly → Calm → So
+  calmly quiet walk = subst (λ o. Walks (IsSeenAfter o x tops A) e k outs (Up (IsSeenAfter o x tops A) k v) d M) (sym quiet) walk
+
+  -- nothing is decided
+  abbrev IsCalm : Change → Type 0
+  IsCalm Quietly = ⊤
+  IsCalm (Answering u r) = ⊤
+  IsCalm (Deciding u keeps) = ⊥
+
+  -- a Bind's walk has no work on which a stop could fall
+  bind_so : (h : Head) (y : ℕ) (include : Bool) (avoid : Binding) → asks m ≡ Some (h, ask.Bind y include avoid) → serve k d t from h (ask.Bind y include avoid) ≡ Took v outs → So
+  bind_so h y include avoid it is = subst (λ o. Walks (IsSeenAfter o x tops A) e k outs (Up (IsSeenAfter o x tops A) k v) d M) (sym (ap (asked_change x d t m) it))
+      (no_work e k M (IsSeenFrom x tops A) (IsSeenAfter (bind_change x y include avoid h d t.naming) x tops A) (λ c N. (B : Office) × OnlyMemory A B × SeesBoth x tops B (up k c v N) × Answered_so (bind_change x y include avoid h d t.naming) B)
+      (Up (IsSeenAfter (bind_change x y include avoid h d t.naming) x tops A) k v) d (λ L same s. turned (bind_change x y include avoid h d t.naming) (bind_calm t.naming) s) outs (bind_work h y include avoid is) M refl (by_bind h y include avoid it is))
+    where
+      answer_calm : (o : Option BoundReply) → IsCalm (answer_change x y (top_of h.path) o)
+      answer_calm None = tt
+      answer_calm (Some r) = by (y == x)
+        where
+          by : (b : Bool) → IsCalm (if b then Answering (uid_number (top_of h.path)) r else Quietly)
+          by true = tt
+          by false = tt
+
+      bind_calm : (o : Option Naming) → IsCalm (bind_change x y include avoid h d o)
+      bind_calm None = tt
+      bind_calm (Some n) = answer_calm (let s = naming.bind h.path y include avoid d.names n in s.reply)
+
+      turned : {N : Seen} (o : Change) → IsCalm o → (B : Office) × OnlyMemory A B × SeesBoth x tops B N × Answered_so o B → IsSeenAfter o x tops A N
+      turned Quietly calm s = (s.0, s.1, s.2)
+      turned (Answering u r) calm s = (s.0, (s.1, s.3), s.2)
+      turned (Deciding u keeps) calm s = absurd calm
+
+  asked_so : (h : Head) (a : Ask) → asks m ≡ Some (h, a) → serve k d t from h a ≡ Took v outs → So
+  asked_so h (ask.Bind y include avoid) it is = bind_so h y include avoid it is
+  asked_so h (ask.Load y) it is = calmly (ap (asked_change x d t m) it) (by_ask h (ask.Load y) it is)
+  asked_so h (ask.Activate b st) it is = calmly (ap (asked_change x d t m) it) (by_ask h (ask.Activate b st) it is)
+  asked_so h (ask.Record y b i g0) it is = calmly (ap (asked_change x d t m) it) (by_ask h (ask.Record y b i g0) it is)
+  asked_so h (ask.Invoke y b i ends op) it is = calmly (ap (asked_change x d t m) it) (by_ask h (ask.Invoke y b i ends op) it is)
+  asked_so h (ask.Vote i ties ends) it is = calmly (ap (asked_change x d t m) it) (by_ask h (ask.Vote i ties ends) it is)
+  asked_so h (ask.Prepare states) it is = calmly (ap (asked_change x d t m) it) (by_ask h (ask.Prepare states) it is)
+  asked_so h (ask.Confirm grants excluded included) it is = calmly (ap (asked_change x d t m) it) (by_ask h (ask.Confirm grants excluded included) it is)
 
   pub message_both : So
   message_both = by (asks m) refl
     where
       by_answers : asks m ≡ None → (o : Option (Asked × Reply)) → answers m ≡ o → So
-      by_answers none None also = calmly also (by_other none also m refl (sym (ap (handle_answer k d t from m) also) ∙ (sym (ap (handle_ask k d t from m) none) ∙ handled)))
+      by_answers none None also = calmly (ap (asked_change x d t m) none ∙ ap (reply_change x t.coord) also) (by_other none also m refl (sym (ap (handle_answer k d t from m) also) ∙ (sym (ap (handle_ask k d t from m) none) ∙ handled)))
       by_answers none (Some a) it = by_answer a.0 a.1 it none (sym (ap (handle_answer k d t from m) it) ∙ (sym (ap (handle_ask k d t from m) none) ∙ handled))
 
       by : (o : Option (Head × Ask)) → asks m ≡ o → So
       by None none = by_answers none (answers m) refl
-      by (Some a) it = calmly (asked_only m a it) (by_ask a.0 a.1 it (sym (ap (handle_ask k d t from m) it) ∙ handled))
+      by (Some a) it = asked_so a.0 a.1 it (sym (ap (handle_ask k d t from m) it) ∙ handled)
 
 pub messages_keep_both : MessagesKeepBoth
 messages_keep_both x tops e k d t v from m outs A M unwalked knows sent counts may handled both = message_both x tops unwalked e k d t v from m outs A M knows sent counts may handled both

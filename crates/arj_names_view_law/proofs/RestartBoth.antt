@@ -163,10 +163,10 @@ module _ (x : ℕ) (tops : Kinds) (unwalked : tops.walk ≡ None) (e k : ℕ) (h
   both_said = record { named = risen.named; disks = says_seen x tops A.world (down k d1 M) (numbered e (body.Up k (d.inc + 1) ∷ [])) both_risen.disks; names = record { inc = risen.seen.inc; memory = risen.seen.memory } }
 
   early : P (halted e k d M) → IsSeenAgain g x tops A (halted e k d M)
-  early p = let r = stops g A both.named x tops unwalked e k d None Nobody M (no_naming A.names) both d M refl refl p in (r.0, record { only = again g A A.names refl refl refl r.0 r.1.only; from = from_again g A A.names refl r.0 (let o = r.1.only in o.from); along = r.1.along }, r.2)
+  early p = let r = stops g (λ t. true) A both.named (λ t on off. absurd (never refl off)) x tops unwalked e k d None Nobody M (no_naming A.names) both d M refl refl p in (r.0, record { only = again g A A.names refl refl refl r.0 r.1.only; from = from_again g A A.names refl r.0 (let o = r.1.only in o.from); along = r.1.along }, r.2)
 
   late : P (halted e k d1 M) → IsSeenAgain g x tops A (halted e k d1 M)
-  late p = let r = stops g Now_office risen.named x tops unwalked e k d1 None Nobody M (no_naming risen.names) both_risen d1 M refl refl p in (r.0, record { only = again g A risen.names risen.had risen.kept risen.answers r.0 r.1.only; from = from_again g A risen.names risen.had r.0 (let o = r.1.only in o.from); along = r.1.along }, r.2)
+  late p = let r = stops g (λ t. true) Now_office risen.named (λ t on off. absurd (never refl off)) x tops unwalked e k d1 None Nobody M (no_naming risen.names) both_risen d1 M refl refl p in (r.0, record { only = again g A risen.names risen.had risen.kept risen.answers r.0 r.1.only; from = from_again g A risen.names risen.had r.0 (let o = r.1.only in o.from); along = r.1.along }, r.2)
 
   looks : (how : Stop) → P (halted e k (stopped how Look d) M) → IsSeenAgain g x tops A (halted e k (stopped how Look d) M)
   looks Before p = early p
@@ -184,9 +184,9 @@ module _ (x : ℕ) (tops : Kinds) (unwalked : tops.walk ≡ None) (e k : ℕ) (h
     λ how. looks how (walk.0 how),
     (
       λ how. rises how (walk.1.0 how),
-      walks_to (IsSeenIn g x tops Now_office) (IsSeenAgain g x tops A) e k Rest (Up (IsSeenIn g x tops Now_office) k (parts_in k (d.inc + 1) d)) (Up (IsSeenAgain g x tops A) k (parts_in k (d.inc + 1) d)) d1 (said e (body.Up k (d.inc + 1) ∷ []) M)
+      walks_to (IsSeenIn g (λ t. true) x tops Now_office) (IsSeenAgain g x tops A) e k Rest (Up (IsSeenIn g (λ t. true) x tops Now_office) k (parts_in k (d.inc + 1) d)) (Up (IsSeenAgain g x tops A) k (parts_in k (d.inc + 1) d)) d1 (said e (body.Up k (d.inc + 1) ∷ []) M)
           (λ N r. (r.0, record { only = again g A risen.names risen.had risen.kept risen.answers r.0 r.1.only; from = from_again g A risen.names risen.had r.0 (let o = r.1.only in o.from); along = r.1.along }, r.2)) (λ c N r. (r.0, record { only = again g A risen.names risen.had risen.kept risen.answers r.0 r.1.only; from = from_again g A risen.names risen.had r.0 (let o = r.1.only in o.from); along = r.1.along }, r.2))
-          (decisions_keep_both x tops e k d1 None (parts_in k (d.inc + 1) d) Rest g Now_office (said e (body.Up k (d.inc + 1) ∷ []) M) unwalked rest_leaves risen.memory both_said walk.1.1),
+          (decisions_keep_both x tops e k d1 None (parts_in k (d.inc + 1) d) Rest g (λ t. true) Now_office (said e (body.Up k (d.inc + 1) ∷ []) M) unwalked rest_leaves (λ t on off. absurd (never refl off)) risen.memory both_said walk.1.1),
     ),
   )
 

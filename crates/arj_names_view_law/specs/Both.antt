@@ -1,10 +1,11 @@
 -- Both halves of an object's machine in what is seen, of one state: stores, entry and coordinators, and naming's memory.
-use Rattle.std.specs.Prelude.{◌≡◌, ◌⊎◌, ◌+◌, ◌==◌, ℕ, Bool, true, false, List, [], Option, Some, None, is_some}
+use Rattle.std.specs.Prelude.{◌≡◌, ◌⊎◌, ◌+◌, ◌==◌, ◌||◌, not, ℕ, Bool, true, false, List, [], ◌∷◌, Option, Some, None, is_some}
 use Rattle.arj_protocol.specs.Words.{Uid, Binding, Body, BoundReply, End, Head, Header, Label, ObjectState, is_on, object}
 use Rattle.arj_protocol.specs.Words.ask
 use Rattle.arj_protocol.specs.Words.ending
 use Rattle.arj_protocol.specs.Ask.{top_of}
 use Rattle.arj_protocol.specs.Call.{At, Known}
+use Rattle.arj_protocol.specs.Commit.{is_empty}
 use Rattle.arj_protocol.specs.Confirm.{Grants, Marks}
 use Rattle.arj_protocol.specs.Effect.{Disk, Effect, Say, Send, Do, Work, PutInc, is_prepared, held_at, holder_of}
 use Rattle.arj_protocol.specs.Naming.{Naming, bind}
@@ -18,8 +19,9 @@ use Rattle.arj_disk_law.specs.Effects.{World, Allowed, Begin}
 use Rattle.arj_disk_law.specs.Guards.{Note, MayBegin, only_acks, only_begins, only_decides}
 use Rattle.arj_disk_law.specs.Messages.{ToldSerial}
 use Rattle.arj_disk_law.specs.Named.{Named}
-use Rattle.arj_disk_law.specs.Names.{Answer, Bound, Loaded, Office, written_in}
-use Rattle.arj_disk_law.specs.State.{State, Plan, Idle, undecided}
+use Rattle.arj_disk_law.specs.Names.{Answer, Bound, Loaded, Names, Office, lists_after, retained, written_in}
+use Rattle.arj_disk_law.specs.Offices.{chosen}
+use Rattle.arj_disk_law.specs.State.{State, Done, Plan, Idle, undecided}
 use Rattle.arj_disk_law.specs.Words.{In, has}
 use Rattle.arj_view_law.specs.Seen.{Seen, at, down, given, said, see, up}
 use Rattle.arj_view_law.specs.Walks.{Walks, Up, halted}
@@ -169,20 +171,64 @@ pub record OnlyRoots (g : ℕ → Bool) (A B : Office) : Type 0 where
   pub kept : (h : ℕ) → IsOther g A.world.disk (A.world.disk.root h) → B.names.kept h ≡ A.names.kept h
   pub tops : (r : ℕ) → IsOther g A.world.disk r → written_in A.world.disk.root r B.world.disk.tops ≡ written_in A.world.disk.root r A.world.disk.tops
 
--- and the disk half has come here by deciding none but these
-pub record OnlyDecided (g : ℕ → Bool) (A B : Office) : Type 0 where
+-- a plan has a part in the object
+abbrev pub has_part : Plan → Bool
+has_part p = is_some p.writes || not (is_empty p.joins)
+
+-- the top's commit has begun, without a part in the object
+abbrev pub HasNoPart : State → ℕ → Type 0
+HasNoPart S t = (S.begun t ≡ true) × (has_part (S.plan t) ≡ false)
+
+-- naming's half once a top is decided, with its record or without one: its root retains what it has, or doesn't
+abbrev pub decided_names : Bool → State → ℕ → Names → Names
+decided_names keeps S t N = let L = record N { kept = lists_after S t N.kept } in chosen keeps (retained S t L) L
+
+abbrev pub ended_names : Bool → State → ℕ → Names → Names
+ended_names keeps S t N = chosen keeps (retained S t N) N
+
+-- nothing of naming's half was changed by a decision so far
+pub record IsUndecided (A B : Office) : Type 0 where
+  pub names : B.names ≡ A.names
+  pub tops : B.world.disk.tops ≡ A.world.disk.tops
+
+-- the top was decided with its record, and is the last one that was
+pub record IsRecorded (keeps : Bool) (t : ℕ) (A B : Office) : Type 0 where
+  pub names : B.names ≡ decided_names keeps B.world.disk t A.names
+  pub done : Done
+  pub tops : B.world.disk.tops ≡ done ∷ A.world.disk.tops
+  pub top : done.top ≡ t
+  pub plan : done.plan ≡ B.world.disk.plan t
+
+-- its commit ended without one
+pub record IsEndedBare (keeps : Bool) (t : ℕ) (A B : Office) : Type 0 where
+  pub names : B.names ≡ ended_names keeps B.world.disk t A.names
+  pub tops : B.world.disk.tops ≡ A.world.disk.tops
+  pub bare : B.world.disk.bare t ≡ true
+
+-- how a top's outcome was decided, if it was
+abbrev pub HowDecided : Bool → ℕ → Office → Office → Type 0
+HowDecided keeps t A B = IsUndecided A B ⊎ (IsRecorded keeps t A B ⊎ IsEndedBare keeps t A B)
+
+-- there is no other top among these
+abbrev pub IsOnly : (ℕ → Bool) → ℕ → Type 0
+IsOnly g t = (z : ℕ) → g z ≡ true → z ≡ t
+
+-- And the disk half has come here by deciding none but these. Where one top alone may be decided it is said how naming's half is
+-- afterwards.
+pub record OnlyDecided (g keeps : ℕ → Bool) (A B : Office) : Type 0 where
   pub only : OnlyRoots g A B
   pub along : Along (record { from = A.world; noted = only_decides g }) B.world
+  pub how : (t : ℕ) → IsOnly g t → HowDecided (keeps t) t A B
 
-abbrev pub IsSeenIn : (ℕ → Bool) → ℕ → Kinds → Office → Seen → Type 0
-IsSeenIn g x tops A M = (B : Office) × OnlyDecided g A B × SeesBoth x tops B M
+abbrev pub IsSeenIn : (ℕ → Bool) → (ℕ → Bool) → ℕ → Kinds → Office → Seen → Type 0
+IsSeenIn g keeps x tops A M = (B : Office) × OnlyDecided g keeps A B × SeesBoth x tops B M
 
--- A node decides some of these tops, or ends their commits without a record, and naming's memory is as it was. The root of each may
--- retain what the top has.
+-- A node decides some of these tops, or ends their commits without a record, and naming's memory is as it was. The root of each
+-- retains what the top has, or doesn't where the top has no part in the object.
 abbrev pub DecisionsKeepBoth : Type 0
-DecisionsKeepBoth = (x : ℕ) (tops : Kinds) (e k : ℕ) (d : Disk) (was : Option Parts) (v : Parts) (outs : List Effect) (g : ℕ → Bool) (A : Office) (M : Seen) → tops.walk ≡ None → AreAll leaves_the_inc outs
-    → ((o : Naming) → k ≡ 1 → v.naming ≡ Some o → SeesNaming x tops o A.world.disk A.names) → SeesBoth x tops A (at k d was M)
-    → Walks (IsSeenByDisks x (followed tops A.world (only_decides g))) e k outs (Up (IsSeenByDisks x (followed tops A.world (only_decides g))) k v) d M → Walks (IsSeenIn g x tops A) e k outs (Up (IsSeenIn g x tops A) k v) d M
+DecisionsKeepBoth = (x : ℕ) (tops : Kinds) (e k : ℕ) (d : Disk) (was : Option Parts) (v : Parts) (outs : List Effect) (g keeps : ℕ → Bool) (A : Office) (M : Seen) → tops.walk ≡ None → AreAll leaves_the_inc outs
+    → ((t : ℕ) → g t ≡ true → keeps t ≡ false → HasNoPart A.world.disk t) → ((o : Naming) → k ≡ 1 → v.naming ≡ Some o → SeesNaming x tops o A.world.disk A.names) → SeesBoth x tops A (at k d was M)
+    → Walks (IsSeenByDisks x (followed tops A.world (only_decides g))) e k outs (Up (IsSeenByDisks x (followed tops A.world (only_decides g))) k v) d M → Walks (IsSeenIn g keeps x tops A) e k outs (Up (IsSeenIn g keeps x tops A) k v) d M
 
 -- no work on the disk
 abbrev pub is_no_work : Effect → Bool
@@ -252,11 +298,12 @@ OtherRootsStay = (x : ℕ) (tops : Kinds) (g : ℕ → Bool) (root : Uid) (c : C
 
 -- ---- answers are taken and given
 
--- Of naming's half only grants, kept lists and answers have changed; answers grow.
+-- Of naming's half only grants, kept lists and answers have changed; answers and grants grow.
 pub record OnlyAnswers (C D : Office) : Type 0 where
   pub world : D.world ≡ C.world
   pub names : D.names ≡ record C.names { had = D.names.had; kept = D.names.kept; answers = D.names.answers }
   pub answers : (a : Answer) → In a C.names.answers → In a D.names.answers
+  pub grows : (h i : ℕ) → C.names.had h i ≡ true → D.names.had h i ≡ true
 
 -- the disk half has gone on, and naming's half had no part in it
 pub record HasGoneOn (A C : Office) : Type 0 where

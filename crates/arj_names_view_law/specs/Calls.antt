@@ -32,11 +32,15 @@ pub record OnlyLocks (A B : Office) : Type 0 where
   pub answers : (a : Answer) → In a A.names.answers → In a B.names.answers
 
 -- the machine has given the answer that grants a lock on the object
+abbrev pub HasGiven : ℕ → BoundReply → Names → Type 0
+HasGiven t (bound.Live b server i g stores) N = In (Bound t g false stores) N.answers
+HasGiven t (bound.Make b server g stores) N = In (Bound t g false stores) N.answers
+HasGiven t (bound.Write g stores) N = In (Bound t g true stores) N.answers
+HasGiven t (bound.Conflict holder m) N = ⊤
+
+-- so it is where the answer is about this object
 abbrev pub ClaimsBound : ℕ → ℕ → ℕ → BoundReply → Names → Type 0
-ClaimsBound x y t (bound.Live b server i g stores) N = y ≡ x → In (Bound t g false stores) N.answers
-ClaimsBound x y t (bound.Make b server g stores) N = y ≡ x → In (Bound t g false stores) N.answers
-ClaimsBound x y t (bound.Write g stores) N = y ≡ x → In (Bound t g true stores) N.answers
-ClaimsBound x y t (bound.Conflict holder m) N = ⊤
+ClaimsBound x y t r N = y ≡ x → HasGiven t r N
 
 -- a Bind that is answered
 abbrev pub BindsAreActs : Type 0

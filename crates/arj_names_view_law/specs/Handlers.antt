@@ -1,20 +1,20 @@
 -- Whole handlers from where both halves are seen: a message, an input about an action, an action that begins, a tick.
-use Rattle.std.specs.Prelude.{◌≡◌, ◌==◌, ℕ, Bool, true, false, List, Option, Some, None, is_some, if◌then◌else◌}
-use Rattle.arj_protocol.specs.Words.{Uid, Asked, Binding, Head, Ask, Header, Kind, Label, Message, asks}
+use Rattle.std.specs.Prelude.{◌≡◌, ◌==◌, ◌||◌, ℕ, Bool, true, false, List, Option, Some, None, is_some, if◌then◌else◌}
+use Rattle.arj_protocol.specs.Words.{Uid, Asked, Binding, BoundReply, Head, Ask, Header, Kind, Label, Message, asks}
 use Rattle.arj_protocol.specs.Words.ask
 use Rattle.arj_protocol.specs.Ask.{Reply, answers, top_of}
 use Rattle.arj_protocol.specs.Asking.{again_all, begin_action}
 use Rattle.arj_protocol.specs.Commit as commit
 use Rattle.arj_protocol.specs.Commit.{Machine, plan_of}
 use Rattle.arj_protocol.specs.Confirm.{Grants, Marks}
-use Rattle.arj_protocol.specs.Coord.{Coord, Doing, Now, Committing, doing_of}
+use Rattle.arj_protocol.specs.Coord.{Coord, Doing, Now, Committing, doing_of, root_at, top_uses}
 use Rattle.arj_protocol.specs.Effect.{Disk, Did, Effect, is_prepared}
 use Rattle.arj_protocol.specs.Follow.{tick_outs}
-use Rattle.arj_protocol.specs.Naming.{Naming}
+use Rattle.arj_protocol.specs.Naming.{Naming, bind}
 use Rattle.arj_protocol.specs.Node.{Parts, Took, handle, holders, with_coord}
 use Rattle.arj_protocol.specs.Order.{at_number, uid_number}
 use Rattle.arj_protocol.specs.Step.{Input, acts, refusal_up}
-use Rattle.arj_protocol.specs.Tree.{Branch, next_uid, path_below}
+use Rattle.arj_protocol.specs.Tree.{Branch, next_uid, path_below, root_of}
 use Rattle.arj_protocol.specs.Words.{is_on}
 use Rattle.arj_protocol.specs.World.{Labelled}
 use Rattle.std.specs.List.{AllByRecursion}
@@ -32,38 +32,65 @@ use Rattle.arj_disk_view_law.specs.Knows.{KnowsCoord, KnowsKinds, IsOfKind}
 use Rattle.arj_disk_view_law.specs.Plans.{plan_at}
 use Rattle.arj_disk_view_law.specs.Sees.{IsLater, Kinds, was_begun}
 use Rattle.arj_names_view_law.specs.Booked.{IsNext, NamesGrants}
-use Rattle.arj_names_view_law.specs.Both.{BothWalk, OnlyDecided, OnlyMemory, OpensNone, SeesBoth}
-use Rattle.arj_names_view_law.specs.Calls.{MayNote}
+use Rattle.arj_names_view_law.specs.Both.{BothWalk, OnlyDecided, OnlyMemory, OpensNone, SeesBoth, has_part}
+use Rattle.arj_names_view_law.specs.Calls.{HasGiven, MayNote}
 use Rattle.arj_names_view_law.specs.Memory.{IsOfTop}
 
--- ---- the top that a message may decide
+-- ---- what a step may change
 
--- its commit waits for naming
-abbrev pub waits_for_naming : Now → Bool
-waits_for_naming (Committing (commit.Confirming p)) = true
-waits_for_naming _ = false
+-- What a step changes of naming's half: naming's memory alone; that, with an answer to a top's Bind of the object; or that a top
+-- may be decided, whose root retains what it has or doesn't.
+pub data Change : Type 0 where
+  Quietly : Change
+  Answering : ℕ → BoundReply → Change
+  Deciding : ℕ → Bool → Change
 
--- a top's number, where its commit waits so
-abbrev pub decided_in : Uid → Option Doing → Option ℕ
-decided_in u None = None
-decided_in u (Some q) = if waits_for_naming q.now then Some (uid_number u) else None
+-- by naming's answer to a Bind, where it is about this object
+abbrev pub answer_change : ℕ → ℕ → Uid → Option BoundReply → Change
+answer_change x y u None = Quietly
+answer_change x y u (Some r) = if y == x then Answering (uid_number u) r else Quietly
 
--- the number of the one that is answered
-abbrev pub decided_of : Coord → Option (Asked × Reply) → Option ℕ
-decided_of c None = None
-decided_of c (Some a) = decided_in (let q = a.0 in q.act) (doing_of (let q = a.0 in q.act) c)
+abbrev pub bind_change : ℕ → ℕ → Bool → Binding → Head → Disk → Option Naming → Change
+bind_change x y include avoid h d None = Quietly
+bind_change x y include avoid h d (Some n) = answer_change x y (top_of h.path) (let s = bind h.path y include avoid d.names n in s.reply)
 
--- the top that this coordinator may decide by a message: one whose commit waits for naming, by naming's answer
-abbrev pub decided_by : Coord → Message → Option ℕ
-decided_by c m = decided_of c (answers m)
+abbrev pub ask_change : ℕ → Disk → Parts → Head → Ask → Change
+ask_change x d t h (ask.Bind y include avoid) = bind_change x y include avoid h d t.naming
+ask_change x d t h _ = Quietly
 
--- Of naming's half nothing but naming's memory changes; where a top may be decided, nothing but grants and kept lists of its root.
-abbrev pub Changes : Option ℕ → Office → Office → Type 0
-Changes None A B = OnlyMemory A B
-Changes (Some t) A B = OnlyDecided (λ z. z == t) A B
+-- the root of a top with this plan retains the object: a call or an include on it survives in the top, or the plan has a part in it
+abbrev pub root_retains : ℕ → Uid → commit.Plan → Coord → Bool
+root_retains x u p c = top_uses u x (root_at (root_of p.path) c) c || has_part (plan_at x p)
+
+-- a top that is answered may be decided where its commit waits for naming
+abbrev pub now_change : ℕ → Uid → Coord → Now → Change
+now_change x u c (Committing (commit.Confirming p)) = Deciding (uid_number u) (root_retains x u p c)
+now_change x u c _ = Quietly
+
+abbrev pub doing_change : ℕ → Uid → Coord → Option Doing → Change
+doing_change x u c None = Quietly
+doing_change x u c (Some q) = now_change x u c q.now
+
+abbrev pub reply_change : ℕ → Coord → Option (Asked × Reply) → Change
+reply_change x c None = Quietly
+reply_change x c (Some a) = let q = a.0 in doing_change x q.act c (doing_of q.act c)
+
+-- by a message: a Bind, or an answer to a commit
+abbrev pub asked_change : ℕ → Disk → Parts → Message → Option (Head × Ask) → Change
+asked_change x d t m (Some a) = ask_change x d t a.0 a.1
+asked_change x d t m None = reply_change x t.coord (answers m)
+
+abbrev pub change_by : ℕ → Disk → Parts → Message → Change
+change_by x d t m = asked_change x d t m (asks m)
+
+-- so an office comes of another one
+abbrev pub Changes : Change → Office → Office → Type 0
+Changes Quietly A B = OnlyMemory A B
+Changes (Answering t r) A B = OnlyMemory A B × HasGiven t r B.names
+Changes (Deciding t keeps) A B = OnlyDecided (λ z. z == t) (λ z. keeps) A B
 
 -- so both halves are seen
-abbrev pub IsSeenAfter : Option ℕ → ℕ → Kinds → Office → Seen → Type 0
+abbrev pub IsSeenAfter : Change → ℕ → Kinds → Office → Seen → Type 0
 IsSeenAfter o x tops A M = (B : Office) × Changes o A B × SeesBoth x tops B M
 
 -- ---- what is counted on
@@ -105,7 +132,7 @@ MayGoOn x A c = (u : Uid) (q : Doing) (m : Machine) → doing_of u c ≡ Some q 
 abbrev pub MessagesKeepBoth : Type 0
 MessagesKeepBoth = (x : ℕ) (tops : Kinds) (e k : ℕ) (d : Disk) (t v : Parts) (from : ℕ) (m : Message) (outs : List Effect) (A : Office) (M : Seen) → tops.walk ≡ None → KnowsNode tops k d t M → In (record { from = from; to = k; message = m }) M.sent
     → ((n : Naming) → t.naming ≡ Some n → CountsOn x tops d n m A) → MayGoOn x A v.coord → handle k d t from m ≡ Took v outs → SeesBoth x tops A (up k d t M)
-    → Walks (IsSeenAfter (decided_by t.coord m) x tops A) e k outs (Up (IsSeenAfter (decided_by t.coord m) x tops A) k v) d M
+    → Walks (IsSeenAfter (change_by x d t m) x tops A) e k outs (Up (IsSeenAfter (change_by x d t m) x tops A) k v) d M
 
 -- a coordinator's part of a step
 abbrev pub DidKeepsBoth : ℕ → Kinds → Office → ℕ → ℕ → Disk → Parts → Did Coord → Seen → Type 0
