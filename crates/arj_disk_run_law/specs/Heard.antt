@@ -1,7 +1,7 @@
 -- What coordinators have of naming's answers and what messages claim of them, in what is seen and the machine's state: the relation
 -- that is kept beside both halves.
 use Rattle.std.specs.Prelude.{⊤, ◌≡◌, ◌⊎◌, ◌≤◌, ◌<◌, ℕ, Bool, true, false, List, ◌∷◌, Option, None, Some}
-use Rattle.arj_protocol.specs.Words.{Uid, Ask, Asked, BoundReply, Head, Message, ObjectState, asks}
+use Rattle.arj_protocol.specs.Words.{Uid, Ask, Asked, BoundReply, Head, ObjectState, asks}
 use Rattle.arj_protocol.specs.Words.ask
 use Rattle.arj_protocol.specs.Words.bound
 use Rattle.arj_protocol.specs.Words.loaded
@@ -14,14 +14,13 @@ use Rattle.arj_protocol.specs.Node.{Parts}
 use Rattle.arj_protocol.specs.Order.{uid_number}
 use Rattle.arj_protocol.specs.Step.{Node}
 use Rattle.arj_protocol.specs.Tree.{Branch, branch_of, is_own}
-use Rattle.arj_disk_law.specs.Guards.{IsPresent}
-use Rattle.arj_disk_law.specs.Named.{Named}
 use Rattle.arj_disk_law.specs.Names as machine
 use Rattle.arj_disk_law.specs.Names.{Kept, Names, Office, written_in}
 use Rattle.arj_disk_law.specs.State.{is_gone}
 use Rattle.arj_disk_law.specs.Words.{In, has}
 use Rattle.arj_view_law.specs.Seen as seen
 use Rattle.arj_view_law.specs.Seen.{Post, Seen}
+use Rattle.arj_disk_view_law.specs.Knows.{KnowsKinds}
 use Rattle.arj_disk_view_law.specs.Pairs.{packed}
 use Rattle.arj_disk_view_law.specs.Plans.{used_at}
 use Rattle.arj_disk_view_law.specs.Sees.{Kinds}
@@ -86,11 +85,16 @@ pub record SeesStep (x k : ℕ) (sent : List Post) (s : Steps) (N : Names) : Typ
 abbrev pub IsHadBy : Office → ℕ → ℕ → Type 0
 IsHadBy A t i = (A.names.had t i ≡ true) ⊎ (A.names.had (A.world.disk.root t) i ≡ true)
 
--- a list that is kept for the top, or retained, names only stores of this one, as long as each grant is of the present incarnation
+-- all of these are of one incarnation
+abbrev pub AreOfOne : Office → ℕ → ℕ → Type 0
+AreOfOne A t j = (i : ℕ) → IsHadBy A t i → i ≡ j
+
+-- There is such a grant; and as long as all are of one incarnation, a list that is kept for the top, or retained, names only stores of
+-- this one.
 pub record IsListFor (A : Office) (t : ℕ) (stores : List ℕ) : Type 0 where
   pub inc : ℕ
   pub had : IsHadBy A t inc
-  pub list : IsPresent A.world.disk A.names t → (h : ℕ) × ((h ≡ t) ⊎ (h ≡ A.world.disk.root t)) × (l : Kept) × (A.names.kept h ≡ Some l) × ((s : ℕ) → has s l.list ≡ true → has s stores ≡ true)
+  pub list : (j : ℕ) → AreOfOne A t j → (h : ℕ) × ((h ≡ t) ⊎ (h ≡ A.world.disk.root t)) × (l : Kept) × (A.names.kept h ≡ Some l) × ((s : ℕ) → has s l.list ≡ true → has s stores ≡ true)
 
 -- What the plan of a commit uses of the object: no grant that counts is before the one that it names; and while it votes, a list stands
 -- behind what it called, and a load behind what it includes.
@@ -109,9 +113,9 @@ pub record SeesHeardAt (x k : ℕ) (tops : Kinds) (sent : List Post) (c : Coord)
 
 -- ---- messages
 
--- Who commits names its grants, as long as it is there.
+-- Who commits, and is there still, names its grants.
 abbrev pub ClaimsGrants : ℕ → Office → ℕ → Grants → Type 0
-ClaimsGrants x A t grants = is_gone (A.world.disk.stage t) ≡ false → NamesGrants x A.world.disk A.names t grants
+ClaimsGrants x A t grants = (A.world.disk.begun t ≡ true) × (is_gone (A.world.disk.stage t) ≡ false → NamesGrants x A.world.disk A.names t grants)
 
 -- A Record is by a top that took the grant which it names; a Confirm names grants.
 abbrev pub ClaimsAsked : ℕ → Office → Option (Head × Ask) → Type 0
@@ -133,9 +137,11 @@ pub record IsAskedFor (sent : List Post) (p : Post) (a : Asked) (r : Reply) : Ty
 
 -- ---- all nodes
 
--- So it is at each coordinator that is up; of a later incarnation of a node the machine has nothing; and messages claim what they say.
+-- So it is at each coordinator that is up; of a later incarnation of a node the machine has nothing; each answer was asked for; and
+-- requests claim what they say.
 pub record SeesHeard (x : ℕ) (tops : Kinds) (A : Office) (M : Seen) : Type 0 where
+  pub kinds : KnowsKinds tops
   pub coords : (k : ℕ) (n : Node) (t : Parts) → M.nodes k ≡ Some n → n.live ≡ Some t → SeesHeardAt x k tops M.sent t.coord A
-  pub future : (k : ℕ) (n : Node) (u : Uid) → M.nodes k ≡ Some n → u.node ≡ k → (let d = n.disk in d.inc) < u.inc → HasNoneOf tops (uid_number u) A
+  pub future : (k : ℕ) (n : Node) (u : Uid) → M.nodes k ≡ Some n → u.node ≡ k → tops.root (uid_number u) ≡ uid_number u → (let d = n.disk in d.inc) < u.inc → HasNoneOf tops (uid_number u) A
   pub asked : (p : Post) (a : Asked) (r : Reply) → seen.In p M.sent → answers p.message ≡ Some (a, r) → IsAskedFor M.sent p a r
   pub posts : (p : Post) → seen.In p M.sent → ClaimsAsked x A (asks p.message)

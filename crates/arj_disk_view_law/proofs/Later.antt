@@ -15,7 +15,7 @@ use Rattle.arj_disk_law.specs.Effects
 use Rattle.arj_disk_law.specs.Effects.{World, Effect, Whole, Follows, Allowed, run, after}
 use Rattle.arj_disk_law.specs.Messages as mail
 use Rattle.arj_disk_law.specs.State as disk
-use Rattle.arj_disk_law.specs.State.{Stage, Preparing, Confirming, Gone, is_idle, is_sealed, target, state_for}
+use Rattle.arj_disk_law.specs.State.{Stage, Preparing, Confirming, Gone, is_gone, is_idle, is_sealed, target, state_for}
 use Rattle.arj_disk_law.specs.Words.{put}
 use Rattle.arj_disk_law.proofs.Base.{or_right, put_rises, put_other, falls_to, never, test_is, put_cases}
 use Rattle.arj_disk_law.proofs.Keeps.{effect_keeps}
@@ -26,7 +26,7 @@ use Rattle.arj_disk_view_law.specs.Stores.{IsPlanned, ClaimsCommit, ClaimsAbort}
 use Rattle.arj_disk_view_law.specs.Sees.{Kinds, Claims, ClaimsAsk, ClaimsReply, ClaimsEnd, ClaimsLast, ClaimsOther, ClaimsAnswered, ClaimsAsked, IsLater, EffectsAreLater, ClaimsStay, begins, was_begun}
 
 pub later_same : (W : World) → IsLater W W
-later_same W = record { begun = λ z b. b; plan = λ z b. refl; sealed = λ z h. h; got = λ z h. refl; bare = λ z b. b; serial = refl; root = refl; decided = λ z b. b; sent = λ m i. i; known = λ g k. k }
+later_same W = record { begun = λ z b. b; plan = λ z b. refl; sealed = λ z h. h; got = λ z h. refl; bare = λ z b. b; serial = refl; root = refl; decided = λ z b. b; sent = λ m i. i; known = λ g k. k; gone = λ z h. h }
 
 pub later_on : (U V W : World) → IsLater U V → IsLater V W → IsLater U W
 later_on U V W a b = record {
@@ -40,11 +40,16 @@ later_on U V W a b = record {
   decided = λ t h. b.decided t (a.decided t h);
   sent = λ m i. b.sent m (a.sent m i);
   known = λ g k. b.known g (a.known g k);
+  gone = λ t h. b.gone t (a.gone t h);
 }
 
 -- a stage that is put at its end, or past the prepare step, is sealed
 seals : (t : ℕ) (g : Stage) (f : ℕ → Stage) → is_sealed g ≡ true → (z : ℕ) → is_sealed (f z) ≡ true → is_sealed (put t g f z) ≡ true
 seals t g f is z h = put_cases (λ k. is_sealed k ≡ true) t g f z (λ e. is) (λ e. h)
+
+-- and one that is put at its end is at its end
+ends : (t : ℕ) (g : Stage) (f : ℕ → Stage) → is_gone g ≡ true → (z : ℕ) → is_gone (f z) ≡ true → is_gone (put t g f z) ≡ true
+ends t g f is z h = put_cases (λ k. is_gone k ≡ true) t g f z (λ e. is) (λ e. h)
 
 effect_later : (W : World) (e : Effect) → Allowed W e → Whole W → IsLater W (after W e)
 effect_later W (Effects.Begin t p) x w = record {
@@ -58,6 +63,7 @@ effect_later W (Effects.Begin t p) x w = record {
   decided = λ z b. b;
   sent = λ m i. i;
   known = λ g k. k;
+  gone = λ z h. put_cases (λ k. is_gone k ≡ true) t Preparing W.disk.stage z (λ e. absurd (cc (sym (ap is_gone (ap W.disk.stage e ∙ x.idle)) ∙ h))) (λ e. h);
 }
   where
     idle : W.disk.begun t ≡ true → ⊥
@@ -73,25 +79,26 @@ effect_later W (Effects.Take t s) x w = record {
   decided = λ z b. b;
   sent = λ m i. i;
   known = λ g k. k;
+  gone = λ z h. h;
 }
-effect_later W (Effects.Seal t) x w = record { begun = λ z b. b; plan = λ z b. refl; sealed = seals t Confirming W.disk.stage refl; got = λ z h. refl; bare = λ z b. b; serial = refl; root = refl; decided = λ z b. b; sent = λ m i. i; known = λ g k. k }
-effect_later W (Effects.Intend t nodes) x w = record { begun = λ z b. b; plan = λ z b. refl; sealed = λ z h. h; got = λ z h. refl; bare = λ z b. b; serial = refl; root = refl; decided = λ z b. b; sent = λ m i. i; known = λ g k. k }
-effect_later W (Effects.Decide t) x w = record { begun = λ z b. b; plan = λ z b. refl; sealed = seals t Gone W.disk.stage refl; got = λ z h. refl; bare = λ z b. b; serial = refl; root = refl; decided = λ z b. or_right (t == z) (disk.decided W.disk z) b; sent = λ m i. i; known = λ g k. inr k }
-effect_later W (Effects.Remove t nodes) x w = record { begun = λ z b. b; plan = λ z b. refl; sealed = λ z h. h; got = λ z h. refl; bare = λ z b. b; serial = refl; root = refl; decided = λ z b. b; sent = λ m i. i; known = λ g k. k }
-effect_later W (Effects.EndBare t) x w = record { begun = λ z b. b; plan = λ z b. refl; sealed = seals t Gone W.disk.stage refl; got = λ z h. refl; bare = λ z b. put_rises t W.disk.bare z b; serial = refl; root = refl; decided = λ z b. b; sent = λ m i. i; known = λ g k. k }
-effect_later W (Effects.Halt t) x w = record { begun = λ z b. b; plan = λ z b. refl; sealed = seals t Gone W.disk.stage refl; got = λ z h. refl; bare = λ z b. b; serial = refl; root = refl; decided = λ z b. b; sent = λ m i. i; known = λ g k. k }
-effect_later W (Effects.Keep t s) x w = record { begun = λ z b. b; plan = λ z b. refl; sealed = λ z h. h; got = λ z h. refl; bare = λ z b. b; serial = refl; root = refl; decided = λ z b. b; sent = λ m i. i; known = λ g k. k }
-effect_later W (Effects.Move s h) x w = record { begun = λ z b. b; plan = λ z b. refl; sealed = λ z h. h; got = λ z h. refl; bare = λ z b. b; serial = refl; root = refl; decided = λ z b. b; sent = λ m i. i; known = λ g k. k }
-effect_later W (Effects.Finish s h) x w = record { begun = λ z b. b; plan = λ z b. refl; sealed = λ z h. h; got = λ z h. refl; bare = λ z b. b; serial = refl; root = refl; decided = λ z b. b; sent = λ m i. i; known = λ g k. k }
-effect_later W (Effects.Drop s h) x w = record { begun = λ z b. b; plan = λ z b. refl; sealed = λ z h. h; got = λ z h. refl; bare = λ z b. b; serial = refl; root = refl; decided = λ z b. b; sent = λ m i. i; known = λ g k. k }
-effect_later W (Effects.Agree t) x w = record { begun = λ z b. b; plan = λ z b. refl; sealed = λ z h. h; got = λ z h. refl; bare = λ z b. b; serial = refl; root = refl; decided = λ z b. b; sent = λ m i. i; known = λ g k. k }
-effect_later W (Effects.Pass t) x w = record { begun = λ z b. b; plan = λ z b. refl; sealed = λ z h. h; got = λ z h. refl; bare = λ z b. b; serial = refl; root = refl; decided = λ z b. b; sent = λ m i. i; known = λ g k. k }
-effect_later W (Effects.Enter t) x w = record { begun = λ z b. b; plan = λ z b. refl; sealed = λ z h. h; got = λ z h. refl; bare = λ z b. b; serial = refl; root = refl; decided = λ z b. b; sent = λ m i. i; known = λ g k. k }
-effect_later W (Effects.MoveEntry h) x w = record { begun = λ z b. b; plan = λ z b. refl; sealed = λ z h. h; got = λ z h. refl; bare = λ z b. b; serial = refl; root = refl; decided = λ z b. b; sent = λ m i. i; known = λ g k. k }
-effect_later W (Effects.FinishEntry h) x w = record { begun = λ z b. b; plan = λ z b. refl; sealed = λ z h. h; got = λ z h. refl; bare = λ z b. b; serial = refl; root = refl; decided = λ z b. b; sent = λ m i. i; known = λ g k. k }
-effect_later W (Effects.DropEntry h) x w = record { begun = λ z b. b; plan = λ z b. refl; sealed = λ z h. h; got = λ z h. refl; bare = λ z b. b; serial = refl; root = refl; decided = λ z b. b; sent = λ m i. i; known = λ g k. k }
-effect_later W (Effects.Forget r h) x w = record { begun = λ z b. b; plan = λ z b. refl; sealed = λ z h. h; got = λ z h. refl; bare = λ z b. b; serial = refl; root = refl; decided = λ z b. b; sent = λ m i. i; known = λ g k. k }
-effect_later W (Effects.Send m) x w = record { begun = λ z b. b; plan = λ z b. refl; sealed = λ z h. h; got = λ z h. refl; bare = λ z b. b; serial = refl; root = refl; decided = λ z b. b; sent = λ m i. inr i; known = λ g k. k }
+effect_later W (Effects.Seal t) x w = record { begun = λ z b. b; plan = λ z b. refl; sealed = seals t Confirming W.disk.stage refl; got = λ z h. refl; bare = λ z b. b; serial = refl; root = refl; decided = λ z b. b; sent = λ m i. i; known = λ g k. k; gone = λ z h. put_cases (λ k. is_gone k ≡ true) t Confirming W.disk.stage z (λ e. absurd (cc (sym (ap is_gone (ap W.disk.stage e ∙ x)) ∙ h))) (λ e. h) }
+effect_later W (Effects.Intend t nodes) x w = record { begun = λ z b. b; plan = λ z b. refl; sealed = λ z h. h; got = λ z h. refl; bare = λ z b. b; serial = refl; root = refl; decided = λ z b. b; sent = λ m i. i; known = λ g k. k; gone = λ z h. h }
+effect_later W (Effects.Decide t) x w = record { begun = λ z b. b; plan = λ z b. refl; sealed = seals t Gone W.disk.stage refl; got = λ z h. refl; bare = λ z b. b; serial = refl; root = refl; decided = λ z b. or_right (t == z) (disk.decided W.disk z) b; sent = λ m i. i; known = λ g k. inr k; gone = ends t Gone W.disk.stage refl }
+effect_later W (Effects.Remove t nodes) x w = record { begun = λ z b. b; plan = λ z b. refl; sealed = λ z h. h; got = λ z h. refl; bare = λ z b. b; serial = refl; root = refl; decided = λ z b. b; sent = λ m i. i; known = λ g k. k; gone = λ z h. h }
+effect_later W (Effects.EndBare t) x w = record { begun = λ z b. b; plan = λ z b. refl; sealed = seals t Gone W.disk.stage refl; got = λ z h. refl; bare = λ z b. put_rises t W.disk.bare z b; serial = refl; root = refl; decided = λ z b. b; sent = λ m i. i; known = λ g k. k; gone = ends t Gone W.disk.stage refl }
+effect_later W (Effects.Halt t) x w = record { begun = λ z b. b; plan = λ z b. refl; sealed = seals t Gone W.disk.stage refl; got = λ z h. refl; bare = λ z b. b; serial = refl; root = refl; decided = λ z b. b; sent = λ m i. i; known = λ g k. k; gone = ends t Gone W.disk.stage refl }
+effect_later W (Effects.Keep t s) x w = record { begun = λ z b. b; plan = λ z b. refl; sealed = λ z h. h; got = λ z h. refl; bare = λ z b. b; serial = refl; root = refl; decided = λ z b. b; sent = λ m i. i; known = λ g k. k; gone = λ z h. h }
+effect_later W (Effects.Move s h) x w = record { begun = λ z b. b; plan = λ z b. refl; sealed = λ z h. h; got = λ z h. refl; bare = λ z b. b; serial = refl; root = refl; decided = λ z b. b; sent = λ m i. i; known = λ g k. k; gone = λ z h. h }
+effect_later W (Effects.Finish s h) x w = record { begun = λ z b. b; plan = λ z b. refl; sealed = λ z h. h; got = λ z h. refl; bare = λ z b. b; serial = refl; root = refl; decided = λ z b. b; sent = λ m i. i; known = λ g k. k; gone = λ z h. h }
+effect_later W (Effects.Drop s h) x w = record { begun = λ z b. b; plan = λ z b. refl; sealed = λ z h. h; got = λ z h. refl; bare = λ z b. b; serial = refl; root = refl; decided = λ z b. b; sent = λ m i. i; known = λ g k. k; gone = λ z h. h }
+effect_later W (Effects.Agree t) x w = record { begun = λ z b. b; plan = λ z b. refl; sealed = λ z h. h; got = λ z h. refl; bare = λ z b. b; serial = refl; root = refl; decided = λ z b. b; sent = λ m i. i; known = λ g k. k; gone = λ z h. h }
+effect_later W (Effects.Pass t) x w = record { begun = λ z b. b; plan = λ z b. refl; sealed = λ z h. h; got = λ z h. refl; bare = λ z b. b; serial = refl; root = refl; decided = λ z b. b; sent = λ m i. i; known = λ g k. k; gone = λ z h. h }
+effect_later W (Effects.Enter t) x w = record { begun = λ z b. b; plan = λ z b. refl; sealed = λ z h. h; got = λ z h. refl; bare = λ z b. b; serial = refl; root = refl; decided = λ z b. b; sent = λ m i. i; known = λ g k. k; gone = λ z h. h }
+effect_later W (Effects.MoveEntry h) x w = record { begun = λ z b. b; plan = λ z b. refl; sealed = λ z h. h; got = λ z h. refl; bare = λ z b. b; serial = refl; root = refl; decided = λ z b. b; sent = λ m i. i; known = λ g k. k; gone = λ z h. h }
+effect_later W (Effects.FinishEntry h) x w = record { begun = λ z b. b; plan = λ z b. refl; sealed = λ z h. h; got = λ z h. refl; bare = λ z b. b; serial = refl; root = refl; decided = λ z b. b; sent = λ m i. i; known = λ g k. k; gone = λ z h. h }
+effect_later W (Effects.DropEntry h) x w = record { begun = λ z b. b; plan = λ z b. refl; sealed = λ z h. h; got = λ z h. refl; bare = λ z b. b; serial = refl; root = refl; decided = λ z b. b; sent = λ m i. i; known = λ g k. k; gone = λ z h. h }
+effect_later W (Effects.Forget r h) x w = record { begun = λ z b. b; plan = λ z b. refl; sealed = λ z h. h; got = λ z h. refl; bare = λ z b. b; serial = refl; root = refl; decided = λ z b. b; sent = λ m i. i; known = λ g k. k; gone = λ z h. h }
+effect_later W (Effects.Send m) x w = record { begun = λ z b. b; plan = λ z b. refl; sealed = λ z h. h; got = λ z h. refl; bare = λ z b. b; serial = refl; root = refl; decided = λ z b. b; sent = λ m i. inr i; known = λ g k. k; gone = λ z h. h }
 
 pub effects_are_later : EffectsAreLater
 effects_are_later W [] f w = later_same W

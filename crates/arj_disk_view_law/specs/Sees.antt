@@ -244,6 +244,7 @@ pub record IsLater (W V : World) : Type 0 where
   pub decided : (t : ℕ) → disk.decided W.disk t ≡ true → disk.decided V.disk t ≡ true
   pub sent : (m : mail.Message) → In m W.sent → In m V.sent
   pub known : (g : disk.Packed) → Known W.disk g → Known V.disk g
+  pub gone : (t : ℕ) → is_gone (W.disk.stage t) ≡ true → is_gone (V.disk.stage t) ≡ true
 
 -- each effect that is allowed leads to a later state, and what a message claims stays true, whatever lines are said
 abbrev pub EffectsAreLater : Type 0
