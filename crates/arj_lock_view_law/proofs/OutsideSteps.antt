@@ -5,7 +5,7 @@ use Rattle.arj_protocol.specs.Ask.{top_of}
 use Rattle.arj_protocol.specs.Call.{At, AtActivate, AtBind, AtInvoke, AtLoad, AtNote, Known, Steps}
 use Rattle.arj_protocol.specs.Coord.{Coord, Keeping, Root, keeping_of, kept_of, root_at}
 use Rattle.arj_protocol.specs.Order.{binding_number}
-use Rattle.arj_protocol.specs.Tree.{Tree, root_of}
+use Rattle.arj_protocol.specs.Tree.{Branch, Tree, branch_of, root_of}
 use Rattle.arj_protocol.specs.Values.{state_value}
 use Rattle.arj_lock_law.specs.Actions.{Act, In, Root as Unit, root}
 use Rattle.arj_lock_law.specs.Machine.{Run}
@@ -18,8 +18,9 @@ use Rattle.arj_lock_view_law.specs.Calling.{IsReached, OnlyCalled}
 use Rattle.arj_lock_view_law.specs.Copies.{Codes}
 use Rattle.arj_lock_view_law.specs.Going.{OnlyNaming}
 use Rattle.arj_lock_view_law.specs.Inputs.{OnlyEnded, SeesWhole}
-use Rattle.arj_lock_view_law.specs.Outside.{CallsElsewhere, EndsElsewhere, IncludesElsewhere, IsAway, NamingElsewhere, ServersElsewhere}
+use Rattle.arj_lock_view_law.specs.Outside.{CallsElsewhere, EndsElsewhere, IncludesElsewhere, IsAway, NamingElsewhere, ServersElsewhere, StopsElsewhere}
 use Rattle.arj_lock_view_law.specs.Roots.{HasHeard, IsMadeFor, SeesCoord, SeesKeeping, SeesKept, SeesRoot, SeesStep, invoke_of}
+use Rattle.arj_lock_view_law.specs.Stops.{IsUnitOf}
 use Rattle.arj_lock_view_law.proofs.AskSteps.{named_stays, server_stays}
 use Rattle.arj_lock_view_law.proofs.BesideSteps.{coords_stay_seen}
 use Rattle.arj_lock_view_law.proofs.EverSteps.{ever, reached_kept}
@@ -169,3 +170,43 @@ naming_elsewhere act code x c S T reached run only whole = still_whole act code 
 
 pub servers_elsewhere : ServersElsewhere
 servers_elsewhere v m act code x c S T reached run only whole = still_whole act code x c S T reached run whole (ap (λ (s : State). s.includes) only.rest) (coords_stay_seen v m act code x c S T only whole.coord)
+
+-- ---- a coordinator that stops
+
+module _ (S : State) (A : Act → machine.Action) where
+  abbrev After : State
+  After = record S { action = A }
+
+  keeping_after_stop : (unit : ℕ) (o : Option Known) (avoid : Binding) → SeesKeeping unit o avoid S → SeesKeeping unit o avoid After
+  keeping_after_stop unit None avoid s = s
+  keeping_after_stop unit (Some k) avoid s = record { kept = s.kept; server = s.server; named = s.named; unnamed = s.unnamed; recorded = s.recorded }
+
+  step_after_stop : (act : Acts) (code : Codes) (s : Steps) (o : Op) (kp : Keeping) (a : At) → SeesStep act code s o kp S a → SeesStep act code s o kp After a
+  step_after_stop act code s o kp (AtBind avoid) h = h
+  step_after_stop act code s o kp (AtLoad k n rest) h = h
+  step_after_stop act code s o kp (AtActivate k st) h = h
+  step_after_stop act code s o kp (AtNote k i) h = h
+  step_after_stop act code s o kp (AtInvoke k i) h = h
+
+  coord_after_stop : (act : Acts) (code : Codes) (x : ℕ) (c : Coord) → ((u : Uid) (b : Branch) (a : Act) → branch_of u c.tree ≡ Some b → root a ≡ root (act u) → A a ≡ S.action a) → SeesCoord act code x c S → SeesCoord act code x c After
+  coord_after_stop act code x c away sees = record {
+    actions = (let a = sees.actions in record {
+      each = λ u b d found works its. subst (SeesAction x b d) (sym (away u b (act u) found refl)) (a.each u b d found works its);
+      opened = λ u b r found above un. ap (λ (q : machine.Action). q.stage) (away u b (Unit (root (act u))) found refl) ∙ a.opened u b r found above un;
+      quiet = λ u b found. ap (λ (q : machine.Action). q.waits) (away u b (Unit (root (act u))) found refl) ∙ a.quiet u b found;
+      others = λ u b k found home its. subst (λ (q : machine.Action). IsHere act c.tree k ⊎ IsIdle q) (sym (away u b k found home)) (a.others u b k found home its);
+    });
+    roots = λ u b found own. (let r = root_at u c in let s = sees.roots u b found own in record {
+      keeping = keeping_after_stop (root (act u)) (kept_of x r) (let k = keeping_of x r in k.avoid) s.keeping;
+      spent = s.spent;
+      said = λ z there of. (let q = s.said z there of in record { branch = q.branch; there = q.there; path = q.path; of = q.of; call = q.call; called = q.called; by = q.by });
+      calls = s.calls;
+      heard = s.heard;
+    });
+    calls = λ u d st o works calling about goal. step_after_stop act code st o (keeping_of x (root_at (root_of st.path) c)) st.at (sees.calls u d st o works calling about goal);
+    plain = sees.plain;
+  }
+
+pub stops_elsewhere : StopsElsewhere
+stops_elsewhere act code x t c S T reached run away only whole = still_whole act code x c S T reached run whole (ap (λ (s : State). s.includes) only.rest)
+    (subst (SeesCoord act code x c) (sym only.rest) (coord_after_stop S T.action act code x c (λ u b a found home. only.others a (λ its. away u b found (subst (IsUnitOf act t) home its))) whole.coord))

@@ -2,7 +2,7 @@
 use Rattle.std.specs.Prelude.{◌≡◌, ◌≢◌, ◌⊎◌, ℕ, Some}
 use Rattle.arj_protocol.specs.Words.{Message, Uid}
 use Rattle.arj_protocol.specs.Coord.{Coord}
-use Rattle.arj_protocol.specs.Tree.{Branch, branch_of}
+use Rattle.arj_protocol.specs.Tree.{Branch, Tree, branch_of}
 use Rattle.arj_lock_law.specs.Actions.{In, root}
 use Rattle.arj_lock_law.specs.Machine.{Run}
 use Rattle.arj_lock_law.specs.State.{Include, State}
@@ -13,6 +13,7 @@ use Rattle.arj_lock_view_law.specs.Going.{OnlyNaming}
 use Rattle.arj_lock_view_law.specs.Handling.{OnlyServing}
 use Rattle.arj_lock_view_law.specs.Including.{OnlyIncluded}
 use Rattle.arj_lock_view_law.specs.Inputs.{OnlyEnded, SeesWhole}
+use Rattle.arj_lock_view_law.specs.Stops.{IsUnitOf, OnlyStopped}
 use Rattle.arj_lock_view_law.specs.Telling.{View}
 
 -- none of the coordinator's actions is of the unit
@@ -39,3 +40,8 @@ NamingElsewhere = (act : Acts) (code : Codes) (x : ℕ) (c : Coord) (S T : State
 -- and a node's server takes a message.
 abbrev pub ServersElsewhere : Type 0
 ServersElsewhere = (v : View) (m : Message) (act : Acts) (code : Codes) (x : ℕ) (c : Coord) (S T : State) → IsReached S → Run S T → OnlyServing v m S T → SeesWhole act code x c S → SeesWhole act code x c T
+
+-- And so it is where another coordinator stops, of which it has no unit.
+abbrev pub StopsElsewhere : Type 0
+StopsElsewhere = (act : Acts) (code : Codes) (x : ℕ) (t : Tree) (c : Coord) (S T : State)
+    → IsReached S → Run S T → ((u : Uid) (b : Branch) → branch_of u c.tree ≡ Some b → IsUnitOf act t (root (act u)) → ⊥) → OnlyStopped act t S T → SeesWhole act code x c S → SeesWhole act code x c T

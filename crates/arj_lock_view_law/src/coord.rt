@@ -6,7 +6,7 @@ ghost use Rattle.arj_lock_view_law.specs.Calling.{AnswersAreTaken, CallsAreGiven
 ghost use Rattle.arj_lock_view_law.specs.Covers.{PlansCoverUnits, PlansHaveOwn, PlansSayLow};
 ghost use Rattle.arj_lock_view_law.specs.Including.{IncludeAnswersAreTaken};
 ghost use Rattle.arj_lock_view_law.specs.Inputs.{AcksAreTaken, ActionsAreAborted, BeginsAreTaken, CallAnswersAreHeard, CallsAreLost, CallsAreMade, CommitAnswersAreHeard, CommitsAreLost, DoomedCommitsAreTaken, IncludeAnswersAreHeard, IncludesAreMade, NestedCommitsAreTaken, OtherAnswersAreHeard, OtherCallsAreLost, RestartsAreTaken, StopsAreTaken, TicksAreTaken, TopCommitsAreTaken};
-ghost use Rattle.arj_lock_view_law.specs.Outside.{CallsElsewhere, EndsElsewhere, IncludesElsewhere, NamingElsewhere, ServersElsewhere};
+ghost use Rattle.arj_lock_view_law.specs.Outside.{CallsElsewhere, EndsElsewhere, IncludesElsewhere, NamingElsewhere, ServersElsewhere, StopsElsewhere};
 ghost use Rattle.arj_lock_view_law.specs.Plans.{CommitAnswersAreTaken, CommitRequestsAreShown, CommitsAreGivenUp, CommitsSetOut, CommitsStaySeen};
 ghost use Rattle.arj_lock_view_law.specs.Stops.{AbortionsGoDown, RecordsAreFound, RestartedCoordsAreSeen, StopsAreSeen, StopsStay};
 ghost use Rattle.arj_lock_view_law.specs.Whole.{CommitsKeepRoots, DecisionsKeepRoots, EndsKeepRoots, UnitsKeepRoots};
@@ -123,13 +123,15 @@ pub fn coordinators_are_seen()
 {}
 
 /// What others do keeps a coordinator seen whole: where actions of a unit in which it has none end, call the object or include it, where
-/// naming takes a message or starts again, and where a node's server takes a message. It does nothing when it runs.
+/// naming takes a message or starts again, where a node's server takes a message, and where another coordinator stops. It does nothing when it
+/// runs.
 pub fn coordinators_stay_whole()
     ensures ends { EndsElsewhere }
     ensures calls { CallsElsewhere }
     ensures includes { IncludesElsewhere }
     ensures naming { NamingElsewhere }
     ensures servers { ServersElsewhere }
+    ensures stops { StopsElsewhere }
 {}
 
 /// The plan of a top's commit has what the top's own actions called and included, where that wasn't undone, and what its serializing

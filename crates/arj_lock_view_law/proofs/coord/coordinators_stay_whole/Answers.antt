@@ -1,4 +1,4 @@
-use Rattle.arj_lock_view_law.proofs.OutsideSteps.{calls_elsewhere, ends_elsewhere, includes_elsewhere, naming_elsewhere, servers_elsewhere}
+use Rattle.arj_lock_view_law.proofs.OutsideSteps.{calls_elsewhere, ends_elsewhere, includes_elsewhere, naming_elsewhere, servers_elsewhere, stops_elsewhere}
 use Rattle.arj_lock_view_law.proofs.coord.coordinators_stay_whole.Goals as goal
 
 pub returns-clause-ends : goal.returns-clause-ends
@@ -15,3 +15,6 @@ returns-clause-servers c = servers_elsewhere
 
 pub returns-clause-naming : goal.returns-clause-naming
 returns-clause-naming c = naming_elsewhere
+
+pub returns-clause-stops : goal.returns-clause-stops
+returns-clause-stops c = stops_elsewhere
