@@ -4,6 +4,9 @@ pub mod Copies
 pub mod EntryKeeps
 pub mod EntryRows
 pub mod EntryWalks
+pub mod HeardAll
+pub mod HeardQuiet
+pub mod HeardStays
 pub mod Holders
 pub mod Given
 pub mod Kept

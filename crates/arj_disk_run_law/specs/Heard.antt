@@ -96,9 +96,10 @@ pub record IsListFor (A : Office) (t : ℕ) (stores : List ℕ) : Type 0 where
   pub had : IsHadBy A t inc
   pub list : (j : ℕ) → AreOfOne A t j → (h : ℕ) × ((h ≡ t) ⊎ (h ≡ A.world.disk.root t)) × (l : Kept) × (A.names.kept h ≡ Some l) × ((s : ℕ) → has s l.list ≡ true → has s stores ≡ true)
 
--- What the plan of a commit uses of the object: no grant that counts is before the one that it names; and while it votes, a list stands
--- behind what it called, and a load behind what it includes.
-pub record SeesPlan (x : ℕ) (u : Uid) (m : Machine) (A : Office) : Type 0 where
+-- What the plan of a top's commit uses of the object: no grant that counts is before the one that it names; and while it votes, a list
+-- stands behind what it called, and a load behind what it includes.
+pub record SeesPlan (x : ℕ) (tops : Kinds) (u : Uid) (m : Machine) (A : Office) : Type 0 where
+  pub top : tops.is_top (uid_number u) ≡ true
   pub grants : (w : Used) (i : ℕ) → used_at x (let p = plan_of m in p.used) ≡ Some w → IsHadBy A (uid_number u) i → w.grant ≤ i
   pub list : (w : Used) → is_voting m ≡ true → used_at x (let p = plan_of m in p.used) ≡ Some w → w.called ≡ true → IsListFor A (uid_number u) w.stores
   pub loaded : (w : Used) (st : ObjectState) → is_voting m ≡ true → used_at x (let p = plan_of m in p.used) ≡ Some w → w.loaded ≡ Some st → HasLoaded A.world.disk A.names (uid_number u) st
@@ -109,7 +110,7 @@ pub record SeesPlan (x : ℕ) (u : Uid) (m : Machine) (A : Office) : Type 0 wher
 pub record SeesHeardAt (x k : ℕ) (tops : Kinds) (sent : List Post) (c : Coord) (A : Office) : Type 0 where
   pub roots : (root : Uid) → IsWorkingRoot tops c root → SeesRootOf x tops root c (root_at root c) A
   pub steps : (u : Uid) (q : Doing) (s : Steps) → doing_of u c ≡ Some q → q.now ≡ Calling s → s.x ≡ x → SeesStep x k sent s A.names
-  pub plans : (u : Uid) (q : Doing) (m : Machine) → doing_of u c ≡ Some q → q.now ≡ Committing m → SeesPlan x u m A
+  pub plans : (u : Uid) (q : Doing) (m : Machine) → doing_of u c ≡ Some q → q.now ≡ Committing m → SeesPlan x tops u m A
 
 -- ---- messages
 

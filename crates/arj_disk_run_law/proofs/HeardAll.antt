@@ -1,0 +1,58 @@
+-- What coordinators have of naming's answers, at all nodes, where one of them makes a step.
+use Rattle.std.proofs.Common.{◌≡◌, ◌⊎◌, ◌≤◌, ◌<◌, ℕ, ◌==◌, Bool, true, false, List, [], ◌∷◌, Option, Some, None, refl, sym, ◌∙◌, ap, subst, inl, inr, ⊎_elim, arith}
+use Rattle.std.specs.Prelude.{⊤}
+use Rattle.std.specs.List.{AllByRecursion}
+use Rattle.arj_protocol.specs.Words.{Uid, Asked, Body, asks}
+use Rattle.arj_protocol.specs.Words.body
+use Rattle.arj_protocol.specs.Ask.{Reply, answers}
+use Rattle.arj_protocol.specs.Effect.{Disk, Effect, Say, Send, Do, Stop, stopped, worked}
+use Rattle.arj_protocol.specs.Node.{Parts}
+use Rattle.arj_protocol.specs.Order.{uid_number}
+use Rattle.arj_protocol.specs.Step.{Node}
+use Rattle.arj_protocol.specs.Tree.{is_own}
+use Rattle.arj_disk_law.specs.Names.{Office}
+use Rattle.arj_view_law.specs.Seen as seen
+use Rattle.arj_view_law.specs.Seen.{AreQuiet, Post, Seen, at, down, posted, said, up}
+use Rattle.arj_view_law.specs.Walks.{Walks, Up, halted}
+use Rattle.arj_disk_view_law.specs.Sees.{IsFixed, Kinds}
+use Rattle.arj_disk_run_law.specs.Heard.{ClaimsAsked, HasNoneOf, IsAskedFor, SeesHeard, SeesHeardAt}
+use Rattle.arj_disk_run_law.proofs.HeardStays.{GoesOn, IsNewTo, SendsMore, StaysOf, at_stays}
+
+-- ---- from all nodes to all nodes
+
+module _ (x : ℕ) (tops : Kinds) (A B : Office) (M N : Seen) (f : IsFixed tops A.world.disk) (h : IsFixed tops B.world.disk) (on : GoesOn A B) (p : SeesHeard x tops A M) where
+  -- the node was up with this coordinator, whose roots stay
+  pub record WasAt (j : ℕ) (t : Parts) : Type 0 where
+    pub node : Node
+    pub there : M.nodes j ≡ Some node
+    pub parts : Parts
+    pub live : node.live ≡ Some parts
+    pub same : parts.coord ≡ t.coord
+    pub stays : (u : Uid) → is_own u t.coord.tree ≡ true → (tops.root (uid_number u) ≡ uid_number u) ⊎ (tops.is_top (uid_number u) ≡ true) → StaysOf tops (tops.root (uid_number u)) A B
+
+  pub heard_to : SendsMore x B M.sent N.sent → ((q : Post) → seen.In q M.sent → ClaimsAsked x B (asks q.message)) → ((j : ℕ) (n : Node) (t : Parts) → N.nodes j ≡ Some n → n.live ≡ Some t → WasAt j t ⊎ SeesHeardAt x j tops N.sent t.coord B)
+      → ((j : ℕ) (n : Node) (u : Uid) → N.nodes j ≡ Some n → u.node ≡ j → tops.root (uid_number u) ≡ uid_number u → (let d = n.disk in d.inc) < u.inc → HasNoneOf tops (uid_number u) B) → SeesHeard x tops B N
+  heard_to more old coords future = record {
+    kinds = p.kinds;
+    coords = λ j n t there live. ⊎_elim
+        (λ (w : WasAt j t). subst (λ c. SeesHeardAt x j tops N.sent c B) w.same
+        (at_stays x tops A B f h on j M.sent N.sent (let q = w.parts in q.coord) more (subst (λ c. (u : Uid) → is_own u (let q = c in q.tree) ≡ true → (tops.root (uid_number u) ≡ uid_number u) ⊎ (tops.is_top (uid_number u) ≡ true) → StaysOf tops (tops.root (uid_number u)) A B) (sym w.same) w.stays) (p.coords j w.node w.parts w.there w.live)))
+        (λ it. it) (coords j n t there live);
+    future = future;
+    asked = λ q a r i is. ⊎_elim
+        (λ o. let z = p.asked q a r o is in record { post = z.post; head = z.head; request = z.request; posted = more.within z.post z.posted; from = z.from; to = z.to; asking = z.asking; asker = z.asker; kind = z.kind })
+        (λ (new : IsNewTo x B q). absurd (let n : None ≡ Some (a, r) = sym new.none ∙ is in cc)) (more.new q i);
+    posts = λ q i. ⊎_elim (λ o. old q o) (λ new. new.claims) (more.new q i);
+  }
+
+-- ---- a walk
+
+-- Along a step something holds of the node's disk and of what was sent.
+module _ (H : Seen → Type 0) (E : Disk → Seen → Type 0) (e k : ℕ) (nodes : ℕ → Option Node) (Fits : Disk → List Post → Type 0) (Q : Effect → Type 0)
+    (works : (w : _) → Q (Do w) → (c : Disk) (s : List Post) → Fits c s → ((how : Stop) → Fits (stopped how w c) s) × Fits (worked w c) s) (sends : (to : ℕ) (m : _) → Q (Send to m) → (c : Disk) (s : List Post) → Fits c s → Fits c (record { from = k; to = to; message = m } ∷ s))
+    (stop : (c : Disk) (N : Seen) → N.nodes ≡ nodes → Fits c N.sent → H (halted e k c N)) (end : (c : Disk) (N : Seen) → N.nodes ≡ nodes → Fits c N.sent → E c N) where
+  pub walk_fits : (outs : List Effect) → AllByRecursion Q outs → (d : Disk) (L : Seen) → L.nodes ≡ nodes → Fits d L.sent → Walks H e k outs E d L
+  walk_fits [] all d L same fits = end d L same fits
+  walk_fits (Do w ∷ es) all d L same fits = let z = works w all.0 d L.sent fits in ((λ how. stop (stopped how w d) L same (z.0 how)), walk_fits es all.1 (worked w d) L same z.1)
+  walk_fits (Say b ∷ es) all d L same fits = walk_fits es all.1 d (said e (b ∷ []) L) same fits
+  walk_fits (Send to m ∷ es) all d L same fits = λ more quiet. walk_fits es all.1 d (said e more (posted (record { from = k; to = to; message = m }) L)) same (sends to m all.0 d L.sent fits)

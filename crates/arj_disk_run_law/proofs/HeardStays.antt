@@ -1,0 +1,178 @@
+-- What coordinators have of naming's answers stays seen as the machine goes on.
+use Rattle.std.proofs.Common.{◌≡◌, ◌⊎◌, ◌<◌, ℕ, if◌then◌else◌, Bool, true, false, List, Option, Some, None, refl, sym, ◌∙◌, ap, subst, inl, inr, ⊎_elim}
+use Rattle.arj_protocol.specs.Words.{Uid, Ask, Asked, BoundReply, Head, asks}
+use Rattle.arj_protocol.specs.Words.ask
+use Rattle.arj_protocol.specs.Words.bound
+use Rattle.arj_protocol.specs.Ask.{Reply, answers, top_of}
+use Rattle.arj_protocol.specs.Call.{Steps}
+use Rattle.arj_protocol.specs.Commit.{Machine}
+use Rattle.arj_protocol.specs.Coord.{Coord, Doing, doing_of, root_at}
+use Rattle.arj_protocol.specs.Node.{Parts}
+use Rattle.arj_protocol.specs.Order.{uid_number}
+use Rattle.arj_protocol.specs.Step.{Node}
+use Rattle.arj_protocol.specs.Tree.{at_place, is_own}
+use Rattle.arj_disk_law.specs.Guards.{HasPart}
+use Rattle.arj_disk_law.specs.Names.{Answer, Bound, Office, newer, written_in}
+use Rattle.arj_disk_law.specs.State.{Packed, is_gone}
+use Rattle.arj_disk_law.specs.Words.{In}
+use Rattle.arj_disk_law.proofs.Base.{never}
+use Rattle.arj_view_law.specs.Seen as seen
+use Rattle.arj_view_law.specs.Seen.{Post, Seen}
+use Rattle.arj_disk_view_law.specs.Sees.{IsFixed, IsLater, Kinds}
+use Rattle.arj_names_view_law.specs.Booked.{NamesGrants}
+use Rattle.arj_names_view_law.specs.Both.{OnlyMemory}
+use Rattle.arj_names_view_law.specs.Calls.{HasGiven}
+use Rattle.arj_names_view_law.proofs.RootsBoth.{root_stays}
+use Rattle.arj_disk_run_law.specs.Heard.{AreOfOne, ClaimsAsked, HasNoneOf, IsAskedFor, IsHadBy, IsListFor, IsOfRoot, IsToStep, IsWorkingRoot, SeesHeard, SeesHeardAt, SeesPlan, SeesStep}
+
+-- of this root the machine's grants, kept lists and states are as they were
+pub record StaysOf (tops : Kinds) (root : ℕ) (A B : Office) : Type 0 where
+  pub had : (h : ℕ) → IsOfRoot tops root h → B.names.had h ≡ A.names.had h
+  pub kept : (h : ℕ) → IsOfRoot tops root h → B.names.kept h ≡ A.names.kept h
+  pub states : written_in A.world.disk.root root B.world.disk.tops ≡ written_in A.world.disk.root root A.world.disk.tops
+
+-- the machine goes on: grants and answers grow
+pub record GoesOn (A B : Office) : Type 0 where
+  pub later : IsLater A.world B.world
+  pub had : (h i : ℕ) → A.names.had h i ≡ true → B.names.had h i ≡ true
+  pub answers : (a : Answer) → In a A.names.answers → In a B.names.answers
+
+-- a post is new, and says nothing to a step
+pub record IsNewTo (x : ℕ) (B : Office) (p : Post) : Type 0 where
+  pub none : answers p.message ≡ None
+  pub claims : ClaimsAsked x B (asks p.message)
+
+-- what was sent, and more
+pub record SendsMore (x : ℕ) (B : Office) (few many : List Post) : Type 0 where
+  pub within : (p : Post) → seen.In p few → seen.In p many
+  pub new : (p : Post) → seen.In p many → seen.In p few ⊎ IsNewTo x B p
+
+-- an action at work is the coordinator's
+pub own_doing : (c : Coord) (u : Uid) (q : Doing) → doing_of u c ≡ Some q → is_own u c.tree ≡ true
+own_doing c u q does = by (is_own u c.tree) refl does
+  where
+    by : (b : Bool) → is_own u c.tree ≡ b → (if b then at_place u.num c.doings else None) ≡ Some q → is_own u c.tree ≡ true
+    by true is at = is
+    by false is at = absurd (cc at)
+
+module _ (x : ℕ) (tops : Kinds) (A B : Office) (f : IsFixed tops A.world.disk) (h : IsFixed tops B.world.disk) (on : GoesOn A B) where
+  roots : B.world.disk.root ≡ A.world.disk.root
+  roots = h.root ∙ sym f.root
+
+  given_on : (t : ℕ) (r : BoundReply) → HasGiven t r A.names → HasGiven t r B.names
+  given_on t (bound.Live b server i g stores) c = on.answers (Bound t g false stores) c
+  given_on t (bound.Make b server g stores) c = on.answers (Bound t g false stores) c
+  given_on t (bound.Write g stores) c = on.answers (Bound t g true stores) c
+  given_on t (bound.Conflict holder m) c = tt
+
+  -- a step, with more that was sent
+  pub step_stays : (k : ℕ) (few many : List Post) (s : Steps) → SendsMore x B few many → SeesStep x k few s A.names → SeesStep x k many s B.names
+  step_stays k few many s more q = record {
+    stands = λ g at. on.had (uid_number (top_of s.path)) g (q.stands g at);
+    listed = λ e n rest at inc. let l = q.listed e n rest at inc in record { answered = on.answers (Bound (uid_number (top_of s.path)) e.grant true e.stores) l.answered; stores = l.stores };
+    bound = λ r to. let c = q.bound r (was (Reply.Bound r) to) in (c.0, λ same. given_on (uid_number (top_of s.path)) r (c.1 same));
+    loaded = λ e n rest st at inc to. on.answers _ (q.loaded e n rest st at inc (was _ to));
+  }
+    where
+      was : (r : Reply) → IsToStep k many s r → IsToStep k few s r
+      was r to = ⊎_elim (λ old. record { post = to.post; posted = old; node = to.node; answer = to.answer }) (λ new. absurd (let n : None ≡ Some _ = sym new.none ∙ to.answer in cc)) (more.new to.post to.posted)
+
+  -- ---- a commit
+
+  module _ (u : Uid) (stays : StaysOf tops (tops.root (uid_number u)) A B) where
+    abbrev t : ℕ
+    t = uid_number u
+
+    root_is : A.world.disk.root t ≡ tops.root t
+    root_is = ap (λ g. g t) f.root
+
+    had_own : B.names.had t ≡ A.names.had t
+    had_own = stays.had t (inr refl)
+
+    had_root : B.names.had (B.world.disk.root t) ≡ A.names.had (A.world.disk.root t)
+    had_root = ap (λ g. B.names.had (g t)) roots ∙ stays.had (A.world.disk.root t) (inl root_is)
+
+    was_had : (i : ℕ) → IsHadBy B t i → IsHadBy A t i
+    was_had i had = ⊎_elim (λ own. inl (sym (ap (λ g. g i) had_own) ∙ own)) (λ its. inr (sym (ap (λ g. g i) had_root) ∙ its)) had
+
+    is_had : (i : ℕ) → IsHadBy A t i → IsHadBy B t i
+    is_had i had = ⊎_elim (λ own. inl (ap (λ g. g i) had_own ∙ own)) (λ its. inr (ap (λ g. g i) had_root ∙ its)) had
+
+    list_stays : (stores : List ℕ) → IsListFor A t stores → IsListFor B t stores
+    list_stays stores l = record {
+      inc = l.inc;
+      had = is_had l.inc l.had;
+      list = λ j one. let q = l.list j (λ i had. one i (is_had i had)) in (
+        q.0,
+        ⊎_elim (λ own. inl own) (λ its. inr (its ∙ sym (ap (λ g. g t) roots))) q.1,
+        q.2,
+        stays.kept q.0 (⊎_elim (λ own. inr (ap tops.root own)) (λ its. inl (its ∙ root_is)) q.1) ∙ q.3,
+        q.4,
+      );
+    }
+
+    states_are : written_in B.world.disk.root (B.world.disk.root t) B.world.disk.tops ≡ written_in A.world.disk.root (A.world.disk.root t) A.world.disk.tops
+    states_are = ap (λ g. written_in g (g t) B.world.disk.tops) roots ∙ subst (λ r. written_in A.world.disk.root r B.world.disk.tops ≡ written_in A.world.disk.root r A.world.disk.tops) (sym root_is) stays.states
+
+    pub plan_stays : (m : Machine) → SeesPlan x tops u m A → SeesPlan x tops u m B
+    plan_stays m q = record {
+      top = q.top;
+      grants = λ w i at had. q.grants w i at (was_had i had);
+      list = λ w votes at called. list_stays w.stores (q.list w votes at called);
+      loaded = λ w st votes at is. let l = q.loaded w st votes at is in let d = l.load in record {
+        state = l.state;
+        load = record { inc = d.inc; answered = on.answers _ d.answered; had = ap (λ g. g d.inc) had_own ∙ d.had };
+        newest = l.newest ∙ ap (newer l.state) (sym states_are);
+      };
+    }
+
+  pub none_stays : (u : ℕ) → StaysOf tops u A B → HasNoneOf tops u A → HasNoneOf tops u B
+  none_stays u stays none = record {
+    had = λ z i of. ap (λ g. g i) (stays.had z of) ∙ none.had z i of;
+    kept = λ z of. stays.kept z of ∙ none.kept z of;
+    states = ap (λ g. written_in g u B.world.disk.tops) roots ∙ (stays.states ∙ none.states);
+  }
+
+  -- what a request claims, where no top that is there has more grants that count for it
+  pub claim_stays : ((u : Uid) (i : ℕ) → A.world.disk.begun (uid_number u) ≡ true → is_gone (A.world.disk.stage (uid_number u)) ≡ false → IsHadBy B (uid_number u) i → IsHadBy A (uid_number u) i) → (o : Option (Head × Ask)) → ClaimsAsked x A o → ClaimsAsked x B o
+  claim_stays had None c = tt
+  claim_stays had (Some (z, ask.Bind y include avoid)) c = tt
+  claim_stays had (Some (z, ask.Load y)) c = tt
+  claim_stays had (Some (z, ask.Activate b st)) c = tt
+  claim_stays had (Some (z, ask.Record y b i g)) c = λ same. on.had (uid_number (top_of z.path)) g (c same)
+  claim_stays had (Some (z, ask.Invoke y b i ends op)) c = tt
+  claim_stays had (Some (z, ask.Vote i ties ends)) c = tt
+  claim_stays had (Some (z, ask.Prepare states)) c = tt
+  claim_stays had (Some (z, ask.Confirm grants excluded included)) c = (
+    on.later.begun (uid_number (top_of z.path)) c.0,
+    λ here part i has.
+        let was : is_gone (A.world.disk.stage (uid_number (top_of z.path))) ≡ false = not_gone (is_gone (A.world.disk.stage (uid_number (top_of z.path)))) refl here in
+        c.1 was (subst HasPart (on.later.plan (uid_number (top_of z.path)) c.0) part) i (had (top_of z.path) i c.0 was has),
+  )
+    where
+      not_gone : (b : Bool) → is_gone (A.world.disk.stage (uid_number (top_of z.path))) ≡ b → is_gone (B.world.disk.stage (uid_number (top_of z.path))) ≡ false → is_gone (A.world.disk.stage (uid_number (top_of z.path))) ≡ false
+      not_gone true is here = absurd (never (on.later.gone (uid_number (top_of z.path)) is) here)
+      not_gone false is here = is
+
+  -- ---- a coordinator
+
+  -- a coordinator of which each root stays
+  pub at_stays : (k : ℕ) (few many : List Post) (c : Coord) → SendsMore x B few many → ((u : Uid) → is_own u c.tree ≡ true → (tops.root (uid_number u) ≡ uid_number u) ⊎ (tops.is_top (uid_number u) ≡ true) → StaysOf tops (tops.root (uid_number u)) A B)
+      → SeesHeardAt x k tops few c A → SeesHeardAt x k tops many c B
+  at_stays k few many c more stays p = record {
+    roots = λ root w. let s = subst (λ r. StaysOf tops r A B) w.alone (stays root w.own (inl w.alone)) in
+        root_stays x tops root c (root_at root c) A B f h (p.roots root w) s.had s.kept on.answers s.states;
+    steps = λ u q s does now of. step_stays k few many s more (p.steps u q s does now of);
+    plans = λ u q m does now. let l = p.plans u q m does now in plan_stays u (stays u (own_doing c u q does) (inr l.top)) m l;
+  }
+
+-- where nothing but naming's memory has changed each root stays
+pub memory_goes : (A B : Office) → OnlyMemory A B → GoesOn A B
+memory_goes A B only = record { later = only.later; had = λ z i has. ap (λ g. g z i) only.had ∙ has; answers = only.answers }
+
+pub memory_stays : (tops : Kinds) (A B : Office) → OnlyMemory A B → (r : ℕ) → StaysOf tops r A B
+memory_stays tops A B only r = record { had = λ z of. ap (λ g. g z) only.had; kept = λ z of. ap (λ g. g z) only.kept; states = ap (written_in A.world.disk.root r) only.tops }
+
+pub memory_had : (A B : Office) → OnlyMemory A B → (t i : ℕ) → IsHadBy B t i → IsHadBy A t i
+memory_had A B only t i had = ⊎_elim (λ own. inl (sym (ap (λ g. g t i) only.had) ∙ own))
+    (λ its. inr (sym (ap (λ g. g (A.world.disk.root t) i) only.had) ∙ ap (λ g. B.names.had (g t) i) (sym (let l = only.later in l.root)) ∙ its)) had
