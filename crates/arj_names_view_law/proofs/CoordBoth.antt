@@ -14,7 +14,7 @@ use Rattle.arj_disk_law.specs.Names.{Answer, AnswerLoad, Bound, Loaded, Names, O
 use Rattle.arj_disk_law.specs.Offices.{chosen}
 use Rattle.arj_disk_law.specs.State.{State, Plan, Stage, Preparing, Confirming, Gone, decided as is_decided, decided_in as in_these, is_gone, is_open, is_sealed, open_by, undecided}
 use Rattle.arj_disk_law.proofs.Acts.{runs_keep}
-use Rattle.arj_disk_law.proofs.Base.{never, open_done, open_made, open_parts, or_cases, or_left, or_right, put2_rises, put_cases, put_other, put_same, test_is, test_not, test_same}
+use Rattle.arj_disk_law.proofs.Base.{never, open_done, open_made, open_parts, or_cases, or_left, or_right, put2_rises, put2_true, put_cases, put_other, put_same, test_is, test_not, test_same}
 use Rattle.arj_disk_law.proofs.PlainActs.{plain_act}
 use Rattle.arj_view_law.specs.Seen.{Seen, at, posted, said, up}
 use Rattle.arj_disk_view_law.proofs.Frames.{node_here}
@@ -510,7 +510,7 @@ beginnings_keep_both x tops e k d t v outs top p A M unwalked all naming both pl
 -- ---- answers
 
 -- grants, kept lists and answers aren't naming's memory
-answered_naming : (x : ℕ) (tops : Kinds) (n : Naming) (S : State) (N : Names) (had : ℕ → ℕ → Bool) (kept : ℕ → Option Kept) (answers : List Answer) → SeesNaming x tops n S N → SeesNaming x tops n S (record N { had = had; kept = kept; answers = answers })
+pub answered_naming : (x : ℕ) (tops : Kinds) (n : Naming) (S : State) (N : Names) (had : ℕ → ℕ → Bool) (kept : ℕ → Option Kept) (answers : List Answer) → SeesNaming x tops n S N → SeesNaming x tops n S (record N { had = had; kept = kept; answers = answers })
 answered_naming x tops n S N had kept answers s = record {
   inc_is = s.inc_is;
   told_is = s.told_is;
@@ -544,17 +544,18 @@ answered_both x tops e k d t v outs Q A M unwalked all naming both acts walk = w
         )
 
 -- where grants and kept lists alone have changed no answer was given
-kept_only : (C D : Office) → OnlyKept C D → OnlyAnswers C D
-kept_only C D only = record {
-  grows = only.had;
+pub kept_only : (t g : ℕ) (C D : Office) → OnlyKept C D → D.names.had ≡ put2 t g true C.names.had → C.world.disk.stage t ≡ Idle → C.world.disk.serial t ≡ false → OnlyAnswers C D
+kept_only t g C D only had idle plain = record {
   world = only.world;
   names = only.names ∙ ap (λ y. record C.names { had = D.names.had; kept = D.names.kept; answers = y }) (ap (λ (L : Names). L.answers) (sym only.names));
   answers = λ a j. subst (λ (L : Names). In a L.answers) (sym only.names) j;
+  grows = only.had;
+  heard = λ h i on. ⊎_elim (λ (new : (h ≡ t) × (i ≡ g)). inr (ap C.world.disk.stage new.0 ∙ idle, ap C.world.disk.serial new.0 ∙ plain)) (λ old. inl old) (put2_true t g C.names.had h i (ap (λ f. f h i) (sym had) ∙ on));
 }
 
 -- of roots nothing changes by an answer to a Load
 module _ (A C : Office) (on : HasGoneOn A C) where
-  nothing_of_roots : (a : Answer) → OnlyAtNode (λ n. false) A (record { world = C.world; names = record C.names { answers = a ∷ C.names.answers } })
+  pub nothing_of_roots : (a : Answer) → OnlyAtNode (λ n. false) A (record { world = C.world; names = record C.names { answers = a ∷ C.names.answers } })
   nothing_of_roots a = record {
     root = on.later.root;
     grows = λ h i had. ap (λ (L : Names). L.had h i) on.names ∙ had;
@@ -565,7 +566,7 @@ module _ (A C : Office) (on : HasGoneOn A C) where
   }
 
   -- by an answer to a call of a top what is kept and had of another root stays
-  others_left : (tops : Kinds) (root top : Uid) (g : ℕ) (D : Office) → IsFixed tops A.world.disk → IsTopOf tops root top → OnlyKept C D → D.names.had ≡ put2 (uid_number top) g true C.names.had → LeavesOthers tops root C D → OnlyAtNode (λ n. n == uid_number top) A D
+  pub others_left : (tops : Kinds) (root top : Uid) (g : ℕ) (D : Office) → IsFixed tops A.world.disk → IsTopOf tops root top → OnlyKept C D → D.names.had ≡ put2 (uid_number top) g true C.names.had → LeavesOthers tops root C D → OnlyAtNode (λ n. n == uid_number top) A D
   others_left tops root top g D fixed of only had leaves = record {
     root = ap (λ (V : World). V.disk.root) only.world ∙ on.later.root;
     grows = λ h i old. ap (λ f. f h i) had ∙ put2_rises (uid_number top) g C.names.had h i (ap (λ (L : Names). L.had h i) on.names ∙ old);
@@ -587,7 +588,7 @@ loads_keep_both x tops e k d t v from h st top i l outs A M unwalked is free hel
         record {
           acts = AnswerLoad top i k l (packed st) ∷ [];
           may = (record { answered = subst (λ (L : Names). In (Bound top i true l) L.answers) (sym on.names) answered; listed = listed; free = q.0; held = q.1 }, tt);
-          there = (record { world = refl; names = refl; answers = λ a j. inr j; grows = λ h z old. old }, (inl refl, nothing_of_roots A C on (Loaded top i (packed st))));
+          there = (record { world = refl; names = refl; answers = λ a j. inr j; grows = λ h z old. old; heard = λ h z old. inl old }, (inl refl, nothing_of_roots A C on (Loaded top i (packed st))));
         }
 
 pub calls_keep_both : CallsKeepBoth
@@ -605,7 +606,7 @@ calls_keep_both x g tops e k d t v outs root top c r q known place free A M unwa
           acts = go.acts;
           may = go.may;
           there = (
-            kept_only C (end_of C go.acts) only,
+            kept_only (uid_number top) g C (end_of C go.acts) only go.there.2 z (ap (λ f. f (uid_number top)) disks.fixed.serial ∙ of.plain),
             (subst (λ V. SeesGrants x root c q V.disk (end_of C go.acts).names) (sym only.world) (granted_on (end_of C go.acts).names go.there.2 grants_now z), go.there.1, others_left A C on tops root top g (end_of C go.acts) (let f = both.disks in f.fixed) of only go.there.2 go.there.3),
           );
         }

@@ -5,6 +5,7 @@ pub mod CoordBoth
 pub mod EndActs
 pub mod EntriesLeft
 pub mod GrantSteps
+pub mod Heard
 pub mod InputBoth
 pub mod ListEnds
 pub mod ListSteps

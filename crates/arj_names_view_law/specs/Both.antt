@@ -298,12 +298,14 @@ OtherRootsStay = (x : ℕ) (tops : Kinds) (g : ℕ → Bool) (root : Uid) (c : C
 
 -- ---- answers are taken and given
 
--- Of naming's half only grants, kept lists and answers have changed; answers and grants grow.
+-- Of naming's half only grants, kept lists and answers have changed; answers grow, and so do grants of who works and is no serializing
+-- action.
 pub record OnlyAnswers (C D : Office) : Type 0 where
   pub world : D.world ≡ C.world
   pub names : D.names ≡ record C.names { had = D.names.had; kept = D.names.kept; answers = D.names.answers }
   pub answers : (a : Answer) → In a C.names.answers → In a D.names.answers
   pub grows : (h i : ℕ) → C.names.had h i ≡ true → D.names.had h i ≡ true
+  pub heard : (h i : ℕ) → D.names.had h i ≡ true → (C.names.had h i ≡ true) ⊎ ((C.world.disk.stage h ≡ Idle) × (C.world.disk.serial h ≡ false))
 
 -- the disk half has gone on, and naming's half had no part in it
 pub record HasGoneOn (A C : Office) : Type 0 where

@@ -4,6 +4,7 @@ pub mod Both
 pub mod Calls
 pub mod Grants
 pub mod Handlers
+pub mod Heard
 pub mod Lists
 pub mod Loads
 pub mod Memory

@@ -10,6 +10,7 @@
 //! `specs/Lists.antt`, `specs/Loads.antt`), by which a commit may begin (`specs/Begins.antt`).
 #![tactic(auto)]
 
+mod answers;
 mod begins;
 mod booked;
 mod both;
@@ -19,6 +20,7 @@ mod handlers;
 mod loads;
 mod restarts;
 
+pub use answers::answers_are_taken;
 pub use begins::commits_may_begin;
 pub use booked::new_confirms_are_booked;
 pub use both::{handlers_are_followed, roots_keep_their_part, steps_keep_both, walks_keep_both};
