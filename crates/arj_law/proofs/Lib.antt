@@ -1,12 +1,12 @@
-mod Answers
-mod Commit
-mod Common
-mod Depths
-mod Held
-mod Last
-mod Listed
-mod Moves
-mod Nested
-mod Order
-mod Reading
-mod Rows
+pub mod Answers
+pub mod Commit
+pub mod Common
+pub mod Depths
+pub mod Held
+pub mod Last
+pub mod Listed
+pub mod Moves
+pub mod Nested
+pub mod Order
+pub mod Reading
+pub mod Rows

@@ -1,6 +1,6 @@
 -- The lock machine of one object against a journal: what ties a state of it to the journal's lines. A place of the machine
 -- is the count of lines up to its line, that line with them.
-use Rattle.std.specs.Prelude.{⊤, ◌≡◌, ℕ, ◌+◌, ◌==◌, List, [], ◌∷◌, filter, reverse, Bool, true, false, not, Contains}
+use Rattle.std.specs.Prelude.{⊤, ◌≡◌, ℕ, ◌+◌, ◌==◌, List, [], ◌∷◌, filter, reverse, true, false, not, Contains}
 use Rattle.std.specs.List.{list_any}
 use Rattle.arj_base.specs.declared.uid.Uid.{Uid}
 use Rattle.arj_base.specs.Rows.{is_on, last_uid}

@@ -1,2 +1,12 @@
-//! From the lock machine of each object to the serial order of a journal.
+//! The journal's side of the lock machine: what its laws say of a journal's calls, in the words of `arj_model`.
+//!
+//! `specs/Tied.antt` says what ties a state of an object's machine to a journal: its actions stand where the journal's paths
+//! say, are committed as its lines say, and its calls are exactly the answered ones on the object. It stands on the laws of
+//! the machine (`arj_lock_law`), on those of journals whose lines are right (`arj_line_law`), and on the lock book
+//! (`arj_law`). What it gives upward: `tied_journals_are_serial`: a journal whose lines are right, as that of each run, and
+//! that is tied to a machine for each object, keeps the lock book and is serial, with nested actions each whole at its commit.
 #![tactic(auto)]
+
+mod serial;
+
+pub use serial::{tied_journals_are_serial, tied_journals_keep_the_lock_book};
