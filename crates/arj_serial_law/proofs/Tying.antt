@@ -30,7 +30,7 @@ use Rattle.arj_lock_law.specs.State.{State}
 use Rattle.arj_lock_law.specs.Steps.{Survives}
 use Rattle.arj_lock_law.proofs.Claims.{Holds}
 use Rattle.arj_lock_law.proofs.Order.{run_keeps, start_holds}
-use Rattle.arj_serial_law.specs.Tied.{HasPlaces, IsCallOf, IsTied, path_of}
+use Rattle.arj_serial_law.proofs.Ties.{HasPlaces, IsCallOf, Tie, path_of}
 use Rattle.arj_serial_law.proofs.Items.{said_maker}
 use Rattle.arj_serial_law.proofs.Paths.{IsShaped, chain_on, own_last, own_top, parts, paths_stay, top_on, well}
 
@@ -106,7 +106,7 @@ module _ (lines : List Line) (right : AreRight new_book lines) where
 
 -- ---- a tie
 
-module _ (values : Values) (lines : List Line) (right : AreRight new_book lines) (x : ℕ) (S : State) (tied : IsTied values lines x S) where
+module _ (values : Values) (lines : List Line) (right : AreRight new_book lines) (x : ℕ) (S : State) (tied : Tie values lines x S) where
   places : HasPlaces tied.act lines
   places = tied.places
 

@@ -23,7 +23,7 @@ use Rattle.arj_lock_law.specs.Steps.{IsLast, Survives, newest, none, older}
 use Rattle.arj_lock_law.specs.Laws.{SawTheLast}
 use Rattle.arj_lock_law.proofs.Order.{start_holds}
 use Rattle.arj_lock_law.proofs.ValueRun.{run_values, saw_the_last, start_values}
-use Rattle.arj_serial_law.specs.Tied.{AreCallsOf, AreTied, IsCallOf, IsTied, said_on}
+use Rattle.arj_serial_law.proofs.Ties.{AreCallsOf, Ties, IsCallOf, Tie, said_on}
 use Rattle.arj_serial_law.proofs.Timely.{run_initial}
 use Rattle.arj_serial_law.proofs.Tying.{IsMade, kept_survives, made, survives_kept}
 
@@ -199,7 +199,7 @@ module _ (values : Values) (lines : List Line) (x : ℕ) where
 
 -- ---- by the machine
 
-module _ (values : Values) (lines : List Line) (right : AreRight new_book lines) (x : ℕ) (S : State) (tied : IsTied values lines x S) where
+module _ (values : Values) (lines : List Line) (right : AreRight new_book lines) (x : ℕ) (S : State) (tied : Tie values lines x S) where
   abbrev finally : ℕ → List (Placed Said) → Value
   finally p ss = final values lines x p ss
 
@@ -285,7 +285,7 @@ any_said x s (z ∷ ss) (inr i) is = by (z.it.x == x) (any_said x s ss i is)
     by true e = refl
     by false e = e
 
-pub are_answered : (values : Values) (lines : List Line) → AreRight new_book lines → AreTied values lines → Answered values lines
+pub are_answered : (values : Values) (lines : List Line) → AreRight new_book lines → Ties values lines → Answered values lines
 are_answered values lines right tied = all_from (IsAnsweredBy values (committed_calls lines)) (committed_calls lines) one
   where
     one : (c : Call) → In c (committed_calls lines) → IsAnsweredBy values (committed_calls lines) c
