@@ -1,0 +1,4 @@
+pub mod Ends
+pub mod Numbers
+pub mod Reading
+pub mod Ties

@@ -1,0 +1,12 @@
+//! The journal, as the lock machine of one object has it.
+//!
+//! A state of the machine (`arj_lock_law`) is tied to the lines of a journal (`specs/Lines.antt`): the answered calls and includes of the
+//! object are the machine's, one by one, with the values that they met and left, and the calls of commits, the commits and the aborts
+//! of actions stand in the machine at the places of their lines. It stands on `arj_lock_view_law` for what parts do in the machine, and
+//! on `arj_line_law` for what journals say of actions. What it gives upward: `ties_are_kept`, by each line and what the machine does
+//! beside it (`specs/Steps.antt`).
+#![tactic(auto)]
+
+mod lines;
+
+pub use lines::ties_are_kept;

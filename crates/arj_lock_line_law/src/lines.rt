@@ -1,0 +1,9 @@
+// A journal, tied to the lock machine of one object.
+ghost use Rattle.arj_lock_line_law.specs.Steps.{TiesAreKept};
+
+/// A journal stays tied to the machine with each line, where the machine does what belongs to the line: an action begins, its commit is
+/// called, made or found, it is aborted, its node halts, a call or an include is answered; beside any other line no action changes in
+/// how far it is, and no call comes. It does nothing when it runs.
+pub fn ties_are_kept()
+    ensures { TiesAreKept }
+{}
