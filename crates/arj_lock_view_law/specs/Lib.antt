@@ -31,3 +31,4 @@ pub mod Sent
 pub mod Handling
 pub mod Namings
 pub mod Hearing
+pub mod Lines
