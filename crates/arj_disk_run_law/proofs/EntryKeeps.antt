@@ -273,7 +273,7 @@ module _ (x : ℕ) where
 
   -- ---- at first
 
-  put_entries : (ls : List ObjectLine) (held : List (Uid × ObjectState)) → ((e : Uid × ObjectState) → In e held → e.0 ≡ entry e.0.num) → (e : Uid × ObjectState) → In e (put_states (map first_entry ls) held) → e.0 ≡ entry e.0.num
+  pub put_entries : (ls : List ObjectLine) (held : List (Uid × ObjectState)) → ((e : Uid × ObjectState) → In e held → e.0 ≡ entry e.0.num) → (e : Uid × ObjectState) → In e (put_states (map first_entry ls) held) → e.0 ≡ entry e.0.num
   put_entries ls held old e i = subst (λ m. In e m → e.0 ≡ entry e.0.num) (sym (put_is (map first_entry ls) held)) (moved_names (map first_entry ls) held (λ s j. own ls s j) old e) i
     where
       put_is : (ss : List ObjectState) (held : List (Uid × ObjectState)) → put_states ss held ≡ moved ss held

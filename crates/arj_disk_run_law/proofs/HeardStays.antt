@@ -92,7 +92,7 @@ module _ (x : ℕ) (tops : Kinds) (A B : Office) (f : IsFixed tops A.world.disk)
     had_root : B.names.had (B.world.disk.root t) ≡ A.names.had (A.world.disk.root t)
     had_root = ap (λ g. B.names.had (g t)) roots ∙ stays.had (A.world.disk.root t) (inl root_is)
 
-    was_had : (i : ℕ) → IsHadBy B t i → IsHadBy A t i
+    pub was_had : (i : ℕ) → IsHadBy B t i → IsHadBy A t i
     was_had i had = ⊎_elim (λ own. inl (sym (ap (λ g. g i) had_own) ∙ own)) (λ its. inr (sym (ap (λ g. g i) had_root) ∙ its)) had
 
     is_had : (i : ℕ) → IsHadBy A t i → IsHadBy B t i

@@ -5,7 +5,10 @@ pub mod EntryKeeps
 pub mod EntryRows
 pub mod EntryWalks
 pub mod HeardAll
+pub mod HeardFirst
+pub mod HeardPosts
 pub mod HeardQuiet
+pub mod HeardRestart
 pub mod HeardStays
 pub mod Holders
 pub mod Given

@@ -1,6 +1,6 @@
 -- A formatted world with both halves; and what a coordinator has of a root, where nothing of it has changed.
-use Rattle.std.proofs.Common.{◌≡◌, ◌⊎◌, ℕ, [], false, Some, None, refl, sym, ◌∙◌, ap, subst, inl, inr, ⊎_elim}
-use Rattle.arj_protocol.specs.Words.{Uid}
+use Rattle.std.proofs.Common.{◌≡◌, ◌⊎◌, ℕ, [], true, false, Some, None, refl, sym, ◌∙◌, ap, subst, inl, inr, ⊎_elim}
+use Rattle.arj_protocol.specs.Words.{Header, Uid}
 use Rattle.arj_protocol.specs.Call.{Known}
 use Rattle.arj_protocol.specs.Confirm.{recovered_naming}
 use Rattle.arj_protocol.specs.Coord.{Coord, Root}
@@ -10,6 +10,7 @@ use Rattle.arj_protocol.specs.Order.{uid_number}
 use Rattle.arj_protocol.specs.Step.{Node, first_disk, first_node, parts_in}
 use Rattle.arj_protocol.specs.World.{format}
 use Rattle.arj_disk_law.specs.Names.{Names, Office, Answer, Loaded, written_in}
+use Rattle.arj_disk_view_law.specs.Formats.{HasObject}
 use Rattle.arj_disk_view_law.specs.Pairs.{packed}
 use Rattle.arj_disk_law.specs.NamingLaws.{IsFirstNames}
 use Rattle.arj_disk_law.specs.Words.{In}
@@ -19,10 +20,11 @@ use Rattle.arj_view_law.specs.Seen.{see}
 use Rattle.arj_disk_view_law.specs.Sees.{IsFixed, Kinds, SeesDisks}
 use Rattle.arj_disk_view_law.proofs.FirstSeen as seen
 use Rattle.arj_disk_view_law.proofs.FirstSeen.{first_at, format_seen}
-use Rattle.arj_names_view_law.specs.Both.{FormatsHaveBoth, IsOther, OtherRootsStay, RootsStay, SeesRootOf}
+use Rattle.arj_names_view_law.specs.Both.{FormatsHaveBoth, IsOther, OtherRootsStay, RootsStay, SeesBoth, SeesRootOf}
 use Rattle.arj_names_view_law.specs.Grants.{SeesGrants}
 use Rattle.arj_names_view_law.specs.Lists.{HasList, HasRetained, IsTopOf, SeesLists}
 use Rattle.arj_names_view_law.specs.Memory.{SeesNaming}
+use Rattle.arj_names_view_law.specs.Restarts.{AreEntries}
 use Rattle.arj_names_view_law.proofs.RestartActs.{first_is_seen}
 
 -- ---- a format
@@ -57,6 +59,14 @@ formats_have_both hd x tops unwalked has_it serial plain idem entries = (
     memory_one : (o : Naming) → recovered_naming 1 (first_disk hd 1).names ≡ o → SeesNaming x tops o (seen.S hd x tops has_it) first_names
     memory_one o same = subst (λ z. SeesNaming x tops z (seen.S hd x tops has_it) first_names) same
         (first_is_seen x tops 1 (first_disk hd 1).names (seen.S hd x tops has_it) first_names (seen.first_is hd x tops has_it) first_names_is refl refl (seen.entry_seen hd x tops has_it) entries)
+
+-- and so much is known of it
+pub formats_have_first : (hd : Header) (x : ℕ) (tops : Kinds) → tops.walk ≡ None → HasObject hd x → ((r : ℕ) → tops.is_serial r ≡ true → tops.root r ≡ r) → ((t : ℕ) → tops.is_serial (tops.root t) ≡ false → tops.root t ≡ t) → ((t : ℕ) → tops.root (tops.root t) ≡ tops.root t)
+    → AreEntries (first_disk hd 1).names → (A : Office) × SeesBoth x tops A (see [] (format hd)) × IsFirstNames A.names × (A.world.disk.tops ≡ [])
+unfolding formats_have_both
+formats_have_first hd x tops unwalked has_it serial plain idem entries =
+    let b = formats_have_both hd x tops unwalked has_it serial plain idem entries in
+    (b.0, b.1, first_names_is, (let f = seen.first_is hd x tops has_it in f.undecided))
 
 -- ---- a root of which nothing has changed
 
