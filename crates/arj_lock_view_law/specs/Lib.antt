@@ -31,4 +31,3 @@ pub mod Sent
 pub mod Handling
 pub mod Namings
 pub mod Hearing
-pub mod Lines

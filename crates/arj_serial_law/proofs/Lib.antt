@@ -5,4 +5,3 @@ pub mod Items
 pub mod Tying
 pub mod Values
 pub mod Order
-pub mod FromLines

@@ -16,7 +16,7 @@ use Rattle.arj_model.specs.Serial.{Values, lex, root_of, serial_key, serial_less
 use Rattle.arj_law.specs.Book.{InOrder, OfEachTwo, StandInOrder, is_conflict}
 use Rattle.arj_law.specs.Nested.{AnsweredInTime, FreedInOrder, IsFreedFor, commit_place}
 use Rattle.arj_line_law.specs.Book.{is_top, new_book}
-use Rattle.arj_line_law.specs.Laws.{AreApart, AreItsTops, IsDone}
+use Rattle.arj_line_law.specs.Laws.{AreApart, AreItsTops, IsDone, called}
 use Rattle.arj_line_law.specs.Right.{AreRight}
 use Rattle.arj_line_law.proofs.Books.{never}
 use Rattle.arj_line_law.proofs.Closed.{one_act}
@@ -33,7 +33,9 @@ use Rattle.arj_lock_law.proofs.Order.{run_keeps, start_holds}
 use Rattle.arj_lock_law.proofs.Ordered.{is_in_order, is_nested}
 use Rattle.arj_lock_law.proofs.Paths.{on_root, on_top, top_of as topmost, top_root}
 use Rattle.arj_lock_law.proofs.Roots.{roots_low, start_low}
-use Rattle.arj_serial_law.proofs.Ties.{AreCallsOf, Ties, IsCallOf, Tie, path_of, said_on}
+use Rattle.arj_lock_line_law.specs.Lines.{AreCallsOf, IsCallOf, said_on}
+use Rattle.arj_serial_law.specs.Tied.{path_of}
+use Rattle.arj_serial_law.proofs.Ties.{Tie, Ties}
 use Rattle.arj_serial_law.proofs.Items.{IsCallOfTop, call_top}
 use Rattle.arj_serial_law.proofs.Paths.{chain_on, own_there, own_top, parts, top_on}
 use Rattle.arj_serial_law.proofs.Timely.{AreTimely, run_timely, start_timely}
@@ -126,10 +128,7 @@ pub record IsTopOf (lines : List Line) (t : Top) : Type 0 where
   pub kind : is_top act.kind ≡ true
   pub done : IsDone lines act
   pub root_is : t.root ≡ root_or act.id (root_in (path_of lines act))
-  pub call : Placed (List Act)
-  pub called : In call (committings lines)
-  pub call_is : top_in call.it ≡ Some act
-  pub at_call : call.at ≡ t.at
+  pub call : In (record { at = t.at; it = act.id }) (called lines)
 
 top_plain : (k : Kind) → is_top k ≡ true → is_serial k ≡ false
 top_plain kind.Nested e = absurd (cc e)
@@ -156,23 +155,20 @@ module _ (lines : List Line) (right : AreRight new_book lines) where
       let f = in_filter_map (top_of (committed lines) (recovered lines)) t (committings lines) i in
       let c = call_top lines right f.0 f.1 in
       let is : top_in f.0.it ≡ Some c.act = ap top_in c.path_is ∙ own c.act c.there c.top in
-      by f.0 f.1 c is (is_committed (committed lines) (recovered lines) c.act) refl (sym (ap (top_by (committed lines) (recovered lines) f.0) is) ∙ f.2)
+      by f.0 c is (is_committed (committed lines) (recovered lines) c.act) refl (sym (ap (top_by (committed lines) (recovered lines) f.0) is) ∙ f.2)
     where
-      by : (m : Placed (List Act)) → In m (committings lines) → (c : IsCallOfTop (acts lines) m.it) → top_in m.it ≡ Some c.act → (b : Bool) → is_committed (committed lines) (recovered lines) c.act ≡ b
+      by : (m : Placed (List Act)) (c : IsCallOfTop (acts lines) (called lines) m) → top_in m.it ≡ Some c.act → (b : Bool) → is_committed (committed lines) (recovered lines) c.act ≡ b
           → cond b (Some (record { id = c.act.id; root = root_or c.act.id (root_in m.it); at = m.at })) None ≡ Some t → IsTopOf lines t
-      by m i c is true done e = let same = some_is (record { id = c.act.id; root = root_or c.act.id (root_in m.it); at = m.at }) t e in record {
+      by m c is true done e = let same = some_is (record { id = c.act.id; root = root_or c.act.id (root_in m.it); at = m.at }) t e in record {
         act = c.act;
         there = c.there;
         number = ap (λ (z : Top). z.id) same;
         kind = c.top;
         done = done;
         root_is = sym (ap (λ (z : Top). z.root) same) ∙ ap (λ p. root_or c.act.id (root_in p)) c.path_is;
-        call = m;
-        called = i;
-        call_is = is;
-        at_call = ap (λ (z : Top). z.at) same;
+        call = subst (λ n. In (record { at = n; it = c.act.id }) (called lines)) (ap (λ (z : Top). z.at) same) c.number;
       }
-      by m i c is false done e = absurd (cc e)
+      by m c is false done e = absurd (cc e)
 
   pub top_for : (a : Act) → In a (acts lines) → is_top a.kind ≡ true → IsDone lines a → (t : Top) × In t (tops lines) × (t.id ≡ a.id)
   top_for a i top done = let r = listed.all a (in_to a (acts lines) i) top done in (r.0, in_from r.0 (tops lines) r.1, r.2)
@@ -206,7 +202,7 @@ module _ (values : Values) (lines : List Line) (right : AreRight new_book lines)
   stage_of_top t i = let s = tied.actions i.act (in_to i.act (acts lines) i.there) (top_plain i.act.kind i.kind) in s.done i.done
 
   pub place_in : (t : Top) (i : IsTopOf lines t) → (S.action (tied.act i.act.uid)).place ≡ t.at + 1
-  place_in t i = let s = tied.actions i.act (in_to i.act (acts lines) i.there) (top_plain i.act.kind i.kind) in s.place i.call (in_to i.call (committings lines) i.called) i.call_is ∙ ap (λ n. n + 1) i.at_call
+  place_in t i = let s = tied.actions i.act (in_to i.act (acts lines) i.there) (top_plain i.act.kind i.kind) in s.place (record { at = t.at; it = i.act.id }) (in_to _ (called lines) i.call) refl
 
   pub is_top_in : (a : Act) → In a (acts lines) → is_top a.kind ≡ true → machine.is_top (tied.act a.uid) ≡ true
   is_top_in a i top = let p = tied.places in p.tops a (in_to a (acts lines) i) ∙ top

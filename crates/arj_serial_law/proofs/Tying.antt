@@ -30,7 +30,9 @@ use Rattle.arj_lock_law.specs.State.{State}
 use Rattle.arj_lock_law.specs.Steps.{Survives}
 use Rattle.arj_lock_law.proofs.Claims.{Holds}
 use Rattle.arj_lock_law.proofs.Order.{run_keeps, start_holds}
-use Rattle.arj_serial_law.proofs.Ties.{HasPlaces, IsCallOf, Tie, path_of}
+use Rattle.arj_lock_line_law.specs.Lines.{IsCallOf}
+use Rattle.arj_serial_law.specs.Tied.{HasPlaces, path_of}
+use Rattle.arj_serial_law.proofs.Ties.{Tie}
 use Rattle.arj_serial_law.proofs.Items.{said_maker}
 use Rattle.arj_serial_law.proofs.Paths.{IsShaped, chain_on, own_last, own_top, parts, paths_stay, top_on, well}
 

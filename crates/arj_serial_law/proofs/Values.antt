@@ -23,7 +23,8 @@ use Rattle.arj_lock_law.specs.Steps.{IsLast, Survives, newest, none, older}
 use Rattle.arj_lock_law.specs.Laws.{SawTheLast}
 use Rattle.arj_lock_law.proofs.Order.{start_holds}
 use Rattle.arj_lock_law.proofs.ValueRun.{run_values, saw_the_last, start_values}
-use Rattle.arj_serial_law.proofs.Ties.{AreCallsOf, Ties, IsCallOf, Tie, said_on}
+use Rattle.arj_lock_line_law.specs.Lines.{AreCallsOf, IsCallOf, said_on}
+use Rattle.arj_serial_law.proofs.Ties.{Ties, Tie}
 use Rattle.arj_serial_law.proofs.Timely.{run_initial}
 use Rattle.arj_serial_law.proofs.Tying.{IsMade, kept_survives, made, survives_kept}
 

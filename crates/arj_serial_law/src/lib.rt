@@ -2,9 +2,10 @@
 //!
 //! `specs/Tied.antt` says what ties a state of an object's machine to a journal: its actions stand where the journal's paths
 //! say, are committed as its lines say, and its calls are exactly the answered ones on the object. It stands on the laws of
-//! the machine (`arj_lock_law`), on those of journals whose lines are right (`arj_line_law`), and on the lock book
-//! (`arj_law`). What it gives upward: `tied_journals_are_serial`: a journal whose lines are right, as that of each run, and
-//! that is tied to a machine for each object, keeps the lock book and is serial, with nested actions each whole at its commit.
+//! the machine (`arj_lock_law`), on what ties it to lines (`arj_lock_line_law`), on the laws of journals whose lines are
+//! right (`arj_line_law`), and on the lock book (`arj_law`). What it gives upward: `tied_journals_are_serial`: a journal
+//! whose lines are right, as that of each run, and that is tied to a machine for each object, keeps the lock book and is
+//! serial, with nested actions each whole at its commit.
 #![tactic(auto)]
 
 mod serial;

@@ -1,16 +1,16 @@
-use Rattle.arj_serial_law.proofs.FromLines.{ties_of}
+use Rattle.arj_serial_law.proofs.Ties.{ties_of}
 use Rattle.arj_serial_law.proofs.Order.{all_freed, all_in_order, all_in_time}
 use Rattle.arj_serial_law.proofs.Values.{are_answered}
 use Rattle.arj_serial_law.proofs.serial.tied_journals_keep_the_lock_book.Goals as goal
 
 pub returns-clause-order : goal.returns-clause-order
-returns-clause-order c values lines right tied = all_in_order values lines right (ties_of values lines right tied)
+returns-clause-order c values lines right tied = all_in_order values lines right (ties_of values lines tied)
 
 pub returns-clause-answers : goal.returns-clause-answers
-returns-clause-answers c values lines right tied = are_answered values lines right (ties_of values lines right tied)
+returns-clause-answers c values lines right tied = are_answered values lines right (ties_of values lines tied)
 
 pub returns-clause-nested : goal.returns-clause-nested
-returns-clause-nested c values lines right tied = all_freed values lines right (ties_of values lines right tied)
+returns-clause-nested c values lines right tied = all_freed values lines right (ties_of values lines tied)
 
 pub returns-clause-times : goal.returns-clause-times
-returns-clause-times c values lines right tied = all_in_time values lines right (ties_of values lines right tied)
+returns-clause-times c values lines right tied = all_in_time values lines right (ties_of values lines tied)
