@@ -180,7 +180,7 @@ module _ (act : Acts) (lines : List Line) (event : ℕ) (b : Body) (S T : State)
 
   -- one is named, and changes
   one_changes : (l : Label) (c : Act) (new : Action) → IsNamed lines l c → begun_of b ≡ None → ChangesOne (act c.uid) new S T
-      → Moves lines b c (S.action (act c.uid)) new
+      → (is_action (act c.uid) ≡ true → Moves lines b c (S.action (act c.uid)) new)
       → ((a : Act) → In a (acts lines) → a.id ≢ c.id → a.uid ≢ c.uid → SameEnd (S.action (act a.uid)) (T.action (act a.uid)) → Moves lines b a (S.action (act a.uid)) (T.action (act a.uid)))
       → AllEndSo act all T.action
   one_changes l c new is none changes its others a there plain = ⊎_elim mine other (number_cases a.id c.id)
@@ -199,7 +199,7 @@ module _ (act : Acts) (lines : List Line) (event : ℕ) (b : Body) (S T : State)
           let one : a ≡ c = one_id (acts lines) a c (are_numbered lines) i j same_id in
           let there_now : T.action (act c.uid) ≡ new = changes.one (ap (λ (y : Act). is_action (act y.uid)) (sym one) ∙ acts_it) in
           subst (λ (y : Act). EndsSo all y (T.action (act y.uid))) (sym one)
-          (subst (EndsSo all c) (sym there_now) (ends_so lines event b c (S.action (act c.uid)) new its (was c (in_to c (acts lines) j) (ap (λ (y : Act). is_serial y.kind) (sym one) ∙ plain))))
+          (subst (EndsSo all c) (sym there_now) (ends_so lines event b c (S.action (act c.uid)) new (its (ap (λ (y : Act). is_action (act y.uid)) (sym one) ∙ acts_it)) (was c (in_to c (acts lines) j) (ap (λ (y : Act). is_serial y.kind) (sym one) ∙ plain))))
 
       other : a.id ≢ c.id → EndsSo all a (T.action (act a.uid))
       other off =
@@ -274,8 +274,8 @@ module _ (act : Acts) (code : Codes) (values : Values) (x event : ℕ) (lines : 
   not_id l a c is other e = let two : ◌≡◌ {A = Option ℕ} (Some c.id) (Some a.id) = sym (id_is l c is) ∙ e in let one : c.id ≡ a.id = cc two in other (sym one)
 
   calling_tied : (l : Label) → GoesBeside act code x lines (body.Committing l) S T → To (body.Committing l)
-  calling_tied l (stay, (a, is, zero_now, changes)) = quiet_tied (body.Committing l) refl refl stay (one_changes act lines event (body.Committing l) S T named was.ends l a (called_at (length lines + 1) (S.action (act a.uid))) is refl changes
-      (record {
+  calling_tied l (stay, (a, is, zero_if, changes)) = quiet_tied (body.Committing l) refl refl stay (one_changes act lines event (body.Committing l) S T named was.ends l a (called_at (length lines + 1) (S.action (act a.uid))) is refl changes
+      (λ acts_it. let zero_now = zero_if acts_it in record {
         called = λ one. absurd (omega (arith, one, zero_now));
         calls = λ e. (refl, omega arith);
         done = λ e. absurd (omega (arith, e, zero_now));
@@ -291,8 +291,8 @@ module _ (act : Acts) (code : Codes) (values : Values) (x event : ℕ) (lines : 
       (λ c i off off_uid so. stay_moves lines (body.Committing l) c (S.action (act c.uid)) (T.action (act c.uid)) so (not_id l c a is off) (λ e. cc e) (λ e. cc e) (λ e. cc e) (λ h e. absurd (cc e))))
 
   committed_tied : (l : Label) → GoesBeside act code x lines (body.Committed l) S T → To (body.Committed l)
-  committed_tied l (stay, (a, is, low_now, changes)) = quiet_tied (body.Committed l) refl refl stay (one_changes act lines event (body.Committed l) S T named was.ends l a (committed_at (length lines + 1) (S.action (act a.uid))) is refl changes
-      (record {
+  committed_tied l (stay, (a, is, low_if, changes)) = quiet_tied (body.Committed l) refl refl stay (one_changes act lines event (body.Committed l) S T named was.ends l a (committed_at (length lines + 1) (S.action (act a.uid))) is refl changes
+      (λ acts_it. let low_now = low_if acts_it in record {
         called = λ one. (refl, omega arith);
         calls = λ e. absurd (cc e);
         done = λ e. absurd (omega (arith, e, low_now));
@@ -308,8 +308,8 @@ module _ (act : Acts) (code : Codes) (values : Values) (x event : ℕ) (lines : 
       (λ c i off off_uid so. stay_moves lines (body.Committed l) c (S.action (act c.uid)) (T.action (act c.uid)) so (λ e. cc e) (not_id l c a is off) (λ e. cc e) (not_id l c a is off) (λ h e. absurd (cc e))))
 
   aborted_tied : (l : Label) (why : Cause) → GoesBeside act code x lines (body.Aborted l why) S T → To (body.Aborted l why)
-  aborted_tied l why (stay, (a, is, low_now, changes)) = quiet_tied (body.Aborted l why) refl refl stay (one_changes act lines event (body.Aborted l why) S T named was.ends l a (aborted (S.action (act a.uid))) is refl changes
-      (record {
+  aborted_tied l why (stay, (a, is, low_if, changes)) = quiet_tied (body.Aborted l why) refl refl stay (one_changes act lines event (body.Aborted l why) S T named was.ends l a (aborted (S.action (act a.uid))) is refl changes
+      (λ acts_it. let low_now = low_if acts_it in record {
         called = λ one. (refl, omega arith);
         calls = λ e. absurd (cc e);
         done = λ e. absurd (omega (arith, e, low_now));

@@ -1,9 +1,10 @@
 -- An action goes in the machine with all that is open below it.
 use Rattle.std.proofs.Common.{◌≡◌, ◌≢◌, ◌≤◌, ◌⊎◌, ◌∙◌, ◌==◌, ◌&&◌, ◌++◌, not, filter, ℕ, List, [], ◌∷◌, Bool, true, false, cond, length, Option, Some, None, refl, sym, ap, subst, inl, inr, ⊎_elim, is_some, arith}
 use Rattle.std.proofs.lemmas.Bool.{and_parts}
+use Rattle.std.proofs.lemmas.List.Elements.{Contains-append_left, Contains-append_right}
 use Rattle.arj_base.proofs.Uids.{uid_cases, uid_same}
 use Rattle.arj_lock.proofs.Members as list
-use Rattle.arj_lock.proofs.Members.{in_filter}
+use Rattle.arj_lock.proofs.Members.{in_filter, in_to}
 use Rattle.arj_protocol.specs.Words.{Uid, first_uid, is_on, uid_eq, uids_of}
 use Rattle.arj_protocol.specs.Words.ending
 use Rattle.arj_protocol.specs.Ask.{actor}
@@ -322,10 +323,10 @@ module _ (act : Acts) (code : Codes) (paths : Paths) (x : ℕ) (c : Coord) (u : 
       (ends a its)
 
   open_below_it : (w : Uid) → list.In w below → IsOpenAt act paths c.tree u (act w)
-  open_below_it w i = let q = is_below_it w i in record { uid = w; branch = q.0; there = q.1; unended = q.2; below = q.4; is = refl }
+  open_below_it w i = let q = is_below_it w i in record { uid = w; branch = q.0; there = q.1; unended = q.2; below = q.4; is = refl; listed = Contains-append_left below (u ∷ []) w (in_to w below i) }
 
   open_there : (w : Uid) → list.In w (below ++ u ∷ []) → IsOpenAt act paths c.tree u (act w)
-  open_there w i = ⊎_elim (λ j. open_below_it w j) (λ (is : u ≡ w). subst (λ (v : Uid). IsOpenAt act paths c.tree u (act v)) is (record { uid = u; branch = b; there = found; unended = unended; below = on_itself; is = refl })) (in_more w below u i)
+  open_there w i = ⊎_elim (λ j. open_below_it w j) (λ (is : u ≡ w). subst (λ (v : Uid). IsOpenAt act paths c.tree u (act v)) is (record { uid = u; branch = b; there = found; unended = unended; below = on_itself; is = refl; listed = Contains-append_right below (u ∷ []) u (in_to u (u ∷ []) (inl refl)) })) (in_more w below u i)
     where
       on_itself : is_on (paths u) u ≡ true
       on_itself = ap (λ (vs : List Uid). is_on vs u) (sym (steady.good.tree.lists.paths_are u b found)) ∙ ap (is_on (uids_of b.path)) (sym (steady.good.tree.lists.places u b found)) ∙ on_own b.path

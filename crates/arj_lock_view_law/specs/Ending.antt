@@ -1,8 +1,8 @@
 -- What becomes of the machine's actions in a step of a coordinator: how far they are, and where their lines stand.
-use Rattle.std.specs.Prelude.{◌≡◌, ◌⊎◌, ◌+◌, ℕ, true, false, Some, is_some}
+use Rattle.std.specs.Prelude.{◌≡◌, ◌⊎◌, ◌+◌, ◌++◌, ℕ, [], ◌∷◌, true, false, Some, Contains, is_some}
 use Rattle.arj_protocol.specs.Words.{Uid, is_on}
 use Rattle.arj_protocol.specs.Commit.{Aborts, Asks, CommitStep, Decides, Stays}
-use Rattle.arj_protocol.specs.Tree.{Branch, Tree, branch_of}
+use Rattle.arj_protocol.specs.Tree.{Branch, Tree, branch_of, open_below}
 use Rattle.arj_lock_law.specs.Actions.{Act, is_action, same}
 use Rattle.arj_lock_law.specs.State.{Action, State}
 use Rattle.arj_part_law.specs.Copies.{Paths}
@@ -54,7 +54,7 @@ now_by (Asks m) p now = now
 now_by (Decides q) p now = p + 1
 now_by (Aborts why q) p now = now
 
--- it is open, at this action or below it
+-- it is one of those that an abort of the action takes with it: open, at the action or below it
 pub record IsOpenAt (act : Acts) (paths : Paths) (t : Tree) (u : Uid) (a : Act) : Type 0 where
   pub uid : Uid
   pub branch : Branch
@@ -62,6 +62,7 @@ pub record IsOpenAt (act : Acts) (paths : Paths) (t : Tree) (u : Uid) (a : Act) 
   pub unended : is_some branch.ended ≡ false
   pub below : is_on (paths uid) u ≡ true
   pub is : a ≡ act uid
+  pub listed : Contains (open_below u t ++ u ∷ []) uid
 
 -- Of the machine's actions only such were aborted, and nothing else of actions changed.
 abbrev pub AbortsOnly : Acts → Paths → Tree → Uid → State → State → Type 0
