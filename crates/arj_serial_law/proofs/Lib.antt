@@ -5,3 +5,5 @@ pub mod Items
 pub mod Tying
 pub mod Values
 pub mod Order
+pub mod Begun
+pub mod Codes

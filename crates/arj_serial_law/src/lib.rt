@@ -8,6 +8,8 @@
 //! serial, with nested actions each whole at its commit.
 #![tactic(auto)]
 
+mod places;
 mod serial;
 
+pub use places::{begun_actions_have_their_paths, values_have_codes};
 pub use serial::{tied_journals_are_serial, tied_journals_keep_the_lock_book};
