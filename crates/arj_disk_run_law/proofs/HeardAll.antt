@@ -1,10 +1,7 @@
 -- What coordinators have of naming's answers, at all nodes, where one of them makes a step.
-use Rattle.std.proofs.Common.{◌≡◌, ◌⊎◌, ◌≤◌, ◌<◌, ℕ, ◌==◌, Bool, true, false, List, [], ◌∷◌, Option, Some, None, refl, sym, ◌∙◌, ap, subst, inl, inr, ⊎_elim, arith}
-use Rattle.std.specs.Prelude.{⊤}
+use Rattle.std.proofs.Common.{◌≡◌, ◌⊎◌, ◌<◌, ℕ, true, List, [], ◌∷◌, Option, Some, None, sym, ◌∙◌, subst, ⊎_elim}
 use Rattle.std.specs.List.{AllByRecursion}
-use Rattle.arj_protocol.specs.Words.{Uid, Asked, Body, asks}
-use Rattle.arj_protocol.specs.Words.body
-use Rattle.arj_protocol.specs.Ask.{Reply, answers}
+use Rattle.arj_protocol.specs.Words.{Uid, asks}
 use Rattle.arj_protocol.specs.Effect.{Disk, Effect, Say, Send, Do, Stop, stopped, worked}
 use Rattle.arj_protocol.specs.Node.{Parts}
 use Rattle.arj_protocol.specs.Order.{uid_number}
@@ -13,9 +10,9 @@ use Rattle.arj_protocol.specs.Tree.{is_own}
 use Rattle.arj_disk_law.specs.Names.{Office}
 use Rattle.arj_view_law.specs.Seen as seen
 use Rattle.arj_view_law.specs.Seen.{AreQuiet, Post, Seen, at, down, posted, said, up}
-use Rattle.arj_view_law.specs.Walks.{Walks, Up, halted}
+use Rattle.arj_view_law.specs.Walks.{Walks, halted}
 use Rattle.arj_disk_view_law.specs.Sees.{IsFixed, Kinds}
-use Rattle.arj_disk_run_law.specs.Heard.{ClaimsAsked, HasNoneOf, IsAskedFor, SeesHeard, SeesHeardAt}
+use Rattle.arj_disk_run_law.specs.Heard.{ClaimsAsked, HasNoneOf, SeesHeard, SeesHeardAt}
 use Rattle.arj_disk_run_law.proofs.HeardStays.{GoesOn, IsNewTo, SendsMore, StaysOf, at_stays}
 
 -- ---- from all nodes to all nodes

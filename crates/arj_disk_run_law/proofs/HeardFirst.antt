@@ -1,20 +1,19 @@
 -- What coordinators have of naming's answers, as a format leaves it; and a root of which the machine has nothing.
-use Rattle.std.proofs.Common.{◌≡◌, ◌⊎◌, ℕ, zero, suc, ◌==◌, ◌<◌, if◌then◌else◌, Bool, true, false, List, [], Option, Some, None, refl, sym, ◌∙◌, ap, subst, inl, inr, ⊎_elim, map}
+use Rattle.std.proofs.Common.{◌≡◌, ℕ, zero, suc, ◌==◌, if◌then◌else◌, Bool, true, false, List, [], Some, None, refl, sym, ◌∙◌, ap, subst, inl, inr, map}
 use Rattle.std.proofs.lemmas.Bool.{and_parts}
 use Rattle.arj_lock.proofs.Members.{in_from}
-use Rattle.arj_protocol.specs.Words.{Header, ObjectState, Uid, entry}
-use Rattle.arj_protocol.specs.Coord.{Coord, Doing, Grant, Joined, Said, doing_of, new_coord, no_root, root_at}
+use Rattle.arj_protocol.specs.Words.{Header, Uid}
+use Rattle.arj_protocol.specs.Coord.{Coord, Doing, doing_of, new_coord, no_root}
 use Rattle.arj_protocol.specs.Effect.{Intent}
 use Rattle.arj_protocol.specs.Node.{Parts}
 use Rattle.arj_protocol.specs.Order.{uid_number}
-use Rattle.arj_protocol.specs.Step.{Node, first_disk, first_entry, first_node, parts_in, put_states}
+use Rattle.arj_protocol.specs.Step.{Node, first_disk, first_entry, put_states}
 use Rattle.arj_protocol.specs.Tree.{at_place, is_own}
 use Rattle.arj_protocol.specs.World.{format}
 use Rattle.arj_disk_law.specs.Names.{Office, written_in}
 use Rattle.arj_disk_law.specs.NamingLaws.{IsFirstNames}
-use Rattle.arj_disk_law.specs.State.{Done}
 use Rattle.arj_disk_law.proofs.Base.{never, some_is, test_is}
-use Rattle.arj_view_law.specs.Seen.{Post, Seen, see}
+use Rattle.arj_view_law.specs.Seen.{Post, see}
 use Rattle.arj_disk_view_law.specs.Formats.{HasObject}
 use Rattle.arj_disk_view_law.specs.Knows.{KnowsKinds}
 use Rattle.arj_disk_view_law.specs.Sees.{IsFixed, Kinds}

@@ -1,15 +1,12 @@
 -- Posts that ask nothing and answer nothing: ends, questions and greetings.
-use Rattle.std.proofs.Common.{◌≡◌, ◌⊎◌, ◌≤◌, ◌+◌, ℕ, Bool, true, false, List, [], ◌∷◌, ◌++◌, Option, Some, None, refl, sym, ◌∙◌, ap, subst, inl, inr, ⊎_elim, map, filter}
-use Rattle.std.specs.Prelude.{⊤, ◌&&◌, not, is_some}
+use Rattle.std.proofs.Common.{◌≡◌, ◌≤◌, ◌+◌, ℕ, true, List, [], ◌∷◌, ◌++◌, None, refl, map}
+use Rattle.std.specs.Prelude.{⊤}
 use Rattle.std.specs.List.{AllByRecursion, flat_map}
-use Rattle.arj_protocol.specs.Words.{Uid, End, Head, Ask, Header, Message, asks}
+use Rattle.arj_protocol.specs.Words.{Uid, Header, asks}
 use Rattle.arj_protocol.specs.Words.ending
-use Rattle.arj_protocol.specs.Words.message
 use Rattle.arj_protocol.specs.Ask.{answers}
-use Rattle.arj_protocol.specs.Confirm.{recovered_lines}
 use Rattle.arj_protocol.specs.Effect.{Disk, Effect, Say, Send, Do, Work, Intent, Stop, Before, After, InPart, stopped, worked, Look, PutInc}
 use Rattle.arj_protocol.specs.Ending.{tell, tell_all}
-use Rattle.arj_protocol.specs.Naming.{Naming}
 use Rattle.arj_protocol.specs.Node.{query_about}
 use Rattle.arj_protocol.specs.Step.{hello_to, naming_at, naming_back, recovered_records, restart_outs, tolds_again}
 use Rattle.arj_protocol.specs.Node.{prepared_actions}
@@ -21,10 +18,7 @@ use Rattle.arj_disk_law.specs.Names.{Office}
 use Rattle.arj_disk_law.proofs.Base.{never}
 use Rattle.arj_disk_view_law.proofs.HeardWalks.{is_say}
 use Rattle.arj_disk_view_law.proofs.RestartWalks.{back_says, map_says}
-use Rattle.arj_view_law.specs.Seen as seen
-use Rattle.arj_view_law.specs.Seen.{Post}
 use Rattle.arj_disk_run_law.specs.Heard.{ClaimsAsked}
-use Rattle.arj_disk_run_law.proofs.HeardStays.{IsNewTo, SendsMore}
 
 -- ---- lists of effects
 

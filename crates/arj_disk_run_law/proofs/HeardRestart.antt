@@ -1,5 +1,5 @@
 -- What coordinators have of naming's answers, where a node restarts.
-use Rattle.std.proofs.Common.{◌≡◌, ◌⊎◌, ◌≤◌, ◌<◌, ◌+◌, ℕ, ◌==◌, ◌||◌, if◌then◌else◌, Bool, true, false, List, [], ◌∷◌, Option, Some, None, refl, sym, ◌∙◌, ap, subst, inl, inr, ⊎_elim, arith, is_some}
+use Rattle.std.proofs.Common.{◌≡◌, ◌⊎◌, ◌≤◌, ◌<◌, ◌+◌, ℕ, ◌==◌, ◌||◌, if◌then◌else◌, Bool, true, false, List, [], ◌∷◌, Some, None, refl, sym, ◌∙◌, ap, subst, inl, inr, ⊎_elim, arith, is_some}
 use Rattle.std.specs.List.{AllByRecursion, list_any}
 use Rattle.std.proofs.lemmas.Bool.{and_parts}
 use Rattle.arj_protocol.specs.Words.{Header, Message, Uid, asks}
@@ -10,7 +10,7 @@ use Rattle.arj_protocol.specs.Step.{Node, parts_in, restart_outs}
 use Rattle.arj_protocol.specs.Tree.{is_own}
 use Rattle.arj_disk_law.specs.Effects.{Whole}
 use Rattle.arj_disk_law.specs.Names.{Office}
-use Rattle.arj_disk_law.specs.State.{State, is_gone}
+use Rattle.arj_disk_law.specs.State.{is_gone}
 use Rattle.arj_disk_law.proofs.Base.{bool_cases, never, some_is, test_is, test_same}
 use Rattle.arj_part_law.specs.Claims.{AreOfNode, IsOfNode}
 use Rattle.arj_part_law.proofs.Keys.{in_at}
@@ -19,7 +19,6 @@ use Rattle.arj_view_law.specs.Seen as seen
 use Rattle.arj_view_law.specs.Seen.{Post, Seen, down, up}
 use Rattle.arj_view_law.specs.Walks.{Walks, Up, halted}
 use Rattle.arj_disk_view_law.specs.Deciding.{SeesRecords, nodes_of}
-use Rattle.arj_disk_view_law.specs.Knows.{KnowsKinds}
 use Rattle.arj_lock.proofs.Members as list
 use Rattle.arj_disk_view_law.specs.Sees.{IsFixed, IsLater, Kinds, SeesDown}
 use Rattle.arj_disk_view_law.proofs.Frames.{node_cases, node_here}

@@ -1,29 +1,26 @@
 -- What coordinators have of naming's answers stays seen as the machine goes on.
-use Rattle.std.proofs.Common.{◌≡◌, ◌⊎◌, ◌<◌, ℕ, if◌then◌else◌, Bool, true, false, List, Option, Some, None, refl, sym, ◌∙◌, ap, subst, inl, inr, ⊎_elim}
-use Rattle.arj_protocol.specs.Words.{Uid, Ask, Asked, BoundReply, Head, asks}
+use Rattle.std.proofs.Common.{◌≡◌, ◌⊎◌, ℕ, if◌then◌else◌, Bool, true, false, List, Option, Some, None, refl, sym, ◌∙◌, ap, subst, inl, inr, ⊎_elim}
+use Rattle.arj_protocol.specs.Words.{Uid, Ask, BoundReply, Head, asks}
 use Rattle.arj_protocol.specs.Words.ask
 use Rattle.arj_protocol.specs.Words.bound
 use Rattle.arj_protocol.specs.Ask.{Reply, answers, top_of}
 use Rattle.arj_protocol.specs.Call.{Steps}
 use Rattle.arj_protocol.specs.Commit.{Machine}
 use Rattle.arj_protocol.specs.Coord.{Coord, Doing, doing_of, root_at}
-use Rattle.arj_protocol.specs.Node.{Parts}
 use Rattle.arj_protocol.specs.Order.{uid_number}
-use Rattle.arj_protocol.specs.Step.{Node}
 use Rattle.arj_protocol.specs.Tree.{at_place, is_own}
 use Rattle.arj_disk_law.specs.Guards.{HasPart}
 use Rattle.arj_disk_law.specs.Names.{Answer, Bound, Office, newer, written_in}
-use Rattle.arj_disk_law.specs.State.{Packed, is_gone}
+use Rattle.arj_disk_law.specs.State.{is_gone}
 use Rattle.arj_disk_law.specs.Words.{In}
 use Rattle.arj_disk_law.proofs.Base.{never}
 use Rattle.arj_view_law.specs.Seen as seen
 use Rattle.arj_view_law.specs.Seen.{Post, Seen}
 use Rattle.arj_disk_view_law.specs.Sees.{IsFixed, IsLater, Kinds}
-use Rattle.arj_names_view_law.specs.Booked.{NamesGrants}
 use Rattle.arj_names_view_law.specs.Both.{OnlyMemory}
 use Rattle.arj_names_view_law.specs.Calls.{HasGiven}
 use Rattle.arj_names_view_law.proofs.RootsBoth.{root_stays}
-use Rattle.arj_disk_run_law.specs.Heard.{AreOfOne, ClaimsAsked, HasNoneOf, IsAskedFor, IsHadBy, IsListFor, IsOfRoot, IsToStep, IsWorkingRoot, SeesHeard, SeesHeardAt, SeesPlan, SeesStep}
+use Rattle.arj_disk_run_law.specs.Heard.{ClaimsAsked, HasNoneOf, IsHadBy, IsListFor, IsOfRoot, IsToStep, SeesHeardAt, SeesPlan, SeesStep}
 
 -- of this root the machine's grants, kept lists and states are as they were
 pub record StaysOf (tops : Kinds) (root : ℕ) (A B : Office) : Type 0 where

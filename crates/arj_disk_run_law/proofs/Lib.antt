@@ -5,10 +5,13 @@ pub mod EntryKeeps
 pub mod EntryRows
 pub mod EntryWalks
 pub mod HeardAll
+pub mod HeardCoord
 pub mod HeardFirst
+pub mod HeardLike
 pub mod HeardPosts
 pub mod HeardQuiet
 pub mod HeardRestart
+pub mod HeardTick
 pub mod HeardStays
 pub mod Holders
 pub mod Given
