@@ -39,6 +39,7 @@ use Rattle.arj_disk_view_law.proofs.StoreWalks.{took_is}
 use Rattle.arj_names_view_law.specs.Grants.{SeesGrants}
 use Rattle.arj_names_view_law.specs.Lists.{IsTopOf, LeavesOthers, OnlyKept, SeesLists}
 use Rattle.arj_names_view_law.specs.Memory.{NamesGo}
+use Rattle.arj_names_view_law.proofs.BareEnds.{bare_wrote, begun_bare, plain_bare}
 use Rattle.arj_names_view_law.proofs.GrantSteps.{grants_stay, heard}
 use Rattle.arj_names_view_law.proofs.ListSteps.{lists_are_heard}
 use Rattle.arj_names_view_law.specs.Both.{HasNoPart, HowDecided, IsEndedBare, IsOnly, IsRecorded, decided_names, ended_names, has_part, CallsKeepBoth, IsAnswered, LoadsKeepBoth, HasGoneOn, OnlyAnswers, OnlyAtNode, BeginningsKeepBoth, BothWalk, DecisionsKeepBoth, DisksWalk, IsOther, IsSeenFrom, IsSeenIn, OnlyRoots, OpensNone, SeesBoth, is_no_work, leaves_the_inc}
@@ -135,8 +136,8 @@ sealed_gone Confirming is = refl
 sealed_gone Gone is = refl
 
 -- it is said so still where the disk half goes on and no top is decided
-how_on : (keeps : Bool) (t : ℕ) (A : Office) (N : Names) (W V : World) → Whole W → V.disk.tops ≡ W.disk.tops → IsLater W V → HowDecided keeps t A (record { world = W; names = N }) → HowDecided keeps t A (record { world = V; names = N })
-how_on keeps t A N W V whole tops later = ⊎_elim (λ u. inl (record { names = u.names; tops = tops ∙ u.tops }))
+how_on : (keeps : Bool) (t : ℕ) (A : Office) (N : Names) (W V : World) → Whole W → V.disk.tops ≡ W.disk.tops → V.disk.bare ≡ W.disk.bare → IsLater W V → HowDecided keeps t A (record { world = W; names = N }) → HowDecided keeps t A (record { world = V; names = N })
+how_on keeps t A N W V whole tops bares later = ⊎_elim (λ u. inl (record { names = u.names; tops = tops ∙ u.tops; bare = λ is. u.bare (ap (λ f. f t) (sym bares) ∙ is) }))
     (λ h. inr (⊎_elim (λ r. inl (recorded r)) (λ b. inr (bare b)) h))
   where
     recorded : IsRecorded keeps t A (record { world = W; names = N }) → IsRecorded keeps t A (record { world = V; names = N })
@@ -153,7 +154,7 @@ how_on keeps t A N W V whole tops later = ⊎_elim (λ u. inl (record { names = 
         }
 
     bare : IsEndedBare keeps t A (record { world = W; names = N }) → IsEndedBare keeps t A (record { world = V; names = N })
-    bare b = record { names = b.names ∙ sym (ended_same keeps t W.disk V.disk A.names later.root); tops = tops ∙ b.tops; bare = later.bare t b.bare }
+    bare b = record { names = b.names ∙ sym (ended_same keeps t W.disk V.disk A.names later.root); tops = tops ∙ b.tops; bare = later.bare t b.bare; plain = ap (λ (p : Plan). p.writes) (later.plan t (begun_bare t W whole b.bare)) ∙ b.plain }
 
 module _ (g keeps : ℕ → Bool) (A : Office) (c0 : Named A) (parts : (t : ℕ) → g t ≡ true → keeps t ≡ false → HasNoPart A.world.disk t) where
   record Inv (C : Office) : Type 0 where
@@ -165,7 +166,7 @@ module _ (g keeps : ℕ → Bool) (A : Office) (c0 : Named A) (parts : (t : ℕ)
   begins = record {
     only = record { names = refl; root = refl; grows = λ h j on. on; from = λ h j on. inl on; had = λ h o. refl; kept = λ h o. refl; tops = λ r o. refl };
     later = later_same A.world;
-    how = λ t one. inl (record { names = refl; tops = refl });
+    how = λ t one. inl (record { names = refl; tops = refl; bare = λ is. is });
   }
 
   module _ (C : Office) (c : Named C) (i : Inv C) where
@@ -188,7 +189,7 @@ module _ (g keeps : ℕ → Bool) (A : Office) (c0 : Named A) (parts : (t : ℕ)
           holds = record {
             only = record { names = only.names; root = on.root; grows = only.grows; from = only.from; had = only.had; kept = only.kept; tops = λ r o. ap (written_in A.world.disk.root r) p.tops ∙ only.tops r o };
             later = on;
-            how = λ t one. how_on (keeps t) t A C.names C.world (after C.world a) c.whole p.tops (effects_are_later C.world (a ∷ []) (allowed, tt) c.whole) (i.how t one);
+            how = λ t one. how_on (keeps t) t A C.names C.world (after C.world a) c.whole p.tops (plain_bare C.world.disk a is) (effects_are_later C.world (a ∷ []) (allowed, tt) c.whole) (i.how t one);
           };
         }
 
@@ -301,7 +302,7 @@ module _ (g keeps : ℕ → Bool) (A : Office) (c0 : Named A) (parts : (t : ℕ)
           confirming = ap is_gone allowed.sealed
 
           now : HowDecided (keeps t) t A C → HowDecided (keeps t) t A (record { world = after C.world (machine.EndBare t); names = ended_names (keeps t) C.world.disk t C.names })
-          now (inl u) = inr (inr (record { names = ap (ended_names (keeps t) C.world.disk t) u.names; tops = u.tops; bare = put_same t true C.world.disk.bare }))
+          now (inl u) = inr (inr (record { names = ap (ended_names (keeps t) C.world.disk t) u.names; tops = u.tops; bare = put_same t true C.world.disk.bare; plain = bare_wrote C.world t c.whole allowed }))
           now (inr (inl r)) = absurd (never (c.whole.core.coordinators.decided_closed t (decided_done (keeps t) t A C r)) confirming)
           now (inr (inr b)) = absurd (never (c.whole.core.bare.gone t b.bare) confirming)
 

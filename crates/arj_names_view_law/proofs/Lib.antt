@@ -1,3 +1,4 @@
+pub mod BareEnds
 pub mod Binding
 pub mod CommitBoth
 pub mod ConfirmBoth

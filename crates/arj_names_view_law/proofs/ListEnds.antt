@@ -198,7 +198,7 @@ module _ (x : ℕ) (tops : Kinds) (root t : Uid) (c d : Coord) (r q : Root) (p :
   nothings : kept_of x q ≡ None → (z : Said) → Contains q.said z → z.x ≡ x → is_spent z.path d.tree ≡ true
   nothings is z i e = after.spent z (said_back i) ∙ s.nothing (none_before is) z (said_back i) e
 
-  pub lists_kept : ((z : Said) → Contains r.said z → coord.is_retained z.path d ≡ true → coord.is_retained z.path c ≡ true) → SeesLists x tops root d q (record N { kept = lists_after S (uid_number t) N.kept })
+  pub lists_kept : ((z : Said) → Contains r.said z → z.x ≡ x → coord.is_retained z.path d ≡ true → coord.is_retained z.path c ≡ true) → SeesLists x tops root d q (record N { kept = lists_after S (uid_number t) N.kept })
   lists_kept few = record {
     agree = agrees;
     family = λ g i. s.family g (back i);
@@ -206,14 +206,14 @@ module _ (x : ℕ) (tops : Kinds) (root t : Uid) (c d : Coord) (r q : Root) (p :
     named = names_list;
     short = shorts;
     called = calls_list;
-    retained = λ k z is i e on. old_retained k z is i e (few z (said_back i) on);
+    retained = λ k z is i e on. old_retained k z is i e (few z (said_back i) e on);
     nothing = nothings;
   }
 
   -- ---- and one that is retained
 
   module _ (serial : tops.is_serial (uid_number root) ≡ true) (had_since : (h : ℕ) (l : Kept) → N.kept h ≡ Some l → N.had h l.since ≡ true)
-      (more : (z : Said) → Contains r.said z → coord.is_retained z.path d ≡ true → (coord.is_retained z.path c ≡ true) ⊎ ((is_on z.path t ≡ true) × (is_spent z.path c.tree ≡ false))) where
+      (more : (z : Said) → Contains r.said z → z.x ≡ x → coord.is_retained z.path d ≡ true → (coord.is_retained z.path c ≡ true) ⊎ ((is_on z.path t ≡ true) × (is_spent z.path c.tree ≡ false))) where
     abbrev N2 : Names
     N2 = retained S (uid_number t) (record N { kept = lists_after S (uid_number t) N.kept })
 
@@ -282,7 +282,7 @@ module _ (x : ℕ) (tops : Kinds) (root t : Uid) (c d : Coord) (r q : Root) (p :
       named = λ k g is i e on. list_too g.top k (s.family g (back i)) (names_list k g is i e on);
       short = shorts;
       called = λ k z w is i e off on of. ⊎_elim (λ h. inl (list_too w k of h)) (λ h. inr (retained_too k h)) (calls_list k z w is i e off on of);
-      retained = λ k z is i e on. ⊎_elim (λ old. retained_too k (old_retained k z is i e old)) (λ new. handed k (calls_list k z t is i e (after.spent z (said_back i) ∙ new.1) new.0 top)) (more z (said_back i) on);
+      retained = λ k z is i e on. ⊎_elim (λ old. retained_too k (old_retained k z is i e old)) (λ new. handed k (calls_list k z t is i e (after.spent z (said_back i) ∙ new.1) new.0 top)) (more z (said_back i) e on);
       nothing = nothings;
     }
 

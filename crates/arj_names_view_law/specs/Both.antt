@@ -187,9 +187,10 @@ abbrev pub ended_names : Bool → State → ℕ → Names → Names
 ended_names keeps S t N = chosen keeps (retained S t N) N
 
 -- nothing of naming's half was changed by a decision so far
-pub record IsUndecided (A B : Office) : Type 0 where
+pub record IsUndecided (t : ℕ) (A B : Office) : Type 0 where
   pub names : B.names ≡ A.names
   pub tops : B.world.disk.tops ≡ A.world.disk.tops
+  pub bare : B.world.disk.bare t ≡ true → A.world.disk.bare t ≡ true
 
 -- the top was decided with its record, and is the last one that was
 pub record IsRecorded (keeps : Bool) (t : ℕ) (A B : Office) : Type 0 where
@@ -199,15 +200,16 @@ pub record IsRecorded (keeps : Bool) (t : ℕ) (A B : Office) : Type 0 where
   pub top : done.top ≡ t
   pub plan : done.plan ≡ B.world.disk.plan t
 
--- its commit ended without one
+-- its commit ended without one, and it wrote nothing
 pub record IsEndedBare (keeps : Bool) (t : ℕ) (A B : Office) : Type 0 where
   pub names : B.names ≡ ended_names keeps B.world.disk t A.names
   pub tops : B.world.disk.tops ≡ A.world.disk.tops
   pub bare : B.world.disk.bare t ≡ true
+  pub plain : (let p = B.world.disk.plan t in p.writes) ≡ None
 
 -- how a top's outcome was decided, if it was
 abbrev pub HowDecided : Bool → ℕ → Office → Office → Type 0
-HowDecided keeps t A B = IsUndecided A B ⊎ (IsRecorded keeps t A B ⊎ IsEndedBare keeps t A B)
+HowDecided keeps t A B = IsUndecided t A B ⊎ (IsRecorded keeps t A B ⊎ IsEndedBare keeps t A B)
 
 -- there is no other top among these
 abbrev pub IsOnly : (ℕ → Bool) → ℕ → Type 0

@@ -142,11 +142,11 @@ IsSaid x S t p = SaysMarks x (S.plan (uid_number t)) (S.got (uid_number t)) (map
 -- Lists stay the root's by a decision of which nothing is retained, and by one that is retained.
 abbrev pub DecisionsKeepLists : Type 0
 DecisionsKeepLists = (x : ℕ) (tops : Kinds) (root t : Uid) (c d : Coord) (r q : Root) (p : commit.Plan) (S : State) (N : Names) → IsFixed tops S → SeesLists x tops root c r N → IsTopOf tops root t → tops.root (uid_number root) ≡ uid_number root → IsSaid x S t p → AfterDecision x t p c d r q
-    → ((s : Said) → Contains r.said s → coord.is_retained s.path d ≡ true → coord.is_retained s.path c ≡ true)
+    → ((s : Said) → Contains r.said s → s.x ≡ x → coord.is_retained s.path d ≡ true → coord.is_retained s.path c ≡ true)
     → SeesLists x tops root d q (record N { kept = lists_after S (uid_number t) N.kept })
 
 abbrev pub RetainedListsAreSeen : Type 0
 RetainedListsAreSeen = (x : ℕ) (tops : Kinds) (root t : Uid) (c d : Coord) (r q : Root) (p : commit.Plan) (S : State) (N : Names) → IsFixed tops S → SeesLists x tops root c r N → ((h : ℕ) (l : Kept) → N.kept h ≡ Some l → N.had h l.since ≡ true)
     → IsTopOf tops root t → tops.root (uid_number root) ≡ uid_number root → tops.is_serial (uid_number root) ≡ true → IsSaid x S t p → AfterDecision x t p c d r q
-    → ((s : Said) → Contains r.said s → coord.is_retained s.path d ≡ true → (coord.is_retained s.path c ≡ true) ⊎ ((is_on s.path t ≡ true) × (is_spent s.path c.tree ≡ false)))
+    → ((s : Said) → Contains r.said s → s.x ≡ x → coord.is_retained s.path d ≡ true → (coord.is_retained s.path c ≡ true) ⊎ ((is_on s.path t ≡ true) × (is_spent s.path c.tree ≡ false)))
     → SeesLists x tops root d q (retained S (uid_number t) (record N { kept = lists_after S (uid_number t) N.kept }))

@@ -1,0 +1,78 @@
+-- Commits that end without a record.
+use Rattle.std.proofs.Common.{◌≡◌, ℕ, true, false, Option, Some, None, refl, sym, ◌∙◌, ap, inl, inr, ⊎_elim, is_some}
+use Rattle.std.specs.Prelude.{if◌then◌else◌}
+use Rattle.arj_disk_law.specs.Core.{Core}
+use Rattle.arj_disk_law.specs.Effects as machine
+use Rattle.arj_disk_law.specs.Effects.{World, Whole}
+use Rattle.arj_disk_law.specs.Guards.{is_only_of}
+use Rattle.arj_disk_law.specs.Messages as mail
+use Rattle.arj_disk_law.specs.State.{State, Hold, IsExcused, Listed, Packed, decided, effective_by, is_gone, last_entry, open_by, undecided}
+use Rattle.arj_disk_law.specs.Words.{has}
+use Rattle.arj_disk_law.proofs.Base.{falls_to, never, some_is}
+
+pub begun_bare : (t : ℕ) (W : World) → Whole W → W.disk.bare t ≡ true → W.disk.begun t ≡ true
+begun_bare t W whole bare = ⊎_elim (whole.core.fresh.conf t) (whole.core.fresh.light t) (whole.core.bare.taken t bare)
+
+-- plain effects end no commit without a record
+pub plain_bare : (S : State) (a : machine.Effect) → is_only_of (λ n. false) a ≡ true → (machine.changed S a).bare ≡ S.bare
+plain_bare S (machine.Begin t p) is = refl
+plain_bare S (machine.Take t s) is = refl
+plain_bare S (machine.Seal t) is = refl
+plain_bare S (machine.Intend t nodes) is = refl
+plain_bare S (machine.Decide t) is = refl
+plain_bare S (machine.Remove t nodes) is = refl
+plain_bare S (machine.EndBare t) is = absurd (never is refl)
+plain_bare S (machine.Halt t) is = refl
+plain_bare S (machine.Keep t s) is = refl
+plain_bare S (machine.Move s h) is = refl
+plain_bare S (machine.Finish s h) is = refl
+plain_bare S (machine.Drop s h) is = refl
+plain_bare S (machine.Agree t) is = refl
+plain_bare S (machine.Pass t) is = refl
+plain_bare S (machine.Enter t) is = refl
+plain_bare S (machine.MoveEntry h) is = refl
+plain_bare S (machine.FinishEntry h) is = refl
+plain_bare S (machine.DropEntry h) is = refl
+plain_bare S (machine.Forget r h) is = refl
+plain_bare S (machine.Send m) is = refl
+
+-- a commit that needs no record wrote nothing: some store is listed, and it would have one as a target
+module _ (W : World) (t : ℕ) (whole : Whole W) (can : machine.CanEndBare W t) where
+  core : Core W.disk
+  core = whole.core
+
+  undone : decided W.disk t ≡ false
+  undone = falls_to (decided W.disk t) (λ d. never (core.coordinators.decided_closed t d) (ap is_gone can.sealed))
+
+  unsettled : undecided W.disk t ≡ true
+  unsettled = (λ i. open_by (undone i) (can.sealed i) (W.disk.intent t))
+
+  no_got : (s : ℕ) → W.disk.got t s ≡ true → ⊥
+  no_got s got = never (core.coordinators.got_target t s got) (can.untouched s)
+
+  module _ (conf : W.disk.conf t ≡ true) (writes : is_some (W.disk.plan t).writes ≡ true) where
+    -- a listed store is about to leave the list
+    leaves : (s : ℕ) → Listed W.disk s → IsExcused W.disk t s
+    leaves s listed = ⊎_elim (λ got. absurd (no_got s got)) (λ e. e) (core.covered.stores t s conf (inl unsettled) writes listed)
+
+    not_both : (h : Hold) (n : ℕ) → W.disk.entry_pend ≡ Some h → has n h.new.content ≡ true → IsExcused W.disk t n → ⊥
+    not_both h n there has_it f = never has_it (ap (λ (z : Hold). has n z.new.content) (some_is there f.there) ∙ f.lacks)
+
+    in_last : (h : Hold) (n : ℕ) → W.disk.entry_pend ≡ Some h → decided W.disk h.top ≡ true → has n h.new.content ≡ true → has n (last_entry W.disk).content ≡ true
+    in_last h n there done has_it = ap (λ (p : Packed). has n p.content) (sym core.effective.entry ∙ ap (λ o. effective_by (decided W.disk) (λ z. z) o W.disk.entry) there ∙ ap (λ b. if b then h.new else W.disk.entry) done) ∙ has_it
+
+    none_left : ⊥
+    none_left =
+        let s0 = core.pending.held in
+        let e = leaves s0.0 (inl s0.1) in
+        let s1 = core.pending.stores e.by_entry e.there in
+        ⊎_elim (λ here. not_both e.by_entry s1.0 e.there s1.1 (leaves s1.0 (inl here)))
+        (λ got. ⊎_elim (λ own. no_got s1.0 (ap (λ z. W.disk.got z s1.0) (sym own) ∙ got)) (λ other. not_both e.by_entry s1.0 e.there s1.1 (leaves s1.0 (inr (in_last e.by_entry s1.0 e.there other.0 s1.1)))) e.whose)
+        (core.pending.new e.by_entry s1.0 e.there s1.1)
+
+  wrote_none : (o : Option Packed) → (W.disk.plan t).writes ≡ o → W.disk.conf t ≡ true → (let p = W.disk.plan t in p.writes) ≡ None
+  wrote_none None is conf = is
+  wrote_none (Some w) is conf = absurd (none_left conf (ap is_some is))
+
+pub bare_wrote : (W : World) (t : ℕ) → Whole W → machine.CanEndBare W t → (let p = W.disk.plan t in p.writes) ≡ None
+bare_wrote W t whole can = ⊎_elim (λ conf. wrote_none W t whole can (W.disk.plan t).writes refl conf) (λ light. whole.core.light.plain t light) ((whole.mail (mail.Confirmed t) can.confirmed).1 (unsettled W t whole can))
