@@ -126,7 +126,7 @@ part_tested p (inr (s, joins)) = or_right (is_some p.writes) (not (is_empty p.jo
     by (n ∷ ns) is = refl
 
 -- a decided top is at its end
-decided_done : (keeps : Bool) (t : ℕ) (A B : Office) → IsRecorded keeps t A B → is_decided B.world.disk t ≡ true
+pub decided_done : (keeps : Bool) (t : ℕ) (A B : Office) → IsRecorded keeps t A B → is_decided B.world.disk t ≡ true
 decided_done keeps t A B r = ap (λ ds. in_these ds t) r.tops ∙ or_left (let d = r.done in d.top == t) (in_these A.world.disk.tops t) (ap (λ z. z == t) r.top ∙ test_same t)
 
 sealed_gone : (g : Stage) → is_gone g ≡ true → is_sealed g ≡ true

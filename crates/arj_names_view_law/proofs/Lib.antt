@@ -3,6 +3,8 @@ pub mod Binding
 pub mod CommitBoth
 pub mod ConfirmBoth
 pub mod CoordBoth
+pub mod DecidedRoots
+pub mod DecidedTrees
 pub mod EndActs
 pub mod EntriesLeft
 pub mod GrantSteps

@@ -123,6 +123,10 @@ module _ (x : ℕ) (p : commit.Plan) (objects : (s : ObjectState) → Among s p.
       by (inr other) ih = ih ∙ ap (or_else (find (λ (z : ObjectState). uid_eq z.uid (object x)) ss)) (put_other (let u = s.uid in u.num) x s m other.0)
           ∙ sym (ap (λ b. or_else (cond b (Some s) (find (λ (z : ObjectState). uid_eq z.uid (object x)) ss)) (at_number x m)) (falls_to (uid_eq s.uid (object x)) (λ e. never (ap (λ (u : Uid). u.num == x) (uid_is s.uid (object x) e) ∙ test_same x) other.1)))
 
+-- so it is from the plan's states on
+pub states_left : (x : ℕ) (p : commit.Plan) → ((s : ObjectState) → Among s p.changed → s.uid ≡ object (let u = s.uid in u.num)) → ((s : ObjectState) → Among s p.changed → s.uid ≡ object x → changed_of x p ≡ Some s) → (m : List (ℕ × ObjectState)) → at_number x (states_after p.changed m) ≡ or_else (changed_of x p) (at_number x m)
+states_left x p objects once m = left_by x p objects once p.changed m (λ s i. i)
+
 packed_else : (a b : Option ObjectState) → option_map packed (or_else a b) ≡ or_else (option_map packed a) (option_map packed b)
 packed_else None b = refl
 packed_else (Some s) b = refl

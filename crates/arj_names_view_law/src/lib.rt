@@ -7,7 +7,8 @@
 //! state of the machine, naming's half is walked in `specs/Both.antt`, and by whole handlers in `specs/Handlers.antt`. What it gives
 //! upward: `handlers_keep_both`, with `walks_keep_both` and `steps_keep_both` for restarts, stops and lines; naming's calls, one by one,
 //! `new_confirms_are_booked`, what coordinators have of naming's grants, store lists and loads (`specs/Grants.antt`,
-//! `specs/Lists.antt`, `specs/Loads.antt`), by which a commit may begin (`specs/Begins.antt`).
+//! `specs/Lists.antt`, `specs/Loads.antt`), how they take answers (`specs/Heard.antt`), by which a commit may begin
+//! (`specs/Begins.antt`), and what they have of the root of a decided top (`specs/Decided.antt`).
 #![tactic(auto)]
 
 mod answers;
@@ -16,6 +17,7 @@ mod booked;
 mod both;
 mod calls;
 mod coordinators;
+mod decided;
 mod handlers;
 mod loads;
 mod restarts;
@@ -26,6 +28,7 @@ pub use booked::new_confirms_are_booked;
 pub use both::{handlers_are_followed, roots_keep_their_part, steps_keep_both, walks_keep_both};
 pub use calls::{ends_are_acts, locks_are_acts};
 pub use coordinators::{grants_are_seen, lists_are_seen};
+pub use decided::decided_roots_are_seen;
 pub use handlers::handlers_keep_both;
 pub use loads::loads_are_seen;
 pub use restarts::restarts_are_acts;
