@@ -1,6 +1,6 @@
 -- Each handler keeps that decisions are said, and so they are after each run.
 use Rattle.std.proofs.Common.{◌≡◌, ◌⊎◌, ◌==◌, ℕ, ◌+◌, not, List, [], Bool, true, false, Option, Some, None, is_some, refl, sym, ◌∙◌, ap, subst, inl, inr, ⊎_elim, ◌++◌, ◌∷◌}
-use Rattle.std.specs.Prelude.{Contains}
+use Rattle.std.specs.Prelude.{◌≤◌, Contains, length}
 use Rattle.arj_lock.proofs.Members.{in_to, In as Among, in_from}
 use Rattle.arj_protocol.specs.Words.{Body, Header, Kind, Label, Uid, Line}
 use Rattle.arj_protocol.specs.Words.body
@@ -10,7 +10,7 @@ use Rattle.arj_protocol.specs.Follow.{tick_outs}
 use Rattle.arj_protocol.specs.Node.{Parts, with_coord}
 use Rattle.arj_protocol.specs.Order.{at_uid, uid_number}
 use Rattle.arj_protocol.specs.Step.{Node, acts, parent_of, parts_in, restart_outs}
-use Rattle.arj_protocol.specs.World.{format, is_serial_kind, numbered, run_all}
+use Rattle.arj_protocol.specs.World.{Asked, format, is_serial_kind, numbered, run_all}
 use Rattle.arj_part_law.proofs.Keys.{at_in, in_at}
 use Rattle.arj_disk_law.specs.Effects as machine
 use Rattle.arj_disk_law.specs.Guards.{Acks, AreOnlyOf, Begins, Confirms, Decides, Note, is_only_of, only_decides}
@@ -18,7 +18,7 @@ use Rattle.arj_disk_law.specs.Messages as mail
 use Rattle.arj_disk_law.specs.Names.{Office}
 use Rattle.arj_disk_law.specs.State.{decided, decided_in as is_among, naming}
 use Rattle.arj_disk_law.proofs.Base.{bool_cases, never, or_cases, or_left, some_is}
-use Rattle.arj_view_law.specs.Keeps.{Keeps}
+use Rattle.arj_view_law.specs.Keeps.{Holds, Keeps}
 use Rattle.arj_view_law.specs.Seen.{Seen, at, down, given, said, see, up, AreQuiet}
 use Rattle.arj_view_law.specs.Walks.{Up, Walks, halted}
 use Rattle.arj_view_law.proofs.Happens.{runs_hold}
@@ -27,6 +27,9 @@ use Rattle.arj_disk_view_law.specs.Deciding.{nodes_of}
 use Rattle.arj_disk_view_law.specs.Sees.{Along, IsLater, Kinds, SeesDisks}
 use Rattle.arj_names_view_law.specs.Both.{OnlyFound, SeesBoth}
 use Rattle.arj_names_view_law.specs.Handlers.{Answering, Change, Changes, Deciding, Quietly, change_by}
+use Rattle.arj_binding_law.specs.Scripts.{most_events}
+use Rattle.arj_disk_run_law.specs.Heard.{SeesHeard}
+use Rattle.arj_disk_run_law.proofs.HeardKept.{heard_kept}
 use Rattle.arj_disk_run_law.specs.Part.{Going, HasHeard, IsCarried, KeepsPart, are_recorded, going_of}
 use Rattle.arj_disk_run_law.specs.Kinds.{kinds_of}
 use Rattle.arj_disk_run_law.proofs.Begun.{kinds_agree}
@@ -44,7 +47,7 @@ use Rattle.arj_line_law.specs.Knows.{IsKept, IsWritten, KnowsUp, AreLate, HasBra
 use Rattle.arj_line_law.proofs.Books.{decided_later, Later, book_more, quiet_book}
 use Rattle.arj_line_law.proofs.Models.{decided_in, among}
 use Rattle.arj_line_law.proofs.Runs.{lines_keep, act_turns, message_turns, rest_goes, tick_turns}
-use Rattle.arj_disk_line_law.specs.Said.{AreSaid, IsLate, IsTied, RunsAreJournalled, AreDone, IsDoneBy, WithTie}
+use Rattle.arj_disk_line_law.specs.Said.{AreSaid, HeardRunsAreJournalled, IsJournalled, IsLate, IsTied, RunsAreJournalled, AreDone, IsDoneBy, WithTie}
 use Rattle.arj_disk_line_law.proofs.IdleKnown.{KnowsIdle, knows_idle}
 use Rattle.arj_disk_line_law.proofs.Owners.{decided_begun, whose_it_is}
 use Rattle.arj_disk_line_law.proofs.Decisions.{may_decide, new_has_record}
@@ -321,13 +324,13 @@ one_act (x ∷ xs) apart a b (inl i) (inr j) same = absurd (never (among xs b j)
 one_act (x ∷ xs) apart a b (inr i) (inl j) same = absurd (never (among xs a i) (ap (has_act xs) (same ∙ ap (λ (y : Act). y.uid) (sym j)) ∙ apart.2))
 one_act (x ∷ xs) apart a b (inr i) (inr j) same = one_act xs apart.3 a b i j same
 
-pub runs_are_journalled : RunsAreJournalled
-runs_are_journalled hd x part parts es short =
+-- beside a relation that is kept
+journalled_beside : (hd : Header) (x : ℕ) (P : Kinds → Office → Seen → Type 0) → KeepsPart hd x (λ M. IsGood M × KnowsFew M) P → (es : List Asked) → length es ≤ most_events → Holds hd (IsJournalled x) (run_all es (format hd))
+journalled_beside hd x P parts es short =
     let R : Seen → Type 0 = IsGood in
     let Idle : List Line → Uid → Type 0 = λ ls u. IsIdle (book ls) u in
     let kept = parts_good hd in
     let idles = knows_idle R in
-    let P : Kinds → Office → Seen → Type 0 = λ tops A M. part tops A M ≡ true in
     let Q : Kinds → Seen → Type 0 = IsCarried (WithTie P Idle) x in
     let B : Seen → Type 0 = Both hd x R KnowsFew P Idle kept parts idles in
     let Known : Seen → Type 0 = λ M. B M × HaveEntries x M in
@@ -360,3 +363,9 @@ runs_are_journalled hd x part parts es short =
         let b = sound.reads in
         let same = one_act (acts_of lines) sound.distinct p a (subst (λ xs. Among p xs) b.begun (in_from p (let B = book lines in B.acts) its)) (in_from a (acts_of lines) there) uid in
         absurd (never (ap (λ (y : Act). is_top y.kind) same ∙ top) plain)
+
+pub runs_are_journalled : RunsAreJournalled
+runs_are_journalled hd x part parts es short = journalled_beside hd x (λ tops A M. part tops A M ≡ true) parts es short
+
+pub heard_runs_are_journalled : HeardRunsAreJournalled
+heard_runs_are_journalled hd x has rest es short = journalled_beside hd x (SeesHeard x) (heard_kept hd x (λ M. IsGood M × KnowsFew M) (λ M r. r.0) has rest) es short

@@ -1,6 +1,6 @@
 -- Both halves of the object's machine are carried by each handler, and so through each run; and copies agree in it.
 use Rattle.std.proofs.Common.{◌≡◌, ◌==◌, ℕ, List, [], ◌+◌, Bool, true, false, Option, Some, None, refl, ◌∙◌, ap, subst, inl, inr, ⊎_elim, is_some}
-use Rattle.std.specs.Prelude.{option_map}
+use Rattle.std.specs.Prelude.{◌≤◌, length, option_map}
 use Rattle.arj_lock.proofs.Members.{in_from}
 use Rattle.arj_protocol.specs.Words.{Header, Message, ObjectState, Path, Uid, entry}
 use Rattle.arj_protocol.specs.Ask.{top_of}
@@ -11,12 +11,12 @@ use Rattle.arj_protocol.specs.Naming.{Naming}
 use Rattle.arj_protocol.specs.Node.{Parts, with_coord}
 use Rattle.arj_protocol.specs.Order.{uid_number}
 use Rattle.arj_protocol.specs.Step.{Node, acts, parent_of, parts_in, restart_outs}
-use Rattle.arj_protocol.specs.World.{format, is_serial_kind, run_all}
+use Rattle.arj_protocol.specs.World.{Asked, format, is_serial_kind, run_all}
 use Rattle.arj_disk_law.specs.Guards.{only_decides}
 use Rattle.arj_disk_law.specs.Names.{Office}
 use Rattle.arj_disk_law.specs.State.{Packed, State}
 use Rattle.arj_disk_law.proofs.Base.{test_same}
-use Rattle.arj_view_law.specs.Keeps.{Keeps}
+use Rattle.arj_view_law.specs.Keeps.{Holds, Keeps}
 use Rattle.arj_view_law.specs.Seen.{Seen, at, given, see, up}
 use Rattle.arj_view_law.specs.Walks.{Walks, Up}
 use Rattle.arj_view_law.proofs.Happens.{runs_hold}
@@ -41,16 +41,19 @@ use Rattle.arj_run_law.proofs.AllRuns.{all_keep as parts_good}
 use Rattle.arj_call_law.specs.Runs.{KnowsFew}
 use Rattle.arj_call_law.proofs.Given.{kept_both, keeps_given}
 use Rattle.arj_call_law.proofs.WholeRuns.{WhileFew, few_go}
+use Rattle.arj_binding_law.specs.Scripts.{most_events}
 use Rattle.arj_binding_law.proofs.Events.{scripts_few}
 use Rattle.arj_disk_run_law.specs.Entries.{HaveEntries, IsInStep, KnowsEntries}
+use Rattle.arj_disk_run_law.specs.Heard.{SeesHeard}
 use Rattle.arj_disk_run_law.specs.Kinds.{Agrees, AreOfTops, IsOfTops, kinds_of}
 use Rattle.arj_disk_run_law.specs.Part.{HoldsAgain, HoldsFrom, IsCarried, KeepsPart, are_recorded}
-use Rattle.arj_disk_run_law.specs.Runs.{RunsAgree}
+use Rattle.arj_disk_run_law.specs.Runs.{CopiesAgree, HeardRunsAgree, RunsAgree}
 use Rattle.arj_disk_run_law.proofs.Begun.{kinds_agree}
 use Rattle.arj_disk_run_law.proofs.Copies.{copies_agree}
 use Rattle.arj_disk_run_law.proofs.EntryKeeps.{keeps_entries}
 use Rattle.arj_disk_run_law.proofs.EntryWalks.{mine_of}
 use Rattle.arj_disk_run_law.proofs.Given.{gives_votes}
+use Rattle.arj_disk_run_law.proofs.HeardKept.{heard_kept}
 use Rattle.arj_disk_run_law.proofs.Kept.{IsKeptInRun, KeepsEach, all_keep}
 
 module _ (P : Kinds → Office → Seen → Type 0) (x : ℕ) (tops : Kinds) where
@@ -132,20 +135,26 @@ with_entries hd x R S P parts kept = kept_both hd R (HaveEntries x) kept (keeps_
 
 -- ---- copies agree
 
--- both halves of the object's machine are carried through a run, and copies agree in it
-pub runs_agree : RunsAgree
-runs_agree hd x part parts es short =
-    let r = runs_hold hd (WhileFew (IsKeptInRun Known Q)) (few_go hd (IsKeptInRun Known Q) (all_keep hd x Known KnowsFew Q known_everywhere (gives_votes Known) (both_each hd x IsGood KnowsFew (λ tops A M. part tops A M ≡ true) parts))) es in
+-- both halves of the object's machine are carried through a run beside a relation that is kept, and copies agree in it
+agree_beside : (hd : Header) (x : ℕ) (P : Kinds → Office → Seen → Type 0) → KeepsPart hd x (λ M. IsGood M × KnowsFew M) P → (es : List Asked) → length es ≤ most_events → Holds hd (CopiesAgree x) (run_all es (format hd))
+agree_beside hd x P parts es short =
+    let r = runs_hold hd (WhileFew (IsKeptInRun Known Q)) (few_go hd (IsKeptInRun Known Q) (all_keep hd x Known KnowsFew Q known_everywhere (gives_votes Known) (both_each hd x IsGood KnowsFew P parts))) es in
     let h = (r.holds.1 (scripts_few hd es short)).1 in
     let g = h.1 in
     let s = g.5 (kinds_of h.0) (kinds_agree h.0 g.0.begun g.1) in
     record { sent = r.sent; stands = r.stands; holds = copies_agree x (kinds_of h.0) s.0.world (see r.sent (run_all es (format hd))) s.1.disks }
   where
     Q : Kinds → Seen → Type 0
-    Q = IsCarried (λ tops A M. part tops A M ≡ true) x
+    Q = IsCarried P x
 
     Known : Seen → Type 0
     Known M = IsGood M × HaveEntries x M
 
     known_everywhere : Keeps hd Known
-    known_everywhere = with_entries hd x IsGood (λ M. IsGood M × KnowsFew M) (λ tops A M. part tops A M ≡ true) parts (parts_good hd)
+    known_everywhere = with_entries hd x IsGood (λ M. IsGood M × KnowsFew M) P parts (parts_good hd)
+
+pub runs_agree : RunsAgree
+runs_agree hd x part parts es short = agree_beside hd x (λ tops A M. part tops A M ≡ true) parts es short
+
+pub heard_runs_agree : HeardRunsAgree
+heard_runs_agree hd x has rest es short = agree_beside hd x (SeesHeard x) (heard_kept hd x (λ M. IsGood M × KnowsFew M) (λ M r. r.0) has rest) es short

@@ -7,6 +7,7 @@ pub mod EntryWalks
 pub mod HeardAll
 pub mod HeardCoord
 pub mod HeardFirst
+pub mod HeardKept
 pub mod HeardLike
 pub mod HeardPosts
 pub mod HeardQuiet

@@ -5,5 +5,6 @@ pub mod Kinds
 pub mod Part
 pub mod Places
 pub mod Records
+pub mod Rest
 pub mod Runs
 pub mod Sound

@@ -1,12 +1,14 @@
 // The disk half of the view in every run.
-ghost use Rattle.arj_disk_run_law.specs.Runs.{RunsAgree};
+ghost use Rattle.arj_disk_run_law.specs.Runs.{HeardRunsAgree, RunsAgree};
 
 /// Take a relation, kept beside the machine's state in which both halves of the object are seen, of what coordinators have of naming's
 /// answers and what messages claim of them. Then after the run of each script of at most 1,000,000 events, with all frames that
 /// came in any order, again or never, all stops, crashes and restarts, an object's copies agree: if its
 /// entry isn't in doubt, one state is held or prepared by each store that the entry lists, and held where the object isn't in
 /// doubt; the entry lists some store; no store holds a later version, and stores that hold one version hold one state; and what is in
-/// doubt at a store, or at naming, is so by one action. It does nothing when it runs.
+/// doubt at a store, or at naming, is so by one action. So it is too with the relation that is built of it, of each object of the
+/// header, where it is kept by messages and by inputs about actions. It does nothing when it runs.
 pub fn runs_keep_the_disk_half()
-    ensures { RunsAgree }
+    ensures beside { RunsAgree }
+    ensures heard { HeardRunsAgree }
 {}

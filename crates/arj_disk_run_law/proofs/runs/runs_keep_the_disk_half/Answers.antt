@@ -1,5 +1,8 @@
-use Rattle.arj_disk_run_law.proofs.BothEach.{runs_agree}
+use Rattle.arj_disk_run_law.proofs.BothEach.{heard_runs_agree, runs_agree}
 use Rattle.arj_disk_run_law.proofs.runs.runs_keep_the_disk_half.Goals as goal
 
-pub returns : goal.returns
-returns c = runs_agree
+pub returns-clause-beside : goal.returns-clause-beside
+returns-clause-beside c = runs_agree
+
+pub returns-clause-heard : goal.returns-clause-heard
+returns-clause-heard c = heard_runs_agree
