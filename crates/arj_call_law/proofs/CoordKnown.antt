@@ -127,7 +127,7 @@ module _ (acts : List Action) (paths : Paths) (tree : IsTree paths) (c : Coord) 
       by x y (z ∷ us) e = by y z us e
 
   -- the root of an action is here
-  root_there : (k : ℕ) (w : Uid) (b : Branch) → length (paths w) ≤ k → branch_of w c.tree ≡ Some b → (r : Branch) × (branch_of (first_uid (paths w)) c.tree ≡ Some r)
+  pub root_there : (k : ℕ) (w : Uid) (b : Branch) → length (paths w) ≤ k → branch_of w c.tree ≡ Some b → (r : Branch) × (branch_of (first_uid (paths w)) c.tree ≡ Some r)
   root_there zero w b short found = by (paths w) refl short
     where
       by : (us : List Uid) → paths w ≡ us → length us ≤ 0 → (r : Branch) × (branch_of (first_uid us) c.tree ≡ Some r)

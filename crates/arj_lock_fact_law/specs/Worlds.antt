@@ -1,0 +1,38 @@
+-- What is known of coordinators, of naming and of its answers, at all nodes and in every message.
+use Rattle.std.specs.Prelude.{⊤, ◌≡◌, ℕ, List, Some}
+use Rattle.arj_protocol.specs.Words.{Asked, BoundReply, Header}
+use Rattle.arj_protocol.specs.Ask.{Reply, answers}
+use Rattle.arj_protocol.specs.Coord.{Coord}
+use Rattle.arj_protocol.specs.Naming.{Naming}
+use Rattle.arj_protocol.specs.Node.{Parts}
+use Rattle.arj_protocol.specs.Step.{Node}
+use Rattle.arj_protocol.specs.World as world
+use Rattle.arj_protocol.specs.World.{format, run_all}
+use Rattle.arj_address_law.specs.Binds.{BindsAreKnown}
+use Rattle.arj_run_law.specs.Worlds.{IsGood}
+use Rattle.arj_view_law.specs.Keeps.{Holds, Keeps}
+use Rattle.arj_view_law.specs.Seen.{In, Post, Seen}
+use Rattle.arj_lock_fact_law.specs.Works.{HasNoRoots, KnowsEnds, KnowsWaits}
+
+-- This holds of each coordinator and of naming at each node that is up, and that of each answer to a Bind that was ever sent.
+pub record Everywhere (R : BoundReply → Type 0) (Q : Coord → Type 0) (N : Naming → Type 0) (M : Seen) : Type 0 where
+  pub nodes : (j : ℕ) (n : Node) (t : Parts) → M.nodes j ≡ Some n → n.live ≡ Some t → Q t.coord × ((o : Naming) → t.naming ≡ Some o → N o)
+  pub sent : (p : Post) → In p M.sent → (a : Asked) (r : BoundReply) → answers p.message ≡ Some (a, Reply.Bound r) → R r
+
+-- a coordinator: who waits, that new roots are empty, and whose ends it lists
+pub record KnowsWorks (c : Coord) : Type 0 where
+  pub waits : KnowsWaits c
+  pub roots : HasNoRoots c
+  pub ends : KnowsEnds c
+
+-- So it is at each node, beside good nodes and known Binds.
+abbrev pub WorksAreKnown : Seen → Type 0
+WorksAreKnown M = (IsGood M × BindsAreKnown M) × Everywhere (λ r. ⊤) KnowsWorks (λ n. ⊤) M
+
+-- each handler keeps it
+abbrev pub HandlersKeepWorks : Type 0
+HandlersKeepWorks = (hd : Header) → Keeps hd WorksAreKnown
+
+-- and so it holds in every run
+abbrev pub RunsKeepWorks : Type 0
+RunsKeepWorks = (hd : Header) (es : List world.Asked) → Holds hd WorksAreKnown (run_all es (format hd))

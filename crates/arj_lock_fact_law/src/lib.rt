@@ -1,0 +1,11 @@
+//! Facts of the protocol alone, in every run, that its view by the lock machine counts on.
+//!
+//! `arj_lock_view_law` has laws of whole servers, coordinators and naming, with premises about the protocol's state. What of these isn't
+//! among what good nodes keep (`arj_run_law`) is shown here as relations that each handler keeps, beside good nodes and known Binds
+//! (`arj_address_law`): of coordinators, of naming and of its answers (`specs/Worlds.antt`). It gives upward
+//! `coordinators_stay_in_order`.
+#![tactic(auto)]
+
+mod coords;
+
+pub use coords::coordinators_stay_in_order;
