@@ -1,33 +1,30 @@
 -- Roots that weren't begun have nothing: kept by all that a coordinator does.
-use Rattle.std.proofs.Common.{◌≡◌, ◌≢◌, ◌⊎◌, ◌∙◌, ◌≤◌, ◌<◌, ◌+◌, ℕ, zero, suc, Bool, true, false, cond, List, [], ◌∷◌, ◌++◌, length, Option, Some, None, refl, sym, ap, subst, inl, inr, ⊎_elim, arith}
+use Rattle.std.proofs.Common.{◌≡◌, ◌∙◌, ◌≤◌, ◌<◌, ◌+◌, ℕ, zero, suc, Bool, true, false, List, [], ◌∷◌, length, Some, None, refl, sym, ap, subst, arith}
 use Rattle.std.specs.Prelude.{slice_get}
 use Rattle.std.specs.Ordering.{is_eq, nat_cmp}
 use Rattle.std.proofs.lemmas.List.{length-append}
 use Rattle.arj_protocol.proofs.Maps.{put_other}
-use Rattle.arj_protocol.specs.Words.{Ask, Asked, BoundReply, Header, Kind, Label, Op, Path, Uid, first_uid, uids_of}
+use Rattle.arj_protocol.specs.Words.{Ask, BoundReply, Op, Path, Uid, first_uid, uids_of}
 use Rattle.arj_protocol.specs.Ask.{Reply, actor}
-use Rattle.arj_protocol.specs.Asking.{again_all, asks_node, begin_action, call, call_steps, doomed_by, ends_call, give_up_call, goes_on, heard, heard_call, include, is_invoke_ask, kept_at, next_req, renewed, root_heard, root_lost, root_moved, step_call}
+use Rattle.arj_protocol.specs.Asking.{again_all, asks_node, call, call_steps, doomed_by, give_up_call, goes_on, heard, heard_call, include, is_invoke_ask, kept_at, next_req, renewed, root_heard, root_lost, root_moved, step_call}
 use Rattle.arj_protocol.specs.Call as calls
 use Rattle.arj_protocol.specs.Call.{CallEnd, CallStep, Ended, On, Steps, answered, given_up, next_ask, next_node, start}
-use Rattle.arj_protocol.specs.Coord.{Calling, Coord, Doing, Idle, Root, doing_of, is_free, keeping_of, new_coord, on_doing, on_root, root_at, with_keeping, with_went}
-use Rattle.arj_protocol.specs.Effect.{Intent}
+use Rattle.arj_protocol.specs.Coord.{Calling, Coord, Doing, Idle, Root, is_free, keeping_of, on_doing, on_root, root_at, with_keeping, with_went}
 use Rattle.arj_protocol.specs.Ending.{acked, root_after}
-use Rattle.arj_protocol.specs.Order.{at_number, put_number, unbound}
-use Rattle.arj_protocol.specs.Step as input
-use Rattle.arj_protocol.specs.Step.{Input, acts, parent_of, refusal_up}
+use Rattle.arj_protocol.specs.Order.{at_number, unbound}
+use Rattle.arj_protocol.specs.Step.{acts}
 use Rattle.arj_protocol.specs.Tree.{Branch, at_place, branch_of, ends_of, root_of, uses_object}
 use Rattle.arj_coord_law.proofs.CoordUses.{on_roots}
-use Rattle.arj_part_law.specs.Actions.{Action, paths_of}
+use Rattle.arj_part_law.specs.Actions.{paths_of}
 use Rattle.arj_part_law.specs.Claims.{GoesOn}
-use Rattle.arj_part_law.specs.Coords.{IsAsking, IsGoodCoord}
-use Rattle.arj_part_law.specs.Copies.{IsTree, Paths}
+use Rattle.arj_part_law.specs.Copies.{IsTree}
 use Rattle.arj_part_law.proofs.Begun.{begun_tree}
 use Rattle.arj_part_law.proofs.GoodTrees.{found_by}
 use Rattle.arj_call_law.proofs.CoordKnown.{root_there}
 use Rattle.arj_part_law.proofs.TrueSteps.{well_acked, well_acts, well_again, well_heard}
 use Rattle.arj_view_law.specs.Seen.{Post}
 use Rattle.arj_lock_fact_law.specs.Works.{HasNoRoots}
-use Rattle.arj_lock_fact_law.proofs.Kept.{IsKept, Place}
+use Rattle.arj_lock_fact_law.proofs.Kept.{IsKept, Place, answers_so}
 use Rattle.arj_lock_fact_law.proofs.Pieces.{IsRooted, IsStep, Pieces, acked_so, acts_so, again_so, heard_so}
 
 module _ (sent : List Post) (k : ℕ) (c : Coord) (place : Place sent k c) where
@@ -130,8 +127,9 @@ module _ (sent : List Post) (k : ℕ) (c : Coord) (place : Place sent k c) where
   to_roots : (e : Coord) → GoesOn c e → Fresh e → HasNoRoots e
   to_roots e on fresh n above = fresh n (subst (λ l. l < n) on.branches above)
 
-pub roots_kept : (R : BoundReply → Type 0) → IsKept R HasNoRoots
+pub roots_kept : (R : BoundReply → Type 0) → IsKept (answers_so R) HasNoRoots
 roots_kept R = record {
+  says = λ c q to h a sent. tt;
   new = λ node inc telling n above. refl;
   hears = λ sent k c place from a r intents fits given fresh.
       let g = place.good in

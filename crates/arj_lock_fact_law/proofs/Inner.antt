@@ -1,32 +1,29 @@
 -- The ends that a coordinator lists, and that its commits bring, are of actions that stand below others.
-use Rattle.std.proofs.Common.{◌≡◌, ◌≢◌, ◌⊎◌, ◌∙◌, ◌≤◌, ◌<◌, ◌+◌, ◌||◌, ℕ, zero, suc, Bool, true, false, cond, nat_le, List, [], ◌∷◌, ◌++◌, length, Option, Some, None, refl, sym, ap, subst, inl, inr, ⊎_elim, arith, Contains}
+use Rattle.std.proofs.Common.{◌≡◌, ◌⊎◌, ◌∙◌, ◌≤◌, ◌+◌, ◌||◌, ℕ, zero, suc, Bool, true, false, cond, nat_le, List, [], ◌∷◌, ◌++◌, length, Option, Some, None, refl, sym, ap, subst, inl, inr, ⊎_elim, arith, Contains}
 use Rattle.arj_base.proofs.Uids.{uid_same}
 use Rattle.arj_lock.proofs.Members as list
 use Rattle.arj_lock.proofs.Members.{in_from, in_to}
-use Rattle.arj_protocol.specs.Words.{Asked, BoundReply, End, Header, Kind, Label, Op, Path, Uid, uid_eq, uids_of}
-use Rattle.arj_protocol.specs.Ask.{Reply, actor}
-use Rattle.arj_protocol.specs.Asking.{again_all, begin_action, call, call_steps, commits_in, doomed_by, ends_call, give_up_call, goes_on, heard, heard_call, include, kept_at, next_req, renewed, root_heard, root_lost, root_moved, step_call}
+use Rattle.arj_protocol.specs.Words.{BoundReply, End, Kind, Label, Op, Path, Uid, uid_eq, uids_of}
+use Rattle.arj_protocol.specs.Ask.{actor}
+use Rattle.arj_protocol.specs.Asking.{again_all, begin_action, call, call_steps, doomed_by, goes_on, heard, include, kept_at, next_req, renewed, root_heard, root_lost, root_moved, step_call}
 use Rattle.arj_protocol.specs.Call as calls
 use Rattle.arj_protocol.specs.Call.{CallEnd, CallStep, Ended, On, Steps, answered, given_up, start}
 use Rattle.arj_protocol.specs.Commit.{Machine, plan_of}
 use Rattle.arj_protocol.specs.Coord.{Calling, Committing, Coord, Doing, Idle, Now, Root, doing_of, is_free, keeping_of, new_coord, on_doing, on_root, root_at, with_keeping}
-use Rattle.arj_protocol.specs.Effect.{Intent}
 use Rattle.arj_protocol.specs.Ending.{acked}
 use Rattle.arj_protocol.specs.Order.{unbound}
-use Rattle.arj_protocol.specs.Step as input
-use Rattle.arj_protocol.specs.Step.{Input, acts, parent_of, refusal_up}
+use Rattle.arj_protocol.specs.Step.{acts, parent_of}
 use Rattle.arj_protocol.specs.Tree.{Branch, Family, Tree, at_place, branch_of, doomed_at, ended_at, ended_branch, ends_of, family_of, is_own, next_uid, path_below, root_of, uses_object, with_family}
 use Rattle.arj_coord_law.proofs.CoordUses.{on_cases, some_is}
-use Rattle.arj_part_law.specs.Coords.{IsAsking, IsBusy, IsVoting}
+use Rattle.arj_part_law.specs.Coords.{IsBusy, IsVoting}
 use Rattle.arj_part_law.specs.Servers.{has_end_of}
-use Rattle.arj_part_law.specs.Actions.{paths_of}
 use Rattle.arj_part_law.proofs.GoodCoords.{IsSameTree, doomed_same, on_tree, uses_same}
 use Rattle.arj_part_law.proofs.GoodTrees.{after as ended_tree, get_more, grown_cases, marked, not_yet, same_ends, same_or_not, ends_by_number, ends_elsewhere, ends_there, was_there}
 use Rattle.arj_part_law.proofs.Settled.{end_tree_on}
 use Rattle.arj_view_law.specs.Seen.{Post}
-use Rattle.arj_lock_fact_law.specs.Works.{AreInner, KnowsEnds}
-use Rattle.arj_lock_fact_law.proofs.Kept.{IsKept, Place}
-use Rattle.arj_lock_fact_law.proofs.Pieces.{IsCalled, IsOnWay, IsPlanned, IsRooted, IsStep, Pieces, acked_so, acts_so, again_so, heard_so}
+use Rattle.arj_lock_fact_law.specs.Works.{KnowsEnds}
+use Rattle.arj_lock_fact_law.proofs.Kept.{IsKept, Place, answers_so}
+use Rattle.arj_lock_fact_law.proofs.Pieces.{IsPlanned, Pieces, acked_so, acts_so, again_so, heard_so}
 
 -- these ends are of inner actions of the tree
 abbrev pub Inner : Tree → List (Uid × End) → Type 0
@@ -205,8 +202,9 @@ module _ (sent : List Post) (k : ℕ) (c : Coord) (place : Place sent k c) where
               let o = v.over w (has_it w e (plan_of m).ends (in_from (w, e) (plan_of m).ends i)) in
               let no_way : ◌≡◌ {A = Option Branch} None (Some o.0) = sym (not_yet how p c.tree) ∙ ap (λ x. branch_of x c.tree) (sym same) ∙ o.1 in cc no_way
 
-pub ends_kept : (R : BoundReply → Type 0) → IsKept R KnowsEnds
+pub ends_kept : (R : BoundReply → Type 0) → IsKept (answers_so R) KnowsEnds
 ends_kept R = record {
+  says = λ c q to h a sent. tt;
   new = λ node inc telling. record { lists = λ r u e b i found. absurd (in_from (u, e) [] i); plans = λ u d m found is w e b i at. absurd (no_doing node inc u d found) };
   hears = λ sent k c place from a r intents fits given knows. let q = from_known sent k c place knows in
       to_known sent k c place (heard from a r intents c).part (heard_so sent k c place (Ends sent k c place) (pieces sent k c place q) from a r intents fits (λ s step on who. step_so sent k c place s (answered (is_free (root_of s.path) (actor s.path) s.x c) (kept_at s c) s.goal s.at r).step (on_root (root_of s.path) (root_moved s r (answered (is_free (root_of s.path) (actor s.path) s.x c) (kept_at s c) s.goal s.at r)) c) (root_so sent k c place (root_of s.path) (root_moved s r (answered (is_free (root_of s.path) (actor s.path) s.x c) (kept_at s c) s.goal s.at r)) c q)));

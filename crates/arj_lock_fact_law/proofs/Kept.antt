@@ -1,5 +1,5 @@
 -- What coordinators keep beside good nodes and known Binds, with what naming keeps and what its answers to a Bind say, holds in every run.
-use Rattle.std.proofs.Common.{◌≡◌, ◌≢◌, ◌⊎◌, ◌∙◌, ◌+◌, ◌==◌, ◌&&◌, ℕ, zero, suc, Bool, true, false, cond, List, [], ◌∷◌, ◌++◌, map, filter, length, refl, sym, ap, subst, inl, inr, ⊎_elim, arith, Option, Some, None, eqb-true}
+use Rattle.std.proofs.Common.{◌≡◌, ◌≢◌, ◌∙◌, ◌+◌, ◌==◌, ℕ, zero, suc, Bool, true, false, cond, List, [], ◌∷◌, ◌++◌, map, filter, length, refl, sym, ap, subst, ⊎_elim, Option, Some, None}
 use Rattle.std.specs.Prelude.{⊤, IfSome, option_map, slice_get}
 use Rattle.std.specs.List.{AllByRecursion, list_all}
 use Rattle.std.proofs.lemmas.Bool.{and_parts}
@@ -14,14 +14,14 @@ use Rattle.arj_protocol.specs.Words.role
 use Rattle.arj_protocol.specs.Ask.{Reply, actor, answers, asked_by, last_end, response}
 use Rattle.arj_protocol.specs.Asking.{again_all, begin_action, heard}
 use Rattle.arj_protocol.specs.Confirm.{Grants, Marks, back_lines, confirm, recovered_naming}
-use Rattle.arj_protocol.specs.Coord.{Coord, Doing, new_coord}
+use Rattle.arj_protocol.specs.Coord.{Coord, new_coord}
 use Rattle.arj_protocol.specs.Effect.{Already, Disk, Do, Effect, InDoubt, Intent, Look, Old, Pair, Prep, Prepare, PutInc, Ready, Say, Send, Served, held_at, holder_of, is_prepared, prepare_answer, stopped, worked}
 use Rattle.arj_protocol.specs.Ending.{acked, answer_query, tell, tell_all}
 use Rattle.arj_protocol.specs.Follow.{tick_outs}
 use Rattle.arj_protocol.specs.Named.{Named}
 use Rattle.arj_protocol.specs.Naming as naming
 use Rattle.arj_protocol.specs.Naming.{Naming}
-use Rattle.arj_protocol.specs.Node.{Handled, Parts, Took, Void, ack_told, by_reply, coord_heard, end_states, handle, handle_answer, handle_ask, handle_ends, handle_hello, handle_other, holders, if_naming, is_earlier, load_by, load_held, naming_hello, naming_told, prepare_by, prepared_actions, query_about, sends_answer, serve, store_told, with_coord, with_naming, with_server}
+use Rattle.arj_protocol.specs.Node.{Handled, Parts, Took, Void, ack_told, by_reply, coord_heard, end_states, handle, handle_answer, handle_ask, handle_ends, handle_other, holders, if_naming, is_earlier, load_by, load_held, naming_hello, naming_told, prepare_by, prepared_actions, query_about, sends_answer, serve, store_told, with_coord, with_naming, with_server}
 use Rattle.arj_protocol.specs.Order.{uid_set, without_number}
 use Rattle.arj_protocol.specs.Says.{AreAll, is_naming_effect, is_server_effect}
 use Rattle.arj_protocol.specs.Server as server
@@ -37,21 +37,22 @@ use Rattle.arj_part_law.specs.Copies.{IsTree, Paths}
 use Rattle.arj_part_law.specs.Requests.{AreNumbered}
 use Rattle.arj_part_law.proofs.Begun.{begun_tree, path_found}
 use Rattle.arj_part_law.proofs.SaidIncs.{all_flat, all_map}
-use Rattle.arj_part_law.proofs.Truths.{true_on}
 use Rattle.arj_part_law.proofs.TrueSteps.{true_query, true_records, well_acked, well_acts, well_again, well_heard}
 use Rattle.arj_run_law.specs.Worlds.{IsGood, IsGoodOf, IsUp}
 use Rattle.arj_run_law.proofs.Begins.{may as may_begin}
 use Rattle.arj_run_law.proofs.Handled.{own_of_disk, tops_of_disk}
 use Rattle.arj_run_law.proofs.Walked.{other_number, same_number}
-use Rattle.arj_view_law.specs.Keeps.{Holds, Keeps, MayGive, is_act, label_at}
+use Rattle.arj_view_law.specs.Keeps.{Holds, Keeps, is_act}
 use Rattle.arj_view_law.specs.Seen.{In, Post, Seen, at, down, given, posted, said, see, up}
 use Rattle.arj_view_law.specs.Walks.{Up, Walks, halted}
 use Rattle.arj_view_law.proofs.Happens.{runs_hold}
 use Rattle.arj_view_law.proofs.Together.{walks_both}
-use Rattle.arj_call_law.proofs.WorldSteps.{no_answer, reads_back}
+use Rattle.arj_call_law.proofs.CoordOuts.{acked_so, acts_so, again_so, heard_so, query_so, tolds_so}
+use Rattle.arj_call_law.proofs.CoordSends.{AllSo, IsSentBy}
+use Rattle.arj_call_law.proofs.WorldSteps.{no_answer, no_request, reads_back}
 use Rattle.arj_address_law.specs.Binds.{AnswersWaiting, BindsAreKnown, KnowsBinds}
 use Rattle.arj_address_law.proofs.BindRuns.{answers_fit, binds_keep}
-use Rattle.arj_lock_fact_law.specs.Worlds.{Everywhere}
+use Rattle.arj_lock_fact_law.specs.Worlds.{Everywhere, Said}
 
 -- what is known of a coordinator: it is good, for actions that were begun, requests are numbered, each action has its work, and its Binds
 pub record Place (sent : List Post) (k : ℕ) (c : Coord) : Type 0 where
@@ -62,19 +63,24 @@ pub record Place (sent : List Post) (k : ℕ) (c : Coord) : Type 0 where
   pub faithful : IsFaithful c
   pub binds : KnowsBinds sent k c
 
+-- of answers to Binds this is said, and of requests nothing
+abbrev pub answers_so : (BoundReply → Type 0) → Said
+answers_so R = record { request = λ h a. ⊤; answer = R }
+
 -- What holds of a coordinator as it begins, and is kept by what it hears, does and begins; an answer to a Bind is as naming gives it.
-pub record IsKept (R : BoundReply → Type 0) (Q : Coord → Type 0) : Type 0 where
+pub record IsKept (S : Said) (Q : Coord → Type 0) : Type 0 where
+  pub says : (c : Coord) → Q c → (to : ℕ) (h : Head) (a : Ask) → IsSentBy c to h a → S.request h a
   pub new : (node inc : ℕ) (telling : List (Uid × Intent)) → Q (record (new_coord node inc) { telling = telling })
-  pub hears : (sent : List Post) (k : ℕ) (c : Coord) → Place sent k c → (from : ℕ) (a : Asked) (r : Reply) (intents : List (Uid × Intent)) → AnswersWaiting from a r c → ((b : BoundReply) → r ≡ Reply.Bound b → R b) → Q c → Q (heard from a r intents c).part
+  pub hears : (sent : List Post) (k : ℕ) (c : Coord) → Place sent k c → (from : ℕ) (a : Asked) (r : Reply) (intents : List (Uid × Intent)) → AnswersWaiting from a r c → ((b : BoundReply) → r ≡ Reply.Bound b → S.answer b) → Q c → Q (heard from a r intents c).part
   pub acks : (sent : List Post) (k : ℕ) (c : Coord) → Place sent k c → (from : ℕ) (u : Uid) (intents : List (Uid × Intent)) → Q c → Q (acked from u intents c).part
   pub does : (sent : List Post) (k : ℕ) (c : Coord) → Place sent k c → (intents : List (Uid × Intent)) (hd : Header) (i : Input) → refusal_up hd i c ≡ None → ((l : Label) (k : Kind) (parent : Option Label) → i ≢ input.Begin l k parent) → Q c → Q (acts i intents c).part
   pub begins : (sent : List Post) (k : ℕ) (c : Coord) (p : Place sent k c) (l : Label) (how : Kind) (parent : Option Label) → MayBegin p.actions how (parent_of parent c) → begin_refusal how c parent ≡ None → Q c → Q (begin_action l how parent (parent_of parent c) c).part
   pub asks : (sent : List Post) (k : ℕ) (c : Coord) → Place sent k c → Q c → Q (again_all c.doings c).part
 
 -- What holds of naming as it starts, and is kept by each call; and what it answers to a Bind.
-pub record IsGiven (R : BoundReply → Type 0) (N : Naming → Type 0) : Type 0 where
+pub record IsGiven (S : Said) (N : Naming → Type 0) : Type 0 where
   pub starts : (inc : ℕ) (d : Pair) → N (recovered_naming inc d)
-  pub binds : (p : Path) (x : ℕ) (include : Bool) (avoid : Binding) (d : Pair) (n : Naming) → N n → (let s = naming.bind p x include avoid d n in N s.part × IfSome s.reply R)
+  pub binds : (p : Path) (x : ℕ) (include : Bool) (avoid : Binding) (d : Pair) (n : Naming) → N n → (let s = naming.bind p x include avoid d n in N s.part × IfSome s.reply S.answer)
   pub notes : (p : Path) (x : ℕ) (b : Binding) (i g : ℕ) (n : Naming) → N n → N (naming.note p x b i g n).part
   pub tells : (u : Uid) (e : End) (d : Pair) (n : Naming) → N n → N (naming.told u e d n).part
   pub hellos : (node inc : ℕ) (n : Naming) → N n → N (naming.hello node inc n)
@@ -86,16 +92,17 @@ some_is {A} {a} {b} is = let k : ◌≡◌ {A = Option A} (Some a) (Some b) = is
 none_at : {A P : Type 0} {o : Option A} {x : A} → o ≡ None → o ≡ Some x → P
 none_at {A} {P} {o} {x} none is = let no_way : ◌≡◌ {A = Option A} None (Some x) = sym none ∙ is in absurd (cc no_way)
 
-module _ (R : BoundReply → Type 0) (Q : Coord → Type 0) (N : Naming → Type 0) (kept : IsKept R Q) (is_given : IsGiven R N) where
-  -- an answer to a Bind in the message is as naming gives it
-  abbrev pub Claims : Message → Type 0
-  Claims m = (a : Asked) (r : BoundReply) → answers m ≡ Some (a, Reply.Bound r) → R r
+module _ (S : Said) (Q : Coord → Type 0) (N : Naming → Type 0) (kept : IsKept S Q) (is_given : IsGiven S N) where
+  -- what the message says is so
+  record Claims (m : Message) : Type 0 where
+    request : (h : Head) (a : Ask) → asks m ≡ Some (h, a) → S.request h a
+    answer : (a : Asked) (r : BoundReply) → answers m ≡ Some (a, Reply.Bound r) → S.answer r
 
   abbrev HasParts : Parts → Type 0
   HasParts t = Q t.coord × ((n : Naming) → t.naming ≡ Some n → N n)
 
   abbrev AreSo : Seen → Type 0
-  AreSo M = Everywhere R Q N M
+  AreSo M = Everywhere S Q N M
 
   -- ---- effects
 
@@ -111,14 +118,14 @@ module _ (R : BoundReply → Type 0) (Q : Coord → Type 0) (N : Naming → Type
   both [] fs a b = b
   both (e ∷ es) fs a b = (a.0, both es fs a.1 b)
 
-  quiet : (m : Message) → answers m ≡ None → Claims m
-  quiet m none a r is = none_at none is
+  quiet : (m : Message) → asks m ≡ None → answers m ≡ None → Claims m
+  quiet m nothing none = record { request = λ h a is. none_at nothing is; answer = λ a r is. none_at none is }
 
-  sent_fine : (c : Coord) (outs : List Effect) → AreTrue c outs → Fine outs
-  sent_fine c [] true_all = tt
-  sent_fine c (Send to m ∷ es) true_all = (quiet m (no_answer m (let f = true_all.0 in f.plain)), sent_fine c es true_all.1)
-  sent_fine c (Say b ∷ es) true_all = (tt, sent_fine c es true_all.1)
-  sent_fine c (Do w ∷ es) true_all = (tt, sent_fine c es true_all.1)
+  sent_fine : (c : Coord) (outs : List Effect) → Q c → AreTrue c outs → AllSo c outs → Fine outs
+  sent_fine c [] q true_all so = tt
+  sent_fine c (Send to m ∷ es) q true_all so = (record { request = λ h a is. kept.says c q to h a (so.0 h a is); answer = λ a r is. none_at (no_answer m (let f = true_all.0 in f.plain)) is }, sent_fine c es q true_all.1 so.1)
+  sent_fine c (Say b ∷ es) q true_all so = (tt, sent_fine c es q true_all.1 so.1)
+  sent_fine c (Do w ∷ es) q true_all so = (tt, sent_fine c es q true_all.1 so.1)
 
   server_fine : (n : ℕ) (es : List Effect) → AreAll (is_server_effect n) es → Fine es
   server_fine n [] own = tt
@@ -134,7 +141,7 @@ module _ (R : BoundReply → Type 0) (Q : Coord → Type 0) (N : Naming → Type
 
   queries : (us : List Uid) → Fine (map query_about us)
   queries [] = tt
-  queries (u ∷ us) = ((λ a r is. none_at refl is), queries us)
+  queries (u ∷ us) = (quiet (message.Query (record { act = u })) refl refl, queries us)
 
   -- ---- one message
 
@@ -146,11 +153,11 @@ module _ (R : BoundReply → Type 0) (Q : Coord → Type 0) (N : Naming → Type
     abbrev IsOther : Reply → Type 0
     IsOther r = (q : BoundReply) → r ≡ Reply.Bound q → ⊥
 
-    answered : (h : Head) (v : Parts) (outs : List Effect) (o : Option Reply) → HasParts v → Fine outs → ((r : Reply) → o ≡ Some r → (q : BoundReply) → r ≡ Reply.Bound q → R q) → By (sends_answer from h v outs o)
+    answered : (h : Head) (v : Parts) (outs : List Effect) (o : Option Reply) → HasParts v → Fine outs → ((r : Reply) → o ≡ Some r → (q : BoundReply) → r ≡ Reply.Bound q → S.answer q) → By (sends_answer from h v outs o)
     answered h v outs None so fine each = tt
-    answered h v outs (Some r) so fine each = (so, both outs (Send from (response (asked_by h) r) ∷ []) fine ((λ a q is. each r refl q (ap (λ (z : Asked × Reply). z.1) (some_is (sym (reads_back (asked_by h) r) ∙ is)))), tt))
+    answered h v outs (Some r) so fine each = (so, both outs (Send from (response (asked_by h) r) ∷ []) fine (record { request = λ g a is. none_at (no_request (asked_by h) r) is; answer = λ a q is. each r refl q (ap (λ (z : Asked × Reply). z.1) (some_is (sym (reads_back (asked_by h) r) ∙ is))) }, tt))
 
-    plain : {S : Type 0} (say : S → Reply) → ((q : S) → IsOther (say q)) → (o : Option S) (r : Reply) → option_map say o ≡ Some r → (q : BoundReply) → r ≡ Reply.Bound q → R q
+    plain : {Z : Type 0} (say : Z → Reply) → ((q : Z) → IsOther (say q)) → (o : Option Z) (r : Reply) → option_map say o ≡ Some r → (q : BoundReply) → r ≡ Reply.Bound q → S.answer q
     plain say other None r is q same = none_at refl is
     plain say other (Some z) r is q same = absurd (other z q (some_is is ∙ same))
 
@@ -169,12 +176,12 @@ module _ (R : BoundReply → Type 0) (Q : Coord → Type 0) (N : Naming → Type
         bound_is : (b r : BoundReply) → Reply.Bound b ≡ Reply.Bound r → b ≡ r
         bound_is b r e = let same : ◌≡◌ {A = Reply} (Reply.Bound b) (Reply.Bound r) = e in cc
 
-        bounds : (o : Option BoundReply) → IfSome o R → (r : Reply) → option_map Reply.Bound o ≡ Some r → (q : BoundReply) → r ≡ Reply.Bound q → R q
+        bounds : (o : Option BoundReply) → IfSome o S.answer → (r : Reply) → option_map Reply.Bound o ≡ Some r → (q : BoundReply) → r ≡ Reply.Bound q → S.answer q
         bounds None so r is q same = none_at refl is
-        bounds (Some b) so r is q same = subst R (bound_is b q (some_is is ∙ same)) so
+        bounds (Some b) so r is q same = subst S.answer (bound_is b q (some_is is ∙ same)) so
     asked h (ask.Load x) = load (holder_of (object x) d.store)
       where
-        other : (r : Reply) → IsOther r → (z : Reply) → Some r ≡ Some z → (q : BoundReply) → z ≡ Reply.Bound q → R q
+        other : (r : Reply) → IsOther r → (z : Reply) → Some r ≡ Some z → (q : BoundReply) → z ≡ Reply.Bound q → S.answer q
         other r apart z is q same = absurd (apart q (some_is is ∙ same))
 
         held : (s : Option ObjectState) → By (load_held from h t s)
@@ -235,7 +242,7 @@ module _ (R : BoundReply → Type 0) (Q : Coord → Type 0) (N : Naming → Type
         named (Some n) = naming_fine (naming.told e.0 e.1 d.names n).outs (told_own e.0 e.1 d.names n)
 
         acked_told : (b : Bool) → Fine (ack_told from e.0 b)
-        acked_told true = ((λ a r is. none_at refl is), tt)
+        acked_told true = (quiet (message.Acked (record { act = e.0 })) refl refl, tt)
         acked_told false = tt
 
     module _ (hears : (a : Asked) (r : Reply) → answers m ≡ Some (a, r) → (let q = heard from a r d.intents t.coord in Q q.part × Fine q.outs)) (acks : (u : Uid) → (let q = acked from u d.intents t.coord in Q q.part × Fine q.outs)) (asks_query : (u : Uid) → Fine (answer_query from u d.intents t.coord)) where
@@ -280,19 +287,19 @@ module _ (R : BoundReply → Type 0) (Q : Coord → Type 0) (N : Naming → Type
 
   record Around (k : ℕ) (M : Seen) : Type 0 where
     nodes : (j : ℕ) (n : Node) (t : Parts) → (j ≡ k → ⊥) → M.nodes j ≡ Some n → n.live ≡ Some t → Q t.coord × ((o : Naming) → t.naming ≡ Some o → N o)
-    sent : (p : Post) → In p M.sent → (a : Asked) (r : BoundReply) → answers p.message ≡ Some (a, Reply.Bound r) → R r
+    sent : (p : Post) → In p M.sent → Claims p.message
 
   stands_at : (k : ℕ) (d : Disk) (live : Option Parts) (M : Seen) → (let S = at k d live M in S.nodes k) ≡ Some (record { number = k; disk = d; live = live })
   stands_at k d live M = λ i. cond (same_number k i) (Some (record { number = k; disk = d; live = live })) (M.nodes k)
 
   around : (k : ℕ) (d : Disk) (live : Option Parts) (M : Seen) → AreSo (at k d live M) → Around k M
-  around k d live M all = record { nodes = λ j n t apart is up_it. all.nodes j n t ((λ i. cond (other_number j k apart i) (Some (record { number = k; disk = d; live = live })) (M.nodes j)) ∙ is) up_it; sent = all.sent }
+  around k d live M all = record { nodes = λ j n t apart is up_it. all.nodes j n t ((λ i. cond (other_number j k apart i) (Some (record { number = k; disk = d; live = live })) (M.nodes j)) ∙ is) up_it; sent = λ p i. record { request = all.requests p i; answer = all.answered p i } }
 
   own : (k : ℕ) (d : Disk) (t : Parts) (M : Seen) → AreSo (up k d t M) → HasParts t
   own k d t M all = all.nodes k (record { number = k; disk = d; live = Some t }) t (stands_at k d (Some t) M) refl
 
   back : (k : ℕ) (d : Disk) (live : Option Parts) (M : Seen) → ((t : Parts) → live ≡ Some t → HasParts t) → Around k M → AreSo (at k d live M)
-  back k d live M its o = record { nodes = λ j n t is up_it. by j n t (j == k) refl is up_it; sent = o.sent }
+  back k d live M its o = record { nodes = λ j n t is up_it. by j n t (j == k) refl is up_it; requests = λ p i. let f = o.sent p i in f.request; answered = λ p i. let f = o.sent p i in f.answer }
     where
       x : Node
       x = record { number = k; disk = d; live = live }
@@ -302,7 +309,7 @@ module _ (R : BoundReply → Type 0) (Q : Coord → Type 0) (N : Naming → Type
       by j n t false apart is live_is = o.nodes j n t (λ same. let no_way : true ≡ false = sym (ap (λ z. z == k) same ∙ same_number k) ∙ apart in cc no_way) is live_is
 
   quietly : (e : ℕ) (bs : List Body) (M : Seen) → AreSo M → AreSo (said e bs M)
-  quietly e bs M all = record { nodes = all.nodes; sent = all.sent }
+  quietly e bs M all = record { nodes = all.nodes; requests = all.requests; answered = all.answered }
 
   down_so : (e k : ℕ) (d : Disk) (M : Seen) → Around k M → AreSo (halted e k d M)
   down_so e k d M o = quietly e (body.Halted k ∷ []) (down k d M) (back k d None M (λ t is. none_at refl is) o)
@@ -312,7 +319,7 @@ module _ (R : BoundReply → Type 0) (Q : Coord → Type 0) (N : Naming → Type
   walk e k v (Do w ∷ es) d M fine o its = (λ how. down_so e k (stopped how w d) M o, walk e k v es (worked w d) M fine.1 o its)
   walk e k v (Say b ∷ es) d M fine o its = walk e k v es d (said e (b ∷ []) M) fine.1 (record { nodes = o.nodes; sent = o.sent }) its
   walk e k v (Send to m ∷ es) d M fine o its = λ more quiet_lines. walk e k v es d (said e more (posted (record { from = k; to = to; message = m }) M)) fine.1
-      (record { nodes = o.nodes; sent = λ p i a r is. ⊎_elim (λ same. fine.0 a r (ap (λ (z : Post). answers z.message) same ∙ is)) (λ old. o.sent p old a r is) i }) its
+      (record { nodes = o.nodes; sent = λ p i. ⊎_elim (λ same. subst (λ (z : Post). Claims z.message) same fine.0) (λ old. o.sent p old) i }) its
 
   -- ---- a node of a good world
 
@@ -341,11 +348,17 @@ module _ (R : BoundReply → Type 0) (Q : Coord → Type 0) (N : Naming → Type
     message_walk : (from : ℕ) (m : Message) (v : Parts) (outs : List Effect) → In (record { from = from; to = k; message = m }) M.sent → handle k d t from m ≡ Took v outs → Walks AreSo e k outs (Up AreSo k v) d M
     message_walk from m v outs there is = walk e k v outs d M h.1 o h.0
       where
+        u : IsUp begun M.sent M.labels k d.inc t
+        u = its_up
+
+        works : length t.coord.doings ≡ length t.coord.tree.branches
+        works = let f = u.faithful in f.works
+
         h : HasParts v × Fine outs
         h = handled k d t from m its
-            (λ a r at_r. let w = well_heard begun paths tree from a r d.intents t.coord its_coord in (kept.hears M.sent k t.coord its_place from a r d.intents (answers_fit begun e k d t M good bound_all from m there a r at_r) (λ b same. all.sent (record { from = from; to = k; message = m }) there a b (at_r ∙ ap (λ z. Some (a, z)) same)) its.0, sent_fine (heard from a r d.intents t.coord).part (heard from a r d.intents t.coord).outs w.1))
-            (λ w. let g = well_acked begun paths tree from w d.intents t.coord in (kept.acks M.sent k t.coord its_place from w d.intents its.0, sent_fine (acked from w d.intents t.coord).part (acked from w d.intents t.coord).outs g.1))
-            (λ w. sent_fine t.coord (answer_query from w d.intents t.coord) (true_query begun paths tree from w d.intents t.coord (tops_of_disk e k d t M (begun, good)) (own_of_disk e k d t M (begun, good)) its_coord)) v outs is
+            (λ a r at_r. let w = well_heard begun paths tree from a r d.intents t.coord its_coord in let q = kept.hears M.sent k t.coord its_place from a r d.intents (answers_fit begun e k d t M good bound_all from m there a r at_r) (λ b same. all.answered (record { from = from; to = k; message = m }) there a b (at_r ∙ ap (λ z. Some (a, z)) same)) its.0 in (q, sent_fine (heard from a r d.intents t.coord).part (heard from a r d.intents t.coord).outs q w.1 (heard_so begun paths tree t.coord its_coord u.numbered works from a r d.intents)))
+            (λ w. let g = well_acked begun paths tree from w d.intents t.coord in let q = kept.acks M.sent k t.coord its_place from w d.intents its.0 in (q, sent_fine (acked from w d.intents t.coord).part (acked from w d.intents t.coord).outs q g.1 (acked_so from w d.intents t.coord)))
+            (λ w. sent_fine t.coord (answer_query from w d.intents t.coord) its.0 (true_query begun paths tree from w d.intents t.coord (tops_of_disk e k d t M (begun, good)) (own_of_disk e k d t M (begun, good)) its_coord) (query_so t.coord from w d.intents t.coord)) v outs is
 
     act_walk : (hd : Header) (i : Input) → is_act i ≡ true → refusal_up hd i t.coord ≡ None → Walks AreSo e k (let r = acts i d.intents t.coord in r.outs) (Up AreSo k (with_coord t (acts i d.intents t.coord).part)) d M
     act_walk hd i is free =
@@ -353,7 +366,8 @@ module _ (R : BoundReply → Type 0) (Q : Coord → Type 0) (N : Naming → Type
         let u = its_up in
         let works = (let f = u.faithful in f.works) in
         let w = well_acts begun paths tree d.intents t.coord its_coord works hd i free other in
-        walk e k (with_coord t r.part) r.outs d M (sent_fine r.part r.outs w.1) o (kept.does M.sent k t.coord its_place d.intents hd i free other its.0, its.1)
+        let q = kept.does M.sent k t.coord its_place d.intents hd i free other its.0 in
+        walk e k (with_coord t r.part) r.outs d M (sent_fine r.part r.outs q w.1 (acts_so begun paths tree t.coord its_coord u.numbered works i d.intents other)) o (q, its.1)
       where
         other : (l : Label) (how : Kind) (parent : Option Label) → i ≢ input.Begin l how parent
         other l how parent same = let no_way : false ≡ true = sym (ap is_act same) ∙ is in cc no_way
@@ -364,9 +378,11 @@ module _ (R : BoundReply → Type 0) (Q : Coord → Type 0) (N : Naming → Type
         let u = its_up in
         let w = well_again begun paths tree t.coord its_coord in
         let tolds = tolds_again t.coord.telling in
+        let works = (let f = u.faithful in f.works) in
+        let q = kept.asks M.sent k t.coord its_place its.0 in
         walk e k (with_coord t r.part) (tick_outs (record { number = k; disk = d; live = Some t }) t) d M
-        (both (r.outs ++ tolds) (map query_about (holders d t)) (both r.outs tolds (sent_fine r.part r.outs w.1) (sent_fine t.coord tolds (true_records t.coord u.faithful))) (queries (holders d t)))
-        o (kept.asks M.sent k t.coord its_place its.0, its.1)
+        (both (r.outs ++ tolds) (map query_about (holders d t)) (both r.outs tolds (sent_fine r.part r.outs q w.1 (again_so begun paths tree t.coord its_coord u.numbered works)) (sent_fine t.coord tolds its.0 (true_records t.coord u.faithful) (tolds_so t.coord t.coord.telling))) (queries (holders d t)))
+        o (q, its.1)
 
     begin_walk : (l : Label) (how : Kind) (parent : Option Label) → MayBegin begun how (parent_of parent t.coord) → begin_refusal how t.coord parent ≡ None → (g : Labelled) → Walks AreSo e k (let r = begin_action l how parent (parent_of parent t.coord) t.coord in r.outs) (Up AreSo k (with_coord t (begin_action l how parent (parent_of parent t.coord) t.coord).part)) d (given l g M)
     begin_walk l how parent may none g =
@@ -383,8 +399,8 @@ module _ (R : BoundReply → Type 0) (Q : Coord → Type 0) (N : Naming → Type
       by false n is = none_at refl is
 
   restart_fine : (hd : Header) (k inc : ℕ) (d : Disk) → Fine (restart_outs hd k inc d)
-  restart_fine hd k inc d = both four hellos (both three asking (both two tolds (both one records (tt, (tt, (tt, (tt, back_so (naming_at k inc d.names))))) (tt, all_map FineEffect (λ (e : Uid × Intent). Say (body.Recovered k e.0)) d.intents (λ e. tt))) (all_flat FineEffect (λ (e : Uid × Intent). tell_all e.1.root true ((e.0, ending.Commit) ∷ []) e.1.nodes) d.intents (λ e. all_map FineEffect (tell e.1.root true ((e.0, ending.Commit) ∷ [])) e.1.nodes (λ n a r is. none_at refl is)))) (queries (uid_set (prepared_actions d.store ++ prepared_actions d.names))))
-      (all_map FineEffect (hello_to k inc) (without_number k (numbers_to hd.nodes)) (λ w a r is. none_at refl is))
+  restart_fine hd k inc d = both four hellos (both three asking (both two tolds (both one records (tt, (tt, (tt, (tt, back_so (naming_at k inc d.names))))) (tt, all_map FineEffect (λ (e : Uid × Intent). Say (body.Recovered k e.0)) d.intents (λ e. tt))) (all_flat FineEffect (λ (e : Uid × Intent). tell_all e.1.root true ((e.0, ending.Commit) ∷ []) e.1.nodes) d.intents (λ e. all_map FineEffect (tell e.1.root true ((e.0, ending.Commit) ∷ [])) e.1.nodes (λ n. record { request = λ h a is. none_at refl is; answer = λ a r is. none_at refl is })))) (queries (uid_set (prepared_actions d.store ++ prepared_actions d.names))))
+      (all_map FineEffect (hello_to k inc) (without_number k (numbers_to hd.nodes)) (λ w. record { request = λ h a is. none_at refl is; answer = λ a r is. none_at refl is }))
     where
       back_so : (o : Option Naming) → Fine (naming_back o)
       back_so None = tt
@@ -415,7 +431,7 @@ module _ (R : BoundReply → Type 0) (Q : Coord → Type 0) (N : Naming → Type
       hellos = map (hello_to k inc) (without_number k (numbers_to hd.nodes))
 
   first_so : (hd : Header) → AreSo (see [] (format hd))
-  first_so hd = record { nodes = nodes; sent = λ p there. absurd there }
+  first_so hd = record { nodes = nodes; requests = λ p there. absurd there; answered = λ p there. absurd there }
     where
       got : (ms : List ℕ) (i : ℕ) (n : Node) → slice_get (map (first_node hd) ms) i ≡ Some n → (a : ℕ) × (first_node hd a ≡ n)
       got [] i n is = none_at refl is

@@ -5,3 +5,5 @@ pub mod Pieces
 pub mod Fresh
 pub mod Inner
 pub mod Works
+pub mod Given
+pub mod Wants

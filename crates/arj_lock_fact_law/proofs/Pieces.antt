@@ -1,6 +1,5 @@
 -- All that a coordinator does, piece by piece: what each piece keeps is kept.
 use Rattle.std.proofs.Common.{◌≡◌, ◌≢◌, ◌⊎◌, ◌∙◌, ◌==◌, ◌&&◌, arith, ℕ, Bool, true, false, cond, List, [], ◌∷◌, ◌++◌, Option, Some, None, refl, sym, ap, subst, inl, inr}
-use Rattle.std.specs.Prelude.{is_some}
 use Rattle.arj_protocol.specs.Words.{Ask, Asked, End, Header, Kind, Label, Op, Path, Uid}
 use Rattle.arj_protocol.specs.Words.cause
 use Rattle.arj_protocol.specs.Words.ending
@@ -16,12 +15,12 @@ use Rattle.arj_protocol.specs.Ending.{abort_action, aborts_with, acked, acked_by
 use Rattle.arj_protocol.specs.Order.{at_uid, has, put_uid, without_number, without_uid}
 use Rattle.arj_protocol.specs.Step as input
 use Rattle.arj_protocol.specs.Step.{Input, acts, branch_named, call_reasons, commit_reasons, include_reasons, on_branch, refusal_up, refused_by}
-use Rattle.arj_protocol.specs.Tree.{Branch, at_place, branch_of, doomed_at, ended_at, ends_of, open_below, root_of}
+use Rattle.arj_protocol.specs.Tree.{Branch, at_place, branch_of, ended_at, ends_of, open_below, root_of}
 use Rattle.arj_lock.proofs.Members as list
 use Rattle.arj_part_law.specs.Actions.{paths_of}
 use Rattle.arj_part_law.specs.Coords.{IsAsking, IsBusy, IsVoting}
 use Rattle.arj_part_law.proofs.Begun.{begun_tree}
-use Rattle.arj_part_law.proofs.CoordInputs.{named_found, off}
+use Rattle.arj_part_law.proofs.CoordInputs.{named_found}
 use Rattle.arj_part_law.proofs.GoodCoords.{IsStepOf, actor_is, answer_step, giveup_step, vote_step}
 use Rattle.arj_part_law.proofs.GoodTrees.{placed}
 use Rattle.arj_address_law.specs.Binds.{AnswersWaiting}

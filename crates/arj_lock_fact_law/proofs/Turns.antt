@@ -1,5 +1,5 @@
 -- What each action at a coordinator waits for after a step, by what it waited for before.
-use Rattle.std.proofs.Common.{◌≡◌, ◌≢◌, ◌⊎◌, ◌≤◌, ◌+◌, ◌∙◌, arith, ℕ, zero, suc, List, [], ◌∷◌, ◌++◌, Bool, true, false, cond, Option, Some, None, refl, sym, ap, subst, inl, inr, ⊎_elim}
+use Rattle.std.proofs.Common.{◌≡◌, ◌≢◌, ◌≤◌, ◌+◌, ◌∙◌, arith, ℕ, zero, suc, List, [], ◌∷◌, ◌++◌, Bool, true, false, cond, Option, Some, None, refl, sym, ap, subst, ⊎_elim}
 use Rattle.arj_protocol.specs.Words.{Uid, End, Kind, Path, Op, Label, Ask, Asked}
 use Rattle.arj_protocol.specs.Words.cause
 use Rattle.arj_protocol.specs.Words.ending
@@ -10,13 +10,13 @@ use Rattle.arj_protocol.specs.Call.{At, Steps, CallStep, On, Ended, CallEnd, Ans
 use Rattle.arj_protocol.specs.Call as calls
 use Rattle.arj_protocol.specs.Commit.{Plan, Machine, CommitStep, Stays, Asks, Decides, Aborts, plan_of, participants, has_record}
 use Rattle.arj_protocol.specs.Commit as commit
-use Rattle.arj_protocol.specs.Coord.{Coord, Doing, Now, Idle, Calling, Committing, Root, doing_of, on_doing, on_root, root_at, keeping_of, is_free, plan_for, with_keeping}
+use Rattle.arj_protocol.specs.Coord.{Coord, Doing, Now, Idle, Calling, Committing, doing_of, on_doing, on_root, root_at, keeping_of, is_free, plan_for, with_keeping}
 use Rattle.arj_protocol.specs.Effect.{Did, Intent, Served}
 use Rattle.arj_protocol.specs.Ending.{ended, aborts_with, all_aborted, abort_action, decide, root_after, acked, acked_by, acked_left}
 use Rattle.arj_protocol.specs.Order.{at_uid, has, put_uid, unbound, without_number}
 use Rattle.arj_protocol.specs.Step.{Input, acts, branch_named, on_branch, parent_of}
 use Rattle.arj_protocol.specs.Step as input
-use Rattle.arj_protocol.specs.Tree.{Branch, Tree, is_own, at_place, root_of, open_below, uses_object, doomed_at, ended_at}
+use Rattle.arj_protocol.specs.Tree.{Branch, is_own, at_place, root_of, open_below, uses_object, doomed_at, ended_at}
 use Rattle.arj_coord_law.proofs.CoordUses.{on_cases}
 use Rattle.arj_part_law.specs.Actions.{Action}
 use Rattle.arj_part_law.specs.Coords.{IsAsking, IsBusy, IsGoodCoord}

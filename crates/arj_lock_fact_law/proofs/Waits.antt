@@ -3,31 +3,30 @@ use Rattle.std.proofs.Common.{◌≡◌, ◌≢◌, ◌⊎◌, ◌≤◌, ◌+�
 use Rattle.std.specs.Prelude.{is_some}
 use Rattle.std.specs.List.{list_any}
 use Rattle.std.proofs.lemmas.Bool.{or_cases, or_parts}
-use Rattle.arj_base.proofs.Uids.{uid_cases, uid_is, uid_same}
-use Rattle.arj_lock.proofs.Members.{In}
+use Rattle.arj_base.proofs.Uids.{uid_cases, uid_is}
 use Rattle.arj_lock.proofs.OneEach.{none_in}
 use Rattle.arj_protocol.specs.Words.{Asked, Header, Kind, Label, Op, Uid, is_on, uid_eq, uids_of}
 use Rattle.arj_protocol.specs.Ask.{Reply, actor}
 use Rattle.arj_protocol.specs.Asking.{again_all, begin_action, heard}
 use Rattle.arj_protocol.specs.Call.{Steps}
-use Rattle.arj_protocol.specs.Commit.{Machine, plan_of}
+use Rattle.arj_protocol.specs.Commit.{plan_of}
 use Rattle.arj_protocol.specs.Coord.{Calling, Committing, Coord, Doing, Idle, Now, doing_of, new_coord}
 use Rattle.arj_protocol.specs.Effect.{Intent}
 use Rattle.arj_protocol.specs.Ending.{acked}
 use Rattle.arj_protocol.specs.Step as input
 use Rattle.arj_protocol.specs.Step.{Input, acts, begin_refusal, branch_named, call_reasons, commit_reasons, include_reasons, is_waiting, is_waiting_now, parent_of, refusal_up, refused_by, sibling_waits, waits, waits_above, waits_below}
-use Rattle.arj_protocol.specs.Tree.{Branch, at_place, branch_of, is_below, is_open_below, is_own, next_uid, path_below}
+use Rattle.arj_protocol.specs.Tree.{Branch, at_place, branch_of, is_open_below, is_own, next_uid, path_below}
 use Rattle.arj_coord_law.proofs.CoordRooms.{acked_tree, again_tree}
 use Rattle.arj_coord_law.proofs.CoordUses.{some_is as one_is}
 use Rattle.arj_coord_law.proofs.RunCoords.{IsKept}
-use Rattle.arj_part_law.specs.Actions.{Action, AreBegun, MayBegin}
+use Rattle.arj_part_law.specs.Actions.{Action}
 use Rattle.arj_part_law.specs.Coords.{IsAsking, IsBusy, IsGoodCoord, IsVoting}
 use Rattle.arj_part_law.specs.Copies.{IsTree, Paths}
 use Rattle.arj_part_law.proofs.CoordInputs.{behind, good_acts, named_found, off}
 use Rattle.arj_part_law.proofs.GoodCoords.{good_heard}
 use Rattle.arj_part_law.proofs.GoodTrees.{found_by, get_more, grown_cases, not_yet, place_in}
-use Rattle.arj_lock_fact_law.specs.Works.{AskFromOne, KnowsWaits, WaitApart}
-use Rattle.arj_lock_fact_law.proofs.Turns.{Commits, GoesOn, Keeps, Rests, Starts, Turn, Turned, turned_acked, turned_acts, turned_again, turned_begins, turned_heard}
+use Rattle.arj_lock_fact_law.specs.Works.{AskFromOne, KnowsWaits}
+use Rattle.arj_lock_fact_law.proofs.Turns.{Commits, GoesOn, Keeps, Rests, Starts, Turn, Turned, turned_acked, turned_acts, turned_again, turned_heard}
 
 never : {A : Type 0} {b : Bool} → b ≡ true → b ≡ false → A
 never holds fails = let no_way : true ≡ false = sym holds ∙ fails in absurd (cc no_way)
@@ -67,7 +66,7 @@ module _ (P : Uid → Type 0) (c : Coord) where
 
   module _ (actions more : List Action) (paths : Paths) (good : IsGoodCoord actions paths c) (e : Coord) (later : (u : Uid) (d : Doing) (b : Branch) → doing_of u e ≡ Some d → is_waiting_now d.now ≡ true → branch_of u e.tree ≡ Some b → uids_of b.path ≡ paths u) where
     -- who waits has its branch
-    there : (u : Uid) (d : Doing) → doing_of u c ≡ Some d → is_waiting_now d.now ≡ true → (b : Branch) × (branch_of u c.tree ≡ Some b)
+    pub there : (u : Uid) (d : Doing) → doing_of u c ≡ Some d → is_waiting_now d.now ≡ true → (b : Branch) × (branch_of u c.tree ≡ Some b)
     there u d found waits_now = by d.now refl waits_now
       where
         by : (n : Now) → d.now ≡ n → is_waiting_now n ≡ true → (b : Branch) × (branch_of u c.tree ≡ Some b)
@@ -105,7 +104,7 @@ module _ (actions : List Action) (paths : Paths) (c : Coord) (good : IsGoodCoord
   quiet [] w e on = absurd (cc on)
   quiet (x ∷ us) w e on = let q = or_parts (waits c x) (list_any (waits c) us) e in ⊎_elim (λ same. ap (waits c) (sym (uid_is x w same)) ∙ q.0) (λ rest. quiet us w q.1 rest) (or_cases (uid_eq x w) (is_on us w) on)
 
-  one_free : IsFree IsIt paths c
+  pub one_free : IsFree IsIt paths c
   one_free = record {
     one = λ u w p q. p ∙ sym q;
     above = λ u w e p at is on. never (ap is_waiting at ∙ is) (quiet (uids_of b.path) w up (ap (λ us. is_on us w) (good.tree.lists.paths_are (actor b.path) b found) ∙ ap (λ v. is_on (paths v) w) (sym p) ∙ on));
@@ -118,7 +117,6 @@ module _ (actions : List Action) (paths : Paths) (c : Coord) (good : IsGoodCoord
           clash : (a : Branch) → branch_of u c.tree ≡ Some a → is_some a.ended ≡ false → ⊥
           clash a there opened = never (both (ap (λ us. is_on us (actor b.path)) (good.tree.lists.paths_are u a there) ∙ on) (uid_apart (actor a.path) (actor b.path) (λ same. other (sym (good.tree.lists.places u a there) ∙ same))) opened (ap (waits c) (good.tree.lists.places u a there) ∙ ap is_waiting at ∙ is))
               (none_in (λ w. is_open_below (actor b.path) w && waits c (actor w.path)) a c.tree.branches down (place_in u.num a c.tree.branches (found_by u c.tree a there).1))
-
             where
               uid_apart : (x y : Uid) → x ≢ y → uid_eq x y ≡ false
               uid_apart x y apart = one (uid_eq x y) refl

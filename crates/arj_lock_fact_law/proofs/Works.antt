@@ -1,22 +1,26 @@
 -- Who waits, that new roots are empty, and whose ends are listed, at all coordinators in every run.
-use Rattle.std.proofs.Common.{◌≡◌, ℕ, List, None, Option, Some}
+use Rattle.std.proofs.Common.{◌≤◌, ℕ, None, Option, Some, refl, subst, sym}
 use Rattle.std.specs.Prelude.{⊤, IfSome}
-use Rattle.arj_protocol.specs.Words.{BoundReply}
+use Rattle.arj_protocol.specs.Words.{Ask, BoundReply, Head}
+use Rattle.arj_protocol.specs.Words.ask
+use Rattle.arj_protocol.specs.Ask.{actor}
 use Rattle.arj_protocol.specs.Coord.{Coord}
 use Rattle.arj_protocol.specs.Naming.{Naming, bind}
 use Rattle.arj_part_law.specs.Actions.{paths_of}
 use Rattle.arj_part_law.proofs.Begun.{begun_tree}
 use Rattle.arj_coord_law.proofs.RunCoords as coords
 use Rattle.arj_lock_fact_law.specs.Works.{HasNoRoots, KnowsEnds, KnowsWaits}
-use Rattle.arj_lock_fact_law.specs.Worlds.{HandlersKeepWorks, KnowsWorks, RunsKeepWorks}
+use Rattle.arj_lock_fact_law.specs.Worlds.{HandlersKeepWorks, IsFromOne, KnowsWorks, RunsKeepWorks, Said, says_works}
 use Rattle.arj_lock_fact_law.proofs.Fresh.{roots_kept}
 use Rattle.arj_lock_fact_law.proofs.Inner.{ends_kept}
-use Rattle.arj_lock_fact_law.proofs.Kept.{IsGiven, IsKept, keeps_so, runs_so}
+use Rattle.arj_lock_fact_law.proofs.Kept.{IsGiven, IsKept, answers_so, keeps_so, runs_so}
+use Rattle.arj_call_law.proofs.CoordSends.{IsSentBy}
 use Rattle.arj_lock_fact_law.proofs.Waits.{waits_kept}
 
 -- what is kept without known Binds is kept with them
-pub kept_with : (R : BoundReply → Type 0) (Q : Coord → Type 0) → coords.IsKept Q → IsKept R Q
-kept_with R Q kept = record {
+pub kept_with : (S : Said) (Q : Coord → Type 0) → ((c : Coord) → Q c → (to : ℕ) (h : Head) (a : Ask) → IsSentBy c to h a → S.request h a) → coords.IsKept Q → IsKept S Q
+kept_with S Q says kept = record {
+  says = says;
   new = kept.new;
   hears = λ sent k c place from a r intents fits given q. kept.hears place.actions (paths_of place.actions) (begun_tree place.actions place.begun) from a r intents c place.good q;
   acks = λ sent k c place from u intents q. kept.acks from u intents c q;
@@ -25,11 +29,23 @@ kept_with R Q kept = record {
   asks = λ sent k c place q. kept.asks c.doings c q;
 }
 
-abbrev Any : BoundReply → Type 0
-Any r = ⊤
+-- an Invoke that is sent is that of a call which waits
+from_one : (c : Coord) → KnowsWaits c → (to : ℕ) (h : Head) (a : Ask) → IsSentBy c to h a → IsFromOne h a
+from_one c knows to h (ask.Invoke x b i ends op) sent =
+    let s = sent.call (record { head = h; x = x; binding = b; inc = i; op = op }) refl in
+    let f = sent.step s.0 s.1 in
+    subst (λ (z : Head). 1 ≤ z.req) (sym f.head) (knows.asks (actor h.path) sent.doing s.0 sent.found s.1)
+from_one c knows to h (ask.Bind x include avoid) sent = tt
+from_one c knows to h (ask.Load x) sent = tt
+from_one c knows to h (ask.Activate b st) sent = tt
+from_one c knows to h (ask.Record x b i g) sent = tt
+from_one c knows to h (ask.Vote i ties ends) sent = tt
+from_one c knows to h (ask.Prepare states) sent = tt
+from_one c knows to h (ask.Confirm grants excluded included) sent = tt
 
-pub works_kept : (R : BoundReply → Type 0) → IsKept R KnowsWorks
+pub works_kept : (R : BoundReply → Type 0) → IsKept (record { request = IsFromOne; answer = R }) KnowsWorks
 works_kept R = record {
+  says = λ c q to h a sent. from_one c q.waits to h a sent;
   new = λ node inc telling. record { waits = w.new node inc telling; roots = r.new node inc telling; ends = e.new node inc telling };
   hears = λ sent k c place from a x intents fits given q. record { waits = w.hears sent k c place from a x intents fits given q.waits; roots = r.hears sent k c place from a x intents fits given q.roots; ends = e.hears sent k c place from a x intents fits given q.ends };
   acks = λ sent k c place from u intents q. record { waits = w.acks sent k c place from u intents q.waits; roots = r.acks sent k c place from u intents q.roots; ends = e.acks sent k c place from u intents q.ends };
@@ -38,16 +54,16 @@ works_kept R = record {
   asks = λ sent k c place q. record { waits = w.asks sent k c place q.waits; roots = r.asks sent k c place q.roots; ends = e.asks sent k c place q.ends };
 }
   where
-    w : IsKept R KnowsWaits
-    w = kept_with R KnowsWaits waits_kept
+    w : IsKept (answers_so R) KnowsWaits
+    w = kept_with (answers_so R) KnowsWaits (λ c q to h a sent. tt) waits_kept
 
-    r : IsKept R HasNoRoots
+    r : IsKept (answers_so R) HasNoRoots
     r = roots_kept R
 
-    e : IsKept R KnowsEnds
+    e : IsKept (answers_so R) KnowsEnds
     e = ends_kept R
 
-nothing_given : IsGiven Any (λ (n : Naming). ⊤)
+nothing_given : IsGiven says_works (λ (n : Naming). ⊤)
 nothing_given = record {
   starts = λ inc d. tt;
   binds = λ p x include avoid d n so. (tt, any (let s = bind p x include avoid d n in s.reply));
@@ -57,12 +73,12 @@ nothing_given = record {
   confirms = λ p grants excluded included d n so. tt;
 }
   where
-    any : (o : Option BoundReply) → IfSome o Any
+    any : (o : Option BoundReply) → IfSome o (λ r. ⊤)
     any None = tt
     any (Some r) = tt
 
 pub works_keep : HandlersKeepWorks
-works_keep hd = keeps_so Any KnowsWorks (λ (n : Naming). ⊤) (works_kept Any) nothing_given hd
+works_keep hd = keeps_so says_works KnowsWorks (λ (n : Naming). ⊤) (works_kept (λ r. ⊤)) nothing_given hd
 
 pub runs_keep : RunsKeepWorks
-runs_keep hd es = runs_so Any KnowsWorks (λ (n : Naming). ⊤) (works_kept Any) nothing_given hd es
+runs_keep hd es = runs_so says_works KnowsWorks (λ (n : Naming). ⊤) (works_kept (λ r. ⊤)) nothing_given hd es

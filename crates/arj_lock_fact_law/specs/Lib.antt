@@ -1,2 +1,3 @@
 pub mod Works
 pub mod Worlds
+pub mod Given

@@ -1,4 +1,5 @@
 // Coordinators, in every run.
+ghost use Rattle.arj_lock_fact_law.specs.Given.{ActionsAreTopped, BroughtAreUnserial, CommitsAreFirst, FreeAreLone, ListedAreUnserial, NewRootsAreEmpty, RequestsWant, WaitersAreLone};
 ghost use Rattle.arj_lock_fact_law.specs.Worlds.{HandlersKeepWorks, RunsKeepWorks};
 
 /// In every run each coordinator that is up is in order: of two actions that wait none stands above the other, calls ask by numbers from 1
@@ -7,4 +8,24 @@ ghost use Rattle.arj_lock_fact_law.specs.Worlds.{HandlersKeepWorks, RunsKeepWork
 pub fn coordinators_stay_in_order()
     ensures handlers { HandlersKeepWorks }
     ensures runs { RunsKeepWorks }
+{}
+
+/// What a good coordinator in order gives to its view by the machine. An action that waits is alone on its path and below it, and so is one
+/// whose call, include or commit isn't refused, which waits for nothing; no other top of the root is at its commit where a top's commit
+/// isn't refused; each action has in the machine the top of its path; no list of ends has that of a serializing action; and a root that
+/// begins has nothing yet. It does nothing when it runs.
+pub fn premises_of_coordinators()
+    ensures lone { WaitersAreLone }
+    ensures free { FreeAreLone }
+    ensures first { CommitsAreFirst }
+    ensures topped { ActionsAreTopped }
+    ensures listed { ListedAreUnserial }
+    ensures brought { BroughtAreUnserial }
+    ensures roots { NewRootsAreEmpty }
+{}
+
+/// Where all calls by one request are one, and have numbers from 1 on, there is what each request that was sent wants of an object: an
+/// Invoke of it its operation under its binding, an Invoke of another one nothing. It does nothing when it runs.
+pub fn requests_want_one_thing()
+    ensures { RequestsWant }
 {}

@@ -1,0 +1,63 @@
+-- What these facts give: premises of the lock machine's view of coordinators and servers.
+use Rattle.std.specs.Prelude.{◌≡◌, ◌≢◌, ℕ, true, false, List, Some}
+use Rattle.arj_protocol.specs.Words.{Ask, Head, Uid, asks}
+use Rattle.arj_protocol.specs.Words.kind
+use Rattle.arj_protocol.specs.Ask.{actor}
+use Rattle.arj_protocol.specs.Commit.{Machine, plan_of}
+use Rattle.arj_protocol.specs.Coord.{Committing, Coord, Doing, Idle, doing_of, no_root, root_at}
+use Rattle.arj_protocol.specs.Step.{is_waiting_now, sibling_waits, waits_above, waits_below}
+use Rattle.arj_protocol.specs.Tree.{Branch, branch_of, ends_of, next_uid}
+use Rattle.arj_part_law.specs.Coords.{IsGoodCoord}
+use Rattle.arj_call_law.specs.Servers.{AreOneCall}
+use Rattle.arj_view_law.specs.Seen.{In, Post}
+use Rattle.arj_lock_view_law.specs.Acting.{IsFirst}
+use Rattle.arj_lock_view_law.specs.Actions.{IsLone}
+use Rattle.arj_lock_view_law.specs.Inputs.{AreTopped}
+use Rattle.arj_lock_view_law.specs.Listed.{AreUnserial}
+use Rattle.arj_lock_view_law.specs.Serving.{IsWanted}
+use Rattle.arj_lock_view_law.specs.Servers.{Wants}
+use Rattle.arj_lock_view_law.specs.Telling.{AreOneTree, Family, View}
+use Rattle.arj_lock_fact_law.specs.Works.{HasNoRoots, KnowsEnds, KnowsWaits}
+use Rattle.arj_lock_fact_law.specs.Worlds.{IsFromOne}
+
+-- A good coordinator of actions that were begun, which are one tree in the machine.
+pub record IsPlaced (g : Family) (c : Coord) : Type 0 where
+  pub whole : AreOneTree g
+  pub good : IsGoodCoord g.begun g.paths c
+
+-- an action that waits is alone on its path, and below it
+abbrev pub WaitersAreLone : Type 0
+WaitersAreLone = (g : Family) (c : Coord) (u : Uid) (d : Doing) → IsPlaced g c → KnowsWaits c → doing_of u c ≡ Some d → is_waiting_now d.now ≡ true → IsLone g.paths u c
+
+-- An action that isn't refused, since nothing waits above or below it, waits for nothing and is alone there.
+abbrev pub FreeAreLone : Type 0
+FreeAreLone = (g : Family) (c : Coord) (b : Branch) (d : Doing) → IsPlaced g c → branch_of (actor b.path) c.tree ≡ Some b → doing_of (actor b.path) c ≡ Some d → waits_above b c ≡ false → waits_below b c ≡ false → (d.now ≡ Idle) × IsLone g.paths (actor b.path) c
+
+-- Where the commit of a top isn't refused no other top of its root is at its commit.
+abbrev pub CommitsAreFirst : Type 0
+CommitsAreFirst = (g : Family) (c : Coord) (b : Branch) → IsPlaced g c → branch_of (actor b.path) c.tree ≡ Some b → b.kind ≢ kind.Serial → b.kind ≢ kind.Nested → waits_above b c ≡ false → sibling_waits b c ≡ false → IsFirst g.act c (actor b.path)
+
+-- the machine has as top of each action the top of its path
+abbrev pub ActionsAreTopped : Type 0
+ActionsAreTopped = (g : Family) (c : Coord) → IsPlaced g c → AreTopped g.act c
+
+-- The ends that a coordinator lists, and that its commits bring, are of no serializing action.
+abbrev pub ListedAreUnserial : Type 0
+ListedAreUnserial = (g : Family) (c : Coord) (root : Uid) → IsPlaced g c → KnowsEnds c → AreUnserial c (ends_of root c.tree)
+
+abbrev pub BroughtAreUnserial : Type 0
+BroughtAreUnserial = (g : Family) (c : Coord) (u : Uid) (d : Doing) (m : Machine) → IsPlaced g c → KnowsEnds c → doing_of u c ≡ Some d → d.now ≡ Committing m → AreUnserial c (let p = plan_of m in p.ends)
+
+-- a root that begins has nothing yet
+abbrev pub NewRootsAreEmpty : Type 0
+NewRootsAreEmpty = (c : Coord) → HasNoRoots c → root_at (next_uid c.tree) c ≡ no_root
+
+-- ---- what requests want
+
+-- an Invoke in this message, of any object
+abbrev pub SentWants : ℕ → List Post → Wants → Type 0
+SentWants x sent wants = (v : View) (p : Post) (h : Head) (a : Ask) → v.x ≡ x → v.wants ≡ wants → In p sent → asks p.message ≡ Some (h, a) → IsWanted v h a
+
+-- Where calls by one request are one, and have numbers from 1 on, there is what each request that was sent wants of the object.
+abbrev pub RequestsWant : Type 0
+RequestsWant = (x : ℕ) (sent : List Post) → AreOneCall sent → ((p : Post) → In p sent → (h : Head) (a : Ask) → asks p.message ≡ Some (h, a) → IsFromOne h a) → (wants : Wants) × SentWants x sent wants
