@@ -68,7 +68,7 @@ pub record SeesNothing (inc : ℕ) (S : State) : Type 0 where
 
 -- Naming stops: the machine waits. Counts of bindings have 32 bits.
 abbrev pub FallsAreSeen : Type 0
-FallsAreSeen = (act : Acts) (owner : Owners) (x : ℕ) (n : Place) (o : Named) (S : State) → n.count + 1 < 4294967296 → IsGood owner x n o → SeesNamed act x n o S → SeesNothing n.inc S
+FallsAreSeen = (act : Acts) (owner : Owners) (x : ℕ) (n : Place) (o : Named) (S : State) → n.count < 4294967296 → IsGood owner x n o → SeesNamed act x n o S → SeesNothing n.inc S
 
 -- Naming is up again in a later incarnation, whatever rows it gives back: the machine's naming restarts, and nobody is told of
 -- or confirmed.

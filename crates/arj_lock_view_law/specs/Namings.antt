@@ -117,7 +117,7 @@ ConfirmsAreTaken = (v : View) (owner : Owners) (p : Path) (grants : Grants) (exc
 
 -- It stops: the machine waits. Counts of bindings have 32 bits.
 abbrev pub NamingStops : Type 0
-NamingStops = (v : View) (owner : Owners) (n : Naming) (S : State) → n.count + 1 < 4294967296 → IsGoodAt v owner n → SeesNaming v n S → SeesNothing n.inc S
+NamingStops = (v : View) (owner : Owners) (n : Naming) (S : State) → n.count < 4294967296 → IsGoodAt v owner n → SeesNaming v n S → SeesNothing n.inc S
 
 -- Before it first starts it is down too.
 abbrev pub NamingIsDown : Type 0
