@@ -1,1 +1,11 @@
 pub mod PostSteps
+pub mod OtherSteps
+pub mod MoveSteps
+pub mod GoodSteps
+pub mod HaltSteps
+pub mod WalkSteps
+pub mod TopSteps
+pub mod ShownSteps
+pub mod LeftSteps
+pub mod HandleSteps
+pub mod LineSteps

@@ -1,6 +1,6 @@
 -- What a run's own relations have to give beside what is seen in the machine, so that what naming and servers do is seen again.
-use Rattle.std.specs.Prelude.{◌≡◌, ◌<◌, ◌+◌, ◌*◌, ◌||◌, ℕ, List, [], true, false, Some, Contains, is_some}
-use Rattle.arj_protocol.specs.Words.{End, Message, Path, Row, Uid, before_last, is_held_by, is_on}
+use Rattle.std.specs.Prelude.{◌≡◌, ◌<◌, ◌*◌, ◌||◌, ℕ, List, [], true, false, Option, Some, Contains, is_some}
+use Rattle.arj_protocol.specs.Words.{End, Message, Path, Row, Uid, before_last, is_held_by, is_on, uids_of}
 use Rattle.arj_protocol.specs.Words.ending
 use Rattle.arj_protocol.specs.Words.kind
 use Rattle.arj_protocol.specs.Words.message
@@ -13,7 +13,6 @@ use Rattle.arj_protocol.specs.Naming.{Naming}
 use Rattle.arj_protocol.specs.Node.{Parts}
 use Rattle.arj_protocol.specs.Order.{at_number}
 use Rattle.arj_protocol.specs.Server.{Server, is_told}
-use Rattle.arj_protocol.specs.Tree.{root_of}
 use Rattle.arj_lock_law.specs.Actions as machine
 use Rattle.arj_lock_law.specs.Actions.{Act, Root, is_top, root}
 use Rattle.arj_lock_law.specs.State as machine_state
@@ -106,16 +105,23 @@ pub record KnowsServer (c : Case) (s : Spot) : Type 0 where
 abbrev pub IsConfirmedNow : Case → Uid → Type 0
 IsConfirmedNow c u = (let S = c.state in let m = S.naming in m.confirmed (place_in c u)) ≡ true
 
--- Naming made fewer bindings than are told apart, and the object is good there. An abort that comes to it of a committed top whose
--- unit isn't over is of one that it didn't confirm. Where the commit of a constituent comes that it confirmed, each row of that can
--- pass to its serializing action; and of a nested action it has nothing. Where it confirmed a top before, or has entries of it
--- prepared, the machine's naming confirmed that once, if it was asked to.
+-- It made fewer bindings than are told apart, and the object is good there.
+pub record HoldsNaming (c : Case) (k : ℕ) (n : Naming) : Type 0 where
+  pub count : n.count < 4294967296
+  pub good : IsGoodAt (view_in c k) (owners_of c.begun) n
+
+-- so it is where the node has naming
+abbrev pub HoldsNamingIn : Case → ℕ → Option Naming → Type 0
+HoldsNamingIn c k o = (n : Naming) → o ≡ Some n → HoldsNaming c k n
+
+-- Besides: an abort that comes to it of a committed top whose unit isn't over is of one that it didn't confirm. Where the commit of a
+-- constituent comes that it confirmed, each row of that can pass to its serializing action; and of a nested action it has nothing.
+-- Where it confirmed a top before, or has entries of it prepared, the machine's naming confirmed that once, if it was asked to.
 pub record KnowsNaming (c : Case) (s : Spot) (n : Naming) : Type 0 where
-  pub count : n.count + 1 < 4294967296
-  pub good : IsGoodAt (view_in c s.node) (owners_of c.begun) n
+  pub holds : HoldsNaming c s.node n
   pub unconfirmed : (u : Uid) → IsToldAbort s u → is_on n.told u ≡ false → IsCommittedTop c u → (IsUnitOver c u → ⊥) → IsConfirmedNow c u → ⊥
   pub heirs : (o : Named) (a : Action) → at_number c.x n.objects ≡ Some o → Contains c.begun a → a.kind ≡ kind.Constituent → IsToldCommit s (act_of a) → is_on n.told (act_of a) ≡ false → IsConfirmedNow c (act_of a)
-      → (r : Row) → Contains o.rows r → is_held_by (act_of a) r ≡ true → before_last r.holder ≡ Some (root_of a.path)
+      → (r : Row) → Contains o.rows r → is_held_by (act_of a) r ≡ true → before_last r.holder ≡ before_last (uids_of a.path)
   pub nothing : (o : Named) (a : Action) → at_number c.x n.objects ≡ Some o → Contains c.begun a → a.kind ≡ kind.Nested → IsToldCommit s (act_of a) → is_on n.told (act_of a) ≡ false → HasNothingAt n o (act_of a)
   pub again : (p : Path) (g : ℕ) → machine.In (machine_state.Confirm (place_in c (top_of p)) (g * 4294967296)) (let S = c.state in S.net) → (is_on n.confirmed (top_of p) || is_prepared (top_of p) (let d = s.disk in d.names)) ≡ true → (let S = c.state in S.confirmed (place_in c (top_of p))) ≡ true
 

@@ -1,7 +1,7 @@
 -- The whole world, as the lock machine of one object has it: each node, up or down, every message that was sent, and what was not
 -- begun yet.
-use Rattle.std.specs.Prelude.{◌≡◌, ◌≢◌, ◌≤◌, ◌⊎◌, ℕ, ◌+◌, true, List, Option, Some, None, Contains, is_some, length}
-use Rattle.arj_protocol.specs.Words.{Uid}
+use Rattle.std.specs.Prelude.{◌≡◌, ◌≢◌, ◌≤◌, ◌⊎◌, ℕ, ◌+◌, ◌==◌, true, List, Option, Some, None, Contains, is_some, length}
+use Rattle.arj_protocol.specs.Words.{Uid, first_uid}
 use Rattle.arj_protocol.specs.Words.ending
 use Rattle.arj_protocol.specs.Effect.{Disk, Intent}
 use Rattle.arj_protocol.specs.Naming.{Naming}
@@ -36,20 +36,25 @@ pub record IsPast (v : View) (u : Uid) (S : State) : Type 0 where
 abbrev pub ArePast : View → Tree → State → Type 0
 ArePast v t S = (a : Action) → Contains v.family.begun a → (let u = act_of a in u.node) ≡ v.node → ((b : Branch) × (branch_of (act_of a) t ≡ Some b)) ⊎ IsPast v (act_of a) S
 
+-- each action of the tree has its root at this node
+abbrev pub AreHome : View → Tree → Type 0
+AreHome v t = (u : Uid) (b : Branch) → branch_of u t ≡ Some b → (let r = first_uid (v.family.paths u) in r.node) ≡ v.node
+
 -- a top with this record is committed, but for one
 abbrev pub AreRecordsOf : View → Option Uid → List (Uid × Intent) → State → Type 0
 AreRecordsOf v last intents S = (u : Uid) (i : Intent) → at_uid u intents ≡ Some i → (last ≡ Some u) ⊎ HasEnded v S u ending.Commit
 
 -- ---- a node
 
--- A node that is up: its server, its coordinator, and naming where it has that, in the incarnation of its disk; all others of its
--- actions are past, and each top with a record is committed.
+-- A node that is up: its server, its coordinator, and naming at node 1, in the incarnation of its disk; all others of its actions are
+-- past, and each top with a record is committed.
 pub record SeesUp (v : View) (S : State) (d : Disk) (t : Parts) : Type 0 where
   pub server : Sees v t.server S
   pub coord : SeesWhole v.family.act v.code v.x t.coord S
   pub naming : SeesNamingIn v S t.naming
   pub inc : (n : Naming) → t.naming ≡ Some n → n.inc ≡ d.inc
-  pub there : v.node ≡ 1 → is_some t.naming ≡ true
+  pub place : is_some t.naming ≡ (v.node == 1)
+  pub home : AreHome v t.coord.tree
   pub past : ArePast v t.coord.tree S
   pub records : AreRecordsOf v None d.intents S
 
@@ -62,6 +67,7 @@ pub record SeesDown (v : View) (S : State) (d : Disk) : Type 0 where
   pub last : Option Uid
   pub stopped : HasStopped v.family.act tree last S
   pub decided : (u : Uid) → last ≡ Some u → is_some (at_uid u d.intents) ≡ true
+  pub home : AreHome v tree
   pub past : ArePast v tree S
   pub records : AreRecordsOf v last d.intents S
 

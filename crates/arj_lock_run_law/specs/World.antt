@@ -1,17 +1,17 @@
 -- What is shown of the whole world: what each handler leaves seen, wherever a stop falls.
 use Rattle.std.specs.Prelude.{◌≡◌, ℕ, true, false, Bool, List, is_some, not, Contains}
-use Rattle.arj_protocol.specs.Words.{Message}
+use Rattle.arj_protocol.specs.Words.{Body, Message}
 use Rattle.arj_protocol.specs.Words.message
 use Rattle.arj_protocol.specs.Ask.{answers}
-use Rattle.arj_protocol.specs.Effect.{Effect}
+use Rattle.arj_protocol.specs.Effect.{Disk, Effect}
 use Rattle.arj_protocol.specs.Node.{Parts, Took, handle, is_meant}
 use Rattle.arj_lock_law.specs.Machine.{Run}
 use Rattle.arj_lock_law.specs.State.{State}
 use Rattle.arj_part_law.specs.Actions.{Action}
-use Rattle.arj_view_law.specs.Seen.{In, Post, Seen, Within}
-use Rattle.arj_view_law.specs.Walks.{Up, Walks}
+use Rattle.arj_view_law.specs.Seen.{In, Post, Seen, Within, down, said}
+use Rattle.arj_view_law.specs.Walks.{Up, Walks, halted}
 use Rattle.arj_lock_view_law.specs.Calling.{IsReached}
-use Rattle.arj_lock_run_law.specs.Beside.{Case, IsSeenIn, KnowsSpot, Spot, world_at}
+use Rattle.arj_lock_run_law.specs.Beside.{Case, HoldsNamingIn, IsSeenIn, KnowsSpot, Spot, world_at}
 use Rattle.arj_lock_run_law.specs.Fixed.{Agrees, Fixed}
 use Rattle.arj_lock_run_law.specs.Posts.{IsPostSeen}
 use Rattle.arj_lock_run_law.specs.Sees.{SeesLocks}
@@ -27,11 +27,22 @@ is_for_parts (message.Query m) = false
 is_for_parts m = not (is_some (answers m))
 
 -- A node takes a message that isn't for its coordinator: a request, ends that are told, a Hello. The object is seen again, wherever a
--- stop falls.
+-- stop falls. Naming has few bindings and a good object after it too.
 abbrev pub MessagesGo : Type 0
 MessagesGo = (c : Case) (s : Spot) (e from : ℕ) (m : Message) (v : Parts) (outs : List Effect)
-    → IsSeenIn c (world_at s) → KnowsSpot c s → In (record { from = from; to = s.node; message = m }) (let M = s.seen in M.sent) → is_for_parts m ≡ true → is_meant s.parts m ≡ true → handle s.node s.disk s.parts from m ≡ Took v outs
+    → IsSeenIn c (world_at s) → KnowsSpot c s → HoldsNamingIn c s.node v.naming → In (record { from = from; to = s.node; message = m }) (let M = s.seen in M.sent) → is_for_parts m ≡ true → is_meant s.parts m ≡ true → handle s.node s.disk s.parts from m ≡ Took v outs
     → Walks (IsSeenSo c) e s.node outs (Up (IsSeenSo c) s.node v) s.disk s.seen
+
+-- A node stops, or is down and is said to have stopped: the object is seen again.
+abbrev pub StopsGo : Type 0
+StopsGo = (c : Case) (s : Spot) (e : ℕ) → IsSeenIn c (world_at s) → HoldsNamingIn c s.node (let t = s.parts in t.naming) → IsSeenSo c (halted e s.node s.disk s.seen)
+
+abbrev pub DownStays : Type 0
+DownStays = (c : Case) (e k : ℕ) (d : Disk) (M : Seen) → SeesLocks c.fixed c.x c.begun c.state (down k d M) → IsSeenSo c (halted e k d M)
+
+-- Lines leave it seen, whatever they say.
+abbrev pub LinesStay : Type 0
+LinesStay = (c : Case) (e : ℕ) (bs : List Body) (M : Seen) → SeesLocks c.fixed c.x c.begun c.state M → SeesLocks c.fixed c.x c.begun c.state (said e bs M)
 
 -- What a message shows it shows in every later state of the machine, as more is sent and more actions begin.
 abbrev pub PostsStay : Type 0

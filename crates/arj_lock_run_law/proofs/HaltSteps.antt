@@ -1,0 +1,109 @@
+-- A node stops: its open actions are aborted in the machine, and all others are seen as they were.
+use Rattle.std.proofs.Common.{◌≡◌, ◌≤◌, ◌∙◌, ◌==◌, ℕ, List, [], ◌∷◌, true, false, Option, Some, None, refl, sym, ap, subst, ⊎_elim, arith, Contains}
+use Rattle.std.specs.Prelude.{is_some}
+use Rattle.arj_protocol.specs.Words.{Uid, is_on}
+use Rattle.arj_protocol.specs.Words.body
+use Rattle.arj_protocol.specs.Effect.{Disk}
+use Rattle.arj_protocol.specs.Naming.{Naming}
+use Rattle.arj_protocol.specs.Node.{Parts}
+use Rattle.arj_protocol.specs.Tree.{Branch, branch_of}
+use Rattle.arj_lock_law.specs.Actions.{Act, In, Root, is_action, on, root}
+use Rattle.arj_lock_law.specs.State as state
+use Rattle.arj_lock_law.specs.State.{State}
+use Rattle.arj_lock_law.proofs.Paths.{by_cases, on_base, root_is}
+use Rattle.arj_part_law.specs.Actions.{Action, act_of, action_of}
+use Rattle.arj_view_law.specs.Seen.{Seen}
+use Rattle.arj_view_law.specs.Walks.{halted}
+use Rattle.arj_lock_view_law.specs.Actions.{IsIdle, IsSteady}
+use Rattle.arj_lock_view_law.specs.Begins.{IsUntouched}
+use Rattle.arj_lock_view_law.specs.Ends.{SeesNothing}
+use Rattle.arj_lock_view_law.specs.Hearing.{SeesNamingIn}
+use Rattle.arj_lock_view_law.specs.Stops.{IsUnitOf, OnlyStopped}
+use Rattle.arj_lock_view_law.specs.Telling.{View}
+use Rattle.arj_lock_view_law.proofs.ServerSteps.{servers_stop}
+use Rattle.arj_lock_view_law.proofs.StartNamingSteps.{naming_stops}
+use Rattle.arj_lock_view_law.proofs.StopSteps.{stops_are_taken}
+use Rattle.arj_lock_view_law.proofs.TreeSteps.{above_there}
+use Rattle.arj_part_law.specs.Actions.{owners_of}
+use Rattle.arj_lock_run_law.specs.Beside.{HoldsNamingIn}
+use Rattle.arj_lock_run_law.specs.Fixed.{Fixed, view_of}
+use Rattle.arj_lock_run_law.specs.Sees.{IsFresh, IsUnbegun, SeesDown, SeesLocks, SeesUp}
+use Rattle.arj_lock_run_law.proofs.MoveSteps.{memory_stopped, nothing_on}
+use Rattle.arj_lock_run_law.proofs.OtherSteps.{SeesOthers, others_go, past_on, reached_of, records_on, said_others, with_here}
+
+module _ (f : Fixed) (x : ℕ) (begun : List Action) (k : ℕ) where
+  abbrev v : View
+  v = view_of f x begun k
+
+  -- ---- a node that is down
+
+  pub halt_down : (e : ℕ) (S : State) (d : Disk) (M : Seen) → SeesOthers f x begun k S M → SeesDown v S d → SeesLocks f x begun S (halted e k d M)
+  halt_down e S d M others s = with_here f x begun k d None S _ (said_others f x begun k e (body.Halted k ∷ []) S M others) s
+
+  -- ---- a node that is up
+
+  module _ (S T : State) (t : Parts) (steady : IsSteady f.act f.paths t.coord) (of : (u : Uid) (b : Branch) → branch_of u t.coord.tree ≡ Some b → Contains begun (action_of b)) (only : OnlyStopped f.act t.coord.tree S T) where
+    -- an action of the tree was begun
+    was_begun : (u : Uid) (b : Branch) → branch_of u t.coord.tree ≡ Some b → (a : Action) × Contains begun a × (act_of a ≡ u)
+    was_begun u b found = (action_of b, of u b found, (let g = steady.good in let r = g.tree in let l = r.lists in l.places u b found))
+
+    -- who stands in a unit of the tree, and isn't an action of the machine, was begun
+    unit_begun : (u : Uid) → is_action (f.act u) ≡ false → IsUnitOf f.act t.coord.tree (root (f.act u)) → (a : Action) × Contains begun a × (act_of a ≡ u)
+    unit_begun u isnt (w, b, found, same) =
+        let stands : f.act u ≡ Root (root (f.act w)) = root_is (f.act u) isnt ∙ ap Root same in
+        let up : is_on (f.paths w) u ≡ true = sym (steady.alike.above w u) ∙ ap (on (f.act w)) stands ∙ on_base (f.act w) in
+        let c = above_there f.paths steady.whole t.coord.tree (let g = steady.good in let r = g.tree in r.lists) u w b found up in
+        was_begun u c.0 c.1
+
+    same_untouched : (u : Uid) → IsUnbegun begun u → T.action (f.act u) ≡ S.action (f.act u)
+    same_untouched u un = ⊎_elim action unit (by_cases (is_action (f.act u)))
+      where
+        action : is_action (f.act u) ≡ true → T.action (f.act u) ≡ S.action (f.act u)
+        action holds = ⊎_elim (λ same. same) (λ h. (let w = h.0 in let q = was_begun w.0 w.1 w.2 in absurd (un q.0 q.1 (q.2 ∙ sym (steady.alike.one u w.0 w.3))))) (only.ends (f.act u) holds)
+
+        unit : is_action (f.act u) ≡ false → T.action (f.act u) ≡ S.action (f.act u)
+        unit isnt = only.others (f.act u) (λ its. (let q = unit_begun u isnt its in un q.0 q.1 q.2))
+
+    fresh_stopped : IsFresh f begun S → IsFresh f begun T
+    fresh_stopped fresh = record {
+      actions = λ u un. subst IsUntouched (sym (same_untouched u un)) (fresh.actions u un);
+      units = λ n none. (let o = fresh.units n none in record {
+        stage = ap (λ (a : state.Action). a.stage) (same_in n none (Root n) refl) ∙ o.stage;
+        waits = ap (λ (a : state.Action). a.waits) (same_in n none (Root n) refl) ∙ o.waits;
+        idle = λ a home its. subst IsIdle (sym (same_in n none a home)) (o.idle a home its);
+        kept = ap (λ (s : State). s.kept n) only.rest ∙ o.kept;
+        calls = λ d there. o.calls d (subst (λ (s : State). In d s.calls) only.rest there);
+        includes = λ d there. o.includes d (subst (λ (s : State). In d s.includes) only.rest there);
+      });
+    }
+      where
+        same_in : (n : ℕ) → ((a : Action) → Contains begun a → root (f.act (act_of a)) ≡ n → ⊥) → (a : Act) → root a ≡ n → T.action a ≡ S.action a
+        same_in n none a home = only.others a (λ (w, b, found, same). (let q = was_begun w b found in none q.0 q.1 (ap (λ (z : Uid). root (f.act z)) q.2 ∙ sym same ∙ home)))
+
+  -- where the node has naming, that stops
+  naming_down : (R S T : State) (d : Disk) (o : Option Naming) → is_some o ≡ (k == 1) → HoldsNamingIn (record { fixed = f; x = x; begun = begun; state = R }) k o → ((n : Naming) → o ≡ Some n → n.inc ≡ d.inc) → T.naming ≡ S.naming → SeesNamingIn v S o → k ≡ 1 → SeesNothing d.inc T
+  naming_down R S T d None place holds inc same sees one = absurd (let no_naming : false ≡ true = place ∙ ap (λ (j : ℕ). j == 1) one in cc no_naming)
+  naming_down R S T d (Some n) place holds inc same sees one =
+      let h = holds n refl in
+      nothing_on d.inc S T same (subst (λ (i : ℕ). SeesNothing i S) (inc n refl) (naming_stops v (owners_of begun) n S h.count h.good sees))
+
+  pub halt_up : (e : ℕ) (R S : State) (d : Disk) (t : Parts) (M : Seen) → IsSteady f.act f.paths t.coord → ((u : Uid) (b : Branch) → branch_of u t.coord.tree ≡ Some b → Contains begun (action_of b)) → t.server.inc ≡ d.inc
+      → HoldsNamingIn (record { fixed = f; x = x; begun = begun; state = R }) k t.naming → SeesOthers f x begun k S M → SeesUp v S d t → (T : State) × SeesLocks f x begun T (halted e k d M)
+  halt_up e R S d t M steady of level holds others s =
+      let g = stops_are_taken f.act f.code f.paths x t.coord None S steady tt s.coord in
+      let T = g.state in
+      let only = g.holds.1 in
+      let next = others_go f x begun k S T M others g.run (λ j n other is seen. memory_stopped S T (reached_of f x begun k S M others) g.run v t.coord.tree steady.alike s.home only j n.disk n.live other seen) (fresh_stopped S T t steady of only others.fresh) (let q = others.now in let e : T.now ≡ S.now = ap (λ (z : State). z.now) only.rest in omega (arith, q, e)) in (
+        T,
+        halt_down e T d M next (record {
+          server = subst (λ (i : ℕ). (T.server k).incarnation ≤ i) level (subst (λ (z : ℕ → state.Server). (z k).incarnation ≤ t.server.inc) (sym (ap (λ (z : State). z.server) only.rest)) (servers_stop v t.server S s.server));
+          naming = naming_down R S T d t.naming s.place holds s.inc (ap (λ (z : State). z.naming) only.rest) s.naming;
+          tree = t.coord.tree;
+          last = None;
+          stopped = g.holds.0;
+          decided = λ u is. absurd (cc is);
+          home = s.home;
+          past = past_on S T only.ended v t.coord.tree s.past;
+          records = records_on S T only.ended v None d.intents s.records;
+        }),
+      )

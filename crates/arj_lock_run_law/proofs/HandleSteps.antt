@@ -1,0 +1,326 @@
+-- A node takes a message that isn't for its coordinator: the machine goes along, and the object is seen in the whole world.
+use Rattle.std.proofs.Common.{◌≡◌, ◌⊎◌, ◌∙◌, ◌==◌, ℕ, List, [], ◌∷◌, true, cond, eqb-true, length, Option, Some, None, refl, sym, ap, subst, inl, inr, ⊎_elim, Contains, arith}
+use Rattle.std.specs.Prelude.{is_some}
+use Rattle.arj_lock.proofs.Members as list
+use Rattle.arj_lock.proofs.Members.{in_to}
+use Rattle.arj_protocol.specs.Words.{Ask, Asked, End, Head, Message, Uid, asks}
+use Rattle.arj_protocol.specs.Words.ask
+use Rattle.arj_protocol.specs.Words.ending
+use Rattle.arj_protocol.specs.Words.message
+use Rattle.arj_protocol.specs.Words.voted
+use Rattle.arj_protocol.specs.Words.confirmed
+use Rattle.arj_protocol.specs.Ask.{Reply, answers, asked_by, last_end, response}
+use Rattle.arj_protocol.specs.Coord.{Coord}
+use Rattle.arj_protocol.specs.Effect.{Disk, Do, Effect, Say, Send}
+use Rattle.arj_protocol.specs.Named.{Named}
+use Rattle.arj_protocol.specs.Naming.{Naming}
+use Rattle.arj_protocol.specs.Node.{Handled, Parts, Took, Void, handle, handle_ask, is_meant, taken}
+use Rattle.arj_protocol.specs.Tree.{Branch, branch_of}
+use Rattle.arj_lock_law.specs.Actions.{Act, In}
+use Rattle.arj_lock_law.specs.Machine.{Run}
+use Rattle.arj_lock_law.specs.State as state
+use Rattle.arj_lock_law.specs.State.{Ballot, State}
+use Rattle.arj_lock_law.proofs.Order.{go_on}
+use Rattle.arj_part_law.specs.Actions.{action_of, owners_of}
+use Rattle.arj_part_law.specs.Frames.{outs_of}
+use Rattle.arj_view_law.specs.Seen as seen
+use Rattle.arj_view_law.specs.Seen.{Post, Seen, Within}
+use Rattle.arj_view_law.specs.Walks.{Up, Walks}
+use Rattle.arj_lock_view_law.specs.Actions.{IsSteady}
+use Rattle.arj_lock_view_law.specs.Calling.{IsReached}
+use Rattle.arj_lock_view_law.specs.Going.{Goes, OnlyNaming}
+use Rattle.arj_lock_view_law.specs.Handling.{AreAnswersShown, OnlyServing, ShowsReply, server_after}
+use Rattle.arj_lock_view_law.specs.Hearing.{AreRepliesShown, IsAskedShown, IsEndShown, IsOtherShown, IsRequestShown, IsShownBy, SeesNamingIn, ShowsNamingReply, Site, naming_after}
+use Rattle.arj_lock_view_law.specs.Inputs.{SeesWhole}
+use Rattle.arj_lock_view_law.specs.Namings.{ShowsEndAt}
+use Rattle.arj_lock_view_law.specs.Telling.{Sees, View}
+use Rattle.arj_lock_view_law.proofs.HandledSteps.{messages_are_taken}
+use Rattle.arj_lock_view_law.proofs.HearingSteps.{messages_are_heard}
+use Rattle.arj_lock_view_law.proofs.ReplySteps.{replies_stay_shown}
+use Rattle.arj_lock_run_law.specs.Beside.{Case, HoldsNamingIn, IsSeenIn, KnowsSpot, Spot, view_in, world_at}
+use Rattle.arj_lock_run_law.specs.Posts.{IsAnswerSeen, IsPostSeen}
+use Rattle.arj_lock_run_law.specs.Fixed.{Fixed}
+use Rattle.arj_lock_run_law.specs.Sees.{AreHome, ArePast, SeesUp}
+use Rattle.arj_lock_run_law.specs.World.{IsSeenSo, MessagesGo, is_for_parts}
+use Rattle.arj_lock_run_law.proofs.GoodSteps.{good_node, server_level, steady}
+use Rattle.arj_lock_run_law.proofs.HaltSteps.{halt_up}
+use Rattle.arj_lock_run_law.proofs.LeftSteps.{AreSentTo, IsLeft, IsPlain, IsSentTo, Leaves, message_left, void_without}
+use Rattle.arj_lock_run_law.proofs.MoveSteps.{action_is, action_named, coord_named, coord_serving, memory_named, memory_serving, naming_serving, sees_named}
+use Rattle.arj_lock_run_law.proofs.OtherSteps.{SeesOthers, fresh_named, fresh_on, now_named, others_go, others_of, past_on, records_on}
+use Rattle.arj_lock_run_law.proofs.ShownSteps.{shown_to_naming, shown_to_server, up_here}
+use Rattle.arj_lock_run_law.proofs.WalkSteps.{AreSendsSeen, up_same, walked}
+
+-- ---- what naming counts on is left by a server
+
+-- as the machine's servers and votes change, and more is sent
+module _ (S : State) (servers : ℕ → state.Server) (yes : Act → ℕ) (vote : Act → Ballot) (net : List state.Message) (sent : (z : state.Message) → In z S.net → In z net) (a : Site) (n : Naming) where
+  abbrev T : State
+  T = record S { server = servers; yes = yes; vote = vote; net = net }
+
+  v : View
+  v = a.view
+
+  end_beside : (o : Named) (u : Uid) (e : End) → ShowsEndAt a.view n o S u e → ShowsEndAt a.view n o T u e
+  end_beside o u ending.Abort h = h
+  end_beside o u ending.Commit (inl h) = inl h
+  end_beside o u ending.Commit (inr (inl h)) = inr (inl (h.0, (let p = h.1 in record { unit = p.unit; number = p.number; serial = p.serial; below = p.below; committed = p.committed; heirs = p.heirs })))
+  end_beside o u ending.Commit (inr (inr h)) = inr (inr h)
+
+  last_beside : (e : Option (Uid × End)) → IsEndShown a n S e → IsEndShown a n T e
+  last_beside None h = tt
+  last_beside (Some (u, e)) h = record { one = h.one; owned = h.owned; good = h.good; shown = λ o at fresh. end_beside o u e (h.shown o at fresh) }
+
+  other_beside : (m : Message) → IsOtherShown a n S m → IsOtherShown a n T m
+  other_beside (message.Told m) h = last_beside (last_end m.ends) h
+  other_beside _ h = tt
+
+  request_beside : (h : Head) (q : Ask) → IsRequestShown a n S h q → IsRequestShown a n T h q
+  request_beside h (ask.Bind y include avoid) shown = shown
+  request_beside h (ask.Record y b i g) shown = (shown.0, λ about. (let k = shown.1 about in (sent _ k.0, k.1)))
+  request_beside h (ask.Confirm grants excluded included) shown = (shown.0, (let k = shown.1 in record { sent = λ g given. sent _ (k.sent g given); again = k.again }))
+  request_beside h _ shown = tt
+
+  asked_beside : (m : Message) (q : Option (Head × Ask)) → IsAskedShown a n S m q → IsAskedShown a n T m q
+  asked_beside m None h = other_beside m h
+  asked_beside m (Some q) h = request_beside q.0 q.1 h
+
+naming_counts : (a : Site) (v : View) (m : Message) (S T : State) → OnlyServing v m S T → (o : Option Naming) → IsShownBy a S m (asks m) o → IsShownBy a T m (asks m) o
+naming_counts a v m S T only None h = tt
+naming_counts a v m S T only (Some n) h = subst (λ (z : State). IsAskedShown a n z m (asks m)) (sym only.rest) (asked_beside S T.server T.yes T.vote T.net only.sent a n m (asks m) h)
+
+-- ---- a message
+
+module _ (c : Case) (s : Spot) (from : ℕ) (m : Message) (p : Parts) (outs : List Effect) (is_seen : IsSeenIn c (world_at s)) (knows : KnowsSpot c s) (there : seen.In (record { from = from; to = s.node; message = m }) (let M = s.seen in M.sent))
+    (mine : is_for_parts m ≡ true) (meant : is_meant s.parts m ≡ true) (is : handle s.node s.disk s.parts from m ≡ Took p outs) where
+  abbrev f : Fixed
+  f = c.fixed
+
+  abbrev k : ℕ
+  k = s.node
+
+  abbrev t : Parts
+  t = s.parts
+
+  abbrev d : Disk
+  d = s.disk
+
+  abbrev M : Seen
+  M = s.seen
+
+  abbrev S : State
+  S = c.state
+
+  abbrev V : View
+  V = view_in c k
+
+  abbrev site : Site
+  site = record { view = V; owner = owners_of c.begun; disk = d }
+
+  taken_is : taken k d t from m ≡ Took p outs
+  taken_is = (λ i. cond (meant i) (handle k d t from m) (Void [])) ∙ is
+
+  left : IsLeft t p outs × AreSentTo from (asks m) outs
+  left = subst (Leaves t from (asks m)) is (message_left k d t from m mine)
+
+  others_S : SeesOthers f c.x c.begun k S M
+  others_S = others_of f c.x c.begun k d (Some t) S M is_seen.sees
+
+  here : SeesUp V S d t
+  here = up_here c s from m is_seen knows there
+
+  -- ---- its server
+
+  first : Goes S (λ T. Sees V p.server T × OnlyServing V m S T × AreAnswersShown V T outs (asks m))
+  first = subst (λ (r : Handled). Goes S (λ T. Sees V (server_after t r) T × OnlyServing V m S T × AreAnswersShown V T (outs_of r) (asks m))) taken_is
+      (messages_are_taken V d t from m S (shown_to_server c s from m is_seen knows there) here.server)
+
+  abbrev T1 : State
+  T1 = first.state
+
+  only1 : OnlyServing V m S T1
+  only1 = first.holds.1
+
+  reached1 : IsReached T1
+  reached1 = (f.first, go_on others_S.run first.run)
+
+  others1 : SeesOthers f c.x c.begun k T1 M
+  others1 = others_go f c.x c.begun k S T1 M others_S first.run (λ j n other at seen_there. memory_serving V m S T1 only1 (view_in c j) n.disk n.live other seen_there)
+      (fresh_on f c.begun S T1 (action_is V m S T1 only1) (ap (λ (z : State). z.kept) only1.rest) (ap (λ (z : State). z.calls) only1.rest) (ap (λ (z : State). z.includes) only1.rest) others_S.fresh)
+      (let o = others_S.now in let e : T1.now ≡ S.now = ap (λ (z : State). z.now) only1.rest in omega (arith, o, e))
+
+  naming1 : SeesNamingIn V T1 t.naming
+  naming1 = naming_serving V m S T1 only1 V t.naming here.naming
+
+  coord1 : SeesWhole f.act f.code c.x t.coord T1
+  coord1 = coord_serving V m S T1 only1 V t.coord here.coord
+
+  -- ---- all of it
+
+  -- where the machine is after it
+  record HasGone (T : State) : Type 0 where
+    run : Run S T
+    others : SeesOthers f c.x c.begun k T M
+    up : SeesUp V T d p
+    answers : AreAnswersShown V T outs (asks m)
+    replies : AreRepliesShown V T outs (asks m)
+
+  up_with : (T : State) → T.action ≡ S.action → Sees V p.server T → SeesWhole f.act f.code c.x t.coord T → SeesNamingIn V T p.naming → SeesUp V T d p
+  up_with T same server coord naming =
+      let l = left.0 in
+      record {
+        server = server;
+        coord = subst (λ (q : Coord). SeesWhole f.act f.code c.x q T) (sym l.coord) coord;
+        naming = naming;
+        inc = λ n at. (let q = l.inc n at in q.2 ∙ here.inc q.0 q.1);
+        place = l.place ∙ here.place;
+        home = subst (λ (q : Coord). AreHome V q.tree) (sym l.coord) here.home;
+        past = subst (λ (q : Coord). ArePast V q.tree T) (sym l.coord) (past_on S T (λ a ended. ap (λ (g : Act → state.Action). g a) same) V t.coord.tree here.past);
+        records = records_on S T (λ a ended. ap (λ (g : Act → state.Action). g a) same) V None d.intents here.records;
+      }
+
+  at_one : k ≡ 1 → (T : State) × HasGone T
+  at_one one =
+      let g : Goes T1 (λ T. SeesNamingIn V T p.naming × OnlyNaming T1 T × AreRepliesShown V T outs (asks m)) =
+      subst (λ (r : Handled). Goes T1 (λ T. SeesNamingIn V T (naming_after t r) × OnlyNaming T1 T × AreRepliesShown V T (outs_of r) (asks m))) taken_is
+      (messages_are_heard site t from m T1 (naming_counts site V m S T1 only1 t.naming (shown_to_naming c s from m is_seen knows there)) naming1) in
+      let T2 = g.state in
+      let only = g.holds.1 in (
+        T2,
+        record {
+          run = go_on first.run g.run;
+          others = others_go f c.x c.begun k T1 T2 M others1 g.run (λ j n other at seen_there. memory_named T1 T2 reached1 g.run only (view_in c j) n.disk n.live (λ its. other (its ∙ sym one)) seen_there)
+              (fresh_named f c.begun T1 T2 only others1.fresh)
+              (now_named T1 T2 (length M.lines) only others1.now);
+          up = up_with T2 (action_named T1 T2 reached1 g.run only ∙ action_is V m S T1 only1) (sees_named T1 T2 reached1 g.run only V p first.holds.0) (coord_named T1 T2 reached1 g.run only V t.coord coord1) g.holds.0;
+          answers = later_answers T2 g.run (asks m) first.holds.2;
+          replies = g.holds.2;
+        },
+      )
+    where
+      later_answers : (T2 : State) → Run T1 T2 → (q : Option (Head × Ask)) → AreAnswersShown V T1 outs q → AreAnswersShown V T2 outs q
+      later_answers T2 run None shown = tt
+      later_answers T2 run (Some q) shown = λ its to z i. (let r = shown its to z i in (r.0, r.1, replies_stay_shown V q.0 q.1 r.0 T1 T2 reached1 run r.2))
+
+  elsewhere : (k ≡ 1 → ⊥) → (T : State) × HasGone T
+  elsewhere other = (
+    T1,
+    record {
+      run = first.run;
+      others = others1;
+      up = up_with T1 (action_is V m S T1 only1) first.holds.0 coord1 (none_there p.naming (let l = left.0 in l.place ∙ here.place));
+      answers = first.holds.2;
+      replies = no_replies (asks m) refl;
+    },
+  )
+    where
+      not_one : (j : ℕ) → (j ≡ 1 → ⊥) → (j == 1) ≡ true → ⊥
+      not_one j never its = never (eqb-true j 1 its)
+
+      none_there : (o : Option Naming) → is_some o ≡ (k == 1) → SeesNamingIn V T1 o
+      none_there None place = tt
+      none_there (Some n) place = absurd (not_one k other (sym place))
+
+      none_here : (o : Option Naming) → is_some o ≡ (k == 1) → o ≡ None
+      none_here None place = refl
+      none_here (Some n) place = absurd (not_one k other (sym place))
+
+      no_replies : (q : Option (Head × Ask)) → asks m ≡ q → AreRepliesShown V T1 outs q
+      no_replies None its = tt
+      no_replies (Some q) its = λ for_it to z i. absurd (let bad : Void [] ≡ Took p outs = sym (void_without k d t from q.0 q.1 for_it (none_here t.naming here.place)) ∙ sym (ap (handle_ask k d t from m) its) ∙ is in cc bad)
+
+  gone : (T : State) × HasGone T
+  gone = ⊎_elim at_one elsewhere (one_or k)
+    where
+      one_or : (j : ℕ) → (j ≡ 1) ⊎ (j ≡ 1 → ⊥)
+      one_or j = grind arith
+
+  -- ---- what is sent
+
+  module _ (T : State) (has : HasGone T) where
+    -- what an answer shows isn't about the node
+    server_at_node : (j : ℕ) (h : Head) (a : Ask) (r : Reply) → ShowsReply V h a T r → ShowsReply (view_in c j) h a T r
+    server_at_node j h (ask.Activate b st) (Reply.Activated i) shows = shows
+    server_at_node j h (ask.Invoke y b i ends o) (Reply.Invoked r) shows = shows
+    server_at_node j h (ask.Vote i ties ends) (Reply.Voted (voted.Yes states)) shows = shows
+    server_at_node j h _ _ shows = tt
+
+    naming_at_node : (j : ℕ) (h : Head) (a : Ask) (r : Reply) → ShowsNamingReply V h a T r → ShowsNamingReply (view_in c j) h a T r
+    naming_at_node j h (ask.Bind y include avoid) (Reply.Bound r) shows = shows
+    naming_at_node j h (ask.Record y b i g) (Reply.Noted r) shows = shows
+    naming_at_node j h (ask.Confirm grants excluded included) (Reply.Confirmed confirmed.Yes) shows = shows
+    naming_at_node j h _ _ shows = tt
+
+    -- a request's answer shows what it asked for
+    shown_by : (h : Head) (a : Ask) → asks m ≡ Some (h, a) → (to : ℕ) (z : Message) → list.In (Send to z) outs → (r : Reply) × (z ≡ response (asked_by h) r) × ShowsReply V h a T r × ShowsNamingReply V h a T r
+    shown_by h a its to z i = by a (subst (AreAnswersShown V T outs) its has.answers) (subst (AreRepliesShown V T outs) its has.replies) (subst (λ (q : Option (Head × Ask)). AreSentTo from q outs) its left.1 to z i)
+      where
+        in_outs : Contains outs (Send to z)
+        in_outs = in_to (Send to z) outs i
+
+        by : (b : Ask) → AreAnswersShown V T outs (Some (h, b)) → AreRepliesShown V T outs (Some (h, b)) → IsSentTo from (Some (h, b)) to z → (r : Reply) × (z ≡ response (asked_by h) r) × ShowsReply V h b T r × ShowsNamingReply V h b T r
+        by (ask.Activate b st) answers replies sent = let r = answers refl to z in_outs in (r.0, r.1, r.2, tt)
+        by (ask.Invoke y b i ends o) answers replies sent = let r = answers refl to z in_outs in (r.0, r.1, r.2, tt)
+        by (ask.Vote i ties ends) answers replies sent = let r = answers refl to z in_outs in (r.0, r.1, r.2, tt)
+        by (ask.Bind y include avoid) answers replies sent = let r = replies refl to z in_outs in (r.0, r.1, tt, r.2)
+        by (ask.Record y b i g) answers replies sent = let r = replies refl to z in_outs in (r.0, r.1, tt, r.2)
+        by (ask.Confirm grants excluded included) answers replies sent = let r = replies refl to z in_outs in (r.0, r.1, tt, r.2)
+        by (ask.Load y) answers replies sent = (sent.1.0, sent.1.1, tt, tt)
+        by (ask.Prepare states) answers replies sent = (sent.1.0, sent.1.1, tt, tt)
+
+    -- an answer that goes out
+    answer_seen : (to : ℕ) (q : Asked) (r : Reply) (wide : List Post) → IsAnswerSeen (view_in c to) wide (record { from = k; to = to; message = response q r }) (q, r) T → IsPostSeen f c.x c.begun wide T (record { from = k; to = to; message = response q r })
+    answer_seen to q (Reply.Bound r) wide h = h
+    answer_seen to q (Reply.Loaded r) wide h = h
+    answer_seen to q (Reply.Activated r) wide h = h
+    answer_seen to q (Reply.Noted r) wide h = h
+    answer_seen to q (Reply.Invoked r) wide h = h
+    answer_seen to q (Reply.Voted r) wide h = h
+    answer_seen to q (Reply.Prepared r) wide h = h
+    answer_seen to q (Reply.Confirmed r) wide h = h
+
+    plain_seen : (to : ℕ) (z : Message) (wide : List Post) → IsPlain z → IsPostSeen f c.x c.begun wide T (record { from = k; to = to; message = z })
+    plain_seen to (message.Acked z) wide plain = tt
+    plain_seen to (message.Query z) wide plain = tt
+    plain_seen to _ wide plain = absurd plain
+
+    sent_seen : (to : ℕ) (z : Message) → list.In (Send to z) outs → (wide : List Post) → Within M.sent wide → IsPostSeen f c.x c.begun wide T (record { from = k; to = to; message = z })
+    sent_seen to z i wide within = by (asks m) refl
+      where
+        by : (q : Option (Head × Ask)) → asks m ≡ q → IsPostSeen f c.x c.begun wide T (record { from = k; to = to; message = z })
+        by None its = plain_seen to z wide (subst (λ (q : Option (Head × Ask)). IsSentTo from q to z) its (left.1 to z i))
+        by (Some (h, a)) its =
+            let r = shown_by h a its to z i in
+            let back : to ≡ from = (subst (λ (q : Option (Head × Ask)). IsSentTo from q to z) its (left.1 to z i)).0 in
+            subst (λ (w : Message). IsPostSeen f c.x c.begun wide T (record { from = k; to = to; message = w })) (sym r.1) (answer_seen to (asked_by h) r.0 wide (record {
+              request = m;
+              asked = within (record { from = to; to = k; message = m }) (subst (λ (j : ℕ). seen.In (record { from = j; to = k; message = m }) M.sent) (sym back) there);
+              head = h;
+              ask = a;
+              is = its;
+              of = refl;
+              server = server_at_node to h a r.0 r.2;
+              naming = naming_at_node to h a r.0 r.3;
+            }))
+
+    sends_by : (es : List Effect) → ((to : ℕ) (z : Message) → list.In (Send to z) es → list.In (Send to z) outs) → AreSendsSeen f c.x c.begun k T M.sent es
+    sends_by [] each = tt
+    sends_by (Say b ∷ es) each = (tt, sends_by es (λ to z i. each to z (inr i)))
+    sends_by (Do w ∷ es) each = (tt, sends_by es (λ to z i. each to z (inr i)))
+    sends_by (Send to z ∷ es) each = ((λ wide within. sent_seen to z (each to z (inl refl)) wide within), sends_by es (λ j w i. each j w (inr i)))
+
+  -- ---- the walk
+
+  pub message_goes : (e : ℕ) → HoldsNamingIn c s.node p.naming → Walks (IsSeenSo c) e k outs (Up (IsSeenSo c) k p) d M
+  message_goes e after =
+      let T = gone.0 in
+      let has = gone.1 in
+      walked f c.x c.begun k S T e p d.inc d.intents M.sent
+      (λ h N same others. halt_up f c.x c.begun k e S T h p N (subst (λ (q : Coord). IsSteady f.act f.paths q) (sym (let l = left.0 in l.coord)) (steady c s is_seen)) known (server_level c s is_seen from m p outs is ∙ sym same.0) after others (up_same f c.x c.begun k T d h p same.0 same.1 has.up))
+      (λ h same. up_same f c.x c.begun k T d h p same.0 same.1 has.up)
+      outs d M (sends_by T has outs (λ to z i. i)) (let l = left.0 in l.plain) (λ r i. i) (refl, refl) has.others
+    where
+      known : (u : Uid) (b : Branch) → branch_of u p.coord.tree ≡ Some b → Contains c.begun (action_of b)
+      known u b found = (let g = good_node c s is_seen in let h = g.coord in h.known) u b (subst (λ (q : Coord). branch_of u q.tree ≡ Some b) (let l = left.0 in l.coord) found)
+
+pub messages_go : MessagesGo
+messages_go c s e from m p outs is_seen knows after there mine meant is = message_goes c s from m p outs is_seen knows there mine meant is e after

@@ -1,0 +1,100 @@
+-- A node's effects are walked through where the machine has gone along before: what is sent is shown, and each stop is seen.
+use Rattle.std.proofs.Common.{◌≡◌, ◌∙◌, ℕ, List, [], ◌∷◌, Bool, true, false, Some, sym, subst, inr}
+use Rattle.std.specs.Prelude.{⊤}
+use Rattle.std.specs.List.{AllByRecursion, list_all}
+use Rattle.std.proofs.lemmas.Bool.{and_parts}
+use Rattle.arj_protocol.specs.Words.{Uid}
+use Rattle.arj_protocol.specs.Words.role
+use Rattle.arj_protocol.specs.Effect.{After, Before, Disk, Effect, InPart, Intent, Say, Send, Do, Stop, Work, Look, PutInc, Prepare, Commit, Abort, PutIntent, RemoveIntent, stopped, worked}
+use Rattle.arj_protocol.specs.Node.{Parts}
+use Rattle.arj_protocol.specs.Order.{at_uid}
+use Rattle.arj_protocol.specs.Says.{AreAll}
+use Rattle.arj_lock_law.specs.State.{State}
+use Rattle.arj_part_law.specs.Actions.{Action}
+use Rattle.arj_view_law.specs.Seen.{Post, Seen, Within, posted, said}
+use Rattle.arj_view_law.specs.Walks.{Up, Walks, halted}
+use Rattle.arj_lock_run_law.specs.Fixed.{Fixed, view_of}
+use Rattle.arj_lock_run_law.specs.Posts.{IsPostSeen}
+use Rattle.arj_lock_run_law.specs.Sees.{SeesLocks, SeesUp}
+use Rattle.arj_lock_run_law.specs.World.{IsSeenSo}
+use Rattle.arj_lock_run_law.proofs.OtherSteps.{SeesOthers, posted_others, said_others, with_here}
+
+-- ---- work that leaves the incarnation and the records
+
+abbrev pub leaves_work : Work → Bool
+leaves_work (PutInc i) = false
+leaves_work (PutIntent u i) = false
+leaves_work (RemoveIntent u) = false
+leaves_work _ = true
+
+abbrev pub leaves : Effect → Bool
+leaves (Do w) = leaves_work w
+leaves _ = true
+
+-- the disk has these
+abbrev pub HasSame : ℕ → List (Uid × Intent) → Disk → Type 0
+HasSame i js d = (d.inc ≡ i) × (d.intents ≡ js)
+
+pub worked_same : (i : ℕ) (js : List (Uid × Intent)) (w : Work) (d : Disk) → leaves_work w ≡ true → HasSame i js d → HasSame i js (worked w d)
+worked_same i js Look d ok h = h
+worked_same i js (PutInc j) d ok h = absurd (cc ok)
+worked_same i js (Prepare role.Store u states) d ok h = h
+worked_same i js (Prepare role.Names u states) d ok h = h
+worked_same i js (Commit role.Store u) d ok h = h
+worked_same i js (Commit role.Names u) d ok h = h
+worked_same i js (Abort role.Store u) d ok h = h
+worked_same i js (Abort role.Names u) d ok h = h
+worked_same i js (PutIntent u e) d ok h = absurd (cc ok)
+worked_same i js (RemoveIntent u) d ok h = absurd (cc ok)
+
+pub stopped_same : (i : ℕ) (js : List (Uid × Intent)) (how : Stop) (w : Work) (d : Disk) → leaves_work w ≡ true → HasSame i js d → HasSame i js (stopped how w d)
+stopped_same i js Before w d ok h = h
+stopped_same i js After w d ok h = worked_same i js w d ok h
+stopped_same i js (InPart which) Look d ok h = h
+stopped_same i js (InPart which) (PutInc j) d ok h = h
+stopped_same i js (InPart which) (Prepare r u states) d ok h = h
+stopped_same i js (InPart which) (Commit role.Store u) d ok h = h
+stopped_same i js (InPart which) (Commit role.Names u) d ok h = h
+stopped_same i js (InPart which) (Abort r u) d ok h = h
+stopped_same i js (InPart which) (PutIntent u e) d ok h = h
+stopped_same i js (InPart which) (RemoveIntent u) d ok h = h
+
+-- ---- the walk
+
+module _ (f : Fixed) (x : ℕ) (begun : List Action) (k : ℕ) where
+  -- what is sent is shown, whatever else was sent
+  abbrev pub IsSendSeen : State → List Post → Effect → Type 0
+  IsSendSeen T sent (Send to m) = (wide : List Post) → Within sent wide → IsPostSeen f x begun wide T (record { from = k; to = to; message = m })
+  IsSendSeen T sent _ = ⊤
+
+  abbrev pub AreSendsSeen : State → List Post → List Effect → Type 0
+  AreSendsSeen T sent outs = AllByRecursion (IsSendSeen T sent) outs
+
+  -- a node that is up is seen by its incarnation and its records alone
+  pub up_same : (T : State) (d e : Disk) (t : Parts) → e.inc ≡ d.inc → e.intents ≡ d.intents → SeesUp (view_of f x begun k) T d t → SeesUp (view_of f x begun k) T e t
+  up_same T d e t inc records s = record {
+    server = s.server;
+    coord = s.coord;
+    naming = s.naming;
+    inc = λ n is. s.inc n is ∙ sym inc;
+    place = s.place;
+    home = s.home;
+    past = s.past;
+    records = λ u i found. s.records u i (subst (λ js. at_uid u js ≡ Some i) records found);
+  }
+
+  -- where this is so at each stop, and at the end
+  module _ (S T : State) (e : ℕ) (v : Parts) (i : ℕ) (js : List (Uid × Intent)) (sent : List Post)
+      (halt : (d : Disk) (M : Seen) → HasSame i js d → SeesOthers f x begun k T M → (U : State) × SeesLocks f x begun U (halted e k d M))
+      (end : (d : Disk) → HasSame i js d → SeesUp (view_of f x begun k) T d v) where
+    pub walked : (outs : List Effect) (d : Disk) (M : Seen) → AreSendsSeen T sent outs → AreAll leaves outs → Within sent M.sent → HasSame i js d → SeesOthers f x begun k T M
+        → Walks (IsSeenSo (record { fixed = f; x = x; begun = begun; state = S })) e k outs (Up (IsSeenSo (record { fixed = f; x = x; begun = begun; state = S })) k v) d M
+    walked [] d M sends plain within same others = λ agrees. (T, with_here f x begun k d (Some v) T M others (end d same))
+    walked (Do w ∷ es) d M sends plain within same others =
+        let p = and_parts (leaves_work w) (list_all leaves es) plain in
+        (λ how agrees. halt (stopped how w d) M (stopped_same i js how w d p.0 same) others, walked es (worked w d) M sends.1 p.1 within (worked_same i js w d p.0 same) others)
+    walked (Say b ∷ es) d M sends plain within same others = walked es d (said e (b ∷ []) M) sends.1 plain within same (said_others f x begun k e (b ∷ []) T M others)
+    walked (Send to m ∷ es) d M sends plain within same others = λ more quiet.
+        let p : Post = record { from = k; to = to; message = m } in
+        walked es d (said e more (posted p M)) sends.1 plain (λ q there. inr (within q there)) same
+        (said_others f x begun k e more T (posted p M) (posted_others f x begun k p T M others (sends.0 (p ∷ M.sent) (λ q there. inr (within q there)))))

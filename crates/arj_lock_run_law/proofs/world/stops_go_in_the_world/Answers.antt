@@ -1,0 +1,11 @@
+use Rattle.arj_lock_run_law.proofs.LineSteps.{down_stays, lines_stay, stops_go}
+use Rattle.arj_lock_run_law.proofs.world.stops_go_in_the_world.Goals as goal
+
+pub returns-clause-up : goal.returns-clause-up
+returns-clause-up c = stops_go
+
+pub returns-clause-down : goal.returns-clause-down
+returns-clause-down c = down_stays
+
+pub returns-clause-lines : goal.returns-clause-lines
+returns-clause-lines c = lines_stay
