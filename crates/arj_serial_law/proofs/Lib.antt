@@ -7,3 +7,4 @@ pub mod Values
 pub mod Order
 pub mod Begun
 pub mod Codes
+pub mod Locks

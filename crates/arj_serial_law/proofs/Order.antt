@@ -141,7 +141,7 @@ module _ (lines : List Line) (right : AreRight new_book lines) where
   sound : AreSound (acts lines)
   sound = its_sound lines right
 
-  listed : AreItsTops lines
+  pub listed : AreItsTops lines
   listed = let s = is_sound lines right in s.listed
 
   -- the top of a top's path is itself
@@ -230,6 +230,9 @@ module _ (values : Values) (lines : List Line) (right : AreRight new_book lines)
   -- A surviving call of a committed top: its item, and the machine's call; and its top.
   pub record IsShown (k : Call) : Type 0 where
     pub item : Placed Said
+    pub item_there : In item (said lines)
+    pub item_object : item.it.x ≡ x
+    pub call_object : k.x ≡ x
     pub call : state.Call
     pub there : machine.In call S.calls
     pub is : IsCallOf tied.act tied.code item call
@@ -245,7 +248,7 @@ module _ (values : Values) (lines : List Line) (right : AreRight new_book lines)
     pub top_number : k.top ≡ number.id
     pub chain : k.chain ≡ ids (chain_in (path_of lines made_by.maker))
 
-  find_call : (ss : List (Placed Said)) (cs : List state.Call) → AreCallsOf tied.act tied.code ss cs → (s : Placed Said) → In s ss → (c : state.Call) × machine.In c cs × IsCallOf tied.act tied.code s c
+  pub find_call : (ss : List (Placed Said)) (cs : List state.Call) → AreCallsOf tied.act tied.code ss cs → (s : Placed Said) → In s ss → (c : state.Call) × machine.In c cs × IsCallOf tied.act tied.code s c
   find_call [] cs are s i = absurd i
   find_call (t ∷ ss) [] are s i = absurd are
   find_call (t ∷ ss) (c ∷ cs) are s (inl same) = (c, inl refl, subst (λ (z : Placed Said). IsCallOf tied.act tied.code z c) same are.0)
@@ -264,6 +267,9 @@ module _ (values : Values) (lines : List Line) (right : AreRight new_book lines)
       let said_so = c.2 in
       record {
         item = f.0;
+        item_there = f.1;
+        item_object = sym shape.1 ∙ is;
+        call_object = is;
         call = c.0;
         there = c.1;
         is = c.2;

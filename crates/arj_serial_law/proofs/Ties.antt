@@ -49,7 +49,7 @@ found_by : (us : List (Placed Uid)) (u : Uid) → list_any (λ (e : Placed Uid).
 found_by [] u is = absurd (cc is)
 found_by (e ∷ us) u is = ⊎_elim (λ here. (e, inl refl, uid_is e.it u here)) (λ there. let r = found_by us u there in (r.0, inr r.1, r.2)) (or_which (uid_eq e.it u) (list_any (λ (z : Placed Uid). uid_eq z.it u) us) is)
 
-as_said : (lines : List Line) (a : Act) (m : state.Action) → EndsSo lines a m → IsAsSaid lines a m
+pub as_said : (lines : List Line) (a : Act) (m : state.Action) → EndsSo lines a m → IsAsSaid lines a m
 as_said lines a m h = record {
   done = λ done. ⊎_elim
       (λ own. let e = ended_by (committed lines) a.id own in (h.commit e.0 (in_to e.0 (committed lines) e.1) e.2).0)
@@ -60,7 +60,7 @@ as_said lines a m h = record {
   commit = λ e there same. (h.commit e there same).1;
 }
 
-pub tie_of : (values : Values) (lines : List Line) (x : ℕ) (S : State) → IsTied values lines x S → Tie values lines x S
+abbrev pub tie_of : (values : Values) (lines : List Line) (x : ℕ) (S : State) → IsTied values lines x S → Tie values lines x S
 tie_of values lines x S t = let l = t.tied in record {
   act = t.act;
   code = t.code;

@@ -5,11 +5,14 @@
 //! the machine (`arj_lock_law`), on what ties it to lines (`arj_lock_line_law`), on the laws of journals whose lines are
 //! right (`arj_line_law`), and on the lock book (`arj_law`). What it gives upward: `tied_journals_are_serial`: a journal
 //! whose lines are right, as that of each run, and that is tied to a machine for each object, keeps the lock book and is
-//! serial, with nested actions each whole at its commit.
+//! serial, with nested actions each whole at its commit; and `tied_journals_hold_locks`, where each machine was seen after
+//! each line (`specs/Locked.antt`).
 #![tactic(auto)]
 
+mod locked;
 mod places;
 mod serial;
 
+pub use locked::{tied_calls_are_locked_for, tied_journals_hold_locks};
 pub use places::{begun_actions_have_their_paths, values_have_codes};
 pub use serial::{tied_journals_are_serial, tied_journals_keep_the_lock_book};

@@ -1,0 +1,65 @@
+-- The lock tables of a journal against the machine of an object, and calls that are locked for.
+use Rattle.std.specs.Prelude.{◌≡◌, ◌<◌, ◌≤◌, ℕ, ◌==◌, ◌&&◌, length, take, List, Bool, true, false, Option, Some, None, Contains}
+use Rattle.std.specs.List.{AllByRecursion, list_any}
+use Rattle.arj_base.specs.Rows.{Row, last_uid}
+use Rattle.arj_base.specs.Uid.{entry, object, uid_eq}
+use Rattle.arj_base.specs.declared.uid.Uid.{Uid}
+use Rattle.arj_journal.specs.declared.body.Line.{Line}
+use Rattle.arj_model.specs.Actions.{Act, Placed, acts, root_in, uids}
+use Rattle.arj_model.specs.Calls.{Call, Said, committed_calls, said}
+use Rattle.arj_model.specs.Serial.{Values}
+use Rattle.arj_model.specs.Table.{path_by, table}
+use Rattle.arj_law.specs.Held.{locks_for, root_of_call, tables_of, unit_end}
+use Rattle.arj_lock_law.specs.Actions.{root}
+use Rattle.arj_lock_law.specs.Machine.{Run, start}
+use Rattle.arj_lock_law.specs.State.{State}
+use Rattle.arj_lock_view_law.specs.Acts.{Acts}
+use Rattle.arj_lock_view_law.specs.Rows.{SeesRows}
+use Rattle.arj_lock_line_law.specs.Lines.{IsTiedToLines}
+use Rattle.arj_serial_law.specs.Tied.{Began, IsTied, path_of}
+
+-- After so many lines the machine has no rows but those of the journal's tables, at each server and at naming; a row on the object is held
+-- on a path of the journal, and one on its entry by an action of it.
+pub record AreRowsSeen (act : Acts) (lines : List Line) (x p : ℕ) (S : State) : Type 0 where
+  pub servers : (n : ℕ) → SeesRows act (object x) (table n (take p lines)) (let s = S.server n in s.rows)
+  pub naming : SeesRows act (entry x) (table 1 (take p lines)) (let n = S.naming in n.rows)
+  pub holders : (n : ℕ) (r : Row) → Contains (table n (take p lines)) r → r.object ≡ object x → (b : Act) × Began lines b × (r.holder ≡ uids (path_of lines b))
+  pub askers : (r : Row) → Contains (table 1 (take p lines)) r → r.object ≡ entry x → (b : Act) × Began lines b × (last_uid r.holder ≡ b.uid)
+
+-- After so many lines the machine was in a state on its way to the last one, tied to these lines, with their rows.
+pub record IsSeenAt (values : Values) (lines : List Line) (x : ℕ) (T : State) (t : IsTied values lines x T) (p : ℕ) : Type 0 where
+  pub state : State
+  pub before : Run (start t.first) state
+  pub behind : Run state T
+  pub tied : IsTiedToLines t.act t.code values x (take p lines) state
+  pub rows : AreRowsSeen t.act lines x p state
+
+-- the node at which the unit of a call ran: that of the binding which its root kept
+abbrev pub ran_at : (values : Values) (lines : List Line) (x : ℕ) (T : State) → IsTied values lines x T → Call → ℕ
+ran_at values lines x T t c = (let b = T.binding (T.kept (root (t.act c.writer))) in b.server)
+
+-- the action with this Uid is of the root
+abbrev pub is_number : Option ℕ → ℕ → Bool
+is_number None n = false
+is_number (Some m) n = m == n
+
+abbrev pub is_of_root : List Line → ℕ → Uid → Bool
+is_of_root lines n u = is_number (root_in (path_by (acts lines) u)) n
+
+-- the row locks the entry of the call's object for its unit: for the root, or for an action of it
+abbrev pub locks_entry : List Line → Call → Row → Bool
+locks_entry lines c row = uid_eq row.object (entry c.x) && is_of_root lines (root_of_call lines c) (last_uid row.holder)
+
+-- Held, at one place: the call is locked for at this node, and the entry of its object is, for its unit.
+pub record IsLockedAt (lines : List Line) (n p : ℕ) (c : Call) : Type 0 where
+  pub object : list_any (locks_for lines c) (tables_of lines n p) ≡ true
+  pub entry : list_any (locks_entry lines c) (tables_of lines 1 p) ≡ true
+
+-- Entry held: so it is of each surviving call of a committed top, from its `ok` line to the `committing` line of the last
+-- member of its unit.
+abbrev pub EntriesAreHeld : List Line → Type 0
+EntriesAreHeld lines = AllByRecursion (λ (c : Call). (p : ℕ) → c.at < p → p ≤ unit_end lines c → list_any (locks_entry lines c) (tables_of lines 1 p) ≡ true) (committed_calls lines)
+
+-- Each object of which a call was answered has a machine that is tied to the journal, and was seen after each line.
+abbrev pub AreTiedAlong : Values → List Line → Type 0
+AreTiedAlong values lines = (x : ℕ) → list_any (λ (s : Placed Said). s.it.x == x) (said lines) ≡ true → (T : State) × (t : IsTied values lines x T) × ((p : ℕ) → p ≤ length lines → IsSeenAt values lines x T t p)
