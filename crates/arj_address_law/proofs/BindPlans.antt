@@ -25,7 +25,7 @@ use Rattle.arj_address_law.proofs.Lists.{never}
 -- ---- lists
 
 -- an answered call on the object that counts
-counted_said : (x : ℕ) (p : Said → Bool) (ss : List Said) → list_any (λ (s : Said). s.x == x) (filter p ss) ≡ true → (s : Said) × list.In s ss × (s.x ≡ x) × (p s ≡ true)
+pub counted_said : (x : ℕ) (p : Said → Bool) (ss : List Said) → list_any (λ (s : Said). s.x == x) (filter p ss) ≡ true → (s : Said) × list.In s ss × (s.x ≡ x) × (p s ≡ true)
 counted_said x p [] is = let no_way : false ≡ true = is in cc
 counted_said x p (s ∷ ss) is = by (p s) refl is (counted_said x p ss)
   where
@@ -115,7 +115,7 @@ module _ (begun : List Action) (paths : Paths) (tree : IsTree paths) (sent : Lis
     its_path : s.path ≡ paths (last_uid s.path)
     its_path = sym z.path ∙ good.tree.lists.paths_are (last_uid s.path) z.branch z.there
 
-    surviving : survives u s.path c ≡ true → ⊥
+    pub surviving : survives u s.path c ≡ true → ⊥
     surviving is =
         let p = and_parts (is_on s.path u) (is_merged u s.path c.tree) is in
         ⊎_elim (λ low. not_both c.tree w (merged_in c.tree (behind u s.path) w p.1 (ap (λ us. is_on (behind u us) w) its_path ∙ low)) d) (λ up. above_open w up d)
@@ -132,7 +132,7 @@ module _ (begun : List Action) (paths : Paths) (tree : IsTree paths) (sent : Lis
         first_on [] some = absurd (let q : 1 ≤ 0 = some in omega (arith, q))
         first_on (v ∷ vs) some = λ i. uid_same v i || is_on vs v
 
-    retained : is_retained s.path c ≡ true → ⊥
+    pub retained : is_retained s.path c ≡ true → ⊥
     retained is = by s.path refl is on
       where
         below : (first top : Uid) (rest : List Uid) → first ≡ root → (is_kept_top top c && survives top (first ∷ top ∷ rest) c) ≡ true → is_on (first ∷ top ∷ rest) w ≡ true → ⊥

@@ -7,3 +7,4 @@ pub mod Inner
 pub mod Works
 pub mod Given
 pub mod Wants
+pub mod Keeping

@@ -1,5 +1,6 @@
 // Coordinators, in every run.
 ghost use Rattle.arj_lock_fact_law.specs.Given.{ActionsAreTopped, BroughtAreUnserial, CommitsAreFirst, FreeAreLone, ListedAreUnserial, NewRootsAreEmpty, RequestsWant, WaitersAreLone};
+ghost use Rattle.arj_lock_fact_law.specs.Keeping.{PlansHaveKept};
 ghost use Rattle.arj_lock_fact_law.specs.Worlds.{HandlersKeepWorks, RunsKeepWorks};
 
 /// In every run each coordinator that is up is in order: of two actions that wait none stands above the other, calls ask by numbers from 1
@@ -28,4 +29,11 @@ pub fn premises_of_coordinators()
 /// Invoke of it its operation under its binding, an Invoke of another one nothing. It does nothing when it runs.
 pub fn requests_want_one_thing()
     ensures { RequestsWant }
+{}
+
+/// Where a top may commit, what its plan has for a called object is what the top's unit keeps of it: the binding kept first, that names the
+/// server and the incarnation of its place that was heard. It follows from known Binds and the machine's view of the root, and from a law
+/// of the machine: the binding that a plan names is the one its unit keeps (`arj_lock_law`). It does nothing when it runs.
+pub fn plans_have_what_is_kept()
+    ensures { PlansHaveKept }
 {}
