@@ -1,26 +1,30 @@
 -- What coordinators have of naming's answers stays seen as the machine goes on.
 use Rattle.std.proofs.Common.{◌≡◌, ◌⊎◌, ℕ, if◌then◌else◌, Bool, true, false, List, Option, Some, None, refl, sym, ◌∙◌, ap, subst, inl, inr, ⊎_elim}
+use Rattle.std.specs.Prelude.{⊤}
 use Rattle.arj_protocol.specs.Words.{Uid, Ask, BoundReply, Head, asks}
 use Rattle.arj_protocol.specs.Words.ask
 use Rattle.arj_protocol.specs.Words.bound
-use Rattle.arj_protocol.specs.Ask.{Reply, answers, top_of}
-use Rattle.arj_protocol.specs.Call.{Steps}
+use Rattle.arj_protocol.specs.Ask.{Reply, answers, asked_by, top_of}
+use Rattle.arj_protocol.specs.Words.loaded
+use Rattle.arj_protocol.specs.Call.{AtLoad, Known, Steps, is_include}
 use Rattle.arj_protocol.specs.Commit.{Machine}
-use Rattle.arj_protocol.specs.Coord.{Coord, Doing, doing_of, root_at}
+use Rattle.arj_protocol.specs.Coord.{Calling, Coord, Doing, doing_of, root_at}
 use Rattle.arj_protocol.specs.Order.{uid_number}
 use Rattle.arj_protocol.specs.Tree.{at_place, is_own}
 use Rattle.arj_disk_law.specs.Guards.{HasPart}
-use Rattle.arj_disk_law.specs.Names.{Answer, Bound, Office, newer, written_in}
+use Rattle.arj_disk_law.specs.Names.{Answer, Bound, Loaded, Names, Office, newer, written_in}
 use Rattle.arj_disk_law.specs.State.{is_gone}
 use Rattle.arj_disk_law.specs.Words.{In}
 use Rattle.arj_disk_law.proofs.Base.{never}
 use Rattle.arj_view_law.specs.Seen as seen
 use Rattle.arj_view_law.specs.Seen.{Post, Seen}
+use Rattle.arj_call_law.specs.Coords.{head_of}
+use Rattle.arj_disk_view_law.specs.Pairs.{packed}
 use Rattle.arj_disk_view_law.specs.Sees.{IsFixed, IsLater, Kinds}
 use Rattle.arj_names_view_law.specs.Both.{OnlyMemory}
-use Rattle.arj_names_view_law.specs.Calls.{HasGiven}
+use Rattle.arj_names_view_law.specs.Calls.{ClaimsBound, HasGiven}
 use Rattle.arj_names_view_law.proofs.RootsBoth.{root_stays}
-use Rattle.arj_disk_run_law.specs.Heard.{ClaimsAsked, HasNoneOf, IsHadBy, IsListFor, IsOfRoot, IsToStep, SeesHeardAt, SeesPlan, SeesStep}
+use Rattle.arj_disk_run_law.specs.Heard.{ClaimsAsked, HasNoneOf, IsHadBy, IsListFor, IsOfRoot, IsToStep, SeesHeardAt, SeesPlan, SeesStep, IsOfGoal}
 
 -- of this root the machine's grants, kept lists and states are as they were
 pub record StaysOf (tops : Kinds) (root : ℕ) (A B : Office) : Type 0 where
@@ -44,6 +48,16 @@ pub record SendsMore (x : ℕ) (B : Office) (few many : List Post) : Type 0 wher
   pub within : (p : Post) → seen.In p few → seen.In p many
   pub new : (p : Post) → seen.In p many → seen.In p few ⊎ IsNewTo x B p
 
+-- what an answer says to a step
+abbrev pub SaysToStep : ℕ → Steps → Reply → Names → Type 0
+SaysToStep x s (Reply.Bound r) N = IsOfGoal (is_include s.goal) r × ClaimsBound x s.x (uid_number (top_of s.path)) r N
+SaysToStep x s (Reply.Loaded (loaded.State st)) N = (q : Known) (n : ℕ) (rest : List ℕ) → s.at ≡ AtLoad q n rest → is_include s.goal ≡ true → In (Loaded (uid_number (top_of s.path)) q.grant (packed st)) N.answers
+SaysToStep x s _ N = ⊤
+
+-- an answer to a step was sent before, where no answers were sent since
+pub was_to : (x : ℕ) (B : Office) (k : ℕ) (few many : List Post) (s : Steps) → SendsMore x B few many → (r : Reply) → IsToStep k many s r → IsToStep k few s r
+was_to x B k few many s more r to = ⊎_elim (λ old. record { post = to.post; posted = old; node = to.node; answer = to.answer }) (λ (new : IsNewTo x B to.post). absurd (let n : None ≡ Some (asked_by (head_of s), r) = sym new.none ∙ to.answer in cc)) (more.new to.post to.posted)
+
 -- an action at work is the coordinator's
 pub own_doing : (c : Coord) (u : Uid) (q : Doing) → doing_of u c ≡ Some q → is_own u c.tree ≡ true
 own_doing c u q does = by (is_own u c.tree) refl does
@@ -62,17 +76,14 @@ module _ (x : ℕ) (tops : Kinds) (A B : Office) (f : IsFixed tops A.world.disk)
   given_on t (bound.Write g stores) c = on.answers (Bound t g true stores) c
   given_on t (bound.Conflict holder m) c = tt
 
-  -- a step, with more that was sent
-  pub step_stays : (k : ℕ) (few many : List Post) (s : Steps) → SendsMore x B few many → SeesStep x k few s A.names → SeesStep x k many s B.names
-  step_stays k few many s more q = record {
+  -- a step, where each answer that was sent to it was so before, or says what it claims
+  pub step_goes : (k : ℕ) (few many : List Post) (s : Steps) → ((r : Reply) → IsToStep k many s r → IsToStep k few s r ⊎ SaysToStep x s r B.names) → SeesStep x k few s A.names → SeesStep x k many s B.names
+  step_goes k few many s was q = record {
     stands = λ g at. on.had (uid_number (top_of s.path)) g (q.stands g at);
     listed = λ e n rest at inc. let l = q.listed e n rest at inc in record { answered = on.answers (Bound (uid_number (top_of s.path)) e.grant true e.stores) l.answered; stores = l.stores };
-    bound = λ r to. let c = q.bound r (was (Reply.Bound r) to) in (c.0, λ same. given_on (uid_number (top_of s.path)) r (c.1 same));
-    loaded = λ e n rest st at inc to. on.answers _ (q.loaded e n rest st at inc (was _ to));
+    bound = λ r to. ⊎_elim (λ old. let c = q.bound r old in (c.0, λ same. given_on (uid_number (top_of s.path)) r (c.1 same))) (λ new. new) (was (Reply.Bound r) to);
+    loaded = λ e n rest st at inc to. ⊎_elim (λ old. on.answers _ (q.loaded e n rest st at inc old)) (λ new. new e n rest at inc) (was (Reply.Loaded (loaded.State st)) to);
   }
-    where
-      was : (r : Reply) → IsToStep k many s r → IsToStep k few s r
-      was r to = ⊎_elim (λ old. record { post = to.post; posted = old; node = to.node; answer = to.answer }) (λ new. absurd (let n : None ≡ Some _ = sym new.none ∙ to.answer in cc)) (more.new to.post to.posted)
 
   -- ---- a commit
 
@@ -153,15 +164,19 @@ module _ (x : ℕ) (tops : Kinds) (A B : Office) (f : IsFixed tops A.world.disk)
 
   -- ---- a coordinator
 
-  -- a coordinator of which each root stays
-  pub at_stays : (k : ℕ) (few many : List Post) (c : Coord) → SendsMore x B few many → ((u : Uid) → is_own u c.tree ≡ true → (tops.root (uid_number u) ≡ uid_number u) ⊎ (tops.is_top (uid_number u) ≡ true) → StaysOf tops (tops.root (uid_number u)) A B)
-      → SeesHeardAt x k tops few c A → SeesHeardAt x k tops many c B
-  at_stays k few many c more stays p = record {
+  -- a coordinator of which each root stays, where answers that were sent to its steps were so before, or say what they claim
+  pub at_goes : (k : ℕ) (few many : List Post) (c : Coord) → ((u : Uid) (q : Doing) (s : Steps) → doing_of u c ≡ Some q → q.now ≡ Calling s → s.x ≡ x → (r : Reply) → IsToStep k many s r → IsToStep k few s r ⊎ SaysToStep x s r B.names)
+      → ((u : Uid) → is_own u c.tree ≡ true → (tops.root (uid_number u) ≡ uid_number u) ⊎ (tops.is_top (uid_number u) ≡ true) → StaysOf tops (tops.root (uid_number u)) A B) → SeesHeardAt x k tops few c A → SeesHeardAt x k tops many c B
+  at_goes k few many c said stays p = record {
     roots = λ root w. let s = subst (λ r. StaysOf tops r A B) w.alone (stays root w.own (inl w.alone)) in
         root_stays x tops root c (root_at root c) A B f h (p.roots root w) s.had s.kept on.answers s.states;
-    steps = λ u q s does now of. step_stays k few many s more (p.steps u q s does now of);
+    steps = λ u q s does now of. step_goes k few many s (said u q s does now of) (p.steps u q s does now of);
     plans = λ u q m does now. let l = p.plans u q m does now in plan_stays u (stays u (own_doing c u q does) (inr l.top)) m l;
   }
+
+  pub at_stays : (k : ℕ) (few many : List Post) (c : Coord) → SendsMore x B few many → ((u : Uid) → is_own u c.tree ≡ true → (tops.root (uid_number u) ≡ uid_number u) ⊎ (tops.is_top (uid_number u) ≡ true) → StaysOf tops (tops.root (uid_number u)) A B)
+      → SeesHeardAt x k tops few c A → SeesHeardAt x k tops many c B
+  at_stays k few many c more stays p = at_goes k few many c (λ u q s does now of r to. inl (was_to x B k few many s more r to)) stays p
 
 -- where nothing but naming's memory has changed each root stays
 pub memory_goes : (A B : Office) → OnlyMemory A B → GoesOn A B

@@ -13,6 +13,7 @@ pub mod HeardPosts
 pub mod HeardQuiet
 pub mod HeardRestart
 pub mod HeardTick
+pub mod HeardServe
 pub mod HeardStays
 pub mod Holders
 pub mod Given
