@@ -2,6 +2,7 @@
 -- with n lines before it stands at place n + 1 in the machine.
 use Rattle.std.specs.Prelude.{⊤, ◌≡◌, ◌≤◌, ◌+◌, ◌==◌, ℕ, true, false, filter, length, reverse, List, [], ◌∷◌, Contains}
 use Rattle.arj_base.specs.Rows.{last_uid}
+use Rattle.arj_base.specs.Uid.{nobody}
 use Rattle.arj_base.specs.declared.uid.Uid.{Uid}
 use Rattle.arj_class.specs.declared.value.Value.{Value}
 use Rattle.arj_class.specs.Table.{answer_of, value_after, writes}
@@ -13,7 +14,7 @@ use Rattle.arj_model.specs.Calls.{Said, said}
 use Rattle.arj_model.specs.Last.{Inclusion, included}
 use Rattle.arj_model.specs.Serial.{Values}
 use Rattle.arj_line_law.specs.Laws.{IsDone, called}
-use Rattle.arj_lock_law.specs.Actions.{Act}
+use Rattle.arj_lock_law.specs.Actions.{Act, top}
 use Rattle.arj_lock_law.specs.State as machine
 use Rattle.arj_lock_law.specs.State.{State}
 use Rattle.arj_lock_view_law.specs.Acts.{Acts}
@@ -29,16 +30,17 @@ said_on x lines = reverse (filter (λ s. s.it.x == x) (said lines))
 abbrev pub included_on : ℕ → List Line → List (Placed Inclusion)
 included_on x lines = reverse (filter (λ i. i.it.x == x) (included lines))
 
--- One call, as its `ok` line has it: who called, whether it wrote, where the line stands; and a value that it met, which gives the
--- answer of the line, and of which it left the one after the operation.
+-- One call, as its `ok` line has it: who called, whether it wrote, where the line stands; and a value that it met, whichever top wrote
+-- that, which gives the answer of the line, and of which it left the one after the operation, by its own top.
 pub record IsCallOf (act : Acts) (code : Codes) (s : Placed Said) (c : machine.Call) : Type 0 where
   pub caller : c.act ≡ act (last_uid (uids s.it.path))
   pub write : c.write ≡ writes s.it.op
   pub line : c.line ≡ s.at + 1
   pub value : Value
   pub answer : answer_text (answer_of s.it.op value) ≡ s.it.answer
-  pub sees : c.sees ≡ code value
-  pub gives : c.gives ≡ code (value_after s.it.op value)
+  pub by : Act
+  pub sees : c.sees ≡ code value by
+  pub gives : c.gives ≡ code (value_after s.it.op value) (top c.act)
 
 -- so each, one by one
 abbrev pub AreCallsOf : Acts → Codes → List (Placed Said) → List machine.Call → Type 0
@@ -82,7 +84,7 @@ AllEndSo act lines f = (a : model.Act) → Contains (acts lines) a → is_serial
 -- machine's; the answered calls and includes are the machine's, one by one; and its actions end as the journal says.
 pub record IsTiedToLines (act : Acts) (code : Codes) (values : Values) (x : ℕ) (lines : List Line) (S : State) : Type 0 where
   pub now : S.now ≤ length lines + 1
-  pub first : S.initial ≡ code (values x)
+  pub first : S.initial ≡ code (values x) (act nobody)
   pub calls : AreCallsOf act code (said_on x lines) S.calls
   pub includes : AreIncludesOf act (included_on x lines) S.includes
   pub ends : AllEndSo act lines S.action

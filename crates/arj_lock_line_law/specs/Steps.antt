@@ -13,7 +13,7 @@ use Rattle.arj_model.specs.Actions as model
 use Rattle.arj_model.specs.Actions.{Placed, act_in, acts, is_serial, recovered}
 use Rattle.arj_model.specs.Serial.{Values}
 use Rattle.arj_line_law.specs.Laws.{AreDistinct}
-use Rattle.arj_lock_law.specs.Actions.{Act, is_action}
+use Rattle.arj_lock_law.specs.Actions.{Act, is_action, top}
 use Rattle.arj_lock_law.specs.State as machine
 use Rattle.arj_lock_law.specs.State.{State}
 use Rattle.arj_lock_view_law.specs.Acts.{Acts, AreOne}
@@ -59,7 +59,7 @@ GoesBeside act code x lines (body.Aborted l c) S T = CallsStay S T × ((a : mode
 GoesBeside act code x lines (body.Ended l) S T = CallsStay S T × EndsStay S T × ((a : model.Act) × IsNamed lines l a × (is_serial a.kind ≡ true))
 GoesBeside act code x lines (body.Recovered n u) S T = CallsStay S T × ((((let m = S.action (act u) in m.stage) ≡ 3) × EndsStay S T) ⊎ (((let m = S.action (act u) in m.stage) ≤ 2) × ChangesOne (act u) (committed_at (length lines + 1) (S.action (act u))) S T))
 GoesBeside act code x lines (body.Halted n) S T = CallsStay S T × ((a : model.Act) → Contains (acts lines) a → is_serial a.kind ≡ false → (let u = a.uid in u.node) ≢ n → SameEnd (S.action (act a.uid)) (T.action (act a.uid))) × ((a : model.Act) → Contains (acts lines) a → is_serial a.kind ≡ false → (let u = a.uid in u.node) ≡ n → StopsSo (S.action (act a.uid)) (T.action (act a.uid)) × (2 ≤ (let m = T.action (act a.uid) in m.stage)))
-GoesBeside act code x lines (body.Ok l y o r) S T = (T.includes ≡ S.includes) × EndsStay S T × ((a : model.Act) × IsNamed lines l a × (((y ≢ x) × (T.calls ≡ S.calls)) ⊎ ((y ≡ x) × (v : Value) × (r ≡ answer_text (answer_of o v)) × (T.calls ≡ record { act = act a.uid; write = writes o; line = length lines + 1; sees = code v; gives = code (value_after o v) } ∷ S.calls))))
+GoesBeside act code x lines (body.Ok l y o r) S T = (T.includes ≡ S.includes) × EndsStay S T × ((a : model.Act) × IsNamed lines l a × (((y ≢ x) × (T.calls ≡ S.calls)) ⊎ ((y ≡ x) × (v : Value) × (by : Act) × (r ≡ answer_text (answer_of o v)) × (T.calls ≡ record { act = act a.uid; write = writes o; line = length lines + 1; sees = code v by; gives = code (value_after o v) (top (act a.uid)) } ∷ S.calls))))
 GoesBeside act code x lines (body.Includes l y n) S T = (T.calls ≡ S.calls) × EndsStay S T × ((a : model.Act) × IsNamed lines l a × (((y ≢ x) × (T.includes ≡ S.includes)) ⊎ ((y ≡ x) × (grant : ℕ) × (T.includes ≡ record { act = act a.uid; line = length lines + 1; grant = grant } ∷ S.includes))))
 GoesBeside act code x lines b S T = CallsStay S T × EndsStay S T
 

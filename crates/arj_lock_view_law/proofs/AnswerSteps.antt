@@ -15,7 +15,6 @@ use Rattle.arj_protocol.specs.Call.{At, AtActivate, AtBind, AtInvoke, AtLoad, At
 use Rattle.arj_protocol.specs.Coord.{Calling, Coord, Doing, Grant, Keeping, Root, Said, granted_with, is_free, is_grant_of, keeping_of, named_last, no_keeping, root_at, with_keeping}
 use Rattle.arj_protocol.specs.Order.{binding_eq, binding_less, binding_number}
 use Rattle.arj_protocol.specs.Tree.{Branch, root_of}
-use Rattle.arj_protocol.specs.Values.{state_value}
 use Rattle.arj_protocol.proofs.Maps.{put_same}
 use Rattle.arj_lock_law.specs.Actions.{Act, In, root}
 use Rattle.arj_lock_law.specs.Machine.{Guard, next, start, stay, step}
@@ -29,7 +28,7 @@ use Rattle.arj_lock_law.proofs.Paths.{differ, number_self, same_number}
 use Rattle.arj_part_law.specs.Copies.{Paths}
 use Rattle.arj_lock_view_law.specs.Acts.{Acts}
 use Rattle.arj_lock_view_law.specs.Calling.{IsAtWork, IsReached, OnlyCalled, WritesLine}
-use Rattle.arj_lock_view_law.specs.Copies.{Codes}
+use Rattle.arj_lock_view_law.specs.Copies.{Codes, state_code}
 use Rattle.arj_lock_view_law.specs.Ending.{KeepsEnds}
 use Rattle.arj_lock_view_law.specs.Going.{Goes, IsServedBy, ShowsBound}
 use Rattle.arj_lock_view_law.specs.Named.{IsNamedSo, binding_at}
@@ -325,7 +324,7 @@ module _ (act : Acts) (code : Codes) (paths : Paths) (p : ℕ) (c : Coord) (b : 
 
   -- ---- a store answered
 
-  module _ (k : Known) (n : ℕ) (rest : List ℕ) (is : s.at ≡ AtLoad k n rest) (st : ObjectState) (last_one : IsCurrent S.naming (let v = binding_at S k.binding in v.maker) (binding_number k.binding) → LoadsTheLast S (code (state_value st))) where
+  module _ (k : Known) (n : ℕ) (rest : List ℕ) (is : s.at ≡ AtLoad k n rest) (st : ObjectState) (last_one : IsCurrent S.naming (let v = binding_at S k.binding in v.maker) (binding_number k.binding) → LoadsTheLast S (state_code act code st)) where
     stands : SeesStep act code s o kp S (AtLoad k n rest)
     stands = subst (SeesStep act code s o kp S) is (step_seen act code paths c b d s o S reached work calling goal path last sees)
 
@@ -333,13 +332,13 @@ module _ (act : Acts) (code : Codes) (paths : Paths) (p : ℕ) (c : Coord) (b : 
     bn = binding_number k.binding
 
     abbrev loaded_state' : State
-    loaded_state' = next (Load bn (code (state_value st))) S
+    loaded_state' = next (Load bn (state_code act code st)) S
 
     maker_is : (let v = binding_at S k.binding in v.maker) ≡ m
     maker_is = ((holds act code paths c b d s o S reached work calling goal path last sees).mail (machine.Made m bn) stands.1.0).1
 
     load_run : machine_run.Run S loaded_state'
-    load_run = step (Load bn (code (state_value st))) (
+    load_run = step (Load bn (state_code act code st)) (
       subst (λ (v : Act). In (machine.Made v bn) S.net) (sym maker_is) stands.1.0,
       (let e : S.kept unit ≡ bn = tied_kept act code paths c b d s o S reached work calling goal path last sees kp.kept S (stays_rebound act code paths c b d s o S reached work calling goal path last sees).keeping k stands.0 in let f : root (let v = binding_at S k.binding in v.maker) ≡ unit = ap root maker_is ∙ top_unit act code paths c b d s o S reached work calling goal path last sees in subst (λ (v : ℕ). bn ≤ S.kept v) (sym f) (omega (arith, e))),
       last_one,

@@ -10,7 +10,6 @@ use Rattle.arj_protocol.specs.Commit.{plan_of, waiting}
 use Rattle.arj_protocol.specs.Coord.{Calling, Committing, Coord, Idle, Keeping, Now, Root, Went, keeping_of, no_root, on_root, root_at, same_went, with_went}
 use Rattle.arj_protocol.specs.Order.{at_number, binding_number}
 use Rattle.arj_protocol.specs.Tree.{ends_of, root_of}
-use Rattle.arj_protocol.specs.Values.{state_value}
 use Rattle.arj_lock_law.specs.Actions.{Act, In}
 use Rattle.arj_lock_law.specs.Machine.{Run as MachineRun}
 use Rattle.arj_lock_law.specs.State as machine
@@ -19,7 +18,7 @@ use Rattle.arj_lock_law.proofs.Claims.{Holds}
 use Rattle.arj_lock_view_law.specs.Acts.{Acts}
 use Rattle.arj_lock_view_law.specs.Asks.{AsksAreNothing, CommitsAskOnly, RequestsAreShown, RequestsStayShown, ShowsAsk, TicksAreNothing}
 use Rattle.arj_lock_view_law.specs.Calling.{IsReached}
-use Rattle.arj_lock_view_law.specs.Copies.{Codes}
+use Rattle.arj_lock_view_law.specs.Copies.{Codes, state_code}
 use Rattle.arj_lock_view_law.specs.Going.{IsServedBy}
 use Rattle.arj_lock_view_law.specs.Named.{IsNamedSo}
 use Rattle.arj_lock_view_law.specs.Roots.{SeesCoord, SeesRoot, SeesStep}
@@ -68,7 +67,7 @@ module _ (S T : State) (reached : IsReached S) (run : MachineRun S T) where
 
 pub requests_stay_shown : RequestsStayShown
 requests_stay_shown act code o (ask.Activate b st) S T reached run h =
-    let sent = machine.Activate (binding_number b) (code (state_value st)) in
+    let sent = machine.Activate (binding_number b) (state_code act code st) in
     (server_stays S T reached run b o.node (let k = its S T reached run in let q = k.mail sent h.1 in q.1) h.0, (let k = now_on S T reached run in k.sent sent h.1))
 requests_stay_shown act code o (ask.Record y b i g) S T reached run h = ((let k = now_on S T reached run in k.sent (machine.Made (act (top_of o.path)) (binding_number b)) h.0), named_stays S T reached run b i h.1)
 requests_stay_shown act code o (ask.Invoke y b i ends op) S T reached run h = (

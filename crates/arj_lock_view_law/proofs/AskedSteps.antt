@@ -5,7 +5,6 @@ use Rattle.arj_protocol.specs.Words.ask
 use Rattle.arj_protocol.specs.Ask.{actor}
 use Rattle.arj_protocol.specs.Order.{binding_number}
 use Rattle.arj_protocol.specs.Server.{Server}
-use Rattle.arj_protocol.specs.Values.{state_value}
 use Rattle.arj_lock_law.specs.Actions.{In}
 use Rattle.arj_lock_law.specs.State as machine
 use Rattle.arj_lock_law.specs.State.{State}
@@ -17,12 +16,13 @@ use Rattle.arj_lock_view_law.specs.Named.{IsNamedSo}
 use Rattle.arj_lock_view_law.specs.Servers.{wanted_by}
 use Rattle.arj_lock_view_law.specs.Serving.{IsShown}
 use Rattle.arj_lock_view_law.specs.Telling.{View}
+use Rattle.arj_lock_view_law.specs.Copies.{state_code}
 
 -- An Activate of the object: its binding is of this node, and a state was sent for it.
 pub record IsGiven (v : View) (b : Binding) (st : ObjectState) (S : State) : Type 0 where
   pub bound : 1 ≤ binding_number b
   pub served : IsServedBy S b v.node
-  pub sent : In (machine.Activate (binding_number b) (v.code (state_value st))) S.net
+  pub sent : In (machine.Activate (binding_number b) (state_code v.family.act v.code st)) S.net
 
 -- An Invoke on the object: one of this number was sent, to the node of its binding, the incarnation that it says was heard for that,
 -- and it is what the action wants by this number.
@@ -41,7 +41,7 @@ pub given_of : (v : View) (h : Head) (b : Binding) (st : ObjectState) (s : Serve
 given_of v h b st s S shown about =
     let says = shown.says about in
     let holds = holds_of shown.reached in
-    let mean = holds.mail (machine.Activate (binding_number b) (v.code (state_value st))) says.1 in
+    let mean = holds.mail (machine.Activate (binding_number b) (state_code v.family.act v.code st)) says.1 in
     record { bound = mean.0; served = says.0; sent = says.1 }
 
 pub asked_of : (v : View) (h : Head) (b : Binding) (i : ℕ) (ends : List (Uid × End)) (o : Op) (s : Server) (S : State) → IsShown v h (ask.Invoke v.x b i ends o) s S → IsAsked v h b i o S

@@ -8,13 +8,12 @@ use Rattle.arj_protocol.specs.Coord.{Coord, Keeping, Root, keeping_of, kept_of, 
 use Rattle.arj_protocol.specs.Named.{Named}
 use Rattle.arj_protocol.specs.Order.{at_number, at_uid, binding_number}
 use Rattle.arj_protocol.specs.Tree.{Tree, root_of}
-use Rattle.arj_protocol.specs.Values.{state_value}
 use Rattle.arj_lock_law.specs.Actions.{Act, In, root}
 use Rattle.arj_lock_law.specs.State as machine
 use Rattle.arj_lock_law.specs.State.{Ballot, Call, Include, State}
 use Rattle.arj_lock_view_law.specs.Acts.{Acts}
 use Rattle.arj_lock_view_law.specs.Beside.{CoordsStaySeen, NamedStaysSeen, OtherServersStaySeen, ServersStaySeen, WholesStaySeen}
-use Rattle.arj_lock_view_law.specs.Copies.{Codes}
+use Rattle.arj_lock_view_law.specs.Copies.{Codes, state_code}
 use Rattle.arj_lock_view_law.specs.Inputs.{SeesWhole}
 use Rattle.arj_lock_view_law.specs.Named.{Place, SeesNamed}
 use Rattle.arj_lock_view_law.specs.Plans.{IsCounted, IsIncluded, SeesMachine, SeesPlan, SeesVotes, least_inc}
@@ -49,7 +48,7 @@ module _ (S : State) (servers : ℕ → machine.Server) (yes : Act → ℕ) (vot
   step_beside : (act : Acts) (code : Codes) (s : Steps) (o : Op) (kp : Keeping) (a : At) → SeesStep act code s o kp S a → SeesStep act code s o kp T a
   step_beside act code s o kp (AtBind avoid) h = h
   step_beside act code s o kp (AtLoad k n rest) h = (h.0, (sent (machine.Made (act (top_of s.path)) (binding_number k.binding)) h.1.0, h.1.1))
-  step_beside act code s o kp (AtActivate k st) h = (h.0, (sent (machine.Made (act (top_of s.path)) (binding_number k.binding)) h.1.0, h.1.1), sent (machine.Activate (binding_number k.binding) (code (state_value st))) h.2)
+  step_beside act code s o kp (AtActivate k st) h = (h.0, (sent (machine.Made (act (top_of s.path)) (binding_number k.binding)) h.1.0, h.1.1), sent (machine.Activate (binding_number k.binding) (state_code act code st)) h.2)
   step_beside act code s o kp (AtNote k i) h = (h.0, (sent (machine.Made (act (top_of s.path)) (binding_number k.binding)) h.1.0, h.1.1), h.2)
   step_beside act code s o kp (AtInvoke k i) h = (h.0, h.1, h.2, sent (machine.Invoke (invoke_of act s o k)) h.3)
 

@@ -13,7 +13,7 @@ use Rattle.arj_lock.proofs.Paths.{heir_is}
 use Rattle.arj_protocol.specs.Words.{Uid, is_on, last_uid, object, pass_rows, uid_eq}
 use Rattle.arj_protocol.specs.Words.ending
 use Rattle.arj_protocol.specs.Copy.{Copy, Over, end_copy, folded, is_of, is_top_over, over_of, overs_committed, settled, written}
-use Rattle.arj_lock_law.specs.Actions.{Act, In, Root, Sub, depth, is_action, on}
+use Rattle.arj_lock_law.specs.Actions.{Act, In, Root, Sub, depth, is_action, on, top}
 use Rattle.arj_lock_law.specs.Machine.{Guard, handed, next, stay, step}
 use Rattle.arj_lock_law.specs.Rows as machine
 use Rattle.arj_lock_law.specs.State.{Entry, Server, State}
@@ -22,8 +22,8 @@ use Rattle.arj_lock_law.proofs.Paths.{at_here, on_above, on_self}
 use Rattle.arj_lock_law.proofs.Rows.{pass_cases}
 use Rattle.arj_part_law.specs.Copies.{IsChain, IsTree, Paths}
 use Rattle.arj_lock_view_law.specs.Acts.{Acts}
-use Rattle.arj_lock_view_law.specs.Commits.{FoldingsAreSeen, IsAlone, IsCommitSeen, IsCommitting, IsRightBelow, ReadingsAreSeen, RetainingsAreSeen, SettlingsAreSeen, value_in}
-use Rattle.arj_lock_view_law.specs.Copies.{AreHeld, Codes, IsOver, OnlyEnds, SeesCopy, SeesOvers}
+use Rattle.arj_lock_view_law.specs.Commits.{FoldingsAreSeen, IsAlone, IsCommitSeen, IsCommitting, IsRightBelow, ReadingsAreSeen, RetainingsAreSeen, SettlingsAreSeen, value_in, maker_in}
+use Rattle.arj_lock_view_law.specs.Copies.{AreHeld, Codes, IsOver, OnlyEnds, SeesCopy, SeesOvers, writer_of}
 use Rattle.arj_lock_view_law.specs.Going.{Goes}
 use Rattle.arj_lock_view_law.specs.Rows.{SeesRows, held_in}
 use Rattle.arj_lock_view_law.proofs.CopySteps.{put_seen}
@@ -39,6 +39,15 @@ front_length [] h e = absurd (cc e)
 front_length (u ∷ []) h e = absurd (cc e)
 front_length (u ∷ w ∷ []) h e = refl
 front_length (u ∷ w ∷ v ∷ us) h e = let i = front_length (w ∷ v ∷ us) h e in omega (arith, i)
+
+-- a top wrote its own overlay
+own_writer : (act : Acts) (u : Uid) (unit number : ℕ) → act u ≡ Sub (Root unit) number → (e : Over) → last_uid e.holder ≡ u → writer_of act e ≡ act u
+own_writer act u unit number below e last = ap (λ (w : Uid). top (act w)) last ∙ ap top below ∙ sym below
+
+-- an action has its parent's top
+top_below : (a : Act) (n : ℕ) → is_action a ≡ true → top (Sub a n) ≡ top a
+top_below (Root r) n is = absurd (cc is)
+top_below (Sub a m) n is = refl
 
 module _ (act : Acts) (code : Codes) (paths : Paths) (n x : ℕ) (u : Uid) (c : Copy) (S : State) (ends : IsCommitting act paths x u c) (sees : SeesCopy act code x c (S.server n)) where
   -- the server in the machine
@@ -80,7 +89,7 @@ module _ (act : Acts) (code : Codes) (paths : Paths) (n x : ℕ) (u : Uid) (c : 
     left = subst (λ (a : Act). SeesOvers act code (filter (λ (o : Over). not (is_of u o)) c.stack) (filter (keeps a) v.log)) below
         (subst (λ (os : List Over). SeesOvers act code os (filter (keeps (act u)) v.log)) (sym (own_undone act paths x u c ends c.stack (λ o i. i))) (undone_seen act code u c.stack v.log ends.told.overs sees.overs))
 
-    value_is : settled_server.base ≡ code (value_in c.base (over_of u c.stack))
+    value_is : settled_server.base ≡ code (value_in c.base (over_of u c.stack)) (maker_in act c.base (over_of u c.stack))
     value_is = ap (λ (a : Act). held_value a v.base v.log) (sym below) ∙ held_seen act ends.one code u c.base v.base sees.base c.stack v.log sees.overs
 
     -- the copy after it, with these rows in the machine
@@ -90,7 +99,7 @@ module _ (act : Acts) (code : Codes) (paths : Paths) (n x : ℕ) (u : Uid) (c : 
         by : (o : Option Over) → over_of u c.stack ≡ o → SeesCopy act code x (let d = overs_committed u o c in record d { rows = pass_rows u c.rows }) w
         by None none = record {
           active = active ∙ sees.active;
-          base = base ∙ value_is ∙ ap (λ (o : Option Over). code (value_in c.base o)) none;
+          base = base ∙ value_is ∙ ap (λ (o : Option Over). code (value_in c.base o) (maker_in act c.base o)) none;
           overs = subst (λ (os : List Over). SeesOvers act code os w.log) (none_undone u c.stack none) (subst (SeesOvers act code (filter (λ (o : Over). not (is_of u o)) c.stack)) (sym log) left);
           rows = rows;
         }
@@ -101,7 +110,7 @@ module _ (act : Acts) (code : Codes) (paths : Paths) (n x : ℕ) (u : Uid) (c : 
             let top : is_top_over e ≡ true = le-leb (length e.holder) e.tops (omega (arith, deep, one_deep)) in
             subst (λ (b : Bool). SeesCopy act code x (let d = cond b (settled u e c) (record c { stack = folded u c.stack }) in record d { rows = pass_rows u c.rows }) w) (sym top) (record {
               active = active ∙ sees.active;
-              base = base ∙ value_is ∙ ap (λ (o : Option Over). code (value_in c.base o)) some;
+              base = base ∙ value_is ∙ ap (λ (o : Option Over). code (value_in c.base o) (maker_in act c.base o)) some ∙ ap (code e.value) (own_writer act u unit number below e (uid_is (last_uid e.holder) u f.1));
               overs = subst (SeesOvers act code (filter (λ (o : Over). not (is_of u o)) c.stack)) (sym log) left;
               rows = rows;
             })
@@ -242,7 +251,7 @@ module _ (act : Acts) (code : Codes) (paths : Paths) (n x : ℕ) (u : Uid) (c : 
           older = map (handed (act h) j) of.older;
           are = ap (map (handed (act h) j)) of.are;
           held = subst (λ (w : Uid). AreHeld (act w) (map (handed (act h) j) own_part)) (sym (heir_is o.holder h parent).0) (all_handed act ends.one u (act h) j under.below own_part (subst (λ (w : Uid). AreHeld (act w) own_part) last of.held));
-          value = of.value;
+          value = of.value ∙ ap (code o.value) (ap (λ (w : Uid). top (act w)) last ∙ ap top under.below ∙ top_below (act h) j action ∙ ap (λ (w : Uid). top (act w)) (sym (heir_is o.holder h parent).0));
           deep =
               let long = front_length o.holder h parent in
               let deep : length o.holder + 1 ≡ depth (act h) + 1 + o.tops = of.deep ∙ ap (λ (w : Uid). depth (act w) + o.tops) last ∙ ap (λ (b : Act). depth b + o.tops) under.below in

@@ -8,7 +8,7 @@ use Rattle.arj_protocol.specs.Words.mode
 use Rattle.arj_protocol.specs.Ask.{actor}
 use Rattle.arj_protocol.specs.Copy.{Base, Copy, Over, current, is_of, run_copy, taken_copy, written, wrote}
 use Rattle.arj_protocol.specs.Order.{binding_number}
-use Rattle.arj_lock_law.specs.Actions.{Act, In, at, at_act}
+use Rattle.arj_lock_law.specs.Actions.{Act, In, at, at_act, top}
 use Rattle.arj_lock_law.specs.Machine.{applied, next, stay, step}
 use Rattle.arj_lock_law.specs.Rows as machine
 use Rattle.arj_lock_law.specs.Rows.{Clear, raise}
@@ -17,7 +17,7 @@ use Rattle.arj_lock_law.specs.State.{State, Entry, Request, Server}
 use Rattle.arj_lock_law.specs.Steps.{ActivateCopy, Apply, Refuse, value_over}
 use Rattle.arj_lock_law.proofs.Paths.{at_here}
 use Rattle.arj_lock_view_law.specs.Acts.{Acts, IsCaller}
-use Rattle.arj_lock_view_law.specs.Copies.{ActivationsAreSeen, AreHeld, Codes, IsNew, IsOver, KeepsServer, OnlyServer, OperationsAreSeen, RefusalsAreSeen, SeesCopy, SeesOvers, answer_for, request_for}
+use Rattle.arj_lock_view_law.specs.Copies.{ActivationsAreSeen, AreHeld, Codes, IsNew, IsOver, KeepsServer, OnlyServer, OperationsAreSeen, RefusalsAreSeen, SeesCopy, SeesOvers, answer_for, request_for, base_code, state_code, writer_in}
 use Rattle.arj_lock_view_law.specs.Going.{Goes}
 use Rattle.arj_lock_view_law.specs.Rows.{SeesRows, strength}
 use Rattle.arj_lock_view_law.proofs.RowSteps.{clear_seen, raised_seen}
@@ -42,7 +42,7 @@ mode_is o = by (op_mode o)
 
 -- ---- values
 
-pub value_seen : (act : Acts) (code : Codes) (b : Base) (base : ℕ) (stack : List Over) (log : List Entry) → base ≡ code b.value → SeesOvers act code stack log → value_over base log ≡ code (current b stack)
+pub value_seen : (act : Acts) (code : Codes) (b : Base) (base : ℕ) (stack : List Over) (log : List Entry) → base ≡ base_code act code b → SeesOvers act code stack log → value_over base log ≡ code (current b stack) (writer_in act b stack)
 value_seen act code b base [] log under none = ap (value_over base) none ∙ under
 value_seen act code b base (o ∷ os) log under sees =
     let own = sees.0 in let over = sees.3 in
@@ -66,7 +66,7 @@ put_seen act code holder tops v own (o ∷ os) log over sees = by (is_of (last_u
           own ++ sees.0,
           sees.1,
           ap (λ (es : List Entry). own ++ es) sees.2 ∙ sym (append_assoc own sees.0 sees.1),
-          record { newest = over.newest; older = over.older ++ sees.0; are = ap (λ (es : List Entry). es ++ sees.0) over.are; held = held_both (act (last_uid o.holder)) own sees.0 mine under.held; value = over.value; deep = under.deep },
+          record { newest = over.newest; older = over.older ++ sees.0; are = ap (λ (es : List Entry). es ++ sees.0) over.are; held = held_both (act (last_uid o.holder)) own sees.0 mine under.held; value = over.value ∙ ap (λ (w : Uid). code v (top (act w))) (sym (uid_is (last_uid o.holder) (last_uid holder) same)); deep = under.deep },
           sees.4,
         )
     by false other = (own, log, refl, over, sees)
@@ -81,7 +81,7 @@ module _ (act : Acts) (code : Codes) (n x number : ℕ) (p : Path) (o : Op) (c :
   met = current c.base c.stack
 
   abbrev left : ℕ
-  left = code (value_after o met)
+  left = code (value_after o met) (top (act (actor p)))
 
   abbrev T : State
   T = next (Apply n q left) S
@@ -89,7 +89,7 @@ module _ (act : Acts) (code : Codes) (n x number : ℕ) (p : Path) (o : Op) (c :
   clear : Clear (let v = S.server n in v.rows) (act (actor p)) (machine.mode (writes o))
   clear = subst (Clear (let v = S.server n in v.rows) (act (actor p))) (mode_is o) (clear_seen act (object x) (uids_of p) (op_mode o) c.rows (let v = S.server n in v.rows) caller.along sees.rows free)
 
-  value_met : value_over (let v = S.server n in v.base) (let v = S.server n in v.log) ≡ code met
+  value_met : value_over (let v = S.server n in v.base) (let v = S.server n in v.log) ≡ code met (writer_in act c.base c.stack)
   value_met = value_seen act code c.base (let v = S.server n in v.base) c.stack (let v = S.server n in v.log) sees.base sees.overs
 
   overs_after : SeesOvers act code (wrote p o met c.stack) (let v = applied (S.server n) q left in v.log)
@@ -109,7 +109,7 @@ module _ (act : Acts) (code : Codes) (n x number : ℕ) (p : Path) (o : Op) (c :
   copy_after : SeesCopy act code x (let r = run_copy n p x o c in r.part) (applied (S.server n) q left)
   copy_after = record { active = sees.active; base = sees.base; overs = overs_after; rows = rows_after }
 
-  pub operation_goes : Goes S (λ V. SeesCopy act code x (let r = run_copy n p x o c in r.part) (V.server n) × OnlyServer n S V × KeepsServer (at_act (let v = S.server n in v.request) (act (actor p)) number) (S.server n) (V.server n) × In (state.Invoked (answer_for code S q o c)) V.net)
+  pub operation_goes : Goes S (λ V. SeesCopy act code x (let r = run_copy n p x o c in r.part) (V.server n) × OnlyServer n S V × KeepsServer (at_act (let v = S.server n in v.request) (act (actor p)) number) (S.server n) (V.server n) × In (state.Invoked (answer_for act code S q o c)) V.net)
   operation_goes = record {
     state = T;
     run = step (Apply n q left) (new.sent, new.here, new.later, clear) stay;
@@ -151,7 +151,7 @@ refusals_are_seen act code n x number p o c S sees new = refusal_goes act code n
 
 module _ (act : Acts) (code : Codes) (n x : ℕ) (b : Binding) (st : ObjectState) (S : State) where
   abbrev given : ℕ
-  given = code (let c = taken_copy b st in let d = c.base in d.value)
+  given = state_code act code st
 
   -- the server with the copy that it took
   abbrev taken : Server

@@ -78,8 +78,8 @@ vote_after {n} {m} {S} {T} {V} a b = record {
 ends_and_no_vote : (n : ℕ) (m : Act) (S T : State) → OnlyEnds n S T → OnlyVote n m S T
 ends_and_no_vote n m S T a = vote_after a (only_no_vote n m T)
 
-voted_after : (code : Codes) (n : ℕ) (m : Act) (b : ℕ) (given : Ballot) (S T V : State) → OnlyEnds n S T → HasVoted code n m b given T V → HasVoted code n m b given S V
-voted_after code n m b given S T V only h = record {
+voted_after : (n : ℕ) (m : Act) (b : ℕ) (given : Ballot) (S T V : State) → OnlyEnds n S T → HasVoted n m b given T V → HasVoted n m b given S V
+voted_after n m b given S T V only h = record {
   voted = h.voted;
   yes = h.yes;
   first = λ less. h.first (subst (λ (k : ℕ). k < b) (sym yes_is) less);
@@ -204,7 +204,7 @@ module _ (v : View) (h : Head) (i : ℕ) (ties : List (ℕ × Binding)) (ends : 
             voted_too T V k (subst (λ (z : Option Copy). SeesObject act v.code v.x t.inc z (V.server n) V) (sym there) (g.0, sent_later T V g.1 (machine.Activated (binding_number c.binding) t.inc) has_copy.1)) g.1 keeps.incarnation keeps.request
                 (λ w other. ap (λ (z : Act → Bool). z (act w)) keeps.voted ∙ act_other (let m = T.server n in m.voted) (act u) true (act w) (other_act act (let l = shown.whole in let e = l.alike in e.one) w u other)),
             g.1,
-            (λ d l. (let is = number_of d (in_from {X = ℕ × Binding} (v.x, d) ties l) in record { copy = c; there = there; bound = is; voted = subst (λ (z : ℕ). HasVoted v.code n (act u) z (ballot_for v.code u c) S V) (sym is) (voted_after v.code n (act u) (binding_number c.binding) (ballot_for v.code u c) S T V only g.3) })),
+            (λ d l. (let is = number_of d (in_from {X = ℕ × Binding} (v.x, d) ties l) in record { copy = c; there = there; bound = is; voted = subst (λ (z : ℕ). HasVoted n (act u) z (ballot_for act v.code u c) S V) (sym is) (voted_after n (act u) (binding_number c.binding) (ballot_for act v.code u c) S T V only g.3) })),
           )))
 
     votes_yes : Votes yes_part

@@ -20,7 +20,7 @@ use Rattle.arj_protocol.specs.Coord.{Calling, Coord, Doing, Grant, Idle, Keeping
 use Rattle.arj_protocol.specs.Order.{binding_number}
 use Rattle.arj_protocol.specs.Step.{is_committing_now}
 use Rattle.arj_protocol.specs.Tree.{Branch, root_of}
-use Rattle.arj_lock_law.specs.Actions.{Act, In, at_act, on, root}
+use Rattle.arj_lock_law.specs.Actions.{Act, In, at_act, on, root, top}
 use Rattle.arj_lock_law.specs.Machine.{Guard, next, start, stay, step}
 use Rattle.arj_lock_law.specs.Machine as machine_run
 use Rattle.arj_lock_law.specs.State as machine
@@ -167,10 +167,10 @@ module _ (act : Acts) (code : Codes) (paths : Paths) (p : ℕ) (c : Coord) (b : 
     -- the call has its line
     module _ (a : Answer) (v : Value) (fits : a ≡ answer_of o v) (applied : IsApplied code (invoke_of act s o k) o v S) where
       abbrev given : machine.Answer
-      given = record { request = invoke_of act s o k; place = (let y = applied.answer in y.place); sees = code v; gives = code (value_after o v) }
+      given = record { request = invoke_of act s o k; place = (let y = applied.answer in y.place); sees = code v applied.by; gives = code (value_after o v) (top (act u)) }
 
       abbrev noted : Call
-      noted = record { act = act u; write = writes o; line = p; sees = code v; gives = code (value_after o v) }
+      noted = record { act = act u; write = writes o; line = p; sees = code v applied.by; gives = code (value_after o v) (top (act u)) }
 
       abbrev V : State
       V = next (event.Answered given p) S
@@ -249,7 +249,7 @@ module _ (act : Acts) (code : Codes) (paths : Paths) (p : ℕ) (c : Coord) (b : 
               (λ y z now_is. absurd (cc now_is))
               (λ y now_is. absurd (cc now_is)),
           only,
-          (v, fits, refl, refl, keeps_stopped),
+          (v, applied.by, fits, refl, refl, keeps_stopped),
         );
       }
 

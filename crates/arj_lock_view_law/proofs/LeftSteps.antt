@@ -19,7 +19,7 @@ use Rattle.arj_lock_view_law.proofs.CopySteps.{server_else}
 
 -- what an answer shows it shows for ever
 pub shows_later : (act : Acts) (code : Codes) (u : Uid) (number : ℕ) (w : Wanted) (S T : State) → ((m : machine.Message) → In m S.net → In m T.net) → (a : InvokedReply) → ShowsInvoked act code u number w S a → ShowsInvoked act code u number w T a
-shows_later act code u number w S T sent (invoked.Answered a) h = (h.0, h.1, (let p = h.2 in record { answer = p.answer; sent = sent (machine.Invoked p.answer) p.sent; of = p.of; sees = p.sees; gives = p.gives }))
+shows_later act code u number w S T sent (invoked.Answered a) h = (h.0, h.1, (let p = h.2 in record { answer = p.answer; sent = sent (machine.Invoked p.answer) p.sent; of = p.of; by = p.by; sees = p.sees; gives = p.gives }))
 shows_later act code u number w S T sent (invoked.Conflict k m) h = sent (machine.Refused (wanted_by act u number w)) h
 shows_later act code u number w S T sent (invoked.Changed d) h = sent (machine.Changed (binding_number w.binding)) h
 

@@ -14,8 +14,8 @@ use Rattle.arj_lock_law.specs.Steps.{IsFolded, held_value}
 use Rattle.arj_lock_law.proofs.Paths.{on_self, same_is, same_self}
 use Rattle.arj_part_law.specs.Copies.{Paths}
 use Rattle.arj_lock_view_law.specs.Acts.{Acts, AreOne, IsDeep}
-use Rattle.arj_lock_view_law.specs.Commits.{IsCommitting, value_in}
-use Rattle.arj_lock_view_law.specs.Copies.{AreHeld, Codes, IsOver, SeesOvers}
+use Rattle.arj_lock_view_law.specs.Commits.{IsCommitting, value_in, maker_in}
+use Rattle.arj_lock_view_law.specs.Copies.{AreHeld, Codes, IsOver, SeesOvers, base_code}
 
 -- ---- who holds a write
 
@@ -62,15 +62,15 @@ held_skip a h base [] rest held off = refl
 held_skip a h base (e ∷ es) rest held off =
     (λ i. cond (same (held.0 i) a) e.gives (held_value a base (es ++ rest))) ∙ (λ i. cond (off i) e.gives (held_value a base (es ++ rest))) ∙ held_skip a h base es rest held.1 off
 
-module _ (act : Acts) (one : AreOne act) (code : Codes) (u : Uid) (b : Base) (base : ℕ) (under : base ≡ code b.value) where
-  pub held_seen : (stack : List Over) (log : List Entry) → SeesOvers act code stack log → held_value (act u) base log ≡ code (value_in b (over_of u stack))
+module _ (act : Acts) (one : AreOne act) (code : Codes) (u : Uid) (b : Base) (base : ℕ) (under : base ≡ base_code act code b) where
+  pub held_seen : (stack : List Over) (log : List Entry) → SeesOvers act code stack log → held_value (act u) base log ≡ code (value_in b (over_of u stack)) (maker_in act b (over_of u stack))
   held_seen [] log none = ap (held_value (act u) base) none ∙ under
   held_seen (o ∷ os) log sees = ap (held_value (act u) base) sees.2 ∙ by (is_of u o) refl (held_seen os sees.1 sees.4)
     where
       of : IsOver act code o sees.0
       of = sees.3
 
-      by : (w : Bool) → is_of u o ≡ w → held_value (act u) base sees.1 ≡ code (value_in b (over_of u os)) → held_value (act u) base (sees.0 ++ sees.1) ≡ code (value_in b (cond w (Some o) (over_of u os)))
+      by : (w : Bool) → is_of u o ≡ w → held_value (act u) base sees.1 ≡ code (value_in b (over_of u os)) (maker_in act b (over_of u os)) → held_value (act u) base (sees.0 ++ sees.1) ≡ code (value_in b (cond w (Some o) (over_of u os))) (maker_in act b (cond w (Some o) (over_of u os)))
       by true is rest =
           let its = subst (AreHeld (act (last_uid o.holder))) of.are of.held in
           let mine : same of.newest.holder (act u) ≡ true = ap (λ (a : Act). same a (act u)) (its.0 ∙ ap act (uid_is (last_uid o.holder) u is)) ∙ same_self (act u) in

@@ -6,7 +6,6 @@ use Rattle.arj_protocol.specs.Call.{At, AtActivate, AtBind, AtInvoke, AtLoad, At
 use Rattle.arj_protocol.specs.Coord.{Coord, Keeping, Root, keeping_of, kept_of, root_at}
 use Rattle.arj_protocol.specs.Order.{binding_number}
 use Rattle.arj_protocol.specs.Tree.{Branch, Tree, branch_of, root_of}
-use Rattle.arj_protocol.specs.Values.{state_value}
 use Rattle.arj_lock_law.specs.Actions.{Act, In, Root as Unit, root}
 use Rattle.arj_lock_law.specs.Machine.{Run}
 use Rattle.arj_lock_law.specs.State as machine
@@ -15,7 +14,7 @@ use Rattle.arj_lock_law.proofs.Claims.{Holds}
 use Rattle.arj_lock_view_law.specs.Acts.{Acts}
 use Rattle.arj_lock_view_law.specs.Actions.{IsHere, IsIdle, SeesAction, SeesActions}
 use Rattle.arj_lock_view_law.specs.Calling.{IsReached, OnlyCalled}
-use Rattle.arj_lock_view_law.specs.Copies.{Codes}
+use Rattle.arj_lock_view_law.specs.Copies.{Codes, state_code}
 use Rattle.arj_lock_view_law.specs.Going.{OnlyNaming}
 use Rattle.arj_lock_view_law.specs.Inputs.{OnlyEnded, SeesWhole}
 use Rattle.arj_lock_view_law.specs.Outside.{CallsElsewhere, EndsElsewhere, IncludesElsewhere, IsAway, NamingElsewhere, ServersElsewhere, StopsElsewhere}
@@ -142,7 +141,7 @@ module _ (act : Acts) (code : Codes) (x : ℕ) (c : Coord) (S T : State) (reache
   step_named : (s : Steps) (o : Op) (kp : Keeping) (a : At) → SeesStep act code s o kp S a → SeesStep act code s o kp T a
   step_named s o kp (AtBind avoid) h = h
   step_named s o kp (AtLoad k n rest) h = (h.0, made_named (act (top_of s.path)) k h.1)
-  step_named s o kp (AtActivate k st) h = (h.0, made_named (act (top_of s.path)) k h.1, only.sent (machine.Activate (binding_number k.binding) (code (state_value st))) h.2)
+  step_named s o kp (AtActivate k st) h = (h.0, made_named (act (top_of s.path)) k h.1, only.sent (machine.Activate (binding_number k.binding) (state_code act code st)) h.2)
   step_named s o kp (AtNote k i) h = (h.0, made_named (act (top_of s.path)) k h.1, named_stays S T reached run k.binding i h.2)
   step_named s o kp (AtInvoke k i) h = (h.0, server_stays S T reached run k.binding k.server (let n = its.bindings (binding_number k.binding) h.2.0 in n.below) h.1, named_stays S T reached run k.binding i h.2, only.sent (machine.Invoke (invoke_of act s o k)) h.3)
 

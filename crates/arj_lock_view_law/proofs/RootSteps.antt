@@ -9,7 +9,6 @@ use Rattle.arj_protocol.specs.Call.{At, AtActivate, AtBind, AtInvoke, AtLoad, At
 use Rattle.arj_protocol.specs.Coord.{Calling, Coord, Doing, Grant, Keeping, Root, Said, doing_of, is_call, keeping_of, kept_of, no_root, on_root, root_at}
 use Rattle.arj_protocol.specs.Order.{binding_number}
 use Rattle.arj_protocol.specs.Tree.{Branch, Tree, branch_of, ended_so, has_end, is_aborted, is_spent, root_of}
-use Rattle.arj_protocol.specs.Values.{state_value}
 use Rattle.arj_protocol.proofs.Maps.{put_other, put_same}
 use Rattle.arj_protocol.proofs.RowSteps.{one_or_two}
 use Rattle.arj_lock_law.specs.Actions.{Act, In, root}
@@ -23,7 +22,7 @@ use Rattle.arj_part_law.proofs.GoodTrees.{found_by, own_is}
 use Rattle.arj_lock_view_law.specs.Acts.{Acts}
 use Rattle.arj_lock_view_law.specs.Actions.{IsSteady, SeesActions}
 use Rattle.arj_lock_view_law.specs.Calling.{OnlyCalled}
-use Rattle.arj_lock_view_law.specs.Copies.{Codes}
+use Rattle.arj_lock_view_law.specs.Copies.{Codes, state_code}
 use Rattle.arj_lock_view_law.specs.Going.{IsServedBy}
 use Rattle.arj_lock_view_law.specs.Named.{IsNamedSo}
 use Rattle.arj_lock_view_law.specs.Roots.{HasHeard, IsSaid, IsTied, SeesCoord, SeesKeeping, SeesKept, SeesRoot, SeesStep, invoke_of, is_early}
@@ -66,7 +65,7 @@ module _ (unit : ℕ) (S T : State) (only : OnlyCalled unit S T) where
   pub step_later : (act : Acts) (code : Codes) (s : Steps) (o : Op) (kp kq : Keeping) → ((k : Known) → IsTied kp.kept k → IsTied kq.kept k) → (kq.kept ≡ None → (kp.kept ≡ None) × (kq.avoid ≡ kp.avoid)) → (a : At) → SeesStep act code s o kp S a → SeesStep act code s o kq T a
   step_later act code s o kp kq ties none (AtBind avoid) h = λ is. (let n = none is in h n.0 ∙ sym n.1)
   step_later act code s o kp kq ties none (AtLoad k n rest) h = (ties k h.0, (only.sent (machine.Made (act (top_of s.path)) (binding_number k.binding)) h.1.0, served_later k h.1.1))
-  step_later act code s o kp kq ties none (AtActivate k st) h = (ties k h.0, (only.sent (machine.Made (act (top_of s.path)) (binding_number k.binding)) h.1.0, served_later k h.1.1), only.sent (machine.Activate (binding_number k.binding) (code (state_value st))) h.2)
+  step_later act code s o kp kq ties none (AtActivate k st) h = (ties k h.0, (only.sent (machine.Made (act (top_of s.path)) (binding_number k.binding)) h.1.0, served_later k h.1.1), only.sent (machine.Activate (binding_number k.binding) (state_code act code st)) h.2)
   step_later act code s o kp kq ties none (AtNote k i) h = (ties k h.0, (only.sent (machine.Made (act (top_of s.path)) (binding_number k.binding)) h.1.0, served_later k h.1.1), named_later k i h.2)
   step_later act code s o kp kq ties none (AtInvoke k i) h = (ties k h.0, served_later k h.1, named_later k i h.2, only.sent (machine.Invoke (invoke_of act s o k)) h.3)
 

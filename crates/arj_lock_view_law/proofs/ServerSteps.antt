@@ -3,7 +3,7 @@ use Rattle.std.proofs.Common.{◌≡◌, ◌≢◌, ◌<◌, ◌≤◌, ◌∙�
 use Rattle.std.specs.List.{list_any}
 use Rattle.std.proofs.lemmas.Bool.{or_parts}
 use Rattle.arj_base.proofs.Uids.{uid_cases}
-use Rattle.arj_protocol.specs.Words.{Binding, End, Head, InvokedReply, ObjectState, Op, Path, Row, Uid, What, answer_of, first_conflict, last_uid, object, op_mode, uids_of}
+use Rattle.arj_protocol.specs.Words.{Binding, End, Head, InvokedReply, ObjectState, Op, Path, Row, Uid, What, answer_of, first_conflict, last_uid, object, op_mode, uids_of, value_after}
 use Rattle.arj_protocol.specs.Words.ask
 use Rattle.arj_protocol.specs.Words.invoked
 use Rattle.arj_protocol.specs.Words.what
@@ -12,10 +12,9 @@ use Rattle.arj_protocol.specs.Copy.{Copy, ask_copy, current, invoke_copy, run_co
 use Rattle.arj_protocol.specs.Effect.{Served, either, reply, void}
 use Rattle.arj_protocol.specs.Order.{at_number, at_uid, binding_eq, binding_less, binding_number, put_number, put_uid, unbound}
 use Rattle.arj_protocol.specs.Server.{Kept, Server, activate, active_binding, apply_ends, binding_of, changed_by, changed_copy, has_ended, invoke, invoke_kept, invoke_new, invoke_now, is_below, is_told, kept_after, on_copy, took_copy}
-use Rattle.arj_protocol.specs.Values.{state_value}
 use Rattle.arj_protocol.proofs.Maps.{put_other as put_number_other, put_same as put_number_same}
 use Rattle.arj_protocol.proofs.RowSteps.{one_or_two}
-use Rattle.arj_lock_law.specs.Actions.{Act, In, at_act, same}
+use Rattle.arj_lock_law.specs.Actions.{Act, In, at_act, same, top}
 use Rattle.arj_lock_law.specs.Machine.{after_crash, next, stay, step}
 use Rattle.arj_lock_law.specs.State as machine
 use Rattle.arj_lock_law.specs.State.{Request, State}
@@ -26,7 +25,7 @@ use Rattle.arj_part_law.proofs.Begun.{on_own, path_some}
 use Rattle.arj_part_law.proofs.Keys.{put_other, put_same}
 use Rattle.arj_part_law.proofs.ServerRuns.{told_follows}
 use Rattle.arj_lock_view_law.specs.Acts.{Acts, AreOne, IsCaller}
-use Rattle.arj_lock_view_law.specs.Copies.{Codes, IsNew, KeepsServer, OnlyEnds, OnlyServer, SeesCopy, answer_for, request_for}
+use Rattle.arj_lock_view_law.specs.Copies.{Codes, IsNew, KeepsServer, OnlyEnds, OnlyServer, SeesCopy, answer_for, request_for, writer_in, state_code}
 use Rattle.arj_lock_view_law.specs.Going.{Goes, IsServedBy}
 use Rattle.arj_lock_view_law.specs.Servers.{SeesObject, SeesServer, ShowsIfInvoked, ShowsInvoked, Wanted, Wants, last_of, wanted_by}
 use Rattle.arj_lock_view_law.specs.Serving.{ActivatesAreSeen, InvokesAreSeen, IsShown, ServersAreDown, ServersStart, ServersStop, ShowsActivated}
@@ -73,7 +72,7 @@ servers_start v inc i S up down = record {
 
 -- ---- it takes a copy
 
-module _ (act : Acts) (code : Codes) (wants : Wants) (x n : ℕ) (p : Path) (b : Binding) (st : ObjectState) (s : Server) (S : State) (bound : 1 ≤ binding_number b) (served : IsServedBy S b n) (given : In (machine.Activate (binding_number b) (code (state_value st))) S.net) (sees : SeesServer act code wants x n s S) where
+module _ (act : Acts) (code : Codes) (wants : Wants) (x n : ℕ) (p : Path) (b : Binding) (st : ObjectState) (s : Server) (S : State) (bound : 1 ≤ binding_number b) (served : IsServedBy S b n) (given : In (machine.Activate (binding_number b) (state_code act code st)) S.net) (sees : SeesServer act code wants x n s S) where
   abbrev Takes : Served Server ℕ → Type 0
   Takes r = Goes S (λ T. SeesServer act code wants x n r.part T × OnlyServer n S T × ShowsActivated b T r.reply)
 
@@ -289,7 +288,7 @@ module _ (v : View) (h : Head) (b : Binding) (i : ℕ) (o : Op) (s : Server) (S 
       where
         by : (r : Option Row) → first_conflict (uids_of h.path) (object x) (op_mode o) c.rows ≡ r → Answers (kept_after h (record { part = record s { objects = put_number x (let k = ask_copy n h.path x o c r in k.part) s.objects }; outs = (let k = ask_copy n h.path x o c r in k.outs); reply = (let k = ask_copy n h.path x o c r in k.reply) }))
         by None free = goes_to (operations_are_seen act code n x h.req h.path o c S one caller free has_copy.0 new_one) (λ T g.
-            let shown : ShowsInvoked act code u h.req w0 T (invoked.Answered (answer_of o (current c.base c.stack))) = (current c.base c.stack, refl, record { answer = answer_for code S (request_for act h.path h.req o c) o c; sent = g.3; of = request_is; sees = refl; gives = refl }) in
+            let shown : ShowsInvoked act code u h.req w0 T (invoked.Answered (answer_of o (current c.base c.stack))) = (current c.base c.stack, refl, record { answer = answer_for act code S (request_for act h.path h.req o c) o c; sent = g.3; of = request_is; by = writer_in act c.base c.stack; sees = refl; gives = ap (λ (z : Request). code (value_after o (current c.base c.stack)) (top z.act)) request_is }) in
             (server_then T (let k = run_copy n h.path x o c in k.part) (invoked.Answered (answer_of o (current c.base c.stack))) g.0 (let y = g.1 in y.sent (machine.Activated (binding_number c.binding) s.inc) has_copy.1) g.1 g.2 shown, g.1, shown))
         by (Some r) is = goes_to (refusals_are_seen act code n x h.req h.path o c S has_copy.0 new_one) (λ T g.
             let shown : In (machine.Refused q) T.net = subst (λ (z : Request). In (machine.Refused z) T.net) request_is g.3 in

@@ -37,13 +37,13 @@ module _ (act : Acts) (code : Codes) (paths : Paths) (n x i : ℕ) (u : Uid) (c 
   abbrev given : Ballot
   given = record { value = held_value m v.base v.log; under = v.base }
 
-  ballot_is : given ≡ ballot_for code u c
+  ballot_is : given ≡ ballot_for act code u c
   ballot_is = λ k. record { value = held_seen act ends.one code u c.base v.base sees.base c.stack v.log sees.overs k; under = sees.base k }
 
-  first : S.yes m < b → T.vote m ≡ ballot_for code u c
+  first : S.yes m < b → T.vote m ≡ ballot_for act code u c
   first less = act_here S.vote m (ballot S n m b) ∙ by (max (S.yes m) b == S.yes m) refl
     where
-      by : (t : Bool) → (max (S.yes m) b == S.yes m) ≡ t → cond t (S.vote m) given ≡ ballot_for code u c
+      by : (t : Bool) → (max (S.yes m) b == S.yes m) ≡ t → cond t (S.vote m) given ≡ ballot_for act code u c
       by true is = absurd (let e = eqb-true (max (S.yes m) b) (S.yes m) is in omega (arith, less, e))
       by false is = ballot_is
 
@@ -59,7 +59,7 @@ module _ (act : Acts) (code : Codes) (paths : Paths) (n x i : ℕ) (u : Uid) (c 
       same_max : (max (S.yes m) b == S.yes m) ≡ true
       same_max = ap (λ (k : ℕ). k == S.yes m) stays ∙ number_self (S.yes m)
 
-  votes_go : In (machine.Vote m b i) S.net → (let k = S.binding b in k.server) ≡ n → v.incarnation ≡ i → Goes S (λ V. SeesCopy act code x c (V.server n) × OnlyVote n m S V × KeepsVoter m v (V.server n) × HasVoted code n m b (ballot_for code u c) S V)
+  votes_go : In (machine.Vote m b i) S.net → (let k = S.binding b in k.server) ≡ n → v.incarnation ≡ i → Goes S (λ V. SeesCopy act code x c (V.server n) × OnlyVote n m S V × KeepsVoter m v (V.server n) × HasVoted n m b (ballot_for act code u c) S V)
   votes_go sent server incarnation = record {
     state = T;
     run = step (VoteTop n m b i) (sent, server, incarnation, sees.active, folded_here act paths x u c ends code S v.log sees.overs) stay;

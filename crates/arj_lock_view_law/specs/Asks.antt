@@ -8,14 +8,13 @@ use Rattle.arj_protocol.specs.Call.{Run, Steps, next_ask, next_node}
 use Rattle.arj_protocol.specs.Commit.{Machine}
 use Rattle.arj_protocol.specs.Coord.{Calling, Coord, Doing, doing_of}
 use Rattle.arj_protocol.specs.Order.{binding_number}
-use Rattle.arj_protocol.specs.Values.{state_value}
 use Rattle.arj_lock_law.specs.Actions.{In}
 use Rattle.arj_lock_law.specs.Machine.{Run as MachineRun}
 use Rattle.arj_lock_law.specs.State as machine
 use Rattle.arj_lock_law.specs.State.{State}
 use Rattle.arj_lock_view_law.specs.Acts.{Acts}
 use Rattle.arj_lock_view_law.specs.Calling.{IsReached}
-use Rattle.arj_lock_view_law.specs.Copies.{Codes}
+use Rattle.arj_lock_view_law.specs.Copies.{Codes, state_code}
 use Rattle.arj_lock_view_law.specs.Going.{IsServedBy}
 use Rattle.arj_lock_view_law.specs.Named.{IsNamedSo}
 use Rattle.arj_lock_view_law.specs.Roots.{SeesCoord}
@@ -32,7 +31,7 @@ pub record Post : Type 0 where
 -- commit: a Vote was sent for each binding of the object that it names, all of this node, with its incarnation; a Confirm was sent for each
 -- grant on the object.
 abbrev pub ShowsAsk : Acts → Codes → Post → State → Ask → Type 0
-ShowsAsk act code o S (ask.Activate b st) = IsServedBy S b o.node × In (machine.Activate (binding_number b) (code (state_value st))) S.net
+ShowsAsk act code o S (ask.Activate b st) = IsServedBy S b o.node × In (machine.Activate (binding_number b) (state_code act code st)) S.net
 ShowsAsk act code o S (ask.Record y b i g) = In (machine.Made (act (top_of o.path)) (binding_number b)) S.net × IsNamedSo S b i
 ShowsAsk act code o S (ask.Invoke y b i ends op) = IsServedBy S b o.node × IsNamedSo S b i × In (machine.Invoke (record { act = act (actor o.path); number = o.number; binding = binding_number b; write = writes op })) S.net
 ShowsAsk act code o S (ask.Vote i ties ends) = (b : Binding) → Contains ties (o.x, b) → IsServedBy S b o.node × In (machine.Vote (act (actor o.path)) (binding_number b) i) S.net

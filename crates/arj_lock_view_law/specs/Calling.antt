@@ -11,7 +11,6 @@ use Rattle.arj_protocol.specs.Call.{At, AtActivate, AtBind, AtInvoke, AtLoad, At
 use Rattle.arj_protocol.specs.Coord.{Calling, Coord, Doing, Idle, doing_of}
 use Rattle.arj_protocol.specs.Order.{binding_number}
 use Rattle.arj_protocol.specs.Tree.{Branch, branch_of}
-use Rattle.arj_protocol.specs.Values.{state_value}
 use Rattle.arj_lock_law.specs.Actions.{Act, In, root, top}
 use Rattle.arj_lock_law.specs.Machine.{Run as MachineRun, start}
 use Rattle.arj_lock_law.specs.State as machine
@@ -20,7 +19,7 @@ use Rattle.arj_lock_law.specs.Steps.{IsCurrent, LoadsTheLast}
 use Rattle.arj_part_law.specs.Copies.{Paths}
 use Rattle.arj_lock_view_law.specs.Acts.{Acts}
 use Rattle.arj_lock_view_law.specs.Actions.{IsLone, IsSteady}
-use Rattle.arj_lock_view_law.specs.Copies.{Codes}
+use Rattle.arj_lock_view_law.specs.Copies.{Codes, state_code}
 use Rattle.arj_lock_view_law.specs.Ending.{KeepsEnds}
 use Rattle.arj_lock_view_law.specs.Going.{Goes, ShowsBound, ShowsNoted}
 use Rattle.arj_lock_view_law.specs.Named.{binding_at}
@@ -67,18 +66,19 @@ abbrev pub IsToCall : BoundReply → Type 0
 IsToCall (bound.Write g stores) = ⊥
 IsToCall _ = ⊤
 
--- an Invoke was applied, and the answer is that of the operation at the value that it met
+-- an Invoke was applied, and the answer is that of the operation at the value that it met, whoever wrote that
 pub record IsApplied (code : Codes) (q : Request) (o : Op) (v : Value) (S : State) : Type 0 where
   pub answer : machine.Answer
   pub sent : In (machine.Invoked answer) S.net
   pub of : answer.request ≡ q
-  pub sees : answer.sees ≡ code v
-  pub gives : answer.gives ≡ code (value_after o v)
+  pub by : Act
+  pub sees : answer.sees ≡ code v by
+  pub gives : answer.gives ≡ code (value_after o v) (top q.act)
 
 -- What an answer shows to the step that waits for it; one of another kind is none.
 abbrev pub ShowsAnswer : Acts → Codes → Steps → Op → State → At → Reply → Type 0
 ShowsAnswer act code s o S (AtBind avoid) (Reply.Bound r) = IsToCall r × ShowsBound act (top_of s.path) avoid S (Some r)
-ShowsAnswer act code s o S (AtLoad k n rest) (Reply.Loaded (loaded.State st)) = IsCurrent S.naming (let b = binding_at S k.binding in b.maker) (binding_number k.binding) → LoadsTheLast S (code (state_value st))
+ShowsAnswer act code s o S (AtLoad k n rest) (Reply.Loaded (loaded.State st)) = IsCurrent S.naming (let b = binding_at S k.binding in b.maker) (binding_number k.binding) → LoadsTheLast S (state_code act code st)
 ShowsAnswer act code s o S (AtLoad k n rest) (Reply.Loaded (loaded.InDoubt h)) = ⊤
 ShowsAnswer act code s o S (AtActivate k st) (Reply.Activated i) = In (machine.Activated (binding_number k.binding) i) S.net
 ShowsAnswer act code s o S (AtNote k i) (Reply.Noted r) = ShowsNoted k.binding S (Some r)
@@ -89,7 +89,7 @@ ShowsAnswer act code s o S at r = ⊥
 
 -- the call's line, where the answer makes one: at this place, with the value met and the one left; and no action ends
 abbrev pub WritesLine : Acts → Codes → ℕ → Steps → Op → State → State → At → Reply → Type 0
-WritesLine act code p s o S T (AtInvoke k i) (Reply.Invoked (invoked.Answered a)) = (v : Value) × (a ≡ answer_of o v) × (T.calls ≡ record { act = act (actor s.path); write = writes o; line = p; sees = code v; gives = code (value_after o v) } ∷ S.calls) × (T.now ≡ p + 1) × KeepsEnds S T
+WritesLine act code p s o S T (AtInvoke k i) (Reply.Invoked (invoked.Answered a)) = (v : Value) × (by : Act) × (a ≡ answer_of o v) × (T.calls ≡ record { act = act (actor s.path); write = writes o; line = p; sees = code v by; gives = code (value_after o v) (top (act (actor s.path))) } ∷ S.calls) × (T.now ≡ p + 1) × KeepsEnds S T
 WritesLine act code p s o S T at r = (T.calls ≡ S.calls) × (T.now ≡ S.now) × KeepsEnds S T
 
 -- An answer to a call on the object is taken: the machine goes along, and the coordinator is seen.

@@ -11,7 +11,7 @@ use Rattle.arj_lock_law.specs.State.{Ballot, State}
 use Rattle.arj_lock_law.specs.Steps.{DropRows}
 use Rattle.arj_part_law.specs.Copies.{IsGoodCopy, IsLowest, IsTree, Paths}
 use Rattle.arj_lock_view_law.specs.Acts.{Acts, AreOne}
-use Rattle.arj_lock_view_law.specs.Copies.{Codes, IsTold, OnlyEnds, SeesCopy}
+use Rattle.arj_lock_view_law.specs.Copies.{Codes, IsTold, OnlyEnds, SeesCopy, base_code, writer_of}
 use Rattle.arj_lock_view_law.specs.Going.{Goes}
 
 -- the copy is seen after this commit, and nothing else changed
@@ -68,9 +68,14 @@ abbrev pub value_in : Base → Option Over → Value
 value_in b None = b.value
 value_in b (Some o) = o.value
 
+-- the top that wrote that value
+abbrev pub maker_in : Acts → Base → Option Over → Act
+maker_in act b None = act b.writer
+maker_in act b (Some o) = writer_of act o
+
 -- what a vote for the top gives: the value that it left here, and the copy's own
-abbrev pub ballot_for : Codes → Uid → Copy → Ballot
-ballot_for code u c = record { value = code (value_in c.base (over_of u c.stack)); under = code (let b = c.base in b.value) }
+abbrev pub ballot_for : Acts → Codes → Uid → Copy → Ballot
+ballot_for act code u c = record { value = code (value_in c.base (over_of u c.stack)) (maker_in act c.base (over_of u c.stack)); under = base_code act code c.base }
 
 -- Only the server of this node changed, and what votes for this top gave: under no lesser binding.
 pub record OnlyVote (n : ℕ) (m : Act) (S T : State) : Type 0 where
@@ -81,7 +86,7 @@ pub record OnlyVote (n : ℕ) (m : Act) (S T : State) : Type 0 where
 
 -- The server has voted for the top under the binding. The first such vote gives what the copy has; a vote that comes again, or of
 -- an earlier binding, gives nothing new.
-pub record HasVoted (code : Codes) (n : ℕ) (m : Act) (b : ℕ) (given : Ballot) (S T : State) : Type 0 where
+pub record HasVoted (n : ℕ) (m : Act) (b : ℕ) (given : Ballot) (S T : State) : Type 0 where
   pub voted : (let v = T.server n in v.voted m) ≡ true
   pub yes : b ≤ T.yes m
   pub first : S.yes m < b → T.vote m ≡ given
@@ -98,4 +103,4 @@ pub record KeepsVoter (m : Act) (v w : machine.Server) : Type 0 where
 abbrev pub VotesAreSeen : Type 0
 VotesAreSeen = (act : Acts) (code : Codes) (paths : Paths) (n x i : ℕ) (u : Uid) (c : Copy) (S : State)
     → IsCommitting act paths x u c → In (machine.Vote (act u) (binding_number c.binding) i) S.net → (let b = S.binding (binding_number c.binding) in b.server) ≡ n → (let v = S.server n in v.incarnation) ≡ i
-    → SeesCopy act code x c (S.server n) → Goes S (λ T. SeesCopy act code x c (T.server n) × OnlyVote n (act u) S T × KeepsVoter (act u) (S.server n) (T.server n) × HasVoted code n (act u) (binding_number c.binding) (ballot_for code u c) S T)
+    → SeesCopy act code x c (S.server n) → Goes S (λ T. SeesCopy act code x c (T.server n) × OnlyVote n (act u) S T × KeepsVoter (act u) (S.server n) (T.server n) × HasVoted n (act u) (binding_number c.binding) (ballot_for act code u c) S T)

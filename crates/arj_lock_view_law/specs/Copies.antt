@@ -4,9 +4,10 @@ use Rattle.std.specs.List.{AllByRecursion}
 use Rattle.arj_protocol.specs.Words.{Path, Op, Value, ObjectState, Binding, object, is_on, last_uid, uids_of, op_mode, writes, value_after, first_conflict, Uid, Row}
 use Rattle.arj_protocol.specs.Words.ending
 use Rattle.arj_protocol.specs.Ask.{actor}
-use Rattle.arj_protocol.specs.Copy.{Copy, Over, current, end_copy, run_copy, taken_copy}
+use Rattle.arj_protocol.specs.Copy.{Base, Copy, Over, current, end_copy, run_copy, taken_copy}
 use Rattle.arj_protocol.specs.Order.{binding_number}
-use Rattle.arj_lock_law.specs.Actions.{Act, In, at_act, on}
+use Rattle.arj_protocol.specs.Values.{state_value}
+use Rattle.arj_lock_law.specs.Actions.{Act, In, at_act, on, top}
 use Rattle.arj_lock_law.specs.Machine.{Guard}
 use Rattle.arj_lock_law.specs.State as machine
 use Rattle.arj_lock_law.specs.State.{State, Entry, Request, Answer}
@@ -15,9 +16,26 @@ use Rattle.arj_lock_view_law.specs.Acts.{Acts, AreOne, IsCaller, IsDeep}
 use Rattle.arj_lock_view_law.specs.Going.{Goes}
 use Rattle.arj_lock_view_law.specs.Rows.{SeesRows}
 
--- what stands for a value in the machine
+-- what stands in the machine for a value and the top that wrote it
 abbrev pub Codes : Type 0
-Codes = Value → ℕ
+Codes = Value → Act → ℕ
+
+-- the top that wrote an overlay
+abbrev pub writer_of : Acts → Over → Act
+writer_of act o = top (act (last_uid o.holder))
+
+-- the top that wrote the value in place
+abbrev pub writer_in : Acts → Base → List Over → Act
+writer_in act b [] = act b.writer
+writer_in act b (o ∷ os) = writer_of act o
+
+-- what stands for the copy's own value
+abbrev pub base_code : Acts → Codes → Base → ℕ
+base_code act code b = code b.value (act b.writer)
+
+-- what stands for a state
+abbrev pub state_code : Acts → Codes → ObjectState → ℕ
+state_code act code st = code (state_value st) (act st.writer)
 
 -- all of these writes are held by the action
 abbrev pub AreHeld : Act → List Entry → Type 0
@@ -30,7 +48,7 @@ pub record IsOver (act : Acts) (code : Codes) (o : Over) (own : List Entry) : Ty
   pub older : List Entry
   pub are : own ≡ newest ∷ older
   pub held : AreHeld (act (last_uid o.holder)) own
-  pub value : newest.gives ≡ code o.value
+  pub value : newest.gives ≡ code o.value (writer_of act o)
   pub deep : IsDeep act o.holder o.tops
 
 -- the overlays, the deepest first, are the machine's log
@@ -41,7 +59,7 @@ SeesOvers act code (o ∷ os) log = (own : List Entry) × (rest : List Entry) ×
 -- The copy of object x: its binding is active, what lies under all overlays is the machine's own value, and the overlays its log.
 pub record SeesCopy (act : Acts) (code : Codes) (x : ℕ) (c : Copy) (v : machine.Server) : Type 0 where
   pub active : v.active ≡ binding_number c.binding
-  pub base : v.base ≡ code (let b = c.base in b.value)
+  pub base : v.base ≡ base_code act code c.base
   pub overs : SeesOvers act code c.stack v.log
   pub rows : SeesRows act (object x) c.rows v.rows
 
@@ -79,8 +97,8 @@ pub record IsNew (S : State) (n : ℕ) (q : Request) : Type 0 where
   pub later : (let v = S.server n in v.request q.act) < q.number
 
 -- what the answer to an operation shows: the value that it met, and the one that it left
-abbrev pub answer_for : Codes → State → Request → Op → Copy → Answer
-answer_for code S q o c = record { request = q; place = S.now; sees = code (current c.base c.stack); gives = code (value_after o (current c.base c.stack)) }
+abbrev pub answer_for : Acts → Codes → State → Request → Op → Copy → Answer
+answer_for act code S q o c = record { request = q; place = S.now; sees = code (current c.base c.stack) (writer_in act c.base c.stack); gives = code (value_after o (current c.base c.stack)) (top q.act) }
 
 -- A new request that meets no conflict is applied: the copy is seen again, and the answer is shown.
 abbrev pub OperationsAreSeen : Type 0
@@ -88,7 +106,7 @@ OperationsAreSeen = (act : Acts) (code : Codes) (n x number : ℕ) (p : Path) (o
     → AreOne act → IsCaller act p → first_conflict (uids_of p) (object x) (op_mode o) c.rows ≡ None
     → SeesCopy act code x c (S.server n) → IsNew S n (request_for act p number o c)
     → let r = run_copy n p x o c in
-    Goes S (λ T. SeesCopy act code x r.part (T.server n) × OnlyServer n S T × KeepsServer (at_act (let v = S.server n in v.request) (act (actor p)) number) (S.server n) (T.server n) × In (machine.Invoked (answer_for code S (request_for act p number o c) o c)) T.net)
+    Goes S (λ T. SeesCopy act code x r.part (T.server n) × OnlyServer n S T × KeepsServer (at_act (let v = S.server n in v.request) (act (actor p)) number) (S.server n) (T.server n) × In (machine.Invoked (answer_for act code S (request_for act p number o c) o c)) T.net)
 
 -- One that meets a conflict changes nothing of the copy, and the refusal is shown.
 abbrev pub RefusalsAreSeen : Type 0
@@ -99,7 +117,7 @@ RefusalsAreSeen = (act : Acts) (code : Codes) (n x number : ℕ) (p : Path) (o :
 -- A state came for a binding of this node that is above the active one: the copy is taken.
 abbrev pub ActivationsAreSeen : Type 0
 ActivationsAreSeen = (act : Acts) (code : Codes) (n x : ℕ) (b : Binding) (st : ObjectState) (S : State)
-    → In (machine.Activate (binding_number b) (code (let c = taken_copy b st in let d = c.base in d.value))) S.net
+    → In (machine.Activate (binding_number b) (state_code act code st)) S.net
     → (let c = S.binding (binding_number b) in c.server) ≡ n → (let v = S.server n in v.active) < binding_number b
     → Goes S (λ T. SeesCopy act code x (taken_copy b st) (T.server n) × OnlyServer n S T × KeepsServer (let v = S.server n in v.request) (S.server n) (T.server n) × In (machine.Activated (binding_number b) (let v = S.server n in v.incarnation)) T.net)
 

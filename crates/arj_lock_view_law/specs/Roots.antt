@@ -6,14 +6,13 @@ use Rattle.arj_protocol.specs.Call.{At, AtActivate, AtBind, AtInvoke, AtLoad, At
 use Rattle.arj_protocol.specs.Coord.{Calling, Coord, Doing, Grant, Keeping, Root, Said, doing_of, is_call, kept_of, keeping_of, root_at}
 use Rattle.arj_protocol.specs.Order.{binding_number}
 use Rattle.arj_protocol.specs.Tree.{Branch, Tree, branch_of, is_spent, root_of}
-use Rattle.arj_protocol.specs.Values.{state_value}
 use Rattle.arj_lock_law.specs.Actions.{Act, In, root}
 use Rattle.arj_lock_law.specs.State as machine
 use Rattle.arj_lock_law.specs.State.{Call, Request, State}
 use Rattle.arj_lock_law.specs.Steps.{KnowsRecorded}
 use Rattle.arj_lock_view_law.specs.Acts.{Acts}
 use Rattle.arj_lock_view_law.specs.Actions.{SeesActions}
-use Rattle.arj_lock_view_law.specs.Copies.{Codes}
+use Rattle.arj_lock_view_law.specs.Copies.{Codes, state_code}
 use Rattle.arj_lock_view_law.specs.Going.{IsServedBy}
 use Rattle.arj_lock_view_law.specs.Named.{IsNamedSo, binding_at}
 
@@ -77,7 +76,7 @@ invoke_of act s o k = record { act = act (actor s.path); number = s.req; binding
 abbrev pub SeesStep : Acts → Codes → Steps → Op → Keeping → State → At → Type 0
 SeesStep act code s o kp S (AtBind avoid) = kp.kept ≡ None → avoid ≡ kp.avoid
 SeesStep act code s o kp S (AtLoad k n rest) = IsTied kp.kept k × IsMadeFor (act (top_of s.path)) k S
-SeesStep act code s o kp S (AtActivate k st) = IsTied kp.kept k × IsMadeFor (act (top_of s.path)) k S × In (machine.Activate (binding_number k.binding) (code (state_value st))) S.net
+SeesStep act code s o kp S (AtActivate k st) = IsTied kp.kept k × IsMadeFor (act (top_of s.path)) k S × In (machine.Activate (binding_number k.binding) (state_code act code st)) S.net
 SeesStep act code s o kp S (AtNote k i) = IsTied kp.kept k × IsMadeFor (act (top_of s.path)) k S × IsNamedSo S k.binding i
 SeesStep act code s o kp S (AtInvoke k i) = IsTied kp.kept k × IsServedBy S k.binding k.server × IsNamedSo S k.binding i × In (machine.Invoke (invoke_of act s o k)) S.net
 

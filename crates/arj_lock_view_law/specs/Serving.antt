@@ -100,7 +100,7 @@ pub record HasVotedHere (v : View) (u : Uid) (b : Binding) (s : Server) (S T : S
   pub copy : Copy
   pub there : at_number v.x s.objects ≡ Some copy
   pub bound : binding_number b ≡ binding_number copy.binding
-  pub voted : HasVoted v.code v.node (v.family.act u) (binding_number b) (ballot_for v.code u copy) S T
+  pub voted : HasVoted v.node (v.family.act u) (binding_number b) (ballot_for v.family.act v.code u copy) S T
 
 -- A Vote: the server applies the ends that are new to it and votes, says that it has changed, or the message is void.
 abbrev pub VotesAreTaken : Type 0
