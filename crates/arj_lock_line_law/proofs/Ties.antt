@@ -27,7 +27,8 @@ use Rattle.arj_model.specs.Last.{Inclusion, included, included_of}
 use Rattle.arj_model.specs.Serial.{Values}
 use Rattle.arj_line_law.specs.Laws.{called_of}
 use Rattle.arj_line_law.proofs.Models.{apart_acts, named_in}
-use Rattle.arj_lock_law.specs.Actions.{is_action, same}
+use Rattle.arj_lock_law.specs.Actions as places
+use Rattle.arj_lock_law.specs.Actions.{is_action, same, top}
 use Rattle.arj_lock_law.specs.State.{Action, State}
 use Rattle.arj_lock_law.proofs.Paths.{by_cases, differ, same_is}
 use Rattle.arj_lock_view_law.specs.Acts.{Acts}
@@ -464,10 +465,10 @@ module _ (act : Acts) (code : Codes) (values : Values) (x event : ℕ) (lines : 
       off_number : (m n : ℕ) → m ≢ n → (m == n) ≡ false
       off_number m n other = ⊎_elim (λ (e : (m == n) ≡ true). absurd (other (eqb-true m n e))) (λ e. e) (by_cases (m == n))
 
-      by : ((y ≢ x) × (T.calls ≡ S.calls)) ⊎ ((y ≡ x) × (v : Value) × (r ≡ answer_text (answer_of o v)) × (T.calls ≡ record { act = act a.uid; write = writes o; line = length lines + 1; sees = code v; gives = code (value_after o v) } ∷ S.calls)) → AreCallsOf act code (cond (y == x) (record { at = length lines; it = s } ∷ said_on x lines) (said_on x lines)) T.calls
+      by : ((y ≢ x) × (T.calls ≡ S.calls)) ⊎ ((y ≡ x) × (v : Value) × (by : places.Act) × (r ≡ answer_text (answer_of o v)) × (T.calls ≡ record { act = act a.uid; write = writes o; line = length lines + 1; sees = code v by; gives = code (value_after o v) (top (act a.uid)) } ∷ S.calls)) → AreCallsOf act code (cond (y == x) (record { at = length lines; it = s } ∷ said_on x lines) (said_on x lines)) T.calls
       by (inl (other, same_calls)) = subst (λ (t : Bool). AreCallsOf act code (cond t (record { at = length lines; it = s } ∷ said_on x lines) (said_on x lines)) T.calls) (sym (off_number y x other)) (subst (AreCallsOf act code (said_on x lines)) (sym same_calls) was.calls)
-      by (inr (about, v, answer, new_calls)) = subst (λ (t : Bool). AreCallsOf act code (cond t (record { at = length lines; it = s } ∷ said_on x lines) (said_on x lines)) T.calls) (sym (eq-eqb y x about)) (subst (AreCallsOf act code (record { at = length lines; it = s } ∷ said_on x lines)) (sym new_calls)
-          (record { caller = ap act (sym (path_last (acts lines) (name l) a is)); write = refl; line = refl; value = v; answer = sym answer; sees = refl; gives = refl }, was.calls))
+      by (inr (about, v, writer, answer, new_calls)) = subst (λ (t : Bool). AreCallsOf act code (cond t (record { at = length lines; it = s } ∷ said_on x lines) (said_on x lines)) T.calls) (sym (eq-eqb y x about)) (subst (AreCallsOf act code (record { at = length lines; it = s } ∷ said_on x lines)) (sym new_calls)
+          (record { caller = ap act (sym (path_last (acts lines) (name l) a is)); write = refl; line = refl; value = v; by = writer; answer = sym answer; sees = refl; gives = refl }, was.calls))
 
   included_tied : (l : Label) (y n : ℕ) → GoesBeside act code x lines (body.Includes l y n) S T → To (body.Includes l y n)
   included_tied l y n (calls, ends, (a, is, includes)) = tied b

@@ -26,7 +26,7 @@ use Rattle.arj_part_law.proofs.Keys.{with_on}
 use Rattle.arj_part_law.proofs.ServerRuns.{told_follows}
 use Rattle.arj_lock_view_law.specs.Acts.{Acts}
 use Rattle.arj_lock_view_law.specs.Commits.{HasVoted, IsCommitting, OnlyVote, ballot_for}
-use Rattle.arj_lock_view_law.specs.Copies.{Codes, OnlyEnds, SeesCopy}
+use Rattle.arj_lock_view_law.specs.Copies.{OnlyEnds, SeesCopy}
 use Rattle.arj_lock_view_law.specs.Going.{Goes, IsServedBy}
 use Rattle.arj_lock_view_law.specs.Servers.{SeesObject, last_of}
 use Rattle.arj_lock_view_law.specs.Serving.{HasVotedHere, IsShown, VotesAreTaken, is_yes}

@@ -1,8 +1,10 @@
--- Two values have two codes.
+-- Two values have two codes, and so have two tops.
 use Rattle.std.proofs.Common.{◌≡◌, ◌<◌, ℕ, ◌+◌, ◌*◌, List, [], ◌∷◌, zero, suc, refl, ap, arith}
 use Rattle.arj_class.specs.declared.value.Value.{Value}
 use Rattle.arj_class.specs.declared.value.Value.TheVariants.{Account, Counter, Queue, Register, Table}
-use Rattle.arj_serial_law.specs.Codes.{all, both, code_of, flat}
+use Rattle.arj_serial_law.specs.Codes.{act_code, all, both, code_of, flat, value_code}
+use Rattle.arj_lock_law.specs.Actions.{Act, Root, Sub}
+use Rattle.arj_serial_law.specs.Tied.{AreApart}
 
 both_apart : (m n k l : ℕ) → both m n ≡ both k l → (m ≡ k) × (n ≡ l)
 both_apart zero n zero l e = let f : 2 * n + 1 ≡ 2 * l + 1 = e in (refl, omega (arith, f))
@@ -34,29 +36,41 @@ flat_apart (p ∷ ps) (q ∷ qs) e =
     let rest : flat ps ≡ flat qs = cc f in
     λ i. (first i, second i) ∷ flat_apart ps qs rest i
 
-pub codes_are_apart : (v w : Value) → code_of v ≡ code_of w → v ≡ w
-codes_are_apart (Counter m) (Counter n) e = ap Counter (both_apart 0 m 0 n e).1
-codes_are_apart (Register m) (Register n) e = ap Register (all_apart m n (both_apart 1 (all m) 1 (all n) e).1)
-codes_are_apart (Account m) (Account n) e = ap Account (both_apart 2 m 2 n e).1
-codes_are_apart (Queue m) (Queue n) e = ap Queue (all_apart m n (both_apart 3 (all m) 3 (all n) e).1)
-codes_are_apart (Table m) (Table n) e = ap Table (flat_apart m n (all_apart (flat m) (flat n) (both_apart 4 (all (flat m)) 4 (all (flat n)) e).1))
-codes_are_apart (Register m) (Counter n) e = absurd (omega (arith, (both_apart 1 (all m) 0 n e).0))
-codes_are_apart (Account m) (Counter n) e = absurd (omega (arith, (both_apart 2 m 0 n e).0))
-codes_are_apart (Queue m) (Counter n) e = absurd (omega (arith, (both_apart 3 (all m) 0 n e).0))
-codes_are_apart (Table m) (Counter n) e = absurd (omega (arith, (both_apart 4 (all (flat m)) 0 n e).0))
-codes_are_apart (Counter m) (Register n) e = absurd (omega (arith, (both_apart 0 m 1 (all n) e).0))
-codes_are_apart (Account m) (Register n) e = absurd (omega (arith, (both_apart 2 m 1 (all n) e).0))
-codes_are_apart (Queue m) (Register n) e = absurd (omega (arith, (both_apart 3 (all m) 1 (all n) e).0))
-codes_are_apart (Table m) (Register n) e = absurd (omega (arith, (both_apart 4 (all (flat m)) 1 (all n) e).0))
-codes_are_apart (Counter m) (Account n) e = absurd (omega (arith, (both_apart 0 m 2 n e).0))
-codes_are_apart (Register m) (Account n) e = absurd (omega (arith, (both_apart 1 (all m) 2 n e).0))
-codes_are_apart (Queue m) (Account n) e = absurd (omega (arith, (both_apart 3 (all m) 2 n e).0))
-codes_are_apart (Table m) (Account n) e = absurd (omega (arith, (both_apart 4 (all (flat m)) 2 n e).0))
-codes_are_apart (Counter m) (Queue n) e = absurd (omega (arith, (both_apart 0 m 3 (all n) e).0))
-codes_are_apart (Register m) (Queue n) e = absurd (omega (arith, (both_apart 1 (all m) 3 (all n) e).0))
-codes_are_apart (Account m) (Queue n) e = absurd (omega (arith, (both_apart 2 m 3 (all n) e).0))
-codes_are_apart (Table m) (Queue n) e = absurd (omega (arith, (both_apart 4 (all (flat m)) 3 (all n) e).0))
-codes_are_apart (Counter m) (Table n) e = absurd (omega (arith, (both_apart 0 m 4 (all (flat n)) e).0))
-codes_are_apart (Register m) (Table n) e = absurd (omega (arith, (both_apart 1 (all m) 4 (all (flat n)) e).0))
-codes_are_apart (Account m) (Table n) e = absurd (omega (arith, (both_apart 2 m 4 (all (flat n)) e).0))
-codes_are_apart (Queue m) (Table n) e = absurd (omega (arith, (both_apart 3 (all m) 4 (all (flat n)) e).0))
+values_apart : (v w : Value) → value_code v ≡ value_code w → v ≡ w
+values_apart (Counter m) (Counter n) e = ap Counter (both_apart 0 m 0 n e).1
+values_apart (Register m) (Register n) e = ap Register (all_apart m n (both_apart 1 (all m) 1 (all n) e).1)
+values_apart (Account m) (Account n) e = ap Account (both_apart 2 m 2 n e).1
+values_apart (Queue m) (Queue n) e = ap Queue (all_apart m n (both_apart 3 (all m) 3 (all n) e).1)
+values_apart (Table m) (Table n) e = ap Table (flat_apart m n (all_apart (flat m) (flat n) (both_apart 4 (all (flat m)) 4 (all (flat n)) e).1))
+values_apart (Register m) (Counter n) e = absurd (omega (arith, (both_apart 1 (all m) 0 n e).0))
+values_apart (Account m) (Counter n) e = absurd (omega (arith, (both_apart 2 m 0 n e).0))
+values_apart (Queue m) (Counter n) e = absurd (omega (arith, (both_apart 3 (all m) 0 n e).0))
+values_apart (Table m) (Counter n) e = absurd (omega (arith, (both_apart 4 (all (flat m)) 0 n e).0))
+values_apart (Counter m) (Register n) e = absurd (omega (arith, (both_apart 0 m 1 (all n) e).0))
+values_apart (Account m) (Register n) e = absurd (omega (arith, (both_apart 2 m 1 (all n) e).0))
+values_apart (Queue m) (Register n) e = absurd (omega (arith, (both_apart 3 (all m) 1 (all n) e).0))
+values_apart (Table m) (Register n) e = absurd (omega (arith, (both_apart 4 (all (flat m)) 1 (all n) e).0))
+values_apart (Counter m) (Account n) e = absurd (omega (arith, (both_apart 0 m 2 n e).0))
+values_apart (Register m) (Account n) e = absurd (omega (arith, (both_apart 1 (all m) 2 n e).0))
+values_apart (Queue m) (Account n) e = absurd (omega (arith, (both_apart 3 (all m) 2 n e).0))
+values_apart (Table m) (Account n) e = absurd (omega (arith, (both_apart 4 (all (flat m)) 2 n e).0))
+values_apart (Counter m) (Queue n) e = absurd (omega (arith, (both_apart 0 m 3 (all n) e).0))
+values_apart (Register m) (Queue n) e = absurd (omega (arith, (both_apart 1 (all m) 3 (all n) e).0))
+values_apart (Account m) (Queue n) e = absurd (omega (arith, (both_apart 2 m 3 (all n) e).0))
+values_apart (Table m) (Queue n) e = absurd (omega (arith, (both_apart 4 (all (flat m)) 3 (all n) e).0))
+values_apart (Counter m) (Table n) e = absurd (omega (arith, (both_apart 0 m 4 (all (flat n)) e).0))
+values_apart (Register m) (Table n) e = absurd (omega (arith, (both_apart 1 (all m) 4 (all (flat n)) e).0))
+values_apart (Account m) (Table n) e = absurd (omega (arith, (both_apart 2 m 4 (all (flat n)) e).0))
+values_apart (Queue m) (Table n) e = absurd (omega (arith, (both_apart 3 (all m) 4 (all (flat n)) e).0))
+
+acts_apart : (a b : Act) → act_code a ≡ act_code b → a ≡ b
+acts_apart (Root m) (Root n) e = ap Root (both_apart 0 m 0 n e).1
+acts_apart (Root m) (Sub b n) e = absurd (omega (arith, (both_apart 0 m 1 (both (act_code b) n) e).0))
+acts_apart (Sub a m) (Root n) e = absurd (omega (arith, (both_apart 1 (both (act_code a) m) 0 n e).0))
+acts_apart (Sub a m) (Sub b n) e =
+    let inner = both_apart (act_code a) m (act_code b) n (both_apart 1 (both (act_code a) m) 1 (both (act_code b) n) e).1 in
+    let above = acts_apart a b inner.0 in
+    λ i. Sub (above i) (inner.1 i)
+
+pub codes_are_apart : AreApart code_of
+codes_are_apart v w a b e = let r = both_apart (value_code v) (act_code a) (value_code w) (act_code b) e in (values_apart v w r.0, acts_apart a b r.1)

@@ -41,6 +41,7 @@ use Rattle.arj_serial_law.proofs.Paths.{chain_on, own_there, own_top, parts, top
 use Rattle.arj_serial_law.proofs.Timely.{AreTimely, run_timely, start_timely}
 use Rattle.arj_serial_law.proofs.Tying.{IsKeptSo, IsMade, acts_are, chain_nested, from_on, kept_so, kept_survives, made, member, on_it, shape_of}
 use Rattle.arj_serial_law.proofs.Values.{any_said, kept_shape, to_object}
+use Rattle.arj_base.specs.Uid.{nobody}
 
 -- ---- places of tops
 
@@ -188,13 +189,13 @@ module _ (lines : List Line) (right : AreRight new_book lines) where
 
 module _ (values : Values) (lines : List Line) (right : AreRight new_book lines) (x : ℕ) (S : State) (tied : Tie values lines x S) where
   in_order : IsInOrder S
-  in_order = is_in_order (run_keeps tied.run (start_holds (tied.code (values x)))) (roots_low tied.run (start_low (tied.code (values x))))
+  in_order = is_in_order (run_keeps tied.run (start_holds (tied.code (values x) (tied.act nobody)))) (roots_low tied.run (start_low (tied.code (values x) (tied.act nobody))))
 
   nested : IsNested S
-  nested = is_nested (run_keeps tied.run (start_holds (tied.code (values x)))) (roots_low tied.run (start_low (tied.code (values x))))
+  nested = is_nested (run_keeps tied.run (start_holds (tied.code (values x) (tied.act nobody)))) (roots_low tied.run (start_low (tied.code (values x) (tied.act nobody))))
 
   timely : AreTimely S.calls S.now S.action
-  timely = run_timely tied.run (start_timely (tied.code (values x)))
+  timely = run_timely tied.run (start_timely (tied.code (values x) (tied.act nobody)))
 
   -- ---- tops in the machine
 

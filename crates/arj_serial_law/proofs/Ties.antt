@@ -2,7 +2,7 @@
 use Rattle.std.proofs.Common.{◌≡◌, ℕ, ◌+◌, ◌==◌, List, [], ◌∷◌, true, false, inl, inr, refl, sym, ◌∙◌, subst, ⊎_elim, Contains, eqb-true}
 use Rattle.std.specs.List.{list_any}
 use Rattle.arj_base.proofs.Uids.{uid_is}
-use Rattle.arj_base.specs.Uid.{uid_eq}
+use Rattle.arj_base.specs.Uid.{uid_eq, nobody}
 use Rattle.arj_base.specs.declared.uid.Uid.{Uid}
 use Rattle.arj_journal.specs.declared.body.Line.{Line}
 use Rattle.arj_lock.proofs.Members.{In, in_to}
@@ -33,7 +33,7 @@ pub record Tie (values : Values) (lines : List Line) (x : ℕ) (S : State) : Typ
   pub code : Codes
   pub codes : AreApart code
   pub places : HasPlaces act lines
-  pub run : Run (start (code (values x))) S
+  pub run : Run (start (code (values x) (act nobody))) S
   pub actions : (a : Act) → Began lines a → is_serial a.kind ≡ false → IsAsSaid lines a (S.action (act a.uid))
   pub calls : AreCallsOf act code (said_on x lines) S.calls
 

@@ -4,7 +4,7 @@ use Rattle.std.specs.List.{AllByRecursion, list_all, list_any}
 use Rattle.std.proofs.lemmas.Bool.{and_parts}
 use Rattle.arj_base.proofs.Uids.{uid_is, uid_same}
 use Rattle.arj_base.specs.Rows.{is_on, last_uid}
-use Rattle.arj_base.specs.Uid.{uid_eq}
+use Rattle.arj_base.specs.Uid.{uid_eq, nobody}
 use Rattle.arj_base.specs.declared.uid.Uid.{Uid}
 use Rattle.arj_journal.specs.declared.body.Body.{Body}
 use Rattle.arj_journal.specs.declared.body.Body.TheVariants as body
@@ -169,7 +169,7 @@ module _ (values : Values) (lines : List Line) (right : AreRight new_book lines)
   made s c i j is =
       let m = said_maker lines right s i in
       let caller = is.caller ∙ ap (λ p. tied.act (last p)) m.path_is ∙ ap tied.act (own_last (acts lines) sure.distinct sure.formed m.act m.there) in
-      let holds : Holds S = run_keeps tied.run (start_holds (tied.code (values x))) in
+      let holds : Holds S = run_keeps tied.run (start_holds (tied.code (values x) (tied.act nobody))) in
       let action = let h = holds.calls c j in h.acts in
       let plain = plain_is m.act m.there (ap is_action (sym caller) ∙ action) in
       let t = own_top (acts lines) sure.distinct sure.formed m.act m.there plain in

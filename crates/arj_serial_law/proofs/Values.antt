@@ -27,6 +27,7 @@ use Rattle.arj_lock_line_law.specs.Lines.{AreCallsOf, IsCallOf, said_on}
 use Rattle.arj_serial_law.proofs.Ties.{Ties, Tie}
 use Rattle.arj_serial_law.proofs.Timely.{run_initial}
 use Rattle.arj_serial_law.proofs.Tying.{IsMade, kept_survives, made, survives_kept}
+use Rattle.arj_base.specs.Uid.{nobody}
 
 -- ---- lists
 
@@ -209,19 +210,19 @@ module _ (values : Values) (lines : List Line) (right : AreRight new_book lines)
 
   -- Of these calls, all before a place, the kept writes leave the value that the machine has as the last one.
   last_value : (p : ℕ) (ss : List (Placed Said)) (cs : List state.Call) → AreCallsOf tied.act tied.code ss cs → AreFrom ss cs → AllByRecursion (λ (s : Placed Said). s.at < p) ss → SawTheLast S cs
-      → (v : ℕ) → IsLast S v cs → tied.code (finally p ss) ≡ v
-  last_value p [] [] are there before saw v (none is) = sym (run_initial tied.run) ∙ is
+      → (v : ℕ) → IsLast S v cs → (a : machine.Act) × (tied.code (finally p ss) a ≡ v)
+  last_value p [] [] are there before saw v (none is) = (tied.act nobody, sym (run_initial tied.run) ∙ is)
   last_value p [] (c ∷ cs) are there before saw v l = absurd are
   last_value p (s ∷ ss) [] are there before saw v l = absurd are
   last_value p (s ∷ ss) (c ∷ cs) are there before saw v (newest d write survived gives) =
       let is : IsCallOf tied.act tied.code s c = are.0 in
       let m : IsMade values lines right x S tied s c = made values lines right x S tied s c there.0.0 there.1.0 is in
       let kept_it = survives_kept values lines right x S tied s c m survived in
-      let ih : tied.code (finally p ss) ≡ c.sees = last_value p ss cs are.1 (there.0.1, there.1.1) before.1 saw.1 c.sees (saw.0 survived) in
-      let same : finally p ss ≡ is.value = tied.codes (finally p ss) is.value (ih ∙ is.sees) in
+      let ih = last_value p ss cs are.1 (there.0.1, there.1.1) before.1 saw.1 c.sees (saw.0 survived) in
+      let same : finally p ss ≡ is.value = (tied.codes (finally p ss) is.value ih.0 is.by (ih.1 ∙ is.sees)).0 in
       let test : (nat_lt s.at p && (writes s.it.op && is_some (kept (committed lines) (recovered lines) s))) ≡ true =
       (λ i. yes s.at p before.0 i && ((sym is.write ∙ write) i && is_some (kept_it i))) in
-      ap (λ b. tied.code (cond b (value_after s.it.op (finally p ss)) (finally p ss))) test ∙ ap (λ u. tied.code (value_after s.it.op u)) same ∙ sym is.gives ∙ gives
+      (machine.top c.act, ap (λ b. tied.code (cond b (value_after s.it.op (finally p ss)) (finally p ss)) (machine.top c.act)) test ∙ ap (λ u. tied.code (value_after s.it.op u) (machine.top c.act)) same ∙ sym is.gives ∙ gives)
     where
       yes : (m n : ℕ) → m < n → nat_lt m n ≡ true
       yes m n l = grind (arith, nat_tests)
@@ -230,7 +231,8 @@ module _ (values : Values) (lines : List Line) (right : AreRight new_book lines)
       let m : IsMade values lines right x S tied s c = made values lines right x S tied s c there.0.0 there.1.0 is in
       let off : (nat_lt s.at p && (writes s.it.op && is_some (kept (committed lines) (recovered lines) s))) ≡ false =
       by (nat_lt s.at p) (writes s.it.op) refl (kept (committed lines) (recovered lines) s) refl is m in
-      ap (λ b. tied.code (cond b (value_after s.it.op (finally p ss)) (finally p ss))) off ∙ last_value p ss cs are.1 (there.0.1, there.1.1) before.1 saw.1 v rest
+      let ih = last_value p ss cs are.1 (there.0.1, there.1.1) before.1 saw.1 v rest in
+      (ih.0, ap (λ b. tied.code (cond b (value_after s.it.op (finally p ss)) (finally p ss)) ih.0) off ∙ ih.1)
     where
       no : (a b : Bool) → (a && (b && false)) ≡ false
       no true true = refl
@@ -255,7 +257,8 @@ module _ (values : Values) (lines : List Line) (right : AreRight new_book lines)
       let is : IsCallOf tied.act tied.code t c = are.0 in
       let m : IsMade values lines right x S tied t c = made values lines right x S tied t c there.0.0 there.1.0 is in
       let survives : Survives S c.act = kept_survives values lines right x S tied t c m k (ap (kept (committed lines) (recovered lines)) same ∙ e) in
-      let met : finally t.at ss ≡ is.value = tied.codes (finally t.at ss) is.value (last_value t.at ss cs are.1 (there.0.1, there.1.1) falls.0 saw.1 c.sees (saw.0 survives) ∙ is.sees) in
+      let last = last_value t.at ss cs are.1 (there.0.1, there.1.1) falls.0 saw.1 c.sees (saw.0 survives) in
+      let met : finally t.at ss ≡ is.value = (tied.codes (finally t.at ss) is.value last.0 is.by (last.1 ∙ is.sees)).0 in
       let here : finally t.at (t ∷ ss) ≡ is.value = ap (λ b. cond (b && (writes t.it.op && is_some (kept (committed lines) (recovered lines) t))) (value_after t.it.op (finally t.at ss)) (finally t.at ss)) (not_below_itself t.at) ∙ met in
       subst (λ (z : Placed Said). answer_text (answer_of z.it.op (finally z.at (t ∷ ss))) ≡ z.it.answer) same (ap (λ v. answer_text (answer_of t.it.op v)) here ∙ is.answer)
   answered_at (t ∷ ss) (c ∷ cs) are there falls saw s k (inr i) e =
@@ -270,7 +273,7 @@ module _ (values : Values) (lines : List Line) (right : AreRight new_book lines)
 
   pub answered_call : (s : Placed Said) (k : Call) → In s (said lines) → s.it.x ≡ x → kept (committed lines) (recovered lines) s ≡ Some k → answer_text (answer_of s.it.op (finally s.at (said_on x lines))) ≡ s.it.answer
   answered_call s k i is e =
-      let w = run_values tied.run (start_holds (tied.code (values x))) (start_values (tied.code (values x))) in
+      let w = run_values tied.run (start_holds (tied.code (values x) (tied.act nobody))) (start_values (tied.code (values x) (tied.act nobody))) in
       answered_at (said_on x lines) S.calls tied.calls (all_from (λ (z : Placed Said). In z (said lines)) (said_on x lines) (λ z j. (on_object x lines z j).0), each S.calls (λ c j. j)) (said_falls x lines) (saw_the_last w.0 w.1) s k (to_object x lines s i is) e
     where
       each : (cs : List state.Call) → ((c : state.Call) → machine.In c cs → machine.In c S.calls) → AllByRecursion (λ (c : state.Call). machine.In c S.calls) cs

@@ -34,9 +34,9 @@ pub record HasPlaces (act : Acts) (lines : List Line) : Type 0 where
   pub actions : (a : Act) → Began lines a → is_action (act a.uid) ≡ not (is_serial a.kind)
   pub units : (a b : Act) → Began lines a → Began lines b → root (act a.uid) ≡ root (act b.uid) → root_in (path_of lines a) ≡ root_in (path_of lines b)
 
--- two values have two codes
+-- two values have two codes, and so have two tops that wrote them
 abbrev pub AreApart : Codes → Type 0
-AreApart code = (v w : Value) → code v ≡ code w → v ≡ w
+AreApart code = (v w : Value) (a b : machine.Act) → code v a ≡ code w b → (v ≡ w) × (a ≡ b)
 
 -- The machine reaches the state, and it is tied to the journal, in places that the journal's paths have and in codes that tell values
 -- apart.

@@ -19,7 +19,7 @@ pub fn begun_actions_have_their_paths()
         → AreOneTree (record { begun = begun; paths = paths; act = act }) → HasPlaces act lines }
 {}
 
-/// There are codes that tell values apart. It does nothing when it runs.
+/// There are codes that tell values apart, and the tops that wrote them. It does nothing when it runs.
 pub fn values_have_codes()
     ensures { AreApart code_of }
 {}
