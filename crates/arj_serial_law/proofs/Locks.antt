@@ -6,7 +6,7 @@ use Rattle.std.proofs.lemmas.Bool.{and_parts}
 use Rattle.std.proofs.lemmas.Bool.Decides.{nat_tests}
 use Rattle.arj_base.proofs.Uids.{uid_is, uid_other, uid_same}
 use Rattle.arj_base.specs.Rows.{Row, last_uid}
-use Rattle.arj_base.specs.Uid.{entry, object, uid_eq}
+use Rattle.arj_base.specs.Uid.{entry, object, uid_eq, nobody}
 use Rattle.arj_base.specs.declared.mode.Mode.{Mode}
 use Rattle.arj_base.specs.declared.mode.Mode.TheVariants as mode
 use Rattle.arj_base.specs.declared.uid.Uid.{Uid}
@@ -191,10 +191,10 @@ module _ (values : Values) (lines : List Line) (right : AreRight new_book lines)
   sound = its_sound lines right
 
   holds : Holds T
-  holds = run_keeps tie.run (start_holds (t.code (values x)))
+  holds = run_keeps tie.run (start_holds (t.code (values x) (t.act nobody)))
 
   one_node : IsAtOneNode T
-  one_node = is_at_one_node holds (roots_low tie.run (start_low (t.code (values x))))
+  one_node = is_at_one_node holds (roots_low tie.run (start_low (t.code (values x) (t.act nobody))))
 
   -- the unit of a call
   unit_is : (c : Call) (s : IsShown values lines right x T tie c) → root_of_call lines c ≡ (let n = s.number in n.root)
