@@ -3,7 +3,7 @@ use Rattle.std.proofs.Common.{◌≡◌, ◌⊎◌, ℕ, ◌+◌, ◌≤◌, Lis
 use Rattle.std.specs.Str.{bytes_eq}
 use Rattle.arj_disk_law.specs.Core.{Core}
 use Rattle.arj_disk_law.specs.Effects.{Locked, IsClear, new_list}
-use Rattle.arj_disk_law.specs.Guards.{HasRow, IsPresent, IsGranted, HasPart, MayConfirm}
+use Rattle.arj_disk_law.specs.Guards.{HasRow, HasPresent, IsPresent, IsGranted, HasPart, MayConfirm}
 use Rattle.arj_disk_law.specs.Laws.{IsBased}
 use Rattle.arj_disk_law.specs.Messages.{Confirm, IsOver}
 use Rattle.arj_disk_law.specs.Named.{Named, IsLeaving}
@@ -43,7 +43,7 @@ some_or_none (x ∷ l) = inl (x, or_left (x == x) (has x l) (same x))
 written_target : (p : Plan) (s : ℕ) → is_some p.writes ≡ true → has s p.list ≡ true → target p s ≡ true
 written_target p s w i = or_left (is_some p.writes && has s p.list) (has s p.joins) (rw (w, i))
 
-module _ (A : Office) (c : Named A) (t : ℕ) (may : MayConfirm A t) (present : HasPart (A.world.disk.plan t) → IsPresent A.world.disk A.names t) where
+module _ (A : Office) (c : Named A) (t : ℕ) (may : MayConfirm A t) (present : HasPart (A.world.disk.plan t) → HasPresent A.world.disk A.names t) where
   abbrev S : State
   S = A.world.disk
 
@@ -61,7 +61,11 @@ module _ (A : Office) (c : Named A) (t : ℕ) (may : MayConfirm A t) (present : 
 
   -- it wasn't confirmed before
   pub unconfirmed : HasPart (S.plan t) → (S.conf t ≡ true) ⊎ (S.light t ≡ true) → ⊥
-  unconfirmed part taken = let x = c.grants.part t taken part in never (x.2 (present part x.0 x.1)) may.new
+  unconfirmed part taken = may.fresh part taken
+
+  -- while its outcome is open all grants are of the present incarnation
+  now_present : HasPart (S.plan t) → undecided S t ≡ true → IsPresent S N t
+  now_present part u = (present part).all u
 
   pub undone : HasPart (S.plan t) → decided S t ≡ false
   undone part = falls_to (decided S t) (λ d. unconfirmed part (core.coordinators.decided_taken t d))
@@ -84,8 +88,8 @@ module _ (A : Office) (c : Named A) (t : ℕ) (may : MayConfirm A t) (present : 
       now i (inr h) e = inr (subst (λ n. N.had (S.root t) n ≡ true) e h)
 
       of : HasPart (S.plan t) → IsGranted S N t
-      of (inl wrote) = let x = c.lists.plan t u wrote in now x.0 x.1 (present part x.0 x.1)
-      of (inr (s, j)) = let x = c.plans.asked t s begun j in now x.0 (inl x.1) (present part x.0 (inl x.1))
+      of (inl wrote) = let x = c.lists.plan t u wrote in now x.0 x.1 (now_present part u x.0 x.1)
+      of (inr (s, j)) = let x = c.plans.asked t s begun j in now x.0 (inl x.1) (now_present part u x.0 (inl x.1))
 
   -- its root has a lock
   pub kin : HasPart (S.plan t) → undecided S t ≡ true → Kin S N (S.root t)
@@ -158,14 +162,14 @@ module _ (A : Office) (c : Named A) (t : ℕ) (may : MayConfirm A t) (present : 
 
   -- what it includes is the last state, and then it is alone
   pub loaded : HasPart (S.plan t) → undecided S t ≡ true → (s : ℕ) → has s (S.plan t).joins ≡ true → ((S.plan t).loaded ≡ last S) × ((z : ℕ) → S.conf z ≡ true → undecided S z ≡ true → z ≡ t)
-  loaded part u s j = c.plans.loaded t s u j (present part)
+  loaded part u s j = c.plans.loaded t s u j (now_present part u)
 
   -- each listed store is in its list, or about to leave
   pub wide : HasPart (S.plan t) → undecided S t ≡ true → (s : ℕ) → is_some (S.plan t).writes ≡ true → Listed S s → (target (S.plan t) s ≡ true) ⊎ IsLeaving S.root (decided S) S.entry_pend (S.root t) s
   wide part u s wrote listed = ⊎_elim
       (λ (i : has s (S.plan t).list ≡ true). inl (written_target (S.plan t) s wrote i))
       (λ (x : IsLeaving S.root (decided S) S.entry_pend (S.root t) s). inr x)
-      ((c.lists.plan t u wrote).2 (present part) s listed)
+      ((c.lists.plan t u wrote).2 (now_present part u) s listed)
 
   excuse : (s : ℕ) → IsLeaving S.root (decided S) S.entry_pend (S.root t) s → IsExcused S t s
   excuse s x = record { by_entry = x.by_entry; there = x.there; whose = inr (x.done_by, x.of_root); lacks = x.lacks }
@@ -313,7 +317,7 @@ module _ (A : Office) (c : Named A) (t : ℕ) (may : MayConfirm A t) (present : 
 
   -- a top that includes a store has the write lock
   pub join_row : (s : ℕ) → has s (S.plan t).joins ≡ true → HasRow N t 2
-  join_row s j = let x = c.plans.asked t s begun j in c.rows.asked t (x.2 (present (inr (s, j)) x.0 (inl x.1)) may.untold) may.untold
+  join_row s j = let x = c.plans.asked t s begun j in c.rows.asked t (x.2 ((present (inr (s, j))).own x.0 x.1) may.untold) may.untold
 
   -- a new entry is guarded
   pub enter_row : bytes_eq (new_list S t) S.entry.content ≡ false → HasRow N t 1

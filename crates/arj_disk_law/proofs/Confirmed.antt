@@ -3,7 +3,7 @@ use Rattle.std.proofs.Common.{◌≡◌, ◌⊎◌, ℕ, List, Bool, true, false
 use Rattle.arj_disk_law.specs.Core.{Core}
 use Rattle.arj_disk_law.specs.Effects
 use Rattle.arj_disk_law.specs.Effects.{World, Whole, CanAgree, CanPass, CanEnter, changed, marked, entry_hold, new_list}
-use Rattle.arj_disk_law.specs.Guards.{HasRow, IsUntold, IsPresent, HasPart, MayConfirm, MayAgree, MayPass, MayEnter}
+use Rattle.arj_disk_law.specs.Guards.{HasRow, IsUntold, HasPresent, IsPresent, HasPart, MayConfirm, MayAgree, MayPass, MayEnter}
 use Rattle.arj_disk_law.specs.Messages.{IsOver, Confirm}
 use Rattle.arj_disk_law.specs.Named.{Named, Grants, IsLeaving, IsWide, AnswerMeans, Plans}
 use Rattle.arj_disk_law.specs.Names.{Names, Office, Answer, Bound, Loaded, acted, Do}
@@ -18,7 +18,7 @@ use Rattle.arj_disk_law.proofs.Kin.{near, open_untold}
 use Rattle.arj_disk_law.proofs.Listing.{list_from, entry_content, join_target}
 use Rattle.arj_disk_law.proofs.Restarts.{open_begun}
 
-module _ (A : Office) (c : Named A) (t : ℕ) (may : MayConfirm A t) (present : HasPart (A.world.disk.plan t) → IsPresent A.world.disk A.names t) where
+module _ (A : Office) (c : Named A) (t : ℕ) (may : MayConfirm A t) (present : HasPart (A.world.disk.plan t) → HasPresent A.world.disk A.names t) where
   abbrev S : State
   S = A.world.disk
 
@@ -149,7 +149,7 @@ agreed_named A t may c = record {
     part : HasPart (V.plan t)
     part = inl may.writes
 
-    here : HasPart (V.plan t) → IsPresent V A.names t
+    here : HasPart (V.plan t) → HasPresent V A.names t
     here p = may.present
 
     from : (x : ℕ) → (marked V t V.conf x ≡ true) ⊎ (V.light x ≡ true) → ((V.conf x ≡ true) ⊎ (V.light x ≡ true)) ⊎ ((x ≡ t) × (undecided V t ≡ true))
@@ -192,12 +192,12 @@ entered_named A t may c = record {
     V : State
     V = A.world.disk
 
-    here : HasPart (V.plan t) → IsPresent V A.names t
+    here : HasPart (V.plan t) → HasPresent V A.names t
     here p = may.present
 
     -- with a store that it includes it has the write lock
     since : (s : ℕ) → has s (V.plan t).joins ≡ true → HasRow A.names t 2
-    since s j = let a = c.plans.asked t s (c.whole.mail (Confirm t) may.confirm.asked).0 j in c.rows.asked t (a.2 (may.present a.0 (inl a.1)) may.confirm.untold) may.confirm.untold
+    since s j = let a = c.plans.asked t s (c.whole.mail (Confirm t) may.confirm.asked).0 j in c.rows.asked t (a.2 (may.present.own a.0 a.1) may.confirm.untold) may.confirm.untold
 
     free : V.entry_pend ≡ None
     free = enter_free A c t may.confirm here may.other

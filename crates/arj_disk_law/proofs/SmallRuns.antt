@@ -56,7 +56,7 @@ excluding_runs = (
                         (
                           record { top = refl; free = λ h n e less. grind (arith, nat_tests) },
                           (
-                            record { confirm = record { asked = inl refl; new = refl; untold = (refl, refl); unlisted = λ s j. cc; exclude = λ s t g l. (1, refl, le_refl 1) }; present = λ i h. grind (arith, nat_tests); other = refl; stores = (2, refl); corner = λ u w s e j. cc },
+                            record { confirm = record { asked = inl refl; new = refl; fresh = λ w z. ⊎_elim (λ q. cc q) (λ q. cc q) z; untold = (refl, refl); unlisted = λ s j. cc; exclude = λ s t g l. (1, refl, le_refl 1) }; present = record { own = λ i h. grind (arith, nat_tests); all = λ u i h. grind (arith, nat_tests) }; other = refl; stores = (2, refl); corner = λ u w s e j. cc },
                             (
                               ((inl refl, λ u. inl refl), tt),
                               tt,
@@ -212,7 +212,7 @@ including_runs = (
                   (
                     (refl, tt),
                     (
-                      record { confirm = record { asked = inl refl; new = refl; untold = (refl, refl); unlisted = λ s j. grind (arith, nat_tests); exclude = λ s t g l. (2, refl, omega arith) }; present = λ i h. grind (arith, nat_tests); other = refl; stores = (3, refl); corner = λ u w s e j. cc },
+                      record { confirm = record { asked = inl refl; new = refl; fresh = λ w z. ⊎_elim (λ q. cc q) (λ q. cc q) z; untold = (refl, refl); unlisted = λ s j. grind (arith, nat_tests); exclude = λ s t g l. (2, refl, omega arith) }; present = record { own = λ i h. grind (arith, nat_tests); all = λ u i h. grind (arith, nat_tests) }; other = refl; stores = (3, refl); corner = λ u w s e j. cc },
                       (
                         ((inl refl, λ u. inl refl), tt),
                         (
@@ -279,7 +279,7 @@ serializing_runs = (
                             (
                               (refl, tt),
                               (
-                                record { confirm = record { asked = inl refl; new = refl; untold = (refl, refl); unlisted = λ s j. cc; exclude = λ s t g l. absurd (grind (arith, nat_tests)) }; present = λ i h. grind (arith, nat_tests); writes = refl; same = refl },
+                                record { confirm = record { asked = inl refl; new = refl; fresh = λ w z. ⊎_elim (λ q. cc q) (λ q. cc q) z; untold = (refl, refl); unlisted = λ s j. cc; exclude = λ s t g l. absurd (grind (arith, nat_tests)) }; present = record { own = λ i h. grind (arith, nat_tests); all = λ u i h. grind (arith, nat_tests) }; writes = refl; same = refl },
                                 (
                                   ((inl refl, λ u. inl refl), tt),
                                   (
@@ -349,7 +349,7 @@ retaining_runs = (
                     (
                       (refl, tt),
                       (
-                        record { confirm = record { asked = inl refl; new = refl; untold = (refl, refl); unlisted = λ s j. cc; exclude = λ s t g l. absurd (grind (arith, nat_tests)) }; present = λ i h. grind (arith, nat_tests); writes = refl; same = refl },
+                        record { confirm = record { asked = inl refl; new = refl; fresh = λ w z. ⊎_elim (λ q. cc q) (λ q. cc q) z; untold = (refl, refl); unlisted = λ s j. cc; exclude = λ s t g l. absurd (grind (arith, nat_tests)) }; present = record { own = λ i h. grind (arith, nat_tests); all = λ u i h. grind (arith, nat_tests) }; writes = refl; same = refl },
                         (
                           ((inl refl, λ u. inl refl), tt),
                           (

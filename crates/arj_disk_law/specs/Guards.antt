@@ -50,10 +50,17 @@ pub record MayBegin (A : Office) (t : ℕ) (p : Plan) : Type 0 where
       × (IsPresent A.world.disk A.names t → (h : ℕ) × ((h ≡ t) ⊎ (h ≡ A.world.disk.root t)) × (k : Kept) × (A.names.kept h ≡ Some k) × ((s : ℕ) → has s k.list ≡ true → has s p.list ≡ true))
   pub loaded : (s : ℕ) → has s p.joins ≡ true → (i : ℕ) × (g : Packed) × In (Loaded t i g) A.names.answers × (A.names.had t i ≡ true) × (p.loaded ≡ load_of A.world.disk t g)
 
--- what a confirmation looks at in each case
+-- What a top counts on of grants: each that it has itself is of the present incarnation; and so is each that its root retains, while
+-- its outcome is open.
+pub record HasPresent (S : State) (N : Names) (t : ℕ) : Type 0 where
+  pub own : (i : ℕ) → N.had t i ≡ true → i ≡ N.inc
+  pub all : undecided S t ≡ true → IsPresent S N t
+
+-- what a confirmation looks at in each case: a top with a part in the object wasn't confirmed before
 pub record MayConfirm (A : Office) (t : ℕ) : Type 0 where
   pub asked : In (Confirm t) A.world.sent
   pub new : A.names.confd t ≡ false
+  pub fresh : HasPart (A.world.disk.plan t) → (A.world.disk.conf t ≡ true) ⊎ (A.world.disk.light t ≡ true) → ⊥
   pub untold : IsUntold A.world.disk A.names t
   pub unlisted : IsUnlisted A.world.disk t
   pub exclude : MayExclude A.world.disk A.names t
@@ -62,13 +69,13 @@ pub record MayConfirm (A : Office) (t : ℕ) : Type 0 where
 -- includes no listed store.
 pub record MayAgree (A : Office) (t : ℕ) : Type 0 where
   pub confirm : MayConfirm A t
-  pub present : IsPresent A.world.disk A.names t
+  pub present : HasPresent A.world.disk A.names t
   pub writes : is_some (A.world.disk.plan t).writes ≡ true
   pub same : bytes_eq (new_list A.world.disk t) A.world.disk.entry.content ≡ true
 
 pub record MayPass (A : Office) (t : ℕ) : Type 0 where
   pub confirm : MayConfirm A t
-  pub present : HasPart (A.world.disk.plan t) → IsPresent A.world.disk A.names t
+  pub present : HasPart (A.world.disk.plan t) → HasPresent A.world.disk A.names t
   pub plain : (A.world.disk.plan t).writes ≡ None
   pub none : (s : ℕ) → A.world.disk.got t s ≡ false
   pub idle : NoneIsListed A.world.disk t
@@ -77,7 +84,7 @@ pub record MayPass (A : Office) (t : ℕ) : Type 0 where
 -- version above the one that it loaded.
 pub record MayEnter (A : Office) (t : ℕ) : Type 0 where
   pub confirm : MayConfirm A t
-  pub present : IsPresent A.world.disk A.names t
+  pub present : HasPresent A.world.disk A.names t
   pub other : bytes_eq (new_list A.world.disk t) A.world.disk.entry.content ≡ false
   pub stores : (s : ℕ) × (has s (new_list A.world.disk t) ≡ true)
   pub corner : undecided A.world.disk t ≡ true → (w : Packed) (s : ℕ) → (A.world.disk.plan t).writes ≡ Some w → has s (A.world.disk.plan t).joins ≡ true → w.version ≡ (A.world.disk.plan t).loaded.version + 1

@@ -1,6 +1,6 @@
 -- What claims rest on stays as the machine goes on, and so do claims.
-use Rattle.std.proofs.Common.{◌≡◌, ℕ, ◌==◌, List, [], ◌∷◌, ◌++◌, Bool, true, Option, Some, None, refl, sym, ◌∙◌, ap, subst, inl, inr}
-use Rattle.std.proofs.lemmas.Bool.{or_left}
+use Rattle.std.proofs.Common.{◌≡◌, ◌⊎◌, ℕ, ◌==◌, ◌||◌, List, [], ◌∷◌, ◌++◌, Bool, true, Option, Some, None, refl, sym, ◌∙◌, ap, subst, inl, inr, ⊎_elim, is_some}
+use Rattle.std.proofs.lemmas.Bool.{or_left, or_parts}
 use Rattle.std.proofs.lemmas.List.Folds.{list_any-append}
 use Rattle.arj_protocol.specs.Words.{Uid, End, Line, Head, Asked, Ask, asks, Message, ObjectState, object}
 use Rattle.arj_protocol.specs.Words.ask
@@ -15,9 +15,10 @@ use Rattle.arj_disk_law.specs.Effects
 use Rattle.arj_disk_law.specs.Effects.{World, Effect, Whole, Follows, Allowed, run, after}
 use Rattle.arj_disk_law.specs.Messages as mail
 use Rattle.arj_disk_law.specs.State as disk
-use Rattle.arj_disk_law.specs.State.{Stage, Preparing, Confirming, Gone, is_gone, is_idle, is_sealed, target, state_for}
+use Rattle.arj_disk_law.specs.State.{Stage, Preparing, Confirming, Gone, is_gone, is_idle, is_open, is_sealed, open_by, target, state_for, undecided}
 use Rattle.arj_disk_law.specs.Words.{put}
-use Rattle.arj_disk_law.proofs.Base.{or_right, put_rises, put_other, falls_to, never, test_is, put_cases}
+use Rattle.arj_disk_law.proofs.Base.{open_done, open_made, open_parts, or_right, put_rises, put_other, falls_to, never, test_is, put_cases}
+use Rattle.arj_disk_law.proofs.Confirming.{marked_cases}
 use Rattle.arj_disk_law.proofs.Keeps.{effect_keeps}
 use Rattle.arj_view_law.specs.Seen.{Post}
 use Rattle.arj_disk_view_law.specs.Confirming.{SaysMarks}
@@ -26,7 +27,7 @@ use Rattle.arj_disk_view_law.specs.Stores.{IsPlanned, ClaimsCommit, ClaimsAbort}
 use Rattle.arj_disk_view_law.specs.Sees.{Kinds, Claims, ClaimsAsk, ClaimsReply, ClaimsEnd, ClaimsLast, ClaimsOther, ClaimsAnswered, ClaimsAsked, IsLater, EffectsAreLater, ClaimsStay, begins, was_begun}
 
 pub later_same : (W : World) → IsLater W W
-later_same W = record { begun = λ z b. b; plan = λ z b. refl; sealed = λ z h. h; got = λ z h. refl; bare = λ z b. b; serial = refl; root = refl; decided = λ z b. b; sent = λ m i. i; known = λ g k. k; gone = λ z h. h }
+later_same W = record { begun = λ z b. b; plan = λ z b. refl; sealed = λ z h. h; got = λ z h. refl; bare = λ z b. b; serial = refl; root = refl; decided = λ z b. b; sent = λ m i. i; known = λ g k. k; gone = λ z h. h; opened = λ z b u. u; taken = λ z b m. inl m }
 
 pub later_on : (U V W : World) → IsLater U V → IsLater V W → IsLater U W
 later_on U V W a b = record {
@@ -41,6 +42,8 @@ later_on U V W a b = record {
   sent = λ m i. b.sent m (a.sent m i);
   known = λ g k. b.known g (a.known g k);
   gone = λ t h. b.gone t (a.gone t h);
+  opened = λ t h u. a.opened t h (b.opened t (a.begun t h) u);
+  taken = λ t h m. ⊎_elim (λ old. a.taken t h old) (λ u. inr (a.opened t h u)) (b.taken t (a.begun t h) m);
 }
 
 -- a stage that is put at its end, or past the prepare step, is sealed
@@ -50,6 +53,24 @@ seals t g f is z h = put_cases (λ k. is_sealed k ≡ true) t g f z (λ e. is) (
 -- and one that is put at its end is at its end
 ends : (t : ℕ) (g : Stage) (f : ℕ → Stage) → is_gone g ≡ true → (z : ℕ) → is_gone (f z) ≡ true → is_gone (put t g f z) ≡ true
 ends t g f is z h = put_cases (λ k. is_gone k ≡ true) t g f z (λ e. is) (λ e. h)
+
+-- no outcome is opened by another stage that is open only where the one before was, nor by a record of an open commit
+stage_opened : (S : disk.State) (t : ℕ) (g : Stage) → (is_open g ≡ true → is_open (S.stage t) ≡ true) → (z : ℕ) → open_by (disk.decided S z) (put t g S.stage z) (S.intent z) ≡ true → undecided S z ≡ true
+stage_opened S t g was z = put_cases (λ k. open_by (disk.decided S z) k (S.intent z) ≡ true → undecided S z ≡ true) t g S.stage z
+    (λ e u. open_made (disk.decided S z) (S.stage z) (S.intent z) (open_done (disk.decided S z) g (S.intent z) u) (⊎_elim (λ o. inl (ap (λ n. is_open (S.stage n)) e ∙ was o)) (λ n. inr n) (open_parts (disk.decided S z) g (S.intent z) u))) (λ other u. u)
+
+intent_opened : (S : disk.State) (t : ℕ) (o : Option (List ℕ)) → (is_some o ≡ true → (is_open (S.stage t) ≡ true) ⊎ (is_some (S.intent t) ≡ true)) → (z : ℕ) → open_by (disk.decided S z) (S.stage z) (put t o S.intent z) ≡ true → undecided S z ≡ true
+intent_opened S t o was z = put_cases (λ k. open_by (disk.decided S z) (S.stage z) k ≡ true → undecided S z ≡ true) t o S.intent z
+    (λ e u. open_made (disk.decided S z) (S.stage z) (S.intent z) (open_done (disk.decided S z) (S.stage z) o u)
+    (⊎_elim (λ g. inl g) (λ n. subst (λ k. (is_open (S.stage k) ≡ true) ⊎ (is_some (S.intent k) ≡ true)) (sym e) (was n)) (open_parts (disk.decided S z) (S.stage z) o u))) (λ other u. u)
+
+decision_opened : (S : disk.State) (t z : ℕ) → open_by ((t == z) || disk.decided S z) (put t Gone S.stage z) (S.intent z) ≡ true → undecided S z ≡ true
+decision_opened S t z u = stage_opened S t Gone (λ o. absurd (never o refl)) z
+    (open_made (disk.decided S z) (put t Gone S.stage z) (S.intent z) (or_parts (t == z) (disk.decided S z) (open_done ((t == z) || disk.decided S z) (put t Gone S.stage z) (S.intent z) u)).1 (open_parts ((t == z) || disk.decided S z) (put t Gone S.stage z) (S.intent z) u))
+
+-- who is marked was marked, or has an open outcome
+newly : {P : Type 0} (S : disk.State) (t z : ℕ) (f : ℕ → Bool) → (f z ≡ true → P) → (f z ≡ true) ⊎ ((z ≡ t) × (undecided S t ≡ true)) → P ⊎ (undecided S z ≡ true)
+newly S t z f old m = ⊎_elim (λ c. inl (old c)) (λ n. inr (ap (undecided S) n.0 ∙ n.1)) m
 
 effect_later : (W : World) (e : Effect) → Allowed W e → Whole W → IsLater W (after W e)
 effect_later W (Effects.Begin t p) x w = record {
@@ -64,6 +85,8 @@ effect_later W (Effects.Begin t p) x w = record {
   sent = λ m i. i;
   known = λ g k. k;
   gone = λ z h. put_cases (λ k. is_gone k ≡ true) t Preparing W.disk.stage z (λ e. absurd (cc (sym (ap is_gone (ap W.disk.stage e ∙ x.idle)) ∙ h))) (λ e. h);
+  opened = λ z b u. subst (λ g. open_by (disk.decided W.disk z) g (W.disk.intent z) ≡ true) (put_other t Preparing W.disk.stage z (falls_to (z == t) (λ on. idle (subst (λ k. W.disk.begun k ≡ true) (test_is z t on) b)))) u;
+  taken = λ z b m. inl m;
 }
   where
     idle : W.disk.begun t ≡ true → ⊥
@@ -80,25 +103,27 @@ effect_later W (Effects.Take t s) x w = record {
   sent = λ m i. i;
   known = λ g k. k;
   gone = λ z h. h;
+  opened = λ z b u. u;
+  taken = λ z b m. inl m;
 }
-effect_later W (Effects.Seal t) x w = record { begun = λ z b. b; plan = λ z b. refl; sealed = seals t Confirming W.disk.stage refl; got = λ z h. refl; bare = λ z b. b; serial = refl; root = refl; decided = λ z b. b; sent = λ m i. i; known = λ g k. k; gone = λ z h. put_cases (λ k. is_gone k ≡ true) t Confirming W.disk.stage z (λ e. absurd (cc (sym (ap is_gone (ap W.disk.stage e ∙ x)) ∙ h))) (λ e. h) }
-effect_later W (Effects.Intend t nodes) x w = record { begun = λ z b. b; plan = λ z b. refl; sealed = λ z h. h; got = λ z h. refl; bare = λ z b. b; serial = refl; root = refl; decided = λ z b. b; sent = λ m i. i; known = λ g k. k; gone = λ z h. h }
-effect_later W (Effects.Decide t) x w = record { begun = λ z b. b; plan = λ z b. refl; sealed = seals t Gone W.disk.stage refl; got = λ z h. refl; bare = λ z b. b; serial = refl; root = refl; decided = λ z b. or_right (t == z) (disk.decided W.disk z) b; sent = λ m i. i; known = λ g k. inr k; gone = ends t Gone W.disk.stage refl }
-effect_later W (Effects.Remove t nodes) x w = record { begun = λ z b. b; plan = λ z b. refl; sealed = λ z h. h; got = λ z h. refl; bare = λ z b. b; serial = refl; root = refl; decided = λ z b. b; sent = λ m i. i; known = λ g k. k; gone = λ z h. h }
-effect_later W (Effects.EndBare t) x w = record { begun = λ z b. b; plan = λ z b. refl; sealed = seals t Gone W.disk.stage refl; got = λ z h. refl; bare = λ z b. put_rises t W.disk.bare z b; serial = refl; root = refl; decided = λ z b. b; sent = λ m i. i; known = λ g k. k; gone = ends t Gone W.disk.stage refl }
-effect_later W (Effects.Halt t) x w = record { begun = λ z b. b; plan = λ z b. refl; sealed = seals t Gone W.disk.stage refl; got = λ z h. refl; bare = λ z b. b; serial = refl; root = refl; decided = λ z b. b; sent = λ m i. i; known = λ g k. k; gone = ends t Gone W.disk.stage refl }
-effect_later W (Effects.Keep t s) x w = record { begun = λ z b. b; plan = λ z b. refl; sealed = λ z h. h; got = λ z h. refl; bare = λ z b. b; serial = refl; root = refl; decided = λ z b. b; sent = λ m i. i; known = λ g k. k; gone = λ z h. h }
-effect_later W (Effects.Move s h) x w = record { begun = λ z b. b; plan = λ z b. refl; sealed = λ z h. h; got = λ z h. refl; bare = λ z b. b; serial = refl; root = refl; decided = λ z b. b; sent = λ m i. i; known = λ g k. k; gone = λ z h. h }
-effect_later W (Effects.Finish s h) x w = record { begun = λ z b. b; plan = λ z b. refl; sealed = λ z h. h; got = λ z h. refl; bare = λ z b. b; serial = refl; root = refl; decided = λ z b. b; sent = λ m i. i; known = λ g k. k; gone = λ z h. h }
-effect_later W (Effects.Drop s h) x w = record { begun = λ z b. b; plan = λ z b. refl; sealed = λ z h. h; got = λ z h. refl; bare = λ z b. b; serial = refl; root = refl; decided = λ z b. b; sent = λ m i. i; known = λ g k. k; gone = λ z h. h }
-effect_later W (Effects.Agree t) x w = record { begun = λ z b. b; plan = λ z b. refl; sealed = λ z h. h; got = λ z h. refl; bare = λ z b. b; serial = refl; root = refl; decided = λ z b. b; sent = λ m i. i; known = λ g k. k; gone = λ z h. h }
-effect_later W (Effects.Pass t) x w = record { begun = λ z b. b; plan = λ z b. refl; sealed = λ z h. h; got = λ z h. refl; bare = λ z b. b; serial = refl; root = refl; decided = λ z b. b; sent = λ m i. i; known = λ g k. k; gone = λ z h. h }
-effect_later W (Effects.Enter t) x w = record { begun = λ z b. b; plan = λ z b. refl; sealed = λ z h. h; got = λ z h. refl; bare = λ z b. b; serial = refl; root = refl; decided = λ z b. b; sent = λ m i. i; known = λ g k. k; gone = λ z h. h }
-effect_later W (Effects.MoveEntry h) x w = record { begun = λ z b. b; plan = λ z b. refl; sealed = λ z h. h; got = λ z h. refl; bare = λ z b. b; serial = refl; root = refl; decided = λ z b. b; sent = λ m i. i; known = λ g k. k; gone = λ z h. h }
-effect_later W (Effects.FinishEntry h) x w = record { begun = λ z b. b; plan = λ z b. refl; sealed = λ z h. h; got = λ z h. refl; bare = λ z b. b; serial = refl; root = refl; decided = λ z b. b; sent = λ m i. i; known = λ g k. k; gone = λ z h. h }
-effect_later W (Effects.DropEntry h) x w = record { begun = λ z b. b; plan = λ z b. refl; sealed = λ z h. h; got = λ z h. refl; bare = λ z b. b; serial = refl; root = refl; decided = λ z b. b; sent = λ m i. i; known = λ g k. k; gone = λ z h. h }
-effect_later W (Effects.Forget r h) x w = record { begun = λ z b. b; plan = λ z b. refl; sealed = λ z h. h; got = λ z h. refl; bare = λ z b. b; serial = refl; root = refl; decided = λ z b. b; sent = λ m i. i; known = λ g k. k; gone = λ z h. h }
-effect_later W (Effects.Send m) x w = record { begun = λ z b. b; plan = λ z b. refl; sealed = λ z h. h; got = λ z h. refl; bare = λ z b. b; serial = refl; root = refl; decided = λ z b. b; sent = λ m i. inr i; known = λ g k. k; gone = λ z h. h }
+effect_later W (Effects.Seal t) x w = record { begun = λ z b. b; plan = λ z b. refl; sealed = seals t Confirming W.disk.stage refl; got = λ z h. refl; bare = λ z b. b; serial = refl; root = refl; decided = λ z b. b; sent = λ m i. i; known = λ g k. k; gone = λ z h. put_cases (λ k. is_gone k ≡ true) t Confirming W.disk.stage z (λ e. absurd (cc (sym (ap is_gone (ap W.disk.stage e ∙ x)) ∙ h))) (λ e. h); opened = λ z b u. stage_opened W.disk t Confirming (λ o. ap is_open x) z u; taken = λ z b m. inl m }
+effect_later W (Effects.Intend t nodes) x w = record { begun = λ z b. b; plan = λ z b. refl; sealed = λ z h. h; got = λ z h. refl; bare = λ z b. b; serial = refl; root = refl; decided = λ z b. b; sent = λ m i. i; known = λ g k. k; gone = λ z h. h; opened = λ z b u. intent_opened W.disk t (Some nodes) (λ o. inl (ap is_open (x.sealed))) z u; taken = λ z b m. inl m }
+effect_later W (Effects.Decide t) x w = record { begun = λ z b. b; plan = λ z b. refl; sealed = seals t Gone W.disk.stage refl; got = λ z h. refl; bare = λ z b. b; serial = refl; root = refl; decided = λ z b. or_right (t == z) (disk.decided W.disk z) b; sent = λ m i. i; known = λ g k. inr k; gone = ends t Gone W.disk.stage refl; opened = λ z b u. decision_opened W.disk t z u; taken = λ z b m. inl m }
+effect_later W (Effects.Remove t nodes) x w = record { begun = λ z b. b; plan = λ z b. refl; sealed = λ z h. h; got = λ z h. refl; bare = λ z b. b; serial = refl; root = refl; decided = λ z b. b; sent = λ m i. i; known = λ g k. k; gone = λ z h. h; opened = λ z b u. intent_opened W.disk t None (λ o. absurd (never o refl)) z u; taken = λ z b m. inl m }
+effect_later W (Effects.EndBare t) x w = record { begun = λ z b. b; plan = λ z b. refl; sealed = seals t Gone W.disk.stage refl; got = λ z h. refl; bare = λ z b. put_rises t W.disk.bare z b; serial = refl; root = refl; decided = λ z b. b; sent = λ m i. i; known = λ g k. k; gone = ends t Gone W.disk.stage refl; opened = λ z b u. stage_opened W.disk t Gone (λ o. absurd (never o refl)) z u; taken = λ z b m. inl m }
+effect_later W (Effects.Halt t) x w = record { begun = λ z b. b; plan = λ z b. refl; sealed = seals t Gone W.disk.stage refl; got = λ z h. refl; bare = λ z b. b; serial = refl; root = refl; decided = λ z b. b; sent = λ m i. i; known = λ g k. k; gone = ends t Gone W.disk.stage refl; opened = λ z b u. stage_opened W.disk t Gone (λ o. absurd (never o refl)) z u; taken = λ z b m. inl m }
+effect_later W (Effects.Keep t s) x w = record { begun = λ z b. b; plan = λ z b. refl; sealed = λ z h. h; got = λ z h. refl; bare = λ z b. b; serial = refl; root = refl; decided = λ z b. b; sent = λ m i. i; known = λ g k. k; gone = λ z h. h; opened = λ z b u. u; taken = λ z b m. inl m }
+effect_later W (Effects.Move s h) x w = record { begun = λ z b. b; plan = λ z b. refl; sealed = λ z h. h; got = λ z h. refl; bare = λ z b. b; serial = refl; root = refl; decided = λ z b. b; sent = λ m i. i; known = λ g k. k; gone = λ z h. h; opened = λ z b u. u; taken = λ z b m. inl m }
+effect_later W (Effects.Finish s h) x w = record { begun = λ z b. b; plan = λ z b. refl; sealed = λ z h. h; got = λ z h. refl; bare = λ z b. b; serial = refl; root = refl; decided = λ z b. b; sent = λ m i. i; known = λ g k. k; gone = λ z h. h; opened = λ z b u. u; taken = λ z b m. inl m }
+effect_later W (Effects.Drop s h) x w = record { begun = λ z b. b; plan = λ z b. refl; sealed = λ z h. h; got = λ z h. refl; bare = λ z b. b; serial = refl; root = refl; decided = λ z b. b; sent = λ m i. i; known = λ g k. k; gone = λ z h. h; opened = λ z b u. u; taken = λ z b m. inl m }
+effect_later W (Effects.Agree t) x w = record { begun = λ z b. b; plan = λ z b. refl; sealed = λ z h. h; got = λ z h. refl; bare = λ z b. b; serial = refl; root = refl; decided = λ z b. b; sent = λ m i. i; known = λ g k. k; gone = λ z h. h; opened = λ z b u. u; taken = λ z b m. ⊎_elim (λ c. newly W.disk t z W.disk.conf (λ c. inl c) (marked_cases W.disk t W.disk.conf z c)) (λ l. inl (inr l)) m }
+effect_later W (Effects.Pass t) x w = record { begun = λ z b. b; plan = λ z b. refl; sealed = λ z h. h; got = λ z h. refl; bare = λ z b. b; serial = refl; root = refl; decided = λ z b. b; sent = λ m i. i; known = λ g k. k; gone = λ z h. h; opened = λ z b u. u; taken = λ z b m. ⊎_elim (λ c. inl (inl c)) (λ l. newly W.disk t z W.disk.light (λ c. inr c) (marked_cases W.disk t W.disk.light z l)) m }
+effect_later W (Effects.Enter t) x w = record { begun = λ z b. b; plan = λ z b. refl; sealed = λ z h. h; got = λ z h. refl; bare = λ z b. b; serial = refl; root = refl; decided = λ z b. b; sent = λ m i. i; known = λ g k. k; gone = λ z h. h; opened = λ z b u. u; taken = λ z b m. ⊎_elim (λ c. newly W.disk t z W.disk.conf (λ c. inl c) (marked_cases W.disk t W.disk.conf z c)) (λ l. inl (inr l)) m }
+effect_later W (Effects.MoveEntry h) x w = record { begun = λ z b. b; plan = λ z b. refl; sealed = λ z h. h; got = λ z h. refl; bare = λ z b. b; serial = refl; root = refl; decided = λ z b. b; sent = λ m i. i; known = λ g k. k; gone = λ z h. h; opened = λ z b u. u; taken = λ z b m. inl m }
+effect_later W (Effects.FinishEntry h) x w = record { begun = λ z b. b; plan = λ z b. refl; sealed = λ z h. h; got = λ z h. refl; bare = λ z b. b; serial = refl; root = refl; decided = λ z b. b; sent = λ m i. i; known = λ g k. k; gone = λ z h. h; opened = λ z b u. u; taken = λ z b m. inl m }
+effect_later W (Effects.DropEntry h) x w = record { begun = λ z b. b; plan = λ z b. refl; sealed = λ z h. h; got = λ z h. refl; bare = λ z b. b; serial = refl; root = refl; decided = λ z b. b; sent = λ m i. i; known = λ g k. k; gone = λ z h. h; opened = λ z b u. u; taken = λ z b m. inl m }
+effect_later W (Effects.Forget r h) x w = record { begun = λ z b. b; plan = λ z b. refl; sealed = λ z h. h; got = λ z h. refl; bare = λ z b. b; serial = refl; root = refl; decided = λ z b. b; sent = λ m i. i; known = λ g k. k; gone = λ z h. h; opened = λ z b u. u; taken = λ z b m. inl m }
+effect_later W (Effects.Send m) x w = record { begun = λ z b. b; plan = λ z b. refl; sealed = λ z h. h; got = λ z h. refl; bare = λ z b. b; serial = refl; root = refl; decided = λ z b. b; sent = λ m i. inr i; known = λ g k. k; gone = λ z h. h; opened = λ z b u. u; taken = λ z b m. inl m }
 
 pub effects_are_later : EffectsAreLater
 effects_are_later W [] f w = later_same W

@@ -245,6 +245,8 @@ pub record IsLater (W V : World) : Type 0 where
   pub sent : (m : mail.Message) → In m W.sent → In m V.sent
   pub known : (g : disk.Packed) → Known W.disk g → Known V.disk g
   pub gone : (t : ℕ) → is_gone (W.disk.stage t) ≡ true → is_gone (V.disk.stage t) ≡ true
+  pub opened : (t : ℕ) → W.disk.begun t ≡ true → undecided V.disk t ≡ true → undecided W.disk t ≡ true
+  pub taken : (t : ℕ) → W.disk.begun t ≡ true → (V.disk.conf t ≡ true) ⊎ (V.disk.light t ≡ true) → ((W.disk.conf t ≡ true) ⊎ (W.disk.light t ≡ true)) ⊎ (undecided W.disk t ≡ true)
 
 -- each effect that is allowed leads to a later state, and what a message claims stays true, whatever lines are said
 abbrev pub EffectsAreLater : Type 0

@@ -30,7 +30,7 @@ use Rattle.arj_disk_view_law.specs.Sees.{Along, ClaimsAsk, IsLater, Kinds, IsSee
 use Rattle.arj_disk_view_law.proofs.ConfirmWalks.{confirms_walk_once}
 use Rattle.arj_disk_view_law.proofs.Frames.{node_here}
 use Rattle.arj_disk_view_law.proofs.StoreWalks.{took_is}
-use Rattle.arj_names_view_law.specs.Booked.{IsConfirmedBy, IsNext, NamesGrants}
+use Rattle.arj_names_view_law.specs.Booked.{IsConfirmedBy, IsNext, CountsOnGrants}
 use Rattle.arj_names_view_law.specs.Both.{ConfirmsKeepBoth, IsSeenFrom, OnlyMemory, SeesBoth, leaves_the_inc}
 use Rattle.arj_names_view_law.specs.Memory.{IsOfTop, SeesNaming}
 use Rattle.arj_names_view_law.proofs.Binding.{path_untold}
@@ -64,7 +64,7 @@ confirmed_tops t W f (inr (inr is)) = subst (λ z. ((after W z).disk.tops ≡ W.
 
 module _ (x : ℕ) (tops : Kinds) (unwalked : tops.walk ≡ None) (e : ℕ) (d : Disk) (t v : Parts) (n : Naming) (from : ℕ) (h : Head) (grants : Grants) (excluded included : Marks) (outs : List Effect) (A : Office) (M : Seen) (named : t.naming ≡ Some n)
     (prepared : is_prepared (top_of h.path) d.names ≡ true → is_on n.confirmed (top_of h.path) ≡ true) (of : IsOfTop tops A.world.disk h.path) (claims : ClaimsAsk x A.world 1 h (ask.Confirm grants excluded included))
-    (counts : IsNewConfirm h.path grants excluded included d.names n → NamesGrants x A.world.disk A.names (uid_number (top_of h.path)) grants × IsNext A.world.disk (uid_number (top_of h.path)))
+    (counts : IsNewConfirm h.path grants excluded included d.names n → CountsOnGrants x A.world.disk A.names (uid_number (top_of h.path)) grants × IsNext A.world.disk (uid_number (top_of h.path)))
     (both : SeesBoth x tops A (up 1 d t M)) where
   abbrev Top : ℕ
   Top = uid_number (top_of h.path)
@@ -96,7 +96,7 @@ module _ (x : ℕ) (tops : Kinds) (unwalked : tops.walk ≡ None) (e : ℕ) (d :
         names = B.names;
         named_then = st.named;
         inc = by.inc;
-        only = record { later = later_on A.world B.world U (subst (IsLater A.world) (sym by.world) (effects_are_later A.world (f ∷ []) (allowed, tt) (let c = both.named in c.whole))) st.later; tops = st.tops ∙ ap (λ (V : World). V.disk.tops) by.world ∙ fixed.0; had = by.had; kept = by.kept; answers = by.answers };
+        only = record { later = later_on A.world B.world U (subst (IsLater A.world) (sym by.world) (effects_are_later A.world (f ∷ []) (allowed, tt) (let c = both.named in c.whole))) st.later; tops = st.tops ∙ ap (λ (V : World). V.disk.tops) by.world ∙ fixed.0; had = by.had; kept = by.kept; answers = by.answers; inc = by.inc; confd = by.confd };
         seen = naming_on x tops (confirms (top_of h.path) (with_locks h.path grants excluded d.names n)) B.world.disk U.disk B.names (root ∙ sym (ap (λ (V : World). V.disk.root) by.world ∙ fixed.1)) go.there.1;
       }
 
@@ -132,7 +132,7 @@ module _ (x : ℕ) (tops : Kinds) (unwalked : tops.walk ≡ None) (e : ℕ) (d :
         only.world,
         runs_keep B go.acts go.may st.named,
         only.inc,
-        record { later = subst (IsLater A.world) (sym only.world) st.later; tops = ap (λ (V : World). V.disk.tops) only.world ∙ st.tops; had = only.had; kept = only.kept; answers = only.answers },
+        record { later = subst (IsLater A.world) (sym only.world) st.later; tops = ap (λ (V : World). V.disk.tops) only.world ∙ st.tops; had = only.had; kept = only.kept; answers = only.answers; inc = only.inc; confd = λ z on. ap (λ f. f z) only.confd ∙ on },
         subst (λ z. SeesNaming x tops z (end_of B go.acts).world.disk (end_of B go.acts).names) (sym is) go.there.1,
       )
   unconfirmed W st root of_now o (inr (inr (is, again, untold))) =

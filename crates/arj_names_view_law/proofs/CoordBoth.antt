@@ -12,10 +12,12 @@ use Rattle.arj_disk_law.specs.Messages as mail
 use Rattle.arj_disk_law.specs.Named.{Named}
 use Rattle.arj_disk_law.specs.Names.{Answer, AnswerLoad, Bound, Loaded, Names, Office, Do as act, Commit, CommitBare, Kept, lists_after, or_else, retained, with_list, written_in}
 use Rattle.arj_disk_law.specs.Offices.{chosen}
-use Rattle.arj_disk_law.specs.State.{State, Plan, Stage, Preparing, Confirming, Gone, decided as is_decided, decided_in as in_these, is_gone, is_open, is_sealed, open_by, undecided}
+use Rattle.arj_disk_law.specs.State.{State, Plan, Stage, Preparing, Confirming, Gone, decided as is_decided, decided_in as in_these, is_gone, is_open, is_sealed, undecided}
 use Rattle.arj_disk_law.proofs.Acts.{runs_keep}
-use Rattle.arj_disk_law.proofs.Base.{never, open_done, open_made, open_parts, or_cases, or_left, or_right, put2_rises, put2_true, put_cases, put_other, put_same, test_is, test_not, test_same}
+use Rattle.arj_disk_law.proofs.Base.{falls_to, never, open_made, or_cases, or_left, or_right, put2_rises, put2_true, put_cases, put_other, put_same, test_is, test_not, test_same}
+use Rattle.arj_disk_law.proofs.Keeps.{effect_keeps}
 use Rattle.arj_disk_law.proofs.PlainActs.{plain_act}
+use Rattle.arj_disk_law.proofs.Restarts.{open_begun}
 use Rattle.arj_view_law.specs.Seen.{Seen, at, posted, said, up}
 use Rattle.arj_disk_view_law.proofs.Frames.{node_here}
 use Rattle.arj_disk_law.specs.Words.{In}
@@ -39,7 +41,7 @@ use Rattle.arj_disk_view_law.proofs.StoreWalks.{took_is}
 use Rattle.arj_names_view_law.specs.Grants.{SeesGrants}
 use Rattle.arj_names_view_law.specs.Lists.{IsTopOf, LeavesOthers, OnlyKept, SeesLists}
 use Rattle.arj_names_view_law.specs.Memory.{NamesGo}
-use Rattle.arj_names_view_law.proofs.BareEnds.{bare_wrote, begun_bare, plain_bare}
+use Rattle.arj_names_view_law.proofs.BareEnds.{bare_wrote, begun_bare, opens_none, plain_bare}
 use Rattle.arj_names_view_law.proofs.GrantSteps.{grants_stay, heard}
 use Rattle.arj_names_view_law.proofs.ListSteps.{lists_are_heard}
 use Rattle.arj_names_view_law.specs.Both.{HasNoPart, HowDecided, IsEndedBare, IsOnly, IsRecorded, decided_names, ended_names, has_part, CallsKeepBoth, IsAnswered, LoadsKeepBoth, HasGoneOn, OnlyAnswers, OnlyAtNode, BeginningsKeepBoth, BothWalk, DecisionsKeepBoth, DisksWalk, IsOther, IsSeenFrom, IsSeenIn, OnlyRoots, OpensNone, SeesBoth, is_no_work, leaves_the_inc}
@@ -160,12 +162,14 @@ module _ (g keeps : ℕ → Bool) (A : Office) (c0 : Named A) (parts : (t : ℕ)
   record Inv (C : Office) : Type 0 where
     only : OnlyRoots g A C
     later : IsLater A.world C.world
+    unsettled : (z : ℕ) → undecided C.world.disk z ≡ true → undecided A.world.disk z ≡ true
     how : (t : ℕ) → IsOnly g t → HowDecided (keeps t) t A C
 
   begins : Inv A
   begins = record {
     only = record { names = refl; root = refl; grows = λ h j on. on; from = λ h j on. inl on; had = λ h o. refl; kept = λ h o. refl; tops = λ r o. refl };
     later = later_same A.world;
+    unsettled = λ z u. u;
     how = λ t one. inl (record { names = refl; tops = refl; bare = λ is. is });
   }
 
@@ -189,6 +193,7 @@ module _ (g keeps : ℕ → Bool) (A : Office) (c0 : Named A) (parts : (t : ℕ)
           holds = record {
             only = record { names = only.names; root = on.root; grows = only.grows; from = only.from; had = only.had; kept = only.kept; tops = λ r o. ap (written_in A.world.disk.root r) p.tops ∙ only.tops r o };
             later = on;
+            unsettled = λ z u. i.unsettled z ((opens_none C.world a allowed is).opened z u);
             how = λ t one. how_on (keeps t) t A C.names C.world (after C.world a) c.whole p.tops (plain_bare C.world.disk a is) (effects_are_later C.world (a ∷ []) (allowed, tt) c.whole) (i.how t one);
           };
         }
@@ -215,14 +220,14 @@ module _ (g keeps : ℕ → Bool) (A : Office) (c0 : Named A) (parts : (t : ℕ)
       retains_more h j on = put_cases (λ (row : ℕ → Bool). row j ≡ true) (C.world.disk.root t) (λ j. C.names.had (C.world.disk.root t) j || C.names.had t j) C.names.had h
           (λ same. or_left (C.names.had (C.world.disk.root t) j) (C.names.had t j) (subst (λ z. C.names.had z j ≡ true) same (only.grows h j on))) (λ other. only.grows h j on)
 
-      retains_from : (h j : ℕ) → Had_then h j ≡ true → (A.names.had h j ≡ true) ⊎ ((z : ℕ) × (g z ≡ true) × (A.world.disk.root z ≡ h) × (A.names.had z j ≡ true))
-      retains_from h j on = put_cases (λ (row : ℕ → Bool). row j ≡ true → (A.names.had h j ≡ true) ⊎ ((z : ℕ) × (g z ≡ true) × (A.world.disk.root z ≡ h) × (A.names.had z j ≡ true))) (C.world.disk.root t) (λ j. C.names.had (C.world.disk.root t) j || C.names.had t j) C.names.had h
+      retains_from : undecided C.world.disk t ≡ true → (h j : ℕ) → Had_then h j ≡ true → (A.names.had h j ≡ true) ⊎ ((z : ℕ) × (g z ≡ true) × (undecided A.world.disk z ≡ true) × (A.world.disk.root z ≡ h) × (A.names.had z j ≡ true))
+      retains_from unsettled h j on = put_cases (λ (row : ℕ → Bool). row j ≡ true → (A.names.had h j ≡ true) ⊎ ((z : ℕ) × (g z ≡ true) × (undecided A.world.disk z ≡ true) × (A.world.disk.root z ≡ h) × (A.names.had z j ≡ true))) (C.world.disk.root t) (λ j. C.names.had (C.world.disk.root t) j || C.names.had t j) C.names.had h
           (λ same both. ⊎_elim (λ own. only.from h j (subst (λ z. C.names.had z j ≡ true) (sym same) own)) (λ its. tops_own same (only.from t j its)) (or_cases (C.names.had (C.world.disk.root t) j) (C.names.had t j) both))
           (λ other here. only.from h j here) on
         where
-          tops_own : h ≡ C.world.disk.root t → (A.names.had t j ≡ true) ⊎ ((z : ℕ) × (g z ≡ true) × (A.world.disk.root z ≡ t) × (A.names.had z j ≡ true)) → (A.names.had h j ≡ true) ⊎ ((z : ℕ) × (g z ≡ true) × (A.world.disk.root z ≡ h) × (A.names.had z j ≡ true))
-          tops_own same (inl its) = inr (t, one, ap (λ f. f t) (sym only.root) ∙ sym same, its)
-          tops_own same (inr (z, on_z, root_z, had_z)) = inr (z, on_z, sym (c0.roots.idem z) ∙ ap A.world.disk.root root_z ∙ ap (λ f. f t) (sym only.root) ∙ sym same, had_z)
+          tops_own : h ≡ C.world.disk.root t → (A.names.had t j ≡ true) ⊎ ((z : ℕ) × (g z ≡ true) × (undecided A.world.disk z ≡ true) × (A.world.disk.root z ≡ t) × (A.names.had z j ≡ true)) → (A.names.had h j ≡ true) ⊎ ((z : ℕ) × (g z ≡ true) × (undecided A.world.disk z ≡ true) × (A.world.disk.root z ≡ h) × (A.names.had z j ≡ true))
+          tops_own same (inl its) = inr (t, one, i.unsettled t unsettled, ap (λ f. f t) (sym only.root) ∙ sym same, its)
+          tops_own same (inr (z, on_z, open_z, root_z, had_z)) = inr (z, on_z, open_z, sym (c0.roots.idem z) ∙ ap A.world.disk.root root_z ∙ ap (λ f. f t) (sym only.root) ∙ sym same, had_z)
 
       -- the top's root retains what it has, or not
       either_way : (W : World) (X Y : Names) → OnlyRoots g A (record { world = W; names = X }) → OnlyRoots g A (record { world = W; names = Y }) → (b : Bool) → OnlyRoots g A (record { world = W; names = chosen b X Y })
@@ -250,7 +255,7 @@ module _ (g keeps : ℕ → Bool) (A : Office) (c0 : Named A) (parts : (t : ℕ)
                 names = ap (λ (N : Names). record N { had = (retained C.world.disk t L).had; kept = (retained C.world.disk t L).kept }) only.names;
                 root = on.root;
                 grows = retains_more;
-                from = retains_from;
+                from = retains_from unsettled;
                 had = λ h o. put_other (C.world.disk.root t) (λ j. C.names.had (C.world.disk.root t) j || C.names.had t j) C.names.had h (other_kept h o) ∙ only.had h o;
                 kept = λ h o. put_other (C.world.disk.root t) (or_else (lists_after C.world.disk t C.names.kept (C.world.disk.root t)) (lists_after C.world.disk t C.names.kept t)) (lists_after C.world.disk t C.names.kept) h (other_kept h o) ∙ lists_other h o ∙ only.kept h o;
                 tops = tops_other;
@@ -258,10 +263,17 @@ module _ (g keeps : ℕ → Bool) (A : Office) (c0 : Named A) (parts : (t : ℕ)
               (record { names = ap (λ (N : Names). record N { kept = lists_after C.world.disk t C.names.kept }) only.names; root = on.root; grows = only.grows; from = only.from; had = only.had; kept = λ h o. lists_other h o ∙ only.kept h o; tops = tops_other })
               (keeps t);
           later = on;
+          unsettled = λ z u. i.unsettled z (opened z u);
           how = λ z o. let e : t ≡ z = o t one in subst (λ y. HowDecided (keeps y) y A (record { world = after C.world (machine.Decide t); names = decided_names (keeps t) C.world.disk t C.names })) e (now (i.how t (subst (IsOnly g) (sym e) o)));
         };
       }
         where
+          unsettled : undecided C.world.disk t ≡ true
+          unsettled = open_made (is_decided C.world.disk t) (C.world.disk.stage t) (C.world.disk.intent t) allowed.1 (inr allowed.0)
+
+          opened : (z : ℕ) → undecided (after C.world (machine.Decide t)).disk z ≡ true → undecided C.world.disk z ≡ true
+          opened z u = (effects_are_later C.world (machine.Decide t ∷ []) (allowed, tt) c.whole).opened z (open_begun (after C.world (machine.Decide t)).disk (effect_keeps C.world (machine.Decide t) allowed c.whole).core z u) u
+
           on : IsLater A.world (after C.world (machine.Decide t))
           on = goes_on (machine.Decide t) allowed
 
@@ -283,7 +295,7 @@ module _ (g keeps : ℕ → Bool) (A : Office) (c0 : Named A) (parts : (t : ℕ)
                 names = ap (λ (N : Names). record N { had = (retained C.world.disk t C.names).had; kept = (retained C.world.disk t C.names).kept }) only.names;
                 root = on.root;
                 grows = retains_more;
-                from = retains_from;
+                from = retains_from unsettled;
                 had = λ h o. put_other (C.world.disk.root t) (λ j. C.names.had (C.world.disk.root t) j || C.names.had t j) C.names.had h (other_kept h o) ∙ only.had h o;
                 kept = λ h o. put_other (C.world.disk.root t) (or_else (C.names.kept (C.world.disk.root t)) (C.names.kept t)) C.names.kept h (other_kept h o) ∙ only.kept h o;
                 tops = only.tops;
@@ -291,15 +303,22 @@ module _ (g keeps : ℕ → Bool) (A : Office) (c0 : Named A) (parts : (t : ℕ)
               (record { names = only.names; root = on.root; grows = only.grows; from = only.from; had = only.had; kept = only.kept; tops = only.tops })
               (keeps t);
           later = on;
+          unsettled = λ z u. i.unsettled z (opened z u);
           how = λ z o. let e : t ≡ z = o t one in subst (λ y. HowDecided (keeps y) y A (record { world = after C.world (machine.EndBare t); names = ended_names (keeps t) C.world.disk t C.names })) e (now (i.how t (subst (IsOnly g) (sym e) o)));
         };
       }
         where
-          on : IsLater A.world (after C.world (machine.EndBare t))
-          on = goes_on (machine.EndBare t) allowed
-
           confirming : is_gone (C.world.disk.stage t) ≡ false
           confirming = ap is_gone allowed.sealed
+
+          unsettled : undecided C.world.disk t ≡ true
+          unsettled = open_made (is_decided C.world.disk t) (C.world.disk.stage t) (C.world.disk.intent t) (falls_to (is_decided C.world.disk t) (λ d. never (c.whole.core.coordinators.decided_closed t d) confirming)) (inl (ap is_open allowed.sealed))
+
+          opened : (z : ℕ) → undecided (after C.world (machine.EndBare t)).disk z ≡ true → undecided C.world.disk z ≡ true
+          opened z u = (effects_are_later C.world (machine.EndBare t ∷ []) (allowed, tt) c.whole).opened z (open_begun (after C.world (machine.EndBare t)).disk (effect_keeps C.world (machine.EndBare t) allowed c.whole).core z u) u
+
+          on : IsLater A.world (after C.world (machine.EndBare t))
+          on = goes_on (machine.EndBare t) allowed
 
           now : HowDecided (keeps t) t A C → HowDecided (keeps t) t A (record { world = after C.world (machine.EndBare t); names = ended_names (keeps t) C.world.disk t C.names })
           now (inl u) = inr (inr (record { names = ap (ended_names (keeps t) C.world.disk t) u.names; tops = u.tops; bare = put_same t true C.world.disk.bare; plain = bare_wrote C.world t c.whole allowed }))
@@ -376,54 +395,6 @@ begin_of t (machine.DropEntry h) is = inl refl
 begin_of t (machine.Forget r h) is = inl refl
 begin_of t (machine.Send m) is = inl (begins_plainly t m is)
 
--- plain effects open no outcome, and nobody is idle again
-record StaysShut (S T : State) : Type 0 where
-  first : T.first ≡ S.first
-  opened : (z : ℕ) → undecided T z ≡ true → undecided S z ≡ true
-  idle : (z : ℕ) → T.stage z ≡ Idle → S.stage z ≡ Idle
-
-opens_none : (W : World) (a : machine.Effect) → Allowed W a → is_only_of (λ n. false) a ≡ true → StaysShut W.disk (after W a).disk
-opens_none W (machine.Begin t p) can is = absurd (never is refl)
-opens_none W (machine.Take t s) can is = record { first = refl; opened = λ z u. u; idle = λ z i. i }
-opens_none W (machine.Seal t) can is = record {
-  first = refl;
-  opened = λ z. put_cases (λ g. open_by (is_decided W.disk z) g (W.disk.intent z) ≡ true → undecided W.disk z ≡ true) t Confirming W.disk.stage z
-      (λ same u. subst (λ g. open_by (is_decided W.disk z) g (W.disk.intent z) ≡ true) (sym (ap W.disk.stage same ∙ can)) u) (λ other u. u);
-  idle = λ z. put_cases (λ g. g ≡ Idle → W.disk.stage z ≡ Idle) t Confirming W.disk.stage z (λ same i. cc i) (λ other i. i);
-}
-opens_none W (machine.Intend t nodes) can is = record {
-  first = refl;
-  opened = λ z. put_cases (λ o. open_by (is_decided W.disk z) (W.disk.stage z) o ≡ true → undecided W.disk z ≡ true) t (Some nodes) W.disk.intent z
-      (λ same u. open_made (is_decided W.disk z) (W.disk.stage z) (W.disk.intent z) (open_done (is_decided W.disk z) (W.disk.stage z) (Some nodes) u) (inl (ap is_open (ap W.disk.stage same ∙ can.sealed)))) (λ other u. u);
-  idle = λ z i. i;
-}
-opens_none W (machine.Decide t) can is = absurd (never is refl)
-opens_none W (machine.Remove t nodes) can is = record {
-  first = refl;
-  opened = λ z. put_cases (λ o. open_by (is_decided W.disk z) (W.disk.stage z) o ≡ true → undecided W.disk z ≡ true) t None W.disk.intent z
-      (λ same u. open_made (is_decided W.disk z) (W.disk.stage z) (W.disk.intent z) (open_done (is_decided W.disk z) (W.disk.stage z) None u) (⊎_elim (λ o. inl o) (λ n. absurd (never n refl)) (open_parts (is_decided W.disk z) (W.disk.stage z) None u))) (λ other u. u);
-  idle = λ z i. i;
-}
-opens_none W (machine.EndBare t) can is = absurd (never is refl)
-opens_none W (machine.Halt t) can is = record {
-  first = refl;
-  opened = λ z. put_cases (λ g. open_by (is_decided W.disk z) g (W.disk.intent z) ≡ true → undecided W.disk z ≡ true) t Gone W.disk.stage z
-      (λ same u. open_made (is_decided W.disk z) (W.disk.stage z) (W.disk.intent z) (open_done (is_decided W.disk z) Gone (W.disk.intent z) u) (⊎_elim (λ o. absurd (never o refl)) (λ n. inr n) (open_parts (is_decided W.disk z) Gone (W.disk.intent z) u))) (λ other u. u);
-  idle = λ z. put_cases (λ g. g ≡ Idle → W.disk.stage z ≡ Idle) t Gone W.disk.stage z (λ same i. cc i) (λ other i. i);
-}
-opens_none W (machine.Keep t s) can is = record { first = refl; opened = λ z u. u; idle = λ z i. i }
-opens_none W (machine.Move s h) can is = record { first = refl; opened = λ z u. u; idle = λ z i. i }
-opens_none W (machine.Finish s h) can is = record { first = refl; opened = λ z u. u; idle = λ z i. i }
-opens_none W (machine.Drop s h) can is = record { first = refl; opened = λ z u. u; idle = λ z i. i }
-opens_none W (machine.Agree t) can is = absurd (never is refl)
-opens_none W (machine.Pass t) can is = absurd (never is refl)
-opens_none W (machine.Enter t) can is = absurd (never is refl)
-opens_none W (machine.MoveEntry h) can is = record { first = refl; opened = λ z u. u; idle = λ z i. i }
-opens_none W (machine.FinishEntry h) can is = record { first = refl; opened = λ z u. u; idle = λ z i. i }
-opens_none W (machine.DropEntry h) can is = record { first = refl; opened = λ z u. u; idle = λ z i. i }
-opens_none W (machine.Forget r h) can is = record { first = refl; opened = λ z u. u; idle = λ z i. i }
-opens_none W (machine.Send m) can is = record { first = refl; opened = λ z u. u; idle = λ z i. i }
-
 -- a walk without work is over at its end alone
 pub no_work : (e k : ℕ) (M : Seen) (P R : Seen → Type 0) (E F : Disk → Seen → Type 0) (d : Disk) → ((L : Seen) → L.nodes ≡ M.nodes → E d L → F d L) → (es : List Effect) → AreAll is_no_work es → (N : Seen) → N.nodes ≡ M.nodes → Walks P e k es E d N → Walks R e k es F d N
 no_work e k M P R E F d end [] all N same walk = end N same walk
@@ -497,7 +468,7 @@ module _ (x : ℕ) (tops : Kinds) (unwalked : tops.walk ≡ None) (e k : ℕ) (d
       let B : Office = record { world = W; names = st.names } in
       let on : (o : Naming) → SeesNaming x tops o A.world.disk A.names → SeesNaming x tops o W.disk st.names = λ o z. subst (λ N. SeesNaming x tops o W.disk N) (sym i.names_same) (naming_on x tops o A.world.disk W.disk A.names i.later.root z) in (
         B,
-        record { later = i.later; tops = i.tops_same; had = ap (λ (N : Names). N.had) i.names_same; kept = ap (λ (N : Names). N.kept) i.names_same; answers = λ a j. subst (λ (N : Names). In a N.answers) (sym i.names_same) j },
+        record { later = i.later; tops = i.tops_same; had = ap (λ (N : Names). N.had) i.names_same; kept = ap (λ (N : Names). N.kept) i.names_same; answers = λ a j. subst (λ (N : Names). In a N.answers) (sym i.names_same) j; inc = ap (λ (N : Names). N.inc) i.names_same; confd = λ z on. ap (λ (N : Names). N.confd z) i.names_same ∙ on },
         seen_as x tops k d (Some t) A M both v B L d st.named (ap (λ (N : Names). N.inc) i.names_same) disks refl same
             (λ o one is. on o (both.names.memory (record { number = k; disk = d; live = Some t }) t o (ap (λ m. (up k d t M).nodes m) (sym one) ∙ node_here M k (record { number = k; disk = d; live = Some t })) refl (sym naming ∙ is))) (λ other. on),
       )

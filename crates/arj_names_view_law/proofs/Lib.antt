@@ -7,6 +7,7 @@ pub mod DecidedRoots
 pub mod DecidedTrees
 pub mod EndActs
 pub mod EntriesLeft
+pub mod GrantClaims
 pub mod GrantSteps
 pub mod Heard
 pub mod InputBoth

@@ -18,13 +18,13 @@ use Rattle.arj_protocol.specs.Values.{state_entry}
 use Rattle.arj_protocol.proofs.Numbers.{number_tells}
 use Rattle.arj_protocol.proofs.Payloads.{entry_back}
 use Rattle.arj_disk_law.specs.Effects.{Effect, Agree, Pass, Enter, Allowed, CanAgree, CanPass, CanEnter, IsUnlisted, after, changed, new_list}
-use Rattle.arj_disk_law.specs.Guards.{HasPart, IsPresent, IsUntold, May, MayAgree, MayConfirm, MayEnter, MayExclude, MayPass, end_of}
+use Rattle.arj_disk_law.specs.Guards.{HasPart, HasPresent, IsUntold, May, MayAgree, MayConfirm, MayEnter, MayExclude, MayPass, end_of}
 use Rattle.arj_disk_law.specs.Named as names
 use Rattle.arj_disk_law.specs.Names.{Names, Office, Do, acted}
 use Rattle.arj_disk_law.specs.State.{State, Packed, Hold, target, undecided}
 use Rattle.arj_disk_law.specs.Words.{has, put}
 use Rattle.arj_disk_law.proofs.Acts.{runs_keep}
-use Rattle.arj_disk_law.proofs.Base.{bool_cases, falls_to, never, or_cases, or_left, or_right, put_other, put_same, some_is, test_is, test_not}
+use Rattle.arj_disk_law.proofs.Base.{put_rises, bool_cases, falls_to, never, or_cases, or_left, or_right, put_other, put_same, some_is, test_is, test_not}
 use Rattle.arj_disk_law.proofs.Booking.{changes_part, clear, unconfirmed, undone}
 use Rattle.arj_disk_law.proofs.Listing.{has_filtered}
 use Rattle.arj_disk_law.proofs.NamingResults.{booked}
@@ -35,7 +35,7 @@ use Rattle.arj_disk_view_law.specs.Sees.{Kinds, ClaimsConfirm}
 use Rattle.arj_disk_view_law.proofs.ConfirmSteps.{Held, held_is, marked_is, stands_there}
 use Rattle.arj_disk_view_law.proofs.ConfirmWalks.{are_new, both_none, each_none, has_listed, last_two, new_not, not_empty, not_there}
 use Rattle.arj_disk_view_law.proofs.Keys as keys
-use Rattle.arj_names_view_law.specs.Booked.{HasGrant, IsConfirmedBy, IsNext, NamesGrants, NewConfirmsAreActs, NewConfirmsAreBooked, OldConfirmsAreNothing}
+use Rattle.arj_names_view_law.specs.Booked.{CountsOnGrants, HasGrant, IsConfirmedBy, IsNext, NewConfirmsAreActs, NewConfirmsAreBooked, OldConfirmsAreNothing}
 use Rattle.arj_names_view_law.specs.Calls.{HasExclude, OnlyLocks}
 use Rattle.arj_names_view_law.specs.Memory.{IsOfTop, NamesGo, SeesNaming, SeesRows}
 use Rattle.arj_names_view_law.proofs.Binding.{path_untold, with_is}
@@ -43,7 +43,7 @@ use Rattle.arj_names_view_law.proofs.Noting.{end_both, excludes, runs_both}
 
 -- ---- what the machine makes of it
 
-module _ (B : Office) (c : names.Named B) (t : ℕ) (may : MayConfirm B t) (present : HasPart (B.world.disk.plan t) → IsPresent B.world.disk B.names t) (next : IsNext B.world.disk t)
+module _ (B : Office) (c : names.Named B) (t : ℕ) (may : MayConfirm B t) (present : HasPart (B.world.disk.plan t) → HasPresent B.world.disk B.names t) (next : IsNext B.world.disk t)
     (stores : bytes_eq (new_list B.world.disk t) B.world.disk.entry.content ≡ false → (s : ℕ) × (has s (new_list B.world.disk t) ≡ true)) where
   -- who is confirmed while its outcome is open has a part in the object
   has_part : undecided B.world.disk t ≡ true → B.world.disk.conf t ≡ true → HasPart (B.world.disk.plan t)
@@ -134,7 +134,7 @@ exclude_free p grants excluded included d n free y on = unrefused (λ (r : Row).
 -- ---- the whole
 
 module _ (x : ℕ) (tops : Kinds) (p : Path) (grants : Grants) (excluded included : Marks) (d : Pair) (n : Naming) (A : Office) (c : names.Named A) (sees : SeesNaming x tops n A.world.disk A.names) (here : SeesEntry x d A.world.disk)
-    (of : IsOfTop tops A.world.disk p) (claims : ClaimsConfirm x A.world (uid_number (top_of p)) grants excluded included) (named : NamesGrants x A.world.disk A.names (uid_number (top_of p)) grants) (next : IsNext A.world.disk (uid_number (top_of p)))
+    (of : IsOfTop tops A.world.disk p) (claims : ClaimsConfirm x A.world (uid_number (top_of p)) grants excluded included) (named : CountsOnGrants x A.world.disk A.names (uid_number (top_of p)) grants) (next : IsNext A.world.disk (uid_number (top_of p)))
     (new : IsNewConfirm p grants excluded included d n) where
   abbrev t : ℕ
   t = uid_number (top_of p)
@@ -172,12 +172,22 @@ module _ (x : ℕ) (tops : Kinds) (p : Path) (grants : Grants) (excluded include
   unconfirmed_now : N.confd t ≡ false
   unconfirmed_now = sym (sees.confirmed_is (top_of p) (λ nested. never of.top nested.0) untold.0) ∙ new.unconfirmed
 
-  present_now : HasPart (S.plan t) → IsPresent S N t
-  present_now part i h =
-      let g = named part i h in
+  -- a named grant is of the present incarnation, and so is one that isn't before it
+  is_now : (i : ℕ) → i ≤ N.inc → (g : ℕ) × HasGrant x g grants × (g ≤ i) → i ≡ N.inc
+  is_now i past g = let now : g.0 ≡ n.inc = grant_now n x g.0 grants first_two.0 g.1 in omega (arith, now, past, g.2, sees.inc_is)
+
+  present_now : HasPart (S.plan t) → HasPresent S N t
+  present_now part = record {
+    own = λ i had. is_now i (c.grants.past t i had) (named.own part i had);
+    all = λ u i h. is_now i (⊎_elim (λ own. c.grants.past t i own) (λ kept. c.grants.past (S.root t) i kept) h) (named.unsettled u part i h);
+  }
+
+  -- who was confirmed before, with a part in the object, is known as confirmed in this incarnation
+  fresh_now : HasPart (S.plan t) → (S.conf t ≡ true) ⊎ (S.light t ≡ true) → ⊥
+  fresh_now part taken =
+      let g = named.taken part taken in
       let now : g.0 ≡ n.inc = grant_now n x g.0 grants first_two.0 g.1 in
-      let past : i ≤ N.inc = ⊎_elim (λ own. c.grants.past t i own) (λ kept. c.grants.past (S.root t) i kept) h in
-      omega (arith, now, past, g.2, sees.inc_is)
+      never (g.3 (omega (arith, now, sees.inc_is))) unconfirmed_now
 
   has_stores : bytes_eq (new_list S t) S.entry.content ≡ false → (s : ℕ) × (has s (new_list S t) ≡ true)
   has_stores other =
@@ -229,8 +239,11 @@ module _ (x : ℕ) (tops : Kinds) (p : Path) (grants : Grants) (excluded include
   named_then : names.Named (record { world = A.world; names = M })
   named_then = subst (λ W. names.Named (record { world = W; names = M })) first.there.0.world (runs_keep A first.acts first.may c)
 
-  present : HasPart (S.plan t) → IsPresent S M t
-  present part i h = present_now part i (⊎_elim (λ own. inl (ap (λ f. f t i) (sym first.there.0.had) ∙ own)) (λ kept. inr (ap (λ f. f (S.root t) i) (sym first.there.0.had) ∙ kept)) h) ∙ sym first.there.0.inc
+  present : HasPart (S.plan t) → HasPresent S M t
+  present part = let p = present_now part in record {
+    own = λ i had. p.own i (ap (λ f. f t i) (sym first.there.0.had) ∙ had) ∙ sym first.there.0.inc;
+    all = λ u i h. p.all u i (⊎_elim (λ own. inl (ap (λ f. f t i) (sym first.there.0.had) ∙ own)) (λ kept. inr (ap (λ f. f (S.root t) i) (sym first.there.0.had) ∙ kept)) h) ∙ sym first.there.0.inc;
+  }
 
   excludes_now : MayExclude S M t
   excludes_now s goal off what = first.there.2.gets
@@ -242,6 +255,7 @@ module _ (x : ℕ) (tops : Kinds) (p : Path) (grants : Grants) (excluded include
   may = record {
     asked = claims.asked;
     new = ap (λ f. f t) first.there.0.confd ∙ unconfirmed_now;
+    fresh = fresh_now;
     untold = (ap (λ f. f t) first.there.0.told ∙ untold.0, ap (λ f. f (S.root t)) first.there.0.told ∙ untold.1);
     unlisted = unlisted;
     exclude = excludes_now;
@@ -301,15 +315,15 @@ module _ (x : ℕ) (tops : Kinds) (p : Path) (grants : Grants) (excluded include
   then_confirmed e (inl is) = subst (λ z. Confirmed_goal z (acted (record { world = A.world; names = M }) (Do z))) (sym is) (only (Agree t), confirmed_part (changed S (Agree t)) refl, put_same t true M.confd)
     where
       only : (z : Effect) → IsConfirmedBy A (record { world = after A.world z; names = record M { confd = put t true M.confd } }) z
-      only z = record { world = refl; inc = first.there.0.inc; told = first.there.0.told; given = first.there.0.given; had = first.there.0.had; kept = first.there.0.kept; answers = first.there.0.answers }
+      only z = record { world = refl; inc = first.there.0.inc; told = first.there.0.told; given = first.there.0.given; had = first.there.0.had; kept = first.there.0.kept; answers = first.there.0.answers; confd = λ h on. put_rises t M.confd h (ap (λ f. f h) first.there.0.confd ∙ on) }
   then_confirmed e (inr (inl is)) = subst (λ z. Confirmed_goal z (acted (record { world = A.world; names = M }) (Do z))) (sym is) (only (Pass t), confirmed_part (changed S (Pass t)) refl, put_same t true M.confd)
     where
       only : (z : Effect) → IsConfirmedBy A (record { world = after A.world z; names = record M { confd = put t true M.confd } }) z
-      only z = record { world = refl; inc = first.there.0.inc; told = first.there.0.told; given = first.there.0.given; had = first.there.0.had; kept = first.there.0.kept; answers = first.there.0.answers }
+      only z = record { world = refl; inc = first.there.0.inc; told = first.there.0.told; given = first.there.0.given; had = first.there.0.had; kept = first.there.0.kept; answers = first.there.0.answers; confd = λ h on. put_rises t M.confd h (ap (λ f. f h) first.there.0.confd ∙ on) }
   then_confirmed e (inr (inr is)) = subst (λ z. Confirmed_goal z (acted (record { world = A.world; names = M }) (Do z))) (sym is) (only (Enter t), confirmed_part (changed S (Enter t)) refl, put_same t true M.confd)
     where
       only : (z : Effect) → IsConfirmedBy A (record { world = after A.world z; names = record M { confd = put t true M.confd } }) z
-      only z = record { world = refl; inc = first.there.0.inc; told = first.there.0.told; given = first.there.0.given; had = first.there.0.had; kept = first.there.0.kept; answers = first.there.0.answers }
+      only z = record { world = refl; inc = first.there.0.inc; told = first.there.0.told; given = first.there.0.given; had = first.there.0.had; kept = first.there.0.kept; answers = first.there.0.answers; confd = λ h on. put_rises t M.confd h (ap (λ f. f h) first.there.0.confd ∙ on) }
 
   pub confirm_acts : (e : Effect) → IsConfirmation t e → Allowed A.world e → NamesGo A (Confirmed_goal e)
   confirm_acts e kind allowed = record {

@@ -185,7 +185,7 @@ module _ (x : ℕ) (tops : Kinds) (k : ℕ) (d : Disk) (was : Option Parts) (A :
 
 -- nothing but naming's memory has changed where nothing was noted
 pub still_only : (A : Office) (W : World) → Still A W → OnlyMemory A (record { world = W; names = A.names })
-still_only A W s = record { later = s.later; tops = s.tops; had = refl; kept = refl; answers = λ a i. i }
+still_only A W s = record { later = s.later; tops = s.tops; had = refl; kept = refl; answers = λ a i. i; inc = refl; confd = λ t on. on }
 
 module _ (x : ℕ) (tops : Kinds) (unwalked : tops.walk ≡ None) (e k : ℕ) (d : Disk) (t v : Parts) (A : Office) (M : Seen) (both : SeesBoth x tops A (up k d t M)) where
   -- at a stop nothing was noted

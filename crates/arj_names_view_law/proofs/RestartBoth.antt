@@ -1,5 +1,5 @@
 -- A node's restart, walked with both halves.
-use Rattle.std.proofs.Common.{◌≡◌, ◌⊎◌, ◌==◌, ◌&&◌, ◌+◌, ℕ, List, [], ◌∷◌, ◌++◌, map, Bool, true, false, Option, Some, None, refl, sym, ◌∙◌, ap, subst, inl, inr, ⊎_elim}
+use Rattle.std.proofs.Common.{◌≡◌, ◌⊎◌, ◌==◌, ◌&&◌, ◌+◌, ◌≤◌, arith, ℕ, List, [], ◌∷◌, ◌++◌, map, Bool, true, false, Option, Some, None, refl, sym, ◌∙◌, ap, subst, inl, inr, ⊎_elim}
 use Rattle.std.specs.Prelude.{if◌then◌else◌}
 use Rattle.arj_protocol.specs.Words.{Uid, Body, Header}
 use Rattle.arj_protocol.specs.Words.body
@@ -45,7 +45,7 @@ again g A N had kept answers B only = record {
 }
 
 from_again : (g : ℕ → Bool) (A : Office) (N : Names) → N.had ≡ A.names.had → (B : Office) → IsFrom g (record { world = A.world; names = N }) B → IsFrom g A B
-from_again g A N had B from h i on = ⊎_elim (λ own. inl (sym (ap (λ f. f h i) had) ∙ own)) (λ its. inr (its.0, its.1, its.2, sym (ap (λ f. f its.0 i) had) ∙ its.3)) (from h i on)
+from_again g A N had B from h i on = ⊎_elim (λ own. inl (sym (ap (λ f. f h i) had) ∙ own)) (λ its. inr (its.0, its.1, its.2, its.3, sym (ap (λ f. f its.0 i) had) ∙ its.4)) (from h i on)
 
 module _ (x : ℕ) (tops : Kinds) (unwalked : tops.walk ≡ None) (e k : ℕ) (hd : Header) (d : Disk) (g : ℕ → Bool) (A : Office) (M : Seen) (entries : k ≡ 1 → AreEntries d.names) (both : SeesBoth x tops A (down k d M)) where
   abbrev d1 : Disk
@@ -63,6 +63,8 @@ module _ (x : ℕ) (tops : Kinds) (unwalked : tops.walk ≡ None) (e k : ℕ) (h
     kept : names.kept ≡ A.names.kept
     answers : names.answers ≡ A.names.answers
     seen : SeesNames x tops (record { world = A.world; names = names }) (down k d1 M)
+    inc : A.names.inc ≤ names.inc
+    confd : A.names.inc ≡ names.inc → (t : ℕ) → A.names.confd t ≡ true → names.confd t ≡ true
     memory : (o : Naming) → k ≡ 1 → Back.naming ≡ Some o → SeesNaming x tops o A.world.disk names
 
   risen_node : (m : ℕ) (n : Node) → (down k d1 M).nodes m ≡ Some n → ((m ≡ k) × (record { number = k; disk = d1; live = None } ≡ n)) ⊎ (((m == k) ≡ false) × ((down k d M).nodes m ≡ Some n))
@@ -75,6 +77,8 @@ module _ (x : ℕ) (tops : Kinds) (unwalked : tops.walk ≡ None) (e k : ℕ) (h
   elsewhere other = record {
     names = A.names;
     named = both.named;
+    inc = omega arith;
+    confd = λ same t on. on;
     had = refl;
     kept = refl;
     answers = refl;
@@ -89,6 +93,8 @@ module _ (x : ℕ) (tops : Kinds) (unwalked : tops.walk ≡ None) (e k : ℕ) (h
   at_naming one = record {
     names = B.names;
     named = runs_keep A (Restart (has_prepared d.names) ∷ []) (acts.0, tt) both.named;
+    inc = omega arith;
+    confd = λ same t on. absurd (rose same);
     had = refl;
     kept = refl;
     answers = refl;
@@ -101,6 +107,9 @@ module _ (x : ℕ) (tops : Kinds) (unwalked : tops.walk ≡ None) (e k : ℕ) (h
     where
       node_one : (down k d M).nodes 1 ≡ Some (record { number = k; disk = d; live = None })
       node_one = ap (λ m. (down k d M).nodes m) (sym one) ∙ node_here M k (record { number = k; disk = d; live = None })
+
+      rose : A.names.inc ≡ A.names.inc + 1 → ⊥
+      rose same = omega (arith, same)
 
       inc_is : A.names.inc ≡ d.inc
       inc_is = both.names.inc (record { number = k; disk = d; live = None }) node_one
@@ -162,11 +171,19 @@ module _ (x : ℕ) (tops : Kinds) (unwalked : tops.walk ≡ None) (e k : ℕ) (h
   both_said : SeesBoth x tops (record { world = A.world; names = risen.names }) (down k d1 (said e (body.Up k (d.inc + 1) ∷ []) M))
   both_said = record { named = risen.named; disks = says_seen x tops A.world (down k d1 M) (numbered e (body.Up k (d.inc + 1) ∷ [])) both_risen.disks; names = record { inc = risen.seen.inc; memory = risen.seen.memory } }
 
+  -- of naming's memory a decision changes nothing
+  memory_on : (N : Names) (B : Office) → OnlyRoots g (record { world = A.world; names = N }) B → A.names.inc ≤ N.inc → (A.names.inc ≡ N.inc → (t : ℕ) → A.names.confd t ≡ true → N.confd t ≡ true)
+      → (A.names.inc ≤ B.names.inc) × (A.names.inc ≡ B.names.inc → (t : ℕ) → A.names.confd t ≡ true → B.names.confd t ≡ true)
+  memory_on N B only low confd = (
+    subst (λ i. A.names.inc ≤ i) (sym (ap (λ (L : Names). L.inc) only.names)) low,
+    λ same t on. ap (λ (L : Names). L.confd t) only.names ∙ confd (same ∙ ap (λ (L : Names). L.inc) only.names) t on,
+  )
+
   early : P (halted e k d M) → IsSeenAgain g x tops A (halted e k d M)
-  early p = let r = stops g (λ t. true) A both.named (λ t on off. absurd (never refl off)) x tops unwalked e k d None Nobody M (no_naming A.names) both d M refl refl p in (r.0, record { only = again g A A.names refl refl refl r.0 r.1.only; from = from_again g A A.names refl r.0 (let o = r.1.only in o.from); along = r.1.along }, r.2)
+  early p = let r = stops g (λ t. true) A both.named (λ t on off. absurd (never refl off)) x tops unwalked e k d None Nobody M (no_naming A.names) both d M refl refl p in (r.0, record { only = again g A A.names refl refl refl r.0 r.1.only; from = from_again g A A.names refl r.0 (let o = r.1.only in o.from); along = r.1.along; inc = (memory_on A.names r.0 r.1.only (omega arith) (λ same t on. on)).0; confd = (memory_on A.names r.0 r.1.only (omega arith) (λ same t on. on)).1 }, r.2)
 
   late : P (halted e k d1 M) → IsSeenAgain g x tops A (halted e k d1 M)
-  late p = let r = stops g (λ t. true) Now_office risen.named (λ t on off. absurd (never refl off)) x tops unwalked e k d1 None Nobody M (no_naming risen.names) both_risen d1 M refl refl p in (r.0, record { only = again g A risen.names risen.had risen.kept risen.answers r.0 r.1.only; from = from_again g A risen.names risen.had r.0 (let o = r.1.only in o.from); along = r.1.along }, r.2)
+  late p = let r = stops g (λ t. true) Now_office risen.named (λ t on off. absurd (never refl off)) x tops unwalked e k d1 None Nobody M (no_naming risen.names) both_risen d1 M refl refl p in (r.0, record { only = again g A risen.names risen.had risen.kept risen.answers r.0 r.1.only; from = from_again g A risen.names risen.had r.0 (let o = r.1.only in o.from); along = r.1.along; inc = (memory_on risen.names r.0 r.1.only risen.inc risen.confd).0; confd = (memory_on risen.names r.0 r.1.only risen.inc risen.confd).1 }, r.2)
 
   looks : (how : Stop) → P (halted e k (stopped how Look d) M) → IsSeenAgain g x tops A (halted e k (stopped how Look d) M)
   looks Before p = early p
@@ -185,7 +202,7 @@ module _ (x : ℕ) (tops : Kinds) (unwalked : tops.walk ≡ None) (e k : ℕ) (h
     (
       λ how. rises how (walk.1.0 how),
       walks_to (IsSeenIn g (λ t. true) x tops Now_office) (IsSeenAgain g x tops A) e k Rest (Up (IsSeenIn g (λ t. true) x tops Now_office) k (parts_in k (d.inc + 1) d)) (Up (IsSeenAgain g x tops A) k (parts_in k (d.inc + 1) d)) d1 (said e (body.Up k (d.inc + 1) ∷ []) M)
-          (λ N r. (r.0, record { only = again g A risen.names risen.had risen.kept risen.answers r.0 r.1.only; from = from_again g A risen.names risen.had r.0 (let o = r.1.only in o.from); along = r.1.along }, r.2)) (λ c N r. (r.0, record { only = again g A risen.names risen.had risen.kept risen.answers r.0 r.1.only; from = from_again g A risen.names risen.had r.0 (let o = r.1.only in o.from); along = r.1.along }, r.2))
+          (λ N r. (r.0, record { only = again g A risen.names risen.had risen.kept risen.answers r.0 r.1.only; from = from_again g A risen.names risen.had r.0 (let o = r.1.only in o.from); along = r.1.along; inc = (memory_on risen.names r.0 r.1.only risen.inc risen.confd).0; confd = (memory_on risen.names r.0 r.1.only risen.inc risen.confd).1 }, r.2)) (λ c N r. (r.0, record { only = again g A risen.names risen.had risen.kept risen.answers r.0 r.1.only; from = from_again g A risen.names risen.had r.0 (let o = r.1.only in o.from); along = r.1.along; inc = (memory_on risen.names r.0 r.1.only risen.inc risen.confd).0; confd = (memory_on risen.names r.0 r.1.only risen.inc risen.confd).1 }, r.2))
           (decisions_keep_both x tops e k d1 None (parts_in k (d.inc + 1) d) Rest g (λ t. true) Now_office (said e (body.Up k (d.inc + 1) ∷ []) M) unwalked rest_leaves (λ t on off. absurd (never refl off)) risen.memory both_said walk.1.1),
     ),
   )

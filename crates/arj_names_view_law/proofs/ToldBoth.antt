@@ -96,6 +96,7 @@ module _ (x : ℕ) (tops : Kinds) (u : Uid) (how : End) (d : Pair) (n : Naming) 
     pub had : C.names.had ≡ A.names.had
     pub kept : C.names.kept ≡ A.names.kept
     pub answers : C.names.answers ≡ A.names.answers
+    pub confd : C.names.confd ≡ A.names.confd
     pub seen : SeesNaming x tops After C.world.disk C.names
     pub told : C.names.told (uid_number u) ≡ true
 
@@ -119,7 +120,7 @@ module _ (x : ℕ) (tops : Kinds) (u : Uid) (how : End) (d : Pair) (n : Naming) 
 
   -- the same names in another world
   late_on : (C : Office) (W : World) → W.disk.root ≡ C.world.disk.root → Late C → Late (record { world = W; names = C.names })
-  late_on C W root l = record { inc = l.inc; had = l.had; kept = l.kept; answers = l.answers; seen = naming_on x tops After C.world.disk W.disk C.names root l.seen; told = l.told }
+  late_on C W root l = record { inc = l.inc; had = l.had; kept = l.kept; answers = l.answers; confd = l.confd; seen = naming_on x tops After C.world.disk W.disk C.names root l.seen; told = l.told }
 
   plain_step : (C : Office) (a : machine.Effect) → Named C → Inv C → Allowed C.world a → is_only_of (λ z. false) a ≡ true → Stepped Inv (after C.world a)
   plain_step C a c i allowed is =
@@ -144,7 +145,7 @@ module _ (x : ℕ) (tops : Kinds) (u : Uid) (how : End) (d : Pair) (n : Naming) 
         end_of C go.acts,
         only.world,
         runs_keep C go.acts go.may c,
-        record { inc = only.inc ∙ ap (λ (N : Names). N.inc) same; had = only.had ∙ ap (λ (N : Names). N.had) same; kept = only.kept ∙ ap (λ (N : Names). N.kept) same; answers = only.answers ∙ ap (λ (N : Names). N.answers) same; seen = go.there.1; told = go.there.2 },
+        record { inc = only.inc ∙ ap (λ (N : Names). N.inc) same; had = only.had ∙ ap (λ (N : Names). N.had) same; kept = only.kept ∙ ap (λ (N : Names). N.kept) same; answers = only.answers ∙ ap (λ (N : Names). N.answers) same; confd = only.confd ∙ ap (λ (N : Names). N.confd) same; seen = go.there.1; told = go.there.2 },
       )
 
   ack_step : MayEnd → (C : Office) → Named C → Inv C → Allowed C.world (machine.Send (mail.Acked (uid_number u) naming_node)) → Stepped Inv (after C.world (machine.Send (mail.Acked (uid_number u) naming_node)))
@@ -236,6 +237,8 @@ module _ (x : ℕ) (tops : Kinds) (unwalked : tops.walk ≡ None) (e : ℕ) (d :
       tops = tops_same;
       had = ⊎_elim (λ e. ap (λ (N : Names). N.had) e) (λ l. l.had) either;
       kept = ⊎_elim (λ e. ap (λ (N : Names). N.kept) e) (λ l. l.kept) either;
+      inc = ⊎_elim (λ e. ap (λ (N : Names). N.inc) e) (λ l. l.inc) either;
+      confd = λ t on. ⊎_elim (λ e. ap (λ (N : Names). N.confd t) e ∙ on) (λ l. ap (λ f. f t) l.confd ∙ on) either;
       answers = λ a i. ⊎_elim (λ e. subst (λ (N : Names). In a N.answers) (sym e) i) (λ l. subst (λ as_left. In a as_left) (sym l.answers) i) either;
     }
 
@@ -307,7 +310,7 @@ module _ (x : ℕ) (tops : Kinds) (unwalked : tops.walk ≡ None) (e : ℕ) (d :
         only.world,
         runs_keep B go.acts go.may st.named,
         only.inc,
-        record { later = subst (IsLater A.world) (sym only.world) st.later; tops = ap (λ (V : World). V.disk.tops) only.world ∙ st.tops; had = only.had; kept = only.kept; answers = λ a i. subst (λ as_left. In a as_left) (sym only.answers) i },
+        record { later = subst (IsLater A.world) (sym only.world) st.later; tops = ap (λ (V : World). V.disk.tops) only.world ∙ st.tops; had = only.had; kept = only.kept; answers = λ a i. subst (λ as_left. In a as_left) (sym only.answers) i; inc = only.inc; confd = λ z on. ap (λ f. f z) only.confd ∙ on },
         subst (λ z. SeesNaming x tops (let s = naming.told u z d.names n in s.part) (end_of B go.acts).world.disk (end_of B go.acts).names) (sym aborted) go.there.1,
       )
     where

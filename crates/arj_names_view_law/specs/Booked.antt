@@ -27,6 +27,14 @@ HasGrant x i (g ∷ gs) = (g ≡ (x, i)) ⊎ HasGrant x i gs
 abbrev pub NamesGrants : ℕ → State → Names → ℕ → Grants → Type 0
 NamesGrants x S N t grants = HasPart (S.plan t) → (i : ℕ) → (N.had t i ≡ true) ⊎ (N.had (S.root t) i ≡ true) → (g : ℕ) × HasGrant x g grants × (g ≤ i)
 
+-- What a Confirm says of grants, for ever: none that the top has itself is before a named one; nor one that its root retains, as long
+-- as the top's outcome is open; and where the top was confirmed, a named grant is of an earlier incarnation than the present one, or
+-- the top is known as confirmed.
+pub record CountsOnGrants (x : ℕ) (S : State) (N : Names) (t : ℕ) (grants : Grants) : Type 0 where
+  pub own : HasPart (S.plan t) → (i : ℕ) → N.had t i ≡ true → (g : ℕ) × HasGrant x g grants × (g ≤ i)
+  pub unsettled : undecided S t ≡ true → NamesGrants x S N t grants
+  pub taken : HasPart (S.plan t) → (S.conf t ≡ true) ⊎ (S.light t ≡ true) → (g : ℕ) × HasGrant x g grants × (g ≤ N.inc) × (g ≡ N.inc → N.confd t ≡ true)
+
 -- What the servers' locks give: where a top wrote and includes a store, its state is one version above the one that it loaded, while
 -- its outcome is open.
 abbrev pub IsNext : State → ℕ → Type 0
@@ -34,7 +42,7 @@ IsNext S t = undecided S t ≡ true → (w : Packed) (s : ℕ) → (S.plan t).wr
 
 abbrev pub NewConfirmsAreBooked : Type 0
 NewConfirmsAreBooked = (x : ℕ) (tops : Kinds) (p : Path) (grants : Grants) (excluded included : Marks) (d : Pair) (n : Naming) (A : Office) → Named A → SeesNaming x tops n A.world.disk A.names → SeesEntry x d A.world.disk
-    → IsOfTop tops A.world.disk p → ClaimsConfirm x A.world (uid_number (top_of p)) grants excluded included → NamesGrants x A.world.disk A.names (uid_number (top_of p)) grants → IsNext A.world.disk (uid_number (top_of p))
+    → IsOfTop tops A.world.disk p → ClaimsConfirm x A.world (uid_number (top_of p)) grants excluded included → CountsOnGrants x A.world.disk A.names (uid_number (top_of p)) grants → IsNext A.world.disk (uid_number (top_of p))
     → IsNewConfirm p grants excluded included d n → IsBooked A.world.disk (uid_number (top_of p))
 
 -- ---- what the call does
@@ -48,11 +56,12 @@ pub record IsConfirmedBy (A B : Office) (e : Effect) : Type 0 where
   pub had : B.names.had ≡ A.names.had
   pub kept : B.names.kept ≡ A.names.kept
   pub answers : (a : Answer) → In a A.names.answers → In a B.names.answers
+  pub confd : (t : ℕ) → A.names.confd t ≡ true → B.names.confd t ≡ true
 
 -- With its exclude locks, the confirmation that the disk half makes may be done.
 abbrev pub NewConfirmsAreActs : Type 0
 NewConfirmsAreActs = (x : ℕ) (tops : Kinds) (p : Path) (grants : Grants) (excluded included : Marks) (d : Pair) (n : Naming) (A : Office) → Named A → SeesNaming x tops n A.world.disk A.names → SeesEntry x d A.world.disk
-    → IsOfTop tops A.world.disk p → ClaimsConfirm x A.world (uid_number (top_of p)) grants excluded included → NamesGrants x A.world.disk A.names (uid_number (top_of p)) grants → IsNext A.world.disk (uid_number (top_of p))
+    → IsOfTop tops A.world.disk p → ClaimsConfirm x A.world (uid_number (top_of p)) grants excluded included → CountsOnGrants x A.world.disk A.names (uid_number (top_of p)) grants → IsNext A.world.disk (uid_number (top_of p))
     → IsNewConfirm p grants excluded included d n → (e : Effect) → IsConfirmation (uid_number (top_of p)) e → Allowed A.world e
     → NamesGo A (λ B. IsConfirmedBy A B e × SeesNaming x tops (confirms (top_of p) (let l = lock_all (wanted (top_of p) grants excluded d) p n in l.part)) B.world.disk B.names × (B.names.confd (uid_number (top_of p)) ≡ true))
 

@@ -1,5 +1,5 @@
 -- Both halves of an object's machine in what is seen, of one state: stores, entry and coordinators, and naming's memory.
-use Rattle.std.specs.Prelude.{◌≡◌, ◌⊎◌, ◌+◌, ◌==◌, ◌||◌, not, ℕ, Bool, true, false, List, [], ◌∷◌, Option, Some, None, is_some}
+use Rattle.std.specs.Prelude.{◌≡◌, ◌⊎◌, ◌+◌, ◌==◌, ◌≤◌, ◌||◌, not, ℕ, Bool, true, false, List, [], ◌∷◌, Option, Some, None, is_some}
 use Rattle.arj_protocol.specs.Words.{Uid, Binding, Body, BoundReply, End, Head, Header, Label, ObjectState, is_on, object}
 use Rattle.arj_protocol.specs.Words.ask
 use Rattle.arj_protocol.specs.Words.ending
@@ -28,7 +28,7 @@ use Rattle.arj_view_law.specs.Walks.{Walks, Up, halted}
 use Rattle.arj_disk_view_law.specs.Entries.{SeesEntry}
 use Rattle.arj_disk_view_law.specs.Confirming.{IsNewConfirm}
 use Rattle.arj_disk_view_law.specs.Sees.{Along, ClaimsAsk, IsFixed, IsLater, IsNested, Kinds, SeesDisks, IsSeenByDisks, followed}
-use Rattle.arj_names_view_law.specs.Booked.{IsNext, NamesGrants}
+use Rattle.arj_names_view_law.specs.Booked.{CountsOnGrants, IsNext}
 use Rattle.arj_names_view_law.specs.Calls.{ClaimsBound, ClaimsTop, MayNote}
 use Rattle.arj_names_view_law.specs.Memory.{IsOfTop, SeesNaming}
 use Rattle.arj_disk_view_law.specs.Formats.{HasObject}
@@ -48,13 +48,16 @@ pub record SeesBoth (x : ℕ) (tops : Kinds) (A : Office) (M : Seen) : Type 0 wh
   pub disks : SeesDisks x tops A.world M
   pub names : SeesNames x tops A M
 
--- The disk half has gone on; of naming's half nothing but naming's memory has changed, and answers were given; and no top was decided.
+-- The disk half has gone on; of naming's half nothing but naming's memory has changed, in which whoever was confirmed is so still, and
+-- answers were given; and no top was decided.
 pub record OnlyMemory (A B : Office) : Type 0 where
   pub later : IsLater A.world B.world
   pub tops : B.world.disk.tops ≡ A.world.disk.tops
   pub had : B.names.had ≡ A.names.had
   pub kept : B.names.kept ≡ A.names.kept
   pub answers : (a : Answer) → In a A.names.answers → In a B.names.answers
+  pub inc : B.names.inc ≡ A.names.inc
+  pub confd : (t : ℕ) → A.names.confd t ≡ true → B.names.confd t ≡ true
 
 -- so both halves are seen
 abbrev pub IsSeenFrom : ℕ → Kinds → Office → Seen → Type 0
@@ -130,7 +133,7 @@ HellosKeepBoth = (x : ℕ) (tops : Kinds) (e : ℕ) (d : Disk) (t v : Parts) (no
 abbrev pub ConfirmsKeepBoth : Type 0
 ConfirmsKeepBoth = (x : ℕ) (tops : Kinds) (e : ℕ) (d : Disk) (t v : Parts) (n : Naming) (from : ℕ) (h : Head) (grants : Grants) (excluded included : Marks) (outs : List Effect) (A : Office) (M : Seen) → tops.walk ≡ None → t.naming ≡ Some n
     → serve 1 d t from h (ask.Confirm grants excluded included) ≡ Took v outs → (is_prepared (top_of h.path) d.names ≡ true → is_on n.confirmed (top_of h.path) ≡ true) → IsOfTop tops A.world.disk h.path → ClaimsAsk x A.world 1 h (ask.Confirm grants excluded included)
-    → (IsNewConfirm h.path grants excluded included d.names n → NamesGrants x A.world.disk A.names (uid_number (top_of h.path)) grants × IsNext A.world.disk (uid_number (top_of h.path)))
+    → (IsNewConfirm h.path grants excluded included d.names n → CountsOnGrants x A.world.disk A.names (uid_number (top_of h.path)) grants × IsNext A.world.disk (uid_number (top_of h.path)))
     → SeesBoth x tops A (up 1 d t M) → BothWalk x tops A e 1 outs v d M
 
 -- ---- ends
@@ -156,9 +159,9 @@ OtherEndsKeepBoth = (x : ℕ) (tops : Kinds) (e : ℕ) (d : Disk) (t v : Parts) 
 abbrev pub IsOther : (ℕ → Bool) → State → ℕ → Type 0
 IsOther g S r = (t : ℕ) → g t ≡ true → S.root t ≡ r → ⊥
 
--- what an action has it had, or one of these tops had it whose root it is
+-- what an action has it had, or one of these tops had it whose root it is, and whose outcome was open
 abbrev pub IsFrom : (ℕ → Bool) → Office → Office → Type 0
-IsFrom g A B = (h i : ℕ) → B.names.had h i ≡ true → (A.names.had h i ≡ true) ⊎ ((t : ℕ) × (g t ≡ true) × (A.world.disk.root t ≡ h) × (A.names.had t i ≡ true))
+IsFrom g A B = (h i : ℕ) → B.names.had h i ≡ true → (A.names.had h i ≡ true) ⊎ ((t : ℕ) × (g t ≡ true) × (undecided A.world.disk t ≡ true) × (A.world.disk.root t ≡ h) × (A.names.had t i ≡ true))
 
 -- Of naming's half nothing has changed but grants and kept lists of the roots of these tops: what was had is had still, and a root has
 -- nothing that it and these tops hadn't; of another root none was decided.
@@ -260,11 +263,13 @@ pub record OnlyAtNode (g : ℕ → Bool) (A B : Office) : Type 0 where
   pub tops : (r : ℕ) → IsOther g A.world.disk r → written_in A.world.disk.root r B.world.disk.tops ≡ written_in A.world.disk.root r A.world.disk.tops
   pub answers : (a : Answer) → In a A.names.answers → In a B.names.answers
 
--- and the disk half has come here by deciding none but these
+-- And the disk half has come here by deciding none but these; in one incarnation of naming whoever was confirmed is so still.
 pub record OnlyFound (g : ℕ → Bool) (A B : Office) : Type 0 where
   pub only : OnlyAtNode g A B
   pub from : IsFrom g A B
   pub along : Along (record { from = A.world; noted = only_decides g }) B.world
+  pub inc : A.names.inc ≤ B.names.inc
+  pub confd : A.names.inc ≡ B.names.inc → (t : ℕ) → A.names.confd t ≡ true → B.names.confd t ≡ true
 
 abbrev pub IsSeenAgain : (ℕ → Bool) → ℕ → Kinds → Office → Seen → Type 0
 IsSeenAgain g x tops A M = (B : Office) × OnlyFound g A B × SeesBoth x tops B M

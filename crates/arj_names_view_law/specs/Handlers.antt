@@ -31,7 +31,7 @@ use Rattle.arj_disk_view_law.specs.Entries.{SeesEntry}
 use Rattle.arj_disk_view_law.specs.Knows.{KnowsCoord, KnowsKinds, IsOfKind}
 use Rattle.arj_disk_view_law.specs.Plans.{plan_at}
 use Rattle.arj_disk_view_law.specs.Sees.{IsLater, Kinds, was_begun}
-use Rattle.arj_names_view_law.specs.Booked.{IsNext, NamesGrants}
+use Rattle.arj_names_view_law.specs.Booked.{CountsOnGrants, IsNext}
 use Rattle.arj_names_view_law.specs.Both.{BothWalk, OnlyDecided, OnlyMemory, OpensNone, SeesBoth, has_part}
 use Rattle.arj_names_view_law.specs.Calls.{HasGiven, MayNote}
 use Rattle.arj_names_view_law.specs.Memory.{IsOfTop}
@@ -99,10 +99,10 @@ IsSeenAfter o x tops A M = (B : Office) × Changes o A B × SeesBoth x tops B M
 abbrev pub MayRecord : ℕ → Disk → Naming → Message → Office → Type 0
 MayRecord x d n m A = (h : Head) (y : ℕ) (b : Binding) (i g : ℕ) → asks m ≡ Some (h, ask.Record y b i g) → (B : Office) → B.names ≡ A.names → SeesEntry x d.names B.world.disk → MayNote x y (top_of h.path) g n B
 
--- a new Confirm names its top's grants, and what the servers' locks give holds of it
+-- what a new Confirm counts on of its top's grants, and what the servers' locks give
 abbrev pub IsForGrants : ℕ → Disk → Naming → Message → Office → Type 0
 IsForGrants x d n m A = (h : Head) (grants : Grants) (excluded included : Marks) → asks m ≡ Some (h, ask.Confirm grants excluded included) → IsNewConfirm h.path grants excluded included d.names n
-    → NamesGrants x A.world.disk A.names (uid_number (top_of h.path)) grants × IsNext A.world.disk (uid_number (top_of h.path))
+    → CountsOnGrants x A.world.disk A.names (uid_number (top_of h.path)) grants × IsNext A.world.disk (uid_number (top_of h.path))
 
 -- What naming's half counts on at a message to naming: who asks is a top that is its own root or stands behind it; what a Record
 -- counts on; a top that has an entry prepared is known as confirmed; what a new Confirm counts on; and naming has the object.

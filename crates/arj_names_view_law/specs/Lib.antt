@@ -2,6 +2,7 @@ pub mod Begins
 pub mod Booked
 pub mod Both
 pub mod Calls
+pub mod Claims
 pub mod Decided
 pub mod Grants
 pub mod Handlers
