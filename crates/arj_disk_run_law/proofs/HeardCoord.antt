@@ -14,12 +14,14 @@ use Rattle.arj_disk_view_law.specs.Sees.{IsFixed, Kinds}
 use Rattle.arj_disk_view_law.proofs.Frames.{node_cases, node_here}
 use Rattle.arj_names_view_law.specs.Both.{OnlyMemory, SeesBoth}
 use Rattle.arj_names_view_law.specs.Handlers.{Quietly}
+use Rattle.arj_disk_law.specs.Named.{Named}
+use Rattle.arj_names_view_law.proofs.GrantClaims.{changes_are_after}
 use Rattle.arj_disk_run_law.specs.Heard.{HasNoneOf, SeesHeard, SeesHeardAt}
 use Rattle.arj_disk_run_law.specs.Part.{HoldsFrom}
 use Rattle.arj_disk_run_law.proofs.HeardAll.{WasAt, heard_to, walk_fits}
 use Rattle.arj_disk_run_law.proofs.HeardPosts.{SaysHeard}
 use Rattle.arj_disk_run_law.proofs.HeardQuiet.{fixed_in, old_claims, sends_same}
-use Rattle.arj_disk_run_law.proofs.HeardStays.{IsNewTo, SendsMore, claim_stays, memory_goes, memory_had, memory_stays, none_stays}
+use Rattle.arj_disk_run_law.proofs.HeardStays.{IsNewTo, SendsMore, claim_stays, memory_goes, memory_stays, none_stays}
 
 module _ (x : ℕ) (tops : Kinds) (k : ℕ) (d : Disk) (t : Parts) (M : Seen) (A : Office) (both : SeesBoth x tops A (up k d t M)) (p : SeesHeard x tops A (up k d t M)) where
   abbrev Here : Node
@@ -36,10 +38,10 @@ module _ (x : ℕ) (tops : Kinds) (k : ℕ) (d : Disk) (t : Parts) (M : Seen) (A
   mine = p.coords k Here t here refl
 
   module _ (B : Office) (N : Seen) (only : OnlyMemory A B) (h : IsFixed tops B.world.disk) where
-    sends_on : (few many : List Post) → SendsMore x A few many → SendsMore x B few many
-    sends_on few many more = record {
+    sends_on : Named B → (few many : List Post) → SendsMore x A few many → SendsMore x B few many
+    sends_on held few many more = record {
       within = more.within;
-      new = λ q i. ⊎_elim (λ o. inl o) (λ (n : IsNewTo x A q). inr (record { none = n.none; claims = claim_stays x tops A B f h (memory_goes A B only) (λ u j begun here had. memory_had A B only (uid_number u) j had) (asks q.message) n.claims })) (more.new q i);
+      new = λ q i. ⊎_elim (λ o. inl o) (λ (n : IsNewTo x A q). inr (record { none = n.none; claims = claim_stays x tops A B f h (memory_goes A B only) both.named held (changes_are_after Quietly A B both.named only) (asks q.message) n.claims })) (more.new q i);
     }
 
     other_at : (j : ℕ) (n : Node) (s : Parts) → (j == k) ≡ false → M.nodes j ≡ Some n → n.live ≡ Some s → WasAt x tops A B (up k d t M) N f h (memory_goes A B only) p j s
@@ -68,7 +70,7 @@ module _ (x : ℕ) (tops : Kinds) (k : ℕ) (d : Disk) (t : Parts) (M : Seen) (A
   stop_at : (e : ℕ) (c : Disk) (N : Seen) → N.nodes ≡ M.nodes → Fits c N.sent → HoldsFrom (SeesHeard x) x tops Quietly A (halted e k c N)
   stop_at e c N same fits B only now =
       let h = fixed_in x tops B (halted e k c N) now in
-      heard_to x tops A B (up k d t M) (halted e k c N) f h (memory_goes A B only) p (sends_on B (halted e k c N) only h M.sent N.sent fits.1) (old_claims x tops A B (up k d t M) f h only p)
+      heard_to x tops A B (up k d t M) (halted e k c N) f h (memory_goes A B only) p (sends_on B (halted e k c N) only h now.named M.sent N.sent fits.1) (old_claims x tops A B (up k d t M) f h both.named now.named only p)
       (λ j n s there live. ⊎_elim
       (λ (z : (j ≡ k) × (record { number = k; disk = c; live = None } ≡ n)). absurd (let none : None ≡ Some s = ap (λ (y : Node). y.live) z.1 ∙ live in cc))
       (λ (z : ((j == k) ≡ false) × (N.nodes j ≡ Some n)). inl (other_at B (halted e k c N) only h j n s z.0 (ap (λ q. q j) (sym same) ∙ z.1) live))
@@ -81,10 +83,10 @@ module _ (x : ℕ) (tops : Kinds) (k : ℕ) (d : Disk) (t : Parts) (M : Seen) (A
     end_at : (c : Disk) (N : Seen) → N.nodes ≡ M.nodes → Fits c N.sent → HoldsFrom (SeesHeard x) x tops Quietly A (up k c v N)
     end_at c N same fits B only now =
         let h = fixed_in x tops B (up k c v N) now in
-        heard_to x tops A B (up k d t M) (up k c v N) f h (memory_goes A B only) p (sends_on B (up k c v N) only h M.sent N.sent fits.1) (old_claims x tops A B (up k d t M) f h only p)
+        heard_to x tops A B (up k d t M) (up k c v N) f h (memory_goes A B only) p (sends_on B (up k c v N) only h now.named M.sent N.sent fits.1) (old_claims x tops A B (up k d t M) f h both.named now.named only p)
         (λ j n s there live. ⊎_elim
         (λ (z : (j ≡ k) × (record { number = k; disk = c; live = Some v } ≡ n)). inr (subst (λ i. SeesHeardAt x i tops N.sent s.coord B) (sym z.0) (subst (λ (y : Parts). SeesHeardAt x k tops N.sent y.coord B) (some_is {A = Parts} refl (ap (λ (y : Node). y.live) z.1 ∙ live))
-        (after N B only h (sends_on B (up k c v N) only h M.sent N.sent fits.1)))))
+        (after N B only h (sends_on B (up k c v N) only h now.named M.sent N.sent fits.1)))))
         (λ (z : ((j == k) ≡ false) × (N.nodes j ≡ Some n)). inl (other_at B (up k c v N) only h j n s z.0 (ap (λ q. q j) (sym same) ∙ z.1) live))
         (node_cases N k (record { number = k; disk = c; live = Some v }) j n there))
         (λ j n u there node alone low. none_at B (up k c v N) only h c.inc j n u fits.0 (⊎_elim

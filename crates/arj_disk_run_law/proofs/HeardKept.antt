@@ -1,5 +1,5 @@
 -- What coordinators have of naming's answers is kept, with what is still taken of it.
-use Rattle.std.proofs.Common.{◌≡◌, ℕ}
+use Rattle.std.proofs.Common.{ℕ}
 use Rattle.arj_protocol.specs.Words.{Header}
 use Rattle.arj_view_law.specs.Seen.{Seen}
 use Rattle.arj_disk_view_law.specs.Formats.{HasObject}
@@ -15,8 +15,8 @@ use Rattle.arj_disk_run_law.proofs.HeardTick.{heard_begin, heard_tick}
 -- nodes are good where this holds
 pub heard_kept : (hd : Header) (x : ℕ) (R : Seen → Type 0) → ((M : Seen) → R M → IsGood M) → HasObject hd x → KeepsHeard hd x R → KeepsPart hd x R (SeesHeard x)
 heard_kept hd x R good has rest = record {
-  quiet = λ tops e bs M A walk quiet r both p B only now. heard_quiet x tops e bs M A B (fixed_in x tops A M both) (let s = now.disks in s.fixed) only p;
-  stop = λ tops e k d live M A walk r both p B only now. heard_stop x tops e k d live M A B (let s = both.disks in s.fixed) (let s = now.disks in s.fixed) only p;
+  quiet = λ tops e bs M A walk quiet r both p B only now. heard_quiet x tops e bs M A B (fixed_in x tops A M both) (let s = now.disks in s.fixed) both.named now.named only p;
+  stop = λ tops e k d live M A walk r both p B only now. heard_stop x tops e k d live M A B (let s = both.disks in s.fixed) (let s = now.disks in s.fixed) both.named now.named only p;
   message = λ tops e k d t v from m outs M A walk knows r sent meant is of both p. rest.message tops e k d t v from m outs M A (record { unwalked = walk; knows = knows; run = r; both = both; heard = p }) sent meant is of;
   act = λ tops e k d t i M A walk knows r is free both p. rest.act tops e k d t i M A (record { unwalked = walk; knows = knows; run = r; both = both; heard = p }) is free;
   begin = λ tops e k d t l how parent M A walk knows r new may free kind both p. heard_begin x tops e k d t l how parent M A both p;

@@ -13,8 +13,11 @@ use Rattle.arj_disk_view_law.specs.Sees.{IsFixed, Kinds}
 use Rattle.arj_disk_view_law.proofs.Frames.{node_cases, node_here}
 use Rattle.arj_names_view_law.specs.Both.{OnlyMemory, SeesBoth}
 use Rattle.arj_disk_run_law.specs.Heard.{ClaimsAsked, SeesHeard}
+use Rattle.arj_disk_law.specs.Named.{Named}
+use Rattle.arj_names_view_law.specs.Handlers.{Quietly}
+use Rattle.arj_names_view_law.proofs.GrantClaims.{changes_are_after}
 use Rattle.arj_disk_run_law.proofs.HeardAll.{heard_to}
-use Rattle.arj_disk_run_law.proofs.HeardStays.{SendsMore, claim_stays, memory_goes, memory_had, memory_stays, none_stays}
+use Rattle.arj_disk_run_law.proofs.HeardStays.{SendsMore, claim_stays, memory_goes, memory_stays, none_stays}
 
 -- nothing more was sent
 pub sends_same : (x : ℕ) (B : Office) (sent : List Post) → SendsMore x B sent sent
@@ -24,16 +27,16 @@ pub fixed_in : (x : ℕ) (tops : Kinds) (A : Office) (M : Seen) → SeesBoth x t
 fixed_in x tops A M both = let s = both.disks in s.fixed
 
 -- old requests claim what they did, where nothing but naming's memory has changed
-pub old_claims : (x : ℕ) (tops : Kinds) (A B : Office) (M : Seen) → IsFixed tops A.world.disk → IsFixed tops B.world.disk → OnlyMemory A B → SeesHeard x tops A M → (q : Post) → seen.In q M.sent → ClaimsAsked x B (asks q.message)
-old_claims x tops A B M f h only p q i = claim_stays x tops A B f h (memory_goes A B only) (λ u j begun here had. memory_had A B only (uid_number u) j had) (asks q.message) (p.posts q i)
+pub old_claims : (x : ℕ) (tops : Kinds) (A B : Office) (M : Seen) → IsFixed tops A.world.disk → IsFixed tops B.world.disk → Named A → Named B → OnlyMemory A B → SeesHeard x tops A M → (q : Post) → seen.In q M.sent → ClaimsAsked x B (asks q.message)
+old_claims x tops A B M f h named held only p q i = claim_stays x tops A B f h (memory_goes A B only) named held (changes_are_after Quietly A B named only) (asks q.message) (p.posts q i)
 
-pub heard_quiet : (x : ℕ) (tops : Kinds) (e : ℕ) (bs : List Body) (M : Seen) (A B : Office) → IsFixed tops A.world.disk → IsFixed tops B.world.disk → OnlyMemory A B → SeesHeard x tops A M → SeesHeard x tops B (said e bs M)
-heard_quiet x tops e bs M A B f h only p = heard_to x tops A B M (said e bs M) f h (memory_goes A B only) p (sends_same x B M.sent) (old_claims x tops A B M f h only p)
+pub heard_quiet : (x : ℕ) (tops : Kinds) (e : ℕ) (bs : List Body) (M : Seen) (A B : Office) → IsFixed tops A.world.disk → IsFixed tops B.world.disk → Named A → Named B → OnlyMemory A B → SeesHeard x tops A M → SeesHeard x tops B (said e bs M)
+heard_quiet x tops e bs M A B f h named held only p = heard_to x tops A B M (said e bs M) f h (memory_goes A B only) p (sends_same x B M.sent) (old_claims x tops A B M f h named held only p)
     (λ j n t there live. inl (record { node = n; there = there; parts = t; live = live; same = refl; stays = λ u own kind. memory_stays tops A B only (tops.root (uid_number u)) }))
     (λ j n u there at alone low. none_stays x tops A B f h (memory_goes A B only) (uid_number u) (memory_stays tops A B only (uid_number u)) (p.future j n u there at alone low))
 
-pub heard_stop : (x : ℕ) (tops : Kinds) (e k : ℕ) (d : Disk) (live : Option Parts) (M : Seen) (A B : Office) → IsFixed tops A.world.disk → IsFixed tops B.world.disk → OnlyMemory A B → SeesHeard x tops A (at k d live M) → SeesHeard x tops B (halted e k d M)
-heard_stop x tops e k d live M A B f h only p = heard_to x tops A B (at k d live M) (halted e k d M) f h (memory_goes A B only) p (sends_same x B M.sent) (old_claims x tops A B (at k d live M) f h only p)
+pub heard_stop : (x : ℕ) (tops : Kinds) (e k : ℕ) (d : Disk) (live : Option Parts) (M : Seen) (A B : Office) → IsFixed tops A.world.disk → IsFixed tops B.world.disk → Named A → Named B → OnlyMemory A B → SeesHeard x tops A (at k d live M) → SeesHeard x tops B (halted e k d M)
+heard_stop x tops e k d live M A B f h named held only p = heard_to x tops A B (at k d live M) (halted e k d M) f h (memory_goes A B only) p (sends_same x B M.sent) (old_claims x tops A B (at k d live M) f h named held only p)
     (λ j n t there up. ⊎_elim
     (λ (c : (j ≡ k) × (record { number = k; disk = d; live = None } ≡ n)). absurd (let none : None ≡ Some t = ap (λ (z : Node). z.live) c.1 ∙ up in cc))
     (λ (c : ((j == k) ≡ false) × (M.nodes j ≡ Some n)). inl (record { node = n; there = other j n c.0 c.1; parts = t; live = up; same = refl; stays = λ u own kind. memory_stays tops A B only (tops.root (uid_number u)) }))

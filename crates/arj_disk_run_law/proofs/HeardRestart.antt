@@ -10,7 +10,6 @@ use Rattle.arj_protocol.specs.Step.{Node, parts_in, restart_outs}
 use Rattle.arj_protocol.specs.Tree.{is_own}
 use Rattle.arj_disk_law.specs.Effects.{Whole}
 use Rattle.arj_disk_law.specs.Names.{Office}
-use Rattle.arj_disk_law.specs.State.{is_gone}
 use Rattle.arj_disk_law.proofs.Base.{bool_cases, never, some_is, test_is, test_same}
 use Rattle.arj_part_law.specs.Claims.{AreOfNode, IsOfNode}
 use Rattle.arj_part_law.proofs.Keys.{in_at}
@@ -20,17 +19,18 @@ use Rattle.arj_view_law.specs.Seen.{Post, Seen, down, up}
 use Rattle.arj_view_law.specs.Walks.{Walks, Up, halted}
 use Rattle.arj_disk_view_law.specs.Deciding.{SeesRecords, nodes_of}
 use Rattle.arj_lock.proofs.Members as list
-use Rattle.arj_disk_view_law.specs.Sees.{IsFixed, IsLater, Kinds, SeesDown}
+use Rattle.arj_disk_view_law.specs.Sees.{IsFixed, IsLater, Kinds}
 use Rattle.arj_disk_view_law.proofs.Frames.{node_cases, node_here}
 use Rattle.arj_disk_view_law.proofs.Later.{effects_are_later}
 use Rattle.arj_names_view_law.specs.Both.{IsOther, OnlyAtNode, OnlyFound, SeesBoth}
-use Rattle.arj_disk_run_law.specs.Heard.{ClaimsAsked, HasNoneOf, IsHadBy, IsOfRoot, SeesHeard, SeesHeardAt}
+use Rattle.arj_names_view_law.proofs.GrantClaims.{restarts_are_after}
+use Rattle.arj_disk_run_law.specs.Heard.{ClaimsAsked, HasNoneOf, IsOfRoot, SeesHeard, SeesHeardAt}
 use Rattle.arj_disk_run_law.specs.Part.{HoldsAgain, are_recorded}
 use Rattle.arj_disk_run_law.proofs.HeardAll.{WasAt, heard_to, walk_fits}
 use Rattle.arj_disk_run_law.proofs.HeardFirst.{new_seen}
 use Rattle.arj_disk_run_law.proofs.HeardPosts.{SaysHeard, restart_says}
 use Rattle.arj_disk_run_law.proofs.HeardQuiet.{fixed_in, sends_same}
-use Rattle.arj_disk_run_law.proofs.HeardStays.{GoesOn, IsNewTo, SendsMore, StaysOf, claim_stays, none_stays, was_had}
+use Rattle.arj_disk_run_law.proofs.HeardStays.{GoesOn, IsNewTo, SendsMore, StaysOf, claim_stays, none_stays}
 
 module _ (x : ℕ) (tops : Kinds) (k : ℕ) (d : Disk) (M : Seen) (A : Office) (good : IsGood (down k d M)) (both : SeesBoth x tops A (down k d M)) (p : SeesHeard x tops A (down k d M)) where
   abbrev Here : Node
@@ -114,17 +114,11 @@ module _ (x : ℕ) (tops : Kinds) (k : ℕ) (d : Disk) (M : Seen) (A : Office) (
         let o = p.kinds.own u r.0 top r.1 in
         subst (λ z. StaysOf tops z A B) (sym r.1) (stays_of r.0 (ap tops.root (sym r.1) ∙ p.kinds.idem (uid_number u) ∙ r.1) (λ same low. not (o.0 ∙ same)))
 
-    had_of : (u : Uid) (i : ℕ) → A.world.disk.begun (uid_number u) ≡ true → is_gone (A.world.disk.stage (uid_number u)) ≡ false → IsHadBy B (uid_number u) i → IsHadBy A (uid_number u) i
-    had_of u j begun there has = was_had x tops A B f h on u (stays_for u (λ same. never (downs.closed u same begun) there) (inr (both.disks.kinds (uid_number u) begun).0)) j has
-      where
-        downs : SeesDown k d.inc A.world.disk
-        downs = let s = both.disks in s.downs k Here here refl
-
     old : (q : Post) → seen.In q M.sent → ClaimsAsked x B (asks q.message)
-    old q i = claim_stays x tops A B f h on had_of (asks q.message) (p.posts q i)
+    old q i = claim_stays x tops A B f h on both.named now.named (restarts_are_after g A B both.named found) (asks q.message) (p.posts q i)
 
     sends_on : (few many : List Post) → SendsMore x A few many → SendsMore x B few many
-    sends_on few many more = record { within = more.within; new = λ q i. ⊎_elim (λ o. inl o) (λ (n : IsNewTo x A q). inr (record { none = n.none; claims = claim_stays x tops A B f h on had_of (asks q.message) n.claims })) (more.new q i) }
+    sends_on few many more = record { within = more.within; new = λ q i. ⊎_elim (λ o. inl o) (λ (n : IsNewTo x A q). inr (record { none = n.none; claims = claim_stays x tops A B f h on both.named now.named (restarts_are_after g A B both.named found) (asks q.message) n.claims })) (more.new q i) }
 
     -- a coordinator of another node
     other_at : (j : ℕ) (n : Node) (t : Parts) → (j == k) ≡ false → M.nodes j ≡ Some n → n.live ≡ Some t → WasAt x tops A B (down k d M) N f h on p j t

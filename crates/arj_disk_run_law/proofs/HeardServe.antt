@@ -1,20 +1,18 @@
 -- What coordinators have of naming's answers, where a node answers a request.
-use Rattle.std.proofs.Common.{◌≡◌, ◌⊎◌, ◌≤◌, ◌<◌, ℕ, ◌==◌, if◌then◌else◌, Bool, true, false, List, [], ◌∷◌, ◌++◌, Option, Some, None, refl, sym, ◌∙◌, ap, subst, inl, inr, ⊎_elim, arith}
-use Rattle.std.specs.Prelude.{⊤}
+use Rattle.std.proofs.Common.{◌≡◌, ◌⊎◌, ◌≤◌, ◌<◌, ℕ, ◌==◌, if◌then◌else◌, false, List, [], ◌∷◌, ◌++◌, Option, Some, None, refl, sym, ◌∙◌, ap, subst, inl, inr, ⊎_elim, arith}
 use Rattle.std.specs.List.{AllByRecursion}
 use Rattle.arj_protocol.specs.Words.{Ask, Asked, Head, Message, Uid, asks}
 use Rattle.arj_protocol.specs.Ask.{Reply, actor, answers, ask_kind, asked_by, reply_kind, response}
 use Rattle.arj_protocol.specs.Call.{Steps}
-use Rattle.arj_protocol.specs.Coord.{Calling, Coord, Doing, doing_of}
+use Rattle.arj_protocol.specs.Coord.{Calling, Doing, doing_of}
 use Rattle.arj_protocol.specs.Effect.{Disk, Do, Effect, Send, Stop, Work, stopped, worked}
 use Rattle.arj_protocol.specs.Node.{Parts}
 use Rattle.arj_protocol.specs.Order.{uid_number}
 use Rattle.arj_protocol.specs.Step.{Node}
 use Rattle.arj_protocol.specs.Tree.{is_own}
 use Rattle.arj_protocol.proofs.Messages.{response_asks_nothing, response_reads_back}
-use Rattle.arj_part_law.specs.Actions.{Action, Agree, paths_of}
+use Rattle.arj_part_law.specs.Actions.{Action, paths_of}
 use Rattle.arj_part_law.specs.Coords.{IsAsking, IsBusy, IsGoodCoord}
-use Rattle.arj_part_law.specs.Copies.{IsTree}
 use Rattle.arj_part_law.specs.Nodes.{IsGoodNode}
 use Rattle.arj_part_law.specs.Requests.{IsNumbered}
 use Rattle.arj_part_law.proofs.Begun.{begun_tree, path_found}
@@ -30,13 +28,15 @@ use Rattle.arj_disk_view_law.specs.Sees.{IsFixed, Kinds}
 use Rattle.arj_disk_view_law.proofs.Frames.{node_cases, node_here}
 use Rattle.arj_names_view_law.specs.Both.{OnlyMemory, SeesBoth}
 use Rattle.arj_names_view_law.specs.Handlers.{Change, Changes}
+use Rattle.arj_disk_law.specs.Named.{Named}
+use Rattle.arj_names_view_law.proofs.GrantClaims.{changes_are_after}
 use Rattle.arj_disk_run_law.specs.Heard.{ClaimsAsked, HasNoneOf, IsAskedFor, IsToStep, SeesHeard, SeesHeardAt}
 use Rattle.arj_disk_run_law.specs.Part.{HoldsFrom}
 use Rattle.arj_disk_run_law.proofs.HeardAll.{WasAt, asked_on, heard_goes, walk_fits}
 use Rattle.arj_disk_run_law.proofs.HeardLike.{IsLike, at_like}
 use Rattle.arj_disk_run_law.proofs.HeardPosts.{SaysHeard, all_join}
 use Rattle.arj_disk_run_law.proofs.HeardQuiet.{fixed_in, old_claims}
-use Rattle.arj_disk_run_law.proofs.HeardStays.{claim_stays, IsNewTo, SaysToStep, at_goes, memory_goes, memory_had, memory_stays, none_stays, own_doing}
+use Rattle.arj_disk_run_law.proofs.HeardStays.{claim_stays, IsNewTo, SaysToStep, at_goes, memory_goes, memory_stays, none_stays, own_doing}
 
 -- ---- which step a request is of
 
@@ -119,15 +119,15 @@ module _ (x : ℕ) (tops : Kinds) (k : ℕ) (d : Disk) (t : Parts) (M : Seen) (A
   abbrev Q : Effect → Type 0
   Q e = SaysHeard x d.inc A e ⊎ (e ≡ Send from (response (asked_by h) q))
 
-  module _ (B : Office) (N : Seen) (changes : Changes o A B) (hb : IsFixed tops B.world.disk) (c : Disk) (fits : Fits c N.sent) where
+  module _ (B : Office) (N : Seen) (changes : Changes o A B) (hb : IsFixed tops B.world.disk) (held : Named B) (c : Disk) (fits : Fits c N.sent) where
     only : OnlyMemory A B
     only = memory B changes
 
     new_claims : (z : Post) → IsNewTo x A z → ClaimsAsked x B (asks z.message)
-    new_claims z n = claim_stays x tops A B f hb (memory_goes A B only) (λ u i begun there had. memory_had A B only (uid_number u) i had) (asks z.message) n.claims
+    new_claims z n = claim_stays x tops A B f hb (memory_goes A B only) both.named held (changes_are_after o A B both.named changes) (asks z.message) n.claims
 
     claims : (z : Post) → seen.In z N.sent → ClaimsAsked x B (asks z.message)
-    claims z i = ⊎_elim (λ old. old_claims x tops A B (up k d t M) f hb only p z old)
+    claims z i = ⊎_elim (λ old. old_claims x tops A B (up k d t M) f hb both.named held only p z old)
         (λ more. ⊎_elim (λ n. new_claims z n) (λ is. subst (λ (y : Post). ClaimsAsked x B (asks y.message)) is (subst (ClaimsAsked x B) (sym (response_asks_nothing (asked_by h) q)) tt)) more) (fits.new z i)
 
     asked : (z : Post) (b : Asked) (r : Reply) → seen.In z N.sent → answers z.message ≡ Some (b, r) → IsAskedFor N.sent z b r
@@ -206,8 +206,8 @@ module _ (x : ℕ) (tops : Kinds) (k : ℕ) (d : Disk) (t : Parts) (M : Seen) (A
   pub serve_step : (e : ℕ) (outs : List Effect) → AllByRecursion (SaysHeard x d.inc A) outs → Walks (HoldsFrom (SeesHeard x) x tops o A) e k (outs ++ Send from (response (asked_by h) q) ∷ []) (Up (HoldsFrom (SeesHeard x) x tops o A) k v) d M
   serve_step e outs all = walk_fits (HoldsFrom (SeesHeard x) x tops o A) (Up (HoldsFrom (SeesHeard x) x tops o A) k v) e k M.nodes Fits Q
       (λ w what c s fits. works w what c s fits) sends_one
-      (λ c N same fits B changes now. down_now B N changes (fixed_in x tops B (halted e k c N) now) c fits e same)
-      (λ c N same fits B changes now. up_now B N changes (fixed_in x tops B (up k c v N) now) c fits same)
+      (λ c N same fits B changes now. down_now B N changes (fixed_in x tops B (halted e k c N) now) now.named c fits e same)
+      (λ c N same fits B changes now. up_now B N changes (fixed_in x tops B (up k c v N) now) now.named c fits same)
       (outs ++ Send from (response (asked_by h) q) ∷ []) (all_join Q outs (Send from (response (asked_by h) q) ∷ []) (first outs all) (inr refl, tt)) d M refl (record { low = omega arith; within = λ z i. i; new = λ z i. inl i })
     where
       first : (es : List Effect) → AllByRecursion (SaysHeard x d.inc A) es → AllByRecursion Q es

@@ -11,11 +11,8 @@ use Rattle.arj_protocol.specs.Commit.{Machine}
 use Rattle.arj_protocol.specs.Coord.{Calling, Coord, Doing, doing_of, root_at}
 use Rattle.arj_protocol.specs.Order.{uid_number}
 use Rattle.arj_protocol.specs.Tree.{at_place, is_own}
-use Rattle.arj_disk_law.specs.Guards.{HasPart}
 use Rattle.arj_disk_law.specs.Names.{Answer, Bound, Loaded, Names, Office, newer, written_in}
-use Rattle.arj_disk_law.specs.State.{is_gone}
 use Rattle.arj_disk_law.specs.Words.{In}
-use Rattle.arj_disk_law.proofs.Base.{never}
 use Rattle.arj_view_law.specs.Seen as seen
 use Rattle.arj_view_law.specs.Seen.{Post, Seen}
 use Rattle.arj_call_law.specs.Coords.{head_of}
@@ -23,6 +20,9 @@ use Rattle.arj_disk_view_law.specs.Pairs.{packed}
 use Rattle.arj_disk_view_law.specs.Sees.{IsFixed, IsLater, Kinds}
 use Rattle.arj_names_view_law.specs.Both.{OnlyMemory}
 use Rattle.arj_names_view_law.specs.Calls.{ClaimsBound, HasGiven}
+use Rattle.arj_names_view_law.specs.Claims.{IsAfter}
+use Rattle.arj_names_view_law.proofs.GrantClaims.{grants_stay_counted_on}
+use Rattle.arj_disk_law.specs.Named.{Named}
 use Rattle.arj_names_view_law.proofs.RootsBoth.{root_stays}
 use Rattle.arj_disk_run_law.specs.Heard.{ClaimsAsked, HasNoneOf, IsHadBy, IsListFor, IsOfRoot, IsToStep, SeesHeardAt, SeesPlan, SeesStep, IsOfGoal}
 
@@ -141,26 +141,17 @@ module _ (x : ℕ) (tops : Kinds) (A B : Office) (f : IsFixed tops A.world.disk)
     states = ap (λ g. written_in g u B.world.disk.tops) roots ∙ (stays.states ∙ none.states);
   }
 
-  -- what a request claims, where no top that is there has more grants that count for it
-  pub claim_stays : ((u : Uid) (i : ℕ) → A.world.disk.begun (uid_number u) ≡ true → is_gone (A.world.disk.stage (uid_number u)) ≡ false → IsHadBy B (uid_number u) i → IsHadBy A (uid_number u) i) → (o : Option (Head × Ask)) → ClaimsAsked x A o → ClaimsAsked x B o
-  claim_stays had None c = tt
-  claim_stays had (Some (z, ask.Bind y include avoid)) c = tt
-  claim_stays had (Some (z, ask.Load y)) c = tt
-  claim_stays had (Some (z, ask.Activate b st)) c = tt
-  claim_stays had (Some (z, ask.Record y b i g)) c = λ same. on.had (uid_number (top_of z.path)) g (c same)
-  claim_stays had (Some (z, ask.Invoke y b i ends op)) c = tt
-  claim_stays had (Some (z, ask.Vote i ties ends)) c = tt
-  claim_stays had (Some (z, ask.Prepare states)) c = tt
-  claim_stays had (Some (z, ask.Confirm grants excluded included)) c = (
-    on.later.begun (uid_number (top_of z.path)) c.0,
-    λ here part i has.
-        let was : is_gone (A.world.disk.stage (uid_number (top_of z.path))) ≡ false = not_gone (is_gone (A.world.disk.stage (uid_number (top_of z.path)))) refl here in
-        c.1 was (subst HasPart (on.later.plan (uid_number (top_of z.path)) c.0) part) i (had (top_of z.path) i c.0 was has),
-  )
-    where
-      not_gone : (b : Bool) → is_gone (A.world.disk.stage (uid_number (top_of z.path))) ≡ b → is_gone (B.world.disk.stage (uid_number (top_of z.path))) ≡ false → is_gone (A.world.disk.stage (uid_number (top_of z.path))) ≡ false
-      not_gone true is here = absurd (never (on.later.gone (uid_number (top_of z.path)) is) here)
-      not_gone false is here = is
+  -- what a request claims it claims still
+  pub claim_stays : Named A → Named B → IsAfter A B → (o : Option (Head × Ask)) → ClaimsAsked x A o → ClaimsAsked x B o
+  claim_stays named held after None c = tt
+  claim_stays named held after (Some (z, ask.Bind y include avoid)) c = tt
+  claim_stays named held after (Some (z, ask.Load y)) c = tt
+  claim_stays named held after (Some (z, ask.Activate b st)) c = tt
+  claim_stays named held after (Some (z, ask.Record y b i g)) c = λ same. on.had (uid_number (top_of z.path)) g (c same)
+  claim_stays named held after (Some (z, ask.Invoke y b i ends op)) c = tt
+  claim_stays named held after (Some (z, ask.Vote i ties ends)) c = tt
+  claim_stays named held after (Some (z, ask.Prepare states)) c = tt
+  claim_stays named held after (Some (z, ask.Confirm grants excluded included)) c = (on.later.begun (uid_number (top_of z.path)) c.0, grants_stay_counted_on x (uid_number (top_of z.path)) grants A B named held c.0 after c.1)
 
   -- ---- a coordinator
 

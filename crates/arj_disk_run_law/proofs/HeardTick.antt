@@ -36,6 +36,8 @@ use Rattle.arj_names_view_law.specs.Booked.{HasGrant}
 use Rattle.arj_names_view_law.specs.Both.{SeesBoth}
 use Rattle.arj_names_view_law.specs.Grants.{StandsOn}
 use Rattle.arj_names_view_law.specs.Handlers.{Quietly}
+use Rattle.arj_disk_law.specs.Named.{Named}
+use Rattle.arj_names_view_law.proofs.GrantClaims.{grants_are_counted_on}
 use Rattle.arj_disk_run_law.specs.Heard.{ClaimsAsked, ClaimsGrants, IsHadBy, SeesHeard, SeesHeardAt, SeesPlan, SeesStep}
 use Rattle.arj_disk_run_law.specs.Part.{HoldsAlong, HoldsFrom, going_of, ticking}
 use Rattle.arj_disk_run_law.proofs.HeardCoord.{mine, quiet_step}
@@ -173,8 +175,8 @@ named_grant x (u ∷ us) w at = by (u.x == x) refl at (named_grant x us w)
     by false is h rest = inr (rest h)
 
 -- a Confirm of a commit that waits for naming names its grants
-pub confirm_claims : (x : ℕ) (tops : Kinds) (u : Uid) (p : commit.Plan) (A : Office) → SeesConfirming x A.world.disk (uid_number u) p → SeesPlan x tops u (Confirming p) A → top_of p.path ≡ u → ClaimsAsked x A (Some (record { path = p.path; req = p.req }, commit.confirm_ask p))
-confirm_claims x tops u p A sees plan top = subst (λ w. ClaimsGrants x A (uid_number w) (map {A = Used} {B = ℕ × ℕ} (λ u. (u.x, u.grant)) p.used)) (sym top) (sees.begun, λ here part i had. by (used_at x p.used) refl (subst HasPart sees.plan part) i had)
+pub confirm_claims : (x : ℕ) (tops : Kinds) (u : Uid) (p : commit.Plan) (A : Office) → Named A → SeesConfirming x A.world.disk (uid_number u) p → SeesPlan x tops u (Confirming p) A → top_of p.path ≡ u → ClaimsAsked x A (Some (record { path = p.path; req = p.req }, commit.confirm_ask p))
+confirm_claims x tops u p A named sees plan top = subst (λ w. ClaimsGrants x A (uid_number w) (map {A = Used} {B = ℕ × ℕ} (λ u. (u.x, u.grant)) p.used)) (sym top) (sees.begun, grants_are_counted_on x (uid_number u) (map {A = Used} {B = ℕ × ℕ} (λ u. (u.x, u.grant)) p.used) A named (λ part i had. by (used_at x p.used) refl (subst HasPart sees.plan part) i had))
   where
     by : (o : Option Used) → used_at x p.used ≡ o → HasPart (plan_at x p) → (i : ℕ) → IsHadBy A (uid_number u) i → (g : ℕ) × HasGrant x g (map {A = Used} {B = ℕ × ℕ} (λ u. (u.x, u.grant)) p.used) × (g ≤ i)
     by None at (inl wrote) i had = absurd (never wrote (ap (λ o. is_some (let q = plan_by o (commit.changed_of x p) in q.writes)) at))
@@ -232,4 +234,4 @@ heard_tick x tops e k d t M A knows both p =
             let z = let w = knows.coord in w.machines u q (Confirming p) does (is ∙ ap Committing same) in
             let now : q.now ≡ Committing (Confirming p) = is ∙ ap Committing same in
             subst (λ y. ClaimsAsked x A (Some (record { path = (plan_of y).path; req = (plan_of y).req }, commit.confirm_ask p))) (sym same)
-            (confirm_claims x tops u p A (confirming_of x tops A.world.disk (uid_number u) z.branch.kind q.now p z.top now (sees.working u z.branch q z.found z.unended does)) (here_now.plans u q (Confirming p) does now) (let y = z.plan in y.top_is)))
+            (confirm_claims x tops u p A both.named (confirming_of x tops A.world.disk (uid_number u) z.branch.kind q.now p z.top now (sees.working u z.branch q z.found z.unended does)) (here_now.plans u q (Confirming p) does now) (let y = z.plan in y.top_is)))

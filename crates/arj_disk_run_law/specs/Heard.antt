@@ -16,7 +16,6 @@ use Rattle.arj_protocol.specs.Step.{Node}
 use Rattle.arj_protocol.specs.Tree.{Branch, branch_of, is_own}
 use Rattle.arj_disk_law.specs.Names as machine
 use Rattle.arj_disk_law.specs.Names.{Kept, Names, Office, written_in}
-use Rattle.arj_disk_law.specs.State.{is_gone}
 use Rattle.arj_disk_law.specs.Words.{In, has}
 use Rattle.arj_view_law.specs.Seen as seen
 use Rattle.arj_view_law.specs.Seen.{Post, Seen}
@@ -25,7 +24,7 @@ use Rattle.arj_disk_view_law.specs.Pairs.{packed}
 use Rattle.arj_disk_view_law.specs.Plans.{used_at}
 use Rattle.arj_disk_view_law.specs.Sees.{Kinds}
 use Rattle.arj_call_law.specs.Coords.{head_of}
-use Rattle.arj_names_view_law.specs.Booked.{NamesGrants}
+use Rattle.arj_names_view_law.specs.Booked.{CountsOnGrants}
 use Rattle.arj_names_view_law.specs.Both.{SeesRootOf}
 use Rattle.arj_names_view_law.specs.Calls.{ClaimsBound}
 use Rattle.arj_names_view_law.specs.Grants.{StandsOn}
@@ -114,9 +113,9 @@ pub record SeesHeardAt (x k : ℕ) (tops : Kinds) (sent : List Post) (c : Coord)
 
 -- ---- messages
 
--- Who commits, and is there still, names its grants.
+-- What the commit of a top says of its grants, for ever.
 abbrev pub ClaimsGrants : ℕ → Office → ℕ → Grants → Type 0
-ClaimsGrants x A t grants = (A.world.disk.begun t ≡ true) × (is_gone (A.world.disk.stage t) ≡ false → NamesGrants x A.world.disk A.names t grants)
+ClaimsGrants x A t grants = (A.world.disk.begun t ≡ true) × CountsOnGrants x A.world.disk A.names t grants
 
 -- A Record is by a top that took the grant which it names; a Confirm names grants.
 abbrev pub ClaimsAsked : ℕ → Office → Option (Head × Ask) → Type 0

@@ -1,6 +1,6 @@
 -- What is still taken of what coordinators have of naming's answers: that it is kept by messages that are taken and by inputs about
 -- actions, and gives what these count on.
-use Rattle.std.specs.Prelude.{◌≡◌, ℕ, true, List, Option, Some, None}
+use Rattle.std.specs.Prelude.{◌≡◌, ℕ, true, List, Some, None}
 use Rattle.arj_protocol.specs.Words.{Header, Message}
 use Rattle.arj_protocol.specs.Effect.{Disk, Effect}
 use Rattle.arj_protocol.specs.Naming.{Naming}
