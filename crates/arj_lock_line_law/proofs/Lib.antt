@@ -1,4 +1,9 @@
+pub mod AbortTies
+pub mod CallTies
+pub mod EndTies
 pub mod Ends
 pub mod Numbers
+pub mod Pages
 pub mod Reading
+pub mod Saying
 pub mod Ties

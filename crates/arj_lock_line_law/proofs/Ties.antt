@@ -42,7 +42,7 @@ use Rattle.arj_lock_line_law.proofs.Reading.{acts_more, in_cases, length_more, m
 
 -- ---- lines that say nothing of it
 
-abbrev is_plain : Body → Bool
+abbrev pub is_plain : Body → Bool
 is_plain (body.Began l k u p) = false
 is_plain (body.Committing l) = false
 is_plain (body.Committed l) = false
@@ -54,8 +54,8 @@ is_plain (body.Ok l y o r) = false
 is_plain (body.Includes l y n) = false
 is_plain b = true
 
-record SaysNone (us : List Act) (b : Body) : Type 0 where
-  begun : begun_of b ≡ None
+pub record SaysNone (us : List Act) (b : Body) : Type 0 where
+  pub begun : begun_of b ≡ None
   called : called_of us b ≡ None
   committed : committed_of us b ≡ None
   found : recovered_of us b ≡ None
@@ -64,7 +64,7 @@ record SaysNone (us : List Act) (b : Body) : Type 0 where
   said : said_of us b ≡ None
   included : included_of us b ≡ None
 
-says_none : (us : List Act) (b : Body) → is_plain b ≡ true → SaysNone us b
+pub says_none : (us : List Act) (b : Body) → is_plain b ≡ true → SaysNone us b
 says_none us (body.Began l k u p) h = absurd (cc h)
 says_none us (body.Committing l) h = absurd (cc h)
 says_none us (body.Committed l) h = absurd (cc h)
@@ -75,6 +75,19 @@ says_none us (body.Halted n) h = absurd (cc h)
 says_none us (body.Ok l y o r) h = absurd (cc h)
 says_none us (body.Includes l y n) h = absurd (cc h)
 says_none us b h = record { begun = refl; called = refl; committed = refl; found = refl; ended = refl; halts = refl; said = refl; included = refl }
+
+-- beside such a line nothing happens
+pub plain_goes : (act : Acts) (code : Codes) (x : ℕ) (lines : List Line) (b : Body) (S T : State) → is_plain b ≡ true → CallsStay S T → EndsStay S T → GoesBeside act code x lines b S T
+plain_goes act code x lines (body.Began l k u p) S T h c e = absurd (cc h)
+plain_goes act code x lines (body.Committing l) S T h c e = absurd (cc h)
+plain_goes act code x lines (body.Committed l) S T h c e = absurd (cc h)
+plain_goes act code x lines (body.Aborted l why) S T h c e = absurd (cc h)
+plain_goes act code x lines (body.Ended l) S T h c e = absurd (cc h)
+plain_goes act code x lines (body.Recovered n u) S T h c e = absurd (cc h)
+plain_goes act code x lines (body.Halted n) S T h c e = absurd (cc h)
+plain_goes act code x lines (body.Ok l y o r) S T h c e = absurd (cc h)
+plain_goes act code x lines (body.Includes l y n) S T h c e = absurd (cc h)
+plain_goes act code x lines b S T h c e = (c, e)
 
 -- ---- an action to which nothing comes
 
@@ -313,7 +326,7 @@ module _ (act : Acts) (code : Codes) (values : Values) (x event : ℕ) (lines : 
       (λ acts_it. let low_now = low_if acts_it in record {
         called = λ one. (refl, omega arith);
         calls = λ e. absurd (cc e);
-        done = λ e. absurd (omega (arith, e, low_now));
+        done = λ e. absurd (low_now e);
         commits = λ e. absurd (cc e);
         finds = λ e. absurd (cc e);
         only = λ e. absurd (omega (arith, e));

@@ -1,2 +1,3 @@
+pub mod Coordinators
 pub mod Lines
 pub mod Steps

@@ -55,7 +55,7 @@ abbrev pub GoesBeside : Acts → Codes → ℕ → List Line → Body → State 
 GoesBeside act code x lines (body.Began l k u p) S T = CallsStay S T × EndsStay S T × ((let m = T.action (act u) in m.stage) ≡ 0) × ((e : Placed Uid) → Contains (recovered lines) e → e.it ≢ u)
 GoesBeside act code x lines (body.Committing l) S T = CallsStay S T × ((a : model.Act) × IsNamed lines l a × (is_action (act a.uid) ≡ true → (let m = S.action (act a.uid) in m.stage) ≡ 0) × ChangesOne (act a.uid) (called_at (length lines + 1) (S.action (act a.uid))) S T)
 GoesBeside act code x lines (body.Committed l) S T = CallsStay S T × ((a : model.Act) × IsNamed lines l a × (is_action (act a.uid) ≡ true → (let m = S.action (act a.uid) in m.stage) ≤ 2) × ChangesOne (act a.uid) (committed_at (length lines + 1) (S.action (act a.uid))) S T)
-GoesBeside act code x lines (body.Aborted l c) S T = CallsStay S T × ((a : model.Act) × IsNamed lines l a × (is_action (act a.uid) ≡ true → (let m = S.action (act a.uid) in m.stage) ≤ 2) × ChangesOne (act a.uid) (aborted (S.action (act a.uid))) S T)
+GoesBeside act code x lines (body.Aborted l c) S T = CallsStay S T × ((a : model.Act) × IsNamed lines l a × (is_action (act a.uid) ≡ true → (let m = S.action (act a.uid) in m.stage) ≢ 3) × ChangesOne (act a.uid) (aborted (S.action (act a.uid))) S T)
 GoesBeside act code x lines (body.Ended l) S T = CallsStay S T × EndsStay S T × ((a : model.Act) × IsNamed lines l a × (is_serial a.kind ≡ true))
 GoesBeside act code x lines (body.Recovered n u) S T = CallsStay S T × ((((let m = S.action (act u) in m.stage) ≡ 3) × EndsStay S T) ⊎ (((let m = S.action (act u) in m.stage) ≤ 2) × ChangesOne (act u) (committed_at (length lines + 1) (S.action (act u))) S T))
 GoesBeside act code x lines (body.Halted n) S T = CallsStay S T × ((a : model.Act) → Contains (acts lines) a → is_serial a.kind ≡ false → (let u = a.uid in u.node) ≢ n → SameEnd (S.action (act a.uid)) (T.action (act a.uid))) × ((a : model.Act) → Contains (acts lines) a → is_serial a.kind ≡ false → (let u = a.uid in u.node) ≡ n → StopsSo (S.action (act a.uid)) (T.action (act a.uid)) × (2 ≤ (let m = T.action (act a.uid) in m.stage)))

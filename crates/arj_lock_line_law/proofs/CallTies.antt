@@ -1,0 +1,312 @@
+-- A coordinator's lines about calls and includes.
+use Rattle.std.proofs.Common.{◌≡◌, ◌≤◌, ◌⊎◌, ◌==◌, ◌&&◌, ℕ, ◌+◌, ◌*◌, List, [], ◌∷◌, ◌++◌, length, Bool, true, false, cond, Option, Some, None, refl, sym, ◌∙◌, ap, subst, inl, inr, ⊎_elim, arith}
+use Rattle.arj_journal.specs.declared.body.Body.{Body}
+use Rattle.arj_journal.specs.declared.body.Body.TheVariants as body
+use Rattle.arj_protocol.specs.Words.{Answer, BoundReply, Label, ObjectState, Op, Uid, Value, answer_of, answer_text, value_after, writes}
+use Rattle.arj_protocol.specs.Words.bound
+use Rattle.arj_protocol.specs.Words.invoked
+use Rattle.arj_protocol.specs.Words.loaded
+use Rattle.arj_protocol.specs.Words.recorded
+use Rattle.arj_protocol.specs.Ask.{Reply, actor}
+use Rattle.arj_protocol.specs.Asking.{end_line, kept_at, root_lost, root_moved, step_call, store_of}
+use Rattle.arj_protocol.specs.Call as protocol
+use Rattle.arj_protocol.specs.Call.{At, AtActivate, AtBind, AtInvoke, AtLoad, AtNote, CallEnd, CallStep, Ended, Goal, Include as IncludeStore, Known, Moved, On, Run, Steps, answered, bound_answer, bound_by, given_up, load_from, load_given_up, made_by, or_lost, other_binding, recorded_kept, same_binding, with_inc}
+use Rattle.arj_protocol.specs.Coord.{Coord, Doing, doing_of, is_call, is_free, on_root}
+use Rattle.arj_protocol.specs.Order.{binding_eq, binding_less}
+use Rattle.arj_protocol.specs.Tree.{Branch, root_of}
+use Rattle.arj_protocol.specs.World.{numbered}
+use Rattle.arj_lock_law.specs.Actions.{Act, root}
+use Rattle.arj_lock_law.specs.State.{Action, State}
+use Rattle.arj_lock_law.proofs.Paths.{by_cases, differ}
+use Rattle.arj_part_law.specs.Copies.{Paths}
+use Rattle.arj_lock_view_law.specs.Acts.{Acts}
+use Rattle.arj_lock_view_law.specs.Calling.{IsAtWork, OnlyCalled, WritesLine}
+use Rattle.arj_lock_view_law.specs.Copies.{Codes}
+use Rattle.arj_lock_view_law.specs.Ending.{KeepsEnds, SameEnd}
+use Rattle.arj_lock_view_law.specs.Including.{OnlyIncluded, WritesInclude, included_by}
+use Rattle.arj_lock_view_law.specs.Roots.{is_early}
+use Rattle.arj_lock_view_law.proofs.CallInputSteps.{call_answers_are_heard, calls_are_lost, calls_are_made, include_answers_are_heard, other_answers_are_heard}
+use Rattle.arj_lock_view_law.proofs.RunSteps.{goes_to}
+use Rattle.arj_lock_line_law.specs.Coordinators.{CallAnswersAreTied, CallsAreTied, IncludeAnswersAreTied, IsLabelled, IsOnPage, LostCallsAreTied, OtherAnswersAreTied, Page, bodies_of}
+use Rattle.arj_lock_line_law.specs.Lines.{IsTiedToLines}
+use Rattle.arj_lock_line_law.specs.Steps.{CallsStay, EndsStay}
+use Rattle.arj_lock_line_law.proofs.Pages.{behind_none, none_tied, one_tied, same_stay}
+use Rattle.arj_lock_line_law.proofs.Saying.{say_one}
+use Rattle.arj_lock_line_law.proofs.Ties.{is_plain, plain_goes}
+
+-- ---- what a step of a call says
+
+-- the step has no answer: it goes on, or ends by a line that is nothing to the machine
+abbrev is_bare_end : CallEnd → Bool
+is_bare_end (protocol.Answered a) = false
+is_bare_end (protocol.Included st) = false
+is_bare_end e = true
+
+abbrev is_bare : CallStep → Bool
+is_bare (On at) = true
+is_bare (Ended e) = is_bare_end e
+
+bare_if : (t : Bool) (m n : Moved) → is_bare m.step ≡ true → is_bare n.step ≡ true → is_bare (let k = cond t m n in k.step) ≡ true
+bare_if true m n a b = a
+bare_if false m n a b = b
+
+bare_inc : (i : ℕ) (k : Known) (at : At) (o : Option ℕ) → is_bare (let m = with_inc i k at o in m.step) ≡ true
+bare_inc i k at None = refl
+bare_inc i k at (Some first) = by (first == i)
+  where
+    by : (t : Bool) → is_bare (let m = cond t (protocol.moves (Some k) at) (protocol.finds (Some k) (protocol.Changed k.server (protocol.two_incs first i))) in m.step) ≡ true
+    by true = refl
+    by false = refl
+
+bare_same : (old k : Known) (at : At) (o : Option ℕ) → is_bare (let m = same_binding old k at o in m.step) ≡ true
+bare_same old k at None = refl
+bare_same old k at (Some i) = bare_inc i (protocol.named_again old k) at old.inc
+
+bare_other : (free : Bool) (old k : Known) (at : At) → is_bare (let m = other_binding free old k at in m.step) ≡ true
+bare_other free old k at = by (free && binding_less old.binding k.binding)
+  where
+    by : (t : Bool) → is_bare (let m = cond t (protocol.moves (Some k) at) (protocol.finds (Some old) (protocol.Changed 1 (protocol.two_bindings old.binding k.binding))) in m.step) ≡ true
+    by true = refl
+    by false = refl
+
+bare_bound : (free : Bool) (k : Known) (at : At) (o : Option Known) → is_bare (let m = bound_by free k at o in m.step) ≡ true
+bare_bound free k at None = refl
+bare_bound free k at (Some old) = by (binding_eq old.binding k.binding)
+  where
+    by : (t : Bool) → is_bare (let m = cond t (same_binding old k at k.inc) (other_binding free old k at) in m.step) ≡ true
+    by true = bare_same old k at k.inc
+    by false = bare_other free old k at
+
+bare_lost : (kept : Option Known) (o : Option At) → is_bare (let m = or_lost kept o in m.step) ≡ true
+bare_lost kept None = refl
+bare_lost kept (Some at) = refl
+
+bare_made : (free : Bool) (k : Known) (kept : Option Known) (o : Option At) → is_bare (let m = made_by free k kept o in m.step) ≡ true
+bare_made free k kept None = refl
+bare_made free k kept (Some at) = bare_bound free k at kept
+
+bare_active : (k : Known) (i : ℕ) (o : Option Known) → is_bare (let m = protocol.activated_by k i o in m.step) ≡ true
+bare_active k i None = refl
+bare_active k i (Some old) = by (binding_eq old.binding k.binding)
+  where
+    by : (t : Bool) → is_bare (let m = cond t (with_inc i old (AtNote k i) old.inc) (protocol.moves (Some old) (AtNote k i)) in m.step) ≡ true
+    by true = bare_inc i old (AtNote k i) old.inc
+    by false = refl
+
+bare_load : (k : Known) (n : ℕ) (ns : List ℕ) → is_bare (load_given_up k n ns) ≡ true
+bare_load k n [] = refl
+bare_load k n (m ∷ ns) = refl
+
+bare_given : (at : At) → is_bare (given_up at) ≡ true
+bare_given (AtBind avoid) = refl
+bare_given (AtLoad k n rest) = bare_load k n rest
+bare_given (AtActivate k st) = refl
+bare_given (AtNote k i) = refl
+bare_given (AtInvoke k i) = refl
+
+bare_bind : (free : Bool) (kept : Option Known) (r : BoundReply) → is_bare (let m = bound_answer free kept r in m.step) ≡ true
+bare_bind free kept (bound.Live w server i g stores) = bare_bound free (protocol.live_known w server i g stores) (AtInvoke (protocol.live_known w server i g stores) i) kept
+bare_bind free kept (bound.Make w server g stores) = bare_made free (protocol.made_known w server g stores) kept (load_from (protocol.made_known w server g stores) stores)
+bare_bind free kept (bound.Write g stores) = bare_lost kept (load_from (protocol.write_known g stores) stores)
+bare_bind free kept (bound.Conflict h m) = refl
+
+-- the lines of a step
+abbrev call_says : Steps → CallStep → Label → List Body
+call_says s (On at) l = []
+call_says s (Ended e) l = end_line s.x s.goal e l ∷ []
+
+step_call_says : (s : Steps) (t : CallStep) (c : Coord) (d : Doing) → doing_of (actor s.path) c ≡ Some d → bodies_of (let e = step_call s t c in e.outs) ≡ call_says s t d.label
+step_call_says s (On at) c d works = refl
+step_call_says s (Ended e) c d works = say_one (actor s.path) (end_line s.x s.goal e) c d works
+
+plain_end : (x : ℕ) (g : Goal) (e : CallEnd) (l : Label) → is_bare_end e ≡ true → is_plain (end_line x g e l) ≡ true
+plain_end x g (protocol.Answered a) l h = absurd (cc h)
+plain_end x g (protocol.Included st) l h = absurd (cc h)
+plain_end x g (protocol.Conflict h m n) l is = refl
+plain_end x g (protocol.Changed n w) l is = refl
+plain_end x g (protocol.Lost n sent) l is = refl
+
+module _ (act : Acts) (code : Codes) (x : ℕ) (p : Page) (c : Coord) (S T : State) (on : IsOnPage act code x p c S) where
+  abbrev n : ℕ
+  n = length p.lines + 1
+
+  now_S : S.now ≤ n
+  now_S = let t = on.tied in t.now
+
+  -- a step without an answer
+  bare_tied : (s : Steps) (t : CallStep) (l : Label) → is_bare t ≡ true → T.initial ≡ S.initial → CallsStay S T → EndsStay S T → T.now ≡ S.now → IsTiedToLines act code p.values x (p.lines ++ numbered p.event (call_says s t l)) T
+  bare_tied s (On at) l bare first calls ends same = subst (λ (q : Page). IsTiedToLines act code p.values x q.lines T) (sym (behind_none p)) (none_tied act code x p c S T on first (let k = now_S in omega (arith, k, same)) calls ends)
+  bare_tied s (Ended e) l bare first calls ends same = one_tied act code x p c S T on (end_line s.x s.goal e l) first (let k = now_S in omega (arith, k, same)) (plain_goes act code x p.lines (end_line s.x s.goal e l) S T (plain_end s.x s.goal e l bare) calls ends)
+
+-- ---- a call begins, or is given up
+
+module _ (unit : ℕ) (S T : State) (only : OnlyCalled unit S T) where
+  first_called : T.initial ≡ S.initial
+  first_called = ap (λ (s : State). s.initial) only.rest
+
+  includes_called : T.includes ≡ S.includes
+  includes_called = ap (λ (s : State). s.includes) only.rest
+
+stay_called : (S T : State) → KeepsEnds S T → EndsStay S T
+stay_called S T keeps a its = keeps a
+
+pub calls_are_tied : CallsAreTied
+calls_are_tied act code paths x y p c u b d o S reached work idle plain on whole =
+    goes_to (calls_are_made act code paths x y c u b d o S reached work idle plain whole) (λ T h. (
+      h.0,
+      (
+        h.1.0,
+        subst (λ (q : Page). IsTiedToLines act code p.values x q.lines T) (sym (behind_none p))
+            (none_tied act code x p c S T on (first_called (root (act u)) S T h.1.0) (let t = on.tied in let k = t.now in let e = h.1.1.1 in omega (arith, k, e)) (h.1.1.0, includes_called (root (act u)) S T h.1.0) (stay_called S T h.1.1.2)),
+      ),
+    ))
+
+-- whose step it is
+module _ (act : Acts) (paths : Paths) (c : Coord) (u : Uid) (b : Branch) (d : Doing) (s : Steps) (work : IsAtWork act paths c u b d) (path : s.path ≡ b.path) where
+  its_actor : actor s.path ≡ u
+  its_actor = ap actor path ∙ work.steady.good.tree.lists.places u b work.there
+
+  its_work : doing_of (actor s.path) c ≡ Some d
+  its_work = ap (λ (v : Uid). doing_of v c) its_actor ∙ work.works
+
+pub lost_calls_are_tied : LostCallsAreTied
+lost_calls_are_tied act code paths x p c u b d s o S reached work calling on whole =
+    goes_to (calls_are_lost act code paths x c u b d s o S reached work calling whole) (λ T h. (
+      h.0,
+      (
+        h.1.0,
+        subst (λ bs. IsTiedToLines act code p.values x (p.lines ++ numbered p.event bs) T) (sym (step_call_says s (given_up s.at) (on_root (root_of s.path) (root_lost s (given_up s.at)) c) d (its_work act paths c u b d s work calling.path)))
+            (bare_tied act code x p c S T on s (given_up s.at) d.label (bare_given s.at) (first_called (root (act u)) S T h.1.0) (h.1.1.0, includes_called (root (act u)) S T h.1.0) (stay_called S T h.1.1.2) h.1.1.1),
+      ),
+    ))
+
+-- ---- an answer to a call on the object
+
+-- the call is answered, and has its line; or nothing comes
+Outcome : Acts → Codes → ℕ → Steps → Op → State → State → CallStep → Type 0
+Outcome act code p s o S T t =
+    ((a : Answer) × (v : Value) × (t ≡ Ended (protocol.Answered a)) × (a ≡ answer_of o v) × (T.calls ≡ record { act = act (actor s.path); write = writes o; line = p; sees = code v; gives = code (value_after o v) } ∷ S.calls) × (T.now ≡ p + 1) × KeepsEnds S T)
+    ⊎ ((is_bare t ≡ true) × ((T.calls ≡ S.calls) × (T.now ≡ S.now) × KeepsEnds S T))
+
+outcome : (act : Acts) (code : Codes) (p : ℕ) (s : Steps) (o : Op) (S T : State) (free : Bool) (kept : Option Known) (at : At) (r : Reply) → WritesLine act code p s o S T at r → Outcome act code p s o S T (let m = answered free kept (Run o) at r in m.step)
+unfolding Outcome
+outcome act code p s o S T free kept (AtInvoke k i) (Reply.Invoked (invoked.Answered a)) w = inl (a, w.0, refl, w.1, w.2, w.3, w.4)
+outcome act code p s o S T free kept (AtInvoke k i) (Reply.Invoked (invoked.Conflict h m)) w = inr (refl, w)
+outcome act code p s o S T free kept (AtInvoke k i) (Reply.Invoked (invoked.Changed h)) w = inr (refl, w)
+outcome act code p s o S T free kept (AtBind avoid) (Reply.Bound r) w = inr (bare_bind free kept r, w)
+outcome act code p s o S T free kept (AtLoad k n rest) (Reply.Loaded (loaded.State st)) w = inr (refl, w)
+outcome act code p s o S T free kept (AtLoad k n rest) (Reply.Loaded (loaded.InDoubt h)) w = inr (refl, w)
+outcome act code p s o S T free kept (AtActivate k st) (Reply.Activated i) w = inr (bare_active k i kept, w)
+outcome act code p s o S T free kept (AtNote k i) (Reply.Noted recorded.Yes) w = inr (refl, w)
+outcome act code p s o S T free kept (AtNote k i) (Reply.Noted (recorded.Changed h)) w = inr (refl, w)
+outcome act code p s o S T free kept at r w = inr (refl, w)
+
+pub call_answers_are_tied : CallAnswersAreTied
+unfolding Outcome
+call_answers_are_tied act code paths x p c u b d s o r S reached work calling shows on whole =
+    goes_to (call_answers_are_heard act code paths x (length p.lines + 1) c u b d s o r S reached work calling (let t = on.tied in t.now) shows whole) (λ T h. (
+      h.0,
+      (
+        h.1.0,
+        subst (λ bs. IsTiedToLines act code p.values x (p.lines ++ numbered p.event bs) T) (sym (step_call_says s mv.step (on_root (root_of s.path) (root_moved s r mv) c) d (its_work act paths c u b d s work calling.path)))
+            (by T h.1.0 (subst (λ (g : Goal). Outcome act code (length p.lines + 1) s o S T (let m = answered free (kept_at s c) g s.at r in m.step)) (sym calling.goal) (outcome act code (length p.lines + 1) s o S T free (kept_at s c) s.at r h.1.1))),
+      ),
+    ))
+  where
+    free : Bool
+    free = is_free (root_of s.path) (actor s.path) s.x c
+
+    mv : Moved
+    mv = answered free (kept_at s c) s.goal s.at r
+
+    l : IsLabelled p.lines u b d
+    l = on.labels u b d work.there work.works
+
+    by : (T : State) → OnlyCalled (root (act u)) S T → Outcome act code (length p.lines + 1) s o S T mv.step → IsTiedToLines act code p.values x (p.lines ++ numbered p.event (call_says s mv.step d.label)) T
+    by T only (inr (bare, (calls, now, keeps))) = bare_tied act code x p c S T on s mv.step d.label bare (first_called (root (act u)) S T only) (calls, includes_called (root (act u)) S T only) (stay_called S T keeps) now
+    by T only (inl (a, v, is, fits, calls, now, keeps)) = subst (λ bs. IsTiedToLines act code p.values x (p.lines ++ numbered p.event bs) T) (sym ((λ i. call_says s (is i) d.label) ∙ (λ i. end_line s.x (calling.goal i) (protocol.Answered a) d.label ∷ [])))
+        (one_tied act code x p c S T on (body.Ok d.label s.x o (answer_text a)) (first_called (root (act u)) S T only) (omega (arith, now))
+        (includes_called (root (act u)) S T only, stay_called S T keeps, (l.0, l.1, inr (calling.about, v, ap answer_text fits, calls ∙ (λ i. record { act = act ((its_actor act paths c u b d s work calling.path ∙ sym l.2) i); write = writes o; line = length p.lines + 1; sees = code v; gives = code (value_after o v) } ∷ S.calls)))))
+
+-- ---- an answer about another object
+
+pub other_answers_are_tied : OtherAnswersAreTied
+other_answers_are_tied act code paths x p c u b d s r S reached work waiting other on whole =
+    (other_answers_are_heard act code paths x c u b d s r S reached work waiting other whole, subst (λ bs. IsTiedToLines act code p.values x (p.lines ++ numbered p.event bs) S) (sym (step_call_says s mv.step (on_root (root_of s.path) (root_moved s r mv) c) d (its_work act paths c u b d s work waiting.path))) (by mv.step))
+  where
+    mv : Moved
+    mv = answered (is_free (root_of s.path) (actor s.path) s.x c) (kept_at s c) s.goal s.at r
+
+    l : IsLabelled p.lines u b d
+    l = on.labels u b d work.there work.works
+
+    now_more : S.now ≤ length p.lines + 2
+    now_more = let t = on.tied in let k = t.now in omega (arith, k)
+
+    includes_line : (k : ℕ) → IsTiedToLines act code p.values x (p.lines ++ numbered p.event (body.Includes d.label s.x k ∷ [])) S
+    includes_line k = one_tied act code x p c S S on (body.Includes d.label s.x k) refl now_more (refl, same_stay S, (l.0, l.1, inl (other, refl)))
+
+    answer : (g : Goal) (a : Answer) → IsTiedToLines act code p.values x (p.lines ++ numbered p.event (end_line s.x g (protocol.Answered a) d.label ∷ [])) S
+    answer (Run o) a = one_tied act code x p c S S on (body.Ok d.label s.x o (answer_text a)) refl now_more (refl, same_stay S, (l.0, l.1, inl (other, refl)))
+    answer (IncludeStore k) a = includes_line k
+
+    by : (t : CallStep) → IsTiedToLines act code p.values x (p.lines ++ numbered p.event (call_says s t d.label)) S
+    by (On at) = bare_tied act code x p c S S on s (On at) d.label refl refl (refl, refl) (same_stay S) refl
+    by (Ended (protocol.Answered a)) = answer s.goal a
+    by (Ended (protocol.Included st)) = includes_line (store_of s.goal)
+    by (Ended (protocol.Conflict h m n)) = bare_tied act code x p c S S on s (Ended (protocol.Conflict h m n)) d.label refl refl (refl, refl) (same_stay S) refl
+    by (Ended (protocol.Changed n w)) = bare_tied act code x p c S S on s (Ended (protocol.Changed n w)) d.label refl refl (refl, refl) (same_stay S) refl
+    by (Ended (protocol.Lost n sent)) = bare_tied act code x p c S S on s (Ended (protocol.Lost n sent)) d.label refl refl (refl, refl) (same_stay S) refl
+
+-- ---- an answer to an include on the object
+
+Included : Acts → ℕ → Steps → State → State → CallStep → Type 0
+Included act p s S T t =
+    ((st : ObjectState) × (grant : ℕ) × (t ≡ Ended (protocol.Included st)) × (T.includes ≡ record { act = act (actor s.path); line = p; grant = grant } ∷ S.includes) × (T.now ≡ p + 1))
+    ⊎ ((is_bare t ≡ true) × ((T.includes ≡ S.includes) × (T.now ≡ S.now)))
+
+included_so : (act : Acts) (p : ℕ) (s : Steps) (k : ℕ) (S T : State) (free : Bool) (kept : Option Known) (at : At) (r : Reply) → is_early at ≡ true → WritesInclude act p s (included_by at r) S T → Included act p s S T (let m = answered free kept (IncludeStore k) at r in m.step)
+unfolding Included
+included_so act p s k S T free kept (AtLoad q n rest) (Reply.Loaded (loaded.State st)) early w = inl (st, q.grant * 4294967296, refl, w.0, w.1)
+included_so act p s k S T free kept (AtLoad q n rest) (Reply.Loaded (loaded.InDoubt h)) early w = inr (refl, w)
+included_so act p s k S T free kept (AtBind avoid) (Reply.Bound r) early w = inr (bare_bind free kept r, w)
+included_so act p s k S T free kept (AtActivate q st) r early w = absurd (cc early)
+included_so act p s k S T free kept (AtNote q i) r early w = absurd (cc early)
+included_so act p s k S T free kept (AtInvoke q i) r early w = absurd (cc early)
+included_so act p s k S T free kept at r early w = inr (refl, w)
+
+pub include_answers_are_tied : IncludeAnswersAreTied
+unfolding Included
+include_answers_are_tied act code paths x store p c u b d s r S reached work waiting about goal shows on whole =
+    goes_to (include_answers_are_heard act code paths x (length p.lines + 1) store c u b d s r S reached work waiting about goal (let t = on.tied in t.now) shows whole) (λ T h. (
+      h.0,
+      (
+        h.1.0,
+        subst (λ bs. IsTiedToLines act code p.values x (p.lines ++ numbered p.event bs) T) (sym (step_call_says s mv.step (on_root (root_of s.path) (root_moved s r mv) c) d (its_work act paths c u b d s work waiting.path)))
+            (by T h.1.0 (subst (λ (g : Goal). Included act (length p.lines + 1) s S T (let m = answered free (kept_at s c) g s.at r in m.step)) (sym goal) (included_so act (length p.lines + 1) s store S T free (kept_at s c) s.at r early h.1.1))),
+      ),
+    ))
+  where
+    free : Bool
+    free = is_free (root_of s.path) (actor s.path) s.x c
+
+    mv : Moved
+    mv = answered free (kept_at s c) s.goal s.at r
+
+    l : IsLabelled p.lines u b d
+    l = on.labels u b d work.there work.works
+
+    early : is_early s.at ≡ true
+    early = ⊎_elim (λ is. is) (λ isnt. absurd (let k = whole.coord in differ (k.plain u d s work.works waiting.calling about isnt) (ap is_call goal))) (by_cases (is_early s.at))
+
+    by : (T : State) → OnlyIncluded S T → Included act (length p.lines + 1) s S T mv.step → IsTiedToLines act code p.values x (p.lines ++ numbered p.event (call_says s mv.step d.label)) T
+    by T only (inr (bare, (includes, now))) = bare_tied act code x p c S T on s mv.step d.label bare (ap (λ (v : State). v.initial) only) (ap (λ (v : State). v.calls) only, includes) (stays T only) now
+      where
+        stays : (T : State) → OnlyIncluded S T → EndsStay S T
+        stays T only a its = subst (λ (f : Act → Action). SameEnd (S.action a) (f a)) (sym (ap (λ (v : State). v.action) only)) (record { stage = refl; place = refl; done = refl })
+    by T only (inl (st, grant, is, includes, now)) = subst (λ bs. IsTiedToLines act code p.values x (p.lines ++ numbered p.event bs) T) (sym ((λ i. call_says s (is i) d.label)))
+        (one_tied act code x p c S T on (body.Includes d.label s.x (store_of s.goal)) (ap (λ (v : State). v.initial) only) (omega (arith, now))
+        (ap (λ (v : State). v.calls) only, stays T only, (l.0, l.1, inr (about, grant, includes ∙ (λ i. record { act = act ((its_actor act paths c u b d s work waiting.path ∙ sym l.2) i); line = length p.lines + 1; grant = grant } ∷ S.includes)))))
+      where
+        stays : (T : State) → OnlyIncluded S T → EndsStay S T
+        stays T only a its = subst (λ (f : Act → Action). SameEnd (S.action a) (f a)) (sym (ap (λ (v : State). v.action) only)) (record { stage = refl; place = refl; done = refl })
