@@ -15,7 +15,7 @@ use Rattle.arj_protocol.specs.Coord.{Coord, Doing, doing_of, is_call, is_free, o
 use Rattle.arj_protocol.specs.Order.{binding_eq, binding_less}
 use Rattle.arj_protocol.specs.Tree.{Branch, root_of}
 use Rattle.arj_protocol.specs.World.{numbered}
-use Rattle.arj_lock_law.specs.Actions.{Act, root}
+use Rattle.arj_lock_law.specs.Actions.{Act, root, top}
 use Rattle.arj_lock_law.specs.State.{Action, State}
 use Rattle.arj_lock_law.proofs.Paths.{by_cases, differ}
 use Rattle.arj_part_law.specs.Copies.{Paths}
@@ -29,10 +29,10 @@ use Rattle.arj_lock_view_law.proofs.CallInputSteps.{call_answers_are_heard, call
 use Rattle.arj_lock_view_law.proofs.RunSteps.{goes_to}
 use Rattle.arj_lock_line_law.specs.Coordinators.{CallAnswersAreTied, CallsAreTied, IncludeAnswersAreTied, IsLabelled, IsOnPage, LostCallsAreTied, OtherAnswersAreTied, Page, bodies_of}
 use Rattle.arj_lock_line_law.specs.Lines.{IsTiedToLines}
-use Rattle.arj_lock_line_law.specs.Steps.{CallsStay, EndsStay}
+use Rattle.arj_lock_line_law.specs.Steps.{CallsStay, EndsStay, is_plain}
 use Rattle.arj_lock_line_law.proofs.Pages.{behind_none, none_tied, one_tied, same_stay}
 use Rattle.arj_lock_line_law.proofs.Saying.{say_one}
-use Rattle.arj_lock_line_law.proofs.Ties.{is_plain, plain_goes}
+use Rattle.arj_lock_line_law.proofs.Ties.{plain_goes}
 
 -- ---- what a step of a call says
 
@@ -185,12 +185,12 @@ lost_calls_are_tied act code paths x p c u b d s o S reached work calling on who
 -- the call is answered, and has its line; or nothing comes
 Outcome : Acts → Codes → ℕ → Steps → Op → State → State → CallStep → Type 0
 Outcome act code p s o S T t =
-    ((a : Answer) × (v : Value) × (t ≡ Ended (protocol.Answered a)) × (a ≡ answer_of o v) × (T.calls ≡ record { act = act (actor s.path); write = writes o; line = p; sees = code v; gives = code (value_after o v) } ∷ S.calls) × (T.now ≡ p + 1) × KeepsEnds S T)
+    ((a : Answer) × (v : Value) × (by : Act) × (t ≡ Ended (protocol.Answered a)) × (a ≡ answer_of o v) × (T.calls ≡ record { act = act (actor s.path); write = writes o; line = p; sees = code v by; gives = code (value_after o v) (top (act (actor s.path))) } ∷ S.calls) × (T.now ≡ p + 1) × KeepsEnds S T)
     ⊎ ((is_bare t ≡ true) × ((T.calls ≡ S.calls) × (T.now ≡ S.now) × KeepsEnds S T))
 
 outcome : (act : Acts) (code : Codes) (p : ℕ) (s : Steps) (o : Op) (S T : State) (free : Bool) (kept : Option Known) (at : At) (r : Reply) → WritesLine act code p s o S T at r → Outcome act code p s o S T (let m = answered free kept (Run o) at r in m.step)
 unfolding Outcome
-outcome act code p s o S T free kept (AtInvoke k i) (Reply.Invoked (invoked.Answered a)) w = inl (a, w.0, refl, w.1, w.2, w.3, w.4)
+outcome act code p s o S T free kept (AtInvoke k i) (Reply.Invoked (invoked.Answered a)) w = inl (a, w.0, w.1, refl, w.2, w.3, w.4, w.5)
 outcome act code p s o S T free kept (AtInvoke k i) (Reply.Invoked (invoked.Conflict h m)) w = inr (refl, w)
 outcome act code p s o S T free kept (AtInvoke k i) (Reply.Invoked (invoked.Changed h)) w = inr (refl, w)
 outcome act code p s o S T free kept (AtBind avoid) (Reply.Bound r) w = inr (bare_bind free kept r, w)
@@ -224,9 +224,9 @@ call_answers_are_tied act code paths x p c u b d s o r S reached work calling sh
 
     by : (T : State) → OnlyCalled (root (act u)) S T → Outcome act code (length p.lines + 1) s o S T mv.step → IsTiedToLines act code p.values x (p.lines ++ numbered p.event (call_says s mv.step d.label)) T
     by T only (inr (bare, (calls, now, keeps))) = bare_tied act code x p c S T on s mv.step d.label bare (first_called (root (act u)) S T only) (calls, includes_called (root (act u)) S T only) (stay_called S T keeps) now
-    by T only (inl (a, v, is, fits, calls, now, keeps)) = subst (λ bs. IsTiedToLines act code p.values x (p.lines ++ numbered p.event bs) T) (sym ((λ i. call_says s (is i) d.label) ∙ (λ i. end_line s.x (calling.goal i) (protocol.Answered a) d.label ∷ [])))
+    by T only (inl (a, v, writer, is, fits, calls, now, keeps)) = subst (λ bs. IsTiedToLines act code p.values x (p.lines ++ numbered p.event bs) T) (sym ((λ i. call_says s (is i) d.label) ∙ (λ i. end_line s.x (calling.goal i) (protocol.Answered a) d.label ∷ [])))
         (one_tied act code x p c S T on (body.Ok d.label s.x o (answer_text a)) (first_called (root (act u)) S T only) (omega (arith, now))
-        (includes_called (root (act u)) S T only, stay_called S T keeps, (l.0, l.1, inr (calling.about, v, ap answer_text fits, calls ∙ (λ i. record { act = act ((its_actor act paths c u b d s work calling.path ∙ sym l.2) i); write = writes o; line = length p.lines + 1; sees = code v; gives = code (value_after o v) } ∷ S.calls)))))
+        (includes_called (root (act u)) S T only, stay_called S T keeps, (l.0, l.1, inr (calling.about, v, writer, ap answer_text fits, calls ∙ (λ i. record { act = act ((its_actor act paths c u b d s work calling.path ∙ sym l.2) i); write = writes o; line = length p.lines + 1; sees = code v writer; gives = code (value_after o v) (top (act ((its_actor act paths c u b d s work calling.path ∙ sym l.2) i))) } ∷ S.calls)))))
 
 -- ---- an answer about another object
 

@@ -35,8 +35,8 @@ use Rattle.arj_lock_view_law.proofs.RunSteps.{goes_to}
 use Rattle.arj_lock_view_law.proofs.TopInputSteps.{top_commits_are_taken}
 use Rattle.arj_lock_line_law.specs.Coordinators.{CommitAnswersAreTied, DoomedCommitsAreTied, IsLabelled, IsOnPage, IsTiedBy, LostCommitsAreTied, NestedCommitsAreTied, Page, TopCommitsAreTied, bodies_of}
 use Rattle.arj_lock_line_law.specs.Lines.{IsTiedToLines}
-use Rattle.arj_lock_line_law.specs.Steps.{CallsStay, EndsStay}
-use Rattle.arj_lock_line_law.proofs.Pages.{AllPlain, behind, behind_none, none_tied, one_tied, page_still, pages_plain}
+use Rattle.arj_lock_line_law.specs.Steps.{CallsStay, EndsStay, ArePlain}
+use Rattle.arj_lock_line_law.proofs.Pages.{behind, behind_none, none_tied, one_tied, page_still, pages_plain}
 use Rattle.arj_lock_line_law.proofs.Reading.{length_more, more}
 use Rattle.arj_lock_line_law.proofs.Saying.{IsDecidedBy, bodies_app, ends_say, marks_of, marks_say, said_by, say_one, step_says}
 
@@ -160,7 +160,7 @@ doomed_commits_are_tied act code paths x p c u b d intents S reached free doomed
 
 -- ---- answers to a commit
 
-marks_plain : (l : Label) (marks : List (ℕ × ℕ)) → AllPlain (marks_of l marks)
+marks_plain : (l : Label) (marks : List (ℕ × ℕ)) → ArePlain (marks_of l marks)
 marks_plain l [] = tt
 marks_plain l (m ∷ marks) = (refl, marks_plain l marks)
 

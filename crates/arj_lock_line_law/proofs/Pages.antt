@@ -2,12 +2,16 @@
 use Rattle.std.proofs.Common.{◌≡◌, ◌≤◌, ℕ, ◌+◌, List, [], ◌∷◌, ◌++◌, length, true, None, refl, sym, ◌∙◌, ap, subst, arith}
 use Rattle.std.specs.Prelude.{Contains}
 use Rattle.arj_journal.specs.declared.body.Body.{Body}
+use Rattle.arj_journal.specs.declared.body.Body.TheVariants as body
 use Rattle.arj_journal.specs.declared.body.Line.{Line}
 use Rattle.arj_text.specs.Label.{name}
 use Rattle.arj_model.specs.Actions as model
+use Rattle.arj_model.specs.Serial.{Values}
 use Rattle.arj_model.specs.Actions.{acts, act_in, begun_of, is_serial, numbered as numbered_acts}
 use Rattle.arj_protocol.specs.Coord.{Coord}
+use Rattle.arj_protocol.specs.Says.{is_naming_line, is_server_line}
 use Rattle.arj_protocol.specs.World.{numbered}
+use Rattle.arj_view_law.specs.Seen.{is_quiet_line}
 use Rattle.arj_line_law.specs.Laws.{AreDistinct}
 use Rattle.arj_lock_law.specs.State.{Action, State}
 use Rattle.arj_lock_view_law.specs.Acts.{Acts}
@@ -15,9 +19,9 @@ use Rattle.arj_lock_view_law.specs.Copies.{Codes}
 use Rattle.arj_lock_view_law.specs.Ending.{SameEnd}
 use Rattle.arj_lock_line_law.specs.Coordinators.{IsOnPage, Page}
 use Rattle.arj_lock_line_law.specs.Lines.{AreCallsOf, AreIncludesOf, EndsSo, IsTiedToLines, included_on, said_on}
-use Rattle.arj_lock_line_law.specs.Steps.{AreNamed, CallsStay, EndsStay, GoesBeside}
+use Rattle.arj_lock_line_law.specs.Steps.{AreNamed, CallsStay, EndsStay, GoesBeside, ArePlain, PartsSayPlain, PlainsAreTied, is_plain}
 use Rattle.arj_lock_line_law.proofs.Reading.{acts_more, more}
-use Rattle.arj_lock_line_law.proofs.Ties.{is_plain, plain_goes, says_none, ties_are_kept}
+use Rattle.arj_lock_line_law.proofs.Ties.{plain_goes, says_none, ties_are_kept}
 
 -- ---- lines without which actions stay
 
@@ -75,11 +79,6 @@ module _ (act : Acts) (code : Codes) (x : ℕ) (p : Page) (c : Coord) (S T : Sta
   pub none_tied : T.initial ≡ S.initial → T.now ≤ length p.lines + 1 → CallsStay S T → EndsStay S T → IsTiedToLines act code p.values x p.lines T
   none_tied first now calls ends = tied_same act code p x S T on.named now first calls ends on.tied
 
--- of these lines nothing comes
-abbrev pub AllPlain : List Body → Type 0
-AllPlain [] = Unit {0}
-AllPlain (b ∷ bs) = (is_plain b ≡ true) × AllPlain bs
-
 pub page_plain : (act : Acts) (code : Codes) (x : ℕ) (p : Page) (c : Coord) (S : State) (b : Body) → is_plain b ≡ true → IsOnPage act code x p c S → IsOnPage act code x (record p { lines = more p.lines p.event b }) c S
 page_plain act code x p c S b plain on =
     let says = says_none (acts p.lines) b plain in
@@ -103,6 +102,58 @@ behind_none p = ap (λ ls. record p { lines = ls }) (append_nil p.lines)
 pub behind_one : (p : Page) (b : Body) (bs : List Body) → behind (record p { lines = more p.lines p.event b }) bs ≡ behind p (b ∷ bs)
 behind_one p b bs = ap (λ ls. record p { lines = ls }) (append_one p.lines (numbered p.event bs) (record { event = p.event; body = b }))
 
-pub pages_plain : (act : Acts) (code : Codes) (x : ℕ) (c : Coord) (S : State) (bs : List Body) (p : Page) → AllPlain bs → IsOnPage act code x p c S → IsOnPage act code x (behind p bs) c S
+pub pages_plain : (act : Acts) (code : Codes) (x : ℕ) (c : Coord) (S : State) (bs : List Body) (p : Page) → ArePlain bs → IsOnPage act code x p c S → IsOnPage act code x (behind p bs) c S
 pages_plain act code x c S [] p all on = subst (λ q. IsOnPage act code x q c S) (sym (behind_none p)) on
 pages_plain act code x c S (b ∷ bs) p all on = subst (λ q. IsOnPage act code x q c S) (behind_one p b bs) (pages_plain act code x c S bs (record p { lines = more p.lines p.event b }) all.1 (page_plain act code x p c S b all.0 on))
+
+-- ---- plain lines, as the machine goes on
+
+plains_tied : (act : Acts) (code : Codes) (values : Values) (x event : ℕ) (T : State) (bs : List Body) (lines : List Line) → AreNamed act lines → ArePlain bs → IsTiedToLines act code values x lines T → IsTiedToLines act code values x (lines ++ numbered event bs) T
+plains_tied act code values x event T [] lines named all tied = subst (λ ls. IsTiedToLines act code values x ls T) (sym (append_nil lines)) tied
+plains_tied act code values x event T (b ∷ bs) lines named all tied = subst (λ ls. IsTiedToLines act code values x ls T) (append_one lines (numbered event bs) (record { event = event; body = b }))
+    (plains_tied act code values x event T bs (more lines event b) (named_still act lines event b (let s = says_none (acts lines) b all.0 in s.begun) named) all.1
+    (ties_are_kept act code values x event lines b T T named refl (let k = tied.now in omega (arith, k)) (plain_goes act code x lines b T T all.0 (refl, refl) (same_stay T)) tied))
+
+pub plains_are_tied : PlainsAreTied
+plains_are_tied act code values x event lines bs S T named first now calls ends all tied = plains_tied act code values x event T bs lines named all (tied_same act code (record { lines = lines; event = event; values = values }) x S T named (let k = tied.now in omega (arith, k, now)) first calls ends tied)
+
+-- ---- who says plain lines
+
+quiet_plain : (b : Body) → is_quiet_line b ≡ true → is_plain b ≡ true
+quiet_plain (body.Began l k u p) h = absurd (cc h)
+quiet_plain (body.Committing l) h = absurd (cc h)
+quiet_plain (body.Committed l) h = absurd (cc h)
+quiet_plain (body.Aborted l c) h = absurd (cc h)
+quiet_plain (body.Ended l) h = absurd (cc h)
+quiet_plain (body.Recovered n u) h = absurd (cc h)
+quiet_plain (body.Halted n) h = absurd (cc h)
+quiet_plain (body.Ok l y o r) h = absurd (cc h)
+quiet_plain (body.Includes l y n) h = absurd (cc h)
+quiet_plain b h = refl
+
+server_plain : (n : ℕ) (b : Body) → is_server_line n b ≡ true → is_plain b ≡ true
+server_plain n (body.Began l k u p) h = absurd (cc h)
+server_plain n (body.Committing l) h = absurd (cc h)
+server_plain n (body.Committed l) h = absurd (cc h)
+server_plain n (body.Aborted l c) h = absurd (cc h)
+server_plain n (body.Ended l) h = absurd (cc h)
+server_plain n (body.Recovered m u) h = absurd (cc h)
+server_plain n (body.Halted m) h = absurd (cc h)
+server_plain n (body.Ok l y o r) h = absurd (cc h)
+server_plain n (body.Includes l y m) h = absurd (cc h)
+server_plain n b h = refl
+
+naming_plain : (b : Body) → is_naming_line b ≡ true → is_plain b ≡ true
+naming_plain (body.Began l k u p) h = absurd (cc h)
+naming_plain (body.Committing l) h = absurd (cc h)
+naming_plain (body.Committed l) h = absurd (cc h)
+naming_plain (body.Aborted l c) h = absurd (cc h)
+naming_plain (body.Ended l) h = absurd (cc h)
+naming_plain (body.Recovered m u) h = absurd (cc h)
+naming_plain (body.Halted m) h = absurd (cc h)
+naming_plain (body.Ok l y o r) h = absurd (cc h)
+naming_plain (body.Includes l y m) h = absurd (cc h)
+naming_plain b h = refl
+
+pub parts_say_plain : PartsSayPlain
+parts_say_plain = (quiet_plain, (server_plain, naming_plain))

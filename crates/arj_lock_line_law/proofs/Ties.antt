@@ -35,24 +35,12 @@ use Rattle.arj_lock_view_law.specs.Acts.{Acts}
 use Rattle.arj_lock_view_law.specs.Copies.{Codes}
 use Rattle.arj_lock_view_law.specs.Ending.{ChangesOne, SameEnd, aborted, called_at, committed_at}
 use Rattle.arj_lock_line_law.specs.Lines.{AllEndSo, AreCallsOf, AreIncludesOf, EndsSo, IsTiedToLines, included_on, said_on}
-use Rattle.arj_lock_line_law.specs.Steps.{AreNamed, CallsStay, EndsStay, GoesBeside, IsNamed, StopsSo, TiesAreKept}
+use Rattle.arj_lock_line_law.specs.Steps.{AreNamed, CallsStay, EndsStay, GoesBeside, IsNamed, StopsSo, TiesAreKept, is_plain}
 use Rattle.arj_lock_line_law.proofs.Ends.{Moves, end_there, ends_so, halt_there}
 use Rattle.arj_lock_line_law.proofs.Numbers.{are_numbered, called_low, committed_low, ended_low, halts_low, low, one_id}
 use Rattle.arj_lock_line_law.proofs.Reading.{acts_more, in_cases, length_more, more, read_none, read_some}
 
 -- ---- lines that say nothing of it
-
-abbrev pub is_plain : Body → Bool
-is_plain (body.Began l k u p) = false
-is_plain (body.Committing l) = false
-is_plain (body.Committed l) = false
-is_plain (body.Aborted l c) = false
-is_plain (body.Ended l) = false
-is_plain (body.Recovered n u) = false
-is_plain (body.Halted n) = false
-is_plain (body.Ok l y o r) = false
-is_plain (body.Includes l y n) = false
-is_plain b = true
 
 pub record SaysNone (us : List Act) (b : Body) : Type 0 where
   pub begun : begun_of b ≡ None

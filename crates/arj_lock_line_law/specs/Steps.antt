@@ -1,5 +1,5 @@
 -- A line and what the machine does beside it: the tie of a journal to the machine is kept.
-use Rattle.std.specs.Prelude.{◌≡◌, ◌≢◌, ◌⊎◌, ◌≤◌, ◌+◌, ℕ, true, false, length, List, [], ◌∷◌, ◌++◌, Some, Contains}
+use Rattle.std.specs.Prelude.{⊤, Bool, ◌≡◌, ◌≢◌, ◌⊎◌, ◌≤◌, ◌+◌, ℕ, true, false, length, List, [], ◌∷◌, ◌++◌, Some, Contains}
 use Rattle.arj_base.specs.declared.uid.Uid.{Uid}
 use Rattle.arj_class.specs.declared.value.Value.{Value}
 use Rattle.arj_class.specs.Table.{answer_of, value_after, writes}
@@ -13,6 +13,9 @@ use Rattle.arj_model.specs.Actions as model
 use Rattle.arj_model.specs.Actions.{Placed, act_in, acts, is_serial, recovered}
 use Rattle.arj_model.specs.Serial.{Values}
 use Rattle.arj_line_law.specs.Laws.{AreDistinct}
+use Rattle.arj_protocol.specs.Says.{is_naming_line, is_server_line}
+use Rattle.arj_protocol.specs.World.{numbered}
+use Rattle.arj_view_law.specs.Seen.{is_quiet_line}
 use Rattle.arj_lock_law.specs.Actions.{Act, is_action, top}
 use Rattle.arj_lock_law.specs.State as machine
 use Rattle.arj_lock_law.specs.State.{State}
@@ -63,8 +66,35 @@ GoesBeside act code x lines (body.Ok l y o r) S T = (T.includes ≡ S.includes) 
 GoesBeside act code x lines (body.Includes l y n) S T = (T.calls ≡ S.calls) × EndsStay S T × ((a : model.Act) × IsNamed lines l a × (((y ≢ x) × (T.includes ≡ S.includes)) ⊎ ((y ≡ x) × (grant : ℕ) × (T.includes ≡ record { act = act a.uid; line = length lines + 1; grant = grant } ∷ S.includes))))
 GoesBeside act code x lines b S T = CallsStay S T × EndsStay S T
 
+-- lines that say nothing of actions' beginnings and ends, and of calls
+abbrev pub is_plain : Body → Bool
+is_plain (body.Began l k u p) = false
+is_plain (body.Committing l) = false
+is_plain (body.Committed l) = false
+is_plain (body.Aborted l c) = false
+is_plain (body.Ended l) = false
+is_plain (body.Recovered n u) = false
+is_plain (body.Halted n) = false
+is_plain (body.Ok l y o r) = false
+is_plain (body.Includes l y n) = false
+is_plain b = true
+
+abbrev pub ArePlain : List Body → Type 0
+ArePlain [] = ⊤
+ArePlain (b ∷ bs) = (is_plain b ≡ true) × ArePlain bs
+
 -- The tie is kept by each line and what the machine does beside it.
 abbrev pub TiesAreKept : Type 0
 TiesAreKept = (act : Acts) (code : Codes) (values : Values) (x event : ℕ) (lines : List Line) (b : Body) (S T : State)
     → AreNamed act lines → T.initial ≡ S.initial → T.now ≤ length lines + 2 → GoesBeside act code x lines b S T
     → IsTiedToLines act code values x lines S → IsTiedToLines act code values x (lines ++ record { event = event; body = b } ∷ []) T
+
+-- It is kept by plain lines, and where the machine goes on while no action changes in how far it is and no call comes.
+abbrev pub PlainsAreTied : Type 0
+PlainsAreTied = (act : Acts) (code : Codes) (values : Values) (x event : ℕ) (lines : List Line) (bs : List Body) (S T : State)
+    → AreNamed act lines → T.initial ≡ S.initial → T.now ≡ S.now → CallsStay S T → EndsStay S T → ArePlain bs
+    → IsTiedToLines act code values x lines S → IsTiedToLines act code values x (lines ++ numbered event bs) T
+
+-- Lines of frames, and those of servers and naming, are plain.
+abbrev pub PartsSayPlain : Type 0
+PartsSayPlain = ((b : Body) → is_quiet_line b ≡ true → is_plain b ≡ true) × (((n : ℕ) (b : Body) → is_server_line n b ≡ true → is_plain b ≡ true) × ((b : Body) → is_naming_line b ≡ true → is_plain b ≡ true))

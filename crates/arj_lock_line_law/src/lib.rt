@@ -11,4 +11,4 @@ mod coord;
 mod lines;
 
 pub use coord::coordinators_keep_ties;
-pub use lines::ties_are_kept;
+pub use lines::{plain_lines_keep_ties, ties_are_kept};
