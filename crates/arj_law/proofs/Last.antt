@@ -43,7 +43,7 @@ filter_arrange p less (x ∷ xs) h =
     ∙ (λ i. cond (p x) (x ∷ filter_arrange p less xs h.1 i) (filter_arrange p less xs h.1 i))
 
 -- two writes on one object conflict
-writes_conflict : (x : ℕ) (c d : Call) → writes_on x c ≡ true → writes_on x d ≡ true → is_conflict c d ≡ true
+pub writes_conflict : (x : ℕ) (c d : Call) → writes_on x c ≡ true → writes_on x d ≡ true → is_conflict c d ≡ true
 writes_conflict x c d e g =
     let p = and_parts (c.x == x) (writes c.op) e in
     let q = and_parts (d.x == x) (writes d.op) g in
@@ -72,7 +72,7 @@ writes_more lines event b top x commits h order after before =
     ∙ ap (λ ws. ws ++ filter (writes_on x) (surviving lines top)) (sym (writes_are lines x order))
 
 -- The value of an object is that after the writes on it.
-value_of_writes : (values : Values) (lines : List Line) (x : ℕ) → run values (serial_calls lines) x ≡ run values (writes_of lines x) x
+pub value_of_writes : (values : Values) (lines : List Line) (x : ℕ) → run values (serial_calls lines) x ≡ run values (writes_of lines x) x
 value_of_writes values lines x = sym (run_writes values values x (serial_calls lines) refl)
 
 pub last_more : (header : Header) (lines others : List Line) (own : List Call) (x : ℕ) → writes_of others x ≡ writes_of lines x ++ filter (writes_on x) own

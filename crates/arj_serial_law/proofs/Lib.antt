@@ -8,3 +8,4 @@ pub mod Order
 pub mod Begun
 pub mod Codes
 pub mod Locks
+pub mod States

@@ -28,12 +28,13 @@ use Rattle.arj_lock_law.specs.Actions.{is_action, on, root, top}
 use Rattle.arj_lock_law.specs.State as state
 use Rattle.arj_lock_law.specs.State.{State}
 use Rattle.arj_lock_law.specs.Steps.{Survives}
-use Rattle.arj_lock_law.specs.Laws.{Conflicting, IsInOrder, IsNested}
+use Rattle.arj_lock_law.specs.Laws.{Conflicting, IsCommitted, IsInOrder, IsNested}
 use Rattle.arj_lock_law.proofs.Order.{run_keeps, start_holds}
 use Rattle.arj_lock_law.proofs.Ordered.{is_in_order, is_nested}
 use Rattle.arj_lock_law.proofs.Paths.{on_root, on_top, top_of as topmost, top_root}
 use Rattle.arj_lock_law.proofs.Roots.{roots_low, start_low}
 use Rattle.arj_lock_line_law.specs.Lines.{AreCallsOf, IsCallOf, said_on}
+use Rattle.arj_serial_law.specs.Decided.{CommitsComeFirst, IsCalledFirst}
 use Rattle.arj_serial_law.specs.Tied.{path_of}
 use Rattle.arj_serial_law.proofs.Ties.{Tie, Ties}
 use Rattle.arj_serial_law.proofs.Items.{IsCallOfTop, call_top}
@@ -375,6 +376,43 @@ module _ (values : Values) (lines : List Line) (right : AreRight new_book lines)
           let behind = unit_behind (tops lines) t.number t.listed_top in
           keys (lex_first (unit_place (tops lines) s.number.root) (unit_place (tops lines) t.number.root) s.number.at t.number.at (omega (arith, before, later, behind)))
 
+  pub called_first : (c d : Call) → In c (committed_calls lines) → In d (committed_calls lines) → c.x ≡ x → d.x ≡ x → IsCalledFirst lines c d
+  called_first c d i j cx dx less apart conflict =
+      let apart_tops = let l = listed lines right in l.apart in
+      let at : top_place (tops lines) c.top ≡ s.number.at = ap (top_place (tops lines)) s.top_number ∙ place_of_top (tops lines) s.number apart_tops s.listed_top in
+      let l = ⊎_elim (λ (same : (s.number.root == t.number.root) ≡ true). in_order.tops s.call t.call both (roots (eqb-true s.number.root t.number.root same)) differ) (λ (other : (s.number.root == t.number.root) ≡ false). in_order.units s.call t.call (top s.call.act) both (λ e. never (eq-eqb s.number.root t.number.root (one_root s.number t.number s.top_of_it t.top_of_it (sym (its_root c s) ∙ e ∙ its_root d t))) other) (committed_top) (top_root s.call.act)) (bool_cases (s.number.root == t.number.root)) in
+      let place : (S.action (top s.call.act)).place ≡ s.number.at + 1 = ap (λ a. (S.action a).place) (its_top c s) ∙ place_in s.number s.top_of_it in
+      let line = t.line in
+      omega (arith, at, l, place, line)
+    where
+      s : IsShown c
+      s = shown c i cx
+
+      t : IsShown d
+      t = shown d j dx
+
+      both : Conflicting S s.call t.call
+      both = conflict_of c d s t less conflict
+
+      bool_cases : (b : Bool) → (b ≡ true) ⊎ (b ≡ false)
+      bool_cases true = inl refl
+      bool_cases false = inr refl
+
+      committed_top : IsCommitted S (top s.call.act)
+      committed_top = let a = s.top_of_it in subst (IsCommitted S) (sym (its_top c s)) (is_top_in a.act a.there a.kind, stage_of_top s.number a)
+
+      roots : s.number.root ≡ t.number.root → root s.call.act ≡ root t.call.act
+      roots e = its_root c s ∙ one_unit s.number t.number s.top_of_it t.top_of_it e ∙ sym (its_root d t)
+
+      differ : top s.call.act ≢ top t.call.act
+      differ e =
+          let p = tied.places in
+          let a = s.top_of_it in
+          let b = t.top_of_it in
+          let uid = p.one a.act b.act (in_to a.act (acts lines) a.there) (in_to b.act (acts lines) b.there) (sym (its_top c s) ∙ e ∙ its_top d t) in
+          let act = one_act (acts lines) (let z = sound lines right in z.distinct) a.act b.act a.there b.there uid in
+          never (eq-eqb c.top d.top (s.top_number ∙ sym a.number ∙ ap (λ (z : Act). z.id) act ∙ b.number ∙ sym t.top_number)) apart
+
   -- ---- nested actions
 
   in_ids : (b : Act) (p : List Act) → In b p → is_among (ids p) b.id ≡ true
@@ -502,3 +540,13 @@ module _ (values : Values) (lines : List Line) (right : AreRight new_book lines)
 
   pub all_in_time : AnsweredInTime lines
   all_in_time = each (λ (c : Call). AllByRecursion (λ a. c.at < commit_place (committed lines) a) c.chain) (committed_calls lines) (λ c i. let t = of_object c i in in_time values lines right c.x t.0 t.1 c i refl)
+
+  pub all_called_first : CommitsComeFirst lines
+  all_called_first = of_two (IsCalledFirst lines) (λ c d i j less apart conflict. let t = of_object c i in called_first values lines right c.x t.0 t.1 c d i j refl (one_object c d conflict) less apart conflict)
+
+  -- a call stands before the commit call of its top
+  pub call_before : (c : Call) → In c (committed_calls lines) → (t : Top) × In t (tops lines) × (c.top ≡ t.id) × (c.at < t.at)
+  call_before c i =
+      let o = of_object c i in
+      let s = shown values lines right c.x o.0 o.1 c i refl in
+      (s.number, s.listed_top, s.top_number, before_top values lines right c.x o.0 o.1 c s)

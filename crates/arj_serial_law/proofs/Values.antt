@@ -46,7 +46,7 @@ from_reversed x (z ∷ xs) ys i = ⊎_elim (λ j. inl (inr j)) (λ j. turn j) (f
     turn (inl is) = inl (inl is)
     turn (inr j) = inr j
 
-to_filter : {A : Type 0} (p : A → Bool) (x : A) (xs : List A) → In x xs → p x ≡ true → In x (filter p xs)
+pub to_filter : {A : Type 0} (p : A → Bool) (x : A) (xs : List A) → In x xs → p x ≡ true → In x (filter p xs)
 to_filter p x [] i e = absurd i
 to_filter p x (y ∷ ys) (inl is) e = subst (λ b. In x (cond b (y ∷ filter p ys) (filter p ys))) (sym (ap p is ∙ e)) (inl is)
 to_filter {A} p x (y ∷ ys) (inr i) e = by (p y) (to_filter p x ys i e)

@@ -1,3 +1,4 @@
 pub mod Codes
+pub mod Decided
 pub mod Locked
 pub mod Tied

@@ -6,14 +6,17 @@ ghost use Rattle.arj_law.specs.Nested.{AnsweredInTime, FreedInOrder, nested_call
 ghost use Rattle.arj_line_law.specs.Book.{new_book};
 ghost use Rattle.arj_line_law.specs.Right.{AreRight};
 ghost use Rattle.arj_model.specs.Serial.{Answers, Serial, Values};
+ghost use Rattle.arj_serial_law.specs.Decided.{CommitsComeFirst};
 ghost use Rattle.arj_serial_law.specs.Tied.{AreTied};
 
 /// Where the lines of a journal are right, and for each object of which a call was answered a machine is tied to it, the
-/// surviving calls of committed tops keep the lock book: conflicting ones of different tops stand in the serial order, each
-/// is answered by the writes before it, and within one top the actions of the first are committed before the second is
-/// answered, each behind the calls that were made in it. It does nothing when it runs.
+/// surviving calls of committed tops keep the lock book: conflicting ones of different tops stand in the serial order, the
+/// commit of the first one's top called before the second is answered; each is answered by the writes before it; and within
+/// one top the actions of the first are committed before the second is answered, each behind the calls that were made in
+/// it. It does nothing when it runs.
 pub fn tied_journals_keep_the_lock_book()
     ensures order { (values : Values) (lines : List Line) → AreRight new_book lines → AreTied values lines → InOrder lines }
+    ensures commits { (values : Values) (lines : List Line) → AreRight new_book lines → AreTied values lines → CommitsComeFirst lines }
     ensures answers { (values : Values) (lines : List Line) → AreRight new_book lines → AreTied values lines → Answered values lines }
     ensures nested { (values : Values) (lines : List Line) → AreRight new_book lines → AreTied values lines → FreedInOrder lines }
     ensures times { (values : Values) (lines : List Line) → AreRight new_book lines → AreTied values lines → AnsweredInTime lines }

@@ -1,5 +1,5 @@
 use Rattle.arj_serial_law.proofs.Ties.{ties_of}
-use Rattle.arj_serial_law.proofs.Order.{all_freed, all_in_order, all_in_time}
+use Rattle.arj_serial_law.proofs.Order.{all_called_first, all_freed, all_in_order, all_in_time}
 use Rattle.arj_serial_law.proofs.Values.{are_answered}
 use Rattle.arj_serial_law.proofs.serial.tied_journals_keep_the_lock_book.Goals as goal
 
@@ -14,3 +14,6 @@ returns-clause-nested c values lines right tied = all_freed values lines right (
 
 pub returns-clause-times : goal.returns-clause-times
 returns-clause-times c values lines right tied = all_in_time values lines right (ties_of values lines tied)
+
+pub returns-clause-commits : goal.returns-clause-commits
+returns-clause-commits c values lines right tied = all_called_first values lines right (ties_of values lines tied)

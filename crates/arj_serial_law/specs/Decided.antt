@@ -1,0 +1,72 @@
+-- The decided tops of an object's disk machine, as a journal has them.
+use Rattle.std.specs.Prelude.{⊤, ◌≡◌, ◌<◌, ◌≤◌, ℕ, ◌==◌, ◌&&◌, not, List, [], ◌∷◌, filter, reverse, Bool, true, false, Option, Some, None, Contains}
+use Rattle.std.specs.List.{AllByRecursion}
+use Rattle.arj_class.specs.declared.value.Value.{Value}
+use Rattle.arj_class.specs.Forms.{payload_of}
+use Rattle.arj_class.specs.Table.{value_after}
+use Rattle.arj_journal.specs.declared.body.Line.{Line}
+use Rattle.arj_journal.specs.declared.header.Header.{Header}
+use Rattle.arj_model.specs.Actions.{acts}
+use Rattle.arj_model.specs.Calls.{Call, Top, committed_calls, tops}
+use Rattle.arj_model.specs.Last.{first_values, increasing, is_among, joins_of, leaves_of, uid_of_id}
+use Rattle.arj_model.specs.Serial.{Values, run, top_place, writes_on}
+use Rattle.arj_law.specs.Book.{OfEachTwo, is_conflict, writes_before}
+use Rattle.arj_law.specs.Growth.{AreDecidedInOrder}
+use Rattle.arj_protocol.specs.Order.{uid_number}
+use Rattle.arj_disk_law.specs.Order.{counts_of}
+use Rattle.arj_disk_law.specs.State.{Done, Packed, target}
+
+-- of two conflicting calls of different tops, the commit of the first one's was called before the second was answered
+abbrev pub IsCalledFirst : List Line → Call → Call → Type 0
+IsCalledFirst lines c d = c.at < d.at → (c.top == d.top) ≡ false → is_conflict c d ≡ true → top_place (tops lines) c.top < d.at
+
+abbrev pub CommitsComeFirst : List Line → Type 0
+CommitsComeFirst lines = OfEachTwo (IsCalledFirst lines) (committed_calls lines)
+
+-- the value that a write left: by its operation, at the value that the surviving writes before it left
+abbrev pub left_by : Values → List Line → Call → Value
+left_by values lines c = value_after c.op (run values (writes_before (committed_calls lines) c) c.x)
+
+-- the last surviving write of a committed top on an object
+pub record IsLastWrite (lines : List Line) (x : ℕ) (t : Top) (c : Call) : Type 0 where
+  pub there : Contains (committed_calls lines) c
+  pub whose : c.top ≡ t.id
+  pub write : writes_on x c ≡ true
+  pub last : (e : Call) → Contains (committed_calls lines) e → e.top ≡ t.id → writes_on x e ≡ true → e.at ≤ c.at
+
+-- What a decided top gave to the stores: nothing, where no write of it on the object survives; else a state of its own, with the value
+-- that its last write left.
+abbrev pub WroteSo : Values → List Line → ℕ → Top → Option Packed → Type 0
+WroteSo values lines x t None = (e : Call) → Contains (committed_calls lines) e → e.top ≡ t.id → writes_on x e ≡ false
+WroteSo values lines x t (Some w) = (c : Call) × IsLastWrite lines x t c × (w.writer ≡ uid_number c.writer) × (w.content ≡ payload_of (left_by values lines c))
+
+-- A decided top is a committed one of the journal: what it gave to the stores is what it wrote, the stores that it takes out of the
+-- list are those that its commit excluded, and those that it adds are its surviving includes.
+pub record IsDecision (values : Values) (lines : List Line) (x : ℕ) (d : Done) (t : Top) : Type 0 where
+  pub listed : Contains (tops lines) t
+  pub number : d.top ≡ uid_number (uid_of_id (acts lines) t.id)
+  pub wrote : WroteSo values lines x t (let p = d.plan in p.writes)
+  pub leaves : (s : ℕ) → (target d.plan s && not (d.got s)) ≡ is_among (leaves_of lines t.id x) s
+  pub joins : filter d.got (let p = d.plan in p.joins) ≡ increasing (filter (λ s. not (is_among (leaves_of lines t.id x) s)) (joins_of lines t.id x))
+
+-- so each, one by one
+abbrev pub AreDecisions : Values → List Line → ℕ → List Done → List Top → Type 0
+AreDecisions values lines x [] [] = ⊤
+AreDecisions values lines x (d ∷ ds) (t ∷ ts) = IsDecision values lines x d t × AreDecisions values lines x ds ts
+AreDecisions values lines x ds ts = ⊥
+
+-- each one's commit was called behind those of the ones behind it in the list
+abbrev pub AreNewestFirst : List Top → Type 0
+AreNewestFirst [] = ⊤
+AreNewestFirst (t ∷ ts) = AllByRecursion (λ (u : Top). u.at < t.at) ts × AreNewestFirst ts
+
+-- The decided tops of the machine that count for the object are these tops of the journal, the newest first: in the order in which
+-- their commits were called, and in that of the serial run; and each surviving write on the object is of one of them.
+pub record AreDecided (header : Header) (lines : List Line) (x : ℕ) (ds : List Done) : Type 0 where
+  pub those : List Top
+  pub each : AreDecisions (first_values header) lines x (filter counts_of ds) those
+  pub called : AreNewestFirst those
+  pub counts : Top → Bool
+  pub counted : AllByRecursion (λ (t : Top). counts t ≡ true) those
+  pub order : AreDecidedInOrder header lines x counts (reverse those)
+  pub all : (e : Call) → Contains (committed_calls lines) e → writes_on x e ≡ true → (t : Top) × Contains those t × (e.top ≡ t.id)
