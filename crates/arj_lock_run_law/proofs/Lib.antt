@@ -9,3 +9,7 @@ pub mod ShownSteps
 pub mod LeftSteps
 pub mod HandleSteps
 pub mod LineSteps
+pub mod RestartSteps
+pub mod StartSteps
+pub mod RestartWalks
+pub mod FirstSteps

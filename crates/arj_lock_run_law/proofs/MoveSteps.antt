@@ -12,19 +12,20 @@ use Rattle.arj_lock_law.specs.Actions.{Act, root}
 use Rattle.arj_lock_law.specs.Machine.{Run}
 use Rattle.arj_lock_law.specs.State as state
 use Rattle.arj_lock_law.specs.State.{State}
+use Rattle.arj_lock_view_law.specs.Acting.{OnlyActed}
 use Rattle.arj_lock_view_law.specs.Actions.{AreAlike}
 use Rattle.arj_lock_view_law.specs.Calling.{IsReached}
 use Rattle.arj_lock_view_law.specs.Ends.{SeesNothing}
 use Rattle.arj_lock_view_law.specs.Going.{OnlyNaming}
 use Rattle.arj_lock_view_law.specs.Handling.{OnlyServing}
 use Rattle.arj_lock_view_law.specs.Hearing.{SeesNamingIn}
-use Rattle.arj_lock_view_law.specs.Inputs.{SeesWhole}
+use Rattle.arj_lock_view_law.specs.Inputs.{OnlyEnded, SeesWhole}
 use Rattle.arj_lock_view_law.specs.Namings.{place_of}
 use Rattle.arj_lock_view_law.specs.Stops.{HasStopped, IsUnitOf, OnlyStopped}
 use Rattle.arj_lock_view_law.specs.Telling.{Sees, View}
 use Rattle.arj_lock_view_law.proofs.BesideSteps.{named_stays_seen, other_servers_stay_seen, servers_stay_seen, wholes_stay_seen}
 use Rattle.arj_lock_view_law.proofs.EverSteps.{ever}
-use Rattle.arj_lock_view_law.proofs.OutsideSteps.{naming_elsewhere, stops_elsewhere}
+use Rattle.arj_lock_view_law.proofs.OutsideSteps.{ends_elsewhere, naming_elsewhere, stops_elsewhere}
 use Rattle.arj_lock_view_law.proofs.StopSteps.{stops_stay}
 use Rattle.arj_lock_run_law.specs.Sees.{AreHome, SeesDown, SeesMemory, SeesUp}
 use Rattle.arj_lock_run_law.proofs.OtherSteps.{past_on, records_on}
@@ -115,9 +116,9 @@ module _ (S T : State) (reached : IsReached S) (run : Run S T) (only : OnlyNamin
 -- ---- another node stops
 
 -- the object at naming where only actions change
-module _ (S : State) (A : Act → state.Action) where
+module _ (S : State) (A : Act → state.Action) (line : ℕ) where
   abbrev After : State
-  After = record S { action = A }
+  After = record S { action = A; now = line }
 
   naming_after : (w : View) (o : Option Naming) → SeesNamingIn w S o → SeesNamingIn w After o
   naming_after w None s = tt
@@ -156,4 +157,21 @@ module _ (S T : State) (reached : IsReached S) (run : Run S T) (v : View) (t : T
   memory_stopped k d (Some p) other s = up_on (record v { node = k }) S T d p only.ended
       (servers_stay_seen (record v { node = k }) p.server S T (ap (λ (g : ℕ → state.Server). g k) server_stopped) (let e = ever reached run in e.sent) s.server)
       (stops_elsewhere v.family.act v.code v.x t p.coord S T reached run (λ u b found. apart k other u (s.home u b found)) only s.coord)
-      (subst (λ (z : State). SeesNamingIn (record v { node = k }) z p.naming) (sym only.rest) (naming_after S T.action (record v { node = k }) p.naming s.naming)) s
+      (subst (λ (z : State). SeesNamingIn (record v { node = k }) z p.naming) (sym only.rest) (naming_after S T.action S.now (record v { node = k }) p.naming s.naming)) s
+
+-- ---- a top of another node has its line
+
+module _ (S T : State) (reached : IsReached S) (run : Run S T) (v : View) (w : Uid) (alike : AreAlike v.family.act v.family.paths) (home : (let r = first_uid (v.family.paths w) in r.node) ≡ v.node) (only : OnlyActed (root (v.family.act w)) S T) where
+  away : (k : ℕ) → (k ≡ v.node → ⊥) → (u : Uid) → (let r = first_uid (v.family.paths u) in r.node) ≡ k → root (v.family.act u) ≡ root (v.family.act w) → ⊥
+  away k other u there same = other (sym there ∙ ap (λ (r : Uid). r.node) (alike.units u w same) ∙ home)
+
+  only_ended : OnlyEnded (root (v.family.act w)) S T
+  only_ended = record { rest = only.rest ∙ (λ i. record S { action = T.action; now = T.now; net = sym (ap (λ (s : State). s.net) only.rest) i }); others = only.others; ended = only.ended }
+
+  pub memory_acted : (k : ℕ) (d : Disk) (live : Option Parts) → (k ≡ v.node → ⊥) → SeesMemory (record v { node = k }) S d live → SeesMemory (record v { node = k }) T d live
+  memory_acted k d None other s = down_on (record v { node = k }) S T d only.ended (ap (λ (z : State). z.server k) only.rest) (λ one. nothing_on d.inc S T (ap (λ (z : State). z.naming) only.rest) (s.naming one))
+      (λ z. stops_stay v.family.act z.tree z.last S T (λ a (u, b, found, same). only.others a (λ its. away k other u (z.home u b found) (sym same ∙ its))) z.stopped) s
+  memory_acted k d (Some p) other s = up_on (record v { node = k }) S T d p only.ended
+      (servers_stay_seen (record v { node = k }) p.server S T (ap (λ (z : State). z.server k) only.rest) (let e = ever reached run in e.sent) s.server)
+      (ends_elsewhere v.family.act v.code v.x (root (v.family.act w)) p.coord S T reached run (λ u b found. away k other u (s.home u b found)) only_ended s.coord)
+      (subst (λ (z : State). SeesNamingIn (record v { node = k }) z p.naming) (sym only.rest) (naming_after S T.action T.now (record v { node = k }) p.naming s.naming)) s

@@ -76,10 +76,10 @@ module _ (f : Fixed) (x : ℕ) (begun : List Action) where
     pub fresh : IsFresh f begun S
     pub now : S.now ≤ length M.lines + 1
 
-  node_here : (k : ℕ) (d : Disk) (live : Option Parts) (M : Seen) → (let N = at k d live M in N.nodes k) ≡ Some (record { number = k; disk = d; live = live })
+  pub node_here : (k : ℕ) (d : Disk) (live : Option Parts) (M : Seen) → (let N = at k d live M in N.nodes k) ≡ Some (record { number = k; disk = d; live = live })
   node_here k d live M = λ i. cond (same_number k i) (Some (record { number = k; disk = d; live = live })) (M.nodes k)
 
-  node_there : (k : ℕ) (d : Disk) (live : Option Parts) (M : Seen) (j : ℕ) → (j ≡ k → ⊥) → (let N = at k d live M in N.nodes j) ≡ M.nodes j
+  pub node_there : (k : ℕ) (d : Disk) (live : Option Parts) (M : Seen) (j : ℕ) → (j ≡ k → ⊥) → (let N = at k d live M in N.nodes j) ≡ M.nodes j
   node_there k d live M j other = λ i. cond (other_number j k other i) (Some (record { number = k; disk = d; live = live })) (M.nodes j)
 
   pub others_of : (k : ℕ) (d : Disk) (live : Option Parts) (S : State) (M : Seen) → SeesLocks f x begun S (at k d live M) → SeesOthers k S M

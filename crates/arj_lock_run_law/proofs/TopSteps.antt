@@ -1,5 +1,6 @@
 -- The tops of actions that were begun, and their owners, in the machine.
-use Rattle.std.proofs.Common.{◌≡◌, ◌≢◌, ◌≤◌, ◌∙◌, ◌++◌, List, [], ◌∷◌, length, take, Bool, true, false, cond, refl, sym, ap, subst, inl, inr, Contains, arith}
+use Rattle.std.proofs.Common.{⊎_elim, ◌≡◌, ◌≢◌, ◌≤◌, ◌∙◌, ◌++◌, List, [], ◌∷◌, length, take, Bool, true, false, cond, refl, sym, ap, subst, inl, inr, Contains, arith}
+use Rattle.std.proofs.lemmas.Bool.{or_cases}
 use Rattle.std.proofs.lemmas.List.{take-append-le}
 use Rattle.arj_base.proofs.Uids.{uid_is}
 use Rattle.arj_lock.proofs.Members as list
@@ -11,7 +12,7 @@ use Rattle.arj_protocol.specs.Tree.{root_of}
 use Rattle.arj_lock_law.specs.Actions.{Act, is_top, on}
 use Rattle.arj_lock_law.proofs.Paths.{on_self}
 use Rattle.arj_part_law.specs.Actions.{Action, AreBegun, Stands, act_of, owner_in, owners_of}
-use Rattle.arj_part_law.proofs.Begun.{path_length, path_some, serial_alone}
+use Rattle.arj_part_law.proofs.Begun.{on_more, path_length, path_some, serial_alone}
 use Rattle.arj_lock_view_law.specs.Actions.{IsPlaced}
 use Rattle.arj_lock_view_law.specs.Acts.{IsTopped}
 use Rattle.arj_lock_view_law.specs.Ends.{AreOwned}
@@ -86,3 +87,27 @@ module _ (g : Family) (all : AreOneTree g) where
           by : on (g.act u) (g.act (owners_of acts u)) ≡ true → (b : Bool) → uid_eq (act_of a) u ≡ b → on (g.act u) (g.act (cond b (owner_in a a.kind) (owners_of acts u))) ≡ true
           by rest true same = one a (there a (inl refl)) a.kind (uid_is (act_of a) u same)
           by rest false other = rest
+
+-- ---- who stands on a path
+
+-- the Uids of a begun action's path are of actions that were begun
+pub path_begun : (acts : List Action) → AreBegun acts → (a : Action) → list.In a acts → (u : Uid) → is_on (uids_of a.path) u ≡ true → (b : Action) × list.In b acts × (act_of b ≡ u)
+path_begun [] begun a i u above = absurd i
+path_begun (c ∷ acts) begun a (inr i) u above = let r = path_begun acts begun.1 a i u above in (r.0, inr r.1, r.2)
+path_begun (c ∷ acts) begun a (inl is) u above = of (path_begun acts begun.1) c.kind (let new = begun.0 in new.stands) (subst (λ (z : Action). is_on (uids_of z.path) u ≡ true) (sym is) above)
+  where
+    Found : Type 0
+    Found = (b : Action) × list.In b (c ∷ acts) × (act_of b ≡ u)
+
+    alone : uids_of c.path ≡ act_of c ∷ [] → is_on (uids_of c.path) u ≡ true → Found
+    alone path o = ⊎_elim (λ same. (c, inl refl, uid_is (act_of c) u same)) (λ none. absurd (cc none)) (or_cases (uid_eq (act_of c) u) false (subst (λ us. is_on us u ≡ true) path o))
+
+    below : ((a : Action) → list.In a acts → (w : Uid) → is_on (uids_of a.path) w ≡ true → (b : Action) × list.In b acts × (act_of b ≡ w)) → (b : Action) → list.In b acts → uids_of c.path ≡ uids_of b.path ++ act_of c ∷ [] → is_on (uids_of c.path) u ≡ true → Found
+    below ih b i path o = ⊎_elim (λ up. (let r = ih b i u up in (r.0, inr r.1, r.2))) (λ same. (c, inl refl, same)) (on_more (uids_of b.path) (act_of c) u (subst (λ us. is_on us u ≡ true) path o))
+
+    of : ((a : Action) → list.In a acts → (w : Uid) → is_on (uids_of a.path) w ≡ true → (b : Action) × list.In b acts × (act_of b ≡ w)) → (k : Kind) → Stands acts c k → is_on (uids_of c.path) u ≡ true → Found
+    of ih kind.Top s o = alone s.0 o
+    of ih kind.Serial s o = alone s.0 o
+    of ih kind.Independent s o = alone s.0 o
+    of ih kind.Nested s o = below ih s.0 (in_from s.0 acts s.1) s.3 o
+    of ih kind.Constituent s o = below ih s.0 (in_from s.0 acts s.1) s.3 o

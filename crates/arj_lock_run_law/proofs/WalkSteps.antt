@@ -1,5 +1,5 @@
 -- A node's effects are walked through where the machine has gone along before: what is sent is shown, and each stop is seen.
-use Rattle.std.proofs.Common.{◌≡◌, ◌∙◌, ℕ, List, [], ◌∷◌, Bool, true, false, Some, sym, subst, inr}
+use Rattle.std.proofs.Common.{Contains, ◌≡◌, ◌∙◌, ℕ, List, [], ◌∷◌, Bool, true, false, Some, sym, subst, inr}
 use Rattle.std.specs.Prelude.{⊤}
 use Rattle.std.specs.List.{AllByRecursion, list_all}
 use Rattle.std.proofs.lemmas.Bool.{and_parts}
@@ -7,7 +7,6 @@ use Rattle.arj_protocol.specs.Words.{Uid}
 use Rattle.arj_protocol.specs.Words.role
 use Rattle.arj_protocol.specs.Effect.{After, Before, Disk, Effect, InPart, Intent, Say, Send, Do, Stop, Work, Look, PutInc, Prepare, Commit, Abort, PutIntent, RemoveIntent, stopped, worked}
 use Rattle.arj_protocol.specs.Node.{Parts}
-use Rattle.arj_protocol.specs.Order.{at_uid}
 use Rattle.arj_protocol.specs.Says.{AreAll}
 use Rattle.arj_lock_law.specs.State.{State}
 use Rattle.arj_part_law.specs.Actions.{Action}
@@ -80,7 +79,7 @@ module _ (f : Fixed) (x : ℕ) (begun : List Action) (k : ℕ) where
     place = s.place;
     home = s.home;
     past = s.past;
-    records = λ u i found. s.records u i (subst (λ js. at_uid u js ≡ Some i) records found);
+    records = λ u i found. s.records u i (subst (λ js. Contains {X = Uid × Intent} js (u, i)) records found);
   }
 
   -- where this is so at each stop, and at the end

@@ -42,7 +42,7 @@ AreHome v t = (u : Uid) (b : Branch) → branch_of u t ≡ Some b → (let r = f
 
 -- a top with this record is committed, but for one
 abbrev pub AreRecordsOf : View → Option Uid → List (Uid × Intent) → State → Type 0
-AreRecordsOf v last intents S = (u : Uid) (i : Intent) → at_uid u intents ≡ Some i → (last ≡ Some u) ⊎ HasEnded v S u ending.Commit
+AreRecordsOf v last intents S = (u : Uid) (i : Intent) → Contains {X = Uid × Intent} intents (u, i) → (last ≡ Some u) ⊎ HasEnded v S u ending.Commit
 
 -- ---- a node
 

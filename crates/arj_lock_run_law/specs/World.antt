@@ -1,17 +1,19 @@
 -- What is shown of the whole world: what each handler leaves seen, wherever a stop falls.
-use Rattle.std.specs.Prelude.{◌≡◌, ℕ, true, false, Bool, List, is_some, not, Contains}
-use Rattle.arj_protocol.specs.Words.{Body, Message}
+use Rattle.std.specs.Prelude.{◌+◌, ◌≡◌, ℕ, true, false, Bool, List, [], is_some, not, Contains}
+use Rattle.arj_protocol.specs.Words.{Body, Header, Message}
 use Rattle.arj_protocol.specs.Words.message
 use Rattle.arj_protocol.specs.Ask.{answers}
 use Rattle.arj_protocol.specs.Effect.{Disk, Effect}
 use Rattle.arj_protocol.specs.Node.{Parts, Took, handle, is_meant}
+use Rattle.arj_protocol.specs.Step.{first_disk, parts_in, restart_outs}
+use Rattle.arj_protocol.specs.World.{format}
 use Rattle.arj_lock_law.specs.Machine.{Run}
 use Rattle.arj_lock_law.specs.State.{State}
 use Rattle.arj_part_law.specs.Actions.{Action}
-use Rattle.arj_view_law.specs.Seen.{In, Post, Seen, Within, down, said}
+use Rattle.arj_view_law.specs.Seen.{In, Post, Seen, Within, down, said, see}
 use Rattle.arj_view_law.specs.Walks.{Up, Walks, halted}
 use Rattle.arj_lock_view_law.specs.Calling.{IsReached}
-use Rattle.arj_lock_run_law.specs.Beside.{Case, HoldsNamingIn, IsSeenIn, KnowsSpot, Spot, world_at}
+use Rattle.arj_lock_run_law.specs.Beside.{Case, HoldsNamingIn, IsSeenIn, KnowsEntry, KnowsSpot, Spot, world_at}
 use Rattle.arj_lock_run_law.specs.Fixed.{Agrees, Fixed}
 use Rattle.arj_lock_run_law.specs.Posts.{IsPostSeen}
 use Rattle.arj_lock_run_law.specs.Sees.{SeesLocks}
@@ -39,6 +41,16 @@ StopsGo = (c : Case) (s : Spot) (e : ℕ) → IsSeenIn c (world_at s) → HoldsN
 
 abbrev pub DownStays : Type 0
 DownStays = (c : Case) (e k : ℕ) (d : Disk) (M : Seen) → SeesLocks c.fixed c.x c.begun c.state (down k d M) → IsSeenSo c (halted e k d M)
+
+-- A node restarts, by what its disk says: a top of which the record is found is committed by the line of its recovery, the machine's
+-- server and its naming start anew, and the object is seen again, wherever a stop falls.
+abbrev pub RestartsGo : Type 0
+RestartsGo = (hd : Header) (c : Case) (e k : ℕ) (d : Disk) (M : Seen) → IsSeenIn c (down k d M) → KnowsEntry c.x k d
+    → Walks (IsSeenSo c) e k (restart_outs hd k (d.inc + 1) d) (Up (IsSeenSo c) k (parts_in k (d.inc + 1) d)) d M
+
+-- As a run begins the object is seen, where it has an entry, for all that may be fixed.
+abbrev pub FirstGoes : Type 0
+FirstGoes = (hd : Header) (f : Fixed) (x : ℕ) → KnowsEntry x 1 (first_disk hd 1) → (S : State) × SeesLocks f x [] S (see [] (format hd))
 
 -- Lines leave it seen, whatever they say.
 abbrev pub LinesStay : Type 0

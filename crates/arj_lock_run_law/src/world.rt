@@ -1,5 +1,5 @@
 // The whole world, as the lock machine of one object has it.
-ghost use Rattle.arj_lock_run_law.specs.World.{DownStays, LinesStay, MessagesGo, PostsStay, StopsGo};
+ghost use Rattle.arj_lock_run_law.specs.World.{DownStays, FirstGoes, LinesStay, MessagesGo, PostsStay, RestartsGo, StopsGo};
 
 /// What a message shows it shows for ever, as the machine goes on, as more is sent, and as more actions begin: a request what its
 /// coordinator did and the ends that it brings, an answer what was asked for, a Told the ends. It does nothing when it runs.
@@ -19,4 +19,12 @@ pub fn stops_go_in_the_world()
     ensures up { StopsGo }
     ensures down { DownStays }
     ensures lines { LinesStay }
+{}
+
+/// A node restarts: a top of which the record is found is committed by the line of its recovery, the machine's server and its naming start
+/// anew, and the object is seen in the whole world, at the end and wherever a stop falls; and so it is seen as a run begins. It does
+/// nothing when it runs.
+pub fn restarts_go_in_the_world()
+    ensures restarts { RestartsGo }
+    ensures first { FirstGoes }
 {}

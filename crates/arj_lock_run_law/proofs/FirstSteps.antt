@@ -1,0 +1,147 @@
+-- As a run begins each node has started in the machine.
+use Rattle.std.proofs.Common.{◌≡◌, ◌≤◌, ◌<◌, ◌∙◌, ◌+◌, ◌⊎◌, ℕ, zero, suc, List, [], ◌∷◌, true, false, Option, Some, None, refl, sym, ap, subst, ⊎_elim, arith, length, map}
+use Rattle.std.specs.Prelude.{is_some, slice_get}
+use Rattle.arj_lock.proofs.Members.{in_from}
+use Rattle.arj_protocol.specs.Words.{Header, Line, Uid}
+use Rattle.arj_protocol.specs.Confirm.{recovered_naming}
+use Rattle.arj_protocol.specs.Effect.{Disk, Intent}
+use Rattle.arj_protocol.specs.Order.{at_number}
+use Rattle.arj_protocol.specs.Step.{Node, first_disk, first_node, numbers_to, parts_in}
+use Rattle.arj_protocol.specs.Tree.{at_place, new_tree}
+use Rattle.arj_protocol.specs.World.{format}
+use Rattle.arj_lock_law.specs.Machine as machine
+use Rattle.arj_lock_law.specs.Machine.{Run, start}
+use Rattle.arj_lock_law.specs.State.{State}
+use Rattle.arj_run_law.proofs.Starts.{first_at}
+use Rattle.arj_view_law.specs.Seen.{Seen, see, up}
+use Rattle.arj_lock_view_law.proofs.StartNamingSteps.{naming_is_down}
+use Rattle.arj_lock_run_law.specs.Beside.{KnowsEntry}
+use Rattle.arj_lock_run_law.specs.Fixed.{Fixed, view_of}
+use Rattle.arj_lock_run_law.specs.Sees.{IsFresh, SeesDown, SeesLocks, SeesMemory}
+use Rattle.arj_lock_run_law.specs.World.{FirstGoes}
+use Rattle.arj_lock_run_law.proofs.OtherSteps.{node_here, node_there, with_here}
+use Rattle.arj_lock_run_law.proofs.StartSteps.{no_branch, started}
+
+module _ (hd : Header) (f : Fixed) (x : ℕ) (entry : KnowsEntry x 1 (first_disk hd 1)) where
+  -- a disk before its node starts
+  abbrev before : ℕ → Disk
+  before k = record (first_disk hd k) { inc = 0 }
+
+  -- nobody has started
+  abbrev nobody : Seen
+  nobody = record { sent = []; lines = []; labels = []; nodes = λ k. Some (record { number = k; disk = before k; live = None }) }
+
+  -- the first nodes have
+  some_up : ℕ → Seen
+  some_up zero = nobody
+  some_up (suc j) = up (j + 1) (first_disk hd (j + 1)) (parts_in (j + 1) 1 (first_disk hd (j + 1))) (some_up j)
+
+  fresh_start : IsFresh f [] (start f.first)
+  fresh_start = record {
+    actions = λ u un. record { stage = refl; request = refl; waits = refl; doomed = refl };
+    units = λ n none. record { stage = refl; waits = refl; idle = λ a home its. record { stage = refl; waits = refl }; kept = refl; calls = λ d there. absurd there; includes = λ d there. absurd there };
+  }
+
+  down_start : (k : ℕ) → SeesDown (view_of f x [] k) (start f.first) (before k)
+  down_start k = record {
+    server = omega arith;
+    naming = λ one. naming_is_down f.first 0;
+    tree = new_tree k 0;
+    last = None;
+    stopped = record {
+      top = λ u is. absurd (cc is);
+      each = λ u b there. absurd (no_branch k 0 u b there);
+      units = λ u b there. absurd (no_branch k 0 u b there);
+      others = λ u b a there. absurd (no_branch k 0 u b there);
+    };
+    decided = λ u is. absurd (cc is);
+    home = λ u b there. absurd (no_branch k 0 u b there);
+    past = λ a there. absurd (in_from a [] there);
+    records = λ u i there. absurd (in_from {X = Uid × Intent} (u, i) [] there);
+  }
+
+  -- who is up, and who isn't yet
+  up_at : (j k : ℕ) → 1 ≤ k → k ≤ j → (let N = some_up j in N.nodes k) ≡ Some (first_node hd k)
+  unfolding some_up
+  up_at zero k low high = absurd (omega (arith, low, high))
+  up_at (suc j) k low high = ⊎_elim
+      (λ (same : k ≡ j + 1). subst (λ (i : ℕ). (let N = some_up (suc j) in N.nodes i) ≡ Some (first_node hd i)) (sym same) (node_here f x [] (j + 1) (first_disk hd (j + 1)) (Some (parts_in (j + 1) 1 (first_disk hd (j + 1)))) (some_up j)))
+      (λ (other : k ≡ j + 1 → ⊥). node_there f x [] (j + 1) (first_disk hd (j + 1)) (Some (parts_in (j + 1) 1 (first_disk hd (j + 1)))) (some_up j) k other ∙ up_at j k low (less k j high other))
+      (equal k (j + 1))
+    where
+      equal : (a b : ℕ) → (a ≡ b) ⊎ (a ≡ b → ⊥)
+      equal a b = grind arith
+
+      less : (a b : ℕ) → a ≤ suc b → (a ≡ b + 1 → ⊥) → a ≤ b
+      less a b le other = grind (arith, le, other)
+
+  down_at : (j k : ℕ) → j < k → (let N = some_up j in N.nodes k) ≡ Some (record { number = k; disk = before k; live = None })
+  unfolding some_up
+  down_at zero k low = refl
+  down_at (suc j) k low = node_there f x [] (j + 1) (first_disk hd (j + 1)) (Some (parts_in (j + 1) 1 (first_disk hd (j + 1)))) (some_up j) k (λ same. omega (arith, same, low)) ∙ down_at j k (omega (arith, low))
+
+  none_decided : (k : ℕ) (S : State) (s : SeesDown (view_of f x [] k) S (before k)) → s.last ≡ None
+  none_decided k S s = by s.last refl
+    where
+      by : (o : Option Uid) → s.last ≡ o → s.last ≡ None
+      by None is = is
+      by (Some u) is = absurd (let bad : false ≡ true = s.decided u is in cc bad)
+
+  lines_none : (j : ℕ) → (let N = some_up j in N.lines) ≡ []
+  unfolding some_up
+  lines_none zero = refl
+  lines_none (suc j) = lines_none j
+
+  first_seen : (j : ℕ) → (S : State) × SeesLocks f x [] S (some_up j)
+  unfolding some_up
+  first_seen zero = (
+    start f.first,
+    record {
+      run = machine.stay;
+      nodes = λ k n is. subst (λ (m : Node). SeesMemory (view_of f x [] k) (start f.first) m.disk m.live) (its k n is) (down_start k);
+      posts = λ p there. absurd there;
+      fresh = fresh_start;
+      now = omega arith;
+    },
+  )
+    where
+      its : (k : ℕ) (n : Node) → ◌≡◌ {A = Option Node} (Some (record { number = k; disk = before k; live = None })) (Some n) → record { number = k; disk = before k; live = None } ≡ n
+      its k n is = cc is
+  first_seen (suc j) =
+      let h = first_seen j in
+      let k : ℕ = j + 1 in
+      let s = h.1 in
+      let down : SeesDown (view_of f x [] k) h.0 (before k) = s.nodes k _ (down_at j k (omega arith)) in
+      let g = started f x [] k h.0 (before k) (some_up j) (record { run = s.run; nodes = λ i n other is. s.nodes i n is; posts = s.posts; fresh = s.fresh; now = s.now }) down (none_decided k h.0 down)
+      (λ one inc. subst (λ (i : ℕ). is_some (at_number x (let n = recovered_naming inc (let d = first_disk hd i in d.names) in n.objects)) ≡ true) (sym one) (entry refl inc)) in
+      (g.0, (let t = g.1 in with_here f x [] k (first_disk hd k) (Some (parts_in k 1 (first_disk hd k))) g.0 (some_up j) t.others t.up))
+
+  -- a place is within the list
+  within : {A : Type 0} (items : List A) (k : ℕ) (a : A) → slice_get items k ≡ Some a → k < length items
+  within {A} [] k a is = absurd (let no_way : ◌≡◌ {A = Option A} None (Some a) = is in cc no_way)
+  within (i ∷ items) zero a is = omega arith
+  within (i ∷ items) (suc k) a is = let h = within items k a is in omega (arith, h)
+
+  abbrev all : List Node
+  all = map (first_node hd) (numbers_to hd.nodes)
+
+  placed : (k : ℕ) (n : Node) → at_place k all ≡ Some n → (1 ≤ k) × (k ≤ length all)
+  placed zero n is = absurd (let no_way : ◌≡◌ {A = Option Node} None (Some n) = is in cc no_way)
+  placed (suc k) n is = (omega arith, (let h = within all k n is in omega (arith, h)))
+
+  pub first_goes_here : (S : State) × SeesLocks f x [] S (see [] (format hd))
+  first_goes_here =
+      let h = first_seen (length all) in
+      let s = h.1 in (
+        h.0,
+        record {
+          run = s.run;
+          nodes = λ k n is. (let p = placed k n is in s.nodes k n (up_at (length all) k p.0 p.1 ∙ ap Some (first_at hd k n is)));
+          posts = λ p there. absurd there;
+          fresh = s.fresh;
+          now = subst (λ (ls : List Line). (let S = h.0 in S.now) ≤ length ls + 1) (lines_none (length all)) s.now;
+        },
+      )
+
+pub first_goes : FirstGoes
+first_goes hd f x entry = first_goes_here hd f x entry
