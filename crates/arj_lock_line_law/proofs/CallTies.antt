@@ -148,7 +148,7 @@ module _ (unit : ℕ) (S T : State) (only : OnlyCalled unit S T) where
   includes_called = ap (λ (s : State). s.includes) only.rest
 
 stay_called : (S T : State) → KeepsEnds S T → EndsStay S T
-stay_called S T keeps a its = keeps a
+stay_called S T keeps a its = (let k = keeps a in k.end)
 
 pub calls_are_tied : CallsAreTied
 calls_are_tied act code paths x y p c u b d o S reached work idle plain on whole =

@@ -34,7 +34,7 @@ use Rattle.arj_lock_view_law.specs.Going.{Goes, IsServedBy, ShowsBound}
 use Rattle.arj_lock_view_law.specs.Named.{IsNamedSo, binding_at}
 use Rattle.arj_lock_view_law.specs.Roots.{HasHeard, IsTied, SeesCoord, SeesKeeping, SeesKept, SeesStep}
 use Rattle.arj_lock_view_law.proofs.CallingSteps.{IsOnly, IsRebound, Looks, free_only, free_seen, holds, invoke_only, invoke_seen, kept_rebound, kept_same, named_here, kept_seen, kept_state, keeps_run, named_rebound, named_state, names_run, none_free, over_seen, root_seen, same_rebound, sends, silent_seen, stays_rebound, step_seen, tied_kept, top_unit, unit_same}
-use Rattle.arj_lock_view_law.proofs.EndingSteps.{ends_both, keeps_ends, keeps_one, same_end}
+use Rattle.arj_lock_view_law.proofs.EndingSteps.{ends_behind, keeps_ends, keeps_one, same_end}
 
 -- where a grant of the list comes from: it stood there, it is the new one, or one that took the new one up
 pub grants_from : (P : Grant → Type 0) (g : Grant) (gs : List Grant) → ((h : Grant) → list.In h gs → P h) → P g → ((h : Grant) → list.In h gs → h.top ≡ g.top → h.x ≡ g.x → P (record h { least = min h.least g.least; named = named_last g.named h.named })) → (k : Grant) → list.In k (granted_with g gs) → P k
@@ -152,7 +152,7 @@ module _ (act : Acts) (code : Codes) (paths : Paths) (p : ℕ) (c : Coord) (b : 
     holds = (
       invoke_seen act code paths c b d s o S reached work calling goal path last sees (root_moved s r mv) (AtInvoke w i) k (spoilt_by mv) (grants_after r) T rebound (looks_moved r mv) none quiet w i refl tied server named knows may (later_grants (grants_after r) T rebound.only.sent grants),
       invoke_only act code paths c b d s o S reached work calling goal path last sees (root_moved s r mv) (AtInvoke w i) k (spoilt_by mv) (grants_after r) T rebound (looks_moved r mv) none quiet w i refl tied server named knows may,
-      line (next (event.SendInvoke (act u) (s.req + 1) (writes o)) T) rebound.calls rebound.now (ends_both S T (next (event.SendInvoke (act u) (s.req + 1) (writes o)) T) (keeps_ends S T rebound.actions) (λ q. keeps_one T (act u) (let z = T.action (act u) in record z { request = s.req + 1; waits = true; since = T.now }) (record { stage = refl; place = refl; done = refl }) q)),
+      line (next (event.SendInvoke (act u) (s.req + 1) (writes o)) T) rebound.calls rebound.now (ends_behind S T (next (event.SendInvoke (act u) (s.req + 1) (writes o)) T) rebound.actions (λ q. keeps_one T (act u) (let z = T.action (act u) in record z { request = s.req + 1; waits = true; since = T.now }) (record { stage = refl; place = refl; done = refl }) (inr refl) q)),
     );
   }
     where

@@ -295,7 +295,7 @@ module _ (act : Acts) (code : Codes) (paths : Paths) (x : ℕ) (c : Coord) (b : 
     holds = (
       lands at_w V (invoke_seen act code paths C b d0 s0 o S reached work_C refl refl refl refl sees_C stays at_w kc.kept kc.spoiled grants S (stays_rebound act code paths C b d0 s0 o S reached work_C refl refl refl refl sees_C) looks (λ e. e) refl w i refl tied kept.server named (kept.recorded known).0 may grants_heard),
       invoke_only act code paths C b d0 s0 o S reached work_C refl refl refl refl sees_C stays at_w kc.kept kc.spoiled grants S (stays_rebound act code paths C b d0 s0 o S reached work_C refl refl refl refl sees_C) looks (λ e. e) refl w i refl tied kept.server named (kept.recorded known).0 may,
-      (refl, refl, λ q. keeps_one S (act u) (let z = S.action (act u) in record z { request = d.req + 1; waits = true; since = S.now }) (record { stage = refl; place = refl; done = refl }) q),
+      (refl, refl, λ q. keeps_one S (act u) (let z = S.action (act u) in record z { request = d.req + 1; waits = true; since = S.now }) (record { stage = refl; place = refl; done = refl }) (inr refl) q),
     );
   }
     where

@@ -159,7 +159,7 @@ module _ (act : Acts) (code : Codes) (paths : Paths) (c : Coord) (b : Branch) (d
             (λ y z now_is. absurd (cc now_is))
             (λ y now_is. absurd (cc now_is)),
         only,
-        (refl, refl, λ q. keeps_one S (act u) dooms (record { stage = refl; place = refl; done = refl }) q),
+        (refl, refl, λ q. keeps_one S (act u) dooms (record { stage = refl; place = refl; done = refl }) (inl (waits_is act code paths c b d s o S reached work calling goal path last sees ∙ invoking)) q),
       );
     }
       where

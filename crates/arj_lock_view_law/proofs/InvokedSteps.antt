@@ -32,7 +32,7 @@ use Rattle.arj_lock_view_law.specs.Acts.{Acts}
 use Rattle.arj_lock_view_law.specs.Actions.{SeesAction, invokes}
 use Rattle.arj_lock_view_law.specs.Calling.{AnswersAreTaken, IsApplied, IsAtWork, IsReached, OnlyCalled, ShowsAnswer, WritesLine}
 use Rattle.arj_lock_view_law.specs.Copies.{Codes}
-use Rattle.arj_lock_view_law.specs.Ending.{SameEnd}
+use Rattle.arj_lock_view_law.specs.Ending.{KeptEnd}
 use Rattle.arj_lock_view_law.specs.Going.{Goes}
 use Rattle.arj_lock_view_law.specs.Roots.{IsSaid, IsTied, SeesCoord, SeesRoot, SeesStep, invoke_of}
 use Rattle.arj_lock_view_law.proofs.AnswerSteps.{HasAll, Result, activated_goes, grants_after, live_goes, load_goes, looks_moved, make_goes, old_grants, over_here, quiet_at, recorded_goes, spoilt_by}
@@ -125,8 +125,8 @@ module _ (act : Acts) (code : Codes) (paths : Paths) (p : ℕ) (c : Coord) (b : 
   rests_seen : SeesAction x b (record d { now = Idle }) stopped_one
   rests_seen = let w = was act code paths c b d s o S reached work calling goal path last sees in record { stage = open_stage act code paths c b d s o S reached work calling goal path last sees ∙ sym (open_now act code paths c b d s o S reached work calling goal path last sees Idle refl); request = w.request; waits = λ h. refl; last = λ h. absurd (cc h); doomed = w.doomed }
 
-  keeps_stopped : (q : Act) → SameEnd (S.action q) (at_act S.action (act u) stopped_one q)
-  keeps_stopped q = keeps_one S (act u) stopped_one (record { stage = refl; place = refl; done = refl }) q
+  keeps_stopped : (S.action (act u)).waits ≡ true → (q : Act) → KeptEnd (S.action q) (at_act S.action (act u) stopped_one q)
+  keeps_stopped waits q = keeps_one S (act u) stopped_one (record { stage = refl; place = refl; done = refl }) (inl waits) q
 
   low : (S.action (act u)).stage ≤ 2
   low = let z = open_stage act code paths c b d s o S reached work calling goal path last sees in omega (arith, z)
@@ -137,6 +137,10 @@ module _ (act : Acts) (code : Codes) (paths : Paths) (p : ℕ) (c : Coord) (b : 
 
     last_number : s.req ≡ (S.action (act u)).request
     last_number = let w = was act code paths c b d s o S reached work calling goal path last sees in last ∙ sym (w.last ((λ j. invokes x (calling j)) ∙ (λ j. number_self x j && is_invoke (is j))))
+
+    -- it waits in the machine
+    waiting : (S.action (act u)).waits ≡ true
+    waiting = waits_is act code paths c b d s o S reached work calling goal path last sees ∙ ap is_invoke is
 
     -- the call ends without a line
     stop_goes : (r : Reply) (end : CallEnd) → ((j : Coord) → doomed_by u end j ≡ j) → ((q : Root) → root_heard s end q ≡ q) → machine_run.Run S stopped_state → HasAll act code paths p c b d s o S reached work calling goal path last sees now (grants_after act code paths p c b d s o S reached work calling goal path last sees now r) S → WritesLine act code p s o S stopped_state (AtInvoke k i) r → To (AtInvoke k i) r (finds kp.kept end)
@@ -158,11 +162,11 @@ module _ (act : Acts) (code : Codes) (paths : Paths) (p : ℕ) (c : Coord) (b : 
         only = called_one S (act u) stopped_one S.now S.calls S.net low (λ y j. j) (λ y j. inl j) (λ y j. j)
 
     refused_goes : (h : Uid) (m : Mode) → In (machine.Refused (invoke_of act s o k)) S.net → To (AtInvoke k i) (Reply.Invoked (invoked.Conflict h m)) (finds kp.kept (protocol.Conflict h m k.server))
-    refused_goes h m shown = stop_goes (Reply.Invoked (invoked.Conflict h m)) (protocol.Conflict h m k.server) (λ j. refl) (λ q. refl) (step (event.TurnedDown (invoke_of act s o k)) (shown, last_number) stay) (old_grants act code paths p c b d s o S reached work calling goal path last sees now) (refl, refl, keeps_stopped)
+    refused_goes h m shown = stop_goes (Reply.Invoked (invoked.Conflict h m)) (protocol.Conflict h m k.server) (λ j. refl) (λ q. refl) (step (event.TurnedDown (invoke_of act s o k)) (shown, last_number) stay) (old_grants act code paths p c b d s o S reached work calling goal path last sees now) (refl, refl, keeps_stopped waiting)
 
     changed_goes : (w : What) → In (machine.Changed (binding_number k.binding)) S.net → To (AtInvoke k i) (Reply.Invoked (invoked.Changed w)) (finds kp.kept (protocol.Changed k.server w))
     changed_goes w shown = stop_goes (Reply.Invoked (invoked.Changed w)) (protocol.Changed k.server w) (λ j. refl) (λ q. refl)
-        (step (event.Lost (act u)) (subst (λ (n : ℕ). In (machine.Changed n) S.net) (sym (tied_kept act code paths c b d s o S reached work calling goal path last sees kp.kept S (stays_rebound act code paths c b d s o S reached work calling goal path last sees).keeping k stands.0)) shown) stay) (old_grants act code paths p c b d s o S reached work calling goal path last sees now) (refl, refl, keeps_stopped)
+        (step (event.Lost (act u)) (subst (λ (n : ℕ). In (machine.Changed n) S.net) (sym (tied_kept act code paths c b d s o S reached work calling goal path last sees kp.kept S (stays_rebound act code paths c b d s o S reached work calling goal path last sees).keeping k stands.0)) shown) stay) (old_grants act code paths p c b d s o S reached work calling goal path last sees now) (refl, refl, keeps_stopped waiting)
 
     -- the call has its line
     module _ (a : Answer) (v : Value) (fits : a ≡ answer_of o v) (applied : IsApplied code (invoke_of act s o k) o v S) where
@@ -249,7 +253,7 @@ module _ (act : Acts) (code : Codes) (paths : Paths) (p : ℕ) (c : Coord) (b : 
               (λ y z now_is. absurd (cc now_is))
               (λ y now_is. absurd (cc now_is)),
           only,
-          (v, applied.by, fits, refl, refl, keeps_stopped),
+          (v, applied.by, fits, refl, refl, keeps_stopped waiting),
         );
       }
 

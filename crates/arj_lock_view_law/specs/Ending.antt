@@ -14,9 +14,14 @@ pub record SameEnd (a b : Action) : Type 0 where
   pub place : b.place ≡ a.place
   pub done : b.done ≡ a.done
 
+-- so it is, and where it changed otherwise it waits, before or behind
+pub record KeptEnd (a b : Action) : Type 0 where
+  pub end : SameEnd a b
+  pub waited : (b ≡ a) ⊎ ((a.waits ≡ true) ⊎ (b.waits ≡ true))
+
 -- so is each
 abbrev pub KeepsEnds : State → State → Type 0
-KeepsEnds S T = (a : Act) → SameEnd (S.action a) (T.action a)
+KeepsEnds S T = (a : Act) → KeptEnd (S.action a) (T.action a)
 
 -- no action changed; units may have
 abbrev pub KeepsActions : State → State → Type 0
