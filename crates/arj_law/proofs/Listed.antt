@@ -19,13 +19,13 @@ use Rattle.arj_law.proofs.Common.{never, all_map}
 use Rattle.arj_law.proofs.Reading.{read_none, read_some}
 use Rattle.arj_law.proofs.Commit.{chain_stays}
 
-same_is : (ms ns : List ℕ) → same_list ms ns ≡ true → ms ≡ ns
+pub same_is : (ms ns : List ℕ) → same_list ms ns ≡ true → ms ≡ ns
 same_is [] [] e = refl
 same_is [] (n ∷ ns) e = never false e refl
 same_is (m ∷ ms) [] e = never false e refl
 same_is (m ∷ ms) (n ∷ ns) e = let p = and_parts (m == n) (same_list ms ns) e in (λ i. eqb-true m n p.0 i ∷ same_is ms ns p.1 i)
 
-same_itself : (ns : List ℕ) → same_list ns ns ≡ true
+pub same_itself : (ns : List ℕ) → same_list ns ns ≡ true
 same_itself [] = refl
 same_itself (n ∷ ns) = (λ i. eq-eqb n n refl i && same_list ns ns) ∙ same_itself ns
 
@@ -121,11 +121,11 @@ begins_nothing us lines top (body.Committed l) commits = refl
 begins_nothing us lines top (body.Recovered n u) commits = refl
 begins_nothing us lines top b commits = absurd commits
 
-listed_append : (lines : List Line) (x : ℕ) (stores : List ℕ) (ts : List Top) (t : Top) → listed_from lines x stores (ts ++ t ∷ []) ≡ listed_after lines x (listed_from lines x stores ts) t
+pub listed_append : (lines : List Line) (x : ℕ) (stores : List ℕ) (ts : List Top) (t : Top) → listed_from lines x stores (ts ++ t ∷ []) ≡ listed_after lines x (listed_from lines x stores ts) t
 listed_append lines x stores [] t = refl
 listed_append lines x stores (u ∷ ts) t = listed_append lines x (listed_after lines x stores u) ts t
 
-changers_append : (lines : List Line) (x : ℕ) (stores : List ℕ) (ts us : List Top) → changers lines x stores (ts ++ us) ≡ changers lines x stores ts ++ changers lines x (listed_from lines x stores ts) us
+pub changers_append : (lines : List Line) (x : ℕ) (stores : List ℕ) (ts us : List Top) → changers lines x stores (ts ++ us) ≡ changers lines x stores ts ++ changers lines x (listed_from lines x stores ts) us
 changers_append lines x stores [] us = refl
 changers_append lines x stores (t ∷ ts) us = by (changers_append lines x stores ts us) (changers_append lines x next ts us) (same_list next stores) refl
   where
@@ -138,7 +138,7 @@ changers_append lines x stores (t ∷ ts) us = by (changers_append lines x store
     by ih own true e = ih ∙ (λ i. changers lines x stores ts ++ changers lines x (listed_from lines x (sym (same_is next stores e) i) ts) us)
     by ih own false e = ap (λ vs. t ∷ vs) own
 
-last_of_append : (us : List Act) (ts : List Top) (t : Top) → last_changer us (ts ++ t ∷ []) ≡ uid_of_id us t.id
+pub last_of_append : (us : List Act) (ts : List Top) (t : Top) → last_changer us (ts ++ t ∷ []) ≡ uid_of_id us t.id
 last_of_append us [] t = refl
 last_of_append us (u ∷ []) t = refl
 last_of_append us (u ∷ v ∷ ts) t = last_of_append us (v ∷ ts) t

@@ -9,3 +9,5 @@ pub mod Begun
 pub mod Codes
 pub mod Locks
 pub mod States
+pub mod Entries
+pub mod Cleaning

@@ -37,7 +37,7 @@ use Rattle.arj_serial_law.proofs.Values.{to_filter}
 
 -- ---- lists
 
-filter_twice : {A : Type 0} (p : A → Bool) (xs : List A) → filter p (filter p xs) ≡ filter p xs
+pub filter_twice : {A : Type 0} (p : A → Bool) (xs : List A) → filter p (filter p xs) ≡ filter p xs
 filter_twice p [] = refl
 filter_twice {A} p (x ∷ xs) = by (p x) refl (filter_twice p xs)
   where
@@ -349,6 +349,19 @@ module _ (values : Values) (lines : List Line) (right : AreRight new_book lines)
         others = λ u i. ⊎_elim (λ (same : t ≡ u). inl (sym same)) (λ j. inr (inl (all_at (λ (v : Top). v.at < t.at) ts falls.0 u j))) i;
       })
 
+-- tops that count are never idle
+pub none_idle : (first : Packed) (ds : List Done) → AllByRecursion (λ (d : Done). d.counts ≡ true) ds → AreIdleInPlace first ds
+none_idle first [] all = tt
+none_idle first (d ∷ ds) all = ((λ no. never all.0 no), none_idle first ds all.1)
+
+pub all_counting : (ds : List Done) → AllByRecursion (λ (d : Done). d.counts ≡ true) (filter counts_of ds)
+all_counting [] = tt
+all_counting (d ∷ ds) = by d.counts refl (all_counting ds)
+  where
+    by : (b : Bool) → d.counts ≡ b → AllByRecursion (λ (e : Done). e.counts ≡ true) (filter counts_of ds) → AllByRecursion (λ (e : Done). e.counts ≡ true) (cond b (d ∷ filter counts_of ds) (filter counts_of ds))
+    by true is r = (is, r)
+    by false is r = r
+
 -- ---- the last state
 
 module _ (header : Header) (lines : List Line) (right : AreRight new_book lines) (tied : Ties (first_values header) lines) (x : ℕ) (W : World) (whole : Whole W) (decided : AreDecided header lines x W.disk.tops) (first_is : W.disk.first ≡ packed (state_after x (first_values header x) [])) where
@@ -367,20 +380,8 @@ module _ (header : Header) (lines : List Line) (right : AreRight new_book lines)
   first_calls : CommitsComeFirst lines
   first_calls = all_called_first values lines right tied
 
-  idle_none : (ds : List Done) → AllByRecursion (λ (d : Done). d.counts ≡ true) ds → AreIdleInPlace W.disk.first_entry ds
-  idle_none [] all = tt
-  idle_none (d ∷ ds) all = ((λ no. never all.0 no), idle_none ds all.1)
-
-  all_count : (ds : List Done) → AllByRecursion (λ (d : Done). d.counts ≡ true) (filter counts_of ds)
-  all_count [] = tt
-  all_count (d ∷ ds) = by d.counts refl (all_count ds)
-    where
-      by : (b : Bool) → d.counts ≡ b → AllByRecursion (λ (e : Done). e.counts ≡ true) (filter counts_of ds) → AllByRecursion (λ (e : Done). e.counts ≡ true) (cond b (d ∷ filter counts_of ds) (filter counts_of ds))
-      by true is r = (is, r)
-      by false is r = r
-
   pub by_counting : last_in W.disk.first counting ≡ last W.disk
-  by_counting = let o = orders_agree W counting whole (filter_twice counts_of W.disk.tops) (idle_none counting (all_count W.disk.tops)) in o.state
+  by_counting = let o = orders_agree W counting whole (filter_twice counts_of W.disk.tops) (none_idle W.disk.first_entry counting (all_counting W.disk.tops)) in o.state
 
   counted_writes : (ds : List Done) → ((d : Done) → words.In d ds → d.counts ≡ false → d.plan.writes ≡ None) → writes_in ds ≡ writes_in (filter counts_of ds)
   counted_writes [] plain = refl

@@ -1,3 +1,4 @@
+pub mod Cleaned
 pub mod Codes
 pub mod Decided
 pub mod Locked

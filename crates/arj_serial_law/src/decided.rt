@@ -1,21 +1,39 @@
-// The last state of an object, by its disk machine and by the journal.
-ghost use Rattle.std.specs.Prelude.{◌≡◌, ℕ, List, []};
+// The last state and entry of an object, by its disk machine and by the journal.
+ghost use Rattle.std.specs.Prelude.{◌≡◌, ℕ, List};
 ghost use Rattle.arj_disk_law.specs.Effects.{Whole, World};
-ghost use Rattle.arj_disk_law.specs.State.{last};
-ghost use Rattle.arj_disk_view_law.specs.Pairs.{packed};
+ghost use Rattle.arj_disk_law.specs.State.{last, last_entry};
+ghost use Rattle.arj_disk_view_law.specs.Pairs.{packed, packed_entry};
+ghost use Rattle.arj_disk_view_law.specs.Sees.{Kinds, SeesDisks};
 ghost use Rattle.arj_journal.specs.declared.body.Line.{Line};
 ghost use Rattle.arj_journal.specs.declared.header.Header.{Header};
 ghost use Rattle.arj_line_law.specs.Book.{new_book};
 ghost use Rattle.arj_line_law.specs.Right.{AreRight};
-ghost use Rattle.arj_model.specs.Last.{first_values, last_state, state_after};
+ghost use Rattle.arj_model.specs.Last.{entry_state, first_values, last_state, listed};
+ghost use Rattle.arj_serial_law.specs.Cleaned.{BeginsSo, IsCleanIn, HaveForm};
 ghost use Rattle.arj_serial_law.specs.Decided.{AreDecided};
 ghost use Rattle.arj_serial_law.specs.Tied.{AreTied};
+ghost use Rattle.arj_view_law.specs.Seen.{Seen};
 
 /// Where the decided tops of an object's disk machine that count are those of the journal, and each gave the stores what its
 /// surviving writes left, the machine's last state is the journal's: its value, its version and its writer. It does nothing
 /// when it runs.
 pub fn decisions_make_the_last_state()
     ensures { (header : Header) (lines : List Line) (x : ℕ) (W : World) → AreRight new_book lines → AreTied (first_values header) lines
-        → Whole W → AreDecided header lines x W.disk.tops → W.disk.first ≡ packed (state_after x (first_values header x) [])
+        → Whole W → AreDecided header lines x W.disk.tops → BeginsSo header x W.disk
         → last W.disk ≡ packed (last_state header lines x) }
+{}
+
+/// Then its last entry is the journal's too, and has the stores that the journal lists. It does nothing when it runs.
+pub fn decisions_make_the_last_entry()
+    ensures entry { (header : Header) (lines : List Line) (x : ℕ) (W : World) → Whole W → AreDecided header lines x W.disk.tops → BeginsSo header x W.disk
+        → last_entry W.disk ≡ packed_entry (entry_state header lines x) }
+    ensures listed { (header : Header) (lines : List Line) (x : ℕ) (W : World) → Whole W → AreDecided header lines x W.disk.tops → BeginsSo header x W.disk
+        → (last_entry W.disk).content ≡ listed header lines x }
+{}
+
+/// So disks in which the machine is seen are clean, of this object: where no prepared action names its entry, the entry is the
+/// journal's, and each listed store where none names its state holds its last state. It does nothing when it runs.
+pub fn seen_disks_are_clean()
+    ensures { (header : Header) (lines : List Line) (x : ℕ) (kinds : Kinds) (W : World) (M : Seen) → AreRight new_book lines → AreTied (first_values header) lines
+        → SeesDisks x kinds W M → AreDecided header lines x W.disk.tops → BeginsSo header x W.disk → HaveForm header x M → IsCleanIn header lines x M }
 {}

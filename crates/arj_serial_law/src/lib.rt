@@ -6,8 +6,9 @@
 //! right (`arj_line_law`), and on the lock book (`arj_law`). What it gives upward: `tied_journals_are_serial`: a journal
 //! whose lines are right, as that of each run, and that is tied to a machine for each object, keeps the lock book and is
 //! serial, with nested actions each whole at its commit; and `tied_journals_hold_locks`, where each machine was seen after
-//! each line (`specs/Locked.antt`); and of the disk machine (`arj_disk_law`), with its decided tops tied to the journal
-//! (`specs/Decided.antt`), that its last state is the journal's.
+//! each line (`specs/Locked.antt`). With the decided tops of an object's disk machine (`arj_disk_law`) tied to the journal
+//! (`specs/Decided.antt`) the machine's last state and entry are the journal's, and disks in which it is seen are clean
+//! (`specs/Cleaned.antt`).
 #![tactic(auto)]
 
 mod decided;
@@ -15,7 +16,9 @@ mod locked;
 mod places;
 mod serial;
 
-pub use decided::decisions_make_the_last_state;
+pub use decided::{
+    decisions_make_the_last_entry, decisions_make_the_last_state, seen_disks_are_clean,
+};
 pub use locked::{tied_calls_are_locked_for, tied_journals_hold_locks};
 pub use places::{begun_actions_have_their_paths, values_have_codes};
 pub use serial::{tied_journals_are_serial, tied_journals_keep_the_lock_book};
