@@ -368,4 +368,4 @@ pub runs_are_journalled : RunsAreJournalled
 runs_are_journalled hd x part parts es short = journalled_beside hd x (λ tops A M. part tops A M ≡ true) parts es short
 
 pub heard_runs_are_journalled : HeardRunsAreJournalled
-heard_runs_are_journalled hd x has rest es short = journalled_beside hd x (SeesHeard x) (heard_kept hd x (λ M. IsGood M × KnowsFew M) (λ M r. r.0) has rest) es short
+heard_runs_are_journalled hd x has rest es short = journalled_beside hd x (SeesHeard x) (heard_kept hd x (λ M. IsGood M × KnowsFew M) (λ M r. r) has rest) es short

@@ -157,4 +157,4 @@ pub runs_agree : RunsAgree
 runs_agree hd x part parts es short = agree_beside hd x (λ tops A M. part tops A M ≡ true) parts es short
 
 pub heard_runs_agree : HeardRunsAgree
-heard_runs_agree hd x has rest es short = agree_beside hd x (SeesHeard x) (heard_kept hd x (λ M. IsGood M × KnowsFew M) (λ M r. r.0) has rest) es short
+heard_runs_agree hd x has rest es short = agree_beside hd x (SeesHeard x) (heard_kept hd x (λ M. IsGood M × KnowsFew M) (λ M r. r) has rest) es short

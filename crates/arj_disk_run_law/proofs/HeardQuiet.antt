@@ -48,3 +48,9 @@ heard_stop x tops e k d live M A B f h named held only p = heard_to x tops A B (
   where
     other : (j : ℕ) (n : Node) → (j == k) ≡ false → M.nodes j ≡ Some n → (at k d live M).nodes j ≡ Some n
     other j n apart there = ap (λ b. if b then Some (record { number = k; disk = d; live = live }) else M.nodes j) apart ∙ there
+
+-- where nothing was said either
+pub heard_still : (x : ℕ) (tops : Kinds) (M : Seen) (A B : Office) → IsFixed tops A.world.disk → IsFixed tops B.world.disk → Named A → Named B → OnlyMemory A B → SeesHeard x tops A M → SeesHeard x tops B M
+heard_still x tops M A B f h named held only p = heard_to x tops A B M M f h (memory_goes A B only) p (sends_same x B M.sent) (old_claims x tops A B M f h named held only p)
+    (λ j n t there live. inl (record { node = n; there = there; parts = t; live = live; same = refl; stays = λ u own kind. memory_stays tops A B only (tops.root (uid_number u)) }))
+    (λ j n u there at alone low. none_stays x tops A B f h (memory_goes A B only) (uid_number u) (memory_stays tops A B only (uid_number u)) (p.future j n u there at alone low))

@@ -59,18 +59,16 @@ module _ (M : Seen) (good : IsGood M) (few : KnowsFew M) (j : ℕ) (n : Node) (t
   coord : IsGoodCoord acts (paths_of acts) t.coord
   coord = let g : IsGoodNode acts (paths_of acts) t = mine.good (paths_of acts) (begun_tree acts world.begun) (path_found acts world.begun) in g.coord
 
+  -- who waits in a step stands at the end of its path
+  pub actor_of_step : (u : Uid) (q : Doing) (s : Steps) → doing_of u t.coord ≡ Some q → q.now ≡ Calling s → actor s.path ≡ u
+  actor_of_step u q s does now = let z : IsAsking t.coord.tree u s.path = subst (IsBusy t.coord.tree u) now (coord.busy u q does) in ap actor (sym z.path) ∙ coord.tree.lists.places u z.branch z.found
+
   -- a request that was sent for the step that waits is that of the step
   pub step_of : (u : Uid) (q : Doing) (s : Steps) → doing_of u t.coord ≡ Some q → q.now ≡ Calling s → (to : ℕ) (m : Message) (h : Head) (a : Ask) → seen.In (record { from = j; to = to; message = m }) M.sent → asks m ≡ Some (h, a) → asked_by (head_of s) ≡ asked_by h → IsOfStep s to h a
   step_of u q s does now to m h a posted asking same = counted.last s (ap (λ (z : Doing). z.now) (some_is counted.found found) ∙ now) (sym (ap (λ (z : Asked). z.req) same) ∙ (number ∙ ap (λ (z : Doing). z.req) (some_is found counted.found)))
     where
-      asking_is : IsAsking t.coord.tree u s.path
-      asking_is = subst (IsBusy t.coord.tree u) now (coord.busy u q does)
-
-      actor_is : actor s.path ≡ u
-      actor_is = ap actor (sym asking_is.path) ∙ coord.tree.lists.places u asking_is.branch asking_is.found
-
       asker : actor h.path ≡ u
-      asker = sym (ap (λ (z : Asked). z.act) same) ∙ actor_is
+      asker = sym (ap (λ (z : Asked). z.act) same) ∙ actor_of_step u q s does now
 
       found : doing_of (actor h.path) t.coord ≡ Some q
       found = ap (λ w. doing_of w t.coord) asker ∙ does

@@ -5,10 +5,14 @@ pub mod EntryKeeps
 pub mod EntryRows
 pub mod EntryWalks
 pub mod HeardAll
+pub mod HeardAsk
+pub mod HeardBinds
 pub mod HeardCoord
 pub mod HeardFirst
 pub mod HeardKept
 pub mod HeardLike
+pub mod HeardMessage
+pub mod HeardOther
 pub mod HeardPosts
 pub mod HeardQuiet
 pub mod HeardRestart

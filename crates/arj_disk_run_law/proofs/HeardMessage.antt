@@ -1,0 +1,115 @@
+-- What coordinators have of naming's answers is kept where a message is taken, with what is still taken of answers.
+use Rattle.std.proofs.Common.{◌≡◌, ℕ, Bool, true, false, List, Option, Some, None, refl, sym, ◌∙◌, ap, subst, inl, ⊎_elim}
+use Rattle.std.specs.Prelude.{is_some}
+use Rattle.arj_protocol.specs.Words.{Ask, Asked, Head, Header, Message, Uid, asks}
+use Rattle.arj_protocol.specs.Words.ask
+use Rattle.arj_protocol.specs.Ask.{Reply, answers, top_of}
+use Rattle.arj_protocol.specs.Commit.{Confirming, Machine, Preparing, Voting}
+use Rattle.arj_protocol.specs.Coord.{Committing, Coord, Doing, Idle, doing_of}
+use Rattle.arj_protocol.specs.Effect.{Disk, Effect}
+use Rattle.arj_protocol.specs.Naming.{Naming}
+use Rattle.arj_protocol.specs.Node.{Parts, Took, handle, is_meant}
+use Rattle.arj_protocol.specs.Order.{uid_number}
+use Rattle.arj_run_law.specs.Worlds.{IsGood}
+use Rattle.arj_call_law.specs.Runs.{KnowsFew}
+use Rattle.arj_disk_law.specs.Names.{Office}
+use Rattle.arj_disk_law.specs.State.{is_gone, is_idle}
+use Rattle.arj_disk_law.proofs.Base.{never}
+use Rattle.arj_view_law.specs.Seen.{In, Seen, up}
+use Rattle.arj_disk_view_law.specs.Coordinating.{KnowsNode}
+use Rattle.arj_disk_view_law.specs.Sees.{Kinds, SeesCoord}
+use Rattle.arj_disk_view_law.proofs.DecideWalks.{confirming_of}
+use Rattle.arj_disk_view_law.proofs.Frames.{node_here}
+use Rattle.arj_disk_view_law.proofs.HeardWalks.{preparing_of}
+use Rattle.arj_names_view_law.specs.Both.{SeesBoth}
+use Rattle.arj_names_view_law.specs.Handlers.{IsForGrants, MayGoOn, MayRecord, asked_change, change_by, is_voting, reply_change}
+use Rattle.arj_disk_run_law.specs.Heard.{ClaimsAsked, ClaimsGrants, SeesHeard}
+use Rattle.arj_disk_run_law.specs.Part.{HasHeard, HoldsAlong, HoldsFrom}
+use Rattle.arj_disk_run_law.specs.Rest.{GivesNaming, IsHeardAt, KeepsHeard}
+use Rattle.arj_disk_run_law.proofs.HeardAsk.{Served_by, ask_heard}
+use Rattle.arj_disk_run_law.proofs.HeardLike.{IsLike}
+use Rattle.arj_disk_run_law.proofs.HeardOther.{other_heard}
+use Rattle.arj_names_view_law.specs.Calls.{IsUnrecorded}
+use Rattle.arj_names_view_law.specs.Booked.{NamesGrants}
+
+-- ---- commits that have begun
+
+-- a commit past its votes that the coordinator had before has begun
+pub old_goes_on : (x : ℕ) (tops : Kinds) (k : ℕ) (d : Disk) (t : Parts) (M : Seen) (A : Office) → KnowsNode tops k d t M → SeesBoth x tops A (up k d t M) → (c : Coord) → ((u : Uid) (q : Doing) (m : Machine) → doing_of u c ≡ Some q → q.now ≡ Committing m → is_voting m ≡ false → doing_of u t.coord ≡ Some q) → MayGoOn x A c
+old_goes_on x tops k d t M A knows both c had u q m does now past C named names later tops_are opens can = absurd (never idle (named.whole.core.fresh.begun (uid_number u) (later.begun (uid_number u) begun)))
+  where
+    idle : is_idle (C.world.disk.stage (uid_number u)) ≡ true
+    idle = ap is_idle can.idle
+
+    sees : SeesCoord x k d.inc tops t.coord A.world.disk
+    sees = let s = both.disks in s.coords k (record { number = k; disk = d; live = Some t }) t (node_here M k (record { number = k; disk = d; live = Some t })) refl
+
+    begun : A.world.disk.begun (uid_number u) ≡ true
+    begun = by m now past
+      where
+        at_work : doing_of u t.coord ≡ Some q
+        at_work = had u q m does now past
+
+        by : (z : Machine) → q.now ≡ Committing z → is_voting z ≡ false → A.world.disk.begun (uid_number u) ≡ true
+        by (Voting p left) is on = absurd (never refl on)
+        by (Preparing p left) is on = let w = let y = knows.coord in y.machines u q (Preparing p left) at_work is in (preparing_of x tops A.world.disk (uid_number u) w.branch.kind q.now p left w.top is (sees.working u w.branch q w.found w.unended at_work)).begun
+        by (Confirming p) is on = let w = let y = knows.coord in y.machines u q (Confirming p) at_work is in (confirming_of x tops A.world.disk (uid_number u) w.branch.kind q.now p w.top is (sees.working u w.branch q w.found w.unended at_work)).begun
+
+-- so it is where nobody but who waits for nothing is new
+pub like_goes_on : (x : ℕ) (tops : Kinds) (k : ℕ) (d : Disk) (t : Parts) (M : Seen) (A : Office) → KnowsNode tops k d t M → SeesBoth x tops A (up k d t M) → (c : Coord) → IsLike t.coord c → MayGoOn x A c
+like_goes_on x tops k d t M A knows both c like = old_goes_on x tops k d t M A knows both c (λ u q m does now past. ⊎_elim (λ old. old) (λ idle. absurd (let e : Idle ≡ Committing m = sym idle ∙ now in cc)) (like.works u q does))
+
+-- ---- what naming counts on
+
+abbrev record_in : Option (Head × Ask) → Option (Head × (ℕ × ℕ))
+record_in (Some (h, ask.Record y b i g)) = Some (h, (y, g))
+record_in _ = None
+
+module _ (x : ℕ) (R : Seen → Type 0) (gives : GivesNaming x R) (tops : Kinds) (k : ℕ) (d : Disk) (t : Parts) (n : Naming) (from : ℕ) (m : Message) (M : Seen) (A : Office) (at : IsHeardAt x R tops A (k, d, t) M) (sent : In (record { from = from; to = k; message = m }) M.sent) (named : t.naming ≡ Some n) where
+  claims : ClaimsAsked x A (asks m)
+  claims = at.heard.posts (record { from = from; to = k; message = m }) sent
+
+  pub may_record : MayRecord x d n m A
+  may_record h y b i g asking B names entry about now unrecorded = (
+    ap (λ z. z.had (uid_number (top_of h.path)) z.inc) names ∙ subst (λ j. A.names.had (uid_number (top_of h.path)) j ≡ true) inc_is (had about),
+    λ unasked. gives.recorded tops k d t n from m h b i M A at sent named (asking ∙ ap (λ z. Some (h, ask.Record z b i g)) about ∙ ap (λ j. Some (h, ask.Record x b i j)) inc_is) (subst (λ z. IsUnrecorded z (top_of h.path) n) refl unrecorded) (ap (λ z. z.asked (uid_number (top_of h.path))) (sym names) ∙ unasked) B entry,
+  )
+    where
+      inc_is : g ≡ A.names.inc
+      inc_is = now ∙ ap (λ z. z.inc) names
+
+      had : y ≡ x → A.names.had (uid_number (top_of h.path)) g ≡ true
+      had same = (subst (ClaimsAsked x A) asking claims) same
+
+  pub for_grants : IsForGrants x d n m A
+  for_grants h grants excluded included asking new =
+      let c : ClaimsGrants x A (uid_number (top_of h.path)) grants = subst (ClaimsAsked x A) asking claims in
+      (c.1, gives.next tops k d t n from m h grants excluded included M A at sent named asking new)
+
+-- ---- a message
+
+pub heard_message : (hd : Header) (x : ℕ) (R : Seen → Type 0) → ((M : Seen) → R M → IsGood M × KnowsFew M) → KeepsHeard hd x R → (tops : Kinds) (e k : ℕ) (d : Disk) (t v : Parts) (from : ℕ) (m : Message) (outs : List Effect) (M : Seen) (A : Office) → IsHeardAt x R tops A (k, d, t) M → In (record { from = from; to = k; message = m }) M.sent → is_meant t m ≡ true → handle k d t from m ≡ Took v outs
+    → (h : HasHeard (SeesHeard x) x tops (change_by x d t m) A (record { event = e; node = k; disk = d; before = t; outs = outs; after = v }, M)) × MayGoOn x h.office v.coord × ((n : Naming) → t.naming ≡ Some n → MayRecord x d n m h.office × IsForGrants x d n m h.office)
+heard_message hd x R runs rest tops e k d t v from m outs M A at sent meant is = by (asks m) refl
+  where
+    by : (o : Option (Head × Ask)) → asks m ≡ o → (h : HasHeard (SeesHeard x) x tops (change_by x d t m) A (record { event = e; node = k; disk = d; before = t; outs = outs; after = v }, M)) × MayGoOn x h.office v.coord × ((n : Naming) → t.naming ≡ Some n → MayRecord x d n m h.office × IsForGrants x d n m h.office)
+    by (Some b) asking =
+        let s : Served_by x tops e k d t v from m outs M (runs _ at.run).0 (runs _ at.run).1 b.0 b.1 sent asking A at.both at.heard (change_by x d t m) = ask_heard x tops e k d t v from m outs M (runs _ at.run).0 (runs _ at.run).1 b.0 b.1 sent asking A at.both at.heard is in
+        let now : IsHeardAt x R tops s.office (k, d, t) M = record { unwalked = at.unwalked; knows = at.knows; run = at.run; both = s.sees; heard = s.heard } in (
+          record { office = s.office; only = s.only; both = s.sees; along = s.along },
+          like_goes_on x tops k d t M s.office at.knows s.sees v.coord s.like,
+          λ n named. (may_record x R rest.naming tops k d t n from m M s.office now sent named, for_grants x R rest.naming tops k d t n from m M s.office now sent named),
+        )
+    by None none = with_answers (answers m) refl
+      where
+        nothing : (n : Naming) (D : Office) → MayRecord x d n m D × IsForGrants x d n m D
+        nothing n D = ((λ h y b i g asking. absurd (never (ap is_some asking) (ap is_some none))), λ h grants excluded included asking. absurd (never (ap is_some asking) (ap is_some none)))
+
+        with_answers : (o : Option (Asked × Reply)) → answers m ≡ o → (h : HasHeard (SeesHeard x) x tops (change_by x d t m) A (record { event = e; node = k; disk = d; before = t; outs = outs; after = v }, M)) × MayGoOn x h.office v.coord × ((n : Naming) → t.naming ≡ Some n → MayRecord x d n m h.office × IsForGrants x d n m h.office)
+        with_answers (Some a) answering = let r = rest.answer tops e k d t v from m a.0 a.1 outs M A at sent answering meant is in (r.0, r.1, λ n named. nothing n r.0.office)
+        with_answers None also =
+            let g = other_heard x tops e k d t v from m outs M A at.both at.heard none also is in (
+              record { office = A; only = record { world = refl; names = refl; answers = λ b i. i; grows = λ z i had. had; heard = λ z i had. inl had }; both = at.both; along = subst (λ o. HoldsAlong (HoldsFrom (SeesHeard x) x tops o A) (record { event = e; node = k; disk = d; before = t; outs = outs; after = v }) M) (sym (ap (asked_change x d t m) none ∙ ap (reply_change x t.coord) also)) g.1 },
+              like_goes_on x tops k d t M A at.knows at.both v.coord g.0,
+              λ n named. nothing n A,
+            )
