@@ -13,3 +13,5 @@ pub mod RestartSteps
 pub mod StartSteps
 pub mod RestartWalks
 pub mod FirstSteps
+pub mod UnitSteps
+pub mod CoordSteps

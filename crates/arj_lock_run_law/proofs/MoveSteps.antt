@@ -44,10 +44,10 @@ nothing_on inc S T same s = record {
 -- ---- where only memory and machine are at stake
 
 -- a node that is up is seen, where its parts are
-up_on : (v : View) (S T : State) (d : Disk) (t : Parts) → ((a : Act) → 3 ≤ (S.action a).stage → T.action a ≡ S.action a) → Sees v t.server T → SeesWhole v.family.act v.code v.x t.coord T → SeesNamingIn v T t.naming → SeesUp v S d t → SeesUp v T d t
+pub up_on : (v : View) (S T : State) (d : Disk) (t : Parts) → ((a : Act) → 3 ≤ (S.action a).stage → T.action a ≡ S.action a) → Sees v t.server T → SeesWhole v.family.act v.code v.x t.coord T → SeesNamingIn v T t.naming → SeesUp v S d t → SeesUp v T d t
 up_on v S T d t ends server coord naming s = record { server = server; coord = coord; naming = naming; inc = s.inc; place = s.place; home = s.home; past = past_on S T ends v t.coord.tree s.past; records = records_on S T ends v None d.intents s.records }
 
-down_on : (v : View) (S T : State) (d : Disk) → ((a : Act) → 3 ≤ (S.action a).stage → T.action a ≡ S.action a) → T.server v.node ≡ S.server v.node → (v.node ≡ 1 → SeesNothing d.inc T) → ((s : SeesDown v S d) → HasStopped v.family.act s.tree s.last T) → SeesDown v S d → SeesDown v T d
+pub down_on : (v : View) (S T : State) (d : Disk) → ((a : Act) → 3 ≤ (S.action a).stage → T.action a ≡ S.action a) → T.server v.node ≡ S.server v.node → (v.node ≡ 1 → SeesNothing d.inc T) → ((s : SeesDown v S d) → HasStopped v.family.act s.tree s.last T) → SeesDown v S d → SeesDown v T d
 down_on v S T d ends server naming stopped s = record {
   server = subst (λ (m : state.Server). m.incarnation ≤ d.inc) (sym server) s.server;
   naming = naming;

@@ -3,3 +3,4 @@ pub mod Posts
 pub mod Sees
 pub mod Beside
 pub mod World
+pub mod Coordinating

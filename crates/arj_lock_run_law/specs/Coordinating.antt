@@ -1,0 +1,77 @@
+-- What a coordinator does in the whole world: only one unit's parts of the machine change, and all else is seen as before.
+use Rattle.std.specs.Prelude.{⊤, ◌≡◌, ◌≢◌, ◌⊎◌, ◌≤◌, ◌+◌, ◌++◌, ℕ, true, List, Some, length, map}
+use Rattle.std.specs.List.{AllByRecursion}
+use Rattle.arj_protocol.specs.Words.{Body, Uid}
+use Rattle.arj_protocol.specs.Coord.{Coord}
+use Rattle.arj_protocol.specs.Effect.{Did, Effect, Say, Send}
+use Rattle.arj_protocol.specs.Node.{with_coord}
+use Rattle.arj_protocol.specs.Tree.{Branch, branch_of}
+use Rattle.arj_lock_law.specs.Actions.{Act, In, root}
+use Rattle.arj_lock_law.specs.Machine.{Run}
+use Rattle.arj_lock_law.specs.State as state
+use Rattle.arj_lock_law.specs.State.{State}
+use Rattle.arj_part_law.specs.Claims.{GoesOn}
+use Rattle.arj_view_law.specs.Seen.{Post, Within}
+use Rattle.arj_view_law.specs.Walks.{Up, Walks}
+use Rattle.arj_lock_view_law.specs.Inputs.{SeesWhole}
+use Rattle.arj_lock_view_law.specs.Outside.{IsAway}
+use Rattle.arj_lock_run_law.specs.Beside.{Case, IsSeenIn, Spot, world_at}
+use Rattle.arj_lock_run_law.specs.Fixed.{Fixed}
+use Rattle.arj_lock_run_law.specs.Posts.{IsPostSeen}
+use Rattle.arj_lock_run_law.specs.Sees.{IsUnbegun}
+use Rattle.arj_lock_run_law.specs.World.{IsSeenSo}
+
+-- ---- one unit
+
+-- Of the machine only what coordinators have changed, and of them only what one unit has: its actions that hadn't ended, the binding that is
+-- kept for it, calls and includes of it. A binding's server and maker stay, and all of it once an incarnation was heard. A
+-- coordinator without an action of the unit is seen as before.
+pub record OnlyUnit (f : Fixed) (x unit : ℕ) (S T : State) : Type 0 where
+  pub naming : T.naming ≡ S.naming
+  pub servers : T.server ≡ S.server
+  pub actions : (a : Act) → root a ≢ unit → T.action a ≡ S.action a
+  pub ended : (a : Act) → 3 ≤ (S.action a).stage → T.action a ≡ S.action a
+  pub kept : (n : ℕ) → n ≢ unit → T.kept n ≡ S.kept n
+  pub bindings : (b : ℕ) → ((T.binding b).server ≡ (S.binding b).server) × ((T.binding b).maker ≡ (S.binding b).maker)
+  pub named : (b : ℕ) → (S.binding b).named ≡ true → T.binding b ≡ S.binding b
+  pub calls : (d : state.Call) → In d T.calls → In d S.calls ⊎ (root d.act ≡ unit)
+  pub includes : (k : state.Include) → In k T.includes → In k S.includes ⊎ (root k.act ≡ unit)
+  pub sent : (m : state.Message) → In m S.net → In m T.net
+  pub coords : (c : Coord) → IsAway f.act unit c → SeesWhole f.act f.code x c S → SeesWhole f.act f.code x c T
+
+-- ---- a coordinator's step
+
+-- The machine has gone along with what a coordinator did for the unit of this action, where it says this many lines: the coordinator is
+-- seen whole again, nothing else changed, nor any action that wasn't begun.
+pub record HasStepped (c : Case) (s : Spot) (u : Uid) (says : ℕ) (C : Coord) (T : State) : Type 0 where
+  pub run : Run c.state T
+  pub coord : SeesWhole (let f = c.fixed in f.act) (let f = c.fixed in f.code) c.x C T
+  pub only : OnlyUnit c.fixed c.x (root (let f = c.fixed in f.act u)) c.state T
+  pub changed : (w : Uid) → IsUnbegun c.begun w → T.action (let f = c.fixed in f.act w) ≡ (let S = c.state in S.action (let f = c.fixed in f.act w))
+  pub now : T.now ≤ length (let M = s.seen in M.lines) + says + 1
+
+-- what is sent is shown in the machine's state, whatever else was sent
+abbrev pub IsSendShown : Case → Spot → State → Effect → Type 0
+IsSendShown c s T (Send to m) = (wide : List Post) → Within (let M = s.seen in M.sent) wide → IsPostSeen c.fixed c.x c.begun wide T (record { from = s.node; to = to; message = m })
+IsSendShown c s T _ = ⊤
+
+abbrev pub AreSendsShown : Case → Spot → State → List Effect → Type 0
+AreSendsShown c s T outs = AllByRecursion (IsSendShown c s T) outs
+
+-- only messages are sent
+abbrev pub IsSend : Effect → Type 0
+IsSend (Send to m) = ⊤
+IsSend e = ⊥
+
+abbrev pub AreSends : List Effect → Type 0
+AreSends outs = AllByRecursion IsSend outs
+
+-- the object is seen through all of a coordinator's step, and behind it
+abbrev pub StepGoes : Case → Spot → ℕ → Did Coord → Type 0
+StepGoes c s e d = Walks (IsSeenSo c) e s.node d.outs (Up (IsSeenSo c) s.node (with_coord s.parts d.part)) s.disk s.seen
+
+-- A coordinator says lines and sends: where the machine has gone along, and what is sent is shown, the object is seen in the whole world.
+abbrev pub CoordsGo : Type 0
+CoordsGo = (c : Case) (s : Spot) (e : ℕ) (u : Uid) (b : Branch) (bs : List Body) (sends : List Effect) (C : Coord) (T : State)
+    → IsSeenIn c (world_at s) → branch_of u (let t = s.parts in let d = t.coord in d.tree) ≡ Some b → GoesOn (let t = s.parts in t.coord) C → AreSends sends → HasStepped c s u (length bs) C T → AreSendsShown c s T sends
+    → StepGoes c s e (record { part = C; outs = map Say bs ++ sends })
