@@ -37,7 +37,7 @@ place_both (x ∷ xs) (y ∷ ys) (suc zero) a long is = (y, refl)
 place_both (x ∷ xs) (y ∷ ys) (suc (suc k)) a long is = place_both xs ys (suc k) a (omega (arith, long)) is
 
 -- an action that is there now was there before
-branch_back : (c e : Coord) → GoesOn c e → (u : Uid) (b : Branch) → branch_of u e.tree ≡ Some b → (a : Branch) × (branch_of u c.tree ≡ Some a)
+pub branch_back : (c e : Coord) → GoesOn c e → (u : Uid) (b : Branch) → branch_of u e.tree ≡ Some b → (a : Branch) × (branch_of u c.tree ≡ Some a)
 branch_back c e on u b found =
     let f = found_by u e.tree b found in
     let p = place_both e.tree.branches c.tree.branches u.num b on.branches f.1 in

@@ -15,3 +15,4 @@ pub mod RestartWalks
 pub mod FirstSteps
 pub mod UnitSteps
 pub mod CoordSteps
+pub mod StepSteps
