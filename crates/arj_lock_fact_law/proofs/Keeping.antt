@@ -57,13 +57,13 @@ module _ (act : Acts) (code : Codes) (paths : Paths) (x : ℕ) (sent : List Post
   abbrev rt : Uid
   rt = root_of b.path
 
-  its : actor b.path ≡ u
+  pub its : actor b.path ≡ u
   its = let good = steady.good in let t = good.tree in t.lists.places u b free.there
 
-  found : branch_of (actor b.path) c.tree ≡ Some b
+  pub found : branch_of (actor b.path) c.tree ≡ Some b
   found = ap (λ v. branch_of v c.tree) its ∙ free.there
 
-  root_home : root (act u) ≡ root (act (root_of b.path))
+  pub root_home : root (act u) ≡ root (act (root_of b.path))
   root_home = let r = root_there act paths x c S.action steady coord.actions u b free.there in on_root (act u) (act (root_of b.path)) (steady.alike.above u (root_of b.path) ∙ r.2)
 
   root_seen : SeesRoot act x (root_of b.path) (root_at (root_of b.path) c) c.tree S
@@ -108,7 +108,7 @@ module _ (act : Acts) (code : Codes) (paths : Paths) (x : ℕ) (sent : List Post
                   (retained steady.actions paths steady.whole sent node c steady.good knows b found free.unended s z f.0 on_s (f.1, f.2, f.3))
                   (or_cases (survives (actor b.path) s.path c) (is_retained s.path c) count)
 
-  kept_seen : (k : Known) → kept_of x (root_at (root_of b.path) c) ≡ Some k → SeesKept (root (act (root_of b.path))) k S
+  pub kept_seen : (k : Known) → kept_of x (root_at (root_of b.path) c) ≡ Some k → SeesKept (root (act (root_of b.path))) k S
   kept_seen k is = subst (λ o. SeesKeeping (root (act (root_of b.path))) o (keeping_of x (root_at (root_of b.path) c)).avoid S) is root_seen.keeping
 
   -- an incarnation was heard of the binding, where a call counts

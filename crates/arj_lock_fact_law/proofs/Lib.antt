@@ -8,3 +8,9 @@ pub mod Works
 pub mod Given
 pub mod Wants
 pub mod Keeping
+pub mod GrantNaming
+pub mod GrantAnswers
+pub mod GrantCoords
+pub mod GrantSteps
+pub mod Grants
+pub mod LowGrants

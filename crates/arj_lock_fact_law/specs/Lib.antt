@@ -1,4 +1,5 @@
 pub mod Works
 pub mod Worlds
 pub mod Given
+pub mod Grants
 pub mod Keeping

@@ -1,5 +1,6 @@
 // Coordinators, in every run.
 ghost use Rattle.arj_lock_fact_law.specs.Given.{ActionsAreTopped, BroughtAreUnserial, CommitsAreFirst, FreeAreLone, ListedAreUnserial, NewRootsAreEmpty, RequestsWant, WaitersAreLone};
+ghost use Rattle.arj_lock_fact_law.specs.Grants.{HandlersKeepGrants, PlansGrantLow, RunsKeepGrants};
 ghost use Rattle.arj_lock_fact_law.specs.Keeping.{PlansHaveKept};
 ghost use Rattle.arj_lock_fact_law.specs.Worlds.{HandlersKeepWorks, RunsKeepWorks};
 
@@ -36,4 +37,18 @@ pub fn requests_want_one_thing()
 /// of the machine: the binding that a plan names is the one its unit keeps (`arj_lock_law`). It does nothing when it runs.
 pub fn plans_have_what_is_kept()
     ensures { PlansHaveKept }
+{}
+
+/// In every run no binding that naming has is below its incarnation, and so says each answer to a Bind; and where a root keeps a binding of
+/// an object, the top of each call on it past its Bind, and of each one that was answered and isn't spent, was granted the object by an
+/// incarnation that isn't above that binding, or the root retains such a call. Each handler keeps it. It does nothing when it runs.
+pub fn grants_stay_in_order()
+    ensures handlers { HandlersKeepGrants }
+    ensures runs { RunsKeepGrants }
+{}
+
+/// As a top's commit is called, the grant that its plan says of an object isn't above the binding that its unit keeps, where a call of the
+/// unit counts: so it is where grants are in order. It does nothing when it runs.
+pub fn plans_grant_low()
+    ensures { PlansGrantLow }
 {}

@@ -3,8 +3,8 @@
 //! `arj_lock_view_law` has laws of whole servers, coordinators and naming, with premises about the protocol's state. What of these isn't
 //! among what good nodes keep (`arj_run_law`) is shown here as relations that each handler keeps, beside good nodes and known Binds
 //! (`arj_address_law`): of coordinators, of naming and of its answers (`specs/Worlds.antt`). It gives upward
-//! `coordinators_stay_in_order`, what follows of it in the machine's words (`premises_of_coordinators`,
-//! `plans_have_what_is_kept`), and `requests_want_one_thing`.
+//! `coordinators_stay_in_order` and `grants_stay_in_order`, what follows of them in the machine's words
+//! (`premises_of_coordinators`, `plans_have_what_is_kept`, `plans_grant_low`), and `requests_want_one_thing`.
 #![tactic(auto)]
 
 mod coords;

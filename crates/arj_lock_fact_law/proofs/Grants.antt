@@ -1,0 +1,11 @@
+-- What roots were granted, against what they keep, at all coordinators in every run.
+use Rattle.arj_lock_fact_law.specs.Grants.{HandlersKeepGrants, KnowsGrants, KnowsMade, RunsKeepGrants, says_grants}
+use Rattle.arj_lock_fact_law.proofs.GrantNaming.{given_so}
+use Rattle.arj_lock_fact_law.proofs.GrantSteps.{grants_kept}
+use Rattle.arj_lock_fact_law.proofs.Kept.{keeps_so, runs_so}
+
+pub grants_keep : HandlersKeepGrants
+grants_keep hd = keeps_so says_grants KnowsGrants KnowsMade grants_kept (given_so says_grants (λ r its. its)) hd
+
+pub grants_run : RunsKeepGrants
+grants_run hd es = runs_so says_grants KnowsGrants KnowsMade grants_kept (given_so says_grants (λ r its. its)) hd es
