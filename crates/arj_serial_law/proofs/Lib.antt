@@ -11,3 +11,4 @@ pub mod Locks
 pub mod States
 pub mod Entries
 pub mod Cleaning
+pub mod Votes

@@ -130,7 +130,7 @@ write_mode mode.Write e = refl
 
 -- ---- roots
 
-number_uid : (a : Act) (xs : List Act) → ((x : Act) → In x xs → x.id ≡ a.id → x ≡ a) → In a xs → uid_of_id xs a.id ≡ a.uid
+pub number_uid : (a : Act) (xs : List Act) → ((x : Act) → In x xs → x.id ≡ a.id → x ≡ a) → In a xs → uid_of_id xs a.id ≡ a.uid
 number_uid a [] apart i = absurd i
 number_uid a (x ∷ xs) apart i = by (x.id == a.id) refl i (λ j. number_uid a xs (λ y k. apart y (inr k)) j)
   where

@@ -248,37 +248,72 @@ module _ (values : Values) (lines : List Line) (right : AreRight new_book lines)
       by a false e (Some z) k is m = other a
       by a true e (Some z) k is m = absurd (not_it (is.write ∙ e) (kept_survives values lines right x S tied s c m z k))
 
-  -- a call that is kept has the answer of the value that the kept writes before it left
-  answered_at : (ss : List (Placed Said)) (cs : List state.Call) → AreCallsOf tied.act tied.code ss cs → AreFrom ss cs → Fall ss → SawTheLast S cs
-      → (s : Placed Said) (k : Call) → In s ss → kept (committed lines) (recovered lines) s ≡ Some k → answer_text (answer_of s.it.op (finally s.at ss)) ≡ s.it.answer
-  answered_at [] cs are there falls saw s k i e = absurd i
-  answered_at (t ∷ ss) [] are there falls saw s k i e = absurd are
-  answered_at (t ∷ ss) (c ∷ cs) are there falls saw s k (inl same) e =
-      let is : IsCallOf tied.act tied.code t c = are.0 in
-      let m : IsMade values lines right x S tied t c = made values lines right x S tied t c there.0.0 there.1.0 is in
-      let survives : Survives S c.act = kept_survives values lines right x S tied t c m k (ap (kept (committed lines) (recovered lines)) same ∙ e) in
-      let last = last_value t.at ss cs are.1 (there.0.1, there.1.1) falls.0 saw.1 c.sees (saw.0 survives) in
+  -- an answered call and one of the machine, at one place of both lists
+  abbrev pub ArePaired : Placed Said → state.Call → List (Placed Said) → List state.Call → Type 0
+  ArePaired s c (t ∷ ss) (d ∷ cs) = ((t ≡ s) × (d ≡ c)) ⊎ ArePaired s c ss cs
+  ArePaired s c ss cs = ⊥
+
+  -- what a surviving call met: the value that the kept writes before it left
+  pub record IsMet (s : Placed Said) (c : state.Call) (ss : List (Placed Said)) : Type 0 where
+    pub is : IsCallOf tied.act tied.code s c
+    pub met : finally s.at ss ≡ is.value
+
+  met_at : (ss : List (Placed Said)) (cs : List state.Call) → AreCallsOf tied.act tied.code ss cs → AreFrom ss cs → Fall ss → SawTheLast S cs
+      → (s : Placed Said) (c : state.Call) → ArePaired s c ss cs → Survives S c.act → IsMet s c ss
+  met_at [] cs are there falls saw s c i survives = absurd i
+  met_at (t ∷ ss) [] are there falls saw s c i survives = absurd i
+  met_at (t ∷ ss) (d ∷ cs) are there falls saw s c (inl (same, one)) survives =
+      let is : IsCallOf tied.act tied.code t d = are.0 in
+      let last = last_value t.at ss cs are.1 (there.0.1, there.1.1) falls.0 saw.1 d.sees (saw.0 (subst (λ (e : state.Call). Survives S e.act) (sym one) survives)) in
       let met : finally t.at ss ≡ is.value = (tied.codes (finally t.at ss) is.value last.0 is.by (last.1 ∙ is.sees)).0 in
       let here : finally t.at (t ∷ ss) ≡ is.value = ap (λ b. cond (b && (writes t.it.op && is_some (kept (committed lines) (recovered lines) t))) (value_after t.it.op (finally t.at ss)) (finally t.at ss)) (not_below_itself t.at) ∙ met in
-      subst (λ (z : Placed Said). answer_text (answer_of z.it.op (finally z.at (t ∷ ss))) ≡ z.it.answer) same (ap (λ v. answer_text (answer_of t.it.op v)) here ∙ is.answer)
-  answered_at (t ∷ ss) (c ∷ cs) are there falls saw s k (inr i) e =
-      let later : s.at < t.at = at (λ (z : Placed Said). z.at < t.at) ss falls.0 s i in
-      let skip : finally s.at (t ∷ ss) ≡ finally s.at ss = ap (λ b. cond (b && (writes t.it.op && is_some (kept (committed lines) (recovered lines) t))) (value_after t.it.op (finally s.at ss)) (finally s.at ss)) (not_below_back s.at t.at later) in
-      ap (λ v. answer_text (answer_of s.it.op v)) skip ∙ answered_at ss cs are.1 (there.0.1, there.1.1) falls.1 saw.1 s k i e
+      subst (λ (e : state.Call). IsMet s e (t ∷ ss)) one (subst (λ (z : Placed Said). IsMet z d (t ∷ ss)) same (record { is = is; met = here }))
+  met_at (t ∷ ss) (d ∷ cs) are there falls saw s c (inr i) survives =
+      let later : s.at < t.at = at (λ (z : Placed Said). z.at < t.at) ss falls.0 s (first_of ss cs i) in
+      let r = met_at ss cs are.1 (there.0.1, there.1.1) falls.1 saw.1 s c i survives in
+      record { is = r.is; met = ap (λ b. cond (b && (writes t.it.op && is_some (kept (committed lines) (recovered lines) t))) (value_after t.it.op (finally s.at ss)) (finally s.at ss)) (not_below_back s.at t.at later) ∙ r.met }
     where
       at : (P : Placed Said → Type 0) (zs : List (Placed Said)) → AllByRecursion P zs → (z : Placed Said) → In z zs → P z
       at P [] all z j = absurd j
       at P (y ∷ ys) all z (inl is) = subst P is all.0
       at P (y ∷ ys) all z (inr j) = at P ys all.1 z j
 
-  pub answered_call : (s : Placed Said) (k : Call) → In s (said lines) → s.it.x ≡ x → kept (committed lines) (recovered lines) s ≡ Some k → answer_text (answer_of s.it.op (finally s.at (said_on x lines))) ≡ s.it.answer
-  answered_call s k i is e =
+      first_of : (zs : List (Placed Said)) (ds : List state.Call) → ArePaired s c zs ds → In s zs
+      first_of [] ds j = absurd j
+      first_of (z ∷ zs) [] j = absurd j
+      first_of (z ∷ zs) (e ∷ ds) (inl j) = inl j.0
+      first_of (z ∷ zs) (e ∷ ds) (inr j) = inr (first_of zs ds j)
+
+  -- each answered call has its own
+  pub find_pair : (ss : List (Placed Said)) (cs : List state.Call) → AreCallsOf tied.act tied.code ss cs → (s : Placed Said) → In s ss → (c : state.Call) × ArePaired s c ss cs
+  find_pair [] cs are s i = absurd i
+  find_pair (t ∷ ss) [] are s i = absurd are
+  find_pair (t ∷ ss) (c ∷ cs) are s (inl same) = (c, inl (same, refl))
+  find_pair (t ∷ ss) (c ∷ cs) are s (inr i) = let r = find_pair ss cs are.1 s i in (r.0, inr r.1)
+
+  pub paired_in : (ss : List (Placed Said)) (cs : List state.Call) → AreCallsOf tied.act tied.code ss cs → (s : Placed Said) (c : state.Call) → ArePaired s c ss cs → In s ss × machine.In c cs × IsCallOf tied.act tied.code s c
+  paired_in [] cs are s c i = absurd i
+  paired_in (t ∷ ss) [] are s c i = absurd i
+  paired_in (t ∷ ss) (d ∷ cs) are s c (inl (same, one)) = (inl same, inl (sym one), subst (λ (e : state.Call). IsCallOf tied.act tied.code s e) one (subst (λ (z : Placed Said). IsCallOf tied.act tied.code z d) same are.0))
+  paired_in (t ∷ ss) (d ∷ cs) are s c (inr i) = let r = paired_in ss cs are.1 s c i in (inr r.0, inr r.1, r.2)
+
+  pub met_call : (s : Placed Said) (c : state.Call) → ArePaired s c (said_on x lines) S.calls → Survives S c.act → IsMet s c (said_on x lines)
+  met_call s c i survives =
       let w = run_values tied.run (start_holds (tied.code (values x) (tied.act nobody))) (start_values (tied.code (values x) (tied.act nobody))) in
-      answered_at (said_on x lines) S.calls tied.calls (all_from (λ (z : Placed Said). In z (said lines)) (said_on x lines) (λ z j. (on_object x lines z j).0), each S.calls (λ c j. j)) (said_falls x lines) (saw_the_last w.0 w.1) s k (to_object x lines s i is) e
+      met_at (said_on x lines) S.calls tied.calls (all_from (λ (z : Placed Said). In z (said lines)) (said_on x lines) (λ z j. (on_object x lines z j).0), each S.calls (λ c j. j)) (said_falls x lines) (saw_the_last w.0 w.1) s c i survives
     where
       each : (cs : List state.Call) → ((c : state.Call) → machine.In c cs → machine.In c S.calls) → AllByRecursion (λ (c : state.Call). machine.In c S.calls) cs
       each [] f = tt
       each (c ∷ cs) f = (f c (inl refl), each cs (λ d j. f d (inr j)))
+
+  pub answered_call : (s : Placed Said) (k : Call) → In s (said lines) → s.it.x ≡ x → kept (committed lines) (recovered lines) s ≡ Some k → answer_text (answer_of s.it.op (finally s.at (said_on x lines))) ≡ s.it.answer
+  answered_call s k i is e =
+      let p = find_pair (said_on x lines) S.calls tied.calls s (to_object x lines s i is) in
+      let q = paired_in (said_on x lines) S.calls tied.calls s p.0 p.1 in
+      let m = made values lines right x S tied s p.0 i q.1 q.2 in
+      let r = met_call s p.0 p.1 (kept_survives values lines right x S tied s p.0 m k e) in
+      let c = r.is in
+      ap (λ v. answer_text (answer_of s.it.op v)) r.met ∙ c.answer
 
 pub any_said : (x : ℕ) (s : Placed Said) (ss : List (Placed Said)) → In s ss → s.it.x ≡ x → list_any (λ (z : Placed Said). z.it.x == x) ss ≡ true
 any_said x s [] i is = absurd i

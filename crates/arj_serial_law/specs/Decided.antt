@@ -1,6 +1,7 @@
 -- The decided tops of an object's disk machine, as a journal has them.
 use Rattle.std.specs.Prelude.{⊤, ◌≡◌, ◌<◌, ◌≤◌, ℕ, ◌==◌, ◌&&◌, not, List, [], ◌∷◌, filter, reverse, Bool, true, false, Option, Some, None, Contains}
 use Rattle.std.specs.List.{AllByRecursion}
+use Rattle.arj_base.specs.declared.uid.Uid.{Uid}
 use Rattle.arj_class.specs.declared.value.Value.{Value}
 use Rattle.arj_class.specs.Forms.{payload_of}
 use Rattle.arj_class.specs.Table.{value_after}
@@ -12,9 +13,13 @@ use Rattle.arj_model.specs.Last.{first_values, increasing, is_among, joins_of, l
 use Rattle.arj_model.specs.Serial.{Values, run, top_place, writes_on}
 use Rattle.arj_law.specs.Book.{OfEachTwo, is_conflict, writes_before}
 use Rattle.arj_law.specs.Growth.{AreDecidedInOrder}
+use Rattle.arj_lock_law.specs.Actions.{Act, In, top}
+use Rattle.arj_lock_law.specs.State as machine
+use Rattle.arj_lock_law.specs.State.{Alive, State}
 use Rattle.arj_protocol.specs.Order.{uid_number}
 use Rattle.arj_disk_law.specs.Order.{counts_of}
 use Rattle.arj_disk_law.specs.State.{Done, Packed, target}
+use Rattle.arj_serial_law.specs.Tied.{IsTied}
 
 -- of two conflicting calls of different tops, the commit of the first one's was called before the second was answered
 abbrev pub IsCalledFirst : List Line → Call → Call → Type 0
@@ -70,3 +75,12 @@ pub record AreDecided (header : Header) (lines : List Line) (x : ℕ) (ds : List
   pub counted : AllByRecursion (λ (t : Top). counts t ≡ true) those
   pub order : AreDecidedInOrder header lines x counts (reverse those)
   pub all : (e : Call) → Contains (committed_calls lines) e → writes_on x e ≡ true → (t : Top) × Contains those t × (e.top ≡ t.id)
+
+-- ---- what servers voted
+
+-- What a decided top gave to the stores, by the lock machine: nothing, where no write of it that wasn't undone stands; else the value that
+-- its vote gave.
+abbrev pub VotedSo : (values : Values) (lines : List Line) (x : ℕ) (S : State) → IsTied values lines x S → Uid → Option Packed → Type 0
+VotedSo values lines x S t u None = (c : machine.Call) → In c S.calls → c.write ≡ true → top c.act ≡ t.act u → Alive S c.act → ⊥
+VotedSo values lines x S t u (Some w) = (v : Value) × (a : Act) × ((let b = S.vote (t.act u) in b.value) ≡ t.code v a) × (w.content ≡ payload_of v) × (w.writer ≡ uid_number u)
+    × (c : machine.Call) × In c S.calls × (c.write ≡ true) × (top c.act ≡ t.act u) × Alive S c.act

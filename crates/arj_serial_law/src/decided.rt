@@ -1,18 +1,29 @@
 // The last state and entry of an object, by its disk machine and by the journal.
-ghost use Rattle.std.specs.Prelude.{◌≡◌, ℕ, List};
+ghost use Rattle.std.specs.Prelude.{◌≡◌, ℕ, List, Option, Contains};
 ghost use Rattle.arj_disk_law.specs.Effects.{Whole, World};
-ghost use Rattle.arj_disk_law.specs.State.{last, last_entry};
+ghost use Rattle.arj_disk_law.specs.State.{Packed, last, last_entry};
 ghost use Rattle.arj_disk_view_law.specs.Pairs.{packed, packed_entry};
 ghost use Rattle.arj_disk_view_law.specs.Sees.{Kinds, SeesDisks};
 ghost use Rattle.arj_journal.specs.declared.body.Line.{Line};
 ghost use Rattle.arj_journal.specs.declared.header.Header.{Header};
 ghost use Rattle.arj_line_law.specs.Book.{new_book};
 ghost use Rattle.arj_line_law.specs.Right.{AreRight};
-ghost use Rattle.arj_model.specs.Last.{entry_state, first_values, last_state, listed};
+ghost use Rattle.arj_lock_law.specs.State.{State};
+ghost use Rattle.arj_model.specs.Actions.{acts};
+ghost use Rattle.arj_model.specs.Calls.{Top, tops};
+ghost use Rattle.arj_model.specs.Last.{entry_state, first_values, last_state, listed, uid_of_id};
+ghost use Rattle.arj_model.specs.Serial.{Values};
 ghost use Rattle.arj_serial_law.specs.Cleaned.{BeginsSo, IsCleanIn, HaveForm};
-ghost use Rattle.arj_serial_law.specs.Decided.{AreDecided};
-ghost use Rattle.arj_serial_law.specs.Tied.{AreTied};
+ghost use Rattle.arj_serial_law.specs.Decided.{AreDecided, VotedSo, WroteSo};
+ghost use Rattle.arj_serial_law.specs.Tied.{AreTied, IsTied};
 ghost use Rattle.arj_view_law.specs.Seen.{Seen};
+
+/// What the lock machine's vote for a committed top gave is what that top wrote, by the journal: the value that its last
+/// surviving write left, or nothing. It does nothing when it runs.
+pub fn votes_give_what_was_written()
+    ensures { (values : Values) (lines : List Line) (x : ℕ) (S : State) (t : IsTied values lines x S) (u : Top) (given : Option Packed) → AreRight new_book lines
+        → Contains (tops lines) u → VotedSo values lines x S t (uid_of_id (acts lines) u.id) given → WroteSo values lines x u given }
+{}
 
 /// Where the decided tops of an object's disk machine that count are those of the journal, and each gave the stores what its
 /// surviving writes left, the machine's last state is the journal's: its value, its version and its writer. It does nothing
