@@ -4,7 +4,7 @@ use Rattle.arj_base.proofs.Uids.{uid_cases}
 use Rattle.arj_lock.proofs.Members as list
 use Rattle.arj_lock.proofs.Members.{in_from, in_to}
 use Rattle.arj_lock.proofs.OneEach.{none_in}
-use Rattle.arj_protocol.specs.Words.{Binding, End, Head, Row, Uid, VotedReply, What, is_on, last_uid}
+use Rattle.arj_protocol.specs.Words.{Binding, End, Head, ObjectState, Row, Uid, VotedReply, What, is_on, last_uid}
 use Rattle.arj_protocol.specs.Words.ask
 use Rattle.arj_protocol.specs.Words.voted
 use Rattle.arj_protocol.specs.Words.what
@@ -14,9 +14,10 @@ use Rattle.arj_protocol.specs.Effect.{Served, either, void}
 use Rattle.arj_protocol.specs.Order.{at_number, at_uid, binding_eq, binding_number, with_uid}
 use Rattle.arj_protocol.specs.Server.{Server, apply_ends, changed_copy, changed_states, first_unbound, has_ended, other_inc, vote, vote_now}
 use Rattle.arj_lock_law.specs.Actions.{Act, In}
-use Rattle.arj_lock_law.specs.Machine.{stay}
+use Rattle.arj_lock_law.specs.Machine.{Run, stay}
 use Rattle.arj_lock_law.specs.State as machine
 use Rattle.arj_lock_law.specs.State.{Ballot, State}
+use Rattle.arj_lock_law.proofs.Order.{go_on}
 use Rattle.arj_lock_law.proofs.Paths.{act_other, differ}
 use Rattle.arj_part_law.specs.Actions.{act_of}
 use Rattle.arj_part_law.specs.Copies.{IsLowest}
@@ -25,15 +26,17 @@ use Rattle.arj_part_law.proofs.InTurn.{all_told}
 use Rattle.arj_part_law.proofs.Keys.{with_on}
 use Rattle.arj_part_law.proofs.ServerRuns.{told_follows}
 use Rattle.arj_lock_view_law.specs.Acts.{Acts}
-use Rattle.arj_lock_view_law.specs.Commits.{HasVoted, IsCommitting, OnlyVote, ballot_for}
+use Rattle.arj_lock_view_law.specs.Calling.{IsReached}
+use Rattle.arj_lock_view_law.specs.Commits.{HasVoted, IsCommitting, IsVoteOf, OnlyVote, ballot_for}
 use Rattle.arj_lock_view_law.specs.Copies.{OnlyEnds, SeesCopy}
 use Rattle.arj_lock_view_law.specs.Going.{Goes, IsServedBy}
 use Rattle.arj_lock_view_law.specs.Servers.{SeesObject, last_of}
-use Rattle.arj_lock_view_law.specs.Serving.{HasVotedHere, IsShown, VotesAreTaken, is_yes}
+use Rattle.arj_lock_view_law.specs.Serving.{HasVotedHere, IsShown, IsVotedSo, ListsEach, VotesAreTaken}
 use Rattle.arj_lock_view_law.specs.Telling.{AreBrought, IsOfFamily, Sees, View}
 use Rattle.arj_lock_view_law.proofs.BindSteps.{other_act}
 use Rattle.arj_lock_view_law.proofs.LeftSteps.{ends_sent, shows_later}
-use Rattle.arj_lock_view_law.proofs.RunSteps.{goes_then, goes_to}
+use Rattle.arj_lock_view_law.proofs.RunSteps.{goes_along, goes_to}
+use Rattle.arj_lock_view_law.proofs.StateSteps.{ends_list, voted_state}
 use Rattle.arj_lock_view_law.proofs.ToldSteps.{brought_go, copy_told, family_told, told_of, turn_of}
 use Rattle.arj_lock_view_law.proofs.VoteSteps.{votes_are_seen}
 
@@ -106,7 +109,13 @@ tie_of x (t ∷ ts) = by (t.0 == x) refl (tie_of x ts)
         off b (inl same) = unlike t.0 x is (ap (λ (z : ℕ × Binding). z.0) same)
         off b (inr j) = none b j
 
-module _ (v : View) (h : Head) (i : ℕ) (ties : List (ℕ × Binding)) (ends : List (Uid × End)) (s : Server) (S : State) (shown : IsShown v h (ask.Vote i ties ends) s S) (sees : Sees v s S) where
+-- the server has voted
+abbrev is_yes : Option VotedReply → Bool
+is_yes (Some (voted.Yes states)) = true
+is_yes (Some (voted.Changed w)) = false
+is_yes None = false
+
+module _ (v : View) (h : Head) (i : ℕ) (ties : List (ℕ × Binding)) (ends : List (Uid × End)) (s : Server) (S : State) (reached : IsReached S) (lists : ListsEach s) (shown : IsShown v h (ask.Vote i ties ends) s S) (sees : Sees v s S) where
   abbrev act : Acts
   act = v.family.act
 
@@ -120,7 +129,7 @@ module _ (v : View) (h : Head) (i : ℕ) (ties : List (ℕ × Binding)) (ends : 
   t = let d = apply_ends n ends s in d.part
 
   abbrev Votes : Served Server VotedReply → Type 0
-  Votes r = Goes S (λ T. Sees v r.part T × OnlyVote n (act u) S T × ((b : Binding) → Contains {X = ℕ × Binding} ties (v.x, b) → is_yes r.reply ≡ true → HasVotedHere v u b r.part S T))
+  Votes r = Goes S (λ T. Sees v r.part T × OnlyVote n (act u) S T × ((b : Binding) (states : List ObjectState) → Contains {X = ℕ × Binding} ties (v.x, b) → r.reply ≡ Some (voted.Yes states) → HasVotedHere v u b r.part S T × IsVotedSo v u b states T))
 
   brought : AreBrought v ends s S
   brought = record { whole = shown.whole; server = shown.server; ordered = shown.fits.2; shown = shown.shown }
@@ -169,10 +178,10 @@ module _ (v : View) (h : Head) (i : ℕ) (ties : List (ℕ × Binding)) (ends : 
     yes_part = record { part = bound_server; outs = (let d = apply_ends n ends s in d.outs); reply = Some (voted.Yes (changed_states u t)) }
 
     abbrev Yes : State → State → Type 0
-    Yes T V = Sees v bound_server V × OnlyVote n (act u) T V × ((b : Binding) → Contains {X = ℕ × Binding} ties (v.x, b) → HasVotedHere v u b bound_server S V)
+    Yes T V = Sees v bound_server V × OnlyVote n (act u) T V × ((b : Binding) → Contains {X = ℕ × Binding} ties (v.x, b) → HasVotedHere v u b bound_server S V × IsVotedSo v u b (changed_states u t) V)
 
     -- the object is tied to a binding, which its copy has
-    module _ (b : Binding) (j : list.In {X = ℕ × Binding} (v.x, b) ties) (T : State) (k : Sees v t T) (only : OnlyEnds n S T) where
+    module _ (b : Binding) (j : list.In {X = ℕ × Binding} (v.x, b) ties) (T : State) (run : Run S T) (k : Sees v t T) (only : OnlyEnds n S T) where
       f : (c : Copy) × (at_number v.x s.objects ≡ Some c) × (binding_number b ≡ binding_number c.binding)
       f = tied_copy ties s v.x b untied j
 
@@ -197,30 +206,30 @@ module _ (v : View) (h : Head) (i : ℕ) (ties : List (ℕ × Binding)) (ends : 
       has_copy = subst (λ (z : Option Copy). SeesObject act v.code v.x t.inc z (T.server n) T) there k.object
 
       tied_votes : Goes T (λ V. Yes T V)
-      tied_votes = goes_to (votes_are_seen act v.code v.family.paths n v.x i u c T (committing c there)
+      tied_votes = goes_to (votes_are_seen act v.code v.family.paths n v.x i u c T (reached.0, go_on reached.1 run) (committing c there)
           (subst (λ (z : ℕ). In (machine.Vote (act u) z i) T.net) (number_of b j) (ends_sent only (machine.Vote (act u) (binding_number b) i) asked.1))
           (ap (λ (z : ℕ). (let w = T.binding z in w.server)) (sym (number_of b j)) ∙ ap (λ (z : State). (let w = z.binding (binding_number b) in w.server)) only.rest ∙ asked.0)
           (k.incarnation ∙ inc_after ∙ sym inc_is) has_copy.0) (λ V g. (let keeps = g.2 in (
             voted_too T V k (subst (λ (z : Option Copy). SeesObject act v.code v.x t.inc z (V.server n) V) (sym there) (g.0, sent_later T V g.1 (machine.Activated (binding_number c.binding) t.inc) has_copy.1)) g.1 keeps.incarnation keeps.request
                 (λ w other. ap (λ (z : Act → Bool). z (act w)) keeps.voted ∙ act_other (let m = T.server n in m.voted) (act u) true (act w) (other_act act (let l = shown.whole in let e = l.alike in e.one) w u other)),
             g.1,
-            (λ d l. (let is = number_of d (in_from {X = ℕ × Binding} (v.x, d) ties l) in record { copy = c; there = there; bound = is; voted = subst (λ (z : ℕ). HasVoted n (act u) z (ballot_for act v.code u c) S V) (sym is) (voted_after n (act u) (binding_number c.binding) (ballot_for act v.code u c) S T V only g.3) })),
+            (λ d l. (let is = number_of d (in_from {X = ℕ × Binding} (v.x, d) ties l) in (record { copy = c; there = there; bound = is; voted = subst (λ (z : ℕ). HasVoted n (act u) z (ballot_for act v.code u c) S V) (sym is) (voted_after n (act u) (binding_number c.binding) (ballot_for act v.code u c) S T V only g.3) }, record { copy = c; vote = subst (λ (z : ℕ). IsVoteOf (act u) z (ballot_for act v.code u c) V) (sym is) g.4; state = voted_state u t v.x c (ends_list n ends s lists) there }))),
           )))
 
     votes_yes : Votes yes_part
-    votes_yes = goes_then (brought_go v ends s S brought sees) (λ T g. ⊎_elim
-        (λ (some : (b : Binding) × list.In {X = ℕ × Binding} (v.x, b) ties). goes_to (tied_votes some.0 some.1 T g.0 g.1) (λ V y. (y.0, vote_after g.1 y.1, λ b l yes. y.2 b l)))
+    votes_yes = goes_along (brought_go v ends s S brought sees) (λ T run g. ⊎_elim
+        (λ (some : (b : Binding) × list.In {X = ℕ × Binding} (v.x, b) ties). goes_to (tied_votes some.0 some.1 T run g.0 g.1) (λ V y. (y.0, vote_after g.1 y.1, λ b states l is. (let given : voted.Yes (changed_states u t) ≡ voted.Yes states = cc is in let same : changed_states u t ≡ states = cc given in let h = y.2 b l in (h.0, subst (λ z. IsVotedSo v u b z V) same h.1)))))
         (λ (none : (b : Binding) → list.In {X = ℕ × Binding} (v.x, b) ties → ⊥). record {
           state = T;
           run = stay;
-          holds = (voted_too T T g.0 (let k = g.0 in k.object) (only_no_vote n (act u) T) refl refl (λ w other. refl), ends_and_no_vote n (act u) S T g.1, λ b l yes. absurd (none b (in_from {X = ℕ × Binding} (v.x, b) ties l)));
+          holds = (voted_too T T g.0 (let k = g.0 in k.object) (only_no_vote n (act u) T) refl refl (λ w other. refl), ends_and_no_vote n (act u) S T g.1, λ b states l is. absurd (none b (in_from {X = ℕ × Binding} (v.x, b) ties l)));
         })
         (tie_of v.x ties))
 
   -- ---- any vote
 
   as_it_was : (r : Served Server VotedReply) → r.part ≡ s → is_yes r.reply ≡ false → Votes r
-  as_it_was r same none = record { state = S; run = stay; holds = (subst (λ (z : Server). Sees v z S) (sym same) sees, only_no_vote n (act u) S, λ b l yes. absurd (differ yes none)) }
+  as_it_was r same none = record { state = S; run = stay; holds = (subst (λ (z : Server). Sees v z S) (sym same) sees, only_no_vote n (act u) S, λ b states l is. absurd (differ (ap is_yes is) none)) }
 
   now : Votes (vote_now n u ends s (either (other_inc i s.inc) (first_unbound ties s)))
   now = by_inc (i == s.inc) refl
@@ -241,4 +250,4 @@ module _ (v : View) (h : Head) (i : ℕ) (ties : List (ℕ × Binding)) (ends : 
       by false = now
 
 pub votes_are_taken : VotesAreTaken
-votes_are_taken v h i ties ends s S shown sees = given v h i ties ends s S shown sees
+votes_are_taken v h i ties ends s S reached lists shown sees = given v h i ties ends s S reached lists shown sees

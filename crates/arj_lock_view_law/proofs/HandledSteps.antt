@@ -35,13 +35,14 @@ use Rattle.arj_lock_view_law.specs.Copies.{OnlyServer}
 use Rattle.arj_lock_view_law.specs.Going.{Goes}
 use Rattle.arj_lock_view_law.specs.Handling.{AreAnswersShown, IsAskingShown, IsMessageShown, IsTellingShown, MessagesAreTaken, OnlyServing, ShowsReply, is_for_server, is_vote_for, server_after}
 use Rattle.arj_lock_view_law.specs.Servers.{ShowsIfInvoked}
-use Rattle.arj_lock_view_law.specs.Serving.{IsShown, ShowsActivated, is_yes}
+use Rattle.arj_lock_view_law.specs.Serving.{IsShown, IsVotedSo, ListsEach, ShowsActivated}
 use Rattle.arj_lock_view_law.specs.Telling.{AreBrought, Sees, View}
 use Rattle.arj_lock_view_law.proofs.GivenSteps.{votes_are_taken}
 use Rattle.arj_lock_view_law.proofs.LeftSteps.{only_server}
 use Rattle.arj_lock_view_law.proofs.RunSteps.{goes_to}
 use Rattle.arj_lock_view_law.proofs.ServerSteps.{activates_are_seen, invokes_are_seen}
 use Rattle.arj_lock_view_law.proofs.ToldSteps.{ends_are_taken}
+use Rattle.arj_lock_view_law.specs.Calling.{IsReached}
 
 -- ---- what else stays
 
@@ -170,7 +171,7 @@ some_reply say (Some r) a is = (r, refl, said (say r) is)
     said : (b : Reply) → ◌≡◌ {A = Option Reply} (Some b) (Some a) → b ≡ a
     said b e = cc e
 
-module _ (v : View) (d : Disk) (t : Parts) (from : ℕ) (m : Message) (S : State) (sees : Sees v t.server S) where
+module _ (v : View) (d : Disk) (t : Parts) (from : ℕ) (m : Message) (S : State) (reached : IsReached S) (lists : ListsEach t.server) (sees : Sees v t.server S) where
   abbrev n : ℕ
   n = v.node
 
@@ -238,15 +239,15 @@ module _ (v : View) (d : Disk) (t : Parts) (from : ℕ) (m : Message) (S : State
     voted_by i ties ends = server.vote n h.path i ties ends t.server
 
     vote_goes : (i : ℕ) (ties : List (ℕ × Binding)) (ends : List (Uid × End)) → ((a : Act) → is_vote_for v a (asks m) ≡ same a (v.family.act (actor h.path))) → IsShown v h (ask.Vote i ties ends) t.server S → Takes (Some (h, ask.Vote i ties ends)) (serve n d t from h (ask.Vote i ties ends))
-    vote_goes i ties ends its shown = goes_to (votes_are_taken v h i ties ends t.server S shown sees) (λ T g. (
+    vote_goes i ties ends its shown = goes_to (votes_are_taken v h i ties ends t.server S reached lists shown sees) (λ T g. (
       seen_after h (voted_by i ties ends).part (voted_by i ties ends).outs (option_map Reply.Voted (voted_by i ties ends).reply) T (λ none. void_vote n h i ties ends t.server (no_reply Reply.Voted (voted_by i ties ends).reply none)) g.0,
       serving_vote v m (actor h.path) S T its g.1,
       answers_go h (ask.Vote i ties ends) T (with_server t (voted_by i ties ends).part) (voted_by i ties ends).outs (option_map Reply.Voted (voted_by i ties ends).reply) (vote_own n h.path i ties ends t.server) (λ a is.
-          (let f = some_reply Reply.Voted (voted_by i ties ends).reply a is in subst (ShowsReply v h (ask.Vote i ties ends) T) f.2 (vote_shown T f.0 (λ b tied yes. (let k = g.2 b tied (ap is_yes f.1 ∙ yes) in let w = k.voted in w.yes))))),
+          (let f = some_reply Reply.Voted (voted_by i ties ends).reply a is in subst (ShowsReply v h (ask.Vote i ties ends) T) f.2 (vote_shown T f.0 (λ b states tied yes. (let k = g.2 b states tied (f.1 ∙ yes) in let k0 = k.0 in let w = k0.voted in (w.yes, k.1)))))),
     ))
       where
-        vote_shown : (T : State) (r : VotedReply) → ((b : Binding) → Contains {X = ℕ × Binding} ties (v.x, b) → is_yes (Some r) ≡ true → binding_number b ≤ T.yes (v.family.act (actor h.path))) → ShowsReply v h (ask.Vote i ties ends) T (Reply.Voted r)
-        vote_shown T (voted.Yes states) shows = λ b tied. shows b tied refl
+        vote_shown : (T : State) (r : VotedReply) → ((b : Binding) (states : List ObjectState) → Contains {X = ℕ × Binding} ties (v.x, b) → Some r ≡ Some (voted.Yes states) → (binding_number b ≤ T.yes (v.family.act (actor h.path))) × IsVotedSo v (actor h.path) b states T) → ShowsReply v h (ask.Vote i ties ends) T (Reply.Voted r)
+        vote_shown T (voted.Yes states) shows = λ b tied. shows b states tied refl
         vote_shown T (voted.Changed w) shows = tt
 
     -- any request
@@ -351,4 +352,4 @@ module _ (v : View) (d : Disk) (t : Parts) (from : ℕ) (m : Message) (S : State
       by false = record { state = S; run = stay; holds = (sees, serving_itself v m S, nothing (asks m)) }
 
 pub messages_are_taken : MessagesAreTaken
-messages_are_taken v d t from m S shown sees = message_goes v d t from m S sees shown
+messages_are_taken v d t from m S reached lists shown sees = message_goes v d t from m S reached lists sees shown

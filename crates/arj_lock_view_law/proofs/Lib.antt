@@ -48,6 +48,7 @@ pub mod SentSteps
 pub mod ServerSteps
 pub mod ShownSteps
 pub mod StartNamingSteps
+pub mod StateSteps
 pub mod StopSteps
 pub mod ToldNamingSteps
 pub mod ToldSteps

@@ -4,6 +4,7 @@ use Rattle.arj_lock_law.specs.State.{State}
 use Rattle.arj_lock_law.proofs.Order.{go_on}
 use Rattle.arj_lock_view_law.specs.Copies.{OnlyServer}
 use Rattle.arj_lock_view_law.specs.Going.{Goes}
+use Rattle.arj_lock_law.specs.Machine.{Run}
 
 -- what holds where it goes gives more
 pub goes_to : {S : State} {P Q : State → Type 0} → Goes S P → ((T : State) → P T → Q T) → Goes S Q
@@ -12,6 +13,10 @@ goes_to g more = record { state = g.state; run = g.run; holds = more g.state g.h
 -- it goes on
 pub goes_then : {S : State} {P Q : State → Type 0} → Goes S P → ((T : State) → P T → Goes T Q) → Goes S Q
 goes_then g more = let h = more g.state g.holds in record { state = h.state; run = go_on g.run h.run; holds = h.holds }
+
+-- and what comes then may know of the run
+pub goes_along : {S : State} {P Q : State → Type 0} → Goes S P → ((T : State) → Run S T → P T → Goes T Q) → Goes S Q
+goes_along g more = let h = more g.state g.run g.holds in record { state = h.state; run = go_on g.run h.run; holds = h.holds }
 
 -- a server changes twice
 pub only_both : {n : ℕ} {S T V : State} → OnlyServer n S T → OnlyServer n T V → OnlyServer n S V

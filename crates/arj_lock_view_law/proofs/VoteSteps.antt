@@ -4,20 +4,21 @@ use Rattle.arj_protocol.specs.Words.{Uid}
 use Rattle.arj_protocol.specs.Copy.{Copy}
 use Rattle.arj_protocol.specs.Order.{binding_number}
 use Rattle.arj_lock_law.specs.Actions.{Act, In, at_act}
-use Rattle.arj_lock_law.specs.Machine.{ballot, next, stay, step}
+use Rattle.arj_lock_law.specs.Machine.{ballot, next, stay, step, Guard}
 use Rattle.arj_lock_law.specs.State as machine
 use Rattle.arj_lock_law.specs.State.{Ballot, Server, State}
 use Rattle.arj_lock_law.specs.Steps.{VoteTop, held_value}
 use Rattle.arj_lock_law.proofs.Paths.{act_here, act_other, at_here, number_self}
 use Rattle.arj_part_law.specs.Copies.{Paths}
 use Rattle.arj_lock_view_law.specs.Acts.{Acts}
-use Rattle.arj_lock_view_law.specs.Commits.{HasVoted, KeepsVoter, IsCommitting, OnlyVote, VotesAreSeen, ballot_for}
+use Rattle.arj_lock_view_law.specs.Commits.{HasVoted, KeepsVoter, IsCommitting, OnlyVote, VotesAreSeen, ballot_for, IsVoteOf}
 use Rattle.arj_lock_view_law.specs.Copies.{Codes, SeesCopy}
 use Rattle.arj_lock_view_law.specs.Going.{Goes}
 use Rattle.arj_lock_view_law.proofs.CopySteps.{server_else}
 use Rattle.arj_lock_view_law.proofs.LogSteps.{folded_here, held_seen}
+use Rattle.arj_lock_view_law.specs.Calling.{IsReached}
 
-module _ (act : Acts) (code : Codes) (paths : Paths) (n x i : ℕ) (u : Uid) (c : Copy) (S : State) (ends : IsCommitting act paths x u c) (sees : SeesCopy act code x c (S.server n)) where
+module _ (act : Acts) (code : Codes) (paths : Paths) (n x i : ℕ) (u : Uid) (c : Copy) (S : State) (reached : IsReached S) (ends : IsCommitting act paths x u c) (sees : SeesCopy act code x c (S.server n)) where
   abbrev b : ℕ
   b = binding_number c.binding
 
@@ -59,10 +60,13 @@ module _ (act : Acts) (code : Codes) (paths : Paths) (n x i : ℕ) (u : Uid) (c 
       same_max : (max (S.yes m) b == S.yes m) ≡ true
       same_max = ap (λ (k : ℕ). k == S.yes m) stays ∙ number_self (S.yes m)
 
-  votes_go : In (machine.Vote m b i) S.net → (let k = S.binding b in k.server) ≡ n → v.incarnation ≡ i → Goes S (λ V. SeesCopy act code x c (V.server n) × OnlyVote n m S V × KeepsVoter m v (V.server n) × HasVoted n m b (ballot_for act code u c) S V)
+  may : In (machine.Vote m b i) S.net → (let k = S.binding b in k.server) ≡ n → v.incarnation ≡ i → Guard (VoteTop n m b i) S
+  may sent server incarnation = (sent, server, incarnation, sees.active, folded_here act paths x u c ends code S v.log sees.overs)
+
+  votes_go : In (machine.Vote m b i) S.net → (let k = S.binding b in k.server) ≡ n → v.incarnation ≡ i → Goes S (λ V. SeesCopy act code x c (V.server n) × OnlyVote n m S V × KeepsVoter m v (V.server n) × HasVoted n m b (ballot_for act code u c) S V × IsVoteOf m b (ballot_for act code u c) V)
   votes_go sent server incarnation = record {
     state = T;
-    run = step (VoteTop n m b i) (sent, server, incarnation, sees.active, folded_here act paths x u c ends code S v.log sees.overs) stay;
+    run = step (VoteTop n m b i) (may sent server incarnation) stay;
     holds = (
       subst (SeesCopy act code x c) (sym (at_here S.server n bound)) (record { active = sees.active; base = sees.base; overs = sees.overs; rows = sees.rows }),
       record { rest = refl; others = λ k other. server_else S n k bound other; tops = λ a other. (act_other S.yes m (max (S.yes m) b) a other, act_other S.vote m (ballot S n m b) a other); raised = subst (λ (k : ℕ). S.yes m ≤ k) (sym (act_here S.yes m (max (S.yes m) b))) (omega arith) },
@@ -73,8 +77,9 @@ module _ (act : Acts) (code : Codes) (paths : Paths) (n x i : ℕ) (u : Uid) (c 
         first = first;
         again = again;
       },
+      record { before = S; node = n; inc = i; reached = reached; may = may sent server incarnation; run = stay; gives = ballot_is },
     );
   }
 
 pub votes_are_seen : VotesAreSeen
-votes_are_seen act code paths n x i u c S ends sent server incarnation sees = votes_go act code paths n x i u c S ends sees sent server incarnation
+votes_are_seen act code paths n x i u c S reached ends sent server incarnation sees = votes_go act code paths n x i u c S reached ends sees sent server incarnation

@@ -5,14 +5,16 @@ use Rattle.arj_protocol.specs.Words.ending
 use Rattle.arj_protocol.specs.Copy.{Base, Copy, Over, end_copy, over_of}
 use Rattle.arj_protocol.specs.Order.{binding_number}
 use Rattle.arj_lock_law.specs.Actions.{Act, In, Root, Sub, at_act, is_action, on, same}
-use Rattle.arj_lock_law.specs.Machine.{Guard}
+use Rattle.arj_lock_law.specs.Machine.{Guard, Run, next}
 use Rattle.arj_lock_law.specs.State as machine
 use Rattle.arj_lock_law.specs.State.{Ballot, State}
-use Rattle.arj_lock_law.specs.Steps.{DropRows}
+use Rattle.arj_lock_law.specs.Steps.{DropRows, VoteTop}
 use Rattle.arj_part_law.specs.Copies.{IsGoodCopy, IsLowest, IsTree, Paths}
 use Rattle.arj_lock_view_law.specs.Acts.{Acts, AreOne}
 use Rattle.arj_lock_view_law.specs.Copies.{Codes, IsTold, OnlyEnds, SeesCopy, base_code, writer_of}
 use Rattle.arj_lock_view_law.specs.Going.{Goes}
+use Rattle.arj_lock_view_law.specs.Calling.{IsReached}
+use Rattle.arj_lock_law.specs.Laws.{given_by}
 
 -- the copy is seen after this commit, and nothing else changed
 abbrev pub IsCommitSeen : Acts → Codes → ℕ → ℕ → Uid → Copy → State → Type 0
@@ -98,9 +100,19 @@ pub record KeepsVoter (m : Act) (v w : machine.Server) : Type 0 where
   pub request : w.request ≡ v.request
   pub voted : w.voted ≡ at_act v.voted m true
 
+-- The server of a node voted for the top under the binding, in a state that the machine came to, and gave this; from there it came here.
+pub record IsVoteOf (m : Act) (b : ℕ) (given : Ballot) (T : State) : Type 0 where
+  pub before : State
+  pub node : ℕ
+  pub inc : ℕ
+  pub reached : IsReached before
+  pub may : Guard (VoteTop node m b inc) before
+  pub run : Run (next (VoteTop node m b inc) before) T
+  pub gives : given_by before node m ≡ given
+
 -- A vote that came to the binding's server in this incarnation, where the binding is active and the ends of all nested actions
 -- were applied.
 abbrev pub VotesAreSeen : Type 0
 VotesAreSeen = (act : Acts) (code : Codes) (paths : Paths) (n x i : ℕ) (u : Uid) (c : Copy) (S : State)
-    → IsCommitting act paths x u c → In (machine.Vote (act u) (binding_number c.binding) i) S.net → (let b = S.binding (binding_number c.binding) in b.server) ≡ n → (let v = S.server n in v.incarnation) ≡ i
-    → SeesCopy act code x c (S.server n) → Goes S (λ T. SeesCopy act code x c (T.server n) × OnlyVote n (act u) S T × KeepsVoter (act u) (S.server n) (T.server n) × HasVoted n (act u) (binding_number c.binding) (ballot_for act code u c) S T)
+    → IsReached S → IsCommitting act paths x u c → In (machine.Vote (act u) (binding_number c.binding) i) S.net → (let b = S.binding (binding_number c.binding) in b.server) ≡ n → (let v = S.server n in v.incarnation) ≡ i
+    → SeesCopy act code x c (S.server n) → Goes S (λ T. SeesCopy act code x c (T.server n) × OnlyVote n (act u) S T × KeepsVoter (act u) (S.server n) (T.server n) × HasVoted n (act u) (binding_number c.binding) (ballot_for act code u c) S T × IsVoteOf (act u) (binding_number c.binding) (ballot_for act code u c) T)

@@ -15,8 +15,9 @@ use Rattle.arj_lock_law.specs.State.{State}
 use Rattle.arj_part_law.specs.Frames.{outs_of}
 use Rattle.arj_lock_view_law.specs.Going.{Goes}
 use Rattle.arj_lock_view_law.specs.Servers.{ShowsInvoked}
-use Rattle.arj_lock_view_law.specs.Serving.{IsShown}
+use Rattle.arj_lock_view_law.specs.Serving.{IsShown, IsVotedSo, ListsEach}
 use Rattle.arj_lock_view_law.specs.Telling.{AreBrought, Sees, View}
+use Rattle.arj_lock_view_law.specs.Calling.{IsReached}
 
 -- ---- what a message shows
 
@@ -37,11 +38,11 @@ IsMessageShown v s S m = IsAskingShown v s S m (asks m)
 -- ---- what answers show
 
 -- What an answer of a server to this request shows, where the request is about the object: the copy is active, the operation was applied
--- or refused, or the copy has changed; and a Yes, that the machine has a vote for the top under the binding, or a greater one.
+-- or refused, or the copy has changed; and a Yes, that the machine has a vote for the top under the binding, or a greater one, and what the vote gave.
 abbrev pub ShowsReply : View → Head → Ask → State → Reply → Type 0
 ShowsReply v h (ask.Activate b st) T (Reply.Activated i) = (let u = st.uid in u.num) ≡ v.x → In (machine.Activated (binding_number b) i) T.net
 ShowsReply v h (ask.Invoke y b i ends o) T (Reply.Invoked r) = y ≡ v.x → ShowsInvoked v.family.act v.code (actor h.path) h.req (record { binding = b; op = o }) T r
-ShowsReply v h (ask.Vote i ties ends) T (Reply.Voted (voted.Yes states)) = (b : Binding) → Contains {X = ℕ × Binding} ties (v.x, b) → binding_number b ≤ T.yes (v.family.act (actor h.path))
+ShowsReply v h (ask.Vote i ties ends) T (Reply.Voted (voted.Yes states)) = (b : Binding) → Contains {X = ℕ × Binding} ties (v.x, b) → (binding_number b ≤ T.yes (v.family.act (actor h.path))) × IsVotedSo v (actor h.path) b states T
 ShowsReply v h a T r = ⊤
 
 -- a request that is for the server
@@ -84,5 +85,5 @@ server_after t (Took u outs) = u.server
 -- A node takes a message: its server is seen again, and what it answers is shown.
 abbrev pub MessagesAreTaken : Type 0
 MessagesAreTaken = (v : View) (d : Disk) (t : Parts) (from : ℕ) (m : Message) (S : State)
-    → IsMessageShown v t.server S m → Sees v t.server S
+    → IsReached S → ListsEach t.server → IsMessageShown v t.server S m → Sees v t.server S
     → let r = taken v.node d t from m in Goes S (λ T. Sees v (server_after t r) T × OnlyServing v m S T × AreAnswersShown v T (outs_of r) (asks m))

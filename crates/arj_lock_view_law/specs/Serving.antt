@@ -1,10 +1,10 @@
 -- What a server does in the machine of one object: it stops, starts, and takes the messages that are for it.
-use Rattle.std.specs.Prelude.{⊤, ◌≡◌, ◌≢◌, ◌<◌, ◌≤◌, ℕ, Bool, true, false, List, Option, Some, None, Contains}
-use Rattle.arj_protocol.specs.Words.{Ask, Binding, End, Head, ObjectState, Op, Uid, VotedReply}
+use Rattle.std.specs.Prelude.{⊤, ◌≡◌, ◌≢◌, ◌<◌, ◌≤◌, ℕ, Bool, true, false, List, Option, Some, None, Contains, find}
+use Rattle.arj_protocol.specs.Words.{Ask, Binding, End, Head, ObjectState, Op, Uid, VotedReply, object, uid_eq}
 use Rattle.arj_protocol.specs.Words.ask
 use Rattle.arj_protocol.specs.Words.voted
 use Rattle.arj_protocol.specs.Ask.{actor}
-use Rattle.arj_protocol.specs.Copy.{Copy}
+use Rattle.arj_protocol.specs.Copy.{Copy, changed_state}
 use Rattle.arj_protocol.specs.Order.{at_number, binding_number}
 use Rattle.arj_protocol.specs.Server.{Server, activate, invoke, new_server, vote}
 use Rattle.arj_lock_law.specs.Actions.{In}
@@ -15,7 +15,7 @@ use Rattle.arj_part_law.specs.Ends.{ask_ends}
 use Rattle.arj_part_law.specs.Messages.{FitsAsk}
 use Rattle.arj_lock_view_law.specs.Asks.{Post, ShowsAsk}
 use Rattle.arj_lock_view_law.specs.Calling.{IsReached}
-use Rattle.arj_lock_view_law.specs.Commits.{HasVoted, OnlyVote, ballot_for}
+use Rattle.arj_lock_view_law.specs.Commits.{HasVoted, OnlyVote, ballot_for, IsVoteOf}
 use Rattle.arj_lock_view_law.specs.Copies.{OnlyServer}
 use Rattle.arj_lock_view_law.specs.Going.{Goes}
 use Rattle.arj_lock_view_law.specs.Servers.{ShowsIfInvoked}
@@ -90,10 +90,20 @@ InvokesAreSeen = (v : View) (h : Head) (y : ℕ) (b : Binding) (i : ℕ) (ends :
     → let r = invoke v.node h y b i ends o s in
     Goes S (λ T. Sees v r.part T × OnlyServer v.node S T × (y ≡ v.x → ShowsIfInvoked v.family.act v.code (actor h.path) h.req (record { binding = b; op = o }) T r.reply))
 
--- the server has voted
-abbrev pub is_yes : Option VotedReply → Bool
-is_yes (Some (voted.Yes states)) = true
-is_yes _ = false
+-- each copy that the server lists is the one that it has of the object
+abbrev pub ListsEach : Server → Type 0
+ListsEach s = (y : ℕ) (o : Copy) → Contains {X = ℕ × Copy} s.objects (y, o) → at_number y s.objects ≡ Some o
+
+-- the object's state among these
+abbrev pub state_in : ℕ → List ObjectState → Option ObjectState
+state_in x states = find (λ (s : ObjectState). uid_eq s.uid (object x)) states
+
+-- A vote for the top was given under this binding, with these states: among them the object's is what the top left in a copy, and the
+-- machine has what it left there.
+pub record IsVotedSo (v : View) (u : Uid) (b : Binding) (states : List ObjectState) (T : State) : Type 0 where
+  pub copy : Copy
+  pub vote : IsVoteOf (v.family.act u) (binding_number b) (ballot_for v.family.act v.code u copy) T
+  pub state : state_in v.x states ≡ changed_state u v.x copy
 
 -- The server has voted for the top, under this binding, which is its copy's, with what the top left in that.
 pub record HasVotedHere (v : View) (u : Uid) (b : Binding) (s : Server) (S T : State) : Type 0 where
@@ -105,6 +115,6 @@ pub record HasVotedHere (v : View) (u : Uid) (b : Binding) (s : Server) (S T : S
 -- A Vote: the server applies the ends that are new to it and votes, says that it has changed, or the message is void.
 abbrev pub VotesAreTaken : Type 0
 VotesAreTaken = (v : View) (h : Head) (i : ℕ) (ties : List (ℕ × Binding)) (ends : List (Uid × End)) (s : Server) (S : State)
-    → IsShown v h (ask.Vote i ties ends) s S → Sees v s S
+    → IsReached S → ListsEach s → IsShown v h (ask.Vote i ties ends) s S → Sees v s S
     → let r = vote v.node h.path i ties ends s in
-    Goes S (λ T. Sees v r.part T × OnlyVote v.node (v.family.act (actor h.path)) S T × ((b : Binding) → Contains {X = ℕ × Binding} ties (v.x, b) → is_yes r.reply ≡ true → HasVotedHere v (actor h.path) b r.part S T))
+    Goes S (λ T. Sees v r.part T × OnlyVote v.node (v.family.act (actor h.path)) S T × ((b : Binding) (states : List ObjectState) → Contains {X = ℕ × Binding} ties (v.x, b) → r.reply ≡ Some (voted.Yes states) → HasVotedHere v (actor h.path) b r.part S T × IsVotedSo v (actor h.path) b states T))
