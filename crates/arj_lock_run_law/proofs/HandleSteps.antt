@@ -132,7 +132,7 @@ module _ (c : Case) (s : Spot) (from : ℕ) (m : Message) (p : Parts) (outs : Li
 
   first : Goes S (λ T. Sees V p.server T × OnlyServing V m S T × AreAnswersShown V T outs (asks m))
   first = subst (λ (r : Handled). Goes S (λ T. Sees V (server_after t r) T × OnlyServing V m S T × AreAnswersShown V T (outs_of r) (asks m))) taken_is
-      (messages_are_taken V d t from m S (shown_to_server c s from m is_seen knows there) here.server)
+      (messages_are_taken V d t from m S (f.first, (let w = is_seen.sees in w.run)) (let q = knows.server in q.listed) (shown_to_server c s from m is_seen knows there) here.server)
 
   abbrev T1 : State
   T1 = first.state

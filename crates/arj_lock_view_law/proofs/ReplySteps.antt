@@ -19,12 +19,12 @@ use Rattle.arj_lock_view_law.proofs.EverSteps.{Ever, ever}
 use Rattle.arj_lock_view_law.proofs.LeftSteps.{shows_later}
 use Rattle.arj_lock_law.specs.Machine.{Run}
 use Rattle.arj_lock_law.proofs.Order.{go_on}
-use Rattle.arj_lock_view_law.specs.Serving.{IsVotedSo}
+use Rattle.arj_lock_view_law.specs.Serving.{IsVotedBy}
 
 -- ---- for ever
 
 -- what a vote gave
-voted_later : (v : View) (u : Uid) (b : Binding) (states : List ObjectState) (S T : State) → Run S T → IsVotedSo v u b states S → IsVotedSo v u b states T
+voted_later : (v : View) (u : Uid) (b : Binding) (states : List ObjectState) (S T : State) → Run S T → IsVotedBy v u b states S → IsVotedBy v u b states T
 voted_later v u b states S T run h = let o = h.vote in record { copy = h.copy; vote = record { before = o.before; node = o.node; inc = o.inc; reached = o.reached; may = o.may; run = go_on o.run run; gives = o.gives }; state = h.state }
 
 replies_later : (v : View) (h : Head) (a : Ask) (r : Reply) (S T : State) → Run S T → Ever S T → ShowsReply v h a S r → ShowsReply v h a T r

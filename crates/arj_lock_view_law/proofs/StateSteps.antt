@@ -1,5 +1,5 @@
 -- The states that a server votes, by its copies.
-use Rattle.std.proofs.Common.{◌≡◌, ◌≢◌, ◌∙◌, ◌==◌, ℕ, List, [], ◌∷◌, Bool, true, false, cond, Option, Some, None, refl, sym, ap, subst, inl, inr, Contains, eqb-true, arith}
+use Rattle.std.proofs.Common.{◌≡◌, ◌≢◌, ◌∙◌, ◌==◌, ℕ, List, [], ◌∷◌, Bool, true, false, cond, Option, Some, None, refl, sym, ap, inl, inr, Contains, eqb-true, arith}
 use Rattle.std.specs.Prelude.{filter_map, find, option_map}
 use Rattle.std.specs.List.{cons_option}
 use Rattle.arj_base.proofs.Uids.{uid_other, uid_same}

@@ -1,5 +1,5 @@
 -- Naming, whole, as the lock machine of one object has it, and what it does with the messages that are for it.
-use Rattle.std.specs.Prelude.{⊤, ◌≡◌, ◌<◌, ◌⊎◌, ◌*◌, ◌+◌, ◌||◌, ℕ, Bool, true, false, Option, Some, Contains}
+use Rattle.std.specs.Prelude.{⊤, ◌≡◌, ◌<◌, ◌⊎◌, ◌*◌, ◌||◌, ℕ, Bool, true, false, Option, Some, Contains}
 use Rattle.arj_protocol.specs.Words.{Binding, ConfirmedReply, End, Path, Row, Uid, is_on}
 use Rattle.arj_protocol.specs.Words.confirmed
 use Rattle.arj_protocol.specs.Words.ending

@@ -1,6 +1,6 @@
 -- What a server does in the machine of one object: it stops, starts, and takes the messages that are for it.
-use Rattle.std.specs.Prelude.{⊤, ◌≡◌, ◌≢◌, ◌<◌, ◌≤◌, ℕ, Bool, true, false, List, Option, Some, None, Contains, find}
-use Rattle.arj_protocol.specs.Words.{Ask, Binding, End, Head, ObjectState, Op, Uid, VotedReply, object, uid_eq}
+use Rattle.std.specs.Prelude.{⊤, ◌≡◌, ◌≢◌, ◌<◌, ◌≤◌, ℕ, List, Option, Some, None, Contains, find}
+use Rattle.arj_protocol.specs.Words.{Ask, Binding, End, Head, ObjectState, Op, Uid, object, uid_eq}
 use Rattle.arj_protocol.specs.Words.ask
 use Rattle.arj_protocol.specs.Words.voted
 use Rattle.arj_protocol.specs.Ask.{actor}
@@ -16,10 +16,11 @@ use Rattle.arj_part_law.specs.Messages.{FitsAsk}
 use Rattle.arj_lock_view_law.specs.Asks.{Post, ShowsAsk}
 use Rattle.arj_lock_view_law.specs.Calling.{IsReached}
 use Rattle.arj_lock_view_law.specs.Commits.{HasVoted, OnlyVote, ballot_for, IsVoteOf}
-use Rattle.arj_lock_view_law.specs.Copies.{OnlyServer}
+use Rattle.arj_lock_view_law.specs.Copies.{OnlyServer, Codes}
 use Rattle.arj_lock_view_law.specs.Going.{Goes}
 use Rattle.arj_lock_view_law.specs.Servers.{ShowsIfInvoked}
 use Rattle.arj_lock_view_law.specs.Telling.{AreOneTree, IsOfFamily, Sees, ShowEnds, View}
+use Rattle.arj_lock_view_law.specs.Acts.{Acts}
 
 -- ---- it stops and starts
 
@@ -98,12 +99,20 @@ ListsEach s = (y : ℕ) (o : Copy) → Contains {X = ℕ × Copy} s.objects (y, 
 abbrev pub state_in : ℕ → List ObjectState → Option ObjectState
 state_in x states = find (λ (s : ObjectState). uid_eq s.uid (object x)) states
 
--- A vote for the top was given under this binding, with these states: among them the object's is what the top left in a copy, and the
--- machine has what it left there.
-pub record IsVotedSo (v : View) (u : Uid) (b : Binding) (states : List ObjectState) (T : State) : Type 0 where
+-- a Yes: under which binding, and with which states
+pub record Yes : Type 0 where
+  pub binding : Binding
+  pub states : List ObjectState
+
+-- It was given for the top: among its states the object's is what the top left in a copy, and the machine has what it left there.
+pub record IsVotedSo (act : Acts) (code : Codes) (x : ℕ) (u : Uid) (y : Yes) (T : State) : Type 0 where
   pub copy : Copy
-  pub vote : IsVoteOf (v.family.act u) (binding_number b) (ballot_for v.family.act v.code u copy) T
-  pub state : state_in v.x states ≡ changed_state u v.x copy
+  pub vote : IsVoteOf (act u) (binding_number y.binding) (ballot_for act code u copy) T
+  pub state : state_in x y.states ≡ changed_state u x copy
+
+-- as a node looks at it
+abbrev pub IsVotedBy : View → Uid → Binding → List ObjectState → State → Type 0
+IsVotedBy v u b states T = IsVotedSo v.family.act v.code v.x u (record { binding = b; states = states }) T
 
 -- The server has voted for the top, under this binding, which is its copy's, with what the top left in that.
 pub record HasVotedHere (v : View) (u : Uid) (b : Binding) (s : Server) (S T : State) : Type 0 where
@@ -117,4 +126,4 @@ abbrev pub VotesAreTaken : Type 0
 VotesAreTaken = (v : View) (h : Head) (i : ℕ) (ties : List (ℕ × Binding)) (ends : List (Uid × End)) (s : Server) (S : State)
     → IsReached S → ListsEach s → IsShown v h (ask.Vote i ties ends) s S → Sees v s S
     → let r = vote v.node h.path i ties ends s in
-    Goes S (λ T. Sees v r.part T × OnlyVote v.node (v.family.act (actor h.path)) S T × ((b : Binding) (states : List ObjectState) → Contains {X = ℕ × Binding} ties (v.x, b) → r.reply ≡ Some (voted.Yes states) → HasVotedHere v (actor h.path) b r.part S T × IsVotedSo v (actor h.path) b states T))
+    Goes S (λ T. Sees v r.part T × OnlyVote v.node (v.family.act (actor h.path)) S T × ((b : Binding) (states : List ObjectState) → Contains {X = ℕ × Binding} ties (v.x, b) → r.reply ≡ Some (voted.Yes states) → HasVotedHere v (actor h.path) b r.part S T × IsVotedBy v (actor h.path) b states T))
