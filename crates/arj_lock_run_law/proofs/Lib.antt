@@ -16,3 +16,4 @@ pub mod FirstSteps
 pub mod UnitSteps
 pub mod CoordSteps
 pub mod StepSteps
+pub mod ToldSteps

@@ -1,9 +1,9 @@
 -- What each clause of a coordinator's step leaves, as a step in the whole world.
-use Rattle.std.proofs.Common.{◌≡◌, ◌≢◌, ◌≤◌, ◌⊎◌, ◌∙◌, ◌+◌, ◌++◌, ℕ, List, [], ◌∷◌, true, false, Option, Some, None, refl, sym, ap, subst, inl, inr, ⊎_elim, arith, length, Contains, is_some}
+use Rattle.std.proofs.Common.{◌≡◌, ◌≢◌, ◌≤◌, ◌⊎◌, ◌∙◌, ◌+◌, ℕ, true, false, Some, refl, sym, ap, inl, inr, ⊎_elim, arith, length, Contains}
 use Rattle.arj_protocol.specs.Words.{Uid, is_on}
 use Rattle.arj_protocol.specs.Coord.{Coord}
 use Rattle.arj_protocol.specs.Node.{Parts}
-use Rattle.arj_protocol.specs.Tree.{Branch, Tree, branch_of}
+use Rattle.arj_protocol.specs.Tree.{Branch, branch_of}
 use Rattle.arj_lock_law.specs.Actions.{Act, In, Root, is_action, on, root, same}
 use Rattle.arj_lock_law.specs.Machine.{Run, stay}
 use Rattle.arj_lock_law.specs.State as state
@@ -11,9 +11,9 @@ use Rattle.arj_lock_law.specs.State.{State}
 use Rattle.arj_lock_law.proofs.Paths.{by_cases, differ, on_base, root_is, same_is}
 use Rattle.arj_part_law.specs.Actions.{Action, act_of, action_of}
 use Rattle.arj_part_law.specs.Claims.{GoesOn}
-use Rattle.arj_lock_view_law.specs.Actions.{AreAlike, IsHere, IsIdle, IsSteady}
+use Rattle.arj_lock_view_law.specs.Actions.{AreAlike, IsHere}
 use Rattle.arj_lock_view_law.specs.Calling.{IsReached, OnlyCalled}
-use Rattle.arj_lock_view_law.specs.Ending.{AbortsOnly, ChangesOne, IsOpenAt, KeepsEnds}
+use Rattle.arj_lock_view_law.specs.Ending.{AbortsOnly, ChangesOne, KeepsEnds}
 use Rattle.arj_lock_view_law.specs.Including.{OnlyIncluded}
 use Rattle.arj_lock_view_law.specs.Inputs.{OnlyEnded, SeesWhole}
 use Rattle.arj_lock_view_law.proofs.TreeSteps.{above_there}

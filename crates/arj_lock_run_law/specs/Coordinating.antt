@@ -1,19 +1,26 @@
 -- What a coordinator does in the whole world: only one unit's parts of the machine change, and all else is seen as before.
-use Rattle.std.specs.Prelude.{⊤, ◌≡◌, ◌≢◌, ◌⊎◌, ◌≤◌, ◌+◌, ◌++◌, ℕ, true, List, Some, length, map}
+use Rattle.std.specs.Prelude.{⊤, ◌≡◌, ◌≢◌, ◌⊎◌, ◌≤◌, ◌+◌, ◌++◌, ℕ, true, false, List, Some, length, map, is_some}
 use Rattle.std.specs.List.{AllByRecursion}
 use Rattle.arj_protocol.specs.Words.{Body, Uid}
-use Rattle.arj_protocol.specs.Coord.{Coord}
-use Rattle.arj_protocol.specs.Effect.{Did, Effect, Say, Send}
+use Rattle.arj_protocol.specs.Words.kind
+use Rattle.arj_protocol.specs.Asking.{commit_action}
+use Rattle.arj_protocol.specs.Coord.{Coord, Doing}
+use Rattle.arj_protocol.specs.Effect.{Intent, Did, Effect, Say, Send}
+use Rattle.arj_protocol.specs.Ending.{abort_action}
 use Rattle.arj_protocol.specs.Node.{with_coord}
-use Rattle.arj_protocol.specs.Tree.{Branch, branch_of}
+use Rattle.arj_protocol.specs.Tree.{Branch, branch_of, ends_of, has_open_child}
 use Rattle.arj_lock_law.specs.Actions.{Act, In, root}
 use Rattle.arj_lock_law.specs.Machine.{Run}
 use Rattle.arj_lock_law.specs.State as state
 use Rattle.arj_lock_law.specs.State.{State}
 use Rattle.arj_part_law.specs.Claims.{GoesOn}
+use Rattle.arj_part_law.specs.Coords.{IsGoodCoord}
+use Rattle.arj_part_law.specs.Ends.{IsSure}
 use Rattle.arj_view_law.specs.Seen.{Post, Within}
 use Rattle.arj_view_law.specs.Walks.{Up, Walks}
+use Rattle.arj_lock_view_law.specs.Acting.{IsFreeToEnd}
 use Rattle.arj_lock_view_law.specs.Inputs.{SeesWhole}
+use Rattle.arj_lock_view_law.specs.Listed.{AreUnserial}
 use Rattle.arj_lock_view_law.specs.Outside.{IsAway}
 use Rattle.arj_lock_run_law.specs.Beside.{Case, IsSeenIn, Spot, world_at}
 use Rattle.arj_lock_run_law.specs.Fixed.{Fixed}
@@ -75,3 +82,38 @@ abbrev pub CoordsGo : Type 0
 CoordsGo = (c : Case) (s : Spot) (e : ℕ) (u : Uid) (b : Branch) (bs : List Body) (sends : List Effect) (C : Coord) (T : State)
     → IsSeenIn c (world_at s) → branch_of u (let t = s.parts in let d = t.coord in d.tree) ≡ Some b → GoesOn (let t = s.parts in t.coord) C → AreSends sends → HasStepped c s u (length bs) C T → AreSendsShown c s T sends
     → StepGoes c s e (record { part = C; outs = map Say bs ++ sends })
+
+-- ---- ends and aborts
+
+-- What is known of a coordinator behind its step, by the protocol alone: it goes on, is good, has of ends what was decided, and lists no end of
+-- a serializing action.
+pub record KnowsCoord (c : Case) (s : Spot) (C : Coord) : Type 0 where
+  pub on : GoesOn (let t = s.parts in t.coord) C
+  pub good : IsGoodCoord c.begun (let f = c.fixed in f.paths) C
+  pub sure : IsSure C
+  pub unserial : (r : Uid) → AreUnserial C (ends_of r C.tree)
+
+-- its coordinator at first
+abbrev pub coord_at : Spot → Coord
+coord_at s = let t = s.parts in t.coord
+
+abbrev pub records_at : Spot → List (Uid × Intent)
+records_at s = let d = s.disk in d.intents
+
+-- The commit of a nested action, and the end of a serializing action.
+abbrev pub NestedCommitsGo : Type 0
+NestedCommitsGo = (c : Case) (s : Spot) (e : ℕ) (u : Uid) (b : Branch) (d : Doing)
+    → IsSeenIn c (world_at s) → IsFreeToEnd (let f = c.fixed in f.act) (let f = c.fixed in f.paths) (coord_at s) u b d → (b.kind ≡ kind.Nested) ⊎ (b.kind ≡ kind.Serial) → b.doomed ≡ false → has_open_child u (let q = coord_at s in q.tree) ≡ false
+    → let D = commit_action b (records_at s) (coord_at s) in KnowsCoord c s D.part → StepGoes c s e D
+
+-- A doomed action is aborted.
+abbrev pub DoomedCommitsGo : Type 0
+DoomedCommitsGo = (c : Case) (s : Spot) (e : ℕ) (u : Uid) (b : Branch) (d : Doing)
+    → IsSeenIn c (world_at s) → IsFreeToEnd (let f = c.fixed in f.act) (let f = c.fixed in f.paths) (coord_at s) u b d → b.doomed ≡ true → has_open_child u (let q = coord_at s in q.tree) ≡ false
+    → let D = commit_action b (records_at s) (coord_at s) in KnowsCoord c s D.part → StepGoes c s e D
+
+-- An open action is aborted with all that is open below it.
+abbrev pub AbortsGo : Type 0
+AbortsGo = (c : Case) (s : Spot) (e : ℕ) (u : Uid) (b : Branch)
+    → IsSeenIn c (world_at s) → branch_of u (let q = coord_at s in q.tree) ≡ Some b → is_some b.ended ≡ false
+    → let D = abort_action u (records_at s) (coord_at s) in KnowsCoord c s D.part → StepGoes c s e D

@@ -1,8 +1,17 @@
 // Coordinators, in the whole world as the lock machine of one object has it.
-ghost use Rattle.arj_lock_run_law.specs.Coordinating.{CoordsGo};
+ghost use Rattle.arj_lock_run_law.specs.Coordinating.{AbortsGo, CoordsGo, DoomedCommitsGo, NestedCommitsGo};
 
 /// A coordinator says lines and sends messages, for one unit: where the machine has gone along, and what is sent is shown in its state,
 /// the object is seen in the whole world at the end and wherever the walk is. It does nothing when it runs.
 pub fn coordinators_go_in_the_world()
     ensures { CoordsGo }
+{}
+
+/// A nested action commits, a serializing one ends, a doomed action is aborted, and an action is aborted with all that is open below it: the
+/// object is seen in the whole world behind it, and what is told of these ends is shown. What is known of the coordinator by the
+/// protocol alone is counted on. It does nothing when it runs.
+pub fn ends_go_in_the_world()
+    ensures nested { NestedCommitsGo }
+    ensures doomed { DoomedCommitsGo }
+    ensures aborts { AbortsGo }
 {}
