@@ -70,7 +70,7 @@ bind_step s y include avoid same = by s.at (ap bind_in same)
     by (AtInvoke q i) is = absurd (cc is)
 
 -- the step of a call, and what a Load asks
-abbrev step_in : Now → Option Steps
+abbrev pub step_in : Now → Option Steps
 step_in (Calling s) = Some s
 step_in _ = None
 

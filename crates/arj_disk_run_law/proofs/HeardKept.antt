@@ -12,6 +12,7 @@ use Rattle.arj_disk_run_law.proofs.HeardQuiet.{fixed_in, heard_quiet, heard_stop
 use Rattle.arj_disk_run_law.proofs.HeardRestart.{heard_restart}
 use Rattle.arj_disk_run_law.proofs.HeardTick.{heard_begin, heard_tick}
 use Rattle.arj_call_law.specs.Runs.{KnowsFew}
+use Rattle.arj_disk_run_law.proofs.HeardInputs.{heard_starts}
 use Rattle.arj_disk_run_law.proofs.HeardMessage.{heard_message}
 
 -- nodes are good where this holds
@@ -20,7 +21,7 @@ heard_kept hd x R good has rest = record {
   quiet = λ tops e bs M A walk quiet r both p B only now. heard_quiet x tops e bs M A B (fixed_in x tops A M both) (let s = now.disks in s.fixed) both.named now.named only p;
   stop = λ tops e k d live M A walk r both p B only now. heard_stop x tops e k d live M A B (let s = both.disks in s.fixed) (let s = now.disks in s.fixed) both.named now.named only p;
   message = λ tops e k d t v from m outs M A walk knows r sent meant is of both p. heard_message hd x R good rest tops e k d t v from m outs M A (record { unwalked = walk; knows = knows; run = r; both = both; heard = p }) sent meant is;
-  act = λ tops e k d t i M A walk knows r is free both p. rest.act tops e k d t i M A (record { unwalked = walk; knows = knows; run = r; both = both; heard = p }) is free;
+  act = λ tops e k d t i M A walk knows r is free both p. heard_starts x tops e k d t M A (good _ r).0 (good _ r).1 knows both p hd R rest (record { unwalked = walk; knows = knows; run = r; both = both; heard = p }) i is free;
   begin = λ tops e k d t l how parent M A walk knows r new may free kind both p. heard_begin x tops e k d t l how parent M A both p;
   tick = λ tops e k d t M A walk knows r both p. heard_tick x tops e k d t M A knows both p;
   restart = λ tops e k d M A walk r both p. heard_restart x tops k d M A (good _ r).0 both p hd e;

@@ -30,11 +30,11 @@ pub record IsLike (c e : Coord) : Type 0 where
   pub works : (u : Uid) (q : Doing) → doing_of u e ≡ Some q → (doing_of u c ≡ Some q) ⊎ (q.now ≡ Idle)
   pub roots : (u : Uid) → (w : List Went) × (root_at u e ≡ went_to w (root_at u c))
 
-module _ (c e : Coord) (like : IsLike c e) where
+module _ (c e : Coord) (branches : (w : Uid) → (branch_of w e.tree ≡ branch_of w c.tree) ⊎ ((branch_of w c.tree ≡ None) × IsOpenNew (branch_of w e.tree))) where
   -- how an action ended
   ended_same : (k : End) (w : Uid) → ended_so k (branch_of w e.tree) ≡ ended_so k (branch_of w c.tree)
   ended_same k w = ⊎_elim (λ same. ap (ended_so k) same)
-      (λ new. let b = new.1 in ap (ended_so k) b.1 ∙ (ap (has_end k) b.2 ∙ (none k ∙ ap (ended_so k) (sym new.0)))) (like.branches w)
+      (λ new. let b = new.1 in ap (ended_so k) b.1 ∙ (ap (has_end k) b.2 ∙ (none k ∙ ap (ended_so k) (sym new.0)))) (branches w)
     where
       none : (k : End) → has_end k None ≡ false
       none ending.Commit = refl
@@ -43,32 +43,32 @@ module _ (c e : Coord) (like : IsLike c e) where
   kept_same : (w : Uid) → is_kept_top w e ≡ is_kept_top w c
   kept_same w = ⊎_elim (λ same. (λ i. is_constituent_branch (same i) && ended_so ending.Commit (same i)))
       (λ new. let b = new.1 in off (is_constituent_branch (branch_of w e.tree)) (is_committed w e.tree) (ap (ended_so ending.Commit) b.1 ∙ ap (has_end ending.Commit) b.2)
-      ∙ sym (off (is_constituent_branch (branch_of w c.tree)) (is_committed w c.tree) (ap (ended_so ending.Commit) new.0))) (like.branches w)
+      ∙ sym (off (is_constituent_branch (branch_of w c.tree)) (is_committed w c.tree) (ap (ended_so ending.Commit) new.0))) (branches w)
     where
       off : (a b : Bool) → b ≡ false → (a && b) ≡ false
       off true b is = is
       off false b is = refl
 
-  spent_same : (path : List Uid) → is_spent path e.tree ≡ is_spent path c.tree
+  pub spent_same : (path : List Uid) → is_spent path e.tree ≡ is_spent path c.tree
   spent_same path = λ i. list_any (λ w. ended_same ending.Abort w i) path
 
-  survives_same : (t : Uid) (path : List Uid) → survives t path e ≡ survives t path c
+  pub survives_same : (t : Uid) (path : List Uid) → survives t path e ≡ survives t path c
   survives_same t path = λ i. is_on path t && not (list_any (λ w. not (ended_same ending.Commit w i)) (behind t path))
 
-  retained_same : (path : List Uid) → coord.is_retained path e ≡ coord.is_retained path c
+  pub retained_same : (path : List Uid) → coord.is_retained path e ≡ coord.is_retained path c
   retained_same path = by (second_uid path)
     where
       by : (o : Option Uid) → retained_in path e o ≡ retained_in path c o
       by None = refl
       by (Some t) = λ i. kept_same t i && survives_same t path i
 
-  uses_same : (t : Uid) (x : ℕ) (r : Root) → top_uses t x r e ≡ top_uses t x r c
+  pub uses_same : (t : Uid) (x : ℕ) (r : Root) → top_uses t x r e ≡ top_uses t x r c
   uses_same t x r = λ i. list_any (λ (s : Said). (s.x == x) && survives_same t s.path i) r.said || list_any (λ (j : Joined). (j.x == x) && survives_same t j.path i) r.joined
 
   -- ---- a root
 
   module _ (x : ℕ) (tops : Kinds) (root : Uid) (r : Root) (w : List Went) (B : Office) (s : SeesRootOf x tops root c r B) where
-    root_like : SeesRootOf x tops root e (went_to w r) B
+    pub root_like : SeesRootOf x tops root e (went_to w r) B
     root_like = record {
       grants = let g = s.grants in record {
         own = g.own;
@@ -89,8 +89,10 @@ module _ (c e : Coord) (like : IsLike c e) where
       state = s.state;
     }
 
+-- where it is looked like the other
+module _ (c e : Coord) (like : IsLike c e) where
   -- who is a root at work there is one here
-  was_root : (tops : Kinds) (root : Uid) → IsWorkingRoot tops e root → IsWorkingRoot tops c root
+  pub was_root : (tops : Kinds) (root : Uid) → IsWorkingRoot tops e root → IsWorkingRoot tops c root
   was_root tops root w = record {
     own = sym (like.own root) ∙ w.own;
     alone = w.alone;
@@ -99,7 +101,7 @@ module _ (c e : Coord) (like : IsLike c e) where
 
   pub at_like : (x k : ℕ) (tops : Kinds) (sent : List Post) (B : Office) → SeesHeardAt x k tops sent c B → SeesHeardAt x k tops sent e B
   at_like x k tops sent B p = record {
-    roots = λ root w. let q = like.roots root in subst (λ z. SeesRootOf x tops root e z B) (sym q.1) (root_like x tops root (root_at root c) q.0 B (p.roots root (was_root tops root w)));
+    roots = λ root w. let q = like.roots root in subst (λ z. SeesRootOf x tops root e z B) (sym q.1) (root_like c e like.branches x tops root (root_at root c) q.0 B (p.roots root (was_root tops root w)));
     steps = λ u q s does now of. ⊎_elim (λ old. p.steps u q s old now of) (λ idle. absurd (let n : Idle ≡ Calling s = sym idle ∙ now in cc)) (like.works u q does);
     plans = λ u q m does now. ⊎_elim (λ old. p.plans u q m old now) (λ idle. absurd (let n : Idle ≡ Committing m = sym idle ∙ now in cc)) (like.works u q does);
   }

@@ -1,5 +1,5 @@
 -- What coordinators have of naming's answers is kept where a message is taken, with what is still taken of answers.
-use Rattle.std.proofs.Common.{◌≡◌, ℕ, Bool, true, false, List, Option, Some, None, refl, sym, ◌∙◌, ap, subst, inl, ⊎_elim}
+use Rattle.std.proofs.Common.{◌≡◌, ℕ, true, false, List, Option, Some, None, refl, sym, ◌∙◌, ap, subst, inl, ⊎_elim}
 use Rattle.std.specs.Prelude.{is_some}
 use Rattle.arj_protocol.specs.Words.{Ask, Asked, Head, Header, Message, Uid, asks}
 use Rattle.arj_protocol.specs.Words.ask
@@ -13,7 +13,7 @@ use Rattle.arj_protocol.specs.Order.{uid_number}
 use Rattle.arj_run_law.specs.Worlds.{IsGood}
 use Rattle.arj_call_law.specs.Runs.{KnowsFew}
 use Rattle.arj_disk_law.specs.Names.{Office}
-use Rattle.arj_disk_law.specs.State.{is_gone, is_idle}
+use Rattle.arj_disk_law.specs.State.{is_idle}
 use Rattle.arj_disk_law.proofs.Base.{never}
 use Rattle.arj_view_law.specs.Seen.{In, Seen, up}
 use Rattle.arj_disk_view_law.specs.Coordinating.{KnowsNode}
@@ -30,7 +30,6 @@ use Rattle.arj_disk_run_law.proofs.HeardAsk.{Served_by, ask_heard}
 use Rattle.arj_disk_run_law.proofs.HeardLike.{IsLike}
 use Rattle.arj_disk_run_law.proofs.HeardOther.{other_heard}
 use Rattle.arj_names_view_law.specs.Calls.{IsUnrecorded}
-use Rattle.arj_names_view_law.specs.Booked.{NamesGrants}
 
 -- ---- commits that have begun
 

@@ -63,6 +63,12 @@ module _ (M : Seen) (good : IsGood M) (few : KnowsFew M) (j : ℕ) (n : Node) (t
   pub actor_of_step : (u : Uid) (q : Doing) (s : Steps) → doing_of u t.coord ≡ Some q → q.now ≡ Calling s → actor s.path ≡ u
   actor_of_step u q s does now = let z : IsAsking t.coord.tree u s.path = subst (IsBusy t.coord.tree u) now (coord.busy u q does) in ap actor (sym z.path) ∙ coord.tree.lists.places u z.branch z.found
 
+  -- a request that was sent of an action at work is of no later number than its last one
+  pub counted_at : (z : Post) (h : Head) (a : Ask) → seen.In z M.sent → z.from ≡ j → asks z.message ≡ Some (h, a) → {u : Uid} → actor h.path ≡ u → (q : Doing) → doing_of u t.coord ≡ Some q → h.req ≤ q.req
+  counted_at z h a posted from asking {u} asker q does =
+      let c = calls.counted z h a posted (from ∙ sym mine.node) asking (ap (λ w. is_own w t.coord.tree) asker ∙ own_doing t.coord u q does) in
+      subst (λ (y : Doing). h.req ≤ y.req) (some_is c.found (ap (λ w. doing_of w t.coord) asker ∙ does)) c.low
+
   -- a request that was sent for the step that waits is that of the step
   pub step_of : (u : Uid) (q : Doing) (s : Steps) → doing_of u t.coord ≡ Some q → q.now ≡ Calling s → (to : ℕ) (m : Message) (h : Head) (a : Ask) → seen.In (record { from = j; to = to; message = m }) M.sent → asks m ≡ Some (h, a) → asked_by (head_of s) ≡ asked_by h → IsOfStep s to h a
   step_of u q s does now to m h a posted asking same = counted.last s (ap (λ (z : Doing). z.now) (some_is counted.found found) ∙ now) (sym (ap (λ (z : Asked). z.req) same) ∙ (number ∙ ap (λ (z : Doing). z.req) (some_is found counted.found)))

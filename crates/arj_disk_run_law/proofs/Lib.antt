@@ -7,8 +7,10 @@ pub mod EntryWalks
 pub mod HeardAll
 pub mod HeardAsk
 pub mod HeardBinds
+pub mod HeardCalls
 pub mod HeardCoord
 pub mod HeardFirst
+pub mod HeardInputs
 pub mod HeardKept
 pub mod HeardLike
 pub mod HeardMessage

@@ -1,0 +1,191 @@
+-- What coordinators have of naming's answers is kept by inputs about actions: calls and includes that begin.
+use Rattle.std.proofs.Common.{◌≡◌, ◌⊎◌, ◌+◌, ℕ, ◌==◌, ◌&&◌, ◌||◌, if◌then◌else◌, Bool, true, false, not, List, [], ◌∷◌, Option, Some, None, refl, sym, ◌∙◌, ap, subst, inl, inr, ⊎_elim, arith}
+use Rattle.std.specs.Prelude.{Contains, unwrap_or}
+use Rattle.std.specs.List.{list_all}
+use Rattle.std.proofs.lemmas.Bool.{and_parts}
+use Rattle.arj_lock.proofs.Members as list
+use Rattle.arj_lock.proofs.Members.{in_from}
+use Rattle.arj_protocol.specs.Words.{Binding, Op, Path, Uid}
+use Rattle.arj_protocol.specs.Ask.{Reply, actor, top_of}
+use Rattle.arj_protocol.specs.Asking.{call, call_steps, given_away, goes_on, include, known_at_start, last_req, next_req, renewed}
+use Rattle.arj_protocol.specs.Call.{Goal, Include, Known, Run, Steps, next_ask, next_node, start}
+use Rattle.arj_protocol.specs.Coord.{Calling, Committing, Coord, Doing, Keeping, Root, Said, Went, doing_of, is_free, keeping_of, kept_of, no_keeping, no_root, on_doing, on_root, others_call, root_at, said_of, with_keeping}
+use Rattle.arj_protocol.specs.Effect.{Did, Disk}
+use Rattle.arj_protocol.specs.Node.{Parts, with_coord}
+use Rattle.arj_protocol.specs.Order.{at_number, put_number, unbound, uid_number}
+use Rattle.arj_protocol.specs.Words.{Header}
+use Rattle.arj_protocol.specs.Step.{Input, acts, branch_named, call_reasons, include_reasons, on_branch, refusal_up, refused_by}
+use Rattle.arj_protocol.specs.Step as input
+use Rattle.arj_protocol.specs.Coord.{number_of}
+use Rattle.arj_view_law.specs.Keeps.{is_act}
+use Rattle.arj_disk_view_law.proofs.WholeWalks.{placed}
+use Rattle.arj_disk_run_law.specs.Rest.{IsHeardAt, KeepsHeard}
+use Rattle.arj_protocol.specs.Tree.{Branch, ends_of, is_spent, root_of, uses_object}
+use Rattle.arj_protocol.proofs.Maps.{put_same as put_number_same, put_other as put_number_other}
+use Rattle.arj_protocol.proofs.RowSteps.{one_or_two}
+use Rattle.arj_run_law.specs.Worlds.{IsGood}
+use Rattle.arj_call_law.specs.Runs.{KnowsFew}
+use Rattle.arj_disk_law.specs.Names.{Names, Office}
+use Rattle.arj_disk_law.proofs.Base.{test_same}
+use Rattle.arj_view_law.specs.Seen.{Post, Seen, up}
+use Rattle.arj_disk_view_law.specs.Coordinating.{KnowsNode}
+use Rattle.arj_disk_view_law.specs.Sees.{Kinds}
+use Rattle.arj_names_view_law.specs.Both.{SeesBoth}
+use Rattle.arj_names_view_law.specs.Handlers.{MayGoOn, Quietly}
+use Rattle.arj_disk_run_law.specs.Heard.{IsToStep, SeesHeard, SeesStep}
+use Rattle.arj_disk_run_law.specs.Part.{HasHeard, going_of}
+use Rattle.arj_disk_run_law.proofs.HeardCalls.{IsCalled, KeepsOrNone, at_called, fresh, goes_called, keeps_to, root_put}
+use Rattle.arj_disk_run_law.proofs.HeardCoord.{mine, quiet_step}
+use Rattle.arj_disk_run_law.proofs.HeardMessage.{old_goes_on}
+use Rattle.arj_disk_run_law.proofs.HeardQuiet.{fixed_in}
+use Rattle.arj_disk_run_law.proofs.HeardStays.{at_stays, memory_goes, memory_stays, was_to}
+use Rattle.arj_disk_run_law.proofs.HeardTick.{request_says, step_claims}
+
+-- ---- a step that begins
+
+-- a step that begins stands on nothing, and nothing was sent to it
+new_step : (x k : ℕ) (sent : List Post) (p : Path) (y : ℕ) (g : Goal) (o : Option Known) (avoid : Binding) (req : ℕ) (N : Names) → ((r : Reply) → IsToStep k sent (start p y g o avoid req) r → ⊥) → SeesStep x k sent (start p y g o avoid req) N
+new_step x k sent p y g None avoid req N none = record {
+  stands = λ i at. absurd (cc at);
+  listed = λ q n rest at. absurd (cc at);
+  bound = λ r to. absurd (none (Reply.Bound r) to);
+  loaded = λ q n rest st at. absurd (cc at);
+}
+new_step x k sent p y g (Some z) avoid req N none = record {
+  stands = λ i at. absurd (cc at);
+  listed = λ q n rest at. absurd (cc at);
+  bound = λ r to. absurd (none (Reply.Bound r) to);
+  loaded = λ q n rest st at. absurd (cc at);
+}
+
+-- ---- a binding that is given up
+
+renewed_keeps : (free : Bool) (k : Keeping) → ((renewed free k k.kept).kept ≡ k.kept) ⊎ (((renewed free k k.kept).kept ≡ None) × (free ≡ true))
+renewed_keeps free k = by k.kept refl
+  where
+    one : (o : Known) (a b : Bool) → k.kept ≡ Some o → ((if a && b then given_away k o else k).kept ≡ k.kept) ⊎ (((if a && b then given_away k o else k).kept ≡ None) × (a ≡ true))
+    one o true true is = inr (refl, refl)
+    one o true false is = inl refl
+    one o false b is = inl refl
+
+    by : (o : Option Known) → k.kept ≡ o → ((renewed free k o).kept ≡ k.kept) ⊎ (((renewed free k o).kept ≡ None) × (free ≡ true))
+    by None is = inl refl
+    by (Some o) is = one o free k.spoiled is
+
+all_so : (f : Said → Bool) (ss : List Said) → list_all f ss ≡ true → (s : Said) → list.In s ss → f s ≡ true
+all_so f [] all s i = absurd i
+all_so f (z ∷ ss) all s (inl same) = subst (λ y. f y ≡ true) same (and_parts (f z) (list_all f ss) all).0
+all_so f (z ∷ ss) all s (inr more) = all_so f ss (and_parts (f z) (list_all f ss) all).1 s more
+
+-- of a root that is free each call on the object is spent
+free_spent : (root but : Uid) (x : ℕ) (c : Coord) → is_free root but x c ≡ true → (z : Said) → Contains (said_of root c) z → z.x ≡ x → is_spent z.path c.tree ≡ true
+free_spent root but x c free z there of = by (z.x == x) (ap (λ n. n == x) of ∙ test_same x) (all_so (λ (s : Said). not (s.x == x) || is_spent s.path c.tree) (said_of root c) (and_parts (not (others_call root but x c)) (list_all (λ (s : Said). not (s.x == x) || is_spent s.path c.tree) (said_of root c)) free).1 z (in_from z (said_of root c) there))
+  where
+    by : (b : Bool) → b ≡ true → (not b || is_spent z.path c.tree) ≡ true → is_spent z.path c.tree ≡ true
+    by true is on = on
+    by false is on = absurd (cc is)
+
+-- what a root keeps of an object, where that of one was put
+put_keeps : (x y : ℕ) (k : Keeping) (r : Root) → ((y ≡ x) × (kept_of x (with_keeping y k r) ≡ k.kept)) ⊎ (kept_of x (with_keeping y k r) ≡ kept_of x r)
+put_keeps x y k r = ⊎_elim (λ same. inl (same, ap (λ n. (unwrap_or (at_number n (put_number y k r.keeping)) no_keeping).kept) (sym same) ∙ ap (λ o. (unwrap_or o no_keeping).kept) (put_number_same y k r.keeping)))
+    (λ apart. inr (ap (λ o. (unwrap_or o no_keeping).kept) (put_number_other y x k r.keeping apart.0))) (one_or_two y x)
+
+-- ---- the coordinator
+
+module _ (x : ℕ) (c : Coord) (p : Path) (d : Doing) (found : doing_of (actor p) c ≡ Some d) where
+  call_called : (y : ℕ) (op : Op) → IsCalled x (let r = root_at (root_of p) c in let old = keeping_of y r in call_steps p y op (next_req (actor p) c) r c (renewed (is_free (root_of p) (actor p) y c) old old.kept)) c (call p y op c).part
+  call_called y op = goes_called x (call_steps p y op (next_req (actor p) c) r c k) c (on_root (root_of p) (with_keeping y k) (record c { tree = uses_object p y c.tree })) d found (λ u. refl) (λ u. refl) refl
+      (λ u. by u (root_put (root_of p) (with_keeping y k) (record c { tree = uses_object p y c.tree }) u))
+    where
+      r : Root
+      r = root_at (root_of p) c
+
+      k : Keeping
+      k = renewed (is_free (root_of p) (actor p) y c) (keeping_of y (root_at (root_of p) c)) (let z = keeping_of y (root_at (root_of p) c) in z.kept)
+
+      by : (u : Uid) → (((let z = root_of p in z.num) ≡ u.num) × (root_at u (on_root (root_of p) (with_keeping y k) (record c { tree = uses_object p y c.tree })) ≡ with_keeping y k (root_at u c))) ⊎ (root_at u (on_root (root_of p) (with_keeping y k) (record c { tree = uses_object p y c.tree })) ≡ root_at u c)
+          → (ks : List (ℕ × Keeping)) × (w : List Went) × (root_at u (on_root (root_of p) (with_keeping y k) (record c { tree = uses_object p y c.tree })) ≡ keeps_to ks w (root_at u c)) × KeepsOrNone x c.tree (root_at u c) (keeps_to ks w (root_at u c))
+      by u (inl mine_is) = (put_number y k (root_at u c).keeping, (root_at u c).went, mine_is.1, keeps (put_keeps x y k (root_at u c)))
+        where
+          same_root : root_at u c ≡ root_at (root_of p) c
+          same_root = ap (λ n. unwrap_or (at_number n c.roots) no_root) (sym mine_is.0)
+
+          keeps : ((y ≡ x) × (kept_of x (with_keeping y k (root_at u c)) ≡ k.kept)) ⊎ (kept_of x (with_keeping y k (root_at u c)) ≡ kept_of x (root_at u c)) → KeepsOrNone x c.tree (root_at u c) (keeps_to (put_number y k (root_at u c).keeping) (root_at u c).went (root_at u c))
+          keeps (inr same) = inl same
+          keeps (inl (of, is)) = ⊎_elim
+              (λ still. inl (is ∙ (still ∙ (ap (λ n. kept_of n (root_at (root_of p) c)) of ∙ ap (kept_of x) (sym same_root)))))
+              (λ none. inr (is ∙ none.0, λ z there about. free_spent (root_of p) (actor p) y c none.1 z (subst (λ (q : Root). Contains q.said z) same_root there) (about ∙ sym of)))
+              (renewed_keeps (is_free (root_of p) (actor p) y c) (keeping_of y (root_at (root_of p) c)))
+      by u (inr other) = ((root_at u c).keeping, (root_at u c).went, other, inl refl)
+
+  include_called : (y s : ℕ) → IsCalled x (start p y (Include s) None unbound (next_req (actor p) c)) c (include p y s c).part
+  include_called y s = goes_called x (start p y (Include s) None unbound (next_req (actor p) c)) c (record c { tree = uses_object p y c.tree }) d found (λ u. refl) (λ u. refl) refl (λ u. ((root_at u c).keeping, (root_at u c).went, refl, inl refl))
+
+-- ---- the input
+
+module _ (x : ℕ) (tops : Kinds) (e k : ℕ) (d : Disk) (t : Parts) (M : Seen) (A : Office) (good : IsGood (up k d t M)) (few : KnowsFew (up k d t M)) (knows : KnowsNode tops k d t M) (both : SeesBoth x tops A (up k d t M)) (h : SeesHeard x tops A (up k d t M)) where
+  -- what a coordinator's part of a step has to give
+  abbrev pub Heard_by : Did Coord → Type 0
+  Heard_by did = (g : HasHeard (SeesHeard x) x tops Quietly A (going_of e k d t did, M)) × MayGoOn x g.office did.part
+
+  -- an action begins to wait
+  waits_anew : (p : Path) (y : ℕ) (g : Goal) (o : Option Known) (avoid : Binding) (w : Coord) (q : Doing) → doing_of (actor p) t.coord ≡ Some q → let s = start p y g o avoid (next_req (actor p) t.coord) in IsCalled x s t.coord (goes_on s w).part → Heard_by (goes_on s w)
+  waits_anew p y g o avoid w q does called = (
+    record {
+      office = A;
+      only = record { world = refl; names = refl; answers = λ b i. i; grows = λ z i had. had; heard = λ z i had. inl had };
+      both = both;
+      along = quiet_step x tops k d t M A both h (with_coord t e2)
+          (λ N B only fixed more. at_called x k tops N.sent s t.coord e2 B called (λ of. new_step x k N.sent p y g o avoid (next_req (actor p) t.coord) B.names (λ r to. none r (was_to x B k M.sent N.sent s more r to)))
+          (at_stays x tops A B (fixed_in x tops A (up k d t M) both) fixed (memory_goes A B only) k M.sent N.sent t.coord more (λ u own kind. memory_stays tops A B only (tops.root (uid_number u))) (mine x tops k d t M A both h)))
+          e (goes_on s w).outs M refl refl
+          (request_says x d.inc k M.sent A p (next_req (actor p) t.coord) (next_node s, next_ask (ends_of (root_of p) mid.tree) s) mid (step_claims x d.inc k M.sent A s (ends_of (root_of p) mid.tree) (λ of. new_step x k M.sent p y g o avoid (next_req (actor p) t.coord) A.names none)));
+    },
+    old_goes_on x tops k d t M A knows both e2 (λ u z m at now past. ⊎_elim (λ old. old) (λ new. absurd (let n : Calling s ≡ Committing m = sym new ∙ now in cc)) (called.works u z at)),
+  )
+    where
+      s : Steps
+      s = start p y g o avoid (next_req (actor p) t.coord)
+
+      e2 : Coord
+      e2 = (goes_on (start p y g o avoid (next_req (actor p) t.coord)) w).part
+
+      mid : Coord
+      mid = on_doing (actor p) (λ (z : Doing). record z { req = next_req (actor p) t.coord; now = Calling (start p y g o avoid (next_req (actor p) t.coord)) }) w
+
+      none : (r : Reply) → IsToStep k M.sent s r → ⊥
+      none r to = fresh x tops k d t M A good few h (actor p) q s does refl (let n : next_req (actor p) t.coord ≡ q.req + 1 = ap (λ z. last_req z + 1) does in omega arith) r to
+
+  pub heard_call : (p : Path) (y : ℕ) (op : Op) (q : Doing) → doing_of (actor p) t.coord ≡ Some q → Heard_by (call p y op t.coord)
+  heard_call p y op q does = waits_anew p y (Run op) (known_at_start (top_of p) y r t.coord k2.kept) k2.avoid (on_root (root_of p) (with_keeping y k2) (record t.coord { tree = uses_object p y t.coord.tree })) q does (call_called x t.coord p q does y op)
+    where
+      r : Root
+      r = root_at (root_of p) t.coord
+
+      k2 : Keeping
+      k2 = renewed (is_free (root_of p) (actor p) y t.coord) (keeping_of y (root_at (root_of p) t.coord)) (let z = keeping_of y (root_at (root_of p) t.coord) in z.kept)
+
+  pub heard_include : (p : Path) (y s : ℕ) (q : Doing) → doing_of (actor p) t.coord ≡ Some q → Heard_by (include p y s t.coord)
+  heard_include p y s q does = waits_anew p y (Include s) None unbound (record t.coord { tree = uses_object p y t.coord.tree }) q does (include_called x t.coord p q does y s)
+
+  -- it begins, of the action of a label
+  pub heard_starts : (hd : Header) (R : Seen → Type 0) → KeepsHeard hd x R → IsHeardAt x R tops A (k, d, t) M → (i : Input) → is_act i ≡ true → refusal_up hd i t.coord ≡ None → Heard_by (acts i d.intents t.coord)
+  heard_starts hd R rest at (input.Call l y op) act free = by (branch_named l t.coord) refl free
+    where
+      by : (o : Option Branch) → branch_named l t.coord ≡ o → refused_by (call_reasons hd y op) t.coord o ≡ None → Heard_by (on_branch (λ b. call b.path y op t.coord) t.coord o)
+      by None is none = absurd (cc none)
+      by (Some b) is none = let w = (let c = knows.coord in c.at_work (actor b.path) b (placed hd x tops e k d t M knows.kinds knows.coord A.world both.disks (number_of l t.coord) b is)) in heard_call b.path y op w.0 w.1
+  heard_starts hd R rest at (input.Include l y s) act free = by (branch_named l t.coord) refl free
+    where
+      by : (o : Option Branch) → branch_named l t.coord ≡ o → refused_by (include_reasons hd y) t.coord o ≡ None → Heard_by (on_branch (λ b. include b.path y s t.coord) t.coord o)
+      by None is none = absurd (cc none)
+      by (Some b) is none = let w = (let c = knows.coord in c.at_work (actor b.path) b (placed hd x tops e k d t M knows.kinds knows.coord A.world both.disks (number_of l t.coord) b is)) in heard_include b.path y s w.0 w.1
+  heard_starts hd R rest at (input.Commit l) act free = rest.act tops e k d t (input.Commit l) M A at refl refl free
+  heard_starts hd R rest at (input.Abort l) act free = rest.act tops e k d t (input.Abort l) M A at refl refl free
+  heard_starts hd R rest at (input.GiveUp l) act free = rest.act tops e k d t (input.GiveUp l) M A at refl refl free
+  heard_starts hd R rest at (input.Begin l how parent) act free = absurd (cc act)
+  heard_starts hd R rest at (input.Frame n from m) act free = absurd (cc act)
+  heard_starts hd R rest at input.Tick act free = absurd (cc act)
+  heard_starts hd R rest at input.Restart act free = absurd (cc act)
+  heard_starts hd R rest at input.Crash act free = absurd (cc act)
+  heard_starts hd R rest at (input.Show y) act free = absurd (cc act)
