@@ -2,13 +2,13 @@
 use Rattle.std.proofs.Common.{◌≡◌, ◌≢◌, ◌==◌, ◌&&◌, ◌||◌, ℕ, List, [], ◌∷◌, ◌++◌, Bool, true, false, cond, Option, Some, None, refl, sym, ◌∙◌, ap, subst, inl, inr, arith, length}
 use Rattle.std.specs.List.{flat_map}
 use Rattle.arj_lock.proofs.Members as list
-use Rattle.arj_protocol.specs.Words.{Uid, Asked, End, Kind, Label}
+use Rattle.arj_protocol.specs.Words.{Uid, Ask, Asked, End, Kind, Label, Path}
 use Rattle.arj_protocol.specs.Words.body
 use Rattle.arj_protocol.specs.Words.cause
 use Rattle.arj_protocol.specs.Words.ending
 use Rattle.arj_protocol.specs.Words.kind
 use Rattle.arj_protocol.specs.Ask.{Reply, actor}
-use Rattle.arj_protocol.specs.Asking.{again_all, again_now, begin_action, call, call_steps, commit_action, commit_open, commit_top, gaveup_lines, give_up, give_up_doing, gives_up, heard, heard_by, heard_call, heard_doing, heard_none, heard_now, include, kept_at, last_req, moved_commit, next_req, renewed, root_lost, root_moved, step_call, waits_for_call, waits_for_commit}
+use Rattle.arj_protocol.specs.Asking.{again_all, again_now, asks_all, asks_node, begin_action, call, call_steps, commit_action, commit_open, commit_top, gaveup_lines, give_up, give_up_doing, gives_up, heard, heard_by, heard_call, heard_doing, heard_none, heard_now, include, kept_at, last_req, moved_commit, next_req, renewed, root_lost, root_moved, step_call, waits_for_call, waits_for_commit}
 use Rattle.arj_protocol.specs.Call as calls
 use Rattle.arj_protocol.specs.Call.{Moved, Steps, answered, given_up, next_ask, next_node, start}
 use Rattle.arj_protocol.specs.Commit as commit
@@ -231,9 +231,22 @@ module _ (acts_begun : List Action) (paths : Paths) (tree : IsTree paths) (c : C
       now (Calling s) = refl
       now (Committing m) = asks_work (plan_of m).path (plan_of m).req (commit.waiting m) e u
 
-  again_from : (ds : List Doing) (e last : Coord) → ((u : Uid) → doing_of u last ≡ doing_of u c) → ((d : Doing) → list.In d ds → (u : Uid) × (doing_of u c ≡ Some d)) → AllSo last (again_all ds e).outs
-  again_from [] e last same there = tt
-  again_from (d ∷ ds) e last same there = so_both last (again_now e d.now).outs (again_all ds (again_now e d.now).part).outs (now d.now refl) (again_from ds (again_now e d.now).part last same (λ q i. there q (inr i)))
+  asked_tree : (p : Path) (req : ℕ) (as_asked : List (ℕ × Ask)) (e : Coord) → (asks_all p req as_asked e).part.tree ≡ e.tree
+  asked_tree p req [] e = refl
+  asked_tree p req (a ∷ rest) e = asked_tree p req rest (asks_node p req a e).part
+
+  again_tree_now : (e : Coord) (n : Now) → (again_now e n).part.tree ≡ e.tree
+  again_tree_now e Idle = refl
+  again_tree_now e (Calling s) = refl
+  again_tree_now e (Committing m) = asked_tree (plan_of m).path (plan_of m).req (commit.waiting m) e
+
+  again_tree : (ds : List Doing) (e : Coord) → (again_all ds e).part.tree ≡ e.tree
+  again_tree [] e = refl
+  again_tree (d ∷ ds) e = again_tree ds (again_now e d.now).part ∙ again_tree_now e d.now
+
+  again_from : (ds : List Doing) (e last : Coord) → e.tree ≡ last.tree → ((u : Uid) → doing_of u last ≡ doing_of u c) → ((d : Doing) → list.In d ds → (u : Uid) × (doing_of u c ≡ Some d)) → AllSo last (again_all ds e).outs
+  again_from [] e last tree_is same there = tt
+  again_from (d ∷ ds) e last tree_is same there = so_both last (again_now e d.now).outs (again_all ds (again_now e d.now).part).outs (now d.now refl) (again_from ds (again_now e d.now).part last (again_tree_now e d.now ∙ tree_is) same (λ q i. there q (inr i)))
     where
       u : Uid
       u = (there d (inl refl)).0
@@ -243,11 +256,11 @@ module _ (acts_begun : List Action) (paths : Paths) (tree : IsTree paths) (c : C
 
       now : (n : Now) → d.now ≡ n → AllSo last (again_now e n).outs
       now Idle is = tt
-      now (Calling s) is = (step_so last s (ends_of (root_of s.path) e.tree) d (same (actor s.path) ∙ ap (λ z. doing_of z c) (calling u d s found is) ∙ found) (sym (subst (IsNumbered d.req) is (numbered u d found))) is, tt)
+      now (Calling s) is = (step_so last s (ends_of (root_of s.path) e.tree) (ap (ends_of (root_of s.path)) tree_is) d (same (actor s.path) ∙ ap (λ z. doing_of z c) (calling u d s found is) ∙ found) (sym (subst (IsNumbered d.req) is (numbered u d found))) is, tt)
       now (Committing m) is = machine_so last m (commit.left_of m) d (same (actor (plan_of m).path) ∙ ap (λ z. doing_of z c) (voting u d m found is) ∙ found) (sym (subst (IsNumbered d.req) is (numbered u d found)).0) is e
 
   pub again_so : AllSo (again_all c.doings c).part (again_all c.doings c).outs
-  again_so = again_from c.doings c (again_all c.doings c).part (again_work c.doings c) (λ d i. by d (placed d c.doings i))
+  again_so = again_from c.doings c (again_all c.doings c).part (sym (again_tree c.doings c)) (again_work c.doings c) (λ d i. by d (placed d c.doings i))
     where
       same : (n : ℕ) → (n == n) ≡ true
       same n = grind arith

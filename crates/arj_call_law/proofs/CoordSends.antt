@@ -1,5 +1,5 @@
 -- A coordinator sends the requests of what waits, and knows of them.
-use Rattle.std.proofs.Common.{◌≡◌, ◌⊎◌, ◌≤◌, ◌+◌, ℕ, List, [], ◌∷◌, ◌++◌, Bool, true, false, cond, Option, Some, None, refl, sym, ◌∙◌, ap, subst, inl, inr, ⊎_elim, arith, map}
+use Rattle.std.proofs.Common.{◌≡◌, ◌≢◌, ◌⊎◌, ◌≤◌, ◌+◌, ℕ, List, [], ◌∷◌, ◌++◌, Bool, true, false, cond, Option, Some, None, refl, sym, ◌∙◌, ap, subst, inl, inr, ⊎_elim, arith, map}
 use Rattle.std.specs.Prelude.{⊤, is_some}
 use Rattle.std.specs.List.{AllByRecursion, flat_map}
 use Rattle.arj_base.proofs.Uids.{uid_cases}
@@ -15,13 +15,14 @@ use Rattle.arj_protocol.specs.Asking.{asks_all, asks_node, call, commits_in, gav
 use Rattle.arj_protocol.specs.Call.{At, AtBind, AtLoad, AtActivate, AtNote, AtInvoke, CallStep, Ended, Goal, On, Steps, ask_at, next_ask, next_node}
 use Rattle.arj_protocol.specs.Commit as commit
 use Rattle.arj_protocol.specs.Commit.{Aborts, Asks, CommitStep, Decides, Machine, Marked, Plan, Stays, ask_of, confirm_ask, has_record, participants, plan_of, states_for, vote_ask, waiting, Voting, Preparing, Confirming}
-use Rattle.arj_protocol.specs.Coord.{Calling, Committing, Coord, Doing, doing_of}
+use Rattle.arj_protocol.specs.Coord.{Calling, Committing, Coord, Doing, Idle, doing_of}
 use Rattle.arj_protocol.specs.Effect.{Do, Effect, Intent, PutIntent, Say, Send}
 use Rattle.arj_protocol.specs.Ending.{aborts_with, decide, decided_told, ended, ends_with, record_work, say_for, says, tell, tell_all, tolds_by, tolds_of, tolds_of_branch, up_to}
 use Rattle.arj_protocol.specs.Order.{has}
 use Rattle.arj_protocol.specs.Tree.{Branch, branch_of, ends_of, is_own, root_of}
 use Rattle.arj_protocol.proofs.Messages.{request_reads_back}
 use Rattle.arj_part_law.specs.Actions.{Action}
+use Rattle.arj_part_law.specs.Ends.{ask_ends}
 use Rattle.arj_part_law.specs.Coords.{IsAsking, IsBusy, IsGoodCoord, IsVoting}
 use Rattle.arj_part_law.specs.Copies.{Paths}
 use Rattle.arj_view_law.specs.Seen.{In, Post}
@@ -31,13 +32,22 @@ use Rattle.arj_call_law.proofs.CoordCalls.{not_both, step_is}
 use Rattle.arj_call_law.proofs.CoordKnown.{doing_here}
 use Rattle.arj_call_law.proofs.ServerCalls.{never, some_is}
 
--- The request is the last one of an action at work, and if the action waits in a call, that of the step; a call is one of a step.
+-- the request is that of the commit to this node
+pub record IsOfCommit (m : Machine) (to : ℕ) (h : Head) (a : Ask) : Type 0 where
+  pub path : h.path ≡ (plan_of m).path
+  pub same : a ≡ ask_of m to
+
+-- The request is the last one of an action at work: if the action waits in a call, that of the step, and if it is at its commit, that of
+-- the commit; a call is one of a step. A step brings no ends, or all that are listed at its root.
 pub record IsSentBy (e : Coord) (to : ℕ) (h : Head) (a : Ask) : Type 0 where
   pub doing : Doing
   pub found : doing_of (actor h.path) e ≡ Some doing
   pub last : h.req ≡ doing.req
   pub step : (s : Steps) → doing.now ≡ Calling s → IsOfStep s to h a
   pub call : (k : Call) → call_in h a ≡ Some k → (s : Steps) × (doing.now ≡ Calling s)
+  pub commit : (m : Machine) → doing.now ≡ Committing m → IsOfCommit m to h a
+  pub busy : doing.now ≢ Idle
+  pub brings : (s : Steps) → doing.now ≡ Calling s → (ask_ends a ≡ []) ⊎ (ask_ends a ≡ ends_of (root_of s.path) e.tree)
 
 abbrev pub SendsSo : Coord → Effect → Type 0
 SendsSo e (Send to m) = (h : Head) (a : Ask) → asks m ≡ Some (h, a) → IsSentBy e to h a
@@ -224,22 +234,35 @@ quiet_tolds intents c u = by (branch_of u c.tree)
 -- ---- requests
 
 -- a request is that of an action's work
-pub request_so : (e : Coord) (to : ℕ) (h : Head) (a : Ask) (d : Doing) → doing_of (actor h.path) e ≡ Some d → h.req ≡ d.req → ((s : Steps) → d.now ≡ Calling s → IsOfStep s to h a) → ((k : Call) → call_in h a ≡ Some k → (s : Steps) × (d.now ≡ Calling s)) → SendsSo e (Send to (request h a))
-request_so e to h a d found last step call h2 a2 is =
+pub request_so : (e : Coord) (to : ℕ) (h : Head) (a : Ask) (d : Doing) → doing_of (actor h.path) e ≡ Some d → h.req ≡ d.req → ((s : Steps) → d.now ≡ Calling s → IsOfStep s to h a) → ((k : Call) → call_in h a ≡ Some k → (s : Steps) × (d.now ≡ Calling s)) → ((m : Machine) → d.now ≡ Committing m → IsOfCommit m to h a) → d.now ≢ Idle → ((s : Steps) → d.now ≡ Calling s → (ask_ends a ≡ []) ⊎ (ask_ends a ≡ ends_of (root_of s.path) e.tree)) → SendsSo e (Send to (request h a))
+request_so e to h a d found last step call commit busy brings h2 a2 is =
     let same : (h, a) ≡ (h2, a2) = some_is (sym (request_reads_back h a) ∙ is) in
     let heads : h ≡ h2 = ap (λ (z : Head × Ask). z.0) same in
-    let its : IsSentBy e to h a = record { doing = d; found = found; last = last; step = step; call = call } in
+    let its : IsSentBy e to h a = record { doing = d; found = found; last = last; step = step; call = call; commit = commit; busy = busy; brings = brings } in
     subst (λ (z : Head × Ask). IsSentBy e to z.0 z.1) same its
 
+-- a step brings no ends, or these
+step_ends : (x : ℕ) (g : Goal) (ends : List (Uid × End)) (at : At) → (ask_ends (ask_at x g ends at) ≡ []) ⊎ (ask_ends (ask_at x g ends at) ≡ ends)
+step_ends x g ends (AtBind avoid) = inl refl
+step_ends x g ends (AtLoad k n rest) = inl refl
+step_ends x g ends (AtActivate k st) = inl refl
+step_ends x g ends (AtNote k i) = inl refl
+step_ends x g ends (AtInvoke k i) = inr refl
+
 -- the request of a step
-pub step_so : (e : Coord) (s : Steps) (ends : List (Uid × End)) (d : Doing) → doing_of (actor s.path) e ≡ Some d → d.req ≡ s.req → d.now ≡ Calling s → SendsSo e (Send (next_node s) (request (head_of s) (next_ask ends s)))
-step_so e s ends d found req now = request_so e (next_node s) (head_of s) (next_ask ends s) d found (sym req) (λ z at. subst (λ y. IsOfStep y (next_node s) (head_of s) (next_ask ends s)) (step_is (sym now ∙ at)) (record { node = refl; head = refl; same = bare_at s.x s.goal ends s.at })) (λ k is. (s, now))
+pub step_so : (e : Coord) (s : Steps) (ends : List (Uid × End)) → ends ≡ ends_of (root_of s.path) e.tree → (d : Doing) → doing_of (actor s.path) e ≡ Some d → d.req ≡ s.req → d.now ≡ Calling s → SendsSo e (Send (next_node s) (request (head_of s) (next_ask ends s)))
+step_so e s ends listed d found req now = request_so e (next_node s) (head_of s) (next_ask ends s) d found (sym req) (λ z at. subst (λ y. IsOfStep y (next_node s) (head_of s) (next_ask ends s)) (step_is (sym now ∙ at)) (record { node = refl; head = refl; same = bare_at s.x s.goal ends s.at })) (λ k is. (s, now)) (λ m at. absurd (not_both (sym now ∙ at))) (λ idle. cc (sym now ∙ idle))
+    (λ z at. ⊎_elim (λ none. inl none) (λ all. inr (all ∙ listed ∙ ap (λ (y : Steps). ends_of (root_of y.path) e.tree) (step_is (sym now ∙ at)))) (step_ends s.x s.goal ends s.at))
+
+committing_is : {m q : Machine} → Committing m ≡ Committing q → m ≡ q
+committing_is is = cc is
 
 -- the requests of a commit
 pub machine_so : (e : Coord) (m : Machine) (ns : List ℕ) (d : Doing) → doing_of (actor (plan_of m).path) e ≡ Some d → d.req ≡ (plan_of m).req → d.now ≡ Committing m → (c : Coord) → AllSo e (asks_all (plan_of m).path (plan_of m).req (map {A = ℕ} {B = ℕ × Ask} (λ n. (n, ask_of m n)) ns) c).outs
 machine_so e m [] d found req now c = tt
 machine_so e m (n ∷ ns) d found req now c = (
-  request_so e n (record { path = (plan_of m).path; req = (plan_of m).req }) (ask_of m n) d found (sym req) (λ s at. absurd (not_both (sym at ∙ now))) (λ k is. absurd (cc (sym (no_call m n (record { path = (plan_of m).path; req = (plan_of m).req })) ∙ is))),
+  request_so e n (record { path = (plan_of m).path; req = (plan_of m).req }) (ask_of m n) d found (sym req) (λ s at. absurd (not_both (sym at ∙ now))) (λ k is. absurd (cc (sym (no_call m n (record { path = (plan_of m).path; req = (plan_of m).req })) ∙ is)))
+      (λ q at. record { path = ap (λ (z : Machine). (plan_of z).path) (committing_is (sym now ∙ at)); same = ap (λ (z : Machine). ask_of z n) (committing_is (sym now ∙ at)) }) (λ idle. cc (sym now ∙ idle)) (λ s at. absurd (not_both (sym at ∙ now))),
   machine_so e m ns d found req now (asks_node (plan_of m).path (plan_of m).req (n, ask_of m n) c).part,
 )
 
@@ -250,7 +273,7 @@ asks_work p req (a ∷ rest) c u = asks_work p req rest (asks_node p req a c).pa
 -- ---- each handler
 
 pub goes_so : (s : Steps) (t : Coord) (d : Doing) → doing_of (actor s.path) t ≡ Some d → AllSo (goes_on s t).part (goes_on s t).outs
-goes_so s t d found = (step_so (goes_on s t).part s _ (record d { req = s.req; now = Calling s }) (doing_here (actor s.path) (λ (q : Doing). record q { req = s.req; now = Calling s }) t d found) refl refl, tt)
+goes_so s t d found = (step_so (goes_on s t).part s _ refl (record d { req = s.req; now = Calling s }) (doing_here (actor s.path) (λ (q : Doing). record q { req = s.req; now = Calling s }) t d found) refl refl, tt)
 
 pub step_call_so : (s : Steps) (step : CallStep) (t : Coord) (d : Doing) → doing_of (actor s.path) t ≡ Some d → AllSo (step_call s step t).part (step_call s step t).outs
 step_call_so s (On at) t d found = goes_so (record s { req = s.req + 1; at = at }) t d found

@@ -17,3 +17,4 @@ pub mod UnitSteps
 pub mod CoordSteps
 pub mod StepSteps
 pub mod ToldSteps
+pub mod AskedSteps

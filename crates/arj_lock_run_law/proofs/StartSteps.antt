@@ -4,6 +4,7 @@ use Rattle.std.specs.Prelude.{is_some}
 use Rattle.arj_protocol.specs.Words.{Message, Uid}
 use Rattle.arj_protocol.specs.Words.message
 use Rattle.arj_protocol.specs.Confirm.{recovered_naming}
+use Rattle.arj_protocol.specs.Coord.{Doing, doing_of, new_coord}
 use Rattle.arj_protocol.specs.Effect.{Disk}
 use Rattle.arj_protocol.specs.Named.{Named}
 use Rattle.arj_protocol.specs.Naming.{Naming}
@@ -16,6 +17,7 @@ use Rattle.arj_lock_law.specs.Machine.{Run}
 use Rattle.arj_lock_law.specs.State as state
 use Rattle.arj_lock_law.specs.State.{State}
 use Rattle.arj_part_law.specs.Actions.{Action, act_of}
+use Rattle.arj_part_law.proofs.GoodCoords.{doing_by}
 use Rattle.arj_part_law.proofs.GoodTrees.{found_by, place_in}
 use Rattle.arj_view_law.specs.Seen.{Seen}
 use Rattle.arj_lock_view_law.specs.Calling.{IsReached}
@@ -54,6 +56,9 @@ serving_of v m S T only = record {
 -- a new tree has nobody
 pub no_branch : (node inc : ℕ) (u : Uid) (b : Branch) → branch_of u (new_tree node inc) ≡ Some b → ⊥
 no_branch node inc u b there = place_in u.num b [] (found_by u (new_tree node inc) b there).1
+
+pub no_work : (node inc : ℕ) (u : Uid) (d : Doing) → doing_of u (new_coord node inc) ≡ Some d → ⊥
+no_work node inc u d works = place_in u.num d [] (doing_by u (new_coord node inc) d works).1
 
 module _ (f : Fixed) (x : ℕ) (begun : List Action) (k : ℕ) where
   abbrev v : View
