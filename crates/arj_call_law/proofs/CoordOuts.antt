@@ -222,7 +222,7 @@ module _ (acts_begun : List Action) (paths : Paths) (tree : IsTree paths) (c : C
 
   -- ---- what is sent again
 
-  again_work : (ds : List Doing) (e : Coord) (u : Uid) → doing_of u (again_all ds e).part ≡ doing_of u e
+  pub again_work : (ds : List Doing) (e : Coord) (u : Uid) → doing_of u (again_all ds e).part ≡ doing_of u e
   again_work [] e u = refl
   again_work (d ∷ ds) e u = again_work ds (again_now e d.now).part u ∙ now d.now
     where
@@ -235,18 +235,18 @@ module _ (acts_begun : List Action) (paths : Paths) (tree : IsTree paths) (c : C
   asked_tree p req [] e = refl
   asked_tree p req (a ∷ rest) e = asked_tree p req rest (asks_node p req a e).part
 
-  again_tree_now : (e : Coord) (n : Now) → (again_now e n).part.tree ≡ e.tree
-  again_tree_now e Idle = refl
-  again_tree_now e (Calling s) = refl
-  again_tree_now e (Committing m) = asked_tree (plan_of m).path (plan_of m).req (commit.waiting m) e
+  again_tree : (e : Coord) (n : Now) → (again_now e n).part.tree ≡ e.tree
+  again_tree e Idle = refl
+  again_tree e (Calling s) = refl
+  again_tree e (Committing m) = asked_tree (plan_of m).path (plan_of m).req (commit.waiting m) e
 
-  again_tree : (ds : List Doing) (e : Coord) → (again_all ds e).part.tree ≡ e.tree
-  again_tree [] e = refl
-  again_tree (d ∷ ds) e = again_tree ds (again_now e d.now).part ∙ again_tree_now e d.now
+  pub again_all_tree : (ds : List Doing) (e : Coord) → (again_all ds e).part.tree ≡ e.tree
+  again_all_tree [] e = refl
+  again_all_tree (d ∷ ds) e = again_all_tree ds (again_now e d.now).part ∙ again_tree e d.now
 
   again_from : (ds : List Doing) (e last : Coord) → e.tree ≡ last.tree → ((u : Uid) → doing_of u last ≡ doing_of u c) → ((d : Doing) → list.In d ds → (u : Uid) × (doing_of u c ≡ Some d)) → AllSo last (again_all ds e).outs
   again_from [] e last tree_is same there = tt
-  again_from (d ∷ ds) e last tree_is same there = so_both last (again_now e d.now).outs (again_all ds (again_now e d.now).part).outs (now d.now refl) (again_from ds (again_now e d.now).part last (again_tree_now e d.now ∙ tree_is) same (λ q i. there q (inr i)))
+  again_from (d ∷ ds) e last tree_is same there = so_both last (again_now e d.now).outs (again_all ds (again_now e d.now).part).outs (now d.now refl) (again_from ds (again_now e d.now).part last (again_tree e d.now ∙ tree_is) same (λ q i. there q (inr i)))
     where
       u : Uid
       u = (there d (inl refl)).0
@@ -260,7 +260,7 @@ module _ (acts_begun : List Action) (paths : Paths) (tree : IsTree paths) (c : C
       now (Committing m) is = machine_so last m (commit.left_of m) d (same (actor (plan_of m).path) ∙ ap (λ z. doing_of z c) (voting u d m found is) ∙ found) (sym (subst (IsNumbered d.req) is (numbered u d found)).0) is e
 
   pub again_so : AllSo (again_all c.doings c).part (again_all c.doings c).outs
-  again_so = again_from c.doings c (again_all c.doings c).part (sym (again_tree c.doings c)) (again_work c.doings c) (λ d i. by d (placed d c.doings i))
+  again_so = again_from c.doings c (again_all c.doings c).part (sym (again_all_tree c.doings c)) (again_work c.doings c) (λ d i. by d (placed d c.doings i))
     where
       same : (n : ℕ) → (n == n) ≡ true
       same n = grind arith
