@@ -15,15 +15,12 @@ use Rattle.arj_law.specs.Growth.{entry_by, first_stores}
 use Rattle.arj_law.proofs.Listed.{changers_append, entry_decided, last_of_append, listed_append, same_is, same_itself}
 use Rattle.arj_line_law.proofs.Books.{never}
 use Rattle.arj_protocol.specs.Order.{uid_number}
-use Rattle.arj_protocol.specs.Values.{entry_in}
+use Rattle.arj_protocol.specs.Values.{entry_in as entry_in_payload}
 use Rattle.arj_protocol.proofs.Payloads.{entry_back}
-use Rattle.arj_disk_law.specs.Effects.{World, Whole}
 use Rattle.arj_disk_law.specs.Order.{counts_of, entry_by_all}
-use Rattle.arj_disk_law.specs.State.{Done, Packed, entry_after, entry_with, last_entry, list_after, target}
-use Rattle.arj_disk_law.proofs.Orders.{orders_agree}
+use Rattle.arj_disk_law.specs.State.{Done, Packed, entry_after, entry_in, entry_with, list_after, target}
 use Rattle.arj_disk_view_law.specs.Pairs.{packed_entry}
 use Rattle.arj_serial_law.specs.Decided.{AreDecided, AreDecisions, IsDecision}
-use Rattle.arj_serial_law.proofs.States.{all_counting, filter_twice, none_idle}
 
 -- ---- lists
 
@@ -100,25 +97,28 @@ module _ (values : Values) (lines : List Line) (x : ℕ) (first : List ℕ) wher
 
 -- ---- the last entry
 
-module _ (header : Header) (lines : List Line) (x : ℕ) (W : World) (whole : Whole W) (decided : AreDecided header lines x W.disk.tops) (first_is : W.disk.first_entry ≡ record { version = 0; writer = uid_number nobody; content = first_stores header x }) where
-  counting : List Done
-  counting = filter counts_of W.disk.tops
+-- the entry is that of the tops that count
+entry_counted : (first : Packed) (ds : List Done) → entry_in first ds ≡ entry_by_all first (filter counts_of ds)
+entry_counted first [] = refl
+entry_counted first (d ∷ ds) = by d.counts (entry_counted first ds)
+  where
+    by : (b : Bool) → entry_in first ds ≡ entry_by_all first (filter counts_of ds) → cond b (entry_after d.top d.plan d.got (entry_in first ds)) (entry_in first ds) ≡ entry_by_all first (cond b (d ∷ filter counts_of ds) (filter counts_of ds))
+    by true ih = ap (entry_after d.top d.plan d.got) ih
+    by false ih = ih
 
-  by_counting : entry_by_all W.disk.first_entry (filter counts_of W.disk.tops) ≡ last_entry W.disk
-  by_counting = let o = orders_agree W (filter counts_of W.disk.tops) whole (filter_twice counts_of W.disk.tops) (none_idle W.disk.first_entry (filter counts_of W.disk.tops) (all_counting W.disk.tops)) in o.entry
+pub stores_back : (servers stores : List ℕ) → (let e = entry_in_payload (entry_payload servers stores) in e.stores) ≡ stores
+stores_back servers stores = ap (λ e. let d = e in d.stores) (entry_back (record { servers = servers; stores = stores }))
 
+module _ (header : Header) (lines : List Line) (x : ℕ) (first : Packed) (ds : List Done) (decided : AreDecided header lines x ds) (first_is : first ≡ record { version = 0; writer = uid_number nobody; content = first_stores header x }) where
   those : filter decided.counts (reverse decided.those) ≡ reverse decided.those
   those = all_kept decided.counts (reverse decided.those) (all_reversed (λ (t : Top). decided.counts t ≡ true) decided.those decided.counted)
 
   entry_is : entry_state header lines x ≡ entry_by header lines x (reverse decided.those)
   entry_is = entry_decided header lines x decided.counts (reverse decided.those) decided.order ∙ ap (entry_by header lines x) those
 
-  pub stores_back : (servers stores : List ℕ) → (let e = entry_in (entry_payload servers stores) in e.stores) ≡ stores
-  stores_back servers stores = ap (λ e. let d = e in d.stores) (entry_back (record { servers = servers; stores = stores }))
-
-  pub entry_is_last : last_entry W.disk ≡ packed_entry (entry_state header lines x)
+  pub entry_is_last : entry_in first ds ≡ packed_entry (entry_state header lines x)
   entry_is_last =
-      sym by_counting ∙ by_decisions (first_values header) lines x (first_stores header x) W.disk.first_entry first_is (filter counts_of W.disk.tops) decided.those decided.each
+      entry_counted first ds ∙ by_decisions (first_values header) lines x (first_stores header x) first first_is (filter counts_of ds) decided.those decided.each
       ∙ (λ i. record {
         version = length (changers lines x (first_stores header x) (reverse decided.those));
         writer = uid_number (last_changer (acts lines) (changers lines x (first_stores header x) (reverse decided.those)));

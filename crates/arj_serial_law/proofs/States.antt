@@ -21,13 +21,11 @@ use Rattle.arj_line_law.specs.Book.{new_book}
 use Rattle.arj_line_law.specs.Right.{AreRight}
 use Rattle.arj_line_law.proofs.Books.{never}
 use Rattle.arj_protocol.specs.Order.{uid_number}
-use Rattle.arj_disk_law.specs.Effects.{World, Whole}
+use Rattle.arj_disk_law.specs.Core.{Chain}
 use Rattle.arj_disk_law.specs.Laws.{writes_in}
-use Rattle.arj_disk_law.specs.Order.{AreIdleInPlace, counts_of}
-use Rattle.arj_disk_law.specs.State.{Done, Packed, last, last_in}
+use Rattle.arj_disk_law.specs.Order.{counts_of}
+use Rattle.arj_disk_law.specs.State.{Done, Packed, last_in}
 use Rattle.arj_disk_law.specs.Words as words
-use Rattle.arj_disk_law.proofs.Orders.{orders_agree}
-use Rattle.arj_disk_law.proofs.Results.{versions_count}
 use Rattle.arj_disk_view_law.specs.Pairs.{packed}
 use Rattle.arj_serial_law.specs.Decided.{AreDecided, AreDecisions, AreNewestFirst, CommitsComeFirst, IsCalledFirst, IsLastWrite, WroteSo, left_by}
 use Rattle.arj_serial_law.proofs.Order.{all_called_first, all_in_order, call_before, listed, place_of_top}
@@ -36,14 +34,6 @@ use Rattle.arj_serial_law.proofs.Tying.{all_at}
 use Rattle.arj_serial_law.proofs.Values.{to_filter}
 
 -- ---- lists
-
-pub filter_twice : {A : Type 0} (p : A → Bool) (xs : List A) → filter p (filter p xs) ≡ filter p xs
-filter_twice p [] = refl
-filter_twice {A} p (x ∷ xs) = by (p x) refl (filter_twice p xs)
-  where
-    by : (b : Bool) → p x ≡ b → filter p (filter p xs) ≡ filter p xs → filter p (cond b (x ∷ filter p xs) (filter p xs)) ≡ cond b (x ∷ filter p xs) (filter p xs)
-    by true is ih = (λ i. cond (is i) (x ∷ filter p (filter p xs)) (filter p (filter p xs))) ∙ ap (λ ys. x ∷ ys) ih
-    by false is ih = ih
 
 -- the greatest of calls whose places rise is the last one
 last_one : (xs : List Call) (c : Call) → Pairwise (λ (a b : Call). a.at < b.at) xs → In c xs → ((e : Call) → In e xs → e.at ≤ c.at) → (front : List Call) × (xs ≡ front ++ c ∷ [])
@@ -349,27 +339,23 @@ module _ (values : Values) (lines : List Line) (right : AreRight new_book lines)
         others = λ u i. ⊎_elim (λ (same : t ≡ u). inl (sym same)) (λ j. inr (inl (all_at (λ (v : Top). v.at < t.at) ts falls.0 u j))) i;
       })
 
--- tops that count are never idle
-pub none_idle : (first : Packed) (ds : List Done) → AllByRecursion (λ (d : Done). d.counts ≡ true) ds → AreIdleInPlace first ds
-none_idle first [] all = tt
-none_idle first (d ∷ ds) all = ((λ no. never all.0 no), none_idle first ds all.1)
-
-pub all_counting : (ds : List Done) → AllByRecursion (λ (d : Done). d.counts ≡ true) (filter counts_of ds)
-all_counting [] = tt
-all_counting (d ∷ ds) = by d.counts refl (all_counting ds)
-  where
-    by : (b : Bool) → d.counts ≡ b → AllByRecursion (λ (e : Done). e.counts ≡ true) (filter counts_of ds) → AllByRecursion (λ (e : Done). e.counts ≡ true) (cond b (d ∷ filter counts_of ds) (filter counts_of ds))
-    by true is r = (is, r)
-    by false is r = r
-
 -- ---- the last state
 
-module _ (header : Header) (lines : List Line) (right : AreRight new_book lines) (tied : Ties (first_values header) lines) (x : ℕ) (W : World) (whole : Whole W) (decided : AreDecided header lines x W.disk.tops) (first_is : W.disk.first ≡ packed (state_after x (first_values header x) [])) where
+-- versions rise with each top that wrote
+chain_version : (first : Packed) (ds : List Done) → Chain first ds → (last_in first ds).version ≡ first.version + writes_in ds
+chain_version first [] c = let e : first.version ≡ first.version + 0 = omega arith in e
+chain_version first (d ∷ ds) c = by (chain_version first ds c.1) d.plan.writes refl
+  where
+    by : (last_in first ds).version ≡ first.version + writes_in ds → (o : Option Packed) → d.plan.writes ≡ o → (unwrap_or o (last_in first ds)).version ≡ first.version + (writes_in ds + cond (is_some o) 1 0)
+    by ih None e = omega (arith, ih)
+    by ih (Some w) e = let above = c.0 w e in omega (arith, ih, above)
+
+module _ (header : Header) (lines : List Line) (right : AreRight new_book lines) (tied : Ties (first_values header) lines) (x : ℕ) (first : Packed) (ds : List Done) (chain : Chain first ds) (plain : (d : Done) → words.In d ds → d.counts ≡ false → d.plan.writes ≡ None) (decided : AreDecided header lines x ds) (first_is : first ≡ packed (state_after x (first_values header x) [])) where
   abbrev values : Values
   values = first_values header
 
   abbrev counting : List Done
-  counting = filter counts_of W.disk.tops
+  counting = filter counts_of ds
 
   abbrev written : List Call
   written = filter (writes_on x) (committed_calls lines)
@@ -380,19 +366,27 @@ module _ (header : Header) (lines : List Line) (right : AreRight new_book lines)
   first_calls : CommitsComeFirst lines
   first_calls = all_called_first values lines right tied
 
-  pub by_counting : last_in W.disk.first counting ≡ last W.disk
-  by_counting = let o = orders_agree W counting whole (filter_twice counts_of W.disk.tops) (none_idle W.disk.first_entry counting (all_counting W.disk.tops)) in o.state
-
-  counted_writes : (ds : List Done) → ((d : Done) → words.In d ds → d.counts ≡ false → d.plan.writes ≡ None) → writes_in ds ≡ writes_in (filter counts_of ds)
-  counted_writes [] plain = refl
-  counted_writes (d ∷ ds) plain = by d.counts refl (counted_writes ds (λ e i. plain e (inr i)))
+  counted_last : (es : List Done) → ((d : Done) → words.In d es → d.counts ≡ false → d.plan.writes ≡ None) → last_in first es ≡ last_in first (filter counts_of es)
+  counted_last [] none = refl
+  counted_last (d ∷ es) none = by d.counts refl (counted_last es (λ e i. none e (inr i)))
     where
-      by : (b : Bool) → d.counts ≡ b → writes_in ds ≡ writes_in (filter counts_of ds) → writes_in ds + cond (is_some d.plan.writes) 1 0 ≡ writes_in (cond b (d ∷ filter counts_of ds) (filter counts_of ds))
-      by true is ih = ap (λ n. n + cond (is_some d.plan.writes) 1 0) ih
-      by false is ih = ap (λ o. writes_in ds + cond (is_some o) 1 0) (plain d (inl refl) is) ∙ (let e : writes_in ds + 0 ≡ writes_in (filter counts_of ds) = omega (arith, ih) in e)
+      by : (b : Bool) → d.counts ≡ b → last_in first es ≡ last_in first (filter counts_of es) → unwrap_or d.plan.writes (last_in first es) ≡ last_in first (cond b (d ∷ filter counts_of es) (filter counts_of es))
+      by true is ih = ap (unwrap_or d.plan.writes) ih
+      by false is ih = ap (λ o. unwrap_or o (last_in first es)) (none d (inl refl) is) ∙ ih
 
-  version_is : (last W.disk).version ≡ W.disk.first.version + writes_in counting
-  version_is = let v = versions_count W whole in v.state ∙ ap (λ n. W.disk.first.version + n) (counted_writes W.disk.tops whole.core.journal.plain)
+  by_counting : last_in first counting ≡ last_in first ds
+  by_counting = sym (counted_last ds plain)
+
+  counted_writes : (es : List Done) → ((d : Done) → words.In d es → d.counts ≡ false → d.plan.writes ≡ None) → writes_in es ≡ writes_in (filter counts_of es)
+  counted_writes [] none = refl
+  counted_writes (d ∷ es) none = by d.counts refl (counted_writes es (λ e i. none e (inr i)))
+    where
+      by : (b : Bool) → d.counts ≡ b → writes_in es ≡ writes_in (filter counts_of es) → writes_in es + cond (is_some d.plan.writes) 1 0 ≡ writes_in (cond b (d ∷ filter counts_of es) (filter counts_of es))
+      by true is ih = ap (λ n. n + cond (is_some d.plan.writes) 1 0) ih
+      by false is ih = ap (λ o. writes_in es + cond (is_some o) 1 0) (none d (inl refl) is) ∙ (let e : writes_in es + 0 ≡ writes_in (filter counts_of es) = omega (arith, ih) in e)
+
+  version_is : (last_in first ds).version ≡ first.version + writes_in counting
+  version_is = chain_version first ds chain ∙ ap (λ n. first.version + n) (counted_writes ds plain)
 
   -- versions count the tops that wrote
   count_of : count_tops written ≡ writes_in counting
@@ -416,7 +410,7 @@ module _ (header : Header) (lines : List Line) (right : AreRight new_book lines)
   none_written (c ∷ cs) none = ap (λ b. cond b (c ∷ filter (writes_on x) cs) (filter (writes_on x) cs)) (none c (inl refl)) ∙ none_written cs (λ e i. none e (inr i))
 
   -- nothing was written
-  unwritten : ((u : Top) → In u decided.those → IsSilent values lines right tied x u) → last_in W.disk.first counting ≡ W.disk.first → last W.disk ≡ packed (last_state header lines x)
+  unwritten : ((u : Top) → In u decided.those → IsSilent values lines right tied x u) → last_in first counting ≡ first → last_in first ds ≡ packed (last_state header lines x)
   unwritten silent same =
       let empty : written ≡ [] = none_written (committed_calls lines) (λ e i. by e i (writes_on x e) refl) in
       sym by_counting ∙ same ∙ first_is ∙ sym (state_is (values x) [] (value_same ∙ ap (λ cs. run values cs x) empty) (writes_same ∙ empty))
@@ -426,7 +420,7 @@ module _ (header : Header) (lines : List Line) (right : AreRight new_book lines)
       by e i false is = is
 
   -- the newest write
-  newest_write : IsNewest values lines right tied x W.disk.first counting decided.those → last W.disk ≡ packed (last_state header lines x)
+  newest_write : IsNewest values lines right tied x first counting decided.those → last_in first ds ≡ packed (last_state header lines x)
   newest_write n = sym whole_state ∙ sym (state_is (left_by values lines c) (found.0 ++ c ∷ []) (value_same ∙ ap (λ cs. run values cs x) split ∙ value_left) (writes_same ∙ split))
     where
       c : Call
@@ -469,11 +463,11 @@ module _ (header : Header) (lines : List Line) (right : AreRight new_book lines)
           by (inl same) = l.last e (in_to e (committed_calls lines) f.0) (u.2 ∙ ap (λ (t : Top). t.id) same) f.1
           by (inr (inl older)) = ⊎_elim (λ fine. fine) (λ late.
               let other : (c.top == e.top) ≡ false = off c.top e.top (λ same. let at = same_top values lines right tied x n.top u.0 n_listed u_listed (sym l.whose ∙ same ∙ u.2) in absurd (omega (arith, at, older))) in
-              let first = all_at (IsCalledFirst lines c) (committed_calls lines) (all_at (λ (a : Call). AllByRecursion (IsCalledFirst lines a) (committed_calls lines)) (committed_calls lines) first_calls c c_there) e f.0 late other (writes_conflict x c e l.write f.1) in
+              let early = all_at (IsCalledFirst lines c) (committed_calls lines) (all_at (λ (a : Call). AllByRecursion (IsCalledFirst lines a) (committed_calls lines)) (committed_calls lines) first_calls c c_there) e f.0 late other (writes_conflict x c e l.write f.1) in
               let b = call_before values lines right tied e f.0 in
               let at = same_top values lines right tied x b.0 u.0 b.1 u_listed (sym b.2 ∙ u.2) in
               let less = b.3 in
-              absurd (omega (arith, first, place, less, at, older))) (cases e.at c.at)
+              absurd (omega (arith, early, place, less, at, older))) (cases e.at c.at)
           by (inr (inr silent)) = never f.1 (silent e f.0 u.2)
 
       found : (front : List Call) × (written ≡ front ++ c ∷ [])
@@ -493,13 +487,13 @@ module _ (header : Header) (lines : List Line) (right : AreRight new_book lines)
           (λ i. run-append values found.0 (c ∷ []) i x) ∙ ap (λ b. cond b (value_after c.op (run values found.0 c.x)) (run values found.0 x)) (eq-eqb x c.x (sym object))
           ∙ ap (λ cs. value_after c.op (run values cs c.x)) (sym before)
 
-      whole_state : record { version = count_tops (found.0 ++ c ∷ []); writer = uid_number (last_writer (found.0 ++ c ∷ [])); content = payload_of (left_by values lines c) } ≡ last W.disk
+      whole_state : record { version = count_tops (found.0 ++ c ∷ []); writer = uid_number (last_writer (found.0 ++ c ∷ [])); content = payload_of (left_by values lines c) } ≡ last_in first ds
       whole_state =
-          let state : last W.disk ≡ n.state = sym by_counting ∙ n.last_is in
+          let state : last_in first ds ≡ n.state = sym by_counting ∙ n.last_is in
           let version : n.state.version ≡ count_tops (found.0 ++ c ∷ []) = ap (λ (p : Packed). p.version) (sym state) ∙ version_is ∙ ap (λ (p : Packed). p.version + writes_in counting) first_is ∙ (let e : 0 + writes_in counting ≡ writes_in counting = omega arith in e) ∙ sym count_of ∙ ap count_tops split in
           let w = n.wrote in
           let writer : n.state.writer ≡ uid_number (last_writer (found.0 ++ c ∷ [])) = w.2 ∙ ap uid_number (sym (last_writer_is found.0 c)) in
           (λ i. record { version = sym version i; writer = sym writer i; content = sym w.3 i }) ∙ sym state
 
-  pub state_is_last : last W.disk ≡ packed (last_state header lines x)
-  state_is_last = ⊎_elim (λ none. unwritten none.0 none.1) (λ n. newest_write n) (find_newest values lines right tied x W.disk.first counting decided.those decided.each decided.called)
+  pub state_is_last : last_in first ds ≡ packed (last_state header lines x)
+  state_is_last = ⊎_elim (λ none. unwritten none.0 none.1) (λ n. newest_write n) (find_newest values lines right tied x first counting decided.those decided.each decided.called)

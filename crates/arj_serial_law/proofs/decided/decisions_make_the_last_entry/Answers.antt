@@ -5,7 +5,7 @@ use Rattle.arj_serial_law.proofs.Entries.{entry_is_last, stores_back}
 use Rattle.arj_serial_law.proofs.decided.decisions_make_the_last_entry.Goals as goal
 
 pub returns-clause-entry : goal.returns-clause-entry
-returns-clause-entry c header lines x W whole decided begins = entry_is_last header lines x W whole decided begins.entry
+returns-clause-entry c header lines x W whole decided begins = entry_is_last header lines x W.disk.first_entry W.disk.tops decided begins.entry
 
 pub returns-clause-listed : goal.returns-clause-listed
-returns-clause-listed c header lines x W whole decided begins = ap (λ (p : Packed). p.content) (entry_is_last header lines x W whole decided begins.entry) ∙ stores_back header lines x W whole decided begins.entry (servers_of_line (object_line header x)) (listed header lines x)
+returns-clause-listed c header lines x W whole decided begins = ap (λ (p : Packed). p.content) (entry_is_last header lines x W.disk.first_entry W.disk.tops decided begins.entry) ∙ stores_back (servers_of_line (object_line header x)) (listed header lines x)
