@@ -12,3 +12,4 @@ pub mod States
 pub mod Entries
 pub mod Cleaning
 pub mod Votes
+pub mod Shown

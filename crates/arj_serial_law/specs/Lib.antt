@@ -1,5 +1,6 @@
 pub mod Cleaned
 pub mod Codes
 pub mod Decided
+pub mod Files
 pub mod Locked
 pub mod Tied

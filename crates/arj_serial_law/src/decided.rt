@@ -1,5 +1,5 @@
 // The last state and entry of an object, by its disk machine and by the journal.
-ghost use Rattle.std.specs.Prelude.{◌≡◌, ℕ, List, Option, Contains};
+ghost use Rattle.std.specs.Prelude.{◌≡◌, ℕ, true, List, Option, is_some, Contains};
 ghost use Rattle.arj_disk_law.specs.Effects.{Whole, World};
 ghost use Rattle.arj_disk_law.specs.State.{Packed, last, last_entry};
 ghost use Rattle.arj_disk_view_law.specs.Pairs.{packed, packed_entry};
@@ -11,10 +11,12 @@ ghost use Rattle.arj_line_law.specs.Right.{AreRight};
 ghost use Rattle.arj_lock_law.specs.State.{State};
 ghost use Rattle.arj_model.specs.Actions.{acts};
 ghost use Rattle.arj_model.specs.Calls.{Top, tops};
-ghost use Rattle.arj_model.specs.Last.{entry_state, first_values, last_state, listed, uid_of_id};
+ghost use Rattle.arj_model.specs.Clean.{Clean, Disks};
+ghost use Rattle.arj_model.specs.Last.{entry_state, first_values, last_state, listed, object_line, uid_of_id};
 ghost use Rattle.arj_model.specs.Serial.{Values};
 ghost use Rattle.arj_serial_law.specs.Cleaned.{AreDecidedOrLate, BeginsSo, IsCleanIn, HaveForm};
 ghost use Rattle.arj_serial_law.specs.Decided.{AreDecided, VotedSo, WroteSo};
+ghost use Rattle.arj_serial_law.specs.Files.{AreShown};
 ghost use Rattle.arj_serial_law.specs.Tied.{AreTied, IsTied};
 ghost use Rattle.arj_view_law.specs.Seen.{Seen};
 
@@ -47,4 +49,10 @@ pub fn decisions_make_the_last_entry()
 pub fn seen_disks_are_clean()
     ensures { (header : Header) (lines : List Line) (x : ℕ) (kinds : Kinds) (W : World) (M : Seen) → AreRight new_book lines → AreTied (first_values header) lines
         → SeesDisks x kinds W M → AreDecidedOrLate header lines x W.disk → BeginsSo header x W.disk → HaveForm header x M → IsCleanIn header lines x M }
+{}
+
+/// And files that show such disks, of all objects of the header, are clean as `arj_model` has it. It does nothing when it runs.
+pub fn files_of_clean_disks_are_clean()
+    ensures { (header : Header) (lines : List Line) (M : Seen) (disks : Disks) → ((x : ℕ) → is_some (object_line header x) ≡ true → IsCleanIn header lines x M)
+        → AreShown header lines M disks → Clean header lines disks }
 {}
