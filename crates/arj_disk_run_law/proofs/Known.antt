@@ -261,6 +261,7 @@ module _ (tops : Kinds) (acts : List Action) (k : ℕ) (d : Disk) (t : Parts) (M
     starts = starts;
     above = above;
     steps = steps;
+    alone = sound.alone;
     as_long = mine.faithful.works;
     telling_there = all_told d.intents t.coord.telling (awaited);
   }

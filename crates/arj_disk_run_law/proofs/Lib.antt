@@ -32,6 +32,7 @@ pub mod PlaceWalks
 pub mod RecordWalks
 pub mod RowWalks
 pub mod SoundCoords
+pub mod FirstCommits
 pub mod SoundPlans
 pub mod Telling
 pub mod TopPaths

@@ -1,5 +1,6 @@
--- Coordinators stay sound, whatever they do and hear, where votes that they wait for fit their plans.
-use Rattle.std.proofs.Common.{◌≡◌, ℕ, ◌+◌, ◌==◌, ◌&&◌, zero, suc, List, [], ◌∷◌, ◌++◌, Bool, true, false, cond, Option, Some, None, refl, sym, ◌∙◌, ap, subst, inl, inr, ⊎_elim}
+-- Coordinators stay sound, whatever they do and hear, where votes that they wait for fit their plans, and commits of tops that aren't
+-- refused are the first of their roots.
+use Rattle.std.proofs.Common.{◌≡◌, ◌≢◌, ℕ, ◌+◌, ◌==◌, ◌&&◌, zero, suc, List, [], ◌∷◌, ◌++◌, Bool, true, false, cond, Option, Some, None, refl, sym, ◌∙◌, ap, subst, inl, inr, ⊎_elim}
 use Rattle.std.specs.List.{AllByRecursion, list_any}
 use Rattle.std.proofs.lemmas.Bool.{and_parts}
 use Rattle.arj_base.proofs.Uids.{uid_cases}
@@ -14,7 +15,7 @@ use Rattle.arj_protocol.specs.Asking.{again_all, again_now, asks_all, asks_node,
 use Rattle.arj_protocol.specs.Call.{Answered, CallEnd, CallStep, Changed, Conflict, Ended, Included, Lost, Moved, On, Steps, answered, given_up, next_ask, next_node, start}
 use Rattle.arj_protocol.specs.Call as calls
 use Rattle.arj_protocol.specs.Commit as commit
-use Rattle.arj_protocol.specs.Commit.{Aborts, Asks, CommitStep, Decides, Machine, Plan, Stays, Voting, has_record, left_of, participants, plan_of}
+use Rattle.arj_protocol.specs.Commit.{Aborts, Asks, CommitStep, Decides, Machine, Plan, Stays, Voting, has_record, left_of, participants, plan_of, servers_of}
 use Rattle.arj_protocol.specs.Coord.{Calling, Committing, Coord, Doing, Grant, Idle, Joined, Keeping, Now, Root, Said, Went, change_doing, doing_of, is_free, joined_with, keeping_of, new_coord, no_root, on_doing, on_root, plan_for, root_at, same_join, same_said, same_went, set_doing, with_keeping, with_said, with_went, later_state}
 use Rattle.arj_protocol.specs.Effect.{Did, Intent, Served}
 use Rattle.arj_protocol.specs.Ending.{abort_action, aborts_with, acked, acked_by, acked_left, all_aborted, decide, ended, root_after, states_after}
@@ -23,11 +24,14 @@ use Rattle.arj_protocol.specs.Order.{at_uid, has, put_uid, unbound, without_numb
 use Rattle.arj_protocol.specs.Step.{Input, acts, branch_named, on_branch, parent_of}
 use Rattle.arj_protocol.specs.Step as input
 use Rattle.arj_protocol.specs.Tree.{Branch, Tree, at_place, doomed_at, ended_at, ends_of, is_own, open_below, root_of, uses_object}
-use Rattle.arj_part_law.proofs.GoodCoords.{doomed_same, uses_same}
+use Rattle.arj_part_law.specs.Actions.{paths_of}
+use Rattle.arj_part_law.proofs.Begun.{begun_tree}
+use Rattle.arj_part_law.proofs.GoodCoords.{IsStepOf, answer_step, doomed_same, giveup_step, uses_same, vote_step}
 use Rattle.arj_part_law.proofs.GoodTrees.{get_more}
 use Rattle.arj_part_law.proofs.LivesNamed.{all_at, all_put}
 use Rattle.arj_part_law.proofs.Settled.{doing_other, doing_put, end_tree_on}
 use Rattle.arj_disk_law.proofs.Base.{some_is, test_is}
+use Rattle.arj_disk_view_law.specs.Knows.{CommitsAt, IsFirstAt}
 use Rattle.arj_disk_view_law.specs.Pairs.{Among}
 use Rattle.arj_disk_view_law.proofs.CallWalks.{EndIs, StepIs, lost_is, step_is}
 use Rattle.arj_disk_run_law.specs.Sound.{AreChanged, AreSound, FitsVote, IsOwnRoot, IsSound, IsSoundNow}
@@ -94,26 +98,56 @@ after_own p r changed own = record { joined = own.joined; states = each p.change
 -- ---- from one coordinator to the next
 
 sound_root : (root : Uid) (f : Root → Root) (c : Coord) → ((r : Root) → IsOwnRoot r → IsOwnRoot (f r)) → AreSound c → AreSound (on_root root f c)
-sound_root root f c step s = record { works = s.works; roots = all_put IsOwnRoot root.num (f (root_at root c)) c.roots (step (root_at root c) (root_own root c s)) s.roots }
+sound_root root f c step s = record { works = s.works; alone = s.alone; roots = all_put IsOwnRoot root.num (f (root_at root c)) c.roots (step (root_at root c) (root_own root c s)) s.roots }
 
-sound_do : (u : Uid) (f : Doing → Doing) (c : Coord) → ((d : Doing) → doing_of u c ≡ Some d → IsSoundNow (let q = f d in q.now)) → AreSound c → AreSound (on_doing u f c)
+-- what the action waits for is sound, and if it is a commit, it is the only one of its root
+abbrev IsFirstNow : Coord → Uid → Now → Type 0
+IsFirstNow c u (Committing m) = IsFirstAt c (root_of (plan_of m).path) u
+IsFirstNow c u _ = Unit {0}
+
+sound_do : (u : Uid) (f : Doing → Doing) (c : Coord) → ((d : Doing) → doing_of u c ≡ Some d → (let q = f d in IsSoundNow q.now × IsFirstNow c u q.now)) → AreSound c → AreSound (on_doing u f c)
 sound_do u f c so s = by (doing_of u c) refl
   where
     by : (o : Option Doing) → doing_of u c ≡ o → AreSound (change_doing f u c o)
     by None none = s
     by (Some old) found = record {
-      works = λ w d at. ⊎_elim (λ same. subst (λ (q : Doing). IsSoundNow q.now) (some_is (doing_put u (f old) old c found) (ap (λ v. doing_of v (set_doing u (f old) c)) (sym same) ∙ at)) (so old found)) (λ other. s.works w d (sym (doing_other u w (f old) old c found other) ∙ at)) (uid_cases w u);
+      works = λ w d at. ⊎_elim (λ same. subst (λ (q : Doing). IsSoundNow q.now) (some_is (doing_put u (f old) old c found) (ap (λ v. doing_of v (set_doing u (f old) c)) (sym same) ∙ at)) (so old found).0) (λ other. s.works w d (sym (doing_other u w (f old) old c found other) ∙ at)) (uid_cases w u);
+      alone = λ root v p w q. ⊎_elim
+          (λ vu. ⊎_elim (λ wu. wu ∙ sym vu) (λ wo. fresh root v w vu wo p q ∙ sym vu) (uid_cases w u))
+          (λ vo. ⊎_elim (λ wu. wu ∙ sym (fresh root w v wu vo q p)) (λ wo. s.alone root v (was v vo root p) w (was w wo root q)) (uid_cases w u))
+          (uid_cases v u);
       roots = s.roots;
     }
+      where
+        e : Coord
+        e = set_doing u (f old) c
+
+        was : (v : Uid) → v ≢ u → (root : Uid) → CommitsAt (set_doing u (f old) c) root v → CommitsAt c root v
+        was v other root p = (p.0, p.1, sym (doing_other u v (f old) old c found other) ∙ p.2, p.3, p.4)
+
+        fresh : (root v w : Uid) → v ≡ u → w ≢ u → CommitsAt (set_doing u (f old) c) root v → CommitsAt (set_doing u (f old) c) root w → w ≡ u
+        fresh root v w same other p q =
+            let it : f old ≡ p.0 = some_is (doing_put u (f old) old c found) (ap (λ z. doing_of z e) (sym same) ∙ p.2) in
+            let first : IsFirstAt c (root_of (plan_of p.1).path) u = subst (IsFirstNow c u) (ap (λ (x : Doing). x.now) it ∙ p.3) (so old found).1 in
+            first w (was w other (root_of (plan_of p.1).path) (q.0, q.1, q.2, q.3, q.4 ∙ sym p.4))
+
+-- what it waited for before is so
+same_first : (u : Uid) (c : Coord) → AreSound c → (q : Doing) → doing_of u c ≡ Some q → (n : Now) → q.now ≡ n → IsFirstNow c u n
+same_first u c s q found Idle is = tt
+same_first u c s q found (Calling t) is = tt
+same_first u c s q found (Committing m) is = s.alone (root_of (plan_of m).path) u (q, m, found, is, refl)
 
 sound_tree : (c : Coord) (v : Tree) → ((u : Uid) → is_own u v ≡ is_own u c.tree) → AreSound c → AreSound (record c { tree = v })
-sound_tree c v own s = record { works = λ u d at. s.works u d (sym (same u) ∙ at); roots = s.roots }
+sound_tree c v own s = record { works = λ u d at. s.works u d (sym (same u) ∙ at); alone = λ root u p w q. s.alone root u (was u root p) w (was w root q); roots = s.roots }
   where
     same : (u : Uid) → doing_of u (record c { tree = v }) ≡ doing_of u c
     same u = λ i. cond (own u i) (at_place u.num c.doings) None
 
+    was : (u root : Uid) → CommitsAt (record c { tree = v }) root u → CommitsAt c root u
+    was u root p = (p.0, p.1, sym (same u) ∙ p.2, p.3, p.4)
+
 sound_idle : (u : Uid) (c : Coord) → AreSound c → AreSound (on_doing u (λ (d : Doing). record d { now = Idle }) c)
-sound_idle u c s = sound_do u (λ (d : Doing). record d { now = Idle }) c (λ d found. tt) s
+sound_idle u c s = sound_do u (λ (d : Doing). record d { now = Idle }) c (λ d found. (tt, tt)) s
 
 sound_asks : (p : Path) (req : ℕ) (a : ℕ × Ask) (c : Coord) → AreSound c → AreSound (asks_node p req a c).part
 sound_asks p req a c s = sound_root (root_of p) (with_went (record { path = uids_of p; node = a.0; invoke = is_invoke_ask a.1 })) c (went_own (record { path = uids_of p; node = a.0; invoke = is_invoke_ask a.1 })) s
@@ -127,7 +161,7 @@ sound_asked p req (a ∷ rest) c s = sound_asked p req rest (asks_node p req a c
 sound_goes : (s : Steps) (c : Coord) → AreSound c → AreSound (goes_on s c).part
 sound_goes s c so =
     let w : Coord = on_doing (actor s.path) (λ (d : Doing). record d { req = s.req; now = Calling s }) c in
-    sound_asks s.path s.req (next_node s, next_ask (ends_of (root_of s.path) w.tree) s) w (sound_do (actor s.path) (λ (d : Doing). record d { req = s.req; now = Calling s }) c (λ d found. tt) so)
+    sound_asks s.path s.req (next_node s, next_ask (ends_of (root_of s.path) w.tree) s) w (sound_do (actor s.path) (λ (d : Doing). record d { req = s.req; now = Calling s }) c (λ d found. (tt, tt)) so)
 
 sound_call : (p : Path) (x : ℕ) (o : Op) (c : Coord) → AreSound c → AreSound (call p x o c).part
 sound_call p x o c s =
@@ -170,8 +204,8 @@ sound_all (u ∷ us) c s = sound_all us (ended u ending.Abort c) (sound_ended u 
 
 -- ---- commits
 
-sound_commits : (u : Uid) (m : Machine) (c : Coord) → IsSound m → AreSound c → AreSound (commits_in u m c)
-sound_commits u m c its s = sound_do u (λ (d : Doing). record d { req = (plan_of m).req; now = Committing m }) c (λ d found. its) s
+sound_commits : (u : Uid) (m : Machine) (c : Coord) → IsSound m → IsFirstAt c (root_of (plan_of m).path) u → AreSound c → AreSound (commits_in u m c)
+sound_commits u m c its first s = sound_do u (λ (d : Doing). record d { req = (plan_of m).req; now = Committing m }) c (λ d found. (its, first)) s
 
 sound_decide : (p : Plan) (c : Coord) → AreChanged p [] → AreSound c → AreSound (decide p c).part
 sound_decide p c changed s = by (has_record p)
@@ -189,17 +223,33 @@ sound_decide p c changed s = by (has_record p)
     r = on_root (root_of p.path) (root_after p) took
 
     two : AreSound r
-    two = sound_root (root_of p.path) (root_after p) took (λ q own. after_own p q changed own) (sound_do (actor p.path) (λ (d : Doing). record d { took = participants p }) e (λ d found. let a = one in a.works (actor p.path) d found) one)
+    two = sound_root (root_of p.path) (root_after p) took (λ q own. after_own p q changed own) (sound_do (actor p.path) (λ (d : Doing). record d { took = participants p }) e (λ d found. let a = one in (a.works (actor p.path) d found, same_first (actor p.path) e one d found d.now refl)) one)
 
     by : (w : Bool) → AreSound (cond w (record r { telling = put_uid (actor p.path) (record { root = root_of p.path; nodes = participants p }) r.telling }) r)
-    by true = record { works = two.works; roots = two.roots }
+    by true = record { works = two.works; alone = two.alone; roots = two.roots }
     by false = two
 
-sound_commit_step : (u : Uid) (t : CommitStep) (intents : List (Uid × Intent)) (c : Coord) → IsNextSound t → AreSound c → AreSound (step_commit u t intents c).part
-sound_commit_step u (Stays m) intents c its s = sound_commits u m c its s
-sound_commit_step u (Asks m) intents c its s = sound_asked (plan_of m).path (plan_of m).req (commit.waiting m) (commits_in u m c) (sound_commits u m c its s)
-sound_commit_step u (Decides p) intents c its s = sound_decide p c its s
-sound_commit_step u (Aborts why p) intents c its s = sound_ended u ending.Abort c s
+-- no other commit of the plan's root is under way
+abbrev IsFirstStep : Coord → Uid → CommitStep → Type 0
+IsFirstStep c u (Stays m) = IsFirstAt c (root_of (plan_of m).path) u
+IsFirstStep c u (Asks m) = IsFirstAt c (root_of (plan_of m).path) u
+IsFirstStep c u _ = Unit {0}
+
+abbrev IsPlanStep : Plan → CommitStep → Type 0
+IsPlanStep p t = IsStepOf [] (paths_of []) (begun_tree [] tt) p t
+
+-- each step of a commit has its plan's path
+step_first : (c : Coord) (u : Uid) (p : Plan) (t : CommitStep) → IsPlanStep p t → IsFirstAt c (root_of p.path) u → IsFirstStep c u t
+step_first c u p (Stays m) same first = subst (λ z. IsFirstAt c (root_of z) u) (sym same.0) first
+step_first c u p (Asks m) same first = subst (λ z. IsFirstAt c (root_of z) u) (sym same.0) first
+step_first c u p (Decides q) same first = tt
+step_first c u p (Aborts why q) same first = tt
+
+sound_commit_step : (u : Uid) (t : CommitStep) (intents : List (Uid × Intent)) (c : Coord) → IsNextSound t → IsFirstStep c u t → AreSound c → AreSound (step_commit u t intents c).part
+sound_commit_step u (Stays m) intents c its first s = sound_commits u m c its first s
+sound_commit_step u (Asks m) intents c its first s = sound_asked (plan_of m).path (plan_of m).req (commit.waiting m) (commits_in u m c) (sound_commits u m c its first s)
+sound_commit_step u (Decides p) intents c its first s = sound_decide p c its s
+sound_commit_step u (Aborts why p) intents c its first s = sound_ended u ending.Abort c s
 
 -- ---- what a coordinator hears
 
@@ -231,7 +281,8 @@ sound_heard from a r intents c loads votes s = by (doing_of a.act c) refl
             let w = and_parts ((plan_of m).req == a.req) ((reply_kind r == ask_kind (commit.ask_of m from)) && has (left_of m) from) waits in
             let on = (and_parts (reply_kind r == ask_kind (commit.ask_of m from)) (has (left_of m) from) w.1).1 in
             sound_commit_step a.act (commit.answered from m r).step intents c
-            (answer_sound from m r its on (λ p left states voting yes. votes states q p left yes at (is ∙ ap Committing voting) (ap (λ (x : Machine). let y = plan_of x in y.req) (sym voting) ∙ test_is (plan_of m).req a.req w.0) (ap (λ (x : Machine). has (left_of x) from) (sym voting) ∙ on))) s
+            (answer_sound from m r its on (λ p left states voting yes. votes states q p left yes at (is ∙ ap Committing voting) (ap (λ (x : Machine). let y = plan_of x in y.req) (sym voting) ∙ test_is (plan_of m).req a.req w.0) (ap (λ (x : Machine). has (left_of x) from) (sym voting) ∙ on)))
+            (step_first c a.act (plan_of m) (commit.answered from m r).step (answer_step [] (paths_of []) (begun_tree [] tt) from m r) (s.alone (root_of (plan_of m).path) a.act (q, m, at, is, refl))) s
         one false waits = s
 
     by : (o : Option Doing) → doing_of a.act c ≡ o → AreSound (heard_doing from a r intents c o).part
@@ -242,8 +293,8 @@ pub sound_acked : (from : ℕ) (u : Uid) (intents : List (Uid × Intent)) (c : C
 sound_acked from u intents c s = by (at_uid u c.telling)
   where
     left : (i : Intent) (ns : List ℕ) → AreSound (acked_left u i intents c ns).part
-    left i [] = record { works = s.works; roots = s.roots }
-    left i (m ∷ ms) = record { works = s.works; roots = s.roots }
+    left i [] = record { works = s.works; alone = s.alone; roots = s.roots }
+    left i (m ∷ ms) = record { works = s.works; alone = s.alone; roots = s.roots }
 
     by : (o : Option Intent) → AreSound (acked_by from u intents c o).part
     by None = s
@@ -258,14 +309,14 @@ sound_acked from u intents c s = by (at_uid u c.telling)
 sound_give_up : (u : Uid) (intents : List (Uid × Intent)) (c : Coord) → AreSound c → AreSound (give_up u intents c).part
 sound_give_up u intents c s = by (doing_of u c) refl
   where
-    now : (n : Now) → IsSoundNow n → AreSound (gives_up u intents c n).part
-    now Idle its = s
-    now (Calling t) its = sound_step t (given_up t.at) (on_root (root_of t.path) (root_lost t (given_up t.at)) c) (lost_is (λ st. st.uid ≡ object t.x) t.at) (sound_root (root_of t.path) (root_lost t (given_up t.at)) c (λ r own. record { joined = own.joined; states = own.states }) s)
-    now (Committing m) its = sound_commit_step u (commit.given_up m).step intents c (given_up_sound m its) s
+    now : (q : Doing) → doing_of u c ≡ Some q → (n : Now) → q.now ≡ n → IsSoundNow n → AreSound (gives_up u intents c n).part
+    now q at Idle is its = s
+    now q at (Calling t) is its = sound_step t (given_up t.at) (on_root (root_of t.path) (root_lost t (given_up t.at)) c) (lost_is (λ st. st.uid ≡ object t.x) t.at) (sound_root (root_of t.path) (root_lost t (given_up t.at)) c (λ r own. record { joined = own.joined; states = own.states }) s)
+    now q at (Committing m) is its = sound_commit_step u (commit.given_up m).step intents c (given_up_sound m its) (step_first c u (plan_of m) (commit.given_up m).step (giveup_step [] (paths_of []) (begun_tree [] tt) m) (s.alone (root_of (plan_of m).path) u (q, m, at, is, refl))) s
 
     by : (o : Option Doing) → doing_of u c ≡ o → AreSound (give_up_doing u intents c o).part
     by None is = s
-    by (Some q) is = now q.now (s.works u q is)
+    by (Some q) is = now q is q.now refl (s.works u q is)
 
 pub sound_again : (ds : List Doing) (c : Coord) → AreSound c → AreSound (let h = again_all ds c in h.part)
 sound_again [] c s = s
@@ -276,32 +327,35 @@ sound_again (d ∷ ds) c s = sound_again ds (again_now c d.now).part (now d.now)
     now (Calling t) = sound_asks t.path t.req (next_node t, next_ask (ends_of (root_of t.path) c.tree) t) c s
     now (Committing m) = sound_asked (plan_of m).path (plan_of m).req (commit.waiting m) c s
 
-sound_commit : (b : Branch) (intents : List (Uid × Intent)) (c : Coord) → AreSound c → AreSound (commit_action b intents c).part
-sound_commit b intents c s = by b.doomed
+sound_commit : (b : Branch) (intents : List (Uid × Intent)) (c : Coord) → (b.kind ≢ kind.Nested → b.kind ≢ kind.Serial → IsFirstAt c (root_of b.path) (actor b.path)) → AreSound c → AreSound (commit_action b intents c).part
+sound_commit b intents c first s = by b.doomed
   where
     u : Uid
     u = actor b.path
 
-    top : AreSound (commit_top b.path intents c).part
-    top = sound_commit_step u (commit.start (plan_for b.path (last_req (doing_of u c)) (root_at (root_of b.path) c) c)).step intents c (start_sound b.path (last_req (doing_of u c)) (root_at (root_of b.path) c) c (root_own (root_of b.path) c s)) s
+    p : Plan
+    p = plan_for b.path (last_req (doing_of u c)) (root_at (root_of b.path) c) c
 
-    kinds : (k : Kind) → AreSound (commit_open b intents c k).part
-    kinds kind.Nested = sound_ended u ending.Commit c s
-    kinds kind.Serial = sound_ended u ending.Commit c s
-    kinds kind.Top = top
-    kinds kind.Independent = top
-    kinds kind.Constituent = top
+    top : IsFirstAt c (root_of b.path) (actor b.path) → AreSound (commit_top b.path intents c).part
+    top alone = sound_commit_step u (commit.start p).step intents c (start_sound b.path (last_req (doing_of u c)) (root_at (root_of b.path) c) c (root_own (root_of b.path) c s)) (step_first c u p (commit.start p).step (vote_step [] (paths_of []) (begun_tree [] tt) (servers_of p) p p (refl, refl)) alone) s
+
+    kinds : (k : Kind) → b.kind ≡ k → AreSound (commit_open b intents c k).part
+    kinds kind.Nested is = sound_ended u ending.Commit c s
+    kinds kind.Serial is = sound_ended u ending.Commit c s
+    kinds kind.Top is = top (first (λ e. cc (sym is ∙ e)) (λ e. cc (sym is ∙ e)))
+    kinds kind.Independent is = top (first (λ e. cc (sym is ∙ e)) (λ e. cc (sym is ∙ e)))
+    kinds kind.Constituent is = top (first (λ e. cc (sym is ∙ e)) (λ e. cc (sym is ∙ e)))
 
     by : (d : Bool) → AreSound (cond {A = Did Coord} d (aborts_with u cause.Doomed intents c) (commit_open b intents c b.kind)).part
     by true = sound_ended u ending.Abort c s
-    by false = kinds b.kind
+    by false = kinds b.kind refl
 
-on_named : (f : Branch → Did Coord) (c : Coord) (o : Option Branch) → AreSound c → ((b : Branch) → AreSound (f b).part) → AreSound (on_branch f c o).part
+on_named : (f : Branch → Did Coord) (c : Coord) (o : Option Branch) → AreSound c → ((b : Branch) → o ≡ Some b → AreSound (f b).part) → AreSound (on_branch f c o).part
 on_named f c None s each = s
-on_named f c (Some b) s each = each b
+on_named f c (Some b) s each = each b refl
 
 pub sound_begins : (l : Label) (k : Kind) (parent : Option Label) (above : Option Branch) (c : Coord) → AreSound c → AreSound (let h = begin_action l k parent above c in h.part)
-sound_begins l k parent above c s = record { works = λ u q at. was q (is_own u c.tree) u.num at (λ f. s.works u q f); roots = s.roots }
+sound_begins l k parent above c s = record { works = λ u q at. was q (is_own u c.tree) u.num at (λ f. s.works u q f); alone = λ root u p w q. s.alone root u (older u root p) w (older w root q); roots = s.roots }
   where
     fresh : Doing
     fresh = record { label = l; req = 0; now = Idle; took = [] }
@@ -311,23 +365,41 @@ sound_begins l k parent above c s = record { works = λ u q at. was q (is_own u 
     was q true (suc j) at f = ⊎_elim (λ old. f old) (λ new. subst (λ (x : Doing). IsSoundNow x.now) new.1 tt) (get_more j fresh q c.doings at)
     was q false j at f = absurd (cc at)
 
-pub sound_acts : (i : Input) (intents : List (Uid × Intent)) (c : Coord) → AreSound c → AreSound (let h = acts i intents c in h.part)
-sound_acts (input.Begin l k parent) intents c s = sound_begins l k parent (parent_of parent c) c s
-sound_acts (input.Call l x o) intents c s = on_named (λ b. call b.path x o c) c (branch_named l c) s (λ b. sound_call b.path x o c s)
-sound_acts (input.Include l x n) intents c s = on_named (λ b. include b.path x n c) c (branch_named l c) s (λ b. sound_include b.path x n c s)
-sound_acts (input.Commit l) intents c s = on_named (λ b. commit_action b intents c) c (branch_named l c) s (λ b. sound_commit b intents c s)
-sound_acts (input.Abort l) intents c s = on_named (λ b. abort_action (actor b.path) intents c) c (branch_named l c) s (λ b. sound_all (open_below (actor b.path) c.tree ++ actor b.path ∷ []) c s)
-sound_acts (input.GiveUp l) intents c s = on_named (λ b. give_up (actor b.path) intents c) c (branch_named l c) s (λ b. sound_give_up (actor b.path) intents c s)
-sound_acts (input.Frame j from m) intents c s = s
-sound_acts input.Tick intents c s = s
-sound_acts input.Restart intents c s = s
-sound_acts input.Crash intents c s = s
-sound_acts (input.Show x) intents c s = s
+    found : (q : Doing) (m : Machine) (b : Bool) (j : ℕ) → cond b (at_place j (c.doings ++ fresh ∷ [])) None ≡ Some q → q.now ≡ Committing m → cond b (at_place j c.doings) None ≡ Some q
+    found q m true zero at is = absurd (cc at)
+    found q m true (suc j) at is = ⊎_elim (λ old. old) (λ new. let idle : Idle ≡ Committing m = ap (λ (x : Doing). x.now) new.1 ∙ is in absurd (cc idle)) (get_more j fresh q c.doings at)
+    found q m false j at is = absurd (cc at)
+
+    older : (u root : Uid) → CommitsAt (let h = begin_action l k parent above c in h.part) root u → CommitsAt c root u
+    older u root p = (p.0, p.1, found p.0 p.1 (is_own u c.tree) u.num p.2 p.3, p.3, p.4)
+
+-- where the commit of a top isn't refused no other one of its root is under way
+abbrev pub IsFirstInput : Coord → Input → Type 0
+IsFirstInput c (input.Commit l) = (b : Branch) → branch_named l c ≡ Some b → b.kind ≢ kind.Nested → b.kind ≢ kind.Serial → IsFirstAt c (root_of b.path) (actor b.path)
+IsFirstInput c _ = Unit {0}
+
+pub sound_acts : (i : Input) (intents : List (Uid × Intent)) (c : Coord) → IsFirstInput c i → AreSound c → AreSound (let h = acts i intents c in h.part)
+sound_acts (input.Begin l k parent) intents c first s = sound_begins l k parent (parent_of parent c) c s
+sound_acts (input.Call l x o) intents c first s = on_named (λ b. call b.path x o c) c (branch_named l c) s (λ b is. sound_call b.path x o c s)
+sound_acts (input.Include l x n) intents c first s = on_named (λ b. include b.path x n c) c (branch_named l c) s (λ b is. sound_include b.path x n c s)
+sound_acts (input.Commit l) intents c first s = on_named (λ b. commit_action b intents c) c (branch_named l c) s (λ b is. sound_commit b intents c (first b is) s)
+sound_acts (input.Abort l) intents c first s = on_named (λ b. abort_action (actor b.path) intents c) c (branch_named l c) s (λ b is. sound_all (open_below (actor b.path) c.tree ++ actor b.path ∷ []) c s)
+sound_acts (input.GiveUp l) intents c first s = on_named (λ b. give_up (actor b.path) intents c) c (branch_named l c) s (λ b is. sound_give_up (actor b.path) intents c s)
+sound_acts (input.Frame j from m) intents c first s = s
+sound_acts input.Tick intents c first s = s
+sound_acts input.Restart intents c first s = s
+sound_acts input.Crash intents c first s = s
+sound_acts (input.Show x) intents c first s = s
 
 pub sound_new : (node inc : ℕ) (records : List (Uid × Intent)) → AreSound (record (new_coord node inc) { telling = records })
-sound_new node inc records = record { works = λ u q at. none q (is_own u (let c = new_coord node inc in c.tree)) u.num at; roots = tt }
+sound_new node inc records = record { works = λ u q at. none q (is_own u (let c = new_coord node inc in c.tree)) u.num at; alone = λ root u p w q. none_at p.0 (is_own u (let c = new_coord node inc in c.tree)) u.num p.2; roots = tt }
   where
     none : (q : Doing) (b : Bool) (j : ℕ) → cond b (at_place j []) None ≡ Some q → IsSoundNow q.now
     none q true zero is = absurd (cc is)
     none q true (suc j) is = absurd (cc is)
     none q false j is = absurd (cc is)
+
+    none_at : {A : Type 0} (q : Doing) (b : Bool) (j : ℕ) → cond b (at_place j []) None ≡ Some q → A
+    none_at q true zero is = absurd (cc is)
+    none_at q true (suc j) is = absurd (cc is)
+    none_at q false j is = absurd (cc is)

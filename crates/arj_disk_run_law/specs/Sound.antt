@@ -1,4 +1,4 @@
--- Commits under way have tidy plans, and states stand for their objects.
+-- Commits under way have tidy plans, one at most of each root, and states stand for their objects.
 use Rattle.std.specs.Prelude.{⊤, ◌≡◌, ℕ, true, false, List, [], ◌∷◌, Option, Some, None}
 use Rattle.std.specs.List.{AllByRecursion}
 use Rattle.arj_protocol.specs.Words.{Asked, Message, ObjectState, Uid, VotedReply, object}
@@ -10,7 +10,7 @@ use Rattle.arj_protocol.specs.Node.{Parts}
 use Rattle.arj_protocol.specs.Order as order
 use Rattle.arj_view_law.specs.Seen as seen
 use Rattle.arj_view_law.specs.Seen.{Seen}
-use Rattle.arj_disk_view_law.specs.Knows.{IsUnderWay}
+use Rattle.arj_disk_view_law.specs.Knows.{CommitsAt, IsFirstAt, IsUnderWay}
 use Rattle.arj_disk_view_law.specs.Pairs.{Among}
 use Rattle.arj_disk_view_law.specs.Plans.{IsTidy, used_at}
 
@@ -86,9 +86,10 @@ pub record IsOwnRoot (r : Root) : Type 0 where
   pub joined : AllByRecursion (λ (j : Joined). (let s = j.loaded in s.uid) ≡ object j.x) r.joined
   pub states : AllByRecursion (λ (e : ℕ × ObjectState). (let s = e.1 in s.uid) ≡ object e.0) r.states
 
--- So it is at a coordinator.
+-- So it is at a coordinator; and of one root one commit at most is under way.
 pub record AreSound (c : Coord) : Type 0 where
   pub works : (u : Uid) (q : Doing) → doing_of u c ≡ Some q → IsSoundNow q.now
+  pub alone : (root u : Uid) → CommitsAt c root u → IsFirstAt c root u
   pub roots : AllByRecursion (λ (e : ℕ × Root). IsOwnRoot e.1) c.roots
 
 -- the plan uses the object at this server

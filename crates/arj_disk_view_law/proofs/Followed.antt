@@ -43,6 +43,7 @@ module _ (tops : Kinds) (o : Option Walk) where
     starts = n.starts;
     above = n.above;
     steps = n.steps;
+    alone = n.alone;
     as_long = n.as_long;
     telling_there = n.telling_there;
   }

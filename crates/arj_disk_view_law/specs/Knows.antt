@@ -74,8 +74,17 @@ pub record IsOpenSerial (c : Coord) (u : Uid) : Type 0 where
   pub unended : branch.ended ≡ None
   pub serial : branch.kind ≡ kind.Serial
 
+-- the action is at its commit here, and this is its root
+abbrev pub CommitsAt : Coord → Uid → Uid → Type 0
+CommitsAt c root u = (q : Doing) × (m : commit.Machine) × (doing_of u c ≡ Some q) × (q.now ≡ Committing m) × (root_of (let p = commit.plan_of m in p.path) ≡ root)
+
+-- if an action of this root is at its commit here, then it is this one
+abbrev pub IsFirstAt : Coord → Uid → Uid → Type 0
+IsFirstAt c root u = (w : Uid) → CommitsAt c root w → w ≡ u
+
 -- What is known of a coordinator and the records beside it: each action stands at its place, at the end of its path, which a
--- top's root begins; it is at work in its place; an open one has no record; and a record has its top's root.
+-- top's root begins; it is at work in its place; an open one has no record; a record has its top's root; and of each root one
+-- commit at most is under way.
 pub record KnowsCoord (tops : Kinds) (intents : List (Uid × Intent)) (c : Coord) : Type 0 where
   pub path : (u : Uid) (b : tree.Branch) → branch_of u c.tree ≡ Some b → actor b.path ≡ u
   pub kind : (u : Uid) (b : tree.Branch) → branch_of u c.tree ≡ Some b → IsOfKind tops u b.kind b.path
@@ -90,5 +99,6 @@ pub record KnowsCoord (tops : Kinds) (intents : List (Uid × Intent)) (c : Coord
   pub starts : (u : Uid) (b : tree.Branch) (req : ℕ) → branch_of u c.tree ≡ Some b → tops.is_top (uid_number u) ≡ true → KnowsPlan u (plan_for b.path req (root_at (root_of b.path) c) c)
   pub above : (u : Uid) (b : tree.Branch) → branch_of u c.tree ≡ Some b → b.ended ≡ None → is_constituent b.kind ≡ true → IsOpenSerial c (root_of b.path)
   pub steps : (u : Uid) (q : Doing) (s : Steps) → doing_of u c ≡ Some q → q.now ≡ Calling s → KnowsSteps c u s
+  pub alone : (root u : Uid) → CommitsAt c root u → IsFirstAt c root u
   pub as_long : length c.doings ≡ length c.tree.branches
   pub telling_there : AllByRecursion (λ (e : Uid × Intent). (i : Intent) × (at_uid e.0 intents ≡ Some i)) c.telling
