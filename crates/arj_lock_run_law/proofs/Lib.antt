@@ -18,3 +18,5 @@ pub mod CoordSteps
 pub mod StepSteps
 pub mod ToldSteps
 pub mod AskedSteps
+pub mod RequestSteps
+pub mod CallGoes

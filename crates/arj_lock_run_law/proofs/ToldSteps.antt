@@ -77,7 +77,7 @@ module _ (c : Case) (s : Spot) (is_seen : IsSeenIn c (world_at s)) (C : Coord) (
   abbrev V : View
   V = view_in c s.node
 
-  telling : IsTelling V C T
+  pub telling : IsTelling V C T
   telling = record {
     whole = let a = is_seen.agrees in a.whole;
     good = knows.good;

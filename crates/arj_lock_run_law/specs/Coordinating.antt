@@ -1,13 +1,16 @@
 -- What a coordinator does in the whole world: only one unit's parts of the machine change, and all else is seen as before.
-use Rattle.std.specs.Prelude.{⊤, ◌≡◌, ◌≢◌, ◌⊎◌, ◌≤◌, ◌+◌, ◌++◌, ℕ, true, false, List, Some, length, map, is_some}
+use Rattle.std.specs.Prelude.{⊤, ◌≡◌, ◌≢◌, ◌⊎◌, ◌≤◌, ◌<◌, ◌+◌, ◌++◌, ℕ, true, false, List, Some, length, map, is_some}
 use Rattle.std.specs.List.{AllByRecursion}
-use Rattle.arj_protocol.specs.Words.{Body, Uid}
+use Rattle.arj_protocol.specs.Words.{Binding, Body, ObjectState, Op, Uid}
 use Rattle.arj_protocol.specs.Words.kind
-use Rattle.arj_protocol.specs.Asking.{commit_action}
-use Rattle.arj_protocol.specs.Coord.{Coord, Doing}
+use Rattle.arj_protocol.specs.Ask.{Reply, top_of}
+use Rattle.arj_protocol.specs.Asking.{call, commit_action, give_up_call, heard_call, include}
+use Rattle.arj_protocol.specs.Call.{AtActivate, AtBind, Include as IncludeStore, Known, Steps}
+use Rattle.arj_protocol.specs.Coord.{Calling, Coord, Doing, Idle, doing_of}
 use Rattle.arj_protocol.specs.Effect.{Intent, Did, Effect, Say, Send}
 use Rattle.arj_protocol.specs.Ending.{abort_action}
 use Rattle.arj_protocol.specs.Node.{with_coord}
+use Rattle.arj_protocol.specs.Order.{binding_number}
 use Rattle.arj_protocol.specs.Tree.{Branch, branch_of, ends_of, has_open_child}
 use Rattle.arj_lock_law.specs.Actions.{Act, In, root}
 use Rattle.arj_lock_law.specs.Machine.{Run}
@@ -19,6 +22,8 @@ use Rattle.arj_part_law.specs.Ends.{IsSure}
 use Rattle.arj_view_law.specs.Seen.{Post, Within}
 use Rattle.arj_view_law.specs.Walks.{Up, Walks}
 use Rattle.arj_lock_view_law.specs.Acting.{IsFreeToEnd}
+use Rattle.arj_lock_view_law.specs.Calling.{IsAtWork, IsCalling, IsElsewhere, IsWaiting, ShowsAnswer}
+use Rattle.arj_lock_view_law.specs.Including.{ShowsInclude}
 use Rattle.arj_lock_view_law.specs.Inputs.{SeesWhole}
 use Rattle.arj_lock_view_law.specs.Listed.{AreUnserial}
 use Rattle.arj_lock_view_law.specs.Outside.{IsAway}
@@ -117,3 +122,53 @@ abbrev pub AbortsGo : Type 0
 AbortsGo = (c : Case) (s : Spot) (e : ℕ) (u : Uid) (b : Branch)
     → IsSeenIn c (world_at s) → branch_of u (let q = coord_at s in q.tree) ≡ Some b → is_some b.ended ≡ false
     → let D = abort_action u (records_at s) (coord_at s) in KnowsCoord c s D.part → StepGoes c s e D
+
+-- ---- calls and includes
+
+-- What is known of the calls that wait behind a step: the state that came for a binding is the object's, and a Bind of the object avoids a
+-- binding that was made before.
+pub record KnowsAsks (c : Case) (C : Coord) : Type 0 where
+  pub states : (u : Uid) (d : Doing) (w : Steps) (k : Known) (o : ObjectState) → doing_of u C ≡ Some d → d.now ≡ Calling w → w.at ≡ AtActivate k o → (let q = o.uid in q.num) ≡ w.x
+  pub avoids : (u : Uid) (d : Doing) (w : Steps) (a : Binding) → doing_of u C ≡ Some d → d.now ≡ Calling w → w.at ≡ AtBind a → w.x ≡ c.x → binding_number a < (let S = c.state in let n = S.naming in n.bound)
+
+-- an action at work at this coordinator
+abbrev pub IsWorking : Case → Spot → Uid → Branch → Doing → Type 0
+IsWorking c s u b d = IsAtWork (let f = c.fixed in f.act) (let f = c.fixed in f.paths) (coord_at s) u b d
+
+-- A call begins, on any object; and an include.
+abbrev pub CallsGo : Type 0
+CallsGo = (c : Case) (s : Spot) (e y : ℕ) (u : Uid) (b : Branch) (d : Doing) (o : Op)
+    → IsSeenIn c (world_at s) → IsWorking c s u b d → d.now ≡ Idle → b.kind ≢ kind.Serial
+    → let D = call b.path y o (coord_at s) in KnowsCoord c s D.part → KnowsAsks c D.part → StepGoes c s e D
+
+abbrev pub IncludesGo : Type 0
+IncludesGo = (c : Case) (s : Spot) (e y store : ℕ) (u : Uid) (b : Branch) (d : Doing)
+    → IsSeenIn c (world_at s) → IsWorking c s u b d → d.now ≡ Idle → b.kind ≢ kind.Serial
+    → let D = include b.path y store (coord_at s) in KnowsCoord c s D.part → KnowsAsks c D.part → StepGoes c s e D
+
+-- An answer to a call on the object is taken; one to an include of it; and one about another object.
+abbrev pub CallAnswersGo : Type 0
+CallAnswersGo = (c : Case) (s : Spot) (e : ℕ) (u : Uid) (b : Branch) (d : Doing) (w : Steps) (o : Op) (r : Reply)
+    → IsSeenIn c (world_at s) → IsWorking c s u b d → IsCalling c.x b d w o → ShowsAnswer (let f = c.fixed in f.act) (let f = c.fixed in f.code) w o c.state w.at r
+    → let D = heard_call w r (coord_at s) in KnowsCoord c s D.part → KnowsAsks c D.part → StepGoes c s e D
+
+abbrev pub IncludeAnswersGo : Type 0
+IncludeAnswersGo = (c : Case) (s : Spot) (e store : ℕ) (u : Uid) (b : Branch) (d : Doing) (w : Steps) (r : Reply)
+    → IsSeenIn c (world_at s) → IsWorking c s u b d → IsWaiting b d w → w.x ≡ c.x → w.goal ≡ IncludeStore store → ShowsInclude (let f = c.fixed in f.act) (top_of w.path) c.state r
+    → let D = heard_call w r (coord_at s) in KnowsCoord c s D.part → KnowsAsks c D.part → StepGoes c s e D
+
+abbrev pub OtherAnswersGo : Type 0
+OtherAnswersGo = (c : Case) (s : Spot) (e : ℕ) (u : Uid) (b : Branch) (d : Doing) (w : Steps) (r : Reply)
+    → IsSeenIn c (world_at s) → IsWorking c s u b d → IsWaiting b d w → w.x ≢ c.x
+    → let D = heard_call w r (coord_at s) in KnowsCoord c s D.part → KnowsAsks c D.part → StepGoes c s e D
+
+-- A call on the object is given up; and an include, or a call on another object.
+abbrev pub LostCallsGo : Type 0
+LostCallsGo = (c : Case) (s : Spot) (e : ℕ) (u : Uid) (b : Branch) (d : Doing) (w : Steps) (o : Op)
+    → IsSeenIn c (world_at s) → IsWorking c s u b d → IsCalling c.x b d w o
+    → let D = give_up_call w (coord_at s) in KnowsCoord c s D.part → KnowsAsks c D.part → StepGoes c s e D
+
+abbrev pub OtherLostGo : Type 0
+OtherLostGo = (c : Case) (s : Spot) (e : ℕ) (u : Uid) (b : Branch) (d : Doing) (w : Steps)
+    → IsSeenIn c (world_at s) → IsWorking c s u b d → IsWaiting b d w → IsElsewhere c.x w
+    → let D = give_up_call w (coord_at s) in KnowsCoord c s D.part → KnowsAsks c D.part → StepGoes c s e D

@@ -1,5 +1,5 @@
 // Coordinators, in the whole world as the lock machine of one object has it.
-ghost use Rattle.arj_lock_run_law.specs.Coordinating.{AbortsGo, CoordsGo, DoomedCommitsGo, NestedCommitsGo};
+ghost use Rattle.arj_lock_run_law.specs.Coordinating.{AbortsGo, CallAnswersGo, CallsGo, CoordsGo, DoomedCommitsGo, IncludeAnswersGo, IncludesGo, LostCallsGo, NestedCommitsGo, OtherAnswersGo, OtherLostGo};
 
 /// A coordinator says lines and sends messages, for one unit: where the machine has gone along, and what is sent is shown in its state,
 /// the object is seen in the whole world at the end and wherever the walk is. It does nothing when it runs.
@@ -14,4 +14,17 @@ pub fn ends_go_in_the_world()
     ensures nested { NestedCommitsGo }
     ensures doomed { DoomedCommitsGo }
     ensures aborts { AbortsGo }
+{}
+
+/// Calls and includes begin, are answered and are given up, of the object and of any other: the object is seen in the whole world behind
+/// it, and what is asked is shown. What is known of the coordinator by the protocol alone is counted on, and what an answer shows. It
+/// does nothing when it runs.
+pub fn calls_go_in_the_world()
+    ensures calls { CallsGo }
+    ensures includes { IncludesGo }
+    ensures call_answers { CallAnswersGo }
+    ensures include_answers { IncludeAnswersGo }
+    ensures other_answers { OtherAnswersGo }
+    ensures calls_lost { LostCallsGo }
+    ensures others_lost { OtherLostGo }
 {}

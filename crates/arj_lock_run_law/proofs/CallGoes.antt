@@ -1,0 +1,192 @@
+-- Calls and includes of a coordinator go in the whole world.
+use Rattle.std.proofs.Common.{◌≡◌, ◌≤◌, ◌⊎◌, ◌∙◌, ◌+◌, ◌*◌, ℕ, [], ◌∷◌, Bool, Option, Some, None, refl, sym, ap, subst, inl, inr, ⊎_elim, arith, length}
+use Rattle.arj_protocol.specs.Words.{ObjectState, Op, Uid}
+use Rattle.arj_protocol.specs.Words.invoked
+use Rattle.arj_protocol.specs.Words.loaded
+use Rattle.arj_protocol.specs.Ask.{Reply, actor}
+use Rattle.arj_protocol.specs.Asking.{call_steps, end_line, ends_call, give_up_call, goes_on, heard_call, kept_at, next_req, renewed, root_lost, root_moved, step_call}
+use Rattle.arj_protocol.specs.Call.{At, AtInvoke, AtLoad, CallStep, Ended, Goal, Include as IncludeStore, Known, Moved, On, Run, Steps, answered, given_up, start}
+use Rattle.arj_protocol.specs.Coord.{Coord, Doing, Keeping, Root, doing_of, is_free, keeping_of, on_root, root_at, with_keeping}
+use Rattle.arj_protocol.specs.Ending.{say_for, says}
+use Rattle.arj_protocol.specs.Order.{unbound}
+use Rattle.arj_protocol.specs.Tree.{Branch, branch_of, root_of, uses_object}
+use Rattle.arj_lock_law.specs.Actions.{In, root}
+use Rattle.arj_lock_law.specs.State as state
+use Rattle.arj_lock_law.specs.State.{State}
+use Rattle.arj_part_law.proofs.TrueSteps.{work_there}
+use Rattle.arj_lock_view_law.specs.Acts.{Acts}
+use Rattle.arj_lock_view_law.specs.Copies.{Codes}
+use Rattle.arj_lock_view_law.specs.Calling.{IsReached, OnlyCalled, WritesLine, WritesNone}
+use Rattle.arj_lock_view_law.specs.Ending.{KeepsEnds}
+use Rattle.arj_lock_view_law.specs.Including.{WritesInclude, included_by}
+use Rattle.arj_lock_view_law.specs.Inputs.{GoesWhole}
+use Rattle.arj_lock_view_law.proofs.CallInputSteps.{call_answers_are_heard, calls_are_lost, calls_are_made, include_answers_are_heard, includes_are_made, other_answers_are_heard, other_calls_are_lost}
+use Rattle.arj_lock_view_law.proofs.IncludeSteps.{on_is}
+use Rattle.arj_lock_run_law.specs.Beside.{Case, IsSeenIn, Spot, view_in, world_at}
+use Rattle.arj_lock_run_law.specs.Coordinating.{CallAnswersGo, CallsGo, HasStepped, IncludeAnswersGo, IncludesGo, IsWorking, KnowsAsks, KnowsCoord, LostCallsGo, OtherAnswersGo, OtherLostGo, StepGoes, coord_at}
+use Rattle.arj_lock_run_law.specs.Sees.{SeesUp}
+use Rattle.arj_lock_run_law.proofs.CoordSteps.{coords_go}
+use Rattle.arj_lock_run_law.proofs.GoodSteps.{steady}
+use Rattle.arj_lock_run_law.proofs.OtherSteps.{here_of}
+use Rattle.arj_lock_run_law.proofs.RequestSteps.{request_shown}
+use Rattle.arj_lock_run_law.proofs.StepSteps.{called_stepped, included_stepped, waits_stepped}
+use Rattle.arj_lock_run_law.proofs.ToldSteps.{AreShownSends}
+
+module _ (c : Case) (s : Spot) (is_seen : IsSeenIn c (world_at s)) (u : Uid) (b : Branch) (d : Doing) (work : IsWorking c s u b d) where
+  its : actor b.path ≡ u
+  its = work.steady.good.tree.lists.places u b work.there
+
+  here : SeesUp (view_in c s.node) c.state s.disk s.parts
+  here = here_of c.fixed c.x c.begun s.node s.disk (Some s.parts) c.state s.seen is_seen.sees
+
+  reached_S : IsReached c.state
+  reached_S = let z = is_seen.sees in (let f = c.fixed in f.first, z.run)
+
+  now_S : (let S = c.state in S.now) ≤ length (let M = s.seen in M.lines) + 1
+  now_S = let z = is_seen.sees in z.now
+
+  -- the call goes on, and its request is shown
+  module _ (w : Steps) (c1 : Coord) (path : w.path ≡ b.path) (works : doing_of (actor w.path) c1 ≡ Some d) (knows : KnowsCoord c s (let D = goes_on w c1 in D.part)) (asked : KnowsAsks c (let D = goes_on w c1 in D.part)) where
+    abbrev C : Coord
+    C = let D = goes_on w c1 in D.part
+
+    at_u : actor w.path ≡ u
+    at_u = ap actor path ∙ its
+
+    there : (q : Branch) × (branch_of (actor w.path) C.tree ≡ Some q)
+    there = let r = (let o = knows.on in o.kinds u b work.there) in (r.0, ap (λ (v : Uid). branch_of v C.tree) at_u ∙ r.1)
+
+    does : (k : Doing) × (doing_of (actor w.path) C ≡ Some k)
+    does = work_there C (let o = knows.on in o.works ∙ (let g = steady c s is_seen in g.works) ∙ sym o.branches) (actor w.path) there.0 there.1
+
+    pub goes_shown : (says : ℕ) (T : State) → HasStepped c s u says C T → AreShownSends c s T (let D = goes_on w c1 in D.outs)
+    goes_shown says T has = ((tt, tt), (request_shown c s is_seen C knows asked T has.coord (let o = has.only in o.naming) (actor w.path) does.0 w does.1 (on_is w c1 d does.0 works does.1), tt))
+
+    -- no line is said
+    pub goes_walk : (T : State) → HasStepped c s u 0 C T → (e : ℕ) → StepGoes c s e (goes_on w c1)
+    goes_walk T has e = let r = goes_shown 0 T has in coords_go c s e u b [] (let D = goes_on w c1 in D.outs) C T is_seen work.there knows.on r.0 has r.1
+
+pub calls_go : CallsGo
+calls_go c s e y u b d o is_seen work idle plain knows asked = goes_walk c s is_seen u b d work w c1 refl (ap (λ (v : Uid). doing_of v (coord_at s)) (its c s is_seen u b d work) ∙ work.works) knows asked g.state stepped e
+  where
+    k : Keeping
+    k = renewed (is_free (root_of b.path) (actor b.path) y (coord_at s)) (keeping_of y (root_at (root_of b.path) (coord_at s))) (let q = keeping_of y (root_at (root_of b.path) (coord_at s)) in q.kept)
+
+    c1 : Coord
+    c1 = on_root (root_of b.path) (with_keeping y k) (record (coord_at s) { tree = uses_object b.path y (let q = coord_at s in q.tree) })
+
+    w : Steps
+    w = call_steps b.path y o (next_req (actor b.path) (coord_at s)) (root_at (root_of b.path) (coord_at s)) (coord_at s) k
+
+    g : GoesWhole (let f = c.fixed in f.act) (let f = c.fixed in f.code) c.x (let D = goes_on w c1 in D.part) c.state (λ T. OnlyCalled (root (let f = c.fixed in f.act u)) c.state T × WritesNone c.state T)
+    g = calls_are_made (let f = c.fixed in f.act) (let f = c.fixed in f.code) (let f = c.fixed in f.paths) c.x y (coord_at s) u b d o c.state (reached_S c s is_seen u b d work) work idle plain (let k = here c s is_seen u b d work in k.coord)
+
+    stepped : HasStepped c s u 0 (let D = goes_on w c1 in D.part) g.state
+    stepped = let h = g.holds in called_stepped c s is_seen u b work.there 0 (let D = goes_on w c1 in D.part) g.state knows.on g.run h.0 h.1.0 h.1.1.2 (let n = now_S c s is_seen u b d work in let k = h.1.1.1 in omega (arith, n, k))
+
+pub includes_go : IncludesGo
+includes_go c s e y store u b d is_seen work idle plain knows asked = goes_walk c s is_seen u b d work w c1 refl (ap (λ (v : Uid). doing_of v (coord_at s)) (its c s is_seen u b d work) ∙ work.works) knows asked c.state (waits_stepped c s is_seen u b work.there 0 (let D = goes_on w c1 in D.part) (includes_are_made (let f = c.fixed in f.act) (let f = c.fixed in f.code) (let f = c.fixed in f.paths) c.x y store (coord_at s) u b d c.state (reached_S c s is_seen u b d work) work idle plain (let k = here c s is_seen u b d work in k.coord))) e
+  where
+    c1 : Coord
+    c1 = record (coord_at s) { tree = uses_object b.path y (let q = coord_at s in q.tree) }
+
+    w : Steps
+    w = start b.path y (IncludeStore store) None unbound (next_req (actor b.path) (coord_at s))
+
+-- ---- answers
+
+-- how many lines a step of a call says
+abbrev lines_of : CallStep → ℕ
+lines_of (On at) = 0
+lines_of (Ended e) = 1
+
+module _ (c : Case) (s : Spot) (e : ℕ) (is_seen : IsSeenIn c (world_at s)) (u : Uid) (b : Branch) (d : Doing) (work : IsWorking c s u b d) (w : Steps) (path : w.path ≡ b.path) (g : Root → Root) where
+  abbrev c1 : Coord
+  c1 = on_root (root_of w.path) g (coord_at s)
+
+  works1 : doing_of (actor w.path) c1 ≡ Some d
+  works1 = ap (λ (v : Uid). doing_of v (coord_at s)) (ap actor path ∙ its c s is_seen u b d work) ∙ work.works
+
+  -- a step of a call, in the state to which the machine has gone
+  step_walk : (t : CallStep) (T : State) → KnowsCoord c s (let D = step_call w t c1 in D.part) → KnowsAsks c (let D = step_call w t c1 in D.part) → HasStepped c s u (lines_of t) (let D = step_call w t c1 in D.part) T → StepGoes c s e (step_call w t c1)
+  step_walk (On at) T knows asked has = goes_walk c s is_seen u b d work (record w { req = w.req + 1; at = at }) c1 path works1 knows asked T has e
+  step_walk (Ended end) T knows asked has = subst (StepGoes c s e) (λ i. record { part = (let D = ends_call w end c1 in D.part); outs = say_for (end_line w.x w.goal end) (sym works1 i) })
+      (coords_go c s e u b (end_line w.x w.goal end d.label ∷ []) [] (let D = ends_call w end c1 in D.part) T is_seen work.there knows.on tt has tt)
+
+-- where the machine's line stands, and what it leaves of actions
+writes_now : (act : Acts) (code : Codes) (p : ℕ) (w : Steps) (o : Op) (S T : State) (free : Bool) (kept : Option Known) (at : At) (r : Reply) → WritesLine act code p w o S T at r → S.now ≤ p → T.now ≤ p + lines_of (let m = answered free kept (Run o) at r in m.step)
+writes_now act code p w o S T free kept (AtInvoke k i) (Reply.Invoked (invoked.Answered a)) h low = let n = h.4 in omega (arith, n)
+writes_now act code p w o S T free kept (AtInvoke k i) (Reply.Invoked (invoked.Conflict q m)) h low = let n = h.1 in omega (arith, n, low)
+writes_now act code p w o S T free kept (AtInvoke k i) (Reply.Invoked (invoked.Changed q)) h low = let n = h.1 in omega (arith, n, low)
+writes_now act code p w o S T free kept at r h low = let n = h.1 in omega (arith, n, low)
+
+writes_keeps : (act : Acts) (code : Codes) (p : ℕ) (w : Steps) (o : Op) (S T : State) (at : At) (r : Reply) → WritesLine act code p w o S T at r → KeepsEnds S T
+writes_keeps act code p w o S T (AtInvoke k i) (Reply.Invoked (invoked.Answered a)) h = h.5
+writes_keeps act code p w o S T (AtInvoke k i) (Reply.Invoked (invoked.Conflict q m)) h = h.2
+writes_keeps act code p w o S T (AtInvoke k i) (Reply.Invoked (invoked.Changed q)) h = h.2
+writes_keeps act code p w o S T at r h = h.2
+
+pub call_answers_go : CallAnswersGo
+call_answers_go c s e u b d w o r is_seen work calling shows knows asked =
+    let g = call_answers_are_heard (let f = c.fixed in f.act) (let f = c.fixed in f.code) (let f = c.fixed in f.paths) c.x (length (let M = s.seen in M.lines) + 1) (coord_at s) u b d w o r c.state (reached_S c s is_seen u b d work) work calling (now_S c s is_seen u b d work) shows (let k = here c s is_seen u b d work in k.coord) in
+    let h = g.holds in
+    let n = writes_now (let f = c.fixed in f.act) (let f = c.fixed in f.code) (length (let M = s.seen in M.lines) + 1) w o c.state g.state free (kept_at w (coord_at s)) w.at r h.1.1 (now_S c s is_seen u b d work) in
+    let m = subst (λ (q : Goal). (let T = g.state in T.now) ≤ length (let M = s.seen in M.lines) + 1 + lines_of (let y = answered free (kept_at w (coord_at s)) q w.at r in y.step)) (sym calling.goal) n in
+    step_walk c s e is_seen u b d work w calling.path (root_moved w r mv) mv.step g.state knows asked
+    (called_stepped c s is_seen u b work.there (lines_of mv.step) (let D = heard_call w r (coord_at s) in D.part) g.state knows.on g.run h.0 h.1.0 (writes_keeps (let f = c.fixed in f.act) (let f = c.fixed in f.code) (length (let M = s.seen in M.lines) + 1) w o c.state g.state w.at r h.1.1) (omega (arith, m)))
+  where
+    free : Bool
+    free = is_free (root_of w.path) (actor w.path) w.x (coord_at s)
+
+    mv : Moved
+    mv = answered free (kept_at w (coord_at s)) w.goal w.at r
+
+pub other_answers_go : OtherAnswersGo
+other_answers_go c s e u b d w r is_seen work waiting other knows asked =
+    step_walk c s e is_seen u b d work w waiting.path (root_moved w r mv) mv.step c.state knows asked
+    (waits_stepped c s is_seen u b work.there (lines_of mv.step) (let D = heard_call w r (coord_at s) in D.part) (other_answers_are_heard (let f = c.fixed in f.act) (let f = c.fixed in f.code) (let f = c.fixed in f.paths) c.x (coord_at s) u b d w r c.state (reached_S c s is_seen u b d work) work waiting other (let k = here c s is_seen u b d work in k.coord)))
+  where
+    mv : Moved
+    mv = answered (is_free (root_of w.path) (actor w.path) w.x (coord_at s)) (kept_at w (coord_at s)) w.goal w.at r
+
+pub lost_calls_go : LostCallsGo
+lost_calls_go c s e u b d w o is_seen work calling knows asked =
+    let g = calls_are_lost (let f = c.fixed in f.act) (let f = c.fixed in f.code) (let f = c.fixed in f.paths) c.x (coord_at s) u b d w o c.state (reached_S c s is_seen u b d work) work calling (let k = here c s is_seen u b d work in k.coord) in
+    let h = g.holds in
+    step_walk c s e is_seen u b d work w calling.path (root_lost w (given_up w.at)) (given_up w.at) g.state knows asked
+    (called_stepped c s is_seen u b work.there (lines_of (given_up w.at)) (let D = give_up_call w (coord_at s) in D.part) g.state knows.on g.run h.0 h.1.0 h.1.1.2 (let n = now_S c s is_seen u b d work in let k = h.1.1.1 in omega (arith, n, k)))
+
+pub other_lost_go : OtherLostGo
+other_lost_go c s e u b d w is_seen work waiting away knows asked =
+    step_walk c s e is_seen u b d work w waiting.path (root_lost w (given_up w.at)) (given_up w.at) c.state knows asked
+    (waits_stepped c s is_seen u b work.there (lines_of (given_up w.at)) (let D = give_up_call w (coord_at s) in D.part) (other_calls_are_lost (let f = c.fixed in f.act) (let f = c.fixed in f.code) (let f = c.fixed in f.paths) c.x (coord_at s) u b d w c.state (reached_S c s is_seen u b d work) work waiting away (let k = here c s is_seen u b d work in k.coord)))
+
+-- ---- an answer to an include of the object
+
+included_now : (act : Acts) (p : ℕ) (w : Steps) (store : ℕ) (S T : State) (free : Bool) (kept : Option Known) (at : At) (r : Reply) → WritesInclude act p w (included_by at r) S T → S.now ≤ p → T.now ≤ p + lines_of (let m = answered free kept (IncludeStore store) at r in m.step)
+included_now act p w store S T free kept (AtLoad k n rest) (Reply.Loaded (loaded.State st)) h low = let m = h.1 in omega (arith, m)
+included_now act p w store S T free kept (AtLoad k n rest) (Reply.Loaded (loaded.InDoubt q)) h low = let m = h.1 in omega (arith, m, low)
+included_now act p w store S T free kept at r h low = let m = h.1 in omega (arith, m, low)
+
+included_fresh : (act : Acts) (p : ℕ) (w : Steps) (S T : State) (o : Option (ℕ × ObjectState)) → WritesInclude act p w o S T → (k : state.Include) → In k T.includes → In k S.includes ⊎ (k.act ≡ act (actor w.path))
+included_fresh act p w S T None h k i = inl (subst (In k) h.0 i)
+included_fresh act p w S T (Some o) h k i = by (subst (In k) h.0 i)
+  where
+    by : In k (record { act = act (actor w.path); line = p; grant = o.0 * 4294967296 } ∷ S.includes) → In k S.includes ⊎ (k.act ≡ act (actor w.path))
+    by (inl is) = inr (ap (λ (y : state.Include). y.act) is)
+    by (inr j) = inl j
+
+pub include_answers_go : IncludeAnswersGo
+include_answers_go c s e store u b d w r is_seen work waiting about goal shows knows asked =
+    let g = include_answers_are_heard (let f = c.fixed in f.act) (let f = c.fixed in f.code) (let f = c.fixed in f.paths) c.x (length (let M = s.seen in M.lines) + 1) store (coord_at s) u b d w r c.state (reached_S c s is_seen u b d work) work waiting about goal (now_S c s is_seen u b d work) shows (let k = here c s is_seen u b d work in k.coord) in
+    let h = g.holds in
+    let n = included_now (let f = c.fixed in f.act) (length (let M = s.seen in M.lines) + 1) w store c.state g.state free (kept_at w (coord_at s)) w.at r h.1.1 (now_S c s is_seen u b d work) in
+    let m = subst (λ (q : Goal). (let T = g.state in T.now) ≤ length (let M = s.seen in M.lines) + 1 + lines_of (let y = answered free (kept_at w (coord_at s)) q w.at r in y.step)) (sym goal) n in
+    step_walk c s e is_seen u b d work w waiting.path (root_moved w r mv) mv.step g.state knows asked
+    (included_stepped c s is_seen u b work.there (lines_of mv.step) (let D = heard_call w r (coord_at s) in D.part) g.state g.run h.0 h.1.0 (λ k i. ⊎_elim (λ old. inl old) (λ is. inr (ap root is ∙ ap (λ (v : Uid). root (let f = c.fixed in f.act v)) (ap actor waiting.path ∙ its c s is_seen u b d work))) (included_fresh (let f = c.fixed in f.act) (length (let M = s.seen in M.lines) + 1) w c.state g.state (included_by w.at r) h.1.1 k i)) (omega (arith, m)))
+  where
+    free : Bool
+    free = is_free (root_of w.path) (actor w.path) w.x (coord_at s)
+
+    mv : Moved
+    mv = answered free (kept_at w (coord_at s)) w.goal w.at r
