@@ -42,7 +42,7 @@ pub data Form (acts : List Action) (a : Action) : Type 0 where
   Alone : uids_of a.path ≡ act_of a ∷ [] → Form acts a
   Within : (s : Action) → list.In s acts → s.kind ≡ kind.Serial → a.kind ≡ kind.Constituent → uids_of a.path ≡ act_of s ∷ act_of a ∷ [] → Form acts a
 
-form_of : (acts : List Action) → AreBegun acts → (a : Action) → list.In a acts → a.kind ≢ kind.Nested → Form acts a
+pub form_of : (acts : List Action) → AreBegun acts → (a : Action) → list.In a acts → a.kind ≢ kind.Nested → Form acts a
 form_of acts begun a i unnested = by a.kind refl (where_stands acts begun a i)
   where
     by : (k : Kind) → a.kind ≡ k → Stands acts a k → Form acts a
@@ -53,7 +53,7 @@ form_of acts begun a i unnested = by a.kind refl (where_stands acts begun a i)
     by kind.Constituent is s = let up = serial_alone acts begun s.0 (in_from s.0 acts s.1) s.2 in Within s.0 (in_from s.0 acts s.1) s.2 is (s.3 ∙ ap (λ us. us ++ act_of a ∷ []) up.0)
 
 -- the top of an action that isn't serializing was begun
-top_action : (acts : List Action) → AreBegun acts → (a : Action) → list.In a acts → a.kind ≢ kind.Serial → (b : Action) × list.In b acts × (uids_of b.path ≡ top_path a.path) × (b.kind ≢ kind.Nested) × (b.kind ≢ kind.Serial)
+pub top_action : (acts : List Action) → AreBegun acts → (a : Action) → list.In a acts → a.kind ≢ kind.Serial → (b : Action) × list.In b acts × (uids_of b.path ≡ top_path a.path) × (b.kind ≢ kind.Nested) × (b.kind ≢ kind.Serial)
 top_action [] begun a i unserial = absurd i
 top_action (c ∷ acts) begun a (inr i) unserial = let r = top_action acts begun.1 a i unserial in (r.0, inr r.1, r.2, r.3, r.4)
 top_action (c ∷ acts) begun a (inl is) unserial = subst Found is (of (top_action acts begun.1) c.kind refl (let new = begun.0 in new.stands))

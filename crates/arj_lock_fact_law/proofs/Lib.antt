@@ -14,3 +14,6 @@ pub mod GrantCoords
 pub mod GrantSteps
 pub mod Grants
 pub mod LowGrants
+pub mod UpperRows
+pub mod UpperWalks
+pub mod Uppers

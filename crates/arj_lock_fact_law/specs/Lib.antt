@@ -3,3 +3,4 @@ pub mod Worlds
 pub mod Given
 pub mod Grants
 pub mod Keeping
+pub mod Uppers

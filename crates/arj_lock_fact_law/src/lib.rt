@@ -4,10 +4,12 @@
 //! among what good nodes keep (`arj_run_law`) is shown here as relations that each handler keeps, beside good nodes and known Binds
 //! (`arj_address_law`): of coordinators, of naming and of its answers (`specs/Worlds.antt`). It gives upward
 //! `coordinators_stay_in_order` and `grants_stay_in_order`, what follows of them in the machine's words
-//! (`premises_of_coordinators`, `plans_have_what_is_kept`, `plans_grant_low`), and `requests_want_one_thing`.
+//! (`premises_of_coordinators`, `plans_have_what_is_kept`, `plans_grant_low`), `requests_want_one_thing`, and
+//! `nested_actions_have_nothing_at_naming`.
 #![tactic(auto)]
 
 mod coords;
+mod naming;
 
 pub use coords::{
     coordinators_stay_in_order, plans_have_what_is_kept, premises_of_coordinators,

@@ -1,0 +1,11 @@
+// Naming, in every run.
+ghost use Rattle.arj_lock_fact_law.specs.Uppers.{HandlersKeepUppers, NestedHaveNothing, RunsKeepUppers};
+
+/// In every run naming has confirmed tops alone, each with an action that was begun, and no nested action is on the path of a holder of a
+/// lock on an entry; and who has an entry prepared on the disk is a top too. Each handler keeps it, wherever a stop falls. So a nested
+/// action has nothing at naming. It does nothing when it runs.
+pub fn nested_actions_have_nothing_at_naming()
+    ensures handlers { HandlersKeepUppers }
+    ensures runs { RunsKeepUppers }
+    ensures nothing { NestedHaveNothing }
+{}
