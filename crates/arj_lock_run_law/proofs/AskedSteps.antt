@@ -32,7 +32,6 @@ use Rattle.arj_lock_view_law.proofs.ListedSteps.{decided_have_ended}
 use Rattle.arj_lock_view_law.proofs.PlanSteps.{commit_requests_are_shown}
 use Rattle.arj_lock_run_law.specs.Fixed.{Fixed, family_of, view_of}
 use Rattle.arj_lock_run_law.specs.Posts.{IsRequestSeen, SaysToNaming}
-use Rattle.arj_lock_run_law.specs.Sees.{AvoidsMade}
 use Rattle.arj_lock_run_law.proofs.TopSteps.{top_own}
 
 with_ends : List (Uid × End) → Ask → Ask
@@ -62,7 +61,7 @@ step_back _ s is = is
 
 -- ---- a coordinator that is seen whole
 
-module _ (f : Fixed) (x : ℕ) (begun : List Action) (k : ℕ) (T : State) (e : Coord) (whole : AreOneTree (family_of f begun)) (good : IsGoodCoord begun f.paths e) (works : length e.doings ≡ length e.tree.branches) (sees : SeesWhole f.act f.code x e T) (avoids : AvoidsMade x e T)
+module _ (f : Fixed) (x : ℕ) (begun : List Action) (k : ℕ) (T : State) (e : Coord) (whole : AreOneTree (family_of f begun)) (good : IsGoodCoord begun f.paths e) (works : length e.doings ≡ length e.tree.branches) (sees : SeesWhole f.act f.code x e T) (binds_made : (u : Uid) (d : Doing) (s : Steps) (avoid : Binding) → doing_of u e ≡ Some d → d.now ≡ Calling s → s.x ≡ x → s.at ≡ AtBind avoid → binding_number avoid < T.naming.bound)
     (stated : (u : Uid) (d : Doing) (s : Steps) (q : Known) (st : ObjectState) → doing_of u e ≡ Some d → d.now ≡ Calling s → s.at ≡ AtActivate q st → st.uid.num ≡ s.x) where
   abbrev at_node : ℕ → View
   at_node to = view_of f x begun to
@@ -130,7 +129,7 @@ module _ (f : Fixed) (x : ℕ) (begun : List Action) (k : ℕ) (T : State) (e : 
         binds y include avoid about (AtBind q) is same =
             let one : avoid ≡ q = bind_is same in
             let two : y ≡ s.x = cc same in
-            subst (λ (z : Binding). binding_number z < T.naming.bound) (sym one) (avoids.binds (actor h.path) d s q found calling (sym two ∙ about) is)
+            subst (λ (z : Binding). binding_number z < T.naming.bound) (sym one) (binds_made (actor h.path) d s q found calling (sym two ∙ about) is)
           where
             bind_is : ask.Bind y include avoid ≡ ask_at s.x s.goal [] (AtBind q) → avoid ≡ q
             bind_is z = cc z

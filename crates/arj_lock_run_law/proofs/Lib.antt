@@ -20,3 +20,4 @@ pub mod ToldSteps
 pub mod AskedSteps
 pub mod RequestSteps
 pub mod CallGoes
+pub mod TickSteps
