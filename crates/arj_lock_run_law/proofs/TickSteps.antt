@@ -2,34 +2,56 @@
 use Rattle.std.proofs.Common.{◌≡◌, ◌≢◌, ◌⊎◌, ◌∙◌, ◌+◌, ◌<◌, ℕ, List, [], ◌∷◌, ◌++◌, length, map, Bool, true, false, Option, Some, None, refl, sym, ap, subst, inl, inr, ⊎_elim, arith, Contains}
 use Rattle.std.specs.Prelude.{⊤, is_some}
 use Rattle.std.specs.List.{AllByRecursion}
+use Rattle.std.proofs.lemmas.List.{append-nil, append_assoc}
 use Rattle.arj_lock.proofs.Members as list
 use Rattle.arj_lock.proofs.Members.{in_from, in_to}
 use Rattle.arj_protocol.specs.Words.{Ask, Asked, Binding, End, Head, Message, ObjectState, Path, Uid, asks, request}
 use Rattle.arj_protocol.specs.Words.ask
+use Rattle.arj_protocol.specs.Words.ending
 use Rattle.arj_protocol.specs.Words.kind
 use Rattle.arj_protocol.specs.Ask.{Reply, actor, answers}
 use Rattle.arj_protocol.specs.Asking.{again_all, again_now, asks_all, asks_node}
 use Rattle.arj_protocol.specs.Call.{AtActivate, AtBind, Known, Steps, next_ask, next_node}
 use Rattle.arj_protocol.specs.Commit.{Confirming, Machine, Preparing, Voting, ask_of, plan_of, waiting}
 use Rattle.arj_protocol.specs.Coord.{Calling, Committing, Coord, Doing, Idle, Now, doing_of}
-use Rattle.arj_protocol.specs.Effect.{Do, Effect, Say, Send}
+use Rattle.arj_protocol.specs.Effect.{Do, Effect, Intent, Say, Send}
 use Rattle.arj_protocol.specs.Order.{binding_number}
-use Rattle.arj_protocol.specs.Tree.{Branch, branch_of, ends_of, root_of}
+use Rattle.arj_protocol.specs.Node.{Parts, holders, query_about, with_coord}
+use Rattle.arj_protocol.specs.Says.{AreAll}
+use Rattle.arj_protocol.specs.Step.{tolds_again}
+use Rattle.arj_protocol.specs.Tree.{Branch, Tree, branch_of, ends_of, root_of}
 use Rattle.arj_protocol.proofs.Messages.{request_reads_back}
 use Rattle.arj_lock_law.specs.State.{State}
 use Rattle.arj_part_law.specs.Actions.{Action}
+use Rattle.arj_part_law.specs.Claims.{GoesOn}
 use Rattle.arj_part_law.specs.Coords.{IsGoodCoord}
 use Rattle.arj_part_law.specs.Ends.{AllSayEnds, ask_ends, brought, brought_by}
+use Rattle.arj_part_law.proofs.EndsSaid.{sure_again}
+use Rattle.arj_part_law.proofs.GoodNodes.{tick_well}
+use Rattle.arj_part_law.proofs.TrueSteps.{well_again}
+use Rattle.arj_run_law.specs.Worlds.{IsUp}
 use Rattle.arj_view_law.specs.Seen.{Post, Within}
+use Rattle.arj_view_law.specs.Walks.{Up, Walks}
+use Rattle.arj_call_law.proofs.CoordOuts.{again_all_tree, again_so, again_work}
 use Rattle.arj_call_law.proofs.CoordSends.{AllSo, IsSentBy}
 use Rattle.arj_lock_fact_law.specs.Given.{IsPlaced}
-use Rattle.arj_lock_fact_law.specs.Works.{KnowsEnds}
+use Rattle.arj_lock_fact_law.specs.Works.{AreInner, KnowsEnds}
 use Rattle.arj_lock_fact_law.proofs.Given.{brought_unserial, listed_unserial}
 use Rattle.arj_lock_view_law.specs.Inputs.{SeesWhole}
-use Rattle.arj_lock_view_law.specs.Telling.{AreOneTree}
+use Rattle.arj_lock_view_law.specs.Calling.{IsReached}
+use Rattle.arj_lock_view_law.specs.Telling.{AreOneTree, HasEnded, View}
+use Rattle.arj_lock_view_law.proofs.CallInputSteps.{ticks_are_taken}
+use Rattle.arj_lock_run_law.specs.Asking.{KnowsAsks, TellsRecords, TicksGo}
+use Rattle.arj_lock_run_law.specs.Beside.{Case, IsSeenIn, Spot, view_in, world_at}
+use Rattle.arj_lock_run_law.specs.Coordinating.{coord_at}
 use Rattle.arj_lock_run_law.specs.Fixed.{Fixed, family_of, view_of}
 use Rattle.arj_lock_run_law.specs.Posts.{IsAskedSeen, IsPostSeen}
+use Rattle.arj_lock_run_law.specs.Sees.{AreHome, ArePast, SeesUp}
+use Rattle.arj_lock_run_law.specs.World.{IsSeenSo}
 use Rattle.arj_lock_run_law.proofs.AskedSteps.{request_seen}
+use Rattle.arj_lock_run_law.proofs.GoodSteps.{good_node, its}
+use Rattle.arj_lock_run_law.proofs.OtherSteps.{SeesOthers, here_of, others_of, reached_of, with_here}
+use Rattle.arj_lock_run_law.proofs.RestartWalks.{is_no_work, queries_quiet, queries_seen, quiet_walk, tolds_quiet, tolds_seen}
 use Rattle.arj_lock_run_law.proofs.WalkSteps.{AreSendsSeen, IsSendSeen}
 
 -- ---- effects that are requests
@@ -97,3 +119,111 @@ module _ (f : Fixed) (x : ℕ) (begun : List Action) (k : ℕ) (T : State) (e : 
       by None is wide = absurd (let bad : true ≡ false = sym requests.0 ∙ ap (λ (o : Option (Head × Ask)). is_some o) is in cc bad)
       by (Some (h, a)) is wide = subst (λ (o : Option (Head × Ask)). IsAskedSeen (view_of f x begun to) wide (record { from = k; to = to; message = m }) T o) (sym is)
           (request_seen f x begun k T e whole good works sees binds_made stated to h a (so.0 h a is) (λ u g there. (let z = says.0 in z.brings u g (subst (λ (o : Option (Head × Ask)). Contains {X = Uid × End} (brought_by o) (u, g)) (sym is) there))) (brings_unserial to h a (so.0 h a is)))
+
+-- ---- a tick
+
+-- requests are no work
+pub requests_quiet : (outs : List Effect) → AreRequests outs → AreAll is_no_work outs
+requests_quiet [] all = refl
+requests_quiet (Say b ∷ es) all = requests_quiet es all.1
+requests_quiet (Send to m ∷ es) all = requests_quiet es all.1
+requests_quiet (Do w ∷ es) all = absurd all.0
+
+module _ (c : Case) (s : Spot) (is_seen : IsSeenIn c (world_at s)) (asks_so : KnowsAsks c.x (coord_at s) c.state) (tells : TellsRecords s) where
+  abbrev f : Fixed
+  f = c.fixed
+
+  abbrev k : ℕ
+  k = s.node
+
+  abbrev S : State
+  S = c.state
+
+  abbrev C : Coord
+  C = coord_at s
+
+  abbrev E : Coord
+  E = let d = again_all C.doings C in d.part
+
+  abbrev outs : List Effect
+  outs = let d = again_all C.doings C in d.outs
+
+  abbrev v : View
+  v = view_in c k
+
+  whole : AreOneTree (family_of f c.begun)
+  whole = let a = is_seen.agrees in a.whole
+
+  here : SeesUp v S s.disk s.parts
+  here = here_of f c.x c.begun k s.disk (Some s.parts) S s.seen is_seen.sees
+
+  others : SeesOthers f c.x c.begun k S s.seen
+  others = others_of f c.x c.begun k s.disk (Some s.parts) S s.seen is_seen.sees
+
+  reached : IsReached S
+  reached = reached_of f c.x c.begun k S s.seen others
+
+  good : IsGoodCoord c.begun f.paths C
+  good = let n = good_node c s is_seen in n.coord
+
+  up_now : IsUp c.begun (let M = s.seen in M.sent) (let M = s.seen in M.labels) k (let d = s.disk in d.inc) s.parts
+  up_now = its c s is_seen
+
+  works_now : length C.doings ≡ length (let t = C.tree in t.branches)
+  works_now = let q = up_now.faithful in q.works
+
+  good_after : IsGoodCoord c.begun f.paths E
+  good_after = let w = tick_well c.begun whole.begun f.paths whole.tree whole.agree (record { number = k; disk = s.disk; live = Some s.parts }) s.parts (good_node c s is_seen) in let n = w.0 in n.coord
+
+  on : GoesOn C E
+  on = (well_again c.begun f.paths whole.tree C good).0
+
+  same_tree : E.tree ≡ C.tree
+  same_tree = again_all_tree c.begun f.paths whole.tree C good up_now.numbered works_now C.doings C
+
+  same_works : (u : Uid) → doing_of u E ≡ doing_of u C
+  same_works u = again_work c.begun f.paths whole.tree C good up_now.numbered works_now C.doings C u
+
+  ends_after : KnowsEnds E
+  ends_after = (let k = asks_so.ends in record {
+    lists = λ r. subst (λ (t : Tree). AreInner t (ends_of r t)) (sym same_tree) (k.lists r);
+    plans = λ u d m works is. subst (λ (t : Tree). AreInner t (let p = plan_of m in p.ends)) (sym same_tree) (k.plans u d m (sym (same_works u) ∙ works) is);
+  })
+
+  asked : AreSendsSeen f c.x c.begun k S (let M = s.seen in M.sent) outs
+  asked = asked_seen f c.x c.begun k S E whole good_after (on.works ∙ works_now ∙ sym on.branches) (ticks_are_taken f.act f.code c.x C.doings C S reached here.coord)
+      (λ u d st avoid works is about at. (let a = asks_so.avoids in a.binds u d st avoid (sym (same_works u) ∙ works) is about at))
+      (λ u d st q o works is at. asks_so.stated u d st q o (sym (same_works u) ∙ works) is at)
+      ends_after (let M = s.seen in M.sent) outs (again_so c.begun f.paths whole.tree C good up_now.numbered works_now) (sure_again c.begun f.paths whole.tree C up_now.sure).1 (again_requests C.doings C)
+
+  told_so : (u : Uid) (i : Intent) → list.In {X = Uid × Intent} (u, i) C.telling → HasEnded v S u ending.Commit
+  told_so u i there = let r = tells u i (in_to {X = Uid × Intent} (u, i) C.telling there) in ⊎_elim (λ none. absurd (cc none)) (λ so. so) (here.records u r.0 r.1)
+
+  up_after : SeesUp v S s.disk (with_coord s.parts E)
+  up_after = record {
+    server = here.server;
+    coord = ticks_are_taken f.act f.code c.x C.doings C S reached here.coord;
+    naming = here.naming;
+    inc = here.inc;
+    place = here.place;
+    home = subst (λ (t : Tree). AreHome v t) (sym same_tree) here.home;
+    past = subst (λ (t : Tree). ArePast v t S) (sym same_tree) here.past;
+    records = here.records;
+  }
+
+  pub tick_goes : (e : ℕ) → Walks (IsSeenSo c) e k (outs ++ tolds_again C.telling ++ map query_about (holders s.disk s.parts)) (Up (IsSeenSo c) k (with_coord s.parts E)) s.disk s.seen
+  tick_goes e =
+      let P = IsSeenSo c in
+      let End = Up P k (with_coord s.parts E) in
+      let sent = (let M = s.seen in M.sent) in
+      let tolds = tolds_again C.telling in
+      let queries = map query_about (holders s.disk s.parts) in
+      subst (λ es. Walks P e k es End s.disk s.seen) (sym (append_assoc outs tolds queries))
+      (quiet_walk f c.x c.begun k e P End S sent s.disk outs (tolds ++ queries) (requests_quiet outs (again_requests C.doings C)) asked
+      (λ N w o. quiet_walk f c.x c.begun k e P End S sent s.disk tolds queries (tolds_quiet C.telling) (tolds_seen f c.x c.begun k S sent C.telling told_so)
+      (λ L y q. subst (λ es. Walks P e k es End s.disk L) (append-nil queries) (quiet_walk f c.x c.begun k e P End S sent s.disk queries [] (queries_quiet (holders s.disk s.parts)) (queries_seen f c.x c.begun k S sent (holders s.disk s.parts))
+      (λ K z p agrees. (S, with_here f c.x c.begun k s.disk (Some (with_coord s.parts E)) S K p up_after)) L y q)) N w o)
+      s.seen (λ r i. i) others)
+
+pub ticks_go : TicksGo
+ticks_go c s e is_seen asks_so tells = tick_goes c s is_seen asks_so tells e

@@ -4,3 +4,4 @@ pub mod Sees
 pub mod Beside
 pub mod World
 pub mod Coordinating
+pub mod Asking
