@@ -32,3 +32,4 @@ pub mod VoteLasts
 pub mod VoteSteps
 pub mod VoteRun
 pub mod Kept
+pub mod Given

@@ -2,7 +2,7 @@
 use Rattle.std.proofs.Common.{◌≡◌, ◌≢◌, ◌≤◌, ◌<◌, ◌⊎◌, ℕ, List, [], ◌∷◌, true}
 use Rattle.arj_lock_law.specs.Actions.{Act, Root, on, root, top, is_top, In}
 use Rattle.arj_lock_law.specs.Rows.{mode}
-use Rattle.arj_lock_law.specs.Machine.{Guard}
+use Rattle.arj_lock_law.specs.Machine.{Guard, Run, next}
 use Rattle.arj_lock_law.specs.State.{Alive, Ballot, Call, Include, State, Passed, Covered}
 use Rattle.arj_lock_law.specs.Steps.{Survives, Newest, IsLast, VoteTop, held_value}
 
@@ -80,6 +80,13 @@ given_by s n m = record { value = held_value m (s.server n).base (s.server n).lo
 abbrev pub VotesAgree : State → Type 0
 VotesAgree s = (n : ℕ) (m : Act) (i : ℕ) (c : Call) → Guard (VoteTop n m (s.yes m) i) s → (s.action m).stage ≡ 1 → s.yes m ≡ s.kept (root m) → s.naming.first ≤ s.kept (root m)
     → In c s.calls → c.write ≡ true → top c.act ≡ m → Alive s c.act → s.vote m ≡ given_by s n m
+
+-- A vote that a server gave for the top, under the binding that its unit keeps, stands as long as that is the greatest one under which a
+-- server voted: while the commit is called and not decided, naming is of the binding's incarnation, and the top has a write that wasn't
+-- undone.
+abbrev pub GivenStands : State → Type 0
+GivenStands s = (n : ℕ) (m : Act) (b i : ℕ) (t : State) (c : Call) → Guard (VoteTop n m b i) s → Run (next (VoteTop n m b i) s) t → (t.action m).stage ≡ 1 → t.yes m ≡ b → t.kept (root m) ≡ b → t.naming.first ≤ b
+    → In c t.calls → c.write ≡ true → top c.act ≡ m → Alive t c.act → t.vote m ≡ given_by s n m
 
 -- Of the binding that a unit keeps an incarnation was heard, where a call of the unit wasn't undone; and it isn't 0.
 abbrev pub KeptAreNamed : State → Type 0
