@@ -1,9 +1,8 @@
 -- What a coordinator asks for is shown, where it is seen whole.
-use Rattle.std.proofs.Common.{◌≡◌, ◌≢◌, ◌≤◌, ◌<◌, ◌⊎◌, ◌∙◌, ◌+◌, ◌*◌, ◌==◌, ℕ, List, [], ◌∷◌, length, Bool, true, false, Option, Some, None, refl, sym, ap, subst, inl, inr, ⊎_elim, arith, Contains}
+use Rattle.std.proofs.Common.{◌≡◌, ◌≢◌, ◌<◌, ◌∙◌, ◌*◌, ℕ, List, [], length, Bool, true, false, Some, refl, sym, ap, subst, Contains}
 use Rattle.arj_lock.proofs.Members.{in_from}
-use Rattle.arj_protocol.specs.Words.{Ask, Binding, End, Head, ObjectState, Op, Path, Uid, last_uid}
+use Rattle.arj_protocol.specs.Words.{Ask, Binding, End, Head, ObjectState, Op, Uid}
 use Rattle.arj_protocol.specs.Words.ask
-use Rattle.arj_protocol.specs.Words.ending
 use Rattle.arj_protocol.specs.Words.kind
 use Rattle.arj_protocol.specs.Ask.{actor, top_of}
 use Rattle.arj_protocol.specs.Call.{At, AtActivate, AtBind, AtInvoke, AtLoad, AtNote, Goal, Include, Known, Run, Steps, ask_at, next_ask, next_node}
@@ -14,16 +13,16 @@ use Rattle.arj_protocol.specs.Tree.{Branch, branch_of}
 use Rattle.arj_lock_law.specs.Actions as machine
 use Rattle.arj_lock_law.specs.State as machine_state
 use Rattle.arj_lock_law.specs.State.{State}
-use Rattle.arj_part_law.specs.Actions.{Action, act_of, action_of}
+use Rattle.arj_part_law.specs.Actions.{Action, action_of}
 use Rattle.arj_part_law.specs.Coords.{IsBusy, IsGoodCoord, IsVoting}
 use Rattle.arj_part_law.specs.Ends.{ask_ends}
 use Rattle.arj_part_law.specs.Messages.{IsDecided}
 use Rattle.arj_call_law.specs.Coords.{IsOfStep, bare}
 use Rattle.arj_call_law.proofs.CoordSends.{IsOfCommit, IsSentBy}
-use Rattle.arj_lock_view_law.specs.Asks.{Post, ShowsAsk}
+use Rattle.arj_lock_view_law.specs.Asks.{ShowsAsk}
 use Rattle.arj_lock_view_law.specs.Inputs.{SeesWhole}
 use Rattle.arj_lock_view_law.specs.Listed.{IsTelling}
-use Rattle.arj_lock_view_law.specs.Roots.{SeesCoord, is_early}
+use Rattle.arj_lock_view_law.specs.Roots.{is_early}
 use Rattle.arj_lock_view_law.specs.Sent.{HaveEnded}
 use Rattle.arj_lock_view_law.specs.Serving.{IsForServer, post_to}
 use Rattle.arj_lock_view_law.specs.Telling.{AreOneTree, HasEnded, View}

@@ -2,7 +2,6 @@
 use Rattle.std.proofs.Common.{◌≡◌, ◌≤◌, ◌⊎◌, ◌∙◌, ◌+◌, ℕ, List, ◌∷◌, ◌++◌, [], cond, Option, Some, sym, ap, subst, inl, inr, ⊎_elim, arith, length}
 use Rattle.arj_protocol.specs.Words.{Body, Line, Uid}
 use Rattle.arj_protocol.specs.Words.ending
-use Rattle.arj_protocol.specs.Coord.{Coord}
 use Rattle.arj_protocol.specs.Effect.{Disk, Intent}
 use Rattle.arj_protocol.specs.Node.{Parts}
 use Rattle.arj_protocol.specs.Step.{Node}
@@ -25,7 +24,7 @@ use Rattle.arj_lock_view_law.specs.Going.{OnlyNaming}
 use Rattle.arj_lock_view_law.specs.Telling.{HasEnded, View}
 use Rattle.arj_lock_run_law.specs.Fixed.{Fixed, view_of}
 use Rattle.arj_lock_run_law.specs.Posts.{IsPostSeen}
-use Rattle.arj_lock_run_law.specs.Sees.{ArePast, AvoidsMade, AreRecordsOf, IsFresh, SeesLocks, SeesMemory}
+use Rattle.arj_lock_run_law.specs.Sees.{ArePast, AreRecordsOf, IsFresh, SeesLocks, SeesMemory}
 use Rattle.arj_lock_run_law.proofs.PostSteps.{posts_stay}
 
 -- ---- what has ended stays
@@ -45,10 +44,6 @@ module _ (S T : State) (ends : (a : Act) → 3 ≤ (S.action a).stage → T.acti
 
   pub records_on : (v : View) (last : Option Uid) (intents : List (Uid × Intent)) → AreRecordsOf v last intents S → AreRecordsOf v last intents T
   records_on v last intents records u i found = ⊎_elim (λ its. inl its) (λ so. inr (committed_on v u so)) (records u i found)
-
--- what is avoided was made
-pub avoids_on : (x : ℕ) (c : Coord) (S T : State) → S.naming.bound ≤ T.naming.bound → AvoidsMade x c S → AvoidsMade x c T
-avoids_on x c S T more a = record { roots = λ u b found own. (let h = a.roots u b found own in omega (arith, h, more)); binds = λ u d s avoid works is about at. (let h = a.binds u d s avoid works is about at in omega (arith, h, more)) }
 
 -- what wasn't begun stays so where its parts of the machine do
 pub fresh_on : (f : Fixed) (begun : List Action) (S T : State) → T.action ≡ S.action → T.kept ≡ S.kept → T.calls ≡ S.calls → T.includes ≡ S.includes → IsFresh f begun S → IsFresh f begun T

@@ -1,22 +1,21 @@
 -- A coordinator asks again, is acknowledged, and answers questions: the machine waits, and the object is seen in the whole world.
-use Rattle.std.proofs.Common.{◌≡◌, ◌≢◌, ◌⊎◌, ◌∙◌, ◌+◌, ◌<◌, ℕ, List, [], ◌∷◌, ◌++◌, length, map, Bool, true, false, Option, Some, None, refl, sym, ap, subst, inl, inr, ⊎_elim, arith, Contains}
+use Rattle.std.proofs.Common.{◌≡◌, ◌≢◌, ◌⊎◌, ◌∙◌, ◌<◌, ℕ, List, [], ◌∷◌, ◌++◌, length, map, true, false, Option, Some, None, refl, sym, ap, subst, inl, inr, ⊎_elim, Contains}
 use Rattle.std.specs.Prelude.{⊤, is_some}
 use Rattle.std.specs.List.{AllByRecursion}
 use Rattle.std.proofs.lemmas.List.{append-nil, append_assoc}
 use Rattle.arj_lock.proofs.Members as list
 use Rattle.arj_lock.proofs.Members.{in_from, in_to}
-use Rattle.arj_protocol.specs.Words.{Ask, Asked, Binding, End, Head, Message, ObjectState, Path, Uid, asks, request}
-use Rattle.arj_protocol.specs.Words.ask
+use Rattle.arj_protocol.specs.Words.{Ask, Binding, End, Head, ObjectState, Path, Uid, asks, request}
 use Rattle.arj_protocol.specs.Words.ending
 use Rattle.arj_protocol.specs.Words.kind
-use Rattle.arj_protocol.specs.Ask.{Reply, actor, answers}
+use Rattle.arj_protocol.specs.Ask.{actor}
 use Rattle.arj_protocol.specs.Asking.{again_all, again_now, asks_all, asks_node}
-use Rattle.arj_protocol.specs.Call.{AtActivate, AtBind, Known, Steps, next_ask, next_node}
+use Rattle.arj_protocol.specs.Call.{AtActivate, AtBind, Known, Steps, next_ask}
 use Rattle.arj_protocol.specs.Commit.{Confirming, Machine, Preparing, Voting, ask_of, plan_of, waiting}
 use Rattle.arj_protocol.specs.Coord.{Calling, Committing, Coord, Doing, Idle, Now, doing_of}
 use Rattle.arj_protocol.specs.Effect.{Do, Effect, Intent, Say, Send}
 use Rattle.arj_protocol.specs.Order.{binding_number}
-use Rattle.arj_protocol.specs.Node.{Parts, holders, query_about, with_coord}
+use Rattle.arj_protocol.specs.Node.{holders, query_about, with_coord}
 use Rattle.arj_protocol.specs.Says.{AreAll}
 use Rattle.arj_protocol.specs.Step.{tolds_again}
 use Rattle.arj_protocol.specs.Tree.{Branch, Tree, branch_of, ends_of, root_of}
@@ -25,12 +24,12 @@ use Rattle.arj_lock_law.specs.State.{State}
 use Rattle.arj_part_law.specs.Actions.{Action}
 use Rattle.arj_part_law.specs.Claims.{GoesOn}
 use Rattle.arj_part_law.specs.Coords.{IsGoodCoord}
-use Rattle.arj_part_law.specs.Ends.{AllSayEnds, ask_ends, brought, brought_by}
+use Rattle.arj_part_law.specs.Ends.{AllSayEnds, ask_ends, brought_by}
 use Rattle.arj_part_law.proofs.EndsSaid.{sure_again}
 use Rattle.arj_part_law.proofs.GoodNodes.{tick_well}
 use Rattle.arj_part_law.proofs.TrueSteps.{well_again}
 use Rattle.arj_run_law.specs.Worlds.{IsUp}
-use Rattle.arj_view_law.specs.Seen.{Post, Within}
+use Rattle.arj_view_law.specs.Seen.{Post}
 use Rattle.arj_view_law.specs.Walks.{Up, Walks}
 use Rattle.arj_call_law.proofs.CoordOuts.{again_all_tree, again_so, again_work}
 use Rattle.arj_call_law.proofs.CoordSends.{AllSo, IsSentBy}
@@ -41,9 +40,9 @@ use Rattle.arj_lock_view_law.specs.Inputs.{SeesWhole}
 use Rattle.arj_lock_view_law.specs.Calling.{IsReached}
 use Rattle.arj_lock_view_law.specs.Telling.{AreOneTree, HasEnded, View}
 use Rattle.arj_lock_view_law.proofs.CallInputSteps.{ticks_are_taken}
-use Rattle.arj_lock_run_law.specs.Asking.{KnowsAsks, TellsRecords, TicksGo}
+use Rattle.arj_lock_run_law.specs.Asking.{TellsRecords, TicksGo}
 use Rattle.arj_lock_run_law.specs.Beside.{Case, IsSeenIn, Spot, view_in, world_at}
-use Rattle.arj_lock_run_law.specs.Coordinating.{coord_at}
+use Rattle.arj_lock_run_law.specs.Coordinating.{KnowsAsks, coord_at}
 use Rattle.arj_lock_run_law.specs.Fixed.{Fixed, family_of, view_of}
 use Rattle.arj_lock_run_law.specs.Posts.{IsAskedSeen, IsPostSeen}
 use Rattle.arj_lock_run_law.specs.Sees.{AreHome, ArePast, SeesUp}
@@ -52,7 +51,7 @@ use Rattle.arj_lock_run_law.proofs.AskedSteps.{request_seen}
 use Rattle.arj_lock_run_law.proofs.GoodSteps.{good_node, its}
 use Rattle.arj_lock_run_law.proofs.OtherSteps.{SeesOthers, here_of, others_of, reached_of, with_here}
 use Rattle.arj_lock_run_law.proofs.RestartWalks.{is_no_work, queries_quiet, queries_seen, quiet_walk, tolds_quiet, tolds_seen}
-use Rattle.arj_lock_run_law.proofs.WalkSteps.{AreSendsSeen, IsSendSeen}
+use Rattle.arj_lock_run_law.proofs.WalkSteps.{AreSendsSeen}
 
 -- ---- effects that are requests
 
@@ -129,7 +128,7 @@ requests_quiet (Say b ∷ es) all = requests_quiet es all.1
 requests_quiet (Send to m ∷ es) all = requests_quiet es all.1
 requests_quiet (Do w ∷ es) all = absurd all.0
 
-module _ (c : Case) (s : Spot) (is_seen : IsSeenIn c (world_at s)) (asks_so : KnowsAsks c.x (coord_at s) c.state) (tells : TellsRecords s) where
+module _ (c : Case) (s : Spot) (is_seen : IsSeenIn c (world_at s)) (asks_so : KnowsAsks c (coord_at s)) (listed : KnowsEnds (coord_at s)) (tells : TellsRecords s) where
   abbrev f : Fixed
   f = c.fixed
 
@@ -185,15 +184,15 @@ module _ (c : Case) (s : Spot) (is_seen : IsSeenIn c (world_at s)) (asks_so : Kn
   same_works u = again_work c.begun f.paths whole.tree C good up_now.numbered works_now C.doings C u
 
   ends_after : KnowsEnds E
-  ends_after = (let k = asks_so.ends in record {
+  ends_after = (let k = listed in record {
     lists = λ r. subst (λ (t : Tree). AreInner t (ends_of r t)) (sym same_tree) (k.lists r);
     plans = λ u d m works is. subst (λ (t : Tree). AreInner t (let p = plan_of m in p.ends)) (sym same_tree) (k.plans u d m (sym (same_works u) ∙ works) is);
   })
 
   asked : AreSendsSeen f c.x c.begun k S (let M = s.seen in M.sent) outs
   asked = asked_seen f c.x c.begun k S E whole good_after (on.works ∙ works_now ∙ sym on.branches) (ticks_are_taken f.act f.code c.x C.doings C S reached here.coord)
-      (λ u d st avoid works is about at. (let a = asks_so.avoids in a.binds u d st avoid (sym (same_works u) ∙ works) is about at))
-      (λ u d st q o works is at. asks_so.stated u d st q o (sym (same_works u) ∙ works) is at)
+      (λ u d st avoid works is about at. asks_so.avoids u d st avoid (sym (same_works u) ∙ works) is at about)
+      (λ u d st q o works is at. asks_so.states u d st q o (sym (same_works u) ∙ works) is at)
       ends_after (let M = s.seen in M.sent) outs (again_so c.begun f.paths whole.tree C good up_now.numbered works_now) (sure_again c.begun f.paths whole.tree C up_now.sure).1 (again_requests C.doings C)
 
   told_so : (u : Uid) (i : Intent) → list.In {X = Uid × Intent} (u, i) C.telling → HasEnded v S u ending.Commit
@@ -226,4 +225,4 @@ module _ (c : Case) (s : Spot) (is_seen : IsSeenIn c (world_at s)) (asks_so : Kn
       s.seen (λ r i. i) others)
 
 pub ticks_go : TicksGo
-ticks_go c s e is_seen asks_so tells = tick_goes c s is_seen asks_so tells e
+ticks_go c s e is_seen asks_so listed tells = tick_goes c s is_seen asks_so listed tells e

@@ -1,16 +1,14 @@
 -- The whole world, as the lock machine of one object has it: each node, up or down, every message that was sent, and what was not
 -- begun yet.
-use Rattle.std.specs.Prelude.{◌≡◌, ◌≢◌, ◌≤◌, ◌<◌, ◌⊎◌, ℕ, ◌+◌, ◌==◌, true, List, Option, Some, None, Contains, is_some, length}
-use Rattle.arj_protocol.specs.Words.{Binding, Uid, first_uid}
+use Rattle.std.specs.Prelude.{◌≡◌, ◌≢◌, ◌≤◌, ◌⊎◌, ℕ, ◌+◌, ◌==◌, true, List, Option, Some, None, Contains, is_some, length}
+use Rattle.arj_protocol.specs.Words.{Uid, first_uid}
 use Rattle.arj_protocol.specs.Words.ending
-use Rattle.arj_protocol.specs.Call.{AtBind, Steps}
-use Rattle.arj_protocol.specs.Coord.{Calling, Coord, Doing, doing_of, keeping_of, root_at}
 use Rattle.arj_protocol.specs.Effect.{Disk, Intent}
 use Rattle.arj_protocol.specs.Naming.{Naming}
 use Rattle.arj_protocol.specs.Node.{Parts}
-use Rattle.arj_protocol.specs.Order.{at_uid, binding_number}
+use Rattle.arj_protocol.specs.Order.{at_uid}
 use Rattle.arj_protocol.specs.Step.{Node}
-use Rattle.arj_protocol.specs.Tree.{Branch, Tree, branch_of, root_of}
+use Rattle.arj_protocol.specs.Tree.{Branch, Tree, branch_of}
 use Rattle.arj_lock_law.specs.Actions.{Root, is_action, root}
 use Rattle.arj_lock_law.specs.Machine.{Run, start}
 use Rattle.arj_lock_law.specs.State.{State}
@@ -47,11 +45,6 @@ abbrev pub AreRecordsOf : View → Option Uid → List (Uid × Intent) → State
 AreRecordsOf v last intents S = (u : Uid) (i : Intent) → Contains {X = Uid × Intent} intents (u, i) → (last ≡ Some u) ⊎ HasEnded v S u ending.Commit
 
 -- ---- a node
-
--- What a coordinator avoids was made before: a binding that a root avoids of the object, and one that a waiting Bind avoids.
-pub record AvoidsMade (x : ℕ) (c : Coord) (S : State) : Type 0 where
-  pub roots : (u : Uid) (b : Branch) → branch_of u c.tree ≡ Some b → root_of b.path ≡ u → binding_number (let k = keeping_of x (root_at u c) in k.avoid) < S.naming.bound
-  pub binds : (u : Uid) (d : Doing) (s : Steps) (avoid : Binding) → doing_of u c ≡ Some d → d.now ≡ Calling s → s.x ≡ x → s.at ≡ AtBind avoid → binding_number avoid < S.naming.bound
 
 -- A node that is up: its server, its coordinator, and naming at node 1, in the incarnation of its disk; all others of its actions are
 -- past, and each top with a record is committed.
