@@ -218,6 +218,8 @@ module _ (tops : Kinds) (acts : List Action) (k : ℕ) (d : Disk) (t : Parts) (M
         branch = a.branch;
         found = a.found;
         unended = unended a.branch.ended a.opened;
+        path = a.path;
+        objects = λ st i. let w = s.changed.used st i in w.own;
         top = is_top u a.branch.kind a.branch.path top (of_kind u a.branch a.found);
         changes = one_change (commit.plan_of m) (unvoted m) s.changed;
         plan = record { actor_is = ap actor (sym a.path) ∙ path u a.branch a.found; top_is = ap top_of (sym a.path) ∙ top_path_is u a.branch a.found top; tidy = s.tidy };

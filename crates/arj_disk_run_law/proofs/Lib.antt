@@ -9,6 +9,7 @@ pub mod HeardAsk
 pub mod HeardBinds
 pub mod HeardCalls
 pub mod HeardCoord
+pub mod HeardDecides
 pub mod HeardFirst
 pub mod HeardInputs
 pub mod HeardKept

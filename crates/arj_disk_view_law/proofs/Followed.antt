@@ -26,7 +26,7 @@ module _ (tops : Kinds) (o : Option Walk) where
   kind_on u kind.Independent p h = h
 
   machine_on : (c : Coord) (u : Uid) (m : commit.Machine) → KnowsMachine tops c u m → KnowsMachine On c u m
-  machine_on c u m n = record { branch = n.branch; found = n.found; unended = n.unended; top = n.top; changes = n.changes; plan = n.plan; way = n.way; used = n.used; more = n.more; uses = n.uses }
+  machine_on c u m n = record { branch = n.branch; found = n.found; unended = n.unended; path = n.path; objects = n.objects; top = n.top; changes = n.changes; plan = n.plan; way = n.way; used = n.used; more = n.more; uses = n.uses }
 
   pub coord_on : (intents : List (Uid × Intent)) (c : Coord) → KnowsCoord tops intents c → KnowsCoord On intents c
   coord_on intents c n = record {

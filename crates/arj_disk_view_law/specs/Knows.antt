@@ -1,7 +1,7 @@
 -- What is known of the protocol without the machine, on which the disk half stands.
 use Rattle.std.specs.Prelude.{⊤, ◌≡◌, ◌≢◌, ℕ, true, false, nat_le, List, [], ◌∷◌, length, Some, None}
 use Rattle.std.specs.List.{AllByRecursion}
-use Rattle.arj_protocol.specs.Words.{Uid, Kind, Path, uids_of, is_on}
+use Rattle.arj_protocol.specs.Words.{Uid, Kind, ObjectState, Path, object, uids_of, is_on}
 use Rattle.arj_protocol.specs.Words.kind
 use Rattle.arj_protocol.specs.Ask.{actor, top_of}
 use Rattle.arj_protocol.specs.Call.{Steps}
@@ -13,6 +13,7 @@ use Rattle.arj_protocol.specs.Order.{at_uid, uid_number}
 use Rattle.arj_protocol.specs.Tree.{branch_of, is_constituent, is_open, root_of}
 use Rattle.arj_protocol.specs.Tree as tree
 use Rattle.arj_disk_view_law.specs.Asking.{IsUnanswered}
+use Rattle.arj_disk_view_law.specs.Pairs.{Among}
 use Rattle.arj_disk_view_law.specs.Plans.{IsTidy}
 use Rattle.arj_disk_view_law.specs.Sees.{Kinds, AreOneChange}
 
@@ -47,11 +48,13 @@ IsUnderWay (commit.Voting p left) = IsUnanswered p
 IsUnderWay (commit.Preparing p left) = (n : ℕ) × (order.has left n ≡ true)
 IsUnderWay _ = ⊤
 
--- A commit under way is of an open top; it uses something, and changes of each object one state.
+-- A commit under way is of an open top, by its path; it uses something, and changes of each object one state, which is of that object.
 pub record KnowsMachine (tops : Kinds) (c : Coord) (u : Uid) (m : commit.Machine) : Type 0 where
   pub branch : tree.Branch
   pub found : branch_of u c.tree ≡ Some branch
   pub unended : branch.ended ≡ None
+  pub path : branch.path ≡ (let p = commit.plan_of m in p.path)
+  pub objects : (s : ObjectState) → Among s (let p = commit.plan_of m in p.changed) → s.uid ≡ object (let w = s.uid in w.num)
   pub top : tops.is_top (uid_number u) ≡ true
   pub changes : AreOneChange (commit.plan_of m)
   pub plan : KnowsPlan u (commit.plan_of m)
