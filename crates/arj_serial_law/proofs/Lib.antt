@@ -13,3 +13,4 @@ pub mod Entries
 pub mod Cleaning
 pub mod Votes
 pub mod Shown
+pub mod Running

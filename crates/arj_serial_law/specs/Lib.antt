@@ -3,4 +3,5 @@ pub mod Codes
 pub mod Decided
 pub mod Files
 pub mod Locked
+pub mod Runs
 pub mod Tied

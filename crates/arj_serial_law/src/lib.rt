@@ -14,6 +14,7 @@
 mod decided;
 mod locked;
 mod places;
+mod runs;
 mod serial;
 
 pub use decided::{
@@ -22,4 +23,5 @@ pub use decided::{
 };
 pub use locked::{tied_calls_are_locked_for, tied_journals_hold_locks};
 pub use places::{begun_actions_have_their_paths, values_have_codes};
+pub use runs::seen_runs_are_serial;
 pub use serial::{tied_journals_are_serial, tied_journals_keep_the_lock_book};

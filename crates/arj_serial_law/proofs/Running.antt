@@ -1,0 +1,30 @@
+-- A run of which each object's machine is seen tied to the journal is serial.
+use Rattle.std.proofs.Common.{subst}
+use Rattle.arj_model.specs.Serial.{Values}
+use Rattle.arj_line_law.specs.Book.{new_book}
+use Rattle.arj_line_law.specs.Paths.{AreAlike}
+use Rattle.arj_line_law.specs.Right.{AreRight}
+use Rattle.arj_line_law.proofs.Models.{its_acts}
+use Rattle.arj_view_law.specs.Seen.{Seen}
+use Rattle.arj_serial_law.specs.Runs.{AreSeenTied}
+use Rattle.arj_serial_law.specs.Tied.{AreTied}
+use Rattle.arj_serial_law.proofs.Begun.{begun_have_places}
+
+pub seen_right : (values : Values) (M : Seen) → AreSeenTied values M → AreRight new_book M.lines
+seen_right values M (begun, alike, tied) = let w = alike.2 in w.right
+
+pub seen_tied : (values : Values) (M : Seen) → AreSeenTied values M → AreTied values M.lines
+seen_tied values M (begun, alike, tied) x called =
+    let w = alike.2 in
+    let s = tied x called in (
+      s.state,
+      record {
+        act = s.act;
+        code = s.code;
+        apart = s.apart;
+        places = begun_have_places begun s.paths s.act M.lines w.right (subst (AreAlike begun) (its_acts M.lines w.right) alike.1) s.tree;
+        first = s.first;
+        run = s.run;
+        tied = s.tied;
+      },
+    )

@@ -1,0 +1,34 @@
+-- What has to be seen of a run for its journal to be serial.
+use Rattle.std.specs.Prelude.{◌≡◌, ℕ, ◌==◌, true, List}
+use Rattle.std.specs.List.{list_any}
+use Rattle.arj_model.specs.Actions.{Placed}
+use Rattle.arj_model.specs.Calls.{Said, said}
+use Rattle.arj_model.specs.Serial.{Values}
+use Rattle.arj_part_law.specs.Actions.{Action}
+use Rattle.arj_part_law.specs.Copies.{Paths}
+use Rattle.arj_line_law.specs.Paths.{IsAlikeOf}
+use Rattle.arj_lock_law.specs.Machine.{Run, start}
+use Rattle.arj_lock_law.specs.State.{State}
+use Rattle.arj_lock_line_law.specs.Lines.{IsTiedToLines}
+use Rattle.arj_lock_view_law.specs.Acts.{Acts}
+use Rattle.arj_lock_view_law.specs.Copies.{Codes}
+use Rattle.arj_lock_view_law.specs.Telling.{AreOneTree}
+use Rattle.arj_view_law.specs.Seen.{Seen}
+use Rattle.arj_serial_law.specs.Tied.{AreApart}
+
+-- For an object: a state that its lock machine reaches is tied to the journal so far, where the actions that were begun are one tree
+-- with their places in the machine, and in codes that tell values apart.
+pub record IsSeenTied (values : Values) (x : ℕ) (begun : List Action) (M : Seen) : Type 0 where
+  pub act : Acts
+  pub paths : Paths
+  pub tree : AreOneTree (record { begun = begun; paths = paths; act = act })
+  pub code : Codes
+  pub apart : AreApart code
+  pub first : ℕ
+  pub state : State
+  pub run : Run (start first) state
+  pub tied : IsTiedToLines act code values x M.lines state
+
+-- so it is of each object of which a call was answered, while nodes are good and their actions are those of the journal, as in each run
+abbrev pub AreSeenTied : Values → Seen → Type 0
+AreSeenTied values M = (begun : List Action) × IsAlikeOf begun M × ((x : ℕ) → list_any (λ (s : Placed Said). s.it.x == x) (said M.lines) ≡ true → IsSeenTied values x begun M)
