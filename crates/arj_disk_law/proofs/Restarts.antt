@@ -1,17 +1,18 @@
 -- A restart of the naming node, and what coordinators take from its answers.
-use Rattle.std.proofs.Common.{◌≡◌, ◌⊎◌, ℕ, ◌+◌, ◌≤◌, List, [], ◌∷◌, Bool, true, false, cond, ◌==◌, not, Option, Some, None, is_some, nat_lt, refl, sym, ◌∙◌, ap, subst, inl, inr, ⊎_elim, arith, le_refl, ◌<◌}
+use Rattle.std.proofs.Common.{◌≡◌, ◌⊎◌, ℕ, ◌+◌, ◌≤◌, List, [], ◌∷◌, Bool, true, false, cond, ◌==◌, not, Option, Some, None, is_some, nat_lt, refl, sym, ◌∙◌, ap, subst, inl, inr, ⊎_elim, arith, le_refl, ◌<◌, filter, if◌then◌else◌}
 use Rattle.std.specs.List.{list_any}
 use Rattle.arj_disk_law.specs.Core.{Core}
 use Rattle.arj_disk_law.specs.Guards.{HasRow, IsUntold, IsPresent, MayRestart, MayHear, MayKeepList, MayAnswerLoad}
 use Rattle.arj_disk_law.specs.Messages.{Acked, IsOver}
-use Rattle.arj_disk_law.specs.Named.{Named, IsHeld, IsWide, IsLoad, AnswerMeans}
-use Rattle.arj_disk_law.specs.Names.{Names, Office, Kept, Answer, Bound, Loaded, given_mode, given_row, is_pending, acted, Restart, Hear, KeepList, AnswerLoad, newer, written_in, or_else, load_of}
-use Rattle.arj_disk_law.specs.State.{State, Packed, Hold, Done, naming, is_idle, is_gone, is_open, decided, undecided, last, last_entry, KnownIn, Below, IsExcused}
+use Rattle.arj_disk_law.specs.Named.{Named, IsHeld, IsWide, IsLoad, AnswerMeans, IsLeaving}
+use Rattle.arj_disk_law.specs.Names.{Names, Office, Kept, Answer, Bound, Loaded, given_mode, given_row, is_pending, acted, Restart, Hear, KeepList, AnswerLoad, newer, written_in, or_else, load_of, narrowed}
+use Rattle.arj_disk_law.specs.State.{State, Packed, Hold, Done, naming, is_idle, is_gone, is_open, decided, undecided, last, last_entry, KnownIn, Below, IsExcused, Listed}
 use Rattle.arj_disk_law.specs.Words.{has, In, put, put2}
 use Rattle.arj_disk_law.proofs.Base.{put_cases, put_other, put2_true, put2_rises, test_cases, test_is, test_same, differs, never, never_some, some_is, or_left, or_right, or_cases, open_parts, falls_to, not_false}
 use Rattle.arj_disk_law.proofs.History.{known_last, effective_none}
 use Rattle.arj_disk_law.proofs.Kin.{one_top}
 use Rattle.arj_disk_law.proofs.Locks.{some_nat, less_cases}
+use Rattle.arj_disk_law.proofs.Listing.{has_filtered}
 
 -- a top whose outcome is open has begun
 pub open_begun : (S : State) → Core S → (t : ℕ) → undecided S t ≡ true → S.begun t ≡ true
@@ -227,7 +228,7 @@ keep_list_named A h t i l may c = record {
   lists = record {
     had = λ x k. put_cases (λ o. o ≡ Some k → N.had x k.since ≡ true) h (Some new) N.kept x (λ e q. subst (λ (y : Kept). N.had x y.since ≡ true) (same q) (ap (λ n. N.had n i) e ∙ may.had)) (λ e q. c.lists.had x k q);
     kept = λ x k. put_cases (λ o. o ≡ Some k → IsPresent S N x → IsUntold S N x → IsOver S (S.root x) ⊎ IsWide S (S.root x) k.list) h (Some new) N.kept x
-        (λ e q p u. inr (subst (λ (y : Kept). IsWide S (S.root x) y.list) (same q) (subst (λ r. IsWide S r l) (sym (ap S.root e ∙ may.family)) (wide (p i (inl (ap (λ n. N.had n i) e ∙ may.had))) (ap N.told (sym (ap S.root e ∙ may.family)) ∙ u.1)))))
+        (λ e q p u. ⊎_elim (λ over. inl over) (λ wide. inr (subst (λ (y : Kept). IsWide S (S.root x) y.list) (same q) wide)) (narrow x e p u))
         (λ e q. c.lists.kept x k q);
     plan = c.lists.plan;
     light = c.lists.light;
@@ -246,9 +247,9 @@ keep_list_named A h t i l may c = record {
     M = (acted A (KeepList h t i l)).names
 
     new : Kept
-    new = record { since = i; list = l }
+    new = record { since = i; list = narrowed i l (N.kept h) }
 
-    same : {k : Kept} → ◌≡◌ {A = Option Kept} (Some new) (Some k) → new ≡ k
+    same : {k : Kept} → ◌≡◌ {A = Option Kept} (Some (record { since = i; list = narrowed i l (N.kept h) })) (Some k) → record { since = i; list = narrowed i l (N.kept h) } ≡ k
     same e = cc
 
     untold : (x : ℕ) → is_gone (S.stage x) ≡ false → N.told x ≡ false
@@ -256,6 +257,24 @@ keep_list_named A h t i l may c = record {
 
     wide : i ≡ N.inc → N.told (S.root t) ≡ false → IsWide S (S.root t) l
     wide e root = ((c.answers (Bound t i false l) may.hears.answered).2 (ap is_idle may.hears.idle) e (untold t (ap is_gone may.hears.idle), root)).2
+
+    -- the answer's list is wide, and so is what is kept
+    narrow : (x : ℕ) → x ≡ h → IsPresent S N x → IsUntold S N x → IsOver S (S.root x) ⊎ IsWide S (S.root x) (narrowed i l (N.kept h))
+    narrow x e p u = by (N.kept h) refl
+      where
+        its : IsWide S (S.root x) l
+        its = subst (λ r. IsWide S r l) (sym (ap S.root e ∙ may.family)) (wide (p i (inl (ap (λ n. N.had n i) e ∙ may.had))) (ap N.told (sym (ap S.root e ∙ may.family)) ∙ u.1))
+
+        both : (k : Kept) → IsWide S (S.root x) k.list → (s : ℕ) → Listed S s → (has s (filter (λ z. has z k.list) l) ≡ true) ⊎ IsLeaving S.root (decided S) S.entry_pend (S.root x) s
+        both k old s listed = ⊎_elim (λ one. ⊎_elim (λ two. inl (has_filtered (λ z. has z k.list) s l one two)) (λ leaves. inr leaves) (old s listed)) (λ leaves. inr leaves) (its s listed)
+
+        kept : (k : Kept) → N.kept h ≡ Some k → (b : Bool) → IsOver S (S.root x) ⊎ IsWide S (S.root x) (if b then filter (λ s. has s k.list) l else l)
+        kept k is true = ⊎_elim (λ over. inl over) (λ old. inr (both k old)) (c.lists.kept x k (ap N.kept e ∙ is) p u)
+        kept k is false = inr its
+
+        by : (o : Option Kept) → N.kept h ≡ o → IsOver S (S.root x) ⊎ IsWide S (S.root x) (narrowed i l o)
+        by None is = inr its
+        by (Some k) is = kept k is (k.since == i)
 
     answer : (a : Answer) → AnswerMeans S N a → AnswerMeans S M a
     answer (Bound x j d k) y = y

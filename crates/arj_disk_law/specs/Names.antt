@@ -1,5 +1,5 @@
 -- The naming node's volatile half, for one entry, and what coordinators have from it: locks, grants, kept store lists.
-use Rattle.std.specs.Prelude.{ℕ, ◌+◌, List, [], ◌∷◌, Bool, true, false, ◌==◌, ◌||◌, ◌&&◌, not, if◌then◌else◌, Option, Some, None, nat_lt}
+use Rattle.std.specs.Prelude.{ℕ, ◌+◌, List, [], ◌∷◌, filter, Bool, true, false, ◌==◌, ◌||◌, ◌&&◌, not, if◌then◌else◌, Option, Some, None, nat_lt}
 use Rattle.std.specs.List.{list_any}
 use Rattle.arj_disk_law.specs.Effects.{World, Effect, Begin, Take, Seal, Intend, Decide, Remove, EndBare, Halt, Keep, Move, Finish, Drop, Agree, Pass, Enter, MoveEntry, FinishEntry, DropEntry, Forget, Send, after}
 use Rattle.arj_disk_law.specs.State.{State, Packed, Plan, Hold, Done, list_after}
@@ -56,7 +56,7 @@ pub data Act : Type 0 where
   EndTop : ℕ → Bool → Act
   EndSerial : ℕ → Act
   Restart : (ℕ → Bool) → Act
-  -- coordinators take an answer's grant, or its store list; a store answers a load
+  -- coordinators take an answer's grant, or its store list, of which those stores stay that are kept; a store answers a load
   Hear : ℕ → ℕ → Bool → List ℕ → Act
   KeepList : ℕ → ℕ → ℕ → List ℕ → Act
   AnswerLoad : ℕ → ℕ → ℕ → List ℕ → Packed → Act
@@ -65,6 +65,11 @@ pub data Act : Type 0 where
 abbrev pub raised : Option ℕ → ℕ → ℕ
 raised None m = m
 raised (Some n) m = if nat_lt n m then m else n
+
+-- an answer's list, as far as it agrees with what is kept of the same incarnation
+abbrev pub narrowed : ℕ → List ℕ → Option Kept → List ℕ
+narrowed i l None = l
+narrowed i l (Some k) = if k.since == i then filter (λ s. has s k.list) l else l
 
 -- a kept list after a top's decision
 abbrev pub with_list : Plan → (ℕ → Bool) → Option Kept → Option Kept
@@ -161,7 +166,7 @@ acted A (Restart yes_again) = record A {
   };
 }
 acted A (Hear t i b l) = record A { names = record A.names { had = put2 t i true A.names.had } }
-acted A (KeepList h t i l) = record A { names = record A.names { kept = put h (Some (record { since = i; list = l })) A.names.kept } }
+acted A (KeepList h t i l) = record A { names = record A.names { kept = put h (Some (record { since = i; list = narrowed i l (A.names.kept h) })) A.names.kept } }
 acted A (AnswerLoad t i s l g) = record A { names = record A.names { answers = Loaded t i g ∷ A.names.answers } }
 
 -- the state that the last decided constituent of a root wrote

@@ -47,6 +47,7 @@ use Rattle.arj_disk_run_law.proofs.HeardPosts.{SaysHeard}
 use Rattle.arj_disk_run_law.proofs.HeardQuiet.{fixed_in, heard_still}
 use Rattle.arj_disk_run_law.proofs.HeardServe.{actor_of_step, serve_step, step_of}
 use Rattle.arj_disk_run_law.proofs.HeardStays.{SaysToStep}
+use Rattle.arj_names_view_law.proofs.Heard.{none_heard}
 
 -- ---- what a request says of its step
 
@@ -133,7 +134,7 @@ module _ (x : ℕ) (tops : Kinds) (e k : ℕ) (d : Disk) (t v : Parts) (from : �
       pub along : Along o office v outs
 
     at_once : (o : Change) → IsLike t.coord v.coord × Along o A v outs → Served_by o
-    at_once o g = record { office = A; only = record { world = refl; names = refl; answers = λ b i. i; grows = λ z i had. had; heard = λ z i had. inl had }; sees = both; heard = p; like = g.0; along = g.1 }
+    at_once o g = record { office = A; only = none_heard A; sees = both; heard = p; like = g.0; along = g.1 }
 
     same_like : IsLike t.coord t.coord
     same_like = record { own = λ u. refl; branches = λ w. inl refl; works = λ u q does. inl does; roots = λ u. ((let r = root_at u t.coord in r.went), refl) }
@@ -186,9 +187,9 @@ module _ (x : ℕ) (tops : Kinds) (e k : ℕ) (d : Disk) (t v : Parts) (from : �
     nobody : (st : ObjectState) → (Waits → ⊥) → Gives st
     nobody st none = record {
       office = A;
-      only = record { world = refl; names = refl; answers = λ b i. i; grows = λ z i had. had; heard = λ z i had. inl had };
+      only = none_heard A;
       sees = both;
-      memory = answers_memory A A (record { world = refl; names = refl; answers = λ b i. i; grows = λ z i had. had; heard = λ z i had. inl had }) (refl, refl);
+      memory = answers_memory A A (none_heard A) (refl, refl);
       given = λ w. absurd (none w);
     }
 

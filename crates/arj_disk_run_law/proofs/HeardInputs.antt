@@ -40,6 +40,7 @@ use Rattle.arj_disk_run_law.proofs.HeardMessage.{old_goes_on}
 use Rattle.arj_disk_run_law.proofs.HeardQuiet.{fixed_in}
 use Rattle.arj_disk_run_law.proofs.HeardStays.{at_stays, memory_goes, memory_stays, was_to}
 use Rattle.arj_disk_run_law.proofs.HeardTick.{request_says, step_claims}
+use Rattle.arj_names_view_law.proofs.Heard.{none_heard}
 
 -- ---- a step that begins
 
@@ -133,7 +134,7 @@ module _ (x : ℕ) (tops : Kinds) (e k : ℕ) (d : Disk) (t : Parts) (M : Seen) 
   waits_anew p y g o avoid w q does called = (
     record {
       office = A;
-      only = record { world = refl; names = refl; answers = λ b i. i; grows = λ z i had. had; heard = λ z i had. inl had };
+      only = none_heard A;
       both = both;
       along = quiet_step x tops k d t M A both h (with_coord t e2)
           (λ N B only fixed more. at_called x k tops N.sent s t.coord e2 B called (λ of. new_step x k N.sent p y g o avoid (next_req (actor p) t.coord) B.names (λ r to. none r (was_to x B k M.sent N.sent s more r to)))

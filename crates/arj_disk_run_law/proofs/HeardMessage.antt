@@ -1,5 +1,5 @@
 -- What coordinators have of naming's answers is kept where a message is taken, with what is still taken of answers.
-use Rattle.std.proofs.Common.{◌≡◌, ℕ, true, false, List, Option, Some, None, refl, sym, ◌∙◌, ap, subst, inl, ⊎_elim}
+use Rattle.std.proofs.Common.{◌≡◌, ℕ, true, false, List, Option, Some, None, refl, sym, ◌∙◌, ap, subst, ⊎_elim}
 use Rattle.std.specs.Prelude.{is_some}
 use Rattle.arj_protocol.specs.Words.{Ask, Asked, Head, Header, Message, Uid, asks}
 use Rattle.arj_protocol.specs.Words.ask
@@ -30,6 +30,7 @@ use Rattle.arj_disk_run_law.proofs.HeardAsk.{Served_by, ask_heard}
 use Rattle.arj_disk_run_law.proofs.HeardLike.{IsLike}
 use Rattle.arj_disk_run_law.proofs.HeardOther.{other_heard}
 use Rattle.arj_names_view_law.specs.Calls.{IsUnrecorded}
+use Rattle.arj_names_view_law.proofs.Heard.{none_heard}
 
 -- ---- commits that have begun
 
@@ -108,7 +109,7 @@ heard_message hd x R runs rest tops e k d t v from m outs M A at sent meant is =
         with_answers (Some a) answering = let r = rest.answer tops e k d t v from m a.0 a.1 outs M A at sent answering meant is in (r.0, r.1, λ n named. nothing n r.0.office)
         with_answers None also =
             let g = other_heard x tops e k d t v from m outs M A at.both at.heard none also is in (
-              record { office = A; only = record { world = refl; names = refl; answers = λ b i. i; grows = λ z i had. had; heard = λ z i had. inl had }; both = at.both; along = subst (λ o. HoldsAlong (HoldsFrom (SeesHeard x) x tops o A) (record { event = e; node = k; disk = d; before = t; outs = outs; after = v }) M) (sym (ap (asked_change x d t m) none ∙ ap (reply_change x t.coord) also)) g.1 },
+              record { office = A; only = none_heard A; both = at.both; along = subst (λ o. HoldsAlong (HoldsFrom (SeesHeard x) x tops o A) (record { event = e; node = k; disk = d; before = t; outs = outs; after = v }) M) (sym (ap (asked_change x d t m) none ∙ ap (reply_change x t.coord) also)) g.1 },
               like_goes_on x tops k d t M A at.knows at.both v.coord g.0,
               λ n named. nothing n A,
             )

@@ -43,7 +43,7 @@ use Rattle.arj_names_view_law.specs.Lists.{IsTopOf, LeavesOthers, OnlyKept, Sees
 use Rattle.arj_names_view_law.specs.Memory.{NamesGo}
 use Rattle.arj_names_view_law.proofs.BareEnds.{bare_wrote, begun_bare, opens_none, plain_bare}
 use Rattle.arj_names_view_law.proofs.GrantSteps.{grants_stay, heard}
-use Rattle.arj_names_view_law.proofs.ListSteps.{lists_are_heard}
+use Rattle.arj_names_view_law.proofs.ListSteps.{lists_are_heard, kept_still}
 use Rattle.arj_names_view_law.specs.Both.{HasNoPart, HowDecided, IsEndedBare, IsOnly, IsRecorded, decided_names, ended_names, has_part, CallsKeepBoth, IsAnswered, LoadsKeepBoth, HasGoneOn, OnlyAnswers, OnlyAtNode, BeginningsKeepBoth, BothWalk, DecisionsKeepBoth, DisksWalk, IsOther, IsSeenFrom, IsSeenIn, OnlyRoots, OpensNone, SeesBoth, is_no_work, leaves_the_inc}
 use Rattle.arj_names_view_law.specs.Memory.{SeesNaming}
 use Rattle.arj_names_view_law.proofs.Pairing.{Ends, walked_both, Stepped, left_disk, naming_on, seen_as, steps, steps_to, stopped_both, unfollowed, walks_at}
@@ -522,6 +522,7 @@ kept_only t g C D only had idle plain = record {
   names = only.names ∙ ap (λ y. record C.names { had = D.names.had; kept = D.names.kept; answers = y }) (ap (λ (L : Names). L.answers) (sym only.names));
   answers = λ a j. subst (λ (L : Names). In a L.answers) (sym only.names) j;
   grows = only.had;
+  narrows = only.narrows;
   heard = λ h i on. ⊎_elim (λ (new : (h ≡ t) × (i ≡ g)). inr (ap C.world.disk.stage new.0 ∙ idle, ap C.world.disk.serial new.0 ∙ plain)) (λ old. inl old) (put2_true t g C.names.had h i (ap (λ f. f h i) (sym had) ∙ on));
 }
 
@@ -560,7 +561,7 @@ loads_keep_both x tops e k d t v from h st top i l outs A M unwalked is free hel
         record {
           acts = AnswerLoad top i k l (packed st) ∷ [];
           may = (record { answered = subst (λ (L : Names). In (Bound top i true l) L.answers) (sym on.names) answered; listed = listed; free = q.0; held = q.1 }, tt);
-          there = (record { world = refl; names = refl; answers = λ a j. inr j; grows = λ h z old. old; heard = λ h z old. inl old }, (inl refl, nothing_of_roots A C on (Loaded top i (packed st))));
+          there = (record { world = refl; names = refl; answers = λ a j. inr j; grows = λ h z old. old; narrows = λ h v is. kept_still v (C.names.kept h) is; heard = λ h z old. inl old }, (inl refl, nothing_of_roots A C on (Loaded top i (packed st))));
         }
 
 pub calls_keep_both : CallsKeepBoth

@@ -27,7 +27,7 @@ use Rattle.arj_names_view_law.specs.Lists.{HasList, HasRetained, IsShort, IsTopO
 use Rattle.arj_names_view_law.specs.Memory.{NamesGo, SeesNaming}
 use Rattle.arj_names_view_law.proofs.CoordBoth.{answered_naming, kept_only, others_left}
 use Rattle.arj_names_view_law.proofs.GrantSteps.{came_from, grants_stay, heard}
-use Rattle.arj_names_view_law.proofs.ListSteps.{lists_are_heard}
+use Rattle.arj_names_view_law.proofs.ListSteps.{lists_are_heard, kept_still}
 
 -- acts that change nothing but answers, grants and kept lists leave both halves seen
 pub heard_both : (x : ℕ) (tops : Kinds) (Q : Office → Type 0) (A : Office) (M : Seen) → SeesBoth x tops A M → NamesGo A (λ D. OnlyAnswers A D × Q D) → IsHeard x tops Q A M
@@ -54,7 +54,7 @@ heard_both x tops Q A M both go = (
 
 -- no answer is taken
 pub none_heard : (A : Office) → OnlyAnswers A A
-none_heard A = record { world = refl; names = refl; answers = λ a i. i; grows = λ h i on. on; heard = λ h i on. inl on }
+none_heard A = record { world = refl; names = refl; answers = λ a i. i; grows = λ h i on. on; narrows = λ h v is. kept_still v (A.names.kept h) is; heard = λ h i on. inl on }
 
 gone_on : (A : Office) → HasGoneOn A A
 gone_on A = record { names = refl; later = later_same A.world; tops = refl }
@@ -65,7 +65,7 @@ loads_are_given x k tops d t st top i l A M free held answered listed both =
     heard_both x tops (λ D. In (Loaded top i (packed st)) D.names.answers × ((D.names.had ≡ A.names.had) × (D.names.kept ≡ A.names.kept))) A (up k d t M) both (record {
       acts = AnswerLoad top i k l (packed st) ∷ [];
       may = (record { answered = answered; listed = listed; free = q.0; held = q.1 }, tt);
-      there = (record { world = refl; names = refl; answers = λ a j. inr j; grows = λ h z old. old; heard = λ h z old. inl old }, (inl refl, (refl, refl)));
+      there = (record { world = refl; names = refl; answers = λ a j. inr j; grows = λ h z old. old; narrows = λ h v is. kept_still v (A.names.kept h) is; heard = λ h z old. inl old }, (inl refl, (refl, refl)));
     })
 
 -- ---- calls and includes
@@ -118,7 +118,7 @@ module _ (x g : ℕ) (tops : Kinds) (root top : Uid) (c : Coord) (r q : Root) (N
       came_from P new r.grants (λ h k. olds h (in_to h r.grants k)) one (λ h k same on. both h _ (in_to h r.grants k)) m (in_from m (granted_with new r.grants) j)
 
   list_on : (z : ℕ) (k : Known) → HasList N z k → HasList (record N { had = put2 (uid_number top) g true N.had }) z k
-  list_on z k h = record { kept = h.kept; there = h.there; since = h.since; same = h.same }
+  list_on z k h = record { kept = h.kept; there = h.there; since = h.since; within = h.within }
 
   retained_on : (k : Known) → HasRetained N (uid_number root) k → HasRetained (record N { had = put2 (uid_number top) g true N.had }) (uid_number root) k
   retained_on k h = record { had = put2_rises (uid_number top) g N.had (uid_number root) (let b = k.binding in b.inc) h.had; kept = h.kept; there = h.there }
@@ -145,7 +145,7 @@ includes_are_taken x g tops root top c r q l A M idle answered has of after stay
     let of_root = ap (λ f. f (uid_number top)) fixed.root ∙ of.of_root in
     let plain = ap (λ f. f (uid_number top)) fixed.serial ∙ of.plain in
     let B : Office = acted A (Hear (uid_number top) g true l) in
-    let only : OnlyKept A B = record { names = refl; world = refl; had = λ t i on. put2_rises (uid_number top) g A.names.had t i on } in
+    let only : OnlyKept A B = record { names = refl; world = refl; had = λ t i on. put2_rises (uid_number top) g A.names.had t i on; narrows = λ h v is. kept_still v (A.names.kept h) is } in
     heard_both x tops (λ D. HasOfRoot x tops root c q D × (D.names.had (uid_number top) g ≡ true) × OnlyAtNode (λ n. n == uid_number top) A D) A M both (record {
       acts = Hear (uid_number top) g true l ∷ [];
       may = (record { answered = answered; idle = idle }, tt);

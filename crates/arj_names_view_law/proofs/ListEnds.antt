@@ -12,14 +12,15 @@ use Rattle.arj_protocol.specs.Coord.{Coord, Grant, Root, Said, kept_of}
 use Rattle.arj_protocol.specs.Ending.{kept_after, list_after as root_list}
 use Rattle.arj_protocol.specs.Order.{uid_number}
 use Rattle.arj_protocol.specs.Tree.{is_spent}
+use Rattle.std.proofs.lemmas.Bool.{and_parts}
 use Rattle.arj_disk_law.specs.Names.{Names, Kept, lists_after, or_else, retained, with_list}
 use Rattle.arj_disk_law.specs.State.{State, list_after, target}
 use Rattle.arj_disk_law.specs.Words.{has}
-use Rattle.arj_disk_law.proofs.Base.{falls_to, never, never_some, or_left, or_right, put_cases, some_is, test_is, test_same}
+use Rattle.arj_disk_law.proofs.Base.{falls_to, never, never_some, or_cases, or_left, or_right, put_cases, some_is, test_is, test_same}
 use Rattle.arj_disk_view_law.specs.Sees.{Kinds, IsFixed}
 use Rattle.arj_disk_view_law.proofs.ConfirmSteps.{marked_is, take_out}
 use Rattle.arj_disk_view_law.proofs.ConfirmWalks.{has_listed}
-use Rattle.arj_names_view_law.specs.Lists.{AfterDecision, AnsweredCallsHaveLists, AreSame, DecisionsKeepLists, HasList, HasRetained, IsSaid, IsShort, IsTopOf, RetainedListsAreSeen, SeesLists}
+use Rattle.arj_names_view_law.specs.Lists.{AfterDecision, AnsweredCallsHaveLists, DecisionsKeepLists, HasList, HasRetained, IsSaid, IsWithin, IsShort, IsTopOf, RetainedListsAreSeen, SeesLists}
 
 -- ---- an answered call
 
@@ -95,16 +96,19 @@ has_with s (m ∷ ms) ss = has_with s ms (with_store m ss) ∙ ap (λ k. has s m
 has_without : (s : ℕ) (ms ss : List ℕ) → has s (without_stores ms ss) ≡ (has s ss && not (is_listed s ms))
 has_without s ms ss = ap (has s) (take_out ms ss) ∙ has_filter (λ z. not (is_listed z ms)) s ss
 
--- what a decision makes of the same stores is the same
-after_same : (x : ℕ) (S : State) (t : Uid) (p : commit.Plan) (l m : List ℕ) → IsSaid x S t p → AreSame l m
-    → AreSame (list_after (S.plan (uid_number t)) (S.got (uid_number t)) l) (with_stores (marked x (included_of p)) (without_stores (marked x p.excluded) m))
-after_same x S t p l m says same s = left ∙ or_turn (has s l && not (target (S.plan (uid_number t)) s && not (S.got (uid_number t) s))) (has s (filter (S.got (uid_number t)) (let q = S.plan (uid_number t) in q.joins))) ∙ joined ∙ sym right
+-- what a decision makes of stores within others is within what it makes of those
+after_within : (x : ℕ) (S : State) (t : Uid) (p : commit.Plan) (l m : List ℕ) → IsSaid x S t p → IsWithin l m
+    → IsWithin (list_after (S.plan (uid_number t)) (S.got (uid_number t)) l) (with_stores (marked x (included_of p)) (without_stores (marked x p.excluded) m))
+after_within x S t p l m says within s on = right ∙ ⊎_elim
+    (λ h. or_right (has s (marked x (included_of p))) (has s m && not (is_listed s (marked x p.excluded))) (both (and_parts (has s l) (not (target (S.plan (uid_number t)) s && not (S.got (uid_number t) s))) h)))
+    (λ h. or_left (has s (marked x (included_of p))) (has s m && not (is_listed s (marked x p.excluded))) (ap (has s) says.joins ∙ h))
+    (or_cases (has s l && not (target (S.plan (uid_number t)) s && not (S.got (uid_number t) s))) (has s (filter (S.got (uid_number t)) (let q = S.plan (uid_number t) in q.joins))) (sym left ∙ on))
   where
     marks : is_listed s (marked x p.excluded) ≡ (target (S.plan (uid_number t)) s && not (S.got (uid_number t) s))
     marks = marked_is x s p.excluded ∙ says.marks s
 
-    joined : (has s (filter (S.got (uid_number t)) (let q = S.plan (uid_number t) in q.joins)) || (has s l && not (target (S.plan (uid_number t)) s && not (S.got (uid_number t) s)))) ≡ (has s (marked x (included_of p)) || (has s m && not (is_listed s (marked x p.excluded))))
-    joined = (λ i. has s ((sym says.joins) i) || (same s i && not ((sym marks) i)))
+    both : (has s l ≡ true) × (not (target (S.plan (uid_number t)) s && not (S.got (uid_number t) s)) ≡ true) → (has s m && not (is_listed s (marked x p.excluded))) ≡ true
+    both h = ap (λ b. b && not (is_listed s (marked x p.excluded))) (within s h.0) ∙ ap not marks ∙ h.1
 
     left : has s (list_after (S.plan (uid_number t)) (S.got (uid_number t)) l) ≡ ((has s l && not (target (S.plan (uid_number t)) s && not (S.got (uid_number t) s))) || has s (filter (S.got (uid_number t)) (let q = S.plan (uid_number t) in q.joins)))
     left = has_app s (filter (λ z. not (target (S.plan (uid_number t)) z && not (S.got (uid_number t) z))) l) (filter (S.got (uid_number t)) (let q = S.plan (uid_number t) in q.joins))
@@ -152,22 +156,22 @@ module _ (x : ℕ) (tops : Kinds) (root t : Uid) (c d : Coord) (r q : Root) (p :
     kept = record { since = h.kept.since; list = list_after (S.plan (uid_number t)) (S.got (uid_number t)) h.kept.list };
     there = in_root z is ∙ ap (with_list (S.plan (uid_number t)) (S.got (uid_number t))) h.there;
     since = h.since;
-    same = after_same x S t p h.kept.list k.stores says h.same;
+    within = after_within x S t p h.kept.list k.stores says h.within;
   }
 
   retained_on : (k : Known) → HasRetained N (uid_number root) k → HasRetained (record N { kept = lists_after S (uid_number t) N.kept }) (uid_number root) (root_list p x k)
   retained_on k h = record { had = h.had; kept = record { since = h.kept.since; list = list_after (S.plan (uid_number t)) (S.got (uid_number t)) h.kept.list }; there = in_root (uid_number root) root_root ∙ ap (with_list (S.plan (uid_number t)) (S.got (uid_number t))) h.there }
 
-  agrees : (k : Known) (h : Uid) (l : Kept) → kept_of x q ≡ Some k → (h ≡ root) ⊎ IsTopOf tops root h → lists_after S (uid_number t) N.kept (uid_number h) ≡ Some l → l.since ≡ (let b = k.binding in b.inc) → AreSame l.list k.stores
+  agrees : (k : Known) (h : Uid) (l : Kept) → kept_of x q ≡ Some k → (h ≡ root) ⊎ IsTopOf tops root h → lists_after S (uid_number t) N.kept (uid_number h) ≡ Some l → l.since ≡ (let b = k.binding in b.inc) → IsWithin l.list k.stores
   agrees k h l is of e since = by (N.kept (uid_number h)) refl (sym (in_root (uid_number h) (⊎_elim (λ same. ap (λ w. S.root (uid_number w)) same ∙ root_root) (λ o. top_root h o) of)) ∙ e)
     where
-      by : (o : Option Kept) → N.kept (uid_number h) ≡ o → with_list (S.plan (uid_number t)) (S.got (uid_number t)) o ≡ Some l → AreSame l.list k.stores
+      by : (o : Option Kept) → N.kept (uid_number h) ≡ o → with_list (S.plan (uid_number t)) (S.got (uid_number t)) o ≡ Some l → IsWithin l.list k.stores
       by None f g = absurd (cc g)
       by (Some v) f g =
           let b = before k is in
           let same : record { since = v.since; list = list_after (S.plan (uid_number t)) (S.got (uid_number t)) v.list } ≡ l = some_is refl g in
           let now : v.since ≡ (let z = b.0 in let y = z.binding in y.inc) = ap (λ (z : Kept). z.since) same ∙ since ∙ ap (λ (z : Known). (let y = z.binding in y.inc)) (sym b.2) in
-          λ n. ap (λ (z : Kept). has n z.list) (sym same) ∙ after_same x S t p v.list (let z = b.0 in z.stores) says (s.agree b.0 h v b.1 of f now) n ∙ ap (λ (z : Known). has n z.stores) b.2
+          λ n on. ap (λ (z : Known). has n z.stores) (sym b.2) ∙ after_within x S t p v.list (let z = b.0 in z.stores) says (s.agree b.0 h v b.1 of f now) n (ap (λ (z : Kept). has n z.list) same ∙ on)
 
   back : {g : Grant} → Contains q.grants g → Contains r.grants g
   back {g} i = subst (λ gs. Contains gs g) after.grants i
@@ -227,7 +231,7 @@ module _ (x : ℕ) (tops : Kinds) (root t : Uid) (c d : Coord) (r q : Root) (p :
     kept_other w of = ap (λ b. if b then root_kept else lists_after S (uid_number t) N.kept (uid_number w)) (not_root w of)
 
     list_too : (w : Uid) (k : Known) → IsTopOf tops root w → HasList (record N { kept = lists_after S (uid_number t) N.kept }) (uid_number w) k → HasList (retained S (uid_number t) (record N { kept = lists_after S (uid_number t) N.kept })) (uid_number w) k
-    list_too w k of h = record { kept = h.kept; there = kept_other w of ∙ h.there; since = h.since; same = h.same }
+    list_too w k of h = record { kept = h.kept; there = kept_other w of ∙ h.there; since = h.since; within = h.within }
 
     had_root : (i : ℕ) → (N.had (S.root (uid_number t)) i ≡ true) ⊎ (N.had (uid_number t) i ≡ true) → (let M = retained S (uid_number t) (record N { kept = lists_after S (uid_number t) N.kept }) in M.had (uid_number root) i) ≡ true
     had_root i h = put_cases (λ f. f i ≡ true) (S.root (uid_number t)) (λ j. N.had (S.root (uid_number t)) j || N.had (uid_number t) j) N.had (uid_number root)

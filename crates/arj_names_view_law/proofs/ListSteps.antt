@@ -2,7 +2,7 @@
 use Rattle.std.proofs.Common.{◌≡◌, ◌⊎◌, ◌+◌, ◌*◌, ℕ, ◌==◌, ◌&&◌, ◌||◌, List, [], ◌∷◌, Bool, true, false, cond, Option, Some, None, refl, sym, ◌∙◌, ap, subst, inl, inr, ⊎_elim, arith, filter, map, min, Contains}
 use Rattle.std.specs.Prelude.{if◌then◌else◌}
 use Rattle.std.specs.List.{list_any}
-use Rattle.std.proofs.lemmas.Bool.{and_parts}
+use Rattle.std.proofs.lemmas.Bool.{and_parts, or_parts}
 use Rattle.arj_lock.proofs.Members.{In as Stands, in_filter, in_from, in_to}
 use Rattle.arj_protocol.specs.Words.{Uid, Binding, is_on}
 use Rattle.arj_protocol.specs.Asking.{is_named}
@@ -16,13 +16,14 @@ use Rattle.arj_protocol.specs.Tree.{is_spent}
 use Rattle.arj_disk_law.specs.Guards.{Runs, end_of}
 use Rattle.arj_disk_law.specs.Named as names
 use Rattle.arj_disk_law.specs.Names as machine
-use Rattle.arj_disk_law.specs.Names.{Names, Office, Act, Kept, acted}
+use Rattle.arj_disk_law.specs.Names.{Names, Office, Act, Kept, acted, narrowed}
 use Rattle.arj_disk_law.specs.State.{Idle}
 use Rattle.arj_disk_law.specs.Words.{In, has, put2}
+use Rattle.arj_disk_law.proofs.Listing.{has_filter}
 use Rattle.arj_disk_law.proofs.Base.{falls_to, never, never_some, or_cases, or_left, or_right, put2_rises, put2_same, some_is, test_is, test_same}
 use Rattle.arj_disk_view_law.specs.Sees.{Kinds, IsFixed}
 use Rattle.arj_names_view_law.specs.Grants.{HasLeast, SeesGrants}
-use Rattle.arj_names_view_law.specs.Lists.{AfterAnswer, AreSame, CommitsHaveLists, HasKeptList, HasList, HasRetained, IsLasting, IsNamedNow, LeavesOthers, IsShort, IsTopOf, ListsAreHeard, OnlyKept, SeesLists}
+use Rattle.arj_names_view_law.specs.Lists.{AfterAnswer, CommitsHaveLists, HasKeptList, HasList, HasNarrowed, HasRetained, IsWithin, IsLasting, IsNamedNow, LeavesOthers, IsShort, IsTopOf, ListsAreHeard, OnlyKept, SeesLists}
 use Rattle.arj_names_view_law.specs.Memory.{NamesGo}
 use Rattle.arj_names_view_law.proofs.GrantSteps.{Taken, came_from, taken_old}
 
@@ -38,18 +39,16 @@ same_inc b c short also e = by (test_is (binding_number b) (binding_number c) e)
     by : b.inc * 4294967296 + b.count ≡ c.inc * 4294967296 + c.count → b.inc ≡ c.inc
     by h = grind arith
 
--- ---- a list is kept for several actions
+-- what is kept as it was
+pub kept_still : (k : Kept) (o : Option Kept) → o ≡ Some k → HasNarrowed k o
+kept_still k o is = record { kept = k; there = is; within = λ same s on. on }
 
-abbrev set_all : List ℕ → Kept → (ℕ → Option Kept) → ℕ → Option Kept
-set_all hs v f z = if has z hs then Some v else f z
+-- ---- a list is kept for several actions
 
 abbrev keeps : ℕ → ℕ → List ℕ → List ℕ → List Act
 keeps t g l hs = map {A = ℕ} {B = Act} (λ h. machine.KeepList h t g l) hs
 
 module _ (t g : ℕ) (l : List ℕ) where
-  abbrev value : Kept
-  value = record { since = g; list = l }
-
   keep_runs : (hs : List ℕ) (A : Office) → In (machine.Bound t g false l) A.names.answers → A.world.disk.stage t ≡ Idle → ((h : ℕ) → has h hs ≡ true → (A.world.disk.root h ≡ A.world.disk.root t) × (A.names.had h g ≡ true)) → Runs A (keeps t g l hs)
   keep_runs [] A answered idle all = tt
   keep_runs (h ∷ hs) A answered idle all = (
@@ -57,23 +56,68 @@ module _ (t g : ℕ) (l : List ℕ) where
     keep_runs hs (acted A (machine.KeepList h t g l)) answered idle (λ z on. all z (or_right (h == z) (has z hs) on)),
   )
 
-  keep_kept : (hs : List ℕ) (A : Office) (z : ℕ) → (let B = end_of A (keeps t g l hs) in let N = B.names in N.kept z) ≡ (if has z hs then Some (record { since = g; list = l }) else A.names.kept z)
-  keep_kept [] A z = refl
-  keep_kept (h ∷ hs) A z = keep_kept hs (acted A (machine.KeepList h t g l)) z ∙ by (has z hs) (h == z) (z == h) refl refl
+  -- what is kept where the list was: of that incarnation, within the list and within what was kept of it
+  record IsKeptOf (old new : Option Kept) : Type 0 where
+    kept : Kept
+    there : new ≡ Some kept
+    since : kept.since ≡ g
+    within : IsWithin kept.list l
+    narrows : (k : Kept) → old ≡ Some k → k.since ≡ g → IsWithin kept.list k.list
+
+  kept_first : (o : Option Kept) → IsKeptOf o (Some (record { since = g; list = narrowed g l o }))
+  kept_first None = record { kept = record { since = g; list = l }; there = refl; since = refl; within = λ s on. on; narrows = λ k is. absurd (cc is) }
+  kept_first (Some v) = record {
+    kept = record { since = g; list = narrowed g l (Some v) };
+    there = refl;
+    since = refl;
+    within = λ s on. by (v.since == g) s on;
+    narrows = λ k is same s on. subst (λ (z : Kept). has s z.list ≡ true) (some_is refl is) (of_it (v.since == g) (ap (λ (z : Kept). z.since == g) (some_is refl is) ∙ (ap (λ n. n == g) same ∙ test_same g)) s on);
+  }
     where
-      flip : (h == z) ≡ true → (z == h) ≡ true
-      flip e = ap (λ w. w == h) (sym (test_is h z e)) ∙ test_same h
+      by : (b : Bool) (s : ℕ) → has s (if b then filter (λ z. has z v.list) l else l) ≡ true → has s l ≡ true
+      by true s on = (has_filter (λ z. has z v.list) s l on).0
+      by false s on = on
 
-      back : (z == h) ≡ true → (h == z) ≡ true
-      back e = ap (λ w. h == w) (test_is z h e) ∙ test_same h
+      of_it : (b : Bool) → b ≡ true → (s : ℕ) → has s (if b then filter (λ z. has z v.list) l else l) ≡ true → has s v.list ≡ true
+      of_it true is s on = (has_filter (λ z. has z v.list) s l on).1
+      of_it false is s on = absurd (cc is)
 
-      by : (a b d : Bool) → (h == z) ≡ b → (z == h) ≡ d → (if a then Some (record { since = g; list = l }) else (if d then Some (record { since = g; list = l }) else A.names.kept z)) ≡ (if b || a then Some (record { since = g; list = l }) else A.names.kept z)
-      by true true d e f = refl
-      by true false d e f = refl
-      by false true true e f = refl
-      by false true false e f = absurd (never (flip e) f)
-      by false false true e f = absurd (never (back f) e)
-      by false false false e f = refl
+  kept_again : (o : Option Kept) (n : Option Kept) → IsKeptOf (Some (record { since = g; list = narrowed g l o })) n → IsKeptOf o n
+  kept_again o n k = record {
+    kept = k.kept;
+    there = k.there;
+    since = k.since;
+    within = k.within;
+    narrows = λ v is same s on. let f = kept_first o in f.narrows v is same s (subst (λ (z : Kept). has s z.list ≡ true) (some_is refl f.there) (k.narrows (record { since = g; list = narrowed g l o }) refl refl s on));
+  }
+
+  keep_kept : (hs : List ℕ) (A : Office) (z : ℕ) → (has z hs ≡ false → (let B = end_of A (keeps t g l hs) in let N = B.names in N.kept z) ≡ A.names.kept z) × (has z hs ≡ true → IsKeptOf (A.names.kept z) (let B = end_of A (keeps t g l hs) in let N = B.names in N.kept z))
+  keep_kept [] A z = ((λ off. refl), λ on. absurd (cc on))
+  keep_kept (h ∷ hs) A z = by (z == h) refl (keep_kept hs (acted A (machine.KeepList h t g l)) z)
+    where
+      flip : (a b : ℕ) → (a == b) ≡ true → (b == a) ≡ true
+      flip a b e = ap (λ w. w == a) (sym (test_is a b e)) ∙ test_same a
+
+      by : (b : Bool) → (z == h) ≡ b → (has z hs ≡ false → (let B = end_of (acted A (machine.KeepList h t g l)) (keeps t g l hs) in let N = B.names in N.kept z) ≡ (acted A (machine.KeepList h t g l)).names.kept z) × (has z hs ≡ true → IsKeptOf ((acted A (machine.KeepList h t g l)).names.kept z) (let B = end_of (acted A (machine.KeepList h t g l)) (keeps t g l hs) in let N = B.names in N.kept z))
+          → (((h == z) || has z hs) ≡ false → (let B = end_of (acted A (machine.KeepList h t g l)) (keeps t g l hs) in let N = B.names in N.kept z) ≡ A.names.kept z) × (((h == z) || has z hs) ≡ true → IsKeptOf (A.names.kept z) (let B = end_of (acted A (machine.KeepList h t g l)) (keeps t g l hs) in let N = B.names in N.kept z))
+      by true e rest = (
+        (λ off. absurd (never (or_left (h == z) (has z hs) (flip z h e)) off)),
+        λ on. kept_again (A.names.kept z) (let B = end_of (acted A (machine.KeepList h t g l)) (keeps t g l hs) in let N = B.names in N.kept z) (here (has z hs) refl),
+      )
+        where
+          now : (acted A (machine.KeepList h t g l)).names.kept z ≡ Some (record { since = g; list = narrowed g l (A.names.kept z) })
+          now = ap (λ b. if b then Some (record { since = g; list = narrowed g l (A.names.kept h) }) else A.names.kept z) e ∙ ap (λ n. Some (record { since = g; list = narrowed g l (A.names.kept n) })) (sym (test_is z h e))
+
+          here : (b : Bool) → has z hs ≡ b → IsKeptOf (Some (record { since = g; list = narrowed g l (A.names.kept z) })) (let B = end_of (acted A (machine.KeepList h t g l)) (keeps t g l hs) in let N = B.names in N.kept z)
+          here true on = subst (λ o. IsKeptOf o (let B = end_of (acted A (machine.KeepList h t g l)) (keeps t g l hs) in let N = B.names in N.kept z)) now (rest.1 on)
+          here false off = subst (IsKeptOf (Some (record { since = g; list = narrowed g l (A.names.kept z) }))) (sym (rest.0 off ∙ now)) (record { kept = record { since = g; list = narrowed g l (A.names.kept z) }; there = refl; since = refl; within = (let f = kept_first (A.names.kept z) in λ s on. f.within s (subst (λ (w : Kept). has s w.list ≡ true) (some_is refl f.there) on)); narrows = λ k is same s on. subst (λ (w : Kept). has s w.list ≡ true) (some_is refl is) on })
+      by false e rest = (
+        (λ off. rest.0 (or_parts (h == z) (has z hs) off).1 ∙ other),
+        λ on. subst (λ o. IsKeptOf o (let B = end_of (acted A (machine.KeepList h t g l)) (keeps t g l hs) in let N = B.names in N.kept z)) other (rest.1 (⊎_elim (λ same. absurd (never (flip h z same) e)) (λ more. more) (or_cases (h == z) (has z hs) on))),
+      )
+        where
+          other : (acted A (machine.KeepList h t g l)).names.kept z ≡ A.names.kept z
+          other = ap (λ b. if b then Some (record { since = g; list = narrowed g l (A.names.kept h) }) else A.names.kept z) e
 
   keep_names : (hs : List ℕ) (A : Office) → (let B = end_of A (keeps t g l hs) in B.names) ≡ record A.names { kept = (let B = end_of A (keeps t g l hs) in let N = B.names in N.kept) }
   keep_names [] A = refl
@@ -174,7 +218,7 @@ module _ (x g : ℕ) (tops : Kinds) (root t : Uid) (c : Coord) (r q : Root) (kno
         clash on = absurd (never (ap (λ (z : Known). binding_eq z.binding known.binding) (one l e) ∙ on) apart)
 
     list_on : (l : Known) (z : ℕ) → HasList A.names z l → HasList (record A.names { had = put2 (uid_number t) g true A.names.had }) z l
-    list_on l z h = record { kept = h.kept; there = h.there; since = h.since; same = h.same }
+    list_on l z h = record { kept = h.kept; there = h.there; since = h.since; within = h.within }
 
     retained_on : (l : Known) → HasRetained A.names (uid_number root) l → HasRetained (record A.names { had = put2 (uid_number t) g true A.names.had }) (uid_number root) l
     retained_on l h = record { had = rises (uid_number root) (let b = l.binding in b.inc) h.had; kept = h.kept; there = h.there }
@@ -205,8 +249,11 @@ module _ (x g : ℕ) (tops : Kinds) (root t : Uid) (c : Coord) (r q : Root) (kno
   abbrev M : Names
   M = let E = end_of (acted A (machine.Hear (uid_number t) g false known.stores)) (keeps (uid_number t) g known.stores (filter (λ z. put2 (uid_number t) g true A.names.had z g) (uid_number root ∷ map {A = Grant} {B = ℕ} (λ h. uid_number h.top) q.grants))) in E.names
 
-  kept_is : (z : ℕ) → M.kept z ≡ (if has z chosen then Some (record { since = g; list = known.stores }) else A.names.kept z)
-  kept_is z = keep_kept (uid_number t) g known.stores chosen B z
+  kept_out : (z : ℕ) → has z chosen ≡ false → M.kept z ≡ A.names.kept z
+  kept_out z = (keep_kept (uid_number t) g known.stores chosen B z).0
+
+  kept_in : (z : ℕ) → has z chosen ≡ true → IsKeptOf (uid_number t) g known.stores (A.names.kept z) (M.kept z)
+  kept_in z = (keep_kept (uid_number t) g known.stores chosen B z).1
 
   had_is : (z i : ℕ) → put2 (uid_number t) g true A.names.had z i ≡ true → M.had z i ≡ true
   had_is z i h = ap (λ (N : Names). N.had z i) (keep_names (uid_number t) g known.stores chosen B) ∙ h
@@ -262,7 +309,7 @@ module _ (x g : ℕ) (tops : Kinds) (root t : Uid) (c : Coord) (r q : Root) (kno
       (ap (λ z. had (uid_number z) g) (k.top_is ∙ l.top_is) ∙ rises (uid_number w) g h))
 
   chosen_list : (l : Known) → (let b = l.binding in b.inc) ≡ g → l.stores ≡ known.stores → (z : ℕ) → has z chosen ≡ true → HasList M z l
-  chosen_list l inc stores z on = record { kept = record { since = g; list = known.stores }; there = kept_is z ∙ ap (λ b. if b then Some (record { since = g; list = known.stores }) else A.names.kept z) on; since = inc; same = λ n. ap (has n) (sym stores) }
+  chosen_list l inc stores z on = let k = kept_in z on in record { kept = k.kept; there = k.there; since = inc ∙ sym k.since; within = λ n h. ap (has n) stores ∙ k.within n h }
 
   -- what is kept from now on is the answer's
   module _ (l : Known) (is : kept_of x q ≡ Some l) (inc : (let b = l.binding in b.inc) ≡ g) (short : IsShort l.binding) (stores : l.stores ≡ known.stores)
@@ -271,13 +318,13 @@ module _ (x g : ℕ) (tops : Kinds) (root t : Uid) (c : Coord) (r q : Root) (kno
     one_now : (k : Known) → kept_of x q ≡ Some k → l ≡ k
     one_now k e = some_is is e
 
-    agrees : (h : Uid) (v : Kept) → (h ≡ root) ⊎ IsTopOf tops root h → M.kept (uid_number h) ≡ Some v → v.since ≡ (let b = l.binding in b.inc) → AreSame v.list l.stores
+    agrees : (h : Uid) (v : Kept) → (h ≡ root) ⊎ IsTopOf tops root h → M.kept (uid_number h) ≡ Some v → v.since ≡ (let b = l.binding in b.inc) → IsWithin v.list l.stores
     agrees h v of e since = by (has (uid_number h) chosen) refl
       where
-        by : (b : Bool) → has (uid_number h) chosen ≡ b → AreSame v.list l.stores
-        by true on = let same : record { since = g; list = known.stores } ≡ v = some_is (kept_is (uid_number h) ∙ ap (λ b. if b then Some (record { since = g; list = known.stores }) else A.names.kept (uid_number h)) on) e in λ n. ap (λ (z : Kept). has n z.list) (sym same) ∙ ap (has n) (sym stores)
+        by : (b : Bool) → has (uid_number h) chosen ≡ b → IsWithin v.list l.stores
+        by true on = let k = kept_in (uid_number h) on in λ n there. ap (has n) stores ∙ k.within n (subst (λ (z : Kept). has n z.list ≡ true) (sym (some_is k.there e)) there)
         by false off =
-            let old : A.names.kept (uid_number h) ≡ Some v = sym (kept_is (uid_number h) ∙ ap (λ b. if b then Some (record { since = g; list = known.stores }) else A.names.kept (uid_number h)) off) ∙ e in
+            let old : A.names.kept (uid_number h) ≡ Some v = sym (kept_out (uid_number h) off) ∙ e in
             let had_it : A.names.had (uid_number h) g ≡ true = ap (A.names.had (uid_number h)) (sym (since ∙ inc)) ∙ kept_had (uid_number h) v old in
             absurd (never (⊎_elim (λ same. ap (λ z. has (uid_number z) chosen) same ∙ root_chosen (rises (uid_number root) g (ap (λ z. A.names.had (uid_number z) g) (sym same) ∙ had_it))) (λ o. top_chosen h o had_it) of) off)
 
@@ -292,7 +339,7 @@ module _ (x g : ℕ) (tops : Kinds) (root t : Uid) (c : Coord) (r q : Root) (kno
 
     kept_now : SeesLists x tops root c q M
     kept_now = record {
-      agree = λ k h v e of f since n. agrees h v of f (since ∙ ap (λ (z : Known). (let b = z.binding in b.inc)) (sym (one_now k e))) n ∙ ap (λ (z : Known). has n z.stores) (one_now k e);
+      agree = λ k h v e of f since n on. subst (λ (z : Known). has n z.stores ≡ true) (one_now k e) (agrees h v of f (since ∙ ap (λ (z : Known). (let b = z.binding in b.inc)) (sym (one_now k e))) n on);
       family = family;
       granted = granted M.had had_is;
       named = λ k h e i f on. subst (HasList M (uid_number h.top)) (one_now k e) (names_list h i f (ap (λ (z : Known). is_named z.binding h.named) (one_now k e) ∙ on));
@@ -311,13 +358,18 @@ module _ (x g : ℕ) (tops : Kinds) (root t : Uid) (c : Coord) (r q : Root) (kno
         names = keep_names (uid_number t) g known.stores chosen B ∙ (λ i. record A.names { had = (λ z j. had_same z j i); kept = M.kept });
         world = keep_world (uid_number t) g known.stores chosen B;
         had = λ z i h. had_is z i (rises z i h);
+        narrows = λ h k is. narrow h k is (has h chosen) refl;
       },
       seen,
       ap (λ (N : Names). N.had) (keep_names (uid_number t) g known.stores chosen B),
-      λ h o. kept_is h ∙ ap (λ b. if b then Some (record { since = g; list = known.stores }) else A.names.kept h) (falls_to (has h chosen) (λ on. o (of_root_chosen h on))),
+      λ h o. kept_out h (falls_to (has h chosen) (λ on. o (of_root_chosen h on))),
     );
   }
     where
+      narrow : (h : ℕ) (k : Kept) → A.names.kept h ≡ Some k → (b : Bool) → has h chosen ≡ b → HasNarrowed k (M.kept h)
+      narrow h k is true on = let n = kept_in h on in record { kept = n.kept; there = n.there; within = λ same. n.narrows k is (sym same ∙ n.since) }
+      narrow h k is false off = kept_still k (M.kept h) (kept_out h off ∙ is)
+
       of_root_chosen : (h : ℕ) → has h chosen ≡ true → tops.root h ≡ uid_number root
       of_root_chosen h on = ap (λ f. f h) (sym fixed.root) ∙ (chosen_may h on).0 ∙ ap (λ f. f (uid_number t)) fixed.root ∙ top.of_root
 
@@ -352,8 +404,8 @@ module _ (x g : ℕ) (tops : Kinds) (root t : Uid) (c : Coord) (r q : Root) (kno
           had_now = ap (M.had (uid_number root)) (inc ∙ sym old_inc) ∙ had_is (uid_number root) (let b = k.binding in b.inc) (rises (uid_number root) (let b = k.binding in b.inc) h.had)
 
           by : (b : Bool) → has (uid_number root) chosen ≡ b → HasRetained M (uid_number root) l
-          by true on = record { had = had_now; kept = record { since = g; list = known.stores }; there = kept_is (uid_number root) ∙ ap (λ b. if b then Some (record { since = g; list = known.stores }) else A.names.kept (uid_number root)) on }
-          by false off = record { had = had_now; kept = h.kept; there = kept_is (uid_number root) ∙ ap (λ b. if b then Some (record { since = g; list = known.stores }) else A.names.kept (uid_number root)) off ∙ h.there }
+          by true on = (let k = kept_in (uid_number root) on in record { had = had_now; kept = k.kept; there = k.there })
+          by false off = record { had = had_now; kept = h.kept; there = kept_out (uid_number root) off ∙ h.there }
 
   pub lists_heard : NamesGo A (λ C. OnlyKept A C × SeesLists x tops root c q C.names × (C.names.had ≡ put2 (uid_number t) g true A.names.had) × LeavesOthers tops root A C)
   lists_heard = by (kept_of x r) refl (becomes known at free (kept_of x r))
@@ -362,7 +414,7 @@ module _ (x g : ℕ) (tops : Kinds) (root t : Uid) (c : Coord) (r q : Root) (kno
       by o e (stays k was is apart) = record {
         acts = machine.Hear (uid_number t) g false known.stores ∷ [];
         may = (record { answered = answered; idle = idle }, tt);
-        there = (record { names = refl; world = refl; had = rises }, stayed k (e ∙ was) (after.kept ∙ is) apart, refl, λ h o. refl);
+        there = (record { names = refl; world = refl; had = rises; narrows = λ h k is. kept_still k (A.names.kept h) is }, stayed k (e ∙ was) (after.kept ∙ is) apart, refl, λ h o. refl);
       }
       by o e (first l was is binding stores) = keeping (fresh l (after.kept ∙ is) binding stores (s.nothing (e ∙ was)))
       by o e (again k l was is alike binding stores) = keeping (repeated k l (e ∙ was) (after.kept ∙ is) alike binding stores)
@@ -405,7 +457,7 @@ module _ (x : ℕ) (tops : Kinds) (root t : Uid) (c : Coord) (r : Root) (A : Off
         kept = is;
         inc = h.kept.since;
         had = inl (named.lists.had (uid_number t) h.kept h.there);
-        list = λ present. (uid_number t, inl refl, h.kept, h.there, λ n on. sym (h.same n) ∙ on);
+        list = λ present. (uid_number t, inl refl, h.kept, h.there, λ n on. h.within n on);
       }
       of k is (inr h) = record {
         known = k;
@@ -415,7 +467,7 @@ module _ (x : ℕ) (tops : Kinds) (root t : Uid) (c : Coord) (r : Root) (A : Off
         list = λ present.
             let own : h.kept.since ≡ N.inc = present h.kept.since (inr (ap (λ z. N.had z h.kept.since) root_is ∙ named.lists.had (uid_number root) h.kept h.there)) in
             let its : (let b = k.binding in b.inc) ≡ N.inc = present (let b = k.binding in b.inc) (inr (ap (λ z. N.had z (let b = k.binding in b.inc)) root_is ∙ h.had)) in
-            (uid_number root, inr refl, h.kept, h.there, λ n on. sym (s.agree k root h.kept is (inl refl) h.there (own ∙ sym its) n) ∙ on);
+            (uid_number root, inr refl, h.kept, h.there, λ n on. s.agree k root h.kept is (inl refl) h.there (own ∙ sym its) n on);
       }
 
       by : (o : Option Known) → kept_of x r ≡ o → HasKeptList x root t r A.world.disk A.names

@@ -87,7 +87,7 @@ module _ (x : ℕ) (tops : Kinds) (root : Uid) (c : Coord) (r : Root) (A B : Off
   }
 
   list_on : (t : Uid) (k : Known) → IsTopOf tops root t → HasList A.names (uid_number t) k → HasList B.names (uid_number t) k
-  list_on t k top l = record { kept = l.kept; there = kept (uid_number t) (inr top.of_root) ∙ l.there; since = l.since; same = l.same }
+  list_on t k top l = record { kept = l.kept; there = kept (uid_number t) (inr top.of_root) ∙ l.there; since = l.since; within = l.within }
 
   retained_on : (k : Known) → HasRetained A.names (uid_number root) k → HasRetained B.names (uid_number root) k
   retained_on k l = record { had = ap (λ z. z (let b = k.binding in b.inc)) (had (uid_number root) (inl refl)) ∙ l.had; kept = l.kept; there = kept (uid_number root) (inl refl) ∙ l.there }

@@ -34,7 +34,7 @@ use Rattle.arj_names_view_law.specs.Memory.{IsOfTop, SeesNaming}
 use Rattle.arj_disk_view_law.specs.Formats.{HasObject}
 use Rattle.arj_disk_view_law.specs.Pairs.{packed}
 use Rattle.arj_names_view_law.specs.Grants.{SeesGrants, StaysRetained}
-use Rattle.arj_names_view_law.specs.Lists.{AfterAnswer, IsLasting, IsNamedNow, IsTopOf, SeesLists}
+use Rattle.arj_names_view_law.specs.Lists.{AfterAnswer, AreNarrowed, IsLasting, IsNamedNow, IsTopOf, SeesLists}
 use Rattle.arj_names_view_law.specs.Loads.{HaveLoads, KeepsState}
 use Rattle.arj_names_view_law.specs.Restarts.{AreEntries}
 
@@ -313,6 +313,7 @@ pub record OnlyAnswers (C D : Office) : Type 0 where
   pub answers : (a : Answer) → In a C.names.answers → In a D.names.answers
   pub grows : (h i : ℕ) → C.names.had h i ≡ true → D.names.had h i ≡ true
   pub heard : (h i : ℕ) → D.names.had h i ≡ true → (C.names.had h i ≡ true) ⊎ ((C.world.disk.stage h ≡ Idle) × (C.world.disk.serial h ≡ false))
+  pub narrows : AreNarrowed C.names D.names
 
 -- the disk half has gone on, and naming's half had no part in it
 pub record HasGoneOn (A C : Office) : Type 0 where

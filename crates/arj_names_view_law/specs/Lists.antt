@@ -1,5 +1,5 @@
 -- What a root keeps of an object's store list, as the disk machine's naming half has it.
-use Rattle.std.specs.Prelude.{◌≡◌, ◌⊎◌, ◌<◌, ℕ, Bool, true, false, List, map, Some, None, Contains}
+use Rattle.std.specs.Prelude.{◌≡◌, ◌⊎◌, ◌<◌, ℕ, Bool, true, false, List, map, Option, Some, None, Contains}
 use Rattle.arj_protocol.specs.Words.{Uid, Binding, is_on}
 use Rattle.arj_protocol.specs.Asking.{is_named}
 use Rattle.arj_protocol.specs.Call.{At, Known, bound_by}
@@ -21,20 +21,20 @@ use Rattle.arj_disk_view_law.specs.Sees.{Kinds, IsFixed}
 use Rattle.arj_names_view_law.specs.Grants.{SeesGrants}
 use Rattle.arj_names_view_law.specs.Memory.{NamesGo}
 
--- the same stores, in whatever order
-abbrev pub AreSame : List ℕ → List ℕ → Type 0
-AreSame l m = (s : ℕ) → has s l ≡ has s m
+-- each of these stores is among those
+abbrev pub IsWithin : List ℕ → List ℕ → Type 0
+IsWithin l m = (s : ℕ) → has s l ≡ true → has s m ≡ true
 
 -- counts of bindings have 32 bits
 abbrev pub IsShort : Binding → Type 0
 IsShort b = b.count < 4294967296
 
--- the machine keeps the known binding's list for this action
+-- the machine keeps a list for this action in which no store is but those of the known binding
 pub record HasList (N : Names) (h : ℕ) (k : Known) : Type 0 where
   pub kept : Kept
   pub there : N.kept h ≡ Some kept
   pub since : (let b = k.binding in b.inc) ≡ kept.since
-  pub same : AreSame kept.list k.stores
+  pub within : IsWithin kept.list k.stores
 
 -- the root has a grant of the binding's incarnation, and some list is kept for it
 pub record HasRetained (N : Names) (root : ℕ) (k : Known) : Type 0 where
@@ -48,11 +48,11 @@ pub record IsTopOf (tops : Kinds) (root t : Uid) : Type 0 where
   pub plain : tops.is_serial (uid_number t) ≡ false
   pub of_root : tops.root (uid_number t) ≡ uid_number root
 
--- The list of the binding that a root keeps. Whatever list of that binding's incarnation the machine keeps in the root is the
+-- The list of the binding that a root keeps. Whatever list of that binding's incarnation the machine keeps in the root is within the
 -- root's; it has one for each top that was answered this binding, and one that counts for each that has an answered call; and
 -- where nothing is kept no call survives.
 pub record SeesLists (x : ℕ) (tops : Kinds) (root : Uid) (c : Coord) (r : Root) (N : Names) : Type 0 where
-  pub agree : (k : Known) (h : Uid) (l : Kept) → kept_of x r ≡ Some k → (h ≡ root) ⊎ IsTopOf tops root h → N.kept (uid_number h) ≡ Some l → l.since ≡ (let b = k.binding in b.inc) → AreSame l.list k.stores
+  pub agree : (k : Known) (h : Uid) (l : Kept) → kept_of x r ≡ Some k → (h ≡ root) ⊎ IsTopOf tops root h → N.kept (uid_number h) ≡ Some l → l.since ≡ (let b = k.binding in b.inc) → IsWithin l.list k.stores
   pub family : (g : Grant) → Contains r.grants g → IsTopOf tops root g.top
   pub granted : (g : Grant) (b : Binding) → Contains r.grants g → g.x ≡ x → g.named ≡ Some b → (N.had (uid_number g.top) b.inc ≡ true) × IsShort b
   pub named : (k : Known) (g : Grant) → kept_of x r ≡ Some k → Contains r.grants g → g.x ≡ x → is_named k.binding g.named ≡ true → HasList N (uid_number g.top) k
@@ -67,11 +67,22 @@ pub record IsLasting (x : ℕ) (c : Coord) (r : Root) : Type 0 where
 
 -- ---- an answer names a binding
 
+-- a kept list is there still, and within what it was as long as it is of the same incarnation
+pub record HasNarrowed (k : Kept) (o : Option Kept) : Type 0 where
+  pub kept : Kept
+  pub there : o ≡ Some kept
+  pub within : kept.since ≡ k.since → IsWithin kept.list k.list
+
+-- so it is of each that was kept
+abbrev pub AreNarrowed : Names → Names → Type 0
+AreNarrowed N M = (h : ℕ) (k : Kept) → N.kept h ≡ Some k → HasNarrowed k (M.kept h)
+
 -- Of the machine only grants and kept lists of coordinators change; grants grow.
 pub record OnlyKept (A B : Office) : Type 0 where
   pub names : B.names ≡ record A.names { had = B.names.had; kept = B.names.kept }
   pub world : B.world ≡ A.world
   pub had : (t i : ℕ) → A.names.had t i ≡ true → B.names.had t i ≡ true
+  pub narrows : AreNarrowed A.names B.names
 
 -- What an answer to a call brings: a binding of the naming incarnation that answers, with a list; and where the root is free of
 -- the kept binding each call on the object is spent.
