@@ -10,6 +10,7 @@ pub mod HeardBinds
 pub mod HeardCalls
 pub mod HeardCoord
 pub mod HeardDecides
+pub mod HeardLasting
 pub mod HeardFirst
 pub mod HeardInputs
 pub mod HeardKept
