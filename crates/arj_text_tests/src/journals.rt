@@ -25,6 +25,17 @@ fn lines_have_their_texts(rt: HostRuntime) -> Result<(), Fail> {
 
 // The table of lines.
 fn line_is_right(alloc: Global, place: usize) -> Result<bool, AllocError> {
+    match place {
+        0..13 => action_line_is_right(alloc, place),
+        13..21 => aborted_line_is_right(alloc, place),
+        21..31 => object_line_is_right(alloc, place),
+        31..46 => node_line_is_right(alloc, place),
+        _ => Ok(false),
+    }
+}
+
+// Lines of actions.
+fn action_line_is_right(alloc: Global, place: usize) -> Result<bool, AllocError> {
     let a = Label::new(b"A");
     let long = Label::new(b"Abcdefghij012345");
     let first = uid(1, 1, 1);
@@ -121,6 +132,15 @@ fn line_is_right(alloc: Global, place: usize) -> Result<bool, AllocError> {
         10 => has_text(alloc, Body::Committing { label: a }, "committing A"),
         11 => has_text(alloc, Body::Committed { label: a }, "committed A"),
         12 => has_text(alloc, Body::Ended { label: a }, "ended A"),
+        _ => Ok(false),
+    }
+}
+
+// Lines of aborts, with their causes.
+fn aborted_line_is_right(alloc: Global, place: usize) -> Result<bool, AllocError> {
+    let a = Label::new(b"A");
+    let second = uid(2, 1, 1);
+    match place {
         13 => has_text(
             alloc,
             Body::Aborted {
@@ -196,6 +216,16 @@ fn line_is_right(alloc: Global, place: usize) -> Result<bool, AllocError> {
             },
             "aborted A listed 1 3",
         ),
+        _ => Ok(false),
+    }
+}
+
+// Lines of actions at objects and parts.
+fn object_line_is_right(alloc: Global, place: usize) -> Result<bool, AllocError> {
+    let a = Label::new(b"A");
+    let first = uid(1, 1, 1);
+    let second = uid(2, 1, 1);
+    match place {
         21 => has_text(alloc, Body::GaveUp { label: a, node: 4 }, "gaveup A 4"),
         22 => has_text(
             alloc,
@@ -282,6 +312,14 @@ fn line_is_right(alloc: Global, place: usize) -> Result<bool, AllocError> {
             },
             "done 1 2.1.1 names commit",
         ),
+        _ => Ok(false),
+    }
+}
+
+// Lines of frames, nodes, objects and ends.
+fn node_line_is_right(alloc: Global, place: usize) -> Result<bool, AllocError> {
+    let first = uid(1, 1, 1);
+    match place {
         31 => has_text(
             alloc,
             Body::Sent {
@@ -375,10 +413,14 @@ fn call_has_text(alloc: Global, op: Op, answer: Answer, want: &str) -> Result<bo
     )
 }
 
+// The text of a line, which is let go here alone.
+fn printed(alloc: Global, line: Line) -> Result<Bytes, AllocError> {
+    line_text(alloc, &line)
+}
+
 // A line of event 20.
 fn has_text(alloc: Global, body: Body, want: &str) -> Result<bool, AllocError> {
-    let line = Line { event: 20, body };
-    let text = line_text(alloc, &line)?;
+    let text = printed(alloc, Line { event: 20, body })?;
     let want = format!(in alloc; "20 {want}\n")?;
     Ok(text.as_slice() == want.as_bytes() && is_read_back(alloc, want.as_bytes())?)
 }
@@ -386,12 +428,16 @@ fn has_text(alloc: Global, body: Body, want: &str) -> Result<bool, AllocError> {
 // Whether the line that is read from the text has it.
 fn is_read_back(alloc: Global, text: &[u8]) -> Result<bool, AllocError> {
     match read_line(alloc, text) {
-        Ok(line) => {
-            let again = line_text(alloc, &line)?;
-            Ok(line.event == 20 && again.as_slice() == text)
-        }
+        Ok(line) => is_said(alloc, line, text),
         Err(_) => Ok(false),
     }
+}
+
+// Whether the line is one of event 20 and has this text.
+fn is_said(alloc: Global, line: Line, text: &[u8]) -> Result<bool, AllocError> {
+    let event = line.event;
+    let again = printed(alloc, line)?;
+    Ok(event == 20 && again.as_slice() == text)
 }
 
 const NOT_LINES: [&str; 40] = [

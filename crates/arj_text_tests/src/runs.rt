@@ -6,7 +6,7 @@ mod stops;
 mod stores;
 
 use arj_base::Bytes;
-use arj_journal::{Header, line_text, put_event, put_nodes, put_object};
+use arj_journal::{Header, Line, line_text, put_event, put_nodes, put_object};
 use arj_journal_reader::read_line;
 use arj_script::{Item, Reader, ScriptFault};
 use std::alloc::{AllocError, Global};
@@ -33,10 +33,10 @@ fn put_header(text: &mut Bytes, header: &Header) -> Result<(), AllocError> {
     text.extend(b"\nrun\n")
 }
 
-// What was read of a line, printed. A header is printed at its end.
-fn printed(alloc: Global, item: &Item) -> Result<Bytes, AllocError> {
+// What was read of a line, printed and let go. A header is printed at its end.
+fn printed(alloc: Global, item: Item) -> Result<Bytes, AllocError> {
     let mut text = Bytes::new(alloc);
-    match item {
+    match &item {
         Item::Blank | Item::Part => {}
         Item::Run(header) => put_header(&mut text, header)?,
         Item::Event(event) => {
@@ -70,7 +70,7 @@ fn see_script(
             Ok(item) => item,
             Err(fault) => return Err(Fail::new(format_args!("{fault}: {line}"))),
         };
-        let text = printed(alloc, &item)?;
+        let text = printed(alloc, item)?;
         if !text.as_slice().is_empty() {
             assert_eq!(rt;
                 str::from_utf8(text.as_slice())?,
@@ -83,6 +83,11 @@ fn see_script(
     Ok(())
 }
 
+// A line of a journal, printed and let go.
+fn line_printed(alloc: Global, line: Line) -> Result<Bytes, AllocError> {
+    line_text(alloc, &line)
+}
+
 // Reads and prints the lines of a journal.
 fn see_journal(rt: &impl Abort, alloc: Global, journal: &str) -> Result<(), Fail> {
     for line in journal.split_inclusive('\n') {
@@ -90,7 +95,7 @@ fn see_journal(rt: &impl Abort, alloc: Global, journal: &str) -> Result<(), Fail
             Ok(read) => read,
             Err(fault) => return Err(Fail::new(format_args!("{fault}: {line}"))),
         };
-        let text = line_text(alloc, &read)?;
+        let text = line_printed(alloc, read)?;
         assert_eq!(rt; str::from_utf8(text.as_slice())?, line);
     }
     Ok(())

@@ -20,19 +20,16 @@ fn told(outcome: Result<Item, ScriptFault>) -> &'static str {
     }
 }
 
-// A reader that has taken the first lines of a script, up to three of them.
-fn reader_behind(alloc: Global, count: usize) -> Result<Reader, ScriptFault> {
+// The first lines of a script.
+const FIRST: [&str; 3] = ["nodes 4", "object 3 counter 0 servers 1 stores 1", "run"];
+
+// A reader that has taken so many of the first lines.
+fn reader_behind(alloc: Global, count: usize) -> Reader {
     let mut reader = Reader::new(alloc);
-    if count > 0 {
-        reader.line(b"nodes 4")?;
+    for line in FIRST.iter().take(count) {
+        told(reader.line(line.as_bytes()));
     }
-    if count > 1 {
-        reader.line(b"object 3 counter 0 servers 1 stores 1")?;
-    }
-    if count > 2 {
-        reader.line(b"run")?;
-    }
-    Ok(reader)
+    reader
 }
 
 // How many lines of a script the reader has taken, the line that it is given then, and what it tells.
@@ -187,7 +184,7 @@ fn parts(row: &str) -> Option<(usize, &str, &str)> {
 fn lines_at_their_places(rt: HostRuntime) -> Result<(), Fail> {
     for row in LINES.lines() {
         let (count, line, want) = parts(row).ok_or("no row")?;
-        let mut reader = reader_behind(rt.alloc(), count)?;
+        let mut reader = reader_behind(rt.alloc(), count);
         assert_eq!(rt; told(reader.line(line.as_bytes())), want, "{row}");
     }
     Ok(())
@@ -196,7 +193,7 @@ fn lines_at_their_places(rt: HostRuntime) -> Result<(), Fail> {
 #[test]
 fn a_line_has_at_most_200_bytes(rt: HostRuntime) -> Result<(), Fail> {
     let comment = [b'#'; 201];
-    let mut reader = reader_behind(rt.alloc(), 0)?;
+    let mut reader = reader_behind(rt.alloc(), 0);
     assert_eq!(rt; told(reader.line(&comment[..200])), "blank");
     assert_eq!(rt; told(reader.line(&comment)), "bad");
     Ok(())
@@ -232,11 +229,11 @@ fn header_at(reader: &mut Reader) -> Option<Header>
 
 #[test]
 fn a_header_has_its_objects_in_order(rt: HostRuntime) -> Result<(), Fail> {
-    let mut reader = reader_behind(rt.alloc(), 2)?;
-    reader.line(b"object 9 account 258 servers 4,1 stores 2,3,1")?;
-    reader.line(b"object 4 table 1:2 servers 1 stores 1")?;
-    reader.line(b"object 2 queue 5 servers 2 stores 4")?;
-    reader.line(b"object 7 register 00ff servers 3 stores 3")?;
+    let mut reader = reader_behind(rt.alloc(), 2);
+    told(reader.line(b"object 9 account 258 servers 4,1 stores 2,3,1"));
+    told(reader.line(b"object 4 table 1:2 servers 1 stores 1"));
+    told(reader.line(b"object 2 queue 5 servers 2 stores 4"));
+    told(reader.line(b"object 7 register 00ff servers 3 stores 3"));
     let header = header_at(&mut reader).ok_or("no header")?;
     assert_eq!(rt; header.nodes, 4);
     let [second, third, fourth, seventh, ninth] = header.objects.as_slice() else {

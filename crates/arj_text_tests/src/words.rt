@@ -225,9 +225,8 @@ fn call_has_text(
     answer: Answer,
     answered: &str,
 ) -> Result<bool, AllocError> {
-    let mut text = Bytes::new(alloc);
-    put_op(&mut text, &op)?;
-    let said = answer_text(alloc, &answer)?;
+    let said = said(alloc, answer)?;
+    let text = printed(alloc, op)?;
     Ok(
         text.as_slice() == asked.as_bytes()
             && said.as_slice() == answered.as_bytes()
@@ -235,13 +234,24 @@ fn call_has_text(
     )
 }
 
+// The text of an operation, which is let go here alone.
+fn printed(alloc: Global, op: Op) -> Result<Bytes, AllocError> {
+    let mut text = Bytes::new(alloc);
+    put_op(&mut text, &op)?;
+    Ok(text)
+}
+
+// The text of an answer, which is let go here alone.
+fn said(alloc: Global, answer: Answer) -> Result<Bytes, AllocError> {
+    answer_text(alloc, &answer)
+}
+
 // Whether the operation that is read from the text has it.
 fn is_read_back(alloc: Global, asked: &str) -> Result<bool, AllocError> {
     let Some(op) = operation(alloc, asked.as_bytes())? else {
         return Ok(false);
     };
-    let mut again = Bytes::new(alloc);
-    put_op(&mut again, &op)?;
+    let again = printed(alloc, op)?;
     Ok(again.as_slice() == asked.as_bytes())
 }
 
