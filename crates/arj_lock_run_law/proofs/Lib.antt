@@ -21,3 +21,4 @@ pub mod AskedSteps
 pub mod RequestSteps
 pub mod CallGoes
 pub mod TickSteps
+pub mod QuerySteps

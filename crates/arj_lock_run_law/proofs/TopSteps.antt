@@ -47,7 +47,7 @@ top_action (c ∷ acts) begun a (inl is) unserial = subst Found is (of (top_acti
         let path : uids_of c.path ≡ act_of b ∷ act_of c ∷ [] = s.3 ∙ ap (λ us. us ++ act_of c ∷ []) up.0 in
         (c, inl refl, path ∙ sym (λ j. take (s.4 j) (path j)), (λ e. cc (sym kind_is ∙ e)), (λ e. cc (sym kind_is ∙ e)))
 
-placed_top : (a : Act) (k : Kind) → IsPlaced a k → k ≢ kind.Nested → k ≢ kind.Serial → is_top a ≡ true
+pub placed_top : (a : Act) (k : Kind) → IsPlaced a k → k ≢ kind.Nested → k ≢ kind.Serial → is_top a ≡ true
 placed_top a kind.Top placed nested serial = placed
 placed_top a kind.Independent placed nested serial = placed
 placed_top a kind.Constituent placed nested serial = placed

@@ -1,10 +1,13 @@
 -- A coordinator that asks, asks again, is acknowledged and answers questions, in the whole world.
-use Rattle.std.specs.Prelude.{ℕ, Some, Contains}
+use Rattle.std.specs.Prelude.{◌≡◌, ◌≢◌, ℕ, Some, Contains}
 use Rattle.arj_protocol.specs.Words.{Uid}
+use Rattle.arj_protocol.specs.Words.kind
 use Rattle.arj_protocol.specs.Asking.{again_all}
 use Rattle.arj_protocol.specs.Effect.{Intent}
+use Rattle.arj_protocol.specs.Ending.{answer_query}
 use Rattle.arj_protocol.specs.Follow.{tick_outs}
 use Rattle.arj_protocol.specs.Node.{with_coord}
+use Rattle.arj_part_law.specs.Actions.{Action, act_of}
 use Rattle.arj_view_law.specs.Walks.{Up, Walks}
 use Rattle.arj_lock_fact_law.specs.Works.{KnowsEnds}
 use Rattle.arj_lock_run_law.specs.Beside.{Case, IsSeenIn, Spot, world_at}
@@ -19,3 +22,12 @@ TellsRecords s = (u : Uid) (i : Intent) → Contains {X = Uid × Intent} (let c 
 abbrev pub TicksGo : Type 0
 TicksGo = (c : Case) (s : Spot) (e : ℕ) → IsSeenIn c (world_at s) → KnowsAsks c (coord_at s) → KnowsEnds (coord_at s) → TellsRecords s
     → Walks (IsSeenSo c) e s.node (tick_outs (record { number = s.node; disk = s.disk; live = Some s.parts }) s.parts) (Up (IsSeenSo c) s.node (with_coord s.parts (let d = again_all (let q = coord_at s in q.doings) (coord_at s) in d.part))) s.disk s.seen
+
+-- The action that is asked about was begun at this node, and isn't nested.
+abbrev pub IsAskedAbout : Case → Spot → Uid → Type 0
+IsAskedAbout c s u = (a : Action) × Contains c.begun a × (act_of a ≡ u) × (a.kind ≢ kind.Nested) × (u.node ≡ s.node)
+
+-- A question about an action: it is told as the record says, or as a kept constituent's commit, or as an abort.
+abbrev pub QueriesGo : Type 0
+QueriesGo = (c : Case) (s : Spot) (e from : ℕ) (u : Uid) → IsSeenIn c (world_at s) → IsAskedAbout c s u
+    → Walks (IsSeenSo c) e s.node (answer_query from u (records_at s) (coord_at s)) (Up (IsSeenSo c) s.node s.parts) s.disk s.seen

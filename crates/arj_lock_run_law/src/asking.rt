@@ -1,9 +1,16 @@
 // Coordinators that ask, in the whole world as the lock machine of one object has it.
-ghost use Rattle.arj_lock_run_law.specs.Asking.{TicksGo};
+ghost use Rattle.arj_lock_run_law.specs.Asking.{QueriesGo, TicksGo};
 
 /// A node ticks: what waits is asked again, decisions are told again, and holders are asked about. The machine waits, what is sent is
 /// shown, and the object is seen in the whole world. What the coordinator avoids, takes to servers and lists is counted on, and that
 /// what it tells again is on the disk. It does nothing when it runs.
 pub fn ticks_go_in_the_world()
     ensures { TicksGo }
+{}
+
+/// A question about an action comes to the node at which it was begun: it is answered as the record on the disk says, or as the commit of
+/// a constituent that is kept, or as an abort. The machine waits, and what is told is shown. That what is asked about was begun there and
+/// isn't nested is counted on. It does nothing when it runs.
+pub fn queries_go_in_the_world()
+    ensures { QueriesGo }
 {}
