@@ -14,3 +14,4 @@ pub mod Cleaning
 pub mod Votes
 pub mod Shown
 pub mod Running
+pub mod Taking

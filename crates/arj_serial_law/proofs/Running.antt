@@ -1,14 +1,18 @@
 -- A run of which each object's machine is seen tied to the journal is serial.
 use Rattle.std.proofs.Common.{subst}
+use Rattle.arj_journal.specs.declared.header.Header.{Header}
+use Rattle.arj_model.specs.Last.{first_values}
 use Rattle.arj_model.specs.Serial.{Values}
 use Rattle.arj_line_law.specs.Book.{new_book}
 use Rattle.arj_line_law.specs.Paths.{AreAlike}
 use Rattle.arj_line_law.specs.Right.{AreRight}
 use Rattle.arj_line_law.proofs.Models.{its_acts}
 use Rattle.arj_view_law.specs.Seen.{Seen}
-use Rattle.arj_serial_law.specs.Runs.{AreSeenTied}
+use Rattle.arj_serial_law.specs.Runs.{AreCleanIn, AreSeenDecided, AreSeenTied}
 use Rattle.arj_serial_law.specs.Tied.{AreTied}
 use Rattle.arj_serial_law.proofs.Begun.{begun_have_places}
+use Rattle.arj_serial_law.proofs.Cleaning.{is_clean}
+use Rattle.arj_serial_law.proofs.Ties.{ties_of}
 
 pub seen_right : (values : Values) (M : Seen) → AreSeenTied values M → AreRight new_book M.lines
 seen_right values M (begun, alike, tied) = let w = alike.2 in w.right
@@ -28,3 +32,8 @@ seen_tied values M (begun, alike, tied) x called =
         tied = s.tied;
       },
     )
+
+pub seen_clean : (header : Header) (M : Seen) → AreSeenDecided header M → AreCleanIn header M
+seen_clean header M (tied, decided) x has =
+    let d = decided x has in
+    is_clean header M.lines (seen_right (first_values header) M tied) (ties_of (first_values header) M.lines (seen_tied (first_values header) M tied)) x d.kinds d.world M d.sees d.decided d.begins d.form

@@ -5,3 +5,4 @@ pub mod Files
 pub mod Locked
 pub mod Runs
 pub mod Tied
+pub mod Turns

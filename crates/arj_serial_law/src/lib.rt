@@ -16,6 +16,7 @@ mod locked;
 mod places;
 mod runs;
 mod serial;
+mod turns;
 
 pub use decided::{
     decisions_make_the_last_entry, decisions_make_the_last_state, files_of_clean_disks_are_clean,
@@ -23,5 +24,6 @@ pub use decided::{
 };
 pub use locked::{tied_calls_are_locked_for, tied_journals_hold_locks};
 pub use places::{begun_actions_have_their_paths, values_have_codes};
-pub use runs::seen_runs_are_serial;
+pub use runs::{seen_runs_are_clean, seen_runs_are_serial};
 pub use serial::{tied_journals_are_serial, tied_journals_keep_the_lock_book};
+pub use turns::decided_tops_take_turns;

@@ -1,11 +1,11 @@
-// Serial runs.
+// Runs that are serial, and whose disks are clean.
 ghost use Rattle.std.specs.Prelude.{List};
 ghost use Rattle.arj_journal.specs.declared.header.Header.{Header};
 ghost use Rattle.arj_law.specs.Nested.{nested_calls};
 ghost use Rattle.arj_model.specs.Last.{first_values};
 ghost use Rattle.arj_model.specs.Serial.{Answers, Serial};
 ghost use Rattle.arj_protocol.specs.World.{Asked, format, journal, run_all};
-ghost use Rattle.arj_serial_law.specs.Runs.{AreSeenTied};
+ghost use Rattle.arj_serial_law.specs.Runs.{AreCleanIn, AreSeenDecided, AreSeenTied};
 ghost use Rattle.arj_view_law.specs.Keeps.{Holds};
 
 /// A run at whose end each object's lock machine is seen tied to the journal is serial, and its calls give the same answers where
@@ -13,4 +13,10 @@ ghost use Rattle.arj_view_law.specs.Keeps.{Holds};
 pub fn seen_runs_are_serial()
     ensures serial { (hd : Header) (es : List Asked) → Holds hd (AreSeenTied (first_values hd)) (run_all es (format hd)) → Serial (first_values hd) (journal hd es) }
     ensures nested { (hd : Header) (es : List Asked) → Holds hd (AreSeenTied (first_values hd)) (run_all es (format hd)) → Answers (first_values hd) (nested_calls (journal hd es)) }
+{}
+
+/// A run at whose end each object's disk machine is seen too, with its decided tops tied to the journal, has clean disks: of each object
+/// of the header. It does nothing when it runs.
+pub fn seen_runs_are_clean()
+    ensures { (hd : Header) (es : List Asked) → Holds hd (AreSeenDecided hd) (run_all es (format hd)) → Holds hd (AreCleanIn hd) (run_all es (format hd)) }
 {}
