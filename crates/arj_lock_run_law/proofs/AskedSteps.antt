@@ -160,7 +160,7 @@ module _ (f : Fixed) (x : ℕ) (begun : List Action) (k : ℕ) (T : State) (e : 
   -- ---- a commit
 
   module _ (to : ℕ) (h : Head) (a : Ask) (d : Doing) (m : Machine) (found : doing_of (actor h.path) e ≡ Some d) (committing : d.now ≡ Committing m) (of : IsOfCommit m to h a) where
-    commit_says : ShowsAsk f.act f.code (post_to (at_node to) h) T a
+    pub commit_says : ShowsAsk f.act f.code (post_to (at_node to) h) T a
     commit_says = subst (λ (b : Ask). ShowsAsk f.act f.code (post_to (at_node to) h) T b) (sym of.same) (commit_requests_are_shown f.act f.code x (actor h.path) m (post_to (at_node to) h) T refl refl (sees.commits (actor h.path) d m found committing))
 
     voting : IsVoting e.tree (actor h.path) (plan_of m)
@@ -174,7 +174,7 @@ module _ (f : Fixed) (x : ℕ) (begun : List Action) (k : ℕ) (T : State) (e : 
         let path : h.path ≡ b.path = of.path ∙ sym q.path in
         ap top_of path ∙ top_own begun whole.begun (action_of b) (in_from (action_of b) begun (good.known (actor h.path) b q.found)) (voting.top b q.found) q.unserial ∙ ap actor (sym path)
 
-    commit_names : SaysToNaming (at_node to) h a T
+    pub commit_names : SaysToNaming (at_node to) h a T
     commit_names = by a refl of.same
       where
         no_bind : (y : ℕ) (include : Bool) (avoid : Binding) (n : Machine) → ask.Bind y include avoid ≡ ask_of n to → ⊥

@@ -23,7 +23,7 @@ use Rattle.arj_lock_run_law.proofs.GoodSteps.{good_node, steady}
 use Rattle.arj_lock_run_law.proofs.OtherSteps.{SeesOthers, here_of, others_of, past_on, posted_others, records_on, said_others, with_here}
 use Rattle.arj_lock_run_law.proofs.UnitSteps.{naming_unit, others_unit, server_unit}
 
-length_one : {A : Type 0} (xs : List A) (x : A) → length (xs ++ x ∷ []) ≡ length xs + 1
+pub length_one : {A : Type 0} (xs : List A) (x : A) → length (xs ++ x ∷ []) ≡ length xs + 1
 length_one [] x = refl
 length_one (y ∷ xs) x = let ih = length_one xs x in omega (arith, ih)
 
@@ -53,7 +53,7 @@ module _ (c : Case) (s : Spot) where
   k = s.node
 
   -- messages go out, in the state that the machine has come to
-  walk_sends : (e : ℕ) (v : Parts) (T : State) (outs : List Effect) (d : Disk) (M : Seen) → AreSends outs → AreSendsShown c s T outs → Within (let N = s.seen in N.sent) M.sent → SeesOthers f c.x c.begun k T M → SeesUp (view_of f c.x c.begun k) T d v
+  pub walk_sends : (e : ℕ) (v : Parts) (T : State) (outs : List Effect) (d : Disk) (M : Seen) → AreSends outs → AreSendsShown c s T outs → Within (let N = s.seen in N.sent) M.sent → SeesOthers f c.x c.begun k T M → SeesUp (view_of f c.x c.begun k) T d v
       → Walks (IsSeenSo c) e k outs (Up (IsSeenSo c) k v) d M
   walk_sends e v T [] d M sends shown within others up = λ agrees. (T, with_here f c.x c.begun k d (Some v) T M others up)
   walk_sends e v T (Send to m ∷ es) d M sends shown within others up = λ more quiet.
@@ -64,7 +64,7 @@ module _ (c : Case) (s : Spot) where
   walk_sends e v T (Do w ∷ es) d M sends shown within others up = absurd sends.0
 
   -- lines are said in the state before
-  walk_says : (e : ℕ) (v : Parts) (S : State) (bs : List Body) (rest : List Effect) (d : Disk) (M : Seen) → SeesOthers f c.x c.begun k S M → Within (let N = s.seen in N.sent) M.sent
+  pub walk_says : (e : ℕ) (v : Parts) (S : State) (bs : List Body) (rest : List Effect) (d : Disk) (M : Seen) → SeesOthers f c.x c.begun k S M → Within (let N = s.seen in N.sent) M.sent
       → ((N : Seen) → length N.lines ≡ length M.lines + length bs → Within (let N = s.seen in N.sent) N.sent → SeesOthers f c.x c.begun k S N → Walks (IsSeenSo c) e k rest (Up (IsSeenSo c) k v) d N)
       → Walks (IsSeenSo c) e k (map Say bs ++ rest) (Up (IsSeenSo c) k v) d M
   walk_says e v S [] rest d M others within end = end M (omega arith) within others
@@ -89,14 +89,14 @@ module _ (c : Case) (s : Spot) (is_seen : IsSeenIn c (world_at s)) (u : Uid) (b 
   here : SeesUp V S s.disk t
   here = here_of c.fixed c.x c.begun s.node s.disk (Some t) S s.seen is_seen.sees
 
-  home : (w : Uid) → root (c.fixed.act w) ≡ root (c.fixed.act u) → (let r = first_uid (c.fixed.paths w) in r.node) ≡ s.node
+  pub home : (w : Uid) → root (c.fixed.act w) ≡ root (c.fixed.act u) → (let r = first_uid (c.fixed.paths w) in r.node) ≡ s.node
   home w same = ap (λ (r : Uid). r.node) (alike.units w u same) ∙ here.home u b found
 
-  one : (a : Action) × Contains c.begun a × (root (c.fixed.act (act_of a)) ≡ root (c.fixed.act u))
+  pub one : (a : Action) × Contains c.begun a × (root (c.fixed.act (act_of a)) ≡ root (c.fixed.act u))
   one = (action_of b, (let g = good_node c s is_seen in let h = g.coord in h.known u b found), ap (λ (w : Uid). root (c.fixed.act w)) (let g = steady c s is_seen in g.good.tree.lists.places u b found))
 
   -- the node with its new coordinator
-  up_then : SeesUp V T s.disk (with_coord t C)
+  pub up_then : SeesUp V T s.disk (with_coord t C)
   up_then = record {
     server = server_unit c.fixed c.x (root (c.fixed.act u)) S T has.only V t here.server;
     coord = has.coord;

@@ -6,6 +6,7 @@ use Rattle.arj_protocol.specs.Words.body
 use Rattle.arj_protocol.specs.Effect.{Disk}
 use Rattle.arj_protocol.specs.Naming.{Naming}
 use Rattle.arj_protocol.specs.Node.{Parts}
+use Rattle.arj_protocol.specs.Order.{at_uid}
 use Rattle.arj_protocol.specs.Tree.{Branch, branch_of}
 use Rattle.arj_lock_law.specs.Actions.{Act, In, Root, is_action, on, root}
 use Rattle.arj_lock_law.specs.State as state
@@ -18,7 +19,7 @@ use Rattle.arj_lock_view_law.specs.Actions.{IsIdle, IsSteady}
 use Rattle.arj_lock_view_law.specs.Begins.{IsUntouched}
 use Rattle.arj_lock_view_law.specs.Ends.{SeesNothing}
 use Rattle.arj_lock_view_law.specs.Hearing.{SeesNamingIn}
-use Rattle.arj_lock_view_law.specs.Stops.{IsUnitOf, OnlyStopped}
+use Rattle.arj_lock_view_law.specs.Stops.{IfDecided, IsUnitOf, OnlyStopped}
 use Rattle.arj_lock_view_law.specs.Telling.{View}
 use Rattle.arj_lock_view_law.proofs.ServerSteps.{servers_stop}
 use Rattle.arj_lock_view_law.proofs.StartNamingSteps.{naming_stops}
@@ -27,7 +28,7 @@ use Rattle.arj_lock_view_law.proofs.TreeSteps.{above_there}
 use Rattle.arj_part_law.specs.Actions.{owners_of}
 use Rattle.arj_lock_run_law.specs.Beside.{HoldsNamingIn}
 use Rattle.arj_lock_run_law.specs.Fixed.{Fixed, view_of}
-use Rattle.arj_lock_run_law.specs.Sees.{IsFresh, IsUnbegun, SeesDown, SeesLocks, SeesUp}
+use Rattle.arj_lock_run_law.specs.Sees.{AreRecordsOf, IsFresh, IsUnbegun, SeesDown, SeesLocks, SeesUp}
 use Rattle.arj_lock_run_law.proofs.MoveSteps.{memory_stopped, nothing_on}
 use Rattle.arj_lock_run_law.proofs.OtherSteps.{SeesOthers, others_go, past_on, reached_of, records_on, said_others, with_here}
 
@@ -87,23 +88,29 @@ module _ (f : Fixed) (x : ℕ) (begun : List Action) (k : ℕ) where
       let h = holds n refl in
       nothing_on d.inc S T same (subst (λ (i : ℕ). SeesNothing i S) (inc n refl) (naming_stops v (owners_of begun) n S h.count h.good sees))
 
-  pub halt_up : (e : ℕ) (R S : State) (d : Disk) (t : Parts) (M : Seen) → IsSteady f.act f.paths t.coord → ((u : Uid) (b : Branch) → branch_of u t.coord.tree ≡ Some b → Contains begun (action_of b)) → t.server.inc ≡ d.inc
-      → HoldsNamingIn (record { fixed = f; x = x; begun = begun; state = R }) k t.naming → SeesOthers f x begun k S M → SeesUp v S d t → (T : State) × SeesLocks f x begun T (halted e k d M)
-  halt_up e R S d t M steady of level holds others s =
-      let g = stops_are_taken f.act f.code f.paths x t.coord None S steady tt s.coord in
-      let T = g.state in
-      let only = g.holds.1 in
-      let next = others_go f x begun k S T M others g.run (λ j n other is seen. memory_stopped S T (reached_of f x begun k S M others) g.run v t.coord.tree steady.alike s.home only j n.disk n.live other seen) (fresh_stopped S T t steady of only others.fresh) (let q = others.now in let e : T.now ≡ S.now = ap (λ (z : State). z.now) only.rest in omega (arith, q, e)) in (
+  -- where a top's record is on the disk that is left, it is decided, and has no line yet
+  pub halt_last : (last : Option Uid) (e : ℕ) (R S : State) (d g : Disk) (t : Parts) (M : Seen) → IfDecided f.act t.coord last S → g.inc ≡ d.inc → ((u : Uid) → last ≡ Some u → is_some (at_uid u g.intents) ≡ true) → AreRecordsOf v last g.intents S
+      → IsSteady f.act f.paths t.coord → ((u : Uid) (b : Branch) → branch_of u t.coord.tree ≡ Some b → Contains begun (action_of b)) → t.server.inc ≡ d.inc
+      → HoldsNamingIn (record { fixed = f; x = x; begun = begun; state = R }) k t.naming → SeesOthers f x begun k S M → SeesUp v S d t → (T : State) × SeesLocks f x begun T (halted e k g M)
+  halt_last last e R S d g t M decided inc there records steady of level holds others s =
+      let h = stops_are_taken f.act f.code f.paths x t.coord last S steady decided s.coord in
+      let T = h.state in
+      let only = h.holds.1 in
+      let next = others_go f x begun k S T M others h.run (λ j n other is seen. memory_stopped S T (reached_of f x begun k S M others) h.run v t.coord.tree steady.alike s.home only j n.disk n.live other seen) (fresh_stopped S T t steady of only others.fresh) (let q = others.now in let e : T.now ≡ S.now = ap (λ (z : State). z.now) only.rest in omega (arith, q, e)) in (
         T,
-        halt_down e T d M next (record {
-          server = subst (λ (i : ℕ). (T.server k).incarnation ≤ i) level (subst (λ (z : ℕ → state.Server). (z k).incarnation ≤ t.server.inc) (sym (ap (λ (z : State). z.server) only.rest)) (servers_stop v t.server S s.server));
-          naming = naming_down R S T d t.naming s.place holds s.inc (ap (λ (z : State). z.naming) only.rest) s.naming;
+        halt_down e T g M next (record {
+          server = subst (λ (i : ℕ). (T.server k).incarnation ≤ i) (level ∙ sym inc) (subst (λ (z : ℕ → state.Server). (z k).incarnation ≤ t.server.inc) (sym (ap (λ (z : State). z.server) only.rest)) (servers_stop v t.server S s.server));
+          naming = naming_down R S T g t.naming s.place holds (λ n is. s.inc n is ∙ sym inc) (ap (λ (z : State). z.naming) only.rest) s.naming;
           tree = t.coord.tree;
-          last = None;
-          stopped = g.holds.0;
-          decided = λ u is. absurd (cc is);
+          last = last;
+          stopped = h.holds.0;
+          decided = there;
           home = s.home;
           past = past_on S T only.ended v t.coord.tree s.past;
-          records = records_on S T only.ended v None d.intents s.records;
+          records = records_on S T only.ended v last g.intents records;
         }),
       )
+
+  pub halt_up : (e : ℕ) (R S : State) (d : Disk) (t : Parts) (M : Seen) → IsSteady f.act f.paths t.coord → ((u : Uid) (b : Branch) → branch_of u t.coord.tree ≡ Some b → Contains begun (action_of b)) → t.server.inc ≡ d.inc
+      → HoldsNamingIn (record { fixed = f; x = x; begun = begun; state = R }) k t.naming → SeesOthers f x begun k S M → SeesUp v S d t → (T : State) × SeesLocks f x begun T (halted e k d M)
+  halt_up e R S d t M steady of level holds others s = halt_last None e R S d d t M tt refl (λ u is. absurd (cc is)) s.records steady of level holds others s

@@ -15,6 +15,7 @@ pub mod RestartWalks
 pub mod FirstSteps
 pub mod UnitSteps
 pub mod CoordSteps
+pub mod DecideSteps
 pub mod StepSteps
 pub mod ToldSteps
 pub mod AskedSteps
@@ -22,3 +23,4 @@ pub mod RequestSteps
 pub mod CallGoes
 pub mod TickSteps
 pub mod QuerySteps
+pub mod CommitGoes

@@ -60,6 +60,14 @@ module _ (c : Case) (s : Spot) (T : State) where
   tell_shown r ack ends [] told = (tt, tt)
   tell_shown r ack ends (n ∷ ns) told = let q = tell_shown r ack ends ns told in ((tt, q.0), (λ wide within. told, q.1))
 
+-- one end
+pub one_told : (v : View) (T : State) (w : Uid) (g : End) → IsToldSo v T w g → AreToldSo v ((w, g) ∷ []) T
+one_told v T w g told u e there = by (in_from {X = Uid × End} (u, e) ((w, g) ∷ []) there)
+  where
+    by : list.In {X = Uid × End} (u, e) ((w, g) ∷ []) → IsToldSo v T u e
+    by (inl is) = subst (λ (p : Uid × End). IsToldSo v T p.0 p.1) is told
+    by (inr none) = absurd none
+
 -- what stands up to an end stands in the list
 up_in : (u : Uid) (es : List (Uid × End)) (x : Uid × End) → list.In x (up_to u es) → list.In x es
 up_in u [] x none = none
@@ -96,11 +104,7 @@ module _ (c : Case) (s : Spot) (is_seen : IsSeenIn c (world_at s)) (C : Coord) (
 
   -- one abort
   abort_one : (w : Uid) → IsToldSo V T w ending.Abort → AreToldSo V ((w, ending.Abort) ∷ []) T
-  abort_one w told v e there = by (in_from {X = Uid × End} (v, e) ((w, ending.Abort) ∷ []) there)
-    where
-      by : list.In {X = Uid × End} (v, e) ((w, ending.Abort) ∷ []) → IsToldSo V T v e
-      by (inl is) = subst (λ (p : Uid × End). IsToldSo V T p.0 p.1) is told
-      by (inr none) = absurd none
+  abort_one w told = one_told V T w ending.Abort told
 
   module _ (intents : List (Uid × Intent)) (u : Uid) (q : Branch) (found : branch_of u C.tree ≡ Some q) (e : End) (is : q.ended ≡ Some e) (which : (q.kind ≡ kind.Nested) ⊎ ((q.kind ≡ kind.Serial) ⊎ (e ≡ ending.Abort))) where
     -- a serializing action is its unit, and that is over
@@ -148,7 +152,7 @@ module _ (c : Case) (s : Spot) (e : ℕ) (is_seen : IsSeenIn c (world_at s)) (u 
       (coords_go c s e u b (line d.label ∷ []) (tolds_of (records_at s) C u) C g.state is_seen found knows.on t.0 h t.1)
 
 -- how the action ended
-ended_here : (c : Coord) (u : Uid) (b : Branch) (d : Doing) (e : End) → branch_of u c.tree ≡ Some b → doing_of u c ≡ Some d → branch_of u (let k = ended u e c in k.tree) ≡ Some (record b { ended = Some e })
+pub ended_here : (c : Coord) (u : Uid) (b : Branch) (d : Doing) (e : End) → branch_of u c.tree ≡ Some b → doing_of u c ≡ Some d → branch_of u (let k = ended u e c in k.tree) ≡ Some (record b { ended = Some e })
 ended_here c u b d e found works = let o = end_changed c u b d found works e in o.branch
 
 pub nested_commits_go : NestedCommitsGo
@@ -215,14 +219,14 @@ doomed_commits_go c s e u b d is_seen free doomed childless knows =
 -- ---- an abort with all that is open below it
 
 -- what is said is lines alone
-says_lines : (u : Uid) (f : Label → Body) (c : Coord) → (bs : List Body) × (says u f c ≡ map Say bs)
+pub says_lines : (u : Uid) (f : Label → Body) (c : Coord) → (bs : List Body) × (says u f c ≡ map Say bs)
 says_lines u f c = by (doing_of u c)
   where
     by : (o : Option Doing) → (bs : List Body) × (say_for f o ≡ map Say bs)
     by None = ([], refl)
     by (Some d) = (f d.label ∷ [], refl)
 
-map_app : (xs ys : List Body) → map Say xs ++ map Say ys ≡ map Say (xs ++ ys)
+pub map_app : (xs ys : List Body) → map Say xs ++ map Say ys ≡ map Say (xs ++ ys)
 map_app [] ys = refl
 map_app (x ∷ xs) ys = ap (λ zs. Say x ∷ zs) (map_app xs ys)
 

@@ -4,9 +4,11 @@ use Rattle.std.specs.List.{AllByRecursion}
 use Rattle.arj_protocol.specs.Words.{Binding, Body, ObjectState, Op, Uid}
 use Rattle.arj_protocol.specs.Words.kind
 use Rattle.arj_protocol.specs.Ask.{Reply, top_of}
-use Rattle.arj_protocol.specs.Asking.{call, commit_action, give_up_call, heard_call, include}
+use Rattle.arj_protocol.specs.Asking.{call, commit_action, give_up_call, gives_up, heard_call, include, moved_commit}
 use Rattle.arj_protocol.specs.Call.{AtActivate, AtBind, Include as IncludeStore, Known, Steps}
-use Rattle.arj_protocol.specs.Coord.{Calling, Coord, Doing, Idle, doing_of}
+use Rattle.arj_protocol.specs.Commit as commit
+use Rattle.arj_protocol.specs.Commit.{Machine, plan_of}
+use Rattle.arj_protocol.specs.Coord.{Calling, Committing, Coord, Doing, Idle, doing_of}
 use Rattle.arj_protocol.specs.Effect.{Intent, Did, Effect, Say, Send}
 use Rattle.arj_protocol.specs.Ending.{abort_action}
 use Rattle.arj_protocol.specs.Node.{with_coord}
@@ -16,18 +18,21 @@ use Rattle.arj_lock_law.specs.Actions.{Act, In, root}
 use Rattle.arj_lock_law.specs.Machine.{Run}
 use Rattle.arj_lock_law.specs.State as state
 use Rattle.arj_lock_law.specs.State.{State}
+use Rattle.arj_part_law.specs.Actions.{AreBegun}
 use Rattle.arj_part_law.specs.Claims.{GoesOn}
 use Rattle.arj_part_law.specs.Coords.{IsGoodCoord}
 use Rattle.arj_part_law.specs.Ends.{IsSure}
 use Rattle.arj_view_law.specs.Seen.{Post, Within}
 use Rattle.arj_view_law.specs.Walks.{Up, Walks}
-use Rattle.arj_lock_view_law.specs.Acting.{IsFreeToEnd}
+use Rattle.arj_lock_fact_law.specs.Works.{KnowsEnds}
+use Rattle.arj_lock_view_law.specs.Acting.{IsFirst, IsFreeToEnd}
 use Rattle.arj_lock_view_law.specs.Calling.{IsAtWork, IsCalling, IsElsewhere, IsWaiting, ShowsAnswer}
 use Rattle.arj_lock_view_law.specs.Including.{ShowsInclude}
-use Rattle.arj_lock_view_law.specs.Inputs.{SeesWhole}
+use Rattle.arj_lock_view_law.specs.Inputs.{AreTopped, HasLowGrant, SeesWhole, plan_now}
 use Rattle.arj_lock_view_law.specs.Listed.{AreUnserial}
 use Rattle.arj_lock_view_law.specs.Outside.{IsAway}
-use Rattle.arj_lock_run_law.specs.Beside.{Case, IsSeenIn, Spot, world_at}
+use Rattle.arj_lock_view_law.specs.Plans.{AreKept, ShowsToCommit}
+use Rattle.arj_lock_run_law.specs.Beside.{Case, HoldsNamingIn, IsSeenIn, Spot, world_at}
 use Rattle.arj_lock_run_law.specs.Fixed.{Fixed}
 use Rattle.arj_lock_run_law.specs.Posts.{IsPostSeen}
 use Rattle.arj_lock_run_law.specs.Sees.{IsUnbegun}
@@ -172,3 +177,34 @@ abbrev pub OtherLostGo : Type 0
 OtherLostGo = (c : Case) (s : Spot) (e : ℕ) (u : Uid) (b : Branch) (d : Doing) (w : Steps)
     → IsSeenIn c (world_at s) → IsWorking c s u b d → IsWaiting b d w → IsElsewhere c.x w
     → let D = give_up_call w (coord_at s) in KnowsCoord c s D.part → KnowsAsks c D.part → StepGoes c s e D
+
+-- ---- commits
+
+-- The commit of a top that isn't doomed is called: its line is said, and the first nodes are asked, or it is decided at once.
+abbrev pub TopCommitsGo : Type 0
+TopCommitsGo = (c : Case) (s : Spot) (e : ℕ) (u : Uid) (b : Branch) (d : Doing)
+    → IsSeenIn c (world_at s) → HoldsNamingIn c s.node (let t = s.parts in t.naming) → (free : IsFreeToEnd (let f = c.fixed in f.act) (let f = c.fixed in f.paths) (coord_at s) u b d) → AreBegun (let k = free.steady in k.actions) → AreTopped (let f = c.fixed in f.act) (coord_at s)
+    → b.kind ≢ kind.Serial → b.kind ≢ kind.Nested → b.doomed ≡ false → has_open_child u (let q = coord_at s in q.tree) ≡ false → IsFirst (let f = c.fixed in f.act) (coord_at s) u
+    → HasLowGrant c.x (let f = c.fixed in f.act u) (plan_now b (coord_at s)) c.state → AreKept c.x (let f = c.fixed in f.act u) (plan_now b (coord_at s)) c.state
+    → let D = commit_action b (records_at s) (coord_at s) in KnowsCoord c s D.part → KnowsAsks c D.part → KnowsEnds D.part → StepGoes c s e D
+
+-- an open action at its commit at this coordinator
+pub record IsAtCommit (s : Spot) (u : Uid) (b : Branch) (d : Doing) (k : Machine) : Type 0 where
+  pub there : branch_of u (let q = coord_at s in q.tree) ≡ Some b
+  pub unended : is_some b.ended ≡ false
+  pub works : doing_of u (coord_at s) ≡ Some d
+  pub at : d.now ≡ Committing k
+  pub number : d.req ≤ (let q = plan_of k in q.req)
+
+-- An answer to a commit is taken: it stays, asks the next nodes, is decided by its record, or is aborted; a stop at the record
+-- leaves it decided, and without a line.
+abbrev pub CommitAnswersGo : Type 0
+CommitAnswersGo = (c : Case) (s : Spot) (e from : ℕ) (u : Uid) (b : Branch) (d : Doing) (k : Machine) (r : Reply)
+    → IsSeenIn c (world_at s) → HoldsNamingIn c s.node (let t = s.parts in t.naming) → IsAtCommit s u b d k → ShowsToCommit c.x (let f = c.fixed in f.act u) k from r c.state
+    → let D = moved_commit u (commit.answered from k r) (records_at s) (coord_at s) in KnowsCoord c s D.part → KnowsAsks c D.part → KnowsEnds D.part → StepGoes c s e D
+
+-- So it does where it is given up, behind the lines of whom it waited for.
+abbrev pub LostCommitsGo : Type 0
+LostCommitsGo = (c : Case) (s : Spot) (e : ℕ) (u : Uid) (b : Branch) (d : Doing) (k : Machine)
+    → IsSeenIn c (world_at s) → HoldsNamingIn c s.node (let t = s.parts in t.naming) → IsAtCommit s u b d k
+    → let D = gives_up u (records_at s) (coord_at s) (Committing k) in KnowsCoord c s D.part → KnowsAsks c D.part → KnowsEnds D.part → StepGoes c s e D

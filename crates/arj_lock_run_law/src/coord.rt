@@ -1,5 +1,5 @@
 // Coordinators, in the whole world as the lock machine of one object has it.
-ghost use Rattle.arj_lock_run_law.specs.Coordinating.{AbortsGo, CallAnswersGo, CallsGo, CoordsGo, DoomedCommitsGo, IncludeAnswersGo, IncludesGo, LostCallsGo, NestedCommitsGo, OtherAnswersGo, OtherLostGo};
+ghost use Rattle.arj_lock_run_law.specs.Coordinating.{AbortsGo, CallAnswersGo, CallsGo, CommitAnswersGo, CoordsGo, DoomedCommitsGo, IncludeAnswersGo, IncludesGo, LostCallsGo, LostCommitsGo, NestedCommitsGo, OtherAnswersGo, OtherLostGo, TopCommitsGo};
 
 /// A coordinator says lines and sends messages, for one unit: where the machine has gone along, and what is sent is shown in its state,
 /// the object is seen in the whole world at the end and wherever the walk is. It does nothing when it runs.
@@ -27,4 +27,14 @@ pub fn calls_go_in_the_world()
     ensures other_answers { OtherAnswersGo }
     ensures calls_lost { LostCallsGo }
     ensures others_lost { OtherLostGo }
+{}
+
+/// The commit of a top is called, answered and given up: it asks its nodes, is decided by its record, or is aborted, and the object is seen
+/// in the whole world behind it, and what is asked and told is shown. A stop that falls on the record leaves it decided in the machine
+/// and without a line if the record is on the disk, and aborted if it isn't. What is known of the coordinator by the protocol
+/// alone is counted on, and what an answer shows. It does nothing when it runs.
+pub fn commits_go_in_the_world()
+    ensures tops { TopCommitsGo }
+    ensures answers { CommitAnswersGo }
+    ensures lost { LostCommitsGo }
 {}

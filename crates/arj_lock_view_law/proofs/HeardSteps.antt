@@ -165,13 +165,13 @@ module _ (act : Acts) (code : Codes) (paths : Paths) (x p : ℕ) (c : Coord) (u 
   its_branch : (let v = voting in let a = v.asking in a.branch) ≡ b
   its_branch = let v = voting in let a = v.asking in let two : ◌≡◌ {A = Option Branch} (Some a.branch) (Some b) = sym a.found ∙ found in cc two
 
-  unserial : b.kind ≢ kind.Serial
+  pub unserial : b.kind ≢ kind.Serial
   unserial is = let v = voting in let a = v.asking in a.unserial (ap (λ (q : Branch). q.kind) its_branch ∙ is)
 
-  unnested : b.kind ≢ kind.Nested
+  pub unnested : b.kind ≢ kind.Nested
   unnested is = let v = voting in v.top b found is
 
-  its_path : actor (let q = plan_of k in q.path) ≡ u
+  pub its_path : actor (let q = plan_of k in q.path) ≡ u
   its_path = let v = voting in let a = v.asking in ap actor (sym a.path) ∙ ap (λ (q : Branch). actor q.path) its_branch ∙ steady.good.tree.lists.places u b found
 
   acts : is_action (act u) ≡ true
@@ -183,7 +183,7 @@ module _ (act : Acts) (code : Codes) (paths : Paths) (x p : ℕ) (c : Coord) (u 
   none : b.ended ≡ None
   none = unended_none b.ended unended
 
-  at_one : (S.action (act u)).stage ≡ 1
+  pub at_one : (S.action (act u)).stage ≡ 1
   at_one = was.stage ∙ (λ i. stage_of (none i) (at i))
 
   -- a state in which more was sent
