@@ -17,3 +17,4 @@ pub mod LowGrants
 pub mod UpperRows
 pub mod UpperWalks
 pub mod Uppers
+pub mod Listed

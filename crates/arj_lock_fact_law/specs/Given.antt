@@ -1,14 +1,31 @@
 -- What these facts give: premises of the lock machine's view of coordinators and servers.
-use Rattle.std.specs.Prelude.{◌≡◌, ◌≢◌, ℕ, true, false, List, Some}
+--
+-- Who gives what that view (`arj_lock_view_law`) takes as known of the protocol:
+-- `IsSteady`, `IsBeginning.stands`, `IsCalling.path`, request numbers, paths that fit: good nodes (`arj_run_law`), with one tree of what was
+-- begun (`AreOneTree`). `IsLone`, `IsFirst`, `AreTopped`, `AreUnserial`, roots that are empty, `IsWanted`: here. `AreKept`: the machine's view
+-- of the root, and known Binds (`Keeping`). `HasLowGrant`: grants in order (`Grants`). `HasNothingAt`: naming has tops alone (`Uppers`). That a
+-- repeated vote shows the first: `repeated_votes_agree` of `arj_lock_law`.
+-- The whole world as the machine sees it (`arj_lock_run_law`) gives what messages show, `IsReached`, `IsFresh`, and that no more is decided
+-- than was (`IfDecided`, `IsBacked`).
+-- Nobody gives it yet: `HasNoneLeft` where an abort comes of an action whose unit is over, and at naming what is told of committed tops: who
+-- acknowledged an end was told of it in that incarnation, and no vote or call of that action names a later one; `IsConfirming.again`: all
+-- Confirms of one top are equal, and whoever is confirmed is so in the machine; rows that a restart gives back, which have no heir; and
+-- `IsGoodAt`.
+use Rattle.std.specs.Prelude.{◌≡◌, ◌≢◌, ℕ, true, false, List, Some, Contains}
 use Rattle.arj_protocol.specs.Words.{Ask, Head, Uid, asks}
 use Rattle.arj_protocol.specs.Words.kind
 use Rattle.arj_protocol.specs.Ask.{actor}
 use Rattle.arj_protocol.specs.Commit.{Machine, plan_of}
 use Rattle.arj_protocol.specs.Coord.{Committing, Coord, Doing, Idle, doing_of, no_root, root_at}
-use Rattle.arj_protocol.specs.Step.{is_waiting_now, sibling_waits, waits_above, waits_below}
+use Rattle.arj_protocol.specs.Copy.{Copy}
+use Rattle.arj_protocol.specs.Node.{Parts}
+use Rattle.arj_protocol.specs.Order.{at_number}
+use Rattle.arj_protocol.specs.Step.{Node, is_waiting_now, sibling_waits, waits_above, waits_below}
 use Rattle.arj_protocol.specs.Tree.{Branch, branch_of, ends_of, next_uid}
 use Rattle.arj_part_law.specs.Coords.{IsGoodCoord}
+use Rattle.arj_part_law.specs.Copies.{Paths}
 use Rattle.arj_call_law.specs.Servers.{AreOneCall}
+use Rattle.arj_call_law.specs.Worlds.{KnowsNode}
 use Rattle.arj_view_law.specs.Seen.{In, Post}
 use Rattle.arj_lock_view_law.specs.Acting.{IsFirst}
 use Rattle.arj_lock_view_law.specs.Actions.{IsLone}
@@ -61,3 +78,10 @@ SentWants x sent wants = (v : View) (p : Post) (h : Head) (a : Ask) → v.x ≡ 
 -- Where calls by one request are one, and have numbers from 1 on, there is what each request that was sent wants of the object.
 abbrev pub RequestsWant : Type 0
 RequestsWant = (x : ℕ) (sent : List Post) → AreOneCall sent → ((p : Post) → In p sent → (h : Head) (a : Ask) → asks p.message ≡ Some (h, a) → IsFromOne h a) → (wants : Wants) × SentWants x sent wants
+
+-- ---- copies
+
+-- A server finds each copy under its object.
+abbrev pub CopiesAreListed : Type 0
+CopiesAreListed = (paths : Paths) (sent : List Post) (j : ℕ) (n : Node) (t : Parts) → KnowsNode paths sent j n → n.live ≡ Some t
+    → (y : ℕ) (o : Copy) → Contains {X = ℕ × Copy} (let s = t.server in s.objects) (y, o) → at_number y (let s = t.server in s.objects) ≡ Some o

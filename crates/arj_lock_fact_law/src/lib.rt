@@ -5,11 +5,12 @@
 //! (`arj_address_law`): of coordinators, of naming and of its answers (`specs/Worlds.antt`). It gives upward
 //! `coordinators_stay_in_order` and `grants_stay_in_order`, what follows of them in the machine's words
 //! (`premises_of_coordinators`, `plans_have_what_is_kept`, `plans_grant_low`), `requests_want_one_thing`, and
-//! `nested_actions_have_nothing_at_naming`.
+//! `nested_actions_have_nothing_at_naming`, `copies_are_listed`.
 #![tactic(auto)]
 
 mod coords;
 mod naming;
+mod servers;
 
 pub use coords::{
     coordinators_stay_in_order, plans_have_what_is_kept, premises_of_coordinators,
