@@ -1,26 +1,26 @@
--- What coordinators have of naming's answers is kept by inputs about actions: calls and includes that begin.
-use Rattle.std.proofs.Common.{◌≡◌, ◌⊎◌, ◌+◌, ℕ, ◌==◌, ◌&&◌, ◌||◌, if◌then◌else◌, Bool, true, false, not, List, [], ◌∷◌, Option, Some, None, refl, sym, ◌∙◌, ap, subst, inl, inr, ⊎_elim, arith}
+-- What coordinators have of naming's answers is kept by inputs about actions: calls and includes that begin, and aborts.
+use Rattle.std.proofs.Common.{◌≡◌, ◌⊎◌, ◌+◌, ℕ, ◌==◌, ◌&&◌, ◌||◌, if◌then◌else◌, Bool, true, false, not, List, [], ◌∷◌, ◌++◌, Option, Some, None, refl, sym, ◌∙◌, ap, subst, inl, inr, ⊎_elim, arith, is_some, slice_get, suc}
 use Rattle.std.specs.Prelude.{Contains, unwrap_or}
-use Rattle.std.specs.List.{list_all}
+use Rattle.std.specs.List.{AllByRecursion, list_all}
 use Rattle.std.proofs.lemmas.Bool.{and_parts}
 use Rattle.arj_lock.proofs.Members as list
 use Rattle.arj_lock.proofs.Members.{in_from}
-use Rattle.arj_protocol.specs.Words.{Binding, Op, Path, Uid}
+use Rattle.arj_protocol.specs.Words.{Binding, Op, Path, Uid, End}
 use Rattle.arj_protocol.specs.Ask.{Reply, actor, top_of}
 use Rattle.arj_protocol.specs.Asking.{call, call_steps, given_away, goes_on, include, known_at_start, last_req, next_req, renewed}
 use Rattle.arj_protocol.specs.Call.{Goal, Include, Known, Run, Steps, next_ask, next_node, start}
-use Rattle.arj_protocol.specs.Coord.{Calling, Committing, Coord, Doing, Keeping, Root, Said, Went, doing_of, is_free, keeping_of, kept_of, no_keeping, no_root, on_doing, on_root, others_call, root_at, said_of, with_keeping}
+use Rattle.arj_protocol.specs.Coord.{Calling, Committing, Coord, Doing, Keeping, Root, Said, Went, doing_of, is_free, keeping_of, kept_of, no_keeping, no_root, on_doing, on_root, others_call, root_at, said_of, with_keeping, Idle}
 use Rattle.arj_protocol.specs.Effect.{Did, Disk}
 use Rattle.arj_protocol.specs.Node.{Parts, with_coord}
 use Rattle.arj_protocol.specs.Order.{at_number, put_number, unbound, uid_number}
 use Rattle.arj_protocol.specs.Words.{Header}
-use Rattle.arj_protocol.specs.Step.{Input, acts, branch_named, call_reasons, include_reasons, on_branch, refusal_up, refused_by}
+use Rattle.arj_protocol.specs.Step.{Input, acts, branch_named, call_reasons, include_reasons, on_branch, refusal_up, refused_by, abort_reasons, waits_above, waits_below}
 use Rattle.arj_protocol.specs.Step as input
 use Rattle.arj_protocol.specs.Coord.{number_of}
 use Rattle.arj_view_law.specs.Keeps.{is_act}
-use Rattle.arj_disk_view_law.proofs.WholeWalks.{placed}
+use Rattle.arj_disk_view_law.proofs.WholeWalks.{placed, no_reason}
 use Rattle.arj_disk_run_law.specs.Rest.{IsHeardAt, KeepsHeard}
-use Rattle.arj_protocol.specs.Tree.{Branch, ends_of, is_spent, root_of, uses_object}
+use Rattle.arj_protocol.specs.Tree.{Branch, ends_of, is_spent, root_of, uses_object, branch_of, is_committed, ended_so, is_open_below, has_end, at_place, is_below, open_below}
 use Rattle.arj_protocol.proofs.Maps.{put_same as put_number_same, put_other as put_number_other}
 use Rattle.arj_protocol.proofs.RowSteps.{one_or_two}
 use Rattle.arj_run_law.specs.Worlds.{IsGood}
@@ -34,6 +34,11 @@ use Rattle.arj_names_view_law.specs.Both.{SeesBoth}
 use Rattle.arj_names_view_law.specs.Handlers.{MayGoOn, Quietly}
 use Rattle.arj_disk_run_law.specs.Heard.{IsToStep, SeesHeard, SeesStep}
 use Rattle.arj_disk_run_law.specs.Part.{HasHeard, going_of}
+use Rattle.arj_disk_view_law.proofs.ActionAborts.{all_both_lists, latest_all}
+use Rattle.arj_disk_run_law.proofs.HeardAborts.{IsFewer, abort_says, all_fewer, at_fewer}
+use Rattle.arj_disk_run_law.proofs.HeardPosts.{SaysHeard}
+use Rattle.arj_protocol.specs.Ending.{abort_action}
+use Rattle.arj_protocol.specs.Words.ending
 use Rattle.arj_disk_run_law.proofs.HeardCalls.{IsCalled, KeepsOrNone, at_called, fresh, goes_called, keeps_to, root_put}
 use Rattle.arj_disk_run_law.proofs.HeardCoord.{mine, quiet_step}
 use Rattle.arj_disk_run_law.proofs.HeardMessage.{old_goes_on}
@@ -169,6 +174,44 @@ module _ (x : ℕ) (tops : Kinds) (e k : ℕ) (d : Disk) (t : Parts) (M : Seen) 
   pub heard_include : (p : Path) (y s : ℕ) (q : Doing) → doing_of (actor p) t.coord ≡ Some q → Heard_by (include p y s t.coord)
   heard_include p y s q does = waits_anew p y (Include s) None unbound (record t.coord { tree = uses_object p y t.coord.tree }) q does (include_called x t.coord p q does y s)
 
+  -- actions are aborted, or none is
+  acts_fewer : (did : Did Coord) → IsFewer t.coord did.part → AllByRecursion (SaysHeard x d.inc A) did.outs → Heard_by did
+  acts_fewer did few2 says = (
+    record {
+      office = A;
+      only = none_heard A;
+      both = both;
+      along = quiet_step x tops k d t M A both h (with_coord t did.part)
+          (λ N B only fixed more. at_fewer t.coord did.part few2 x k tops N.sent B
+          (at_stays x tops A B (fixed_in x tops A (up k d t M) both) fixed (memory_goes A B only) k M.sent N.sent t.coord more (λ u own kind. memory_stays tops A B only (tops.root (uid_number u))) (mine x tops k d t M A both h)))
+          e did.outs M refl refl says;
+    },
+    old_goes_on x tops k d t M A knows both did.part (λ u z m at now past. ⊎_elim (λ old. old) (λ idle. absurd (let n : Idle ≡ Committing m = sym idle ∙ now in cc)) (few2.works u z at)),
+  )
+
+  -- who is open has not committed
+  not_committed : (u : Uid) (b : Branch) → branch_of u t.coord.tree ≡ Some b → b.ended ≡ None → is_committed u t.coord.tree ≡ false
+  not_committed u b found unended = ap (ended_so ending.Commit) found ∙ ap (has_end ending.Commit) unended
+
+  none_so : (o : Option End) → is_some o ≡ false → o ≡ None
+  none_so None off = refl
+  none_so (Some how) off = absurd (cc off)
+
+  unended_of : (o : Option End) → not (is_some o) ≡ true → o ≡ None
+  unended_of None on = refl
+  unended_of (Some how) on = absurd (cc on)
+
+  heard_abort : (u : Uid) (b : Branch) → branch_of u t.coord.tree ≡ Some b → b.ended ≡ None → Heard_by (abort_action u d.intents t.coord)
+  heard_abort u b found unended = acts_fewer (abort_action u d.intents t.coord) (all_fewer (open_below u t.coord.tree ++ u ∷ []) t.coord
+      (all_both_lists (λ w. is_committed w t.coord.tree ≡ false) (open_below u t.coord.tree) (u ∷ []) (latest_all (λ w. is_committed w t.coord.tree ≡ false) (is_open_below u) t.coord.tree.branches [] at_place_open tt) (not_committed u b found unended, tt)))
+      (abort_says x d.inc A u d.intents t.coord)
+    where
+      at_place_open : (j : ℕ) (z : Branch) → slice_get t.coord.tree.branches j ≡ Some z → is_open_below u z ≡ true → is_committed (actor z.path) t.coord.tree ≡ false
+      at_place_open j z is on =
+          let w : Uid = record { node = t.coord.tree.node; inc = t.coord.tree.inc; num = suc j } in
+          let there : branch_of w t.coord.tree ≡ Some z = ap (λ c. if c then at_place (suc j) t.coord.tree.branches else None) (λ i. test_same t.coord.tree.node i && test_same t.coord.tree.inc i) ∙ is in
+          subst (λ v. is_committed v t.coord.tree ≡ false) (sym (let c = knows.coord in c.path w z there)) (not_committed w z there (unended_of z.ended (and_parts (is_below u z) (not (is_some z.ended)) on).1))
+
   -- it begins, of the action of a label
   pub heard_starts : (hd : Header) (R : Seen → Type 0) → KeepsHeard hd x R → IsHeardAt x R tops A (k, d, t) M → (i : Input) → is_act i ≡ true → refusal_up hd i t.coord ≡ None → Heard_by (acts i d.intents t.coord)
   heard_starts hd R rest at (input.Call l y op) act free = by (branch_named l t.coord) refl free
@@ -181,9 +224,15 @@ module _ (x : ℕ) (tops : Kinds) (e k : ℕ) (d : Disk) (t : Parts) (M : Seen) 
       by : (o : Option Branch) → branch_named l t.coord ≡ o → refused_by (include_reasons hd y) t.coord o ≡ None → Heard_by (on_branch (λ b. include b.path y s t.coord) t.coord o)
       by None is none = absurd (cc none)
       by (Some b) is none = let w = (let c = knows.coord in c.at_work (actor b.path) b (placed hd x tops e k d t M knows.kinds knows.coord A.world both.disks (number_of l t.coord) b is)) in heard_include b.path y s w.0 w.1
-  heard_starts hd R rest at (input.Commit l) act free = rest.act tops e k d t (input.Commit l) M A at refl refl free
-  heard_starts hd R rest at (input.Abort l) act free = rest.act tops e k d t (input.Abort l) M A at refl refl free
-  heard_starts hd R rest at (input.GiveUp l) act free = rest.act tops e k d t (input.GiveUp l) M A at refl refl free
+  heard_starts hd R rest at (input.Commit l) act free = rest.act tops e k d t (input.Commit l) M A at refl free
+  heard_starts hd R rest at (input.Abort l) act free = by (branch_named l t.coord) refl free
+    where
+      by : (o : Option Branch) → branch_named l t.coord ≡ o → refused_by abort_reasons t.coord o ≡ None → Heard_by (on_branch (λ b. abort_action (actor b.path) d.intents t.coord) t.coord o)
+      by None is none = absurd (cc none)
+      by (Some b) is none =
+          let one = no_reason 6 (is_some b.ended) ((7, waits_above b t.coord || waits_below b t.coord) ∷ []) none in
+          heard_abort (actor b.path) b (placed hd x tops e k d t M knows.kinds knows.coord A.world both.disks (number_of l t.coord) b is) (none_so b.ended one.0)
+  heard_starts hd R rest at (input.GiveUp l) act free = rest.act tops e k d t (input.GiveUp l) M A at refl free
   heard_starts hd R rest at (input.Begin l how parent) act free = absurd (cc act)
   heard_starts hd R rest at (input.Frame n from m) act free = absurd (cc act)
   heard_starts hd R rest at input.Tick act free = absurd (cc act)

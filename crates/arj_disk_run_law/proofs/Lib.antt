@@ -4,6 +4,7 @@ pub mod Copies
 pub mod EntryKeeps
 pub mod EntryRows
 pub mod EntryWalks
+pub mod HeardAborts
 pub mod HeardAll
 pub mod HeardAsk
 pub mod HeardBinds

@@ -13,7 +13,6 @@ use Rattle.arj_protocol.specs.Step.{Input, acts, refusal_up}
 use Rattle.arj_protocol.specs.Step as input
 use Rattle.arj_disk_law.specs.Effects.{IsNot}
 use Rattle.arj_disk_law.specs.Names.{Office}
-use Rattle.arj_view_law.specs.Keeps.{is_act}
 use Rattle.arj_view_law.specs.Seen.{In, Seen, up}
 use Rattle.arj_disk_view_law.specs.Confirming.{IsNewConfirm}
 use Rattle.arj_disk_view_law.specs.Coordinating.{KnowsNode}
@@ -42,17 +41,17 @@ pub record GivesNaming (x : ℕ) (R : Seen → Type 0) : Type 0 where
   pub next : (tops : Kinds) (k : ℕ) (d : Disk) (t : Parts) (n : Naming) (from : ℕ) (m : Message) (h : Head) (grants : Grants) (excluded included : Marks) (M : Seen) (A : Office) → IsHeardAt x R tops A (k, d, t) M → In (record { from = from; to = k; message = m }) M.sent → t.naming ≡ Some n → asks m ≡ Some (h, ask.Confirm grants excluded included)
       → IsNewConfirm h.path grants excluded included d.names n → IsNext A.world.disk (uid_number (top_of h.path))
 
--- a call begins, or an include
-abbrev pub is_starting : Input → Bool
-is_starting (input.Call l y o) = true
-is_starting (input.Include l y s) = true
-is_starting _ = false
+-- an action commits, or gives up
+abbrev pub is_deciding : Input → Bool
+is_deciding (input.Commit l) = true
+is_deciding (input.GiveUp l) = true
+is_deciding _ = false
 
--- It is kept by an answer that a coordinator takes, and by an input by which an action commits or aborts, or gives up; and each commit
+-- It is kept by an answer that a coordinator takes, and by an input by which an action commits, or gives up; and each commit
 -- that is past its votes then may begin.
 pub record KeepsHeard (hd : Header) (x : ℕ) (R : Seen → Type 0) : Type 0 where
   pub naming : GivesNaming x R
   pub answer : (tops : Kinds) (e k : ℕ) (d : Disk) (t v : Parts) (from : ℕ) (m : Message) (a : Asked) (r : Reply) (outs : List Effect) (M : Seen) (A : Office) → IsHeardAt x R tops A (k, d, t) M → In (record { from = from; to = k; message = m }) M.sent → answers m ≡ Some (a, r) → is_meant t m ≡ true → handle k d t from m ≡ Took v outs
       → (h : HasHeard (SeesHeard x) x tops (change_by x d t m) A (record { event = e; node = k; disk = d; before = t; outs = outs; after = v }, M)) × MayGoOn x h.office v.coord
-  pub act : (tops : Kinds) (e k : ℕ) (d : Disk) (t : Parts) (i : Input) (M : Seen) (A : Office) → IsHeardAt x R tops A (k, d, t) M → is_act i ≡ true → is_starting i ≡ false → refusal_up hd i t.coord ≡ None
+  pub act : (tops : Kinds) (e k : ℕ) (d : Disk) (t : Parts) (i : Input) (M : Seen) (A : Office) → IsHeardAt x R tops A (k, d, t) M → is_deciding i ≡ true → refusal_up hd i t.coord ≡ None
       → (h : HasHeard (SeesHeard x) x tops Quietly A (going_of e k d t (acts i d.intents t.coord), M)) × MayGoOn x h.office (let did = acts i d.intents t.coord in did.part)

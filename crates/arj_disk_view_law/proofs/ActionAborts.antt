@@ -219,7 +219,7 @@ latest_has f (c ∷ bs) found (suc j) b is on = by (f c) (λ more. latest_has f 
     by true ih = ih (actor c.path ∷ found)
     by false ih = ih found
 
-latest_all : (Q : Uid → Type 0) (f : Branch → Bool) (bs : List Branch) (found : List Uid) → ((j : ℕ) (b : Branch) → slice_get bs j ≡ Some b → f b ≡ true → Q (actor b.path)) → AllByRecursion Q found → AllByRecursion Q (latest_first (filter f bs) found)
+pub latest_all : (Q : Uid → Type 0) (f : Branch → Bool) (bs : List Branch) (found : List Uid) → ((j : ℕ) (b : Branch) → slice_get bs j ≡ Some b → f b ≡ true → Q (actor b.path)) → AllByRecursion Q found → AllByRecursion Q (latest_first (filter f bs) found)
 latest_all Q f [] found each all = all
 latest_all Q f (c ∷ bs) found each all = by (f c) refl (λ more h. latest_all Q f bs more (λ j b is on. each (suc j) b is on) h)
   where
@@ -227,7 +227,7 @@ latest_all Q f (c ∷ bs) found each all = by (f c) refl (λ more h. latest_all 
     by true h ih = ih (actor c.path ∷ found) (each zero c refl h, all)
     by false h ih = ih found all
 
-all_both_lists : (Q : Uid → Type 0) (us ws : List Uid) → AllByRecursion Q us → AllByRecursion Q ws → AllByRecursion Q (us ++ ws)
+pub all_both_lists : (Q : Uid → Type 0) (us ws : List Uid) → AllByRecursion Q us → AllByRecursion Q ws → AllByRecursion Q (us ++ ws)
 all_both_lists Q [] ws a b = b
 all_both_lists Q (u ∷ us) ws a b = (a.0, all_both_lists Q us ws a.1 b)
 

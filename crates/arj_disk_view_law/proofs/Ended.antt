@@ -63,7 +63,7 @@ tree_ended u b how t is = subst (λ o. HasEnded u b how t (ended_branch u how t 
     by false = record { node = refl; inc = refl; branches = refl }
 
 module _ (u : Uid) (b : Branch) (how : End) (t v : Tree) (found : branch_of u t ≡ Some b) (ended : HasEnded u b how t v) where
-  own_same : (w : Uid) → is_own w v ≡ is_own w t
+  pub own_same : (w : Uid) → is_own w v ≡ is_own w t
   own_same w = λ i. (w.node == ended.node i) && (w.inc == ended.inc i)
 
   found_at : (w : Uid) (o : Option Branch) → branch_of w t ≡ o → (c : Branch) → branch_of w t ≡ Some c → (is_own w t ≡ true) × (at_place w.num t.branches ≡ Some c)
