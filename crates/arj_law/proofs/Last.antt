@@ -36,7 +36,7 @@ filter_insert {A} p less a (x ∷ xs) h = by (filter_insert p less a xs h.1) (le
     by ih true g false e false k = (λ i. cond (k i) (x ∷ filter p (insert less a xs)) (filter p (insert less a xs))) ∙ ih ∙ (λ i. cond (e i) (a ∷ rest) rest)
     by ih false g b e d k = (λ i. cond (e i) (a ∷ cond (k i) (x ∷ rest) rest) (cond (k i) (x ∷ rest) rest))
 
-filter_arrange : {A : Type 0} (p : A → Bool) (less : A → A → Bool) (xs : List A) → Pairwise (λ a b. p a ≡ true → p b ≡ true → less b a ≡ false) xs → filter p (arrange less xs) ≡ filter p xs
+pub filter_arrange : {A : Type 0} (p : A → Bool) (less : A → A → Bool) (xs : List A) → Pairwise (λ a b. p a ≡ true → p b ≡ true → less b a ≡ false) xs → filter p (arrange less xs) ≡ filter p xs
 filter_arrange p less [] h = refl
 filter_arrange p less (x ∷ xs) h =
     filter_insert p less x (arrange less xs) (all_arrange (λ b. p x ≡ true → p b ≡ true → less b x ≡ false) less xs h.0)

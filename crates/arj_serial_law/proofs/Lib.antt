@@ -15,3 +15,4 @@ pub mod Votes
 pub mod Shown
 pub mod Running
 pub mod Taking
+pub mod Turning

@@ -46,7 +46,7 @@ use Rattle.arj_base.specs.Uid.{nobody}
 
 -- ---- places of tops
 
-off_one : (m n : ℕ) → m ≢ n → (m == n) ≡ false
+pub off_one : (m n : ℕ) → m ≢ n → (m == n) ≡ false
 off_one m n e = by (m == n) refl
   where
     by : (b : Bool) → (m == n) ≡ b → b ≡ false
@@ -96,13 +96,13 @@ unit_behind (u ∷ ts) t (inr i) = by (u.root == t.root) (unit_behind ts t i)
     by true e = second t.at u.at (unit_place ts t.root) e
     by false e = e
 
-lex_first : (k m p q : ℕ) → k < m → lex (k ∷ p ∷ []) (m ∷ q ∷ []) ≡ true
+pub lex_first : (k m p q : ℕ) → k < m → lex (k ∷ p ∷ []) (m ∷ q ∷ []) ≡ true
 lex_first k m p q l = ap (λ b. cond b true ((k == m) && lex (p ∷ []) (q ∷ []))) (yes k m l)
   where
     yes : (a b : ℕ) → a < b → nat_lt a b ≡ true
     yes a b e = grind (arith, nat_tests)
 
-lex_second : (k m p q : ℕ) → k ≡ m → p < q → lex (k ∷ p ∷ []) (m ∷ q ∷ []) ≡ true
+pub lex_second : (k m p q : ℕ) → k ≡ m → p < q → lex (k ∷ p ∷ []) (m ∷ q ∷ []) ≡ true
 lex_second k m p q e l = (λ i. cond (no k m e i) true (eq-eqb k m e i && cond (yes p q l i) true ((p == q) && false)))
   where
     no : (a b : ℕ) → a ≡ b → nat_lt a b ≡ false
@@ -413,6 +413,33 @@ module _ (values : Values) (lines : List Line) (right : AreRight new_book lines)
           let act = one_act (acts lines) (let z = sound lines right in z.distinct) a.act b.act a.there b.there uid in
           never (eq-eqb c.top d.top (s.top_number ∙ sym a.number ∙ ap (λ (z : Act). z.id) act ∙ b.number ∙ sym t.top_number)) apart
 
+  -- all of the first call's unit was called before the second, of another unit
+  pub unit_first : (c d : Call) → In c (committed_calls lines) → In d (committed_calls lines) → c.x ≡ x → d.x ≡ x → c.at < d.at → is_conflict c d ≡ true → root_of (tops lines) c.top ≢ root_of (tops lines) d.top → unit_place (tops lines) (root_of (tops lines) c.top) < d.at
+  unit_first c d i j cx dx less conflict other = subst (λ r. unit_place (tops lines) r < d.at) (sym (number_root c s)) before
+    where
+      s : IsShown c
+      s = shown c i cx
+
+      t : IsShown d
+      t = shown d j dx
+
+      both : Conflicting S s.call t.call
+      both = conflict_of c d s t less conflict
+
+      number_root : (k : Call) (w : IsShown k) → root_of (tops lines) k.top ≡ w.number.root
+      number_root k w = ap (root_of (tops lines)) w.top_number ∙ root_of_top (tops lines) w.number (let l = listed lines right in l.apart) w.listed_top
+
+      units : root s.call.act ≢ root t.call.act
+      units e = other (number_root c s ∙ one_root s.number t.number s.top_of_it t.top_of_it (sym (its_root c s) ∙ e ∙ its_root d t) ∙ sym (number_root d t))
+
+      before : unit_place (tops lines) s.number.root < d.at
+      before = unit_before (tops lines) s.number.root d.at (omega (arith, less)) (λ u k is.
+          let a = top_item lines right u k in
+          let l = in_order.units s.call t.call (tied.act a.act.uid) both units (is_top_in a.act a.there a.kind, stage_of_top u a) (one_unit u s.number a s.top_of_it is ∙ sym (its_root c s)) in
+          let place = place_in u a in
+          let line = t.line in
+          omega (arith, l, place, line))
+
   -- ---- nested actions
 
   in_ids : (b : Act) (p : List Act) → In b p → is_among (ids p) b.id ≡ true
@@ -550,3 +577,6 @@ module _ (values : Values) (lines : List Line) (right : AreRight new_book lines)
       let o = of_object c i in
       let s = shown values lines right c.x o.0 o.1 c i refl in
       (s.number, s.listed_top, s.top_number, before_top values lines right c.x o.0 o.1 c s)
+
+  pub all_unit_first : (c d : Call) → In c (committed_calls lines) → In d (committed_calls lines) → c.at < d.at → is_conflict c d ≡ true → root_of (tops lines) c.top ≢ root_of (tops lines) d.top → unit_place (tops lines) (root_of (tops lines) c.top) < d.at
+  all_unit_first c d i j less conflict other = let t = of_object c i in unit_first values lines right c.x t.0 t.1 c d i j refl (one_object c d conflict) less conflict other

@@ -1,5 +1,5 @@
 -- The decided tops of an object's disk machine, as a journal has them.
-use Rattle.std.specs.Prelude.{⊤, ◌≡◌, ◌<◌, ◌≤◌, ℕ, ◌==◌, ◌&&◌, not, List, [], ◌∷◌, filter, reverse, Bool, true, false, Option, Some, None, Contains}
+use Rattle.std.specs.Prelude.{⊤, ◌≡◌, ◌⊎◌, ◌<◌, ◌≤◌, ℕ, ◌==◌, ◌&&◌, not, List, [], ◌∷◌, filter, reverse, Bool, true, false, Option, Some, None, Contains}
 use Rattle.std.specs.List.{AllByRecursion}
 use Rattle.arj_base.specs.declared.uid.Uid.{Uid}
 use Rattle.arj_class.specs.declared.value.Value.{Value}
@@ -9,10 +9,10 @@ use Rattle.arj_journal.specs.declared.body.Line.{Line}
 use Rattle.arj_journal.specs.declared.header.Header.{Header}
 use Rattle.arj_model.specs.Actions.{acts}
 use Rattle.arj_model.specs.Calls.{Call, Top, committed_calls, tops}
-use Rattle.arj_model.specs.Last.{first_values, increasing, is_among, joins_of, leaves_of, uid_of_id}
-use Rattle.arj_model.specs.Serial.{Values, run, top_place, writes_on}
+use Rattle.arj_model.specs.Last.{first_values, increasing, is_among, joins_of, leaves_of, serial_tops, uid_of_id}
+use Rattle.arj_model.specs.Serial.{Values, run, top_place, unit_place, writes_on}
 use Rattle.arj_law.specs.Book.{OfEachTwo, is_conflict, writes_before}
-use Rattle.arj_law.specs.Growth.{AreDecidedInOrder}
+use Rattle.arj_law.specs.Growth.{AreDecidedInOrder, IdleInPlace, first_stores}
 use Rattle.arj_lock_law.specs.Actions.{Act, In, top}
 use Rattle.arj_lock_law.specs.State as machine
 use Rattle.arj_lock_law.specs.State.{Alive, State}
@@ -75,6 +75,29 @@ pub record AreDecided (header : Header) (lines : List Line) (x : ℕ) (ds : List
   pub counted : AllByRecursion (λ (t : Top). counts t ≡ true) those
   pub order : AreDecidedInOrder header lines x counts (reverse those)
   pub all : (e : Call) → Contains (committed_calls lines) e → writes_on x e ≡ true → (t : Top) × Contains those t × (e.top ≡ t.id)
+
+-- ---- the order of decisions, pair by pair
+
+-- The first top's unit had its turn before the second: all its commits were called before that one's, or they are of one unit.
+abbrev pub IsInTurn : List Line → Top → Top → Type 0
+IsInTurn lines u t = (u.root ≡ t.root) ⊎ (unit_place (tops lines) u.root < t.at)
+
+-- These tops, the newest first, are all that count for the object, and each of two had its turn before the one whose commit was called
+-- later; the others change nothing of the object's list in their places.
+pub record HaveTurns (header : Header) (lines : List Line) (x : ℕ) (counts : Top → Bool) (those : List Top) : Type 0 where
+  pub called : AreNewestFirst those
+  pub listed : (t : Top) → Contains those t → Contains (tops lines) t × (counts t ≡ true)
+  pub all : (t : Top) → Contains (tops lines) t → counts t ≡ true → Contains those t
+  pub turns : (u t : Top) → Contains those u → Contains those t → u.at < t.at → IsInTurn lines u t
+  pub idle : IdleInPlace lines x counts (first_stores header x) (serial_tops lines)
+
+-- a write on the object by the top survives
+abbrev pub Wrote : List Line → ℕ → Top → Type 0
+Wrote lines x t = (c : Call) × Contains (committed_calls lines) c × (writes_on x c ≡ true) × (c.top ≡ t.id)
+
+-- each of two tops that wrote an object had its turn before the one whose commit was called later
+abbrev pub WritersHaveTurns : List Line → Type 0
+WritersHaveTurns lines = (x : ℕ) (u t : Top) → Contains (tops lines) u → Contains (tops lines) t → Wrote lines x u → Wrote lines x t → u.at < t.at → IsInTurn lines u t
 
 -- ---- what servers voted
 

@@ -1,7 +1,16 @@
-// Decided tops of the lock machine.
-ghost use Rattle.std.specs.Prelude.{ℕ};
+// Tops that take turns, in the lock machine and in a journal.
+ghost use Rattle.std.specs.Prelude.{ℕ, List, Bool, reverse};
+ghost use Rattle.arj_journal.specs.declared.body.Line.{Line};
+ghost use Rattle.arj_journal.specs.declared.header.Header.{Header};
+ghost use Rattle.arj_law.specs.Growth.{AreDecidedInOrder};
+ghost use Rattle.arj_line_law.specs.Book.{new_book};
+ghost use Rattle.arj_line_law.specs.Right.{AreRight};
 ghost use Rattle.arj_lock_law.specs.Machine.{Run, start};
 ghost use Rattle.arj_lock_law.specs.State.{State};
+ghost use Rattle.arj_model.specs.Calls.{Top};
+ghost use Rattle.arj_model.specs.Serial.{Values};
+ghost use Rattle.arj_serial_law.specs.Decided.{HaveTurns, WritersHaveTurns};
+ghost use Rattle.arj_serial_law.specs.Tied.{AreTied};
 ghost use Rattle.arj_serial_law.specs.Turns.{TakeTurns};
 
 /// In each state that the lock machine reaches, of two decided tops that used the object, one of which wrote it first, that one
@@ -9,4 +18,17 @@ ghost use Rattle.arj_serial_law.specs.Turns.{TakeTurns};
 /// newly decided had its commit called behind those of all that were decided. It does nothing when it runs.
 pub fn decided_tops_take_turns()
     ensures { (v : ℕ) (s : State) → Run (start v) s → TakeTurns s }
+{}
+
+/// Tops that wrote an object take turns: the unit of each has all its commits called before that of one whose commit was called
+/// later, or they are of one unit. It does nothing when it runs.
+pub fn writers_take_turns()
+    ensures { (values : Values) (lines : List Line) → AreRight new_book lines → AreTied values lines → WritersHaveTurns lines }
+{}
+
+/// Tops that count for an object and had their turns one after another stand in the serial order as their commits were called:
+/// what the order of decisions asks. It does nothing when it runs.
+pub fn turns_give_the_order()
+    ensures { (header : Header) (lines : List Line) (x : ℕ) (counts : Top → Bool) (those : List Top) → AreRight new_book lines → HaveTurns header lines x counts those
+        → AreDecidedInOrder header lines x counts (reverse those) }
 {}
