@@ -13,6 +13,8 @@ mod naming;
 mod servers;
 
 pub use coords::{
-    coordinators_stay_in_order, plans_have_what_is_kept, premises_of_coordinators,
-    requests_want_one_thing,
+    coordinators_stay_in_order, grants_stay_in_order, plans_grant_low, plans_have_what_is_kept,
+    premises_of_coordinators, requests_want_one_thing,
 };
+pub use naming::nested_actions_have_nothing_at_naming;
+pub use servers::copies_are_listed;
