@@ -24,3 +24,4 @@ pub mod CallGoes
 pub mod TickSteps
 pub mod QuerySteps
 pub mod CommitGoes
+pub mod AckSteps

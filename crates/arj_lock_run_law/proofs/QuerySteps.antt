@@ -78,7 +78,7 @@ module _ (c : Case) (s : Spot) (is_seen : IsSeenIn c (world_at s)) where
   -- ---- an abort that is told
 
   -- of an action that has ended here
-  ended_seen : (u : Uid) (b : Branch) → branch_of u C.tree ≡ Some b → is_some b.ended ≡ true → b.kind ≢ kind.Nested → IsToldSo v S u ending.Abort
+  pub ended_seen : (u : Uid) (b : Branch) → branch_of u C.tree ≡ Some b → is_some b.ended ≡ true → b.kind ≢ kind.Nested → IsToldSo v S u ending.Abort
   ended_seen u b found over unnested = by b.kind refl
     where
       place : actor b.path ≡ u
@@ -112,7 +112,7 @@ module _ (c : Case) (s : Spot) (is_seen : IsSeenIn c (world_at s)) where
 
   -- ---- what is told to one node
 
-  told_one : (r : Uid) (ack : Bool) (u : Uid) (e : End) (n : ℕ) → IsToldSo v S u e → IsSendSeen f c.x c.begun k S sent (tell r ack ((u, e) ∷ []) n)
+  pub told_one : (r : Uid) (ack : Bool) (u : Uid) (e : End) (n : ℕ) → IsToldSo v S u e → IsSendSeen f c.x c.begun k S sent (tell r ack ((u, e) ∷ []) n)
   told_one r ack u e n so wide within w g there = ⊎_elim (λ same. subst (λ (z : Uid × End). IsToldSo (view_of f c.x c.begun n) S z.0 z.1) same (at_node n e so)) (λ none. absurd none) (in_from {X = Uid × End} (w, g) ((u, e) ∷ []) there)
     where
       at_node : (n : ℕ) (e : End) → IsToldSo v S u e → IsToldSo (view_of f c.x c.begun n) S u e

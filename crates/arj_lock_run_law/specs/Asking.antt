@@ -4,13 +4,15 @@ use Rattle.arj_protocol.specs.Words.{Uid}
 use Rattle.arj_protocol.specs.Words.kind
 use Rattle.arj_protocol.specs.Asking.{again_all}
 use Rattle.arj_protocol.specs.Effect.{Intent}
-use Rattle.arj_protocol.specs.Ending.{answer_query}
+use Rattle.arj_protocol.specs.Ending.{acked, answer_query}
 use Rattle.arj_protocol.specs.Follow.{tick_outs}
 use Rattle.arj_protocol.specs.Node.{with_coord}
+use Rattle.arj_protocol.specs.Order.{at_uid}
+use Rattle.arj_protocol.specs.Tree.{Branch, branch_of}
 use Rattle.arj_part_law.specs.Actions.{Action, act_of}
 use Rattle.arj_view_law.specs.Walks.{Up, Walks}
 use Rattle.arj_lock_fact_law.specs.Works.{KnowsEnds}
-use Rattle.arj_lock_run_law.specs.Beside.{Case, IsSeenIn, Spot, world_at}
+use Rattle.arj_lock_run_law.specs.Beside.{Case, HoldsNamingIn, IsSeenIn, Spot, world_at}
 use Rattle.arj_lock_run_law.specs.Coordinating.{KnowsAsks, coord_at, records_at}
 use Rattle.arj_lock_run_law.specs.World.{IsSeenSo}
 
@@ -31,3 +33,13 @@ IsAskedAbout c s u = (a : Action) × Contains c.begun a × (act_of a ≡ u) × (
 abbrev pub QueriesGo : Type 0
 QueriesGo = (c : Case) (s : Spot) (e from : ℕ) (u : Uid) → IsSeenIn c (world_at s) → IsAskedAbout c s u
     → Walks (IsSeenSo c) e s.node (answer_query from u (records_at s) (coord_at s)) (Up (IsSeenSo c) s.node s.parts) s.disk s.seen
+
+-- The root of a record is no nested action, where it is known.
+abbrev pub HasWholeRoots : Spot → Uid → Type 0
+HasWholeRoots s u = (i : Intent) (b : Branch) → at_uid u (records_at s) ≡ Some i → branch_of i.root (let q = coord_at s in q.tree) ≡ Some b → b.kind ≢ kind.Nested
+
+-- A node that was told an end acknowledges it. The last one removes the record from the disk; then, where a record of a constituent was the
+-- last to list a node for a serializing action that has ended, the node is told that.
+abbrev pub AcksGo : Type 0
+AcksGo = (c : Case) (s : Spot) (e from : ℕ) (u : Uid) → IsSeenIn c (world_at s) → HoldsNamingIn c s.node (let t = s.parts in t.naming) → HasWholeRoots s u
+    → let D = acked from u (records_at s) (coord_at s) in Walks (IsSeenSo c) e s.node D.outs (Up (IsSeenSo c) s.node (with_coord s.parts D.part)) s.disk s.seen

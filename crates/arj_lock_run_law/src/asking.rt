@@ -1,5 +1,5 @@
-// Coordinators that ask, in the whole world as the lock machine of one object has it.
-ghost use Rattle.arj_lock_run_law.specs.Asking.{QueriesGo, TicksGo};
+// Coordinators that ask, are asked and are acknowledged, in the whole world as the lock machine of one object has it.
+ghost use Rattle.arj_lock_run_law.specs.Asking.{AcksGo, QueriesGo, TicksGo};
 
 /// A node ticks: what waits is asked again, decisions are told again, and holders are asked about. The machine waits, what is sent is
 /// shown, and the object is seen in the whole world. What the coordinator avoids, takes to servers and lists is counted on, and that
@@ -13,4 +13,11 @@ pub fn ticks_go_in_the_world()
 /// isn't nested is counted on. It does nothing when it runs.
 pub fn queries_go_in_the_world()
     ensures { QueriesGo }
+{}
+
+/// A node acknowledges an end that it was told. The machine waits, a stop falls on the record's removal at most, and what is told then is
+/// shown. That the record's root isn't nested is counted on, and that naming has few bindings and a good object. It does nothing when it
+/// runs.
+pub fn acks_go_in_the_world()
+    ensures { AcksGo }
 {}
