@@ -1,26 +1,27 @@
--- What coordinators have of naming's answers is kept by inputs about actions: calls and includes that begin, and aborts.
+-- What coordinators have of naming's answers is kept by inputs about actions: calls and includes that begin, aborts, and giveups that
+-- abort.
 use Rattle.std.proofs.Common.{◌≡◌, ◌⊎◌, ◌+◌, ℕ, ◌==◌, ◌&&◌, ◌||◌, if◌then◌else◌, Bool, true, false, not, List, [], ◌∷◌, ◌++◌, Option, Some, None, refl, sym, ◌∙◌, ap, subst, inl, inr, ⊎_elim, arith, is_some, slice_get, suc}
 use Rattle.std.specs.Prelude.{Contains, unwrap_or}
 use Rattle.std.specs.List.{AllByRecursion, list_all}
 use Rattle.std.proofs.lemmas.Bool.{and_parts}
 use Rattle.arj_lock.proofs.Members as list
 use Rattle.arj_lock.proofs.Members.{in_from}
-use Rattle.arj_protocol.specs.Words.{Binding, Op, Path, Uid, End}
+use Rattle.arj_protocol.specs.Words.{Binding, Op, Path, Uid, End, Cause}
 use Rattle.arj_protocol.specs.Ask.{Reply, actor, top_of}
-use Rattle.arj_protocol.specs.Asking.{call, call_steps, given_away, goes_on, include, known_at_start, last_req, next_req, renewed}
+use Rattle.arj_protocol.specs.Asking.{call, call_steps, commit_action, commit_open, gaveup_lines, give_up, give_up_doing, gives_up, given_away, goes_on, include, known_at_start, last_req, next_req, renewed}
 use Rattle.arj_protocol.specs.Call.{Goal, Include, Known, Run, Steps, next_ask, next_node, start}
-use Rattle.arj_protocol.specs.Coord.{Calling, Committing, Coord, Doing, Keeping, Root, Said, Went, doing_of, is_free, keeping_of, kept_of, no_keeping, no_root, on_doing, on_root, others_call, root_at, said_of, with_keeping, Idle}
-use Rattle.arj_protocol.specs.Effect.{Did, Disk}
+use Rattle.arj_protocol.specs.Coord.{Calling, Committing, Coord, Doing, Keeping, Root, Said, Went, doing_of, is_free, keeping_of, kept_of, no_keeping, no_root, on_doing, on_root, others_call, root_at, said_of, with_keeping, Idle, Now}
+use Rattle.arj_protocol.specs.Effect.{Did, Disk, Effect}
 use Rattle.arj_protocol.specs.Node.{Parts, with_coord}
 use Rattle.arj_protocol.specs.Order.{at_number, put_number, unbound, uid_number}
 use Rattle.arj_protocol.specs.Words.{Header}
-use Rattle.arj_protocol.specs.Step.{Input, acts, branch_named, call_reasons, include_reasons, on_branch, refusal_up, refused_by, abort_reasons, waits_above, waits_below}
+use Rattle.arj_protocol.specs.Step.{Input, acts, branch_named, call_reasons, include_reasons, on_branch, refusal_up, refused_by, abort_reasons, waits_above, waits_below, commit_reasons, sibling_waits, giveup_reasons, waits}
 use Rattle.arj_protocol.specs.Step as input
 use Rattle.arj_protocol.specs.Coord.{number_of}
 use Rattle.arj_view_law.specs.Keeps.{is_act}
 use Rattle.arj_disk_view_law.proofs.WholeWalks.{placed, no_reason}
-use Rattle.arj_disk_run_law.specs.Rest.{IsHeardAt, KeepsHeard}
-use Rattle.arj_protocol.specs.Tree.{Branch, ends_of, is_spent, root_of, uses_object, branch_of, is_committed, ended_so, is_open_below, has_end, at_place, is_below, open_below}
+use Rattle.arj_disk_run_law.specs.Rest.{IsHeardAt, KeepsHeard, commits_on, gives_of, gives_on, goes_past}
+use Rattle.arj_protocol.specs.Tree.{Branch, ends_of, is_spent, root_of, uses_object, branch_of, is_committed, ended_so, is_open_below, has_end, at_place, is_below, open_below, has_open_child}
 use Rattle.arj_protocol.proofs.Maps.{put_same as put_number_same, put_other as put_number_other}
 use Rattle.arj_protocol.proofs.RowSteps.{one_or_two}
 use Rattle.arj_run_law.specs.Worlds.{IsGood}
@@ -35,10 +36,13 @@ use Rattle.arj_names_view_law.specs.Handlers.{MayGoOn, Quietly}
 use Rattle.arj_disk_run_law.specs.Heard.{IsToStep, SeesHeard, SeesStep}
 use Rattle.arj_disk_run_law.specs.Part.{HasHeard, going_of}
 use Rattle.arj_disk_view_law.proofs.ActionAborts.{all_both_lists, latest_all}
-use Rattle.arj_disk_run_law.proofs.HeardAborts.{IsFewer, abort_says, all_fewer, at_fewer}
-use Rattle.arj_disk_run_law.proofs.HeardPosts.{SaysHeard}
-use Rattle.arj_protocol.specs.Ending.{abort_action}
+use Rattle.arj_disk_run_law.proofs.HeardAborts.{IsFewer, abort_says, all_fewer, at_fewer, ended_fewer, fewer_none, says_say, tolds_of_say}
+use Rattle.arj_disk_run_law.proofs.HeardPosts.{SaysHeard, all_flat, all_join}
+use Rattle.arj_protocol.specs.Ending.{abort_action, aborts_with, ended, says, tolds_of}
 use Rattle.arj_protocol.specs.Words.ending
+use Rattle.arj_protocol.specs.Words.body
+use Rattle.arj_protocol.specs.Words.cause
+use Rattle.arj_protocol.specs.Commit.{Confirming, Preparing, Voting, first_of}
 use Rattle.arj_disk_run_law.proofs.HeardCalls.{IsCalled, KeepsOrNone, at_called, fresh, goes_called, keeps_to, root_put}
 use Rattle.arj_disk_run_law.proofs.HeardCoord.{mine, quiet_step}
 use Rattle.arj_disk_run_law.proofs.HeardMessage.{old_goes_on}
@@ -212,6 +216,36 @@ module _ (x : ℕ) (tops : Kinds) (e k : ℕ) (d : Disk) (t : Parts) (M : Seen) 
           let there : branch_of w t.coord.tree ≡ Some z = ap (λ c. if c then at_place (suc j) t.coord.tree.branches else None) (λ i. test_same t.coord.tree.node i && test_same t.coord.tree.inc i) ∙ is in
           subst (λ v. is_committed v t.coord.tree ≡ false) (sym (let c = knows.coord in c.path w z there)) (not_committed w z there (unended_of z.ended (and_parts (is_below u z) (not (is_some z.ended)) on).1))
 
+  -- one action is aborted, with lines before
+  heard_aborted : (u : Uid) (why : Cause) (b : Branch) (ns : List ℕ) → branch_of u t.coord.tree ≡ Some b → b.ended ≡ None → Heard_by (record { part = (aborts_with u why d.intents t.coord).part; outs = gaveup_lines u ns t.coord ++ (aborts_with u why d.intents t.coord).outs })
+  heard_aborted u why b ns found unended = acts_fewer (record { part = (aborts_with u why d.intents t.coord).part; outs = gaveup_lines u ns t.coord ++ (aborts_with u why d.intents t.coord).outs }) (ended_fewer t.coord u (not_committed u b found unended))
+      (all_join Q (gaveup_lines u ns t.coord) (aborts_with u why d.intents t.coord).outs (all_flat Q (λ n. says u (λ l. body.GaveUp l n) t.coord) ns (λ n. says_say x d.inc A u (λ l. body.GaveUp l n) t.coord))
+      (all_join Q (says u (λ l. body.Aborted l why) t.coord) (tolds_of d.intents (ended u ending.Abort t.coord) u) (says_say x d.inc A u (λ l. body.Aborted l why) t.coord) (tolds_of_say x d.inc A d.intents (ended u ending.Abort t.coord) u)))
+    where
+      Q : Effect → Type 0
+      Q f = SaysHeard x d.inc A f
+
+  -- where nothing waits there is nothing to give up, and in a vote or at naming it is the action's abort
+  heard_gives : (u : Uid) (b : Branch) → branch_of u t.coord.tree ≡ Some b → b.ended ≡ None → (gives_on (doing_of u t.coord) ≡ true → Heard_by (give_up u d.intents t.coord)) → Heard_by (give_up u d.intents t.coord)
+  heard_gives u b found unended other = by (doing_of u t.coord) refl
+    where
+      none : Heard_by (record { part = t.coord; outs = [] })
+      none = acts_fewer (record { part = t.coord; outs = [] }) (fewer_none t.coord) tt
+
+      past : (q : Doing) (now : Now) → doing_of u t.coord ≡ Some q → q.now ≡ now → goes_past now ≡ true → Heard_by (gives_up u d.intents t.coord now)
+      past q now does is on = subst (λ n. Heard_by (gives_up u d.intents t.coord n)) is (subst (λ o. Heard_by (give_up_doing u d.intents t.coord o)) does (other (ap gives_on does ∙ (ap goes_past is ∙ on))))
+
+      by_now : (q : Doing) (now : Now) → doing_of u t.coord ≡ Some q → q.now ≡ now → Heard_by (gives_up u d.intents t.coord now)
+      by_now q Idle does is = none
+      by_now q (Calling s) does is = past q (Calling s) does is refl
+      by_now q (Committing (Voting p left)) does is = heard_aborted u (cause.Lost (first_of left)) b (first_of left ∷ []) found unended
+      by_now q (Committing (Preparing p left)) does is = past q (Committing (Preparing p left)) does is refl
+      by_now q (Committing (Confirming p)) does is = heard_aborted u (cause.Lost 1) b (1 ∷ []) found unended
+
+      by : (o : Option Doing) → doing_of u t.coord ≡ o → Heard_by (give_up u d.intents t.coord)
+      by None is = subst (λ o. Heard_by (give_up_doing u d.intents t.coord o)) (sym is) none
+      by (Some q) is = subst (λ o. Heard_by (give_up_doing u d.intents t.coord o)) (sym is) (by_now q q.now is refl)
+
   -- it begins, of the action of a label
   pub heard_starts : (hd : Header) (R : Seen → Type 0) → KeepsHeard hd x R → IsHeardAt x R tops A (k, d, t) M → (i : Input) → is_act i ≡ true → refusal_up hd i t.coord ≡ None → Heard_by (acts i d.intents t.coord)
   heard_starts hd R rest at (input.Call l y op) act free = by (branch_named l t.coord) refl free
@@ -224,7 +258,19 @@ module _ (x : ℕ) (tops : Kinds) (e k : ℕ) (d : Disk) (t : Parts) (M : Seen) 
       by : (o : Option Branch) → branch_named l t.coord ≡ o → refused_by (include_reasons hd y) t.coord o ≡ None → Heard_by (on_branch (λ b. include b.path y s t.coord) t.coord o)
       by None is none = absurd (cc none)
       by (Some b) is none = let w = (let c = knows.coord in c.at_work (actor b.path) b (placed hd x tops e k d t M knows.kinds knows.coord A.world both.disks (number_of l t.coord) b is)) in heard_include b.path y s w.0 w.1
-  heard_starts hd R rest at (input.Commit l) act free = rest.act tops e k d t (input.Commit l) M A at refl free
+  heard_starts hd R rest at (input.Commit l) act free = by (branch_named l t.coord) refl free
+    where
+      by : (o : Option Branch) → branch_named l t.coord ≡ o → refused_by commit_reasons t.coord o ≡ None → Heard_by (on_branch (λ b. commit_action b d.intents t.coord) t.coord o)
+      by None is none = absurd (cc none)
+      by (Some b) is none = doomed b.doomed refl
+        where
+          one : is_some b.ended ≡ false
+          one = (no_reason 6 (is_some b.ended) ((7, waits_above b t.coord || waits_below b t.coord || sibling_waits b t.coord) ∷ (9, has_open_child (actor b.path) t.coord.tree) ∷ []) none).0
+
+          doomed : (z : Bool) → b.doomed ≡ z → Heard_by (commit_action b d.intents t.coord)
+          doomed true on = subst (λ y. Heard_by (if y then aborts_with (actor b.path) cause.Doomed d.intents t.coord else commit_open b d.intents t.coord b.kind)) (sym on)
+              (heard_aborted (actor b.path) cause.Doomed b [] (placed hd x tops e k d t M knows.kinds knows.coord A.world both.disks (number_of l t.coord) b is) (none_so b.ended one))
+          doomed false off = subst (λ o. Heard_by (on_branch (λ y. commit_action y d.intents t.coord) t.coord o)) is (rest.act tops e k d t (input.Commit l) M A at (ap commits_on is ∙ ap not off) free)
   heard_starts hd R rest at (input.Abort l) act free = by (branch_named l t.coord) refl free
     where
       by : (o : Option Branch) → branch_named l t.coord ≡ o → refused_by abort_reasons t.coord o ≡ None → Heard_by (on_branch (λ b. abort_action (actor b.path) d.intents t.coord) t.coord o)
@@ -232,7 +278,14 @@ module _ (x : ℕ) (tops : Kinds) (e k : ℕ) (d : Disk) (t : Parts) (M : Seen) 
       by (Some b) is none =
           let one = no_reason 6 (is_some b.ended) ((7, waits_above b t.coord || waits_below b t.coord) ∷ []) none in
           heard_abort (actor b.path) b (placed hd x tops e k d t M knows.kinds knows.coord A.world both.disks (number_of l t.coord) b is) (none_so b.ended one.0)
-  heard_starts hd R rest at (input.GiveUp l) act free = rest.act tops e k d t (input.GiveUp l) M A at refl free
+  heard_starts hd R rest at (input.GiveUp l) act free = by (branch_named l t.coord) refl free
+    where
+      by : (o : Option Branch) → branch_named l t.coord ≡ o → refused_by giveup_reasons t.coord o ≡ None → Heard_by (on_branch (λ b. give_up (actor b.path) d.intents t.coord) t.coord o)
+      by None is none = absurd (cc none)
+      by (Some b) is none =
+          let one = no_reason 6 (is_some b.ended) ((8, not (waits t.coord (actor b.path))) ∷ []) none in
+          heard_gives (actor b.path) b (placed hd x tops e k d t M knows.kinds knows.coord A.world both.disks (number_of l t.coord) b is) (none_so b.ended one.0)
+          (λ on. subst (λ o. Heard_by (on_branch (λ y. give_up (actor y.path) d.intents t.coord) t.coord o)) is (rest.act tops e k d t (input.GiveUp l) M A at (ap (gives_of t.coord) is ∙ on) free))
   heard_starts hd R rest at (input.Begin l how parent) act free = absurd (cc act)
   heard_starts hd R rest at (input.Frame n from m) act free = absurd (cc act)
   heard_starts hd R rest at input.Tick act free = absurd (cc act)

@@ -1,15 +1,18 @@
--- What is still taken of what coordinators have of naming's answers: that it is kept by answers that are taken and by inputs about
--- actions, and gives what commits count on; and what naming counts on beside what messages claim.
-use Rattle.std.specs.Prelude.{◌≡◌, ℕ, Bool, true, false, List, Some, None}
+-- What is still taken of what coordinators have of naming's answers: that it is kept by answers that are taken, by commits, and by
+-- giveups but for those that abort, and gives what commits count on; and what naming counts on beside what messages claim.
+use Rattle.std.specs.Prelude.{◌≡◌, ℕ, Bool, true, false, not, List, Option, Some, None}
 use Rattle.arj_protocol.specs.Words.{Asked, Binding, Head, Header, Message, asks}
 use Rattle.arj_protocol.specs.Words.ask
-use Rattle.arj_protocol.specs.Ask.{Reply, answers, top_of}
+use Rattle.arj_protocol.specs.Ask.{Reply, actor, answers, top_of}
+use Rattle.arj_protocol.specs.Commit.{Preparing}
+use Rattle.arj_protocol.specs.Coord.{Calling, Committing, Coord, Doing, Now, doing_of}
+use Rattle.arj_protocol.specs.Tree.{Branch}
 use Rattle.arj_protocol.specs.Confirm.{Grants, Marks}
 use Rattle.arj_protocol.specs.Effect.{Disk, Effect}
 use Rattle.arj_protocol.specs.Naming.{Naming}
 use Rattle.arj_protocol.specs.Node.{Parts, Took, handle, is_meant}
 use Rattle.arj_protocol.specs.Order.{uid_number}
-use Rattle.arj_protocol.specs.Step.{Input, acts, refusal_up}
+use Rattle.arj_protocol.specs.Step.{Input, acts, branch_named, refusal_up}
 use Rattle.arj_protocol.specs.Step as input
 use Rattle.arj_disk_law.specs.Effects.{IsNot}
 use Rattle.arj_disk_law.specs.Names.{Office}
@@ -41,17 +44,37 @@ pub record GivesNaming (x : ℕ) (R : Seen → Type 0) : Type 0 where
   pub next : (tops : Kinds) (k : ℕ) (d : Disk) (t : Parts) (n : Naming) (from : ℕ) (m : Message) (h : Head) (grants : Grants) (excluded included : Marks) (M : Seen) (A : Office) → IsHeardAt x R tops A (k, d, t) M → In (record { from = from; to = k; message = m }) M.sent → t.naming ≡ Some n → asks m ≡ Some (h, ask.Confirm grants excluded included)
       → IsNewConfirm h.path grants excluded included d.names n → IsNext A.world.disk (uid_number (top_of h.path))
 
--- an action commits, or gives up
-abbrev pub is_deciding : Input → Bool
-is_deciding (input.Commit l) = true
-is_deciding (input.GiveUp l) = true
-is_deciding _ = false
+-- a call under way, or a commit whose states are being prepared
+abbrev pub goes_past : Now → Bool
+goes_past (Calling s) = true
+goes_past (Committing (Preparing p left)) = true
+goes_past _ = false
 
--- It is kept by an answer that a coordinator takes, and by an input by which an action commits, or gives up; and each commit
+-- a giveup that isn't the action's abort
+abbrev pub gives_on : Option Doing → Bool
+gives_on None = false
+gives_on (Some q) = goes_past q.now
+
+abbrev pub gives_of : Coord → Option Branch → Bool
+gives_of c None = false
+gives_of c (Some b) = gives_on (doing_of (actor b.path) c)
+
+abbrev pub commits_on : Option Branch → Bool
+commits_on None = false
+commits_on (Some b) = not b.doomed
+
+-- an action that isn't doomed commits, or one gives up a call or its Prepare
+abbrev pub is_deciding : Input → Coord → Bool
+is_deciding (input.Commit l) c = commits_on (branch_named l c)
+is_deciding (input.GiveUp l) c = gives_of c (branch_named l c)
+is_deciding _ c = false
+
+-- It is kept by an answer that a coordinator takes, and by an input by which an action commits that isn't doomed, or gives up
+-- a call or its Prepare; and each commit
 -- that is past its votes then may begin.
 pub record KeepsHeard (hd : Header) (x : ℕ) (R : Seen → Type 0) : Type 0 where
   pub naming : GivesNaming x R
   pub answer : (tops : Kinds) (e k : ℕ) (d : Disk) (t v : Parts) (from : ℕ) (m : Message) (a : Asked) (r : Reply) (outs : List Effect) (M : Seen) (A : Office) → IsHeardAt x R tops A (k, d, t) M → In (record { from = from; to = k; message = m }) M.sent → answers m ≡ Some (a, r) → is_meant t m ≡ true → handle k d t from m ≡ Took v outs
       → (h : HasHeard (SeesHeard x) x tops (change_by x d t m) A (record { event = e; node = k; disk = d; before = t; outs = outs; after = v }, M)) × MayGoOn x h.office v.coord
-  pub act : (tops : Kinds) (e k : ℕ) (d : Disk) (t : Parts) (i : Input) (M : Seen) (A : Office) → IsHeardAt x R tops A (k, d, t) M → is_deciding i ≡ true → refusal_up hd i t.coord ≡ None
+  pub act : (tops : Kinds) (e k : ℕ) (d : Disk) (t : Parts) (i : Input) (M : Seen) (A : Office) → IsHeardAt x R tops A (k, d, t) M → is_deciding i t.coord ≡ true → refusal_up hd i t.coord ≡ None
       → (h : HasHeard (SeesHeard x) x tops Quietly A (going_of e k d t (acts i d.intents t.coord), M)) × MayGoOn x h.office (let did = acts i d.intents t.coord in did.part)
