@@ -31,12 +31,12 @@ use Rattle.arj_lock_view_law.specs.Commits.{HasVoted, IsCommitting, IsVoteOf, On
 use Rattle.arj_lock_view_law.specs.Copies.{OnlyEnds, SeesCopy}
 use Rattle.arj_lock_view_law.specs.Going.{Goes, IsServedBy}
 use Rattle.arj_lock_view_law.specs.Servers.{SeesObject, last_of}
-use Rattle.arj_lock_view_law.specs.Serving.{HasVotedHere, IsShown, IsVotedBy, ListsEach, VotesAreTaken}
+use Rattle.arj_lock_view_law.specs.Serving.{HasVotedHere, IsShown, IsVotedBy, ListsEach, VotesAreTaken, HaveOne}
 use Rattle.arj_lock_view_law.specs.Telling.{AreBrought, IsOfFamily, Sees, View}
 use Rattle.arj_lock_view_law.proofs.BindSteps.{other_act}
 use Rattle.arj_lock_view_law.proofs.LeftSteps.{ends_sent, shows_later}
 use Rattle.arj_lock_view_law.proofs.RunSteps.{goes_along, goes_to}
-use Rattle.arj_lock_view_law.proofs.StateSteps.{ends_list, voted_state}
+use Rattle.arj_lock_view_law.proofs.StateSteps.{ends_list, voted_once, voted_state}
 use Rattle.arj_lock_view_law.proofs.ToldSteps.{brought_go, copy_told, family_told, told_of, turn_of}
 use Rattle.arj_lock_view_law.proofs.VoteSteps.{votes_are_seen}
 
@@ -129,7 +129,7 @@ module _ (v : View) (h : Head) (i : ℕ) (ties : List (ℕ × Binding)) (ends : 
   t = let d = apply_ends n ends s in d.part
 
   abbrev Votes : Served Server VotedReply → Type 0
-  Votes r = Goes S (λ T. Sees v r.part T × OnlyVote n (act u) S T × ((b : Binding) (states : List ObjectState) → Contains {X = ℕ × Binding} ties (v.x, b) → r.reply ≡ Some (voted.Yes states) → HasVotedHere v u b r.part S T × IsVotedBy v u b states T))
+  Votes r = Goes S (λ T. Sees v r.part T × OnlyVote n (act u) S T × ((b : Binding) (states : List ObjectState) → Contains {X = ℕ × Binding} ties (v.x, b) → r.reply ≡ Some (voted.Yes states) → HasVotedHere v u b r.part S T × IsVotedBy v u b states T × HaveOne v.x states))
 
   brought : AreBrought v ends s S
   brought = record { whole = shown.whole; server = shown.server; ordered = shown.fits.2; shown = shown.shown }
@@ -178,7 +178,7 @@ module _ (v : View) (h : Head) (i : ℕ) (ties : List (ℕ × Binding)) (ends : 
     yes_part = record { part = bound_server; outs = (let d = apply_ends n ends s in d.outs); reply = Some (voted.Yes (changed_states u t)) }
 
     abbrev Yes : State → State → Type 0
-    Yes T V = Sees v bound_server V × OnlyVote n (act u) T V × ((b : Binding) → Contains {X = ℕ × Binding} ties (v.x, b) → HasVotedHere v u b bound_server S V × IsVotedBy v u b (changed_states u t) V)
+    Yes T V = Sees v bound_server V × OnlyVote n (act u) T V × ((b : Binding) → Contains {X = ℕ × Binding} ties (v.x, b) → HasVotedHere v u b bound_server S V × IsVotedBy v u b (changed_states u t) V × HaveOne v.x (changed_states u t))
 
     -- the object is tied to a binding, which its copy has
     module _ (b : Binding) (j : list.In {X = ℕ × Binding} (v.x, b) ties) (T : State) (run : Run S T) (k : Sees v t T) (only : OnlyEnds n S T) where
@@ -213,12 +213,12 @@ module _ (v : View) (h : Head) (i : ℕ) (ties : List (ℕ × Binding)) (ends : 
             voted_too T V k (subst (λ (z : Option Copy). SeesObject act v.code v.x t.inc z (V.server n) V) (sym there) (g.0, sent_later T V g.1 (machine.Activated (binding_number c.binding) t.inc) has_copy.1)) g.1 keeps.incarnation keeps.request
                 (λ w other. ap (λ (z : Act → Bool). z (act w)) keeps.voted ∙ act_other (let m = T.server n in m.voted) (act u) true (act w) (other_act act (let l = shown.whole in let e = l.alike in e.one) w u other)),
             g.1,
-            (λ d l. (let is = number_of d (in_from {X = ℕ × Binding} (v.x, d) ties l) in (record { copy = c; there = there; bound = is; voted = subst (λ (z : ℕ). HasVoted n (act u) z (ballot_for act v.code u c) S V) (sym is) (voted_after n (act u) (binding_number c.binding) (ballot_for act v.code u c) S T V only g.3) }, record { copy = c; vote = subst (λ (z : ℕ). IsVoteOf (act u) z (ballot_for act v.code u c) V) (sym is) g.4; state = voted_state u t v.x c (ends_list n ends s lists) there }))),
+            (λ d l. (let is = number_of d (in_from {X = ℕ × Binding} (v.x, d) ties l) in (record { copy = c; there = there; bound = is; voted = subst (λ (z : ℕ). HasVoted n (act u) z (ballot_for act v.code u c) S V) (sym is) (voted_after n (act u) (binding_number c.binding) (ballot_for act v.code u c) S T V only g.3) }, record { copy = c; vote = subst (λ (z : ℕ). IsVoteOf (act u) z (ballot_for act v.code u c) V) (sym is) g.4; state = voted_state u t v.x c (ends_list n ends s lists) there }, voted_once u t v.x c (ends_list n ends s lists) there))),
           )))
 
     votes_yes : Votes yes_part
     votes_yes = goes_along (brought_go v ends s S brought sees) (λ T run g. ⊎_elim
-        (λ (some : (b : Binding) × list.In {X = ℕ × Binding} (v.x, b) ties). goes_to (tied_votes some.0 some.1 T run g.0 g.1) (λ V y. (y.0, vote_after g.1 y.1, λ b states l is. (let given : voted.Yes (changed_states u t) ≡ voted.Yes states = cc is in let same : changed_states u t ≡ states = cc given in let h = y.2 b l in (h.0, subst (λ z. IsVotedBy v u b z V) same h.1)))))
+        (λ (some : (b : Binding) × list.In {X = ℕ × Binding} (v.x, b) ties). goes_to (tied_votes some.0 some.1 T run g.0 g.1) (λ V y. (y.0, vote_after g.1 y.1, λ b states l is. (let given : voted.Yes (changed_states u t) ≡ voted.Yes states = cc is in let same : changed_states u t ≡ states = cc given in let h = y.2 b l in (h.0, subst (λ z. IsVotedBy v u b z V) same h.1, subst (HaveOne v.x) same h.2)))))
         (λ (none : (b : Binding) → list.In {X = ℕ × Binding} (v.x, b) ties → ⊥). record {
           state = T;
           run = stay;

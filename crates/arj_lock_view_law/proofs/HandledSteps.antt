@@ -35,7 +35,7 @@ use Rattle.arj_lock_view_law.specs.Copies.{OnlyServer}
 use Rattle.arj_lock_view_law.specs.Going.{Goes}
 use Rattle.arj_lock_view_law.specs.Handling.{AreAnswersShown, IsAskingShown, IsMessageShown, IsTellingShown, MessagesAreTaken, OnlyServing, ShowsReply, is_for_server, is_vote_for, server_after}
 use Rattle.arj_lock_view_law.specs.Servers.{ShowsIfInvoked}
-use Rattle.arj_lock_view_law.specs.Serving.{IsShown, IsVotedBy, ListsEach, ShowsActivated}
+use Rattle.arj_lock_view_law.specs.Serving.{IsShown, IsVotedBy, ListsEach, ShowsActivated, HaveOne}
 use Rattle.arj_lock_view_law.specs.Telling.{AreBrought, Sees, View}
 use Rattle.arj_lock_view_law.proofs.GivenSteps.{votes_are_taken}
 use Rattle.arj_lock_view_law.proofs.LeftSteps.{only_server}
@@ -243,10 +243,10 @@ module _ (v : View) (d : Disk) (t : Parts) (from : ℕ) (m : Message) (S : State
       seen_after h (voted_by i ties ends).part (voted_by i ties ends).outs (option_map Reply.Voted (voted_by i ties ends).reply) T (λ none. void_vote n h i ties ends t.server (no_reply Reply.Voted (voted_by i ties ends).reply none)) g.0,
       serving_vote v m (actor h.path) S T its g.1,
       answers_go h (ask.Vote i ties ends) T (with_server t (voted_by i ties ends).part) (voted_by i ties ends).outs (option_map Reply.Voted (voted_by i ties ends).reply) (vote_own n h.path i ties ends t.server) (λ a is.
-          (let f = some_reply Reply.Voted (voted_by i ties ends).reply a is in subst (ShowsReply v h (ask.Vote i ties ends) T) f.2 (vote_shown T f.0 (λ b states tied yes. (let k = g.2 b states tied (f.1 ∙ yes) in let k0 = k.0 in let w = k0.voted in (w.yes, k.1)))))),
+          (let f = some_reply Reply.Voted (voted_by i ties ends).reply a is in subst (ShowsReply v h (ask.Vote i ties ends) T) f.2 (vote_shown T f.0 (λ b states tied yes. (let k = g.2 b states tied (f.1 ∙ yes) in let k0 = k.0 in let w = k0.voted in (w.yes, k.1, k.2)))))),
     ))
       where
-        vote_shown : (T : State) (r : VotedReply) → ((b : Binding) (states : List ObjectState) → Contains {X = ℕ × Binding} ties (v.x, b) → Some r ≡ Some (voted.Yes states) → (binding_number b ≤ T.yes (v.family.act (actor h.path))) × IsVotedBy v (actor h.path) b states T) → ShowsReply v h (ask.Vote i ties ends) T (Reply.Voted r)
+        vote_shown : (T : State) (r : VotedReply) → ((b : Binding) (states : List ObjectState) → Contains {X = ℕ × Binding} ties (v.x, b) → Some r ≡ Some (voted.Yes states) → (binding_number b ≤ T.yes (v.family.act (actor h.path))) × IsVotedBy v (actor h.path) b states T × HaveOne v.x states) → ShowsReply v h (ask.Vote i ties ends) T (Reply.Voted r)
         vote_shown T (voted.Yes states) shows = λ b tied. shows b states tied refl
         vote_shown T (voted.Changed w) shows = tt
 

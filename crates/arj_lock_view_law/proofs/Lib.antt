@@ -56,4 +56,5 @@ pub mod TopInputSteps
 pub mod TreeSteps
 pub mod UndoSteps
 pub mod VoteSteps
+pub mod VotedSteps
 pub mod WholeSteps

@@ -49,7 +49,7 @@ with_one k n (l ∷ ls) i = by (nat_cmp n l) refl i (λ j. with_one k n ls j)
     by Greater e (inr (inl is)) rest = inl is
     by Greater e (inr (inr old)) rest = inr (rest (inr old))
 
-in_set_of : (k : ℕ) (ks : List ℕ) → list.In k ks → list.In k (number_set ks)
+pub in_set_of : (k : ℕ) (ks : List ℕ) → list.In k ks → list.In k (number_set ks)
 in_set_of k [] i = absurd i
 in_set_of k (l ∷ ls) (inl is) = with_one k l (number_set ls) (inl is)
 in_set_of k (l ∷ ls) (inr i) = with_one k l (number_set ls) (inr (in_set_of k ls i))

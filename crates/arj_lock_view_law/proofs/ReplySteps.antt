@@ -30,7 +30,7 @@ voted_later v u b states S T run h = let o = h.vote in record { copy = h.copy; v
 replies_later : (v : View) (h : Head) (a : Ask) (r : Reply) (S T : State) → Run S T → Ever S T → ShowsReply v h a S r → ShowsReply v h a T r
 replies_later v h (ask.Activate b st) (Reply.Activated i) S T run later shows = λ about. later.sent (machine.Activated (binding_number b) i) (shows about)
 replies_later v h (ask.Invoke y b i ends o) (Reply.Invoked r) S T run later shows = λ about. shows_later v.family.act v.code (actor h.path) h.req (record { binding = b; op = o }) S T later.sent r (shows about)
-replies_later v h (ask.Vote i ties ends) (Reply.Voted (voted.Yes states)) S T run later shows = λ b tied. (let given = (shows b tied).0 in let more = later.yes (v.family.act (actor h.path)) in omega (arith, given, more), voted_later v (actor h.path) b states S T run (shows b tied).1)
+replies_later v h (ask.Vote i ties ends) (Reply.Voted (voted.Yes states)) S T run later shows = λ b tied. (let given = (shows b tied).0 in let more = later.yes (v.family.act (actor h.path)) in omega (arith, given, more), voted_later v (actor h.path) b states S T run (shows b tied).1, (shows b tied).2)
 replies_later v h (ask.Vote i ties ends) (Reply.Voted (voted.Changed w)) S T run later shows = tt
 replies_later v h (ask.Vote i ties ends) (Reply.Bound r) S T run later shows = tt
 replies_later v h (ask.Vote i ties ends) (Reply.Loaded r) S T run later shows = tt
@@ -73,7 +73,7 @@ invokes_are_answered v s o k i ends (invoked.Conflict h m) T about shows = shows
 invokes_are_answered v s o k i ends (invoked.Changed w) T about shows = shows about
 
 -- an object that was called at the server is tied
-tied_in : (from : ℕ) (q : Used) (us : List Used) → list.In q us → is_at_server from q ≡ true → list.In {X = ℕ × Binding} (q.x, q.binding) (map {A = Used} {B = ℕ × Binding} (λ u. (u.x, u.binding)) (filter (is_at_server from) us))
+pub tied_in : (from : ℕ) (q : Used) (us : List Used) → list.In q us → is_at_server from q ≡ true → list.In {X = ℕ × Binding} (q.x, q.binding) (map {A = Used} {B = ℕ × Binding} (λ u. (u.x, u.binding)) (filter (is_at_server from) us))
 tied_in from q [] i at = absurd i
 tied_in from q (u ∷ us) (inl same) at = subst (λ (b : Bool). list.In {X = ℕ × Binding} (q.x, q.binding) (map {A = Used} {B = ℕ × Binding} (λ w. (w.x, w.binding)) (cond b (u ∷ filter (is_at_server from) us) (filter (is_at_server from) us)))) (sym (ap (is_at_server from) same ∙ at)) (inl (ap {B = ℕ × Binding} (λ (w : Used). (w.x, w.binding)) same))
 tied_in from q (u ∷ us) (inr i) at = by (is_at_server from u) (tied_in from q us i at)

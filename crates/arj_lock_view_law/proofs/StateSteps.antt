@@ -1,17 +1,17 @@
 -- The states that a server votes, by its copies.
-use Rattle.std.proofs.Common.{◌≡◌, ◌≢◌, ◌∙◌, ◌==◌, ℕ, List, [], ◌∷◌, Bool, true, false, cond, Option, Some, None, refl, sym, ap, inl, inr, Contains, eqb-true, arith}
+use Rattle.std.proofs.Common.{◌≡◌, ◌≢◌, ◌∙◌, ◌==◌, ℕ, List, [], ◌∷◌, Bool, true, false, cond, Option, Some, None, refl, sym, ap, inl, inr, Contains, eqb-true, arith, subst}
 use Rattle.std.specs.Prelude.{filter_map, find, option_map}
 use Rattle.std.specs.List.{cons_option}
 use Rattle.arj_base.proofs.Uids.{uid_other, uid_same}
 use Rattle.arj_lock.proofs.Members as list
-use Rattle.arj_lock.proofs.Members.{in_from, in_to}
+use Rattle.arj_lock.proofs.Members.{in_from, in_to, in_filter_map}
 use Rattle.arj_protocol.specs.Words.{End, ObjectState, Uid, class_of, object, payload_of, uid_eq}
 use Rattle.arj_protocol.specs.Copy.{Copy, Over, changed_state, end_copy, over_of}
 use Rattle.arj_protocol.specs.Effect.{Did, did_nothing}
 use Rattle.arj_protocol.specs.Order.{at_number, each, next_version}
 use Rattle.arj_protocol.specs.Server.{Server, apply_ends, changed_states, end_new, end_one, is_told, taken_end}
 use Rattle.arj_part_law.proofs.Pairs.{each_at, number_in}
-use Rattle.arj_lock_view_law.specs.Serving.{ListsEach, state_in}
+use Rattle.arj_lock_view_law.specs.Serving.{ListsEach, state_in, HaveOne}
 
 -- ---- one state for each copy
 
@@ -102,3 +102,15 @@ ends_list n (e ∷ es) s lists = ends_list n es (let d = end_one n e.0 e.1 s in 
 -- what a server that lists each copy votes of the object is what the top left in its copy
 pub voted_state : (u : Uid) (s : Server) (x : ℕ) (c : Copy) → ListsEach s → at_number x s.objects ≡ Some c → state_in x (changed_states u s) ≡ changed_state u x c
 voted_state u s x c lists there = states_at u x c s.objects (λ o j. (let two : ◌≡◌ {A = Option Copy} (Some o) (Some c) = sym (lists x o (in_to {X = ℕ × Copy} (x, o) s.objects j)) ∙ there in cc two)) (number_in x s.objects c there)
+
+-- and it votes no other state of it
+pub voted_once : (u : Uid) (s : Server) (x : ℕ) (c : Copy) → ListsEach s → at_number x s.objects ≡ Some c → HaveOne x (changed_states u s)
+voted_once u s x c lists there a b ia ib ua ub = (let two : ◌≡◌ {A = Option ObjectState} (Some a) (Some b) = sym (of a ia ua) ∙ of b ib ub in cc two)
+  where
+    of : (st : ObjectState) → Contains (changed_states u s) st → st.uid ≡ object x → changed_state u x c ≡ Some st
+    of st i uid =
+        let f = in_filter_map (λ (e : ℕ × Copy). changed_state u e.0 e.1) st s.objects (in_from st (changed_states u s) i) in
+        let here : (f.0).0 ≡ x = ap (λ (w : Uid). w.num) (sym (state_uid u (f.0).0 (f.0).1 st f.2) ∙ uid) in
+        let its : at_number x s.objects ≡ Some (f.0).1 = subst (λ (k : ℕ). at_number k s.objects ≡ Some (f.0).1) here (lists (f.0).0 (f.0).1 (in_to {X = ℕ × Copy} f.0 s.objects f.1)) in
+        let same : (f.0).1 ≡ c = (let two : ◌≡◌ {A = Option Copy} (Some (f.0).1) (Some c) = sym its ∙ there in cc two) in
+        (λ i. changed_state u (sym here i) (sym same i)) ∙ f.2

@@ -15,7 +15,7 @@ use Rattle.arj_lock_law.specs.State.{State}
 use Rattle.arj_part_law.specs.Frames.{outs_of}
 use Rattle.arj_lock_view_law.specs.Going.{Goes}
 use Rattle.arj_lock_view_law.specs.Servers.{ShowsInvoked}
-use Rattle.arj_lock_view_law.specs.Serving.{IsShown, IsVotedBy, ListsEach}
+use Rattle.arj_lock_view_law.specs.Serving.{IsShown, IsVotedBy, ListsEach, HaveOne}
 use Rattle.arj_lock_view_law.specs.Telling.{AreBrought, Sees, View}
 use Rattle.arj_lock_view_law.specs.Calling.{IsReached}
 
@@ -42,7 +42,7 @@ IsMessageShown v s S m = IsAskingShown v s S m (asks m)
 abbrev pub ShowsReply : View → Head → Ask → State → Reply → Type 0
 ShowsReply v h (ask.Activate b st) T (Reply.Activated i) = (let u = st.uid in u.num) ≡ v.x → In (machine.Activated (binding_number b) i) T.net
 ShowsReply v h (ask.Invoke y b i ends o) T (Reply.Invoked r) = y ≡ v.x → ShowsInvoked v.family.act v.code (actor h.path) h.req (record { binding = b; op = o }) T r
-ShowsReply v h (ask.Vote i ties ends) T (Reply.Voted (voted.Yes states)) = (b : Binding) → Contains {X = ℕ × Binding} ties (v.x, b) → (binding_number b ≤ T.yes (v.family.act (actor h.path))) × IsVotedBy v (actor h.path) b states T
+ShowsReply v h (ask.Vote i ties ends) T (Reply.Voted (voted.Yes states)) = (b : Binding) → Contains {X = ℕ × Binding} ties (v.x, b) → (binding_number b ≤ T.yes (v.family.act (actor h.path))) × IsVotedBy v (actor h.path) b states T × HaveOne v.x states
 ShowsReply v h a T r = ⊤
 
 -- a request that is for the server

@@ -11,6 +11,7 @@ pub mod Copies
 pub mod Commits
 pub mod Roots
 pub mod Calling
+pub mod Voted
 pub mod Whole
 pub mod Asks
 pub mod Begins

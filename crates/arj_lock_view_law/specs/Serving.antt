@@ -99,6 +99,10 @@ ListsEach s = (y : ℕ) (o : Copy) → Contains {X = ℕ × Copy} s.objects (y, 
 abbrev pub state_in : ℕ → List ObjectState → Option ObjectState
 state_in x states = find (λ (s : ObjectState). uid_eq s.uid (object x)) states
 
+-- among these the object has one state at most
+abbrev pub HaveOne : ℕ → List ObjectState → Type 0
+HaveOne x states = (s t : ObjectState) → Contains states s → Contains states t → s.uid ≡ object x → t.uid ≡ object x → s ≡ t
+
 -- a Yes: under which binding, and with which states
 pub record Yes : Type 0 where
   pub binding : Binding
@@ -126,4 +130,4 @@ abbrev pub VotesAreTaken : Type 0
 VotesAreTaken = (v : View) (h : Head) (i : ℕ) (ties : List (ℕ × Binding)) (ends : List (Uid × End)) (s : Server) (S : State)
     → IsReached S → ListsEach s → IsShown v h (ask.Vote i ties ends) s S → Sees v s S
     → let r = vote v.node h.path i ties ends s in
-    Goes S (λ T. Sees v r.part T × OnlyVote v.node (v.family.act (actor h.path)) S T × ((b : Binding) (states : List ObjectState) → Contains {X = ℕ × Binding} ties (v.x, b) → r.reply ≡ Some (voted.Yes states) → HasVotedHere v (actor h.path) b r.part S T × IsVotedBy v (actor h.path) b states T))
+    Goes S (λ T. Sees v r.part T × OnlyVote v.node (v.family.act (actor h.path)) S T × ((b : Binding) (states : List ObjectState) → Contains {X = ℕ × Binding} ties (v.x, b) → r.reply ≡ Some (voted.Yes states) → HasVotedHere v (actor h.path) b r.part S T × IsVotedBy v (actor h.path) b states T × HaveOne v.x states))

@@ -12,6 +12,7 @@
 mod coord;
 mod naming;
 mod server;
+mod votes;
 
 pub use coord::{
     actions_begin, calls_at_coordinators_are_seen, commits_go_on, coordinators_are_seen,
@@ -27,3 +28,4 @@ pub use server::{
     messages_at_servers_are_seen, replies_are_shown, sent_messages_are_shown, servers_are_seen,
     servers_stay_beside, votes_are_seen,
 };
+pub use votes::plans_have_votes;
