@@ -51,6 +51,7 @@ use Rattle.arj_disk_run_law.proofs.Known.{knows_node}
 use Rattle.arj_disk_run_law.proofs.Means.{All, coord_means}
 use Rattle.arj_disk_run_law.proofs.PlaceWalks.{ByTop, PlacedBy, begin_placed, both_here, format_placed, line_stays, message_placed, other_coord, placed_walk, prepared_begun, restart_placed, stop_placed, tick_means, up_here}
 use Rattle.arj_disk_run_law.proofs.FirstCommits.{input_first}
+use Rattle.arj_disk_run_law.proofs.RootPaths.{on_paths}
 use Rattle.arj_disk_run_law.proofs.SoundCoords.{sound_acts, sound_again, sound_begins, sound_heard}
 use Rattle.arj_disk_run_law.proofs.RecordWalks.{KeptBy, format_recorded, kept_walk, message_kept, recorded_more, restart_recorded, stop_recorded, tick_kept}
 use Rattle.arj_disk_run_law.proofs.TopPaths.{of_request}
@@ -150,7 +151,7 @@ module _ (begun : List Action) (e k : ℕ) (d : Disk) (t : Parts) (M : Seen) (go
   heard_placed from m sent meant votes own sound a r is = (
     heard_means from a r,
     sound_heard from a r d.intents t.coord (λ st s q same at now. uid_is st.uid (object s.x) (sym (loads st s q same at now) ∙ (and_parts (asked_is_meant t.server (asks m)) (answer_is_meant t.coord (answers m)) meant).1))
-        (λ states q p left same at now req on. fits states p (its_path q p left at now) (subst IsOwnAnswer (is ∙ ap (λ z. Some (a, z)) same) own) (votes from m a states sent (is ∙ ap (λ z. Some (a, z)) same) q p left at now req on)) sound,
+        (λ states q p left same at now req on. fits states p (its_path q p left at now) (subst IsOwnAnswer (is ∙ ap (λ z. Some (a, z)) same) own) (votes from m a states sent (is ∙ ap (λ z. Some (a, z)) same) q p left at now req on)) (on_paths begun good.begun t.coord coord) sound,
   )
     where
       -- the plan is by the top's path
@@ -191,7 +192,7 @@ module _ (hd : Header) (x : ℕ) (R G : Seen → Type 0) (Q : Kinds → Seen →
   act_keeps e k d t i M is free more (begun, h) = let did = acts i d.intents t.coord in
       all_walk R Q begun h.1 e k did.outs (with_coord t did.part) d M (act_good e k d t M (begun, h.0) hd i is free)
       (kept_walk begun e k d t (with_coord t did.part) did.outs M (acts_kept begun (paths_of begun) (begun_tree begun h.0.begun) d.intents t.coord (good_coord e k d t M (begun, h.0)) hd i free) h.2)
-      (placed_walk begun e k d t (with_coord t did.part) did.outs M (acts_mean begun e k d t M h.0 hd i is free) (let u = up_here begun h.0.begun k d t M h.3 in other_coord begun k t did.part (sound_acts i d.intents t.coord (input_first begun k d t M h.0 hd i free) u.coord) u) h.3) (kept.act e k d t i M is free h.4)
+      (placed_walk begun e k d t (with_coord t did.part) did.outs M (acts_mean begun e k d t M h.0 hd i is free) (let u = up_here begun h.0.begun k d t M h.3 in other_coord begun k t did.part (sound_acts i d.intents t.coord (input_first begun k d t M h.0 hd i free) (on_paths begun h.0.begun t.coord (coord begun e k d t M h.0)) u.coord) u) h.3) (kept.act e k d t i M is free h.4)
       (λ tops agree. each.act tops e k d t i M agree.unwalked (knows_node tops begun k d t M h.0 agree h.2 h.3) (h.4, more) is free (h.5 tops agree))
 
   begin_keeps : (e k : ℕ) (d : Disk) (t : Parts) (l : Label) (how : Kind) (parent : Option Label) (M : Seen) → label_at l M.labels ≡ None → MayGive M.labels k how parent → begin_refusal how t.coord parent ≡ None

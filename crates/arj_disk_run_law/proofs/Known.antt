@@ -38,7 +38,7 @@ use Rattle.arj_disk_run_law.specs.Kinds.{Agrees, is_top_kind}
 use Rattle.arj_disk_run_law.specs.Places.{AreEntryRows, AreNamesRows, ArePlaced, IsBegun, IsEntryRow, IsPlacedUp}
 use Rattle.arj_disk_run_law.specs.Records.{AreRecorded, HaveRecords, IsRecorded}
 use Rattle.arj_disk_run_law.specs.Sound.{AreSound, IsSound, IsSoundNow, unvoted}
-use Rattle.arj_disk_run_law.proofs.SoundCoords.{root_own}
+use Rattle.arj_disk_run_law.proofs.SoundCoords.{root_own, said_from}
 use Rattle.arj_disk_run_law.proofs.SoundPlans.{one_change, plan_tidy}
 use Rattle.arj_disk_run_law.proofs.Holders.{constituent as with_serial}
 use Rattle.arj_disk_run_law.proofs.PlaceWalks.{holders_begun, up_here}
@@ -230,7 +230,7 @@ module _ (tops : Kinds) (acts : List Action) (k : ℕ) (d : Disk) (t : Parts) (M
       }
 
   starts : (u : Uid) (b : Branch) (req : ℕ) → branch_of u t.coord.tree ≡ Some b → tops.is_top (uid_number u) ≡ true → KnowsPlan u (plan_for b.path req (root_at (root_of b.path) t.coord) t.coord)
-  starts u b req is top = record { actor_is = path u b is; top_is = top_path_is u b is (kind_of_top u b.kind b.path top (of_kind u b is)); tidy = plan_tidy b.path req (root_at (root_of b.path) t.coord) t.coord (root_own (root_of b.path) t.coord sound) }
+  starts u b req is top = record { actor_is = path u b is; top_is = top_path_is u b is (kind_of_top u b.kind b.path top (of_kind u b is)); tidy = plan_tidy b.path req (root_at (root_of b.path) t.coord) t.coord (root_of b.path).num (root_own (root_of b.path) t.coord sound) }
 
   steps : (u : Uid) (q : Doing) (s : Steps) → doing_of u t.coord ≡ Some q → q.now ≡ Calling s → KnowsSteps t.coord u s
   steps u q s does is =
@@ -266,6 +266,7 @@ module _ (tops : Kinds) (acts : List Action) (k : ℕ) (d : Disk) (t : Parts) (M
     alone = sound.alone;
     as_long = mine.faithful.works;
     telling_there = all_told d.intents t.coord.telling (awaited);
+    said = said_from t.coord sound;
   }
 
   -- ---- who is asked about

@@ -1,6 +1,7 @@
 pub mod Begun
 pub mod BothEach
 pub mod Copies
+pub mod DecidedPaths
 pub mod EntryKeeps
 pub mod EntryRows
 pub mod EntryWalks
@@ -33,6 +34,7 @@ pub mod Means
 pub mod Plain
 pub mod PlaceWalks
 pub mod RecordWalks
+pub mod RootPaths
 pub mod RowWalks
 pub mod SoundCoords
 pub mod FirstCommits

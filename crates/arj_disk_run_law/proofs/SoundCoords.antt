@@ -1,9 +1,10 @@
 -- Coordinators stay sound, whatever they do and hear, where votes that they wait for fit their plans, and commits of tops that aren't
 -- refused are the first of their roots.
-use Rattle.std.proofs.Common.{◌≡◌, ◌≢◌, ℕ, ◌+◌, ◌==◌, ◌&&◌, zero, suc, List, [], ◌∷◌, ◌++◌, Bool, true, false, cond, Option, Some, None, refl, sym, ◌∙◌, ap, subst, inl, inr, ⊎_elim}
+use Rattle.std.proofs.Common.{◌≡◌, ◌≢◌, ℕ, ◌+◌, ◌==◌, ◌&&◌, zero, suc, List, [], ◌∷◌, ◌++◌, Bool, true, false, cond, Option, Some, None, refl, sym, ◌∙◌, ap, subst, inl, inr, ⊎_elim, Contains}
 use Rattle.std.specs.List.{AllByRecursion, list_any}
 use Rattle.std.proofs.lemmas.Bool.{and_parts}
 use Rattle.arj_base.proofs.Uids.{uid_cases}
+use Rattle.arj_lock.proofs.Members.{In, in_from}
 use Rattle.arj_protocol.specs.Words.{Uid, Ask, Asked, End, Kind, Label, ObjectState, Op, Path, last_uid, object, uid_eq, uids_of}
 use Rattle.arj_protocol.specs.Words.cause
 use Rattle.arj_protocol.specs.Words.ending
@@ -27,37 +28,54 @@ use Rattle.arj_protocol.specs.Tree.{Branch, Tree, at_place, doomed_at, ended_at,
 use Rattle.arj_part_law.specs.Actions.{paths_of}
 use Rattle.arj_part_law.proofs.Begun.{begun_tree}
 use Rattle.arj_part_law.proofs.GoodCoords.{IsStepOf, answer_step, doomed_same, giveup_step, uses_same, vote_step}
-use Rattle.arj_part_law.proofs.GoodTrees.{get_more}
-use Rattle.arj_part_law.proofs.LivesNamed.{all_at, all_put}
+use Rattle.arj_part_law.proofs.GoodTrees.{get_more, own_is}
+use Rattle.arj_part_law.proofs.LivesNamed.{keyed_at}
 use Rattle.arj_part_law.proofs.Settled.{doing_other, doing_put, end_tree_on}
 use Rattle.arj_disk_law.proofs.Base.{some_is, test_is}
-use Rattle.arj_disk_view_law.specs.Knows.{CommitsAt, IsFirstAt}
+use Rattle.arj_disk_view_law.specs.Knows.{CommitsAt, IsFirstAt, IsFromRoot}
 use Rattle.arj_disk_view_law.specs.Pairs.{Among}
 use Rattle.arj_disk_view_law.proofs.CallWalks.{EndIs, StepIs, lost_is, step_is}
-use Rattle.arj_disk_run_law.specs.Sound.{AreChanged, AreSound, FitsVote, IsOwnRoot, IsSound, IsSoundNow}
+use Rattle.arj_disk_view_law.proofs.Doings.{doing_tree}
+use Rattle.arj_disk_run_law.specs.Sound.{AreChanged, AreOnPaths, AreSound, FitsVote, IsOwnRoot, IsRootPath, IsSound, IsSoundNow}
 use Rattle.arj_disk_run_law.proofs.SoundPlans.{IsNextSound, answer_sound, given_up_sound, later_of, put_keyed, start_sound}
 
 -- ---- a root
 
-none_own : IsOwnRoot no_root
-none_own = record { joined = tt; states = tt }
+none_own : (t : Tree) (n : ℕ) → IsOwnRoot t n no_root
+none_own t n = record { joined = tt; states = tt; said = tt }
 
-pub root_own : (root : Uid) (c : Coord) → AreSound c → IsOwnRoot (root_at root c)
-root_own root c s = all_at IsOwnRoot no_root none_own root.num c.roots s.roots
+pub root_own : (root : Uid) (c : Coord) → AreSound c → IsOwnRoot c.tree root.num (root_at root c)
+root_own root c s = keyed_at (λ n r. IsOwnRoot c.tree n r) no_root root.num (none_own c.tree root.num) c.roots s.roots
 
-went_own : (w : Went) (r : Root) → IsOwnRoot r → IsOwnRoot (with_went w r)
-went_own w r own = by (list_any (same_went w) r.went)
+-- what a root was answered is by paths that it begins
+pub said_from : (c : Coord) → AreSound c → (root : Uid) (s : Said) → is_own root c.tree ≡ true → Contains (let r = root_at root c in r.said) s → IsFromRoot root s.path
+said_from c sound root s own there =
+    let r = root_own root c sound in
+    let p = one (let z = root_at root c in z.said) r.said (in_from s (let z = root_at root c in z.said) there) in
+    subst (λ u. IsFromRoot u s.path) (own_is p.root root c.tree p.own own p.number) p.from
   where
-    by : (b : Bool) → IsOwnRoot (cond b r (record r { went = r.went ++ w ∷ [] }))
-    by true = own
-    by false = record { joined = own.joined; states = own.states }
+    one : (all : List Said) → AllByRecursion (λ (w : Said). IsRootPath c.tree root.num w.path) all → In s all → IsRootPath c.tree root.num s.path
+    one [] its i = absurd i
+    one (w ∷ all) its (inl same) = subst (λ (z : Said). IsRootPath c.tree root.num z.path) same its.0
+    one (w ∷ all) its (inr i) = one all its.1 i
 
-said_own : (s : Said) (r : Root) → IsOwnRoot r → IsOwnRoot (with_said s r)
-said_own s r own = by (list_any (same_said s) r.said)
+went_own : {t : Tree} {n : ℕ} (w : Went) (r : Root) → IsOwnRoot t n r → IsOwnRoot t n (with_went w r)
+went_own {t} {n} w r own = by (list_any (same_went w) r.went)
   where
-    by : (b : Bool) → IsOwnRoot (cond b r (record r { said = r.said ++ s ∷ [] }))
+    by : (b : Bool) → IsOwnRoot t n (cond b r (record r { went = r.went ++ w ∷ [] }))
     by true = own
-    by false = record { joined = own.joined; states = own.states }
+    by false = record { joined = own.joined; states = own.states; said = own.said }
+
+said_own : {t : Tree} {n : ℕ} (s : Said) (r : Root) → IsRootPath t n s.path → IsOwnRoot t n r → IsOwnRoot t n (with_said s r)
+said_own {t} {n} s r its own = by (list_any (same_said s) r.said)
+  where
+    more : (all : List Said) → AllByRecursion (λ (w : Said). IsRootPath t n w.path) all → AllByRecursion (λ (w : Said). IsRootPath t n w.path) (all ++ s ∷ [])
+    more [] each = (its, tt)
+    more (w ∷ all) each = (each.0, more all each.1)
+
+    by : (b : Bool) → IsOwnRoot t n (cond b r (record r { said = r.said ++ s ∷ [] }))
+    by true = own
+    by false = record { joined = own.joined; states = own.states; said = more r.said own.said }
 
 abbrev Own : Joined → Type 0
 Own j = (let s = j.loaded in s.uid) ≡ object j.x
@@ -70,25 +88,25 @@ join_own j (i ∷ js) its all = by (same_join j i) refl (join_own j js its all.1
     by true same ih = (later_of i.x i.loaded j.loaded all.0 (its ∙ ap object (test_is j.x i.x (and_parts (j.x == i.x) (j.store == i.store) (and_parts (uid_eq (last_uid j.path) (last_uid i.path)) ((j.x == i.x) && (j.store == i.store)) same).1).0)), all.1)
     by false other ih = (all.0, ih)
 
-heard_own : (s : Steps) (e : CallEnd) → EndIs (λ st. st.uid ≡ object s.x) e → (r : Root) → IsOwnRoot r → IsOwnRoot (root_heard s e r)
-heard_own s (Answered a) its r own = said_own (record { path = uids_of s.path; x = s.x }) r own
-heard_own s (Included st) its r own = record { joined = join_own (record { path = uids_of s.path; x = s.x; store = store_of s.goal; loaded = st }) r.joined its own.joined; states = own.states }
-heard_own s (Conflict holder m n) its r own = own
-heard_own s (Changed n w) its r own = own
-heard_own s (Lost n b) its r own = own
+heard_own : {t : Tree} {n : ℕ} (s : Steps) (e : CallEnd) → EndIs (λ st. st.uid ≡ object s.x) e → IsRootPath t n (uids_of s.path) → (r : Root) → IsOwnRoot t n r → IsOwnRoot t n (root_heard s e r)
+heard_own s (Answered a) its path r own = said_own (record { path = uids_of s.path; x = s.x }) r path own
+heard_own s (Included st) its path r own = record { joined = join_own (record { path = uids_of s.path; x = s.x; store = store_of s.goal; loaded = st }) r.joined its own.joined; states = own.states; said = own.said }
+heard_own s (Conflict holder m k) its path r own = own
+heard_own s (Changed k w) its path r own = own
+heard_own s (Lost k b) its path r own = own
 
-keep_own : (x : ℕ) (k : Keeping) (r : Root) → IsOwnRoot r → IsOwnRoot (with_keeping x k r)
-keep_own x k r own = record { joined = own.joined; states = own.states }
+keep_own : {t : Tree} {n : ℕ} (x : ℕ) (k : Keeping) (r : Root) → IsOwnRoot t n r → IsOwnRoot t n (with_keeping x k r)
+keep_own x k r own = record { joined = own.joined; states = own.states; said = own.said }
 
-granted_own : (g : Option Grant) (r : Root) → IsOwnRoot r → IsOwnRoot (notes_grant g r)
+granted_own : {t : Tree} {n : ℕ} (g : Option Grant) (r : Root) → IsOwnRoot t n r → IsOwnRoot t n (notes_grant g r)
 granted_own None r own = own
-granted_own (Some g) r own = record { joined = own.joined; states = own.states }
+granted_own (Some g) r own = record { joined = own.joined; states = own.states; said = own.said }
 
-moved_own : (s : Steps) (a : Reply) (m : Moved) (r : Root) → IsOwnRoot r → IsOwnRoot (root_moved s a m r)
-moved_own s a m r own = let g = granted_own (granted_by (top_of s.path) s.x a) r own in record { joined = g.joined; states = g.states }
+moved_own : {t : Tree} {n : ℕ} (s : Steps) (a : Reply) (m : Moved) (r : Root) → IsOwnRoot t n r → IsOwnRoot t n (root_moved s a m r)
+moved_own s a m r own = let g = granted_own (granted_by (top_of s.path) s.x a) r own in record { joined = g.joined; states = g.states; said = g.said }
 
-after_own : (p : Plan) (r : Root) → AreChanged p [] → IsOwnRoot r → IsOwnRoot (root_after p r)
-after_own p r changed own = record { joined = own.joined; states = each p.changed r.states (λ s i. let u = changed.used s i in u.own) own.states }
+after_own : {t : Tree} {n : ℕ} (p : Plan) (r : Root) → AreChanged p [] → IsOwnRoot t n r → IsOwnRoot t n (root_after p r)
+after_own p r changed own = record { joined = own.joined; said = own.said; states = each p.changed r.states (λ s i. let u = changed.used s i in u.own) own.states }
   where
     each : (ss : List ObjectState) (states : List (ℕ × ObjectState)) → ((s : ObjectState) → Among s ss → s.uid ≡ object s.uid.num) → AllByRecursion (λ (e : ℕ × ObjectState). (let s = e.1 in s.uid) ≡ object e.0) states
         → AllByRecursion (λ (e : ℕ × ObjectState). (let s = e.1 in s.uid) ≡ object e.0) (states_after ss states)
@@ -97,8 +115,8 @@ after_own p r changed own = record { joined = own.joined; states = each p.change
 
 -- ---- from one coordinator to the next
 
-sound_root : (root : Uid) (f : Root → Root) (c : Coord) → ((r : Root) → IsOwnRoot r → IsOwnRoot (f r)) → AreSound c → AreSound (on_root root f c)
-sound_root root f c step s = record { works = s.works; alone = s.alone; roots = all_put IsOwnRoot root.num (f (root_at root c)) c.roots (step (root_at root c) (root_own root c s)) s.roots }
+sound_root : (root : Uid) (f : Root → Root) (c : Coord) → ((r : Root) → IsOwnRoot c.tree root.num r → IsOwnRoot c.tree root.num (f r)) → AreSound c → AreSound (on_root root f c)
+sound_root root f c step s = record { works = s.works; alone = s.alone; roots = put_keyed (λ n r. IsOwnRoot c.tree n r) root.num (f (root_at root c)) c.roots (step (root_at root c) (root_own root c s)) s.roots }
 
 -- what the action waits for is sound, and if it is a commit, it is the only one of its root
 abbrev IsFirstNow : Coord → Uid → Now → Type 0
@@ -137,8 +155,17 @@ same_first u c s q found Idle is = tt
 same_first u c s q found (Calling t) is = tt
 same_first u c s q found (Committing m) is = s.alone (root_of (plan_of m).path) u (q, m, found, is, refl)
 
+-- paths are the same in a tree of the same node and incarnation
+roots_on : (t v : Tree) → ((u : Uid) → is_own u v ≡ is_own u t) → (all : List (ℕ × Root)) → AllByRecursion (λ (e : ℕ × Root). IsOwnRoot t e.0 e.1) all → AllByRecursion (λ (e : ℕ × Root). IsOwnRoot v e.0 e.1) all
+roots_on t v own [] its = tt
+roots_on t v own (e ∷ all) its = (let r = its.0 in record { joined = r.joined; states = r.states; said = paths e.0 (let z = e.1 in z.said) r.said }, roots_on t v own all its.1)
+  where
+    paths : (n : ℕ) (all : List Said) → AllByRecursion (λ (w : Said). IsRootPath t n w.path) all → AllByRecursion (λ (w : Said). IsRootPath v n w.path) all
+    paths n [] its = tt
+    paths n (w ∷ all) its = (let p = its.0 in record { root = p.root; own = own p.root ∙ p.own; number = p.number; from = p.from }, paths n all its.1)
+
 sound_tree : (c : Coord) (v : Tree) → ((u : Uid) → is_own u v ≡ is_own u c.tree) → AreSound c → AreSound (record c { tree = v })
-sound_tree c v own s = record { works = λ u d at. s.works u d (sym (same u) ∙ at); alone = λ root u p w q. s.alone root u (was u root p) w (was w root q); roots = s.roots }
+sound_tree c v own s = record { works = λ u d at. s.works u d (sym (same u) ∙ at); alone = λ root u p w q. s.alone root u (was u root p) w (was w root q); roots = roots_on c.tree v own c.roots s.roots }
   where
     same : (u : Uid) → doing_of u (record c { tree = v }) ≡ doing_of u c
     same u = λ i. cond (own u i) (at_place u.num c.doings) None
@@ -175,15 +202,16 @@ sound_call p x o c s =
 sound_include : (p : Path) (x n : ℕ) (c : Coord) → AreSound c → AreSound (include p x n c).part
 sound_include p x n c s = let same = uses_same p x c.tree in sound_goes (start p x (calls.Include n) None unbound (next_req (actor p) c)) (record c { tree = uses_object p x c.tree }) (sound_tree c (uses_object p x c.tree) same.own s)
 
-sound_step : (s : Steps) (t : CallStep) (c : Coord) → StepIs (λ st. st.uid ≡ object s.x) t → AreSound c → AreSound (step_call s t c).part
-sound_step s (On at) c its so = sound_goes (record s { req = s.req + 1; at = at }) c so
-sound_step s (Ended e) c its so = by e
+sound_step : (s : Steps) (t : CallStep) (c : Coord) → StepIs (λ st. st.uid ≡ object s.x) t → IsRootPath c.tree (let root = root_of s.path in root.num) (uids_of s.path) → AreSound c → AreSound (step_call s t c).part
+sound_step s (On at) c its path so = sound_goes (record s { req = s.req + 1; at = at }) c so
+sound_step s (Ended e) c its path so = by e
   where
     idle : Coord
     idle = on_root (root_of s.path) (root_heard s e) (on_doing (actor s.path) (λ (d : Doing). record d { now = Idle }) c)
 
     ends : AreSound (on_root (root_of s.path) (root_heard s e) (on_doing (actor s.path) (λ (d : Doing). record d { now = Idle }) c))
-    ends = sound_root (root_of s.path) (root_heard s e) (on_doing (actor s.path) (λ (d : Doing). record d { now = Idle }) c) (heard_own s e its) (sound_idle (actor s.path) c so)
+    ends = sound_root (root_of s.path) (root_heard s e) (on_doing (actor s.path) (λ (d : Doing). record d { now = Idle }) c)
+        (heard_own s e its (subst (λ v. IsRootPath v (root_of s.path).num (uids_of s.path)) (sym (doing_tree (actor s.path) (λ (d : Doing). record d { now = Idle }) c)) path)) (sound_idle (actor s.path) c so)
 
     by : (g : CallEnd) → AreSound (doomed_by (actor s.path) g (on_root (root_of s.path) (root_heard s e) (on_doing (actor s.path) (λ (d : Doing). record d { now = Idle }) c)))
     by (Answered a) = ends
@@ -255,8 +283,8 @@ sound_commit_step u (Aborts why p) intents c its first s = sound_ended u ending.
 
 pub sound_heard : (from : ℕ) (a : Asked) (r : Reply) (intents : List (Uid × Intent)) (c : Coord) → ((st : ObjectState) (s : Steps) (q : Doing) → r ≡ Reply.Loaded (loaded.State st) → doing_of a.act c ≡ Some q → q.now ≡ Calling s → st.uid ≡ object s.x)
     → ((states : List ObjectState) (q : Doing) (p : Plan) (left : List ℕ) → r ≡ Reply.Voted (voted.Yes states) → doing_of a.act c ≡ Some q → q.now ≡ Committing (Voting p left) → p.req ≡ a.req → has left from ≡ true → FitsVote p from states)
-    → AreSound c → AreSound (let h = heard from a r intents c in h.part)
-sound_heard from a r intents c loads votes s = by (doing_of a.act c) refl
+    → AreOnPaths c → AreSound c → AreSound (let h = heard from a r intents c in h.part)
+sound_heard from a r intents c loads votes paths s = by (doing_of a.act c) refl
   where
     now : (q : Doing) → doing_of a.act c ≡ Some q → (n : Now) → q.now ≡ n → AreSound (heard_now from a r intents c n).part
     now q at Idle is = s
@@ -269,7 +297,7 @@ sound_heard from a r intents c loads votes s = by (doing_of a.act c) refl
         m = answered free (kept_at t c) t.goal t.at r
 
         one : (w : Bool) → AreSound (cond {A = Served Coord (Unit {0})} w (heard_by (heard_call t r c)) (heard_none c)).part
-        one true = sound_step t m.step (on_root (root_of t.path) (root_moved t r m) c) (step_is (λ st. st.uid ≡ object t.x) free (kept_at t c) t.goal t.at r (λ st same. loads st t q same at is)) (sound_root (root_of t.path) (root_moved t r m) c (moved_own t r m) s)
+        one true = sound_step t m.step (on_root (root_of t.path) (root_moved t r m) c) (step_is (λ st. st.uid ≡ object t.x) free (kept_at t c) t.goal t.at r (λ st same. loads st t q same at is)) (paths a.act q t at is) (sound_root (root_of t.path) (root_moved t r m) c (moved_own t r m) s)
         one false = s
     now q at (Committing m) is = one (waits_for_commit from a r m) refl
       where
@@ -306,12 +334,12 @@ sound_acked from u intents c s = by (at_uid u c.telling)
 
 -- ---- inputs
 
-sound_give_up : (u : Uid) (intents : List (Uid × Intent)) (c : Coord) → AreSound c → AreSound (give_up u intents c).part
-sound_give_up u intents c s = by (doing_of u c) refl
+sound_give_up : (u : Uid) (intents : List (Uid × Intent)) (c : Coord) → AreOnPaths c → AreSound c → AreSound (give_up u intents c).part
+sound_give_up u intents c paths s = by (doing_of u c) refl
   where
     now : (q : Doing) → doing_of u c ≡ Some q → (n : Now) → q.now ≡ n → IsSoundNow n → AreSound (gives_up u intents c n).part
     now q at Idle is its = s
-    now q at (Calling t) is its = sound_step t (given_up t.at) (on_root (root_of t.path) (root_lost t (given_up t.at)) c) (lost_is (λ st. st.uid ≡ object t.x) t.at) (sound_root (root_of t.path) (root_lost t (given_up t.at)) c (λ r own. record { joined = own.joined; states = own.states }) s)
+    now q at (Calling t) is its = sound_step t (given_up t.at) (on_root (root_of t.path) (root_lost t (given_up t.at)) c) (lost_is (λ st. st.uid ≡ object t.x) t.at) (paths u q t at is) (sound_root (root_of t.path) (root_lost t (given_up t.at)) c (λ r own. record { joined = own.joined; states = own.states; said = own.said }) s)
     now q at (Committing m) is its = sound_commit_step u (commit.given_up m).step intents c (given_up_sound m its) (step_first c u (plan_of m) (commit.given_up m).step (giveup_step [] (paths_of []) (begun_tree [] tt) m) (s.alone (root_of (plan_of m).path) u (q, m, at, is, refl))) s
 
     by : (o : Option Doing) → doing_of u c ≡ o → AreSound (give_up_doing u intents c o).part
@@ -337,7 +365,7 @@ sound_commit b intents c first s = by b.doomed
     p = plan_for b.path (last_req (doing_of u c)) (root_at (root_of b.path) c) c
 
     top : IsFirstAt c (root_of b.path) (actor b.path) → AreSound (commit_top b.path intents c).part
-    top alone = sound_commit_step u (commit.start p).step intents c (start_sound b.path (last_req (doing_of u c)) (root_at (root_of b.path) c) c (root_own (root_of b.path) c s)) (step_first c u p (commit.start p).step (vote_step [] (paths_of []) (begun_tree [] tt) (servers_of p) p p (refl, refl)) alone) s
+    top alone = sound_commit_step u (commit.start p).step intents c (start_sound b.path (last_req (doing_of u c)) (root_at (root_of b.path) c) c (root_of b.path).num (root_own (root_of b.path) c s)) (step_first c u p (commit.start p).step (vote_step [] (paths_of []) (begun_tree [] tt) (servers_of p) p p (refl, refl)) alone) s
 
     kinds : (k : Kind) → b.kind ≡ k → AreSound (commit_open b intents c k).part
     kinds kind.Nested is = sound_ended u ending.Commit c s
@@ -355,7 +383,7 @@ on_named f c None s each = s
 on_named f c (Some b) s each = each b refl
 
 pub sound_begins : (l : Label) (k : Kind) (parent : Option Label) (above : Option Branch) (c : Coord) → AreSound c → AreSound (let h = begin_action l k parent above c in h.part)
-sound_begins l k parent above c s = record { works = λ u q at. was q (is_own u c.tree) u.num at (λ f. s.works u q f); alone = λ root u p w q. s.alone root u (older u root p) w (older w root q); roots = s.roots }
+sound_begins l k parent above c s = record { works = λ u q at. was q (is_own u c.tree) u.num at (λ f. s.works u q f); alone = λ root u p w q. s.alone root u (older u root p) w (older w root q); roots = roots_on c.tree (let h = begin_action l k parent above c in let n = h.part in n.tree) (λ u. refl) c.roots s.roots }
   where
     fresh : Doing
     fresh = record { label = l; req = 0; now = Idle; took = [] }
@@ -378,18 +406,18 @@ abbrev pub IsFirstInput : Coord → Input → Type 0
 IsFirstInput c (input.Commit l) = (b : Branch) → branch_named l c ≡ Some b → b.kind ≢ kind.Nested → b.kind ≢ kind.Serial → IsFirstAt c (root_of b.path) (actor b.path)
 IsFirstInput c _ = Unit {0}
 
-pub sound_acts : (i : Input) (intents : List (Uid × Intent)) (c : Coord) → IsFirstInput c i → AreSound c → AreSound (let h = acts i intents c in h.part)
-sound_acts (input.Begin l k parent) intents c first s = sound_begins l k parent (parent_of parent c) c s
-sound_acts (input.Call l x o) intents c first s = on_named (λ b. call b.path x o c) c (branch_named l c) s (λ b is. sound_call b.path x o c s)
-sound_acts (input.Include l x n) intents c first s = on_named (λ b. include b.path x n c) c (branch_named l c) s (λ b is. sound_include b.path x n c s)
-sound_acts (input.Commit l) intents c first s = on_named (λ b. commit_action b intents c) c (branch_named l c) s (λ b is. sound_commit b intents c (first b is) s)
-sound_acts (input.Abort l) intents c first s = on_named (λ b. abort_action (actor b.path) intents c) c (branch_named l c) s (λ b is. sound_all (open_below (actor b.path) c.tree ++ actor b.path ∷ []) c s)
-sound_acts (input.GiveUp l) intents c first s = on_named (λ b. give_up (actor b.path) intents c) c (branch_named l c) s (λ b is. sound_give_up (actor b.path) intents c s)
-sound_acts (input.Frame j from m) intents c first s = s
-sound_acts input.Tick intents c first s = s
-sound_acts input.Restart intents c first s = s
-sound_acts input.Crash intents c first s = s
-sound_acts (input.Show x) intents c first s = s
+pub sound_acts : (i : Input) (intents : List (Uid × Intent)) (c : Coord) → IsFirstInput c i → AreOnPaths c → AreSound c → AreSound (let h = acts i intents c in h.part)
+sound_acts (input.Begin l k parent) intents c first paths s = sound_begins l k parent (parent_of parent c) c s
+sound_acts (input.Call l x o) intents c first paths s = on_named (λ b. call b.path x o c) c (branch_named l c) s (λ b is. sound_call b.path x o c s)
+sound_acts (input.Include l x n) intents c first paths s = on_named (λ b. include b.path x n c) c (branch_named l c) s (λ b is. sound_include b.path x n c s)
+sound_acts (input.Commit l) intents c first paths s = on_named (λ b. commit_action b intents c) c (branch_named l c) s (λ b is. sound_commit b intents c (first b is) s)
+sound_acts (input.Abort l) intents c first paths s = on_named (λ b. abort_action (actor b.path) intents c) c (branch_named l c) s (λ b is. sound_all (open_below (actor b.path) c.tree ++ actor b.path ∷ []) c s)
+sound_acts (input.GiveUp l) intents c first paths s = on_named (λ b. give_up (actor b.path) intents c) c (branch_named l c) s (λ b is. sound_give_up (actor b.path) intents c paths s)
+sound_acts (input.Frame j from m) intents c first paths s = s
+sound_acts input.Tick intents c first paths s = s
+sound_acts input.Restart intents c first paths s = s
+sound_acts input.Crash intents c first paths s = s
+sound_acts (input.Show x) intents c first paths s = s
 
 pub sound_new : (node inc : ℕ) (records : List (Uid × Intent)) → AreSound (record (new_coord node inc) { telling = records })
 sound_new node inc records = record { works = λ u q at. none q (is_own u (let c = new_coord node inc in c.tree)) u.num at; alone = λ root u p w q. none_at p.0 (is_own u (let c = new_coord node inc in c.tree)) u.num p.2; roots = tt }

@@ -118,7 +118,7 @@ later_of x s t a b = by (nat_lt s.version t.version)
     by true = b
     by false = a
 
-module _ (x : ℕ) (top : Uid) (r : Root) (c : Coord) (own : IsOwnRoot r) where
+module _ (x : ℕ) (top : Uid) (r : Root) (c : Coord) (n : ℕ) (own : IsOwnRoot c.tree n r) where
   abbrev AreOf : List Joined → Type 0
   AreOf js = AllByRecursion (λ (j : Joined). IsOf x j.loaded) js
 
@@ -166,11 +166,11 @@ module _ (x : ℕ) (top : Uid) (r : Root) (c : Coord) (own : IsOwnRoot r) where
       )
 
 -- the plan of a top is tidy
-pub plan_tidy : (p : Path) (req : ℕ) (r : Root) (c : Coord) → IsOwnRoot r → IsTidy (plan_for p req r c)
-plan_tidy p req r c own =
+pub plan_tidy : (p : Path) (req : ℕ) (r : Root) (c : Coord) (n : ℕ) → IsOwnRoot c.tree n r → IsTidy (plan_for p req r c)
+plan_tidy p req r c n own =
     let once = plan_once p req r c in
     let us : List Used = map (used_of (actor p) r c) (objects_in (actor p) r c) in
-    let each : (u : Used) → Uses u us → AreRight u = λ u. uses_made AreRight (used_of (actor p) r c) (λ x. right x (actor p) r c own) (objects_in (actor p) r c) u in
+    let each : (u : Used) → Uses u us → AreRight u = λ u. uses_made AreRight (used_of (actor p) r c) (λ x. right x (actor p) r c n own) (objects_in (actor p) r c) u in
     record { apart = apart_in us once; once = found_in us once; distinct = λ u i. (each u i).0; loaded = λ u s i on. (each u i).1 s on; of = λ u st i is. (each u i).2 st is }
   where
     AreRight : Used → Type 0
@@ -320,8 +320,8 @@ given_up_sound (Voting p left) s = tt
 given_up_sound (Preparing p left) s = let u = marks_used left p in stores_sound (marks_stores left p) [] (tidy_on p (marks_stores left p) u.0 s.tidy) (changed_on p (marks_stores left p) [] u.2 u.0 u.1 s.changed) s.used s.more (u.0 ∙ s.uses)
 given_up_sound (Confirming p) s = tt
 
-pub start_sound : (p : Path) (req : ℕ) (r : Root) (c : Coord) → IsOwnRoot r → IsNextSound (let m = commit.start (plan_for p req r c) in m.step)
-start_sound p req r c own = vote_sound (plan_for p req r c) (plan_tidy p req r c own) (record { prepared = refl; excluded = refl }) refl (servers_of (plan_for p req r c)) refl
+pub start_sound : (p : Path) (req : ℕ) (r : Root) (c : Coord) (n : ℕ) → IsOwnRoot c.tree n r → IsNextSound (let m = commit.start (plan_for p req r c) in m.step)
+start_sound p req r c n own = vote_sound (plan_for p req r c) (plan_tidy p req r c n own) (record { prepared = refl; excluded = refl }) refl (servers_of (plan_for p req r c)) refl
 
 -- ---- each object's change
 

@@ -1,16 +1,18 @@
 -- Commits under way have tidy plans, one at most of each root, and states stand for their objects.
 use Rattle.std.specs.Prelude.{⊤, ◌≡◌, ℕ, true, false, List, [], ◌∷◌, Option, Some, None}
 use Rattle.std.specs.List.{AllByRecursion}
-use Rattle.arj_protocol.specs.Words.{Asked, Message, ObjectState, Uid, VotedReply, object}
+use Rattle.arj_protocol.specs.Words.{Asked, Message, ObjectState, Uid, VotedReply, object, uids_of}
 use Rattle.arj_protocol.specs.Words.voted
 use Rattle.arj_protocol.specs.Ask.{Reply, actor, answers}
+use Rattle.arj_protocol.specs.Call.{Steps}
 use Rattle.arj_protocol.specs.Commit as commit
-use Rattle.arj_protocol.specs.Coord.{Coord, Doing, Joined, Now, Committing, Root, doing_of}
+use Rattle.arj_protocol.specs.Coord.{Calling, Coord, Doing, Joined, Now, Committing, Root, Said, doing_of}
 use Rattle.arj_protocol.specs.Node.{Parts}
 use Rattle.arj_protocol.specs.Order as order
+use Rattle.arj_protocol.specs.Tree.{Tree, is_own, root_of}
 use Rattle.arj_view_law.specs.Seen as seen
 use Rattle.arj_view_law.specs.Seen.{Seen}
-use Rattle.arj_disk_view_law.specs.Knows.{CommitsAt, IsFirstAt, IsUnderWay}
+use Rattle.arj_disk_view_law.specs.Knows.{CommitsAt, IsFirstAt, IsFromRoot, IsUnderWay}
 use Rattle.arj_disk_view_law.specs.Pairs.{Among}
 use Rattle.arj_disk_view_law.specs.Plans.{IsTidy, used_at}
 
@@ -81,16 +83,29 @@ abbrev pub IsSoundNow : Now → Type 0
 IsSoundNow (Committing m) = IsSound m
 IsSoundNow _ = ⊤
 
--- what a root's includes loaded, and what its constituents changed, is of the object for which it stands
-pub record IsOwnRoot (r : Root) : Type 0 where
+-- the path begins with the root that has this number here
+pub record IsRootPath (t : Tree) (n : ℕ) (path : List Uid) : Type 0 where
+  pub root : Uid
+  pub own : is_own root t ≡ true
+  pub number : root.num ≡ n
+  pub from : IsFromRoot root path
+
+-- a call or an include under way is by a path of its root
+abbrev pub AreOnPaths : Coord → Type 0
+AreOnPaths c = (u : Uid) (q : Doing) (s : Steps) → doing_of u c ≡ Some q → q.now ≡ Calling s → IsRootPath c.tree (let root = root_of s.path in root.num) (uids_of s.path)
+
+-- What a root's includes loaded, and what its constituents changed, is of the object for which it stands; what it was answered is by
+-- its paths.
+pub record IsOwnRoot (t : Tree) (n : ℕ) (r : Root) : Type 0 where
   pub joined : AllByRecursion (λ (j : Joined). (let s = j.loaded in s.uid) ≡ object j.x) r.joined
   pub states : AllByRecursion (λ (e : ℕ × ObjectState). (let s = e.1 in s.uid) ≡ object e.0) r.states
+  pub said : AllByRecursion (λ (s : Said). IsRootPath t n s.path) r.said
 
 -- So it is at a coordinator; and of one root one commit at most is under way.
 pub record AreSound (c : Coord) : Type 0 where
   pub works : (u : Uid) (q : Doing) → doing_of u c ≡ Some q → IsSoundNow q.now
   pub alone : (root u : Uid) → CommitsAt c root u → IsFirstAt c root u
-  pub roots : AllByRecursion (λ (e : ℕ × Root). IsOwnRoot e.1) c.roots
+  pub roots : AllByRecursion (λ (e : ℕ × Root). IsOwnRoot c.tree e.0 e.1) c.roots
 
 -- the plan uses the object at this server
 pub record IsUsedAt (p : commit.Plan) (from x : ℕ) : Type 0 where

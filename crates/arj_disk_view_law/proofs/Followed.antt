@@ -46,6 +46,7 @@ module _ (tops : Kinds) (o : Option Walk) where
     alone = n.alone;
     as_long = n.as_long;
     telling_there = n.telling_there;
+    said = n.said;
   }
 
   pub node_on : (k : ℕ) (d : Disk) (t : Parts) (M : Seen) → KnowsNode tops k d t M → KnowsNode On k d t M

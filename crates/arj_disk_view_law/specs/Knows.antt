@@ -1,16 +1,16 @@
 -- What is known of the protocol without the machine, on which the disk half stands.
-use Rattle.std.specs.Prelude.{⊤, ◌≡◌, ◌≢◌, ℕ, true, false, nat_le, List, [], ◌∷◌, length, Some, None}
+use Rattle.std.specs.Prelude.{⊤, ◌≡◌, ◌≢◌, ℕ, true, false, nat_le, List, [], ◌∷◌, length, Some, None, Contains}
 use Rattle.std.specs.List.{AllByRecursion}
 use Rattle.arj_protocol.specs.Words.{Uid, Kind, ObjectState, Path, object, uids_of, is_on}
 use Rattle.arj_protocol.specs.Words.kind
 use Rattle.arj_protocol.specs.Ask.{actor, top_of}
 use Rattle.arj_protocol.specs.Call.{Steps}
 use Rattle.arj_protocol.specs.Commit as commit
-use Rattle.arj_protocol.specs.Coord.{Coord, Doing, Calling, Committing, doing_of, root_at, plan_for}
+use Rattle.arj_protocol.specs.Coord.{Coord, Doing, Calling, Committing, Said, doing_of, root_at, plan_for}
 use Rattle.arj_protocol.specs.Effect.{Intent}
 use Rattle.arj_protocol.specs.Order as order
 use Rattle.arj_protocol.specs.Order.{at_uid, uid_number}
-use Rattle.arj_protocol.specs.Tree.{branch_of, is_constituent, is_open, root_of}
+use Rattle.arj_protocol.specs.Tree.{behind, branch_of, is_constituent, is_open, is_own, root_of}
 use Rattle.arj_protocol.specs.Tree as tree
 use Rattle.arj_disk_view_law.specs.Asking.{IsUnanswered}
 use Rattle.arj_disk_view_law.specs.Pairs.{Among}
@@ -85,9 +85,15 @@ CommitsAt c root u = (q : Doing) × (m : commit.Machine) × (doing_of u c ≡ So
 abbrev pub IsFirstAt : Coord → Uid → Uid → Type 0
 IsFirstAt c root u = (w : Uid) → CommitsAt c root w → w ≡ u
 
+-- the path begins with the root, and each action stands on it once
+pub record IsFromRoot (root : Uid) (path : List Uid) : Type 0 where
+  pub rest : List Uid
+  pub headed : path ≡ root ∷ rest
+  pub once : (w : Uid) → is_on (behind w path) w ≡ false
+
 -- What is known of a coordinator and the records beside it: each action stands at its place, at the end of its path, which a
--- top's root begins; it is at work in its place; an open one has no record; a record has its top's root; and of each root one
--- commit at most is under way.
+-- top's root begins; it is at work in its place; an open one has no record; a record has its top's root; of each root one
+-- commit at most is under way; and what a root was answered is by paths that it begins.
 pub record KnowsCoord (tops : Kinds) (intents : List (Uid × Intent)) (c : Coord) : Type 0 where
   pub path : (u : Uid) (b : tree.Branch) → branch_of u c.tree ≡ Some b → actor b.path ≡ u
   pub kind : (u : Uid) (b : tree.Branch) → branch_of u c.tree ≡ Some b → IsOfKind tops u b.kind b.path
@@ -105,3 +111,4 @@ pub record KnowsCoord (tops : Kinds) (intents : List (Uid × Intent)) (c : Coord
   pub alone : (root u : Uid) → CommitsAt c root u → IsFirstAt c root u
   pub as_long : length c.doings ≡ length c.tree.branches
   pub telling_there : AllByRecursion (λ (e : Uid × Intent). (i : Intent) × (at_uid e.0 intents ≡ Some i)) c.telling
+  pub said : (root : Uid) (s : Said) → is_own root c.tree ≡ true → Contains (let r = root_at root c in r.said) s → IsFromRoot root s.path
