@@ -18,3 +18,4 @@ pub mod UpperRows
 pub mod UpperWalks
 pub mod Uppers
 pub mod Listed
+pub mod Entries

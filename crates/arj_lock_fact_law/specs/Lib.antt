@@ -4,3 +4,4 @@ pub mod Given
 pub mod Grants
 pub mod Keeping
 pub mod Uppers
+pub mod Entries

@@ -1,4 +1,5 @@
 // Naming, in every run.
+ghost use Rattle.arj_lock_fact_law.specs.Entries.{EntriesAreFound, HandlersKeepEntries, RunsKeepEntries};
 ghost use Rattle.arj_lock_fact_law.specs.Uppers.{HandlersKeepUppers, NestedHaveNothing, RunsKeepUppers};
 
 /// In every run naming has confirmed tops alone, each with an action that was begun, and no nested action is on the path of a holder of a
@@ -8,4 +9,12 @@ pub fn nested_actions_have_nothing_at_naming()
     ensures handlers { HandlersKeepUppers }
     ensures runs { RunsKeepUppers }
     ensures nothing { NestedHaveNothing }
+{}
+
+/// In every run naming's node has the entry of each object of the script on its disk, up or down: no work takes an entry away. So naming
+/// finds each object as it starts. It does nothing when it runs.
+pub fn entries_stay_on_disk()
+    ensures handlers { HandlersKeepEntries }
+    ensures runs { RunsKeepEntries }
+    ensures found { EntriesAreFound }
 {}

@@ -1,0 +1,11 @@
+use Rattle.arj_lock_fact_law.proofs.Entries.{entries_found, entries_keep, entries_run}
+use Rattle.arj_lock_fact_law.proofs.naming.entries_stay_on_disk.Goals as goal
+
+pub returns-clause-handlers : goal.returns-clause-handlers
+returns-clause-handlers c = λ hd x has. entries_keep hd x has
+
+pub returns-clause-runs : goal.returns-clause-runs
+returns-clause-runs c = λ hd x has es. entries_run hd x has es
+
+pub returns-clause-found : goal.returns-clause-found
+returns-clause-found c = λ x inc d there. entries_found x inc d there
