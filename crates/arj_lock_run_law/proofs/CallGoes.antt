@@ -1,12 +1,14 @@
 -- Calls and includes of a coordinator go in the whole world.
-use Rattle.std.proofs.Common.{◌≡◌, ◌≤◌, ◌⊎◌, ◌∙◌, ◌+◌, ◌*◌, ℕ, [], ◌∷◌, Bool, Option, Some, None, refl, sym, ap, subst, inl, inr, ⊎_elim, arith, length}
-use Rattle.arj_protocol.specs.Words.{ObjectState, Op, Uid}
+use Rattle.std.proofs.Common.{◌≡◌, ◌≤◌, ◌⊎◌, ◌∙◌, ◌+◌, ◌++◌, ◌*◌, ℕ, List, [], ◌∷◌, map, Bool, Option, Some, None, refl, sym, ap, subst, inl, inr, ⊎_elim, arith, length}
+use Rattle.arj_protocol.specs.Words.{Body, Label, ObjectState, Op, Uid}
+use Rattle.arj_protocol.specs.Words.body
 use Rattle.arj_protocol.specs.Words.invoked
 use Rattle.arj_protocol.specs.Words.loaded
 use Rattle.arj_protocol.specs.Ask.{Reply, actor}
-use Rattle.arj_protocol.specs.Asking.{call_steps, end_line, ends_call, give_up_call, goes_on, heard_call, kept_at, next_req, renewed, root_lost, root_moved, step_call}
-use Rattle.arj_protocol.specs.Call.{At, AtInvoke, AtLoad, CallStep, Ended, Goal, Include as IncludeStore, Known, Moved, On, Run, Steps, answered, given_up, start}
+use Rattle.arj_protocol.specs.Asking.{call_steps, end_line, ends_call, gaveup_lines, give_up_call, goes_on, heard_call, kept_at, next_req, renewed, root_lost, root_moved, step_call}
+use Rattle.arj_protocol.specs.Call.{At, AtInvoke, AtLoad, CallStep, Ended, Goal, Include as IncludeStore, Known, Moved, On, Run, Steps, answered, given_up, next_node, start}
 use Rattle.arj_protocol.specs.Coord.{Coord, Doing, Keeping, Root, doing_of, is_free, keeping_of, on_root, root_at, with_keeping}
+use Rattle.arj_protocol.specs.Effect.{Effect, Say}
 use Rattle.arj_protocol.specs.Ending.{say_for, says}
 use Rattle.arj_protocol.specs.Order.{unbound}
 use Rattle.arj_protocol.specs.Tree.{Branch, branch_of, root_of, uses_object}
@@ -25,12 +27,12 @@ use Rattle.arj_lock_view_law.proofs.IncludeSteps.{on_is}
 use Rattle.arj_lock_run_law.specs.Beside.{Case, IsSeenIn, Spot, view_in, world_at}
 use Rattle.arj_lock_run_law.specs.Coordinating.{CallAnswersGo, CallsGo, HasStepped, IncludeAnswersGo, IncludesGo, IsWorking, KnowsAsks, KnowsCoord, LostCallsGo, OtherAnswersGo, OtherLostGo, StepGoes, coord_at}
 use Rattle.arj_lock_run_law.specs.Sees.{SeesUp}
-use Rattle.arj_lock_run_law.proofs.CoordSteps.{coords_go}
+use Rattle.arj_lock_run_law.proofs.CoordSteps.{coords_go, length_one, says_as, says_then}
 use Rattle.arj_lock_run_law.proofs.GoodSteps.{steady}
 use Rattle.arj_lock_run_law.proofs.OtherSteps.{here_of}
 use Rattle.arj_lock_run_law.proofs.RequestSteps.{request_shown}
 use Rattle.arj_lock_run_law.proofs.StepSteps.{called_stepped, included_stepped, waits_stepped}
-use Rattle.arj_lock_run_law.proofs.ToldSteps.{AreShownSends}
+use Rattle.arj_lock_run_law.proofs.ToldSteps.{AreShownSends, flat_says}
 
 module _ (c : Case) (s : Spot) (is_seen : IsSeenIn c (world_at s)) (u : Uid) (b : Branch) (d : Doing) (work : IsWorking c s u b d) where
   its : actor b.path ≡ u
@@ -62,12 +64,12 @@ module _ (c : Case) (s : Spot) (is_seen : IsSeenIn c (world_at s)) (u : Uid) (b 
     pub goes_shown : (says : ℕ) (T : State) → HasStepped c s u says C T → AreShownSends c s T (let D = goes_on w c1 in D.outs)
     goes_shown says T has = ((tt, tt), (request_shown c s is_seen C knows asked T has.coord (let o = has.only in o.naming) (actor w.path) does.0 w does.1 (on_is w c1 d does.0 works does.1), tt))
 
-    -- no line is said
-    pub goes_walk : (T : State) → HasStepped c s u 0 C T → (e : ℕ) → StepGoes c s e (goes_on w c1)
-    goes_walk T has e = let r = goes_shown 0 T has in coords_go c s e u b [] (let D = goes_on w c1 in D.outs) C T is_seen work.there knows.on r.0 has r.1
+    -- behind lines
+    pub goes_walk : (pre : List Body) (T : State) → HasStepped c s u (length pre) C T → (e : ℕ) → StepGoes c s e (record { part = C; outs = map Say pre ++ (let D = goes_on w c1 in D.outs) })
+    goes_walk pre T has e = let r = goes_shown (length pre) T has in coords_go c s e u b pre (let D = goes_on w c1 in D.outs) C T is_seen work.there knows.on r.0 has r.1
 
 pub calls_go : CallsGo
-calls_go c s e y u b d o is_seen work idle plain knows asked = goes_walk c s is_seen u b d work w c1 refl (ap (λ (v : Uid). doing_of v (coord_at s)) (its c s is_seen u b d work) ∙ work.works) knows asked g.state stepped e
+calls_go c s e y u b d o is_seen work idle plain knows asked = goes_walk c s is_seen u b d work w c1 refl (ap (λ (v : Uid). doing_of v (coord_at s)) (its c s is_seen u b d work) ∙ work.works) knows asked [] g.state stepped e
   where
     k : Keeping
     k = renewed (is_free (root_of b.path) (actor b.path) y (coord_at s)) (keeping_of y (root_at (root_of b.path) (coord_at s))) (let q = keeping_of y (root_at (root_of b.path) (coord_at s)) in q.kept)
@@ -85,7 +87,7 @@ calls_go c s e y u b d o is_seen work idle plain knows asked = goes_walk c s is_
     stepped = let h = g.holds in called_stepped c s is_seen u b work.there 0 (let D = goes_on w c1 in D.part) g.state knows.on g.run h.0 h.1.0 h.1.1.2 (let n = now_S c s is_seen u b d work in let k = h.1.1.1 in omega (arith, n, k))
 
 pub includes_go : IncludesGo
-includes_go c s e y store u b d is_seen work idle plain knows asked = goes_walk c s is_seen u b d work w c1 refl (ap (λ (v : Uid). doing_of v (coord_at s)) (its c s is_seen u b d work) ∙ work.works) knows asked c.state (waits_stepped c s is_seen u b work.there 0 (let D = goes_on w c1 in D.part) (includes_are_made (let f = c.fixed in f.act) (let f = c.fixed in f.code) (let f = c.fixed in f.paths) c.x y store (coord_at s) u b d c.state (reached_S c s is_seen u b d work) work idle plain (let k = here c s is_seen u b d work in k.coord))) e
+includes_go c s e y store u b d is_seen work idle plain knows asked = goes_walk c s is_seen u b d work w c1 refl (ap (λ (v : Uid). doing_of v (coord_at s)) (its c s is_seen u b d work) ∙ work.works) knows asked [] c.state (waits_stepped c s is_seen u b work.there 0 (let D = goes_on w c1 in D.part) (includes_are_made (let f = c.fixed in f.act) (let f = c.fixed in f.code) (let f = c.fixed in f.paths) c.x y store (coord_at s) u b d c.state (reached_S c s is_seen u b d work) work idle plain (let k = here c s is_seen u b d work in k.coord))) e
   where
     c1 : Coord
     c1 = record (coord_at s) { tree = uses_object b.path y (let q = coord_at s in q.tree) }
@@ -107,11 +109,14 @@ module _ (c : Case) (s : Spot) (e : ℕ) (is_seen : IsSeenIn c (world_at s)) (u 
   works1 : doing_of (actor w.path) c1 ≡ Some d
   works1 = ap (λ (v : Uid). doing_of v (coord_at s)) (ap actor path ∙ its c s is_seen u b d work) ∙ work.works
 
-  -- a step of a call, in the state to which the machine has gone
-  step_walk : (t : CallStep) (T : State) → KnowsCoord c s (let D = step_call w t c1 in D.part) → KnowsAsks c (let D = step_call w t c1 in D.part) → HasStepped c s u (lines_of t) (let D = step_call w t c1 in D.part) T → StepGoes c s e (step_call w t c1)
-  step_walk (On at) T knows asked has = goes_walk c s is_seen u b d work (record w { req = w.req + 1; at = at }) c1 path works1 knows asked T has e
-  step_walk (Ended end) T knows asked has = subst (StepGoes c s e) (λ i. record { part = (let D = ends_call w end c1 in D.part); outs = say_for (end_line w.x w.goal end) (sym works1 i) })
-      (coords_go c s e u b (end_line w.x w.goal end d.label ∷ []) [] (let D = ends_call w end c1 in D.part) T is_seen work.there knows.on tt has tt)
+  -- a step of a call behind lines, in the state to which the machine has gone
+  step_walk : (t : CallStep) (pre : List Body) (T : State) → KnowsCoord c s (let D = step_call w t c1 in D.part) → KnowsAsks c (let D = step_call w t c1 in D.part) → HasStepped c s u (length pre + lines_of t) (let D = step_call w t c1 in D.part) T → let D = step_call w t c1 in StepGoes c s e (record { part = D.part; outs = map Say pre ++ D.outs })
+  step_walk (On at) pre T knows asked has = goes_walk c s is_seen u b d work (record w { req = w.req + 1; at = at }) c1 path works1 knows asked pre T (says_as c s u (length pre + 0) (length pre) (let D = step_call w (On at) c1 in D.part) T (omega arith) has) e
+  step_walk (Ended end) pre T knows asked has =
+      let C : Coord = (let D = ends_call w end c1 in D.part) in
+      let l : Body = end_line w.x w.goal end d.label in
+      subst (λ (es : List Effect). StepGoes c s e (record { part = C; outs = es })) (sym ((λ i. map Say pre ++ say_for (end_line w.x w.goal end) (works1 i)) ∙ says_then pre l []))
+      (coords_go c s e u b (pre ++ l ∷ []) [] C T is_seen work.there knows.on tt (says_as c s u (length pre + 1) (length (pre ++ l ∷ [])) C T (sym (length_one pre l)) has) tt)
 
 -- where the machine's line stands, and what it leaves of actions
 writes_now : (act : Acts) (code : Codes) (p : ℕ) (w : Steps) (o : Op) (S T : State) (free : Bool) (kept : Option Known) (at : At) (r : Reply) → WritesLine act code p w o S T at r → S.now ≤ p → T.now ≤ p + lines_of (let m = answered free kept (Run o) at r in m.step)
@@ -132,8 +137,8 @@ call_answers_go c s e u b d w o r is_seen work calling shows knows asked =
     let h = g.holds in
     let n = writes_now (let f = c.fixed in f.act) (let f = c.fixed in f.code) (length (let M = s.seen in M.lines) + 1) w o c.state g.state free (kept_at w (coord_at s)) w.at r h.1.1 (now_S c s is_seen u b d work) in
     let m = subst (λ (q : Goal). (let T = g.state in T.now) ≤ length (let M = s.seen in M.lines) + 1 + lines_of (let y = answered free (kept_at w (coord_at s)) q w.at r in y.step)) (sym calling.goal) n in
-    step_walk c s e is_seen u b d work w calling.path (root_moved w r mv) mv.step g.state knows asked
-    (called_stepped c s is_seen u b work.there (lines_of mv.step) (let D = heard_call w r (coord_at s) in D.part) g.state knows.on g.run h.0 h.1.0 (writes_keeps (let f = c.fixed in f.act) (let f = c.fixed in f.code) (length (let M = s.seen in M.lines) + 1) w o c.state g.state w.at r h.1.1) (omega (arith, m)))
+    step_walk c s e is_seen u b d work w calling.path (root_moved w r mv) mv.step [] g.state knows asked
+    (called_stepped c s is_seen u b work.there (0 + lines_of mv.step) (let D = heard_call w r (coord_at s) in D.part) g.state knows.on g.run h.0 h.1.0 (writes_keeps (let f = c.fixed in f.act) (let f = c.fixed in f.code) (length (let M = s.seen in M.lines) + 1) w o c.state g.state w.at r h.1.1) (omega (arith, m)))
   where
     free : Bool
     free = is_free (root_of w.path) (actor w.path) w.x (coord_at s)
@@ -143,23 +148,31 @@ call_answers_go c s e u b d w o r is_seen work calling shows knows asked =
 
 pub other_answers_go : OtherAnswersGo
 other_answers_go c s e u b d w r is_seen work waiting other knows asked =
-    step_walk c s e is_seen u b d work w waiting.path (root_moved w r mv) mv.step c.state knows asked
-    (waits_stepped c s is_seen u b work.there (lines_of mv.step) (let D = heard_call w r (coord_at s) in D.part) (other_answers_are_heard (let f = c.fixed in f.act) (let f = c.fixed in f.code) (let f = c.fixed in f.paths) c.x (coord_at s) u b d w r c.state (reached_S c s is_seen u b d work) work waiting other (let k = here c s is_seen u b d work in k.coord)))
+    step_walk c s e is_seen u b d work w waiting.path (root_moved w r mv) mv.step [] c.state knows asked
+    (waits_stepped c s is_seen u b work.there (0 + lines_of mv.step) (let D = heard_call w r (coord_at s) in D.part) (other_answers_are_heard (let f = c.fixed in f.act) (let f = c.fixed in f.code) (let f = c.fixed in f.paths) c.x (coord_at s) u b d w r c.state (reached_S c s is_seen u b d work) work waiting other (let k = here c s is_seen u b d work in k.coord)))
   where
     mv : Moved
     mv = answered (is_free (root_of w.path) (actor w.path) w.x (coord_at s)) (kept_at w (coord_at s)) w.goal w.at r
+
+-- the lines of whom it waited for
+gone_lines : (u : Uid) (c : Coord) (n : ℕ) → (bs : List Body) × (gaveup_lines u (n ∷ []) c ≡ map Say bs)
+gone_lines u c n = flat_says u c (λ (n : ℕ) (l : Label). body.GaveUp l n) (n ∷ [])
 
 pub lost_calls_go : LostCallsGo
 lost_calls_go c s e u b d w o is_seen work calling knows asked =
     let g = calls_are_lost (let f = c.fixed in f.act) (let f = c.fixed in f.code) (let f = c.fixed in f.paths) c.x (coord_at s) u b d w o c.state (reached_S c s is_seen u b d work) work calling (let k = here c s is_seen u b d work in k.coord) in
     let h = g.holds in
-    step_walk c s e is_seen u b d work w calling.path (root_lost w (given_up w.at)) (given_up w.at) g.state knows asked
-    (called_stepped c s is_seen u b work.there (lines_of (given_up w.at)) (let D = give_up_call w (coord_at s) in D.part) g.state knows.on g.run h.0 h.1.0 h.1.1.2 (let n = now_S c s is_seen u b d work in let k = h.1.1.1 in omega (arith, n, k)))
+    let gone = gone_lines u (coord_at s) (next_node w) in
+    subst (λ (es : List Effect). StepGoes c s e (record { part = (let D = give_up_call w (coord_at s) in D.part); outs = es })) (λ i. sym gone.1 i ++ (let D = give_up_call w (coord_at s) in D.outs))
+    (step_walk c s e is_seen u b d work w calling.path (root_lost w (given_up w.at)) (given_up w.at) gone.0 g.state knows asked
+    (called_stepped c s is_seen u b work.there (length gone.0 + lines_of (given_up w.at)) (let D = give_up_call w (coord_at s) in D.part) g.state knows.on g.run h.0 h.1.0 h.1.1.2 (let n = now_S c s is_seen u b d work in let k = h.1.1.1 in omega (arith, n, k))))
 
 pub other_lost_go : OtherLostGo
 other_lost_go c s e u b d w is_seen work waiting away knows asked =
-    step_walk c s e is_seen u b d work w waiting.path (root_lost w (given_up w.at)) (given_up w.at) c.state knows asked
-    (waits_stepped c s is_seen u b work.there (lines_of (given_up w.at)) (let D = give_up_call w (coord_at s) in D.part) (other_calls_are_lost (let f = c.fixed in f.act) (let f = c.fixed in f.code) (let f = c.fixed in f.paths) c.x (coord_at s) u b d w c.state (reached_S c s is_seen u b d work) work waiting away (let k = here c s is_seen u b d work in k.coord)))
+    let gone = gone_lines u (coord_at s) (next_node w) in
+    subst (λ (es : List Effect). StepGoes c s e (record { part = (let D = give_up_call w (coord_at s) in D.part); outs = es })) (λ i. sym gone.1 i ++ (let D = give_up_call w (coord_at s) in D.outs))
+    (step_walk c s e is_seen u b d work w waiting.path (root_lost w (given_up w.at)) (given_up w.at) gone.0 c.state knows asked
+    (waits_stepped c s is_seen u b work.there (length gone.0 + lines_of (given_up w.at)) (let D = give_up_call w (coord_at s) in D.part) (other_calls_are_lost (let f = c.fixed in f.act) (let f = c.fixed in f.code) (let f = c.fixed in f.paths) c.x (coord_at s) u b d w c.state (reached_S c s is_seen u b d work) work waiting away (let k = here c s is_seen u b d work in k.coord))))
 
 -- ---- an answer to an include of the object
 
@@ -182,8 +195,8 @@ include_answers_go c s e store u b d w r is_seen work waiting about goal shows k
     let h = g.holds in
     let n = included_now (let f = c.fixed in f.act) (length (let M = s.seen in M.lines) + 1) w store c.state g.state free (kept_at w (coord_at s)) w.at r h.1.1 (now_S c s is_seen u b d work) in
     let m = subst (λ (q : Goal). (let T = g.state in T.now) ≤ length (let M = s.seen in M.lines) + 1 + lines_of (let y = answered free (kept_at w (coord_at s)) q w.at r in y.step)) (sym goal) n in
-    step_walk c s e is_seen u b d work w waiting.path (root_moved w r mv) mv.step g.state knows asked
-    (included_stepped c s is_seen u b work.there (lines_of mv.step) (let D = heard_call w r (coord_at s) in D.part) g.state g.run h.0 h.1.0 (λ k i. ⊎_elim (λ old. inl old) (λ is. inr (ap root is ∙ ap (λ (v : Uid). root (let f = c.fixed in f.act v)) (ap actor waiting.path ∙ its c s is_seen u b d work))) (included_fresh (let f = c.fixed in f.act) (length (let M = s.seen in M.lines) + 1) w c.state g.state (included_by w.at r) h.1.1 k i)) (omega (arith, m)))
+    step_walk c s e is_seen u b d work w waiting.path (root_moved w r mv) mv.step [] g.state knows asked
+    (included_stepped c s is_seen u b work.there (0 + lines_of mv.step) (let D = heard_call w r (coord_at s) in D.part) g.state g.run h.0 h.1.0 (λ k i. ⊎_elim (λ old. inl old) (λ is. inr (ap root is ∙ ap (λ (v : Uid). root (let f = c.fixed in f.act v)) (ap actor waiting.path ∙ its c s is_seen u b d work))) (included_fresh (let f = c.fixed in f.act) (length (let M = s.seen in M.lines) + 1) w c.state g.state (included_by w.at r) h.1.1 k i)) (omega (arith, m)))
   where
     free : Bool
     free = is_free (root_of w.path) (actor w.path) w.x (coord_at s)

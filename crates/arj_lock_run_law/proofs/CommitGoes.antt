@@ -1,6 +1,6 @@
 -- Commits of tops go in the whole world: they are called, answered, given up, decided.
 use Rattle.std.proofs.Common.{◌≡◌, ◌≢◌, ◌≤◌, ◌<◌, ◌∙◌, ◌+◌, ◌++◌, ℕ, List, [], ◌∷◌, map, Bool, true, false, cond, Some, refl, sym, ap, subst, inr, arith, length}
-use Rattle.std.specs.Prelude.{⊤, flat_map}
+use Rattle.std.specs.Prelude.{⊤}
 use Rattle.arj_lock.proofs.Members.{in_from}
 use Rattle.arj_protocol.specs.Words.{Ask, Binding, Body, End, Head, Kind, Label, Path, Uid, request}
 use Rattle.arj_protocol.specs.Words.body
@@ -49,34 +49,12 @@ use Rattle.arj_lock_run_law.specs.Fixed.{family_of}
 use Rattle.arj_lock_run_law.specs.Posts.{IsAskedSeen}
 use Rattle.arj_lock_run_law.specs.Sees.{SeesUp}
 use Rattle.arj_lock_run_law.proofs.AskedSteps.{commit_names, commit_says}
-use Rattle.arj_lock_run_law.proofs.CoordSteps.{coords_go, length_one}
+use Rattle.arj_lock_run_law.proofs.CoordSteps.{coords_go, length_one, says_as, says_more, says_then}
 use Rattle.arj_lock_run_law.proofs.DecideSteps.{decides_walk}
 use Rattle.arj_lock_run_law.proofs.GoodSteps.{steady}
 use Rattle.arj_lock_run_law.proofs.OtherSteps.{here_of}
 use Rattle.arj_lock_run_law.proofs.StepSteps.{ended_stepped}
-use Rattle.arj_lock_run_law.proofs.ToldSteps.{AreShownSends, ended_here, map_app, one_told, says_lines, telling, tolds_shown}
-
--- ---- lines
-
--- one more line
-says_then : (pre : List Body) (l : Body) (rest : List Effect) → map Say pre ++ (Say l ∷ rest) ≡ map Say (pre ++ l ∷ []) ++ rest
-says_then [] l rest = refl
-says_then (p ∷ pre) l rest = ap (λ es. Say p ∷ es) (says_then pre l rest)
-
-says_more : (pre more : List Body) (rest : List Effect) → map Say pre ++ (map Say more ++ rest) ≡ map Say (pre ++ more) ++ rest
-says_more [] more rest = refl
-says_more (p ∷ pre) more rest = ap (λ es. Say p ∷ es) (says_more pre more rest)
-
-says_none : (pre : List Body) → map Say pre ≡ map Say pre ++ []
-says_none [] = refl
-says_none (p ∷ pre) = ap (λ es. Say p ∷ es) (says_none pre)
-
-flat_says : {A : Type 0} (u : Uid) (c : Coord) (g : A → Label → Body) (xs : List A) → (bs : List Body) × (flat_map (λ (a : A). says u (g a) c) xs ≡ map Say bs)
-flat_says u c g [] = ([], refl)
-flat_says u c g (a ∷ xs) =
-    let h = says_lines u (g a) c in
-    let r = flat_says u c g xs in
-    (h.0 ++ r.0, (λ i. h.1 i ++ r.1 i) ∙ map_app h.0 r.0)
+use Rattle.arj_lock_run_law.proofs.ToldSteps.{AreShownSends, ended_here, flat_says, one_told, telling, tolds_shown}
 
 -- ---- a coordinator's works
 
@@ -159,9 +137,6 @@ lines_by (Stays m) = 0
 lines_by (Asks m) = 0
 lines_by (Decides q) = 1
 lines_by (Aborts why q) = 1
-
-says_as : (c : Case) (s : Spot) (u : Uid) (n m : ℕ) (C : Coord) (T : State) → n ≡ m → HasStepped c s u n C T → HasStepped c s u m C T
-says_as c s u n m C T same has = subst (λ (k : ℕ). HasStepped c s u k C T) same has
 
 module _ (c : Case) (s : Spot) (e : ℕ) (is_seen : IsSeenIn c (world_at s)) (holds : HoldsNamingIn c s.node (let t = s.parts in t.naming)) (b : Branch) (d : Doing) (unserial : b.kind ≢ kind.Serial) (unnested : b.kind ≢ kind.Nested) where
   abbrev c0 : Coord

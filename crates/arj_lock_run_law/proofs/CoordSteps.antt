@@ -1,5 +1,5 @@
 -- A coordinator's step goes in the whole world.
-use Rattle.std.proofs.Common.{◌≡◌, ◌∙◌, ◌+◌, ◌++◌, ℕ, zero, suc, List, [], ◌∷◌, cond, Option, Some, None, refl, sym, ap, inl, inr, ⊎_elim, arith, length, map, Contains}
+use Rattle.std.proofs.Common.{◌≡◌, ◌∙◌, ◌+◌, ◌++◌, ℕ, zero, suc, List, [], ◌∷◌, cond, Option, Some, None, refl, sym, ap, subst, inl, inr, ⊎_elim, arith, length, map, Contains}
 use Rattle.arj_protocol.specs.Words.{Body, Uid, first_uid}
 use Rattle.arj_protocol.specs.Coord.{Coord}
 use Rattle.arj_protocol.specs.Effect.{Disk, Do, Effect, Say, Send}
@@ -26,6 +26,20 @@ use Rattle.arj_lock_run_law.proofs.UnitSteps.{naming_unit, others_unit, server_u
 pub length_one : {A : Type 0} (xs : List A) (x : A) → length (xs ++ x ∷ []) ≡ length xs + 1
 length_one [] x = refl
 length_one (y ∷ xs) x = let ih = length_one xs x in omega (arith, ih)
+
+-- ---- lines
+
+-- lines stand behind lines
+pub says_then : (pre : List Body) (l : Body) (rest : List Effect) → map Say pre ++ (Say l ∷ rest) ≡ map Say (pre ++ l ∷ []) ++ rest
+says_then [] l rest = refl
+says_then (p ∷ pre) l rest = ap (λ es. Say p ∷ es) (says_then pre l rest)
+
+pub says_more : (pre more : List Body) (rest : List Effect) → map Say pre ++ (map Say more ++ rest) ≡ map Say (pre ++ more) ++ rest
+says_more [] more rest = refl
+says_more (p ∷ pre) more rest = ap (λ es. Say p ∷ es) (says_more pre more rest)
+
+pub says_as : (c : Case) (s : Spot) (u : Uid) (n m : ℕ) (C : Coord) (T : State) → n ≡ m → HasStepped c s u n C T → HasStepped c s u m C T
+says_as c s u n m C T same has = subst (λ (k : ℕ). HasStepped c s u k C T) same has
 
 -- ---- trees that go on
 

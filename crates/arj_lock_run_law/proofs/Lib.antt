@@ -25,3 +25,4 @@ pub mod TickSteps
 pub mod QuerySteps
 pub mod CommitGoes
 pub mod AckSteps
+pub mod BeginGoes

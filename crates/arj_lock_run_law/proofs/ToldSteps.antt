@@ -219,16 +219,24 @@ doomed_commits_go c s e u b d is_seen free doomed childless knows =
 -- ---- an abort with all that is open below it
 
 -- what is said is lines alone
-pub says_lines : (u : Uid) (f : Label → Body) (c : Coord) → (bs : List Body) × (says u f c ≡ map Say bs)
+says_lines : (u : Uid) (f : Label → Body) (c : Coord) → (bs : List Body) × (says u f c ≡ map Say bs)
 says_lines u f c = by (doing_of u c)
   where
     by : (o : Option Doing) → (bs : List Body) × (say_for f o ≡ map Say bs)
     by None = ([], refl)
     by (Some d) = (f d.label ∷ [], refl)
 
-pub map_app : (xs ys : List Body) → map Say xs ++ map Say ys ≡ map Say (xs ++ ys)
+map_app : (xs ys : List Body) → map Say xs ++ map Say ys ≡ map Say (xs ++ ys)
 map_app [] ys = refl
 map_app (x ∷ xs) ys = ap (λ zs. Say x ∷ zs) (map_app xs ys)
+
+-- so is what is said of each in a list
+pub flat_says : {A : Type 0} (u : Uid) (c : Coord) (g : A → Label → Body) (xs : List A) → (bs : List Body) × (flat_map (λ (a : A). says u (g a) c) xs ≡ map Say bs)
+flat_says u c g [] = ([], refl)
+flat_says u c g (a ∷ xs) =
+    let h = says_lines u (g a) c in
+    let r = flat_says u c g xs in
+    (h.0 ++ r.0, (λ i. h.1 i ++ r.1 i) ∙ map_app h.0 r.0)
 
 aborts_say : (us : List Uid) (c : Coord) → (bs : List Body) × ((let d = all_aborted us c in d.outs) ≡ map Say bs)
 aborts_say [] c = ([], refl)

@@ -1,28 +1,30 @@
 -- What a coordinator does in the whole world: only one unit's parts of the machine change, and all else is seen as before.
-use Rattle.std.specs.Prelude.{⊤, ◌≡◌, ◌≢◌, ◌⊎◌, ◌≤◌, ◌<◌, ◌+◌, ◌++◌, ℕ, true, false, List, Some, length, map, is_some}
+use Rattle.std.specs.Prelude.{⊤, ◌≡◌, ◌≢◌, ◌⊎◌, ◌≤◌, ◌<◌, ◌+◌, ◌++◌, ℕ, ◌∷◌, true, false, List, Option, Some, length, map, is_some}
 use Rattle.std.specs.List.{AllByRecursion}
-use Rattle.arj_protocol.specs.Words.{Binding, Body, ObjectState, Op, Uid}
+use Rattle.arj_protocol.specs.Words.{Binding, Body, Kind, Label, ObjectState, Op, Uid}
 use Rattle.arj_protocol.specs.Words.kind
 use Rattle.arj_protocol.specs.Ask.{Reply, top_of}
-use Rattle.arj_protocol.specs.Asking.{call, commit_action, give_up_call, gives_up, heard_call, include, moved_commit}
+use Rattle.arj_protocol.specs.Asking.{begin_action, call, commit_action, gives_up, heard_call, include, moved_commit}
 use Rattle.arj_protocol.specs.Call.{AtActivate, AtBind, Include as IncludeStore, Known, Steps}
 use Rattle.arj_protocol.specs.Commit as commit
 use Rattle.arj_protocol.specs.Commit.{Machine, plan_of}
-use Rattle.arj_protocol.specs.Coord.{Calling, Committing, Coord, Doing, Idle, doing_of}
+use Rattle.arj_protocol.specs.Coord.{Calling, Committing, Coord, Doing, Idle, doing_of, no_root, root_at}
 use Rattle.arj_protocol.specs.Effect.{Intent, Did, Effect, Say, Send}
 use Rattle.arj_protocol.specs.Ending.{abort_action}
 use Rattle.arj_protocol.specs.Node.{with_coord}
 use Rattle.arj_protocol.specs.Order.{binding_number}
-use Rattle.arj_protocol.specs.Tree.{Branch, branch_of, ends_of, has_open_child}
+use Rattle.arj_protocol.specs.Tree.{Branch, branch_of, ends_of, has_open_child, next_uid, path_below}
+use Rattle.arj_protocol.specs.World.{Labelled}
 use Rattle.arj_lock_law.specs.Actions.{Act, In, root}
 use Rattle.arj_lock_law.specs.Machine.{Run}
 use Rattle.arj_lock_law.specs.State as state
 use Rattle.arj_lock_law.specs.State.{State}
-use Rattle.arj_part_law.specs.Actions.{AreBegun}
+use Rattle.arj_part_law.specs.Actions.{Action, AreBegun, Begins}
 use Rattle.arj_part_law.specs.Claims.{GoesOn}
 use Rattle.arj_part_law.specs.Coords.{IsGoodCoord}
 use Rattle.arj_part_law.specs.Ends.{IsSure}
-use Rattle.arj_view_law.specs.Seen.{Post, Within}
+use Rattle.arj_part_law.specs.Trees.{MayStand}
+use Rattle.arj_view_law.specs.Seen.{Post, Within, given}
 use Rattle.arj_view_law.specs.Walks.{Up, Walks}
 use Rattle.arj_lock_fact_law.specs.Works.{KnowsEnds}
 use Rattle.arj_lock_view_law.specs.Acting.{IsFirst, IsFreeToEnd}
@@ -167,16 +169,16 @@ OtherAnswersGo = (c : Case) (s : Spot) (e : ℕ) (u : Uid) (b : Branch) (d : Doi
     → IsSeenIn c (world_at s) → IsWorking c s u b d → IsWaiting b d w → w.x ≢ c.x
     → let D = heard_call w r (coord_at s) in KnowsCoord c s D.part → KnowsAsks c D.part → StepGoes c s e D
 
--- A call on the object is given up; and an include, or a call on another object.
+-- A call on the object is given up, behind the line of whom it waited for; and an include, or a call on another object.
 abbrev pub LostCallsGo : Type 0
 LostCallsGo = (c : Case) (s : Spot) (e : ℕ) (u : Uid) (b : Branch) (d : Doing) (w : Steps) (o : Op)
     → IsSeenIn c (world_at s) → IsWorking c s u b d → IsCalling c.x b d w o
-    → let D = give_up_call w (coord_at s) in KnowsCoord c s D.part → KnowsAsks c D.part → StepGoes c s e D
+    → let D = gives_up u (records_at s) (coord_at s) (Calling w) in KnowsCoord c s D.part → KnowsAsks c D.part → StepGoes c s e D
 
 abbrev pub OtherLostGo : Type 0
 OtherLostGo = (c : Case) (s : Spot) (e : ℕ) (u : Uid) (b : Branch) (d : Doing) (w : Steps)
     → IsSeenIn c (world_at s) → IsWorking c s u b d → IsWaiting b d w → IsElsewhere c.x w
-    → let D = give_up_call w (coord_at s) in KnowsCoord c s D.part → KnowsAsks c D.part → StepGoes c s e D
+    → let D = gives_up u (records_at s) (coord_at s) (Calling w) in KnowsCoord c s D.part → KnowsAsks c D.part → StepGoes c s e D
 
 -- ---- commits
 
@@ -208,3 +210,19 @@ abbrev pub LostCommitsGo : Type 0
 LostCommitsGo = (c : Case) (s : Spot) (e : ℕ) (u : Uid) (b : Branch) (d : Doing) (k : Machine)
     → IsSeenIn c (world_at s) → HoldsNamingIn c s.node (let t = s.parts in t.naming) → IsAtCommit s u b d k
     → let D = gives_up u (records_at s) (coord_at s) (Committing k) in KnowsCoord c s D.part → KnowsAsks c D.part → KnowsEnds D.part → StepGoes c s e D
+
+-- ---- beginnings
+
+-- the action that begins, and the case with it
+abbrev pub beginning : Kind → Option Branch → Coord → Action
+beginning k above q = record { path = path_below k above (next_uid q.tree); kind = k }
+
+abbrev pub with_action : Action → Case → Case
+with_action a c = record c { begun = a ∷ c.begun }
+
+-- An action begins, which is new and may stand there, where its root has nothing yet: the machine waits, and the object is seen with it.
+abbrev pub BeginsGo : Type 0
+BeginsGo = (c : Case) (s : Spot) (e : ℕ) (l : Label) (g : Labelled) (k : Kind) (parent : Option Label) (above : Option Branch)
+    → IsSeenIn c (world_at s) → Begins (beginning k above (coord_at s)) c.begun → MayStand (let f = c.fixed in f.paths) k (let q = coord_at s in q.tree) (let a = beginning k above (coord_at s) in a.path) → root_at (next_uid (let q = coord_at s in q.tree)) (coord_at s) ≡ no_root
+    → let D = begin_action l k parent above (coord_at s) in let b = with_action (beginning k above (coord_at s)) c in
+    Walks (IsSeenSo b) e s.node D.outs (Up (IsSeenSo b) s.node (with_coord s.parts D.part)) s.disk (given l g s.seen)

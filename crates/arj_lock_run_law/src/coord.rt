@@ -1,5 +1,5 @@
 // Coordinators, in the whole world as the lock machine of one object has it.
-ghost use Rattle.arj_lock_run_law.specs.Coordinating.{AbortsGo, CallAnswersGo, CallsGo, CommitAnswersGo, CoordsGo, DoomedCommitsGo, IncludeAnswersGo, IncludesGo, LostCallsGo, LostCommitsGo, NestedCommitsGo, OtherAnswersGo, OtherLostGo, TopCommitsGo};
+ghost use Rattle.arj_lock_run_law.specs.Coordinating.{AbortsGo, BeginsGo, CallAnswersGo, CallsGo, CommitAnswersGo, CoordsGo, DoomedCommitsGo, IncludeAnswersGo, IncludesGo, LostCallsGo, LostCommitsGo, NestedCommitsGo, OtherAnswersGo, OtherLostGo, TopCommitsGo};
 
 /// A coordinator says lines and sends messages, for one unit: where the machine has gone along, and what is sent is shown in its state,
 /// the object is seen in the whole world at the end and wherever the walk is. It does nothing when it runs.
@@ -37,4 +37,11 @@ pub fn commits_go_in_the_world()
     ensures tops { TopCommitsGo }
     ensures answers { CommitAnswersGo }
     ensures lost { LostCommitsGo }
+{}
+
+/// An action begins at a coordinator: the machine waits, and all that was seen of the object in the whole world is seen with one more
+/// action that was begun. That it is new and may stand there is counted on, and that its root has nothing yet. It does nothing when it
+/// runs.
+pub fn begins_go_in_the_world()
+    ensures { BeginsGo }
 {}

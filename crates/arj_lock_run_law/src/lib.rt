@@ -5,8 +5,8 @@
 //! that agrees with those that were begun (`specs/Fixed.antt`). What is taken as known of the protocol alone where something comes is
 //! named in `specs/Beside.antt`. It stands on `arj_run_law` for what nodes and messages are by themselves. What it gives upward so far:
 //! `messages_go_in_the_world`, `stops_go_in_the_world`, `restarts_go_in_the_world`, and of coordinators `coordinators_go_in_the_world`,
-//! `ends_go_in_the_world`, `calls_go_in_the_world`, `commits_go_in_the_world`, `ticks_go_in_the_world`, `queries_go_in_the_world` and
-//! `acks_go_in_the_world`.
+//! `begins_go_in_the_world`, `ends_go_in_the_world`, `calls_go_in_the_world`, `commits_go_in_the_world`, `ticks_go_in_the_world`,
+//! `queries_go_in_the_world` and `acks_go_in_the_world`.
 #![tactic(auto)]
 
 mod asking;
@@ -15,8 +15,8 @@ mod world;
 
 pub use asking::{acks_go_in_the_world, queries_go_in_the_world, ticks_go_in_the_world};
 pub use coord::{
-    calls_go_in_the_world, commits_go_in_the_world, coordinators_go_in_the_world,
-    ends_go_in_the_world,
+    begins_go_in_the_world, calls_go_in_the_world, commits_go_in_the_world,
+    coordinators_go_in_the_world, ends_go_in_the_world,
 };
 pub use world::{
     messages_go_in_the_world, posts_stay_shown, restarts_go_in_the_world, stops_go_in_the_world,

@@ -137,14 +137,14 @@ module _ (act : Acts) (code : Codes) (paths : Paths) (x : ℕ) (l : Label) (k : 
   path_is = begins.stands.path
 
   -- it is a root, or stands in the root and unit of its parent
-  record IsBelow : Type 0 where
+  pub record IsBelow : Type 0 where
     pub w : Uid
     pub b : Branch
     pub there : branch_of w c.tree ≡ Some b
     pub root_is : root_of p ≡ root_of b.path
     pub unit_is : root (act u) ≡ root (act w)
 
-  place : (root_of p ≡ u) ⊎ IsBelow
+  pub place : (root_of p ≡ u) ⊎ IsBelow
   place = by (before_last (paths u)) refl
     where
       by : (o : Option Uid) → before_last (paths u) ≡ o → (root_of p ≡ u) ⊎ IsBelow
