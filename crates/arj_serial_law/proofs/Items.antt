@@ -28,7 +28,7 @@ maker : (B : Book) (ls : List Line) (l : List ℕ) (a : Act) → AreRight B ls �
 maker B ls l a right named = let s = paths_stay B ls a right (named_in B.acts l a named) in record { act = a; there = s.1; path_is = ap (path B.acts) (sym (named_label B.acts l a named)) ∙ sym s.0 }
 
 -- The same at the line itself: the book after it has its actions.
-maker_at : (B : Book) (b : Body) (ls : List Line) (l : List ℕ) (a : Act) → AreRight (turned B b) ls → (let V = turned B b in V.acts) ≡ B.acts → act_in B.acts l ≡ Some a → HasMaker (let V = book_from (turned B b) ls in V.acts) (path B.acts l)
+pub maker_at : (B : Book) (b : Body) (ls : List Line) (l : List ℕ) (a : Act) → AreRight (turned B b) ls → (let V = turned B b in V.acts) ≡ B.acts → act_in B.acts l ≡ Some a → HasMaker (let V = book_from (turned B b) ls in V.acts) (path B.acts l)
 maker_at B b ls l a right same named = subst (λ xs. HasMaker (let V = book_from (turned B b) ls in V.acts) (path xs l)) same (maker (turned B b) ls l a right (ap (λ xs. act_in xs l) same ∙ named))
 
 said_from : (B : Book) (n : ℕ) (ls : List Line) → AreRight B ls → (s : Placed Said) → In s (read said_of B.acts n ls) → HasMaker (let V = book_from B ls in V.acts) s.it.path

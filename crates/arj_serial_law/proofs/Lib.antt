@@ -16,3 +16,5 @@ pub mod Shown
 pub mod Running
 pub mod Taking
 pub mod Turning
+pub mod Includes
+pub mod Including

@@ -146,7 +146,7 @@ path_of_uid (x ∷ xs) apart b (inr i) =
     ap (λ c. cond c (path_in xs x) (path_by xs b.uid)) (uid_other x.uid b.uid (λ e. never (ap (has_act xs) e ∙ among xs b i) apart.2)) ∙ path_of_uid xs apart.3 b i ∙ sym (path_old x xs b apart.1 i)
 
 -- the last member of a unit
-unit_last : (ts : List Top) (r : ℕ) → (unit_place ts r ≡ 0) ⊎ ((u : Top) × In u ts × (u.root ≡ r) × (u.at ≡ unit_place ts r))
+pub unit_last : (ts : List Top) (r : ℕ) → (unit_place ts r ≡ 0) ⊎ ((u : Top) × In u ts × (u.root ≡ r) × (u.at ≡ unit_place ts r))
 unit_last [] r = inl refl
 unit_last (t ∷ ts) r = by (t.root == r) refl (unit_last ts r)
   where

@@ -1,7 +1,7 @@
 -- A call's line stands before the lines of all commits on its path, and before that of the call of its top's commit.
-use Rattle.std.proofs.Common.{◌≡◌, ◌≤◌, ◌<◌, ◌+◌, ◌⊎◌, ℕ, List, true, false, inl, inr, refl, sym, ◌∙◌, subst, arith}
+use Rattle.std.proofs.Common.{[], ◌∷◌, false, ◌≡◌, ◌≤◌, ◌<◌, ◌+◌, ◌⊎◌, ℕ, List, true, inl, inr, refl, sym, ◌∙◌, subst, arith}
 use Rattle.arj_lock_law.specs.Actions.{Act, Root, In, is_action, is_top, on, at_act}
-use Rattle.arj_lock_law.specs.State.{Action, Answer, Call, State}
+use Rattle.arj_lock_law.specs.State.{Action, Answer, Call, Include, State}
 use Rattle.arj_lock_law.specs.Steps.{Event, CrashNaming, BindLive, BindNew, Grant, Record, ConfirmTop, PassEntry, DropEntry, CrashServer, ActivateCopy, Apply, Refuse, Change, PassRow, PassTop, DropRows, VoteTop, Keep, Name, Load, SendInvoke, Answered, TurnedDown, Lost, GiveUp, CommitNested, Abort, CommitTop, SendVote, SendConfirm, Decide, Report, EndUnit, Included}
 use Rattle.arj_lock_law.specs.Machine.{Guard, next, start, Run, stay, step, stopped}
 use Rattle.arj_lock_law.proofs.Paths.{act_cases, differ}
@@ -20,8 +20,8 @@ record IsFresh (now : ℕ) (a : Act) (old new : Action) : Type 0 where
   commit : is_action a ≡ true → new.stage ≡ 3 → ((old.stage ≡ 3) × (new.done ≡ old.done)) ⊎ (now ≤ new.done)
   place : is_top a ≡ true → 1 ≤ new.stage → new.stage ≤ 3 → ((1 ≤ old.stage) × (old.stage ≤ 3) × (new.place ≡ old.place)) ⊎ (now ≤ new.place)
 
-acted : (s : State) (a : Act) (x : Action) (p : ℕ) → s.now ≤ p → IsFresh s.now a (s.action a) x → Timely s → AreTimely s.calls p (at_act s.action a x)
-acted s a x p le f t = record {
+acted_on : (cs : List Call) (s : State) (a : Act) (x : Action) (p : ℕ) → s.now ≤ p → IsFresh s.now a (s.action a) x → AreTimely cs s.now s.action → AreTimely cs p (at_act s.action a x)
+acted_on cs s a x p le f t = record {
   before = λ c i. let l = t.before c i in omega (arith, l, le);
   commits = λ c u i.
       act_cases (λ (b : Act) (v : Action). on c.act b ≡ true → is_action b ≡ true → v.stage ≡ 3 → c.line < v.done) s.action a x
@@ -38,6 +38,9 @@ acted s a x p le f t = record {
       ])
       (λ b other o top low high. t.places c b i o top low high) u;
 }
+
+acted : (s : State) (a : Act) (x : Action) (p : ℕ) → s.now ≤ p → IsFresh s.now a (s.action a) x → Timely s → AreTimely s.calls p (at_act s.action a x)
+acted s a x p le f t = acted_on s.calls s a x p le f t
 
 -- one that commits or is called as before
 same_act : (s : State) (a : Act) (x : Action) → x.stage ≡ (s.action a).stage → x.done ≡ (s.action a).done → x.place ≡ (s.action a).place → IsFresh s.now a (s.action a) x
@@ -118,6 +121,64 @@ run_timely (step e guard rest) t = run_timely rest (timely_step e _ guard t)
 
 pub start_timely : (v : ℕ) → Timely (start v)
 start_timely v = record { before = λ c i. absurd i; commits = λ c u i. absurd i; places = λ c u i. absurd i }
+
+-- ---- includes
+
+-- includes as calls, with their actions and lines
+abbrev pub as_calls : List Include → List Call
+as_calls [] = []
+as_calls (k ∷ ks) = record { act = k.act; write = false; line = k.line; sees = 0; gives = 0 } ∷ as_calls ks
+
+abbrev pub TimelyToo : State → Type 0
+TimelyToo s = AreTimely (as_calls s.includes) s.now s.action
+
+moved : (s : State) (a : Act) (x : Action) (p : ℕ) → s.now ≤ p → IsFresh s.now a (s.action a) x → TimelyToo s → AreTimely (as_calls s.includes) p (at_act s.action a x)
+moved s a x p le f t = acted_on (as_calls s.includes) s a x p le f t
+
+-- one more include, of an open action
+included : (s : State) (a : Act) (g p : ℕ) → Guard (Included a g p) s → TimelyToo s → TimelyToo (next (Included a g p) s)
+included s a g p guard t = record {
+  before = λ c i. elim i [ inl is ↦ subst (λ (d : Call). d.line < p + 1) (sym is) (omega arith) | inr old ↦ (let l = t.before c old in let q = guard.3 in omega (arith, l, q)) ];
+  commits = λ c u i. elim i [
+    | inl is ↦ (λ o act e. (let zero = guard.2 u (subst (λ (d : Call). on d.act u ≡ true) is o) in absurd (omega (arith, zero, e))))
+    | inr old ↦ (λ o act e. t.commits c u old o act e)
+  ];
+  places = λ c u i. elim i [
+    | inl is ↦ (λ o top low high. (let zero = guard.2 u (subst (λ (d : Call). on d.act u ≡ true) is o) in absurd (omega (arith, zero, low))))
+    | inr old ↦ (λ o top low high. t.places c u old o top low high)
+  ];
+}
+
+too_step : (e : Event) (s : State) → Guard e s → TimelyToo s → TimelyToo (next e s)
+too_step (SendInvoke a k w) s guard t = moved s a _ s.now (omega arith) (same_act s a (record (s.action a) { request = k; waits = true; since = s.now }) refl refl refl) t
+too_step (Answered r p) s guard t = moved s r.request.act _ (p + 1) (let l = guard.4 in omega (arith, l)) (same_act s r.request.act (stopped (s.action r.request.act)) refl refl refl) t
+too_step (TurnedDown q) s guard t = moved s q.act _ s.now (omega arith) (same_act s q.act (stopped (s.action q.act)) refl refl refl) t
+too_step (Lost a) s guard t = moved s a _ s.now (omega arith) (same_act s a (stopped (s.action a)) refl refl refl) t
+too_step (GiveUp a) s guard t = moved s a _ s.now (omega arith) (same_act s a (record (s.action a) { waits = false; doomed = true }) refl refl refl) t
+too_step (CommitNested a p) s guard t =
+    let l = guard.5 in
+    moved s a (record (s.action a) { stage = 3; done = p }) (p + 1) (omega (arith, l)) (record { commit = λ act e. inr l; place = λ top low high. differ top guard.1 }) t
+too_step (Abort a) s guard t = moved s a (record (s.action a) { stage = 4 }) s.now (omega arith) (record { commit = λ act e. absurd (omega (arith, e)); place = λ top low high. absurd (omega (arith, high)) }) t
+too_step (CommitTop m p) s guard t =
+    let l = guard.5 in
+    moved s m (record (s.action m) { stage = 1; place = p }) (p + 1) (omega (arith, l)) (record { commit = λ act e. absurd (omega (arith, e)); place = λ top low high. inr l }) t
+too_step (Decide m) s guard t =
+    let was = guard.1 in
+    moved s m (record (s.action m) { stage = 2 }) s.now (omega arith) (record { commit = λ act e. absurd (omega (arith, e)); place = λ top low high. inl (omega (arith, was), omega (arith, was), refl) }) t
+too_step (Report m p) s guard t =
+    let was = guard.1 in
+    let l = guard.2 in
+    moved s m (record (s.action m) { stage = 3; done = p }) (p + 1) (omega (arith, l)) (record { commit = λ act e. inr l; place = λ top low high. inl (omega (arith, was), omega (arith, was), refl) }) t
+too_step (EndUnit u) s guard t = moved s (Root u) (record (s.action (Root u)) { stage = 3 }) s.now (omega arith) (record { commit = λ act e. absurd (cc act); place = λ top low high. absurd (cc top) }) t
+too_step (Included a g p) s guard t = included s a g p guard t
+too_step e s guard t = t
+
+pub run_too : {s t : State} → Run s t → TimelyToo s → TimelyToo t
+run_too stay t = t
+run_too (step e guard rest) t = run_too rest (too_step e _ guard t)
+
+pub start_too : (v : ℕ) → TimelyToo (start v)
+start_too v = record { before = λ c i. absurd i; commits = λ c u i. absurd i; places = λ c u i. absurd i }
 
 -- the first value stays
 initial_step : (e : Event) (s : State) → (next e s).initial ≡ s.initial

@@ -31,7 +31,7 @@ use Rattle.arj_base.specs.Uid.{nobody}
 
 -- ---- lists
 
-in_reversed : {A : Type 0} (x : A) (xs ys : List A) → In x xs ⊎ In x ys → In x (reverse_aux xs ys)
+pub in_reversed : {A : Type 0} (x : A) (xs ys : List A) → In x xs ⊎ In x ys → In x (reverse_aux xs ys)
 in_reversed x [] ys (inl i) = absurd i
 in_reversed x [] ys (inr i) = i
 in_reversed x (z ∷ xs) ys (inl (inl is)) = in_reversed x xs (z ∷ ys) (inr (inl is))

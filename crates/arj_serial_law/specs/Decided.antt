@@ -95,6 +95,14 @@ pub record HaveTurns (header : Header) (lines : List Line) (x : ℕ) (counts : T
 abbrev pub Wrote : List Line → ℕ → Top → Type 0
 Wrote lines x t = (c : Call) × Contains (committed_calls lines) c × (writes_on x c ≡ true) × (c.top ≡ t.id)
 
+-- an include of a store of the object by the top survives
+abbrev pub Joined : List Line → ℕ → Top → Type 0
+Joined lines x t = (n : ℕ) × Contains (joins_of lines t.id x) n
+
+-- each of two tops that wrote an object, or included a store of it, had its turn before the one whose commit was called later
+abbrev pub ChangersHaveTurns : List Line → ℕ → Type 0
+ChangersHaveTurns lines x = (u t : Top) → Contains (tops lines) u → Contains (tops lines) t → Wrote lines x u ⊎ Joined lines x u → Wrote lines x t ⊎ Joined lines x t → u.at < t.at → IsInTurn lines u t
+
 -- each of two tops that wrote an object had its turn before the one whose commit was called later
 abbrev pub WritersHaveTurns : List Line → Type 0
 WritersHaveTurns lines = (x : ℕ) (u t : Top) → Contains (tops lines) u → Contains (tops lines) t → Wrote lines x u → Wrote lines x t → u.at < t.at → IsInTurn lines u t

@@ -26,4 +26,7 @@ pub use locked::{tied_calls_are_locked_for, tied_journals_hold_locks};
 pub use places::{begun_actions_have_their_paths, values_have_codes};
 pub use runs::{seen_runs_are_clean, seen_runs_are_serial};
 pub use serial::{tied_journals_are_serial, tied_journals_keep_the_lock_book};
-pub use turns::{decided_tops_take_turns, turns_give_the_order, writers_take_turns};
+pub use turns::{
+    changers_take_turns, decided_tops_take_turns, includes_take_turns, turns_give_the_order,
+    writers_take_turns,
+};

@@ -9,9 +9,9 @@ ghost use Rattle.arj_lock_law.specs.Machine.{Run, start};
 ghost use Rattle.arj_lock_law.specs.State.{State};
 ghost use Rattle.arj_model.specs.Calls.{Top};
 ghost use Rattle.arj_model.specs.Serial.{Values};
-ghost use Rattle.arj_serial_law.specs.Decided.{HaveTurns, WritersHaveTurns};
-ghost use Rattle.arj_serial_law.specs.Tied.{AreTied};
-ghost use Rattle.arj_serial_law.specs.Turns.{TakeTurns};
+ghost use Rattle.arj_serial_law.specs.Decided.{ChangersHaveTurns, HaveTurns, WritersHaveTurns};
+ghost use Rattle.arj_serial_law.specs.Tied.{AreTied, IsTied};
+ghost use Rattle.arj_serial_law.specs.Turns.{IncludesTakeTurns, TakeTurns};
 
 /// In each state that the lock machine reaches, of two decided tops that used the object, one of which wrote it first, that one
 /// was committed by its line before the other used it, and its commit was called before that of the other: so that one which is
@@ -20,10 +20,21 @@ pub fn decided_tops_take_turns()
     ensures { (v : ℕ) (s : State) → Run (start v) s → TakeTurns s }
 {}
 
+/// So do units of which one includes a store of the object and the other uses it or includes one: both hold the object's entry, and
+/// the one that came first had its last commit called before the other came. It does nothing when it runs.
+pub fn includes_take_turns()
+    ensures { (v : ℕ) (s : State) → Run (start v) s → IncludesTakeTurns s }
+{}
+
 /// Tops that wrote an object take turns: the unit of each has all its commits called before that of one whose commit was called
 /// later, or they are of one unit. It does nothing when it runs.
 pub fn writers_take_turns()
     ensures { (values : Values) (lines : List Line) → AreRight new_book lines → AreTied values lines → WritersHaveTurns lines }
+{}
+
+/// And so do tops of which each wrote the object or included a store of it. It does nothing when it runs.
+pub fn changers_take_turns()
+    ensures { (values : Values) (lines : List Line) (x : ℕ) (S : State) → AreRight new_book lines → AreTied values lines → IsTied values lines x S → ChangersHaveTurns lines x }
 {}
 
 /// Tops that count for an object and had their turns one after another stand in the serial order as their commits were called:
