@@ -1,6 +1,6 @@
 -- Tops that write an object or include a store of it take turns, by the journal.
-use Rattle.std.proofs.Common.{◌≡◌, ◌≢◌, ◌⊎◌, ◌<◌, ◌≤◌, ℕ, ◌+◌, ◌==◌, ◌&&◌, ◌||◌, List, [], ◌∷◌, filter, Bool, true, false, cond, Option, Some, None, refl, sym, ◌∙◌, ap, subst, inl, inr, ⊎_elim, arith, eqb-true, eq-eqb}
-use Rattle.std.specs.List.{list_all}
+use Rattle.std.proofs.Common.{Contains, ◌≡◌, ◌≢◌, ◌⊎◌, ◌<◌, ◌≤◌, ℕ, ◌+◌, ◌==◌, ◌&&◌, ◌||◌, List, [], ◌∷◌, filter, Bool, true, false, cond, Option, Some, None, refl, sym, ◌∙◌, ap, subst, inl, inr, ⊎_elim, arith, eqb-true, eq-eqb}
+use Rattle.std.specs.List.{AllByRecursion, list_all}
 use Rattle.std.proofs.lemmas.Bool.{and_parts}
 use Rattle.arj_base.specs.Rows.{last_uid}
 use Rattle.arj_base.specs.Uid.{nobody}
@@ -10,7 +10,7 @@ use Rattle.arj_journal.specs.declared.body.Body.{Body}
 use Rattle.arj_journal.specs.declared.body.Body.TheVariants as body
 use Rattle.arj_journal.specs.declared.body.Line.{Line}
 use Rattle.arj_text.specs.Label.{name}
-use Rattle.arj_lock.proofs.Members.{In, in_filter_map, in_from}
+use Rattle.arj_lock.proofs.Members.{in_to, In, in_filter_map, in_from}
 use Rattle.arj_model.specs.Actions.{Act, Placed, acts, acts_after, chain_in, committed, has_end, put, read, top_in, uids}
 use Rattle.arj_model.specs.Calls.{Top, committed_calls, tops}
 use Rattle.arj_model.specs.Last.{Inclusion, included, included_of, joins_by, joins_of}
@@ -20,6 +20,10 @@ use Rattle.arj_line_law.specs.Laws.{IsDone}
 use Rattle.arj_line_law.specs.Right.{AreRight, Right}
 use Rattle.arj_line_law.proofs.Books.{never}
 use Rattle.arj_line_law.proofs.Models.{AreSound, acts_turn, its_acts, its_sound}
+use Rattle.arj_journal.specs.declared.header.Header.{Header}
+use Rattle.arj_disk_law.specs.Order.{counts_of}
+use Rattle.arj_disk_law.specs.State.{Done}
+use Rattle.arj_model.specs.Last.{first_values}
 use Rattle.arj_lock_law.specs.Actions as machine
 use Rattle.arj_lock_law.specs.Actions.{on, root, top}
 use Rattle.arj_lock_law.specs.Laws.{Closes}
@@ -29,16 +33,16 @@ use Rattle.arj_lock_law.specs.Steps.{Survives}
 use Rattle.arj_lock_law.proofs.Paths.{on_top, top_of, top_root}
 use Rattle.arj_lock_view_law.specs.Acts.{Acts}
 use Rattle.arj_lock_line_law.specs.Lines.{AreIncludesOf, IsIncludeOf, included_on}
-use Rattle.arj_serial_law.specs.Decided.{ChangersHaveTurns, IsInTurn, Joined, Wrote}
+use Rattle.arj_serial_law.specs.Decided.{AreDecided, AreDecisions, ChangersHaveTurns, DecideChanges, HaveTurns, IsInTurn, Joined, Wrote}
 use Rattle.arj_serial_law.specs.Tied.{IsTied, path_of}
 use Rattle.arj_serial_law.proofs.Includes.{call_then_include, include_then_call, include_then_include}
 use Rattle.arj_serial_law.proofs.Items.{HasMaker, maker_at}
 use Rattle.arj_serial_law.proofs.Locks.{tie, unit_last}
-use Rattle.arj_serial_law.proofs.Order.{IsTopOf, before_top, is_top_in, its_top, one_root, one_unit, place_in, same_number, shown, stage_of_top, top_item, unit_behind}
+use Rattle.arj_serial_law.proofs.Order.{call_before, IsTopOf, before_top, is_top_in, its_top, one_root, one_unit, place_in, same_number, shown, stage_of_top, top_item, unit_behind}
 use Rattle.arj_serial_law.proofs.Paths.{own_last, parts, top_on}
 use Rattle.arj_serial_law.proofs.Ties.{Tie, Ties}
 use Rattle.arj_serial_law.proofs.Timely.{as_calls, run_too, start_too}
-use Rattle.arj_serial_law.proofs.Turning.{writers_turn}
+use Rattle.arj_serial_law.proofs.Turning.{in_decided_order, writers_turn}
 use Rattle.arj_serial_law.proofs.Tying.{done_survives, in_all, member, on_it}
 use Rattle.arj_serial_law.proofs.Values.{in_reversed, to_filter}
 
@@ -274,3 +278,39 @@ module _ (values : Values) (lines : List Line) (right : AreRight new_book lines)
       by false is (inl c) (inr d) = inr (write_then_join u w hu hw called is (wrote u hu (top_item lines right u hu) c) (joined w hw (top_item lines right w hw) d))
       by false is (inr c) (inl d) = inr (join_then_write u w hu hw called is (joined u hu (top_item lines right u hu) c) (wrote w hw (top_item lines right w hw) d))
       by false is (inr c) (inr d) = inr (join_then_join u w hu hw called is (joined u hu (top_item lines right u hu) c) (joined w hw (top_item lines right w hw) d))
+
+-- ---- decisions
+
+module _ (header : Header) (lines : List Line) (right : AreRight new_book lines) (all : Ties (first_values header) lines) (x : ℕ) (S : State) (t : IsTied (first_values header) lines x S) (ds : List Done) (d : DecideChanges header lines x ds) where
+  its_those : (es : List Done) (ts : List Top) → AreDecisions (first_values header) lines x es ts → (u : Top) → In u ts → Contains (tops lines) u
+  its_those [] [] are u i = absurd i
+  its_those [] (v ∷ ts) are u i = absurd are
+  its_those (e ∷ es) [] are u i = absurd are
+  its_those (e ∷ es) (v ∷ ts) are u (inl is) = subst (Contains (tops lines)) is (let q = are.0 in q.listed)
+  its_those (e ∷ es) (v ∷ ts) are u (inr i) = its_those es ts are.1 u i
+
+  each_counts : (ts : List Top) → ((u : Top) → In u ts → d.counts u ≡ true) → AllByRecursion (λ (u : Top). d.counts u ≡ true) ts
+  each_counts [] f = tt
+  each_counts (v ∷ ts) f = (f v (inl refl), each_counts ts (λ u i. f u (inr i)))
+
+  turns : HaveTurns header lines x d.counts d.those
+  turns = record {
+    called = d.called;
+    listed = λ u c. (its_those (filter counts_of ds) d.those d.each u (in_from u d.those c), (d.counted u c).0);
+    all = λ u c counts. d.all u c (inl counts);
+    turns = λ u w c e called. changers_turn (first_values header) lines right x S t all u w (its_those (filter counts_of ds) d.those d.each u (in_from u d.those c)) (its_those (filter counts_of ds) d.those d.each w (in_from w d.those e)) (d.counted u c).1 (d.counted w e).1 called;
+    idle = d.idle;
+  }
+
+  pub are_decided : AreDecided header lines x ds
+  are_decided = record {
+    those = d.those;
+    each = d.each;
+    called = d.called;
+    counts = d.counts;
+    counted = each_counts d.those (λ u i. (d.counted u (in_to u d.those i)).0);
+    order = in_decided_order header lines right x d.counts d.those turns;
+    all = λ e there write.
+        let b = call_before (first_values header) lines right all e (in_from e (committed_calls lines) there) in
+        (b.0, d.all b.0 (in_to b.0 (tops lines) b.1) (inr (e, there, write, b.2)), b.2);
+  }

@@ -107,6 +107,18 @@ ChangersHaveTurns lines x = (u t : Top) → Contains (tops lines) u → Contains
 abbrev pub WritersHaveTurns : List Line → Type 0
 WritersHaveTurns lines = (x : ℕ) (u t : Top) → Contains (tops lines) u → Contains (tops lines) t → Wrote lines x u → Wrote lines x t → u.at < t.at → IsInTurn lines u t
 
+-- The decided tops of the machine that count are these tops of the journal, the newest first in the order in which their commits were
+-- called: all that count, each of which wrote the object or included a store of it, and each that wrote it; the others change nothing of
+-- the object's list in their places.
+pub record DecideChanges (header : Header) (lines : List Line) (x : ℕ) (ds : List Done) : Type 0 where
+  pub those : List Top
+  pub each : AreDecisions (first_values header) lines x (filter counts_of ds) those
+  pub called : AreNewestFirst those
+  pub counts : Top → Bool
+  pub counted : (t : Top) → Contains those t → (counts t ≡ true) × (Wrote lines x t ⊎ Joined lines x t)
+  pub all : (t : Top) → Contains (tops lines) t → (counts t ≡ true) ⊎ Wrote lines x t → Contains those t
+  pub idle : IdleInPlace lines x counts (first_stores header x) (serial_tops lines)
+
 -- ---- what servers voted
 
 -- What a decided top gave to the stores, by the lock machine: nothing, where no write of it that wasn't undone stands; else the value that

@@ -1,7 +1,7 @@
 // The last state and entry of an object, by its disk machine and by the journal.
 ghost use Rattle.std.specs.Prelude.{◌≡◌, ℕ, true, List, Option, is_some, Contains};
 ghost use Rattle.arj_disk_law.specs.Effects.{Whole, World};
-ghost use Rattle.arj_disk_law.specs.State.{Packed, last, last_entry};
+ghost use Rattle.arj_disk_law.specs.State.{Done, Packed, last, last_entry};
 ghost use Rattle.arj_disk_view_law.specs.Pairs.{packed, packed_entry};
 ghost use Rattle.arj_disk_view_law.specs.Sees.{Kinds, SeesDisks};
 ghost use Rattle.arj_journal.specs.declared.body.Line.{Line};
@@ -15,7 +15,7 @@ ghost use Rattle.arj_model.specs.Clean.{Clean, Disks};
 ghost use Rattle.arj_model.specs.Last.{entry_state, first_values, last_state, listed, object_line, uid_of_id};
 ghost use Rattle.arj_model.specs.Serial.{Values};
 ghost use Rattle.arj_serial_law.specs.Cleaned.{AreDecidedOrLate, BeginsSo, IsCleanIn, HaveForm};
-ghost use Rattle.arj_serial_law.specs.Decided.{AreDecided, VotedSo, WroteSo};
+ghost use Rattle.arj_serial_law.specs.Decided.{AreDecided, DecideChanges, VotedSo, WroteSo};
 ghost use Rattle.arj_serial_law.specs.Files.{AreShown};
 ghost use Rattle.arj_serial_law.specs.Tied.{AreTied, IsTied};
 ghost use Rattle.arj_view_law.specs.Seen.{Seen};
@@ -25,6 +25,13 @@ ghost use Rattle.arj_view_law.specs.Seen.{Seen};
 pub fn votes_give_what_was_written()
     ensures { (values : Values) (lines : List Line) (x : ℕ) (S : State) (t : IsTied values lines x S) (u : Top) (given : Option Packed) → AreRight new_book lines
         → Contains (tops lines) u → VotedSo values lines x S t (uid_of_id (acts lines) u.id) given → WroteSo values lines x u given }
+{}
+
+/// The order of decisions, and of the serial run, follows where the tops that count wrote the object or included a store of it:
+/// their locks keep them in turn. It does nothing when it runs.
+pub fn locks_give_the_order_of_decisions()
+    ensures { (header : Header) (lines : List Line) (x : ℕ) (S : State) (ds : List Done) → AreRight new_book lines → AreTied (first_values header) lines
+        → IsTied (first_values header) lines x S → DecideChanges header lines x ds → AreDecided header lines x ds }
 {}
 
 /// Where the decided tops of an object's disk machine that count are those of the journal, and each gave the stores what its
