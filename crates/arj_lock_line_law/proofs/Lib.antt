@@ -7,3 +7,4 @@ pub mod Pages
 pub mod Reading
 pub mod Saying
 pub mod Ties
+pub mod StopTies

@@ -1,3 +1,4 @@
 pub mod Coordinators
 pub mod Lines
 pub mod Steps
+pub mod Stops
