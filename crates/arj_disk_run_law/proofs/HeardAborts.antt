@@ -3,25 +3,24 @@ use Rattle.std.proofs.Common.{◌≡◌, ◌⊎◌, ℕ, ◌==◌, ◌&&◌, ◌
 use Rattle.std.specs.Prelude.{unwrap_or}
 use Rattle.std.specs.List.{AllByRecursion, flat_map, list_any}
 use Rattle.arj_base.proofs.Uids.{uid_cases}
-use Rattle.arj_protocol.specs.Words.{Body, End, Kind, Label, Path, Uid, is_on, uids_of}
+use Rattle.arj_protocol.specs.Words.{Body, End, Kind, Label, Path, Uid, is_on}
 use Rattle.arj_protocol.specs.Words.body
 use Rattle.arj_protocol.specs.Words.cause
 use Rattle.arj_protocol.specs.Words.ending
 use Rattle.arj_protocol.specs.Words.kind
-use Rattle.arj_protocol.specs.Ask.{actor}
 use Rattle.arj_protocol.specs.Coord as coord
 use Rattle.arj_protocol.specs.Coord.{Calling, Committing, Coord, Doing, Idle, Joined, Root, Said, change_doing, doing_of, is_constituent_branch, is_kept_top, no_root, nodes_sent, on_doing, retained_in, root_at, second_uid, servers_told, survives, top_uses}
 use Rattle.arj_protocol.specs.Effect.{Effect, Intent}
 use Rattle.arj_protocol.specs.Ending.{abort_action, all_aborted, ended, is_deferred, say_for, says, tell, tell_all, tolds_by, tolds_of, tolds_of_branch, up_to}
 use Rattle.arj_protocol.specs.Order.{at_number}
-use Rattle.arj_protocol.specs.Tree.{Branch, Tree, at_place, behind, branch_of, ended_at, ended_branch, ended_so, ends_of, has_end, is_aborted, is_committed, is_own, is_spent, open_below, root_of}
+use Rattle.arj_protocol.specs.Tree.{Branch, at_place, behind, branch_of, ended_at, ended_branch, ended_so, ends_of, has_end, is_aborted, is_committed, is_own, is_spent, open_below, root_of}
 use Rattle.arj_call_law.proofs.CoordKnown.{roots_work}
 use Rattle.arj_disk_law.specs.Names.{Office}
 use Rattle.arj_disk_law.proofs.Base.{falls_to, never, or_cases, or_left, or_right}
 use Rattle.arj_view_law.specs.Seen.{Post}
 use Rattle.arj_disk_view_law.specs.Sees.{Kinds}
 use Rattle.arj_disk_view_law.proofs.Doings.{doing_tree}
-use Rattle.arj_disk_view_law.proofs.Ended.{HasEnded, ended_here, ended_other, own_same, tree_ended}
+use Rattle.arj_disk_view_law.proofs.Ended.{ended_here, ended_other, own_same, tree_ended}
 use Rattle.arj_names_view_law.specs.Both.{SeesRootOf}
 use Rattle.arj_disk_run_law.specs.Heard.{IsWorkingRoot, SeesHeardAt}
 use Rattle.arj_disk_run_law.proofs.HeardCalls.{work_cases}

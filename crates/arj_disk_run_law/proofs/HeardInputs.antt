@@ -1,5 +1,5 @@
--- What coordinators have of naming's answers is kept by inputs about actions: calls and includes that begin, aborts, and giveups that
--- abort.
+-- What coordinators have of naming's answers is kept by inputs about actions: calls and includes that begin, aborts, and giveups but
+-- for those of a Prepare.
 use Rattle.std.proofs.Common.{◌≡◌, ◌⊎◌, ◌+◌, ℕ, ◌==◌, ◌&&◌, ◌||◌, if◌then◌else◌, Bool, true, false, not, List, [], ◌∷◌, ◌++◌, Option, Some, None, refl, sym, ◌∙◌, ap, subst, inl, inr, ⊎_elim, arith, is_some, slice_get, suc}
 use Rattle.std.specs.Prelude.{Contains, unwrap_or}
 use Rattle.std.specs.List.{AllByRecursion, list_all}
@@ -10,7 +10,7 @@ use Rattle.arj_protocol.specs.Words.{Binding, Op, Path, Uid, End, Cause}
 use Rattle.arj_protocol.specs.Ask.{Reply, actor, top_of}
 use Rattle.arj_protocol.specs.Asking.{call, call_steps, commit_action, commit_open, gaveup_lines, give_up, give_up_doing, gives_up, given_away, goes_on, include, known_at_start, last_req, next_req, renewed}
 use Rattle.arj_protocol.specs.Call.{Goal, Include, Known, Run, Steps, next_ask, next_node, start}
-use Rattle.arj_protocol.specs.Coord.{Calling, Committing, Coord, Doing, Keeping, Root, Said, Went, doing_of, is_free, keeping_of, kept_of, no_keeping, no_root, on_doing, on_root, others_call, root_at, said_of, with_keeping, Idle, Now}
+use Rattle.arj_protocol.specs.Coord.{Calling, Committing, Coord, Doing, Keeping, Root, Said, Went, doing_of, is_free, keeping_of, kept_of, no_root, on_doing, on_root, others_call, root_at, said_of, with_keeping, Idle, Now}
 use Rattle.arj_protocol.specs.Effect.{Did, Disk, Effect}
 use Rattle.arj_protocol.specs.Node.{Parts, with_coord}
 use Rattle.arj_protocol.specs.Order.{at_number, put_number, unbound, uid_number}
@@ -22,8 +22,6 @@ use Rattle.arj_view_law.specs.Keeps.{is_act}
 use Rattle.arj_disk_view_law.proofs.WholeWalks.{placed, no_reason}
 use Rattle.arj_disk_run_law.specs.Rest.{IsHeardAt, KeepsHeard, commits_on, gives_of, gives_on, goes_past}
 use Rattle.arj_protocol.specs.Tree.{Branch, ends_of, is_spent, root_of, uses_object, branch_of, is_committed, ended_so, is_open_below, has_end, at_place, is_below, open_below, has_open_child}
-use Rattle.arj_protocol.proofs.Maps.{put_same as put_number_same, put_other as put_number_other}
-use Rattle.arj_protocol.proofs.RowSteps.{one_or_two}
 use Rattle.arj_run_law.specs.Worlds.{IsGood}
 use Rattle.arj_call_law.specs.Runs.{KnowsFew}
 use Rattle.arj_disk_law.specs.Names.{Names, Office}
@@ -44,6 +42,7 @@ use Rattle.arj_protocol.specs.Words.body
 use Rattle.arj_protocol.specs.Words.cause
 use Rattle.arj_protocol.specs.Commit.{Confirming, Preparing, Voting, first_of}
 use Rattle.arj_disk_run_law.proofs.HeardCalls.{IsCalled, KeepsOrNone, at_called, fresh, goes_called, keeps_to, root_put}
+use Rattle.arj_disk_run_law.proofs.HeardGiveups.{heard_give_call, put_keeps}
 use Rattle.arj_disk_run_law.proofs.HeardCoord.{mine, quiet_step}
 use Rattle.arj_disk_run_law.proofs.HeardMessage.{old_goes_on}
 use Rattle.arj_disk_run_law.proofs.HeardQuiet.{fixed_in}
@@ -94,11 +93,6 @@ free_spent root but x c free z there of = by (z.x == x) (ap (λ n. n == x) of �
     by : (b : Bool) → b ≡ true → (not b || is_spent z.path c.tree) ≡ true → is_spent z.path c.tree ≡ true
     by true is on = on
     by false is on = absurd (cc is)
-
--- what a root keeps of an object, where that of one was put
-put_keeps : (x y : ℕ) (k : Keeping) (r : Root) → ((y ≡ x) × (kept_of x (with_keeping y k r) ≡ k.kept)) ⊎ (kept_of x (with_keeping y k r) ≡ kept_of x r)
-put_keeps x y k r = ⊎_elim (λ same. inl (same, ap (λ n. (unwrap_or (at_number n (put_number y k r.keeping)) no_keeping).kept) (sym same) ∙ ap (λ o. (unwrap_or o no_keeping).kept) (put_number_same y k r.keeping)))
-    (λ apart. inr (ap (λ o. (unwrap_or o no_keeping).kept) (put_number_other y x k r.keeping apart.0))) (one_or_two y x)
 
 -- ---- the coordinator
 
@@ -225,7 +219,7 @@ module _ (x : ℕ) (tops : Kinds) (e k : ℕ) (d : Disk) (t : Parts) (M : Seen) 
       Q : Effect → Type 0
       Q f = SaysHeard x d.inc A f
 
-  -- where nothing waits there is nothing to give up, and in a vote or at naming it is the action's abort
+  -- where nothing waits there is nothing to give up, a call is given up, and in a vote or at naming it is the action's abort
   heard_gives : (u : Uid) (b : Branch) → branch_of u t.coord.tree ≡ Some b → b.ended ≡ None → (gives_on (doing_of u t.coord) ≡ true → Heard_by (give_up u d.intents t.coord)) → Heard_by (give_up u d.intents t.coord)
   heard_gives u b found unended other = by (doing_of u t.coord) refl
     where
@@ -237,7 +231,7 @@ module _ (x : ℕ) (tops : Kinds) (e k : ℕ) (d : Disk) (t : Parts) (M : Seen) 
 
       by_now : (q : Doing) (now : Now) → doing_of u t.coord ≡ Some q → q.now ≡ now → Heard_by (gives_up u d.intents t.coord now)
       by_now q Idle does is = none
-      by_now q (Calling s) does is = past q (Calling s) does is refl
+      by_now q (Calling s) does is = heard_give_call x tops e k d t M A good few knows both h u q s does is
       by_now q (Committing (Voting p left)) does is = heard_aborted u (cause.Lost (first_of left)) b (first_of left ∷ []) found unended
       by_now q (Committing (Preparing p left)) does is = past q (Committing (Preparing p left)) does is refl
       by_now q (Committing (Confirming p)) does is = heard_aborted u (cause.Lost 1) b (1 ∷ []) found unended

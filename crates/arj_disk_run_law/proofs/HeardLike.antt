@@ -30,6 +30,45 @@ pub record IsLike (c e : Coord) : Type 0 where
   pub works : (u : Uid) (q : Doing) → doing_of u e ≡ Some q → (doing_of u c ≡ Some q) ⊎ (q.now ≡ Idle)
   pub roots : (u : Uid) → (w : List Went) × (root_at u e ≡ went_to w (root_at u c))
 
+-- what is looked at of a root stays, where each action's end does, and each committed constituent
+module _ (c e : Coord) (ends : (k : End) (w : Uid) → ended_so k (branch_of w e.tree) ≡ ended_so k (branch_of w c.tree)) (kept : (w : Uid) → is_kept_top w e ≡ is_kept_top w c) where
+  spent_ends : (path : List Uid) → is_spent path e.tree ≡ is_spent path c.tree
+  spent_ends path = λ i. list_any (λ w. ends ending.Abort w i) path
+
+  survives_ends : (t : Uid) (path : List Uid) → survives t path e ≡ survives t path c
+  survives_ends t path = λ i. is_on path t && not (list_any (λ w. not (ends ending.Commit w i)) (behind t path))
+
+  retained_ends : (path : List Uid) → coord.is_retained path e ≡ coord.is_retained path c
+  retained_ends path = by (second_uid path)
+    where
+      by : (o : Option Uid) → retained_in path e o ≡ retained_in path c o
+      by None = refl
+      by (Some t) = λ i. kept t i && survives_ends t path i
+
+  uses_ends : (t : Uid) (x : ℕ) (r : Root) → top_uses t x r e ≡ top_uses t x r c
+  uses_ends t x r = λ i. list_any (λ (s : Said). (s.x == x) && survives_ends t s.path i) r.said || list_any (λ (j : Joined). (j.x == x) && survives_ends t j.path i) r.joined
+
+  pub root_ends : (x : ℕ) (tops : Kinds) (root : Uid) (r : Root) (w : List Went) (B : Office) → SeesRootOf x tops root c r B → SeesRootOf x tops root e (went_to w r) B
+  root_ends x tops root r w B s = record {
+    grants = let g = s.grants in record {
+      own = g.own;
+      least = g.least;
+      kept = λ i serial has. let k = g.kept i serial has in (k.0, (λ i. kept k.0 i && uses_ends k.0 x r i) ∙ k.1, k.2);
+    };
+    lists = let l = s.lists in record {
+      agree = l.agree;
+      family = l.family;
+      granted = l.granted;
+      named = l.named;
+      short = l.short;
+      called = λ k z t there_is there of alive on top. l.called k z t there_is there of (sym (spent_ends z.path) ∙ alive) on top;
+      retained = λ k z there_is there of on. l.retained k z there_is there of (sym (retained_ends z.path) ∙ on);
+      nothing = λ none z there of. spent_ends z.path ∙ l.nothing none z there of;
+    };
+    loads = s.loads;
+    state = s.state;
+  }
+
 module _ (c e : Coord) (branches : (w : Uid) → (branch_of w e.tree ≡ branch_of w c.tree) ⊎ ((branch_of w c.tree ≡ None) × IsOpenNew (branch_of w e.tree))) where
   -- how an action ended
   ended_same : (k : End) (w : Uid) → ended_so k (branch_of w e.tree) ≡ ended_so k (branch_of w c.tree)
@@ -50,44 +89,10 @@ module _ (c e : Coord) (branches : (w : Uid) → (branch_of w e.tree ≡ branch_
       off false b is = refl
 
   pub spent_same : (path : List Uid) → is_spent path e.tree ≡ is_spent path c.tree
-  spent_same path = λ i. list_any (λ w. ended_same ending.Abort w i) path
+  spent_same path = spent_ends c e ended_same kept_same path
 
-  pub survives_same : (t : Uid) (path : List Uid) → survives t path e ≡ survives t path c
-  survives_same t path = λ i. is_on path t && not (list_any (λ w. not (ended_same ending.Commit w i)) (behind t path))
-
-  pub retained_same : (path : List Uid) → coord.is_retained path e ≡ coord.is_retained path c
-  retained_same path = by (second_uid path)
-    where
-      by : (o : Option Uid) → retained_in path e o ≡ retained_in path c o
-      by None = refl
-      by (Some t) = λ i. kept_same t i && survives_same t path i
-
-  pub uses_same : (t : Uid) (x : ℕ) (r : Root) → top_uses t x r e ≡ top_uses t x r c
-  uses_same t x r = λ i. list_any (λ (s : Said). (s.x == x) && survives_same t s.path i) r.said || list_any (λ (j : Joined). (j.x == x) && survives_same t j.path i) r.joined
-
-  -- ---- a root
-
-  module _ (x : ℕ) (tops : Kinds) (root : Uid) (r : Root) (w : List Went) (B : Office) (s : SeesRootOf x tops root c r B) where
-    pub root_like : SeesRootOf x tops root e (went_to w r) B
-    root_like = record {
-      grants = let g = s.grants in record {
-        own = g.own;
-        least = g.least;
-        kept = λ i serial has. let k = g.kept i serial has in (k.0, (λ i. kept_same k.0 i && uses_same k.0 x r i) ∙ k.1, k.2);
-      };
-      lists = let l = s.lists in record {
-        agree = l.agree;
-        family = l.family;
-        granted = l.granted;
-        named = l.named;
-        short = l.short;
-        called = λ k z t kept there of alive on top. l.called k z t kept there of (sym (spent_same z.path) ∙ alive) on top;
-        retained = λ k z kept there of on. l.retained k z kept there of (sym (retained_same z.path) ∙ on);
-        nothing = λ kept z there of. spent_same z.path ∙ l.nothing kept z there of;
-      };
-      loads = s.loads;
-      state = s.state;
-    }
+  pub root_like : (x : ℕ) (tops : Kinds) (root : Uid) (r : Root) (w : List Went) (B : Office) → SeesRootOf x tops root c r B → SeesRootOf x tops root e (went_to w r) B
+  root_like x tops root r w B s = root_ends c e ended_same kept_same x tops root r w B s
 
 -- where it is looked like the other
 module _ (c e : Coord) (like : IsLike c e) where

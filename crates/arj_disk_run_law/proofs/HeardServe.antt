@@ -63,6 +63,9 @@ module _ (M : Seen) (good : IsGood M) (few : KnowsFew M) (j : ℕ) (n : Node) (t
   pub actor_of_step : (u : Uid) (q : Doing) (s : Steps) → doing_of u t.coord ≡ Some q → q.now ≡ Calling s → actor s.path ≡ u
   actor_of_step u q s does now = let z : IsAsking t.coord.tree u s.path = subst (IsBusy t.coord.tree u) now (coord.busy u q does) in ap actor (sym z.path) ∙ coord.tree.lists.places u z.branch z.found
 
+  pub number_of_step : (u : Uid) (q : Doing) (s : Steps) → doing_of u t.coord ≡ Some q → q.now ≡ Calling s → s.req ≡ q.req
+  number_of_step u q s does now = subst (IsNumbered q.req) now (mine.numbered u q does)
+
   -- a request that was sent of an action at work is of no later number than its last one
   pub counted_at : (z : Post) (h : Head) (a : Ask) → seen.In z M.sent → z.from ≡ j → asks z.message ≡ Some (h, a) → {u : Uid} → actor h.path ≡ u → (q : Doing) → doing_of u t.coord ≡ Some q → h.req ≤ q.req
   counted_at z h a posted from asking {u} asker q does =
@@ -80,7 +83,7 @@ module _ (M : Seen) (good : IsGood M) (few : KnowsFew M) (j : ℕ) (n : Node) (t
       found = ap (λ w. doing_of w t.coord) asker ∙ does
 
       number : s.req ≡ q.req
-      number = subst (IsNumbered q.req) now (mine.numbered u q does)
+      number = number_of_step u q s does now
 
       counted : IsCounted t.coord to h a
       counted = calls.counted (record { from = j; to = to; message = m }) h a posted (sym mine.node) asking (ap (λ w. is_own w t.coord.tree) asker ∙ own_doing t.coord u q does)

@@ -14,6 +14,7 @@ pub mod HeardCoord
 pub mod HeardDecides
 pub mod HeardLasting
 pub mod HeardFirst
+pub mod HeardGiveups
 pub mod HeardInputs
 pub mod HeardKept
 pub mod HeardLike

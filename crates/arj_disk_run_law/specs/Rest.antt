@@ -1,11 +1,11 @@
 -- What is still taken of what coordinators have of naming's answers: that it is kept by answers that are taken, by commits, and by
--- giveups but for those that abort, and gives what commits count on; and what naming counts on beside what messages claim.
+-- giveups in a Prepare, and gives what commits count on; and what naming counts on beside what messages claim.
 use Rattle.std.specs.Prelude.{◌≡◌, ℕ, Bool, true, false, not, List, Option, Some, None}
 use Rattle.arj_protocol.specs.Words.{Asked, Binding, Head, Header, Message, asks}
 use Rattle.arj_protocol.specs.Words.ask
 use Rattle.arj_protocol.specs.Ask.{Reply, actor, answers, top_of}
 use Rattle.arj_protocol.specs.Commit.{Preparing}
-use Rattle.arj_protocol.specs.Coord.{Calling, Committing, Coord, Doing, Now, doing_of}
+use Rattle.arj_protocol.specs.Coord.{Committing, Coord, Doing, Now, doing_of}
 use Rattle.arj_protocol.specs.Tree.{Branch}
 use Rattle.arj_protocol.specs.Confirm.{Grants, Marks}
 use Rattle.arj_protocol.specs.Effect.{Disk, Effect}
@@ -44,13 +44,12 @@ pub record GivesNaming (x : ℕ) (R : Seen → Type 0) : Type 0 where
   pub next : (tops : Kinds) (k : ℕ) (d : Disk) (t : Parts) (n : Naming) (from : ℕ) (m : Message) (h : Head) (grants : Grants) (excluded included : Marks) (M : Seen) (A : Office) → IsHeardAt x R tops A (k, d, t) M → In (record { from = from; to = k; message = m }) M.sent → t.naming ≡ Some n → asks m ≡ Some (h, ask.Confirm grants excluded included)
       → IsNewConfirm h.path grants excluded included d.names n → IsNext A.world.disk (uid_number (top_of h.path))
 
--- a call under way, or a commit whose states are being prepared
+-- a commit whose states are being prepared
 abbrev pub goes_past : Now → Bool
-goes_past (Calling s) = true
 goes_past (Committing (Preparing p left)) = true
 goes_past _ = false
 
--- a giveup that isn't the action's abort
+-- a giveup by which it goes on
 abbrev pub gives_on : Option Doing → Bool
 gives_on None = false
 gives_on (Some q) = goes_past q.now
@@ -63,15 +62,14 @@ abbrev pub commits_on : Option Branch → Bool
 commits_on None = false
 commits_on (Some b) = not b.doomed
 
--- an action that isn't doomed commits, or one gives up a call or its Prepare
+-- an action that isn't doomed commits, or one gives up in its Prepare
 abbrev pub is_deciding : Input → Coord → Bool
 is_deciding (input.Commit l) c = commits_on (branch_named l c)
 is_deciding (input.GiveUp l) c = gives_of c (branch_named l c)
 is_deciding _ c = false
 
 -- It is kept by an answer that a coordinator takes, and by an input by which an action commits that isn't doomed, or gives up
--- a call or its Prepare; and each commit
--- that is past its votes then may begin.
+-- in its Prepare; and each commit that is past its votes then may begin.
 pub record KeepsHeard (hd : Header) (x : ℕ) (R : Seen → Type 0) : Type 0 where
   pub naming : GivesNaming x R
   pub answer : (tops : Kinds) (e k : ℕ) (d : Disk) (t v : Parts) (from : ℕ) (m : Message) (a : Asked) (r : Reply) (outs : List Effect) (M : Seen) (A : Office) → IsHeardAt x R tops A (k, d, t) M → In (record { from = from; to = k; message = m }) M.sent → answers m ≡ Some (a, r) → is_meant t m ≡ true → handle k d t from m ≡ Took v outs

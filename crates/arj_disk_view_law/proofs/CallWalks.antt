@@ -47,10 +47,10 @@ set_own u c b is = by (is_own u c.tree) refl is
     by true e h = (e, h)
     by false e h = absurd (cc h)
 
-set_here : (u : Uid) (b z : Branch) (c : Coord) → branch_of u c.tree ≡ Some b → branch_of u (record c.tree { branches = set_place u.num z c.tree.branches }) ≡ Some z
+pub set_here : (u : Uid) (b z : Branch) (c : Coord) → branch_of u c.tree ≡ Some b → branch_of u (record c.tree { branches = set_place u.num z c.tree.branches }) ≡ Some z
 set_here u b z c found = let p = set_own u c b found in ap (λ g. if g then at_place u.num (set_place u.num z c.tree.branches) else None) p.0 ∙ place_same u.num z b c.tree.branches p.1
 
-set_other : (u : Uid) (b z : Branch) (c : Coord) → branch_of u c.tree ≡ Some b → (w : Uid) → w ≢ u → branch_of w (record c.tree { branches = set_place u.num z c.tree.branches }) ≡ branch_of w c.tree
+pub set_other : (u : Uid) (b z : Branch) (c : Coord) → branch_of u c.tree ≡ Some b → (w : Uid) → w ≢ u → branch_of w (record c.tree { branches = set_place u.num z c.tree.branches }) ≡ branch_of w c.tree
 set_other u b z c found w other = by (is_own w c.tree) refl
   where
     by : (g : Bool) → is_own w c.tree ≡ g → (if is_own w c.tree then at_place w.num (set_place u.num z c.tree.branches) else None) ≡ (if is_own w c.tree then at_place w.num c.tree.branches else None)
