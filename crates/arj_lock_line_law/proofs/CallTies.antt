@@ -97,7 +97,7 @@ bare_load : (k : Known) (n : ℕ) (ns : List ℕ) → is_bare (load_given_up k n
 bare_load k n [] = refl
 bare_load k n (m ∷ ns) = refl
 
-bare_given : (at : At) → is_bare (given_up at) ≡ true
+pub bare_given : (at : At) → is_bare (given_up at) ≡ true
 bare_given (AtBind avoid) = refl
 bare_given (AtLoad k n rest) = bare_load k n rest
 bare_given (AtActivate k st) = refl
@@ -115,7 +115,7 @@ abbrev call_says : Steps → CallStep → Label → List Body
 call_says s (On at) l = []
 call_says s (Ended e) l = end_line s.x s.goal e l ∷ []
 
-step_call_says : (s : Steps) (t : CallStep) (c : Coord) (d : Doing) → doing_of (actor s.path) c ≡ Some d → bodies_of (let e = step_call s t c in e.outs) ≡ call_says s t d.label
+pub step_call_says : (s : Steps) (t : CallStep) (c : Coord) (d : Doing) → doing_of (actor s.path) c ≡ Some d → bodies_of (let e = step_call s t c in e.outs) ≡ call_says s t d.label
 step_call_says s (On at) c d works = refl
 step_call_says s (Ended e) c d works = say_one (actor s.path) (end_line s.x s.goal e) c d works
 
@@ -134,7 +134,7 @@ module _ (act : Acts) (code : Codes) (x : ℕ) (p : Page) (c : Coord) (S T : Sta
   now_S = let t = on.tied in t.now
 
   -- a step without an answer
-  bare_tied : (s : Steps) (t : CallStep) (l : Label) → is_bare t ≡ true → T.initial ≡ S.initial → CallsStay S T → EndsStay S T → T.now ≡ S.now → IsTiedToLines act code p.values x (p.lines ++ numbered p.event (call_says s t l)) T
+  pub bare_tied : (s : Steps) (t : CallStep) (l : Label) → is_bare t ≡ true → T.initial ≡ S.initial → CallsStay S T → EndsStay S T → T.now ≡ S.now → IsTiedToLines act code p.values x (p.lines ++ numbered p.event (call_says s t l)) T
   bare_tied s (On at) l bare first calls ends same = subst (λ (q : Page). IsTiedToLines act code p.values x q.lines T) (sym (behind_none p)) (none_tied act code x p c S T on first (let k = now_S in omega (arith, k, same)) calls ends)
   bare_tied s (Ended e) l bare first calls ends same = one_tied act code x p c S T on (end_line s.x s.goal e l) first (let k = now_S in omega (arith, k, same)) (plain_goes act code x p.lines (end_line s.x s.goal e l) S T (plain_end s.x s.goal e l bare) calls ends)
 
@@ -166,7 +166,7 @@ module _ (act : Acts) (paths : Paths) (c : Coord) (u : Uid) (b : Branch) (d : Do
   its_actor : actor s.path ≡ u
   its_actor = ap actor path ∙ work.steady.good.tree.lists.places u b work.there
 
-  its_work : doing_of (actor s.path) c ≡ Some d
+  pub its_work : doing_of (actor s.path) c ≡ Some d
   its_work = ap (λ (v : Uid). doing_of v c) its_actor ∙ work.works
 
 pub lost_calls_are_tied : LostCallsAreTied

@@ -57,7 +57,7 @@ one_stays m S T o a its = ⊎_elim
     (by_cases (same a m))
 
 -- the lines of one page behind another
-lines_behind : (p : Page) (xs ys : List Body) → (p.lines ++ numbered p.event xs) ++ numbered p.event ys ≡ p.lines ++ numbered p.event (xs ++ ys)
+pub lines_behind : (p : Page) (xs ys : List Body) → (p.lines ++ numbered p.event xs) ++ numbered p.event ys ≡ p.lines ++ numbered p.event (xs ++ ys)
 lines_behind p xs ys = by p.lines
   where
     each : (zs : List Body) → numbered p.event zs ++ numbered p.event ys ≡ numbered p.event (zs ++ ys)

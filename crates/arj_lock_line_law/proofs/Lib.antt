@@ -8,3 +8,4 @@ pub mod Reading
 pub mod Saying
 pub mod Ties
 pub mod StopTies
+pub mod GiveTies

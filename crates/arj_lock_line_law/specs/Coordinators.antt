@@ -7,7 +7,7 @@ use Rattle.arj_model.specs.Serial.{Values}
 use Rattle.arj_protocol.specs.Words.{Op, Uid}
 use Rattle.arj_protocol.specs.Words.kind
 use Rattle.arj_protocol.specs.Ask.{Reply, top_of}
-use Rattle.arj_protocol.specs.Asking.{call, commit_action, give_up_call, heard_call, moved_commit}
+use Rattle.arj_protocol.specs.Asking.{call, commit_action, gaveup_lines, give_up_call, heard_call, include, moved_commit}
 use Rattle.arj_protocol.specs.Call.{Include as IncludeStore, Steps}
 use Rattle.arj_protocol.specs.Commit as commit
 use Rattle.arj_protocol.specs.Commit.{Machine}
@@ -23,7 +23,7 @@ use Rattle.arj_part_law.specs.Copies.{Paths}
 use Rattle.arj_lock_view_law.specs.Acting.{IsFirst, IsFreeToEnd}
 use Rattle.arj_lock_view_law.specs.Actions.{IsSteady}
 use Rattle.arj_lock_view_law.specs.Acts.{Acts}
-use Rattle.arj_lock_view_law.specs.Calling.{IsAtWork, IsCalling, IsReached, IsWaiting, OnlyCalled, ShowsAnswer}
+use Rattle.arj_lock_view_law.specs.Calling.{IsAtWork, IsCalling, IsElsewhere, IsReached, IsWaiting, OnlyCalled, ShowsAnswer}
 use Rattle.arj_lock_view_law.specs.Copies.{Codes}
 use Rattle.arj_lock_view_law.specs.Including.{OnlyIncluded, ShowsInclude}
 use Rattle.arj_lock_view_law.specs.Inputs.{AreTopped, GoesWhole, HasLowGrant, OnlyEnded, SeesWhole, plan_now}
@@ -95,6 +95,28 @@ abbrev pub LostCallsAreTied : Type 0
 LostCallsAreTied = (act : Acts) (code : Codes) (paths : Paths) (x : ℕ) (p : Page) (c : Coord) (u : Uid) (b : Branch) (d : Doing) (s : Steps) (o : Op) (S : State)
     → IsReached S → IsAtWork act paths c u b d → IsCalling x b d s o → IsOnPage act code x p c S → SeesWhole act code x c S
     → let e = give_up_call s c in GoesWhole act code x e.part S (λ T. OnlyCalled (root (act u)) S T × IsTiedBy act code x p e.outs T)
+
+-- An include begins: nothing is said, and the machine waits.
+abbrev pub IncludesAreTied : Type 0
+IncludesAreTied = (act : Acts) (code : Codes) (paths : Paths) (x y store : ℕ) (p : Page) (c : Coord) (u : Uid) (b : Branch) (d : Doing) (S : State)
+    → IsReached S → IsAtWork act paths c u b d → d.now ≡ Idle → b.kind ≢ kind.Serial → IsOnPage act code x p c S → SeesWhole act code x c S
+    → let e = include b.path y store c in SeesWhole act code x e.part S × IsTiedBy act code x p e.outs S
+
+-- An include, or a call on another object, is given up: its line is nothing to the machine.
+abbrev pub OtherLostAreTied : Type 0
+OtherLostAreTied = (act : Acts) (code : Codes) (paths : Paths) (x : ℕ) (p : Page) (c : Coord) (u : Uid) (b : Branch) (d : Doing) (s : Steps) (S : State)
+    → IsReached S → IsAtWork act paths c u b d → IsWaiting b d s → IsElsewhere x s → IsOnPage act code x p c S → SeesWhole act code x c S
+    → let e = give_up_call s c in SeesWhole act code x e.part S × IsTiedBy act code x p e.outs S
+
+-- the page behind these effects' lines
+abbrev pub page_behind : Page → List Effect → Page
+page_behind p outs = record p { lines = p.lines ++ numbered p.event (bodies_of outs) }
+
+-- Whatever waits is given up behind the lines of whom it waited for: they are nothing to the machine.
+abbrev pub GaveUpsAreTied : Type 0
+GaveUpsAreTied = (act : Acts) (code : Codes) (x : ℕ) (p : Page) (c : Coord) (u : Uid) (d : Doing) (nodes : List ℕ) (S : State)
+    → doing_of u c ≡ Some d → IsOnPage act code x p c S
+    → let gone = gaveup_lines u nodes c in IsOnPage act code x (page_behind p gone) c S × ((outs : List Effect) (T : State) → IsTiedBy act code x (page_behind p gone) outs T → IsTiedBy act code x p (gone ++ outs) T)
 
 -- ---- commits and aborts
 

@@ -1,6 +1,7 @@
 use Rattle.arj_lock_line_law.proofs.AbortTies.{aborts_are_tied}
 use Rattle.arj_lock_line_law.proofs.CallTies.{call_answers_are_tied, calls_are_tied, include_answers_are_tied, lost_calls_are_tied, other_answers_are_tied}
 use Rattle.arj_lock_line_law.proofs.EndTies.{commit_answers_are_tied, doomed_commits_are_tied, lost_commits_are_tied, nested_commits_are_tied, top_commits_are_tied}
+use Rattle.arj_lock_line_law.proofs.GiveTies.{gave_ups_are_tied, includes_are_tied, other_lost_are_tied}
 use Rattle.arj_lock_line_law.proofs.coord.coordinators_keep_ties.Goals as goal
 
 pub returns-clause-calls : goal.returns-clause-calls
@@ -35,3 +36,12 @@ returns-clause-given_up c = lost_commits_are_tied
 
 pub returns-clause-aborts : goal.returns-clause-aborts
 returns-clause-aborts c = aborts_are_tied
+
+pub returns-clause-includes : goal.returns-clause-includes
+returns-clause-includes c = includes_are_tied
+
+pub returns-clause-others_lost : goal.returns-clause-others_lost
+returns-clause-others_lost c = other_lost_are_tied
+
+pub returns-clause-gave_up : goal.returns-clause-gave_up
+returns-clause-gave_up c = gave_ups_are_tied
