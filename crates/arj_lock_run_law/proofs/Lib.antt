@@ -26,3 +26,4 @@ pub mod QuerySteps
 pub mod CommitGoes
 pub mod AckSteps
 pub mod BeginGoes
+pub mod KeptSteps

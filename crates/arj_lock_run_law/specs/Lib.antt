@@ -5,3 +5,4 @@ pub mod Beside
 pub mod World
 pub mod Coordinating
 pub mod Asking
+pub mod Kept

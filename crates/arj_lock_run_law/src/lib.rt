@@ -7,10 +7,13 @@
 //! `messages_go_in_the_world`, `stops_go_in_the_world`, `restarts_go_in_the_world`, and of coordinators `coordinators_go_in_the_world`,
 //! `begins_go_in_the_world`, `ends_go_in_the_world`, `calls_go_in_the_world`, `commits_go_in_the_world`, `ticks_go_in_the_world`,
 //! `queries_go_in_the_world` and `acks_go_in_the_world`.
+//! `ends_go_in_the_world`, `calls_go_in_the_world`, `commits_go_in_the_world`, `ticks_go_in_the_world`, `queries_go_in_the_world` and
+//! `acks_go_in_the_world`; and of whole runs, with what `specs/Kept.antt` names, `runs_keep_the_lock_half`.
 #![tactic(auto)]
 
 mod asking;
 mod coord;
+mod runs;
 mod world;
 
 pub use asking::{acks_go_in_the_world, queries_go_in_the_world, ticks_go_in_the_world};
@@ -18,6 +21,7 @@ pub use coord::{
     begins_go_in_the_world, calls_go_in_the_world, commits_go_in_the_world,
     coordinators_go_in_the_world, ends_go_in_the_world,
 };
+pub use runs::runs_keep_the_lock_half;
 pub use world::{
     messages_go_in_the_world, posts_stay_shown, restarts_go_in_the_world, stops_go_in_the_world,
 };

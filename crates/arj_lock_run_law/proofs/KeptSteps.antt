@@ -1,0 +1,248 @@
+-- The object is seen in every world of a run: each handler's walk is put together, and each stop is seen.
+use Rattle.std.proofs.Common.{◌≡◌, ◌+◌, ℕ, List, [], ◌∷◌, not, Bool, true, false, Option, Some, None, refl, ap, subst, inr}
+use Rattle.std.specs.Prelude.{is_some}
+use Rattle.arj_lock.proofs.Members.{in_from, in_to}
+use Rattle.arj_protocol.specs.Words.{Asked, Header, Kind, Label, Message, Uid}
+use Rattle.arj_protocol.specs.Words.message
+use Rattle.arj_protocol.specs.Ask.{Reply, answers}
+use Rattle.arj_protocol.specs.Asking.{again_all, begin_action}
+use Rattle.arj_protocol.specs.Coord.{Coord}
+use Rattle.arj_protocol.specs.Effect.{Disk, Do, Effect, Say, Send, Served, worked}
+use Rattle.arj_protocol.specs.Ending.{acked, answer_query}
+use Rattle.arj_protocol.specs.Follow.{tick_outs}
+use Rattle.arj_protocol.specs.Node.{Parts, Took, by_reply, coord_heard, handle, is_meant, with_coord}
+use Rattle.arj_protocol.specs.Step.{Input, acts, begin_refusal, parent_of, parts_in, refusal_up, restart_outs}
+use Rattle.arj_protocol.specs.Tree.{next_uid, path_below}
+use Rattle.arj_protocol.specs.World.{format, is_serial_kind}
+use Rattle.arj_lock_law.specs.State.{State}
+use Rattle.arj_part_law.specs.Actions.{Action}
+use Rattle.arj_run_law.specs.Worlds.{IsGoodOf}
+use Rattle.arj_run_law.proofs.Begins.{begin_good}
+use Rattle.arj_run_law.proofs.Handled.{act_good, message_good, stopped_good, tick_good}
+use Rattle.arj_run_law.proofs.Starts.{first_of, restart_good}
+use Rattle.arj_view_law.specs.Keeps.{Keeps, MayGive, is_act, label_at}
+use Rattle.arj_view_law.specs.Seen.{AreQuiet, In, Post, Seen, Within, at, down, given, posted, said, see, up}
+use Rattle.arj_view_law.specs.Walks.{Up, Walks, halted}
+use Rattle.arj_view_law.proofs.Happens.{runs_hold}
+use Rattle.arj_view_law.proofs.Together.{walks_both, walks_to, walks_where}
+use Rattle.arj_lock_run_law.specs.Beside.{Case, IsSeenIn, Spot, world_at}
+use Rattle.arj_lock_run_law.specs.Coordinating.{coord_at}
+use Rattle.arj_lock_run_law.specs.Fixed.{Agrees, Fixed}
+use Rattle.arj_lock_run_law.specs.Kept.{AreLocksSeen, GivesLocks, HasCome, LocksAreKept, RunsKeepLocks, case_of}
+use Rattle.arj_lock_run_law.specs.Sees.{SeesLocks}
+use Rattle.arj_lock_run_law.specs.World.{IsSeenSo, is_for_parts}
+use Rattle.arj_lock_run_law.proofs.AckSteps.{acks_go}
+use Rattle.arj_lock_run_law.proofs.FirstSteps.{first_goes}
+use Rattle.arj_lock_run_law.proofs.HandleSteps.{messages_go}
+use Rattle.arj_lock_run_law.proofs.LineSteps.{down_stays, lines_stay, stops_go}
+use Rattle.arj_lock_run_law.proofs.QuerySteps.{queries_go}
+use Rattle.arj_lock_run_law.proofs.RestartWalks.{restarts_go}
+use Rattle.arj_lock_run_law.proofs.TickSteps.{ticks_go}
+
+-- ---- more is sent along a walk
+
+module _ (sent : List Post) (e k : ℕ) (v : Parts) where
+  abbrev Has : Seen → Type 0
+  Has N = Within sent N.sent
+
+  sent_grows : (outs : List Effect) (d : Disk) (M : Seen) → Within sent M.sent → Walks Has e k outs (Up Has k v) d M
+  sent_grows [] d M within = within
+  sent_grows (Do w ∷ es) d M within = (λ how. within, sent_grows es (worked w d) M within)
+  sent_grows (Say b ∷ es) d M within = sent_grows es d (said e (b ∷ []) M) within
+  sent_grows (Send to m ∷ es) d M within = λ more quiet. sent_grows es d (said e more (posted (record { from = k; to = to; message = m }) M)) (λ p there. inr (within p there))
+
+-- ---- what agrees with more agrees with less
+
+module _ (f : Fixed) (x : ℕ) where
+  agree_less : (begun : List Action) (sent more : List Post) → Within sent more → Agrees f x begun more → Agrees f x begun sent
+  agree_less begun sent more within a = record { whole = a.whole; wanted = λ p h q there is. a.wanted p h q (within p there) is }
+
+  agree_older : (a : Action) (begun : List Action) (sent : List Post) → Agrees f x (a ∷ begun) sent → Agrees f x begun sent
+  agree_older a begun sent g = record {
+    whole = (let w = g.whole in record {
+      tree = w.tree;
+      alike = w.alike;
+      begun = w.begun.1;
+      agree = λ b there. w.agree b (in_to b (a ∷ begun) (inr (in_from b begun there)));
+      placed = λ b there. w.placed b (in_to b (a ∷ begun) (inr (in_from b begun there)));
+    });
+    wanted = λ p h q there is. g.wanted p h q there is;
+  }
+
+  -- a walk in which the object is seen, where what is fixed agrees with what was done before
+  kept_walk : (R : Seen → Type 0) (begun : List Action) (e k : ℕ) (outs : List Effect) (v : Parts) (d : Disk) (M : Seen) → Walks R e k outs (Up R k v) d M → Walks (IsGoodOf begun) e k outs (Up (IsGoodOf begun) k v) d M
+      → (Agrees f x begun M.sent → (S : State) × Walks (IsSeenSo (case_of f x begun S)) e k outs (Up (IsSeenSo (case_of f x begun S)) k v) d M)
+      → Walks (λ N. R N × AreLocksSeen f x N) e k outs (Up (λ N. R N × AreLocksSeen f x N) k v) d M
+  kept_walk R begun e k outs v d M holds good sees =
+      let Q : Seen → Type 0 = λ N. Agrees f x begun N.sent → (S : State) × SeesLocks f x begun S N in
+      let H : Seen → Type 0 = λ N. Within M.sent N.sent in
+      let A : Type 0 = Agrees f x begun M.sent in
+      let one = walks_where A Q e k outs (Up Q k v) d M (λ a. (sees a).1) in
+      let two = walks_both H (λ N. A → Q N) e k outs (Up H k v) (λ c N. A → Up Q k v c N) d M (sent_grows M.sent e k v outs d M (λ p there. there)) one in
+      let G : Seen → Type 0 = IsGoodOf begun in
+      let T : Seen → Type 0 = λ N. H N × (A → Q N) in
+      let three = walks_both G T e k outs (Up G k v) (λ c N. Up H k v c N × (A → Up Q k v c N)) d M good two in
+      let U : Seen → Type 0 = λ N. G N × T N in
+      let four = walks_both R U e k outs (Up R k v) (λ c N. Up G k v c N × (Up H k v c N × (A → Up Q k v c N))) d M holds three in
+      walks_to (λ N. R N × U N) (λ N. R N × AreLocksSeen f x N) e k outs (λ c N. Up R k v c N × (Up G k v c N × (Up H k v c N × (A → Up Q k v c N)))) (Up (λ N. R N × AreLocksSeen f x N) k v) d M
+      (λ N z. (z.0, (begun, z.1.0, (λ agrees. z.1.1.1 (agree_less begun M.sent N.sent z.1.1.0 agrees) agrees))))
+      (λ c N z. (z.0, (begun, z.1.0, (λ agrees. z.1.1.1 (agree_less begun M.sent N.sent z.1.1.0 agrees) agrees)))) four
+
+-- ---- what a message is
+
+-- acknowledged, or asked about
+abbrev coordinated : Message → Option (Uid × Bool)
+coordinated (message.Acked m) = Some (m.act, true)
+coordinated (message.Query m) = Some (m.act, false)
+coordinated m = None
+
+-- what it has
+abbrev act_or : Uid → Option (Uid × Bool) → Uid
+act_or u None = u
+act_or u (Some p) = p.0
+
+abbrev flag : Option (Uid × Bool) → Bool
+flag None = false
+flag (Some p) = p.1
+
+is_answer : (m : Message) → coordinated m ≡ None → is_for_parts m ≡ false → is_some (answers m) ≡ true
+is_answer (message.Acked m) none is = absurd (cc none)
+is_answer (message.Query m) none is = absurd (cc none)
+is_answer m none is = un (is_some (answers m)) is
+  where
+    un : (b : Bool) → not b ≡ false → b ≡ true
+    un true h = refl
+    un false h = absurd (cc h)
+
+is_acked : (m : Message) (u : Uid) → coordinated m ≡ Some (u, true) → m ≡ message.Acked (record { act = u })
+is_acked (message.Acked m) u is = let same : m.act ≡ u = ap (act_or m.act) is in ap (λ (w : Uid). message.Acked (record { act = w })) same
+is_acked (message.Query m) u is = absurd (let bad : false ≡ true = ap flag is in cc bad)
+is_acked m u is = absurd (cc is)
+
+is_query : (m : Message) (u : Uid) → coordinated m ≡ Some (u, false) → m ≡ message.Query (record { act = u })
+is_query (message.Acked m) u is = absurd (let bad : true ≡ false = ap flag is in cc bad)
+is_query (message.Query m) u is = let same : m.act ≡ u = ap (act_or m.act) is in ap (λ (w : Uid). message.Query (record { act = w })) same
+is_query m u is = absurd (cc is)
+
+took_heard : (t v : Parts) (r : Served Coord (Unit {0})) (outs : List Effect) → coord_heard t r ≡ Took v outs → (with_coord t r.part ≡ v) × (r.outs ≡ outs)
+took_heard t v r outs is = by r.reply is
+  where
+    by : (o : Option (Unit {0})) → by_reply (with_coord t r.part) r.outs o ≡ Took v outs → (with_coord t r.part ≡ v) × (r.outs ≡ outs)
+    by None is = absurd (cc is)
+    by (Some u) is = (cc is, cc is)
+
+-- ---- each handler
+
+module _ (hd : Header) (f : Fixed) (x : ℕ) (R : Seen → Type 0) (keeps : Keeps hd R) (gives : GivesLocks hd f x R) where
+  abbrev Kept : Seen → Type 0
+  Kept N = R N × AreLocksSeen f x N
+
+  -- what is seen, where what is fixed agrees
+  seen_in : (M : Seen) (seen : AreLocksSeen f x M) (agrees : Agrees f x seen.0 M.sent) → IsSeenIn (case_of f x seen.0 (let g = seen.2 agrees in g.0)) M
+  seen_in M seen agrees = record { good = seen.1; agrees = agrees; sees = (let g = seen.2 agrees in g.1) }
+
+  quiet_kept : (e : ℕ) (bs : List _) (M : Seen) → AreQuiet bs → Kept M → Kept (said e bs M)
+  quiet_kept e bs M quiet z = (keeps.quiet e bs M quiet z.0, (z.1.0, z.1.1, (λ agrees. (let g = z.1.2 agrees in (g.0, lines_stay (case_of f x z.1.0 g.0) e bs M g.1)))))
+
+  stop_kept : (e k : ℕ) (d : Disk) (live : Option Parts) (M : Seen) → Kept (at k d live M) → Kept (halted e k d M)
+  stop_kept e k d live M z = (keeps.stop e k d live M z.0, (z.1.0, stopped_good k d live M (z.1.0, z.1.1) e, by live z))
+    where
+      by : (live : Option Parts) (z : Kept (at k d live M)) → Agrees f x z.1.0 M.sent → (S : State) × SeesLocks f x z.1.0 S (halted e k d M)
+      by None z agrees = (let g = z.1.2 agrees in down_stays (case_of f x z.1.0 g.0) e k d M g.1 agrees)
+      by (Some t) z agrees =
+          let g = z.1.2 agrees in
+          let s : Spot = record { node = k; disk = d; parts = t; seen = M } in
+          let seen = seen_in (world_at s) z.1 agrees in
+          stops_go (case_of f x z.1.0 g.0) s e seen (gives.holds z.1.0 g.0 s z.0 seen) agrees
+
+  -- ---- a message
+
+  module _ (e : ℕ) (s : Spot) (from : ℕ) (z : Kept (world_at s)) (agrees : Agrees f x z.1.0 (let M = s.seen in M.sent)) where
+    abbrev begun : List Action
+    begun = z.1.0
+
+    abbrev S : State
+    S = let g = z.1.2 agrees in g.0
+
+    abbrev c : Case
+    c = case_of f x begun S
+
+    abbrev Goes : List Effect → Parts → Type 0
+    Goes outs v = Walks (IsSeenSo c) e s.node outs (Up (IsSeenSo c) s.node v) s.disk s.seen
+
+    seen : IsSeenIn c (world_at s)
+    seen = seen_in (world_at s) z.1 agrees
+
+    coordinator_goes : (m : Message) (v : Parts) (outs : List Effect) → HasCome s from m v outs → is_for_parts m ≡ false → (o : Option (Uid × Bool)) → coordinated m ≡ o → Goes outs v
+    coordinator_goes m v outs come is None none = heard (answers m) refl (is_answer m none is)
+      where
+        heard : (o : Option (Asked × Reply)) → answers m ≡ o → is_some o ≡ true → Goes outs v
+        heard None of some = absurd (cc some)
+        heard (Some a) of some = gives.heard begun S s e from m a v outs z.0 seen come of
+    coordinator_goes m v outs come is (Some (u, true)) of =
+        let n = subst (λ (w : Message). HasCome s from w v outs) (is_acked m u of) come in
+        let r = acked from u (let d = s.disk in d.intents) (coord_at s) in
+        let q = took_heard s.parts v r outs n.takes in
+        subst (λ (w : Parts). Goes outs w) q.0 (subst (λ (es : List Effect). Goes es (with_coord s.parts r.part)) q.1 (acks_go c s e from u seen (gives.holds begun S s z.0 seen) (gives.acked begun S s from u v outs z.0 seen n)))
+    coordinator_goes m v outs come is (Some (u, false)) of =
+        let n = subst (λ (w : Message). HasCome s from w v outs) (is_query m u of) come in
+        let taken : Took s.parts (answer_query from u (let d = s.disk in d.intents) (coord_at s)) ≡ Took v outs = n.takes in
+        let same : s.parts ≡ v = cc taken in
+        let sends : answer_query from u (let d = s.disk in d.intents) (coord_at s) ≡ outs = cc taken in
+        subst (λ (w : Parts). Goes outs w) same (subst (λ (es : List Effect). Goes es s.parts) sends (queries_go c s e from u seen (gives.asked begun S s from u v outs z.0 seen n)))
+
+    pub message_goes : (m : Message) (v : Parts) (outs : List Effect) → HasCome s from m v outs → Goes outs v
+    message_goes m v outs come = by (is_for_parts m) refl
+      where
+        by : (b : Bool) → is_for_parts m ≡ b → Goes outs v
+        by true is = (let q = gives.parts begun S s from m v outs z.0 seen come is in messages_go c s e from m v outs seen q.0 q.1 come.sent is come.meant come.takes)
+        by false is = coordinator_goes m v outs come is (coordinated m) refl
+
+  kept_message : (e k : ℕ) (d : Disk) (t v : Parts) (from : ℕ) (m : Message) (outs : List Effect) (M : Seen) → Kept (up k d t M) → In (record { from = from; to = k; message = m }) M.sent → is_meant t m ≡ true → handle k d t from m ≡ Took v outs → Walks Kept e k outs (Up Kept k v) d M
+  kept_message e k d t v from m outs M z there meant is =
+      let s : Spot = record { node = k; disk = d; parts = t; seen = M } in
+      kept_walk f x R z.1.0 e k outs v d M (keeps.message e k d t v from m outs M z.0 there meant is) (message_good e k d t M (z.1.0, z.1.1) v from m outs there is)
+      (λ agrees. ((let g = z.1.2 agrees in g.0), message_goes e s from z agrees m v outs (record { sent = there; meant = meant; takes = is })))
+
+  -- ---- the others
+
+  kept_act : (e k : ℕ) (d : Disk) (t : Parts) (i : Input) (M : Seen) → is_act i ≡ true → refusal_up hd i t.coord ≡ None → Kept (up k d t M) → let D = acts i d.intents t.coord in Walks Kept e k D.outs (Up Kept k (with_coord t D.part)) d M
+  kept_act e k d t i M is none z =
+      let D = acts i d.intents t.coord in
+      let s : Spot = record { node = k; disk = d; parts = t; seen = M } in
+      kept_walk f x R z.1.0 e k D.outs (with_coord t D.part) d M (keeps.act e k d t i M is none z.0) (act_good e k d t M (z.1.0, z.1.1) hd i is none)
+      (λ agrees. ((let g = z.1.2 agrees in g.0), gives.act z.1.0 (let g = z.1.2 agrees in g.0) s e i z.0 (seen_in (world_at s) z.1 agrees) is none))
+
+  kept_begin : (e k : ℕ) (d : Disk) (t : Parts) (l : Label) (how : Kind) (parent : Option Label) (M : Seen) → label_at l M.labels ≡ None → MayGive M.labels k how parent → begin_refusal how t.coord parent ≡ None → Kept (up k d t M)
+      → let D = begin_action l how parent (parent_of parent t.coord) t.coord in Walks Kept e k D.outs (Up Kept k (with_coord t D.part)) d (given l (record { node = k; serial = is_serial_kind how }) M)
+  kept_begin e k d t l how parent M new may none z =
+      let D = begin_action l how parent (parent_of parent t.coord) t.coord in
+      let s : Spot = record { node = k; disk = d; parts = t; seen = M } in
+      let N = given l (record { node = k; serial = is_serial_kind how }) M in
+      let a : Action = record { path = path_below how (parent_of parent t.coord) (next_uid t.coord.tree); kind = how } in
+      kept_walk f x R (a ∷ z.1.0) e k D.outs (with_coord t D.part) d N (keeps.begin e k d t l how parent M new may none z.0) (begin_good e k d t l how parent M new may none (z.1.0, z.1.1))
+      (λ agrees. let older = agree_older f x a z.1.0 M.sent agrees in ((let g = z.1.2 older in g.0), gives.begin z.1.0 (let g = z.1.2 older in g.0) s e l how parent z.0 (seen_in (world_at s) z.1 older) new may none agrees))
+
+  kept_tick : (e k : ℕ) (d : Disk) (t : Parts) (M : Seen) → Kept (up k d t M)
+      → Walks Kept e k (tick_outs (record { number = k; disk = d; live = Some t }) t) (Up Kept k (with_coord t (let q = again_all t.coord.doings t.coord in q.part))) d M
+  kept_tick e k d t M z =
+      let s : Spot = record { node = k; disk = d; parts = t; seen = M } in
+      kept_walk f x R z.1.0 e k (tick_outs (record { number = k; disk = d; live = Some t }) t) (with_coord t (let q = again_all t.coord.doings t.coord in q.part)) d M (keeps.tick e k d t M z.0) (tick_good e k d t M (z.1.0, z.1.1))
+      (λ agrees. let g = z.1.2 agrees in let seen = seen_in (world_at s) z.1 agrees in let q = gives.tick z.1.0 g.0 s z.0 seen in (g.0, ticks_go (case_of f x z.1.0 g.0) s e seen q.0 q.1 q.2))
+
+  kept_restart : (e k : ℕ) (d : Disk) (M : Seen) → Kept (down k d M) → Walks Kept e k (restart_outs hd k (d.inc + 1) d) (Up Kept k (parts_in k (d.inc + 1) d)) d M
+  kept_restart e k d M z =
+      kept_walk f x R z.1.0 e k (restart_outs hd k (d.inc + 1) d) (parts_in k (d.inc + 1) d) d M (keeps.restart e k d M z.0) (restart_good hd e k d M (z.1.0, z.1.1))
+      (λ agrees. let g = z.1.2 agrees in let seen = seen_in (down k d M) z.1 agrees in (g.0, restarts_go hd (case_of f x z.1.0 g.0) e k d M seen (gives.restart z.1.0 g.0 k d M z.0 seen)))
+
+  first_kept : Kept (see [] (format hd))
+  first_kept = (keeps.first, ([], first_of hd, (λ agrees. first_goes hd f x gives.first)))
+
+  pub kept : Keeps hd Kept
+  kept = record { quiet = quiet_kept; stop = stop_kept; message = kept_message; act = kept_act; begin = kept_begin; tick = kept_tick; restart = kept_restart; first = first_kept }
+
+pub locks_are_kept : LocksAreKept
+locks_are_kept hd f x test keeps gives = kept hd f x (λ M. test M ≡ true) keeps gives
+
+pub runs_keep_locks : RunsKeepLocks
+runs_keep_locks hd f x test keeps gives es = runs_hold hd (λ M. (test M ≡ true) × AreLocksSeen f x M) (locks_are_kept hd f x test keeps gives) es
