@@ -1,5 +1,5 @@
 -- A commit's plan goes on with what it uses, and at first has each call that a top was answered.
-use Rattle.std.proofs.Common.{◌≡◌, ◌⊎◌, ◌≤◌, ◌==◌, ◌||◌, ◌+◌, ℕ, List, [], ◌∷◌, ◌++◌, Bool, true, false, cond, Some, refl, sym, ◌∙◌, ap, inl, inr, arith, map, filter, find}
+use Rattle.std.proofs.Common.{◌≡◌, ◌⊎◌, ◌≤◌, ◌==◌, ◌||◌, ◌+◌, ℕ, List, [], ◌∷◌, ◌++◌, Bool, true, false, cond, Some, refl, sym, ◌∙◌, ap, inl, inr, ⊎_elim, nat_lt, arith, map, filter, find}
 use Rattle.std.specs.Prelude.{⊤, not, unwrap_or}
 use Rattle.std.specs.List.{list_any}
 use Rattle.std.specs.Ordering.{match_ordering, nat_cmp}
@@ -8,14 +8,14 @@ use Rattle.std.specs.declared.cmp.Ordering.TheVariants.{Less, Equal, Greater}
 use Rattle.std.proofs.lemmas.Bool.{eqb-true}
 use Rattle.arj_base.proofs.Uids.{uid_same}
 use Rattle.arj_lock.proofs.Members as list
-use Rattle.arj_protocol.specs.Words.{Uid, Path, is_on, uid_eq}
+use Rattle.arj_protocol.specs.Words.{ObjectState, Uid, Path, is_on, uid_eq}
 use Rattle.arj_protocol.specs.Words.voted
 use Rattle.arj_protocol.specs.Words.prepared
 use Rattle.arj_protocol.specs.Words.confirmed
 use Rattle.arj_protocol.specs.Ask.{Reply, actor}
 use Rattle.arj_protocol.specs.Call.{Known}
 use Rattle.arj_protocol.specs.Commit as commit
-use Rattle.arj_protocol.specs.Commit.{Aborts, Asks, CommitStep, Confirming, Decides, Machine, Plan, Preparing, Stays, Used, Voting, begin_confirm, begin_prepare, begin_vote, marks_store, marks_stores, plan_of, stores_left, targets_of, votes_left, with_states}
+use Rattle.arj_protocol.specs.Commit.{Aborts, Asks, CommitStep, Confirming, Decides, Machine, Plan, Preparing, Stays, Used, Voting, begin_confirm, begin_prepare, begin_vote, marks_store, marks_stores, plan_of, stores_left, targets_of, votes_left, with_state, with_states}
 use Rattle.arj_protocol.specs.Coord.{Coord, Joined, Root, Said, counts, is_called, joined_in, kept_of, known_for, nothing_known, objects_in, plan_for, said_in, survives, used_of, is_retained}
 use Rattle.arj_protocol.specs.Order.{number_set, with_number, without_number}
 use Rattle.arj_protocol.specs.Tree.{Tree, behind, is_committed, is_merged}
@@ -24,9 +24,9 @@ use Rattle.arj_call_law.proofs.ServerCalls.{never}
 
 -- ---- a plan goes on
 
--- a plan that uses the same, and whose request isn't of a lower number
+-- a plan that uses and has changed the same by the same path, and whose request isn't of a lower number
 abbrev pub IsLater : Plan → Plan → Type 0
-IsLater p q = (q.used ≡ p.used) × (p.req ≤ q.req)
+IsLater p q = (q.used ≡ p.used) × (p.req ≤ q.req) × (q.changed ≡ p.changed) × (q.path ≡ p.path)
 
 abbrev pub IsNextOf : Plan → CommitStep → Type 0
 IsNextOf p (Stays m) = IsLater p (plan_of m)
@@ -39,15 +39,15 @@ further_is p q n is later = omega (arith, is, later.1)
 
 confirm_next : (us : List Used) (p q : Plan) → IsLater p q → IsNextOf p (begin_confirm us q)
 confirm_next [] p q later = tt
-confirm_next (u ∷ us) p q later = (later.0, further_is p q (q.req + 1) refl later)
+confirm_next (u ∷ us) p q later = (later.0, further_is p q (q.req + 1) refl later, later.2, later.3)
 
 prepare_next : (ns : List ℕ) (p q : Plan) → IsLater p q → IsNextOf p (begin_prepare ns q)
 prepare_next [] p q later = confirm_next q.used p q later
-prepare_next (n ∷ ns) p q later = (later.0, further_is p q (q.req + 1) refl later)
+prepare_next (n ∷ ns) p q later = (later.0, further_is p q (q.req + 1) refl later, later.2, later.3)
 
 pub vote_next : (ns : List ℕ) (p q : Plan) → IsLater p q → IsNextOf p (begin_vote ns q)
 vote_next [] p q later = prepare_next (targets_of q) p q later
-vote_next (n ∷ ns) p q later = (later.0, further_is p q (q.req + 1) refl later)
+vote_next (n ∷ ns) p q later = (later.0, further_is p q (q.req + 1) refl later, later.2, later.3)
 
 stores_next : (ns : List ℕ) (p q : Plan) → IsLater p q → IsNextOf p (stores_left ns q).step
 stores_next [] p q later = confirm_next q.used p q later
@@ -62,10 +62,52 @@ marks_later [] p q later = later
 marks_later (n ∷ ns) p q later = marks_later ns p (marks_store n q) later
 
 itself : (p : Plan) → IsLater p p
-itself p = (refl, omega arith)
+itself p = (refl, omega arith, refl, refl)
 
-pub answer_next : (from : ℕ) (m : Machine) (r : Reply) → IsNextOf (plan_of m) (commit.answered from m r).step
-answer_next from (Voting p left) (Reply.Voted (voted.Yes states)) = votes_next (without_number from left) p (record p { changed = with_states states p.changed }) (itself p)
+-- the plan with what a vote brings
+abbrev pub changed_by : Plan → Reply → List ObjectState
+changed_by p (Reply.Voted (voted.Yes states)) = with_states states p.changed
+changed_by p _ = p.changed
+
+abbrev pub heard_plan : Machine → Reply → Plan
+heard_plan (Voting p left) r = record p { changed = changed_by p r }
+heard_plan (Preparing p left) r = p
+heard_plan (Confirming p) r = p
+
+pub heard_same : (m : Machine) (r : Reply) → ((heard_plan m r).used ≡ (plan_of m).used) × ((plan_of m).req ≤ (heard_plan m r).req) × ((heard_plan m r).path ≡ (plan_of m).path)
+heard_same (Voting p left) r = (refl, omega arith, refl)
+heard_same (Preparing p left) r = (refl, omega arith, refl)
+heard_same (Confirming p) r = (refl, omega arith, refl)
+
+with_one : (s w : ObjectState) (all : List ObjectState) → list.In s (with_state w all) → (w ≡ s) ⊎ list.In s all
+with_one s w [] i = i
+with_one s w (t ∷ ts) i = by (nat_lt t.uid.num w.uid.num) i (with_one s w ts)
+  where
+    by : (b : Bool) → list.In s (cond b (t ∷ with_state w ts) (w ∷ t ∷ ts)) → (list.In s (with_state w ts) → (w ≡ s) ⊎ list.In s ts) → (w ≡ s) ⊎ list.In s (t ∷ ts)
+    by true (inl same) ih = inr (inl same)
+    by true (inr more) ih = ⊎_elim (λ same. inl same) (λ old. inr (inr old)) (ih more)
+    by false i ih = i
+
+with_all : (s : ObjectState) (new all : List ObjectState) → list.In s (with_states new all) → list.In s new ⊎ list.In s all
+with_all s [] all i = inr i
+with_all s (w ∷ ws) all i = ⊎_elim (λ more. inl (inr more)) (λ rest. ⊎_elim (λ same. inl (inl same)) (λ old. inr old) (with_one s w all rest)) (with_all s ws (with_state w all) i)
+
+-- what the plan has as changed it had before, or it is voted
+pub changed_from : (m : Machine) (r : Reply) (s : ObjectState) → list.In s (heard_plan m r).changed → list.In s (plan_of m).changed ⊎ ((states : List ObjectState) × (r ≡ Reply.Voted (voted.Yes states)) × list.In s states)
+changed_from (Voting p left) (Reply.Voted (voted.Yes states)) s i = ⊎_elim (λ new. inr (states, refl, new)) (λ old. inl old) (with_all s states p.changed i)
+changed_from (Voting p left) (Reply.Voted (voted.Changed w)) s i = inl i
+changed_from (Voting p left) (Reply.Bound r) s i = inl i
+changed_from (Voting p left) (Reply.Loaded r) s i = inl i
+changed_from (Voting p left) (Reply.Activated r) s i = inl i
+changed_from (Voting p left) (Reply.Noted r) s i = inl i
+changed_from (Voting p left) (Reply.Invoked r) s i = inl i
+changed_from (Voting p left) (Reply.Prepared r) s i = inl i
+changed_from (Voting p left) (Reply.Confirmed r) s i = inl i
+changed_from (Preparing p left) r s i = inl i
+changed_from (Confirming p) r s i = inl i
+
+pub answer_next : (from : ℕ) (m : Machine) (r : Reply) → IsNextOf (heard_plan m r) (commit.answered from m r).step
+answer_next from (Voting p left) (Reply.Voted (voted.Yes states)) = let q : Plan = record p { changed = with_states states p.changed } in votes_next (without_number from left) q q (itself q)
 answer_next from (Voting p left) (Reply.Voted (voted.Changed w)) = tt
 answer_next from (Voting p left) (Reply.Bound r) = itself p
 answer_next from (Voting p left) (Reply.Loaded r) = itself p

@@ -1,9 +1,10 @@
 -- A coordinator knows its calls, whatever it hears, does and begins.
-use Rattle.std.proofs.Common.{◌≡◌, ◌≢◌, ◌≤◌, ◌<◌, ◌==◌, ◌&&◌, ◌||◌, ◌+◌, ℕ, zero, suc, List, [], ◌∷◌, ◌++◌, Bool, true, false, cond, Option, Some, None, refl, sym, ◌∙◌, ap, subst, inl, inr, ⊎_elim, arith, length, slice_get}
+use Rattle.std.proofs.Common.{◌≡◌, ◌≢◌, ◌⊎◌, ◌≤◌, ◌<◌, ◌==◌, ◌&&◌, ◌||◌, ◌+◌, ℕ, zero, suc, List, [], ◌∷◌, ◌++◌, Bool, true, false, cond, Option, Some, None, refl, sym, ◌∙◌, ap, subst, inl, inr, ⊎_elim, arith, length, slice_get}
 use Rattle.std.specs.Prelude.{is_some}
 use Rattle.std.specs.List.{list_any}
 use Rattle.std.proofs.lemmas.Bool.{and_parts, eqb-true, or_cases, or_parts}
 use Rattle.arj_base.proofs.Uids.{uid_is}
+use Rattle.arj_lock.proofs.Members as list
 use Rattle.arj_protocol.specs.Words.{Uid, Asked, Binding, Header, InvokedReply, Kind, Label, Path, Message, ObjectState, is_on, uid_eq, uids_of}
 use Rattle.arj_protocol.specs.Words.ending
 use Rattle.arj_protocol.specs.Words.cause
@@ -33,9 +34,9 @@ use Rattle.arj_part_law.proofs.GoodTrees.{found_by, get_more, own_is}
 use Rattle.arj_part_law.proofs.TrueSteps.{work_there}
 use Rattle.arj_view_law.specs.Seen.{In, Post}
 use Rattle.arj_call_law.specs.Calls.{Call, IsRefused, is_refusal, refused_by as refusal_by}
-use Rattle.arj_call_law.specs.Coords.{IsOwn, KnowsCalls, head_of}
+use Rattle.arj_call_law.specs.Coords.{IsCalledBy, IsOwn, IsPlanned, IsUsed, KnowsCalls, head_of}
 use Rattle.arj_call_law.specs.Homes.{NamesIn}
-use Rattle.arj_call_law.proofs.CommitPlans.{IsNextOf, answer_next, giveup_next}
+use Rattle.arj_call_law.proofs.CommitPlans.{IsNextOf, answer_next, changed_from, giveup_next, heard_plan, heard_same}
 use Rattle.arj_call_law.proofs.CoordCalls.{idle_not, not_both, not_idle}
 use Rattle.arj_call_law.proofs.CoordCommits.{open_known, step_known}
 use Rattle.arj_call_law.proofs.CoordEnds.{aborts_ended, all_known, ended_known}
@@ -90,12 +91,17 @@ module _ (acts_begun : List Action) (paths : Paths) (tree : IsTree paths) (sent 
       number : (i j : ℕ) → j ≡ i → i ≤ j
       number i j is = omega (arith, is)
 
+  later : (i j l : ℕ) → i ≤ j → j ≤ l → i ≤ l
+  later i j l a b = omega (arith, a, b)
+
   -- a commit under way goes a step
-  moved : (u : Uid) (d : Doing) (m : Machine) (step : CommitStep) (intents : List (Uid × Intent)) → doing_of u c ≡ Some d → d.now ≡ Committing m → IsNextOf (plan_of m) step → IsStepOf acts_begun paths tree (plan_of m) step → KnowsCalls paths sent (step_commit u step intents c).part
-  moved u d m step intents found now next same =
+  moved : (u : Uid) (d : Doing) (m : Machine) (p : Plan) (step : CommitStep) (intents : List (Uid × Intent)) → doing_of u c ≡ Some d → d.now ≡ Committing m → (p.used ≡ (plan_of m).used) × ((plan_of m).req ≤ p.req) × (p.path ≡ (plan_of m).path) → ((s : ObjectState) → list.In s p.changed → IsCalledBy sent c (uids_of (plan_of m).path) s.uid.num) → IsNextOf p step → IsStepOf acts_begun paths tree (plan_of m) step → KnowsCalls paths sent (step_commit u step intents c).part
+  moved u d m p step intents found now its called next same =
       let v : IsVoting c.tree u (plan_of m) = subst (IsBusy c.tree u) now (good.busy u d found) in
       let k = knows.plans u d m found now in
-      step_known paths sent c knows u d found (λ s is. not_both (sym is ∙ now)) (plan_of m) step intents (last_plan u d m found now) k.free k.calls k.votes next
+      step_known paths sent c knows u d found (λ s is. not_both (sym is ∙ now)) p step intents (later d.req (plan_of m).req p.req (last_plan u d m found now) its.1) k.free (λ to q o on. subst (λ us. IsPlanned sent c.tree c us to q) (sym its.0) (k.calls to q o on))
+      (λ from z a states i is at s j. let r = k.votes from z a states i is at s j in (subst (λ us. IsUsed us s.uid.num from) (sym its.0) r.0, subst (λ q. IsCalledBy sent c (uids_of q) s.uid.num) (sym its.2) r.1))
+      (λ s i. subst (λ q. IsCalledBy sent c (uids_of q) s.uid.num) (sym its.2) (called s i)) next
       (λ q is. ap actor (decides_path acts_begun paths tree (plan_of m) step same q is) ∙ actor_is acts_begun paths tree u (plan_of m).path c good v.asking)
       (λ b f. ap (λ (z : Branch). is_some z.ended) (sym (some_is (sym v.asking.found ∙ f))) ∙ v.asking.opened)
 
@@ -126,8 +132,12 @@ module _ (acts_begun : List Action) (paths : Paths) (tree : IsTree paths) (sent 
           one false off_it = knows
       by_now d found (Committing n) at = one (waits_for_commit from a r n)
         where
+          called : (d : Doing) (n : Machine) → doing_of a.act c ≡ Some d → d.now ≡ Committing n → (s : ObjectState) → list.In s (plan_of n).changed ⊎ ((states : List ObjectState) × (r ≡ Reply.Voted (voted.Yes states)) × list.In s states) → IsCalledBy sent c (uids_of (plan_of n).path) s.uid.num
+          called d n found at s (inl old) = let k = knows.plans a.act d n found at in k.changed s old
+          called d n found at s (inr (states, voted_so, new)) = let k = knows.plans a.act d n found at in (k.votes from m a states posted (is ∙ ap (λ z. Some (a, z)) voted_so) refl s new).1
+
           one : (w : Bool) → KnowsCalls paths sent (cond {A = Served Coord (Unit {0})} w (heard_by (moved_commit a.act (commit.answered from n r) intents c)) (heard_none c)).part
-          one true = moved a.act d n (commit.answered from n r).step intents found at (answer_next from n r) (answer_step acts_begun paths tree from n r)
+          one true = moved a.act d n (heard_plan n r) (commit.answered from n r).step intents found at (heard_same n r) (λ s i. called d n found at s (changed_from n r s i)) (answer_next from n r) (answer_step acts_begun paths tree from n r)
           one false = knows
 
       by : (o : Option Doing) → doing_of a.act c ≡ o → KnowsCalls paths sent (heard_doing from a r intents c o).part
@@ -160,7 +170,7 @@ module _ (acts_begun : List Action) (paths : Paths) (tree : IsTree paths) (sent 
           let asking : IsAsking c.tree u s.path = subst (IsBusy c.tree u) at (good.busy u d found) in
           let who = actor_is acts_begun paths tree u s.path c good asking in
           given_up_known acts_begun paths tree sent c good knows s d (ap (λ z. doing_of z c) who ∙ found) at (last_call u d s found at) (subst (λ z. IsAsking c.tree z s.path) (sym who) asking)
-      by_now d found (Committing n) at = moved u d n (commit.given_up n).step intents found at (giveup_next n) (giveup_step acts_begun paths tree n)
+      by_now d found (Committing n) at = moved u d n (plan_of n) (commit.given_up n).step intents found at (refl, omega arith, refl) (let k = knows.plans u d n found at in k.changed) (giveup_next n) (giveup_step acts_begun paths tree n)
 
       by : (o : Option Doing) → doing_of u c ≡ o → KnowsCalls paths sent (give_up_doing u intents c o).part
       by None none = knows

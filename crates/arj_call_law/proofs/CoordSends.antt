@@ -27,7 +27,7 @@ use Rattle.arj_part_law.specs.Coords.{IsAsking, IsBusy, IsGoodCoord, IsVoting}
 use Rattle.arj_part_law.specs.Copies.{Paths}
 use Rattle.arj_view_law.specs.Seen.{In, Post}
 use Rattle.arj_call_law.specs.Calls.{Call, IsAsked, IsRefused, call_by, call_in, call_of}
-use Rattle.arj_call_law.specs.Coords.{Answered, Doomed, HasNoServer, IsCounted, IsCovered, IsOfStep, IsOver, IsOwn, IsPlanned, IsThere, IsUsed, IsWaiting, KnowsCalls, Nowhere, Refused, Spent, WasRefused, WasSpent, bare, head_of}
+use Rattle.arj_call_law.specs.Coords.{Answered, Doomed, HasNoServer, IsCounted, IsCalledBy, IsCovered, IsOfStep, IsOver, IsOwn, IsPlanned, IsThere, IsVotedIn, IsWaiting, KnowsCalls, Nowhere, Refused, Spent, WasRefused, WasSpent, bare, head_of}
 use Rattle.arj_call_law.proofs.CoordCalls.{not_both, step_is}
 use Rattle.arj_call_law.proofs.CoordKnown.{doing_here}
 use Rattle.arj_call_law.proofs.ServerCalls.{never, some_is}
@@ -113,7 +113,7 @@ refused_more p sent n a r = record { to = r.to; message = r.message; posted = in
 
 module _ (acts_begun : List Action) (paths : Paths) (sent : List Post) (e : Coord) (good : IsGoodCoord acts_begun paths e) (knows : KnowsCalls paths sent e) (p : Post)
     (its : (h : Head) (a : Ask) → p.from ≡ e.tree.node → asks p.message ≡ Some (h, a) → is_own (actor h.path) e.tree ≡ true → IsSentBy e p.to h a)
-    (votes : p.to ≡ e.tree.node → (a : Asked) (states : List ObjectState) → answers p.message ≡ Some (a, Reply.Voted (voted.Yes states)) → (d : Doing) (m : Machine) → doing_of a.act e ≡ Some d → d.now ≡ Committing m → (s : ObjectState) → list.In s states → IsUsed (plan_of m).used s.uid.num p.from) where
+    (votes : p.to ≡ e.tree.node → (a : Asked) (states : List ObjectState) → answers p.message ≡ Some (a, Reply.Voted (voted.Yes states)) → (d : Doing) (m : Machine) → doing_of a.act e ≡ Some d → d.now ≡ Committing m → (s : ObjectState) → list.In s states → IsVotedIn sent e (plan_of m) s.uid.num p.from) where
   new_or_old : (to : ℕ) (k : Call) → IsOwn (p ∷ sent) e to k → IsWaiting e to k ⊎ IsOwn sent e to k
   new_or_old to k o = by o.asked
     where
@@ -134,11 +134,14 @@ module _ (acts_begun : List Action) (paths : Paths) (sent : List Post) (e : Coor
   over_more to k (Spent s) = Spent s
   over_more to k (Answered s) = Answered s
 
-  planned_more : (used : _) (to : ℕ) (k : Call) → IsPlanned sent e.tree used to k → IsPlanned (p ∷ sent) e.tree used to k
+  called_more : (us : List Uid) (x : ℕ) → IsCalledBy sent e us x → IsCalledBy (p ∷ sent) e us x
+  called_more us x a = record { rest = a.rest; answered = a.answered; own = a.own; merged = λ w on. let s = a.merged w on in record { post = s.post; posted = inr s.posted; said = s.said } }
+
+  planned_more : (used : _) (to : ℕ) (k : Call) → IsPlanned sent e.tree e used to k → IsPlanned (p ∷ sent) e.tree e used to k
   planned_more used to k (WasRefused r) = WasRefused (refused_more p sent to _ r)
   planned_more used to k (HasNoServer z) = HasNoServer z
   planned_more used to k (WasSpent s) = WasSpent s
-  planned_more used to k (IsThere q) = IsThere q
+  planned_more used to k (IsThere q a) = IsThere q a
 
   -- nobody below a top that commits waits in a call
   not_below : (u : Uid) (d : Doing) (m : Machine) → doing_of u e ≡ Some d → d.now ≡ Committing m → (to : ℕ) (k : Call) → IsWaiting e to k → is_on (uids_of (let h = k.head in h.path)) u ≡ true → ((b : Branch) → branch_of (actor (let h = k.head in h.path)) e.tree ≡ Some b → uids_of b.path ≡ uids_of (let h = k.head in h.path)) → ⊥
@@ -158,6 +161,7 @@ module _ (acts_begun : List Action) (paths : Paths) (sent : List Post) (e : Coor
       free = v.free;
       calls = λ to k o on. ⊎_elim (λ w. absurd (not_below u d m found now to k w on (path to k w))) (λ old. planned_more _ to k (v.calls to k old on)) (new_or_old to k o);
       votes = λ from z a states i is same s j. voted_so u d m found now v from z a states i is same s j;
+      changed = λ s i. called_more _ _ (v.changed s i);
     };
     said = knows.said;
   }
@@ -171,9 +175,12 @@ module _ (acts_begun : List Action) (paths : Paths) (sent : List Post) (e : Coor
           number : (i j : ℕ) → i ≡ j → i ≤ j
           number i j is = omega (arith, is)
 
-      voted_so : (u : Uid) (d : Doing) (m : Machine) → doing_of u e ≡ Some d → d.now ≡ Committing m → IsCovered sent e.tree e u m → (from : ℕ) (z : Message) (a : Asked) (states : List ObjectState) → In (record { from = from; to = e.tree.node; message = z }) (p ∷ sent) → answers z ≡ Some (a, Reply.Voted (voted.Yes states)) → a.act ≡ u → (s : ObjectState) → list.In s states → IsUsed (plan_of m).used s.uid.num from
-      voted_so u d m found now v from z a states (inr old) is same s j = v.votes from z a states old is same s j
-      voted_so u d m found now v from z a states (inl it) is same s j = subst (λ n. IsUsed (plan_of m).used s.uid.num n) (ap (λ (y : Post). y.from) it) (votes (ap (λ (y : Post). y.to) it) a states (ap (λ (y : Post). answers y.message) it ∙ is) d m (ap (λ w. doing_of w e) same ∙ found) now s j)
+      voted_so : (u : Uid) (d : Doing) (m : Machine) → doing_of u e ≡ Some d → d.now ≡ Committing m → IsCovered sent e.tree e u m → (from : ℕ) (z : Message) (a : Asked) (states : List ObjectState) → In (record { from = from; to = e.tree.node; message = z }) (p ∷ sent) → answers z ≡ Some (a, Reply.Voted (voted.Yes states)) → a.act ≡ u → (s : ObjectState) → list.In s states → IsVotedIn (p ∷ sent) e (plan_of m) s.uid.num from
+      voted_so u d m found now v from z a states (inr old) is same s j = let r = v.votes from z a states old is same s j in (r.0, called_more _ _ r.1)
+      voted_so u d m found now v from z a states (inl it) is same s j = subst (λ n. IsVotedIn (p ∷ sent) e (plan_of m) s.uid.num n) (ap (λ (y : Post). y.from) it) (more_of (votes (ap (λ (y : Post). y.to) it) a states (ap (λ (y : Post). answers y.message) it ∙ is) d m (ap (λ w. doing_of w e) same ∙ found) now s j))
+        where
+          more_of : IsVotedIn sent e (plan_of m) s.uid.num p.from → IsVotedIn (p ∷ sent) e (plan_of m) s.uid.num p.from
+          more_of r = (r.0, called_more _ _ r.1)
 
 -- ---- what isn't a request
 

@@ -24,10 +24,10 @@ use Rattle.arj_part_law.proofs.Decided.{stand_goes, stand_same}
 use Rattle.arj_part_law.proofs.GoodCoords.{on_tree, uses_same}
 use Rattle.arj_view_law.specs.Seen.{Post}
 use Rattle.arj_call_law.specs.Calls.{Call, IsAsked}
-use Rattle.arj_call_law.specs.Coords.{Answered, AreOfPaths, AreVoted, Doomed, IsCovered, IsDoomed, IsOver, IsOwn, IsSpent, IsTied, IsTiedAt, IsWaiting, KnowsCalls, Nowhere, Refused, Spent}
+use Rattle.arj_call_law.specs.Coords.{Answered, AreOfPaths, Doomed, IsCovered, IsDoomed, IsOver, IsOwn, IsSpent, IsTied, IsTiedAt, IsWaiting, KnowsCalls, Nowhere, Refused, Spent}
 use Rattle.arj_call_law.proofs.CoordCalls.{goes_known, kept_put, kept_same, not_idle, went_keeping}
 use Rattle.arj_call_law.proofs.CoordKnown.{keep_root, loose_of, paths_root, paths_same, went_said}
-use Rattle.arj_call_law.proofs.CoordSteps.{Goes, IsLoose, IsStill, KeepsAborts, Knowing, goes_then, goes_tree, knowing_of, knowing_on}
+use Rattle.arj_call_law.proofs.CoordSteps.{Goes, IsLoose, IsStill, KeepsAborts, Knowing, covered_on, goes_then, goes_tree, knowing_of, knowing_on}
 use Rattle.arj_call_law.proofs.CoordTrees.{KeepsDoom, doom_is, doom_same, doom_then}
 use Rattle.arj_call_law.proofs.ServerCalls.{some_is}
 
@@ -110,7 +110,7 @@ same_known paths sent c e trees doings said kept knows = record {
   counted = λ p h a i from is own. let f = knows.counted p h a i (from ∙ ap (λ (t : Tree). t.node) trees) is (ap (is_own (actor h.path)) (sym trees) ∙ own) in record { doing = f.doing; found = work (actor h.path) ∙ f.found; low = f.low; last = f.last };
   calls = λ to k o. ⊎_elim (λ w. inl (record { doing = w.doing; step = w.step; found = work (actor (let h = k.head in h.path)) ∙ w.found; now = w.now; node = w.node; call = w.call })) (λ over. inr (over_same to k over)) (knows.calls to k (back to k o));
   ties = λ u d s found now call. subst (λ o. IsTiedAt o s.at) (sym (kept (root_of s.path) s.x)) (knows.ties u d s (sym (work u) ∙ found) now call);
-  plans = λ u d m found now. let v = knows.plans u d m (sym (work u) ∙ found) now in subst (λ t. IsCovered sent t e u m) (sym trees) (record { free = v.free; calls = λ to k o on. v.calls to k (back to k o) on; votes = subst (λ (z : Tree). AreVoted sent z.node u (let p = plan_of m in p.used)) (sym trees) v.votes });
+  plans = λ u d m found now. let v = knows.plans u d m (sym (work u) ∙ found) now in subst (λ t. IsCovered sent t e u m) (sym trees) (covered_on sent c.tree u c e (ap (λ (t : Tree). t.node) trees) (λ w. ap (is_own w) trees) (λ r s i. subst (λ ss. list.In s ss) (sym (said r)) i) u m v);
   said = λ r s i. knows.said r s (subst (λ ss. list.In s ss) (said r) i);
 }
   where

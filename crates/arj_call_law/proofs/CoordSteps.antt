@@ -1,14 +1,14 @@
 -- What a coordinator knows of calls, as it goes on at one action.
-use Rattle.std.proofs.Common.{◌≡◌, ◌≢◌, ◌⊎◌, ℕ, List, true, false, cond, Option, Some, None, refl, sym, ◌∙◌, ap, subst, inl, inr, ⊎_elim}
+use Rattle.std.proofs.Common.{◌≡◌, ◌≢◌, ◌⊎◌, ℕ, List, ◌++◌, true, false, cond, Option, Some, None, refl, sym, ◌∙◌, ap, subst, inl, inr, ⊎_elim}
 use Rattle.std.specs.Prelude.{unwrap_or}
 use Rattle.std.specs.Ordering.{is_eq, nat_cmp}
 use Rattle.arj_base.proofs.Uids.{uid_cases}
 use Rattle.arj_lock.proofs.Members as list
-use Rattle.arj_protocol.specs.Words.{Uid}
+use Rattle.arj_protocol.specs.Words.{Uid, first_uid}
 use Rattle.arj_protocol.specs.Words.ending
 use Rattle.arj_protocol.specs.Ask.{actor}
 use Rattle.arj_protocol.specs.Call.{Known, Steps, AtBind, AtLoad, AtActivate, AtNote, AtInvoke, At}
-use Rattle.arj_protocol.specs.Commit.{Machine, plan_of}
+use Rattle.arj_protocol.specs.Commit.{Machine}
 use Rattle.arj_protocol.specs.Coord.{Calling, Committing, Coord, Doing, Root, Said, change_doing, doing_of, is_call, kept_of, no_root, on_doing, on_root, root_at, set_doing}
 use Rattle.arj_protocol.specs.Effect.{Intent}
 use Rattle.arj_protocol.specs.Order.{at_number, put_number, binding_number}
@@ -18,9 +18,9 @@ use Rattle.arj_protocol.proofs.RowSteps.{one_or_two}
 use Rattle.arj_part_law.specs.Copies.{Paths}
 use Rattle.arj_part_law.specs.Messages.{IsDecided}
 use Rattle.arj_part_law.proofs.Settled.{doing_other}
-use Rattle.arj_view_law.specs.Seen.{Post}
+use Rattle.arj_view_law.specs.Seen.{In, Post}
 use Rattle.arj_call_law.specs.Calls.{Call, IsAsked}
-use Rattle.arj_call_law.specs.Coords.{Answered, AreVoted, Doomed, IsCovered, IsDoomed, IsFree, IsOver, IsOwn, IsPlanned, IsSpent, IsTie, IsTied, IsTiedAt, IsWaiting, HasNoServer, IsThere, KnowsCalls, Nowhere, Refused, Spent, WasRefused, WasSpent}
+use Rattle.arj_call_law.specs.Coords.{Answered, IsAnswered, IsCalledBy, Doomed, IsCovered, IsDoomed, IsFree, IsOver, IsOwn, IsPlanned, IsSpent, IsTie, IsTied, IsTiedAt, IsWaiting, HasNoServer, IsThere, KnowsCalls, Nowhere, Refused, Spent, WasRefused, WasSpent}
 
 -- who was aborted stays so
 abbrev pub KeepsAborts : Tree → Tree → Type 0
@@ -66,8 +66,27 @@ still_at kept new (AtNote k i) f tied = still kept new k f tied
 still_at kept new (AtInvoke k i) f tied = still kept new k f tied
 
 module _ (sent : List Post) (t : Tree) (u : Uid) where
-  pub covered_on : (c e : Coord) → e.tree.node ≡ c.tree.node → ((w : Uid) → is_own w e.tree ≡ is_own w c.tree) → (w : Uid) (m : Machine) → IsCovered sent t c w m → IsCovered sent t e w m
-  covered_on c e node own w m v = record { free = v.free; calls = λ to k o on. v.calls to k (own_back sent c e node own to k o) on; votes = subst (λ n. AreVoted sent n w (let p = plan_of m in p.used)) (sym node) v.votes }
+  -- answers stay
+  module _ (c e : Coord) (own : (w : Uid) → is_own w e.tree ≡ is_own w c.tree) (says : (root : Uid) (s : Said) → list.In s (root_at root c).said → list.In s (root_at root e).said) where
+    answered_on : (us : List Uid) (x : ℕ) → IsAnswered c us x → IsAnswered e us x
+    answered_on us x a = record { said = a.said; there = says (first_uid us) a.said a.there; path = a.path; object = a.object }
+
+    called_on : (us : List Uid) (x : ℕ) → IsCalledBy sent c us x → IsCalledBy sent e us x
+    called_on us x a = record { rest = a.rest; answered = answered_on (us ++ a.rest) x a.answered; own = λ w on. own w ∙ a.own w on; merged = a.merged }
+
+    planned_on : (used : _) (to : ℕ) (k : Call) → IsPlanned sent t c used to k → IsPlanned sent t e used to k
+    planned_on used to k (WasRefused r) = WasRefused r
+    planned_on used to k (HasNoServer z) = HasNoServer z
+    planned_on used to k (WasSpent s) = WasSpent s
+    planned_on used to k (IsThere q a) = IsThere q (answered_on _ _ a)
+
+  pub covered_on : (c e : Coord) → e.tree.node ≡ c.tree.node → ((w : Uid) → is_own w e.tree ≡ is_own w c.tree) → ((root : Uid) (s : Said) → list.In s (root_at root c).said → list.In s (root_at root e).said) → (w : Uid) (m : Machine) → IsCovered sent t c w m → IsCovered sent t e w m
+  covered_on c e node own says w m v = record {
+    free = v.free;
+    calls = λ to k o on. planned_on c e own says _ to k (v.calls to k (own_back sent c e node own to k o) on);
+    votes = λ from z a states i is same s j. let r = v.votes from z a states (subst (λ n. In (record { from = from; to = n; message = z }) sent) node i) is same s j in (r.0, called_on c e own says _ _ r.1);
+    changed = λ s i. called_on c e own says _ _ (v.changed s i);
+  }
 
   over_on : (c e : Coord) → Goes t u c e → (to : ℕ) (k : Call) → IsOver sent t c to k → IsOver sent t e to k
   over_on c e g to k (Refused r) = Refused r
@@ -84,7 +103,7 @@ module _ (sent : List Post) (t : Tree) (u : Uid) where
   knowing_on Q c e g k = record {
     calls = λ to q o. known to q (k.calls to q (own_back sent c e g.node g.own to q o));
     ties = λ w d s other found now call. tied w d s other (sym (g.doings w other) ∙ found) now call;
-    plans = λ w d m other found now. covered_on c e g.node g.own w m (k.plans w d m other (sym (g.doings w other) ∙ found) now);
+    plans = λ w d m other found now. covered_on c e g.node g.own g.said w m (k.plans w d m other (sym (g.doings w other) ∙ found) now);
   }
     where
       known : (to : ℕ) (q : Call) → Q to q ⊎ ((IsWaiting c to q × (actor (let h = q.head in h.path) ≢ u)) ⊎ IsOver sent t c to q) → Q to q ⊎ ((IsWaiting e to q × (actor (let h = q.head in h.path) ≢ u)) ⊎ IsOver sent t e to q)
@@ -168,7 +187,7 @@ pub knowing_of : (paths : Paths) (sent : List Post) (t : Tree) (u : Uid) (Q : �
 knowing_of paths sent t u Q c decides doomed free mine knows = record {
   calls = λ to k o. ⊎_elim (λ w. ⊎_elim (λ same. inl (mine to k w same)) (λ other. inr (inl (w, other))) (uid_cases (actor (let h = k.head in h.path)) u)) (λ over. inr (inr (over_in to k over))) (knows.calls to k o);
   ties = λ w d s other found now. knows.ties w d s found now;
-  plans = λ w d m other found now. let v = knows.plans w d m found now in record { free = free w d m other found now v.free; calls = λ to k o on. planned to k _ (v.calls to k o on); votes = v.votes };
+  plans = λ w d m other found now. let v = knows.plans w d m found now in record { free = free w d m other found now v.free; calls = λ to k o on. planned to k _ (v.calls to k o on); votes = v.votes; changed = v.changed };
 }
   where
     spent : (us : List Uid) → IsSpent c.tree us → IsSpent t us
@@ -181,8 +200,8 @@ knowing_of paths sent t u Q c decides doomed free mine knows = record {
     over_in to k (Spent s) = Spent (spent _ s)
     over_in to k (Answered s) = Answered s
 
-    planned : (to : ℕ) (k : Call) (used : _) → IsPlanned sent c.tree used to k → IsPlanned sent t used to k
+    planned : (to : ℕ) (k : Call) (used : _) → IsPlanned sent c.tree c used to k → IsPlanned sent t c used to k
     planned to k used (WasRefused r) = WasRefused r
     planned to k used (HasNoServer z) = HasNoServer z
     planned to k used (WasSpent s) = WasSpent (spent _ s)
-    planned to k used (IsThere q) = IsThere q
+    planned to k used (IsThere q a) = IsThere q a

@@ -130,7 +130,7 @@ module _ (paths : Paths) (tree : IsTree paths) (t : Tree) (lists : HasLists path
     pub over : has_open_child u t ≡ false → (w : Uid) → is_on (behind u path) w ≡ true → (b : Branch) × (branch_of w t ≡ Some b) × (is_some b.ended ≡ true)
     pub root : first_uid path ≡ first_uid (paths u)
 
-  nothing_behind : behind u (paths u) ≡ []
+  pub nothing_behind : behind u (paths u) ≡ []
   nothing_behind = by (before_last (paths u)) refl
     where
       own : last_uid (paths u) ≡ u

@@ -24,4 +24,5 @@ pub mod LivedWalks
 pub mod LivedMessages
 pub mod LivedCounts
 pub mod LivedRuns
+pub mod ChangedCalls
 pub mod WholeRuns

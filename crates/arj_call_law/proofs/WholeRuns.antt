@@ -29,14 +29,15 @@ use Rattle.arj_call_law.specs.Bindings.{AreSaid, HasFewBindings, bindings_made}
 use Rattle.arj_call_law.specs.Calls.{Call, call_in}
 use Rattle.arj_call_law.specs.Homes.{NamesIn}
 use Rattle.arj_call_law.specs.Lived.{AreApart, AreBelow, CountFits, Gifts, IsHome, LivesRun, LivesWith, NamesPost, PassesAll, PassesIn}
-use Rattle.arj_call_law.specs.Runs.{AllVotesAreUsed, HasHomes, KnowsFew, KnowsRun}
+use Rattle.arj_call_law.specs.Runs.{AllChangesAreCalled, AllVotesAreUsed, HasHomes, KnowsFew, KnowsRun}
 use Rattle.arj_call_law.specs.Servers.{HasReached, IsSoUp, Since}
-use Rattle.arj_call_law.specs.Voting.{RunsReach, RunsVote}
+use Rattle.arj_call_law.specs.Voting.{RunsCall, RunsReach, RunsVote}
 use Rattle.arj_call_law.specs.Worlds.{CallsReach}
 use Rattle.arj_call_law.proofs.CoordSends.{asked_call}
 use Rattle.arj_call_law.proofs.Given.{KeepsGiven, both_given, given_more, kept_both, keeps_given, while_given}
 use Rattle.arj_call_law.proofs.LivedRuns.{lives_given}
 use Rattle.arj_call_law.proofs.MadeLines.{counts_are_said, fewer}
+use Rattle.arj_call_law.proofs.ChangedCalls.{changes_in}
 use Rattle.arj_call_law.proofs.ServerCalls.{some_is}
 use Rattle.arj_call_law.proofs.WorldRuns.{calls_given, votes_in}
 
@@ -250,6 +251,9 @@ known_in hd es P so few =
 
 pub runs_vote : RunsVote
 runs_vote hd es few = known_in hd es AllVotesAreUsed (λ M k. votes_in M k.1) few
+
+pub runs_call : RunsCall
+runs_call hd es few = known_in hd es AllChangesAreCalled (λ M k. changes_in M k.1) few
 
 pub runs_reach : RunsReach
 runs_reach hd es few = known_in hd es CallsReach (λ M k. reached_of M k.0) few

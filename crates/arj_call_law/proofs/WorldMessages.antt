@@ -35,7 +35,7 @@ use Rattle.arj_part_law.specs.Ends.{ask_ends, brought_by}
 use Rattle.arj_part_law.specs.Messages.{FitsAsk, FitsMessage, SealsAsked}
 use Rattle.arj_view_law.specs.Seen.{In, Post}
 use Rattle.arj_call_law.specs.Calls.{Call, IsSaidToCommit, call_by, is_refusal, refusal_of, refused_by, refuses}
-use Rattle.arj_call_law.specs.Coords.{IsUsed, KnowsCalls}
+use Rattle.arj_call_law.specs.Coords.{IsVotedIn, KnowsCalls}
 use Rattle.arj_call_law.specs.Servers.{AreFromCalls, AreOneCall, HaveReached}
 use Rattle.arj_call_law.specs.Worlds.{AreKeyed, KnowsNode, vote_by, vote_in, vote_of}
 use Rattle.arj_call_law.proofs.CoordOuts.{query_so}
@@ -130,7 +130,7 @@ IsCoordAt nodes k own from c = ((from ≡ k) × (c ≡ own)) ⊎ ((j : Node) × 
 
 module _ (acts : List Action) (paths : Paths) (tree : IsTree paths) (k : ℕ) (d : Disk) (t : Parts) (from : ℕ) (sent : List Post) (nodes : ℕ → Option Node) (mine : KnowsNode paths sent k (record { number = k; disk = d; live = Some t })) (server_inc : t.server.inc ≡ d.inc) (coord_inc : t.coord.tree.inc ≡ d.inc) (coord_node : t.coord.tree.node ≡ k)
     (one : AreOneCall sent) (reached : HaveReached sent k (record { number = k; disk = d; live = Some t }))
-    (votable : (c : Coord) → IsCoordAt nodes k t.coord from c → (s : Server) → AreFromCalls sent k s → AreKeyed s.objects → HaveOvers paths s → (top : Uid) (q : Doing) (m : Machine) → doing_of top c ≡ Some q → q.now ≡ Committing m → (st : ObjectState) → list.In st (changed_states top s) → IsUsed (plan_of m).used st.uid.num k) where
+    (votable : (c : Coord) → IsCoordAt nodes k t.coord from c → (s : Server) → AreFromCalls sent k s → AreKeyed s.objects → HaveOvers paths s → (top : Uid) (q : Doing) (m : Machine) → doing_of top c ≡ Some q → q.now ≡ Committing m → (st : ObjectState) → list.In st (changed_states top s) → IsVotedIn sent c (plan_of m) st.uid.num k) where
   abbrev At : Parts → Node
   At v = record { number = k; disk = d; live = Some v }
 
@@ -283,7 +283,7 @@ module _ (acts : List Action) (paths : Paths) (tree : IsTree paths) (k : ℕ) (d
               yes (voted.Changed w) e = absurd (none_at refl e)
               yes (voted.Yes st) e = let same : ◌≡◌ {A = Asked × List ObjectState} (asked_by h, st) (a, states) = some_is e in (ap (λ (z : Asked × List ObjectState). (let y = z.0 in y.act)) (sym same), ap (λ (z : Asked × List ObjectState). voted.Yes z.1) same)
 
-          fitting : HaveOvers paths v.server → (c : Coord) → IsCoordAt nodes k t.coord from c → VoteFits k (response (asked_by h) (Reply.Voted q)) c
+          fitting : HaveOvers paths v.server → (c : Coord) → IsCoordAt nodes k t.coord from c → VoteFits sent k (response (asked_by h) (Reply.Voted q)) c
           fitting overs c there a states vote w z found now st there_in =
               let f = voting a states vote in
               let same : states ≡ changed_states (actor h.path) v.server = vote_states k h.path i ties ends t.server states (at ∙ ap Some f.1) in

@@ -50,7 +50,7 @@ use Rattle.arj_view_law.specs.Seen.{In, Post, Seen, at, down, given, said, see, 
 use Rattle.arj_view_law.specs.Walks.{Up, Walks, halted}
 use Rattle.arj_view_law.proofs.Together.{walks_both, walks_each, walks_to}
 use Rattle.arj_call_law.specs.Calls.{Call}
-use Rattle.arj_call_law.specs.Coords.{IsOwn, IsUsed, KnowsCalls}
+use Rattle.arj_call_law.specs.Coords.{IsOwn, IsVotedIn, KnowsCalls}
 use Rattle.arj_call_law.specs.Runs.{AreKnown, Grounds, HasHomes, AllVotesAreUsed, KnowsRun, Trees, VotesAreUsed}
 use Rattle.arj_call_law.specs.Servers.{AreFromCalls, IsPast, Since}
 use Rattle.arj_call_law.specs.Worlds.{AreKeyed, CallsReach, KnowsNode, KnowsWorld, vote_by}
@@ -80,13 +80,13 @@ module _ (acts_begun : List Action) (paths : Paths) (tree : IsTree paths) (agree
   up_at : (j : ℕ) (n : Node) (u : Parts) → W.nodes j ≡ Some n → n.live ≡ Some u → IsUp acts_begun W.sent W.labels j n.disk.inc u
   up_at j n u is live = let p = good.places j n is in subst (IsMemory acts_begun W.sent W.labels j n.disk.inc) live p.memory
 
-  coord_at : (j : ℕ) (n : Node) (u : Parts) → W.nodes j ≡ Some n → n.live ≡ Some u → IsGoodCoord acts_begun paths u.coord
+  pub coord_at : (j : ℕ) (n : Node) (u : Parts) → W.nodes j ≡ Some n → n.live ≡ Some u → IsGoodCoord acts_begun paths u.coord
   coord_at j n u is live = let m = up_at j n u is live in let g = m.good paths tree agree in g.coord
 
-  says_at : (j : ℕ) (n : Node) (u : Parts) → W.nodes j ≡ Some n → n.live ≡ Some u → (p : Post) → In p W.sent → p.from ≡ u.coord.tree.node → IsSaidSo u.coord.tree p.message
+  pub says_at : (j : ℕ) (n : Node) (u : Parts) → W.nodes j ≡ Some n → n.live ≡ Some u → (p : Post) → In p W.sent → p.from ≡ u.coord.tree.node → IsSaidSo u.coord.tree p.message
   says_at j n u is live p i from = let m = up_at j n u is live in let s = good.so p n i (ap W.nodes (from ∙ m.node) ∙ is) in subst (IsSaidIn p.message) live s.said
 
-  votes_at : (j : ℕ) (n : Node) (u : Parts) → W.nodes j ≡ Some n → n.live ≡ Some u → (k : ℕ) (s : Server) → (k ≡ 0 → ⊥) → AreFromCalls W.sent k s → AreKeyed s.objects → HaveOvers paths s → (top : Uid) (q : Doing) (m : Machine) → doing_of top u.coord ≡ Some q → q.now ≡ Committing m → (st : ObjectState) → list.In st (changed_states top s) → IsUsed (plan_of m).used st.uid.num k
+  votes_at : (j : ℕ) (n : Node) (u : Parts) → W.nodes j ≡ Some n → n.live ≡ Some u → (k : ℕ) (s : Server) → (k ≡ 0 → ⊥) → AreFromCalls W.sent k s → AreKeyed s.objects → HaveOvers paths s → (top : Uid) (q : Doing) (m : Machine) → doing_of top u.coord ≡ Some q → q.now ≡ Committing m → (st : ObjectState) → list.In st (changed_states top s) → IsVotedIn W.sent u.coord (plan_of m) st.uid.num k
   votes_at j n u is live k s some_node = vote_fits acts_begun paths tree W.sent knows.senders good.fits u.coord (coord_at j n u is live) (let w = knows.nodes j n is in w.coord u live) good.senders (says_at j n u is live) k s some_node
 
   -- a call of its own finds its branch
@@ -165,9 +165,9 @@ module _ (acts_begun : List Action) (paths : Paths) (tree : IsTree paths) (agree
   calls_here = here_at acts_begun paths tree agree (up k d t M) good knows k its_node t stands_here refl
 
   module _ (from : ℕ) (m : Message) (sent_here : In (record { from = from; to = k; message = m }) M.sent) (reached : CallsReach (up k d t M)) (homes : HasHomes k t (up k d t M)) where
-    votable : (c : Coord) → IsCoordAt M.nodes k t.coord from c → (s : Server) → AreFromCalls M.sent k s → AreKeyed s.objects → HaveOvers paths s → (top : Uid) (q : Doing) (x : Machine) → doing_of top c ≡ Some q → q.now ≡ Committing x → (st : ObjectState) → list.In st (changed_states top s) → IsUsed (plan_of x).used st.uid.num k
-    votable c (inl own) s sources keyed overs top q x found now st i = votes_at acts_begun paths tree agree (up k d t M) good knows k its_node t stands_here refl k s some_node sources keyed overs top q x (ap (doing_of top) (sym own.1) ∙ found) now st i
-    votable c (inr o) s sources keyed overs top q x found now st i = votes_at acts_begun paths tree agree (up k d t M) good knows from o.0 o.1 (elsewhere from o.2 ∙ o.3) o.4 k s some_node sources keyed overs top q x (ap (doing_of top) (sym o.5) ∙ found) now st i
+    votable : (c : Coord) → IsCoordAt M.nodes k t.coord from c → (s : Server) → AreFromCalls M.sent k s → AreKeyed s.objects → HaveOvers paths s → (top : Uid) (q : Doing) (x : Machine) → doing_of top c ≡ Some q → q.now ≡ Committing x → (st : ObjectState) → list.In st (changed_states top s) → IsVotedIn M.sent c (plan_of x) st.uid.num k
+    votable c (inl own) s sources keyed overs top q x found now st i = subst (λ z. IsVotedIn M.sent z (plan_of x) st.uid.num k) (sym own.1) (votes_at acts_begun paths tree agree (up k d t M) good knows k its_node t stands_here refl k s some_node sources keyed overs top q x (ap (doing_of top) (sym own.1) ∙ found) now st i)
+    votable c (inr o) s sources keyed overs top q x found now st i = subst (λ z. IsVotedIn M.sent z (plan_of x) st.uid.num k) (sym o.5) (votes_at acts_begun paths tree agree (up k d t M) good knows from o.0 o.1 (elsewhere from o.2 ∙ o.3) o.4 k s some_node sources keyed overs top q x (ap (doing_of top) (sym o.5) ∙ found) now st i)
 
     sent_at : In (record { from = from; to = t.coord.tree.node; message = m }) M.sent
     sent_at = let u = it_is in subst (λ n. In (record { from = from; to = n; message = m }) M.sent) (sym u.node) sent_here
@@ -451,7 +451,7 @@ votes_in M (acts_begun, good, known) k n t at live from m a states there is q x 
     let j = w.nodes k n at in
     let c = j.coord t live in
     let z = c.plans a.act q x found now in
-    z.votes from m a states (subst (λ n. In (record { from = from; to = n; message = m }) M.sent) (sym u.node) there) is refl s i
+    (z.votes from m a states (subst (λ n. In (record { from = from; to = n; message = m }) M.sent) (sym u.node) there) is refl s i).0
 
 pub votes_used : (k : ℕ) (d : Disk) (t : Parts) (M : Seen) → KnowsRun (up k d t M) → VotesAreUsed k t M
 votes_used k d t M knows = votes_in (up k d t M) knows k (record { number = k; disk = d; live = Some t }) t (λ i. cond (same_number k i) (Some (record { number = k; disk = d; live = Some t })) (M.nodes k)) refl

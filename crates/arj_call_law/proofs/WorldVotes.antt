@@ -1,5 +1,5 @@
 -- What a server votes for a top is used by the top's plan at that server.
-use Rattle.std.proofs.Common.{◌≡◌, ◌⊎◌, ◌<◌, ◌==◌, ◌&&◌, ◌||◌, ℕ, List, [], ◌∷◌, ◌++◌, Bool, true, false, cond, Option, Some, None, refl, sym, ◌∙◌, ap, subst, inl, inr, ⊎_elim, arith}
+use Rattle.std.proofs.Common.{◌≡◌, ◌⊎◌, ◌<◌, ◌==◌, ◌&&◌, ◌||◌, ℕ, List, [], ◌∷◌, ◌++◌, Bool, true, false, cond, Option, Some, None, refl, sym, ◌∙◌, ap, subst, inl, inr, ⊎_elim, arith, length}
 use Rattle.std.specs.Prelude.{Contains, is_some, option_map}
 use Rattle.std.specs.List.{AllByRecursion}
 use Rattle.std.specs.Ordering.{is_eq, match_ordering, nat_cmp}
@@ -20,7 +20,7 @@ use Rattle.arj_protocol.specs.Copy.{Copy, Over, changed_state, end_copy, is_of, 
 use Rattle.arj_protocol.specs.Effect.{Did, did_nothing}
 use Rattle.arj_protocol.specs.Order.{at_number, each, next_version, put_number}
 use Rattle.arj_protocol.specs.Server.{Server, apply_ends, changed_states, end_new, end_one, is_told, taken_end}
-use Rattle.arj_protocol.specs.Tree.{Branch, branch_of, is_own}
+use Rattle.arj_protocol.specs.Tree.{Branch, behind, branch_of, is_own}
 use Rattle.arj_part_law.specs.Actions.{Action}
 use Rattle.arj_part_law.specs.Coords.{IsBusy, IsGoodCoord, IsVoting}
 use Rattle.arj_part_law.specs.Copies.{IsTree, Paths}
@@ -31,10 +31,11 @@ use Rattle.arj_part_law.proofs.GoodCoords.{doing_by}
 use Rattle.arj_part_law.proofs.GoodTrees.{found_by, over_below}
 use Rattle.arj_view_law.specs.Seen.{In, Post}
 use Rattle.arj_call_law.specs.Calls.{Call, IsAsked, IsSaidToCommit, call_in}
-use Rattle.arj_call_law.specs.Coords.{HasNoServer, IsCovered, IsOwn, IsPlanned, IsSpent, IsThere, IsUsed, KnowsCalls, WasRefused, WasSpent}
+use Rattle.arj_call_law.specs.Coords.{HasNoServer, IsAnswered, IsCalledBy, IsCovered, IsOwn, IsPlanned, IsSpent, IsThere, IsUsed, IsVotedIn, KnowsCalls, WasRefused, WasSpent}
 use Rattle.arj_call_law.specs.Servers.{AreFromCalls, IsSource}
 use Rattle.arj_call_law.specs.Worlds.{AreKeyed}
 use Rattle.arj_call_law.proofs.CoordSends.{asked_call}
+use Rattle.arj_call_law.proofs.CoordTrees.{IsBelow, is_below, nothing_behind}
 use Rattle.arj_call_law.proofs.ServerCalls.{never, some_is}
 
 -- ---- each object once
@@ -180,7 +181,16 @@ on_either (x ∷ xs) vs w on = one (uid_eq x w) on (on_either xs vs w)
     one true h ih = inl refl
     one false h ih = ih h
 
-on_first : (us vs : List Uid) (w : Uid) → is_on us w ≡ true → is_on (us ++ vs) w ≡ true
+-- what stands behind an action with which the first part ends
+pub behind_after : (u : Uid) (us vs : List Uid) → behind u us ≡ [] → is_on us u ≡ true → behind u (us ++ vs) ≡ vs
+behind_after u [] vs none on = absurd (cc on)
+behind_after u (w ∷ us) vs none on = by (uid_eq w u) none on (behind_after u us vs)
+  where
+    by : (b : Bool) → cond b us (behind u us) ≡ [] → (b || is_on us u) ≡ true → (behind u us ≡ [] → is_on us u ≡ true → behind u (us ++ vs) ≡ vs) → cond b (us ++ vs) (behind u (us ++ vs)) ≡ vs
+    by true none on ih = ap (λ ws. ws ++ vs) none
+    by false none on ih = ih none on
+
+pub on_first : (us vs : List Uid) (w : Uid) → is_on us w ≡ true → is_on (us ++ vs) w ≡ true
 on_first [] vs w on = let no_way : false ≡ true = on in cc
 on_first (x ∷ xs) vs w on = one (uid_eq x w) on (on_first xs vs w)
   where
@@ -205,7 +215,7 @@ fits_asked acts m h a is f = subst (FitsAsked acts m) is f
 module _ (acts : List Action) (paths : Paths) (tree : IsTree paths) (sent : List Post) (senders : (p : Post) (h : Head) (a : Ask) → In p sent → asks p.message ≡ Some (h, a) → (let u = actor h.path in u.node) ≡ p.from) (fit : (p : Post) → In p sent → FitsMessage acts p.message)
     (c : Coord) (good : IsGoodCoord acts paths c) (knows : KnowsCalls paths sent c) (seals : (p : Post) (u : Uid) → In p sent → Seals p.message u → u.node ≡ p.from) (says : (p : Post) → In p sent → p.from ≡ c.tree.node → IsSaidSo c.tree p.message) where
   -- who was said to commit did
-  said_commit : (u : Uid) → is_own u c.tree ≡ true → IsSaidToCommit sent u → IsDecided u ending.Commit c.tree
+  pub said_commit : (u : Uid) → is_own u c.tree ≡ true → IsSaidToCommit sent u → IsDecided u ending.Commit c.tree
   said_commit u own s = ⊎_elim
       (λ (b : Contains (brought s.post.message) (u, ending.Commit)). (says s.post s.posted (sym (seals s.post u s.posted (brought_seals s.post.message u b)) ∙ node)).brings u ending.Commit b own)
       (λ (t : Contains (told_by s.post.message) (u, ending.Commit)). (says s.post s.posted (sym (seals s.post u s.posted (told_seals s.post.message u t)) ∙ node)).commits u t own) s.said
@@ -213,7 +223,7 @@ module _ (acts : List Action) (paths : Paths) (tree : IsTree paths) (sent : List
       node : u.node ≡ c.tree.node
       node = eqb-true u.node c.tree.node (and_parts (u.node == c.tree.node) (u.inc == c.tree.inc) own).0
 
-  pub vote_fits : (k : ℕ) (s : Server) → (k ≡ 0 → ⊥) → AreFromCalls sent k s → AreKeyed s.objects → ((x : ℕ) (e : Copy) (o : Over) → at_number x s.objects ≡ Some e → list.In o e.stack → o.holder ≡ paths (last_uid o.holder)) → (top : Uid) (d : Doing) (m : Machine) → doing_of top c ≡ Some d → d.now ≡ Committing m → (st : ObjectState) → list.In st (changed_states top s) → IsUsed (plan_of m).used st.uid.num k
+  pub vote_fits : (k : ℕ) (s : Server) → (k ≡ 0 → ⊥) → AreFromCalls sent k s → AreKeyed s.objects → ((x : ℕ) (e : Copy) (o : Over) → at_number x s.objects ≡ Some e → list.In o e.stack → o.holder ≡ paths (last_uid o.holder)) → (top : Uid) (d : Doing) (m : Machine) → doing_of top c ≡ Some d → d.now ≡ Committing m → (st : ObjectState) → list.In st (changed_states top s) → IsVotedIn sent c (plan_of m) st.uid.num k
   vote_fits k s some_node from keyed overs top d m found now st i = by (covered.calls k call own on_top)
     where
       v : (x : ℕ) × (e : Copy) × (o : Over) × (at_number x s.objects ≡ Some e) × list.In o e.stack × (last_uid o.holder ≡ top) × (st.uid.num ≡ x)
@@ -278,8 +288,24 @@ module _ (acts : List Action) (paths : Paths) (tree : IsTree paths) (sent : List
               let b = voting.asking in
               never (over_below paths tree c.tree good.tree.lists good.tree.closed w a.0 a.1 (ap is_some a.2) top b.branch b.found (ap (λ us. is_on us w) (sym holder) ∙ on)) b.opened
 
-      by : IsPlanned sent c.tree (plan_of m).used k call → IsUsed (plan_of m).used st.uid.num k
+      -- the call is by the top's path, with what was said to commit behind it
+      path : uids_of (let h = call.head in h.path) ≡ uids_of (plan_of m).path ++ source.rest
+      path = source.path ∙ ap (λ vs. vs ++ source.rest) (holder ∙ sym (good.tree.lists.paths_are top voting.asking.branch voting.asking.found) ∙ ap uids_of voting.asking.path)
+
+      -- all of them are of this coordinator
+      own_rest : (w : Uid) → is_on source.rest w ≡ true → is_own w c.tree ≡ true
+      own_rest w on =
+          let its : uids_of (let h = call.head in h.path) ≡ paths (actor (let a = asker.0 in a.path)) = ap uids_of (sym (home.2 ∙ asker.2)) ∙ good.tree.lists.paths_are (actor (let a = asker.0 in a.path)) home.0 home.1 in
+          let below : IsBelow paths tree c.tree good.tree.lists good.tree.closed top voting.asking.branch voting.asking.found (paths (actor (let a = asker.0 in a.path))) = is_below paths tree c.tree good.tree.lists good.tree.closed top voting.asking.branch voting.asking.found (length (paths (actor (let a = asker.0 in a.path)))) (actor (let a = asker.0 in a.path)) home.0 (omega arith) home.1 (ap (λ vs. is_on vs top) (sym its) ∙ on_top) in
+          let behind_it : behind top (paths (actor (let a = asker.0 in a.path))) ≡ source.rest = ap (behind top) (sym its ∙ source.path ∙ ap (λ vs. vs ++ source.rest) holder) ∙ behind_after top (paths top) source.rest (nothing_behind paths tree c.tree good.tree.lists good.tree.closed top voting.asking.branch voting.asking.found) on_itself in
+          let b = below.over voting.childless w (ap (λ vs. is_on vs w) behind_it ∙ on) in
+          (found_by w c.tree b.0 b.1).0
+
+      called : IsAnswered c (uids_of (let h = call.head in h.path)) call.x → IsCalledBy sent c (uids_of (plan_of m).path) st.uid.num
+      called a = record { rest = source.rest; answered = subst (λ vs. IsAnswered c vs st.uid.num) path (subst (λ x. IsAnswered c (uids_of (let h = call.head in h.path)) x) (source.object ∙ sym v.6) a); own = own_rest; merged = source.committed }
+
+      by : IsPlanned sent c.tree c (plan_of m).used k call → IsVotedIn sent c (plan_of m) st.uid.num k
       by (WasRefused r) = absurd (source.unrefused r)
       by (HasNoServer z) = absurd (some_node z)
       by (WasSpent s) = absurd (unspent s)
-      by (IsThere u) = subst (λ x. IsUsed (plan_of m).used x k) (source.object ∙ sym v.6) u
+      by (IsThere u a) = (subst (λ x. IsUsed (plan_of m).used x k) (source.object ∙ sym v.6) u, called a)

@@ -25,7 +25,7 @@ use Rattle.arj_run_law.proofs.Walked.{other_number, same_number}
 use Rattle.arj_view_law.specs.Seen.{In, Post, Seen, at, posted, said, up}
 use Rattle.arj_view_law.specs.Walks.{Up, Walks}
 use Rattle.arj_call_law.specs.Calls.{Call, IsAsked, IsRefused, IsSaidToCommit, call_in, call_of, refusal_of}
-use Rattle.arj_call_law.specs.Coords.{IsOfStep, IsUsed, IsWaiting, KnowsCalls, head_of}
+use Rattle.arj_call_law.specs.Coords.{IsOfStep, IsVotedIn, IsWaiting, KnowsCalls, head_of}
 use Rattle.arj_call_law.specs.Servers.{AreOneCall, IsPast, IsRefusal, IsSource, IsSoUp, Since}
 use Rattle.arj_call_law.specs.Worlds.{KnowsNode, KnowsWorld, vote_by, vote_of}
 use Rattle.arj_call_law.proofs.CoordSends.{SendsSo, asked_call, call_bare, call_head, more_known}
@@ -72,8 +72,8 @@ refused_cases p sent n a r = by r.posted
     by (inl same) = inr (ap (λ (z : Post). z.from) same, ap (λ (z : Post). refusal_of z.message) same ∙ r.refusal)
 
 -- what a Yes votes fits the plan that waits at a coordinator
-abbrev pub VoteFits : ℕ → Message → Coord → Type 0
-VoteFits from m c = (a : Asked) (states : List ObjectState) → vote_of m ≡ Some (a, states) → (d : Doing) (q : Machine) → doing_of a.act c ≡ Some d → d.now ≡ Committing q → (s : ObjectState) → list.In s states → IsUsed (plan_of q).used s.uid.num from
+abbrev pub VoteFits : List Post → ℕ → Message → Coord → Type 0
+VoteFits sent from m c = (a : Asked) (states : List ObjectState) → vote_of m ≡ Some (a, states) → (d : Doing) (q : Machine) → doing_of a.act c ≡ Some d → d.now ≡ Committing q → (s : ObjectState) → list.In s states → IsVotedIn sent c (plan_of q) s.uid.num from
 
 voted_is : (m : Message) (a : Asked) (states : List ObjectState) → answers m ≡ Some (a, Reply.Voted (voted.Yes states)) → vote_of m ≡ Some (a, states)
 voted_is m a states is = ap vote_by is
@@ -88,7 +88,7 @@ waiting_path acts paths e good to k w b found =
 -- ---- another node
 
 module _ (acts : List Action) (paths : Paths) where
-  other_more : (p : Post) (sent : List Post) (j : ℕ) (n : Node) → (p.from ≡ j → ⊥) → ((t : Parts) → n.live ≡ Some t → IsGoodCoord acts paths t.coord × (t.coord.tree.node ≡ j)) → (p.to ≡ j → (t : Parts) → n.live ≡ Some t → VoteFits p.from p.message t.coord) → KnowsNode paths sent j n → KnowsNode paths (p ∷ sent) j n
+  other_more : (p : Post) (sent : List Post) (j : ℕ) (n : Node) → (p.from ≡ j → ⊥) → ((t : Parts) → n.live ≡ Some t → IsGoodCoord acts paths t.coord × (t.coord.tree.node ≡ j)) → (p.to ≡ j → (t : Parts) → n.live ≡ Some t → VoteFits sent p.from p.message t.coord) → KnowsNode paths sent j n → KnowsNode paths (p ∷ sent) j n
   other_more p sent j n other good fits k = record {
     coord = λ t up. let g = good t up in more_known acts paths sent t.coord g.0 (k.coord t up) p (λ h a from is own. absurd (other (from ∙ g.1))) (λ to a states is d m found now s i. fits (to ∙ g.1) t up a states (voted_is p.message a states is) d m found now s i) (waiting_path acts paths t.coord g.0);
     server = λ t up x c e at i. source_more p sent j t.server x c e.holder (k.server t up x c e at i) (λ from is. absurd (other from));
@@ -105,7 +105,7 @@ module _ (acts : List Action) (paths : Paths) where
     pub refusal : (a : Asked) → refusal_of m ≡ Some a → IsRefusal sent k n a
     pub clear : (a : Asked) → refusal_of m ≡ Some a → (x : ℕ) (c : Copy) (e : Over) → at_number x v.server.objects ≡ Some c → list.In e c.stack → (o : IsSource sent k v.server x c.binding e.holder) → asked_by (let z = o.call in z.head) ≡ a → ⊥
     pub vote : (a : Asked) (states : List ObjectState) → vote_of m ≡ Some (a, states) → (p : Post) × In p sent × (p.from ≡ to) × Seals p.message a.act
-    pub fits : to ≡ k → VoteFits k m v.coord
+    pub fits : to ≡ k → VoteFits sent k m v.coord
 
   own_more : (to : ℕ) (m : Message) (sent : List Post) (k : ℕ) (n : Node) (v : Parts) → n.live ≡ Some v → IsGoodCoord acts paths v.coord → v.coord.tree.node ≡ k → v.coord.tree.inc ≡ n.disk.inc → IsFine sent k n v to m → KnowsNode paths sent k n → KnowsNode paths (record { from = k; to = to; message = m } ∷ sent) k n
   own_more to m sent k n v up good node inc fine knows = record {
@@ -266,11 +266,11 @@ module _ (acts : List Action) (paths : Paths) (k : ℕ) where
   AllFine n v nodes [] sent d = d.inc ≡ n.disk.inc
   AllFine n v nodes (Say b ∷ es) sent d = AllFine n v nodes es sent d
   AllFine n v nodes (Do w ∷ es) sent d = ((how : Stop) → d.inc ≤ (stopped how w d).inc) × AllFine n v nodes es sent (worked w d)
-  AllFine n v nodes (Send to m ∷ es) sent d = (IsFine acts paths sent k n v to m × ((refusal_of m ≡ None) ⊎ (d.inc ≡ n.disk.inc)) × ((h : Head) (a : Ask) → asks m ≡ Some (h, a) → (actor h.path).inc ≤ d.inc) × ((j : Node) → (to ≡ k → ⊥) → nodes to ≡ Some j → (t : Parts) → j.live ≡ Some t → VoteFits k m t.coord)) × AllFine n v nodes es (record { from = k; to = to; message = m } ∷ sent) d
+  AllFine n v nodes (Send to m ∷ es) sent d = (IsFine acts paths sent k n v to m × ((refusal_of m ≡ None) ⊎ (d.inc ≡ n.disk.inc)) × ((h : Head) (a : Ask) → asks m ≡ Some (h, a) → (actor h.path).inc ≤ d.inc) × ((j : Node) → (to ≡ k → ⊥) → nodes to ≡ Some j → (t : Parts) → j.live ≡ Some t → VoteFits sent k m t.coord)) × AllFine n v nodes es (record { from = k; to = to; message = m } ∷ sent) d
 
   module _ (e : ℕ) (n : Node) (v : Parts) (up : n.live ≡ Some v) (good : IsGoodCoord acts paths v.coord) (node : v.coord.tree.node ≡ k) (inc : v.coord.tree.inc ≡ n.disk.inc) where
     -- one message more, all around
-    around_more : (to : ℕ) (m : Message) (M : Seen) → GoodAround acts paths k M → IsFine acts paths M.sent k n v to m → ((j : Node) → (to ≡ k → ⊥) → M.nodes to ≡ Some j → (t : Parts) → j.live ≡ Some t → VoteFits k m t.coord) → KnowsNode paths (record { from = k; to = to; message = m } ∷ M.sent) k n → Around paths k M → Around paths k (posted (record { from = k; to = to; message = m }) M)
+    around_more : (to : ℕ) (m : Message) (M : Seen) → GoodAround acts paths k M → IsFine acts paths M.sent k n v to m → ((j : Node) → (to ≡ k → ⊥) → M.nodes to ≡ Some j → (t : Parts) → j.live ≡ Some t → VoteFits M.sent k m t.coord) → KnowsNode paths (record { from = k; to = to; message = m } ∷ M.sent) k n → Around paths k M → Around paths k (posted (record { from = k; to = to; message = m }) M)
     around_more to m M goods fine fits own o = record {
       apart = o.apart;
       none = o.none;

@@ -1,12 +1,12 @@
 -- What a coordinator knows of the calls that it asked servers to run.
-use Rattle.std.specs.Prelude.{⊤, ◌≡◌, ◌≢◌, ◌⊎◌, ◌≤◌, ◌==◌, ℕ, true, false, List, [], Option, Some, find}
-use Rattle.arj_protocol.specs.Words.{Uid, Head, Ask, Asked, Message, ObjectState, asks, is_on, last_uid, uids_of, writes}
+use Rattle.std.specs.Prelude.{⊤, ◌≡◌, ◌≢◌, ◌⊎◌, ◌≤◌, ◌==◌, ◌++◌, ℕ, true, false, List, [], Option, Some, find}
+use Rattle.arj_protocol.specs.Words.{Uid, Head, Ask, Asked, Message, ObjectState, asks, first_uid, is_on, last_uid, uids_of, writes}
 use Rattle.arj_protocol.specs.Words.ask
 use Rattle.arj_protocol.specs.Words.ending
 use Rattle.arj_protocol.specs.Words.voted
 use Rattle.arj_protocol.specs.Ask.{Reply, actor, answers, asked_by}
 use Rattle.arj_protocol.specs.Call.{At, AtBind, AtLoad, AtActivate, AtNote, AtInvoke, Known, Steps, next_ask, next_node}
-use Rattle.arj_protocol.specs.Commit.{Machine, Used, plan_of}
+use Rattle.arj_protocol.specs.Commit.{Machine, Plan, Used, plan_of}
 use Rattle.arj_protocol.specs.Coord.{Calling, Committing, Coord, Doing, Said, doing_of, is_call, kept_of, root_at}
 use Rattle.arj_protocol.specs.Order.{binding_number}
 use Rattle.arj_protocol.specs.Tree.{Branch, Tree, branch_of, is_own, root_of}
@@ -14,7 +14,7 @@ use Rattle.arj_lock.proofs.Members as list
 use Rattle.arj_part_law.specs.Copies.{Paths}
 use Rattle.arj_part_law.specs.Messages.{IsDecided}
 use Rattle.arj_view_law.specs.Seen.{In, Post}
-use Rattle.arj_call_law.specs.Calls.{Call, IsAsked, IsRefused, call_in}
+use Rattle.arj_call_law.specs.Calls.{Call, IsAsked, IsRefused, IsSaidToCommit, call_in}
 
 -- a request without the ends that a call brings
 abbrev pub bare : Ask → Ask
@@ -104,22 +104,41 @@ pub record IsOwn (sent : List Post) (c : Coord) (to : ℕ) (k : Call) : Type 0 w
 abbrev pub IsUsed : List Used → ℕ → ℕ → Type 0
 IsUsed used x to = (u : Used) × (find (λ (u : Used). u.x == x) used ≡ Some u) × (u.server ≡ to)
 
+-- the root of a path was answered a call by it on the object
+pub record IsAnswered (c : Coord) (us : List Uid) (x : ℕ) : Type 0 where
+  pub said : Said
+  pub there : list.In said (let r = root_at (first_uid us) c in r.said)
+  pub path : said.path ≡ us
+  pub object : said.x ≡ x
+
+-- The top with this path, or an action below it, was answered a call on the object, and whoever stands behind the top was said to commit.
+pub record IsCalledBy (sent : List Post) (c : Coord) (us : List Uid) (x : ℕ) : Type 0 where
+  pub rest : List Uid
+  pub answered : IsAnswered c (us ++ rest) x
+  pub own : (w : Uid) → is_on rest w ≡ true → is_own w c.tree ≡ true
+  pub merged : (w : Uid) → is_on rest w ≡ true → IsSaidToCommit sent w
+
+-- an object that a server votes is used there, and was called in the top
+abbrev pub IsVotedIn : List Post → Coord → Plan → ℕ → ℕ → Type 0
+IsVotedIn sent c p x from = IsUsed p.used x from × IsCalledBy sent c (uids_of p.path) x
+
 -- what a plan that uses these has to know of a call below its top
-pub data IsPlanned (sent : List Post) (t : Tree) (used : List Used) (to : ℕ) (k : Call) : Type 0 where
-  WasRefused : IsRefused sent to (asked_by k.head) → IsPlanned sent t used to k
-  HasNoServer : to ≡ 0 → IsPlanned sent t used to k
-  WasSpent : IsSpent t (uids_of (let h = k.head in h.path)) → IsPlanned sent t used to k
-  IsThere : IsUsed used k.x to → IsPlanned sent t used to k
+pub data IsPlanned (sent : List Post) (t : Tree) (c : Coord) (used : List Used) (to : ℕ) (k : Call) : Type 0 where
+  WasRefused : IsRefused sent to (asked_by k.head) → IsPlanned sent t c used to k
+  HasNoServer : to ≡ 0 → IsPlanned sent t c used to k
+  WasSpent : IsSpent t (uids_of (let h = k.head in h.path)) → IsPlanned sent t c used to k
+  IsThere : IsUsed used k.x to → IsAnswered c (uids_of (let h = k.head in h.path)) k.x → IsPlanned sent t c used to k
 
--- each state that a server voted for this top is of an object that is used there
-abbrev pub AreVoted : List Post → ℕ → Uid → List Used → Type 0
-AreVoted sent node u used = (from : ℕ) (m : Message) (a : Asked) (states : List ObjectState) → In (record { from = from; to = node; message = m }) sent → answers m ≡ Some (a, Reply.Voted (voted.Yes states)) → a.act ≡ u → (s : ObjectState) → list.In s states → IsUsed used (let w = s.uid in w.num) from
+-- each state that a server voted for this top is of an object that is used there, and was called in the top
+abbrev pub AreVoted : List Post → Coord → Uid → Plan → Type 0
+AreVoted sent c u p = (from : ℕ) (m : Message) (a : Asked) (states : List ObjectState) → In (record { from = from; to = (let t = c.tree in t.node); message = m }) sent → answers m ≡ Some (a, Reply.Voted (voted.Yes states)) → a.act ≡ u → (s : ObjectState) → list.In s states → IsVotedIn sent c p (let w = s.uid in w.num) from
 
--- a commit under way: its top isn't doomed, its plan knows of each call below it, and what was voted is used
+-- a commit under way: its top isn't doomed, its plan knows of each call below it, what was voted is used, and what has changed was called
 pub record IsCovered (sent : List Post) (t : Tree) (c : Coord) (u : Uid) (m : Machine) : Type 0 where
   pub free : IsFree t u
-  pub calls : (to : ℕ) (k : Call) → IsOwn sent c to k → is_on (uids_of (let h = k.head in h.path)) u ≡ true → IsPlanned sent t (let p = plan_of m in p.used) to k
-  pub votes : AreVoted sent (let t = c.tree in t.node) u (let p = plan_of m in p.used)
+  pub calls : (to : ℕ) (k : Call) → IsOwn sent c to k → is_on (uids_of (let h = k.head in h.path)) u ≡ true → IsPlanned sent t c (let p = plan_of m in p.used) to k
+  pub votes : AreVoted sent c u (plan_of m)
+  pub changed : (s : ObjectState) → list.In s (let p = plan_of m in p.changed) → IsCalledBy sent c (let p = plan_of m in uids_of p.path) (let w = s.uid in w.num)
 
 -- what roots were answered is by the paths of actions
 abbrev pub AreOfPaths : Paths → Coord → Type 0

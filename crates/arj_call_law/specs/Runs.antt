@@ -1,17 +1,18 @@
 -- What is known of calls and votes in each run, and what a run's relation has to give for it.
 use Rattle.std.specs.Prelude.{◌≡◌, ℕ, true, List, Some}
-use Rattle.arj_protocol.specs.Words.{Asked, Binding, Message, ObjectState}
+use Rattle.arj_protocol.specs.Words.{Asked, Binding, Message, ObjectState, Uid}
 use Rattle.arj_protocol.specs.Words.voted
 use Rattle.arj_lock.proofs.Members as list
 use Rattle.arj_protocol.specs.Ask.{Reply, answers}
 use Rattle.arj_protocol.specs.Asking.{kept_at, waits_for_call}
 use Rattle.arj_protocol.specs.Call.{Known, Steps}
 use Rattle.arj_protocol.specs.Commit.{Machine, plan_of}
-use Rattle.arj_protocol.specs.Coord.{Calling, Committing, Doing, doing_of}
+use Rattle.arj_protocol.specs.Coord.{Calling, Committing, Doing, doing_of, root_at, top_uses}
 use Rattle.arj_protocol.specs.Effect.{Disk}
 use Rattle.arj_protocol.specs.Node.{Parts}
 use Rattle.arj_protocol.specs.Order.{binding_number}
 use Rattle.arj_protocol.specs.Step.{Node}
+use Rattle.arj_protocol.specs.Tree.{root_of}
 use Rattle.arj_part_law.specs.Actions.{Action, Agree}
 use Rattle.arj_part_law.specs.Copies.{IsTree, Paths}
 use Rattle.arj_run_law.specs.Worlds.{IsGoodOf}
@@ -54,6 +55,13 @@ KnowsFew M = HasFewBindings M.lines × (LivesRun M × KnowsRun M)
 abbrev pub VotesAreUsed : ℕ → Parts → Seen → Type 0
 VotesAreUsed k t M = (from : ℕ) (m : Message) (a : Asked) (states : List ObjectState) → In (record { from = from; to = k; message = m }) M.sent → answers m ≡ Some (a, Reply.Voted (voted.Yes states))
     → (d : Doing) (q : Machine) → doing_of a.act t.coord ≡ Some d → d.now ≡ Committing q → (s : ObjectState) → list.In s states → IsUsed (plan_of q).used (let u = s.uid in u.num) from
+
+-- What a commit under way has as changed are states of objects on which a call survives in its top.
+abbrev pub ChangesAreCalled : Parts → Type 0
+ChangesAreCalled t = (u : Uid) (d : Doing) (q : Machine) → doing_of u t.coord ≡ Some d → d.now ≡ Committing q → (s : ObjectState) → list.In s (let p = plan_of q in p.changed) → top_uses u (let w = s.uid in w.num) (root_at (let p = plan_of q in root_of p.path) t.coord) t.coord ≡ true
+
+abbrev pub AllChangesAreCalled : Seen → Type 0
+AllChangesAreCalled M = (k : ℕ) (n : Node) (t : Parts) → M.nodes k ≡ Some n → n.live ≡ Some t → ChangesAreCalled t
 
 -- so it is at each node that is up
 abbrev pub AllVotesAreUsed : Seen → Type 0

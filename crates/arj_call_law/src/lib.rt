@@ -7,10 +7,10 @@
 //! naming gives each number once, and a call names a copy that its server has, under its binding or a later one, or an earlier
 //! incarnation of the server, since that server answered an Activate of it (`specs/Lived.antt`): both go round with the
 //! coordinators' knowledge, by which an answer belongs to one request. Counts of bindings have 32 bits, so all this is of runs in
-//! which naming makes fewer bindings (`specs/Bindings.antt`): it is said of the journal. It gives upward `votes_are_used` and
-//! `calls_name_what_servers_reached`.
+//! which naming makes fewer bindings (`specs/Bindings.antt`): it is said of the journal. It gives upward `votes_are_used`,
+//! `changes_are_called` and `calls_name_what_servers_reached`.
 #![tactic(auto)]
 
 mod votes;
 
-pub use votes::{calls_name_what_servers_reached, votes_are_used};
+pub use votes::{calls_name_what_servers_reached, changes_are_called, votes_are_used};
