@@ -7,7 +7,7 @@ ghost use Rattle.arj_msg.specs.declared.message.Message.{Message};
 ghost use Rattle.arj_msg.specs.declared.fault.MsgFault.TheVariants as fault;
 
 use crate::fault::ReadFault;
-use crate::field::Field;
+use crate::field::{Field, read_byte};
 use crate::{
     Acked, Activate, Activated, Bind, Bound, Confirm, Confirmed, Hello, Invoke, Invoked, Load,
     Loaded, Message, MsgFault, Prepare, Prepared, Query, RecordMsg, Recorded, Told, Vote, Voted,
@@ -68,29 +68,30 @@ impl Field for Message {
 
     ghost sends = { IsSendable };
 
-    #[tactic(auto, unfolding(crate::specs::Layout::message))]
+    #[tactic(auto, unfolding(crate::specs::Layout::message, crate::specs::Format::byte))]
     fn read(alloc: Global, bytes: &[u8]) -> Result<(Message, &[u8]), ReadFault> {
-        match bytes {
-            [1, rest @ ..] => read_as!(Bind, alloc, rest),
-            [2, rest @ ..] => read_as!(Bound, alloc, rest),
-            [3, rest @ ..] => read_as!(Load, alloc, rest),
-            [4, rest @ ..] => read_as!(Loaded, alloc, rest),
-            [5, rest @ ..] => read_as!(Activate, alloc, rest),
-            [6, rest @ ..] => read_as!(Activated, alloc, rest),
-            [7, rest @ ..] => read_as!(RecordMsg, alloc, rest),
-            [8, rest @ ..] => read_as!(Recorded, alloc, rest),
-            [9, rest @ ..] => read_as!(Invoke, alloc, rest),
-            [10, rest @ ..] => read_as!(Invoked, alloc, rest),
-            [11, rest @ ..] => read_as!(Vote, alloc, rest),
-            [12, rest @ ..] => read_as!(Voted, alloc, rest),
-            [13, rest @ ..] => read_as!(Prepare, alloc, rest),
-            [14, rest @ ..] => read_as!(Prepared, alloc, rest),
-            [15, rest @ ..] => read_as!(Confirm, alloc, rest),
-            [16, rest @ ..] => read_as!(Confirmed, alloc, rest),
-            [17, rest @ ..] => read_as!(Told, alloc, rest),
-            [18, rest @ ..] => read_as!(Acked, alloc, rest),
-            [19, rest @ ..] => read_as!(Query, alloc, rest),
-            [20, rest @ ..] => read_as!(Hello, alloc, rest),
+        let (kind, rest) = read_byte(bytes, 1, 20)?;
+        match kind {
+            1 => read_as!(Bind, alloc, rest),
+            2 => read_as!(Bound, alloc, rest),
+            3 => read_as!(Load, alloc, rest),
+            4 => read_as!(Loaded, alloc, rest),
+            5 => read_as!(Activate, alloc, rest),
+            6 => read_as!(Activated, alloc, rest),
+            7 => read_as!(RecordMsg, alloc, rest),
+            8 => read_as!(Recorded, alloc, rest),
+            9 => read_as!(Invoke, alloc, rest),
+            10 => read_as!(Invoked, alloc, rest),
+            11 => read_as!(Vote, alloc, rest),
+            12 => read_as!(Voted, alloc, rest),
+            13 => read_as!(Prepare, alloc, rest),
+            14 => read_as!(Prepared, alloc, rest),
+            15 => read_as!(Confirm, alloc, rest),
+            16 => read_as!(Confirmed, alloc, rest),
+            17 => read_as!(Told, alloc, rest),
+            18 => read_as!(Acked, alloc, rest),
+            19 => read_as!(Query, alloc, rest),
+            20 => read_as!(Hello, alloc, rest),
             _ => Err(ReadFault::Left(bytes.len())),
         }
     }

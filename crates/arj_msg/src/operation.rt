@@ -6,7 +6,7 @@ ghost use Rattle.arj_msg.specs.Operation.{text, operation, answer};
 ghost use Rattle.arj_msg.specs.Sendable.{OpSends, AnswerSends};
 
 use crate::fault::ReadFault;
-use crate::field::Field;
+use crate::field::{Field, read_byte};
 use arj_base::Bytes;
 use arj_class::{Answer, Op};
 use std::alloc::{AllocError, Global};
@@ -57,43 +57,44 @@ impl Field for Op {
 
     #[tactic(auto, unfolding(crate::specs::Operation::operation, crate::specs::Format::nothing, crate::specs::Format::byte))]
     fn read(alloc: Global, bytes: &[u8]) -> Result<(Op, &[u8]), ReadFault> {
-        match bytes {
-            [1, rest @ ..] => Ok((Op::Get, rest)),
-            [2, rest @ ..] => {
+        let (code, rest) = read_byte(bytes, 1, 12)?;
+        match code {
+            1 => Ok((Op::Get, rest)),
+            2 => {
                 let (n, rest) = u64::read(alloc, rest)?;
                 Ok((Op::Add(n), rest))
             }
-            [3, rest @ ..] => {
+            3 => {
                 let (n, rest) = u64::read(alloc, rest)?;
                 Ok((Op::Set(n), rest))
             }
-            [4, rest @ ..] => {
+            4 => {
                 let (bytes, rest) = read_text(alloc, rest)?;
                 Ok((Op::Put(bytes), rest))
             }
-            [5, rest @ ..] => {
+            5 => {
                 let (n, rest) = u64::read(alloc, rest)?;
                 Ok((Op::Deposit(n), rest))
             }
-            [6, rest @ ..] => {
+            6 => {
                 let (n, rest) = u64::read(alloc, rest)?;
                 Ok((Op::Withdraw(n), rest))
             }
-            [7, rest @ ..] => Ok((Op::Len, rest)),
-            [8, rest @ ..] => {
+            7 => Ok((Op::Len, rest)),
+            8 => {
                 let (n, rest) = u64::read(alloc, rest)?;
                 Ok((Op::Push(n), rest))
             }
-            [9, rest @ ..] => Ok((Op::Pop, rest)),
-            [10, rest @ ..] => {
+            9 => Ok((Op::Pop, rest)),
+            10 => {
                 let (key, rest) = u64::read(alloc, rest)?;
                 Ok((Op::GetKey(key), rest))
             }
-            [11, rest @ ..] => {
+            11 => {
                 let ((key, value), rest) = <(u64, u64)>::read(alloc, rest)?;
                 Ok((Op::PutPair(key, value), rest))
             }
-            [12, rest @ ..] => {
+            12 => {
                 let (key, rest) = u64::read(alloc, rest)?;
                 Ok((Op::Remove(key), rest))
             }
@@ -133,20 +134,21 @@ impl Field for Answer {
 
     #[tactic(auto, unfolding(crate::specs::Operation::answer, crate::specs::Format::nothing, crate::specs::Format::byte))]
     fn read(alloc: Global, bytes: &[u8]) -> Result<(Answer, &[u8]), ReadFault> {
-        match bytes {
-            [0, rest @ ..] => Ok((Answer::Done, rest)),
-            [1, rest @ ..] => {
+        let (code, rest) = read_byte(bytes, 0, 6)?;
+        match code {
+            0 => Ok((Answer::Done, rest)),
+            1 => {
                 let (n, rest) = u64::read(alloc, rest)?;
                 Ok((Answer::Number(n), rest))
             }
-            [2, rest @ ..] => {
+            2 => {
                 let (bytes, rest) = read_text(alloc, rest)?;
                 Ok((Answer::Text(bytes), rest))
             }
-            [3, rest @ ..] => Ok((Answer::Over, rest)),
-            [4, rest @ ..] => Ok((Answer::Short, rest)),
-            [5, rest @ ..] => Ok((Answer::Full, rest)),
-            [6, rest @ ..] => Ok((Answer::Nothing, rest)),
+            3 => Ok((Answer::Over, rest)),
+            4 => Ok((Answer::Short, rest)),
+            5 => Ok((Answer::Full, rest)),
+            6 => Ok((Answer::Nothing, rest)),
             _ => Err(ReadFault::Left(bytes.len())),
         }
     }

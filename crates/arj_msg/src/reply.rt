@@ -4,7 +4,7 @@ ghost use Rattle.std.specs.Prelude.{⊤};
 ghost use Rattle.arj_msg.specs.Sendable.{BoundSends, LoadedSends, InvokedSends, VotedSends, PreparedSends, ConfirmedSends};
 
 use crate::fault::ReadFault;
-use crate::field::Field;
+use crate::field::{Field, read_byte};
 use crate::{
     BoundReply, ConfirmedReply, InvokedReply, LoadedReply, PreparedReply, RecordedReply,
     VotedReply, What,
@@ -18,15 +18,16 @@ impl Field for What {
 
     ghost sends = { λ _. ⊤ };
 
-    #[tactic(auto, unfolding(crate::specs::Replies::changed, crate::specs::Format::nothing))]
+    #[tactic(auto, unfolding(crate::specs::Replies::changed, crate::specs::Format::nothing, crate::specs::Format::byte))]
     fn read(alloc: Global, bytes: &[u8]) -> Result<(What, &[u8]), ReadFault> {
-        match bytes {
-            [0, rest @ ..] => {
+        let (code, rest) = read_byte(bytes, 0, 1)?;
+        match code {
+            0 => {
                 let (had, rest) = u32::read(alloc, rest)?;
                 let (now, rest) = u32::read(alloc, rest)?;
                 Ok((What::Inc { had, now }, rest))
             }
-            [1, rest @ ..] => {
+            1 => {
                 let (had, rest) = Binding::read(alloc, rest)?;
                 let (now, rest) = Binding::read(alloc, rest)?;
                 Ok((What::Bind { had, now }, rest))
@@ -57,10 +58,11 @@ impl Field for BoundReply {
 
     ghost sends = { BoundSends };
 
-    #[tactic(auto, unfolding(crate::specs::Replies::bound_reply, crate::specs::Format::nothing))]
+    #[tactic(auto, unfolding(crate::specs::Replies::bound_reply, crate::specs::Format::nothing, crate::specs::Format::byte))]
     fn read(alloc: Global, bytes: &[u8]) -> Result<(BoundReply, &[u8]), ReadFault> {
-        match bytes {
-            [0, rest @ ..] => {
+        let (code, rest) = read_byte(bytes, 0, 3)?;
+        match code {
+            0 => {
                 let (binding, rest) = Binding::read(alloc, rest)?;
                 let (server, rest) = u8::read(alloc, rest)?;
                 let (server_inc, rest) = u32::read(alloc, rest)?;
@@ -77,7 +79,7 @@ impl Field for BoundReply {
                     rest,
                 ))
             }
-            [1, rest @ ..] => {
+            1 => {
                 let (binding, rest) = Binding::read(alloc, rest)?;
                 let (server, rest) = u8::read(alloc, rest)?;
                 let (naming_inc, rest) = u32::read(alloc, rest)?;
@@ -92,12 +94,12 @@ impl Field for BoundReply {
                     rest,
                 ))
             }
-            [2, rest @ ..] => {
+            2 => {
                 let (naming_inc, rest) = u32::read(alloc, rest)?;
                 let (stores, rest) = NodeList::read(alloc, rest)?;
                 Ok((BoundReply::Write { naming_inc, stores }, rest))
             }
-            [3, rest @ ..] => {
+            3 => {
                 let (holder, rest) = Uid::read(alloc, rest)?;
                 let (mode, rest) = Mode::read(alloc, rest)?;
                 Ok((BoundReply::Conflict { holder, mode }, rest))
@@ -154,14 +156,15 @@ impl Field for LoadedReply {
 
     ghost sends = { LoadedSends };
 
-    #[tactic(auto, unfolding(crate::specs::Replies::loaded_reply, crate::specs::Format::nothing))]
+    #[tactic(auto, unfolding(crate::specs::Replies::loaded_reply, crate::specs::Format::nothing, crate::specs::Format::byte))]
     fn read(alloc: Global, bytes: &[u8]) -> Result<(LoadedReply, &[u8]), ReadFault> {
-        match bytes {
-            [0, rest @ ..] => {
+        let (code, rest) = read_byte(bytes, 0, 1)?;
+        match code {
+            0 => {
                 let (state, rest) = ObjectState::read(alloc, rest)?;
                 Ok((LoadedReply::State(state), rest))
             }
-            [1, rest @ ..] => {
+            1 => {
                 let (holder, rest) = Uid::read(alloc, rest)?;
                 Ok((LoadedReply::InDoubt { holder }, rest))
             }
@@ -189,11 +192,12 @@ impl Field for RecordedReply {
 
     ghost sends = { λ _. ⊤ };
 
-    #[tactic(auto, unfolding(crate::specs::Replies::recorded_reply, crate::specs::Format::nothing))]
+    #[tactic(auto, unfolding(crate::specs::Replies::recorded_reply, crate::specs::Format::nothing, crate::specs::Format::byte))]
     fn read(alloc: Global, bytes: &[u8]) -> Result<(RecordedReply, &[u8]), ReadFault> {
-        match bytes {
-            [0, rest @ ..] => Ok((RecordedReply::Yes, rest)),
-            [1, rest @ ..] => {
+        let (code, rest) = read_byte(bytes, 0, 1)?;
+        match code {
+            0 => Ok((RecordedReply::Yes, rest)),
+            1 => {
                 let (what, rest) = What::read(alloc, rest)?;
                 Ok((RecordedReply::Changed(what), rest))
             }
@@ -218,19 +222,20 @@ impl Field for InvokedReply {
 
     ghost sends = { InvokedSends };
 
-    #[tactic(auto, unfolding(crate::specs::Replies::invoked_reply, crate::specs::Format::nothing))]
+    #[tactic(auto, unfolding(crate::specs::Replies::invoked_reply, crate::specs::Format::nothing, crate::specs::Format::byte))]
     fn read(alloc: Global, bytes: &[u8]) -> Result<(InvokedReply, &[u8]), ReadFault> {
-        match bytes {
-            [0, rest @ ..] => {
+        let (code, rest) = read_byte(bytes, 0, 2)?;
+        match code {
+            0 => {
                 let (answer, rest) = Answer::read(alloc, rest)?;
                 Ok((InvokedReply::Answered(answer), rest))
             }
-            [1, rest @ ..] => {
+            1 => {
                 let (holder, rest) = Uid::read(alloc, rest)?;
                 let (mode, rest) = Mode::read(alloc, rest)?;
                 Ok((InvokedReply::Conflict { holder, mode }, rest))
             }
-            [2, rest @ ..] => {
+            2 => {
                 let (what, rest) = What::read(alloc, rest)?;
                 Ok((InvokedReply::Changed(what), rest))
             }
@@ -263,14 +268,15 @@ impl Field for VotedReply {
 
     ghost sends = { VotedSends };
 
-    #[tactic(auto, unfolding(crate::specs::Replies::voted_reply, crate::specs::Format::nothing))]
+    #[tactic(auto, unfolding(crate::specs::Replies::voted_reply, crate::specs::Format::nothing, crate::specs::Format::byte))]
     fn read(alloc: Global, bytes: &[u8]) -> Result<(VotedReply, &[u8]), ReadFault> {
-        match bytes {
-            [0, rest @ ..] => {
+        let (code, rest) = read_byte(bytes, 0, 1)?;
+        match code {
+            0 => {
                 let (states, rest) = States::read(alloc, rest)?;
                 Ok((VotedReply::Yes(states), rest))
             }
-            [1, rest @ ..] => {
+            1 => {
                 let (what, rest) = What::read(alloc, rest)?;
                 Ok((VotedReply::Changed(what), rest))
             }
@@ -298,16 +304,17 @@ impl Field for PreparedReply {
 
     ghost sends = { PreparedSends };
 
-    #[tactic(auto, unfolding(crate::specs::Replies::prepared_reply, crate::specs::Format::nothing))]
+    #[tactic(auto, unfolding(crate::specs::Replies::prepared_reply, crate::specs::Format::nothing, crate::specs::Format::byte))]
     fn read(alloc: Global, bytes: &[u8]) -> Result<(PreparedReply, &[u8]), ReadFault> {
-        match bytes {
-            [0, rest @ ..] => Ok((PreparedReply::Yes, rest)),
-            [1, rest @ ..] => {
+        let (code, rest) = read_byte(bytes, 0, 2)?;
+        match code {
+            0 => Ok((PreparedReply::Yes, rest)),
+            1 => {
                 let (x, rest) = u16::read(alloc, rest)?;
                 let (holder, rest) = Uid::read(alloc, rest)?;
                 Ok((PreparedReply::InDoubt { x, holder }, rest))
             }
-            [2, rest @ ..] => {
+            2 => {
                 let (x, rest) = u16::read(alloc, rest)?;
                 let (held, rest) = u64::read(alloc, rest)?;
                 Ok((PreparedReply::Old { x, held }, rest))
@@ -339,24 +346,25 @@ impl Field for ConfirmedReply {
 
     ghost sends = { ConfirmedSends };
 
-    #[tactic(auto, unfolding(crate::specs::Replies::confirmed_reply, crate::specs::Format::nothing))]
+    #[tactic(auto, unfolding(crate::specs::Replies::confirmed_reply, crate::specs::Format::nothing, crate::specs::Format::byte))]
     fn read(alloc: Global, bytes: &[u8]) -> Result<(ConfirmedReply, &[u8]), ReadFault> {
-        match bytes {
-            [0, rest @ ..] => Ok((ConfirmedReply::Yes, rest)),
-            [1, rest @ ..] => {
+        let (code, rest) = read_byte(bytes, 0, 4)?;
+        match code {
+            0 => Ok((ConfirmedReply::Yes, rest)),
+            1 => {
                 let (holder, rest) = Uid::read(alloc, rest)?;
                 let (mode, rest) = Mode::read(alloc, rest)?;
                 Ok((ConfirmedReply::Conflict { holder, mode }, rest))
             }
-            [2, rest @ ..] => {
+            2 => {
                 let (what, rest) = What::read(alloc, rest)?;
                 Ok((ConfirmedReply::Changed(what), rest))
             }
-            [3, rest @ ..] => {
+            3 => {
                 let (x, rest) = u16::read(alloc, rest)?;
                 Ok((ConfirmedReply::NoStores { x }, rest))
             }
-            [4, rest @ ..] => {
+            4 => {
                 let (x, rest) = u16::read(alloc, rest)?;
                 let (node, rest) = u8::read(alloc, rest)?;
                 Ok((ConfirmedReply::Listed { x, node }, rest))
