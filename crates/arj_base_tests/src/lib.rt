@@ -1,4 +1,4 @@
-//! Tests of the lowest crates: words and their packed states, classes, disks, streams, locks, entries and the net.
+//! Tests of the lowest crates: words and their packed states, classes, disks, streams, locks, entries, the net and records.
 //!
 //! It stands on them and knows them by their contracts. It has tests alone: so each of these crates is proved once, and not
 //! once more with its tests.
@@ -18,5 +18,7 @@ mod io;
 mod lock;
 #[cfg(test)]
 mod net;
+#[cfg(test)]
+mod record;
 #[cfg(test)]
 mod state;

@@ -21,6 +21,3 @@ pub use laws::{
 pub use list::RecordList;
 pub use record::Record;
 pub use scene::Scene;
-
-#[cfg(test)]
-mod tests;

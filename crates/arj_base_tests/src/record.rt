@@ -2,8 +2,8 @@
 ghost use Rattle.std.specs.Prelude.{◌≡◌, false, [], ◌∷◌, ◌++◌};
 ghost use Rattle.arj_record.specs.Records.{IsArranged};
 
-use crate::{AbstractRecord, Record, RecordList, Scene};
 use arj_base::{LAST_VERSION, Mode, Uid, next_version, object_uid};
+use arj_record::{AbstractRecord, Record, RecordList, Scene};
 use std::alloc::{AllocError, Global};
 use std::test::Fail;
 
@@ -46,7 +46,7 @@ impl Scene<u64> for Recorder {
     ghost use Rattle.std.specs.Prelude.{◌≡◌, false, [], ◌∷◌, ◌++◌};
     ghost use Rattle.arj_base.specs.State.{version_after};
     ghost use Rattle.arj_record.specs.Scene.{restore, pass, release, raise};
-    ghost use Rattle.arj_record.specs.declared.tests.Got.TheVariants.{Restore, Pass, Release, Raise};
+    ghost use Rattle.arj_base_tests.specs.declared.record.Got.TheVariants.{Restore, Pass, Release, Raise};
 
     ghost step = { λ old call new. (new.lost ≡ false → new.calls.items ≡ old.calls.items ++ (elim call [ restore x v ↦ Restore x v | pass a ↦ Pass a | release a ↦ Release a | raise x w ↦ Raise x w ]) ∷ []) × (new.version ≡ (elim call [ restore x v ↦ old.version | pass a ↦ old.version | release a ↦ old.version | raise x w ↦ version_after old.version ])) };
 
@@ -155,7 +155,11 @@ fn has_record(list: &RecordList<u64>, object: Uid) -> bool
     ensures { IsArranged list.now.records }
 {
     let records = list.as_slice();
-    records.iter().any(|record| record.object() == object)
+    records.iter().any(|record| match record {
+        Record::Recovery { object: of, .. } => *of == object,
+        Record::Lock { object: of, .. } => *of == object,
+        Record::Persistence { object: of } => *of == object,
+    })
 }
 
 // The calls that a scene gets where a list ends.
@@ -221,10 +225,10 @@ fn record_of(order: u8, x: u16) -> Record<u64> {
     }
 }
 
-fn merges_with(one: &Record<u64>, order: u8, x: u16) -> bool {
+fn merges_with(alloc: Global, one: &Record<u64>, order: u8, x: u16) -> bool {
     let other = record_of(order, x);
     let merges = one.may_merge(&other);
-    other.discard();
+    calls_of_one(alloc, other, 0);
     merges
 }
 
@@ -256,8 +260,8 @@ fn each_record_by_itself(rt: HostRuntime) -> Result<(), Fail> {
         assert_eq!(rt; one.top_prepare(), stores);
         assert!(rt; one.nested_prepare());
         for other in 1..4u8 {
-            assert_eq!(rt; merges_with(&one, other, 1), other == order);
-            assert!(rt; !merges_with(&one, other, 2));
+            assert_eq!(rt; merges_with(alloc, &one, other, 1), other == order);
+            assert!(rt; !merges_with(alloc, &one, other, 2));
         }
         assert_eq!(rt; calls_of_one(alloc, one, 0).as_slice(), undone);
         assert_eq!(rt;
