@@ -13,7 +13,7 @@ use Rattle.arj_base.specs.Uid.{uid_eq}
 use Rattle.arj_base.proofs.Uids.{uid_is}
 use Rattle.arj_lock.specs.Exclusion.{IsOneEach}
 use Rattle.arj_lock.specs.Requests.{lowered}
-use Rattle.arj_lock.proofs.Grants.{lowered_object, lowered_holder}
+use Rattle.arj_lock.proofs.Own.{lowered_object, lowered_holder}
 use Rattle.arj_lock.proofs.Members.{In, in_filter, in_find_none, in_from, in_to}
 use Rattle.arj_lock.proofs.OneEach.{none_in, any_same}
 use Rattle.arj_lock.proofs.Passes.{find_none}

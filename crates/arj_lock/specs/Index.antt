@@ -1,32 +1,61 @@
--- Locks by their objects, where an action's locks pass.
-use Rattle.std.specs.Prelude.{◌≡◌, ◌&&◌, List, Option, Some, None, if◌then◌else◌, find, is_some, option_and_then}
-use Rattle.std.specs.BTreeMap.{BTreeMap, get}
-use Rattle.std.specs.List.{list_any}
-use Rattle.std.specs.Option.{option_map}
-use Rattle.arj_base.specs.declared.uid.Uid.{Uid}
-use Rattle.arj_base.specs.Path.{before_last, uids_of}
-use Rattle.arj_base.specs.Rows.{Row, goes_to, is_heir, is_row_of, last_uid}
-use Rattle.arj_base.specs.Uid.{uid_eq}
-use Rattle.arj_lock.specs.Held.{set_order}
+-- The index of a lock table.
+use Rattle.std.specs.Prelude.{ℕ, ◌≡◌, ◌<◌, ◌≤◌, ◌||◌, ◌&&◌, Bool, true, false, not, if◌then◌else◌, List, [], ◌∷◌, Option, Some, None, ⊤}
+use Rattle.std.specs.BTreeMap.{is_at}
+use Rattle.std.specs.BTreeSet.{BTreeSet, contains}
+use Rattle.std.specs.List.Sorted.{IsStrictlySortedBy}
+use Rattle.std.specs.Map.{keys_of, lookup}
+use Rattle.std.specs.Ordering.{is_eq, nat_cmp}
+use Rattle.arj_lock.specs.Groups.{has, member_order}
 use Rattle.arj_lock.specs.Locks.{shown}
+use Rattle.arj_lock.specs.declared.group.Group.{Group}
+use Rattle.arj_lock.specs.declared.group.Member.{Member}
 use Rattle.arj_lock.specs.declared.lock.Lock.{Lock}
 
--- the lock under an object
-abbrev pub lock_at : BTreeMap Uid Lock → Uid → Option Lock
-lock_at index x = get set_order index x
+-- this grant is a member of the group
+abbrev pub stands : BTreeSet Member → Group → ℕ → Bool
+stands index g n = contains member_order index (record { group = g; grant = n })
 
--- the lock if it goes to the holder of this one
-abbrev pub going_to : Lock → Lock → Option Lock
-going_to lock passing = if is_heir (before_last (uids_of passing.path)) (last_uid (uids_of lock.path)) then Some passing else None
+-- a lock, if there is one, is in the group
+abbrev pub has_lock : Group → Option Lock → Bool
+has_lock g None = false
+has_lock g (Some lock) = has g (shown lock)
 
--- the lock under this one's object, if it goes to this one's holder
-abbrev pub passing_in : BTreeMap Uid Lock → Lock → Option Lock
-passing_in own lock = option_and_then (going_to lock) (lock_at own lock.object)
+-- the members of each group are the locks that are in it
+abbrev pub AreIndexed : (ℕ → Option Lock) → Option (BTreeSet Member) → Type 0
+AreIndexed at None = ⊤
+AreIndexed at (Some index) = (g : Group) (n : ℕ) → stands index g n ≡ has_lock g (at n)
 
--- under each object stands the action's row of it
-abbrev pub HasOwn : Uid → List Row → BTreeMap Uid Lock → Type 0
-HasOwn action rows own = (x : Uid) → option_map shown (lock_at own x) ≡ find (is_row_of x action) rows
+-- one more lock is in all its groups
+abbrev pub Joins : ℕ → Lock → BTreeSet Member → BTreeSet Member → Type 0
+Joins grant lock old new = (g : Group) (n : ℕ) → stands new g n ≡ (stands old g n || (is_eq (nat_cmp grant n) && has g (shown lock)))
 
--- there is something under exactly the objects of which some row gets one of the action's
-abbrev pub HasMet : Uid → List Row → BTreeMap Uid Lock → Type 0
-HasMet action rows met = (x : Uid) → is_some (lock_at met x) ≡ list_any (λ row. uid_eq row.object x && is_some (find (goes_to action row) rows)) rows
+-- a lock isn't in its groups any more
+abbrev pub Leaves : ℕ → Lock → BTreeSet Member → BTreeSet Member → Type 0
+Leaves grant lock old new = (g : Group) (n : ℕ) → stands new g n ≡ (stands old g n && not (is_eq (nat_cmp grant n) && has g (shown lock)))
+
+-- with a lock under this grant
+abbrev pub put_lock : ℕ → Lock → (ℕ → Option Lock) → ℕ → Option Lock
+put_lock grant lock at n = if is_eq (nat_cmp grant n) then Some lock else at n
+
+-- without the lock under this grant
+abbrev pub without_lock : ℕ → (ℕ → Option Lock) → ℕ → Option Lock
+without_lock grant at n = if is_eq (nat_cmp grant n) then None else at n
+
+-- the least number that passes a test, if one does
+abbrev pub IsFirst : (ℕ → Bool) → Option ℕ → Type 0
+IsFirst test None = (m : ℕ) → test m ≡ false
+IsFirst test (Some n) = (test n ≡ true) × ((m : ℕ) → test m ≡ true → n ≤ m)
+
+-- the lock under a grant
+abbrev pub lock_at : ℕ → List (ℕ × Lock) → Option Lock
+lock_at n grants = lookup (is_at (nat_cmp n)) grants
+
+-- locks in order of granting, and their index
+pub record AreKept (grants : List (ℕ × Lock)) (index : Option (BTreeSet Member)) : Type 0 where
+  pub sorted : IsStrictlySortedBy nat_cmp (keys_of grants)
+  pub indexed : AreIndexed (λ n. lock_at n grants) index
+
+-- all grants are below this number
+abbrev pub IsAbove : List (ℕ × Lock) → ℕ → Type 0
+IsAbove [] n = ⊤
+IsAbove (e ∷ es) n = (e.0 < n) × IsAbove es n

@@ -1,7 +1,7 @@
 pub mod Exclusion
+pub mod Groups
 pub mod Held
 pub mod Index
 pub mod Locks
 pub mod Passing
-pub mod Removal
 pub mod Requests

@@ -1,11 +1,12 @@
 -- One row of an action handed on to its heir.
-use Rattle.std.specs.Prelude.{◌≡◌, ℕ, ◌+◌, ◌&&◌, List, ◌∷◌, ◌++◌, take, drop, map, find, Bool, true, false, if◌then◌else◌, Option, Some, None, slice_set, not, Contains}
+use Rattle.std.specs.Prelude.{◌≡◌, ◌<◌, ℕ, ◌&&◌, List, length, filter, find, Bool, true, false, if◌then◌else◌, Option, Some, None, Contains}
 use Rattle.std.specs.Option.{option_map}
 use Rattle.arj_base.specs.declared.mode.Mode.{Mode}
 use Rattle.arj_base.specs.declared.uid.Uid.{Uid}
 use Rattle.arj_base.specs.Mode.{stronger}
 use Rattle.arj_base.specs.Path.{before_last}
-use Rattle.arj_base.specs.Rows.{Row, has_row, is_heir, is_held_by, is_row_of, last_uid, front, renamed, strengthened}
+use Rattle.arj_base.specs.Rows.{Row, has_row, is_heir, is_held_by, is_row_of, last_uid, front, pass_rows, renamed, strengthened}
+use Rattle.arj_lock.specs.Exclusion.{IsOneEach}
 
 -- the heir's row of the object takes the stronger mode
 abbrev pub raised : Uid → Uid → Mode → Row → Row
@@ -16,16 +17,16 @@ abbrev pub IsHandedUp : Row → Option Row → Type 0
 IsHandedUp row None = before_last row.holder ≡ None
 IsHandedUp row (Some up) = (up ≡ renamed row) × (before_last row.holder ≡ Some (last_uid up.holder))
 
--- What becomes of the row at a place: its heir's row takes its mode, or it goes to its heir, or it has none; and whether
--- it stays.
-abbrev pub HandsOn : Row → Option Uid → ℕ → List Row → List Row → Bool → Type 0
-HandsOn row None at old new stays = (stays ≡ false) × (new ≡ old)
-HandsOn row (Some heir) at old new stays =
-    (stays ≡ not (has_row row.object heir old))
-    × (new ≡ (if has_row row.object heir old then map (raised row.object heir row.mode) old else slice_set old at (renamed row)))
+-- how many rows pass a test
+abbrev pub count : (Row → Bool) → List Row → ℕ
+count test rows = length (filter test rows)
 
-abbrev pub IsHandedOn : ℕ → List Row → List Row → Bool → Type 0
-IsHandedOn at old new stays = (row : Row) × (old ≡ take at old ++ row ∷ drop (at + 1) old) × HandsOn row (before_last row.holder) at old new stays
+-- One row of the action's less is left to pass: to pass those that are left gives the same, and no action has two rows of
+-- one object.
+pub record PassesOne (action : Uid) (old new : List Row) : Type 0 where
+  pub rows : pass_rows action new ≡ pass_rows action old
+  pub one_each : IsOneEach new
+  pub fewer : count (is_held_by action) new < count (is_held_by action) old
 
 -- the action's row of the object that goes to this heir
 abbrev pub passing : Uid → Uid → Uid → List Row → Option Row

@@ -1,110 +1,148 @@
-// Which locks pass to whom, looked up by object.
-ghost use Rattle.std.specs.Prelude.{◌≡◌, List, Contains, IfOk, filter, find, is_some};
-ghost use Rattle.std.specs.Option.{option_map};
-ghost use Rattle.arj_base.specs.Path.{before_last};
-ghost use Rattle.arj_base.specs.Rows.{Row, is_heir, is_held_by, last_uid, passed};
-ghost use Rattle.arj_base.specs.Uid.{uid_eq};
-ghost use Rattle.arj_base.specs.declared.uid.Uid.{Uid};
-ghost use Rattle.arj_lock.specs.Exclusion.{IsOneEach};
-ghost use Rattle.arj_lock.specs.Index.{lock_at, passing_in, HasOwn, HasMet};
-ghost use Rattle.arj_lock.specs.Locks.{rows_of, shown};
+// The index of a lock table: which locks are in which groups.
+ghost use Rattle.std.specs.Prelude.{◌≡◌, ◌||◌, ◌&&◌, ℕ, Option, not, None, Some, OnOk};
+ghost use Rattle.std.specs.List.{list_any};
+ghost use Rattle.std.specs.Ordering.{is_eq, nat_cmp};
+ghost use Rattle.arj_base.specs.Mode.{conflicting};
+ghost use Rattle.arj_lock.specs.Groups.{has, is_after, same, start};
+ghost use Rattle.arj_lock.specs.Index.{AreIndexed, IsFirst, Joins, Leaves, put_lock, stands, without_lock};
+ghost use Rattle.arj_lock.specs.Locks.{shown};
+ghost use Rattle.arj_lock.specs.declared.group.Group.{Group};
+ghost use Rattle.arj_lock.specs.declared.group.Group.TheVariants as group;
+ghost use Rattle.arj_lock.specs.declared.lock.Lock.{Lock};
 
+use crate::group::{Group, Member};
 use crate::lock::Lock;
-use crate::pass::handed_up;
-use arj_base::Uid;
-use std::alloc::{AllocError, Global};
-use std::collections::BTreeMap;
+use arj_base::{Mode, Uid, conflicts};
+use std::alloc::AllocError;
+use std::collections::BTreeSet;
+use std::ops::Bound;
 
-/// Locks by their objects.
-pub type Index = BTreeMap<Uid, Lock>;
+/// The members of all groups.
+pub type Index = BTreeSet<Member>;
 
-// The locks of a list by their objects, of each object the first one.
-fn by_object(alloc: Global, locks: &[Lock]) -> Result<Index, AllocError>
-    ensures { IfOk result (λ index. (x : Uid) → lock_at index x ≡ find (λ lock. uid_eq lock.object x) locks.now) }
+// Puts a lock in a group.
+fn put(index: &mut Index, group: Group, grant: u64) -> Result<(), AllocError>
+    ensures { OnOk result ((g : Group) (n : ℕ) → stands index.new g n ≡ (stands index.old g n || (is_eq (nat_cmp grant n) && same group g))) }
 {
-    let mut index = BTreeMap::new(alloc);
-    let mut i = locks.len();
-    while i > 0 {
-        i -= 1;
-        let lock = locks[i];
-        index.insert(lock.object, lock)?;
-    }
-    Ok(index)
+    index.insert(Member { group, grant })?;
+    Ok(())
 }
 
-// The locks that an action itself holds.
-fn held_by(alloc: Global, locks: &[Lock], action: Uid) -> Result<Vec<Lock>, AllocError>
-    ensures { IfOk result (λ held. held.items ≡ filter (λ lock. is_held_by action (shown lock)) locks.now) }
+// Puts a lock in the group of those that conflict with a mode, if it does.
+fn put_against(index: &mut Index, lock: &Lock, mode: Mode, grant: u64) -> Result<(), AllocError>
+    ensures { OnOk result ((g : Group) (n : ℕ) → stands index.new g n ≡ (stands index.old g n || (is_eq (nat_cmp grant n) && (conflicting lock.now.mode mode && same (group.Against lock.now.object mode) g)))) }
 {
-    let mut held = Vec::new(alloc);
-    for lock in locks {
-        if lock.is_held_by(action) {
-            held.push(*lock)?;
-        }
+    if !conflicts(lock.mode, mode) {
+        return Ok(());
     }
-    Ok(held)
+    let object = lock.object;
+    put(index, Group::Against { object, mode }, grant)
 }
 
-// Whether a lock goes to the holder of another one.
-fn goes(lock: &Lock, other: &Lock) -> bool
-    ensures { result ≡ is_heir (before_last (shown lock.now).holder) (last_uid (shown other.now).holder) }
+// Puts a lock in the group of each action of its path.
+fn put_below(index: &mut Index, path: &[Uid], grant: u64) -> Result<(), AllocError>
+    ensures { OnOk result ((g : Group) (n : ℕ) → stands index.new g n ≡ (stands index.old g n || (is_eq (nat_cmp grant n) && list_any (λ u. same (group.Below u) g) path.now))) }
 {
-    match lock.path.parent() {
-        Some(heir) => other.path.last() == heir,
-        None => false,
+    for action in path {
+        put(index, Group::Below { action: *action }, grant)?;
+    }
+    Ok(())
+}
+
+// Puts a lock in all its groups.
+fn join(index: &mut Index, lock: &Lock, grant: u64) -> Result<(), AllocError>
+    ensures { OnOk result (Joins grant lock.now index.old index.new) }
+{
+    let object = lock.object;
+    let holder = lock.path.last();
+    put(index, Group::Own { object, holder }, grant)?;
+    put(index, Group::Held { holder }, grant)?;
+    put_against(index, lock, Mode::Read, grant)?;
+    put_against(index, lock, Mode::Exclude, grant)?;
+    put_against(index, lock, Mode::Write, grant)?;
+    put_below(index, lock.path.as_slice(), grant)?;
+    Ok(())
+}
+
+// Takes a lock out of a group.
+fn take(index: &mut Index, group: Group, grant: u64)
+    ensures { (g : Group) (n : ℕ) → stands index.new g n ≡ (stands index.old g n && not (is_eq (nat_cmp grant n) && same group g)) }
+{
+    index.remove(&Member { group, grant });
+}
+
+// Takes a lock out of the group of those that conflict with a mode, if it does.
+fn take_against(index: &mut Index, lock: &Lock, mode: Mode, grant: u64)
+    ensures { (g : Group) (n : ℕ) → stands index.new g n ≡ (stands index.old g n && not (is_eq (nat_cmp grant n) && (conflicting lock.now.mode mode && same (group.Against lock.now.object mode) g))) }
+{
+    if !conflicts(lock.mode, mode) {
+        return;
+    }
+    let object = lock.object;
+    take(index, Group::Against { object, mode }, grant);
+}
+
+// Takes a lock out of the group of each action of its path.
+fn take_below(index: &mut Index, path: &[Uid], grant: u64)
+    ensures { (g : Group) (n : ℕ) → stands index.new g n ≡ (stands index.old g n && not (is_eq (nat_cmp grant n) && list_any (λ u. same (group.Below u) g) path.now)) }
+{
+    for action in path {
+        take(index, Group::Below { action: *action }, grant);
     }
 }
 
-// The lock that passes to the holder of this one, on the same object.
-fn passing_to(own: &Index, lock: &Lock) -> Option<Lock>
-    ensures { result ≡ passing_in own.now lock.now }
+// Takes a lock out of all its groups.
+fn leave(index: &mut Index, lock: &Lock, grant: u64)
+    ensures { Leaves grant lock.now index.old index.new }
 {
-    let passing = *own.get(&lock.object)?;
-    if goes(&passing, lock) {
-        Some(passing)
-    } else {
-        None
+    let object = lock.object;
+    let holder = lock.path.last();
+    take(index, Group::Own { object, holder }, grant);
+    take(index, Group::Held { holder }, grant);
+    take_against(index, lock, Mode::Read, grant);
+    take_against(index, lock, Mode::Exclude, grant);
+    take_against(index, lock, Mode::Write, grant);
+    take_below(index, lock.path.as_slice(), grant);
+}
+
+/// The index with one more lock. None where memory is wanting, or where there was no index.
+pub fn joined(index: Option<Index>, lock: &Lock, grant: u64) -> Option<Index>
+    ensures { (at : ℕ → Option Lock) → at grant ≡ None → AreIndexed at index → AreIndexed (put_lock grant lock.now at) result }
+{
+    let mut index = index?;
+    match join(&mut index, lock, grant) {
+        Ok(()) => Some(index),
+        Err(_) => None,
     }
 }
 
-// The locks whose holders get one that passes.
-fn takers(alloc: Global, locks: &[Lock], own: &Index) -> Result<Vec<Lock>, AllocError>
-    ensures { IfOk result (λ takers. takers.items ≡ filter (λ lock. is_some (passing_in own.now lock)) locks.now) }
+/// The index without a lock.
+pub fn left(index: Option<Index>, lock: &Lock, grant: u64) -> Option<Index>
+    ensures { (at : ℕ → Option Lock) → at grant ≡ Some lock.now → AreIndexed at index → AreIndexed (without_lock grant at) result }
 {
-    let mut takers = Vec::new(alloc);
-    for lock in locks {
-        if passing_to(own, lock).is_some() {
-            takers.push(*lock)?;
-        }
-    }
-    Ok(takers)
+    let mut index = index?;
+    leave(&mut index, lock, grant);
+    Some(index)
 }
 
-/// The action's own locks, and those to whose holders they pass, each by object.
-pub fn index(alloc: Global, locks: &[Lock], action: Uid) -> Result<(Index, Index), AllocError>
-    ensures own { IfOk result (λ both. HasOwn action (rows_of locks.now) both.0) }
-    ensures met { IsOneEach (rows_of locks.now) → IfOk result (λ both. HasMet action (rows_of locks.now) both.1) }
+// Where a look at a group begins.
+fn start(group: Group, after: Option<u64>) -> Bound<Member>
+    ensures { result ≡ start group after }
 {
-    let held = held_by(alloc, locks, action)?;
-    let own = by_object(alloc, held.as_slice())?;
-    let takers = takers(alloc, locks, &own)?;
-    let met = by_object(alloc, takers.as_slice())?;
-    Ok((own, met))
+    match after {
+        Some(grant) => Bound::Excluded(Member { group, grant }),
+        None => Bound::Included(Member { group, grant: 0 }),
+    }
 }
 
-/// What a lock becomes where the action's locks pass; None where it goes.
-pub fn passed_lock(lock: &Lock, action: Uid, own: &Index, met: &Index) -> Option<Lock>
-    ensures { (rows : List Row) → IsOneEach rows → Contains rows (shown lock.now) → HasOwn action rows own.now → HasMet action rows met.now
-        → option_map shown result ≡ passed action rows (shown lock.now) }
+/// The first member of a group, or the next one after this grant.
+pub fn first(index: &Index, group: Group, after: Option<u64>) -> Option<u64>
+    ensures { IsFirst (λ n. stands index.now group n && is_after after n) result }
 {
-    if !lock.is_held_by(action) {
-        return match passing_to(own, lock) {
-            Some(passing) => Some(lock.with(passing.mode)),
-            None => Some(*lock),
-        };
-    }
-    if met.get(&lock.object).is_some() {
+    let from = start(group, after);
+    let member = index.range((from, Bound::Unbounded)).next()?;
+    if member.group != group {
         return None;
     }
-    handed_up(lock)
+    Some(member.grant)
 }

@@ -10,12 +10,12 @@
 
 mod effects;
 mod fault;
+mod grants;
+mod group;
 mod index;
 mod laws;
 mod lock;
-mod meet;
 mod pass;
-mod remove;
 mod table;
 mod tops;
 

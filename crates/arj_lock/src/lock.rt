@@ -1,5 +1,5 @@
 // One lock.
-use arj_base::{Mode, Path, Uid, conflicts, stronger};
+use arj_base::{Mode, Path, Uid, stronger};
 
 /// A lock on an object: the path of the action that holds it, and the strongest mode that was granted.
 #[derive(Clone, Copy, Debug)]
@@ -12,8 +12,7 @@ pub struct Lock {
 impl Lock {
     ghost use Rattle.std.specs.Prelude.{◌≡◌};
     ghost use Rattle.arj_base.specs.Mode.{stronger as stronger_of};
-    ghost use Rattle.arj_base.specs.Path.{uids_of};
-    ghost use Rattle.arj_base.specs.Rows.{is_row_of, is_held_by, is_against, is_on};
+    ghost use Rattle.arj_base.specs.Rows.{is_row_of, is_held_by};
     ghost use Rattle.arj_lock.specs.Locks.{shown};
 
     /// Whether this action itself holds it.
@@ -30,16 +29,6 @@ impl Lock {
         ensures { result ≡ is_row_of object action (shown self.now) }
     {
         self.object == object && self.is_held_by(action)
-    }
-
-    /// Whether it stands against a request.
-    #[inline(always)]
-    pub fn is_against(&self, path: &Path, object: Uid, mode: Mode) -> bool
-        ensures { result ≡ is_against (uids_of path.now) object mode (shown self.now) }
-    {
-        self.object == object
-            && !path.is_ancestor_or_self(self.path.last())
-            && conflicts(self.mode, mode)
     }
 
     /// The same lock in the stronger mode of its own and this one.

@@ -6,15 +6,14 @@ ghost use Rattle.arj_base.specs.Path.{uids_of};
 ghost use Rattle.arj_base.specs.Rows.{Row, last_uid, grant_row, pass_rows, drop_rows, close_rows, lower_row, first_conflict, has_any, mode_of};
 ghost use Rattle.arj_lock.specs.Exclusion.{IsOneEach};
 ghost use Rattle.arj_lock.specs.Held.{AreBelow, AreTops, is_any_top, is_any_write};
-ghost use Rattle.arj_lock.specs.Locks.{rows_of};
 ghost use Rattle.arj_lock.specs.Requests.{asked, conflict_with, is_rise, IsClear};
 
 use crate::LockFault;
+use crate::grants::Grants;
+use crate::group::Group;
 use crate::lock::Lock;
-use crate::meet::{Met, lower, meet, strengthen};
-use crate::pass::pass;
-use crate::remove::{Gone, remove};
-use crate::tops::{is_any_below, is_any_top, is_any_write, list_below, list_tops};
+use crate::pass::{lower, pass, raise};
+use crate::tops::{first_against, is_any_below, is_any_top, is_any_write, list_below, list_tops};
 use arj_base::{Mode, Path, Uid, Uids};
 use std::alloc::{AllocError, Global};
 use std::marker::Model;
@@ -24,20 +23,20 @@ use std::marker::Model;
 /// the asking action or one of its ancestors, and is held until its holder ends.
 #[derive(Drop)]
 pub struct LockTable {
-    locks: Vec<Lock>,
+    grants: Grants,
 }
 
 impl Model for LockTable {
     ghost use Rattle.std.specs.Prelude.{List};
     ghost use Rattle.arj_base.specs.Rows.{Row};
     ghost use Rattle.arj_lock.specs.Exclusion.{IsOneEach};
-    ghost use Rattle.arj_lock.specs.Locks.{rows_of};
+    ghost use Rattle.arj_lock.specs.Locks.{rows_in};
 
     ghost Value = { List Row };
 
-    ghost view = { λ t. rows_of t.locks.items };
+    ghost view = { λ t. rows_in t.grants };
 
-    ghost invariant = { λ t. IsOneEach (rows_of t.locks.items) };
+    ghost invariant = { λ t. IsOneEach (rows_in t.grants) };
 }
 
 impl LockTable {
@@ -46,7 +45,7 @@ impl LockTable {
         ensures { result ≡ [] }
     {
         LockTable {
-            locks: Vec::new(alloc),
+            grants: Grants::new(alloc),
         }
     }
 
@@ -61,48 +60,52 @@ impl LockTable {
         ensures clear { OnOk result (IsClear (uids_of path.now) object mode self.old) }
         ensures kept { OnErr result (self.new ≡ self.old) }
     {
-        match meet(self.locks.as_slice(), path, object, mode) {
-            Met::Against { holder, mode } => Err(LockFault::Conflict { holder, mode }),
-            Met::Own(at) => Ok(strengthen(&mut self.locks, at, mode)),
-            Met::Free => {
-                self.locks.push(Lock {
-                    object,
-                    path: *path,
-                    mode,
-                })?;
-                Ok(true)
-            }
+        if let Some(lock) = first_against(&self.grants, path, object, mode) {
+            return Err(LockFault::Conflict {
+                holder: lock.path.last(),
+                mode: lock.mode,
+            });
         }
+        if let Some(rose) = raise(&mut self.grants, object, path.last(), mode) {
+            return Ok(rose);
+        }
+        self.grants.push(Lock {
+            object,
+            path: *path,
+            mode,
+        })?;
+        Ok(true)
     }
 
     /// Passes an action's locks to its parent, or a constituent's to its serializing action, each in its place. A lock
-    /// that the parent has already takes the stronger mode. The locks of an action without a parent go. Where there is
-    /// memory for an index of the action's locks, one look over all does it; it never fails for want of memory.
+    /// that the parent has already takes the stronger mode. The locks of an action without a parent go. It never fails
+    /// for want of memory.
     pub fn pass_to_parent(&mut self, action: Uid)
         ensures { self.new ≡ pass_rows action self.old }
     {
-        pass(&mut self.locks, action);
+        pass(&mut self.grants, action);
     }
 
     /// Drops the locks of an action and of its descendants.
     pub fn drop_action(&mut self, action: Uid)
         ensures { self.new ≡ drop_rows action self.old }
     {
-        remove(&mut self.locks, Gone::Action(action));
+        self.grants.remove_all(Group::Below { action });
     }
 
     /// Drops all locks on an object.
     pub fn close(&mut self, object: Uid)
         ensures { self.new ≡ close_rows object self.old }
     {
-        remove(&mut self.locks, Gone::Object(object));
+        let mode = Mode::Write;
+        self.grants.remove_all(Group::Against { object, mode });
     }
 
     /// Lowers an action's lock on an object to read, in its place.
     pub fn lower(&mut self, action: Uid, object: Uid)
         ensures { self.new ≡ lower_row action object self.old }
     {
-        lower(&mut self.locks, action, object);
+        lower(&mut self.grants, action, object);
     }
 
     /// Holder and mode of the lock that a request would name as conflicting. None exactly where it would meet none.
@@ -110,11 +113,8 @@ impl LockTable {
         ensures first { result ≡ conflict_with (uids_of path.now) object mode self.now }
         ensures clear { result ≡ None → IsClear (uids_of path.now) object mode self.now }
     {
-        match meet(self.locks.as_slice(), path, object, mode) {
-            Met::Against { holder, mode } => Some((holder, mode)),
-            Met::Own(_) => None,
-            Met::Free => None,
-        }
+        let lock = first_against(&self.grants, path, object, mode)?;
+        Some((lock.path.last(), lock.mode))
     }
 
     /// Whether an action or a descendant of it has a lock.
@@ -122,21 +122,21 @@ impl LockTable {
         ensures any { result ≡ has_any action self.now }
         ensures one_each { IsOneEach self.now }
     {
-        is_any_below(self.locks.as_slice(), action)
+        is_any_below(&self.grants, action)
     }
 
     /// Whether an action is the top of a lock's holder, or the serializing action above that top.
     pub fn is_top(&self, action: Uid) -> bool
         ensures { result ≡ is_any_top action self.now }
     {
-        is_any_top(self.locks.as_slice(), action)
+        is_any_top(&self.grants, action)
     }
 
     /// Whether an action itself has the write lock on an object.
     pub fn writes(&self, action: Uid, object: Uid) -> bool
         ensures { result ≡ is_any_write object action self.now }
     {
-        is_any_write(self.locks.as_slice(), action, object)
+        is_any_write(&self.grants, action, object)
     }
 
     /// The tops of all holders, each once, in increasing order.
@@ -144,13 +144,13 @@ impl LockTable {
         ensures tops { IfOk result (λ tops. AreTops self.now tops) }
         ensures one_each { IsOneEach self.now }
     {
-        list_tops(alloc, self.locks.as_slice())
+        list_tops(alloc, &self.grants)
     }
 
     /// The holders of the locks that `drop_action` would drop, each once, in increasing order.
     pub fn holders_below(&self, alloc: Global, action: Uid) -> Result<Uids, AllocError>
         ensures { IfOk result (λ holders. AreBelow action self.now holders) }
     {
-        list_below(alloc, self.locks.as_slice(), action)
+        list_below(alloc, &self.grants, action)
     }
 }

@@ -1,33 +1,57 @@
-// Whose locks there are.
-ghost use Rattle.std.specs.Prelude.{◌≡◌, nat_le, IfOk, List, filter, map};
+// What there is to be told of the locks.
+ghost use Rattle.std.specs.Prelude.{◌≡◌, IfOk, List, filter, map, nat_le};
 ghost use Rattle.std.specs.BTreeSet.{IsFromIterResult};
-ghost use Rattle.std.specs.List.{list_any};
+ghost use Rattle.std.specs.Option.{option_map};
 ghost use Rattle.arj_base.specs.Mode.{mode_code};
-ghost use Rattle.arj_base.specs.Rows.{is_on};
-ghost use Rattle.arj_lock.specs.Held.{set_order, holder_of, top_of, is_top_of, is_write_of, AreBelow, AreListed, AreTops};
-ghost use Rattle.arj_lock.specs.Locks.{rows_of, shown};
+ghost use Rattle.arj_base.specs.Path.{uids_of};
+ghost use Rattle.arj_base.specs.Rows.{first_conflict, has_any, is_on};
+ghost use Rattle.arj_base.specs.declared.uid.Uid.{Uid};
+ghost use Rattle.arj_lock.specs.Exclusion.{IsOneEach};
+ghost use Rattle.arj_lock.specs.Held.{set_order, below, is_any_top, is_any_write, top_of, AreBelow, AreListed, AreTops};
+ghost use Rattle.arj_lock.specs.Locks.{rows_in, shown};
 
+use crate::grants::Grants;
+use crate::group::Group;
 use crate::lock::Lock;
-use arj_base::{Mode, Uid, Uids};
+use arj_base::{Mode, Path, Uid, Uids};
 use std::alloc::{AllocError, Global};
 use std::collections::BTreeSet;
 
-/// Whether one of these locks is held by an action or a descendant of it.
-pub fn is_any_below(locks: &[Lock], action: Uid) -> bool
-    ensures { result ≡ list_any (λ lock. is_on (shown lock).holder action) locks.now }
+/// The first lock that stands against a request: behind at most as many others of its group as there are actions on the path.
+pub fn first_against(grants: &Grants, path: &Path, object: Uid, mode: Mode) -> Option<Lock>
+    ensures { option_map shown result ≡ first_conflict (uids_of path.now) object mode (rows_in grants.now) }
 {
-    locks
-        .iter()
-        .any(|lock| lock.path.is_ancestor_or_self(action))
+    let group = Group::Against { object, mode };
+    let mut after = None;
+    while let Some((grant, lock)) = grants.find(group, after) {
+        if !path.is_ancestor_or_self(lock.path.last()) {
+            return Some(lock);
+        }
+        after = Some(grant);
+    }
+    None
 }
 
-/// Whether an action is the top of one of these locks' holders, or stands above that top.
-pub fn is_any_top(locks: &[Lock], action: Uid) -> bool
-    ensures { result ≡ list_any (λ lock. is_top_of action (shown lock)) locks.now }
+/// Whether an action or a descendant of it has a lock.
+pub fn is_any_below(grants: &Grants, action: Uid) -> bool
+    ensures { result ≡ has_any action (rows_in grants.now) }
 {
-    locks
-        .iter()
-        .any(|lock| lock.path.top_path().is_ancestor_or_self(action))
+    grants.find(Group::Below { action }, None).is_some()
+}
+
+/// Whether an action is the top of a lock's holder, or stands above that top.
+pub fn is_any_top(grants: &Grants, action: Uid) -> bool
+    ensures { result ≡ is_any_top action (rows_in grants.now) }
+{
+    let group = Group::Below { action };
+    let mut after = None;
+    while let Some((grant, lock)) = grants.find(group, after) {
+        if lock.path.top_path().is_ancestor_or_self(action) {
+            return true;
+        }
+        after = Some(grant);
+    }
+    false
 }
 
 // Whether the mode is write.
@@ -37,46 +61,19 @@ fn is_write(mode: Mode) -> bool
     matches!(mode, Mode::Write)
 }
 
-/// Whether one of these locks is the action's own write lock on the object.
-pub fn is_any_write(locks: &[Lock], action: Uid, object: Uid) -> bool
-    ensures { result ≡ list_any (λ lock. is_write_of object action (shown lock)) locks.now }
+/// Whether an action itself has the write lock on an object.
+pub fn is_any_write(grants: &Grants, action: Uid, object: Uid) -> bool
+    requires { IsOneEach (rows_in grants.now) }
+    ensures { result ≡ is_any_write object action (rows_in grants.now) }
 {
-    locks
-        .iter()
-        .any(|lock| lock.is_of(object, action) && is_write(lock.mode))
-}
-
-fn tops_of(alloc: Global, locks: &[Lock]) -> Result<BTreeSet<Uid>, AllocError>
-    ensures { IfOk result (λ tops. IsFromIterResult set_order (map top_of (rows_of locks.now)) tops) }
-{
-    let mut tops = BTreeSet::new(alloc);
-    for lock in locks {
-        tops.insert(lock.path.top())?;
+    let own = Group::Own {
+        object,
+        holder: action,
+    };
+    match grants.find(own, None) {
+        Some((_, lock)) => is_write(lock.mode),
+        None => false,
     }
-    Ok(tops)
-}
-
-// The locks of an action and of its descendants.
-fn locks_below(alloc: Global, locks: &[Lock], action: Uid) -> Result<Vec<Lock>, AllocError>
-    ensures { IfOk result (λ kept. rows_of kept.items ≡ filter (λ row. is_on row.holder action) (rows_of locks.now)) }
-{
-    let mut kept = Vec::new(alloc);
-    for lock in locks {
-        if lock.path.is_ancestor_or_self(action) {
-            kept.push(*lock)?;
-        }
-    }
-    Ok(kept)
-}
-
-fn holders_of(alloc: Global, locks: &[Lock]) -> Result<BTreeSet<Uid>, AllocError>
-    ensures { IfOk result (λ holders. IsFromIterResult set_order (map holder_of (rows_of locks.now)) holders) }
-{
-    let mut holders = BTreeSet::new(alloc);
-    for lock in locks {
-        holders.insert(lock.path.last())?;
-    }
-    Ok(holders)
 }
 
 // The Uids of a set, in increasing order.
@@ -90,19 +87,42 @@ fn listed(alloc: Global, set: &BTreeSet<Uid>) -> Result<Uids, AllocError>
     Ok(list)
 }
 
-/// The tops of these locks, each once, in increasing order.
-pub fn list_tops(alloc: Global, locks: &[Lock]) -> Result<Uids, AllocError>
-    ensures { IfOk result (λ tops. AreTops (rows_of locks.now) tops) }
+fn tops_of(alloc: Global, grants: &Grants) -> Result<BTreeSet<Uid>, AllocError>
+    ensures { IfOk result (λ tops. IsFromIterResult set_order (map top_of (rows_in grants.now)) tops) }
 {
-    let tops = tops_of(alloc, locks)?;
+    let mut tops = BTreeSet::new(alloc);
+    for (_, lock) in grants.locks().iter() {
+        tops.insert(lock.path.top())?;
+    }
+    Ok(tops)
+}
+
+// The holders of the locks of an action and of its descendants.
+fn holders_of(alloc: Global, grants: &Grants, action: Uid) -> Result<BTreeSet<Uid>, AllocError>
+    ensures { IfOk result (λ holders. IsFromIterResult set_order (below action (rows_in grants.now)) holders) }
+{
+    let group = Group::Below { action };
+    let mut holders = BTreeSet::new(alloc);
+    let mut after = None;
+    while let Some((grant, lock)) = grants.find(group, after) {
+        holders.insert(lock.path.last())?;
+        after = Some(grant);
+    }
+    Ok(holders)
+}
+
+/// The tops of these locks, each once, in increasing order.
+pub fn list_tops(alloc: Global, grants: &Grants) -> Result<Uids, AllocError>
+    ensures { IfOk result (λ tops. AreTops (rows_in grants.now) tops) }
+{
+    let tops = tops_of(alloc, grants)?;
     listed(alloc, &tops)
 }
 
 /// The holders of the locks of an action and of its descendants, each once, in increasing order.
-pub fn list_below(alloc: Global, locks: &[Lock], action: Uid) -> Result<Uids, AllocError>
-    ensures { IfOk result (λ holders. AreBelow action (rows_of locks.now) holders) }
+pub fn list_below(alloc: Global, grants: &Grants, action: Uid) -> Result<Uids, AllocError>
+    ensures { IfOk result (λ holders. AreBelow action (rows_in grants.now) holders) }
 {
-    let kept = locks_below(alloc, locks, action)?;
-    let holders = holders_of(alloc, kept.as_slice())?;
+    let holders = holders_of(alloc, grants, action)?;
     listed(alloc, &holders)
 }

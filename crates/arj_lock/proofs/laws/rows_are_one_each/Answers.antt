@@ -2,7 +2,7 @@ use Rattle.std.proofs.Common.{not}
 use Rattle.arj_base.specs.Rows.{is_on}
 use Rattle.arj_base.specs.Uid.{uid_eq}
 use Rattle.arj_lock.specs.Requests.{lowered}
-use Rattle.arj_lock.proofs.Grants.{lowered_object, lowered_holder}
+use Rattle.arj_lock.proofs.Own.{lowered_object, lowered_holder}
 use Rattle.arj_lock.proofs.OneEach.{one_each_grant, one_each_filter, one_each_map}
 use Rattle.arj_lock.proofs.Uniqueness.{one_each_pass}
 use Rattle.arj_lock.proofs.laws.rows_are_one_each.Goals as goal

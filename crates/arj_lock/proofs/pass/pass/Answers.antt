@@ -1,11 +1,17 @@
-use Rattle.std.proofs.Common.{sym, subst}
-use Rattle.arj_lock.specs.Exclusion.{IsOneEach}
-use Rattle.arj_lock.specs.Locks.{rows_of}
-use Rattle.arj_lock.proofs.Uniqueness.{one_each_pass}
+use Rattle.std.proofs.Common.{◌∙◌, ℕ, sym}
+use Rattle.arj_lock.specs.Locks.{rows_in}
+use Rattle.arj_lock.specs.declared.group.Group.TheVariants.{Held}
+use Rattle.arj_lock.specs.declared.lock.Lock.{Lock}
+use Rattle.arj_lock.proofs.Entries.{is_in_group, none_in_group}
+use Rattle.arj_lock.proofs.Passes.{nothing_passes}
 use Rattle.arj_lock.proofs.pass.pass.Goals as goal
 
-pub returns-in-Ok-clause-one_each : goal.returns-in-Ok-clause-one_each
-returns-in-Ok-clause-one_each c = subst IsOneEach (sym c.pass_all.ensures) (one_each_pass c.args.action (rows_of c.args.locks.now.items) c.requires)
+pub pass_one-requires-clause-own : goal.pass_one-requires-clause-own
+pass_one-requires-clause-own c =
+    let e : ℕ × Lock = (c.in-Some.grant, c.in-Some.lock) in
+    is_in_group (Held c.args.action) c.loop-grant.grants e c.in-Some.ensures.sorted (sym c.in-Some.ensures.first)
 
-pub returns-in-Err-clause-one_each : goal.returns-in-Err-clause-one_each
-returns-in-Err-clause-one_each c = subst IsOneEach (sym c.pass_each.ensures) (one_each_pass c.args.action (rows_of c.args.locks.now.items) c.requires)
+pub returns-clause-rows : goal.returns-clause-rows
+returns-clause-rows c =
+    let es = c.loop-grant.grants in
+    sym (nothing_passes c.args.action (rows_in es) (none_in_group (Held c.args.action) es (sym c.in_default.ensures.first))) ∙ c.loop-grant.invariant.rows

@@ -1,19 +1,44 @@
-use Rattle.std.proofs.Common.{◌<◌, arith, length, inl, inr}
-use Rattle.std.proofs.lemmas.List.{length-map}
-use Rattle.arj_base.specs.Rows.{is_row_of}
-use Rattle.arj_lock.specs.Locks.{shown, rows_of}
-use Rattle.arj_lock.specs.Passing.{raised}
-use Rattle.arj_lock.proofs.Locks.{changed_more, current_row, found_more}
+use Rattle.std.proofs.Common.{◌≡◌, ◌∙◌, ℕ, None, Some, ap, rules, sym, true, false}
+use Rattle.std.specs.Option.{option_map}
+use Rattle.std.specs.Prelude.{nat_lt}
+use Rattle.arj_base.specs.Mode.{mode_code, stronger}
+use Rattle.arj_base.specs.declared.mode.Mode.{Mode}
+use Rattle.arj_lock.specs.Locks.{rows_in, shown}
+use Rattle.arj_lock.specs.declared.group.Group.TheVariants.{Own}
+use Rattle.arj_lock.specs.declared.lock.Lock.{Lock}
+use Rattle.arj_lock.proofs.Entries.{is_in_group}
+use Rattle.arj_lock.proofs.Own.{own_changed, own_mode, own_none, own_same, weaker}
 use Rattle.arj_lock.proofs.pass.raise.Goals as goal
-use Rattle.arj_lock.proofs.pass.raise.Goals.{then-found, else-found}
 
-pub loop-i-preserved : goal.loop-i-preserved
-loop-i-preserved c =
-    let within : c.loop-i.i < length (rows_of c.args.locks.now.items) = omega (arith, length-map c.args.locks.now.items shown, c.loop-i-test.true, c.len-i-end.ensures) in
-    record {
-      rows = changed_more (raised c.args.object c.args.action c.args.mode) (rows_of c.args.locks.now.items) c.loop-i.locks.items c.loop-i.i c.index_mut.result.now c.raise_one-here.new.lock within c.loop-i.invariant.rows c.index_mut.ensures.value c.raise_one-here.ensures.row;
-      found =
-          found_more (is_row_of c.args.object c.args.action) (rows_of c.args.locks.now.items) c.loop-i.i (shown c.index_mut.result.now) c.loop-i.found c.raise_one-here.result c.if-found.found within c.loop-i.invariant.found c.raise_one-here.ensures.found
-          (current_row (raised c.args.object c.args.action c.args.mode) (rows_of c.args.locks.now.items) c.loop-i.locks.items c.loop-i.i c.index_mut.result.now within c.loop-i.invariant.rows c.index_mut.ensures.value)
-          (elim c.if-found.branch [ then-found w ↦ inl (w.if-found.true, w.found-is) | else-found w ↦ inr (w.if-found.false, w.found-is) ]);
-    }
+pub returns-in_err-grant-clause-rows : goal.returns-in_err-grant-clause-rows
+returns-in_err-grant-clause-rows c = own_none c.args.object c.args.holder (λ row. record row { mode = stronger row.mode c.args.mode }) c.args.grants.now (sym c.in_err-grant.ensures.first)
+
+pub returns-in_err-grant-clause-rose : goal.returns-in_err-grant-clause-rose
+returns-in_err-grant-clause-rose c =
+    c.from_residual.ensures ∙ sym (ap (option_map (λ (held : Mode). nat_lt (mode_code held) (mode_code c.args.mode))) (own_mode c.args.object c.args.holder c.args.grants.now None (sym c.in_err-grant.ensures.first)))
+
+pub returns-then-lt-clause-rows : goal.returns-then-lt-clause-rows
+returns-then-lt-clause-rows c =
+    let e : ℕ × Lock = (c.in_ok-grant.grant, c.in_ok-grant.lock) in
+    ap rows_in c.set.ensures
+    ∙ own_changed c.args.object c.args.holder (λ row. record row { mode = stronger row.mode c.args.mode }) c.args.grants.now e.0 e.1 c.in_ok-grant.ensures.at
+    (is_in_group (Own c.args.object c.args.holder) c.args.grants.now e c.in_ok-grant.ensures.sorted (sym c.in_ok-grant.ensures.first)) c.requires c.with.result c.with.ensures
+
+pub returns-then-lt-clause-rose : goal.returns-then-lt-clause-rose
+returns-then-lt-clause-rose c =
+    let e : ℕ × Lock = (c.in_ok-grant.grant, c.in_ok-grant.lock) in
+    let rose : nat_lt (mode_code c.in_ok-grant.lock.mode) (mode_code c.args.mode) ≡ true = search rules in
+    sym (ap (option_map (λ (held : Mode). nat_lt (mode_code held) (mode_code c.args.mode))) (own_mode c.args.object c.args.holder c.args.grants.now (Some e) (sym c.in_ok-grant.ensures.first)) ∙ ap Some rose)
+
+pub returns-clause-rows : goal.returns-clause-rows
+returns-clause-rows c =
+    let e : ℕ × Lock = (c.in_ok-grant.grant, c.in_ok-grant.lock) in
+    let weak : nat_lt (mode_code c.in_ok-grant.lock.mode) (mode_code c.args.mode) ≡ false = search rules in
+    own_same c.args.object c.args.holder (λ row. record row { mode = stronger row.mode c.args.mode }) c.args.grants.now e.0 e.1 c.in_ok-grant.ensures.at
+    (is_in_group (Own c.args.object c.args.holder) c.args.grants.now e c.in_ok-grant.ensures.sorted (sym c.in_ok-grant.ensures.first)) c.requires (λ i. record (shown e.1) { mode = weaker e.1.mode c.args.mode weak i })
+
+pub returns-clause-rose : goal.returns-clause-rose
+returns-clause-rose c =
+    let e : ℕ × Lock = (c.in_ok-grant.grant, c.in_ok-grant.lock) in
+    let weak : nat_lt (mode_code c.in_ok-grant.lock.mode) (mode_code c.args.mode) ≡ false = search rules in
+    sym (ap (option_map (λ (held : Mode). nat_lt (mode_code held) (mode_code c.args.mode))) (own_mode c.args.object c.args.holder c.args.grants.now (Some e) (sym c.in_ok-grant.ensures.first)) ∙ ap Some weak)
