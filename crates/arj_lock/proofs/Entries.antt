@@ -1,5 +1,6 @@
 -- Locks under their grants: one that is found, one that comes, one that goes.
 use Rattle.std.proofs.Common.{◌≡◌, ℕ, suc, ◌+◌, ◌<◌, ◌≤◌, Bool, true, false, cond, not, ◌&&◌, ◌||◌, List, [], ◌∷◌, ◌++◌, length, filter, find, Option, Some, None, refl, sym, ◌∙◌, ap, subst, arith}
+use Rattle.std.proofs.Math.Bool.{or-false}
 use Rattle.std.proofs.lemmas.Bool.{and_parts}
 use Rattle.std.proofs.lemmas.Bool.Decides.{nat_tests}
 use Rattle.std.proofs.lemmas.Map.Keys.{ge_from_not_lt}
@@ -11,11 +12,12 @@ use Rattle.std.specs.List.{All, AllByRecursion, list_any}
 use Rattle.std.specs.List.Sorted.{IsStrictlySortedBy}
 use Rattle.std.specs.Map.{keys_of, remove_entry, set_value}
 use Rattle.std.specs.Option.{IfSome, is_some, option_map}
-use Rattle.std.specs.Ordering.{is_eq, is_lt, match_ordering, nat_cmp}
-use Rattle.std.specs.declared.cmp.Ordering.TheVariants.{Less, Greater}
+use Rattle.std.specs.Ordering.{is_eq, is_lt, match_ordering, nat_cmp, ordering_reverse}
+use Rattle.std.specs.declared.cmp.Ordering.{Ordering}
+use Rattle.std.specs.declared.cmp.Ordering.TheVariants.{Less, Equal, Greater}
 use Rattle.arj_base.specs.Rows.{Row}
 use Rattle.arj_lock.specs.Groups.{has, is_after, is_next}
-use Rattle.arj_lock.specs.Index.{AreIndexed, IsAbove, IsFirst, has_lock, lock_at, put_lock, stands, without_lock}
+use Rattle.arj_lock.specs.Index.{AreIndexed, IsAbove, IsFirst, Joins, has_lock, lock_at, put_lock, stands, without_lock}
 use Rattle.arj_lock.specs.Locks.{rows_in, shown}
 use Rattle.arj_lock.specs.declared.group.Group.{Group}
 use Rattle.arj_lock.specs.declared.group.Member.{Member}
@@ -186,6 +188,36 @@ put_again n lock at m = by (is_eq (nat_cmp n m))
 
 pub gone_here : (n : ℕ) (at : ℕ → Option Lock) → without_lock n at n ≡ None
 gone_here n at = λ i. cond (itself n i) None (at n)
+
+-- ---- the index of all, one lock more
+
+-- nothing later is under the grant
+alone : (e : ℕ × Lock) (es : List (ℕ × Lock)) → Rises (e ∷ es) → lock_at e.0 es ≡ None
+alone e es rises = by (lock_at e.0 es) refl
+  where
+    by : (o : Option Lock) → lock_at e.0 es ≡ o → lock_at e.0 es ≡ None
+    by None is = is
+    by (Some lock) is = let less = (later e es e.0 lock rises is).0 in absurd (omega (arith, less))
+
+pub one_indexed : (e : ℕ × Lock) (es : List (ℕ × Lock)) → Rises (e ∷ es) → (old new : BTreeSet Member) → Joins e.0 e.1 old new → (g : Group) (n : ℕ) (whole : Bool)
+    → (stands old g n || has_lock g (lock_at n (e ∷ es))) ≡ whole → (stands new g n || has_lock g (lock_at n es)) ≡ whole
+one_indexed e es rises old new joins g n whole are = (λ i. joins g n i || has_lock g (lock_at n es)) ∙ by (is_eq (nat_cmp n e.0)) refl ∙ are
+  where
+    turned : is_eq (nat_cmp e.0 n) ≡ is_eq (nat_cmp n e.0)
+    turned = ap is_eq (nat_cmp_total.antisymm e.0 n) ∙ reversed (nat_cmp n e.0)
+      where
+        reversed : (o : Ordering) → is_eq (ordering_reverse o) ≡ is_eq o
+        reversed Less = refl
+        reversed Equal = refl
+        reversed Greater = refl
+
+    by : (b : Bool) → is_eq (nat_cmp n e.0) ≡ b → ((stands old g n || (is_eq (nat_cmp e.0 n) && has g (shown e.1))) || has_lock g (lock_at n es)) ≡ (stands old g n || has_lock g (cond (is_eq (nat_cmp n e.0)) (Some e.1) (lock_at n es)))
+    by true is =
+        (λ i. (stands old g n || ((turned ∙ is) i && has g (shown e.1))) || has_lock g ((ap (λ m. lock_at m es) (number n e.0 is) ∙ alone e es rises) i))
+        ∙ or-false (stands old g n || has g (shown e.1)) ∙ (λ i. stands old g n || has_lock g (cond (sym is i) (Some e.1) (lock_at n es)))
+    by false is =
+        (λ i. (stands old g n || ((turned ∙ is) i && has g (shown e.1))) || has_lock g (lock_at n es)) ∙ (λ i. or-false (stands old g n) i || has_lock g (lock_at n es))
+        ∙ (λ i. stands old g n || has_lock g (cond (sym is i) (Some e.1) (lock_at n es)))
 
 -- ---- what a search among the locks says of the rows
 

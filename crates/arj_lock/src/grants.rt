@@ -1,23 +1,23 @@
 // Locks in order of granting, and how they are found.
-ghost use Rattle.std.specs.Prelude.{◌≡◌, ◌++◌, ◌∷◌, ◌&&◌, [], ℕ, List, None, Some, IfOk, IfSome, OnOk, OnErr, filter, find, is_some, not, true};
+ghost use Rattle.std.specs.Prelude.{◌≡◌, ◌++◌, ◌∷◌, ◌&&◌, [], ℕ, List, Option, None, Some, IfOk, IfSome, OnOk, OnErr, filter, find, is_some, not, true};
 ghost use Rattle.std.specs.BTreeMap.{is_at};
 ghost use Rattle.std.specs.List.Sorted.{IsStrictlySortedBy};
 ghost use Rattle.std.specs.Map.{keys_of, remove_entry, set_value};
 ghost use Rattle.std.specs.Ordering.{nat_cmp};
 ghost use Rattle.arj_lock.specs.Groups.{has, is_after, is_next};
-ghost use Rattle.arj_lock.specs.Index.{IsAbove, lock_at, put_lock};
+ghost use Rattle.arj_lock.specs.Index.{AreIndexed, IsAbove, lock_at, put_lock, without_lock};
 ghost use Rattle.arj_lock.specs.Locks.{rows_in, shown};
 ghost use Rattle.arj_lock.specs.declared.lock.Lock.{Lock};
 
 use crate::group::{Group, is_in};
-use crate::index::{Index, first, joined, left};
+use crate::index::{Index, first, joined, left, made};
 use crate::lock::Lock;
 use std::alloc::{AllocError, Global};
 use std::collections::BTreeMap;
 use std::marker::Model;
 
 /// Locks under their grants, which count up. Contracts see them in that order. An index finds those of a group: where
-/// memory for it is wanting it is let go, and a look over all locks does in its place, until no lock is left.
+/// memory for it is wanting it is let go, and a look over all locks does in its place, until a lock is granted.
 #[derive(Drop)]
 pub struct Grants {
     alloc: Global,
@@ -72,7 +72,7 @@ impl Grants {
             return Err(AllocError);
         };
         self.locks.insert(grant, lock)?;
-        self.index = joined(self.index.take(), &lock, grant);
+        self.index = renewed(self.alloc, self.index.take(), &self.locks, &lock, grant);
         Ok(())
     }
 
@@ -81,8 +81,7 @@ impl Grants {
         requires { lock_at grant self.old ≡ Some old.now }
         ensures { self.new ≡ set_value (is_at (nat_cmp grant)) self.old lock }
     {
-        let index = left(self.index.take(), old, grant);
-        self.index = joined(index, &lock, grant);
+        self.index = exchanged(self.index.take(), old, &lock, grant);
         replace(&mut self.locks, grant, lock);
     }
 
@@ -91,7 +90,7 @@ impl Grants {
         requires { lock_at grant self.old ≡ Some old.now }
         ensures { self.new ≡ remove_entry (is_at (nat_cmp grant)) self.old }
     {
-        self.index = left(self.index.take(), old, grant);
+        self.index = taken(self.index.take(), old, grant);
         self.locks.remove(&grant);
     }
 
@@ -123,6 +122,37 @@ fn next(locks: &BTreeMap<u64, Lock>) -> Option<u64>
         }
         None => Some(0),
     }
+}
+
+// The index with one more lock, or a new one where there was none.
+fn renewed(
+    alloc: Global,
+    index: Option<Index>,
+    locks: &BTreeMap<u64, Lock>,
+    lock: &Lock,
+    grant: u64,
+) -> Option<Index>
+    ensures { (at : ℕ → Option Lock) → at grant ≡ None → AreIndexed at index → ((n : ℕ) → lock_at n locks.now.entries ≡ put_lock grant lock.now at n) → AreIndexed (λ n. lock_at n locks.now.entries) result }
+{
+    match index {
+        Some(index) => joined(index, lock, grant),
+        None => made(alloc, locks),
+    }
+}
+
+// The index without a lock.
+fn taken(index: Option<Index>, old: &Lock, grant: u64) -> Option<Index>
+    ensures { (at : ℕ → Option Lock) → at grant ≡ Some old.now → AreIndexed at index → AreIndexed (without_lock grant at) result }
+{
+    Some(left(index?, old, grant))
+}
+
+// The index with another lock in a lock's place.
+fn exchanged(index: Option<Index>, old: &Lock, lock: &Lock, grant: u64) -> Option<Index>
+    ensures { (at : ℕ → Option Lock) → at grant ≡ Some old.now → AreIndexed at index → AreIndexed (put_lock grant lock.now at) result }
+{
+    let index = left(index?, old, grant);
+    joined(index, lock, grant)
 }
 
 // Puts another lock in a lock's place.

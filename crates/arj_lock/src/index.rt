@@ -4,7 +4,7 @@ ghost use Rattle.std.specs.List.{list_any};
 ghost use Rattle.std.specs.Ordering.{is_eq, nat_cmp};
 ghost use Rattle.arj_base.specs.Mode.{conflicting};
 ghost use Rattle.arj_lock.specs.Groups.{has, is_after, same, start};
-ghost use Rattle.arj_lock.specs.Index.{AreIndexed, IsFirst, Joins, Leaves, put_lock, stands, without_lock};
+ghost use Rattle.arj_lock.specs.Index.{AreIndexed, IsFirst, Joins, Leaves, lock_at, put_lock, stands, without_lock};
 ghost use Rattle.arj_lock.specs.Locks.{shown};
 ghost use Rattle.arj_lock.specs.declared.group.Group.{Group};
 ghost use Rattle.arj_lock.specs.declared.group.Group.TheVariants as group;
@@ -13,8 +13,8 @@ ghost use Rattle.arj_lock.specs.declared.lock.Lock.{Lock};
 use crate::group::{Group, Member};
 use crate::lock::Lock;
 use arj_base::{Mode, Uid, conflicts};
-use std::alloc::AllocError;
-use std::collections::BTreeSet;
+use std::alloc::{AllocError, Global};
+use std::collections::{BTreeMap, BTreeSet};
 use std::ops::Bound;
 
 /// The members of all groups.
@@ -105,24 +105,38 @@ fn leave(index: &mut Index, lock: &Lock, grant: u64)
     take_below(index, lock.path.as_slice(), grant);
 }
 
-/// The index with one more lock. None where memory is wanting, or where there was no index.
-pub fn joined(index: Option<Index>, lock: &Lock, grant: u64) -> Option<Index>
-    ensures { (at : ℕ → Option Lock) → at grant ≡ None → AreIndexed at index → AreIndexed (put_lock grant lock.now at) result }
+/// The index with one more lock. None where memory is wanting.
+pub fn joined(index: Index, lock: &Lock, grant: u64) -> Option<Index>
+    ensures { (at : ℕ → Option Lock) → at grant ≡ None → AreIndexed at (Some index) → AreIndexed (put_lock grant lock.now at) result }
 {
-    let mut index = index?;
+    let mut index = index;
     match join(&mut index, lock, grant) {
         Ok(()) => Some(index),
         Err(_) => None,
     }
 }
 
-/// The index without a lock.
-pub fn left(index: Option<Index>, lock: &Lock, grant: u64) -> Option<Index>
-    ensures { (at : ℕ → Option Lock) → at grant ≡ Some lock.now → AreIndexed at index → AreIndexed (without_lock grant at) result }
+/// The index of all these locks. None where memory is wanting.
+pub fn made(alloc: Global, locks: &BTreeMap<u64, Lock>) -> Option<Index>
+    ensures { AreIndexed (λ n. lock_at n locks.now.entries) result }
 {
-    let mut index = index?;
-    leave(&mut index, lock, grant);
+    let mut index = Index::new(alloc);
+    for (grant, lock) in locks.iter() {
+        match join(&mut index, lock, *grant) {
+            Ok(()) => {}
+            Err(_) => return None,
+        }
+    }
     Some(index)
+}
+
+/// The index without a lock.
+pub fn left(index: Index, lock: &Lock, grant: u64) -> Index
+    ensures { (at : ℕ → Option Lock) → at grant ≡ Some lock.now → AreIndexed at (Some index) → AreIndexed (without_lock grant at) (Some result) }
+{
+    let mut index = index;
+    leave(&mut index, lock, grant);
+    index
 }
 
 // Where a look at a group begins.

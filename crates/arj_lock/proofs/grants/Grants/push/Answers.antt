@@ -1,7 +1,6 @@
-use Rattle.std.proofs.Common.{◌∙◌, ◌++◌, ◌∷◌, [], ℕ, Option, ap, sym, subst}
+use Rattle.std.proofs.Common.{◌∙◌, ◌++◌, ◌∷◌, [], ap, sym, subst}
 use Rattle.arj_lock.specs.Index.{AreIndexed, lock_at}
 use Rattle.arj_lock.specs.Locks.{rows_in, shown}
-use Rattle.arj_lock.specs.declared.lock.Lock.{Lock}
 use Rattle.arj_lock.proofs.Entries.{none_above, pushed, rows_append}
 use Rattle.arj_lock.proofs.grants.Grants.push.Goals as goal
 
@@ -11,8 +10,7 @@ invariant_of-self-2 c =
     record {
       sorted = c.insert.ensures.ordered;
       indexed =
-          subst (λ (at : ℕ → Option Lock). AreIndexed at c.joined.result) (λ i n. sym (c.in_ok-insert.ensures.updates.0 n) i)
-          (c.joined.ensures (λ n. lock_at n old) (none_above c.in-Some.grant c.args.lock old c.in-Some.ensures) (subst (AreIndexed (λ n. lock_at n old)) (sym c.take.ensures.value) c.self.invariant.indexed));
+          c.renewed.ensures (λ n. lock_at n old) (none_above c.in-Some.grant c.args.lock old c.in-Some.ensures) (subst (AreIndexed (λ n. lock_at n old)) (sym c.take.ensures.value) c.self.invariant.indexed) c.in_ok-insert.ensures.updates.0;
     }
 
 pub returns-clause-ok : goal.returns-clause-ok

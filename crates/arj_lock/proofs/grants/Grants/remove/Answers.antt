@@ -9,6 +9,6 @@ invariant_of-self c =
     record {
       sorted = c.remove.ensures.ordered;
       indexed =
-          subst (λ (at : ℕ → Option Lock). AreIndexed at c.left.result) (λ i n. sym (c.remove.ensures.updates.0 n) i)
-          (c.left.ensures (λ n. lock_at n old) (ap (lock_at c.args.grant) c.self.view_is ∙ c.requires) (subst (AreIndexed (λ n. lock_at n old)) (sym c.take.ensures.value) c.self.invariant.indexed));
+          subst (λ (at : ℕ → Option Lock). AreIndexed at c.taken.result) (λ i n. sym (c.remove.ensures.updates.0 n) i)
+          (c.taken.ensures (λ n. lock_at n old) (ap (lock_at c.args.grant) c.self.view_is ∙ c.requires) (subst (AreIndexed (λ n. lock_at n old)) (sym c.take.ensures.value) c.self.invariant.indexed));
     }
