@@ -1,15 +1,18 @@
 //! Work for the benches: without words it does nothing; with a number of rows and a number of requests it makes that
 //! many requests of a lock table with that many rows, and prints what they were answered. With `pass`, a number of
 //! locks and a number of passes, an action that is nested deep takes that many locks, and they pass that often to the
-//! parent. With `objects`, a number of objects and a number of tops, that many tops work on that many active objects.
+//! parent. With `holders`, a number of tops and a number of times, that many tops read one object, and so often another one
+//! comes and ends. With `objects`, a number of objects and a number of tops, that many tops work on that many active objects.
 //!
 //! It stands on `arj_lock` and `arj_manager`. The time is taken from outside, by `bench/locks` and `bench/objects`.
 #![tactic(auto)]
 
+mod holders;
 mod locks;
 mod objects;
 mod passes;
 
+use holders::{come_and_go, fill_held};
 use locks::{Count, fill, request_all};
 use passes::{depth_of_holder, fill_deepest, pass_up};
 use std::process::ExitCode;
@@ -37,6 +40,12 @@ fn run(rt: &HostRuntime) -> io::Result<bool> {
             return Ok(false);
         };
         return pass(rt, requests.as_str(), passes.as_str());
+    }
+    if rows.as_str() == "holders" {
+        let Some(times) = words.next() else {
+            return Ok(false);
+        };
+        return hold(rt, requests.as_str(), times.as_str());
     }
     if rows.as_str() == "objects" {
         let Some(tops) = words.next() else {
@@ -71,6 +80,17 @@ fn pass(rt: &HostRuntime, locks: &str, passes: &str) -> io::Result<bool> {
     let first = depth_of_holder(&table, 1);
     let last = depth_of_holder(&table, locks);
     println!(rt; "{locks} locks, {passes} passes: to depth {first} and {last}")?;
+    Ok(true)
+}
+
+// Lets tops come to an object that others hold, as the words ask, and answers whether they are right.
+fn hold(rt: &HostRuntime, holders: &str, times: &str) -> io::Result<bool> {
+    let (Ok(holders), Ok(times)) = (holders.parse::<u16>(), times.parse::<u32>()) else {
+        return Ok(false);
+    };
+    let mut table = fill_held(rt.alloc(), holders)?;
+    let Count { granted, refused } = come_and_go(&mut table, times)?;
+    println!(rt; "{holders} holders, {times} tops: {granted} granted, {refused} refused")?;
     Ok(true)
 }
 

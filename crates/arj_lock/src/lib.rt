@@ -6,6 +6,11 @@
 //! over whatever relation "it is or stands above it" the caller gives; `rows_exclude`, the same by paths that agree;
 //! `rows_are_one_each`: no action has two rows of one object; and in `effects` what each step leaves of the modes, by object
 //! and holder, of who has a row, and of each row.
+//!
+//! Locks stand under their grants, and an index (`index.rt`) finds them by group: an action's own on an object, those that it
+//! passes or drops, those that conflict with a mode. So a call costs the logarithm of all locks for each that it changes or
+//! lists, and a conflict is found behind at most as many as the path has actions. Where memory for the index is wanting, a
+//! look over all locks does.
 #![tactic(auto)]
 
 mod effects;
