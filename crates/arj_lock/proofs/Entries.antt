@@ -129,7 +129,7 @@ module _ (p : ℕ × Lock → Bool) where
   if_found es (Some e) rises is = (found_at es e rises (sym is)).0
 
 -- and so by an index
-module _ (group : Group) (after : Option ℕ) (es : List (ℕ × Lock)) (index : BTreeSet Member) (rises : Rises es) (are : AreIndexed (λ n. lock_at n es) (Some index)) where
+module _ (group : Group) (after : Option ℕ) (es : List (ℕ × Lock)) (index : BTreeSet Member) (rises : Rises es) (are : AreIndexed (λ n. lock_at n es) index) where
   abbrev test : ℕ → Bool
   test n = stands index group n && is_after after n
 

@@ -16,7 +16,7 @@ use Rattle.arj_base.specs.Path.{uids_of}
 use Rattle.arj_base.specs.Rows.{last_uid}
 use Rattle.arj_base.specs.declared.mode.Mode.TheVariants.{Read, Exclude, Write}
 use Rattle.arj_lock.specs.Groups.{has, is_after, member_order, same, start}
-use Rattle.arj_lock.specs.Index.{AreIndexed, IsFirst, Joins, Leaves, has_lock, put_lock, stands, without_lock}
+use Rattle.arj_lock.specs.Index.{AreIndexed, IsFirst, IsIndex, Joins, Leaves, has_lock, put_lock, stands, without_lock}
 use Rattle.arj_lock.specs.Locks.{shown}
 use Rattle.arj_lock.specs.declared.group.Group.{Group}
 use Rattle.arj_lock.specs.declared.group.Group.TheVariants.{Own, Held, Below}
@@ -145,14 +145,14 @@ module _ (lock : Lock) (grant : ℕ) (g : Group) (n : ℕ) (old new s1 s2 s3 s4 
 
 -- ---- a lock comes or goes
 
-pub joined_is : (grant : ℕ) (lock : Lock) (old new : BTreeSet Member) → Joins grant lock old new → (at : ℕ → Option Lock) → at grant ≡ None → AreIndexed at (Some old) → AreIndexed (put_lock grant lock at) (Some new)
+pub joined_is : (grant : ℕ) (lock : Lock) (old new : BTreeSet Member) → Joins grant lock old new → (at : ℕ → Option Lock) → at grant ≡ None → AreIndexed at old → AreIndexed (put_lock grant lock at) new
 joined_is grant lock old new joins at none are g n = joins g n ∙ (λ i. are g n i || (is_eq (nat_cmp grant n) && has g (shown lock))) ∙ by (is_eq (nat_cmp grant n)) refl
   where
     by : (b : Bool) → is_eq (nat_cmp grant n) ≡ b → (has_lock g (at n) || (b && has g (shown lock))) ≡ has_lock g (cond b (Some lock) (at n))
     by true own = (λ i. has_lock g ((ap at (sym (number grant n own)) ∙ none) i) || has g (shown lock))
     by false other = or-false (has_lock g (at n))
 
-pub left_is : (grant : ℕ) (lock : Lock) (old new : BTreeSet Member) → Leaves grant lock old new → (at : ℕ → Option Lock) → at grant ≡ Some lock → AreIndexed at (Some old) → AreIndexed (without_lock grant at) (Some new)
+pub left_is : (grant : ℕ) (lock : Lock) (old new : BTreeSet Member) → Leaves grant lock old new → (at : ℕ → Option Lock) → at grant ≡ Some lock → AreIndexed at old → AreIndexed (without_lock grant at) new
 left_is grant lock old new leaves at there are g n = leaves g n ∙ (λ i. are g n i && not (is_eq (nat_cmp grant n) && has g (shown lock))) ∙ by (is_eq (nat_cmp grant n)) refl
   where
     gone : (b : Bool) → (b && not b) ≡ false
@@ -166,6 +166,10 @@ left_is grant lock old new leaves at there are g n = leaves g n ∙ (λ i. are g
     by : (b : Bool) → is_eq (nat_cmp grant n) ≡ b → (has_lock g (at n) && not (b && has g (shown lock))) ≡ has_lock g (cond b None (at n))
     by true own = (λ i. has_lock g ((ap at (sym (number grant n own)) ∙ there) i) && not (has g (shown lock))) ∙ gone (has g (shown lock))
     by false other = stays (has_lock g (at n))
+
+pub left_index : (grant : ℕ) (lock : Lock) (old new : BTreeSet Member) → Leaves grant lock old new → (at : ℕ → Option Lock) → at grant ≡ Some lock → (whole : Bool) → IsIndex at whole old → IsIndex (without_lock grant at) whole new
+left_index grant lock old new leaves at there true are = left_is grant lock old new leaves at there are
+left_index grant lock old new leaves at there false are = tt
 
 -- ---- the first member of a group
 

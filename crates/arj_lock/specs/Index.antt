@@ -21,9 +21,13 @@ has_lock g None = false
 has_lock g (Some lock) = has g (shown lock)
 
 -- the members of each group are the locks that are in it
-abbrev pub AreIndexed : (ℕ → Option Lock) → Option (BTreeSet Member) → Type 0
-AreIndexed at None = ⊤
-AreIndexed at (Some index) = (g : Group) (n : ℕ) → stands index g n ≡ has_lock g (at n)
+abbrev pub AreIndexed : (ℕ → Option Lock) → BTreeSet Member → Type 0
+AreIndexed at index = (g : Group) (n : ℕ) → stands index g n ≡ has_lock g (at n)
+
+-- and so where the index is whole
+abbrev pub IsIndex : (ℕ → Option Lock) → Bool → BTreeSet Member → Type 0
+IsIndex at true index = AreIndexed at index
+IsIndex at false index = ⊤
 
 -- one more lock is in all its groups
 abbrev pub Joins : ℕ → Lock → BTreeSet Member → BTreeSet Member → Type 0
@@ -50,10 +54,10 @@ IsFirst test (Some n) = (test n ≡ true) × ((m : ℕ) → test m ≡ true → 
 abbrev pub lock_at : ℕ → List (ℕ × Lock) → Option Lock
 lock_at n grants = lookup (is_at (nat_cmp n)) grants
 
--- locks in order of granting, and their index
-pub record AreKept (grants : List (ℕ × Lock)) (index : Option (BTreeSet Member)) : Type 0 where
+-- locks in order of granting, and their index, if it is whole
+pub record AreKept (grants : List (ℕ × Lock)) (whole : Bool) (index : BTreeSet Member) : Type 0 where
   pub sorted : IsStrictlySortedBy nat_cmp (keys_of grants)
-  pub indexed : AreIndexed (λ n. lock_at n grants) index
+  pub indexed : IsIndex (λ n. lock_at n grants) whole index
 
 -- all grants are below this number
 abbrev pub IsAbove : List (ℕ × Lock) → ℕ → Type 0

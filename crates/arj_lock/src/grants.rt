@@ -5,12 +5,12 @@ ghost use Rattle.std.specs.List.Sorted.{IsStrictlySortedBy};
 ghost use Rattle.std.specs.Map.{keys_of, remove_entry, set_value};
 ghost use Rattle.std.specs.Ordering.{nat_cmp};
 ghost use Rattle.arj_lock.specs.Groups.{has, is_after, is_next};
-ghost use Rattle.arj_lock.specs.Index.{AreIndexed, IsAbove, lock_at, put_lock, without_lock};
+ghost use Rattle.arj_lock.specs.Index.{IsAbove, IsIndex, lock_at, put_lock};
 ghost use Rattle.arj_lock.specs.Locks.{rows_in, shown};
 ghost use Rattle.arj_lock.specs.declared.lock.Lock.{Lock};
 
 use crate::group::{Group, is_in};
-use crate::index::{Index, first, joined, left, made};
+use crate::index::{Index, first, joined, leave, made};
 use crate::lock::Lock;
 use std::alloc::{AllocError, Global};
 use std::collections::BTreeMap;
@@ -20,9 +20,9 @@ use std::marker::Model;
 /// memory for it is wanting it is let go, and a look over all locks does in its place, until a lock is granted.
 #[derive(Drop)]
 pub struct Grants {
-    alloc: Global,
     locks: BTreeMap<u64, Lock>,
-    index: Option<Index>,
+    index: Index,
+    whole: bool,
 }
 
 impl Model for Grants {
@@ -34,7 +34,7 @@ impl Model for Grants {
 
     ghost view = { λ g. g.locks.entries };
 
-    ghost invariant = { λ g. AreKept g.locks.entries g.index };
+    ghost invariant = { λ g. AreKept g.locks.entries g.whole g.index };
 }
 
 impl Grants {
@@ -43,9 +43,9 @@ impl Grants {
         ensures { result ≡ [] }
     {
         Grants {
-            alloc,
             locks: BTreeMap::new(alloc),
-            index: Some(Index::new(alloc)),
+            index: Index::new(alloc),
+            whole: true,
         }
     }
 
@@ -55,10 +55,10 @@ impl Grants {
         ensures at { IfSome result (λ e. lock_at e.0 self.now ≡ Some e.1) }
         ensures sorted { IsStrictlySortedBy nat_cmp (keys_of self.now) }
     {
-        let Some(index) = &self.index else {
+        if !self.whole {
             return scan(&self.locks, group, after);
-        };
-        let grant = first(index, group, after)?;
+        }
+        let grant = first(&self.index, group, after)?;
         let lock = *self.locks.get(&grant)?;
         Some((grant, lock))
     }
@@ -72,7 +72,7 @@ impl Grants {
             return Err(AllocError);
         };
         self.locks.insert(grant, lock)?;
-        self.index = renewed(self.alloc, self.index.take(), &self.locks, &lock, grant);
+        self.whole = renewed(&mut self.index, self.whole, &self.locks, &lock, grant);
         Ok(())
     }
 
@@ -81,7 +81,7 @@ impl Grants {
         requires { lock_at grant self.old ≡ Some old.now }
         ensures { self.new ≡ set_value (is_at (nat_cmp grant)) self.old lock }
     {
-        self.index = exchanged(self.index.take(), old, &lock, grant);
+        self.whole = exchanged(&mut self.index, self.whole, old, &lock, grant);
         replace(&mut self.locks, grant, lock);
     }
 
@@ -90,7 +90,7 @@ impl Grants {
         requires { lock_at grant self.old ≡ Some old.now }
         ensures { self.new ≡ remove_entry (is_at (nat_cmp grant)) self.old }
     {
-        self.index = taken(self.index.take(), old, grant);
+        leave(&mut self.index, old, grant);
         self.locks.remove(&grant);
     }
 
@@ -124,34 +124,30 @@ fn next(locks: &BTreeMap<u64, Lock>) -> Option<u64>
     }
 }
 
-// The index with one more lock, or a new one where there was none.
+// One more lock in the index, or a new index where it wasn't whole; and whether it is whole then.
 fn renewed(
-    alloc: Global,
-    index: Option<Index>,
+    index: &mut Index,
+    whole: bool,
     locks: &BTreeMap<u64, Lock>,
     lock: &Lock,
     grant: u64,
-) -> Option<Index>
-    ensures { (at : ℕ → Option Lock) → at grant ≡ None → AreIndexed at index → ((n : ℕ) → lock_at n locks.now.entries ≡ put_lock grant lock.now at n) → AreIndexed (λ n. lock_at n locks.now.entries) result }
+) -> bool
+    ensures { (at : ℕ → Option Lock) → at grant ≡ None → IsIndex at whole index.old → ((n : ℕ) → lock_at n locks.now.entries ≡ put_lock grant lock.now at n) → IsIndex (λ n. lock_at n locks.now.entries) result index.new }
 {
-    match index {
-        Some(index) => joined(index, lock, grant),
-        None => made(alloc, locks),
+    if whole {
+        return joined(index, lock, grant);
     }
+    made(index, locks)
 }
 
-// The index without a lock.
-fn taken(index: Option<Index>, old: &Lock, grant: u64) -> Option<Index>
-    ensures { (at : ℕ → Option Lock) → at grant ≡ Some old.now → AreIndexed at index → AreIndexed (without_lock grant at) result }
+// Another lock in a lock's place in the index, and whether it is whole then.
+fn exchanged(index: &mut Index, whole: bool, old: &Lock, lock: &Lock, grant: u64) -> bool
+    ensures { (at : ℕ → Option Lock) → at grant ≡ Some old.now → IsIndex at whole index.old → IsIndex (put_lock grant lock.now at) result index.new }
 {
-    Some(left(index?, old, grant))
-}
-
-// The index with another lock in a lock's place.
-fn exchanged(index: Option<Index>, old: &Lock, lock: &Lock, grant: u64) -> Option<Index>
-    ensures { (at : ℕ → Option Lock) → at grant ≡ Some old.now → AreIndexed at index → AreIndexed (put_lock grant lock.now at) result }
-{
-    let index = left(index?, old, grant);
+    leave(index, old, grant);
+    if !whole {
+        return false;
+    }
     joined(index, lock, grant)
 }
 

@@ -4,7 +4,7 @@ ghost use Rattle.std.specs.List.{list_any};
 ghost use Rattle.std.specs.Ordering.{is_eq, nat_cmp};
 ghost use Rattle.arj_base.specs.Mode.{conflicting};
 ghost use Rattle.arj_lock.specs.Groups.{has, is_after, same, start};
-ghost use Rattle.arj_lock.specs.Index.{AreIndexed, IsFirst, Joins, Leaves, lock_at, put_lock, stands, without_lock};
+ghost use Rattle.arj_lock.specs.Index.{AreIndexed, IsFirst, IsIndex, Joins, Leaves, lock_at, put_lock, stands};
 ghost use Rattle.arj_lock.specs.Locks.{shown};
 ghost use Rattle.arj_lock.specs.declared.group.Group.{Group};
 ghost use Rattle.arj_lock.specs.declared.group.Group.TheVariants as group;
@@ -13,7 +13,7 @@ ghost use Rattle.arj_lock.specs.declared.lock.Lock.{Lock};
 use crate::group::{Group, Member};
 use crate::lock::Lock;
 use arj_base::{Mode, Uid, conflicts};
-use std::alloc::{AllocError, Global};
+use std::alloc::AllocError;
 use std::collections::{BTreeMap, BTreeSet};
 use std::ops::Bound;
 
@@ -91,8 +91,8 @@ fn take_below(index: &mut Index, path: &[Uid], grant: u64)
     }
 }
 
-// Takes a lock out of all its groups.
-fn leave(index: &mut Index, lock: &Lock, grant: u64)
+/// Takes a lock out of all its groups.
+pub fn leave(index: &mut Index, lock: &Lock, grant: u64)
     ensures { Leaves grant lock.now index.old index.new }
 {
     let object = lock.object;
@@ -105,38 +105,34 @@ fn leave(index: &mut Index, lock: &Lock, grant: u64)
     take_below(index, lock.path.as_slice(), grant);
 }
 
-/// The index with one more lock. None where memory is wanting.
-pub fn joined(index: Index, lock: &Lock, grant: u64) -> Option<Index>
-    ensures { (at : ℕ → Option Lock) → at grant ≡ None → AreIndexed at (Some index) → AreIndexed (put_lock grant lock.now at) result }
+/// One more lock, and whether there was memory for it: if not, the index is let go.
+pub fn joined(index: &mut Index, lock: &Lock, grant: u64) -> bool
+    ensures { (at : ℕ → Option Lock) → at grant ≡ None → AreIndexed at index.old → IsIndex (put_lock grant lock.now at) result index.new }
 {
-    let mut index = index;
-    match join(&mut index, lock, grant) {
-        Ok(()) => Some(index),
-        Err(_) => None,
-    }
-}
-
-/// The index of all these locks. None where memory is wanting.
-pub fn made(alloc: Global, locks: &BTreeMap<u64, Lock>) -> Option<Index>
-    ensures { AreIndexed (λ n. lock_at n locks.now.entries) result }
-{
-    let mut index = Index::new(alloc);
-    for (grant, lock) in locks.iter() {
-        match join(&mut index, lock, *grant) {
-            Ok(()) => {}
-            Err(_) => return None,
+    match join(index, lock, grant) {
+        Ok(()) => true,
+        Err(_) => {
+            index.clear();
+            false
         }
     }
-    Some(index)
 }
 
-/// The index without a lock.
-pub fn left(index: Index, lock: &Lock, grant: u64) -> Index
-    ensures { (at : ℕ → Option Lock) → at grant ≡ Some lock.now → AreIndexed at (Some index) → AreIndexed (without_lock grant at) (Some result) }
+/// Makes the index of all these locks anew, and says whether there was memory for it: if not, it is let go.
+pub fn made(index: &mut Index, locks: &BTreeMap<u64, Lock>) -> bool
+    ensures { IsIndex (λ n. lock_at n locks.now.entries) result index.new }
 {
-    let mut index = index;
-    leave(&mut index, lock, grant);
-    index
+    index.clear();
+    for (grant, lock) in locks.iter() {
+        match join(index, lock, *grant) {
+            Ok(()) => {}
+            Err(_) => {
+                index.clear();
+                return false;
+            }
+        }
+    }
+    true
 }
 
 // Where a look at a group begins.

@@ -1,5 +1,5 @@
-use Rattle.std.proofs.Common.{◌∙◌, ◌++◌, ◌∷◌, [], ap, sym, subst}
-use Rattle.arj_lock.specs.Index.{AreIndexed, lock_at}
+use Rattle.std.proofs.Common.{◌∙◌, ◌++◌, ◌∷◌, [], ap}
+use Rattle.arj_lock.specs.Index.{lock_at}
 use Rattle.arj_lock.specs.Locks.{rows_in, shown}
 use Rattle.arj_lock.proofs.Entries.{none_above, pushed, rows_append}
 use Rattle.arj_lock.proofs.grants.Grants.push.Goals as goal
@@ -9,8 +9,7 @@ invariant_of-self-2 c =
     let old = c.self.inside.locks.entries in
     record {
       sorted = c.insert.ensures.ordered;
-      indexed =
-          c.renewed.ensures (λ n. lock_at n old) (none_above c.in-Some.grant c.args.lock old c.in-Some.ensures) (subst (AreIndexed (λ n. lock_at n old)) (sym c.take.ensures.value) c.self.invariant.indexed) c.in_ok-insert.ensures.updates.0;
+      indexed = c.renewed-self-inside.ensures (λ n. lock_at n old) (none_above c.in-Some.grant c.args.lock old c.in-Some.ensures) c.self.invariant.indexed c.in_ok-insert.ensures.updates.0;
     }
 
 pub returns-clause-ok : goal.returns-clause-ok

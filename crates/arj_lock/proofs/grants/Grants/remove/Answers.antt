@@ -1,14 +1,16 @@
 use Rattle.std.proofs.Common.{◌∙◌, ℕ, Option, ap, sym, subst}
-use Rattle.arj_lock.specs.Index.{AreIndexed, lock_at}
+use Rattle.arj_lock.specs.Index.{IsIndex, lock_at}
 use Rattle.arj_lock.specs.declared.lock.Lock.{Lock}
+use Rattle.arj_lock.proofs.Indexing.{left_index}
 use Rattle.arj_lock.proofs.grants.Grants.remove.Goals as goal
 
 pub invariant_of-self : goal.invariant_of-self
 invariant_of-self c =
-    let old = c.self.inside.locks.entries in
+    let at : ℕ → Option Lock = λ n. lock_at n c.self.inside.locks.entries in
+    let whole = c.self.inside.whole in
     record {
       sorted = c.remove.ensures.ordered;
       indexed =
-          subst (λ (at : ℕ → Option Lock). AreIndexed at c.taken.result) (λ i n. sym (c.remove.ensures.updates.0 n) i)
-          (c.taken.ensures (λ n. lock_at n old) (ap (lock_at c.args.grant) c.self.view_is ∙ c.requires) (subst (AreIndexed (λ n. lock_at n old)) (sym c.take.ensures.value) c.self.invariant.indexed));
+          subst (λ (f : ℕ → Option Lock). IsIndex f whole c.leave.new.index) (λ i n. sym (c.remove.ensures.updates.0 n) i)
+          (left_index c.args.grant c.args.old.now c.self.inside.index c.leave.new.index c.leave.ensures at (ap (lock_at c.args.grant) c.self.view_is ∙ c.requires) whole c.self.invariant.indexed);
     }
