@@ -19,3 +19,5 @@ pub mod UpperWalks
 pub mod Uppers
 pub mod Listed
 pub mod Entries
+pub mod GoodOwners
+pub mod GoodNaming

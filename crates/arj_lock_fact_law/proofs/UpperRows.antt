@@ -1,6 +1,6 @@
 -- Whom naming confirmed, who holds locks on entries and who prepares entries are no nested actions, whatever naming does.
 use Rattle.std.proofs.Common.{◌≡◌, ◌≢◌, ℕ, ◌==◌, ◌||◌, ◌++◌, ◌+◌, List, [], ◌∷◌, Bool, true, false, cond, find, map, not, Option, Some, None, refl, sym, ◌∙◌, ap, subst, ⊎_elim}
-use Rattle.std.specs.Prelude.{is_some, option_map}
+use Rattle.std.specs.Prelude.{⊤, IfSome, is_some, option_map}
 use Rattle.std.specs.List.{AllByRecursion, flat_map}
 use Rattle.arj_base.specs.Rows.{strengthened}
 use Rattle.arj_lock.specs.Passing.{CameBy, passed_on, stayed}
@@ -18,17 +18,19 @@ use Rattle.arj_protocol.specs.Words.recorded
 use Rattle.arj_protocol.specs.Words.role
 use Rattle.arj_protocol.specs.Words.what
 use Rattle.arj_protocol.specs.Ask.{top_of, top_path}
-use Rattle.arj_protocol.specs.Confirm.{Grants, Marks, checked, confirm, confirm_entries, confirm_new, confirms, entries_after, has_all, lock_all, lock_in, named_back, pending_of, prepared_by, recovered_naming, rows_back, wanted}
+use Rattle.arj_protocol.specs.Confirm.{Grants, Marks, checked, confirm, confirm_entries, confirm_new, confirms, entries_after, entry_after, entry_state, has_all, lock_all, lock_in, named_back, pending_of, prepared_by, recovered_naming, rows_back, same_nodes, stores_after, wanted}
 use Rattle.arj_protocol.specs.Copy.{grant_lines, is_granted, rows_asked}
-use Rattle.arj_protocol.specs.Effect.{Did, Do, Effect, Look, Pair, Prep, Prepare, Ready, Already, Old, InDoubt, Say, Served, did_nothing, either, is_prepared, prepare_answer, reply, void}
+use Rattle.arj_protocol.specs.Effect.{Did, Do, Effect, Look, Pair, Prep, Prepare, Ready, Already, Old, InDoubt, Say, Served, did_nothing, either, held_at, is_prepared, prepare_answer, reply, void}
 use Rattle.arj_protocol.specs.Named.{Counted, Live, Made, Named, bind_call, bind_made, bind_named, conflict_on, end_named, entry_row, hello_named, in_use, include_asked, is_binding, is_lowered, live_above, live_asked, lock_lines, locked, lower_lines, lowered, made_above, make_asked, next_server, note_made, note_named, note_other}
 use Rattle.arj_protocol.specs.Naming.{Naming, bind, end_entries, end_lines, end_orphans, has_locks, hello, is_over, listed_entry, note, on_counted, on_named, orphans, own_entries, taken_end, told, told_new}
 use Rattle.arj_protocol.specs.Order.{at_number, at_uid, binding_eq, drop_uid}
 use Rattle.arj_part_law.specs.Actions.{Action, AreBegun}
+use Rattle.arj_protocol.specs.Values.{state_entry}
 use Rattle.arj_part_law.specs.Messages.{IsAsker, IsTopAction}
 use Rattle.arj_part_law.proofs.LivesNamed.{all_each, all_found, all_put}
-use Rattle.arj_address_law.proofs.Lists.{all_append, all_filter, all_with}
-use Rattle.arj_lock_fact_law.specs.Uppers.{AreUpper, HavePrepared, HaveUpper, HoldsUppers, IsTopOf, PreparesUpper}
+use Rattle.arj_address_law.specs.Addresses.{IsEntry}
+use Rattle.arj_address_law.proofs.Lists.{all_append, all_filter, all_some, all_with}
+use Rattle.arj_lock_fact_law.specs.Uppers.{AreOfEntries, AreUpper, HavePrepared, HaveUpper, HoldsUppers, IsTopOf, PreparesUpper}
 use Rattle.arj_lock_fact_law.proofs.Given.{Alone, Form, Within, form_of, top_action}
 
 module _ (acts : List Action) where
@@ -163,19 +165,35 @@ module _ (acts : List Action) where
         confirmed_so : (m : Naming) → HoldsUppers acts m → HoldsUppers acts (confirms (top_of p) m)
         confirmed_so m its_all = record { confirmed = all_with (IsTopOf acts) (top_of p) m.confirmed top its_all.confirmed; rows = its_all.rows }
 
-        answered : (states : List ObjectState) (t : Did Naming) (a : Prep) → HoldsUppers acts t.part × Fine t.outs → Well (prepared_by (top_of p) states t a)
-        answered states t Ready s = (confirmed_so t.part s.0, both t.outs (Do Look ∷ Do (Prepare role.Names (top_of p) states) ∷ Say (body.Prepared 1 (top_of p) role.Names) ∷ []) s.1 (tt, (top, (tt, tt))))
-        answered states t (Already u) s = (s.0, both t.outs (Do Look ∷ []) s.1 (tt, tt))
-        answered states t (Old u v) s = (s.0, both t.outs (Do Look ∷ []) s.1 (tt, tt))
-        answered states t (InDoubt u v) s = (s.0, both t.outs (Do Look ∷ []) s.1 (tt, tt))
+        answered : (states : List ObjectState) → AreOfEntries states → (t : Did Naming) (a : Prep) → HoldsUppers acts t.part × Fine t.outs → Well (prepared_by (top_of p) states t a)
+        answered states of_entries t Ready s = (confirmed_so t.part s.0, both t.outs (Do Look ∷ Do (Prepare role.Names (top_of p) states) ∷ Say (body.Prepared 1 (top_of p) role.Names) ∷ []) s.1 (tt, ((top, of_entries), (tt, tt))))
+        answered states of_entries t (Already u) s = (s.0, both t.outs (Do Look ∷ []) s.1 (tt, tt))
+        answered states of_entries t (Old u v) s = (s.0, both t.outs (Do Look ∷ []) s.1 (tt, tt))
+        answered states of_entries t (InDoubt u v) s = (s.0, both t.outs (Do Look ∷ []) s.1 (tt, tt))
 
-        entries : (states : List ObjectState) (t : Did Naming) → HoldsUppers acts t.part × Fine t.outs → Well (confirm_entries (top_of p) states d t)
-        entries [] t s = (confirmed_so t.part s.0, s.1)
-        entries (x ∷ xs) t s = answered (x ∷ xs) t (prepare_answer (top_of p) (x ∷ xs) d) s
+        entries : (states : List ObjectState) → AreOfEntries states → (t : Did Naming) → HoldsUppers acts t.part × Fine t.outs → Well (confirm_entries (top_of p) states d t)
+        entries [] of_entries t s = (confirmed_so t.part s.0, s.1)
+        entries (x ∷ xs) of_entries t s = answered (x ∷ xs) of_entries t (prepare_answer (top_of p) (x ∷ xs) d) s
+
+        -- a new entry is of its object
+        changed : AreOfEntries (entries_after (top_of p) grants excluded included d)
+        changed = all_some (λ (g : ℕ × ℕ). ⊤) (λ (s : ObjectState). IsEntry s.uid) (λ (g : ℕ × ℕ). entry_after (top_of p) excluded included g.0 (held_at (entry g.0) d)) grants (λ g u. one g.0 (held_at (entry g.0) d)) (anything grants)
+          where
+            anything : (gs : Grants) → AllByRecursion (λ (g : ℕ × ℕ). ⊤) gs
+            anything [] = tt
+            anything (g ∷ gs) = (tt, anything gs)
+
+            one : (x : ℕ) (o : Option ObjectState) → IfSome (entry_after (top_of p) excluded included x o) (λ (s : ObjectState). IsEntry s.uid)
+            one x None = tt
+            one x (Some s) = either_way (same_nodes (stores_after x excluded included (state_entry s)) (state_entry s).stores)
+              where
+                either_way : (b : Bool) → IfSome (cond b None (Some (entry_state x (top_of p) s (stores_after x excluded included (state_entry s))))) (λ (z : ObjectState). IsEntry z.uid)
+                either_way true = tt
+                either_way false = refl
 
         new : (c : Option ConfirmedReply) → Well (confirm_new p grants excluded included d n c)
         new (Some r) = (all, tt)
-        new None = entries (entries_after (top_of p) grants excluded included d) (lock_all (wanted (top_of p) grants excluded d) p n) (uppers_locks (wanted (top_of p) grants excluded d) n all)
+        new None = entries (entries_after (top_of p) grants excluded included d) changed (lock_all (wanted (top_of p) grants excluded d) p n) (uppers_locks (wanted (top_of p) grants excluded d) n all)
 
         by : (over again : Bool) → Well (cond {A = Served Naming ConfirmedReply} over (void n) (cond {A = Served Naming ConfirmedReply} again (reply (confirms (top_of p) n) confirmed.Yes) (confirm_new p grants excluded included d n (checked p grants excluded included d n))))
         by true again = (all, tt)
@@ -269,24 +287,24 @@ module _ (acts : List Action) where
   pub uppers_hello : (node inc : ℕ) (n : Naming) → HoldsUppers acts n → HoldsUppers acts (hello node inc n)
   uppers_hello node inc n all = record { confirmed = all.confirmed; rows = all_each NamedUpper (λ k. hello_named node inc) (λ k o known. known) n.objects all.rows }
 
-  pending_upper : (u : Uid) (ps : List (Uid × List ObjectState)) → AllByRecursion (λ (e : Uid × List ObjectState). IsTopOf acts e.0) ps → (q : Uid × ObjectState) → pending_of u ps ≡ Some q → IsTopOf acts q.0
+  pending_upper : (u : Uid) (ps : List (Uid × List ObjectState)) → AllByRecursion (λ (e : Uid × List ObjectState). IsTopOf acts e.0 × AreOfEntries e.1) ps → (q : Uid × ObjectState) → pending_of u ps ≡ Some q → IsTopOf acts q.0
   pending_upper u [] all q is = absurd (cc is)
   pending_upper u (p ∷ ps) all q is = by (find (λ s. uid_eq s.uid u) p.1) is (pending_upper u ps all.1 q)
     where
       by : (o : Option ObjectState) → either (option_map (λ s. (p.0, s)) o) (pending_of u ps) ≡ Some q → (pending_of u ps ≡ Some q → IsTopOf acts q.0) → IsTopOf acts q.0
       by None found ih = ih found
-      by (Some s) found ih = let same : (p.0, s) ≡ q = cc in subst (λ (z : Uid × ObjectState). IsTopOf acts z.0) same all.0
+      by (Some s) found ih = let same : (p.0, s) ≡ q = cc in subst (λ (z : Uid × ObjectState). IsTopOf acts z.0) same all.0.0
 
   pub uppers_recovered : (inc : ℕ) (d : Pair) → HavePrepared acts d → HoldsUppers acts (recovered_naming inc d)
-  uppers_recovered inc d prepared = record { confirmed = keys d.pend prepared; rows = by d.held }
+  uppers_recovered inc d prepared = record { confirmed = keys d.pend prepared.pend; rows = by d.held }
     where
-      keys : (ps : List (Uid × List ObjectState)) → AllByRecursion (λ (e : Uid × List ObjectState). IsTopOf acts e.0) ps → AllByRecursion (IsTopOf acts) (map (λ (p : Uid × List ObjectState). p.0) ps)
+      keys : (ps : List (Uid × List ObjectState)) → AllByRecursion (λ (e : Uid × List ObjectState). IsTopOf acts e.0 × AreOfEntries e.1) ps → AllByRecursion (IsTopOf acts) (map (λ (p : Uid × List ObjectState). p.0) ps)
       keys [] all = tt
-      keys (p ∷ ps) all = (all.0, keys ps all.1)
+      keys (p ∷ ps) all = (all.0.0, keys ps all.1)
 
       back : (u : Uid) (held : ObjectState) (q : Option (Uid × ObjectState)) → pending_of u d.pend ≡ q → HaveUpper acts (rows_back u held q)
       back u held None is r k = absurd (in_from r [] k)
-      back u held (Some p) is r k = ⊎_elim (λ same. subst (λ (w : Row). AreUpper acts w.holder) same (upper_of p.0 (pending_upper u d.pend prepared p is), tt)) (λ none. absurd none) (in_from r (rows_back u held (Some p)) k)
+      back u held (Some p) is r k = ⊎_elim (λ same. subst (λ (w : Row). AreUpper acts w.holder) same (upper_of p.0 (pending_upper u d.pend prepared.pend p is), tt)) (λ none. absurd none) (in_from r (rows_back u held (Some p)) k)
 
       by : (held : List (Uid × ObjectState)) → AllByRecursion (λ (e : ℕ × Named). HaveUpper acts (let o = e.1 in o.rows)) (map (named_back d) held)
       by [] = tt

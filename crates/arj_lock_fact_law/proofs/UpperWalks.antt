@@ -1,14 +1,12 @@
 -- What naming keeps of the actions that were begun, with what is prepared of entries on disks, holds in every run.
 use Rattle.std.proofs.Common.{◌≡◌, ◌∙◌, ◌+◌, ◌==◌, ℕ, zero, suc, Bool, true, false, cond, List, [], ◌∷◌, ◌++◌, map, filter, refl, sym, ap, subst, inr, Option, Some, None}
-use Rattle.std.specs.Prelude.{⊤, option_map, slice_get}
+use Rattle.std.specs.Prelude.{⊤, option_map, slice_get, unwrap_or}
 use Rattle.std.specs.List.{AllByRecursion, flat_map, list_all}
-use Rattle.std.specs.Ordering.{match_ordering}
-use Rattle.std.specs.declared.cmp.Ordering.{Ordering}
-use Rattle.std.specs.declared.cmp.Ordering.TheVariants.{Less, Equal, Greater}
+use Rattle.std.specs.Ordering.{is_eq}
 use Rattle.std.proofs.lemmas.Bool.{and_parts}
 use Rattle.arj_base.specs.Order.{uid_order}
 use Rattle.arj_lock.proofs.Members.{in_from, in_to}
-use Rattle.arj_protocol.specs.Words.{Ask, Asked, Binding, End, Head, Header, Kind, Label, Message, ObjectState, Path, Uid, asks, object}
+use Rattle.arj_protocol.specs.Words.{Ask, Asked, Binding, End, Head, Header, Kind, Label, Message, ObjectLine, ObjectState, Path, Uid, asks, object}
 use Rattle.arj_protocol.specs.Words.ask
 use Rattle.arj_protocol.specs.Words.body
 use Rattle.arj_protocol.specs.Words.ending
@@ -20,24 +18,25 @@ use Rattle.arj_protocol.specs.Ask.{Reply, actor, answers, asked_by, last_end, re
 use Rattle.arj_protocol.specs.Asking.{again_all, begin_action, heard}
 use Rattle.arj_protocol.specs.Confirm.{Grants, Marks, back_lines, confirm, recovered_naming}
 use Rattle.arj_protocol.specs.Coord.{Coord}
-use Rattle.arj_protocol.specs.Effect.{Abort, Already, Commit, Disk, Do, Effect, InDoubt, Intent, Look, Old, Pair, Prep, Prepare, PutInc, PutIntent, Ready, RemoveIntent, Say, Send, Served, Stop, Before, After, InPart, Work, held_at, holder_of, is_prepared, prepare_answer, stopped, worked}
+use Rattle.arj_protocol.specs.Effect.{Abort, Already, Commit, Disk, Do, Effect, InDoubt, Intent, Look, Old, Pair, Prep, Prepare, PutInc, PutIntent, Ready, RemoveIntent, Say, Send, Served, Stop, Before, After, InPart, Work, held_at, holder_of, is_prepared, moved, moved_some, new_states, prepare_answer, stopped, worked}
 use Rattle.arj_protocol.specs.Ending.{acked, answer_query}
 use Rattle.arj_protocol.specs.Follow.{tick_outs}
 use Rattle.arj_protocol.specs.Named.{Named}
 use Rattle.arj_protocol.specs.Naming as naming
 use Rattle.arj_protocol.specs.Naming.{Naming}
 use Rattle.arj_protocol.specs.Node.{Handled, Parts, Took, Void, ack_told, by_reply, coord_heard, end_states, handle, handle_answer, handle_ask, handle_ends, handle_other, holders, if_naming, is_earlier, load_by, load_held, naming_hello, naming_told, prepare_by, prepared_actions, query_about, sends_answer, serve, store_told, with_coord, with_naming, with_server}
-use Rattle.arj_protocol.specs.Order.{put_uid, uid_set, without_number}
+use Rattle.arj_protocol.specs.Order.{at_uid, put_uid, uid_set, without_number}
 use Rattle.arj_protocol.specs.Says.{AreAll, is_coord_effect, is_server_effect}
 use Rattle.arj_protocol.specs.Server as server
-use Rattle.arj_protocol.specs.Step.{Node, acts as acts_of, first_disk, first_node, hello_to, naming_at, naming_back, numbers_to, parent_of, parts_in, recovered_records, restart_outs, tolds_again}
+use Rattle.arj_protocol.specs.Step.{Node, acts as acts_of, first_disk, first_entry, first_node, hello_to, naming_at, naming_back, numbers_to, parent_of, parts_in, put_states, recovered_records, restart_outs, tolds_again}
 use Rattle.arj_protocol.specs.Tree.{next_uid, path_below}
 use Rattle.arj_protocol.specs.World.{Asked as AskedEvent, format, is_serial_kind, run_all}
 use Rattle.arj_protocol.proofs.CoordSays.{acked_own, acts_own, again_own, heard_own, query_own, tolds_again_own}
 use Rattle.arj_protocol.proofs.PartSays.{activate_own, ends_own, invoke_own, vote_own}
 use Rattle.arj_part_law.specs.Actions.{Action, AreBegun}
 use Rattle.arj_part_law.specs.Messages.{FitsAsk, FitsAsked, FitsMessage, IsAsker}
-use Rattle.arj_address_law.proofs.Lists.{all_append, all_without}
+use Rattle.arj_address_law.specs.Addresses.{IsEntry}
+use Rattle.arj_address_law.proofs.Lists.{all_append, all_key, all_without}
 use Rattle.arj_part_law.proofs.SaidIncs.{all_map}
 use Rattle.arj_run_law.specs.Worlds.{IsGoodOf}
 use Rattle.arj_run_law.proofs.Begins.{begin_good}
@@ -49,7 +48,7 @@ use Rattle.arj_view_law.specs.Seen.{Seen, at, given, posted, said, see}
 use Rattle.arj_view_law.specs.Walks.{Up, Walks, halted}
 use Rattle.arj_view_law.proofs.Happens.{runs_hold}
 use Rattle.arj_view_law.proofs.Together.{walks_both, walks_to}
-use Rattle.arj_lock_fact_law.specs.Uppers.{AreUppersOf, HavePrepared, IsTopOf, IsUpperNode, PreparesUpper}
+use Rattle.arj_lock_fact_law.specs.Uppers.{AreOfEntries, AreUppersOf, HavePrepared, IsTopOf, IsUpperNode, PreparesUpper}
 
 some_is : {A : Type 0} {a b : A} → Some a ≡ Some b → a ≡ b
 some_is {A} {a} {b} is = let k : ◌≡◌ {A = Option A} (Some a) (Some b) = is in cc
@@ -74,11 +73,26 @@ pub top_more : (a : Action) (acts : List Action) (u : Uid) → IsTopOf acts u �
 top_more a acts u b = (b.0, in_to b.0 (a ∷ acts) (inr (in_from b.0 acts b.1)), b.2, b.3, b.4)
 
 pub prepared_more : (a : Action) (acts : List Action) (d : Pair) → HavePrepared acts d → HavePrepared (a ∷ acts) d
-prepared_more a acts d all = by d.pend all
+prepared_more a acts d all = record { pend = by d.pend all.pend; held = all.held }
   where
-    by : (ps : List (Uid × List ObjectState)) → AllByRecursion (λ (e : Uid × List ObjectState). IsTopOf acts e.0) ps → AllByRecursion (λ (e : Uid × List ObjectState). IsTopOf (a ∷ acts) e.0) ps
+    by : (ps : List (Uid × List ObjectState)) → AllByRecursion (λ (e : Uid × List ObjectState). IsTopOf acts e.0 × AreOfEntries e.1) ps → AllByRecursion (λ (e : Uid × List ObjectState). IsTopOf (a ∷ acts) e.0 × AreOfEntries e.1) ps
     by [] its = tt
-    by (p ∷ ps) its = (top_more a acts p.0 its.0, by ps its.1)
+    by (p ∷ ps) its = ((top_more a acts p.0 its.0.0, its.0.1), by ps its.1)
+
+abbrev AreHeld : List (Uid × ObjectState) → Type 0
+AreHeld held = AllByRecursion (λ (e : Uid × ObjectState). IsEntry e.0 × ⊤) held
+
+moved_held : (ss : List ObjectState) (held : List (Uid × ObjectState)) → AreOfEntries ss → AreHeld held → AreHeld (moved ss held)
+moved_held [] held of all = all
+moved_held (s ∷ ss) held of all = moved_held ss (put_uid s.uid s held) of.1 (all_key IsEntry (λ (x : ObjectState). ⊤) s.uid s held of.0 tt all)
+
+some_held : (which : Uid → Bool) (ss : List ObjectState) (held : List (Uid × ObjectState)) → AreOfEntries ss → AreHeld held → AreHeld (moved_some which ss held)
+some_held which [] held of all = all
+some_held which (s ∷ ss) held of all = some_held which ss (cond (which s.uid) (put_uid s.uid s held) held) of.1 (by (which s.uid))
+  where
+    by : (b : Bool) → AreHeld (cond b (put_uid s.uid s held) held)
+    by true = all_key IsEntry (λ (x : ObjectState). ⊤) s.uid s held of.0 tt all
+    by false = all
 
 module _ (N : List Action → Naming → Type 0) (held : IsHeld N) where
   module _ (acts : List Action) (begun : AreBegun acts) where
@@ -117,24 +131,26 @@ module _ (N : List Action → Naming → Type 0) (held : IsHeld N) where
 
     -- ---- the disk
 
+    new_of_entries : (u : Uid) (d : Pair) → HavePrepared acts d → AreOfEntries (new_states u d)
+    new_of_entries u d all = by d.pend all.pend
+      where
+        by : (ps : List (Uid × List ObjectState)) → AllByRecursion (λ (e : Uid × List ObjectState). IsTopOf acts e.0 × AreOfEntries e.1) ps → AreOfEntries (unwrap_or (at_uid u ps) [])
+        by [] its = tt
+        by (p ∷ ps) its = one (is_eq (uid_order u p.0)) (by ps its.1)
+          where
+            one : (b : Bool) → AreOfEntries (unwrap_or (at_uid u ps) []) → AreOfEntries (unwrap_or (cond b (Some p.1) (at_uid u ps)) [])
+            one true ih = its.0.1
+            one false ih = ih
+
     names_worked : (w : Work) (d : Disk) → PreparesUpper acts (Do w) → HavePrepared acts d.names → HavePrepared acts (worked w d).names
     names_worked Look d fine all = all
     names_worked (PutInc i) d fine all = all
     names_worked (Prepare role.Store u states) d fine all = all
-    names_worked (Prepare role.Names u states) d fine all = put d.names.pend all
-      where
-        put : (ps : List (Uid × List ObjectState)) → AllByRecursion (λ (e : Uid × List ObjectState). IsTopOf acts e.0) ps → AllByRecursion (λ (e : Uid × List ObjectState). IsTopOf acts e.0) (put_uid u states ps)
-        put [] its = (fine, tt)
-        put (p ∷ ps) its = by (uid_order u p.0) (put ps its.1)
-          where
-            by : (r : Ordering) → AllByRecursion (λ (e : Uid × List ObjectState). IsTopOf acts e.0) (put_uid u states ps) → AllByRecursion (λ (e : Uid × List ObjectState). IsTopOf acts e.0) (match_ordering r ((u, states) ∷ p ∷ ps) ((p.0, states) ∷ ps) (p ∷ put_uid u states ps))
-            by Less ih = (fine, its)
-            by Equal ih = (its.0, its.1)
-            by Greater ih = (its.0, ih)
+    names_worked (Prepare role.Names u states) d fine all = record { pend = all_key (IsTopOf acts) AreOfEntries u states d.names.pend fine.0 fine.1 all.pend; held = all.held }
     names_worked (Commit role.Store u) d fine all = all
-    names_worked (Commit role.Names u) d fine all = all_without (λ (e : Uid × List ObjectState). IsTopOf acts e.0) u d.names.pend all
+    names_worked (Commit role.Names u) d fine all = record { pend = all_without (λ (e : Uid × List ObjectState). IsTopOf acts e.0 × AreOfEntries e.1) u d.names.pend all.pend; held = moved_held (new_states u d.names) d.names.held (new_of_entries u d.names all) all.held }
     names_worked (Abort role.Store u) d fine all = all
-    names_worked (Abort role.Names u) d fine all = all_without (λ (e : Uid × List ObjectState). IsTopOf acts e.0) u d.names.pend all
+    names_worked (Abort role.Names u) d fine all = record { pend = all_without (λ (e : Uid × List ObjectState). IsTopOf acts e.0 × AreOfEntries e.1) u d.names.pend all.pend; held = all.held }
     names_worked (PutIntent u i) d fine all = all
     names_worked (RemoveIntent u) d fine all = all
 
@@ -145,7 +161,7 @@ module _ (N : List Action → Naming → Type 0) (held : IsHeld N) where
     names_stopped (InPart which) (PutInc i) d fine all = all
     names_stopped (InPart which) (Prepare r u states) d fine all = all
     names_stopped (InPart which) (Commit role.Store u) d fine all = all
-    names_stopped (InPart which) (Commit role.Names u) d fine all = all
+    names_stopped (InPart which) (Commit role.Names u) d fine all = record { pend = all.pend; held = some_held which (new_states u d.names) d.names.held (new_of_entries u d.names all) all.held }
     names_stopped (InPart which) (Abort r u) d fine all = all
     names_stopped (InPart which) (PutIntent u i) d fine all = all
     names_stopped (InPart which) (RemoveIntent u) d fine all = all
@@ -367,8 +383,23 @@ module _ (N : List Action → Naming → Type 0) (held : IsHeld N) where
 
   first_so : (hd : Header) → AreUppersOf N [] (see [] (format hd))
   first_so hd zero n is = none_at refl is
-  first_so hd (suc j) n is = let a = got (numbers_to hd.nodes) j n is in subst (IsUpperNode N []) a.1 (record { names = tt; live = λ t o up_it at_o. new_naming [] tt a.0 1 (first_disk hd a.0) tt o (ap (λ (z : Parts). z.naming) (some_is up_it) ∙ at_o) })
+  first_so hd (suc j) n is = let a = got (numbers_to hd.nodes) j n is in subst (IsUpperNode N []) a.1 (record { names = first_names a.0; live = λ t o up_it at_o. new_naming [] tt a.0 1 (first_disk hd a.0) (first_names a.0) o (ap (λ (z : Parts). z.naming) (some_is up_it) ∙ at_o) })
     where
+      first_names : (k : ℕ) → HavePrepared [] (let d = first_disk hd k in d.names)
+      first_names k = record { pend = tt; held = by (k == 1) }
+        where
+          put : (ss : List ObjectState) (held : List (Uid × ObjectState)) → AreOfEntries ss → AreHeld held → AreHeld (put_states ss held)
+          put [] held of all = all
+          put (s ∷ ss) held of all = put ss (put_uid s.uid s held) of.1 (all_key IsEntry (λ (x : ObjectState). ⊤) s.uid s held of.0 tt all)
+
+          entries : (os : List ObjectLine) → AreOfEntries (map first_entry os)
+          entries [] = tt
+          entries (o ∷ os) = (refl, entries os)
+
+          by : (b : Bool) → AreHeld (put_states (cond b (map first_entry hd.objects) []) [])
+          by true = put (map first_entry hd.objects) [] (entries hd.objects) tt
+          by false = tt
+
       got : (ms : List ℕ) (i : ℕ) (n : Node) → slice_get (map (first_node hd) ms) i ≡ Some n → (a : ℕ) × (first_node hd a ≡ n)
       got [] i n e = none_at refl e
       got (m ∷ ms) zero n e = (m, some_is e)

@@ -3,15 +3,14 @@
 -- Who gives what that view (`arj_lock_view_law`) takes as known of the protocol:
 -- `IsSteady`, `IsBeginning.stands`, `IsCalling.path`, request numbers, paths that fit: good nodes (`arj_run_law`), with one tree of what was
 -- begun (`AreOneTree`). `IsLone`, `IsFirst`, `AreTopped`, `AreUnserial`, roots that are empty, `IsWanted`: here. `AreKept`: the machine's view
--- of the root, and known Binds (`Keeping`). `HasLowGrant`: grants in order (`Grants`). `HasNothingAt`: naming has tops alone (`Uppers`). That
--- naming finds the object as it starts: entries stay on the disk (`Entries`). That its count has 32 bits: its journal has few bindings, and it
--- counted no more (`AreSaid` of `arj_call_law`). That a repeated vote shows the first: `repeated_votes_agree` of `arj_lock_law`.
+-- of the root, and known Binds (`Keeping`). `HasLowGrant`: grants in order (`Grants`). `HasNothingAt`, `IsGoodAt`: naming has tops alone,
+-- and good objects (`Uppers`). That naming finds the object as it starts: entries stay on the disk (`Entries`). That its count has 32 bits:
+-- its journal has few bindings, and it counted no more (`AreSaid` of `arj_call_law`). That a repeated vote shows the first: `repeated_votes_agree` of `arj_lock_law`.
 -- The whole world as the machine sees it (`arj_lock_run_law`) gives what messages show, `IsReached`, `IsFresh`, and that no more is decided
 -- than was (`IfDecided`, `IsBacked`).
 -- Nobody gives it yet: `HasNoneLeft` where an abort comes of an action whose unit is over, and at naming what is told of committed tops: who
 -- acknowledged an end was told of it in that incarnation, and no vote or call of that action names a later one; `IsConfirming.again`: all
--- Confirms of one top are equal, and whoever is confirmed is so in the machine; rows that a restart gives back, which have no heir; and
--- `IsGoodAt`.
+-- Confirms of one top are equal, and whoever is confirmed is so in the machine; and rows that a restart gives back, which have no heir.
 use Rattle.std.specs.Prelude.{◌≡◌, ◌≢◌, ℕ, true, false, List, Some, Contains}
 use Rattle.arj_protocol.specs.Words.{Ask, Head, Uid, asks}
 use Rattle.arj_protocol.specs.Words.kind

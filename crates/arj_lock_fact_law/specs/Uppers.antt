@@ -1,23 +1,26 @@
 -- Who has anything at naming: no nested action.
 use Rattle.std.specs.Prelude.{⊤, ◌≡◌, ◌≢◌, ℕ, List, Some, Contains}
 use Rattle.std.specs.List.{AllByRecursion}
-use Rattle.arj_protocol.specs.Words.{Header, ObjectState, Row, Uid}
+use Rattle.arj_protocol.specs.Words.{Header, ObjectState, Row, Uid, is_on}
 use Rattle.arj_protocol.specs.Words.kind
 use Rattle.arj_protocol.specs.Words.role
 use Rattle.arj_protocol.specs.Effect.{Do, Effect, Pair, Prepare}
-use Rattle.arj_protocol.specs.Named.{Named}
+use Rattle.arj_protocol.specs.Named.{Made, Named}
 use Rattle.arj_protocol.specs.Naming.{Naming}
 use Rattle.arj_protocol.specs.Node.{Parts}
 use Rattle.arj_protocol.specs.Order.{at_number}
 use Rattle.arj_protocol.specs.Step.{Node}
 use Rattle.arj_protocol.specs.World as world
 use Rattle.arj_protocol.specs.World.{format, run_all}
-use Rattle.arj_part_law.specs.Actions.{Action, act_of}
+use Rattle.arj_part_law.specs.Actions.{Action, act_of, owners_of}
 use Rattle.arj_part_law.specs.Messages.{IsTopAction}
+use Rattle.arj_part_law.specs.Objects.{IsGoodObject}
+use Rattle.arj_address_law.specs.Addresses.{IsEntry}
 use Rattle.arj_run_law.specs.Worlds.{IsGoodOf}
 use Rattle.arj_view_law.specs.Keeps.{Holds, Keeps}
 use Rattle.arj_view_law.specs.Seen.{Seen}
-use Rattle.arj_lock_view_law.specs.Namings.{HasNothingAt}
+use Rattle.arj_lock_view_law.specs.Namings.{HasNothingAt, IsGoodAt}
+use Rattle.arj_lock_view_law.specs.Telling.{View}
 
 -- a top: it was begun, and is neither a nested nor a serializing action
 abbrev pub IsTopOf : List Action → Uid → Type 0
@@ -36,9 +39,14 @@ pub record HoldsUppers (acts : List Action) (n : Naming) : Type 0 where
   pub confirmed : AllByRecursion (IsTopOf acts) n.confirmed
   pub rows : AllByRecursion (λ (e : ℕ × Named). HaveUpper acts (let o = e.1 in o.rows)) n.objects
 
--- who has something prepared
-abbrev pub HavePrepared : List Action → Pair → Type 0
-HavePrepared acts d = AllByRecursion (λ (e : Uid × List ObjectState). IsTopOf acts e.0) d.pend
+-- a state of an entry
+abbrev pub AreOfEntries : List ObjectState → Type 0
+AreOfEntries states = AllByRecursion (λ (s : ObjectState). IsEntry s.uid) states
+
+-- The entries on a disk: tops have entries prepared, and entries are held, each under its name.
+pub record HavePrepared (acts : List Action) (d : Pair) : Type 0 where
+  pub pend : AllByRecursion (λ (e : Uid × List ObjectState). IsTopOf acts e.0 × AreOfEntries e.1) d.pend
+  pub held : AllByRecursion (λ (e : Uid × ObjectState). IsEntry e.0 × ⊤) d.held
 
 -- a node: its entries on the disk, and naming while it is up, of which this holds
 pub record IsUpperNode (N : List Action → Naming → Type 0) (acts : List Action) (n : Node) : Type 0 where
@@ -55,9 +63,9 @@ AreUppers acts M = AreUppersOf HoldsUppers acts M
 abbrev pub UppersAreKnown : Seen → Type 0
 UppersAreKnown M = (acts : List Action) × IsGoodOf acts M × AreUppers acts M
 
--- who prepares an entry is a top
+-- who prepares entries is a top
 abbrev pub PreparesUpper : List Action → Effect → Type 0
-PreparesUpper acts (Do (Prepare role.Names u states)) = IsTopOf acts u
+PreparesUpper acts (Do (Prepare role.Names u states)) = IsTopOf acts u × AreOfEntries states
 PreparesUpper acts e = ⊤
 
 -- each handler keeps it
@@ -72,3 +80,32 @@ RunsKeepUppers = (hd : Header) (es : List world.Asked) → Holds hd UppersAreKno
 abbrev pub NestedHaveNothing : Type 0
 NestedHaveNothing = (acts : List Action) (k : ℕ) (n : Node) (t : Parts) (o : Naming) (M : Seen) → IsGoodOf acts M → AreUppers acts M → M.nodes k ≡ Some n → n.live ≡ Some t → t.naming ≡ Some o
     → (x : ℕ) (q : Named) (a : Action) → at_number x o.objects ≡ Some q → Contains acts a → a.kind ≡ kind.Nested → HasNothingAt o q (act_of a)
+
+-- ---- objects at naming
+
+-- the tops for which bindings were made, and those that asked the entry's lock by an include
+pub record AsTops (acts : List Action) (o : Named) : Type 0 where
+  pub made : AllByRecursion (λ (e : Uid × Made). IsTopOf acts e.0 × ⊤) o.made
+  pub asked : AllByRecursion (IsTopOf acts) o.asked
+
+-- naming: besides, each object is good
+pub record HoldsObjects (acts : List Action) (n : Naming) : Type 0 where
+  pub uppers : HoldsUppers acts n
+  pub tops : AllByRecursion (λ (e : ℕ × Named). AsTops acts e.1) n.objects
+  pub objects : (x : ℕ) (o : Named) → at_number x n.objects ≡ Some o → IsGoodObject (owners_of acts) (is_on n.told) n.inc n.count x o
+
+-- So it is at each node, for the actions that were begun.
+abbrev pub ObjectsAreHeld : Seen → Type 0
+ObjectsAreHeld M = (acts : List Action) × IsGoodOf acts M × AreUppersOf HoldsObjects acts M
+
+-- each handler keeps it
+abbrev pub HandlersKeepObjects : Type 0
+HandlersKeepObjects = (hd : Header) → Keeps hd ObjectsAreHeld
+
+-- and so it holds in every run
+abbrev pub RunsKeepObjects : Type 0
+RunsKeepObjects = (hd : Header) (es : List world.Asked) → Holds hd ObjectsAreHeld (run_all es (format hd))
+
+-- At naming of a node that is up each object is good, in the words of the machine's view.
+abbrev pub ObjectsAreGood : Type 0
+ObjectsAreGood = (v : View) (acts : List Action) (k : ℕ) (n : Node) (t : Parts) (o : Naming) (M : Seen) → AreUppersOf HoldsObjects acts M → M.nodes k ≡ Some n → n.live ≡ Some t → t.naming ≡ Some o → IsGoodAt v (owners_of acts) o

@@ -5,7 +5,7 @@
 //! (`arj_address_law`): of coordinators, of naming and of its answers (`specs/Worlds.antt`). It gives upward
 //! `coordinators_stay_in_order` and `grants_stay_in_order`, what follows of them in the machine's words
 //! (`premises_of_coordinators`, `plans_have_what_is_kept`, `plans_grant_low`), `requests_want_one_thing`, and
-//! `nested_actions_have_nothing_at_naming`, `entries_stay_on_disk`, `copies_are_listed`.
+//! `nested_actions_have_nothing_at_naming`, `entries_stay_on_disk`, `objects_at_naming_are_good`, `copies_are_listed`.
 #![tactic(auto)]
 
 mod coords;
@@ -16,5 +16,7 @@ pub use coords::{
     coordinators_stay_in_order, grants_stay_in_order, plans_grant_low, plans_have_what_is_kept,
     premises_of_coordinators, requests_want_one_thing,
 };
-pub use naming::{entries_stay_on_disk, nested_actions_have_nothing_at_naming};
+pub use naming::{
+    entries_stay_on_disk, nested_actions_have_nothing_at_naming, objects_at_naming_are_good,
+};
 pub use servers::copies_are_listed;

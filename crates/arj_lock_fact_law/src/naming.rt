@@ -1,6 +1,6 @@
 // Naming, in every run.
 ghost use Rattle.arj_lock_fact_law.specs.Entries.{EntriesAreFound, HandlersKeepEntries, RunsKeepEntries};
-ghost use Rattle.arj_lock_fact_law.specs.Uppers.{HandlersKeepUppers, NestedHaveNothing, RunsKeepUppers};
+ghost use Rattle.arj_lock_fact_law.specs.Uppers.{HandlersKeepObjects, HandlersKeepUppers, NestedHaveNothing, ObjectsAreGood, RunsKeepObjects, RunsKeepUppers};
 
 /// In every run naming has confirmed tops alone, each with an action that was begun, and no nested action is on the path of a holder of a
 /// lock on an entry; and who has an entry prepared on the disk is a top too. Each handler keeps it, wherever a stop falls. So a nested
@@ -17,4 +17,12 @@ pub fn entries_stay_on_disk()
     ensures handlers { HandlersKeepEntries }
     ensures runs { RunsKeepEntries }
     ensures found { EntriesAreFound }
+{}
+
+/// In every run each object at naming is good, for the actions that were begun and who owns whom of them, as the machine's view takes it.
+/// Each handler keeps it, wherever a stop falls. It does nothing when it runs.
+pub fn objects_at_naming_are_good()
+    ensures handlers { HandlersKeepObjects }
+    ensures runs { RunsKeepObjects }
+    ensures good { ObjectsAreGood }
 {}

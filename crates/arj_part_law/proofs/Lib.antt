@@ -8,13 +8,13 @@ pub mod EndsSaid
 mod EntriesLeft
 pub mod EntryLocks
 mod Gone
-mod GoodCalls
+pub mod GoodCalls
 mod GoodConfirm
 pub mod GoodCoords
 mod GoodCopies
 mod GoodEnds
 pub mod GoodNodes
-mod GoodObjects
+pub mod GoodObjects
 mod GoodRestart
 pub mod GoodServers
 pub mod GoodTrees
@@ -36,7 +36,7 @@ pub mod ServerRuns
 pub mod Settled
 mod Stands
 mod StatesLeft
-mod Stores
+pub mod Stores
 pub mod Tellings
 mod ToldInOrder
 pub mod Truths
