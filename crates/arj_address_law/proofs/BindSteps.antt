@@ -36,7 +36,7 @@ use Rattle.arj_part_law.proofs.GoodCoords.{IsStepOf, actor_is, answer_step, give
 use Rattle.arj_part_law.proofs.GoodTrees.{get_more, grown_still}
 use Rattle.arj_part_law.proofs.Pairs.{each_at}
 use Rattle.arj_view_law.specs.Seen.{Post}
-use Rattle.arj_call_law.proofs.CommitPlans.{IsNextOf, answer_next, giveup_next, vote_next}
+use Rattle.arj_call_law.proofs.CommitPlans.{IsNextOf, answer_next, giveup_next, heard_plan, heard_same, vote_next}
 use Rattle.arj_call_law.proofs.CoordCalls.{heard_keeping, kept_put, not_idle, step_is}
 use Rattle.arj_call_law.proofs.CoordCommits.{not_calling}
 use Rattle.arj_call_law.proofs.CoordKnown.{loose_of, roots_work}
@@ -326,18 +326,18 @@ module _ (begun : List Action) (paths : Paths) (tree : IsTree paths) (sent : Lis
 
   -- ---- a commit goes a step
 
-  moved_binds : (u : Uid) (d : Doing) (m : Machine) (n : CommitStep) (intents : List (Uid × Intent)) → doing_of u c ≡ Some d → d.now ≡ Committing m → IsNextOf (plan_of m) n → IsStepOf begun paths tree (plan_of m) n → KnowsBinds sent k (step_commit u n intents c).part
-  moved_binds u d m n intents found now next same =
+  moved_binds : (u : Uid) (d : Doing) (m : Machine) (p : Plan) (n : CommitStep) (intents : List (Uid × Intent)) → doing_of u c ≡ Some d → d.now ≡ Committing m → (plan_of m).req ≤ p.req → IsNextOf p n → IsStepOf begun paths tree (plan_of m) n → KnowsBinds sent k (step_commit u n intents c).part
+  moved_binds u d m p n intents found now low next same =
       let v : IsVoting c.tree u (plan_of m) = subst (IsBusy c.tree u) now (good.busy u d found) in
-      commit_binds sent k u (plan_of m) n intents c (λ z at. number z.req (plan_of m).req (ap (λ (y : Doing). y.req) (some_is (sym at ∙ found)) ∙ sym (subst (IsNumbered d.req) now (numbered u d found)).0)) next
+      commit_binds sent k u p n intents c (λ z at. number z.req (plan_of m).req p.req (ap (λ (y : Doing). y.req) (some_is (sym at ∙ found)) ∙ sym (subst (IsNumbered d.req) now (numbered u d found)).0) low) next
       (λ q is. ap actor (decides_path begun paths tree (plan_of m) n same q is) ∙ actor_is begun paths tree u (plan_of m).path c good v.asking)
       (λ b at. ap (λ (z : Branch). is_some z.ended) (sym (some_is (sym v.asking.found ∙ at))) ∙ v.asking.opened) knows
     where
-      number : (i j : ℕ) → i ≡ j → i ≤ j
-      number i j is = omega (arith, is)
+      number : (i j l : ℕ) → i ≡ j → j ≤ l → i ≤ l
+      number i j l is low = omega (arith, is, low)
 
   top_binds : (b : Branch) (intents : List (Uid × Intent)) → branch_of (actor b.path) c.tree ≡ Some b → is_some b.ended ≡ false → KnowsBinds sent k (commit_top b.path intents c).part
-  top_binds b intents found opened = commit_binds sent k (actor b.path) plan (commit.start plan).step intents c (λ z at. number z.req (last_req (doing_of (actor b.path) c)) (sym (ap last_req at))) (vote_next (servers_of plan) plan plan (refl, omega arith))
+  top_binds b intents found opened = commit_binds sent k (actor b.path) plan (commit.start plan).step intents c (λ z at. number z.req (last_req (doing_of (actor b.path) c)) (sym (ap last_req at))) (vote_next (servers_of plan) plan plan (refl, omega arith, refl, refl))
       (λ q is. ap actor (decides_path begun paths tree plan (commit.start plan).step (vote_step begun paths tree (servers_of plan) plan plan (refl, refl)) q is))
       (λ z at. ap (λ (y : Branch). is_some y.ended) (sym (some_is (sym found ∙ at))) ∙ opened) knows
     where
@@ -382,7 +382,7 @@ module _ (begun : List Action) (paths : Paths) (tree : IsTree paths) (sent : Lis
       by_now d found (Committing n) at = one (waits_for_commit from a r n)
         where
           one : (w : Bool) → KnowsBinds sent k (cond {A = Served Coord (Unit {0})} w (heard_by (moved_commit a.act (commit.answered from n r) intents c)) (heard_none c)).part
-          one true = moved_binds a.act d n (commit.answered from n r).step intents found at (answer_next from n r) (answer_step begun paths tree from n r)
+          one true = moved_binds a.act d n (heard_plan n r) (commit.answered from n r).step intents found at (heard_same n r).1 (answer_next from n r) (answer_step begun paths tree from n r)
           one false = knows
 
       by : (o : Option Doing) → doing_of a.act c ≡ o → KnowsBinds sent k (heard_doing from a r intents c o).part
@@ -414,7 +414,7 @@ module _ (begun : List Action) (paths : Paths) (tree : IsTree paths) (sent : Lis
       by_now d found (Calling s) at =
           let asking : IsAsking c.tree u s.path = subst (IsBusy c.tree u) at (good.busy u d found) in
           lost_binds s d (ap (λ z. doing_of z c) (actor_is begun paths tree u s.path c good asking) ∙ found) at
-      by_now d found (Committing n) at = moved_binds u d n (commit.given_up n).step intents found at (giveup_next n) (giveup_step begun paths tree n)
+      by_now d found (Committing n) at = moved_binds u d n (plan_of n) (commit.given_up n).step intents found at (omega arith) (giveup_next n) (giveup_step begun paths tree n)
 
       by : (o : Option Doing) → doing_of u c ≡ o → KnowsBinds sent k (give_up_doing u intents c o).part
       by None none = knows
