@@ -1,6 +1,7 @@
 pub mod Begun
 pub mod BothEach
 pub mod Copies
+pub mod ChangedParts
 pub mod DecidedPaths
 pub mod EntryKeeps
 pub mod EntryRows
