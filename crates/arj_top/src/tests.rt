@@ -65,13 +65,15 @@ fn run(
     script: Bytes,
     feeding: Feeding,
 ) -> Result<(u8, MemSink, Option<BadLine>, Option<u8>), AllocError> {
+    let words = words(alloc, word)?;
+    let room = room(alloc, 32)?;
     let failing = numbers(alloc, feeding.failing_read)?;
-    let mut source = MemSource::new(script, feeding.chunk.max(1), failing);
-    let mut sink = MemSink::new(room(alloc, 32)?, numbers(alloc, feeding.failing_write)?);
+    let failing_write = numbers(alloc, feeding.failing_write)?;
     let mut rack = empty_rack(alloc)?;
+    let mut source = MemSource::new(script, feeding.chunk.max(1), failing);
+    let mut sink = MemSink::new(room, failing_write);
     let mut journal = Lines::new(alloc);
     let mut why = None;
-    let words = words(alloc, word)?;
     let status = arjuna(
         alloc,
         words.as_slice(),
@@ -252,24 +254,38 @@ fn stopped_run(
 ) -> Result<(u8, bool, Option<(u8, u8)>, Option<(u8, u8)>), AllocError>
     requires { 1 ≤ call }
 {
-    let mut source = SureSource::new(bytes(alloc, [TWO_OBJECTS].as_slice())?);
-    let mut sink = SureSink::new(room(alloc, 1)?);
     let mut rack = stopping_rack(alloc, call)?;
+    let (status, same) = sure_run(alloc, &mut rack, output)?;
+    let first = version_and_value(alloc, &mut rack, 1)?;
+    let second = version_and_value(alloc, &mut rack, 2)?;
+    Ok((status, same, first, second))
+}
+
+// The status of a run of it over these disks, and whether the journal is as it must be.
+fn sure_run(
+    alloc: Global,
+    rack: &mut Rack<MemDisk>,
+    output: &[u8],
+) -> Result<(u8, bool), AllocError>
+    requires { All (λ disk. (slot : Slot) → ⟦<MemDisk as Disk>⟧.file disk slot ≡ None) rack.old }
+{
+    let words = words(alloc, "replay")?;
+    let room = room(alloc, 1)?;
+    let script = bytes(alloc, [TWO_OBJECTS].as_slice())?;
+    let mut source = SureSource::new(script);
+    let mut sink = SureSink::new(room);
     let mut journal = Lines::new(alloc);
     let mut why = None;
-    let words = words(alloc, "replay")?;
     let status = arjuna(
         alloc,
         words.as_slice(),
         &mut source,
         &mut sink,
-        &mut rack,
+        rack,
         &mut journal,
         &mut why,
     );
-    let first = version_and_value(alloc, &mut rack, 1)?;
-    let second = version_and_value(alloc, &mut rack, 2)?;
-    Ok((status, sink.taken() == Some(output), first, second))
+    Ok((status, sink.taken() == Some(output)))
 }
 
 #[test]
