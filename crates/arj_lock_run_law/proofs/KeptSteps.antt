@@ -1,22 +1,26 @@
 -- The object is seen in every world of a run: each handler's walk is put together, and each stop is seen.
-use Rattle.std.proofs.Common.{◌≡◌, ◌+◌, ℕ, List, [], ◌∷◌, not, Bool, true, false, Option, Some, None, refl, ap, subst, inr}
+use Rattle.std.proofs.Common.{◌≡◌, ◌∙◌, ◌+◌, ℕ, List, [], ◌∷◌, not, Bool, true, false, Option, Some, None, refl, ap, subst, inr, sym, inl}
 use Rattle.std.specs.Prelude.{is_some}
 use Rattle.arj_lock.proofs.Members.{in_from, in_to}
-use Rattle.arj_protocol.specs.Words.{Asked, Header, Kind, Label, Message, Uid}
+use Rattle.arj_protocol.specs.Words.{Asked, Header, Kind, Label, Message, Path, Uid, uids_of}
 use Rattle.arj_protocol.specs.Words.message
-use Rattle.arj_protocol.specs.Ask.{Reply, answers}
+use Rattle.arj_protocol.specs.Ask.{Reply, actor, answers}
 use Rattle.arj_protocol.specs.Asking.{again_all, begin_action}
 use Rattle.arj_protocol.specs.Coord.{Coord}
 use Rattle.arj_protocol.specs.Effect.{Disk, Do, Effect, Say, Send, Served, worked}
 use Rattle.arj_protocol.specs.Ending.{acked, answer_query}
 use Rattle.arj_protocol.specs.Follow.{tick_outs}
 use Rattle.arj_protocol.specs.Node.{Parts, Took, by_reply, coord_heard, handle, is_meant, with_coord}
-use Rattle.arj_protocol.specs.Step.{Input, acts, begin_refusal, parent_of, parts_in, refusal_up, restart_outs}
-use Rattle.arj_protocol.specs.Tree.{next_uid, path_below}
+use Rattle.arj_protocol.specs.Step.{Input, acts, begin_reasons, begin_refusal, refused_by, parent_of, parts_in, refusal_up, restart_outs}
+use Rattle.arj_protocol.specs.Tree.{Branch, branch_of, is_open, is_open_branch, next_uid, path_below}
 use Rattle.arj_protocol.specs.World.{format, is_serial_kind}
 use Rattle.arj_lock_law.specs.State.{State}
-use Rattle.arj_part_law.specs.Actions.{Action}
+use Rattle.arj_part_law.specs.Actions.{Action, MayBegin}
+use Rattle.arj_part_law.specs.Coords.{IsGoodCoord}
+use Rattle.arj_part_law.specs.Trees.{MayStand}
+use Rattle.arj_part_law.proofs.CoordInputs.{IsNext, named_found, next_path, off}
 use Rattle.arj_run_law.specs.Worlds.{IsGoodOf}
+use Rattle.arj_run_law.proofs.Begins as begins
 use Rattle.arj_run_law.proofs.Begins.{begin_good}
 use Rattle.arj_run_law.proofs.Handled.{act_good, message_good, stopped_good, tick_good}
 use Rattle.arj_run_law.proofs.Starts.{first_of, restart_good}
@@ -32,6 +36,8 @@ use Rattle.arj_lock_run_law.specs.Kept.{AreLocksSeen, GivesLocks, HasCome, Locks
 use Rattle.arj_lock_run_law.specs.Sees.{SeesLocks}
 use Rattle.arj_lock_run_law.specs.World.{IsSeenSo, is_for_parts}
 use Rattle.arj_lock_run_law.proofs.AckSteps.{acks_go}
+use Rattle.arj_lock_run_law.proofs.BeginGoes.{begins_go}
+use Rattle.arj_lock_run_law.proofs.GoodSteps.{good_node}
 use Rattle.arj_lock_run_law.proofs.FirstSteps.{first_goes}
 use Rattle.arj_lock_run_law.proofs.HandleSteps.{messages_go}
 use Rattle.arj_lock_run_law.proofs.LineSteps.{down_stays, lines_stay, stops_go}
@@ -213,6 +219,54 @@ module _ (hd : Header) (f : Fixed) (x : ℕ) (R : Seen → Type 0) (keeps : Keep
       kept_walk f x R z.1.0 e k D.outs (with_coord t D.part) d M (keeps.act e k d t i M is none z.0) (act_good e k d t M (z.1.0, z.1.1) hd i is none)
       (λ agrees. ((let g = z.1.2 agrees in g.0), gives.act z.1.0 (let g = z.1.2 agrees in g.0) s e i z.0 (seen_in (world_at s) z.1 agrees) is none))
 
+  -- an action that isn't refused may stand where it begins
+  module _ (e : ℕ) (s : Spot) (l : Label) (how : Kind) (parent : Option Label) (z : Kept (world_at s)) (older : Agrees f x z.1.0 (let M = s.seen in M.sent))
+      (new : label_at l (let M = s.seen in M.labels) ≡ None) (may : MayGive (let M = s.seen in M.labels) s.node how parent) (none : begin_refusal how (coord_at s) parent ≡ None) where
+    abbrev q : Coord
+    q = coord_at s
+
+    abbrev o : Option Branch
+    o = parent_of parent q
+
+    abbrev p : Path
+    p = path_below how o (next_uid q.tree)
+
+    abbrev a : Action
+    a = record { path = p; kind = how }
+
+    begins_so : MayBegin z.1.0 how o
+    begins_so = begins.may e s.node s.disk s.parts l how parent s.seen new may none (z.1.0, z.1.1)
+
+    its_next : IsNext how o q.tree
+    its_next = next_path z.1.0 (let w = older.whole in w.begun) how o q.tree begins_so
+
+    open_parent : (b : Branch) → o ≡ Some b → is_some b.ended ≡ false
+    open_parent b is = by parent is none
+      where
+        by : (r : Option Label) → parent_of r q ≡ Some b → begin_refusal how q r ≡ None → is_some b.ended ≡ false
+        by None e f = absurd (cc e)
+        by (Some y) e f = (off (begin_reasons how b q) (ap (refused_by (begin_reasons how) q) (sym e) ∙ f)).0
+
+    pub may_stand : Agrees f x (a ∷ z.1.0) (let M = s.seen in M.sent) → MayStand f.paths how q.tree p
+    may_stand agrees = record {
+      uid = its_next.uid;
+      path = sym path_is ∙ ap f.paths its_next.uid;
+      parent = λ h is. let g = its_next.heir h is in ap (λ (u : Uid). is_open u q.tree) g.2 ∙ ap is_open_branch (found g.0 g.1) ∙ ap not (open_parent g.0 g.1);
+    }
+      where
+        path_is : f.paths (actor p) ≡ uids_of p
+        path_is = (let w = agrees.whole in w.agree a (in_to a (a ∷ z.1.0) (inl refl)))
+
+        good : IsGoodCoord z.1.0 f.paths q
+        good = let n = good_node (case_of f x z.1.0 (let g = z.1.2 older in g.0)) s (seen_in (world_at s) z.1 older) in n.coord
+
+        found : (b : Branch) → o ≡ Some b → branch_of (actor b.path) q.tree ≡ Some b
+        found b is = by parent is
+          where
+            by : (r : Option Label) → parent_of r q ≡ Some b → branch_of (actor b.path) q.tree ≡ Some b
+            by None e = absurd (cc e)
+            by (Some y) e = named_found z.1.0 f.paths (let w = older.whole in w.tree) [] q good y b e
+
   kept_begin : (e k : ℕ) (d : Disk) (t : Parts) (l : Label) (how : Kind) (parent : Option Label) (M : Seen) → label_at l M.labels ≡ None → MayGive M.labels k how parent → begin_refusal how t.coord parent ≡ None → Kept (up k d t M)
       → let D = begin_action l how parent (parent_of parent t.coord) t.coord in Walks Kept e k D.outs (Up Kept k (with_coord t D.part)) d (given l (record { node = k; serial = is_serial_kind how }) M)
   kept_begin e k d t l how parent M new may none z =
@@ -221,7 +275,7 @@ module _ (hd : Header) (f : Fixed) (x : ℕ) (R : Seen → Type 0) (keeps : Keep
       let N = given l (record { node = k; serial = is_serial_kind how }) M in
       let a : Action = record { path = path_below how (parent_of parent t.coord) (next_uid t.coord.tree); kind = how } in
       kept_walk f x R (a ∷ z.1.0) e k D.outs (with_coord t D.part) d N (keeps.begin e k d t l how parent M new may none z.0) (begin_good e k d t l how parent M new may none (z.1.0, z.1.1))
-      (λ agrees. let older = agree_older f x a z.1.0 M.sent agrees in ((let g = z.1.2 older in g.0), gives.begin z.1.0 (let g = z.1.2 older in g.0) s e l how parent z.0 (seen_in (world_at s) z.1 older) new may none agrees))
+      (λ agrees. let older = agree_older f x a z.1.0 M.sent agrees in ((let g = z.1.2 older in g.0), begins_go (case_of f x z.1.0 (let g = z.1.2 older in g.0)) s e l (record { node = k; serial = is_serial_kind how }) how parent (parent_of parent t.coord) (seen_in (world_at s) z.1 older) (let w = agrees.whole in w.begun.0) (may_stand e s l how parent z older new may none agrees) (gives.begin z.1.0 (let g = z.1.2 older in g.0) s z.0 (seen_in (world_at s) z.1 older))))
 
   kept_tick : (e k : ℕ) (d : Disk) (t : Parts) (M : Seen) → Kept (up k d t M)
       → Walks Kept e k (tick_outs (record { number = k; disk = d; live = Some t }) t) (Up Kept k (with_coord t (let q = again_all t.coord.doings t.coord in q.part))) d M

@@ -1,20 +1,20 @@
 -- Whole runs: the object is seen in every world of a run, where relations of the protocol alone give what the handlers count on.
-use Rattle.std.specs.Prelude.{◌≡◌, Bool, ℕ, true, List, ◌∷◌, Option, Some, None}
-use Rattle.arj_protocol.specs.Words.{Asked, Header, Kind, Label, Message, Uid}
+use Rattle.std.specs.Prelude.{◌≡◌, Bool, ℕ, true, List, Some, None}
+use Rattle.arj_protocol.specs.Words.{Asked, Header, Message, Uid}
 use Rattle.arj_protocol.specs.Words.message
 use Rattle.arj_protocol.specs.Ask.{Reply, answers}
-use Rattle.arj_protocol.specs.Asking.{begin_action}
+use Rattle.arj_protocol.specs.Coord.{no_root, root_at}
 use Rattle.arj_protocol.specs.Effect.{Disk, Effect}
 use Rattle.arj_protocol.specs.Node.{Parts, Took, handle, is_meant, with_coord}
-use Rattle.arj_protocol.specs.Step.{Input, acts, begin_refusal, first_disk, parent_of, refusal_up}
-use Rattle.arj_protocol.specs.Tree.{next_uid, path_below}
+use Rattle.arj_protocol.specs.Step.{Input, acts, first_disk, refusal_up}
+use Rattle.arj_protocol.specs.Tree.{next_uid}
 use Rattle.arj_protocol.specs.World.{format, is_serial_kind, run_all}
 use Rattle.arj_protocol.specs.World as world
 use Rattle.arj_lock_law.specs.State.{State}
 use Rattle.arj_part_law.specs.Actions.{Action}
 use Rattle.arj_run_law.specs.Worlds.{IsGoodOf}
-use Rattle.arj_view_law.specs.Keeps.{Holds, Keeps, MayGive, is_act, label_at}
-use Rattle.arj_view_law.specs.Seen.{In, Seen, down, given}
+use Rattle.arj_view_law.specs.Keeps.{Holds, Keeps, is_act}
+use Rattle.arj_view_law.specs.Seen.{In, Seen, down}
 use Rattle.arj_view_law.specs.Walks.{Up, Walks}
 use Rattle.arj_lock_fact_law.specs.Works.{KnowsEnds}
 use Rattle.arj_lock_run_law.specs.Asking.{HasWholeRoots, IsAskedAbout, TellsRecords}
@@ -37,8 +37,8 @@ pub record HasCome (s : Spot) (from : ℕ) (m : Message) (v : Parts) (outs : Lis
   pub meant : is_meant (let q = s in q.parts) m ≡ true
   pub takes : handle s.node s.disk s.parts from m ≡ Took v outs
 
--- What a relation gives, where it holds and the object is seen: what naming, servers, records and questions are known for, and that the
--- object is seen through what a coordinator does when it is answered, at an input about an action, and as an action begins.
+-- What a relation gives, where it holds and the object is seen: what naming, servers, records, questions and new roots are known for, and
+-- that the object is seen through what a coordinator does when it is answered, and at an input about an action.
 pub record GivesLocks (hd : Header) (f : Fixed) (x : ℕ) (R : Seen → Type 0) : Type 0 where
   pub holds : (begun : List Action) (S : State) (s : Spot) → R (world_at s) → IsSeenIn (case_of f x begun S) (world_at s) → HoldsNamingIn (case_of f x begun S) s.node (let t = s.parts in t.naming)
   pub parts : (begun : List Action) (S : State) (s : Spot) (from : ℕ) (m : Message) (v : Parts) (outs : List Effect) → R (world_at s) → IsSeenIn (case_of f x begun S) (world_at s) → HasCome s from m v outs → is_for_parts m ≡ true
@@ -49,12 +49,7 @@ pub record GivesLocks (hd : Header) (f : Fixed) (x : ℕ) (R : Seen → Type 0) 
       → Walks (IsSeenSo (case_of f x begun S)) e s.node outs (Up (IsSeenSo (case_of f x begun S)) s.node v) s.disk s.seen
   pub act : (begun : List Action) (S : State) (s : Spot) (e : ℕ) (i : Input) → R (world_at s) → IsSeenIn (case_of f x begun S) (world_at s) → is_act i ≡ true → refusal_up hd i (coord_at s) ≡ None
       → let D = acts i (let d = s.disk in d.intents) (coord_at s) in Walks (IsSeenSo (case_of f x begun S)) e s.node D.outs (Up (IsSeenSo (case_of f x begun S)) s.node (with_coord s.parts D.part)) s.disk s.seen
-  pub begin : (begun : List Action) (S : State) (s : Spot) (e : ℕ) (l : Label) (how : Kind) (parent : Option Label) → R (world_at s) → IsSeenIn (case_of f x begun S) (world_at s)
-      → label_at l (let M = s.seen in M.labels) ≡ None → MayGive (let M = s.seen in M.labels) s.node how parent → begin_refusal how (coord_at s) parent ≡ None
-      → let D = begin_action l how parent (parent_of parent (coord_at s)) (coord_at s) in
-      let b = case_of f x (record { path = path_below how (parent_of parent (coord_at s)) (next_uid (let q = coord_at s in q.tree)); kind = how } ∷ begun) S in
-      Agrees f x b.begun (let M = s.seen in M.sent)
-      → Walks (IsSeenSo b) e s.node D.outs (Up (IsSeenSo b) s.node (with_coord s.parts D.part)) s.disk (given l (record { node = s.node; serial = is_serial_kind how }) s.seen)
+  pub begin : (begun : List Action) (S : State) (s : Spot) → R (world_at s) → IsSeenIn (case_of f x begun S) (world_at s) → root_at (next_uid (let q = coord_at s in q.tree)) (coord_at s) ≡ no_root
   pub tick : (begun : List Action) (S : State) (s : Spot) → R (world_at s) → IsSeenIn (case_of f x begun S) (world_at s) → KnowsAsks (case_of f x begun S) (coord_at s) × KnowsEnds (coord_at s) × TellsRecords s
   pub restart : (begun : List Action) (S : State) (k : ℕ) (d : Disk) (M : Seen) → R (down k d M) → IsSeenIn (case_of f x begun S) (down k d M) → KnowsEntry x k d
   pub first : KnowsEntry x 1 (first_disk hd 1)
