@@ -3,7 +3,7 @@ use Rattle.std.proofs.Common.{◌≡◌, ◌∙◌, ℕ, List, subst}
 use Rattle.arj_protocol.specs.Words.{Message, Uid}
 use Rattle.arj_protocol.specs.Effect.{Effect}
 use Rattle.arj_protocol.specs.Node.{Parts, Took, handle}
-use Rattle.arj_part_law.specs.Actions.{action_of}
+use Rattle.arj_part_law.specs.Actions.{AreBegun, action_of}
 use Rattle.arj_part_law.specs.Incs.{IsTrulyHandled}
 use Rattle.arj_part_law.specs.Nodes.{IsGoodNode}
 use Rattle.arj_part_law.proofs.SaidIncs.{truly_handled}
@@ -33,6 +33,10 @@ module _ (c : Case) (s : Spot) (seen : IsSeenIn c (world_at s)) where
     works = (let f = its.faithful in f.works);
     placed = λ u b found. subst (λ (w : Uid). IsPlaced (let f = c.fixed in f.act w) b.kind) (let g = good_node.coord in let r = g.tree in let l = r.lists in l.places u b found) (tree_of.placed (action_of b) (let g = good_node.coord in g.known u b found));
   }
+
+  pub steady_begun : AreBegun (let z = steady in z.actions)
+  unfolding steady
+  steady_begun = tree_of.begun
 
   pub of_family : KnowsServer c s → IsOfFamily (family_of c.fixed c.begun) (let t = s.parts in t.server)
   of_family knows = record { good = good_node.server; knows = good_node.knows; listed = knows.listed }

@@ -26,4 +26,5 @@ pub mod QuerySteps
 pub mod CommitGoes
 pub mod AckSteps
 pub mod BeginGoes
+pub mod InputGoes
 pub mod KeptSteps

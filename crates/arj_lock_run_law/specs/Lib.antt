@@ -6,3 +6,4 @@ pub mod World
 pub mod Coordinating
 pub mod Asking
 pub mod Kept
+pub mod Inputs

@@ -1,5 +1,6 @@
 // Coordinators, in the whole world as the lock machine of one object has it.
 ghost use Rattle.arj_lock_run_law.specs.Coordinating.{AbortsGo, BeginsGo, CallAnswersGo, CallsGo, CommitAnswersGo, CoordsGo, DoomedCommitsGo, IncludeAnswersGo, IncludesGo, LostCallsGo, LostCommitsGo, NestedCommitsGo, OtherAnswersGo, OtherLostGo, TopCommitsGo};
+ghost use Rattle.arj_lock_run_law.specs.Inputs.{InputsGo};
 
 /// A coordinator says lines and sends messages, for one unit: where the machine has gone along, and what is sent is shown in its state,
 /// the object is seen in the whole world at the end and wherever the walk is. It does nothing when it runs.
@@ -44,4 +45,10 @@ pub fn commits_go_in_the_world()
 /// runs.
 pub fn begins_go_in_the_world()
     ensures { BeginsGo }
+{}
+
+/// An input about an action that isn't refused goes in the whole world: a call, an include, a commit, an abort, a giveup. What is known of
+/// the coordinator by the protocol alone is counted on, before the input and behind it. It does nothing when it runs.
+pub fn inputs_go_in_the_world()
+    ensures { InputsGo }
 {}
