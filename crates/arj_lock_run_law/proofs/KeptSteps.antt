@@ -8,10 +8,11 @@ use Rattle.arj_protocol.specs.Ask.{Reply, actor, answers}
 use Rattle.arj_protocol.specs.Asking.{again_all, begin_action}
 use Rattle.arj_protocol.specs.Coord.{Coord}
 use Rattle.arj_protocol.specs.Effect.{Disk, Do, Effect, Say, Send, Served, worked}
-use Rattle.arj_protocol.specs.Ending.{acked, answer_query}
+use Rattle.arj_protocol.specs.Ending.{abort_action, acked, answer_query}
 use Rattle.arj_protocol.specs.Follow.{tick_outs}
 use Rattle.arj_protocol.specs.Node.{Parts, Took, by_reply, coord_heard, handle, is_meant, with_coord}
-use Rattle.arj_protocol.specs.Step.{Input, acts, begin_reasons, begin_refusal, refused_by, parent_of, parts_in, refusal_up, restart_outs}
+use Rattle.arj_protocol.specs.Step as input
+use Rattle.arj_protocol.specs.Step.{Input, abort_reasons, branch_named, on_branch, acts, begin_reasons, begin_refusal, refused_by, parent_of, parts_in, refusal_up, restart_outs}
 use Rattle.arj_protocol.specs.Tree.{Branch, branch_of, is_open, is_open_branch, next_uid, path_below}
 use Rattle.arj_protocol.specs.World.{format, is_serial_kind}
 use Rattle.arj_lock_law.specs.State.{State}
@@ -30,7 +31,7 @@ use Rattle.arj_view_law.specs.Walks.{Up, Walks, halted}
 use Rattle.arj_view_law.proofs.Happens.{runs_hold}
 use Rattle.arj_view_law.proofs.Together.{walks_both, walks_to, walks_where}
 use Rattle.arj_lock_run_law.specs.Beside.{Case, IsSeenIn, Spot, world_at}
-use Rattle.arj_lock_run_law.specs.Coordinating.{coord_at}
+use Rattle.arj_lock_run_law.specs.Coordinating.{KnowsCoord, coord_at}
 use Rattle.arj_lock_run_law.specs.Fixed.{Agrees, Fixed}
 use Rattle.arj_lock_run_law.specs.Kept.{AreLocksSeen, GivesLocks, HasCome, LocksAreKept, RunsKeepLocks, case_of}
 use Rattle.arj_lock_run_law.specs.Sees.{SeesLocks}
@@ -44,6 +45,7 @@ use Rattle.arj_lock_run_law.proofs.LineSteps.{down_stays, lines_stay, stops_go}
 use Rattle.arj_lock_run_law.proofs.QuerySteps.{queries_go}
 use Rattle.arj_lock_run_law.proofs.RestartWalks.{restarts_go}
 use Rattle.arj_lock_run_law.proofs.TickSteps.{ticks_go}
+use Rattle.arj_lock_run_law.proofs.ToldSteps.{aborts_go}
 
 -- ---- more is sent along a walk
 
@@ -212,12 +214,39 @@ module _ (hd : Header) (f : Fixed) (x : ℕ) (R : Seen → Type 0) (keeps : Keep
 
   -- ---- the others
 
+  -- at an input about an action the object is seen through what the coordinator does
+  module _ (e : ℕ) (s : Spot) (z : Kept (world_at s)) (agrees : Agrees f x z.1.0 (let M = s.seen in M.sent)) where
+    abbrev b : Case
+    b = case_of f x z.1.0 (let g = z.1.2 agrees in g.0)
+
+    abbrev ActGoes : Input → Type 0
+    ActGoes i = let D = acts i (let d = s.disk in d.intents) (coord_at s) in Walks (IsSeenSo b) e s.node D.outs (Up (IsSeenSo b) s.node (with_coord s.parts D.part)) s.disk s.seen
+
+    seen_so : IsSeenIn b (world_at s)
+    seen_so = seen_in (world_at s) z.1 agrees
+
+    abort_goes : (l : Label) → refusal_up hd (input.Abort l) (coord_at s) ≡ None → ActGoes (input.Abort l)
+    abort_goes l none = by (branch_named l (coord_at s)) refl none (gives.abort z.1.0 (let g = z.1.2 agrees in g.0) s l z.0 seen_so none)
+      where
+        by : (o : Option Branch) → branch_named l (coord_at s) ≡ o → refused_by abort_reasons (coord_at s) o ≡ None → (let D = on_branch (λ (w : Branch). abort_action (actor w.path) (let d = s.disk in d.intents) (coord_at s)) (coord_at s) o in KnowsCoord b s D.part)
+            → let D = on_branch (λ (w : Branch). abort_action (actor w.path) (let d = s.disk in d.intents) (coord_at s)) (coord_at s) o in Walks (IsSeenSo b) e s.node D.outs (Up (IsSeenSo b) s.node (with_coord s.parts D.part)) s.disk s.seen
+        by None of free knows = absurd (cc free)
+        by (Some w) of free knows = aborts_go b s e (actor w.path) w seen_so (named_found z.1.0 f.paths (let t = agrees.whole in t.tree) [] (coord_at s) (let n = good_node b s seen_so in n.coord) l w of) (off (abort_reasons w (coord_at s)) free).0 knows
+
+    pub input_goes : (i : Input) → is_act i ≡ true → refusal_up hd i (coord_at s) ≡ None → ActGoes i
+    input_goes (input.Abort l) is none = abort_goes l none
+    input_goes (input.Call l y o) is none = gives.act z.1.0 (let g = z.1.2 agrees in g.0) s e (input.Call l y o) z.0 seen_so is refl none
+    input_goes (input.Include l y st) is none = gives.act z.1.0 (let g = z.1.2 agrees in g.0) s e (input.Include l y st) z.0 seen_so is refl none
+    input_goes (input.Commit l) is none = gives.act z.1.0 (let g = z.1.2 agrees in g.0) s e (input.Commit l) z.0 seen_so is refl none
+    input_goes (input.GiveUp l) is none = gives.act z.1.0 (let g = z.1.2 agrees in g.0) s e (input.GiveUp l) z.0 seen_so is refl none
+    input_goes i is none = absurd (cc is)
+
   kept_act : (e k : ℕ) (d : Disk) (t : Parts) (i : Input) (M : Seen) → is_act i ≡ true → refusal_up hd i t.coord ≡ None → Kept (up k d t M) → let D = acts i d.intents t.coord in Walks Kept e k D.outs (Up Kept k (with_coord t D.part)) d M
   kept_act e k d t i M is none z =
       let D = acts i d.intents t.coord in
       let s : Spot = record { node = k; disk = d; parts = t; seen = M } in
       kept_walk f x R z.1.0 e k D.outs (with_coord t D.part) d M (keeps.act e k d t i M is none z.0) (act_good e k d t M (z.1.0, z.1.1) hd i is none)
-      (λ agrees. ((let g = z.1.2 agrees in g.0), gives.act z.1.0 (let g = z.1.2 agrees in g.0) s e i z.0 (seen_in (world_at s) z.1 agrees) is none))
+      (λ agrees. ((let g = z.1.2 agrees in g.0), input_goes e s z agrees i is none))
 
   -- an action that isn't refused may stand where it begins
   module _ (e : ℕ) (s : Spot) (l : Label) (how : Kind) (parent : Option Label) (z : Kept (world_at s)) (older : Agrees f x z.1.0 (let M = s.seen in M.sent))
