@@ -14,21 +14,27 @@ use Rattle.arj_protocol.specs.Step.{Input, abort_reasons, acts, branch_named, ca
 use Rattle.arj_protocol.specs.Step as input
 use Rattle.arj_protocol.specs.Tree.{Branch, branch_of, has_open_child, is_serial}
 use Rattle.arj_lock_law.specs.Actions.{top}
-use Rattle.arj_part_law.specs.Coords.{IsAsking, IsBusy}
+use Rattle.arj_part_law.specs.Coords.{IsAsking, IsBusy, IsGoodCoord}
 use Rattle.arj_part_law.specs.Requests.{IsNumbered}
+use Rattle.arj_part_law.specs.Claims.{GoesOn}
+use Rattle.arj_part_law.specs.Ends.{IsSure}
+use Rattle.arj_part_law.proofs.EndsSaid.{sure_acts}
+use Rattle.arj_part_law.proofs.GoodNodes.{input_well}
 use Rattle.arj_part_law.proofs.CoordInputs.{behind, named_found, off}
-use Rattle.arj_part_law.proofs.TrueSteps.{work_there}
+use Rattle.arj_part_law.proofs.TrueSteps.{well_acts, work_there}
+use Rattle.arj_view_law.specs.Keeps.{is_act}
 use Rattle.arj_lock_fact_law.specs.Given.{IsPlaced}
-use Rattle.arj_lock_fact_law.proofs.Given.{actions_topped, commits_first, free_alone, waiters_alone}
+use Rattle.arj_lock_fact_law.specs.Works.{KnowsEnds}
+use Rattle.arj_lock_fact_law.proofs.Given.{actions_topped, commits_first, free_alone, listed_unserial, waiters_alone}
 use Rattle.arj_lock_fact_law.proofs.Keeping.{plans_have_kept}
 use Rattle.arj_lock_fact_law.proofs.LowGrants.{plans_grant_low}
 use Rattle.arj_lock_view_law.specs.Acting.{IsFreeToEnd}
 use Rattle.arj_lock_view_law.specs.Actions.{IsLone}
 use Rattle.arj_lock_view_law.specs.Calling.{IsReached}
-use Rattle.arj_lock_view_law.specs.Telling.{Family}
+use Rattle.arj_lock_view_law.specs.Telling.{AreOneTree, Family}
 use Rattle.arj_lock_view_law.proofs.TreeSteps.{action_kind}
 use Rattle.arj_lock_run_law.specs.Beside.{Case, HoldsNamingIn, IsSeenIn, Spot, view_in, world_at}
-use Rattle.arj_lock_run_law.specs.Coordinating.{IsWorking, StepGoes, coord_at, records_at}
+use Rattle.arj_lock_run_law.specs.Coordinating.{IsWorking, KnowsAsks, KnowsCoord, StepGoes, coord_at, records_at}
 use Rattle.arj_lock_run_law.specs.Fixed.{Fixed, family_of}
 use Rattle.arj_lock_run_law.specs.Inputs.{InputsGo, KnowsAfter, KnowsInput}
 use Rattle.arj_lock_run_law.specs.Sees.{SeesUp}
@@ -37,6 +43,12 @@ use Rattle.arj_lock_run_law.proofs.CommitGoes.{lost_commits_go, top_commits_go}
 use Rattle.arj_lock_run_law.proofs.GoodSteps.{good_node, its, steady, steady_begun}
 use Rattle.arj_lock_run_law.proofs.OtherSteps.{here_of}
 use Rattle.arj_lock_run_law.proofs.ToldSteps.{aborts_go, doomed_commits_go, nested_commits_go}
+
+-- all that is known of the coordinator behind the step
+record Behind (c : Case) (s : Spot) (C : Coord) : Type 0 where
+  coord : KnowsCoord c s C
+  asks : KnowsAsks c C
+  ends : KnowsEnds C
 
 unserial_is : (k : Kind) → is_serial k ≡ false → k ≢ kind.Serial
 unserial_is k off_it is = let bad : true ≡ false = sym (ap is_serial is) ∙ off_it in cc bad
@@ -79,7 +91,7 @@ module _ (c : Case) (s : Spot) (e : ℕ) (is_seen : IsSeenIn c (world_at s)) (ho
     free up down = let a = free_alone g C b does.0 placed there does.1 up down in record { steady = steady c s is_seen; there = there; unended = unended; works = does.1; idle = a.0; lone = a.1 }
 
     -- what waits is given up
-    given_up_now : (d : Doing) (n : Now) → doing_of u C ≡ Some d → d.now ≡ n → is_waiting_now n ≡ true → let D = gives_up u (records_at s) C n in KnowsAfter c s D.part → StepGoes c s e D
+    given_up_now : (d : Doing) (n : Now) → doing_of u C ≡ Some d → d.now ≡ n → is_waiting_now n ≡ true → let D = gives_up u (records_at s) C n in Behind c s D.part → StepGoes c s e D
     given_up_now d Idle works is waits_it after = absurd (cc waits_it)
     given_up_now d (Calling w) works is waits_it after = by w.goal refl (about w.x c.x)
       where
@@ -111,7 +123,7 @@ module _ (c : Case) (s : Spot) (e : ℕ) (is_seen : IsSeenIn c (world_at s)) (ho
         at_least = let z = (subst (IsNumbered d.req) is (let i = its c s is_seen in i.numbered u d works)).0 in omega (arith, z)
 
     -- the action commits
-    commits : (up : waits_above b C ≡ false) (down : waits_below b C ≡ false) → sibling_waits b C ≡ false → has_open_child u C.tree ≡ false → let D = commit_action b (records_at s) C in KnowsAfter c s D.part → StepGoes c s e D
+    commits : (up : waits_above b C ≡ false) (down : waits_below b C ≡ false) → sibling_waits b C ≡ false → has_open_child u C.tree ≡ false → let D = commit_action b (records_at s) C in Behind c s D.part → StepGoes c s e D
     commits up down siblings childless after = by b.doomed refl
       where
         fr : IsFreeToEnd f.act f.paths C u b does.0
@@ -145,7 +157,7 @@ module _ (c : Case) (s : Spot) (e : ℕ) (is_seen : IsSeenIn c (world_at s)) (ho
   named : (l : Label) (b : Branch) → branch_named l C ≡ Some b → branch_of (actor b.path) C.tree ≡ Some b
   named l b is = named_found c.begun f.paths (let a = is_seen.agrees in let w = a.whole in w.tree) (records_at s) C placed.good l b is
 
-  calls : (hd : Header) (l : Label) (x : ℕ) (o : Op) (q : Option Branch) → branch_named l C ≡ q → refused_by (call_reasons hd x o) C q ≡ None → let D = on_branch (λ b. call b.path x o C) C q in KnowsAfter c s D.part → StepGoes c s e D
+  calls : (hd : Header) (l : Label) (x : ℕ) (o : Op) (q : Option Branch) → branch_named l C ≡ q → refused_by (call_reasons hd x o) C q ≡ None → let D = on_branch (λ b. call b.path x o C) C q in Behind c s D.part → StepGoes c s e D
   calls hd l x o None is none after = absurd (cc none)
   calls hd l x o (Some b) is unrefused after =
       let rs = call_reasons hd x o b C in
@@ -158,7 +170,7 @@ module _ (c : Case) (s : Spot) (e : ℕ) (is_seen : IsSeenIn c (world_at s)) (ho
       let unserial = unserial_is b.kind three.0 in
       calls_go c s e x (actor b.path) b (does b there one.0).0 o is_seen (working b there one.0 (does b there one.0).0 fr.works fr.lone unserial) fr.idle unserial after.coord after.asks
 
-  includes : (hd : Header) (l : Label) (x store : ℕ) (q : Option Branch) → branch_named l C ≡ q → refused_by (include_reasons hd x) C q ≡ None → let D = on_branch (λ b. include b.path x store C) C q in KnowsAfter c s D.part → StepGoes c s e D
+  includes : (hd : Header) (l : Label) (x store : ℕ) (q : Option Branch) → branch_named l C ≡ q → refused_by (include_reasons hd x) C q ≡ None → let D = on_branch (λ b. include b.path x store C) C q in Behind c s D.part → StepGoes c s e D
   includes hd l x store None is none after = absurd (cc none)
   includes hd l x store (Some b) is unrefused after =
       let rs = include_reasons hd x b C in
@@ -171,7 +183,7 @@ module _ (c : Case) (s : Spot) (e : ℕ) (is_seen : IsSeenIn c (world_at s)) (ho
       let unserial = unserial_is b.kind three.0 in
       includes_go c s e x store (actor b.path) b (does b there one.0).0 is_seen (working b there one.0 (does b there one.0).0 fr.works fr.lone unserial) fr.idle unserial after.coord after.asks
 
-  commits_named : (l : Label) (q : Option Branch) → branch_named l C ≡ q → refused_by commit_reasons C q ≡ None → let D = on_branch (λ b. commit_action b (records_at s) C) C q in KnowsAfter c s D.part → StepGoes c s e D
+  commits_named : (l : Label) (q : Option Branch) → branch_named l C ≡ q → refused_by commit_reasons C q ≡ None → let D = on_branch (λ b. commit_action b (records_at s) C) C q in Behind c s D.part → StepGoes c s e D
   commits_named l None is none after = absurd (cc none)
   commits_named l (Some b) is unrefused after =
       let rs = commit_reasons b C in
@@ -182,11 +194,11 @@ module _ (c : Case) (s : Spot) (e : ℕ) (is_seen : IsSeenIn c (world_at s)) (ho
       let quiet = or_parts (waits_above b C) (waits_below b C) more.0 in
       commits b (named l b is) one.0 quiet.0 quiet.1 more.1 three.0 after
 
-  aborts : (l : Label) (q : Option Branch) → branch_named l C ≡ q → refused_by abort_reasons C q ≡ None → let D = on_branch (λ b. abort_action (actor b.path) (records_at s) C) C q in KnowsAfter c s D.part → StepGoes c s e D
+  aborts : (l : Label) (q : Option Branch) → branch_named l C ≡ q → refused_by abort_reasons C q ≡ None → let D = on_branch (λ b. abort_action (actor b.path) (records_at s) C) C q in Behind c s D.part → StepGoes c s e D
   aborts l None is none after = absurd (cc none)
   aborts l (Some b) is unrefused after = aborts_go c s e (actor b.path) b is_seen (named l b is) (off (abort_reasons b C) unrefused).0 after.coord
 
-  gives : (l : Label) (q : Option Branch) → branch_named l C ≡ q → refused_by giveup_reasons C q ≡ None → let D = on_branch (λ b. give_up (actor b.path) (records_at s) C) C q in KnowsAfter c s D.part → StepGoes c s e D
+  gives : (l : Label) (q : Option Branch) → branch_named l C ≡ q → refused_by giveup_reasons C q ≡ None → let D = on_branch (λ b. give_up (actor b.path) (records_at s) C) C q in Behind c s D.part → StepGoes c s e D
   gives l None is none after = absurd (cc none)
   gives l (Some b) is unrefused after =
       let rs = giveup_reasons b C in
@@ -195,7 +207,7 @@ module _ (c : Case) (s : Spot) (e : ℕ) (is_seen : IsSeenIn c (world_at s)) (ho
       let there = named l b is in
       let d = does b there one.0 in
       let same : give_up (actor b.path) (records_at s) C ≡ gives_up (actor b.path) (records_at s) C (now_of d.0) = (λ i. give_up_doing (actor b.path) (records_at s) C (d.1 i)) in
-      subst (StepGoes c s e) (sym same) (given_up_now b there one.0 d.0 (now_of d.0) d.1 refl (ap is_waiting (sym d.1) ∙ waiting (waits C (actor b.path)) two.0) (subst (λ (z : Did Coord). KnowsAfter c s z.part) same after))
+      subst (StepGoes c s e) (sym same) (given_up_now b there one.0 d.0 (now_of d.0) d.1 refl (ap is_waiting (sym d.1) ∙ waiting (waits C (actor b.path)) two.0) (subst (λ (z : Did Coord). Behind c s z.part) same after))
     where
       now_of : Doing → Now
       now_of d = d.now
@@ -204,15 +216,43 @@ module _ (c : Case) (s : Spot) (e : ℕ) (is_seen : IsSeenIn c (world_at s)) (ho
       waiting true h = refl
       waiting false h = absurd (cc h)
 
+input_goes : (hd : Header) (c : Case) (s : Spot) (e : ℕ) (i : Input) → IsSeenIn c (world_at s) → HoldsNamingIn c s.node (let t = s.parts in t.naming) → KnowsInput s → is_act i ≡ true → refusal_up hd i (coord_at s) ≡ None → let D = acts i (records_at s) (coord_at s) in Behind c s D.part → StepGoes c s e D
+input_goes hd c s e (input.Call l x o) is_seen holds knows act unrefused after = calls c s e is_seen holds knows hd l x o (branch_named l (coord_at s)) refl unrefused after
+input_goes hd c s e (input.Include l x store) is_seen holds knows act unrefused after = includes c s e is_seen holds knows hd l x store (branch_named l (coord_at s)) refl unrefused after
+input_goes hd c s e (input.Commit l) is_seen holds knows act unrefused after = commits_named c s e is_seen holds knows l (branch_named l (coord_at s)) refl unrefused after
+input_goes hd c s e (input.Abort l) is_seen holds knows act unrefused after = aborts c s e is_seen holds knows l (branch_named l (coord_at s)) refl unrefused after
+input_goes hd c s e (input.GiveUp l) is_seen holds knows act unrefused after = gives c s e is_seen holds knows l (branch_named l (coord_at s)) refl unrefused after
+input_goes hd c s e (input.Begin l k parent) is_seen holds knows act unrefused after = absurd (cc act)
+input_goes hd c s e (input.Frame k from m) is_seen holds knows act unrefused after = absurd (cc act)
+input_goes hd c s e input.Tick is_seen holds knows act unrefused after = absurd (cc act)
+input_goes hd c s e input.Restart is_seen holds knows act unrefused after = absurd (cc act)
+input_goes hd c s e input.Crash is_seen holds knows act unrefused after = absurd (cc act)
+input_goes hd c s e (input.Show x) is_seen holds knows act unrefused after = absurd (cc act)
+
+-- it goes on, is good and sure, by the protocol alone
+behind_it : (hd : Header) (c : Case) (s : Spot) (i : Input) → IsSeenIn c (world_at s) → is_act i ≡ true → refusal_up hd i (coord_at s) ≡ None → let D = acts i (records_at s) (coord_at s) in KnowsAfter c D.part → Behind c s D.part
+behind_it hd c s i is_seen act unrefused after = record { coord = record { on = on; good = good_after; sure = sure_after; unserial = λ r. listed_unserial (family_of (let f = c.fixed in f) c.begun) D.part r (record { whole = whole; good = good_after }) after.ends }; asks = after.asks; ends = after.ends }
+  where
+    D : Did Coord
+    D = acts i (records_at s) (coord_at s)
+
+    whole : AreOneTree (family_of (let f = c.fixed in f) c.begun)
+    whole = let a = is_seen.agrees in a.whole
+
+    other : (l : Label) (k : Kind) (parent : Option Label) → i ≢ input.Begin l k parent
+    other l k parent same = let bad : true ≡ false = sym act ∙ ap is_act same in cc bad
+
+    good : IsGoodCoord c.begun (let f = c.fixed in f.paths) (coord_at s)
+    good = let n = good_node c s is_seen in n.coord
+
+    on : GoesOn (coord_at s) D.part
+    on = (well_acts c.begun (let f = c.fixed in f.paths) whole.tree (records_at s) (coord_at s) good (let z = steady c s is_seen in z.works) hd i unrefused other).0
+
+    good_after : IsGoodCoord c.begun (let f = c.fixed in f.paths) D.part
+    good_after = let n = (input_well c.begun whole.begun (let f = c.fixed in f.paths) whole.tree whole.agree s.disk s.parts hd i unrefused other (good_node c s is_seen)).0 in n.coord
+
+    sure_after : IsSure D.part
+    sure_after = (sure_acts c.begun (let f = c.fixed in f.paths) whole.tree (records_at s) (coord_at s) good (let q = its c s is_seen in q.sure) hd i unrefused other).0
+
 pub inputs_go : InputsGo
-inputs_go hd c s e (input.Call l x o) is_seen holds knows act unrefused after = calls c s e is_seen holds knows hd l x o (branch_named l (coord_at s)) refl unrefused after
-inputs_go hd c s e (input.Include l x store) is_seen holds knows act unrefused after = includes c s e is_seen holds knows hd l x store (branch_named l (coord_at s)) refl unrefused after
-inputs_go hd c s e (input.Commit l) is_seen holds knows act unrefused after = commits_named c s e is_seen holds knows l (branch_named l (coord_at s)) refl unrefused after
-inputs_go hd c s e (input.Abort l) is_seen holds knows act unrefused after = aborts c s e is_seen holds knows l (branch_named l (coord_at s)) refl unrefused after
-inputs_go hd c s e (input.GiveUp l) is_seen holds knows act unrefused after = gives c s e is_seen holds knows l (branch_named l (coord_at s)) refl unrefused after
-inputs_go hd c s e (input.Begin l k parent) is_seen holds knows act unrefused after = absurd (cc act)
-inputs_go hd c s e (input.Frame k from m) is_seen holds knows act unrefused after = absurd (cc act)
-inputs_go hd c s e input.Tick is_seen holds knows act unrefused after = absurd (cc act)
-inputs_go hd c s e input.Restart is_seen holds knows act unrefused after = absurd (cc act)
-inputs_go hd c s e input.Crash is_seen holds knows act unrefused after = absurd (cc act)
-inputs_go hd c s e (input.Show x) is_seen holds knows act unrefused after = absurd (cc act)
+inputs_go hd c s e i is_seen holds knows act unrefused after = input_goes hd c s e i is_seen holds knows act unrefused (behind_it hd c s i is_seen act unrefused after)

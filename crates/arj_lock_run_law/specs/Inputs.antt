@@ -8,7 +8,7 @@ use Rattle.arj_address_law.specs.Binds.{KnowsBinds}
 use Rattle.arj_lock_fact_law.specs.Grants.{KnowsGrants}
 use Rattle.arj_lock_fact_law.specs.Works.{KnowsEnds, KnowsWaits}
 use Rattle.arj_lock_run_law.specs.Beside.{Case, HoldsNamingIn, IsSeenIn, Spot, world_at}
-use Rattle.arj_lock_run_law.specs.Coordinating.{KnowsAsks, KnowsCoord, StepGoes, coord_at, records_at}
+use Rattle.arj_lock_run_law.specs.Coordinating.{KnowsAsks, StepGoes, coord_at, records_at}
 
 -- What is known of a coordinator where an input comes, by the protocol alone: who waits, which bindings it keeps, and which grants it heard.
 pub record KnowsInput (s : Spot) : Type 0 where
@@ -16,9 +16,8 @@ pub record KnowsInput (s : Spot) : Type 0 where
   pub binds : KnowsBinds (let M = s.seen in M.sent) s.node (coord_at s)
   pub grants : KnowsGrants (coord_at s)
 
--- and of the coordinator behind the step
-pub record KnowsAfter (c : Case) (s : Spot) (C : Coord) : Type 0 where
-  pub coord : KnowsCoord c s C
+-- and of the coordinator behind the step: what it asks, and which ends it lists
+pub record KnowsAfter (c : Case) (C : Coord) : Type 0 where
   pub asks : KnowsAsks c C
   pub ends : KnowsEnds C
 
@@ -26,4 +25,4 @@ pub record KnowsAfter (c : Case) (s : Spot) (C : Coord) : Type 0 where
 abbrev pub InputsGo : Type 0
 InputsGo = (hd : Header) (c : Case) (s : Spot) (e : ℕ) (i : Input)
     → IsSeenIn c (world_at s) → HoldsNamingIn c s.node (let t = s.parts in t.naming) → KnowsInput s → is_act i ≡ true → refusal_up hd i (coord_at s) ≡ None
-    → let D = acts i (records_at s) (coord_at s) in KnowsAfter c s D.part → StepGoes c s e D
+    → let D = acts i (records_at s) (coord_at s) in KnowsAfter c D.part → StepGoes c s e D

@@ -47,8 +47,9 @@ pub fn begins_go_in_the_world()
     ensures { BeginsGo }
 {}
 
-/// An input about an action that isn't refused goes in the whole world: a call, an include, a commit, an abort, a giveup. What is known of
-/// the coordinator by the protocol alone is counted on, before the input and behind it. It does nothing when it runs.
+/// An input about an action that isn't refused goes in the whole world: a call, an include, a commit, an abort, a giveup. Who waits at the
+/// coordinator, and what it has of bindings and grants, is counted on, and behind the input what it asks and which ends it lists. It
+/// does nothing when it runs.
 pub fn inputs_go_in_the_world()
     ensures { InputsGo }
 {}
