@@ -192,7 +192,7 @@ module _ (hd : Header) (x : ℕ) (R G : Seen → Type 0) (Q : Kinds → Seen →
   act_keeps e k d t i M is free more (begun, h) = let did = acts i d.intents t.coord in
       all_walk R Q begun h.1 e k did.outs (with_coord t did.part) d M (act_good e k d t M (begun, h.0) hd i is free)
       (kept_walk begun e k d t (with_coord t did.part) did.outs M (acts_kept begun (paths_of begun) (begun_tree begun h.0.begun) d.intents t.coord (good_coord e k d t M (begun, h.0)) hd i free) h.2)
-      (placed_walk begun e k d t (with_coord t did.part) did.outs M (acts_mean begun e k d t M h.0 hd i is free) (let u = up_here begun h.0.begun k d t M h.3 in other_coord begun k t did.part (sound_acts i d.intents t.coord (input_first begun k d t M h.0 hd i free) (on_paths begun h.0.begun t.coord (coord begun e k d t M h.0)) u.coord) u) h.3) (kept.act e k d t i M is free h.4)
+      (placed_walk begun e k d t (with_coord t did.part) did.outs M (acts_mean begun e k d t M h.0 hd i is free) (let u = up_here begun h.0.begun k d t M h.3 in other_coord begun k t did.part (sound_acts i d.intents t.coord (input_first begun k d t M h.0 hd i free) (on_paths begun h.0.begun t.coord (coord begun e k d t M h.0)) (let n = it e k d t M (begun, h.0) in n.sure) u.coord) u) h.3) (kept.act e k d t i M is free h.4)
       (λ tops agree. each.act tops e k d t i M agree.unwalked (knows_node tops begun k d t M h.0 agree h.2 h.3) (h.4, more) is free (h.5 tops agree))
 
   begin_keeps : (e k : ℕ) (d : Disk) (t : Parts) (l : Label) (how : Kind) (parent : Option Label) (M : Seen) → label_at l M.labels ≡ None → MayGive M.labels k how parent → begin_refusal how t.coord parent ≡ None

@@ -31,6 +31,7 @@ pub mod Holders
 pub mod Given
 pub mod Kept
 pub mod Known
+pub mod Included
 pub mod Lists
 pub mod Means
 pub mod Plain

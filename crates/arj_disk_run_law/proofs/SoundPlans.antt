@@ -51,7 +51,7 @@ found_in (v ∷ vs) once u (inl same) = (λ i. cond (((ap (λ (w : Used). w.x ==
 found_in (v ∷ vs) once u (inr more) = ap (λ b. cond b (Some v) (used_at u.x vs)) (less_other v.x u.x (above_x v.x u vs once.0 more)) ∙ found_in vs once.1 u more
 
 -- what holds of each item that is made holds of what is used
-uses_made : (Q : Used → Type 0) (f : ℕ → Used) → ((x : ℕ) → Q (f x)) → (xs : List ℕ) (u : Used) → Uses u (map f xs) → Q u
+pub uses_made : (Q : Used → Type 0) (f : ℕ → Used) → ((x : ℕ) → Q (f x)) → (xs : List ℕ) (u : Used) → Uses u (map f xs) → Q u
 uses_made Q f each [] u none = absurd none
 uses_made Q f each (x ∷ xs) u (inl same) = subst Q same (each x)
 uses_made Q f each (x ∷ xs) u (inr more) = uses_made Q f each xs u more

@@ -1,20 +1,22 @@
 -- Commits under way have tidy plans, one at most of each root, and states stand for their objects.
-use Rattle.std.specs.Prelude.{⊤, ◌≡◌, ℕ, true, false, List, [], ◌∷◌, Option, Some, None}
+use Rattle.std.specs.Prelude.{⊤, ◌≡◌, ℕ, true, false, List, [], ◌∷◌, Option, Some, None, Contains}
 use Rattle.std.specs.List.{AllByRecursion}
-use Rattle.arj_protocol.specs.Words.{Asked, Message, ObjectState, Uid, VotedReply, object, uids_of}
+use Rattle.arj_lock.proofs.Members as list
+use Rattle.arj_protocol.specs.Words.{Asked, Message, ObjectState, Uid, VotedReply, is_on, object, uids_of}
+use Rattle.arj_protocol.specs.Words.ending
 use Rattle.arj_protocol.specs.Words.voted
 use Rattle.arj_protocol.specs.Ask.{Reply, actor, answers}
 use Rattle.arj_protocol.specs.Call.{Steps}
 use Rattle.arj_protocol.specs.Commit as commit
-use Rattle.arj_protocol.specs.Coord.{Calling, Coord, Doing, Joined, Now, Committing, Root, Said, doing_of}
+use Rattle.arj_protocol.specs.Coord.{Calling, Coord, Doing, Joined, Now, Committing, Root, Said, doing_of, root_at}
 use Rattle.arj_protocol.specs.Node.{Parts}
 use Rattle.arj_protocol.specs.Order as order
-use Rattle.arj_protocol.specs.Tree.{Tree, is_own, root_of}
+use Rattle.arj_protocol.specs.Tree.{Tree, behind, is_own, root_of}
 use Rattle.arj_view_law.specs.Seen as seen
 use Rattle.arj_view_law.specs.Seen.{Seen}
 use Rattle.arj_disk_view_law.specs.Knows.{CommitsAt, IsFirstAt, IsFromRoot, IsUnderWay}
 use Rattle.arj_disk_view_law.specs.Pairs.{Among}
-use Rattle.arj_disk_view_law.specs.Plans.{IsTidy, used_at}
+use Rattle.arj_disk_view_law.specs.Plans.{IsTidy, Uses, used_at}
 
 -- the state is of an object that the plan uses, at a server of which this holds, and its action wrote it
 pub record IsUsedState (p : commit.Plan) (Q : ℕ → Type 0) (s : ObjectState) : Type 0 where
@@ -101,11 +103,27 @@ pub record IsOwnRoot (t : Tree) (n : ℕ) (r : Root) : Type 0 where
   pub states : AllByRecursion (λ (e : ℕ × ObjectState). (let s = e.1 in s.uid) ≡ object e.0) r.states
   pub said : AllByRecursion (λ (s : Said). IsRootPath t n s.path) r.said
 
--- So it is at a coordinator; and of one root one commit at most is under way.
+-- the root has loaded the object for an include under this path
+abbrev pub HasJoin : List Uid → ℕ → Root → Type 0
+HasJoin us x r = (j : Joined) × list.In j r.joined × (j.path ≡ us) × (j.x ≡ x)
+
+-- A plan's top includes the object: under a path that goes through the top, and behind it there the plan has no abort.
+pub record IsIncluded (r : Root) (p : commit.Plan) (x : ℕ) : Type 0 where
+  pub path : List Uid
+  pub joined : HasJoin path x r
+  pub on : is_on path (actor p.path) ≡ true
+  pub lives : (w : Uid) → is_on (behind (actor p.path) path) w ≡ true → Contains p.ends (w, ending.Abort) → ⊥
+
+-- so it does with what the plan includes somewhere
+abbrev pub AreIncluded : Root → commit.Plan → Type 0
+AreIncluded r p = (v : commit.Used) → Uses v p.used → commit.is_empty v.joins ≡ false → IsIncluded r p v.x
+
+-- So it is at a coordinator; of one root one commit at most is under way; and what a commit under way includes its top did.
 pub record AreSound (c : Coord) : Type 0 where
   pub works : (u : Uid) (q : Doing) → doing_of u c ≡ Some q → IsSoundNow q.now
   pub alone : (root u : Uid) → CommitsAt c root u → IsFirstAt c root u
   pub roots : AllByRecursion (λ (e : ℕ × Root). IsOwnRoot c.tree e.0 e.1) c.roots
+  pub includes : (u : Uid) (q : Doing) (m : commit.Machine) → doing_of u c ≡ Some q → q.now ≡ Committing m → AreIncluded (root_at (let p = commit.plan_of m in root_of p.path) c) (commit.plan_of m)
 
 -- the plan uses the object at this server
 pub record IsUsedAt (p : commit.Plan) (from x : ℕ) : Type 0 where
