@@ -1,12 +1,12 @@
--- What coordinators have of naming's answers is kept by inputs about actions: calls and includes that begin, aborts, and giveups but
--- for those of a Prepare.
+-- What coordinators have of naming's answers is kept by inputs about actions: calls and includes that begin, aborts, ends of actions
+-- that are no tops, and giveups but for those of a Prepare.
 use Rattle.std.proofs.Common.{◌≡◌, ◌⊎◌, ◌+◌, ℕ, ◌==◌, ◌&&◌, ◌||◌, if◌then◌else◌, Bool, true, false, not, List, [], ◌∷◌, ◌++◌, Option, Some, None, refl, sym, ◌∙◌, ap, subst, inl, inr, ⊎_elim, arith, is_some, slice_get, suc}
 use Rattle.std.specs.Prelude.{Contains, unwrap_or}
 use Rattle.std.specs.List.{AllByRecursion, list_all}
 use Rattle.std.proofs.lemmas.Bool.{and_parts}
 use Rattle.arj_lock.proofs.Members as list
 use Rattle.arj_lock.proofs.Members.{in_from}
-use Rattle.arj_protocol.specs.Words.{Binding, Op, Path, Uid, End, Cause}
+use Rattle.arj_protocol.specs.Words.{Binding, Op, Path, Uid, End, Cause, Kind}
 use Rattle.arj_protocol.specs.Ask.{Reply, actor, top_of}
 use Rattle.arj_protocol.specs.Asking.{call, call_steps, commit_action, commit_open, gaveup_lines, give_up, give_up_doing, gives_up, given_away, goes_on, include, known_at_start, last_req, next_req, renewed}
 use Rattle.arj_protocol.specs.Call.{Goal, Include, Known, Run, Steps, next_ask, next_node, start}
@@ -20,8 +20,8 @@ use Rattle.arj_protocol.specs.Step as input
 use Rattle.arj_protocol.specs.Coord.{number_of}
 use Rattle.arj_view_law.specs.Keeps.{is_act}
 use Rattle.arj_disk_view_law.proofs.WholeWalks.{placed, no_reason}
-use Rattle.arj_disk_run_law.specs.Rest.{IsHeardAt, KeepsHeard, commits_on, gives_of, gives_on, goes_past}
-use Rattle.arj_protocol.specs.Tree.{Branch, ends_of, is_spent, root_of, uses_object, branch_of, is_committed, ended_so, is_open_below, has_end, at_place, is_below, open_below, has_open_child}
+use Rattle.arj_disk_run_law.specs.Rest.{IsHeardAt, KeepsHeard, commits_on, gives_of, gives_on, goes_past, is_top_kind}
+use Rattle.arj_protocol.specs.Tree.{Branch, ends_of, is_spent, root_of, uses_object, branch_of, is_committed, ended_so, is_open_below, has_end, at_place, is_below, open_below, has_open_child, is_constituent}
 use Rattle.arj_run_law.specs.Worlds.{IsGood}
 use Rattle.arj_call_law.specs.Runs.{KnowsFew}
 use Rattle.arj_disk_law.specs.Names.{Names, Office}
@@ -39,9 +39,11 @@ use Rattle.arj_disk_run_law.proofs.HeardPosts.{SaysHeard, all_flat, all_join}
 use Rattle.arj_protocol.specs.Ending.{abort_action, aborts_with, ended, says, tolds_of}
 use Rattle.arj_protocol.specs.Words.ending
 use Rattle.arj_protocol.specs.Words.body
+use Rattle.arj_protocol.specs.Words.kind
 use Rattle.arj_protocol.specs.Words.cause
 use Rattle.arj_protocol.specs.Commit.{Confirming, Preparing, Voting, first_of}
 use Rattle.arj_disk_run_law.proofs.HeardCalls.{IsCalled, KeepsOrNone, at_called, fresh, goes_called, keeps_to, root_put}
+use Rattle.arj_disk_run_law.proofs.HeardEnds.{heard_ends}
 use Rattle.arj_disk_run_law.proofs.HeardGiveups.{heard_give_call, put_keeps}
 use Rattle.arj_disk_run_law.proofs.HeardCoord.{mine, quiet_step}
 use Rattle.arj_disk_run_law.proofs.HeardMessage.{old_goes_on}
@@ -264,7 +266,21 @@ module _ (x : ℕ) (tops : Kinds) (e k : ℕ) (d : Disk) (t : Parts) (M : Seen) 
           doomed : (z : Bool) → b.doomed ≡ z → Heard_by (commit_action b d.intents t.coord)
           doomed true on = subst (λ y. Heard_by (if y then aborts_with (actor b.path) cause.Doomed d.intents t.coord else commit_open b d.intents t.coord b.kind)) (sym on)
               (heard_aborted (actor b.path) cause.Doomed b [] (placed hd x tops e k d t M knows.kinds knows.coord A.world both.disks (number_of l t.coord) b is) (none_so b.ended one))
-          doomed false off = subst (λ o. Heard_by (on_branch (λ y. commit_action y d.intents t.coord) t.coord o)) is (rest.act tops e k d t (input.Commit l) M A at (ap commits_on is ∙ ap not off) free)
+          doomed false off = subst (λ y. Heard_by (if y then aborts_with (actor b.path) cause.Doomed d.intents t.coord else commit_open b d.intents t.coord b.kind)) (sym off) (of_kind b.kind refl)
+            where
+              there : branch_of (actor b.path) t.coord.tree ≡ Some b
+              there = placed hd x tops e k d t M knows.kinds knows.coord A.world both.disks (number_of l t.coord) b is
+
+              top : is_top_kind b.kind ≡ true → Heard_by (commit_open b d.intents t.coord b.kind)
+              top on = subst (λ y. Heard_by (if y then aborts_with (actor b.path) cause.Doomed d.intents t.coord else commit_open b d.intents t.coord b.kind)) off
+                  (subst (λ o. Heard_by (on_branch (λ y. commit_action y d.intents t.coord) t.coord o)) is (rest.act tops e k d t (input.Commit l) M A at (ap commits_on is ∙ (ap (λ z. not z && is_top_kind b.kind) off ∙ on)) free))
+
+              of_kind : (z : Kind) → b.kind ≡ z → Heard_by (commit_open b d.intents t.coord b.kind)
+              of_kind kind.Nested at_kind = subst (λ y. Heard_by (commit_open b d.intents t.coord y)) (sym at_kind) (heard_ends x tops e k d t M A good few knows both h (actor b.path) b body.Committed there (none_so b.ended one) (ap is_constituent at_kind))
+              of_kind kind.Serial at_kind = subst (λ y. Heard_by (commit_open b d.intents t.coord y)) (sym at_kind) (heard_ends x tops e k d t M A good few knows both h (actor b.path) b body.Ended there (none_so b.ended one) (ap is_constituent at_kind))
+              of_kind kind.Top at_kind = top (ap is_top_kind at_kind)
+              of_kind kind.Independent at_kind = top (ap is_top_kind at_kind)
+              of_kind kind.Constituent at_kind = top (ap is_top_kind at_kind)
   heard_starts hd R rest at (input.Abort l) act free = by (branch_named l t.coord) refl free
     where
       by : (o : Option Branch) → branch_named l t.coord ≡ o → refused_by abort_reasons t.coord o ≡ None → Heard_by (on_branch (λ b. abort_action (actor b.path) d.intents t.coord) t.coord o)

@@ -1,20 +1,22 @@
 -- What coordinators have of naming's answers, where a node answers a request.
-use Rattle.std.proofs.Common.{◌≡◌, ◌⊎◌, ◌≤◌, ◌<◌, ℕ, ◌==◌, if◌then◌else◌, false, List, [], ◌∷◌, ◌++◌, Option, Some, None, refl, sym, ◌∙◌, ap, subst, inl, inr, ⊎_elim, arith}
+use Rattle.std.proofs.Common.{◌≡◌, ◌⊎◌, ◌≤◌, ◌<◌, ℕ, ◌==◌, if◌then◌else◌, false, List, [], ◌∷◌, ◌++◌, Option, Some, None, refl, sym, ◌∙◌, ap, subst, inl, inr, ⊎_elim, arith, is_some, true, length}
 use Rattle.std.specs.List.{AllByRecursion}
-use Rattle.arj_protocol.specs.Words.{Ask, Asked, Head, Message, Uid, asks}
+use Rattle.arj_lock.proofs.Members as list
+use Rattle.arj_protocol.specs.Words.{Ask, Asked, Head, Message, Uid, asks, is_on, last_uid}
 use Rattle.arj_protocol.specs.Ask.{Reply, actor, answers, ask_kind, asked_by, reply_kind, response}
 use Rattle.arj_protocol.specs.Call.{Steps}
-use Rattle.arj_protocol.specs.Coord.{Calling, Doing, doing_of}
+use Rattle.arj_protocol.specs.Coord.{Calling, Doing, doing_of, Said, root_at}
 use Rattle.arj_protocol.specs.Effect.{Disk, Do, Effect, Send, Stop, Work, stopped, worked}
 use Rattle.arj_protocol.specs.Node.{Parts}
 use Rattle.arj_protocol.specs.Order.{uid_number}
 use Rattle.arj_protocol.specs.Step.{Node}
-use Rattle.arj_protocol.specs.Tree.{is_own}
+use Rattle.arj_protocol.specs.Tree.{is_own, Branch, branch_of, behind}
 use Rattle.arj_protocol.proofs.Messages.{response_asks_nothing, response_reads_back}
 use Rattle.arj_part_law.specs.Actions.{Action, paths_of}
 use Rattle.arj_part_law.specs.Coords.{IsAsking, IsBusy, IsGoodCoord}
 use Rattle.arj_part_law.specs.Nodes.{IsGoodNode}
 use Rattle.arj_part_law.specs.Requests.{IsNumbered}
+use Rattle.arj_part_law.proofs.GoodTrees.{over_below}
 use Rattle.arj_part_law.proofs.Begun.{begun_tree, path_found}
 use Rattle.arj_run_law.specs.Worlds.{IsGood, IsGoodOf, IsMemory, IsUp}
 use Rattle.arj_call_law.specs.Coords.{IsCounted, IsOfStep, KnowsCalls, head_of}
@@ -32,6 +34,7 @@ use Rattle.arj_disk_law.specs.Named.{Named}
 use Rattle.arj_names_view_law.proofs.GrantClaims.{changes_are_after}
 use Rattle.arj_disk_run_law.specs.Heard.{ClaimsAsked, HasNoneOf, IsAskedFor, IsToStep, SeesHeard, SeesHeardAt}
 use Rattle.arj_disk_run_law.specs.Part.{HoldsFrom}
+use Rattle.arj_disk_run_law.proofs.HeardBehind.{behind_on}
 use Rattle.arj_disk_run_law.proofs.HeardAll.{WasAt, asked_on, heard_goes, walk_fits}
 use Rattle.arj_disk_run_law.proofs.HeardLike.{IsLike, at_like}
 use Rattle.arj_disk_run_law.proofs.HeardPosts.{SaysHeard, all_join}
@@ -65,6 +68,14 @@ module _ (M : Seen) (good : IsGood M) (few : KnowsFew M) (j : ℕ) (n : Node) (t
 
   pub number_of_step : (u : Uid) (q : Doing) (s : Steps) → doing_of u t.coord ≡ Some q → q.now ≡ Calling s → s.req ≡ q.req
   number_of_step u q s does now = subst (IsNumbered q.req) now (mine.numbered u q does)
+
+  -- an open action isn't behind one that has ended, on a path of an answered call
+  pub not_behind : (u v : Uid) (b y : Branch) (root : Uid) (z : Said) → branch_of u t.coord.tree ≡ Some b → b.ended ≡ None → branch_of v t.coord.tree ≡ Some y → is_some y.ended ≡ true → list.In z (let r = root_at root t.coord in r.said) → is_on (behind v z.path) u ≡ true → ⊥
+  not_behind u v b y root z found unended there over i on =
+      let path = calls.said root z i in
+      let up = behind_on (paths_of acts) (begun_tree acts world.begun) v (length (paths_of acts (last_uid z.path))) (last_uid z.path) (omega arith) (ap last_uid (sym path)) u (ap (λ us. is_on (behind v us) u) (sym path) ∙ on) in
+      let n : false ≡ true = sym (ap is_some unended) ∙ over_below (paths_of acts) (begun_tree acts world.begun) t.coord.tree coord.tree.lists coord.tree.closed v y there over u b found up in
+      cc n
 
   -- a request that was sent of an action at work is of no later number than its last one
   pub counted_at : (z : Post) (h : Head) (a : Ask) → seen.In z M.sent → z.from ≡ j → asks z.message ≡ Some (h, a) → {u : Uid} → actor h.path ≡ u → (q : Doing) → doing_of u t.coord ≡ Some q → h.req ≤ q.req

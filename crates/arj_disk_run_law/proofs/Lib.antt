@@ -14,6 +14,8 @@ pub mod HeardCalls
 pub mod HeardCoord
 pub mod HeardDecides
 pub mod HeardLasting
+pub mod HeardBehind
+pub mod HeardEnds
 pub mod HeardFirst
 pub mod HeardGiveups
 pub mod HeardInputs

@@ -1,8 +1,9 @@
--- What is still taken of what coordinators have of naming's answers: that it is kept by answers that are taken, by commits, and by
+-- What is still taken of what coordinators have of naming's answers: that it is kept by answers that are taken, by commits of tops, and by
 -- giveups in a Prepare, and gives what commits count on; and what naming counts on beside what messages claim.
-use Rattle.std.specs.Prelude.{◌≡◌, ℕ, Bool, true, false, not, List, Option, Some, None}
-use Rattle.arj_protocol.specs.Words.{Asked, Binding, Head, Header, Message, asks}
+use Rattle.std.specs.Prelude.{◌≡◌, ℕ, Bool, true, false, not, ◌&&◌, List, Option, Some, None}
+use Rattle.arj_protocol.specs.Words.{Asked, Binding, Head, Header, Kind, Message, asks}
 use Rattle.arj_protocol.specs.Words.ask
+use Rattle.arj_protocol.specs.Words.kind
 use Rattle.arj_protocol.specs.Ask.{Reply, actor, answers, top_of}
 use Rattle.arj_protocol.specs.Commit.{Preparing}
 use Rattle.arj_protocol.specs.Coord.{Committing, Coord, Doing, Now, doing_of}
@@ -58,18 +59,24 @@ abbrev pub gives_of : Coord → Option Branch → Bool
 gives_of c None = false
 gives_of c (Some b) = gives_on (doing_of (actor b.path) c)
 
+-- a top
+abbrev pub is_top_kind : Kind → Bool
+is_top_kind kind.Nested = false
+is_top_kind kind.Serial = false
+is_top_kind _ = true
+
 abbrev pub commits_on : Option Branch → Bool
 commits_on None = false
-commits_on (Some b) = not b.doomed
+commits_on (Some b) = not b.doomed && is_top_kind b.kind
 
--- an action that isn't doomed commits, or one gives up in its Prepare
+-- a top that isn't doomed commits, or one gives up in its Prepare
 abbrev pub is_deciding : Input → Coord → Bool
 is_deciding (input.Commit l) c = commits_on (branch_named l c)
 is_deciding (input.GiveUp l) c = gives_of c (branch_named l c)
 is_deciding _ c = false
 
--- It is kept by an answer that a coordinator takes, and by an input by which an action commits that isn't doomed, or gives up
--- in its Prepare; and each commit that is past its votes then may begin.
+-- It is kept by an answer that a coordinator takes, and by an input by which a top commits that isn't doomed, or gives up in its
+-- Prepare; and each commit that is past its votes then may begin.
 pub record KeepsHeard (hd : Header) (x : ℕ) (R : Seen → Type 0) : Type 0 where
   pub naming : GivesNaming x R
   pub answer : (tops : Kinds) (e k : ℕ) (d : Disk) (t v : Parts) (from : ℕ) (m : Message) (a : Asked) (r : Reply) (outs : List Effect) (M : Seen) (A : Office) → IsHeardAt x R tops A (k, d, t) M → In (record { from = from; to = k; message = m }) M.sent → answers m ≡ Some (a, r) → is_meant t m ≡ true → handle k d t from m ≡ Took v outs
