@@ -1,26 +1,24 @@
 -- The object is seen in every world of a run: each handler's walk is put together, and each stop is seen.
-use Rattle.std.proofs.Common.{◌≡◌, ◌∙◌, ◌+◌, ℕ, List, [], ◌∷◌, not, Bool, true, false, Option, Some, None, refl, ap, subst, inr, sym, inl, ◌≢◌}
+use Rattle.std.proofs.Common.{◌≡◌, ◌∙◌, ◌+◌, ℕ, List, [], ◌∷◌, not, Bool, true, false, Option, Some, None, refl, ap, subst, inr, sym, inl}
 use Rattle.std.specs.Prelude.{is_some}
 use Rattle.arj_lock.proofs.Members.{in_from, in_to}
-use Rattle.arj_protocol.specs.Words.{Asked, Header, Kind, Label, Message, Path, Uid, uids_of, Op}
-use Rattle.arj_protocol.specs.Words.kind
+use Rattle.arj_protocol.specs.Words.{Asked, Header, Kind, Label, Message, Path, Uid, uids_of}
 use Rattle.arj_protocol.specs.Words.message
 use Rattle.arj_protocol.specs.Ask.{Reply, actor, answers}
-use Rattle.arj_protocol.specs.Asking.{again_all, begin_action, call, include}
+use Rattle.arj_protocol.specs.Asking.{again_all, begin_action}
 use Rattle.arj_protocol.specs.Coord.{Coord}
 use Rattle.arj_protocol.specs.Effect.{Disk, Do, Effect, Say, Send, Served, worked}
-use Rattle.arj_protocol.specs.Ending.{abort_action, acked, answer_query}
+use Rattle.arj_protocol.specs.Ending.{acked, answer_query}
 use Rattle.arj_protocol.specs.Follow.{tick_outs}
 use Rattle.arj_protocol.specs.Node.{Parts, Took, by_reply, coord_heard, handle, is_meant, with_coord}
-use Rattle.arj_protocol.specs.Step as input
-use Rattle.arj_protocol.specs.Step.{Input, abort_reasons, call_reasons, include_reasons, branch_named, on_branch, acts, begin_reasons, begin_refusal, refused_by, parent_of, parts_in, refusal_up, restart_outs}
-use Rattle.arj_protocol.specs.Tree.{Branch, branch_of, is_open, is_open_branch, next_uid, path_below, is_serial}
+use Rattle.arj_protocol.specs.Step.{Input, acts, begin_reasons, begin_refusal, refused_by, parent_of, parts_in, refusal_up, restart_outs}
+use Rattle.arj_protocol.specs.Tree.{Branch, branch_of, is_open, is_open_branch, next_uid, path_below}
 use Rattle.arj_protocol.specs.World.{format, is_serial_kind}
 use Rattle.arj_lock_law.specs.State.{State}
 use Rattle.arj_part_law.specs.Actions.{Action, MayBegin}
 use Rattle.arj_part_law.specs.Coords.{IsGoodCoord}
 use Rattle.arj_part_law.specs.Trees.{MayStand}
-use Rattle.arj_part_law.proofs.CoordInputs.{IsNext, named_found, next_path, off, off_third}
+use Rattle.arj_part_law.proofs.CoordInputs.{IsNext, named_found, next_path, off}
 use Rattle.arj_run_law.specs.Worlds.{IsGoodOf}
 use Rattle.arj_run_law.proofs.Begins as begins
 use Rattle.arj_run_law.proofs.Begins.{begin_good}
@@ -32,14 +30,13 @@ use Rattle.arj_view_law.specs.Walks.{Up, Walks, halted}
 use Rattle.arj_view_law.proofs.Happens.{runs_hold}
 use Rattle.arj_view_law.proofs.Together.{walks_both, walks_to, walks_where}
 use Rattle.arj_lock_run_law.specs.Beside.{Case, IsSeenIn, Spot, world_at}
-use Rattle.arj_lock_run_law.specs.Coordinating.{KnowsCoord, coord_at}
+use Rattle.arj_lock_run_law.specs.Coordinating.{coord_at}
 use Rattle.arj_lock_run_law.specs.Fixed.{Agrees, Fixed}
 use Rattle.arj_lock_run_law.specs.Kept.{AreLocksSeen, GivesLocks, HasCome, LocksAreKept, RunsKeepLocks, case_of}
 use Rattle.arj_lock_run_law.specs.Sees.{SeesLocks}
 use Rattle.arj_lock_run_law.specs.World.{IsSeenSo, is_for_parts}
 use Rattle.arj_lock_run_law.proofs.AckSteps.{acks_go}
 use Rattle.arj_lock_run_law.proofs.BeginGoes.{begins_go}
-use Rattle.arj_lock_run_law.proofs.CallGoes.{calls_go, includes_go}
 use Rattle.arj_lock_run_law.proofs.GoodSteps.{good_node}
 use Rattle.arj_lock_run_law.proofs.FirstSteps.{first_goes}
 use Rattle.arj_lock_run_law.proofs.HandleSteps.{messages_go}
@@ -47,7 +44,7 @@ use Rattle.arj_lock_run_law.proofs.LineSteps.{down_stays, lines_stay, stops_go}
 use Rattle.arj_lock_run_law.proofs.QuerySteps.{queries_go}
 use Rattle.arj_lock_run_law.proofs.RestartWalks.{restarts_go}
 use Rattle.arj_lock_run_law.proofs.TickSteps.{ticks_go}
-use Rattle.arj_lock_run_law.proofs.ToldSteps.{aborts_go}
+use Rattle.arj_lock_run_law.proofs.InputGoes.{inputs_go}
 
 -- ---- more is sent along a walk
 
@@ -227,38 +224,10 @@ module _ (hd : Header) (f : Fixed) (x : ℕ) (R : Seen → Type 0) (keeps : Keep
     seen_so : IsSeenIn b (world_at s)
     seen_so = seen_in (world_at s) z.1 agrees
 
-    abort_goes : (l : Label) → refusal_up hd (input.Abort l) (coord_at s) ≡ None → ActGoes (input.Abort l)
-    abort_goes l none = by (branch_named l (coord_at s)) refl none (gives.abort z.1.0 (let g = z.1.2 agrees in g.0) s l z.0 seen_so none)
-      where
-        by : (o : Option Branch) → branch_named l (coord_at s) ≡ o → refused_by abort_reasons (coord_at s) o ≡ None → (let D = on_branch (λ (w : Branch). abort_action (actor w.path) (let d = s.disk in d.intents) (coord_at s)) (coord_at s) o in KnowsCoord b s D.part)
-            → let D = on_branch (λ (w : Branch). abort_action (actor w.path) (let d = s.disk in d.intents) (coord_at s)) (coord_at s) o in Walks (IsSeenSo b) e s.node D.outs (Up (IsSeenSo b) s.node (with_coord s.parts D.part)) s.disk s.seen
-        by None of free knows = absurd (cc free)
-        by (Some w) of free knows = aborts_go b s e (actor w.path) w seen_so (named_found z.1.0 f.paths (let t = agrees.whole in t.tree) [] (coord_at s) (let n = good_node b s seen_so in n.coord) l w of) (off (abort_reasons w (coord_at s)) free).0 knows
-
-    plain : (d : Kind) → is_serial d ≡ false → d ≢ kind.Serial
-    plain d is same = let bad : true ≡ false = sym (ap is_serial same) ∙ is in cc bad
-
-    call_goes : (l : Label) (y : ℕ) (o : Op) → refusal_up hd (input.Call l y o) (coord_at s) ≡ None → ActGoes (input.Call l y o)
-    call_goes l y o none = by (branch_named l (coord_at s)) refl none
-      where
-        by : (r : Option Branch) → branch_named l (coord_at s) ≡ r → refused_by (call_reasons hd y o) (coord_at s) r ≡ None → let D = on_branch (λ (w : Branch). call w.path y o (coord_at s)) (coord_at s) r in Walks (IsSeenSo b) e s.node D.outs (Up (IsSeenSo b) s.node (with_coord s.parts D.part)) s.disk s.seen
-        by None of free = absurd (cc free)
-        by (Some w) of free = let m = gives.call z.1.0 (let g = z.1.2 agrees in g.0) s l y o w z.0 seen_so none of in calls_go b s e y (actor w.path) w m.doing o seen_so m.works m.idle (plain w.kind (off_third (call_reasons hd y o w (coord_at s)) free)) m.knows m.asks
-
-    include_goes : (l : Label) (y st : ℕ) → refusal_up hd (input.Include l y st) (coord_at s) ≡ None → ActGoes (input.Include l y st)
-    include_goes l y st none = by (branch_named l (coord_at s)) refl none
-      where
-        by : (r : Option Branch) → branch_named l (coord_at s) ≡ r → refused_by (include_reasons hd y) (coord_at s) r ≡ None → let D = on_branch (λ (w : Branch). include w.path y st (coord_at s)) (coord_at s) r in Walks (IsSeenSo b) e s.node D.outs (Up (IsSeenSo b) s.node (with_coord s.parts D.part)) s.disk s.seen
-        by None of free = absurd (cc free)
-        by (Some w) of free = let m = gives.include z.1.0 (let g = z.1.2 agrees in g.0) s l y st w z.0 seen_so none of in includes_go b s e y st (actor w.path) w m.doing seen_so m.works m.idle (plain w.kind (off_third (include_reasons hd y w (coord_at s)) free)) m.knows m.asks
-
     pub input_goes : (i : Input) → is_act i ≡ true → refusal_up hd i (coord_at s) ≡ None → ActGoes i
-    input_goes (input.Abort l) is none = abort_goes l none
-    input_goes (input.Call l y o) is none = call_goes l y o none
-    input_goes (input.Include l y st) is none = include_goes l y st none
-    input_goes (input.Commit l) is none = gives.act z.1.0 (let g = z.1.2 agrees in g.0) s e (input.Commit l) z.0 seen_so is refl none
-    input_goes (input.GiveUp l) is none = gives.act z.1.0 (let g = z.1.2 agrees in g.0) s e (input.GiveUp l) z.0 seen_so is refl none
-    input_goes i is none = absurd (cc is)
+    input_goes i is none =
+        let q = gives.act z.1.0 (let g = z.1.2 agrees in g.0) s i z.0 seen_so is none in
+        inputs_go hd b s e i seen_so (gives.holds z.1.0 (let g = z.1.2 agrees in g.0) s z.0 seen_so) q.0 is none q.1
 
   kept_act : (e k : ℕ) (d : Disk) (t : Parts) (i : Input) (M : Seen) → is_act i ≡ true → refusal_up hd i t.coord ≡ None → Kept (up k d t M) → let D = acts i d.intents t.coord in Walks Kept e k D.outs (Up Kept k (with_coord t D.part)) d M
   kept_act e k d t i M is none z =

@@ -1,15 +1,13 @@
 -- Whole runs: the object is seen in every world of a run, where relations of the protocol alone give what the handlers count on.
-use Rattle.std.specs.Prelude.{◌≡◌, Bool, ℕ, true, false, List, Some, None}
-use Rattle.arj_protocol.specs.Words.{Asked, Header, Label, Message, Op, Uid}
+use Rattle.std.specs.Prelude.{◌≡◌, Bool, ℕ, true, List, Some, None}
+use Rattle.arj_protocol.specs.Words.{Asked, Header, Message, Uid}
 use Rattle.arj_protocol.specs.Words.message
-use Rattle.arj_protocol.specs.Ask.{Reply, actor, answers}
-use Rattle.arj_protocol.specs.Asking.{call, include}
-use Rattle.arj_protocol.specs.Coord.{Coord, Doing, Idle, no_root, root_at}
+use Rattle.arj_protocol.specs.Ask.{Reply, answers}
+use Rattle.arj_protocol.specs.Coord.{no_root, root_at}
 use Rattle.arj_protocol.specs.Effect.{Disk, Effect}
-use Rattle.arj_protocol.specs.Node.{Parts, Took, handle, is_meant, with_coord}
-use Rattle.arj_protocol.specs.Step.{Input, acts, first_disk, refusal_up, branch_named}
-use Rattle.arj_protocol.specs.Step as input
-use Rattle.arj_protocol.specs.Tree.{Branch, next_uid}
+use Rattle.arj_protocol.specs.Node.{Parts, Took, handle, is_meant}
+use Rattle.arj_protocol.specs.Step.{Input, acts, first_disk, refusal_up}
+use Rattle.arj_protocol.specs.Tree.{next_uid}
 use Rattle.arj_protocol.specs.World.{format, is_serial_kind, run_all}
 use Rattle.arj_protocol.specs.World as world
 use Rattle.arj_lock_law.specs.State.{State}
@@ -21,8 +19,9 @@ use Rattle.arj_view_law.specs.Walks.{Up, Walks}
 use Rattle.arj_lock_fact_law.specs.Works.{KnowsEnds}
 use Rattle.arj_lock_run_law.specs.Asking.{HasWholeRoots, IsAskedAbout, TellsRecords}
 use Rattle.arj_lock_run_law.specs.Beside.{Case, HoldsNamingIn, IsSeenIn, KnowsEntry, KnowsSpot, Spot, world_at}
-use Rattle.arj_lock_run_law.specs.Coordinating.{IsWorking, KnowsAsks, KnowsCoord, coord_at}
+use Rattle.arj_lock_run_law.specs.Coordinating.{KnowsAsks, coord_at}
 use Rattle.arj_lock_run_law.specs.Fixed.{Agrees, Fixed}
+use Rattle.arj_lock_run_law.specs.Inputs.{KnowsAfter, KnowsInput}
 use Rattle.arj_lock_run_law.specs.Sees.{SeesLocks}
 use Rattle.arj_lock_run_law.specs.World.{IsSeenSo, is_for_parts}
 
@@ -39,23 +38,8 @@ pub record HasCome (s : Spot) (from : ℕ) (m : Message) (v : Parts) (outs : Lis
   pub meant : is_meant (let q = s in q.parts) m ≡ true
   pub takes : handle s.node s.disk s.parts from m ≡ Took v outs
 
--- an action's commit, or what it waits for is given up
-abbrev pub is_ending : Input → Bool
-is_ending (input.Commit l) = true
-is_ending (input.GiveUp l) = true
-is_ending _ = false
-
--- A call or include may be asked: the action is at work and idle, and what is known behind the step.
-pub record MayAsk (c : Case) (s : Spot) (b : Branch) (C : Coord) : Type 0 where
-  pub doing : Doing
-  pub works : IsWorking c s (actor (let q = b in q.path)) b doing
-  pub idle : doing.now ≡ Idle
-  pub knows : KnowsCoord c s C
-  pub asks : KnowsAsks c C
-
--- What a relation gives, where it holds and the object is seen: what naming, servers, records, questions, calls, includes,
--- aborts and new roots are known for, and that the object is seen through what a coordinator does when it is answered, as it commits an
--- action, and as it gives up.
+-- What a relation gives, where it holds and the object is seen: what naming, servers, records, questions, inputs about actions and new
+-- roots are known for, and that the object is seen through what a coordinator does when it is answered.
 pub record GivesLocks (hd : Header) (f : Fixed) (x : ℕ) (R : Seen → Type 0) : Type 0 where
   pub holds : (begun : List Action) (S : State) (s : Spot) → R (world_at s) → IsSeenIn (case_of f x begun S) (world_at s) → HoldsNamingIn (case_of f x begun S) s.node (let t = s.parts in t.naming)
   pub parts : (begun : List Action) (S : State) (s : Spot) (from : ℕ) (m : Message) (v : Parts) (outs : List Effect) → R (world_at s) → IsSeenIn (case_of f x begun S) (world_at s) → HasCome s from m v outs → is_for_parts m ≡ true
@@ -64,14 +48,8 @@ pub record GivesLocks (hd : Header) (f : Fixed) (x : ℕ) (R : Seen → Type 0) 
   pub acked : (begun : List Action) (S : State) (s : Spot) (from : ℕ) (u : Uid) (v : Parts) (outs : List Effect) → R (world_at s) → IsSeenIn (case_of f x begun S) (world_at s) → HasCome s from (message.Acked (record { act = u })) v outs → HasWholeRoots s u
   pub heard : (begun : List Action) (S : State) (s : Spot) (e from : ℕ) (m : Message) (a : Asked × Reply) (v : Parts) (outs : List Effect) → R (world_at s) → IsSeenIn (case_of f x begun S) (world_at s) → HasCome s from m v outs → answers m ≡ Some a
       → Walks (IsSeenSo (case_of f x begun S)) e s.node outs (Up (IsSeenSo (case_of f x begun S)) s.node v) s.disk s.seen
-  pub act : (begun : List Action) (S : State) (s : Spot) (e : ℕ) (i : Input) → R (world_at s) → IsSeenIn (case_of f x begun S) (world_at s) → is_act i ≡ true → is_ending i ≡ true → refusal_up hd i (coord_at s) ≡ None
-      → let D = acts i (let d = s.disk in d.intents) (coord_at s) in Walks (IsSeenSo (case_of f x begun S)) e s.node D.outs (Up (IsSeenSo (case_of f x begun S)) s.node (with_coord s.parts D.part)) s.disk s.seen
-  pub call : (begun : List Action) (S : State) (s : Spot) (l : Label) (y : ℕ) (o : Op) (b : Branch) → R (world_at s) → IsSeenIn (case_of f x begun S) (world_at s) → refusal_up hd (input.Call l y o) (coord_at s) ≡ None → branch_named l (coord_at s) ≡ Some b
-      → MayAsk (case_of f x begun S) s b (let D = call b.path y o (coord_at s) in D.part)
-  pub include : (begun : List Action) (S : State) (s : Spot) (l : Label) (y store : ℕ) (b : Branch) → R (world_at s) → IsSeenIn (case_of f x begun S) (world_at s) → refusal_up hd (input.Include l y store) (coord_at s) ≡ None → branch_named l (coord_at s) ≡ Some b
-      → MayAsk (case_of f x begun S) s b (let D = include b.path y store (coord_at s) in D.part)
-  pub abort : (begun : List Action) (S : State) (s : Spot) (l : Label) → R (world_at s) → IsSeenIn (case_of f x begun S) (world_at s) → refusal_up hd (input.Abort l) (coord_at s) ≡ None
-      → KnowsCoord (case_of f x begun S) s (let D = acts (input.Abort l) (let d = s.disk in d.intents) (coord_at s) in D.part)
+  pub act : (begun : List Action) (S : State) (s : Spot) (i : Input) → R (world_at s) → IsSeenIn (case_of f x begun S) (world_at s) → is_act i ≡ true → refusal_up hd i (coord_at s) ≡ None
+      → KnowsInput s × KnowsAfter (case_of f x begun S) (let D = acts i (let d = s.disk in d.intents) (coord_at s) in D.part)
   pub begin : (begun : List Action) (S : State) (s : Spot) → R (world_at s) → IsSeenIn (case_of f x begun S) (world_at s) → root_at (next_uid (let q = coord_at s in q.tree)) (coord_at s) ≡ no_root
   pub tick : (begun : List Action) (S : State) (s : Spot) → R (world_at s) → IsSeenIn (case_of f x begun S) (world_at s) → KnowsAsks (case_of f x begun S) (coord_at s) × KnowsEnds (coord_at s) × TellsRecords s
   pub restart : (begun : List Action) (S : State) (k : ℕ) (d : Disk) (M : Seen) → R (down k d M) → IsSeenIn (case_of f x begun S) (down k d M) → KnowsEntry x k d
