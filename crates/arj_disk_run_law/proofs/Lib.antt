@@ -3,6 +3,7 @@ pub mod BothEach
 pub mod Copies
 pub mod ChangedParts
 pub mod DecidedPaths
+pub mod Decides
 pub mod EntryKeeps
 pub mod EntryRows
 pub mod EntryWalks
@@ -34,6 +35,7 @@ pub mod Given
 pub mod Kept
 pub mod Known
 pub mod Included
+pub mod IncludedParts
 pub mod Lists
 pub mod Means
 pub mod Plain

@@ -2,12 +2,26 @@
 use Rattle.std.specs.Prelude.{ℕ, List}
 use Rattle.arj_protocol.specs.Effect.{Disk}
 use Rattle.arj_protocol.specs.Node.{Parts}
-use Rattle.arj_part_law.specs.Actions.{Action}
+use Rattle.arj_part_law.specs.Actions.{Action, AreBegun, paths_of}
+use Rattle.arj_part_law.specs.Coords.{IsGoodCoord}
+use Rattle.arj_part_law.specs.Ends.{IsSure}
 use Rattle.arj_run_law.specs.Worlds.{IsGoodOf}
 use Rattle.arj_view_law.specs.Seen.{Seen, up}
-use Rattle.arj_disk_run_law.specs.Sound.{VotesFit}
+use Rattle.arj_call_law.specs.Runs.{ChangesAreCalled}
+use Rattle.arj_coord_law.specs.Uses.{KnowsUses}
+use Rattle.arj_disk_run_law.specs.Sound.{AreSound, VotesFit}
 
 -- What the disk half counts on of votes: an object of which a server votes a state is one that the plan which waits for the vote uses
 -- there. `arj_call_law` gives it while few bindings were made.
 abbrev pub GivesVotes : (Seen → Type 0) → Type 0
 GivesVotes R = (acts : List Action) (k : ℕ) (d : Disk) (t : Parts) (M : Seen) → R (up k d t M) → IsGoodOf acts (up k d t M) → VotesFit k t M
+
+-- What is known of a node's coordinator in every run in which naming makes few bindings, and by which a top has a part only in what it
+-- uses: `arj_run_law` has that it is good and sure, `arj_coord_law` under which paths it was answered, and `arj_call_law` what was called.
+pub record KnowsParts (acts : List Action) (t : Parts) : Type 0 where
+  pub begun : AreBegun acts
+  pub good : IsGoodCoord acts (paths_of acts) t.coord
+  pub sure : IsSure t.coord
+  pub sound : AreSound t.coord
+  pub uses : KnowsUses t.coord
+  pub called : ChangesAreCalled t

@@ -1,0 +1,26 @@
+-- A top that its coordinator is to decide, by what is known in every run: it has a part only in what its own calls and includes use.
+use Rattle.std.proofs.Common.{◌≡◌, ◌∙◌, ℕ, List, true, Some, ap, sym}
+use Rattle.arj_protocol.specs.Words.{Uid}
+use Rattle.arj_protocol.specs.Commit.{Machine, Plan, plan_of}
+use Rattle.arj_protocol.specs.Coord.{Committing, Doing, doing_of, root_at, top_uses}
+use Rattle.arj_protocol.specs.Effect.{Intent}
+use Rattle.arj_protocol.specs.Node.{Parts}
+use Rattle.arj_protocol.specs.Tree.{root_of}
+use Rattle.arj_part_law.specs.Actions.{Action}
+use Rattle.arj_disk_view_law.specs.Knows.{KnowsCoord, KnowsKinds}
+use Rattle.arj_disk_view_law.specs.Plans.{plan_at, used_at}
+use Rattle.arj_disk_view_law.specs.Sees.{AreOneChange, Kinds}
+use Rattle.arj_names_view_law.specs.Both.{has_part}
+use Rattle.arj_names_view_law.specs.Decided.{DecidesTop}
+use Rattle.arj_disk_run_law.specs.Facts.{KnowsParts}
+use Rattle.arj_disk_run_law.proofs.ChangedParts.{part_used}
+use Rattle.arj_disk_run_law.proofs.DecidedPaths.{decides_path}
+use Rattle.arj_disk_run_law.proofs.IncludedParts.{include_used}
+
+module _ (x : ℕ) (acts : List Action) (t : Parts) (has : KnowsParts acts t) (u : Uid) (q : Doing) (m : Machine) (p : Plan) (at : doing_of u t.coord ≡ Some q) (now : q.now ≡ Committing m) (used : p.used ≡ (plan_of m).used) (changed : p.changed ≡ (plan_of m).changed) where
+  -- a top has a part in an object only in what it uses
+  pub own_part : has_part (plan_at x p) ≡ true → top_uses u x (root_at (root_of (plan_of m).path) t.coord) t.coord ≡ true
+  own_part part = part_used x t has.called u q m p at now changed (λ v is full. include_used acts has.begun t.coord has.good has.sure has.sound has.uses u q m at now x v (ap (used_at x) (sym used) ∙ is) full) part
+
+  pub decides : (tops : Kinds) (intents : List (Uid × Intent)) → KnowsKinds tops → KnowsCoord tops intents t.coord → p.path ≡ (plan_of m).path → AreOneChange p → DecidesTop x tops (root_of (plan_of m).path) u p t.coord
+  decides tops intents kinds knows path one = decides_path tops kinds intents t.coord knows x u q m p at now path changed one own_part
