@@ -17,10 +17,10 @@ use Rattle.arj_disk_run_law.proofs.ChangedParts.{part_used}
 use Rattle.arj_disk_run_law.proofs.DecidedPaths.{decides_path}
 use Rattle.arj_disk_run_law.proofs.IncludedParts.{include_used}
 
-module _ (x : ℕ) (acts : List Action) (t : Parts) (has : KnowsParts acts t) (u : Uid) (q : Doing) (m : Machine) (p : Plan) (at : doing_of u t.coord ≡ Some q) (now : q.now ≡ Committing m) (used : p.used ≡ (plan_of m).used) (changed : p.changed ≡ (plan_of m).changed) where
+module _ (x : ℕ) (acts : List Action) (t : Parts) (has : KnowsParts acts t) (tops : Kinds) (intents : List (Uid × Intent)) (knows : KnowsCoord tops intents t.coord) (u : Uid) (q : Doing) (m : Machine) (p : Plan) (at : doing_of u t.coord ≡ Some q) (now : q.now ≡ Committing m) (used : p.used ≡ (plan_of m).used) (changed : p.changed ≡ (plan_of m).changed) where
   -- a top has a part in an object only in what it uses
   pub own_part : has_part (plan_at x p) ≡ true → top_uses u x (root_at (root_of (plan_of m).path) t.coord) t.coord ≡ true
-  own_part part = part_used x t has.called u q m p at now changed (λ v is full. include_used acts has.begun t.coord has.good has.sure has.sound has.uses u q m at now x v (ap (used_at x) (sym used) ∙ is) full) part
+  own_part part = part_used x t has.called u q m p at now changed (λ v is full. include_used acts has.begun t.coord has.good has.sure tops intents knows has.uses u q m at now x v (ap (used_at x) (sym used) ∙ is) full) part
 
-  pub decides : (tops : Kinds) (intents : List (Uid × Intent)) → KnowsKinds tops → KnowsCoord tops intents t.coord → p.path ≡ (plan_of m).path → AreOneChange p → DecidesTop x tops (root_of (plan_of m).path) u p t.coord
-  decides tops intents kinds knows path one = decides_path tops kinds intents t.coord knows x u q m p at now path changed one own_part
+  pub decides : KnowsKinds tops → p.path ≡ (plan_of m).path → AreOneChange p → DecidesTop x tops (root_of (plan_of m).path) u p t.coord
+  decides kinds path one = decides_path tops kinds intents t.coord knows x u q m p at now path changed one own_part

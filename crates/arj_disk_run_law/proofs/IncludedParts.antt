@@ -2,12 +2,13 @@
 use Rattle.std.proofs.Common.{◌≡◌, ◌∙◌, ◌==◌, ◌&&◌, ◌||◌, ℕ, Bool, true, false, not, List, [], ◌∷◌, length, Some, refl, sym, ap, subst, inl, inr, Contains, arith}
 use Rattle.std.specs.List.{list_any}
 use Rattle.arj_base.proofs.Uids.{uid_is, uid_same}
-use Rattle.arj_lock.proofs.Members.{In, in_find, in_to}
+use Rattle.arj_lock.proofs.Members.{In, in_find, in_from, in_to}
 use Rattle.arj_protocol.specs.Words.{End, Uid, is_on, uid_eq, uids_of}
 use Rattle.arj_protocol.specs.Words.ending
 use Rattle.arj_protocol.specs.Ask.{actor}
 use Rattle.arj_protocol.specs.Commit.{Machine, Used, is_empty, plan_of}
 use Rattle.arj_protocol.specs.Coord.{Committing, Coord, Doing, Joined, Root, Said, doing_of, root_at, survives, top_uses}
+use Rattle.arj_protocol.specs.Effect.{Intent}
 use Rattle.arj_protocol.specs.Tree.{Branch, behind, branch_of, ended_so, has_end, is_committed, is_merged, root_of}
 use Rattle.arj_part_law.specs.Actions.{Action, AreBegun, paths_of}
 use Rattle.arj_part_law.specs.Coords.{IsBusy, IsGoodCoord, IsVoting}
@@ -16,8 +17,9 @@ use Rattle.arj_part_law.specs.Servers.{has_end_of}
 use Rattle.arj_part_law.proofs.Begun.{begun_tree}
 use Rattle.arj_coord_law.specs.Uses.{KnowsUses}
 use Rattle.arj_coord_law.proofs.UsesCommits.{behind_below}
+use Rattle.arj_disk_view_law.specs.Knows.{HasIncluded, KnowsCoord}
+use Rattle.arj_disk_view_law.specs.Sees.{Kinds}
 use Rattle.arj_disk_view_law.specs.Plans.{Uses, used_at}
-use Rattle.arj_disk_run_law.specs.Sound.{AreSound, IsIncluded}
 
 uses_in : (v : Used) (us : List Used) → In v us → Uses v us
 uses_in v [] i = absurd i
@@ -60,7 +62,7 @@ or_right : (a b : Bool) → b ≡ true → (a || b) ≡ true
 or_right true b is = refl
 or_right false b is = is
 
-module _ (acts : List Action) (begun : AreBegun acts) (c : Coord) (good : IsGoodCoord acts (paths_of acts) c) (sure : IsSure c) (sound : AreSound c) (uses : KnowsUses c) (u : Uid) (q : Doing) (m : Machine) (at : doing_of u c ≡ Some q) (now : q.now ≡ Committing m) where
+module _ (acts : List Action) (begun : AreBegun acts) (c : Coord) (good : IsGoodCoord acts (paths_of acts) c) (sure : IsSure c) (tops : Kinds) (intents : List (Uid × Intent)) (knows : KnowsCoord tops intents c) (uses : KnowsUses c) (u : Uid) (q : Doing) (m : Machine) (at : doing_of u c ≡ Some q) (now : q.now ≡ Committing m) where
   voting : IsVoting c.tree u (plan_of m)
   voting = subst (IsBusy c.tree u) now (good.busy u q at)
 
@@ -83,14 +85,13 @@ module _ (acts : List Action) (begun : AreBegun acts) (c : Coord) (good : IsGood
   pub include_used : (x : ℕ) (v : Used) → used_at x (plan_of m).used ≡ Some v → is_empty v.joins ≡ false → top_uses u x (root_at (root_of (plan_of m).path) c) c ≡ true
   include_used x v is full =
       let f = in_find (λ (z : Used). z.x == x) v (plan_of m).used is in
-      let a : IsIncluded (root_at (root_of (plan_of m).path) c) (plan_of m) v.x = sound.includes u q m at now v (uses_in v (plan_of m).used f.0) full in
-      let j = a.joined in
-      let b = uses.paths (root_of (plan_of m).path) a.path (inr (j.0, in_to j.0 r.joined j.1, j.2)) in
-      let all = merged a.path b.0 b.1 b.2 b.3 (λ z on. a.lives z (ap (λ w. is_on (behind w a.path) z) actor_is ∙ on)) in
-      let lives : survives u (let z = j.0 in z.path) c ≡ true =
-      ap (λ us. survives u us c) j.2 ∙ (λ i. (ap (is_on a.path) (sym actor_is) ∙ a.on) i && is_merged u a.path c.tree) ∙ ap not (none_such (λ w. is_committed w c.tree) (behind u a.path) all) in
+      let a : HasIncluded (root_at (root_of (plan_of m).path) c) (plan_of m) v.x = knows.includes u q m at now v (uses_in v (plan_of m).used f.0) full in
+      let j : Joined = a.joined in
+      let b = uses.paths (root_of (plan_of m).path) j.path (inr (j, a.there, refl)) in
+      let all = merged j.path b.0 b.1 b.2 b.3 (λ z on. a.lives z (ap (λ w. is_on (behind w j.path) z) actor_is ∙ on)) in
+      let lives : survives u j.path c ≡ true = (λ i. (ap (is_on j.path) (sym actor_is) ∙ a.on) i && is_merged u j.path c.tree) ∙ ap not (none_such (λ w. is_committed w c.tree) (behind u j.path) all) in
       or_right (list_any (λ (s : Said). (s.x == x) && survives u s.path c) r.said) (list_any (λ (z : Joined). (z.x == x) && survives u z.path c) r.joined)
-      (any_there (λ (z : Joined). (z.x == x) && survives u z.path c) j.0 r.joined j.1 (λ i. (ap (λ n. n == x) j.3 ∙ f.1) i && lives i))
+      (any_there (λ (z : Joined). (z.x == x) && survives u z.path c) j r.joined (in_from j r.joined a.there) (λ i. (ap (λ n. n == x) a.object ∙ f.1) i && lives i))
     where
       r : Root
       r = root_at (root_of (plan_of m).path) c

@@ -20,7 +20,7 @@ use Rattle.arj_protocol.specs.Named.{Named}
 use Rattle.arj_protocol.specs.Naming.{Naming, loses, loses_row}
 use Rattle.arj_protocol.specs.Node.{Parts}
 use Rattle.arj_protocol.specs.Order.{at_uid, uid_number}
-use Rattle.arj_protocol.specs.Tree.{Branch, at_place, branch_of, is_constituent, is_open, is_open_branch, is_own, root_of}
+use Rattle.arj_protocol.specs.Tree.{Branch, at_place, behind, branch_of, is_constituent, is_open, is_open_branch, is_own, root_of}
 use Rattle.arj_part_law.specs.Actions.{Action, act_of, action_of, paths_of}
 use Rattle.arj_part_law.proofs.Begun.{on_own}
 use Rattle.arj_part_law.specs.Coords.{IsBusy, IsGoodCoord, IsVoting}
@@ -267,6 +267,16 @@ module _ (tops : Kinds) (acts : List Action) (k : ℕ) (d : Disk) (t : Parts) (M
     as_long = mine.faithful.works;
     telling_there = all_told d.intents t.coord.telling (awaited);
     said = said_from t.coord sound;
+    includes = λ u q m does is v i full.
+        let a = sound.includes u q m does is v i full in
+        let j = a.joined in
+        record {
+          joined = j.0;
+          there = in_to j.0 (root_at (root_of (commit.plan_of m).path) t.coord).joined j.1;
+          object = j.3;
+          on = ap (λ us. is_on us (actor (commit.plan_of m).path)) j.2 ∙ a.on;
+          lives = λ w on there. a.lives w (ap (λ us. is_on (behind (actor (commit.plan_of m).path) us) w) (sym j.2) ∙ on) there;
+        };
   }
 
   -- ---- who is asked about

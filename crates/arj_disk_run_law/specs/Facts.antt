@@ -9,7 +9,7 @@ use Rattle.arj_run_law.specs.Worlds.{IsGoodOf}
 use Rattle.arj_view_law.specs.Seen.{Seen, up}
 use Rattle.arj_call_law.specs.Runs.{ChangesAreCalled}
 use Rattle.arj_coord_law.specs.Uses.{KnowsUses}
-use Rattle.arj_disk_run_law.specs.Sound.{AreSound, VotesFit}
+use Rattle.arj_disk_run_law.specs.Sound.{VotesFit}
 
 -- What the disk half counts on of votes: an object of which a server votes a state is one that the plan which waits for the vote uses
 -- there. `arj_call_law` gives it while few bindings were made.
@@ -22,6 +22,5 @@ pub record KnowsParts (acts : List Action) (t : Parts) : Type 0 where
   pub begun : AreBegun acts
   pub good : IsGoodCoord acts (paths_of acts) t.coord
   pub sure : IsSure t.coord
-  pub sound : AreSound t.coord
   pub uses : KnowsUses t.coord
   pub called : ChangesAreCalled t

@@ -47,6 +47,7 @@ module _ (tops : Kinds) (o : Option Walk) where
     as_long = n.as_long;
     telling_there = n.telling_there;
     said = n.said;
+    includes = n.includes;
   }
 
   pub node_on : (k : ℕ) (d : Disk) (t : Parts) (M : Seen) → KnowsNode tops k d t M → KnowsNode On k d t M

@@ -2,11 +2,12 @@
 use Rattle.std.specs.Prelude.{⊤, ◌≡◌, ◌≢◌, ℕ, true, false, nat_le, List, [], ◌∷◌, length, Some, None, Contains}
 use Rattle.std.specs.List.{AllByRecursion}
 use Rattle.arj_protocol.specs.Words.{Uid, Kind, ObjectState, Path, object, uids_of, is_on}
+use Rattle.arj_protocol.specs.Words.ending
 use Rattle.arj_protocol.specs.Words.kind
 use Rattle.arj_protocol.specs.Ask.{actor, top_of}
 use Rattle.arj_protocol.specs.Call.{Steps}
 use Rattle.arj_protocol.specs.Commit as commit
-use Rattle.arj_protocol.specs.Coord.{Coord, Doing, Calling, Committing, Said, doing_of, root_at, plan_for}
+use Rattle.arj_protocol.specs.Coord.{Coord, Doing, Calling, Committing, Joined, Root, Said, doing_of, root_at, plan_for}
 use Rattle.arj_protocol.specs.Effect.{Intent}
 use Rattle.arj_protocol.specs.Order as order
 use Rattle.arj_protocol.specs.Order.{at_uid, uid_number}
@@ -14,7 +15,7 @@ use Rattle.arj_protocol.specs.Tree.{behind, branch_of, is_constituent, is_open, 
 use Rattle.arj_protocol.specs.Tree as tree
 use Rattle.arj_disk_view_law.specs.Asking.{IsUnanswered}
 use Rattle.arj_disk_view_law.specs.Pairs.{Among}
-use Rattle.arj_disk_view_law.specs.Plans.{IsTidy}
+use Rattle.arj_disk_view_law.specs.Plans.{IsTidy, Uses}
 use Rattle.arj_disk_view_law.specs.Sees.{Kinds, AreOneChange}
 
 -- Tops are actions, each of its root's node and incarnation, and are no serializing ones; the root of a constituent is a serializing
@@ -91,9 +92,17 @@ pub record IsFromRoot (root : Uid) (path : List Uid) : Type 0 where
   pub headed : path ≡ root ∷ rest
   pub once : (w : Uid) → is_on (behind w path) w ≡ false
 
+-- The top of a plan includes the object: under a path that goes through it, and behind it there the plan has no abort.
+pub record HasIncluded (r : Root) (p : commit.Plan) (x : ℕ) : Type 0 where
+  pub joined : Joined
+  pub there : Contains r.joined joined
+  pub object : joined.x ≡ x
+  pub on : is_on joined.path (actor p.path) ≡ true
+  pub lives : (w : Uid) → is_on (behind (actor p.path) joined.path) w ≡ true → Contains p.ends (w, ending.Abort) → ⊥
+
 -- What is known of a coordinator and the records beside it: each action stands at its place, at the end of its path, which a
 -- top's root begins; it is at work in its place; an open one has no record; a record has its top's root; of each root one
--- commit at most is under way; and what a root was answered is by paths that it begins.
+-- commit at most is under way; what a root was answered is by paths that it begins; and what a plan includes its top did.
 pub record KnowsCoord (tops : Kinds) (intents : List (Uid × Intent)) (c : Coord) : Type 0 where
   pub path : (u : Uid) (b : tree.Branch) → branch_of u c.tree ≡ Some b → actor b.path ≡ u
   pub kind : (u : Uid) (b : tree.Branch) → branch_of u c.tree ≡ Some b → IsOfKind tops u b.kind b.path
@@ -112,3 +121,4 @@ pub record KnowsCoord (tops : Kinds) (intents : List (Uid × Intent)) (c : Coord
   pub as_long : length c.doings ≡ length c.tree.branches
   pub telling_there : AllByRecursion (λ (e : Uid × Intent). (i : Intent) × (at_uid e.0 intents ≡ Some i)) c.telling
   pub said : (root : Uid) (s : Said) → is_own root c.tree ≡ true → Contains (let r = root_at root c in r.said) s → IsFromRoot root s.path
+  pub includes : (u : Uid) (q : Doing) (m : commit.Machine) → doing_of u c ≡ Some q → q.now ≡ Committing m → (v : commit.Used) → Uses v (let p = commit.plan_of m in p.used) → commit.is_empty v.joins ≡ false → HasIncluded (root_at (let p = commit.plan_of m in root_of p.path) c) (commit.plan_of m) v.x
