@@ -3,19 +3,28 @@ use Rattle.std.proofs.Common.{◌≡◌, ◌∙◌, ℕ, List, true, Some, ap, s
 use Rattle.arj_protocol.specs.Words.{Uid}
 use Rattle.arj_protocol.specs.Commit.{Machine, Plan, plan_of}
 use Rattle.arj_protocol.specs.Coord.{Committing, Doing, doing_of, root_at, top_uses}
-use Rattle.arj_protocol.specs.Effect.{Intent}
+use Rattle.arj_protocol.specs.Effect.{Disk, Intent}
 use Rattle.arj_protocol.specs.Node.{Parts}
 use Rattle.arj_protocol.specs.Tree.{root_of}
 use Rattle.arj_part_law.specs.Actions.{Action}
+use Rattle.arj_run_law.specs.Worlds.{IsGoodOf}
+use Rattle.arj_run_law.proofs.Handled.{good_coord, it}
+use Rattle.arj_view_law.specs.Seen.{Seen, up}
+use Rattle.arj_call_law.specs.Runs.{KnowsFew}
+use Rattle.arj_coord_law.specs.Uses.{KnowsUses}
 use Rattle.arj_disk_view_law.specs.Knows.{KnowsCoord, KnowsKinds}
 use Rattle.arj_disk_view_law.specs.Plans.{plan_at, used_at}
 use Rattle.arj_disk_view_law.specs.Sees.{AreOneChange, Kinds}
 use Rattle.arj_names_view_law.specs.Both.{has_part}
 use Rattle.arj_names_view_law.specs.Decided.{DecidesTop}
 use Rattle.arj_disk_run_law.specs.Facts.{KnowsParts}
-use Rattle.arj_disk_run_law.proofs.ChangedParts.{part_used}
+use Rattle.arj_disk_run_law.proofs.ChangedParts.{changes_here, part_used}
 use Rattle.arj_disk_run_law.proofs.DecidedPaths.{decides_path}
 use Rattle.arj_disk_run_law.proofs.IncludedParts.{include_used}
+
+-- So it is of a good node, where few bindings were made.
+pub knows_parts : (acts : List Action) (k : ℕ) (d : Disk) (t : Parts) (M : Seen) → IsGoodOf acts (up k d t M) → KnowsFew (up k d t M) → KnowsUses t.coord → KnowsParts acts t
+knows_parts acts k d t M good few uses = record { begun = good.begun; good = good_coord 0 k d t M (acts, good); sure = (let n = it 0 k d t M (acts, good) in n.sure); uses = uses; called = changes_here k d t M few }
 
 module _ (x : ℕ) (acts : List Action) (t : Parts) (has : KnowsParts acts t) (tops : Kinds) (intents : List (Uid × Intent)) (knows : KnowsCoord tops intents t.coord) (u : Uid) (q : Doing) (m : Machine) (p : Plan) (at : doing_of u t.coord ≡ Some q) (now : q.now ≡ Committing m) (used : p.used ≡ (plan_of m).used) (changed : p.changed ≡ (plan_of m).changed) where
   -- a top has a part in an object only in what it uses
