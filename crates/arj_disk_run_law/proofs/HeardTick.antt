@@ -192,10 +192,10 @@ heard_tick x tops e k d t M A knows both p =
     (λ N B only h more. at_like t.coord again.part (same_like t.coord again.part (again_same t.coord.doings t.coord)) x k tops N.sent B
     (at_stays x tops A B (fixed_in x tops A (up k d t M) both) h (memory_goes A B only) k M.sent N.sent t.coord more (λ u own kind. memory_stays tops A B only (tops.root (uid_number u))) here_now))
     e (tick_outs (record { number = k; disk = d; live = Some t }) t) M refl refl
-    (all_join Q0 (again.outs ++ tolds_again t.coord.telling) (map query_about (holders d t)) (all_join Q0 again.outs (tolds_again t.coord.telling) (again_says t.coord.doings t.coord (λ q i. placed t.coord.doings q i)) (tolds_say x d.inc A t.coord.telling)) (queries_say x d.inc A (holders d t)))
+    (all_join IsSaid (again.outs ++ tolds_again t.coord.telling) (map query_about (holders d t)) (all_join IsSaid again.outs (tolds_again t.coord.telling) (again_says t.coord.doings t.coord (λ q i. placed t.coord.doings q i)) (tolds_say x d.inc A t.coord.telling)) (queries_say x d.inc A (holders d t)))
   where
-    Q0 : Effect → Type 0
-    Q0 f = SaysHeard x d.inc A f
+    IsSaid : Effect → Type 0
+    IsSaid f = SaysHeard x d.inc A f
 
     here_now : SeesHeardAt x k tops M.sent t.coord A
     here_now = mine x tops k d t M A both p
@@ -219,14 +219,14 @@ heard_tick x tops e k d t M A knows both p =
     does_at : (n : ℕ) (q : Doing) → at_place n t.coord.doings ≡ Some q → doing_of (uid n) t.coord ≡ Some q
     does_at n q at = (λ i. if test_same t.coord.tree.node i && test_same t.coord.tree.inc i then at_place n t.coord.doings else None) ∙ at
 
-    again_says : (ds : List Doing) (c : Coord) → ((q : Doing) → list.In q ds → (n : ℕ) × (at_place n t.coord.doings ≡ Some q)) → AllByRecursion Q0 (let r = again_all ds c in r.outs)
+    again_says : (ds : List Doing) (c : Coord) → ((q : Doing) → list.In q ds → (n : ℕ) × (at_place n t.coord.doings ≡ Some q)) → AllByRecursion IsSaid (let r = again_all ds c in r.outs)
     again_says [] c there = tt
     again_says (q ∷ ds) c there =
         let r = again_now c q.now in
         let z = there q (inl refl) in
-        all_join Q0 r.outs (let s = again_all ds r.part in s.outs) (by (uid z.0) q (does_at z.0 q z.1) q.now refl) (again_says ds r.part (λ y i. there y (inr i)))
+        all_join IsSaid r.outs (let s = again_all ds r.part in s.outs) (by (uid z.0) q (does_at z.0 q z.1) q.now refl) (again_says ds r.part (λ y i. there y (inr i)))
       where
-        by : (u : Uid) (q : Doing) → doing_of u t.coord ≡ Some q → (n : Now) → q.now ≡ n → AllByRecursion Q0 (let r = again_now c n in r.outs)
+        by : (u : Uid) (q : Doing) → doing_of u t.coord ≡ Some q → (n : Now) → q.now ≡ n → AllByRecursion IsSaid (let r = again_now c n in r.outs)
         by u q does Idle is = tt
         by u q does (Calling s) is = let ends = ends_of (root_of s.path) c.tree in
             request_says x d.inc k M.sent A s.path s.req (next_node s, next_ask ends s) c (step_claims x d.inc k M.sent A s ends (λ of. here_now.steps u q s does is of))

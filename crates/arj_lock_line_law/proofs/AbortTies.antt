@@ -80,26 +80,26 @@ Without act ws S a = (((without act ws S).action a ≡ S.action a) × ((w : Uid)
 
 stands : (act : Acts) (ws : List Uid) (S : State) (a : Act) → Without act ws S a
 stands act [] S a = inl (refl, λ w none. absurd none)
-stands act (w ∷ ws) S a = by (by_cases (same a (act w))) (stands act ws S1 a)
+stands act (w ∷ ws) S a = by (by_cases (same a (act w))) (stands act ws behind_first a)
   where
-    S1 : State
-    S1 = record S { action = at_act S.action (act w) (aborted (S.action (act w))) }
+    behind_first : State
+    behind_first = record S { action = at_act S.action (act w) (aborted (S.action (act w))) }
 
-    by : (same a (act w) ≡ true) ⊎ (same a (act w) ≡ false) → Without act ws S1 a → Without act (w ∷ ws) S a
+    by : (same a (act w) ≡ true) ⊎ (same a (act w) ≡ false) → Without act ws behind_first a → Without act (w ∷ ws) S a
     by (inl is) (inl (then, none)) = inr (then ∙ here, (w, inl refl, e))
       where
         e : a ≡ act w
         e = same_is a (act w) is
 
-        here : S1.action a ≡ aborted (S.action a)
-        here = subst (λ (k : Act). S1.action k ≡ aborted (S.action k)) (sym e) (act_here S.action (act w) (aborted (S.action (act w))))
+        here : behind_first.action a ≡ aborted (S.action a)
+        here = subst (λ (k : Act). behind_first.action k ≡ aborted (S.action k)) (sym e) (act_here S.action (act w) (aborted (S.action (act w))))
     by (inl is) (inr (then, (v, i, at))) = inr (then ∙ ap aborted here, (v, inr i, at))
       where
         e : a ≡ act w
         e = same_is a (act w) is
 
-        here : S1.action a ≡ aborted (S.action a)
-        here = subst (λ (k : Act). S1.action k ≡ aborted (S.action k)) (sym e) (act_here S.action (act w) (aborted (S.action (act w))))
+        here : behind_first.action a ≡ aborted (S.action a)
+        here = subst (λ (k : Act). behind_first.action k ≡ aborted (S.action k)) (sym e) (act_here S.action (act w) (aborted (S.action (act w))))
     by (inr isnt) (inl (then, none)) = inl (then ∙ act_other S.action (act w) (aborted (S.action (act w))) a isnt, λ v i. ⊎_elim (λ (is : w ≡ v). subst (λ (z : Uid). same a (act z) ≡ false) is isnt) (none v) i)
     by (inr isnt) (inr (then, (v, i, at))) = inr (then ∙ ap aborted (act_other S.action (act w) (aborted (S.action (act w))) a isnt), (v, inr i, at))
 
@@ -110,9 +110,9 @@ without_rest act (w ∷ ws) S = without_rest act ws (record S { action = at_act 
 module _ (act : Acts) (code : Codes) (x : ℕ) where
   all_tied : (ws : List Uid) (p : Page) (c : Coord) (S : State) → ((w : Uid) → list.In w ws → IsThere c w × ((S.action (act w)).stage ≢ 3)) → IsOnPage act code x p c S → IsTiedToLines act code p.values x (p.lines ++ numbered p.event (bodies_of (let t = all_aborted ws c in t.outs))) (without act ws S)
   all_tied [] p c S may on = subst (λ (q : Page). IsTiedToLines act code p.values x q.lines S) (sym (behind_none p)) on.tied
-  all_tied (w ∷ ws) p c S may on = subst (λ bs. IsTiedToLines act code p.values x (p.lines ++ numbered p.event bs) (without act ws S1)) (sym says_it)
-      (subst (λ (q : Page). IsTiedToLines act code p.values x q.lines (without act ws S1)) (behind_one p line (bodies_of (let t = all_aborted ws (ended w ending.Abort c) in t.outs)))
-      (all_tied ws p1 (ended w ending.Abort c) S1 (λ v i. (there_still c w v (may w (inl refl)).0 (may v (inr i)).0, not_done v (may v (inr i)).1)) on1))
+  all_tied (w ∷ ws) p c S may on = subst (λ bs. IsTiedToLines act code p.values x (p.lines ++ numbered p.event bs) (without act ws behind_first)) (sym says_it)
+      (subst (λ (q : Page). IsTiedToLines act code p.values x q.lines (without act ws behind_first)) (behind_one p line (bodies_of (let t = all_aborted ws (ended w ending.Abort c) in t.outs)))
+      (all_tied ws p1 (ended w ending.Abort c) behind_first (λ v i. (there_still c w v (may w (inl refl)).0 (may v (inr i)).0, not_done v (may v (inr i)).1)) on1))
     where
       it : IsThere c w
       it = (may w (inl refl)).0
@@ -126,20 +126,20 @@ module _ (act : Acts) (code : Codes) (x : ℕ) where
       p1 : Page
       p1 = record p { lines = more p.lines p.event line }
 
-      S1 : State
-      S1 = record S { action = at_act S.action (act w) (aborted (S.action (act w))) }
+      behind_first : State
+      behind_first = record S { action = at_act S.action (act w) (aborted (S.action (act w))) }
 
       l : IsLabelled p.lines w it.0 d
       l = on.labels w it.0 d it.1 it.2.1
 
-      on1 : IsOnPage act code x p1 (ended w ending.Abort c) S1
-      on1 = let y = page_still act code x p c S S1 line refl on (one_tied act code x p c S S1 on line refl (let t = on.tied in let k = t.now in omega (arith, k))
-          ((refl, refl), (l.0, l.1, subst (λ (v : Uid). is_action (act v) ≡ true → (S.action (act v)).stage ≢ 3) (sym l.2) (λ its. (may w (inl refl)).1), subst (λ (v : Uid). ChangesOne (act v) (aborted (S.action (act v))) S S1) (sym l.2) (record { one = λ its. act_here S.action (act w) (aborted (S.action (act w))); others = λ a its other. act_other S.action (act w) (aborted (S.action (act w))) a other })))) in
+      on1 : IsOnPage act code x p1 (ended w ending.Abort c) behind_first
+      on1 = let y = page_still act code x p c S behind_first line refl on (one_tied act code x p c S behind_first on line refl (let t = on.tied in let k = t.now in omega (arith, k))
+          ((refl, refl), (l.0, l.1, subst (λ (v : Uid). is_action (act v) ≡ true → (S.action (act v)).stage ≢ 3) (sym l.2) (λ its. (may w (inl refl)).1), subst (λ (v : Uid). ChangesOne (act v) (aborted (S.action (act v))) S behind_first) (sym l.2) (record { one = λ its. act_here S.action (act w) (aborted (S.action (act w))); others = λ a its other. act_other S.action (act w) (aborted (S.action (act w))) a other })))) in
           record { named = y.named; labels = labels_still p1 c w it y.labels; tied = y.tied }
 
-      not_done : (v : Uid) → (S.action (act v)).stage ≢ 3 → (S1.action (act v)).stage ≢ 3
+      not_done : (v : Uid) → (S.action (act v)).stage ≢ 3 → (behind_first.action (act v)).stage ≢ 3
       not_done v other = ⊎_elim
-          (λ (is : same (act v) (act w) ≡ true) e. let f : (S1.action (act v)).stage ≡ 4 = ap (λ (k : Act). (S1.action k).stage) (same_is (act v) (act w) is) ∙ ap (λ (y : Action). y.stage) (act_here S.action (act w) (aborted (S.action (act w)))) in omega (arith, e, f))
+          (λ (is : same (act v) (act w) ≡ true) e. let f : (behind_first.action (act v)).stage ≡ 4 = ap (λ (k : Act). (behind_first.action k).stage) (same_is (act v) (act w) is) ∙ ap (λ (y : Action). y.stage) (act_here S.action (act w) (aborted (S.action (act w)))) in omega (arith, e, f))
           (λ (isnt : same (act v) (act w) ≡ false) e. other (ap (λ (y : Action). y.stage) (sym (act_other S.action (act w) (aborted (S.action (act w))) (act v) isnt)) ∙ e))
           (by_cases (same (act v) (act w)))
 

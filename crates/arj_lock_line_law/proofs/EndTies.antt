@@ -261,10 +261,10 @@ top_commits_are_tied act code paths x p c u b d intents S reached free begun top
         h.1.0,
         subst (λ bs. IsTiedToLines act code p.values x (p.lines ++ numbered p.event bs) T) (sym says_it)
             (subst (λ ls. IsTiedToLines act code p.values x ls T) (lines_behind p (body.Committing d.label ∷ []) (said_by st d.label))
-            (step_tied act code x p1 c u b d free.there free.works S1 T on1 st (first_stays (root (act u)) S T h.1.0) (calls_stay (root (act u)) S T h.1.0) (h.1.1 ∙ (λ i. now_by st (same_place i) (length p.lines + 1 + 1))) (record {
+            (step_tied act code x p1 c u b d free.there free.works behind_first T on1 st (first_stays (root (act u)) S T h.1.0) (calls_stay (root (act u)) S T h.1.0) (h.1.1 ∙ (λ i. now_by st (same_place i) (length p.lines + 1 + 1))) (record {
               one = λ its_one. (let o = h.1.2 in o.one its_one) ∙ (λ i. moved_by st (same_place i) (sym (act_here S.action (act u) called) i));
               others = λ a its_one other. (let o = h.1.2 in o.others a its_one other) ∙ sym (act_other S.action (act u) called a other);
-            }) (λ its_one. let e : (S1.action (act u)).stage ≡ 1 = ap (λ (v : Action). v.stage) (act_here S.action (act u) called) in omega (arith, e)))),
+            }) (λ its_one. let e : (behind_first.action (act u)).stage ≡ 1 = ap (λ (v : Action). v.stage) (act_here S.action (act u) called) in omega (arith, e)))),
       ),
     ))
   where
@@ -283,8 +283,8 @@ top_commits_are_tied act code paths x p c u b d intents S reached free begun top
     called : Action
     called = called_at (length p.lines + 1) (S.action (act u))
 
-    S1 : State
-    S1 = record S { action = at_act S.action (act u) called; now = length p.lines + 1 + 1 }
+    behind_first : State
+    behind_first = record S { action = at_act S.action (act u) called; now = length p.lines + 1 + 1 }
 
     p1 : Page
     p1 = record p { lines = more p.lines p.event (body.Committing d.label) }
@@ -296,9 +296,9 @@ top_commits_are_tied act code paths x p c u b d intents S reached free begun top
     zero_now : is_action (act u) ≡ true → (S.action (act u)).stage ≡ 0
     zero_now its_one = let k = whole.coord in let a = k.actions in let s = a.each u b d free.there free.works its_one in s.stage ∙ (λ i. stage_of (unended_none b.ended free.unended i) (free.idle i))
 
-    on1 : IsOnPage act code x p1 c S1
-    on1 = page_still act code x p c S S1 (body.Committing d.label) refl on (one_tied act code x p c S S1 on (body.Committing d.label) refl (omega arith)
-        ((refl, refl), (l.0, l.1, subst (λ (v : Uid). is_action (act v) ≡ true → (S.action (act v)).stage ≡ 0) (sym l.2) zero_now, subst (λ (v : Uid). ChangesOne (act v) (called_at (length p.lines + 1) (S.action (act v))) S S1) (sym l.2) (record { one = λ its_one. act_here S.action (act u) called; others = λ a its_one other. act_other S.action (act u) called a other }))))
+    on1 : IsOnPage act code x p1 c behind_first
+    on1 = page_still act code x p c S behind_first (body.Committing d.label) refl on (one_tied act code x p c S behind_first on (body.Committing d.label) refl (omega arith)
+        ((refl, refl), (l.0, l.1, subst (λ (v : Uid). is_action (act v) ≡ true → (S.action (act v)).stage ≡ 0) (sym l.2) zero_now, subst (λ (v : Uid). ChangesOne (act v) (called_at (length p.lines + 1) (S.action (act v))) S behind_first) (sym l.2) (record { one = λ its_one. act_here S.action (act u) called; others = λ a its_one other. act_other S.action (act u) called a other }))))
 
     says_it : bodies_of (let e = commit_action b intents c in e.outs) ≡ (body.Committing d.label ∷ []) ++ said_by st d.label
     says_it =

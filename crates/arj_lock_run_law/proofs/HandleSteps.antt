@@ -134,25 +134,25 @@ module _ (c : Case) (s : Spot) (from : ℕ) (m : Message) (p : Parts) (outs : Li
   first = subst (λ (r : Handled). Goes S (λ T. Sees V (server_after t r) T × OnlyServing V m S T × AreAnswersShown V T (outs_of r) (asks m))) taken_is
       (messages_are_taken V d t from m S (f.first, (let w = is_seen.sees in w.run)) (let q = knows.server in q.listed) (shown_to_server c s from m is_seen knows there) here.server)
 
-  abbrev T1 : State
-  T1 = first.state
+  abbrev behind_server : State
+  behind_server = first.state
 
-  only1 : OnlyServing V m S T1
-  only1 = first.holds.1
+  only_serving : OnlyServing V m S behind_server
+  only_serving = first.holds.1
 
-  reached1 : IsReached T1
-  reached1 = (f.first, go_on others_S.run first.run)
+  reached_behind : IsReached behind_server
+  reached_behind = (f.first, go_on others_S.run first.run)
 
-  others1 : SeesOthers f c.x c.begun k T1 M
-  others1 = others_go f c.x c.begun k S T1 M others_S first.run (λ j n other at seen_there. memory_serving V m S T1 only1 (view_in c j) n.disk n.live other seen_there)
-      (fresh_on f c.begun S T1 (action_is V m S T1 only1) (ap (λ (z : State). z.kept) only1.rest) (ap (λ (z : State). z.calls) only1.rest) (ap (λ (z : State). z.includes) only1.rest) others_S.fresh)
-      (let o = others_S.now in let e : T1.now ≡ S.now = ap (λ (z : State). z.now) only1.rest in omega (arith, o, e))
+  others_behind : SeesOthers f c.x c.begun k behind_server M
+  others_behind = others_go f c.x c.begun k S behind_server M others_S first.run (λ j n other at seen_there. memory_serving V m S behind_server only_serving (view_in c j) n.disk n.live other seen_there)
+      (fresh_on f c.begun S behind_server (action_is V m S behind_server only_serving) (ap (λ (z : State). z.kept) only_serving.rest) (ap (λ (z : State). z.calls) only_serving.rest) (ap (λ (z : State). z.includes) only_serving.rest) others_S.fresh)
+      (let o = others_S.now in let e : behind_server.now ≡ S.now = ap (λ (z : State). z.now) only_serving.rest in omega (arith, o, e))
 
-  naming1 : SeesNamingIn V T1 t.naming
-  naming1 = naming_serving V m S T1 only1 V t.naming here.naming
+  naming_behind : SeesNamingIn V behind_server t.naming
+  naming_behind = naming_serving V m S behind_server only_serving V t.naming here.naming
 
-  coord1 : SeesWhole f.act f.code c.x t.coord T1
-  coord1 = coord_serving V m S T1 only1 V t.coord here.coord
+  coord_behind : SeesWhole f.act f.code c.x t.coord behind_server
+  coord_behind = coord_serving V m S behind_server only_serving V t.coord here.coord
 
   -- ---- all of it
 
@@ -180,34 +180,34 @@ module _ (c : Case) (s : Spot) (from : ℕ) (m : Message) (p : Parts) (outs : Li
 
   at_one : k ≡ 1 → (T : State) × HasGone T
   at_one one =
-      let g : Goes T1 (λ T. SeesNamingIn V T p.naming × OnlyNaming T1 T × AreRepliesShown V T outs (asks m)) =
-      subst (λ (r : Handled). Goes T1 (λ T. SeesNamingIn V T (naming_after t r) × OnlyNaming T1 T × AreRepliesShown V T (outs_of r) (asks m))) taken_is
-      (messages_are_heard site t from m T1 (naming_counts site V m S T1 only1 t.naming (shown_to_naming c s from m is_seen knows there)) naming1) in
-      let T2 = g.state in
+      let g : Goes behind_server (λ T. SeesNamingIn V T p.naming × OnlyNaming behind_server T × AreRepliesShown V T outs (asks m)) =
+      subst (λ (r : Handled). Goes behind_server (λ T. SeesNamingIn V T (naming_after t r) × OnlyNaming behind_server T × AreRepliesShown V T (outs_of r) (asks m))) taken_is
+      (messages_are_heard site t from m behind_server (naming_counts site V m S behind_server only_serving t.naming (shown_to_naming c s from m is_seen knows there)) naming_behind) in
+      let behind_naming = g.state in
       let only = g.holds.1 in (
-        T2,
+        behind_naming,
         record {
           run = go_on first.run g.run;
-          others = others_go f c.x c.begun k T1 T2 M others1 g.run (λ j n other at seen_there. memory_named T1 T2 reached1 g.run only (view_in c j) n.disk n.live (λ its. other (its ∙ sym one)) seen_there)
-              (fresh_named f c.begun T1 T2 only others1.fresh)
-              (now_named T1 T2 (length M.lines) only others1.now);
-          up = up_with T2 (action_named T1 T2 reached1 g.run only ∙ action_is V m S T1 only1) (sees_named T1 T2 reached1 g.run only V p first.holds.0) (coord_named T1 T2 reached1 g.run only V t.coord coord1) g.holds.0;
-          answers = later_answers T2 g.run (asks m) first.holds.2;
+          others = others_go f c.x c.begun k behind_server behind_naming M others_behind g.run (λ j n other at seen_there. memory_named behind_server behind_naming reached_behind g.run only (view_in c j) n.disk n.live (λ its. other (its ∙ sym one)) seen_there)
+              (fresh_named f c.begun behind_server behind_naming only others_behind.fresh)
+              (now_named behind_server behind_naming (length M.lines) only others_behind.now);
+          up = up_with behind_naming (action_named behind_server behind_naming reached_behind g.run only ∙ action_is V m S behind_server only_serving) (sees_named behind_server behind_naming reached_behind g.run only V p first.holds.0) (coord_named behind_server behind_naming reached_behind g.run only V t.coord coord_behind) g.holds.0;
+          answers = later_answers behind_naming g.run (asks m) first.holds.2;
           replies = g.holds.2;
         },
       )
     where
-      later_answers : (T2 : State) → Run T1 T2 → (q : Option (Head × Ask)) → AreAnswersShown V T1 outs q → AreAnswersShown V T2 outs q
-      later_answers T2 run None shown = tt
-      later_answers T2 run (Some q) shown = λ its to z i. (let r = shown its to z i in (r.0, r.1, replies_stay_shown V q.0 q.1 r.0 T1 T2 reached1 run r.2))
+      later_answers : (behind_naming : State) → Run behind_server behind_naming → (q : Option (Head × Ask)) → AreAnswersShown V behind_server outs q → AreAnswersShown V behind_naming outs q
+      later_answers behind_naming run None shown = tt
+      later_answers behind_naming run (Some q) shown = λ its to z i. (let r = shown its to z i in (r.0, r.1, replies_stay_shown V q.0 q.1 r.0 behind_server behind_naming reached_behind run r.2))
 
   elsewhere : (k ≡ 1 → ⊥) → (T : State) × HasGone T
   elsewhere other = (
-    T1,
+    behind_server,
     record {
       run = first.run;
-      others = others1;
-      up = up_with T1 (action_is V m S T1 only1) first.holds.0 coord1 (none_there p.naming (let l = left.0 in l.place ∙ here.place));
+      others = others_behind;
+      up = up_with behind_server (action_is V m S behind_server only_serving) first.holds.0 coord_behind (none_there p.naming (let l = left.0 in l.place ∙ here.place));
       answers = first.holds.2;
       replies = no_replies (asks m) refl;
     },
@@ -216,7 +216,7 @@ module _ (c : Case) (s : Spot) (from : ℕ) (m : Message) (p : Parts) (outs : Li
       not_one : (j : ℕ) → (j ≡ 1 → ⊥) → (j == 1) ≡ true → ⊥
       not_one j never its = never (eqb-true j 1 its)
 
-      none_there : (o : Option Naming) → is_some o ≡ (k == 1) → SeesNamingIn V T1 o
+      none_there : (o : Option Naming) → is_some o ≡ (k == 1) → SeesNamingIn V behind_server o
       none_there None place = tt
       none_there (Some n) place = absurd (not_one k other (sym place))
 
@@ -224,7 +224,7 @@ module _ (c : Case) (s : Spot) (from : ℕ) (m : Message) (p : Parts) (outs : Li
       none_here None place = refl
       none_here (Some n) place = absurd (not_one k other (sym place))
 
-      no_replies : (q : Option (Head × Ask)) → asks m ≡ q → AreRepliesShown V T1 outs q
+      no_replies : (q : Option (Head × Ask)) → asks m ≡ q → AreRepliesShown V behind_server outs q
       no_replies None its = tt
       no_replies (Some q) its = λ for_it to z i. absurd (let bad : Void [] ≡ Took p outs = sym (void_without k d t from q.0 q.1 for_it (none_here t.naming here.place)) ∙ sym (ap (handle_ask k d t from m) its) ∙ is in cc bad)
 

@@ -88,20 +88,20 @@ module _ (f : Fixed) (x : ℕ) (begun : List Action) (k : ℕ) where
     g : Goes S (λ T. Sees v (new_server inc) T × OnlyServer v.node S T)
     g = servers_start v d.inc inc S (omega arith) s.server
 
-    module _ (T1 : State) (run1 : Run S T1) (server1 : Sees v (new_server inc) T1) (only : OnlyServer v.node S T1) where
+    module _ (behind_server : State) (run_serving : Run S behind_server) (server_behind : Sees v (new_server inc) behind_server) (only : OnlyServer v.node S behind_server) where
       abbrev m : Message
       m = message.Hello (record { node = k; inc = inc })
 
-      serving : OnlyServing v m S T1
-      serving = serving_of v m S T1 only
+      serving : OnlyServing v m S behind_server
+      serving = serving_of v m S behind_server only
 
-      others1 : SeesOthers f x begun k T1 M
-      others1 = others_go f x begun k S T1 M others run1 (λ j n other is seen_there. memory_serving v m S T1 serving (view_of f x begun j) n.disk n.live other seen_there)
-          (fresh_on f begun S T1 (action_is v m S T1 serving) (ap (λ (z : State). z.kept) only.rest) (ap (λ (z : State). z.calls) only.rest) (ap (λ (z : State). z.includes) only.rest) others.fresh)
-          (let o = others.now in let e : T1.now ≡ S.now = ap (λ (z : State). z.now) only.rest in omega (arith, o, e))
+      others_behind : SeesOthers f x begun k behind_server M
+      others_behind = others_go f x begun k S behind_server M others run_serving (λ j n other is seen_there. memory_serving v m S behind_server serving (view_of f x begun j) n.disk n.live other seen_there)
+          (fresh_on f begun S behind_server (action_is v m S behind_server serving) (ap (λ (z : State). z.kept) only.rest) (ap (λ (z : State). z.calls) only.rest) (ap (λ (z : State). z.includes) only.rest) others.fresh)
+          (let o = others.now in let e : behind_server.now ≡ S.now = ap (λ (z : State). z.now) only.rest in omega (arith, o, e))
 
-      reached1 : IsReached T1
-      reached1 = reached_of f x begun k T1 M others1
+      reached_behind : IsReached behind_server
+      reached_behind = reached_of f x begun k behind_server M others_behind
 
       up_with : (T : State) → T.action ≡ S.action → Sees v (new_server inc) T → SeesNamingIn v T (naming_at k inc d.names) → SeesUp v T (record d { inc = inc }) (parts_in k inc d)
       up_with T same server naming = record {
@@ -130,18 +130,18 @@ module _ (f : Fixed) (x : ℕ) (begun : List Action) (k : ℕ) where
           its_inc false n is = absurd (cc is)
 
       -- naming starts at node 1
-      named : (one : (k == 1) ≡ true) (T2 : State) → Run T1 T2 → SeesNaming v (recovered_naming inc d.names) T2 → OnlyNaming T1 T2 → HasStarted d M T2
-      named one T2 run seen_naming only2 = record {
-        others = others_go f x begun k T1 T2 M others1 run (λ j n other is seen_there. memory_named T1 T2 reached1 run only2 (view_of f x begun j) n.disk n.live (λ its. other (its ∙ sym (eqb-true k 1 one))) seen_there) (fresh_named f begun T1 T2 only2 others1.fresh) (now_named T1 T2 (length M.lines) only2 others1.now);
-        up = up_with T2 (action_named T1 T2 reached1 run only2 ∙ action_is v m S T1 serving) (sees_named T1 T2 reached1 run only2 v (parts_in k inc d) server1) (subst (λ (b : Bool). SeesNamingIn v T2 (cond b (Some (recovered_naming inc d.names)) None)) (sym one) seen_naming);
+      named : (one : (k == 1) ≡ true) (behind_naming : State) → Run behind_server behind_naming → SeesNaming v (recovered_naming inc d.names) behind_naming → OnlyNaming behind_server behind_naming → HasStarted d M behind_naming
+      named one behind_naming run seen_naming only_named = record {
+        others = others_go f x begun k behind_server behind_naming M others_behind run (λ j n other is seen_there. memory_named behind_server behind_naming reached_behind run only_named (view_of f x begun j) n.disk n.live (λ its. other (its ∙ sym (eqb-true k 1 one))) seen_there) (fresh_named f begun behind_server behind_naming only_named others_behind.fresh) (now_named behind_server behind_naming (length M.lines) only_named others_behind.now);
+        up = up_with behind_naming (action_named behind_server behind_naming reached_behind run only_named ∙ action_is v m S behind_server serving) (sees_named behind_server behind_naming reached_behind run only_named v (parts_in k inc d) server_behind) (subst (λ (b : Bool). SeesNamingIn v behind_naming (cond b (Some (recovered_naming inc d.names)) None)) (sym one) seen_naming);
       }
 
       starts : (b : Bool) → (k == 1) ≡ b → (T : State) × HasStarted d M T
-      starts false is = (T1, record { others = others1; up = up_with T1 (action_is v m S T1 serving) server1 (subst (λ (b : Bool). SeesNamingIn v T1 (cond b (Some (recovered_naming inc d.names)) None)) (sym is) tt) })
+      starts false is = (behind_server, record { others = others_behind; up = up_with behind_server (action_is v m S behind_server serving) server_behind (subst (λ (b : Bool). SeesNamingIn v behind_server (cond b (Some (recovered_naming inc d.names)) None)) (sym is) tt) })
       starts true is =
           let one : k ≡ 1 = eqb-true k 1 is in
           let o = there (at_number x (let n = recovered_naming inc d.names in n.objects)) (entry one inc) in
-          let h = naming_starts v d.inc inc d.names o.0 T1 (omega arith) o.1 (nothing_on d.inc S T1 (naming_is v m S T1 serving) (s.naming one)) in
+          let h = naming_starts v d.inc inc d.names o.0 behind_server (omega arith) o.1 (nothing_on d.inc S behind_server (naming_is v m S behind_server serving) (s.naming one)) in
           (h.state, named is h.state h.run h.holds.0 h.holds.1)
         where
           there : (o : Option Named) → is_some o ≡ true → (n : Named) × (o ≡ Some n)
