@@ -33,7 +33,7 @@ use Rattle.arj_disk_run_law.specs.Part.{HasHeard, going_of}
 use Rattle.arj_disk_run_law.proofs.HeardAborts.{says_say, tolds_of_say}
 use Rattle.arj_disk_run_law.proofs.HeardCalls.{work_cases}
 use Rattle.arj_disk_run_law.proofs.HeardCoord.{mine, quiet_step}
-use Rattle.arj_disk_run_law.proofs.HeardMessage.{old_goes_on}
+use Rattle.arj_disk_run_law.proofs.HeardGoing.{old_goes_on}
 use Rattle.arj_disk_run_law.proofs.HeardPosts.{SaysHeard, all_join}
 use Rattle.arj_disk_run_law.proofs.HeardQuiet.{fixed_in}
 use Rattle.arj_disk_run_law.proofs.HeardServe.{not_behind}

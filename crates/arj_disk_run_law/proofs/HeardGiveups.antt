@@ -40,7 +40,7 @@ use Rattle.arj_disk_run_law.proofs.HeardAborts.{says_say}
 use Rattle.arj_disk_run_law.proofs.HeardCalls.{IsCalled, at_called, fresh, goes_called, keeps_to, root_keeps, root_put, work_cases}
 use Rattle.arj_disk_run_law.proofs.HeardCoord.{mine, quiet_step}
 use Rattle.arj_disk_run_law.proofs.HeardLike.{root_ends}
-use Rattle.arj_disk_run_law.proofs.HeardMessage.{old_goes_on}
+use Rattle.arj_disk_run_law.proofs.HeardGoing.{old_goes_on}
 use Rattle.arj_disk_run_law.proofs.HeardPosts.{SaysHeard, all_flat, all_join}
 use Rattle.arj_disk_run_law.proofs.HeardQuiet.{fixed_in}
 use Rattle.arj_disk_run_law.proofs.HeardServe.{actor_of_step, number_of_step}

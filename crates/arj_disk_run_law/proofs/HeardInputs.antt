@@ -46,7 +46,7 @@ use Rattle.arj_disk_run_law.proofs.HeardCalls.{IsCalled, KeepsOrNone, at_called,
 use Rattle.arj_disk_run_law.proofs.HeardEnds.{heard_ends}
 use Rattle.arj_disk_run_law.proofs.HeardGiveups.{heard_give_call, put_keeps}
 use Rattle.arj_disk_run_law.proofs.HeardCoord.{mine, quiet_step}
-use Rattle.arj_disk_run_law.proofs.HeardMessage.{old_goes_on}
+use Rattle.arj_disk_run_law.proofs.HeardGoing.{old_goes_on}
 use Rattle.arj_disk_run_law.proofs.HeardQuiet.{fixed_in}
 use Rattle.arj_disk_run_law.proofs.HeardStays.{at_stays, memory_goes, memory_stays, was_to}
 use Rattle.arj_disk_run_law.proofs.HeardTick.{request_says, step_claims}

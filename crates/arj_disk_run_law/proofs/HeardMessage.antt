@@ -1,11 +1,9 @@
 -- What coordinators have of naming's answers is kept where a message is taken, with what is still taken of answers.
-use Rattle.std.proofs.Common.{◌≡◌, ℕ, true, false, List, Option, Some, None, refl, sym, ◌∙◌, ap, subst, ⊎_elim}
+use Rattle.std.proofs.Common.{◌≡◌, ℕ, true, List, Option, Some, None, refl, sym, ◌∙◌, ap, subst}
 use Rattle.std.specs.Prelude.{is_some}
-use Rattle.arj_protocol.specs.Words.{Ask, Asked, Head, Header, Message, Uid, asks}
+use Rattle.arj_protocol.specs.Words.{Ask, Asked, Head, Header, Message, asks}
 use Rattle.arj_protocol.specs.Words.ask
 use Rattle.arj_protocol.specs.Ask.{Reply, answers, top_of}
-use Rattle.arj_protocol.specs.Commit.{Confirming, Machine, Preparing, Voting}
-use Rattle.arj_protocol.specs.Coord.{Committing, Coord, Doing, Idle, doing_of}
 use Rattle.arj_protocol.specs.Effect.{Disk, Effect}
 use Rattle.arj_protocol.specs.Naming.{Naming}
 use Rattle.arj_protocol.specs.Node.{Parts, Took, handle, is_meant}
@@ -13,51 +11,20 @@ use Rattle.arj_protocol.specs.Order.{uid_number}
 use Rattle.arj_run_law.specs.Worlds.{IsGood}
 use Rattle.arj_call_law.specs.Runs.{KnowsFew}
 use Rattle.arj_disk_law.specs.Names.{Office}
-use Rattle.arj_disk_law.specs.State.{is_idle}
 use Rattle.arj_disk_law.proofs.Base.{never}
 use Rattle.arj_view_law.specs.Seen.{In, Seen, up}
 use Rattle.arj_disk_view_law.specs.Coordinating.{KnowsNode}
-use Rattle.arj_disk_view_law.specs.Sees.{Kinds, SeesCoord}
-use Rattle.arj_disk_view_law.proofs.DecideWalks.{confirming_of}
-use Rattle.arj_disk_view_law.proofs.Frames.{node_here}
-use Rattle.arj_disk_view_law.proofs.HeardWalks.{preparing_of}
+use Rattle.arj_disk_view_law.specs.Sees.{Kinds}
 use Rattle.arj_names_view_law.specs.Both.{SeesBoth}
-use Rattle.arj_names_view_law.specs.Handlers.{IsForGrants, MayGoOn, MayRecord, asked_change, change_by, is_voting, reply_change}
+use Rattle.arj_names_view_law.specs.Handlers.{IsForGrants, MayGoOn, MayRecord, asked_change, change_by, reply_change}
 use Rattle.arj_disk_run_law.specs.Heard.{ClaimsAsked, ClaimsGrants, SeesHeard}
 use Rattle.arj_disk_run_law.specs.Part.{HasHeard, HoldsAlong, HoldsFrom}
 use Rattle.arj_disk_run_law.specs.Rest.{GivesNaming, IsHeardAt, KeepsHeard}
 use Rattle.arj_disk_run_law.proofs.HeardAsk.{Served_by, ask_heard}
-use Rattle.arj_disk_run_law.proofs.HeardLike.{IsLike}
+use Rattle.arj_disk_run_law.proofs.HeardGoing.{like_goes_on}
 use Rattle.arj_disk_run_law.proofs.HeardOther.{other_heard}
 use Rattle.arj_names_view_law.specs.Calls.{IsUnrecorded}
 use Rattle.arj_names_view_law.proofs.Heard.{none_heard}
-
--- ---- commits that have begun
-
--- a commit past its votes that the coordinator had before has begun
-pub old_goes_on : (x : ℕ) (tops : Kinds) (k : ℕ) (d : Disk) (t : Parts) (M : Seen) (A : Office) → KnowsNode tops k d t M → SeesBoth x tops A (up k d t M) → (c : Coord) → ((u : Uid) (q : Doing) (m : Machine) → doing_of u c ≡ Some q → q.now ≡ Committing m → is_voting m ≡ false → doing_of u t.coord ≡ Some q) → MayGoOn x A c
-old_goes_on x tops k d t M A knows both c had u q m does now past C named names later tops_are opens can = absurd (never idle (named.whole.core.fresh.begun (uid_number u) (later.begun (uid_number u) begun)))
-  where
-    idle : is_idle (C.world.disk.stage (uid_number u)) ≡ true
-    idle = ap is_idle can.idle
-
-    sees : SeesCoord x k d.inc tops t.coord A.world.disk
-    sees = let s = both.disks in s.coords k (record { number = k; disk = d; live = Some t }) t (node_here M k (record { number = k; disk = d; live = Some t })) refl
-
-    begun : A.world.disk.begun (uid_number u) ≡ true
-    begun = by m now past
-      where
-        at_work : doing_of u t.coord ≡ Some q
-        at_work = had u q m does now past
-
-        by : (z : Machine) → q.now ≡ Committing z → is_voting z ≡ false → A.world.disk.begun (uid_number u) ≡ true
-        by (Voting p left) is on = absurd (never refl on)
-        by (Preparing p left) is on = let w = let y = knows.coord in y.machines u q (Preparing p left) at_work is in (preparing_of x tops A.world.disk (uid_number u) w.branch.kind q.now p left w.top is (sees.working u w.branch q w.found w.unended at_work)).begun
-        by (Confirming p) is on = let w = let y = knows.coord in y.machines u q (Confirming p) at_work is in (confirming_of x tops A.world.disk (uid_number u) w.branch.kind q.now p w.top is (sees.working u w.branch q w.found w.unended at_work)).begun
-
--- so it is where nobody but who waits for nothing is new
-pub like_goes_on : (x : ℕ) (tops : Kinds) (k : ℕ) (d : Disk) (t : Parts) (M : Seen) (A : Office) → KnowsNode tops k d t M → SeesBoth x tops A (up k d t M) → (c : Coord) → IsLike t.coord c → MayGoOn x A c
-like_goes_on x tops k d t M A knows both c like = old_goes_on x tops k d t M A knows both c (λ u q m does now past. ⊎_elim (λ old. old) (λ idle. absurd (let e : Idle ≡ Committing m = sym idle ∙ now in cc)) (like.works u q does))
 
 -- ---- what naming counts on
 

@@ -18,6 +18,7 @@ pub mod HeardLasting
 pub mod HeardBehind
 pub mod HeardEnds
 pub mod HeardFirst
+pub mod HeardGoing
 pub mod HeardGiveups
 pub mod HeardInputs
 pub mod HeardKept
