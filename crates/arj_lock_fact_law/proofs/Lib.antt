@@ -15,6 +15,7 @@ pub mod GrantSteps
 pub mod Grants
 pub mod LowGrants
 pub mod UpperRows
+pub mod Acts
 pub mod UpperWalks
 pub mod Uppers
 pub mod Listed

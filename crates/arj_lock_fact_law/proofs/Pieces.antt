@@ -157,7 +157,7 @@ module _ (sent : List Post) (k : ℕ) (c : Coord) (place : Place sent k c) (Q : 
       by None none = keeps.start
       by (Some d) found = now d found d.now refl
 
-  give_up_so : (u : Uid) (intents : List (Uid × Intent)) → ((s : Steps) → IsStep c s → Q (give_up_call s c).part) → Q (give_up u intents c).part
+  pub give_up_so : (u : Uid) (intents : List (Uid × Intent)) → ((s : Steps) → IsStep c s → Q (give_up_call s c).part) → Q (give_up u intents c).part
   give_up_so u intents lost = by (doing_of u c) refl
     where
       now : (d : Doing) → doing_of u c ≡ Some d → (n : Now) → d.now ≡ n → Q (gives_up u intents c n).part
@@ -168,6 +168,32 @@ module _ (sent : List Post) (k : ℕ) (c : Coord) (place : Place sent k c) (Q : 
       by : (o : Option Doing) → doing_of u c ≡ o → Q (give_up_doing u intents c o).part
       by None none = keeps.start
       by (Some d) found = now d found d.now refl
+
+  pub commit_so : (b : Branch) (intents : List (Uid × Intent)) → branch_of (actor b.path) c.tree ≡ Some b → Q (commit_action b intents c).part
+  commit_so b intents found = doomed b.doomed
+    where
+      u : Uid
+      u = actor b.path
+
+      plan : Plan
+      plan = plan_for b.path (last_req (doing_of u c)) (root_at (root_of b.path) c) c
+
+      top : Q (commit_top b.path intents c).part
+      top = step_so u (commit.start plan).step intents c (called_now u b plan found refl refl (commit.start plan).step (vote_step place.actions (paths_of place.actions) (begun_tree place.actions place.begun) (servers_of plan) plan plan (refl, refl))) keeps.start
+
+      kinds : (q : Kind) → Q (commit_open b intents c q).part
+      kinds kind.Nested = ended_so u ending.Commit c keeps.start
+      kinds kind.Serial = ended_so u ending.Commit c keeps.start
+      kinds kind.Top = top
+      kinds kind.Independent = top
+      kinds kind.Constituent = top
+
+      doomed : (d : Bool) → Q (cond {A = Did Coord} d (aborts_with u cause.Doomed intents c) (commit_open b intents c b.kind)).part
+      doomed true = ended_so u ending.Abort c keeps.start
+      doomed false = kinds b.kind
+
+  pub abort_so : (u : Uid) (intents : List (Uid × Intent)) → Q (abort_action u intents c).part
+  abort_so u intents = all_so (open_below u c.tree ++ u ∷ []) c keeps.start
 
   pub acts_so : (hd : Header) (i : Input) (intents : List (Uid × Intent)) → refusal_up hd i c ≡ None → ((l : Label) (q : Kind) (parent : Option Label) → i ≢ input.Begin l q parent)
       → ((b : Branch) (x : ℕ) (o : Op) → branch_of (actor b.path) c.tree ≡ Some b → refused_by (call_reasons hd x o) c (Some b) ≡ None → Q (call b.path x o c).part)
@@ -188,35 +214,12 @@ module _ (sent : List Post) (k : ℕ) (c : Coord) (place : Place sent k c) (Q : 
     where
       by : (f : Option Branch) → branch_named l c ≡ f → Q (on_branch (λ b. commit_action b intents c) c f).part
       by None is = keeps.start
-      by (Some b) is = doomed b.doomed
-        where
-          u : Uid
-          u = actor b.path
-
-          plan : Plan
-          plan = plan_for b.path (last_req (doing_of u c)) (root_at (root_of b.path) c) c
-
-          found : branch_of u c.tree ≡ Some b
-          found = named_found place.actions (paths_of place.actions) (begun_tree place.actions place.begun) intents c place.good l b is
-
-          top : Q (commit_top b.path intents c).part
-          top = step_so u (commit.start plan).step intents c (called_now u b plan found refl refl (commit.start plan).step (vote_step place.actions (paths_of place.actions) (begun_tree place.actions place.begun) (servers_of plan) plan plan (refl, refl))) keeps.start
-
-          kinds : (q : Kind) → Q (commit_open b intents c q).part
-          kinds kind.Nested = ended_so u ending.Commit c keeps.start
-          kinds kind.Serial = ended_so u ending.Commit c keeps.start
-          kinds kind.Top = top
-          kinds kind.Independent = top
-          kinds kind.Constituent = top
-
-          doomed : (d : Bool) → Q (cond {A = Did Coord} d (aborts_with u cause.Doomed intents c) (commit_open b intents c b.kind)).part
-          doomed true = ended_so u ending.Abort c keeps.start
-          doomed false = kinds b.kind
+      by (Some b) is = commit_so b intents (named_found place.actions (paths_of place.actions) (begun_tree place.actions place.begun) intents c place.good l b is)
   acts_so hd (input.Abort l) intents free other calls includes lost = by (branch_named l c)
     where
       by : (f : Option Branch) → Q (on_branch (λ b. abort_action (actor b.path) intents c) c f).part
       by None = keeps.start
-      by (Some b) = all_so (open_below (actor b.path) c.tree ++ actor b.path ∷ []) c keeps.start
+      by (Some b) = abort_so (actor b.path) intents
   acts_so hd (input.GiveUp l) intents free other calls includes lost = by (branch_named l c)
     where
       by : (f : Option Branch) → Q (on_branch (λ b. give_up (actor b.path) intents c) c f).part

@@ -40,15 +40,14 @@ use Rattle.arj_address_law.proofs.Lists.{all_append, all_key, all_without}
 use Rattle.arj_part_law.proofs.SaidIncs.{all_map}
 use Rattle.arj_run_law.specs.Worlds.{IsGoodOf}
 use Rattle.arj_run_law.proofs.Begins.{begin_good}
-use Rattle.arj_run_law.proofs.Handled.{act_good, message_good, stopped_good, tick_good}
-use Rattle.arj_run_law.proofs.Starts.{first_of, restart_good}
 use Rattle.arj_run_law.proofs.Walked.{other_number, same_number}
 use Rattle.arj_view_law.specs.Keeps.{Holds, Keeps}
 use Rattle.arj_view_law.specs.Seen.{Seen, at, given, posted, said, see}
 use Rattle.arj_view_law.specs.Walks.{Up, Walks, halted}
 use Rattle.arj_view_law.proofs.Happens.{runs_hold}
-use Rattle.arj_view_law.proofs.Together.{walks_both, walks_to}
+use Rattle.arj_lock_fact_law.specs.Acts.{KeepsOf, begins_in}
 use Rattle.arj_lock_fact_law.specs.Uppers.{AreOfEntries, AreUppersOf, HavePrepared, IsTopOf, IsUpperNode, PreparesUpper}
+use Rattle.arj_lock_fact_law.proofs.Acts.{kept_of}
 
 some_is : {A : Type 0} {a b : A} → Some a ≡ Some b → a ≡ b
 some_is {A} {a} {b} is = let k : ◌≡◌ {A = Option A} (Some a) (Some b) = is in cc
@@ -371,16 +370,6 @@ module _ (N : List Action → Naming → Type 0) (held : IsHeld N) where
   node_more : (a : Action) (acts : List Action) → AreBegun (a ∷ acts) → (n : Node) → IsUpperNode N acts n → IsUpperNode N (a ∷ acts) n
   node_more a acts begun n its = record { names = prepared_more a acts (let d = n.disk in d.names) its.names; live = λ t o up_it at_o. held.more a acts begun o (its.live t o up_it at_o) }
 
-  -- ---- all runs
-
-  abbrev pub IsSo : Seen → Type 0
-  IsSo M = (acts : List Action) × IsGoodOf acts M × AreUppersOf N acts M
-
-  together : (acts : List Action) (e k : ℕ) (outs : List Effect) (v : Parts) (d : Disk) (M : Seen) → Walks (IsGoodOf acts) e k outs (Up (IsGoodOf acts) k v) d M → Walks (AreUppersOf N acts) e k outs (Up (AreUppersOf N acts) k v) d M → Walks IsSo e k outs (Up IsSo k v) d M
-  together acts e k outs v d M a b =
-      walks_to (λ W. IsGoodOf acts W × AreUppersOf N acts W) IsSo e k outs (λ c W. Up (IsGoodOf acts) k v c W × Up (AreUppersOf N acts) k v c W) (Up IsSo k v) d M (λ W p. (acts, p.0, p.1)) (λ c W p. (acts, p.0, p.1))
-      (walks_both (IsGoodOf acts) (AreUppersOf N acts) e k outs (Up (IsGoodOf acts) k v) (Up (AreUppersOf N acts) k v) d M a b)
-
   first_so : (hd : Header) → AreUppersOf N [] (see [] (format hd))
   first_so hd zero n is = none_at refl is
   first_so hd (suc j) n is = let a = got (numbers_to hd.nodes) j n is in subst (IsUpperNode N []) a.1 (record { names = first_names a.0; live = λ t o up_it at_o. new_naming [] tt a.0 1 (first_disk hd a.0) (first_names a.0) o (ap (λ (z : Parts). z.naming) (some_is up_it) ∙ at_o) })
@@ -405,39 +394,45 @@ module _ (N : List Action → Naming → Type 0) (held : IsHeld N) where
       got (m ∷ ms) zero n e = (m, some_is e)
       got (m ∷ ms) (suc i) n e = got ms i n e
 
-  pub keeps_uppers : (hd : Header) → Keeps hd IsSo
-  keeps_uppers hd = record {
-    quiet = λ e bs M quiet p. p;
-    stop = λ e k d live M p. (p.0, stopped_good k d live M (p.0, p.1) e, let g = p.1 in let w = own p.0 g.begun k d live M p.2 in down_so p.0 g.begun e k d M w.names (others p.0 g.begun k d live M p.2));
-    message = λ e k d t v from m outs M p there meant is. let g = p.1 in let w = own p.0 g.begun k d (Some t) M p.2 in
-        let h = handled p.0 g.begun k d t from m (λ o at_o. w.live t o refl at_o) (g.fits (record { from = from; to = k; message = m }) there) v outs is in
-        together p.0 e k outs v d M (message_good e k d t M (p.0, p.1) v from m outs there is) (walk p.0 g.begun e k v outs d M h.1 w.names (others p.0 g.begun k d (Some t) M p.2) h.0);
-    act = λ e k d t i M is free p. let did = acts_of i d.intents t.coord in let g = p.1 in let w = own p.0 g.begun k d (Some t) M p.2 in
-        together p.0 e k did.outs (with_coord t did.part) d M (act_good e k d t M (p.0, p.1) hd i is free) (walk p.0 g.begun e k (with_coord t did.part) did.outs d M (coord_fine p.0 g.begun did.outs (acts_own i d.intents t.coord)) w.names (others p.0 g.begun k d (Some t) M p.2) (λ o at_o. w.live t o refl at_o));
-    begin = λ e k d t l how parent M new may free p.
+  -- each handler keeps it, for the actions that were begun
+  pub uppers_of : (hd : Header) → KeepsOf hd (λ acts M. ⊤) (AreUppersOf N)
+  uppers_of hd = record {
+    quiet = λ acts e bs M quiet more g p. p;
+    stop = λ acts e k d live M more g p. let w = own acts g.begun k d live M p in down_so acts g.begun e k d M w.names (others acts g.begun k d live M p);
+    message = λ acts e k d t v from m outs M more g p there meant is. let w = own acts g.begun k d (Some t) M p in
+        let h = handled acts g.begun k d t from m (λ o at_o. w.live t o refl at_o) (g.fits (record { from = from; to = k; message = m }) there) v outs is in
+        walk acts g.begun e k v outs d M h.1 w.names (others acts g.begun k d (Some t) M p) h.0;
+    act = λ acts e k d t i M is free more g p. let did = acts_of i d.intents t.coord in let w = own acts g.begun k d (Some t) M p in
+        walk acts g.begun e k (with_coord t did.part) did.outs d M (coord_fine acts g.begun did.outs (acts_own i d.intents t.coord)) w.names (others acts g.begun k d (Some t) M p) (λ o at_o. w.live t o refl at_o);
+    begin = λ acts e k d t l how parent M new may free more g p.
         let did = begin_action l how parent (parent_of parent t.coord) t.coord in
-        let a : Action = record { path = path_below how (parent_of parent t.coord) (next_uid t.coord.tree); kind = how } in
-        let good = begin_good e k d t l how parent M new may free (p.0, p.1) in
-        let g = p.1 in
-        let w = own p.0 g.begun k d (Some t) M p.2 in
-        let o = others p.0 g.begun k d (Some t) M p.2 in
-        let more = begins_so e k d t l how parent M p.0 good in
-        together (a ∷ p.0) e k did.outs (with_coord t did.part) d (given l (record { node = k; serial = is_serial_kind how }) M) good
-        (walk (a ∷ p.0) more e k (with_coord t did.part) did.outs d (given l (record { node = k; serial = is_serial_kind how }) M) (tt, tt) (prepared_more a p.0 d.names w.names) (λ j n apart is. node_more a p.0 more n (o j n apart is)) (λ q at_q. held.more a p.0 more q (w.live t q refl at_q)));
-    tick = λ e k d t M p. let g = p.1 in let w = own p.0 g.begun k d (Some t) M p.2 in let r = again_all t.coord.doings t.coord in
-        together p.0 e k (tick_outs (record { number = k; disk = d; live = Some t }) t) (with_coord t r.part) d M (tick_good e k d t M (p.0, p.1))
-        (walk p.0 g.begun e k (with_coord t r.part) (tick_outs (record { number = k; disk = d; live = Some t }) t) d M
-        (both p.0 g.begun (r.outs ++ tolds_again t.coord.telling) (map query_about (holders d t)) (both p.0 g.begun r.outs (tolds_again t.coord.telling) (coord_fine p.0 g.begun r.outs (again_own t.coord.doings t.coord)) (coord_fine p.0 g.begun (tolds_again t.coord.telling) (tolds_again_own t.coord.telling))) (queries p.0 g.begun (holders d t)))
-        w.names (others p.0 g.begun k d (Some t) M p.2) (λ o at_o. w.live t o refl at_o));
-    restart = λ e k d M p. let g = p.1 in let w = own p.0 g.begun k d None M p.2 in
-        together p.0 e k (restart_outs hd k (d.inc + 1) d) (parts_in k (d.inc + 1) d) d M (restart_good hd e k d M (p.0, p.1)) (walk p.0 g.begun e k (parts_in k (d.inc + 1) d) (restart_outs hd k (d.inc + 1) d) d M (restart_fine p.0 g.begun hd k (d.inc + 1) d) w.names (others p.0 g.begun k d None M p.2) (new_naming p.0 g.begun k (d.inc + 1) d w.names));
-    first = ([], first_of hd, first_so hd);
+        let a : Action = begins_in how parent t in
+        let good = begin_good e k d t l how parent M new may free (acts, g) in
+        let w = own acts g.begun k d (Some t) M p in
+        let o = others acts g.begun k d (Some t) M p in
+        let later = begins_so e k d t l how parent M acts good in
+        walk (a ∷ acts) later e k (with_coord t did.part) did.outs d (given l (record { node = k; serial = is_serial_kind how }) M) (tt, tt) (prepared_more a acts d.names w.names) (λ j n apart is. node_more a acts later n (o j n apart is)) (λ q at_q. held.more a acts later q (w.live t q refl at_q));
+    tick = λ acts e k d t M more g p. let w = own acts g.begun k d (Some t) M p in let r = again_all t.coord.doings t.coord in
+        walk acts g.begun e k (with_coord t r.part) (tick_outs (record { number = k; disk = d; live = Some t }) t) d M
+        (both acts g.begun (r.outs ++ tolds_again t.coord.telling) (map query_about (holders d t)) (both acts g.begun r.outs (tolds_again t.coord.telling) (coord_fine acts g.begun r.outs (again_own t.coord.doings t.coord)) (coord_fine acts g.begun (tolds_again t.coord.telling) (tolds_again_own t.coord.telling))) (queries acts g.begun (holders d t)))
+        w.names (others acts g.begun k d (Some t) M p) (λ o at_o. w.live t o refl at_o);
+    restart = λ acts e k d M more g p. let w = own acts g.begun k d None M p in
+        walk acts g.begun e k (parts_in k (d.inc + 1) d) (restart_outs hd k (d.inc + 1) d) d M (restart_fine acts g.begun hd k (d.inc + 1) d) w.names (others acts g.begun k d None M p) (new_naming acts g.begun k (d.inc + 1) d w.names);
+    first = first_so hd;
   }
     where
       -- the walk of a beginning is one line, behind which the actions were begun
       begins_so : (e k : ℕ) (d : Disk) (t : Parts) (l : Label) (how : Kind) (parent : Option Label) (M : Seen)
           → (let did = begin_action l how parent (parent_of parent t.coord) t.coord in let a : Action = record { path = path_below how (parent_of parent t.coord) (next_uid t.coord.tree); kind = how } in (acts : List Action) → Walks (IsGoodOf (a ∷ acts)) e k did.outs (Up (IsGoodOf (a ∷ acts)) k (with_coord t did.part)) d (given l (record { node = k; serial = is_serial_kind how }) M) → AreBegun (a ∷ acts))
       begins_so e k d t l how parent M acts walked = walked.begun
+
+  -- ---- all runs
+
+  abbrev pub IsSo : Seen → Type 0
+  IsSo M = (acts : List Action) × IsGoodOf acts M × AreUppersOf N acts M
+
+  pub keeps_uppers : (hd : Header) → Keeps hd IsSo
+  keeps_uppers hd = kept_of hd (AreUppersOf N) (uppers_of hd)
 
   pub runs_uppers : (hd : Header) (es : List AskedEvent) → Holds hd IsSo (run_all es (format hd))
   runs_uppers hd es = runs_hold hd IsSo (keeps_uppers hd) es

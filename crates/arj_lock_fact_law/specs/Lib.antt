@@ -1,3 +1,4 @@
+pub mod Acts
 pub mod Works
 pub mod Worlds
 pub mod Given

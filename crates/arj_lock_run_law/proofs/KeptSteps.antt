@@ -24,11 +24,13 @@ use Rattle.arj_run_law.proofs.Begins as begins
 use Rattle.arj_run_law.proofs.Begins.{begin_good}
 use Rattle.arj_run_law.proofs.Handled.{act_good, message_good, stopped_good, tick_good}
 use Rattle.arj_run_law.proofs.Starts.{first_of, restart_good}
-use Rattle.arj_view_law.specs.Keeps.{Keeps, MayGive, is_act, label_at}
+use Rattle.arj_view_law.specs.Keeps.{MayGive, is_act, label_at}
 use Rattle.arj_view_law.specs.Seen.{AreQuiet, In, Post, Seen, Within, at, down, given, posted, said, see, up}
 use Rattle.arj_view_law.specs.Walks.{Up, Walks, halted}
 use Rattle.arj_view_law.proofs.Happens.{runs_hold}
-use Rattle.arj_view_law.proofs.Together.{walks_both, walks_to, walks_where}
+use Rattle.arj_view_law.proofs.Together.{walks_both, walks_each, walks_to}
+use Rattle.arj_call_law.proofs.Given.{KeepsGiven, kept_both}
+use Rattle.arj_lock_fact_law.specs.Acts.{KeepsOf, begins_in}
 use Rattle.arj_lock_run_law.specs.Beside.{Case, IsSeenIn, Spot, world_at}
 use Rattle.arj_lock_run_law.specs.Coordinating.{coord_at}
 use Rattle.arj_lock_run_law.specs.Fixed.{Agrees, Fixed}
@@ -76,24 +78,25 @@ module _ (f : Fixed) (x : ℕ) where
     wanted = λ p h q there is. g.wanted p h q there is;
   }
 
-  -- a walk in which the object is seen, where what is fixed agrees with what was done before
-  kept_walk : (R : Seen → Type 0) (begun : List Action) (e k : ℕ) (outs : List Effect) (v : Parts) (d : Disk) (M : Seen) → Walks R e k outs (Up R k v) d M → Walks (IsGoodOf begun) e k outs (Up (IsGoodOf begun) k v) d M
-      → (Agrees f x begun M.sent → (S : State) × Walks (IsSeenSo (case_of f x begun S)) e k outs (Up (IsSeenSo (case_of f x begun S)) k v) d M)
-      → Walks (λ N. R N × AreLocksSeen f x N) e k outs (Up (λ N. R N × AreLocksSeen f x N) k v) d M
-  kept_walk R begun e k outs v d M holds good sees =
-      let Q : Seen → Type 0 = λ N. Agrees f x begun N.sent → (S : State) × SeesLocks f x begun S N in
-      let H : Seen → Type 0 = λ N. Within M.sent N.sent in
-      let A : Type 0 = Agrees f x begun M.sent in
-      let one = walks_where A Q e k outs (Up Q k v) d M (λ a. (sees a).1) in
-      let two = walks_both H (λ N. A → Q N) e k outs (Up H k v) (λ c N. A → Up Q k v c N) d M (sent_grows M.sent e k v outs d M (λ p there. there)) one in
-      let G : Seen → Type 0 = IsGoodOf begun in
-      let T : Seen → Type 0 = λ N. H N × (A → Q N) in
-      let three = walks_both G T e k outs (Up G k v) (λ c N. Up H k v c N × (A → Up Q k v c N)) d M good two in
-      let U : Seen → Type 0 = λ N. G N × T N in
-      let four = walks_both R U e k outs (Up R k v) (λ c N. Up G k v c N × (Up H k v c N × (A → Up Q k v c N))) d M holds three in
-      walks_to (λ N. R N × U N) (λ N. R N × AreLocksSeen f x N) e k outs (λ c N. Up R k v c N × (Up G k v c N × (Up H k v c N × (A → Up Q k v c N)))) (Up (λ N. R N × AreLocksSeen f x N) k v) d M
-      (λ N z. (z.0, (begun, z.1.0, (λ agrees. z.1.1.1 (agree_less begun M.sent N.sent z.1.1.0 agrees) agrees))))
-      (λ c N z. (z.0, (begun, z.1.0, (λ agrees. z.1.1.1 (agree_less begun M.sent N.sent z.1.1.0 agrees) agrees)))) four
+-- a walk in which the object is seen, for all that may be fixed and agrees with what was done before
+kept_walk : (x : ℕ) (R : List Action → Seen → Type 0) (begun : List Action) (e k : ℕ) (outs : List Effect) (v : Parts) (d : Disk) (M : Seen) → Walks (R begun) e k outs (Up (R begun) k v) d M → Walks (IsGoodOf begun) e k outs (Up (IsGoodOf begun) k v) d M
+    → ((f : Fixed) → Agrees f x begun M.sent → (S : State) × Walks (IsSeenSo (case_of f x begun S)) e k outs (Up (IsSeenSo (case_of f x begun S)) k v) d M)
+    → Walks (AreLocksSeen x R) e k outs (Up (AreLocksSeen x R) k v) d M
+kept_walk x R begun e k outs v d M holds good sees =
+    let A : Type 0 = (f : Fixed) × Agrees f x begun M.sent in
+    let Q : A → Seen → Type 0 = λ a N. Agrees a.0 x begun N.sent → (S : State) × SeesLocks a.0 x begun S N in
+    let H : Seen → Type 0 = λ N. Within M.sent N.sent in
+    let E : Seen → Type 0 = λ N. (a : A) → Q a N in
+    let one = walks_each {A = A} Q e k outs (λ a. Up (Q a) k v) d M (λ a. (sees a.0 a.1).1) in
+    let two = walks_both H E e k outs (Up H k v) (λ c N. (a : A) → Up (Q a) k v c N) d M (sent_grows M.sent e k v outs d M (λ p there. there)) one in
+    let G : Seen → Type 0 = IsGoodOf begun in
+    let T : Seen → Type 0 = λ N. H N × E N in
+    let three = walks_both G T e k outs (Up G k v) (λ c N. Up H k v c N × ((a : A) → Up (Q a) k v c N)) d M good two in
+    let U : Seen → Type 0 = λ N. G N × T N in
+    let four = walks_both (R begun) U e k outs (Up (R begun) k v) (λ c N. Up G k v c N × (Up H k v c N × ((a : A) → Up (Q a) k v c N))) d M holds three in
+    walks_to (λ N. R begun N × U N) (AreLocksSeen x R) e k outs (λ c N. Up (R begun) k v c N × (Up G k v c N × (Up H k v c N × ((a : A) → Up (Q a) k v c N)))) (Up (AreLocksSeen x R) k v) d M
+    (λ N z. (begun, z.1.0, z.0, (λ f agrees. z.1.1.1 (f, agree_less f x begun M.sent N.sent z.1.1.0 agrees) agrees)))
+    (λ c N z. (begun, z.1.0, z.0, (λ f agrees. z.1.1.1 (f, agree_less f x begun M.sent N.sent z.1.1.0 agrees) agrees))) four
 
 -- ---- what a message is
 
@@ -140,36 +143,36 @@ took_heard t v r outs is = by r.reply is
 
 -- ---- each handler
 
-module _ (hd : Header) (f : Fixed) (x : ℕ) (R : Seen → Type 0) (keeps : Keeps hd R) (gives : GivesLocks hd f x R) where
+module _ (hd : Header) (x : ℕ) (G : Seen → Type 0) (R : List Action → Seen → Type 0) (keeps : KeepsOf hd (λ begun M. G M) R) (gives : (f : Fixed) → GivesLocks hd f x (λ begun M. G M × R begun M)) where
   abbrev Kept : Seen → Type 0
-  Kept N = R N × AreLocksSeen f x N
+  Kept N = AreLocksSeen x R N
 
   -- what is seen, where what is fixed agrees
-  seen_in : (M : Seen) (seen : AreLocksSeen f x M) (agrees : Agrees f x seen.0 M.sent) → IsSeenIn (case_of f x seen.0 (let g = seen.2 agrees in g.0)) M
-  seen_in M seen agrees = record { good = seen.1; agrees = agrees; sees = (let g = seen.2 agrees in g.1) }
+  seen_in : (f : Fixed) (M : Seen) (z : Kept M) (agrees : Agrees f x z.0 M.sent) → IsSeenIn (case_of f x z.0 (let g = z.3 f agrees in g.0)) M
+  seen_in f M z agrees = record { good = z.1; agrees = agrees; sees = (let g = z.3 f agrees in g.1) }
 
-  quiet_kept : (e : ℕ) (bs : List _) (M : Seen) → AreQuiet bs → Kept M → Kept (said e bs M)
-  quiet_kept e bs M quiet z = (keeps.quiet e bs M quiet z.0, (z.1.0, z.1.1, (λ agrees. (let g = z.1.2 agrees in (g.0, lines_stay (case_of f x z.1.0 g.0) e bs M g.1)))))
+  quiet_kept : (e : ℕ) (bs : List _) (M : Seen) → AreQuiet bs → G M → Kept M → Kept (said e bs M)
+  quiet_kept e bs M quiet more z = (z.0, z.1, keeps.quiet z.0 e bs M quiet more z.1 z.2, (λ f agrees. (let g = z.3 f agrees in (g.0, lines_stay (case_of f x z.0 g.0) e bs M g.1))))
 
-  stop_kept : (e k : ℕ) (d : Disk) (live : Option Parts) (M : Seen) → Kept (at k d live M) → Kept (halted e k d M)
-  stop_kept e k d live M z = (keeps.stop e k d live M z.0, (z.1.0, stopped_good k d live M (z.1.0, z.1.1) e, by live z))
+  stop_kept : (e k : ℕ) (d : Disk) (live : Option Parts) (M : Seen) → G (at k d live M) → Kept (at k d live M) → Kept (halted e k d M)
+  stop_kept e k d live M more z = (z.0, stopped_good k d live M (z.0, z.1) e, keeps.stop z.0 e k d live M more z.1 z.2, λ f. by f live more z)
     where
-      by : (live : Option Parts) (z : Kept (at k d live M)) → Agrees f x z.1.0 M.sent → (S : State) × SeesLocks f x z.1.0 S (halted e k d M)
-      by None z agrees = (let g = z.1.2 agrees in down_stays (case_of f x z.1.0 g.0) e k d M g.1 agrees)
-      by (Some t) z agrees =
-          let g = z.1.2 agrees in
+      by : (f : Fixed) (live : Option Parts) → G (at k d live M) → (z : Kept (at k d live M)) → Agrees f x z.0 M.sent → (S : State) × SeesLocks f x z.0 S (halted e k d M)
+      by f None more z agrees = (let g = z.3 f agrees in down_stays (case_of f x z.0 g.0) e k d M g.1 agrees)
+      by f (Some t) more z agrees =
+          let g = z.3 f agrees in
           let s : Spot = record { node = k; disk = d; parts = t; seen = M } in
-          let seen = seen_in (world_at s) z.1 agrees in
-          stops_go (case_of f x z.1.0 g.0) s e seen (gives.holds z.1.0 g.0 s z.0 seen) agrees
+          let seen = seen_in f (world_at s) z agrees in
+          stops_go (case_of f x z.0 g.0) s e seen ((gives f).holds z.0 g.0 s (more, z.2) seen) agrees
 
   -- ---- a message
 
-  module _ (e : ℕ) (s : Spot) (from : ℕ) (z : Kept (world_at s)) (agrees : Agrees f x z.1.0 (let M = s.seen in M.sent)) where
+  module _ (f : Fixed) (e : ℕ) (s : Spot) (from : ℕ) (more : G (world_at s)) (z : Kept (world_at s)) (agrees : Agrees f x z.0 (let M = s.seen in M.sent)) where
     abbrev begun : List Action
-    begun = z.1.0
+    begun = z.0
 
     abbrev S : State
-    S = let g = z.1.2 agrees in g.0
+    S = let g = z.3 f agrees in g.0
 
     abbrev c : Case
     c = case_of f x begun S
@@ -178,66 +181,69 @@ module _ (hd : Header) (f : Fixed) (x : ℕ) (R : Seen → Type 0) (keeps : Keep
     Goes outs v = Walks (IsSeenSo c) e s.node outs (Up (IsSeenSo c) s.node v) s.disk s.seen
 
     seen : IsSeenIn c (world_at s)
-    seen = seen_in (world_at s) z.1 agrees
+    seen = seen_in f (world_at s) z agrees
+
+    its : GivesLocks hd f x (λ begun M. G M × R begun M)
+    its = gives f
 
     coordinator_goes : (m : Message) (v : Parts) (outs : List Effect) → HasCome s from m v outs → is_for_parts m ≡ false → (o : Option (Uid × Bool)) → coordinated m ≡ o → Goes outs v
     coordinator_goes m v outs come is None none = heard (answers m) refl (is_answer m none is)
       where
         heard : (o : Option (Asked × Reply)) → answers m ≡ o → is_some o ≡ true → Goes outs v
         heard None of some = absurd (cc some)
-        heard (Some a) of some = gives.heard begun S s e from m a v outs z.0 seen come of
+        heard (Some a) of some = its.heard begun S s e from m a v outs (more, z.2) seen come of
     coordinator_goes m v outs come is (Some (u, true)) of =
         let n = subst (λ (w : Message). HasCome s from w v outs) (is_acked m u of) come in
         let r = acked from u (let d = s.disk in d.intents) (coord_at s) in
         let q = took_heard s.parts v r outs n.takes in
-        subst (λ (w : Parts). Goes outs w) q.0 (subst (λ (es : List Effect). Goes es (with_coord s.parts r.part)) q.1 (acks_go c s e from u seen (gives.holds begun S s z.0 seen) (gives.acked begun S s from u v outs z.0 seen n)))
+        subst (λ (w : Parts). Goes outs w) q.0 (subst (λ (es : List Effect). Goes es (with_coord s.parts r.part)) q.1 (acks_go c s e from u seen (its.holds begun S s (more, z.2) seen) (its.acked begun S s from u v outs (more, z.2) seen n)))
     coordinator_goes m v outs come is (Some (u, false)) of =
         let n = subst (λ (w : Message). HasCome s from w v outs) (is_query m u of) come in
         let taken : Took s.parts (answer_query from u (let d = s.disk in d.intents) (coord_at s)) ≡ Took v outs = n.takes in
         let same : s.parts ≡ v = cc taken in
         let sends : answer_query from u (let d = s.disk in d.intents) (coord_at s) ≡ outs = cc taken in
-        subst (λ (w : Parts). Goes outs w) same (subst (λ (es : List Effect). Goes es s.parts) sends (queries_go c s e from u seen (gives.asked begun S s from u v outs z.0 seen n)))
+        subst (λ (w : Parts). Goes outs w) same (subst (λ (es : List Effect). Goes es s.parts) sends (queries_go c s e from u seen (its.asked begun S s from u v outs (more, z.2) seen n)))
 
     pub message_goes : (m : Message) (v : Parts) (outs : List Effect) → HasCome s from m v outs → Goes outs v
     message_goes m v outs come = by (is_for_parts m) refl
       where
         by : (b : Bool) → is_for_parts m ≡ b → Goes outs v
-        by true is = (let q = gives.parts begun S s from m v outs z.0 seen come is in messages_go c s e from m v outs seen q.0 q.1 come.sent is come.meant come.takes)
+        by true is = (let q = its.parts begun S s from m v outs (more, z.2) seen come is in messages_go c s e from m v outs seen q.0 q.1 come.sent is come.meant come.takes)
         by false is = coordinator_goes m v outs come is (coordinated m) refl
 
-  kept_message : (e k : ℕ) (d : Disk) (t v : Parts) (from : ℕ) (m : Message) (outs : List Effect) (M : Seen) → Kept (up k d t M) → In (record { from = from; to = k; message = m }) M.sent → is_meant t m ≡ true → handle k d t from m ≡ Took v outs → Walks Kept e k outs (Up Kept k v) d M
-  kept_message e k d t v from m outs M z there meant is =
+  kept_message : (e k : ℕ) (d : Disk) (t v : Parts) (from : ℕ) (m : Message) (outs : List Effect) (M : Seen) → G (up k d t M) → Kept (up k d t M) → In (record { from = from; to = k; message = m }) M.sent → is_meant t m ≡ true → handle k d t from m ≡ Took v outs → Walks Kept e k outs (Up Kept k v) d M
+  kept_message e k d t v from m outs M more z there meant is =
       let s : Spot = record { node = k; disk = d; parts = t; seen = M } in
-      kept_walk f x R z.1.0 e k outs v d M (keeps.message e k d t v from m outs M z.0 there meant is) (message_good e k d t M (z.1.0, z.1.1) v from m outs there is)
-      (λ agrees. ((let g = z.1.2 agrees in g.0), message_goes e s from z agrees m v outs (record { sent = there; meant = meant; takes = is })))
+      kept_walk x R z.0 e k outs v d M (keeps.message z.0 e k d t v from m outs M more z.1 z.2 there meant is) (message_good e k d t M (z.0, z.1) v from m outs there is)
+      (λ f agrees. ((let g = z.3 f agrees in g.0), message_goes f e s from more z agrees m v outs (record { sent = there; meant = meant; takes = is })))
 
   -- ---- the others
 
   -- at an input about an action the object is seen through what the coordinator does
-  module _ (e : ℕ) (s : Spot) (z : Kept (world_at s)) (agrees : Agrees f x z.1.0 (let M = s.seen in M.sent)) where
+  module _ (f : Fixed) (e : ℕ) (s : Spot) (more : G (world_at s)) (z : Kept (world_at s)) (agrees : Agrees f x z.0 (let M = s.seen in M.sent)) where
     abbrev b : Case
-    b = case_of f x z.1.0 (let g = z.1.2 agrees in g.0)
+    b = case_of f x z.0 (let g = z.3 f agrees in g.0)
 
     abbrev ActGoes : Input → Type 0
     ActGoes i = let D = acts i (let d = s.disk in d.intents) (coord_at s) in Walks (IsSeenSo b) e s.node D.outs (Up (IsSeenSo b) s.node (with_coord s.parts D.part)) s.disk s.seen
 
     seen_so : IsSeenIn b (world_at s)
-    seen_so = seen_in (world_at s) z.1 agrees
+    seen_so = seen_in f (world_at s) z agrees
 
     pub input_goes : (i : Input) → is_act i ≡ true → refusal_up hd i (coord_at s) ≡ None → ActGoes i
     input_goes i is none =
-        let q = gives.act z.1.0 (let g = z.1.2 agrees in g.0) s i z.0 seen_so is none in
-        inputs_go hd b s e i seen_so (gives.holds z.1.0 (let g = z.1.2 agrees in g.0) s z.0 seen_so) q.0 is none q.1
+        let q = (gives f).act z.0 (let g = z.3 f agrees in g.0) s i (more, z.2) seen_so is none in
+        inputs_go hd b s e i seen_so ((gives f).holds z.0 (let g = z.3 f agrees in g.0) s (more, z.2) seen_so) q.0 is none q.1
 
-  kept_act : (e k : ℕ) (d : Disk) (t : Parts) (i : Input) (M : Seen) → is_act i ≡ true → refusal_up hd i t.coord ≡ None → Kept (up k d t M) → let D = acts i d.intents t.coord in Walks Kept e k D.outs (Up Kept k (with_coord t D.part)) d M
-  kept_act e k d t i M is none z =
+  kept_act : (e k : ℕ) (d : Disk) (t : Parts) (i : Input) (M : Seen) → is_act i ≡ true → refusal_up hd i t.coord ≡ None → G (up k d t M) → Kept (up k d t M) → let D = acts i d.intents t.coord in Walks Kept e k D.outs (Up Kept k (with_coord t D.part)) d M
+  kept_act e k d t i M is none more z =
       let D = acts i d.intents t.coord in
       let s : Spot = record { node = k; disk = d; parts = t; seen = M } in
-      kept_walk f x R z.1.0 e k D.outs (with_coord t D.part) d M (keeps.act e k d t i M is none z.0) (act_good e k d t M (z.1.0, z.1.1) hd i is none)
-      (λ agrees. ((let g = z.1.2 agrees in g.0), input_goes e s z agrees i is none))
+      kept_walk x R z.0 e k D.outs (with_coord t D.part) d M (keeps.act z.0 e k d t i M is none more z.1 z.2) (act_good e k d t M (z.0, z.1) hd i is none)
+      (λ f agrees. ((let g = z.3 f agrees in g.0), input_goes f e s more z agrees i is none))
 
   -- an action that isn't refused may stand where it begins
-  module _ (e : ℕ) (s : Spot) (l : Label) (how : Kind) (parent : Option Label) (z : Kept (world_at s)) (older : Agrees f x z.1.0 (let M = s.seen in M.sent))
+  module _ (f : Fixed) (e : ℕ) (s : Spot) (l : Label) (how : Kind) (parent : Option Label) (z : Kept (world_at s)) (older : Agrees f x z.0 (let M = s.seen in M.sent))
       (new : label_at l (let M = s.seen in M.labels) ≡ None) (may : MayGive (let M = s.seen in M.labels) s.node how parent) (none : begin_refusal how (coord_at s) parent ≡ None) where
     abbrev q : Coord
     q = coord_at s
@@ -251,11 +257,11 @@ module _ (hd : Header) (f : Fixed) (x : ℕ) (R : Seen → Type 0) (keeps : Keep
     abbrev a : Action
     a = record { path = p; kind = how }
 
-    begins_so : MayBegin z.1.0 how o
-    begins_so = begins.may e s.node s.disk s.parts l how parent s.seen new may none (z.1.0, z.1.1)
+    begins_so : MayBegin z.0 how o
+    begins_so = begins.may e s.node s.disk s.parts l how parent s.seen new may none (z.0, z.1)
 
     its_next : IsNext how o q.tree
-    its_next = next_path z.1.0 (let w = older.whole in w.begun) how o q.tree begins_so
+    its_next = next_path z.0 (let w = older.whole in w.begun) how o q.tree begins_so
 
     open_parent : (b : Branch) → o ≡ Some b → is_some b.ended ≡ false
     open_parent b is = by parent is none
@@ -264,7 +270,7 @@ module _ (hd : Header) (f : Fixed) (x : ℕ) (R : Seen → Type 0) (keeps : Keep
         by None e f = absurd (cc e)
         by (Some y) e f = (off (begin_reasons how b q) (ap (refused_by (begin_reasons how) q) (sym e) ∙ f)).0
 
-    pub may_stand : Agrees f x (a ∷ z.1.0) (let M = s.seen in M.sent) → MayStand f.paths how q.tree p
+    pub may_stand : Agrees f x (a ∷ z.0) (let M = s.seen in M.sent) → MayStand f.paths how q.tree p
     may_stand agrees = record {
       uid = its_next.uid;
       path = sym path_is ∙ ap f.paths its_next.uid;
@@ -272,48 +278,48 @@ module _ (hd : Header) (f : Fixed) (x : ℕ) (R : Seen → Type 0) (keeps : Keep
     }
       where
         path_is : f.paths (actor p) ≡ uids_of p
-        path_is = (let w = agrees.whole in w.agree a (in_to a (a ∷ z.1.0) (inl refl)))
+        path_is = (let w = agrees.whole in w.agree a (in_to a (a ∷ z.0) (inl refl)))
 
-        good : IsGoodCoord z.1.0 f.paths q
-        good = let n = good_node (case_of f x z.1.0 (let g = z.1.2 older in g.0)) s (seen_in (world_at s) z.1 older) in n.coord
+        good : IsGoodCoord z.0 f.paths q
+        good = let n = good_node (case_of f x z.0 (let g = z.3 f older in g.0)) s (seen_in f (world_at s) z older) in n.coord
 
         found : (b : Branch) → o ≡ Some b → branch_of (actor b.path) q.tree ≡ Some b
         found b is = by parent is
           where
             by : (r : Option Label) → parent_of r q ≡ Some b → branch_of (actor b.path) q.tree ≡ Some b
             by None e = absurd (cc e)
-            by (Some y) e = named_found z.1.0 f.paths (let w = older.whole in w.tree) [] q good y b e
+            by (Some y) e = named_found z.0 f.paths (let w = older.whole in w.tree) [] q good y b e
 
-  kept_begin : (e k : ℕ) (d : Disk) (t : Parts) (l : Label) (how : Kind) (parent : Option Label) (M : Seen) → label_at l M.labels ≡ None → MayGive M.labels k how parent → begin_refusal how t.coord parent ≡ None → Kept (up k d t M)
+  kept_begin : (e k : ℕ) (d : Disk) (t : Parts) (l : Label) (how : Kind) (parent : Option Label) (M : Seen) → label_at l M.labels ≡ None → MayGive M.labels k how parent → begin_refusal how t.coord parent ≡ None → G (up k d t M) → Kept (up k d t M)
       → let D = begin_action l how parent (parent_of parent t.coord) t.coord in Walks Kept e k D.outs (Up Kept k (with_coord t D.part)) d (given l (record { node = k; serial = is_serial_kind how }) M)
-  kept_begin e k d t l how parent M new may none z =
+  kept_begin e k d t l how parent M new may none more z =
       let D = begin_action l how parent (parent_of parent t.coord) t.coord in
       let s : Spot = record { node = k; disk = d; parts = t; seen = M } in
       let N = given l (record { node = k; serial = is_serial_kind how }) M in
-      let a : Action = record { path = path_below how (parent_of parent t.coord) (next_uid t.coord.tree); kind = how } in
-      kept_walk f x R (a ∷ z.1.0) e k D.outs (with_coord t D.part) d N (keeps.begin e k d t l how parent M new may none z.0) (begin_good e k d t l how parent M new may none (z.1.0, z.1.1))
-      (λ agrees. let older = agree_older f x a z.1.0 M.sent agrees in ((let g = z.1.2 older in g.0), begins_go (case_of f x z.1.0 (let g = z.1.2 older in g.0)) s e l (record { node = k; serial = is_serial_kind how }) how parent (parent_of parent t.coord) (seen_in (world_at s) z.1 older) (let w = agrees.whole in w.begun.0) (may_stand e s l how parent z older new may none agrees) (gives.begin z.1.0 (let g = z.1.2 older in g.0) s z.0 (seen_in (world_at s) z.1 older))))
+      let a : Action = begins_in how parent t in
+      kept_walk x R (a ∷ z.0) e k D.outs (with_coord t D.part) d N (keeps.begin z.0 e k d t l how parent M new may none more z.1 z.2) (begin_good e k d t l how parent M new may none (z.0, z.1))
+      (λ f agrees. let older = agree_older f x a z.0 M.sent agrees in ((let g = z.3 f older in g.0), begins_go (case_of f x z.0 (let g = z.3 f older in g.0)) s e l (record { node = k; serial = is_serial_kind how }) how parent (parent_of parent t.coord) (seen_in f (world_at s) z older) (let w = agrees.whole in w.begun.0) (may_stand f e s l how parent z older new may none agrees) ((gives f).begin z.0 (let g = z.3 f older in g.0) s (more, z.2) (seen_in f (world_at s) z older))))
 
-  kept_tick : (e k : ℕ) (d : Disk) (t : Parts) (M : Seen) → Kept (up k d t M)
+  kept_tick : (e k : ℕ) (d : Disk) (t : Parts) (M : Seen) → G (up k d t M) → Kept (up k d t M)
       → Walks Kept e k (tick_outs (record { number = k; disk = d; live = Some t }) t) (Up Kept k (with_coord t (let q = again_all t.coord.doings t.coord in q.part))) d M
-  kept_tick e k d t M z =
+  kept_tick e k d t M more z =
       let s : Spot = record { node = k; disk = d; parts = t; seen = M } in
-      kept_walk f x R z.1.0 e k (tick_outs (record { number = k; disk = d; live = Some t }) t) (with_coord t (let q = again_all t.coord.doings t.coord in q.part)) d M (keeps.tick e k d t M z.0) (tick_good e k d t M (z.1.0, z.1.1))
-      (λ agrees. let g = z.1.2 agrees in let seen = seen_in (world_at s) z.1 agrees in let q = gives.tick z.1.0 g.0 s z.0 seen in (g.0, ticks_go (case_of f x z.1.0 g.0) s e seen q.0 q.1 q.2))
+      kept_walk x R z.0 e k (tick_outs (record { number = k; disk = d; live = Some t }) t) (with_coord t (let q = again_all t.coord.doings t.coord in q.part)) d M (keeps.tick z.0 e k d t M more z.1 z.2) (tick_good e k d t M (z.0, z.1))
+      (λ f agrees. let g = z.3 f agrees in let seen = seen_in f (world_at s) z agrees in let q = (gives f).tick z.0 g.0 s (more, z.2) seen in (g.0, ticks_go (case_of f x z.0 g.0) s e seen q.0 q.1 q.2))
 
-  kept_restart : (e k : ℕ) (d : Disk) (M : Seen) → Kept (down k d M) → Walks Kept e k (restart_outs hd k (d.inc + 1) d) (Up Kept k (parts_in k (d.inc + 1) d)) d M
-  kept_restart e k d M z =
-      kept_walk f x R z.1.0 e k (restart_outs hd k (d.inc + 1) d) (parts_in k (d.inc + 1) d) d M (keeps.restart e k d M z.0) (restart_good hd e k d M (z.1.0, z.1.1))
-      (λ agrees. let g = z.1.2 agrees in let seen = seen_in (down k d M) z.1 agrees in (g.0, restarts_go hd (case_of f x z.1.0 g.0) e k d M seen (gives.restart z.1.0 g.0 k d M z.0 seen)))
+  kept_restart : (e k : ℕ) (d : Disk) (M : Seen) → G (down k d M) → Kept (down k d M) → Walks Kept e k (restart_outs hd k (d.inc + 1) d) (Up Kept k (parts_in k (d.inc + 1) d)) d M
+  kept_restart e k d M more z =
+      kept_walk x R z.0 e k (restart_outs hd k (d.inc + 1) d) (parts_in k (d.inc + 1) d) d M (keeps.restart z.0 e k d M more z.1 z.2) (restart_good hd e k d M (z.0, z.1))
+      (λ f agrees. let g = z.3 f agrees in let seen = seen_in f (down k d M) z agrees in (g.0, restarts_go hd (case_of f x z.0 g.0) e k d M seen ((gives f).restart z.0 g.0 k d M (more, z.2) seen)))
 
   first_kept : Kept (see [] (format hd))
-  first_kept = (keeps.first, ([], first_of hd, (λ agrees. first_goes hd f x gives.first)))
+  first_kept = ([], first_of hd, keeps.first, (λ f agrees. first_goes hd f x (gives f).first))
 
-  pub kept : Keeps hd Kept
-  kept = record { quiet = quiet_kept; stop = stop_kept; message = kept_message; act = kept_act; begin = kept_begin; tick = kept_tick; restart = kept_restart; first = first_kept }
+  pub locks_given : KeepsGiven hd G (AreLocksSeen x R)
+  locks_given = record { quiet = quiet_kept; stop = stop_kept; message = kept_message; act = kept_act; begin = kept_begin; tick = kept_tick; restart = kept_restart; first = first_kept }
 
 pub locks_are_kept : LocksAreKept
-locks_are_kept hd f x test keeps gives = kept hd f x (λ M. test M ≡ true) keeps gives
+locks_are_kept hd x before test keeps gives everywhere = kept_both hd (λ M. before M ≡ true) (AreLocksSeen x (λ begun N. test begun N ≡ true)) everywhere (locks_given hd x (λ M. before M ≡ true) (λ begun M. test begun M ≡ true) keeps gives)
 
 pub runs_keep_locks : RunsKeepLocks
-runs_keep_locks hd f x test keeps gives es = runs_hold hd (λ M. (test M ≡ true) × AreLocksSeen f x M) (locks_are_kept hd f x test keeps gives) es
+runs_keep_locks hd x before test keeps gives everywhere es = runs_hold hd (λ M. (before M ≡ true) × AreLocksSeen x (λ begun N. test begun N ≡ true) M) (locks_are_kept hd x before test keeps gives everywhere) es

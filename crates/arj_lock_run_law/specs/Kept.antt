@@ -16,6 +16,7 @@ use Rattle.arj_run_law.specs.Worlds.{IsGoodOf}
 use Rattle.arj_view_law.specs.Keeps.{Holds, Keeps, is_act}
 use Rattle.arj_view_law.specs.Seen.{In, Seen, down}
 use Rattle.arj_view_law.specs.Walks.{Up, Walks}
+use Rattle.arj_lock_fact_law.specs.Acts.{KeepsOf}
 use Rattle.arj_lock_fact_law.specs.Works.{KnowsEnds}
 use Rattle.arj_lock_run_law.specs.Asking.{HasWholeRoots, IsAskedAbout, TellsRecords}
 use Rattle.arj_lock_run_law.specs.Beside.{Case, HoldsNamingIn, IsSeenIn, KnowsEntry, KnowsSpot, Spot, world_at}
@@ -28,9 +29,10 @@ use Rattle.arj_lock_run_law.specs.World.{IsSeenSo, is_for_parts}
 abbrev pub case_of : Fixed → ℕ → List Action → State → Case
 case_of f x begun S = record { fixed = f; x = x; begun = begun; state = S }
 
--- Nodes are good, with the actions that were begun, and the object is seen, where what is fixed agrees with them.
-abbrev pub AreLocksSeen : Fixed → ℕ → Seen → Type 0
-AreLocksSeen f x M = (begun : List Action) × IsGoodOf begun M × (Agrees f x begun M.sent → (S : State) × SeesLocks f x begun S M)
+-- Nodes are good, with the actions that were begun, for which the relation holds, and the object is seen, for all that may be fixed and
+-- agrees with them.
+abbrev pub AreLocksSeen : ℕ → (List Action → Seen → Type 0) → Seen → Type 0
+AreLocksSeen x R M = (begun : List Action) × IsGoodOf begun M × R begun M × ((f : Fixed) → Agrees f x begun M.sent → (S : State) × SeesLocks f x begun S M)
 
 -- a message came
 pub record HasCome (s : Spot) (from : ℕ) (m : Message) (v : Parts) (outs : List Effect) : Type 0 where
@@ -40,24 +42,29 @@ pub record HasCome (s : Spot) (from : ℕ) (m : Message) (v : Parts) (outs : Lis
 
 -- What a relation gives, where it holds and the object is seen: what naming, servers, records, questions, inputs about actions and new
 -- roots are known for, and that the object is seen through what a coordinator does when it is answered.
-pub record GivesLocks (hd : Header) (f : Fixed) (x : ℕ) (R : Seen → Type 0) : Type 0 where
-  pub holds : (begun : List Action) (S : State) (s : Spot) → R (world_at s) → IsSeenIn (case_of f x begun S) (world_at s) → HoldsNamingIn (case_of f x begun S) s.node (let t = s.parts in t.naming)
-  pub parts : (begun : List Action) (S : State) (s : Spot) (from : ℕ) (m : Message) (v : Parts) (outs : List Effect) → R (world_at s) → IsSeenIn (case_of f x begun S) (world_at s) → HasCome s from m v outs → is_for_parts m ≡ true
+pub record GivesLocks (hd : Header) (f : Fixed) (x : ℕ) (R : List Action → Seen → Type 0) : Type 0 where
+  pub holds : (begun : List Action) (S : State) (s : Spot) → R begun (world_at s) → IsSeenIn (case_of f x begun S) (world_at s) → HoldsNamingIn (case_of f x begun S) s.node (let t = s.parts in t.naming)
+  pub parts : (begun : List Action) (S : State) (s : Spot) (from : ℕ) (m : Message) (v : Parts) (outs : List Effect) → R begun (world_at s) → IsSeenIn (case_of f x begun S) (world_at s) → HasCome s from m v outs → is_for_parts m ≡ true
       → KnowsSpot (case_of f x begun S) s × HoldsNamingIn (case_of f x begun S) s.node v.naming
-  pub asked : (begun : List Action) (S : State) (s : Spot) (from : ℕ) (u : Uid) (v : Parts) (outs : List Effect) → R (world_at s) → IsSeenIn (case_of f x begun S) (world_at s) → HasCome s from (message.Query (record { act = u })) v outs → IsAskedAbout (case_of f x begun S) s u
-  pub acked : (begun : List Action) (S : State) (s : Spot) (from : ℕ) (u : Uid) (v : Parts) (outs : List Effect) → R (world_at s) → IsSeenIn (case_of f x begun S) (world_at s) → HasCome s from (message.Acked (record { act = u })) v outs → HasWholeRoots s u
-  pub heard : (begun : List Action) (S : State) (s : Spot) (e from : ℕ) (m : Message) (a : Asked × Reply) (v : Parts) (outs : List Effect) → R (world_at s) → IsSeenIn (case_of f x begun S) (world_at s) → HasCome s from m v outs → answers m ≡ Some a
+  pub asked : (begun : List Action) (S : State) (s : Spot) (from : ℕ) (u : Uid) (v : Parts) (outs : List Effect) → R begun (world_at s) → IsSeenIn (case_of f x begun S) (world_at s) → HasCome s from (message.Query (record { act = u })) v outs → IsAskedAbout (case_of f x begun S) s u
+  pub acked : (begun : List Action) (S : State) (s : Spot) (from : ℕ) (u : Uid) (v : Parts) (outs : List Effect) → R begun (world_at s) → IsSeenIn (case_of f x begun S) (world_at s) → HasCome s from (message.Acked (record { act = u })) v outs → HasWholeRoots s u
+  pub heard : (begun : List Action) (S : State) (s : Spot) (e from : ℕ) (m : Message) (a : Asked × Reply) (v : Parts) (outs : List Effect) → R begun (world_at s) → IsSeenIn (case_of f x begun S) (world_at s) → HasCome s from m v outs → answers m ≡ Some a
       → Walks (IsSeenSo (case_of f x begun S)) e s.node outs (Up (IsSeenSo (case_of f x begun S)) s.node v) s.disk s.seen
-  pub act : (begun : List Action) (S : State) (s : Spot) (i : Input) → R (world_at s) → IsSeenIn (case_of f x begun S) (world_at s) → is_act i ≡ true → refusal_up hd i (coord_at s) ≡ None
+  pub act : (begun : List Action) (S : State) (s : Spot) (i : Input) → R begun (world_at s) → IsSeenIn (case_of f x begun S) (world_at s) → is_act i ≡ true → refusal_up hd i (coord_at s) ≡ None
       → KnowsInput s × KnowsAfter (case_of f x begun S) (let D = acts i (let d = s.disk in d.intents) (coord_at s) in D.part)
-  pub begin : (begun : List Action) (S : State) (s : Spot) → R (world_at s) → IsSeenIn (case_of f x begun S) (world_at s) → root_at (next_uid (let q = coord_at s in q.tree)) (coord_at s) ≡ no_root
-  pub tick : (begun : List Action) (S : State) (s : Spot) → R (world_at s) → IsSeenIn (case_of f x begun S) (world_at s) → KnowsAsks (case_of f x begun S) (coord_at s) × KnowsEnds (coord_at s) × TellsRecords s
-  pub restart : (begun : List Action) (S : State) (k : ℕ) (d : Disk) (M : Seen) → R (down k d M) → IsSeenIn (case_of f x begun S) (down k d M) → KnowsEntry x k d
+  pub begin : (begun : List Action) (S : State) (s : Spot) → R begun (world_at s) → IsSeenIn (case_of f x begun S) (world_at s) → root_at (next_uid (let q = coord_at s in q.tree)) (coord_at s) ≡ no_root
+  pub tick : (begun : List Action) (S : State) (s : Spot) → R begun (world_at s) → IsSeenIn (case_of f x begun S) (world_at s) → KnowsAsks (case_of f x begun S) (coord_at s) × KnowsEnds (coord_at s) × TellsRecords s
+  pub restart : (begun : List Action) (S : State) (k : ℕ) (d : Disk) (M : Seen) → R begun (down k d M) → IsSeenIn (case_of f x begun S) (down k d M) → KnowsEntry x k d
   pub first : KnowsEntry x 1 (first_disk hd 1)
 
--- Where such a relation is kept, it is kept with the object seen; and both hold in the run of every script.
+-- Where such a relation is kept, of the actions that were begun, before whatever holds everywhere, it is kept with the object seen, for all
+-- that may be fixed; and both hold in the run of every script.
 abbrev pub LocksAreKept : Type 0
-LocksAreKept = (hd : Header) (f : Fixed) (x : ℕ) (test : Seen → Bool) → Keeps hd (λ M. test M ≡ true) → GivesLocks hd f x (λ M. test M ≡ true) → Keeps hd (λ M. (test M ≡ true) × AreLocksSeen f x M)
+LocksAreKept = (hd : Header) (x : ℕ) (before : Seen → Bool) (test : List Action → Seen → Bool)
+    → KeepsOf hd (λ begun M. before M ≡ true) (λ begun M. test begun M ≡ true) → ((f : Fixed) → GivesLocks hd f x (λ begun M. (before M ≡ true) × (test begun M ≡ true)))
+    → Keeps hd (λ M. before M ≡ true) → Keeps hd (λ M. (before M ≡ true) × AreLocksSeen x (λ begun N. test begun N ≡ true) M)
 
 abbrev pub RunsKeepLocks : Type 0
-RunsKeepLocks = (hd : Header) (f : Fixed) (x : ℕ) (test : Seen → Bool) → Keeps hd (λ M. test M ≡ true) → GivesLocks hd f x (λ M. test M ≡ true) → (es : List world.Asked) → Holds hd (λ M. (test M ≡ true) × AreLocksSeen f x M) (run_all es (format hd))
+RunsKeepLocks = (hd : Header) (x : ℕ) (before : Seen → Bool) (test : List Action → Seen → Bool)
+    → KeepsOf hd (λ begun M. before M ≡ true) (λ begun M. test begun M ≡ true) → ((f : Fixed) → GivesLocks hd f x (λ begun M. (before M ≡ true) × (test begun M ≡ true)))
+    → Keeps hd (λ M. before M ≡ true) → (es : List world.Asked) → Holds hd (λ M. (before M ≡ true) × AreLocksSeen x (λ begun N. test begun N ≡ true) M) (run_all es (format hd))
