@@ -23,7 +23,6 @@ use Rattle.arj_disk_run_law.specs.Rest.{GivesNaming, IsHeardAt, KeepsHeard}
 use Rattle.arj_disk_run_law.proofs.HeardAsk.{Served_by, ask_heard}
 use Rattle.arj_disk_run_law.proofs.HeardGoing.{like_goes_on}
 use Rattle.arj_disk_run_law.proofs.HeardOther.{other_heard}
-use Rattle.arj_names_view_law.specs.Calls.{IsUnrecorded}
 use Rattle.arj_names_view_law.proofs.Heard.{none_heard}
 
 -- ---- what naming counts on
@@ -39,7 +38,7 @@ module _ (x : ℕ) (R : Seen → Type 0) (gives : GivesNaming x R) (tops : Kinds
   pub may_record : MayRecord x d n m A
   may_record h y b i g asking B names entry about now unrecorded = (
     ap (λ z. z.had (uid_number (top_of h.path)) z.inc) names ∙ subst (λ j. A.names.had (uid_number (top_of h.path)) j ≡ true) inc_is (had about),
-    λ unasked. gives.recorded tops k d t n from m h b i M A at sent named (asking ∙ ap (λ z. Some (h, ask.Record z b i g)) about ∙ ap (λ j. Some (h, ask.Record x b i j)) inc_is) (subst (λ z. IsUnrecorded z (top_of h.path) n) refl unrecorded) (ap (λ z. z.asked (uid_number (top_of h.path))) (sym names) ∙ unasked) B entry,
+    λ unasked. gives.recorded tops k d t n from m h b i M A at sent named (asking ∙ ap (λ z. Some (h, ask.Record z b i g)) about ∙ ap (λ j. Some (h, ask.Record x b i j)) inc_is) unrecorded (ap (λ z. z.asked (uid_number (top_of h.path))) (sym names) ∙ unasked) B entry,
   )
     where
       inc_is : g ≡ A.names.inc

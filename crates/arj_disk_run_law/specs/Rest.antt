@@ -37,11 +37,11 @@ pub record IsHeardAt (x : ℕ) (R : Seen → Type 0) (tops : Kinds) (A : Office)
   pub both : SeesBoth x tops A (up s.0 s.1 s.2 M)
   pub heard : SeesHeard x tops A (up s.0 s.1 s.2 M)
 
--- What naming counts on. A Record that comes while its top's binding isn't recorded is of a top that has no entry of the object prepared,
--- unless it asked for the lock by an include too; and of a new Confirm the locks of servers give the next version.
+-- What naming counts on. A Record whose binding naming made for its top and didn't record yet is of a top that has no entry of the object
+-- prepared, unless it asked for the lock by an include too; and of a new Confirm the locks of servers give the next version.
 pub record GivesNaming (x : ℕ) (R : Seen → Type 0) : Type 0 where
   pub recorded : (tops : Kinds) (k : ℕ) (d : Disk) (t : Parts) (n : Naming) (from : ℕ) (m : Message) (h : Head) (b : Binding) (i : ℕ) (M : Seen) (A : Office) → IsHeardAt x R tops A (k, d, t) M → In (record { from = from; to = k; message = m }) M.sent → t.naming ≡ Some n → asks m ≡ Some (h, ask.Record x b i A.names.inc)
-      → IsUnrecorded x (top_of h.path) n → A.names.asked (uid_number (top_of h.path)) ≡ false → (B : Office) → SeesEntry x d.names B.world.disk → IsNot B.world.disk.entry_pend (uid_number (top_of h.path))
+      → IsUnrecorded x h.path b n → A.names.asked (uid_number (top_of h.path)) ≡ false → (B : Office) → SeesEntry x d.names B.world.disk → IsNot B.world.disk.entry_pend (uid_number (top_of h.path))
   pub next : (tops : Kinds) (k : ℕ) (d : Disk) (t : Parts) (n : Naming) (from : ℕ) (m : Message) (h : Head) (grants : Grants) (excluded included : Marks) (M : Seen) (A : Office) → IsHeardAt x R tops A (k, d, t) M → In (record { from = from; to = k; message = m }) M.sent → t.naming ≡ Some n → asks m ≡ Some (h, ask.Confirm grants excluded included)
       → IsNewConfirm h.path grants excluded included d.names n → IsNext A.world.disk (uid_number (top_of h.path))
 

@@ -112,7 +112,7 @@ module _ (x : ℕ) (tops : Kinds) (top : Uid) (rows : List Row) (root : ℕ → 
 
 module _ (x : ℕ) (tops : Kinds) (p : Path) (n : Naming) (A : Office) (o : Named) (c : names.Named A) (sees : SeesNaming x tops n A.world.disk A.names) (so : SeesNamed x tops o A.world.disk A.names) (of : IsOfTop tops A.world.disk p)
     (untold : IsUntold A.world.disk A.names (uid_number (top_of p))) (i : ℕ) (found : at_number x n.objects ≡ Some o)
-    (note_may : IsUnrecorded x (top_of p) n → (A.names.had (uid_number (top_of p)) A.names.inc ≡ true) × (A.names.asked (uid_number (top_of p)) ≡ false → IsNot A.world.disk.entry_pend (uid_number (top_of p)))) (r : RecordedReply) where
+    (b : Binding) (off : is_over p n ≡ false) (note_may : IsUnrecorded x p b n → (A.names.had (uid_number (top_of p)) A.names.inc ≡ true) × (A.names.asked (uid_number (top_of p)) ≡ false → IsNot A.world.disk.entry_pend (uid_number (top_of p)))) (r : RecordedReply) where
   abbrev u : ℕ
   u = uid_number (top_of p)
 
@@ -125,7 +125,7 @@ module _ (x : ℕ) (tops : Kinds) (p : Path) (n : Naming) (A : Office) (o : Name
   nothing : (q : RecordedReply) → Goal (reply o q)
   nothing q is = record { acts = []; may = tt; there = (only_same A, with_object x tops n o n.count A.world.disk A.names A.names sees refl refl refl so) }
 
-  module _ (m : Made) (there : at_uid (top_of p) o.made ≡ Some m) (un : m.recorded ≡ false) where
+  module _ (m : Made) (there : at_uid (top_of p) o.made ≡ Some m) (un : m.recorded ≡ false) (same : binding_eq b m.binding ≡ true) where
     write : N.row u ≡ Some 2
     write = so.made (top_of p) m there un untold
 
@@ -169,40 +169,40 @@ module _ (x : ℕ) (tops : Kinds) (p : Path) (n : Naming) (A : Office) (o : Name
     goes : (outs : List Effect) → Goal (record { part = lowered x (top_of p) (in_use (top_of p) m i o); outs = outs; reply = Some recorded.Yes })
     goes outs is = record {
       acts = machine.Lower u ∷ [];
-      may = (let q = note_may (o, m, found, there, un) in record { held = write; had = q.0; clear = q.1 }, tt);
+      may = (let q = note_may (record { named = o; made = m; there = found; of = there; unrecorded = un; same = same; untold = off }) in record { held = write; had = q.0; clear = q.1 }, tt);
       there = (
         record { world = refl; inc = refl; told = refl; given = refl; confd = refl; had = refl; kept = refl; answers = λ a j. j },
         with_object x tops n (lowered x (top_of p) (in_use (top_of p) m i o)) n.count A.world.disk A.names (let B = acted A (machine.Lower u) in B.names) sees refl refl refl (subst (Sees (N.asked u)) (sym lowered_is) (seen (N.asked u))),
       );
     }
 
-  by_made : (q : Option Made) (b : Binding) → at_uid (top_of p) o.made ≡ q → Goal (note_other x (top_of p) b i o q)
-  by_made None b e = λ is. absurd (cc is)
-  by_made (Some m) b e = by (binding_eq b m.binding) (m.recorded) refl
+  by_made : (q : Option Made) → at_uid (top_of p) o.made ≡ q → Goal (note_other x (top_of p) b i o q)
+  by_made None e = λ is. absurd (cc is)
+  by_made (Some m) e = by (binding_eq b m.binding) (m.recorded) refl refl
     where
-      by : (same rec : Bool) → m.recorded ≡ rec → Goal (if same then (if rec then reply o recorded.Yes else record { part = lowered x (top_of p) (in_use (top_of p) m i o); outs = naming_named.lower_lines x (top_of p) o; reply = Some recorded.Yes }) else void o)
-      by true true f = nothing recorded.Yes
-      by true false f = goes m e f (naming_named.lower_lines x (top_of p) o)
-      by false rec f = λ is. absurd (cc is)
+      by : (same rec : Bool) → binding_eq b m.binding ≡ same → m.recorded ≡ rec → Goal (if same then (if rec then reply o recorded.Yes else record { part = lowered x (top_of p) (in_use (top_of p) m i o); outs = naming_named.lower_lines x (top_of p) o; reply = Some recorded.Yes }) else void o)
+      by true true g f = nothing recorded.Yes
+      by true false g f = goes m e f g (naming_named.lower_lines x (top_of p) o)
+      by false rec g f = λ is. absurd (cc is)
 
-  pub noted : (b : Binding) → Goal (note_named x (top_of p) b i o)
-  noted b = by (is_binding b o.recorded)
+  pub noted : Goal (note_named x (top_of p) b i o)
+  noted = by (is_binding b o.recorded)
     where
       by : (k : Bool) → Goal (if k then reply o recorded.Yes else note_other x (top_of p) b i o (at_uid (top_of p) o.made))
       by true = nothing recorded.Yes
-      by false = by_made (at_uid (top_of p) o.made) b refl
+      by false = by_made (at_uid (top_of p) o.made) refl
 
 -- ---- a Record
 
 module _ (x : ℕ) (tops : Kinds) (p : Path) (b : Binding) (i g : ℕ) (n : Naming) (A : Office) (r : RecordedReply) (c : names.Named A) (sees : SeesNaming x tops n A.world.disk A.names) (of : IsOfTop tops A.world.disk p) where
   abbrev Note_goal : ℕ → Served Naming RecordedReply → Type 0
-  Note_goal y s = MayNote x y (top_of p) g n A → s.reply ≡ Some r → NamesGo A (λ B. OnlyLocks A B × SeesNaming x tops s.part B.world.disk B.names)
+  Note_goal y s = MayNote x y p b g n A → s.reply ≡ Some r → NamesGo A (λ B. OnlyLocks A B × SeesNaming x tops s.part B.world.disk B.names)
 
   of_object : is_over p n ≡ false → g ≡ n.inc → (y : ℕ) (q : Option Named) → at_number y n.objects ≡ q → Note_goal y (on_named y (note_named y (top_of p) b i) n q)
   of_object off now y None e = λ note_may is. absurd (cc is)
   of_object off now y (Some o) e = ⊎_elim
       (λ (same : y ≡ x). subst (λ z. Note_goal z (on_named z (note_named z (top_of p) b i) n (Some o))) (sym same)
-      (λ note_may. noted x tops p n A o c sees (sees.object o (ap (λ z. at_number z n.objects) (sym same) ∙ e)) of (path_untold x tops n A.world.disk A.names p sees of off) i (ap (λ z. at_number z n.objects) (sym same) ∙ e) (note_may refl (now ∙ sym sees.inc_is)) r b))
+      (λ note_may. noted x tops p n A o c sees (sees.object o (ap (λ z. at_number z n.objects) (sym same) ∙ e)) of (path_untold x tops n A.world.disk A.names p sees of off) i (ap (λ z. at_number z n.objects) (sym same) ∙ e) b off (note_may refl (now ∙ sym sees.inc_is)) r))
       (λ other note_may is. record { acts = []; may = tt; there = (only_same A, other_object x y tops n (let s = note_named y (top_of p) b i o in s.part) n.count A.world.disk A.names other.0 sees) })
       (one_or_two y x)
 

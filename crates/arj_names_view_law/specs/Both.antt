@@ -121,7 +121,7 @@ BindsKeepBoth = (x y : ℕ) (tops : Kinds) (e : ℕ) (d : Disk) (t v : Parts) (n
 -- A Record is taken, of a top that took the grant which it names, whatever the disk half has done.
 abbrev pub NotesKeepBoth : Type 0
 NotesKeepBoth = (x y : ℕ) (tops : Kinds) (e : ℕ) (d : Disk) (t v : Parts) (n : Naming) (from : ℕ) (h : Head) (b : Binding) (i g : ℕ) (outs : List Effect) (A : Office) (M : Seen) → tops.walk ≡ None → t.naming ≡ Some n
-    → serve 1 d t from h (ask.Record y b i g) ≡ Took v outs → IsOfTop tops A.world.disk h.path → ((B : Office) → B.names ≡ A.names → SeesEntry x d.names B.world.disk → MayNote x y (top_of h.path) g n B)
+    → serve 1 d t from h (ask.Record y b i g) ≡ Took v outs → IsOfTop tops A.world.disk h.path → ((B : Office) → B.names ≡ A.names → SeesEntry x d.names B.world.disk → MayNote x y h.path b g n B)
     → SeesBoth x tops A (up 1 d t M) → DisksWalk (λ n. false) x tops A e 1 outs v d M → BothWalk x tops A e 1 outs v d M
 
 -- The word is taken that a node is up again.

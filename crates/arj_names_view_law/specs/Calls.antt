@@ -6,9 +6,9 @@ use Rattle.arj_protocol.specs.Words.ending
 use Rattle.arj_protocol.specs.Ask.{top_of}
 use Rattle.arj_protocol.specs.Confirm.{conflict_in, lock_all}
 use Rattle.arj_protocol.specs.Effect.{Pair}
-use Rattle.arj_protocol.specs.Naming.{Naming, bind, hello, note, told}
+use Rattle.arj_protocol.specs.Naming.{Naming, bind, hello, is_over, note, told}
 use Rattle.arj_protocol.specs.Named as object
-use Rattle.arj_protocol.specs.Order.{at_number, at_uid, has, uid_number}
+use Rattle.arj_protocol.specs.Order.{at_number, at_uid, binding_eq, has, uid_number}
 use Rattle.arj_disk_law.specs.Effects.{IsNot}
 use Rattle.arj_disk_law.specs.Guards.{HasRow}
 use Rattle.arj_disk_law.specs.Messages.{ToldAbort, ToldBare, ToldCommit, ToldSerial}
@@ -48,19 +48,26 @@ BindsAreActs = (x y : ℕ) (tops : Kinds) (p : Path) (include : Bool) (avoid : B
     → IsOfTop tops A.world.disk p → (let s = bind p y include avoid d n in s.reply) ≡ Some r
     → NamesGo A (λ B. OnlyLocks A B × SeesNaming x tops (let s = bind p y include avoid d n in s.part) B.world.disk B.names × ClaimsBound x y (uid_number (top_of p)) r B.names)
 
--- the binding that naming made for the top isn't recorded yet
-abbrev pub IsUnrecorded : ℕ → Uid → Naming → Type 0
-IsUnrecorded x u n = (o : object.Named) × (m : object.Made) × (at_number x n.objects ≡ Some o) × (at_uid u o.made ≡ Some m) × (m.recorded ≡ false)
+-- this is the binding that naming made for the top of the path last, it isn't recorded yet, and nobody on the path down to the top was told of
+pub record IsUnrecorded (x : ℕ) (p : Path) (b : Binding) (n : Naming) : Type 0 where
+  pub named : object.Named
+  pub made : object.Made
+  pub there : at_number x n.objects ≡ Some named
+  pub of : at_uid (top_of p) named.made ≡ Some made
+  pub unrecorded : made.recorded ≡ false
+  pub same : binding_eq b made.binding ≡ true
+  pub untold : is_over p n ≡ false
 
--- What a Record counts on that comes while the binding isn't recorded: its top took the grant, and has no entry of the object
--- prepared, unless it asked by an include too.
-abbrev pub MayNote : ℕ → ℕ → Uid → ℕ → Naming → Office → Type 0
-MayNote x y u g n A = y ≡ x → g ≡ A.names.inc → IsUnrecorded x u n → (A.names.had (uid_number u) A.names.inc ≡ true) × (A.names.asked (uid_number u) ≡ false → IsNot A.world.disk.entry_pend (uid_number u))
+-- What a Record counts on whose binding isn't recorded yet: its top took the grant, and has no entry of the object prepared, unless it asked
+-- by an include too.
+abbrev pub MayNote : ℕ → ℕ → Path → Binding → ℕ → Naming → Office → Type 0
+MayNote x y p b g n A = y ≡ x → g ≡ A.names.inc → IsUnrecorded x p b n
+    → (A.names.had (uid_number (top_of p)) A.names.inc ≡ true) × (A.names.asked (uid_number (top_of p)) ≡ false → IsNot A.world.disk.entry_pend (uid_number (top_of p)))
 
 -- a Record that is answered
 abbrev pub NotesAreActs : Type 0
 NotesAreActs = (x y : ℕ) (tops : Kinds) (p : Path) (b : Binding) (i g : ℕ) (n : Naming) (A : Office) (r : RecordedReply) → Named A → SeesNaming x tops n A.world.disk A.names
-    → IsOfTop tops A.world.disk p → MayNote x y (top_of p) g n A → (let s = note p y b i g n in s.reply) ≡ Some r
+    → IsOfTop tops A.world.disk p → MayNote x y p b g n A → (let s = note p y b i g n in s.reply) ≡ Some r
     → NamesGo A (λ B. OnlyLocks A B × SeesNaming x tops (let s = note p y b i g n in s.part) B.world.disk B.names)
 
 -- the top has the exclude lock: if it had it before, and where it asks it of the object

@@ -97,7 +97,7 @@ IsSeenAfter o x tops A M = (B : Office) × Changes o A B × SeesBoth x tops B M
 
 -- a Record may be noted, whatever the disk half does before
 abbrev pub MayRecord : ℕ → Disk → Naming → Message → Office → Type 0
-MayRecord x d n m A = (h : Head) (y : ℕ) (b : Binding) (i g : ℕ) → asks m ≡ Some (h, ask.Record y b i g) → (B : Office) → B.names ≡ A.names → SeesEntry x d.names B.world.disk → MayNote x y (top_of h.path) g n B
+MayRecord x d n m A = (h : Head) (y : ℕ) (b : Binding) (i g : ℕ) → asks m ≡ Some (h, ask.Record y b i g) → (B : Office) → B.names ≡ A.names → SeesEntry x d.names B.world.disk → MayNote x y h.path b g n B
 
 -- what a new Confirm counts on of its top's grants, and what the servers' locks give
 abbrev pub IsForGrants : ℕ → Disk → Naming → Message → Office → Type 0
