@@ -6,3 +6,4 @@ pub mod Grants
 pub mod Keeping
 pub mod Uppers
 pub mod Entries
+pub mod Requests

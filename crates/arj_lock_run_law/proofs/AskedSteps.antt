@@ -45,7 +45,7 @@ no_vote i ties ends x g (AtNote k j) is = cc is
 no_vote i ties ends x g (AtInvoke k j) is = cc is
 
 -- a request is that of its step, with the ends that it brings
-step_back : (a : Ask) (s : Steps) → bare a ≡ next_ask [] s → a ≡ next_ask (ask_ends a) s
+pub step_back : (a : Ask) (s : Steps) → bare a ≡ next_ask [] s → a ≡ next_ask (ask_ends a) s
 unfolding with_ends
 step_back (ask.Invoke y b i ends o) s is = by s.at is
   where

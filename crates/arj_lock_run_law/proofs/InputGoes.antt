@@ -1,21 +1,18 @@
 -- Inputs about actions go in the whole world: what isn't refused fits the actions that are there.
-use Rattle.std.proofs.Common.{◌≡◌, ◌≢◌, ◌≤◌, ◌⊎◌, ◌∙◌, ◌||◌, ℕ, Bool, true, false, not, Option, Some, None, refl, sym, ap, subst, inl, inr, arith, is_some}
+use Rattle.std.proofs.Common.{◌≡◌, ◌≢◌, ◌⊎◌, ◌∙◌, ◌||◌, ℕ, Bool, true, false, not, Option, Some, None, refl, sym, ap, subst, inl, inr, arith, is_some}
 use Rattle.std.proofs.lemmas.Bool.{or_parts}
 use Rattle.arj_protocol.specs.Words.{Header, Kind, Label, Op, Uid}
 use Rattle.arj_protocol.specs.Words.kind
-use Rattle.arj_protocol.specs.Ask.{actor, top_of}
+use Rattle.arj_protocol.specs.Ask.{actor}
 use Rattle.arj_protocol.specs.Asking.{call, commit_action, give_up, give_up_doing, gives_up, include}
 use Rattle.arj_protocol.specs.Call.{Goal, Include as IncludeStore, Run}
-use Rattle.arj_protocol.specs.Commit.{plan_of}
 use Rattle.arj_protocol.specs.Coord.{Calling, Committing, Coord, Doing, Idle, Now, doing_of}
 use Rattle.arj_protocol.specs.Effect.{Did}
 use Rattle.arj_protocol.specs.Ending.{abort_action}
-use Rattle.arj_protocol.specs.Step.{Input, abort_reasons, acts, branch_named, call_reasons, commit_reasons, giveup_reasons, include_reasons, is_waiting, is_waiting_now, on_branch, refused_by, refusal_up, sibling_waits, waits, waits_above, waits_below, first_reason}
+use Rattle.arj_protocol.specs.Step.{Input, abort_reasons, acts, branch_named, call_reasons, commit_reasons, giveup_reasons, include_reasons, is_waiting, is_waiting_now, on_branch, refused_by, refusal_up, sibling_waits, waits, waits_above, waits_below}
 use Rattle.arj_protocol.specs.Step as input
 use Rattle.arj_protocol.specs.Tree.{Branch, branch_of, has_open_child, is_serial}
-use Rattle.arj_lock_law.specs.Actions.{top}
-use Rattle.arj_part_law.specs.Coords.{IsAsking, IsBusy, IsGoodCoord}
-use Rattle.arj_part_law.specs.Requests.{IsNumbered}
+use Rattle.arj_part_law.specs.Coords.{IsGoodCoord}
 use Rattle.arj_part_law.specs.Claims.{GoesOn}
 use Rattle.arj_part_law.specs.Ends.{IsSure}
 use Rattle.arj_part_law.proofs.EndsSaid.{sure_acts}
@@ -23,32 +20,21 @@ use Rattle.arj_part_law.proofs.GoodNodes.{input_well}
 use Rattle.arj_part_law.proofs.CoordInputs.{behind, named_found, off}
 use Rattle.arj_part_law.proofs.TrueSteps.{well_acts, work_there}
 use Rattle.arj_view_law.specs.Keeps.{is_act}
-use Rattle.arj_lock_fact_law.specs.Given.{IsPlaced}
-use Rattle.arj_lock_fact_law.specs.Works.{KnowsEnds}
-use Rattle.arj_lock_fact_law.proofs.Given.{actions_topped, commits_first, free_alone, listed_unserial, waiters_alone}
+use Rattle.arj_lock_fact_law.proofs.Given.{actions_topped, commits_first, free_alone}
 use Rattle.arj_lock_fact_law.proofs.Keeping.{plans_have_kept}
 use Rattle.arj_lock_fact_law.proofs.LowGrants.{plans_grant_low}
 use Rattle.arj_lock_view_law.specs.Acting.{IsFreeToEnd}
-use Rattle.arj_lock_view_law.specs.Actions.{IsLone}
-use Rattle.arj_lock_view_law.specs.Calling.{IsReached}
+use Rattle.arj_lock_view_law.specs.Calling.{IsWaiting}
 use Rattle.arj_lock_view_law.specs.Telling.{AreOneTree, Family}
-use Rattle.arj_lock_view_law.proofs.TreeSteps.{action_kind}
-use Rattle.arj_lock_run_law.specs.Beside.{Case, HoldsNamingIn, IsSeenIn, Spot, view_in, world_at}
-use Rattle.arj_lock_run_law.specs.Coordinating.{IsWorking, KnowsAsks, KnowsCoord, StepGoes, coord_at, records_at}
+use Rattle.arj_lock_run_law.specs.Beside.{Case, HoldsNamingIn, IsSeenIn, Spot, world_at}
+use Rattle.arj_lock_run_law.specs.Coordinating.{IsWorking, StepGoes, coord_at, records_at}
 use Rattle.arj_lock_run_law.specs.Fixed.{Fixed, family_of}
 use Rattle.arj_lock_run_law.specs.Inputs.{InputsGo, KnowsAfter, KnowsInput}
-use Rattle.arj_lock_run_law.specs.Sees.{SeesUp}
 use Rattle.arj_lock_run_law.proofs.CallGoes.{calls_go, includes_go, lost_calls_go, other_lost_go}
 use Rattle.arj_lock_run_law.proofs.CommitGoes.{lost_commits_go, top_commits_go}
 use Rattle.arj_lock_run_law.proofs.GoodSteps.{good_node, its, steady, steady_begun}
-use Rattle.arj_lock_run_law.proofs.OtherSteps.{here_of}
 use Rattle.arj_lock_run_law.proofs.ToldSteps.{aborts_go, doomed_commits_go, nested_commits_go}
-
--- all that is known of the coordinator behind the step
-record Behind (c : Case) (s : Spot) (C : Coord) : Type 0 where
-  coord : KnowsCoord c s C
-  asks : KnowsAsks c C
-  ends : KnowsEnds C
+use Rattle.arj_lock_run_law.proofs.WorkSteps.{Behind, at_commit, behind_step, here, placed, reached_S, waits_in, working, works_in}
 
 unserial_is : (k : Kind) → is_serial k ≡ false → k ≢ kind.Serial
 unserial_is k off_it is = let bad : true ≡ false = sym (ap is_serial is) ∙ off_it in cc bad
@@ -63,15 +49,6 @@ module _ (c : Case) (s : Spot) (e : ℕ) (is_seen : IsSeenIn c (world_at s)) (ho
   abbrev g : Family
   g = family_of f c.begun
 
-  placed : IsPlaced g C
-  placed = record { whole = (let a = is_seen.agrees in a.whole); good = (let n = good_node c s is_seen in n.coord) }
-
-  here : SeesUp (view_in c s.node) c.state s.disk s.parts
-  here = here_of f c.x c.begun s.node s.disk (Some s.parts) c.state s.seen is_seen.sees
-
-  reached_S : IsReached c.state
-  reached_S = let z = is_seen.sees in (f.first, z.run)
-
   -- ---- an action that isn't refused
 
   module _ (b : Branch) (there : branch_of (actor b.path) C.tree ≡ Some b) (unended : is_some b.ended ≡ false) where
@@ -81,46 +58,28 @@ module _ (c : Case) (s : Spot) (e : ℕ) (is_seen : IsSeenIn c (world_at s)) (ho
     does : (d : Doing) × (doing_of u C ≡ Some d)
     does = work_there C (let z = steady c s is_seen in z.works) u b there
 
-    topped : b.kind ≢ kind.Serial → top (f.act u) ≡ f.act (top_of b.path)
-    topped unserial = actions_topped g C placed u b there (action_kind (f.act u) b.kind unserial (let z = steady c s is_seen in z.placed u b there))
-
-    working : (d : Doing) → doing_of u C ≡ Some d → IsLone f.paths u C → b.kind ≢ kind.Serial → IsWorking c s u b d
-    working d works lone unserial = record { steady = steady c s is_seen; there = there; unended = unended; works = works; lone = lone; topped = topped unserial }
-
     free : (up : waits_above b C ≡ false) (down : waits_below b C ≡ false) → IsFreeToEnd f.act f.paths C u b does.0
-    free up down = let a = free_alone g C b does.0 placed there does.1 up down in record { steady = steady c s is_seen; there = there; unended = unended; works = does.1; idle = a.0; lone = a.1 }
+    free up down = let a = free_alone g C b does.0 (placed c s is_seen) there does.1 up down in record { steady = steady c s is_seen; there = there; unended = unended; works = does.1; idle = a.0; lone = a.1 }
 
     -- what waits is given up
     given_up_now : (d : Doing) (n : Now) → doing_of u C ≡ Some d → d.now ≡ n → is_waiting_now n ≡ true → let D = gives_up u (records_at s) C n in Behind c s D.part → StepGoes c s e D
     given_up_now d Idle works is waits_it after = absurd (cc waits_it)
     given_up_now d (Calling w) works is waits_it after = by w.goal refl (about w.x c.x)
       where
-        asking : IsAsking C.tree u w.path
-        asking = subst (IsBusy C.tree u) is (placed.good.busy u d works)
-
-        same_branch : asking.branch ≡ b
-        same_branch = let two : ◌≡◌ {A = Option Branch} (Some asking.branch) (Some b) = sym asking.found ∙ there in cc two
-
-        path : w.path ≡ b.path
-        path = sym asking.path ∙ ap (λ (q : Branch). q.path) same_branch
-
-        last : w.req ≡ d.req
-        last = subst (IsNumbered d.req) is (let i = its c s is_seen in i.numbered u d works)
-
         work : IsWorking c s u b d
-        work = working d works (waiters_alone g C u d placed knows.waits works (ap is_waiting_now is)) (λ serial. asking.unserial (ap (λ (q : Branch). q.kind) same_branch ∙ serial))
+        work = works_in c s is_seen u b there knows.waits d w works is
+
+        waiting : IsWaiting b d w
+        waiting = waits_in c s is_seen u b there knows.waits d w works is
 
         about : (m n : ℕ) → (m ≡ n) ⊎ (m ≢ n)
         about m n = grind arith
 
         by : (goal : Goal) → w.goal ≡ goal → (w.x ≡ c.x) ⊎ (w.x ≢ c.x) → StepGoes c s e (gives_up u (records_at s) C (Calling w))
-        by goal goal_is (inr away) = other_lost_go c s e u b d w is_seen work (record { calling = is; path = path; last = last }) (inl away) after.coord after.asks
-        by (Run o) goal_is (inl mine) = lost_calls_go c s e u b d w o is_seen work (record { calling = is; about = mine; goal = goal_is; path = path; last = last }) after.coord after.asks
-        by (IncludeStore store) goal_is (inl mine) = other_lost_go c s e u b d w is_seen work (record { calling = is; path = path; last = last }) (inr (store, goal_is)) after.coord after.asks
-    given_up_now d (Committing m) works is waits_it after = lost_commits_go c s e u b d m is_seen holds (record { there = there; unended = unended; works = works; at = is; number = at_least }) after.coord after.asks after.ends
-      where
-        at_least : d.req ≤ (let p = plan_of m in p.req)
-        at_least = let z = (subst (IsNumbered d.req) is (let i = its c s is_seen in i.numbered u d works)).0 in omega (arith, z)
+        by goal goal_is (inr away) = other_lost_go c s e u b d w is_seen work waiting (inl away) after.coord after.asks
+        by (Run o) goal_is (inl mine) = lost_calls_go c s e u b d w o is_seen work (record { calling = is; about = mine; goal = goal_is; path = waiting.path; last = waiting.last }) after.coord after.asks
+        by (IncludeStore store) goal_is (inl mine) = other_lost_go c s e u b d w is_seen work waiting (inr (store, goal_is)) after.coord after.asks
+    given_up_now d (Committing m) works is waits_it after = lost_commits_go c s e u b d m is_seen holds (at_commit c s is_seen u b there d m works is) after.coord after.asks after.ends
 
     -- the action commits
     commits : (up : waits_above b C ≡ false) (down : waits_below b C ≡ false) → sibling_waits b C ≡ false → has_open_child u C.tree ≡ false → let D = commit_action b (records_at s) C in Behind c s D.part → StepGoes c s e D
@@ -135,10 +94,10 @@ module _ (c : Case) (s : Spot) (e : ℕ) (is_seen : IsSeenIn c (world_at s)) (ho
             commits_top : IsFreeToEnd f.act f.paths C u b does.0 → StepGoes c s e (commit_action b (records_at s) C)
             commits_top z0 =
                 let z : IsFreeToEnd f.act f.paths C u b does.0 = record { steady = steady c s is_seen; there = there; unended = unended; works = does.1; idle = z0.idle; lone = z0.lone } in
-                top_commits_go c s e u b does.0 is_seen holds z (steady_begun c s is_seen) (actions_topped g C placed) unserial unnested undoomed childless
-                (commits_first g C b placed there unserial unnested up siblings)
-                (plans_grant_low f.act f.code f.paths c.x (let M = s.seen in M.sent) s.node C u b does.0 c.state reached_S z (steady_begun c s is_seen) (actions_topped g C placed) unserial unnested childless knows.binds knows.grants here.coord)
-                (plans_have_kept f.act f.code f.paths c.x (let M = s.seen in M.sent) s.node C u b does.0 c.state reached_S z unserial knows.binds here.coord)
+                top_commits_go c s e u b does.0 is_seen holds z (steady_begun c s is_seen) (actions_topped g C (placed c s is_seen)) unserial unnested undoomed childless
+                (commits_first g C b (placed c s is_seen) there unserial unnested up siblings)
+                (plans_grant_low f.act f.code f.paths c.x (let M = s.seen in M.sent) s.node C u b does.0 c.state (reached_S c s is_seen) z (steady_begun c s is_seen) (actions_topped g C (placed c s is_seen)) unserial unnested childless knows.binds knows.grants (let h = here c s is_seen in h.coord))
+                (plans_have_kept f.act f.code f.paths c.x (let M = s.seen in M.sent) s.node C u b does.0 c.state (reached_S c s is_seen) z unserial knows.binds (let h = here c s is_seen in h.coord))
                 after.coord after.asks after.ends
 
         kinds : b.doomed ≡ false → (k : Kind) → b.kind ≡ k → StepGoes c s e (commit_action b (records_at s) C)
@@ -155,7 +114,7 @@ module _ (c : Case) (s : Spot) (e : ℕ) (is_seen : IsSeenIn c (world_at s)) (ho
   -- ---- an input, by the branch of its label
 
   named : (l : Label) (b : Branch) → branch_named l C ≡ Some b → branch_of (actor b.path) C.tree ≡ Some b
-  named l b is = named_found c.begun f.paths (let a = is_seen.agrees in let w = a.whole in w.tree) (records_at s) C placed.good l b is
+  named l b is = named_found c.begun f.paths (let a = is_seen.agrees in let w = a.whole in w.tree) (records_at s) C (let p = placed c s is_seen in p.good) l b is
 
   calls : (hd : Header) (l : Label) (x : ℕ) (o : Op) (q : Option Branch) → branch_named l C ≡ q → refused_by (call_reasons hd x o) C q ≡ None → let D = on_branch (λ b. call b.path x o C) C q in Behind c s D.part → StepGoes c s e D
   calls hd l x o None is none after = absurd (cc none)
@@ -168,7 +127,7 @@ module _ (c : Case) (s : Spot) (e : ℕ) (is_seen : IsSeenIn c (world_at s)) (ho
       let there = named l b is in
       let fr = free b there one.0 quiet.0 quiet.1 in
       let unserial = unserial_is b.kind three.0 in
-      calls_go c s e x (actor b.path) b (does b there one.0).0 o is_seen (working b there one.0 (does b there one.0).0 fr.works fr.lone unserial) fr.idle unserial after.coord after.asks
+      calls_go c s e x (actor b.path) b (does b there one.0).0 o is_seen (working c s is_seen (actor b.path) b there (does b there one.0).0 one.0 fr.works fr.lone unserial) fr.idle unserial after.coord after.asks
 
   includes : (hd : Header) (l : Label) (x store : ℕ) (q : Option Branch) → branch_named l C ≡ q → refused_by (include_reasons hd x) C q ≡ None → let D = on_branch (λ b. include b.path x store C) C q in Behind c s D.part → StepGoes c s e D
   includes hd l x store None is none after = absurd (cc none)
@@ -181,7 +140,7 @@ module _ (c : Case) (s : Spot) (e : ℕ) (is_seen : IsSeenIn c (world_at s)) (ho
       let there = named l b is in
       let fr = free b there one.0 quiet.0 quiet.1 in
       let unserial = unserial_is b.kind three.0 in
-      includes_go c s e x store (actor b.path) b (does b there one.0).0 is_seen (working b there one.0 (does b there one.0).0 fr.works fr.lone unserial) fr.idle unserial after.coord after.asks
+      includes_go c s e x store (actor b.path) b (does b there one.0).0 is_seen (working c s is_seen (actor b.path) b there (does b there one.0).0 one.0 fr.works fr.lone unserial) fr.idle unserial after.coord after.asks
 
   commits_named : (l : Label) (q : Option Branch) → branch_named l C ≡ q → refused_by commit_reasons C q ≡ None → let D = on_branch (λ b. commit_action b (records_at s) C) C q in Behind c s D.part → StepGoes c s e D
   commits_named l None is none after = absurd (cc none)
@@ -231,7 +190,7 @@ input_goes hd c s e (input.Show x) is_seen holds knows act unrefused after = abs
 
 -- it goes on, is good and sure, by the protocol alone
 behind_it : (hd : Header) (c : Case) (s : Spot) (i : Input) → IsSeenIn c (world_at s) → is_act i ≡ true → refusal_up hd i (coord_at s) ≡ None → let D = acts i (records_at s) (coord_at s) in KnowsAfter c D.part → Behind c s D.part
-behind_it hd c s i is_seen act unrefused after = record { coord = record { on = on; good = good_after; sure = sure_after; unserial = λ r. listed_unserial (family_of (let f = c.fixed in f) c.begun) D.part r (record { whole = whole; good = good_after }) after.ends }; asks = after.asks; ends = after.ends }
+behind_it hd c s i is_seen act unrefused after = behind_step c s is_seen D.part on good_after sure_after after
   where
     D : Did Coord
     D = acts i (records_at s) (coord_at s)

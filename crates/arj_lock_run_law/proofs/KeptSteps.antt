@@ -4,8 +4,8 @@ use Rattle.std.specs.Prelude.{is_some}
 use Rattle.arj_lock.proofs.Members.{in_from, in_to}
 use Rattle.arj_protocol.specs.Words.{Asked, Header, Kind, Label, Message, Path, Uid, uids_of}
 use Rattle.arj_protocol.specs.Words.message
-use Rattle.arj_protocol.specs.Ask.{Reply, actor, answers}
-use Rattle.arj_protocol.specs.Asking.{again_all, begin_action}
+use Rattle.arj_protocol.specs.Ask.{Reply, actor, answers, response}
+use Rattle.arj_protocol.specs.Asking.{again_all, begin_action, heard}
 use Rattle.arj_protocol.specs.Coord.{Coord}
 use Rattle.arj_protocol.specs.Effect.{Disk, Do, Effect, Say, Send, Served, worked}
 use Rattle.arj_protocol.specs.Ending.{acked, answer_query}
@@ -34,10 +34,12 @@ use Rattle.arj_lock_fact_law.specs.Acts.{KeepsOf, begins_in}
 use Rattle.arj_lock_run_law.specs.Beside.{Case, IsSeenIn, Spot, world_at}
 use Rattle.arj_lock_run_law.specs.Coordinating.{coord_at}
 use Rattle.arj_lock_run_law.specs.Fixed.{Agrees, Fixed}
+use Rattle.arj_lock_run_law.specs.Inputs.{KnowsAfter}
 use Rattle.arj_lock_run_law.specs.Kept.{AreLocksSeen, GivesLocks, HasCome, LocksAreKept, RunsKeepLocks, case_of}
 use Rattle.arj_lock_run_law.specs.Sees.{SeesLocks}
 use Rattle.arj_lock_run_law.specs.World.{IsSeenSo, is_for_parts}
 use Rattle.arj_lock_run_law.proofs.AckSteps.{acks_go}
+use Rattle.arj_lock_run_law.proofs.AnswerGoes.{answers_go}
 use Rattle.arj_lock_run_law.proofs.BeginGoes.{begins_go}
 use Rattle.arj_lock_run_law.proofs.GoodSteps.{good_node}
 use Rattle.arj_lock_run_law.proofs.FirstSteps.{first_goes}
@@ -98,6 +100,9 @@ kept_walk x R begun e k outs v d M holds good sees =
     (λ N z. (begun, z.1.0, z.0, (λ f agrees. z.1.1.1 (f, agree_less f x begun M.sent N.sent z.1.1.0 agrees) agrees)))
     (λ c N z. (begun, z.1.0, z.0, (λ f agrees. z.1.1.1 (f, agree_less f x begun M.sent N.sent z.1.1.0 agrees) agrees))) four
 
+some_is : {A : Type 0} {a b : A} → Some a ≡ Some b → a ≡ b
+some_is {A} {a} {b} is = let k : ◌≡◌ {A = Option A} (Some a) (Some b) = is in cc
+
 -- ---- what a message is
 
 -- acknowledged, or asked about
@@ -134,12 +139,48 @@ is_query (message.Acked m) u is = absurd (let bad : true ≡ false = ap flag is 
 is_query (message.Query m) u is = let same : m.act ≡ u = ap (act_or m.act) is in ap (λ (w : Uid). message.Query (record { act = w })) same
 is_query m u is = absurd (cc is)
 
-took_heard : (t v : Parts) (r : Served Coord (Unit {0})) (outs : List Effect) → coord_heard t r ≡ Took v outs → (with_coord t r.part ≡ v) × (r.outs ≡ outs)
+took_heard : (t v : Parts) (r : Served Coord (Unit {0})) (outs : List Effect) → coord_heard t r ≡ Took v outs → (with_coord t r.part ≡ v) × (r.outs ≡ outs) × (is_some r.reply ≡ true)
 took_heard t v r outs is = by r.reply is
   where
-    by : (o : Option (Unit {0})) → by_reply (with_coord t r.part) r.outs o ≡ Took v outs → (with_coord t r.part ≡ v) × (r.outs ≡ outs)
+    by : (o : Option (Unit {0})) → by_reply (with_coord t r.part) r.outs o ≡ Took v outs → (with_coord t r.part ≡ v) × (r.outs ≡ outs) × (is_some o ≡ true)
     by None is = absurd (cc is)
-    by (Some u) is = (cc is, cc is)
+    by (Some u) is = (cc is, cc is, refl)
+
+-- ---- what an answer is
+
+-- it is its message
+response_is : (m : Message) (a : Asked × Reply) → answers m ≡ Some a → m ≡ response a.0 a.1
+response_is (message.Bound m) a is = ap (λ (z : Asked × Reply). response z.0 z.1) (some_is is)
+response_is (message.Loaded m) a is = ap (λ (z : Asked × Reply). response z.0 z.1) (some_is is)
+response_is (message.Activated m) a is = ap (λ (z : Asked × Reply). response z.0 z.1) (some_is is)
+response_is (message.Recorded m) a is = ap (λ (z : Asked × Reply). response z.0 z.1) (some_is is)
+response_is (message.Invoked m) a is = ap (λ (z : Asked × Reply). response z.0 z.1) (some_is is)
+response_is (message.Voted m) a is = ap (λ (z : Asked × Reply). response z.0 z.1) (some_is is)
+response_is (message.Prepared m) a is = ap (λ (z : Asked × Reply). response z.0 z.1) (some_is is)
+response_is (message.Confirmed m) a is = ap (λ (z : Asked × Reply). response z.0 z.1) (some_is is)
+response_is (message.Bind m) a is = absurd (cc is)
+response_is (message.Load m) a is = absurd (cc is)
+response_is (message.Activate m) a is = absurd (cc is)
+response_is (message.RecordMsg m) a is = absurd (cc is)
+response_is (message.Invoke m) a is = absurd (cc is)
+response_is (message.Vote m) a is = absurd (cc is)
+response_is (message.Prepare m) a is = absurd (cc is)
+response_is (message.Confirm m) a is = absurd (cc is)
+response_is (message.Told m) a is = absurd (cc is)
+response_is (message.Acked m) a is = absurd (cc is)
+response_is (message.Query m) a is = absurd (cc is)
+response_is (message.Hello m) a is = absurd (cc is)
+
+-- the coordinator takes it
+handled_answer : (k : ℕ) (d : Disk) (t : Parts) (from : ℕ) (a : Asked) (r : Reply) → handle k d t from (response a r) ≡ coord_heard t (heard from a r d.intents t.coord)
+handled_answer k d t from a (Reply.Bound r) = refl
+handled_answer k d t from a (Reply.Loaded r) = refl
+handled_answer k d t from a (Reply.Activated r) = refl
+handled_answer k d t from a (Reply.Noted r) = refl
+handled_answer k d t from a (Reply.Invoked r) = refl
+handled_answer k d t from a (Reply.Voted r) = refl
+handled_answer k d t from a (Reply.Prepared r) = refl
+handled_answer k d t from a (Reply.Confirmed r) = refl
 
 -- ---- each handler
 
@@ -187,11 +228,17 @@ module _ (hd : Header) (x : ℕ) (G : Seen → Type 0) (R : List Action → Seen
     its = gives f
 
     coordinator_goes : (m : Message) (v : Parts) (outs : List Effect) → HasCome s from m v outs → is_for_parts m ≡ false → (o : Option (Uid × Bool)) → coordinated m ≡ o → Goes outs v
-    coordinator_goes m v outs come is None none = heard (answers m) refl (is_answer m none is)
+    coordinator_goes m v outs come is None none = hears (answers m) refl (is_answer m none is)
       where
-        heard : (o : Option (Asked × Reply)) → answers m ≡ o → is_some o ≡ true → Goes outs v
-        heard None of some = absurd (cc some)
-        heard (Some a) of some = its.heard begun S s e from m a v outs (more, z.2) seen come of
+        hears : (o : Option (Asked × Reply)) → answers m ≡ o → is_some o ≡ true → Goes outs v
+        hears None of some = absurd (cc some)
+        hears (Some a) of some =
+            let n = subst (λ (w : Message). HasCome s from w v outs) (response_is m a of) come in
+            let r = heard from a.0 a.1 (let d = s.disk in d.intents) (coord_at s) in
+            let q = took_heard s.parts v r outs (sym (handled_answer s.node s.disk s.parts from a.0 a.1) ∙ n.takes) in
+            let known = its.heard begun S s from m a v outs (more, z.2) seen come of in
+            let after = subst (λ (w : Parts). KnowsAfter c w.coord) (sym q.0) known.1 in
+            subst (λ (w : Parts). Goes outs w) q.0 (subst (λ (es : List Effect). Goes es (with_coord s.parts r.part)) q.1 (answers_go c s e from a.0 a.1 seen (its.holds begun S s (more, z.2) seen) known.0 n.sent q.2 after))
     coordinator_goes m v outs come is (Some (u, true)) of =
         let n = subst (λ (w : Message). HasCome s from w v outs) (is_acked m u of) come in
         let r = acked from u (let d = s.disk in d.intents) (coord_at s) in

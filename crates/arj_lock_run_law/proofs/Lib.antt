@@ -26,5 +26,8 @@ pub mod QuerySteps
 pub mod CommitGoes
 pub mod AckSteps
 pub mod BeginGoes
+pub mod WorkSteps
 pub mod InputGoes
+pub mod ShownAnswers
+pub mod AnswerGoes
 pub mod KeptSteps

@@ -8,23 +8,23 @@ use Rattle.arj_protocol.specs.Effect.{Disk, Effect}
 use Rattle.arj_protocol.specs.Node.{Parts, Took, handle, is_meant}
 use Rattle.arj_protocol.specs.Step.{Input, acts, first_disk, refusal_up}
 use Rattle.arj_protocol.specs.Tree.{next_uid}
-use Rattle.arj_protocol.specs.World.{format, is_serial_kind, run_all}
+use Rattle.arj_protocol.specs.World.{format, run_all}
 use Rattle.arj_protocol.specs.World as world
 use Rattle.arj_lock_law.specs.State.{State}
 use Rattle.arj_part_law.specs.Actions.{Action}
 use Rattle.arj_run_law.specs.Worlds.{IsGoodOf}
 use Rattle.arj_view_law.specs.Keeps.{Holds, Keeps, is_act}
 use Rattle.arj_view_law.specs.Seen.{In, Seen, down}
-use Rattle.arj_view_law.specs.Walks.{Up, Walks}
 use Rattle.arj_lock_fact_law.specs.Acts.{KeepsOf}
 use Rattle.arj_lock_fact_law.specs.Works.{KnowsEnds}
+use Rattle.arj_lock_run_law.specs.Answers.{KnowsAnswer}
 use Rattle.arj_lock_run_law.specs.Asking.{HasWholeRoots, IsAskedAbout, TellsRecords}
 use Rattle.arj_lock_run_law.specs.Beside.{Case, HoldsNamingIn, IsSeenIn, KnowsEntry, KnowsSpot, Spot, world_at}
 use Rattle.arj_lock_run_law.specs.Coordinating.{KnowsAsks, coord_at}
 use Rattle.arj_lock_run_law.specs.Fixed.{Agrees, Fixed}
 use Rattle.arj_lock_run_law.specs.Inputs.{KnowsAfter, KnowsInput}
 use Rattle.arj_lock_run_law.specs.Sees.{SeesLocks}
-use Rattle.arj_lock_run_law.specs.World.{IsSeenSo, is_for_parts}
+use Rattle.arj_lock_run_law.specs.World.{is_for_parts}
 
 abbrev pub case_of : Fixed → ℕ → List Action → State → Case
 case_of f x begun S = record { fixed = f; x = x; begun = begun; state = S }
@@ -40,16 +40,16 @@ pub record HasCome (s : Spot) (from : ℕ) (m : Message) (v : Parts) (outs : Lis
   pub meant : is_meant (let q = s in q.parts) m ≡ true
   pub takes : handle s.node s.disk s.parts from m ≡ Took v outs
 
--- What a relation gives, where it holds and the object is seen: what naming, servers, records, questions, inputs about actions and new
--- roots are known for, and that the object is seen through what a coordinator does when it is answered.
+-- What a relation gives, where it holds and the object is seen: what naming, servers, records, questions, answers, inputs about actions and
+-- new roots are known for.
 pub record GivesLocks (hd : Header) (f : Fixed) (x : ℕ) (R : List Action → Seen → Type 0) : Type 0 where
   pub holds : (begun : List Action) (S : State) (s : Spot) → R begun (world_at s) → IsSeenIn (case_of f x begun S) (world_at s) → HoldsNamingIn (case_of f x begun S) s.node (let t = s.parts in t.naming)
   pub parts : (begun : List Action) (S : State) (s : Spot) (from : ℕ) (m : Message) (v : Parts) (outs : List Effect) → R begun (world_at s) → IsSeenIn (case_of f x begun S) (world_at s) → HasCome s from m v outs → is_for_parts m ≡ true
       → KnowsSpot (case_of f x begun S) s × HoldsNamingIn (case_of f x begun S) s.node v.naming
   pub asked : (begun : List Action) (S : State) (s : Spot) (from : ℕ) (u : Uid) (v : Parts) (outs : List Effect) → R begun (world_at s) → IsSeenIn (case_of f x begun S) (world_at s) → HasCome s from (message.Query (record { act = u })) v outs → IsAskedAbout (case_of f x begun S) s u
   pub acked : (begun : List Action) (S : State) (s : Spot) (from : ℕ) (u : Uid) (v : Parts) (outs : List Effect) → R begun (world_at s) → IsSeenIn (case_of f x begun S) (world_at s) → HasCome s from (message.Acked (record { act = u })) v outs → HasWholeRoots s u
-  pub heard : (begun : List Action) (S : State) (s : Spot) (e from : ℕ) (m : Message) (a : Asked × Reply) (v : Parts) (outs : List Effect) → R begun (world_at s) → IsSeenIn (case_of f x begun S) (world_at s) → HasCome s from m v outs → answers m ≡ Some a
-      → Walks (IsSeenSo (case_of f x begun S)) e s.node outs (Up (IsSeenSo (case_of f x begun S)) s.node v) s.disk s.seen
+  pub heard : (begun : List Action) (S : State) (s : Spot) (from : ℕ) (m : Message) (a : Asked × Reply) (v : Parts) (outs : List Effect) → R begun (world_at s) → IsSeenIn (case_of f x begun S) (world_at s) → HasCome s from m v outs → answers m ≡ Some a
+      → KnowsAnswer (case_of f x begun S) s a.0 a.1 × KnowsAfter (case_of f x begun S) v.coord
   pub act : (begun : List Action) (S : State) (s : Spot) (i : Input) → R begun (world_at s) → IsSeenIn (case_of f x begun S) (world_at s) → is_act i ≡ true → refusal_up hd i (coord_at s) ≡ None
       → KnowsInput s × KnowsAfter (case_of f x begun S) (let D = acts i (let d = s.disk in d.intents) (coord_at s) in D.part)
   pub begin : (begun : List Action) (S : State) (s : Spot) → R begun (world_at s) → IsSeenIn (case_of f x begun S) (world_at s) → root_at (next_uid (let q = coord_at s in q.tree)) (coord_at s) ≡ no_root

@@ -7,3 +7,4 @@ pub mod Coordinating
 pub mod Asking
 pub mod Kept
 pub mod Inputs
+pub mod Answers

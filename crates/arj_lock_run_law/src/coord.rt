@@ -1,4 +1,5 @@
 // Coordinators, in the whole world as the lock machine of one object has it.
+ghost use Rattle.arj_lock_run_law.specs.Answers.{AnswersGo};
 ghost use Rattle.arj_lock_run_law.specs.Coordinating.{AbortsGo, BeginsGo, CallAnswersGo, CallsGo, CommitAnswersGo, CoordsGo, DoomedCommitsGo, IncludeAnswersGo, IncludesGo, LostCallsGo, LostCommitsGo, NestedCommitsGo, OtherAnswersGo, OtherLostGo, TopCommitsGo};
 ghost use Rattle.arj_lock_run_law.specs.Inputs.{InputsGo};
 
@@ -52,4 +53,12 @@ pub fn begins_go_in_the_world()
 /// does nothing when it runs.
 pub fn inputs_go_in_the_world()
     ensures { InputsGo }
+{}
+
+/// An answer that was sent goes in the whole world, where something waits for it: a call, an include or a commit goes on or ends. What it
+/// shows to who waits follows of what it shows for ever, since what was asked by that number is what waits. Who waits at the coordinator
+/// is counted on, and which requests it sent, that Binds are answered as they ask, which object a state that came is of, and that a store
+/// gives what was written last; and behind the answer what the coordinator asks and which ends it lists. It does nothing when it runs.
+pub fn answers_go_in_the_world()
+    ensures { AnswersGo }
 {}

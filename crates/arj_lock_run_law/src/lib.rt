@@ -6,8 +6,8 @@
 //! named in `specs/Beside.antt`. It stands on `arj_run_law` for what nodes and messages are by themselves. What it gives upward so far:
 //! `messages_go_in_the_world`, `stops_go_in_the_world`, `restarts_go_in_the_world`, and of coordinators `coordinators_go_in_the_world`,
 //! `begins_go_in_the_world`, `ends_go_in_the_world`, `calls_go_in_the_world`, `commits_go_in_the_world`, all inputs together in
-//! `inputs_go_in_the_world`, `ticks_go_in_the_world`, `queries_go_in_the_world` and `acks_go_in_the_world`; and of whole runs, with what
-//! `specs/Kept.antt` names, `runs_keep_the_lock_half`.
+//! `inputs_go_in_the_world`, all answers in `answers_go_in_the_world`, `ticks_go_in_the_world`, `queries_go_in_the_world` and
+//! `acks_go_in_the_world`; and of whole runs, with what `specs/Kept.antt` names, `runs_keep_the_lock_half`.
 #![tactic(auto)]
 
 mod asking;
@@ -17,8 +17,9 @@ mod world;
 
 pub use asking::{acks_go_in_the_world, queries_go_in_the_world, ticks_go_in_the_world};
 pub use coord::{
-    begins_go_in_the_world, calls_go_in_the_world, commits_go_in_the_world,
-    coordinators_go_in_the_world, ends_go_in_the_world, inputs_go_in_the_world,
+    answers_go_in_the_world, begins_go_in_the_world, calls_go_in_the_world,
+    commits_go_in_the_world, coordinators_go_in_the_world, ends_go_in_the_world,
+    inputs_go_in_the_world,
 };
 pub use runs::runs_keep_the_lock_half;
 pub use world::{
