@@ -29,7 +29,8 @@ use Rattle.arj_names_view_law.specs.Both.{OnlyFound, SeesBoth}
 use Rattle.arj_names_view_law.specs.Handlers.{Answering, Change, Changes, Deciding, Quietly, change_by}
 use Rattle.arj_binding_law.specs.Scripts.{most_events}
 use Rattle.arj_disk_run_law.specs.Heard.{SeesHeard}
-use Rattle.arj_disk_run_law.proofs.HeardKept.{heard_kept}
+use Rattle.arj_disk_run_law.specs.Bindings.{AreGoodCounted}
+use Rattle.arj_disk_run_law.proofs.Bindings.{good_counted}
 use Rattle.arj_disk_run_law.specs.Part.{Going, HasHeard, IsCarried, KeepsPart, are_recorded, going_of}
 use Rattle.arj_disk_run_law.specs.Kinds.{kinds_of}
 use Rattle.arj_disk_run_law.proofs.Begun.{kinds_agree}
@@ -39,7 +40,7 @@ use Rattle.arj_call_law.proofs.WholeRuns.{WhileFew, few_go}
 use Rattle.arj_binding_law.proofs.Events.{scripts_few}
 use Rattle.arj_disk_run_law.proofs.Given.{gives_votes}
 use Rattle.arj_disk_run_law.specs.Entries.{HaveEntries}
-use Rattle.arj_disk_run_law.proofs.BothEach.{both_each, with_entries}
+use Rattle.arj_disk_run_law.proofs.BothEach.{both_each, heard_part, with_entries}
 use Rattle.arj_disk_run_law.proofs.Kept.{IsKeptInRun, all_keep}
 use Rattle.arj_disk_run_law.proofs.RecordWalks.{restart_plain}
 use Rattle.arj_line_law.specs.Book.{book, is_decided, is_top, new_book}
@@ -325,11 +326,9 @@ one_act (x ∷ xs) apart a b (inr i) (inl j) same = absurd (never (among xs a i)
 one_act (x ∷ xs) apart a b (inr i) (inr j) same = one_act xs apart.3 a b i j same
 
 -- beside a relation that is kept
-journalled_beside : (hd : Header) (x : ℕ) (P : Kinds → Office → Seen → Type 0) → KeepsPart hd x (λ M. IsGood M × KnowsFew M) P → (es : List Asked) → length es ≤ most_events → Holds hd (IsJournalled x) (run_all es (format hd))
-journalled_beside hd x P parts es short =
-    let R : Seen → Type 0 = IsGood in
+journalled_beside : (hd : Header) (x : ℕ) (R : Seen → Type 0) (P : Kinds → Office → Seen → Type 0) → Keeps hd R → KeepsPart hd x (λ M. R M × KnowsFew M) P → (es : List Asked) → length es ≤ most_events → Holds hd (IsJournalled x) (run_all es (format hd))
+journalled_beside hd x R P kept parts es short =
     let Idle : List Line → Uid → Type 0 = λ ls u. IsIdle (book ls) u in
-    let kept = parts_good hd in
     let idles = knows_idle R in
     let Q : Kinds → Seen → Type 0 = IsCarried (WithTie P Idle) x in
     let B : Seen → Type 0 = Both hd x R KnowsFew P Idle kept parts idles in
@@ -365,7 +364,7 @@ journalled_beside hd x P parts es short =
         absurd (never (ap (λ (y : Act). is_top y.kind) same ∙ top) plain)
 
 pub runs_are_journalled : RunsAreJournalled
-runs_are_journalled hd x part parts es short = journalled_beside hd x (λ tops A M. part tops A M ≡ true) parts es short
+runs_are_journalled hd x part parts es short = journalled_beside hd x IsGood (λ tops A M. part tops A M ≡ true) (parts_good hd) parts es short
 
 pub heard_runs_are_journalled : HeardRunsAreJournalled
-heard_runs_are_journalled hd x has rest es short = journalled_beside hd x (SeesHeard x) (heard_kept hd x (λ M. IsGood M × KnowsFew M) (λ M r. r) has rest) es short
+heard_runs_are_journalled hd x has rest es short = journalled_beside hd x AreGoodCounted (SeesHeard x) (good_counted hd) (heard_part hd x has rest) es short

@@ -48,7 +48,11 @@ use Rattle.arj_disk_run_law.specs.Heard.{SeesHeard}
 use Rattle.arj_disk_run_law.specs.Kinds.{Agrees, AreOfTops, IsOfTops, kinds_of}
 use Rattle.arj_disk_run_law.specs.Part.{HoldsAgain, HoldsFrom, IsCarried, KeepsPart, are_recorded}
 use Rattle.arj_disk_run_law.specs.Runs.{CopiesAgree, HeardRunsAgree, RunsAgree}
+use Rattle.arj_disk_view_law.specs.Formats.{HasObject}
+use Rattle.arj_disk_run_law.specs.Bindings.{AreGoodCounted}
+use Rattle.arj_disk_run_law.specs.Rest.{KeepsHeard}
 use Rattle.arj_disk_run_law.proofs.Begun.{kinds_agree}
+use Rattle.arj_disk_run_law.proofs.Bindings.{good_counted, names_own}
 use Rattle.arj_disk_run_law.proofs.Copies.{copies_agree}
 use Rattle.arj_disk_run_law.proofs.EntryKeeps.{keeps_entries}
 use Rattle.arj_disk_run_law.proofs.EntryWalks.{mine_of}
@@ -136,9 +140,9 @@ with_entries hd x R S P parts kept = kept_both hd R (HaveEntries x) kept (keeps_
 -- ---- copies agree
 
 -- both halves of the object's machine are carried through a run beside a relation that is kept, and copies agree in it
-agree_beside : (hd : Header) (x : ℕ) (P : Kinds → Office → Seen → Type 0) → KeepsPart hd x (λ M. IsGood M × KnowsFew M) P → (es : List Asked) → length es ≤ most_events → Holds hd (CopiesAgree x) (run_all es (format hd))
-agree_beside hd x P parts es short =
-    let r = runs_hold hd (WhileFew (IsKeptInRun Known Q)) (few_go hd (IsKeptInRun Known Q) (all_keep hd x Known KnowsFew Q known_everywhere (gives_votes Known) (both_each hd x IsGood KnowsFew P parts))) es in
+agree_beside : (hd : Header) (x : ℕ) (R : Seen → Type 0) (P : Kinds → Office → Seen → Type 0) → Keeps hd R → KeepsPart hd x (λ M. R M × KnowsFew M) P → (es : List Asked) → length es ≤ most_events → Holds hd (CopiesAgree x) (run_all es (format hd))
+agree_beside hd x R P kept parts es short =
+    let r = runs_hold hd (WhileFew (IsKeptInRun Known Q)) (few_go hd (IsKeptInRun Known Q) (all_keep hd x Known KnowsFew Q known_everywhere (gives_votes Known) (both_each hd x R KnowsFew P parts))) es in
     let h = (r.holds.1 (scripts_few hd es short)).1 in
     let g = h.1 in
     let s = g.5 (kinds_of h.0) (kinds_agree h.0 g.0.begun g.1) in
@@ -148,13 +152,17 @@ agree_beside hd x P parts es short =
     Q = IsCarried P x
 
     Known : Seen → Type 0
-    Known M = IsGood M × HaveEntries x M
+    Known M = R M × HaveEntries x M
 
     known_everywhere : Keeps hd Known
-    known_everywhere = with_entries hd x IsGood (λ M. IsGood M × KnowsFew M) P parts (parts_good hd)
+    known_everywhere = with_entries hd x R (λ M. R M × KnowsFew M) P parts kept
 
 pub runs_agree : RunsAgree
-runs_agree hd x part parts es short = agree_beside hd x (λ tops A M. part tops A M ≡ true) parts es short
+runs_agree hd x part parts es short = agree_beside hd x IsGood (λ tops A M. part tops A M ≡ true) (parts_good hd) parts es short
+
+-- what is kept beside, where naming's bindings are its own
+pub heard_part : (hd : Header) (x : ℕ) → HasObject hd x → KeepsHeard hd x (λ M. IsGood M × KnowsFew M) → KeepsPart hd x (λ M. AreGoodCounted M × KnowsFew M) (SeesHeard x)
+heard_part hd x has rest = heard_kept hd x (λ M. AreGoodCounted M × KnowsFew M) (λ M. IsGood M × KnowsFew M) (λ M r. r) (λ M r. ((r.0.0, r.1), names_own M r.0 r.1)) has rest
 
 pub heard_runs_agree : HeardRunsAgree
-heard_runs_agree hd x has rest es short = agree_beside hd x (SeesHeard x) (heard_kept hd x (λ M. IsGood M × KnowsFew M) (λ M r. r) has rest) es short
+heard_runs_agree hd x has rest es short = agree_beside hd x AreGoodCounted (SeesHeard x) (good_counted hd) (heard_part hd x has rest) es short

@@ -9,7 +9,7 @@ use Rattle.arj_protocol.specs.Words.cause
 use Rattle.arj_protocol.specs.Words.ending
 use Rattle.arj_protocol.specs.Words.kind
 use Rattle.arj_protocol.specs.Coord as coord
-use Rattle.arj_protocol.specs.Coord.{Calling, Committing, Coord, Doing, Idle, Joined, Root, Said, change_doing, doing_of, is_constituent_branch, is_kept_top, no_root, nodes_sent, on_doing, retained_in, root_at, second_uid, servers_told, survives, top_uses}
+use Rattle.arj_protocol.specs.Coord.{Calling, Committing, Coord, Doing, Idle, Joined, Root, Said, change_doing, doing_of, is_constituent_branch, is_kept_top, kept_of, no_root, nodes_sent, on_doing, retained_in, root_at, second_uid, servers_told, survives, top_uses}
 use Rattle.arj_protocol.specs.Effect.{Effect, Intent}
 use Rattle.arj_protocol.specs.Ending.{abort_action, all_aborted, ended, is_deferred, say_for, says, tell, tell_all, tolds_by, tolds_of, tolds_of_branch, up_to}
 use Rattle.arj_protocol.specs.Order.{at_number}
@@ -23,7 +23,9 @@ use Rattle.arj_disk_view_law.proofs.Doings.{doing_tree}
 use Rattle.arj_disk_view_law.proofs.Ended.{ended_here, ended_other, own_same, tree_ended}
 use Rattle.arj_names_view_law.specs.Both.{SeesRootOf}
 use Rattle.arj_disk_run_law.specs.Heard.{IsWorkingRoot, SeesHeardAt}
+use Rattle.arj_protocol.specs.Ask.{top_of}
 use Rattle.arj_disk_run_law.proofs.HeardCalls.{work_cases}
+use Rattle.arj_disk_run_law.proofs.HeardLike.{call_same}
 use Rattle.arj_disk_run_law.proofs.HeardPosts.{SaysHeard, all_join, all_mapped}
 
 -- what had not committed is aborted
@@ -118,6 +120,7 @@ module _ (c e : Coord) (few : IsFewer c e) where
   at_fewer x k tops sent B p = record {
     roots = λ root w. subst (λ z. SeesRootOf x tops root e z B) (sym (few.roots root)) (root_fewer x tops root (root_at root c) B (p.roots root (was_root tops root w)));
     steps = λ u q s does now of. ⊎_elim (λ old. p.steps u q s old now of) (λ idle. absurd (let n : Idle ≡ Calling s = sym idle ∙ now in cc)) (few.works u q does);
+    calls = λ u q s does now of call past. ⊎_elim (λ old. call_same x tops c e s B.names (few.own (top_of s.path)) (ap (kept_of x) (few.roots (root_of s.path))) (p.calls u q s old now of call past)) (λ idle. absurd (let n : Idle ≡ Calling s = sym idle ∙ now in cc)) (few.works u q does);
     plans = λ u q m does now. ⊎_elim (λ old. p.plans u q m old now) (λ idle. absurd (let n : Idle ≡ Committing m = sym idle ∙ now in cc)) (few.works u q does);
   }
 

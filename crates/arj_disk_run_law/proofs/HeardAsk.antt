@@ -32,15 +32,18 @@ use Rattle.arj_view_law.specs.Seen.{Seen, up}
 use Rattle.arj_view_law.specs.Walks.{Walks, Up}
 use Rattle.arj_disk_view_law.specs.Pairs.{packed}
 use Rattle.arj_disk_view_law.specs.Sees.{IsLater, Kinds}
+use Rattle.arj_disk_view_law.specs.Entries.{SeesEntry}
+use Rattle.arj_disk_view_law.proofs.Frames.{node_here}
 use Rattle.arj_disk_view_law.proofs.Later.{later_same}
 use Rattle.arj_names_view_law.specs.Both.{OnlyAnswers, OnlyMemory, SeesBoth}
 use Rattle.arj_names_view_law.specs.Calls.{HasGiven}
 use Rattle.arj_names_view_law.specs.Handlers.{Answering, Change, Changes, Quietly, answer_change, ask_change, asked_change, bind_change, change_by}
 use Rattle.arj_names_view_law.specs.Heard.{LeavesRoots}
 use Rattle.arj_names_view_law.proofs.Heard.{loads_are_given}
-use Rattle.arj_disk_run_law.specs.Heard.{IsOfGoal, SeesHeard}
+use Rattle.arj_disk_run_law.specs.Bindings.{NamesOwn}
+use Rattle.arj_disk_run_law.specs.Heard.{IsOfGoal, NamesNow, SeesHeard}
 use Rattle.arj_disk_run_law.specs.Part.{HoldsFrom}
-use Rattle.arj_disk_run_law.proofs.HeardBinds.{bind_kind}
+use Rattle.arj_disk_run_law.proofs.HeardBinds.{bind_kind, bind_names, entry_stored}
 use Rattle.arj_disk_run_law.proofs.HeardLike.{IsLike}
 use Rattle.arj_disk_run_law.proofs.HeardOther.{leaves_rises, names_say, server_says, took_to}
 use Rattle.arj_disk_run_law.proofs.HeardPosts.{SaysHeard}
@@ -93,7 +96,7 @@ answers_memory A D only roots = record {
 
 -- ---- a request is taken
 
-module _ (x : ℕ) (tops : Kinds) (e k : ℕ) (d : Disk) (t v : Parts) (from : ℕ) (m : Message) (outs : List Effect) (M : Seen) (good : IsGood (up k d t M)) (few : KnowsFew (up k d t M)) (h : Head) (a : Ask) (posted : seen.In (record { from = from; to = k; message = m }) M.sent) (asking : asks m ≡ Some (h, a)) where
+module _ (x : ℕ) (tops : Kinds) (e k : ℕ) (d : Disk) (t v : Parts) (from : ℕ) (m : Message) (outs : List Effect) (M : Seen) (good : IsGood (up k d t M)) (few : KnowsFew (up k d t M)) (own : (n : Naming) → t.naming ≡ Some n → (k ≡ 1) × NamesOwn n) (h : Head) (a : Ask) (posted : seen.In (record { from = from; to = k; message = m }) M.sent) (asking : asks m ≡ Some (h, a)) where
   abbrev pub Along : Change → Office → Parts → List Effect → Type 0
   Along o D w es = Walks (HoldsFrom (SeesHeard x) x tops o D) e k es (Up (HoldsFrom (SeesHeard x) x tops o D) k w) d M
 
@@ -334,25 +337,33 @@ module _ (x : ℕ) (tops : Kinds) (e k : ℕ) (d : Disk) (t v : Parts) (from : �
         abbrev_serve : (n : Naming) → Handled
         abbrev_serve n = served from h (with_naming t) Reply.Bound (naming.bind h.path y include avoid d.names n)
 
-        replied : (n : Naming) (r : BoundReply) → (naming.bind h.path y include avoid d.names n).reply ≡ Some r → (i : Bool) → (y == x) ≡ i → (o : Change) → (if i then Answering (uid_number (top_of h.path)) r else Quietly) ≡ o
+        names : (n : Naming) → t.naming ≡ Some n → (r : BoundReply) → (naming.bind h.path y include avoid d.names n).reply ≡ Some r → y ≡ x → NamesNow r
+        names n named r reply same =
+            let o = own n named in
+            let e : SeesEntry x d.names A.world.disk = (let s = both.disks in s.entry (record { number = k; disk = d; live = Some t }) (ap (up k d t M).nodes (sym o.0) ∙ node_here M k (record { number = k; disk = d; live = Some t }))) in
+            bind_names h.path x include avoid d.names n r o.1 (entry_stored x d.names A.world (let s = both.disks in s.whole) e) (ap (λ z. (naming.bind h.path z include avoid d.names n).reply) (sym same) ∙ reply)
+
+        replied : (n : Naming) → t.naming ≡ Some n → (r : BoundReply) → (naming.bind h.path y include avoid d.names n).reply ≡ Some r → (i : Bool) → (y == x) ≡ i → (o : Change) → (if i then Answering (uid_number (top_of h.path)) r else Quietly) ≡ o
             → sends_answer from h (with_naming t (naming.bind h.path y include avoid d.names n).part) (naming.bind h.path y include avoid d.names n).outs (Some (Reply.Bound r)) ≡ Took v outs → Served_by o
-        replied n r reply true here o is_change g = subst Served_by is_change (at_once (Answering (uid_number (top_of h.path)) r) (answered A both p (Answering (uid_number (top_of h.path)) r) (λ B c. c.0) (Reply.Bound r) (ap ask_kind same)
+        replied n named r reply true here o is_change g = subst Served_by is_change (at_once (Answering (uid_number (top_of h.path)) r) (answered A both p (Answering (uid_number (top_of h.path)) r) (λ B c. c.0) (Reply.Bound r) (ap ask_kind same)
             (λ B changes m z there live u w s does now of asker. let f = step_is m z there live u w s does now asker in let b = bind_step s y include avoid (sym (ap bare same) ∙ f.same) in (
               subst (λ c. IsOfGoal c r) (sym b.1) (bind_kind h.path y include avoid d.names n r reply),
               λ about. subst (λ c. HasGiven (uid_number (top_of c)) r B.names) (ap (λ (c : Head). c.path) f.head) changes.1,
+              names n named r reply (test_is y x here),
             ))
             (with_naming t (naming.bind h.path y include avoid d.names n).part) (naming.bind h.path y include avoid d.names n).outs same_like (names_say x d.inc A (naming.bind h.path y include avoid d.names n).outs (bind_own h.path y include avoid d.names n)) g))
-        replied n r reply false here o is_change g = subst Served_by is_change (at_once Quietly (answered A both p Quietly (quietly A both p) (Reply.Bound r) (ap ask_kind same)
+        replied n named r reply false here o is_change g = subst Served_by is_change (at_once Quietly (answered A both p Quietly (quietly A both p) (Reply.Bound r) (ap ask_kind same)
             (λ B changes m z there live u w s does now of asker. let f = step_is m z there live u w s does now asker in let b = bind_step s y include avoid (sym (ap bare same) ∙ f.same) in (
               subst (λ c. IsOfGoal c r) (sym b.1) (bind_kind h.path y include avoid d.names n r reply),
               λ about. absurd (never (ap (λ c. c == x) (sym b.0 ∙ of) ∙ test_same x) here),
+              absurd (never (ap (λ c. c == x) (sym b.0 ∙ of) ∙ test_same x) here),
             ))
             (with_naming t (naming.bind h.path y include avoid d.names n).part) (naming.bind h.path y include avoid d.names n).outs same_like (names_say x d.inc A (naming.bind h.path y include avoid d.names n).outs (bind_own h.path y include avoid d.names n)) g))
 
         with_reply : (n : Naming) → t.naming ≡ Some n → (r : Option BoundReply) → (naming.bind h.path y include avoid d.names n).reply ≡ r
             → sends_answer from h (with_naming t (naming.bind h.path y include avoid d.names n).part) (naming.bind h.path y include avoid d.names n).outs (option_map Reply.Bound r) ≡ Took v outs → Served_by (bind_change x y include avoid h d t.naming)
         with_reply n named None reply g = absurd (cc g)
-        with_reply n named (Some r) reply g = replied n r reply (y == x) refl (bind_change x y include avoid h d t.naming) (sym (ap (bind_change x y include avoid h d) named ∙ ap (answer_change x y (top_of h.path)) reply)) g
+        with_reply n named (Some r) reply g = replied n named r reply (y == x) refl (bind_change x y include avoid h d t.naming) (sym (ap (bind_change x y include avoid h d) named ∙ ap (answer_change x y (top_of h.path)) reply)) g
 
         by : (o : Option Naming) → t.naming ≡ o → Served_by (bind_change x y include avoid h d t.naming)
         by None named = absurd (let e : Void [] ≡ Took v outs = sym (ap (if_naming abbrev_serve) named) ∙ is in cc)

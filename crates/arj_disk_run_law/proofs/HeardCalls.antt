@@ -1,12 +1,12 @@
 -- What a coordinator has of its roots, where an action calls an object, or includes a store: it waits in a new step.
-use Rattle.std.proofs.Common.{◌≡◌, ◌⊎◌, ◌≤◌, ◌<◌, ℕ, Bool, true, false, List, [], ◌∷◌, ◌++◌, Some, None, refl, sym, ◌∙◌, ap, subst, inl, inr, ⊎_elim, arith, cond}
+use Rattle.std.proofs.Common.{◌≡◌, ◌≢◌, ◌⊎◌, ◌≤◌, ◌<◌, ℕ, Bool, true, false, List, [], ◌∷◌, ◌++◌, Some, None, refl, sym, ◌∙◌, ap, subst, inl, inr, ⊎_elim, arith, cond}
 use Rattle.std.specs.Prelude.{Contains, unwrap_or}
 use Rattle.std.specs.List.{list_any}
 use Rattle.arj_base.proofs.Uids.{uid_cases}
 use Rattle.arj_protocol.specs.Words.{Asked, Uid, uids_of}
-use Rattle.arj_protocol.specs.Ask.{Reply, actor, asked_by}
+use Rattle.arj_protocol.specs.Ask.{Reply, actor, asked_by, top_of}
 use Rattle.arj_protocol.specs.Asking.{goes_on, is_invoke_ask}
-use Rattle.arj_protocol.specs.Call.{Known, Steps, next_ask, next_node}
+use Rattle.arj_protocol.specs.Call.{Known, Steps, is_include, next_ask, next_node}
 use Rattle.arj_protocol.specs.Coord.{Calling, Committing, Coord, change_doing, no_root, same_went, Doing, Keeping, Root, Said, Went, doing_of, kept_of, on_doing, on_root, root_at, with_went}
 use Rattle.arj_protocol.specs.Effect.{Disk}
 use Rattle.arj_protocol.specs.Node.{Parts}
@@ -20,17 +20,17 @@ use Rattle.arj_run_law.specs.Worlds.{IsGood}
 use Rattle.arj_call_law.specs.Coords.{head_of}
 use Rattle.arj_call_law.specs.Runs.{KnowsFew}
 use Rattle.arj_call_law.proofs.CoordKnown.{doing_here, roots_work}
-use Rattle.arj_disk_law.specs.Names.{Office}
+use Rattle.arj_disk_law.specs.Names.{Names, Office}
 use Rattle.arj_disk_law.proofs.Base.{some_is}
 use Rattle.arj_view_law.specs.Seen.{Post, Seen, up}
 use Rattle.arj_disk_view_law.specs.Sees.{Kinds}
 use Rattle.arj_disk_view_law.proofs.Doings.{doing_tree}
 use Rattle.arj_names_view_law.specs.Both.{SeesRootOf}
-use Rattle.arj_disk_run_law.specs.Heard.{IsToStep, SeesHeard, SeesHeardAt, SeesStep}
+use Rattle.arj_disk_run_law.specs.Heard.{IsToStep, SeesCall, SeesHeard, SeesHeardAt, SeesStep, is_bound}
 use Rattle.arj_disk_view_law.proofs.Frames.{node_here}
 use Rattle.arj_disk_run_law.proofs.HeardAsk.{step_in}
 use Rattle.arj_disk_run_law.proofs.HeardServe.{counted_at}
-use Rattle.arj_disk_run_law.proofs.HeardLike.{root_like, spent_same}
+use Rattle.arj_disk_run_law.proofs.HeardLike.{call_same, root_like, spent_same}
 
 -- ---- a root that gave up its binding
 
@@ -68,18 +68,29 @@ root_keeps x tops root c r k w B keeps s = record {
 pub record IsCalled (x : ℕ) (s : Steps) (c e : Coord) : Type 0 where
   pub tree : (u : Uid) → branch_of u e.tree ≡ branch_of u c.tree
   pub own : (u : Uid) → is_own u e.tree ≡ is_own u c.tree
-  pub works : (u : Uid) (q : Doing) → doing_of u e ≡ Some q → (doing_of u c ≡ Some q) ⊎ (q.now ≡ Calling s)
+  pub works : (u : Uid) (q : Doing) → doing_of u e ≡ Some q → ((u ≢ actor s.path) × (doing_of u c ≡ Some q)) ⊎ (q.now ≡ Calling s)
   pub roots : (u : Uid) → (k : List (ℕ × Keeping)) × (w : List Went) × (root_at u e ≡ keeps_to k w (root_at u c)) × KeepsOrNone x c.tree (root_at u c) (keeps_to k w (root_at u c))
 
+-- what is kept of the object is what was, for each other action that waits in a call on it
+abbrev pub KeepsForOthers : ℕ → Uid → Coord → Coord → Type 0
+KeepsForOthers x u c e = (w : Uid) (q : Doing) (z : Steps) → w ≢ u → doing_of w c ≡ Some q → q.now ≡ Calling z → z.x ≡ x → is_include z.goal ≡ false → kept_of x (root_at (root_of z.path) e) ≡ kept_of x (root_at (root_of z.path) c)
+
+-- a step of a call has its list, where its binding is known
+abbrev pub HasItsList : ℕ → Kinds → Coord → Steps → Names → Type 0
+HasItsList x tops c s N = s.x ≡ x → is_include s.goal ≡ false → is_bound s.at ≡ true → SeesCall x tops c s N
+
 -- where one waits anew, and its step is seen, what the coordinator has is seen still
-pub at_called : (x k : ℕ) (tops : Kinds) (sent : List Post) (s : Steps) (c e : Coord) (B : Office) → IsCalled x s c e → (s.x ≡ x → SeesStep x k sent s B.names) → SeesHeardAt x k tops sent c B → SeesHeardAt x k tops sent e B
-at_called x k tops sent s c e B called step p = record {
+pub at_called : (x k : ℕ) (tops : Kinds) (sent : List Post) (s : Steps) (c e : Coord) (B : Office) → IsCalled x s c e → KeepsForOthers x (actor s.path) c e → (s.x ≡ x → SeesStep x k sent s B.names) → HasItsList x tops e s B.names → SeesHeardAt x k tops sent c B → SeesHeardAt x k tops sent e B
+at_called x k tops sent s c e B called others step list p = record {
   roots = λ root w.
       let q = called.roots root in
       let old = p.roots root (record { own = sym (called.own root) ∙ w.own; alone = w.alone; unended = λ b found. w.unended b (called.tree root ∙ found) }) in
       subst (λ z. SeesRootOf x tops root e z B) (sym q.2) (root_keeps x tops root e (root_at root c) q.0 q.1 B (keeps_there root q.0 q.1 q.3) (root_like c e (λ w. inl (called.tree w)) x tops root (root_at root c) (let r = root_at root c in r.went) B old));
-  steps = λ u q z does now of. ⊎_elim (λ old. p.steps u q z old now of) (λ new. let same : s ≡ z = step_is (sym new ∙ now) in subst (λ y. SeesStep x k sent y B.names) same (step (ap (λ (y : Steps). y.x) same ∙ of))) (called.works u q does);
-  plans = λ u q m does now. ⊎_elim (λ old. p.plans u q m old now) (λ new. absurd (let e : Calling s ≡ Committing m = sym new ∙ now in cc)) (called.works u q does);
+  steps = λ u q z does now of. ⊎_elim (λ old. p.steps u q z old.1 now of) (λ new. let same : s ≡ z = step_is (sym new ∙ now) in subst (λ y. SeesStep x k sent y B.names) same (step (ap (λ (y : Steps). y.x) same ∙ of))) (called.works u q does);
+  calls = λ u q z does now of call past. ⊎_elim
+      (λ old. call_same x tops c e z B.names (called.own (top_of z.path)) (others u q z old.0 old.1 now of call) (p.calls u q z old.1 now of call past))
+      (λ new. let same : s ≡ z = step_is (sym new ∙ now) in subst (λ y. SeesCall x tops e y B.names) same (list (ap (λ (y : Steps). y.x) same ∙ of) (ap (λ (y : Steps). is_include y.goal) same ∙ call) (ap (λ (y : Steps). is_bound y.at) same ∙ past))) (called.works u q does);
+  plans = λ u q m does now. ⊎_elim (λ old. p.plans u q m old.1 now) (λ new. absurd (let e : Calling s ≡ Committing m = sym new ∙ now in cc)) (called.works u q does);
 }
   where
     step_is : {a b : Steps} → Calling a ≡ Calling b → a ≡ b
@@ -107,9 +118,12 @@ module _ (x : ℕ) (tops : Kinds) (k : ℕ) (d : Disk) (t : Parts) (M : Seen) (A
 -- ---- a call begins, and an include
 
 -- who waits after one action was set to work
+pub work_apart : (u : Uid) (f : Doing → Doing) (c : Coord) (d : Doing) → doing_of u c ≡ Some d → (w : Uid) (q : Doing) → doing_of w (on_doing u f c) ≡ Some q → ((w ≡ u) × (f d ≡ q)) ⊎ ((w ≢ u) × (doing_of w c ≡ Some q))
+work_apart u f c d found w q does = ⊎_elim (λ same. inl (same, some_is (doing_here u f c d found) (ap (λ z. doing_of z (on_doing u f c)) (sym same) ∙ does)))
+    (λ other. inr (other, sym (ap (λ o. doing_of w (change_doing f u c o)) found ∙ doing_other u w (f d) d c found other) ∙ does)) (uid_cases w u)
+
 pub work_cases : (u : Uid) (f : Doing → Doing) (c : Coord) (d : Doing) → doing_of u c ≡ Some d → (w : Uid) (q : Doing) → doing_of w (on_doing u f c) ≡ Some q → ((w ≡ u) × (f d ≡ q)) ⊎ (doing_of w c ≡ Some q)
-work_cases u f c d found w q does = ⊎_elim (λ same. inl (same, some_is (doing_here u f c d found) (ap (λ z. doing_of z (on_doing u f c)) (sym same) ∙ does)))
-    (λ other. inr (sym (ap (λ o. doing_of w (change_doing f u c o)) found ∙ doing_other u w (f d) d c found other) ∙ does)) (uid_cases w u)
+work_cases u f c d found w q does = ⊎_elim (λ same. inl same) (λ other. inr other.1) (work_apart u f c d found w q does)
 
 -- a root after another one's change, or its own
 pub root_put : (root : Uid) (f : Root → Root) (c : Coord) (u : Uid) → ((root.num ≡ u.num) × (root_at u (on_root root f c) ≡ f (root_at u c))) ⊎ (root_at u (on_root root f c) ≡ root_at u c)
@@ -131,7 +145,7 @@ pub goes_called : (x : ℕ) (s : Steps) (c t : Coord) (d : Doing) → doing_of (
 goes_called x s c t d found tree own doings roots = record {
   tree = λ u. ap (branch_of u) (doing_tree (actor s.path) new t) ∙ tree u;
   own = λ u. ap (is_own u) (doing_tree (actor s.path) new t) ∙ own u;
-  works = λ u q does. ⊎_elim (λ mine. inr (ap (λ (y : Doing). y.now) (sym mine.1))) (λ old. inl (sym (same_doing u) ∙ old)) (work_cases (actor s.path) new t d (same_doing (actor s.path) ∙ found) u q does);
+  works = λ u q does. ⊎_elim (λ mine. inr (ap (λ (y : Doing). y.now) (sym mine.1))) (λ old. inl (old.0, sym (same_doing u) ∙ old.1)) (work_apart (actor s.path) new t d (same_doing (actor s.path) ∙ found) u q does);
   roots = λ u. by_root u (root_put (root_of s.path) (with_went went) mid u);
 }
   where
@@ -159,3 +173,16 @@ goes_called x s c t d found tree own doings roots = record {
         went_away k w v (inl same) = inl same
         went_away k w v (inr none) = inr none
     by_root u (inr other) = let r = roots u in (r.0, r.1, other ∙ (mid_root u ∙ r.2), r.3)
+
+-- what is kept of the object stays so, where a request goes out
+pub goes_kept : (x : ℕ) (s : Steps) (t : Coord) (u : Uid) → kept_of x (root_at u (goes_on s t).part) ≡ kept_of x (root_at u t)
+goes_kept x s t u = ⊎_elim (λ mine. ap (kept_of x) mine.1 ∙ (ap (kept_of x) (let g = went_with went (root_at u mid) in g.1) ∙ ap (kept_of x) mid_root)) (λ other. ap (kept_of x) (other ∙ mid_root)) (root_put (root_of s.path) (with_went went) mid u)
+  where
+    mid : Coord
+    mid = on_doing (actor s.path) (λ (y : Doing). record y { req = s.req; now = Calling s }) t
+
+    went : Went
+    went = record { path = uids_of s.path; node = next_node s; invoke = is_invoke_ask (next_ask (ends_of (root_of s.path) (let m = on_doing (actor s.path) (λ (y : Doing). record y { req = s.req; now = Calling s }) t in m.tree)) s) }
+
+    mid_root : root_at u mid ≡ root_at u t
+    mid_root = ap (λ (rs : List (ℕ × Root)). unwrap_or (at_number u.num rs) no_root) (roots_work (actor s.path) (λ (y : Doing). record y { req = s.req; now = Calling s }) t)

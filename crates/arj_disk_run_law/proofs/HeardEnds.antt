@@ -9,12 +9,12 @@ use Rattle.arj_disk_view_law.proofs.Frames.{node_here}
 use Rattle.arj_protocol.specs.Words.{Body, End, Label, Uid, is_on, uid_eq}
 use Rattle.arj_protocol.specs.Words.ending
 use Rattle.arj_protocol.specs.Coord as coord
-use Rattle.arj_protocol.specs.Coord.{Calling, Committing, Coord, Doing, Idle, Joined, Root, Said, doing_of, is_constituent_branch, is_kept_top, no_root, on_doing, retained_in, root_at, second_uid, survives, top_uses}
+use Rattle.arj_protocol.specs.Coord.{Calling, Committing, Coord, Doing, Idle, Joined, Root, Said, doing_of, is_constituent_branch, is_kept_top, kept_of, no_root, on_doing, retained_in, root_at, second_uid, survives, top_uses}
 use Rattle.arj_protocol.specs.Effect.{Did, Disk}
 use Rattle.arj_protocol.specs.Ending.{ended, ends_with, says, tolds_of}
 use Rattle.arj_protocol.specs.Node.{Parts, with_coord}
 use Rattle.arj_protocol.specs.Order.{at_number, uid_number}
-use Rattle.arj_protocol.specs.Tree.{Branch, at_place, behind, branch_of, ended_at, ended_so, has_end, is_aborted, is_committed, is_constituent, is_own, is_spent}
+use Rattle.arj_protocol.specs.Tree.{Branch, at_place, behind, branch_of, ended_at, ended_so, has_end, is_aborted, is_committed, is_constituent, is_own, is_spent, root_of}
 use Rattle.arj_call_law.specs.Runs.{KnowsFew}
 use Rattle.arj_call_law.proofs.CoordKnown.{roots_work}
 use Rattle.arj_run_law.specs.Worlds.{IsGood}
@@ -31,7 +31,9 @@ use Rattle.arj_names_view_law.proofs.Heard.{none_heard}
 use Rattle.arj_disk_run_law.specs.Heard.{IsWorkingRoot, SeesHeard, SeesHeardAt}
 use Rattle.arj_disk_run_law.specs.Part.{HasHeard, going_of}
 use Rattle.arj_disk_run_law.proofs.HeardAborts.{says_say, tolds_of_say}
+use Rattle.arj_protocol.specs.Ask.{top_of}
 use Rattle.arj_disk_run_law.proofs.HeardCalls.{work_cases}
+use Rattle.arj_disk_run_law.proofs.HeardLike.{call_same}
 use Rattle.arj_disk_run_law.proofs.HeardCoord.{mine, quiet_step}
 use Rattle.arj_disk_run_law.proofs.HeardGoing.{old_goes_on}
 use Rattle.arj_disk_run_law.proofs.HeardPosts.{SaysHeard, all_join}
@@ -180,6 +182,7 @@ module _ (c : Coord) (u : Uid) (b : Branch) (q : Doing) (found : branch_of u c.t
     at_ended x k tops sent B p = record {
       roots = λ root w. subst (λ z. SeesRootOf x tops root (ended u ending.Commit c) z B) (sym (roots_same root)) (root_ended x tops root B (p.roots root (was_root tops root w)));
       steps = λ w z s does now of. ⊎_elim (λ old. p.steps w z s old now of) (λ idle. absurd (let n : Idle ≡ Calling s = sym idle ∙ now in cc)) (works_ended w z does);
+      calls = λ w z s does now of call past. ⊎_elim (λ old. call_same x tops c (ended u ending.Commit c) s B.names (ap (is_own (top_of s.path)) tree_is ∙ own_mid (top_of s.path)) (ap (kept_of x) (roots_same (root_of s.path))) (p.calls w z s old now of call past)) (λ idle. absurd (let n : Idle ≡ Calling s = sym idle ∙ now in cc)) (works_ended w z does);
       plans = λ w z m does now. ⊎_elim (λ old. p.plans w z m old now) (λ idle. absurd (let n : Idle ≡ Committing m = sym idle ∙ now in cc)) (works_ended w z does);
     }
 

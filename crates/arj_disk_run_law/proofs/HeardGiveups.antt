@@ -34,12 +34,12 @@ use Rattle.arj_names_view_law.specs.Both.{SeesBoth, SeesRootOf, OnlyMemory}
 use Rattle.arj_names_view_law.specs.Handlers.{MayGoOn, Quietly}
 use Rattle.arj_names_view_law.specs.Grants.{grant_at}
 use Rattle.arj_names_view_law.proofs.Heard.{none_heard}
-use Rattle.arj_disk_run_law.specs.Heard.{AsksListed, IsToStep, IsWorkingRoot, SeesHeard, SeesHeardAt, SeesStep}
+use Rattle.arj_disk_run_law.specs.Heard.{AsksListed, IsToStep, IsWorkingRoot, SeesHeard, SeesHeardAt, SeesStep, is_bound}
 use Rattle.arj_disk_run_law.specs.Part.{HasHeard, going_of}
 use Rattle.arj_disk_run_law.proofs.HeardAborts.{says_say}
-use Rattle.arj_disk_run_law.proofs.HeardCalls.{IsCalled, at_called, fresh, goes_called, keeps_to, root_keeps, root_put, work_cases}
+use Rattle.arj_disk_run_law.proofs.HeardCalls.{HasItsList, IsCalled, at_called, fresh, goes_called, goes_kept, keeps_to, root_keeps, root_put, work_cases}
 use Rattle.arj_disk_run_law.proofs.HeardCoord.{mine, quiet_step}
-use Rattle.arj_disk_run_law.proofs.HeardLike.{root_ends}
+use Rattle.arj_disk_run_law.proofs.HeardLike.{root_ends, call_same}
 use Rattle.arj_disk_run_law.proofs.HeardGoing.{old_goes_on}
 use Rattle.arj_disk_run_law.proofs.HeardPosts.{SaysHeard, all_flat, all_join}
 use Rattle.arj_disk_run_law.proofs.HeardQuiet.{fixed_in}
@@ -89,6 +89,7 @@ module _ (x : ℕ) (c e : Coord) (lost : IsLost x c e) where
         subst (λ z. SeesRootOf x tops root e z B) (sym q.2)
         (root_keeps x tops root e (root_at root c) q.0 q.1 B (inl q.3) (root_ends c e ends_same kept_tops x tops root (root_at root c) (let r = root_at root c in r.went) B (p.roots root (was_root tops root w))));
     steps = λ u q s does now of. ⊎_elim (λ old. p.steps u q s old now of) (λ idle. absurd (let n : Idle ≡ Calling s = sym idle ∙ now in cc)) (lost.works u q does);
+    calls = λ u q s does now of call past. ⊎_elim (λ old. call_same x tops c e s B.names (lost.own (top_of s.path)) (let r = lost.roots (root_of s.path) in ap (kept_of x) r.2 ∙ r.3) (p.calls u q s old now of call past)) (λ idle. absurd (let n : Idle ≡ Calling s = sym idle ∙ now in cc)) (lost.works u q does);
     plans = λ u q m does now. ⊎_elim (λ old. p.plans u q m old now) (λ idle. absurd (let n : Idle ≡ Committing m = sym idle ∙ now in cc)) (lost.works u q does);
   }
 
@@ -185,6 +186,7 @@ next_step x k sent s y n m rest N is sees none = record {
   listed = λ q j more at including. let old = sees.listed y n (m ∷ rest) is including in
       subst (λ (z : Known × ℕ × List ℕ). AsksListed (uid_number (top_of s.path)) z.0 (z.1 ∷ z.2) N) (some_is refl (ap load_in at)) (record { answered = old.answered; stores = λ w on. old.stores w (or_right (n == w) (has w (m ∷ rest)) on) });
   bound = λ r to. absurd (none (Reply.Bound r) to);
+  named = λ r to. absurd (none (Reply.Bound r) to);
   loaded = λ q j more st at including to. absurd (none (Reply.Loaded (loaded.State st)) to);
 }
 
@@ -236,14 +238,14 @@ module _ (x : ℕ) (tops : Kinds) (e k : ℕ) (d : Disk) (t : Parts) (M : Seen) 
       only = none_heard A;
       both = both;
       along = quiet_step x tops k d t M A both h (with_coord t (Gives (On (AtLoad y m rest))).part)
-          (λ N B only fixed more. at_called x k tops N.sent next t.coord (Gives (On (AtLoad y m rest))).part B called
-          (λ of. let p = still N B only fixed more in next_step x k N.sent s y n m rest B.names at (p.steps u q s does now of) (λ r to. none r (was_to x B k M.sent N.sent next more r to))) (still N B only fixed more))
+          (λ N B only fixed more. at_called x k tops N.sent next t.coord (Gives (On (AtLoad y m rest))).part B called (λ w d z other there now of call. kept_same (root_of z.path))
+          (λ of. let p = still N B only fixed more in next_step x k N.sent s y n m rest B.names at (p.steps u q s does now of) (λ r to. none r (was_to x B k M.sent N.sent next more r to))) (its_list (still N B only fixed more)) (still N B only fixed more))
           e (Gives (On (AtLoad y m rest))).outs M refl refl
           (all_join (λ f. SaysHeard x d.inc A f) (gaveup_lines u (next_node s ∷ []) t.coord) (goes_on next (on_root (root_of s.path) (root_lost s (On (AtLoad y m rest))) t.coord)).outs lines_say
           (request_says x d.inc k M.sent A s.path (s.req + 1) (next_node next, next_ask (ends_of (root_of s.path) mid.tree) next) mid
           (step_claims x d.inc k M.sent A next (ends_of (root_of s.path) mid.tree) (λ of. let p = mine x tops k d t M A both h in next_step x k M.sent s y n m rest A.names at (p.steps u q s does now of) none))));
     },
-    old_goes_on x tops k d t M A knows both (Gives (On (AtLoad y m rest))).part (λ w z m at is past. ⊎_elim (λ old. old) (λ new. absurd (let n : Calling next ≡ Committing m = sym new ∙ is in cc)) (called.works w z at)),
+    old_goes_on x tops k d t M A knows both (Gives (On (AtLoad y m rest))).part (λ w z m at is past. ⊎_elim (λ old. old.1) (λ new. absurd (let n : Calling next ≡ Committing m = sym new ∙ is in cc)) (called.works w z at)),
   )
     where
       next : Steps
@@ -251,6 +253,13 @@ module _ (x : ℕ) (tops : Kinds) (e k : ℕ) (d : Disk) (t : Parts) (M : Seen) 
 
       called : IsCalled x (record s { req = s.req + 1; at = AtLoad y m rest }) t.coord (Gives (On (AtLoad y m rest))).part
       called = call_goes x t.coord s q found y m rest
+
+      kept_same : (w : Uid) → kept_of x (root_at w (Gives (On (AtLoad y m rest))).part) ≡ kept_of x (root_at w t.coord)
+      kept_same w = goes_kept x next (lost_to x t.coord s q found (On (AtLoad y m rest))) w ∙ (let r = lost_root x t.coord s q found (On (AtLoad y m rest)) w in ap (kept_of x) r.2 ∙ r.3)
+
+      its_list : {B : Office} {sent : List Post} → SeesHeardAt x k tops sent t.coord B → HasItsList x tops (Gives (On (AtLoad y m rest))).part (record s { req = s.req + 1; at = AtLoad y m rest }) B.names
+      its_list {B} p of call past = let z = call_same x tops t.coord (Gives (On (AtLoad y m rest))).part s B.names (called.own (top_of s.path)) (kept_same (root_of s.path)) (p.calls u q s does now of call (ap is_bound at)) in
+          record { own = z.own; top = z.top; known = z.known; kept = z.kept; list = z.list }
 
       mid : Coord
       mid = on_doing (actor s.path) (λ (z : Doing). record z { req = s.req + 1; now = Calling (record s { req = s.req + 1; at = AtLoad y m rest }) }) (on_root (root_of s.path) (root_lost s (On (AtLoad y m rest))) t.coord)

@@ -1,37 +1,35 @@
 -- What coordinators have of naming's answers is kept by inputs about actions: calls and includes that begin, aborts, ends of actions
 -- that are no tops, and giveups but for those of a Prepare.
-use Rattle.std.proofs.Common.{◌≡◌, ◌⊎◌, ◌+◌, ℕ, ◌==◌, ◌&&◌, ◌||◌, if◌then◌else◌, Bool, true, false, not, List, [], ◌∷◌, ◌++◌, Option, Some, None, refl, sym, ◌∙◌, ap, subst, inl, inr, ⊎_elim, arith, is_some, slice_get, suc}
+use Rattle.std.proofs.Common.{◌≡◌, ◌≢◌, ◌⊎◌, ◌+◌, ℕ, ◌&&◌, ◌||◌, if◌then◌else◌, Bool, true, false, not, List, [], ◌∷◌, ◌++◌, Option, Some, None, refl, sym, ◌∙◌, ap, subst, inl, inr, ⊎_elim, arith, is_some, slice_get, suc}
 use Rattle.std.specs.Prelude.{Contains, unwrap_or}
-use Rattle.std.specs.List.{AllByRecursion, list_all}
+use Rattle.std.specs.List.{AllByRecursion}
 use Rattle.std.proofs.lemmas.Bool.{and_parts}
-use Rattle.arj_lock.proofs.Members as list
-use Rattle.arj_lock.proofs.Members.{in_from}
 use Rattle.arj_protocol.specs.Words.{Binding, Op, Path, Uid, End, Cause, Kind}
 use Rattle.arj_protocol.specs.Ask.{Reply, actor, top_of}
-use Rattle.arj_protocol.specs.Asking.{call, call_steps, commit_action, commit_open, gaveup_lines, give_up, give_up_doing, gives_up, given_away, goes_on, include, known_at_start, last_req, next_req, renewed}
+use Rattle.arj_protocol.specs.Asking.{call, call_steps, commit_action, commit_open, gaveup_lines, give_up, give_up_doing, gives_up, goes_on, include, known_at_start, last_req, next_req, renewed}
 use Rattle.arj_protocol.specs.Call.{Goal, Include, Known, Run, Steps, next_ask, next_node, start}
-use Rattle.arj_protocol.specs.Coord.{Calling, Committing, Coord, Doing, Keeping, Root, Said, Went, doing_of, is_free, keeping_of, kept_of, no_root, on_doing, on_root, others_call, root_at, said_of, with_keeping, Idle, Now}
+use Rattle.arj_protocol.specs.Coord.{Calling, Committing, Coord, Doing, Keeping, Root, Went, doing_of, is_free, keeping_of, kept_of, no_root, on_doing, on_root, root_at, with_keeping, Idle, Now}
 use Rattle.arj_protocol.specs.Effect.{Did, Disk, Effect}
 use Rattle.arj_protocol.specs.Node.{Parts, with_coord}
 use Rattle.arj_protocol.specs.Order.{at_number, put_number, unbound, uid_number}
 use Rattle.arj_protocol.specs.Words.{Header}
-use Rattle.arj_protocol.specs.Step.{Input, acts, branch_named, call_reasons, include_reasons, on_branch, refusal_up, refused_by, abort_reasons, waits_above, waits_below, commit_reasons, sibling_waits, giveup_reasons, waits}
+use Rattle.arj_protocol.specs.Step.{Input, acts, branch_named, call_reasons, class_at, lacks_op, include_reasons, on_branch, refusal_up, refused_by, abort_reasons, waits_above, waits_below, commit_reasons, sibling_waits, giveup_reasons, waits}
 use Rattle.arj_protocol.specs.Step as input
 use Rattle.arj_protocol.specs.Coord.{number_of}
 use Rattle.arj_view_law.specs.Keeps.{is_act}
 use Rattle.arj_disk_view_law.proofs.WholeWalks.{placed, no_reason}
 use Rattle.arj_disk_run_law.specs.Rest.{IsHeardAt, KeepsHeard, commits_on, gives_of, gives_on, goes_past, is_top_kind}
-use Rattle.arj_protocol.specs.Tree.{Branch, ends_of, is_spent, root_of, uses_object, branch_of, is_committed, ended_so, is_open_below, has_end, at_place, is_below, open_below, has_open_child, is_constituent}
+use Rattle.arj_protocol.specs.Tree.{Branch, ends_of, root_of, uses_object, branch_of, is_committed, ended_so, is_open_below, has_end, at_place, is_below, open_below, has_many_objects, has_open_child, is_constituent, is_serial}
 use Rattle.arj_run_law.specs.Worlds.{IsGood}
 use Rattle.arj_call_law.specs.Runs.{KnowsFew}
 use Rattle.arj_disk_law.specs.Names.{Names, Office}
-use Rattle.arj_disk_law.proofs.Base.{test_same}
+use Rattle.arj_disk_law.proofs.Base.{never, test_same}
 use Rattle.arj_view_law.specs.Seen.{Post, Seen, up}
 use Rattle.arj_disk_view_law.specs.Coordinating.{KnowsNode}
 use Rattle.arj_disk_view_law.specs.Sees.{Kinds}
 use Rattle.arj_names_view_law.specs.Both.{SeesBoth}
 use Rattle.arj_names_view_law.specs.Handlers.{MayGoOn, Quietly}
-use Rattle.arj_disk_run_law.specs.Heard.{IsToStep, SeesHeard, SeesStep}
+use Rattle.arj_disk_run_law.specs.Heard.{IsToStep, SeesHeard, SeesHeardAt, SeesStep}
 use Rattle.arj_disk_run_law.specs.Part.{HasHeard, going_of}
 use Rattle.arj_disk_view_law.proofs.ActionAborts.{all_both_lists, latest_all}
 use Rattle.arj_disk_run_law.proofs.HeardAborts.{IsFewer, abort_says, all_fewer, at_fewer, ended_fewer, fewer_none, says_say, tolds_of_say}
@@ -42,7 +40,8 @@ use Rattle.arj_protocol.specs.Words.body
 use Rattle.arj_protocol.specs.Words.kind
 use Rattle.arj_protocol.specs.Words.cause
 use Rattle.arj_protocol.specs.Commit.{Confirming, Preparing, Voting, first_of}
-use Rattle.arj_disk_run_law.proofs.HeardCalls.{IsCalled, KeepsOrNone, at_called, fresh, goes_called, keeps_to, root_put}
+use Rattle.arj_disk_run_law.proofs.HeardCalls.{HasItsList, IsCalled, KeepsForOthers, KeepsOrNone, at_called, fresh, goes_called, goes_kept, keeps_to, root_put}
+use Rattle.arj_disk_run_law.proofs.HeardStarts.{call_list, call_others, free_spent, renewed_keeps}
 use Rattle.arj_disk_run_law.proofs.HeardEnds.{heard_ends}
 use Rattle.arj_disk_run_law.proofs.HeardGiveups.{heard_give_call, put_keeps}
 use Rattle.arj_disk_run_law.proofs.HeardCoord.{mine, quiet_step}
@@ -60,41 +59,16 @@ new_step x k sent p y g None avoid req N none = record {
   stands = λ i at. absurd (cc at);
   listed = λ q n rest at. absurd (cc at);
   bound = λ r to. absurd (none (Reply.Bound r) to);
+  named = λ r to. absurd (none (Reply.Bound r) to);
   loaded = λ q n rest st at. absurd (cc at);
 }
 new_step x k sent p y g (Some z) avoid req N none = record {
   stands = λ i at. absurd (cc at);
   listed = λ q n rest at. absurd (cc at);
   bound = λ r to. absurd (none (Reply.Bound r) to);
+  named = λ r to. absurd (none (Reply.Bound r) to);
   loaded = λ q n rest st at. absurd (cc at);
 }
-
--- ---- a binding that is given up
-
-renewed_keeps : (free : Bool) (k : Keeping) → ((renewed free k k.kept).kept ≡ k.kept) ⊎ (((renewed free k k.kept).kept ≡ None) × (free ≡ true))
-renewed_keeps free k = by k.kept refl
-  where
-    one : (o : Known) (a b : Bool) → k.kept ≡ Some o → ((if a && b then given_away k o else k).kept ≡ k.kept) ⊎ (((if a && b then given_away k o else k).kept ≡ None) × (a ≡ true))
-    one o true true is = inr (refl, refl)
-    one o true false is = inl refl
-    one o false b is = inl refl
-
-    by : (o : Option Known) → k.kept ≡ o → ((renewed free k o).kept ≡ k.kept) ⊎ (((renewed free k o).kept ≡ None) × (free ≡ true))
-    by None is = inl refl
-    by (Some o) is = one o free k.spoiled is
-
-all_so : (f : Said → Bool) (ss : List Said) → list_all f ss ≡ true → (s : Said) → list.In s ss → f s ≡ true
-all_so f [] all s i = absurd i
-all_so f (z ∷ ss) all s (inl same) = subst (λ y. f y ≡ true) same (and_parts (f z) (list_all f ss) all).0
-all_so f (z ∷ ss) all s (inr more) = all_so f ss (and_parts (f z) (list_all f ss) all).1 s more
-
--- of a root that is free each call on the object is spent
-free_spent : (root but : Uid) (x : ℕ) (c : Coord) → is_free root but x c ≡ true → (z : Said) → Contains (said_of root c) z → z.x ≡ x → is_spent z.path c.tree ≡ true
-free_spent root but x c free z there of = by (z.x == x) (ap (λ n. n == x) of ∙ test_same x) (all_so (λ (s : Said). not (s.x == x) || is_spent s.path c.tree) (said_of root c) (and_parts (not (others_call root but x c)) (list_all (λ (s : Said). not (s.x == x) || is_spent s.path c.tree) (said_of root c)) free).1 z (in_from z (said_of root c) there))
-  where
-    by : (b : Bool) → b ≡ true → (not b || is_spent z.path c.tree) ≡ true → is_spent z.path c.tree ≡ true
-    by true is on = on
-    by false is on = absurd (cc is)
 
 -- ---- the coordinator
 
@@ -135,19 +109,20 @@ module _ (x : ℕ) (tops : Kinds) (e k : ℕ) (d : Disk) (t : Parts) (M : Seen) 
   Heard_by did = (g : HasHeard (SeesHeard x) x tops Quietly A (going_of e k d t did, M)) × MayGoOn x g.office did.part
 
   -- an action begins to wait
-  waits_anew : (p : Path) (y : ℕ) (g : Goal) (o : Option Known) (avoid : Binding) (w : Coord) (q : Doing) → doing_of (actor p) t.coord ≡ Some q → let s = start p y g o avoid (next_req (actor p) t.coord) in IsCalled x s t.coord (goes_on s w).part → Heard_by (goes_on s w)
-  waits_anew p y g o avoid w q does called = (
+  waits_anew : (p : Path) (y : ℕ) (g : Goal) (o : Option Known) (avoid : Binding) (w : Coord) (q : Doing) → doing_of (actor p) t.coord ≡ Some q → let s = start p y g o avoid (next_req (actor p) t.coord) in IsCalled x s t.coord (goes_on s w).part
+      → KeepsForOthers x (actor p) t.coord (goes_on s w).part → ((B : Office) (sent : List Post) → SeesHeardAt x k tops sent t.coord B → HasItsList x tops (goes_on s w).part s B.names) → Heard_by (goes_on s w)
+  waits_anew p y g o avoid w q does called others list = (
     record {
       office = A;
       only = none_heard A;
       both = both;
       along = quiet_step x tops k d t M A both h (with_coord t e2)
-          (λ N B only fixed more. at_called x k tops N.sent s t.coord e2 B called (λ of. new_step x k N.sent p y g o avoid (next_req (actor p) t.coord) B.names (λ r to. none r (was_to x B k M.sent N.sent s more r to)))
-          (at_stays x tops A B (fixed_in x tops A (up k d t M) both) fixed (memory_goes A B only) k M.sent N.sent t.coord more (λ u own kind. memory_stays tops A B only (tops.root (uid_number u))) (mine x tops k d t M A both h)))
+          (λ N B only fixed more. let p0 = at_stays x tops A B (fixed_in x tops A (up k d t M) both) fixed (memory_goes A B only) k M.sent N.sent t.coord more (λ u own kind. memory_stays tops A B only (tops.root (uid_number u))) (mine x tops k d t M A both h) in
+          at_called x k tops N.sent s t.coord e2 B called others (λ of. new_step x k N.sent p y g o avoid (next_req (actor p) t.coord) B.names (λ r to. none r (was_to x B k M.sent N.sent s more r to))) (list B N.sent p0) p0)
           e (goes_on s w).outs M refl refl
           (request_says x d.inc k M.sent A p (next_req (actor p) t.coord) (next_node s, next_ask (ends_of (root_of p) mid.tree) s) mid (step_claims x d.inc k M.sent A s (ends_of (root_of p) mid.tree) (λ of. new_step x k M.sent p y g o avoid (next_req (actor p) t.coord) A.names none)));
     },
-    old_goes_on x tops k d t M A knows both e2 (λ u z m at now past. ⊎_elim (λ old. old) (λ new. absurd (let n : Calling s ≡ Committing m = sym new ∙ now in cc)) (called.works u z at)),
+    old_goes_on x tops k d t M A knows both e2 (λ u z m at now past. ⊎_elim (λ old. old.1) (λ new. absurd (let n : Calling s ≡ Committing m = sym new ∙ now in cc)) (called.works u z at)),
   )
     where
       s : Steps
@@ -162,17 +137,26 @@ module _ (x : ℕ) (tops : Kinds) (e k : ℕ) (d : Disk) (t : Parts) (M : Seen) 
       none : (r : Reply) → IsToStep k M.sent s r → ⊥
       none r to = fresh x tops k d t M A good few h (actor p) q s does refl (let n : next_req (actor p) t.coord ≡ q.req + 1 = ap (λ z. last_req z + 1) does in omega arith) r to
 
-  pub heard_call : (p : Path) (y : ℕ) (op : Op) (q : Doing) → doing_of (actor p) t.coord ≡ Some q → Heard_by (call p y op t.coord)
-  heard_call p y op q does = waits_anew p y (Run op) (known_at_start (top_of p) y r t.coord k2.kept) k2.avoid (on_root (root_of p) (with_keeping y k2) (record t.coord { tree = uses_object p y t.coord.tree })) q does (call_called x t.coord p q does y op)
+  pub heard_call : (b : Branch) (y : ℕ) (op : Op) (q : Doing) → branch_of (actor b.path) t.coord.tree ≡ Some b → is_some b.ended ≡ false → is_serial b.kind ≡ false → doing_of (actor b.path) t.coord ≡ Some q → Heard_by (call b.path y op t.coord)
+  heard_call b y op q found opened plain does =
+      let called = call_called x t.coord b.path q does y op in
+      waits_anew b.path y (Run op) (known_at_start (top_of b.path) y r t.coord k2.kept) k2.avoid (on_root (root_of b.path) (with_keeping y k2) (record t.coord { tree = uses_object b.path y t.coord.tree })) q does called
+      (call_others x tops k d t M good few knows (actor b.path) b found opened (no_serial b.kind plain) refl y op)
+      (λ B sent p0. call_list x tops k d t M good few knows (actor b.path) b found opened (no_serial b.kind plain) refl y op B sent p0 called.own)
     where
       r : Root
-      r = root_at (root_of p) t.coord
+      r = root_at (root_of b.path) t.coord
 
       k2 : Keeping
-      k2 = renewed (is_free (root_of p) (actor p) y t.coord) (keeping_of y (root_at (root_of p) t.coord)) (let z = keeping_of y (root_at (root_of p) t.coord) in z.kept)
+      k2 = renewed (is_free (root_of b.path) (actor b.path) y t.coord) (keeping_of y (root_at (root_of b.path) t.coord)) (let z = keeping_of y (root_at (root_of b.path) t.coord) in z.kept)
+
+      no_serial : (z : Kind) → is_serial z ≡ false → z ≢ kind.Serial
+      no_serial z off same = never (ap is_serial same) off
 
   pub heard_include : (p : Path) (y s : ℕ) (q : Doing) → doing_of (actor p) t.coord ≡ Some q → Heard_by (include p y s t.coord)
   heard_include p y s q does = waits_anew p y (Include s) None unbound (record t.coord { tree = uses_object p y t.coord.tree }) q does (include_called x t.coord p q does y s)
+      (λ w z v other there now of calls. goes_kept x (start p y (Include s) None unbound (next_req (actor p) t.coord)) (record t.coord { tree = uses_object p y t.coord.tree }) (root_of v.path))
+      (λ B sent p0 of calls. absurd (cc calls))
 
   -- actions are aborted, or none is
   acts_fewer : (did : Did Coord) → IsFewer t.coord did.part → AllByRecursion (SaysHeard x d.inc A) did.outs → Heard_by did
@@ -248,7 +232,13 @@ module _ (x : ℕ) (tops : Kinds) (e k : ℕ) (d : Disk) (t : Parts) (M : Seen) 
     where
       by : (o : Option Branch) → branch_named l t.coord ≡ o → refused_by (call_reasons hd y op) t.coord o ≡ None → Heard_by (on_branch (λ b. call b.path y op t.coord) t.coord o)
       by None is none = absurd (cc none)
-      by (Some b) is none = let w = (let c = knows.coord in c.at_work (actor b.path) b (placed hd x tops e k d t M knows.kinds knows.coord A.world both.disks (number_of l t.coord) b is)) in heard_call b.path y op w.0 w.1
+      by (Some b) is none =
+          let there = placed hd x tops e k d t M knows.kinds knows.coord A.world both.disks (number_of l t.coord) b is in
+          let w = (let c = knows.coord in c.at_work (actor b.path) b there) in
+          let one = no_reason 6 (is_some b.ended) ((7, waits_above b t.coord || waits_below b t.coord) ∷ (11, is_serial b.kind) ∷ (12, b.doomed) ∷ (13, not (is_some (class_at y hd))) ∷ (14, lacks_op op (class_at y hd)) ∷ (16, has_many_objects b y t.coord.tree) ∷ []) none in
+          let two = no_reason 7 (waits_above b t.coord || waits_below b t.coord) ((11, is_serial b.kind) ∷ (12, b.doomed) ∷ (13, not (is_some (class_at y hd))) ∷ (14, lacks_op op (class_at y hd)) ∷ (16, has_many_objects b y t.coord.tree) ∷ []) one.1 in
+          let three = no_reason 11 (is_serial b.kind) ((12, b.doomed) ∷ (13, not (is_some (class_at y hd))) ∷ (14, lacks_op op (class_at y hd)) ∷ (16, has_many_objects b y t.coord.tree) ∷ []) two.1 in
+          heard_call b y op w.0 there one.0 three.0 w.1
   heard_starts hd R rest at (input.Include l y s) act free = by (branch_named l t.coord) refl free
     where
       by : (o : Option Branch) → branch_named l t.coord ≡ o → refused_by (include_reasons hd y) t.coord o ≡ None → Heard_by (on_branch (λ b. include b.path y s t.coord) t.coord o)

@@ -3,16 +3,18 @@ use Rattle.std.proofs.Common.{◌≡◌, ◌⊎◌, ℕ, zero, suc, ◌==◌, �
 use Rattle.std.specs.List.{list_any}
 use Rattle.arj_protocol.specs.Words.{End, Kind, Label, Uid, is_on}
 use Rattle.arj_protocol.specs.Words.ending
+use Rattle.arj_protocol.specs.Ask.{top_of}
 use Rattle.arj_protocol.specs.Asking.{begin_action}
+use Rattle.arj_protocol.specs.Call.{Steps}
 use Rattle.arj_protocol.specs.Coord as coord
 use Rattle.arj_protocol.specs.Coord.{Calling, Committing, Coord, Doing, Idle, Joined, Now, Root, Said, Went, doing_of, is_constituent_branch, is_kept_top, kept_of, retained_in, root_at, second_uid, survives, top_uses}
-use Rattle.arj_protocol.specs.Tree.{Branch, at_place, behind, branch_of, ended_so, has_end, is_committed, is_own, is_spent, next_uid, path_below}
-use Rattle.arj_disk_law.specs.Names.{Office}
+use Rattle.arj_protocol.specs.Tree.{Branch, at_place, behind, branch_of, ended_so, has_end, is_committed, is_own, is_spent, next_uid, path_below, root_of}
+use Rattle.arj_disk_law.specs.Names.{Names, Office}
 use Rattle.arj_disk_law.proofs.Base.{some_is}
 use Rattle.arj_view_law.specs.Seen.{Post}
 use Rattle.arj_disk_view_law.specs.Sees.{Kinds}
 use Rattle.arj_names_view_law.specs.Both.{SeesRootOf}
-use Rattle.arj_disk_run_law.specs.Heard.{IsWorkingRoot, SeesHeardAt}
+use Rattle.arj_disk_run_law.specs.Heard.{IsWorkingRoot, SeesCall, SeesHeardAt}
 
 -- an action that is new, and open
 abbrev pub IsOpenNew : Option Branch → Type 0
@@ -94,6 +96,10 @@ module _ (c e : Coord) (branches : (w : Uid) → (branch_of w e.tree ≡ branch_
   pub root_like : (x : ℕ) (tops : Kinds) (root : Uid) (r : Root) (w : List Went) (B : Office) → SeesRootOf x tops root c r B → SeesRootOf x tops root e (went_to w r) B
   root_like x tops root r w B s = root_ends c e ended_same kept_same x tops root r w B s
 
+-- a call has its list still where its root keeps the same binding
+pub call_same : (x : ℕ) (tops : Kinds) (c e : Coord) (s : Steps) (N : Names) → is_own (top_of s.path) e.tree ≡ is_own (top_of s.path) c.tree → kept_of x (root_at (root_of s.path) e) ≡ kept_of x (root_at (root_of s.path) c) → SeesCall x tops c s N → SeesCall x tops e s N
+call_same x tops c e s N own kept z = record { own = own ∙ z.own; top = z.top; known = z.known; kept = kept ∙ z.kept; list = z.list }
+
 -- where it is looked like the other
 module _ (c e : Coord) (like : IsLike c e) where
   -- who is a root at work there is one here
@@ -108,6 +114,7 @@ module _ (c e : Coord) (like : IsLike c e) where
   at_like x k tops sent B p = record {
     roots = λ root w. let q = like.roots root in subst (λ z. SeesRootOf x tops root e z B) (sym q.1) (root_like c e like.branches x tops root (root_at root c) q.0 B (p.roots root (was_root tops root w)));
     steps = λ u q s does now of. ⊎_elim (λ old. p.steps u q s old now of) (λ idle. absurd (let n : Idle ≡ Calling s = sym idle ∙ now in cc)) (like.works u q does);
+    calls = λ u q s does now of call past. ⊎_elim (λ old. call_same x tops c e s B.names (like.own (top_of s.path)) (ap (kept_of x) (let r = like.roots (root_of s.path) in r.1)) (p.calls u q s old now of call past)) (λ idle. absurd (let n : Idle ≡ Calling s = sym idle ∙ now in cc)) (like.works u q does);
     plans = λ u q m does now. ⊎_elim (λ old. p.plans u q m old now) (λ idle. absurd (let n : Idle ≡ Committing m = sym idle ∙ now in cc)) (like.works u q does);
   }
 

@@ -1,5 +1,5 @@
 -- What coordinators have of naming's answers is kept where a message is taken, with what is still taken of answers.
-use Rattle.std.proofs.Common.{◌≡◌, ℕ, true, List, Option, Some, None, refl, sym, ◌∙◌, ap, subst}
+use Rattle.std.proofs.Common.{◌≡◌, ℕ, true, List, Option, Some, None, refl, sym, ◌∙◌, ap, subst, Bool, false}
 use Rattle.std.specs.Prelude.{is_some}
 use Rattle.arj_protocol.specs.Words.{Ask, Asked, Head, Header, Message, asks}
 use Rattle.arj_protocol.specs.Words.ask
@@ -12,14 +12,13 @@ use Rattle.arj_run_law.specs.Worlds.{IsGood}
 use Rattle.arj_call_law.specs.Runs.{KnowsFew}
 use Rattle.arj_disk_law.specs.Names.{Office}
 use Rattle.arj_disk_law.proofs.Base.{never}
-use Rattle.arj_view_law.specs.Seen.{In, Seen, up}
-use Rattle.arj_disk_view_law.specs.Coordinating.{KnowsNode}
+use Rattle.arj_view_law.specs.Seen.{In, Seen}
 use Rattle.arj_disk_view_law.specs.Sees.{Kinds}
-use Rattle.arj_names_view_law.specs.Both.{SeesBoth}
 use Rattle.arj_names_view_law.specs.Handlers.{IsForGrants, MayGoOn, MayRecord, asked_change, change_by, reply_change}
+use Rattle.arj_disk_run_law.specs.Bindings.{NamesOwn}
 use Rattle.arj_disk_run_law.specs.Heard.{ClaimsAsked, ClaimsGrants, SeesHeard}
 use Rattle.arj_disk_run_law.specs.Part.{HasHeard, HoldsAlong, HoldsFrom}
-use Rattle.arj_disk_run_law.specs.Rest.{GivesNaming, IsHeardAt, KeepsHeard}
+use Rattle.arj_disk_run_law.specs.Rest.{GivesNaming, IsHeardAt, KeepsHeard, answers_commit}
 use Rattle.arj_disk_run_law.proofs.HeardAsk.{Served_by, ask_heard}
 use Rattle.arj_disk_run_law.proofs.HeardGoing.{like_goes_on}
 use Rattle.arj_disk_run_law.proofs.HeardOther.{other_heard}
@@ -54,13 +53,14 @@ module _ (x : ℕ) (R : Seen → Type 0) (gives : GivesNaming x R) (tops : Kinds
 
 -- ---- a message
 
-pub heard_message : (hd : Header) (x : ℕ) (R : Seen → Type 0) → ((M : Seen) → R M → IsGood M × KnowsFew M) → KeepsHeard hd x R → (tops : Kinds) (e k : ℕ) (d : Disk) (t v : Parts) (from : ℕ) (m : Message) (outs : List Effect) (M : Seen) (A : Office) → IsHeardAt x R tops A (k, d, t) M → In (record { from = from; to = k; message = m }) M.sent → is_meant t m ≡ true → handle k d t from m ≡ Took v outs
+pub heard_message : (hd : Header) (x : ℕ) (R : Seen → Type 0) → ((M : Seen) → R M → IsGood M × KnowsFew M) → KeepsHeard hd x R → (tops : Kinds) (e k : ℕ) (d : Disk) (t v : Parts) (from : ℕ) (m : Message) (outs : List Effect) (M : Seen) (A : Office) → IsHeardAt x R tops A (k, d, t) M → ((n : Naming) → t.naming ≡ Some n → NamesOwn n) → In (record { from = from; to = k; message = m }) M.sent → is_meant t m ≡ true → handle k d t from m ≡ Took v outs
     → (h : HasHeard (SeesHeard x) x tops (change_by x d t m) A (record { event = e; node = k; disk = d; before = t; outs = outs; after = v }, M)) × MayGoOn x h.office v.coord × ((n : Naming) → t.naming ≡ Some n → MayRecord x d n m h.office × IsForGrants x d n m h.office)
-heard_message hd x R runs rest tops e k d t v from m outs M A at sent meant is = by (asks m) refl
+heard_message hd x R runs rest tops e k d t v from m outs M A at own sent meant is = by (asks m) refl
   where
     by : (o : Option (Head × Ask)) → asks m ≡ o → (h : HasHeard (SeesHeard x) x tops (change_by x d t m) A (record { event = e; node = k; disk = d; before = t; outs = outs; after = v }, M)) × MayGoOn x h.office v.coord × ((n : Naming) → t.naming ≡ Some n → MayRecord x d n m h.office × IsForGrants x d n m h.office)
     by (Some b) asking =
-        let s : Served_by x tops e k d t v from m outs M (runs _ at.run).0 (runs _ at.run).1 b.0 b.1 sent asking A at.both at.heard (change_by x d t m) = ask_heard x tops e k d t v from m outs M (runs _ at.run).0 (runs _ at.run).1 b.0 b.1 sent asking A at.both at.heard is in
+        let mine : (n : Naming) → t.naming ≡ Some n → (k ≡ 1) × NamesOwn n = λ n named. ((let w = at.knows in w.naming_here n named).0, own n named) in
+        let s : Served_by x tops e k d t v from m outs M (runs _ at.run).0 (runs _ at.run).1 mine b.0 b.1 sent asking A at.both at.heard (change_by x d t m) = ask_heard x tops e k d t v from m outs M (runs _ at.run).0 (runs _ at.run).1 mine b.0 b.1 sent asking A at.both at.heard is in
         let now : IsHeardAt x R tops s.office (k, d, t) M = record { unwalked = at.unwalked; knows = at.knows; run = at.run; both = s.sees; heard = s.heard } in (
           record { office = s.office; only = s.only; both = s.sees; along = s.along },
           like_goes_on x tops k d t M s.office at.knows s.sees v.coord s.like,
@@ -72,7 +72,11 @@ heard_message hd x R runs rest tops e k d t v from m outs M A at sent meant is =
         nothing n D = ((λ h y b i g asking. absurd (never (ap is_some asking) (ap is_some none))), λ h grants excluded included asking. absurd (never (ap is_some asking) (ap is_some none)))
 
         with_answers : (o : Option (Asked × Reply)) → answers m ≡ o → (h : HasHeard (SeesHeard x) x tops (change_by x d t m) A (record { event = e; node = k; disk = d; before = t; outs = outs; after = v }, M)) × MayGoOn x h.office v.coord × ((n : Naming) → t.naming ≡ Some n → MayRecord x d n m h.office × IsForGrants x d n m h.office)
-        with_answers (Some a) answering = let r = rest.answer tops e k d t v from m a.0 a.1 outs M A at sent answering meant is in (r.0, r.1, λ n named. nothing n r.0.office)
+        with_answers (Some a) answering = by_doing (answers_commit a.0 t.coord) refl
+          where
+            by_doing : (b : Bool) → answers_commit a.0 t.coord ≡ b → (h : HasHeard (SeesHeard x) x tops (change_by x d t m) A (record { event = e; node = k; disk = d; before = t; outs = outs; after = v }, M)) × MayGoOn x h.office v.coord × ((n : Naming) → t.naming ≡ Some n → MayRecord x d n m h.office × IsForGrants x d n m h.office)
+            by_doing true commits = let r = rest.answer tops e k d t v from m a.0 a.1 outs M A at sent answering meant commits is in (r.0, r.1, λ n named. nothing n r.0.office)
+            by_doing false calls = let r = rest.called tops e k d t v from m a.0 a.1 outs M A at sent answering meant calls is in (r.0, r.1, λ n named. nothing n r.0.office)
         with_answers None also =
             let g = other_heard x tops e k d t v from m outs M A at.both at.heard none also is in (
               record { office = A; only = none_heard A; both = at.both; along = subst (λ o. HoldsAlong (HoldsFrom (SeesHeard x) x tops o A) (record { event = e; node = k; disk = d; before = t; outs = outs; after = v }) M) (sym (ap (asked_change x d t m) none ∙ ap (reply_change x t.coord) also)) g.1 },

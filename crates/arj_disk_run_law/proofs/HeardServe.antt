@@ -59,7 +59,7 @@ module _ (M : Seen) (good : IsGood M) (few : KnowsFew M) (j : ℕ) (n : Node) (t
   mine : IsUp acts M.sent M.labels j (let d = n.disk in d.inc) t
   mine = let w = world.places j n there in subst (IsMemory acts M.sent M.labels j (let d = n.disk in d.inc)) live w.memory
 
-  coord : IsGoodCoord acts (paths_of acts) t.coord
+  pub coord : IsGoodCoord acts (paths_of acts) t.coord
   coord = let g : IsGoodNode acts (paths_of acts) t = mine.good (paths_of acts) (begun_tree acts world.begun) (path_found acts world.begun) in g.coord
 
   -- who waits in a step stands at the end of its path

@@ -10,7 +10,7 @@ use Rattle.arj_protocol.specs.Call.{AtLoad, Known, Steps, is_include}
 use Rattle.arj_protocol.specs.Commit.{Machine}
 use Rattle.arj_protocol.specs.Coord.{Calling, Coord, Doing, doing_of, root_at}
 use Rattle.arj_protocol.specs.Order.{uid_number}
-use Rattle.arj_protocol.specs.Tree.{at_place, is_own}
+use Rattle.arj_protocol.specs.Tree.{at_place, is_own, root_of}
 use Rattle.arj_disk_law.specs.Names.{Answer, Bound, Loaded, Names, Office, newer, written_in}
 use Rattle.arj_disk_law.specs.Words.{In}
 use Rattle.arj_view_law.specs.Seen as seen
@@ -21,10 +21,11 @@ use Rattle.arj_disk_view_law.specs.Sees.{IsFixed, IsLater, Kinds}
 use Rattle.arj_names_view_law.specs.Both.{OnlyMemory}
 use Rattle.arj_names_view_law.specs.Calls.{ClaimsBound, HasGiven}
 use Rattle.arj_names_view_law.specs.Claims.{IsAfter}
+use Rattle.arj_names_view_law.specs.Lists.{HasList, HasRetained}
 use Rattle.arj_names_view_law.proofs.GrantClaims.{grants_stay_counted_on}
 use Rattle.arj_disk_law.specs.Named.{Named}
 use Rattle.arj_names_view_law.proofs.RootsBoth.{root_stays}
-use Rattle.arj_disk_run_law.specs.Heard.{ClaimsAsked, HasNoneOf, IsHadBy, IsListFor, IsOfRoot, IsToStep, SeesHeardAt, SeesPlan, SeesStep, IsOfGoal}
+use Rattle.arj_disk_run_law.specs.Heard.{ClaimsAsked, HasNoneOf, IsHadBy, IsListFor, IsOfRoot, IsToStep, NamesNow, SeesCall, SeesHeardAt, SeesPlan, SeesStep, IsOfGoal}
 
 -- of this root the machine's grants, kept lists and states are as they were
 pub record StaysOf (tops : Kinds) (root : ℕ) (A B : Office) : Type 0 where
@@ -50,7 +51,7 @@ pub record SendsMore (x : ℕ) (B : Office) (few many : List Post) : Type 0 wher
 
 -- what an answer says to a step
 abbrev pub SaysToStep : ℕ → Steps → Reply → Names → Type 0
-SaysToStep x s (Reply.Bound r) N = IsOfGoal (is_include s.goal) r × ClaimsBound x s.x (uid_number (top_of s.path)) r N
+SaysToStep x s (Reply.Bound r) N = IsOfGoal (is_include s.goal) r × ClaimsBound x s.x (uid_number (top_of s.path)) r N × NamesNow r
 SaysToStep x s (Reply.Loaded (loaded.State st)) N = (q : Known) (n : ℕ) (rest : List ℕ) → s.at ≡ AtLoad q n rest → is_include s.goal ≡ true → In (Loaded (uid_number (top_of s.path)) q.grant (packed st)) N.answers
 SaysToStep x s _ N = ⊤
 
@@ -81,7 +82,8 @@ module _ (x : ℕ) (tops : Kinds) (A B : Office) (f : IsFixed tops A.world.disk)
   step_goes k few many s was q = record {
     stands = λ g at. on.had (uid_number (top_of s.path)) g (q.stands g at);
     listed = λ e n rest at inc. let l = q.listed e n rest at inc in record { answered = on.answers (Bound (uid_number (top_of s.path)) e.grant true e.stores) l.answered; stores = l.stores };
-    bound = λ r to. ⊎_elim (λ old. let c = q.bound r old in (c.0, λ same. given_on (uid_number (top_of s.path)) r (c.1 same))) (λ new. new) (was (Reply.Bound r) to);
+    bound = λ r to. ⊎_elim (λ old. let c = q.bound r old in (c.0, λ same. given_on (uid_number (top_of s.path)) r (c.1 same))) (λ new. (new.0, new.1)) (was (Reply.Bound r) to);
+    named = λ r to. ⊎_elim (λ old. q.named r old) (λ new. new.2) (was (Reply.Bound r) to);
     loaded = λ e n rest st at inc to. ⊎_elim (λ old. on.answers _ (q.loaded e n rest st at inc old)) (λ new. new e n rest at inc) (was (Reply.Loaded (loaded.State st)) to);
   }
 
@@ -153,6 +155,20 @@ module _ (x : ℕ) (tops : Kinds) (A B : Office) (f : IsFixed tops A.world.disk)
   claim_stays named held after (Some (z, ask.Prepare states)) c = tt
   claim_stays named held after (Some (z, ask.Confirm grants excluded included)) c = (on.later.begun (uid_number (top_of z.path)) c.0, grants_stay_counted_on x (uid_number (top_of z.path)) grants A B named held c.0 after c.1)
 
+  -- a call under way has its list still
+  pub call_stays : {c : Coord} (s : Steps) → SeesCall x tops c s A.names → StaysOf tops (tops.root (uid_number (top_of s.path))) A B → SeesCall x tops c s B.names
+  call_stays s z stays = record {
+    own = z.own;
+    top = z.top;
+    known = z.known;
+    kept = z.kept;
+    list = ⊎_elim
+        (λ (l : HasList A.names (uid_number (top_of s.path)) z.known). inl (record { kept = l.kept; there = stays.kept (uid_number (top_of s.path)) (inr refl) ∙ l.there; since = l.since; within = l.within }))
+        (λ (l : HasRetained A.names (uid_number (root_of s.path)) z.known). let its : uid_number (root_of s.path) ≡ tops.root (uid_number (top_of s.path)) = sym (let w = z.top in w.of_root) in
+        inr (record { had = ap (λ g. g (let b = (let k = z.known in k.binding) in b.inc)) (stays.had (uid_number (root_of s.path)) (inl its)) ∙ l.had; kept = l.kept; there = stays.kept (uid_number (root_of s.path)) (inl its) ∙ l.there }))
+        z.list;
+  }
+
   -- ---- a coordinator
 
   -- a coordinator of which each root stays, where answers that were sent to its steps were so before, or say what they claim
@@ -162,6 +178,7 @@ module _ (x : ℕ) (tops : Kinds) (A B : Office) (f : IsFixed tops A.world.disk)
     roots = λ root w. let s = subst (λ r. StaysOf tops r A B) w.alone (stays root w.own (inl w.alone)) in
         root_stays x tops root c (root_at root c) A B f h (p.roots root w) s.had s.kept on.answers s.states;
     steps = λ u q s does now of. step_goes k few many s (said u q s does now of) (p.steps u q s does now of);
+    calls = λ u q s does now of call past. let z = p.calls u q s does now of call past in call_stays s z (stays (top_of s.path) z.own (inr (let w = z.top in w.top)));
     plans = λ u q m does now. let l = p.plans u q m does now in plan_stays u (stays u (own_doing c u q does) (inr l.top)) m l;
   }
 

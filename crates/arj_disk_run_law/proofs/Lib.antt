@@ -1,4 +1,5 @@
 pub mod Begun
+pub mod Bindings
 pub mod BothEach
 pub mod Copies
 pub mod ChangedParts
@@ -25,11 +26,13 @@ pub mod HeardKept
 pub mod HeardLike
 pub mod HeardMessage
 pub mod HeardOther
+pub mod HeardPlaces
 pub mod HeardPosts
 pub mod HeardQuiet
 pub mod HeardRestart
 pub mod HeardTick
 pub mod HeardServe
+pub mod HeardStarts
 pub mod HeardStays
 pub mod Holders
 pub mod Given

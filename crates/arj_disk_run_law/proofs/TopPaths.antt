@@ -18,10 +18,10 @@ use Rattle.arj_disk_run_law.proofs.Begun.{Stood, stood}
 use Rattle.arj_disk_run_law.proofs.Holders.{taken_front}
 
 -- the top of an action, which isn't serializing: its path leads the action's
-abbrev HasTop : List Action → Action → Type 0
+abbrev pub HasTop : List Action → Action → Type 0
 HasTop acts a = (c : Action) × In c acts × (is_top_kind c.kind ≡ true) × (top_path a.path ≡ uids_of c.path)
 
-top_in : (acts : List Action) → AreBegun acts → (a : Action) → In a acts → a.kind ≢ kind.Serial → HasTop acts a
+pub top_in : (acts : List Action) → AreBegun acts → (a : Action) → In a acts → a.kind ≢ kind.Serial → HasTop acts a
 top_in [] begun a none plain = absurd none
 top_in (b ∷ acts) begun a (inr old) plain = let r = top_in acts begun.1 a old plain in (r.0, inr r.1, r.2, r.3)
 top_in (b ∷ acts) begun a (inl same) plain = subst (λ (x : Action). HasTop (b ∷ acts) x) same (by b.kind refl (λ is. plain (ap (λ (x : Action). x.kind) (sym same) ∙ is)) begun.0.stands (λ c i. top_in acts begun.1 c i))

@@ -1,19 +1,19 @@
 -- What coordinators have of naming's answers and what messages claim of them, in what is seen and the machine's state: the relation
 -- that is kept beside both halves.
 use Rattle.std.specs.Prelude.{⊤, ◌≡◌, ◌⊎◌, ◌≤◌, ◌<◌, ℕ, Bool, true, false, List, ◌∷◌, Option, None, Some}
-use Rattle.arj_protocol.specs.Words.{Uid, Ask, Asked, BoundReply, Head, ObjectState, asks}
+use Rattle.arj_protocol.specs.Words.{Uid, Ask, Asked, Binding, BoundReply, Head, ObjectState, asks}
 use Rattle.arj_protocol.specs.Words.ask
 use Rattle.arj_protocol.specs.Words.bound
 use Rattle.arj_protocol.specs.Words.loaded
 use Rattle.arj_protocol.specs.Ask.{Reply, answers, ask_kind, asked_by, reply_kind, top_of}
-use Rattle.arj_protocol.specs.Call.{AtLoad, Known, Steps, is_include}
+use Rattle.arj_protocol.specs.Call.{At, AtActivate, AtBind, AtInvoke, AtLoad, AtNote, Known, Steps, is_include}
 use Rattle.arj_protocol.specs.Commit.{Machine, Used, plan_of}
 use Rattle.arj_protocol.specs.Confirm.{Grants}
-use Rattle.arj_protocol.specs.Coord.{Calling, Committing, Coord, Doing, doing_of, root_at}
+use Rattle.arj_protocol.specs.Coord.{Calling, Committing, Coord, Doing, doing_of, kept_of, root_at}
 use Rattle.arj_protocol.specs.Node.{Parts}
 use Rattle.arj_protocol.specs.Order.{uid_number}
 use Rattle.arj_protocol.specs.Step.{Node}
-use Rattle.arj_protocol.specs.Tree.{Branch, branch_of, is_own}
+use Rattle.arj_protocol.specs.Tree.{Branch, branch_of, is_own, root_of}
 use Rattle.arj_disk_law.specs.Names as machine
 use Rattle.arj_disk_law.specs.Names.{Kept, Names, Office, written_in}
 use Rattle.arj_disk_law.specs.Words.{In, has}
@@ -29,6 +29,7 @@ use Rattle.arj_names_view_law.specs.Both.{SeesRootOf}
 use Rattle.arj_names_view_law.specs.Calls.{ClaimsBound}
 use Rattle.arj_names_view_law.specs.Grants.{StandsOn}
 use Rattle.arj_names_view_law.specs.Handlers.{is_voting}
+use Rattle.arj_names_view_law.specs.Lists.{HasList, HasRetained, IsShort, IsTopOf}
 use Rattle.arj_names_view_law.specs.Loads.{HasLoaded}
 
 -- ---- roots
@@ -63,6 +64,19 @@ IsOfGoal include (bound.Live b server i g stores) = include ≡ false
 IsOfGoal include (bound.Make b server g stores) = include ≡ false
 IsOfGoal include (bound.Conflict holder m) = ⊤
 
+-- an answer of naming names a binding of its incarnation, whose count is short, and some store
+pub record IsNamedOf (b : Binding) (g : ℕ) (stores : List ℕ) : Type 0 where
+  pub inc : b.inc ≡ g
+  pub short : IsShort b
+  pub stored : (s : ℕ) × (has s stores ≡ true)
+
+-- so it is where the answer is of a call, and names one
+abbrev pub NamesNow : BoundReply → Type 0
+NamesNow (bound.Live b server i g stores) = IsNamedOf b g stores
+NamesNow (bound.Make b server g stores) = IsNamedOf b g stores
+NamesNow (bound.Write g stores) = ⊤
+NamesNow (bound.Conflict holder m) = ⊤
+
 -- this answer was sent to the node, to the step that waits
 pub record IsToStep (k : ℕ) (sent : List Post) (s : Steps) (r : Reply) : Type 0 where
   pub post : Post
@@ -71,12 +85,33 @@ pub record IsToStep (k : ℕ) (sent : List Post) (s : Steps) (r : Reply) : Type 
   pub answer : answers post.message ≡ Some (asked_by (head_of s), r)
 
 -- What a call or an include under way on the object stands on: a grant that its top took; an include that loads, an answer whose list has
--- the stores that it asks; and the answers that were sent to the step are the machine's.
+-- the stores that it asks; and the answers that were sent to the step are the machine's, and name a binding of naming's incarnation.
 pub record SeesStep (x k : ℕ) (sent : List Post) (s : Steps) (N : Names) : Type 0 where
   pub stands : StandsOn (uid_number (top_of s.path)) N s.at
   pub listed : (q : Known) (n : ℕ) (rest : List ℕ) → s.at ≡ AtLoad q n rest → is_include s.goal ≡ true → AsksListed (uid_number (top_of s.path)) q (n ∷ rest) N
   pub bound : (r : BoundReply) → IsToStep k sent s (Reply.Bound r) → IsOfGoal (is_include s.goal) r × ClaimsBound x s.x (uid_number (top_of s.path)) r N
+  pub named : (r : BoundReply) → IsToStep k sent s (Reply.Bound r) → NamesNow r
   pub loaded : (q : Known) (n : ℕ) (rest : List ℕ) (st : ObjectState) → s.at ≡ AtLoad q n rest → is_include s.goal ≡ true → IsToStep k sent s (Reply.Loaded (loaded.State st)) → In (machine.Loaded (uid_number (top_of s.path)) q.grant (packed st)) N.answers
+
+-- the machine keeps a list within that of this binding for the top, or its root retains one
+abbrev pub HasCallList : Names → ℕ → ℕ → Known → Type 0
+HasCallList N root top k = HasList N top k ⊎ HasRetained N root k
+
+-- the binding of the call is known
+abbrev pub is_bound : At → Bool
+is_bound (AtBind avoid) = false
+is_bound (AtLoad q n rest) = true
+is_bound (AtActivate q st) = true
+is_bound (AtNote q i) = true
+is_bound (AtInvoke q i) = true
+
+-- A call under way on the object whose binding is known: its root keeps a binding, and the machine has a list for it.
+pub record SeesCall (x : ℕ) (tops : Kinds) (c : Coord) (s : Steps) (N : Names) : Type 0 where
+  pub own : is_own (top_of s.path) c.tree ≡ true
+  pub top : IsTopOf tops (root_of s.path) (top_of s.path)
+  pub known : Known
+  pub kept : kept_of x (root_at (root_of s.path) c) ≡ Some known
+  pub list : HasCallList N (uid_number (root_of s.path)) (uid_number (top_of s.path)) known
 
 -- ---- commits under way
 
@@ -109,6 +144,7 @@ pub record SeesPlan (x : ℕ) (tops : Kinds) (u : Uid) (m : Machine) (A : Office
 pub record SeesHeardAt (x k : ℕ) (tops : Kinds) (sent : List Post) (c : Coord) (A : Office) : Type 0 where
   pub roots : (root : Uid) → IsWorkingRoot tops c root → SeesRootOf x tops root c (root_at root c) A
   pub steps : (u : Uid) (q : Doing) (s : Steps) → doing_of u c ≡ Some q → q.now ≡ Calling s → s.x ≡ x → SeesStep x k sent s A.names
+  pub calls : (u : Uid) (q : Doing) (s : Steps) → doing_of u c ≡ Some q → q.now ≡ Calling s → s.x ≡ x → is_include s.goal ≡ false → is_bound s.at ≡ true → SeesCall x tops c s A.names
   pub plans : (u : Uid) (q : Doing) (m : Machine) → doing_of u c ≡ Some q → q.now ≡ Committing m → SeesPlan x tops u m A
 
 -- ---- messages

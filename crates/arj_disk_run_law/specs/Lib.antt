@@ -1,3 +1,4 @@
+pub mod Bindings
 pub mod Entries
 pub mod Facts
 pub mod Heard

@@ -13,7 +13,7 @@ use Rattle.arj_protocol.specs.Effect.{Disk, Effect}
 use Rattle.arj_protocol.specs.Naming.{Naming}
 use Rattle.arj_protocol.specs.Node.{Parts, Took, handle, is_meant}
 use Rattle.arj_protocol.specs.Order.{uid_number}
-use Rattle.arj_protocol.specs.Step.{Input, acts, branch_named, refusal_up}
+use Rattle.arj_protocol.specs.Step.{Input, acts, branch_named, is_committing, refusal_up}
 use Rattle.arj_protocol.specs.Step as input
 use Rattle.arj_disk_law.specs.Effects.{IsNot}
 use Rattle.arj_disk_law.specs.Names.{Office}
@@ -75,11 +75,17 @@ is_deciding (input.Commit l) c = commits_on (branch_named l c)
 is_deciding (input.GiveUp l) c = gives_of c (branch_named l c)
 is_deciding _ c = false
 
--- It is kept by an answer that a coordinator takes, and by an input by which a top commits that isn't doomed, or gives up in its
--- Prepare; and each commit that is past its votes then may begin.
+-- the answer is to one whose commit is under way
+abbrev pub answers_commit : Asked → Coord → Bool
+answers_commit a c = is_committing (doing_of a.act c)
+
+-- It is kept by an answer that a coordinator takes, to a commit, and to a call or an include; and by an input by which a top commits
+-- that isn't doomed, or gives up in its Prepare; and each commit that is past its votes then may begin.
 pub record KeepsHeard (hd : Header) (x : ℕ) (R : Seen → Type 0) : Type 0 where
   pub naming : GivesNaming x R
-  pub answer : (tops : Kinds) (e k : ℕ) (d : Disk) (t v : Parts) (from : ℕ) (m : Message) (a : Asked) (r : Reply) (outs : List Effect) (M : Seen) (A : Office) → IsHeardAt x R tops A (k, d, t) M → In (record { from = from; to = k; message = m }) M.sent → answers m ≡ Some (a, r) → is_meant t m ≡ true → handle k d t from m ≡ Took v outs
+  pub answer : (tops : Kinds) (e k : ℕ) (d : Disk) (t v : Parts) (from : ℕ) (m : Message) (a : Asked) (r : Reply) (outs : List Effect) (M : Seen) (A : Office) → IsHeardAt x R tops A (k, d, t) M → In (record { from = from; to = k; message = m }) M.sent → answers m ≡ Some (a, r) → is_meant t m ≡ true → answers_commit a t.coord ≡ true → handle k d t from m ≡ Took v outs
+      → (h : HasHeard (SeesHeard x) x tops (change_by x d t m) A (record { event = e; node = k; disk = d; before = t; outs = outs; after = v }, M)) × MayGoOn x h.office v.coord
+  pub called : (tops : Kinds) (e k : ℕ) (d : Disk) (t v : Parts) (from : ℕ) (m : Message) (a : Asked) (r : Reply) (outs : List Effect) (M : Seen) (A : Office) → IsHeardAt x R tops A (k, d, t) M → In (record { from = from; to = k; message = m }) M.sent → answers m ≡ Some (a, r) → is_meant t m ≡ true → answers_commit a t.coord ≡ false → handle k d t from m ≡ Took v outs
       → (h : HasHeard (SeesHeard x) x tops (change_by x d t m) A (record { event = e; node = k; disk = d; before = t; outs = outs; after = v }, M)) × MayGoOn x h.office v.coord
   pub act : (tops : Kinds) (e k : ℕ) (d : Disk) (t : Parts) (i : Input) (M : Seen) (A : Office) → IsHeardAt x R tops A (k, d, t) M → is_deciding i t.coord ≡ true → refusal_up hd i t.coord ≡ None
       → (h : HasHeard (SeesHeard x) x tops Quietly A (going_of e k d t (acts i d.intents t.coord), M)) × MayGoOn x h.office (let did = acts i d.intents t.coord in did.part)

@@ -1,0 +1,36 @@
+-- Bindings at naming: each is of its incarnation, and their counts are short.
+use Rattle.std.specs.Prelude.{◌≡◌, ◌<◌, ◌+◌, ℕ, Some}
+use Rattle.arj_protocol.specs.Words.{Uid, Binding}
+use Rattle.arj_protocol.specs.Named.{Live, Made, Named}
+use Rattle.arj_protocol.specs.Naming.{Naming}
+use Rattle.arj_protocol.specs.Node.{Parts}
+use Rattle.arj_protocol.specs.Order.{at_number, at_uid}
+use Rattle.arj_protocol.specs.Step.{Node}
+use Rattle.arj_call_law.specs.Bindings.{AreSaid}
+use Rattle.arj_lock_fact_law.specs.Uppers.{ObjectsAreHeld}
+use Rattle.arj_run_law.specs.Worlds.{IsGood}
+use Rattle.arj_view_law.specs.Seen.{Seen}
+use Rattle.arj_names_view_law.specs.Lists.{IsShort}
+
+-- the binding is of this incarnation of naming, and its count is short
+pub record IsOwnBinding (inc : ℕ) (b : Binding) : Type 0 where
+  pub of : b.inc ≡ inc
+  pub short : IsShort b
+
+-- so are an object's live binding and those that were made for tops
+pub record HasOwnBindings (inc : ℕ) (o : Named) : Type 0 where
+  pub live : (l : Live) → o.live ≡ Some l → IsOwnBinding inc l.binding
+  pub made : (u : Uid) (m : Made) → at_uid u o.made ≡ Some m → IsOwnBinding inc m.binding
+
+-- so it is of each object, and the next binding's count is short too
+pub record NamesOwn (n : Naming) : Type 0 where
+  pub objects : (y : ℕ) (o : Named) → at_number y n.objects ≡ Some o → HasOwnBindings n.inc o
+  pub next : n.count + 1 < 4294967296
+
+-- so it is at naming, while it is up
+abbrev pub AllNameOwn : Seen → Type 0
+AllNameOwn M = (k : ℕ) (n : Node) (t : Parts) (o : Naming) → M.nodes k ≡ Some n → n.live ≡ Some t → t.naming ≡ Some o → NamesOwn o
+
+-- nodes are good, with the objects at naming, and naming counted no more bindings than the journal says
+abbrev pub AreGoodCounted : Seen → Type 0
+AreGoodCounted M = IsGood M × (ObjectsAreHeld M × AreSaid M)
