@@ -22,3 +22,5 @@ pub mod Listed
 pub mod Entries
 pub mod GoodOwners
 pub mod GoodNaming
+pub mod Further
+pub mod Requests

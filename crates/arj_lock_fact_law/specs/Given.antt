@@ -5,7 +5,8 @@
 -- begun (`AreOneTree`). `IsLone`, `IsFirst`, `AreTopped`, `AreUnserial`, roots that are empty, `IsWanted`: here. `AreKept`: the machine's view
 -- of the root, and known Binds (`Keeping`). `HasLowGrant`: grants in order (`Grants`). `HasNothingAt`, `IsGoodAt`: naming has tops alone,
 -- and good objects (`Uppers`). That naming finds the object as it starts: entries stay on the disk (`Entries`). That its count has 32 bits:
--- its journal has few bindings, and it counted no more (`AreSaid` of `arj_call_law`). That a repeated vote shows the first: `repeated_votes_agree` of `arj_lock_law`.
+-- its journal has few bindings, and it counted no more (`AreSaid` of `arj_call_law`). That an answer is to what waits: `Requests`.
+-- That a repeated vote shows the first: `repeated_votes_agree` of `arj_lock_law`.
 -- The whole world as the machine sees it (`arj_lock_run_law`) gives what messages show, `IsReached`, `IsFresh`, and that no more is decided
 -- than was (`IfDecided`, `IsBacked`).
 -- Nobody gives it yet: `HasNoneLeft` where an abort comes of an action whose unit is over, and at naming what is told of committed tops: who

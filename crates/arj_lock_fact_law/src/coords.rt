@@ -2,6 +2,7 @@
 ghost use Rattle.arj_lock_fact_law.specs.Given.{ActionsAreTopped, BroughtAreUnserial, CommitsAreFirst, FreeAreLone, ListedAreUnserial, NewRootsAreEmpty, RequestsWant, WaitersAreLone};
 ghost use Rattle.arj_lock_fact_law.specs.Grants.{HandlersKeepGrants, PlansGrantLow, RunsKeepGrants};
 ghost use Rattle.arj_lock_fact_law.specs.Keeping.{PlansHaveKept};
+ghost use Rattle.arj_lock_fact_law.specs.Requests.{HandlersKeepRequests, RunsKeepRequests};
 ghost use Rattle.arj_lock_fact_law.specs.Worlds.{HandlersKeepWorks, RunsKeepWorks};
 
 /// In every run each coordinator that is up is in order: of two actions that wait none stands above the other, calls ask by numbers from 1
@@ -51,4 +52,12 @@ pub fn grants_stay_in_order()
 /// unit counts: so it is where grants are in order. It does nothing when it runs.
 pub fn plans_grant_low()
     ensures { PlansGrantLow }
+{}
+
+/// In every run each request that a node sent for an action of its coordinator is of no later number than the action's last one, and if it is
+/// that one, it is the request of the step for which the action waits, or what its commit asks of that node: so an answer to it is one to
+/// what waits. Each handler keeps it, wherever a stop falls. It does nothing when it runs.
+pub fn last_requests_are_of_what_waits()
+    ensures handlers { HandlersKeepRequests }
+    ensures runs { RunsKeepRequests }
 {}
