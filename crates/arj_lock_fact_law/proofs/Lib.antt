@@ -24,3 +24,4 @@ pub mod GoodOwners
 pub mod GoodNaming
 pub mod Further
 pub mod Requests
+pub mod Asked

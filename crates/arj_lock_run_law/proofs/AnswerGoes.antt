@@ -1,21 +1,26 @@
 -- Answers go in the whole world: what a message shows that was sent is what the step, or the commit, that waits for it counts on.
-use Rattle.std.proofs.Common.{[], ⊎_elim, ◌≡◌, ◌≢◌, ◌⊎◌, ◌∙◌, ◌==◌, ◌&&◌, ℕ, List, Bool, true, false, cond, Option, Some, None, refl, sym, ap, subst, arith, eqb-true, is_some}
+use Rattle.std.proofs.Common.{◌<◌, inl, inr, [], ⊎_elim, ◌≡◌, ◌≢◌, ◌⊎◌, ◌∙◌, ◌==◌, ◌&&◌, ℕ, List, Bool, true, false, cond, Option, Some, None, refl, sym, ap, subst, arith, eqb-true, is_some}
+use Rattle.std.specs.Prelude.{⊤}
 use Rattle.std.proofs.lemmas.Bool.{and_parts}
+use Rattle.arj_base.proofs.Uids.{uid_is}
 use Rattle.arj_lock.proofs.Members.{in_from}
-use Rattle.arj_protocol.specs.Words.{Ask, Asked, End, Head, Uid}
+use Rattle.arj_protocol.specs.Words.{Ask, Asked, Binding, End, Head, ObjectState, Uid, object}
+use Rattle.arj_protocol.specs.Words.loaded
 use Rattle.arj_protocol.specs.Ask.{Reply, actor, answers, ask_kind, reply_kind, response, top_of}
 use Rattle.arj_protocol.specs.Asking.{heard, heard_by, heard_call, heard_doing, heard_none, heard_now, moved_commit, waits_for_call, waits_for_commit}
-use Rattle.arj_protocol.specs.Call.{At, AtActivate, AtBind, AtInvoke, AtLoad, AtNote, Goal, Include as IncludeStore, Run, Steps, ask_at, next_ask, next_node}
+use Rattle.arj_protocol.specs.Call.{At, AtActivate, AtBind, AtInvoke, AtLoad, AtNote, Goal, Include as IncludeStore, Known, Run, Steps, ask_at, next_ask, next_node}
 use Rattle.arj_protocol.specs.Commit as commit
 use Rattle.arj_protocol.specs.Commit.{Machine, ask_of, left_of, plan_of}
 use Rattle.arj_protocol.specs.Coord.{Calling, Committing, Coord, Doing, Idle, Now, doing_of}
 use Rattle.arj_protocol.specs.Effect.{Served}
-use Rattle.arj_protocol.specs.Order.{has}
+use Rattle.arj_protocol.specs.Node.{is_loaded_for, is_loaded_in, reply_is_meant}
+use Rattle.arj_protocol.specs.Order.{binding_number, has}
 use Rattle.arj_protocol.specs.Tree.{Branch, is_own}
-use Rattle.arj_part_law.specs.Actions.{action_of}
+use Rattle.arj_part_law.specs.Actions.{AreBegun, action_of, paths_of}
 use Rattle.arj_part_law.specs.Coords.{IsAsking, IsBusy, IsVoting}
 use Rattle.arj_part_law.specs.Ends.{ask_ends}
 use Rattle.arj_part_law.specs.Requests.{IsNumbered}
+use Rattle.arj_part_law.proofs.Begun.{begun_tree, path_found}
 use Rattle.arj_part_law.proofs.EndsSaid.{sure_heard}
 use Rattle.arj_part_law.proofs.GoodCoords.{doing_by, good_heard}
 use Rattle.arj_part_law.proofs.TrueSteps.{well_heard}
@@ -23,6 +28,11 @@ use Rattle.arj_call_law.specs.Coords.{IsOfStep}
 use Rattle.arj_address_law.specs.Binds.{AnswersAt, AnswersWaiting}
 use Rattle.arj_address_law.proofs.BindRuns.{answers_fit}
 use Rattle.arj_lock_fact_law.specs.Requests.{IsAskedBy}
+use Rattle.arj_lock_fact_law.specs.Works.{KnowsEnds}
+use Rattle.arj_lock_fact_law.proofs.Asked.{AreWaiting, IsNewAt, waiting_heard}
+use Rattle.arj_lock_fact_law.proofs.Inner.{ends_kept}
+use Rattle.arj_lock_fact_law.proofs.Kept.{Place}
+use Rattle.arj_run_law.proofs.Walked.{same_number as number_same}
 use Rattle.arj_view_law.specs.Seen.{In, Post}
 use Rattle.arj_lock_view_law.specs.Calling.{IsWaiting}
 use Rattle.arj_lock_view_law.specs.Handling.{ShowsReply}
@@ -32,9 +42,8 @@ use Rattle.arj_lock_view_law.specs.Replies.{head_of}
 use Rattle.arj_lock_view_law.specs.Telling.{View}
 use Rattle.arj_lock_run_law.specs.Answers.{AnswersGo, KnowsAnswer}
 use Rattle.arj_lock_run_law.specs.Beside.{Case, HoldsNamingIn, IsSeenIn, Spot, view_in, world_at}
-use Rattle.arj_lock_run_law.specs.Coordinating.{IsWorking, StepGoes, coord_at, records_at}
+use Rattle.arj_lock_run_law.specs.Coordinating.{IsWorking, KnowsAsks, StepGoes, coord_at, records_at}
 use Rattle.arj_lock_run_law.specs.Fixed.{Fixed}
-use Rattle.arj_lock_run_law.specs.Inputs.{KnowsAfter}
 use Rattle.arj_lock_run_law.specs.Posts.{IsAnswerSeen}
 use Rattle.arj_lock_run_law.proofs.AskedSteps.{step_back}
 use Rattle.arj_lock_run_law.proofs.CallGoes.{call_answers_go, include_answers_go, other_answers_go}
@@ -212,16 +221,57 @@ module _ (c : Case) (s : Spot) (e from : ℕ) (a : Asked) (r : Reply) (is_seen :
       by None none = λ some after. absurd (cc some)
       by (Some d) found = now_goes d found d.now refl
 
+  -- ---- the coordinator behind it
+
+  abbrev behind : Coord
+  behind = let D = heard from a r (records_at s) C in D.part
+
+  actions_begun : AreBegun c.begun
+  actions_begun = let g = is_seen.good in g.begun
+
+  place : Place (let M = s.seen in M.sent) s.node C
+  place = record {
+    actions = c.begun;
+    begun = actions_begun;
+    good = (let i = its c s is_seen in let n = i.good (paths_of c.begun) (begun_tree c.begun actions_begun) (path_found c.begun actions_begun) in n.coord);
+    numbered = (let i = its c s is_seen in i.numbered);
+    faithful = (let i = its c s is_seen in i.faithful);
+    binds = (let b = knows.binds in b.nodes s.node (record { number = s.node; disk = s.disk; live = Some s.parts }) s.parts (λ i. cond (number_same s.node i) (Some (record { number = s.node; disk = s.disk; live = Some s.parts })) (let M = s.seen in M.nodes s.node)) refl);
+  }
+
+  ends_behind : KnowsEnds behind
+  ends_behind = let k = ends_kept (λ b. ⊤) in k.hears (let M = s.seen in M.sent) s.node C place from a r (records_at s) fits (λ b same. tt) knows.ends
+
+  -- a step of which what is asked is known
+  record IsKnown (w : Steps) : Type 0 where
+    state : (k : Known) (o : ObjectState) → w.at ≡ AtActivate k o → o.uid.num ≡ w.x
+    avoid : (b : Binding) → w.at ≡ AtBind b → w.x ≡ c.x → binding_number b < (let S = c.state in let n = S.naming in n.bound)
+
+  asks_behind : reply_is_meant C a r ≡ true → KnowsAsks c behind
+  asks_behind meant = record { states = λ u d w k o found is at. (let q = all u d w found is in q.state k o at); avoids = λ u d w b found is at about. (let q = all u d w found is in q.avoid b at about) }
+    where
+      -- a state that comes is of the object of the step
+      loaded_is : (d : Doing) (w : Steps) (o : ObjectState) → doing_of a.act C ≡ Some d → d.now ≡ Calling w → r ≡ Reply.Loaded (loaded.State o) → o.uid.num ≡ w.x
+      loaded_is d w o found is reply = ap (λ (u : Uid). u.num) (uid_is o.uid (object w.x) (sym (ap (is_loaded_for o) found ∙ ap (is_loaded_in o) is) ∙ ap (reply_is_meant C a) (sym reply) ∙ meant))
+
+      next : (w : Steps) (d : Doing) (req : ℕ) (at : At) → doing_of a.act C ≡ Some d → d.now ≡ Calling w → IsKnown w → (at ≡ w.at) ⊎ IsNewAt r at → IsKnown (record w { req = req; at = at })
+      next w d req at found is known (inl same) = record { state = λ k o at_it. known.state k o (sym same ∙ at_it); avoid = λ b at_it about. known.avoid b (sym same ∙ at_it) about }
+      next w d req at found is known (inr new) = record { state = λ k o at_it. loaded_is d w o found is (subst (IsNewAt r) at_it new); avoid = λ b at_it about. absurd (subst (IsNewAt r) at_it new) }
+
+      all : AreWaiting IsKnown behind
+      all = waiting_heard IsKnown (let M = s.seen in M.sent) s.node C place from a r (records_at s) fits next
+          (λ u d w found is. record { state = λ k o at. (let q = knows.asks in q.states u d w k o found is at); avoid = λ b at about. (let q = knows.asks in q.avoids u d w b found is at about) })
+
   -- it goes on, is good and sure, by the protocol alone
-  behind_it : let D = heard from a r (records_at s) C in KnowsAfter c D.part → Behind c s D.part
-  behind_it after =
+  behind_it : reply_is_meant C a r ≡ true → Behind c s behind
+  behind_it meant =
       let p = placed c s is_seen in
       let tree = (let w = p.whole in w.tree) in
-      behind_step c s is_seen (let D = heard from a r (records_at s) C in D.part)
+      behind_step c s is_seen behind
       (well_heard c.begun f.paths tree from a r (records_at s) C p.good).0
       (good_heard c.begun f.paths tree from a r (records_at s) C p.good)
       (sure_heard c.begun f.paths tree from a r (records_at s) C p.good (let q = its c s is_seen in q.sure)).0
-      after
+      (record { asks = asks_behind meant; ends = ends_behind })
 
 pub answers_go : AnswersGo
-answers_go c s e from a r is_seen holds knows sent some after = answer_goes c s e from a r is_seen holds knows sent some (behind_it c s e from a r is_seen holds knows sent after)
+answers_go c s e from a r is_seen holds knows sent meant some = answer_goes c s e from a r is_seen holds knows sent some (behind_it c s e from a r is_seen holds knows sent meant)

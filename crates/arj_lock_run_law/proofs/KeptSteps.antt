@@ -1,8 +1,9 @@
 -- The object is seen in every world of a run: each handler's walk is put together, and each stop is seen.
 use Rattle.std.proofs.Common.{◌≡◌, ◌∙◌, ◌+◌, ℕ, List, [], ◌∷◌, not, Bool, true, false, Option, Some, None, refl, ap, subst, inr, sym, inl}
 use Rattle.std.specs.Prelude.{is_some}
+use Rattle.std.proofs.lemmas.Bool.{and_parts}
 use Rattle.arj_lock.proofs.Members.{in_from, in_to}
-use Rattle.arj_protocol.specs.Words.{Asked, Header, Kind, Label, Message, Path, Uid, uids_of}
+use Rattle.arj_protocol.specs.Words.{Asked, Header, Kind, Label, Message, Path, Uid, asks, uids_of}
 use Rattle.arj_protocol.specs.Words.message
 use Rattle.arj_protocol.specs.Ask.{Reply, actor, answers, response}
 use Rattle.arj_protocol.specs.Asking.{again_all, begin_action, heard}
@@ -10,7 +11,7 @@ use Rattle.arj_protocol.specs.Coord.{Coord}
 use Rattle.arj_protocol.specs.Effect.{Disk, Do, Effect, Say, Send, Served, worked}
 use Rattle.arj_protocol.specs.Ending.{acked, answer_query}
 use Rattle.arj_protocol.specs.Follow.{tick_outs}
-use Rattle.arj_protocol.specs.Node.{Parts, Took, by_reply, coord_heard, handle, is_meant, with_coord}
+use Rattle.arj_protocol.specs.Node.{Parts, Took, answer_is_meant, asked_is_meant, by_reply, coord_heard, handle, is_meant, with_coord}
 use Rattle.arj_protocol.specs.Step.{Input, acts, begin_reasons, begin_refusal, refused_by, parent_of, parts_in, refusal_up, restart_outs}
 use Rattle.arj_protocol.specs.Tree.{Branch, branch_of, is_open, is_open_branch, next_uid, path_below}
 use Rattle.arj_protocol.specs.World.{format, is_serial_kind}
@@ -34,7 +35,6 @@ use Rattle.arj_lock_fact_law.specs.Acts.{KeepsOf, begins_in}
 use Rattle.arj_lock_run_law.specs.Beside.{Case, IsSeenIn, Spot, world_at}
 use Rattle.arj_lock_run_law.specs.Coordinating.{coord_at}
 use Rattle.arj_lock_run_law.specs.Fixed.{Agrees, Fixed}
-use Rattle.arj_lock_run_law.specs.Inputs.{KnowsAfter}
 use Rattle.arj_lock_run_law.specs.Kept.{AreLocksSeen, GivesLocks, HasCome, LocksAreKept, RunsKeepLocks, case_of}
 use Rattle.arj_lock_run_law.specs.Sees.{SeesLocks}
 use Rattle.arj_lock_run_law.specs.World.{IsSeenSo, is_for_parts}
@@ -236,9 +236,8 @@ module _ (hd : Header) (x : ℕ) (G : Seen → Type 0) (R : List Action → Seen
             let n = subst (λ (w : Message). HasCome s from w v outs) (response_is m a of) come in
             let r = heard from a.0 a.1 (let d = s.disk in d.intents) (coord_at s) in
             let q = took_heard s.parts v r outs (sym (handled_answer s.node s.disk s.parts from a.0 a.1) ∙ n.takes) in
-            let known = its.heard begun S s from m a v outs (more, z.2) seen come of in
-            let after = subst (λ (w : Parts). KnowsAfter c w.coord) (sym q.0) known.1 in
-            subst (λ (w : Parts). Goes outs w) q.0 (subst (λ (es : List Effect). Goes es (with_coord s.parts r.part)) q.1 (answers_go c s e from a.0 a.1 seen (its.holds begun S s (more, z.2) seen) known.0 n.sent q.2 after))
+            let meant = ap (answer_is_meant (coord_at s)) (sym of) ∙ (and_parts (asked_is_meant (let t = s.parts in t.server) (asks m)) (answer_is_meant (coord_at s) (answers m)) come.meant).1 in
+            subst (λ (w : Parts). Goes outs w) q.0 (subst (λ (es : List Effect). Goes es (with_coord s.parts r.part)) q.1 (answers_go c s e from a.0 a.1 seen (its.holds begun S s (more, z.2) seen) (its.heard begun S s from m a v outs (more, z.2) seen come of) n.sent meant q.2))
     coordinator_goes m v outs come is (Some (u, true)) of =
         let n = subst (λ (w : Message). HasCome s from w v outs) (is_acked m u of) come in
         let r = acked from u (let d = s.disk in d.intents) (coord_at s) in

@@ -6,17 +6,17 @@ use Rattle.arj_protocol.specs.Ask.{Reply, response}
 use Rattle.arj_protocol.specs.Asking.{heard}
 use Rattle.arj_protocol.specs.Call.{AtLoad, Known, Run, Steps}
 use Rattle.arj_protocol.specs.Coord.{Calling, Doing, doing_of}
+use Rattle.arj_protocol.specs.Node.{reply_is_meant}
 use Rattle.arj_protocol.specs.Order.{binding_number}
 use Rattle.arj_lock_law.specs.Steps.{IsCurrent, LoadsTheLast}
 use Rattle.arj_address_law.specs.Binds.{BindsAreKnown}
 use Rattle.arj_lock_fact_law.specs.Requests.{KnowsRequests}
-use Rattle.arj_lock_fact_law.specs.Works.{KnowsWaits}
+use Rattle.arj_lock_fact_law.specs.Works.{KnowsEnds, KnowsWaits}
 use Rattle.arj_lock_view_law.specs.Copies.{state_code}
 use Rattle.arj_lock_view_law.specs.Named.{binding_at}
 use Rattle.arj_view_law.specs.Seen.{In}
 use Rattle.arj_lock_run_law.specs.Beside.{Case, HoldsNamingIn, IsSeenIn, Spot, world_at}
 use Rattle.arj_lock_run_law.specs.Coordinating.{KnowsAsks, StepGoes, coord_at, records_at}
-use Rattle.arj_lock_run_law.specs.Inputs.{KnowsAfter}
 
 -- What a store gives to a call on the object, by the disk machine: for a binding that naming made last, and that is still to be recorded, the
 -- state is that of the last committed write, and no decided top is in doubt.
@@ -27,18 +27,19 @@ IsLastFor c k st = let S = c.state in IsCurrent S.naming (let b = binding_at S k
 abbrev pub GivesLast : Case → Spot → Asked → Reply → Type 0
 GivesLast c s a r = (d : Doing) (w : Steps) (k : Known) (n : ℕ) (rest : List ℕ) (o : Op) (st : ObjectState) → doing_of a.act (coord_at s) ≡ Some d → d.now ≡ Calling w → w.x ≡ c.x → w.goal ≡ Run o → w.at ≡ AtLoad k n rest → r ≡ Reply.Loaded (loaded.State st) → IsLastFor c k st
 
--- What is known where an answer comes: of the coordinator who waits, what was asked for what waits, and which object a state that came is
--- of, and of all nodes that a Bind is answered as it asks, by the protocol alone; and by the disk machine what a store gives.
+-- What is known where an answer comes: of the coordinator who waits, what was asked for what waits, what is asked and which ends are listed, and
+-- of all nodes that a Bind is answered as it asks, by the protocol alone; and by the disk machine what a store gives.
 pub record KnowsAnswer (c : Case) (s : Spot) (a : Asked) (r : Reply) : Type 0 where
   pub waits : KnowsWaits (coord_at s)
   pub requests : KnowsRequests (let M = s.seen in M.sent) s.node (coord_at s)
   pub asks : KnowsAsks c (coord_at s)
+  pub ends : KnowsEnds (coord_at s)
   pub binds : BindsAreKnown (world_at s)
   pub last : GivesLast c s a r
 
--- An answer that was sent comes, and something waits for it: a call or an include goes on or ends, of the object or of another one, or a
--- commit goes on, is decided or is aborted. The machine goes along, and the object is seen, wherever a stop falls.
+-- An answer that was sent comes, which can be meant, and something waits for it: a call or an include goes on or ends, of the object or of
+-- another one, or a commit goes on, is decided or is aborted. The machine goes along, and the object is seen, wherever a stop falls.
 abbrev pub AnswersGo : Type 0
 AnswersGo = (c : Case) (s : Spot) (e from : ℕ) (a : Asked) (r : Reply)
-    → IsSeenIn c (world_at s) → HoldsNamingIn c s.node (let t = s.parts in t.naming) → KnowsAnswer c s a r → In (record { from = from; to = s.node; message = response a r }) (let M = s.seen in M.sent)
-    → let D = heard from a r (records_at s) (coord_at s) in is_some D.reply ≡ true → KnowsAfter c D.part → StepGoes c s e (record { part = D.part; outs = D.outs })
+    → IsSeenIn c (world_at s) → HoldsNamingIn c s.node (let t = s.parts in t.naming) → KnowsAnswer c s a r → In (record { from = from; to = s.node; message = response a r }) (let M = s.seen in M.sent) → reply_is_meant (coord_at s) a r ≡ true
+    → let D = heard from a r (records_at s) (coord_at s) in is_some D.reply ≡ true → StepGoes c s e (record { part = D.part; outs = D.outs })

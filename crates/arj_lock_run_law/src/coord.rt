@@ -57,8 +57,8 @@ pub fn inputs_go_in_the_world()
 
 /// An answer that was sent goes in the whole world, where something waits for it: a call, an include or a commit goes on or ends. What it
 /// shows to who waits follows of what it shows for ever, since what was asked by that number is what waits. Who waits at the coordinator
-/// is counted on, and which requests it sent, that Binds are answered as they ask, which object a state that came is of, and that a store
-/// gives what was written last; and behind the answer what the coordinator asks and which ends it lists. It does nothing when it runs.
+/// is counted on, which requests it sent, what it asks and which ends it lists, that Binds are answered as they ask, and that a store
+/// gives what was written last. It does nothing when it runs.
 pub fn answers_go_in_the_world()
     ensures { AnswersGo }
 {}
