@@ -212,7 +212,7 @@ found f of x (y ∷ ys) i = by ((f y).x == x) refl i (found f of x ys)
 
 -- a call that a top was answered and that survives in it is used at the server of what is kept
 pub is_used : (p : Path) (req : ℕ) (r : Root) (c : Coord) (s : Said) (k : Known) → list.In s r.said → kept_of s.x r ≡ Some k → survives (actor p) s.path c ≡ true → IsUsed (let q = plan_for p req r c in q.used) s.x k.server
-is_used p req r c s k i kept on = (used_of top r c s.x, found (used_of top r c) (λ y. refl) s.x (objects_in top r c) object, ap (λ b. (known_for b s.x r).server) called ∙ ap (λ o. (unwrap_or o nothing_known).server) kept)
+is_used p req r c s k i kept on = (used_of top r c s.x, found (used_of top r c) (λ y. refl) s.x (objects_in top r c) object, ap (λ b. (known_for b s.x r).server) called ∙ ap (λ o. (unwrap_or o nothing_known).server) kept, called)
   where
     top : Uid
     top = actor p

@@ -159,7 +159,7 @@ module _ (acts : List Action) (paths : Paths) (tree : IsTree paths) (sent : List
           let r = root_at (root_of b.path) c in
           let same : root_at (root_of (let h = k.head in h.path)) c ≡ r = ap (λ z. root_at z c) same_root in
           let f = is_used b.path req r c s.said s.kept (subst (λ (z : Root). list.In s.said z.said) same s.there) (ap (λ x. kept_of x r) s.object ∙ ap (kept_of k.x) (sym same) ∙ s.keeps) ((λ i. is_on (s.path i) u && is_merged u (s.path i) c.tree) ∙ (λ i. on i && merged i)) in
-          IsThere (f.0, ap (λ x. find (λ (z : Used). z.x == x) (plan_for b.path req r c).used) (sym s.object) ∙ f.1, f.2 ∙ s.server) (record { said = s.said; there = s.there; path = s.path; object = s.object })
+          IsThere (f.0, ap (λ x. find (λ (z : Used). z.x == x) (plan_for b.path req r c).used) (sym s.object) ∙ f.1, f.2 ∙ s.server, f.3) (record { said = s.said; there = s.there; path = s.path; object = s.object })
       said s false unmerged_is =
           let w = unmerged u (uids_of (let h = k.head in h.path)) c.tree unmerged_is in
           let z = below.over childless w.0 (ap (λ us. is_on (behind u us) w.0) (sym its_path) ∙ w.1) in

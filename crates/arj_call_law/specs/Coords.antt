@@ -100,9 +100,9 @@ pub record IsOwn (sent : List Post) (c : Coord) (to : ℕ) (k : Call) : Type 0 w
   pub own : is_own (actor (let h = k.head in h.path)) c.tree ≡ true
   pub writing : writes k.op ≡ true
 
--- a list of what a plan uses has the object, at this server
+-- a list of what a plan uses has the object, called at this server
 abbrev pub IsUsed : List Used → ℕ → ℕ → Type 0
-IsUsed used x to = (u : Used) × (find (λ (u : Used). u.x == x) used ≡ Some u) × (u.server ≡ to)
+IsUsed used x to = (u : Used) × (find (λ (u : Used). u.x == x) used ≡ Some u) × (u.server ≡ to) × (u.called ≡ true)
 
 -- the root of a path was answered a call by it on the object
 pub record IsAnswered (c : Coord) (us : List Uid) (x : ℕ) : Type 0 where

@@ -1,5 +1,5 @@
 -- Who is behind an action on a path has it on its own.
-use Rattle.std.proofs.Common.{◌≡◌, ◌⊎◌, ◌+◌, ◌≤◌, ℕ, zero, suc, ◌||◌, Bool, true, false, List, [], ◌∷◌, ◌++◌, length, Option, Some, None, refl, sym, ◌∙◌, ap, inl, inr, ⊎_elim, arith, cond}
+use Rattle.std.proofs.Common.{◌≡◌, ◌⊎◌, ◌+◌, ◌≤◌, ℕ, zero, suc, ◌||◌, Bool, true, false, List, [], ◌∷◌, ◌++◌, length, Option, Some, None, refl, sym, ◌∙◌, ap, inl, inr, ⊎_elim, append-nil, append_assoc, arith, cond}
 use Rattle.arj_base.specs.Path.{before_last}
 use Rattle.arj_base.proofs.Uids.{uid_is}
 use Rattle.arj_protocol.specs.Words.{Uid, front, is_on, last_uid, uid_eq}
@@ -20,6 +20,11 @@ front_is (x ∷ []) is = absurd (cc is)
 front_is (x ∷ y ∷ []) is = (some_is refl is, refl)
 front_is (x ∷ y ∷ z ∷ us) is = let f = front_is (y ∷ z ∷ us) is in (f.0, omega (arith, f.1))
 
+-- a path with two actions has one before the last
+none_short : (x y : Uid) (us : List Uid) → before_last (x ∷ y ∷ us) ≡ None → ⊥
+none_short x y [] is = cc is
+none_short x y (z ∷ us) is = none_short y z us is
+
 none_behind : (us : List Uid) (u w : Uid) → before_last us ≡ None → is_on (behind u us) w ≡ true → ⊥
 none_behind [] u w none on = cc on
 none_behind (x ∷ []) u w none on = by (uid_eq x u) on
@@ -27,11 +32,7 @@ none_behind (x ∷ []) u w none on = by (uid_eq x u) on
     by : (b : Bool) → is_on (cond b [] []) w ≡ true → ⊥
     by true e = cc e
     by false e = cc e
-none_behind (x ∷ y ∷ us) u w none on = short x y us none
-  where
-    short : (x y : Uid) (us : List Uid) → before_last (x ∷ y ∷ us) ≡ None → ⊥
-    short x y [] is = cc is
-    short x y (z ∷ us) is = short y z us is
+none_behind (x ∷ y ∷ us) u w none on = none_short x y us none
 
 -- behind an action with one more at the end of the path
 behind_more : (us : List Uid) (u v w : Uid) → is_on (behind u (us ++ v ∷ [])) w ≡ true → (is_on us u ≡ true) × ((is_on (behind u us) w ≡ true) ⊎ (w ≡ v))
@@ -53,6 +54,39 @@ behind_more (x ∷ us) u v w on = by (uid_eq x u) (λ e. behind_more us u v w e)
 on_more : (us : List Uid) (v u : Uid) → is_on us u ≡ true → is_on (us ++ v ∷ []) u ≡ true
 on_more [] v u on = absurd (cc on)
 on_more (x ∷ us) v u on = ⊎_elim (λ here. or_left (uid_eq x u) (is_on (us ++ v ∷ []) u) here) (λ more. or_right (uid_eq x u) (is_on (us ++ v ∷ []) u) (on_more us v u more)) (or_cases (uid_eq x u) (is_on us u) on)
+
+-- a path that goes through an action begins with the action's
+pub leads : (paths : Paths) → IsTree paths → (u : Uid) (k : ℕ) (v : Uid) → length (paths v) ≤ k → last_uid (paths v) ≡ v → is_on (paths v) u ≡ true → (rest : List Uid) × (paths v ≡ paths u ++ rest)
+leads paths tree u zero v short last on = absurd (empty (paths v) short on)
+  where
+    empty : (us : List Uid) → length us ≤ 0 → is_on us u ≡ true → ⊥
+    empty [] le o = cc o
+    empty (x ∷ us) le o = absurd (omega (arith, le))
+leads paths tree u (suc k) v short last on = by (λ h. leads paths tree u k h) (before_last (paths v)) refl
+  where
+    here : v ≡ u → (rest : List Uid) × (paths v ≡ paths u ++ rest)
+    here same = ([], ap paths same ∙ sym (append-nil (paths u)))
+
+    one : (us : List Uid) → before_last us ≡ None → last_uid us ≡ v → is_on us u ≡ true → v ≡ u
+    one [] none end o = absurd (cc o)
+    one (x ∷ []) none end o = sym end ∙ uid_is x u (let z = or_cases (uid_eq x u) false o in ⊎_elim (λ y. y) (λ no. absurd (cc no)) z)
+    one (x ∷ y ∷ us) none end o = absurd (none_short x y us none)
+
+    split : (us : List Uid) → is_on (us ++ v ∷ []) u ≡ true → (is_on us u ≡ true) ⊎ (v ≡ u)
+    split [] o = inr (uid_is v u (let z = or_cases (uid_eq v u) false o in ⊎_elim (λ y. y) (λ no. absurd (cc no)) z))
+    split (x ∷ us) o = ⊎_elim (λ first. inl (or_left (uid_eq x u) (is_on us u) first)) (λ more. ⊎_elim (λ old. inl (or_right (uid_eq x u) (is_on us u) old)) (λ end. inr end) (split us more)) (or_cases (uid_eq x u) (is_on (us ++ v ∷ []) u) o)
+
+    by : ((h : Uid) → length (paths h) ≤ k → last_uid (paths h) ≡ h → is_on (paths h) u ≡ true → (rest : List Uid) × (paths h ≡ paths u ++ rest)) → (o : Option Uid) → before_last (paths v) ≡ o → (rest : List Uid) × (paths v ≡ paths u ++ rest)
+    by ih None is = here (one (paths v) is last on)
+    by ih (Some h) is =
+        let q = tree.heir v h is in
+        let f = front_is (paths v) is in
+        let whole : paths v ≡ front (paths v) ++ v ∷ [] = split_last (paths v) is ∙ ap (λ x. front (paths v) ++ x ∷ []) last in
+        ⊎_elim
+        (λ above.
+        let i = ih h (let n : length (paths h) + 1 ≡ length (paths v) = ap (λ us. length us + 1) (sym q.0) ∙ f.1 in omega (arith, n, short)) (ap last_uid (sym q.0) ∙ f.0) (ap (λ us. is_on us u) (sym q.0) ∙ above) in
+        (i.0 ++ v ∷ [], whole ∙ (ap (λ us. us ++ v ∷ []) (q.0 ∙ i.1) ∙ append_assoc (paths u) i.0 (v ∷ []))))
+        here (split (front (paths v)) (ap (λ us. is_on us u) (sym whole) ∙ on))
 
 pub behind_on : (paths : Paths) → IsTree paths → (u : Uid) (k : ℕ) (v : Uid) → length (paths v) ≤ k → last_uid (paths v) ≡ v → (w : Uid) → is_on (behind u (paths v)) w ≡ true → is_on (paths w) u ≡ true
 behind_on paths tree u zero v short last w on = absurd (empty (paths v) short on)

@@ -1,14 +1,17 @@
 -- What coordinators have of naming's answers, where one of them makes a step by which nothing but naming's memory changes.
-use Rattle.std.proofs.Common.{◌≡◌, ◌⊎◌, ◌≤◌, ◌<◌, ℕ, ◌==◌, if◌then◌else◌, false, List, ◌∷◌, Some, None, refl, sym, ◌∙◌, ap, subst, inl, inr, ⊎_elim, arith}
+use Rattle.std.proofs.Common.{◌≡◌, ◌⊎◌, ◌≤◌, ◌<◌, ℕ, ◌==◌, if◌then◌else◌, false, List, [], ◌∷◌, Some, None, refl, sym, ◌∙◌, ap, subst, inl, inr, ⊎_elim, arith}
+use Rattle.std.specs.Prelude.{⊤}
 use Rattle.std.specs.List.{AllByRecursion}
 use Rattle.arj_protocol.specs.Words.{Message, Uid, asks}
-use Rattle.arj_protocol.specs.Effect.{Disk, Effect, Send}
+use Rattle.arj_protocol.specs.Ask.{answers}
+use Rattle.arj_protocol.specs.Effect.{Disk, Do, Effect, Say, Send}
 use Rattle.arj_protocol.specs.Node.{Parts}
 use Rattle.arj_protocol.specs.Order.{uid_number}
 use Rattle.arj_protocol.specs.Step.{Node}
 use Rattle.arj_disk_law.specs.Names.{Office}
 use Rattle.arj_disk_law.proofs.Base.{some_is}
-use Rattle.arj_view_law.specs.Seen.{Post, Seen, up}
+use Rattle.arj_view_law.specs.Seen as seen
+use Rattle.arj_view_law.specs.Seen.{Post, Seen, posted, said, up}
 use Rattle.arj_view_law.specs.Walks.{Walks, Up, halted}
 use Rattle.arj_disk_view_law.specs.Sees.{IsFixed, Kinds}
 use Rattle.arj_disk_view_law.proofs.Frames.{node_cases, node_here}
@@ -16,12 +19,21 @@ use Rattle.arj_names_view_law.specs.Both.{OnlyMemory, SeesBoth}
 use Rattle.arj_names_view_law.specs.Handlers.{Quietly}
 use Rattle.arj_disk_law.specs.Named.{Named}
 use Rattle.arj_names_view_law.proofs.GrantClaims.{changes_are_after}
-use Rattle.arj_disk_run_law.specs.Heard.{HasNoneOf, SeesHeard, SeesHeardAt}
+use Rattle.arj_disk_run_law.specs.Heard.{ClaimsAsked, HasNoneOf, SeesHeard, SeesHeardAt}
 use Rattle.arj_disk_run_law.specs.Part.{HoldsFrom}
 use Rattle.arj_disk_run_law.proofs.HeardAll.{WasAt, heard_to, walk_fits}
 use Rattle.arj_disk_run_law.proofs.HeardPosts.{SaysHeard}
 use Rattle.arj_disk_run_law.proofs.HeardQuiet.{fixed_in, old_claims, sends_same}
 use Rattle.arj_disk_run_law.proofs.HeardStays.{IsNewTo, SendsMore, claim_stays, memory_goes, memory_stays, none_stays}
+
+-- a message that answers nothing, and claims what it says where both halves are seen once the node has this memory
+abbrev pub ClaimsThen : ℕ → Kinds → ℕ → Parts → Office → Message → Type 0
+ClaimsThen x tops k v A m = (answers m ≡ None) × ((c : Disk) (N : Seen) (B : Office) → OnlyMemory A B → SeesBoth x tops B (up k c v N) → ClaimsAsked x B (asks m))
+
+abbrev pub SaysThen : ℕ → Kinds → ℕ → Parts → Office → Effect → Type 0
+SaysThen x tops k v A (Do w) = ⊥
+SaysThen x tops k v A (Say b) = ⊤
+SaysThen x tops k v A (Send to m) = ClaimsThen x tops k v A m
 
 module _ (x : ℕ) (tops : Kinds) (k : ℕ) (d : Disk) (t : Parts) (M : Seen) (A : Office) (both : SeesBoth x tops A (up k d t M)) (p : SeesHeard x tops A (up k d t M)) where
   abbrev Here : Node
@@ -80,20 +92,46 @@ module _ (x : ℕ) (tops : Kinds) (k : ℕ) (d : Disk) (t : Parts) (M : Seen) (A
       (λ (z : ((j == k) ≡ false) × (N.nodes j ≡ Some n)). inr (z.0, ap (λ q. q j) (sym same) ∙ z.1)) (node_cases N k (record { number = k; disk = c; live = None }) j n there)) node alone low)
 
   module _ (v : Parts) (after : (N : Seen) (B : Office) → OnlyMemory A B → IsFixed tops B.world.disk → SendsMore x B M.sent N.sent → SeesHeardAt x k tops N.sent v.coord B) where
-    end_at : (c : Disk) (N : Seen) → N.nodes ≡ M.nodes → Fits c N.sent → HoldsFrom (SeesHeard x) x tops Quietly A (up k c v N)
-    end_at c N same fits B only now =
+    end_by : (c : Disk) (N : Seen) (B : Office) → N.nodes ≡ M.nodes → d.inc ≤ c.inc → OnlyMemory A B → (now : SeesBoth x tops B (up k c v N)) → SendsMore x B M.sent N.sent → SeesHeard x tops B (up k c v N)
+    end_by c N B same high only now more =
         let h = fixed_in x tops B (up k c v N) now in
-        heard_to x tops A B (up k d t M) (up k c v N) f h (memory_goes A B only) p (sends_on B (up k c v N) only h now.named M.sent N.sent fits.1) (old_claims x tops A B (up k d t M) f h both.named now.named only p)
+        heard_to x tops A B (up k d t M) (up k c v N) f h (memory_goes A B only) p more (old_claims x tops A B (up k d t M) f h both.named now.named only p)
         (λ j n s there live. ⊎_elim
         (λ (z : (j ≡ k) × (record { number = k; disk = c; live = Some v } ≡ n)). inr (subst (λ i. SeesHeardAt x i tops N.sent s.coord B) (sym z.0) (subst (λ (y : Parts). SeesHeardAt x k tops N.sent y.coord B) (some_is {A = Parts} refl (ap (λ (y : Node). y.live) z.1 ∙ live))
-        (after N B only h (sends_on B (up k c v N) only h now.named M.sent N.sent fits.1)))))
+        (after N B only h more))))
         (λ (z : ((j == k) ≡ false) × (N.nodes j ≡ Some n)). inl (other_at B (up k c v N) only h j n s z.0 (ap (λ q. q j) (sym same) ∙ z.1) live))
         (node_cases N k (record { number = k; disk = c; live = Some v }) j n there))
-        (λ j n u there node alone low. none_at B (up k c v N) only h c.inc j n u fits.0 (⊎_elim
+        (λ j n u there node alone low. none_at B (up k c v N) only h c.inc j n u high (⊎_elim
         (λ (z : (j ≡ k) × (record { number = k; disk = c; live = Some v } ≡ n)). inl (z.0, ap (λ (y : Node). y.disk.inc) (sym z.1)))
         (λ (z : ((j == k) ≡ false) × (N.nodes j ≡ Some n)). inr (z.0, ap (λ q. q j) (sym same) ∙ z.1)) (node_cases N k (record { number = k; disk = c; live = Some v }) j n there)) node alone low)
+
+    end_at : (c : Disk) (N : Seen) → N.nodes ≡ M.nodes → Fits c N.sent → HoldsFrom (SeesHeard x) x tops Quietly A (up k c v N)
+    end_at c N same fits B only now = end_by c N B same fits.0 only now (sends_on B (up k c v N) only (fixed_in x tops B (up k c v N) now) now.named M.sent N.sent fits.1)
 
     -- the step keeps the relation, where what it leaves of the coordinator is seen, and what it sends claims what it says
     pub quiet_step : (e : ℕ) (outs : List Effect) (L : Seen) → L.nodes ≡ M.nodes → L.sent ≡ M.sent → AllByRecursion (SaysHeard x d.inc A) outs → Walks (HoldsFrom (SeesHeard x) x tops Quietly A) e k outs (Up (HoldsFrom (SeesHeard x) x tops Quietly A) k v) d L
     quiet_step e outs L nodes sent all = walk_fits (HoldsFrom (SeesHeard x) x tops Quietly A) (Up (HoldsFrom (SeesHeard x) x tops Quietly A) k v) e k M.nodes Fits (SaysHeard x d.inc A)
         (λ w rises c s fits. let r = rises c fits.0 in ((λ how. (r.0 how, fits.1)), (r.1, fits.1))) sends_one (stop_at e) end_at outs all d L nodes (omega arith, subst (SendsMore x A M.sent) (sym sent) (sends_same x A M.sent))
+
+    -- ---- where nothing is done on the disk
+
+    -- what was sent, and what claims at the end what it says
+    record Sends (s : List Post) : Type 0 where
+      within : (q : Post) → seen.In q M.sent → seen.In q s
+      new : (q : Post) → seen.In q s → seen.In q M.sent ⊎ ClaimsThen x tops k v A q.message
+
+    sent_then : (N : Seen) → N.nodes ≡ M.nodes → Sends N.sent → HoldsFrom (SeesHeard x) x tops Quietly A (up k d v N)
+    sent_then N same s B only now = end_by d N B same (omega arith) only now (record { within = s.within; new = λ q i. ⊎_elim (λ o. inl o) (λ (c : ClaimsThen x tops k v A q.message). inr (record { none = c.0; claims = c.1 d N B only now })) (s.new q i) })
+
+    -- the step keeps the relation, where what it sends claims what it says once the step is done
+    pub quiet_sends : (e : ℕ) (outs : List Effect) (L : Seen) → L.nodes ≡ M.nodes → L.sent ≡ M.sent → AllByRecursion (λ f. SaysThen x tops k v A f) outs → Walks (HoldsFrom (SeesHeard x) x tops Quietly A) e k outs (Up (HoldsFrom (SeesHeard x) x tops Quietly A) k v) d L
+    quiet_sends e outs L nodes sent all = walk outs all L nodes (subst Sends (sym sent) (record { within = λ q i. i; new = λ q i. inl i }))
+      where
+        walk : (es : List Effect) → AllByRecursion (λ f. SaysThen x tops k v A f) es → (L : Seen) → L.nodes ≡ M.nodes → Sends L.sent → Walks (HoldsFrom (SeesHeard x) x tops Quietly A) e k es (Up (HoldsFrom (SeesHeard x) x tops Quietly A) k v) d L
+        walk [] all L same s = sent_then L same s
+        walk (Do w ∷ es) all L same s = absurd all.0
+        walk (Say b ∷ es) all L same s = walk es all.1 (said e (b ∷ []) L) same s
+        walk (Send to m ∷ es) all L same s = λ more quiet. walk es all.1 (said e more (posted (record { from = k; to = to; message = m }) L)) same (record {
+          within = λ q i. inr (s.within q i);
+          new = λ q i. ⊎_elim (λ mine. inr (subst (λ (z : Post). ClaimsThen x tops k v A z.message) mine all.0)) (λ o. s.new q o) i;
+        })

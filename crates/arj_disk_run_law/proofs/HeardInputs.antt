@@ -1,31 +1,32 @@
--- What coordinators have of naming's answers is kept by inputs about actions: calls and includes that begin, aborts, ends of actions
--- that are no tops, and giveups but for those of a Prepare.
+-- What coordinators have of naming's answers is kept by inputs about actions: calls and includes that begin, commits, aborts and giveups.
 use Rattle.std.proofs.Common.{◌≡◌, ◌≢◌, ◌⊎◌, ◌+◌, ℕ, ◌&&◌, ◌||◌, if◌then◌else◌, Bool, true, false, not, List, [], ◌∷◌, ◌++◌, Option, Some, None, refl, sym, ◌∙◌, ap, subst, inl, inr, ⊎_elim, arith, is_some, slice_get, suc}
 use Rattle.std.specs.Prelude.{Contains, unwrap_or}
 use Rattle.std.specs.List.{AllByRecursion}
-use Rattle.std.proofs.lemmas.Bool.{and_parts}
+use Rattle.std.proofs.lemmas.Bool.{and_parts, or_parts}
 use Rattle.arj_protocol.specs.Words.{Binding, Op, Path, Uid, End, Cause, Kind}
 use Rattle.arj_protocol.specs.Ask.{Reply, actor, top_of}
-use Rattle.arj_protocol.specs.Asking.{call, call_steps, commit_action, commit_open, gaveup_lines, give_up, give_up_doing, gives_up, goes_on, include, known_at_start, last_req, next_req, renewed}
+use Rattle.arj_protocol.specs.Asking.{call, call_steps, commit_action, commit_open, commit_top, gaveup_lines, give_up, give_up_doing, gives_up, goes_on, include, known_at_start, last_req, next_req, renewed}
 use Rattle.arj_protocol.specs.Call.{Goal, Include, Known, Run, Steps, next_ask, next_node, start}
 use Rattle.arj_protocol.specs.Coord.{Calling, Committing, Coord, Doing, Keeping, Root, Went, doing_of, is_free, keeping_of, kept_of, no_root, on_doing, on_root, root_at, with_keeping, Idle, Now}
 use Rattle.arj_protocol.specs.Effect.{Did, Disk, Effect}
 use Rattle.arj_protocol.specs.Node.{Parts, with_coord}
 use Rattle.arj_protocol.specs.Order.{at_number, put_number, unbound, uid_number}
 use Rattle.arj_protocol.specs.Words.{Header}
-use Rattle.arj_protocol.specs.Step.{Input, acts, branch_named, call_reasons, class_at, lacks_op, include_reasons, on_branch, refusal_up, refused_by, abort_reasons, waits_above, waits_below, commit_reasons, sibling_waits, giveup_reasons, waits}
+use Rattle.arj_protocol.specs.Step.{Input, acts, branch_named, call_reasons, class_at, first_reason, lacks_op, include_reasons, on_branch, refusal_up, refused_by, abort_reasons, waits_above, waits_below, commit_reasons, sibling_waits, giveup_reasons, waits}
 use Rattle.arj_protocol.specs.Step as input
 use Rattle.arj_protocol.specs.Coord.{number_of}
 use Rattle.arj_view_law.specs.Keeps.{is_act}
-use Rattle.arj_disk_view_law.proofs.WholeWalks.{placed, no_reason}
-use Rattle.arj_disk_run_law.specs.Rest.{IsHeardAt, KeepsHeard, commits_on, gives_of, gives_on, goes_past, is_top_kind}
+use Rattle.arj_disk_view_law.proofs.WholeWalks.{no_reason, placed, waits_not}
+use Rattle.arj_disk_run_law.proofs.FirstCommits.{input_first}
+use Rattle.arj_disk_run_law.proofs.HeardTops.{heard_commit, heard_give_prepare}
 use Rattle.arj_protocol.specs.Tree.{Branch, ends_of, root_of, uses_object, branch_of, is_committed, ended_so, is_open_below, has_end, at_place, is_below, open_below, has_many_objects, has_open_child, is_constituent, is_serial}
 use Rattle.arj_run_law.specs.Worlds.{IsGood}
 use Rattle.arj_call_law.specs.Runs.{KnowsFew}
 use Rattle.arj_disk_law.specs.Names.{Names, Office}
 use Rattle.arj_disk_law.proofs.Base.{never, test_same}
 use Rattle.arj_view_law.specs.Seen.{Post, Seen, up}
-use Rattle.arj_disk_view_law.specs.Coordinating.{KnowsNode}
+use Rattle.arj_disk_view_law.specs.Coordinating.{IsBefore, KnowsNode}
+use Rattle.arj_disk_view_law.specs.Knows.{IsOfKind}
 use Rattle.arj_disk_view_law.specs.Sees.{Kinds}
 use Rattle.arj_names_view_law.specs.Both.{SeesBoth}
 use Rattle.arj_names_view_law.specs.Handlers.{MayGoOn, Quietly}
@@ -205,21 +206,18 @@ module _ (x : ℕ) (tops : Kinds) (e k : ℕ) (d : Disk) (t : Parts) (M : Seen) 
       Q : Effect → Type 0
       Q f = SaysHeard x d.inc A f
 
-  -- where nothing waits there is nothing to give up, a call is given up, and in a vote or at naming it is the action's abort
-  heard_gives : (u : Uid) (b : Branch) → branch_of u t.coord.tree ≡ Some b → b.ended ≡ None → (gives_on (doing_of u t.coord) ≡ true → Heard_by (give_up u d.intents t.coord)) → Heard_by (give_up u d.intents t.coord)
-  heard_gives u b found unended other = by (doing_of u t.coord) refl
+  -- where nothing waits there is nothing to give up, a call is given up, a Prepare goes on, and in a vote or at naming it is the action's abort
+  heard_gives : (u : Uid) (b : Branch) → branch_of u t.coord.tree ≡ Some b → b.ended ≡ None → Heard_by (give_up u d.intents t.coord)
+  heard_gives u b found unended = by (doing_of u t.coord) refl
     where
       none : Heard_by (record { part = t.coord; outs = [] })
       none = acts_fewer (record { part = t.coord; outs = [] }) (fewer_none t.coord) tt
-
-      past : (q : Doing) (now : Now) → doing_of u t.coord ≡ Some q → q.now ≡ now → goes_past now ≡ true → Heard_by (gives_up u d.intents t.coord now)
-      past q now does is on = subst (λ n. Heard_by (gives_up u d.intents t.coord n)) is (subst (λ o. Heard_by (give_up_doing u d.intents t.coord o)) does (other (ap gives_on does ∙ (ap goes_past is ∙ on))))
 
       by_now : (q : Doing) (now : Now) → doing_of u t.coord ≡ Some q → q.now ≡ now → Heard_by (gives_up u d.intents t.coord now)
       by_now q Idle does is = none
       by_now q (Calling s) does is = heard_give_call x tops e k d t M A good few knows both h u q s does is
       by_now q (Committing (Voting p left)) does is = heard_aborted u (cause.Lost (first_of left)) b (first_of left ∷ []) found unended
-      by_now q (Committing (Preparing p left)) does is = past q (Committing (Preparing p left)) does is refl
+      by_now q (Committing (Preparing p left)) does is = heard_give_prepare x tops e k d t M A good few knows both h u q p left does is
       by_now q (Committing (Confirming p)) does is = heard_aborted u (cause.Lost 1) b (1 ∷ []) found unended
 
       by : (o : Option Doing) → doing_of u t.coord ≡ o → Heard_by (give_up u d.intents t.coord)
@@ -227,8 +225,8 @@ module _ (x : ℕ) (tops : Kinds) (e k : ℕ) (d : Disk) (t : Parts) (M : Seen) 
       by (Some q) is = subst (λ o. Heard_by (give_up_doing u d.intents t.coord o)) (sym is) (by_now q q.now is refl)
 
   -- it begins, of the action of a label
-  pub heard_starts : (hd : Header) (R : Seen → Type 0) → KeepsHeard hd x R → IsHeardAt x R tops A (k, d, t) M → (i : Input) → is_act i ≡ true → refusal_up hd i t.coord ≡ None → Heard_by (acts i d.intents t.coord)
-  heard_starts hd R rest at (input.Call l y op) act free = by (branch_named l t.coord) refl free
+  pub heard_starts : (hd : Header) (i : Input) → is_act i ≡ true → refusal_up hd i t.coord ≡ None → Heard_by (acts i d.intents t.coord)
+  heard_starts hd (input.Call l y op) act free = by (branch_named l t.coord) refl free
     where
       by : (o : Option Branch) → branch_named l t.coord ≡ o → refused_by (call_reasons hd y op) t.coord o ≡ None → Heard_by (on_branch (λ b. call b.path y op t.coord) t.coord o)
       by None is none = absurd (cc none)
@@ -239,19 +237,28 @@ module _ (x : ℕ) (tops : Kinds) (e k : ℕ) (d : Disk) (t : Parts) (M : Seen) 
           let two = no_reason 7 (waits_above b t.coord || waits_below b t.coord) ((11, is_serial b.kind) ∷ (12, b.doomed) ∷ (13, not (is_some (class_at y hd))) ∷ (14, lacks_op op (class_at y hd)) ∷ (16, has_many_objects b y t.coord.tree) ∷ []) one.1 in
           let three = no_reason 11 (is_serial b.kind) ((12, b.doomed) ∷ (13, not (is_some (class_at y hd))) ∷ (14, lacks_op op (class_at y hd)) ∷ (16, has_many_objects b y t.coord.tree) ∷ []) two.1 in
           heard_call b y op w.0 there one.0 three.0 w.1
-  heard_starts hd R rest at (input.Include l y s) act free = by (branch_named l t.coord) refl free
+  heard_starts hd (input.Include l y s) act free = by (branch_named l t.coord) refl free
     where
       by : (o : Option Branch) → branch_named l t.coord ≡ o → refused_by (include_reasons hd y) t.coord o ≡ None → Heard_by (on_branch (λ b. include b.path y s t.coord) t.coord o)
       by None is none = absurd (cc none)
       by (Some b) is none = let w = (let c = knows.coord in c.at_work (actor b.path) b (placed hd x tops e k d t M knows.kinds knows.coord A.world both.disks (number_of l t.coord) b is)) in heard_include b.path y s w.0 w.1
-  heard_starts hd R rest at (input.Commit l) act free = by (branch_named l t.coord) refl free
+  heard_starts hd (input.Commit l) act free = by (branch_named l t.coord) refl free
     where
       by : (o : Option Branch) → branch_named l t.coord ≡ o → refused_by commit_reasons t.coord o ≡ None → Heard_by (on_branch (λ b. commit_action b d.intents t.coord) t.coord o)
       by None is none = absurd (cc none)
       by (Some b) is none = doomed b.doomed refl
         where
+          six : (is_some b.ended ≡ false) × (first_reason ((7, waits_above b t.coord || waits_below b t.coord || sibling_waits b t.coord) ∷ (9, has_open_child (actor b.path) t.coord.tree) ∷ []) ≡ None)
+          six = no_reason 6 (is_some b.ended) ((7, waits_above b t.coord || waits_below b t.coord || sibling_waits b t.coord) ∷ (9, has_open_child (actor b.path) t.coord.tree) ∷ []) none
+
           one : is_some b.ended ≡ false
-          one = (no_reason 6 (is_some b.ended) ((7, waits_above b t.coord || waits_below b t.coord || sibling_waits b t.coord) ∷ (9, has_open_child (actor b.path) t.coord.tree) ∷ []) none).0
+          one = six.0
+
+          -- nobody above waits
+          above : waits_above b t.coord ≡ false
+          above =
+              let two = no_reason 7 (waits_above b t.coord || waits_below b t.coord || sibling_waits b t.coord) ((9, has_open_child (actor b.path) t.coord.tree) ∷ []) six.1 in
+              (or_parts (waits_above b t.coord) (waits_below b t.coord) (or_parts (waits_above b t.coord || waits_below b t.coord) (sibling_waits b t.coord) two.0).0).0
 
           doomed : (z : Bool) → b.doomed ≡ z → Heard_by (commit_action b d.intents t.coord)
           doomed true on = subst (λ y. Heard_by (if y then aborts_with (actor b.path) cause.Doomed d.intents t.coord else commit_open b d.intents t.coord b.kind)) (sym on)
@@ -261,34 +268,41 @@ module _ (x : ℕ) (tops : Kinds) (e k : ℕ) (d : Disk) (t : Parts) (M : Seen) 
               there : branch_of (actor b.path) t.coord.tree ≡ Some b
               there = placed hd x tops e k d t M knows.kinds knows.coord A.world both.disks (number_of l t.coord) b is
 
-              top : is_top_kind b.kind ≡ true → Heard_by (commit_open b d.intents t.coord b.kind)
-              top on = subst (λ y. Heard_by (if y then aborts_with (actor b.path) cause.Doomed d.intents t.coord else commit_open b d.intents t.coord b.kind)) off
-                  (subst (λ o. Heard_by (on_branch (λ y. commit_action y d.intents t.coord) t.coord o)) is (rest.act tops e k d t (input.Commit l) M A at (ap commits_on is ∙ (ap (λ z. not z && is_top_kind b.kind) off ∙ on)) free))
+              starts : tops.is_top (uid_number (actor b.path)) ≡ true → b.kind ≢ kind.Nested → b.kind ≢ kind.Serial → Heard_by (commit_top b.path d.intents t.coord)
+              starts top unnested unserial =
+                  let w = (let c = knows.coord in c.at_work (actor b.path) b there) in
+                  heard_commit x tops e k d t M A good few knows both h b there (none_so b.ended one) top w.0 w.1
+                  (subst IsBefore (sym (waits_not hd x tops e k d t M knows.kinds knows.coord A.world both.disks b w.0 there w.1 above)) tt) (input_first good.0 k d t M good.1 hd (input.Commit l) free b is unnested unserial)
+
+              its_kind : IsOfKind tops (actor b.path) b.kind b.path
+              its_kind = let c = knows.coord in c.kind (actor b.path) b there
 
               of_kind : (z : Kind) → b.kind ≡ z → Heard_by (commit_open b d.intents t.coord b.kind)
               of_kind kind.Nested at_kind = subst (λ y. Heard_by (commit_open b d.intents t.coord y)) (sym at_kind) (heard_ends x tops e k d t M A good few knows both h (actor b.path) b body.Committed there (none_so b.ended one) (ap is_constituent at_kind))
               of_kind kind.Serial at_kind = subst (λ y. Heard_by (commit_open b d.intents t.coord y)) (sym at_kind) (heard_ends x tops e k d t M A good few knows both h (actor b.path) b body.Ended there (none_so b.ended one) (ap is_constituent at_kind))
-              of_kind kind.Top at_kind = top (ap is_top_kind at_kind)
-              of_kind kind.Independent at_kind = top (ap is_top_kind at_kind)
-              of_kind kind.Constituent at_kind = top (ap is_top_kind at_kind)
-  heard_starts hd R rest at (input.Abort l) act free = by (branch_named l t.coord) refl free
+              of_kind kind.Top at_kind = subst (λ y. Heard_by (commit_open b d.intents t.coord y)) (sym at_kind)
+                  (starts (subst (λ y. IsOfKind tops (actor b.path) y b.path) at_kind its_kind).0 (λ same. let n : kind.Top ≡ kind.Nested = sym at_kind ∙ same in cc n) (λ same. let n : kind.Top ≡ kind.Serial = sym at_kind ∙ same in cc n))
+              of_kind kind.Independent at_kind = subst (λ y. Heard_by (commit_open b d.intents t.coord y)) (sym at_kind)
+                  (starts (subst (λ y. IsOfKind tops (actor b.path) y b.path) at_kind its_kind).0 (λ same. let n : kind.Independent ≡ kind.Nested = sym at_kind ∙ same in cc n) (λ same. let n : kind.Independent ≡ kind.Serial = sym at_kind ∙ same in cc n))
+              of_kind kind.Constituent at_kind = subst (λ y. Heard_by (commit_open b d.intents t.coord y)) (sym at_kind)
+                  (starts (subst (λ y. IsOfKind tops (actor b.path) y b.path) at_kind its_kind).0 (λ same. let n : kind.Constituent ≡ kind.Nested = sym at_kind ∙ same in cc n) (λ same. let n : kind.Constituent ≡ kind.Serial = sym at_kind ∙ same in cc n))
+  heard_starts hd (input.Abort l) act free = by (branch_named l t.coord) refl free
     where
       by : (o : Option Branch) → branch_named l t.coord ≡ o → refused_by abort_reasons t.coord o ≡ None → Heard_by (on_branch (λ b. abort_action (actor b.path) d.intents t.coord) t.coord o)
       by None is none = absurd (cc none)
       by (Some b) is none =
           let one = no_reason 6 (is_some b.ended) ((7, waits_above b t.coord || waits_below b t.coord) ∷ []) none in
           heard_abort (actor b.path) b (placed hd x tops e k d t M knows.kinds knows.coord A.world both.disks (number_of l t.coord) b is) (none_so b.ended one.0)
-  heard_starts hd R rest at (input.GiveUp l) act free = by (branch_named l t.coord) refl free
+  heard_starts hd (input.GiveUp l) act free = by (branch_named l t.coord) refl free
     where
       by : (o : Option Branch) → branch_named l t.coord ≡ o → refused_by giveup_reasons t.coord o ≡ None → Heard_by (on_branch (λ b. give_up (actor b.path) d.intents t.coord) t.coord o)
       by None is none = absurd (cc none)
       by (Some b) is none =
           let one = no_reason 6 (is_some b.ended) ((8, not (waits t.coord (actor b.path))) ∷ []) none in
           heard_gives (actor b.path) b (placed hd x tops e k d t M knows.kinds knows.coord A.world both.disks (number_of l t.coord) b is) (none_so b.ended one.0)
-          (λ on. subst (λ o. Heard_by (on_branch (λ y. give_up (actor y.path) d.intents t.coord) t.coord o)) is (rest.act tops e k d t (input.GiveUp l) M A at (ap (gives_of t.coord) is ∙ on) free))
-  heard_starts hd R rest at (input.Begin l how parent) act free = absurd (cc act)
-  heard_starts hd R rest at (input.Frame n from m) act free = absurd (cc act)
-  heard_starts hd R rest at input.Tick act free = absurd (cc act)
-  heard_starts hd R rest at input.Restart act free = absurd (cc act)
-  heard_starts hd R rest at input.Crash act free = absurd (cc act)
-  heard_starts hd R rest at (input.Show y) act free = absurd (cc act)
+  heard_starts hd (input.Begin l how parent) act free = absurd (cc act)
+  heard_starts hd (input.Frame n from m) act free = absurd (cc act)
+  heard_starts hd input.Tick act free = absurd (cc act)
+  heard_starts hd input.Restart act free = absurd (cc act)
+  heard_starts hd input.Crash act free = absurd (cc act)
+  heard_starts hd (input.Show y) act free = absurd (cc act)

@@ -24,7 +24,7 @@ heard_kept hd x R T good less has rest = record {
   stop = λ tops e k d live M A walk r both p B only now. heard_stop x tops e k d live M A B (let s = both.disks in s.fixed) (let s = now.disks in s.fixed) both.named now.named only p;
   message = λ tops e k d t v from m outs M A walk knows r sent meant is of both p. heard_message hd x T good rest tops e k d t v from m outs M A (record { unwalked = walk; knows = knows; run = (less _ r).0; both = both; heard = p })
       (λ n named. (less _ r).1 k (record { number = k; disk = d; live = Some t }) t n (node_here M k (record { number = k; disk = d; live = Some t })) refl named) sent meant is;
-  act = λ tops e k d t i M A walk knows r is free both p. heard_starts x tops e k d t M A (good _ (less _ r).0).0 (good _ (less _ r).0).1 knows both p hd T rest (record { unwalked = walk; knows = knows; run = (less _ r).0; both = both; heard = p }) i is free;
+  act = λ tops e k d t i M A walk knows r is free both p. heard_starts x tops e k d t M A (good _ (less _ r).0).0 (good _ (less _ r).0).1 knows both p hd i is free;
   begin = λ tops e k d t l how parent M A walk knows r new may free kind both p. heard_begin x tops e k d t l how parent M A both p;
   tick = λ tops e k d t M A walk knows r both p. heard_tick x tops e k d t M A knows both p;
   restart = λ tops e k d M A walk r both p. heard_restart x tops k d M A (good _ (less _ r).0).0 both p hd e;

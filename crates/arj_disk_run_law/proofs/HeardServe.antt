@@ -2,7 +2,7 @@
 use Rattle.std.proofs.Common.{◌≡◌, ◌⊎◌, ◌≤◌, ◌<◌, ℕ, ◌==◌, if◌then◌else◌, false, List, [], ◌∷◌, ◌++◌, Option, Some, None, refl, sym, ◌∙◌, ap, subst, inl, inr, ⊎_elim, arith, is_some, true, length}
 use Rattle.std.specs.List.{AllByRecursion}
 use Rattle.arj_lock.proofs.Members as list
-use Rattle.arj_protocol.specs.Words.{Ask, Asked, Head, Message, Uid, asks, is_on, last_uid}
+use Rattle.arj_protocol.specs.Words.{Ask, Asked, Head, Message, Uid, asks, is_on, last_uid, uids_of}
 use Rattle.arj_protocol.specs.Ask.{Reply, actor, answers, ask_kind, asked_by, reply_kind, response}
 use Rattle.arj_protocol.specs.Call.{Steps}
 use Rattle.arj_protocol.specs.Coord.{Calling, Doing, doing_of, Said, root_at}
@@ -34,7 +34,7 @@ use Rattle.arj_disk_law.specs.Named.{Named}
 use Rattle.arj_names_view_law.proofs.GrantClaims.{changes_are_after}
 use Rattle.arj_disk_run_law.specs.Heard.{ClaimsAsked, HasNoneOf, IsAskedFor, IsToStep, SeesHeard, SeesHeardAt}
 use Rattle.arj_disk_run_law.specs.Part.{HoldsFrom}
-use Rattle.arj_disk_run_law.proofs.HeardBehind.{behind_on}
+use Rattle.arj_disk_run_law.proofs.HeardBehind.{behind_on, leads}
 use Rattle.arj_disk_run_law.proofs.HeardAll.{WasAt, asked_on, heard_goes, walk_fits}
 use Rattle.arj_disk_run_law.proofs.HeardLike.{IsLike, at_like}
 use Rattle.arj_disk_run_law.proofs.HeardPosts.{SaysHeard, all_join}
@@ -68,6 +68,13 @@ module _ (M : Seen) (good : IsGood M) (few : KnowsFew M) (j : ℕ) (n : Node) (t
 
   pub number_of_step : (u : Uid) (q : Doing) (s : Steps) → doing_of u t.coord ≡ Some q → q.now ≡ Calling s → s.req ≡ q.req
   number_of_step u q s does now = subst (IsNumbered q.req) now (mine.numbered u q does)
+
+  -- a path of an answered call that goes through an action begins with the action's
+  pub path_leads : (u : Uid) (b : Branch) (root : Uid) (z : Said) → branch_of u t.coord.tree ≡ Some b → list.In z (let r = root_at root t.coord in r.said) → is_on z.path u ≡ true → (rest : List Uid) × (z.path ≡ uids_of b.path ++ rest)
+  path_leads u b root z found i on =
+      let path = calls.said root z i in
+      let q = leads (paths_of acts) (begun_tree acts world.begun) u (length (paths_of acts (last_uid z.path))) (last_uid z.path) (omega arith) (ap last_uid (sym path)) (ap (λ us. is_on us u) (sym path) ∙ on) in
+      (q.0, path ∙ (q.1 ∙ ap (λ us. us ++ q.0) (sym (coord.tree.lists.paths_are u b found))))
 
   -- an open action isn't behind one that has ended, on a path of an answered call
   pub not_behind : (u v : Uid) (b y : Branch) (root : Uid) (z : Said) → branch_of u t.coord.tree ≡ Some b → b.ended ≡ None → branch_of v t.coord.tree ≡ Some y → is_some y.ended ≡ true → list.In z (let r = root_at root t.coord in r.said) → is_on (behind v z.path) u ≡ true → ⊥

@@ -128,6 +128,7 @@ module _ (x : ℕ) (tops : Kinds) (A B : Office) (f : IsFixed tops A.world.disk)
     plan_stays m q = record {
       top = q.top;
       grants = λ w i at had. q.grants w i at (was_had i had);
+      changed = q.changed;
       list = λ w votes at called. list_stays w.stores (q.list w votes at called);
       loaded = λ w st votes at is. let l = q.loaded w st votes at is in let d = l.load in record {
         state = l.state;

@@ -2,7 +2,7 @@
 use Rattle.std.proofs.Common.{◌≡◌, ◌≤◌, ℕ, zero, suc, ◌==◌, ◌&&◌, if◌then◌else◌, Bool, true, false, List, [], ◌∷◌, ◌++◌, Option, Some, None, refl, sym, ◌∙◌, ap, subst, inl, inr, ⊎_elim, map, cond}
 use Rattle.std.specs.Prelude.{is_some, unwrap_or}
 use Rattle.std.specs.List.{AllByRecursion, list_any}
-use Rattle.arj_protocol.specs.Words.{Ask, End, Head, Kind, Label, Path, Uid, request, uids_of}
+use Rattle.arj_protocol.specs.Words.{Ask, End, Head, Kind, Label, Message, Path, Uid, asks, request, uids_of}
 use Rattle.arj_protocol.specs.Words.ask
 use Rattle.arj_protocol.specs.Ask.{answers, top_of}
 use Rattle.arj_protocol.specs.Asking.{again_all, again_now, asks_all, asks_machine, asks_node, begin_action, is_invoke_ask}
@@ -10,7 +10,7 @@ use Rattle.arj_protocol.specs.Call.{At, AtActivate, AtBind, AtInvoke, AtLoad, At
 use Rattle.arj_protocol.specs.Commit as commit
 use Rattle.arj_protocol.specs.Commit.{Confirming, Machine, Preparing, Used, Voting, ask_of, left_of, plan_of, waiting}
 use Rattle.arj_protocol.specs.Coord.{Calling, Committing, Coord, Doing, Idle, Now, Root, Went, doing_of, no_root, on_root, root_at, same_went, with_went}
-use Rattle.arj_protocol.specs.Effect.{Disk, Effect}
+use Rattle.arj_protocol.specs.Effect.{Disk, Effect, Send}
 use Rattle.arj_protocol.specs.Follow.{tick_outs}
 use Rattle.arj_protocol.specs.Node.{Parts, holders, query_about, with_coord}
 use Rattle.arj_protocol.specs.Order.{at_number, put_number, uid_number}
@@ -60,10 +60,10 @@ heard_begin x tops e k d t l how parent M A both p =
 -- ---- requests that are sent again
 
 -- the same coordinator, but for the nodes to which something went
-record IsSame (c e : Coord) : Type 0 where
-  tree : e.tree ≡ c.tree
-  works : (u : Uid) → doing_of u e ≡ doing_of u c
-  roots : (u : Uid) → (w : List Went) × (root_at u e ≡ went_to w (root_at u c))
+pub record IsSame (c e : Coord) : Type 0 where
+  pub tree : e.tree ≡ c.tree
+  pub works : (u : Uid) → doing_of u e ≡ doing_of u c
+  pub roots : (u : Uid) → (w : List Went) × (root_at u e ≡ went_to w (root_at u c))
 
 same_like : (c e : Coord) → IsSame c e → IsLike c e
 same_like c e s = record {
@@ -95,7 +95,7 @@ went_same root w c = record { tree = refl; works = λ u. refl; roots = roots }
         ))
         (λ apart. ((root_at u c).went, ap (λ z. unwrap_or z no_root) (put_number_other root.num u.num (with_went w (root_at root c)) c.roots apart.0))) (one_or_two root.num u.num)
 
-asked_same : (p : Path) (req : ℕ) (requests : List (ℕ × Ask)) (c : Coord) → IsSame c (asks_all p req requests c).part
+pub asked_same : (p : Path) (req : ℕ) (requests : List (ℕ × Ask)) (c : Coord) → IsSame c (asks_all p req requests c).part
 asked_same p req [] c = same_itself c
 asked_same p req (a ∷ more) c =
     let d = asks_node p req a c in
@@ -123,13 +123,36 @@ request_asks h (ask.Vote i ties ends) = refl
 request_asks h (ask.Prepare states) = refl
 request_asks h (ask.Confirm grants ex inc) = refl
 
+-- requests say what they claim, whatever is said of a message that is sent
+module _ (Q : Effect → Type 0) (C : Option (Head × Ask) → Type 0) (sends : (to : ℕ) (m : Message) → answers m ≡ None → C (asks m) → Q (Send to m)) where
+  request_by : (p : Path) (req : ℕ) (a : ℕ × Ask) (c : Coord) → C (Some (record { path = p; req = req }, a.1)) → AllByRecursion Q (let d = asks_node p req a c in d.outs)
+  request_by p req a c claims = let h : Head = record { path = p; req = req } in (sends a.0 (request h a.1) (request_asks h a.1) (subst C (sym (request_reads_back h a.1)) claims), tt)
+
+  all_by : (p : Path) (req : ℕ) (requests : List (ℕ × Ask)) (c : Coord) → ((a : ℕ × Ask) → list.In a requests → C (Some (record { path = p; req = req }, a.1))) → AllByRecursion Q (let d = asks_all p req requests c in d.outs)
+  all_by p req [] c each = tt
+  all_by p req (a ∷ more) c each =
+      let d = asks_node p req a c in
+      all_join Q d.outs (let t = asks_all p req more d.part in t.outs) (request_by p req a c (each a (inl refl))) (all_by p req more d.part (λ b i. each b (inr i)))
+
+  -- what a commit asks
+  pub machine_by : (m : Machine) (c : Coord) → ((n : ℕ) → C (Some (record { path = (plan_of m).path; req = (plan_of m).req }, ask_of m n))) → AllByRecursion Q (let d = asks_machine m c in d.outs)
+  machine_by m c claims = all_by (plan_of m).path (plan_of m).req (waiting m) c (λ a i. this a (mapped (left_of m) a i))
+    where
+      mapped : (ns : List ℕ) (a : ℕ × Ask) → list.In a (map {A = ℕ} {B = ℕ × Ask} (λ n. (n, ask_of m n)) ns) → (n : ℕ) × ((n, ask_of m n) ≡ a)
+      mapped [] a i = absurd i
+      mapped (n ∷ ns) a (inl same) = (n, same)
+      mapped (n ∷ ns) a (inr more) = mapped ns a more
+
+      this : (a : ℕ × Ask) → (n : ℕ) × ((n, ask_of m n) ≡ a) → C (Some (record { path = (plan_of m).path; req = (plan_of m).req }, a.1))
+      this a (n, same) = subst (λ (b : ℕ × Ask). C (Some (record { path = (plan_of m).path; req = (plan_of m).req }, b.1))) same (claims n)
+
 module _ (x i k : ℕ) (sent : List Post) (A : Office) where
   abbrev Q : Effect → Type 0
   Q e = SaysHeard x i A e
 
   -- a request says what it claims
   pub request_says : (p : Path) (req : ℕ) (a : ℕ × Ask) (c : Coord) → ClaimsAsked x A (Some (record { path = p; req = req }, a.1)) → AllByRecursion Q (let d = asks_node p req a c in d.outs)
-  request_says p req a c claims = ((request_asks (record { path = p; req = req }) a.1, subst (ClaimsAsked x A) (sym (request_reads_back (record { path = p; req = req }) a.1)) claims), tt)
+  request_says p req a c claims = request_by Q (ClaimsAsked x A) (λ to m none its. (none, its)) p req a c claims
 
   -- of a step, where it stands on what its top took
   pub step_claims : (s : Steps) (ends : List (Uid × End)) → (s.x ≡ x → SeesStep x k sent s A.names) → ClaimsAsked x A (Some (record { path = s.path; req = s.req }, next_ask ends s))
@@ -142,28 +165,14 @@ module _ (x i k : ℕ) (sent : List Post) (A : Office) where
       by (AtNote q j) is = λ of. let z = sees of in subst (λ at. StandsOn (uid_number (top_of s.path)) A.names at) is z.stands q.grant refl
       by (AtInvoke q j) is = tt
 
-  all_say : (p : Path) (req : ℕ) (requests : List (ℕ × Ask)) (c : Coord) → ((a : ℕ × Ask) → list.In a requests → ClaimsAsked x A (Some (record { path = p; req = req }, a.1))) → AllByRecursion Q (let d = asks_all p req requests c in d.outs)
-  all_say p req [] c each = tt
-  all_say p req (a ∷ more) c each =
-      let d = asks_node p req a c in
-      all_join Q d.outs (let t = asks_all p req more d.part in t.outs) (request_says p req a c (each a (inl refl))) (all_say p req more d.part (λ b i. each b (inr i)))
-
   -- what a commit asks
-  pub machine_says : (u : Uid) (m : Machine) (c : Coord) → ((p : commit.Plan) → m ≡ Confirming p → ClaimsAsked x A (Some (record { path = (plan_of m).path; req = (plan_of m).req }, commit.confirm_ask p))) → AllByRecursion Q (let d = asks_machine m c in d.outs)
-  machine_says u m c confirms = all_say (plan_of m).path (plan_of m).req (waiting m) c (λ a i. by m refl a (mapped (left_of m) a i))
+  pub machine_says : (m : Machine) (c : Coord) → ((p : commit.Plan) → m ≡ Confirming p → ClaimsAsked x A (Some (record { path = (plan_of m).path; req = (plan_of m).req }, commit.confirm_ask p))) → AllByRecursion Q (let d = asks_machine m c in d.outs)
+  machine_says m c confirms = machine_by Q (ClaimsAsked x A) (λ to z none its. (none, its)) m c (λ n. each m n confirms)
     where
-      mapped : (ns : List ℕ) (a : ℕ × Ask) → list.In a (map {A = ℕ} {B = ℕ × Ask} (λ n. (n, ask_of m n)) ns) → (n : ℕ) × ((n, ask_of m n) ≡ a)
-      mapped [] a i = absurd i
-      mapped (n ∷ ns) a (inl same) = (n, same)
-      mapped (n ∷ ns) a (inr more) = mapped ns a more
-
-      head : Head
-      head = record { path = (plan_of m).path; req = (plan_of m).req }
-
-      by : (z : Machine) → m ≡ z → (a : ℕ × Ask) → (n : ℕ) × ((n, ask_of m n) ≡ a) → ClaimsAsked x A (Some (record { path = (plan_of m).path; req = (plan_of m).req }, a.1))
-      by (Voting p left) is a (n, same) = subst (λ b. ClaimsAsked x A (Some (record { path = (plan_of m).path; req = (plan_of m).req }, b))) (ap (λ y. ask_of y n) (sym is) ∙ ap (λ (z : ℕ × Ask). z.1) same) tt
-      by (Preparing p left) is a (n, same) = subst (λ b. ClaimsAsked x A (Some (record { path = (plan_of m).path; req = (plan_of m).req }, b))) (ap (λ y. ask_of y n) (sym is) ∙ ap (λ (z : ℕ × Ask). z.1) same) tt
-      by (Confirming p) is a (n, same) = subst (λ b. ClaimsAsked x A (Some (record { path = (plan_of m).path; req = (plan_of m).req }, b))) (ap (λ y. ask_of y n) (sym is) ∙ ap (λ (z : ℕ × Ask). z.1) same) (confirms p is)
+      each : (z : Machine) (n : ℕ) → ((p : commit.Plan) → z ≡ Confirming p → ClaimsAsked x A (Some (record { path = (plan_of z).path; req = (plan_of z).req }, commit.confirm_ask p))) → ClaimsAsked x A (Some (record { path = (plan_of z).path; req = (plan_of z).req }, ask_of z n))
+      each (Voting p left) n all = tt
+      each (Preparing p left) n all = tt
+      each (Confirming p) n all = all p refl
 
 -- the grant of what a plan uses is named
 named_grant : (x : ℕ) (us : List Used) (w : Used) → used_at x us ≡ Some w → HasGrant x w.grant (map {A = Used} {B = ℕ × ℕ} (λ u. (u.x, u.grant)) us)
@@ -230,7 +239,7 @@ heard_tick x tops e k d t M A knows both p =
         by u q does Idle is = tt
         by u q does (Calling s) is = let ends = ends_of (root_of s.path) c.tree in
             request_says x d.inc k M.sent A s.path s.req (next_node s, next_ask ends s) c (step_claims x d.inc k M.sent A s ends (λ of. here_now.steps u q s does is of))
-        by u q does (Committing m) is = machine_says x d.inc k M.sent A u m c (λ p same.
+        by u q does (Committing m) is = machine_says x d.inc k M.sent A m c (λ p same.
             let z = let w = knows.coord in w.machines u q (Confirming p) does (is ∙ ap Committing same) in
             let now : q.now ≡ Committing (Confirming p) = is ∙ ap Committing same in
             subst (λ y. ClaimsAsked x A (Some (record { path = (plan_of y).path; req = (plan_of y).req }, commit.confirm_ask p))) (sym same)

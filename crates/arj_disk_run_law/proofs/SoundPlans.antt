@@ -240,7 +240,7 @@ stores_sound : (p : Plan) (ns : List ℕ) → IsTidy p → AreChanged p [] → (
 stores_sound p [] tidy changed u us is = confirm_sound p tidy changed p.used refl
 stores_sound p (n ∷ ns) tidy changed u us is = record { tidy = tidy; changed = changed; way = (n, first_on n ns); used = u; more = us; uses = is }
 
-marks_used : (ns : List ℕ) (p : Plan) → (let q = marks_stores ns p in (q.used ≡ p.used) × (q.changed ≡ p.changed) × (q.path ≡ p.path))
+pub marks_used : (ns : List ℕ) (p : Plan) → (let q = marks_stores ns p in (q.used ≡ p.used) × (q.changed ≡ p.changed) × (q.path ≡ p.path))
 marks_used [] p = (refl, refl, refl)
 marks_used (n ∷ ns) p = marks_used ns (marks_store n p)
 
@@ -255,7 +255,7 @@ with_one s w (t ∷ ts) i = by (nat_lt t.uid.num w.uid.num) i (with_one s w ts)
     by true (inr more) ih = ⊎_elim (λ same. inl same) (λ old. inr (inr old)) (ih more)
     by false i ih = i
 
-with_all : (s : ObjectState) (new all : List ObjectState) → Among s (with_states new all) → Among s new ⊎ Among s all
+pub with_all : (s : ObjectState) (new all : List ObjectState) → Among s (with_states new all) → Among s new ⊎ Among s all
 with_all s [] all i = inr i
 with_all s (w ∷ ws) all i = ⊎_elim (λ more. inl (inr more)) (λ rest. ⊎_elim (λ same. inl (inl same)) (λ old. inr old) (with_one s w all rest)) (with_all s ws (with_state w all) i)
 

@@ -1,7 +1,7 @@
 -- What coordinators have of naming's answers and what messages claim of them, in what is seen and the machine's state: the relation
 -- that is kept beside both halves.
 use Rattle.std.specs.Prelude.{⊤, ◌≡◌, ◌⊎◌, ◌≤◌, ◌<◌, ℕ, Bool, true, false, List, ◌∷◌, Option, None, Some}
-use Rattle.arj_protocol.specs.Words.{Uid, Ask, Asked, Binding, BoundReply, Head, ObjectState, asks}
+use Rattle.arj_protocol.specs.Words.{Uid, Ask, Asked, Binding, BoundReply, Head, ObjectState, asks, object}
 use Rattle.arj_protocol.specs.Words.ask
 use Rattle.arj_protocol.specs.Words.bound
 use Rattle.arj_protocol.specs.Words.loaded
@@ -20,7 +20,7 @@ use Rattle.arj_disk_law.specs.Words.{In, has}
 use Rattle.arj_view_law.specs.Seen as seen
 use Rattle.arj_view_law.specs.Seen.{Post, Seen}
 use Rattle.arj_disk_view_law.specs.Knows.{KnowsKinds}
-use Rattle.arj_disk_view_law.specs.Pairs.{packed}
+use Rattle.arj_disk_view_law.specs.Pairs.{Among, packed}
 use Rattle.arj_disk_view_law.specs.Plans.{used_at}
 use Rattle.arj_disk_view_law.specs.Sees.{Kinds}
 use Rattle.arj_call_law.specs.Coords.{head_of}
@@ -130,11 +130,12 @@ pub record IsListFor (A : Office) (t : ℕ) (stores : List ℕ) : Type 0 where
   pub had : IsHadBy A t inc
   pub list : (j : ℕ) → AreOfOne A t j → (h : ℕ) × ((h ≡ t) ⊎ (h ≡ A.world.disk.root t)) × (l : Kept) × (A.names.kept h ≡ Some l) × ((s : ℕ) → has s l.list ≡ true → has s stores ≡ true)
 
--- What the plan of a top's commit uses of the object: no grant that counts is before the one that it names; and while it votes, a list
--- stands behind what it called, and a load behind what it includes.
+-- What the plan of a top's commit uses of the object: no grant that counts is before the one that it names; it changes what it called,
+-- as its top wrote it; and while it votes, a list stands behind what it called, and a load behind what it includes.
 pub record SeesPlan (x : ℕ) (tops : Kinds) (u : Uid) (m : Machine) (A : Office) : Type 0 where
   pub top : tops.is_top (uid_number u) ≡ true
   pub grants : (w : Used) (i : ℕ) → used_at x (let p = plan_of m in p.used) ≡ Some w → IsHadBy A (uid_number u) i → w.grant ≤ i
+  pub changed : (w : Used) (st : ObjectState) → used_at x (let p = plan_of m in p.used) ≡ Some w → Among st (let p = plan_of m in p.changed) → st.uid ≡ object x → (w.called ≡ true) × (st.writer ≡ u)
   pub list : (w : Used) → is_voting m ≡ true → used_at x (let p = plan_of m in p.used) ≡ Some w → w.called ≡ true → IsListFor A (uid_number u) w.stores
   pub loaded : (w : Used) (st : ObjectState) → is_voting m ≡ true → used_at x (let p = plan_of m in p.used) ≡ Some w → w.loaded ≡ Some st → HasLoaded A.world.disk A.names (uid_number u) st
 

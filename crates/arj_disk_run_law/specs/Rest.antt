@@ -1,20 +1,16 @@
--- What is still taken of what coordinators have of naming's answers: that it is kept by answers that are taken, by commits of tops, and by
--- giveups in a Prepare, and gives what commits count on; and what naming counts on beside what messages claim.
-use Rattle.std.specs.Prelude.{◌≡◌, ℕ, Bool, true, false, not, ◌&&◌, List, Option, Some, None}
-use Rattle.arj_protocol.specs.Words.{Asked, Binding, Head, Header, Kind, Message, asks}
+-- What is still taken of what coordinators have of naming's answers: that it is kept by answers that are taken, and gives what commits
+-- count on; and what naming counts on beside what messages claim.
+use Rattle.std.specs.Prelude.{◌≡◌, ℕ, Bool, true, false, List, Some, None}
+use Rattle.arj_protocol.specs.Words.{Asked, Binding, Head, Header, Message, asks}
 use Rattle.arj_protocol.specs.Words.ask
-use Rattle.arj_protocol.specs.Words.kind
-use Rattle.arj_protocol.specs.Ask.{Reply, actor, answers, top_of}
-use Rattle.arj_protocol.specs.Commit.{Preparing}
-use Rattle.arj_protocol.specs.Coord.{Committing, Coord, Doing, Now, doing_of}
-use Rattle.arj_protocol.specs.Tree.{Branch}
+use Rattle.arj_protocol.specs.Ask.{Reply, answers, top_of}
+use Rattle.arj_protocol.specs.Coord.{Coord, doing_of}
 use Rattle.arj_protocol.specs.Confirm.{Grants, Marks}
 use Rattle.arj_protocol.specs.Effect.{Disk, Effect}
 use Rattle.arj_protocol.specs.Naming.{Naming}
 use Rattle.arj_protocol.specs.Node.{Parts, Took, handle, is_meant}
 use Rattle.arj_protocol.specs.Order.{uid_number}
-use Rattle.arj_protocol.specs.Step.{Input, acts, branch_named, is_committing, refusal_up}
-use Rattle.arj_protocol.specs.Step as input
+use Rattle.arj_protocol.specs.Step.{is_committing}
 use Rattle.arj_disk_law.specs.Effects.{IsNot}
 use Rattle.arj_disk_law.specs.Names.{Office}
 use Rattle.arj_view_law.specs.Seen.{In, Seen, up}
@@ -25,9 +21,9 @@ use Rattle.arj_disk_view_law.specs.Sees.{Kinds}
 use Rattle.arj_names_view_law.specs.Booked.{IsNext}
 use Rattle.arj_names_view_law.specs.Both.{SeesBoth}
 use Rattle.arj_names_view_law.specs.Calls.{IsUnrecorded}
-use Rattle.arj_names_view_law.specs.Handlers.{MayGoOn, Quietly, change_by}
+use Rattle.arj_names_view_law.specs.Handlers.{MayGoOn, change_by}
 use Rattle.arj_disk_run_law.specs.Heard.{SeesHeard}
-use Rattle.arj_disk_run_law.specs.Part.{HasHeard, going_of}
+use Rattle.arj_disk_run_law.specs.Part.{HasHeard}
 
 -- a node of which is known what the disk half counts on, where the relation holds of the machine's state
 pub record IsHeardAt (x : ℕ) (R : Seen → Type 0) (tops : Kinds) (A : Office) (s : ℕ × Disk × Parts) (M : Seen) : Type 0 where
@@ -45,47 +41,15 @@ pub record GivesNaming (x : ℕ) (R : Seen → Type 0) : Type 0 where
   pub next : (tops : Kinds) (k : ℕ) (d : Disk) (t : Parts) (n : Naming) (from : ℕ) (m : Message) (h : Head) (grants : Grants) (excluded included : Marks) (M : Seen) (A : Office) → IsHeardAt x R tops A (k, d, t) M → In (record { from = from; to = k; message = m }) M.sent → t.naming ≡ Some n → asks m ≡ Some (h, ask.Confirm grants excluded included)
       → IsNewConfirm h.path grants excluded included d.names n → IsNext A.world.disk (uid_number (top_of h.path))
 
--- a commit whose states are being prepared
-abbrev pub goes_past : Now → Bool
-goes_past (Committing (Preparing p left)) = true
-goes_past _ = false
-
--- a giveup by which it goes on
-abbrev pub gives_on : Option Doing → Bool
-gives_on None = false
-gives_on (Some q) = goes_past q.now
-
-abbrev pub gives_of : Coord → Option Branch → Bool
-gives_of c None = false
-gives_of c (Some b) = gives_on (doing_of (actor b.path) c)
-
--- a top
-abbrev pub is_top_kind : Kind → Bool
-is_top_kind kind.Nested = false
-is_top_kind kind.Serial = false
-is_top_kind _ = true
-
-abbrev pub commits_on : Option Branch → Bool
-commits_on None = false
-commits_on (Some b) = not b.doomed && is_top_kind b.kind
-
--- a top that isn't doomed commits, or one gives up in its Prepare
-abbrev pub is_deciding : Input → Coord → Bool
-is_deciding (input.Commit l) c = commits_on (branch_named l c)
-is_deciding (input.GiveUp l) c = gives_of c (branch_named l c)
-is_deciding _ c = false
-
 -- the answer is to one whose commit is under way
 abbrev pub answers_commit : Asked → Coord → Bool
 answers_commit a c = is_committing (doing_of a.act c)
 
--- It is kept by an answer that a coordinator takes, to a commit, and to a call or an include; and by an input by which a top commits
--- that isn't doomed, or gives up in its Prepare; and each commit that is past its votes then may begin.
+-- It is kept by an answer that a coordinator takes, to a commit, and to a call or an include; and each commit that is past its votes then
+-- may begin.
 pub record KeepsHeard (hd : Header) (x : ℕ) (R : Seen → Type 0) : Type 0 where
   pub naming : GivesNaming x R
   pub answer : (tops : Kinds) (e k : ℕ) (d : Disk) (t v : Parts) (from : ℕ) (m : Message) (a : Asked) (r : Reply) (outs : List Effect) (M : Seen) (A : Office) → IsHeardAt x R tops A (k, d, t) M → In (record { from = from; to = k; message = m }) M.sent → answers m ≡ Some (a, r) → is_meant t m ≡ true → answers_commit a t.coord ≡ true → handle k d t from m ≡ Took v outs
       → (h : HasHeard (SeesHeard x) x tops (change_by x d t m) A (record { event = e; node = k; disk = d; before = t; outs = outs; after = v }, M)) × MayGoOn x h.office v.coord
   pub called : (tops : Kinds) (e k : ℕ) (d : Disk) (t v : Parts) (from : ℕ) (m : Message) (a : Asked) (r : Reply) (outs : List Effect) (M : Seen) (A : Office) → IsHeardAt x R tops A (k, d, t) M → In (record { from = from; to = k; message = m }) M.sent → answers m ≡ Some (a, r) → is_meant t m ≡ true → answers_commit a t.coord ≡ false → handle k d t from m ≡ Took v outs
       → (h : HasHeard (SeesHeard x) x tops (change_by x d t m) A (record { event = e; node = k; disk = d; before = t; outs = outs; after = v }, M)) × MayGoOn x h.office v.coord
-  pub act : (tops : Kinds) (e k : ℕ) (d : Disk) (t : Parts) (i : Input) (M : Seen) (A : Office) → IsHeardAt x R tops A (k, d, t) M → is_deciding i t.coord ≡ true → refusal_up hd i t.coord ≡ None
-      → (h : HasHeard (SeesHeard x) x tops Quietly A (going_of e k d t (acts i d.intents t.coord), M)) × MayGoOn x h.office (let did = acts i d.intents t.coord in did.part)

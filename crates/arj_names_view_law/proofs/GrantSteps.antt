@@ -148,7 +148,7 @@ in_kept f g (h ∷ hs) i on = by (f h) refl i (λ j. in_kept f g hs j on)
     by false e (inl is) ih = absurd (never (ap f is ∙ on) e)
     by false e (inr j) ih = ih j
 
-least_grant_low : (x : ℕ) (t w : Uid) (i : ℕ) (r : Root) (c : Coord) → (uid_eq w t || is_retained x c r w) ≡ true → HasLeast x w i r.grants → least_grant t x r c ≤ i
+pub least_grant_low : (x : ℕ) (t w : Uid) (i : ℕ) (r : Root) (c : Coord) → (uid_eq w t || is_retained x c r w) ≡ true → HasLeast x w i r.grants → least_grant t x r c ≤ i
 least_grant_low x t w i r c counts h =
     let on : counts_grant t x r c h.grant ≡ true = (λ k. ((h.of k) == x) && (uid_eq (h.top_is k) t || (is_kept_top (h.top_is k) c && top_uses (h.top_is k) x r c))) ∙ (λ k. test_same x k && counts k) in
     let low = least_below h.grant.least (map (λ (z : Grant). z.least) (filter (counts_grant t x r c) r.grants)) (in_kept (counts_grant t x r c) h.grant r.grants (in_from h.grant r.grants h.there) on) in

@@ -64,7 +64,7 @@ goes_by i l (inr is) = (ap goes_on is, λ z. ap (label_in z) is)
 
 -- ---- a plan that uses nothing
 
-start_unused : (p : commit.Plan) → p.used ≡ [] → start p ≡ plainly (Decides p)
+pub start_unused : (p : commit.Plan) → p.used ≡ [] → start p ≡ plainly (Decides p)
 start_unused p is = ap plainly (
     ap (λ us. begin_vote (number_set (map (λ (u : Used). u.server) (filter (λ (u : Used). u.called) us))) p) is
     ∙ ap (λ us. begin_prepare (number_set (flat_map (λ (u : Used). stores_by u (changed_of u.x p)) us)) p) is

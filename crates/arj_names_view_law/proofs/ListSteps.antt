@@ -440,7 +440,7 @@ module _ (x : ℕ) (tops : Kinds) (root t : Uid) (c : Coord) (r : Root) (A : Off
   not_spent : (z : Said) → Contains r.said z → z.x ≡ x → (survives t z.path c || coord.is_retained z.path c) ≡ true → is_spent z.path c.tree ≡ false
   not_spent z i e on = ⊎_elim (λ h. lives z i h) (λ h. lasting.retained z i e h) (or_cases (survives t z.path c) (coord.is_retained z.path c) on)
 
-  stands : (k : Known) → kept_of x r ≡ Some k → HasList N (uid_number t) k ⊎ HasRetained N (uid_number root) k
+  pub stands : (k : Known) → kept_of x r ≡ Some k → HasList N (uid_number t) k ⊎ HasRetained N (uid_number root) k
   stands k is = let z = counted in ⊎_elim
       (λ h. s.called k z.0 t is z.1 z.2 (lives z.0 z.1 h) (and_parts (is_on (let q = z.0 in q.path) t) (tree.is_merged t (let q = z.0 in q.path) c.tree) h).0 top)
       (λ h. inr (s.retained k z.0 is z.1 z.2 h)) (or_cases (survives t (let q = z.0 in q.path) c) (coord.is_retained (let q = z.0 in q.path) c) z.3)

@@ -23,7 +23,7 @@ use Rattle.arj_names_view_law.proofs.ListSteps.{commits_have_lists}
 use Rattle.arj_names_view_law.proofs.LoadSteps.{commits_have_loads}
 
 -- what is used of the object
-used_is : (x : ℕ) (t : Uid) (r : Root) (c : Coord) (ys : List ℕ) (u : Used) → used_at x (map (used_of t r c) ys) ≡ Some u → used_of t r c x ≡ u
+pub used_is : (x : ℕ) (t : Uid) (r : Root) (c : Coord) (ys : List ℕ) (u : Used) → used_at x (map (used_of t r c) ys) ≡ Some u → used_of t r c x ≡ u
 used_is x t r c [] u is = absurd (cc is)
 used_is x t r c (y ∷ ys) u is = by (y == x) refl is (λ h. used_is x t r c ys u h)
   where
