@@ -1,5 +1,5 @@
 -- Answers go in the whole world: what a message shows that was sent is what the step, or the commit, that waits for it counts on.
-use Rattle.std.proofs.Common.{◌<◌, inl, inr, [], ⊎_elim, ◌≡◌, ◌≢◌, ◌⊎◌, ◌∙◌, ◌==◌, ◌&&◌, ℕ, List, Bool, true, false, cond, Option, Some, None, refl, sym, ap, subst, arith, eqb-true, is_some}
+use Rattle.std.proofs.Common.{◌<◌, inl, inr, [], ⊎_elim, ◌≡◌, ◌≢◌, ◌⊎◌, ◌∙◌, ◌==◌, ◌&&◌, ℕ, List, Bool, true, false, cond, Option, Some, None, refl, sym, ap, subst, arith, eqb-true}
 use Rattle.std.specs.Prelude.{⊤}
 use Rattle.std.proofs.lemmas.Bool.{and_parts}
 use Rattle.arj_base.proofs.Uids.{uid_is}
@@ -199,26 +199,30 @@ module _ (c : Case) (s : Spot) (e from : ℕ) (a : Asked) (r : Reply) (is_seen :
   -- ---- what waits
 
   abbrev Goes : Served Coord (Unit {0}) → Type 0
-  Goes D = is_some D.reply ≡ true → Behind c s D.part → StepGoes c s e (record { part = D.part; outs = D.outs })
+  Goes D = Behind c s D.part → StepGoes c s e (record { part = D.part; outs = D.outs })
+
+  -- nothing waits for it
+  stays : Goes (heard_none C)
+  stays after agrees = (c.state, is_seen.sees)
 
   now_goes : (d : Doing) (found : doing_of a.act C ≡ Some d) (n : Now) → d.now ≡ n → Goes (heard_now from a r (records_at s) C n)
-  now_goes d found Idle is = λ some after. absurd (cc some)
+  now_goes d found Idle is = stays
   now_goes d found (Calling w) is = by (waits_for_call from a r w) refl
     where
       by : (t : Bool) → waits_for_call from a r w ≡ t → Goes (cond t (heard_by (heard_call w r C)) (heard_none C))
-      by true on some after = step_goes d found w is on after
-      by false off some after = absurd (cc some)
+      by true on = step_goes d found w is on
+      by false off = stays
   now_goes d found (Committing m) is = by (waits_for_commit from a r m) refl
     where
       by : (t : Bool) → waits_for_commit from a r m ≡ t → Goes (cond t (heard_by (moved_commit a.act (commit.answered from m r) (records_at s) C)) (heard_none C))
-      by true on some after = commit_goes d found m is on after
-      by false off some after = absurd (cc some)
+      by true on = commit_goes d found m is on
+      by false off = stays
 
   answer_goes : Goes (heard from a r (records_at s) C)
   answer_goes = by (doing_of a.act C) refl
     where
       by : (o : Option Doing) → doing_of a.act C ≡ o → Goes (heard_doing from a r (records_at s) C o)
-      by None none = λ some after. absurd (cc some)
+      by None none = stays
       by (Some d) found = now_goes d found d.now refl
 
   -- ---- the coordinator behind it
@@ -274,4 +278,4 @@ module _ (c : Case) (s : Spot) (e from : ℕ) (a : Asked) (r : Reply) (is_seen :
       (record { asks = asks_behind meant; ends = ends_behind })
 
 pub answers_go : AnswersGo
-answers_go c s e from a r is_seen holds knows sent meant some = answer_goes c s e from a r is_seen holds knows sent some (behind_it c s e from a r is_seen holds knows sent meant)
+answers_go c s e from a r is_seen holds knows sent meant = answer_goes c s e from a r is_seen holds knows sent (behind_it c s e from a r is_seen holds knows sent meant)

@@ -139,12 +139,12 @@ is_query (message.Acked m) u is = absurd (let bad : true ≡ false = ap flag is 
 is_query (message.Query m) u is = let same : m.act ≡ u = ap (act_or m.act) is in ap (λ (w : Uid). message.Query (record { act = w })) same
 is_query m u is = absurd (cc is)
 
-took_heard : (t v : Parts) (r : Served Coord (Unit {0})) (outs : List Effect) → coord_heard t r ≡ Took v outs → (with_coord t r.part ≡ v) × (r.outs ≡ outs) × (is_some r.reply ≡ true)
+took_heard : (t v : Parts) (r : Served Coord (Unit {0})) (outs : List Effect) → coord_heard t r ≡ Took v outs → (with_coord t r.part ≡ v) × (r.outs ≡ outs)
 took_heard t v r outs is = by r.reply is
   where
-    by : (o : Option (Unit {0})) → by_reply (with_coord t r.part) r.outs o ≡ Took v outs → (with_coord t r.part ≡ v) × (r.outs ≡ outs) × (is_some o ≡ true)
+    by : (o : Option (Unit {0})) → by_reply (with_coord t r.part) r.outs o ≡ Took v outs → (with_coord t r.part ≡ v) × (r.outs ≡ outs)
     by None is = absurd (cc is)
-    by (Some u) is = (cc is, cc is, refl)
+    by (Some u) is = (cc is, cc is)
 
 -- ---- what an answer is
 
@@ -237,7 +237,7 @@ module _ (hd : Header) (x : ℕ) (G : Seen → Type 0) (R : List Action → Seen
             let r = heard from a.0 a.1 (let d = s.disk in d.intents) (coord_at s) in
             let q = took_heard s.parts v r outs (sym (handled_answer s.node s.disk s.parts from a.0 a.1) ∙ n.takes) in
             let meant = ap (answer_is_meant (coord_at s)) (sym of) ∙ (and_parts (asked_is_meant (let t = s.parts in t.server) (asks m)) (answer_is_meant (coord_at s) (answers m)) come.meant).1 in
-            subst (λ (w : Parts). Goes outs w) q.0 (subst (λ (es : List Effect). Goes es (with_coord s.parts r.part)) q.1 (answers_go c s e from a.0 a.1 seen (its.holds begun S s (more, z.2) seen) (its.heard begun S s from m a v outs (more, z.2) seen come of) n.sent meant q.2))
+            subst (λ (w : Parts). Goes outs w) q.0 (subst (λ (es : List Effect). Goes es (with_coord s.parts r.part)) q.1 (answers_go c s e from a.0 a.1 seen (its.holds begun S s (more, z.2) seen) (its.heard begun S s from m a v outs (more, z.2) seen come of) n.sent meant))
     coordinator_goes m v outs come is (Some (u, true)) of =
         let n = subst (λ (w : Message). HasCome s from w v outs) (is_acked m u of) come in
         let r = acked from u (let d = s.disk in d.intents) (coord_at s) in

@@ -1,7 +1,7 @@
 -- What an answer that was sent shows to the step, or to the commit, that waits for it.
 use Rattle.std.proofs.Common.{◌∙◌, [], ◌∷◌, map, inl, inr, ◌≡◌, ◌==◌, ℕ, List, true, refl, sym, ap, subst}
 use Rattle.arj_lock.proofs.Members.{in_from, in_to}
-use Rattle.arj_protocol.specs.Words.{Asked, BoundReply, End, Head, ObjectState, Op, Uid}
+use Rattle.arj_protocol.specs.Words.{Asked, Binding, BoundReply, End, Head, LoadedReply, ObjectState, Op, Uid}
 use Rattle.arj_protocol.specs.Words.bound
 use Rattle.arj_protocol.specs.Words.confirmed
 use Rattle.arj_protocol.specs.Words.loaded
@@ -48,11 +48,7 @@ to_call o (bound.Write g stores) fits = absurd fits
 to_call o (bound.Conflict holder m) fits = tt
 
 module _ (v : View) (w : Steps) (T : State) (about : w.x ≡ v.x) (ends : List (Uid × End)) where
-  -- the answer is of the kind that is waited for
-  abbrev IsOfKind : At → Reply → Type 0
-  IsOfKind at r = (reply_kind r == ask_kind (ask_at w.x w.goal [] at)) ≡ true
-
-  loads_shown : (o : Op) (k : Known) (n : ℕ) (rest : List ℕ) (r : _) → ((st : ObjectState) → Reply.Loaded r ≡ Reply.Loaded (loaded.State st) → IsCurrent T.naming (let b = binding_at T k.binding in b.maker) (binding_number k.binding) → LoadsTheLast T (state_code v.family.act v.code st)) → ShowsAnswer v.family.act v.code w o T (AtLoad k n rest) (Reply.Loaded r)
+  loads_shown : (o : Op) (k : Known) (n : ℕ) (rest : List ℕ) (r : LoadedReply) → ((st : ObjectState) → Reply.Loaded r ≡ Reply.Loaded (loaded.State st) → IsCurrent T.naming (let b = binding_at T k.binding in b.maker) (binding_number k.binding) → LoadsTheLast T (state_code v.family.act v.code st)) → ShowsAnswer v.family.act v.code w o T (AtLoad k n rest) (Reply.Loaded r)
   loads_shown o k n rest (loaded.State st) last = last st refl
   loads_shown o k n rest (loaded.InDoubt q) last = tt
 
@@ -102,7 +98,7 @@ module _ (v : View) (w : Steps) (T : State) (about : w.x ≡ v.x) (ends : List (
   call_shown o (AtInvoke k i) (Reply.Confirmed r) kinds server naming fits states last = absurd (cc kinds)
 
   -- naming answers a Bind of an include
-  bound_shown : (store : ℕ) (avoid : _) (r : BoundReply) → Answers (Include store) r → ShowsNamingReply v (head_of w) (ask_at w.x (Include store) ends (AtBind avoid)) T (Reply.Bound r) → ShowsInclude v.family.act (top_of w.path) T (Reply.Bound r)
+  bound_shown : (store : ℕ) (avoid : Binding) (r : BoundReply) → Answers (Include store) r → ShowsNamingReply v (head_of w) (ask_at w.x (Include store) ends (AtBind avoid)) T (Reply.Bound r) → ShowsInclude v.family.act (top_of w.path) T (Reply.Bound r)
   bound_shown store avoid (bound.Live b server i g stores) fits naming = absurd fits
   bound_shown store avoid (bound.Make b server g stores) fits naming = absurd fits
   bound_shown store avoid (bound.Write g stores) fits naming = naming about

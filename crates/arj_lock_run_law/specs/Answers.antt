@@ -1,5 +1,5 @@
 -- Answers that a coordinator takes, in the whole world as the lock machine of one object has it.
-use Rattle.std.specs.Prelude.{◌≡◌, ℕ, true, List, Some, is_some}
+use Rattle.std.specs.Prelude.{◌≡◌, ℕ, true, List, Some}
 use Rattle.arj_protocol.specs.Words.{Asked, ObjectState, Op}
 use Rattle.arj_protocol.specs.Words.loaded
 use Rattle.arj_protocol.specs.Ask.{Reply, response}
@@ -37,9 +37,9 @@ pub record KnowsAnswer (c : Case) (s : Spot) (a : Asked) (r : Reply) : Type 0 wh
   pub binds : BindsAreKnown (world_at s)
   pub last : GivesLast c s a r
 
--- An answer that was sent comes, which can be meant, and something waits for it: a call or an include goes on or ends, of the object or of
--- another one, or a commit goes on, is decided or is aborted. The machine goes along, and the object is seen, wherever a stop falls.
+-- An answer that was sent comes, which can be meant. Nothing waits for it, or a call or an include goes on or ends, of the object or of another
+-- one, or a commit goes on, is decided or is aborted. The machine goes along, and the object is seen, wherever a stop falls.
 abbrev pub AnswersGo : Type 0
 AnswersGo = (c : Case) (s : Spot) (e from : ℕ) (a : Asked) (r : Reply)
     → IsSeenIn c (world_at s) → HoldsNamingIn c s.node (let t = s.parts in t.naming) → KnowsAnswer c s a r → In (record { from = from; to = s.node; message = response a r }) (let M = s.seen in M.sent) → reply_is_meant (coord_at s) a r ≡ true
-    → let D = heard from a r (records_at s) (coord_at s) in is_some D.reply ≡ true → StepGoes c s e (record { part = D.part; outs = D.outs })
+    → let D = heard from a r (records_at s) (coord_at s) in StepGoes c s e (record { part = D.part; outs = D.outs })

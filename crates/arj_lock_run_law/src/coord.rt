@@ -55,7 +55,7 @@ pub fn inputs_go_in_the_world()
     ensures { InputsGo }
 {}
 
-/// An answer that was sent goes in the whole world, where something waits for it: a call, an include or a commit goes on or ends. What it
+/// An answer that was sent goes in the whole world: where something waits for it, a call, an include or a commit goes on or ends. What it
 /// shows to who waits follows of what it shows for ever, since what was asked by that number is what waits. Who waits at the coordinator
 /// is counted on, which requests it sent, what it asks and which ends it lists, that Binds are answered as they ask, and that a store
 /// gives what was written last. It does nothing when it runs.
