@@ -1,0 +1,12 @@
+//! A round of messages: what a quiesce leaves, where every node is up in it and no limit is met.
+//!
+//! Whoever waits at a coordinator asks again at the tick. From then on what answers it is under way, the request or its answer, until
+//! it is answered: a node that takes a request answers it, a coordinator that takes an answer asks on or ends what waited, and a node
+//! sends itself nothing that it doesn't handle in the same step. `specs/Waits.antt` says what is under way, `specs/Rounds.antt` what a
+//! quiesce leaves. It stands on `arj_protocol`, on what settles leave (`arj_event_law`) and on what holds in every run (`arj_run_law`).
+//! It gives upward `quiesces_answer_whoever_waits`.
+#![tactic(auto)]
+
+mod rounds;
+
+pub use rounds::quiesces_answer_whoever_waits;

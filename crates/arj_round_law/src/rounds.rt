@@ -1,0 +1,10 @@
+// What a quiesce leaves waiting.
+ghost use Rattle.arj_round_law.specs.Rounds.{QuiescesAnswer, RunsAnswer};
+
+/// Take a relation that every handler keeps, and by which no request is void for which somebody waits, but one of a call that is
+/// overtaken. Then after a quiesce in which every node stays up and no limit is met nobody waits but calls that are overtaken: a
+/// call asks a server to take a binding or naming to record it, and a greater one of the object was made. It does nothing when it runs.
+pub fn quiesces_answer_whoever_waits()
+    ensures worlds { QuiescesAnswer }
+    ensures runs { RunsAnswer }
+{}
