@@ -22,6 +22,6 @@ pub mod Listed
 pub mod Entries
 pub mod GoodOwners
 pub mod GoodNaming
-pub mod Further
+pub mod Onward
 pub mod Requests
 pub mod Asked

@@ -55,7 +55,7 @@ use Rattle.arj_call_law.proofs.WorldVotes.{fits_asked}
 use Rattle.arj_address_law.specs.Binds.{BindsAreKnown}
 use Rattle.arj_address_law.proofs.BindRuns.{binds_keep}
 use Rattle.arj_lock_fact_law.specs.Requests.{AreAsked, HandlersKeepRequests, IsAskedBy, KnowsRequests, RequestsAreKnown, RunsKeepRequests}
-use Rattle.arj_lock_fact_law.proofs.Further.{AsksSame, IsFurther, IsLater, further_acked, further_acts, further_again, further_begins, further_heard}
+use Rattle.arj_lock_fact_law.proofs.Onward.{AsksSame, IsFurther, IsLater, further_acked, further_acts, further_again, further_begins, further_heard}
 
 some_is : {A : Type 0} {a b : A} → Some a ≡ Some b → a ≡ b
 some_is {A} {a} {b} is = let k : ◌≡◌ {A = Option A} (Some a) (Some b) = is in cc
