@@ -16,7 +16,7 @@ use Rattle.arj_view_law.specs.Walks.{Up, Walks}
 use Rattle.arj_disk_run_law.proofs.Plain.{Plain, is_plain}
 use Rattle.arj_line_law.specs.Book.{Book, book, book_from, new_book, turned}
 use Rattle.arj_disk_line_law.specs.Said.{IsPlain}
-use Rattle.arj_line_law.proofs.Books.{Later, book_more, later_on, later_same, later_turn}
+use Rattle.arj_line_law.proofs.Books.{Later, book_more, later_from}
 
 -- ---- what it leaves
 
@@ -45,10 +45,6 @@ and_more (x ∷ xs) ys zs = ap (λ ws. x ∷ ws) (and_more xs ys zs)
 
 pub near_same : (M : Seen) → IsNear M M
 near_same M = record { more = []; lines = nothing_more M.lines; nodes = λ j. refl }
-
-later_from : (B : Book) (ls : List Line) → Later B (book_from B ls)
-later_from B [] = later_same B
-later_from B (l ∷ ls) = later_on B (turned B l.body) (book_from (turned B l.body) ls) (later_turn B l.body) (later_from (turned B l.body) ls)
 
 pub later_lines : (ls ks : List Line) → Later (book ls) (book (ls ++ ks))
 later_lines ls ks = subst (Later (book ls)) (sym (book_more new_book ls ks)) (later_from (book ls) ks)

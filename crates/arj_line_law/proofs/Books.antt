@@ -113,6 +113,10 @@ later_turn B (body.Ok l x o r) = let s = later_same B in record { called = s.cal
 later_turn B (body.Includes l x n) = let s = later_same B in record { called = s.called; committed = s.committed; aborted = s.aborted; found = s.found; acts = s.acts; given = s.given }
 later_turn B b = later_same B
 
+pub later_from : (B : Book) (ls : List Line) → Later B (book_from B ls)
+later_from B [] = later_same B
+later_from B (l ∷ ls) = later_on B (turned B l.body) (book_from (turned B l.body) ls) (later_turn B l.body) (later_from (turned B l.body) ls)
+
 or_left : (a b : Bool) → a ≡ true → (a || b) ≡ true
 or_left a b is = ap (λ x. x || b) is
 

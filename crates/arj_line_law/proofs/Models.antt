@@ -1,5 +1,5 @@
 -- The book of a journal whose lines are right is what `arj_model` reads.
-use Rattle.std.proofs.Common.{◌≡◌, ◌<◌, arith, ℕ, ◌+◌, ◌==◌, ◌||◌, List, [], ◌∷◌, ◌++◌, length, Bool, true, false, cond, Option, Some, None, refl, sym, ◌∙◌, ap, subst, inl, inr, ⊎_elim, eqb-true, eq-eqb}
+use Rattle.std.proofs.Common.{◌≡◌, ◌<◌, ◌⊎◌, arith, ℕ, ◌+◌, ◌==◌, ◌||◌, List, [], ◌∷◌, ◌++◌, length, Bool, true, false, cond, Option, Some, None, refl, sym, ◌∙◌, ap, subst, inl, inr, ⊎_elim, eqb-true, eq-eqb}
 use Rattle.std.specs.List.{cons_option, list_any}
 use Rattle.std.specs.Option.{option_map}
 use Rattle.std.specs.Str.{bytes_eq}
@@ -20,7 +20,7 @@ use Rattle.arj_model.specs.Actions as model
 use Rattle.arj_line_law.specs.Book.{Book, book, book_from, is_decided, is_over, new_book, turned, with_named, is_top}
 use Rattle.arj_line_law.specs.Laws.{AreFormed, ActionsEndOnce, AreDistinct, CommitsAreCaused, IsCaused, IsCommittedIn, IsItsBook, OutcomesAreOne, aborted, aborted_of, CallsAreTimely, ExclusionsAreTimely, called, called_of, answered_of, excluder_of, CommitsAreCalled}
 use Rattle.arj_line_law.specs.Right.{AreRight, IsOpen, IsSaid, Right, has_act, IsOpenSo, MayBeFound}
-use Rattle.arj_line_law.proofs.Books.{never, or_which, sane_lines, sane_new}
+use Rattle.arj_line_law.proofs.Books.{later_from, never, on_here, or_which, sane_lines, sane_new}
 
 -- ---- actions
 
@@ -276,6 +276,23 @@ act_there (x ∷ acts) u is = by (uid_eq x.uid u) refl is (λ f. act_there acts 
     by : (b : Bool) → uid_eq x.uid u ≡ b → (b || has_act acts u) ≡ true → (has_act acts u ≡ true → (a : Act) × In a acts × (a.uid ≡ u)) → (a : Act) × In a (x ∷ acts) × (a.uid ≡ u)
     by true same e ih = (x, inl refl, uid_is x.uid u same)
     by false other e ih = let r = ih e in (r.0, inr r.1, r.2)
+
+-- who was found by a line
+found_at : (B : Book) (b : Body) (e : Placed Uid) (n : ℕ) (rest : List (Placed Uid)) → In e (put n (recovered_of B.acts b) rest) → (is_on (let V = turned B b in V.found) e.it ≡ true) ⊎ In e rest
+found_at B (body.Recovered m u) e n rest (inl same) = inl (ap (is_on (u ∷ B.found)) (sym (ap (λ (p : Placed Uid). p.it) same)) ∙ on_here u B.found)
+found_at B (body.Recovered m u) e n rest (inr i) = inr i
+found_at B b e n rest i = inr i
+
+found_from : (B : Book) (n : ℕ) (ls : List Line) (e : Placed Uid) → In e (read recovered_of B.acts n ls) → is_on (let V = book_from B ls in V.found) e.it ≡ true
+found_from B n [] e i = absurd i
+found_from B n (l ∷ ls) e i = ⊎_elim
+    (λ on. (let f = later_from (turned B l.body) ls in f.found) e.it on)
+    (λ j. found_from (turned B l.body) (n + 1) ls e (subst (λ xs. In e (read recovered_of xs (n + 1) ls)) (sym (acts_turn B l.body)) j))
+    (found_at B l.body e n (read recovered_of (acts_after B.acts l.body) (n + 1) ls) i)
+
+-- whose record a restart found began
+pub found_there : (lines : List Line) → AreRight new_book lines → (e : Placed Uid) → In e (recovered lines) → has_act (acts lines) e.it ≡ true
+found_there lines right e i = let s = sane_lines new_book lines right sane_new in subst (λ xs. has_act xs e.it ≡ true) (its_acts lines right) (s.found e.it (found_from new_book 0 lines e i))
 
 -- who is decided is an action of the journal that is committed
 pub decided_in : (lines : List Line) → AreRight new_book lines → (u : Uid) → is_decided (book lines) u ≡ true → IsCommittedIn lines u

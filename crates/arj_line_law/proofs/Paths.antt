@@ -10,31 +10,32 @@ use Rattle.arj_model.specs.Actions.{Act, act_in, acts, path, path_in, uids, upwa
 use Rattle.arj_part_law.specs.Actions.{Action, AreBegun, act_of, action_of, paths_of}
 use Rattle.arj_part_law.specs.Coords.{IsGoodCoord}
 use Rattle.arj_part_law.proofs.Begun.{path_found, begun_tree}
-use Rattle.arj_protocol.specs.Words.{Body, Header, Kind, Label, Uid, name, uids_of}
+use Rattle.arj_protocol.specs.Words.{Body, Header, Kind, Label, Message, Uid, name, uids_of}
 use Rattle.arj_protocol.specs.Words.body
 use Rattle.arj_protocol.specs.Words.kind
-use Rattle.arj_protocol.specs.Asking.{again_all, began_line}
+use Rattle.arj_protocol.specs.Asking.{again_all, began_line, begin_action}
 use Rattle.arj_protocol.specs.Coord.{Coord, Doing, doing_of, number_of}
 use Rattle.arj_protocol.specs.Effect.{Disk, Do, Effect, Say, Send}
 use Rattle.arj_protocol.specs.Follow.{tick_outs}
-use Rattle.arj_protocol.specs.Node.{Parts, with_coord}
+use Rattle.arj_protocol.specs.Node.{Parts, Took, handle, is_meant, with_coord}
 use Rattle.arj_protocol.specs.Step.{Input, Node, begin_reasons, begin_refusal, branch_named, branch_numbered, parent_of, parts_in, refusal_up, refused_by, restart_outs}
 use Rattle.arj_protocol.specs.Step as input
 use Rattle.arj_protocol.specs.Tree.{Branch, at_place, branch_of, next_uid, path_below}
-use Rattle.arj_protocol.specs.World.{Asked, format, numbered, run_all}
+use Rattle.arj_protocol.specs.World.{Asked, format, is_serial_kind, numbered, run_all}
 use Rattle.arj_run_law.specs.Worlds.{IsGoodOf, IsMemory, IsUp}
 use Rattle.arj_run_law.proofs.Begins.{begin_good, its_uid, may as may_begin}
 use Rattle.arj_run_law.proofs.Handled.{act_good, good_coord, message_good, stopped_good, tick_good}
 use Rattle.arj_run_law.proofs.Starts.{first_of, restart_good}
 use Rattle.arj_run_law.proofs.Walked.{same_number}
-use Rattle.arj_view_law.specs.Keeps.{Keeps, MayGive, label_at}
-use Rattle.arj_view_law.specs.Seen.{Post, Seen, at, posted, said, see, up}
-use Rattle.arj_view_law.specs.Walks.{Up, Walks}
+use Rattle.arj_view_law.specs.Keeps.{Keeps, MayGive, is_act, label_at}
+use Rattle.arj_view_law.specs.Seen as seen
+use Rattle.arj_view_law.specs.Seen.{AreQuiet, Post, Seen, at, down, given, posted, said, see, up}
+use Rattle.arj_view_law.specs.Walks.{Up, Walks, halted}
 use Rattle.arj_view_law.proofs.Happens.{runs_hold}
 use Rattle.arj_view_law.proofs.Together.{walks_both, walks_to}
 use Rattle.arj_line_law.specs.Book.{Book, book, new_book, turned}
 use Rattle.arj_line_law.specs.Knows.{IsKept, IsWritten, Knows, KnowsUp, after}
-use Rattle.arj_line_law.specs.Paths.{AreAlike, IsAlike, PathsAgree}
+use Rattle.arj_line_law.specs.Paths.{AreAlike, IsAlike, IsAlikeOf, PathsAgree}
 use Rattle.arj_line_law.proofs.Beginning.{above_of, new_path}
 use Rattle.arj_line_law.proofs.Books.{book_more, quiet_book}
 use Rattle.arj_line_law.proofs.Models.{its_acts}
@@ -181,68 +182,109 @@ acts_walk xs e k (Send to m ∷ es) d N B is at end = λ more quiet. let p : Pos
 
 -- ---- each handler
 
-abbrev IsNamed : Seen → Type 0
+abbrev pub IsNamed : Seen → Type 0
 IsNamed M = IsSo HasNames names_are_kept M
 
 abbrev IsPathed : Seen → Type 0
 IsPathed M = IsNamed M × IsAlike M
 
+-- with the actions that were begun
+abbrev pub IsPathedOf : List Action → Seen → Type 0
+IsPathedOf begun M = IsNamed M × IsAlikeOf begun M
+
+kept_of : (begun : List Action) (M : Seen) → IsPathedOf begun M → IsKept M
+kept_of begun M h = ((begun, h.1.0), h.1.2)
+
 alike_walk : (begun : List Action) (xs : List Act) (e k : ℕ) (outs : List Effect) (v : Parts) (d : Disk) (N : Seen) → AreAlike begun xs → Walks IsNamed e k outs (Up IsNamed k v) d N → Walks (IsGoodOf begun) e k outs (Up (IsGoodOf begun) k v) d N → Walks IsKept e k outs (Up IsKept k v) d N
-    → Walks (λ Z. (let V = book Z.lines in V.acts) ≡ xs) e k outs (λ c Z. (let V = book Z.lines in V.acts) ≡ xs) d N → Walks IsPathed e k outs (Up IsPathed k v) d N
+    → Walks (λ Z. (let V = book Z.lines in V.acts) ≡ xs) e k outs (λ c Z. (let V = book Z.lines in V.acts) ≡ xs) d N → Walks (IsPathedOf begun) e k outs (Up (IsPathedOf begun) k v) d N
 alike_walk begun xs e k outs v d N alike named good kept same =
     let one = walks_both IsNamed (IsGoodOf begun) e k outs (Up IsNamed k v) (Up (IsGoodOf begun) k v) d N named good in
     let two = walks_both IsKept (λ Z. (let V = book Z.lines in V.acts) ≡ xs) e k outs (Up IsKept k v) (λ c Z. (let V = book Z.lines in V.acts) ≡ xs) d N kept same in
     let three = walks_both (λ Z. IsNamed Z × IsGoodOf begun Z) (λ Z. IsKept Z × ((let V = book Z.lines in V.acts) ≡ xs)) e k outs (λ c Z. Up IsNamed k v c Z × Up (IsGoodOf begun) k v c Z) (λ c Z. Up IsKept k v c Z × ((let V = book Z.lines in V.acts) ≡ xs)) d N one two in
-    walks_to (λ Z. (IsNamed Z × IsGoodOf begun Z) × (IsKept Z × ((let V = book Z.lines in V.acts) ≡ xs))) IsPathed e k outs (λ c Z. (Up IsNamed k v c Z × Up (IsGoodOf begun) k v c Z) × (Up IsKept k v c Z × ((let V = book Z.lines in V.acts) ≡ xs))) (Up IsPathed k v) d N
-    (λ Z h. (h.0.0, (begun, (h.0.1, subst (AreAlike begun) (sym h.1.1) alike, (let w = h.1.0 in w.1)))))
-    (λ c Z h. (h.0.0, (begun, (h.0.1, subst (AreAlike begun) (sym h.1.1) alike, (let w = h.1.0 in w.1))))) three
+    walks_to (λ Z. (IsNamed Z × IsGoodOf begun Z) × (IsKept Z × ((let V = book Z.lines in V.acts) ≡ xs))) (IsPathedOf begun) e k outs (λ c Z. (Up IsNamed k v c Z × Up (IsGoodOf begun) k v c Z) × (Up IsKept k v c Z × ((let V = book Z.lines in V.acts) ≡ xs))) (Up (IsPathedOf begun) k v) d N
+    (λ Z h. (h.0.0, (h.0.1, subst (AreAlike begun) (sym h.1.1) alike, (let w = h.1.0 in w.1))))
+    (λ c Z h. (h.0.0, (h.0.1, subst (AreAlike begun) (sym h.1.1) alike, (let w = h.1.0 in w.1)))) three
 
 names_at : (k : ℕ) (d : Disk) (t : Parts) (M : Seen) → IsNamed (up k d t M) → HasNames t.coord
 names_at k d t M all = let n : Node = record { number = k; disk = d; live = Some t } in all.1 k n t (λ i. cond (same_number k i) (Some (record { number = k; disk = d; live = Some t })) (M.nodes k)) refl
 
-pub paths_keep : (hd : Header) → Keeps hd IsPathed
-paths_keep hd = record {
-  quiet = λ e bs M quiet h. (names.quiet e bs M quiet h.0, (h.1.0, (h.1.1.0, subst (λ (V : Book). AreAlike h.1.0 V.acts) (sym (book_more new_book M.lines (numbered e bs) ∙ quiet_book (book M.lines) e bs quiet)) h.1.1.1, (let w = lines.quiet e bs M quiet ((h.1.0, h.1.1.0), h.1.1.2) in w.1))));
-  stop = λ e k d live M h. (names.stop e k d live M h.0, (h.1.0, (stopped_good k d live M (h.1.0, h.1.1.0) e, subst (λ (V : Book). AreAlike h.1.0 V.acts) (sym (book_more new_book M.lines (numbered e (body.Halted k ∷ [])))) h.1.1.1, (let w = lines.stop e k d live M ((h.1.0, h.1.1.0), h.1.1.2) in w.1))));
-  message = λ e k d t v from m outs M h there meant is.
-      let g = message_turns e k d t M (h.1.0, h.1.1.0) h.1.1.2 v from m outs there is in
-      alike_walk h.1.0 (let B = book M.lines in B.acts) e k outs v d M h.1.1.1 (names.message e k d t v from m outs M h.0 there meant is) (message_good e k d t M (h.1.0, h.1.1.0) v from m outs there is) (lines.message e k d t v from m outs M ((h.1.0, h.1.1.0), h.1.1.2) there meant is)
-      (acts_walk (let B = book M.lines in B.acts) e k outs d M (book M.lines) refl refl g.acts);
-  act = λ e k d t i M is none h.
+module _ (hd : Header) (begun : List Action) where
+  names : Keeps hd IsNamed
+  names = keeps_names hd
+
+  lines : Keeps hd IsKept
+  lines = lines_keep hd
+
+  pub quiet_pathed : (e : ℕ) (bs : List Body) (M : Seen) → AreQuiet bs → IsPathedOf begun M → IsPathedOf begun (said e bs M)
+  quiet_pathed e bs M quiet h = (names.quiet e bs M quiet h.0, (h.1.0, subst (λ (V : Book). AreAlike begun V.acts) (sym (book_more new_book M.lines (numbered e bs) ∙ quiet_book (book M.lines) e bs quiet)) h.1.1, (let w = lines.quiet e bs M quiet (kept_of begun M h) in w.1)))
+
+  pub stop_pathed : (e k : ℕ) (d : Disk) (live : Option Parts) (M : Seen) → IsPathedOf begun (at k d live M) → IsPathedOf begun (halted e k d M)
+  stop_pathed e k d live M h = (names.stop e k d live M h.0, (stopped_good k d live M (begun, h.1.0) e, subst (λ (V : Book). AreAlike begun V.acts) (sym (book_more new_book M.lines (numbered e (body.Halted k ∷ [])))) h.1.1, (let w = lines.stop e k d live M (kept_of begun (at k d live M) h) in w.1)))
+
+  pub message_pathed : (e k : ℕ) (d : Disk) (t v : Parts) (from : ℕ) (m : Message) (outs : List Effect) (M : Seen) → IsPathedOf begun (up k d t M) → seen.In (record { from = from; to = k; message = m }) M.sent → is_meant t m ≡ true → handle k d t from m ≡ Took v outs
+      → Walks (IsPathedOf begun) e k outs (Up (IsPathedOf begun) k v) d M
+  message_pathed e k d t v from m outs M h there meant is =
+      let g = message_turns e k d t M (begun, h.1.0) h.1.2 v from m outs there is in
+      alike_walk begun (let B = book M.lines in B.acts) e k outs v d M h.1.1 (names.message e k d t v from m outs M h.0 there meant is) (message_good e k d t M (begun, h.1.0) v from m outs there is) (lines.message e k d t v from m outs M (kept_of begun (up k d t M) h) there meant is)
+      (acts_walk (let B = book M.lines in B.acts) e k outs d M (book M.lines) refl refl g.acts)
+
+  pub act_pathed : (e k : ℕ) (d : Disk) (t : Parts) (i : Input) (M : Seen) → is_act i ≡ true → refusal_up hd i t.coord ≡ None → IsPathedOf begun (up k d t M)
+      → let did = input.acts i d.intents t.coord in Walks (IsPathedOf begun) e k did.outs (Up (IsPathedOf begun) k (with_coord t did.part)) d M
+  act_pathed e k d t i M is none h =
       let did = input.acts i d.intents t.coord in
-      let g = act_turns e k d t M (h.1.0, h.1.1.0) h.1.1.2 hd i is none in
-      alike_walk h.1.0 (let B = book M.lines in B.acts) e k did.outs (with_coord t did.part) d M h.1.1.1 (names.act e k d t i M is none h.0) (act_good e k d t M (h.1.0, h.1.1.0) hd i is none) (lines.act e k d t i M is none ((h.1.0, h.1.1.0), h.1.1.2))
-      (acts_walk (let B = book M.lines in B.acts) e k did.outs d M (book M.lines) refl refl g.acts);
-  begin = λ e k d t l how parent M new may none h.
+      let g = act_turns e k d t M (begun, h.1.0) h.1.2 hd i is none in
+      alike_walk begun (let B = book M.lines in B.acts) e k did.outs (with_coord t did.part) d M h.1.1 (names.act e k d t i M is none h.0) (act_good e k d t M (begun, h.1.0) hd i is none) (lines.act e k d t i M is none (kept_of begun (up k d t M) h))
+      (acts_walk (let B = book M.lines in B.acts) e k did.outs d M (book M.lines) refl refl g.acts)
+
+  pub begin_pathed : (e k : ℕ) (d : Disk) (t : Parts) (l : Label) (how : Kind) (parent : Option Label) (M : Seen) → label_at l M.labels ≡ None → MayGive M.labels k how parent → begin_refusal how t.coord parent ≡ None → IsPathedOf begun (up k d t M)
+      → let a : Action = record { path = path_below how (parent_of parent t.coord) (next_uid t.coord.tree); kind = how } in let did = begin_action l how parent (parent_of parent t.coord) t.coord in
+      Walks (IsPathedOf (a ∷ begun)) e k did.outs (Up (IsPathedOf (a ∷ begun)) k (with_coord t did.part)) d (given l (record { node = k; serial = is_serial_kind how }) M)
+  begin_pathed e k d t l how parent M new may none h =
       let a : Action = record { path = path_below how (parent_of parent t.coord) (next_uid t.coord.tree); kind = how } in
-      let w = lines.begin e k d t l how parent M new may none ((h.1.0, h.1.1.0), h.1.1.2) in (
+      let w = lines.begin e k d t l how parent M new may none (kept_of begun (up k d t M) h) in (
         names.begin e k d t l how parent M new may none h.0,
         (
-          a ∷ h.1.0,
-          (
-            begin_good e k d t l how parent M new may none (h.1.0, h.1.1.0),
-            subst (λ (V : Book). AreAlike (a ∷ h.1.0) V.acts) (sym (book_more new_book M.lines (numbered e (began_line l how (next_uid t.coord.tree) parent ∷ []))))
-                (new_alike e k d t M h.1.0 h.1.1.0 h.1.1.1 h.1.1.2 (names_at k d t M h.0) l how parent new may none),
-            w.1,
-          ),
+          begin_good e k d t l how parent M new may none (begun, h.1.0),
+          subst (λ (V : Book). AreAlike (a ∷ begun) V.acts) (sym (book_more new_book M.lines (numbered e (began_line l how (next_uid t.coord.tree) parent ∷ []))))
+              (new_alike e k d t M begun h.1.0 h.1.1 h.1.2 (names_at k d t M h.0) l how parent new may none),
+          w.1,
         ),
-      );
-  tick = λ e k d t M h.
-      let g = tick_turns e k d t M (h.1.0, h.1.1.0) h.1.1.2 in
-      alike_walk h.1.0 (let B = book M.lines in B.acts) e k (tick_outs (record { number = k; disk = d; live = Some t }) t) (with_coord t (again_all t.coord.doings t.coord).part) d M h.1.1.1 (names.tick e k d t M h.0) (tick_good e k d t M (h.1.0, h.1.1.0)) (lines.tick e k d t M ((h.1.0, h.1.1.0), h.1.1.2))
-      (acts_walk (let B = book M.lines in B.acts) e k (tick_outs (record { number = k; disk = d; live = Some t }) t) d M (book M.lines) refl refl g.acts);
-  restart = λ e k d M h.
-      let g = rest_goes hd e k d M (h.1.0, h.1.1.0) h.1.1.2 in
-      alike_walk h.1.0 (let B = book M.lines in B.acts) e k (restart_outs hd k (d.inc + 1) d) (parts_in k (d.inc + 1) d) d M h.1.1.1 (names.restart e k d M h.0) (restart_good hd e k d M (h.1.0, h.1.1.0)) (lines.restart e k d M ((h.1.0, h.1.1.0), h.1.1.2))
-      (acts_walk (let B = book M.lines in B.acts) e k (restart_outs hd k (d.inc + 1) d) d M (book M.lines) refl refl g.acts);
-  first = (names.first, ([], (first_of hd, tt, (let w = lines.first in w.1))));
-}
-  where
-    names : Keeps hd IsNamed
-    names = keeps_names hd
+      )
 
-    lines : Keeps hd IsKept
-    lines = lines_keep hd
+  pub tick_pathed : (e k : ℕ) (d : Disk) (t : Parts) (M : Seen) → IsPathedOf begun (up k d t M)
+      → Walks (IsPathedOf begun) e k (tick_outs (record { number = k; disk = d; live = Some t }) t) (Up (IsPathedOf begun) k (with_coord t (again_all t.coord.doings t.coord).part)) d M
+  tick_pathed e k d t M h =
+      let g = tick_turns e k d t M (begun, h.1.0) h.1.2 in
+      alike_walk begun (let B = book M.lines in B.acts) e k (tick_outs (record { number = k; disk = d; live = Some t }) t) (with_coord t (again_all t.coord.doings t.coord).part) d M h.1.1 (names.tick e k d t M h.0) (tick_good e k d t M (begun, h.1.0)) (lines.tick e k d t M (kept_of begun (up k d t M) h))
+      (acts_walk (let B = book M.lines in B.acts) e k (tick_outs (record { number = k; disk = d; live = Some t }) t) d M (book M.lines) refl refl g.acts)
+
+  pub restart_pathed : (e k : ℕ) (d : Disk) (M : Seen) → IsPathedOf begun (down k d M) → Walks (IsPathedOf begun) e k (restart_outs hd k (d.inc + 1) d) (Up (IsPathedOf begun) k (parts_in k (d.inc + 1) d)) d M
+  restart_pathed e k d M h =
+      let g = rest_goes hd e k d M (begun, h.1.0) h.1.2 in
+      alike_walk begun (let B = book M.lines in B.acts) e k (restart_outs hd k (d.inc + 1) d) (parts_in k (d.inc + 1) d) d M h.1.1 (names.restart e k d M h.0) (restart_good hd e k d M (begun, h.1.0)) (lines.restart e k d M (kept_of begun (down k d M) h))
+      (acts_walk (let B = book M.lines in B.acts) e k (restart_outs hd k (d.inc + 1) d) d M (book M.lines) refl refl g.acts)
+
+pub first_pathed : (hd : Header) → IsPathedOf [] (see [] (format hd))
+first_pathed hd = (let n = keeps_names hd in n.first, (first_of hd, tt, (let k = lines_keep hd in let w = k.first in w.1)))
+
+-- whichever were begun
+some_walk : (begun : List Action) (e k : ℕ) (outs : List Effect) (v : Parts) (d : Disk) (N : Seen) → Walks (IsPathedOf begun) e k outs (Up (IsPathedOf begun) k v) d N → Walks IsPathed e k outs (Up IsPathed k v) d N
+some_walk begun e k outs v d N w = walks_to (IsPathedOf begun) IsPathed e k outs (Up (IsPathedOf begun) k v) (Up IsPathed k v) d N (λ Z h. (h.0, (begun, h.1))) (λ c Z h. (h.0, (begun, h.1))) w
+
+pub paths_keep : (hd : Header) → Keeps hd IsPathed
+paths_keep hd = record {
+  quiet = λ e bs M quiet h. let r = quiet_pathed hd h.1.0 e bs M quiet (h.0, h.1.1) in (r.0, (h.1.0, r.1));
+  stop = λ e k d live M h. let r = stop_pathed hd h.1.0 e k d live M (h.0, h.1.1) in (r.0, (h.1.0, r.1));
+  message = λ e k d t v from m outs M h there meant is. some_walk h.1.0 e k outs v d M (message_pathed hd h.1.0 e k d t v from m outs M (h.0, h.1.1) there meant is);
+  act = λ e k d t i M is none h. let did = input.acts i d.intents t.coord in some_walk h.1.0 e k did.outs (with_coord t did.part) d M (act_pathed hd h.1.0 e k d t i M is none (h.0, h.1.1));
+  begin = λ e k d t l how parent M new may none h.
+      let a : Action = record { path = path_below how (parent_of parent t.coord) (next_uid t.coord.tree); kind = how } in
+      let r = begin_pathed hd h.1.0 e k d t l how parent M new may none (h.0, h.1.1) in
+      (r.0, (a ∷ h.1.0, r.1));
+  tick = λ e k d t M h. some_walk h.1.0 e k (tick_outs (record { number = k; disk = d; live = Some t }) t) (with_coord t (again_all t.coord.doings t.coord).part) d M (tick_pathed hd h.1.0 e k d t M (h.0, h.1.1));
+  restart = λ e k d M h. some_walk h.1.0 e k (restart_outs hd k (d.inc + 1) d) (parts_in k (d.inc + 1) d) d M (restart_pathed hd h.1.0 e k d M (h.0, h.1.1));
+  first = let h = first_pathed hd in (h.0, ([], h.1));
+}
 
 pub paths_agree : (hd : Header) (es : List Asked) → PathsAgree (run_all es (format hd))
 paths_agree hd es k n t u b q here live found does =

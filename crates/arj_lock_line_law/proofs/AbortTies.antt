@@ -17,13 +17,15 @@ use Rattle.arj_protocol.specs.World.{numbered}
 use Rattle.arj_lock_law.specs.Actions.{Act, Root, at_act, is_action, root, same}
 use Rattle.arj_lock_law.specs.State.{Action, State}
 use Rattle.arj_lock_law.proofs.Paths.{act_here, act_other, by_cases, differ, root_is, same_is, same_self}
+use Rattle.arj_part_law.specs.Copies.{Paths}
 use Rattle.arj_part_law.proofs.Begun.{on_own}
 use Rattle.arj_part_law.proofs.GoodTrees.{in_more}
 use Rattle.arj_part_law.proofs.TrueSteps.{work_there}
+use Rattle.arj_lock_view_law.specs.Actions.{IsSteady}
 use Rattle.arj_lock_view_law.specs.Acts.{Acts}
 use Rattle.arj_lock_view_law.specs.Copies.{Codes}
 use Rattle.arj_lock_view_law.specs.Ending.{AbortsOnly, ChangesOne, IsOpenAt, SameEnd, aborted}
-use Rattle.arj_lock_view_law.specs.Inputs.{OnlyEnded}
+use Rattle.arj_lock_view_law.specs.Inputs.{OnlyEnded, SeesWhole}
 use Rattle.arj_lock_view_law.specs.Stops.{AreAborted}
 use Rattle.arj_lock_view_law.proofs.AbortInputSteps.{actions_are_aborted}
 use Rattle.arj_lock_view_law.proofs.AbortSteps as abort
@@ -166,9 +168,14 @@ tolds_all : (intents : List (Uid × Intent)) (c : Coord) (us : List Uid) → bod
 tolds_all intents c [] = refl
 tolds_all intents c (u ∷ us) = bodies_app (tolds_of intents c u) (flat_map (tolds_of intents c) us) ∙ (λ i. tolds_none intents c u i ++ tolds_all intents c us i)
 
-pub aborts_are_tied : AbortsAreTied
-aborts_are_tied act code paths x p c u b intents S reached steady found unended on whole =
-    goes_to (actions_are_aborted act code paths x c u b intents S reached steady found unended whole) (λ T h. (h.0, (h.1.0, result T h.1.0 h.1.1.0 h.1.1.1 h.1.1.2)))
+-- an action is aborted with all that is open below it, by their lines
+pub abort_said : (act : Acts) (code : Codes) (paths : Paths) (x : ℕ) (p : Page) (c : Coord) (u : Uid) (b : Branch) (intents : List (Uid × Intent)) (S T : State) → IsSteady act paths c → branch_of u c.tree ≡ Some b → is_some b.ended ≡ false → IsOnPage act code x p c S → SeesWhole act code x c S
+    → OnlyEnded (root (act u)) S T → T.now ≡ S.now → AreAborted act paths c.tree u T → AbortsOnly act paths c.tree u S T → IsTiedToLines act code p.values x (p.lines ++ numbered p.event (bodies_of (let t = all_aborted (open_below u c.tree ++ u ∷ []) c in t.outs))) T
+abort_said act code paths x p c u b intents S T steady found unended on whole only now gone aborts =
+    tied_same act code (behind p (bodies_of (let t = all_aborted us c in t.outs))) x W T named_W (let t = tied_W in let k = t.now in let e : W.now ≡ S.now = ap (λ (s : State). s.now) (without_rest act us S) in omega (arith, k, e, now))
+    (first_stays (root (act u)) S T only ∙ sym (ap (λ (s : State). s.initial) (without_rest act us S)))
+    ((calls_stay (root (act u)) S T only).0 ∙ sym (ap (λ (s : State). s.calls) (without_rest act us S)), (calls_stay (root (act u)) S T only).1 ∙ sym (ap (λ (s : State). s.includes) (without_rest act us S)))
+    ends tied_W
   where
     us : List Uid
     us = open_below u c.tree ++ u ∷ []
@@ -201,32 +208,33 @@ aborts_are_tied act code paths x p c u b intents S reached steady found unended 
     W : State
     W = without act us S
 
+    named_W : AreNamed act (p.lines ++ numbered p.event (bodies_of (let t = all_aborted us c in t.outs)))
+    named_W = named_all act us p c (λ w i. (let q = open_one w i in (q.0, q.1, work_there c steady.works w q.0 q.1))) on.named
+
+    ends : EndsStay W T
+    ends a its = by (stands act us S a) (aborts a its)
+      where
+        same_ends : (m n : Action) → n ≡ m → SameEnd m n
+        same_ends m n is = subst (SameEnd m) (sym is) (record { stage = refl; place = refl; done = refl })
+
+        by : Without act us S a → (T.action a ≡ S.action a) ⊎ ((T.action a ≡ aborted (S.action a)) × IsOpenAt act paths c.tree u a) → SameEnd (W.action a) (T.action a)
+        by (inl (same_W, none)) (inl same_T) = same_ends (W.action a) (T.action a) (same_T ∙ sym same_W)
+        by (inl (same_W, none)) (inr (gone_T, o)) = absurd (differ (ap (same a) (sym o.is) ∙ same_self a) (none o.uid (in_from o.uid us o.listed)))
+        by (inr (gone_W, more_W)) (inr (gone_T, o)) = same_ends (W.action a) (T.action a) (gone_T ∙ sym gone_W)
+        by (inr (gone_W, (w, i, at))) (inl same_T) =
+            let q = open_one w i in
+            let its_w : is_action (act w) ≡ true = ap is_action (sym at) ∙ its in
+            let four : (T.action (act w)).stage ≡ 4 = gone w q.0 q.1 q.2 q.3 its_w in
+            let low_w = stage_low w i its_w in
+            let e : (T.action (act w)).stage ≡ (S.action (act w)).stage = ap (λ (y : Act). (T.action y).stage) (sym at) ∙ ap (λ (y : Action). y.stage) same_T ∙ ap (λ (y : Act). (S.action y).stage) at in
+            absurd (omega (arith, four, low_w, e))
+
+pub aborts_are_tied : AbortsAreTied
+aborts_are_tied act code paths x p c u b intents S reached steady found unended on whole =
+    goes_to (actions_are_aborted act code paths x c u b intents S reached steady found unended whole) (λ T h. (h.0, (h.1.0, subst (λ bs. IsTiedToLines act code p.values x (p.lines ++ numbered p.event bs) T) (sym says_it) (abort_said act code paths x p c u b intents S T steady found unended on whole h.1.0 h.1.1.0 h.1.1.1 h.1.1.2))))
+  where
+    us : List Uid
+    us = open_below u c.tree ++ u ∷ []
+
     says_it : bodies_of (let e = abort_action u intents c in e.outs) ≡ bodies_of (let t = all_aborted us c in t.outs)
     says_it = quiet_behind (let t = all_aborted us c in t.outs) (flat_map (tolds_of intents (let t = all_aborted us c in t.part)) us) (tolds_all intents (let t = all_aborted us c in t.part) us)
-
-    result : (T : State) → OnlyEnded (root (act u)) S T → T.now ≡ S.now → AreAborted act paths c.tree u T → AbortsOnly act paths c.tree u S T → IsTiedToLines act code p.values x (p.lines ++ numbered p.event (bodies_of (let e = abort_action u intents c in e.outs))) T
-    result T only now gone aborts = subst (λ bs. IsTiedToLines act code p.values x (p.lines ++ numbered p.event bs) T) (sym says_it) (tied_same act code (behind p (bodies_of (let t = all_aborted us c in t.outs))) x W T named_W (let t = tied_W in let k = t.now in let e : W.now ≡ S.now = ap (λ (s : State). s.now) (without_rest act us S) in omega (arith, k, e, now))
-        (first_stays (root (act u)) S T only ∙ sym (ap (λ (s : State). s.initial) (without_rest act us S)))
-        ((calls_stay (root (act u)) S T only).0 ∙ sym (ap (λ (s : State). s.calls) (without_rest act us S)), (calls_stay (root (act u)) S T only).1 ∙ sym (ap (λ (s : State). s.includes) (without_rest act us S)))
-        ends tied_W)
-      where
-        named_W : AreNamed act (p.lines ++ numbered p.event (bodies_of (let t = all_aborted us c in t.outs)))
-        named_W = named_all act us p c (λ w i. (let q = open_one w i in (q.0, q.1, work_there c steady.works w q.0 q.1))) on.named
-
-        ends : EndsStay W T
-        ends a its = by (stands act us S a) (aborts a its)
-          where
-            same_ends : (m n : Action) → n ≡ m → SameEnd m n
-            same_ends m n is = subst (SameEnd m) (sym is) (record { stage = refl; place = refl; done = refl })
-
-            by : Without act us S a → (T.action a ≡ S.action a) ⊎ ((T.action a ≡ aborted (S.action a)) × IsOpenAt act paths c.tree u a) → SameEnd (W.action a) (T.action a)
-            by (inl (same_W, none)) (inl same_T) = same_ends (W.action a) (T.action a) (same_T ∙ sym same_W)
-            by (inl (same_W, none)) (inr (gone_T, o)) = absurd (differ (ap (same a) (sym o.is) ∙ same_self a) (none o.uid (in_from o.uid us o.listed)))
-            by (inr (gone_W, more_W)) (inr (gone_T, o)) = same_ends (W.action a) (T.action a) (gone_T ∙ sym gone_W)
-            by (inr (gone_W, (w, i, at))) (inl same_T) =
-                let q = open_one w i in
-                let its_w : is_action (act w) ≡ true = ap is_action (sym at) ∙ its in
-                let four : (T.action (act w)).stage ≡ 4 = gone w q.0 q.1 q.2 q.3 its_w in
-                let low_w = stage_low w i its_w in
-                let e : (T.action (act w)).stage ≡ (S.action (act w)).stage = ap (λ (y : Act). (T.action y).stage) (sym at) ∙ ap (λ (y : Action). y.stage) same_T ∙ ap (λ (y : Act). (S.action y).stage) at in
-                absurd (omega (arith, four, low_w, e))

@@ -1,5 +1,5 @@
 -- A coordinator's lines about calls and includes.
-use Rattle.std.proofs.Common.{◌≡◌, ◌≤◌, ◌⊎◌, ◌==◌, ◌&&◌, ℕ, ◌+◌, ◌*◌, List, [], ◌∷◌, ◌++◌, length, Bool, true, false, cond, Option, Some, None, refl, sym, ◌∙◌, ap, subst, inl, inr, ⊎_elim, arith}
+use Rattle.std.proofs.Common.{◌≡◌, ◌≢◌, ◌≤◌, ◌⊎◌, ◌==◌, ◌&&◌, ℕ, ◌+◌, ◌*◌, List, [], ◌∷◌, ◌++◌, length, Bool, true, false, cond, Option, Some, None, refl, sym, ◌∙◌, ap, subst, inl, inr, ⊎_elim, arith}
 use Rattle.arj_journal.specs.declared.body.Body.{Body}
 use Rattle.arj_journal.specs.declared.body.Body.TheVariants as body
 use Rattle.arj_protocol.specs.Words.{Answer, BoundReply, Label, ObjectState, Op, Uid, Value, answer_of, answer_text, value_after, writes}
@@ -20,10 +20,11 @@ use Rattle.arj_lock_law.specs.State.{Action, State}
 use Rattle.arj_lock_law.proofs.Paths.{by_cases, differ}
 use Rattle.arj_part_law.specs.Copies.{Paths}
 use Rattle.arj_lock_view_law.specs.Acts.{Acts}
-use Rattle.arj_lock_view_law.specs.Calling.{IsAtWork, OnlyCalled, WritesLine}
+use Rattle.arj_lock_view_law.specs.Calling.{IsAtWork, IsCalling, IsWaiting, OnlyCalled, WritesLine, WritesNone}
 use Rattle.arj_lock_view_law.specs.Copies.{Codes}
 use Rattle.arj_lock_view_law.specs.Ending.{KeepsEnds, SameEnd}
 use Rattle.arj_lock_view_law.specs.Including.{OnlyIncluded, WritesInclude, included_by}
+use Rattle.arj_lock_view_law.specs.Inputs.{SeesWhole}
 use Rattle.arj_lock_view_law.specs.Roots.{is_early}
 use Rattle.arj_lock_view_law.proofs.CallInputSteps.{call_answers_are_heard, calls_are_lost, calls_are_made, include_answers_are_heard, other_answers_are_heard}
 use Rattle.arj_lock_view_law.proofs.RunSteps.{goes_to}
@@ -111,7 +112,7 @@ bare_bind free kept (bound.Write g stores) = bare_lost kept (load_from (protocol
 bare_bind free kept (bound.Conflict h m) = refl
 
 -- the lines of a step
-abbrev call_says : Steps → CallStep → Label → List Body
+abbrev pub call_says : Steps → CallStep → Label → List Body
 call_says s (On at) l = []
 call_says s (Ended e) l = end_line s.x s.goal e l ∷ []
 
@@ -150,16 +151,13 @@ module _ (unit : ℕ) (S T : State) (only : OnlyCalled unit S T) where
 stay_called : (S T : State) → KeepsEnds S T → EndsStay S T
 stay_called S T keeps a its = (let k = keeps a in k.end)
 
+-- nothing is said, and no call comes
+pub none_called : (act : Acts) (code : Codes) (x : ℕ) (p : Page) (c : Coord) (S T : State) → IsOnPage act code x p c S → (unit : ℕ) → OnlyCalled unit S T → WritesNone S T → IsTiedToLines act code p.values x p.lines T
+none_called act code x p c S T on unit only none = none_tied act code x p c S T on (first_called unit S T only) (let t = on.tied in let k = t.now in let e = none.1 in omega (arith, k, e)) (none.0, includes_called unit S T only) (stay_called S T none.2)
+
 pub calls_are_tied : CallsAreTied
 calls_are_tied act code paths x y p c u b d o S reached work idle plain on whole =
-    goes_to (calls_are_made act code paths x y c u b d o S reached work idle plain whole) (λ T h. (
-      h.0,
-      (
-        h.1.0,
-        subst (λ (q : Page). IsTiedToLines act code p.values x q.lines T) (sym (behind_none p))
-            (none_tied act code x p c S T on (first_called (root (act u)) S T h.1.0) (let t = on.tied in let k = t.now in let e = h.1.1.1 in omega (arith, k, e)) (h.1.1.0, includes_called (root (act u)) S T h.1.0) (stay_called S T h.1.1.2)),
-      ),
-    ))
+    goes_to (calls_are_made act code paths x y c u b d o S reached work idle plain whole) (λ T h. (h.0, (h.1.0, subst (λ (q : Page). IsTiedToLines act code p.values x q.lines T) (sym (behind_none p)) (none_called act code x p c S T on (root (act u)) h.1.0 h.1.1))))
 
 -- whose step it is
 module _ (act : Acts) (paths : Paths) (c : Coord) (u : Uid) (b : Branch) (d : Doing) (s : Steps) (work : IsAtWork act paths c u b d) (path : s.path ≡ b.path) where
@@ -169,6 +167,10 @@ module _ (act : Acts) (paths : Paths) (c : Coord) (u : Uid) (b : Branch) (d : Do
   pub its_work : doing_of (actor s.path) c ≡ Some d
   its_work = ap (λ (v : Uid). doing_of v c) its_actor ∙ work.works
 
+-- what is given up says, and no call comes
+pub lost_said : (act : Acts) (code : Codes) (x : ℕ) (p : Page) (c : Coord) (S T : State) → IsOnPage act code x p c S → (unit : ℕ) → OnlyCalled unit S T → WritesNone S T → (s : Steps) (l : Label) → IsTiedToLines act code p.values x (p.lines ++ numbered p.event (call_says s (given_up s.at) l)) T
+lost_said act code x p c S T on unit only none s l = bare_tied act code x p c S T on s (given_up s.at) l (bare_given s.at) (first_called unit S T only) (none.0, includes_called unit S T only) (stay_called S T none.2) none.1
+
 pub lost_calls_are_tied : LostCallsAreTied
 lost_calls_are_tied act code paths x p c u b d s o S reached work calling on whole =
     goes_to (calls_are_lost act code paths x c u b d s o S reached work calling whole) (λ T h. (
@@ -176,7 +178,7 @@ lost_calls_are_tied act code paths x p c u b d s o S reached work calling on who
       (
         h.1.0,
         subst (λ bs. IsTiedToLines act code p.values x (p.lines ++ numbered p.event bs) T) (sym (step_call_says s (given_up s.at) (on_root (root_of s.path) (root_lost s (given_up s.at)) c) d (its_work act paths c u b d s work calling.path)))
-            (bare_tied act code x p c S T on s (given_up s.at) d.label (bare_given s.at) (first_called (root (act u)) S T h.1.0) (h.1.1.0, includes_called (root (act u)) S T h.1.0) (stay_called S T h.1.1.2) h.1.1.1),
+            (lost_said act code x p c S T on (root (act u)) h.1.0 h.1.1 s d.label),
       ),
     ))
 
@@ -201,42 +203,49 @@ outcome act code p s o S T free kept (AtNote k i) (Reply.Noted recorded.Yes) w =
 outcome act code p s o S T free kept (AtNote k i) (Reply.Noted (recorded.Changed h)) w = inr (refl, w)
 outcome act code p s o S T free kept at r w = inr (refl, w)
 
-pub call_answers_are_tied : CallAnswersAreTied
+-- what is found at an answer
+abbrev pub moved_at : Steps → Coord → Reply → Moved
+moved_at s c r = answered (is_free (root_of s.path) (actor s.path) s.x c) (kept_at s c) s.goal s.at r
+
+-- a step at which a call on the object is answered
+pub answer_said : (act : Acts) (code : Codes) (paths : Paths) (x : ℕ) (p : Page) (c : Coord) (u : Uid) (b : Branch) (d : Doing) (s : Steps) (o : Op) (r : Reply) (S T : State) → IsAtWork act paths c u b d → IsCalling x b d s o → IsOnPage act code x p c S
+    → OnlyCalled (root (act u)) S T → WritesLine act code (length p.lines + 1) s o S T s.at r → IsTiedToLines act code p.values x (p.lines ++ numbered p.event (call_says s (let m = moved_at s c r in m.step) d.label)) T
 unfolding Outcome
-call_answers_are_tied act code paths x p c u b d s o r S reached work calling shows on whole =
-    goes_to (call_answers_are_heard act code paths x (length p.lines + 1) c u b d s o r S reached work calling (let t = on.tied in t.now) shows whole) (λ T h. (
-      h.0,
-      (
-        h.1.0,
-        subst (λ bs. IsTiedToLines act code p.values x (p.lines ++ numbered p.event bs) T) (sym (step_call_says s mv.step (on_root (root_of s.path) (root_moved s r mv) c) d (its_work act paths c u b d s work calling.path)))
-            (by T h.1.0 (subst (λ (g : Goal). Outcome act code (length p.lines + 1) s o S T (let m = answered free (kept_at s c) g s.at r in m.step)) (sym calling.goal) (outcome act code (length p.lines + 1) s o S T free (kept_at s c) s.at r h.1.1))),
-      ),
-    ))
+answer_said act code paths x p c u b d s o r S T work calling on only heard = by (subst (λ (g : Goal). Outcome act code (length p.lines + 1) s o S T (let m = answered free (kept_at s c) g s.at r in m.step)) (sym calling.goal) (outcome act code (length p.lines + 1) s o S T free (kept_at s c) s.at r heard))
   where
     free : Bool
     free = is_free (root_of s.path) (actor s.path) s.x c
 
     mv : Moved
-    mv = answered free (kept_at s c) s.goal s.at r
+    mv = moved_at s c r
 
     l : IsLabelled p.lines u b d
     l = on.labels u b d work.there work.works
 
-    by : (T : State) → OnlyCalled (root (act u)) S T → Outcome act code (length p.lines + 1) s o S T mv.step → IsTiedToLines act code p.values x (p.lines ++ numbered p.event (call_says s mv.step d.label)) T
-    by T only (inr (bare, (calls, now, keeps))) = bare_tied act code x p c S T on s mv.step d.label bare (first_called (root (act u)) S T only) (calls, includes_called (root (act u)) S T only) (stay_called S T keeps) now
-    by T only (inl (a, v, writer, is, fits, calls, now, keeps)) = subst (λ bs. IsTiedToLines act code p.values x (p.lines ++ numbered p.event bs) T) (sym ((λ i. call_says s (is i) d.label) ∙ (λ i. end_line s.x (calling.goal i) (protocol.Answered a) d.label ∷ [])))
+    by : Outcome act code (length p.lines + 1) s o S T mv.step → IsTiedToLines act code p.values x (p.lines ++ numbered p.event (call_says s mv.step d.label)) T
+    by (inr (bare, (calls, now, keeps))) = bare_tied act code x p c S T on s mv.step d.label bare (first_called (root (act u)) S T only) (calls, includes_called (root (act u)) S T only) (stay_called S T keeps) now
+    by (inl (a, v, writer, is, fits, calls, now, keeps)) = subst (λ bs. IsTiedToLines act code p.values x (p.lines ++ numbered p.event bs) T) (sym ((λ i. call_says s (is i) d.label) ∙ (λ i. end_line s.x (calling.goal i) (protocol.Answered a) d.label ∷ [])))
         (one_tied act code x p c S T on (body.Ok d.label s.x o (answer_text a)) (first_called (root (act u)) S T only) (omega (arith, now))
         (includes_called (root (act u)) S T only, stay_called S T keeps, (l.0, l.1, inr (calling.about, v, writer, ap answer_text fits, calls ∙ (λ i. record { act = act ((its_actor act paths c u b d s work calling.path ∙ sym l.2) i); write = writes o; line = length p.lines + 1; sees = code v writer; gives = code (value_after o v) (top (act ((its_actor act paths c u b d s work calling.path ∙ sym l.2) i))) } ∷ S.calls)))))
 
+pub call_answers_are_tied : CallAnswersAreTied
+call_answers_are_tied act code paths x p c u b d s o r S reached work calling shows on whole =
+    goes_to (call_answers_are_heard act code paths x (length p.lines + 1) c u b d s o r S reached work calling (let t = on.tied in t.now) shows whole) (λ T h. (
+      h.0,
+      (
+        h.1.0,
+        subst (λ bs. IsTiedToLines act code p.values x (p.lines ++ numbered p.event bs) T) (sym (step_call_says s (let m = moved_at s c r in m.step) (on_root (root_of s.path) (root_moved s r (moved_at s c r)) c) d (its_work act paths c u b d s work calling.path)))
+            (answer_said act code paths x p c u b d s o r S T work calling on h.1.0 h.1.1),
+      ),
+    ))
+
 -- ---- an answer about another object
 
-pub other_answers_are_tied : OtherAnswersAreTied
-other_answers_are_tied act code paths x p c u b d s r S reached work waiting other on whole =
-    (other_answers_are_heard act code paths x c u b d s r S reached work waiting other whole, subst (λ bs. IsTiedToLines act code p.values x (p.lines ++ numbered p.event bs) S) (sym (step_call_says s mv.step (on_root (root_of s.path) (root_moved s r mv) c) d (its_work act paths c u b d s work waiting.path))) (by mv.step))
+-- it says what is nothing to the machine
+pub other_said : (act : Acts) (code : Codes) (paths : Paths) (x : ℕ) (p : Page) (c : Coord) (u : Uid) (b : Branch) (d : Doing) (s : Steps) (r : Reply) (S : State) → IsAtWork act paths c u b d → s.x ≢ x → IsOnPage act code x p c S
+    → IsTiedToLines act code p.values x (p.lines ++ numbered p.event (call_says s (let m = moved_at s c r in m.step) d.label)) S
+other_said act code paths x p c u b d s r S work other on = by (let m = moved_at s c r in m.step)
   where
-    mv : Moved
-    mv = answered (is_free (root_of s.path) (actor s.path) s.x c) (kept_at s c) s.goal s.at r
-
     l : IsLabelled p.lines u b d
     l = on.labels u b d work.there work.works
 
@@ -258,6 +267,13 @@ other_answers_are_tied act code paths x p c u b d s r S reached work waiting oth
     by (Ended (protocol.Changed n w)) = bare_tied act code x p c S S on s (Ended (protocol.Changed n w)) d.label refl refl (refl, refl) (same_stay S) refl
     by (Ended (protocol.Lost n sent)) = bare_tied act code x p c S S on s (Ended (protocol.Lost n sent)) d.label refl refl (refl, refl) (same_stay S) refl
 
+pub other_answers_are_tied : OtherAnswersAreTied
+other_answers_are_tied act code paths x p c u b d s r S reached work waiting other on whole = (
+  other_answers_are_heard act code paths x c u b d s r S reached work waiting other whole,
+  subst (λ bs. IsTiedToLines act code p.values x (p.lines ++ numbered p.event bs) S) (sym (step_call_says s (let m = moved_at s c r in m.step) (on_root (root_of s.path) (root_moved s r (moved_at s c r)) c) d (its_work act paths c u b d s work waiting.path)))
+      (other_said act code paths x p c u b d s r S work other on),
+)
+
 -- ---- an answer to an include on the object
 
 Included : Acts → ℕ → Steps → State → State → CallStep → Type 0
@@ -275,23 +291,17 @@ included_so act p s k S T free kept (AtNote q i) r early w = absurd (cc early)
 included_so act p s k S T free kept (AtInvoke q i) r early w = absurd (cc early)
 included_so act p s k S T free kept at r early w = inr (refl, w)
 
-pub include_answers_are_tied : IncludeAnswersAreTied
+-- a step at which an include of the object is answered
+pub include_said : (act : Acts) (code : Codes) (paths : Paths) (x store : ℕ) (p : Page) (c : Coord) (u : Uid) (b : Branch) (d : Doing) (s : Steps) (r : Reply) (S T : State) → IsAtWork act paths c u b d → IsWaiting b d s → s.x ≡ x → s.goal ≡ IncludeStore store → IsOnPage act code x p c S → SeesWhole act code x c S
+    → OnlyIncluded S T → WritesInclude act (length p.lines + 1) s (included_by s.at r) S T → IsTiedToLines act code p.values x (p.lines ++ numbered p.event (call_says s (let m = moved_at s c r in m.step) d.label)) T
 unfolding Included
-include_answers_are_tied act code paths x store p c u b d s r S reached work waiting about goal shows on whole =
-    goes_to (include_answers_are_heard act code paths x (length p.lines + 1) store c u b d s r S reached work waiting about goal (let t = on.tied in t.now) shows whole) (λ T h. (
-      h.0,
-      (
-        h.1.0,
-        subst (λ bs. IsTiedToLines act code p.values x (p.lines ++ numbered p.event bs) T) (sym (step_call_says s mv.step (on_root (root_of s.path) (root_moved s r mv) c) d (its_work act paths c u b d s work waiting.path)))
-            (by T h.1.0 (subst (λ (g : Goal). Included act (length p.lines + 1) s S T (let m = answered free (kept_at s c) g s.at r in m.step)) (sym goal) (included_so act (length p.lines + 1) s store S T free (kept_at s c) s.at r early h.1.1))),
-      ),
-    ))
+include_said act code paths x store p c u b d s r S T work waiting about goal on whole only heard = by (subst (λ (g : Goal). Included act (length p.lines + 1) s S T (let m = answered free (kept_at s c) g s.at r in m.step)) (sym goal) (included_so act (length p.lines + 1) s store S T free (kept_at s c) s.at r early heard))
   where
     free : Bool
     free = is_free (root_of s.path) (actor s.path) s.x c
 
     mv : Moved
-    mv = answered free (kept_at s c) s.goal s.at r
+    mv = moved_at s c r
 
     l : IsLabelled p.lines u b d
     l = on.labels u b d work.there work.works
@@ -299,14 +309,22 @@ include_answers_are_tied act code paths x store p c u b d s r S reached work wai
     early : is_early s.at ≡ true
     early = ⊎_elim (λ is. is) (λ isnt. absurd (let k = whole.coord in differ (k.plain u d s work.works waiting.calling about isnt) (ap is_call goal))) (by_cases (is_early s.at))
 
-    by : (T : State) → OnlyIncluded S T → Included act (length p.lines + 1) s S T mv.step → IsTiedToLines act code p.values x (p.lines ++ numbered p.event (call_says s mv.step d.label)) T
-    by T only (inr (bare, (includes, now))) = bare_tied act code x p c S T on s mv.step d.label bare (ap (λ (v : State). v.initial) only) (ap (λ (v : State). v.calls) only, includes) (stays T only) now
-      where
-        stays : (T : State) → OnlyIncluded S T → EndsStay S T
-        stays T only a its = subst (λ (f : Act → Action). SameEnd (S.action a) (f a)) (sym (ap (λ (v : State). v.action) only)) (record { stage = refl; place = refl; done = refl })
-    by T only (inl (st, grant, is, includes, now)) = subst (λ bs. IsTiedToLines act code p.values x (p.lines ++ numbered p.event bs) T) (sym ((λ i. call_says s (is i) d.label)))
+    stays : EndsStay S T
+    stays a its = subst (λ (f : Act → Action). SameEnd (S.action a) (f a)) (sym (ap (λ (v : State). v.action) only)) (record { stage = refl; place = refl; done = refl })
+
+    by : Included act (length p.lines + 1) s S T mv.step → IsTiedToLines act code p.values x (p.lines ++ numbered p.event (call_says s mv.step d.label)) T
+    by (inr (bare, (includes, now))) = bare_tied act code x p c S T on s mv.step d.label bare (ap (λ (v : State). v.initial) only) (ap (λ (v : State). v.calls) only, includes) stays now
+    by (inl (st, grant, is, includes, now)) = subst (λ bs. IsTiedToLines act code p.values x (p.lines ++ numbered p.event bs) T) (sym ((λ i. call_says s (is i) d.label)))
         (one_tied act code x p c S T on (body.Includes d.label s.x (store_of s.goal)) (ap (λ (v : State). v.initial) only) (omega (arith, now))
-        (ap (λ (v : State). v.calls) only, stays T only, (l.0, l.1, inr (about, grant, includes ∙ (λ i. record { act = act ((its_actor act paths c u b d s work waiting.path ∙ sym l.2) i); line = length p.lines + 1; grant = grant } ∷ S.includes)))))
-      where
-        stays : (T : State) → OnlyIncluded S T → EndsStay S T
-        stays T only a its = subst (λ (f : Act → Action). SameEnd (S.action a) (f a)) (sym (ap (λ (v : State). v.action) only)) (record { stage = refl; place = refl; done = refl })
+        (ap (λ (v : State). v.calls) only, stays, (l.0, l.1, inr (about, grant, includes ∙ (λ i. record { act = act ((its_actor act paths c u b d s work waiting.path ∙ sym l.2) i); line = length p.lines + 1; grant = grant } ∷ S.includes)))))
+
+pub include_answers_are_tied : IncludeAnswersAreTied
+include_answers_are_tied act code paths x store p c u b d s r S reached work waiting about goal shows on whole =
+    goes_to (include_answers_are_heard act code paths x (length p.lines + 1) store c u b d s r S reached work waiting about goal (let t = on.tied in t.now) shows whole) (λ T h. (
+      h.0,
+      (
+        h.1.0,
+        subst (λ bs. IsTiedToLines act code p.values x (p.lines ++ numbered p.event bs) T) (sym (step_call_says s (let m = moved_at s c r in m.step) (on_root (root_of s.path) (root_moved s r (moved_at s c r)) c) d (its_work act paths c u b d s work waiting.path)))
+            (include_said act code paths x store p c u b d s r S T work waiting about goal on whole h.1.0 h.1.1),
+      ),
+    ))

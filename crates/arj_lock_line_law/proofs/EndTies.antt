@@ -23,6 +23,7 @@ use Rattle.arj_lock_law.proofs.Paths.{act_here, act_other, by_cases, differ, sam
 use Rattle.arj_part_law.specs.Copies.{Paths}
 use Rattle.arj_part_law.specs.Coords.{IsBusy, IsVoting}
 use Rattle.arj_part_law.proofs.GoodCoords.{IsStepOf, answer_step, giveup_step}
+use Rattle.arj_lock_view_law.specs.Acting.{IsFreeToEnd}
 use Rattle.arj_lock_view_law.specs.Actions.{IsPlaced, IsSteady, stage_of}
 use Rattle.arj_lock_view_law.specs.Acts.{Acts}
 use Rattle.arj_lock_view_law.specs.Copies.{Codes}
@@ -56,17 +57,21 @@ one_stays m S T o a its = ⊎_elim
     (λ (isnt : same a m ≡ false). subst (SameEnd (S.action a)) (sym (o.others a its isnt)) (record { stage = refl; place = refl; done = refl }))
     (by_cases (same a m))
 
--- the lines of one page behind another
-pub lines_behind : (p : Page) (xs ys : List Body) → (p.lines ++ numbered p.event xs) ++ numbered p.event ys ≡ p.lines ++ numbered p.event (xs ++ ys)
-lines_behind p xs ys = by p.lines
+-- lines behind lines
+pub said_twice : (e : ℕ) (xs ys : List Body) (lines : List Line) → (lines ++ numbered e xs) ++ numbered e ys ≡ lines ++ numbered e (xs ++ ys)
+said_twice e xs ys lines = by lines
   where
-    each : (zs : List Body) → numbered p.event zs ++ numbered p.event ys ≡ numbered p.event (zs ++ ys)
+    each : (zs : List Body) → numbered e zs ++ numbered e ys ≡ numbered e (zs ++ ys)
     each [] = refl
-    each (z ∷ zs) = ap (λ ls. record { event = p.event; body = z } ∷ ls) (each zs)
+    each (z ∷ zs) = ap (λ ls. record { event = e; body = z } ∷ ls) (each zs)
 
-    by : (ls : List Line) → (ls ++ numbered p.event xs) ++ numbered p.event ys ≡ ls ++ numbered p.event (xs ++ ys)
+    by : (ls : List Line) → (ls ++ numbered e xs) ++ numbered e ys ≡ ls ++ numbered e (xs ++ ys)
     by [] = each xs
     by (l ∷ ls) = ap (λ ks. l ∷ ks) (by ls)
+
+-- the lines of one page behind another
+pub lines_behind : (p : Page) (xs ys : List Body) → (p.lines ++ numbered p.event xs) ++ numbered p.event ys ≡ p.lines ++ numbered p.event (xs ++ ys)
+lines_behind p xs ys = said_twice p.event xs ys p.lines
 
 -- ---- a step of a commit
 
@@ -77,7 +82,7 @@ module _ (act : Acts) (code : Codes) (x : ℕ) (p : Page) (c : Coord) (u : Uid) 
   now_S : S.now ≤ n
   now_S = let t = on.tied in t.now
 
-  step_tied : (st : CommitStep) → T.initial ≡ S.initial → CallsStay S T → T.now ≡ now_by st n S.now → ChangesOne (act u) (moved_by st n (S.action (act u))) S T → (is_action (act u) ≡ true → (S.action (act u)).stage ≤ 2) → IsTiedToLines act code p.values x (p.lines ++ numbered p.event (said_by st d.label)) T
+  pub step_tied : (st : CommitStep) → T.initial ≡ S.initial → CallsStay S T → T.now ≡ now_by st n S.now → ChangesOne (act u) (moved_by st n (S.action (act u))) S T → (is_action (act u) ≡ true → (S.action (act u)).stage ≤ 2) → IsTiedToLines act code p.values x (p.lines ++ numbered p.event (said_by st d.label)) T
   step_tied st first calls now changes low = by st now changes
     where
       l : IsLabelled p.lines u b d
@@ -93,7 +98,7 @@ module _ (act : Acts) (code : Codes) (x : ℕ) (p : Page) (c : Coord) (u : Uid) 
       by (Aborts why q) same o = one_tied act code x p c S T on (body.Aborted d.label why) first (let k = now_S in omega (arith, k, same)) (calls, (l.0, l.1, subst (λ (v : Uid). is_action (act v) ≡ true → (S.action (act v)).stage ≢ 3) (sym l.2) (λ its e. let k = low its in omega (arith, k, e)), subst (λ (v : Uid). ChangesOne (act v) (aborted (S.action (act v))) S T) (sym l.2) o))
 
 -- an open action isn't decided
-open_low : (act : Acts) (code : Codes) (x : ℕ) (c : Coord) (u : Uid) (b : Branch) (d : Doing) (S : State) → branch_of u c.tree ≡ Some b → is_some b.ended ≡ false → doing_of u c ≡ Some d → SeesWhole act code x c S → is_action (act u) ≡ true → (S.action (act u)).stage ≤ 2
+pub open_low : (act : Acts) (code : Codes) (x : ℕ) (c : Coord) (u : Uid) (b : Branch) (d : Doing) (S : State) → branch_of u c.tree ≡ Some b → is_some b.ended ≡ false → doing_of u c ≡ Some d → SeesWhole act code x c S → is_action (act u) ≡ true → (S.action (act u)).stage ≤ 2
 open_low act code x c u b d S found unended works whole its =
     let k = whole.coord in
     let a = k.actions in
@@ -105,58 +110,59 @@ open_low act code x c u b d S found unended works whole its =
 open_says : (b : Branch) (intents : List (Uid × Intent)) (c : Coord) → b.doomed ≡ false → bodies_of (let e = commit_action b intents c in e.outs) ≡ bodies_of (let e = commit_open b intents c b.kind in e.outs)
 open_says b intents c un = λ i. bodies_of (let e = cond (un i) (aborts_with (actor b.path) cause.Doomed intents c) (commit_open b intents c b.kind) in e.outs)
 
+module _ (act : Acts) (code : Codes) (paths : Paths) (x : ℕ) (p : Page) (c : Coord) (u : Uid) (b : Branch) (d : Doing) (S T : State) (free : IsFreeToEnd act paths c u b d) (on : IsOnPage act code x p c S) (whole : SeesWhole act code x c S) (only : OnlyEnded (root (act u)) S T) where
+  its_label : IsLabelled p.lines u b d
+  its_label = on.labels u b d free.there free.works
+
+  -- it commits by its line
+  pub nested_said : T.now ≤ length p.lines + 1 + 1 → ChangesOne (act u) (committed_at (length p.lines + 1) (S.action (act u))) S T → IsTiedToLines act code p.values x (p.lines ++ numbered p.event (body.Committed d.label ∷ [])) T
+  nested_said now o = let l = its_label in one_tied act code x p c S T on (body.Committed d.label) (first_stays (root (act u)) S T only) (omega (arith, now)) (calls_stay (root (act u)) S T only, (l.0, l.1, subst (λ (v : Uid). is_action (act v) ≡ true → (S.action (act v)).stage ≤ 2) (sym l.2) (open_low act code x c u b d S free.there free.unended free.works whole), subst (λ (v : Uid). ChangesOne (act v) (committed_at (length p.lines + 1) (S.action (act v))) S T) (sym l.2) o))
+
+  -- a serializing action ends by its line
+  pub serial_said : b.kind ≡ kind.Serial → T.now ≤ length p.lines + 1 + 1 → ChangesOne (act u) (committed_at (length p.lines + 1) (S.action (act u))) S T → IsTiedToLines act code p.values x (p.lines ++ numbered p.event (body.Ended d.label ∷ [])) T
+  serial_said is now o = let l = its_label in one_tied act code x p c S T on (body.Ended d.label) (first_stays (root (act u)) S T only) (omega (arith, now)) (calls_stay (root (act u)) S T only, stays, (l.0, l.1, ap is_serial (l.3 ∙ is)))
+    where
+      no_action : is_action (act u) ≡ false
+      no_action = subst (IsPlaced (act u)) is (free.steady.placed u b free.there)
+
+      stays : EndsStay S T
+      stays a acts_it = subst (SameEnd (S.action a)) (sym (o.others a acts_it (⊎_elim (λ (e : same a (act u) ≡ true). absurd (differ (ap is_action (sym (same_is a (act u) e)) ∙ acts_it) no_action)) (λ e. e) (by_cases (same a (act u)))))) (record { stage = refl; place = refl; done = refl })
+
+  -- a doomed one is aborted by its line
+  pub doomed_said : T.now ≡ S.now → ChangesOne (act u) (aborted (S.action (act u))) S T → IsTiedToLines act code p.values x (p.lines ++ numbered p.event (body.Aborted d.label cause.Doomed ∷ [])) T
+  doomed_said now o = let l = its_label in one_tied act code x p c S T on (body.Aborted d.label cause.Doomed) (first_stays (root (act u)) S T only) (let t = on.tied in let m = t.now in omega (arith, now, m)) (calls_stay (root (act u)) S T only, (l.0, l.1, subst (λ (v : Uid). is_action (act v) ≡ true → (S.action (act v)).stage ≢ 3) (sym l.2) (λ its_one e. let k = open_low act code x c u b d S free.there free.unended free.works whole its_one in omega (arith, k, e)), subst (λ (v : Uid). ChangesOne (act v) (aborted (S.action (act v))) S T) (sym l.2) o))
+
 pub nested_commits_are_tied : NestedCommitsAreTied
 nested_commits_are_tied act code paths x p c u b d intents S reached free kinds undoomed childless on whole =
-    goes_to (nested_commits_are_taken act code paths x (length p.lines + 1) c u b d intents S reached free kinds undoomed childless (let t = on.tied in t.now) whole) (λ T h. (h.0, (h.1.0, ⊎_elim (nested T h.1.0 h.1.1 h.1.2) (serial T h.1.0 h.1.1 h.1.2) kinds)))
+    goes_to (nested_commits_are_taken act code paths x (length p.lines + 1) c u b d intents S reached free kinds undoomed childless (let t = on.tied in t.now) whole) (λ T h. (
+      h.0,
+      (
+        h.1.0,
+        ⊎_elim
+            (λ is. subst (λ bs. IsTiedToLines act code p.values x (p.lines ++ numbered p.event bs) T) (sym (nested_says is)) (nested_said act code paths x p c u b d S T free on whole h.1.0 h.1.1 h.1.2))
+            (λ is. subst (λ bs. IsTiedToLines act code p.values x (p.lines ++ numbered p.event bs) T) (sym (serial_says is)) (serial_said act code paths x p c u b d S T free on whole h.1.0 is h.1.1 h.1.2))
+            kinds,
+      ),
+    ))
   where
-    its : actor b.path ≡ u
-    its = free.steady.good.tree.lists.places u b free.there
-
     works : doing_of (actor b.path) c ≡ Some d
-    works = ap (λ (v : Uid). doing_of v c) its ∙ free.works
+    works = ap (λ (v : Uid). doing_of v c) (free.steady.good.tree.lists.places u b free.there) ∙ free.works
 
-    l : IsLabelled p.lines u b d
-    l = on.labels u b d free.there free.works
+    nested_says : b.kind ≡ kind.Nested → bodies_of (let e = commit_action b intents c in e.outs) ≡ body.Committed d.label ∷ []
+    nested_says is = open_says b intents c undoomed ∙ (λ i. bodies_of (let e = commit_open b intents c (is i) in e.outs)) ∙ ends_say (actor b.path) ending.Commit body.Committed intents c d works
 
-    nested : (T : State) → OnlyEnded (root (act u)) S T → T.now ≤ length p.lines + 1 + 1 → ChangesOne (act u) (committed_at (length p.lines + 1) (S.action (act u))) S T → b.kind ≡ kind.Nested → IsTiedBy act code x p (let e = commit_action b intents c in e.outs) T
-    nested T only now o is = subst (λ bs. IsTiedToLines act code p.values x (p.lines ++ numbered p.event bs) T) (sym says_it)
-        (one_tied act code x p c S T on (body.Committed d.label) (first_stays (root (act u)) S T only) (omega (arith, now)) (calls_stay (root (act u)) S T only, (l.0, l.1, subst (λ (v : Uid). is_action (act v) ≡ true → (S.action (act v)).stage ≤ 2) (sym l.2) (open_low act code x c u b d S free.there free.unended free.works whole), subst (λ (v : Uid). ChangesOne (act v) (committed_at (length p.lines + 1) (S.action (act v))) S T) (sym l.2) o)))
-      where
-        says_it : bodies_of (let e = commit_action b intents c in e.outs) ≡ body.Committed d.label ∷ []
-        says_it = open_says b intents c undoomed ∙ (λ i. bodies_of (let e = commit_open b intents c (is i) in e.outs)) ∙ ends_say (actor b.path) ending.Commit body.Committed intents c d works
-
-    serial : (T : State) → OnlyEnded (root (act u)) S T → T.now ≤ length p.lines + 1 + 1 → ChangesOne (act u) (committed_at (length p.lines + 1) (S.action (act u))) S T → b.kind ≡ kind.Serial → IsTiedBy act code x p (let e = commit_action b intents c in e.outs) T
-    serial T only now o is = subst (λ bs. IsTiedToLines act code p.values x (p.lines ++ numbered p.event bs) T) (sym says_it)
-        (one_tied act code x p c S T on (body.Ended d.label) (first_stays (root (act u)) S T only) (omega (arith, now)) (calls_stay (root (act u)) S T only, stays, (l.0, l.1, ap is_serial (l.3 ∙ is))))
-      where
-        says_it : bodies_of (let e = commit_action b intents c in e.outs) ≡ body.Ended d.label ∷ []
-        says_it = open_says b intents c undoomed ∙ (λ i. bodies_of (let e = commit_open b intents c (is i) in e.outs)) ∙ ends_say (actor b.path) ending.Commit body.Ended intents c d works
-
-        no_action : is_action (act u) ≡ false
-        no_action = subst (IsPlaced (act u)) is (free.steady.placed u b free.there)
-
-        stays : EndsStay S T
-        stays a acts_it = subst (SameEnd (S.action a)) (sym (o.others a acts_it (⊎_elim (λ (e : same a (act u) ≡ true). absurd (differ (ap is_action (sym (same_is a (act u) e)) ∙ acts_it) no_action)) (λ e. e) (by_cases (same a (act u)))))) (record { stage = refl; place = refl; done = refl })
+    serial_says : b.kind ≡ kind.Serial → bodies_of (let e = commit_action b intents c in e.outs) ≡ body.Ended d.label ∷ []
+    serial_says is = open_says b intents c undoomed ∙ (λ i. bodies_of (let e = commit_open b intents c (is i) in e.outs)) ∙ ends_say (actor b.path) ending.Commit body.Ended intents c d works
 
 pub doomed_commits_are_tied : DoomedCommitsAreTied
 doomed_commits_are_tied act code paths x p c u b d intents S reached free doomed childless on whole =
     goes_to (doomed_commits_are_taken act code paths x (length p.lines + 1) c u b d intents S reached free doomed childless (let t = on.tied in t.now) whole) (λ T h. (
       h.0,
-      (
-        h.1.0,
-        subst (λ bs. IsTiedToLines act code p.values x (p.lines ++ numbered p.event bs) T) (sym says_it)
-            (one_tied act code x p c S T on (body.Aborted d.label cause.Doomed) (first_stays (root (act u)) S T h.1.0) (let k = h.1.1 in let t = on.tied in let m = t.now in omega (arith, k, m)) (calls_stay (root (act u)) S T h.1.0, (l.0, l.1, subst (λ (v : Uid). is_action (act v) ≡ true → (S.action (act v)).stage ≢ 3) (sym l.2) (λ its_one e. let k = open_low act code x c u b d S free.there free.unended free.works whole its_one in omega (arith, k, e)), subst (λ (v : Uid). ChangesOne (act v) (aborted (S.action (act v))) S T) (sym l.2) h.1.2))),
-      ),
+      (h.1.0, subst (λ bs. IsTiedToLines act code p.values x (p.lines ++ numbered p.event bs) T) (sym says_it) (doomed_said act code paths x p c u b d S T free on whole h.1.0 h.1.1 h.1.2)),
     ))
   where
-    its : actor b.path ≡ u
-    its = free.steady.good.tree.lists.places u b free.there
-
-    l : IsLabelled p.lines u b d
-    l = on.labels u b d free.there free.works
-
     says_it : bodies_of (let e = commit_action b intents c in e.outs) ≡ body.Aborted d.label cause.Doomed ∷ []
-    says_it = (λ i. bodies_of (let e = cond (doomed i) (aborts_with (actor b.path) cause.Doomed intents c) (commit_open b intents c b.kind) in e.outs)) ∙ ends_say (actor b.path) ending.Abort (λ k. body.Aborted k cause.Doomed) intents c d (ap (λ (v : Uid). doing_of v c) its ∙ free.works)
+    says_it = (λ i. bodies_of (let e = cond (doomed i) (aborts_with (actor b.path) cause.Doomed intents c) (commit_open b intents c b.kind) in e.outs)) ∙ ends_say (actor b.path) ending.Abort (λ k. body.Aborted k cause.Doomed) intents c d (ap (λ (v : Uid). doing_of v c) (free.steady.good.tree.lists.places u b free.there) ∙ free.works)
 
 -- ---- answers to a commit
 
@@ -253,19 +259,46 @@ top_says b intents c kind.Top s n = refl
 top_says b intents c kind.Constituent s n = refl
 top_says b intents c kind.Independent s n = refl
 
+-- the page with the line of the call
+abbrev pub page_called : Page → Doing → Page
+page_called p d = record p { lines = more p.lines p.event (body.Committing d.label) }
+
+-- The call has its line, and the step that comes with it.
+pub top_said : (act : Acts) (code : Codes) (paths : Paths) (x : ℕ) (p : Page) (c : Coord) (u : Uid) (b : Branch) (d : Doing) (st : CommitStep) (S T : State) → IsFreeToEnd act paths c u b d → IsOnPage act code x p c S → SeesWhole act code x c S → OnlyEnded (root (act u)) S T
+    → T.now ≡ now_by st (length p.lines + 1 + 1) (length p.lines + 1 + 1) → ChangesOne (act u) (moved_by st (length p.lines + 1 + 1) (called_at (length p.lines + 1) (S.action (act u)))) S T
+    → IsTiedToLines act code p.values x (p.lines ++ numbered p.event (body.Committing d.label ∷ said_by st d.label)) T
+top_said act code paths x p c u b d st S T free on whole only now o =
+    subst (λ ls. IsTiedToLines act code p.values x ls T) (lines_behind p (body.Committing d.label ∷ []) (said_by st d.label))
+    (step_tied act code x (page_called p d) c u b d free.there free.works behind_first T on1 st (first_stays (root (act u)) S T only) (calls_stay (root (act u)) S T only) (now ∙ (λ i. now_by st (same_place i) (length p.lines + 1 + 1))) (record {
+      one = λ its_one. o.one its_one ∙ (λ i. moved_by st (same_place i) (sym (act_here S.action (act u) called) i));
+      others = λ a its_one other. o.others a its_one other ∙ sym (act_other S.action (act u) called a other);
+    }) (λ its_one. let e : (behind_first.action (act u)).stage ≡ 1 = ap (λ (v : Action). v.stage) (act_here S.action (act u) called) in omega (arith, e)))
+  where
+    l : IsLabelled p.lines u b d
+    l = on.labels u b d free.there free.works
+
+    called : Action
+    called = called_at (length p.lines + 1) (S.action (act u))
+
+    behind_first : State
+    behind_first = record S { action = at_act S.action (act u) called; now = length p.lines + 1 + 1 }
+
+    -- where the next line stands
+    same_place : length p.lines + 1 + 1 ≡ length (page_called p d).lines + 1
+    same_place = let e = length_more p.lines (record { event = p.event; body = body.Committing d.label }) in omega (arith, e)
+
+    zero_now : is_action (act u) ≡ true → (S.action (act u)).stage ≡ 0
+    zero_now its_one = let k = whole.coord in let a = k.actions in let s = a.each u b d free.there free.works its_one in s.stage ∙ (λ i. stage_of (unended_none b.ended free.unended i) (free.idle i))
+
+    on1 : IsOnPage act code x (page_called p d) c behind_first
+    on1 = page_still act code x p c S behind_first (body.Committing d.label) refl on (one_tied act code x p c S behind_first on (body.Committing d.label) refl (omega arith)
+        ((refl, refl), (l.0, l.1, subst (λ (v : Uid). is_action (act v) ≡ true → (S.action (act v)).stage ≡ 0) (sym l.2) zero_now, subst (λ (v : Uid). ChangesOne (act v) (called_at (length p.lines + 1) (S.action (act v))) S behind_first) (sym l.2) (record { one = λ its_one. act_here S.action (act u) called; others = λ a its_one other. act_other S.action (act u) called a other }))))
+
 pub top_commits_are_tied : TopCommitsAreTied
 top_commits_are_tied act code paths x p c u b d intents S reached free begun topped unserial unnested undoomed childless first low keeps on whole =
     goes_to (top_commits_are_taken act code paths x (length p.lines + 1) c u b d intents S reached free begun topped unserial unnested undoomed childless first (let t = on.tied in t.now) low keeps whole) (λ T h. (
       h.0,
-      (
-        h.1.0,
-        subst (λ bs. IsTiedToLines act code p.values x (p.lines ++ numbered p.event bs) T) (sym says_it)
-            (subst (λ ls. IsTiedToLines act code p.values x ls T) (lines_behind p (body.Committing d.label ∷ []) (said_by st d.label))
-            (step_tied act code x p1 c u b d free.there free.works behind_first T on1 st (first_stays (root (act u)) S T h.1.0) (calls_stay (root (act u)) S T h.1.0) (h.1.1 ∙ (λ i. now_by st (same_place i) (length p.lines + 1 + 1))) (record {
-              one = λ its_one. (let o = h.1.2 in o.one its_one) ∙ (λ i. moved_by st (same_place i) (sym (act_here S.action (act u) called) i));
-              others = λ a its_one other. (let o = h.1.2 in o.others a its_one other) ∙ sym (act_other S.action (act u) called a other);
-            }) (λ its_one. let e : (behind_first.action (act u)).stage ≡ 1 = ap (λ (v : Action). v.stage) (act_here S.action (act u) called) in omega (arith, e)))),
-      ),
+      (h.1.0, subst (λ bs. IsTiedToLines act code p.values x (p.lines ++ numbered p.event bs) T) (sym says_it) (top_said act code paths x p c u b d st S T free on whole h.1.0 h.1.1 h.1.2)),
     ))
   where
     pl : Plan
@@ -276,29 +309,6 @@ top_commits_are_tied act code paths x p c u b d intents S reached free begun top
 
     its : actor b.path ≡ u
     its = free.steady.good.tree.lists.places u b free.there
-
-    l : IsLabelled p.lines u b d
-    l = on.labels u b d free.there free.works
-
-    called : Action
-    called = called_at (length p.lines + 1) (S.action (act u))
-
-    behind_first : State
-    behind_first = record S { action = at_act S.action (act u) called; now = length p.lines + 1 + 1 }
-
-    p1 : Page
-    p1 = record p { lines = more p.lines p.event (body.Committing d.label) }
-
-    -- where the next line stands
-    same_place : length p.lines + 1 + 1 ≡ length p1.lines + 1
-    same_place = let e = length_more p.lines (record { event = p.event; body = body.Committing d.label }) in omega (arith, e)
-
-    zero_now : is_action (act u) ≡ true → (S.action (act u)).stage ≡ 0
-    zero_now its_one = let k = whole.coord in let a = k.actions in let s = a.each u b d free.there free.works its_one in s.stage ∙ (λ i. stage_of (unended_none b.ended free.unended i) (free.idle i))
-
-    on1 : IsOnPage act code x p1 c behind_first
-    on1 = page_still act code x p c S behind_first (body.Committing d.label) refl on (one_tied act code x p c S behind_first on (body.Committing d.label) refl (omega arith)
-        ((refl, refl), (l.0, l.1, subst (λ (v : Uid). is_action (act v) ≡ true → (S.action (act v)).stage ≡ 0) (sym l.2) zero_now, subst (λ (v : Uid). ChangesOne (act v) (called_at (length p.lines + 1) (S.action (act v))) S behind_first) (sym l.2) (record { one = λ its_one. act_here S.action (act u) called; others = λ a its_one other. act_other S.action (act u) called a other }))))
 
     says_it : bodies_of (let e = commit_action b intents c in e.outs) ≡ (body.Committing d.label ∷ []) ++ said_by st d.label
     says_it =

@@ -4,16 +4,19 @@ use Rattle.arj_journal.specs.declared.body.Body.{Body}
 use Rattle.arj_journal.specs.declared.body.Body.TheVariants as body
 use Rattle.arj_protocol.specs.Words.{Label, Uid}
 use Rattle.arj_protocol.specs.Asking.{gaveup_lines, root_lost}
-use Rattle.arj_protocol.specs.Call.{given_up}
+use Rattle.arj_protocol.specs.Call.{Steps, given_up}
 use Rattle.arj_protocol.specs.Coord.{Coord, Doing, doing_of, on_root}
 use Rattle.arj_protocol.specs.Ending.{says}
 use Rattle.arj_protocol.specs.Tree.{root_of}
 use Rattle.arj_protocol.specs.World.{numbered}
+use Rattle.arj_lock_law.specs.State.{State}
+use Rattle.arj_lock_view_law.specs.Acts.{Acts}
+use Rattle.arj_lock_view_law.specs.Copies.{Codes}
 use Rattle.arj_lock_view_law.proofs.CallInputSteps.{includes_are_made, other_calls_are_lost}
 use Rattle.arj_lock_line_law.specs.Coordinators.{GaveUpsAreTied, IncludesAreTied, IsOnPage, OtherLostAreTied, Page, bodies_of}
 use Rattle.arj_lock_line_law.specs.Lines.{IsTiedToLines}
 use Rattle.arj_lock_line_law.specs.Steps.{ArePlain}
-use Rattle.arj_lock_line_law.proofs.CallTies.{bare_given, bare_tied, its_work, step_call_says}
+use Rattle.arj_lock_line_law.proofs.CallTies.{bare_given, bare_tied, call_says, its_work, step_call_says}
 use Rattle.arj_lock_line_law.proofs.EndTies.{lines_behind}
 use Rattle.arj_lock_line_law.proofs.Pages.{behind_none, pages_plain, same_stay}
 use Rattle.arj_lock_line_law.proofs.Saying.{bodies_app, say_one}
@@ -22,11 +25,15 @@ pub includes_are_tied : IncludesAreTied
 includes_are_tied act code paths x y store p c u b d S reached work idle plain on whole =
     (includes_are_made act code paths x y store c u b d S reached work idle plain whole, subst (λ (q : Page). IsTiedToLines act code p.values x q.lines S) (sym (behind_none p)) on.tied)
 
+-- what is given up is nothing to the machine
+pub other_lost_said : (act : Acts) (code : Codes) (x : ℕ) (p : Page) (c : Coord) (S : State) → IsOnPage act code x p c S → (s : Steps) (l : Label) → IsTiedToLines act code p.values x (p.lines ++ numbered p.event (call_says s (given_up s.at) l)) S
+other_lost_said act code x p c S on s l = bare_tied act code x p c S S on s (given_up s.at) l (bare_given s.at) refl (refl, refl) (same_stay S) refl
+
 pub other_lost_are_tied : OtherLostAreTied
 other_lost_are_tied act code paths x p c u b d s S reached work waiting away on whole = (
   other_calls_are_lost act code paths x c u b d s S reached work waiting away whole,
   subst (λ bs. IsTiedToLines act code p.values x (p.lines ++ numbered p.event bs) S) (sym (step_call_says s (given_up s.at) (on_root (root_of s.path) (root_lost s (given_up s.at)) c) d (its_work act paths c u b d s work waiting.path)))
-      (bare_tied act code x p c S S on s (given_up s.at) d.label (bare_given s.at) refl (refl, refl) (same_stay S) refl),
+      (other_lost_said act code x p c S on s d.label),
 )
 
 -- ---- whom it waited for

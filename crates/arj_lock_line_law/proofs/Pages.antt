@@ -26,7 +26,7 @@ use Rattle.arj_lock_line_law.proofs.Ties.{plain_goes, says_none, ties_are_kept}
 -- ---- lines without which actions stay
 
 -- where no action begins, the journal has its actions
-acts_still : (lines : List Line) (event : ℕ) (b : Body) → begun_of b ≡ None → acts (more lines event b) ≡ acts lines
+pub acts_still : (lines : List Line) (event : ℕ) (b : Body) → begun_of b ≡ None → acts (more lines event b) ≡ acts lines
 acts_still lines event b none = acts_more lines event b ∙ ap (numbered_acts (acts lines)) none
 
 pub named_still : (act : Acts) (lines : List Line) (event : ℕ) (b : Body) → begun_of b ≡ None → AreNamed act lines → AreNamed act (more lines event b)
@@ -88,11 +88,11 @@ page_plain act code x p c S b plain on =
 abbrev pub behind : Page → List Body → Page
 behind p bs = record p { lines = p.lines ++ numbered p.event bs }
 
-append_one : {A : Type 0} (xs ys : List A) (y : A) → (xs ++ y ∷ []) ++ ys ≡ xs ++ y ∷ ys
+pub append_one : {A : Type 0} (xs ys : List A) (y : A) → (xs ++ y ∷ []) ++ ys ≡ xs ++ y ∷ ys
 append_one [] ys y = refl
 append_one (x ∷ xs) ys y = ap (λ zs. x ∷ zs) (append_one xs ys y)
 
-append_nil : {A : Type 0} (xs : List A) → xs ++ [] ≡ xs
+pub append_nil : {A : Type 0} (xs : List A) → xs ++ [] ≡ xs
 append_nil [] = refl
 append_nil (x ∷ xs) = ap (λ zs. x ∷ zs) (append_nil xs)
 

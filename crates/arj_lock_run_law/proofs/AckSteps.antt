@@ -27,12 +27,14 @@ use Rattle.arj_lock_run_law.specs.Coordinating.{coord_at, records_at}
 use Rattle.arj_lock_run_law.specs.Fixed.{Fixed}
 use Rattle.arj_lock_run_law.specs.Posts.{IsToldSo}
 use Rattle.arj_lock_run_law.specs.Sees.{AreRecordsOf, SeesLocks, SeesUp}
+use Rattle.arj_lock_run_law.specs.Tied.{AreTied}
 use Rattle.arj_lock_run_law.specs.World.{IsSeenSo}
 use Rattle.arj_lock_run_law.proofs.GoodSteps.{good_node, its, steady}
 use Rattle.arj_lock_run_law.proofs.HaltSteps.{halt_up}
 use Rattle.arj_lock_run_law.proofs.OtherSteps.{SeesOthers, here_of, others_of, reached_of, with_here}
 use Rattle.arj_lock_run_law.proofs.QuerySteps.{ended_seen, told_one}
 use Rattle.arj_lock_run_law.proofs.RestartWalks.{is_no_work, quiet_walk}
+use Rattle.arj_lock_run_law.proofs.TieSteps.{tied_now}
 use Rattle.arj_lock_run_law.proofs.WalkSteps.{AreSendsSeen, IsSendSeen}
 
 -- what is left of entries was there
@@ -105,8 +107,8 @@ module _ (c : Case) (s : Spot) (is_seen : IsSeenIn c (world_at s)) (holds : Hold
     records = z.records;
   }
 
-  halt : (e : ℕ) (d : Disk) → (let z = s.disk in d.inc ≡ z.inc) → SeesUp v S d s.parts → (T : State) × SeesLocks f c.x c.begun T (halted e k d s.seen)
-  halt e d inc z = halt_up f c.x c.begun k e S S d s.parts s.seen (steady c s is_seen) (let n = good_node c s is_seen in let g = n.coord in g.known) ((let q = its c s is_seen in q.server) ∙ sym inc) holds others z
+  halt : (e : ℕ) (d : Disk) → (let z = s.disk in d.inc ≡ z.inc) → SeesUp v S d s.parts → (T : State) × SeesLocks f c.x c.begun T (halted e k d s.seen) × AreTied f c.x (let N = halted e k d s.seen in N.lines) T
+  halt e d inc z = halt_up f c.x c.begun k e S S d s.parts s.seen (steady c s is_seen) (let n = good_node c s is_seen in let g = n.coord in g.known) ((let q = its c s is_seen in q.server) ∙ sym inc) (let q = its c s is_seen in q.node) holds others z (tied_now c (world_at s) is_seen)
 
   stop : (e : ℕ) → Stops (IsSeenSo c) e k (RemoveIntent u) s.disk s.seen
   stop e Before agrees = halt e s.disk refl here
@@ -146,7 +148,7 @@ module _ (c : Case) (s : Spot) (is_seen : IsSeenIn c (world_at s)) (holds : Hold
 
   -- nothing is removed
   stay : (e : ℕ) (m : List (Uid × Intent)) → SeesWhole f.act f.code c.x (record C { telling = m }) S → Up (IsSeenSo c) k (with_coord s.parts (record C { telling = m })) s.disk s.seen
-  stay e m whole agrees = (S, with_here f c.x c.begun k s.disk (Some (with_coord s.parts (record C { telling = m }))) S s.seen others (told s.disk m here whole))
+  stay e m whole agrees = (S, with_here f c.x c.begun k s.disk (Some (with_coord s.parts (record C { telling = m }))) S s.seen others (told s.disk m here whole), is_seen.tied)
 
   goes_left : (e : ℕ) (i : Intent) (ns : List ℕ) → SeesWhole f.act f.code c.x (let g = acked_left u i js C ns in g.part) S → AckWalks e (acked_left u i js C ns)
   goes_left e i [] whole =
@@ -157,7 +159,7 @@ module _ (c : Case) (s : Spot) (is_seen : IsSeenIn c (world_at s)) (holds : Hold
       let outs = tolds_let_go u rest C (at_uid u js) in (
         stop e,
         subst (λ es. Walks P e k es (Up P k (with_coord s.parts E)) d s.seen) (append-nil outs) (quiet_walk f c.x c.begun k e P (Up P k (with_coord s.parts E)) S sent d outs [] (let_go_quiet (at_uid u js)) (let_go_seen (at_uid u js) refl)
-            (λ N w o agrees. (S, with_here f c.x c.begun k d (Some (with_coord s.parts E)) S N o (told d m removed whole))) s.seen (λ r i. i) others),
+            (λ N w o now agrees. (S, with_here f c.x c.begun k d (Some (with_coord s.parts E)) S N o (told d m removed whole), now.tied)) s.seen (λ r i. i) others (tied_now c (world_at s) is_seen)),
       )
   goes_left e i (n ∷ ns) whole = stay e (put_uid u (record i { nodes = n ∷ ns }) C.telling) whole
 

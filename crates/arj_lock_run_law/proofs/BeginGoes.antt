@@ -1,5 +1,5 @@
 -- An action begins, in the whole world: all that was seen is seen with it.
-use Rattle.std.proofs.Common.{◌||◌, ◌≡◌, ◌≢◌, ◌∙◌, ℕ, List, [], ◌∷◌, true, false, Option, Some, None, sym, ap, subst, inl, inr, ⊎_elim, Contains}
+use Rattle.std.proofs.Common.{◌||◌, ◌≡◌, ◌≢◌, ◌∙◌, ℕ, List, [], ◌∷◌, ◌++◌, true, false, Option, Some, None, sym, ap, subst, inl, inr, ⊎_elim, Contains}
 use Rattle.arj_base.proofs.Uids.{uid_same}
 use Rattle.arj_lock.proofs.Members.{in_from, in_to}
 use Rattle.arj_protocol.specs.Words.{Kind, Label, Uid, first_uid, is_on, uids_of}
@@ -11,6 +11,7 @@ use Rattle.arj_protocol.specs.Effect.{Disk, Intent}
 use Rattle.arj_protocol.specs.Naming.{Naming}
 use Rattle.arj_protocol.specs.Node.{Parts, with_coord}
 use Rattle.arj_protocol.specs.Tree.{Branch, Tree, branch_of, next_uid, root_of}
+use Rattle.arj_protocol.specs.World.{numbered}
 use Rattle.arj_lock_law.specs.Actions.{root}
 use Rattle.arj_lock_law.specs.Machine.{stay}
 use Rattle.arj_lock_law.specs.State.{State}
@@ -27,9 +28,11 @@ use Rattle.arj_lock_run_law.specs.Beside.{Case, IsSeenIn, Spot, world_at}
 use Rattle.arj_lock_run_law.specs.Coordinating.{BeginsGo, beginning, coord_at}
 use Rattle.arj_lock_run_law.specs.Fixed.{Fixed, view_of}
 use Rattle.arj_lock_run_law.specs.Sees.{ArePast, AreRecordsOf, IsFresh, SeesMemory, SeesUp}
+use Rattle.arj_lock_run_law.specs.Tied.{AreTied}
 use Rattle.arj_lock_run_law.proofs.GoodSteps.{its, steady}
 use Rattle.arj_lock_run_law.proofs.OtherSteps.{SeesOthers, here_of, others_of, reached_of, said_others, with_here}
 use Rattle.arj_lock_run_law.proofs.PostSteps.{posts_stay}
+use Rattle.arj_lock_run_law.proofs.TieSteps.{tied_begins, tied_now}
 
 -- ---- one more action
 
@@ -167,6 +170,10 @@ module _ (c : Case) (s : Spot) (is_seen : IsSeenIn c (world_at s)) (l : Label) (
   pub others_with : (e : ℕ) (M : Seen) → SeesOthers f c.x c.begun k S M → SeesOthers f c.x (a ∷ c.begun) k S M
   others_with e M z = others_more f c.x c.begun a S k e M (ap (λ (v : Uid). v.node) may.uid ∙ at_home) z
 
+  -- the journal is tied with its line
+  pub tied_more : (e : ℕ) → AreTied f c.x ((let M = s.seen in M.lines) ++ numbered e (began_line l how u parent ∷ [])) S
+  tied_more e = tied_begins f c.x c.begun e l how u parent S (let M = s.seen in M.lines) (let w = is_seen.written in w.right) begun_apart is_beginning.untouched (tied_now c (world_at s) is_seen)
+
 pub begins_go : BeginsGo
 begins_go c s e l g how parent above is_seen begins may empty = λ agrees. (
   c.state,
@@ -175,4 +182,5 @@ begins_go c s e l g how parent above is_seen begins may empty = λ agrees. (
       (said_others c.fixed c.x c.begun s.node e (began_line l how (next_uid (let q = coord_at s in q.tree)) parent ∷ []) c.state (given l g s.seen)
       (let z = others_of c.fixed c.x c.begun s.node s.disk (Some s.parts) c.state s.seen is_seen.sees in record { run = z.run; nodes = z.nodes; posts = z.posts; fresh = z.fresh; now = z.now })))
       (up_more c s is_seen l how parent above begins may empty),
+  tied_more c s is_seen l how parent above begins may empty e,
 )

@@ -18,6 +18,7 @@ use Rattle.arj_protocol.specs.Ending.{aborts_with, decide, decided, decided_told
 use Rattle.arj_protocol.specs.Order.{binding_number, has, put_uid}
 use Rattle.arj_protocol.specs.Tree.{Branch, branch_of, root_of}
 use Rattle.arj_protocol.proofs.Messages.{request_reads_back}
+use Rattle.arj_protocol.specs.World.{numbered}
 use Rattle.arj_lock_law.specs.Actions.{Act, is_top, root}
 use Rattle.arj_lock_law.specs.State.{State}
 use Rattle.arj_part_law.specs.Coords.{IsBusy, IsVoting}
@@ -43,18 +44,25 @@ use Rattle.arj_lock_view_law.proofs.OneSteps.{work_changed}
 use Rattle.arj_lock_view_law.proofs.PlanSteps.{commit_answers_are_taken, commits_are_given_up}
 use Rattle.arj_lock_view_law.proofs.TopInputSteps.{top_commits_are_taken}
 use Rattle.arj_lock_view_law.proofs.TreeSteps.{top_kind}
+use Rattle.arj_lock_line_law.specs.Lines.{IsTiedToLines}
+use Rattle.arj_lock_line_law.specs.Steps.{ArePlain}
+use Rattle.arj_lock_line_law.proofs.EndTies.{calls_stay, first_stays, open_low, said_twice, step_tied, top_said}
+use Rattle.arj_lock_line_law.proofs.Pages.{append_nil, behind, pages_plain}
+use Rattle.arj_lock_line_law.proofs.Saying.{said_by}
 use Rattle.arj_lock_run_law.specs.Beside.{Case, HoldsNamingIn, IsSeenIn, Spot, view_in, world_at}
 use Rattle.arj_lock_run_law.specs.Coordinating.{CommitAnswersGo, HasStepped, IsAtCommit, IsSendShown, KnowsAsks, KnowsCoord, LostCommitsGo, StepGoes, TopCommitsGo, coord_at, records_at}
 use Rattle.arj_lock_run_law.specs.Fixed.{family_of}
 use Rattle.arj_lock_run_law.specs.Posts.{IsAskedSeen}
 use Rattle.arj_lock_run_law.specs.Sees.{SeesUp}
+use Rattle.arj_lock_run_law.specs.Tied.{AreTied, BeginNone}
 use Rattle.arj_lock_run_law.proofs.AskedSteps.{commit_names, commit_says}
-use Rattle.arj_lock_run_law.proofs.CoordSteps.{coords_go, length_one, says_as, says_more, says_then}
+use Rattle.arj_lock_run_law.proofs.CoordSteps.{coords_go, length_one, length_said, says_as, says_more, says_then}
 use Rattle.arj_lock_run_law.proofs.DecideSteps.{decides_walk}
 use Rattle.arj_lock_run_law.proofs.GoodSteps.{steady}
 use Rattle.arj_lock_run_law.proofs.OtherSteps.{here_of}
 use Rattle.arj_lock_run_law.proofs.StepSteps.{ended_stepped}
-use Rattle.arj_lock_run_law.proofs.ToldSteps.{AreShownSends, ended_here, flat_says, one_told, telling, tolds_shown}
+use Rattle.arj_lock_run_law.proofs.TieSteps.{none_both, on_page, page_at, plain_none}
+use Rattle.arj_lock_run_law.proofs.ToldSteps.{AreShownSends, ended_here, flat_plain, flat_says, one_told, plain_app, telling, tolds_shown}
 
 -- ---- a coordinator's works
 
@@ -144,8 +152,8 @@ module _ (c : Case) (s : Spot) (e : ℕ) (is_seen : IsSeenIn c (world_at s)) (ho
 
   -- a decision, by a record or without one
   decides_goes : (q : Plan) (pre : List Body) (T : State) → branch_of (actor q.path) c0.tree ≡ Some b → doing_of (actor q.path) c0 ≡ Some d → (has_record q ≡ true → IsDecided (let f = c.fixed in f.act) c0 (actor q.path) c.state) → let D = decide q c0 in KnowsCoord c s D.part → HasStepped c s (actor q.path) (length pre + 1) D.part T
-      → StepGoes c s e (record { part = D.part; outs = map Say pre ++ D.outs })
-  decides_goes q pre T found works backed knows has = by (has_record q) refl
+      → (has_record q ≡ true → ArePlain pre) → BeginNone pre → AreTied c.fixed c.x ((let M = s.seen in M.lines) ++ numbered e (pre ++ body.Committed d.label ∷ [])) T → StepGoes c s e (record { part = D.part; outs = map Say pre ++ D.outs })
+  decides_goes q pre T found works backed knows has plain none tied = by (has_record q) refl
     where
       v : Uid
       v = actor q.path
@@ -165,10 +173,10 @@ module _ (c : Case) (s : Spot) (e : ℕ) (is_seen : IsSeenIn c (world_at s)) (ho
       by : (t : Bool) → has_record q ≡ t → StepGoes c s e (record { part = D.part; outs = map Say pre ++ D.outs })
       by false is = subst (λ (es : List Effect). StepGoes c s e (record { part = D.part; outs = es }))
           (sym ((λ i. map Say pre ++ (cond (is i) (work ∷ []) [] ++ say_for body.Committed (works i) ++ map (decided_told (root_of q.path) v q) q.sent)) ∙ says_then pre (body.Committed d.label) (map (decided_told (root_of q.path) v q) q.sent)))
-          (coords_go c s e v b (pre ++ body.Committed d.label ∷ []) (map (decided_told (root_of q.path) v q) q.sent) D.part T is_seen found knows.on told.0 (says_as c s v (length pre + 1) (length (pre ++ body.Committed d.label ∷ [])) D.part T (sym (length_one pre (body.Committed d.label))) has) told.1)
+          (coords_go c s e v b (pre ++ body.Committed d.label ∷ []) (map (decided_told (root_of q.path) v q) q.sent) D.part T is_seen found knows.on told.0 (says_as c s v (length pre + 1) (length (pre ++ body.Committed d.label ∷ [])) D.part T (sym (length_one pre (body.Committed d.label))) has) told.1 (none_both pre (body.Committed d.label ∷ []) none (refl, tt)) tied)
       by true is = subst (λ (es : List Effect). StepGoes c s e (record { part = D.part; outs = es }))
           (sym (λ i. map Say pre ++ (cond (is i) (work ∷ []) [] ++ say_for body.Committed (works i) ++ map (decided_told (root_of q.path) v q) q.sent)))
-          (decides_walk c s is_seen holds v (record { root = root_of q.path; nodes = participants q }) b found D.part knows.on pre T has (backed is) so e (body.Committed d.label) (map (decided_told (root_of q.path) v q) q.sent) told.0 told.1)
+          (decides_walk c s is_seen holds v (record { root = root_of q.path; nodes = participants q }) b found D.part knows.on pre T has (backed is) so e (body.Committed d.label) (map (decided_told (root_of q.path) v q) q.sent) told.0 told.1 (plain is) refl tied)
 
   module _ (u : Uid) (found : branch_of u c0.tree ≡ Some b) (works : doing_of u c0 ≡ Some d) where
     -- a decision is that of this top, and stands on votes where it has a record
@@ -179,22 +187,23 @@ module _ (c : Case) (s : Spot) (e : ℕ) (is_seen : IsSeenIn c (world_at s)) (ho
     abbrev waits_in : (m : Machine) → Doing → Doing
     waits_in m y = record y { req = (let p = plan_of m in p.req); now = Committing m }
 
-    step_walk : (st : CommitStep) (pre : List Body) (T : State) → IfDecides st → let D = step_commit u st (records_at s) c0 in KnowsCoord c s D.part → KnowsAsks c D.part → KnowsEnds D.part → HasStepped c s u (length pre + lines_by st) D.part T → StepGoes c s e (record { part = D.part; outs = map Say pre ++ D.outs })
-    step_walk (Stays m) pre T decides knows asked brings has = coords_go c s e u b pre [] (commits_in u m c0) T is_seen found knows.on tt (says_as c s u (length pre + 0) (length pre) (commits_in u m c0) T (omega arith) has) tt
-    step_walk (Asks m) pre T decides knows asked brings has =
+    step_walk : (st : CommitStep) (pre : List Body) (T : State) → IfDecides st → let D = step_commit u st (records_at s) c0 in KnowsCoord c s D.part → KnowsAsks c D.part → KnowsEnds D.part → HasStepped c s u (length pre + lines_by st) D.part T
+        → ((q : Plan) → st ≡ Decides q → has_record q ≡ true → ArePlain pre) → BeginNone pre → AreTied c.fixed c.x ((let M = s.seen in M.lines) ++ numbered e (pre ++ said_by st d.label)) T → StepGoes c s e (record { part = D.part; outs = map Say pre ++ D.outs })
+    step_walk (Stays m) pre T decides knows asked brings has plain none tied = coords_go c s e u b pre [] (commits_in u m c0) T is_seen found knows.on tt (says_as c s u (length pre + 0) (length pre) (commits_in u m c0) T (omega arith) has) tt none (subst (λ bs. AreTied c.fixed c.x ((let M = s.seen in M.lines) ++ numbered e bs) T) (append_nil pre) tied)
+    step_walk (Asks m) pre T decides knows asked brings has plain none tied =
         let C : Coord = (let D = asks_machine m (commits_in u m c0) in D.part) in
         let o = work_changed c0 u b d found works (waits_in m) in
         let shown = machine_shown c s is_seen u C knows asked brings T has.coord (let y = has.only in y.naming) (waits_in m d) m (asks_doing (let p = plan_of m in p.path) (let p = plan_of m in p.req) (waiting m) (commits_in u m c0) u ∙ o.doing) refl (left_of m) (commits_in u m c0) in
-        coords_go c s e u b pre (let D = asks_machine m (commits_in u m c0) in D.outs) C T is_seen found knows.on shown.0 (says_as c s u (length pre + 0) (length pre) C T (omega arith) has) shown.1
-    step_walk (Decides q) pre T decides knows asked brings has =
+        coords_go c s e u b pre (let D = asks_machine m (commits_in u m c0) in D.outs) C T is_seen found knows.on shown.0 (says_as c s u (length pre + 0) (length pre) C T (omega arith) has) shown.1 none (subst (λ bs. AreTied c.fixed c.x ((let M = s.seen in M.lines) ++ numbered e bs) T) (append_nil pre) tied)
+    step_walk (Decides q) pre T decides knows asked brings has plain none tied =
         let who : u ≡ actor q.path = sym decides.0 in
-        decides_goes q pre T (ap (λ (v : Uid). branch_of v c0.tree) decides.0 ∙ found) (ap (λ (v : Uid). doing_of v c0) decides.0 ∙ works) (λ is. subst (λ (v : Uid). IsDecided (let f = c.fixed in f.act) c0 v c.state) who (decides.1 is)) knows (subst (λ (v : Uid). HasStepped c s v (length pre + 1) (let D = decide q c0 in D.part) T) who has)
-    step_walk (Aborts why q) pre T decides knows asked brings has =
+        decides_goes q pre T (ap (λ (v : Uid). branch_of v c0.tree) decides.0 ∙ found) (ap (λ (v : Uid). doing_of v c0) decides.0 ∙ works) (λ is. subst (λ (v : Uid). IsDecided (let f = c.fixed in f.act) c0 v c.state) who (decides.1 is)) knows (subst (λ (v : Uid). HasStepped c s v (length pre + 1) (let D = decide q c0 in D.part) T) who has) (plain q refl) none tied
+    step_walk (Aborts why q) pre T decides knows asked brings has plain none tied =
         let C : Coord = ended u ending.Abort c0 in
         let l : Body = body.Aborted d.label why in
         let told = tolds_shown c s is_seen C knows T has.coord (records_at s) u (record b { ended = Some ending.Abort }) (ended_here c0 u b d ending.Abort found works) ending.Abort refl (inr (inr refl)) in
         subst (λ (es : List Effect). StepGoes c s e (record { part = C; outs = es })) (sym ((λ i. map Say pre ++ (say_for (λ (n : Label). body.Aborted n why) (works i) ++ tolds_of (records_at s) C u)) ∙ says_then pre l (tolds_of (records_at s) C u)))
-        (coords_go c s e u b (pre ++ l ∷ []) (tolds_of (records_at s) C u) C T is_seen found knows.on told.0 (says_as c s u (length pre + 1) (length (pre ++ l ∷ [])) C T (sym (length_one pre l)) has) told.1)
+        (coords_go c s e u b (pre ++ l ∷ []) (tolds_of (records_at s) C u) C T is_seen found knows.on told.0 (says_as c s u (length pre + 1) (length (pre ++ l ∷ [])) C T (sym (length_one pre l)) has) told.1 (none_both pre (l ∷ []) none (refl, tt)) tied)
 
 -- ---- answers, and what is given up
 
@@ -253,12 +262,23 @@ module _ (c : Case) (s : Spot) (e : ℕ) (is_seen : IsSeenIn c (world_at s)) (ho
   if_decides (Decides q) of g = (ap actor of.0 ∙ its_path, λ is. decided_now (let h = g.holds in backed_before (act u) S g.state h.1 h.0))
   if_decides (Aborts why q) of g = tt
 
+  -- the journal is tied with its lines
+  moved_tied : (m : Marked) (bs : List Body) (T : State) → ArePlain bs → OnlyEnded (root (act u)) S T → T.now ≡ now_by m.step (place bs) S.now → ChangesOne (act u) (moved_by m.step (place bs) (S.action (act u))) S T → AreTied c.fixed c.x ((let M = s.seen in M.lines) ++ numbered e (bs ++ said_by m.step d.label)) T
+  moved_tied m bs T plain only now changes values is =
+      let code = (let f = c.fixed in f.code) in
+      let q = behind (page_at s e values) bs in
+      let on = pages_plain act code c.x its_coord S bs (page_at s e values) plain (on_page c s e is_seen values is) in
+      let same : place bs ≡ length q.lines + 1 = ap (λ n. n + 1) (sym (length_said e bs (let M = s.seen in M.lines))) in
+      subst (λ ls. IsTiedToLines act code values c.x ls T) (said_twice e bs (said_by m.step d.label) (let M = s.seen in M.lines))
+      (step_tied act code c.x q its_coord u b d its.there its.works S T on m.step (first_stays (root (act u)) S T only) (calls_stay (root (act u)) S T only) (now ∙ ap (λ n. now_by m.step n S.now) same) (subst (λ n. ChangesOne (act u) (moved_by m.step n (S.action (act u))) S T) same changes)
+      (open_low act code c.x its_coord u b d S its.there its.unended its.works here.coord))
+
   -- a step with its lines, behind others
   moved_walk : (m : Marked) (pre marks : List Body) → mark_lines u m.marks its_coord ≡ map Say marks → IfDecides c s e is_seen holds b d unserial unnested u its.there its.works m.step
       → (D : Did Coord) → (let t = moved_commit u m (records_at s) its_coord in D ≡ record { part = t.part; outs = map Say pre ++ t.outs })
       → (let p = place (pre ++ marks) in Goes S (λ T. SeesWhole act (let f = c.fixed in f.code) c.x (let t = moved_commit u m (records_at s) its_coord in t.part) T × (OnlyEnded (root (act u)) S T × (T.now ≡ now_by m.step p S.now) × ChangesOne (act u) (moved_by m.step p (S.action (act u))) S T)))
-      → KnowsCoord c s D.part → KnowsAsks c D.part → KnowsEnds D.part → StepGoes c s e D
-  moved_walk m pre marks marked decides D is g knows asked brings =
+      → KnowsCoord c s D.part → KnowsAsks c D.part → KnowsEnds D.part → ArePlain (pre ++ marks) → StepGoes c s e D
+  moved_walk m pre marks marked decides D is g knows asked brings plain =
       let C : Coord = (let t = step_commit u m.step (records_at s) its_coord in t.part) in
       let p : ℕ = place (pre ++ marks) in
       let T : State = g.state in
@@ -268,7 +288,8 @@ module _ (c : Case) (s : Spot) (e : ℕ) (is_seen : IsSeenIn c (world_at s)) (ho
       let n = now_of m.step p S.now T.now (low (pre ++ marks)) h.1.1 in
       subst (StepGoes c s e) (sym (λ i. record { part = part_is i; outs = outs_is i }))
       (step_walk c s e is_seen holds b d unserial unnested u its.there its.works m.step (pre ++ marks) T decides (subst (KnowsCoord c s) part_is knows) (subst (KnowsAsks c) part_is asked) (subst KnowsEnds part_is brings)
-      (ended_stepped c s is_seen u b its.there (length (pre ++ marks) + lines_by m.step) C T (moved_by m.step p (S.action (act u))) g.run h.0 h.1.0 h.1.2 (omega (arith, n))))
+      (ended_stepped c s is_seen u b its.there (length (pre ++ marks) + lines_by m.step) C T (moved_by m.step p (S.action (act u))) g.run h.0 h.1.0 h.1.2 (omega (arith, n)))
+      (λ q it recorded. plain) (plain_none (pre ++ marks) plain) (moved_tied m (pre ++ marks) T plain h.1.0 h.1.1 h.1.2))
 
 pub commit_answers_go : CommitAnswersGo
 commit_answers_go c s e from u b d k r is_seen holds its shows knows asked brings =
@@ -281,7 +302,7 @@ commit_answers_go c s e from u b d k r is_seen holds its shows knows asked bring
     (if_decides c s e is_seen holds u b d k its m.step (answer_step c.begun (let f = c.fixed in f.paths) (let z = steady c s is_seen in z.whole) from k r) (commit_answers_are_taken c.x (act u) k from r S (reached_S c s e is_seen holds u b d k its) (at_one c s e is_seen holds u b d k its) shows (let y = here c s e is_seen holds u b d k its in let z = y.coord in z.commits u d k its.works its.at)))
     (moved_commit u m (records_at s) c0) refl
     (commit_answers_are_heard act (let f = c.fixed in f.code) (let f = c.fixed in f.paths) c.x (place c s e is_seen holds u b d k its marks.0) from c0 u b d k r (records_at s) S (reached_S c s e is_seen holds u b d k its) (steady c s is_seen) its.there its.unended its.works its.at its.number (low c s e is_seen holds u b d k its marks.0) shows (let y = here c s e is_seen holds u b d k its in y.coord))
-    knows asked brings
+    knows asked brings (flat_plain u c0 (λ (q : ℕ × ℕ) (l : Label). body.Excluded l q.0 q.1) (λ q l. refl) m.marks)
 
 pub lost_commits_go : LostCommitsGo
 lost_commits_go c s e u b d k is_seen holds its knows asked brings =
@@ -295,7 +316,7 @@ lost_commits_go c s e u b d k is_seen holds its knows asked brings =
     (if_decides c s e is_seen holds u b d k its m.step (giveup_step c.begun (let f = c.fixed in f.paths) (let z = steady c s is_seen in z.whole) k) (commits_are_given_up c.x (act u) k S (reached_S c s e is_seen holds u b d k its) (at_one c s e is_seen holds u b d k its) (let y = here c s e is_seen holds u b d k its in let z = y.coord in z.commits u d k its.works its.at)))
     (gives_up u (records_at s) c0 (Committing k)) (λ i. record { part = (let t = moved_commit u m (records_at s) c0 in t.part); outs = gone.1 i ++ (let t = moved_commit u m (records_at s) c0 in t.outs) })
     (commits_are_lost act (let f = c.fixed in f.code) (let f = c.fixed in f.paths) c.x (place c s e is_seen holds u b d k its (gone.0 ++ marks.0)) c0 u b d k (records_at s) S (reached_S c s e is_seen holds u b d k its) (steady c s is_seen) its.there its.unended its.works its.at its.number (low c s e is_seen holds u b d k its (gone.0 ++ marks.0)) (let y = here c s e is_seen holds u b d k its in y.coord))
-    knows asked brings
+    knows asked brings (plain_app gone.0 marks.0 (flat_plain u c0 (λ (n : ℕ) (l : Label). body.GaveUp l n) (λ n l. refl) (nodes_given_up k)) (flat_plain u c0 (λ (q : ℕ × ℕ) (l : Label). body.Excluded l q.0 q.1) (λ q l. refl) m.marks))
 
 -- ---- a commit is called
 
@@ -326,7 +347,9 @@ pub top_commits_go : TopCommitsGo
 top_commits_go c s e u b d is_seen holds free begun topped unserial unnested undoomed childless first low keeps knows asked brings =
     subst (StepGoes c s e) (sym did_is)
     (step_walk c s e is_seen holds b d unserial unnested u free.there free.works st (body.Committing d.label ∷ []) T (if_decides_now st refl) (subst (KnowsCoord c s) part_is knows) (subst (KnowsAsks c) part_is asked) (subst KnowsEnds part_is brings)
-    (ended_stepped c s is_seen u b free.there (1 + lines_by st) C T (moved_by st (p + 1) (called_at p (S.action (act u)))) g.run (subst (λ (q : Coord). SeesWhole act (let f = c.fixed in f.code) c.x q T) part_is h.0) h.1.0 h.1.2 (let n = now_of st (p + 1) (p + 1) T.now (omega arith) h.1.1 in omega (arith, n))))
+    (ended_stepped c s is_seen u b free.there (1 + lines_by st) C T (moved_by st (p + 1) (called_at p (S.action (act u)))) g.run (subst (λ (q : Coord). SeesWhole act (let f = c.fixed in f.code) c.x q T) part_is h.0) h.1.0 h.1.2 (let n = now_of st (p + 1) (p + 1) T.now (omega arith) h.1.1 in omega (arith, n)))
+    (λ q is recorded. absurd (let bad : false ≡ true = sym (ap has_record (sets_plain pl refl st refl q is)) ∙ recorded in cc bad)) (refl, tt)
+    (λ values is. top_said act (let f = c.fixed in f.code) (let f = c.fixed in f.paths) c.x (page_at s e values) c0 u b d st S T free (on_page c s e is_seen values is) here.coord h.1.0 h.1.1 h.1.2))
   where
     act : Acts
     act = let f = c.fixed in f.act

@@ -1,10 +1,12 @@
 -- A coordinator's step goes in the whole world.
 use Rattle.std.proofs.Common.{◌≡◌, ◌∙◌, ◌+◌, ◌++◌, ℕ, zero, suc, List, [], ◌∷◌, cond, Option, Some, None, refl, sym, ap, subst, inl, inr, ⊎_elim, arith, length, map, Contains}
-use Rattle.arj_protocol.specs.Words.{Body, Uid, first_uid}
+use Rattle.std.proofs.lemmas.List.{length-append, length-map}
+use Rattle.arj_protocol.specs.Words.{Body, Line, Uid, first_uid}
 use Rattle.arj_protocol.specs.Coord.{Coord}
 use Rattle.arj_protocol.specs.Effect.{Disk, Do, Effect, Say, Send}
 use Rattle.arj_protocol.specs.Node.{Parts, with_coord}
 use Rattle.arj_protocol.specs.Tree.{Branch, at_place, branch_of}
+use Rattle.arj_protocol.specs.World.{numbered}
 use Rattle.arj_lock_law.specs.Actions.{root}
 use Rattle.arj_lock_law.specs.State.{State}
 use Rattle.arj_part_law.specs.Actions.{Action, act_of, action_of}
@@ -12,6 +14,7 @@ use Rattle.arj_part_law.specs.Claims.{GoesOn}
 use Rattle.arj_part_law.proofs.GoodTrees.{found_by}
 use Rattle.arj_view_law.specs.Seen.{Post, Seen, Within, posted, said}
 use Rattle.arj_view_law.specs.Walks.{Up, Walks}
+use Rattle.arj_lock_line_law.proofs.Pages.{append_nil, append_one}
 use Rattle.arj_lock_view_law.specs.Actions.{AreAlike}
 use Rattle.arj_lock_view_law.specs.Telling.{View}
 use Rattle.arj_lock_run_law.specs.Beside.{Case, IsSeenIn, Spot, view_in, world_at}
@@ -21,6 +24,7 @@ use Rattle.arj_lock_run_law.specs.Sees.{SeesUp}
 use Rattle.arj_lock_run_law.specs.World.{IsSeenSo}
 use Rattle.arj_lock_run_law.proofs.GoodSteps.{good_node, steady}
 use Rattle.arj_lock_run_law.proofs.OtherSteps.{SeesOthers, here_of, others_of, past_on, posted_others, records_on, said_others, with_here}
+use Rattle.arj_lock_run_law.proofs.TieSteps.{IsTiedNow, tied_behind, tied_now, tied_quiet}
 use Rattle.arj_lock_run_law.proofs.UnitSteps.{naming_unit, others_unit, server_unit}
 
 pub length_one : {A : Type 0} (xs : List A) (x : A) → length (xs ++ x ∷ []) ≡ length xs + 1
@@ -28,6 +32,9 @@ length_one [] x = refl
 length_one (y ∷ xs) x = let ih = length_one xs x in omega (arith, ih)
 
 -- ---- lines
+
+pub length_said : (e : ℕ) (bs : List Body) (lines : List Line) → length (lines ++ numbered e bs) ≡ length lines + length bs
+length_said e bs lines = length-append lines (numbered e bs) ∙ ap (λ n. length lines + n) (length-map bs (λ (b : Body). record { event = e; body = b }))
 
 -- lines stand behind lines
 pub says_then : (pre : List Body) (l : Body) (rest : List Effect) → map Say pre ++ (Say l ∷ rest) ≡ map Say (pre ++ l ∷ []) ++ rest
@@ -67,23 +74,23 @@ module _ (c : Case) (s : Spot) where
   k = s.node
 
   -- messages go out, in the state that the machine has come to
-  pub walk_sends : (e : ℕ) (v : Parts) (T : State) (outs : List Effect) (d : Disk) (M : Seen) → AreSends outs → AreSendsShown c s T outs → Within (let N = s.seen in N.sent) M.sent → SeesOthers f c.x c.begun k T M → SeesUp (view_of f c.x c.begun k) T d v
+  pub walk_sends : (e : ℕ) (v : Parts) (T : State) (outs : List Effect) (d : Disk) (M : Seen) → AreSends outs → AreSendsShown c s T outs → Within (let N = s.seen in N.sent) M.sent → SeesOthers f c.x c.begun k T M → SeesUp (view_of f c.x c.begun k) T d v → IsTiedNow f c.x c.begun T M.lines
       → Walks (IsSeenSo c) e k outs (Up (IsSeenSo c) k v) d M
-  walk_sends e v T [] d M sends shown within others up = λ agrees. (T, with_here f c.x c.begun k d (Some v) T M others up)
-  walk_sends e v T (Send to m ∷ es) d M sends shown within others up = λ more quiet.
+  walk_sends e v T [] d M sends shown within others up now = λ agrees. (T, with_here f c.x c.begun k d (Some v) T M others up, now.tied)
+  walk_sends e v T (Send to m ∷ es) d M sends shown within others up now = λ more quiet.
       let p : Post = record { from = k; to = to; message = m } in
       walk_sends e v T es d (said e more (posted p M)) sends.1 shown.1 (λ q there. inr (within q there))
-      (said_others f c.x c.begun k e more T (posted p M) (posted_others f c.x c.begun k p T M others (shown.0 (p ∷ M.sent) (λ q there. inr (within q there))))) up
-  walk_sends e v T (Say b ∷ es) d M sends shown within others up = absurd sends.0
-  walk_sends e v T (Do w ∷ es) d M sends shown within others up = absurd sends.0
+      (said_others f c.x c.begun k e more T (posted p M) (posted_others f c.x c.begun k p T M others (shown.0 (p ∷ M.sent) (λ q there. inr (within q there))))) up (tied_quiet f c.x c.begun e more T M.lines quiet now)
+  walk_sends e v T (Say b ∷ es) d M sends shown within others up now = absurd sends.0
+  walk_sends e v T (Do w ∷ es) d M sends shown within others up now = absurd sends.0
 
   -- lines are said in the state before
   pub walk_says : (e : ℕ) (v : Parts) (S : State) (bs : List Body) (rest : List Effect) (d : Disk) (M : Seen) → SeesOthers f c.x c.begun k S M → Within (let N = s.seen in N.sent) M.sent
-      → ((N : Seen) → length N.lines ≡ length M.lines + length bs → Within (let N = s.seen in N.sent) N.sent → SeesOthers f c.x c.begun k S N → Walks (IsSeenSo c) e k rest (Up (IsSeenSo c) k v) d N)
+      → ((N : Seen) → N.lines ≡ M.lines ++ numbered e bs → Within (let N = s.seen in N.sent) N.sent → SeesOthers f c.x c.begun k S N → Walks (IsSeenSo c) e k rest (Up (IsSeenSo c) k v) d N)
       → Walks (IsSeenSo c) e k (map Say bs ++ rest) (Up (IsSeenSo c) k v) d M
-  walk_says e v S [] rest d M others within end = end M (omega arith) within others
+  walk_says e v S [] rest d M others within end = end M (sym (append_nil M.lines)) within others
   walk_says e v S (b ∷ bs) rest d M others within end = walk_says e v S bs rest d (said e (b ∷ []) M) (said_others f c.x c.begun k e (b ∷ []) S M others) within
-      (λ N long. end N (let l = length_one M.lines (record { event = e; body = b }) in omega (arith, long, l)))
+      (λ N lines. end N (lines ∙ append_one M.lines (numbered e bs) (record { event = e; body = b })))
 
 -- ---- all of it
 
@@ -123,8 +130,9 @@ module _ (c : Case) (s : Spot) (is_seen : IsSeenIn c (world_at s)) (u : Uid) (b 
   }
 
 pub coords_go : CoordsGo
-coords_go c s e u b bs sends C T is_seen found on are_sends has shown =
+coords_go c s e u b bs sends C T is_seen found on are_sends has shown none tied =
     walk_says c s e (with_coord s.parts C) c.state bs sends s.disk s.seen (others_of c.fixed c.x c.begun s.node s.disk (Some s.parts) c.state s.seen is_seen.sees) (λ q there. there)
-    (λ N long within others. walk_sends c s e (with_coord s.parts C) T sends s.disk N are_sends shown within
-    (others_unit c.fixed c.x (root (c.fixed.act u)) c.begun s.node c.state T N has.run has.only (home c s is_seen u b found C on (length bs) T has) (one c s is_seen u b found C on (length bs) T has) has.changed (let m = has.now in omega (arith, m, long)) others)
-    (up_then c s is_seen u b found C on (length bs) T has))
+    (λ N lines within others. walk_sends c s e (with_coord s.parts C) T sends s.disk N are_sends shown within
+    (others_unit c.fixed c.x (root (c.fixed.act u)) c.begun s.node c.state T N has.run has.only (home c s is_seen u b found C on (length bs) T has) (one c s is_seen u b found C on (length bs) T has) has.changed (let m = has.now in let long = ap length lines ∙ length_said e bs (let M = s.seen in M.lines) in omega (arith, m, long)) others)
+    (up_then c s is_seen u b found C on (length bs) T has)
+    (subst (IsTiedNow c.fixed c.x c.begun T) (sym lines) (tied_behind c.fixed c.x c.begun e bs c.state T (let M = s.seen in M.lines) none (tied_now c (world_at s) is_seen) tied)))

@@ -1,5 +1,5 @@
 -- The decision of a top goes in the whole world: its record is put on the disk, and a stop may come at it.
-use Rattle.std.proofs.Common.{◌≡◌, ◌⊎◌, ◌+◌, ◌++◌, ℕ, List, [], ◌∷◌, map, true, Option, Some, None, refl, sym, ap, subst, inl, inr, ⊎_elim, arith, length, Contains}
+use Rattle.std.proofs.Common.{◌≡◌, ◌∙◌, ◌⊎◌, ◌+◌, ◌++◌, ℕ, List, [], ◌∷◌, map, true, Option, Some, None, refl, sym, ap, subst, inl, inr, ⊎_elim, arith, length, Contains}
 use Rattle.std.specs.Prelude.{is_some}
 use Rattle.arj_lock.proofs.Members.{in_from, in_to}
 use Rattle.arj_protocol.specs.Words.{Body, Uid}
@@ -9,6 +9,8 @@ use Rattle.arj_protocol.specs.Effect.{After, Before, Disk, Do, Effect, InPart, I
 use Rattle.arj_protocol.specs.Node.{Parts, with_coord}
 use Rattle.arj_protocol.specs.Order.{at_uid}
 use Rattle.arj_protocol.specs.Tree.{Branch, branch_of}
+use Rattle.arj_model.specs.Actions.{begun_of}
+use Rattle.arj_protocol.specs.World.{numbered}
 use Rattle.arj_lock_law.specs.Actions.{root}
 use Rattle.arj_lock_law.specs.State.{State}
 use Rattle.arj_part_law.specs.Actions.{action_of}
@@ -17,17 +19,22 @@ use Rattle.arj_part_law.proofs.Keys as keys
 use Rattle.arj_part_law.proofs.Truths.{put_in}
 use Rattle.arj_view_law.specs.Seen.{Seen}
 use Rattle.arj_view_law.specs.Walks.{Stops, Up, Walks}
+use Rattle.arj_lock_line_law.specs.Lines.{IsTiedToLines}
+use Rattle.arj_lock_line_law.specs.Steps.{ArePlain}
+use Rattle.arj_lock_line_law.proofs.EndTies.{said_twice}
 use Rattle.arj_lock_view_law.specs.Stops.{IsDecided}
 use Rattle.arj_lock_view_law.specs.Telling.{HasEnded, View}
 use Rattle.arj_lock_run_law.specs.Beside.{Case, HoldsNamingIn, IsSeenIn, Spot, view_in, world_at}
 use Rattle.arj_lock_run_law.specs.Coordinating.{AreSends, AreSendsShown, HasStepped, coord_at}
 use Rattle.arj_lock_run_law.specs.Fixed.{Fixed}
 use Rattle.arj_lock_run_law.specs.Sees.{AreRecordsOf, SeesUp}
+use Rattle.arj_lock_run_law.specs.Tied.{AreTied}
 use Rattle.arj_lock_run_law.specs.World.{IsSeenSo}
-use Rattle.arj_lock_run_law.proofs.CoordSteps.{home, one, up_then, walk_says, walk_sends}
+use Rattle.arj_lock_run_law.proofs.CoordSteps.{home, length_said, one, up_then, walk_says, walk_sends}
 use Rattle.arj_lock_run_law.proofs.GoodSteps.{good_node, its, steady}
 use Rattle.arj_lock_run_law.proofs.HaltSteps.{halt_last, halt_up}
 use Rattle.arj_lock_run_law.proofs.OtherSteps.{SeesOthers, here_of, others_of}
+use Rattle.arj_lock_run_law.proofs.TieSteps.{IsTiedNow, tied_behind, tied_now, tied_plain}
 use Rattle.arj_lock_run_law.proofs.UnitSteps.{others_unit}
 
 module _ (c : Case) (s : Spot) (is_seen : IsSeenIn c (world_at s)) (holds : HoldsNamingIn c s.node (let t = s.parts in t.naming)) (u : Uid) (i : Intent) where
@@ -64,12 +71,12 @@ module _ (c : Case) (s : Spot) (is_seen : IsSeenIn c (world_at s)) (holds : Hold
       (put_in u i w j (let d = s.disk in d.intents) (in_from {X = Uid × Intent} (w, j) (let d = noted in d.intents) there))
 
   -- a stop at the record: without it the top is aborted, with it it is decided
-  record_stops : IsDecided f.act t.coord u S → (e : ℕ) (M : Seen) → SeesOthers f c.x c.begun k S M → Stops (IsSeenSo c) e k (PutIntent u i) s.disk M
-  record_stops decided e M others Before = λ agrees. halt_up f c.x c.begun k e S S s.disk t M (steady c s is_seen) known (let l = its c s is_seen in l.server) holds others here
-  record_stops decided e M others (InPart which) = λ agrees. halt_up f c.x c.begun k e S S s.disk t M (steady c s is_seen) known (let l = its c s is_seen in l.server) holds others here
-  record_stops decided e M others After = λ agrees. halt_last f c.x c.begun k (Some u) e S S s.disk noted t M decided refl
+  record_stops : IsDecided f.act t.coord u S → (e : ℕ) (M : Seen) → SeesOthers f c.x c.begun k S M → IsTiedNow f c.x c.begun S M.lines → Stops (IsSeenSo c) e k (PutIntent u i) s.disk M
+  record_stops decided e M others now Before = λ agrees. halt_up f c.x c.begun k e S S s.disk t M (steady c s is_seen) known (let l = its c s is_seen in l.server) (let l = its c s is_seen in l.node) holds others here now
+  record_stops decided e M others now (InPart which) = λ agrees. halt_up f c.x c.begun k e S S s.disk t M (steady c s is_seen) known (let l = its c s is_seen in l.server) (let l = its c s is_seen in l.node) holds others here now
+  record_stops decided e M others now After = λ agrees. halt_last f c.x c.begun k (Some u) e S S s.disk noted t M decided refl
       (λ w is. (let same : u ≡ w = cc is in subst (λ (v : Uid). is_some (at_uid v (let d = noted in d.intents)) ≡ true) same (ap is_some (keys.put_same u i (let d = s.disk in d.intents)))))
-      (records_with (Some u) S (inl refl) here.records) (steady c s is_seen) known (let l = its c s is_seen in l.server) holds others here
+      (records_with (Some u) S (inl refl) here.records) (steady c s is_seen) known (let l = its c s is_seen in l.server) (let l = its c s is_seen in l.node) holds others here now
 
   -- lines, the record, the line of the commit, and what is told of it
   module _ (b : Branch) (found : branch_of u (let q = coord_at s in q.tree) ≡ Some b) (C : Coord) (on : GoesOn (coord_at s) C) (pre : List Body) (T : State) (has : HasStepped c s u (length pre + 1) C T) (decided : IsDecided f.act t.coord u S) (ended : HasEnded V T u ending.Commit) where
@@ -78,13 +85,15 @@ module _ (c : Case) (s : Spot) (is_seen : IsSeenIn c (world_at s)) (holds : Hold
         let z = up_then c s is_seen u b found C on (length pre + 1) T has in
         record { server = z.server; coord = z.coord; naming = z.naming; inc = z.inc; place = z.place; home = z.home; past = z.past; records = records_with None T (inr ended) z.records }
 
-    pub decides_walk : (e : ℕ) (l : Body) (sends : List Effect) → AreSends sends → AreSendsShown c s T sends → Walks (IsSeenSo c) e k (map Say pre ++ (Do (PutIntent u i) ∷ Say l ∷ sends)) (Up (IsSeenSo c) k (with_coord t C)) s.disk s.seen
-    decides_walk e l sends are_sends shown =
+    pub decides_walk : (e : ℕ) (l : Body) (sends : List Effect) → AreSends sends → AreSendsShown c s T sends → ArePlain pre → begun_of l ≡ None → AreTied f c.x ((let M = s.seen in M.lines) ++ numbered e (pre ++ l ∷ [])) T
+        → Walks (IsSeenSo c) e k (map Say pre ++ (Do (PutIntent u i) ∷ Say l ∷ sends)) (Up (IsSeenSo c) k (with_coord t C)) s.disk s.seen
+    decides_walk e l sends are_sends shown plain none tied =
         walk_says c s e (with_coord t C) S pre (Do (PutIntent u i) ∷ Say l ∷ sends) s.disk s.seen (others_of f c.x c.begun k s.disk (Some t) S s.seen is_seen.sees) (λ q there. there)
-        (λ N long within others. (
-          record_stops decided e N others,
+        (λ N lines within others. let now_N = subst (IsTiedNow f c.x c.begun S) (sym lines) (tied_plain f c.x c.begun e pre S (let M = s.seen in M.lines) plain (tied_now c (world_at s) is_seen)) in (
+          record_stops decided e N others now_N,
           walk_says c s e (with_coord t C) S (l ∷ []) sends noted N others within
-              (λ O longer within_O others_O. walk_sends c s e (with_coord t C) T sends noted O are_sends shown within_O
-              (others_unit f c.x (root (f.act u)) c.begun k S T O has.run has.only (home c s is_seen u b found C on (length pre + 1) T has) (one c s is_seen u b found C on (length pre + 1) T has) has.changed (let m = has.now in omega (arith, m, long, longer)) others_O)
-              up_noted),
+              (λ O more_lines within_O others_O. walk_sends c s e (with_coord t C) T sends noted O are_sends shown within_O
+              (others_unit f c.x (root (f.act u)) c.begun k S T O has.run has.only (home c s is_seen u b found C on (length pre + 1) T has) (one c s is_seen u b found C on (length pre + 1) T has) has.changed (let m = has.now in let long = ap length lines ∙ length_said e pre (let M = s.seen in M.lines) in let longer = ap length more_lines ∙ length_said e (l ∷ []) N.lines in omega (arith, m, long, longer)) others_O)
+              up_noted
+              (subst (IsTiedNow f c.x c.begun T) (sym more_lines) (tied_behind f c.x c.begun e (l ∷ []) S T N.lines (none, tt) now_N (λ values is. subst (λ ls. IsTiedToLines f.act f.code values c.x ls T) (sym (ap (λ ls. ls ++ numbered e (l ∷ [])) lines ∙ said_twice e pre (l ∷ []) (let M = s.seen in M.lines))) (tied values is))))),
         ))

@@ -14,12 +14,15 @@ use Rattle.arj_lock_law.specs.Machine.{Run, start}
 use Rattle.arj_lock_law.specs.State.{State}
 use Rattle.arj_run_law.proofs.Starts.{first_at}
 use Rattle.arj_view_law.specs.Seen.{Seen, see, up}
+use Rattle.arj_lock_line_law.specs.Lines.{AreCallsOf, AreIncludesOf, included_on, said_on}
 use Rattle.arj_lock_view_law.proofs.StartNamingSteps.{naming_is_down}
 use Rattle.arj_lock_run_law.specs.Beside.{KnowsEntry}
 use Rattle.arj_lock_run_law.specs.Fixed.{Fixed, view_of}
 use Rattle.arj_lock_run_law.specs.Sees.{IsFresh, SeesDown, SeesLocks, SeesMemory}
+use Rattle.arj_lock_run_law.specs.Tied.{AreTied}
 use Rattle.arj_lock_run_law.specs.World.{FirstGoes}
 use Rattle.arj_lock_run_law.proofs.OtherSteps.{node_here, node_there, with_here}
+use Rattle.arj_lock_run_law.proofs.TieSteps.{IsMoved}
 use Rattle.arj_lock_run_law.proofs.StartSteps.{no_branch, started}
 
 module _ (hd : Header) (f : Fixed) (x : ℕ) (entry : KnowsEntry x 1 (first_disk hd 1)) where
@@ -92,7 +95,20 @@ module _ (hd : Header) (f : Fixed) (x : ℕ) (entry : KnowsEntry x 1 (first_disk
   lines_none zero = refl
   lines_none (suc j) = lines_none j
 
-  first_seen : (j : ℕ) → (S : State) × SeesLocks f x [] S (some_up j)
+  -- no line, and nothing is done
+  tied_first : AreTied f x [] (start f.first)
+  tied_first values is = record { now = omega arith; first = is; calls = tt; includes = tt; ends = λ a there. absurd (in_from a [] there) }
+
+  tied_still : (S T : State) → IsMoved S T → AreTied f x [] S → AreTied f x [] T
+  tied_still S T moved tied values is = let t = tied values is in record {
+    now = (let n = t.now in let e = moved.now in omega (arith, n, e));
+    first = moved.initial ∙ t.first;
+    calls = subst (λ cs. AreCallsOf f.act f.code (said_on x []) cs) (sym moved.calls) t.calls;
+    includes = subst (λ cs. AreIncludesOf f.act (included_on x []) cs) (sym moved.includes) t.includes;
+    ends = λ a there. absurd (in_from a [] there);
+  }
+
+  first_seen : (j : ℕ) → (S : State) × SeesLocks f x [] S (some_up j) × AreTied f x [] S
   unfolding some_up
   first_seen zero = (
     start f.first,
@@ -103,6 +119,7 @@ module _ (hd : Header) (f : Fixed) (x : ℕ) (entry : KnowsEntry x 1 (first_disk
       fresh = fresh_start;
       now = omega arith;
     },
+    tied_first,
   )
     where
       its : (k : ℕ) (n : Node) → ◌≡◌ {A = Option Node} (Some (record { number = k; disk = before k; live = None })) (Some n) → record { number = k; disk = before k; live = None } ≡ n
@@ -114,7 +131,7 @@ module _ (hd : Header) (f : Fixed) (x : ℕ) (entry : KnowsEntry x 1 (first_disk
       let down : SeesDown (view_of f x [] k) h.0 (before k) = s.nodes k _ (down_at j k (omega arith)) in
       let g = started f x [] k h.0 (before k) (some_up j) (record { run = s.run; nodes = λ i n other is. s.nodes i n is; posts = s.posts; fresh = s.fresh; now = s.now }) down (none_decided k h.0 down)
       (λ one inc. subst (λ (i : ℕ). is_some (at_number x (let n = recovered_naming inc (let d = first_disk hd i in d.names) in n.objects)) ≡ true) (sym one) (entry refl inc)) in
-      (g.0, (let t = g.1 in with_here f x [] k (first_disk hd k) (Some (parts_in k 1 (first_disk hd k))) g.0 (some_up j) t.others t.up))
+      (g.0, (let t = g.1 in with_here f x [] k (first_disk hd k) (Some (parts_in k 1 (first_disk hd k))) g.0 (some_up j) t.others t.up), tied_still h.0 g.0 (let t = g.1 in t.moved) h.2)
 
   -- a place is within the list
   within : {A : Type 0} (items : List A) (k : ℕ) (a : A) → slice_get items k ≡ Some a → k < length items
@@ -129,7 +146,7 @@ module _ (hd : Header) (f : Fixed) (x : ℕ) (entry : KnowsEntry x 1 (first_disk
   placed zero n is = absurd (let no_way : ◌≡◌ {A = Option Node} None (Some n) = is in cc no_way)
   placed (suc k) n is = (omega arith, (let h = within all k n is in omega (arith, h)))
 
-  pub first_goes_here : (S : State) × SeesLocks f x [] S (see [] (format hd))
+  pub first_goes_here : let M = see [] (format hd) in (S : State) × SeesLocks f x [] S M × AreTied f x M.lines S
   first_goes_here =
       let h = first_seen (length all) in
       let s = h.1 in (
@@ -141,6 +158,7 @@ module _ (hd : Header) (f : Fixed) (x : ℕ) (entry : KnowsEntry x 1 (first_disk
           fresh = s.fresh;
           now = subst (λ (ls : List Line). (let S = h.0 in S.now) ≤ length ls + 1) (lines_none (length all)) s.now;
         },
+        h.2,
       )
 
 pub first_goes : FirstGoes

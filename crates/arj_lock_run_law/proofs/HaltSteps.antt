@@ -30,7 +30,9 @@ use Rattle.arj_lock_run_law.specs.Beside.{HoldsNamingIn}
 use Rattle.arj_lock_run_law.specs.Fixed.{Fixed, view_of}
 use Rattle.arj_lock_run_law.specs.Sees.{AreRecordsOf, IsFresh, IsUnbegun, SeesDown, SeesLocks, SeesUp}
 use Rattle.arj_lock_run_law.proofs.MoveSteps.{memory_stopped, nothing_on}
+use Rattle.arj_lock_run_law.specs.Tied.{AreTied}
 use Rattle.arj_lock_run_law.proofs.OtherSteps.{SeesOthers, others_go, past_on, reached_of, records_on, said_others, with_here}
+use Rattle.arj_lock_run_law.proofs.TieSteps.{IsTiedNow, tied_down, tied_halts}
 
 module _ (f : Fixed) (x : ℕ) (begun : List Action) (k : ℕ) where
   abbrev v : View
@@ -38,8 +40,11 @@ module _ (f : Fixed) (x : ℕ) (begun : List Action) (k : ℕ) where
 
   -- ---- a node that is down
 
-  pub halt_down : (e : ℕ) (S : State) (d : Disk) (M : Seen) → SeesOthers f x begun k S M → SeesDown v S d → SeesLocks f x begun S (halted e k d M)
-  halt_down e S d M others s = with_here f x begun k d None S _ (said_others f x begun k e (body.Halted k ∷ []) S M others) s
+  down_halted : (e : ℕ) (S : State) (d : Disk) (M : Seen) → SeesOthers f x begun k S M → SeesDown v S d → SeesLocks f x begun S (halted e k d M)
+  down_halted e S d M others s = with_here f x begun k d None S _ (said_others f x begun k e (body.Halted k ∷ []) S M others) s
+
+  pub halt_down : (e : ℕ) (S : State) (d : Disk) (M : Seen) → SeesOthers f x begun k S M → SeesDown v S d → IsTiedNow f x begun S M.lines → (T : State) × SeesLocks f x begun T (halted e k d M) × AreTied f x (let N = halted e k d M in N.lines) T
+  halt_down e S d M others s now = (S, down_halted e S d M others s, tied_down f x begun e k s.tree s.last S M.lines s.past s.stopped now)
 
   -- ---- a node that is up
 
@@ -90,15 +95,15 @@ module _ (f : Fixed) (x : ℕ) (begun : List Action) (k : ℕ) where
 
   -- where a top's record is on the disk that is left, it is decided, and has no line yet
   pub halt_last : (last : Option Uid) (e : ℕ) (R S : State) (d g : Disk) (t : Parts) (M : Seen) → IfDecided f.act t.coord last S → g.inc ≡ d.inc → ((u : Uid) → last ≡ Some u → is_some (at_uid u g.intents) ≡ true) → AreRecordsOf v last g.intents S
-      → IsSteady f.act f.paths t.coord → ((u : Uid) (b : Branch) → branch_of u t.coord.tree ≡ Some b → Contains begun (action_of b)) → t.server.inc ≡ d.inc
-      → HoldsNamingIn (record { fixed = f; x = x; begun = begun; state = R }) k t.naming → SeesOthers f x begun k S M → SeesUp v S d t → (T : State) × SeesLocks f x begun T (halted e k g M)
-  halt_last last e R S d g t M decided inc there records steady of level holds others s =
+      → IsSteady f.act f.paths t.coord → ((u : Uid) (b : Branch) → branch_of u t.coord.tree ≡ Some b → Contains begun (action_of b)) → t.server.inc ≡ d.inc → t.coord.tree.node ≡ k
+      → HoldsNamingIn (record { fixed = f; x = x; begun = begun; state = R }) k t.naming → SeesOthers f x begun k S M → SeesUp v S d t → IsTiedNow f x begun S M.lines → (T : State) × SeesLocks f x begun T (halted e k g M) × AreTied f x (let N = halted e k g M in N.lines) T
+  halt_last last e R S d g t M decided inc there records steady of level node holds others s now =
       let h = stops_are_taken f.act f.code f.paths x t.coord last S steady decided s.coord in
       let T = h.state in
       let only = h.holds.1 in
       let next = others_go f x begun k S T M others h.run (λ j n other is seen. memory_stopped S T (reached_of f x begun k S M others) h.run v t.coord.tree steady.alike s.home only j n.disk n.live other seen) (fresh_stopped S T t steady of only others.fresh) (let q = others.now in let e : T.now ≡ S.now = ap (λ (z : State). z.now) only.rest in omega (arith, q, e)) in (
         T,
-        halt_down e T g M next (record {
+        down_halted e T g M next (record {
           server = subst (λ (i : ℕ). (T.server k).incarnation ≤ i) (level ∙ sym inc) (subst (λ (z : ℕ → state.Server). (z k).incarnation ≤ t.server.inc) (sym (ap (λ (z : State). z.server) only.rest)) (servers_stop v t.server S s.server));
           naming = naming_down R S T g t.naming s.place holds (λ n is. s.inc n is ∙ sym inc) (ap (λ (z : State). z.naming) only.rest) s.naming;
           tree = t.coord.tree;
@@ -109,8 +114,9 @@ module _ (f : Fixed) (x : ℕ) (begun : List Action) (k : ℕ) where
           past = past_on S T only.ended v t.coord.tree s.past;
           records = records_on S T only.ended v last g.intents records;
         }),
+        tied_halts f x begun e k t.coord.tree last S T M.lines node s.past h.holds.0 only now,
       )
 
-  pub halt_up : (e : ℕ) (R S : State) (d : Disk) (t : Parts) (M : Seen) → IsSteady f.act f.paths t.coord → ((u : Uid) (b : Branch) → branch_of u t.coord.tree ≡ Some b → Contains begun (action_of b)) → t.server.inc ≡ d.inc
-      → HoldsNamingIn (record { fixed = f; x = x; begun = begun; state = R }) k t.naming → SeesOthers f x begun k S M → SeesUp v S d t → (T : State) × SeesLocks f x begun T (halted e k d M)
-  halt_up e R S d t M steady of level holds others s = halt_last None e R S d d t M tt refl (λ u is. absurd (cc is)) s.records steady of level holds others s
+  pub halt_up : (e : ℕ) (R S : State) (d : Disk) (t : Parts) (M : Seen) → IsSteady f.act f.paths t.coord → ((u : Uid) (b : Branch) → branch_of u t.coord.tree ≡ Some b → Contains begun (action_of b)) → t.server.inc ≡ d.inc → t.coord.tree.node ≡ k
+      → HoldsNamingIn (record { fixed = f; x = x; begun = begun; state = R }) k t.naming → SeesOthers f x begun k S M → SeesUp v S d t → IsTiedNow f x begun S M.lines → (T : State) × SeesLocks f x begun T (halted e k d M) × AreTied f x (let N = halted e k d M in N.lines) T
+  halt_up e R S d t M steady of level node holds others s now = halt_last None e R S d d t M tt refl (λ u is. absurd (cc is)) s.records steady of level node holds others s now

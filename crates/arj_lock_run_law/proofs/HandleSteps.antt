@@ -42,12 +42,13 @@ use Rattle.arj_lock_run_law.specs.Posts.{IsAnswerSeen, IsPostSeen}
 use Rattle.arj_lock_run_law.specs.Fixed.{Fixed}
 use Rattle.arj_lock_run_law.specs.Sees.{AreHome, ArePast, SeesUp}
 use Rattle.arj_lock_run_law.specs.World.{IsSeenSo, MessagesGo, is_for_parts}
-use Rattle.arj_lock_run_law.proofs.GoodSteps.{good_node, server_level, steady}
+use Rattle.arj_lock_run_law.proofs.GoodSteps.{good_node, its, server_level, steady}
 use Rattle.arj_lock_run_law.proofs.HaltSteps.{halt_up}
 use Rattle.arj_lock_run_law.proofs.LeftSteps.{AreSentTo, IsLeft, IsPlain, IsSentTo, Leaves, message_left, void_without}
 use Rattle.arj_lock_run_law.proofs.MoveSteps.{action_is, action_named, coord_named, coord_serving, memory_named, memory_serving, naming_serving, sees_named}
 use Rattle.arj_lock_run_law.proofs.OtherSteps.{SeesOthers, fresh_named, fresh_on, now_named, others_go, others_of, past_on, records_on}
 use Rattle.arj_lock_run_law.proofs.ShownSteps.{shown_to_naming, shown_to_server, up_here}
+use Rattle.arj_lock_run_law.proofs.TieSteps.{IsMoved, moved_named, moved_serving, moved_then, tied_moved, tied_now}
 use Rattle.arj_lock_run_law.proofs.WalkSteps.{AreSendsSeen, up_same, walked}
 
 -- ---- what naming counts on is left by a server
@@ -158,6 +159,7 @@ module _ (c : Case) (s : Spot) (from : ℕ) (m : Message) (p : Parts) (outs : Li
 
   -- where the machine is after it
   record HasGone (T : State) : Type 0 where
+    moved : IsMoved S T
     run : Run S T
     others : SeesOthers f c.x c.begun k T M
     up : SeesUp V T d p
@@ -187,6 +189,7 @@ module _ (c : Case) (s : Spot) (from : ℕ) (m : Message) (p : Parts) (outs : Li
       let only = g.holds.1 in (
         behind_naming,
         record {
+          moved = moved_then S behind_server behind_naming (moved_serving V m S behind_server only_serving) (moved_named behind_server behind_naming only);
           run = go_on first.run g.run;
           others = others_go f c.x c.begun k behind_server behind_naming M others_behind g.run (λ j n other at seen_there. memory_named behind_server behind_naming reached_behind g.run only (view_in c j) n.disk n.live (λ its. other (its ∙ sym one)) seen_there)
               (fresh_named f c.begun behind_server behind_naming only others_behind.fresh)
@@ -205,6 +208,7 @@ module _ (c : Case) (s : Spot) (from : ℕ) (m : Message) (p : Parts) (outs : Li
   elsewhere other = (
     behind_server,
     record {
+      moved = moved_serving V m S behind_server only_serving;
       run = first.run;
       others = others_behind;
       up = up_with behind_server (action_is V m S behind_server only_serving) first.holds.0 coord_behind (none_there p.naming (let l = left.0 in l.place ∙ here.place));
@@ -315,9 +319,9 @@ module _ (c : Case) (s : Spot) (from : ℕ) (m : Message) (p : Parts) (outs : Li
       let T = gone.0 in
       let has = gone.1 in
       walked f c.x c.begun k S T e p d.inc d.intents M.sent
-      (λ h N same others. halt_up f c.x c.begun k e S T h p N (subst (λ (q : Coord). IsSteady f.act f.paths q) (sym (let l = left.0 in l.coord)) (steady c s is_seen)) known (server_level c s is_seen from m p outs is ∙ sym same.0) after others (up_same f c.x c.begun k T d h p same.0 same.1 has.up))
+      (λ h N same others now. halt_up f c.x c.begun k e S T h p N (subst (λ (q : Coord). IsSteady f.act f.paths q) (sym (let l = left.0 in l.coord)) (steady c s is_seen)) known (server_level c s is_seen from m p outs is ∙ sym same.0) (ap (λ (q : Coord). (let t = q.tree in t.node)) (let l = left.0 in l.coord) ∙ (let i = its c s is_seen in i.node)) after others (up_same f c.x c.begun k T d h p same.0 same.1 has.up) now)
       (λ h same. up_same f c.x c.begun k T d h p same.0 same.1 has.up)
-      outs d M (sends_by T has outs (λ to z i. i)) (let l = left.0 in l.plain) (λ r i. i) (refl, refl) has.others
+      outs d M (sends_by T has outs (λ to z i. i)) (let l = left.0 in l.plain) (λ r i. i) (refl, refl) has.others (tied_moved f c.x c.begun S T M.lines has.moved (tied_now c (world_at s) is_seen))
     where
       known : (u : Uid) (b : Branch) → branch_of u p.coord.tree ≡ Some b → Contains c.begun (action_of b)
       known u b found = (let g = good_node c s is_seen in let h = g.coord in h.known) u b (subst (λ (q : Coord). branch_of u q.tree ≡ Some b) (let l = left.0 in l.coord) found)

@@ -20,11 +20,8 @@ use Rattle.arj_part_law.specs.Actions.{Action, MayBegin}
 use Rattle.arj_part_law.specs.Coords.{IsGoodCoord}
 use Rattle.arj_part_law.specs.Trees.{MayStand}
 use Rattle.arj_part_law.proofs.CoordInputs.{IsNext, named_found, next_path, off}
-use Rattle.arj_run_law.specs.Worlds.{IsGoodOf}
 use Rattle.arj_run_law.proofs.Begins as begins
-use Rattle.arj_run_law.proofs.Begins.{begin_good}
-use Rattle.arj_run_law.proofs.Handled.{act_good, message_good, stopped_good, tick_good}
-use Rattle.arj_run_law.proofs.Starts.{first_of, restart_good}
+use Rattle.arj_line_law.proofs.Paths.{IsPathedOf, act_pathed, begin_pathed, first_pathed, message_pathed, quiet_pathed, restart_pathed, stop_pathed, tick_pathed}
 use Rattle.arj_view_law.specs.Keeps.{MayGive, is_act, label_at}
 use Rattle.arj_view_law.specs.Seen.{AreQuiet, In, Post, Seen, Within, at, down, given, posted, said, see, up}
 use Rattle.arj_view_law.specs.Walks.{Up, Walks, halted}
@@ -37,6 +34,7 @@ use Rattle.arj_lock_run_law.specs.Coordinating.{coord_at}
 use Rattle.arj_lock_run_law.specs.Fixed.{Agrees, Fixed}
 use Rattle.arj_lock_run_law.specs.Kept.{AreLocksSeen, GivesLocks, HasCome, LocksAreKept, RunsKeepLocks, case_of}
 use Rattle.arj_lock_run_law.specs.Sees.{SeesLocks}
+use Rattle.arj_lock_run_law.specs.Tied.{AreTied}
 use Rattle.arj_lock_run_law.specs.World.{IsSeenSo, is_for_parts}
 use Rattle.arj_lock_run_law.proofs.AckSteps.{acks_go}
 use Rattle.arj_lock_run_law.proofs.AnswerGoes.{answers_go}
@@ -44,7 +42,7 @@ use Rattle.arj_lock_run_law.proofs.BeginGoes.{begins_go}
 use Rattle.arj_lock_run_law.proofs.GoodSteps.{good_node}
 use Rattle.arj_lock_run_law.proofs.FirstSteps.{first_goes}
 use Rattle.arj_lock_run_law.proofs.HandleSteps.{messages_go}
-use Rattle.arj_lock_run_law.proofs.LineSteps.{down_stays, lines_stay, stops_go}
+use Rattle.arj_lock_run_law.proofs.LineSteps.{down_stays, lines_stay, quiets_stay, stops_go}
 use Rattle.arj_lock_run_law.proofs.QuerySteps.{queries_go}
 use Rattle.arj_lock_run_law.proofs.RestartWalks.{restarts_go}
 use Rattle.arj_lock_run_law.proofs.TickSteps.{ticks_go}
@@ -81,24 +79,24 @@ module _ (f : Fixed) (x : ℕ) where
   }
 
 -- a walk in which the object is seen, for all that may be fixed and agrees with what was done before
-kept_walk : (x : ℕ) (R : List Action → Seen → Type 0) (begun : List Action) (e k : ℕ) (outs : List Effect) (v : Parts) (d : Disk) (M : Seen) → Walks (R begun) e k outs (Up (R begun) k v) d M → Walks (IsGoodOf begun) e k outs (Up (IsGoodOf begun) k v) d M
+kept_walk : (x : ℕ) (R : List Action → Seen → Type 0) (begun : List Action) (e k : ℕ) (outs : List Effect) (v : Parts) (d : Disk) (M : Seen) → Walks (R begun) e k outs (Up (R begun) k v) d M → Walks (IsPathedOf begun) e k outs (Up (IsPathedOf begun) k v) d M
     → ((f : Fixed) → Agrees f x begun M.sent → (S : State) × Walks (IsSeenSo (case_of f x begun S)) e k outs (Up (IsSeenSo (case_of f x begun S)) k v) d M)
     → Walks (AreLocksSeen x R) e k outs (Up (AreLocksSeen x R) k v) d M
 kept_walk x R begun e k outs v d M holds good sees =
     let A : Type 0 = (f : Fixed) × Agrees f x begun M.sent in
-    let Q : A → Seen → Type 0 = λ a N. Agrees a.0 x begun N.sent → (S : State) × SeesLocks a.0 x begun S N in
+    let Q : A → Seen → Type 0 = λ a N. Agrees a.0 x begun N.sent → (S : State) × SeesLocks a.0 x begun S N × AreTied a.0 x N.lines S in
     let H : Seen → Type 0 = λ N. Within M.sent N.sent in
     let E : Seen → Type 0 = λ N. (a : A) → Q a N in
     let one = walks_each {A = A} Q e k outs (λ a. Up (Q a) k v) d M (λ a. (sees a.0 a.1).1) in
     let two = walks_both H E e k outs (Up H k v) (λ c N. (a : A) → Up (Q a) k v c N) d M (sent_grows M.sent e k v outs d M (λ p there. there)) one in
-    let G : Seen → Type 0 = IsGoodOf begun in
+    let G : Seen → Type 0 = IsPathedOf begun in
     let T : Seen → Type 0 = λ N. H N × E N in
     let three = walks_both G T e k outs (Up G k v) (λ c N. Up H k v c N × ((a : A) → Up (Q a) k v c N)) d M good two in
     let U : Seen → Type 0 = λ N. G N × T N in
     let four = walks_both (R begun) U e k outs (Up (R begun) k v) (λ c N. Up G k v c N × (Up H k v c N × ((a : A) → Up (Q a) k v c N))) d M holds three in
     walks_to (λ N. R begun N × U N) (AreLocksSeen x R) e k outs (λ c N. Up (R begun) k v c N × (Up G k v c N × (Up H k v c N × ((a : A) → Up (Q a) k v c N)))) (Up (AreLocksSeen x R) k v) d M
-    (λ N z. (begun, z.1.0, z.0, (λ f agrees. z.1.1.1 (f, agree_less f x begun M.sent N.sent z.1.1.0 agrees) agrees)))
-    (λ c N z. (begun, z.1.0, z.0, (λ f agrees. z.1.1.1 (f, agree_less f x begun M.sent N.sent z.1.1.0 agrees) agrees))) four
+    (λ N z. (begun, z.1.0.1, z.0, (λ f agrees. z.1.1.1 (f, agree_less f x begun M.sent N.sent z.1.1.0 agrees) agrees), z.1.0.0.1))
+    (λ c N z. (begun, z.1.0.1, z.0, (λ f agrees. z.1.1.1 (f, agree_less f x begun M.sent N.sent z.1.1.0 agrees) agrees), z.1.0.0.1)) four
 
 some_is : {A : Type 0} {a b : A} → Some a ≡ Some b → a ≡ b
 some_is {A} {a} {b} is = let k : ◌≡◌ {A = Option A} (Some a) (Some b) = is in cc
@@ -190,16 +188,22 @@ module _ (hd : Header) (x : ℕ) (G : Seen → Type 0) (R : List Action → Seen
 
   -- what is seen, where what is fixed agrees
   seen_in : (f : Fixed) (M : Seen) (z : Kept M) (agrees : Agrees f x z.0 M.sent) → IsSeenIn (case_of f x z.0 (let g = z.3 f agrees in g.0)) M
-  seen_in f M z agrees = record { good = z.1; agrees = agrees; sees = (let g = z.3 f agrees in g.1) }
+  seen_in f M z agrees = record { good = z.1.0; alike = z.1.1; written = z.1.2; agrees = agrees; sees = (let g = z.3 f agrees in g.1); tied = (let g = z.3 f agrees in g.2) }
+
+  -- its actions are those of the journal
+  pathed_in : (M : Seen) (z : Kept M) → IsPathedOf z.0 M
+  pathed_in M z = (((z.0, z.1.0), z.4), z.1)
 
   quiet_kept : (e : ℕ) (bs : List _) (M : Seen) → AreQuiet bs → G M → Kept M → Kept (said e bs M)
-  quiet_kept e bs M quiet more z = (z.0, z.1, keeps.quiet z.0 e bs M quiet more z.1 z.2, (λ f agrees. (let g = z.3 f agrees in (g.0, lines_stay (case_of f x z.0 g.0) e bs M g.1))))
+  quiet_kept e bs M quiet more z =
+      let r = quiet_pathed hd z.0 e bs M quiet (pathed_in M z) in
+      (z.0, r.1, keeps.quiet z.0 e bs M quiet more z.1.0 z.2, (λ f agrees. (let g = z.3 f agrees in (g.0, lines_stay (case_of f x z.0 g.0) e bs M g.1, quiets_stay (case_of f x z.0 g.0) e bs M quiet (seen_in f M z agrees)))), r.0.1)
 
   stop_kept : (e k : ℕ) (d : Disk) (live : Option Parts) (M : Seen) → G (at k d live M) → Kept (at k d live M) → Kept (halted e k d M)
-  stop_kept e k d live M more z = (z.0, stopped_good k d live M (z.0, z.1) e, keeps.stop z.0 e k d live M more z.1 z.2, λ f. by f live more z)
+  stop_kept e k d live M more z = let r = stop_pathed hd z.0 e k d live M (pathed_in (at k d live M) z) in (z.0, r.1, keeps.stop z.0 e k d live M more z.1.0 z.2, (λ f. by f live more z), r.0.1)
     where
-      by : (f : Fixed) (live : Option Parts) → G (at k d live M) → (z : Kept (at k d live M)) → Agrees f x z.0 M.sent → (S : State) × SeesLocks f x z.0 S (halted e k d M)
-      by f None more z agrees = (let g = z.3 f agrees in down_stays (case_of f x z.0 g.0) e k d M g.1 agrees)
+      by : (f : Fixed) (live : Option Parts) → G (at k d live M) → (z : Kept (at k d live M)) → Agrees f x z.0 M.sent → (S : State) × SeesLocks f x z.0 S (halted e k d M) × AreTied f x (let N = halted e k d M in N.lines) S
+      by f None more z agrees = (let g = z.3 f agrees in down_stays (case_of f x z.0 g.0) e k d M (seen_in f (down k d M) z agrees) agrees)
       by f (Some t) more z agrees =
           let g = z.3 f agrees in
           let s : Spot = record { node = k; disk = d; parts = t; seen = M } in
@@ -260,7 +264,7 @@ module _ (hd : Header) (x : ℕ) (G : Seen → Type 0) (R : List Action → Seen
   kept_message : (e k : ℕ) (d : Disk) (t v : Parts) (from : ℕ) (m : Message) (outs : List Effect) (M : Seen) → G (up k d t M) → Kept (up k d t M) → In (record { from = from; to = k; message = m }) M.sent → is_meant t m ≡ true → handle k d t from m ≡ Took v outs → Walks Kept e k outs (Up Kept k v) d M
   kept_message e k d t v from m outs M more z there meant is =
       let s : Spot = record { node = k; disk = d; parts = t; seen = M } in
-      kept_walk x R z.0 e k outs v d M (keeps.message z.0 e k d t v from m outs M more z.1 z.2 there meant is) (message_good e k d t M (z.0, z.1) v from m outs there is)
+      kept_walk x R z.0 e k outs v d M (keeps.message z.0 e k d t v from m outs M more z.1.0 z.2 there meant is) (message_pathed hd z.0 e k d t v from m outs M (pathed_in (up k d t M) z) there meant is)
       (λ f agrees. ((let g = z.3 f agrees in g.0), message_goes f e s from more z agrees m v outs (record { sent = there; meant = meant; takes = is })))
 
   -- ---- the others
@@ -285,7 +289,7 @@ module _ (hd : Header) (x : ℕ) (G : Seen → Type 0) (R : List Action → Seen
   kept_act e k d t i M is none more z =
       let D = acts i d.intents t.coord in
       let s : Spot = record { node = k; disk = d; parts = t; seen = M } in
-      kept_walk x R z.0 e k D.outs (with_coord t D.part) d M (keeps.act z.0 e k d t i M is none more z.1 z.2) (act_good e k d t M (z.0, z.1) hd i is none)
+      kept_walk x R z.0 e k D.outs (with_coord t D.part) d M (keeps.act z.0 e k d t i M is none more z.1.0 z.2) (act_pathed hd z.0 e k d t i M is none (pathed_in (up k d t M) z))
       (λ f agrees. ((let g = z.3 f agrees in g.0), input_goes f e s more z agrees i is none))
 
   -- an action that isn't refused may stand where it begins
@@ -304,7 +308,7 @@ module _ (hd : Header) (x : ℕ) (G : Seen → Type 0) (R : List Action → Seen
     a = record { path = p; kind = how }
 
     begins_so : MayBegin z.0 how o
-    begins_so = begins.may e s.node s.disk s.parts l how parent s.seen new may none (z.0, z.1)
+    begins_so = begins.may e s.node s.disk s.parts l how parent s.seen new may none (z.0, z.1.0)
 
     its_next : IsNext how o q.tree
     its_next = next_path z.0 (let w = older.whole in w.begun) how o q.tree begins_so
@@ -343,23 +347,23 @@ module _ (hd : Header) (x : ℕ) (G : Seen → Type 0) (R : List Action → Seen
       let s : Spot = record { node = k; disk = d; parts = t; seen = M } in
       let N = given l (record { node = k; serial = is_serial_kind how }) M in
       let a : Action = begins_in how parent t in
-      kept_walk x R (a ∷ z.0) e k D.outs (with_coord t D.part) d N (keeps.begin z.0 e k d t l how parent M new may none more z.1 z.2) (begin_good e k d t l how parent M new may none (z.0, z.1))
+      kept_walk x R (a ∷ z.0) e k D.outs (with_coord t D.part) d N (keeps.begin z.0 e k d t l how parent M new may none more z.1.0 z.2) (begin_pathed hd z.0 e k d t l how parent M new may none (pathed_in (up k d t M) z))
       (λ f agrees. let older = agree_older f x a z.0 M.sent agrees in ((let g = z.3 f older in g.0), begins_go (case_of f x z.0 (let g = z.3 f older in g.0)) s e l (record { node = k; serial = is_serial_kind how }) how parent (parent_of parent t.coord) (seen_in f (world_at s) z older) (let w = agrees.whole in w.begun.0) (may_stand f e s l how parent z older new may none agrees) ((gives f).begin z.0 (let g = z.3 f older in g.0) s (more, z.2) (seen_in f (world_at s) z older))))
 
   kept_tick : (e k : ℕ) (d : Disk) (t : Parts) (M : Seen) → G (up k d t M) → Kept (up k d t M)
       → Walks Kept e k (tick_outs (record { number = k; disk = d; live = Some t }) t) (Up Kept k (with_coord t (let q = again_all t.coord.doings t.coord in q.part))) d M
   kept_tick e k d t M more z =
       let s : Spot = record { node = k; disk = d; parts = t; seen = M } in
-      kept_walk x R z.0 e k (tick_outs (record { number = k; disk = d; live = Some t }) t) (with_coord t (let q = again_all t.coord.doings t.coord in q.part)) d M (keeps.tick z.0 e k d t M more z.1 z.2) (tick_good e k d t M (z.0, z.1))
+      kept_walk x R z.0 e k (tick_outs (record { number = k; disk = d; live = Some t }) t) (with_coord t (let q = again_all t.coord.doings t.coord in q.part)) d M (keeps.tick z.0 e k d t M more z.1.0 z.2) (tick_pathed hd z.0 e k d t M (pathed_in (up k d t M) z))
       (λ f agrees. let g = z.3 f agrees in let seen = seen_in f (world_at s) z agrees in let q = (gives f).tick z.0 g.0 s (more, z.2) seen in (g.0, ticks_go (case_of f x z.0 g.0) s e seen q.0 q.1 q.2))
 
   kept_restart : (e k : ℕ) (d : Disk) (M : Seen) → G (down k d M) → Kept (down k d M) → Walks Kept e k (restart_outs hd k (d.inc + 1) d) (Up Kept k (parts_in k (d.inc + 1) d)) d M
   kept_restart e k d M more z =
-      kept_walk x R z.0 e k (restart_outs hd k (d.inc + 1) d) (parts_in k (d.inc + 1) d) d M (keeps.restart z.0 e k d M more z.1 z.2) (restart_good hd e k d M (z.0, z.1))
+      kept_walk x R z.0 e k (restart_outs hd k (d.inc + 1) d) (parts_in k (d.inc + 1) d) d M (keeps.restart z.0 e k d M more z.1.0 z.2) (restart_pathed hd z.0 e k d M (pathed_in (down k d M) z))
       (λ f agrees. let g = z.3 f agrees in let seen = seen_in f (down k d M) z agrees in (g.0, restarts_go hd (case_of f x z.0 g.0) e k d M seen ((gives f).restart z.0 g.0 k d M (more, z.2) seen)))
 
   first_kept : Kept (see [] (format hd))
-  first_kept = ([], first_of hd, keeps.first, (λ f agrees. first_goes hd f x (gives f).first))
+  first_kept = let r = first_pathed hd in ([], r.1, keeps.first, (λ f agrees. first_goes hd f x (gives f).first), r.0.1)
 
   pub locks_given : KeepsGiven hd G (AreLocksSeen x R)
   locks_given = record { quiet = quiet_kept; stop = stop_kept; message = kept_message; act = kept_act; begin = kept_begin; tick = kept_tick; restart = kept_restart; first = first_kept }

@@ -29,6 +29,7 @@ use Rattle.arj_protocol.specs.Server as server
 use Rattle.arj_protocol.proofs.PartSays.{activate_own, all_both, bind_own, confirm_own, ends_own, invoke_own, note_own, told_own, vote_own}
 use Rattle.arj_lock_view_law.specs.Hearing.{is_for_naming}
 use Rattle.arj_lock_view_law.proofs.HandledSteps.{sent_last}
+use Rattle.arj_lock_line_law.proofs.Pages.{parts_say_plain}
 use Rattle.arj_lock_run_law.specs.World.{is_for_parts}
 use Rattle.arj_lock_run_law.proofs.WalkSteps.{leaves, leaves_work}
 
@@ -110,12 +111,12 @@ leave_by test each (e ∷ es) all = let p = and_parts (test e) (list_all test es
     both b c x y = (λ i. x i && c) ∙ y
 
 server_leaves : (n : ℕ) (e : Effect) → is_server_effect n e ≡ true → leaves e ≡ true
-server_leaves n (Say b) is = refl
+server_leaves n (Say b) is = parts_say_plain.1.0 n b is
 server_leaves n (Send to z) is = refl
 server_leaves n (Do w) is = absurd (cc is)
 
 naming_leaves : (e : Effect) → is_naming_effect e ≡ true → leaves e ≡ true
-naming_leaves (Say b) is = refl
+naming_leaves (Say b) is = parts_say_plain.1.1 b is
 naming_leaves (Send to z) is = refl
 naming_leaves (Do w) is = by w is
   where

@@ -1,5 +1,6 @@
 pub mod PostSteps
 pub mod OtherSteps
+pub mod TieSteps
 pub mod MoveSteps
 pub mod GoodSteps
 pub mod HaltSteps

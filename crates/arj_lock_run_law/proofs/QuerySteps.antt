@@ -35,6 +35,7 @@ use Rattle.arj_lock_run_law.specs.World.{IsSeenSo}
 use Rattle.arj_lock_run_law.proofs.GoodSteps.{good_node, its}
 use Rattle.arj_lock_run_law.proofs.OtherSteps.{SeesOthers, here_of, others_of, with_here}
 use Rattle.arj_lock_run_law.proofs.RestartWalks.{is_no_work, quiet_walk}
+use Rattle.arj_lock_run_law.proofs.TieSteps.{tied_now}
 use Rattle.arj_lock_run_law.proofs.TopSteps.{placed_top}
 use Rattle.arj_lock_run_law.proofs.WalkSteps.{AreSendsSeen, IsSendSeen}
 
@@ -223,7 +224,7 @@ module _ (c : Case) (s : Spot) (is_seen : IsSeenIn c (world_at s)) where
         let End = Up P k s.parts in
         let outs = answer_query from u js C in
         subst (λ es. Walks P e k es End s.disk s.seen) (append-nil outs) (quiet_walk f c.x c.begun k e P End S sent s.disk outs [] answer_quiet answer_seen
-        (λ N w o agrees. (S, with_here f c.x c.begun k s.disk (Some s.parts) S N o here)) s.seen (λ r i. i) others)
+        (λ N w o now agrees. (S, with_here f c.x c.begun k s.disk (Some s.parts) S N o here, now.tied)) s.seen (λ r i. i) others (tied_now c (world_at s) is_seen))
 
 pub queries_go : QueriesGo
 queries_go c s e from u is_seen about = query_goes c s is_seen from u about e

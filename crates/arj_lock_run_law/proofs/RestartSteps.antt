@@ -27,6 +27,7 @@ use Rattle.arj_lock_run_law.specs.Fixed.{Fixed, family_of, view_of}
 use Rattle.arj_lock_run_law.specs.Sees.{IsFresh, IsUnbegun, SeesDown}
 use Rattle.arj_lock_run_law.proofs.MoveSteps.{memory_acted, nothing_on}
 use Rattle.arj_lock_run_law.proofs.OtherSteps.{SeesOthers, committed_on, others_go, past_on, reached_of, said_others}
+use Rattle.arj_lock_run_law.proofs.TieSteps.{IsTiedNow, tied_found}
 use Rattle.arj_lock_run_law.proofs.TopSteps.{path_begun}
 
 unserial_top : (a : Act) (k : Kind) → IsPlaced a k → is_top a ≡ true → k ≢ kind.Serial
@@ -109,6 +110,10 @@ module _ (f : Fixed) (x : ℕ) (begun : List Action) (k : ℕ) (whole : AreOneTr
         let o = said_others f x begun k e (line ∷ []) S M others in
         others_go f x begun k S T N o g.run (λ j n other is seen_there. memory_acted S T (reached_of f x begun k S N o) g.run v w whole.alike (s.home w branch found) only j n.disk n.live other seen_there) fresh_found
         (let h = g.holds.2 in let l : length N.lines ≡ length M.lines + 1 = length-append M.lines _ in omega (arith, h, l))
+
+    -- the journal is tied with the line
+    pub tied_record : IsTiedNow f x begun S M.lines → IsTiedNow f x begun T N.lines
+    tied_record now = tied_found f x begun e k w S T M.lines (ap (λ (z : State). z.initial) only.rest) (ap (λ (z : State). z.calls) only.rest, ap (λ (z : State). z.includes) only.rest) (let h = g.holds.2 in omega (arith, h)) (let two = (stopped.top w refl).3 in omega (arith, two)) changes now
 
     -- it is committed
     committed_found : HasEnded v T w ending.Commit

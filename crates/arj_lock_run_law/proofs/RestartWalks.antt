@@ -1,6 +1,8 @@
 -- A restart is walked through.
 use Rattle.std.proofs.Common.{◌≡◌, ◌∙◌, ◌+◌, ◌≢◌, ℕ, List, [], ◌∷◌, ◌++◌, Bool, true, false, Option, Some, None, refl, sym, ap, subst, inl, inr, ⊎_elim, arith, map}
-use Rattle.std.specs.Prelude.{is_some}
+use Rattle.std.specs.Prelude.{is_some, ◌&&◌}
+use Rattle.std.specs.List.{list_all}
+use Rattle.std.proofs.lemmas.Bool.{and_parts}
 use Rattle.std.proofs.lemmas.List.{append-nil, append_assoc}
 use Rattle.arj_base.proofs.Uids.{uid_cases}
 use Rattle.arj_lock.proofs.Members as list
@@ -19,6 +21,7 @@ use Rattle.arj_protocol.specs.Says.{AreAll}
 use Rattle.arj_protocol.specs.Step.{hello_to, naming_at, naming_back, numbers_to, parts_in, recovered_records, tolds_again}
 use Rattle.arj_protocol.proofs.PartSays.{all_both, all_flat}
 use Rattle.arj_lock_law.specs.State.{State}
+use Rattle.arj_lock_line_law.specs.Steps.{is_plain}
 use Rattle.arj_part_law.specs.Actions.{Action}
 use Rattle.arj_part_law.specs.Messages.{AreOfTops, IsTopAction}
 use Rattle.arj_part_law.proofs.Keys.{at_in}
@@ -34,58 +37,69 @@ use Rattle.arj_lock_run_law.specs.Sees.{SeesDown}
 use Rattle.arj_lock_run_law.specs.World.{IsSeenSo, RestartsGo}
 use Rattle.arj_lock_run_law.proofs.HaltSteps.{halt_down}
 use Rattle.arj_lock_run_law.proofs.OtherSteps.{SeesOthers, here_of, others_of, posted_others, said_others, with_here}
-use Rattle.arj_lock_run_law.proofs.RestartSteps.{down_found, others_found}
+use Rattle.arj_lock_run_law.proofs.RestartSteps.{down_found, others_found, tied_record}
 use Rattle.arj_lock_run_law.proofs.StartSteps.{HasStarted, started}
+use Rattle.arj_lock_run_law.proofs.TieSteps.{IsTiedNow, tied_again, tied_moved, tied_now, tied_plain, tied_quiet}
 use Rattle.arj_lock_run_law.proofs.WalkSteps.{AreSendsSeen, IsSendSeen}
 
--- ---- effects that are no work
+-- ---- effects that are no work, and say lines of frames, servers and naming alone
 
 abbrev pub is_no_work : Effect → Bool
 is_no_work (Do w) = false
-is_no_work _ = true
+is_no_work (Say b) = is_plain b
+is_no_work (Send to m) = true
 
 abbrev pub is_said : Effect → Bool
-is_said (Say b) = true
+is_said (Say b) = is_plain b
 is_said _ = false
 
 module _ (f : Fixed) (x : ℕ) (begun : List Action) (k e : ℕ) (P : Seen → Type 0) (E : Disk → Seen → Type 0) where
   -- what is said and sent, before the rest
   pub quiet_walk : (T : State) (sent : List Post) (D : Disk) (outs rest : List Effect) → AreAll is_no_work outs → AreSendsSeen f x begun k T sent outs
-      → ((N : Seen) → Within sent N.sent → SeesOthers f x begun k T N → Walks P e k rest E D N)
-      → (N : Seen) → Within sent N.sent → SeesOthers f x begun k T N → Walks P e k (outs ++ rest) E D N
-  quiet_walk T sent D [] rest quiet sends go N within others = go N within others
-  quiet_walk T sent D (Do w ∷ es) rest quiet sends go N within others = absurd (cc quiet)
-  quiet_walk T sent D (Say b ∷ es) rest quiet sends go N within others = quiet_walk T sent D es rest quiet sends.1 go (said e (b ∷ []) N) within (said_others f x begun k e (b ∷ []) T N others)
-  quiet_walk T sent D (Send to m ∷ es) rest quiet sends go N within others = λ more q.
+      → ((N : Seen) → Within sent N.sent → SeesOthers f x begun k T N → IsTiedNow f x begun T N.lines → Walks P e k rest E D N)
+      → (N : Seen) → Within sent N.sent → SeesOthers f x begun k T N → IsTiedNow f x begun T N.lines → Walks P e k (outs ++ rest) E D N
+  quiet_walk T sent D [] rest quiet sends go N within others now = go N within others now
+  quiet_walk T sent D (Do w ∷ es) rest quiet sends go N within others now = absurd (cc quiet)
+  quiet_walk T sent D (Say b ∷ es) rest quiet sends go N within others now =
+      let p = and_parts (is_plain b) (list_all is_no_work es) quiet in
+      quiet_walk T sent D es rest p.1 sends.1 go (said e (b ∷ []) N) within (said_others f x begun k e (b ∷ []) T N others) (tied_plain f x begun e (b ∷ []) T N.lines (p.0, tt) now)
+  quiet_walk T sent D (Send to m ∷ es) rest quiet sends go N within others now = λ more q.
       let p : Post = record { from = k; to = to; message = m } in
       quiet_walk T sent D es rest quiet sends.1 go (said e more (posted p N)) (λ r there. inr (within r there))
-      (said_others f x begun k e more T (posted p N) (posted_others f x begun k p T N others (sends.0 (p ∷ N.sent) (λ r there. inr (within r there)))))
+      (said_others f x begun k e more T (posted p N) (posted_others f x begun k p T N others (sends.0 (p ∷ N.sent) (λ r there. inr (within r there))))) (tied_quiet f x begun e more T N.lines q now)
 
   -- lines send nothing
   no_sends : (T : State) (sent : List Post) (outs : List Effect) → AreAll is_said outs → AreSendsSeen f x begun k T sent outs
   no_sends T sent [] all = tt
-  no_sends T sent (Say b ∷ es) all = (tt, no_sends T sent es all)
+  no_sends T sent (Say b ∷ es) all = (tt, no_sends T sent es (and_parts (is_plain b) (list_all is_said es) all).1)
   no_sends T sent (Do w ∷ es) all = absurd (cc all)
   no_sends T sent (Send to m ∷ es) all = absurd (cc all)
 
   no_works : (outs : List Effect) → AreAll is_said outs → AreAll is_no_work outs
   no_works [] all = refl
-  no_works (Say b ∷ es) all = no_works es all
+  no_works (Say b ∷ es) all = let p = and_parts (is_plain b) (list_all is_said es) all in both (is_plain b) (list_all is_no_work es) p.0 (no_works es p.1)
+    where
+      both : (a b : Bool) → a ≡ true → b ≡ true → (a && b) ≡ true
+      both a b x y = (λ i. x i && b) ∙ y
   no_works (Do w ∷ es) all = absurd (cc all)
   no_works (Send to m ∷ es) all = absurd (cc all)
 
   -- ---- records that are found
 
-  module _ (whole : AreOneTree (family_of f begun)) (d D : Disk) (rest : List Effect) (go : (T : State) (N : Seen) → SeesOthers f x begun k T N → (z : SeesDown (view_of f x begun k) T d) → z.last ≡ None → Walks P e k rest E D N) where
-    records_walk : (es : List (Uid × Intent)) → ((u : Uid) (i : Intent) → list.In {X = Uid × Intent} (u, i) es → IsTopAction begun u)
-        → (S : State) (N : Seen) → SeesOthers f x begun k S N → (s : SeesDown (view_of f x begun k) S d) → ((u : Uid) → s.last ≡ Some u → (i : Intent) × list.In {X = Uid × Intent} (u, i) es) → Walks P e k (recovered_records k es ++ rest) E D N
-    records_walk [] tops S N others s pending = go S N others s (none s.last refl)
+  module _ (whole : AreOneTree (family_of f begun)) (d D : Disk) (rest : List Effect) (go : (T : State) (N : Seen) → SeesOthers f x begun k T N → (z : SeesDown (view_of f x begun k) T d) → z.last ≡ None → IsTiedNow f x begun T N.lines → Walks P e k rest E D N) where
+    records_walk : (es : List (Uid × Intent)) → ((u : Uid) (i : Intent) → list.In {X = Uid × Intent} (u, i) es → IsTopAction begun u) → ((u : Uid) (i : Intent) → list.In {X = Uid × Intent} (u, i) es → list.In {X = Uid × Intent} (u, i) d.intents)
+        → (S : State) (N : Seen) → SeesOthers f x begun k S N → (s : SeesDown (view_of f x begun k) S d) → ((u : Uid) → s.last ≡ Some u → (i : Intent) × list.In {X = Uid × Intent} (u, i) es) → IsTiedNow f x begun S N.lines → Walks P e k (recovered_records k es ++ rest) E D N
+    records_walk [] tops kept S N others s pending now = go S N others s (none s.last refl) now
       where
         none : (o : Option Uid) → s.last ≡ o → s.last ≡ None
         none None is = is
         none (Some u) is = absurd (pending u is).1
-    records_walk ((w, i) ∷ es) tops S N others s pending = by (λ T L o z p. records_walk es (λ u j there. tops u j (inr there)) T L o z p) s.last refl
+    records_walk ((w, i) ∷ es) tops kept S N others s pending now = by (λ T L o z p n. records_walk es (λ u j there. tops u j (inr there)) (λ u j there. kept u j (inr there)) T L o z p n) s.last refl
       where
+        -- a top that is committed
+        old : (s.last ≡ Some w → ⊥) → IsTiedNow f x begun S (let L = said e (body.Recovered k w ∷ []) N in L.lines)
+        old other = tied_again f x begun e k w S N.lines (⊎_elim (λ its. absurd (other its)) (λ so. so.committed) (s.records w i (in_to {X = Uid × Intent} (w, i) d.intents (kept w i (inl refl))))) now
+
         later : (u : Uid) → u ≢ w → (j : Intent) × list.In {X = Uid × Intent} (u, j) ((w, i) ∷ es) → (j : Intent) × list.In {X = Uid × Intent} (u, j) es
         later u other (j, inl same) = absurd (other (first_of same))
           where
@@ -93,13 +107,13 @@ module _ (f : Fixed) (x : ℕ) (begun : List Action) (k e : ℕ) (P : Seen → T
             first_of q = sym (ap (λ (z : Uid × Intent). z.0) q)
         later u other (j, inr there) = (j, there)
 
-        by : ((T : State) (L : Seen) → SeesOthers f x begun k T L → (z : SeesDown (view_of f x begun k) T d) → ((u : Uid) → z.last ≡ Some u → (j : Intent) × list.In {X = Uid × Intent} (u, j) es) → Walks P e k (recovered_records k es ++ rest) E D L) → (o : Option Uid) → s.last ≡ o → Walks P e k (recovered_records k es ++ rest) E D (said e (body.Recovered k w ∷ []) N)
-        by next None is = next S _ (said_others f x begun k e (body.Recovered k w ∷ []) S N others) s (λ u its. absurd (let bad : None ≡ Some u = sym is ∙ its in cc bad))
+        by : ((T : State) (L : Seen) → SeesOthers f x begun k T L → (z : SeesDown (view_of f x begun k) T d) → ((u : Uid) → z.last ≡ Some u → (j : Intent) × list.In {X = Uid × Intent} (u, j) es) → IsTiedNow f x begun T L.lines → Walks P e k (recovered_records k es ++ rest) E D L) → (o : Option Uid) → s.last ≡ o → Walks P e k (recovered_records k es ++ rest) E D (said e (body.Recovered k w ∷ []) N)
+        by next None is = next S _ (said_others f x begun k e (body.Recovered k w ∷ []) S N others) s (λ u its. absurd (let bad : None ≡ Some u = sym is ∙ its in cc bad)) (old (λ its. (let bad : None ≡ Some w = sym is ∙ its in cc bad)))
         by next (Some u) is = ⊎_elim
             (λ (same : u ≡ w). (let its : s.last ≡ Some w = is ∙ ap Some same in
             let z = down_found f x begun k whole S d w N e others s its (tops w i (inl refl)) in
-            next _ _ (others_found f x begun k whole S d w N e others s its (tops w i (inl refl))) z.0 (λ y none. absurd (let bad : None ≡ Some y = sym z.1 ∙ none in cc bad))))
-            (λ (other : u ≢ w). next S _ (said_others f x begun k e (body.Recovered k w ∷ []) S N others) s (λ y its. later y (λ same. other (let two : ◌≡◌ {A = Option Uid} (Some u) (Some y) = sym is ∙ its in let one : u ≡ y = cc two in one ∙ same)) (pending y its)))
+            next _ _ (others_found f x begun k whole S d w N e others s its (tops w i (inl refl))) z.0 (λ y none. absurd (let bad : None ≡ Some y = sym z.1 ∙ none in cc bad)) (tied_record f x begun k whole S d w N e others s its (tops w i (inl refl)) now)))
+            (λ (other : u ≢ w). next S _ (said_others f x begun k e (body.Recovered k w ∷ []) S N others) s (λ y its. later y (λ same. other (let two : ◌≡◌ {A = Option Uid} (Some u) (Some y) = sym is ∙ its in let one : u ≡ y = cc two in one ∙ same)) (pending y its)) (old (λ its. other (let two : ◌≡◌ {A = Option Uid} (Some u) (Some w) = sym is ∙ its in cc two))))
             (uid_cases u w)
 
 -- ---- what a node sends as it starts
@@ -197,18 +211,18 @@ module _ (hd : Header) (c : Case) (e k : ℕ) (d : Disk) (M : Seen) (is_seen : I
     records = here.records;
   }
 
-  halts : (D : Disk) (N : Seen) → SeesDown v S D → SeesOthers f c.x c.begun k S N → P (halted e k D N)
-  halts D N s o agrees = (S, halt_down f c.x c.begun k e S D N o s)
+  halts : (D : Disk) (N : Seen) → SeesDown v S D → SeesOthers f c.x c.begun k S N → IsTiedNow f c.x c.begun S N.lines → P (halted e k D N)
+  halts D N s o now agrees = halt_down f c.x c.begun k e S D N o s now
 
-  looks : (D : Disk) (N : Seen) → SeesDown v S D → SeesOthers f c.x c.begun k S N → Stops P e k Look D N
-  looks D N s o Before = halts D N s o
-  looks D N s o After = halts D N s o
-  looks D N s o (InPart which) = halts D N s o
+  looks : (D : Disk) (N : Seen) → SeesDown v S D → SeesOthers f c.x c.begun k S N → IsTiedNow f c.x c.begun S N.lines → Stops P e k Look D N
+  looks D N s o now Before = halts D N s o now
+  looks D N s o now After = halts D N s o now
+  looks D N s o now (InPart which) = halts D N s o now
 
-  rises : (N : Seen) → SeesOthers f c.x c.begun k S N → Stops P e k (PutInc inc) d N
-  rises N o Before = halts d N here o
-  rises N o After = halts risen N here_risen o
-  rises N o (InPart which) = halts d N here o
+  rises : (N : Seen) → SeesOthers f c.x c.begun k S N → IsTiedNow f c.x c.begun S N.lines → Stops P e k (PutInc inc) d N
+  rises N o now Before = halts d N here o now
+  rises N o now After = halts risen N here_risen o now
+  rises N o now (InPart which) = halts d N here o now
 
   abbrev Hs : List Uid
   Hs = uid_set (prepared_actions d.store ++ prepared_actions d.names)
@@ -220,20 +234,20 @@ module _ (hd : Header) (c : Case) (e k : ℕ) (d : Disk) (M : Seen) (is_seen : I
   Sent = tolds_again d.intents ++ (map query_about Hs ++ Hellos)
 
   -- what is sent, and the end
-  ends_walk : (T : State) (N : Seen) → HasStarted f c.x c.begun k d N T → ((u : Uid) (i : Intent) → list.In {X = Uid × Intent} (u, i) d.intents → HasEnded v T u ending.Commit) → Walks P e k Sent E risen N
-  ends_walk T N has so =
-      let end : (L : Seen) → Within N.sent L.sent → SeesOthers f c.x c.begun k T L → Walks P e k [] E risen L = λ L w o agrees. (T, with_here f c.x c.begun k risen (Some (parts_in k inc d)) T L o has.up) in
+  ends_walk : (R T : State) (N : Seen) → HasStarted f c.x c.begun k R d N T → ((u : Uid) (i : Intent) → list.In {X = Uid × Intent} (u, i) d.intents → HasEnded v T u ending.Commit) → IsTiedNow f c.x c.begun T N.lines → Walks P e k Sent E risen N
+  ends_walk R T N has so now =
+      let end : (L : Seen) → Within N.sent L.sent → SeesOthers f c.x c.begun k T L → IsTiedNow f c.x c.begun T L.lines → Walks P e k [] E risen L = λ L w o n agrees. (T, with_here f c.x c.begun k risen (Some (parts_in k inc d)) T L o has.up, n.tied) in
       quiet_walk f c.x c.begun k e P E T N.sent risen (tolds_again d.intents) (map query_about Hs ++ Hellos) (tolds_quiet d.intents) (tolds_seen f c.x c.begun k T N.sent d.intents so)
-      (λ L w o. quiet_walk f c.x c.begun k e P E T N.sent risen (map query_about Hs) Hellos (queries_quiet Hs) (queries_seen f c.x c.begun k T N.sent Hs)
-      (λ K y q. subst (λ es. Walks P e k es E risen K) (append-nil Hellos) (quiet_walk f c.x c.begun k e P E T N.sent risen Hellos [] (hellos_quiet k inc (without_number k (numbers_to hd.nodes))) (hellos_seen f c.x c.begun k T N.sent inc (without_number k (numbers_to hd.nodes))) end K y q)) L w o)
-      N (λ r i. i) has.others
+      (λ L w o n. quiet_walk f c.x c.begun k e P E T N.sent risen (map query_about Hs) Hellos (queries_quiet Hs) (queries_seen f c.x c.begun k T N.sent Hs)
+      (λ K y q m. subst (λ es. Walks P e k es E risen K) (append-nil Hellos) (quiet_walk f c.x c.begun k e P E T N.sent risen Hellos [] (hellos_quiet k inc (without_number k (numbers_to hd.nodes))) (hellos_seen f c.x c.begun k T N.sent inc (without_number k (numbers_to hd.nodes))) end K y q m)) L w o n)
+      N (λ r i. i) has.others now
 
   -- after the last look
-  last_walk : (N : Seen) → SeesOthers f c.x c.begun k S N → Walks P e k (recovered_records k d.intents ++ Sent) E risen N
-  last_walk N o = records_walk f c.x c.begun k e P E whole d risen Sent
-      (λ T L os z none. (let g = started f c.x c.begun k T d L os z none entry in
-      ends_walk g.0 L g.1 (λ u i there. (let z = g.1 in let y = z.up in ⊎_elim (λ none. absurd (cc none)) (λ so. so) (y.records u i (in_to {X = Uid × Intent} (u, i) d.intents there))))))
-      d.intents tops S N o here (λ u is. recorded u is)
+  last_walk : (N : Seen) → SeesOthers f c.x c.begun k S N → IsTiedNow f c.x c.begun S N.lines → Walks P e k (recovered_records k d.intents ++ Sent) E risen N
+  last_walk N o now = records_walk f c.x c.begun k e P E whole d risen Sent
+      (λ T L os z none n. (let g = started f c.x c.begun k T d L os z none entry in
+      ends_walk T g.0 L g.1 (λ u i there. (let z = g.1 in let y = z.up in ⊎_elim (λ none. absurd (cc none)) (λ so. so) (y.records u i (in_to {X = Uid × Intent} (u, i) d.intents there)))) (tied_moved f c.x c.begun T g.0 L.lines (let q = g.1 in q.moved) n)))
+      d.intents tops (λ u i there. there) S N o here (λ u is. recorded u is) now
     where
       tops : (u : Uid) (i : Intent) → list.In {X = Uid × Intent} (u, i) d.intents → IsTopAction c.begun u
       tops u i there = all_of d.intents (let p = place_of k d None M (c.begun, is_seen.good) in let q = p.disk in q.tops) there
@@ -258,15 +272,17 @@ module _ (hd : Header) (c : Case) (e k : ℕ) (d : Disk) (M : Seen) (is_seen : I
 
   whole_walk : Walks P e k (First ++ (Next ++ Sent)) E d M
   whole_walk =
-      let o = said_others f c.x c.begun k e (body.Up k inc ∷ []) S M others in (
-        looks d M here others,
+      let o = said_others f c.x c.begun k e (body.Up k inc ∷ []) S M others in
+      let now = tied_now c (down k d M) is_seen in
+      let n = tied_plain f c.x c.begun e (body.Up k inc ∷ []) S M.lines (refl, tt) now in (
+        looks d M here others now,
         (
-          rises M others,
+          rises M others now,
           (
-            looks risen (said e (body.Up k inc ∷ []) M) here_risen o,
+            looks risen (said e (body.Up k inc ∷ []) M) here_risen o n,
             quiet_walk f c.x c.begun k e P E S M.sent risen (naming_back (naming_at k inc d.names)) (Next ++ Sent) (no_works f c.x c.begun k e P E (naming_back (naming_at k inc d.names)) (back_said (naming_at k inc d.names)))
                 (no_sends f c.x c.begun k e P E S M.sent (naming_back (naming_at k inc d.names)) (back_said (naming_at k inc d.names)))
-                (λ N w q. (looks risen N here_risen q, last_walk N q)) (said e (body.Up k inc ∷ []) M) (λ r i. i) o,
+                (λ N w q m. (looks risen N here_risen q m, last_walk N q m)) (said e (body.Up k inc ∷ []) M) (λ r i. i) o n,
           ),
         ),
       )

@@ -35,6 +35,7 @@ use Rattle.arj_lock_run_law.specs.Beside.{KnowsEntry}
 use Rattle.arj_lock_run_law.specs.Fixed.{Fixed, view_of}
 use Rattle.arj_lock_run_law.specs.Sees.{ArePast, IsPast, SeesDown, SeesUp}
 use Rattle.arj_lock_run_law.proofs.MoveSteps.{action_is, action_named, memory_named, memory_serving, naming_is, nothing_on, sees_named}
+use Rattle.arj_lock_run_law.proofs.TieSteps.{IsMoved, moved_named, moved_serving, moved_then}
 use Rattle.arj_lock_run_law.proofs.OtherSteps.{SeesOthers, fresh_named, fresh_on, now_named, others_go, past_on, reached_of, records_on}
 
 -- a server that starts changes as one that takes a message
@@ -77,7 +78,8 @@ module _ (f : Fixed) (x : ℕ) (begun : List Action) (k : ℕ) where
         over = ⊎_elim (λ h. absurd (cc h.1)) (λ three. three) (stopped.units (act_of a) b found);
       }
 
-  pub record HasStarted (d : Disk) (M : Seen) (T : State) : Type 0 where
+  pub record HasStarted (S : State) (d : Disk) (M : Seen) (T : State) : Type 0 where
+    pub moved : IsMoved S T
     pub others : SeesOthers f x begun k T M
     pub up : SeesUp v T (record d { inc = d.inc + 1 }) (parts_in k (d.inc + 1) d)
 
@@ -130,14 +132,15 @@ module _ (f : Fixed) (x : ℕ) (begun : List Action) (k : ℕ) where
           its_inc false n is = absurd (cc is)
 
       -- naming starts at node 1
-      named : (one : (k == 1) ≡ true) (behind_naming : State) → Run behind_server behind_naming → SeesNaming v (recovered_naming inc d.names) behind_naming → OnlyNaming behind_server behind_naming → HasStarted d M behind_naming
+      named : (one : (k == 1) ≡ true) (behind_naming : State) → Run behind_server behind_naming → SeesNaming v (recovered_naming inc d.names) behind_naming → OnlyNaming behind_server behind_naming → HasStarted S d M behind_naming
       named one behind_naming run seen_naming only_named = record {
+        moved = moved_then S behind_server behind_naming (moved_serving v m S behind_server serving) (moved_named behind_server behind_naming only_named);
         others = others_go f x begun k behind_server behind_naming M others_behind run (λ j n other is seen_there. memory_named behind_server behind_naming reached_behind run only_named (view_of f x begun j) n.disk n.live (λ its. other (its ∙ sym (eqb-true k 1 one))) seen_there) (fresh_named f begun behind_server behind_naming only_named others_behind.fresh) (now_named behind_server behind_naming (length M.lines) only_named others_behind.now);
         up = up_with behind_naming (action_named behind_server behind_naming reached_behind run only_named ∙ action_is v m S behind_server serving) (sees_named behind_server behind_naming reached_behind run only_named v (parts_in k inc d) server_behind) (subst (λ (b : Bool). SeesNamingIn v behind_naming (cond b (Some (recovered_naming inc d.names)) None)) (sym one) seen_naming);
       }
 
-      starts : (b : Bool) → (k == 1) ≡ b → (T : State) × HasStarted d M T
-      starts false is = (behind_server, record { others = others_behind; up = up_with behind_server (action_is v m S behind_server serving) server_behind (subst (λ (b : Bool). SeesNamingIn v behind_server (cond b (Some (recovered_naming inc d.names)) None)) (sym is) tt) })
+      starts : (b : Bool) → (k == 1) ≡ b → (T : State) × HasStarted S d M T
+      starts false is = (behind_server, record { moved = moved_serving v m S behind_server serving; others = others_behind; up = up_with behind_server (action_is v m S behind_server serving) server_behind (subst (λ (b : Bool). SeesNamingIn v behind_server (cond b (Some (recovered_naming inc d.names)) None)) (sym is) tt) })
       starts true is =
           let one : k ≡ 1 = eqb-true k 1 is in
           let o = there (at_number x (let n = recovered_naming inc d.names in n.objects)) (entry one inc) in
@@ -148,5 +151,5 @@ module _ (f : Fixed) (x : ℕ) (begun : List Action) (k : ℕ) where
           there None is = absurd (cc is)
           there (Some n) is = (n, refl)
 
-    pub started : (T : State) × HasStarted d M T
+    pub started : (T : State) × HasStarted S d M T
     started = starts g.state g.run g.holds.0 g.holds.1 (k == 1) refl

@@ -1,6 +1,6 @@
 -- A coordinator asks again, is acknowledged, and answers questions: the machine waits, and the object is seen in the whole world.
 use Rattle.std.proofs.Common.{◌≡◌, ◌≢◌, ◌⊎◌, ◌∙◌, ◌<◌, ℕ, List, [], ◌∷◌, ◌++◌, length, map, true, false, Option, Some, None, refl, sym, ap, subst, inl, inr, ⊎_elim, Contains}
-use Rattle.std.specs.Prelude.{⊤, is_some}
+use Rattle.std.specs.Prelude.{is_some}
 use Rattle.std.specs.List.{AllByRecursion}
 use Rattle.std.proofs.lemmas.List.{append-nil, append_assoc}
 use Rattle.arj_lock.proofs.Members as list
@@ -51,13 +51,14 @@ use Rattle.arj_lock_run_law.proofs.AskedSteps.{request_seen}
 use Rattle.arj_lock_run_law.proofs.GoodSteps.{good_node, its}
 use Rattle.arj_lock_run_law.proofs.OtherSteps.{SeesOthers, here_of, others_of, reached_of, with_here}
 use Rattle.arj_lock_run_law.proofs.RestartWalks.{is_no_work, queries_quiet, queries_seen, quiet_walk, tolds_quiet, tolds_seen}
+use Rattle.arj_lock_run_law.proofs.TieSteps.{tied_now}
 use Rattle.arj_lock_run_law.proofs.WalkSteps.{AreSendsSeen}
 
 -- ---- effects that are requests
 
 abbrev pub IsRequest : Effect → Type 0
 IsRequest (Send to m) = is_some (asks m) ≡ true
-IsRequest (Say b) = ⊤
+IsRequest (Say b) = ⊥
 IsRequest (Do w) = ⊥
 
 abbrev pub AreRequests : List Effect → Type 0
@@ -110,7 +111,7 @@ module _ (f : Fixed) (x : ℕ) (begun : List Action) (k : ℕ) (T : State) (e : 
 
   pub asked_seen : (sent : List Post) (outs : List Effect) → AllSo e outs → AllSayEnds e.tree outs → AreRequests outs → AreSendsSeen f x begun k T sent outs
   asked_seen sent [] so says requests = tt
-  asked_seen sent (Say b ∷ es) so says requests = (tt, asked_seen sent es so.1 says.1 requests.1)
+  asked_seen sent (Say b ∷ es) so says requests = absurd requests.0
   asked_seen sent (Do w ∷ es) so says requests = absurd requests.0
   asked_seen sent (Send to m ∷ es) so says requests = ((λ wide within. by (asks m) refl wide), asked_seen sent es so.1 says.1 requests.1)
     where
@@ -124,7 +125,7 @@ module _ (f : Fixed) (x : ℕ) (begun : List Action) (k : ℕ) (T : State) (e : 
 -- requests are no work
 pub requests_quiet : (outs : List Effect) → AreRequests outs → AreAll is_no_work outs
 requests_quiet [] all = refl
-requests_quiet (Say b ∷ es) all = requests_quiet es all.1
+requests_quiet (Say b ∷ es) all = absurd all.0
 requests_quiet (Send to m ∷ es) all = requests_quiet es all.1
 requests_quiet (Do w ∷ es) all = absurd all.0
 
@@ -219,10 +220,10 @@ module _ (c : Case) (s : Spot) (is_seen : IsSeenIn c (world_at s)) (asks_so : Kn
       let queries = map query_about (holders s.disk s.parts) in
       subst (λ es. Walks P e k es End s.disk s.seen) (sym (append_assoc outs tolds queries))
       (quiet_walk f c.x c.begun k e P End S sent s.disk outs (tolds ++ queries) (requests_quiet outs (again_requests C.doings C)) asked
-      (λ N w o. quiet_walk f c.x c.begun k e P End S sent s.disk tolds queries (tolds_quiet C.telling) (tolds_seen f c.x c.begun k S sent C.telling told_so)
-      (λ L y q. subst (λ es. Walks P e k es End s.disk L) (append-nil queries) (quiet_walk f c.x c.begun k e P End S sent s.disk queries [] (queries_quiet (holders s.disk s.parts)) (queries_seen f c.x c.begun k S sent (holders s.disk s.parts))
-      (λ K z p agrees. (S, with_here f c.x c.begun k s.disk (Some (with_coord s.parts E)) S K p up_after)) L y q)) N w o)
-      s.seen (λ r i. i) others)
+      (λ N w o n. quiet_walk f c.x c.begun k e P End S sent s.disk tolds queries (tolds_quiet C.telling) (tolds_seen f c.x c.begun k S sent C.telling told_so)
+      (λ L y q m. subst (λ es. Walks P e k es End s.disk L) (append-nil queries) (quiet_walk f c.x c.begun k e P End S sent s.disk queries [] (queries_quiet (holders s.disk s.parts)) (queries_seen f c.x c.begun k S sent (holders s.disk s.parts))
+      (λ K z p now agrees. (S, with_here f c.x c.begun k s.disk (Some (with_coord s.parts E)) S K p up_after, now.tied)) L y q m)) N w o n)
+      s.seen (λ r i. i) others (tied_now c (world_at s) is_seen))
 
 pub ticks_go : TicksGo
 ticks_go c s e is_seen asks_so listed tells = tick_goes c s is_seen asks_so listed tells e

@@ -14,6 +14,8 @@ use Rattle.arj_protocol.specs.Coord.{Coord, Doing, doing_of, nodes_sent, root_at
 use Rattle.arj_protocol.specs.Effect.{Did, Effect, Intent, Say}
 use Rattle.arj_protocol.specs.Ending.{aborts_with, abort_action, all_aborted, ended, ends_with, is_deferred, say_for, says, tell_all, tolds_by, tolds_of, tolds_of_branch, up_to}
 use Rattle.arj_protocol.specs.Tree.{Branch, branch_of, ends_of, open_below, root_of}
+use Rattle.arj_model.specs.Actions.{begun_of}
+use Rattle.arj_protocol.specs.World.{numbered}
 use Rattle.arj_lock_law.specs.Actions.{Root, is_action, root}
 use Rattle.arj_lock_law.specs.State.{State}
 use Rattle.arj_part_law.specs.Actions.{Stands, action_of}
@@ -36,14 +38,21 @@ use Rattle.arj_lock_view_law.proofs.TreeSteps.{action_kind}
 use Rattle.arj_lock_view_law.proofs.InputSteps.{doomed_commits_are_taken, nested_commits_are_taken, to_run}
 use Rattle.arj_lock_view_law.proofs.OneSteps.{end_changed}
 use Rattle.arj_lock_view_law.proofs.ListedSteps.{decided_have_ended, listed_have_ended}
+use Rattle.arj_lock_line_law.specs.Coordinators.{bodies_of}
+use Rattle.arj_lock_line_law.specs.Lines.{IsTiedToLines}
+use Rattle.arj_lock_line_law.specs.Steps.{ArePlain, is_plain}
+use Rattle.arj_lock_line_law.proofs.AbortTies.{abort_said}
+use Rattle.arj_lock_line_law.proofs.EndTies.{doomed_said, nested_said, serial_said}
 use Rattle.arj_lock_run_law.specs.Beside.{Case, IsSeenIn, Spot, view_in, world_at}
 use Rattle.arj_lock_run_law.specs.Coordinating.{AbortsGo, AreSends, AreSendsShown, DoomedCommitsGo, HasStepped, KnowsCoord, NestedCommitsGo, StepGoes, coord_at, records_at}
 use Rattle.arj_lock_run_law.specs.Posts.{AreToldSo, IsToldSo}
 use Rattle.arj_lock_run_law.specs.Sees.{SeesUp}
+use Rattle.arj_lock_run_law.specs.Tied.{AreTied, BeginNone}
 use Rattle.arj_lock_run_law.proofs.CoordSteps.{coords_go}
 use Rattle.arj_lock_run_law.proofs.GoodSteps.{steady}
 use Rattle.arj_lock_run_law.proofs.OtherSteps.{here_of}
 use Rattle.arj_lock_run_law.proofs.StepSteps.{aborted_stepped, ended_stepped}
+use Rattle.arj_lock_run_law.proofs.TieSteps.{none_both, on_page, page_at}
 
 -- ---- lists of messages
 
@@ -141,15 +150,22 @@ abbrev line_of : Kind → Label → Body
 line_of kind.Serial l = body.Ended l
 line_of _ l = body.Committed l
 
+line_none : (k : Kind) (l : Label) → begun_of (line_of k l) ≡ None
+line_none kind.Serial l = refl
+line_none kind.Nested l = refl
+line_none kind.Top l = refl
+line_none kind.Constituent l = refl
+line_none kind.Independent l = refl
+
 module _ (c : Case) (s : Spot) (e : ℕ) (is_seen : IsSeenIn c (world_at s)) (u : Uid) (b : Branch) (d : Doing) (found : branch_of u (coord_at s).tree ≡ Some b) (works : doing_of u (coord_at s) ≡ Some d) (C : Coord) (knows : KnowsCoord c s C) where
   -- an action ends by its line, and that is told
   end_goes : (how : End) (line : Label → Body) (D : Did Coord) → D ≡ record { part = C; outs = says u line (coord_at s) ++ tolds_of (records_at s) C u } → (q : Branch) → branch_of u C.tree ≡ Some q → q.ended ≡ Some how → (q.kind ≡ kind.Nested) ⊎ ((q.kind ≡ kind.Serial) ⊎ (how ≡ ending.Abort))
-      → Goes c.state (λ T. HasStepped c s u 1 C T) → StepGoes c s e D
-  end_goes how line D is q there ended_so which g =
-      let h = g.holds in
+      → begun_of (line d.label) ≡ None → Goes c.state (λ T. HasStepped c s u 1 C T × AreTied c.fixed c.x ((let M = s.seen in M.lines) ++ numbered e (line d.label ∷ [])) T) → StepGoes c s e D
+  end_goes how line D is q there ended_so which none g =
+      let h = g.holds.0 in
       let t = tolds_shown c s is_seen C knows g.state h.coord (records_at s) u q there how ended_so which in
       subst (StepGoes c s e) (sym (is ∙ (λ i. record { part = C; outs = say_for line (works i) ++ tolds_of (records_at s) C u })))
-      (coords_go c s e u b (line d.label ∷ []) (tolds_of (records_at s) C u) C g.state is_seen found knows.on t.0 h t.1)
+      (coords_go c s e u b (line d.label ∷ []) (tolds_of (records_at s) C u) C g.state is_seen found knows.on t.0 h t.1 (none, tt) g.holds.1)
 
 -- how the action ended
 pub ended_here : (c : Coord) (u : Uid) (b : Branch) (d : Doing) (e : End) → branch_of u c.tree ≡ Some b → doing_of u c ≡ Some d → branch_of u (let k = ended u e c in k.tree) ≡ Some (record b { ended = Some e })
@@ -157,9 +173,14 @@ ended_here c u b d e found works = let o = end_changed c u b d found works e in 
 
 pub nested_commits_go : NestedCommitsGo
 nested_commits_go c s e u b d is_seen free kinds undoomed childless knows =
-    end_goes c s e is_seen u b d free.there free.works C knows' ending.Commit line D did_is (record b { ended = Some ending.Commit }) (ended_here (coord_at s) u b d ending.Commit free.there free.works) refl (⊎_elim (λ n. inl n) (λ k. inr (inl k)) kinds)
+    end_goes c s e is_seen u b d free.there free.works C knows' ending.Commit line D did_is (record b { ended = Some ending.Commit }) (ended_here (coord_at s) u b d ending.Commit free.there free.works) refl (⊎_elim (λ n. inl n) (λ k. inr (inl k)) kinds) (line_none b.kind d.label)
     (to_run (nested_commits_are_taken (let f = c.fixed in f.act) (let f = c.fixed in f.code) (let f = c.fixed in f.paths) c.x (length (let M = s.seen in M.lines) + 1) (coord_at s) u b d (records_at s) c.state reached_S free kinds undoomed childless (let z = is_seen.sees in z.now) here.coord)
-    (λ T run h. ended_stepped c s is_seen u b free.there 1 C T (committed_at (length (let M = s.seen in M.lines) + 1) (let S = c.state in S.action (let f = c.fixed in f.act u))) run (subst (λ (q : Coord). SeesWhole (let f = c.fixed in f.act) (let f = c.fixed in f.code) c.x q T) part_is h.0) h.1.0 h.1.2 (let k = h.1.1 in omega (arith, k))))
+    (λ T run h. (
+      ended_stepped c s is_seen u b free.there 1 C T (committed_at (length (let M = s.seen in M.lines) + 1) (let S = c.state in S.action (let f = c.fixed in f.act u))) run (subst (λ (q : Coord). SeesWhole (let f = c.fixed in f.act) (let f = c.fixed in f.code) c.x q T) part_is h.0) h.1.0 h.1.2 (let k = h.1.1 in omega (arith, k)),
+      ⊎_elim (λ n. as_line T kind.Nested n (λ values is. nested_said (let f = c.fixed in f.act) (let f = c.fixed in f.code) (let f = c.fixed in f.paths) c.x (page_at s e values) (coord_at s) u b d c.state T free (on_page c s e is_seen values is) here.coord h.1.0 h.1.1 h.1.2))
+          (λ k. as_line T kind.Serial k (λ values is. serial_said (let f = c.fixed in f.act) (let f = c.fixed in f.code) (let f = c.fixed in f.paths) c.x (page_at s e values) (coord_at s) u b d c.state T free (on_page c s e is_seen values is) here.coord h.1.0 k h.1.1 h.1.2))
+          kinds,
+    )))
   where
     D : Did Coord
     D = commit_action b (records_at s) (coord_at s)
@@ -169,6 +190,9 @@ nested_commits_go c s e u b d is_seen free kinds undoomed childless knows =
 
     line : Label → Body
     line = line_of b.kind
+
+    as_line : (T : State) (k : Kind) → b.kind ≡ k → AreTied c.fixed c.x ((let M = s.seen in M.lines) ++ numbered e (line_of k d.label ∷ [])) T → AreTied c.fixed c.x ((let M = s.seen in M.lines) ++ numbered e (line d.label ∷ [])) T
+    as_line T k is tied = subst (λ (k : Kind). AreTied c.fixed c.x ((let M = s.seen in M.lines) ++ numbered e (line_of k d.label ∷ [])) T) (sym is) tied
 
     its : actor b.path ≡ u
     its = free.steady.good.tree.lists.places u b free.there
@@ -194,9 +218,12 @@ nested_commits_go c s e u b d is_seen free kinds undoomed childless knows =
 
 pub doomed_commits_go : DoomedCommitsGo
 doomed_commits_go c s e u b d is_seen free doomed childless knows =
-    end_goes c s e is_seen u b d free.there free.works C (subst (KnowsCoord c s) part_is knows) ending.Abort (λ l. body.Aborted l cause.Doomed) D did_is (record b { ended = Some ending.Abort }) (ended_here (coord_at s) u b d ending.Abort free.there free.works) refl (inr (inr refl))
+    end_goes c s e is_seen u b d free.there free.works C (subst (KnowsCoord c s) part_is knows) ending.Abort (λ l. body.Aborted l cause.Doomed) D did_is (record b { ended = Some ending.Abort }) (ended_here (coord_at s) u b d ending.Abort free.there free.works) refl (inr (inr refl)) refl
     (to_run (doomed_commits_are_taken (let f = c.fixed in f.act) (let f = c.fixed in f.code) (let f = c.fixed in f.paths) c.x (length (let M = s.seen in M.lines) + 1) (coord_at s) u b d (records_at s) c.state reached_S free doomed childless (let z = is_seen.sees in z.now) here.coord)
-    (λ T run h. ended_stepped c s is_seen u b free.there 1 C T (aborted (let S = c.state in S.action (let f = c.fixed in f.act u))) run (subst (λ (q : Coord). SeesWhole (let f = c.fixed in f.act) (let f = c.fixed in f.code) c.x q T) part_is h.0) h.1.0 h.1.2 (let k = h.1.1 in let z = is_seen.sees in let n = z.now in omega (arith, k, n))))
+    (λ T run h. (
+      ended_stepped c s is_seen u b free.there 1 C T (aborted (let S = c.state in S.action (let f = c.fixed in f.act u))) run (subst (λ (q : Coord). SeesWhole (let f = c.fixed in f.act) (let f = c.fixed in f.code) c.x q T) part_is h.0) h.1.0 h.1.2 (let k = h.1.1 in let z = is_seen.sees in let n = z.now in omega (arith, k, n)),
+      λ values is. doomed_said (let f = c.fixed in f.act) (let f = c.fixed in f.code) (let f = c.fixed in f.paths) c.x (page_at s e values) (coord_at s) u b d c.state T free (on_page c s e is_seen values is) here.coord h.1.0 h.1.1 h.1.2,
+    )))
   where
     D : Did Coord
     D = commit_action b (records_at s) (coord_at s)
@@ -219,12 +246,16 @@ doomed_commits_go c s e u b d is_seen free doomed childless knows =
 -- ---- an abort with all that is open below it
 
 -- what is said is lines alone
-says_lines : (u : Uid) (f : Label → Body) (c : Coord) → (bs : List Body) × (says u f c ≡ map Say bs)
-says_lines u f c = by (doing_of u c)
-  where
-    by : (o : Option Doing) → (bs : List Body) × (say_for f o ≡ map Say bs)
-    by None = ([], refl)
-    by (Some d) = (f d.label ∷ [], refl)
+says_by : (f : Label → Body) (o : Option Doing) → (bs : List Body) × (say_for f o ≡ map Say bs)
+says_by f None = ([], refl)
+says_by f (Some d) = (f d.label ∷ [], refl)
+
+abbrev says_lines : (u : Uid) (f : Label → Body) (c : Coord) → (bs : List Body) × (says u f c ≡ map Say bs)
+says_lines u f c = says_by f (doing_of u c)
+
+pub plain_app : (xs ys : List Body) → ArePlain xs → ArePlain ys → ArePlain (xs ++ ys)
+plain_app [] ys a b = b
+plain_app (x ∷ xs) ys a b = (a.0, plain_app xs ys a.1 b)
 
 map_app : (xs ys : List Body) → map Say xs ++ map Say ys ≡ map Say (xs ++ ys)
 map_app [] ys = refl
@@ -238,12 +269,35 @@ flat_says u c g (a ∷ xs) =
     let r = flat_says u c g xs in
     (h.0 ++ r.0, (λ i. h.1 i ++ r.1 i) ∙ map_app h.0 r.0)
 
+pub flat_plain : {A : Type 0} (u : Uid) (c : Coord) (g : A → Label → Body) → ((a : A) (l : Label) → is_plain (g a l) ≡ true) → (xs : List A) → ArePlain (let r = flat_says u c g xs in r.0)
+unfolding flat_says says_by
+flat_plain u c g plain [] = tt
+flat_plain u c g plain (a ∷ xs) = plain_app (says_lines u (g a) c).0 (flat_says u c g xs).0 (one (doing_of u c)) (flat_plain u c g plain xs)
+  where
+    one : (o : Option Doing) → ArePlain (says_by (g a) o).0
+    one None = tt
+    one (Some d) = (plain a d.label, tt)
+
 aborts_say : (us : List Uid) (c : Coord) → (bs : List Body) × ((let d = all_aborted us c in d.outs) ≡ map Say bs)
 aborts_say [] c = ([], refl)
 aborts_say (u ∷ us) c =
     let a = says_lines u (λ l. body.Aborted l cause.Asked) c in
     let r = aborts_say us (ended u ending.Abort c) in
     (a.0 ++ r.0, (λ i. a.1 i ++ r.1 i) ∙ map_app a.0 r.0)
+
+-- what they say begins no action
+aborts_none : (us : List Uid) (c : Coord) → BeginNone (aborts_say us c).0
+unfolding aborts_say says_by
+aborts_none [] c = tt
+aborts_none (u ∷ us) c = none_both (says_lines u (λ l. body.Aborted l cause.Asked) c).0 (aborts_say us (ended u ending.Abort c)).0 (one (doing_of u c)) (aborts_none us (ended u ending.Abort c))
+  where
+    one : (o : Option Doing) → BeginNone (says_by (λ l. body.Aborted l cause.Asked) o).0
+    one None = tt
+    one (Some d) = (refl, tt)
+
+bodies_says : (bs : List Body) → bodies_of (map Say bs) ≡ bs
+bodies_says [] = refl
+bodies_says (b ∷ bs) = ap (λ cs. b ∷ cs) (bodies_says bs)
 
 all_told : (c : Case) (s : Spot) (T : State) (f : Uid → List Effect) (us : List Uid) → ((w : Uid) → list.In w us → AreShownSends c s T (f w)) → AreShownSends c s T (flat_map f us)
 all_told c s T f [] each = (tt, tt)
@@ -252,7 +306,9 @@ all_told c s T f (u ∷ us) each = sends_app c s T (f u) (flat_map f us) (each u
 pub aborts_go : AbortsGo
 aborts_go c s e u b is_seen found unended knows =
     subst (StepGoes c s e) (sym did_is) (coords_go c s e u b lines.0 (flat_map (tolds_of (records_at s) C) us) C T is_seen found knows.on shown.0
-    (aborted_stepped c s is_seen u b found (length lines.0) C T g.run g.holds.0 g.holds.1.0 g.holds.1.1.2 (let k = g.holds.1.1.0 in let z = is_seen.sees in let n = z.now in omega (arith, k, n))) shown.1)
+    (aborted_stepped c s is_seen u b found (length lines.0) C T g.run g.holds.0 g.holds.1.0 g.holds.1.1.2 (let k = g.holds.1.1.0 in let z = is_seen.sees in let n = z.now in omega (arith, k, n))) shown.1 (aborts_none us (coord_at s))
+    (λ values is. subst (λ bs. IsTiedToLines act (let f = c.fixed in f.code) values c.x ((let M = s.seen in M.lines) ++ numbered e bs) T) (ap bodies_of lines.1 ∙ bodies_says lines.0)
+    (abort_said act (let f = c.fixed in f.code) paths c.x (page_at s e values) (coord_at s) u b (records_at s) c.state T st found unended (on_page c s e is_seen values is) here.coord g.holds.1.0 g.holds.1.1.0 g.holds.1.1.1 g.holds.1.1.2)))
   where
     act : Acts
     act = let f = c.fixed in f.act

@@ -9,14 +9,17 @@ use Rattle.arj_protocol.specs.Effect.{After, Before, Disk, Effect, InPart, Inten
 use Rattle.arj_protocol.specs.Node.{Parts}
 use Rattle.arj_protocol.specs.Says.{AreAll}
 use Rattle.arj_lock_law.specs.State.{State}
+use Rattle.arj_lock_line_law.specs.Steps.{is_plain}
 use Rattle.arj_part_law.specs.Actions.{Action}
 use Rattle.arj_view_law.specs.Seen.{Post, Seen, Within, posted, said}
 use Rattle.arj_view_law.specs.Walks.{Up, Walks, halted}
 use Rattle.arj_lock_run_law.specs.Fixed.{Fixed, view_of}
 use Rattle.arj_lock_run_law.specs.Posts.{IsPostSeen}
 use Rattle.arj_lock_run_law.specs.Sees.{SeesLocks, SeesUp}
+use Rattle.arj_lock_run_law.specs.Tied.{AreTied}
 use Rattle.arj_lock_run_law.specs.World.{IsSeenSo}
 use Rattle.arj_lock_run_law.proofs.OtherSteps.{SeesOthers, posted_others, said_others, with_here}
+use Rattle.arj_lock_run_law.proofs.TieSteps.{IsTiedNow, tied_plain, tied_quiet}
 
 -- ---- work that leaves the incarnation and the records
 
@@ -26,9 +29,11 @@ leaves_work (PutIntent u i) = false
 leaves_work (RemoveIntent u) = false
 leaves_work _ = true
 
+-- and says lines of frames, servers and naming
 abbrev pub leaves : Effect → Bool
 leaves (Do w) = leaves_work w
-leaves _ = true
+leaves (Say b) = is_plain b
+leaves (Send to m) = true
 
 -- the disk has these
 abbrev pub HasSame : ℕ → List (Uid × Intent) → Disk → Type 0
@@ -84,16 +89,18 @@ module _ (f : Fixed) (x : ℕ) (begun : List Action) (k : ℕ) where
 
   -- where this is so at each stop, and at the end
   module _ (S T : State) (e : ℕ) (v : Parts) (i : ℕ) (js : List (Uid × Intent)) (sent : List Post)
-      (halt : (d : Disk) (M : Seen) → HasSame i js d → SeesOthers f x begun k T M → (U : State) × SeesLocks f x begun U (halted e k d M))
+      (halt : (d : Disk) (M : Seen) → HasSame i js d → SeesOthers f x begun k T M → IsTiedNow f x begun T M.lines → (U : State) × SeesLocks f x begun U (halted e k d M) × AreTied f x (let N = halted e k d M in N.lines) U)
       (end : (d : Disk) → HasSame i js d → SeesUp (view_of f x begun k) T d v) where
-    pub walked : (outs : List Effect) (d : Disk) (M : Seen) → AreSendsSeen T sent outs → AreAll leaves outs → Within sent M.sent → HasSame i js d → SeesOthers f x begun k T M
+    pub walked : (outs : List Effect) (d : Disk) (M : Seen) → AreSendsSeen T sent outs → AreAll leaves outs → Within sent M.sent → HasSame i js d → SeesOthers f x begun k T M → IsTiedNow f x begun T M.lines
         → Walks (IsSeenSo (record { fixed = f; x = x; begun = begun; state = S })) e k outs (Up (IsSeenSo (record { fixed = f; x = x; begun = begun; state = S })) k v) d M
-    walked [] d M sends plain within same others = λ agrees. (T, with_here f x begun k d (Some v) T M others (end d same))
-    walked (Do w ∷ es) d M sends plain within same others =
+    walked [] d M sends plain within same others now = λ agrees. (T, with_here f x begun k d (Some v) T M others (end d same), now.tied)
+    walked (Do w ∷ es) d M sends plain within same others now =
         let p = and_parts (leaves_work w) (list_all leaves es) plain in
-        (λ how agrees. halt (stopped how w d) M (stopped_same i js how w d p.0 same) others, walked es (worked w d) M sends.1 p.1 within (worked_same i js w d p.0 same) others)
-    walked (Say b ∷ es) d M sends plain within same others = walked es d (said e (b ∷ []) M) sends.1 plain within same (said_others f x begun k e (b ∷ []) T M others)
-    walked (Send to m ∷ es) d M sends plain within same others = λ more quiet.
+        (λ how agrees. halt (stopped how w d) M (stopped_same i js how w d p.0 same) others now, walked es (worked w d) M sends.1 p.1 within (worked_same i js w d p.0 same) others now)
+    walked (Say b ∷ es) d M sends plain within same others now =
+        let p = and_parts (is_plain b) (list_all leaves es) plain in
+        walked es d (said e (b ∷ []) M) sends.1 p.1 within same (said_others f x begun k e (b ∷ []) T M others) (tied_plain f x begun e (b ∷ []) T M.lines (p.0, tt) now)
+    walked (Send to m ∷ es) d M sends plain within same others now = λ more quiet.
         let p : Post = record { from = k; to = to; message = m } in
         walked es d (said e more (posted p M)) sends.1 plain (λ q there. inr (within q there)) same
-        (said_others f x begun k e more T (posted p M) (posted_others f x begun k p T M others (sends.0 (p ∷ M.sent) (λ q there. inr (within q there)))))
+        (said_others f x begun k e more T (posted p M) (posted_others f x begun k p T M others (sends.0 (p ∷ M.sent) (λ q there. inr (within q there))))) (tied_quiet f x begun e more T M.lines quiet now)

@@ -18,12 +18,16 @@ use Rattle.arj_lock_law.specs.Actions.{Act, Root, is_top, root}
 use Rattle.arj_lock_law.specs.State as machine_state
 use Rattle.arj_lock_law.specs.State.{State}
 use Rattle.arj_part_law.specs.Actions.{Action, act_of, owners_of}
+use Rattle.arj_line_law.specs.Book.{book}
+use Rattle.arj_line_law.specs.Knows.{IsWritten}
+use Rattle.arj_line_law.specs.Paths.{AreAlike}
 use Rattle.arj_run_law.specs.Worlds.{IsGoodOf}
 use Rattle.arj_view_law.specs.Seen.{In, Post, Seen, up}
 use Rattle.arj_lock_view_law.specs.Namings.{HasNothingAt, IsGoodAt}
 use Rattle.arj_lock_view_law.specs.Telling.{HasNoneLeft, View}
 use Rattle.arj_lock_run_law.specs.Fixed.{Agrees, Fixed, view_of}
 use Rattle.arj_lock_run_law.specs.Sees.{SeesLocks}
+use Rattle.arj_lock_run_law.specs.Tied.{AreTied}
 
 -- ---- where something comes
 
@@ -48,11 +52,15 @@ pub record Case : Type 0 where
 abbrev pub view_in : Case → ℕ → View
 view_in c k = view_of c.fixed c.x c.begun k
 
--- Nodes are good, what is fixed agrees with what was done, and the object is seen.
+-- Nodes are good, their actions are those of the journal, which they know, what is fixed agrees with what was done, and the object is
+-- seen, in a state to which the journal is tied.
 pub record IsSeenIn (c : Case) (M : Seen) : Type 0 where
   pub good : IsGoodOf c.begun M
+  pub alike : AreAlike c.begun (let B = book M.lines in B.acts)
+  pub written : IsWritten M
   pub agrees : Agrees c.fixed c.x c.begun M.sent
   pub sees : SeesLocks c.fixed c.x c.begun c.state M
+  pub tied : AreTied c.fixed c.x M.lines c.state
 
 -- the action, in the machine's place, and what the machine has of it
 abbrev pub place_in : Case → Uid → Act

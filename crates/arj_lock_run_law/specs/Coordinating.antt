@@ -14,7 +14,7 @@ use Rattle.arj_protocol.specs.Ending.{abort_action}
 use Rattle.arj_protocol.specs.Node.{with_coord}
 use Rattle.arj_protocol.specs.Order.{binding_number}
 use Rattle.arj_protocol.specs.Tree.{Branch, branch_of, ends_of, has_open_child, next_uid, path_below}
-use Rattle.arj_protocol.specs.World.{Labelled}
+use Rattle.arj_protocol.specs.World.{Labelled, numbered}
 use Rattle.arj_lock_law.specs.Actions.{Act, In, root}
 use Rattle.arj_lock_law.specs.Machine.{Run}
 use Rattle.arj_lock_law.specs.State as state
@@ -38,6 +38,7 @@ use Rattle.arj_lock_run_law.specs.Beside.{Case, HoldsNamingIn, IsSeenIn, Spot, w
 use Rattle.arj_lock_run_law.specs.Fixed.{Fixed}
 use Rattle.arj_lock_run_law.specs.Posts.{IsPostSeen}
 use Rattle.arj_lock_run_law.specs.Sees.{IsUnbegun}
+use Rattle.arj_lock_run_law.specs.Tied.{AreTied, BeginNone}
 use Rattle.arj_lock_run_law.specs.World.{IsSeenSo}
 
 -- ---- one unit
@@ -89,10 +90,11 @@ AreSends outs = AllByRecursion IsSend outs
 abbrev pub StepGoes : Case → Spot → ℕ → Did Coord → Type 0
 StepGoes c s e d = Walks (IsSeenSo c) e s.node d.outs (Up (IsSeenSo c) s.node (with_coord s.parts d.part)) s.disk s.seen
 
--- A coordinator says lines and sends: where the machine has gone along, and what is sent is shown, the object is seen in the whole world.
+-- A coordinator says lines, at which no action begins, and sends: where the machine has gone along, the journal with the lines is tied, and
+-- what is sent is shown, the object is seen in the whole world.
 abbrev pub CoordsGo : Type 0
 CoordsGo = (c : Case) (s : Spot) (e : ℕ) (u : Uid) (b : Branch) (bs : List Body) (sends : List Effect) (C : Coord) (T : State)
-    → IsSeenIn c (world_at s) → branch_of u (let t = s.parts in let d = t.coord in d.tree) ≡ Some b → GoesOn (let t = s.parts in t.coord) C → AreSends sends → HasStepped c s u (length bs) C T → AreSendsShown c s T sends
+    → IsSeenIn c (world_at s) → branch_of u (let t = s.parts in let d = t.coord in d.tree) ≡ Some b → GoesOn (let t = s.parts in t.coord) C → AreSends sends → HasStepped c s u (length bs) C T → AreSendsShown c s T sends → BeginNone bs → AreTied c.fixed c.x ((let M = s.seen in M.lines) ++ numbered e bs) T
     → StepGoes c s e (record { part = C; outs = map Say bs ++ sends })
 
 -- ---- ends and aborts

@@ -6,13 +6,14 @@ use Rattle.arj_protocol.specs.Ask.{Reply, answers}
 use Rattle.arj_protocol.specs.Coord.{no_root, root_at}
 use Rattle.arj_protocol.specs.Effect.{Disk, Effect}
 use Rattle.arj_protocol.specs.Node.{Parts, Took, handle, is_meant}
-use Rattle.arj_protocol.specs.Step.{Input, acts, first_disk, refusal_up}
+use Rattle.arj_protocol.specs.Step.{Input, Node, acts, first_disk, refusal_up}
 use Rattle.arj_protocol.specs.Tree.{next_uid}
 use Rattle.arj_protocol.specs.World.{format, run_all}
 use Rattle.arj_protocol.specs.World as world
 use Rattle.arj_lock_law.specs.State.{State}
 use Rattle.arj_part_law.specs.Actions.{Action}
-use Rattle.arj_run_law.specs.Worlds.{IsGoodOf}
+use Rattle.arj_event_law.specs.Named.{HasNames}
+use Rattle.arj_line_law.specs.Paths.{IsAlikeOf}
 use Rattle.arj_view_law.specs.Keeps.{Holds, Keeps, is_act}
 use Rattle.arj_view_law.specs.Seen.{In, Seen, down}
 use Rattle.arj_lock_fact_law.specs.Acts.{KeepsOf}
@@ -24,15 +25,20 @@ use Rattle.arj_lock_run_law.specs.Coordinating.{KnowsAsks, coord_at}
 use Rattle.arj_lock_run_law.specs.Fixed.{Agrees, Fixed}
 use Rattle.arj_lock_run_law.specs.Inputs.{KnowsAfter, KnowsInput}
 use Rattle.arj_lock_run_law.specs.Sees.{SeesLocks}
+use Rattle.arj_lock_run_law.specs.Tied.{AreTied}
 use Rattle.arj_lock_run_law.specs.World.{is_for_parts}
 
 abbrev pub case_of : Fixed → ℕ → List Action → State → Case
 case_of f x begun S = record { fixed = f; x = x; begun = begun; state = S }
 
--- Nodes are good, with the actions that were begun, for which the relation holds, and the object is seen, for all that may be fixed and
--- agrees with them.
+-- each coordinator that is up knows its labels
+abbrev pub AreCoordsNamed : Seen → Type 0
+AreCoordsNamed M = (k : ℕ) (n : Node) (t : Parts) → M.nodes k ≡ Some n → n.live ≡ Some t → HasNames t.coord
+
+-- Nodes are good, the actions that were begun are those of the journal, the relation holds for them, and the object is seen, in a state to
+-- which the journal is tied, for all that may be fixed and agrees with them.
 abbrev pub AreLocksSeen : ℕ → (List Action → Seen → Type 0) → Seen → Type 0
-AreLocksSeen x R M = (begun : List Action) × IsGoodOf begun M × R begun M × ((f : Fixed) → Agrees f x begun M.sent → (S : State) × SeesLocks f x begun S M)
+AreLocksSeen x R M = (begun : List Action) × IsAlikeOf begun M × R begun M × ((f : Fixed) → Agrees f x begun M.sent → (S : State) × SeesLocks f x begun S M × AreTied f x M.lines S) × AreCoordsNamed M
 
 -- a message came
 pub record HasCome (s : Spot) (from : ℕ) (m : Message) (v : Parts) (outs : List Effect) : Type 0 where

@@ -1,6 +1,7 @@
 pub mod Fixed
 pub mod Posts
 pub mod Sees
+pub mod Tied
 pub mod Beside
 pub mod World
 pub mod Coordinating

@@ -10,17 +10,18 @@ use Rattle.arj_protocol.specs.World.{format}
 use Rattle.arj_lock_law.specs.Machine.{Run}
 use Rattle.arj_lock_law.specs.State.{State}
 use Rattle.arj_part_law.specs.Actions.{Action}
-use Rattle.arj_view_law.specs.Seen.{In, Post, Seen, Within, down, said, see}
+use Rattle.arj_view_law.specs.Seen.{AreQuiet, In, Post, Seen, Within, down, said, see}
 use Rattle.arj_view_law.specs.Walks.{Up, Walks, halted}
 use Rattle.arj_lock_view_law.specs.Calling.{IsReached}
 use Rattle.arj_lock_run_law.specs.Beside.{Case, HoldsNamingIn, IsSeenIn, KnowsEntry, KnowsSpot, Spot, world_at}
 use Rattle.arj_lock_run_law.specs.Fixed.{Agrees, Fixed}
 use Rattle.arj_lock_run_law.specs.Posts.{IsPostSeen}
 use Rattle.arj_lock_run_law.specs.Sees.{SeesLocks}
+use Rattle.arj_lock_run_law.specs.Tied.{AreTied}
 
--- Where what is fixed agrees with it, the object is seen, in some state of the machine.
+-- Where what is fixed agrees with it, the object is seen, in some state of the machine, to which the journal is tied.
 abbrev pub IsSeenSo : Case → Seen → Type 0
-IsSeenSo c M = Agrees c.fixed c.x c.begun M.sent → (S : State) × SeesLocks c.fixed c.x c.begun S M
+IsSeenSo c M = Agrees c.fixed c.x c.begun M.sent → (S : State) × SeesLocks c.fixed c.x c.begun S M × AreTied c.fixed c.x M.lines S
 
 -- the message isn't for the coordinator
 abbrev pub is_for_parts : Message → Bool
@@ -40,7 +41,7 @@ abbrev pub StopsGo : Type 0
 StopsGo = (c : Case) (s : Spot) (e : ℕ) → IsSeenIn c (world_at s) → HoldsNamingIn c s.node (let t = s.parts in t.naming) → IsSeenSo c (halted e s.node s.disk s.seen)
 
 abbrev pub DownStays : Type 0
-DownStays = (c : Case) (e k : ℕ) (d : Disk) (M : Seen) → SeesLocks c.fixed c.x c.begun c.state (down k d M) → IsSeenSo c (halted e k d M)
+DownStays = (c : Case) (e k : ℕ) (d : Disk) (M : Seen) → IsSeenIn c (down k d M) → IsSeenSo c (halted e k d M)
 
 -- A node restarts, by what its disk says: a top of which the record is found is committed by the line of its recovery, the machine's
 -- server and its naming start anew, and the object is seen again, wherever a stop falls.
@@ -50,11 +51,15 @@ RestartsGo = (hd : Header) (c : Case) (e k : ℕ) (d : Disk) (M : Seen) → IsSe
 
 -- As a run begins the object is seen, where it has an entry, for all that may be fixed.
 abbrev pub FirstGoes : Type 0
-FirstGoes = (hd : Header) (f : Fixed) (x : ℕ) → KnowsEntry x 1 (first_disk hd 1) → (S : State) × SeesLocks f x [] S (see [] (format hd))
+FirstGoes = (hd : Header) (f : Fixed) (x : ℕ) → KnowsEntry x 1 (first_disk hd 1) → let M = see [] (format hd) in (S : State) × SeesLocks f x [] S M × AreTied f x M.lines S
 
 -- Lines leave it seen, whatever they say.
 abbrev pub LinesStay : Type 0
 LinesStay = (c : Case) (e : ℕ) (bs : List Body) (M : Seen) → SeesLocks c.fixed c.x c.begun c.state M → SeesLocks c.fixed c.x c.begun c.state (said e bs M)
+
+-- The journal stays tied with lines at which no view looks.
+abbrev pub QuietsStay : Type 0
+QuietsStay = (c : Case) (e : ℕ) (bs : List Body) (M : Seen) → AreQuiet bs → IsSeenIn c M → AreTied c.fixed c.x (let N = said e bs M in N.lines) c.state
 
 -- What a message shows it shows in every later state of the machine, as more is sent and more actions begin.
 abbrev pub PostsStay : Type 0

@@ -1,4 +1,4 @@
-use Rattle.arj_lock_run_law.proofs.LineSteps.{down_stays, lines_stay, stops_go}
+use Rattle.arj_lock_run_law.proofs.LineSteps.{down_stays, lines_stay, quiets_stay, stops_go}
 use Rattle.arj_lock_run_law.proofs.world.stops_go_in_the_world.Goals as goal
 
 pub returns-clause-up : goal.returns-clause-up
@@ -9,3 +9,6 @@ returns-clause-down c = down_stays
 
 pub returns-clause-lines : goal.returns-clause-lines
 returns-clause-lines c = lines_stay
+
+pub returns-clause-quiet : goal.returns-clause-quiet
+returns-clause-quiet c = quiets_stay
