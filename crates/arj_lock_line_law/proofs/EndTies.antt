@@ -34,7 +34,7 @@ use Rattle.arj_lock_view_law.proofs.HeardSteps.{commit_answers_are_heard, commit
 use Rattle.arj_lock_view_law.proofs.InputSteps.{doomed_commits_are_taken, nested_commits_are_taken}
 use Rattle.arj_lock_view_law.proofs.RunSteps.{goes_to}
 use Rattle.arj_lock_view_law.proofs.TopInputSteps.{top_commits_are_taken}
-use Rattle.arj_lock_line_law.specs.Coordinators.{CommitAnswersAreTied, DoomedCommitsAreTied, IsLabelled, IsOnPage, IsTiedBy, LostCommitsAreTied, NestedCommitsAreTied, Page, TopCommitsAreTied, bodies_of}
+use Rattle.arj_lock_line_law.specs.Coordinators.{CommitAnswersAreTied, DoomedCommitsAreTied, IsLabelled, IsOnPage, LostCommitsAreTied, NestedCommitsAreTied, Page, TopCommitsAreTied, bodies_of}
 use Rattle.arj_lock_line_law.specs.Lines.{IsTiedToLines}
 use Rattle.arj_lock_line_law.specs.Steps.{CallsStay, EndsStay, ArePlain}
 use Rattle.arj_lock_line_law.proofs.Pages.{behind, behind_none, none_tied, one_tied, page_still, pages_plain}

@@ -1,5 +1,5 @@
 -- The journal stays tied to the machine's state that is seen.
-use Rattle.std.proofs.Common.{◌≡◌, ◌≢◌, ◌≤◌, ◌⊎◌, ◌∙◌, ◌+◌, ◌++◌, ◌&&◌, ℕ, List, [], ◌∷◌, length, true, false, Option, Some, None, refl, sym, ap, subst, inl, inr, ⊎_elim, arith, Contains}
+use Rattle.std.proofs.Common.{◌≡◌, ◌≢◌, ◌≤◌, ◌⊎◌, ◌∙◌, ◌+◌, ◌++◌, ℕ, List, [], ◌∷◌, length, true, false, Option, Some, refl, sym, ap, subst, inl, inr, ⊎_elim, arith, Contains}
 use Rattle.std.specs.List.{list_all}
 use Rattle.std.proofs.lemmas.Bool.{and_parts}
 use Rattle.arj_base.specs.Uid.{nobody}
@@ -11,8 +11,7 @@ use Rattle.arj_model.specs.Serial.{Values}
 use Rattle.arj_protocol.specs.Words.{Body, Kind, Label, Line, Message, Uid, name}
 use Rattle.arj_protocol.specs.Words.body
 use Rattle.arj_protocol.specs.Words.kind
-use Rattle.arj_protocol.specs.Coord.{Coord, doing_of}
-use Rattle.arj_protocol.specs.Tree.{Branch, Tree, branch_of}
+use Rattle.arj_protocol.specs.Tree.{Tree, branch_of}
 use Rattle.arj_protocol.specs.World.{numbered}
 use Rattle.arj_part_law.specs.Actions.{Action, act_of}
 use Rattle.arj_view_law.specs.Seen.{AreQuiet, Seen, is_quiet_line}
@@ -33,8 +32,7 @@ use Rattle.arj_lock_view_law.specs.Telling.{View}
 use Rattle.arj_lock_view_law.specs.Stops.{HasEnded, HasStopped, OnlyStopped}
 use Rattle.arj_lock_view_law.proofs.TreeSteps.{action_kind}
 use Rattle.arj_lock_line_law.specs.Coordinators.{IsOnPage, Page}
-use Rattle.arj_lock_line_law.specs.Lines.{IsTiedToLines}
-use Rattle.arj_lock_line_law.specs.Steps.{AreNamed, ArePlain, CallsStay, EndsStay, GoesBeside, is_plain}
+use Rattle.arj_lock_line_law.specs.Steps.{AreNamed, ArePlain, CallsStay, EndsStay}
 use Rattle.arj_lock_line_law.specs.Stops.{AreHereOrGone}
 use Rattle.arj_lock_line_law.proofs.Pages.{acts_still, append_nil, append_one, parts_say_plain, plains_are_tied, same_stay, tied_same}
 use Rattle.arj_lock_line_law.proofs.Reading.{more}
@@ -42,7 +40,7 @@ use Rattle.arj_lock_line_law.proofs.StopTies.{begins_are_tied, halts_are_tied, o
 use Rattle.arj_lock_line_law.proofs.Ties.{says_none, ties_are_kept}
 use Rattle.arj_lock_run_law.specs.Beside.{Case, IsSeenIn, Spot, world_at}
 use Rattle.arj_lock_run_law.specs.Coordinating.{coord_at}
-use Rattle.arj_lock_run_law.specs.Fixed.{Fixed, family_of, view_of}
+use Rattle.arj_lock_run_law.specs.Fixed.{Fixed, view_of}
 use Rattle.arj_lock_run_law.specs.Sees.{ArePast, IsPast, IsUnbegun}
 use Rattle.arj_lock_run_law.specs.Tied.{AreTied, BeginNone}
 

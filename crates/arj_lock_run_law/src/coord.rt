@@ -3,8 +3,9 @@ ghost use Rattle.arj_lock_run_law.specs.Answers.{AnswersGo};
 ghost use Rattle.arj_lock_run_law.specs.Coordinating.{AbortsGo, BeginsGo, CallAnswersGo, CallsGo, CommitAnswersGo, CoordsGo, DoomedCommitsGo, IncludeAnswersGo, IncludesGo, LostCallsGo, LostCommitsGo, NestedCommitsGo, OtherAnswersGo, OtherLostGo, TopCommitsGo};
 ghost use Rattle.arj_lock_run_law.specs.Inputs.{InputsGo};
 
-/// A coordinator says lines and sends messages, for one unit: where the machine has gone along, and what is sent is shown in its state,
-/// the object is seen in the whole world at the end and wherever the walk is. It does nothing when it runs.
+/// A coordinator says lines and sends messages, for one unit: where the machine has gone along, the journal with the lines is tied to its
+/// state, and what is sent is shown in it, the object is seen in the whole world at the end and wherever the walk is. It does nothing
+/// when it runs.
 pub fn coordinators_go_in_the_world()
     ensures { CoordsGo }
 {}
