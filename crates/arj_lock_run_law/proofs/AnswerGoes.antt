@@ -203,7 +203,7 @@ module _ (c : Case) (s : Spot) (e from : ℕ) (a : Asked) (r : Reply) (is_seen :
 
   -- nothing waits for it
   stays : Goes (heard_none C)
-  stays after agrees = (c.state, is_seen.sees)
+  stays after agrees = (c.state, is_seen.sees, is_seen.tied)
 
   now_goes : (d : Doing) (found : doing_of a.act C ≡ Some d) (n : Now) → d.now ≡ n → Goes (heard_now from a r (records_at s) C n)
   now_goes d found Idle is = stays
