@@ -121,13 +121,13 @@ decides_more g (Acks z) is = absurd (never is refl)
 -- ---- from one state of the machine to another
 
 -- whoever is decided was so, or has its record
-abbrev Turns : machine.World → machine.World → Type 0
+abbrev pub Turns : machine.World → machine.World → Type 0
 Turns W V = (u : ℕ) → decided V.disk u ≡ true → (decided W.disk u ≡ true) ⊎ (is_some (V.disk.intent u) ≡ true)
 
-abbrev Goes : machine.World → machine.World → Type 0
+abbrev pub Goes : machine.World → machine.World → Type 0
 Goes W V = Turns W V × IsLater W V
 
-goes_along : (g : ℕ → Bool) (W V : machine.World) → machine.Whole W → Along (record { from = W; noted = only_decides g }) V → Goes W V
+pub goes_along : (g : ℕ → Bool) (W V : machine.World) → machine.Whole W → Along (record { from = W; noted = only_decides g }) V → Goes W V
 goes_along g W V whole a = (
   λ u d. ⊎_elim (λ old. inl old)
       (λ new. inr (subst (λ (Z : machine.World). is_some (Z.disk.intent u) ≡ true) a.here (new_has_record true u W a.effects (all_more (only_decides g) (may_decide true) (decides_more g) (λ t. refl) a.effects a.only) a.allowed whole new (subst (λ (Z : machine.World). decided Z.disk u ≡ true) (sym a.here) d))))
@@ -136,7 +136,7 @@ goes_along g W V whole a = (
 )
 
 -- by the changes of a step
-goes_by : (o : Change) (A B : Office) → machine.Whole A.world → Changes o A B → Goes A.world B.world
+pub goes_by : (o : Change) (A B : Office) → machine.Whole A.world → Changes o A B → Goes A.world B.world
 goes_by Quietly A B whole c = (λ u d. inl (ap (λ ds. is_among ds u) (sym c.tops) ∙ d), c.later)
 goes_by (Answering t r) A B whole c = (λ u d. inl (ap (λ ds. is_among ds u) (sym (let o = c.0 in o.tops)) ∙ d), (let o = c.0 in o.later))
 goes_by (Deciding t keeps) A B whole c = goes_along (λ z. z == t) A.world B.world whole c.along
@@ -326,7 +326,11 @@ one_act (x ∷ xs) apart a b (inr i) (inl j) same = absurd (never (among xs a i)
 one_act (x ∷ xs) apart a b (inr i) (inr j) same = one_act xs apart.3 a b i j same
 
 -- beside a relation that is kept
-journalled_beside : (hd : Header) (x : ℕ) (R : Seen → Type 0) (P : Kinds → Office → Seen → Type 0) → Keeps hd R → KeepsPart hd x (λ M. R M × KnowsFew M) P → (es : List Asked) → length es ≤ most_events → Holds hd (IsJournalled x) (run_all es (format hd))
+-- and it holds of the same state of the machine
+abbrev pub IsJournalledBeside : (Kinds → Office → Seen → Type 0) → ℕ → Seen → Type 0
+IsJournalledBeside P x M = (j : IsJournalled x M) × (A : Office) × (A.world ≡ j.machine) × P j.tops A M
+
+pub journalled_beside : (hd : Header) (x : ℕ) (R : Seen → Type 0) (P : Kinds → Office → Seen → Type 0) → Keeps hd R → KeepsPart hd x (λ M. R M × KnowsFew M) P → (es : List Asked) → length es ≤ most_events → Holds hd (IsJournalledBeside P x) (run_all es (format hd))
 journalled_beside hd x R P kept parts es short =
     let Idle : List Line → Uid → Type 0 = λ ls u. IsIdle (book ls) u in
     let idles = knows_idle R in
@@ -344,14 +348,19 @@ journalled_beside hd x R P kept parts es short =
     record {
       sent = r.sent;
       stands = r.stands;
-      holds = record {
-        tops = kinds_of h.0;
-        machine = s.0.world;
-        sees = s.1.disks;
-        said = λ u n here d. ⊎_elim (λ is. inl (decided_in lines right u is)) (λ late. inr late) (s.2.1.0 u n here d);
-        whose = λ t d. whose_it_is h.0 lines t (s.1.disks.kinds t (decided_begun s.0.world s.1.disks.whole t d)).0 (let p = g.3 in p.lines);
-        done = λ a there top is. its_own lines right a there is (is_sound lines right) top s.0.world (s.2.1.1 a.uid (sym (let b = (is_sound lines right).reads in b.decided a there) ∙ is));
-      };
+      holds = (
+        record {
+          tops = kinds_of h.0;
+          machine = s.0.world;
+          sees = s.1.disks;
+          said = λ u n here d. ⊎_elim (λ is. inl (decided_in lines right u is)) (λ late. inr late) (s.2.1.0 u n here d);
+          whose = λ t d. whose_it_is h.0 lines t (s.1.disks.kinds t (decided_begun s.0.world s.1.disks.whole t d)).0 (let p = g.3 in p.lines);
+          done = λ a there top is. its_own lines right a there is (is_sound lines right) top s.0.world (s.2.1.1 a.uid (sym (let b = (is_sound lines right).reads in b.decided a there) ∙ is));
+        },
+        s.0,
+        refl,
+        s.2.0,
+      );
     }
   where
     its_own : (lines : List Line) → AreRight new_book lines → (a : Act) → Contains (acts_of lines) a → IsDone lines a → IsSound lines → is_top a.kind ≡ true → (W : machine.World) → IsDoneBy (λ ls u. IsIdle (book ls) u) W lines a.uid → (decided W.disk (uid_number a.uid) ≡ true) ⊎ (W.disk.bare (uid_number a.uid) ≡ true) ⊎ HasNothing lines a
@@ -363,8 +372,11 @@ journalled_beside hd x R P kept parts es short =
         let same = one_act (acts_of lines) sound.distinct p a (subst (λ xs. Among p xs) b.begun (in_from p (let B = book lines in B.acts) its)) (in_from a (acts_of lines) there) uid in
         absurd (never (ap (λ (y : Act). is_top y.kind) same ∙ top) plain)
 
+journalled : (hd : Header) (x : ℕ) (R : Seen → Type 0) (P : Kinds → Office → Seen → Type 0) → Keeps hd R → KeepsPart hd x (λ M. R M × KnowsFew M) P → (es : List Asked) → length es ≤ most_events → Holds hd (IsJournalled x) (run_all es (format hd))
+journalled hd x R P kept parts es short = let h = journalled_beside hd x R P kept parts es short in record { sent = h.sent; stands = h.stands; holds = h.holds.0 }
+
 pub runs_are_journalled : RunsAreJournalled
-runs_are_journalled hd x part parts es short = journalled_beside hd x IsGood (λ tops A M. part tops A M ≡ true) (parts_good hd) parts es short
+runs_are_journalled hd x part parts es short = journalled hd x IsGood (λ tops A M. part tops A M ≡ true) (parts_good hd) parts es short
 
 pub heard_runs_are_journalled : HeardRunsAreJournalled
-heard_runs_are_journalled hd x has rest es short = journalled_beside hd x AreGoodCounted (SeesHeard x) (good_counted hd) (heard_part hd x has rest) es short
+heard_runs_are_journalled hd x has rest es short = journalled hd x AreGoodCounted (SeesHeard x) (good_counted hd) (heard_part hd x has rest) es short

@@ -44,7 +44,7 @@ either_class true v w e = e
 either_class false v w e = refl
 
 -- no operation changes the class
-class_after : (op : Op) (v : Value) → class_of (value_after op v) ≡ class_of v
+pub class_after : (op : Op) (v : Value) → class_of (value_after op v) ≡ class_of v
 class_after (Add n) (Counter m) = either_class (nat_lt (m + n) 18446744073709551616) (Counter (m + n)) (Counter m) refl
 class_after (Add n) v = refl
 class_after (Set n) (Counter m) = refl

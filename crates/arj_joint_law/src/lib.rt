@@ -1,0 +1,13 @@
+//! Both machines of one object, the disk machine and the lock machine, in one run, against the journal.
+//!
+//! `arj_disk_line_law` has in every run a state of an object's disk machine (`arj_disk_law`) that sees it and decides as the journal
+//! says, and `arj_serial_law` what makes its last state and entry those of the journal. Here what that asks is given in runs: the machine
+//! began as the header says (`specs/Begun.antt`), and what stands of the object on disks is of its class (`specs/Forms.antt`). What it gives
+//! upward: `runs_begin_as_the_header_says`, `runs_have_form`.
+#![tactic(auto)]
+
+mod forms;
+mod runs;
+
+pub use forms::runs_have_form;
+pub use runs::runs_begin_as_the_header_says;
