@@ -25,3 +25,9 @@ pub mod GoodNaming
 pub mod Onward
 pub mod Requests
 pub mod Asked
+pub mod PartSteps
+pub mod PartCoords
+pub mod LeftCoords
+pub mod PartSends
+pub mod PartWalks
+pub mod Confirms

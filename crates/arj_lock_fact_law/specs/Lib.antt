@@ -7,3 +7,4 @@ pub mod Keeping
 pub mod Uppers
 pub mod Entries
 pub mod Requests
+pub mod Parted

@@ -2,6 +2,7 @@
 ghost use Rattle.arj_lock_fact_law.specs.Given.{ActionsAreTopped, BroughtAreUnserial, CommitsAreFirst, FreeAreLone, ListedAreUnserial, NewRootsAreEmpty, RequestsWant, WaitersAreLone};
 ghost use Rattle.arj_lock_fact_law.specs.Grants.{HandlersKeepGrants, PlansGrantLow, RunsKeepGrants};
 ghost use Rattle.arj_lock_fact_law.specs.Keeping.{PlansHaveKept};
+ghost use Rattle.arj_lock_fact_law.specs.Parted.{ConfirmsNameOne, HandlersKeepParted, RunsKeepParted};
 ghost use Rattle.arj_lock_fact_law.specs.Requests.{HandlersKeepRequests, RunsKeepRequests};
 ghost use Rattle.arj_lock_fact_law.specs.Worlds.{HandlersKeepWorks, RunsKeepWorks};
 
@@ -60,4 +61,14 @@ pub fn plans_grant_low()
 pub fn last_requests_are_of_what_waits()
     ensures handlers { HandlersKeepRequests }
     ensures runs { RunsKeepRequests }
+{}
+
+/// In every run each coordinator that is up knows who is part of its commits: who was asked for a vote is one of the servers that the plan
+/// has, and naming was asked to confirm one thing; behind a commit all these took part. Each Vote and Confirm is by a top of its sender, and
+/// all Confirms of one top are one, so that there is for each top whether its Confirms name an object. Each handler keeps it, wherever a
+/// stop falls. It does nothing when it runs.
+pub fn coordinators_know_their_parts()
+    ensures handlers { HandlersKeepParted }
+    ensures runs { RunsKeepParted }
+    ensures confirms { ConfirmsNameOne }
 {}

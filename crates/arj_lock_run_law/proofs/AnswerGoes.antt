@@ -33,6 +33,7 @@ use Rattle.arj_lock_fact_law.proofs.Asked.{AreWaiting, IsNewAt, waiting_heard}
 use Rattle.arj_lock_fact_law.proofs.Inner.{ends_kept}
 use Rattle.arj_lock_fact_law.proofs.Kept.{Place}
 use Rattle.arj_run_law.proofs.Walked.{same_number as number_same}
+use Rattle.arj_lock_fact_law.proofs.Confirms.{top_own}
 use Rattle.arj_view_law.specs.Seen.{In, Post}
 use Rattle.arj_lock_view_law.specs.Calling.{IsWaiting}
 use Rattle.arj_lock_view_law.specs.Handling.{ShowsReply}
@@ -50,7 +51,6 @@ use Rattle.arj_lock_run_law.proofs.CallGoes.{call_answers_go, include_answers_go
 use Rattle.arj_lock_run_law.proofs.CommitGoes.{commit_answers_go}
 use Rattle.arj_lock_run_law.proofs.GoodSteps.{its}
 use Rattle.arj_lock_run_law.proofs.ShownAnswers.{answer_shown, call_shown, commit_shown, include_shown}
-use Rattle.arj_lock_run_law.proofs.TopSteps.{top_own}
 use Rattle.arj_lock_run_law.proofs.WorkSteps.{Behind, at_commit, behind_step, placed, waits_in, works_in}
 
 answers_back : (a : Asked) (r : Reply) → answers (response a r) ≡ Some (a, r)

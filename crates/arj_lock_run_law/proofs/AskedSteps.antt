@@ -19,6 +19,7 @@ use Rattle.arj_part_law.specs.Ends.{ask_ends}
 use Rattle.arj_part_law.specs.Messages.{IsDecided}
 use Rattle.arj_call_law.specs.Coords.{IsOfStep, bare}
 use Rattle.arj_call_law.proofs.CoordSends.{IsOfCommit, IsSentBy}
+use Rattle.arj_lock_fact_law.proofs.Confirms.{top_own}
 use Rattle.arj_lock_view_law.specs.Asks.{ShowsAsk}
 use Rattle.arj_lock_view_law.specs.Inputs.{SeesWhole}
 use Rattle.arj_lock_view_law.specs.Listed.{IsTelling}
@@ -31,7 +32,6 @@ use Rattle.arj_lock_view_law.proofs.ListedSteps.{decided_have_ended}
 use Rattle.arj_lock_view_law.proofs.PlanSteps.{commit_requests_are_shown}
 use Rattle.arj_lock_run_law.specs.Fixed.{Fixed, family_of, view_of}
 use Rattle.arj_lock_run_law.specs.Posts.{IsRequestSeen, SaysToNaming}
-use Rattle.arj_lock_run_law.proofs.TopSteps.{top_own}
 
 with_ends : List (Uid × End) → Ask → Ask
 with_ends ends (ask.Invoke y b i e o) = ask.Invoke y b i ends o

@@ -111,23 +111,3 @@ path_begun (c ∷ acts) begun a (inl is) u above = of (path_begun acts begun.1) 
     of ih kind.Independent s o = alone s.0 o
     of ih kind.Nested s o = below ih s.0 (in_from s.0 acts s.1) s.3 o
     of ih kind.Constituent s o = below ih s.0 (in_from s.0 acts s.1) s.3 o
-
--- an action that is neither nested nor serializing is its own top
-pub top_own : (acts : List Action) → AreBegun acts → (a : Action) → list.In a acts → a.kind ≢ kind.Nested → a.kind ≢ kind.Serial → top_of a.path ≡ act_of a
-top_own [] begun a i unnested unserial = absurd i
-top_own (c ∷ acts) begun a (inr i) unnested unserial = top_own acts begun.1 a i unnested unserial
-top_own (c ∷ acts) begun a (inl is) unnested unserial = subst (λ (z : Action). top_of z.path ≡ act_of z) is (of c.kind refl (let new = begun.0 in new.stands))
-  where
-    alone : uids_of c.path ≡ act_of c ∷ [] → tops_of c.path ≡ 1 → top_of c.path ≡ act_of c
-    alone path tops = (λ j. last_uid (take (tops j) (path j)))
-
-    of : (k : Kind) → c.kind ≡ k → Stands acts c k → top_of c.path ≡ act_of c
-    of kind.Top kind_is s = alone s.0 s.1
-    of kind.Independent kind_is s = alone s.0 s.1
-    of kind.Serial kind_is s = absurd (unserial (ap (λ (z : Action). z.kind) (sym is) ∙ kind_is))
-    of kind.Nested kind_is s = absurd (unnested (ap (λ (z : Action). z.kind) (sym is) ∙ kind_is))
-    of kind.Constituent kind_is s =
-        let b : Action = s.0 in
-        let up = serial_alone acts begun.1 b (in_from b acts s.1) s.2 in
-        let path : uids_of c.path ≡ act_of b ∷ act_of c ∷ [] = s.3 ∙ ap (λ us. us ++ act_of c ∷ []) up.0 in
-        (λ j. last_uid (take (s.4 j) (path j)))
