@@ -1,7 +1,10 @@
 pub mod Serving
 pub mod Hearing
 pub mod Ways
-pub mod Steps
+pub mod Effects
+pub mod Passing
+pub mod Flights
 pub mod Worlds
 pub mod Fits
+pub mod Settles
 pub mod Quiesces

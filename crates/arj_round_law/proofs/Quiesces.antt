@@ -1,206 +1,199 @@
--- What a quiesce leaves: whoever waits asked again at a tick, and what answers it came.
-use Rattle.std.proofs.Common.{◌≡◌, ◌⊎◌, ◌∙◌, ◌+◌, ℕ, zero, suc, Bool, true, false, List, [], ◌∷◌, ◌++◌, refl, sym, ap, subst, inl, inr, ⊎_elim, Option, Some, None, eqb-true, arith}
-use Rattle.std.specs.Prelude.{◌&&◌, ◌||◌, ◌==◌, nat_le, not, if◌then◌else◌}
+-- A quiesce answers whoever waits: what answers it is under way from the tick of its node on.
+use Rattle.std.proofs.Common.{◌≡◌, ◌⊎◌, ◌∙◌, ◌+◌, ℕ, zero, suc, Bool, true, false, List, [], ◌∷◌, ◌++◌, refl, sym, ap, subst, inl, inr, ⊎_elim, Option, Some, None, eqb-true, arith, map}
+use Rattle.std.specs.Prelude.{◌&&◌, ◌||◌, ◌==◌, nat_le, slice_get, if◌then◌else◌}
 use Rattle.std.proofs.lemmas.Bool.Decides.{nat_tests}
 use Rattle.arj_lock.proofs.Members as members
 use Rattle.arj_lock.proofs.Passes.{in_left, in_right}
-use Rattle.arj_event_law.proofs.Settled.{events_settle}
+use Rattle.arj_coord_law.proofs.CoordUses.{some_is}
 use Rattle.arj_part_law.proofs.Begun.{begun_tree, path_found}
 use Rattle.arj_part_law.specs.Actions.{AreBegun, paths_of}
 use Rattle.arj_part_law.specs.Coords.{IsAsking, IsBusy, IsGoodCoord}
-use Rattle.arj_protocol.specs.Words.{Header, Path, Uid}
+use Rattle.arj_protocol.specs.Words.{Body, Header, Message, Path, Uid}
 use Rattle.arj_protocol.specs.Words.body
-use Rattle.arj_protocol.specs.Words.which
 use Rattle.arj_protocol.specs.Ask.{actor}
-use Rattle.arj_protocol.specs.Asking.{again_all, begin_action}
+use Rattle.arj_protocol.specs.Asking.{again_all, again_now, asks_step, begin_action}
 use Rattle.arj_protocol.specs.Call.{Steps}
-use Rattle.arj_protocol.specs.Commit.{Machine, left_of, plan_of}
-use Rattle.arj_protocol.specs.Coord.{Calling, Committing, Idle, Now}
-use Rattle.arj_protocol.specs.Effect.{Disk}
+use Rattle.arj_protocol.specs.Commit.{Machine, left_of, plan_of, waiting}
+use Rattle.arj_protocol.specs.Coord.{Calling, Committing, Coord, Doing, Idle, Now, doing_of}
+use Rattle.arj_protocol.specs.Effect.{Did, Disk, Effect, Send}
 use Rattle.arj_protocol.specs.Follow.{tick_outs}
-use Rattle.arj_protocol.specs.Node.{Parts, with_coord}
+use Rattle.arj_protocol.specs.Node.{Handled, Parts, Took, Void, holders, query_about, taken, with_coord}
 use Rattle.arj_protocol.specs.Order.{has}
-use Rattle.arj_protocol.specs.Step as input
-use Rattle.arj_protocol.specs.Step.{acts, first_reason, is_waiting_now, numbers_to, parent_of, parts_in, restart_outs}
-use Rattle.arj_protocol.specs.World.{World, counted, deliver, format, is_quiet, is_serial_kind, is_up_at, limited, lowest, lowest_from, most_frames, node_numbers, numbered, quiesce, quiet_line, reasons, run_all, run_event, run_unless, says, settle, settle_for, steps, tick_all, tick_up}
+use Rattle.arj_protocol.specs.Step.{Node, acts, is_waiting_now, parent_of, parts_in, restart_outs, tolds_again}
+use Rattle.arj_protocol.specs.Tree.{at_place, ends_of, is_own, root_of}
+use Rattle.arj_protocol.specs.World.{World, format, is_serial_kind, lowest_from, numbered, run_all, says}
 use Rattle.arj_run_law.proofs.AllRuns.{all_keep}
 use Rattle.arj_run_law.specs.Worlds.{IsGood, IsGoodPlace}
-use Rattle.arj_view_law.specs.Keeps.{Holds, Keeps}
-use Rattle.arj_view_law.specs.Seen.{Seen, given, up}
+use Rattle.arj_view_law.specs.Keeps.{Keeps, KeepsAsked}
+use Rattle.arj_view_law.specs.Seen.{In, Post, Seen, given, up}
 use Rattle.arj_view_law.specs.Walks.{Up}
-use Rattle.arj_view_law.proofs.Happens.{deliver_holds, keeps_asked, runs_hold, steps_hold}
+use Rattle.arj_view_law.proofs.Happens.{runs_asked}
 use Rattle.arj_view_law.proofs.Together.{walks_both}
-use Rattle.arj_round_law.specs.Rounds.{AnswersWaits, AreUp, QuiescesAnswer, RunsAnswer, WaitOvertaken}
-use Rattle.arj_round_law.specs.Waits.{HasWay, IsOvertaken, IsSaid, Want, want_of_call, want_of_commit}
+use Rattle.arj_round_law.specs.Rounds.{AnswersWaits, QuiescesAnswer, RunsAnswer, WaitOvertaken}
+use Rattle.arj_round_law.specs.Waits.{AreBrought, Asking, HasWay, IsOvertaken, IsSaid, Want, coord_in, want_of_call, want_of_commit}
+use Rattle.arj_round_law.proofs.Effects.{works}
 use Rattle.arj_round_law.proofs.Fits.{runs_few}
-use Rattle.arj_round_law.proofs.Hearing.{IsHome}
-use Rattle.arj_round_law.proofs.Worlds.{Covered, Of, Under, Ups, none_under, said_more, settle_covered, settle_full, settle_up, steps_full, steps_up, tick_covered, tick_idle}
+use Rattle.arj_round_law.proofs.Flights.{Left, with_here}
+use Rattle.arj_round_law.proofs.Hearing.{AsksIn, IsHome, all_doing, machine_asked, step_asked}
+use Rattle.arj_round_law.proofs.Passing.{Brought, coords, message_brings}
+use Rattle.arj_round_law.proofs.Settles.{Also, quiesce_leaves}
+use Rattle.arj_round_law.proofs.Ways.{AllBut, Then, brought_more, brought_of, post_of, put}
+use Rattle.arj_round_law.proofs.Worlds.{Of, Under, none_under, said_more}
 
--- ---- the numbers of nodes
+-- ---- what a tick asks again
 
-numbers_of : (m k : ℕ) → (nat_le 1 k && nat_le k m) ≡ true → members.In k (numbers_to m)
-numbers_of zero k of = absurd (none k of)
+again_doing : (ds : List Doing) (c : Coord) (w : Uid) → doing_of w (again_all ds c).part ≡ doing_of w c
+again_doing [] c w = refl
+again_doing (d ∷ ds) c w = again_doing ds (again_now c d.now).part w ∙ by d.now
   where
-    none : (k : ℕ) → (nat_le 1 k && nat_le k 0) ≡ true → ⊥
-    none k of = grind (arith, nat_tests)
-numbers_of (suc m) k of = by (k == suc m) refl (numbers_of m k)
+    by : (n : Now) → doing_of w (again_now c n).part ≡ doing_of w c
+    by Idle = refl
+    by (Calling s) = refl
+    by (Committing m) = all_doing (plan_of m).path (plan_of m).req (waiting m) c w
+
+-- what somebody waits for is asked again
+again_asked : (w : Want) (ds : List Doing) (c : Coord) (q : Doing) → members.In q ds → ((e : Coord) → AsksIn (again_now e q.now).outs w) → AsksIn (again_all ds c).outs w
+again_asked w [] c q i each = absurd i
+again_asked w (d ∷ ds) c q (inl is) each = let a = subst (λ (x : Doing). AsksIn (again_now c x.now).outs w) (sym is) (each c) in record { message = a.message; sent = in_left (Send w.node a.message) (again_now c d.now).outs (again_all ds (again_now c d.now).part).outs a.sent; asks = a.asks }
+again_asked w (d ∷ ds) c q (inr i) each = let a = again_asked w ds (again_now c d.now).part q i each in record { message = a.message; sent = in_right (Send w.node a.message) (again_now c d.now).outs (again_all ds (again_now c d.now).part).outs a.sent; asks = a.asks }
+
+doing_there : (u : Uid) (c : Coord) (q : Doing) → doing_of u c ≡ Some q → members.In q c.doings
+doing_there u c q = by (is_own u c.tree)
   where
-    below : (k == suc m) ≡ false → (nat_le 1 k && nat_le k m) ≡ true
-    below apart = grind (arith, nat_tests)
+    sliced : (k : ℕ) (xs : List Doing) → slice_get xs k ≡ Some q → members.In q xs
+    sliced k [] is = absurd (cc is)
+    sliced zero (x ∷ xs) is = inl (some_is x q is)
+    sliced (suc k) (x ∷ xs) is = inr (sliced k xs is)
 
-    by : (b : Bool) → (k == suc m) ≡ b → ((nat_le 1 k && nat_le k m) ≡ true → members.In k (numbers_to m)) → members.In k (numbers_to m ++ suc m ∷ [])
-    by true is rest = in_right k (numbers_to m) (suc m ∷ []) (inl (sym (eqb-true k (suc m) is)))
-    by false is rest = in_left k (numbers_to m) (suc m ∷ []) (rest (below is))
+    placed : (k : ℕ) (xs : List Doing) → at_place k xs ≡ Some q → members.In q xs
+    placed zero xs is = absurd (cc is)
+    placed (suc k) xs is = sliced k xs is
 
-of_numbers : (m k : ℕ) → members.In k (numbers_to m) → (nat_le 1 k && nat_le k m) ≡ true
-of_numbers zero k i = absurd i
-of_numbers (suc m) k i = ⊎_elim (λ old. more (of_numbers m k old)) (λ new. last new) (members_either (numbers_to m) i)
-  where
-    more : (nat_le 1 k && nat_le k m) ≡ true → (nat_le 1 k && nat_le k (suc m)) ≡ true
-    more of = grind (arith, nat_tests)
+    by : (b : Bool) → (if b then at_place u.num c.doings else None) ≡ Some q → members.In q c.doings
+    by true is = placed u.num c.doings is
+    by false is = absurd (cc is)
 
-    last : suc m ≡ k → (nat_le 1 k && nat_le k (suc m)) ≡ true
-    last is = grind (arith, nat_tests)
+-- ---- what is brought
 
-    members_either : (xs : List ℕ) → members.In k (xs ++ suc m ∷ []) → members.In k xs ⊎ (suc m ≡ k)
-    members_either [] (inl is) = inr is
-    members_either [] (inr i) = absurd i
-    members_either (x ∷ xs) (inl is) = inl (inl is)
-    members_either (x ∷ xs) (inr i) = ⊎_elim (λ a. inl (inr a)) (λ b. inr b) (members_either xs i)
+-- what answers whoever waits at these nodes is under way
+abbrev Ways : (ℕ → Type 0) → (ℕ → Option Node) → (Post → Type 0) → (Body → Type 0) → Type 0
+Ways nodes found F B = AreBrought nodes (coords found) F B
 
--- ---- ticks
+module _ (hd : Header) (P : Seen → Type 0) (gives : AnswersWaits hd P) (homes : (k : ℕ) (d : Disk) (t : Parts) (M : Seen) → P (up k d t M) → IsHome t.coord) where
+  ways_more : (nodes : ℕ → Type 0) (found : ℕ → Option Node) (F U : Post → Type 0) (B D : Body → Type 0) → ((q : Post) → F q → U q) → ((b : Body) → B b → D b) → Ways nodes found F B → Ways nodes found U D
+  ways_more nodes found F U B D on said a = brought_more nodes (coords found) F U B D on said a
 
-ticked_up : (hd : Header) (n : ℕ) (w : World) → Ups hd (tick_up n w) → Ups hd w
-ticked_up hd n w ups k of = by (w.full || not (is_up_at n w)) (ups k of)
-  where
-    by : (b : Bool) → is_up_at k (if b then w else steps n input.Tick w) ≡ true → is_up_at k w ≡ true
-    by true is = is
-    by false is = steps_up k n input.Tick w tick_idle is
-
-ticked_full : (n : ℕ) (w : World) → (tick_up n w).full ≡ false → w.full ≡ false
-ticked_full n w is = by (w.full || not (is_up_at n w)) is
-  where
-    by : (b : Bool) → (if b then w else steps n input.Tick w).full ≡ false → w.full ≡ false
-    by true is = is
-    by false is = steps_full n input.Tick w is
-
-ticks_up : (hd : Header) (ns : List ℕ) (w : World) → Ups hd (tick_all ns w) → Ups hd w
-ticks_up hd [] w ups = ups
-ticks_up hd (n ∷ ns) w ups = ticked_up hd n w (ticks_up hd ns (tick_up n w) ups)
-
-ticks_full : (ns : List ℕ) (w : World) → (tick_all ns w).full ≡ false → w.full ≡ false
-ticks_full [] w is = is
-ticks_full (n ∷ ns) w is = ticked_full n w (ticks_full ns (tick_up n w) is)
-
--- a node that is up ticks, as long as frames fit
-ticks_now : (P : World → Type 0) (n : ℕ) (w : World) → w.full ≡ false → is_up_at n w ≡ true → P (tick_up n w) → P (steps n input.Tick w)
-ticks_now P n w fits live p = subst P (λ i. if (fits i || not (live i)) then w else steps n input.Tick w) p
-
-now_ticks : (P : World → Type 0) (n : ℕ) (w : World) → w.full ≡ false → is_up_at n w ≡ true → P (steps n input.Tick w) → P (tick_up n w)
-now_ticks P n w fits live p = let same : tick_up n w ≡ steps n input.Tick w = λ i. if (fits i || not (live i)) then w else steps n input.Tick w in subst P (sym same) p
-
-module _ (hd : Header) (P : Seen → Type 0) (keeps : Keeps hd P) (gives : AnswersWaits hd P) (homes : (k : ℕ) (d : Disk) (t : Parts) (M : Seen) → P (up k d t M) → IsHome t.coord) where
-  settle_held : (fuel : ℕ) (w : World) → Holds hd P w → Holds hd P (settle_for fuel w)
-  settle_held zero w h = h
-  settle_held (suc fuel) w h = by (lowest w) (settle_held fuel)
-    where
-      by : (o : Option ℕ) → ((v : World) → Holds hd P v → Holds hd P (settle_for fuel v)) → Holds hd P (elim o [ None ↦ w | Some k ↦ settle_for fuel (deliver k w) ])
-      by None ih = h
-      by (Some k) ih = ih (deliver k w) (deliver_holds hd P (keeps_asked hd P keeps) k w h)
-
-  ticks_held : (ns : List ℕ) (w : World) → Holds hd P w → Holds hd P (tick_all ns w)
-  ticks_held [] w h = h
-  ticks_held (n ∷ ns) w h = ticks_held ns (tick_up n w) (by (w.full || not (is_up_at n w)))
-    where
-      by : (b : Bool) → Holds hd P (if b then w else steps n input.Tick w)
-      by true = h
-      by false = steps_hold hd P (keeps_asked hd P keeps) n input.Tick w h tt
-
-  -- these nodes besides
-  abbrev With : (ℕ → Type 0) → List ℕ → ℕ → Type 0
-  With nodes ns k = nodes k ⊎ members.In k ns
-
-  covered_at : (nodes other : ℕ → Type 0) (w : World) → ((k : ℕ) → other k → nodes k) → Covered nodes w → Covered other w
-  covered_at nodes other w fewer c = record {
-    calls = λ k e u q s there found does now. c.calls k e u q s (fewer k there) found does now;
-    commits = λ k e u q m n there found does now left. c.commits k e u q m n (fewer k there) found does now left;
+  ways_fewer : (nodes other : ℕ → Type 0) (found : ℕ → Option Node) (F : Post → Type 0) (B : Body → Type 0) → ((k : ℕ) → other k → nodes k) → Ways nodes found F B → Ways other found F B
+  ways_fewer nodes other found F B less c = record {
+    calls = λ k e u q s there is does now. c.calls k e u q s (less k there) is does now;
+    commits = λ k e u q m n there is does now left. c.commits k e u q m n (less k there) is does now left;
   }
 
-  -- the world behind all ticks, with the relation
-  record Ticked (nodes : ℕ → Type 0) (w : World) : Type 0 where
-    held : Holds hd P w
-    covered : Covered nodes w
-
-  ticks_covered : (ns : List ℕ) (nodes : ℕ → Type 0) (w : World) → Holds hd P w → Covered nodes w → ((n : ℕ) → members.In n ns → Of hd n) → Ups hd (tick_all ns w) → (tick_all ns w).full ≡ false → Ticked (With nodes ns) (tick_all ns w)
-  ticks_covered [] nodes w h c of ups fits = record { held = h; covered = covered_at nodes (With nodes []) w (λ k. ⊎_elim (λ there. there) (λ i. absurd i)) c }
-  ticks_covered (n ∷ ns) nodes w h c of ups fits =
-      let behind : Ups hd (tick_up n w) = ticks_up hd ns (tick_up n w) ups in
-      let fits_behind : (tick_up n w).full ≡ false = ticks_full ns (tick_up n w) fits in
-      let live : is_up_at n w ≡ true = ticked_up hd n w behind n (of n (inl refl)) in
-      let free : w.full ≡ false = ticked_full n w fits_behind in
-      let one : Covered (λ k. nodes k ⊎ (k ≡ n)) (tick_up n w) = now_ticks (Covered (λ k. nodes k ⊎ (k ≡ n))) n w free live
-      (tick_covered hd P keeps gives homes nodes n w h c live (ticks_now (λ v. is_up_at n v ≡ true) n w free live (behind n (of n (inl refl)))) (ticks_now (λ v. v.full ≡ false) n w free live fits_behind)) in
-      let held : Holds hd P (tick_up n w) = now_ticks (Holds hd P) n w free live (steps_hold hd P (keeps_asked hd P keeps) n input.Tick w h tt) in
-      let all = ticks_covered ns (λ k. nodes k ⊎ (k ≡ n)) (tick_up n w) held one (λ j i. of j (inr i)) ups fits in
-      record { held = all.held; covered = covered_at (With (λ k. nodes k ⊎ (k ≡ n)) ns) (With nodes (n ∷ ns)) (tick_all ns (tick_up n w)) (λ k. ⊎_elim (λ there. inl (inl there)) (⊎_elim (λ same. inl (inr (sym same))) (λ i. inr i))) all.covered }
-
-  -- ---- a quiesce
-
-  -- the world behind the last settle of a quiesce
-  abbrev Settled : World → World
-  Settled w = settle (tick_all (node_numbers w) (settle w))
-
-  settled_covered : (w : World) → Holds hd P w → Ups hd (Settled w) → (Settled w).full ≡ false → Covered (Of hd) (Settled w)
-  settled_covered w h ups fits =
-      let a = settle w in
-      let held : Holds hd P a = settle_held most_frames w h in
-      let b = tick_all (node_numbers w) a in
-      let ups_b : Ups hd b = settle_up hd most_frames b ups in
-      let fits_b : b.full ≡ false = settle_full most_frames b fits in
-      let numbers : node_numbers w ≡ numbers_to hd.nodes = ap (λ (x : Header). numbers_to x.nodes) h.stands.header in
-      let ticked = ticks_covered (node_numbers w) (λ k. ⊥) a held (record { calls = λ k c u q s there. absurd there; commits = λ k c u q m n there. absurd there })
-      (λ n i. of_numbers hd.nodes n (subst (members.In n) numbers i)) ups_b fits_b in
-      settle_covered hd P keeps gives homes (Of hd) most_frames b ticked.held
-      (covered_at (With (λ k. ⊥) (node_numbers w)) (Of hd) b (λ k of. inr (subst (members.In k) (sym numbers) (numbers_of hd.nodes k of))) ticked.covered) ups fits
-
-  -- nothing is under way any more
-  nobody_waits : (w : World) → w.header ≡ hd → Covered (Of hd) w → lowest_from 1 w.frames ≡ None → WaitOvertaken w
-  nobody_waits w same c none k e u q node found does waits = by q.now refl waits
+  ways_message : (nodes : ℕ → Type 0) (n : ℕ) (d : Disk) (t : Parts) (from : ℕ) (m : Message) (M : Seen) → P (up n d t M) → In (post_of from n m) M.sent → (F G : Post → Type 0) (B : Body → Type 0) → AllBut (post_of from n m) F G
+      → ((b : Body) → IsSaid M.lines b → B b) → Ways nodes (up n d t M).nodes F B → Left (Ways nodes) n (record { disk = d; parts = t }) M.nodes G B (taken n d t from m)
+  ways_message nodes n d t from m M holds sent F G B less lines brought = by (taken n d t from m) (message_brings hd P gives homes nodes n d t from m M holds sent F G B less lines brought)
     where
-      of : Of hd k
-      of = subst (λ (x : Header). (nat_le 1 k && nat_le k x.nodes) ≡ true) same node
-
-      no_way : {A : Type 0} (want : Want) → HasWay (Under w.frames) k want → A
-      no_way want way = let u = way.under_way in absurd (none_under 1 w.frames none u.frame u.there u.opened)
-
-      waits_for : (left : List ℕ) (m : Machine) → left_of m ≡ left → q.now ≡ Committing m → left_of m ≡ []
-      waits_for [] m is now = is
-      waits_for (n ∷ ns) m is now = no_way (want_of_commit u m n) (c.commits k e u q m n of found does now (ap (λ xs. has xs n) is ∙ (λ i. same_number n i || has ns n)))
+      same : (v : Parts) (outs : List Effect) (k : ℕ) → coords (with_here n (record { disk = works outs d; parts = v }) M.nodes) k ≡ put n v.coord (coords (up n d t M).nodes) k
+      same v outs k = one (k == n)
         where
-          same_number : (j : ℕ) → (j == j) ≡ true
-          same_number j = grind (arith, nat_tests)
+          one : (b : Bool) → coord_in (if b then Some (record { number = n; disk = works outs d; live = Some v }) else M.nodes k) ≡ (if b then Some v.coord else coord_in (if b then Some (record { number = n; disk = d; live = Some t }) else M.nodes k))
+          one true = refl
+          one false = refl
 
-      by : (n : Now) → q.now ≡ n → is_waiting_now n ≡ true → ((s : Steps) × (q.now ≡ Calling s) × IsOvertaken (IsSaid w.lines) s) ⊎ ((m : Machine) × (q.now ≡ Committing m) × (left_of m ≡ []))
-      by Idle now waits = absurd (cc waits)
-      by (Calling s) now waits = inl (s, now, ⊎_elim (λ o. o) (λ way. no_way (want_of_call u s) way) (c.calls k e u q s of found does now))
-      by (Committing m) now waits = inr (m, now, waits_for (left_of m) m refl now)
+      by : (r : Handled) → Brought hd P gives homes nodes n (coords (up n d t M).nodes) G B r → Left (Ways nodes) n (record { disk = d; parts = t }) M.nodes G B r
+      by (Void outs) b = b
+      by (Took v outs) b = brought_of nodes (put n v.coord (coords (up n d t M).nodes)) (coords (with_here n (record { disk = works outs d; parts = v }) M.nodes)) (Then G n outs) B (same v outs) b
 
--- ---- an event
+  -- after its tick a node's own are brought too
+  ways_ticked : (nodes : ℕ → Type 0) (n : ℕ) (d : Disk) (t : Parts) (M : Seen) → P (up n d t M) → (F : Post → Type 0) (B : Body → Type 0) → Ways nodes (up n d t M).nodes F B
+      → let outs = tick_outs (record { number = n; disk = d; live = Some t }) t in Ways (Also nodes n) (with_here n (record { disk = works outs d; parts = with_coord t (again_all t.coord.doings t.coord).part }) M.nodes) (Then F n outs) B
+  ways_ticked nodes n d t M holds F B brought = record {
+    calls = λ k c u q s there found does now. call k c u q s there (k == n) refl found does now;
+    commits = λ k c u q m j there found does now left. commit k c u q m j there (k == n) refl found does now left;
+  }
+    where
+      again : Did Coord
+      again = again_all t.coord.doings t.coord
 
-goes_over : (v : World) → (limited v).over ≡ false → v.full ≡ false
-goes_over v = by v.full refl
+      outs : List Effect
+      outs = tick_outs (record { number = n; disk = d; live = Some t }) t
+
+      home : IsHome t.coord
+      home = homes n d t M holds
+
+      sent : (v : Want) → AsksIn again.outs v → HasWay (Then F n outs) n v
+      sent v a = record { post = post_of n v.node a.message; under_way = inr (refl, in_left (Send v.node a.message) (again.outs ++ tolds_again t.coord.telling) (map query_about (holders d t)) (in_left (Send v.node a.message) again.outs (tolds_again t.coord.telling) a.sent)); brings = Asking refl refl a.asks }
+
+      old : (k : ℕ) (v : Want) → HasWay F k v → HasWay (Then F n outs) k v
+      old k v way = record { post = way.post; under_way = inl way.under_way; brings = way.brings }
+
+      number_same : (j : ℕ) → (j == j) ≡ true
+      number_same j = grind (arith, nat_tests)
+
+      before : (k : ℕ) → Also nodes n k → (k == n) ≡ false → nodes k
+      before k (inl there) apart = there
+      before k (inr is) apart = absurd (cc (sym (ap (λ j. j == n) is ∙ number_same n) ∙ apart))
+
+      was_there : (u : Uid) (c : Coord) (q : Doing) → Some again.part ≡ Some c → doing_of u c ≡ Some q → doing_of u t.coord ≡ Some q
+      was_there u c q is does = sym (again_doing t.coord.doings t.coord u) ∙ ap (doing_of u) (some_is again.part c is) ∙ does
+
+      -- another node is as it was
+      other : (k : ℕ) (c : Coord) → (k == n) ≡ false → coord_in (M.nodes k) ≡ Some c → coords (up n d t M).nodes k ≡ Some c
+      other k c apart found = ap (λ b. coord_in (if b then Some (record { number = n; disk = d; live = Some t }) else M.nodes k)) apart ∙ found
+
+      call : (k : ℕ) (c : Coord) (u : Uid) (q : Doing) (s : Steps) → Also nodes n k → (b : Bool) → (k == n) ≡ b → coord_in (if b then Some (record { number = n; disk = works outs d; live = Some (with_coord t again.part) }) else M.nodes k) ≡ Some c → doing_of u c ≡ Some q → q.now ≡ Calling s
+          → IsOvertaken B s ⊎ HasWay (Then F n outs) k (want_of_call u s)
+      call k c u q s there false apart found does now = ⊎_elim (λ o. inl o) (λ way. inr (old k (want_of_call u s) way)) (brought.calls k c u q s (before k there apart) (other k c apart found) does now)
+      call k c u q s there true same found does now =
+          let here = was_there u c q found does in
+          let asked = again_asked (want_of_call u s) t.coord.doings t.coord q (doing_there u t.coord q here)
+          (λ e. subst (λ z. AsksIn (again_now e z).outs (want_of_call u s)) (sym now) (step_asked u s (ends_of (root_of s.path) e.tree) (asks_step s e).outs (home.calls u q s here now) (inl refl))) in
+          inr (subst (λ j. HasWay (Then F n outs) j (want_of_call u s)) (sym (eqb-true k n same)) (sent (want_of_call u s) asked))
+
+      commit : (k : ℕ) (c : Coord) (u : Uid) (q : Doing) (m : Machine) (j : ℕ) → Also nodes n k → (b : Bool) → (k == n) ≡ b → coord_in (if b then Some (record { number = n; disk = works outs d; live = Some (with_coord t again.part) }) else M.nodes k) ≡ Some c → doing_of u c ≡ Some q → q.now ≡ Committing m → has (left_of m) j ≡ true
+          → HasWay (Then F n outs) k (want_of_commit u m j)
+      commit k c u q m j there false apart found does now left = old k (want_of_commit u m j) (brought.commits k c u q m j (before k there apart) (other k c apart found) does now left)
+      commit k c u q m j there true same found does now left =
+          let here = was_there u c q found does in
+          let asked = again_asked (want_of_commit u m j) t.coord.doings t.coord q (doing_there u t.coord q here)
+          (λ e. subst (λ z. AsksIn (again_now e z).outs (want_of_commit u m j)) (sym now) (machine_asked u m e j (home.commits u q m here now) left)) in
+          subst (λ i. HasWay (Then F n outs) i (want_of_commit u m j)) (sym (eqb-true k n same)) (sent (want_of_commit u m j) asked)
+
+-- where nothing is under way nobody waits who isn't overtaken
+nobody_waits : (hd : Header) (w : World) → w.header ≡ hd → lowest_from 1 w.frames ≡ None → AreBrought (Of hd) (coords (λ k. at_place k w.nodes)) (Under w.frames) (IsSaid w.lines) → WaitOvertaken w
+nobody_waits hd w same none c k e u q node found does waits = by q.now refl waits
   where
-    by : (b : Bool) → v.full ≡ b → (if b then says (body.Limit which.Frames ∷ []) (record v { over = true }) else v).over ≡ false → v.full ≡ false
-    by true full over = absurd (cc over)
-    by false full over = full
+    of : Of hd k
+    of = subst (λ (x : Header). (nat_le 1 k && nat_le k x.nodes) ≡ true) same node
+
+    no_way : {A : Type 0} (want : Want) → HasWay (Under w.frames) k want → A
+    no_way want way = let u = way.under_way in absurd (none_under 1 w.frames none u.frame u.there u.opened)
+
+    waits_for : (left : List ℕ) (m : Machine) → left_of m ≡ left → q.now ≡ Committing m → left_of m ≡ []
+    waits_for [] m is now = is
+    waits_for (n ∷ ns) m is now = no_way (want_of_commit u m n) (c.commits k e u q m n of found does now (ap (λ xs. has xs n) is ∙ (λ i. same_number n i || has ns n)))
+      where
+        same_number : (j : ℕ) → (j == j) ≡ true
+        same_number j = grind (arith, nat_tests)
+
+    by : (n : Now) → q.now ≡ n → is_waiting_now n ≡ true → ((s : Steps) × (q.now ≡ Calling s) × IsOvertaken (IsSaid w.lines) s) ⊎ ((m : Machine) × (q.now ≡ Committing m) × (left_of m ≡ []))
+    by Idle now waits = absurd (cc waits)
+    by (Calling s) now waits = inl (s, now, ⊎_elim (λ o. o) (λ way. no_way (want_of_call u s) way) (c.calls k e u q s of found does now))
+    by (Committing m) now waits = inr (m, now, waits_for (left_of m) m refl now)
+
+-- a line more
+waits_said : (c : World) (b : Body) → WaitOvertaken c → WaitOvertaken (says (b ∷ []) c)
+waits_said c b answers k e u q node found does waits = ⊎_elim
+    (λ s. inl (s.0, s.1, record { known = s.2.known; step = s.2.step; binding = s.2.binding; server = s.2.server; line = said_more c.lines (numbered c.event (b ∷ [])) (body.Bound (let x = s.0 in x.x) s.2.binding s.2.server) s.2.line; greater = s.2.greater }))
+    (λ m. inr m) (answers k e u q node found does waits)
 
 -- a relation together with what holds in every run
-keeps_good : (hd : Header) (R : Seen → Type 0) → Keeps hd R → Keeps hd (λ M. R M × IsGood M)
+keeps_good : (hd : Header) (R : Seen → Type 0) → KeepsAsked hd R → KeepsAsked hd (λ M. R M × IsGood M)
 keeps_good hd R k = record {
   quiet = λ e bs M quiet h. (k.quiet e bs M quiet h.0, g.quiet e bs M quiet h.1);
   stop = λ e n d live M h. (k.stop e n d live M h.0, g.stop e n d live M h.1);
   message = λ e n d t v from m outs M h sent meant is. walks_both R IsGood e n outs (Up R n v) (Up IsGood n v) d M (k.message e n d t v from m outs M h.0 sent meant is) (g.message e n d t v from m outs M h.1 sent meant is);
-  act = λ e n d t i M about free h. let did = acts i d.intents t.coord in walks_both R IsGood e n did.outs (Up R n (with_coord t did.part)) (Up IsGood n (with_coord t did.part)) d M (k.act e n d t i M about free h.0) (g.act e n d t i M about free h.1);
+  act = λ e n d t i M about asks free h. let did = acts i d.intents t.coord in walks_both R IsGood e n did.outs (Up R n (with_coord t did.part)) (Up IsGood n (with_coord t did.part)) d M (k.act e n d t i M about asks free h.0) (g.act e n d t i M about free h.1);
   begin = λ e n d t l how parent M new may free h. let did = begin_action l how parent (parent_of parent t.coord) t.coord in walks_both R IsGood e n did.outs (Up R n (with_coord t did.part)) (Up IsGood n (with_coord t did.part)) d (given l (record { node = n; serial = is_serial_kind how }) M)
       (k.begin e n d t l how parent M new may free h.0) (g.begin e n d t l how parent M new may free h.1);
   tick = λ e n d t M h. let v = with_coord t (again_all t.coord.doings t.coord).part in walks_both R IsGood e n (tick_outs (record { number = n; disk = d; live = Some t }) t) (Up R n v) (Up IsGood n v) d M (k.tick e n d t M h.0) (g.tick e n d t M h.1);
@@ -233,64 +226,18 @@ good_home k d t M g = record {
     own : (u : Uid) (p : Path) → IsAsking t.coord.tree u p → actor p ≡ u
     own u p a = ap actor (sym a.path) ∙ (let tree = coord.tree in let lists = tree.lists in lists.places u a.branch a.found)
 
--- the line of a quiesce adds nothing to what waits, and a limit isn't met
-behind_line : (c : World) → (c.full ≡ false → lowest_from 1 c.frames ≡ None → AreUp c → WaitOvertaken c)
-    → lowest_from 1 (limited (quiet_line c)).frames ≡ None → (limited (quiet_line c)).over ≡ false → AreUp (limited (quiet_line c)) → WaitOvertaken (limited (quiet_line c))
-behind_line c answers = by c.full refl
-  where
-    line : World
-    line = says (body.Quiet (is_quiet c) ∷ []) c
-
-    lined : c.full ≡ false → lowest_from 1 c.frames ≡ None → AreUp c → WaitOvertaken (says (body.Quiet (is_quiet c) ∷ []) c)
-    lined fits none ups k e u q node found does waits = ⊎_elim
-        (λ s. inl (s.0, s.1, record { known = s.2.known; step = s.2.step; binding = s.2.binding; server = s.2.server; line = said_more c.lines (numbered c.event (body.Quiet (is_quiet c) ∷ [])) (body.Bound (let x = s.0 in x.x) s.2.binding s.2.server) s.2.line; greater = s.2.greater }))
-        (λ m. inr m) (answers fits none ups k e u q node found does waits)
-
-    -- the limit isn't met
-    on : (b : Bool) → b ≡ false → c.full ≡ false → lowest_from 1 (if b then says (body.Limit which.Frames ∷ []) (record line { over = true }) else line).frames ≡ None → AreUp (if b then says (body.Limit which.Frames ∷ []) (record line { over = true }) else line)
-        → WaitOvertaken (if b then says (body.Limit which.Frames ∷ []) (record line { over = true }) else line)
-    on true is fits none ups = absurd (cc is)
-    on false is fits none ups = lined fits none ups
-
-    by : (b : Bool) → c.full ≡ b → lowest_from 1 (limited (if b then c else line)).frames ≡ None → (limited (if b then c else line)).over ≡ false → AreUp (limited (if b then c else line)) → WaitOvertaken (limited (if b then c else line))
-    by true full none over ups = absurd (cc (sym full ∙ goes_over c over))
-    by false fits none over ups = on c.full fits fits none ups
-
-module _ (hd : Header) (P : Seen → Type 0) (keeps : Keeps hd P) (gives : AnswersWaits hd P) (homes : (k : ℕ) (d : Disk) (t : Parts) (M : Seen) → P (up k d t M) → IsHome t.coord) where
-  -- behind the last settle
-  last_answers : (w : World) → Holds hd P w → (Settled hd P keeps gives homes w).full ≡ false → lowest_from 1 (Settled hd P keeps gives homes w).frames ≡ None → AreUp (Settled hd P keeps gives homes w) → WaitOvertaken (Settled hd P keeps gives homes w)
-  last_answers w h fits none ups =
-      let a = settle_held hd P keeps gives homes most_frames w h in
-      let b = ticks_held hd P keeps gives homes (node_numbers w) (settle w) a in
-      let c = settle_held hd P keeps gives homes most_frames (tick_all (node_numbers w) (settle w)) b in
-      let header = c.stands.header in
-      nobody_waits hd P keeps gives homes (Settled hd P keeps gives homes w) header
-      (settled_covered hd P keeps gives homes w h (λ j of. ups j (subst (λ (x : Header). (nat_le 1 j && nat_le j x.nodes) ≡ true) (sym header) of)) fits) none
-
-  -- a world behind a quiesce that went on
-  quiesced_answers : (w : World) → Holds hd P w → lowest_from 1 (limited (quiesce w)).frames ≡ None → (limited (quiesce w)).over ≡ false → AreUp (limited (quiesce w)) → WaitOvertaken (limited (quiesce w))
-  quiesced_answers w h = behind_line (Settled hd P keeps gives homes w) (last_answers w h)
-
 pub quiesces_answer : QuiescesAnswer
-quiesces_answer hd test keeps gives e w h few is over last ups = by last (events_settle e w (inr is) few over last) ups
+quiesces_answer hd test keeps gives e w h few is over last ups =
+    quiesce_leaves hd P (keeps_good hd (λ M. test M ≡ true) keeps) gives.within Ways (λ nodes. ways_more hd P gives homes nodes) (λ nodes. ways_message hd P gives homes nodes) (ways_fewer hd P gives homes) (λ nodes n. ways_ticked hd P gives homes nodes n)
+    WaitOvertaken waits_said (λ c header none up flown. nobody_waits hd c header none flown) e w h few
+    (record { calls = λ k c u q s there. absurd there; commits = λ k c u q m n there. absurd there }) is over last ups
   where
     P : Seen → Type 0
     P M = (test M ≡ true) × IsGood M
 
-    marked : Holds hd P (counted w)
-    marked = record {
-      sent = h.sent;
-      stands = record { frames = h.stands.frames; junk = h.stands.junk; header = h.stands.header; numbers = h.stands.numbers; places = h.stands.places; labels = h.stands.labels };
-      holds = h.holds;
-    }
-
-    run_is : run_event e w ≡ limited (quiesce (counted w))
-    run_is = (λ i. if over i then w else run_unless e.event e.arm w (first_reason (reasons e.event w))) ∙ (λ i. run_unless (is i) e.arm w (first_reason (reasons (is i) w)))
-
-    by : (run_event e w).over ≡ false → lowest_from 1 (run_event e w).frames ≡ None → AreUp (run_event e w) → WaitOvertaken (run_event e w)
-    by = subst (λ v. v.over ≡ false → lowest_from 1 v.frames ≡ None → AreUp v → WaitOvertaken v) (sym run_is)
-        (λ last none ups. quiesced_answers hd P (keeps_good hd (λ M. test M ≡ true) keeps) gives (λ k d t M p. good_home k d t M p.1) (counted w) marked none last ups)
+    homes : (k : ℕ) (d : Disk) (t : Parts) (M : Seen) → (test (up k d t M) ≡ true) × IsGood (up k d t M) → IsHome t.coord
+    homes k d t M p = good_home k d t M p.1
 
 pub runs_answer : RunsAnswer
 runs_answer hd test keeps gives es e is over last ups =
-    quiesces_answer hd test keeps gives e (run_all es (format hd)) (runs_hold hd (λ M. (test M ≡ true) × IsGood M) (keeps_good hd (λ M. test M ≡ true) keeps) es) (runs_few hd es) is over last ups
+    quiesces_answer hd test keeps gives e (run_all es (format hd)) (runs_asked hd (λ M. (test M ≡ true) × IsGood M) (keeps_good hd (λ M. test M ≡ true) keeps) es) (runs_few hd es) is over last ups

@@ -1,5 +1,5 @@
 -- What answers whoever waits stays under way from frame to frame, and a tick sends it for all who wait at its node.
-use Rattle.std.proofs.Common.{◌≡◌, ◌≢◌, ◌≤◌, ◌⊎◌, ◌∙◌, ◌+◌, ◌-◌, ℕ, zero, suc, Bool, true, false, cond, List, [], ◌∷◌, ◌++◌, refl, sym, ap, subst, inl, inr, ⊎_elim, Option, Some, None, IfSome, eqb-true, arith, length, map}
+use Rattle.std.proofs.Common.{◌≡◌, ◌≢◌, ◌≤◌, ◌⊎◌, ◌∙◌, ◌+◌, ◌-◌, ℕ, zero, suc, Bool, true, false, cond, List, [], ◌∷◌, ◌++◌, refl, sym, ap, subst, inl, inr, ⊎_elim, Option, Some, None, IfSome, eqb-true, arith, length}
 use Rattle.std.specs.Prelude.{◌&&◌, ◌||◌, ◌==◌, nat_le, nat_lt, slice_get, slice_set, if◌then◌else◌, is_some}
 use Rattle.std.specs.List.{AllByRecursion}
 use Rattle.std.proofs.lemmas.Bool.Decides.{nat_tests}
@@ -11,30 +11,26 @@ use Rattle.arj_coord_law.proofs.CoordUses.{some_is}
 use Rattle.arj_event_law.proofs.Frames.{IsOpenAt, lowest_open}
 use Rattle.arj_protocol.proofs.Maps.{place_other}
 use Rattle.arj_protocol.proofs.Taken.{taken_took}
-use Rattle.arj_protocol.specs.Words.{Body, Header, Line, Message, Uid}
+use Rattle.arj_protocol.specs.Words.{Body, Header, Line, Message}
 use Rattle.arj_protocol.specs.Words.body
-use Rattle.arj_protocol.specs.Asking.{again_all, again_now, asks_step}
-use Rattle.arj_protocol.specs.Call.{Steps}
-use Rattle.arj_protocol.specs.Commit.{Machine, left_of, plan_of, waiting}
-use Rattle.arj_protocol.specs.Coord.{Calling, Committing, Coord, Doing, Idle, Now, doing_of}
-use Rattle.arj_protocol.specs.Effect.{Did, Disk, Do, Effect, Say, Send}
+use Rattle.arj_protocol.specs.Asking.{again_all}
+use Rattle.arj_protocol.specs.Effect.{Disk, Do, Effect, Say, Send}
 use Rattle.arj_protocol.specs.Follow.{tick_outs}
-use Rattle.arj_protocol.specs.Node.{Handled, Parts, Took, Void, holders, query_about, taken, whole, with_coord}
-use Rattle.arj_protocol.specs.Order.{at_number, has}
-use Rattle.arj_protocol.specs.Step.{Input, Node, Step, handled_step, step, tolds_again}
+use Rattle.arj_protocol.specs.Node.{Handled, Here, Parts, Took, Void, taken, whole, with_coord}
+use Rattle.arj_protocol.specs.Order.{at_number}
+use Rattle.arj_protocol.specs.Step.{Input, Node, Step, handled_step, step}
 use Rattle.arj_protocol.specs.Step as input
-use Rattle.arj_protocol.specs.Tree.{at_place, ends_of, is_own, root_of, set_place}
+use Rattle.arj_protocol.specs.Tree.{at_place, set_place}
 use Rattle.arj_protocol.specs.World.{Arm, Frame, World, armed, as_delivered, bodies, change_frame, count_works, cut, deliver, deliver_frame, disarmed, done_step, frames_with, halted_at, is_open_frame, is_up, is_up_at, lowest, lowest_from, most_frames, new_frame, numbered, overflows, sends, sent_line, settle_for, step_node, step_with, steps}
-use Rattle.arj_view_law.specs.Keeps.{HasPlace, Holds, IsSent, Keeps}
+use Rattle.arj_view_law.specs.Keeps.{HasPlace, Holds, IsSent, KeepsAsked}
 use Rattle.arj_view_law.specs.Seen.{In, Post, Seen, see, up}
 use Rattle.arj_view_law.specs.Walks.{Up, Walks}
 use Rattle.arj_view_law.proofs.Rounds.{taken_meant}
-use Rattle.arj_view_law.proofs.Happens.{deliver_holds, keeps_asked, place_same}
-use Rattle.arj_round_law.specs.Rounds.{AnswersWaits}
-use Rattle.arj_round_law.specs.Waits.{AreBrought, Asking, HasWay, IsOvertaken, IsSaid, Want, coord_in, want_of_call, want_of_commit}
-use Rattle.arj_round_law.proofs.Hearing.{AsksIn, IsHome, all_doing, machine_asked, step_asked}
-use Rattle.arj_round_law.proofs.Ways.{AllBut, Then, brought_more, brought_of, post_of, put, put_same}
-use Rattle.arj_round_law.proofs.Steps.{Brought, coords, first_stage, message_brings, put_like, up_put, whole_brings}
+use Rattle.arj_view_law.proofs.Happens.{deliver_holds, place_same}
+use Rattle.arj_round_law.specs.Waits.{IsSaid}
+use Rattle.arj_round_law.proofs.Ways.{AllBut, Then, post_of}
+use Rattle.arj_round_law.proofs.Effects.{works}
+use Rattle.arj_round_law.proofs.Flights.{Left, MayGrow, MessagesKeep, whole_keeps, with_here}
 
 -- ---- frames
 
@@ -140,31 +136,31 @@ then_said n j e outs lines b (inr i) = said_new lines e (bodies n j outs) b (bod
 
 -- ---- worlds
 
--- In the world, at these nodes, what answers whoever waits is under way.
-abbrev pub Covered : (ℕ → Type 0) → World → Type 0
-Covered nodes w = AreBrought nodes (coords (λ k. at_place k w.nodes)) (Under w.frames) (IsSaid w.lines)
+-- a world's nodes
+abbrev pub nodes_in : World → ℕ → Option Node
+nodes_in w k = at_place k w.nodes
 
-set_coords : (n : ℕ) (a b : Node) (ns : List Node) → at_place n ns ≡ Some a → (v : Parts) → b.live ≡ Some v → (k : ℕ) → coords (λ k. at_place k (set_place n b ns)) k ≡ put n v.coord (coords (λ k. at_place k ns)) k
-set_coords n a b ns there v live k = by (k == n) refl
+-- a node put in its place
+placed_here : (n : ℕ) (a : Node) (h : Here) (ns : List Node) → at_place n ns ≡ Some a → (λ k. at_place k (set_place n (record { number = n; disk = h.disk; live = Some h.parts }) ns)) ≡ with_here n h (λ k. at_place k ns)
+placed_here n a h ns there = λ i k. by k (k == n) refl i
   where
-    apart : (k == n) ≡ false → k ≢ n
-    apart e = grind (arith, nat_tests)
+    b : Node
+    b = record { number = n; disk = h.disk; live = Some h.parts }
 
-    by : (t : Bool) → (k == n) ≡ t → coord_in (at_place k (set_place n b ns)) ≡ (if t then Some v.coord else coord_in (at_place k ns))
-    by true e = ap coord_in (ap (λ j. at_place j (set_place n b ns)) (eqb-true k n e) ∙ place_same n b a ns there) ∙ (λ i. coord_in (Some (record b { live = live i })))
-    by false e = ap coord_in (place_other n k b ns (apart e))
+    apart : (k : ℕ) → (k == n) ≡ false → k ≢ n
+    apart k e = grind (arith, nat_tests)
 
--- a step that was done
-done_covered : (nodes : ℕ → Type 0) (n : ℕ) (a : Node) (s : Step) (w : World) (v : Parts) → at_place n w.nodes ≡ Some a → s.after.live ≡ Some v → (done_step n s w).full ≡ false
-    → AreBrought nodes (put n v.coord (coords (λ k. at_place k w.nodes))) (Then (Under w.frames) n s.outs) (λ b. IsSaid w.lines b ⊎ members.In (Say b) s.outs) → Covered nodes (done_step n s w)
-done_covered nodes n a s w v there live fits b =
-    brought_of nodes (put n v.coord (coords (λ k. at_place k w.nodes))) (coords (λ k. at_place k (set_place n s.after w.nodes))) _ _ (set_coords n a s.after w.nodes there v live)
-    (brought_more nodes (put n v.coord (coords (λ k. at_place k w.nodes))) (Then (Under w.frames) n s.outs) (Under (frames_with w.frames (sends n s.outs))) (λ c. IsSaid w.lines c ⊎ members.In (Say c) s.outs) (IsSaid (w.lines ++ numbered w.event (bodies n (length w.frames) s.outs)))
-    (λ p. then_under n s.outs w.frames (or_second w.full (overflows w.frames (sends n s.outs)) fits) p) (λ c. then_said n (length w.frames) w.event s.outs w.lines c) b)
+    by : (k : ℕ) (t : Bool) → (k == n) ≡ t → at_place k (set_place n b ns) ≡ (if t then Some b else at_place k ns)
+    by k true e = ap (λ j. at_place j (set_place n b ns)) (eqb-true k n e) ∙ place_same n b a ns there
+    by k false e = place_other n k b ns (apart k e)
+
+-- a node that stands there already
+there_here : (n : ℕ) (h : Here) (ns : List Node) → at_place n ns ≡ Some (record { number = n; disk = h.disk; live = Some h.parts }) → (λ k. at_place k ns) ≡ with_here n h (λ k. at_place k ns)
+there_here n h ns there = λ i k. by k (k == n) refl i
   where
-    or_second : (x y : Bool) → (x || y) ≡ false → y ≡ false
-    or_second true y is = absurd (cc is)
-    or_second false y is = is
+    by : (k : ℕ) (t : Bool) → (k == n) ≡ t → at_place k ns ≡ (if t then Some (record { number = n; disk = h.disk; live = Some h.parts }) else at_place k ns)
+    by k true e = ap (λ j. at_place j ns) (eqb-true k n e) ∙ there
+    by k false e = refl
 
 -- ---- a step
 
@@ -360,29 +356,39 @@ frame_sent (suc k) f m sent fs at is all = subst (λ (o : Option Message). IfSom
     found zero (g ∷ gs) at all = let same : g ≡ f = cc at in subst (IsSent sent) same all.0
     found (suc j) (g ∷ gs) at all = found j gs at all.1
 
-module _ (hd : Header) (P : Seen → Type 0) (keeps : Keeps hd P) (gives : AnswersWaits hd P) (homes : (k : ℕ) (d : Disk) (t : Parts) (M : Seen) → P (up k d t M) → IsHome t.coord) (nodes : ℕ → Type 0) where
-  -- the coordinators are those that are there
-  up_there : (n : ℕ) (a : Node) (t : Parts) (sent : List Post) (w : World) → at_place n w.nodes ≡ Some a → a.live ≡ Some t → (k : ℕ) → coords (up n a.disk t (see sent w)).nodes k ≡ coords (λ j. at_place j w.nodes) k
-  up_there n a t sent w there live k = up_put n a.disk t (see sent w) k ∙ put_same nodes n t.coord (coords (λ j. at_place j w.nodes)) (ap coord_in there ∙ (λ i. coord_in (Some (record a { live = live i })))) k
+module _ (I : (ℕ → Option Node) → (Post → Type 0) → (Body → Type 0) → Type 0) (more : MayGrow I) where
+  -- in the world, with its open frames and its lines
+  abbrev pub Flown : World → Type 0
+  Flown w = I (nodes_in w) (Under w.frames) (IsSaid w.lines)
 
+  -- a step that was done
+  done_flown : (n : ℕ) (a : Node) (h : Here) (outs halting : List Effect) (w : World) → at_place n w.nodes ≡ Some a → let s : Step = record { outs = outs; halting = halting; after = record { number = n; disk = h.disk; live = Some h.parts } } in (done_step n s w).full ≡ false
+      → I (with_here n h (nodes_in w)) (Then (Under w.frames) n outs) (λ b. IsSaid w.lines b ⊎ members.In (Say b) outs) → Flown (done_step n s w)
+  done_flown n a h outs halting w there fits i =
+      subst (λ f. I f (Under (frames_with w.frames (sends n outs))) (IsSaid (w.lines ++ numbered w.event (bodies n (length w.frames) outs)))) (sym (placed_here n a h w.nodes there))
+      (more (with_here n h (nodes_in w)) (Then (Under w.frames) n outs) (Under (frames_with w.frames (sends n outs))) (λ c. IsSaid w.lines c ⊎ members.In (Say c) outs) (IsSaid (w.lines ++ numbered w.event (bodies n (length w.frames) outs)))
+      (λ p. then_under n outs w.frames (or_second w.full (overflows w.frames (sends n outs)) fits) p) (λ c. then_said n (length w.frames) w.event outs w.lines c) i)
+    where
+      or_second : (x y : Bool) → (x || y) ≡ false → y ≡ false
+      or_second true y is = absurd (cc is)
+      or_second false y is = is
+
+module _ (hd : Header) (P : Seen → Type 0) (keeps : KeepsAsked hd P) (I : (ℕ → Option Node) → (Post → Type 0) → (Body → Type 0) → Type 0) (more : MayGrow I) (message : MessagesKeep P I) where
   -- a whole step of what a handler did, behind some lines
-  did_covered : (n : ℕ) (d : Disk) (v : Parts) (before outs : List Effect) (G : Post → Type 0) (sent : List Post) (w : World) (a : Node) → at_place n w.nodes ≡ Some a → ((p : Post) → G p → Under w.frames p)
-      → Walks P w.event n outs (Up P n v) d (see sent w) → AreBrought nodes (put n v.coord (coords (λ j. at_place j w.nodes))) (Then G n outs) (IsSaid w.lines)
+  did_flown : (n : ℕ) (d : Disk) (v : Parts) (before outs : List Effect) (G : Post → Type 0) (sent : List Post) (w : World) (a : Node) → at_place n w.nodes ≡ Some a → ((p : Post) → G p → Under w.frames p)
+      → Walks P w.event n outs (Up P n v) d (see sent w) → I (with_here n (record { disk = works outs d; parts = v }) (nodes_in w)) (Then G n outs) (IsSaid w.lines)
       → let q = whole n v outs d in let s : Step = record { outs = before ++ q.outs; halting = before ++ q.outs; after = record { number = n; disk = q.here.disk; live = Some q.here.parts } } in
-      (arms : List (ℕ × Arm)) → (done_step n s (record w { arms = arms })).full ≡ false → Covered nodes (done_step n s (record w { arms = arms }))
-  did_covered n d v before outs G sent w a there old walks brought arms fits =
+      (arms : List (ℕ × Arm)) → (done_step n s (record w { arms = arms })).full ≡ false → Flown I more (done_step n s (record w { arms = arms }))
+  did_flown n d v before outs G sent w a there old walks i arms fits =
       let q = whole n v outs d in
-      let s : Step = record { outs = before ++ q.outs; halting = before ++ q.outs; after = record { number = n; disk = q.here.disk; live = Some q.here.parts } } in
-      let base : ℕ → Option Node = λ j. at_place j w.nodes in
-      let stage = first_stage hd P keeps gives homes nodes n w.event base d v outs (see sent w) G (IsSaid w.lines) refl walks (λ b l. l) brought in
-      let all = whole_brings hd P keeps gives homes nodes n w.event base d v outs G (IsSaid w.lines) stage in
-      done_covered nodes n a s (record w { arms = arms }) q.here.parts there refl fits
-      (brought_more nodes (put n (let x = q.here.parts in x.coord) (coords base)) (Then G n q.outs) (Then (Under w.frames) n s.outs) (λ b. IsSaid w.lines b ⊎ members.In (Say b) q.outs) (λ b. IsSaid w.lines b ⊎ members.In (Say b) s.outs)
+      let all = whole_keeps hd P keeps I more message n w.event (nodes_in w) d v outs (see sent w) G (IsSaid w.lines) refl walks (λ b l. l) i in
+      done_flown I more n a q.here (before ++ q.outs) (before ++ q.outs) (record w { arms = arms }) there fits
+      (more (with_here n q.here (nodes_in w)) (Then G n q.outs) (Then (Under w.frames) n (before ++ q.outs)) (λ b. IsSaid w.lines b ⊎ members.In (Say b) q.outs) (λ b. IsSaid w.lines b ⊎ members.In (Say b) (before ++ q.outs))
       (λ p. ⊎_elim (λ g. inl (old p g)) (λ out. inr (out.0, in_right (Send p.to p.message) before q.outs out.1))) (λ b. ⊎_elim (λ l. inl l) (λ i. inr (in_right (Say b) before q.outs i))) all)
 
   -- ---- a delivery
 
-  module _ (k : ℕ) (f : Frame) (w : World) (h : Holds hd P w) (x : IsLive f.to w) (at : at_place k w.frames ≡ Some f) (covered : Covered nodes w) where
+  module _ (k : ℕ) (f : Frame) (w : World) (h : Holds hd P w) (x : IsLive f.to w) (at : at_place k w.frames ≡ Some f) (flown : Flown I more w) where
     abbrev To : ℕ
     To = f.to
 
@@ -391,6 +397,10 @@ module _ (hd : Header) (P : Seen → Type 0) (keeps : Keeps hd P) (gives : Answe
 
     abbrev Memory : Parts
     Memory = x.parts
+
+    -- the node within the step
+    abbrev Begins : Here
+    Begins = record { disk = There.disk; parts = Memory }
 
     -- the world in which the frame was delivered
     abbrev Marked : World
@@ -409,48 +419,43 @@ module _ (hd : Header) (P : Seen → Type 0) (keeps : Keeps hd P) (gives : Answe
     holds_here : P (up To There.disk Memory (see h.sent w))
     holds_here = seen_up P To There Memory h.sent w x.there (h.stands.numbers To There x.there) x.live h.holds
 
-    here : (c : ℕ) → coords (up To There.disk Memory (see h.sent w)).nodes c ≡ coords (λ j. at_place j w.nodes) c
-    here = up_there To There Memory h.sent w x.there x.live
+    here : nodes_in w ≡ with_here To Begins (nodes_in w)
+    here = there_here To Begins w.nodes mine_there
 
     -- nothing changes but a line
-    void_covered : (G : Post → Type 0) (b : Body) → ((p : Post) → G p → Under Marked.frames p) → AreBrought nodes (coords (λ j. at_place j w.nodes)) G (IsSaid w.lines)
-        → (outs : List Effect) → (arms : List (ℕ × Arm)) → let s : Step = record { outs = outs ++ Say b ∷ []; halting = []; after = Mine } in (done_step To s (record Marked { arms = arms })).full ≡ false → Covered nodes (done_step To s (record Marked { arms = arms }))
-    void_covered G b old brought outs arms fits =
-        let s : Step = record { outs = outs ++ Say b ∷ []; halting = []; after = Mine } in
-        done_covered nodes To Mine s (record Marked { arms = arms }) Memory mine_there refl fits
-        (brought_of nodes (coords (λ j. at_place j w.nodes)) (put To Memory.coord (coords (λ j. at_place j w.nodes))) (Then (Under Marked.frames) To s.outs) (λ c. IsSaid w.lines c ⊎ members.In (Say c) s.outs)
-        (λ c. put_same nodes To Memory.coord (coords (λ j. at_place j w.nodes)) (ap coord_in mine_there) c)
-        (brought_more nodes (coords (λ j. at_place j w.nodes)) G (Then (Under Marked.frames) To s.outs) (IsSaid w.lines) (λ c. IsSaid w.lines c ⊎ members.In (Say c) s.outs) (λ p g. inl (old p g)) (λ c l. inl l) brought))
+    void_flown : (G : Post → Type 0) (b : Body) → ((p : Post) → G p → Under Marked.frames p) → I (with_here To Begins (nodes_in w)) G (IsSaid w.lines)
+        → (outs halting : List Effect) (arms : List (ℕ × Arm)) → let s : Step = record { outs = outs ++ Say b ∷ []; halting = halting; after = Mine } in (done_step To s (record Marked { arms = arms })).full ≡ false → Flown I more (done_step To s (record Marked { arms = arms }))
+    void_flown G b old i outs halting arms fits =
+        done_flown I more To Mine Begins (outs ++ Say b ∷ []) halting (record Marked { arms = arms }) mine_there fits
+        (more (with_here To Begins (nodes_in w)) G (Then (Under Marked.frames) To (outs ++ Say b ∷ [])) (IsSaid w.lines) (λ c. IsSaid w.lines c ⊎ members.In (Say c) (outs ++ Say b ∷ [])) (λ p g. inl (old p g)) (λ c l. inl l) i)
 
     -- what the node makes of a message
-    message_covered : (m : Message) → f.message ≡ Some m → (arm : Option Arm) → let s = handled_step k Mine (taken To There.disk Memory f.from m) in
-        is_up_at To (step_with To Mine s Marked arm) ≡ true → (step_with To Mine s Marked arm).full ≡ false → Covered nodes (step_with To Mine s Marked arm)
-    message_covered m is arm = by (taken To There.disk Memory f.from m) refl
-        (message_brings hd P keeps gives homes nodes To There.disk Memory f.from m (see h.sent w) holds_here sent (Under w.frames) (Under Marked.frames) (IsSaid w.lines) (but_delivered k f m w.frames at is) (λ b l. l)
-        (brought_of nodes (coords (λ j. at_place j w.nodes)) (coords (up To There.disk Memory (see h.sent w)).nodes) (Under w.frames) (IsSaid w.lines) here covered))
+    message_flown : (m : Message) → f.message ≡ Some m → (arm : Option Arm) → let s = handled_step k Mine (taken To There.disk Memory f.from m) in
+        is_up_at To (step_with To Mine s Marked arm) ≡ true → (step_with To Mine s Marked arm).full ≡ false → Flown I more (step_with To Mine s Marked arm)
+    message_flown m is arm = by (taken To There.disk Memory f.from m) refl
+        (message To There.disk Memory f.from m (see h.sent w) holds_here sent (Under w.frames) (Under Marked.frames) (IsSaid w.lines) (but_delivered k f m w.frames at is) (λ b l. l) (subst (λ g. I g (Under w.frames) (IsSaid w.lines)) here flown))
       where
         sent : In (post_of f.from To m) h.sent
         sent = frame_sent k f m h.sent w.frames at is h.stands.frames
 
-        by : (r : Handled) → taken To There.disk Memory f.from m ≡ r → Brought hd P keeps gives homes nodes To (coords (up To There.disk Memory (see h.sent w)).nodes) (Under Marked.frames) (IsSaid w.lines) r
-            → is_up_at To (step_with To Mine (handled_step k Mine r) Marked arm) ≡ true → (step_with To Mine (handled_step k Mine r) Marked arm).full ≡ false → Covered nodes (step_with To Mine (handled_step k Mine r) Marked arm)
-        by (Void outs) so brought live = was_done (λ z. z.full ≡ false → Covered nodes z) To Mine (handled_step k Mine (Void outs)) Marked arm mine_there live
-            (λ arms fits. void_covered (Under Marked.frames) (body.Void k) (λ p u. u) (brought_of nodes (coords (up To There.disk Memory (see h.sent w)).nodes) (coords (λ j. at_place j w.nodes)) (Under Marked.frames) (IsSaid w.lines) (λ c. sym (here c)) brought) outs arms fits)
-        by (Took v outs) so brought live = was_done (λ z. z.full ≡ false → Covered nodes z) To Mine (handled_step k Mine (Took v outs)) Marked arm mine_there live
-            (did_covered To There.disk v (Say (body.Got k) ∷ []) outs (Under Marked.frames) h.sent Marked Mine mine_there (λ p u. u)
-            (keeps.message w.event To There.disk Memory v f.from m outs (see h.sent w) holds_here sent (taken_meant To There.disk Memory v f.from m outs so) (taken_took To There.disk Memory v f.from m outs so))
-            (brought_of nodes (put To v.coord (coords (up To There.disk Memory (see h.sent w)).nodes)) (put To v.coord (coords (λ j. at_place j w.nodes))) (Then (Under Marked.frames) To outs) (IsSaid w.lines) (λ c. sym (put_like To v.coord (coords (up To There.disk Memory (see h.sent w)).nodes) (coords (λ j. at_place j w.nodes)) here c)) brought))
+        by : (r : Handled) → taken To There.disk Memory f.from m ≡ r → Left I To Begins (nodes_in w) (Under Marked.frames) (IsSaid w.lines) r
+            → is_up_at To (step_with To Mine (handled_step k Mine r) Marked arm) ≡ true → (step_with To Mine (handled_step k Mine r) Marked arm).full ≡ false → Flown I more (step_with To Mine (handled_step k Mine r) Marked arm)
+        by (Void outs) so i live = was_done (λ z. z.full ≡ false → Flown I more z) To Mine (handled_step k Mine (Void outs)) Marked arm mine_there live (λ arms fits. void_flown (Under Marked.frames) (body.Void k) (λ p u. u) i outs (Say (body.Got k) ∷ outs) arms fits)
+        by (Took v outs) so i live = was_done (λ z. z.full ≡ false → Flown I more z) To Mine (handled_step k Mine (Took v outs)) Marked arm mine_there live
+            (did_flown To There.disk v (Say (body.Got k) ∷ []) outs (Under Marked.frames) h.sent Marked Mine mine_there (λ p u. u)
+            (keeps.message w.event To There.disk Memory v f.from m outs (see h.sent w) holds_here sent (taken_meant To There.disk Memory v f.from m outs so) (taken_took To There.disk Memory v f.from m outs so)) i)
 
-    frame_covered : let i : Input = input.Frame k f.from f.message in is_up_at To (steps To i Marked) ≡ true → (steps To i Marked).full ≡ false → Covered nodes (steps To i Marked)
-    frame_covered = subst (λ o. is_up_at To (step_node To (input.Frame k f.from f.message) Marked o) ≡ true → (step_node To (input.Frame k f.from f.message) Marked o).full ≡ false → Covered nodes (step_node To (input.Frame k f.from f.message) Marked o)) (sym mine_there) (by f.message refl)
+    frame_flown : let i : Input = input.Frame k f.from f.message in is_up_at To (steps To i Marked) ≡ true → (steps To i Marked).full ≡ false → Flown I more (steps To i Marked)
+    frame_flown = subst (λ o. is_up_at To (step_node To (input.Frame k f.from f.message) Marked o) ≡ true → (step_node To (input.Frame k f.from f.message) Marked o).full ≡ false → Flown I more (step_node To (input.Frame k f.from f.message) Marked o)) (sym mine_there) (by f.message refl)
       where
-        by : (o : Option Message) → f.message ≡ o → is_up_at To (step_node To (input.Frame k f.from o) Marked (Some Mine)) ≡ true → (step_node To (input.Frame k f.from o) Marked (Some Mine)).full ≡ false → Covered nodes (step_node To (input.Frame k f.from o) Marked (Some Mine))
-        by None none live = was_done (λ z. z.full ≡ false → Covered nodes z) To Mine (step w.header Mine (input.Frame k f.from None)) Marked (at_number To w.arms) mine_there live
-            (λ arms fits. void_covered (Under w.frames) (body.Void k) (junk_delivered k f w.frames at none) covered [] arms fits)
-        by (Some m) is live = message_covered m is (at_number To w.arms) live
+        by : (o : Option Message) → f.message ≡ o → is_up_at To (step_node To (input.Frame k f.from o) Marked (Some Mine)) ≡ true → (step_node To (input.Frame k f.from o) Marked (Some Mine)).full ≡ false → Flown I more (step_node To (input.Frame k f.from o) Marked (Some Mine))
+        by None none live = was_done (λ z. z.full ≡ false → Flown I more z) To Mine (step w.header Mine (input.Frame k f.from None)) Marked (at_number To w.arms) mine_there live
+            (λ arms fits. void_flown (Under w.frames) (body.Void k) (junk_delivered k f w.frames at none) (subst (λ g. I g (Under w.frames) (IsSaid w.lines)) here flown) [] (Say (body.Got k) ∷ []) arms fits)
+        by (Some m) is live = message_flown m is (at_number To w.arms) live
 
-  deliver_covered : (k : ℕ) (w : World) → Holds hd P w → lowest_from 1 w.frames ≡ Some k → Covered nodes w → Ups hd (deliver k w) → (deliver k w).full ≡ false → Covered nodes (deliver k w)
-  deliver_covered k w h low covered ups = by (at_place k w.frames) refl (ups (let f = o.frame in f.to) of)
+module _ (hd : Header) (P : Seen → Type 0) (keeps : KeepsAsked hd P) (within : (M : Seen) (p : Post) → P M → In p M.sent → Of hd p.to) (I : (ℕ → Option Node) → (Post → Type 0) → (Body → Type 0) → Type 0) (more : MayGrow I) (message : MessagesKeep P I) where
+  deliver_flown : (k : ℕ) (w : World) → Holds hd P w → lowest_from 1 w.frames ≡ Some k → Flown I more w → Ups hd (deliver k w) → (deliver k w).full ≡ false → Flown I more (deliver k w)
+  deliver_flown k w h low flown ups = by (at_place k w.frames) refl (ups (let f = o.frame in f.to) of)
     where
       o : IsOpenAt 1 k w.frames
       o = lowest_open 1 k w.frames low
@@ -467,18 +472,18 @@ module _ (hd : Header) (P : Seen → Type 0) (keeps : Keeps hd P) (gives : Answe
         where
           by : (m : Option Message) → (let f = o.frame in f.message) ≡ m → Of hd (let f = o.frame in f.to)
           by None none = subst (HasPlace hd (let f = o.frame in f.to)) none (frame_placed k o.frame hd w.frames there h.stands.junk)
-          by (Some m) is = gives.within (see h.sent w) (post_of (let f = o.frame in f.from) (let f = o.frame in f.to) m) h.holds (frame_sent k o.frame m h.sent w.frames there is h.stands.frames)
+          by (Some m) is = within (see h.sent w) (post_of (let f = o.frame in f.from) (let f = o.frame in f.to) m) h.holds (frame_sent k o.frame m h.sent w.frames there is h.stands.frames)
 
-      by : (x : Option Frame) → at_place k w.frames ≡ x → is_up_at (let f = o.frame in f.to) (deliver_frame k w x) ≡ true → (deliver_frame k w x).full ≡ false → Covered nodes (deliver_frame k w x)
+      by : (x : Option Frame) → at_place k w.frames ≡ x → is_up_at (let f = o.frame in f.to) (deliver_frame k w x) ≡ true → (deliver_frame k w x).full ≡ false → Flown I more (deliver_frame k w x)
       by None none = let no_way : ◌≡◌ {A = Option Frame} None (Some o.frame) = sym none ∙ there in absurd (cc no_way)
       by (Some f) is =
           let same : f ≡ o.frame = some_is f o.frame (sym is ∙ there) in
           let live = live_at f.to w (deliver_up hd k w ups f.to (subst (λ (g : Frame). Of hd g.to) (sym same) of)) in
-          λ up fits. frame_covered k f w h live is covered (subst (λ (g : Frame). is_up_at g.to (deliver_frame k w (Some f)) ≡ true) (sym same) up) fits
+          λ up fits. frame_flown hd P keeps I more message k f w h live is flown (subst (λ (g : Frame). is_up_at g.to (deliver_frame k w (Some f)) ≡ true) (sym same) up) fits
 
-  pub settle_covered : (fuel : ℕ) (w : World) → Holds hd P w → Covered nodes w → Ups hd (settle_for fuel w) → (settle_for fuel w).full ≡ false → Covered nodes (settle_for fuel w)
-  settle_covered zero w h covered ups fits = covered
-  settle_covered (suc fuel) w h covered ups fits = by (lowest w) refl (λ v. settle_covered fuel v) ups fits
+  pub settle_flown : (fuel : ℕ) (w : World) → Holds hd P w → Flown I more w → Ups hd (settle_for fuel w) → (settle_for fuel w).full ≡ false → Flown I more (settle_for fuel w)
+  settle_flown zero w h flown ups fits = flown
+  settle_flown (suc fuel) w h flown ups fits = by (lowest w) refl (λ v. settle_flown fuel v) ups fits
     where
       low_is : (k : ℕ) → lowest w ≡ Some k → lowest_from 1 w.frames ≡ Some k
       low_is k = one w.full
@@ -487,52 +492,25 @@ module _ (hd : Header) (P : Seen → Type 0) (keeps : Keeps hd P) (gives : Answe
           one true is = absurd (cc is)
           one false is = is
 
-      by : (o : Option ℕ) → lowest w ≡ o → ((v : World) → Holds hd P v → Covered nodes v → Ups hd (settle_for fuel v) → (settle_for fuel v).full ≡ false → Covered nodes (settle_for fuel v))
-          → Ups hd (after_lowest fuel w o) → (after_lowest fuel w o).full ≡ false → Covered nodes (after_lowest fuel w o)
-      by None is ih ups fits = covered
-      by (Some k) is ih ups fits = ih (deliver k w) (deliver_holds hd P (keeps_asked hd P keeps) k w h) (deliver_covered k w h (low_is k is) covered (settle_up hd fuel (deliver k w) ups) (settle_full fuel (deliver k w) fits)) ups fits
+      by : (o : Option ℕ) → lowest w ≡ o → ((v : World) → Holds hd P v → Flown I more v → Ups hd (settle_for fuel v) → (settle_for fuel v).full ≡ false → Flown I more (settle_for fuel v))
+          → Ups hd (after_lowest fuel w o) → (after_lowest fuel w o).full ≡ false → Flown I more (after_lowest fuel w o)
+      by None is ih ups fits = flown
+      by (Some k) is ih ups fits = ih (deliver k w) (deliver_holds hd P keeps k w h) (deliver_flown k w h (low_is k is) flown (settle_up hd fuel (deliver k w) ups) (settle_full fuel (deliver k w) fits)) ups fits
 
 -- ---- ticks
 
-again_doing : (ds : List Doing) (c : Coord) (w : Uid) → doing_of w (again_all ds c).part ≡ doing_of w c
-again_doing [] c w = refl
-again_doing (d ∷ ds) c w = again_doing ds (again_now c d.now).part w ∙ by d.now
-  where
-    by : (n : Now) → doing_of w (again_now c n).part ≡ doing_of w c
-    by Idle = refl
-    by (Calling s) = refl
-    by (Committing m) = all_doing (plan_of m).path (plan_of m).req (waiting m) c w
+-- what holds of nodes and of what is under way becomes this by a node's tick
+abbrev pub TicksGive : (Seen → Type 0) → ℕ → ((ℕ → Option Node) → (Post → Type 0) → (Body → Type 0) → Type 0) → ((ℕ → Option Node) → (Post → Type 0) → (Body → Type 0) → Type 0) → Type 1
+TicksGive P n I J = (d : Disk) (t : Parts) (M : Seen) → P (up n d t M) → (F : Post → Type 0) (B : Body → Type 0) → I (up n d t M).nodes F B
+    → let outs = tick_outs (record { number = n; disk = d; live = Some t }) t in J (with_here n (record { disk = works outs d; parts = with_coord t (again_all t.coord.doings t.coord).part }) M.nodes) (Then F n outs) B
 
--- what somebody waits for is asked again
-again_asked : (w : Want) (ds : List Doing) (c : Coord) (q : Doing) → members.In q ds → ((e : Coord) → AsksIn (again_now e q.now).outs w) → AsksIn (again_all ds c).outs w
-again_asked w [] c q i each = absurd i
-again_asked w (d ∷ ds) c q (inl is) each = let a = subst (λ (x : Doing). AsksIn (again_now c x.now).outs w) (sym is) (each c) in record { message = a.message; sent = in_left (Send w.node a.message) (again_now c d.now).outs (again_all ds (again_now c d.now).part).outs a.sent; asks = a.asks }
-again_asked w (d ∷ ds) c q (inr i) each = let a = again_asked w ds (again_now c d.now).part q i each in record { message = a.message; sent = in_right (Send w.node a.message) (again_now c d.now).outs (again_all ds (again_now c d.now).part).outs a.sent; asks = a.asks }
-
-doing_there : (u : Uid) (c : Coord) (q : Doing) → doing_of u c ≡ Some q → members.In q c.doings
-doing_there u c q = by (is_own u c.tree)
-  where
-    sliced : (k : ℕ) (xs : List Doing) → slice_get xs k ≡ Some q → members.In q xs
-    sliced k [] is = absurd (cc is)
-    sliced zero (x ∷ xs) is = inl (some_is x q is)
-    sliced (suc k) (x ∷ xs) is = inr (sliced k xs is)
-
-    placed : (k : ℕ) (xs : List Doing) → at_place k xs ≡ Some q → members.In q xs
-    placed zero xs is = absurd (cc is)
-    placed (suc k) xs is = sliced k xs is
-
-    by : (b : Bool) → (if b then at_place u.num c.doings else None) ≡ Some q → members.In q c.doings
-    by true is = placed u.num c.doings is
-    by false is = absurd (cc is)
-
-module _ (hd : Header) (P : Seen → Type 0) (keeps : Keeps hd P) (gives : AnswersWaits hd P) (homes : (k : ℕ) (d : Disk) (t : Parts) (M : Seen) → P (up k d t M) → IsHome t.coord) where
-  abbrev pub Also : (ℕ → Type 0) → ℕ → ℕ → Type 0
-  Also nodes n k = nodes k ⊎ (k ≡ n)
-
-  -- after its tick a node is covered too
-  pub tick_covered : (nodes : ℕ → Type 0) (n : ℕ) (w : World) → Holds hd P w → Covered nodes w → is_up_at n w ≡ true → is_up_at n (steps n input.Tick w) ≡ true → (steps n input.Tick w).full ≡ false → Covered (Also nodes n) (steps n input.Tick w)
-  tick_covered nodes n w h covered was = subst (λ o. is_up_at n (step_node n input.Tick w o) ≡ true → (step_node n input.Tick w o).full ≡ false → Covered (Also nodes n) (step_node n input.Tick w o)) (sym (x.there ∙ ap Some mine_is)) (λ live. was_done (λ z. z.full ≡ false → Covered (Also nodes n) z) n mine (step w.header mine input.Tick) w (at_number n w.arms) (x.there ∙ ap Some mine_is) live
-      (did_covered hd P keeps gives homes (Also nodes n) n (let a = x.node in a.disk) (with_coord t d.part) [] outs (Under w.frames) h.sent w mine (x.there ∙ ap Some mine_is) (λ p u. u) (keeps.tick w.event n (let a = x.node in a.disk) t (see h.sent w) here) ticked))
+module _ (hd : Header) (P : Seen → Type 0) (keeps : KeepsAsked hd P) (I J : (ℕ → Option Node) → (Post → Type 0) → (Body → Type 0) → Type 0) (more : MayGrow I) (most : MayGrow J) (message : MessagesKeep P J) where
+  pub tick_flown : (n : ℕ) (w : World) → Holds hd P w → Flown I more w → TicksGive P n I J → is_up_at n w ≡ true → is_up_at n (steps n input.Tick w) ≡ true → (steps n input.Tick w).full ≡ false → Flown J most (steps n input.Tick w)
+  tick_flown n w h flown gives was = subst (λ o. is_up_at n (step_node n input.Tick w o) ≡ true → (step_node n input.Tick w o).full ≡ false → Flown J most (step_node n input.Tick w o)) (sym there)
+      (λ live. was_done (λ z. z.full ≡ false → Flown J most z) n mine (step w.header mine input.Tick) w (at_number n w.arms) there live
+      (did_flown hd P keeps J most message n (let a = x.node in a.disk) (with_coord t (again_all (let c = t.coord in c.doings) t.coord).part) [] (tick_outs mine t) (Under w.frames) h.sent w mine there (λ p u. u)
+      (keeps.tick w.event n (let a = x.node in a.disk) t (see h.sent w) here)
+      (gives (let a = x.node in a.disk) t (see h.sent w) here (Under w.frames) (IsSaid w.lines) (subst (λ g. I g (Under w.frames) (IsSaid w.lines)) (there_here n (record { disk = (let a = x.node in a.disk); parts = t }) w.nodes there) flown))))
     where
       x : IsLive n w
       x = live_at n w was
@@ -543,57 +521,8 @@ module _ (hd : Header) (P : Seen → Type 0) (keeps : Keeps hd P) (gives : Answe
       mine : Node
       mine = record { number = n; disk = (let a = x.node in a.disk); live = Some t }
 
-      mine_is : x.node ≡ mine
-      mine_is = let num = h.stands.numbers n x.node x.there in λ i. record { number = num i; disk = (let a = x.node in a.disk); live = x.live i }
-
-      d : Did Coord
-      d = again_all (let c = t.coord in c.doings) t.coord
-
-      outs : List Effect
-      outs = tick_outs mine t
+      there : at_place n w.nodes ≡ Some mine
+      there = x.there ∙ ap Some (let num = h.stands.numbers n x.node x.there in λ i. record { number = num i; disk = (let a = x.node in a.disk); live = x.live i })
 
       here : P (up n (let a = x.node in a.disk) t (see h.sent w))
       here = seen_up P n x.node t h.sent w x.there (h.stands.numbers n x.node x.there) x.live h.holds
-
-      home : IsHome t.coord
-      home = homes n (let a = x.node in a.disk) t (see h.sent w) here
-
-      sent : (v : Want) → AsksIn d.outs v → HasWay (Then (Under w.frames) n outs) n v
-      sent v a = record { post = post_of n v.node a.message; under_way = inr (refl, in_left (Send v.node a.message) (d.outs ++ tolds_again (let c = t.coord in c.telling)) (map query_about (holders (let a = x.node in a.disk) t)) (in_left (Send v.node a.message) d.outs (tolds_again (let c = t.coord in c.telling)) a.sent)); brings = Asking refl refl a.asks }
-
-      old : (k : ℕ) (v : Want) → HasWay (Under w.frames) k v → HasWay (Then (Under w.frames) n outs) k v
-      old k v way = record { post = way.post; under_way = inl way.under_way; brings = way.brings }
-
-      before : (k : ℕ) → Also nodes n k → (k == n) ≡ false → nodes k
-      before k (inl there) apart = there
-      before k (inr is) apart = absurd (cc (sym (ap (λ j. j == n) is ∙ number_same n) ∙ apart))
-        where
-          number_same : (j : ℕ) → (j == j) ≡ true
-          number_same j = grind (arith, nat_tests)
-
-      was_there : (u : Uid) (c : Coord) (q : Doing) → Some d.part ≡ Some c → doing_of u c ≡ Some q → doing_of u t.coord ≡ Some q
-      was_there u c q is does = sym (again_doing (let c = t.coord in c.doings) t.coord u) ∙ ap (doing_of u) (some_is d.part c is) ∙ does
-
-      ticked : AreBrought (Also nodes n) (put n d.part (coords (λ j. at_place j w.nodes))) (Then (Under w.frames) n outs) (IsSaid w.lines)
-      ticked = record {
-        calls = λ k c u q s there found does now. call k c u q s there (k == n) refl found does now;
-        commits = λ k c u q m j there found does now left. commit k c u q m j there (k == n) refl found does now left;
-      }
-        where
-          call : (k : ℕ) (c : Coord) (u : Uid) (q : Doing) (s : Steps) → Also nodes n k → (b : Bool) → (k == n) ≡ b → (if b then Some d.part else coords (λ j. at_place j w.nodes) k) ≡ Some c → doing_of u c ≡ Some q → q.now ≡ Calling s
-              → IsOvertaken (IsSaid w.lines) s ⊎ HasWay (Then (Under w.frames) n outs) k (want_of_call u s)
-          call k c u q s there false apart found does now = ⊎_elim (λ o. inl o) (λ way. inr (old k (want_of_call u s) way)) (covered.calls k c u q s (before k there apart) found does now)
-          call k c u q s there true same found does now =
-              let here = was_there u c q found does in
-              let asked = again_asked (want_of_call u s) (let c = t.coord in c.doings) t.coord q (doing_there u t.coord q here)
-              (λ e. subst (λ z. AsksIn (again_now e z).outs (want_of_call u s)) (sym now) (step_asked u s (ends_of (root_of s.path) e.tree) (asks_step s e).outs (home.calls u q s here now) (inl refl))) in
-              inr (subst (λ j. HasWay (Then (Under w.frames) n outs) j (want_of_call u s)) (sym (eqb-true k n same)) (sent (want_of_call u s) asked))
-
-          commit : (k : ℕ) (c : Coord) (u : Uid) (q : Doing) (m : Machine) (j : ℕ) → Also nodes n k → (b : Bool) → (k == n) ≡ b → (if b then Some d.part else coords (λ j. at_place j w.nodes) k) ≡ Some c → doing_of u c ≡ Some q → q.now ≡ Committing m → has (left_of m) j ≡ true
-              → HasWay (Then (Under w.frames) n outs) k (want_of_commit u m j)
-          commit k c u q m j there false apart found does now left = old k (want_of_commit u m j) (covered.commits k c u q m j (before k there apart) found does now left)
-          commit k c u q m j there true same found does now left =
-              let here = was_there u c q found does in
-              let asked = again_asked (want_of_commit u m j) (let c = t.coord in c.doings) t.coord q (doing_there u t.coord q here)
-              (λ e. subst (λ z. AsksIn (again_now e z).outs (want_of_commit u m j)) (sym now) (machine_asked u m e j (home.commits u q m here now) left)) in
-              subst (λ i. HasWay (Then (Under w.frames) n outs) i (want_of_commit u m j)) (sym (eqb-true k n same)) (sent (want_of_commit u m j) asked)
