@@ -18,3 +18,4 @@ pub mod Taking
 pub mod Turning
 pub mod Includes
 pub mod Including
+pub mod Seeing

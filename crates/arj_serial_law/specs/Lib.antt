@@ -4,5 +4,6 @@ pub mod Decided
 pub mod Files
 pub mod Locked
 pub mod Runs
+pub mod Seen
 pub mod Tied
 pub mod Turns

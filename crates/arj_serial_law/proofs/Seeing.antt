@@ -1,0 +1,93 @@
+-- A run of which the lock machine of each object sees so much is serial.
+use Rattle.std.proofs.Common.{ℕ, List, refl, subst}
+use Rattle.arj_base.specs.Uid.{nobody}
+use Rattle.arj_journal.specs.declared.body.Line.{Line}
+use Rattle.arj_law.proofs.Nested.{nested_law}
+use Rattle.arj_law.proofs.Order.{order_law}
+use Rattle.arj_model.specs.Last.{first_values}
+use Rattle.arj_model.specs.Serial.{Serial, Values}
+use Rattle.arj_part_law.specs.Actions.{Action, paths_of}
+use Rattle.arj_protocol.specs.World.{journal}
+use Rattle.arj_line_law.specs.Book.{new_book}
+use Rattle.arj_line_law.specs.Paths.{AreAlike, IsAlikeOf}
+use Rattle.arj_line_law.specs.Right.{AreRight}
+use Rattle.arj_line_law.proofs.Models.{its_acts}
+use Rattle.arj_line_law.proofs.Runs.{run_written}
+use Rattle.arj_lock_fact_law.specs.Given.{SentWants}
+use Rattle.arj_lock_fact_law.proofs.Wants.{requests_want}
+use Rattle.arj_lock_law.specs.State.{State}
+use Rattle.arj_lock_run_law.specs.Fixed.{Agrees, Fixed, view_of}
+use Rattle.arj_lock_run_law.specs.Sees.{SeesLocks}
+use Rattle.arj_lock_run_law.specs.Tied.{AreTied as AreTiedNow}
+use Rattle.arj_lock_run_law.proofs.KeptSteps.{runs_keep_locks}
+use Rattle.arj_lock_view_law.specs.Families.{acts_of}
+use Rattle.arj_lock_view_law.specs.Servers.{Wants}
+use Rattle.arj_lock_view_law.specs.Telling.{AreOneTree}
+use Rattle.arj_lock_view_law.proofs.FamilySteps.{families_are_trees}
+use Rattle.arj_view_law.specs.Seen.{Seen}
+use Rattle.arj_serial_law.specs.Codes.{code_of}
+use Rattle.arj_serial_law.specs.Seen.{GivenRunsAreSerial, KnowsRequests, LockedRunsAreSerial}
+use Rattle.arj_serial_law.specs.Tied.{IsTied}
+use Rattle.arj_serial_law.proofs.Begun.{begun_have_places}
+use Rattle.arj_serial_law.proofs.Codes.{codes_are_apart}
+use Rattle.arj_serial_law.proofs.Order.{all_freed, all_in_order, all_in_time}
+use Rattle.arj_serial_law.proofs.Ties.{Ties, ties_of}
+use Rattle.arj_serial_law.proofs.Values.{are_answered}
+
+-- in places and codes of its own
+module _ (values : Values) (x : ℕ) (M : Seen) (begun : List Action) (alike : IsAlikeOf begun M) (seen : (f : Fixed) → Agrees f x begun M.sent → (S : State) × SeesLocks f x begun S M × AreTiedNow f x M.lines S) (knows : KnowsRequests M) where
+  right : AreRight new_book M.lines
+  right = let w = alike.2 in w.right
+
+  tree : AreOneTree (record { begun = begun; paths = paths_of begun; act = acts_of begun })
+  tree = families_are_trees begun (let g = alike.0 in g.begun)
+
+  wants : (w : Wants) × SentWants x M.sent w
+  wants = requests_want x M.sent knows.one (λ p there h a is. knows.numbered p there h a is)
+
+  abbrev f : Fixed
+  f = record { act = acts_of begun; paths = paths_of begun; code = code_of; wants = wants.0; first = code_of (values x) (acts_of begun nobody) }
+
+  agrees : Agrees f x begun M.sent
+  agrees = record { whole = tree; wanted = λ p h a there is. wants.1 (view_of f x begun p.to) p h a refl refl there is }
+
+  locked_tied : (S : State) × IsTied values M.lines x S
+  locked_tied = let s = seen f agrees in (
+    s.0,
+    record {
+      act = acts_of begun;
+      code = code_of;
+      apart = codes_are_apart;
+      places = begun_have_places begun (paths_of begun) (acts_of begun) M.lines right (subst (AreAlike begun) (its_acts M.lines right) alike.1) tree;
+      first = code_of (values x) (acts_of begun nobody);
+      run = (let z = s.1 in z.run);
+      tied = s.2 values refl;
+    },
+  )
+
+pub locked_runs_are_serial : LockedRunsAreSerial
+locked_runs_are_serial hd es locked = (
+  serial,
+  nested_law values lines serial (all_freed values lines right tied) (all_in_time values lines right tied),
+)
+  where
+    values : Values
+    values = first_values hd
+
+    lines : List Line
+    lines = journal hd es
+
+    right : AreRight new_book lines
+    right = let w = run_written hd es in let z = w.1 in z.right
+
+    tied : Ties values lines
+    tied = ties_of values lines (λ x called. (let h = locked x called in (let z = h.holds in locked_tied values x _ z.0 z.1 z.2 z.3)))
+
+    serial : Serial values lines
+    serial = order_law values lines (all_in_order values lines right tied) (are_answered values lines right tied)
+
+pub given_runs_are_serial : GivenRunsAreSerial
+given_runs_are_serial hd es before test everywhere requests gives = locked_runs_are_serial hd es (λ x called.
+    let g = gives x called in
+    let h = runs_keep_locks hd x before (test x) g.0 g.1 everywhere es in
+    record { sent = h.sent; stands = h.stands; holds = (let z = h.holds in (z.1.0, z.1.1, z.1.3, requests _ z.0)) })

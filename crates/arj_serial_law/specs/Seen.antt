@@ -1,0 +1,59 @@
+-- What the lock machines have to see of a run for its journal to be serial, and what gives that.
+use Rattle.std.specs.Prelude.{◌≡◌, ℕ, ◌==◌, Bool, true, List, Some}
+use Rattle.std.specs.List.{list_any}
+use Rattle.arj_journal.specs.declared.body.Line.{Line}
+use Rattle.arj_journal.specs.declared.header.Header.{Header}
+use Rattle.arj_law.specs.Nested.{nested_calls}
+use Rattle.arj_model.specs.Actions.{Placed}
+use Rattle.arj_model.specs.Calls.{Said, said}
+use Rattle.arj_model.specs.Last.{first_values}
+use Rattle.arj_model.specs.Serial.{Answers, Serial}
+use Rattle.arj_protocol.specs.Words.{Ask, Head, asks}
+use Rattle.arj_protocol.specs.World.{Asked, format, journal, run_all}
+use Rattle.arj_lock_law.specs.State.{State}
+use Rattle.arj_part_law.specs.Actions.{Action}
+use Rattle.arj_call_law.specs.Servers.{AreOneCall}
+use Rattle.arj_line_law.specs.Paths.{IsAlikeOf}
+use Rattle.arj_view_law.specs.Keeps.{Holds, Keeps}
+use Rattle.arj_view_law.specs.Seen.{In, Post, Seen}
+use Rattle.arj_lock_fact_law.specs.Acts.{KeepsOf}
+use Rattle.arj_lock_fact_law.specs.Worlds.{IsFromOne}
+use Rattle.arj_lock_run_law.specs.Fixed.{Agrees, Fixed}
+use Rattle.arj_lock_run_law.specs.Kept.{GivesLocks}
+use Rattle.arj_lock_run_law.specs.Sees.{SeesLocks}
+use Rattle.arj_lock_run_law.specs.Tied.{AreTied}
+
+-- a call on the object was answered
+abbrev pub IsCalled : ℕ → List Line → Type 0
+IsCalled x lines = list_any (λ (s : Placed Said). s.it.x == x) (said lines) ≡ true
+
+-- calls of one request are one, and have numbers from 1 on
+pub record KnowsRequests (M : Seen) : Type 0 where
+  pub one : AreOneCall M.sent
+  pub numbered : (p : Post) → In p M.sent → (h : Head) (a : Ask) → asks (let q = p in q.message) ≡ Some (h, a) → IsFromOne h a
+
+-- The actions that were begun are those of the journal, and for all that may be fixed and agrees with them the object is seen in a state of
+-- its lock machine, to which the journal is tied.
+abbrev pub IsLocked : ℕ → Seen → Type 0
+IsLocked x M = (begun : List Action) × IsAlikeOf begun M × ((f : Fixed) → Agrees f x begun M.sent → (S : State) × SeesLocks f x begun S M × AreTied f x M.lines S) × KnowsRequests M
+
+-- so it is at the end of this run, of each object of which a call was answered
+abbrev pub AreLocked : Header → List Asked → Type 0
+AreLocked hd es = (x : ℕ) → IsCalled x (journal hd es) → Holds hd (IsLocked x) (run_all es (format hd))
+
+-- its journal is serial, and its calls give the same answers where each committed nested action runs whole at its commit
+abbrev pub IsSerialRun : Header → List Asked → Type 0
+IsSerialRun hd es = Serial (first_values hd) (journal hd es) × Answers (first_values hd) (nested_calls (journal hd es))
+
+-- a run of which the lock machines see so much is serial
+abbrev pub LockedRunsAreSerial : Type 0
+LockedRunsAreSerial = (hd : Header) (es : List Asked) → AreLocked hd es → IsSerialRun hd es
+
+-- a relation of the actions that were begun is kept, beside what holds everywhere, and gives what handlers count on
+abbrev pub IsGiven : Header → ℕ → (Seen → Bool) → (List Action → Seen → Bool) → Type 0
+IsGiven hd x before test = KeepsOf hd (λ begun M. before M ≡ true) (λ begun M. test begun M ≡ true) × ((f : Fixed) → GivesLocks hd f x (λ begun M. (before M ≡ true) × (test begun M ≡ true)))
+
+-- Where there is one for each object of which a call was answered, and what holds everywhere knows requests, the run is serial.
+abbrev pub GivenRunsAreSerial : Type 0
+GivenRunsAreSerial = (hd : Header) (es : List Asked) (before : Seen → Bool) (test : ℕ → List Action → Seen → Bool)
+    → Keeps hd (λ M. before M ≡ true) → ((M : Seen) → before M ≡ true → KnowsRequests M) → ((x : ℕ) → IsCalled x (journal hd es) → IsGiven hd x before (test x)) → IsSerialRun hd es
