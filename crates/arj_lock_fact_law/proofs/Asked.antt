@@ -1,27 +1,31 @@
--- In which step a call waits behind an answer.
-use Rattle.std.proofs.Common.{◌≡◌, ◌∙◌, ◌⊎◌, ◌+◌, ◌==◌, ℕ, List, [], ◌∷◌, Bool, true, false, cond, Option, Some, None, refl, sym, ap, subst, inl, inr, ⊎_elim}
+-- In which steps calls and includes wait, behind all that a coordinator does.
+use Rattle.std.proofs.Common.{◌≢◌, ◌++◌, zero, suc, ◌≡◌, ◌∙◌, ◌⊎◌, ◌+◌, ◌==◌, ℕ, List, [], ◌∷◌, Bool, true, false, cond, Option, Some, None, refl, sym, ap, subst, inl, inr, ⊎_elim}
 use Rattle.std.specs.Prelude.{⊤}
-use Rattle.arj_protocol.specs.Words.{Asked, Uid}
+use Rattle.arj_protocol.specs.Words.{Asked, Binding, Header, Kind, Label, Path, Uid}
 use Rattle.arj_protocol.specs.Words.bound
 use Rattle.arj_protocol.specs.Words.invoked
 use Rattle.arj_protocol.specs.Words.loaded
 use Rattle.arj_protocol.specs.Words.recorded
 use Rattle.arj_protocol.specs.Ask.{Reply, actor}
-use Rattle.arj_protocol.specs.Asking.{doomed_by, heard, heard_call, kept_at, root_heard, root_moved, step_call, waits_for_call}
+use Rattle.arj_protocol.specs.Asking.{again_all, begin_action, call_steps, doomed_by, goes_on, heard, heard_call, kept_at, next_req, renewed, root_heard, root_lost, root_moved, step_call, waits_for_call}
 use Rattle.arj_protocol.specs.Call as calls
-use Rattle.arj_protocol.specs.Call.{At, AtActivate, AtBind, AtInvoke, AtLoad, AtNote, CallEnd, CallStep, Ended, Goal, Include, Known, On, Run, Steps, activated_by, answered, bound_by, live_known, load_from, made_by, made_known, or_lost, other_binding, same_binding, with_inc, write_known}
+use Rattle.arj_protocol.specs.Call.{At, AtActivate, AtBind, AtInvoke, AtLoad, AtNote, CallEnd, CallStep, Ended, Goal, Include, Known, On, Run, Steps, activated_by, answered, bound_by, given_up, live_known, load_from, made_by, made_known, or_lost, other_binding, same_binding, start, with_inc, write_known}
 use Rattle.arj_protocol.specs.Commit.{plan_of}
-use Rattle.arj_protocol.specs.Coord.{Calling, Committing, Coord, Doing, Idle, doing_of, is_free, on_doing, on_root}
+use Rattle.arj_protocol.specs.Coord.{Calling, Committing, Coord, Doing, Idle, doing_of, is_free, keeping_of, new_coord, on_doing, on_root, root_at, with_keeping}
 use Rattle.arj_protocol.specs.Effect.{Intent}
-use Rattle.arj_protocol.specs.Order.{binding_eq, binding_less}
-use Rattle.arj_protocol.specs.Tree.{Tree, at_place, doomed_at, ended_at, is_own, root_of}
+use Rattle.arj_protocol.specs.Ending.{acked}
+use Rattle.arj_protocol.specs.Order.{binding_eq, binding_less, unbound}
+use Rattle.arj_protocol.specs.Step as input
+use Rattle.arj_protocol.specs.Step.{Input, acts, parent_of, refusal_up}
+use Rattle.arj_protocol.specs.Tree.{Tree, at_place, doomed_at, ended_at, is_own, root_of, uses_object}
 use Rattle.arj_coord_law.proofs.CoordUses.{on_cases}
-use Rattle.arj_part_law.proofs.GoodCoords.{doomed_same}
+use Rattle.arj_part_law.proofs.GoodCoords.{doomed_same, uses_same}
+use Rattle.arj_part_law.proofs.GoodTrees.{get_more}
 use Rattle.arj_part_law.proofs.Settled.{end_tree_on}
 use Rattle.arj_address_law.specs.Binds.{AnswersWaiting}
 use Rattle.arj_view_law.specs.Seen.{Post}
 use Rattle.arj_lock_fact_law.proofs.Kept.{Place}
-use Rattle.arj_lock_fact_law.proofs.Pieces.{IsStep, Pieces, heard_so}
+use Rattle.arj_lock_fact_law.proofs.Pieces.{IsStep, Pieces, acked_so, acts_so, again_so, heard_so}
 
 -- ---- the step behind an answer
 
@@ -157,11 +161,14 @@ module _ (P : Steps → Type 0) where
     telling = λ i e all u d s found is. all u d s found is;
   }
 
-  waiting_step : (s : Steps) (n : CallStep) (e : Coord) → ((at : At) → n ≡ On at → P (record s { req = s.req + 1; at = at })) → AreWaiting e → AreWaiting (step_call s n e).part
-  waiting_step s (On at) e next all = λ u d w found is. waiting_do (actor s.path) (λ (d : Doing). record d { req = s.req + 1; now = Calling (record s { req = s.req + 1; at = at }) }) e (λ d w found is. one w is) all u d w found is
+  waiting_goes : (s : Steps) (e : Coord) → P s → AreWaiting e → AreWaiting (goes_on s e).part
+  waiting_goes s e its all = λ u d w found is. waiting_do (actor s.path) (λ (d : Doing). record d { req = s.req; now = Calling s }) e (λ d w found is. one w is) all u d w found is
     where
-      one : (w : Steps) → Calling (record s { req = s.req + 1; at = at }) ≡ Calling w → P w
-      one w is = let same : record s { req = s.req + 1; at = at } ≡ w = cc is in subst P same (next at refl)
+      one : (w : Steps) → Calling s ≡ Calling w → P w
+      one w is = let same : s ≡ w = cc is in subst P same its
+
+  waiting_step : (s : Steps) (n : CallStep) (e : Coord) → ((at : At) → n ≡ On at → P (record s { req = s.req + 1; at = at })) → AreWaiting e → AreWaiting (step_call s n e).part
+  waiting_step s (On at) e next all = waiting_goes (record s { req = s.req + 1; at = at }) e (next at refl) all
   waiting_step s (Ended g) e next all = by g
     where
       told : Coord
@@ -187,3 +194,40 @@ module _ (P : Steps → Type 0) where
       calls_on s step on who =
           let m = answered (is_free (root_of s.path) (actor s.path) s.x c) (kept_at s c) s.goal s.at r in
           waiting_step s m.step (on_root (root_of s.path) (root_moved s r m) c) (λ at is. next s step.doing (s.req + 1) at (ap (λ v. doing_of v c) (sym who) ∙ step.found) step.now (all (actor s.path) step.doing s step.found step.now) (subst (IsStepBehind s.at r) is (step_behind (is_free (root_of s.path) (actor s.path) s.x c) (kept_at s c) s.goal s.at r))) (λ u d w found is. all u d w found is)
+
+  -- behind an input, where a step that starts is so, and one that goes on by a giveup
+  pub waiting_acts : (sent : List Post) (k : ℕ) (c : Coord) (place : Place sent k c) (hd : Header) (i : Input) (intents : List (Uid × Intent)) → refusal_up hd i c ≡ None → ((l : Label) (how : Kind) (parent : Option Label) → i ≢ input.Begin l how parent)
+      → ((p : Path) (x : ℕ) (g : Goal) (known : Option Known) (avoid : Binding) (req : ℕ) → P (start p x g known avoid req)) → ((s : Steps) (req : ℕ) (at : At) → P s → given_up s.at ≡ On at → P (record s { req = req; at = at })) → AreWaiting c → AreWaiting (acts i intents c).part
+  waiting_acts sent k c place hd i intents free other starts lost all = acts_so sent k c place AreWaiting (waiting_pieces c all) hd i intents free other
+      (λ b x o found none. waiting_goes (call_steps b.path x o (next_req (actor b.path) c) (root_at (root_of b.path) c) c (renewed (is_free (root_of b.path) (actor b.path) x c) (keeping_of x (root_at (root_of b.path) c)) (keeping_of x (root_at (root_of b.path) c)).kept))
+      (on_root (root_of b.path) (with_keeping x (renewed (is_free (root_of b.path) (actor b.path) x c) (keeping_of x (root_at (root_of b.path) c)) (keeping_of x (root_at (root_of b.path) c)).kept)) (record c { tree = uses_object b.path x c.tree })) (starts b.path x (Run o) _ _ (next_req (actor b.path) c)) (λ u d w found is. waiting_uses b.path x u d w found is))
+      (λ b x s found none. waiting_goes (start b.path x (Include s) None unbound (next_req (actor b.path) c)) (record c { tree = uses_object b.path x c.tree }) (starts b.path x (Include s) None unbound (next_req (actor b.path) c)) (waiting_uses b.path x))
+      (λ s step. waiting_step s (given_up s.at) (on_root (root_of s.path) (root_lost s (given_up s.at)) c) (λ at is. lost s (s.req + 1) at (all (actor s.path) step.doing s step.found step.now) is) (λ u d w found is. all u d w found is))
+    where
+      waiting_uses : (p : Path) (x : ℕ) → AreWaiting (record c { tree = uses_object p x c.tree })
+      waiting_uses p x = let q = uses_same p x c.tree in waiting_own c (uses_object p x c.tree) q.own all
+
+  pub waiting_acked : (sent : List Post) (k : ℕ) (c : Coord) (place : Place sent k c) (from : ℕ) (u : Uid) (intents : List (Uid × Intent)) → AreWaiting c → AreWaiting (acked from u intents c).part
+  waiting_acked sent k c place from u intents all = acked_so sent k c place AreWaiting (waiting_pieces c all) from u intents
+
+  pub waiting_again : (sent : List Post) (k : ℕ) (c : Coord) (place : Place sent k c) → AreWaiting c → AreWaiting (again_all c.doings c).part
+  waiting_again sent k c place all = again_so sent k c place AreWaiting (waiting_pieces c all)
+
+  pub waiting_begins : (l : Label) (how : Kind) (parent : Option Label) (c : Coord) → AreWaiting c → AreWaiting (begin_action l how parent (parent_of parent c) c).part
+  waiting_begins l how parent c all u d w found is = ⊎_elim (λ old. all u d w old is) (λ idle. absurd (let no_way : Idle ≡ Calling w = sym idle ∙ is in cc no_way)) (was (is_own u c.tree) u.num found)
+    where
+      fresh : Doing
+      fresh = record { label = l; req = 0; now = Idle; took = [] }
+
+      was : (b : Bool) (j : ℕ) → cond b (at_place j (c.doings ++ fresh ∷ [])) None ≡ Some d → (cond b (at_place j c.doings) None ≡ Some d) ⊎ (d.now ≡ Idle)
+      was true zero at = absurd (cc at)
+      was true (suc j) at = ⊎_elim (λ old. inl old) (λ its. inr (ap (λ (z : Doing). z.now) (sym its.1))) (get_more j fresh d c.doings at)
+      was false j at = absurd (cc at)
+
+  pub waiting_new : (node inc : ℕ) (telling : List (Uid × Intent)) → AreWaiting (record (new_coord node inc) { telling = telling })
+  waiting_new node inc telling u d w found is = absurd (none (is_own u (let c = new_coord node inc in c.tree)) u.num found)
+    where
+      none : (b : Bool) (j : ℕ) → cond b (at_place j []) None ≡ Some d → ⊥
+      none true zero at = cc at
+      none true (suc j) at = cc at
+      none false j at = cc at

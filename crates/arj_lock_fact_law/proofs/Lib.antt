@@ -23,6 +23,7 @@ pub mod Entries
 pub mod GoodOwners
 pub mod GoodNaming
 pub mod Onward
+pub mod CoordRuns
 pub mod Requests
 pub mod Asked
 pub mod PartSteps
@@ -31,3 +32,4 @@ pub mod LeftCoords
 pub mod PartSends
 pub mod PartWalks
 pub mod Confirms
+pub mod States

@@ -1,67 +1,25 @@
 -- In every run the last request of each action at work is of what it waits for.
-use Rattle.std.proofs.Common.{◌≡◌, ◌≢◌, ◌⊎◌, ◌≤◌, ◌<◌, ◌+◌, ◌==◌, ◌∙◌, arith, ℕ, zero, suc, List, [], ◌∷◌, ◌++◌, Bool, true, false, cond, filter, map, length, Option, Some, None, refl, sym, ap, subst, inl, inr, ⊎_elim, eqb-true, slice_get}
-use Rattle.std.specs.Prelude.{⊤, option_map}
-use Rattle.std.proofs.lemmas.Bool.{and_parts}
-use Rattle.arj_protocol.specs.Words.{Ask, Asked, End, Head, Header, Kind, Label, Message, ObjectState, Uid, asks, is_on, object, uids_of}
-use Rattle.arj_protocol.specs.Words.ask
-use Rattle.arj_protocol.specs.Words.body
-use Rattle.arj_protocol.specs.Words.ending
-use Rattle.arj_protocol.specs.Words.loaded
-use Rattle.arj_protocol.specs.Words.message
-use Rattle.arj_protocol.specs.Words.prepared
-use Rattle.arj_protocol.specs.Words.role
-use Rattle.arj_protocol.specs.Ask.{Reply, actor, answers, asked_by, last_end, response}
+use Rattle.std.proofs.Common.{◌≡◌, ◌≤◌, ◌∙◌, arith, ℕ, List, Some, refl, sym, ap, subst, ⊎_elim}
+use Rattle.arj_protocol.specs.Words.{Ask, Head, Message, Uid, asks}
+use Rattle.arj_protocol.specs.Ask.{actor}
 use Rattle.arj_protocol.specs.Asking.{again_all, begin_action, heard}
 use Rattle.arj_protocol.specs.Commit.{Machine, ask_of, plan_of}
-use Rattle.arj_protocol.specs.Confirm.{back_lines, confirm}
 use Rattle.arj_protocol.specs.Coord.{Calling, Committing, Coord, Doing}
 use Rattle.arj_protocol.specs.Call.{Steps}
-use Rattle.arj_protocol.specs.Effect.{Already, Disk, Do, Effect, InDoubt, Intent, Look, Old, Prep, Prepare, PutInc, Ready, Say, Send, Served, held_at, holder_of, is_prepared, prepare_answer, stopped, worked}
+use Rattle.arj_protocol.specs.Effect.{Send}
 use Rattle.arj_protocol.specs.Ending.{acked}
-use Rattle.arj_protocol.specs.Follow.{tick_outs}
-use Rattle.arj_protocol.specs.Named.{Named}
-use Rattle.arj_protocol.specs.Naming as naming
-use Rattle.arj_protocol.specs.Naming.{Naming}
-use Rattle.arj_protocol.specs.Node.{Handled, Parts, Took, Void, ack_told, by_reply, coord_heard, end_states, handle, handle_answer, handle_ask, handle_ends, handle_other, holders, if_naming, is_earlier, load_by, load_held, naming_told, prepare_by, prepared_actions, query_about, sends_answer, serve, store_told, with_coord, with_naming, with_server}
-use Rattle.arj_protocol.specs.Order.{uid_set, without_number}
-use Rattle.arj_protocol.specs.Says.{AreAll, is_naming_effect, is_server_effect}
-use Rattle.arj_protocol.specs.Server as server
-use Rattle.arj_protocol.specs.Step.{Input, Node, acts, first_disk, first_node, hello_to, naming_at, naming_back, numbers_to, parent_of, parts_in, recovered_records, refusal_up, restart_outs, tolds_again}
-use Rattle.arj_protocol.specs.Step as input
-use Rattle.arj_protocol.specs.Tree.{at_place, is_own, new_tree}
-use Rattle.arj_protocol.specs.World.{Labelled, format, is_serial_kind}
-use Rattle.arj_protocol.proofs.PartSays.{activate_own, bind_own, confirm_own, ends_own, invoke_own, note_own, told_own, vote_own}
-use Rattle.arj_part_law.specs.Actions.{Action, paths_of}
-use Rattle.arj_part_law.specs.Coords.{IsGoodCoord}
-use Rattle.arj_part_law.specs.Copies.{IsTree, Paths}
-use Rattle.arj_part_law.specs.Messages.{FitsAsk, IsAsker}
-use Rattle.arj_part_law.proofs.Begun.{begun_tree, on_own, path_found}
-use Rattle.arj_part_law.proofs.SaidIncs.{all_flat, all_map, all_quiet}
+use Rattle.arj_protocol.specs.Step.{acts, parent_of}
+use Rattle.arj_protocol.specs.Tree.{is_own}
+use Rattle.arj_part_law.specs.Actions.{paths_of}
+use Rattle.arj_part_law.proofs.Begun.{begun_tree}
 use Rattle.arj_part_law.proofs.TrueSteps.{well_acked, well_acts, well_again, well_heard}
-use Rattle.arj_part_law.specs.Claims.{GoesOn}
-use Rattle.arj_run_law.specs.Worlds.{IsGood, IsGoodOf, IsUp}
-use Rattle.arj_run_law.proofs.Handled.{counted_of}
-use Rattle.arj_run_law.proofs.Walked.{other_number, same_number}
-use Rattle.arj_view_law.specs.Keeps.{is_act}
-use Rattle.arj_view_law.specs.Seen.{In, Post, Seen, at, down, given, posted, said, see, up}
-use Rattle.arj_view_law.specs.Walks.{Up, Walks}
+use Rattle.arj_view_law.specs.Seen.{Post}
 use Rattle.arj_view_law.proofs.Happens.{runs_hold}
 use Rattle.arj_call_law.specs.Coords.{IsOfStep}
-use Rattle.arj_call_law.proofs.CoordOuts.{acked_so, acts_so, again_so, heard_so, query_so, tolds_so}
-use Rattle.arj_call_law.proofs.CoordSends.{AllSo, IsSentBy, SendsSo, so_both}
-use Rattle.arj_call_law.proofs.Given.{KeepsGiven, kept_both}
-use Rattle.arj_call_law.proofs.WorldSteps.{no_request}
-use Rattle.arj_call_law.proofs.WorldVotes.{fits_asked}
-use Rattle.arj_address_law.specs.Binds.{BindsAreKnown}
-use Rattle.arj_address_law.proofs.BindRuns.{binds_keep}
-use Rattle.arj_lock_fact_law.specs.Requests.{AreAsked, HandlersKeepRequests, IsAskedBy, KnowsRequests, RequestsAreKnown, RunsKeepRequests}
+use Rattle.arj_call_law.proofs.CoordSends.{IsSentBy, SendsSo}
+use Rattle.arj_lock_fact_law.specs.Requests.{HandlersKeepRequests, IsAskedBy, KnowsRequests, RequestsAreKnown, RunsKeepRequests}
+use Rattle.arj_lock_fact_law.proofs.CoordRuns.{IsKeptBy, Sender, coords_keep}
 use Rattle.arj_lock_fact_law.proofs.Onward.{AsksSame, IsFurther, IsLater, further_acked, further_acts, further_again, further_begins, further_heard}
-
-some_is : {A : Type 0} {a b : A} → Some a ≡ Some b → a ≡ b
-some_is {A} {a} {b} is = let k : ◌≡◌ {A = Option A} (Some a) (Some b) = is in cc
-
-never : {A : Type 0} {b : Bool} → b ≡ true → b ≡ false → A
-never holds fails = let no_way : true ≡ false = sym holds ∙ fails in absurd (cc no_way)
 
 -- ---- requests that were sent
 
@@ -98,339 +56,25 @@ requests_on sent k c e own further knows p h a there from is its =
         let w = q.commit o.0 o.1 n.0 in
         (w.0 ∙ sym o.2, w.1 ∙ sym (o.3 p.to))
 
--- ---- one message
+-- ---- in every run
 
-module _ (Q : Coord → Type 0) (k : ℕ) (d : Disk) (t : Parts) (from : ℕ) (its : Q t.coord) where
-  -- the coordinator is so, and what is sent is of what it waits for
-  abbrev By : Handled → Type 0
-  By (Void outs) = ⊤
-  By (Took v outs) = Q v.coord × AllSo v.coord outs
-
-  reply_so : (e : Coord) (to : ℕ) (a : Asked) (r : Reply) → SendsSo e (Send to (response a r))
-  reply_so e to a r = λ h q is. absurd (let no_way : ◌≡◌ {A = Option (Head × Ask)} None (Some (h, q)) = sym (no_request a r) ∙ is in cc no_way)
-
-  answered : (h : Head) (v : Parts) (outs : List Effect) (o : Option Reply) → Q v.coord → AllSo v.coord outs → By (sends_answer from h v outs o)
-  answered h v outs None q so = tt
-  answered h v outs (Some r) q so = (q, so_both v.coord outs (Send from (response (asked_by h) r) ∷ []) so (reply_so v.coord from (asked_by h) r, tt))
-
-  -- servers and naming send nothing
-  server_so : (e : Coord) (n : ℕ) (es : List Effect) → AreAll (is_server_effect n) es → AllSo e es
-  server_so e n es own = all_quiet (SendsSo e) (is_server_effect n) (λ to m. refl) one es own
-    where
-      one : (f : Effect) → is_server_effect n f ≡ true → SendsSo e f
-      one (Say b) is = tt
-      one (Send to m) is = absurd (cc is)
-      one (Do w) is = tt
-
-  naming_so : (e : Coord) (es : List Effect) → AreAll is_naming_effect es → AllSo e es
-  naming_so e es own = all_quiet (SendsSo e) is_naming_effect (λ to m. refl) one es own
-    where
-      one : (f : Effect) → is_naming_effect f ≡ true → SendsSo e f
-      one (Say b) is = tt
-      one (Send to m) is = absurd (cc is)
-      one (Do w) is = tt
-
-  queries : (e : Coord) (us : List Uid) → AllSo e (map query_about us)
-  queries e us = all_map (SendsSo e) query_about us (λ u h a is. absurd (cc is))
-
-  with_it : (f : Naming → Handled) (o : Option Naming) → ((n : Naming) → By (f n)) → By (if_naming f o)
-  with_it f None each = tt
-  with_it f (Some n) each = each n
-
-  asked : (h : Head) (a : Ask) → By (serve k d t from h a)
-  asked h (ask.Bind x include avoid) = with_it _ t.naming (λ n. let r = naming.bind h.path x include avoid d.names n in answered h (with_naming t r.part) r.outs (option_map Reply.Bound r.reply) its (naming_so t.coord r.outs (bind_own h.path x include avoid d.names n)))
-  asked h (ask.Load x) = load (holder_of (object x) d.store)
-    where
-      held : (s : Option ObjectState) → By (load_held from h t s)
-      held None = tt
-      held (Some s) = answered h t (Do Look ∷ []) (Some (Reply.Loaded (loaded.State s))) its (tt, tt)
-
-      load : (o : Option Uid) → By (load_by x d.store from h t o)
-      load (Some u) = answered h t [] (Some (Reply.Loaded (loaded.InDoubt u))) its tt
-      load None = held (held_at (object x) d.store)
-  asked h (ask.Activate b st) = let r = server.activate k h.path b st t.server in answered h (with_server t r.part) r.outs (option_map Reply.Activated r.reply) its (server_so t.coord k r.outs (activate_own k h.path b st t.server))
-  asked h (ask.Record x b i g) = with_it _ t.naming (λ n. let r = naming.note h.path x b i g n in answered h (with_naming t r.part) r.outs (option_map Reply.Noted r.reply) its (naming_so t.coord r.outs (note_own h.path x b i g n)))
-  asked h (ask.Invoke x b i ends o) = let r = server.invoke k h x b i ends o t.server in answered h (with_server t r.part) r.outs (option_map Reply.Invoked r.reply) its (server_so t.coord k r.outs (invoke_own k h x b i ends o t.server))
-  asked h (ask.Vote i ties ends) = let r = server.vote k h.path i ties ends t.server in answered h (with_server t r.part) r.outs (option_map Reply.Voted r.reply) its (server_so t.coord k r.outs (vote_own k h.path i ties ends t.server))
-  asked h (ask.Prepare states) = each (is_prepared (actor h.path) d.store)
-    where
-      new : (a : Prep) → By (prepare_by k states from h t a)
-      new Ready = answered h t (Do Look ∷ Do (Prepare role.Store (actor h.path) states) ∷ Say (body.Prepared k (actor h.path) role.Store) ∷ []) (Some (Reply.Prepared prepared.Yes)) its (tt, (tt, (tt, tt)))
-      new (Already u) = tt
-      new (Old u v) = answered h t (Do Look ∷ []) (Some (Reply.Prepared (prepared.Old u.num v))) its (tt, tt)
-      new (InDoubt u holder) = answered h t (Do Look ∷ []) (Some (Reply.Prepared (prepared.InDoubt u.num holder))) its (tt, tt)
-
-      each : (b : Bool) → By (cond b (sends_answer from h t [] (Some (Reply.Prepared prepared.Yes))) (prepare_by k states from h t (prepare_answer (actor h.path) states d.store)))
-      each true = answered h t [] (Some (Reply.Prepared prepared.Yes)) its tt
-      each false = new (prepare_answer (actor h.path) states d.store)
-  asked h (ask.Confirm grants excluded included) = with_it _ t.naming (λ n. let r = confirm h.path grants excluded included d.names n in answered h (with_naming t r.part) r.outs (option_map Reply.Confirmed r.reply) its (naming_so t.coord r.outs (confirm_own h.path grants excluded included d.names n)))
-
-  coord_left : (r : Served Coord (Unit {0})) → Q r.part × AllSo r.part r.outs → By (coord_heard t r)
-  coord_left r so = by r.reply
-    where
-      by : (o : Option (Unit {0})) → By (by_reply (with_coord t r.part) r.outs o)
-      by None = tt
-      by (Some u) = so
-
-  ends_left : (ack : Bool) (ends : List (Uid × End)) (o : Option (Uid × End)) → By (handle_ends k d t from ack ends o)
-  ends_left ack ends None = (its, tt)
-  ends_left ack ends (Some e) =
-      let s = server.told k ends t.server in
-      let o = naming_told e.0 e.1 d.names t.naming in
-      let both : (es fs : List Effect) → AllSo t.coord es → AllSo t.coord fs → AllSo t.coord (es ++ fs) = so_both t.coord in
-      (its, both (store_told k e.0 e.1 d.store ++ o.outs ++ s.outs) (ack_told from e.0 ack) (both (store_told k e.0 e.1 d.store ++ o.outs) s.outs (both (store_told k e.0 e.1 d.store) o.outs (stored (is_prepared e.0 d.store) e.1) (named t.naming)) (server_so t.coord k s.outs (ends_own k ends t.server))) (acked_told ack))
-    where
-      stored : (b : Bool) (how : End) → AllSo t.coord (cond b (end_states k e.0 how) [])
-      stored false how = tt
-      stored true ending.Commit = (tt, (tt, tt))
-      stored true ending.Abort = (tt, (tt, tt))
-
-      named : (o : Option Naming) → AllSo t.coord (let r = naming_told e.0 e.1 d.names o in r.outs)
-      named None = tt
-      named (Some n) = naming_so t.coord (naming.told e.0 e.1 d.names n).outs (told_own e.0 e.1 d.names n)
-
-      acked_told : (b : Bool) → AllSo t.coord (ack_told from e.0 b)
-      acked_told true = ((λ h a is. absurd (cc is)), tt)
-      acked_told false = tt
-
-  module _ (hears : (a : Asked) (r : Reply) → let q = heard from a r d.intents t.coord in Q q.part × AllSo q.part q.outs) (acks : (u : Uid) → let q = acked from u d.intents t.coord in Q q.part × AllSo q.part q.outs) where
-    other : (m : Message) → By (handle_other k d t from m)
-    other (message.Told m) = ends_left m.ack m.ends (last_end m.ends)
-    other (message.Acked m) = coord_left (acked from m.act d.intents t.coord) (acks m.act)
-    other (message.Query m) = (its, query_so t.coord from m.act d.intents t.coord)
-    other (message.Hello m) = (its, queries t.coord (filter (is_earlier m.node m.inc) (holders d t)))
-    other (message.Bind m) = tt
-    other (message.Bound m) = tt
-    other (message.Load m) = tt
-    other (message.Loaded m) = tt
-    other (message.Activate m) = tt
-    other (message.Activated m) = tt
-    other (message.RecordMsg m) = tt
-    other (message.Recorded m) = tt
-    other (message.Invoke m) = tt
-    other (message.Invoked m) = tt
-    other (message.Vote m) = tt
-    other (message.Voted m) = tt
-    other (message.Prepare m) = tt
-    other (message.Prepared m) = tt
-    other (message.Confirm m) = tt
-    other (message.Confirmed m) = tt
-
-    handled_so : (m : Message) → By (handle k d t from m)
-    handled_so m = by (asks m)
-      where
-        answer : (o : Option (Asked × Reply)) → By (handle_answer k d t from m o)
-        answer None = other m
-        answer (Some a) = coord_left (heard from a.0 a.1 d.intents t.coord) (hears a.0 a.1)
-
-        by : (o : Option (Head × Ask)) → By (handle_ask k d t from m o)
-        by None = answer (answers m)
-        by (Some a) = asked a.0 a.1
-
--- ---- one node apart from the others
-
--- the coordinators of the others
-abbrev Others : ℕ → Seen → Type 0
-Others k M = (j : ℕ) (n : Node) (t : Parts) → (j ≡ k → ⊥) → M.nodes j ≡ Some n → n.live ≡ Some t → KnowsRequests M.sent j t.coord
-
-stands_at : (k : ℕ) (d : Disk) (live : Option Parts) (M : Seen) → (let S = at k d live M in S.nodes k) ≡ Some (record { number = k; disk = d; live = live })
-stands_at k d live M = λ i. cond (same_number k i) (Some (record { number = k; disk = d; live = live })) (M.nodes k)
-
-others_at : (k : ℕ) (d : Disk) (live : Option Parts) (M : Seen) → AreAsked (at k d live M) → Others k M
-others_at k d live M all j n t apart is up_it = all j n t ((λ i. cond (other_number j k apart i) (Some (record { number = k; disk = d; live = live })) (M.nodes j)) ∙ is) up_it
-
-own_at : (k : ℕ) (d : Disk) (t : Parts) (M : Seen) → AreAsked (up k d t M) → KnowsRequests M.sent k t.coord
-own_at k d t M all = all k (record { number = k; disk = d; live = Some t }) t (stands_at k d (Some t) M) refl
-
-back : (k : ℕ) (d : Disk) (live : Option Parts) (M : Seen) → ((t : Parts) → live ≡ Some t → KnowsRequests M.sent k t.coord) → Others k M → AreAsked (at k d live M)
-back k d live M own o j n t is up_it = by (j == k) refl is
-  where
-    x : Node
-    x = record { number = k; disk = d; live = live }
-
-    by : (b : Bool) → (j == k) ≡ b → cond b (Some x) (M.nodes j) ≡ Some n → KnowsRequests M.sent j t.coord
-    by true same is = let here : x ≡ n = some_is is in subst (λ z. KnowsRequests M.sent z t.coord) (sym (eqb-true j k same)) (own t (ap (λ (z : Node). z.live) here ∙ up_it))
-    by false apart is = o j n t (λ same. never (ap (λ z. z == k) same ∙ same_number k) apart) is up_it
-
--- whatever a node does
-asked_walk : (e k : ℕ) (v : Parts) (outs : List Effect) (d : Disk) (M : Seen) → AllSo v.coord outs → Others k M → KnowsRequests M.sent k v.coord → Walks AreAsked e k outs (Up AreAsked k v) d M
-asked_walk e k v [] d M so o own = back k d (Some v) M (λ t is. subst (λ (z : Parts). KnowsRequests M.sent k z.coord) (some_is is) own) o
-asked_walk e k v (Do w ∷ es) d M so o own = ((λ how. back k (stopped how w d) None M (λ t is. absurd (cc is)) o), asked_walk e k v es (worked w d) M so.1 o own)
-asked_walk e k v (Say b ∷ es) d M so o own = asked_walk e k v es d (said e (b ∷ []) M) so.1 o own
-asked_walk e k v (Send to m ∷ es) d M so o own = λ more quiet. asked_walk e k v es d (said e more (posted p M)) so.1
-    (λ j n t apart is up_it q h a there from asking its. ⊎_elim (λ same. absurd (apart (sym (ap (λ (z : Post). z.from) same ∙ from)))) (λ old. o j n t apart is up_it q h a old from asking its) there)
-    (λ q h a there from asking its. ⊎_elim (λ same. mine q h a same asking) (λ old. own q h a old from asking its) there)
-  where
-    p : Post
-    p = record { from = k; to = to; message = m }
-
-    mine : (q : Post) (h : Head) (a : Ask) → p ≡ q → asks q.message ≡ Some (h, a) → IsAskedBy v.coord q.to h a
-    mine q h a same asking = subst (λ n. IsAskedBy v.coord n h a) (ap (λ (z : Post). z.to) same) (sent_is v.coord to h a (so.0 h a (ap (λ (z : Post). asks z.message) same ∙ asking)))
-
--- ---- a node of a good world
-
-module _ (begun : List Action) (e k : ℕ) (d : Disk) (t : Parts) (M : Seen) (good : IsGoodOf begun (up k d t M)) (all : AreAsked (up k d t M)) where
-  abbrev paths : Paths
-  paths = paths_of begun
-
-  tree : IsTree paths
-  tree = begun_tree begun good.begun
-
-  its_up : IsUp begun M.sent M.labels k d.inc t
-  its_up = let p = good.places k (record { number = k; disk = d; live = Some t }) (stands_at k d (Some t) M) in p.memory
-
-  its_coord : IsGoodCoord begun paths t.coord
-  its_coord = let u = its_up in let g = u.good paths tree (path_found begun good.begun) in g.coord
-
-  works : length t.coord.doings ≡ length t.coord.tree.branches
-  works = let u = its_up in let f = u.faithful in f.works
-
-  goes_on_so : (c : Coord) → GoesOn t.coord c → IsFurther t.coord c → KnowsRequests M.sent k c
-  goes_on_so c on further = requests_on M.sent k t.coord c on.own further (own_at k d t M all)
-
-  others : Others k M
-  others = others_at k d (Some t) M all
-
-  message_asked : (from : ℕ) (m : Message) (v : Parts) (outs : List Effect) → handle k d t from m ≡ Took v outs → Walks AreAsked e k outs (Up AreAsked k v) d M
-  message_asked from m v outs is = asked_walk e k v outs d M h.1 others h.0
-    where
-      u : IsUp begun M.sent M.labels k d.inc t
-      u = its_up
-
-      h : KnowsRequests M.sent k v.coord × AllSo v.coord outs
-      h = subst (By (KnowsRequests M.sent k) k d t from (own_at k d t M all)) is (handled_so (KnowsRequests M.sent k) k d t from (own_at k d t M all)
-          (λ a r. (goes_on_so (heard from a r d.intents t.coord).part (well_heard begun paths tree from a r d.intents t.coord its_coord).0 (further_heard t.coord begun paths tree its_coord u.numbered from a r d.intents), heard_so begun paths tree t.coord its_coord u.numbered works from a r d.intents))
-          (λ w. (goes_on_so (acked from w d.intents t.coord).part (well_acked begun paths tree from w d.intents t.coord).0 (further_acked t.coord from w d.intents), acked_so from w d.intents t.coord)) m)
-
-  act_asked : (hd : Header) (i : Input) → is_act i ≡ true → refusal_up hd i t.coord ≡ None → Walks AreAsked e k (let r = acts i d.intents t.coord in r.outs) (Up AreAsked k (with_coord t (acts i d.intents t.coord).part)) d M
-  act_asked hd i is free =
-      let r = acts i d.intents t.coord in
-      let u = its_up in
-      asked_walk e k (with_coord t r.part) r.outs d M (acts_so begun paths tree t.coord its_coord u.numbered works i d.intents other) others
-      (goes_on_so r.part (well_acts begun paths tree d.intents t.coord its_coord works hd i free other).0 (further_acts t.coord begun paths tree its_coord u.numbered i d.intents other))
-    where
-      other : (l : Label) (how : Kind) (parent : Option Label) → i ≢ input.Begin l how parent
-      other l how parent same = let no_way : false ≡ true = sym (ap is_act same) ∙ is in cc no_way
-
-  tick_asked : Walks AreAsked e k (tick_outs (record { number = k; disk = d; live = Some t }) t) (Up AreAsked k (with_coord t (again_all t.coord.doings t.coord).part)) d M
-  tick_asked =
-      let r = again_all t.coord.doings t.coord in
-      let u = its_up in
-      let tolds = tolds_again t.coord.telling in
-      asked_walk e k (with_coord t r.part) (tick_outs (record { number = k; disk = d; live = Some t }) t) d M
-      (so_both r.part (r.outs ++ tolds) (map query_about (holders d t)) (so_both r.part r.outs tolds (again_so begun paths tree t.coord its_coord u.numbered works) (tolds_so r.part t.coord.telling)) (all_map (SendsSo r.part) query_about (holders d t) (λ w h a is. absurd (cc is))))
-      others (goes_on_so r.part (well_again begun paths tree t.coord its_coord).0 (further_again t.coord t.coord.doings))
-
-  begin_asked : (l : Label) (how : Kind) (parent : Option Label) (g : Labelled) → Walks AreAsked e k (let r = begin_action l how parent (parent_of parent t.coord) t.coord in r.outs) (Up AreAsked k (with_coord t (begin_action l how parent (parent_of parent t.coord) t.coord).part)) d (given l g M)
-  begin_asked l how parent g =
-      let r = begin_action l how parent (parent_of parent t.coord) t.coord in
-      asked_walk e k (with_coord t r.part) r.outs d (given l g M) (tt, tt) others (requests_on M.sent k t.coord r.part (λ u. refl) (further_begins t.coord l how parent) (own_at k d t M all))
-
--- ---- restarts, and at first
-
--- a coordinator at its beginning, of which no request was sent
-new_asked : (sent : List Post) (k node i : ℕ) (d : Disk) → ((p : Post) (h : Head) (a : Ask) → In p sent → asks p.message ≡ Some (h, a) → is_own (actor h.path) (new_tree node i) ≡ true → ⊥) → KnowsRequests sent k (let t = parts_in node i d in t.coord)
-new_asked sent k node i d fresh p h a there from is own = absurd (fresh p h a there is own)
-
-module _ (begun : List Action) (hd : Header) (e k : ℕ) (d : Disk) (M : Seen) (good : IsGoodOf begun (down k d M)) (all : AreAsked (down k d M)) where
-  abbrev v : Parts
-  v = parts_in k (d.inc + 1) d
-
-  fresh : (p : Post) (h : Head) (a : Ask) → In p M.sent → asks p.message ≡ Some (h, a) → is_own (actor h.path) (new_tree k (d.inc + 1)) ≡ true → ⊥
-  fresh p h a there is own =
-      let asker = asker_of a (fits_asked begun p.message h a is (good.fits p there)) in
-      let f = counted_of k d None M (begun, good) in
-      let o = and_parts (u.node == k) (u.inc == d.inc + 1) own in
-      late (f.1 asker.0 u asker.1 (ap (λ q. is_on (uids_of q) u) asker.2 ∙ on_own h.path) (eqb-true u.node k o.0)) (eqb-true u.inc (d.inc + 1) o.1)
-    where
-      u : Uid
-      u = actor h.path
-
-      late : {n : ℕ} → (u.inc < d.inc) ⊎ ((u.inc ≡ d.inc) × (u.num ≤ n)) → u.inc ≡ d.inc + 1 → ⊥
-      late (inl less) same = omega (arith, less, same)
-      late (inr q) same = omega (arith, q.0, same)
-
-      asker_of : (b : Ask) → FitsAsk begun h b → IsAsker begun h.path
-      asker_of (ask.Bind x include avoid) f = f
-      asker_of (ask.Load x) f = f
-      asker_of (ask.Activate b st) f = f
-      asker_of (ask.Record x b i g) f = f
-      asker_of (ask.Invoke x b i ends op) f = f.0
-      asker_of (ask.Vote i ties ends) f = f.0
-      asker_of (ask.Prepare states) f = f
-      asker_of (ask.Confirm grants excluded included) f = f
-
-  new_so : AllSo v.coord (restart_outs hd k (d.inc + 1) d)
-  new_so = both four hellos (both three asking (both two tolds (both one records (tt, (tt, (tt, (tt, back_so (naming_at k (d.inc + 1) d.names))))) (tt, all_map So (λ (e : Uid × Intent). Say (body.Recovered k e.0)) d.intents (λ e. tt))) (tolds_so v.coord d.intents)) (all_map So query_about (uid_set (prepared_actions d.store ++ prepared_actions d.names)) (λ u h a is. absurd (cc is))))
-      (all_map So (hello_to k (d.inc + 1)) (without_number k (numbers_to hd.nodes)) (λ w h a is. absurd (cc is)))
-    where
-      So : Effect → Type 0
-      So = SendsSo v.coord
-
-      both : (es fs : List Effect) → AllSo v.coord es → AllSo v.coord fs → AllSo v.coord (es ++ fs)
-      both es fs a b = so_both v.coord es fs a b
-
-      back_so : (o : Option Naming) → AllSo v.coord (naming_back o)
-      back_so None = tt
-      back_so (Some o) = all_flat So (λ (e : ℕ × Named). back_lines e.1) o.objects (λ e. all_map So _ e.1.rows (λ r. tt))
-
-      one : List Effect
-      one = Do Look ∷ Do (PutInc (d.inc + 1)) ∷ Say (body.Up k (d.inc + 1)) ∷ Do Look ∷ naming_back (naming_at k (d.inc + 1) d.names)
-
-      records : List Effect
-      records = Do Look ∷ recovered_records k d.intents
-
-      two : List Effect
-      two = one ++ records
-
-      tolds : List Effect
-      tolds = tolds_again d.intents
-
-      three : List Effect
-      three = two ++ tolds
-
-      asking : List Effect
-      asking = map query_about (uid_set (prepared_actions d.store ++ prepared_actions d.names))
-
-      four : List Effect
-      four = three ++ asking
-
-      hellos : List Effect
-      hellos = map (hello_to k (d.inc + 1)) (without_number k (numbers_to hd.nodes))
-
-  restart_asked : Walks AreAsked e k (restart_outs hd k (d.inc + 1) d) (Up AreAsked k (parts_in k (d.inc + 1) d)) d M
-  restart_asked = asked_walk e k v (restart_outs hd k (d.inc + 1) d) d M new_so (others_at k d None M all) (new_asked M.sent k k (d.inc + 1) d fresh)
-
-first_asked : (hd : Header) → AreAsked (see [] (format hd))
-first_asked hd = nodes
-  where
-    got : (ms : List ℕ) (i : ℕ) (n : Node) → slice_get (map (first_node hd) ms) i ≡ Some n → (a : ℕ) × (first_node hd a ≡ n)
-    got [] i n is = absurd (cc is)
-    got (m ∷ ms) zero n is = (m, some_is is)
-    got (m ∷ ms) (suc i) n is = got ms i n is
-
-    nodes : (j : ℕ) (n : Node) (t : Parts) → at_place j (map (first_node hd) (numbers_to hd.nodes)) ≡ Some n → n.live ≡ Some t → KnowsRequests [] j t.coord
-    nodes zero n t is live = absurd (cc is)
-    nodes (suc j) n t is live =
-        let a = got (numbers_to hd.nodes) j n is in
-        subst (λ (z : Parts). KnowsRequests [] (suc j) z.coord) (some_is (ap (λ (z : Node). z.live) a.1 ∙ live)) (new_asked [] (suc j) a.0 1 (first_disk hd a.0) (λ p h q there. absurd there))
-
--- ---- all runs
-
-pub requests_given : (hd : Header) → KeepsGiven hd (λ M. IsGood M × BindsAreKnown M) AreAsked
-requests_given hd = record {
-  quiet = λ e bs M quiet_lines g p. p;
-  stop = λ e k d live M g p. back k d None M (λ t is. absurd (cc is)) (others_at k d live M p);
-  message = λ e k d t v from m outs M g p there meant is. (let h = g.0 in message_asked h.0 e k d t M h.1 p from m v outs is);
-  act = λ e k d t i M is free g p. (let h = g.0 in act_asked h.0 e k d t M h.1 p hd i is free);
-  begin = λ e k d t l how parent M new may free g p. (let h = g.0 in begin_asked h.0 e k d t M h.1 p l how parent (record { node = k; serial = is_serial_kind how }));
-  tick = λ e k d t M g p. (let h = g.0 in tick_asked h.0 e k d t M h.1 p);
-  restart = λ e k d M g p. (let h = g.0 in restart_asked h.0 hd e k d M h.1 p);
-  first = first_asked hd;
+pub requests_kept : IsKeptBy (λ s c. KnowsRequests s.sent s.node c)
+requests_kept = record {
+  new = λ s node inc telling fresh p h a there from is own. absurd (fresh p h a there is own);
+  apart = λ s c p other knows q h a there from is own. ⊎_elim (λ same. absurd (other (ap (λ (z : Post). z.from) same ∙ from))) (λ old. knows q h a old from is own) there;
+  sends = λ s c to m so knows q h a there from is own. ⊎_elim (λ same. mine s c to m so q h a same is) (λ old. knows q h a old from is own) there;
+  hears = λ s c place from a r intents fits meant knows. requests_on s.sent s.node c (heard from a r intents c).part (well_heard place.actions (paths_of place.actions) (begun_tree place.actions place.begun) from a r intents c place.good).0.own (further_heard c place.actions (paths_of place.actions) (begun_tree place.actions place.begun) place.good place.numbered from a r intents) knows;
+  acks = λ s c place from u intents knows. requests_on s.sent s.node c (acked from u intents c).part (well_acked place.actions (paths_of place.actions) (begun_tree place.actions place.begun) from u intents c).0.own (further_acked c from u intents) knows;
+  does = λ s c place intents hd i free other knows. requests_on s.sent s.node c (acts i intents c).part (well_acts place.actions (paths_of place.actions) (begun_tree place.actions place.begun) intents c place.good (let f = place.faithful in f.works) hd i free other).0.own (further_acts c place.actions (paths_of place.actions) (begun_tree place.actions place.begun) place.good place.numbered i intents other) knows;
+  begins = λ s c place l how parent knows. requests_on s.sent s.node c (begin_action l how parent (parent_of parent c) c).part (λ u. refl) (further_begins c l how parent) knows;
+  asks = λ s c place knows. requests_on s.sent s.node c (again_all c.doings c).part (well_again place.actions (paths_of place.actions) (begun_tree place.actions place.begun) c place.good).0.own (further_again c c.doings) knows;
 }
+  where
+    mine : (s : Sender) (c : Coord) (to : ℕ) (m : Message) → SendsSo c (Send to m) → (q : Post) (h : Head) (a : Ask) → record { from = s.node; to = to; message = m } ≡ q → asks q.message ≡ Some (h, a) → IsAskedBy c q.to h a
+    mine s c to m so q h a same asking = subst (λ n. IsAskedBy c n h a) (ap (λ (z : Post). z.to) same) (sent_is c to h a (so h a (ap (λ (z : Post). asks z.message) same ∙ asking)))
 
 pub requests_keep : HandlersKeepRequests
-requests_keep hd = kept_both hd (λ M. IsGood M × BindsAreKnown M) AreAsked (binds_keep hd) (requests_given hd)
+requests_keep hd = coords_keep (λ s c. KnowsRequests s.sent s.node c) requests_kept hd
 
 pub requests_run : RunsKeepRequests
 requests_run hd es = runs_hold hd RequestsAreKnown (requests_keep hd) es

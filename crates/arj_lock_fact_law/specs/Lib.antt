@@ -8,3 +8,4 @@ pub mod Uppers
 pub mod Entries
 pub mod Requests
 pub mod Parted
+pub mod States

@@ -4,6 +4,7 @@ ghost use Rattle.arj_lock_fact_law.specs.Grants.{HandlersKeepGrants, PlansGrantL
 ghost use Rattle.arj_lock_fact_law.specs.Keeping.{PlansHaveKept};
 ghost use Rattle.arj_lock_fact_law.specs.Parted.{ConfirmsNameOne, HandlersKeepParted, RunsKeepParted};
 ghost use Rattle.arj_lock_fact_law.specs.Requests.{HandlersKeepRequests, RunsKeepRequests};
+ghost use Rattle.arj_lock_fact_law.specs.States.{HandlersKeepStates, RunsKeepStates};
 ghost use Rattle.arj_lock_fact_law.specs.Worlds.{HandlersKeepWorks, RunsKeepWorks};
 
 /// In every run each coordinator that is up is in order: of two actions that wait none stands above the other, calls ask by numbers from 1
@@ -71,4 +72,11 @@ pub fn coordinators_know_their_parts()
     ensures handlers { HandlersKeepParted }
     ensures runs { RunsKeepParted }
     ensures confirms { ConfirmsNameOne }
+{}
+
+/// In every run a state that a call takes to its server is of the call's object: only such a state can be meant by a store's answer. Each
+/// handler keeps it, wherever a stop falls. It does nothing when it runs.
+pub fn states_are_of_their_objects()
+    ensures handlers { HandlersKeepStates }
+    ensures runs { RunsKeepStates }
 {}

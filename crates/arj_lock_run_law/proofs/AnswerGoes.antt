@@ -2,18 +2,16 @@
 use Rattle.std.proofs.Common.{◌<◌, inl, inr, [], ⊎_elim, ◌≡◌, ◌≢◌, ◌⊎◌, ◌∙◌, ◌==◌, ◌&&◌, ℕ, List, Bool, true, false, cond, Option, Some, None, refl, sym, ap, subst, arith, eqb-true}
 use Rattle.std.specs.Prelude.{⊤}
 use Rattle.std.proofs.lemmas.Bool.{and_parts}
-use Rattle.arj_base.proofs.Uids.{uid_is}
 use Rattle.arj_lock.proofs.Members.{in_from}
-use Rattle.arj_protocol.specs.Words.{Ask, Asked, Binding, End, Head, ObjectState, Uid, object}
-use Rattle.arj_protocol.specs.Words.loaded
+use Rattle.arj_protocol.specs.Words.{Ask, Asked, Binding, End, Head, Uid}
 use Rattle.arj_protocol.specs.Ask.{Reply, actor, answers, ask_kind, reply_kind, response, top_of}
 use Rattle.arj_protocol.specs.Asking.{heard, heard_by, heard_call, heard_doing, heard_none, heard_now, moved_commit, waits_for_call, waits_for_commit}
-use Rattle.arj_protocol.specs.Call.{At, AtActivate, AtBind, AtInvoke, AtLoad, AtNote, Goal, Include as IncludeStore, Known, Run, Steps, ask_at, next_ask, next_node}
+use Rattle.arj_protocol.specs.Call.{At, AtActivate, AtBind, AtInvoke, AtLoad, AtNote, Goal, Include as IncludeStore, Run, Steps, ask_at, next_ask, next_node}
 use Rattle.arj_protocol.specs.Commit as commit
 use Rattle.arj_protocol.specs.Commit.{Machine, ask_of, left_of, plan_of}
 use Rattle.arj_protocol.specs.Coord.{Calling, Committing, Coord, Doing, Idle, Now, doing_of}
 use Rattle.arj_protocol.specs.Effect.{Served}
-use Rattle.arj_protocol.specs.Node.{is_loaded_for, is_loaded_in, reply_is_meant}
+use Rattle.arj_protocol.specs.Node.{reply_is_meant}
 use Rattle.arj_protocol.specs.Order.{binding_number, has}
 use Rattle.arj_protocol.specs.Tree.{Branch, is_own}
 use Rattle.arj_part_law.specs.Actions.{AreBegun, action_of, paths_of}
@@ -32,6 +30,7 @@ use Rattle.arj_lock_fact_law.specs.Works.{KnowsEnds}
 use Rattle.arj_lock_fact_law.proofs.Asked.{AreWaiting, IsNewAt, waiting_heard}
 use Rattle.arj_lock_fact_law.proofs.Inner.{ends_kept}
 use Rattle.arj_lock_fact_law.proofs.Kept.{Place}
+use Rattle.arj_lock_fact_law.proofs.States.{states_heard}
 use Rattle.arj_run_law.proofs.Walked.{same_number as number_same}
 use Rattle.arj_lock_fact_law.proofs.Confirms.{top_own}
 use Rattle.arj_view_law.specs.Seen.{In, Post}
@@ -246,25 +245,22 @@ module _ (c : Case) (s : Spot) (e from : ℕ) (a : Asked) (r : Reply) (is_seen :
   ends_behind : KnowsEnds behind
   ends_behind = let k = ends_kept (λ b. ⊤) in k.hears (let M = s.seen in M.sent) s.node C place from a r (records_at s) fits (λ b same. tt) knows.ends
 
-  -- a step of which what is asked is known
-  record IsKnown (w : Steps) : Type 0 where
-    state : (k : Known) (o : ObjectState) → w.at ≡ AtActivate k o → o.uid.num ≡ w.x
-    avoid : (b : Binding) → w.at ≡ AtBind b → w.x ≡ c.x → binding_number b < (let S = c.state in let n = S.naming in n.bound)
+  -- the Bind of a step of the object avoids a binding that was made
+  abbrev HasAvoided : Steps → Type 0
+  HasAvoided w = (b : Binding) → w.at ≡ AtBind b → w.x ≡ c.x → binding_number b < (let S = c.state in let n = S.naming in n.bound)
 
   asks_behind : reply_is_meant C a r ≡ true → KnowsAsks c behind
-  asks_behind meant = record { states = λ u d w k o found is at. (let q = all u d w found is in q.state k o at); avoids = λ u d w b found is at about. (let q = all u d w found is in q.avoid b at about) }
+  asks_behind meant = record {
+    states = states_heard (record { node = s.node; sent = (let M = s.seen in M.sent) }) C place from a r (records_at s) fits meant (let q = knows.asks in q.states);
+    avoids = λ u d w b found is at about. all u d w found is b at about;
+  }
     where
-      -- a state that comes is of the object of the step
-      loaded_is : (d : Doing) (w : Steps) (o : ObjectState) → doing_of a.act C ≡ Some d → d.now ≡ Calling w → r ≡ Reply.Loaded (loaded.State o) → o.uid.num ≡ w.x
-      loaded_is d w o found is reply = ap (λ (u : Uid). u.num) (uid_is o.uid (object w.x) (sym (ap (is_loaded_for o) found ∙ ap (is_loaded_in o) is) ∙ ap (reply_is_meant C a) (sym reply) ∙ meant))
+      next : (w : Steps) (d : Doing) (req : ℕ) (at : At) → doing_of a.act C ≡ Some d → d.now ≡ Calling w → HasAvoided w → (at ≡ w.at) ⊎ IsNewAt r at → HasAvoided (record w { req = req; at = at })
+      next w d req at found is known (inl same) b at_it about = known b (sym same ∙ at_it) about
+      next w d req at found is known (inr new) b at_it about = absurd (subst (IsNewAt r) at_it new)
 
-      next : (w : Steps) (d : Doing) (req : ℕ) (at : At) → doing_of a.act C ≡ Some d → d.now ≡ Calling w → IsKnown w → (at ≡ w.at) ⊎ IsNewAt r at → IsKnown (record w { req = req; at = at })
-      next w d req at found is known (inl same) = record { state = λ k o at_it. known.state k o (sym same ∙ at_it); avoid = λ b at_it about. known.avoid b (sym same ∙ at_it) about }
-      next w d req at found is known (inr new) = record { state = λ k o at_it. loaded_is d w o found is (subst (IsNewAt r) at_it new); avoid = λ b at_it about. absurd (subst (IsNewAt r) at_it new) }
-
-      all : AreWaiting IsKnown behind
-      all = waiting_heard IsKnown (let M = s.seen in M.sent) s.node C place from a r (records_at s) fits next
-          (λ u d w found is. record { state = λ k o at. (let q = knows.asks in q.states u d w k o found is at); avoid = λ b at about. (let q = knows.asks in q.avoids u d w b found is at about) })
+      all : AreWaiting HasAvoided behind
+      all = waiting_heard HasAvoided (let M = s.seen in M.sent) s.node C place from a r (records_at s) fits next (λ u d w found is b at about. (let q = knows.asks in q.avoids u d w b found is at about))
 
   -- it goes on, is good and sure, by the protocol alone
   behind_it : reply_is_meant C a r ≡ true → Behind c s behind

@@ -1,0 +1,32 @@
+-- The states that calls take to servers.
+use Rattle.std.specs.Prelude.{◌≡◌, ℕ, List, Some}
+use Rattle.arj_protocol.specs.Words.{Header, ObjectState, Uid}
+use Rattle.arj_protocol.specs.Call.{AtActivate, Known, Steps}
+use Rattle.arj_protocol.specs.Coord.{Calling, Coord, Doing, doing_of}
+use Rattle.arj_protocol.specs.Node.{Parts}
+use Rattle.arj_protocol.specs.Step.{Node}
+use Rattle.arj_protocol.specs.World as world
+use Rattle.arj_protocol.specs.World.{format, run_all}
+use Rattle.arj_address_law.specs.Binds.{BindsAreKnown}
+use Rattle.arj_run_law.specs.Worlds.{IsGood}
+use Rattle.arj_view_law.specs.Keeps.{Holds, Keeps}
+use Rattle.arj_view_law.specs.Seen.{Seen}
+
+-- A state that a call takes to its server is of the call's object.
+abbrev pub KnowsStates : Coord → Type 0
+KnowsStates c = (u : Uid) (d : Doing) (w : Steps) (k : Known) (o : ObjectState) → doing_of u c ≡ Some d → d.now ≡ Calling w → w.at ≡ AtActivate k o → (let q = o.uid in q.num) ≡ w.x
+
+-- So it is at each node that is up, beside good nodes and known Binds.
+abbrev pub AreStated : Seen → Type 0
+AreStated M = (j : ℕ) (n : Node) (t : Parts) → M.nodes j ≡ Some n → n.live ≡ Some t → KnowsStates t.coord
+
+abbrev pub StatesAreKnown : Seen → Type 0
+StatesAreKnown M = (IsGood M × BindsAreKnown M) × AreStated M
+
+-- each handler keeps it
+abbrev pub HandlersKeepStates : Type 0
+HandlersKeepStates = (hd : Header) → Keeps hd StatesAreKnown
+
+-- and so it holds in every run
+abbrev pub RunsKeepStates : Type 0
+RunsKeepStates = (hd : Header) (es : List world.Asked) → Holds hd StatesAreKnown (run_all es (format hd))
