@@ -1,6 +1,6 @@
 -- What coordinators have of naming's answers, where actions are aborted.
 use Rattle.std.proofs.Common.{◌≡◌, ◌⊎◌, ℕ, ◌==◌, ◌&&◌, ◌||◌, Bool, true, false, not, List, [], ◌∷◌, ◌++◌, Option, Some, None, refl, sym, ◌∙◌, ap, subst, inl, inr, ⊎_elim, cond, filter}
-use Rattle.std.specs.Prelude.{unwrap_or}
+use Rattle.std.specs.Prelude.{Contains, unwrap_or}
 use Rattle.std.specs.List.{AllByRecursion, flat_map, list_any}
 use Rattle.arj_base.proofs.Uids.{uid_cases}
 use Rattle.arj_protocol.specs.Words.{Body, End, Kind, Label, Path, Uid, is_on}
@@ -16,7 +16,7 @@ use Rattle.arj_protocol.specs.Order.{at_number}
 use Rattle.arj_protocol.specs.Tree.{Branch, at_place, behind, branch_of, ended_at, ended_branch, ended_so, ends_of, has_end, is_aborted, is_committed, is_own, is_spent, open_below, root_of}
 use Rattle.arj_call_law.proofs.CoordKnown.{roots_work}
 use Rattle.arj_disk_law.specs.Names.{Office}
-use Rattle.arj_disk_law.proofs.Base.{falls_to, never, or_cases, or_left, or_right}
+use Rattle.arj_disk_law.proofs.Base.{falls_to, never, or_cases, or_left, or_right, some_is}
 use Rattle.arj_view_law.specs.Seen.{Post}
 use Rattle.arj_disk_view_law.specs.Sees.{Kinds}
 use Rattle.arj_disk_view_law.proofs.Doings.{doing_tree}
@@ -25,12 +25,12 @@ use Rattle.arj_names_view_law.specs.Both.{SeesRootOf}
 use Rattle.arj_disk_run_law.specs.Heard.{IsWorkingRoot, SeesHeardAt}
 use Rattle.arj_protocol.specs.Ask.{top_of}
 use Rattle.arj_disk_run_law.proofs.HeardCalls.{work_cases}
-use Rattle.arj_disk_run_law.proofs.HeardLike.{call_same}
+use Rattle.arj_disk_run_law.proofs.HeardLike.{StaysOnPath, call_same, path_on, same_path}
 use Rattle.arj_disk_run_law.proofs.HeardPosts.{SaysHeard, all_join, all_mapped}
 
 -- what had not committed is aborted
 abbrev pub IsAbortedNow : Option Branch → Option Branch → Type 0
-IsAbortedNow o n = (ended_so ending.Commit o ≡ false) × (ended_so ending.Abort n ≡ true)
+IsAbortedNow o n = (ended_so ending.Commit o ≡ false) × (ended_so ending.Abort n ≡ true) × StaysOnPath o n
 
 -- Of one coordinator what is looked at is that of another, but for actions that are aborted, and who waits no more.
 pub record IsFewer (c e : Coord) : Type 0 where
@@ -121,6 +121,7 @@ module _ (c e : Coord) (few : IsFewer c e) where
     roots = λ root w. subst (λ z. SeesRootOf x tops root e z B) (sym (few.roots root)) (root_fewer x tops root (root_at root c) B (p.roots root (was_root tops root w)));
     steps = λ u q s does now of. ⊎_elim (λ old. p.steps u q s old now of) (λ idle. absurd (let n : Idle ≡ Calling s = sym idle ∙ now in cc)) (few.works u q does);
     calls = λ u q s does now of call past. ⊎_elim (λ old. call_same x tops c e s B.names (few.own (top_of s.path)) (ap (kept_of x) (few.roots (root_of s.path))) (p.calls u q s old now of call past)) (λ idle. absurd (let n : Idle ≡ Calling s = sym idle ∙ now in cc)) (few.works u q does);
+    includes = λ root j i. path_on c e (λ w. ⊎_elim (λ same. same_path (branch_of w c.tree) (branch_of w e.tree) same) (λ z. z.2) (few.branches w)) j.path (p.includes root j (subst (λ (r : Root). Contains r.joined j) (few.roots root) i));
     plans = λ u q m does now. ⊎_elim (λ old. p.plans u q m old now) (λ idle. absurd (let n : Idle ≡ Committing m = sym idle ∙ now in cc)) (few.works u q does);
   }
 
@@ -133,8 +134,8 @@ pub fewer_both : (c e f : Coord) → IsFewer c e → IsFewer e f → IsFewer c f
 fewer_both c e f a b = record {
   own = λ u. b.own u ∙ a.own u;
   branches = λ w. ⊎_elim
-      (λ same. ⊎_elim (λ also. inl (also ∙ same)) (λ z. inr (ap (ended_so ending.Commit) (sym same) ∙ z.0, z.1)) (b.branches w))
-      (λ z. ⊎_elim (λ also. inr (z.0, ap (ended_so ending.Abort) also ∙ z.1)) (λ y. inr (z.0, y.1)) (b.branches w))
+      (λ same. ⊎_elim (λ also. inl (also ∙ same)) (λ z. inr (ap (ended_so ending.Commit) (sym same) ∙ z.0, z.1, λ k is. z.2 k (same ∙ is))) (b.branches w))
+      (λ z. ⊎_elim (λ also. inr (z.0, ap (ended_so ending.Abort) also ∙ z.1, λ k is. let y = z.2 k is in (y.0, also ∙ y.1, y.2))) (λ y. inr (z.0, y.1, λ k is. let one = z.2 k is in let two = y.2 one.0 one.1 in (two.0, two.1, two.2 ∙ one.2))) (b.branches w))
       (a.branches w);
   works = λ u q does. ⊎_elim (λ old. a.works u q old) (λ idle. inr idle) (b.works u q does);
   roots = λ u. b.roots u ∙ a.roots u;
@@ -165,7 +166,7 @@ module _ (c : Coord) (u : Uid) (off : is_committed u c.tree ≡ false) where
       by : (o : Option Branch) → branch_of u c.tree ≡ o → (branch_of w (ended_at u ending.Abort c.tree) ≡ branch_of w c.tree) ⊎ IsAbortedNow (branch_of w c.tree) (branch_of w (ended_at u ending.Abort c.tree))
       by None is = inl (ap (λ z. branch_of w (ended_branch u ending.Abort c.tree z)) is)
       by (Some b) is = let h = tree_ended u b ending.Abort c.tree is in ⊎_elim
-          (λ same. inr (ap (λ z. is_committed z c.tree) same ∙ off, ap (λ z. is_aborted z (ended_at u ending.Abort c.tree)) same ∙ ap (ended_so ending.Abort) (ended_here u b ending.Abort c.tree (ended_at u ending.Abort c.tree) is h)))
+          (λ same. inr (ap (λ z. is_committed z c.tree) same ∙ off, ap (λ z. is_aborted z (ended_at u ending.Abort c.tree)) same ∙ ap (ended_so ending.Abort) (ended_here u b ending.Abort c.tree (ended_at u ending.Abort c.tree) is h), λ k at. (record b { ended = Some ending.Abort }, ap (λ z. branch_of z (ended_at u ending.Abort c.tree)) same ∙ ended_here u b ending.Abort c.tree (ended_at u ending.Abort c.tree) is h, ap (λ (y : Branch). y.path) (some_is is (ap (λ z. branch_of z c.tree) (sym same) ∙ at)))))
           (λ other. inl (ended_other u b ending.Abort c.tree (ended_at u ending.Abort c.tree) is h w other)) (uid_cases w u)
 
   doing_mid : (w : Uid) → doing_of w mid ≡ doing_of w c

@@ -30,7 +30,7 @@ use Rattle.arj_disk_run_law.specs.Heard.{IsToStep, SeesCall, SeesHeard, SeesHear
 use Rattle.arj_disk_view_law.proofs.Frames.{node_here}
 use Rattle.arj_disk_run_law.proofs.HeardAsk.{step_in}
 use Rattle.arj_disk_run_law.proofs.HeardServe.{counted_at}
-use Rattle.arj_disk_run_law.proofs.HeardLike.{call_same, root_like, spent_same}
+use Rattle.arj_disk_run_law.proofs.HeardLike.{call_same, path_on, root_like, same_path, spent_same}
 
 -- ---- a root that gave up its binding
 
@@ -90,6 +90,7 @@ at_called x k tops sent s c e B called others step list p = record {
   calls = λ u q z does now of call past. ⊎_elim
       (λ old. call_same x tops c e z B.names (called.own (top_of z.path)) (others u q z old.0 old.1 now of call) (p.calls u q z old.1 now of call past))
       (λ new. let same : s ≡ z = step_is (sym new ∙ now) in subst (λ y. SeesCall x tops e y B.names) same (list (ap (λ (y : Steps). y.x) same ∙ of) (ap (λ (y : Steps). is_include y.goal) same ∙ call) (ap (λ (y : Steps). is_bound y.at) same ∙ past))) (called.works u q does);
+  includes = λ root j i. path_on c e (λ w. same_path (branch_of w c.tree) (branch_of w e.tree) (called.tree w)) j.path (p.includes root j (subst (λ (r : Root). Contains r.joined j) (let q = called.roots root in q.2) i));
   plans = λ u q m does now. ⊎_elim (λ old. p.plans u q m old.1 now) (λ new. absurd (let e : Calling s ≡ Committing m = sym new ∙ now in cc)) (called.works u q does);
 }
   where
@@ -132,7 +133,7 @@ root_put root f c u = ⊎_elim
     (λ apart. inr (ap (λ z. unwrap_or z no_root) (put_number_other root.num u.num (f (root_at root c)) c.roots apart.0))) (one_or_two root.num u.num)
 
 -- the nodes to which something went, with one more
-went_with : (w : Went) (r : Root) → (v : List Went) × (with_went w r ≡ record r { went = v })
+pub went_with : (w : Went) (r : Root) → (v : List Went) × (with_went w r ≡ record r { went = v })
 went_with w r = by (list_any (same_went w) r.went)
   where
     by : (b : Bool) → (v : List Went) × (cond b r (record r { went = r.went ++ w ∷ [] }) ≡ record r { went = v })

@@ -1,6 +1,6 @@
 -- What a coordinator has of naming's answers, where a commit goes on: it asks further, or waits for the answers that are left.
 use Rattle.std.proofs.Common.{◌≡◌, ◌⊎◌, ℕ, true, false, List, [], ◌++◌, Option, Some, None, refl, sym, ◌∙◌, ap, subst, inl, inr, ⊎_elim}
-use Rattle.std.specs.Prelude.{unwrap_or}
+use Rattle.std.specs.Prelude.{Contains, unwrap_or}
 use Rattle.std.specs.List.{AllByRecursion}
 use Rattle.arj_protocol.specs.Words.{Body, Label, Uid}
 use Rattle.arj_protocol.specs.Words.body
@@ -30,7 +30,7 @@ use Rattle.arj_disk_run_law.specs.Part.{HasHeard, going_of}
 use Rattle.arj_disk_run_law.proofs.HeardCalls.{work_cases}
 use Rattle.arj_disk_run_law.proofs.HeardCoord.{SaysThen, mine, quiet_sends}
 use Rattle.arj_disk_run_law.proofs.HeardGoing.{old_goes_on}
-use Rattle.arj_disk_run_law.proofs.HeardLike.{call_same, root_like, went_to}
+use Rattle.arj_disk_run_law.proofs.HeardLike.{call_same, path_on, root_like, same_path, went_to}
 use Rattle.arj_disk_run_law.proofs.HeardPosts.{all_flat, all_join}
 use Rattle.arj_disk_run_law.proofs.HeardQuiet.{fixed_in}
 use Rattle.arj_disk_run_law.proofs.HeardStays.{at_stays, memory_goes, memory_stays, plan_stays}
@@ -63,6 +63,7 @@ at_commit x k tops sent u m c e B at plan p = record {
       subst (λ z. SeesRootOf x tops root e z B) (sym q.1) (root_like c e (λ w. inl (ap (branch_of w) at.tree)) x tops root (root_at root c) q.0 B old);
   steps = λ w q s does now of. ⊎_elim (λ old. p.steps w q s old now of) (λ new. absurd (let n : Committing m ≡ Calling s = sym new.1 ∙ now in cc)) (at.works w q does);
   calls = λ w q s does now of call bound. ⊎_elim (λ old. call_same x tops c e s B.names (ap (is_own (top_of s.path)) at.tree) (ap (kept_of x) (let r = at.roots (root_of s.path) in r.1)) (p.calls w q s old now of call bound)) (λ new. absurd (let n : Committing m ≡ Calling s = sym new.1 ∙ now in cc)) (at.works w q does);
+  includes = λ root j i. path_on c e (λ w. same_path (branch_of w c.tree) (branch_of w e.tree) (ap (branch_of w) at.tree)) j.path (p.includes root j (subst (λ (r : Root). Contains r.joined j) (let q = at.roots root in q.1) i));
   plans = λ w q z does now. ⊎_elim (λ old. p.plans w q z old now)
       (λ new. subst (λ y. SeesPlan x tops y z B) (sym new.0) (subst (λ y. SeesPlan x tops u y B) (machine_is (sym new.1 ∙ now)) plan)) (at.works w q does);
 }

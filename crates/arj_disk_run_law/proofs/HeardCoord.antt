@@ -35,25 +35,18 @@ SaysThen x tops k v A (Do w) = ⊥
 SaysThen x tops k v A (Say b) = ⊤
 SaysThen x tops k v A (Send to m) = ClaimsThen x tops k v A m
 
-module _ (x : ℕ) (tops : Kinds) (k : ℕ) (d : Disk) (t : Parts) (M : Seen) (A : Office) (both : SeesBoth x tops A (up k d t M)) (p : SeesHeard x tops A (up k d t M)) where
+module _ (x : ℕ) (tops : Kinds) (k : ℕ) (d : Disk) (t : Parts) (M : Seen) (A : Office) (f : IsFixed tops A.world.disk) (named : Named A) (p : SeesHeard x tops A (up k d t M)) where
   abbrev Here : Node
   Here = record { number = k; disk = d; live = Some t }
 
-  f : IsFixed tops A.world.disk
-  f = fixed_in x tops A (up k d t M) both
-
   here : (up k d t M).nodes k ≡ Some Here
   here = node_here M k Here
-
-  -- the coordinator that makes the step
-  pub mine : SeesHeardAt x k tops M.sent t.coord A
-  mine = p.coords k Here t here refl
 
   module _ (B : Office) (N : Seen) (only : OnlyMemory A B) (h : IsFixed tops B.world.disk) where
     sends_on : Named B → (few many : List Post) → SendsMore x A few many → SendsMore x B few many
     sends_on held few many more = record {
       within = more.within;
-      new = λ q i. ⊎_elim (λ o. inl o) (λ (n : IsNewTo x A q). inr (record { none = n.none; claims = claim_stays x tops A B f h (memory_goes A B only) both.named held (changes_are_after Quietly A B both.named only) (asks q.message) n.claims })) (more.new q i);
+      new = λ q i. ⊎_elim (λ o. inl o) (λ (n : IsNewTo x A q). inr (record { none = n.none; claims = claim_stays x tops A B f h (memory_goes A B only) named held (changes_are_after Quietly A B named only) (asks q.message) n.claims })) (more.new q i);
     }
 
     other_at : (j : ℕ) (n : Node) (s : Parts) → (j == k) ≡ false → M.nodes j ≡ Some n → n.live ≡ Some s → WasAt x tops A B (up k d t M) N f h (memory_goes A B only) p j s
@@ -82,7 +75,7 @@ module _ (x : ℕ) (tops : Kinds) (k : ℕ) (d : Disk) (t : Parts) (M : Seen) (A
   stop_at : (e : ℕ) (c : Disk) (N : Seen) → N.nodes ≡ M.nodes → Fits c N.sent → HoldsFrom (SeesHeard x) x tops Quietly A (halted e k c N)
   stop_at e c N same fits B only now =
       let h = fixed_in x tops B (halted e k c N) now in
-      heard_to x tops A B (up k d t M) (halted e k c N) f h (memory_goes A B only) p (sends_on B (halted e k c N) only h now.named M.sent N.sent fits.1) (old_claims x tops A B (up k d t M) f h both.named now.named only p)
+      heard_to x tops A B (up k d t M) (halted e k c N) f h (memory_goes A B only) p (sends_on B (halted e k c N) only h now.named M.sent N.sent fits.1) (old_claims x tops A B (up k d t M) f h named now.named only p)
       (λ j n s there live. ⊎_elim
       (λ (z : (j ≡ k) × (record { number = k; disk = c; live = None } ≡ n)). absurd (let none : None ≡ Some s = ap (λ (y : Node). y.live) z.1 ∙ live in cc))
       (λ (z : ((j == k) ≡ false) × (N.nodes j ≡ Some n)). inl (other_at B (halted e k c N) only h j n s z.0 (ap (λ q. q j) (sym same) ∙ z.1) live))
@@ -95,7 +88,7 @@ module _ (x : ℕ) (tops : Kinds) (k : ℕ) (d : Disk) (t : Parts) (M : Seen) (A
     end_by : (c : Disk) (N : Seen) (B : Office) → N.nodes ≡ M.nodes → d.inc ≤ c.inc → OnlyMemory A B → (now : SeesBoth x tops B (up k c v N)) → SendsMore x B M.sent N.sent → SeesHeard x tops B (up k c v N)
     end_by c N B same high only now more =
         let h = fixed_in x tops B (up k c v N) now in
-        heard_to x tops A B (up k d t M) (up k c v N) f h (memory_goes A B only) p more (old_claims x tops A B (up k d t M) f h both.named now.named only p)
+        heard_to x tops A B (up k d t M) (up k c v N) f h (memory_goes A B only) p more (old_claims x tops A B (up k d t M) f h named now.named only p)
         (λ j n s there live. ⊎_elim
         (λ (z : (j ≡ k) × (record { number = k; disk = c; live = Some v } ≡ n)). inr (subst (λ i. SeesHeardAt x i tops N.sent s.coord B) (sym z.0) (subst (λ (y : Parts). SeesHeardAt x k tops N.sent y.coord B) (some_is {A = Parts} refl (ap (λ (y : Node). y.live) z.1 ∙ live))
         (after N B only h more))))
@@ -109,8 +102,8 @@ module _ (x : ℕ) (tops : Kinds) (k : ℕ) (d : Disk) (t : Parts) (M : Seen) (A
     end_at c N same fits B only now = end_by c N B same fits.0 only now (sends_on B (up k c v N) only (fixed_in x tops B (up k c v N) now) now.named M.sent N.sent fits.1)
 
     -- the step keeps the relation, where what it leaves of the coordinator is seen, and what it sends claims what it says
-    pub quiet_step : (e : ℕ) (outs : List Effect) (L : Seen) → L.nodes ≡ M.nodes → L.sent ≡ M.sent → AllByRecursion (SaysHeard x d.inc A) outs → Walks (HoldsFrom (SeesHeard x) x tops Quietly A) e k outs (Up (HoldsFrom (SeesHeard x) x tops Quietly A) k v) d L
-    quiet_step e outs L nodes sent all = walk_fits (HoldsFrom (SeesHeard x) x tops Quietly A) (Up (HoldsFrom (SeesHeard x) x tops Quietly A) k v) e k M.nodes Fits (SaysHeard x d.inc A)
+    pub step_from : (e : ℕ) (outs : List Effect) (L : Seen) → L.nodes ≡ M.nodes → L.sent ≡ M.sent → AllByRecursion (SaysHeard x d.inc A) outs → Walks (HoldsFrom (SeesHeard x) x tops Quietly A) e k outs (Up (HoldsFrom (SeesHeard x) x tops Quietly A) k v) d L
+    step_from e outs L nodes sent all = walk_fits (HoldsFrom (SeesHeard x) x tops Quietly A) (Up (HoldsFrom (SeesHeard x) x tops Quietly A) k v) e k M.nodes Fits (SaysHeard x d.inc A)
         (λ w rises c s fits. let r = rises c fits.0 in ((λ how. (r.0 how, fits.1)), (r.1, fits.1))) sends_one (stop_at e) end_at outs all d L nodes (omega arith, subst (SendsMore x A M.sent) (sym sent) (sends_same x A M.sent))
 
     -- ---- where nothing is done on the disk
@@ -124,8 +117,8 @@ module _ (x : ℕ) (tops : Kinds) (k : ℕ) (d : Disk) (t : Parts) (M : Seen) (A
     sent_then N same s B only now = end_by d N B same (omega arith) only now (record { within = s.within; new = λ q i. ⊎_elim (λ o. inl o) (λ (c : ClaimsThen x tops k v A q.message). inr (record { none = c.0; claims = c.1 d N B only now })) (s.new q i) })
 
     -- the step keeps the relation, where what it sends claims what it says once the step is done
-    pub quiet_sends : (e : ℕ) (outs : List Effect) (L : Seen) → L.nodes ≡ M.nodes → L.sent ≡ M.sent → AllByRecursion (λ f. SaysThen x tops k v A f) outs → Walks (HoldsFrom (SeesHeard x) x tops Quietly A) e k outs (Up (HoldsFrom (SeesHeard x) x tops Quietly A) k v) d L
-    quiet_sends e outs L nodes sent all = walk outs all L nodes (subst Sends (sym sent) (record { within = λ q i. i; new = λ q i. inl i }))
+    pub sends_from : (e : ℕ) (outs : List Effect) (L : Seen) → L.nodes ≡ M.nodes → L.sent ≡ M.sent → AllByRecursion (λ f. SaysThen x tops k v A f) outs → Walks (HoldsFrom (SeesHeard x) x tops Quietly A) e k outs (Up (HoldsFrom (SeesHeard x) x tops Quietly A) k v) d L
+    sends_from e outs L nodes sent all = walk outs all L nodes (subst Sends (sym sent) (record { within = λ q i. i; new = λ q i. inl i }))
       where
         walk : (es : List Effect) → AllByRecursion (λ f. SaysThen x tops k v A f) es → (L : Seen) → L.nodes ≡ M.nodes → Sends L.sent → Walks (HoldsFrom (SeesHeard x) x tops Quietly A) e k es (Up (HoldsFrom (SeesHeard x) x tops Quietly A) k v) d L
         walk [] all L same s = sent_then L same s
@@ -135,3 +128,19 @@ module _ (x : ℕ) (tops : Kinds) (k : ℕ) (d : Disk) (t : Parts) (M : Seen) (A
           within = λ q i. inr (s.within q i);
           new = λ q i. ⊎_elim (λ mine. inr (subst (λ (z : Post). ClaimsThen x tops k v A z.message) mine all.0)) (λ o. s.new q o) i;
         })
+
+-- ---- where both halves are seen before it
+
+-- the coordinator that makes the step
+pub mine : (x : ℕ) (tops : Kinds) (k : ℕ) (d : Disk) (t : Parts) (M : Seen) (A : Office) → SeesBoth x tops A (up k d t M) → SeesHeard x tops A (up k d t M) → SeesHeardAt x k tops M.sent t.coord A
+mine x tops k d t M A both p = p.coords k (record { number = k; disk = d; live = Some t }) t (node_here M k (record { number = k; disk = d; live = Some t })) refl
+
+pub quiet_step : (x : ℕ) (tops : Kinds) (k : ℕ) (d : Disk) (t : Parts) (M : Seen) (A : Office) → SeesBoth x tops A (up k d t M) → SeesHeard x tops A (up k d t M) → (v : Parts)
+    → ((N : Seen) (B : Office) → OnlyMemory A B → IsFixed tops B.world.disk → SendsMore x B M.sent N.sent → SeesHeardAt x k tops N.sent v.coord B)
+    → (e : ℕ) (outs : List Effect) (L : Seen) → L.nodes ≡ M.nodes → L.sent ≡ M.sent → AllByRecursion (SaysHeard x d.inc A) outs → Walks (HoldsFrom (SeesHeard x) x tops Quietly A) e k outs (Up (HoldsFrom (SeesHeard x) x tops Quietly A) k v) d L
+quiet_step x tops k d t M A both p v after e outs L nodes sent all = step_from x tops k d t M A (fixed_in x tops A (up k d t M) both) both.named p v after e outs L nodes sent all
+
+pub quiet_sends : (x : ℕ) (tops : Kinds) (k : ℕ) (d : Disk) (t : Parts) (M : Seen) (A : Office) → SeesBoth x tops A (up k d t M) → SeesHeard x tops A (up k d t M) → (v : Parts)
+    → ((N : Seen) (B : Office) → OnlyMemory A B → IsFixed tops B.world.disk → SendsMore x B M.sent N.sent → SeesHeardAt x k tops N.sent v.coord B)
+    → (e : ℕ) (outs : List Effect) (L : Seen) → L.nodes ≡ M.nodes → L.sent ≡ M.sent → AllByRecursion (λ f. SaysThen x tops k v A f) outs → Walks (HoldsFrom (SeesHeard x) x tops Quietly A) e k outs (Up (HoldsFrom (SeesHeard x) x tops Quietly A) k v) d L
+quiet_sends x tops k d t M A both p v after e outs L nodes sent all = sends_from x tops k d t M A (fixed_in x tops A (up k d t M) both) both.named p v after e outs L nodes sent all

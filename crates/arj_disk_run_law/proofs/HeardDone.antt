@@ -10,11 +10,11 @@ use Rattle.arj_disk_view_law.specs.Pairs.{packed}
 use Rattle.arj_protocol.specs.Commit as commit
 use Rattle.arj_protocol.specs.Commit.{Machine, has_record, participants}
 use Rattle.arj_protocol.specs.Coord as coord
-use Rattle.arj_protocol.specs.Coord.{Calling, Committing, Coord, Doing, Idle, Root, Said, doing_of, kept_of, no_root, on_doing, on_root, root_at}
+use Rattle.arj_protocol.specs.Coord.{Calling, Committing, Coord, Doing, Idle, Joined, Root, Said, doing_of, kept_of, no_root, on_doing, on_root, root_at}
 use Rattle.arj_protocol.specs.Ending.{decided, root_after}
 use Rattle.arj_protocol.specs.Order.{at_number, put_number, put_uid}
 use Rattle.arj_protocol.specs.Tree.{Branch, branch_of, ended_at, is_own, root_of}
-use Rattle.arj_protocol.proofs.Maps.{put_other as put_number_other}
+use Rattle.arj_protocol.proofs.Maps.{put_other as put_number_other, put_same as put_number_same}
 use Rattle.arj_protocol.proofs.RowSteps.{one_or_two}
 use Rattle.arj_part_law.proofs.GoodTrees.{own_is}
 use Rattle.arj_call_law.proofs.CoordKnown.{roots_work}
@@ -29,8 +29,8 @@ use Rattle.arj_names_view_law.specs.Both.{SeesRootOf}
 use Rattle.arj_names_view_law.specs.Lists.{SeesLists}
 use Rattle.arj_names_view_law.proofs.DecidedTrees as tree
 use Rattle.arj_names_view_law.proofs.GrantSteps.{grants_stay}
-use Rattle.arj_disk_run_law.specs.Heard.{IsWorkingRoot, SeesCall, SeesHeardAt, SeesPlan, SeesStep, is_bound}
-use Rattle.arj_disk_run_law.proofs.HeardLike.{call_same}
+use Rattle.arj_disk_run_law.specs.Heard.{IsPathIn, IsWorkingRoot, SeesCall, SeesHeardAt, SeesPlan, SeesStep, is_bound}
+use Rattle.arj_disk_run_law.proofs.HeardLike.{StaysOnPath, call_same, path_on, same_path}
 
 module _ (x : ℕ) (u : Uid) (p : commit.Plan) (c : Coord) (b : Branch) (q : Doing) (found : branch_of u c.tree ≡ Some b) (unended : b.ended ≡ None) (at_work : doing_of u c ≡ Some q) where
   abbrev D : Coord
@@ -71,6 +71,23 @@ module _ (x : ℕ) (u : Uid) (p : commit.Plan) (c : Coord) (b : Branch) (q : Doi
       by true = refl
       by false = refl
 
+  -- what was included stays
+  joined_then : (w : Uid) → (root_at w (decided u p c)).joined ≡ (root_at w c).joined
+  joined_then w = by (has_record p) ∙ (⊎_elim
+      (λ same. ap (λ n. (unwrap_or (at_number n (put_number (root_of p.path).num (root_after p (root_at (root_of p.path) mid)) mid.roots)) no_root).joined) (sym same) ∙ (ap (λ z. (unwrap_or z no_root).joined) (put_number_same (root_of p.path).num (root_after p (root_at (root_of p.path) mid)) mid.roots) ∙ ap (λ n. (unwrap_or (at_number n mid.roots) no_root).joined) same))
+      (λ apart. ap (λ z. (unwrap_or z no_root).joined) (put_number_other (root_of p.path).num w.num (root_after p (root_at (root_of p.path) mid)) mid.roots apart.0))
+      (one_or_two (root_of p.path).num w.num) ∙ ap (λ (rs : List (ℕ × Root)). (unwrap_or (at_number w.num rs) no_root).joined) mid_roots)
+    where
+      by : (e : Bool) → (root_at w (if e then record (on_root (root_of p.path) (root_after p) mid) { telling = put_uid u (record { root = root_of p.path; nodes = participants p }) (on_root (root_of p.path) (root_after p) mid).telling } else on_root (root_of p.path) (root_after p) mid)).joined
+          ≡ (unwrap_or (at_number w.num (put_number (root_of p.path).num (root_after p (root_at (root_of p.path) mid)) mid.roots)) no_root).joined
+      by true = refl
+      by false = refl
+
+  -- an action's path stays
+  path_then : (w : Uid) → StaysOnPath (branch_of w c.tree) (branch_of w (decided u p c).tree)
+  path_then w = ⊎_elim (λ same. λ y is. (record b { ended = Some ending.Commit }, ap (λ v. branch_of v (decided u p c).tree) same ∙ ended_here u b ending.Commit c.tree (decided u p c).tree found has, ap (λ (z : Branch). z.path) (some_is found (ap (λ v. branch_of v c.tree) (sym same) ∙ is))))
+      (λ other. same_path (branch_of w c.tree) (branch_of w (decided u p c).tree) (ended_other u b ending.Commit c.tree (decided u p c).tree found has w other)) (uid_cases w u)
+
   -- lists stay, where no more is retained
   pub lists_then : (tops : Kinds) (root : Uid) (r n : Root) (N : Names) → n.grants ≡ r.grants → n.said ≡ r.said → kept_of x n ≡ kept_of x r → ((s : Said) → Contains r.said s → s.x ≡ x → coord.is_retained s.path (decided u p c) ≡ true → coord.is_retained s.path c ≡ true)
       → SeesLists x tops root c r N → SeesLists x tops root (decided u p c) n N
@@ -106,8 +123,8 @@ module _ (x : ℕ) (u : Uid) (p : commit.Plan) (c : Coord) (b : Branch) (q : Doi
   pub at_decided : (k : ℕ) (tops : Kinds) (sent : List Post) (B : Office) → is_own (root_of p.path) c.tree ≡ true → (IsWorkingRoot tops (decided u p c) (root_of p.path) → SeesRootOf x tops (root_of p.path) (decided u p c) (root_at (root_of p.path) (decided u p c)) B)
       → ((root : Uid) → IsWorkingRoot tops c root → root ≢ root_of p.path → SeesRootOf x tops root c (root_at root c) B × ((s : Said) → Contains (let r = root_at root c in r.said) s → is_on s.path u ≡ false))
       → ((w : Uid) (z : Doing) (s : Steps) → doing_of w c ≡ Some z → z.now ≡ Calling s → s.x ≡ x → SeesStep x k sent s B.names) → ((w : Uid) (z : Doing) (s : Steps) → doing_of w c ≡ Some z → z.now ≡ Calling s → s.x ≡ x → is_include s.goal ≡ false → is_bound s.at ≡ true → SeesCall x tops (decided u p c) s B.names)
-      → ((w : Uid) (z : Doing) (m : Machine) → w ≢ u → doing_of w c ≡ Some z → z.now ≡ Committing m → SeesPlan x tops w m B) → SeesHeardAt x k tops sent (decided u p c) B
-  at_decided k tops sent B root_own its others steps calls plans = record {
+      → ((w : Uid) (z : Doing) (m : Machine) → w ≢ u → doing_of w c ≡ Some z → z.now ≡ Committing m → SeesPlan x tops w m B) → ((root : Uid) (j : Joined) → Contains (let r = root_at root c in r.joined) j → IsPathIn c.tree j.path) → SeesHeardAt x k tops sent (decided u p c) B
+  at_decided k tops sent B root_own its others steps calls plans includes = record {
     roots = λ root w. ⊎_elim (λ same. subst (λ y. SeesRootOf x tops y (decided u p c) (root_at y (decided u p c)) B) (sym same) (its (subst (IsWorkingRoot tops (decided u p c)) same w)))
         (λ other.
         let old = was_root tops root w in
@@ -116,5 +133,6 @@ module _ (x : ℕ) (u : Uid) (p : commit.Plan) (c : Coord) (b : Branch) (q : Doi
         (root_then tops root (root_at root c) (root_at root c) B refl refl refl refl refl (λ s there of on. tree.retained_off x u p c b q found unended at_work s.path (o.1 s there) on) o.0)) (uid_cases root (root_of p.path));
     steps = λ w z s does now of. ⊎_elim (λ old. steps w z s old.1 now of) (λ idle. absurd (let n : Idle ≡ Calling s = sym idle ∙ now in cc)) (works_then w z does);
     calls = λ w z s does now of call bound. ⊎_elim (λ old. calls w z s old.1 now of call bound) (λ idle. absurd (let n : Idle ≡ Calling s = sym idle ∙ now in cc)) (works_then w z does);
+    includes = λ root j i. path_on c (decided u p c) path_then j.path (includes root j (subst (λ js. Contains js j) (joined_then root) i));
     plans = λ w z m does now. ⊎_elim (λ old. plans w z m old.0 old.1 now) (λ idle. absurd (let n : Idle ≡ Committing m = sym idle ∙ now in cc)) (works_then w z does);
   }

@@ -19,7 +19,7 @@ use Rattle.arj_call_law.specs.Runs.{KnowsFew}
 use Rattle.arj_call_law.proofs.CoordKnown.{roots_work}
 use Rattle.arj_run_law.specs.Worlds.{IsGood}
 use Rattle.arj_disk_law.specs.Names.{Office}
-use Rattle.arj_disk_law.proofs.Base.{or_cases, or_left, or_right}
+use Rattle.arj_disk_law.proofs.Base.{or_cases, or_left, or_right, some_is}
 use Rattle.arj_view_law.specs.Seen.{Post, Seen, up}
 use Rattle.arj_disk_view_law.specs.Coordinating.{KnowsNode}
 use Rattle.arj_disk_view_law.specs.Sees.{Kinds}
@@ -33,7 +33,7 @@ use Rattle.arj_disk_run_law.specs.Part.{HasHeard, going_of}
 use Rattle.arj_disk_run_law.proofs.HeardAborts.{says_say, tolds_of_say}
 use Rattle.arj_protocol.specs.Ask.{top_of}
 use Rattle.arj_disk_run_law.proofs.HeardCalls.{work_cases}
-use Rattle.arj_disk_run_law.proofs.HeardLike.{call_same}
+use Rattle.arj_disk_run_law.proofs.HeardLike.{call_same, path_on, same_path}
 use Rattle.arj_disk_run_law.proofs.HeardCoord.{mine, quiet_step}
 use Rattle.arj_disk_run_law.proofs.HeardGoing.{old_goes_on}
 use Rattle.arj_disk_run_law.proofs.HeardPosts.{SaysHeard, all_join}
@@ -47,7 +47,7 @@ any_grows : {X : Type 0} (f g : X → Bool) → ((a : X) → f a ≡ true → g 
 any_grows f g more [] on = absurd (cc on)
 any_grows f g more (x ∷ xs) on = ⊎_elim (λ here. or_left (g x) (list_any g xs) (more x here)) (λ rest. or_right (g x) (list_any g xs) (any_grows f g more xs rest)) (or_cases (f x) (list_any f xs) on)
 
-both_true : (a b : Bool) → a ≡ true → b ≡ true → (a && b) ≡ true
+pub both_true : (a b : Bool) → a ≡ true → b ≡ true → (a && b) ≡ true
 both_true a b p q = ap (λ z. z && b) p ∙ q
 
 module _ (c : Coord) (u : Uid) (b : Branch) (q : Doing) (found : branch_of u c.tree ≡ Some b) (unended : b.ended ≡ None) (other_kind : is_constituent b.kind ≡ false) (at_work : doing_of u c ≡ Some q) where
@@ -183,6 +183,7 @@ module _ (c : Coord) (u : Uid) (b : Branch) (q : Doing) (found : branch_of u c.t
       roots = λ root w. subst (λ z. SeesRootOf x tops root (ended u ending.Commit c) z B) (sym (roots_same root)) (root_ended x tops root B (p.roots root (was_root tops root w)));
       steps = λ w z s does now of. ⊎_elim (λ old. p.steps w z s old now of) (λ idle. absurd (let n : Idle ≡ Calling s = sym idle ∙ now in cc)) (works_ended w z does);
       calls = λ w z s does now of call past. ⊎_elim (λ old. call_same x tops c (ended u ending.Commit c) s B.names (ap (is_own (top_of s.path)) tree_is ∙ own_mid (top_of s.path)) (ap (kept_of x) (roots_same (root_of s.path))) (p.calls w z s old now of call past)) (λ idle. absurd (let n : Idle ≡ Calling s = sym idle ∙ now in cc)) (works_ended w z does);
+      includes = λ root j i. path_on c (ended u ending.Commit c) (λ w. ⊎_elim (λ same. λ y is. (record b { ended = Some ending.Commit }, ap (λ v. branch_of v (ended u ending.Commit c).tree) same ∙ here, ap (λ (k : Branch). k.path) (some_is found (ap (λ v. branch_of v c.tree) (sym same) ∙ is)))) (λ other. same_path (branch_of w c.tree) (branch_of w (ended u ending.Commit c).tree) (there w other)) (uid_cases w u)) j.path (p.includes root j (subst (λ (r : Root). Contains r.joined j) (roots_same root) i));
       plans = λ w z m does now. ⊎_elim (λ old. p.plans w z m old now) (λ idle. absurd (let n : Idle ≡ Committing m = sym idle ∙ now in cc)) (works_ended w z does);
     }
 

@@ -62,6 +62,7 @@ new_seen x k inc tops sent telling B h none = record {
   roots = λ root w. let o = and_parts (root.node == k) (root.inc == inc) w.own in empty_seen x tops root (record (new_coord k inc) { telling = telling }) B h (none root (test_is root.node k o.0) (test_is root.inc inc o.1) w.alone);
   steps = λ u q s does. absurd (none_works k inc telling u q does);
   calls = λ u q s does. absurd (none_works k inc telling u q does);
+  includes = λ root j i. absurd (in_from j [] i);
   plans = λ u q m does. absurd (none_works k inc telling u q does);
 }
 

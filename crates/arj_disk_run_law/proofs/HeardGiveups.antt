@@ -1,6 +1,6 @@
 -- What a coordinator has of naming's answers, where a call is given up, or an include: it ends as lost, or the next store is asked.
 use Rattle.std.proofs.Common.{◌≡◌, ◌⊎◌, ◌+◌, ℕ, ◌==◌, ◌&&◌, Bool, true, false, List, [], ◌∷◌, ◌++◌, Option, Some, None, refl, sym, ◌∙◌, ap, subst, inl, inr, ⊎_elim, arith, cond}
-use Rattle.std.specs.Prelude.{unwrap_or}
+use Rattle.std.specs.Prelude.{Contains, unwrap_or}
 use Rattle.std.specs.List.{AllByRecursion}
 use Rattle.arj_base.proofs.Uids.{uid_cases}
 use Rattle.arj_protocol.specs.Words.{End, Uid}
@@ -39,7 +39,7 @@ use Rattle.arj_disk_run_law.specs.Part.{HasHeard, going_of}
 use Rattle.arj_disk_run_law.proofs.HeardAborts.{says_say}
 use Rattle.arj_disk_run_law.proofs.HeardCalls.{HasItsList, IsCalled, at_called, fresh, goes_called, goes_kept, keeps_to, root_keeps, root_put, work_cases}
 use Rattle.arj_disk_run_law.proofs.HeardCoord.{mine, quiet_step}
-use Rattle.arj_disk_run_law.proofs.HeardLike.{root_ends, call_same}
+use Rattle.arj_disk_run_law.proofs.HeardLike.{call_same, path_on, root_ends, same_path}
 use Rattle.arj_disk_run_law.proofs.HeardGoing.{old_goes_on}
 use Rattle.arj_disk_run_law.proofs.HeardPosts.{SaysHeard, all_flat, all_join}
 use Rattle.arj_disk_run_law.proofs.HeardQuiet.{fixed_in}
@@ -90,6 +90,7 @@ module _ (x : ℕ) (c e : Coord) (lost : IsLost x c e) where
         (root_keeps x tops root e (root_at root c) q.0 q.1 B (inl q.3) (root_ends c e ends_same kept_tops x tops root (root_at root c) (let r = root_at root c in r.went) B (p.roots root (was_root tops root w))));
     steps = λ u q s does now of. ⊎_elim (λ old. p.steps u q s old now of) (λ idle. absurd (let n : Idle ≡ Calling s = sym idle ∙ now in cc)) (lost.works u q does);
     calls = λ u q s does now of call past. ⊎_elim (λ old. call_same x tops c e s B.names (lost.own (top_of s.path)) (let r = lost.roots (root_of s.path) in ap (kept_of x) r.2 ∙ r.3) (p.calls u q s old now of call past)) (λ idle. absurd (let n : Idle ≡ Calling s = sym idle ∙ now in cc)) (lost.works u q does);
+    includes = λ root j i. path_on c e (λ w. ⊎_elim (λ same. same_path (branch_of w c.tree) (branch_of w e.tree) same) (λ z. λ b is. (record z.0 { doomed = true }, z.2, ap (λ (y : Branch). y.path) (some_is z.1 is))) (lost.branches w)) j.path (p.includes root j (subst (λ (r : Root). Contains r.joined j) (let r = lost.roots root in r.2) i));
     plans = λ u q m does now. ⊎_elim (λ old. p.plans u q m old now) (λ idle. absurd (let n : Idle ≡ Committing m = sym idle ∙ now in cc)) (lost.works u q does);
   }
 
@@ -185,6 +186,7 @@ next_step x k sent s y n m rest N is sees none = record {
   stands = λ i at. sees.stands i (ap grant_at is ∙ at);
   listed = λ q j more at including. let old = sees.listed y n (m ∷ rest) is including in
       subst (λ (z : Known × ℕ × List ℕ). AsksListed (uid_number (top_of s.path)) z.0 (z.1 ∷ z.2) N) (some_is refl (ap load_in at)) (record { answered = old.answered; stores = λ w on. old.stores w (or_right (n == w) (has w (m ∷ rest)) on) });
+  goal = λ including. refl;
   bound = λ r to. absurd (none (Reply.Bound r) to);
   named = λ r to. absurd (none (Reply.Bound r) to);
   loaded = λ q j more st at including to. absurd (none (Reply.Loaded (loaded.State st)) to);

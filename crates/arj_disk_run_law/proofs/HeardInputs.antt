@@ -6,7 +6,7 @@ use Rattle.std.proofs.lemmas.Bool.{and_parts, or_parts}
 use Rattle.arj_protocol.specs.Words.{Binding, Op, Path, Uid, End, Cause, Kind}
 use Rattle.arj_protocol.specs.Ask.{Reply, actor, top_of}
 use Rattle.arj_protocol.specs.Asking.{call, call_steps, commit_action, commit_open, commit_top, gaveup_lines, give_up, give_up_doing, gives_up, goes_on, include, known_at_start, last_req, next_req, renewed}
-use Rattle.arj_protocol.specs.Call.{Goal, Include, Known, Run, Steps, next_ask, next_node, start}
+use Rattle.arj_protocol.specs.Call.{Goal, Include, Known, Run, Steps, next_ask, next_node, start, is_include}
 use Rattle.arj_protocol.specs.Coord.{Calling, Committing, Coord, Doing, Keeping, Root, Went, doing_of, is_free, keeping_of, kept_of, no_root, on_doing, on_root, root_at, with_keeping, Idle, Now}
 use Rattle.arj_protocol.specs.Effect.{Did, Disk, Effect}
 use Rattle.arj_protocol.specs.Node.{Parts, with_coord}
@@ -55,17 +55,19 @@ use Rattle.arj_names_view_law.proofs.Heard.{none_heard}
 -- ---- a step that begins
 
 -- a step that begins stands on nothing, and nothing was sent to it
-new_step : (x k : ℕ) (sent : List Post) (p : Path) (y : ℕ) (g : Goal) (o : Option Known) (avoid : Binding) (req : ℕ) (N : Names) → ((r : Reply) → IsToStep k sent (start p y g o avoid req) r → ⊥) → SeesStep x k sent (start p y g o avoid req) N
-new_step x k sent p y g None avoid req N none = record {
+new_step : (x k : ℕ) (sent : List Post) (p : Path) (y : ℕ) (g : Goal) (o : Option Known) (avoid : Binding) (req : ℕ) (N : Names) → ((z : Known) → o ≡ Some z → is_include g ≡ true → ⊥) → ((r : Reply) → IsToStep k sent (start p y g o avoid req) r → ⊥) → SeesStep x k sent (start p y g o avoid req) N
+new_step x k sent p y g None avoid req N calls none = record {
   stands = λ i at. absurd (cc at);
   listed = λ q n rest at. absurd (cc at);
+  goal = λ including. refl;
   bound = λ r to. absurd (none (Reply.Bound r) to);
   named = λ r to. absurd (none (Reply.Bound r) to);
   loaded = λ q n rest st at. absurd (cc at);
 }
-new_step x k sent p y g (Some z) avoid req N none = record {
+new_step x k sent p y g (Some z) avoid req N calls none = record {
   stands = λ i at. absurd (cc at);
   listed = λ q n rest at. absurd (cc at);
+  goal = λ including. absurd (calls z refl including);
   bound = λ r to. absurd (none (Reply.Bound r) to);
   named = λ r to. absurd (none (Reply.Bound r) to);
   loaded = λ q n rest st at. absurd (cc at);
@@ -110,18 +112,18 @@ module _ (x : ℕ) (tops : Kinds) (e k : ℕ) (d : Disk) (t : Parts) (M : Seen) 
   Heard_by did = (g : HasHeard (SeesHeard x) x tops Quietly A (going_of e k d t did, M)) × MayGoOn x g.office did.part
 
   -- an action begins to wait
-  waits_anew : (p : Path) (y : ℕ) (g : Goal) (o : Option Known) (avoid : Binding) (w : Coord) (q : Doing) → doing_of (actor p) t.coord ≡ Some q → let s = start p y g o avoid (next_req (actor p) t.coord) in IsCalled x s t.coord (goes_on s w).part
+  waits_anew : (p : Path) (y : ℕ) (g : Goal) (o : Option Known) (avoid : Binding) (w : Coord) (q : Doing) → ((z : Known) → o ≡ Some z → is_include g ≡ true → ⊥) → doing_of (actor p) t.coord ≡ Some q → let s = start p y g o avoid (next_req (actor p) t.coord) in IsCalled x s t.coord (goes_on s w).part
       → KeepsForOthers x (actor p) t.coord (goes_on s w).part → ((B : Office) (sent : List Post) → SeesHeardAt x k tops sent t.coord B → HasItsList x tops (goes_on s w).part s B.names) → Heard_by (goes_on s w)
-  waits_anew p y g o avoid w q does called others list = (
+  waits_anew p y g o avoid w q calls does called others list = (
     record {
       office = A;
       only = none_heard A;
       both = both;
       along = quiet_step x tops k d t M A both h (with_coord t e2)
           (λ N B only fixed more. let p0 = at_stays x tops A B (fixed_in x tops A (up k d t M) both) fixed (memory_goes A B only) k M.sent N.sent t.coord more (λ u own kind. memory_stays tops A B only (tops.root (uid_number u))) (mine x tops k d t M A both h) in
-          at_called x k tops N.sent s t.coord e2 B called others (λ of. new_step x k N.sent p y g o avoid (next_req (actor p) t.coord) B.names (λ r to. none r (was_to x B k M.sent N.sent s more r to))) (list B N.sent p0) p0)
+          at_called x k tops N.sent s t.coord e2 B called others (λ of. new_step x k N.sent p y g o avoid (next_req (actor p) t.coord) B.names calls (λ r to. none r (was_to x B k M.sent N.sent s more r to))) (list B N.sent p0) p0)
           e (goes_on s w).outs M refl refl
-          (request_says x d.inc k M.sent A p (next_req (actor p) t.coord) (next_node s, next_ask (ends_of (root_of p) mid.tree) s) mid (step_claims x d.inc k M.sent A s (ends_of (root_of p) mid.tree) (λ of. new_step x k M.sent p y g o avoid (next_req (actor p) t.coord) A.names none)));
+          (request_says x d.inc k M.sent A p (next_req (actor p) t.coord) (next_node s, next_ask (ends_of (root_of p) mid.tree) s) mid (step_claims x d.inc k M.sent A s (ends_of (root_of p) mid.tree) (λ of. new_step x k M.sent p y g o avoid (next_req (actor p) t.coord) A.names calls none)));
     },
     old_goes_on x tops k d t M A knows both e2 (λ u z m at now past. ⊎_elim (λ old. old.1) (λ new. absurd (let n : Calling s ≡ Committing m = sym new ∙ now in cc)) (called.works u z at)),
   )
@@ -141,7 +143,7 @@ module _ (x : ℕ) (tops : Kinds) (e k : ℕ) (d : Disk) (t : Parts) (M : Seen) 
   pub heard_call : (b : Branch) (y : ℕ) (op : Op) (q : Doing) → branch_of (actor b.path) t.coord.tree ≡ Some b → is_some b.ended ≡ false → is_serial b.kind ≡ false → doing_of (actor b.path) t.coord ≡ Some q → Heard_by (call b.path y op t.coord)
   heard_call b y op q found opened plain does =
       let called = call_called x t.coord b.path q does y op in
-      waits_anew b.path y (Run op) (known_at_start (top_of b.path) y r t.coord k2.kept) k2.avoid (on_root (root_of b.path) (with_keeping y k2) (record t.coord { tree = uses_object b.path y t.coord.tree })) q does called
+      waits_anew b.path y (Run op) (known_at_start (top_of b.path) y r t.coord k2.kept) k2.avoid (on_root (root_of b.path) (with_keeping y k2) (record t.coord { tree = uses_object b.path y t.coord.tree })) q (λ z is including. cc including) does called
       (call_others x tops k d t M good few knows (actor b.path) b found opened (no_serial b.kind plain) refl y op)
       (λ B sent p0. call_list x tops k d t M good few knows (actor b.path) b found opened (no_serial b.kind plain) refl y op B sent p0 called.own)
     where
@@ -155,7 +157,7 @@ module _ (x : ℕ) (tops : Kinds) (e k : ℕ) (d : Disk) (t : Parts) (M : Seen) 
       no_serial z off same = never (ap is_serial same) off
 
   pub heard_include : (p : Path) (y s : ℕ) (q : Doing) → doing_of (actor p) t.coord ≡ Some q → Heard_by (include p y s t.coord)
-  heard_include p y s q does = waits_anew p y (Include s) None unbound (record t.coord { tree = uses_object p y t.coord.tree }) q does (include_called x t.coord p q does y s)
+  heard_include p y s q does = waits_anew p y (Include s) None unbound (record t.coord { tree = uses_object p y t.coord.tree }) q (λ z is including. cc is) does (include_called x t.coord p q does y s)
       (λ w z v other there now of calls. goes_kept x (start p y (Include s) None unbound (next_req (actor p) t.coord)) (record t.coord { tree = uses_object p y t.coord.tree }) (root_of v.path))
       (λ B sent p0 of calls. absurd (cc calls))
 

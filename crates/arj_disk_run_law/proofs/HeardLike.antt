@@ -1,7 +1,7 @@
 -- What a coordinator has of its roots, where nothing of them has changed that is looked at.
-use Rattle.std.proofs.Common.{◌≡◌, ◌⊎◌, ℕ, zero, suc, ◌==◌, ◌&&◌, ◌||◌, if◌then◌else◌, Bool, true, false, not, List, [], ◌∷◌, ◌++◌, Option, Some, None, refl, sym, ◌∙◌, ap, subst, inl, inr, ⊎_elim}
+use Rattle.std.proofs.Common.{◌≡◌, ◌⊎◌, ℕ, zero, suc, ◌==◌, ◌&&◌, ◌||◌, if◌then◌else◌, Bool, true, false, not, List, [], ◌∷◌, ◌++◌, Option, Some, None, refl, sym, ◌∙◌, ap, subst, inl, inr, ⊎_elim, Contains}
 use Rattle.std.specs.List.{list_any}
-use Rattle.arj_protocol.specs.Words.{End, Kind, Label, Uid, is_on}
+use Rattle.arj_protocol.specs.Words.{End, Kind, Label, Uid, is_on, uids_of}
 use Rattle.arj_protocol.specs.Words.ending
 use Rattle.arj_protocol.specs.Ask.{top_of}
 use Rattle.arj_protocol.specs.Asking.{begin_action}
@@ -14,7 +14,7 @@ use Rattle.arj_disk_law.proofs.Base.{some_is}
 use Rattle.arj_view_law.specs.Seen.{Post}
 use Rattle.arj_disk_view_law.specs.Sees.{Kinds}
 use Rattle.arj_names_view_law.specs.Both.{SeesRootOf}
-use Rattle.arj_disk_run_law.specs.Heard.{IsWorkingRoot, SeesCall, SeesHeardAt}
+use Rattle.arj_disk_run_law.specs.Heard.{IsPathIn, IsWorkingRoot, SeesCall, SeesHeardAt}
 
 -- an action that is new, and open
 abbrev pub IsOpenNew : Option Branch → Type 0
@@ -100,6 +100,16 @@ module _ (c e : Coord) (branches : (w : Uid) → (branch_of w e.tree ≡ branch_
 pub call_same : (x : ℕ) (tops : Kinds) (c e : Coord) (s : Steps) (N : Names) → is_own (top_of s.path) e.tree ≡ is_own (top_of s.path) c.tree → kept_of x (root_at (root_of s.path) e) ≡ kept_of x (root_at (root_of s.path) c) → SeesCall x tops c s N → SeesCall x tops e s N
 call_same x tops c e s N own kept z = record { own = own ∙ z.own; top = z.top; known = z.known; kept = kept ∙ z.kept; list = z.list }
 
+-- an action's path stays
+abbrev pub StaysOnPath : Option Branch → Option Branch → Type 0
+StaysOnPath o n = (b : Branch) → o ≡ Some b → (y : Branch) × (n ≡ Some y) × (y.path ≡ b.path)
+
+pub path_on : (c e : Coord) → ((w : Uid) → StaysOnPath (branch_of w c.tree) (branch_of w e.tree)) → (us : List Uid) → IsPathIn c.tree us → IsPathIn e.tree us
+path_on c e stays us p = let y = stays p.uid p.branch p.found in record { uid = p.uid; branch = y.0; found = y.1; path = p.path ∙ ap uids_of (sym y.2) }
+
+pub same_path : (o n : Option Branch) → n ≡ o → StaysOnPath o n
+same_path o n same b is = (b, same ∙ is, refl)
+
 -- where it is looked like the other
 module _ (c e : Coord) (like : IsLike c e) where
   -- who is a root at work there is one here
@@ -115,6 +125,7 @@ module _ (c e : Coord) (like : IsLike c e) where
     roots = λ root w. let q = like.roots root in subst (λ z. SeesRootOf x tops root e z B) (sym q.1) (root_like c e like.branches x tops root (root_at root c) q.0 B (p.roots root (was_root tops root w)));
     steps = λ u q s does now of. ⊎_elim (λ old. p.steps u q s old now of) (λ idle. absurd (let n : Idle ≡ Calling s = sym idle ∙ now in cc)) (like.works u q does);
     calls = λ u q s does now of call past. ⊎_elim (λ old. call_same x tops c e s B.names (like.own (top_of s.path)) (ap (kept_of x) (let r = like.roots (root_of s.path) in r.1)) (p.calls u q s old now of call past)) (λ idle. absurd (let n : Idle ≡ Calling s = sym idle ∙ now in cc)) (like.works u q does);
+    includes = λ root j i. path_on c e (λ w. ⊎_elim (λ same. same_path (branch_of w c.tree) (branch_of w e.tree) same) (λ new. λ b is. absurd (let n : None ≡ Some b = sym new.0 ∙ is in cc)) (like.branches w)) j.path (p.includes root j (subst (λ (r : Root). Contains r.joined j) (let q = like.roots root in q.1) i));
     plans = λ u q m does now. ⊎_elim (λ old. p.plans u q m old now) (λ idle. absurd (let n : Idle ≡ Committing m = sym idle ∙ now in cc)) (like.works u q does);
   }
 

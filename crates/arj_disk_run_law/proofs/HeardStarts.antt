@@ -33,8 +33,8 @@ use Rattle.arj_disk_view_law.specs.Coordinating.{KnowsNode}
 use Rattle.arj_disk_view_law.specs.Sees.{Kinds}
 use Rattle.arj_disk_view_law.proofs.Frames.{node_here}
 use Rattle.arj_names_view_law.specs.Both.{SeesBoth}
-use Rattle.arj_names_view_law.specs.Lists.{HasList, SeesLists}
-use Rattle.arj_disk_run_law.specs.Heard.{HasCallList, SeesHeardAt, is_bound}
+use Rattle.arj_names_view_law.specs.Lists.{HasCallList, HasList, SeesLists}
+use Rattle.arj_disk_run_law.specs.Heard.{SeesHeardAt, is_bound}
 use Rattle.arj_disk_run_law.proofs.HeardCalls.{HasItsList, KeepsForOthers, goes_kept, root_put}
 use Rattle.arj_disk_run_law.proofs.HeardGiveups.{put_keeps}
 use Rattle.arj_disk_run_law.proofs.HeardPlaces.{StandsIn, stands_in, top_idle}

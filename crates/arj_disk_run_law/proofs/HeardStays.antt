@@ -82,6 +82,7 @@ module _ (x : ℕ) (tops : Kinds) (A B : Office) (f : IsFixed tops A.world.disk)
   step_goes k few many s was q = record {
     stands = λ g at. on.had (uid_number (top_of s.path)) g (q.stands g at);
     listed = λ e n rest at inc. let l = q.listed e n rest at inc in record { answered = on.answers (Bound (uid_number (top_of s.path)) e.grant true e.stores) l.answered; stores = l.stores };
+    goal = q.goal;
     bound = λ r to. ⊎_elim (λ old. let c = q.bound r old in (c.0, λ same. given_on (uid_number (top_of s.path)) r (c.1 same))) (λ new. (new.0, new.1)) (was (Reply.Bound r) to);
     named = λ r to. ⊎_elim (λ old. q.named r old) (λ new. new.2) (was (Reply.Bound r) to);
     loaded = λ e n rest st at inc to. ⊎_elim (λ old. on.answers _ (q.loaded e n rest st at inc old)) (λ new. new e n rest at inc) (was (Reply.Loaded (loaded.State st)) to);
@@ -180,6 +181,7 @@ module _ (x : ℕ) (tops : Kinds) (A B : Office) (f : IsFixed tops A.world.disk)
         root_stays x tops root c (root_at root c) A B f h (p.roots root w) s.had s.kept on.answers s.states;
     steps = λ u q s does now of. step_goes k few many s (said u q s does now of) (p.steps u q s does now of);
     calls = λ u q s does now of call past. let z = p.calls u q s does now of call past in call_stays s z (stays (top_of s.path) z.own (inr (let w = z.top in w.top)));
+    includes = p.includes;
     plans = λ u q m does now. let l = p.plans u q m does now in plan_stays u (stays u (own_doing c u q does) (inr l.top)) m l;
   }
 

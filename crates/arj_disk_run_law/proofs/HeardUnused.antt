@@ -118,7 +118,7 @@ module _ (x : ℕ) (tops : Kinds) (e k : ℕ) (d : Disk) (t : Parts) (M : Seen) 
         (λ w is other. (p.roots w is, λ s there. apart_from x tops k d t M A good few knows both h u b found unended top w is.own other s there))
         (λ w z s does now of. p.steps w z s does now of)
         (λ w z s does now of call bound. call_then x u Plan_of t.coord b q found unended at_work tops s B.names knows.kinds (let w = working x tops k d t M A good few knows both h u b found unended top in w.own) (λ same. ap (kept_of x) (tree.root_now x u Plan_of t.coord b q found unended at_work) ∙ kept_is) (p.calls w z s does now of call bound))
-        (λ w z m other does now. p.plans w z m does now)
+        (λ w z m other does now. p.plans w z m does now) p.includes
 
     pub heard_unused : (g : HasHeard (SeesHeard x) x tops Quietly A (going_of e k d t (commit_top b.path d.intents t.coord), M)) × MayGoOn x g.office (let did = commit_top b.path d.intents t.coord in did.part)
     heard_unused = subst (λ z. Goal (let y = moved_commit (actor b.path) z d.intents t.coord in record { part = y.part; outs = says (actor b.path) body.Committing t.coord ++ y.outs })) (sym (start_unused Plan_of none)) done

@@ -1,7 +1,7 @@
 -- What coordinators have of naming's answers and what messages claim of them, in what is seen and the machine's state: the relation
 -- that is kept beside both halves.
-use Rattle.std.specs.Prelude.{⊤, ◌≡◌, ◌⊎◌, ◌≤◌, ◌<◌, ℕ, Bool, true, false, List, ◌∷◌, Option, None, Some}
-use Rattle.arj_protocol.specs.Words.{Uid, Ask, Asked, Binding, BoundReply, Head, ObjectState, asks, object}
+use Rattle.std.specs.Prelude.{⊤, ◌≡◌, ◌⊎◌, ◌≤◌, ◌<◌, ℕ, Bool, true, false, List, ◌∷◌, Option, None, Some, Contains}
+use Rattle.arj_protocol.specs.Words.{Uid, Ask, Asked, Binding, BoundReply, Head, ObjectState, asks, object, uids_of}
 use Rattle.arj_protocol.specs.Words.ask
 use Rattle.arj_protocol.specs.Words.bound
 use Rattle.arj_protocol.specs.Words.loaded
@@ -9,11 +9,11 @@ use Rattle.arj_protocol.specs.Ask.{Reply, answers, ask_kind, asked_by, reply_kin
 use Rattle.arj_protocol.specs.Call.{At, AtActivate, AtBind, AtInvoke, AtLoad, AtNote, Known, Steps, is_include}
 use Rattle.arj_protocol.specs.Commit.{Machine, Used, plan_of}
 use Rattle.arj_protocol.specs.Confirm.{Grants}
-use Rattle.arj_protocol.specs.Coord.{Calling, Committing, Coord, Doing, doing_of, kept_of, root_at}
+use Rattle.arj_protocol.specs.Coord.{Calling, Committing, Coord, Doing, Joined, doing_of, kept_of, root_at}
 use Rattle.arj_protocol.specs.Node.{Parts}
 use Rattle.arj_protocol.specs.Order.{uid_number}
 use Rattle.arj_protocol.specs.Step.{Node}
-use Rattle.arj_protocol.specs.Tree.{Branch, branch_of, is_own, root_of}
+use Rattle.arj_protocol.specs.Tree.{Branch, Tree, branch_of, is_own, root_of}
 use Rattle.arj_disk_law.specs.Names as machine
 use Rattle.arj_disk_law.specs.Names.{Kept, Names, Office, written_in}
 use Rattle.arj_disk_law.specs.Words.{In, has}
@@ -29,7 +29,7 @@ use Rattle.arj_names_view_law.specs.Both.{SeesRootOf}
 use Rattle.arj_names_view_law.specs.Calls.{ClaimsBound}
 use Rattle.arj_names_view_law.specs.Grants.{StandsOn}
 use Rattle.arj_names_view_law.specs.Handlers.{is_voting}
-use Rattle.arj_names_view_law.specs.Lists.{HasList, HasRetained, IsShort, IsTopOf}
+use Rattle.arj_names_view_law.specs.Lists.{HasCallList, IsShort, IsTopOf}
 use Rattle.arj_names_view_law.specs.Loads.{HasLoaded}
 
 -- ---- roots
@@ -77,6 +77,14 @@ NamesNow (bound.Make b server g stores) = IsNamedOf b g stores
 NamesNow (bound.Write g stores) = ⊤
 NamesNow (bound.Conflict holder m) = ⊤
 
+-- an include only binds, and loads
+abbrev pub only_loads : At → Bool
+only_loads (AtBind avoid) = true
+only_loads (AtLoad q n rest) = true
+only_loads (AtActivate q st) = false
+only_loads (AtNote q i) = false
+only_loads (AtInvoke q i) = false
+
 -- this answer was sent to the node, to the step that waits
 pub record IsToStep (k : ℕ) (sent : List Post) (s : Steps) (r : Reply) : Type 0 where
   pub post : Post
@@ -89,13 +97,10 @@ pub record IsToStep (k : ℕ) (sent : List Post) (s : Steps) (r : Reply) : Type 
 pub record SeesStep (x k : ℕ) (sent : List Post) (s : Steps) (N : Names) : Type 0 where
   pub stands : StandsOn (uid_number (top_of s.path)) N s.at
   pub listed : (q : Known) (n : ℕ) (rest : List ℕ) → s.at ≡ AtLoad q n rest → is_include s.goal ≡ true → AsksListed (uid_number (top_of s.path)) q (n ∷ rest) N
+  pub goal : is_include s.goal ≡ true → only_loads s.at ≡ true
   pub bound : (r : BoundReply) → IsToStep k sent s (Reply.Bound r) → IsOfGoal (is_include s.goal) r × ClaimsBound x s.x (uid_number (top_of s.path)) r N
   pub named : (r : BoundReply) → IsToStep k sent s (Reply.Bound r) → NamesNow r
   pub loaded : (q : Known) (n : ℕ) (rest : List ℕ) (st : ObjectState) → s.at ≡ AtLoad q n rest → is_include s.goal ≡ true → IsToStep k sent s (Reply.Loaded (loaded.State st)) → In (machine.Loaded (uid_number (top_of s.path)) q.grant (packed st)) N.answers
-
--- the machine keeps a list within that of this binding for the top, or its root retains one
-abbrev pub HasCallList : Names → ℕ → ℕ → Known → Type 0
-HasCallList N root top k = HasList N top k ⊎ HasRetained N root k
 
 -- the binding of the call is known
 abbrev pub is_bound : At → Bool
@@ -141,11 +146,20 @@ pub record SeesPlan (x : ℕ) (tops : Kinds) (u : Uid) (m : Machine) (A : Office
 
 -- ---- a coordinator
 
--- A coordinator of node k: what it has of its roots, of calls on the object and of commits under way.
+-- the path is of an action of this tree
+pub record IsPathIn (t : Tree) (us : List Uid) : Type 0 where
+  pub uid : Uid
+  pub branch : Branch
+  pub found : branch_of uid t ≡ Some branch
+  pub path : us ≡ uids_of branch.path
+
+-- A coordinator of node k: what it has of its roots, of calls on the object and of commits under way; and includes were answered under
+-- the paths of its actions.
 pub record SeesHeardAt (x k : ℕ) (tops : Kinds) (sent : List Post) (c : Coord) (A : Office) : Type 0 where
   pub roots : (root : Uid) → IsWorkingRoot tops c root → SeesRootOf x tops root c (root_at root c) A
   pub steps : (u : Uid) (q : Doing) (s : Steps) → doing_of u c ≡ Some q → q.now ≡ Calling s → s.x ≡ x → SeesStep x k sent s A.names
   pub calls : (u : Uid) (q : Doing) (s : Steps) → doing_of u c ≡ Some q → q.now ≡ Calling s → s.x ≡ x → is_include s.goal ≡ false → is_bound s.at ≡ true → SeesCall x tops c s A.names
+  pub includes : (root : Uid) (j : Joined) → Contains (let r = root_at root c in r.joined) j → IsPathIn c.tree j.path
   pub plans : (u : Uid) (q : Doing) (m : Machine) → doing_of u c ≡ Some q → q.now ≡ Committing m → SeesPlan x tops u m A
 
 -- ---- messages

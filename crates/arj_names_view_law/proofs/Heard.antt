@@ -13,7 +13,7 @@ use Rattle.arj_disk_law.specs.Names.{AnswerLoad, Hear, Loaded, Names, Office, ac
 use Rattle.arj_disk_law.specs.State.{State}
 use Rattle.arj_disk_law.specs.Words.{In, put2}
 use Rattle.arj_disk_law.proofs.Acts.{runs_keep}
-use Rattle.arj_disk_law.proofs.Base.{put2_rises, put2_same}
+use Rattle.arj_disk_law.proofs.Base.{put2_rises}
 use Rattle.arj_view_law.specs.Seen.{Seen, up}
 use Rattle.arj_disk_view_law.specs.Pairs.{packed}
 use Rattle.arj_disk_view_law.specs.Sees.{Kinds, SeesDisks}
@@ -23,7 +23,7 @@ use Rattle.arj_disk_view_law.proofs.StoreSteps.{stores_load}
 use Rattle.arj_names_view_law.specs.Both.{HasGoneOn, OnlyAnswers, OnlyAtNode, SeesBoth}
 use Rattle.arj_names_view_law.specs.Grants.{SeesGrants, StaysRetained}
 use Rattle.arj_names_view_law.specs.Heard.{AfterInclude, CallsAreTaken, HasOfRoot, IncludesAreTaken, IsHeard, LoadsAreGiven}
-use Rattle.arj_names_view_law.specs.Lists.{HasList, HasRetained, IsShort, IsTopOf, OnlyKept, SeesLists}
+use Rattle.arj_names_view_law.specs.Lists.{HasList, HasRetained, IsShort, IsTopOf, KeepsCalls, OnlyKept, SeesLists}
 use Rattle.arj_names_view_law.specs.Memory.{NamesGo, SeesNaming}
 use Rattle.arj_names_view_law.proofs.CoordBoth.{answered_naming, kept_only, others_left}
 use Rattle.arj_names_view_law.proofs.GrantSteps.{came_from, grants_stay, heard}
@@ -85,15 +85,16 @@ calls_are_taken x g tops root top c r q known place free A M idle answered has l
     let plain = ap (λ f. f (uid_number top)) fixed.serial ∙ of.plain in
     let go = lists_are_heard x g tops root top c r q known place free A both.named fixed has.0 has.1 lasting of own idle answered now step in
     let only = go.there.0 in
-    heard_both x tops (λ D. HasOfRoot x tops root c q D × (D.names.had (uid_number top) g ≡ true) × OnlyAtNode (λ n. n == uid_number top) A D) A M both (record {
+    heard_both x tops (λ D. HasOfRoot x tops root c q D × (D.names.had ≡ put2 (uid_number top) g true A.names.had) × OnlyAtNode (λ n. n == uid_number top) A D × (free ≡ false → KeepsCalls tops root (kept_of x r) (kept_of x q) A.names D.names)) A M both (record {
       acts = go.acts;
       may = go.may;
       there = (
         kept_only (uid_number top) g A (end_of A go.acts) only go.there.2 idle plain,
         (
           (granted x root c r q (record { top = top; x = x; least = g; named = Some known.binding }) (end_of A go.acts).world.disk A (end_of A go.acts).names (ap (λ (V : World). V.disk) only.world) refl has.0 of_root plain go.there.2 step.grants stays, go.there.1),
-          ap (λ f. f (uid_number top) g) go.there.2 ∙ put2_same (uid_number top) g A.names.had,
+          go.there.2,
           others_left A A (gone_on A) tops root top g (end_of A go.acts) fixed of only go.there.2 go.there.3,
+          go.there.4,
         ),
       );
     })
@@ -146,15 +147,16 @@ includes_are_taken x g tops root top c r q l A M idle answered has of after stay
     let plain = ap (λ f. f (uid_number top)) fixed.serial ∙ of.plain in
     let B : Office = acted A (Hear (uid_number top) g true l) in
     let only : OnlyKept A B = record { names = refl; world = refl; had = λ t i on. put2_rises (uid_number top) g A.names.had t i on; narrows = λ h v is. kept_still v (A.names.kept h) is } in
-    heard_both x tops (λ D. HasOfRoot x tops root c q D × (D.names.had (uid_number top) g ≡ true) × OnlyAtNode (λ n. n == uid_number top) A D) A M both (record {
+    heard_both x tops (λ D. HasOfRoot x tops root c q D × (D.names.had ≡ put2 (uid_number top) g true A.names.had) × OnlyAtNode (λ n. n == uid_number top) A D × (D.names.kept ≡ A.names.kept)) A M both (record {
       acts = Hear (uid_number top) g true l ∷ [];
       may = (record { answered = answered; idle = idle }, tt);
       there = (
         kept_only (uid_number top) g A (acted A (Hear (uid_number top) g true l)) only refl idle plain,
         (
           (granted x root c r q (record { top = top; x = x; least = g; named = None }) A.world.disk A (record A.names { had = put2 (uid_number top) g true A.names.had }) refl refl has.0 of_root plain refl after.grants stays, included_lists x g tops root top c r q A.names has.1 of after),
-          put2_same (uid_number top) g A.names.had,
+          refl,
           others_left A A (gone_on A) tops root top g (acted A (Hear (uid_number top) g true l)) fixed of only refl (λ h o. refl),
+          refl,
         ),
       );
     })

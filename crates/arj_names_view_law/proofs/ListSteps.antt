@@ -23,7 +23,7 @@ use Rattle.arj_disk_law.proofs.Listing.{has_filter}
 use Rattle.arj_disk_law.proofs.Base.{falls_to, never, never_some, or_cases, or_left, or_right, put2_rises, put2_same, some_is, test_is, test_same}
 use Rattle.arj_disk_view_law.specs.Sees.{Kinds, IsFixed}
 use Rattle.arj_names_view_law.specs.Grants.{HasLeast, SeesGrants}
-use Rattle.arj_names_view_law.specs.Lists.{AfterAnswer, CommitsHaveLists, HasKeptList, HasList, HasNarrowed, HasRetained, IsWithin, IsLasting, IsNamedNow, LeavesOthers, IsShort, IsTopOf, ListsAreHeard, OnlyKept, SeesLists}
+use Rattle.arj_names_view_law.specs.Lists.{AfterAnswer, CommitsHaveLists, HasCallList, HasKeptList, HasList, HasNarrowed, HasRetained, IsWithin, IsLasting, IsNamedNow, KeepsCalls, LeavesOthers, IsShort, IsTopOf, ListsAreHeard, OnlyKept, SeesLists}
 use Rattle.arj_names_view_law.specs.Memory.{NamesGo}
 use Rattle.arj_names_view_law.proofs.GrantSteps.{Taken, came_from, taken_old}
 
@@ -349,8 +349,8 @@ module _ (x g : ℕ) (tops : Kinds) (root t : Uid) (c : Coord) (r q : Root) (kno
       nothing = λ e. absurd (never_some is e);
     }
 
-  keeping : SeesLists x tops root c q M → NamesGo A (λ C. OnlyKept A C × SeesLists x tops root c q C.names × (C.names.had ≡ put2 (uid_number t) g true A.names.had) × LeavesOthers tops root A C)
-  keeping seen = record {
+  keeping : SeesLists x tops root c q M → (free ≡ false → KeepsCalls tops root (kept_of x r) (kept_of x q) A.names M) → NamesGo A (λ C. OnlyKept A C × SeesLists x tops root c q C.names × (C.names.had ≡ put2 (uid_number t) g true A.names.had) × LeavesOthers tops root A C × (free ≡ false → KeepsCalls tops root (kept_of x r) (kept_of x q) A.names C.names))
+  keeping seen calls = record {
     acts = machine.Hear (uid_number t) g false known.stores ∷ keeps (uid_number t) g known.stores chosen;
     may = (record { answered = answered; idle = idle }, keep_runs (uid_number t) g known.stores chosen B answered idle chosen_may);
     there = (
@@ -363,6 +363,7 @@ module _ (x g : ℕ) (tops : Kinds) (root t : Uid) (c : Coord) (r q : Root) (kno
       seen,
       ap (λ (N : Names). N.had) (keep_names (uid_number t) g known.stores chosen B),
       λ h o. kept_out h (falls_to (has h chosen) (λ on. o (of_root_chosen h on))),
+      calls,
     );
   }
     where
@@ -384,41 +385,58 @@ module _ (x g : ℕ) (tops : Kinds) (root t : Uid) (c : Coord) (r q : Root) (kno
   fresh l is binding stores spent = kept_now l is (ap (λ (z : Binding). z.inc) binding ∙ now.inc) (subst IsShort (sym binding) now.short) stores (λ z w i f off on of. unspent z (spent z i f) off) (λ z i f on. unspent z (spent z i f) (lasting.retained z i f on))
 
   -- the binding is answered again
+  module _ (k l : Known) (was : kept_of x r ≡ Some k) (alike : binding_eq k.binding known.binding ≡ true) (binding : l.binding ≡ k.binding) (stores : l.stores ≡ known.stores) where
+    old_inc : (let b = k.binding in b.inc) ≡ g
+    old_inc = same_inc k.binding known.binding (s.short k was) now.short alike ∙ now.inc
+
+    inc : (let b = l.binding in b.inc) ≡ g
+    inc = ap (λ (z : Binding). z.inc) binding ∙ old_inc
+
+    list_now : (w : Uid) → IsTopOf tops root w → HasList A.names (uid_number w) k → HasList M (uid_number w) l
+    list_now w of h = chosen_list l inc stores (uid_number w) (top_chosen w of (ap (A.names.had (uid_number w)) (sym old_inc ∙ h.since) ∙ kept_had (uid_number w) h.kept h.there))
+
+    retained_now : HasRetained A.names (uid_number root) k → HasRetained M (uid_number root) l
+    retained_now h = by (has (uid_number root) chosen) refl
+      where
+        had_now : M.had (uid_number root) (let b = l.binding in b.inc) ≡ true
+        had_now = ap (M.had (uid_number root)) (inc ∙ sym old_inc) ∙ had_is (uid_number root) (let b = k.binding in b.inc) (rises (uid_number root) (let b = k.binding in b.inc) h.had)
+
+        by : (b : Bool) → has (uid_number root) chosen ≡ b → HasRetained M (uid_number root) l
+        by true on = (let k = kept_in (uid_number root) on in record { had = had_now; kept = k.kept; there = k.there })
+        by false off = record { had = had_now; kept = h.kept; there = kept_out (uid_number root) off ∙ h.there }
+
+    calls_again : (w : Uid) → IsTopOf tops root w → HasCallList A.names (uid_number root) (uid_number w) k → HasCallList M (uid_number root) (uid_number w) l
+    calls_again w of h = ⊎_elim (λ h. inl (list_now w of h)) (λ h. inr (retained_now h)) h
+
+    repeated_by : kept_of x q ≡ Some l → SeesLists x tops root c q M
+    repeated_by is = kept_now l is inc (subst IsShort (sym binding) (s.short k was)) stores (λ z w i f off on of. calls_again w of (s.called k z w was i f off on of)) (λ z i f on. retained_now (s.retained k z was i f on))
+
   repeated : (k l : Known) → kept_of x r ≡ Some k → kept_of x q ≡ Some l → binding_eq k.binding known.binding ≡ true → l.binding ≡ k.binding → l.stores ≡ known.stores → SeesLists x tops root c q M
-  repeated k l was is alike binding stores = kept_now l is inc (subst IsShort (sym binding) (s.short k was)) stores
-      (λ z w i f off on of. ⊎_elim (λ h. inl (list_now w of h)) (λ h. inr (retained_now h)) (s.called k z w was i f off on of)) (λ z i f on. retained_now (s.retained k z was i f on))
-    where
-      old_inc : (let b = k.binding in b.inc) ≡ g
-      old_inc = same_inc k.binding known.binding (s.short k was) now.short alike ∙ now.inc
+  repeated k l was is alike binding stores = repeated_by k l was alike binding stores is
 
-      inc : (let b = l.binding in b.inc) ≡ g
-      inc = ap (λ (z : Binding). z.inc) binding ∙ old_inc
+  -- with the grant alone calls have their lists still
+  calls_on : (k : Known) (w : Uid) → HasCallList A.names (uid_number root) (uid_number w) k → HasCallList (record A.names { had = put2 (uid_number t) g true A.names.had }) (uid_number root) (uid_number w) k
+  calls_on k w h = ⊎_elim (λ (h : HasList A.names (uid_number w) k). inl (record { kept = h.kept; there = h.there; since = h.since; within = h.within }))
+      (λ (h : HasRetained A.names (uid_number root) k). inr (record { had = rises (uid_number root) (let b = k.binding in b.inc) h.had; kept = h.kept; there = h.there })) h
 
-      list_now : (w : Uid) → IsTopOf tops root w → HasList A.names (uid_number w) k → HasList M (uid_number w) l
-      list_now w of h = chosen_list l inc stores (uid_number w) (top_chosen w of (ap (A.names.had (uid_number w)) (sym old_inc ∙ h.since) ∙ kept_had (uid_number w) h.kept h.there))
-
-      retained_now : HasRetained A.names (uid_number root) k → HasRetained M (uid_number root) l
-      retained_now h = by (has (uid_number root) chosen) refl
-        where
-          had_now : M.had (uid_number root) (let b = l.binding in b.inc) ≡ true
-          had_now = ap (M.had (uid_number root)) (inc ∙ sym old_inc) ∙ had_is (uid_number root) (let b = k.binding in b.inc) (rises (uid_number root) (let b = k.binding in b.inc) h.had)
-
-          by : (b : Bool) → has (uid_number root) chosen ≡ b → HasRetained M (uid_number root) l
-          by true on = (let k = kept_in (uid_number root) on in record { had = had_now; kept = k.kept; there = k.there })
-          by false off = record { had = had_now; kept = h.kept; there = kept_out (uid_number root) off ∙ h.there }
-
-  pub lists_heard : NamesGo A (λ C. OnlyKept A C × SeesLists x tops root c q C.names × (C.names.had ≡ put2 (uid_number t) g true A.names.had) × LeavesOthers tops root A C)
+  pub lists_heard : NamesGo A (λ C. OnlyKept A C × SeesLists x tops root c q C.names × (C.names.had ≡ put2 (uid_number t) g true A.names.had) × LeavesOthers tops root A C × (free ≡ false → KeepsCalls tops root (kept_of x r) (kept_of x q) A.names C.names))
   lists_heard = by (kept_of x r) refl (becomes known at free (kept_of x r))
     where
-      by : (o : Option Known) → kept_of x r ≡ o → Becomes known free o (let m = bound_by free known at (kept_of x r) in m.kept) → NamesGo A (λ C. OnlyKept A C × SeesLists x tops root c q C.names × (C.names.had ≡ put2 (uid_number t) g true A.names.had) × LeavesOthers tops root A C)
+      by : (o : Option Known) → kept_of x r ≡ o → Becomes known free o (let m = bound_by free known at (kept_of x r) in m.kept) → NamesGo A (λ C. OnlyKept A C × SeesLists x tops root c q C.names × (C.names.had ≡ put2 (uid_number t) g true A.names.had) × LeavesOthers tops root A C × (free ≡ false → KeepsCalls tops root (kept_of x r) (kept_of x q) A.names C.names))
       by o e (stays k was is apart) = record {
         acts = machine.Hear (uid_number t) g false known.stores ∷ [];
         may = (record { answered = answered; idle = idle }, tt);
-        there = (record { names = refl; world = refl; had = rises; narrows = λ h k is. kept_still k (A.names.kept h) is }, stayed k (e ∙ was) (after.kept ∙ is) apart, refl, λ h o. refl);
+        there = (
+          record { names = refl; world = refl; had = rises; narrows = λ h k is. kept_still k (A.names.kept h) is },
+          stayed k (e ∙ was) (after.kept ∙ is) apart,
+          refl,
+          λ h o. refl,
+          λ off w y of at h. (k, after.kept ∙ is, calls_on k w (subst (HasCallList A.names (uid_number root) (uid_number w)) (some_is at (e ∙ was)) h)),
+        );
       }
-      by o e (first l was is binding stores) = keeping (fresh l (after.kept ∙ is) binding stores (s.nothing (e ∙ was)))
-      by o e (again k l was is alike binding stores) = keeping (repeated k l (e ∙ was) (after.kept ∙ is) alike binding stores)
-      by o e (other k l was is freed binding stores) = keeping (fresh l (after.kept ∙ is) binding stores (now.spent freed))
+      by o e (first l was is binding stores) = keeping (fresh l (after.kept ∙ is) binding stores (s.nothing (e ∙ was))) (λ off w k of at. absurd (never_some at (e ∙ was)))
+      by o e (again k l was is alike binding stores) = keeping (repeated k l (e ∙ was) (after.kept ∙ is) alike binding stores) (λ off w y of at h. (l, after.kept ∙ is, calls_again k l (e ∙ was) alike binding stores w of (subst (HasCallList A.names (uid_number root) (uid_number w)) (some_is at (e ∙ was)) h)))
+      by o e (other k l was is freed binding stores) = keeping (fresh l (after.kept ∙ is) binding stores (now.spent freed)) (λ off. absurd (never freed off))
 
 pub lists_are_heard : ListsAreHeard
 lists_are_heard x g tops root t c r q known at free A named fixed grants s lasting top own_root idle answered now after = lists_heard x g tops root t c r q known at free A named fixed grants s lasting top own_root idle answered now after

@@ -8,13 +8,13 @@ use Rattle.arj_protocol.specs.Node.{Parts}
 use Rattle.arj_protocol.specs.Order.{uid_number}
 use Rattle.arj_disk_law.specs.Names.{Bound, Loaded, Office}
 use Rattle.arj_disk_law.specs.State.{Idle}
-use Rattle.arj_disk_law.specs.Words.{In, has}
+use Rattle.arj_disk_law.specs.Words.{In, has, put2}
 use Rattle.arj_view_law.specs.Seen.{Seen, up}
 use Rattle.arj_disk_view_law.specs.Pairs.{packed}
 use Rattle.arj_disk_view_law.specs.Sees.{Kinds}
 use Rattle.arj_names_view_law.specs.Both.{OnlyAnswers, OnlyAtNode, SeesBoth}
 use Rattle.arj_names_view_law.specs.Grants.{SeesGrants, StaysRetained}
-use Rattle.arj_names_view_law.specs.Lists.{AfterAnswer, IsLasting, IsNamedNow, IsTopOf, SeesLists}
+use Rattle.arj_names_view_law.specs.Lists.{AfterAnswer, IsLasting, KeepsCalls, IsNamedNow, IsTopOf, SeesLists}
 
 -- answers were taken or given in the machine, to an office of which this holds; both halves are seen there as they were
 abbrev pub IsHeard : ℕ → Kinds → (Office → Type 0) → Office → Seen → Type 0
@@ -34,11 +34,12 @@ LoadsAreGiven = (x k : ℕ) (tops : Kinds) (d : Disk) (t : Parts) (st : ObjectSt
 abbrev pub HasOfRoot : ℕ → Kinds → Uid → Coord → Root → Office → Type 0
 HasOfRoot x tops root c q D = SeesGrants x root c q D.world.disk D.names × SeesLists x tops root c q D.names
 
--- A coordinator takes naming's answer to a top's call, while the top works.
+-- A coordinator takes naming's answer to a top's call, while the top works: the grant is the one new one; where the root isn't free of what
+-- it keeps, calls have lists as before.
 abbrev pub CallsAreTaken : Type 0
 CallsAreTaken = (x g : ℕ) (tops : Kinds) (root top : Uid) (c : Coord) (r q : Root) (known : Known) (at : At) (free : Bool) (A : Office) (M : Seen) → A.world.disk.stage (uid_number top) ≡ Idle → In (Bound (uid_number top) g false known.stores) A.names.answers
     → HasOfRoot x tops root c r A → IsLasting x c r → IsTopOf tops root top → tops.root (uid_number root) ≡ uid_number root → IsNamedNow x c r g known free → AfterAnswer x g top known at free r q → StaysRetained x c r c q
-    → SeesBoth x tops A M → IsHeard x tops (λ D. HasOfRoot x tops root c q D × (D.names.had (uid_number top) g ≡ true) × OnlyAtNode (λ n. n == uid_number top) A D) A M
+    → SeesBoth x tops A M → IsHeard x tops (λ D. HasOfRoot x tops root c q D × (D.names.had ≡ put2 (uid_number top) g true A.names.had) × OnlyAtNode (λ n. n == uid_number top) A D × (free ≡ false → KeepsCalls tops root (kept_of x r) (kept_of x q) A.names D.names)) A M
 
 -- The root after an answer to a top's include: its grant is noted, which names no binding.
 pub record AfterInclude (x g : ℕ) (t : Uid) (r q : Root) : Type 0 where
@@ -46,8 +47,8 @@ pub record AfterInclude (x g : ℕ) (t : Uid) (r q : Root) : Type 0 where
   pub said : q.said ≡ r.said
   pub kept : kept_of x q ≡ kept_of x r
 
--- And it takes the answer to an include.
+-- And it takes the answer to an include, which leaves kept lists.
 abbrev pub IncludesAreTaken : Type 0
 IncludesAreTaken = (x g : ℕ) (tops : Kinds) (root top : Uid) (c : Coord) (r q : Root) (l : List ℕ) (A : Office) (M : Seen) → A.world.disk.stage (uid_number top) ≡ Idle → In (Bound (uid_number top) g true l) A.names.answers
     → HasOfRoot x tops root c r A → IsTopOf tops root top → AfterInclude x g top r q → StaysRetained x c r c q
-    → SeesBoth x tops A M → IsHeard x tops (λ D. HasOfRoot x tops root c q D × (D.names.had (uid_number top) g ≡ true) × OnlyAtNode (λ n. n == uid_number top) A D) A M
+    → SeesBoth x tops A M → IsHeard x tops (λ D. HasOfRoot x tops root c q D × (D.names.had ≡ put2 (uid_number top) g true A.names.had) × OnlyAtNode (λ n. n == uid_number top) A D × (D.names.kept ≡ A.names.kept)) A M

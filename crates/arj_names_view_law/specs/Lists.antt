@@ -101,11 +101,20 @@ pub record AfterAnswer (x g : ℕ) (t : Uid) (known : Known) (at : At) (free : B
 abbrev pub LeavesOthers : Kinds → Uid → Office → Office → Type 0
 LeavesOthers tops root A B = (h : ℕ) → (tops.root h ≡ uid_number root → ⊥) → B.names.kept h ≡ A.names.kept h
 
--- The answer is taken, and with it its list for each of the root that has a grant of its incarnation; of grants it is the one new one.
+-- the machine keeps a list within that of the binding for the top, or its root retains one
+abbrev pub HasCallList : Names → ℕ → ℕ → Known → Type 0
+HasCallList N root top k = HasList N top k ⊎ HasRetained N root k
+
+-- whichever of the root's tops had a list for what was kept has one for what is kept now
+abbrev pub KeepsCalls : Kinds → Uid → Option Known → Option Known → Names → Names → Type 0
+KeepsCalls tops root old new N M = (w : Uid) (k : Known) → IsTopOf tops root w → old ≡ Some k → HasCallList N (uid_number root) (uid_number w) k → (l : Known) × (new ≡ Some l) × HasCallList M (uid_number root) (uid_number w) l
+
+-- The answer is taken, and with it its list for each of the root that has a grant of its incarnation; of grants it is the one new one. Where the
+-- root isn't free of what it keeps, its tops have lists as before.
 abbrev pub ListsAreHeard : Type 0
 ListsAreHeard = (x g : ℕ) (tops : Kinds) (root t : Uid) (c : Coord) (r q : Root) (known : Known) (at : At) (free : Bool) (A : Office) → Named A → IsFixed tops A.world.disk → SeesGrants x root c r A.world.disk A.names → SeesLists x tops root c r A.names → IsLasting x c r
     → IsTopOf tops root t → tops.root (uid_number root) ≡ uid_number root → A.world.disk.stage (uid_number t) ≡ Idle → In (machine.Bound (uid_number t) g false known.stores) A.names.answers → IsNamedNow x c r g known free → AfterAnswer x g t known at free r q
-    → NamesGo A (λ B. OnlyKept A B × SeesLists x tops root c q B.names × (B.names.had ≡ put2 (uid_number t) g true A.names.had) × LeavesOthers tops root A B)
+    → NamesGo A (λ B. OnlyKept A B × SeesLists x tops root c q B.names × (B.names.had ≡ put2 (uid_number t) g true A.names.had) × LeavesOthers tops root A B × (free ≡ false → KeepsCalls tops root (kept_of x r) (kept_of x q) A.names B.names))
 
 -- ---- a commit's list
 
