@@ -55,7 +55,7 @@ lost_so w req at known is k o at_it = absurd (by w.at (is ∙ ap On at_it))
     by (AtNote q i) e = cc e
     by (AtInvoke q i) e = cc e
 
-states_kept : IsKeptBy (λ s c. KnowsStates c)
+pub states_kept : IsKeptBy (λ s c. KnowsStates c)
 states_kept = record {
   new = λ s node inc telling fresh. of_waiting (record (new_coord node inc) { telling = telling }) (waiting_new IsStated node inc telling);
   apart = λ s c p other knows. knows;
