@@ -62,7 +62,7 @@ answers_back a (Reply.Voted r) = refl
 answers_back a (Reply.Prepared r) = refl
 answers_back a (Reply.Confirmed r) = refl
 
-module _ (c : Case) (s : Spot) (e from : ℕ) (a : Asked) (r : Reply) (is_seen : IsSeenIn c (world_at s)) (holds : HoldsNamingIn c s.node (let t = s.parts in t.naming)) (knows : KnowsAnswer c s a r)
+module _ (c : Case) (s : Spot) (e from : ℕ) (a : Asked) (r : Reply) (is_seen : IsSeenIn c (world_at s)) (holds : HoldsNamingIn c s.node (let t = s.parts in t.naming)) (knows : KnowsAnswer c s from a r)
     (sent : In (record { from = from; to = s.node; message = response a r }) (let M = s.seen in M.sent)) where
   abbrev f : Fixed
   f = c.fixed
@@ -158,7 +158,7 @@ module _ (c : Case) (s : Spot) (e from : ℕ) (a : Asked) (r : Reply) (is_seen :
               (subst (λ (g : Goal). ShowsNamingReply V (head_of w) (ask_at w.x g (ask_ends shown.ask) w.at) c.state r) goal naming)
               (fits_goal (Run o) goal)
               (λ k st at. (let q = knows.asks in q.states a.act d w k st found is at) ∙ about)
-              (λ k n rest st at reply. knows.last d w k n rest o st found is about goal at reply))
+              (λ k n rest st at reply. knows.last d w k n rest o st found is about goal at reply waits))
               after.coord after.asks
           by about (IncludeStore store) goal = include_answers_go c s e store a.act b d w r is_seen work waiting about goal
               (include_shown V w c.state about (ask_ends shown.ask) store w.at r (kind_at (IncludeStore store) (ask_ends shown.ask) w.at (subst (λ (g : Goal). (reply_kind r == ask_kind (ask_at w.x g [] w.at)) ≡ true) goal kinds))

@@ -55,7 +55,7 @@ pub record GivesLocks (hd : Header) (f : Fixed) (x : ℕ) (R : List Action → S
   pub asked : (begun : List Action) (S : State) (s : Spot) (from : ℕ) (u : Uid) (v : Parts) (outs : List Effect) → R begun (world_at s) → IsSeenIn (case_of f x begun S) (world_at s) → HasCome s from (message.Query (record { act = u })) v outs → IsAskedAbout (case_of f x begun S) s u
   pub acked : (begun : List Action) (S : State) (s : Spot) (from : ℕ) (u : Uid) (v : Parts) (outs : List Effect) → R begun (world_at s) → IsSeenIn (case_of f x begun S) (world_at s) → HasCome s from (message.Acked (record { act = u })) v outs → HasWholeRoots s u
   pub heard : (begun : List Action) (S : State) (s : Spot) (from : ℕ) (m : Message) (a : Asked × Reply) (v : Parts) (outs : List Effect) → R begun (world_at s) → IsSeenIn (case_of f x begun S) (world_at s) → HasCome s from m v outs → answers m ≡ Some a
-      → KnowsAnswer (case_of f x begun S) s a.0 a.1
+      → KnowsAnswer (case_of f x begun S) s from a.0 a.1
   pub act : (begun : List Action) (S : State) (s : Spot) (i : Input) → R begun (world_at s) → IsSeenIn (case_of f x begun S) (world_at s) → is_act i ≡ true → refusal_up hd i (coord_at s) ≡ None
       → KnowsInput s × KnowsAfter (case_of f x begun S) (let D = acts i (let d = s.disk in d.intents) (coord_at s) in D.part)
   pub begin : (begun : List Action) (S : State) (s : Spot) → R begun (world_at s) → IsSeenIn (case_of f x begun S) (world_at s) → root_at (next_uid (let q = coord_at s in q.tree)) (coord_at s) ≡ no_root
