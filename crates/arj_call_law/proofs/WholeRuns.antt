@@ -43,7 +43,7 @@ use Rattle.arj_call_law.proofs.WorldRuns.{calls_given, votes_in}
 
 -- ---- the servers that were given
 
-abbrev home_in : Gifts → Homes
+abbrev pub home_in : Gifts → Homes
 home_in [] n = 0
 home_in (g ∷ gs) n = cond (g.0 == n) g.1 (home_in gs n)
 
@@ -54,7 +54,7 @@ agree_more g gs (f ∷ fs) below all = ((λ i. cond (off g.0 f.0 below.0 i) g.1 
     off : (a b : ℕ) → b < a → (a == b) ≡ false
     off a b lt = grind (arith, lt)
 
-is_home : (gs : Gifts) → AreApart gs → IsHome gs (home_in gs)
+pub is_home : (gs : Gifts) → AreApart gs → IsHome gs (home_in gs)
 is_home [] apart = record { nobody = refl; agrees = tt }
 is_home (g ∷ gs) apart =
     let h = is_home gs apart.2 in

@@ -14,7 +14,7 @@ use Rattle.arj_protocol.specs.Asking.{again_all, begin_action}
 use Rattle.arj_protocol.specs.Follow.{tick_outs}
 use Rattle.arj_protocol.specs.Node.{Parts, with_coord}
 use Rattle.arj_protocol.specs.Order.{at_number, at_uid, put_uid}
-use Rattle.arj_protocol.specs.Step.{Node, acts, first_entry, parent_of, parts_in, put_states, restart_outs}
+use Rattle.arj_protocol.specs.Step.{first_disk, Node, acts, first_entry, parent_of, parts_in, put_states, restart_outs}
 use Rattle.arj_protocol.specs.World.{format, is_serial_kind}
 use Rattle.arj_part_law.proofs.Keys.{order_exact, put_same}
 use Rattle.arj_address_law.proofs.Lists.{found_put}
@@ -102,8 +102,11 @@ module _ (x : ℕ) where
   first_held (p ∷ ps) o held (inl same) is = put_keeps (map first_entry ps) (put_uid (entry p.x) (first_entry p) held) (subst (λ (n : ℕ). is_some (at_uid (entry n) (put_uid (entry p.x) (first_entry p) held)) ≡ true) (ap (λ (z : ObjectLine). z.x) same ∙ is) (put_there (entry p.x) (first_entry p) held))
   first_held (p ∷ ps) o held (inr i) is = first_held ps o (put_uid (entry p.x) (first_entry p) held) i is
 
+  pub first_there : (hd : Header) → HasObject hd x → is_some (held_at (entry x) (let d = first_disk hd 1 in d.names)) ≡ true
+  first_there hd has = first_held hd.objects has.0 [] (in_from has.0 hd.objects has.1) has.2
+
   first_so : (hd : Header) → HasObject hd x → HoldsEntry x (see [] (format hd))
-  first_so hd has n is = subst (λ (z : Node). is_some (held_at (entry x) z.disk.names) ≡ true) (first_at hd 1 n is) (first_held hd.objects has.0 [] (in_from has.0 hd.objects has.1) has.2)
+  first_so hd has n is = subst (λ (z : Node). is_some (held_at (entry x) z.disk.names) ≡ true) (first_at hd 1 n is) (first_there hd has)
 
 -- ---- all runs
 

@@ -6,7 +6,7 @@ use Rattle.std.specs.Ordering.{is_eq, nat_cmp}
 use Rattle.arj_base.proofs.Uids.{uid_same}
 use Rattle.arj_lock.proofs.Leaves.{grant_clear}
 use Rattle.arj_lock.proofs.Members.{In, in_from}
-use Rattle.arj_protocol.specs.Words.{Binding, BoundReply, ConfirmedReply, End, Entry, Header, ObjectState, Path, RecordedReply, Row, Uid, entry, first_conflict, grant_row, is_on, last_uid, lower_row, uid_eq}
+use Rattle.arj_protocol.specs.Words.{Binding, BoundReply, ConfirmedReply, End, Entry, ObjectState, Path, RecordedReply, Row, Uid, entry, first_conflict, grant_row, is_on, last_uid, lower_row, uid_eq}
 use Rattle.arj_protocol.specs.Words.confirmed
 use Rattle.arj_protocol.specs.Words.ending
 use Rattle.arj_protocol.specs.Words.mode
@@ -36,12 +36,11 @@ use Rattle.arj_part_law.proofs.Pairs.{at_each}
 use Rattle.arj_part_law.proofs.Stores.{each_passes, either_none}
 use Rattle.arj_address_law.specs.Addresses.{IsEntry}
 use Rattle.arj_address_law.proofs.Lists.{all_filter, all_key, all_with, all_without}
-use Rattle.arj_lock_fact_law.specs.Acts.{KeepsOf}
-use Rattle.arj_lock_fact_law.specs.Uppers.{AreUppersOf, AsTops, HandlersKeepObjects, HavePrepared, HaveUpper, HoldsObjects, IsTopOf, ObjectsAreGood, RunsKeepObjects}
+use Rattle.arj_lock_fact_law.specs.Uppers.{AsTops, HandlersKeepObjects, HavePrepared, HaveUpper, HoldsObjects, IsTopOf, ObjectsAreGood, RunsKeepObjects}
 use Rattle.arj_lock_fact_law.proofs.GoodOwners.{object_more, owns_none, top_on, tops_more}
 use Rattle.arj_lock_fact_law.proofs.UpperRows.{top_asks}
 use Rattle.arj_lock_fact_law.proofs.Uppers.{held_uppers, uppers_more}
-use Rattle.arj_lock_fact_law.proofs.UpperWalks.{IsHeld, keeps_uppers, runs_uppers, uppers_of}
+use Rattle.arj_lock_fact_law.proofs.UpperWalks.{IsHeld, keeps_uppers, runs_uppers}
 
 some_is : {A : Type 0} {a b : A} → Some a ≡ Some b → a ≡ b
 some_is {A} {a} {b} is = let k : ◌≡◌ {A = Option A} (Some a) (Some b) = is in cc
@@ -305,7 +304,7 @@ module _ (acts : List Action) (begun : AreBegun acts) where
 
 -- ---- all runs
 
-held_objects : IsHeld HoldsObjects
+pub held_objects : IsHeld HoldsObjects
 held_objects = record {
   more = λ a acts begun n its. record { uppers = uppers_more a acts n its.uppers; tops = tops a acts begun n.objects its.tops; objects = λ x o is. let u = its.uppers in object_more a acts begun (is_on n.told) n.inc n.count x o (all_found (λ (z : Named). HaveUpper acts z.rows) x n.objects o u.rows is) (all_found (AsTops acts) x n.objects o its.tops is) (its.objects x o is) };
   starts = λ acts begun inc d prepared. let r = objects_recovered acts begun inc d prepared in record { uppers = held_uppers.starts acts begun inc d prepared; tops = r.0; objects = r.1 };
@@ -319,10 +318,6 @@ held_objects = record {
     tops : (a : Action) (acts : List Action) → AreBegun (a ∷ acts) → (es : List (ℕ × Named)) → AllByRecursion (λ (e : ℕ × Named). AsTops acts e.1) es → AllByRecursion (λ (e : ℕ × Named). AsTops (a ∷ acts) e.1) es
     tops a acts begun [] all = tt
     tops a acts begun (e ∷ es) all = (tops_more a acts begun (λ u. false) e.1 all.0, tops a acts begun es all.1)
-
--- for the actions that were begun
-pub objects_of : (hd : Header) → KeepsOf hd (λ acts M. ⊤) (AreUppersOf HoldsObjects)
-objects_of hd = uppers_of HoldsObjects held_objects hd
 
 pub objects_keep : HandlersKeepObjects
 objects_keep hd = keeps_uppers HoldsObjects held_objects hd

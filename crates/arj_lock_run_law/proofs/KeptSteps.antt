@@ -104,7 +104,7 @@ some_is {A} {a} {b} is = let k : ◌≡◌ {A = Option A} (Some a) (Some b) = is
 -- ---- what a message is
 
 -- acknowledged, or asked about
-abbrev coordinated : Message → Option (Uid × Bool)
+abbrev pub coordinated : Message → Option (Uid × Bool)
 coordinated (message.Acked m) = Some (m.act, true)
 coordinated (message.Query m) = Some (m.act, false)
 coordinated m = None
@@ -118,7 +118,7 @@ abbrev flag : Option (Uid × Bool) → Bool
 flag None = false
 flag (Some p) = p.1
 
-is_answer : (m : Message) → coordinated m ≡ None → is_for_parts m ≡ false → is_some (answers m) ≡ true
+pub is_answer : (m : Message) → coordinated m ≡ None → is_for_parts m ≡ false → is_some (answers m) ≡ true
 is_answer (message.Acked m) none is = absurd (cc none)
 is_answer (message.Query m) none is = absurd (cc none)
 is_answer m none is = un (is_some (answers m)) is
@@ -127,17 +127,17 @@ is_answer m none is = un (is_some (answers m)) is
     un true h = refl
     un false h = absurd (cc h)
 
-is_acked : (m : Message) (u : Uid) → coordinated m ≡ Some (u, true) → m ≡ message.Acked (record { act = u })
+pub is_acked : (m : Message) (u : Uid) → coordinated m ≡ Some (u, true) → m ≡ message.Acked (record { act = u })
 is_acked (message.Acked m) u is = let same : m.act ≡ u = ap (act_or m.act) is in ap (λ (w : Uid). message.Acked (record { act = w })) same
 is_acked (message.Query m) u is = absurd (let bad : false ≡ true = ap flag is in cc bad)
 is_acked m u is = absurd (cc is)
 
-is_query : (m : Message) (u : Uid) → coordinated m ≡ Some (u, false) → m ≡ message.Query (record { act = u })
+pub is_query : (m : Message) (u : Uid) → coordinated m ≡ Some (u, false) → m ≡ message.Query (record { act = u })
 is_query (message.Acked m) u is = absurd (let bad : true ≡ false = ap flag is in cc bad)
 is_query (message.Query m) u is = let same : m.act ≡ u = ap (act_or m.act) is in ap (λ (w : Uid). message.Query (record { act = w })) same
 is_query m u is = absurd (cc is)
 
-took_heard : (t v : Parts) (r : Served Coord (Unit {0})) (outs : List Effect) → coord_heard t r ≡ Took v outs → (with_coord t r.part ≡ v) × (r.outs ≡ outs)
+pub took_heard : (t v : Parts) (r : Served Coord (Unit {0})) (outs : List Effect) → coord_heard t r ≡ Took v outs → (with_coord t r.part ≡ v) × (r.outs ≡ outs)
 took_heard t v r outs is = by r.reply is
   where
     by : (o : Option (Unit {0})) → by_reply (with_coord t r.part) r.outs o ≡ Took v outs → (with_coord t r.part ≡ v) × (r.outs ≡ outs)
@@ -147,7 +147,7 @@ took_heard t v r outs is = by r.reply is
 -- ---- what an answer is
 
 -- it is its message
-response_is : (m : Message) (a : Asked × Reply) → answers m ≡ Some a → m ≡ response a.0 a.1
+pub response_is : (m : Message) (a : Asked × Reply) → answers m ≡ Some a → m ≡ response a.0 a.1
 response_is (message.Bound m) a is = ap (λ (z : Asked × Reply). response z.0 z.1) (some_is is)
 response_is (message.Loaded m) a is = ap (λ (z : Asked × Reply). response z.0 z.1) (some_is is)
 response_is (message.Activated m) a is = ap (λ (z : Asked × Reply). response z.0 z.1) (some_is is)
@@ -170,7 +170,7 @@ response_is (message.Query m) a is = absurd (cc is)
 response_is (message.Hello m) a is = absurd (cc is)
 
 -- the coordinator takes it
-handled_answer : (k : ℕ) (d : Disk) (t : Parts) (from : ℕ) (a : Asked) (r : Reply) → handle k d t from (response a r) ≡ coord_heard t (heard from a r d.intents t.coord)
+pub handled_answer : (k : ℕ) (d : Disk) (t : Parts) (from : ℕ) (a : Asked) (r : Reply) → handle k d t from (response a r) ≡ coord_heard t (heard from a r d.intents t.coord)
 handled_answer k d t from a (Reply.Bound r) = refl
 handled_answer k d t from a (Reply.Loaded r) = refl
 handled_answer k d t from a (Reply.Activated r) = refl

@@ -1,0 +1,10 @@
+pub mod Of
+pub mod Names
+pub mod Tops
+pub mod TopWalks
+pub mod Avoids
+pub mod CoordCases
+pub mod AvoidWalks
+pub mod Whole
+pub mod Gives
+pub mod WholeRuns

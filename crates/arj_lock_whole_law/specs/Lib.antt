@@ -1,0 +1,5 @@
+pub mod Tops
+pub mod Avoids
+pub mod Whole
+pub mod Rest
+pub mod Runs

@@ -1,0 +1,61 @@
+-- The run of every script, of which each object is seen by its lock machine.
+use Rattle.std.specs.Prelude.{◌≡◌, ◌≤◌, Bool, ℕ, true, List, length}
+use Rattle.arj_base.specs.Uid.{nobody}
+use Rattle.arj_class.specs.declared.value.Value.{Value}
+use Rattle.arj_protocol.specs.Words.{Header}
+use Rattle.arj_protocol.specs.World.{Asked, format, journal, run_all}
+use Rattle.arj_model.specs.Last.{first_values}
+use Rattle.arj_part_law.specs.Actions.{Action}
+use Rattle.arj_view_law.specs.Keeps.{Holds}
+use Rattle.arj_view_law.specs.Seen.{Seen}
+use Rattle.arj_call_law.specs.Runs.{KnowsFew}
+use Rattle.arj_binding_law.specs.Scripts.{most_events}
+use Rattle.arj_line_law.specs.Paths.{IsAlikeOf}
+use Rattle.arj_lock_law.specs.State.{State}
+use Rattle.arj_lock_view_law.specs.Copies.{Codes}
+use Rattle.arj_lock_fact_law.specs.Acts.{KeepsOf}
+use Rattle.arj_lock_fact_law.specs.Entries.{HasObject}
+use Rattle.arj_lock_run_law.specs.Fixed.{Agrees, Fixed}
+use Rattle.arj_lock_run_law.specs.Sees.{SeesLocks}
+use Rattle.arj_lock_run_law.specs.Tied.{AreTied}
+use Rattle.arj_serial_law.specs.Tied.{IsTied}
+use Rattle.arj_lock_whole_law.specs.Rest.{GivesRest}
+use Rattle.arj_lock_whole_law.specs.Whole.{KnowsWhole}
+
+-- each handler keeps what is known of the protocol alone, for an object of the header, where few bindings were made
+abbrev pub HandlersKeepWhole : Type 0
+HandlersKeepWhole = (hd : Header) (x : ℕ) → HasObject hd x → KeepsOf hd (λ begun M. KnowsFew M) (KnowsWhole x)
+
+-- What is known where a relation is kept beside it.
+abbrev pub Known : ℕ → (List Action → Seen → Type 0) → List Action → Seen → Type 0
+Known x E begun M = KnowsFew M × (KnowsWhole x begun M × E begun M)
+
+-- A relation that is kept beside what is known of the protocol, and gives what is still to be given.
+pub record IsRest (hd : Header) (x : ℕ) (E : List Action → Seen → Type 0) : Type 0 where
+  pub kept : KeepsOf hd (λ begun M. KnowsFew M × KnowsWhole x begun M) E
+  pub gives : (f : Fixed) → GivesRest f x (Known x E)
+
+-- The object is seen by its lock machine, in these codes and from this first value: what is fixed agrees with all that was done, and the
+-- journal is tied to the machine's state.
+pub record IsLockSeen (code : Codes) (value : Value) (x : ℕ) (begun : List Action) (M : Seen) : Type 0 where
+  pub fixed : Fixed
+  pub codes : (let f = fixed in f.code) ≡ code
+  pub first : (let f = fixed in f.first) ≡ (let f = fixed in f.code value (f.act nobody))
+  pub agrees : Agrees fixed x begun M.sent
+  pub state : State
+  pub sees : SeesLocks fixed x begun state M
+  pub tied : AreTied fixed x M.lines state
+
+-- so it is for all codes and first values, with the actions that were begun
+abbrev pub AreAllSeen : ℕ → Seen → Type 0
+AreAllSeen x M = (begun : List Action) × IsAlikeOf begun M × ((code : Codes) (value : Value) → IsLockSeen code value x begun M)
+
+-- The run of each script, for each object of the header.
+abbrev pub RunsSeeLocks : Type 0
+RunsSeeLocks = (hd : Header) (x : ℕ) → HasObject hd x → (test : List Action → Seen → Bool) → IsRest hd x (λ begun M. test begun M ≡ true)
+    → (es : List Asked) → length es ≤ most_events → Holds hd (AreAllSeen x) (run_all es (format hd))
+
+-- So its journal is tied to the object's lock machine.
+abbrev pub RunsAreTied : Type 0
+RunsAreTied = (hd : Header) (x : ℕ) → HasObject hd x → (test : List Action → Seen → Bool) → IsRest hd x (λ begun M. test begun M ≡ true)
+    → (es : List Asked) → length es ≤ most_events → (S : State) × IsTied (first_values hd) (journal hd es) x S

@@ -1,0 +1,12 @@
+//! Whole runs of the protocol, each object of which is seen by its lock machine.
+//!
+//! It puts together, for the actions that were begun, all that `arj_lock_fact_law`, `arj_call_law`, `arj_address_law`, `arj_run_law` and
+//! others have of the protocol alone in every run (`specs/Whole.antt`), with what is shown here: who is asked about and who has something
+//! prepared (`specs/Tops.antt`), and which bindings are avoided (`specs/Avoids.antt`). It gives what `arj_lock_run_law` counts on where
+//! something comes, but for what `specs/Rest.antt` names. At a run's end the places of actions, the codes of values and what requests want
+//! are found. It gives upward `handlers_keep_the_whole`, `runs_see_the_locks` and `runs_are_tied_to_locks` (`specs/Runs.antt`).
+#![tactic(auto)]
+
+mod runs;
+
+pub use runs::{handlers_keep_the_whole, runs_are_tied_to_locks, runs_see_the_locks};

@@ -1,0 +1,23 @@
+// Whole runs, in which each object is seen by its lock machine.
+ghost use Rattle.arj_lock_whole_law.specs.Runs.{HandlersKeepWhole, RunsAreTied, RunsSeeLocks};
+
+/// Each handler before which few bindings were made keeps all that is known of the protocol alone, for the actions that were begun, wherever
+/// a stop falls: of naming and its locks, of questions and what is prepared, of records, of coordinators and what they ask and avoid. It
+/// does nothing when it runs.
+pub fn handlers_keep_the_whole()
+    ensures { HandlersKeepWhole }
+{}
+
+/// After the run of each script of at most 1,000,000 events, with all stops, crashes and restarts, each object of the header is seen by its
+/// lock machine, for any codes of values and any first value: there are places of the actions that were begun and wants of all requests that
+/// were sent, and a state of the machine, to which all nodes, all messages and the journal are tied. What `specs/Rest.antt` names is still
+/// taken of a relation that is kept beside. It does nothing when it runs.
+pub fn runs_see_the_locks()
+    ensures { RunsSeeLocks }
+{}
+
+/// So the journal of each such run is tied to the lock machine of each object of the header, from the header's first value and in codes
+/// that tell values apart, with the same premise. It does nothing when it runs.
+pub fn runs_are_tied_to_locks()
+    ensures { RunsAreTied }
+{}
