@@ -193,17 +193,17 @@ tied_first Idle W M none empty = ((λ u n here d. absurd (never d (ap (λ ds. is
 -- ---- each handler
 
 -- a node that is up was not down
-was_up : {A : Type 0} (t : Parts) → Some t ≡ None → A
+pub was_up : {A : Type 0} (t : Parts) → Some t ≡ None → A
 was_up t is = absurd (cc is)
 
 module _ (hd : Header) (x : ℕ) (R G : Seen → Type 0) (P : Kinds → Office → Seen → Type 0) (Idle : List Line → Uid → Type 0) (kept : Keeps hd R) (parts : KeepsPart hd x (λ M. R M × G M) P) (idles : KnowsIdle R Idle) where
-  abbrev Both : Seen → Type 0
+  abbrev pub Both : Seen → Type 0
   Both M = R M × IsKept M
 
   lines_too : Keeps hd IsKept
   lines_too = lines_keep hd
 
-  both_too : Keeps hd Both
+  pub both_too : Keeps hd Both
   both_too = kept_both hd R IsKept kept (keeps_given hd R IsKept lines_too)
 
   -- who is decided at the end of a step has a branch there
@@ -257,7 +257,7 @@ module _ (hd : Header) (x : ℕ) (R G : Seen → Type 0) (P : Kinds → Office �
   goes_from : (o : Change) (A C : Office) → C.world ≡ A.world → machine.Whole A.world → (B : Office) → Changes o C B → Goes A.world B.world
   goes_from o A C same whole B c = subst (λ W. Goes W B.world) same (goes_by o C B (subst machine.Whole (sym same) whole) c)
 
-  tied_part : KeepsPart hd x (λ M. Both M × G M) (WithTie P Idle)
+  pub tied_part : KeepsPart hd x (λ M. Both M × G M) (WithTie P Idle)
   tied_part = record {
     quiet = λ tops e bs M A walk quiet r both (part, tie) B changed seen. let w = lines_too.quiet e bs M quiet r.0.1 in (
       parts.quiet tops e bs M A walk quiet (r.0.0, r.1) both part B changed seen,
@@ -318,7 +318,7 @@ module _ (hd : Header) (x : ℕ) (R G : Seen → Type 0) (P : Kinds → Office �
 -- ---- every run
 
 -- actions of a journal are told apart by their Uids
-one_act : (xs : List Act) → AreDistinct xs → (a b : Act) → Among a xs → Among b xs → a.uid ≡ b.uid → a ≡ b
+pub one_act : (xs : List Act) → AreDistinct xs → (a b : Act) → Among a xs → Among b xs → a.uid ≡ b.uid → a ≡ b
 one_act [] apart a b in_a in_b same = absurd in_a
 one_act (x ∷ xs) apart a b (inl i) (inl j) same = sym i ∙ j
 one_act (x ∷ xs) apart a b (inl i) (inr j) same = absurd (never (among xs b j) (ap (has_act xs) (sym same ∙ ap (λ (y : Act). y.uid) (sym i)) ∙ apart.2))

@@ -23,7 +23,6 @@ use Rattle.arj_binding_law.specs.Scripts.{most_events}
 use Rattle.arj_call_law.specs.Runs.{KnowsFew}
 use Rattle.arj_run_law.specs.Worlds.{IsGood}
 use Rattle.arj_run_law.proofs.AllRuns.{all_keep as parts_good}
-use Rattle.arj_disk_view_law.specs.Formats.{HasObject}
 use Rattle.arj_disk_view_law.specs.Sees.{IsLater, Kinds}
 use Rattle.arj_names_view_law.specs.Both.{OnlyFound, SeesBoth}
 use Rattle.arj_names_view_law.specs.Handlers.{Change, Changes, Quietly, change_by}
@@ -35,10 +34,10 @@ use Rattle.arj_disk_run_law.proofs.BothEach.{heard_part}
 use Rattle.arj_disk_line_law.proofs.Tying.{goes_along, goes_by, journalled_beside}
 use Rattle.arj_serial_law.specs.Cleaned.{BeginsSo}
 use Rattle.arj_joint_law.specs.Begun.{IsBegunSo, RunsBeginSo, RunsBeginSoBeside}
-use Rattle.arj_joint_law.proofs.Firsts.{HasStoreThere, begins_so, line_there}
+use Rattle.arj_joint_law.proofs.Firsts.{begins_so, line_there}
 
 -- with what is carried beside the machine's state
-abbrev WithFirst : (hd : Header) (x : ℕ) → (Kinds → Office → Seen → Type 0) → Kinds → Office → Seen → Type 0
+abbrev pub WithFirst : (hd : Header) (x : ℕ) → (Kinds → Office → Seen → Type 0) → Kinds → Office → Seen → Type 0
 WithFirst hd x P tops A M = P tops A M × BeginsSo hd x (let W = A.world in W.disk)
 
 -- the first state and entry stay
@@ -90,26 +89,24 @@ module _ (hd : Header) (x : ℕ) (R : Seen → Type 0) (P : Kinds → Office →
 
 -- ---- every run
 
-begun_beside : (hd : Header) (x : ℕ) (R : Seen → Type 0) (P : Kinds → Office → Seen → Type 0) → HeaderInForm hd → is_some (object_line hd x) ≡ true → Keeps hd R → KeepsPart hd x (λ M. R M × KnowsFew M) P → (es : List Asked) → length es ≤ most_events → Holds hd (IsBegunSo hd x) (run_all es (format hd))
-begun_beside hd x R P form there kept parts es short =
-    let h = journalled_beside hd x R (WithFirst hd x P) kept (first_part hd x (λ M. R M × KnowsFew M) P parts first) es short in
-    let b = h.holds in
-    record { sent = h.sent; stands = h.stands; holds = record { journalled = b.0; begins = subst (λ (W : machine.World). BeginsSo hd x W.disk) b.2 (let z = b.3 in z.1) } }
+-- as a run begins
+pub first_begins : (hd : Header) (x : ℕ) → HeaderInForm hd → is_some (object_line hd x) ≡ true → (tops : Kinds) (A : Office) → tops.walk ≡ None → SeesBoth x tops A (see [] (format hd)) → (let W = A.world in let S = W.disk in S.tops) ≡ [] → BeginsSo hd x (let W = A.world in W.disk)
+first_begins hd x form there tops A walk both none =
+    let has_it = line_there hd x form there in
+    let s = (let o = has_it.0 in o.stored) in
+    begins_so hd x tops walk has_it.0 has_it.2 A.world both.disks none (places 1 one) s.0 s.1 (places s.0 has_it.1)
   where
-    has_it : (o : HasObject hd x) × HasStoreThere hd x o × (object_line hd x ≡ Some (let g = o in g.line))
-    has_it = line_there hd x form there
-
     places : (k : ℕ) → (nat_le 1 k && nat_le k hd.nodes) ≡ true → is_some (at_place k (map (first_node hd) (numbers_to hd.nodes))) ≡ true
     places k is = let h = runs_hold hd IsGood (parts_good hd) [] in let s = h.stands in s.places k is
 
-    first : (tops : Kinds) (A : Office) → tops.walk ≡ None → SeesBoth x tops A (see [] (format hd)) → (let W = A.world in let S = W.disk in S.tops) ≡ [] → BeginsSo hd x (let W = A.world in W.disk)
-    first tops A walk both none =
-        let o = has_it.0 in
-        let s = o.stored in
-        begins_so hd x tops walk o has_it.2 A.world both.disks none (places 1 one) s.0 s.1 (places s.0 has_it.1)
-      where
-        one : (nat_le 1 1 && nat_le 1 hd.nodes) ≡ true
-        one = let n = (let f = form.nodes in f.0) in grind (arith, nat_tests, n)
+    one : (nat_le 1 1 && nat_le 1 hd.nodes) ≡ true
+    one = let n = (let f = form.nodes in f.0) in grind (arith, nat_tests, n)
+
+begun_beside : (hd : Header) (x : ℕ) (R : Seen → Type 0) (P : Kinds → Office → Seen → Type 0) → HeaderInForm hd → is_some (object_line hd x) ≡ true → Keeps hd R → KeepsPart hd x (λ M. R M × KnowsFew M) P → (es : List Asked) → length es ≤ most_events → Holds hd (IsBegunSo hd x) (run_all es (format hd))
+begun_beside hd x R P form there kept parts es short =
+    let h = journalled_beside hd x R (WithFirst hd x P) kept (first_part hd x (λ M. R M × KnowsFew M) P parts (first_begins hd x form there)) es short in
+    let b = h.holds in
+    record { sent = h.sent; stands = h.stands; holds = record { journalled = b.0; begins = subst (λ (W : machine.World). BeginsSo hd x W.disk) b.2 (let z = b.3 in z.1) } }
 
 pub runs_begin_so : RunsBeginSo
 runs_begin_so hd x form there rest es short = begun_beside hd x AreGoodCounted (SeesHeard x) form there (good_counted hd) (heard_part hd x (line_there hd x form there).0 rest) es short

@@ -4,3 +4,6 @@ pub mod FormCoords
 pub mod FormNodes
 pub mod FormRuns
 pub mod FormServers
+pub mod OrderedRuns
+pub mod Ordering
+pub mod Turns

@@ -1,5 +1,6 @@
 // What an object's machine begins with, in whole runs.
 ghost use Rattle.arj_joint_law.specs.Begun.{ObjectsAreThere, RunsBeginSo, RunsBeginSoBeside};
+ghost use Rattle.arj_joint_law.specs.Ordered.{RunsAreOrdered, RunsAreOrderedBeside};
 
 /// After the run of each script whose header is in form, of at most 1,000,000 events, with all frames that came in any order, again or
 /// never, all stops, crashes and restarts, there is for each object of the header a state of its disk machine in which it is seen, whose
@@ -9,4 +10,12 @@ pub fn runs_begin_as_the_header_says()
     ensures heard { RunsBeginSo }
     ensures beside { RunsBeginSoBeside }
     ensures objects { ObjectsAreThere }
+{}
+
+/// And its decided tops stand in the order of their commit calls against decisions: each had its commit called, and that of one which
+/// was decided earlier had been called at a place of the journal where the later one wasn't decided yet, by its line or by a record that
+/// was found; or nothing of the later one survives. It does nothing when it runs.
+pub fn decisions_come_behind_calls()
+    ensures heard { RunsAreOrdered }
+    ensures beside { RunsAreOrderedBeside }
 {}

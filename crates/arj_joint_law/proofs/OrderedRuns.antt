@@ -1,0 +1,85 @@
+-- The order in which an object's machine decides tops, in every run.
+use Rattle.std.proofs.Common.{◌≡◌, ◌⊎◌, ℕ, List, [], ◌∷◌, true, ◌∙◌, ap, subst, inl, inr, is_some, length}
+use Rattle.std.specs.Prelude.{◌≤◌, Contains}
+use Rattle.arj_journal.specs.ScriptForm.{HeaderInForm}
+use Rattle.arj_lock.proofs.Members.{In, in_from}
+use Rattle.arj_model.specs.Actions.{Act, acts as acts_of}
+use Rattle.arj_model.specs.Last.{object_line}
+use Rattle.arj_protocol.specs.Words.{Header, Line, Uid}
+use Rattle.arj_protocol.specs.World.{Asked, format, run_all}
+use Rattle.arj_disk_law.specs.Effects as machine
+use Rattle.arj_disk_law.specs.Names.{Office}
+use Rattle.arj_disk_law.specs.State.{Done}
+use Rattle.arj_disk_law.proofs.Base.{never}
+use Rattle.arj_view_law.specs.Keeps.{Holds, Keeps}
+use Rattle.arj_view_law.specs.Seen.{Seen}
+use Rattle.arj_view_law.proofs.Happens.{runs_hold}
+use Rattle.arj_binding_law.specs.Scripts.{most_events}
+use Rattle.arj_call_law.specs.Runs.{KnowsFew}
+use Rattle.arj_run_law.specs.Worlds.{IsGood}
+use Rattle.arj_run_law.proofs.AllRuns.{all_keep as parts_good}
+use Rattle.arj_disk_view_law.specs.Sees.{Kinds}
+use Rattle.arj_disk_run_law.specs.Bindings.{AreGoodCounted}
+use Rattle.arj_disk_run_law.specs.Heard.{SeesHeard}
+use Rattle.arj_disk_run_law.specs.Part.{KeepsPart}
+use Rattle.arj_disk_run_law.proofs.Bindings.{good_counted}
+use Rattle.arj_disk_run_law.proofs.BothEach.{heard_part}
+use Rattle.arj_line_law.specs.Book.{book, is_top, new_book}
+use Rattle.arj_line_law.specs.Idle.{HasNothing, IsIdle}
+use Rattle.arj_line_law.specs.Knows.{IsKept}
+use Rattle.arj_line_law.specs.Laws.{IsSound}
+use Rattle.arj_line_law.specs.Right.{AreRight}
+use Rattle.arj_line_law.proofs.Nothing.{idle_has_nothing}
+use Rattle.arj_line_law.proofs.Runs.{lines_keep}
+use Rattle.arj_line_law.proofs.Tops.{is_sound}
+use Rattle.arj_disk_line_law.specs.Said.{IsPlain, WithTie}
+use Rattle.arj_disk_line_law.proofs.IdleKnown.{KnowsIdle, knows_idle}
+use Rattle.arj_disk_line_law.proofs.Tying.{both_too, journalled_beside, one_act, tied_part}
+use Rattle.arj_serial_law.specs.Cleaned.{BeginsSo}
+use Rattle.arj_joint_law.specs.Ordered.{AreCalled, AreTurns, AreTurnsOf, IsCalledFirst, IsOrderedSo, RunsAreOrdered, RunsAreOrderedBeside}
+use Rattle.arj_joint_law.proofs.Beginning.{WithFirst, first_begins, first_part}
+use Rattle.arj_joint_law.proofs.Firsts.{line_there}
+use Rattle.arj_joint_law.proofs.Ordering.{ordered_part}
+use Rattle.arj_joint_law.proofs.Turns.{IdleThere}
+
+abbrev Idle : List Line → Uid → Type 0
+Idle ls u = IsIdle (book ls) u
+
+-- in the words of the model
+turns_of : (lines : List Line) → AreRight new_book lines → (ds : List Done) → AreTurns (IdleThere Idle) lines ds → AreTurnsOf lines ds
+turns_of lines right [] turns = tt
+turns_of lines right (d ∷ ds) turns = (λ e a b i in_a in_b ea db top apart. by a b in_b top (turns.0 e i a.uid b.uid ea db apart), turns_of lines right ds turns.1)
+  where
+    by : (a b : Act) → Contains (acts_of lines) b → is_top b.kind ≡ true → IsCalledFirst lines a.uid b.uid ⊎ IdleThere Idle lines b.uid ⊎ IsPlain lines b.uid → IsCalledFirst lines a.uid b.uid ⊎ HasNothing lines b
+    by a b in_b top (inl first) = inl first
+    by a b in_b top (inr (inl (on, idle))) = let reads = (let s : IsSound lines = is_sound lines right in s.reads) in inr (idle_has_nothing lines right b in_b (reads.decided b in_b ∙ on) idle)
+    by a b in_b top (inr (inr (p, its, uid, plain))) =
+        let s : IsSound lines = is_sound lines right in
+        let same = one_act (acts_of lines) s.distinct p b (subst (In p) (let r = s.reads in r.begun) (in_from p (let B = book lines in B.acts) its)) (in_from b (acts_of lines) in_b) uid in
+        absurd (never (ap (λ (y : Act). is_top y.kind) same ∙ top) plain)
+
+ordered_beside : (hd : Header) (x : ℕ) (R : Seen → Type 0) (P : Kinds → Office → Seen → Type 0) → HeaderInForm hd → is_some (object_line hd x) ≡ true → Keeps hd R → KeepsPart hd x (λ M. R M × KnowsFew M) P → (es : List Asked) → length es ≤ most_events → Holds hd (IsOrderedSo hd x) (run_all es (format hd))
+ordered_beside hd x R P form there kept parts es short =
+    let first : KeepsPart hd x (λ M. R M × KnowsFew M) (WithFirst hd x P) = first_part hd x (λ M. R M × KnowsFew M) P parts (first_begins hd x form there) in
+    let idles : KnowsIdle R Idle = knows_idle R in
+    let tied = tied_part hd x R KnowsFew (WithFirst hd x P) Idle kept first idles in
+    let ordered = ordered_part hd x (λ M. R M × IsKept M) KnowsFew (WithTie (WithFirst hd x P) Idle) Idle (both_too hd x R KnowsFew (WithFirst hd x P) Idle kept first idles) (λ M r. r.1) (knows_idle (λ M. R M × IsKept M)) tied (λ tops A M p. (p.1).1) in
+    let h = journalled_beside hd x (λ M. R M × IsKept M) _ (both_too hd x R KnowsFew (WithFirst hd x P) Idle kept first idles) ordered es short in
+    let b = h.holds in
+    let order = (let z = b.3 in z.1) in
+    let right = (let r = runs_hold hd IsKept (lines_keep hd) es in let k = r.holds in let w = k.1 in w.right) in
+    record {
+      sent = h.sent;
+      stands = h.stands;
+      holds = record {
+        begun = record { journalled = b.0; begins = subst (λ (W : machine.World). BeginsSo hd x W.disk) b.2 (let z = b.3 in let t = z.0 in let p = t.0 in p.1) };
+        called = subst (λ (W : machine.World). AreCalled (run_all es (format hd)).lines W.disk.tops) b.2 order.called;
+        turns = subst (λ (W : machine.World). AreTurnsOf (run_all es (format hd)).lines W.disk.tops) b.2 (turns_of (run_all es (format hd)).lines right (let A = b.1 in A.world.disk.tops) order.turns);
+      };
+    }
+
+pub runs_are_ordered : RunsAreOrdered
+runs_are_ordered hd x form there rest es short = ordered_beside hd x AreGoodCounted (SeesHeard x) form there (good_counted hd) (heard_part hd x (line_there hd x form there).0 rest) es short
+
+pub runs_are_ordered_beside : RunsAreOrderedBeside
+runs_are_ordered_beside hd x part form there parts es short = ordered_beside hd x IsGood (λ tops A M. part tops A M ≡ true) form there (parts_good hd) parts es short

@@ -1,0 +1,241 @@
+-- Each handler keeps the order in which tops are decided, and so it is after each run.
+use Rattle.std.proofs.Common.{◌≡◌, ◌==◌, ℕ, ◌+◌, List, [], ◌∷◌, Bool, true, false, Option, Some, None, refl, sym, ◌∙◌, ap, subst, inl, inr, ⊎_elim, eqb-true}
+use Rattle.std.specs.Prelude.{Contains, if◌then◌else◌}
+use Rattle.arj_base.specs.Rows.{is_on}
+use Rattle.arj_lock.proofs.Members.{in_from, in_to}
+use Rattle.arj_protocol.specs.Words.{Asked, Ask, Body, BoundReply, Head, Header, Kind, Label, Line, Message, Uid, asks}
+use Rattle.arj_protocol.specs.Words.ask
+use Rattle.arj_protocol.specs.Ask.{Reply, answers}
+use Rattle.arj_protocol.specs.Asking.{again_all, begin_action}
+use Rattle.arj_protocol.specs.Commit as commit
+use Rattle.arj_protocol.specs.Commit.{Machine}
+use Rattle.arj_protocol.specs.Coord.{Calling, Committing, Coord, Doing, Idle as Waiting, Now, doing_of}
+use Rattle.arj_protocol.specs.Effect.{Disk, Effect, Intent}
+use Rattle.arj_protocol.specs.Follow.{tick_outs}
+use Rattle.arj_protocol.specs.Naming.{Naming}
+use Rattle.arj_protocol.specs.Node.{Parts, with_coord}
+use Rattle.arj_protocol.specs.Order.{uid_number}
+use Rattle.arj_protocol.specs.Step.{acts, is_committing_now, parent_of, parts_in, restart_outs}
+use Rattle.arj_protocol.specs.World.{format, is_serial_kind, numbered}
+use Rattle.arj_protocol.proofs.Numbers.{number_tells}
+use Rattle.arj_disk_law.specs.Effects as machine
+use Rattle.arj_disk_law.specs.Guards.{only_decides}
+use Rattle.arj_disk_law.specs.Names.{Office}
+use Rattle.arj_disk_law.proofs.Base.{or_cases}
+use Rattle.arj_view_law.specs.Keeps.{Keeps}
+use Rattle.arj_view_law.specs.Seen.{Seen, at, down, given, said, see, up}
+use Rattle.arj_view_law.specs.Walks.{Up, Walks, halted}
+use Rattle.arj_view_law.proofs.Together.{walks_both, walks_to}
+use Rattle.arj_disk_view_law.specs.Coordinating.{KnowsNode}
+use Rattle.arj_disk_view_law.specs.Sees.{Along, IsLater, Kinds}
+use Rattle.arj_disk_view_law.proofs.Frames.{node_here}
+use Rattle.arj_names_view_law.specs.Both.{OnlyFound, SeesBoth}
+use Rattle.arj_names_view_law.specs.Handlers.{Answering, Change, Changes, Deciding, Quietly, answer_change, ask_change, asked_change, bind_change, change_by, doing_change, now_change, reply_change}
+use Rattle.arj_disk_run_law.specs.Part.{Going, HasHeard, KeepsPart, are_recorded, going_of}
+use Rattle.arj_disk_run_law.proofs.RecordWalks.{restart_plain}
+use Rattle.arj_line_law.specs.Book.{book}
+use Rattle.arj_line_law.specs.Knows.{IsKept, KnowsUp}
+use Rattle.arj_line_law.specs.Right.{MayBeFound}
+use Rattle.arj_disk_line_law.specs.Said.{AreDone}
+use Rattle.arj_disk_line_law.proofs.IdleKnown.{KnowsIdle}
+use Rattle.arj_disk_line_law.proofs.Steps.{IsNear, IsStep, near_same, nothing_more, step_halted, step_walk}
+use Rattle.arj_disk_line_law.proofs.Tying.{goes_along, goes_by, was_up}
+use Rattle.arj_joint_law.specs.Ordered.{AreCalled, AreTurns, IsOrdered, NewTops}
+use Rattle.arj_joint_law.proofs.Turns.{IdleThere, effects_grow, ordered_step}
+
+-- ---- who may be decided
+
+-- the top with this number commits at the coordinator
+record IsCommitting (c : Coord) (z : ℕ) : Type 0 where
+  pub top : Uid
+  pub doing : Doing
+  pub machine : Machine
+  pub does : doing_of top c ≡ Some doing
+  pub now : (let d = doing in d.now) ≡ Committing machine
+  pub number : uid_number top ≡ z
+
+-- the top of a decision
+abbrev top_in : Change → Option ℕ
+top_in (Deciding z keeps) = Some z
+top_in o = None
+
+no_decision : {A : Type 0} (o : Change) (z : ℕ) (keeps : Bool) → top_in o ≡ None → o ≡ Deciding z keeps → A
+no_decision o z keeps none is = let no_way : ◌≡◌ {A = Option ℕ} None (Some z) = sym none ∙ ap top_in is in cc
+
+who_decides : (x : ℕ) (d : Disk) (t : Parts) (m : Message) (z : ℕ) (keeps : Bool) → change_by x d t m ≡ Deciding z keeps → IsCommitting t.coord z
+who_decides x d t m z keeps is = by (asks m) is
+  where
+    replied : (y : ℕ) (u : Uid) (o : Option BoundReply) → top_in (answer_change x y u o) ≡ None
+    replied y u None = refl
+    replied y u (Some r) = one (y == x)
+      where
+        one : (b : Bool) → top_in (if b then Answering (uid_number u) r else Quietly) ≡ None
+        one true = refl
+        one false = refl
+
+    bound_so : (y : ℕ) (include : Bool) (avoid : _) (h : Head) (o : Option Naming) → top_in (bind_change x y include avoid h d o) ≡ None
+    bound_so y include avoid h None = refl
+    bound_so y include avoid h (Some n) = replied y _ _
+
+    asked : (h : Head) (a : Ask) → top_in (ask_change x d t h a) ≡ None
+    asked h (ask.Bind y include avoid) = bound_so y include avoid h t.naming
+    asked h (ask.Load y) = refl
+    asked h (ask.Activate b st) = refl
+    asked h (ask.Record y b i g) = refl
+    asked h (ask.Invoke y b i ends o) = refl
+    asked h (ask.Vote i ties ends) = refl
+    asked h (ask.Prepare states) = refl
+    asked h (ask.Confirm grants excluded included) = refl
+
+    some_is : (a b : ℕ) → Some a ≡ Some b → a ≡ b
+    some_is a b e = let q : ◌≡◌ {A = Option ℕ} (Some a) (Some b) = e in cc
+
+    by_machine : (u : Uid) (q : Doing) → doing_of u t.coord ≡ Some q → (j : Machine) → q.now ≡ Committing j → now_change x u t.coord (Committing j) ≡ Deciding z keeps → IsCommitting t.coord z
+    by_machine u q does (commit.Voting p left) at e = no_decision Quietly z keeps refl e
+    by_machine u q does (commit.Preparing p left) at e = no_decision Quietly z keeps refl e
+    by_machine u q does (commit.Confirming p) at e = record { top = u; doing = q; machine = commit.Confirming p; does = does; now = at; number = some_is (uid_number u) z (ap top_in e) }
+
+    by_now : (u : Uid) (q : Doing) → doing_of u t.coord ≡ Some q → (n : Now) → q.now ≡ n → now_change x u t.coord n ≡ Deciding z keeps → IsCommitting t.coord z
+    by_now u q does Waiting at e = no_decision Quietly z keeps refl e
+    by_now u q does (Calling s) at e = no_decision Quietly z keeps refl e
+    by_now u q does (Committing j) at e = by_machine u q does j at e
+
+    by_doing : (u : Uid) (o : Option Doing) → doing_of u t.coord ≡ o → doing_change x u t.coord o ≡ Deciding z keeps → IsCommitting t.coord z
+    by_doing u None does e = no_decision Quietly z keeps refl e
+    by_doing u (Some q) does e = by_now u q does q.now refl e
+
+    by_reply : (o : Option (Asked × Reply)) → reply_change x t.coord o ≡ Deciding z keeps → IsCommitting t.coord z
+    by_reply None e = no_decision Quietly z keeps refl e
+    by_reply (Some a) e = let u = (let q = a.0 in q.act) in by_doing u (doing_of u t.coord) refl e
+
+    by : (o : Option (Head × Ask)) → asked_change x d t m o ≡ Deciding z keeps → IsCommitting t.coord z
+    by None e = by_reply (answers m) e
+    by (Some a) e = no_decision (ask_change x d t a.0 a.1) z keeps (asked a.0 a.1) e
+
+-- its commit was called
+called_there : (tops : Kinds) (k : ℕ) (d : Disk) (t : Parts) (M : Seen) → KnowsNode tops k d t M → IsKept (up k d t M) → (z : ℕ) → IsCommitting t.coord z → (u : Uid) → uid_number u ≡ z → is_on (book M.lines).called u ≡ true
+called_there tops k d t M n kept z c u uz =
+    let m = (let q = n.coord in q.machines c.top c.doing c.machine c.does c.now) in
+    let w = kept.1 in
+    let node = w.nodes k (record { number = k; disk = d; live = Some t }) (node_here M k (record { number = k; disk = d; live = Some t })) in
+    let l : KnowsUp (book M.lines) d.intents t.coord = node.live t refl in
+    subst (λ v. is_on (book M.lines).called v ≡ true) (number_tells c.top u (c.number ∙ sym uz)) (l.calls c.top m.branch c.doing m.found c.does m.unended ∙ ap is_committing_now c.now)
+
+-- a top with a record
+recorded_there : (intents : List (Uid × Intent)) (z : ℕ) → are_recorded intents z ≡ true → (e : Uid × Intent) × Contains intents e × (uid_number e.0 ≡ z)
+recorded_there [] z on = let no_way : false ≡ true = on in cc
+recorded_there (e ∷ es) z on = ⊎_elim (λ here. (e, in_to e (e ∷ es) (inl refl), eqb-true (uid_number e.0) z here)) (λ rest. let r = recorded_there es z rest in (r.0, in_to r.0 (e ∷ es) (inr (in_from r.0 es r.1)), r.2)) (or_cases (uid_number e.0 == z) (are_recorded es z) on)
+
+found_there : (k : ℕ) (d : Disk) (M : Seen) → IsKept (down k d M) → (z : ℕ) → are_recorded d.intents z ≡ true → (u : Uid) → uid_number u ≡ z → is_on (book M.lines).called u ≡ true
+found_there k d M kept z on u uz =
+    let r = recorded_there d.intents z on in
+    let w = kept.1 in
+    let node = w.nodes k (record { number = k; disk = d; live = None }) (node_here M k (record { number = k; disk = d; live = None })) in
+    let found : MayBeFound (book M.lines) k (let e = r.0 in e.0) = node.records (let e = r.0 in e.0) (let e = r.0 in e.1) r.1 in
+    subst (λ v. is_on (book M.lines).called v ≡ true) (number_tells (let e = r.0 in e.0) u (r.2 ∙ sym uz)) found.called
+
+-- ---- what a step decides
+
+along_new : (g : ℕ → Bool) (lines : List Line) (W V : machine.World) → ((z : ℕ) → g z ≡ true → (u : Uid) → uid_number u ≡ z → is_on (book lines).called u ≡ true) → Along (record { from = W; noted = only_decides g }) V → NewTops W V lines
+along_new g lines W V called a =
+    let n = effects_grow (only_decides g) W a.effects a.only a.allowed in
+    record { new = n.new; are = ap (λ (U : machine.World). U.disk.tops) (sym a.here) ∙ n.are; undone = n.undone; called = λ d i u ud. called d.top (n.noted d i) u ud }
+
+none_new : (lines : List Line) (W V : machine.World) → V.disk.tops ≡ W.disk.tops → NewTops W V lines
+none_new lines W V is = record { new = []; are = is; undone = λ d i. absurd i; called = λ d i. absurd i }
+
+changes_new : (o : Change) (lines : List Line) (A B : Office) → ((z : ℕ) (keeps : Bool) → o ≡ Deciding z keeps → (u : Uid) → uid_number u ≡ z → is_on (book lines).called u ≡ true) → Changes o A B → NewTops A.world B.world lines
+changes_new Quietly lines A B called c = none_new lines A.world B.world c.tops
+changes_new (Answering t r) lines A B called c = none_new lines A.world B.world (let o = c.0 in o.tops)
+changes_new (Deciding t keeps) lines A B called c = along_new (λ z. z == t) lines A.world B.world (λ z on u uz. called t keeps refl u (uz ∙ eqb-true z t on)) c.along
+
+quietly : {A : Type 0} (z : ℕ) (keeps : Bool) → Quietly ≡ Deciding z keeps → A
+quietly z keeps is = no_decision Quietly z keeps refl is
+
+-- ---- each handler
+
+module _ (hd : Header) (x : ℕ) (R G : Seen → Type 0) (P : Kinds → Office → Seen → Type 0) (Idle : List Line → Uid → Type 0) (kept : Keeps hd R) (known : (M : Seen) → R M → IsKept M) (idles : KnowsIdle R Idle) (parts : KeepsPart hd x (λ M. R M × G M) P) (ties : (tops : Kinds) (A : Office) (M : Seen) → P tops A M → AreDone Idle A.world M) where
+  abbrev pub WithOrder : Kinds → Office → Seen → Type 0
+  WithOrder tops A M = P tops A M × IsOrdered (IdleThere Idle) A.world M
+
+  abbrev From : Kinds → (Office → Type 0) → (Kinds → Office → Seen → Type 0) → Seen → Type 0
+  From tops C Q Z = (B : Office) → C B → SeesBoth x tops B Z → Q tops B Z
+
+  -- what a step comes to, from there
+  abbrev Comes : Office → Seen → (Office → Type 0) → Type 0
+  Comes A M C = (B : Office) → C B → IsLater A.world B.world × NewTops A.world B.world M.lines
+
+  goes_to_next : (tops : Kinds) (C : Office → Type 0) (A : Office) (M : Seen) → Comes A M C → AreDone Idle A.world M → IsOrdered (IdleThere Idle) A.world M → (Z : Seen) → From tops C P Z → R Z → IsStep M Z → From tops C WithOrder Z
+  goes_to_next tops C A M comes done order Z part r step B c seen = let g = comes B c in (part B c seen, ordered_step R Idle idles A.world B.world M Z step.more step.lines g.0 (let s = seen.disks in s.whole) r (known Z r) done g.1 order)
+
+  along : (tops : Kinds) (C : Office → Type 0) (A : Office) (M : Seen) → Comes A M C → AreDone Idle A.world M → IsOrdered (IdleThere Idle) A.world M → (e k : ℕ) (outs : List Effect) (v : Parts) (d : Disk) (N : Seen)
+      → Walks (From tops C P) e k outs (Up (From tops C P) k v) d N → Walks R e k outs (Up R k v) d N → Walks (IsStep M) e k outs (Up (IsStep M) k v) d N → Walks (From tops C WithOrder) e k outs (Up (From tops C WithOrder) k v) d N
+  along tops C A M comes done order e k outs v d N w fresh steps =
+      let two = walks_both R (IsStep M) e k outs (Up R k v) (Up (IsStep M) k v) d N fresh steps in
+      let three = walks_both (From tops C P) (λ Z. R Z × IsStep M Z) e k outs (Up (From tops C P) k v) (λ c Z. Up R k v c Z × Up (IsStep M) k v c Z) d N w two in
+      walks_to (λ Z. From tops C P Z × (R Z × IsStep M Z)) (From tops C WithOrder) e k outs (λ c Z. Up (From tops C P) k v c Z × (Up R k v c Z × Up (IsStep M) k v c Z)) (Up (From tops C WithOrder) k v) d N
+      (λ Z h. goes_to_next tops C A M comes done order Z h.0 h.1.0 h.1.1) (λ c Z h. goes_to_next tops C A M comes done order (up k c v Z) h.0 h.1.0 h.1.1) three
+
+  -- by the changes of a step
+  comes_by : (o : Change) (A : Office) (M : Seen) → machine.Whole A.world → ((z : ℕ) (keeps : Bool) → o ≡ Deciding z keeps → (u : Uid) → uid_number u ≡ z → is_on (book M.lines).called u ≡ true) → Comes A M (Changes o A)
+  comes_by o A M whole called B c = ((goes_by o A B whole c).1, changes_new o M.lines A B called c)
+
+  abbrev heard : (tops : Kinds) (o : Change) (A : Office) (g : Going) (M : Seen) → machine.Whole A.world → ((z : ℕ) (keeps : Bool) → o ≡ Deciding z keeps → (u : Uid) → uid_number u ≡ z → is_on (book M.lines).called u ≡ true) → AreDone Idle A.world (up g.node g.disk g.before M) → IsOrdered (IdleThere Idle) A.world (up g.node g.disk g.before M) → HasHeard P x tops o A (g, M)
+      → Walks R g.event g.node g.outs (Up R g.node g.after) g.disk M → Walks (IsStep (up g.node g.disk g.before M)) g.event g.node g.outs (Up (IsStep (up g.node g.disk g.before M)) g.node g.after) g.disk M → HasHeard WithOrder x tops o A (g, M)
+  heard tops o A g M whole called done order h fresh steps =
+      let same = (let z = h.only in sym z.world) in
+      record {
+        office = h.office;
+        only = h.only;
+        both = h.both;
+        along = along tops (Changes o h.office) h.office (up g.node g.disk g.before M) (comes_by o h.office (up g.node g.disk g.before M) (subst machine.Whole same whole) called) (subst (λ W. AreDone Idle W (up g.node g.disk g.before M)) same done) (subst (λ W. IsOrdered (IdleThere Idle) W (up g.node g.disk g.before M)) same order) g.event g.node g.outs g.after g.disk M h.along fresh steps;
+      }
+
+  pub ordered_part : KeepsPart hd x (λ M. R M × G M) WithOrder
+  ordered_part = record {
+    quiet = λ tops e bs M A walk quiet r both (part, order) B changed seen.
+        goes_to_next tops (Changes Quietly A) A M (comes_by Quietly A M (let z = both.disks in z.whole) (λ z keeps is. quietly z keeps is)) (ties tops A M part) order (said e bs M) (parts.quiet tops e bs M A walk quiet r both part) (kept.quiet e bs M quiet r.0) (quiet_step e bs M) B changed seen;
+    stop = λ tops e k d live M A walk r both (part, order) B changed seen.
+        goes_to_next tops (Changes Quietly A) A (at k d live M) (comes_by Quietly A (at k d live M) (let z = both.disks in z.whole) (λ z keeps is. quietly z keeps is)) (ties tops A (at k d live M) part) order (halted e k d M) (parts.stop tops e k d live M A walk r both part) (kept.stop e k d live M r.0) (step_halted k d live M e d M (near_same M) (λ down. refl)) B changed seen;
+    message = λ tops e k d t v from m outs M A walk n r sent meant is of both (part, order).
+        let p = parts.message tops e k d t v from m outs M A walk n r sent meant is of both part in (
+          heard tops (change_by x d t m) A (record { event = e; node = k; disk = d; before = t; outs = outs; after = v }) M (let z = both.disks in z.whole)
+              (λ z keeps by u uz. called_there tops k d t M n (known (up k d t M) r.0) z (who_decides x d t m z keeps by) u uz) (ties tops A (up k d t M) part) order p.0
+              (kept.message e k d t v from m outs M r.0 sent meant is) (step_walk k d (Some t) M e v outs d M (near_same M) (was_up t) (was_up t)),
+          p.1,
+          p.2,
+        );
+    act = λ tops e k d t i M A walk n r is free both (part, order).
+        let did = acts i d.intents t.coord in
+        let p = parts.act tops e k d t i M A walk n r is free both part in (
+          heard tops Quietly A (going_of e k d t did) M (let z = both.disks in z.whole) (λ z keeps by. quietly z keeps by) (ties tops A (up k d t M) part) order p.0
+              (kept.act e k d t i M is free r.0) (step_walk k d (Some t) M e (with_coord t did.part) did.outs d M (near_same M) (was_up t) (was_up t)),
+          p.1,
+        );
+    begin = λ tops e k d t l how parent M A walk n r new may free kind both (part, order).
+        let did = begin_action l how parent (parent_of parent t.coord) t.coord in
+        let N : Seen = given l (record { node = k; serial = is_serial_kind how }) M in
+        along tops (Changes Quietly A) A (up k d t M) (comes_by Quietly A (up k d t M) (let z = both.disks in z.whole) (λ z keeps by. quietly z keeps by)) (ties tops A (up k d t M) part) order e k did.outs (with_coord t did.part) d N
+        (parts.begin tops e k d t l how parent M A walk n r new may free kind both part) (kept.begin e k d t l how parent M new may free r.0) (step_walk k d (Some t) M e (with_coord t did.part) did.outs d N (given_near l how k M) (was_up t) (was_up t));
+    tick = λ tops e k d t M A walk n r both (part, order).
+        let outs = tick_outs (record { number = k; disk = d; live = Some t }) t in
+        let v = with_coord t (again_all t.coord.doings t.coord).part in
+        along tops (Changes Quietly A) A (up k d t M) (comes_by Quietly A (up k d t M) (let z = both.disks in z.whole) (λ z keeps by. quietly z keeps by)) (ties tops A (up k d t M) part) order e k outs v d M
+        (parts.tick tops e k d t M A walk n r both part) (kept.tick e k d t M r.0) (step_walk k d (Some t) M e v outs d M (near_same M) (was_up t) (was_up t));
+    restart = λ tops e k d M A walk r both (part, order).
+        let outs = restart_outs hd k (d.inc + 1) d in
+        let v = parts_in k (d.inc + 1) d in
+        along tops (OnlyFound (are_recorded d.intents) A) A (down k d M)
+        (λ B c. ((goes_along (are_recorded d.intents) A.world B.world (let z = both.disks in z.whole) c.along).1, along_new (are_recorded d.intents) M.lines A.world B.world (λ z on u uz. found_there k d M (known (down k d M) r.0) z on u uz) c.along))
+        (ties tops A (down k d M) part) order e k outs v d M (parts.restart tops e k d M A walk r both part) (kept.restart e k d M r.0) (step_walk k d None M e v outs d M (near_same M) (λ down. restart_plain [] hd k d) (λ down. refl));
+    first = λ tops walk kinds. let f = parts.first tops walk kinds in (f.0, f.1, (f.2, nothing_yet f.0 f.3), f.3);
+  }
+    where
+      quiet_step : (e : ℕ) (bs : List Body) (M : Seen) → IsStep M (said e bs M)
+      quiet_step e bs M = record { more = numbered e bs; lines = refl; nodes = λ j n is. (n, is, λ down. refl) }
+
+      given_near : (l : Label) (how : Kind) (k : ℕ) (M : Seen) → IsNear M (given l (record { node = k; serial = is_serial_kind how }) M)
+      given_near l how k M = record { more = []; lines = nothing_more M.lines; nodes = λ j. refl }
+
+      nothing_yet : (A : Office) → A.world.disk.tops ≡ [] → IsOrdered (IdleThere Idle) A.world (see [] (format hd))
+      nothing_yet A none = record { called = subst (AreCalled []) (sym none) (λ d i. absurd i); turns = subst (AreTurns (IdleThere Idle) []) (sym none) tt }

@@ -1,0 +1,81 @@
+-- In which order an object's machine decides tops, against the journal.
+use Rattle.std.specs.Prelude.{⊤, ◌≡◌, ◌≢◌, ◌⊎◌, ◌≤◌, ◌++◌, ℕ, Bool, true, false, List, [], ◌∷◌, Contains, is_some, length}
+use Rattle.arj_base.specs.Rows.{is_on}
+use Rattle.arj_journal.specs.ScriptForm.{HeaderInForm}
+use Rattle.arj_model.specs.Actions.{Act, acts}
+use Rattle.arj_model.specs.Last.{object_line}
+use Rattle.arj_protocol.specs.Words.{Header, Line, Uid}
+use Rattle.arj_protocol.specs.Order.{uid_number}
+use Rattle.arj_protocol.specs.World.{Asked, format, run_all}
+use Rattle.arj_disk_law.specs.Effects.{World}
+use Rattle.arj_disk_law.specs.Names.{Office}
+use Rattle.arj_disk_law.specs.State.{Done, decided}
+use Rattle.arj_disk_law.specs.Words.{In}
+use Rattle.arj_view_law.specs.Keeps.{Holds}
+use Rattle.arj_view_law.specs.Seen.{Seen}
+use Rattle.arj_binding_law.specs.Scripts.{most_events}
+use Rattle.arj_call_law.specs.Runs.{KnowsFew}
+use Rattle.arj_disk_view_law.specs.Sees.{Kinds}
+use Rattle.arj_disk_run_law.specs.Part.{KeepsPart}
+use Rattle.arj_disk_run_law.specs.Rest.{KeepsHeard}
+use Rattle.arj_disk_line_law.specs.Said.{IsPlain}
+use Rattle.arj_line_law.specs.Book.{book, is_decided, is_top}
+use Rattle.arj_line_law.specs.Idle.{HasNothing}
+use Rattle.arj_run_law.specs.Worlds.{IsGood}
+use Rattle.arj_joint_law.specs.Begun.{IsBegunSo}
+
+-- ---- against the journal
+
+-- The commit of the first top was called before the second one was decided: at some place of the journal the one had been, and the
+-- other hadn't.
+abbrev pub IsCalledFirst : List Line → Uid → Uid → Type 0
+IsCalledFirst lines t u = (before : List Line) × (behind : List Line) × (lines ≡ before ++ behind) × (is_on (let B = book before in B.called) t ≡ true) × (is_decided (book before) u ≡ false)
+
+-- So it is of the tops with these numbers, of which the second may be idle by the journal, or no top.
+abbrev pub IsTurn : (List Line → Uid → Type 0) → List Line → ℕ → ℕ → Type 0
+IsTurn Idle lines e d = (t u : Uid) → uid_number t ≡ e → uid_number u ≡ d → e ≢ d → IsCalledFirst lines t u ⊎ Idle lines u ⊎ IsPlain lines u
+
+-- of each two of decided tops, the newest first
+abbrev pub AreTurns : (List Line → Uid → Type 0) → List Line → List Done → Type 0
+AreTurns Idle lines [] = ⊤
+AreTurns Idle lines (d ∷ ds) = ((e : Done) → In e ds → IsTurn Idle lines e.top d.top) × AreTurns Idle lines ds
+
+-- the commit of each was called
+abbrev pub AreCalled : List Line → List Done → Type 0
+AreCalled lines ds = (d : Done) → In d ds → (u : Uid) → uid_number u ≡ d.top → is_on (let B = book lines in B.called) u ≡ true
+
+-- The machine's decided tops had their commits called, each before any that was decided after it was decided itself.
+pub record IsOrdered (Idle : List Line → Uid → Type 0) (W : World) (M : Seen) : Type 0 where
+  pub called : AreCalled M.lines (let S = W.disk in S.tops)
+  pub turns : AreTurns Idle M.lines (let S = W.disk in S.tops)
+
+-- ---- a step
+
+-- What a step of the machine decided: tops that weren't, and whose commits had been called by these lines.
+pub record NewTops (W V : World) (lines : List Line) : Type 0 where
+  pub new : List Done
+  pub are : (let S = V.disk in S.tops) ≡ new ++ (let S = W.disk in S.tops)
+  pub undone : (d : Done) → In d new → decided W.disk d.top ≡ false
+  pub called : AreCalled lines new
+
+-- ---- runs
+
+-- the same, in the words of `arj_model`: of each two decided tops
+abbrev pub AreTurnsOf : List Line → List Done → Type 0
+AreTurnsOf lines [] = ⊤
+AreTurnsOf lines (d ∷ ds) = ((e : Done) (a b : Act) → In e ds → Contains (acts lines) a → Contains (acts lines) b → uid_number a.uid ≡ e.top → uid_number b.uid ≡ d.top → is_top b.kind ≡ true → e.top ≢ d.top → IsCalledFirst lines a.uid b.uid ⊎ HasNothing lines b) × AreTurnsOf lines ds
+
+-- The machine began as the header says and decided as the journal says, in this order.
+pub record IsOrderedSo (hd : Header) (x : ℕ) (M : Seen) : Type 0 where
+  pub begun : IsBegunSo hd x M
+  pub called : AreCalled M.lines (let j = (let b = begun in b.journalled) in let W = j.machine in let S = W.disk in S.tops)
+  pub turns : AreTurnsOf M.lines (let j = (let b = begun in b.journalled) in let W = j.machine in let S = W.disk in S.tops)
+
+-- So it is in the run of every script, of each object of the header, with what is still taken of what coordinators have of naming's
+-- answers; and beside any relation that is kept with the machine's state.
+abbrev pub RunsAreOrdered : Type 0
+RunsAreOrdered = (hd : Header) (x : ℕ) → HeaderInForm hd → is_some (object_line hd x) ≡ true → KeepsHeard hd x (λ M. IsGood M × KnowsFew M) → (es : List Asked) → length es ≤ most_events → Holds hd (IsOrderedSo hd x) (run_all es (format hd))
+
+abbrev pub RunsAreOrderedBeside : Type 0
+RunsAreOrderedBeside = (hd : Header) (x : ℕ) (part : Kinds → Office → Seen → Bool) → HeaderInForm hd → is_some (object_line hd x) ≡ true → KeepsPart hd x (λ M. IsGood M × KnowsFew M) (λ tops A M. part tops A M ≡ true)
+    → (es : List Asked) → length es ≤ most_events → Holds hd (IsOrderedSo hd x) (run_all es (format hd))
