@@ -28,6 +28,8 @@ pub mod Requests
 pub mod Asked
 pub mod PartSteps
 pub mod PartCoords
+pub mod CommitCoords
+pub mod VoteCoords
 pub mod LeftCoords
 pub mod PartSends
 pub mod PartWalks

@@ -1,3 +1,4 @@
+pub mod Votes
 pub mod Acts
 pub mod Works
 pub mod Worlds
