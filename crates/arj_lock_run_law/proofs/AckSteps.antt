@@ -14,6 +14,8 @@ use Rattle.arj_protocol.specs.Node.{with_coord}
 use Rattle.arj_protocol.specs.Order.{at_uid, has, put_uid, without_number, without_uid}
 use Rattle.arj_protocol.specs.Says.{AreAll}
 use Rattle.arj_protocol.specs.Tree.{Branch, branch_of}
+use Rattle.arj_lock_law.specs.Machine as machine
+use Rattle.arj_lock_law.specs.Machine.{Run}
 use Rattle.arj_lock_law.specs.State.{State}
 use Rattle.arj_part_law.proofs.SaidIncs as each
 use Rattle.arj_view_law.specs.Seen.{Post}
@@ -107,7 +109,7 @@ module _ (c : Case) (s : Spot) (is_seen : IsSeenIn c (world_at s)) (holds : Hold
     records = z.records;
   }
 
-  halt : (e : ℕ) (d : Disk) → (let z = s.disk in d.inc ≡ z.inc) → SeesUp v S d s.parts → (T : State) × SeesLocks f c.x c.begun T (halted e k d s.seen) × AreTied f c.x (let N = halted e k d s.seen in N.lines) T
+  halt : (e : ℕ) (d : Disk) → (let z = s.disk in d.inc ≡ z.inc) → SeesUp v S d s.parts → (T : State) × SeesLocks f c.x c.begun T (halted e k d s.seen) × AreTied f c.x (let N = halted e k d s.seen in N.lines) T × Run S T
   halt e d inc z = halt_up f c.x c.begun k e S S d s.parts s.seen (steady c s is_seen) (let n = good_node c s is_seen in let g = n.coord in g.known) ((let q = its c s is_seen in q.server) ∙ sym inc) (let q = its c s is_seen in q.node) holds others z (tied_now c (world_at s) is_seen)
 
   stop : (e : ℕ) → Stops (IsSeenSo c) e k (RemoveIntent u) s.disk s.seen
@@ -148,7 +150,7 @@ module _ (c : Case) (s : Spot) (is_seen : IsSeenIn c (world_at s)) (holds : Hold
 
   -- nothing is removed
   stay : (e : ℕ) (m : List (Uid × Intent)) → SeesWhole f.act f.code c.x (record C { telling = m }) S → Up (IsSeenSo c) k (with_coord s.parts (record C { telling = m })) s.disk s.seen
-  stay e m whole agrees = (S, with_here f c.x c.begun k s.disk (Some (with_coord s.parts (record C { telling = m }))) S s.seen others (told s.disk m here whole), is_seen.tied)
+  stay e m whole agrees = (S, with_here f c.x c.begun k s.disk (Some (with_coord s.parts (record C { telling = m }))) S s.seen others (told s.disk m here whole), is_seen.tied, machine.stay)
 
   goes_left : (e : ℕ) (i : Intent) (ns : List ℕ) → SeesWhole f.act f.code c.x (let g = acked_left u i js C ns in g.part) S → AckWalks e (acked_left u i js C ns)
   goes_left e i [] whole =
@@ -159,7 +161,7 @@ module _ (c : Case) (s : Spot) (is_seen : IsSeenIn c (world_at s)) (holds : Hold
       let outs = tolds_let_go u rest C (at_uid u js) in (
         stop e,
         subst (λ es. Walks P e k es (Up P k (with_coord s.parts E)) d s.seen) (append-nil outs) (quiet_walk f c.x c.begun k e P (Up P k (with_coord s.parts E)) S sent d outs [] (let_go_quiet (at_uid u js)) (let_go_seen (at_uid u js) refl)
-            (λ N w o now agrees. (S, with_here f c.x c.begun k d (Some (with_coord s.parts E)) S N o (told d m removed whole), now.tied)) s.seen (λ r i. i) others (tied_now c (world_at s) is_seen)),
+            (λ N w o now agrees. (S, with_here f c.x c.begun k d (Some (with_coord s.parts E)) S N o (told d m removed whole), now.tied, machine.stay)) s.seen (λ r i. i) others (tied_now c (world_at s) is_seen)),
       )
   goes_left e i (n ∷ ns) whole = stay e (put_uid u (record i { nodes = n ∷ ns }) C.telling) whole
 

@@ -34,6 +34,7 @@ use Rattle.arj_lock_fact_law.proofs.States.{states_heard}
 use Rattle.arj_run_law.proofs.Walked.{same_number as number_same}
 use Rattle.arj_lock_fact_law.proofs.Confirms.{top_own}
 use Rattle.arj_view_law.specs.Seen.{In, Post}
+use Rattle.arj_lock_law.specs.Machine.{stay}
 use Rattle.arj_lock_view_law.specs.Calling.{IsWaiting}
 use Rattle.arj_lock_view_law.specs.Handling.{ShowsReply}
 use Rattle.arj_lock_view_law.specs.Hearing.{ShowsNamingReply}
@@ -202,7 +203,7 @@ module _ (c : Case) (s : Spot) (e from : ℕ) (a : Asked) (r : Reply) (is_seen :
 
   -- nothing waits for it
   stays : Goes (heard_none C)
-  stays after agrees = (c.state, is_seen.sees, is_seen.tied)
+  stays after agrees = (c.state, is_seen.sees, is_seen.tied, stay)
 
   now_goes : (d : Doing) (found : doing_of a.act C ≡ Some d) (n : Now) → d.now ≡ n → Goes (heard_now from a r (records_at s) C n)
   now_goes d found Idle is = stays

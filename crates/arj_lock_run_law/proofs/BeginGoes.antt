@@ -183,4 +183,5 @@ begins_go c s e l g how parent above is_seen begins may empty = λ agrees. (
       (let z = others_of c.fixed c.x c.begun s.node s.disk (Some s.parts) c.state s.seen is_seen.sees in record { run = z.run; nodes = z.nodes; posts = z.posts; fresh = z.fresh; now = z.now })))
       (up_more c s is_seen l how parent above begins may empty),
   tied_more c s is_seen l how parent above begins may empty e,
+  stay,
 )

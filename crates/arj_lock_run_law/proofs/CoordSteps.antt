@@ -8,6 +8,7 @@ use Rattle.arj_protocol.specs.Node.{Parts, with_coord}
 use Rattle.arj_protocol.specs.Tree.{Branch, at_place, branch_of}
 use Rattle.arj_protocol.specs.World.{numbered}
 use Rattle.arj_lock_law.specs.Actions.{root}
+use Rattle.arj_lock_law.specs.Machine.{Run}
 use Rattle.arj_lock_law.specs.State.{State}
 use Rattle.arj_part_law.specs.Actions.{Action, act_of, action_of}
 use Rattle.arj_part_law.specs.Claims.{GoesOn}
@@ -74,15 +75,15 @@ module _ (c : Case) (s : Spot) where
   k = s.node
 
   -- messages go out, in the state that the machine has come to
-  pub walk_sends : (e : ℕ) (v : Parts) (T : State) (outs : List Effect) (d : Disk) (M : Seen) → AreSends outs → AreSendsShown c s T outs → Within (let N = s.seen in N.sent) M.sent → SeesOthers f c.x c.begun k T M → SeesUp (view_of f c.x c.begun k) T d v → IsTiedNow f c.x c.begun T M.lines
+  pub walk_sends : (e : ℕ) (v : Parts) (T : State) (outs : List Effect) (d : Disk) (M : Seen) → AreSends outs → AreSendsShown c s T outs → Within (let N = s.seen in N.sent) M.sent → SeesOthers f c.x c.begun k T M → SeesUp (view_of f c.x c.begun k) T d v → IsTiedNow f c.x c.begun T M.lines → Run c.state T
       → Walks (IsSeenSo c) e k outs (Up (IsSeenSo c) k v) d M
-  walk_sends e v T [] d M sends shown within others up now = λ agrees. (T, with_here f c.x c.begun k d (Some v) T M others up, now.tied)
-  walk_sends e v T (Send to m ∷ es) d M sends shown within others up now = λ more quiet.
+  walk_sends e v T [] d M sends shown within others up now run = λ agrees. (T, with_here f c.x c.begun k d (Some v) T M others up, now.tied, run)
+  walk_sends e v T (Send to m ∷ es) d M sends shown within others up now run = λ more quiet.
       let p : Post = record { from = k; to = to; message = m } in
       walk_sends e v T es d (said e more (posted p M)) sends.1 shown.1 (λ q there. inr (within q there))
-      (said_others f c.x c.begun k e more T (posted p M) (posted_others f c.x c.begun k p T M others (shown.0 (p ∷ M.sent) (λ q there. inr (within q there))))) up (tied_quiet f c.x c.begun e more T M.lines quiet now)
-  walk_sends e v T (Say b ∷ es) d M sends shown within others up now = absurd sends.0
-  walk_sends e v T (Do w ∷ es) d M sends shown within others up now = absurd sends.0
+      (said_others f c.x c.begun k e more T (posted p M) (posted_others f c.x c.begun k p T M others (shown.0 (p ∷ M.sent) (λ q there. inr (within q there))))) up (tied_quiet f c.x c.begun e more T M.lines quiet now) run
+  walk_sends e v T (Say b ∷ es) d M sends shown within others up now run = absurd sends.0
+  walk_sends e v T (Do w ∷ es) d M sends shown within others up now run = absurd sends.0
 
   -- lines are said in the state before
   pub walk_says : (e : ℕ) (v : Parts) (S : State) (bs : List Body) (rest : List Effect) (d : Disk) (M : Seen) → SeesOthers f c.x c.begun k S M → Within (let N = s.seen in N.sent) M.sent
@@ -135,4 +136,4 @@ coords_go c s e u b bs sends C T is_seen found on are_sends has shown none tied 
     (λ N lines within others. walk_sends c s e (with_coord s.parts C) T sends s.disk N are_sends shown within
     (others_unit c.fixed c.x (root (c.fixed.act u)) c.begun s.node c.state T N has.run has.only (home c s is_seen u b found C on (length bs) T has) (one c s is_seen u b found C on (length bs) T has) has.changed (let m = has.now in let long = ap length lines ∙ length_said e bs (let M = s.seen in M.lines) in omega (arith, m, long)) others)
     (up_then c s is_seen u b found C on (length bs) T has)
-    (subst (IsTiedNow c.fixed c.x c.begun T) (sym lines) (tied_behind c.fixed c.x c.begun e bs c.state T (let M = s.seen in M.lines) none (tied_now c (world_at s) is_seen) tied)))
+    (subst (IsTiedNow c.fixed c.x c.begun T) (sym lines) (tied_behind c.fixed c.x c.begun e bs c.state T (let M = s.seen in M.lines) none (tied_now c (world_at s) is_seen) tied)) has.run)

@@ -95,5 +95,5 @@ module _ (c : Case) (s : Spot) (is_seen : IsSeenIn c (world_at s)) (holds : Hold
               (λ O more_lines within_O others_O. walk_sends c s e (with_coord t C) T sends noted O are_sends shown within_O
               (others_unit f c.x (root (f.act u)) c.begun k S T O has.run has.only (home c s is_seen u b found C on (length pre + 1) T has) (one c s is_seen u b found C on (length pre + 1) T has) has.changed (let m = has.now in let long = ap length lines ∙ length_said e pre (let M = s.seen in M.lines) in let longer = ap length more_lines ∙ length_said e (l ∷ []) N.lines in omega (arith, m, long, longer)) others_O)
               up_noted
-              (subst (IsTiedNow f c.x c.begun T) (sym more_lines) (tied_behind f c.x c.begun e (l ∷ []) S T N.lines (none, tt) now_N (λ values is. subst (λ ls. IsTiedToLines f.act f.code values c.x ls T) (sym (ap (λ ls. ls ++ numbered e (l ∷ [])) lines ∙ said_twice e pre (l ∷ []) (let M = s.seen in M.lines))) (tied values is))))),
+              (subst (IsTiedNow f c.x c.begun T) (sym more_lines) (tied_behind f c.x c.begun e (l ∷ []) S T N.lines (none, tt) now_N (λ values is. subst (λ ls. IsTiedToLines f.act f.code values c.x ls T) (sym (ap (λ ls. ls ++ numbered e (l ∷ [])) lines ∙ said_twice e pre (l ∷ []) (let M = s.seen in M.lines))) (tied values is)))) has.run),
         ))

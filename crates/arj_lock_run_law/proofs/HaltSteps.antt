@@ -9,6 +9,7 @@ use Rattle.arj_protocol.specs.Node.{Parts}
 use Rattle.arj_protocol.specs.Order.{at_uid}
 use Rattle.arj_protocol.specs.Tree.{Branch, branch_of}
 use Rattle.arj_lock_law.specs.Actions.{Act, In, Root, is_action, on, root}
+use Rattle.arj_lock_law.specs.Machine.{Run, stay}
 use Rattle.arj_lock_law.specs.State as state
 use Rattle.arj_lock_law.specs.State.{State}
 use Rattle.arj_lock_law.proofs.Paths.{by_cases, on_base, root_is}
@@ -43,8 +44,8 @@ module _ (f : Fixed) (x : ℕ) (begun : List Action) (k : ℕ) where
   down_halted : (e : ℕ) (S : State) (d : Disk) (M : Seen) → SeesOthers f x begun k S M → SeesDown v S d → SeesLocks f x begun S (halted e k d M)
   down_halted e S d M others s = with_here f x begun k d None S _ (said_others f x begun k e (body.Halted k ∷ []) S M others) s
 
-  pub halt_down : (e : ℕ) (S : State) (d : Disk) (M : Seen) → SeesOthers f x begun k S M → SeesDown v S d → IsTiedNow f x begun S M.lines → (T : State) × SeesLocks f x begun T (halted e k d M) × AreTied f x (let N = halted e k d M in N.lines) T
-  halt_down e S d M others s now = (S, down_halted e S d M others s, tied_down f x begun e k s.tree s.last S M.lines s.past s.stopped now)
+  pub halt_down : (e : ℕ) (S : State) (d : Disk) (M : Seen) → SeesOthers f x begun k S M → SeesDown v S d → IsTiedNow f x begun S M.lines → (T : State) × SeesLocks f x begun T (halted e k d M) × AreTied f x (let N = halted e k d M in N.lines) T × Run S T
+  halt_down e S d M others s now = (S, down_halted e S d M others s, tied_down f x begun e k s.tree s.last S M.lines s.past s.stopped now, stay)
 
   -- ---- a node that is up
 
@@ -96,7 +97,7 @@ module _ (f : Fixed) (x : ℕ) (begun : List Action) (k : ℕ) where
   -- where a top's record is on the disk that is left, it is decided, and has no line yet
   pub halt_last : (last : Option Uid) (e : ℕ) (R S : State) (d g : Disk) (t : Parts) (M : Seen) → IfDecided f.act t.coord last S → g.inc ≡ d.inc → ((u : Uid) → last ≡ Some u → is_some (at_uid u g.intents) ≡ true) → AreRecordsOf v last g.intents S
       → IsSteady f.act f.paths t.coord → ((u : Uid) (b : Branch) → branch_of u t.coord.tree ≡ Some b → Contains begun (action_of b)) → t.server.inc ≡ d.inc → t.coord.tree.node ≡ k
-      → HoldsNamingIn (record { fixed = f; x = x; begun = begun; state = R }) k t.naming → SeesOthers f x begun k S M → SeesUp v S d t → IsTiedNow f x begun S M.lines → (T : State) × SeesLocks f x begun T (halted e k g M) × AreTied f x (let N = halted e k g M in N.lines) T
+      → HoldsNamingIn (record { fixed = f; x = x; begun = begun; state = R }) k t.naming → SeesOthers f x begun k S M → SeesUp v S d t → IsTiedNow f x begun S M.lines → (T : State) × SeesLocks f x begun T (halted e k g M) × AreTied f x (let N = halted e k g M in N.lines) T × Run S T
   halt_last last e R S d g t M decided inc there records steady of level node holds others s now =
       let h = stops_are_taken f.act f.code f.paths x t.coord last S steady decided s.coord in
       let T = h.state in
@@ -115,8 +116,9 @@ module _ (f : Fixed) (x : ℕ) (begun : List Action) (k : ℕ) where
           records = records_on S T only.ended v last g.intents records;
         }),
         tied_halts f x begun e k t.coord.tree last S T M.lines node s.past h.holds.0 only now,
+        h.run,
       )
 
   pub halt_up : (e : ℕ) (R S : State) (d : Disk) (t : Parts) (M : Seen) → IsSteady f.act f.paths t.coord → ((u : Uid) (b : Branch) → branch_of u t.coord.tree ≡ Some b → Contains begun (action_of b)) → t.server.inc ≡ d.inc → t.coord.tree.node ≡ k
-      → HoldsNamingIn (record { fixed = f; x = x; begun = begun; state = R }) k t.naming → SeesOthers f x begun k S M → SeesUp v S d t → IsTiedNow f x begun S M.lines → (T : State) × SeesLocks f x begun T (halted e k d M) × AreTied f x (let N = halted e k d M in N.lines) T
+      → HoldsNamingIn (record { fixed = f; x = x; begun = begun; state = R }) k t.naming → SeesOthers f x begun k S M → SeesUp v S d t → IsTiedNow f x begun S M.lines → (T : State) × SeesLocks f x begun T (halted e k d M) × AreTied f x (let N = halted e k d M in N.lines) T × Run S T
   halt_up e R S d t M steady of level node holds others s now = halt_last None e R S d d t M tt refl (λ u is. absurd (cc is)) s.records steady of level node holds others s now

@@ -319,8 +319,8 @@ module _ (c : Case) (s : Spot) (from : ℕ) (m : Message) (p : Parts) (outs : Li
       let T = gone.0 in
       let has = gone.1 in
       walked f c.x c.begun k S T e p d.inc d.intents M.sent
-      (λ h N same others now. halt_up f c.x c.begun k e S T h p N (subst (λ (q : Coord). IsSteady f.act f.paths q) (sym (let l = left.0 in l.coord)) (steady c s is_seen)) known (server_level c s is_seen from m p outs is ∙ sym same.0) (ap (λ (q : Coord). (let t = q.tree in t.node)) (let l = left.0 in l.coord) ∙ (let i = its c s is_seen in i.node)) after others (up_same f c.x c.begun k T d h p same.0 same.1 has.up) now)
-      (λ h same. up_same f c.x c.begun k T d h p same.0 same.1 has.up)
+      (λ h N same others now. let u = halt_up f c.x c.begun k e S T h p N (subst (λ (q : Coord). IsSteady f.act f.paths q) (sym (let l = left.0 in l.coord)) (steady c s is_seen)) known (server_level c s is_seen from m p outs is ∙ sym same.0) (ap (λ (q : Coord). (let t = q.tree in t.node)) (let l = left.0 in l.coord) ∙ (let i = its c s is_seen in i.node)) after others (up_same f c.x c.begun k T d h p same.0 same.1 has.up) now in (u.0, u.1, u.2, go_on has.run u.3))
+      has.run (λ h same. up_same f c.x c.begun k T d h p same.0 same.1 has.up)
       outs d M (sends_by T has outs (λ to z i. i)) (let l = left.0 in l.plain) (λ r i. i) (refl, refl) has.others (tied_moved f c.x c.begun S T M.lines has.moved (tied_now c (world_at s) is_seen))
     where
       known : (u : Uid) (b : Branch) → branch_of u p.coord.tree ≡ Some b → Contains c.begun (action_of b)

@@ -15,6 +15,7 @@ use Rattle.arj_protocol.specs.Node.{Parts, Took, answer_is_meant, asked_is_meant
 use Rattle.arj_protocol.specs.Step.{Input, acts, begin_reasons, begin_refusal, refused_by, parent_of, parts_in, refusal_up, restart_outs}
 use Rattle.arj_protocol.specs.Tree.{Branch, branch_of, is_open, is_open_branch, next_uid, path_below}
 use Rattle.arj_protocol.specs.World.{format, is_serial_kind}
+use Rattle.arj_lock_law.specs.Machine.{Run}
 use Rattle.arj_lock_law.specs.State.{State}
 use Rattle.arj_part_law.specs.Actions.{Action, MayBegin}
 use Rattle.arj_part_law.specs.Coords.{IsGoodCoord}
@@ -84,7 +85,7 @@ kept_walk : (x : ℕ) (R : List Action → Seen → Type 0) (begun : List Action
     → Walks (AreLocksSeen x R) e k outs (Up (AreLocksSeen x R) k v) d M
 kept_walk x R begun e k outs v d M holds good sees =
     let A : Type 0 = (f : Fixed) × Agrees f x begun M.sent in
-    let Q : A → Seen → Type 0 = λ a N. Agrees a.0 x begun N.sent → (S : State) × SeesLocks a.0 x begun S N × AreTied a.0 x N.lines S in
+    let Q : A → Seen → Type 0 = λ a N. Agrees a.0 x begun N.sent → (S : State) × SeesLocks a.0 x begun S N × AreTied a.0 x N.lines S × Run (sees a.0 a.1).0 S in
     let H : Seen → Type 0 = λ N. Within M.sent N.sent in
     let E : Seen → Type 0 = λ N. (a : A) → Q a N in
     let one = walks_each {A = A} Q e k outs (λ a. Up (Q a) k v) d M (λ a. (sees a.0 a.1).1) in
@@ -95,8 +96,8 @@ kept_walk x R begun e k outs v d M holds good sees =
     let U : Seen → Type 0 = λ N. G N × T N in
     let four = walks_both (R begun) U e k outs (Up (R begun) k v) (λ c N. Up G k v c N × (Up H k v c N × ((a : A) → Up (Q a) k v c N))) d M holds three in
     walks_to (λ N. R begun N × U N) (AreLocksSeen x R) e k outs (λ c N. Up (R begun) k v c N × (Up G k v c N × (Up H k v c N × ((a : A) → Up (Q a) k v c N)))) (Up (AreLocksSeen x R) k v) d M
-    (λ N z. (begun, z.1.0.1, z.0, (λ f agrees. z.1.1.1 (f, agree_less f x begun M.sent N.sent z.1.1.0 agrees) agrees), z.1.0.0.1))
-    (λ c N z. (begun, z.1.0.1, z.0, (λ f agrees. z.1.1.1 (f, agree_less f x begun M.sent N.sent z.1.1.0 agrees) agrees), z.1.0.0.1)) four
+    (λ N z. (begun, z.1.0.1, z.0, (λ f agrees. let g = z.1.1.1 (f, agree_less f x begun M.sent N.sent z.1.1.0 agrees) agrees in (g.0, g.1, g.2)), z.1.0.0.1))
+    (λ c N z. (begun, z.1.0.1, z.0, (λ f agrees. let g = z.1.1.1 (f, agree_less f x begun M.sent N.sent z.1.1.0 agrees) agrees in (g.0, g.1, g.2)), z.1.0.0.1)) four
 
 some_is : {A : Type 0} {a b : A} → Some a ≡ Some b → a ≡ b
 some_is {A} {a} {b} is = let k : ◌≡◌ {A = Option A} (Some a) (Some b) = is in cc
@@ -203,12 +204,13 @@ module _ (hd : Header) (x : ℕ) (G : Seen → Type 0) (R : List Action → Seen
   stop_kept e k d live M more z = let r = stop_pathed hd z.0 e k d live M (pathed_in (at k d live M) z) in (z.0, r.1, keeps.stop z.0 e k d live M more z.1.0 z.2, (λ f. by f live more z), r.0.1)
     where
       by : (f : Fixed) (live : Option Parts) → G (at k d live M) → (z : Kept (at k d live M)) → Agrees f x z.0 M.sent → (S : State) × SeesLocks f x z.0 S (halted e k d M) × AreTied f x (let N = halted e k d M in N.lines) S
-      by f None more z agrees = (let g = z.3 f agrees in down_stays (case_of f x z.0 g.0) e k d M (seen_in f (down k d M) z agrees) agrees)
+      by f None more z agrees = (let g = z.3 f agrees in let h = down_stays (case_of f x z.0 g.0) e k d M (seen_in f (down k d M) z agrees) agrees in (h.0, h.1, h.2))
       by f (Some t) more z agrees =
           let g = z.3 f agrees in
           let s : Spot = record { node = k; disk = d; parts = t; seen = M } in
           let seen = seen_in f (world_at s) z agrees in
-          stops_go (case_of f x z.0 g.0) s e seen ((gives f).holds z.0 g.0 s (more, z.2) seen) agrees
+          let h = stops_go (case_of f x z.0 g.0) s e seen ((gives f).holds z.0 g.0 s (more, z.2) seen) agrees in
+          (h.0, h.1, h.2)
 
   -- ---- a message
 

@@ -15,6 +15,7 @@ use Rattle.arj_protocol.specs.Order.{at_uid, has}
 use Rattle.arj_protocol.specs.Says.{AreAll}
 use Rattle.arj_protocol.specs.Tree.{Branch, branch_of, ended_so, has_end, is_committed, is_constituent, is_open, is_open_branch}
 use Rattle.arj_lock_law.specs.Actions.{Root, is_top, root}
+use Rattle.arj_lock_law.specs.Machine.{stay}
 use Rattle.arj_lock_law.specs.State.{State}
 use Rattle.arj_part_law.specs.Actions.{Action, action_of}
 use Rattle.arj_part_law.specs.Coords.{IsGoodCoord}
@@ -224,7 +225,7 @@ module _ (c : Case) (s : Spot) (is_seen : IsSeenIn c (world_at s)) where
         let End = Up P k s.parts in
         let outs = answer_query from u js C in
         subst (λ es. Walks P e k es End s.disk s.seen) (append-nil outs) (quiet_walk f c.x c.begun k e P End S sent s.disk outs [] answer_quiet answer_seen
-        (λ N w o now agrees. (S, with_here f c.x c.begun k s.disk (Some s.parts) S N o here, now.tied)) s.seen (λ r i. i) others (tied_now c (world_at s) is_seen))
+        (λ N w o now agrees. (S, with_here f c.x c.begun k s.disk (Some s.parts) S N o here, now.tied, stay)) s.seen (λ r i. i) others (tied_now c (world_at s) is_seen))
 
 pub queries_go : QueriesGo
 queries_go c s e from u is_seen about = query_goes c s is_seen from u about e

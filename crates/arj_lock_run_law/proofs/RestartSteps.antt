@@ -9,6 +9,7 @@ use Rattle.arj_protocol.specs.Words.kind
 use Rattle.arj_protocol.specs.Effect.{Disk}
 use Rattle.arj_protocol.specs.Tree.{Branch, branch_of}
 use Rattle.arj_lock_law.specs.Actions.{Act, In, Root, is_action, is_top, on, root, same}
+use Rattle.arj_lock_law.specs.Machine.{Run}
 use Rattle.arj_lock_law.specs.State as state
 use Rattle.arj_lock_law.specs.State.{State}
 use Rattle.arj_lock_law.proofs.Paths.{by_cases, differ, on_base, root_is, same_is, top_action}
@@ -114,6 +115,9 @@ module _ (f : Fixed) (x : ℕ) (begun : List Action) (k : ℕ) (whole : AreOneTr
     -- the journal is tied with the line
     pub tied_record : IsTiedNow f x begun S M.lines → IsTiedNow f x begun T N.lines
     tied_record now = tied_found f x begun e k w S T M.lines (ap (λ (z : State). z.initial) only.rest) (ap (λ (z : State). z.calls) only.rest, ap (λ (z : State). z.includes) only.rest) (let h = g.holds.2 in omega (arith, h)) (let two = (stopped.top w refl).3 in omega (arith, two)) changes now
+
+    pub run_record : Run S T
+    run_record = g.run
 
     -- it is committed
     committed_found : HasEnded v T w ending.Commit

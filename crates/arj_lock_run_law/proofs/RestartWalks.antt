@@ -20,7 +20,9 @@ use Rattle.arj_protocol.specs.Order.{at_uid, uid_set, without_number}
 use Rattle.arj_protocol.specs.Says.{AreAll}
 use Rattle.arj_protocol.specs.Step.{hello_to, naming_at, naming_back, numbers_to, parts_in, recovered_records, tolds_again}
 use Rattle.arj_protocol.proofs.PartSays.{all_both, all_flat}
+use Rattle.arj_lock_law.specs.Machine.{Run, stay}
 use Rattle.arj_lock_law.specs.State.{State}
+use Rattle.arj_lock_law.proofs.Order.{go_on}
 use Rattle.arj_lock_line_law.specs.Steps.{is_plain}
 use Rattle.arj_part_law.specs.Actions.{Action}
 use Rattle.arj_part_law.specs.Messages.{AreOfTops, IsTopAction}
@@ -37,7 +39,7 @@ use Rattle.arj_lock_run_law.specs.Sees.{SeesDown}
 use Rattle.arj_lock_run_law.specs.World.{IsSeenSo, RestartsGo}
 use Rattle.arj_lock_run_law.proofs.HaltSteps.{halt_down}
 use Rattle.arj_lock_run_law.proofs.OtherSteps.{SeesOthers, here_of, others_of, posted_others, said_others, with_here}
-use Rattle.arj_lock_run_law.proofs.RestartSteps.{down_found, others_found, tied_record}
+use Rattle.arj_lock_run_law.proofs.RestartSteps.{down_found, others_found, run_record, tied_record}
 use Rattle.arj_lock_run_law.proofs.StartSteps.{HasStarted, started}
 use Rattle.arj_lock_run_law.proofs.TieSteps.{IsTiedNow, tied_again, tied_moved, tied_now, tied_plain, tied_quiet}
 use Rattle.arj_lock_run_law.proofs.WalkSteps.{AreSendsSeen, IsSendSeen}
@@ -86,15 +88,15 @@ module _ (f : Fixed) (x : ℕ) (begun : List Action) (k e : ℕ) (P : Seen → T
 
   -- ---- records that are found
 
-  module _ (whole : AreOneTree (family_of f begun)) (d D : Disk) (rest : List Effect) (go : (T : State) (N : Seen) → SeesOthers f x begun k T N → (z : SeesDown (view_of f x begun k) T d) → z.last ≡ None → IsTiedNow f x begun T N.lines → Walks P e k rest E D N) where
+  module _ (whole : AreOneTree (family_of f begun)) (R : State) (d D : Disk) (rest : List Effect) (go : (T : State) (N : Seen) → SeesOthers f x begun k T N → (z : SeesDown (view_of f x begun k) T d) → z.last ≡ None → IsTiedNow f x begun T N.lines → Run R T → Walks P e k rest E D N) where
     records_walk : (es : List (Uid × Intent)) → ((u : Uid) (i : Intent) → list.In {X = Uid × Intent} (u, i) es → IsTopAction begun u) → ((u : Uid) (i : Intent) → list.In {X = Uid × Intent} (u, i) es → list.In {X = Uid × Intent} (u, i) d.intents)
-        → (S : State) (N : Seen) → SeesOthers f x begun k S N → (s : SeesDown (view_of f x begun k) S d) → ((u : Uid) → s.last ≡ Some u → (i : Intent) × list.In {X = Uid × Intent} (u, i) es) → IsTiedNow f x begun S N.lines → Walks P e k (recovered_records k es ++ rest) E D N
-    records_walk [] tops kept S N others s pending now = go S N others s (none s.last refl) now
+        → (S : State) (N : Seen) → SeesOthers f x begun k S N → (s : SeesDown (view_of f x begun k) S d) → ((u : Uid) → s.last ≡ Some u → (i : Intent) × list.In {X = Uid × Intent} (u, i) es) → IsTiedNow f x begun S N.lines → Run R S → Walks P e k (recovered_records k es ++ rest) E D N
+    records_walk [] tops kept S N others s pending now run = go S N others s (none s.last refl) now run
       where
         none : (o : Option Uid) → s.last ≡ o → s.last ≡ None
         none None is = is
         none (Some u) is = absurd (pending u is).1
-    records_walk ((w, i) ∷ es) tops kept S N others s pending now = by (λ T L o z p n. records_walk es (λ u j there. tops u j (inr there)) (λ u j there. kept u j (inr there)) T L o z p n) s.last refl
+    records_walk ((w, i) ∷ es) tops kept S N others s pending now run = by (λ T L o z p n r. records_walk es (λ u j there. tops u j (inr there)) (λ u j there. kept u j (inr there)) T L o z p n r) s.last refl
       where
         -- a top that is committed
         old : (s.last ≡ Some w → ⊥) → IsTiedNow f x begun S (let L = said e (body.Recovered k w ∷ []) N in L.lines)
@@ -107,13 +109,13 @@ module _ (f : Fixed) (x : ℕ) (begun : List Action) (k e : ℕ) (P : Seen → T
             first_of q = sym (ap (λ (z : Uid × Intent). z.0) q)
         later u other (j, inr there) = (j, there)
 
-        by : ((T : State) (L : Seen) → SeesOthers f x begun k T L → (z : SeesDown (view_of f x begun k) T d) → ((u : Uid) → z.last ≡ Some u → (j : Intent) × list.In {X = Uid × Intent} (u, j) es) → IsTiedNow f x begun T L.lines → Walks P e k (recovered_records k es ++ rest) E D L) → (o : Option Uid) → s.last ≡ o → Walks P e k (recovered_records k es ++ rest) E D (said e (body.Recovered k w ∷ []) N)
-        by next None is = next S _ (said_others f x begun k e (body.Recovered k w ∷ []) S N others) s (λ u its. absurd (let bad : None ≡ Some u = sym is ∙ its in cc bad)) (old (λ its. (let bad : None ≡ Some w = sym is ∙ its in cc bad)))
+        by : ((T : State) (L : Seen) → SeesOthers f x begun k T L → (z : SeesDown (view_of f x begun k) T d) → ((u : Uid) → z.last ≡ Some u → (j : Intent) × list.In {X = Uid × Intent} (u, j) es) → IsTiedNow f x begun T L.lines → Run R T → Walks P e k (recovered_records k es ++ rest) E D L) → (o : Option Uid) → s.last ≡ o → Walks P e k (recovered_records k es ++ rest) E D (said e (body.Recovered k w ∷ []) N)
+        by next None is = next S _ (said_others f x begun k e (body.Recovered k w ∷ []) S N others) s (λ u its. absurd (let bad : None ≡ Some u = sym is ∙ its in cc bad)) (old (λ its. (let bad : None ≡ Some w = sym is ∙ its in cc bad))) run
         by next (Some u) is = ⊎_elim
             (λ (same : u ≡ w). (let its : s.last ≡ Some w = is ∙ ap Some same in
             let z = down_found f x begun k whole S d w N e others s its (tops w i (inl refl)) in
-            next _ _ (others_found f x begun k whole S d w N e others s its (tops w i (inl refl))) z.0 (λ y none. absurd (let bad : None ≡ Some y = sym z.1 ∙ none in cc bad)) (tied_record f x begun k whole S d w N e others s its (tops w i (inl refl)) now)))
-            (λ (other : u ≢ w). next S _ (said_others f x begun k e (body.Recovered k w ∷ []) S N others) s (λ y its. later y (λ same. other (let two : ◌≡◌ {A = Option Uid} (Some u) (Some y) = sym is ∙ its in let one : u ≡ y = cc two in one ∙ same)) (pending y its)) (old (λ its. other (let two : ◌≡◌ {A = Option Uid} (Some u) (Some w) = sym is ∙ its in cc two))))
+            next _ _ (others_found f x begun k whole S d w N e others s its (tops w i (inl refl))) z.0 (λ y none. absurd (let bad : None ≡ Some y = sym z.1 ∙ none in cc bad)) (tied_record f x begun k whole S d w N e others s its (tops w i (inl refl)) now) (go_on run (run_record f x begun k whole S d w N e others s its (tops w i (inl refl))))))
+            (λ (other : u ≢ w). next S _ (said_others f x begun k e (body.Recovered k w ∷ []) S N others) s (λ y its. later y (λ same. other (let two : ◌≡◌ {A = Option Uid} (Some u) (Some y) = sym is ∙ its in let one : u ≡ y = cc two in one ∙ same)) (pending y its)) (old (λ its. other (let two : ◌≡◌ {A = Option Uid} (Some u) (Some w) = sym is ∙ its in cc two))) run)
             (uid_cases u w)
 
 -- ---- what a node sends as it starts
@@ -234,9 +236,9 @@ module _ (hd : Header) (c : Case) (e k : ℕ) (d : Disk) (M : Seen) (is_seen : I
   Sent = tolds_again d.intents ++ (map query_about Hs ++ Hellos)
 
   -- what is sent, and the end
-  ends_walk : (R T : State) (N : Seen) → HasStarted f c.x c.begun k R d N T → ((u : Uid) (i : Intent) → list.In {X = Uid × Intent} (u, i) d.intents → HasEnded v T u ending.Commit) → IsTiedNow f c.x c.begun T N.lines → Walks P e k Sent E risen N
-  ends_walk R T N has so now =
-      let end : (L : Seen) → Within N.sent L.sent → SeesOthers f c.x c.begun k T L → IsTiedNow f c.x c.begun T L.lines → Walks P e k [] E risen L = λ L w o n agrees. (T, with_here f c.x c.begun k risen (Some (parts_in k inc d)) T L o has.up, n.tied) in
+  ends_walk : (R T : State) → Run c.state T → (N : Seen) → HasStarted f c.x c.begun k R d N T → ((u : Uid) (i : Intent) → list.In {X = Uid × Intent} (u, i) d.intents → HasEnded v T u ending.Commit) → IsTiedNow f c.x c.begun T N.lines → Walks P e k Sent E risen N
+  ends_walk R T run N has so now =
+      let end : (L : Seen) → Within N.sent L.sent → SeesOthers f c.x c.begun k T L → IsTiedNow f c.x c.begun T L.lines → Walks P e k [] E risen L = λ L w o n agrees. (T, with_here f c.x c.begun k risen (Some (parts_in k inc d)) T L o has.up, n.tied, run) in
       quiet_walk f c.x c.begun k e P E T N.sent risen (tolds_again d.intents) (map query_about Hs ++ Hellos) (tolds_quiet d.intents) (tolds_seen f c.x c.begun k T N.sent d.intents so)
       (λ L w o n. quiet_walk f c.x c.begun k e P E T N.sent risen (map query_about Hs) Hellos (queries_quiet Hs) (queries_seen f c.x c.begun k T N.sent Hs)
       (λ K y q m. subst (λ es. Walks P e k es E risen K) (append-nil Hellos) (quiet_walk f c.x c.begun k e P E T N.sent risen Hellos [] (hellos_quiet k inc (without_number k (numbers_to hd.nodes))) (hellos_seen f c.x c.begun k T N.sent inc (without_number k (numbers_to hd.nodes))) end K y q m)) L w o n)
@@ -244,10 +246,10 @@ module _ (hd : Header) (c : Case) (e k : ℕ) (d : Disk) (M : Seen) (is_seen : I
 
   -- after the last look
   last_walk : (N : Seen) → SeesOthers f c.x c.begun k S N → IsTiedNow f c.x c.begun S N.lines → Walks P e k (recovered_records k d.intents ++ Sent) E risen N
-  last_walk N o now = records_walk f c.x c.begun k e P E whole d risen Sent
-      (λ T L os z none n. (let g = started f c.x c.begun k T d L os z none entry in
-      ends_walk T g.0 L g.1 (λ u i there. (let z = g.1 in let y = z.up in ⊎_elim (λ none. absurd (cc none)) (λ so. so) (y.records u i (in_to {X = Uid × Intent} (u, i) d.intents there)))) (tied_moved f c.x c.begun T g.0 L.lines (let q = g.1 in q.moved) n)))
-      d.intents tops (λ u i there. there) S N o here (λ u is. recorded u is) now
+  last_walk N o now = records_walk f c.x c.begun k e P E whole S d risen Sent
+      (λ T L os z none n r. (let g = started f c.x c.begun k T d L os z none entry in
+      ends_walk T g.0 (go_on r (let q = g.1 in q.run)) L g.1 (λ u i there. (let z = g.1 in let y = z.up in ⊎_elim (λ none. absurd (cc none)) (λ so. so) (y.records u i (in_to {X = Uid × Intent} (u, i) d.intents there)))) (tied_moved f c.x c.begun T g.0 L.lines (let q = g.1 in q.moved) n)))
+      d.intents tops (λ u i there. there) S N o here (λ u is. recorded u is) now stay
     where
       tops : (u : Uid) (i : Intent) → list.In {X = Uid × Intent} (u, i) d.intents → IsTopAction c.begun u
       tops u i there = all_of d.intents (let p = place_of k d None M (c.begun, is_seen.good) in let q = p.disk in q.tops) there

@@ -16,6 +16,7 @@ use Rattle.arj_lock_law.specs.Actions.{Act, same}
 use Rattle.arj_lock_law.specs.Machine.{Run}
 use Rattle.arj_lock_law.specs.State as state
 use Rattle.arj_lock_law.specs.State.{State}
+use Rattle.arj_lock_law.proofs.Order.{go_on}
 use Rattle.arj_part_law.specs.Actions.{Action, act_of}
 use Rattle.arj_part_law.proofs.GoodCoords.{doing_by}
 use Rattle.arj_part_law.proofs.GoodTrees.{found_by, place_in}
@@ -80,6 +81,7 @@ module _ (f : Fixed) (x : ℕ) (begun : List Action) (k : ℕ) where
 
   pub record HasStarted (S : State) (d : Disk) (M : Seen) (T : State) : Type 0 where
     pub moved : IsMoved S T
+    pub run : Run S T
     pub others : SeesOthers f x begun k T M
     pub up : SeesUp v T (record d { inc = d.inc + 1 }) (parts_in k (d.inc + 1) d)
 
@@ -135,12 +137,13 @@ module _ (f : Fixed) (x : ℕ) (begun : List Action) (k : ℕ) where
       named : (one : (k == 1) ≡ true) (behind_naming : State) → Run behind_server behind_naming → SeesNaming v (recovered_naming inc d.names) behind_naming → OnlyNaming behind_server behind_naming → HasStarted S d M behind_naming
       named one behind_naming run seen_naming only_named = record {
         moved = moved_then S behind_server behind_naming (moved_serving v m S behind_server serving) (moved_named behind_server behind_naming only_named);
+        run = go_on run_serving run;
         others = others_go f x begun k behind_server behind_naming M others_behind run (λ j n other is seen_there. memory_named behind_server behind_naming reached_behind run only_named (view_of f x begun j) n.disk n.live (λ its. other (its ∙ sym (eqb-true k 1 one))) seen_there) (fresh_named f begun behind_server behind_naming only_named others_behind.fresh) (now_named behind_server behind_naming (length M.lines) only_named others_behind.now);
         up = up_with behind_naming (action_named behind_server behind_naming reached_behind run only_named ∙ action_is v m S behind_server serving) (sees_named behind_server behind_naming reached_behind run only_named v (parts_in k inc d) server_behind) (subst (λ (b : Bool). SeesNamingIn v behind_naming (cond b (Some (recovered_naming inc d.names)) None)) (sym one) seen_naming);
       }
 
       starts : (b : Bool) → (k == 1) ≡ b → (T : State) × HasStarted S d M T
-      starts false is = (behind_server, record { moved = moved_serving v m S behind_server serving; others = others_behind; up = up_with behind_server (action_is v m S behind_server serving) server_behind (subst (λ (b : Bool). SeesNamingIn v behind_server (cond b (Some (recovered_naming inc d.names)) None)) (sym is) tt) })
+      starts false is = (behind_server, record { moved = moved_serving v m S behind_server serving; run = run_serving; others = others_behind; up = up_with behind_server (action_is v m S behind_server serving) server_behind (subst (λ (b : Bool). SeesNamingIn v behind_server (cond b (Some (recovered_naming inc d.names)) None)) (sym is) tt) })
       starts true is =
           let one : k ≡ 1 = eqb-true k 1 is in
           let o = there (at_number x (let n = recovered_naming inc d.names in n.objects)) (entry one inc) in

@@ -20,6 +20,7 @@ use Rattle.arj_protocol.specs.Says.{AreAll}
 use Rattle.arj_protocol.specs.Step.{tolds_again}
 use Rattle.arj_protocol.specs.Tree.{Branch, Tree, branch_of, ends_of, root_of}
 use Rattle.arj_protocol.proofs.Messages.{request_reads_back}
+use Rattle.arj_lock_law.specs.Machine.{stay}
 use Rattle.arj_lock_law.specs.State.{State}
 use Rattle.arj_part_law.specs.Actions.{Action}
 use Rattle.arj_part_law.specs.Claims.{GoesOn}
@@ -222,7 +223,7 @@ module _ (c : Case) (s : Spot) (is_seen : IsSeenIn c (world_at s)) (asks_so : Kn
       (quiet_walk f c.x c.begun k e P End S sent s.disk outs (tolds ++ queries) (requests_quiet outs (again_requests C.doings C)) asked
       (λ N w o n. quiet_walk f c.x c.begun k e P End S sent s.disk tolds queries (tolds_quiet C.telling) (tolds_seen f c.x c.begun k S sent C.telling told_so)
       (λ L y q m. subst (λ es. Walks P e k es End s.disk L) (append-nil queries) (quiet_walk f c.x c.begun k e P End S sent s.disk queries [] (queries_quiet (holders s.disk s.parts)) (queries_seen f c.x c.begun k S sent (holders s.disk s.parts))
-      (λ K z p now agrees. (S, with_here f c.x c.begun k s.disk (Some (with_coord s.parts E)) S K p up_after, now.tied)) L y q m)) N w o n)
+      (λ K z p now agrees. (S, with_here f c.x c.begun k s.disk (Some (with_coord s.parts E)) S K p up_after, now.tied, stay)) L y q m)) N w o n)
       s.seen (λ r i. i) others (tied_now c (world_at s) is_seen))
 
 pub ticks_go : TicksGo

@@ -7,7 +7,7 @@ use Rattle.arj_lock.proofs.Members as list
 use Rattle.arj_lock.proofs.Members.{in_from, in_to}
 use Rattle.arj_protocol.specs.Words.{Kind, Uid, is_on, last_uid, tops_of, uid_eq, uids_of}
 use Rattle.arj_protocol.specs.Words.kind
-use Rattle.arj_protocol.specs.Ask.{top_of, top_path}
+use Rattle.arj_protocol.specs.Ask.{top_path}
 use Rattle.arj_protocol.specs.Tree.{root_of}
 use Rattle.arj_lock_law.specs.Actions.{Act, is_top, on}
 use Rattle.arj_lock_law.proofs.Paths.{on_self}

@@ -8,6 +8,7 @@ use Rattle.arj_protocol.specs.Words.role
 use Rattle.arj_protocol.specs.Effect.{After, Before, Disk, Effect, InPart, Intent, Say, Send, Do, Stop, Work, Look, PutInc, Prepare, Commit, Abort, PutIntent, RemoveIntent, stopped, worked}
 use Rattle.arj_protocol.specs.Node.{Parts}
 use Rattle.arj_protocol.specs.Says.{AreAll}
+use Rattle.arj_lock_law.specs.Machine.{Run}
 use Rattle.arj_lock_law.specs.State.{State}
 use Rattle.arj_lock_line_law.specs.Steps.{is_plain}
 use Rattle.arj_part_law.specs.Actions.{Action}
@@ -89,11 +90,11 @@ module _ (f : Fixed) (x : ℕ) (begun : List Action) (k : ℕ) where
 
   -- where this is so at each stop, and at the end
   module _ (S T : State) (e : ℕ) (v : Parts) (i : ℕ) (js : List (Uid × Intent)) (sent : List Post)
-      (halt : (d : Disk) (M : Seen) → HasSame i js d → SeesOthers f x begun k T M → IsTiedNow f x begun T M.lines → (U : State) × SeesLocks f x begun U (halted e k d M) × AreTied f x (let N = halted e k d M in N.lines) U)
+      (halt : (d : Disk) (M : Seen) → HasSame i js d → SeesOthers f x begun k T M → IsTiedNow f x begun T M.lines → (U : State) × SeesLocks f x begun U (halted e k d M) × AreTied f x (let N = halted e k d M in N.lines) U × Run S U) (run : Run S T)
       (end : (d : Disk) → HasSame i js d → SeesUp (view_of f x begun k) T d v) where
     pub walked : (outs : List Effect) (d : Disk) (M : Seen) → AreSendsSeen T sent outs → AreAll leaves outs → Within sent M.sent → HasSame i js d → SeesOthers f x begun k T M → IsTiedNow f x begun T M.lines
         → Walks (IsSeenSo (record { fixed = f; x = x; begun = begun; state = S })) e k outs (Up (IsSeenSo (record { fixed = f; x = x; begun = begun; state = S })) k v) d M
-    walked [] d M sends plain within same others now = λ agrees. (T, with_here f x begun k d (Some v) T M others (end d same), now.tied)
+    walked [] d M sends plain within same others now = λ agrees. (T, with_here f x begun k d (Some v) T M others (end d same), now.tied, run)
     walked (Do w ∷ es) d M sends plain within same others now =
         let p = and_parts (leaves_work w) (list_all leaves es) plain in
         (λ how agrees. halt (stopped how w d) M (stopped_same i js how w d p.0 same) others now, walked es (worked w d) M sends.1 p.1 within (worked_same i js w d p.0 same) others now)

@@ -19,9 +19,9 @@ use Rattle.arj_lock_run_law.specs.Posts.{IsPostSeen}
 use Rattle.arj_lock_run_law.specs.Sees.{SeesLocks}
 use Rattle.arj_lock_run_law.specs.Tied.{AreTied}
 
--- Where what is fixed agrees with it, the object is seen, in some state of the machine, to which the journal is tied.
+-- Where what is fixed agrees with it, the object is seen, in a state to which the machine has gone, and to which the journal is tied.
 abbrev pub IsSeenSo : Case → Seen → Type 0
-IsSeenSo c M = Agrees c.fixed c.x c.begun M.sent → (S : State) × SeesLocks c.fixed c.x c.begun S M × AreTied c.fixed c.x M.lines S
+IsSeenSo c M = Agrees c.fixed c.x c.begun M.sent → (S : State) × SeesLocks c.fixed c.x c.begun S M × AreTied c.fixed c.x M.lines S × Run c.state S
 
 -- the message isn't for the coordinator
 abbrev pub is_for_parts : Message → Bool
