@@ -4,11 +4,8 @@ use Rattle.std.specs.Prelude.{◌==◌, if◌then◌else◌}
 use Rattle.arj_lock.proofs.Members as members
 use Rattle.arj_lock.proofs.Members.{in_from, in_to}
 use Rattle.arj_protocol.specs.Words.{Body, Line, Message}
-use Rattle.arj_protocol.specs.Words.loaded
-use Rattle.arj_protocol.specs.Words.message
 use Rattle.arj_protocol.specs.Effect.{Abort, Commit, Disk, Do, Effect, Look, Prepare, PutInc, PutIntent, RemoveIntent, Say, Send, worked}
 use Rattle.arj_protocol.specs.Node.{Parts, first_done, first_queued, ran}
-use Rattle.arj_protocol.specs.Server as server
 use Rattle.arj_view_law.specs.Seen.{In, Seen, Within, posted, said}
 use Rattle.arj_view_law.specs.Walks.{Walks}
 use Rattle.arj_view_law.proofs.Rounds.{AreLooks}
@@ -132,3 +129,31 @@ looks_ran k t (Do (PutIntent u i) ∷ es) d looks = absurd (cc looks)
 looks_ran k t (Do (RemoveIntent u) ∷ es) d looks = absurd (cc looks)
 looks_ran k t (Say b ∷ es) d looks = absurd (cc looks)
 looks_ran k t (Send to m ∷ es) d looks = absurd (cc looks)
+
+-- and send nothing
+pub looks_send : (es : List Effect) (to : ℕ) (m : Message) → AreLooks es → members.In (Send to m) es → ⊥
+looks_send [] to m looks i = i
+looks_send (Do Look ∷ es) to m looks (inl is) = absurd (cc is)
+looks_send (Do Look ∷ es) to m looks (inr i) = looks_send es to m looks i
+looks_send (Do (PutInc j) ∷ es) to m looks i = absurd (cc looks)
+looks_send (Do (Prepare r u s) ∷ es) to m looks i = absurd (cc looks)
+looks_send (Do (Commit r u) ∷ es) to m looks i = absurd (cc looks)
+looks_send (Do (Abort r u) ∷ es) to m looks i = absurd (cc looks)
+looks_send (Do (PutIntent u j) ∷ es) to m looks i = absurd (cc looks)
+looks_send (Do (RemoveIntent u) ∷ es) to m looks i = absurd (cc looks)
+looks_send (Say b ∷ es) to m looks i = absurd (cc looks)
+looks_send (Send j x ∷ es) to m looks i = absurd (cc looks)
+
+-- what goes out is sent by these effects
+pub ran_from : (k : ℕ) (t : Parts) (es : List Effect) (d : Disk) (to : ℕ) (m : Message) → members.In (Send to m) (ran k t es d).outs → members.In (Send to m) es
+ran_from k t [] d to m i = i
+ran_from k t (Do w ∷ es) d to m (inl is) = absurd (cc is)
+ran_from k t (Do w ∷ es) d to m (inr i) = inr (ran_from k t es (worked w d) to m i)
+ran_from k t (Say b ∷ es) d to m (inl is) = absurd (cc is)
+ran_from k t (Say b ∷ es) d to m (inr i) = inr (ran_from k t es d to m i)
+ran_from k t (Send j x ∷ es) d to m i = by (j == k) i (ran_from k t es d to m)
+  where
+    by : (b : Bool) → members.In (Send to m) (if b then first_queued x (ran k t es d) else first_done (Send j x) (ran k t es d)).outs → (members.In (Send to m) (ran k t es d).outs → members.In (Send to m) es) → members.In (Send to m) (Send j x ∷ es)
+    by true i rest = inr (rest i)
+    by false (inl is) rest = inl is
+    by false (inr i) rest = inr (rest i)

@@ -228,9 +228,9 @@ or_true true b is = refl
 or_true false b is = is
 
 -- a number that is left without another
-has_without : (from n : ℕ) (ns : List ℕ) → has (without_number from ns) n ≡ true → (has ns n ≡ true) × (n ≢ from)
-has_without from n [] is = absurd (cc is)
-has_without from n (k ∷ ks) is = by (k == from) refl is (has_without from n ks)
+pub has_left : (from n : ℕ) (ns : List ℕ) → has (without_number from ns) n ≡ true → (has ns n ≡ true) × (n ≢ from)
+has_left from n [] is = absurd (cc is)
+has_left from n (k ∷ ks) is = by (k == from) refl is (has_left from n ks)
   where
     one : (b : Bool) → (k == from) ≡ false → (k == n) ≡ b → (b || has (without_number from ks) n) ≡ true → (has (without_number from ks) n ≡ true → (has ks n ≡ true) × (n ≢ from)) → ((b || has ks n) ≡ true) × (n ≢ from)
     one true apart same there ih = (refl, λ back. let no_way : false ≡ true = sym apart ∙ ap (λ j. k == j) (sym back) ∙ same in absurd (cc no_way))
@@ -264,15 +264,15 @@ voted_fits from u p left (voted.Yes states) who = by (without_number from left) 
 
     by : (ns : List ℕ) → without_number from left ≡ ns → Fits from (Committing (Voting p left)) u (commit.votes_left ns now)
     by [] is = prepare_fits from (Committing (Voting p left)) u (commit.targets_of now) now who
-    by (n ∷ ns) is = λ j there. let old = has_without from j left (ap (λ ms. has ms j) is ∙ there) in record { was = Voting p left; is = refl; left = old.0; other = old.1; same = refl }
+    by (n ∷ ns) is = λ j there. let old = has_left from j left (ap (λ ms. has ms j) is ∙ there) in record { was = Voting p left; is = refl; left = old.0; other = old.1; same = refl }
 
 stores_fits : (from : ℕ) (u : Uid) (p now : Plan) (left ns : List ℕ) → actor now.path ≡ u → now.req ≡ p.req → ((j : ℕ) → has ns j ≡ true → (has left j ≡ true) × (j ≢ from)) → Fits from (Committing (Preparing p left)) u (commit.stores_left ns now).step
 stores_fits from u p now left [] who req fewer = confirm_fits from (Committing (Preparing p left)) u now.used now who
 stores_fits from u p now left (n ∷ ns) who req fewer = λ j there. let old = fewer j there in record { was = Preparing p left; is = refl; left = old.0; other = old.1; same = λ i. record { act = u; req = sym req i; kind = 7; node = j } }
 
 prepared_fits : (from : ℕ) (u : Uid) (p : Plan) (left : List ℕ) (r : PreparedReply) → actor p.path ≡ u → Fits from (Committing (Preparing p left)) u (commit.prepared_by from left p r).step
-prepared_fits from u p left prepared.Yes who = stores_fits from u p (record p { prepared = with_number from p.prepared }) left (without_number from left) who refl (λ j there. has_without from j left there)
-prepared_fits from u p left (prepared.InDoubt x holder) who = stores_fits from u p (commit.marks_store from p) left (without_number from left) who refl (λ j there. has_without from j left there)
+prepared_fits from u p left prepared.Yes who = stores_fits from u p (record p { prepared = with_number from p.prepared }) left (without_number from left) who refl (λ j there. has_left from j left there)
+prepared_fits from u p left (prepared.InDoubt x holder) who = stores_fits from u p (commit.marks_store from p) left (without_number from left) who refl (λ j there. has_left from j left there)
 prepared_fits from u p left (prepared.Old x v) who = tt
 
 confirmed_fits : (from : ℕ) (u : Uid) (p : Plan) (r : ConfirmedReply) → actor p.path ≡ u → Fits from (Committing (Confirming p)) u (commit.confirmed_by p r)

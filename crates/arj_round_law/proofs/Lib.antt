@@ -8,3 +8,5 @@ pub mod Worlds
 pub mod Fits
 pub mod Settles
 pub mod Quiesces
+pub mod Endings
+pub mod Quiets

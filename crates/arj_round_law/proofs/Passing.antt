@@ -2,7 +2,6 @@
 use Rattle.std.proofs.Common.{◌≡◌, ◌∙◌, ℕ, Bool, true, false, List, [], ◌∷◌, refl, sym, ap, subst, inl, Option, Some, None, arith}
 use Rattle.std.specs.Prelude.{◌&&◌, ◌==◌, if◌then◌else◌}
 use Rattle.std.proofs.lemmas.Bool.Decides.{nat_tests}
-use Rattle.arj_lock.proofs.Members as members
 use Rattle.arj_protocol.proofs.Taken.{taken_took}
 use Rattle.arj_protocol.specs.Words.{Ask, Asked, Body, End, Head, Header, Message, ObjectState, Uid, asks}
 use Rattle.arj_protocol.specs.Words.loaded

@@ -33,7 +33,7 @@ use Rattle.arj_round_law.specs.Rounds.{AnswersWaits, QuiescesAnswer, RunsAnswer,
 use Rattle.arj_round_law.specs.Waits.{AreBrought, Asking, HasWay, IsOvertaken, IsSaid, Want, coord_in, want_of_call, want_of_commit}
 use Rattle.arj_round_law.proofs.Effects.{works}
 use Rattle.arj_round_law.proofs.Fits.{runs_few}
-use Rattle.arj_round_law.proofs.Flights.{Left, with_here}
+use Rattle.arj_round_law.proofs.Flights.{Left, SameWay, with_here}
 use Rattle.arj_round_law.proofs.Hearing.{AsksIn, IsHome, all_doing, machine_asked, step_asked}
 use Rattle.arj_round_law.proofs.Passing.{Brought, coords, message_brings}
 use Rattle.arj_round_law.proofs.Settles.{Also, quiesce_leaves}
@@ -57,7 +57,7 @@ again_asked w [] c q i each = absurd i
 again_asked w (d ∷ ds) c q (inl is) each = let a = subst (λ (x : Doing). AsksIn (again_now c x.now).outs w) (sym is) (each c) in record { message = a.message; sent = in_left (Send w.node a.message) (again_now c d.now).outs (again_all ds (again_now c d.now).part).outs a.sent; asks = a.asks }
 again_asked w (d ∷ ds) c q (inr i) each = let a = again_asked w ds (again_now c d.now).part q i each in record { message = a.message; sent = in_right (Send w.node a.message) (again_now c d.now).outs (again_all ds (again_now c d.now).part).outs a.sent; asks = a.asks }
 
-doing_there : (u : Uid) (c : Coord) (q : Doing) → doing_of u c ≡ Some q → members.In q c.doings
+pub doing_there : (u : Uid) (c : Coord) (q : Doing) → doing_of u c ≡ Some q → members.In q c.doings
 doing_there u c q = by (is_own u c.tree)
   where
     sliced : (k : ℕ) (xs : List Doing) → slice_get xs k ≡ Some q → members.In q xs
@@ -80,8 +80,8 @@ abbrev Ways : (ℕ → Type 0) → (ℕ → Option Node) → (Post → Type 0) �
 Ways nodes found F B = AreBrought nodes (coords found) F B
 
 module _ (hd : Header) (P : Seen → Type 0) (gives : AnswersWaits hd P) (homes : (k : ℕ) (d : Disk) (t : Parts) (M : Seen) → P (up k d t M) → IsHome t.coord) where
-  ways_more : (nodes : ℕ → Type 0) (found : ℕ → Option Node) (F U : Post → Type 0) (B D : Body → Type 0) → ((q : Post) → F q → U q) → ((b : Body) → B b → D b) → Ways nodes found F B → Ways nodes found U D
-  ways_more nodes found F U B D on said a = brought_more nodes (coords found) F U B D on said a
+  ways_more : (nodes : ℕ → Type 0) (found : ℕ → Option Node) (F U : Post → Type 0) (B D : Body → Type 0) → SameWay F U → ((b : Body) → B b → D b) → Ways nodes found F B → Ways nodes found U D
+  ways_more nodes found F U B D on said a = brought_more nodes (coords found) F U B D on.0 said a
 
   ways_fewer : (nodes other : ℕ → Type 0) (found : ℕ → Option Node) (F : Post → Type 0) (B : Body → Type 0) → ((k : ℕ) → other k → nodes k) → Ways nodes found F B → Ways other found F B
   ways_fewer nodes other found F B less c = record {
@@ -89,9 +89,9 @@ module _ (hd : Header) (P : Seen → Type 0) (gives : AnswersWaits hd P) (homes 
     commits = λ k e u q m n there is does now left. c.commits k e u q m n (less k there) is does now left;
   }
 
-  ways_message : (nodes : ℕ → Type 0) (n : ℕ) (d : Disk) (t : Parts) (from : ℕ) (m : Message) (M : Seen) → P (up n d t M) → In (post_of from n m) M.sent → (F G : Post → Type 0) (B : Body → Type 0) → AllBut (post_of from n m) F G
+  ways_message : (nodes : ℕ → Type 0) (n : ℕ) (d : Disk) (t : Parts) (from : ℕ) (m : Message) (M : Seen) → P (up n d t M) → In (post_of from n m) M.sent → (F G : Post → Type 0) (B : Body → Type 0) → F (post_of from n m) → AllBut (post_of from n m) F G → ((q : Post) → G q → F q)
       → ((b : Body) → IsSaid M.lines b → B b) → Ways nodes (up n d t M).nodes F B → Left (Ways nodes) n (record { disk = d; parts = t }) M.nodes G B (taken n d t from m)
-  ways_message nodes n d t from m M holds sent F G B less lines brought = by (taken n d t from m) (message_brings hd P gives homes nodes n d t from m M holds sent F G B less lines brought)
+  ways_message nodes n d t from m M holds sent F G B under less back lines brought = by (taken n d t from m) (message_brings hd P gives homes nodes n d t from m M holds sent F G B less lines brought)
     where
       same : (v : Parts) (outs : List Effect) (k : ℕ) → coords (with_here n (record { disk = works outs d; parts = v }) M.nodes) k ≡ put n v.coord (coords (up n d t M).nodes) k
       same v outs k = one (k == n)
@@ -188,7 +188,7 @@ waits_said c b answers k e u q node found does waits = ⊎_elim
     (λ m. inr m) (answers k e u q node found does waits)
 
 -- a relation together with what holds in every run
-keeps_good : (hd : Header) (R : Seen → Type 0) → KeepsAsked hd R → KeepsAsked hd (λ M. R M × IsGood M)
+pub keeps_good : (hd : Header) (R : Seen → Type 0) → KeepsAsked hd R → KeepsAsked hd (λ M. R M × IsGood M)
 keeps_good hd R k = record {
   quiet = λ e bs M quiet h. (k.quiet e bs M quiet h.0, g.quiet e bs M quiet h.1);
   stop = λ e n d live M h. (k.stop e n d live M h.0, g.stop e n d live M h.1);
@@ -228,8 +228,8 @@ good_home k d t M g = record {
 
 pub quiesces_answer : QuiescesAnswer
 quiesces_answer hd test keeps gives e w h few is over last ups =
-    quiesce_leaves hd P (keeps_good hd (λ M. test M ≡ true) keeps) gives.within Ways (λ nodes. ways_more hd P gives homes nodes) (λ nodes. ways_message hd P gives homes nodes) (ways_fewer hd P gives homes) (λ nodes n. ways_ticked hd P gives homes nodes n)
-    WaitOvertaken waits_said (λ c header none up flown. nobody_waits hd c header none flown) e w h few
+    quiesce_leaves hd P (keeps_good hd (λ M. test M ≡ true) keeps) gives.within Ways (λ nodes. ways_more hd P gives homes nodes) (λ nodes. ways_message hd P gives homes nodes) (ways_fewer hd P gives homes) (λ nodes n of. ways_ticked hd P gives homes nodes n)
+    WaitOvertaken waits_said (λ c held header none up flown. nobody_waits hd c header none flown) e w h few
     (record { calls = λ k c u q s there. absurd there; commits = λ k c u q m n there. absurd there }) is over last ups
   where
     P : Seen → Type 0

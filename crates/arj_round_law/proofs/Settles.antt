@@ -145,7 +145,7 @@ behind_line C lines c answers = by c.full refl
 
 module _ (hd : Header) (P : Seen → Type 0) (keeps : KeepsAsked hd P) (within : (M : Seen) (p : Post) → P M → In p M.sent → Of hd p.to) (J : (ℕ → Type 0) → (ℕ → Option Node) → (Post → Type 0) → (Body → Type 0) → Type 0) (more : (nodes : ℕ → Type 0) → MayGrow (J nodes))
     (message : (nodes : ℕ → Type 0) → MessagesKeep P (J nodes)) (fewer : (nodes other : ℕ → Type 0) (found : ℕ → Option Node) (F : Post → Type 0) (B : Body → Type 0) → ((k : ℕ) → other k → nodes k) → J nodes found F B → J other found F B)
-    (ticks : (nodes : ℕ → Type 0) (n : ℕ) → TicksGive P n (J nodes) (J (Also nodes n))) where
+    (ticks : (nodes : ℕ → Type 0) (n : ℕ) → Of hd n → TicksGive P n (J nodes) (J (Also nodes n))) where
   -- in the world, of these nodes
   abbrev pub FlownAt : (ℕ → Type 0) → World → Type 0
   FlownAt nodes w = Flown (J nodes) (more nodes) w
@@ -165,7 +165,7 @@ module _ (hd : Header) (P : Seen → Type 0) (keeps : KeepsAsked hd P) (within :
       let live : is_up_at n w ≡ true = ticked_up hd n w behind n (of n (inl refl)) in
       let free : w.full ≡ false = ticked_full n w fits_behind in
       let one : FlownAt (Also nodes n) (tick_up n w) = now_ticks (FlownAt (Also nodes n)) n w free live
-      (tick_flown hd P keeps (J nodes) (J (Also nodes n)) (more nodes) (more (Also nodes n)) (message (Also nodes n)) n w h c (ticks nodes n) live (ticks_now (λ v. is_up_at n v ≡ true) n w free live (behind n (of n (inl refl)))) (ticks_now (λ v. v.full ≡ false) n w free live fits_behind)) in
+      (tick_flown hd P keeps (J nodes) (J (Also nodes n)) (more nodes) (more (Also nodes n)) (message (Also nodes n)) n w h c (ticks nodes n (of n (inl refl))) live (ticks_now (λ v. is_up_at n v ≡ true) n w free live (behind n (of n (inl refl)))) (ticks_now (λ v. v.full ≡ false) n w free live fits_behind)) in
       let held : Holds hd P (tick_up n w) = now_ticks (Holds hd P) n w free live (steps_hold hd P keeps n input.Tick w h tt) in
       let all = ticks_flown ns (Also nodes n) (tick_up n w) held one (λ j i. of j (inr i)) ups fits in
       record { held = all.held; flown = flown_less (With (Also nodes n) ns) (With nodes (n ∷ ns)) (tick_all ns (tick_up n w)) (λ k. ⊎_elim (λ there. inl (inl there)) (⊎_elim (λ same. inl (inr (sym same))) (λ i. inr i))) all.flown }
@@ -184,7 +184,7 @@ module _ (hd : Header) (P : Seen → Type 0) (keeps : KeepsAsked hd P) (within :
       (flown_less (With Nobody (node_numbers w)) (Of hd) b (λ k of. inr (subst (members.In k) (sym numbers) (numbers_of hd.nodes k of))) ticked.flown) ups fits
 
   -- behind the last settle
-  last_leaves : (C : World → Type 0) → ((c : World) → c.header ≡ hd → lowest_from 1 c.frames ≡ None → Ups hd c → FlownAt (Of hd) c → C c) → (w : World) → Holds hd P w → FlownAt Nobody w
+  last_leaves : (C : World → Type 0) → ((c : World) → Holds hd P c → c.header ≡ hd → lowest_from 1 c.frames ≡ None → Ups hd c → FlownAt (Of hd) c → C c) → (w : World) → Holds hd P w → FlownAt Nobody w
       → (Settled w).full ≡ false → lowest_from 1 (Settled w).frames ≡ None → AreUp (Settled w) → C (Settled w)
   last_leaves C each w h flown fits none ups =
       let a = settle_held hd P keeps most_frames w h in
@@ -192,14 +192,14 @@ module _ (hd : Header) (P : Seen → Type 0) (keeps : KeepsAsked hd P) (within :
       let c = settle_held hd P keeps most_frames (tick_all (node_numbers w) (settle w)) b in
       let header = c.stands.header in
       let all : Ups hd (Settled w) = λ j of. ups j (subst (λ (x : Header). (nat_le 1 j && nat_le j x.nodes) ≡ true) (sym header) of) in
-      each (Settled w) header none all (settled_flown w h flown all fits)
+      each (Settled w) c header none all (settled_flown w h flown all fits)
 
-  quiesced_leaves : (C : World → Type 0) → IsOfLines C → ((c : World) → c.header ≡ hd → lowest_from 1 c.frames ≡ None → Ups hd c → FlownAt (Of hd) c → C c) → (w : World) → Holds hd P w → FlownAt Nobody w
+  quiesced_leaves : (C : World → Type 0) → IsOfLines C → ((c : World) → Holds hd P c → c.header ≡ hd → lowest_from 1 c.frames ≡ None → Ups hd c → FlownAt (Of hd) c → C c) → (w : World) → Holds hd P w → FlownAt Nobody w
       → lowest_from 1 (limited (quiesce w)).frames ≡ None → (limited (quiesce w)).over ≡ false → AreUp (limited (quiesce w)) → C (limited (quiesce w))
   quiesced_leaves C lines each w h flown = behind_line C lines (Settled w) (last_leaves C each w h flown)
 
   -- What a quiesce leaves that went on, with every node up.
-  pub quiesce_leaves : (C : World → Type 0) → IsOfLines C → ((c : World) → c.header ≡ hd → lowest_from 1 c.frames ≡ None → Ups hd c → FlownAt (Of hd) c → C c) → (e : Asked) (w : World) → Holds hd P w → Few w → FlownAt Nobody w
+  pub quiesce_leaves : (C : World → Type 0) → IsOfLines C → ((c : World) → Holds hd P c → c.header ≡ hd → lowest_from 1 c.frames ≡ None → Ups hd c → FlownAt (Of hd) c → C c) → (e : Asked) (w : World) → Holds hd P w → Few w → FlownAt Nobody w
       → e.event ≡ event.Quiesce → w.over ≡ false → (run_event e w).over ≡ false → AreUp (run_event e w) → C (run_event e w)
   quiesce_leaves C lines each e w h few flown is over last ups = by last (events_settle e w (inr is) few over last) ups
     where

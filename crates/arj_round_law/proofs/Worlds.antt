@@ -25,12 +25,12 @@ use Rattle.arj_protocol.specs.World.{Arm, Frame, World, armed, as_delivered, bod
 use Rattle.arj_view_law.specs.Keeps.{HasPlace, Holds, IsSent, KeepsAsked}
 use Rattle.arj_view_law.specs.Seen.{In, Post, Seen, see, up}
 use Rattle.arj_view_law.specs.Walks.{Up, Walks}
-use Rattle.arj_view_law.proofs.Rounds.{taken_meant}
+use Rattle.arj_view_law.proofs.Rounds.{AreLooks, LooksAlone, taken_looks, taken_meant}
 use Rattle.arj_view_law.proofs.Happens.{deliver_holds, place_same}
 use Rattle.arj_round_law.specs.Waits.{IsSaid}
 use Rattle.arj_round_law.proofs.Ways.{AllBut, Then, post_of}
-use Rattle.arj_round_law.proofs.Effects.{works}
-use Rattle.arj_round_law.proofs.Flights.{Left, MayGrow, MessagesKeep, whole_keeps, with_here}
+use Rattle.arj_round_law.proofs.Effects.{looks_send, works}
+use Rattle.arj_round_law.proofs.Flights.{Left, MayGrow, MessagesKeep, SameWay, in_either, whole_keeps, with_here}
 
 -- ---- frames
 
@@ -57,12 +57,33 @@ but_delivered (suc k) f m fs at is p u = ⊎_elim
     (λ same. inl (λ i. record { from = (sym u.from ∙ ap (λ (g : Frame). g.from) (sym same)) i; to = (sym u.to ∙ ap (λ (g : Frame). g.to) (sym same)) i; message = some_is p.message m (sym u.message ∙ ap (λ (g : Frame). g.message) (sym same) ∙ is) i }))
     (λ i. inr (record { frame = u.frame; there = i; opened = u.opened; from = u.from; to = u.to; message = u.message })) (in_sliced k u.frame f (as_delivered f) fs at u.there)
 
+-- and it was under way before
+before_delivered : (k : ℕ) (f : Frame) (fs : List Frame) (p : Post) → Under (set_place k (as_delivered f) fs) p → Under fs p
+before_delivered zero f fs p u = u
+before_delivered (suc k) f fs p u = ⊎_elim (λ same. let no_way : false ≡ true = ap is_open_frame same ∙ u.opened in absurd (cc no_way)) (λ i. record { frame = u.frame; there = i; opened = u.opened; from = u.from; to = u.to; message = u.message }) (back k fs u.there)
+  where
+    back : (j : ℕ) (gs : List Frame) → members.In u.frame (slice_set gs j (as_delivered f)) → (as_delivered f ≡ u.frame) ⊎ members.In u.frame gs
+    back j [] i = inr i
+    back zero (g ∷ gs) (inl is) = inl is
+    back zero (g ∷ gs) (inr i) = inr (inr i)
+    back (suc j) (g ∷ gs) (inl is) = inr (inl is)
+    back (suc j) (g ∷ gs) (inr i) = ⊎_elim (λ a. inl a) (λ b. inr (inr b)) (back j gs i)
+
 -- bytes that are no message are under way for nobody
 junk_delivered : (k : ℕ) (f : Frame) (fs : List Frame) → at_place k fs ≡ Some f → f.message ≡ None → (p : Post) → Under fs p → Under (set_place k (as_delivered f) fs) p
 junk_delivered zero f fs at is p u = absurd (cc at)
 junk_delivered (suc k) f fs at is p u = ⊎_elim
     (λ same. let no_way : ◌≡◌ {A = Option Message} None (Some p.message) = sym is ∙ ap (λ (g : Frame). g.message) same ∙ u.message in absurd (cc no_way))
     (λ i. record { frame = u.frame; there = i; opened = u.opened; from = u.from; to = u.to; message = u.message }) (in_sliced k u.frame f (as_delivered f) fs at u.there)
+
+frame_there : (k : ℕ) (f : Frame) (fs : List Frame) → at_place k fs ≡ Some f → members.In f fs
+frame_there zero f fs at = absurd (cc at)
+frame_there (suc k) f fs at = found k fs at
+  where
+    found : (j : ℕ) (gs : List Frame) → slice_get gs j ≡ Some f → members.In f gs
+    found j [] at = absurd (cc at)
+    found zero (g ∷ gs) at = inl (some_is g f at)
+    found (suc j) (g ∷ gs) at = inr (found j gs at)
 
 -- no frame is open: nothing is under way
 pub none_under : (k : ℕ) (fs : List Frame) → lowest_from k fs ≡ None → (f : Frame) → members.In f fs → is_open_frame f ≡ true → ⊥
@@ -104,6 +125,30 @@ then_under n outs frames fits p (inr s) = record {
   to = refl;
   message = refl;
 }
+
+from_sends : (n : ℕ) (outs : List Effect) (f : Frame) → members.In f (sends n outs) → (to : ℕ) × (m : Message) × members.In (Send to m) outs × (f ≡ new_frame n to (Some m))
+from_sends n [] f i = absurd i
+from_sends n (Do w ∷ es) f i = let r = from_sends n es f i in (r.0, r.1, inr r.2, r.3)
+from_sends n (Say b ∷ es) f i = let r = from_sends n es f i in (r.0, r.1, inr r.2, r.3)
+from_sends n (Send to m ∷ es) f (inl is) = (to, m, inl refl, sym is)
+from_sends n (Send to m ∷ es) f (inr i) = let r = from_sends n es f i in (r.0, r.1, inr r.2, r.3)
+
+-- and nothing else is
+under_then : (n : ℕ) (outs : List Effect) (frames : List Frame) → overflows frames (sends n outs) ≡ false → (p : Post) → Under (frames_with frames (sends n outs)) p → Then (Under frames) n outs p
+under_then n outs frames fits p u = by frames (subst (members.In u.frame) (fitting frames (sends n outs) fits) u.there) (λ i. inl (record { frame = u.frame; there = i; opened = u.opened; from = u.from; to = u.to; message = u.message }))
+  where
+    sent : members.In u.frame (sends n outs) → Then (Under frames) n outs p
+    sent i =
+        let r = from_sends n outs u.frame i in
+        let from : n ≡ p.from = ap (λ (f : Frame). f.from) (sym r.3) ∙ u.from in
+        let to : r.0 ≡ p.to = ap (λ (f : Frame). f.to) (sym r.3) ∙ u.to in
+        let message : r.1 ≡ p.message = some_is r.1 p.message (ap (λ (f : Frame). f.message) (sym r.3) ∙ u.message) in
+        inr (sym from, subst (λ e. members.In e outs) (λ i. Send (to i) (message i)) r.2)
+
+    by : (fs : List Frame) → members.In u.frame (fs ++ sends n outs) → (members.In u.frame fs → Then (Under frames) n outs p) → Then (Under frames) n outs p
+    by [] i old = sent i
+    by (f ∷ fs) (inl is) old = old (inl is)
+    by (f ∷ fs) (inr i) old = by fs i (λ there. old (inr there))
 
 -- ---- lines
 
@@ -155,7 +200,7 @@ placed_here n a h ns there = λ i k. by k (k == n) refl i
     by k false e = place_other n k b ns (apart k e)
 
 -- a node that stands there already
-there_here : (n : ℕ) (h : Here) (ns : List Node) → at_place n ns ≡ Some (record { number = n; disk = h.disk; live = Some h.parts }) → (λ k. at_place k ns) ≡ with_here n h (λ k. at_place k ns)
+pub there_here : (n : ℕ) (h : Here) (ns : List Node) → at_place n ns ≡ Some (record { number = n; disk = h.disk; live = Some h.parts }) → (λ k. at_place k ns) ≡ with_here n h (λ k. at_place k ns)
 there_here n h ns there = λ i k. by k (k == n) refl i
   where
     by : (k : ℕ) (t : Bool) → (k == n) ≡ t → at_place k ns ≡ (if t then Some (record { number = n; disk = h.disk; live = Some h.parts }) else at_place k ns)
@@ -165,13 +210,13 @@ there_here n h ns there = λ i k. by k (k == n) refl i
 -- ---- a step
 
 -- a node that is up is there, with its memory
-record IsLive (k : ℕ) (w : World) : Type 0 where
-  node : Node
-  parts : Parts
-  there : at_place k w.nodes ≡ Some node
-  live : node.live ≡ Some parts
+pub record IsLive (k : ℕ) (w : World) : Type 0 where
+  pub node : Node
+  pub parts : Parts
+  pub there : at_place k w.nodes ≡ Some node
+  pub live : node.live ≡ Some parts
 
-live_at : (k : ℕ) (w : World) → is_up_at k w ≡ true → IsLive k w
+pub live_at : (k : ℕ) (w : World) → is_up_at k w ≡ true → IsLive k w
 live_at k w = by (at_place k w.nodes) refl
   where
     lives : (n : Node) → at_place k w.nodes ≡ Some n → (o : Option Parts) → n.live ≡ o → is_some o ≡ true → IsLive k w
@@ -299,8 +344,12 @@ deliver_full k w = by (at_place k w.frames)
     by None is = is
     by (Some f) is = steps_full f.to (input.Frame k f.from f.message) (change_frame k as_delivered f w) is
 
+-- a line is no message
+said_sends : {b : Body} {to : ℕ} {m : Message} → Say b ≡ Send to m → ⊥
+said_sends is = absurd (cc is)
+
 -- a node is what stands in its place
-seen_up : (P : Seen → Type 0) (n : ℕ) (a : Node) (t : Parts) (sent : List Post) (w : World) → at_place n w.nodes ≡ Some a → a.number ≡ n → a.live ≡ Some t → P (see sent w) → P (up n a.disk t (see sent w))
+pub seen_up : (P : Seen → Type 0) (n : ℕ) (a : Node) (t : Parts) (sent : List Post) (w : World) → at_place n w.nodes ≡ Some a → a.number ≡ n → a.live ≡ Some t → P (see sent w) → P (up n a.disk t (see sent w))
 seen_up P n a t sent w there is live h = subst (λ f. P (record { sent = sent; lines = w.lines; labels = w.labels; nodes = f })) (λ i m. same m i) h
   where
     mine : Node
@@ -367,7 +416,7 @@ module _ (I : (ℕ → Option Node) → (Post → Type 0) → (Body → Type 0) 
   done_flown n a h outs halting w there fits i =
       subst (λ f. I f (Under (frames_with w.frames (sends n outs))) (IsSaid (w.lines ++ numbered w.event (bodies n (length w.frames) outs)))) (sym (placed_here n a h w.nodes there))
       (more (with_here n h (nodes_in w)) (Then (Under w.frames) n outs) (Under (frames_with w.frames (sends n outs))) (λ c. IsSaid w.lines c ⊎ members.In (Say c) outs) (IsSaid (w.lines ++ numbered w.event (bodies n (length w.frames) outs)))
-      (λ p. then_under n outs w.frames (or_second w.full (overflows w.frames (sends n outs)) fits) p) (λ c. then_said n (length w.frames) w.event outs w.lines c) i)
+      (let free = or_second w.full (overflows w.frames (sends n outs)) fits in (then_under n outs w.frames free, under_then n outs w.frames free)) (λ c. then_said n (length w.frames) w.event outs w.lines c) i)
     where
       or_second : (x y : Bool) → (x || y) ≡ false → y ≡ false
       or_second true y is = absurd (cc is)
@@ -375,20 +424,21 @@ module _ (I : (ℕ → Option Node) → (Post → Type 0) → (Body → Type 0) 
 
 module _ (hd : Header) (P : Seen → Type 0) (keeps : KeepsAsked hd P) (I : (ℕ → Option Node) → (Post → Type 0) → (Body → Type 0) → Type 0) (more : MayGrow I) (message : MessagesKeep P I) where
   -- a whole step of what a handler did, behind some lines
-  did_flown : (n : ℕ) (d : Disk) (v : Parts) (before outs : List Effect) (G : Post → Type 0) (sent : List Post) (w : World) (a : Node) → at_place n w.nodes ≡ Some a → ((p : Post) → G p → Under w.frames p)
+  did_flown : (n : ℕ) (d : Disk) (v : Parts) (before outs : List Effect) (G : Post → Type 0) (sent : List Post) (w : World) (a : Node) → at_place n w.nodes ≡ Some a → SameWay G (Under w.frames) → ((to : ℕ) (m : Message) → members.In (Send to m) before → ⊥)
       → Walks P w.event n outs (Up P n v) d (see sent w) → I (with_here n (record { disk = works outs d; parts = v }) (nodes_in w)) (Then G n outs) (IsSaid w.lines)
       → let q = whole n v outs d in let s : Step = record { outs = before ++ q.outs; halting = before ++ q.outs; after = record { number = n; disk = q.here.disk; live = Some q.here.parts } } in
       (arms : List (ℕ × Arm)) → (done_step n s (record w { arms = arms })).full ≡ false → Flown I more (done_step n s (record w { arms = arms }))
-  did_flown n d v before outs G sent w a there old walks i arms fits =
+  did_flown n d v before outs G sent w a there old silent walks i arms fits =
       let q = whole n v outs d in
       let all = whole_keeps hd P keeps I more message n w.event (nodes_in w) d v outs (see sent w) G (IsSaid w.lines) refl walks (λ b l. l) i in
       done_flown I more n a q.here (before ++ q.outs) (before ++ q.outs) (record w { arms = arms }) there fits
       (more (with_here n q.here (nodes_in w)) (Then G n q.outs) (Then (Under w.frames) n (before ++ q.outs)) (λ b. IsSaid w.lines b ⊎ members.In (Say b) q.outs) (λ b. IsSaid w.lines b ⊎ members.In (Say b) (before ++ q.outs))
-      (λ p. ⊎_elim (λ g. inl (old p g)) (λ out. inr (out.0, in_right (Send p.to p.message) before q.outs out.1))) (λ b. ⊎_elim (λ l. inl l) (λ i. inr (in_right (Say b) before q.outs i))) all)
+      (λ p. ⊎_elim (λ g. inl (old.0 p g)) (λ out. inr (out.0, in_right (Send p.to p.message) before q.outs out.1)), λ p. ⊎_elim (λ u. inl (old.1 p u)) (λ s. inr (s.0, ⊎_elim (λ i. absurd (silent p.to p.message i)) (λ i. i) (in_either before q.outs (Send p.to p.message) s.1))))
+      (λ b. ⊎_elim (λ l. inl l) (λ i. inr (in_right (Say b) before q.outs i))) all)
 
   -- ---- a delivery
 
-  module _ (k : ℕ) (f : Frame) (w : World) (h : Holds hd P w) (x : IsLive f.to w) (at : at_place k w.frames ≡ Some f) (flown : Flown I more w) where
+  module _ (k : ℕ) (f : Frame) (w : World) (h : Holds hd P w) (x : IsLive f.to w) (at : at_place k w.frames ≡ Some f) (opened : is_open_frame f ≡ true) (flown : Flown I more w) where
     abbrev To : ℕ
     To = f.to
 
@@ -423,26 +473,26 @@ module _ (hd : Header) (P : Seen → Type 0) (keeps : KeepsAsked hd P) (I : (ℕ
     here = there_here To Begins w.nodes mine_there
 
     -- nothing changes but a line
-    void_flown : (G : Post → Type 0) (b : Body) → ((p : Post) → G p → Under Marked.frames p) → I (with_here To Begins (nodes_in w)) G (IsSaid w.lines)
-        → (outs halting : List Effect) (arms : List (ℕ × Arm)) → let s : Step = record { outs = outs ++ Say b ∷ []; halting = halting; after = Mine } in (done_step To s (record Marked { arms = arms })).full ≡ false → Flown I more (done_step To s (record Marked { arms = arms }))
-    void_flown G b old i outs halting arms fits =
+    void_flown : (G : Post → Type 0) (b : Body) → SameWay G (Under Marked.frames) → I (with_here To Begins (nodes_in w)) G (IsSaid w.lines)
+        → (outs halting : List Effect) → AreLooks outs → (arms : List (ℕ × Arm)) → let s : Step = record { outs = outs ++ Say b ∷ []; halting = halting; after = Mine } in (done_step To s (record Marked { arms = arms })).full ≡ false → Flown I more (done_step To s (record Marked { arms = arms }))
+    void_flown G b old i outs halting looks arms fits =
         done_flown I more To Mine Begins (outs ++ Say b ∷ []) halting (record Marked { arms = arms }) mine_there fits
-        (more (with_here To Begins (nodes_in w)) G (Then (Under Marked.frames) To (outs ++ Say b ∷ [])) (IsSaid w.lines) (λ c. IsSaid w.lines c ⊎ members.In (Say c) (outs ++ Say b ∷ [])) (λ p g. inl (old p g)) (λ c l. inl l) i)
+        (more (with_here To Begins (nodes_in w)) G (Then (Under Marked.frames) To (outs ++ Say b ∷ [])) (IsSaid w.lines) (λ c. IsSaid w.lines c ⊎ members.In (Say c) (outs ++ Say b ∷ [])) (λ p g. inl (old.0 p g), λ p. ⊎_elim (λ u. old.1 p u) (λ s. absurd (⊎_elim (λ i. looks_send outs p.to p.message looks i) (λ i. ⊎_elim (λ is. said_sends is) (λ none. none) i) (in_either outs (Say b ∷ []) (Send p.to p.message) s.1)))) (λ c l. inl l) i)
 
     -- what the node makes of a message
     message_flown : (m : Message) → f.message ≡ Some m → (arm : Option Arm) → let s = handled_step k Mine (taken To There.disk Memory f.from m) in
         is_up_at To (step_with To Mine s Marked arm) ≡ true → (step_with To Mine s Marked arm).full ≡ false → Flown I more (step_with To Mine s Marked arm)
     message_flown m is arm = by (taken To There.disk Memory f.from m) refl
-        (message To There.disk Memory f.from m (see h.sent w) holds_here sent (Under w.frames) (Under Marked.frames) (IsSaid w.lines) (but_delivered k f m w.frames at is) (λ b l. l) (subst (λ g. I g (Under w.frames) (IsSaid w.lines)) here flown))
+        (message To There.disk Memory f.from m (see h.sent w) holds_here sent (Under w.frames) (Under Marked.frames) (IsSaid w.lines) (record { frame = f; there = frame_there k f w.frames at; opened = opened; from = refl; to = refl; message = is }) (but_delivered k f m w.frames at is) (before_delivered k f w.frames) (λ b l. l) (subst (λ g. I g (Under w.frames) (IsSaid w.lines)) here flown))
       where
         sent : In (post_of f.from To m) h.sent
         sent = frame_sent k f m h.sent w.frames at is h.stands.frames
 
         by : (r : Handled) → taken To There.disk Memory f.from m ≡ r → Left I To Begins (nodes_in w) (Under Marked.frames) (IsSaid w.lines) r
             → is_up_at To (step_with To Mine (handled_step k Mine r) Marked arm) ≡ true → (step_with To Mine (handled_step k Mine r) Marked arm).full ≡ false → Flown I more (step_with To Mine (handled_step k Mine r) Marked arm)
-        by (Void outs) so i live = was_done (λ z. z.full ≡ false → Flown I more z) To Mine (handled_step k Mine (Void outs)) Marked arm mine_there live (λ arms fits. void_flown (Under Marked.frames) (body.Void k) (λ p u. u) i outs (Say (body.Got k) ∷ outs) arms fits)
+        by (Void outs) so i live = was_done (λ z. z.full ≡ false → Flown I more z) To Mine (handled_step k Mine (Void outs)) Marked arm mine_there live (λ arms fits. void_flown (Under Marked.frames) (body.Void k) (λ p u. u, λ p u. u) i outs (Say (body.Got k) ∷ outs) (subst LooksAlone so (taken_looks To There.disk Memory f.from m)) arms fits)
         by (Took v outs) so i live = was_done (λ z. z.full ≡ false → Flown I more z) To Mine (handled_step k Mine (Took v outs)) Marked arm mine_there live
-            (did_flown To There.disk v (Say (body.Got k) ∷ []) outs (Under Marked.frames) h.sent Marked Mine mine_there (λ p u. u)
+            (did_flown To There.disk v (Say (body.Got k) ∷ []) outs (Under Marked.frames) h.sent Marked Mine mine_there (λ p u. u, λ p u. u) (λ to m i. ⊎_elim (λ is. said_sends is) (λ none. none) i)
             (keeps.message w.event To There.disk Memory v f.from m outs (see h.sent w) holds_here sent (taken_meant To There.disk Memory v f.from m outs so) (taken_took To There.disk Memory v f.from m outs so)) i)
 
     frame_flown : let i : Input = input.Frame k f.from f.message in is_up_at To (steps To i Marked) ≡ true → (steps To i Marked).full ≡ false → Flown I more (steps To i Marked)
@@ -450,7 +500,7 @@ module _ (hd : Header) (P : Seen → Type 0) (keeps : KeepsAsked hd P) (I : (ℕ
       where
         by : (o : Option Message) → f.message ≡ o → is_up_at To (step_node To (input.Frame k f.from o) Marked (Some Mine)) ≡ true → (step_node To (input.Frame k f.from o) Marked (Some Mine)).full ≡ false → Flown I more (step_node To (input.Frame k f.from o) Marked (Some Mine))
         by None none live = was_done (λ z. z.full ≡ false → Flown I more z) To Mine (step w.header Mine (input.Frame k f.from None)) Marked (at_number To w.arms) mine_there live
-            (λ arms fits. void_flown (Under w.frames) (body.Void k) (junk_delivered k f w.frames at none) (subst (λ g. I g (Under w.frames) (IsSaid w.lines)) here flown) [] (Say (body.Got k) ∷ []) arms fits)
+            (λ arms fits. void_flown (Under w.frames) (body.Void k) (junk_delivered k f w.frames at none, before_delivered k f w.frames) (subst (λ g. I g (Under w.frames) (IsSaid w.lines)) here flown) [] (Say (body.Got k) ∷ []) refl arms fits)
         by (Some m) is live = message_flown m is (at_number To w.arms) live
 
 module _ (hd : Header) (P : Seen → Type 0) (keeps : KeepsAsked hd P) (within : (M : Seen) (p : Post) → P M → In p M.sent → Of hd p.to) (I : (ℕ → Option Node) → (Post → Type 0) → (Body → Type 0) → Type 0) (more : MayGrow I) (message : MessagesKeep P I) where
@@ -479,7 +529,7 @@ module _ (hd : Header) (P : Seen → Type 0) (keeps : KeepsAsked hd P) (within :
       by (Some f) is =
           let same : f ≡ o.frame = some_is f o.frame (sym is ∙ there) in
           let live = live_at f.to w (deliver_up hd k w ups f.to (subst (λ (g : Frame). Of hd g.to) (sym same) of)) in
-          λ up fits. frame_flown hd P keeps I more message k f w h live is flown (subst (λ (g : Frame). is_up_at g.to (deliver_frame k w (Some f)) ≡ true) (sym same) up) fits
+          λ up fits. frame_flown hd P keeps I more message k f w h live is (subst (λ (g : Frame). is_open_frame g ≡ true) (sym same) o.is_open) flown (subst (λ (g : Frame). is_up_at g.to (deliver_frame k w (Some f)) ≡ true) (sym same) up) fits
 
   pub settle_flown : (fuel : ℕ) (w : World) → Holds hd P w → Flown I more w → Ups hd (settle_for fuel w) → (settle_for fuel w).full ≡ false → Flown I more (settle_for fuel w)
   settle_flown zero w h flown ups fits = flown
@@ -508,7 +558,7 @@ module _ (hd : Header) (P : Seen → Type 0) (keeps : KeepsAsked hd P) (I J : (�
   pub tick_flown : (n : ℕ) (w : World) → Holds hd P w → Flown I more w → TicksGive P n I J → is_up_at n w ≡ true → is_up_at n (steps n input.Tick w) ≡ true → (steps n input.Tick w).full ≡ false → Flown J most (steps n input.Tick w)
   tick_flown n w h flown gives was = subst (λ o. is_up_at n (step_node n input.Tick w o) ≡ true → (step_node n input.Tick w o).full ≡ false → Flown J most (step_node n input.Tick w o)) (sym there)
       (λ live. was_done (λ z. z.full ≡ false → Flown J most z) n mine (step w.header mine input.Tick) w (at_number n w.arms) there live
-      (did_flown hd P keeps J most message n (let a = x.node in a.disk) (with_coord t (again_all (let c = t.coord in c.doings) t.coord).part) [] (tick_outs mine t) (Under w.frames) h.sent w mine there (λ p u. u)
+      (did_flown hd P keeps J most message n (let a = x.node in a.disk) (with_coord t (again_all (let c = t.coord in c.doings) t.coord).part) [] (tick_outs mine t) (Under w.frames) h.sent w mine there (λ p u. u, λ p u. u) (λ to m i. i)
       (keeps.tick w.event n (let a = x.node in a.disk) t (see h.sent w) here)
       (gives (let a = x.node in a.disk) t (see h.sent w) here (Under w.frames) (IsSaid w.lines) (subst (λ g. I g (Under w.frames) (IsSaid w.lines)) (there_here n (record { disk = (let a = x.node in a.disk); parts = t }) w.nodes there) flown))))
     where

@@ -4,9 +4,10 @@
 //! it is answered: a node that takes a request answers it, a coordinator that takes an answer asks on or ends what waited, and a node
 //! sends itself nothing that it doesn't handle in the same step. `specs/Waits.antt` says what is under way, `specs/Rounds.antt` what a
 //! quiesce leaves. It stands on `arj_protocol`, on what settles leave (`arj_event_law`) and on what holds in every run (`arj_run_law`).
-//! It gives upward `quiesces_answer_whoever_waits`.
+//! What is shown of nodes and frames is shown for any relation that each message and tick keeps (`proofs/Flights.antt`, `proofs/Settles.antt`).
+//! It gives upward `quiesces_answer_whoever_waits` and `quiesces_leave_nothing_to_do` (`specs/Quiet.antt`).
 #![tactic(auto)]
 
 mod rounds;
 
-pub use rounds::quiesces_answer_whoever_waits;
+pub use rounds::{quiesces_answer_whoever_waits, quiesces_leave_nothing_to_do};

@@ -1,4 +1,5 @@
-// What a quiesce leaves waiting.
+// What a quiesce leaves.
+ghost use Rattle.arj_round_law.specs.Quiet.{QuiescesSettle};
 ghost use Rattle.arj_round_law.specs.Rounds.{QuiescesAnswer, RunsAnswer};
 
 /// Take a relation that every handler keeps, and by which no request is void for which somebody waits, but one of a call that is
@@ -7,4 +8,12 @@ ghost use Rattle.arj_round_law.specs.Rounds.{QuiescesAnswer, RunsAnswer};
 pub fn quiesces_answer_whoever_waits()
     ensures worlds { QuiescesAnswer }
     ensures runs { RunsAnswer }
+{}
+
+/// Take a relation that every handler keeps, by which each record is told until all have acknowledged it, and whoever is prepared
+/// somewhere has ended, or is at its commit. Then a quiesce that begins where nobody waits and no frame is open, in which every node
+/// stays up and no limit is met, leaves every node idle: with no action that waits, no prepared action and no record. It does
+/// nothing when it runs.
+pub fn quiesces_leave_nothing_to_do()
+    ensures { QuiescesSettle }
 {}
