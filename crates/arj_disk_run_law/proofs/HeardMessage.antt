@@ -20,6 +20,7 @@ use Rattle.arj_disk_run_law.specs.Heard.{ClaimsAsked, ClaimsGrants, SeesHeard}
 use Rattle.arj_disk_run_law.specs.Part.{HasHeard, HoldsAlong, HoldsFrom}
 use Rattle.arj_disk_run_law.specs.Rest.{GivesNaming, IsHeardAt, KeepsHeard, answers_commit}
 use Rattle.arj_disk_run_law.proofs.HeardAsk.{Served_by, ask_heard}
+use Rattle.arj_disk_run_law.proofs.HeardCalled.{heard_called}
 use Rattle.arj_disk_run_law.proofs.HeardGoing.{like_goes_on}
 use Rattle.arj_disk_run_law.proofs.HeardOther.{other_heard}
 use Rattle.arj_names_view_law.proofs.Heard.{none_heard}
@@ -76,7 +77,7 @@ heard_message hd x R runs rest tops e k d t v from m outs M A at own sent meant 
           where
             by_doing : (b : Bool) → answers_commit a.0 t.coord ≡ b → (h : HasHeard (SeesHeard x) x tops (change_by x d t m) A (record { event = e; node = k; disk = d; before = t; outs = outs; after = v }, M)) × MayGoOn x h.office v.coord × ((n : Naming) → t.naming ≡ Some n → MayRecord x d n m h.office × IsForGrants x d n m h.office)
             by_doing true commits = let r = rest.answer tops e k d t v from m a.0 a.1 outs M A at sent answering meant commits is in (r.0, r.1, λ n named. nothing n r.0.office)
-            by_doing false calls = let r = rest.called tops e k d t v from m a.0 a.1 outs M A at sent answering meant calls is in (r.0, r.1, λ n named. nothing n r.0.office)
+            by_doing false calls = let r = heard_called x tops e k d t M A (runs _ at.run).0 (runs _ at.run).1 at.knows at.both at.heard v from m a.0 a.1 outs sent none answering calls is in (r.0, r.1, λ n named. nothing n r.0.office)
         with_answers None also =
             let g = other_heard x tops e k d t v from m outs M A at.both at.heard none also is in (
               record { office = A; only = none_heard A; both = at.both; along = subst (λ o. HoldsAlong (HoldsFrom (SeesHeard x) x tops o A) (record { event = e; node = k; disk = d; before = t; outs = outs; after = v }) M) (sym (ap (asked_change x d t m) none ∙ ap (reply_change x t.coord) also)) g.1 },

@@ -12,7 +12,7 @@ use Rattle.arj_protocol.specs.Coord as coord
 use Rattle.arj_protocol.specs.Coord.{Calling, Committing, Coord, Doing, Idle, Now, doing_of, is_constituent_branch, is_kept_top, retained_in, second_uid, survives}
 use Rattle.arj_protocol.specs.Effect.{Intent}
 use Rattle.arj_protocol.specs.Order.{uid_number}
-use Rattle.arj_protocol.specs.Tree.{Branch, branch_of, ended_so, has_end, at_place, is_aborted, is_own, is_spent, root_of}
+use Rattle.arj_protocol.specs.Tree.{Branch, branch_of, ended_so, has_end, at_place, is_aborted, is_own, root_of}
 use Rattle.arj_part_law.specs.Actions.{Action, AreBegun, Stands, act_of, action_of, paths_of}
 use Rattle.arj_part_law.specs.Coords.{IsBusy, IsGoodCoord, IsVoting}
 use Rattle.arj_part_law.proofs.Begun.{begun_tree, on_more, on_own, one_action, path_length, path_some, serial_alone}
@@ -37,7 +37,6 @@ pub record StandsIn (tops : Kinds) (c : Coord) (p : Path) : Type 0 where
   pub top : IsTopOf tops (root_of p) (top_of p)
   pub on : is_on (uids_of p) (top_of p) ≡ true
   pub only : (w : Uid) → is_on (uids_of p) w ≡ true → IsTopOf tops (root_of p) w → w ≡ top_of p
-  pub unspent : is_spent (uids_of p) c.tree ≡ false
   pub unkept : coord.is_retained (uids_of p) c ≡ false
   pub free : is_aborted (root_of p) c.tree ≡ false
 
@@ -130,10 +129,6 @@ module _ (acts : List Action) (begun : AreBegun acts) (tops : Kinds) (kinds : Kn
       by : (o : Option Branch) → branch_of w c.tree ≡ o → ended_so k o ≡ false
       by None is = refl
       by (Some y) is = ap (has_end k) (none_so y.ended (not_over w on y is)) ∙ no_end k
-
-  all_open : (us : List Uid) → ((w : Uid) → is_on us w ≡ true → is_on (uids_of p) w ≡ true) → is_spent us c.tree ≡ false
-  all_open [] within = refl
-  all_open (w ∷ us) within = (λ i. not_ended ending.Abort w (within w (or_left (uid_eq w w) (is_on us w) (uid_same w))) i || is_spent us c.tree) ∙ all_open us (λ z on. within z (or_right (uid_eq w z) (is_on us z) on))
 
   not_kept : coord.is_retained (uids_of p) c ≡ false
   not_kept = by (uids_of p) refl
@@ -252,7 +247,6 @@ module _ (acts : List Action) (begun : AreBegun acts) (tops : Kinds) (kinds : Kn
     top = subst (IsTopOf tops (root_of p)) (sym top_is) its_top;
     on = subst (λ w. is_on (uids_of p) w ≡ true) (sym top_is) top_there;
     only = λ w on of. only_one w on of ∙ sym top_is;
-    unspent = all_open (uids_of p) (λ w on. on);
     unkept = not_kept;
     free = not_ended ending.Abort (root_of p) (root_on p);
   }
@@ -268,6 +262,9 @@ module _ (acts : List Action) (begun : AreBegun acts) (tops : Kinds) (kinds : Kn
       below other =
           let over = votes.over u (votes.below u b found top_there (λ same. other (sym same))) in
           never (ap (λ (y : Branch). is_some y.ended) (some_is found over.1) ∙ over.2) opened
+
+  pub top_waits : (q : Doing) → doing_of u c ≡ Some q → ((m : Machine) → q.now ≡ Committing m → ⊥) → (z : Doing) (m : Machine) → doing_of (top_of b.path) c ≡ Some z → z.now ≡ Committing m → ⊥
+  top_waits q at idle z m there now = not_committing q at idle z m (ap (λ w. doing_of w c) (sym top_is) ∙ there) now
 
   pub top_idle : (x k inc : ℕ) (S : State) → SeesCoord x k inc tops c S → (q : Doing) → doing_of u c ≡ Some q → ((m : Machine) → q.now ≡ Committing m → ⊥) → S.stage (uid_number (top_of b.path)) ≡ disk.Idle
   top_idle x k inc S sees q at idle =

@@ -11,6 +11,7 @@ use Rattle.arj_protocol.specs.Words.kind
 use Rattle.arj_protocol.specs.Ask.{actor, top_of}
 use Rattle.arj_protocol.specs.Asking.{call, call_steps, given_away, is_named, known_at_start, next_req, renewed, was_named}
 use Rattle.arj_protocol.specs.Call.{Goal, Include, Known, Run, Steps, is_include, start_at}
+use Rattle.arj_protocol.specs.Commit.{Machine}
 use Rattle.arj_protocol.specs.Coord as coord
 use Rattle.arj_protocol.specs.Coord.{Calling, Committing, Coord, Doing, Grant, Keeping, Root, Said, doing_of, is_call, is_free, is_grant_of, keeping_of, kept_of, no_root, on_root, others_call, retains, root_at, said_of, with_keeping}
 use Rattle.arj_protocol.specs.Effect.{Disk}
@@ -37,7 +38,7 @@ use Rattle.arj_names_view_law.specs.Lists.{HasCallList, HasList, SeesLists}
 use Rattle.arj_disk_run_law.specs.Heard.{SeesHeardAt, is_bound}
 use Rattle.arj_disk_run_law.proofs.HeardCalls.{HasItsList, KeepsForOthers, goes_kept, root_put}
 use Rattle.arj_disk_run_law.proofs.HeardGiveups.{put_keeps}
-use Rattle.arj_disk_run_law.proofs.HeardPlaces.{StandsIn, stands_in, top_idle}
+use Rattle.arj_disk_run_law.proofs.HeardPlaces.{StandsIn, stands_in, top_idle, top_waits}
 use Rattle.arj_disk_run_law.proofs.HeardServe.{coord as good_coord}
 
 -- ---- where an action stands
@@ -51,7 +52,7 @@ module _ (tops : Kinds) (k : ℕ) (d : Disk) (t : Parts) (M : Seen) (good : IsGo
   stands u b found opened unserial = stands_in few.1.1.0 few.1.1.1.begun tops knows.kinds d.intents t.coord (good_coord (up k d t M) good few k Here t (node_here M k Here) refl) knows.coord u b found opened unserial
 
   -- who waits in a step asks
-  asking : (u : Uid) (q : Doing) (s : Steps) → doing_of u t.coord ≡ Some q → q.now ≡ Calling s → IsAsking t.coord.tree u s.path
+  pub asking : (u : Uid) (q : Doing) (s : Steps) → doing_of u t.coord ≡ Some q → q.now ≡ Calling s → IsAsking t.coord.tree u s.path
   asking u q s does now = let g = good_coord (up k d t M) good few k Here t (node_here M k Here) refl in subst (IsBusy t.coord.tree u) now (g.busy u q does)
 
   pub step_stands : (u : Uid) (q : Doing) (s : Steps) → doing_of u t.coord ≡ Some q → q.now ≡ Calling s → StandsIn tops t.coord s.path
@@ -64,6 +65,13 @@ module _ (tops : Kinds) (k : ℕ) (d : Disk) (t : Parts) (M : Seen) (good : IsGo
       subst (λ p. A.world.disk.stage (uid_number (top_of p)) ≡ disk.Idle) a.path
       (top_idle few.1.1.0 few.1.1.1.begun tops knows.kinds d.intents t.coord (good_coord (up k d t M) good few k Here t (node_here M k Here) refl) knows.coord u a.branch a.found a.opened a.unserial x k d.inc A.world.disk
       (let s = both.disks in s.coords k Here t (node_here M k Here) refl) q does (λ m at. let n : Calling s ≡ Committing m = sym now ∙ at in cc))
+
+  -- which has no commit under way
+  pub top_apart : (u : Uid) (q : Doing) (s : Steps) → doing_of u t.coord ≡ Some q → q.now ≡ Calling s → (z : Doing) (m : Machine) → doing_of (top_of s.path) t.coord ≡ Some z → z.now ≡ Committing m → ⊥
+  top_apart u q s does now z m there is =
+      let a = asking u q s does now in
+      top_waits few.1.1.0 few.1.1.1.begun tops knows.kinds d.intents t.coord (good_coord (up k d t M) good few k Here t (node_here M k Here) refl) knows.coord u a.branch a.found a.opened a.unserial q does (λ m at. let n : Calling s ≡ Committing m = sym now ∙ at in cc) z m
+      (ap (λ v. doing_of (top_of v) t.coord) a.path ∙ there) is
 
   -- of a root that is free of what it keeps nobody else waits in a call on the object
   pub free_alone : (u : Uid) (b : Branch) → branch_of u t.coord.tree ≡ Some b → (x : ℕ) → is_free (root_of b.path) u x t.coord ≡ true

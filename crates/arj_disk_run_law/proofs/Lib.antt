@@ -10,8 +10,10 @@ pub mod EntryRows
 pub mod EntryWalks
 pub mod HeardAborts
 pub mod HeardAll
+pub mod HeardAnswers
 pub mod HeardAsk
 pub mod HeardBinds
+pub mod HeardCalled
 pub mod HeardCalls
 pub mod HeardCoord
 pub mod HeardDecides
@@ -27,6 +29,7 @@ pub mod HeardInputs
 pub mod HeardKept
 pub mod HeardLike
 pub mod HeardMessage
+pub mod HeardMoved
 pub mod HeardOther
 pub mod HeardPlaces
 pub mod HeardPlans
@@ -35,7 +38,10 @@ pub mod HeardNext
 pub mod HeardPosts
 pub mod HeardQuiet
 pub mod HeardRestart
+pub mod HeardTaken
 pub mod HeardTick
+pub mod HeardReplies
+pub mod HeardRoots
 pub mod HeardServe
 pub mod HeardStarts
 pub mod HeardTops

@@ -1,4 +1,4 @@
--- What is still taken of what coordinators have of naming's answers: that it is kept by answers that are taken, and gives what commits
+-- What is still taken of what coordinators have of naming's answers: that it is kept by answers to commits, and gives what commits
 -- count on; and what naming counts on beside what messages claim.
 use Rattle.std.specs.Prelude.{◌≡◌, ℕ, Bool, true, false, List, Some, None}
 use Rattle.arj_protocol.specs.Words.{Asked, Binding, Head, Header, Message, asks}
@@ -45,11 +45,8 @@ pub record GivesNaming (x : ℕ) (R : Seen → Type 0) : Type 0 where
 abbrev pub answers_commit : Asked → Coord → Bool
 answers_commit a c = is_committing (doing_of a.act c)
 
--- It is kept by an answer that a coordinator takes, to a commit, and to a call or an include; and each commit that is past its votes then
--- may begin.
+-- It is kept by an answer that a coordinator takes to a commit, and each commit that is past its votes then may begin.
 pub record KeepsHeard (hd : Header) (x : ℕ) (R : Seen → Type 0) : Type 0 where
   pub naming : GivesNaming x R
   pub answer : (tops : Kinds) (e k : ℕ) (d : Disk) (t v : Parts) (from : ℕ) (m : Message) (a : Asked) (r : Reply) (outs : List Effect) (M : Seen) (A : Office) → IsHeardAt x R tops A (k, d, t) M → In (record { from = from; to = k; message = m }) M.sent → answers m ≡ Some (a, r) → is_meant t m ≡ true → answers_commit a t.coord ≡ true → handle k d t from m ≡ Took v outs
-      → (h : HasHeard (SeesHeard x) x tops (change_by x d t m) A (record { event = e; node = k; disk = d; before = t; outs = outs; after = v }, M)) × MayGoOn x h.office v.coord
-  pub called : (tops : Kinds) (e k : ℕ) (d : Disk) (t v : Parts) (from : ℕ) (m : Message) (a : Asked) (r : Reply) (outs : List Effect) (M : Seen) (A : Office) → IsHeardAt x R tops A (k, d, t) M → In (record { from = from; to = k; message = m }) M.sent → answers m ≡ Some (a, r) → is_meant t m ≡ true → answers_commit a t.coord ≡ false → handle k d t from m ≡ Took v outs
       → (h : HasHeard (SeesHeard x) x tops (change_by x d t m) A (record { event = e; node = k; disk = d; before = t; outs = outs; after = v }, M)) × MayGoOn x h.office v.coord
