@@ -10,3 +10,4 @@ pub mod Settles
 pub mod Quiesces
 pub mod Endings
 pub mod Quiets
+pub mod GiveUps

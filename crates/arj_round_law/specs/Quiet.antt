@@ -1,7 +1,7 @@
 -- When a quiesce leaves nothing to be done: nobody who waits, no record, and nothing prepared.
-use Rattle.std.specs.Prelude.{◌≡◌, ◌≢◌, ◌≤◌, ◌⊎◌, ℕ, Bool, true, false, ◌&&◌, nat_le, [], Option, Some, None, is_some, length}
+use Rattle.std.specs.Prelude.{◌≡◌, ◌≢◌, ◌≤◌, ◌⊎◌, ℕ, Bool, true, false, ◌&&◌, nat_le, List, [], Option, Some, None, is_some, length}
 use Rattle.std.specs.List.{AllByRecursion}
-use Rattle.arj_protocol.specs.Words.{End, Header, Message, Uid, asks}
+use Rattle.arj_protocol.specs.Words.{End, Header, Label, Message, Uid, asks}
 use Rattle.arj_protocol.specs.Words.ending
 use Rattle.arj_protocol.specs.Words.event
 use Rattle.arj_protocol.specs.Words.message
@@ -13,13 +13,13 @@ use Rattle.arj_protocol.specs.Node.{Parts}
 use Rattle.arj_protocol.specs.Order.{at_uid, has}
 use Rattle.arj_protocol.specs.Step.{Node, is_idle}
 use Rattle.arj_protocol.specs.Tree.{at_place, is_open}
-use Rattle.arj_protocol.specs.World.{Asked, World, is_node, lowest_from, most_frames, run_event}
+use Rattle.arj_protocol.specs.World.{Asked, World, format, is_node, lowest_from, most_frames, run_all, run_event}
 use Rattle.arj_part_law.specs.Coords.{IsCommitting}
 use Rattle.arj_part_law.specs.Objects.{AreSorted}
 use Rattle.arj_run_law.specs.Worlds.{IsGood}
 use Rattle.arj_view_law.specs.Keeps.{Holds, KeepsAsked}
 use Rattle.arj_view_law.specs.Seen.{In, Post, Seen, up}
-use Rattle.arj_round_law.specs.Rounds.{AreUp}
+use Rattle.arj_round_law.specs.Rounds.{AnswersWaits, AreUp}
 use Rattle.arj_round_law.specs.Waits.{coord_in}
 
 -- the action is prepared on the disk, by its store or by naming
@@ -69,7 +69,7 @@ pub record AreKept (d : Disk) (t : Parts) : Type 0 where
   pub telling : AreSorted t.coord.telling
 
 -- A relation gives that messages go to nodes of the header; that maps are sorted; that each record is told, and each end that is told wants
--- somebody's acknowledgement; that where an entry is prepared naming is; and that an action which is prepared somewhere is of a node of the header, where it has ended or is at its
+-- somebody's acknowledgement; that where an entry is prepared naming is; and that an action which is prepared somewhere has ended at its node, or is at its
 -- commit, and is no serializing action for which records are kept.
 pub record SettlesAll (hd : Header) (R : Seen → Type 0) : Type 0 where
   pub within : (M : Seen) (p : Post) → R M → In p M.sent → (nat_le 1 p.to && nat_le p.to hd.nodes) ≡ true
@@ -79,7 +79,6 @@ pub record SettlesAll (hd : Header) (R : Seen → Type 0) : Type 0 where
   pub awaited : (n : ℕ) (d : Disk) (t : Parts) (M : Seen) (u : Uid) (i : Intent) → R (up n d t M) → at_uid u t.coord.telling ≡ Some i → i.nodes ≢ []
   pub prepared : (n : ℕ) (d : Disk) (t : Parts) (M : Seen) (k : ℕ) (a : Node) (u : Uid) → R (up n d t M) → (up n d t M).nodes k ≡ Some a → IsPrepared u a.disk → u.node ≡ n
       → (is_open u t.coord.tree ≡ true → IsCommitting u t.coord) × (is_deferred u d.intents k ≡ false)
-  pub homes : (M : Seen) (k : ℕ) (a : Node) (u : Uid) → R M → M.nodes k ≡ Some a → IsPrepared u a.disk → (nat_le 1 u.node && nat_le u.node hd.nodes) ≡ true
 
 -- ---- what a quiesce leaves
 
@@ -96,3 +95,16 @@ abbrev pub QuiescesSettle : Type 0
 QuiescesSettle = (hd : Header) (test : Seen → Bool) → KeepsAsked hd (λ M. test M ≡ true) → SettlesAll hd (λ M. (test M ≡ true) × IsGood M)
     → (e : Asked) (w : World) → Holds hd (λ M. (test M ≡ true) × IsGood M) w → length w.frames ≤ most_frames → lowest_from 1 w.frames ≡ None → NobodyWaits w
     → e.event ≡ event.Quiesce → w.over ≡ false → (run_event e w).over ≡ false → AreUp (run_event e w) → AreQuiet (run_event e w)
+
+-- ---- the stated round
+
+-- the event gives up what an action waits for
+abbrev pub IsGiveUp : Asked → Type 0
+IsGiveUp e = (l : Label) × (e.event ≡ event.GiveUp l)
+
+-- After a quiesce, giveups of what waits then, and a second quiesce, each node is idle: where every node stays up in both, no limit is met, and
+-- nobody waits when all was given up.
+abbrev pub RoundsSettle : Type 0
+RoundsSettle = (hd : Header) (test : Seen → Bool) → KeepsAsked hd (λ M. test M ≡ true) → AnswersWaits hd (λ M. (test M ≡ true) × IsGood M) → SettlesAll hd (λ M. (test M ≡ true) × IsGood M)
+    → (es gs : List Asked) (e f : Asked) → let u = run_all es (format hd) in let v = run_event e u in let w = run_all gs v in e.event ≡ event.Quiesce → AllByRecursion IsGiveUp gs → f.event ≡ event.Quiesce
+    → u.over ≡ false → v.over ≡ false → AreUp v → w.over ≡ false → NobodyWaits w → (run_event f w).over ≡ false → AreUp (run_event f w) → AreQuiet (run_event f w)

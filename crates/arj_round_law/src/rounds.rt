@@ -1,5 +1,5 @@
 // What a quiesce leaves.
-ghost use Rattle.arj_round_law.specs.Quiet.{QuiescesSettle};
+ghost use Rattle.arj_round_law.specs.Quiet.{QuiescesSettle, RoundsSettle};
 ghost use Rattle.arj_round_law.specs.Rounds.{QuiescesAnswer, RunsAnswer};
 
 /// Take a relation that every handler keeps, and by which no request is void for which somebody waits, but one of a call that is
@@ -12,8 +12,9 @@ pub fn quiesces_answer_whoever_waits()
 
 /// Take a relation that every handler keeps, by which each record is told until all have acknowledged it, and whoever is prepared
 /// somewhere has ended, or is at its commit. Then a quiesce that begins where nobody waits and no frame is open, in which every node
-/// stays up and no limit is met, leaves every node idle: with no action that waits, no prepared action and no record. It does
-/// nothing when it runs.
+/// stays up and no limit is met, leaves every node idle: with no action that waits, no prepared action and no record. So does the
+/// stated round, in every run: a quiesce, giveups of what waits then, and a second quiesce. It does nothing when it runs.
 pub fn quiesces_leave_nothing_to_do()
-    ensures { QuiescesSettle }
+    ensures quiesces { QuiescesSettle }
+    ensures rounds { RoundsSettle }
 {}
