@@ -99,7 +99,7 @@ module _ (x : ℕ) (tops : Kinds) (k : ℕ) (d : Disk) (t : Parts) (M : Seen) (A
     pub sees : SeesBoth x tops office (up k d t M)
     pub root : SeesRootOf x tops (root_of s.path) t.coord (gone_root s m.step (root_moved s r m (root_at (root_of s.path) t.coord))) office
     pub keeps : OtherCalls x s t.coord → KeepsCalls tops (root_of s.path) (kept_of x (root_at (root_of s.path) t.coord)) (kept_of x (gone_root s m.step (root_moved s r m (root_at (root_of s.path) t.coord)))) A.names office.names
-    pub next : NextSees x k M.sent s (next_of s m.step) (gone_root s m.step (root_moved s r m (root_at (root_of s.path) t.coord))) office.names
+    pub next : NextSees x k M.sent (next_of s m.step) (gone_root s m.step (root_moved s r m (root_at (root_of s.path) t.coord))) office.names
     pub plain : dooms_none m.step ≡ true
 
   who_asks : actor s.path ≡ u
@@ -138,8 +138,8 @@ module _ (x : ℕ) (tops : Kinds) (k : ℕ) (d : Disk) (t : Parts) (M : Seen) (A
         plain = plain;
       }
     where
-      by : (step : CallStep) → NextSees x k M.sent s (next_of s step) (gone_root s step (root_moved s r m (root_at (root_of s.path) t.coord))) A.names
-      by (On at) = (refl, λ of. absurd (other of))
+      by : (step : CallStep) → NextSees x k M.sent (next_of s step) (gone_root s step (root_moved s r m (root_at (root_of s.path) t.coord))) A.names
+      by (On at) = λ of. absurd (other of)
       by (Ended e) = tt
 
   -- ---- about the object, without a grant
@@ -186,20 +186,17 @@ module _ (x : ℕ) (tops : Kinds) (k : ℕ) (d : Disk) (t : Parts) (M : Seen) (A
         plain = plain.dooms;
       }
         where
-          by : (step : CallStep) → StepStandsOn (uid_number (top_of s.path)) A.names step → StepFits step → NextSees x k M.sent s (next_of s step) (gone_root s step (root_moved s r m (root_at (root_of s.path) t.coord))) A.names
-          by (On at) stands fits = (
-            refl,
-            λ about. record {
-              step = next_stands A.names at stands (λ q n rest is including. absurd (never (ap is_load is) fits.0)) fits.1;
-              list = λ call past. let sc = its.calls u w s does now about call (fits.2 call) in keeps_then (top_of s.path) sc.known place.top sc.kept sc.list;
-            },
-          )
+          by : (step : CallStep) → StepStandsOn (uid_number (top_of s.path)) A.names step → StepFits step → NextSees x k M.sent (next_of s step) (gone_root s step (root_moved s r m (root_at (root_of s.path) t.coord))) A.names
+          by (On at) stands fits = λ about. record {
+            step = next_stands A.names at stands (λ q n rest is including. absurd (never (ap is_load is) fits.0)) fits.1;
+            list = λ call past. let sc = its.calls u w s does now about call (fits.2 call) in keeps_then (top_of s.path) sc.known place.top sc.kept sc.list;
+          }
           by (Ended e) stands fits = tt
 
     -- ---- a store answers
 
-    heard_included : (k0 : Known) (n : ℕ) (rest : List ℕ) → s.at ≡ AtLoad k0 n rest → is_include s.goal ≡ true → (st : ObjectState) → IsToStep k M.sent s (Reply.Loaded (loaded.State st)) → IsHeardBy (Reply.Loaded (loaded.State st)) (finds (kept_of s.x (root_at (root_of s.path) t.coord)) (Included st))
-    heard_included k0 n rest at_is including st to =
+    heard_included : (base : Known) (n : ℕ) (rest : List ℕ) → s.at ≡ AtLoad base n rest → is_include s.goal ≡ true → (st : ObjectState) → IsToStep k M.sent s (Reply.Loaded (loaded.State st)) → IsHeardBy (Reply.Loaded (loaded.State st)) (finds (kept_of s.x (root_at (root_of s.path) t.coord)) (Included st))
+    heard_included base n rest at_is including st to =
         let r : Reply = Reply.Loaded (loaded.State st) in
         let m : Moved = finds (kept_of s.x (root_at (root_of s.path) t.coord)) (Included st) in
         let alike_kept : is_include s.goal ≡ false → KeptAlike (kept_of s.x (root_at (root_of s.path) t.coord)) (kept_of s.x (root_at (root_of s.path) t.coord)) = λ call. inl refl in
@@ -232,38 +229,38 @@ module _ (x : ℕ) (tops : Kinds) (k : ℕ) (d : Disk) (t : Parts) (M : Seen) (A
               grants = grants_stay x (root_of s.path) t.coord t.coord (Moved_to r m) (root_heard s (Included st) (Moved_to r m)) A.world.disk A.world.disk A.names old.grants refl (retained_on x t.coord (Moved_to r m) (root_heard s (Included st) (Moved_to r m)) (λ z i. i) e.joined_more) refl refl;
               lists = record { agree = l.agree; family = l.family; granted = l.granted; named = l.named; short = l.short; called = l.called; retained = l.retained; nothing = l.nothing };
               loads = loads_are_heard x tops (root_of s.path) (Moved_to r m) (root_heard s (Included st) (Moved_to r m)) j A.names old.loads refl (λ i there last. one_path i (subst (λ js. Contains js i) (noted_joined (granted_by (top_of s.path) s.x r) (root_at (root_of s.path) t.coord)) there) last)
-                  (λ about v on top. subst (λ z. HasLoad A.names (uid_number z) (packed st)) (sym (place.only v on top)) (record { inc = k0.grant; answered = old_step.loaded k0 n rest st at_is including to; had = old_step.stands k0.grant (ap grant_at at_is) }));
+                  (λ about v on top. subst (λ z. HasLoad A.names (uid_number z) (packed st)) (sym (place.only v on top)) (record { inc = base.grant; answered = old_step.loaded base n rest st at_is including to; had = old_step.stands base.grant (ap grant_at at_is) }));
               state = old.state;
             }
 
-    heard_load : (k0 : Known) (n : ℕ) (rest : List ℕ) → s.at ≡ AtLoad k0 n rest → (l : LoadedReply) → IsToStep k M.sent s (Reply.Loaded l) → IsHeardBy (Reply.Loaded l) (loaded_answer (kept_of s.x (root_at (root_of s.path) t.coord)) k0 n s.goal l)
-    heard_load k0 n rest at_is (loaded.InDoubt holder) to = heard_plain (Reply.Loaded (loaded.InDoubt holder)) (finds (kept_of s.x (root_at (root_of s.path) t.coord)) (Conflict holder mode.Write n)) refl (λ call. inl refl) (record { dooms = refl; nothing = refl; stands = tt; fits = tt })
-    heard_load k0 n rest at_is (loaded.State st) to = by s.goal refl
+    heard_load : (base : Known) (n : ℕ) (rest : List ℕ) → s.at ≡ AtLoad base n rest → (l : LoadedReply) → IsToStep k M.sent s (Reply.Loaded l) → IsHeardBy (Reply.Loaded l) (loaded_answer (kept_of s.x (root_at (root_of s.path) t.coord)) base n s.goal l)
+    heard_load base n rest at_is (loaded.InDoubt holder) to = heard_plain (Reply.Loaded (loaded.InDoubt holder)) (finds (kept_of s.x (root_at (root_of s.path) t.coord)) (Conflict holder mode.Write n)) refl (λ call. inl refl) (record { dooms = refl; nothing = refl; stands = tt; fits = tt })
+    heard_load base n rest at_is (loaded.State st) to = by s.goal refl
       where
-        by : (g : Goal) → s.goal ≡ g → IsHeardBy (Reply.Loaded (loaded.State st)) (loaded_state (kept_of s.x (root_at (root_of s.path) t.coord)) k0 st g)
-        by (Run op) is = heard_plain (Reply.Loaded (loaded.State st)) (moves (kept_of s.x (root_at (root_of s.path) t.coord)) (AtActivate k0 st)) refl (λ call. inl refl)
+        by : (g : Goal) → s.goal ≡ g → IsHeardBy (Reply.Loaded (loaded.State st)) (loaded_state (kept_of s.x (root_at (root_of s.path) t.coord)) base st g)
+        by (Run op) is = heard_plain (Reply.Loaded (loaded.State st)) (moves (kept_of s.x (root_at (root_of s.path) t.coord)) (AtActivate base st)) refl (λ call. inl refl)
             (record { dooms = refl; nothing = refl; stands = λ g at. old_step.stands g (ap grant_at at_is ∙ at); fits = (refl, λ including. absurd (never including (ap is_include is)), λ call. ap is_bound at_is) })
-        by (Include s0) is = heard_included k0 n rest at_is (ap is_include is) st to
+        by (Include store) is = heard_included base n rest at_is (ap is_include is) st to
 
     -- ---- a server answers, and naming to a Record
 
     no_include : (at : At) → s.at ≡ at → only_loads at ≡ false → is_include s.goal ≡ true → ⊥
     no_include at is off including = never (old_step.goal including) (ap only_loads is ∙ off)
 
-    heard_activated : (k0 : Known) (st : ObjectState) → s.at ≡ AtActivate k0 st → (i : ℕ) → IsHeardBy (Reply.Activated i) (activated_by k0 i (kept_of s.x (root_at (root_of s.path) t.coord)))
-    heard_activated k0 st at_is i =
-        let z = took_step k0 i (kept_of s.x (root_at (root_of s.path) t.coord)) in
-        heard_plain (Reply.Activated i) (activated_by k0 i (kept_of s.x (root_at (root_of s.path) t.coord))) refl (λ call. z.0) (⊎_elim
-        (λ on. subst IsPlain (sym on) (record { dooms = refl; nothing = refl; stands = λ g at. old_step.stands g (ap grant_at at_is ∙ at); fits = (refl, λ including. absurd (no_include (AtActivate k0 st) at_is refl including), λ call. ap is_bound at_is) }))
-        (λ (y : (n : ℕ) × (v : What) × ((let m = activated_by k0 i (kept_of s.x (root_at (root_of s.path) t.coord)) in m.step) ≡ Ended (Changed n v))). subst IsPlain (sym y.2) (changed_plain y.0 y.1)) z.1)
+    heard_activated : (base : Known) (st : ObjectState) → s.at ≡ AtActivate base st → (i : ℕ) → IsHeardBy (Reply.Activated i) (activated_by base i (kept_of s.x (root_at (root_of s.path) t.coord)))
+    heard_activated base st at_is i =
+        let z = took_step base i (kept_of s.x (root_at (root_of s.path) t.coord)) in
+        heard_plain (Reply.Activated i) (activated_by base i (kept_of s.x (root_at (root_of s.path) t.coord))) refl (λ call. z.0) (⊎_elim
+        (λ on. subst IsPlain (sym on) (record { dooms = refl; nothing = refl; stands = λ g at. old_step.stands g (ap grant_at at_is ∙ at); fits = (refl, λ including. absurd (no_include (AtActivate base st) at_is refl including), λ call. ap is_bound at_is) }))
+        (λ (y : (n : ℕ) × (v : What) × ((let m = activated_by base i (kept_of s.x (root_at (root_of s.path) t.coord)) in m.step) ≡ Ended (Changed n v))). subst IsPlain (sym y.2) (changed_plain y.0 y.1)) z.1)
 
-    heard_noted : (k0 : Known) (i : ℕ) → s.at ≡ AtNote k0 i → (l : RecordedReply) → IsHeardBy (Reply.Noted l) (recorded_answer (kept_of s.x (root_at (root_of s.path) t.coord)) k0 i l)
-    heard_noted k0 i at_is recorded.Yes = heard_plain (Reply.Noted recorded.Yes) (moves (recorded_kept k0 (kept_of s.x (root_at (root_of s.path) t.coord))) (AtInvoke k0 i)) refl (λ call. recorded_alike k0 (kept_of s.x (root_at (root_of s.path) t.coord)))
-        (record { dooms = refl; nothing = refl; stands = λ g at. absurd (cc at); fits = (refl, λ including. absurd (no_include (AtNote k0 i) at_is refl including), λ call. ap is_bound at_is) })
-    heard_noted k0 i at_is (recorded.Changed v) = heard_plain (Reply.Noted (recorded.Changed v)) (finds (kept_of s.x (root_at (root_of s.path) t.coord)) (Changed 1 v)) refl (λ call. inl refl) (changed_plain 1 v)
+    heard_noted : (base : Known) (i : ℕ) → s.at ≡ AtNote base i → (l : RecordedReply) → IsHeardBy (Reply.Noted l) (recorded_answer (kept_of s.x (root_at (root_of s.path) t.coord)) base i l)
+    heard_noted base i at_is recorded.Yes = heard_plain (Reply.Noted recorded.Yes) (moves (recorded_kept base (kept_of s.x (root_at (root_of s.path) t.coord))) (AtInvoke base i)) refl (λ call. recorded_alike base (kept_of s.x (root_at (root_of s.path) t.coord)))
+        (record { dooms = refl; nothing = refl; stands = λ g at. absurd (cc at); fits = (refl, λ including. absurd (no_include (AtNote base i) at_is refl including), λ call. ap is_bound at_is) })
+    heard_noted base i at_is (recorded.Changed v) = heard_plain (Reply.Noted (recorded.Changed v)) (finds (kept_of s.x (root_at (root_of s.path) t.coord)) (Changed 1 v)) refl (λ call. inl refl) (changed_plain 1 v)
 
-    heard_answered : (k0 : Known) (i : ℕ) → s.at ≡ AtInvoke k0 i → (a : Answer) → IsHeardBy (Reply.Invoked (invoked.Answered a)) (finds (kept_of s.x (root_at (root_of s.path) t.coord)) (Answered a))
-    heard_answered k0 i at_is a = ⊎_elim (λ including. absurd (no_include (AtInvoke k0 i) at_is refl including)) by (bool_cases (is_include s.goal))
+    heard_answered : (base : Known) (i : ℕ) → s.at ≡ AtInvoke base i → (a : Answer) → IsHeardBy (Reply.Invoked (invoked.Answered a)) (finds (kept_of s.x (root_at (root_of s.path) t.coord)) (Answered a))
+    heard_answered base i at_is a = ⊎_elim (λ including. absurd (no_include (AtInvoke base i) at_is refl including)) by (bool_cases (is_include s.goal))
       where
         r : Reply
         r = Reply.Invoked (invoked.Answered a)
@@ -305,10 +302,10 @@ module _ (x : ℕ) (tops : Kinds) (k : ℕ) (d : Disk) (t : Parts) (M : Seen) (A
               plain = refl;
             }
 
-    heard_invoked : (k0 : Known) (i : ℕ) → s.at ≡ AtInvoke k0 i → (l : InvokedReply) → IsHeardBy (Reply.Invoked l) (invoked_answer (kept_of s.x (root_at (root_of s.path) t.coord)) k0 l)
-    heard_invoked k0 i at_is (invoked.Answered a) = heard_answered k0 i at_is a
-    heard_invoked k0 i at_is (invoked.Conflict holder mo) = heard_plain (Reply.Invoked (invoked.Conflict holder mo)) (finds (kept_of s.x (root_at (root_of s.path) t.coord)) (Conflict holder mo k0.server)) refl (λ call. inl refl) (record { dooms = refl; nothing = refl; stands = tt; fits = tt })
-    heard_invoked k0 i at_is (invoked.Changed v) = heard_plain (Reply.Invoked (invoked.Changed v)) (finds (kept_of s.x (root_at (root_of s.path) t.coord)) (Changed k0.server v)) refl (λ call. inl refl) (changed_plain k0.server v)
+    heard_invoked : (base : Known) (i : ℕ) → s.at ≡ AtInvoke base i → (l : InvokedReply) → IsHeardBy (Reply.Invoked l) (invoked_answer (kept_of s.x (root_at (root_of s.path) t.coord)) base l)
+    heard_invoked base i at_is (invoked.Answered a) = heard_answered base i at_is a
+    heard_invoked base i at_is (invoked.Conflict holder mo) = heard_plain (Reply.Invoked (invoked.Conflict holder mo)) (finds (kept_of s.x (root_at (root_of s.path) t.coord)) (Conflict holder mo base.server)) refl (λ call. inl refl) (record { dooms = refl; nothing = refl; stands = tt; fits = tt })
+    heard_invoked base i at_is (invoked.Changed v) = heard_plain (Reply.Invoked (invoked.Changed v)) (finds (kept_of s.x (root_at (root_of s.path) t.coord)) (Changed base.server v)) refl (λ call. inl refl) (changed_plain base.server v)
 
     -- ---- naming answers to a Bind
 
@@ -394,20 +391,17 @@ module _ (x : ℕ) (tops : Kinds) (k : ℕ) (d : Disk) (t : Parts) (M : Seen) (A
               let there : Contains (let q = Moved_to r m in q.grants) n.0 = in_to n.0 (let q = Moved_to r m in q.grants) (subst (In n.0) (sym after.grants) n.1) in
               (l, is, inl (subst (λ v. HasList D.names (uid_number v) l) n.2 (lists.named l n.0 is there n.3 (ap (is_named l.binding) n.4 ∙ alike))))
 
-          by : (D : Office) → SeesLists x tops (root_of s.path) t.coord (root_moved s r m (root_at (root_of s.path) t.coord)) D.names → D.names.had (uid_number (top_of s.path)) g ≡ true → (step : CallStep) → m.step ≡ step → NextSees x k M.sent s (next_of s step) (gone_root s step (root_moved s r m (root_at (root_of s.path) t.coord))) D.names
+          by : (D : Office) → SeesLists x tops (root_of s.path) t.coord (root_moved s r m (root_at (root_of s.path) t.coord)) D.names → D.names.had (uid_number (top_of s.path)) g ≡ true → (step : CallStep) → m.step ≡ step → NextSees x k M.sent (next_of s step) (gone_root s step (root_moved s r m (root_at (root_of s.path) t.coord))) D.names
           by D lists had (Ended e) is = tt
-          by D lists had (On at) is = (
-            refl,
-            λ about. ⊎_elim
-                (λ (on : (m.step ≡ On pl) × ((l : Known) × (m.kept ≡ Some l) × (binding_eq l.binding known.binding ≡ true))).
-                let here : pl ≡ at = some_is refl (ap at_in (sym on.0 ∙ is)) in
-                record {
-                  step = next_stands D.names at (subst (StandsOn (uid_number (top_of s.path)) D.names) here (stands D.names had)) (λ q n rest at_load including. absurd (never including call)) (λ including. absurd (never including call));
-                  list = λ again past. let l = on.1 in lists_named D lists l.0 l.1 l.2;
-                })
-                (λ (ended : (n : ℕ) × (v : What) × (m.step ≡ Ended (Changed n v))). absurd (let no : On at ≡ Ended (Changed ended.0 ended.1) = sym is ∙ ended.2 in cc))
-                bs,
-          )
+          by D lists had (On at) is = λ about. ⊎_elim
+              (λ (on : (m.step ≡ On pl) × ((l : Known) × (m.kept ≡ Some l) × (binding_eq l.binding known.binding ≡ true))).
+              let here : pl ≡ at = some_is refl (ap at_in (sym on.0 ∙ is)) in
+              record {
+                step = next_stands D.names at (subst (StandsOn (uid_number (top_of s.path)) D.names) here (stands D.names had)) (λ q n rest at_load including. absurd (never including call)) (λ including. absurd (never including call));
+                list = λ again past. let l = on.1 in lists_named D lists l.0 l.1 l.2;
+              })
+              (λ (ended : (n : ℕ) × (v : What) × (m.step ≡ Ended (Changed n v))). absurd (let no : On at ≡ Ended (Changed ended.0 ended.1) = sym is ∙ ended.2 in cc))
+              bs
 
     -- an include's lock is granted
     heard_write : (g : ℕ) (stores : List ℕ) (at : Option At) → at ≡ load_from (write_known g stores) stores → is_include s.goal ≡ true → answer.In (machine.Bound (uid_number (top_of s.path)) g true stores) A.names.answers → IsHeardBy (Reply.Bound (bound.Write g stores)) (or_lost (kept_of s.x (root_at (root_of s.path) t.coord)) at)
@@ -462,21 +456,19 @@ module _ (x : ℕ) (tops : Kinds) (k : ℕ) (d : Disk) (t : Parts) (M : Seen) (A
         first_load (n ∷ rest) y is = (n, rest, refl, some_is refl is)
 
         by : (D : Office) → D.names.had (uid_number (top_of s.path)) g ≡ true → answer.In (machine.Bound (uid_number (top_of s.path)) g true stores) D.names.answers → (z : Option At) → z ≡ load_from (write_known g stores) stores
-            → NextSees x k M.sent s (next_of s (let y = or_lost (kept_of s.x (root_at (root_of s.path) t.coord)) z in y.step)) (gone_root s (let y = or_lost (kept_of s.x (root_at (root_of s.path) t.coord)) z in y.step) (root_moved s r (or_lost (kept_of s.x (root_at (root_of s.path) t.coord)) z) (root_at (root_of s.path) t.coord))) D.names
+            → NextSees x k M.sent (next_of s (let y = or_lost (kept_of s.x (root_at (root_of s.path) t.coord)) z in y.step)) (gone_root s (let y = or_lost (kept_of s.x (root_at (root_of s.path) t.coord)) z in y.step) (root_moved s r (or_lost (kept_of s.x (root_at (root_of s.path) t.coord)) z) (root_at (root_of s.path) t.coord))) D.names
         by D had given_then None is = tt
         by D had given_then (Some y) is =
-            let f = first_load stores y is in (
-              refl,
-              λ about. record {
-                step = next_stands D.names y
-                    (subst (StandsOn (uid_number (top_of s.path)) D.names) (sym f.3) (λ i at. subst (λ j. D.names.had (uid_number (top_of s.path)) j ≡ true) (some_is refl at) had))
-                    (λ q n rest at on.
-                    let e : (write_known g stores, f.0, f.1) ≡ (q, n, rest) = some_is {A = Known × ℕ × List ℕ} (ap load_at f.3) (ap load_at at) in
-                    subst (λ (v : Known × ℕ × List ℕ). AsksListed (uid_number (top_of s.path)) v.0 (v.1 ∷ v.2) D.names) e (record { answered = given_then; stores = λ v in_it. subst (λ ss. has v ss ≡ true) (sym f.2) in_it }))
-                    (λ on. ap only_loads f.3);
-                list = λ call past. absurd (never including call);
-              },
-            )
+            let f = first_load stores y is in
+            λ about. record {
+              step = next_stands D.names y
+                  (subst (StandsOn (uid_number (top_of s.path)) D.names) (sym f.3) (λ i at. subst (λ j. D.names.had (uid_number (top_of s.path)) j ≡ true) (some_is refl at) had))
+                  (λ q n rest at on.
+                  let e : (write_known g stores, f.0, f.1) ≡ (q, n, rest) = some_is {A = Known × ℕ × List ℕ} (ap load_at f.3) (ap load_at at) in
+                  subst (λ (v : Known × ℕ × List ℕ). AsksListed (uid_number (top_of s.path)) v.0 (v.1 ∷ v.2) D.names) e (record { answered = given_then; stores = λ v in_it. subst (λ ss. has v ss ≡ true) (sym f.2) in_it }))
+                  (λ on. ap only_loads f.3);
+              list = λ call past. absurd (never including call);
+            }
 
     heard_bind : (b : BoundReply) → IsToStep k M.sent s (Reply.Bound b) → IsHeardBy (Reply.Bound b) (bound_answer (is_free (root_of s.path) (actor s.path) s.x t.coord) (kept_of s.x (root_at (root_of s.path) t.coord)) b)
     heard_bind (bound.Live b server i g stores) to =
@@ -498,7 +490,7 @@ module _ (x : ℕ) (tops : Kinds) (k : ℕ) (d : Disk) (t : Parts) (M : Seen) (A
 
     heard_reply : (r : Reply) → IsToStep k M.sent s r → (reply_kind r == ask_kind (next_ask [] s)) ≡ true → IsHeardBy r (answered (is_free (root_of s.path) (actor s.path) s.x t.coord) (kept_of s.x (root_at (root_of s.path) t.coord)) s.goal s.at r)
     heard_reply r to kind = matched (λ at r. s.at ≡ at → IsToStep k M.sent s r → IsHeardBy r (answered (is_free (root_of s.path) (actor s.path) s.x t.coord) (kept_of s.x (root_at (root_of s.path) t.coord)) s.goal at r))
-        (λ avoid b at_is to. heard_bind b to) (λ k0 n rest l at_is to. heard_load k0 n rest at_is l to) (λ k0 st i at_is to. heard_activated k0 st at_is i) (λ k0 i l at_is to. heard_noted k0 i at_is l) (λ k0 i l at_is to. heard_invoked k0 i at_is l) s.x s.goal s.at r kind refl to
+        (λ avoid b at_is to. heard_bind b to) (λ base n rest l at_is to. heard_load base n rest at_is l to) (λ base st i at_is to. heard_activated base st at_is i) (λ base i l at_is to. heard_noted base i at_is l) (λ base i l at_is to. heard_invoked base i at_is l) s.x s.goal s.at r kind refl to
 
   -- whichever it is
   pub heard_each : (r : Reply) → IsToStep k M.sent s r → (reply_kind r == ask_kind (next_ask [] s)) ≡ true → IsHeardBy r (answered (is_free (root_of s.path) (actor s.path) s.x t.coord) (kept_of s.x (root_at (root_of s.path) t.coord)) s.goal s.at r)

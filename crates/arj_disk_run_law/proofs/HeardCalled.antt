@@ -90,11 +90,11 @@ module _ (x : ℕ) (tops : Kinds) (e k : ℕ) (d : Disk) (t : Parts) (M : Seen) 
         mid : Coord
         mid = on_root (root_of s.path) (root_moved s r m) t.coord
 
-        by : (step : CallStep) → NextSees x k M.sent s (next_of s step) (gone_root s step (root_moved s r m (root_at (root_of s.path) t.coord))) heard.office.names → AllByRecursion (SaysHeard x d.inc heard.office) (step_call s step (on_root (root_of s.path) (root_moved s r m) t.coord)).outs
+        by : (step : CallStep) → NextSees x k M.sent (next_of s step) (gone_root s step (root_moved s r m (root_at (root_of s.path) t.coord))) heard.office.names → AllByRecursion (SaysHeard x d.inc heard.office) (step_call s step (on_root (root_of s.path) (root_moved s r m) t.coord)).outs
         by (On at) sees =
             let next : Steps = record s { req = s.req + 1; at = at } in
             let asked : Coord = on_doing (actor s.path) (λ (z : Doing). record z { req = s.req + 1; now = Calling (record s { req = s.req + 1; at = at }) }) mid in
-            request_says x d.inc k M.sent heard.office s.path (s.req + 1) (next_node next, next_ask (ends_of (root_of s.path) asked.tree) next) asked (step_claims x d.inc k M.sent heard.office next (ends_of (root_of s.path) asked.tree) (λ of. let z = sees.1 of in z.step))
+            request_says x d.inc k M.sent heard.office s.path (s.req + 1) (next_node next, next_ask (ends_of (root_of s.path) asked.tree) next) asked (step_claims x d.inc k M.sent heard.office next (ends_of (root_of s.path) asked.tree) (λ of. let z = sees of in z.step))
         by (Ended end) sees = says_say x d.inc heard.office (actor s.path) (end_line s.x s.goal end) mid
 
     pub heard_step : Kept_by (with_coord t (heard_call s r t.coord).part) (heard_call s r t.coord).outs

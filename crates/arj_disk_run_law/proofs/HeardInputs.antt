@@ -119,20 +119,20 @@ module _ (x : ℕ) (tops : Kinds) (e k : ℕ) (d : Disk) (t : Parts) (M : Seen) 
       office = A;
       only = none_heard A;
       both = both;
-      along = quiet_step x tops k d t M A both h (with_coord t e2)
-          (λ N B only fixed more. let p0 = at_stays x tops A B (fixed_in x tops A (up k d t M) both) fixed (memory_goes A B only) k M.sent N.sent t.coord more (λ u own kind. memory_stays tops A B only (tops.root (uid_number u))) (mine x tops k d t M A both h) in
-          at_called x k tops N.sent s t.coord e2 B called others (λ of. new_step x k N.sent p y g o avoid (next_req (actor p) t.coord) B.names calls (λ r to. none r (was_to x B k M.sent N.sent s more r to))) (list B N.sent p0) p0)
+      along = quiet_step x tops k d t M A both h (with_coord t gone)
+          (λ N B only fixed more. let before = at_stays x tops A B (fixed_in x tops A (up k d t M) both) fixed (memory_goes A B only) k M.sent N.sent t.coord more (λ u own kind. memory_stays tops A B only (tops.root (uid_number u))) (mine x tops k d t M A both h) in
+          at_called x k tops N.sent s t.coord gone B called others (λ of. new_step x k N.sent p y g o avoid (next_req (actor p) t.coord) B.names calls (λ r to. none r (was_to x B k M.sent N.sent s more r to))) (list B N.sent before) before)
           e (goes_on s w).outs M refl refl
           (request_says x d.inc k M.sent A p (next_req (actor p) t.coord) (next_node s, next_ask (ends_of (root_of p) mid.tree) s) mid (step_claims x d.inc k M.sent A s (ends_of (root_of p) mid.tree) (λ of. new_step x k M.sent p y g o avoid (next_req (actor p) t.coord) A.names calls none)));
     },
-    old_goes_on x tops k d t M A knows both e2 (λ u z m at now past. ⊎_elim (λ old. old.1) (λ new. absurd (let n : Calling s ≡ Committing m = sym new ∙ now in cc)) (called.works u z at)),
+    old_goes_on x tops k d t M A knows both gone (λ u z m at now past. ⊎_elim (λ old. old.1) (λ new. absurd (let n : Calling s ≡ Committing m = sym new ∙ now in cc)) (called.works u z at)),
   )
     where
       s : Steps
       s = start p y g o avoid (next_req (actor p) t.coord)
 
-      e2 : Coord
-      e2 = (goes_on (start p y g o avoid (next_req (actor p) t.coord)) w).part
+      gone : Coord
+      gone = (goes_on (start p y g o avoid (next_req (actor p) t.coord)) w).part
 
       mid : Coord
       mid = on_doing (actor p) (λ (z : Doing). record z { req = next_req (actor p) t.coord; now = Calling (start p y g o avoid (next_req (actor p) t.coord)) }) w
@@ -143,15 +143,15 @@ module _ (x : ℕ) (tops : Kinds) (e k : ℕ) (d : Disk) (t : Parts) (M : Seen) 
   pub heard_call : (b : Branch) (y : ℕ) (op : Op) (q : Doing) → branch_of (actor b.path) t.coord.tree ≡ Some b → is_some b.ended ≡ false → is_serial b.kind ≡ false → doing_of (actor b.path) t.coord ≡ Some q → Heard_by (call b.path y op t.coord)
   heard_call b y op q found opened plain does =
       let called = call_called x t.coord b.path q does y op in
-      waits_anew b.path y (Run op) (known_at_start (top_of b.path) y r t.coord k2.kept) k2.avoid (on_root (root_of b.path) (with_keeping y k2) (record t.coord { tree = uses_object b.path y t.coord.tree })) q (λ z is including. cc including) does called
+      waits_anew b.path y (Run op) (known_at_start (top_of b.path) y r t.coord anew.kept) anew.avoid (on_root (root_of b.path) (with_keeping y anew) (record t.coord { tree = uses_object b.path y t.coord.tree })) q (λ z is including. cc including) does called
       (call_others x tops k d t M good few knows (actor b.path) b found opened (no_serial b.kind plain) refl y op)
-      (λ B sent p0. call_list x tops k d t M good few knows (actor b.path) b found opened (no_serial b.kind plain) refl y op B sent p0 called.own)
+      (λ B sent before. call_list x tops k d t M good few knows (actor b.path) b found opened (no_serial b.kind plain) refl y op B sent before called.own)
     where
       r : Root
       r = root_at (root_of b.path) t.coord
 
-      k2 : Keeping
-      k2 = renewed (is_free (root_of b.path) (actor b.path) y t.coord) (keeping_of y (root_at (root_of b.path) t.coord)) (let z = keeping_of y (root_at (root_of b.path) t.coord) in z.kept)
+      anew : Keeping
+      anew = renewed (is_free (root_of b.path) (actor b.path) y t.coord) (keeping_of y (root_at (root_of b.path) t.coord)) (let z = keeping_of y (root_at (root_of b.path) t.coord) in z.kept)
 
       no_serial : (z : Kind) → is_serial z ≡ false → z ≢ kind.Serial
       no_serial z off same = never (ap is_serial same) off
@@ -159,7 +159,7 @@ module _ (x : ℕ) (tops : Kinds) (e k : ℕ) (d : Disk) (t : Parts) (M : Seen) 
   pub heard_include : (p : Path) (y s : ℕ) (q : Doing) → doing_of (actor p) t.coord ≡ Some q → Heard_by (include p y s t.coord)
   heard_include p y s q does = waits_anew p y (Include s) None unbound (record t.coord { tree = uses_object p y t.coord.tree }) q (λ z is including. cc is) does (include_called x t.coord p q does y s)
       (λ w z v other there now of calls. goes_kept x (start p y (Include s) None unbound (next_req (actor p) t.coord)) (record t.coord { tree = uses_object p y t.coord.tree }) (root_of v.path))
-      (λ B sent p0 of calls. absurd (cc calls))
+      (λ B sent before of calls. absurd (cc calls))
 
   -- actions are aborted, or none is
   acts_fewer : (did : Did Coord) → IsFewer t.coord did.part → AllByRecursion (SaysHeard x d.inc A) did.outs → Heard_by did

@@ -60,6 +60,7 @@ module _ (s : Steps) (c : Coord) (d : Doing) (found : doing_of (actor s.path) c 
     own = λ u. ap (is_own u) tree_is;
     works = λ u q does. ⊎_elim (λ mine. inr (ap (λ (y : Doing). y.now) (sym mine.1))) (λ old. inl (subst (λ p. u ≢ actor p) path old.0, old.1)) (work_apart (actor z.path) to_next mid d (ap (λ p. doing_of (actor p) c) path ∙ found) u q does);
     here = here_now;
+    path = λ y is. ap (λ (v : Steps). v.path) (some_is is refl) ∙ path;
     there = λ u other. put_away (root_of z.path) (with_went went) asked u (λ same. other (same ∙ ap (λ p. (root_of p).num) path)) ∙ (worked u ∙ put_away (root_of s.path) f c u other);
   }
     where
@@ -105,6 +106,7 @@ module _ (s : Steps) (c : Coord) (d : Doing) (found : doing_of (actor s.path) c 
         own = λ u. ap (is_own u) tree_is;
         works = λ u q does. ⊎_elim (λ mine. inr (ap (λ (y : Doing). y.now) (sym mine.1))) (λ old. inl old) (work_apart (actor s.path) to_idle mid d found u q does);
         here = ((let r = g (f (root_at (root_of s.path) c)) in r.went), put_here (root_of s.path) g idle ∙ ap g (worked (root_of s.path) ∙ put_here (root_of s.path) f c));
+        path = λ y is. absurd (cc is);
         there = λ u other. put_away (root_of s.path) g idle u other ∙ (worked u ∙ put_away (root_of s.path) f c u other);
       }
         where
@@ -289,12 +291,6 @@ grant_is top x (Reply.Prepared l) z is = absurd (cc is)
 grant_is top x (Reply.Confirmed l) z is = absurd (cc is)
 
 module _ (x : ℕ) (tops : Kinds) (s : Steps) (r : Reply) (m : Moved) (o : Root) where
-  abbrev q0 : Root
-  q0 = root_moved s r m o
-
-  abbrev q : Root
-  q = gone_root s m.step (root_moved s r m o)
-
   e : EndsRoot s (root_moved s r m o) (gone_root s m.step (root_moved s r m o))
   e = ends_root s m.step (root_moved s r m o)
 

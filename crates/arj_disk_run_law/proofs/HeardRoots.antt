@@ -23,7 +23,7 @@ use Rattle.arj_names_view_law.specs.Loads.{HaveLoads}
 use Rattle.arj_names_view_law.specs.Lists.{HasCallList, HasList, HasRetained, IsShort, IsTopOf, KeepsCalls, SeesLists}
 use Rattle.arj_names_view_law.proofs.GrantSteps.{Taken, came_from, taken_old}
 use Rattle.arj_disk_run_law.proofs.HeardEnds.{both_true}
-use Rattle.arj_disk_run_law.proofs.HeardStarts.{any_of}
+use Rattle.arj_part_law.proofs.Stores.{one_of}
 
 -- ---- what stays of a root
 
@@ -75,11 +75,11 @@ retained_on x c r q said joined w on =
     Joins = list_any (λ (j : Joined). (j.x == x) && survives w j.path c) q.joined
 
     calls : list_any (λ (s : Said). (s.x == x) && survives w s.path c) r.said ≡ true → (Says || Joins) ≡ true
-    calls h = let f = any_of (λ (s : Said). (s.x == x) && survives w s.path c) r.said h in or_left Says Joins (any_in (λ (s : Said). (s.x == x) && survives w s.path c) f.0 q.said (said f.0 f.1) f.2)
+    calls h = let f = one_of (λ (s : Said). (s.x == x) && survives w s.path c) r.said h in or_left Says Joins (any_in (λ (s : Said). (s.x == x) && survives w s.path c) f.0 q.said (said f.0 f.1) f.2)
 
     includes : list_any (λ (j : Joined). (j.x == x) && survives w j.path c) r.joined ≡ true → (Says || Joins) ≡ true
     includes h =
-        let f = any_of (λ (j : Joined). (j.x == x) && survives w j.path c) r.joined h in
+        let f = one_of (λ (j : Joined). (j.x == x) && survives w j.path c) r.joined h in
         let i = joined f.0 f.1 in
         or_right Says Joins (any_in (λ (j : Joined). (j.x == x) && survives w j.path c) i.join q.joined i.there ((λ n. (i.of n == x) && survives w (i.path n) c) ∙ f.2))
 

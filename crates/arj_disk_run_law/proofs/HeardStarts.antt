@@ -1,7 +1,7 @@
 -- Where a call begins: its action stands in a top at work, and a binding that its root keeps has a list for it.
 use Rattle.std.proofs.Common.{◌≡◌, ◌≢◌, ◌⊎◌, ℕ, ◌==◌, ◌&&◌, ◌||◌, if◌then◌else◌, not, Bool, true, false, List, [], ◌∷◌, Option, Some, None, is_some, refl, sym, ◌∙◌, ap, subst, inl, inr, ⊎_elim}
 use Rattle.std.specs.Prelude.{Contains, unwrap_or}
-use Rattle.std.specs.List.{list_all, list_any}
+use Rattle.std.specs.List.{list_all}
 use Rattle.std.proofs.lemmas.Bool.{and_parts}
 use Rattle.arj_base.proofs.Uids.{uid_is}
 use Rattle.arj_lock.proofs.Members as list
@@ -22,6 +22,7 @@ use Rattle.arj_protocol.specs.Tree.{Branch, branch_of, is_own, is_spent, root_of
 use Rattle.arj_part_law.specs.Coords.{IsAsking, IsBusy}
 use Rattle.arj_part_law.specs.Actions.{paths_of}
 use Rattle.arj_part_law.proofs.Begun.{begun_tree}
+use Rattle.arj_part_law.proofs.Stores.{one_of}
 use Rattle.arj_call_law.specs.Runs.{KnowsFew}
 use Rattle.arj_call_law.proofs.CoordKnown.{loose_of}
 use Rattle.arj_call_law.proofs.CoordSteps.{IsLoose}
@@ -110,10 +111,6 @@ free_spent root but x c free z there of = by (z.x == x) (ap (λ n. n == x) of �
 
 -- ---- a call that begins
 
-pub any_of : {X : Type 0} (f : X → Bool) (xs : List X) → list_any f xs ≡ true → (z : X) × In z xs × (f z ≡ true)
-any_of f [] on = absurd (cc on)
-any_of f (z ∷ zs) on = ⊎_elim (λ here. (z, inl refl, here)) (λ more. let r = any_of f zs more in (r.0, inr r.1, r.2)) (or_cases (f z) (list_any f zs) on)
-
 -- a call is no include
 pub is_call_goal : (g : Goal) → is_include g ≡ false → is_call g ≡ true
 is_call_goal (Run o) off = refl
@@ -135,12 +132,12 @@ start_known (Some q) avoid on = (q, refl)
 -- what a root keeps has a list for the top that it was named to, or one that is retained
 pub known_list : (x : ℕ) (tops : Kinds) (root top : Uid) (c : Coord) (r : Root) (N : Names) → SeesLists x tops root c r N → (q : Known) → kept_of x r ≡ Some q → (was_named top x q.binding r ≡ true) ⊎ (retains x r c ≡ true) → HasCallList N (uid_number root) (uid_number top) q
 known_list x tops root top c r N l q kept (inl named) =
-    let g = any_of (λ (g : Grant). is_grant_of top x g && is_named q.binding g.named) r.grants named in
+    let g = one_of (λ (g : Grant). is_grant_of top x g && is_named q.binding g.named) r.grants named in
     let a = and_parts (is_grant_of top x g.0) (is_named q.binding (let z = g.0 in z.named)) g.2 in
     let b = and_parts (uid_eq (let z = g.0 in z.top) top) ((let z = g.0 in z.x) == x) a.0 in
     inl (subst (λ w. HasList N (uid_number w) q) (uid_is (let z = g.0 in z.top) top b.0) (l.named q g.0 kept (in_to g.0 r.grants g.1) (test_is (let z = g.0 in z.x) x b.1) a.1))
 known_list x tops root top c r N l q kept (inr retained) =
-    let s = any_of (λ (s : Said). (s.x == x) && coord.is_retained s.path c) r.said retained in
+    let s = one_of (λ (s : Said). (s.x == x) && coord.is_retained s.path c) r.said retained in
     let a = and_parts ((let z = s.0 in z.x) == x) (coord.is_retained (let z = s.0 in z.path) c) s.2 in
     inr (l.retained q s.0 kept (in_to s.0 r.said s.1) (test_is (let z = s.0 in z.x) x a.0) a.1)
 
@@ -155,19 +152,19 @@ module _ (x : ℕ) (tops : Kinds) (k : ℕ) (d : Disk) (t : Parts) (M : Seen) (g
   abbrev r : Root
   r = root_at (root_of b.path) t.coord
 
-  abbrev k2 : Keeping
-  k2 = renewed (is_free (root_of b.path) (actor b.path) y t.coord) (keeping_of y (root_at (root_of b.path) t.coord)) (let z = keeping_of y (root_at (root_of b.path) t.coord) in z.kept)
+  abbrev anew : Keeping
+  anew = renewed (is_free (root_of b.path) (actor b.path) y t.coord) (keeping_of y (root_at (root_of b.path) t.coord)) (let z = keeping_of y (root_at (root_of b.path) t.coord) in z.kept)
 
   abbrev mid : Coord
-  mid = on_root (root_of b.path) (with_keeping y k2) (record t.coord { tree = uses_object b.path y t.coord.tree })
+  mid = on_root (root_of b.path) (with_keeping y anew) (record t.coord { tree = uses_object b.path y t.coord.tree })
 
   abbrev s : Steps
-  s = call_steps b.path y op (next_req (actor b.path) t.coord) (root_at (root_of b.path) t.coord) t.coord k2
+  s = call_steps b.path y op (next_req (actor b.path) t.coord) (root_at (root_of b.path) t.coord) t.coord anew
 
   pub call_others : KeepsForOthers x (actor b.path) t.coord (call b.path y op t.coord).part
-  call_others w q z other there now of calls = goes_kept x s mid (root_of z.path) ∙ by (root_put (root_of b.path) (with_keeping y k2) (record t.coord { tree = uses_object b.path y t.coord.tree }) (root_of z.path))
+  call_others w q z other there now of calls = goes_kept x s mid (root_of z.path) ∙ by (root_put (root_of b.path) (with_keeping y anew) (record t.coord { tree = uses_object b.path y t.coord.tree }) (root_of z.path))
     where
-      by : (((root_of b.path).num ≡ (root_of z.path).num) × (root_at (root_of z.path) mid ≡ with_keeping y k2 (root_at (root_of z.path) t.coord))) ⊎ (root_at (root_of z.path) mid ≡ root_at (root_of z.path) t.coord) → kept_of x (root_at (root_of z.path) mid) ≡ kept_of x (root_at (root_of z.path) t.coord)
+      by : (((root_of b.path).num ≡ (root_of z.path).num) × (root_at (root_of z.path) mid ≡ with_keeping y anew (root_at (root_of z.path) t.coord))) ⊎ (root_at (root_of z.path) mid ≡ root_at (root_of z.path) t.coord) → kept_of x (root_at (root_of z.path) mid) ≡ kept_of x (root_at (root_of z.path) t.coord)
       by (inr same) = ap (kept_of x) same
       by (inl mine) = ap (kept_of x) mine.1 ∙ ⊎_elim
           (λ at. at.1 ∙ ⊎_elim
@@ -175,13 +172,13 @@ module _ (x : ℕ) (tops : Kinds) (k : ℕ) (d : Disk) (t : Parts) (M : Seen) (g
           (λ none. absurd (free_alone tops k d t M good few knows u b found y (ap (λ v. is_free (root_of b.path) v y t.coord) (sym own) ∙ none.1) w q z (λ same. other (same ∙ sym own)) there now (of ∙ sym at.0) (is_call_goal z.goal calls) (sym mine.0)))
           (renewed_keeps (is_free (root_of b.path) (actor b.path) y t.coord) (keeping_of y (root_at (root_of b.path) t.coord))))
           (λ same. same)
-          (put_keeps x y k2 (root_at (root_of z.path) t.coord))
+          (put_keeps x y anew (root_at (root_of z.path) t.coord))
 
   pub call_list : (B : Office) (sent : List Post) → SeesHeardAt x k tops sent t.coord B → ((w : Uid) → is_own w (call b.path y op t.coord).part.tree ≡ is_own w t.coord.tree) → HasItsList x tops (call b.path y op t.coord).part s B.names
   call_list B sent p owns of calls past =
       let st = stands tops k d t M good few knows u b found opened unserial in
-      let q = start_known (known_at_start (top_of b.path) y r t.coord k2.kept) k2.avoid past in
-      let h = known_cases (top_of b.path) y r t.coord k2.kept q.0 q.1 in
+      let q = start_known (known_at_start (top_of b.path) y r t.coord anew.kept) anew.avoid past in
+      let h = known_cases (top_of b.path) y r t.coord anew.kept q.0 q.1 in
       let its : kept_of x (root_at (root_of b.path) (call b.path y op t.coord).part) ≡ Some q.0 = goes_kept x s mid (root_of b.path) ∙ now_kept q.0 of h.0 in
       let roots = p.roots (root_of b.path) st.root in
       record {
@@ -192,11 +189,11 @@ module _ (x : ℕ) (tops : Kinds) (k : ℕ) (d : Disk) (t : Parts) (M : Seen) (g
         list = known_list x tops (root_of b.path) (top_of b.path) t.coord r B.names roots.lists q.0 (was_kept q.0 of h.0) (subst (λ n. (was_named (top_of b.path) n (let z = q.0 in z.binding) r ≡ true) ⊎ (retains n r t.coord ≡ true)) of h.1);
       }
     where
-      was_kept : (q : Known) → y ≡ x → k2.kept ≡ Some q → kept_of x r ≡ Some q
+      was_kept : (q : Known) → y ≡ x → anew.kept ≡ Some q → kept_of x r ≡ Some q
       was_kept q of is = ap (λ n. kept_of n r) (sym of) ∙ ⊎_elim (λ still. sym still ∙ is) (λ none. absurd (let n : None ≡ Some q = sym none.0 ∙ is in cc)) (renewed_keeps (is_free (root_of b.path) (actor b.path) y t.coord) (keeping_of y (root_at (root_of b.path) t.coord)))
 
-      now_kept : (q : Known) → y ≡ x → k2.kept ≡ Some q → kept_of x (root_at (root_of b.path) mid) ≡ Some q
+      now_kept : (q : Known) → y ≡ x → anew.kept ≡ Some q → kept_of x (root_at (root_of b.path) mid) ≡ Some q
       now_kept q of is = ⊎_elim
-          (λ mine. ap (kept_of x) mine.1 ∙ ⊎_elim (λ at. at.1 ∙ is) (λ same. same ∙ was_kept q of is) (put_keeps x y k2 r))
+          (λ mine. ap (kept_of x) mine.1 ∙ ⊎_elim (λ at. at.1 ∙ is) (λ same. same ∙ was_kept q of is) (put_keeps x y anew r))
           (λ same. ap (kept_of x) same ∙ was_kept q of is)
-          (root_put (root_of b.path) (with_keeping y k2) (record t.coord { tree = uses_object b.path y t.coord.tree }) (root_of b.path))
+          (root_put (root_of b.path) (with_keeping y anew) (record t.coord { tree = uses_object b.path y t.coord.tree }) (root_of b.path))

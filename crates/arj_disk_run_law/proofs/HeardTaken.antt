@@ -151,6 +151,7 @@ pub record HasGone (s : Steps) (next : Option Steps) (q : Root) (c e : Coord) : 
   pub works : (u : Uid) (d : Doing) → doing_of u e ≡ Some d → ((u ≢ actor s.path) × (doing_of u c ≡ Some d)) ⊎ (d.now ≡ now_of next)
   pub here : (w : List Went) × (root_at (root_of s.path) e ≡ went_to w q)
   pub there : (u : Uid) → (u.num ≡ (let r = root_of s.path in r.num) → ⊥) → root_at u e ≡ root_at u c
+  pub path : (z : Steps) → next ≡ Some z → z.path ≡ s.path
 
 -- another action of the root waits in a call on the object
 pub record OtherCalls (x : ℕ) (s : Steps) (c : Coord) : Type 0 where
@@ -169,13 +170,13 @@ abbrev pub JoinsFrom : List Uid → Root → Root → Type 0
 JoinsFrom us r q = (j : Joined) → Contains q.joined j → ((i : Joined) × Contains r.joined i × (i.path ≡ j.path)) ⊎ (j.path ≡ us)
 
 -- the next step is seen, where there is one: what it stands on, and its list
-pub record NextIsSeen (x k : ℕ) (sent : List Post) (s z : Steps) (q : Root) (N : Names) : Type 0 where
+pub record NextIsSeen (x k : ℕ) (sent : List Post) (z : Steps) (q : Root) (N : Names) : Type 0 where
   pub step : SeesStep x k sent z N
-  pub list : is_include z.goal ≡ false → is_bound z.at ≡ true → (l : Known) × (kept_of x q ≡ Some l) × HasCallList N (uid_number (root_of s.path)) (uid_number (top_of s.path)) l
+  pub list : is_include z.goal ≡ false → is_bound z.at ≡ true → (l : Known) × (kept_of x q ≡ Some l) × HasCallList N (uid_number (root_of z.path)) (uid_number (top_of z.path)) l
 
-abbrev pub NextSees : ℕ → ℕ → List Post → Steps → Option Steps → Root → Names → Type 0
-NextSees x k sent s None q N = Unit {0}
-NextSees x k sent s (Some z) q N = (z.path ≡ s.path) × (z.x ≡ x → NextIsSeen x k sent s z q N)
+abbrev pub NextSees : ℕ → ℕ → List Post → Option Steps → Root → Names → Type 0
+NextSees x k sent None q N = Unit {0}
+NextSees x k sent (Some z) q N = z.x ≡ x → NextIsSeen x k sent z q N
 
 module _ (x k : ℕ) (tops : Kinds) (sent : List Post) (s : Steps) (next : Option Steps) (q : Root) (c e : Coord) (A D : Office) (f : IsFixed tops A.world.disk) (kinds : KnowsKinds tops) (place : StandsIn tops c s.path) (taken : IsTakenFor tops (root_of s.path) (top_of s.path) A D) where
   abbrev root : Uid
@@ -200,13 +201,13 @@ module _ (x k : ℕ) (tops : Kinds) (sent : List Post) (s : Steps) (next : Optio
       let b = and_parts ((let r = root_of s.path in r.node) == c.tree.node) ((let r = root_of s.path in r.inc) == c.tree.inc) (let w = place.root in w.own) in
       other (λ i. record { node = (test_is u.node c.tree.node a.0 ∙ sym (test_is (let r = root_of s.path in r.node) c.tree.node b.0)) i; inc = (test_is u.inc c.tree.inc a.1 ∙ sym (test_is (let r = root_of s.path in r.inc) c.tree.inc b.1)) i; num = same i })
 
-  pub at_gone : HasGone s next q c e → IsPathIn c.tree (uids_of s.path) → JoinsFrom (uids_of s.path) (root_at (root_of s.path) c) q → Named A → Named D → SeesRootOf x tops (root_of s.path) c q D → (OtherCalls x s c → KeepsCalls tops (root_of s.path) (kept_of x (root_at (root_of s.path) c)) (kept_of x q) A.names D.names) → NextSees x k sent s next q D.names
+  pub at_gone : HasGone s next q c e → IsPathIn c.tree (uids_of s.path) → JoinsFrom (uids_of s.path) (root_at (root_of s.path) c) q → Named A → Named D → SeesRootOf x tops (root_of s.path) c q D → (OtherCalls x s c → KeepsCalls tops (root_of s.path) (kept_of x (root_at (root_of s.path) c)) (kept_of x q) A.names D.names) → NextSees x k sent next q D.names
       → ((u : Uid) (d : Doing) (m : Machine) → doing_of u c ≡ Some d → d.now ≡ Committing m → u ≡ top_of s.path → ⊥) → ((u : Uid) (d : Doing) (z : Steps) → doing_of u c ≡ Some d → d.now ≡ Calling z → is_own (root_of z.path) c.tree ≡ true)
       → SeesHeardAt x k tops sent c A → SeesHeardAt x k tops sent e D
   at_gone gone asks joins named after seen keeps sees idle owns p = record {
     roots = λ u w. root_now u w (uid_cases u (root_of s.path));
     steps = λ u d z does now of. ⊎_elim (λ old. step_goes x tops A D f h on k sent sent z (λ r to. inl to) (p.steps u d z old.1 now of)) (λ new. step_now z next (sym new ∙ now) of sees) (gone.works u d does);
-    calls = λ u d z does now of call past. ⊎_elim (λ old. call_now u d z old.0 old.1 now of call (p.calls u d z old.1 now of call past) (uid_cases (root_of z.path) (root_of s.path))) (λ new. new_call z next (sym new ∙ now) of call past sees) (gone.works u d does);
+    calls = λ u d z does now of call past. ⊎_elim (λ old. call_now u d z old.0 old.1 now of call (p.calls u d z old.1 now of call past) (uid_cases (root_of z.path) (root_of s.path))) (λ new. new_call z next (gone.path) (sym new ∙ now) of call past sees) (gone.works u d does);
     includes = λ u j i. path_on c e (λ v. same_path (branch_of v c.tree) (branch_of v e.tree) (gone.tree v)) j.path (include_now u j i (test_cases u.num (let r = root_of s.path in r.num)));
     plans = λ u d m does now. ⊎_elim (λ old. plan_on x tops (root_of s.path) (top_of s.path) A D f kinds place.top alone taken named after u (idle u d m old.1 now) m (p.plans u d m old.1 now)) (λ new. no_plan m next (sym new ∙ now)) (gone.works u d does);
   }
@@ -230,31 +231,31 @@ module _ (x k : ℕ) (tops : Kinds) (sent : List Post) (s : Steps) (next : Optio
       is_next : {a b : Steps} → Calling a ≡ Calling b → a ≡ b
       is_next same = some_is refl (ap step_in same)
 
-      step_now : (z : Steps) (o : Option Steps) → now_of o ≡ Calling z → z.x ≡ x → NextSees x k sent s o q D.names → SeesStep x k sent z D.names
+      step_now : (z : Steps) (o : Option Steps) → now_of o ≡ Calling z → z.x ≡ x → NextSees x k sent o q D.names → SeesStep x k sent z D.names
       step_now z None is of n = absurd (cc is)
-      step_now z (Some y) is of n = let same : y ≡ z = is_next is in subst (λ v. SeesStep x k sent v D.names) same (let w = n.1 (ap (λ (v : Steps). v.x) same ∙ of) in w.step)
+      step_now z (Some y) is of n = let same : y ≡ z = is_next is in subst (λ v. SeesStep x k sent v D.names) same (let w = n (ap (λ (v : Steps). v.x) same ∙ of) in w.step)
 
       no_plan : {P : Type 0} (m : Machine) (o : Option Steps) → now_of o ≡ Committing m → P
       no_plan m None is = absurd (cc is)
       no_plan m (Some y) is = absurd (cc is)
 
       -- the next step's call
-      its_call : (y : Steps) → y.path ≡ s.path → (l : Known) → kept_of x q ≡ Some l → HasCallList D.names (uid_number (root_of s.path)) (uid_number (top_of s.path)) l → SeesCall x tops e y D.names
+      its_call : (y : Steps) → y.path ≡ s.path → (l : Known) → kept_of x q ≡ Some l → HasCallList D.names (uid_number (root_of y.path)) (uid_number (top_of y.path)) l → SeesCall x tops e y D.names
       its_call y same l kept list = record {
         own = ap (λ v. is_own (top_of v) e.tree) same ∙ (gone.own (top_of s.path) ∙ place.own);
         top = subst (λ v. IsTopOf tops (root_of v) (top_of v)) (sym same) place.top;
         known = l;
         kept = ap (λ v. kept_of x (root_at (root_of v) e)) same ∙ (ap (kept_of x) gone.here.1 ∙ kept);
-        list = subst (λ v. HasCallList D.names (uid_number (root_of v)) (uid_number (top_of v)) l) (sym same) list;
+        list = list;
       }
 
-      new_call : (z : Steps) (o : Option Steps) → now_of o ≡ Calling z → z.x ≡ x → is_include z.goal ≡ false → is_bound z.at ≡ true → NextSees x k sent s o q D.names → SeesCall x tops e z D.names
-      new_call z None is of call past n = absurd (cc is)
-      new_call z (Some y) is of call past n =
+      new_call : (z : Steps) (o : Option Steps) → ((y : Steps) → o ≡ Some y → y.path ≡ s.path) → now_of o ≡ Calling z → z.x ≡ x → is_include z.goal ≡ false → is_bound z.at ≡ true → NextSees x k sent o q D.names → SeesCall x tops e z D.names
+      new_call z None paths is of call past n = absurd (cc is)
+      new_call z (Some y) paths is of call past n =
           let same : y ≡ z = is_next is in
-          let w = n.1 (ap (λ (v : Steps). v.x) same ∙ of) in
+          let w = n (ap (λ (v : Steps). v.x) same ∙ of) in
           let l = w.list (ap (λ (v : Steps). is_include v.goal) same ∙ call) (ap (λ (v : Steps). is_bound v.at) same ∙ past) in
-          subst (λ v. SeesCall x tops e v D.names) same (its_call y n.0 l.0 l.1 l.2)
+          subst (λ v. SeesCall x tops e v D.names) same (its_call y (paths y refl) l.0 l.1 l.2)
 
       call_now : (u : Uid) (d : Doing) (z : Steps) → u ≢ actor s.path → doing_of u c ≡ Some d → d.now ≡ Calling z → z.x ≡ x → is_include z.goal ≡ false → SeesCall x tops c z A.names → (root_of z.path ≡ root_of s.path) ⊎ (root_of z.path ≢ root_of s.path) → SeesCall x tops e z D.names
       call_now u d z other does now of call o (inl same) =
