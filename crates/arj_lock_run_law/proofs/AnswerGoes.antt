@@ -53,7 +53,7 @@ use Rattle.arj_lock_run_law.proofs.GoodSteps.{its}
 use Rattle.arj_lock_run_law.proofs.ShownAnswers.{answer_shown, call_shown, commit_shown, include_shown}
 use Rattle.arj_lock_run_law.proofs.WorkSteps.{Behind, at_commit, behind_step, placed, waits_in, works_in}
 
-answers_back : (a : Asked) (r : Reply) → answers (response a r) ≡ Some (a, r)
+pub answers_back : (a : Asked) (r : Reply) → answers (response a r) ≡ Some (a, r)
 answers_back a (Reply.Bound r) = refl
 answers_back a (Reply.Loaded r) = refl
 answers_back a (Reply.Activated r) = refl
@@ -77,7 +77,7 @@ module _ (c : Case) (s : Spot) (e from : ℕ) (a : Asked) (r : Reply) (is_seen :
   abbrev post : Post
   post = record { from = from; to = s.node; message = response a r }
 
-  shown : IsAnswerSeen V (let M = s.seen in M.sent) post (a, r) c.state
+  pub shown : IsAnswerSeen V (let M = s.seen in M.sent) post (a, r) c.state
   shown = let z = is_seen.sees in answer_shown f c.x c.begun (let M = s.seen in M.sent) from s.node a r c.state (z.posts post sent)
 
   -- the answer is of the kind that the step asks for
@@ -87,7 +87,7 @@ module _ (c : Case) (s : Spot) (e from : ℕ) (a : Asked) (r : Reply) (is_seen :
   -- ---- to what was asked by the action that waits
 
   module _ (d : Doing) (found : doing_of a.act C ≡ Some d) where
-    who : actor (let h = shown.head in h.path) ≡ a.act
+    pub who : actor (let h = shown.head in h.path) ≡ a.act
     who = ap (λ (z : Asked). z.act) shown.of
 
     -- what was asked by that number is what waits
@@ -173,7 +173,7 @@ module _ (c : Case) (s : Spot) (e from : ℕ) (a : Asked) (r : Reply) (is_seen :
       commit_number : a.req ≡ d.req
       commit_number = sym (eqb-true (let p = plan_of m in p.req) a.req (and_parts ((let p = plan_of m in p.req) == a.req) ((reply_kind r == ask_kind (ask_of m from)) && has (left_of m) from) waits).0) ∙ (subst (IsNumbered d.req) is (let i = its c s is_seen in i.numbered a.act d found)).0
 
-      of_commit : ((let h = shown.head in h.path) ≡ (let p = plan_of m in p.path)) × (shown.ask ≡ ask_of m from)
+      pub of_commit : ((let h = shown.head in h.path) ≡ (let p = plan_of m in p.path)) × (shown.ask ≡ ask_of m from)
       of_commit = was_asked.commit m (ap (λ (z : Doing). z.now) same_doing ∙ is) (same_number commit_number)
 
       voting : IsVoting C.tree a.act (plan_of m)

@@ -1,6 +1,6 @@
 -- The object is seen in every world of a run: each handler's walk is put together, and each stop is seen.
-use Rattle.std.proofs.Common.{◌≡◌, ◌∙◌, ◌+◌, ℕ, List, [], ◌∷◌, not, Bool, true, false, Option, Some, None, refl, ap, subst, inr, sym, inl}
-use Rattle.std.specs.Prelude.{is_some}
+use Rattle.std.proofs.Common.{◌≡◌, ◌≢◌, ◌∙◌, ◌+◌, ℕ, List, [], ◌∷◌, not, Bool, true, false, Option, Some, None, refl, ap, subst, inr, sym, inl}
+use Rattle.std.specs.Prelude.{⊤, is_some}
 use Rattle.std.proofs.lemmas.Bool.{and_parts}
 use Rattle.arj_lock.proofs.Members.{in_from, in_to}
 use Rattle.arj_protocol.specs.Words.{Asked, Header, Kind, Label, Message, Path, Uid, asks, uids_of}
@@ -22,6 +22,7 @@ use Rattle.arj_part_law.specs.Coords.{IsGoodCoord}
 use Rattle.arj_part_law.specs.Trees.{MayStand}
 use Rattle.arj_part_law.proofs.CoordInputs.{IsNext, named_found, next_path, off}
 use Rattle.arj_run_law.proofs.Begins as begins
+use Rattle.arj_line_law.specs.Paths.{IsAlikeOf}
 use Rattle.arj_line_law.proofs.Paths.{IsPathedOf, act_pathed, begin_pathed, first_pathed, message_pathed, quiet_pathed, restart_pathed, stop_pathed, tick_pathed}
 use Rattle.arj_view_law.specs.Keeps.{MayGive, is_act, label_at}
 use Rattle.arj_view_law.specs.Seen.{AreQuiet, In, Post, Seen, Within, at, down, given, posted, said, see, up}
@@ -33,9 +34,10 @@ use Rattle.arj_lock_fact_law.specs.Acts.{KeepsOf, begins_in}
 use Rattle.arj_lock_run_law.specs.Beside.{Case, IsSeenIn, Spot, world_at}
 use Rattle.arj_lock_run_law.specs.Coordinating.{coord_at}
 use Rattle.arj_lock_run_law.specs.Fixed.{Agrees, Fixed}
-use Rattle.arj_lock_run_law.specs.Kept.{AreLocksSeen, GivesLocks, HasCome, LocksAreKept, RunsKeepLocks, case_of}
+use Rattle.arj_lock_run_law.specs.Kept.{AreCoordsNamed, AreLocksSeen, GivesLocks, HasCome, LocksAreKept, RunsKeepLocks, case_of}
 use Rattle.arj_lock_run_law.specs.Sees.{SeesLocks}
 use Rattle.arj_lock_run_law.specs.Tied.{AreTied}
+use Rattle.arj_lock_run_law.specs.Votes.{AreLocksVoted, AreVotedAt, RunsKeepVotes, VotesAreKept}
 use Rattle.arj_lock_run_law.specs.World.{IsSeenSo, is_for_parts}
 use Rattle.arj_lock_run_law.proofs.AckSteps.{acks_go}
 use Rattle.arj_lock_run_law.proofs.AnswerGoes.{answers_go}
@@ -48,6 +50,13 @@ use Rattle.arj_lock_run_law.proofs.QuerySteps.{queries_go}
 use Rattle.arj_lock_run_law.proofs.RestartWalks.{restarts_go}
 use Rattle.arj_lock_run_law.proofs.TickSteps.{ticks_go}
 use Rattle.arj_lock_run_law.proofs.InputGoes.{inputs_go}
+use Rattle.arj_lock_run_law.proofs.LeftSteps.{Leaves, message_left}
+use Rattle.arj_lock_run_law.proofs.OtherSteps.{node_here}
+use Rattle.arj_lock_run_law.proofs.VoteSteps.{HaveVotes, IsOldOrNew, first_votes, had_votes, halted_votes, new_votes, nodes_walk, voted_at, votes_shown}
+use Rattle.arj_lock_fact_law.specs.Votes.{AreVoted}
+use Rattle.arj_lock_fact_law.proofs.VoteCoords.{acts_are_voted, heard_is_voted, others_are_voted}
+use Rattle.arj_call_law.specs.Runs.{AllVotesAreUsed}
+use Rattle.arj_protocol.specs.Step as input
 
 -- ---- more is sent along a walk
 
@@ -79,11 +88,15 @@ module _ (f : Fixed) (x : ℕ) where
     wanted = λ p h q there is. g.wanted p h q there is;
   }
 
+-- the object is seen, and on a condition commits have their votes
+abbrev LocksSo : Type 0 → ℕ → (List Action → Seen → Type 0) → Seen → Type 0
+LocksSo U x R M = (begun : List Action) × IsAlikeOf begun M × R begun M × ((f : Fixed) → Agrees f x begun M.sent → (S : State) × SeesLocks f x begun S M × AreTied f x M.lines S × (U → AreVotedAt f x S M)) × AreCoordsNamed M
+
 -- a walk in which the object is seen, for all that may be fixed and agrees with what was done before
-kept_walk : (x : ℕ) (R : List Action → Seen → Type 0) (begun : List Action) (e k : ℕ) (outs : List Effect) (v : Parts) (d : Disk) (M : Seen) → Walks (R begun) e k outs (Up (R begun) k v) d M → Walks (IsPathedOf begun) e k outs (Up (IsPathedOf begun) k v) d M
-    → ((f : Fixed) → Agrees f x begun M.sent → (S : State) × Walks (IsSeenSo (case_of f x begun S)) e k outs (Up (IsSeenSo (case_of f x begun S)) k v) d M)
-    → Walks (AreLocksSeen x R) e k outs (Up (AreLocksSeen x R) k v) d M
-kept_walk x R begun e k outs v d M holds good sees =
+kept_walk : (V : Type 0) (x : ℕ) (R : List Action → Seen → Type 0) (begun : List Action) (e k : ℕ) (outs : List Effect) (v : Parts) (d : Disk) (M : Seen) → Walks (R begun) e k outs (Up (R begun) k v) d M → Walks (IsPathedOf begun) e k outs (Up (IsPathedOf begun) k v) d M
+    → ((f : Fixed) → Agrees f x begun M.sent → (S : State) × Walks (IsSeenSo (case_of f x begun S)) e k outs (Up (IsSeenSo (case_of f x begun S)) k v) d M × ((T : State) → Run S T → V → HaveVotes f x M k v.coord T))
+    → Walks (LocksSo V x R) e k outs (Up (LocksSo V x R) k v) d M
+kept_walk V x R begun e k outs v d M holds good sees =
     let A : Type 0 = (f : Fixed) × Agrees f x begun M.sent in
     let Q : A → Seen → Type 0 = λ a N. Agrees a.0 x begun N.sent → (S : State) × SeesLocks a.0 x begun S N × AreTied a.0 x N.lines S × Run (sees a.0 a.1).0 S in
     let H : Seen → Type 0 = λ N. Within M.sent N.sent in
@@ -95,9 +108,24 @@ kept_walk x R begun e k outs v d M holds good sees =
     let three = walks_both G T e k outs (Up G k v) (λ c N. Up H k v c N × ((a : A) → Up (Q a) k v c N)) d M good two in
     let U : Seen → Type 0 = λ N. G N × T N in
     let four = walks_both (R begun) U e k outs (Up (R begun) k v) (λ c N. Up G k v c N × (Up H k v c N × ((a : A) → Up (Q a) k v c N))) d M holds three in
-    walks_to (λ N. R begun N × U N) (AreLocksSeen x R) e k outs (λ c N. Up (R begun) k v c N × (Up G k v c N × (Up H k v c N × ((a : A) → Up (Q a) k v c N)))) (Up (AreLocksSeen x R) k v) d M
-    (λ N z. (begun, z.1.0.1, z.0, (λ f agrees. let g = z.1.1.1 (f, agree_less f x begun M.sent N.sent z.1.1.0 agrees) agrees in (g.0, g.1, g.2)), z.1.0.0.1))
-    (λ c N z. (begun, z.1.0.1, z.0, (λ f agrees. let g = z.1.1.1 (f, agree_less f x begun M.sent N.sent z.1.1.0 agrees) agrees in (g.0, g.1, g.2)), z.1.0.0.1)) four
+    let O : Seen → Type 0 = IsOldOrNew M k v in
+    let W : Seen → Type 0 = λ N. R begun N × U N in
+    let five = walks_both O W e k outs (Up O k v) (λ c N. Up (R begun) k v c N × (Up G k v c N × (Up H k v c N × ((a : A) → Up (Q a) k v c N)))) d M (nodes_walk M k v e outs d M (λ j. refl)) four in
+    walks_to (λ N. O N × W N) (LocksSo V x R) e k outs (λ c N. Up O k v c N × (Up (R begun) k v c N × (Up G k v c N × (Up H k v c N × ((a : A) → Up (Q a) k v c N))))) (Up (LocksSo V x R) k v) d M
+    (λ N w. locked N w.0 w.1)
+    (λ c N w. locked (up k c v N) w.0 w.1) five
+  where
+    locked : (N : Seen) → IsOldOrNew M k v N → R begun N × (IsPathedOf begun N × (Within M.sent N.sent × ((a : (f : Fixed) × Agrees f x begun M.sent) → Agrees a.0 x begun N.sent → (S : State) × SeesLocks a.0 x begun S N × AreTied a.0 x N.lines S × Run (sees a.0 a.1).0 S))) → LocksSo V x R N
+    locked N nodes z = (
+      begun,
+      z.1.0.1,
+      z.0,
+      (λ f agrees.
+          let before = agree_less f x begun M.sent N.sent z.1.1.0 agrees in
+          let g = z.1.1.1 (f, before) agrees in
+          (g.0, g.1, g.2, (λ u. voted_at f x M k v N g.0 nodes ((sees f before).2 g.0 g.3 u)))),
+      z.1.0.0.1,
+    )
 
 some_is : {A : Type 0} {a b : A} → Some a ≡ Some b → a ≡ b
 some_is {A} {a} {b} is = let k : ◌≡◌ {A = Option A} (Some a) (Some b) = is in cc
@@ -181,11 +209,16 @@ handled_answer k d t from a (Reply.Voted r) = refl
 handled_answer k d t from a (Reply.Prepared r) = refl
 handled_answer k d t from a (Reply.Confirmed r) = refl
 
+-- an input about an action begins none
+not_begin : (i : Input) → is_act i ≡ true → (l : Label) (k : Kind) (parent : Option Label) → i ≢ input.Begin l k parent
+not_begin i act l k parent same = let bad : true ≡ false = sym act ∙ ap is_act same in cc bad
+
 -- ---- each handler
 
-module _ (hd : Header) (x : ℕ) (G : Seen → Type 0) (R : List Action → Seen → Type 0) (keeps : KeepsOf hd (λ begun M. G M) R) (gives : (f : Fixed) → GivesLocks hd f x (λ begun M. G M × R begun M)) where
+module _ (hd : Header) (x : ℕ) (G : Seen → Type 0) (R : List Action → Seen → Type 0) (keeps : KeepsOf hd (λ begun M. G M) R) (gives : (f : Fixed) → GivesLocks hd f x (λ begun M. G M × R begun M))
+    (V : Type 0) (used : (M : Seen) → G M → V → AllVotesAreUsed M) where
   abbrev Kept : Seen → Type 0
-  Kept N = AreLocksSeen x R N
+  Kept N = LocksSo V x R N
 
   -- what is seen, where what is fixed agrees
   seen_in : (f : Fixed) (M : Seen) (z : Kept M) (agrees : Agrees f x z.0 M.sent) → IsSeenIn (case_of f x z.0 (let g = z.3 f agrees in g.0)) M
@@ -198,19 +231,19 @@ module _ (hd : Header) (x : ℕ) (G : Seen → Type 0) (R : List Action → Seen
   quiet_kept : (e : ℕ) (bs : List _) (M : Seen) → AreQuiet bs → G M → Kept M → Kept (said e bs M)
   quiet_kept e bs M quiet more z =
       let r = quiet_pathed hd z.0 e bs M quiet (pathed_in M z) in
-      (z.0, r.1, keeps.quiet z.0 e bs M quiet more z.1.0 z.2, (λ f agrees. (let g = z.3 f agrees in (g.0, lines_stay (case_of f x z.0 g.0) e bs M g.1, quiets_stay (case_of f x z.0 g.0) e bs M quiet (seen_in f M z agrees)))), r.0.1)
+      (z.0, r.1, keeps.quiet z.0 e bs M quiet more z.1.0 z.2, (λ f agrees. (let g = z.3 f agrees in (g.0, lines_stay (case_of f x z.0 g.0) e bs M g.1, quiets_stay (case_of f x z.0 g.0) e bs M quiet (seen_in f M z agrees), g.3))), r.0.1)
 
   stop_kept : (e k : ℕ) (d : Disk) (live : Option Parts) (M : Seen) → G (at k d live M) → Kept (at k d live M) → Kept (halted e k d M)
   stop_kept e k d live M more z = let r = stop_pathed hd z.0 e k d live M (pathed_in (at k d live M) z) in (z.0, r.1, keeps.stop z.0 e k d live M more z.1.0 z.2, (λ f. by f live more z), r.0.1)
     where
-      by : (f : Fixed) (live : Option Parts) → G (at k d live M) → (z : Kept (at k d live M)) → Agrees f x z.0 M.sent → (S : State) × SeesLocks f x z.0 S (halted e k d M) × AreTied f x (let N = halted e k d M in N.lines) S
-      by f None more z agrees = (let g = z.3 f agrees in let h = down_stays (case_of f x z.0 g.0) e k d M (seen_in f (down k d M) z agrees) agrees in (h.0, h.1, h.2))
+      by : (f : Fixed) (live : Option Parts) → G (at k d live M) → (z : Kept (at k d live M)) → Agrees f x z.0 M.sent → (S : State) × SeesLocks f x z.0 S (halted e k d M) × AreTied f x (let N = halted e k d M in N.lines) S × (V → AreVotedAt f x S (halted e k d M))
+      by f None more z agrees = (let g = z.3 f agrees in let h = down_stays (case_of f x z.0 g.0) e k d M (seen_in f (down k d M) z agrees) agrees in (h.0, h.1, h.2, (λ u. halted_votes f x e k d None M g.0 h.0 h.3 (g.3 u))))
       by f (Some t) more z agrees =
           let g = z.3 f agrees in
           let s : Spot = record { node = k; disk = d; parts = t; seen = M } in
           let seen = seen_in f (world_at s) z agrees in
           let h = stops_go (case_of f x z.0 g.0) s e seen ((gives f).holds z.0 g.0 s (more, z.2) seen) agrees in
-          (h.0, h.1, h.2)
+          (h.0, h.1, h.2, (λ u. halted_votes f x e k d (Some t) M g.0 h.0 h.3 (g.3 u)))
 
   -- ---- a message
 
@@ -263,11 +296,45 @@ module _ (hd : Header) (x : ℕ) (G : Seen → Type 0) (R : List Action → Seen
         by true is = (let q = its.parts begun S s from m v outs (more, z.2) seen come is in messages_go c s e from m v outs seen q.0 q.1 come.sent is come.meant come.takes)
         by false is = coordinator_goes m v outs come is (coordinated m) refl
 
+    -- votes behind it
+    pub message_votes : (m : Message) (v : Parts) (outs : List Effect) → HasCome s from m v outs → (T : State) → Run S T → V → HaveVotes f x s.seen s.node v.coord T
+    message_votes m v outs come T run u = (had.0, by (is_for_parts m) refl)
+      where
+        had : HaveVotes f x s.seen s.node (coord_at s) T
+        had = had_votes f x s.node s.disk s.parts s.seen S T run ((let g = z.3 f agrees in g.3) u)
+
+        coordinator : (o : Option (Uid × Bool)) → coordinated m ≡ o → is_for_parts m ≡ false → AreVoted f.act f.code x v.coord T
+        coordinator None none off = hears (answers m) refl (is_answer m none off)
+          where
+            hears : (o : Option (Asked × Reply)) → answers m ≡ o → is_some o ≡ true → AreVoted f.act f.code x v.coord T
+            hears None of some = absurd (cc some)
+            hears (Some a) of some =
+                let n = subst (λ (w : Message). HasCome s from w v outs) (response_is m a of) come in
+                let r = heard from a.0 a.1 (let d = s.disk in d.intents) (coord_at s) in
+                let q = took_heard s.parts v r outs (sym (handled_answer s.node s.disk s.parts from a.0 a.1) ∙ n.takes) in
+                subst (λ (w : Parts). AreVoted f.act f.code x w.coord T) q.0
+                (heard_is_voted f.act f.code x from a.0 a.1 (let d = s.disk in d.intents) (coord_at s) T
+                (λ d k found is waits. votes_shown c s e from a.0 a.1 seen (its.holds begun S s (more, z.2) seen) (its.heard begun S s from m a v outs (more, z.2) seen come of) n.sent (used (world_at s) more u s.node (record { number = s.node; disk = s.disk; live = Some s.parts }) s.parts (node_here f x [] s.node s.disk (Some s.parts) s.seen) refl) T run d found k is waits)
+                had.1)
+        coordinator (Some (w, true)) of off =
+            let n = subst (λ (y : Message). HasCome s from y v outs) (is_acked m w of) come in
+            let q = took_heard s.parts v (acked from w (let d = s.disk in d.intents) (coord_at s)) outs n.takes in
+            subst (λ (y : Parts). AreVoted f.act f.code x y.coord T) q.0 ((others_are_voted f.act f.code x (coord_at s) T had.1).1 from w (let d = s.disk in d.intents))
+        coordinator (Some (w, false)) of off =
+            let n = subst (λ (y : Message). HasCome s from y v outs) (is_query m w of) come in
+            let taken : Took s.parts (answer_query from w (let d = s.disk in d.intents) (coord_at s)) ≡ Took v outs = n.takes in
+            let same : s.parts ≡ v = cc taken in
+            subst (λ (y : Parts). AreVoted f.act f.code x y.coord T) same had.1
+
+        by : (b : Bool) → is_for_parts m ≡ b → AreVoted f.act f.code x v.coord T
+        by true mine = let l = (subst (Leaves s.parts from (asks m)) come.takes (message_left s.node s.disk s.parts from m mine)).0 in subst (λ (q : Coord). AreVoted f.act f.code x q T) (sym l.coord) had.1
+        by false mine = coordinator (coordinated m) refl mine
+
   kept_message : (e k : ℕ) (d : Disk) (t v : Parts) (from : ℕ) (m : Message) (outs : List Effect) (M : Seen) → G (up k d t M) → Kept (up k d t M) → In (record { from = from; to = k; message = m }) M.sent → is_meant t m ≡ true → handle k d t from m ≡ Took v outs → Walks Kept e k outs (Up Kept k v) d M
   kept_message e k d t v from m outs M more z there meant is =
       let s : Spot = record { node = k; disk = d; parts = t; seen = M } in
-      kept_walk x R z.0 e k outs v d M (keeps.message z.0 e k d t v from m outs M more z.1.0 z.2 there meant is) (message_pathed hd z.0 e k d t v from m outs M (pathed_in (up k d t M) z) there meant is)
-      (λ f agrees. ((let g = z.3 f agrees in g.0), message_goes f e s from more z agrees m v outs (record { sent = there; meant = meant; takes = is })))
+      kept_walk V x R z.0 e k outs v d M (keeps.message z.0 e k d t v from m outs M more z.1.0 z.2 there meant is) (message_pathed hd z.0 e k d t v from m outs M (pathed_in (up k d t M) z) there meant is)
+      (λ f agrees. ((let g = z.3 f agrees in g.0), message_goes f e s from more z agrees m v outs (record { sent = there; meant = meant; takes = is }), message_votes f e s from more z agrees m v outs (record { sent = there; meant = meant; takes = is })))
 
   -- ---- the others
 
@@ -291,8 +358,8 @@ module _ (hd : Header) (x : ℕ) (G : Seen → Type 0) (R : List Action → Seen
   kept_act e k d t i M is none more z =
       let D = acts i d.intents t.coord in
       let s : Spot = record { node = k; disk = d; parts = t; seen = M } in
-      kept_walk x R z.0 e k D.outs (with_coord t D.part) d M (keeps.act z.0 e k d t i M is none more z.1.0 z.2) (act_pathed hd z.0 e k d t i M is none (pathed_in (up k d t M) z))
-      (λ f agrees. ((let g = z.3 f agrees in g.0), input_goes f e s more z agrees i is none))
+      kept_walk V x R z.0 e k D.outs (with_coord t D.part) d M (keeps.act z.0 e k d t i M is none more z.1.0 z.2) (act_pathed hd z.0 e k d t i M is none (pathed_in (up k d t M) z))
+      (λ f agrees. ((let g = z.3 f agrees in g.0), input_goes f e s more z agrees i is none, (λ T run u. let h = had_votes f x k d t M (let g = z.3 f agrees in g.0) T run ((let g = z.3 f agrees in g.3) u) in (h.0, acts_are_voted f.act f.code x i d.intents t.coord T (not_begin i is) h.1))))
 
   -- an action that isn't refused may stand where it begins
   module _ (f : Fixed) (e : ℕ) (s : Spot) (l : Label) (how : Kind) (parent : Option Label) (z : Kept (world_at s)) (older : Agrees f x z.0 (let M = s.seen in M.sent))
@@ -349,26 +416,64 @@ module _ (hd : Header) (x : ℕ) (G : Seen → Type 0) (R : List Action → Seen
       let s : Spot = record { node = k; disk = d; parts = t; seen = M } in
       let N = given l (record { node = k; serial = is_serial_kind how }) M in
       let a : Action = begins_in how parent t in
-      kept_walk x R (a ∷ z.0) e k D.outs (with_coord t D.part) d N (keeps.begin z.0 e k d t l how parent M new may none more z.1.0 z.2) (begin_pathed hd z.0 e k d t l how parent M new may none (pathed_in (up k d t M) z))
-      (λ f agrees. let older = agree_older f x a z.0 M.sent agrees in ((let g = z.3 f older in g.0), begins_go (case_of f x z.0 (let g = z.3 f older in g.0)) s e l (record { node = k; serial = is_serial_kind how }) how parent (parent_of parent t.coord) (seen_in f (world_at s) z older) (let w = agrees.whole in w.begun.0) (may_stand f e s l how parent z older new may none agrees) ((gives f).begin z.0 (let g = z.3 f older in g.0) s (more, z.2) (seen_in f (world_at s) z older))))
+      kept_walk V x R (a ∷ z.0) e k D.outs (with_coord t D.part) d N (keeps.begin z.0 e k d t l how parent M new may none more z.1.0 z.2) (begin_pathed hd z.0 e k d t l how parent M new may none (pathed_in (up k d t M) z))
+      (λ f agrees. let older = agree_older f x a z.0 M.sent agrees in ((let g = z.3 f older in g.0), begins_go (case_of f x z.0 (let g = z.3 f older in g.0)) s e l (record { node = k; serial = is_serial_kind how }) how parent (parent_of parent t.coord) (seen_in f (world_at s) z older) (let w = agrees.whole in w.begun.0) (may_stand f e s l how parent z older new may none agrees) ((gives f).begin z.0 (let g = z.3 f older in g.0) s (more, z.2) (seen_in f (world_at s) z older)), (λ T run u. let h = had_votes f x k d t M (let g = z.3 f older in g.0) T run ((let g = z.3 f older in g.3) u) in (h.0, (others_are_voted f.act f.code x t.coord T h.1).0 l how parent))))
 
   kept_tick : (e k : ℕ) (d : Disk) (t : Parts) (M : Seen) → G (up k d t M) → Kept (up k d t M)
       → Walks Kept e k (tick_outs (record { number = k; disk = d; live = Some t }) t) (Up Kept k (with_coord t (let q = again_all t.coord.doings t.coord in q.part))) d M
   kept_tick e k d t M more z =
       let s : Spot = record { node = k; disk = d; parts = t; seen = M } in
-      kept_walk x R z.0 e k (tick_outs (record { number = k; disk = d; live = Some t }) t) (with_coord t (let q = again_all t.coord.doings t.coord in q.part)) d M (keeps.tick z.0 e k d t M more z.1.0 z.2) (tick_pathed hd z.0 e k d t M (pathed_in (up k d t M) z))
-      (λ f agrees. let g = z.3 f agrees in let seen = seen_in f (world_at s) z agrees in let q = (gives f).tick z.0 g.0 s (more, z.2) seen in (g.0, ticks_go (case_of f x z.0 g.0) s e seen q.0 q.1 q.2))
+      kept_walk V x R z.0 e k (tick_outs (record { number = k; disk = d; live = Some t }) t) (with_coord t (let q = again_all t.coord.doings t.coord in q.part)) d M (keeps.tick z.0 e k d t M more z.1.0 z.2) (tick_pathed hd z.0 e k d t M (pathed_in (up k d t M) z))
+      (λ f agrees. let g = z.3 f agrees in let seen = seen_in f (world_at s) z agrees in let q = (gives f).tick z.0 g.0 s (more, z.2) seen in (g.0, ticks_go (case_of f x z.0 g.0) s e seen q.0 q.1 q.2, (λ T run u. let h = had_votes f x k d t M g.0 T run (g.3 u) in (h.0, (others_are_voted f.act f.code x t.coord T h.1).2 t.coord.doings))))
 
   kept_restart : (e k : ℕ) (d : Disk) (M : Seen) → G (down k d M) → Kept (down k d M) → Walks Kept e k (restart_outs hd k (d.inc + 1) d) (Up Kept k (parts_in k (d.inc + 1) d)) d M
   kept_restart e k d M more z =
-      kept_walk x R z.0 e k (restart_outs hd k (d.inc + 1) d) (parts_in k (d.inc + 1) d) d M (keeps.restart z.0 e k d M more z.1.0 z.2) (restart_pathed hd z.0 e k d M (pathed_in (down k d M) z))
-      (λ f agrees. let g = z.3 f agrees in let seen = seen_in f (down k d M) z agrees in (g.0, restarts_go hd (case_of f x z.0 g.0) e k d M seen ((gives f).restart z.0 g.0 k d M (more, z.2) seen)))
+      kept_walk V x R z.0 e k (restart_outs hd k (d.inc + 1) d) (parts_in k (d.inc + 1) d) d M (keeps.restart z.0 e k d M more z.1.0 z.2) (restart_pathed hd z.0 e k d M (pathed_in (down k d M) z))
+      (λ f agrees. let g = z.3 f agrees in let seen = seen_in f (down k d M) z agrees in (g.0, restarts_go hd (case_of f x z.0 g.0) e k d M seen ((gives f).restart z.0 g.0 k d M (more, z.2) seen), (λ T run u. new_votes f x k d M (d.inc + 1) d.intents g.0 T run (g.3 u))))
 
   first_kept : Kept (see [] (format hd))
-  first_kept = let r = first_pathed hd in ([], r.1, keeps.first, (λ f agrees. first_goes hd f x (gives f).first), r.0.1)
+  first_kept = let r = first_pathed hd in ([], r.1, keeps.first, (λ f agrees. let g = first_goes hd f x (gives f).first in (g.0, g.1, g.2, (λ u. first_votes hd f x g.0))), r.0.1)
 
+  pub so_given : KeepsGiven hd G (LocksSo V x R)
+  so_given = record { quiet = quiet_kept; stop = stop_kept; message = kept_message; act = kept_act; begin = kept_begin; tick = kept_tick; restart = kept_restart; first = first_kept }
+
+-- ---- with votes or without
+
+-- as much as another relation
+given_as : (hd : Header) (G P Q : Seen → Type 0) → ((M : Seen) → P M → Q M) → ((M : Seen) → Q M → P M) → KeepsGiven hd G P → KeepsGiven hd G Q
+given_as hd G P Q to back one = record {
+  quiet = λ e bs M quiet g q. to (said e bs M) (one.quiet e bs M quiet g (back M q));
+  stop = λ e k d live M g q. to (halted e k d M) (one.stop e k d live M g (back (at k d live M) q));
+  message = λ e k d t v from m outs M g q there meant is. likewise e k outs v d M (one.message e k d t v from m outs M g (back (up k d t M) q) there meant is);
+  act = λ e k d t i M is none g q. let D = acts i d.intents t.coord in likewise e k D.outs (with_coord t D.part) d M (one.act e k d t i M is none g (back (up k d t M) q));
+  begin = λ e k d t l how parent M new may none g q. let D = begin_action l how parent (parent_of parent t.coord) t.coord in
+      likewise e k D.outs (with_coord t D.part) d (given l (record { node = k; serial = is_serial_kind how }) M) (one.begin e k d t l how parent M new may none g (back (up k d t M) q));
+  tick = λ e k d t M g q. likewise e k (tick_outs (record { number = k; disk = d; live = Some t }) t) (with_coord t (let z = again_all t.coord.doings t.coord in z.part)) d M (one.tick e k d t M g (back (up k d t M) q));
+  restart = λ e k d M g q. likewise e k (restart_outs hd k (d.inc + 1) d) (parts_in k (d.inc + 1) d) d M (one.restart e k d M g (back (down k d M) q));
+  first = to (see [] (format hd)) one.first;
+}
+  where
+    likewise : (e k : ℕ) (outs : List Effect) (v : Parts) (d : Disk) (M : Seen) → Walks P e k outs (Up P k v) d M → Walks Q e k outs (Up Q k v) d M
+    likewise e k outs v d M w = walks_to P Q e k outs (Up P k v) (Up Q k v) d M to (λ c N p. to (up k c v N) p) w
+
+module _ (hd : Header) (x : ℕ) (G : Seen → Type 0) (R : List Action → Seen → Type 0) (keeps : KeepsOf hd (λ begun M. G M) R) (gives : (f : Fixed) → GivesLocks hd f x (λ begun M. G M × R begun M)) where
   pub locks_given : KeepsGiven hd G (AreLocksSeen x R)
-  locks_given = record { quiet = quiet_kept; stop = stop_kept; message = kept_message; act = kept_act; begin = kept_begin; tick = kept_tick; restart = kept_restart; first = first_kept }
+  locks_given = given_as hd G (LocksSo ⊥ x R) (AreLocksSeen x R)
+      (λ M z. (z.0, z.1, z.2, (λ f agrees. let g = z.3 f agrees in (g.0, g.1, g.2)), z.4))
+      (λ M z. (z.0, z.1, z.2, (λ f agrees. let g = z.3 f agrees in (g.0, g.1, g.2, (λ never. absurd never))), z.4))
+      (so_given hd x G R keeps gives ⊥ (λ M g never. absurd never))
+
+  pub votes_given : ((M : Seen) → G M → AllVotesAreUsed M) → KeepsGiven hd G (AreLocksVoted x R)
+  votes_given used = given_as hd G (LocksSo ⊤ x R) (AreLocksVoted x R)
+      (λ M z. (z.0, z.1, z.2, (λ f agrees. let g = z.3 f agrees in (g.0, g.1, g.2, g.3 tt)), z.4))
+      (λ M z. (z.0, z.1, z.2, (λ f agrees. let g = z.3 f agrees in (g.0, g.1, g.2, (λ u. g.3))), z.4))
+      (so_given hd x G R keeps gives ⊤ (λ M g u. used M g))
+
+pub votes_are_kept : VotesAreKept
+votes_are_kept hd x before test keeps gives used everywhere = kept_both hd (λ M. before M ≡ true) (AreLocksVoted x (λ begun N. test begun N ≡ true)) everywhere (votes_given hd x (λ M. before M ≡ true) (λ begun M. test begun M ≡ true) keeps gives used)
+
+pub runs_keep_votes : RunsKeepVotes
+runs_keep_votes hd x before test keeps gives used everywhere es = runs_hold hd (λ M. (before M ≡ true) × AreLocksVoted x (λ begun N. test begun N ≡ true) M) (votes_are_kept hd x before test keeps gives used everywhere) es
 
 pub locks_are_kept : LocksAreKept
 locks_are_kept hd x before test keeps gives everywhere = kept_both hd (λ M. before M ≡ true) (AreLocksSeen x (λ begun N. test begun N ≡ true)) everywhere (locks_given hd x (λ M. before M ≡ true) (λ begun M. test begun M ≡ true) keeps gives)

@@ -31,4 +31,5 @@ pub mod WorkSteps
 pub mod InputGoes
 pub mod ShownAnswers
 pub mod AnswerGoes
+pub mod VoteSteps
 pub mod KeptSteps

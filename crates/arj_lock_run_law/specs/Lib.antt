@@ -7,5 +7,6 @@ pub mod World
 pub mod Coordinating
 pub mod Asking
 pub mod Kept
+pub mod Votes
 pub mod Inputs
 pub mod Answers

@@ -8,7 +8,8 @@
 //! `messages_go_in_the_world`, `stops_go_in_the_world`, `restarts_go_in_the_world`, and of coordinators `coordinators_go_in_the_world`,
 //! `begins_go_in_the_world`, `ends_go_in_the_world`, `calls_go_in_the_world`, `commits_go_in_the_world`, all inputs together in
 //! `inputs_go_in_the_world`, all answers in `answers_go_in_the_world`, `ticks_go_in_the_world`, `queries_go_in_the_world` and
-//! `acks_go_in_the_world`; and of whole runs, with what `specs/Kept.antt` names, `runs_keep_the_lock_half`.
+//! `acks_go_in_the_world`; and of whole runs, with what `specs/Kept.antt` names, `runs_keep_the_lock_half`
+//! and `runs_keep_votes` (`specs/Votes.antt`).
 #![tactic(auto)]
 
 mod asking;
@@ -22,7 +23,7 @@ pub use coord::{
     commits_go_in_the_world, coordinators_go_in_the_world, ends_go_in_the_world,
     inputs_go_in_the_world,
 };
-pub use runs::runs_keep_the_lock_half;
+pub use runs::{runs_keep_the_lock_half, runs_keep_votes};
 pub use world::{
     messages_go_in_the_world, posts_stay_shown, restarts_go_in_the_world, stops_go_in_the_world,
 };

@@ -26,7 +26,7 @@ use Rattle.arj_lock_view_law.specs.Telling.{AreOneTree}
 use Rattle.arj_lock_view_law.proofs.FamilySteps.{families_are_trees}
 use Rattle.arj_view_law.specs.Seen.{Seen}
 use Rattle.arj_serial_law.specs.Codes.{code_of}
-use Rattle.arj_serial_law.specs.Seen.{GivenRunsAreSerial, KnowsRequests, LockedRunsAreSerial}
+use Rattle.arj_serial_law.specs.Seen.{GivenRunsAreSerial, RequestsAreOne, LockedRunsAreSerial}
 use Rattle.arj_serial_law.specs.Tied.{IsTied}
 use Rattle.arj_serial_law.proofs.Begun.{begun_have_places}
 use Rattle.arj_serial_law.proofs.Codes.{codes_are_apart}
@@ -35,7 +35,7 @@ use Rattle.arj_serial_law.proofs.Ties.{Ties, ties_of}
 use Rattle.arj_serial_law.proofs.Values.{are_answered}
 
 -- in places and codes of its own
-module _ (values : Values) (x : ℕ) (M : Seen) (begun : List Action) (alike : IsAlikeOf begun M) (seen : (f : Fixed) → Agrees f x begun M.sent → (S : State) × SeesLocks f x begun S M × AreTiedNow f x M.lines S) (knows : KnowsRequests M) where
+module _ (values : Values) (x : ℕ) (M : Seen) (begun : List Action) (alike : IsAlikeOf begun M) (seen : (f : Fixed) → Agrees f x begun M.sent → (S : State) × SeesLocks f x begun S M × AreTiedNow f x M.lines S) (knows : RequestsAreOne M) where
   right : AreRight new_book M.lines
   right = let w = alike.2 in w.right
 

@@ -28,14 +28,14 @@ abbrev pub IsCalled : ℕ → List Line → Type 0
 IsCalled x lines = list_any (λ (s : Placed Said). s.it.x == x) (said lines) ≡ true
 
 -- calls of one request are one, and have numbers from 1 on
-pub record KnowsRequests (M : Seen) : Type 0 where
+pub record RequestsAreOne (M : Seen) : Type 0 where
   pub one : AreOneCall M.sent
   pub numbered : (p : Post) → In p M.sent → (h : Head) (a : Ask) → asks (let q = p in q.message) ≡ Some (h, a) → IsFromOne h a
 
 -- The actions that were begun are those of the journal, and for all that may be fixed and agrees with them the object is seen in a state of
 -- its lock machine, to which the journal is tied.
 abbrev pub IsLocked : ℕ → Seen → Type 0
-IsLocked x M = (begun : List Action) × IsAlikeOf begun M × ((f : Fixed) → Agrees f x begun M.sent → (S : State) × SeesLocks f x begun S M × AreTied f x M.lines S) × KnowsRequests M
+IsLocked x M = (begun : List Action) × IsAlikeOf begun M × ((f : Fixed) → Agrees f x begun M.sent → (S : State) × SeesLocks f x begun S M × AreTied f x M.lines S) × RequestsAreOne M
 
 -- so it is at the end of this run, of each object of which a call was answered
 abbrev pub AreLocked : Header → List Asked → Type 0
@@ -56,4 +56,4 @@ IsGiven hd x before test = KeepsOf hd (λ begun M. before M ≡ true) (λ begun 
 -- Where there is one for each object of which a call was answered, and what holds everywhere knows requests, the run is serial.
 abbrev pub GivenRunsAreSerial : Type 0
 GivenRunsAreSerial = (hd : Header) (es : List Asked) (before : Seen → Bool) (test : ℕ → List Action → Seen → Bool)
-    → Keeps hd (λ M. before M ≡ true) → ((M : Seen) → before M ≡ true → KnowsRequests M) → ((x : ℕ) → IsCalled x (journal hd es) → IsGiven hd x before (test x)) → IsSerialRun hd es
+    → Keeps hd (λ M. before M ≡ true) → ((M : Seen) → before M ≡ true → RequestsAreOne M) → ((x : ℕ) → IsCalled x (journal hd es) → IsGiven hd x before (test x)) → IsSerialRun hd es
