@@ -36,7 +36,7 @@ use Rattle.arj_disk_view_law.proofs.Frames.{node_here}
 use Rattle.arj_disk_view_law.proofs.Keys as keys
 use Rattle.arj_disk_run_law.specs.Kinds.{Agrees, is_top_kind}
 use Rattle.arj_disk_run_law.specs.Places.{AreEntryRows, AreNamesRows, ArePlaced, IsBegun, IsEntryRow, IsPlacedUp}
-use Rattle.arj_disk_run_law.specs.Records.{AreRecorded, HaveRecords, IsRecorded}
+use Rattle.arj_disk_run_law.specs.Records.{AreRecorded, IsRecorded}
 use Rattle.arj_disk_run_law.specs.Sound.{AreSound, IsSound, IsSoundNow, unvoted}
 use Rattle.arj_disk_run_law.proofs.SoundCoords.{root_own, said_from}
 use Rattle.arj_disk_run_law.proofs.SoundPlans.{one_change, plan_tidy}
@@ -64,7 +64,7 @@ at_in {X} u x (e ∷ es) is = ⊎_elim
     (uid_cases u e.0)
 
 -- each of what is told again has its record
-all_told : (intents telling : List (Uid × Intent)) → HaveRecords intents telling → AllByRecursion (λ (e : Uid × Intent). (i : Intent) × (at_uid e.0 intents ≡ Some i)) telling
+all_told : (intents telling : List (Uid × Intent)) → ((u : Uid) (j : Intent) → at_uid u telling ≡ Some j → (i : Intent) × (at_uid u intents ≡ Some i)) → AllByRecursion (λ (e : Uid × Intent). (i : Intent) × (at_uid e.0 intents ≡ Some i)) telling
 all_told intents [] held = tt
 all_told intents (e ∷ es) held = (held e.0 e.1 (keys.at_here e.0 e.1 es), all_told intents es (λ u j is. ⊎_elim (λ (same : u ≡ e.0). held u e.1 (ap (λ w. at_uid w (e ∷ es)) same ∙ keys.at_here e.0 e.1 es)) (λ (other : u ≢ e.0). held u j (keys.at_there u e.0 e.1 es other ∙ is)) (uid_cases u e.0)))
 
@@ -242,8 +242,8 @@ module _ (tops : Kinds) (acts : List Action) (k : ℕ) (d : Disk) (t : Parts) (M
   mine_recorded : IsRecorded acts (record { number = k; disk = d; live = Some t })
   mine_recorded = recs k (record { number = k; disk = d; live = Some t }) (node_here M k (record { number = k; disk = d; live = Some t }))
 
-  awaited : HaveRecords d.intents t.coord.telling
-  awaited = (mine_recorded.live t refl).0
+  awaited : (u : Uid) (j : Intent) → at_uid u t.coord.telling ≡ Some j → (i : Intent) × (at_uid u d.intents ≡ Some i)
+  awaited = let h = (mine_recorded.live t refl).0 in h.told
 
   rooted : (u : Uid) (i : Intent) → at_uid u d.intents ≡ Some i → tops.is_top (uid_number u) ≡ true → tops.root (uid_number u) ≡ uid_number i.root
   rooted u i is top = let r = (let q = mine_recorded.disk in q.each u i is) in ap (λ w. tops.root (uid_number w)) (sym r.2) ∙ (agree.each r.0 r.1).1 (ap (λ w. tops.is_top (uid_number w)) r.2 ∙ top) ∙ ap uid_number r.3

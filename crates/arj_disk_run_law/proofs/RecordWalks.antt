@@ -45,7 +45,7 @@ rooted_more : (a : Action) (acts : List Action) (u : Uid) (i : Intent) → IsRoo
 rooted_more a acts u i r = (r.0, in_to r.0 (a ∷ acts) (inr (in_from r.0 acts r.1)), r.2, r.3)
 
 pub recorded_more : (a : Action) (acts : List Action) (M : Seen) → AreRecorded acts M → AreRecorded (a ∷ acts) M
-recorded_more a acts M r k n is = let x = r k n is in let d = x.disk in record { disk = record { sorted = d.sorted; each = λ u i at. rooted_more a acts u i (d.each u i at) }; live = x.live }
+recorded_more a acts M r k n is = let x = r k n is in let d = x.disk in record { disk = record { sorted = d.sorted; each = λ u i at. rooted_more a acts u i (d.each u i at); listed = d.listed }; live = x.live }
 
 module _ (acts : List Action) where
   rooted_worked : (w : Work) (d : Disk) → WritesRooted acts (Do w) → AreRooted acts d.intents → AreRooted acts (worked w d).intents
@@ -59,9 +59,10 @@ module _ (acts : List Action) where
   rooted_worked (Abort role.Names u) d its r = r
   rooted_worked (PutIntent u i) d its r = record {
     sorted = keys.sorted_put u i d.intents r.sorted;
-    each = λ w j is. ⊎_elim (λ same. subst (λ z. IsRooted acts z j) (sym same.0) (subst (IsRooted acts u) same.1 its)) (λ other. r.each w j other.1) (keys.put_cases w u i j d.intents is);
+    each = λ w j is. ⊎_elim (λ same. subst (λ z. IsRooted acts z j) (sym same.0) (subst (IsRooted acts u) same.1 its.0)) (λ other. r.each w j other.1) (keys.put_cases w u i j d.intents is);
+    listed = λ w j is. ⊎_elim (λ same none. its.1 (ap (λ (x : Intent). x.nodes) same.1 ∙ none)) (λ other. r.listed w j other.1) (keys.put_cases w u i j d.intents is);
   }
-  rooted_worked (RemoveIntent u) d its r = record { sorted = keys.sorted_without u d.intents r.sorted; each = λ w j is. r.each w j (keys.without_cases w u j d.intents r.sorted is).1 }
+  rooted_worked (RemoveIntent u) d its r = record { sorted = keys.sorted_without u d.intents r.sorted; each = λ w j is. r.each w j (keys.without_cases w u j d.intents r.sorted is).1; listed = λ w j is. r.listed w j (keys.without_cases w u j d.intents r.sorted is).1 }
 
   rooted_part : (which : Uid → Bool) (w : Work) (d : Disk) → AreRooted acts d.intents → AreRooted acts (in_part which w d).intents
   rooted_part which Look d r = r
@@ -131,7 +132,7 @@ module _ (acts : List Action) where
   kept_walk e k d t v outs M keeps all =
       let m = mine_of k d (Some t) M all in
       let l = m.live t refl in
-      let r = keeps l.1 d.intents l.0 in
+      let r = keeps l.1 d.intents (let q = m.disk in q.sorted) l.0 in
       records_walk e k v r.0 outs d M (others_of k d (Some t) M all) m.disk r.1
 
   -- ---- messages
@@ -300,12 +301,12 @@ module _ (acts : List Action) where
       let m = mine_of k d None M all in
       let r = m.disk in
       records_walk e k (parts_in k (d.inc + 1) d) r.sorted (restart_outs hd k (d.inc + 1) d) d M (others_of k d None M all) r
-      (subst (λ es. LeavesRecords acts d.intents es d.intents) (append-nil (restart_outs hd k (d.inc + 1) d)) (leaves_behind acts d.intents (restart_outs hd k (d.inc + 1) d) [] d.intents (restart_plain hd k d) (λ u j is. (j, is))))
+      (subst (λ es. LeavesRecords acts d.intents es d.intents) (append-nil (restart_outs hd k (d.inc + 1) d)) (leaves_behind acts d.intents (restart_outs hd k (d.inc + 1) d) [] d.intents (restart_plain hd k d) (record { told = λ u j is. (j, is); again = λ u j is. (j, is); awaited = r.listed })))
 
 first_recorded : (hd : Header) (k : ℕ) → IsRecorded [] (first_node hd k)
 first_recorded hd k = record {
-  disk = record { sorted = tt; each = λ u i is. absurd (cc is) };
-  live = λ t is. let same : parts_in k 1 (first_disk hd k) ≡ t = some_is refl is in subst (λ (q : Parts). HaveRecords [] q.coord.telling × AreSorted q.coord.telling) same ((λ u j at. absurd (cc at)), tt);
+  disk = record { sorted = tt; each = λ u i is. absurd (cc is); listed = λ u i is. absurd (cc is) };
+  live = λ t is. let same : parts_in k 1 (first_disk hd k) ≡ t = some_is refl is in subst (λ (q : Parts). HaveRecords [] q.coord.telling × AreSorted q.coord.telling) same (record { told = λ u j at. absurd (cc at); again = λ u j at. absurd (cc at); awaited = λ u j at. absurd (cc at) }, tt);
 }
 
 pub format_recorded : (hd : Header) → AreRecorded [] (see [] (format hd))

@@ -1,6 +1,10 @@
 -- What a coordinator tells again has its record, after each thing that it does.
 use Rattle.std.proofs.Common.{◌≡◌, ◌≢◌, ℕ, List, [], ◌∷◌, ◌++◌, Bool, true, false, cond, Option, Some, None, refl, sym, ◌∙◌, ap, subst, ⊎_elim, append-nil, map}
-use Rattle.std.specs.Prelude.{if◌then◌else◌, is_some}
+use Rattle.std.specs.Prelude.{◌&&◌, ◌||◌, if◌then◌else◌, is_some, not}
+use Rattle.std.specs.Ordering.{match_ordering, nat_cmp}
+use Rattle.std.specs.declared.cmp.Ordering.{Ordering}
+use Rattle.std.specs.declared.cmp.Ordering.TheVariants.{Less, Equal, Greater}
+use Rattle.arj_base.proofs.Uids.{uid_cases}
 use Rattle.std.specs.List.{flat_map}
 use Rattle.arj_protocol.specs.Words.{Uid, End, Kind, Label, Body, Asked, Header}
 use Rattle.arj_protocol.specs.Words.ending
@@ -11,12 +15,12 @@ use Rattle.arj_protocol.specs.Ask.{Reply, actor}
 use Rattle.arj_protocol.specs.Asking.{call, call_steps, renewed, next_req, include, step_call, root_moved, kept_at, heard_call, commits_in, step_commit, moved_commit, mark_lines, gaveup_lines, commit_top, commit_open, commit_action, last_req, heard_now, heard_doing, heard, heard_by, heard_none, waits_for_call, waits_for_commit, root_lost, gives_up, give_up_doing, give_up, again_now, again_all}
 use Rattle.arj_protocol.specs.Call.{Steps, Moved, answered, given_up, next_node, start}
 use Rattle.arj_protocol.specs.Call as calls
-use Rattle.arj_protocol.specs.Commit.{Plan, Machine, CommitStep, Stays, Asks, Decides, Aborts, nodes_given_up, plan_of, servers_of, participants, has_record}
+use Rattle.arj_protocol.specs.Commit.{Plan, Machine, CommitStep, Stays, Asks, Decides, Aborts, nodes_given_up, plan_of, servers_of, naming_node, participants, has_record}
 use Rattle.arj_protocol.specs.Commit as commit
 use Rattle.arj_protocol.specs.Coord.{Coord, Doing, Now, Idle, Calling, Committing, doing_of, on_doing, on_root, root_at, plan_for, keeping_of, with_keeping, is_free}
 use Rattle.arj_protocol.specs.Effect.{Did, Effect, Served, Do, Intent, PutIntent}
 use Rattle.arj_protocol.specs.Ending.{ended, ends_with, aborts_with, all_aborted, abort_action, decide, decided_told, acked, acked_by, acked_left, root_after, says, tolds_let_go, tolds_of}
-use Rattle.arj_protocol.specs.Order.{at_uid, put_uid, without_uid, has, without_number, unbound}
+use Rattle.arj_protocol.specs.Order.{at_uid, put_uid, without_uid, has, number_set, with_number, without_number, unbound}
 use Rattle.arj_protocol.specs.Step.{Input, acts, branch_named, on_branch, refusal_up, refused_by, commit_reasons}
 use Rattle.arj_protocol.specs.Step as input
 use Rattle.arj_protocol.specs.Tree.{Branch, branch_of, root_of, open_below, uses_object, has_open_child}
@@ -33,28 +37,67 @@ use Rattle.arj_disk_run_law.proofs.Plain.{Plain, leaves_behind, plain_aborted, p
 
 -- What a coordinator makes of its records: of whatever records suit what it tells again, those after its effects do again.
 abbrev pub Keeps : List Action → Coord → Coord → List Effect → Type 0
-Keeps actions c e outs = AreSorted c.telling → (intents : List (Uid × Intent)) → HaveRecords intents c.telling → AreSorted e.telling × LeavesRecords actions e.telling outs intents
+Keeps actions c e outs = AreSorted c.telling → (intents : List (Uid × Intent)) → AreSorted intents → HaveRecords intents c.telling → AreSorted e.telling × LeavesRecords actions e.telling outs intents
 
 module _ (actions : List Action) where
   -- nothing of it changes
   pub same_kept : (c e : Coord) (outs : List Effect) → e.telling ≡ c.telling → Plain outs → Keeps actions c e outs
-  same_kept c e outs same plain sorted intents held = (
+  same_kept c e outs same plain sorted intents order held = (
     subst AreSorted (sym same) sorted,
     subst (λ es. LeavesRecords actions e.telling es intents) (append-nil outs) (leaves_behind actions e.telling outs [] intents plain (subst (λ t. HaveRecords intents t) (sym same) held)),
   )
 
   -- lines before
   lines_kept : (c e : Coord) (lines outs : List Effect) → Plain lines → Keeps actions c e outs → Keeps actions c e (lines ++ outs)
-  lines_kept c e lines outs plain keeps sorted intents held = let r = keeps sorted intents held in (r.0, leaves_behind actions e.telling lines outs intents plain r.1)
+  lines_kept c e lines outs plain keeps sorted intents order held = let r = keeps sorted intents order held in (r.0, leaves_behind actions e.telling lines outs intents plain r.1)
 
   -- a record is written, and told again
-  put_held : (u : Uid) (i : Intent) (intents telling : List (Uid × Intent)) → HaveRecords intents telling → HaveRecords (put_uid u i intents) (put_uid u i telling)
-  put_held u i intents telling held w j is = ⊎_elim (λ same. (i, ap (λ z. at_uid z (put_uid u i intents)) same.0 ∙ keys.put_same u i intents))
-      (λ other. let r = held w j other.1 in (r.0, keys.put_other w u i intents other.0 ∙ r.1)) (keys.put_cases w u i j telling is)
+  put_held : (u : Uid) (i : Intent) (intents telling : List (Uid × Intent)) → i.nodes ≢ [] → HaveRecords intents telling → HaveRecords (put_uid u i intents) (put_uid u i telling)
+  put_held u i intents telling some held = record {
+    told = λ w j is. ⊎_elim (λ same. (i, ap (λ z. at_uid z (put_uid u i intents)) same.0 ∙ keys.put_same u i intents))
+        (λ other. let r = held.told w j other.1 in (r.0, keys.put_other w u i intents other.0 ∙ r.1)) (keys.put_cases w u i j telling is);
+    again = λ w j is. ⊎_elim (λ same. (i, ap (λ z. at_uid z (put_uid u i telling)) same.0 ∙ keys.put_same u i telling))
+        (λ other. let r = held.again w j other.1 in (r.0, keys.put_other w u i telling other.0 ∙ r.1)) (keys.put_cases w u i j intents is);
+    awaited = λ w j is. ⊎_elim (λ same none. some (ap (λ (x : Intent). x.nodes) same.1 ∙ none)) (λ other. held.awaited w j other.1) (keys.put_cases w u i j telling is);
+  }
 
   -- and it goes
-  without_held : (u : Uid) (intents telling : List (Uid × Intent)) → AreSorted telling → HaveRecords intents telling → HaveRecords (without_uid u intents) (without_uid u telling)
-  without_held u intents telling sorted held w j is = let p = keys.without_cases w u j telling sorted is in let r = held w j p.1 in (r.0, keys.without_other w u intents p.0 ∙ r.1)
+  without_held : (u : Uid) (intents telling : List (Uid × Intent)) → AreSorted telling → AreSorted intents → HaveRecords intents telling → HaveRecords (without_uid u intents) (without_uid u telling)
+  without_held u intents telling sorted order held = record {
+    told = λ w j is. let p = keys.without_cases w u j telling sorted is in let r = held.told w j p.1 in (r.0, keys.without_other w u intents p.0 ∙ r.1);
+    again = λ w j is. let p = keys.without_cases w u j intents order is in let r = held.again w j p.1 in (r.0, keys.without_other w u telling p.0 ∙ r.1);
+    awaited = λ w j is. held.awaited w j (keys.without_cases w u j telling sorted is).1;
+  }
+
+  -- somebody takes part in a commit that has a record
+  some_part : (p : Plan) → has_record p ≡ true → participants p ≢ []
+  some_part p is none = by p.prepared (p.confirmed) is (set_none (servers_of p ++ p.prepared ++ naming_node p) none)
+    where
+      more_some : (n : ℕ) (ns : List ℕ) → with_number n ns ≢ []
+      more_some n [] is = absurd (cc is)
+      more_some n (m ∷ ms) is = one (nat_cmp n m) is
+        where
+          one : (r : Ordering) → match_ordering r (n ∷ m ∷ ms) (m ∷ ms) (m ∷ with_number n ms) ≡ [] → ⊥
+          one Less is = absurd (cc is)
+          one Equal is = absurd (cc is)
+          one Greater is = absurd (cc is)
+
+      set_none : (ns : List ℕ) → number_set ns ≡ [] → ns ≡ []
+      set_none [] is = refl
+      set_none (n ∷ ns) is = absurd (more_some n (number_set ns) is)
+
+      last_none : (xs ys : List ℕ) → xs ++ ys ≡ [] → ys ≡ []
+      last_none [] ys is = is
+      last_none (x ∷ xs) ys is = absurd (cc is)
+
+      first_none : (xs ys : List ℕ) → xs ++ ys ≡ [] → xs ≡ []
+      first_none [] ys is = refl
+      first_none (x ∷ xs) ys is = absurd (cc is)
+
+      by : (ps : List ℕ) (b : Bool) → (not (commit.is_empty ps) || (b && not (commit.is_empty p.excluded && commit.is_empty (commit.included_of p)))) ≡ true → servers_of p ++ ps ++ (if b then 1 ∷ [] else []) ≡ [] → ⊥
+      by (n ∷ ns) b is none = absurd (cc (last_none (servers_of p) (n ∷ ns) (first_none (servers_of p ++ n ∷ ns) (if b then 1 ∷ [] else []) none)))
+      by [] true is none = absurd (cc (last_none (servers_of p ++ []) (1 ∷ []) none))
+      by [] false is none = absurd (cc is)
 
   -- ---- the decision
 
@@ -66,7 +109,7 @@ module _ (actions : List Action) where
     rooted u p c good v = (action_of v.asking.branch, good.known u v.asking.branch v.asking.found, good.tree.lists.places u v.asking.branch v.asking.found, ap root_of v.asking.path)
 
     decide_kept : (u : Uid) (p : Plan) (c : Coord) → actor p.path ≡ u → Good c → IsRooted actions u (record { root = root_of p.path; nodes = participants p }) → Keeps actions c (decide p c).part (decide p c).outs
-    decide_kept u p c its good root sorted intents held = by (has_record p)
+    decide_kept u p c its good root sorted intents order held = by (has_record p) refl
       where
         a : Uid
         a = actor p.path
@@ -93,19 +136,19 @@ module _ (actions : List Action) where
         all_rest t d h = subst (λ es. LeavesRecords actions t es d) (append-nil (says (actor p.path) body.Committed c ++ map (decided_told (root_of p.path) (actor p.path) p) p.sent))
             (leaves_behind actions t (says (actor p.path) body.Committed c ++ map (decided_told (root_of p.path) (actor p.path) p) p.sent) [] d plain h)
 
-        by : (b : Bool) → let t = (if b then put_uid (actor p.path) (record { root = root_of p.path; nodes = participants p }) r.telling else r.telling) in
+        by : (b : Bool) → has_record p ≡ b → let t = (if b then put_uid (actor p.path) (record { root = root_of p.path; nodes = participants p }) r.telling else r.telling) in
             AreSorted (let q = (if b then record r { telling = put_uid (actor p.path) (record { root = root_of p.path; nodes = participants p }) r.telling } else r) in q.telling)
             × LeavesRecords actions (let q = (if b then record r { telling = put_uid (actor p.path) (record { root = root_of p.path; nodes = participants p }) r.telling } else r) in q.telling)
             ((if b then Do (PutIntent (actor p.path) (record { root = root_of p.path; nodes = participants p })) ∷ [] else []) ++ says (actor p.path) body.Committed c ++ map (decided_told (root_of p.path) (actor p.path) p) p.sent) intents
-        by true = (
+        by true has_it = (
           keys.sorted_put (actor p.path) (record { root = root_of p.path; nodes = participants p }) r.telling (subst AreSorted (sym same) sorted),
           (
-            subst (λ w. IsRooted actions w (record { root = root_of p.path; nodes = participants p })) (sym its) root,
+            (subst (λ w. IsRooted actions w (record { root = root_of p.path; nodes = participants p })) (sym its) root, some_part p has_it),
             all_rest (put_uid (actor p.path) (record { root = root_of p.path; nodes = participants p }) r.telling) (put_uid (actor p.path) (record { root = root_of p.path; nodes = participants p }) intents)
-                (put_held (actor p.path) (record { root = root_of p.path; nodes = participants p }) intents r.telling (subst (λ t. HaveRecords intents t) (sym same) held)),
+                (put_held (actor p.path) (record { root = root_of p.path; nodes = participants p }) intents r.telling (some_part p has_it) (subst (λ t. HaveRecords intents t) (sym same) held)),
           ),
         )
-        by false = (subst AreSorted (sym same) sorted, all_rest r.telling intents (subst (λ t. HaveRecords intents t) (sym same) held))
+        by false none = (subst AreSorted (sym same) sorted, all_rest r.telling intents (subst (λ t. HaveRecords intents t) (sym same) held))
 
     end_kept : (u : Uid) (how : End) (line : Label → Body) (intents : List (Uid × Intent)) (c : Coord) → Keeps actions c (ends_with u how line intents c).part (ends_with u how line intents c).outs
     end_kept u how line intents c = same_kept c (ended u how c) (says u line c ++ tolds_of intents (ended u how c) u) (ended_telling u c how) (plain_both (says u line c) (tolds_of intents (ended u how c) u) (plain_says u line c) (plain_tolds_of intents (ended u how c) u))
@@ -239,19 +282,23 @@ module _ (actions : List Action) where
   acked_kept from u intents c = by (at_uid u c.telling) refl
     where
       -- the record stays
-      still : (i : Intent) → at_uid u c.telling ≡ Some i → (j : Intent) (d : List (Uid × Intent)) → HaveRecords d c.telling → HaveRecords d (put_uid u j c.telling)
-      still i is j d held w q found = ⊎_elim (λ same. let r = held u i is in (r.0, ap (λ z. at_uid z d) same.0 ∙ r.1)) (λ other. held w q other.1) (keys.put_cases w u j q c.telling found)
+      still : (i : Intent) → at_uid u c.telling ≡ Some i → (j : Intent) (d : List (Uid × Intent)) → j.nodes ≢ [] → HaveRecords d c.telling → HaveRecords d (put_uid u j c.telling)
+      still i is j d some held = record {
+        told = λ w q found. ⊎_elim (λ same. let r = held.told u i is in (r.0, ap (λ z. at_uid z d) same.0 ∙ r.1)) (λ other. held.told w q other.1) (keys.put_cases w u j q c.telling found);
+        again = λ w q found. ⊎_elim (λ same. (j, ap (λ z. at_uid z (put_uid u j c.telling)) same ∙ keys.put_same u j c.telling)) (λ other. let r = held.again w q found in (r.0, keys.put_other w u j c.telling other ∙ r.1)) (uid_cases w u);
+        awaited = λ w q found. ⊎_elim (λ same none. some (ap (λ (x : Intent). x.nodes) same.1 ∙ none)) (λ other. held.awaited w q other.1) (keys.put_cases w u j q c.telling found);
+      }
 
       left : (i : Intent) → at_uid u c.telling ≡ Some i → (ns : List ℕ) → let a = acked_left u i intents c ns in Keeps actions c a.part a.outs
-      left i is [] sorted d held = (
+      left i is [] sorted d order held = (
         keys.sorted_without u c.telling sorted,
         (
           tt,
           subst (λ es. LeavesRecords actions (without_uid u c.telling) es (without_uid u d)) (append-nil (tolds_let_go u (without_uid u intents) c (at_uid u intents)))
-              (leaves_behind actions (without_uid u c.telling) (tolds_let_go u (without_uid u intents) c (at_uid u intents)) [] (without_uid u d) (plain_let_go u (without_uid u intents) c (at_uid u intents)) (without_held u d c.telling sorted held)),
+              (leaves_behind actions (without_uid u c.telling) (tolds_let_go u (without_uid u intents) c (at_uid u intents)) [] (without_uid u d) (plain_let_go u (without_uid u intents) c (at_uid u intents)) (without_held u d c.telling sorted order held)),
         ),
       )
-      left i is (n ∷ ns) sorted d held = (keys.sorted_put u (record i { nodes = n ∷ ns }) c.telling sorted, still i is (record i { nodes = n ∷ ns }) d held)
+      left i is (n ∷ ns) sorted d order held = (keys.sorted_put u (record i { nodes = n ∷ ns }) c.telling sorted, still i is (record i { nodes = n ∷ ns }) d (λ none. absurd (cc none)) held)
 
       by : (o : Option Intent) → at_uid u c.telling ≡ o → let a = acked_by from u intents c o in Keeps actions c a.part a.outs
       by None is = same_kept c c [] refl refl

@@ -1,5 +1,5 @@
 -- Records on disks, and what is told again of them.
-use Rattle.std.specs.Prelude.{⊤, ◌≡◌, ℕ, List, [], ◌∷◌, Some, Contains}
+use Rattle.std.specs.Prelude.{⊤, ◌≡◌, ◌≢◌, ℕ, List, [], ◌∷◌, Some, Contains}
 use Rattle.arj_protocol.specs.Words.{Uid}
 use Rattle.arj_protocol.specs.Effect.{Effect, Do, PutIntent, RemoveIntent, Intent}
 use Rattle.arj_protocol.specs.Node.{Parts}
@@ -14,18 +14,21 @@ use Rattle.arj_disk_view_law.specs.Pairs.{AreSorted}
 abbrev pub IsRooted : List Action → Uid → Intent → Type 0
 IsRooted acts u i = (a : Action) × Contains acts a × (act_of a ≡ u) × (root_of a.path ≡ i.root)
 
--- so is each record of a disk
+-- so is each record of a disk, and lists some node
 pub record AreRooted (acts : List Action) (intents : List (Uid × Intent)) : Type 0 where
   pub sorted : AreSorted intents
   pub each : (u : Uid) (i : Intent) → at_uid u intents ≡ Some i → IsRooted acts u i
+  pub listed : (u : Uid) (i : Intent) → at_uid u intents ≡ Some i → i.nodes ≢ []
 
--- what is told again has its record
-abbrev pub HaveRecords : List (Uid × Intent) → List (Uid × Intent) → Type 0
-HaveRecords intents telling = (u : Uid) (j : Intent) → at_uid u telling ≡ Some j → (i : Intent) × (at_uid u intents ≡ Some i)
+-- What is told again has its record, and each record is told again; and of each some node's acknowledgement is awaited.
+pub record HaveRecords (intents telling : List (Uid × Intent)) : Type 0 where
+  pub told : (u : Uid) (j : Intent) → at_uid u telling ≡ Some j → (i : Intent) × (at_uid u intents ≡ Some i)
+  pub again : (u : Uid) (i : Intent) → at_uid u intents ≡ Some i → (j : Intent) × (at_uid u telling ≡ Some j)
+  pub awaited : (u : Uid) (j : Intent) → at_uid u telling ≡ Some j → j.nodes ≢ []
 
--- a record that is written is of an action that was begun
+-- a record that is written is of an action that was begun, and lists some node
 abbrev pub WritesRooted : List Action → Effect → Type 0
-WritesRooted acts (Do (PutIntent u i)) = IsRooted acts u i
+WritesRooted acts (Do (PutIntent u i)) = IsRooted acts u i × (i.nodes ≢ [])
 WritesRooted acts _ = ⊤
 
 -- the records after an effect

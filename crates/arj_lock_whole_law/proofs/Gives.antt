@@ -300,7 +300,7 @@ module _ (hd : Header) (x : ℕ) (has : HasObject hd x) (E : List Action → See
         let r = whole.records k its_node here in
         let g = r.live t refl in
         let a = stands_there u i q.telling (in_from (u, i) q.telling there) in
-        let z = g.0 u a.0 a.1 in
+        let z = (let h = g.0 in h.told u a.0 a.1) in
         (z.0, in_to (u, z.0) d.intents (at_in u z.0 d.intents z.1))
 
     -- ---- acknowledgements and questions
