@@ -1,4 +1,3 @@
-pub mod Decisions
 pub mod Doing
 pub mod IdleKnown
 pub mod Owners

@@ -1,5 +1,5 @@
 -- Each handler keeps that decisions are said, and so they are after each run.
-use Rattle.std.proofs.Common.{◌≡◌, ◌⊎◌, ◌==◌, ℕ, ◌+◌, not, List, [], Bool, true, false, Option, Some, None, is_some, refl, sym, ◌∙◌, ap, subst, inl, inr, ⊎_elim, ◌++◌, ◌∷◌}
+use Rattle.std.proofs.Common.{◌≡◌, ◌⊎◌, ◌==◌, ℕ, ◌+◌, List, [], true, Option, Some, None, is_some, refl, sym, ◌∙◌, ap, subst, inl, inr, ⊎_elim, ◌++◌, ◌∷◌}
 use Rattle.std.specs.Prelude.{◌≤◌, Contains, length}
 use Rattle.arj_lock.proofs.Members.{in_to, In as Among, in_from}
 use Rattle.arj_protocol.specs.Words.{Body, Header, Kind, Label, Uid, Line}
@@ -13,18 +13,16 @@ use Rattle.arj_protocol.specs.Step.{Node, acts, parent_of, parts_in, restart_out
 use Rattle.arj_protocol.specs.World.{Asked, format, is_serial_kind, numbered, run_all}
 use Rattle.arj_part_law.proofs.Keys.{at_in, in_at}
 use Rattle.arj_disk_law.specs.Effects as machine
-use Rattle.arj_disk_law.specs.Guards.{Acks, AreOnlyOf, Begins, Confirms, Decides, Note, is_only_of, only_decides}
-use Rattle.arj_disk_law.specs.Messages as mail
 use Rattle.arj_disk_law.specs.Names.{Office}
-use Rattle.arj_disk_law.specs.State.{decided, decided_in as is_among, naming}
-use Rattle.arj_disk_law.proofs.Base.{bool_cases, never, or_cases, or_left, some_is}
+use Rattle.arj_disk_law.specs.State.{decided, decided_in as is_among}
+use Rattle.arj_disk_law.proofs.Base.{never, some_is}
 use Rattle.arj_view_law.specs.Keeps.{Holds, Keeps}
 use Rattle.arj_view_law.specs.Seen.{Seen, at, down, given, said, see, up, AreQuiet}
 use Rattle.arj_view_law.specs.Walks.{Up, Walks, halted}
 use Rattle.arj_view_law.proofs.Happens.{runs_hold}
 use Rattle.arj_view_law.proofs.Together.{walks_both, walks_to}
 use Rattle.arj_disk_view_law.specs.Deciding.{nodes_of}
-use Rattle.arj_disk_view_law.specs.Sees.{Along, IsLater, Kinds, SeesDisks}
+use Rattle.arj_disk_view_law.specs.Sees.{IsLater, Kinds, SeesDisks}
 use Rattle.arj_names_view_law.specs.Both.{OnlyFound, SeesBoth}
 use Rattle.arj_names_view_law.specs.Handlers.{Answering, Change, Changes, Deciding, Quietly, change_by}
 use Rattle.arj_binding_law.specs.Scripts.{most_events}
@@ -51,10 +49,9 @@ use Rattle.arj_line_law.proofs.Runs.{lines_keep, act_turns, message_turns, rest_
 use Rattle.arj_disk_line_law.specs.Said.{AreSaid, HeardRunsAreJournalled, IsJournalled, IsLate, IsTied, RunsAreJournalled, AreDone, IsDoneBy, WithTie}
 use Rattle.arj_disk_line_law.proofs.IdleKnown.{KnowsIdle, knows_idle}
 use Rattle.arj_disk_line_law.proofs.Owners.{decided_begun, whose_it_is}
-use Rattle.arj_disk_line_law.proofs.Decisions.{may_decide, new_has_record}
+use Rattle.arj_disk_run_law.proofs.Decisions.{Goes, Turns, goes_along}
 use Rattle.arj_disk_line_law.proofs.Steps.{IsNear, IsStep, later_lines, near_same, step_halted, step_walk, nothing_more}
 use Rattle.arj_model.specs.Actions.{Act, acts as acts_of}
-use Rattle.arj_disk_view_law.proofs.Later.{effects_are_later}
 use Rattle.arj_disk_view_law.proofs.Frames.{node_here}
 use Rattle.arj_line_law.specs.Idle.{HasNothing, IsIdle}
 use Rattle.arj_line_law.specs.Laws.{AreDistinct, IsDone, IsSound}
@@ -76,64 +73,7 @@ by_record u n N written here i there = by n.live refl
     by None down = inr (record { down = down; intent = i; there = there })
     by (Some t) up = inl (let k = written.nodes u.node n here in let l : KnowsUp (book N.lines) (let d = n.disk in d.intents) t.coord = k.live t up in l.found u i there)
 
--- ---- what may be noted
-
-only_more : (f g : Note → Bool) → ((n : Note) → f n ≡ true → g n ≡ true) → (g_acks : (t : ℕ) → f (Acks t) ≡ false) → (a : machine.Effect) → is_only_of f a ≡ true → is_only_of g a ≡ true
-only_more f g more acks (machine.Begin t p) is = more (Begins t) is
-only_more f g more acks (machine.Take t s) is = is
-only_more f g more acks (machine.Seal t) is = is
-only_more f g more acks (machine.Intend t nodes) is = is
-only_more f g more acks (machine.Decide t) is = more (Decides t) is
-only_more f g more acks (machine.Remove t nodes) is = is
-only_more f g more acks (machine.EndBare t) is = more (Decides t) is
-only_more f g more acks (machine.Halt t) is = is
-only_more f g more acks (machine.Keep t s) is = is
-only_more f g more acks (machine.Move s h) is = is
-only_more f g more acks (machine.Finish s h) is = is
-only_more f g more acks (machine.Drop s h) is = is
-only_more f g more acks (machine.Agree t) is = more (Confirms t) is
-only_more f g more acks (machine.Pass t) is = more (Confirms t) is
-only_more f g more acks (machine.Enter t) is = more (Confirms t) is
-only_more f g more acks (machine.MoveEntry h) is = is
-only_more f g more acks (machine.FinishEntry h) is = is
-only_more f g more acks (machine.DropEntry h) is = is
-only_more f g more acks (machine.Forget r h) is = is
-only_more f g more acks (machine.Send (mail.Prepare t s)) is = is
-only_more f g more acks (machine.Send (mail.Prepared t s)) is = is
-only_more f g more acks (machine.Send (mail.Confirm t)) is = is
-only_more f g more acks (machine.Send (mail.Confirmed t)) is = is
-only_more f g more acks (machine.Send (mail.ToldCommit t m)) is = is
-only_more f g more acks (machine.Send (mail.ToldBare t m)) is = is
-only_more f g more acks (machine.Send (mail.ToldAbort t m)) is = is
-only_more f g more acks (machine.Send (mail.ToldSerial r m)) is = is
-only_more f g more acks (machine.Send (mail.Acked t m)) is = ⊎_elim (λ other. or_left (not (m == naming)) (g (Acks t)) other) (λ on. absurd (never on (acks t))) (or_cases (not (m == naming)) (f (Acks t)) is)
-
-all_more : (f g : Note → Bool) → ((n : Note) → f n ≡ true → g n ≡ true) → ((t : ℕ) → f (Acks t) ≡ false) → (es : List machine.Effect) → AreOnlyOf f es → AreOnlyOf g es
-all_more f g more acks [] only = tt
-all_more f g more acks (a ∷ es) only = (only_more f g more acks a only.0, all_more f g more acks es only.1)
-
-decides_more : (g : ℕ → Bool) (n : Note) → only_decides g n ≡ true → may_decide true n ≡ true
-decides_more g (Begins z) is = refl
-decides_more g (Decides z) is = refl
-decides_more g (Confirms z) is = refl
-decides_more g (Acks z) is = absurd (never is refl)
-
 -- ---- from one state of the machine to another
-
--- whoever is decided was so, or has its record
-abbrev pub Turns : machine.World → machine.World → Type 0
-Turns W V = (u : ℕ) → decided V.disk u ≡ true → (decided W.disk u ≡ true) ⊎ (is_some (V.disk.intent u) ≡ true)
-
-abbrev pub Goes : machine.World → machine.World → Type 0
-Goes W V = Turns W V × IsLater W V
-
-pub goes_along : (g : ℕ → Bool) (W V : machine.World) → machine.Whole W → Along (record { from = W; noted = only_decides g }) V → Goes W V
-goes_along g W V whole a = (
-  λ u d. ⊎_elim (λ old. inl old)
-      (λ new. inr (subst (λ (Z : machine.World). is_some (Z.disk.intent u) ≡ true) a.here (new_has_record true u W a.effects (all_more (only_decides g) (may_decide true) (decides_more g) (λ t. refl) a.effects a.only) a.allowed whole new (subst (λ (Z : machine.World). decided Z.disk u ≡ true) (sym a.here) d))))
-      (bool_cases (decided W.disk u)),
-  subst (IsLater W) a.here (effects_are_later W a.effects a.allowed whole),
-)
 
 -- by the changes of a step
 pub goes_by : (o : Change) (A B : Office) → machine.Whole A.world → Changes o A B → Goes A.world B.world
@@ -267,8 +207,8 @@ module _ (hd : Header) (x : ℕ) (R G : Seen → Type 0) (P : Kinds → Office �
       parts.stop tops e k d live M A walk (r.0.0, r.1) both part B changed seen,
       tied_still R Idle idles x tops A.world (at k d live M) tie.0 tie.1 B.world (halted e k d M) seen.disks (goes_by Quietly A B (let c = both.disks in c.whole) changed) (kept.stop e k d live M r.0.0) w (step_halted k d live M e d M (near_same M) (λ down. refl)) (no_lines e k M),
     );
-    message = λ tops e k d t v from m outs M A walk n r sent meant is of both (part, tie).
-        let p = parts.message tops e k d t v from m outs M A walk n (r.0.0, r.1) sent meant is of both part in
+    message = λ tops e k d t v from m outs M A walk n r sent meant is of own both (part, tie).
+        let p = parts.message tops e k d t v from m outs M A walk n (r.0.0, r.1) sent meant is of own both part in
         let g = message_turns e k d t M r.0.1.0 r.0.1.1 v from m outs sent is in (
           heard_too tops (change_by x d t m) A (record { event = e; node = k; disk = d; before = t; outs = outs; after = v }) M tie p.0
               (λ C same. tied_walk R Idle idles x tops A.world (up k d t M) tie.0 tie.1 (Changes (change_by x d t m) C) (goes_from (change_by x d t m) A C same (let c = both.disks in c.whole)) (HasBranch v.coord) e k outs v d M (fresh tops (up k d t M) k v)

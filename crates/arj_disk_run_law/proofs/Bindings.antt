@@ -8,10 +8,12 @@ use Rattle.arj_lock_fact_law.specs.Uppers.{ObjectsAreHeld}
 use Rattle.arj_lock_fact_law.proofs.GoodNaming.{objects_keep}
 use Rattle.arj_call_law.proofs.Given.{kept_both, keeps_given}
 use Rattle.arj_run_law.specs.Worlds.{IsGood}
-use Rattle.arj_run_law.proofs.AllRuns.{all_keep as parts_good}
+use Rattle.arj_coord_law.specs.Uses.{KnowsTops}
+use Rattle.arj_coord_law.proofs.RunCoords.{all_keep_so}
+use Rattle.arj_coord_law.proofs.RunUses.{tops_are_kept}
 use Rattle.arj_view_law.specs.Keeps.{Keeps}
 use Rattle.arj_view_law.specs.Seen.{Seen}
-use Rattle.arj_disk_run_law.specs.Bindings.{AllNameOwn, AreGoodCounted}
+use Rattle.arj_disk_run_law.specs.Bindings.{AllKnowTops, AllNameOwn, AreGoodCounted}
 
 -- where few bindings were made, those at naming are its own
 pub names_own : (M : Seen) → AreGoodCounted M → KnowsFew M → AllNameOwn M
@@ -36,4 +38,4 @@ names_own M good few k n t o there live named =
     next b c j less = omega (arith, j, less)
 
 pub good_counted : (hd : Header) → Keeps hd AreGoodCounted
-good_counted hd = kept_both hd IsGood (λ M. ObjectsAreHeld M × AreSaid M) (parts_good hd) (keeps_given hd IsGood (λ M. ObjectsAreHeld M × AreSaid M) (kept_both hd ObjectsAreHeld AreSaid (objects_keep hd) (keeps_given hd ObjectsAreHeld AreSaid (counts_are_said hd))))
+good_counted hd = kept_both hd (λ M. IsGood M × AllKnowTops M) (λ M. ObjectsAreHeld M × AreSaid M) (all_keep_so KnowsTops tops_are_kept hd) (keeps_given hd (λ M. IsGood M × AllKnowTops M) (λ M. ObjectsAreHeld M × AreSaid M) (kept_both hd ObjectsAreHeld AreSaid (objects_keep hd) (keeps_given hd ObjectsAreHeld AreSaid (counts_are_said hd))))

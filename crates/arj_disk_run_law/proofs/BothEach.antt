@@ -105,7 +105,7 @@ both_each hd x R G P parts = record {
   quiet = λ tops e bs M walk quiet r (A, both, part). let s = lines_keep_both x tops e bs A M walk both (lines_seen x (followed tops A.world (λ n. false)) e bs M (A.world, walks_start x tops (λ n. false) A M both)) in (s.0, s.2, parts.quiet tops e bs M A walk quiet (r.0.0, r.1) both part s.0 s.1 s.2);
   stop = λ tops e k d live M walk r (A, both, part). let s = stops_keep_both x tops e k d live A M walk both (stops_seen x (followed tops A.world (λ n. false)) e k d live M (A.world, walks_start x tops (λ n. false) A (at k d live M) both)) in
       (s.0, s.2, parts.stop tops e k d live M A walk (r.0.0, r.1) both part s.0 s.1 s.2);
-  message = λ tops e k d t v from m outs M walk n r sent meant is of (A, both, part). let p = parts.message tops e k d t v from m outs M A walk n (r.0.0, r.1) sent meant is of both part in let h = p.0 in
+  message = λ tops e k d t v from m outs M walk n r sent meant is of own (A, both, part). let p = parts.message tops e k d t v from m outs M A walk n (r.0.0, r.1) sent meant is of own both part in let h = p.0 in
       carried P x tops (change_by x d t m) h.office e k outs v d M (messages_keep_both x tops e k d t v from m outs h.office M walk n sent (λ o here. counted x tops k d t M m h.office o n r.0.1 h.both of here (p.2 o here)) p.1 is h.both) h.along;
   act = λ tops e k d t i M walk n r is free (A, both, part). let p = parts.act tops e k d t i M A walk n (r.0.0, r.1) is free both part in let h = p.0 in let did = acts i d.intents t.coord in
       carried P x tops Quietly h.office e k did.outs (with_coord t did.part) d M (inputs_keep_both hd x tops e k d t i h.office M walk n.kinds n.coord is free p.1 h.both) h.along;
@@ -162,7 +162,7 @@ runs_agree hd x part parts es short = agree_beside hd x IsGood (λ tops A M. par
 
 -- what is kept beside, where naming's bindings are its own
 pub heard_part : (hd : Header) (x : ℕ) → HasObject hd x → KeepsHeard hd x (λ M. IsGood M × KnowsFew M) → KeepsPart hd x (λ M. AreGoodCounted M × KnowsFew M) (SeesHeard x)
-heard_part hd x has rest = heard_kept hd x (λ M. AreGoodCounted M × KnowsFew M) (λ M. IsGood M × KnowsFew M) (λ M r. r) (λ M r. ((r.0.0, r.1), names_own M r.0 r.1)) has rest
+heard_part hd x has rest = heard_kept hd x (λ M. AreGoodCounted M × KnowsFew M) (λ M. IsGood M × KnowsFew M) (λ M r. r) (λ M r. ((r.0.0.0, r.1), names_own M r.0 r.1, r.0.0.1)) has rest
 
 pub heard_runs_agree : HeardRunsAgree
 heard_runs_agree hd x has rest es short = agree_beside hd x AreGoodCounted (SeesHeard x) (good_counted hd) (heard_part hd x has rest) es short

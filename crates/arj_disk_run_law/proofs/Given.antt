@@ -9,7 +9,7 @@ use Rattle.arj_call_law.specs.Runs.{KnowsFew}
 use Rattle.arj_call_law.proofs.WorldRuns.{votes_used}
 use Rattle.arj_disk_run_law.specs.Facts.{GivesVotes}
 
-listed : (s : ObjectState) (states : List ObjectState) → Among s states → list.In s states
+pub listed : (s : ObjectState) (states : List ObjectState) → Among s states → list.In s states
 listed s [] i = absurd i
 listed s (t ∷ ts) (inl same) = inl same
 listed s (t ∷ ts) (inr i) = inr (listed s ts i)

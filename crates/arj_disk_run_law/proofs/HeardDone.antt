@@ -39,7 +39,7 @@ module _ (x : ℕ) (u : Uid) (p : commit.Plan) (c : Coord) (b : Branch) (q : Doi
   has : HasEnded u b ending.Commit c.tree (decided u p c).tree
   has = decided_tree c u b q p found at_work
 
-  own_then : (w : Uid) → is_own w (decided u p c).tree ≡ is_own w c.tree
+  pub own_then : (w : Uid) → is_own w (decided u p c).tree ≡ is_own w c.tree
   own_then w = own_same u b ending.Commit c.tree (decided u p c).tree found has w
 
   -- who waits did so before

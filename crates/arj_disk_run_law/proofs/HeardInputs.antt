@@ -200,7 +200,7 @@ module _ (x : ℕ) (tops : Kinds) (e k : ℕ) (d : Disk) (t : Parts) (M : Seen) 
           subst (λ v. is_committed v t.coord.tree ≡ false) (sym (let c = knows.coord in c.path w z there)) (not_committed w z there (unended_of z.ended (and_parts (is_below u z) (not (is_some z.ended)) on).1))
 
   -- one action is aborted, with lines before
-  heard_aborted : (u : Uid) (why : Cause) (b : Branch) (ns : List ℕ) → branch_of u t.coord.tree ≡ Some b → b.ended ≡ None → Heard_by (record { part = (aborts_with u why d.intents t.coord).part; outs = gaveup_lines u ns t.coord ++ (aborts_with u why d.intents t.coord).outs })
+  pub heard_aborted : (u : Uid) (why : Cause) (b : Branch) (ns : List ℕ) → branch_of u t.coord.tree ≡ Some b → b.ended ≡ None → Heard_by (record { part = (aborts_with u why d.intents t.coord).part; outs = gaveup_lines u ns t.coord ++ (aborts_with u why d.intents t.coord).outs })
   heard_aborted u why b ns found unended = acts_fewer (record { part = (aborts_with u why d.intents t.coord).part; outs = gaveup_lines u ns t.coord ++ (aborts_with u why d.intents t.coord).outs }) (ended_fewer t.coord u (not_committed u b found unended))
       (all_join Q (gaveup_lines u ns t.coord) (aborts_with u why d.intents t.coord).outs (all_flat Q (λ n. says u (λ l. body.GaveUp l n) t.coord) ns (λ n. says_say x d.inc A u (λ l. body.GaveUp l n) t.coord))
       (all_join Q (says u (λ l. body.Aborted l why) t.coord) (tolds_of d.intents (ended u ending.Abort t.coord) u) (says_say x d.inc A u (λ l. body.Aborted l why) t.coord) (tolds_of_say x d.inc A d.intents (ended u ending.Abort t.coord) u)))

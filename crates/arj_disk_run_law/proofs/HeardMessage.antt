@@ -10,6 +10,7 @@ use Rattle.arj_protocol.specs.Node.{Parts, Took, handle, is_meant}
 use Rattle.arj_protocol.specs.Order.{uid_number}
 use Rattle.arj_run_law.specs.Worlds.{IsGood}
 use Rattle.arj_call_law.specs.Runs.{KnowsFew}
+use Rattle.arj_coord_law.specs.Uses.{KnowsUses}
 use Rattle.arj_disk_law.specs.Names.{Office}
 use Rattle.arj_disk_law.proofs.Base.{never}
 use Rattle.arj_view_law.specs.Seen.{In, Seen}
@@ -18,11 +19,13 @@ use Rattle.arj_names_view_law.specs.Handlers.{IsForGrants, MayGoOn, MayRecord, a
 use Rattle.arj_disk_run_law.specs.Bindings.{NamesOwn}
 use Rattle.arj_disk_run_law.specs.Heard.{ClaimsAsked, ClaimsGrants, SeesHeard}
 use Rattle.arj_disk_run_law.specs.Part.{HasHeard, HoldsAlong, HoldsFrom}
+use Rattle.arj_disk_run_law.specs.Sound.{IsOwnVote}
 use Rattle.arj_disk_run_law.specs.Rest.{GivesNaming, IsHeardAt, KeepsHeard, answers_commit}
 use Rattle.arj_disk_run_law.proofs.HeardAsk.{Served_by, ask_heard}
 use Rattle.arj_disk_run_law.proofs.HeardCalled.{heard_called}
 use Rattle.arj_disk_run_law.proofs.HeardGoing.{like_goes_on}
 use Rattle.arj_disk_run_law.proofs.HeardOther.{other_heard}
+use Rattle.arj_disk_run_law.proofs.HeardOutcomes.{heard_answer}
 use Rattle.arj_names_view_law.proofs.Heard.{none_heard}
 
 -- ---- what naming counts on
@@ -54,9 +57,9 @@ module _ (x : ℕ) (R : Seen → Type 0) (gives : GivesNaming x R) (tops : Kinds
 
 -- ---- a message
 
-pub heard_message : (hd : Header) (x : ℕ) (R : Seen → Type 0) → ((M : Seen) → R M → IsGood M × KnowsFew M) → KeepsHeard hd x R → (tops : Kinds) (e k : ℕ) (d : Disk) (t v : Parts) (from : ℕ) (m : Message) (outs : List Effect) (M : Seen) (A : Office) → IsHeardAt x R tops A (k, d, t) M → ((n : Naming) → t.naming ≡ Some n → NamesOwn n) → In (record { from = from; to = k; message = m }) M.sent → is_meant t m ≡ true → handle k d t from m ≡ Took v outs
+pub heard_message : (hd : Header) (x : ℕ) (R : Seen → Type 0) → ((M : Seen) → R M → IsGood M × KnowsFew M) → KeepsHeard hd x R → (tops : Kinds) (e k : ℕ) (d : Disk) (t v : Parts) (from : ℕ) (m : Message) (outs : List Effect) (M : Seen) (A : Office) → IsHeardAt x R tops A (k, d, t) M → ((n : Naming) → t.naming ≡ Some n → NamesOwn n) → KnowsUses t.coord → In (record { from = from; to = k; message = m }) M.sent → IsOwnVote m → is_meant t m ≡ true → handle k d t from m ≡ Took v outs
     → (h : HasHeard (SeesHeard x) x tops (change_by x d t m) A (record { event = e; node = k; disk = d; before = t; outs = outs; after = v }, M)) × MayGoOn x h.office v.coord × ((n : Naming) → t.naming ≡ Some n → MayRecord x d n m h.office × IsForGrants x d n m h.office)
-heard_message hd x R runs rest tops e k d t v from m outs M A at own sent meant is = by (asks m) refl
+heard_message hd x R runs rest tops e k d t v from m outs M A at own uses sent owned meant is = by (asks m) refl
   where
     by : (o : Option (Head × Ask)) → asks m ≡ o → (h : HasHeard (SeesHeard x) x tops (change_by x d t m) A (record { event = e; node = k; disk = d; before = t; outs = outs; after = v }, M)) × MayGoOn x h.office v.coord × ((n : Naming) → t.naming ≡ Some n → MayRecord x d n m h.office × IsForGrants x d n m h.office)
     by (Some b) asking =
@@ -76,7 +79,7 @@ heard_message hd x R runs rest tops e k d t v from m outs M A at own sent meant 
         with_answers (Some a) answering = by_doing (answers_commit a.0 t.coord) refl
           where
             by_doing : (b : Bool) → answers_commit a.0 t.coord ≡ b → (h : HasHeard (SeesHeard x) x tops (change_by x d t m) A (record { event = e; node = k; disk = d; before = t; outs = outs; after = v }, M)) × MayGoOn x h.office v.coord × ((n : Naming) → t.naming ≡ Some n → MayRecord x d n m h.office × IsForGrants x d n m h.office)
-            by_doing true commits = let r = rest.answer tops e k d t v from m a.0 a.1 outs M A at sent answering meant commits is in (r.0, r.1, λ n named. nothing n r.0.office)
+            by_doing true commits = let r = heard_answer x R runs rest.naming tops e k d t v from m a.0 a.1 outs M A at uses sent owned none answering commits is in (r.0, r.1, λ n named. nothing n r.0.office)
             by_doing false calls = let r = heard_called x tops e k d t M A (runs _ at.run).0 (runs _ at.run).1 at.knows at.both at.heard v from m a.0 a.1 outs sent none answering calls is in (r.0, r.1, λ n named. nothing n r.0.office)
         with_answers None also =
             let g = other_heard x tops e k d t v from m outs M A at.both at.heard none also is in (

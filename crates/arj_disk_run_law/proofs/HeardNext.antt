@@ -1,8 +1,8 @@
 -- What a step of a commit leads to: it asks further or waits, by a plan that uses and has changed what the one before did.
-use Rattle.std.proofs.Common.{◌≡◌, ◌⊎◌, ℕ, Bool, true, List, [], ◌∷◌, refl, sym, ◌∙◌, ap, subst, inl}
+use Rattle.std.proofs.Common.{◌≡◌, ◌⊎◌, ℕ, Bool, true, false, List, [], ◌∷◌, refl, sym, ◌∙◌, ap, subst, inl, inr}
 use Rattle.arj_protocol.specs.Words.{Uid}
 use Rattle.arj_protocol.specs.Commit as commit
-use Rattle.arj_protocol.specs.Commit.{Asks, CommitStep, Confirming, Machine, Preparing, Stays, Used, Voting, begin_confirm, begin_prepare, begin_vote, further, plan_of, targets_of}
+use Rattle.arj_protocol.specs.Commit.{Asks, CommitStep, Confirming, Machine, Preparing, Stays, Used, Voting, begin_confirm, begin_prepare, begin_vote, further, plan_of, stores_left, targets_of}
 use Rattle.arj_disk_law.specs.Names.{Office}
 use Rattle.arj_disk_law.proofs.Base.{never}
 use Rattle.arj_disk_view_law.specs.Pairs.{Among}
@@ -30,6 +30,10 @@ prepare_to (s ∷ ss) p z v vs is = record { machine = Preparing (further (s ∷
 pub vote_to : (ss : List ℕ) (p : commit.Plan) (v : Used) (vs : List Used) → p.used ≡ v ∷ vs → GoesTo p true (begin_vote ss p)
 vote_to [] p v vs is = prepare_to (targets_of p) p true v vs is
 vote_to (s ∷ ss) p v vs is = record { machine = Voting (further (s ∷ ss) p) (s ∷ ss); kind = inl refl; used = refl; changed = refl; path = refl; votes = λ on. refl }
+
+pub stores_to : (rest : List ℕ) (p : commit.Plan) (v : Used) (vs : List Used) → p.used ≡ v ∷ vs → GoesTo p false (let m = stores_left rest p in m.step)
+stores_to [] p v vs is = confirm_to p false v vs p.used is
+stores_to (n ∷ ns) p v vs is = record { machine = Preparing p (n ∷ ns); kind = inr refl; used = refl; changed = refl; path = refl; votes = λ on. absurd (never on refl) }
 
 -- what the plan uses is seen still
 pub plan_on : (x : ℕ) (tops : Kinds) (u : Uid) (m n : Machine) (A : Office) → (let q = plan_of n in q.used) ≡ (let q = plan_of m in q.used) → (let q = plan_of n in q.changed) ≡ (let q = plan_of m in q.changed) → (is_voting n ≡ true → is_voting m ≡ true) → SeesPlan x tops u m A → SeesPlan x tops u n A

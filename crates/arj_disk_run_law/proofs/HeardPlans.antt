@@ -89,7 +89,7 @@ module _ (x : ℕ) (tops : Kinds) (k : ℕ) (d : Disk) (t : Parts) (M : Seen) (A
   pub root_seen : SeesRootOf x tops (root_of b.path) t.coord (root_at (root_of b.path) t.coord) A
   root_seen = let m = mine x tops k d t M A both h in m.roots (root_of b.path) working
 
-  free : is_aborted (root_of b.path) t.coord.tree ≡ false
+  pub free : is_aborted (root_of b.path) t.coord.tree ≡ false
   free = by (branch_of (root_of b.path) t.coord.tree) refl
     where
       by : (o : Option Branch) → branch_of (root_of b.path) t.coord.tree ≡ o → ended_so ending.Abort o ≡ false

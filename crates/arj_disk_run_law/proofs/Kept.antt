@@ -72,7 +72,7 @@ pub record KeepsEach (hd : Header) (x : ℕ) (R : Seen → Type 0) (Q : Kinds �
   pub quiet : (tops : Kinds) (e : ℕ) (bs : List Body) (M : Seen) → tops.walk ≡ None → AreQuiet bs → R M → Q tops M → Q tops (said e bs M)
   pub stop : (tops : Kinds) (e k : ℕ) (d : Disk) (live : Option Parts) (M : Seen) → tops.walk ≡ None → R (at k d live M) → Q tops (at k d live M) → Q tops (halted e k d M)
   pub message : (tops : Kinds) (e k : ℕ) (d : Disk) (t v : Parts) (from : ℕ) (m : Message) (outs : List Effect) (M : Seen) → tops.walk ≡ None → KnowsNode tops k d t M → R (up k d t M)
-      → In (record { from = from; to = k; message = m }) M.sent → is_meant t m ≡ true → handle k d t from m ≡ Took v outs → AreOfTops tops m → Q tops (up k d t M) → Walks (Q tops) e k outs (Up (Q tops) k v) d M
+      → In (record { from = from; to = k; message = m }) M.sent → is_meant t m ≡ true → handle k d t from m ≡ Took v outs → AreOfTops tops m → IsOwnVote m → Q tops (up k d t M) → Walks (Q tops) e k outs (Up (Q tops) k v) d M
   pub act : (tops : Kinds) (e k : ℕ) (d : Disk) (t : Parts) (i : Input) (M : Seen) → tops.walk ≡ None → KnowsNode tops k d t M → R (up k d t M)
       → is_act i ≡ true → refusal_up hd i t.coord ≡ None → Q tops (up k d t M) → DidKeeps (Q tops) e k d t (acts i d.intents t.coord) M
   pub begin : (tops : Kinds) (e k : ℕ) (d : Disk) (t : Parts) (l : Label) (how : Kind) (parent : Option Label) (M : Seen) → tops.walk ≡ None → KnowsNode tops k d t M → R (up k d t M)
@@ -186,7 +186,7 @@ module _ (hd : Header) (x : ℕ) (R G : Seen → Type 0) (Q : Kinds → Seen →
       (kept_walk begun e k d t v outs M (subst (KeptBy begun t.coord) is (message_kept begun k d t from (λ a r. heard_kept begun (paths_of begun) (begun_tree begun h.0.begun) from a r d.intents t.coord (good_coord e k d t M (begun, h.0))) (λ u. acked_kept begun from u d.intents t.coord) m)) h.2)
       (let p = subst (PlacedBy begun k) is (message_placed begun h.0.begun k d t from (both_here begun h.0.begun k d t M h.3) (up_here begun h.0.begun k d t M h.3) m (heard_placed begun e k d t M h.0 from m sent meant (gives begun k d t M (h.4, more) h.0) (h.3.votes (record { from = from; to = k; message = m }) sent) (let u = up_here begun h.0.begun k d t M h.3 in u.coord)) (acked_means begun e k d t M h.0 from) (query_means begun e k d t M h.0 from) (h.0.fits (record { from = from; to = k; message = m }) sent)
       (by_top x begun k m (asks m) (let s = each.sees (kinds_of begun) (up k d t M) (h.5 (kinds_of begun) (kinds_agree begun h.0.begun h.1)) in (kinds_of begun, s.0, M.lines, from, s.1.posts (record { from = from; to = k; message = m }) sent)))) in placed_walk begun e k d t v outs M p.0 p.1 h.3) (kept.message e k d t v from m outs M h.4 sent meant is)
-      (λ tops agree. each.message tops e k d t v from m outs M agree.unwalked (knows_node tops begun k d t M h.0 agree h.2 h.3) (h.4, more) sent meant is (of_request begun h.0.begun tops agree m (h.0.fits (record { from = from; to = k; message = m }) sent)) (h.5 tops agree))
+      (λ tops agree. each.message tops e k d t v from m outs M agree.unwalked (knows_node tops begun k d t M h.0 agree h.2 h.3) (h.4, more) sent meant is (of_request begun h.0.begun tops agree m (h.0.fits (record { from = from; to = k; message = m }) sent)) (let p = h.3 in p.votes (record { from = from; to = k; message = m }) sent) (h.5 tops agree))
 
   act_keeps : (e k : ℕ) (d : Disk) (t : Parts) (i : Input) (M : Seen) → is_act i ≡ true → refusal_up hd i t.coord ≡ None → G (up k d t M) → P (up k d t M) → DidKeeps P e k d t (acts i d.intents t.coord) M
   act_keeps e k d t i M is free more (begun, h) = let did = acts i d.intents t.coord in

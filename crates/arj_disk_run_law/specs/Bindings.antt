@@ -1,4 +1,4 @@
--- Bindings at naming: each is of its incarnation, and their counts are short.
+-- Bindings at naming: each is of its incarnation, and their counts are short. And what is known in every run beside what is kept there.
 use Rattle.std.specs.Prelude.{◌≡◌, ◌<◌, ◌+◌, ℕ, Some}
 use Rattle.arj_protocol.specs.Words.{Uid, Binding}
 use Rattle.arj_protocol.specs.Named.{Live, Made, Named}
@@ -7,6 +7,7 @@ use Rattle.arj_protocol.specs.Node.{Parts}
 use Rattle.arj_protocol.specs.Order.{at_number, at_uid}
 use Rattle.arj_protocol.specs.Step.{Node}
 use Rattle.arj_call_law.specs.Bindings.{AreSaid}
+use Rattle.arj_coord_law.specs.Uses.{KnowsTops}
 use Rattle.arj_lock_fact_law.specs.Uppers.{ObjectsAreHeld}
 use Rattle.arj_run_law.specs.Worlds.{IsGood}
 use Rattle.arj_view_law.specs.Seen.{Seen}
@@ -31,6 +32,10 @@ pub record NamesOwn (n : Naming) : Type 0 where
 abbrev pub AllNameOwn : Seen → Type 0
 AllNameOwn M = (k : ℕ) (n : Node) (t : Parts) (o : Naming) → M.nodes k ≡ Some n → n.live ≡ Some t → t.naming ≡ Some o → NamesOwn o
 
--- nodes are good, with the objects at naming, and naming counted no more bindings than the journal says
+-- coordinators that are up know who takes part in their tops
+abbrev pub AllKnowTops : Seen → Type 0
+AllKnowTops M = (k : ℕ) (n : Node) (t : Parts) → M.nodes k ≡ Some n → n.live ≡ Some t → KnowsTops t.coord
+
+-- nodes are good and know their tops, with the objects at naming, and naming counted no more bindings than the journal says
 abbrev pub AreGoodCounted : Seen → Type 0
-AreGoodCounted M = IsGood M × (ObjectsAreHeld M × AreSaid M)
+AreGoodCounted M = (IsGood M × AllKnowTops M) × (ObjectsAreHeld M × AreSaid M)

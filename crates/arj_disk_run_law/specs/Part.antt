@@ -23,6 +23,7 @@ use Rattle.arj_disk_view_law.specs.Sees.{Kinds}
 use Rattle.arj_names_view_law.specs.Both.{OnlyAnswers, OnlyFound, SeesBoth}
 use Rattle.arj_names_view_law.specs.Handlers.{Change, Changes, IsForGrants, MayGoOn, MayRecord, Quietly, change_by}
 use Rattle.arj_disk_run_law.specs.Kinds.{AreOfTops}
+use Rattle.arj_disk_run_law.specs.Sound.{IsOwnVote}
 
 -- ---- a step
 
@@ -74,7 +75,7 @@ pub record KeepsPart (hd : Header) (x : ℕ) (R : Seen → Type 0) (P : Kinds �
   pub quiet : (tops : Kinds) (e : ℕ) (bs : List Body) (M : Seen) (A : Office) → tops.walk ≡ None → AreQuiet bs → R M → SeesBoth x tops A M → P tops A M → HoldsFrom P x tops Quietly A (said e bs M)
   pub stop : (tops : Kinds) (e k : ℕ) (d : Disk) (live : Option Parts) (M : Seen) (A : Office) → tops.walk ≡ None → R (at k d live M) → SeesBoth x tops A (at k d live M) → P tops A (at k d live M) → HoldsFrom P x tops Quietly A (halted e k d M)
   pub message : (tops : Kinds) (e k : ℕ) (d : Disk) (t v : Parts) (from : ℕ) (m : Message) (outs : List Effect) (M : Seen) (A : Office) → tops.walk ≡ None → KnowsNode tops k d t M → R (up k d t M)
-      → In (record { from = from; to = k; message = m }) M.sent → is_meant t m ≡ true → handle k d t from m ≡ Took v outs → AreOfTops tops m → SeesBoth x tops A (up k d t M) → P tops A (up k d t M)
+      → In (record { from = from; to = k; message = m }) M.sent → is_meant t m ≡ true → handle k d t from m ≡ Took v outs → AreOfTops tops m → IsOwnVote m → SeesBoth x tops A (up k d t M) → P tops A (up k d t M)
       → (h : HasHeard P x tops (change_by x d t m) A (record { event = e; node = k; disk = d; before = t; outs = outs; after = v }, M)) × MayGoOn x h.office v.coord × ((n : Naming) → t.naming ≡ Some n → MayRecord x d n m h.office × IsForGrants x d n m h.office)
   pub act : (tops : Kinds) (e k : ℕ) (d : Disk) (t : Parts) (i : Input) (M : Seen) (A : Office) → tops.walk ≡ None → KnowsNode tops k d t M → R (up k d t M) → is_act i ≡ true → refusal_up hd i t.coord ≡ None → SeesBoth x tops A (up k d t M) → P tops A (up k d t M)
       → (h : HasHeard P x tops Quietly A (going_of e k d t (acts i d.intents t.coord), M)) × MayGoOn x h.office (let did = acts i d.intents t.coord in did.part)

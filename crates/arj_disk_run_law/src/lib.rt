@@ -8,7 +8,8 @@
 //! made, as in the run of every script (`arj_binding_law`); that bindings are of naming's incarnation `arj_lock_fact_law` gives
 //! (`specs/Bindings.antt`). A relation is kept beside the machine's state (`specs/Part.antt`), of
 //! what coordinators have of naming's answers and what messages claim of them (`specs/Heard.antt`), by which commits begin and Confirms
-//! are booked; of it some steps are still taken as known (`specs/Rest.antt`). It gives upward `runs_keep_the_disk_half`.
+//! are booked; what naming and commits count on beside it is still taken as known (`specs/Rest.antt`). It gives upward
+//! `runs_keep_the_disk_half`.
 #![tactic(auto)]
 
 mod runs;

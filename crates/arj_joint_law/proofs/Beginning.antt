@@ -31,7 +31,8 @@ use Rattle.arj_disk_run_law.specs.Part.{Going, HasHeard, KeepsPart, are_recorded
 use Rattle.arj_disk_run_law.specs.Bindings.{AreGoodCounted}
 use Rattle.arj_disk_run_law.proofs.Bindings.{good_counted}
 use Rattle.arj_disk_run_law.proofs.BothEach.{heard_part}
-use Rattle.arj_disk_line_law.proofs.Tying.{goes_along, goes_by, journalled_beside}
+use Rattle.arj_disk_line_law.proofs.Tying.{goes_by, journalled_beside}
+use Rattle.arj_disk_run_law.proofs.Decisions.{goes_along}
 use Rattle.arj_serial_law.specs.Cleaned.{BeginsSo}
 use Rattle.arj_joint_law.specs.Begun.{IsBegunSo, RunsBeginSo, RunsBeginSoBeside}
 use Rattle.arj_joint_law.proofs.Firsts.{begins_so, line_there}
@@ -67,8 +68,8 @@ module _ (hd : Header) (x : ℕ) (R : Seen → Type 0) (P : Kinds → Office →
   first_part first = record {
     quiet = λ tops e bs M A walk quiet r both (part, b) B changed seen. (parts.quiet tops e bs M A walk quiet r both part B changed seen, begins_by Quietly tops A B M both b changed);
     stop = λ tops e k d live M A walk r both (part, b) B changed seen. (parts.stop tops e k d live M A walk r both part B changed seen, begins_by Quietly tops A B _ both b changed);
-    message = λ tops e k d t v from m outs M A walk n r sent meant is of both (part, b).
-        let p = parts.message tops e k d t v from m outs M A walk n r sent meant is of both part in
+    message = λ tops e k d t v from m outs M A walk n r sent meant is of owned both (part, b).
+        let p = parts.message tops e k d t v from m outs M A walk n r sent meant is of owned both part in
         (heard tops (change_by x d t m) A (record { event = e; node = k; disk = d; before = t; outs = outs; after = v }) M b p.0, p.1, p.2);
     act = λ tops e k d t i M A walk n r is free both (part, b).
         let did = acts i d.intents t.coord in

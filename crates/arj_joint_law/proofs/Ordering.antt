@@ -39,7 +39,8 @@ use Rattle.arj_line_law.specs.Right.{MayBeFound}
 use Rattle.arj_disk_line_law.specs.Said.{AreDone}
 use Rattle.arj_disk_line_law.proofs.IdleKnown.{KnowsIdle}
 use Rattle.arj_disk_line_law.proofs.Steps.{IsNear, IsStep, near_same, nothing_more, step_halted, step_walk}
-use Rattle.arj_disk_line_law.proofs.Tying.{goes_along, goes_by, was_up}
+use Rattle.arj_disk_line_law.proofs.Tying.{goes_by, was_up}
+use Rattle.arj_disk_run_law.proofs.Decisions.{goes_along}
 use Rattle.arj_joint_law.specs.Ordered.{AreCalled, AreTurns, IsOrdered, NewTops}
 use Rattle.arj_joint_law.proofs.Turns.{IdleThere, effects_grow, ordered_step}
 
@@ -197,8 +198,8 @@ module _ (hd : Header) (x : ℕ) (R G : Seen → Type 0) (P : Kinds → Office �
         goes_to_next tops (Changes Quietly A) A M (comes_by Quietly A M (let z = both.disks in z.whole) (λ z keeps is. quietly z keeps is)) (ties tops A M part) order (said e bs M) (parts.quiet tops e bs M A walk quiet r both part) (kept.quiet e bs M quiet r.0) (quiet_step e bs M) B changed seen;
     stop = λ tops e k d live M A walk r both (part, order) B changed seen.
         goes_to_next tops (Changes Quietly A) A (at k d live M) (comes_by Quietly A (at k d live M) (let z = both.disks in z.whole) (λ z keeps is. quietly z keeps is)) (ties tops A (at k d live M) part) order (halted e k d M) (parts.stop tops e k d live M A walk r both part) (kept.stop e k d live M r.0) (step_halted k d live M e d M (near_same M) (λ down. refl)) B changed seen;
-    message = λ tops e k d t v from m outs M A walk n r sent meant is of both (part, order).
-        let p = parts.message tops e k d t v from m outs M A walk n r sent meant is of both part in (
+    message = λ tops e k d t v from m outs M A walk n r sent meant is of owned both (part, order).
+        let p = parts.message tops e k d t v from m outs M A walk n r sent meant is of owned both part in (
           heard tops (change_by x d t m) A (record { event = e; node = k; disk = d; before = t; outs = outs; after = v }) M (let z = both.disks in z.whole)
               (λ z keeps by u uz. called_there tops k d t M n (known (up k d t M) r.0) z (who_decides x d t m z keeps by) u uz) (ties tops A (up k d t M) part) order p.0
               (kept.message e k d t v from m outs M r.0 sent meant is) (step_walk k d (Some t) M e v outs d M (near_same M) (was_up t) (was_up t)),

@@ -8,7 +8,8 @@ use Rattle.arj_protocol.specs.Commit as commit
 use Rattle.arj_protocol.specs.Commit.{Used, changed_of, included_of}
 use Rattle.arj_protocol.specs.Coord as coord
 use Rattle.arj_protocol.specs.Coord.{Coord, Joined, Root, Said, root_at, top_uses}
-use Rattle.arj_protocol.specs.Ending.{decided, root_after}
+use Rattle.arj_protocol.specs.Call.{Known}
+use Rattle.arj_protocol.specs.Ending.{decided, kept_after, list_after, root_after}
 use Rattle.arj_protocol.specs.Order.{at_number, uid_number}
 use Rattle.arj_protocol.specs.Tree.{is_spent, root_of}
 use Rattle.arj_protocol.proofs.Numbers.{number_tells}
@@ -17,7 +18,7 @@ use Rattle.arj_disk_law.specs.Named.{Named}
 use Rattle.arj_disk_law.specs.Names.{Names, Office, Kept, Loaded, lists_after, or_else, retained, with_list, written_in}
 use Rattle.arj_disk_law.specs.Offices.{chosen}
 use Rattle.arj_disk_law.specs.State as disk
-use Rattle.arj_disk_law.specs.State.{State, Done, Plan, list_after, target}
+use Rattle.arj_disk_law.specs.State.{State, Done, Plan, list_after as list_left, target}
 use Rattle.arj_disk_law.specs.Words.{In, has, put}
 use Rattle.arj_disk_law.proofs.Base.{falls_to, never, put_cases, some_is, test_is, test_same}
 use Rattle.arj_disk_view_law.specs.Asking.{SeesConfirming}
@@ -28,14 +29,14 @@ use Rattle.arj_disk_view_law.specs.Sees.{IsFixed, IsLater, Kinds}
 use Rattle.arj_disk_view_law.proofs.Asked as confirm
 use Rattle.arj_disk_view_law.proofs.Later.{effects_are_later}
 use Rattle.arj_names_view_law.specs.Both.{IsEndedBare, IsRecorded, OnlyDecided, SeesRootOf, decided_names, ended_names, has_part}
-use Rattle.arj_names_view_law.specs.Decided.{DecidedRootsAreSeen, DecidesTop, IsSettled}
+use Rattle.arj_names_view_law.specs.Decided.{DecidedCallsHaveLists, DecidedRootsAreSeen, DecidesTop, IsSettled}
 use Rattle.arj_names_view_law.specs.Grants.{SeesGrants}
 use Rattle.arj_names_view_law.specs.Handlers.{root_retains}
-use Rattle.arj_names_view_law.specs.Lists.{AfterDecision, IsLasting, IsSaid, SeesLists}
+use Rattle.arj_names_view_law.specs.Lists.{AfterDecision, HasList, HasRetained, IsLasting, IsSaid, IsTopOf, SeesLists}
 use Rattle.arj_names_view_law.specs.Loads.{HaveLoads, KeepsState}
 use Rattle.arj_names_view_law.proofs.DecidedTrees as tree
 use Rattle.arj_names_view_law.proofs.GrantSteps.{grants_are_retained, grants_stay}
-use Rattle.arj_names_view_law.proofs.ListEnds.{decisions_keep_lists, retained_lists_are_seen}
+use Rattle.arj_names_view_law.proofs.ListEnds.{decisions_keep_lists, list_on, list_too, retained_lists_are_seen, retained_on, retained_too}
 use Rattle.arj_names_view_law.proofs.LoadSteps.{decisions_keep_states, states_left}
 
 -- ---- kept lists where nothing was sent
@@ -44,7 +45,7 @@ no_joins : (s : List ℕ) → ((n : ℕ) → has n s ≡ false) → s ≡ []
 no_joins [] off = refl
 no_joins (n ∷ ns) off = absurd (never (ap (λ b. b || has n ns) (test_same n)) (off n))
 
-left_whole : (p : Plan) (got : ℕ → Bool) (l : List ℕ) → ((s : ℕ) → target p s ≡ false) → list_after p got l ≡ l
+left_whole : (p : Plan) (got : ℕ → Bool) (l : List ℕ) → ((s : ℕ) → target p s ≡ false) → list_left p got l ≡ l
 left_whole p got l off = (λ i. all l i ++ filter got (none i)) ∙ end l
   where
     none : p.joins ≡ []
@@ -89,7 +90,7 @@ retained_own S t N own = ap (λ r. record N { had = put r (λ i. N.had r i || N.
 
 -- ---- what the plan changes
 
-found_among : (f : ObjectState → Bool) (ss : List ObjectState) (st : ObjectState) → find f ss ≡ Some st → Among st ss × (f st ≡ true)
+pub found_among : (f : ObjectState → Bool) (ss : List ObjectState) (st : ObjectState) → find f ss ≡ Some st → Among st ss × (f st ≡ true)
 found_among f [] st is = absurd (cc is)
 found_among f (s ∷ ss) st is = by (f s) refl is (λ h. found_among f ss st h)
   where
@@ -193,8 +194,22 @@ module _ (x : ℕ) (tops : Kinds) (root t : Uid) (p : commit.Plan) (c : Coord) (
   unused : root_retains x t p c ≡ false → top_uses t x r c ≡ false
   unused off = subst (λ k. top_uses t x (root_at k c) c ≡ false) top.of_root (or_parts (top_uses t x (root_at (root_of p.path) c) c) (has_part (plan_at x p)) off).0
 
+  -- a call under way of a top of the root has a list of what the root keeps
+  abbrev Calls : Names → Type 0
+  Calls N = (w : Uid) (k : Known) → IsTopOf tops root w → HasList A.names (uid_number w) k ⊎ HasRetained A.names (uid_number root) k → HasList N (uid_number w) (list_after p x k) ⊎ HasRetained N (uid_number root) (list_after p x k)
+
+  calls_left : Calls L
+  calls_left w k of h = ⊎_elim
+      (λ l. inl (list_on x tops root t c d r q p S A.names fixed_then has_root.lists top.top top.own_root said_then decision (uid_number w) k (ap (λ f. f (uid_number w)) fixed_then.root ∙ of.of_root) l))
+      (λ l. inr (retained_on x tops root t c d r q p S A.names fixed_then has_root.lists top.top top.own_root said_then decision k l)) h
+
+  calls_kept : tops.is_serial (uid_number root) ≡ true → Calls (retained B.world.disk (uid_number t) L)
+  calls_kept serial w k of h = ⊎_elim
+      (λ l. inl (list_too x tops root t c d r q p S A.names fixed_then has_root.lists top.top top.own_root said_then decision serial named.lists.had more w (list_after p x k) of l))
+      (λ l. inr (retained_too x tops root t c d r q p S A.names fixed_then has_root.lists top.top top.own_root said_then decision serial named.lists.had more (list_after p x k) l)) (calls_left w k of h)
+
   abbrev Has : Names → Type 0
-  Has N = SeesGrants x root d q S N × SeesLists x tops root d q N
+  Has N = SeesGrants x root d q S N × SeesLists x tops root d q N × Calls N
 
   kept_by : (serial : Bool) → tops.is_serial (uid_number root) ≡ serial → root_retains x t p c ≡ true → Has (retained B.world.disk (uid_number t) L)
   kept_by true serial on = (
@@ -202,12 +217,13 @@ module _ (x : ℕ) (tops : Kinds) (root t : Uid) (p : commit.Plan) (c : Coord) (
         (ap (λ f. f n) fixed_then.serial ∙ top.top.plain) (ap (λ f. f (uid_number root)) fixed_then.serial ∙ serial)
         (tree.now_retained x t p c top.branch top.doing top.found top.unended top.at_work r q same_said same_joined (top.kind ∙ serial) (uses_top on)),
     retained_lists_are_seen x tops root t c d r q p S A.names fixed_then has_root.lists named.lists.had top.top top.own_root serial said_then decision more,
+    calls_kept serial,
   )
-  kept_by false serial on = subst Has (sym (retained_own S n L (held.roots.plain n (ap S.serial t_root ∙ ap (λ f. f (uid_number root)) fixed_then.serial ∙ serial)))) (grants_left, lists_left (inr serial))
+  kept_by false serial on = subst Has (sym (retained_own S n L (held.roots.plain n (ap S.serial t_root ∙ ap (λ f. f (uid_number root)) fixed_then.serial ∙ serial)))) (grants_left, lists_left (inr serial), calls_left)
 
   has_names : (keeps : Bool) → root_retains x t p c ≡ keeps → Has (decided_names keeps B.world.disk (uid_number t) A.names)
   has_names true is = kept_by (tops.is_serial (uid_number root)) refl is
-  has_names false is = (grants_left, lists_left (inl (unused is)))
+  has_names false is = (grants_left, lists_left (inl (unused is)), calls_left)
 
   -- ---- loads and states
 
@@ -253,26 +269,33 @@ module _ (x : ℕ) (tops : Kinds) (root t : Uid) (p : commit.Plan) (c : Coord) (
 
   -- ---- whichever way
 
-  all_of : Has B.names → KeepsState x root q B.world.disk → SeesRootOf x tops root d q B
-  all_of has_it state = record { grants = has_it.0; lists = has_it.1; loads = loads_then; state = state }
-
   undone : disk.decided A.world.disk n ≡ false
   undone = falls_to (disk.decided A.world.disk n) (λ e. never (named.whole.core.coordinators.decided_closed n e) (ap disk.is_gone sees.stage))
 
   unended : A.world.disk.bare n ≡ true → ⊥
   unended e = never (named.whole.core.bare.gone n e) (ap disk.is_gone sees.stage)
 
-  pub root_seen : SeesRootOf x tops root d q B
-  root_seen = ⊎_elim
+  all_seen : Has B.names × KeepsState x root q B.world.disk
+  all_seen = ⊎_elim
       (λ u. absurd (⊎_elim (λ e. never (ap (λ ds. disk.decided_in ds n) (sym u.tops) ∙ e) undone) (λ e. unended (u.bare e)) settled))
       (λ h. ⊎_elim
-      (λ (z : IsRecorded (root_retains x t p c) n A B). all_of (subst Has (sym z.names) (has_names (root_retains x t p c) refl)) (state_recorded z))
-      (λ (z : IsEndedBare (root_retains x t p c) n A B). all_of (subst Has (sym (z.names ∙ same_ended (root_retains x t p c) (held.whole.core.bare.untouched n z.bare))) (has_names (root_retains x t p c) refl)) (state_bare z))
+      (λ (z : IsRecorded (root_retains x t p c) n A B). (subst Has (sym z.names) (has_names (root_retains x t p c) refl), state_recorded z))
+      (λ (z : IsEndedBare (root_retains x t p c) n A B). (subst Has (sym (z.names ∙ same_ended (root_retains x t p c) (held.whole.core.bare.untouched n z.bare))) (has_names (root_retains x t p c) refl), state_bare z))
       h)
       (only.how n (λ z is. test_is z n is))
     where
       same_ended : (keeps : Bool) → ((s : ℕ) → target (S.plan n) s ≡ false) → ended_names keeps S n A.names ≡ decided_names keeps S n A.names
       same_ended keeps off = ap (λ k. let N = record A.names { kept = k } in chosen keeps (retained S n N) N) (sym (lists_whole S n A.names.kept off))
 
+  pub root_seen : SeesRootOf x tops root d q B
+  root_seen = record { grants = all_seen.0.0; lists = all_seen.0.1; loads = loads_then; state = all_seen.1 }
+
+  pub call_seen : (w : Uid) (k : Known) → IsTopOf tops root w → coord.kept_of x (root_at root c) ≡ Some k → HasList A.names (uid_number w) k ⊎ HasRetained A.names (uid_number root) k
+      → (l : Known) × (coord.kept_of x (root_at root (decided t p c)) ≡ Some l) × (HasList B.names (uid_number w) l ⊎ HasRetained B.names (uid_number root) l)
+  call_seen w k of is h = (list_after p x k, decision.kept ∙ ap (kept_after p x) is, all_seen.0.2 w k of h)
+
 pub decided_roots_are_seen : DecidedRootsAreSeen
 decided_roots_are_seen x tops root t p c A B named held fixed fixed_then top sees has_root only settled lasting = root_seen x tops root t p c A B named held fixed fixed_then top sees has_root only settled lasting
+
+pub decided_calls_have_lists : DecidedCallsHaveLists
+decided_calls_have_lists x tops root t p c A B named held fixed fixed_then top sees has_root only settled lasting w k of is h = call_seen x tops root t p c A B named held fixed fixed_then top sees has_root only settled lasting w k of is h

@@ -151,7 +151,7 @@ module _ (x : ℕ) (tops : Kinds) (root t : Uid) (c d : Coord) (r q : Root) (p :
   root_root : S.root (uid_number root) ≡ uid_number root
   root_root = ap (λ f. f (uid_number root)) fixed.root ∙ own_root
 
-  list_on : (z : ℕ) (k : Known) → S.root z ≡ uid_number root → HasList N z k → HasList (record N { kept = lists_after S (uid_number t) N.kept }) z (root_list p x k)
+  pub list_on : (z : ℕ) (k : Known) → S.root z ≡ uid_number root → HasList N z k → HasList (record N { kept = lists_after S (uid_number t) N.kept }) z (root_list p x k)
   list_on z k is h = record {
     kept = record { since = h.kept.since; list = list_after (S.plan (uid_number t)) (S.got (uid_number t)) h.kept.list };
     there = in_root z is ∙ ap (with_list (S.plan (uid_number t)) (S.got (uid_number t))) h.there;
@@ -159,7 +159,7 @@ module _ (x : ℕ) (tops : Kinds) (root t : Uid) (c d : Coord) (r q : Root) (p :
     within = after_within x S t p h.kept.list k.stores says h.within;
   }
 
-  retained_on : (k : Known) → HasRetained N (uid_number root) k → HasRetained (record N { kept = lists_after S (uid_number t) N.kept }) (uid_number root) (root_list p x k)
+  pub retained_on : (k : Known) → HasRetained N (uid_number root) k → HasRetained (record N { kept = lists_after S (uid_number t) N.kept }) (uid_number root) (root_list p x k)
   retained_on k h = record { had = h.had; kept = record { since = h.kept.since; list = list_after (S.plan (uid_number t)) (S.got (uid_number t)) h.kept.list }; there = in_root (uid_number root) root_root ∙ ap (with_list (S.plan (uid_number t)) (S.got (uid_number t))) h.there }
 
   agrees : (k : Known) (h : Uid) (l : Kept) → kept_of x q ≡ Some k → (h ≡ root) ⊎ IsTopOf tops root h → lists_after S (uid_number t) N.kept (uid_number h) ≡ Some l → l.since ≡ (let b = k.binding in b.inc) → IsWithin l.list k.stores
@@ -230,7 +230,7 @@ module _ (x : ℕ) (tops : Kinds) (root t : Uid) (c d : Coord) (r q : Root) (p :
     kept_other : (w : Uid) → IsTopOf tops root w → (let M = retained S (uid_number t) (record N { kept = lists_after S (uid_number t) N.kept }) in M.kept (uid_number w)) ≡ lists_after S (uid_number t) N.kept (uid_number w)
     kept_other w of = ap (λ b. if b then root_kept else lists_after S (uid_number t) N.kept (uid_number w)) (not_root w of)
 
-    list_too : (w : Uid) (k : Known) → IsTopOf tops root w → HasList (record N { kept = lists_after S (uid_number t) N.kept }) (uid_number w) k → HasList (retained S (uid_number t) (record N { kept = lists_after S (uid_number t) N.kept })) (uid_number w) k
+    pub list_too : (w : Uid) (k : Known) → IsTopOf tops root w → HasList (record N { kept = lists_after S (uid_number t) N.kept }) (uid_number w) k → HasList (retained S (uid_number t) (record N { kept = lists_after S (uid_number t) N.kept })) (uid_number w) k
     list_too w k of h = record { kept = h.kept; there = kept_other w of ∙ h.there; since = h.since; within = h.within }
 
     had_root : (i : ℕ) → (N.had (S.root (uid_number t)) i ≡ true) ⊎ (N.had (uid_number t) i ≡ true) → (let M = retained S (uid_number t) (record N { kept = lists_after S (uid_number t) N.kept }) in M.had (uid_number root) i) ≡ true
@@ -255,7 +255,7 @@ module _ (x : ℕ) (tops : Kinds) (root t : Uid) (c d : Coord) (r q : Root) (p :
     of_either None b l e = inr e
     of_either (Some m) b l e = inl e
 
-    retained_too : (k : Known) → HasRetained (record N { kept = lists_after S (uid_number t) N.kept }) (uid_number root) k → HasRetained (retained S (uid_number t) (record N { kept = lists_after S (uid_number t) N.kept })) (uid_number root) k
+    pub retained_too : (k : Known) → HasRetained (record N { kept = lists_after S (uid_number t) N.kept }) (uid_number root) k → HasRetained (retained S (uid_number t) (record N { kept = lists_after S (uid_number t) N.kept })) (uid_number root) k
     retained_too k h = record {
       had = had_rises (uid_number root) (let b = k.binding in b.inc) h.had;
       kept = h.kept;

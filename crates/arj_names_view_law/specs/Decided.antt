@@ -2,7 +2,8 @@
 use Rattle.std.specs.Prelude.{◌≡◌, ◌⊎◌, ◌==◌, ℕ, true, false, List, ◌∷◌, None, Some, Contains}
 use Rattle.arj_protocol.specs.Words.{Uid, ObjectState, is_on, object}
 use Rattle.arj_protocol.specs.Commit as commit
-use Rattle.arj_protocol.specs.Coord.{Coord, Doing, Said, doing_of, root_at, top_uses}
+use Rattle.arj_protocol.specs.Call.{Known}
+use Rattle.arj_protocol.specs.Coord.{Coord, Doing, Said, doing_of, kept_of, root_at, top_uses}
 use Rattle.arj_protocol.specs.Ending.{decided}
 use Rattle.arj_protocol.specs.Order.{uid_number}
 use Rattle.arj_protocol.specs.Tree.{Branch, behind, branch_of, is_constituent, root_of}
@@ -15,7 +16,7 @@ use Rattle.arj_disk_view_law.specs.Plans.{plan_at}
 use Rattle.arj_disk_view_law.specs.Sees.{AreOneChange, IsFixed, Kinds}
 use Rattle.arj_names_view_law.specs.Both.{OnlyDecided, SeesRootOf, has_part}
 use Rattle.arj_names_view_law.specs.Handlers.{root_retains}
-use Rattle.arj_names_view_law.specs.Lists.{IsLasting, IsTopOf}
+use Rattle.arj_names_view_law.specs.Lists.{HasList, HasRetained, IsLasting, IsTopOf}
 
 -- the path begins with the root, and the top stands on it once at most
 pub record GoesOnce (root t : Uid) (path : List Uid) : Type 0 where
@@ -51,3 +52,10 @@ abbrev pub DecidedRootsAreSeen : Type 0
 DecidedRootsAreSeen = (x : ℕ) (tops : Kinds) (root t : Uid) (p : commit.Plan) (c : Coord) (A B : Office) → Named A → Named B → IsFixed tops A.world.disk → IsFixed tops B.world.disk → DecidesTop x tops root t p c → SeesConfirming x A.world.disk (uid_number t) p
     → SeesRootOf x tops root c (root_at root c) A → OnlyDecided (λ z. z == uid_number t) (λ z. root_retains x t p c) A B → IsSettled B (uid_number t)
     → (let d = decided t p c in IsLasting x d (root_at root d) → SeesRootOf x tops root d (root_at root d) B)
+
+-- And a call under way in this root, by a top of it, has a list of what the root keeps afterwards, if it had one before.
+abbrev pub DecidedCallsHaveLists : Type 0
+DecidedCallsHaveLists = (x : ℕ) (tops : Kinds) (root t : Uid) (p : commit.Plan) (c : Coord) (A B : Office) → Named A → Named B → IsFixed tops A.world.disk → IsFixed tops B.world.disk → DecidesTop x tops root t p c → SeesConfirming x A.world.disk (uid_number t) p
+    → SeesRootOf x tops root c (root_at root c) A → OnlyDecided (λ z. z == uid_number t) (λ z. root_retains x t p c) A B → IsSettled B (uid_number t) → (let d = decided t p c in IsLasting x d (root_at root d))
+    → (w : Uid) (k : Known) → IsTopOf tops root w → kept_of x (root_at root c) ≡ Some k → HasList A.names (uid_number w) k ⊎ HasRetained A.names (uid_number root) k
+    → (let d = decided t p c in (l : Known) × (kept_of x (root_at root d) ≡ Some l) × (HasList B.names (uid_number w) l ⊎ HasRetained B.names (uid_number root) l))
