@@ -39,7 +39,8 @@ top_own (c ∷ acts) begun a (inl is) unnested unserial = subst (λ (z : Action)
 
 -- ---- an answer for each top
 
-abbrev grants_in : Ask → Grants
+-- what a Confirm names
+abbrev pub grants_in : Ask → Grants
 grants_in (ask.Confirm grants excluded included) = grants
 grants_in _ = []
 
@@ -93,7 +94,7 @@ in_any x u [] p i so = absurd i
 
 module _ (x : ℕ) (begun : List Action) (M : Seen) (good : IsGoodOf begun M) (knows : KnowsParted begun M) where
   -- who confirms is its own top
-  own_top : (p : Post) (h : Head) (grants : Grants) (excluded included : Marks) → In p M.sent → asks p.message ≡ Some (h, ask.Confirm grants excluded included) → top_of h.path ≡ actor h.path
+  pub own_top : (p : Post) (h : Head) (grants : Grants) (excluded included : Marks) → In p M.sent → asks p.message ≡ Some (h, ask.Confirm grants excluded included) → top_of h.path ≡ actor h.path
   own_top p h grants excluded included there is =
       let fit : FitsAsked begun p.message (Some (h, ask.Confirm grants excluded included)) = subst (FitsAsked begun p.message) is (good.fits p there) in
       let t = knows.tops p h (ask.Confirm grants excluded included) there is refl in

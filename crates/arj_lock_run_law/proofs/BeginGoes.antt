@@ -1,5 +1,5 @@
 -- An action begins, in the whole world: all that was seen is seen with it.
-use Rattle.std.proofs.Common.{◌||◌, ◌≡◌, ◌≢◌, ◌∙◌, ℕ, List, [], ◌∷◌, ◌++◌, true, false, Option, Some, None, sym, ap, subst, inl, inr, ⊎_elim, Contains}
+use Rattle.std.proofs.Common.{◌||◌, ◌≡◌, ◌≢◌, ◌∙◌, ℕ, List, [], ◌∷◌, ◌++◌, true, false, Option, Some, None, refl, sym, ap, subst, inl, inr, ⊎_elim, Contains}
 use Rattle.arj_base.proofs.Uids.{uid_same}
 use Rattle.arj_lock.proofs.Members.{in_from, in_to}
 use Rattle.arj_protocol.specs.Words.{Kind, Label, Uid, first_uid, is_on, uids_of}
@@ -30,7 +30,8 @@ use Rattle.arj_lock_run_law.specs.Fixed.{Fixed, view_of}
 use Rattle.arj_lock_run_law.specs.Sees.{ArePast, AreRecordsOf, IsFresh, SeesMemory, SeesUp}
 use Rattle.arj_lock_run_law.specs.Tied.{AreTied}
 use Rattle.arj_lock_run_law.proofs.GoodSteps.{its, steady}
-use Rattle.arj_lock_run_law.proofs.OtherSteps.{SeesOthers, here_of, others_of, reached_of, said_others, with_here}
+use Rattle.arj_lock_run_law.proofs.NameSteps.{confirms_same}
+use Rattle.arj_lock_run_law.proofs.OtherSteps.{confirms_of, SeesOthers, here_of, others_of, reached_of, said_others, with_here}
 use Rattle.arj_lock_run_law.proofs.PostSteps.{posts_stay}
 use Rattle.arj_lock_run_law.proofs.TieSteps.{tied_begins, tied_now}
 
@@ -87,6 +88,7 @@ module _ (f : Fixed) (x : ℕ) (begun : List Action) (a : Action) (S : State) wh
   others_more k e M home z = record {
     run = z.run;
     nodes = λ j n other is. memory_more j n.disk n.live (λ at. other (sym at ∙ home)) (z.nodes j n other is);
+    confirms = z.confirms;
     posts = λ p there. posts_stay f x begun (a ∷ begun) M.sent M.sent p S S more (λ r i. i) (reached_of f x begun k S M z) stay (z.posts p there);
     fresh = fresh_more z.fresh;
     now = z.now;
@@ -180,8 +182,9 @@ begins_go c s e l g how parent above is_seen begins may empty = λ agrees. (
   with_here c.fixed c.x (beginning how above (coord_at s) ∷ c.begun) s.node s.disk (Some (with_coord s.parts (let D = begin_action l how parent above (coord_at s) in D.part))) c.state (said e (began_line l how (next_uid (let q = coord_at s in q.tree)) parent ∷ []) (given l g s.seen))
       (others_with c s is_seen l how parent above begins may empty e (said e (began_line l how (next_uid (let q = coord_at s in q.tree)) parent ∷ []) (given l g s.seen))
       (said_others c.fixed c.x c.begun s.node e (began_line l how (next_uid (let q = coord_at s in q.tree)) parent ∷ []) c.state (given l g s.seen)
-      (let z = others_of c.fixed c.x c.begun s.node s.disk (Some s.parts) c.state s.seen is_seen.sees in record { run = z.run; nodes = z.nodes; posts = z.posts; fresh = z.fresh; now = z.now })))
-      (up_more c s is_seen l how parent above begins may empty),
+      (let z = others_of c.fixed c.x c.begun s.node s.disk (Some s.parts) c.state s.seen is_seen.sees in record { run = z.run; nodes = z.nodes; confirms = z.confirms; posts = z.posts; fresh = z.fresh; now = z.now })))
+      (up_more c s is_seen l how parent above begins may empty)
+      (confirms_same c.fixed c.x c.state (let M = s.seen in M.sent) s.disk s.disk s.parts (with_coord s.parts (let D = begin_action l how parent above (coord_at s) in D.part)) refl refl (confirms_of c.fixed c.x c.begun s.node s.disk (Some s.parts) c.state s.seen is_seen.sees)),
   tied_more c s is_seen l how parent above begins may empty e,
   stay,
 )

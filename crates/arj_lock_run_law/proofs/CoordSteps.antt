@@ -21,10 +21,11 @@ use Rattle.arj_lock_view_law.specs.Telling.{View}
 use Rattle.arj_lock_run_law.specs.Beside.{Case, IsSeenIn, Spot, view_in, world_at}
 use Rattle.arj_lock_run_law.specs.Coordinating.{AreSends, AreSendsShown, CoordsGo, HasStepped}
 use Rattle.arj_lock_run_law.specs.Fixed.{Fixed, view_of}
-use Rattle.arj_lock_run_law.specs.Sees.{SeesUp}
+use Rattle.arj_lock_run_law.specs.Sees.{HaveConfirms, SeesUp}
 use Rattle.arj_lock_run_law.specs.World.{IsSeenSo}
 use Rattle.arj_lock_run_law.proofs.GoodSteps.{good_node, steady}
-use Rattle.arj_lock_run_law.proofs.OtherSteps.{SeesOthers, here_of, others_of, past_on, posted_others, records_on, said_others, with_here}
+use Rattle.arj_lock_run_law.proofs.NameSteps.{confirms_later, confirms_more, confirms_same}
+use Rattle.arj_lock_run_law.proofs.OtherSteps.{confirms_of, SeesOthers, here_of, others_of, past_on, posted_others, records_on, said_others, with_here}
 use Rattle.arj_lock_run_law.proofs.TieSteps.{IsTiedNow, tied_behind, tied_now, tied_quiet}
 use Rattle.arj_lock_run_law.proofs.UnitSteps.{naming_unit, others_unit, server_unit}
 
@@ -75,15 +76,15 @@ module _ (c : Case) (s : Spot) where
   k = s.node
 
   -- messages go out, in the state that the machine has come to
-  pub walk_sends : (e : ℕ) (v : Parts) (T : State) (outs : List Effect) (d : Disk) (M : Seen) → AreSends outs → AreSendsShown c s T outs → Within (let N = s.seen in N.sent) M.sent → SeesOthers f c.x c.begun k T M → SeesUp (view_of f c.x c.begun k) T d v → IsTiedNow f c.x c.begun T M.lines → Run c.state T
+  pub walk_sends : (e : ℕ) (v : Parts) (T : State) (outs : List Effect) (d : Disk) (M : Seen) → AreSends outs → AreSendsShown c s T outs → Within (let N = s.seen in N.sent) M.sent → SeesOthers f c.x c.begun k T M → SeesUp (view_of f c.x c.begun k) T d v → HaveConfirms f c.x T (let N = s.seen in N.sent) d (Some v) → IsTiedNow f c.x c.begun T M.lines → Run c.state T
       → Walks (IsSeenSo c) e k outs (Up (IsSeenSo c) k v) d M
-  walk_sends e v T [] d M sends shown within others up now run = λ agrees. (T, with_here f c.x c.begun k d (Some v) T M others up, now.tied, run)
-  walk_sends e v T (Send to m ∷ es) d M sends shown within others up now run = λ more quiet.
+  walk_sends e v T [] d M sends shown within others up confirms now run = λ agrees. (T, with_here f c.x c.begun k d (Some v) T M others up (confirms_more f c.x T (let N = s.seen in N.sent) M.sent within d (Some v) confirms), now.tied, run)
+  walk_sends e v T (Send to m ∷ es) d M sends shown within others up confirms now run = λ more quiet.
       let p : Post = record { from = k; to = to; message = m } in
       walk_sends e v T es d (said e more (posted p M)) sends.1 shown.1 (λ q there. inr (within q there))
-      (said_others f c.x c.begun k e more T (posted p M) (posted_others f c.x c.begun k p T M others (shown.0 (p ∷ M.sent) (λ q there. inr (within q there))))) up (tied_quiet f c.x c.begun e more T M.lines quiet now) run
-  walk_sends e v T (Say b ∷ es) d M sends shown within others up now run = absurd sends.0
-  walk_sends e v T (Do w ∷ es) d M sends shown within others up now run = absurd sends.0
+      (said_others f c.x c.begun k e more T (posted p M) (posted_others f c.x c.begun k p T M others (shown.0 (p ∷ M.sent) (λ q there. inr (within q there))))) up confirms (tied_quiet f c.x c.begun e more T M.lines quiet now) run
+  walk_sends e v T (Say b ∷ es) d M sends shown within others up confirms now run = absurd sends.0
+  walk_sends e v T (Do w ∷ es) d M sends shown within others up confirms now run = absurd sends.0
 
   -- lines are said in the state before
   pub walk_says : (e : ℕ) (v : Parts) (S : State) (bs : List Body) (rest : List Effect) (d : Disk) (M : Seen) → SeesOthers f c.x c.begun k S M → Within (let N = s.seen in N.sent) M.sent
@@ -130,10 +131,15 @@ module _ (c : Case) (s : Spot) (is_seen : IsSeenIn c (world_at s)) (u : Uid) (b 
     records = records_on S T (let o = has.only in o.ended) V None (let d = s.disk in d.intents) here.records;
   }
 
+  -- whom the node has confirmed, whatever records are on its disk
+  pub confirms_then : (e : Disk) → (let d = s.disk in e.names ≡ d.names) → HaveConfirms c.fixed c.x T (let M = s.seen in M.sent) e (Some (with_coord t C))
+  confirms_then e names = confirms_same c.fixed c.x T (let M = s.seen in M.sent) s.disk e t (with_coord t C) names refl
+      (confirms_later c.fixed c.x S T ((let f = c.fixed in f.first), (let z = is_seen.sees in z.run)) has.run (let M = s.seen in M.sent) (let M = s.seen in M.sent) (λ r i. i) s.disk (Some t) (confirms_of c.fixed c.x c.begun s.node s.disk (Some t) S s.seen is_seen.sees))
+
 pub coords_go : CoordsGo
 coords_go c s e u b bs sends C T is_seen found on are_sends has shown none tied =
     walk_says c s e (with_coord s.parts C) c.state bs sends s.disk s.seen (others_of c.fixed c.x c.begun s.node s.disk (Some s.parts) c.state s.seen is_seen.sees) (λ q there. there)
     (λ N lines within others. walk_sends c s e (with_coord s.parts C) T sends s.disk N are_sends shown within
     (others_unit c.fixed c.x (root (c.fixed.act u)) c.begun s.node c.state T N has.run has.only (home c s is_seen u b found C on (length bs) T has) (one c s is_seen u b found C on (length bs) T has) has.changed (let m = has.now in let long = ap length lines ∙ length_said e bs (let M = s.seen in M.lines) in omega (arith, m, long)) others)
-    (up_then c s is_seen u b found C on (length bs) T has)
+    (up_then c s is_seen u b found C on (length bs) T has) (confirms_then c s is_seen u b found C on (length bs) T has s.disk refl)
     (subst (IsTiedNow c.fixed c.x c.begun T) (sym lines) (tied_behind c.fixed c.x c.begun e bs c.state T (let M = s.seen in M.lines) none (tied_now c (world_at s) is_seen) tied)) has.run)

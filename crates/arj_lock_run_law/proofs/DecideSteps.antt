@@ -17,7 +17,7 @@ use Rattle.arj_part_law.specs.Actions.{action_of}
 use Rattle.arj_part_law.specs.Claims.{GoesOn}
 use Rattle.arj_part_law.proofs.Keys as keys
 use Rattle.arj_part_law.proofs.Truths.{put_in}
-use Rattle.arj_view_law.specs.Seen.{Seen}
+use Rattle.arj_view_law.specs.Seen.{Seen, Within}
 use Rattle.arj_view_law.specs.Walks.{Stops, Up, Walks}
 use Rattle.arj_lock_line_law.specs.Lines.{IsTiedToLines}
 use Rattle.arj_lock_line_law.specs.Steps.{ArePlain}
@@ -27,13 +27,14 @@ use Rattle.arj_lock_view_law.specs.Telling.{HasEnded, View}
 use Rattle.arj_lock_run_law.specs.Beside.{Case, HoldsNamingIn, IsSeenIn, Spot, view_in, world_at}
 use Rattle.arj_lock_run_law.specs.Coordinating.{AreSends, AreSendsShown, HasStepped, coord_at}
 use Rattle.arj_lock_run_law.specs.Fixed.{Fixed}
-use Rattle.arj_lock_run_law.specs.Sees.{AreRecordsOf, SeesUp}
+use Rattle.arj_lock_run_law.specs.Sees.{HaveConfirms, AreRecordsOf, SeesUp}
 use Rattle.arj_lock_run_law.specs.Tied.{AreTied}
 use Rattle.arj_lock_run_law.specs.World.{IsSeenSo}
-use Rattle.arj_lock_run_law.proofs.CoordSteps.{home, length_said, one, up_then, walk_says, walk_sends}
+use Rattle.arj_lock_run_law.proofs.CoordSteps.{confirms_then, home, length_said, one, up_then, walk_says, walk_sends}
 use Rattle.arj_lock_run_law.proofs.GoodSteps.{good_node, its, steady}
 use Rattle.arj_lock_run_law.proofs.HaltSteps.{halt_last, halt_up}
-use Rattle.arj_lock_run_law.proofs.OtherSteps.{SeesOthers, here_of, others_of}
+use Rattle.arj_lock_run_law.proofs.NameSteps.{confirms_down, confirms_more}
+use Rattle.arj_lock_run_law.proofs.OtherSteps.{confirms_of, SeesOthers, here_of, others_of}
 use Rattle.arj_lock_run_law.proofs.TieSteps.{IsTiedNow, tied_behind, tied_now, tied_plain}
 use Rattle.arj_lock_run_law.proofs.UnitSteps.{others_unit}
 
@@ -70,13 +71,17 @@ module _ (c : Case) (s : Spot) (is_seen : IsSeenIn c (world_at s)) (holds : Hold
       (λ q. ⊎_elim (λ none. absurd (cc none)) (λ ended. inr ended) (old w q.0 (in_to {X = Uid × Intent} (w, q.0) (let d = s.disk in d.intents) q.1)))
       (put_in u i w j (let d = s.disk in d.intents) (in_from {X = Uid × Intent} (w, j) (let d = noted in d.intents) there))
 
+  -- whom the node had confirmed
+  gone : (M : Seen) → Within (let N = s.seen in N.sent) M.sent → (e : Disk) → (let d = s.disk in e.names ≡ d.names) → HaveConfirms f c.x S M.sent e None
+  gone M within e names = confirms_down f c.x S M.sent s.disk e (Some t) names (confirms_more f c.x S (let N = s.seen in N.sent) M.sent within s.disk (Some t) (confirms_of f c.x c.begun k s.disk (Some t) S s.seen is_seen.sees))
+
   -- a stop at the record: without it the top is aborted, with it it is decided
-  record_stops : IsDecided f.act t.coord u S → (e : ℕ) (M : Seen) → SeesOthers f c.x c.begun k S M → IsTiedNow f c.x c.begun S M.lines → Stops (IsSeenSo c) e k (PutIntent u i) s.disk M
-  record_stops decided e M others now Before = λ agrees. halt_up f c.x c.begun k e S S s.disk t M (steady c s is_seen) known (let l = its c s is_seen in l.server) (let l = its c s is_seen in l.node) holds others here now
-  record_stops decided e M others now (InPart which) = λ agrees. halt_up f c.x c.begun k e S S s.disk t M (steady c s is_seen) known (let l = its c s is_seen in l.server) (let l = its c s is_seen in l.node) holds others here now
-  record_stops decided e M others now After = λ agrees. halt_last f c.x c.begun k (Some u) e S S s.disk noted t M decided refl
+  record_stops : IsDecided f.act t.coord u S → (e : ℕ) (M : Seen) → Within (let N = s.seen in N.sent) M.sent → SeesOthers f c.x c.begun k S M → IsTiedNow f c.x c.begun S M.lines → Stops (IsSeenSo c) e k (PutIntent u i) s.disk M
+  record_stops decided e M within others now Before = λ agrees. halt_up f c.x c.begun k e S S s.disk t M (steady c s is_seen) known (let l = its c s is_seen in l.server) (let l = its c s is_seen in l.node) holds others here (gone M within s.disk refl) now
+  record_stops decided e M within others now (InPart which) = λ agrees. halt_up f c.x c.begun k e S S s.disk t M (steady c s is_seen) known (let l = its c s is_seen in l.server) (let l = its c s is_seen in l.node) holds others here (gone M within s.disk refl) now
+  record_stops decided e M within others now After = λ agrees. halt_last f c.x c.begun k (Some u) e S S s.disk noted t M decided refl
       (λ w is. (let same : u ≡ w = cc is in subst (λ (v : Uid). is_some (at_uid v (let d = noted in d.intents)) ≡ true) same (ap is_some (keys.put_same u i (let d = s.disk in d.intents)))))
-      (records_with (Some u) S (inl refl) here.records) (steady c s is_seen) known (let l = its c s is_seen in l.server) (let l = its c s is_seen in l.node) holds others here now
+      (records_with (Some u) S (inl refl) here.records) (steady c s is_seen) known (let l = its c s is_seen in l.server) (let l = its c s is_seen in l.node) holds others here (gone M within noted refl) now
 
   -- lines, the record, the line of the commit, and what is told of it
   module _ (b : Branch) (found : branch_of u (let q = coord_at s in q.tree) ≡ Some b) (C : Coord) (on : GoesOn (coord_at s) C) (pre : List Body) (T : State) (has : HasStepped c s u (length pre + 1) C T) (decided : IsDecided f.act t.coord u S) (ended : HasEnded V T u ending.Commit) where
@@ -90,10 +95,10 @@ module _ (c : Case) (s : Spot) (is_seen : IsSeenIn c (world_at s)) (holds : Hold
     decides_walk e l sends are_sends shown plain none tied =
         walk_says c s e (with_coord t C) S pre (Do (PutIntent u i) ∷ Say l ∷ sends) s.disk s.seen (others_of f c.x c.begun k s.disk (Some t) S s.seen is_seen.sees) (λ q there. there)
         (λ N lines within others. let now_N = subst (IsTiedNow f c.x c.begun S) (sym lines) (tied_plain f c.x c.begun e pre S (let M = s.seen in M.lines) plain (tied_now c (world_at s) is_seen)) in (
-          record_stops decided e N others now_N,
+          record_stops decided e N within others now_N,
           walk_says c s e (with_coord t C) S (l ∷ []) sends noted N others within
               (λ O more_lines within_O others_O. walk_sends c s e (with_coord t C) T sends noted O are_sends shown within_O
               (others_unit f c.x (root (f.act u)) c.begun k S T O has.run has.only (home c s is_seen u b found C on (length pre + 1) T has) (one c s is_seen u b found C on (length pre + 1) T has) has.changed (let m = has.now in let long = ap length lines ∙ length_said e pre (let M = s.seen in M.lines) in let longer = ap length more_lines ∙ length_said e (l ∷ []) N.lines in omega (arith, m, long, longer)) others_O)
-              up_noted
+              up_noted (confirms_then c s is_seen u b found C on (length pre + 1) T has noted refl)
               (subst (IsTiedNow f c.x c.begun T) (sym more_lines) (tied_behind f c.x c.begun e (l ∷ []) S T N.lines (none, tt) now_N (λ values is. subst (λ ls. IsTiedToLines f.act f.code values c.x ls T) (sym (ap (λ ls. ls ++ numbered e (l ∷ [])) lines ∙ said_twice e pre (l ∷ []) (let M = s.seen in M.lines))) (tied values is)))) has.run),
         ))

@@ -1,10 +1,12 @@
 -- As a run begins each node has started in the machine.
-use Rattle.std.proofs.Common.{◌≡◌, ◌≤◌, ◌<◌, ◌∙◌, ◌+◌, ◌⊎◌, ℕ, zero, suc, List, [], ◌∷◌, true, false, Option, Some, None, refl, sym, ap, subst, ⊎_elim, arith, length, map}
+use Rattle.std.proofs.Common.{◌≡◌, ◌≤◌, ◌<◌, ◌∙◌, ◌+◌, ◌⊎◌, ℕ, zero, suc, List, [], ◌∷◌, ◌==◌, Bool, true, false, cond, Option, Some, None, refl, sym, ap, subst, inl, inr, ⊎_elim, arith, length, map}
 use Rattle.std.specs.Prelude.{is_some, slice_get}
 use Rattle.arj_lock.proofs.Members.{in_from}
-use Rattle.arj_protocol.specs.Words.{Header, Line, Uid}
+use Rattle.arj_protocol.specs.Words.{Header, Line, Uid, is_on}
 use Rattle.arj_protocol.specs.Confirm.{recovered_naming}
 use Rattle.arj_protocol.specs.Effect.{Disk, Intent}
+use Rattle.arj_protocol.specs.Naming.{Naming}
+use Rattle.arj_protocol.specs.Node.{Parts}
 use Rattle.arj_protocol.specs.Order.{at_number}
 use Rattle.arj_protocol.specs.Step.{Node, first_disk, first_node, numbers_to, parts_in}
 use Rattle.arj_protocol.specs.Tree.{at_place, new_tree}
@@ -13,12 +15,12 @@ use Rattle.arj_lock_law.specs.Machine as machine
 use Rattle.arj_lock_law.specs.Machine.{Run, start}
 use Rattle.arj_lock_law.specs.State.{State}
 use Rattle.arj_run_law.proofs.Starts.{first_at}
-use Rattle.arj_view_law.specs.Seen.{Seen, see, up}
+use Rattle.arj_view_law.specs.Seen.{Post, Seen, see, up}
 use Rattle.arj_lock_line_law.specs.Lines.{AreCallsOf, AreIncludesOf, included_on, said_on}
 use Rattle.arj_lock_view_law.proofs.StartNamingSteps.{naming_is_down}
 use Rattle.arj_lock_run_law.specs.Beside.{KnowsEntry}
 use Rattle.arj_lock_run_law.specs.Fixed.{Fixed, view_of}
-use Rattle.arj_lock_run_law.specs.Sees.{IsFresh, SeesDown, SeesLocks, SeesMemory}
+use Rattle.arj_lock_run_law.specs.Sees.{HaveConfirms, IsFresh, SeesDown, SeesLocks, SeesMemory}
 use Rattle.arj_lock_run_law.specs.Tied.{AreTied}
 use Rattle.arj_lock_run_law.specs.World.{FirstGoes}
 use Rattle.arj_lock_run_law.proofs.OtherSteps.{node_here, node_there, with_here}
@@ -95,6 +97,11 @@ module _ (hd : Header) (f : Fixed) (x : ℕ) (entry : KnowsEntry x 1 (first_disk
   lines_none zero = refl
   lines_none (suc j) = lines_none j
 
+  sent_none : (j : ℕ) → (let N = some_up j in N.sent) ≡ []
+  unfolding some_up
+  sent_none zero = refl
+  sent_none (suc j) = sent_none j
+
   -- no line, and nothing is done
   tied_first : AreTied f x [] (start f.first)
   tied_first values is = record { now = omega arith; first = is; calls = tt; includes = tt; ends = λ a there. absurd (in_from a [] there) }
@@ -108,6 +115,25 @@ module _ (hd : Header) (f : Fixed) (x : ℕ) (entry : KnowsEntry x 1 (first_disk
     ends = λ a there. absurd (in_from a [] there);
   }
 
+  -- nobody has confirmed anyone, and nothing is prepared
+  none_down : (k : ℕ) (S : State) (sent : List Post) → HaveConfirms f x S sent (before k) None
+  none_down k S sent u (inl prepared) = absurd (cc prepared)
+  none_down k S sent u (inr (t, n, is, at, on)) = absurd (cc is)
+
+  none_up : (k : ℕ) (S : State) (sent : List Post) → HaveConfirms f x S sent (first_disk hd k) (Some (parts_in k 1 (first_disk hd k)))
+  none_up k S sent u (inl prepared) = absurd (cc prepared)
+  none_up k S sent u (inr (t, n, is, at, on)) = absurd (by (k == 1) (ap (λ (z : Parts). z.naming) (one is) ∙ at))
+    where
+      one : ◌≡◌ {A = Option Parts} (Some (parts_in k 1 (first_disk hd k))) (Some t) → parts_in k 1 (first_disk hd k) ≡ t
+      one same = cc same
+
+      by : (b : Bool) → cond b (Some (recovered_naming 1 (let d = first_disk hd k in d.names))) None ≡ Some n → ⊥
+      by true its = (let no_way : false ≡ true = ap (λ (z : Naming). is_on z.confirmed u) (same its) ∙ on in cc no_way)
+        where
+          same : ◌≡◌ {A = Option Naming} (Some (recovered_naming 1 (let d = first_disk hd k in d.names))) (Some n) → recovered_naming 1 (let d = first_disk hd k in d.names) ≡ n
+          same q = cc q
+      by false its = cc its
+
   first_seen : (j : ℕ) → (S : State) × SeesLocks f x [] S (some_up j) × AreTied f x [] S
   unfolding some_up
   first_seen zero = (
@@ -115,6 +141,7 @@ module _ (hd : Header) (f : Fixed) (x : ℕ) (entry : KnowsEntry x 1 (first_disk
     record {
       run = machine.stay;
       nodes = λ k n is. subst (λ (m : Node). SeesMemory (view_of f x [] k) (start f.first) m.disk m.live) (its k n is) (down_start k);
+      confirms = λ k n is. subst (λ (m : Node). HaveConfirms f x (start f.first) [] m.disk m.live) (its k n is) (none_down k (start f.first) []);
       posts = λ p there. absurd there;
       fresh = fresh_start;
       now = omega arith;
@@ -129,9 +156,9 @@ module _ (hd : Header) (f : Fixed) (x : ℕ) (entry : KnowsEntry x 1 (first_disk
       let k : ℕ = j + 1 in
       let s = h.1 in
       let down : SeesDown (view_of f x [] k) h.0 (before k) = s.nodes k _ (down_at j k (omega arith)) in
-      let g = started f x [] k h.0 (before k) (some_up j) (record { run = s.run; nodes = λ i n other is. s.nodes i n is; posts = s.posts; fresh = s.fresh; now = s.now }) down (none_decided k h.0 down)
+      let g = started f x [] k h.0 (before k) (some_up j) (record { run = s.run; nodes = λ i n other is. s.nodes i n is; confirms = λ i n other is. s.confirms i n is; posts = s.posts; fresh = s.fresh; now = s.now }) down (none_decided k h.0 down)
       (λ one inc. subst (λ (i : ℕ). is_some (at_number x (let n = recovered_naming inc (let d = first_disk hd i in d.names) in n.objects)) ≡ true) (sym one) (entry refl inc)) in
-      (g.0, (let t = g.1 in with_here f x [] k (first_disk hd k) (Some (parts_in k 1 (first_disk hd k))) g.0 (some_up j) t.others t.up), tied_still h.0 g.0 (let t = g.1 in t.moved) h.2)
+      (g.0, (let t = g.1 in with_here f x [] k (first_disk hd k) (Some (parts_in k 1 (first_disk hd k))) g.0 (some_up j) t.others t.up (none_up k g.0 (let N = some_up j in N.sent))), tied_still h.0 g.0 (let t = g.1 in t.moved) h.2)
 
   -- a place is within the list
   within : {A : Type 0} (items : List A) (k : ℕ) (a : A) → slice_get items k ≡ Some a → k < length items
@@ -154,6 +181,7 @@ module _ (hd : Header) (f : Fixed) (x : ℕ) (entry : KnowsEntry x 1 (first_disk
         record {
           run = s.run;
           nodes = λ k n is. (let p = placed k n is in s.nodes k n (up_at (length all) k p.0 p.1 ∙ ap Some (first_at hd k n is)));
+          confirms = λ k n is. (let p = placed k n is in subst (λ (ps : List Post). HaveConfirms f x h.0 ps n.disk n.live) (sent_none (length all)) (s.confirms k n (up_at (length all) k p.0 p.1 ∙ ap Some (first_at hd k n is))));
           posts = λ p there. absurd there;
           fresh = s.fresh;
           now = subst (λ (ls : List Line). (let S = h.0 in S.now) ≤ length ls + 1) (lines_none (length all)) s.now;

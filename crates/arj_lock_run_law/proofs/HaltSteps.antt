@@ -29,9 +29,10 @@ use Rattle.arj_lock_view_law.proofs.TreeSteps.{above_there}
 use Rattle.arj_part_law.specs.Actions.{owners_of}
 use Rattle.arj_lock_run_law.specs.Beside.{HoldsNamingIn}
 use Rattle.arj_lock_run_law.specs.Fixed.{Fixed, view_of}
-use Rattle.arj_lock_run_law.specs.Sees.{AreRecordsOf, IsFresh, IsUnbegun, SeesDown, SeesLocks, SeesUp}
+use Rattle.arj_lock_run_law.specs.Sees.{AreRecordsOf, HaveConfirms, IsFresh, IsUnbegun, SeesDown, SeesLocks, SeesUp}
 use Rattle.arj_lock_run_law.proofs.MoveSteps.{memory_stopped, nothing_on}
 use Rattle.arj_lock_run_law.specs.Tied.{AreTied}
+use Rattle.arj_lock_run_law.proofs.NameSteps.{confirms_later}
 use Rattle.arj_lock_run_law.proofs.OtherSteps.{SeesOthers, others_go, past_on, reached_of, records_on, said_others, with_here}
 use Rattle.arj_lock_run_law.proofs.TieSteps.{IsTiedNow, tied_down, tied_halts}
 
@@ -41,11 +42,11 @@ module _ (f : Fixed) (x : ℕ) (begun : List Action) (k : ℕ) where
 
   -- ---- a node that is down
 
-  down_halted : (e : ℕ) (S : State) (d : Disk) (M : Seen) → SeesOthers f x begun k S M → SeesDown v S d → SeesLocks f x begun S (halted e k d M)
-  down_halted e S d M others s = with_here f x begun k d None S _ (said_others f x begun k e (body.Halted k ∷ []) S M others) s
+  down_halted : (e : ℕ) (S : State) (d : Disk) (M : Seen) → SeesOthers f x begun k S M → SeesDown v S d → HaveConfirms f x S M.sent d None → SeesLocks f x begun S (halted e k d M)
+  down_halted e S d M others s confirms = with_here f x begun k d None S _ (said_others f x begun k e (body.Halted k ∷ []) S M others) s confirms
 
-  pub halt_down : (e : ℕ) (S : State) (d : Disk) (M : Seen) → SeesOthers f x begun k S M → SeesDown v S d → IsTiedNow f x begun S M.lines → (T : State) × SeesLocks f x begun T (halted e k d M) × AreTied f x (let N = halted e k d M in N.lines) T × Run S T
-  halt_down e S d M others s now = (S, down_halted e S d M others s, tied_down f x begun e k s.tree s.last S M.lines s.past s.stopped now, stay)
+  pub halt_down : (e : ℕ) (S : State) (d : Disk) (M : Seen) → SeesOthers f x begun k S M → SeesDown v S d → HaveConfirms f x S M.sent d None → IsTiedNow f x begun S M.lines → (T : State) × SeesLocks f x begun T (halted e k d M) × AreTied f x (let N = halted e k d M in N.lines) T × Run S T
+  halt_down e S d M others s confirms now = (S, down_halted e S d M others s confirms, tied_down f x begun e k s.tree s.last S M.lines s.past s.stopped now, stay)
 
   -- ---- a node that is up
 
@@ -97,8 +98,8 @@ module _ (f : Fixed) (x : ℕ) (begun : List Action) (k : ℕ) where
   -- where a top's record is on the disk that is left, it is decided, and has no line yet
   pub halt_last : (last : Option Uid) (e : ℕ) (R S : State) (d g : Disk) (t : Parts) (M : Seen) → IfDecided f.act t.coord last S → g.inc ≡ d.inc → ((u : Uid) → last ≡ Some u → is_some (at_uid u g.intents) ≡ true) → AreRecordsOf v last g.intents S
       → IsSteady f.act f.paths t.coord → ((u : Uid) (b : Branch) → branch_of u t.coord.tree ≡ Some b → Contains begun (action_of b)) → t.server.inc ≡ d.inc → t.coord.tree.node ≡ k
-      → HoldsNamingIn (record { fixed = f; x = x; begun = begun; state = R }) k t.naming → SeesOthers f x begun k S M → SeesUp v S d t → IsTiedNow f x begun S M.lines → (T : State) × SeesLocks f x begun T (halted e k g M) × AreTied f x (let N = halted e k g M in N.lines) T × Run S T
-  halt_last last e R S d g t M decided inc there records steady of level node holds others s now =
+      → HoldsNamingIn (record { fixed = f; x = x; begun = begun; state = R }) k t.naming → SeesOthers f x begun k S M → SeesUp v S d t → HaveConfirms f x S M.sent g None → IsTiedNow f x begun S M.lines → (T : State) × SeesLocks f x begun T (halted e k g M) × AreTied f x (let N = halted e k g M in N.lines) T × Run S T
+  halt_last last e R S d g t M decided inc there records steady of level node holds others s confirms now =
       let h = stops_are_taken f.act f.code f.paths x t.coord last S steady decided s.coord in
       let T = h.state in
       let only = h.holds.1 in
@@ -114,11 +115,11 @@ module _ (f : Fixed) (x : ℕ) (begun : List Action) (k : ℕ) where
           home = s.home;
           past = past_on S T only.ended v t.coord.tree s.past;
           records = records_on S T only.ended v last g.intents records;
-        }),
+        }) (confirms_later f x S T (reached_of f x begun k S M others) h.run M.sent M.sent (λ r i. i) g None confirms),
         tied_halts f x begun e k t.coord.tree last S T M.lines node s.past h.holds.0 only now,
         h.run,
       )
 
   pub halt_up : (e : ℕ) (R S : State) (d : Disk) (t : Parts) (M : Seen) → IsSteady f.act f.paths t.coord → ((u : Uid) (b : Branch) → branch_of u t.coord.tree ≡ Some b → Contains begun (action_of b)) → t.server.inc ≡ d.inc → t.coord.tree.node ≡ k
-      → HoldsNamingIn (record { fixed = f; x = x; begun = begun; state = R }) k t.naming → SeesOthers f x begun k S M → SeesUp v S d t → IsTiedNow f x begun S M.lines → (T : State) × SeesLocks f x begun T (halted e k d M) × AreTied f x (let N = halted e k d M in N.lines) T × Run S T
-  halt_up e R S d t M steady of level node holds others s now = halt_last None e R S d d t M tt refl (λ u is. absurd (cc is)) s.records steady of level node holds others s now
+      → HoldsNamingIn (record { fixed = f; x = x; begun = begun; state = R }) k t.naming → SeesOthers f x begun k S M → SeesUp v S d t → HaveConfirms f x S M.sent d None → IsTiedNow f x begun S M.lines → (T : State) × SeesLocks f x begun T (halted e k d M) × AreTied f x (let N = halted e k d M in N.lines) T × Run S T
+  halt_up e R S d t M steady of level node holds others s confirms now = halt_last None e R S d d t M tt refl (λ u is. absurd (cc is)) s.records steady of level node holds others s confirms now

@@ -3,15 +3,16 @@ use Rattle.std.proofs.Common.{◌≡◌, ◌⊎◌, ◌∙◌, ◌==◌, ℕ, Li
 use Rattle.std.specs.Prelude.{is_some}
 use Rattle.arj_lock.proofs.Members as list
 use Rattle.arj_lock.proofs.Members.{in_to}
-use Rattle.arj_protocol.specs.Words.{Ask, Asked, End, Head, Message, Uid, asks}
+use Rattle.arj_protocol.specs.Words.{Ask, Asked, End, Head, Message, ObjectState, Uid, asks, is_on}
 use Rattle.arj_protocol.specs.Words.ask
 use Rattle.arj_protocol.specs.Words.ending
 use Rattle.arj_protocol.specs.Words.message
+use Rattle.arj_protocol.specs.Words.role
 use Rattle.arj_protocol.specs.Words.voted
 use Rattle.arj_protocol.specs.Words.confirmed
 use Rattle.arj_protocol.specs.Ask.{Reply, answers, asked_by, last_end, response}
 use Rattle.arj_protocol.specs.Coord.{Coord}
-use Rattle.arj_protocol.specs.Effect.{Disk, Do, Effect, Say, Send}
+use Rattle.arj_protocol.specs.Effect.{Disk, Do, Effect, Prepare, Say, Send, is_prepared}
 use Rattle.arj_protocol.specs.Named.{Named}
 use Rattle.arj_protocol.specs.Naming.{Naming}
 use Rattle.arj_protocol.specs.Node.{Handled, Parts, Took, Void, handle, handle_ask, is_meant, taken}
@@ -40,13 +41,15 @@ use Rattle.arj_lock_view_law.proofs.ReplySteps.{replies_stay_shown}
 use Rattle.arj_lock_run_law.specs.Beside.{Case, HoldsNamingIn, IsSeenIn, KnowsSpot, Spot, view_in, world_at}
 use Rattle.arj_lock_run_law.specs.Posts.{IsAnswerSeen, IsPostSeen}
 use Rattle.arj_lock_run_law.specs.Fixed.{Fixed}
-use Rattle.arj_lock_run_law.specs.Sees.{AreHome, ArePast, SeesUp}
+use Rattle.arj_lock_run_law.specs.Sees.{AreHome, ArePast, HasConfirm, HaveConfirms, SeesUp}
 use Rattle.arj_lock_run_law.specs.World.{IsSeenSo, MessagesGo, is_for_parts}
+use Rattle.arj_lock_run_law.proofs.ConfirmSteps.{IsNew, IsNoted, Notes, message_noted, named_grant, yes_alone}
 use Rattle.arj_lock_run_law.proofs.GoodSteps.{good_node, its, server_level, steady}
 use Rattle.arj_lock_run_law.proofs.HaltSteps.{halt_up}
 use Rattle.arj_lock_run_law.proofs.LeftSteps.{AreSentTo, IsLeft, IsPlain, IsSentTo, Leaves, message_left, void_without}
 use Rattle.arj_lock_run_law.proofs.MoveSteps.{action_is, action_named, coord_named, coord_serving, memory_named, memory_serving, naming_serving, sees_named}
-use Rattle.arj_lock_run_law.proofs.OtherSteps.{SeesOthers, fresh_named, fresh_on, now_named, others_go, others_of, past_on, records_on}
+use Rattle.arj_lock_run_law.proofs.NameSteps.{confirms_later}
+use Rattle.arj_lock_run_law.proofs.OtherSteps.{SeesOthers, confirms_of, fresh_named, fresh_on, now_named, others_go, others_of, past_on, records_on}
 use Rattle.arj_lock_run_law.proofs.ShownSteps.{shown_to_naming, shown_to_server, up_here}
 use Rattle.arj_lock_run_law.proofs.TieSteps.{IsMoved, moved_named, moved_serving, moved_then, tied_moved, tied_now}
 use Rattle.arj_lock_run_law.proofs.WalkSteps.{AreSendsSeen, up_same, walked}
@@ -314,14 +317,47 @@ module _ (c : Case) (s : Spot) (from : ℕ) (m : Message) (p : Parts) (outs : Li
 
   -- ---- the walk
 
+  -- whom it confirmed, as far as it is known now
+  had : (T : State) → HasGone T → HaveConfirms f c.x T M.sent d (Some t)
+  had T has = confirms_later f c.x S T (f.first, others_S.run) has.run M.sent M.sent (λ r i. i) d (Some t) (confirms_of f c.x c.begun k d (Some t) S M is_seen.sees)
+
+  -- who is confirmed anew: the Confirm is there, and it is answered Yes
+  anew : (T : State) → HasGone T → (u : Uid) → IsNew from (asks m) outs u → HasConfirm f c.x T M.sent u
+  anew T has u new = record {
+    post = record { from = from; to = k; message = m };
+    head = new.head;
+    grants = new.grants;
+    excluded = new.excluded;
+    included = new.included;
+    there = there;
+    is = new.is;
+    top = new.top;
+    confirmed = λ names. (let h = new.head in let g = named_grant c.x new.grants names in
+        let r = subst (AreRepliesShown V T outs) new.is has.replies refl from (response (asked_by h) (Reply.Confirmed confirmed.Yes)) (in_to (Send from (response (asked_by h) (Reply.Confirmed confirmed.Yes))) outs new.yes) in
+        let shows = subst (ShowsNamingReply V h (ask.Confirm new.grants new.excluded new.included) T) (yes_alone (asked_by h) r.0 r.1) r.2 in
+        subst (λ (w : Uid). T.confirmed (f.act w) ≡ true) new.top (shows g.0 g.1));
+  }
+
+  noted : IsNoted t from (asks m) p outs
+  noted = subst (Notes t from (asks m)) is (message_noted k d t from m mine)
+
+  -- so it is of all whom naming confirmed now
+  confirmed_now : (T : State) → HasGone T → (n : Naming) (u : Uid) → p.naming ≡ Some n → is_on n.confirmed u ≡ true → HasConfirm f c.x T M.sent u
+  confirmed_now T has n u at on = ⊎_elim (λ old. had T has u (inr (t, old.0, refl, old.1, old.2))) (λ new. anew T has u new) (noted.who n u at on)
+
+  -- and of those whose entries are prepared, before and after
+  ready_now : (T : State) → HasGone T → (u : Uid) → ((is_prepared u d.names ≡ true) ⊎ ((states : List ObjectState) × list.In (Do (Prepare role.Names u states)) outs)) → HasConfirm f c.x T M.sent u
+  ready_now T has u (inl prepared) = had T has u (inl prepared)
+  ready_now T has u (inr (states, i)) = anew T has u (noted.readied u states i)
+
   pub message_goes : (e : ℕ) → HoldsNamingIn c s.node p.naming → Walks (IsSeenSo c) e k outs (Up (IsSeenSo c) k p) d M
   message_goes e after =
       let T = gone.0 in
       let has = gone.1 in
       walked f c.x c.begun k S T e p d.inc d.intents M.sent
-      (λ h N same others now. let u = halt_up f c.x c.begun k e S T h p N (subst (λ (q : Coord). IsSteady f.act f.paths q) (sym (let l = left.0 in l.coord)) (steady c s is_seen)) known (server_level c s is_seen from m p outs is ∙ sym same.0) (ap (λ (q : Coord). (let t = q.tree in t.node)) (let l = left.0 in l.coord) ∙ (let i = its c s is_seen in i.node)) after others (up_same f c.x c.begun k T d h p same.0 same.1 has.up) now in (u.0, u.1, u.2, go_on has.run u.3))
-      has.run (λ h same. up_same f c.x c.begun k T d h p same.0 same.1 has.up)
-      outs d M (sends_by T has outs (λ to z i. i)) (let l = left.0 in l.plain) (λ r i. i) (refl, refl) has.others (tied_moved f c.x c.begun S T M.lines has.moved (tied_now c (world_at s) is_seen))
+      (λ h N same others confirms now. let u = halt_up f c.x c.begun k e S T h p N (subst (λ (q : Coord). IsSteady f.act f.paths q) (sym (let l = left.0 in l.coord)) (steady c s is_seen)) known (server_level c s is_seen from m p outs is ∙ sym same.0) (ap (λ (q : Coord). (let t = q.tree in t.node)) (let l = left.0 in l.coord) ∙ (let i = its c s is_seen in i.node)) after others (up_same f c.x c.begun k T d h p same.0 same.1 has.up) confirms now in (u.0, u.1, u.2, go_on has.run u.3))
+      has.run (λ h same. up_same f c.x c.begun k T d h p same.0 same.1 has.up) (confirmed_now T has)
+      outs d M (sends_by T has outs (λ to z i. i)) (let l = left.0 in l.plain) (λ r i. i) (ready_now T has) (refl, refl) has.others (tied_moved f c.x c.begun S T M.lines has.moved (tied_now c (world_at s) is_seen))
     where
       known : (u : Uid) (b : Branch) → branch_of u p.coord.tree ≡ Some b → Contains c.begun (action_of b)
       known u b found = (let g = good_node c s is_seen in let h = g.coord in h.known) u b (subst (λ (q : Coord). branch_of u q.tree ≡ Some b) (let l = left.0 in l.coord) found)

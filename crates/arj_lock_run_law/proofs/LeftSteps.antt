@@ -156,6 +156,22 @@ abbrev pub Leaves : Parts → ℕ → Option (Head × Ask) → Handled → Type 
 Leaves t from q (Void outs) = ⊤
 Leaves t from q (Took v outs) = IsLeft t v outs × AreSentTo from q outs
 
+-- what is for the parts answers nothing
+pub no_answer : (m : Message) (r : Asked × Reply) → answers m ≡ Some r → is_for_parts m ≡ false
+no_answer (message.Told m) r is = absurd (cc is)
+no_answer (message.Hello m) r is = absurd (cc is)
+no_answer (message.Acked m) r is = refl
+no_answer (message.Query m) r is = refl
+no_answer (message.Bind m) r is = absurd (cc is)
+no_answer (message.Load m) r is = absurd (cc is)
+no_answer (message.Activate m) r is = absurd (cc is)
+no_answer (message.RecordMsg m) r is = absurd (cc is)
+no_answer (message.Invoke m) r is = absurd (cc is)
+no_answer (message.Vote m) r is = absurd (cc is)
+no_answer (message.Prepare m) r is = absurd (cc is)
+no_answer (message.Confirm m) r is = absurd (cc is)
+no_answer _ r is = refl
+
 module _ (n : ℕ) (d : Disk) (t : Parts) (from : ℕ) where
   -- ---- requests
 
@@ -354,21 +370,6 @@ module _ (n : ℕ) (d : Disk) (t : Parts) (from : ℕ) where
   other_left (message.Acked m) mine = absurd (cc mine)
   other_left (message.Query m) mine = absurd (cc mine)
   other_left _ mine = tt
-
-  no_answer : (m : Message) (r : Asked × Reply) → answers m ≡ Some r → is_for_parts m ≡ false
-  no_answer (message.Told m) r is = absurd (cc is)
-  no_answer (message.Hello m) r is = absurd (cc is)
-  no_answer (message.Acked m) r is = refl
-  no_answer (message.Query m) r is = refl
-  no_answer (message.Bind m) r is = absurd (cc is)
-  no_answer (message.Load m) r is = absurd (cc is)
-  no_answer (message.Activate m) r is = absurd (cc is)
-  no_answer (message.RecordMsg m) r is = absurd (cc is)
-  no_answer (message.Invoke m) r is = absurd (cc is)
-  no_answer (message.Vote m) r is = absurd (cc is)
-  no_answer (message.Prepare m) r is = absurd (cc is)
-  no_answer (message.Confirm m) r is = absurd (cc is)
-  no_answer _ r is = refl
 
   pub message_left : (m : Message) → is_for_parts m ≡ true → Leaves t from (asks m) (handle n d t from m)
   message_left m mine = by (asks m)

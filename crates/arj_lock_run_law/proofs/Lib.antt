@@ -8,6 +8,7 @@ pub mod WalkSteps
 pub mod TopSteps
 pub mod ShownSteps
 pub mod LeftSteps
+pub mod ConfirmSteps
 pub mod HandleSteps
 pub mod LineSteps
 pub mod RestartSteps
@@ -33,3 +34,4 @@ pub mod ShownAnswers
 pub mod AnswerGoes
 pub mod VoteSteps
 pub mod KeptSteps
+pub mod NameSteps

@@ -34,7 +34,8 @@ use Rattle.arj_lock_run_law.specs.Posts.{IsToldSo}
 use Rattle.arj_lock_run_law.specs.Sees.{SeesUp}
 use Rattle.arj_lock_run_law.specs.World.{IsSeenSo}
 use Rattle.arj_lock_run_law.proofs.GoodSteps.{good_node, its}
-use Rattle.arj_lock_run_law.proofs.OtherSteps.{SeesOthers, here_of, others_of, with_here}
+use Rattle.arj_lock_run_law.proofs.NameSteps.{confirms_more}
+use Rattle.arj_lock_run_law.proofs.OtherSteps.{confirms_of, SeesOthers, here_of, others_of, with_here}
 use Rattle.arj_lock_run_law.proofs.RestartWalks.{is_no_work, quiet_walk}
 use Rattle.arj_lock_run_law.proofs.TieSteps.{tied_now}
 use Rattle.arj_lock_run_law.proofs.TopSteps.{placed_top}
@@ -225,7 +226,7 @@ module _ (c : Case) (s : Spot) (is_seen : IsSeenIn c (world_at s)) where
         let End = Up P k s.parts in
         let outs = answer_query from u js C in
         subst (λ es. Walks P e k es End s.disk s.seen) (append-nil outs) (quiet_walk f c.x c.begun k e P End S sent s.disk outs [] answer_quiet answer_seen
-        (λ N w o now agrees. (S, with_here f c.x c.begun k s.disk (Some s.parts) S N o here, now.tied, stay)) s.seen (λ r i. i) others (tied_now c (world_at s) is_seen))
+        (λ N w o now agrees. (S, with_here f c.x c.begun k s.disk (Some s.parts) S N o here (confirms_more f c.x S sent N.sent w s.disk (Some s.parts) (confirms_of f c.x c.begun k s.disk (Some s.parts) S s.seen is_seen.sees)), now.tied, stay)) s.seen (λ r i. i) others (tied_now c (world_at s) is_seen))
 
 pub queries_go : QueriesGo
 queries_go c s e from u is_seen about = query_goes c s is_seen from u about e

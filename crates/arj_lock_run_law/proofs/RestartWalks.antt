@@ -1,5 +1,5 @@
 -- A restart is walked through.
-use Rattle.std.proofs.Common.{◌≡◌, ◌∙◌, ◌+◌, ◌≢◌, ℕ, List, [], ◌∷◌, ◌++◌, Bool, true, false, Option, Some, None, refl, sym, ap, subst, inl, inr, ⊎_elim, arith, map}
+use Rattle.std.proofs.Common.{◌≡◌, ◌∙◌, ◌+◌, ◌≢◌, ℕ, List, [], ◌∷◌, ◌++◌, ◌==◌, Bool, true, false, cond, Option, Some, None, refl, sym, ap, subst, inl, inr, ⊎_elim, arith, map}
 use Rattle.std.specs.Prelude.{is_some, ◌&&◌}
 use Rattle.std.specs.List.{list_all}
 use Rattle.std.proofs.lemmas.Bool.{and_parts}
@@ -7,15 +7,15 @@ use Rattle.std.proofs.lemmas.List.{append-nil, append_assoc}
 use Rattle.arj_base.proofs.Uids.{uid_cases}
 use Rattle.arj_lock.proofs.Members as list
 use Rattle.arj_lock.proofs.Members.{in_from, in_to}
-use Rattle.arj_protocol.specs.Words.{End, Header, Row, Uid, last_uid}
+use Rattle.arj_protocol.specs.Words.{End, Header, Row, Uid, is_on, last_uid}
 use Rattle.arj_protocol.specs.Words.body
 use Rattle.arj_protocol.specs.Words.ending
-use Rattle.arj_protocol.specs.Confirm.{back_lines}
+use Rattle.arj_protocol.specs.Confirm.{back_lines, recovered_naming}
 use Rattle.arj_protocol.specs.Effect.{After, Before, Disk, Do, Effect, InPart, Intent, Look, PutInc, Say, Send}
 use Rattle.arj_protocol.specs.Ending.{tell, tell_all}
 use Rattle.arj_protocol.specs.Named.{Named}
 use Rattle.arj_protocol.specs.Naming.{Naming}
-use Rattle.arj_protocol.specs.Node.{prepared_actions, query_about}
+use Rattle.arj_protocol.specs.Node.{Parts, prepared_actions, query_about}
 use Rattle.arj_protocol.specs.Order.{at_uid, uid_set, without_number}
 use Rattle.arj_protocol.specs.Says.{AreAll}
 use Rattle.arj_protocol.specs.Step.{hello_to, naming_at, naming_back, numbers_to, parts_in, recovered_records, tolds_again}
@@ -35,10 +35,11 @@ use Rattle.arj_lock_view_law.specs.Telling.{AreOneTree, HasEnded, View}
 use Rattle.arj_lock_run_law.specs.Beside.{Case, IsSeenIn, KnowsEntry}
 use Rattle.arj_lock_run_law.specs.Fixed.{Fixed, family_of, view_of}
 use Rattle.arj_lock_run_law.specs.Posts.{AreToldSo, IsToldSo}
-use Rattle.arj_lock_run_law.specs.Sees.{SeesDown}
+use Rattle.arj_lock_run_law.specs.Sees.{HaveConfirms, SeesDown}
 use Rattle.arj_lock_run_law.specs.World.{IsSeenSo, RestartsGo}
 use Rattle.arj_lock_run_law.proofs.HaltSteps.{halt_down}
-use Rattle.arj_lock_run_law.proofs.OtherSteps.{SeesOthers, here_of, others_of, posted_others, said_others, with_here}
+use Rattle.arj_lock_run_law.proofs.NameSteps.{confirms_down, confirms_later, confirms_more, found_keys}
+use Rattle.arj_lock_run_law.proofs.OtherSteps.{SeesOthers, confirms_of, here_of, others_of, posted_others, reached_of, said_others, with_here}
 use Rattle.arj_lock_run_law.proofs.RestartSteps.{down_found, others_found, run_record, tied_record}
 use Rattle.arj_lock_run_law.proofs.StartSteps.{HasStarted, started}
 use Rattle.arj_lock_run_law.proofs.TieSteps.{IsTiedNow, tied_again, tied_moved, tied_now, tied_plain, tied_quiet}
@@ -88,15 +89,15 @@ module _ (f : Fixed) (x : ℕ) (begun : List Action) (k e : ℕ) (P : Seen → T
 
   -- ---- records that are found
 
-  module _ (whole : AreOneTree (family_of f begun)) (R : State) (d D : Disk) (rest : List Effect) (go : (T : State) (N : Seen) → SeesOthers f x begun k T N → (z : SeesDown (view_of f x begun k) T d) → z.last ≡ None → IsTiedNow f x begun T N.lines → Run R T → Walks P e k rest E D N) where
+  module _ (whole : AreOneTree (family_of f begun)) (R : State) (d D : Disk) (rest : List Effect) (go : (T : State) (N : Seen) → SeesOthers f x begun k T N → (z : SeesDown (view_of f x begun k) T d) → z.last ≡ None → HaveConfirms f x T N.sent d None → IsTiedNow f x begun T N.lines → Run R T → Walks P e k rest E D N) where
     records_walk : (es : List (Uid × Intent)) → ((u : Uid) (i : Intent) → list.In {X = Uid × Intent} (u, i) es → IsTopAction begun u) → ((u : Uid) (i : Intent) → list.In {X = Uid × Intent} (u, i) es → list.In {X = Uid × Intent} (u, i) d.intents)
-        → (S : State) (N : Seen) → SeesOthers f x begun k S N → (s : SeesDown (view_of f x begun k) S d) → ((u : Uid) → s.last ≡ Some u → (i : Intent) × list.In {X = Uid × Intent} (u, i) es) → IsTiedNow f x begun S N.lines → Run R S → Walks P e k (recovered_records k es ++ rest) E D N
-    records_walk [] tops kept S N others s pending now run = go S N others s (none s.last refl) now run
+        → (S : State) (N : Seen) → SeesOthers f x begun k S N → (s : SeesDown (view_of f x begun k) S d) → ((u : Uid) → s.last ≡ Some u → (i : Intent) × list.In {X = Uid × Intent} (u, i) es) → HaveConfirms f x S N.sent d None → IsTiedNow f x begun S N.lines → Run R S → Walks P e k (recovered_records k es ++ rest) E D N
+    records_walk [] tops kept S N others s pending confirms now run = go S N others s (none s.last refl) confirms now run
       where
         none : (o : Option Uid) → s.last ≡ o → s.last ≡ None
         none None is = is
         none (Some u) is = absurd (pending u is).1
-    records_walk ((w, i) ∷ es) tops kept S N others s pending now run = by (λ T L o z p n r. records_walk es (λ u j there. tops u j (inr there)) (λ u j there. kept u j (inr there)) T L o z p n r) s.last refl
+    records_walk ((w, i) ∷ es) tops kept S N others s pending confirms now run = by (λ T L o z p h n r. records_walk es (λ u j there. tops u j (inr there)) (λ u j there. kept u j (inr there)) T L o z p h n r) s.last refl
       where
         -- a top that is committed
         old : (s.last ≡ Some w → ⊥) → IsTiedNow f x begun S (let L = said e (body.Recovered k w ∷ []) N in L.lines)
@@ -109,13 +110,13 @@ module _ (f : Fixed) (x : ℕ) (begun : List Action) (k e : ℕ) (P : Seen → T
             first_of q = sym (ap (λ (z : Uid × Intent). z.0) q)
         later u other (j, inr there) = (j, there)
 
-        by : ((T : State) (L : Seen) → SeesOthers f x begun k T L → (z : SeesDown (view_of f x begun k) T d) → ((u : Uid) → z.last ≡ Some u → (j : Intent) × list.In {X = Uid × Intent} (u, j) es) → IsTiedNow f x begun T L.lines → Run R T → Walks P e k (recovered_records k es ++ rest) E D L) → (o : Option Uid) → s.last ≡ o → Walks P e k (recovered_records k es ++ rest) E D (said e (body.Recovered k w ∷ []) N)
-        by next None is = next S _ (said_others f x begun k e (body.Recovered k w ∷ []) S N others) s (λ u its. absurd (let bad : None ≡ Some u = sym is ∙ its in cc bad)) (old (λ its. (let bad : None ≡ Some w = sym is ∙ its in cc bad))) run
+        by : ((T : State) (L : Seen) → SeesOthers f x begun k T L → (z : SeesDown (view_of f x begun k) T d) → ((u : Uid) → z.last ≡ Some u → (j : Intent) × list.In {X = Uid × Intent} (u, j) es) → HaveConfirms f x T L.sent d None → IsTiedNow f x begun T L.lines → Run R T → Walks P e k (recovered_records k es ++ rest) E D L) → (o : Option Uid) → s.last ≡ o → Walks P e k (recovered_records k es ++ rest) E D (said e (body.Recovered k w ∷ []) N)
+        by next None is = next S _ (said_others f x begun k e (body.Recovered k w ∷ []) S N others) s (λ u its. absurd (let bad : None ≡ Some u = sym is ∙ its in cc bad)) confirms (old (λ its. (let bad : None ≡ Some w = sym is ∙ its in cc bad))) run
         by next (Some u) is = ⊎_elim
             (λ (same : u ≡ w). (let its : s.last ≡ Some w = is ∙ ap Some same in
             let z = down_found f x begun k whole S d w N e others s its (tops w i (inl refl)) in
-            next _ _ (others_found f x begun k whole S d w N e others s its (tops w i (inl refl))) z.0 (λ y none. absurd (let bad : None ≡ Some y = sym z.1 ∙ none in cc bad)) (tied_record f x begun k whole S d w N e others s its (tops w i (inl refl)) now) (go_on run (run_record f x begun k whole S d w N e others s its (tops w i (inl refl))))))
-            (λ (other : u ≢ w). next S _ (said_others f x begun k e (body.Recovered k w ∷ []) S N others) s (λ y its. later y (λ same. other (let two : ◌≡◌ {A = Option Uid} (Some u) (Some y) = sym is ∙ its in let one : u ≡ y = cc two in one ∙ same)) (pending y its)) (old (λ its. other (let two : ◌≡◌ {A = Option Uid} (Some u) (Some w) = sym is ∙ its in cc two))) run)
+            next _ _ (others_found f x begun k whole S d w N e others s its (tops w i (inl refl))) z.0 (λ y none. absurd (let bad : None ≡ Some y = sym z.1 ∙ none in cc bad)) (confirms_later f x S _ (reached_of f x begun k S N others) (run_record f x begun k whole S d w N e others s its (tops w i (inl refl))) N.sent N.sent (λ r there. there) d None confirms) (tied_record f x begun k whole S d w N e others s its (tops w i (inl refl)) now) (go_on run (run_record f x begun k whole S d w N e others s its (tops w i (inl refl))))))
+            (λ (other : u ≢ w). next S _ (said_others f x begun k e (body.Recovered k w ∷ []) S N others) s (λ y its. later y (λ same. other (let two : ◌≡◌ {A = Option Uid} (Some u) (Some y) = sym is ∙ its in let one : u ≡ y = cc two in one ∙ same)) (pending y its)) confirms (old (λ its. other (let two : ◌≡◌ {A = Option Uid} (Some u) (Some w) = sym is ∙ its in cc two))) run)
             (uid_cases u w)
 
 -- ---- what a node sends as it starts
@@ -213,18 +214,22 @@ module _ (hd : Header) (c : Case) (e k : ℕ) (d : Disk) (M : Seen) (is_seen : I
     records = here.records;
   }
 
-  halts : (D : Disk) (N : Seen) → SeesDown v S D → SeesOthers f c.x c.begun k S N → IsTiedNow f c.x c.begun S N.lines → P (halted e k D N)
-  halts D N s o now agrees = halt_down f c.x c.begun k e S D N o s now
+  halts : (D : Disk) (N : Seen) → SeesDown v S D → SeesOthers f c.x c.begun k S N → HaveConfirms f c.x S N.sent D None → IsTiedNow f c.x c.begun S N.lines → P (halted e k D N)
+  halts D N s o h now agrees = halt_down f c.x c.begun k e S D N o s h now
 
-  looks : (D : Disk) (N : Seen) → SeesDown v S D → SeesOthers f c.x c.begun k S N → IsTiedNow f c.x c.begun S N.lines → Stops P e k Look D N
-  looks D N s o now Before = halts D N s o now
-  looks D N s o now After = halts D N s o now
-  looks D N s o now (InPart which) = halts D N s o now
+  looks : (D : Disk) (N : Seen) → SeesDown v S D → SeesOthers f c.x c.begun k S N → HaveConfirms f c.x S N.sent D None → IsTiedNow f c.x c.begun S N.lines → Stops P e k Look D N
+  looks D N s o h now Before = halts D N s o h now
+  looks D N s o h now After = halts D N s o h now
+  looks D N s o h now (InPart which) = halts D N s o h now
 
-  rises : (N : Seen) → SeesOthers f c.x c.begun k S N → IsTiedNow f c.x c.begun S N.lines → Stops P e k (PutInc inc) d N
-  rises N o now Before = halts d N here o now
-  rises N o now After = halts risen N here_risen o now
-  rises N o now (InPart which) = halts d N here o now
+  -- whom naming had confirmed
+  had : (D : Disk) (N : Seen) → D.names ≡ d.names → Within M.sent N.sent → HaveConfirms f c.x S N.sent D None
+  had D N names within = confirms_down f c.x S N.sent d D None names (confirms_more f c.x S M.sent N.sent within d None (confirms_of f c.x c.begun k d None S M is_seen.sees))
+
+  rises : (N : Seen) → Within M.sent N.sent → SeesOthers f c.x c.begun k S N → IsTiedNow f c.x c.begun S N.lines → Stops P e k (PutInc inc) d N
+  rises N w o now Before = halts d N here o (had d N refl w) now
+  rises N w o now After = halts risen N here_risen o (had risen N refl w) now
+  rises N w o now (InPart which) = halts d N here o (had d N refl w) now
 
   abbrev Hs : List Uid
   Hs = uid_set (prepared_actions d.store ++ prepared_actions d.names)
@@ -235,21 +240,36 @@ module _ (hd : Header) (c : Case) (e k : ℕ) (d : Disk) (M : Seen) (is_seen : I
   abbrev Sent : List Effect
   Sent = tolds_again d.intents ++ (map query_about Hs ++ Hellos)
 
+  -- naming confirms whose entries are prepared, and no one else
+  confirms_up : (T : State) (sent : List Post) → HaveConfirms f c.x T sent d None → HaveConfirms f c.x T sent risen (Some (parts_in k inc d))
+  confirms_up T sent have u (inl prepared) = have u (inl prepared)
+  confirms_up T sent have u (inr (t, n, is, at, on)) = have u (inl (found_keys u (let z = d.names in z.pend) ((λ i. is_on (confirmed_back (k == 1) n (ap (λ (z : Parts). z.naming) (one is) ∙ at) i) u) ∙ on)))
+    where
+      one : ◌≡◌ {A = Option Parts} (Some (parts_in k inc d)) (Some t) → parts_in k inc d ≡ t
+      one same = cc same
+
+      confirmed_back : (b : Bool) (n : Naming) → cond b (Some (recovered_naming inc d.names)) None ≡ Some n → prepared_actions d.names ≡ n.confirmed
+      confirmed_back true n its = ap (λ (z : Naming). z.confirmed) (same its)
+        where
+          same : ◌≡◌ {A = Option Naming} (Some (recovered_naming inc d.names)) (Some n) → recovered_naming inc d.names ≡ n
+          same q = cc q
+      confirmed_back false n its = absurd (cc its)
+
   -- what is sent, and the end
-  ends_walk : (R T : State) → Run c.state T → (N : Seen) → HasStarted f c.x c.begun k R d N T → ((u : Uid) (i : Intent) → list.In {X = Uid × Intent} (u, i) d.intents → HasEnded v T u ending.Commit) → IsTiedNow f c.x c.begun T N.lines → Walks P e k Sent E risen N
-  ends_walk R T run N has so now =
-      let end : (L : Seen) → Within N.sent L.sent → SeesOthers f c.x c.begun k T L → IsTiedNow f c.x c.begun T L.lines → Walks P e k [] E risen L = λ L w o n agrees. (T, with_here f c.x c.begun k risen (Some (parts_in k inc d)) T L o has.up, n.tied, run) in
+  ends_walk : (R T : State) → Run c.state T → (N : Seen) → HasStarted f c.x c.begun k R d N T → ((u : Uid) (i : Intent) → list.In {X = Uid × Intent} (u, i) d.intents → HasEnded v T u ending.Commit) → HaveConfirms f c.x T N.sent d None → IsTiedNow f c.x c.begun T N.lines → Walks P e k Sent E risen N
+  ends_walk R T run N has so confirms now =
+      let end : (L : Seen) → Within N.sent L.sent → SeesOthers f c.x c.begun k T L → IsTiedNow f c.x c.begun T L.lines → Walks P e k [] E risen L = λ L w o n agrees. (T, with_here f c.x c.begun k risen (Some (parts_in k inc d)) T L o has.up (confirms_more f c.x T N.sent L.sent w risen (Some (parts_in k inc d)) (confirms_up T N.sent confirms)), n.tied, run) in
       quiet_walk f c.x c.begun k e P E T N.sent risen (tolds_again d.intents) (map query_about Hs ++ Hellos) (tolds_quiet d.intents) (tolds_seen f c.x c.begun k T N.sent d.intents so)
       (λ L w o n. quiet_walk f c.x c.begun k e P E T N.sent risen (map query_about Hs) Hellos (queries_quiet Hs) (queries_seen f c.x c.begun k T N.sent Hs)
       (λ K y q m. subst (λ es. Walks P e k es E risen K) (append-nil Hellos) (quiet_walk f c.x c.begun k e P E T N.sent risen Hellos [] (hellos_quiet k inc (without_number k (numbers_to hd.nodes))) (hellos_seen f c.x c.begun k T N.sent inc (without_number k (numbers_to hd.nodes))) end K y q m)) L w o n)
       N (λ r i. i) has.others now
 
   -- after the last look
-  last_walk : (N : Seen) → SeesOthers f c.x c.begun k S N → IsTiedNow f c.x c.begun S N.lines → Walks P e k (recovered_records k d.intents ++ Sent) E risen N
-  last_walk N o now = records_walk f c.x c.begun k e P E whole S d risen Sent
-      (λ T L os z none n r. (let g = started f c.x c.begun k T d L os z none entry in
-      ends_walk T g.0 (go_on r (let q = g.1 in q.run)) L g.1 (λ u i there. (let z = g.1 in let y = z.up in ⊎_elim (λ none. absurd (cc none)) (λ so. so) (y.records u i (in_to {X = Uid × Intent} (u, i) d.intents there)))) (tied_moved f c.x c.begun T g.0 L.lines (let q = g.1 in q.moved) n)))
-      d.intents tops (λ u i there. there) S N o here (λ u is. recorded u is) now stay
+  last_walk : (N : Seen) → Within M.sent N.sent → SeesOthers f c.x c.begun k S N → IsTiedNow f c.x c.begun S N.lines → Walks P e k (recovered_records k d.intents ++ Sent) E risen N
+  last_walk N w o now = records_walk f c.x c.begun k e P E whole S d risen Sent
+      (λ T L os z none h n r. (let g = started f c.x c.begun k T d L os z none entry in
+      ends_walk T g.0 (go_on r (let q = g.1 in q.run)) L g.1 (λ u i there. (let z = g.1 in let y = z.up in ⊎_elim (λ none. absurd (cc none)) (λ so. so) (y.records u i (in_to {X = Uid × Intent} (u, i) d.intents there)))) (confirms_later f c.x T g.0 (reached_of f c.x c.begun k T L os) (let q = g.1 in q.run) L.sent L.sent (λ r there. there) d None h) (tied_moved f c.x c.begun T g.0 L.lines (let q = g.1 in q.moved) n)))
+      d.intents tops (λ u i there. there) S N o here (λ u is. recorded u is) (had d N refl w) now stay
     where
       tops : (u : Uid) (i : Intent) → list.In {X = Uid × Intent} (u, i) d.intents → IsTopAction c.begun u
       tops u i there = all_of d.intents (let p = place_of k d None M (c.begun, is_seen.good) in let q = p.disk in q.tops) there
@@ -277,14 +297,14 @@ module _ (hd : Header) (c : Case) (e k : ℕ) (d : Disk) (M : Seen) (is_seen : I
       let o = said_others f c.x c.begun k e (body.Up k inc ∷ []) S M others in
       let now = tied_now c (down k d M) is_seen in
       let n = tied_plain f c.x c.begun e (body.Up k inc ∷ []) S M.lines (refl, tt) now in (
-        looks d M here others now,
+        looks d M here others (had d M refl (λ r i. i)) now,
         (
-          rises M others now,
+          rises M (λ r i. i) others now,
           (
-            looks risen (said e (body.Up k inc ∷ []) M) here_risen o n,
+            looks risen (said e (body.Up k inc ∷ []) M) here_risen o (had risen (said e (body.Up k inc ∷ []) M) refl (λ r i. i)) n,
             quiet_walk f c.x c.begun k e P E S M.sent risen (naming_back (naming_at k inc d.names)) (Next ++ Sent) (no_works f c.x c.begun k e P E (naming_back (naming_at k inc d.names)) (back_said (naming_at k inc d.names)))
                 (no_sends f c.x c.begun k e P E S M.sent (naming_back (naming_at k inc d.names)) (back_said (naming_at k inc d.names)))
-                (λ N w q m. (looks risen N here_risen q m, last_walk N q m)) (said e (body.Up k inc ∷ []) M) (λ r i. i) o n,
+                (λ N w q m. (looks risen N here_risen q (had risen N refl w) m, last_walk N w q m)) (said e (body.Up k inc ∷ []) M) (λ r i. i) o n,
           ),
         ),
       )

@@ -1,5 +1,7 @@
 -- A message that comes to a node shows to its server and to naming what their laws count on.
 use Rattle.std.proofs.Common.{◌≡◌, ◌≢◌, ◌⊎◌, ◌∙◌, ℕ, List, [], ◌∷◌, true, false, Option, Some, None, refl, sym, ap, subst, inl, inr, ⊎_elim, Contains, arith}
+use Rattle.std.specs.Prelude.{◌||◌}
+use Rattle.std.proofs.lemmas.Bool.{or_cases}
 use Rattle.arj_lock.proofs.Members.{in_to}
 use Rattle.arj_lock.proofs.Members as list
 use Rattle.arj_protocol.specs.Words.{Ask, Asked, End, Head, Kind, Message, Path, Uid, asks, before_last, is_held_by, is_on}
@@ -7,7 +9,9 @@ use Rattle.arj_protocol.specs.Words.ask
 use Rattle.arj_protocol.specs.Words.ending
 use Rattle.arj_protocol.specs.Words.kind
 use Rattle.arj_protocol.specs.Words.message
-use Rattle.arj_protocol.specs.Ask.{Reply, answers, last_end}
+use Rattle.arj_protocol.specs.Ask.{Reply, answers, last_end, top_of}
+use Rattle.arj_protocol.specs.Confirm.{Grants, Marks}
+use Rattle.arj_protocol.specs.Effect.{is_prepared}
 use Rattle.arj_protocol.specs.Named.{Named}
 use Rattle.arj_protocol.specs.Naming.{Naming}
 use Rattle.arj_protocol.specs.Order.{at_number}
@@ -31,11 +35,14 @@ use Rattle.arj_lock_view_law.specs.Telling.{AreOneTree, IsCommittedSo, IsOfFamil
 use Rattle.arj_lock_view_law.proofs.PlaceSteps.{Stood, alone, constituent, nested, stood}
 use Rattle.arj_lock_view_law.proofs.SentSteps.{sent_are_shown}
 use Rattle.arj_lock_view_law.proofs.ShownSteps.{ended_are_shown, over_are_shown, unvoted_are_shown}
+use Rattle.arj_lock_fact_law.specs.Parted.{names_object}
+use Rattle.arj_lock_fact_law.proofs.Confirms.{grants_in, own_top}
 use Rattle.arj_lock_run_law.specs.Beside.{Case, IsConfirmedNow, IsSeenIn, IsToldAbort, IsToldCommit, IsUnitOver, KnowsNaming, KnowsSpot, Spot, place_in, server_at, told_in, view_in, world_at}
 use Rattle.arj_lock_run_law.specs.Posts.{IsAnsweredSeen, IsAskedSeen, IsOtherSeen, IsRequestSeen, IsToldSo}
-use Rattle.arj_lock_run_law.specs.Sees.{SeesUp}
+use Rattle.arj_lock_run_law.specs.Sees.{HasConfirm, SeesUp}
+use Rattle.arj_lock_run_law.proofs.ConfirmSteps.{named_by}
 use Rattle.arj_lock_run_law.proofs.GoodSteps.{of_family}
-use Rattle.arj_lock_run_law.proofs.OtherSteps.{here_of}
+use Rattle.arj_lock_run_law.proofs.OtherSteps.{confirms_of, here_of}
 use Rattle.arj_lock_run_law.proofs.TopSteps.{owned_of, topped_of}
 
 is_three : (n : ℕ) → (n ≡ 3) ⊎ (n ≡ 3 → ⊥)
@@ -121,18 +128,32 @@ module _ (c : Case) (s : Spot) (from : ℕ) (m : Message) (is_seen : IsSeenIn c 
   abbrev site : Site
   site = record { view = v; owner = owner; disk = s.disk }
 
-  module _ (n : Naming) (k : KnowsNaming c s n) where
+  module _ (n : Naming) (at_naming : (let t = s.parts in t.naming) ≡ Some n) (k : KnowsNaming c s n) where
     asking : (a : Action) → Contains c.begun a → a.kind ≢ kind.Serial → IsAsking v owner a.path n
     asking a i unserial = record { one = (let l = whole.alike in l.one); topped = topped_of v.family whole a i unserial; fits = begun_fits c.begun whole.begun a i unserial; good = (let h = k.holds in h.good) }
 
     asking_by : (p : Path) → (a : Action) × Contains c.begun a × (a.path ≡ p) × (a.kind ≢ kind.Serial) → IsAsking v owner p n
     asking_by p (a, i, path, unserial) = subst (λ (q : Path). IsAsking v owner q n) path (asking a i unserial)
 
-    request_shown : (h : Head) (a : Ask) → FitsAsk c.begun h a → IsRequestSeen v h a S → IsRequestShown site n S h a
-    request_shown h (ask.Bind y include avoid) fit said = (asking_by h.path fit, said.names)
-    request_shown h (ask.Record y b i g) fit said = (asking_by h.path fit, said.names)
-    request_shown h (ask.Confirm grants excluded included) fit said = (asking_by h.path fit, record { sent = said.names; again = λ g given was. k.again h.path g (said.names g given) was })
-    request_shown h _ fit said = tt
+    -- whom naming confirmed, or whose entries are prepared, the machine's naming confirmed once, if the Confirm names the object
+    confirmed_once : (h : Head) (grants : Grants) (excluded included : Marks) → asks m ≡ Some (h, ask.Confirm grants excluded included) → (g : ℕ) → Contains {X = ℕ × ℕ} grants (c.x, g)
+        → (is_on n.confirmed (top_of h.path) || is_prepared (top_of h.path) (let d = s.disk in d.names)) ≡ true → S.confirmed (place_in c (top_of h.path)) ≡ true
+    confirmed_once h grants excluded included is g given was =
+        let one = had.top in
+        let top = own_top c.x c.begun (world_at s) is_seen.good knows.parted in
+        let who = sym (top post h grants excluded included there is) ∙ sym one ∙ top had.post had.head had.grants had.excluded had.included had.there had.is in
+        let same = (let p = knows.parted in p.one) post had.post h had.head (ask.Confirm grants excluded included) (ask.Confirm had.grants had.excluded had.included) there had.there is had.is refl refl who in
+        had.confirmed (ap (λ (a : Ask). names_object c.x (grants_in a)) (sym same) ∙ named_by c.x g grants given)
+      where
+        had : HasConfirm c.fixed c.x S (let M = s.seen in M.sent) (top_of h.path)
+        had = confirms_of c.fixed c.x c.begun s.node s.disk (Some s.parts) S s.seen is_seen.sees (top_of h.path)
+            (⊎_elim (λ on. inr (s.parts, n, refl, at_naming, on)) (λ prepared. inl prepared) (or_cases (is_on n.confirmed (top_of h.path)) (is_prepared (top_of h.path) (let d = s.disk in d.names)) was))
+
+    request_shown : (h : Head) (a : Ask) → asks m ≡ Some (h, a) → FitsAsk c.begun h a → IsRequestSeen v h a S → IsRequestShown site n S h a
+    request_shown h (ask.Bind y include avoid) is fit said = (asking_by h.path fit, said.names)
+    request_shown h (ask.Record y b i g) is fit said = (asking_by h.path fit, said.names)
+    request_shown h (ask.Confirm grants excluded included) is fit said = (asking_by h.path fit, record { sent = said.names; again = confirmed_once h grants excluded included is })
+    request_shown h _ is fit said = tt
 
     -- ends
     may_go : (u : Uid) → IsToldAbort s u → IsToldSo v S u ending.Abort → is_on n.told u ≡ false → MayGo S (place_in c u)
@@ -225,11 +246,11 @@ module _ (c : Case) (s : Spot) (from : ℕ) (m : Message) (is_seen : IsSeenIn c 
 
         by : (o : Option (Head × Ask)) → asks m ≡ o → IsAskedSeen v (let M = s.seen in M.sent) post S o → FitsAsked c.begun m o → IsAskedShown site n S m o
         by None is said fit = other (answers m) refl said
-        by (Some q) is said fit = request_shown q.0 q.1 fit said
+        by (Some q) is said fit = request_shown q.0 q.1 is fit said
 
   pub shown_to_naming : IsShownBy site S m (asks m) (let t = s.parts in t.naming)
   shown_to_naming = by (let t = s.parts in t.naming) refl
     where
       by : (o : Option Naming) → (let t = s.parts in t.naming) ≡ o → IsShownBy site S m (asks m) o
       by None is = tt
-      by (Some n) is = shown_at n (knows.naming n is)
+      by (Some n) is = shown_at n is (knows.naming n is)

@@ -1,11 +1,13 @@
 -- A node's effects are walked through where the machine has gone along before: what is sent is shown, and each stop is seen.
-use Rattle.std.proofs.Common.{Contains, ◌≡◌, ◌∙◌, ℕ, List, [], ◌∷◌, Bool, true, false, Some, sym, subst, inr}
+use Rattle.std.proofs.Common.{Contains, ◌≡◌, ◌∙◌, ◌⊎◌, ℕ, List, [], ◌∷◌, Bool, true, false, Option, Some, None, sym, ap, subst, inl, inr, ⊎_elim}
 use Rattle.std.specs.Prelude.{⊤}
 use Rattle.std.specs.List.{AllByRecursion, list_all}
 use Rattle.std.proofs.lemmas.Bool.{and_parts}
-use Rattle.arj_protocol.specs.Words.{Uid}
+use Rattle.arj_lock.proofs.Members as list
+use Rattle.arj_protocol.specs.Words.{ObjectState, Uid, is_on}
 use Rattle.arj_protocol.specs.Words.role
-use Rattle.arj_protocol.specs.Effect.{After, Before, Disk, Effect, InPart, Intent, Say, Send, Do, Stop, Work, Look, PutInc, Prepare, Commit, Abort, PutIntent, RemoveIntent, stopped, worked}
+use Rattle.arj_protocol.specs.Effect.{After, Before, Disk, Effect, InPart, Intent, Say, Send, Do, Stop, Work, Look, PutInc, Prepare, Commit, Abort, PutIntent, RemoveIntent, is_prepared, stopped, worked}
+use Rattle.arj_protocol.specs.Naming.{Naming}
 use Rattle.arj_protocol.specs.Node.{Parts}
 use Rattle.arj_protocol.specs.Says.{AreAll}
 use Rattle.arj_lock_law.specs.Machine.{Run}
@@ -16,9 +18,10 @@ use Rattle.arj_view_law.specs.Seen.{Post, Seen, Within, posted, said}
 use Rattle.arj_view_law.specs.Walks.{Up, Walks, halted}
 use Rattle.arj_lock_run_law.specs.Fixed.{Fixed, view_of}
 use Rattle.arj_lock_run_law.specs.Posts.{IsPostSeen}
-use Rattle.arj_lock_run_law.specs.Sees.{SeesLocks, SeesUp}
+use Rattle.arj_lock_run_law.specs.Sees.{HasConfirm, HaveConfirms, SeesLocks, SeesUp}
 use Rattle.arj_lock_run_law.specs.Tied.{AreTied}
 use Rattle.arj_lock_run_law.specs.World.{IsSeenSo}
+use Rattle.arj_lock_run_law.proofs.NameSteps.{confirm_more, prepared_stopped, prepared_worked}
 use Rattle.arj_lock_run_law.proofs.OtherSteps.{SeesOthers, posted_others, said_others, with_here}
 use Rattle.arj_lock_run_law.proofs.TieSteps.{IsTiedNow, tied_plain, tied_quiet}
 
@@ -90,18 +93,42 @@ module _ (f : Fixed) (x : ℕ) (begun : List Action) (k : ℕ) where
 
   -- where this is so at each stop, and at the end
   module _ (S T : State) (e : ℕ) (v : Parts) (i : ℕ) (js : List (Uid × Intent)) (sent : List Post)
-      (halt : (d : Disk) (M : Seen) → HasSame i js d → SeesOthers f x begun k T M → IsTiedNow f x begun T M.lines → (U : State) × SeesLocks f x begun U (halted e k d M) × AreTied f x (let N = halted e k d M in N.lines) U × Run S U) (run : Run S T)
-      (end : (d : Disk) → HasSame i js d → SeesUp (view_of f x begun k) T d v) where
-    pub walked : (outs : List Effect) (d : Disk) (M : Seen) → AreSendsSeen T sent outs → AreAll leaves outs → Within sent M.sent → HasSame i js d → SeesOthers f x begun k T M → IsTiedNow f x begun T M.lines
+      (halt : (d : Disk) (M : Seen) → HasSame i js d → SeesOthers f x begun k T M → HaveConfirms f x T M.sent d None → IsTiedNow f x begun T M.lines → (U : State) × SeesLocks f x begun U (halted e k d M) × AreTied f x (let N = halted e k d M in N.lines) U × Run S U) (run : Run S T)
+      (end : (d : Disk) → HasSame i js d → SeesUp (view_of f x begun k) T d v)
+      (confirmed : (n : Naming) (u : Uid) → v.naming ≡ Some n → is_on n.confirmed u ≡ true → HasConfirm f x T sent u) where
+    -- a Confirm was sent of each whose entries are prepared, or will be
+    abbrev AreReady : Disk → List Effect → Type 0
+    AreReady d outs = (u : Uid) → ((is_prepared u (let h = d in h.names) ≡ true) ⊎ ((states : List ObjectState) × list.In (Do (Prepare role.Names u states)) outs)) → HasConfirm f x T sent u
+
+    ready_then : (w : Work) (es : List Effect) (d : Disk) → AreReady d (Do w ∷ es) → AreReady (worked w d) es
+    ready_then w es d ready u (inl prepared) = ⊎_elim (λ old. ready u (inl old)) (λ new. ready u (inr (new.0, inl (ap Do (sym new.1))))) (prepared_worked w d u prepared)
+    ready_then w es d ready u (inr (states, there)) = ready u (inr (states, inr there))
+
+    ready_on : (o : Effect) (es : List Effect) (d : Disk) → AreReady d (o ∷ es) → AreReady d es
+    ready_on o es d ready u (inl prepared) = ready u (inl prepared)
+    ready_on o es d ready u (inr (states, there)) = ready u (inr (states, inr there))
+
+    at_stop : (how : Stop) (w : Work) (es : List Effect) (d : Disk) (M : Seen) → Within sent M.sent → AreReady d (Do w ∷ es) → HaveConfirms f x T M.sent (stopped how w d) None
+    at_stop how w es d M within ready u (inl prepared) = confirm_more f x T sent M.sent within u (⊎_elim (λ old. ready u (inl old)) (λ new. ready u (inr (new.0, inl (ap Do (sym new.1))))) (prepared_stopped how w d u prepared))
+    at_stop how w es d M within ready u (inr (t, n, is, at, on)) = absurd (cc is)
+
+    at_end : (d : Disk) (M : Seen) → Within sent M.sent → AreReady d [] → HaveConfirms f x T M.sent d (Some v)
+    at_end d M within ready u (inl prepared) = confirm_more f x T sent M.sent within u (ready u (inl prepared))
+    at_end d M within ready u (inr (t, n, is, at, on)) = confirm_more f x T sent M.sent within u (confirmed n u (ap (λ (z : Parts). z.naming) (one is) ∙ at) on)
+      where
+        one : ◌≡◌ {A = Option Parts} (Some v) (Some t) → v ≡ t
+        one same = cc same
+
+    pub walked : (outs : List Effect) (d : Disk) (M : Seen) → AreSendsSeen T sent outs → AreAll leaves outs → Within sent M.sent → AreReady d outs → HasSame i js d → SeesOthers f x begun k T M → IsTiedNow f x begun T M.lines
         → Walks (IsSeenSo (record { fixed = f; x = x; begun = begun; state = S })) e k outs (Up (IsSeenSo (record { fixed = f; x = x; begun = begun; state = S })) k v) d M
-    walked [] d M sends plain within same others now = λ agrees. (T, with_here f x begun k d (Some v) T M others (end d same), now.tied, run)
-    walked (Do w ∷ es) d M sends plain within same others now =
+    walked [] d M sends plain within ready same others now = λ agrees. (T, with_here f x begun k d (Some v) T M others (end d same) (at_end d M within ready), now.tied, run)
+    walked (Do w ∷ es) d M sends plain within ready same others now =
         let p = and_parts (leaves_work w) (list_all leaves es) plain in
-        (λ how agrees. halt (stopped how w d) M (stopped_same i js how w d p.0 same) others now, walked es (worked w d) M sends.1 p.1 within (worked_same i js w d p.0 same) others now)
-    walked (Say b ∷ es) d M sends plain within same others now =
+        (λ how agrees. halt (stopped how w d) M (stopped_same i js how w d p.0 same) others (at_stop how w es d M within ready) now, walked es (worked w d) M sends.1 p.1 within (ready_then w es d ready) (worked_same i js w d p.0 same) others now)
+    walked (Say b ∷ es) d M sends plain within ready same others now =
         let p = and_parts (is_plain b) (list_all leaves es) plain in
-        walked es d (said e (b ∷ []) M) sends.1 p.1 within same (said_others f x begun k e (b ∷ []) T M others) (tied_plain f x begun e (b ∷ []) T M.lines (p.0, tt) now)
-    walked (Send to m ∷ es) d M sends plain within same others now = λ more quiet.
+        walked es d (said e (b ∷ []) M) sends.1 p.1 within (ready_on (Say b) es d ready) same (said_others f x begun k e (b ∷ []) T M others) (tied_plain f x begun e (b ∷ []) T M.lines (p.0, tt) now)
+    walked (Send to m ∷ es) d M sends plain within ready same others now = λ more quiet.
         let p : Post = record { from = k; to = to; message = m } in
-        walked es d (said e more (posted p M)) sends.1 plain (λ q there. inr (within q there)) same
+        walked es d (said e more (posted p M)) sends.1 plain (λ q there. inr (within q there)) (ready_on (Send to m) es d ready) same
         (said_others f x begun k e more T (posted p M) (posted_others f x begun k p T M others (sends.0 (p ∷ M.sent) (λ q there. inr (within q there))))) (tied_quiet f x begun e more T M.lines quiet now)

@@ -1,21 +1,19 @@
 -- What a run's own relations have to give beside what is seen in the machine, so that what naming and servers do is seen again.
-use Rattle.std.specs.Prelude.{◌≡◌, ◌<◌, ◌*◌, ◌||◌, ℕ, List, [], true, false, Option, Some, Contains, is_some}
-use Rattle.arj_protocol.specs.Words.{End, Message, Path, Row, Uid, before_last, is_held_by, is_on, uids_of}
+use Rattle.std.specs.Prelude.{◌≡◌, ◌<◌, ℕ, List, [], true, false, Option, Some, Contains, is_some}
+use Rattle.arj_protocol.specs.Words.{End, Message, Row, Uid, before_last, is_held_by, is_on, uids_of}
 use Rattle.arj_protocol.specs.Words.ending
 use Rattle.arj_protocol.specs.Words.kind
 use Rattle.arj_protocol.specs.Words.message
-use Rattle.arj_protocol.specs.Ask.{last_end, top_of}
+use Rattle.arj_protocol.specs.Ask.{last_end}
 use Rattle.arj_protocol.specs.Confirm.{recovered_naming}
 use Rattle.arj_protocol.specs.Copy.{Copy}
-use Rattle.arj_protocol.specs.Effect.{Disk, is_prepared}
+use Rattle.arj_protocol.specs.Effect.{Disk}
 use Rattle.arj_protocol.specs.Named.{Named}
 use Rattle.arj_protocol.specs.Naming.{Naming}
 use Rattle.arj_protocol.specs.Node.{Parts}
 use Rattle.arj_protocol.specs.Order.{at_number}
 use Rattle.arj_protocol.specs.Server.{Server, is_told}
-use Rattle.arj_lock_law.specs.Actions as machine
 use Rattle.arj_lock_law.specs.Actions.{Act, Root, is_top, root}
-use Rattle.arj_lock_law.specs.State as machine_state
 use Rattle.arj_lock_law.specs.State.{State}
 use Rattle.arj_part_law.specs.Actions.{Action, act_of, owners_of}
 use Rattle.arj_line_law.specs.Book.{book}
@@ -23,6 +21,7 @@ use Rattle.arj_line_law.specs.Knows.{IsWritten}
 use Rattle.arj_line_law.specs.Paths.{AreAlike}
 use Rattle.arj_run_law.specs.Worlds.{IsGoodOf}
 use Rattle.arj_view_law.specs.Seen.{In, Post, Seen, up}
+use Rattle.arj_lock_fact_law.specs.Parted.{KnowsParted}
 use Rattle.arj_lock_view_law.specs.Namings.{HasNothingAt, IsGoodAt}
 use Rattle.arj_lock_view_law.specs.Telling.{HasNoneLeft, View}
 use Rattle.arj_lock_run_law.specs.Fixed.{Agrees, Fixed, view_of}
@@ -124,17 +123,16 @@ HoldsNamingIn c k o = (n : Naming) → o ≡ Some n → HoldsNaming c k n
 
 -- Besides: an abort that comes to it of a committed top whose unit isn't over is of one that it didn't confirm. Where the commit of a
 -- constituent comes that it confirmed, each row of that can pass to its serializing action; and of a nested action it has nothing.
--- Where it confirmed a top before, or has entries of it prepared, the machine's naming confirmed that once, if it was asked to.
 pub record KnowsNaming (c : Case) (s : Spot) (n : Naming) : Type 0 where
   pub holds : HoldsNaming c s.node n
   pub unconfirmed : (u : Uid) → IsToldAbort s u → is_on n.told u ≡ false → IsCommittedTop c u → (IsUnitOver c u → ⊥) → IsConfirmedNow c u → ⊥
   pub heirs : (o : Named) (a : Action) → at_number c.x n.objects ≡ Some o → Contains c.begun a → a.kind ≡ kind.Constituent → IsToldCommit s (act_of a) → is_on n.told (act_of a) ≡ false → IsConfirmedNow c (act_of a)
       → (r : Row) → Contains o.rows r → is_held_by (act_of a) r ≡ true → before_last r.holder ≡ before_last (uids_of a.path)
   pub nothing : (o : Named) (a : Action) → at_number c.x n.objects ≡ Some o → Contains c.begun a → a.kind ≡ kind.Nested → IsToldCommit s (act_of a) → is_on n.told (act_of a) ≡ false → HasNothingAt n o (act_of a)
-  pub again : (p : Path) (g : ℕ) → machine.In (machine_state.Confirm (place_in c (top_of p)) (g * 4294967296)) (let S = c.state in S.net) → (is_on n.confirmed (top_of p) || is_prepared (top_of p) (let d = s.disk in d.names)) ≡ true → (let S = c.state in S.confirmed (place_in c (top_of p))) ≡ true
 
--- what is known at the node
+-- What is known at the node; and who takes part in each commit is known in the world: all Confirms of a top are one.
 pub record KnowsSpot (c : Case) (s : Spot) : Type 0 where
+  pub parted : KnowsParted c.begun (world_at s)
   pub server : KnowsServer c s
   pub naming : (n : Naming) → (let t = s.parts in t.naming) ≡ Some n → KnowsNaming c s n
 

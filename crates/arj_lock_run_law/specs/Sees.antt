@@ -1,9 +1,12 @@
 -- The whole world, as the lock machine of one object has it: each node, up or down, every message that was sent, and what was not
 -- begun yet.
 use Rattle.std.specs.Prelude.{◌≡◌, ◌≢◌, ◌≤◌, ◌⊎◌, ℕ, ◌+◌, ◌==◌, true, List, Option, Some, None, Contains, is_some, length}
-use Rattle.arj_protocol.specs.Words.{Uid, first_uid}
+use Rattle.arj_protocol.specs.Words.{Head, Uid, asks, first_uid, is_on}
+use Rattle.arj_protocol.specs.Words.ask
 use Rattle.arj_protocol.specs.Words.ending
-use Rattle.arj_protocol.specs.Effect.{Disk, Intent}
+use Rattle.arj_protocol.specs.Ask.{top_of}
+use Rattle.arj_protocol.specs.Confirm.{Grants, Marks}
+use Rattle.arj_protocol.specs.Effect.{Disk, Intent, is_prepared}
 use Rattle.arj_protocol.specs.Naming.{Naming}
 use Rattle.arj_protocol.specs.Node.{Parts}
 use Rattle.arj_protocol.specs.Order.{at_uid}
@@ -14,6 +17,7 @@ use Rattle.arj_lock_law.specs.Machine.{Run, start}
 use Rattle.arj_lock_law.specs.State.{State}
 use Rattle.arj_part_law.specs.Actions.{Action, act_of}
 use Rattle.arj_view_law.specs.Seen.{In, Post, Seen}
+use Rattle.arj_lock_fact_law.specs.Parted.{names_object}
 use Rattle.arj_lock_view_law.specs.Begins.{IsNewUnit, IsUntouched}
 use Rattle.arj_lock_view_law.specs.Ends.{SeesNothing}
 use Rattle.arj_lock_view_law.specs.Hearing.{SeesNamingIn}
@@ -75,6 +79,28 @@ abbrev pub SeesMemory : View → State → Disk → Option Parts → Type 0
 SeesMemory v S d None = SeesDown v S d
 SeesMemory v S d (Some t) = SeesUp v S d t
 
+-- ---- who is confirmed
+
+-- naming has confirmed the action in this incarnation, or has entries of it prepared
+abbrev pub IsConfirmedAt : Uid → Disk → Option Parts → Type 0
+IsConfirmedAt u d live = (is_prepared u (let k = d in k.names) ≡ true) ⊎ ((t : Parts) × (n : Naming) × (live ≡ Some t) × (t.naming ≡ Some n) × (is_on n.confirmed u ≡ true))
+
+-- A Confirm of it was sent, and if it names the object the machine's naming confirmed the action once.
+pub record HasConfirm (f : Fixed) (x : ℕ) (S : State) (sent : List Post) (u : Uid) : Type 0 where
+  pub post : Post
+  pub head : Head
+  pub grants : Grants
+  pub excluded : Marks
+  pub included : Marks
+  pub there : In post sent
+  pub is : asks (let p = post in p.message) ≡ Some (head, ask.Confirm grants excluded included)
+  pub top : top_of (let h = head in h.path) ≡ u
+  pub confirmed : names_object x grants ≡ true → S.confirmed (f.act u) ≡ true
+
+-- so it is of each that a node has confirmed
+abbrev pub HaveConfirms : Fixed → ℕ → State → List Post → Disk → Option Parts → Type 0
+HaveConfirms f x S sent d live = (u : Uid) → IsConfirmedAt u d live → HasConfirm f x S sent u
+
 -- ---- what isn't begun yet
 
 -- the action wasn't begun
@@ -88,11 +114,12 @@ pub record IsFresh (f : Fixed) (begun : List Action) (S : State) : Type 0 where
 
 -- ---- the world
 
--- The object in the whole world: a run of the machine from its first value, whose state is seen at each node, in each message that was
--- sent, and of what wasn't begun; and no line of the machine stands behind the journal's.
+-- The object in the whole world: a run of the machine from its first value, whose state is seen at each node, in whom nodes confirmed, in
+-- each message that was sent, and of what wasn't begun; and no line of the machine stands behind the journal's.
 pub record SeesLocks (f : Fixed) (x : ℕ) (begun : List Action) (S : State) (M : Seen) : Type 0 where
   pub run : Run (start f.first) S
   pub nodes : (k : ℕ) (n : Node) → M.nodes k ≡ Some n → SeesMemory (view_of f x begun k) S n.disk n.live
+  pub confirms : (k : ℕ) (n : Node) → M.nodes k ≡ Some n → HaveConfirms f x S M.sent n.disk n.live
   pub posts : (p : Post) → In p M.sent → IsPostSeen f x begun M.sent S p
   pub fresh : IsFresh f begun S
   pub now : S.now ≤ length M.lines + 1
