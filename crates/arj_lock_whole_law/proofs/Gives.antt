@@ -326,6 +326,7 @@ module _ (hd : Header) (x : ℕ) (has : HasObject hd x) (E : List Action → See
     module _ (rest : GivesRest f x Known_all) where
       spot : KnowsSpot c s
       spot = record {
+        parted = whole.parted;
         server = record {
           listed = listed;
           left = λ u told new over. rest.left begun S s u knows seen told new over;
@@ -336,7 +337,6 @@ module _ (hd : Header) (x : ℕ) (has : HasObject hd x) (E : List Action → See
           unconfirmed = λ u told new top open_unit now. rest.unconfirmed begun S s n u knows seen is told new top open_unit now;
           heirs = λ o a at there how told new now r i held. rest.heirs begun S s n o a knows seen is at there how told new now r i held;
           nothing = λ o a at there nested told new. nested_nothing begun k its_node t n (world_at s) good uppers here refl is x o a at there nested;
-          again = λ p g sent before. rest.again begun S s n p g knows seen is sent before;
         };
       }
 

@@ -20,11 +20,13 @@ use Rattle.arj_disk_run_law.proofs.Telling.{acked_kept, acts_kept, heard_kept, s
 use Rattle.arj_lock_fact_law.specs.Acts.{KeepsOf, begins_in}
 use Rattle.arj_lock_fact_law.specs.Entries.{HasObject, HoldsEntry}
 use Rattle.arj_lock_fact_law.specs.Grants.{GrantsAreKnown}
+use Rattle.arj_lock_fact_law.specs.Parted.{KnowsParted}
 use Rattle.arj_lock_fact_law.specs.Requests.{RequestsAreKnown}
 use Rattle.arj_lock_fact_law.specs.Uppers.{AreUppersOf}
 use Rattle.arj_lock_fact_law.specs.Worlds.{WorksAreKnown}
 use Rattle.arj_lock_fact_law.proofs.Entries.{entries_keep}
 use Rattle.arj_lock_fact_law.proofs.Grants.{grants_keep}
+use Rattle.arj_lock_fact_law.proofs.PartWalks.{parted_keep}
 use Rattle.arj_lock_fact_law.proofs.Requests.{requests_keep}
 use Rattle.arj_lock_fact_law.proofs.UpperWalks.{uppers_of}
 use Rattle.arj_lock_fact_law.proofs.Works.{works_keep}
@@ -71,8 +73,11 @@ module _ (hd : Header) (x : ℕ) (has : HasObject hd x) where
   abbrev Counted : List Action → Seen → Type 0
   Counted begun M = AreSaid M × HoldsEntry x M
 
+  abbrev Ended : List Action → Seen → Type 0
+  Ended begun M = AreRecorded begun M × KnowsParted begun M
+
   abbrev Recorded : List Action → Seen → Type 0
-  Recorded begun M = Counted begun M × AreRecorded begun M
+  Recorded begun M = Counted begun M × Ended begun M
 
   abbrev Coords : List Action → Seen → Type 0
   Coords begun M = Working begun M × Granted begun M
@@ -103,8 +108,11 @@ module _ (hd : Header) (x : ℕ) (has : HasObject hd x) where
   counted : KeepsOf hd Few Counted
   counted = of_both hd Few (λ begun M. AreSaid M) (λ begun M. HoldsEntry x M) (of_kept hd (With (λ begun M. HoldsEntry x M)) AreSaid (counts_are_said hd)) (of_kept hd (With (λ begun M. AreSaid M)) (HoldsEntry x) (entries_keep hd x has))
 
+  ended : KeepsOf hd Few Ended
+  ended = of_both hd Few AreRecorded KnowsParted (of_more hd (λ begun M. ⊤) (With KnowsParted) AreRecorded (λ begun M h. tt) (records_of hd)) (of_more hd (λ begun M. ⊤) (With AreRecorded) KnowsParted (λ begun M h. tt) (parted_keep hd))
+
   recorded : KeepsOf hd Few Recorded
-  recorded = of_both hd Few Counted AreRecorded (more AreRecorded Counted counted) (of_more hd (λ begun M. ⊤) (With Counted) AreRecorded (λ begun M h. tt) (records_of hd))
+  recorded = of_both hd Few Counted Ended (more Ended Counted counted) (more Counted Ended ended)
 
   coords : KeepsOf hd Few Coords
   coords = of_both hd Few Working Granted (more Granted Working working) (more Working Granted granted)
@@ -117,5 +125,5 @@ module _ (hd : Header) (x : ℕ) (has : HasObject hd x) where
 
   pub whole_of : KeepsOf hd (λ begun M. KnowsFew M) (KnowsWhole x)
   whole_of = of_as hd Few All (KnowsWhole x)
-      (λ begun M z. record { names = z.0.0; tops = z.0.1; works = z.1.0.0.0; avoids = z.1.0.0.1; grants = z.1.0.1.0; requests = z.1.0.1.1; counts = z.1.1.0.0; entry = z.1.1.0.1; records = z.1.1.1 })
-      (λ begun M w. ((w.names, w.tops), (((w.works, w.avoids), (w.grants, w.requests)), ((w.counts, w.entry), w.records)))) all
+      (λ begun M z. record { names = z.0.0; tops = z.0.1; works = z.1.0.0.0; avoids = z.1.0.0.1; grants = z.1.0.1.0; requests = z.1.0.1.1; counts = z.1.1.0.0; entry = z.1.1.0.1; records = z.1.1.1.0; parted = z.1.1.1.1 })
+      (λ begun M w. ((w.names, w.tops), (((w.works, w.avoids), (w.grants, w.requests)), ((w.counts, w.entry), (w.records, w.parted))))) all

@@ -6,6 +6,7 @@ use Rattle.arj_call_law.specs.Bindings.{AreSaid}
 use Rattle.arj_disk_run_law.specs.Records.{AreRecorded}
 use Rattle.arj_lock_fact_law.specs.Entries.{HoldsEntry}
 use Rattle.arj_lock_fact_law.specs.Grants.{GrantsAreKnown}
+use Rattle.arj_lock_fact_law.specs.Parted.{KnowsParted}
 use Rattle.arj_lock_fact_law.specs.Requests.{RequestsAreKnown}
 use Rattle.arj_lock_fact_law.specs.Uppers.{AreUppersOf}
 use Rattle.arj_lock_fact_law.specs.Worlds.{WorksAreKnown}
@@ -13,7 +14,8 @@ use Rattle.arj_lock_whole_law.specs.Avoids.{AvoidsAreKnown}
 use Rattle.arj_lock_whole_law.specs.Tops.{HoldsNames, TopsAreKnown}
 
 -- Of naming: its objects are good, and locks are by tops; who is asked about and has something prepared; records; of coordinators who waits
--- and by which numbers, grants, requests, what is avoided; naming's count; and that the object's entry is on the disk.
+-- and by which numbers, grants, requests, what is avoided, who is part of a commit; naming's count; and that the object's entry is on the
+-- disk.
 pub record KnowsWhole (x : ℕ) (begun : List Action) (M : Seen) : Type 0 where
   pub names : AreUppersOf HoldsNames begun M
   pub tops : TopsAreKnown begun M
@@ -21,6 +23,7 @@ pub record KnowsWhole (x : ℕ) (begun : List Action) (M : Seen) : Type 0 where
   pub works : WorksAreKnown M
   pub grants : GrantsAreKnown M
   pub requests : RequestsAreKnown M
+  pub parted : KnowsParted begun M
   pub avoids : AvoidsAreKnown M
   pub counts : AreSaid M
   pub entry : HoldsEntry x M
