@@ -27,7 +27,7 @@ use Rattle.arj_lock_fact_law.specs.Acts.{KeepsOf}
 use Rattle.arj_lock_fact_law.proofs.Kept.{Place}
 use Rattle.arj_lock_whole_law.specs.Avoids.{Avoids, AvoidsAreKnown, WasAvoided}
 use Rattle.arj_lock_whole_law.proofs.Avoids.{GoesOut, avoids_acked, avoids_acts, avoids_again, avoids_begin, avoids_heard, avoids_new}
-use Rattle.arj_lock_whole_law.proofs.CoordCases.{Acks, CoordCase, Heard, Same, coord_case}
+use Rattle.arj_lock_whole_law.proofs.CoordCases.{Acks, Asks, CoordCase, Heard, OfParts, coord_case}
 
 some_is : {A : Type 0} {a b : A} → Some a ≡ Some b → a ≡ b
 some_is {A} {a} {b} is = let k : ◌≡◌ {A = Option A} (Some a) (Some b) = is in cc
@@ -123,10 +123,11 @@ module _ (begun : List Action) (e k : ℕ) (d : Disk) (t : Parts) (M : Seen) (bo
   pub message_walk : (from : ℕ) (m : Message) (v : Parts) (outs : List Effect) → In (record { from = from; to = k; message = m }) M.sent → handle k d t from m ≡ Took v outs → Walks AvoidsAreKnown e k outs (Up AvoidsAreKnown k v) d M
   message_walk from m v outs there is = walk_on v outs (by (coord_case k d t v from m outs is))
     where
-      by : CoordCase d t from m v → Avoids (WasAvoided M.sent) v.coord
-      by (Same same) = subst (Avoids (WasAvoided M.sent)) (sym same) own
-      by (Heard a r of same) = subst (Avoids (WasAvoided M.sent)) same (avoids_heard (WasAvoided M.sent) (none_was M.sent) M.sent k t.coord place own from a r d.intents (answers_fit begun e k d t M good bound_all from m there a r of))
-      by (Acks u same) = subst (Avoids (WasAvoided M.sent)) same (avoids_acked (WasAvoided M.sent) (none_was M.sent) M.sent k t.coord place own from u d.intents)
+      by : CoordCase d t from m v outs → Avoids (WasAvoided M.sent) v.coord
+      by (OfParts same plain) = subst (Avoids (WasAvoided M.sent)) (sym same) own
+      by (Asks u same outs_are) = subst (Avoids (WasAvoided M.sent)) (sym same) own
+      by (Heard a r of same outs_are) = subst (Avoids (WasAvoided M.sent)) same (avoids_heard (WasAvoided M.sent) (none_was M.sent) M.sent k t.coord place own from a r d.intents (answers_fit begun e k d t M good bound_all from m there a r of))
+      by (Acks u same outs_are) = subst (Avoids (WasAvoided M.sent)) same (avoids_acked (WasAvoided M.sent) (none_was M.sent) M.sent k t.coord place own from u d.intents)
 
   pub act_walk : (hd : Header) (i : Input) → is_act i ≡ true → refusal_up hd i t.coord ≡ None → Walks AvoidsAreKnown e k (let r = acts_of i d.intents t.coord in r.outs) (Up AvoidsAreKnown k (with_coord t (acts_of i d.intents t.coord).part)) d M
   act_walk hd i is free =

@@ -7,36 +7,39 @@ use Rattle.arj_protocol.specs.Asking.{heard}
 use Rattle.arj_protocol.specs.Effect.{Disk, Effect}
 use Rattle.arj_protocol.specs.Ending.{acked, answer_query}
 use Rattle.arj_protocol.specs.Node.{Parts, Took, handle}
+use Rattle.arj_protocol.specs.Says.{AreAll}
 use Rattle.arj_lock_run_law.specs.World.{is_for_parts}
 use Rattle.arj_lock_run_law.proofs.KeptSteps.{coordinated, handled_answer, is_acked, is_answer, is_query, response_is, took_heard}
 use Rattle.arj_lock_run_law.proofs.LeftSteps.{Leaves, message_left}
+use Rattle.arj_lock_run_law.proofs.WalkSteps.{leaves}
 
-pub data CoordCase (d : Disk) (t : Parts) (from : ℕ) (m : Message) (v : Parts) : Type 0 where
-  Same : v.coord ≡ t.coord → CoordCase d t from m v
-  Heard : (a : Asked) (r : Reply) → answers m ≡ Some (a, r) → (let q = heard from a r d.intents t.coord in q.part) ≡ v.coord → CoordCase d t from m v
-  Acks : (u : Uid) → (let q = acked from u d.intents t.coord in q.part) ≡ v.coord → CoordCase d t from m v
+pub data CoordCase (d : Disk) (t : Parts) (from : ℕ) (m : Message) (v : Parts) (outs : List Effect) : Type 0 where
+  OfParts : v.coord ≡ t.coord → AreAll leaves outs → CoordCase d t from m v outs
+  Asks : (u : Uid) → v.coord ≡ t.coord → answer_query from u d.intents t.coord ≡ outs → CoordCase d t from m v outs
+  Heard : (a : Asked) (r : Reply) → answers m ≡ Some (a, r) → (let q = heard from a r d.intents t.coord in q.part) ≡ v.coord → (let q = heard from a r d.intents t.coord in q.outs) ≡ outs → CoordCase d t from m v outs
+  Acks : (u : Uid) → (let q = acked from u d.intents t.coord in q.part) ≡ v.coord → (let q = acked from u d.intents t.coord in q.outs) ≡ outs → CoordCase d t from m v outs
 
-pub coord_case : (k : ℕ) (d : Disk) (t v : Parts) (from : ℕ) (m : Message) (outs : List Effect) → handle k d t from m ≡ Took v outs → CoordCase d t from m v
+pub coord_case : (k : ℕ) (d : Disk) (t v : Parts) (from : ℕ) (m : Message) (outs : List Effect) → handle k d t from m ≡ Took v outs → CoordCase d t from m v outs
 coord_case k d t v from m outs is = by (is_for_parts m) refl
   where
-    heard_it : (o : Option (Asked × Reply)) → answers m ≡ o → is_some o ≡ true → CoordCase d t from m v
+    heard_it : (o : Option (Asked × Reply)) → answers m ≡ o → is_some o ≡ true → CoordCase d t from m v outs
     heard_it None of some = absurd (cc some)
     heard_it (Some a) of some =
         let taken = subst (λ (z : Message). handle k d t from z ≡ Took v outs) (response_is m a of) is in
         let q = took_heard t v (heard from a.0 a.1 d.intents t.coord) outs (sym (handled_answer k d t from a.0 a.1) ∙ taken) in
-        Heard a.0 a.1 of (ap (λ (z : Parts). z.coord) q.0)
+        Heard a.0 a.1 of (ap (λ (z : Parts). z.coord) q.0) q.1
 
-    other : is_for_parts m ≡ false → (o : Option (Uid × Bool)) → coordinated m ≡ o → CoordCase d t from m v
+    other : is_for_parts m ≡ false → (o : Option (Uid × Bool)) → coordinated m ≡ o → CoordCase d t from m v outs
     other apart None none = heard_it (answers m) refl (is_answer m none apart)
     other apart (Some (u, true)) of =
         let taken = subst (λ (z : Message). handle k d t from z ≡ Took v outs) (is_acked m u of) is in
         let q = took_heard t v (acked from u d.intents t.coord) outs taken in
-        Acks u (ap (λ (z : Parts). z.coord) q.0)
+        Acks u (ap (λ (z : Parts). z.coord) q.0) q.1
     other apart (Some (u, false)) of =
         let taken : Took t (answer_query from u d.intents t.coord) ≡ Took v outs = subst (λ (z : Message). handle k d t from z ≡ Took v outs) (is_query m u of) is in
         let same : t ≡ v = cc taken in
-        Same (ap (λ (z : Parts). z.coord) (sym same))
+        Asks u (ap (λ (z : Parts). z.coord) (sym same)) (cc taken)
 
-    by : (b : Bool) → is_for_parts m ≡ b → CoordCase d t from m v
-    by true mine = let l = subst (Leaves t from (asks m)) is (message_left k d t from m mine) in let w = l.0 in Same w.coord
+    by : (b : Bool) → is_for_parts m ≡ b → CoordCase d t from m v outs
+    by true mine = let l = subst (Leaves t from (asks m)) is (message_left k d t from m mine) in let w = l.0 in OfParts w.coord w.plain
     by false apart = other apart (coordinated m) refl

@@ -5,6 +5,9 @@ pub mod TopWalks
 pub mod Avoids
 pub mod CoordCases
 pub mod AvoidWalks
+pub mod Called
+pub mod CalledSays
+pub mod CalledWalks
 pub mod Whole
 pub mod Gives
 pub mod WholeRuns

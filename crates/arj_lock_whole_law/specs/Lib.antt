@@ -1,4 +1,5 @@
 pub mod Tops
+pub mod Called
 pub mod Avoids
 pub mod Whole
 pub mod Rest

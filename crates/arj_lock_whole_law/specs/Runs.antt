@@ -17,8 +17,9 @@ use Rattle.arj_lock_fact_law.specs.Acts.{KeepsOf}
 use Rattle.arj_lock_fact_law.specs.Entries.{HasObject}
 use Rattle.arj_lock_run_law.specs.Fixed.{Agrees, Fixed}
 use Rattle.arj_lock_run_law.specs.Sees.{SeesLocks}
-use Rattle.arj_lock_run_law.specs.Tied.{AreTied}
-use Rattle.arj_serial_law.specs.Tied.{IsTied}
+use Rattle.arj_lock_run_law.specs.Tied.{AreTied as AreTiedNow}
+use Rattle.arj_serial_law.specs.Seen.{IsCalled, IsLocked, IsSerialRun}
+use Rattle.arj_serial_law.specs.Tied.{AreTied}
 use Rattle.arj_lock_whole_law.specs.Rest.{GivesRest}
 use Rattle.arj_lock_whole_law.specs.Whole.{KnowsWhole}
 
@@ -44,7 +45,7 @@ pub record IsLockSeen (code : Codes) (value : Value) (x : ℕ) (begun : List Act
   pub agrees : Agrees fixed x begun M.sent
   pub state : State
   pub sees : SeesLocks fixed x begun state M
-  pub tied : AreTied fixed x M.lines state
+  pub tied : AreTiedNow fixed x M.lines state
 
 -- so it is for all codes and first values, with the actions that were begun
 abbrev pub AreAllSeen : ℕ → Seen → Type 0
@@ -55,7 +56,22 @@ abbrev pub RunsSeeLocks : Type 0
 RunsSeeLocks = (hd : Header) (x : ℕ) → HasObject hd x → (test : List Action → Seen → Bool) → IsRest hd x (λ begun M. test begun M ≡ true)
     → (es : List Asked) → length es ≤ most_events → Holds hd (AreAllSeen x) (run_all es (format hd))
 
--- So its journal is tied to the object's lock machine.
+-- So much the serial law takes of the object at the end of a run.
+abbrev pub RunsAreLocked : Type 0
+RunsAreLocked = (hd : Header) (x : ℕ) → HasObject hd x → (test : List Action → Seen → Bool) → IsRest hd x (λ begun M. test begun M ≡ true)
+    → (es : List Asked) → length es ≤ most_events → Holds hd (IsLocked x) (run_all es (format hd))
+
+-- In the run of every script answered calls are on objects of the header.
+abbrev pub RunsCallObjects : Type 0
+RunsCallObjects = (hd : Header) (es : List Asked) (x : ℕ) → IsCalled x (journal hd es) → HasObject hd x
+
+-- where for each object of the header a relation gives what is still to be given
+abbrev pub AreRest : Header → (ℕ → List Action → Seen → Bool) → Type 0
+AreRest hd test = (x : ℕ) → HasObject hd x → IsRest hd x (λ begun M. test x begun M ≡ true)
+
+-- The journal of each script's run is tied to the lock machine of each object, and so the run is serial.
 abbrev pub RunsAreTied : Type 0
-RunsAreTied = (hd : Header) (x : ℕ) → HasObject hd x → (test : List Action → Seen → Bool) → IsRest hd x (λ begun M. test begun M ≡ true)
-    → (es : List Asked) → length es ≤ most_events → (S : State) × IsTied (first_values hd) (journal hd es) x S
+RunsAreTied = (hd : Header) (test : ℕ → List Action → Seen → Bool) → AreRest hd test → (es : List Asked) → length es ≤ most_events → AreTied (first_values hd) (journal hd es)
+
+abbrev pub RunsAreSerial : Type 0
+RunsAreSerial = (hd : Header) (test : ℕ → List Action → Seen → Bool) → AreRest hd test → (es : List Asked) → length es ≤ most_events → IsSerialRun hd es

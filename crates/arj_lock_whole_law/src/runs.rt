@@ -1,5 +1,5 @@
 // Whole runs, in which each object is seen by its lock machine.
-ghost use Rattle.arj_lock_whole_law.specs.Runs.{HandlersKeepWhole, RunsAreTied, RunsSeeLocks};
+ghost use Rattle.arj_lock_whole_law.specs.Runs.{HandlersKeepWhole, RunsAreLocked, RunsAreSerial, RunsAreTied, RunsCallObjects, RunsSeeLocks};
 
 /// Each handler before which few bindings were made keeps all that is known of the protocol alone, for the actions that were begun, wherever
 /// a stop falls: of naming and its locks, of questions and what is prepared, of records, of coordinators and what they ask and avoid. It
@@ -13,11 +13,20 @@ pub fn handlers_keep_the_whole()
 /// were sent, and a state of the machine, to which all nodes, all messages and the journal are tied. What `specs/Rest.antt` names is still
 /// taken of a relation that is kept beside. It does nothing when it runs.
 pub fn runs_see_the_locks()
-    ensures { RunsSeeLocks }
+    ensures seen { RunsSeeLocks }
+    ensures locked { RunsAreLocked }
 {}
 
-/// So the journal of each such run is tied to the lock machine of each object of the header, from the header's first value and in codes
-/// that tell values apart, with the same premise. It does nothing when it runs.
-pub fn runs_are_tied_to_locks()
-    ensures { RunsAreTied }
+/// In every run of every script, with all stops, crashes and restarts, each call that was answered is on an object of the header: no other
+/// is asked about. It does nothing when it runs.
+pub fn runs_call_their_objects()
+    ensures { RunsCallObjects }
+{}
+
+/// So the journal of each script's run is tied to the lock machine of each object of which a call was answered, from the header's first
+/// values and in codes that tell values apart; and the run is serial, with nested actions each whole at its commit. What `specs/Rest.antt`
+/// names is still taken. It does nothing when it runs.
+pub fn whole_runs_are_serial()
+    ensures tied { RunsAreTied }
+    ensures serial { RunsAreSerial }
 {}

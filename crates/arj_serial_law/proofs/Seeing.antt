@@ -5,6 +5,7 @@ use Rattle.arj_journal.specs.declared.body.Line.{Line}
 use Rattle.arj_law.proofs.Nested.{nested_law}
 use Rattle.arj_law.proofs.Order.{order_law}
 use Rattle.arj_model.specs.Last.{first_values}
+use Rattle.arj_class.specs.declared.value.Value.{Value}
 use Rattle.arj_model.specs.Serial.{Serial, Values}
 use Rattle.arj_part_law.specs.Actions.{Action, paths_of}
 use Rattle.arj_protocol.specs.World.{journal}
@@ -25,6 +26,7 @@ use Rattle.arj_lock_view_law.specs.Servers.{Wants}
 use Rattle.arj_lock_view_law.specs.Telling.{AreOneTree}
 use Rattle.arj_lock_view_law.proofs.FamilySteps.{families_are_trees}
 use Rattle.arj_view_law.specs.Seen.{Seen}
+use Rattle.arj_lock_view_law.specs.Copies.{Codes}
 use Rattle.arj_serial_law.specs.Codes.{code_of}
 use Rattle.arj_serial_law.specs.Seen.{GivenRunsAreSerial, RequestsAreOne, LockedRunsAreSerial}
 use Rattle.arj_serial_law.specs.Tied.{IsTied}
@@ -34,25 +36,25 @@ use Rattle.arj_serial_law.proofs.Order.{all_freed, all_in_order, all_in_time}
 use Rattle.arj_serial_law.proofs.Ties.{Ties, ties_of}
 use Rattle.arj_serial_law.proofs.Values.{are_answered}
 
--- in places and codes of its own
-module _ (values : Values) (x : ℕ) (M : Seen) (begun : List Action) (alike : IsAlikeOf begun M) (seen : (f : Fixed) → Agrees f x begun M.sent → (S : State) × SeesLocks f x begun S M × AreTiedNow f x M.lines S) (knows : RequestsAreOne M) where
+-- in places of its own, and in any codes
+module _ (x : ℕ) (M : Seen) (begun : List Action) (alike : IsAlikeOf begun M) (seen : (f : Fixed) → Agrees f x begun M.sent → (S : State) × SeesLocks f x begun S M × AreTiedNow f x M.lines S) (knows : RequestsAreOne M) where
   right : AreRight new_book M.lines
   right = let w = alike.2 in w.right
 
   tree : AreOneTree (record { begun = begun; paths = paths_of begun; act = acts_of begun })
   tree = families_are_trees begun (let g = alike.0 in g.begun)
 
-  wants : (w : Wants) × SentWants x M.sent w
+  pub wants : (w : Wants) × SentWants x M.sent w
   wants = requests_want x M.sent knows.one (λ p there h a is. knows.numbered p there h a is)
 
-  abbrev f : Fixed
-  f = record { act = acts_of begun; paths = paths_of begun; code = code_of; wants = wants.0; first = code_of (values x) (acts_of begun nobody) }
+  abbrev pub fixed_at : Codes → Value → Fixed
+  fixed_at code value = record { act = acts_of begun; paths = paths_of begun; code = code; wants = wants.0; first = code value (acts_of begun nobody) }
 
-  agrees : Agrees f x begun M.sent
-  agrees = record { whole = tree; wanted = λ p h a there is. wants.1 (view_of f x begun p.to) p h a refl refl there is }
+  pub agrees_at : (code : Codes) (value : Value) → Agrees (fixed_at code value) x begun M.sent
+  agrees_at code value = record { whole = tree; wanted = λ p h a there is. wants.1 (view_of (fixed_at code value) x begun p.to) p h a refl refl there is }
 
-  locked_tied : (S : State) × IsTied values M.lines x S
-  locked_tied = let s = seen f agrees in (
+  pub locked_tied : (values : Values) → (S : State) × IsTied values M.lines x S
+  locked_tied values = let s = seen (fixed_at code_of (values x)) (agrees_at code_of (values x)) in (
     s.0,
     record {
       act = acts_of begun;
@@ -81,7 +83,7 @@ locked_runs_are_serial hd es locked = (
     right = let w = run_written hd es in let z = w.1 in z.right
 
     tied : Ties values lines
-    tied = ties_of values lines (λ x called. (let h = locked x called in (let z = h.holds in locked_tied values x _ z.0 z.1 z.2 z.3)))
+    tied = ties_of values lines (λ x called. (let h = locked x called in (let z = h.holds in locked_tied x _ z.0 z.1 z.2 z.3 values)))
 
     serial : Serial values lines
     serial = order_law values lines (all_in_order values lines right tied) (are_answered values lines right tied)

@@ -1,0 +1,143 @@
+-- What a coordinator waits for, and which calls its lines answer, are on objects of which this holds, whatever it does.
+use Rattle.std.proofs.Common.{◌≡◌, ◌≢◌, ◌⊎◌, eqb-true, ◌∙◌, ◌+◌, ◌++◌, ◌==◌, ℕ, zero, suc, Bool, true, false, cond, not, List, [], ◌∷◌, Option, Some, None, refl, sym, ap, subst, inl, inr, ⊎_elim}
+use Rattle.std.specs.Prelude.{find, is_some}
+use Rattle.arj_lock.proofs.Members.{In as In_list, in_to}
+use Rattle.arj_protocol.specs.Words.{Asked, Header, Kind, Label, ObjectLine, Path, Uid}
+use Rattle.arj_protocol.specs.Ask.{Reply, actor}
+use Rattle.arj_protocol.specs.Asking.{again_all, begin_action, call_steps, doomed_by, goes_on, heard, kept_at, next_req, renewed, root_heard, root_lost, root_moved, step_call}
+use Rattle.arj_protocol.specs.Call as calls
+use Rattle.arj_protocol.specs.Call.{CallEnd, CallStep, Ended, Goal, On, Run, Steps, answered, given_up, next_node, start}
+use Rattle.arj_protocol.specs.Commit.{plan_of}
+use Rattle.arj_protocol.specs.Coord.{Calling, Committing, Coord, Doing, Idle, Now, doing_of, is_free, keeping_of, new_coord, on_doing, on_root, root_at}
+use Rattle.arj_protocol.specs.Effect.{Intent}
+use Rattle.arj_protocol.specs.Ending.{acked}
+use Rattle.arj_protocol.specs.Order.{unbound}
+use Rattle.arj_protocol.specs.Step.{Input, acts, branch_named, call_reasons, class_at, class_in, first_reason, include_reasons, on_branch, parent_of, refusal_up, refused_by, tolds_again}
+use Rattle.arj_protocol.specs.Step as input
+use Rattle.arj_protocol.specs.Tree.{at_place, doomed_at, ended_at, is_own, root_of, uses_object}
+use Rattle.arj_coord_law.proofs.CoordUses.{on_cases}
+use Rattle.arj_part_law.proofs.CoordInputs.{IsOff, behind, off}
+use Rattle.arj_part_law.proofs.GoodCoords.{doomed_same, uses_same}
+use Rattle.arj_part_law.proofs.GoodTrees.{get_more}
+use Rattle.arj_part_law.proofs.Settled.{end_tree_on}
+use Rattle.arj_address_law.specs.Binds.{AnswersWaiting}
+use Rattle.arj_view_law.specs.Seen.{Post}
+use Rattle.arj_lock_fact_law.specs.Entries.{HasObject}
+use Rattle.arj_lock_fact_law.proofs.Kept.{Place}
+use Rattle.arj_lock_fact_law.proofs.Pieces.{Pieces, acked_so, acts_so, again_so, heard_so}
+use Rattle.arj_lock_whole_law.specs.Called.{WaitFor}
+
+some_is : {A : Type 0} {a b : A} → Some a ≡ Some b → a ≡ b
+some_is {A} {a} {b} is = let k : ◌≡◌ {A = Option A} (Some a) (Some b) = is in cc
+
+-- ---- objects of the header
+
+pub found_object : (hd : Header) (x : ℕ) → is_some (class_at x hd) ≡ true → HasObject hd x
+found_object hd x there = by hd.objects (λ o i. i) there
+  where
+    by : (os : List ObjectLine) → ((o : ObjectLine) → In_list o os → In_list o hd.objects) → is_some (class_in (find (λ (o : ObjectLine). o.x == x) os)) ≡ true → HasObject hd x
+    by [] into is = absurd (cc is)
+    by (o ∷ os) into is = one (o.x == x) refl is (by os (λ z i. into z (inr i)))
+      where
+        one : (b : Bool) → (o.x == x) ≡ b → is_some (class_in (cond b (Some o) (find (λ (z : ObjectLine). z.x == x) os))) ≡ true → (is_some (class_in (find (λ (z : ObjectLine). z.x == x) os)) ≡ true → HasObject hd x) → HasObject hd x
+        one true same e old = (o, in_to o hd.objects (into o (inl refl)), eqb-true o.x x same)
+        one false same e old = old e
+
+-- a refusal that doesn't hold, behind four others
+behind_four : (rs : List (ℕ × Bool)) → first_reason rs ≡ None → IsOff (behind (behind (behind (behind rs))))
+behind_four rs none =
+    let one = off rs none in
+    let two = off (behind rs) one.1 in
+    let three = off (behind (behind rs)) two.1 in
+    let four = off (behind (behind (behind rs))) three.1 in
+    (off (behind (behind (behind (behind rs)))) four.1).0
+
+is_there : (b : Bool) → not b ≡ false → b ≡ true
+is_there true is = refl
+is_there false is = absurd (cc is)
+
+-- ---- what waits
+
+module _ (P : ℕ → Type 0) where
+  wait_work : (u : Uid) (f : Doing → Doing) (e : Coord) → ((d : Doing) (s : Steps) → doing_of u e ≡ Some d → (let z = f d in z.now) ≡ Calling s → P s.x) → WaitFor P e → WaitFor P (on_doing u f e)
+  wait_work u f e its a w d s found is = ⊎_elim
+      (λ same. its same.1 s (ap (λ v. doing_of v e) (sym same.0) ∙ same.2) (ap (λ (z : Doing). z.now) same.3 ∙ is))
+      (λ other. a w d s other.1 is) (on_cases u f e w d found)
+
+  wait_own : (e f : Coord) → ((u : Uid) → is_own u f.tree ≡ is_own u e.tree) → f.doings ≡ e.doings → WaitFor P e → WaitFor P f
+  wait_own e f own doings a w d s found is = a w d s ((λ i. cond (sym (own w) i) (at_place w.num (sym doings i)) None) ∙ found) is
+
+  wait_idle : (u : Uid) (e : Coord) → WaitFor P e → WaitFor P (on_doing u (λ (d : Doing). record d { now = Idle }) e)
+  wait_idle u e a = wait_work u (λ (d : Doing). record d { now = Idle }) e (λ d s found is. absurd (cc is)) a
+
+  wait_goes : (s : Steps) (e : Coord) → P s.x → WaitFor P e → WaitFor P (goes_on s e).part
+  wait_goes s e its a u d z found is = wait_work (actor s.path) (λ (d : Doing). record d { req = s.req; now = Calling s }) e (λ q y at now. let same : s ≡ y = cc now in subst (λ (v : Steps). P v.x) same its) a u d z found is
+
+  pieces_wait : (c : Coord) → WaitFor P c → Pieces c (WaitFor P)
+  pieces_wait c a = record {
+    start = a;
+    end_tree = λ u how e q. let g = end_tree_on u how e in wait_own e (record e { tree = ended_at u how e.tree }) g.own refl q;
+    idle = wait_idle;
+    took = λ u ns e q. wait_work u (λ (d : Doing). record d { took = ns }) e (λ d s found is. q u d s found is) q;
+    commits = λ u m e planned q. wait_work u (λ (d : Doing). record d { req = (plan_of m).req; now = Committing m }) e (λ d s found is. absurd (cc is)) q;
+    asks = λ p req b e rooted q u d s found is. q u d s found is;
+    decides = λ p e rooted q u d s found is. q u d s found is;
+    telling = λ i e q u d s found is. q u d s found is;
+  }
+
+  wait_step : (s : Steps) (n : CallStep) (e : Coord) → P s.x → WaitFor P e → WaitFor P (step_call s n e).part
+  wait_step s (On next) e its a = wait_goes (record s { req = s.req + 1; at = next }) e its a
+  wait_step s (Ended g) e its a = by g
+    where
+      told : Coord
+      told = on_root (root_of s.path) (root_heard s g) (on_doing (actor s.path) (λ (d : Doing). record d { now = Idle }) e)
+
+      so : WaitFor P told
+      so u d z found is = wait_idle (actor s.path) e a u d z found is
+
+      by : (h : CallEnd) → WaitFor P (doomed_by (actor s.path) h told)
+      by (calls.Answered x) = so
+      by (calls.Included st) = so
+      by (calls.Conflict h x n) = so
+      by (calls.Changed n w) = so
+      by (calls.Lost n false) = so
+      by (calls.Lost n true) = let q = doomed_same (actor s.path) told.tree in wait_own told (record told { tree = doomed_at (actor s.path) told.tree }) q.own refl so
+
+  pub wait_heard : (sent : List Post) (k : ℕ) (c : Coord) → Place sent k c → WaitFor P c → (from : ℕ) (q : Asked) (r : Reply) (intents : List (Uid × Intent)) → AnswersWaiting from q r c → WaitFor P (heard from q r intents c).part
+  wait_heard sent k c place a from q r intents fits = heard_so sent k c place (WaitFor P) (pieces_wait c a) from q r intents fits
+      (λ s i on who. let m = answered (is_free (root_of s.path) (actor s.path) s.x c) (kept_at s c) s.goal s.at r in wait_step s m.step (on_root (root_of s.path) (root_moved s r m) c) (a (actor s.path) i.doing s i.found i.now) (λ u d z found is. a u d z found is))
+
+  pub wait_acked : (sent : List Post) (k : ℕ) (c : Coord) → Place sent k c → WaitFor P c → (from : ℕ) (u : Uid) (intents : List (Uid × Intent)) → WaitFor P (acked from u intents c).part
+  wait_acked sent k c place a from u intents = acked_so sent k c place (WaitFor P) (pieces_wait c a) from u intents
+
+  pub wait_again : (sent : List Post) (k : ℕ) (c : Coord) → Place sent k c → WaitFor P c → WaitFor P (again_all c.doings c).part
+  wait_again sent k c place a = again_so sent k c place (WaitFor P) (pieces_wait c a)
+
+  pub wait_acts : (sent : List Post) (k : ℕ) (c : Coord) → Place sent k c → WaitFor P c → (hd : Header) (i : Input) (intents : List (Uid × Intent)) → ((x : ℕ) → is_some (class_at x hd) ≡ true → P x) → refusal_up hd i c ≡ None → ((l : Label) (q : Kind) (parent : Option Label) → i ≢ input.Begin l q parent) → WaitFor P (let d = acts i intents c in d.part)
+  wait_acts sent k c place a hd i intents of free other = acts_so sent k c place (WaitFor P) (pieces_wait c a) hd i intents free other
+      (λ b x o found ok. wait_goes (call_steps b.path x o (next_req (actor b.path) c) (root_at (root_of b.path) c) c (renewed (is_free (root_of b.path) (actor b.path) x c) (keeping_of x (root_at (root_of b.path) c)) (let h = keeping_of x (root_at (root_of b.path) c) in h.kept))) _ (of x (is_there (is_some (class_at x hd)) (behind_four (call_reasons hd x o b c) ok))) (used b.path x))
+      (λ b x s found ok. wait_goes (start b.path x (calls.Include s) None unbound (next_req (actor b.path) c)) _ (of x (is_there (is_some (class_at x hd)) (behind_four (include_reasons hd x b c) ok))) (used b.path x))
+      (λ s i. wait_step s (given_up s.at) (on_root (root_of s.path) (root_lost s (given_up s.at)) c) (a (actor s.path) i.doing s i.found i.now) (λ u d z found is. a u d z found is))
+    where
+      used : (p : Path) (x : ℕ) → WaitFor P (record c { tree = uses_object p x c.tree })
+      used p x = let q = uses_same p x c.tree in wait_own c (record c { tree = uses_object p x c.tree }) q.own refl a
+
+  pub wait_begin : (l : Label) (how : Kind) (parent : Option Label) (c : Coord) → WaitFor P c → WaitFor P (begin_action l how parent (parent_of parent c) c).part
+  wait_begin l how parent c a u d s found is = ⊎_elim (λ old. a u d s old is) (λ idle. let no_way : ◌≡◌ {A = Now} Idle (Calling s) = sym idle ∙ is in absurd (cc no_way)) (was (is_own u c.tree) u.num found)
+    where
+      fresh : Doing
+      fresh = record { label = l; req = 0; now = Idle; took = [] }
+
+      was : (b : Bool) (j : ℕ) → cond b (at_place j (c.doings ++ fresh ∷ [])) None ≡ Some d → (cond b (at_place j c.doings) None ≡ Some d) ⊎ (d.now ≡ Idle)
+      was true zero at = absurd (cc at)
+      was true (suc j) at = ⊎_elim (λ old. inl old) (λ its. inr (ap (λ (z : Doing). z.now) (sym its.1))) (get_more j fresh d c.doings at)
+      was false j at = absurd (cc at)
+
+  -- nothing waits at first
+  pub wait_new : (node inc : ℕ) (telling : List (Uid × Intent)) → WaitFor P (record (new_coord node inc) { telling = telling })
+  wait_new node inc telling u d s found is = absurd (by (is_own u (let c = new_coord node inc in c.tree)) u.num found)
+    where
+      by : (x : Bool) (j : ℕ) → cond x (at_place j []) None ≡ Some d → ⊥
+      by true zero e = cc e
+      by true (suc j) e = cc e
+      by false j e = cc e
