@@ -11,3 +11,4 @@ pub mod CalledWalks
 pub mod Whole
 pub mod Gives
 pub mod WholeRuns
+pub mod VotedRuns

@@ -40,7 +40,7 @@ module _ (hd : Header) (x : ℕ) (has : HasObject hd x) (E : List Action → See
   abbrev Kept : List Action → Seen → Type 0
   Kept begun M = KnowsWhole x begun M × E begun M
 
-  kept_of_all : KeepsOf hd (λ begun M. KnowsFew M) Kept
+  pub kept_of_all : KeepsOf hd (λ begun M. KnowsFew M) Kept
   kept_of_all = of_both hd (λ begun M. KnowsFew M) (KnowsWhole x) E (of_more hd (λ begun M. KnowsFew M) (λ begun M. KnowsFew M × E begun M) (KnowsWhole x) (λ begun M h. h.0) (whole_of hd x has)) rest.kept
 
   locks : KeepsGiven hd KnowsFew (AreLocksSeen x Kept)

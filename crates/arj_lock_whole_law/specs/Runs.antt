@@ -18,6 +18,7 @@ use Rattle.arj_lock_fact_law.specs.Entries.{HasObject}
 use Rattle.arj_lock_run_law.specs.Fixed.{Agrees, Fixed}
 use Rattle.arj_lock_run_law.specs.Sees.{SeesLocks}
 use Rattle.arj_lock_run_law.specs.Tied.{AreTied as AreTiedNow}
+use Rattle.arj_lock_run_law.specs.Votes.{AreVotedAt}
 use Rattle.arj_serial_law.specs.Seen.{IsCalled, IsLocked, IsSerialRun}
 use Rattle.arj_serial_law.specs.Tied.{AreTied}
 use Rattle.arj_lock_whole_law.specs.Rest.{GivesRest}
@@ -60,6 +61,15 @@ RunsSeeLocks = (hd : Header) (x : ℕ) → HasObject hd x → (test : List Actio
 abbrev pub RunsAreLocked : Type 0
 RunsAreLocked = (hd : Header) (x : ℕ) → HasObject hd x → (test : List Action → Seen → Bool) → IsRest hd x (λ begun M. test begun M ≡ true)
     → (es : List Asked) → length es ≤ most_events → Holds hd (IsLocked x) (run_all es (format hd))
+
+-- For all that may be fixed and agrees the object is seen so, and each commit under way has the votes that came.
+abbrev pub AreVotesSeen : ℕ → Seen → Type 0
+AreVotesSeen x M = (begun : List Action) × IsAlikeOf begun M × ((f : Fixed) → Agrees f x begun M.sent → (S : State) × SeesLocks f x begun S M × AreTiedNow f x M.lines S × AreVotedAt f x S M)
+
+-- So it is after the run of each script.
+abbrev pub RunsHaveVotes : Type 0
+RunsHaveVotes = (hd : Header) (x : ℕ) → HasObject hd x → (test : List Action → Seen → Bool) → IsRest hd x (λ begun M. test begun M ≡ true)
+    → (es : List Asked) → length es ≤ most_events → Holds hd (AreVotesSeen x) (run_all es (format hd))
 
 -- In the run of every script answered calls are on objects of the header.
 abbrev pub RunsCallObjects : Type 0

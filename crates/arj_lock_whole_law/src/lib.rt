@@ -5,11 +5,12 @@
 //! prepared (`specs/Tops.antt`), and which bindings are avoided (`specs/Avoids.antt`). It gives what `arj_lock_run_law` counts on where
 //! something comes, but for what `specs/Rest.antt` names. At a run's end the places of actions, the codes of values and what requests want
 //! are found, calls are on objects of the header (`specs/Called.antt`), and so runs are serial. It gives upward `handlers_keep_the_whole`,
-//! `runs_see_the_locks`, `runs_call_their_objects` and `whole_runs_are_serial` (`specs/Runs.antt`).
+//! `runs_see_the_locks`, `runs_have_the_votes`, `runs_call_their_objects` and `whole_runs_are_serial` (`specs/Runs.antt`).
 #![tactic(auto)]
 
 mod runs;
 
 pub use runs::{
-    handlers_keep_the_whole, runs_call_their_objects, runs_see_the_locks, whole_runs_are_serial,
+    handlers_keep_the_whole, runs_call_their_objects, runs_have_the_votes, runs_see_the_locks,
+    whole_runs_are_serial,
 };

@@ -1,5 +1,5 @@
 // Whole runs, in which each object is seen by its lock machine.
-ghost use Rattle.arj_lock_whole_law.specs.Runs.{HandlersKeepWhole, RunsAreLocked, RunsAreSerial, RunsAreTied, RunsCallObjects, RunsSeeLocks};
+ghost use Rattle.arj_lock_whole_law.specs.Runs.{HandlersKeepWhole, RunsAreLocked, RunsAreSerial, RunsAreTied, RunsCallObjects, RunsHaveVotes, RunsSeeLocks};
 
 /// Each handler before which few bindings were made keeps all that is known of the protocol alone, for the actions that were begun, wherever
 /// a stop falls: of naming and its locks, of questions and what is prepared, of records, of coordinators and what they ask and avoid. It
@@ -15,6 +15,12 @@ pub fn handlers_keep_the_whole()
 pub fn runs_see_the_locks()
     ensures seen { RunsSeeLocks }
     ensures locked { RunsAreLocked }
+{}
+
+/// There, in that state of the machine, each commit under way has the votes that came for the object: the changed state of its plan is what
+/// the server voted that was called, and there is none before. It does nothing when it runs.
+pub fn runs_have_the_votes()
+    ensures { RunsHaveVotes }
 {}
 
 /// In every run of every script, with all stops, crashes and restarts, each call that was answered is on an object of the header: no other
