@@ -3,12 +3,12 @@ use Rattle.std.proofs.Common.{◌≡◌, ◌⊎◌, ℕ, ◌==◌, not, List, []
 use Rattle.arj_disk_law.specs.Effects
 use Rattle.arj_disk_law.specs.Effects.{World, Effect, Whole, Follows, Allowed, run, after}
 use Rattle.arj_disk_law.specs.Guards.{AreOnlyOf, Note, Begins, Decides, Confirms, Acks, is_only_of, only_decides, tells_only_of}
-use Rattle.arj_disk_law.specs.Messages
 use Rattle.arj_disk_law.specs.Messages.{Message, Acked}
 use Rattle.arj_disk_law.specs.State.{decided, naming}
 use Rattle.arj_disk_law.specs.Words.{In}
-use Rattle.arj_disk_law.proofs.Base.{bool_cases, never, or_cases, or_left, put_cases, test_is}
+use Rattle.arj_disk_law.proofs.Base.{bool_cases, never, or_cases, put_cases, test_is}
 use Rattle.arj_disk_law.proofs.Keeps.{effect_keeps}
+use Rattle.arj_disk_view_law.proofs.Along.{all_more}
 use Rattle.arj_disk_view_law.specs.Sees.{Along, IsLater}
 use Rattle.arj_disk_view_law.proofs.Later.{effects_are_later}
 
@@ -96,40 +96,6 @@ new_has_record false t W es only can whole undone d = absurd (never (all_leave (
 
 -- ---- what may be noted
 
-only_more : (f g : Note → Bool) → ((n : Note) → f n ≡ true → g n ≡ true) → (g_acks : (t : ℕ) → f (Acks t) ≡ false) → (a : Effects.Effect) → is_only_of f a ≡ true → is_only_of g a ≡ true
-only_more f g more acks (Effects.Begin t p) is = more (Begins t) is
-only_more f g more acks (Effects.Take t s) is = is
-only_more f g more acks (Effects.Seal t) is = is
-only_more f g more acks (Effects.Intend t nodes) is = is
-only_more f g more acks (Effects.Decide t) is = more (Decides t) is
-only_more f g more acks (Effects.Remove t nodes) is = is
-only_more f g more acks (Effects.EndBare t) is = more (Decides t) is
-only_more f g more acks (Effects.Halt t) is = is
-only_more f g more acks (Effects.Keep t s) is = is
-only_more f g more acks (Effects.Move s h) is = is
-only_more f g more acks (Effects.Finish s h) is = is
-only_more f g more acks (Effects.Drop s h) is = is
-only_more f g more acks (Effects.Agree t) is = more (Confirms t) is
-only_more f g more acks (Effects.Pass t) is = more (Confirms t) is
-only_more f g more acks (Effects.Enter t) is = more (Confirms t) is
-only_more f g more acks (Effects.MoveEntry h) is = is
-only_more f g more acks (Effects.FinishEntry h) is = is
-only_more f g more acks (Effects.DropEntry h) is = is
-only_more f g more acks (Effects.Forget r h) is = is
-only_more f g more acks (Effects.Send (Messages.Prepare t s)) is = is
-only_more f g more acks (Effects.Send (Messages.Prepared t s)) is = is
-only_more f g more acks (Effects.Send (Messages.Confirm t)) is = is
-only_more f g more acks (Effects.Send (Messages.Confirmed t)) is = is
-only_more f g more acks (Effects.Send (Messages.ToldCommit t m)) is = is
-only_more f g more acks (Effects.Send (Messages.ToldBare t m)) is = is
-only_more f g more acks (Effects.Send (Messages.ToldAbort t m)) is = is
-only_more f g more acks (Effects.Send (Messages.ToldSerial r m)) is = is
-only_more f g more acks (Effects.Send (Messages.Acked t m)) is = ⊎_elim (λ other. or_left (not (m == naming)) (g (Acks t)) other) (λ on. absurd (never on (acks t))) (or_cases (not (m == naming)) (f (Acks t)) is)
-
-all_more : (f g : Note → Bool) → ((n : Note) → f n ≡ true → g n ≡ true) → ((t : ℕ) → f (Acks t) ≡ false) → (es : List Effects.Effect) → AreOnlyOf f es → AreOnlyOf g es
-all_more f g more acks [] only = tt
-all_more f g more acks (a ∷ es) only = (only_more f g more acks a only.0, all_more f g more acks es only.1)
-
 decides_more : (g : ℕ → Bool) (n : Note) → only_decides g n ≡ true → may_decide true n ≡ true
 decides_more g (Begins z) is = refl
 decides_more g (Decides z) is = refl
@@ -146,7 +112,7 @@ Goes W V = Turns W V × IsLater W V
 pub goes_along : (g : ℕ → Bool) (W V : Effects.World) → Effects.Whole W → Along (record { from = W; noted = only_decides g }) V → Goes W V
 goes_along g W V whole a = (
   λ u d. ⊎_elim (λ old. inl old)
-      (λ new. inr (subst (λ (Z : Effects.World). is_some (Z.disk.intent u) ≡ true) a.here (new_has_record true u W a.effects (all_more (only_decides g) (may_decide true) (decides_more g) (λ t. refl) a.effects a.only) a.allowed whole new (subst (λ (Z : Effects.World). decided Z.disk u ≡ true) (sym a.here) d))))
+      (λ new. inr (subst (λ (Z : Effects.World). is_some (Z.disk.intent u) ≡ true) a.here (new_has_record true u W a.effects (all_more (only_decides g) (may_decide true) (decides_more g) a.effects a.only) a.allowed whole new (subst (λ (Z : Effects.World). decided Z.disk u ≡ true) (sym a.here) d))))
       (bool_cases (decided W.disk u)),
   subst (IsLater W) a.here (effects_are_later W a.effects a.allowed whole),
 )

@@ -2,7 +2,7 @@
 use Rattle.std.proofs.Common.{◌≡◌, ℕ, zero, suc, ◌==◌, if◌then◌else◌, Bool, true, false, List, [], Some, None, refl, sym, ◌∙◌, ap, subst, inl, inr, map}
 use Rattle.std.proofs.lemmas.Bool.{and_parts}
 use Rattle.arj_lock.proofs.Members.{in_from}
-use Rattle.arj_protocol.specs.Words.{Header, Uid}
+use Rattle.arj_protocol.specs.Words.{Header, Uid, nobody}
 use Rattle.arj_protocol.specs.Coord.{Coord, Doing, doing_of, new_coord, no_root}
 use Rattle.arj_protocol.specs.Effect.{Intent}
 use Rattle.arj_protocol.specs.Node.{Parts}
@@ -70,7 +70,7 @@ new_seen x k inc tops sent telling B h none = record {
 pub first_entries : (hd : Header) → AreEntries (first_disk hd 1).names
 first_entries hd e c = put_entries 0 hd.objects [] (λ z i. absurd i) e (in_from e (put_states (map first_entry hd.objects) []) c)
 
-module _ (hd : Header) (x : ℕ) (tops : Kinds) (kinds : KnowsKinds tops) (A : Office) (both : SeesBoth x tops A (see [] (format hd))) (first : IsFirstNames A.names) (undecided : A.world.disk.tops ≡ []) where
+module _ (hd : Header) (x : ℕ) (tops : Kinds) (kinds : KnowsKinds tops) (A : Office) (both : SeesBoth x tops A (see [] (format hd))) (first : IsFirstNames A.names) (undecided : A.world.disk.tops ≡ []) (writer : A.world.disk.first.writer ≡ uid_number nobody) where
   fixed : IsFixed tops A.world.disk
   fixed = let s = both.disks in s.fixed
 
@@ -80,6 +80,7 @@ module _ (hd : Header) (x : ℕ) (tops : Kinds) (kinds : KnowsKinds tops) (A : O
   first_heard : SeesHeard x tops A (see [] (format hd))
   first_heard = record {
     kinds = kinds;
+    first = writer;
     coords = λ j n t there live. subst (λ (q : Parts). SeesHeardAt x j tops [] q.coord A) (some_is {A = Parts} refl (ap (λ (z : Node). z.live) (first_at hd j n there) ∙ live)) (new_seen x j 1 tops [] [] A fixed (λ u node inc alone. none (uid_number u)));
     future = λ j n u there node alone low. none (uid_number u);
     asked = λ q a r i. absurd i;
@@ -87,4 +88,4 @@ module _ (hd : Header) (x : ℕ) (tops : Kinds) (kinds : KnowsKinds tops) (A : O
   }
 
 pub heard_first : (hd : Header) (x : ℕ) (tops : Kinds) → HasObject hd x → tops.walk ≡ None → KnowsKinds tops → (A : Office) × SeesBoth x tops A (see [] (format hd)) × SeesHeard x tops A (see [] (format hd)) × (A.world.disk.tops ≡ [])
-heard_first hd x tops has unwalked kinds = let f = formats_have_first hd x tops unwalked has kinds.alone kinds.plain kinds.idem (first_entries hd) in (f.0, f.1, first_heard hd x tops kinds f.0 f.1 f.2 f.3, f.3)
+heard_first hd x tops has unwalked kinds = let f = formats_have_first hd x tops unwalked has kinds.alone kinds.plain kinds.idem (first_entries hd) in (f.0, f.1, first_heard hd x tops kinds f.0 f.1 f.2 f.3 f.4, f.3)

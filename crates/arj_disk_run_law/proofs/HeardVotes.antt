@@ -2,7 +2,7 @@
 use Rattle.std.proofs.Common.{◌≡◌, ℕ, true, false, List, [], ◌∷◌, Some, refl, sym, ◌∙◌, ap, subst, inr, ⊎_elim}
 use Rattle.std.specs.Prelude.{find}
 use Rattle.arj_base.proofs.Uids.{uid_is}
-use Rattle.arj_protocol.specs.Words.{Asked, Cause, Message, ObjectState, PreparedReply, Uid, object, uid_eq}
+use Rattle.arj_protocol.specs.Words.{Asked, Cause, Message, ObjectState, PreparedReply, Uid, nobody, object, uid_eq}
 use Rattle.arj_protocol.specs.Words.cause
 use Rattle.arj_protocol.specs.Words.prepared
 use Rattle.arj_protocol.specs.Words.voted
@@ -14,14 +14,16 @@ use Rattle.arj_protocol.specs.Coord.{Committing, Coord, Doing, doing_of}
 use Rattle.arj_protocol.specs.Effect.{Did, Disk}
 use Rattle.arj_protocol.specs.Node.{Parts}
 use Rattle.arj_protocol.specs.Order.{uid_number, with_number, without_number}
-use Rattle.arj_protocol.specs.Tree.{root_of}
+use Rattle.arj_protocol.specs.Tree.{at_place, root_of}
+use Rattle.arj_protocol.proofs.Numbers.{number_tells}
+use Rattle.arj_part_law.proofs.GoodTrees.{found_by}
 use Rattle.arj_run_law.specs.Worlds.{IsGood}
 use Rattle.arj_call_law.specs.Runs.{KnowsFew}
 use Rattle.arj_call_law.proofs.WorldRuns.{votes_used}
 use Rattle.arj_disk_law.specs.Laws.{IsBased}
 use Rattle.arj_disk_law.specs.Names.{Office}
 use Rattle.arj_disk_law.specs.State as disk
-use Rattle.arj_disk_law.proofs.Base.{never, some_is}
+use Rattle.arj_disk_law.proofs.Base.{never, never_some, some_is}
 use Rattle.arj_view_law.specs.Seen.{In, Seen, up}
 use Rattle.arj_disk_view_law.specs.Coordinating.{IsBefore, KnowsNode}
 use Rattle.arj_disk_view_law.specs.Knows.{CommitsAt, KnowsMachine}
@@ -59,7 +61,7 @@ module _ (x : ℕ) (tops : Kinds) (e k : ℕ) (d : Disk) (t : Parts) (M : Seen) 
 
   module _ (p : commit.Plan) (left : List ℕ) (now : q.now ≡ Committing (Voting p left)) (from : ℕ) (m : Message) (a : Asked) (states : List ObjectState) (posted : In (record { from = from; to = k; message = m }) M.sent) (answering : answers m ≡ Some (a, Reply.Voted (voted.Yes states))) (act : a.act ≡ u) (own : AreOwnStates a.act states)
       (waits : waits_for_commit from a (Reply.Voted (voted.Yes states)) (Voting p left) ≡ true)
-      (gives : (z : commit.Plan) (st : ObjectState) → EndsVotes k t M.sent u z → changed_of x z ≡ Some st → IsBased A.world.disk (packed st) × (A.world.disk.first.writer ≡ uid_number u → ⊥)) where
+      (gives : (z : commit.Plan) (st : ObjectState) → EndsVotes k t M.sent u z → changed_of x z ≡ Some st → IsBased A.world.disk (packed st)) where
     abbrev Next : commit.Plan
     Next = record p { changed = with_states states p.changed }
 
@@ -94,6 +96,10 @@ module _ (x : ℕ) (tops : Kinds) (e k : ℕ) (d : Disk) (t : Parts) (M : Seen) 
     at : CommitsAt t.coord (root_of n.branch.path) u
     at = (q, Voting p left, at_work, now, ap root_of (sym n.path))
 
+    -- who acts is somebody
+    nobody_acts : nobody ≡ u → ⊥
+    nobody_acts same = never_some (found_by u t.coord.tree n.branch n.found).1 (ap (λ (y : Uid). at_place y.num t.coord.tree.branches) (sym same))
+
     abbrev To : List ℕ → Type 0
     To rest = Heard_by (moved_commit u (plainly (votes_left rest Next)) d.intents t.coord)
 
@@ -109,7 +115,7 @@ module _ (x : ℕ) (tops : Kinds) (e k : ℕ) (d : Disk) (t : Parts) (M : Seen) 
         let there = found_among (λ s. uid_eq s.uid (object x)) (with_states states p.changed) st it in
         let c = plan_voted.changed w st (ap (used_at x) (sym g.used) ∙ used) there.0 (uid_is st.uid (object x) there.1) in
         let b = gives Next st (record { from = from; message = m; asked = a; states = states; doing = q; before = p; left = left; posted = posted; answer = answering; act = act; at_work = at_work; now = now; waits = waits; last = last; plan = refl }) it in
-        (c.0, b.0, c.1, b.1)))
+        (c.0, b, c.1, λ same. nobody_acts (number_tells nobody u (sym h.first ∙ same)))))
         [] [] (votes_left [] Next) (λ v. tt) g.kind
 
     -- and others are waited for

@@ -1,7 +1,7 @@
 -- What coordinators have of naming's answers and what messages claim of them, in what is seen and the machine's state: the relation
 -- that is kept beside both halves.
 use Rattle.std.specs.Prelude.{⊤, ◌≡◌, ◌⊎◌, ◌≤◌, ◌<◌, ℕ, Bool, true, false, List, ◌∷◌, Option, None, Some, Contains}
-use Rattle.arj_protocol.specs.Words.{Uid, Ask, Asked, Binding, BoundReply, Head, ObjectState, asks, object, uids_of}
+use Rattle.arj_protocol.specs.Words.{Uid, Ask, Asked, Binding, BoundReply, Head, ObjectState, asks, nobody, object, uids_of}
 use Rattle.arj_protocol.specs.Words.ask
 use Rattle.arj_protocol.specs.Words.bound
 use Rattle.arj_protocol.specs.Words.loaded
@@ -188,10 +188,11 @@ pub record IsAskedFor (sent : List Post) (p : Post) (a : Asked) (r : Reply) : Ty
 
 -- ---- all nodes
 
--- So it is at each coordinator that is up; of a later incarnation of a node the machine has nothing; each answer was asked for; and
--- requests claim what they say.
+-- So it is at each coordinator that is up; nobody wrote the object's first state; of a later incarnation of a node the machine has
+-- nothing; each answer was asked for; and requests claim what they say.
 pub record SeesHeard (x : ℕ) (tops : Kinds) (A : Office) (M : Seen) : Type 0 where
   pub kinds : KnowsKinds tops
+  pub first : A.world.disk.first.writer ≡ uid_number nobody
   pub coords : (k : ℕ) (n : Node) (t : Parts) → M.nodes k ≡ Some n → n.live ≡ Some t → SeesHeardAt x k tops M.sent t.coord A
   pub future : (k : ℕ) (n : Node) (u : Uid) → M.nodes k ≡ Some n → u.node ≡ k → tops.root (uid_number u) ≡ uid_number u → (let d = n.disk in d.inc) < u.inc → HasNoneOf tops (uid_number u) A
   pub asked : (p : Post) (a : Asked) (r : Reply) → seen.In p M.sent → answers p.message ≡ Some (a, r) → IsAskedFor M.sent p a r

@@ -55,13 +55,13 @@ pub record EndsVotes (k : ℕ) (t : Parts) (sent : List Post) (u : Uid) (p : com
 
 -- What naming counts on, and commits. A Record whose binding naming made for its top and didn't record yet is of a top that has no entry of the object
 -- prepared, unless it asked for the lock by an include too; of a new Confirm the locks of servers give the next version; and by the last
--- vote a commit changes the object to a state that is one version above one that was known, and another writer's than the first.
+-- vote a commit changes the object to a state that is one version above one that was known.
 pub record GivesNaming (x : ℕ) (R : Seen → Type 0) : Type 0 where
   pub recorded : (tops : Kinds) (k : ℕ) (d : Disk) (t : Parts) (n : Naming) (from : ℕ) (m : Message) (h : Head) (b : Binding) (i : ℕ) (M : Seen) (A : Office) → IsHeardAt x R tops A (k, d, t) M → In (record { from = from; to = k; message = m }) M.sent → t.naming ≡ Some n → asks m ≡ Some (h, ask.Record x b i A.names.inc)
       → IsUnrecorded x h.path b n → A.names.asked (uid_number (top_of h.path)) ≡ false → (B : Office) → SeesEntry x d.names B.world.disk → IsNot B.world.disk.entry_pend (uid_number (top_of h.path))
   pub next : (tops : Kinds) (k : ℕ) (d : Disk) (t : Parts) (n : Naming) (from : ℕ) (m : Message) (h : Head) (grants : Grants) (excluded included : Marks) (M : Seen) (A : Office) → IsHeardAt x R tops A (k, d, t) M → In (record { from = from; to = k; message = m }) M.sent → t.naming ≡ Some n → asks m ≡ Some (h, ask.Confirm grants excluded included)
       → IsNewConfirm h.path grants excluded included d.names n → IsNext A.world.disk (uid_number (top_of h.path))
-  pub voted : (tops : Kinds) (k : ℕ) (d : Disk) (t : Parts) (u : Uid) (p : commit.Plan) (st : ObjectState) (M : Seen) (A : Office) → IsHeardAt x R tops A (k, d, t) M → EndsVotes k t M.sent u p → commit.changed_of x p ≡ Some st → IsBased A.world.disk (packed st) × (A.world.disk.first.writer ≡ uid_number u → ⊥)
+  pub voted : (tops : Kinds) (k : ℕ) (d : Disk) (t : Parts) (u : Uid) (p : commit.Plan) (st : ObjectState) (M : Seen) (A : Office) → IsHeardAt x R tops A (k, d, t) M → EndsVotes k t M.sent u p → commit.changed_of x p ≡ Some st → IsBased A.world.disk (packed st)
 
 -- the answer is to one whose commit is under way
 abbrev pub answers_commit : Asked → Coord → Bool

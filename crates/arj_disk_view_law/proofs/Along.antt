@@ -62,7 +62,7 @@ module _ (f g : Note → Bool) (wider : (n : Note) → f n ≡ true → g n ≡ 
   only_more (machine.Forget r k) h = h
   only_more (machine.Send m) h = tells_more m h
 
-  all_more : (es : List Effect) → AreOnlyOf f es → AreOnlyOf g es
+  pub all_more : (es : List Effect) → AreOnlyOf f es → AreOnlyOf g es
   all_more [] h = tt
   all_more (e ∷ es) h = (only_more e h.0, all_more es h.1)
 

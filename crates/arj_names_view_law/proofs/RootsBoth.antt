@@ -1,6 +1,6 @@
 -- A formatted world with both halves; and what a coordinator has of a root, where nothing of it has changed.
 use Rattle.std.proofs.Common.{◌≡◌, ◌⊎◌, ℕ, [], true, false, Some, None, refl, sym, ◌∙◌, ap, subst, inl, inr, ⊎_elim}
-use Rattle.arj_protocol.specs.Words.{Header, Uid}
+use Rattle.arj_protocol.specs.Words.{Header, Uid, nobody}
 use Rattle.arj_protocol.specs.Call.{Known}
 use Rattle.arj_protocol.specs.Confirm.{recovered_naming}
 use Rattle.arj_protocol.specs.Coord.{Coord, Root}
@@ -62,11 +62,11 @@ formats_have_both hd x tops unwalked has_it serial plain idem entries = (
 
 -- and so much is known of it
 pub formats_have_first : (hd : Header) (x : ℕ) (tops : Kinds) → tops.walk ≡ None → HasObject hd x → ((r : ℕ) → tops.is_serial r ≡ true → tops.root r ≡ r) → ((t : ℕ) → tops.is_serial (tops.root t) ≡ false → tops.root t ≡ t) → ((t : ℕ) → tops.root (tops.root t) ≡ tops.root t)
-    → AreEntries (first_disk hd 1).names → (A : Office) × SeesBoth x tops A (see [] (format hd)) × IsFirstNames A.names × (A.world.disk.tops ≡ [])
+    → AreEntries (first_disk hd 1).names → (A : Office) × SeesBoth x tops A (see [] (format hd)) × IsFirstNames A.names × (A.world.disk.tops ≡ []) × (A.world.disk.first.writer ≡ uid_number nobody)
 unfolding formats_have_both
 formats_have_first hd x tops unwalked has_it serial plain idem entries =
     let b = formats_have_both hd x tops unwalked has_it serial plain idem entries in
-    (b.0, b.1, first_names_is, (let f = seen.first_is hd x tops has_it in f.undecided))
+    (b.0, b.1, first_names_is, (let f = seen.first_is hd x tops has_it in f.undecided), refl)
 
 -- ---- a root of which nothing has changed
 
