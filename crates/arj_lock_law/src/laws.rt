@@ -4,7 +4,7 @@ ghost use Rattle.arj_lock_law.specs.Actions.{Act, In};
 ghost use Rattle.arj_lock_law.specs.State.{State, Call, Include};
 ghost use Rattle.arj_lock_law.specs.Steps.{Survives};
 ghost use Rattle.arj_lock_law.specs.Machine.{start, Run};
-ghost use Rattle.arj_lock_law.specs.Laws.{IsInOrder, IsNested, IsAtOneNode, IsHeld, IsEntryWritten, KeptAreNamed, Closes, SawTheLast, GivenStands, VotesAgree, VotesAreRight};
+ghost use Rattle.arj_lock_law.specs.Laws.{IsInOrder, IsNested, IsAtOneNode, IsHeld, IsEntryWritten, KeptAreNamed, Closes, SawTheLast, GivenStands, ConfirmedStands, VotesAgree, VotesAreRight};
 
 /// Order: the ok lines of two conflicting surviving calls stand in the serial order of their tops, whatever restarts, lost
 /// locks, replaced bindings and old messages come between. It does nothing when it runs.
@@ -51,9 +51,11 @@ pub fn repeated_votes_agree()
 {}
 
 /// Votes given: what a server gave for a top under the binding which the top's unit keeps is what the top's vote gives later, before its
-/// decision, while naming is of the binding's incarnation, for a top with a write that wasn't undone. It does nothing when it runs.
+/// decision, while naming is of the binding's incarnation, for a top with a write that wasn't undone; and where the top is confirmed that
+/// wasn't in some state behind the vote. It does nothing when it runs.
 pub fn given_votes_stand()
     ensures votes { (v : ℕ) (s : State) → Run (start v) s → GivenStands s }
+    ensures confirmed { (v : ℕ) (s : State) → Run (start v) s → ConfirmedStands s }
 {}
 
 /// Kept bindings: a unit with a call that wasn't undone keeps a binding of which it heard an incarnation. It does nothing when it runs.

@@ -15,13 +15,13 @@ use Rattle.arj_protocol.specs.Order.{binding_number, has, without_number, with_n
 use Rattle.arj_lock_law.specs.State.{State}
 use Rattle.arj_lock_law.proofs.Order.{go_on, start_holds}
 use Rattle.arj_lock_view_law.specs.Serving.{HaveOne, IsVotedSo, state_in}
-use Rattle.arj_lock_view_law.specs.Voted.{HasVotes, IsCalledIn, IsVoteFor, KnowsNext, PlansAreGiven, Side, VotesAreHeard, VotesAreLost, VotesAreShown, VotesSetOut, VotesStay, side_of}
+use Rattle.arj_lock_view_law.specs.Voted.{HasVotes, IsCalledIn, IsVoteFor, KnowsNext, PlansAreConfirmed, PlansAreGiven, Side, VotesAreHeard, VotesAreLost, VotesAreShown, VotesSetOut, VotesStay, side_of}
 use Rattle.arj_lock_view_law.proofs.PlanSteps.{in_set_of}
 use Rattle.arj_lock_view_law.proofs.ReplySteps.{tied_in}
 use Rattle.arj_lock_law.proofs.Paths.{number_self}
 use Rattle.arj_lock_law.proofs.VoteRun.{run_all_votes, start_votes}
 use Rattle.arj_lock_law.proofs.ValueRun.{start_values}
-use Rattle.arj_lock_law.proofs.Given.{given_stands}
+use Rattle.arj_lock_law.proofs.Given.{confirmed_stands, given_stands}
 
 -- ---- states put in
 
@@ -308,5 +308,16 @@ plans_are_given w p q c S reached h i one latest kept first ci write tops alive 
     record {
       copy = g.copy;
       vote = given_stands k.0 k.1 k.2 o.node (w.act w.top) (binding_number q.binding) o.inc S c o.may o.run one latest kept first ci write tops alive ∙ o.gives;
+      state = g.state;
+    }
+
+pub plans_are_confirmed : PlansAreConfirmed
+plans_are_confirmed w p q c S T reached h off run i one latest kept on ci write tops alive =
+    let g = h.given q i refl in
+    let o = g.vote in
+    let k = run_all_votes (let r = o.reached in r.1) (start_holds (let r = o.reached in r.0)) (start_values (let r = o.reached in r.0)) (start_votes (let r = o.reached in r.0)) in
+    record {
+      copy = g.copy;
+      vote = confirmed_stands k.0 k.1 k.2 o.node (w.act w.top) (binding_number q.binding) o.inc S T c o.may o.run off run one latest kept on ci write tops alive ∙ o.gives;
       state = g.state;
     }

@@ -114,3 +114,9 @@ abbrev pub PlansAreGiven : Type 0
 PlansAreGiven = (w : Side) (p : Plan) (q : Used) (c : Call) (S : State) → IsReached S → HasVotes w p [] S → IsCalledIn w p q → (let a = S.action (w.act w.top) in a.stage) ≡ 1
     → S.yes (w.act w.top) ≡ binding_number q.binding → S.kept (root (w.act w.top)) ≡ binding_number q.binding → S.naming.first ≤ binding_number q.binding
     → In c S.calls → c.write ≡ true → top c.act ≡ w.act w.top → Alive S c.act → IsGiven w p S
+
+-- And where it is confirmed, which it wasn't as all had voted: whatever naming has forgotten since.
+abbrev pub PlansAreConfirmed : Type 0
+PlansAreConfirmed = (w : Side) (p : Plan) (q : Used) (c : Call) (S T : State) → IsReached S → HasVotes w p [] S → S.confirmed (w.act w.top) ≡ false → Run S T → IsCalledIn w p q → (let a = T.action (w.act w.top) in a.stage) ≡ 1
+    → T.yes (w.act w.top) ≡ binding_number q.binding → T.kept (root (w.act w.top)) ≡ binding_number q.binding → T.confirmed (w.act w.top) ≡ true
+    → In c T.calls → c.write ≡ true → top c.act ≡ w.act w.top → Alive T c.act → IsGiven w p T

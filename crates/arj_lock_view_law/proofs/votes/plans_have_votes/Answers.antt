@@ -1,4 +1,4 @@
-use Rattle.arj_lock_view_law.proofs.VotedSteps.{plans_are_given, votes_are_heard, votes_are_lost, votes_are_shown, votes_set_out, votes_stay}
+use Rattle.arj_lock_view_law.proofs.VotedSteps.{plans_are_confirmed, plans_are_given, votes_are_heard, votes_are_lost, votes_are_shown, votes_set_out, votes_stay}
 use Rattle.arj_lock_view_law.proofs.votes.plans_have_votes.Goals as goal
 
 pub returns-clause-starts : goal.returns-clause-starts
@@ -18,3 +18,6 @@ returns-clause-shown c = votes_are_shown
 
 pub returns-clause-given : goal.returns-clause-given
 returns-clause-given c = plans_are_given
+
+pub returns-clause-confirmed : goal.returns-clause-confirmed
+returns-clause-confirmed c = plans_are_confirmed
