@@ -1,4 +1,5 @@
 pub mod Beginning
+pub mod Called
 pub mod Firsts
 pub mod FormCoords
 pub mod FormNodes

@@ -1,3 +1,4 @@
 pub mod Begun
 pub mod Forms
 pub mod Ordered
+pub mod Writers

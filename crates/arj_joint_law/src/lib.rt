@@ -3,12 +3,15 @@
 //! `arj_disk_line_law` has in every run a state of an object's disk machine (`arj_disk_law`) that sees it and decides as the journal
 //! says, and `arj_serial_law` what makes its last state and entry those of the journal. Here what that asks is given in runs: the machine
 //! began as the header says (`specs/Begun.antt`), it decides tops in the order of their commit calls against decisions
-//! (`specs/Ordered.antt`), and what stands of the object on disks is of its class (`specs/Forms.antt`). What it gives upward:
-//! `runs_begin_as_the_header_says`, `decisions_come_behind_calls`, `runs_have_form`.
+//! (`specs/Ordered.antt`), so that by the lock machine its decided writers stand as their commits were called (`specs/Writers.antt`), and
+//! what stands of the object on disks is of its class (`specs/Forms.antt`). What it gives upward: `runs_begin_as_the_header_says`,
+//! `decisions_come_behind_calls`, `writers_are_called_as_they_are_decided`, `runs_have_form`.
 #![tactic(auto)]
 
 mod forms;
 mod runs;
+mod writers;
 
 pub use forms::runs_have_form;
 pub use runs::{decisions_come_behind_calls, runs_begin_as_the_header_says};
+pub use writers::writers_are_called_as_they_are_decided;

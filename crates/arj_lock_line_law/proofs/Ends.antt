@@ -1,5 +1,5 @@
 -- How far an action is, with one line more.
-use Rattle.std.proofs.Common.{◌≡◌, ◌≤◌, ◌<◌, ◌⊎◌, ◌==◌, ◌&&◌, ◌||◌, ℕ, ◌+◌, List, length, Bool, true, false, nat_lt, Some, refl, sym, ◌∙◌, ap, inl, inr, ⊎_elim, arith, eqb-true, eq-eqb, ltb-true}
+use Rattle.std.proofs.Common.{◌≡◌, ◌≤◌, ◌<◌, ◌⊎◌, ◌==◌, ◌&&◌, ◌||◌, ℕ, ◌+◌, List, length, Bool, true, false, nat_lt, Some, refl, sym, ◌∙◌, ap, subst, inl, inr, ⊎_elim, arith, eqb-true, eq-eqb, ltb-true}
 use Rattle.std.specs.List.{list_any}
 use Rattle.std.proofs.lemmas.Bool.{and_parts}
 use Rattle.arj_base.proofs.Uids.{uid_same}
@@ -11,7 +11,7 @@ use Rattle.arj_lock.proofs.Members.{In, in_from, in_to}
 use Rattle.arj_model.specs.Actions.{Act, Halt, Placed, acts, committed, committed_of, ended, ended_of, halt_of, halts, has_end, is_halted, is_over, recovered, recovered_of}
 use Rattle.arj_line_law.specs.Laws.{IsDone, called, called_of}
 use Rattle.arj_lock_law.specs.State as machine
-use Rattle.arj_lock_line_law.specs.Lines.{EndsSo}
+use Rattle.arj_lock_line_law.specs.Lines.{EndsSo, IsDecidedAt}
 use Rattle.arj_lock_line_law.proofs.Reading.{any_from, any_to, in_cases, in_new, in_old, length_more, more}
 
 -- ---- ends, as they are listed
@@ -51,7 +51,7 @@ pub record Moves (lines : List Line) (b : Body) (a : Act) (m n : machine.Action)
   pub done : m.stage ≡ 3 → (n.stage ≡ 3) × (n.done ≡ m.done)
   pub commits : committed_of (acts lines) b ≡ Some a.id → (n.stage ≡ 3) × (n.done ≡ length lines + 1)
   pub finds : recovered_of (acts lines) b ≡ Some a.uid → (n.stage ≡ 3) × (n.done ≤ length lines + 1)
-  pub only : n.stage ≡ 3 → (m.stage ≡ 3) ⊎ (((committed_of (acts lines) b ≡ Some a.id) ⊎ (recovered_of (acts lines) b ≡ Some a.uid)) × (n.done ≤ length lines + 1))
+  pub only : n.stage ≡ 3 → (m.stage ≡ 3) ⊎ (((committed_of (acts lines) b ≡ Some a.id) ⊎ (recovered_of (acts lines) b ≡ Some a.uid)) × (n.done ≡ length lines + 1))
   pub gone : n.stage ≡ 4 → (m.stage ≡ 4) ⊎ ((ended_of (acts lines) b ≡ Some a.id) ⊎ ((h : Halt) × (halt_of (acts lines) b ≡ Some h) × (h.node ≡ (let u = a.uid in u.node)) × (a.id < h.begun)))
   pub over : 3 ≤ m.stage → 3 ≤ n.stage
   pub ends : ended_of (acts lines) b ≡ Some a.id → 3 ≤ n.stage
@@ -96,6 +96,20 @@ module _ (lines : List Line) (event : ℕ) (b : Body) (a : Act) (m n : machine.A
       (λ old. let o = was.only old in let d = (moves.done old).1 in let l = o.1 in let k = length_more lines (record { event = event; body = b }) in (done_still o.0, omega (arith, d, l, k)))
       (λ new. let l = new.1 in let k = length_more lines (record { event = event; body = b }) in (done_new new.0, omega (arith, l, k)))
       (moves.only is)
+
+  decided_now : n.stage ≡ 3 → IsDecidedAt all a n.done
+  decided_now is = ⊎_elim
+      (λ old. let d = (moves.done old).1 in subst (IsDecidedAt all a) (sym d) (still (was.decided old)))
+      (λ new. by new.0 new.1)
+      (moves.only is)
+    where
+      still : IsDecidedAt lines a m.done → IsDecidedAt all a m.done
+      still (inl (e, i, same, at)) = inl (e, in_to e (committed all) (in_old committed_of lines event b e (in_from e (committed lines) i)), same, at)
+      still (inr (e, i, same, at)) = inr (e, in_to e (recovered all) (in_old recovered_of lines event b e (in_from e (recovered lines) i)), same, at)
+
+      by : (committed_of (acts lines) b ≡ Some a.id) ⊎ (recovered_of (acts lines) b ≡ Some a.uid) → n.done ≡ length lines + 1 → IsDecidedAt all a n.done
+      by (inl is_now) at = inl (record { at = length lines; it = a.id }, in_to _ (committed all) (in_new committed_of lines event b a.id is_now), refl, at)
+      by (inr is_now) at = inr (record { at = length lines; it = a.uid }, in_to _ (recovered all) (in_new recovered_of lines event b a.uid is_now), refl, at)
 
   halted_at : (h : Placed Halt) → In h (halts all) → (let k = h.it in k.node) ≡ (let u = a.uid in u.node) → a.id < (let k = h.it in k.begun) → is_halted (halts all) a ≡ true
   halted_at h i node less = any_from (λ (h : Placed Halt). (h.it.node == a.uid.node) && nat_lt a.id h.it.begun) (halts all) h i (both (h.it.node == a.uid.node) (nat_lt a.id h.it.begun) (eq-eqb h.it.node a.uid.node node) (less_is a.id h.it.begun less))
@@ -150,6 +164,7 @@ module _ (lines : List Line) (event : ℕ) (b : Body) (a : Act) (m n : machine.A
     commit = λ e i is. commit_now e (in_from e (committed all) i) is;
     found = λ e i is. found_now e (in_from e (recovered all) i) is;
     only = only_now;
+    decided = decided_now;
     gone = gone_now;
     over = over_now;
     halted = halted_now;

@@ -18,7 +18,7 @@ use Rattle.arj_lock_view_law.specs.Acts.{Acts}
 use Rattle.arj_lock_view_law.specs.Copies.{Codes}
 use Rattle.arj_lock_view_law.specs.Ending.{SameEnd}
 use Rattle.arj_lock_line_law.specs.Coordinators.{IsOnPage, Page}
-use Rattle.arj_lock_line_law.specs.Lines.{AreCallsOf, AreIncludesOf, EndsSo, IsTiedToLines, included_on, said_on}
+use Rattle.arj_lock_line_law.specs.Lines.{AreCallsOf, AreIncludesOf, EndsSo, IsDecidedAt, IsTiedToLines, included_on, said_on}
 use Rattle.arj_lock_line_law.specs.Steps.{AreNamed, CallsStay, EndsStay, GoesBeside, ArePlain, PartsSayPlain, PlainsAreTied, is_plain}
 use Rattle.arj_lock_line_law.proofs.Reading.{acts_more, more}
 use Rattle.arj_lock_line_law.proofs.Ties.{plain_goes, says_none, ties_are_kept}
@@ -51,6 +51,7 @@ same_so lines a m n so w = record {
   commit = λ e i is. (let k = w.commit e i is in (so.stage ∙ k.0, so.done ∙ k.1));
   found = λ e i is. (let k = w.found e i is in (so.stage ∙ k.0, (let l = k.1 in let s = so.done in omega (arith, l, s))));
   only = λ is. (let k = w.only (sym so.stage ∙ is) in (k.0, (let l = k.1 in let s = so.done in omega (arith, l, s))));
+  decided = λ is. subst (IsDecidedAt lines a) (sym so.done) (w.decided (sym so.stage ∙ is));
   gone = λ is. w.gone (sym so.stage ∙ is);
   over = λ is. (let l = w.over is in let s = so.stage in omega (arith, l, s));
   halted = λ is. (let l = w.halted is in let s = so.stage in omega (arith, l, s));

@@ -260,6 +260,7 @@ module _ (act : Acts) (code : Codes) (values : Values) (x event : ℕ) (lines : 
             commit = λ e i is. ⊎_elim (λ old. absurd (let l = committed_low lines e old in omega (arith, l, is))) (λ new. absurd (cc new.0)) (in_cases committed_of lines event b e (in_from e (read committed_of [] 0 (more lines event b)) i));
             found = λ e i is. ⊎_elim (λ old. absurd (goes.3 e (in_to e (recovered lines) old) is)) (λ new. absurd (cc new.0)) (in_cases recovered_of lines event b e (in_from e (recovered (more lines event b)) i));
             only = λ is. absurd (let z = goes.2 in omega (arith, z, is));
+            decided = λ is. absurd (let z = goes.2 in omega (arith, z, is));
             gone = λ is. absurd (let z = goes.2 in omega (arith, z, is));
             over = λ h. (let p = end_there (read ended_of [] 0 (more lines event b)) (length (acts lines)) h in ⊎_elim (λ old. absurd (let l = ended_low lines p.0 old in let k = p.2 in omega (arith, l, k))) (λ new. absurd (cc new.0)) (in_cases ended_of lines event b p.0 p.1));
             halted = λ h. (let p = halt_there (read halt_of [] 0 (more lines event b)) begun h in ⊎_elim (λ old. absurd (let l = halts_low lines p.0 old in let k = p.3 in omega (arith, l, k))) (λ new. absurd (cc new.0)) (in_cases halt_of lines event b p.0 p.1));
@@ -300,7 +301,7 @@ module _ (act : Acts) (code : Codes) (values : Values) (x event : ℕ) (lines : 
         done = λ e. absurd (omega (arith, e, low_now));
         commits = λ e. (refl, refl);
         finds = λ e. absurd (cc e);
-        only = λ e. inr (inl (id_is l a is), omega arith);
+        only = λ e. inr (inl (id_is l a is), refl);
         gone = λ e. absurd (omega (arith, e));
         over = λ e. omega arith;
         ends = λ e. omega arith;
@@ -382,7 +383,7 @@ module _ (act : Acts) (code : Codes) (values : Values) (x event : ℕ) (lines : 
                 done = λ e. absurd (omega (arith, e, low_a));
                 commits = λ e. absurd (cc e);
                 finds = λ e. (refl, omega arith);
-                only = λ e. inr (inr (ap Some (sym is)), omega arith);
+                only = λ e. inr (inr (ap Some (sym is)), refl);
                 gone = λ e. absurd (omega (arith, e));
                 over = λ e. omega arith;
                 ends = λ e. absurd (cc e);

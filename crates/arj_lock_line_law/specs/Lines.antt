@@ -1,6 +1,6 @@
 -- A journal, as the lock machine of one object has it: its calls and includes of the object, and where its actions' commits stand. A line
 -- with n lines before it stands at place n + 1 in the machine.
-use Rattle.std.specs.Prelude.{⊤, ◌≡◌, ◌≤◌, ◌+◌, ◌==◌, ℕ, true, false, filter, length, reverse, List, [], ◌∷◌, Contains}
+use Rattle.std.specs.Prelude.{⊤, ◌≡◌, ◌⊎◌, ◌≤◌, ◌+◌, ◌==◌, ℕ, true, false, filter, length, reverse, List, [], ◌∷◌, Contains}
 use Rattle.arj_base.specs.Rows.{last_uid}
 use Rattle.arj_base.specs.Uid.{nobody}
 use Rattle.arj_base.specs.declared.uid.Uid.{Uid}
@@ -61,15 +61,20 @@ AreIncludesOf act included includes = ⊥
 
 -- ---- actions
 
+-- the action's committed line stands at the place, or a restart found its record there
+abbrev pub IsDecidedAt : List Line → model.Act → ℕ → Type 0
+IsDecidedAt lines a n = ((e : Placed ℕ) × Contains (committed lines) e × (e.it ≡ a.id) × (n ≡ e.at + 1)) ⊎ ((e : Placed Uid) × Contains (recovered lines) e × (e.it ≡ a.uid) × (n ≡ e.at + 1))
+
 -- What the machine has of an action. Its commit is called where that line stands, it is committed where its line stands, or by then where
--- a restart found its record. Who is committed in the machine is so in the journal, and by a line that stands; who is aborted there has
--- an end, or its node halted. An action that has an end in the journal has one in the machine, and one whose node halted has an end or
+-- a restart found its record. Who is committed in the machine is so in the journal, and by a line that stands, at its place; who is
+-- aborted there has an end, or its node halted. An action that has an end in the journal has one in the machine, and one whose node halted has an end or
 -- is decided.
 pub record EndsSo (lines : List Line) (a : model.Act) (m : machine.Action) : Type 0 where
   pub place : (e : Placed ℕ) → Contains (called lines) e → e.it ≡ a.id → (m.place ≡ e.at + 1) × (1 ≤ m.stage)
   pub commit : (e : Placed ℕ) → Contains (committed lines) e → e.it ≡ a.id → (m.stage ≡ 3) × (m.done ≡ e.at + 1)
   pub found : (e : Placed Uid) → Contains (recovered lines) e → e.it ≡ a.uid → (m.stage ≡ 3) × (m.done ≤ e.at + 1)
   pub only : m.stage ≡ 3 → IsDone lines a × (m.done ≤ length lines)
+  pub decided : m.stage ≡ 3 → IsDecidedAt lines a m.done
   pub gone : m.stage ≡ 4 → is_over lines a ≡ true
   pub over : has_end (ended lines) a.id ≡ true → 3 ≤ m.stage
   pub halted : is_halted (halts lines) a ≡ true → 2 ≤ m.stage

@@ -132,7 +132,7 @@ pub record IsTopOf (lines : List Line) (t : Top) : Type 0 where
   pub root_is : t.root ≡ root_or act.id (root_in (path_of lines act))
   pub call : In (record { at = t.at; it = act.id }) (called lines)
 
-top_plain : (k : Kind) → is_top k ≡ true → is_serial k ≡ false
+pub top_plain : (k : Kind) → is_top k ≡ true → is_serial k ≡ false
 top_plain kind.Nested e = absurd (cc e)
 top_plain kind.Serial e = absurd (cc e)
 top_plain kind.Top e = refl
@@ -189,7 +189,7 @@ module _ (lines : List Line) (right : AreRight new_book lines) where
 -- ---- an object
 
 module _ (values : Values) (lines : List Line) (right : AreRight new_book lines) (x : ℕ) (S : State) (tied : Tie values lines x S) where
-  in_order : IsInOrder S
+  pub in_order : IsInOrder S
   in_order = is_in_order (run_keeps tied.run (start_holds (tied.code (values x) (tied.act nobody)))) (roots_low tied.run (start_low (tied.code (values x) (tied.act nobody))))
 
   nested : IsNested S
@@ -315,7 +315,7 @@ module _ (values : Values) (lines : List Line) (right : AreRight new_book lines)
         let apart = let l = listed lines right in l.apart in
         ap (serial_key (tops lines)) s.top_number ∙ (λ i. unit_place (tops lines) (root_of_top (tops lines) s.number apart s.listed_top i) ∷ place_of_top (tops lines) s.number apart s.listed_top i ∷ [])
 
-  conflict_of : (c d : Call) (s : IsShown c) (t : IsShown d) → c.at < d.at → is_conflict c d ≡ true → Conflicting S s.call t.call
+  pub conflict_of : (c d : Call) (s : IsShown c) (t : IsShown d) → c.at < d.at → is_conflict c d ≡ true → Conflicting S s.call t.call
   conflict_of c d s t less conflict = record {
     first = s.there;
     second = t.there;

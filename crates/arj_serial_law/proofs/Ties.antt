@@ -16,7 +16,7 @@ use Rattle.arj_lock_law.specs.State.{State}
 use Rattle.arj_lock_law.specs.Machine.{Run, start}
 use Rattle.arj_lock_view_law.specs.Acts.{Acts}
 use Rattle.arj_lock_view_law.specs.Copies.{Codes}
-use Rattle.arj_lock_line_law.specs.Lines.{AreCallsOf, EndsSo, said_on}
+use Rattle.arj_lock_line_law.specs.Lines.{AreCallsOf, EndsSo, IsDecidedAt, said_on}
 use Rattle.arj_serial_law.specs.Tied.{AreApart, AreTied, Began, HasPlaces, IsTied}
 use Rattle.arj_serial_law.proofs.Timely.{run_initial}
 
@@ -25,6 +25,7 @@ use Rattle.arj_serial_law.proofs.Timely.{run_initial}
 pub record IsAsSaid (lines : List Line) (a : Act) (m : state.Action) : Type 0 where
   pub done : IsDone lines a → m.stage ≡ 3
   pub only : m.stage ≡ 3 → IsDone lines a
+  pub decided : m.stage ≡ 3 → IsDecidedAt lines a m.done
   pub place : (e : Placed ℕ) → Contains (called lines) e → e.it ≡ a.id → m.place ≡ e.at + 1
   pub commit : (e : Placed ℕ) → Contains (committed lines) e → e.it ≡ a.id → m.done ≡ e.at + 1
 
@@ -56,6 +57,7 @@ as_said lines a m h = record {
       (λ found. let e = found_by (recovered lines) a.uid found in (h.found e.0 (in_to e.0 (recovered lines) e.1) e.2).0)
       (or_which (has_end (committed lines) a.id) (list_any (λ (u : Placed Uid). uid_eq u.it a.uid) (recovered lines)) done);
   only = λ three. (h.only three).0;
+  decided = h.decided;
   place = λ e there same. (h.place e there same).0;
   commit = λ e there same. (h.commit e there same).1;
 }

@@ -170,7 +170,7 @@ module _ (header : Header) (lines : List Line) (right : AreRight new_book lines)
 -- ---- writers
 
 -- calls of one place are one
-one_call : (cs : List Call) → Pairwise (λ (a b : Call). a.at < b.at) cs → (c d : Call) → In c cs → In d cs → c.at ≡ d.at → c ≡ d
+pub one_call : (cs : List Call) → Pairwise (λ (a b : Call). a.at < b.at) cs → (c d : Call) → In c cs → In d cs → c.at ≡ d.at → c ≡ d
 one_call [] w c d i j e = absurd i
 one_call (k ∷ cs) w c d (inl is) (inl js) e = sym is ∙ js
 one_call (k ∷ cs) w c d (inl is) (inr j) e = let l = at_of cs w.0 d j in let same = ap (λ (z : Call). z.at) is in absurd (omega (arith, l, same, e))
