@@ -8,3 +8,5 @@ pub mod FormServers
 pub mod OrderedRuns
 pub mod Ordering
 pub mod Turns
+pub mod Behind
+pub mod Excluding

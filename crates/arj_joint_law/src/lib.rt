@@ -9,9 +9,13 @@
 #![tactic(auto)]
 
 mod forms;
+mod outcomes;
 mod runs;
 mod writers;
 
 pub use forms::runs_have_form;
+pub use outcomes::{
+    commits_are_done_behind_decisions, one_outcome_tells_journals_apart, seen_runs_exclude_in_time,
+};
 pub use runs::{decisions_come_behind_calls, runs_begin_as_the_header_says};
 pub use writers::writers_are_called_as_they_are_decided;

@@ -72,21 +72,21 @@ class_stays values c x = by (x == c.x) refl
     by true is = class_after c.op (values c.x) ∙ ap (λ y. class_of (values y)) (sym (eqb-true x c.x is))
     by false is = refl
 
-run_class : (values : Values) (cs : List Call) (x : ℕ) → class_of (run values cs x) ≡ class_of (values x)
+pub run_class : (values : Values) (cs : List Call) (x : ℕ) → class_of (run values cs x) ≡ class_of (values x)
 run_class values [] x = refl
 run_class values (c ∷ cs) x = run_class (after values c) cs x ∙ class_stays values c x
 
 -- ---- states
 
 -- states that are packed alike, of one object and one class, are one
-one_state : (s t : ObjectState) → packed s ≡ packed t → s.uid ≡ t.uid → s.class ≡ t.class → s ≡ t
+pub one_state : (s t : ObjectState) → packed s ≡ packed t → s.uid ≡ t.uid → s.class ≡ t.class → s ≡ t
 one_state s t same uid kind = (λ i. record { uid = uid i; class = kind i; version = ap (λ (p : Packed). p.version) same i; writer = number_tells s.writer t.writer (ap (λ (p : Packed). p.writer) same) i; payload = ap (λ (p : Packed). p.content) same i })
 
-held_some : (o : Option ObjectState) (p : Packed) (pack : ObjectState → Packed) → option_map pack o ≡ Some p → (s : ObjectState) × (o ≡ Some s) × (pack s ≡ p)
+pub held_some : (o : Option ObjectState) (p : Packed) (pack : ObjectState → Packed) → option_map pack o ≡ Some p → (s : ObjectState) × (o ≡ Some s) × (pack s ≡ p)
 held_some None p pack e = absurd (cc e)
 held_some (Some s) p pack e = (s, refl, some_is (pack s) p e)
 
-has_among : (s : ℕ) (ns : List ℕ) → has s ns ≡ is_among ns s
+pub has_among : (s : ℕ) (ns : List ℕ) → has s ns ≡ is_among ns s
 has_among s [] = refl
 has_among s (n ∷ ns) = ap (λ b. (n == s) || b) (has_among s ns)
 
@@ -95,15 +95,15 @@ module _ (header : Header) (lines : List Line) (right : AreRight new_book lines)
   clean_so = clean W sees.whole
 
   -- the tops of the journal alone
-  chain_behind : (ds es : List Done) → Chain W.disk.first (ds ++ es) → Chain W.disk.first es
+  pub chain_behind : (ds es : List Done) → Chain W.disk.first (ds ++ es) → Chain W.disk.first es
   chain_behind [] es c = c
   chain_behind (d ∷ ds) es c = chain_behind ds es c.1
 
-  in_behind : (ds es : List Done) (d : Done) → In d es → In d (ds ++ es)
+  pub in_behind : (ds es : List Done) (d : Done) → In d es → In d (ds ++ es)
   in_behind [] es d i = i
   in_behind (e ∷ ds) es d i = inr (in_behind ds es d i)
 
-  state_same : last_in W.disk.first decided.others ≡ packed (last_state header lines x)
+  pub state_same : last_in W.disk.first decided.others ≡ packed (last_state header lines x)
   state_same =
       let core = let w = sees.whole in w.core in
       state_is_last header lines right tied x W.disk.first decided.others (chain_behind decided.late decided.others (subst (Chain W.disk.first) decided.are core.history.chain))

@@ -1,0 +1,237 @@
+-- Where the newest decided top is one that is new in an event, each store that the naming node has for what it wrote is in time.
+use Rattle.std.proofs.Common.{◌≡◌, ◌⊎◌, ◌≤◌, ◌<◌, ℕ, ◌==◌, List, [], ◌∷◌, ◌++◌, filter, Bool, true, false, cond, Option, Some, None, is_some, unwrap_or, refl, sym, ◌∙◌, ap, subst, inl, inr, ⊎_elim, arith, eq-eqb, Contains}
+use Rattle.std.specs.List.{AllByRecursion}
+use Rattle.std.specs.Option.{option_map}
+use Rattle.arj_base.specs.declared.state.ObjectState.{ObjectState}
+use Rattle.arj_base.specs.Uid.{entry, object}
+use Rattle.arj_class.specs.Table.{class_of}
+use Rattle.arj_journal.specs.declared.body.Line.{Line}
+use Rattle.arj_journal.specs.declared.header.Header.{Header}
+use Rattle.arj_lock.proofs.Members as members
+use Rattle.arj_lock.proofs.Members.{in_from, in_to}
+use Rattle.arj_model.specs.Calls.{Call, Top, tops}
+use Rattle.arj_model.specs.Last.{first_values, is_among, last_state, object_line}
+use Rattle.arj_model.specs.Serial.{Values, root_of, serial_calls, top_place, writes_on}
+use Rattle.arj_line_law.specs.Book.{new_book}
+use Rattle.arj_line_law.specs.Laws.{AreApart}
+use Rattle.arj_line_law.specs.Right.{AreRight}
+use Rattle.arj_line_law.proofs.Books.{never}
+use Rattle.arj_line_law.proofs.Likes.{some_is}
+use Rattle.arj_address_law.proofs.Lists.{all_at_uid}
+use Rattle.arj_protocol.specs.Effect.{held_at}
+use Rattle.arj_protocol.specs.Order.{at_uid, uid_number}
+use Rattle.arj_protocol.specs.Step.{Node}
+use Rattle.arj_protocol.specs.Values.{state_entry}
+use Rattle.arj_protocol.proofs.Numbers.{number_tells}
+use Rattle.arj_disk_law.specs.Core.{Core}
+use Rattle.arj_disk_law.specs.Effects.{World}
+use Rattle.arj_disk_law.specs.Laws.{IsExcludedInTime}
+use Rattle.arj_disk_law.specs.Order.{counts_of}
+use Rattle.arj_disk_law.specs.State.{Done, Hold, IsExcused, Packed, Plan, State, is_latest, is_latest_in, last, last_in}
+use Rattle.arj_disk_law.specs.Words.{In, has}
+use Rattle.arj_disk_law.proofs.Results.{in_time}
+use Rattle.arj_view_law.specs.Seen.{Seen}
+use Rattle.arj_disk_view_law.specs.Entries.{SeesEntry}
+use Rattle.arj_disk_view_law.specs.Pairs.{Among, Holder, IsOf, packed, packed_entry}
+use Rattle.arj_disk_view_law.specs.Stores.{SeesStore}
+use Rattle.arj_serial_law.specs.Cleaned.{AreDecidedOrLate}
+use Rattle.arj_serial_law.specs.Decided.{AreDecisions, AreNewestFirst, IsDecision, WroteSo, Wrote}
+use Rattle.arj_serial_law.specs.Runs.{IsSeenDecided}
+use Rattle.arj_serial_law.proofs.Cleaning.{has_among, held_some, in_behind, one_state, run_class, state_same}
+use Rattle.arj_serial_law.proofs.Order.{listed, place_of_top, root_of_top}
+use Rattle.arj_serial_law.proofs.Running.{seen_right, seen_tied}
+use Rattle.arj_serial_law.proofs.Ties.{Ties, ties_of}
+use Rattle.arj_serial_law.proofs.Tying.{all_at}
+use Rattle.arj_joint_law.specs.Excluded.{AreExcludedInTime, AreSeenInTime, IsInTime, IsNew, IsNewest, IsSeenInTime, IsTakenOut, SeenRunsExcludeInTime, uid_of}
+use Rattle.arj_joint_law.specs.Forms.{OfClass, Own}
+
+all_among : (P : ObjectState → Type 0) (ss : List ObjectState) (st : ObjectState) → AllByRecursion P ss → Among st ss → P st
+all_among P [] st all i = absurd i
+all_among P (z ∷ ss) st all (inl is) = subst P is all.0
+all_among P (z ∷ ss) st all (inr i) = all_among P ss st all.1 i
+
+-- ---- the newest decided top
+
+-- the first of the decided tops that count is the newest
+first_is_latest : (ds : List Done) (d : Done) (es : List Done) → filter counts_of ds ≡ d ∷ es → is_latest_in ds d.top ≡ true
+first_is_latest [] d es e = absurd (cc e)
+first_is_latest (z ∷ ds) d es e = by z.counts e (first_is_latest ds d es)
+  where
+    by : (b : Bool) → cond b (z ∷ filter counts_of ds) (filter counts_of ds) ≡ d ∷ es → (filter counts_of ds ≡ d ∷ es → is_latest_in ds d.top ≡ true) → cond b (z.top == d.top) (is_latest_in ds d.top) ≡ true
+    by true f ih = let same : z ≡ d = cc f in eq-eqb z.top d.top (ap (λ (y : Done). y.top) same)
+    by false f ih = ih f
+
+-- and those before it don't count
+latest_behind : (late others : List Done) (t : ℕ) → ((z : Done) → In z late → z.counts ≡ false) → is_latest_in others t ≡ true → is_latest_in (late ++ others) t ≡ true
+latest_behind [] others t none is = is
+latest_behind (z ∷ late) others t none is = ap (λ b. cond b (z.top == t) (is_latest_in (late ++ others) t)) (none z (inl refl)) ∙ latest_behind late others t (λ y i. none y (inr i)) is
+
+-- nor did they write
+last_behind : (first : Packed) (late others : List Done) → ((z : Done) → In z late → z.plan.writes ≡ None) → last_in first (late ++ others) ≡ last_in first others
+last_behind first [] others none = refl
+last_behind first (z ∷ late) others none = ap (λ o. unwrap_or o (last_in first (late ++ others))) (none z (inl refl)) ∙ last_behind first late others (λ y i. none y (inr i))
+
+counted_in : (ds : List Done) (d : Done) (es : List Done) → filter counts_of ds ≡ d ∷ es → In d ds
+counted_in [] d es e = absurd (cc e)
+counted_in (z ∷ ds) d es e = by z.counts e (counted_in ds d es)
+  where
+    by : (b : Bool) → cond b (z ∷ filter counts_of ds) (filter counts_of ds) ≡ d ∷ es → (filter counts_of ds ≡ d ∷ es → In d ds) → In d (z ∷ ds)
+    by true f ih = let same : z ≡ d = cc f in inl same
+    by false f ih = inr (ih f)
+
+-- a top behind which none stands is the first
+newest_first : (ts : List Top) (t : Top) → AreNewestFirst ts → members.In t ts → ((u : Top) → members.In u ts → u.at ≤ t.at) → (us : List Top) × (ts ≡ t ∷ us)
+newest_first [] t order i most = absurd i
+newest_first (u ∷ ts) t order (inl is) most = (ts, ap (λ z. z ∷ ts) is)
+newest_first (u ∷ ts) t order (inr i) most = let less = all_at (λ (z : Top). z.at < u.at) ts order.0 t i in let le = most u (inl refl) in absurd (omega (arith, less, le))
+
+each_listed : (values : Values) (lines : List Line) (x : ℕ) (ds : List Done) (ts : List Top) → AreDecisions values lines x ds ts → (t : Top) → members.In t ts → Contains (tops lines) t
+each_listed values lines x [] [] are t i = absurd i
+each_listed values lines x [] (u ∷ ts) are t i = absurd are
+each_listed values lines x (d ∷ ds) [] are t i = absurd are
+each_listed values lines x (d ∷ ds) (u ∷ ts) are t (inl is) = subst (Contains (tops lines)) is (let q = are.0 in q.listed)
+each_listed values lines x (d ∷ ds) (u ∷ ts) are t (inr i) = each_listed values lines x ds ts are.1 t i
+
+-- its decision
+first_decision : (values : Values) (lines : List Line) (x : ℕ) (ds : List Done) (t : Top) (ts : List Top) → AreDecisions values lines x ds (t ∷ ts) → (d : Done) × (es : List Done) × (ds ≡ d ∷ es) × IsDecision values lines x d t
+first_decision values lines x [] t ts are = absurd are
+first_decision values lines x (d ∷ ds) t ts are = (d, ds, refl, are.0)
+
+module _ (header : Header) (e : ℕ) (M : Seen) (right : AreRight new_book M.lines) (tied : Ties (first_values header) M.lines) (x : ℕ) (is : IsSeenInTime header e x M) (t : Top) (new : IsNew e M.lines t) (wrote : Wrote M.lines x t) where
+  abbrev seen : IsSeenDecided header x M
+  seen = is.seen
+
+  abbrev W : World
+  W = seen.world
+
+  abbrev decided : AreDecidedOrLate header M.lines x W.disk
+  decided = seen.decided
+
+  core : Core W.disk
+  core = let w = let v = seen.sees in v.whole in w.core
+
+  abbrev newest : IsNewest header e M.lines x W.disk seen.decided t
+  newest = is.newest t new wrote
+
+  abbrev T : ℕ
+  T = uid_number (uid_of M.lines t)
+
+  -- it is one of the tops that count
+  there : members.In t decided.decided.those
+  there =
+      let c = wrote in
+      let w = decided.decided.all c.0 c.1 c.2 in
+      let apart : AreApart (tops M.lines) = let l = listed M.lines right in l.apart in
+      let i = in_from w.0 decided.decided.those w.1 in
+      let a = in_from w.0 (tops M.lines) (each_listed (first_values header) M.lines x (filter counts_of decided.others) decided.decided.those decided.decided.each w.0 i) in
+      let b = in_from t (tops M.lines) new.0 in
+      let id : w.0.id ≡ t.id = sym w.2 ∙ c.3 in
+      let place : w.0.at ≡ t.at = sym (place_of_top (tops M.lines) w.0 apart a) ∙ ap (top_place (tops M.lines)) id ∙ place_of_top (tops M.lines) t apart b in
+      let root : w.0.root ≡ t.root = sym (root_of_top (tops M.lines) w.0 apart a) ∙ ap (root_of (tops M.lines)) id ∙ root_of_top (tops M.lines) t apart b in
+      subst (λ z. members.In z decided.decided.those) (λ i. record { id = id i; root = root i; at = place i }) i
+
+  front : (us : List Top) × (decided.decided.those ≡ t ∷ us)
+  front = newest_first decided.decided.those t decided.decided.called there (λ u i. newest.last u (in_to u decided.decided.those i))
+
+  its : (d : Done) × (es : List Done) × (filter counts_of decided.others ≡ d ∷ es) × IsDecision (first_values header) M.lines x d t
+  its = first_decision (first_values header) M.lines x (filter counts_of decided.others) t front.0 (subst (AreDecisions (first_values header) M.lines x (filter counts_of decided.others)) front.1 decided.decided.each)
+
+  number : its.0.top ≡ T
+  number = let q = its.3 in q.number
+
+  latest : is_latest W.disk T ≡ true
+  latest = ap (λ ds. is_latest_in ds T) decided.are ∙ latest_behind decided.late decided.others T newest.late (ap (is_latest_in decided.others) (sym number) ∙ first_is_latest decided.others its.0 its.1 its.2)
+
+  inside : In its.0 W.disk.tops
+  inside = subst (In its.0) (sym decided.are) (behind decided.late (counted_in decided.others its.0 its.1 its.2))
+    where
+      behind : (ds : List Done) → In its.0 decided.others → In its.0 (ds ++ decided.others)
+      behind [] i = i
+      behind (d ∷ ds) i = inr (behind ds i)
+
+  writes : is_some (W.disk.plan T).writes ≡ true
+  writes = ap (λ n. is_some (W.disk.plan n).writes) (sym number) ∙ ap (λ (p : Plan). is_some p.writes) (sym (core.journal.plan its.0 inside)) ∙ by its.0.plan.writes (let q = its.3 in q.wrote)
+    where
+      by : (o : Option Packed) → WroteSo (first_values header) M.lines x t o → is_some o ≡ true
+      by None none = let c = wrote in never c.2 (none c.0 c.1 c.3)
+      by (Some w) some = refl
+
+  last_is : last W.disk ≡ packed (last_state header M.lines x)
+  last_is =
+      ap (last_in W.disk.first) decided.are
+      ∙ last_behind W.disk.first decided.late decided.others (λ z i. core.journal.plain z (subst (In z) (sym decided.are) (front_in decided.late z i)) (newest.late z i))
+      ∙ state_same header M.lines right tied x seen.kinds W M seen.sees decided seen.begins seen.form
+    where
+      front_in : (ds : List Done) (z : Done) → In z ds → In z (ds ++ decided.others)
+      front_in [] z i = absurd i
+      front_in (d ∷ ds) z (inl same) = inl same
+      front_in (d ∷ ds) z (inr i) = inr (front_in ds z i)
+
+  -- ---- at a store
+
+  module _ (s : ℕ) (n m : Node) (st : ObjectState) (at_naming : M.nodes 1 ≡ Some n) (at_store : M.nodes s ≡ Some m) (held : held_at (entry x) n.disk.names ≡ Some st) (has_it : is_among (state_entry st).stores s ≡ true) where
+    sees_entry : SeesEntry x n.disk.names W.disk
+    sees_entry = let v = seen.sees in v.entry n at_naming
+
+    sees_store : SeesStore x s m.disk.store W.disk
+    sees_store = let v = seen.sees in v.stores s m at_store
+
+    in_entry : has s W.disk.entry.content ≡ true
+    in_entry =
+        let p = sees_entry.pair in
+        let same : packed_entry st ≡ W.disk.entry = some_is (packed_entry st) W.disk.entry (ap (option_map packed_entry) (sym held) ∙ p.held_is) in
+        ap (λ (q : Packed). has s q.content) (sym same) ∙ has_among s (state_entry st).stores ∙ has_it
+
+    machine_in_time : IsExcludedInTime W.disk T s
+    machine_in_time = in_time W (let v = seen.sees in v.whole) T s latest writes in_entry
+
+    holds : W.disk.held s ≡ Some (last W.disk) → IsInTime header M.lines x n m t s
+    holds e =
+        let p = sees_store.pair in
+        let h = held_some (held_at (object x) m.disk.store) (packed (last_state header M.lines x)) packed (p.held_is ∙ e ∙ ap Some last_is) in
+        inl (h.1 ∙ ap Some (one_state h.0 (last_state header M.lines x) h.2 (p.keyed (object x) h.0 h.1) (seen.form.objects m s h.0 at_store h.1 ∙ sym (run_class (first_values header) (serial_calls M.lines) x))))
+
+    prepared : (h : Hold) → W.disk.pend s ≡ Some h → h.top ≡ T → h.new ≡ last W.disk → IsInTime header M.lines x n m t s
+    prepared h pend top new_is =
+        let p = sees_store.pair in
+        let k : Holder packed (object x) m.disk.store h = p.holder h pend in
+        let who : k.action ≡ uid_of M.lines t = number_tells k.action (uid_of M.lines t) (ap (λ (y : Hold). y.top) k.is ∙ top) in
+        let disk = (is.forms.0 s m at_store).0 in
+        let class : k.state.class ≡ class_of (first_values header x) = all_among (Own (OfClass x (class_of (first_values header x)))) k.states k.state (all_at_uid (AllByRecursion (Own (OfClass x (class_of (first_values header x))))) k.action k.states m.disk.store.pend disk.store.pend k.prepared) k.of.0 k.of.1 in
+        let same : k.state ≡ last_state header M.lines x = one_state k.state (last_state header M.lines x) (ap (λ (y : Hold). y.new) k.is ∙ new_is ∙ last_is) k.of.1 (class ∙ sym (run_class (first_values header) (serial_calls M.lines) x)) in
+        inr (inl (k.states, subst (λ u. at_uid u m.disk.store.pend ≡ Some k.states) who k.prepared, subst (IsOf (object x) k.states) same k.of))
+
+    taken_out : IsExcused W.disk T s → IsTakenOut M.lines x n t s
+    taken_out y = ⊎_elim
+        (λ (own : y.by_entry.top ≡ T). made t new.0 refl (sym own))
+        (λ other. let b = is.takers t y.by_entry new.0 y.there other.0 other.1 in made b.0 b.1 b.3 b.2) y.whose
+      where
+        k : Holder packed_entry (entry x) n.disk.names y.by_entry
+        k = let p = sees_entry.pair in p.holder y.by_entry y.there
+
+        lacks : is_among (state_entry k.state).stores s ≡ false
+        lacks = sym (has_among s (state_entry k.state).stores) ∙ ap (λ (q : Hold). has s q.new.content) k.is ∙ y.lacks
+
+        made : (b : Top) → Contains (tops M.lines) b → b.root ≡ t.root → uid_number (uid_of M.lines b) ≡ y.by_entry.top → IsTakenOut M.lines x n t s
+        made b c root top = record {
+          by_top = b;
+          committed = c;
+          unit = root;
+          states = k.states;
+          prepared = subst (λ u. at_uid u n.disk.names.pend ≡ Some k.states) (number_tells k.action (uid_of M.lines b) (ap (λ (q : Hold). q.top) k.is ∙ sym top)) k.prepared;
+          new = k.state;
+          there = k.of;
+          lacks = lacks;
+        }
+
+    pub is_in_time : IsInTime header M.lines x n m t s
+    is_in_time = ⊎_elim (λ h. holds h) (λ r. ⊎_elim (λ (h, pend, top, is_new). prepared h pend top is_new) (λ y. inr (inr (taken_out y))) r) machine_in_time
+
+-- ---- all objects
+
+seen_in_time : (header : Header) (e : ℕ) (M : Seen) → AreSeenInTime header e M → AreExcludedInTime header e M
+seen_in_time header e M (tied, each) t x s n m st has new wrote at_naming at_store held has_it =
+    is_in_time header e M (seen_right (first_values header) M tied) (ties_of (first_values header) M.lines (seen_tied (first_values header) M tied)) x (each x has) t new wrote s n m st at_naming at_store held has_it
+
+pub seen_runs_in_time : SeenRunsExcludeInTime
+seen_runs_in_time hd es h = record { sent = h.sent; stands = h.stands; holds = seen_in_time hd _ _ h.holds }

@@ -1,0 +1,103 @@
+-- Excluded in time, by a journal and what is seen of the nodes: at the end of the event in which a top is decided, each store that the
+-- naming node has for an object that it wrote holds its last state, or has it prepared, or is about to be taken out.
+use Rattle.std.specs.Prelude.{⊤, ◌≡◌, ◌⊎◌, ◌≤◌, ◌<◌, ℕ, Bool, true, false, ◌&&◌, not, nat_lt, if◌then◌else◌, List, [], ◌∷◌, ◌++◌, None, Some, Contains, is_some}
+use Rattle.std.specs.List.{AllByRecursion, list_any}
+use Rattle.arj_base.specs.declared.state.ObjectState.{ObjectState}
+use Rattle.arj_base.specs.declared.uid.Uid.{Uid}
+use Rattle.arj_base.specs.Uid.{entry, object}
+use Rattle.arj_journal.specs.declared.body.Body.{Body}
+use Rattle.arj_journal.specs.declared.body.Body.TheVariants as body
+use Rattle.arj_journal.specs.declared.body.Line.{Line}
+use Rattle.arj_journal.specs.declared.header.Header.{Header}
+use Rattle.arj_model.specs.Actions.{acts, committed, id_in, recovered}
+use Rattle.arj_model.specs.Calls.{Top, tops}
+use Rattle.arj_model.specs.Last.{first_values, is_among, last_state, object_line, uid_of_id}
+use Rattle.arj_protocol.specs.Effect.{held_at}
+use Rattle.arj_protocol.specs.Order.{at_uid, uid_number}
+use Rattle.arj_protocol.specs.Step.{Node}
+use Rattle.arj_protocol.specs.Values.{state_entry}
+use Rattle.arj_protocol.specs.World.{Asked, format, run_all}
+use Rattle.arj_disk_law.specs.State as disk
+use Rattle.arj_disk_law.specs.State.{Done, Hold, State}
+use Rattle.arj_disk_law.specs.Words.{In}
+use Rattle.arj_disk_view_law.specs.Pairs.{IsOf}
+use Rattle.arj_view_law.specs.Keeps.{Holds}
+use Rattle.arj_view_law.specs.Seen.{Seen}
+use Rattle.arj_serial_law.specs.Cleaned.{AreDecidedOrLate}
+use Rattle.arj_serial_law.specs.Decided.{Joined, Wrote}
+use Rattle.arj_serial_law.specs.Runs.{AreSeenTied, IsSeenDecided}
+use Rattle.arj_joint_law.specs.Forms.{AreSo, kind_of}
+use Rattle.arj_joint_law.specs.Outcome.{is_said}
+
+-- the lines of events before this one
+abbrev pub lines_before : ℕ → List Line → List Line
+lines_before e [] = []
+lines_before e (line ∷ lines) = if nat_lt line.event e then line ∷ lines_before e lines else []
+
+-- the Uid of a top
+abbrev pub uid_of : List Line → Top → Uid
+uid_of lines t = uid_of_id (acts lines) t.id
+
+-- The top is committed, and isn't by the lines before this event: its first `committed` or `recovered` line is in it.
+abbrev pub IsNew : ℕ → List Line → Top → Type 0
+IsNew e lines t = Contains (tops lines) t × (is_said (lines_before e lines) (uid_of lines t) ≡ false)
+
+-- the store holds the object's last state
+abbrev pub HoldsLast : Header → List Line → ℕ → Node → Type 0
+HoldsLast header lines x n = held_at (object x) (let d = n.disk in d.store) ≡ Some (last_state header lines x)
+
+-- or it has that prepared for the top
+abbrev pub HasLastPrepared : Header → List Line → ℕ → Node → Top → Type 0
+HasLastPrepared header lines x n t = (states : List ObjectState) × (at_uid (uid_of lines t) (let d = n.disk in let p = d.store in p.pend) ≡ Some states) × IsOf (object x) states (last_state header lines x)
+
+-- Or the naming node has prepared an entry of the object without it, for the top or for another committed constituent of its serializing
+-- action.
+pub record IsTakenOut (lines : List Line) (x : ℕ) (n : Node) (t : Top) (s : ℕ) : Type 0 where
+  pub by_top : Top
+  pub committed : Contains (tops lines) by_top
+  pub unit : by_top.root ≡ t.root
+  pub states : List ObjectState
+  pub prepared : at_uid (uid_of lines by_top) (let d = n.disk in let p = d.names in p.pend) ≡ Some states
+  pub new : ObjectState
+  pub there : IsOf (entry x) states new
+  pub lacks : is_among (let e = state_entry new in e.stores) s ≡ false
+
+-- one of the three
+abbrev pub IsInTime : Header → List Line → ℕ → Node → Node → Top → ℕ → Type 0
+IsInTime header lines x naming store t s = HoldsLast header lines x store ⊎ HasLastPrepared header lines x store t ⊎ IsTakenOut lines x naming t s
+
+-- Excluded in time: so it is at the end of this event, the last one that was run, of each top that is new in it, of each object of the header
+-- that it wrote, and of each store that the naming node's entry has.
+abbrev pub AreExcludedInTime : Header → ℕ → Seen → Type 0
+AreExcludedInTime header e M = (t : Top) (x s : ℕ) (naming store : Node) (st : ObjectState) → is_some (object_line header x) ≡ true → IsNew e M.lines t → Wrote M.lines x t
+    → M.nodes 1 ≡ Some naming → M.nodes s ≡ Some store → held_at (entry x) (let d = naming.disk in d.names) ≡ Some st → is_among (let n = state_entry st in n.stores) s ≡ true
+    → IsInTime header M.lines x naming store t s
+
+-- ---- what gives it
+
+-- Of a decided action of a root, an entry of which is prepared: where the journal has a committed top of that root, it is one too.
+abbrev pub TakersAreCommitted : List Line → State → Type 0
+TakersAreCommitted lines S = (t : Top) (h : Hold) → Contains (tops lines) t → S.entry_pend ≡ Some h → disk.decided S h.top ≡ true → S.root h.top ≡ S.root (uid_number (uid_of lines t))
+    → (b : Top) × Contains (tops lines) b × (uid_number (uid_of lines b) ≡ h.top) × (b.root ≡ t.root)
+
+-- A top that is new in the event and wrote the object is the newest that counts: none of the decided tops that have no line yet does, and of
+-- the others the commit of none was called behind its own.
+pub record IsNewest (header : Header) (e : ℕ) (lines : List Line) (x : ℕ) (S : State) (d : AreDecidedOrLate header lines x S) (t : Top) : Type 0 where
+  pub late : (z : Done) → In z d.late → z.counts ≡ false
+  pub last : (u : Top) → Contains (let o = d.decided in o.those) u → u.at ≤ t.at
+
+-- For an object: its disk machine is seen, with its decided tops tied to the journal; what stands of it is of its class; whose entry is
+-- prepared is committed; and of tops that wrote it the one that is new is the newest.
+pub record IsSeenInTime (header : Header) (e x : ℕ) (M : Seen) : Type 0 where
+  pub seen : IsSeenDecided header x M
+  pub forms : AreSo (kind_of header x) M
+  pub takers : TakersAreCommitted M.lines (let s = seen in let W = s.world in W.disk)
+  pub newest : (t : Top) → IsNew e M.lines t → Wrote M.lines x t → IsNewest header e M.lines x (let s = seen in let W = s.world in W.disk) (let s = seen in s.decided) t
+
+-- so it is of each object of the header, and of each of which a call was answered the lock machine is seen tied to the journal
+abbrev pub AreSeenInTime : Header → ℕ → Seen → Type 0
+AreSeenInTime header e M = AreSeenTied (first_values header) M × ((x : ℕ) → is_some (object_line header x) ≡ true → IsSeenInTime header e x M)
+
+-- a run at whose end so much is seen excludes stores in time
+abbrev pub SeenRunsExcludeInTime : Type 0
+SeenRunsExcludeInTime = (hd : Header) (es : List Asked) → let w = run_all es (format hd) in Holds hd (AreSeenInTime hd w.event) w → Holds hd (AreExcludedInTime hd w.event) w

@@ -1,0 +1,31 @@
+// One outcome of each top, and that stores are excluded in time, by a journal.
+ghost use Rattle.std.specs.Prelude.{◌≡◌, false};
+ghost use Rattle.arj_joint_law.specs.Excluded.{SeenRunsExcludeInTime};
+ghost use Rattle.arj_joint_law.specs.Outcome.{CommitsAreBehind, ShowsOneOutcome, aborts_have_cause, commits_are_behind};
+ghost use Rattle.arj_joint_law.specs.Samples.{found_commit, halted_abort, right_end, wrong_abort, wrong_commit};
+
+/// In each run, with all frames in any order, again or never, all stops, crashes and restarts, each line that a commit was done, by a
+/// store or by naming, stands behind the `committed` line of its action, or behind the line that a restart found its record. It does
+/// nothing when it runs.
+pub fn commits_are_done_behind_decisions()
+    ensures runs { CommitsAreBehind }
+{}
+
+/// The definition of one outcome, tried on small journals: which it accepts, and which it refuses. It does nothing when it runs.
+pub fn one_outcome_tells_journals_apart()
+    ensures right { ShowsOneOutcome right_end }
+    ensures halted { ShowsOneOutcome halted_abort }
+    ensures found { ShowsOneOutcome found_commit }
+    ensures no_cause { aborts_have_cause wrong_abort ≡ false }
+    ensures early { commits_are_behind wrong_commit ≡ false }
+{}
+
+/// Take a run at whose end each object's disk machine is seen with its decided tops tied to the journal, what stands of objects is of their
+/// classes, and each top that is new in the last event is the newest of those that changed what it wrote. Then stores are excluded in
+/// time: of each top that the last event decided, by its `committed` line or the line that its record was found, each store that the naming
+/// node's entry has for an object that it wrote holds the object's last state by the journal, or has it prepared for that top, or the naming
+/// node has prepared an entry without it, for that top or for another committed constituent of its serializing action. It does nothing when
+/// it runs.
+pub fn seen_runs_exclude_in_time()
+    ensures runs { SeenRunsExcludeInTime }
+{}
