@@ -1,5 +1,5 @@
 -- What is committed anywhere was decided before, by a journal whose lines are right.
-use Rattle.std.proofs.Common.{◌≡◌, ℕ, ◌&&◌, ◌||◌, List, [], ◌∷◌, ◌++◌, Bool, true, false, refl, sym, ◌∙◌, ap, subst, append-nil, Contains, inl, inr}
+use Rattle.std.proofs.Common.{◌≡◌, ◌&&◌, ◌||◌, List, [], ◌∷◌, ◌++◌, Bool, true, false, refl, sym, ◌∙◌, ap, inl, inr}
 use Rattle.std.proofs.lemmas.List.{append_assoc}
 use Rattle.std.specs.List.{list_any}
 use Rattle.arj_base.proofs.Uids.{uid_same}
@@ -10,10 +10,9 @@ use Rattle.arj_base.specs.declared.uid.Uid.{Uid}
 use Rattle.arj_journal.specs.declared.body.Body.{Body}
 use Rattle.arj_journal.specs.declared.body.Body.TheVariants as body
 use Rattle.arj_journal.specs.declared.body.Line.{Line}
-use Rattle.arj_journal.specs.declared.body.Role.{Role}
 use Rattle.arj_lock.proofs.Members.{In, in_from}
 use Rattle.arj_model.specs.Actions.{Act, acts, committed, is_committed, recovered}
-use Rattle.arj_line_law.specs.Laws.{CommitsAreCaused, IsCaused, IsCommittedIn, IsSound}
+use Rattle.arj_line_law.specs.Laws.{IsCaused, IsCommittedIn, IsSound}
 use Rattle.arj_line_law.proofs.Tops.{is_sound}
 use Rattle.arj_line_law.proofs.Runs.{run_written}
 use Rattle.arj_protocol.specs.World.{journal}

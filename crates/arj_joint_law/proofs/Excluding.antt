@@ -9,9 +9,9 @@ use Rattle.arj_journal.specs.declared.body.Line.{Line}
 use Rattle.arj_journal.specs.declared.header.Header.{Header}
 use Rattle.arj_lock.proofs.Members as members
 use Rattle.arj_lock.proofs.Members.{in_from, in_to}
-use Rattle.arj_model.specs.Calls.{Call, Top, tops}
-use Rattle.arj_model.specs.Last.{first_values, is_among, last_state, object_line}
-use Rattle.arj_model.specs.Serial.{Values, root_of, serial_calls, top_place, writes_on}
+use Rattle.arj_model.specs.Calls.{Top, tops}
+use Rattle.arj_model.specs.Last.{first_values, is_among, last_state}
+use Rattle.arj_model.specs.Serial.{Values, root_of, serial_calls, top_place}
 use Rattle.arj_line_law.specs.Book.{new_book}
 use Rattle.arj_line_law.specs.Laws.{AreApart}
 use Rattle.arj_line_law.specs.Right.{AreRight}
@@ -27,7 +27,7 @@ use Rattle.arj_disk_law.specs.Core.{Core}
 use Rattle.arj_disk_law.specs.Effects.{World}
 use Rattle.arj_disk_law.specs.Laws.{IsExcludedInTime}
 use Rattle.arj_disk_law.specs.Order.{counts_of}
-use Rattle.arj_disk_law.specs.State.{Done, Hold, IsExcused, Packed, Plan, State, is_latest, is_latest_in, last, last_in}
+use Rattle.arj_disk_law.specs.State.{Done, Hold, IsExcused, Packed, Plan, is_latest, is_latest_in, last, last_in}
 use Rattle.arj_disk_law.specs.Words.{In, has}
 use Rattle.arj_disk_law.proofs.Results.{in_time}
 use Rattle.arj_view_law.specs.Seen.{Seen}
@@ -37,7 +37,7 @@ use Rattle.arj_disk_view_law.specs.Stores.{SeesStore}
 use Rattle.arj_serial_law.specs.Cleaned.{AreDecidedOrLate}
 use Rattle.arj_serial_law.specs.Decided.{AreDecisions, AreNewestFirst, IsDecision, WroteSo, Wrote}
 use Rattle.arj_serial_law.specs.Runs.{IsSeenDecided}
-use Rattle.arj_serial_law.proofs.Cleaning.{has_among, held_some, in_behind, one_state, run_class, state_same}
+use Rattle.arj_serial_law.proofs.Cleaning.{has_among, held_some, one_state, run_class, state_same}
 use Rattle.arj_serial_law.proofs.Order.{listed, place_of_top, root_of_top}
 use Rattle.arj_serial_law.proofs.Running.{seen_right, seen_tied}
 use Rattle.arj_serial_law.proofs.Ties.{Ties, ties_of}

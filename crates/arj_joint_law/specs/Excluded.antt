@@ -1,15 +1,13 @@
 -- Excluded in time, by a journal and what is seen of the nodes: at the end of the event in which a top is decided, each store that the
 -- naming node has for an object that it wrote holds its last state, or has it prepared, or is about to be taken out.
-use Rattle.std.specs.Prelude.{⊤, ◌≡◌, ◌⊎◌, ◌≤◌, ◌<◌, ℕ, Bool, true, false, ◌&&◌, not, nat_lt, if◌then◌else◌, List, [], ◌∷◌, ◌++◌, None, Some, Contains, is_some}
-use Rattle.std.specs.List.{AllByRecursion, list_any}
+use Rattle.std.specs.Prelude.{◌≡◌, ◌⊎◌, ◌≤◌, ℕ, true, false, nat_lt, if◌then◌else◌, List, [], ◌∷◌, Some, Contains, is_some}
 use Rattle.arj_base.specs.declared.state.ObjectState.{ObjectState}
 use Rattle.arj_base.specs.declared.uid.Uid.{Uid}
 use Rattle.arj_base.specs.Uid.{entry, object}
-use Rattle.arj_journal.specs.declared.body.Body.{Body}
 use Rattle.arj_journal.specs.declared.body.Body.TheVariants as body
 use Rattle.arj_journal.specs.declared.body.Line.{Line}
 use Rattle.arj_journal.specs.declared.header.Header.{Header}
-use Rattle.arj_model.specs.Actions.{acts, committed, id_in, recovered}
+use Rattle.arj_model.specs.Actions.{acts, committed}
 use Rattle.arj_model.specs.Calls.{Top, tops}
 use Rattle.arj_model.specs.Last.{first_values, is_among, last_state, object_line, uid_of_id}
 use Rattle.arj_protocol.specs.Effect.{held_at}
@@ -24,7 +22,7 @@ use Rattle.arj_disk_view_law.specs.Pairs.{IsOf}
 use Rattle.arj_view_law.specs.Keeps.{Holds}
 use Rattle.arj_view_law.specs.Seen.{Seen}
 use Rattle.arj_serial_law.specs.Cleaned.{AreDecidedOrLate}
-use Rattle.arj_serial_law.specs.Decided.{Joined, Wrote}
+use Rattle.arj_serial_law.specs.Decided.{Wrote}
 use Rattle.arj_serial_law.specs.Runs.{AreSeenTied, IsSeenDecided}
 use Rattle.arj_joint_law.specs.Forms.{AreSo, kind_of}
 use Rattle.arj_joint_law.specs.Outcome.{is_said}

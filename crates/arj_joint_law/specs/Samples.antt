@@ -1,5 +1,5 @@
 -- Two small journals: one that shows one outcome, and one that is wrong in one place.
-use Rattle.std.specs.Prelude.{refl, ℕ, List, [], ◌∷◌, ◌++◌, replicate, map, codes, None}
+use Rattle.std.specs.Prelude.{refl, ℕ, List, [], ◌∷◌, ◌++◌, replicate, codes, None}
 use Rattle.std.proofs.Common.{arith}
 use Rattle.arj_base.specs.declared.mode.End.{End}
 use Rattle.arj_base.specs.declared.mode.End.TheVariants as ending
