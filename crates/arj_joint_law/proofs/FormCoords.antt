@@ -21,7 +21,7 @@ use Rattle.arj_protocol.specs.Ask.{Reply, actor, top_of}
 use Rattle.arj_protocol.specs.Asking.{again_all, again_now, asks_all, asks_machine, asks_node, asks_step, begin_action, call, call_steps, commit_action, commit_open, commit_top, commits_in, doomed_by, end_line, gaveup_lines, give_up, give_up_doing, gives_up, goes_on, granted_by, heard, heard_by, heard_call, heard_doing, heard_none, heard_now, include, is_ended, is_invoke_ask, keeps_after, kept_at, last_req, mark_lines, moved_commit, next_req, notes_grant, renewed, root_heard, root_lost, root_moved, step_call, step_commit, store_of, waits_for_call, waits_for_commit, known_at_start}
 use Rattle.arj_protocol.specs.Call.{Answered, At, AtActivate, AtBind, AtInvoke, AtLoad, AtNote, CallEnd, CallStep, Changed, Conflict, Ended, Goal, Included, Known, Lost, Moved, On, Steps, activated_by, answered, ask_at, bound_answer, bound_by, finds, given_up, has_changed, invoked_answer, live_known, load_from, loaded_answer, made_by, made_known, moves, named_again, next_ask, next_node, or_lost, other_binding, recorded_answer, same_binding, spoils, start, start_at, two_bindings, two_incs, with_inc, write_known}
 use Rattle.arj_protocol.specs.Call as calls
-use Rattle.arj_protocol.specs.Commit.{Aborts, Asks, CommitStep, Confirming, Decides, Machine, Plan, Preparing, Stays, Used, Voting, ask_of, begin_confirm, begin_prepare, begin_vote, changed_of, has_record, left_of, marks_store, marks_stores, nodes_given_up, participants, plan_of, servers_of, state_by, state_for, states_for, stores_left, targets_of, votes_left, with_state, with_states}
+use Rattle.arj_protocol.specs.Commit.{Aborts, Asks, CommitStep, Confirming, Decides, Machine, Plan, Preparing, Stays, Used, Voting, ask_of, begin_confirm, begin_prepare, begin_vote, changed_of, further, has_record, left_of, marks_store, marks_stores, nodes_given_up, participants, plan_of, servers_of, state_by, state_for, states_for, stores_left, targets_of, votes_left, with_state, with_states}
 use Rattle.arj_protocol.specs.Commit as commit
 use Rattle.arj_protocol.specs.Coord.{Calling, Committing, Coord, Doing, Grant, Idle, Joined, Keeping, Now, Root, Said, Went, change_doing, doing_of, is_free, joined_with, joins_on, keeping_of, later_state, latest_of, loaded_for, new_coord, no_root, nodes_sent, objects_in, on_doing, on_root, or_kept_state, plan_for, root_at, same_join, same_said, same_went, servers_told, set_doing, used_of, with_keeping, with_said, with_went}
 use Rattle.arj_protocol.specs.Effect.{Did, Do, Effect, Intent, PutIntent, Served}
