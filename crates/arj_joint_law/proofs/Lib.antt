@@ -10,3 +10,4 @@ pub mod Ordering
 pub mod Turns
 pub mod Behind
 pub mod Excluding
+pub mod InTime

@@ -1,15 +1,24 @@
--- Two small journals: one that shows one outcome, and one that is wrong in one place.
+-- Small journals, right ones and ones that are wrong in one place; and what nodes have at the end of one.
 use Rattle.std.specs.Prelude.{refl, ℕ, List, [], ◌∷◌, ◌++◌, replicate, codes, None}
 use Rattle.std.proofs.Common.{arith}
 use Rattle.arj_base.specs.declared.mode.End.{End}
 use Rattle.arj_base.specs.declared.mode.End.TheVariants as ending
 use Rattle.arj_base.specs.declared.uid.Uid.{Uid}
+use Rattle.arj_base.specs.Uid.{entry, nobody, object}
+use Rattle.arj_base.specs.declared.state.Class.TheVariants as class
+use Rattle.arj_base.specs.declared.state.ObjectState.{ObjectState}
 use Rattle.arj_class.specs.declared.op.Op.TheVariants.{Add}
+use Rattle.arj_class.specs.declared.value.Value.TheVariants.{Counter}
 use Rattle.arj_journal.specs.declared.body.Body.{Body}
 use Rattle.arj_journal.specs.declared.body.Body.TheVariants as body
 use Rattle.arj_journal.specs.declared.body.Kind.TheVariants as kind
 use Rattle.arj_journal.specs.declared.body.Line.{Line}
 use Rattle.arj_journal.specs.declared.body.Role.TheVariants as role
+use Rattle.arj_journal.specs.declared.header.Header.{Header}
+use Rattle.arj_model.specs.Calls.{Top}
+use Rattle.arj_model.specs.Last.{entry_payload}
+use Rattle.arj_protocol.specs.Effect.{Pair}
+use Rattle.arj_protocol.specs.Step.{Node}
 use Rattle.arj_text.specs.declared.label.Label.{Label}
 use Rattle.arj_protocol.specs.World.{numbered}
 
@@ -49,3 +58,48 @@ wrong_commit = before_commit ++ numbered 5 (done_at 2 ending.Commit ∷ body.Com
 
 abbrev pub found_commit : List Line
 found_commit = before_commit ++ numbered 5 (body.Halted 1 ∷ body.Up 1 2 ∷ body.Recovered 1 its_uid ∷ done_at 2 ending.Commit ∷ [])
+
+-- ---- nodes, at the end of a journal
+
+-- Store 3 was excluded when the top committed; store 2 has its state prepared, and the naming node the entry without store 3.
+abbrev pub decided_lines : List Line
+decided_lines = before_commit ++ numbered 5 (body.Excluded label 1 3 ∷ body.Committed label ∷ [])
+
+abbrev pub header : Header
+header = record { nodes = 3; objects = record { x = 1; value = Counter 0; servers = 1 ∷ []; stores = 2 ∷ 3 ∷ [] } ∷ [] }
+
+-- the top, by its number and the place where its commit is called
+abbrev pub its_top : Top
+its_top = record { id = 0; root = 0; at = 2 }
+
+abbrev pub counter_state : ℕ → Uid → ℕ → ObjectState
+counter_state version writer value = record { uid = object 1; class = class.Counter; version = version; writer = writer; payload = replicate 7 0 ++ value ∷ [] }
+
+abbrev pub entry_with : ℕ → Uid → List ℕ → ObjectState
+entry_with version writer stores = record { uid = entry 1; class = class.Entry; version = version; writer = writer; payload = entry_payload (1 ∷ []) stores }
+
+-- a pair that holds a state and has another one prepared for the top, or nothing
+abbrev pub pair_with : Uid → ObjectState → List (Uid × List ObjectState) → Pair
+pair_with u held pend = record { held = (u, held) ∷ []; pend = pend }
+
+abbrev pub empty : Pair
+empty = record { held = []; pend = [] }
+
+abbrev pub node_with : ℕ → Pair → Pair → Node
+node_with n store names = record { number = n; disk = record { inc = 1; store = store; names = names; intents = [] }; live = None }
+
+abbrev pub first_counter : ObjectState
+first_counter = counter_state 0 nobody 0
+
+abbrev pub store_two : Node
+store_two = node_with 2 (pair_with (object 1) first_counter ((its_uid, counter_state 1 its_uid 5 ∷ []) ∷ [])) empty
+
+abbrev pub store_three : Node
+store_three = node_with 3 (pair_with (object 1) first_counter []) empty
+
+-- the naming node, with that entry prepared, and without
+abbrev pub naming_node : Node
+naming_node = node_with 1 empty (pair_with (entry 1) (entry_with 0 nobody (2 ∷ 3 ∷ [])) ((its_uid, entry_with 1 its_uid (2 ∷ []) ∷ []) ∷ []))
+
+abbrev pub naming_late : Node
+naming_late = node_with 1 empty (pair_with (entry 1) (entry_with 0 nobody (2 ∷ 3 ∷ [])) [])

@@ -15,7 +15,8 @@ mod writers;
 
 pub use forms::runs_have_form;
 pub use outcomes::{
-    commits_are_done_behind_decisions, one_outcome_tells_journals_apart, seen_runs_exclude_in_time,
+    commits_are_done_behind_decisions, exclusion_in_time_tells_disks_apart,
+    one_outcome_tells_journals_apart, seen_runs_exclude_in_time,
 };
 pub use runs::{decisions_come_behind_calls, runs_begin_as_the_header_says};
 pub use writers::writers_are_called_as_they_are_decided;

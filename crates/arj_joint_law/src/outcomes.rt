@@ -1,8 +1,8 @@
 // One outcome of each top, and that stores are excluded in time, by a journal.
 ghost use Rattle.std.specs.Prelude.{◌≡◌, false};
-ghost use Rattle.arj_joint_law.specs.Excluded.{SeenRunsExcludeInTime};
+ghost use Rattle.arj_joint_law.specs.Excluded.{IsInTime, IsNew, SeenRunsExcludeInTime};
 ghost use Rattle.arj_joint_law.specs.Outcome.{CommitsAreBehind, ShowsOneOutcome, aborts_have_cause, commits_are_behind};
-ghost use Rattle.arj_joint_law.specs.Samples.{found_commit, halted_abort, right_end, wrong_abort, wrong_commit};
+ghost use Rattle.arj_joint_law.specs.Samples.{decided_lines, found_commit, halted_abort, header, its_top, naming_late, naming_node, right_end, store_three, store_two, wrong_abort, wrong_commit};
 
 /// In each run, with all frames in any order, again or never, all stops, crashes and restarts, each line that a commit was done, by a
 /// store or by naming, stands behind the `committed` line of its action, or behind the line that a restart found its record. It does
@@ -18,6 +18,17 @@ pub fn one_outcome_tells_journals_apart()
     ensures found { ShowsOneOutcome found_commit }
     ensures no_cause { aborts_have_cause wrong_abort ≡ false }
     ensures early { commits_are_behind wrong_commit ≡ false }
+{}
+
+/// The definition of stores that are excluded in time, tried on what nodes have at the end of a small journal: a store that has the state
+/// prepared and one that is about to be taken out are in time; where the entry without that one isn't prepared, it isn't. The top is new in
+/// the event with its `committed` line, and not later. It does nothing when it runs.
+pub fn exclusion_in_time_tells_disks_apart()
+    ensures prepared { IsInTime header decided_lines 1 naming_node store_two its_top 2 }
+    ensures taken_out { IsInTime header decided_lines 1 naming_node store_three its_top 3 }
+    ensures late { IsInTime header decided_lines 1 naming_late store_three its_top 3 → ⊥ }
+    ensures new { IsNew 5 decided_lines its_top }
+    ensures old { IsNew 6 decided_lines its_top → ⊥ }
 {}
 
 /// Take a run at whose end each object's disk machine is seen with its decided tops tied to the journal, what stands of objects is of their

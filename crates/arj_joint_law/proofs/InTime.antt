@@ -1,0 +1,32 @@
+-- Which stores of a small journal are in time.
+use Rattle.std.proofs.Common.{◌≡◌, ℕ, true, false, None, Some, refl, inl, inr, ap, arith, List, [], ◌∷◌, unwrap_or}
+use Rattle.std.specs.Option.{option_map}
+use Rattle.arj_base.specs.declared.state.ObjectState.{ObjectState}
+use Rattle.arj_joint_law.specs.Excluded.{IsInTime, IsNew}
+use Rattle.arj_joint_law.specs.Samples.{counter_state, decided_lines, entry_with, header, its_top, its_uid, naming_late, naming_node, store_three, store_two}
+
+pub two_in_time : IsInTime header decided_lines 1 naming_node store_two its_top 2
+two_in_time = inr (inl (counter_state 1 its_uid 5 ∷ [], refl, (inl refl, refl)))
+
+pub three_in_time : IsInTime header decided_lines 1 naming_node store_three its_top 3
+three_in_time = inr (inr (record {
+  by_top = its_top;
+  committed = (0, omega arith, refl);
+  unit = refl;
+  states = entry_with 1 its_uid (2 ∷ []) ∷ [];
+  prepared = refl;
+  new = entry_with 1 its_uid (2 ∷ []);
+  there = (inl refl, refl);
+  lacks = refl;
+}))
+
+pub three_late : IsInTime header decided_lines 1 naming_late store_three its_top 3 → ⊥
+three_late (inl h) = let e : 0 ≡ 1 = ap (λ o. unwrap_or (option_map (λ (s : ObjectState). s.version) o) 0) h in omega (arith, e)
+three_late (inr (inl h)) = cc h.1
+three_late (inr (inr h)) = cc h.prepared
+
+pub is_new : IsNew 5 decided_lines its_top
+is_new = ((0, omega arith, refl), refl)
+
+pub is_old : IsNew 6 decided_lines its_top → ⊥
+is_old h = cc h.1

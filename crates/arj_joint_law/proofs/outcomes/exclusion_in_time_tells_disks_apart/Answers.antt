@@ -1,0 +1,17 @@
+use Rattle.arj_joint_law.proofs.InTime.{is_new, is_old, three_in_time, three_late, two_in_time}
+use Rattle.arj_joint_law.proofs.outcomes.exclusion_in_time_tells_disks_apart.Goals as goal
+
+pub returns-clause-prepared : goal.returns-clause-prepared
+returns-clause-prepared c = two_in_time
+
+pub returns-clause-taken_out : goal.returns-clause-taken_out
+returns-clause-taken_out c = three_in_time
+
+pub returns-clause-late : goal.returns-clause-late
+returns-clause-late c = three_late
+
+pub returns-clause-new : goal.returns-clause-new
+returns-clause-new c = is_new
+
+pub returns-clause-old : goal.returns-clause-old
+returns-clause-old c = is_old
