@@ -1,5 +1,5 @@
 -- Which stores of a small journal are in time.
-use Rattle.std.proofs.Common.{◌≡◌, ℕ, true, false, None, Some, refl, inl, inr, ap, arith, List, [], ◌∷◌, unwrap_or}
+use Rattle.std.proofs.Common.{◌≡◌, refl, inl, inr, ap, arith, [], ◌∷◌, unwrap_or}
 use Rattle.std.specs.Option.{option_map}
 use Rattle.arj_base.specs.declared.state.ObjectState.{ObjectState}
 use Rattle.arj_joint_law.specs.Excluded.{IsInTime, IsNew}
