@@ -34,7 +34,7 @@ use Rattle.arj_lock_view_law.specs.Namings.{HasNothingAt, IsAsking, ShowsEndAt}
 use Rattle.arj_lock_view_law.specs.Telling.{AreOneTree, IsCommittedSo, IsOfFamily, ShowsEnd, View, is_plain}
 use Rattle.arj_lock_view_law.proofs.PlaceSteps.{Stood, alone, constituent, nested, stood}
 use Rattle.arj_lock_view_law.proofs.SentSteps.{sent_are_shown}
-use Rattle.arj_lock_view_law.proofs.ShownSteps.{ended_are_shown, over_are_shown, unvoted_are_shown}
+use Rattle.arj_lock_view_law.proofs.ShownSteps.{ended_are_shown, is_four, over_are_shown, unvoted_are_shown}
 use Rattle.arj_lock_fact_law.specs.Parted.{names_object}
 use Rattle.arj_lock_fact_law.proofs.Confirms.{grants_in, own_top}
 use Rattle.arj_lock_run_law.specs.Beside.{Case, IsConfirmedNow, IsSeenIn, IsToldAbort, IsToldCommit, IsUnitOver, KnowsNaming, KnowsSpot, Spot, place_in, server_at, told_in, view_in, world_at}
@@ -92,7 +92,7 @@ module _ (c : Case) (s : Spot) (from : ℕ) (m : Message) (is_seen : IsSeenIn c 
   shows_end u ending.Commit told so fresh = ended_are_shown v u ending.Commit S so
   shows_end u ending.Abort told (inl gone) fresh = ended_are_shown v u ending.Abort S gone
   shows_end u ending.Abort told (inr so) fresh = ⊎_elim
-      (λ over. over_are_shown v u srv S reached whole its_family up_here.server over (let k = knows.server in k.left u (told refl) fresh over))
+      (λ over. ⊎_elim (λ gone. ended_are_shown v u ending.Abort S gone) (λ never. over_are_shown v u srv S reached whole its_family up_here.server over (let k = knows.server in k.left u (told refl) fresh over never)) (is_four (let a = S.action (place_in c u) in a.stage)))
       (λ open_unit. ⊎_elim (λ over. absurd (open_unit over)) (λ top. unvoted_are_shown v u srv S up_here.server fresh (let k = knows.server in k.unvoted u (told refl) fresh top open_unit) top.0 top.1) so)
       (over_or u)
 

@@ -69,6 +69,10 @@ place_in c u = let f = c.fixed in f.act u
 abbrev pub IsUnitOver : Case → Uid → Type 0
 IsUnitOver c u = (let S = c.state in let a = S.action (Root (root (place_in c u))) in a.stage) ≡ 3
 
+-- it is aborted
+abbrev pub IsAborted : Case → Uid → Type 0
+IsAborted c u = (let S = c.state in let a = S.action (place_in c u) in a.stage) ≡ 4
+
 -- it is a committed top
 abbrev pub IsCommittedTop : Case → Uid → Type 0
 IsCommittedTop c u = (is_top (place_in c u) ≡ true) × ((let S = c.state in let a = S.action (place_in c u) in a.stage) ≡ 3)
@@ -99,11 +103,12 @@ pub record IsToldCommit (s : Spot) (u : Uid) : Type 0 where
 abbrev pub server_at : Spot → Server
 server_at s = let t = s.parts in t.server
 
--- A server lists each copy under its object. Where an abort comes to it of an action whose unit is over, and that is new to it, nothing of
--- that is left there that counts; and where one comes of a committed top whose unit isn't over, it didn't vote for that.
+-- A server lists each copy under its object. Where an abort comes to it of an action that isn't aborted, whose unit is over, and that is new
+-- to it, nothing is left there of a committed top with a surviving write, but what is below an aborted action; and where one comes of a
+-- committed top whose unit isn't over, it didn't vote for that.
 pub record KnowsServer (c : Case) (s : Spot) : Type 0 where
   pub listed : (y : ℕ) (o : Copy) → Contains {X = ℕ × Copy} (let v = server_at s in v.objects) (y, o) → at_number y (let v = server_at s in v.objects) ≡ Some o
-  pub left : (u : Uid) → IsToldAbort s u → is_told u (server_at s) ≡ false → IsUnitOver c u → HasNoneLeft (view_in c s.node) u (server_at s) c.state
+  pub left : (u : Uid) → IsToldAbort s u → is_told u (server_at s) ≡ false → IsUnitOver c u → (IsAborted c u → ⊥) → HasNoneLeft (view_in c s.node) u (server_at s) c.state
   pub unvoted : (u : Uid) → IsToldAbort s u → is_told u (server_at s) ≡ false → IsCommittedTop c u → (IsUnitOver c u → ⊥) → is_on (let v = server_at s in v.voted) u ≡ false
 
 -- ---- what is known of naming

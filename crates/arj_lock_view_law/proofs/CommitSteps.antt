@@ -82,7 +82,7 @@ module _ (act : Acts) (code : Codes) (paths : Paths) (n x : ℕ) (u : Uid) (c : 
     settles = record {
       state = next (PassTop n unit number) S;
       run = step (PassTop n unit number) (ap (λ (a : Act). (S.action a).stage) (sym below) ∙ committed, subst (IsFolded S v.log) below (folded_here act paths x u c ends code S v.log sees.overs)) stay;
-      holds = (at_here S.server n settled_server, ends_only n S settled_server (record { incarnation = refl; voted = refl; request = refl }) (left_kept (keeps (Sub (Root unit) number)) v.log));
+      holds = (at_here S.server n settled_server, ends_only n S settled_server (record { incarnation = refl; voted = refl; request = refl }) (left_kept S (keeps (Sub (Root unit) number)) v.log));
     }
 
     left : SeesOvers act code (filter (λ (o : Over). not (is_of u o)) c.stack) settled_server.log
@@ -296,7 +296,7 @@ module _ (act : Acts) (code : Codes) (paths : Paths) (n x : ℕ) (u : Uid) (c : 
       run = step (PassRow n (act h) j) (action, ap (λ (b : Act). (S.action b).stage) (sym under.below) ∙ under.committed) stay;
       holds = (
         subst (SeesCopy act code x (end_copy u ending.Commit c)) (sym (at_here S.server n passed_server)) copy_after,
-        ends_only n S passed_server (record { incarnation = refl; voted = refl; request = refl }) (left_handed (act h) j v.log),
+        ends_only n S passed_server (record { incarnation = refl; voted = refl; request = refl }) (left_handed S (act h) j (ap (λ (b : Act). (S.action b).stage) (sym under.below) ∙ under.committed) v.log),
       );
     }
 

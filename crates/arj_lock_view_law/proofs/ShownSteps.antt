@@ -1,43 +1,69 @@
 -- Which ends are shown to a server.
-use Rattle.std.proofs.Common.{◌≡◌, ◌∙◌, Bool, true, false, cond, Option, Some, None, refl, sym, ap, subst, inl, inr, arith}
+use Rattle.std.proofs.Common.{◌≡◌, ◌⊎◌, ◌∙◌, ℕ, Bool, true, false, cond, Option, Some, None, refl, sym, ap, subst, inl, inr, ⊎_elim, arith}
 use Rattle.arj_lock.proofs.Members.{in_to}
 use Rattle.arj_protocol.specs.Words.{Uid, is_on, last_uid}
 use Rattle.arj_protocol.specs.Words.ending
 use Rattle.arj_protocol.specs.Copy.{Copy}
 use Rattle.arj_protocol.specs.Order.{at_number}
 use Rattle.arj_protocol.specs.Server.{Server}
-use Rattle.arj_lock_law.specs.Actions.{Act, In, Root, at_act, is_action, on, root, same, top}
+use Rattle.arj_lock_law.specs.Actions.{Act, In, Root, Sub, at_act, is_action, on, root, same, top}
 use Rattle.arj_lock_law.specs.Machine.{Guard, Run, next, stay, step, stopped}
 use Rattle.arj_lock_law.specs.State.{Action, State}
-use Rattle.arj_lock_law.specs.Steps.{Abort, ActivateCopy, Answered, Apply, BindLive, BindNew, Change, CommitNested, CommitTop, ConfirmTop, CrashNaming, CrashServer, Decide, DropEntry, DropRows, EndUnit, Event, GiveUp, Grant, Included, IsDrained, Keep, Load, Lost, Name, PassEntry, PassRow, PassTop, Record, Refuse, Report, SendConfirm, SendInvoke, SendVote, TurnedDown, VoteTop}
+use Rattle.arj_lock_law.specs.Steps.{Abort, ActivateCopy, Answered, Apply, BindLive, BindNew, Change, CommitNested, CommitTop, ConfirmTop, CrashNaming, CrashServer, Decide, DropEntry, DropRows, EndUnit, Event, GiveUp, Grant, Included, Keep, Load, Lost, Name, PassEntry, PassRow, PassTop, Record, Refuse, Report, SendConfirm, SendInvoke, SendVote, TurnedDown, VoteTop}
 use Rattle.arj_lock_law.proofs.Claims.{Holds}
 use Rattle.arj_lock_law.proofs.Order.{run_keeps, start_holds, step_keeps}
-use Rattle.arj_lock_law.proofs.Paths.{differ, on_root, on_self, on_top, one_top, same_is, top_action, top_is, top_root}
+use Rattle.arj_lock_law.proofs.Paths.{by_cases, differ, on_above, on_root, on_self, on_top, on_up, one_top, same_is, top_action, top_is, top_root}
 use Rattle.arj_lock_law.proofs.ValueClaims.{EntryHolds}
 use Rattle.arj_lock_law.proofs.ValueRun.{run_values, start_values}
 use Rattle.arj_lock_view_law.specs.Acts.{Acts}
 use Rattle.arj_lock_view_law.specs.Calling.{IsReached}
-use Rattle.arj_lock_view_law.specs.Copies.{SeesCopy}
+use Rattle.arj_lock_view_law.specs.Copies.{AreUndone, CountsForNone, IsDead, SeesCopy}
 use Rattle.arj_lock_view_law.specs.Servers.{SeesObject}
 use Rattle.arj_lock_view_law.specs.Telling.{AreOneTree, EndedAreShown, EndedStay, HasNoneLeft, IsOfFamily, OverAreShown, Sees, UnvotedAreShown, View}
 use Rattle.arj_lock_view_law.proofs.LogSteps.{held_for}
 
 pub ended_are_shown : EndedAreShown
-ended_are_shown v u ending.Abort S aborted = inl aborted
+ended_are_shown v u ending.Abort S aborted = inl (inl aborted)
 ended_are_shown v u ending.Commit S committed = committed
 
 pub unvoted_are_shown : UnvotedAreShown
-unvoted_are_shown v u s S sees fresh off top committed = inr (inr (top, committed, sees.voted u fresh off))
+unvoted_are_shown v u s S sees fresh off top committed = inl (inr (inr (top, committed, sees.voted u fresh off)))
 
 -- ---- of a unit that is over
+
+-- a number is four or not
+pub is_four : (n : ℕ) → (n ≡ 4) ⊎ (n ≡ 4 → ⊥)
+is_four n = grind arith
 
 module _ (v : View) (u : Uid) (s : Server) (S : State) (reached : IsReached S) (whole : AreOneTree v.family) (of : IsOfFamily v.family s) (sees : Sees v s S) (none : HasNoneLeft v u s S) where
   abbrev act : Acts
   act = v.family.act
 
-  -- a write that is left is of nobody that counts
-  drained : IsDrained S (let m = S.server v.node in m.log) (act u)
-  drained e i above committed k called write survives same = by (at_number v.x s.objects) refl
+  -- who is aborted on the path of a holder, and stands below the action
+  abbrev NoneDead : Act → Type 0
+  NoneDead h = (b : Act) → on h b ≡ true → on b (act u) ≡ true → (S.action b).stage ≡ 4 → ⊥
+
+  dead_on : (h : Act) → IsDead S h (act u) ⊎ NoneDead h
+  dead_on (Root r) = by (by_cases (on (Root r) (act u))) (is_four (S.action (Root r)).stage)
+    where
+      one : (b : Act) → on (Root r) b ≡ true → b ≡ Root r
+      one b up = sym (same_is (Root r) b up)
+
+      by : (on (Root r) (act u) ≡ true) ⊎ (on (Root r) (act u) ≡ false) → ((S.action (Root r)).stage ≡ 4) ⊎ ((S.action (Root r)).stage ≡ 4 → ⊥) → IsDead S (Root r) (act u) ⊎ NoneDead (Root r)
+      by (inl under) (inl four) = inl (Root r, on_self (Root r), under, four)
+      by (inl under) (inr never) = inr (λ b up below four. never (ap (λ (z : Act). (S.action z).stage) (sym (one b up)) ∙ four))
+      by (inr off) four_or = inr (λ b up below four. differ (ap (λ (z : Act). on z (act u)) (sym (one b up)) ∙ below) off)
+  dead_on (Sub a j) = by (dead_on a) (by_cases (on (Sub a j) (act u))) (is_four (S.action (Sub a j)).stage)
+    where
+      by : IsDead S a (act u) ⊎ NoneDead a → (on (Sub a j) (act u) ≡ true) ⊎ (on (Sub a j) (act u) ≡ false) → ((S.action (Sub a j)).stage ≡ 4) ⊎ ((S.action (Sub a j)).stage ≡ 4 → ⊥) → IsDead S (Sub a j) (act u) ⊎ NoneDead (Sub a j)
+      by (inl d) under four_or = inl (d.0, on_above a j d.0 d.1, d.2, d.3)
+      by (inr none) (inl under) (inl four) = inl (Sub a j, on_self (Sub a j), under, four)
+      by (inr none) (inl under) (inr never) = inr (λ b up below four. ⊎_elim (λ it. never (ap (λ (z : Act). (S.action z).stage) (sym it) ∙ four)) (λ above. none b above below four) (on_up a j b up))
+      by (inr none) (inr off) four_or = inr (λ b up below four. ⊎_elim (λ it. differ (ap (λ (z : Act). on z (act u)) (sym it) ∙ below) off) (λ above. none b above below four) (on_up a j b up))
+
+  -- a write that is left is dead, or of nobody that counts
+  undone : AreUndone S (let m = S.server v.node in m.log) (act u)
+  undone e i above = ⊎_elim (λ dead. inl dead) (λ living. inr (λ committed k called write survives same. by (at_number v.x s.objects) refl living committed k called write survives same)) (dead_on e.holder)
     where
       holds : EntryHolds S v.node e
       holds = let all = run_values reached.1 (start_holds reached.0) (start_values reached.0) in let values = all.1 in values.logs v.node e i
@@ -45,25 +71,27 @@ module _ (v : View) (u : Uid) (s : Server) (S : State) (reached : IsReached S) (
       has : (o : Option Copy) → at_number v.x s.objects ≡ o → SeesObject act v.code v.x s.inc o (S.server v.node) S
       has o is = subst (λ (f : Option Copy). SeesObject act v.code v.x s.inc f (S.server v.node) S) is sees.object
 
-      here : (c : Copy) → at_number v.x s.objects ≡ Some c → ⊥
-      here c there =
+      here : (c : Copy) → at_number v.x s.objects ≡ Some c → NoneDead e.holder → CountsForNone S e
+      here c there living committed k called write survives same =
           let copy : SeesCopy act v.code v.x c (S.server v.node) = (has (Some c) there).0 in
           let f = held_for act v.code c.stack (let m = S.server v.node in m.log) copy.overs e i in
           let w : Uid = last_uid f.0.holder in
           let action : is_action (act w) ≡ true = ap is_action (sym f.2) ∙ holds.holder in
           let t = whole.alike.filled w (top (act w)) (on_top (act w)) (top_action (top (act w)) (top_is (act w) action)) in
           let path = of.good.copies v.x c there in
-          let on_it : is_on f.0.holder t.0 ≡ true = ap (λ us. is_on us t.0) (path.overs f.0 (in_to f.0 c.stack f.1)) ∙ sym (whole.alike.above w t.0) ∙ ap (on (act w)) (sym t.1) ∙ on_top (act w) in
+          let on_path : (z : Uid) → is_on f.0.holder z ≡ on (act w) (act z) = λ z. ap (λ us. is_on us z) (path.overs f.0 (in_to f.0 c.stack f.1)) ∙ sym (whole.alike.above w z) in
+          let on_it : is_on f.0.holder t.0 ≡ true = on_path t.0 ∙ ap (on (act w)) (sym t.1) ∙ on_top (act w) in
           let unit : root (act t.0) ≡ root (act u) = ap root (sym t.1) ∙ top_root (act w) ∙ ap root (sym f.2) ∙ on_root e.holder (act u) above in
-          let its_top : top k.act ≡ act t.0 = same ∙ one_top e.by e.holder holds.holder holds.path ∙ ap top f.2 ∙ t.1 in
-          differ on_it (none t.0 k c f.0 unit called write survives its_top there (in_to f.0 c.stack f.1))
+          let its_top : top e.by ≡ act t.0 = one_top e.by e.holder holds.holder holds.path ∙ ap top f.2 ∙ t.1 in
+          differ on_it (none t.0 k c f.0 unit (ap (λ (b : Act). (S.action b).stage) (sym its_top) ∙ committed) called write survives (same ∙ its_top) there (in_to f.0 c.stack f.1)
+          (on_path u ∙ ap (λ (h : Act). on h (act u)) (sym f.2) ∙ above, λ z at under four. living (act z) (ap (λ (h : Act). on h (act z)) f.2 ∙ sym (on_path z) ∙ at) under four))
 
-      by : (o : Option Copy) → at_number v.x s.objects ≡ o → ⊥
-      by None is = let empty = has None is in subst (In e) empty.1 i
-      by (Some c) is = here c is
+      by : (o : Option Copy) → at_number v.x s.objects ≡ o → NoneDead e.holder → CountsForNone S e
+      by None is living = let empty = has None is in absurd (subst (In e) empty.1 i)
+      by (Some c) is living = here c is living
 
 pub over_are_shown : OverAreShown
-over_are_shown v u s S reached whole of sees over none = inr (inl (over, drained v u s S reached whole of sees none))
+over_are_shown v u s S reached whole of sees over none = inr (over, undone v u s S reached whole of sees none)
 
 -- ---- later
 

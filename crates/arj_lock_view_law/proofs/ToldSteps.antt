@@ -29,12 +29,12 @@ use Rattle.arj_part_law.proofs.ServerRuns.{end_binding, one_follows}
 use Rattle.arj_lock_view_law.specs.Acts.{Acts}
 use Rattle.arj_lock_view_law.specs.Actions.{AreAlike}
 use Rattle.arj_lock_view_law.specs.Commits.{IsAlone, IsCommitting, IsRightBelow}
-use Rattle.arj_lock_view_law.specs.Copies.{IsTold, OnlyEnds, SeesCopy}
+use Rattle.arj_lock_view_law.specs.Copies.{IsTold, MayUndo, OnlyEnds, SeesCopy}
 use Rattle.arj_lock_view_law.specs.Going.{Goes}
 use Rattle.arj_lock_view_law.specs.Servers.{SeesObject, last_of}
 use Rattle.arj_lock_view_law.specs.Telling.{AreBrought, AreOneTree, EndsAreTaken, Family, IsCommittedSo, IsOfFamily, Sees, ShowEnds, ShowsEnd, View}
 use Rattle.arj_lock_view_law.proofs.CommitSteps.{foldings_are_seen, retainings_are_seen, settlings_are_seen}
-use Rattle.arj_lock_view_law.proofs.LeftSteps.{drop_later, ends_both, ends_none, ends_sent, shows_later}
+use Rattle.arj_lock_view_law.proofs.LeftSteps.{ends_both, ends_none, ends_sent, shows_later, undo_later}
 use Rattle.arj_lock_view_law.proofs.PlaceSteps.{Stood, alone, constituent, nested, nested_no_top, stood}
 use Rattle.arj_lock_view_law.proofs.RunSteps.{goes_then, goes_to}
 use Rattle.arj_lock_view_law.proofs.UndoSteps.{undoings_are_seen}
@@ -69,7 +69,7 @@ module _ (v : View) (whole : AreOneTree v.family) where
   n = v.node
 
   shown_later : (S T : State) → OnlyEnds n S T → (u : Uid) (e : End) → ShowsEnd v S u e → ShowsEnd v T u e
-  shown_later S T only u ending.Abort may = drop_later n (act u) S T only may
+  shown_later S T only u ending.Abort may = undo_later n (act u) S T only may
   shown_later S T only u ending.Commit so = subst (IsCommittedSo g u) (sym only.rest) (record { action = so.action; begun = so.begun; of = so.of; unserial = so.unserial; committed = so.committed; over = so.over })
 
   -- ---- one end that is new
@@ -124,7 +124,7 @@ module _ (v : View) (whole : AreOneTree v.family) where
 
     -- ---- an abort
 
-    aborts : Guard (DropRows n (act u)) S → Goes S (λ T. Sees v (let d = end_new n u ending.Abort s in d.part) T × OnlyEnds n S T)
+    aborts : MayUndo n (act u) S → Goes S (λ T. Sees v (let d = end_new n u ending.Abort s in d.part) T × OnlyEnds n S T)
     aborts may = ends_at ending.Abort (λ c there copy. undoings_are_seen act v.code n v.x u c S (told_of act g.paths v.x c whole.alike (of.good.copies v.x c there) u) may copy)
 
     -- ---- a commit
@@ -160,7 +160,7 @@ module _ (v : View) (whole : AreOneTree v.family) where
         by true true top voted = keeps_on standing (lowest true true top voted refl)
         by false true top voted = keeps_on standing (lowest false true top voted refl)
         by false false top voted = keeps_on standing (lowest false false top voted refl)
-        by true false top voted = aborts (unvoted (is_a_top standing top) voted)
+        by true false top voted = aborts (inl (unvoted (is_a_top standing top) voted))
 
     -- ---- either
 

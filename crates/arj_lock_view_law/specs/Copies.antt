@@ -1,5 +1,5 @@
 -- One object at a server, as the lock machine has it, and what a server does with it.
-use Rattle.std.specs.Prelude.{⊤, ◌≡◌, ◌≢◌, ◌<◌, ℕ, true, List, [], ◌∷◌, ◌++◌, None}
+use Rattle.std.specs.Prelude.{⊤, ◌≡◌, ◌≢◌, ◌⊎◌, ◌<◌, ℕ, true, List, [], ◌∷◌, ◌++◌, None}
 use Rattle.std.specs.List.{AllByRecursion}
 use Rattle.arj_protocol.specs.Words.{Path, Op, Value, ObjectState, Binding, object, is_on, last_uid, uids_of, op_mode, writes, value_after, first_conflict, Uid, Row}
 use Rattle.arj_protocol.specs.Words.ending
@@ -7,11 +7,11 @@ use Rattle.arj_protocol.specs.Ask.{actor}
 use Rattle.arj_protocol.specs.Copy.{Base, Copy, Over, current, end_copy, run_copy, taken_copy}
 use Rattle.arj_protocol.specs.Order.{binding_number}
 use Rattle.arj_protocol.specs.Values.{state_value}
-use Rattle.arj_lock_law.specs.Actions.{Act, In, at_act, on, top}
+use Rattle.arj_lock_law.specs.Actions.{Act, In, Root, at_act, on, root, top}
 use Rattle.arj_lock_law.specs.Machine.{Guard}
 use Rattle.arj_lock_law.specs.State as machine
-use Rattle.arj_lock_law.specs.State.{State, Entry, Request, Answer}
-use Rattle.arj_lock_law.specs.Steps.{DropRows, IsAt}
+use Rattle.arj_lock_law.specs.State.{State, Call, Entry, Request, Answer}
+use Rattle.arj_lock_law.specs.Steps.{DropRows, IsAt, Survives}
 use Rattle.arj_lock_view_law.specs.Acts.{Acts, AreOne, IsCaller, IsDeep}
 use Rattle.arj_lock_view_law.specs.Going.{Goes}
 use Rattle.arj_lock_view_law.specs.Rows.{SeesRows}
@@ -75,16 +75,17 @@ pub record KeepsServer (requests : Act → ℕ) (v w : machine.Server) : Type 0 
   pub voted : w.voted ≡ v.voted
   pub request : w.request ≡ requests
 
--- each write of the second log stands in the first one, held by the same action or by one below it
-abbrev pub AreLeft : List Entry → List Entry → Type 0
-AreLeft before after = (e : Entry) → In e after → (f : Entry) × In f before × (e.by ≡ f.by) × ((a : Act) → on e.holder a ≡ true → on f.holder a ≡ true)
+-- Each write of the second log stands in the first one, held by the same action or by one below it; and below whom of the aborted ones it
+-- was held it still is.
+abbrev pub AreLeft : State → List Entry → List Entry → Type 0
+AreLeft S before after = (e : Entry) → In e after → (f : Entry) × In f before × (e.by ≡ f.by) × ((a : Act) → on e.holder a ≡ true → on f.holder a ≡ true) × ((a : Act) → on f.holder a ≡ true → (S.action a).stage ≡ 4 → on e.holder a ≡ true)
 
 -- Only rows and writes at the server of this node changed: rows passed or went, and no write is new.
 pub record OnlyEnds (n : ℕ) (S T : State) : Type 0 where
   pub rest : T ≡ record S { server = T.server }
   pub others : (k : ℕ) → k ≢ n → T.server k ≡ S.server k
   pub keeps : KeepsServer (let v = S.server n in v.request) (S.server n) (T.server n)
-  pub left : AreLeft (let v = S.server n in v.log) (let w = T.server n in w.log)
+  pub left : AreLeft S (let v = S.server n in v.log) (let w = T.server n in w.log)
 
 -- a request of the action at this copy
 abbrev pub request_for : Acts → Path → ℕ → Op → Copy → Request
@@ -127,8 +128,25 @@ pub record IsTold (act : Acts) (u : Uid) (c : Copy) : Type 0 where
   pub overs : AllByRecursion (λ (o : Over). is_on o.holder u ≡ on (act (last_uid o.holder)) (act u)) c.stack
   pub rows : AllByRecursion (λ (r : Row). is_on r.holder u ≡ true → on (act (last_uid r.holder)) (act u) ≡ true) c.rows
 
--- An end that a server takes for an abort, where the machine may drop rows: what the action and all below it wrote is undone,
--- and their rows go.
+-- the write is held below an aborted action, which is the given one or stands below it
+abbrev pub IsDead : State → Act → Act → Type 0
+IsDead S h a = (b : Act) × (on h b ≡ true) × (on b a ≡ true) × ((S.action b).stage ≡ 4)
+
+-- it is of no committed top with a surviving write
+abbrev pub CountsForNone : State → Entry → Type 0
+CountsForNone S e = (S.action (top e.by)).stage ≡ 3 → (c : Call) → In c S.calls → c.write ≡ true → Survives S c.act → top c.act ≢ top e.by
+
+-- each write below the action is dead, or counts for none
+abbrev pub AreUndone : State → List Entry → Act → Type 0
+AreUndone S log a = (e : Entry) → In e log → on e.holder a ≡ true → IsDead S e.holder a ⊎ CountsForNone S e
+
+-- The machine may drop the rows; or the unit is over, and each write below the action is dead, which the machine drops first, or counts
+-- for none.
+abbrev pub MayUndo : ℕ → Act → State → Type 0
+MayUndo n a S = Guard (DropRows n a) S ⊎ (((S.action (Root (root a))).stage ≡ 3) × AreUndone S (let v = S.server n in v.log) a)
+
+-- An end that a server takes for an abort, where the machine may drop rows, it may be after others: what the action and all below it wrote
+-- is undone, and their rows go.
 abbrev pub UndoingsAreSeen : Type 0
-UndoingsAreSeen = (act : Acts) (code : Codes) (n x : ℕ) (u : Uid) (c : Copy) (S : State) → IsTold act u c → Guard (DropRows n (act u)) S
+UndoingsAreSeen = (act : Acts) (code : Codes) (n x : ℕ) (u : Uid) (c : Copy) (S : State) → IsTold act u c → MayUndo n (act u) S
     → SeesCopy act code x c (S.server n) → Goes S (λ T. SeesCopy act code x (end_copy u ending.Abort c) (T.server n) × OnlyEnds n S T)

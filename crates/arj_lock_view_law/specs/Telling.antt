@@ -6,17 +6,17 @@ use Rattle.arj_protocol.specs.Words.kind
 use Rattle.arj_protocol.specs.Copy.{Copy, Over}
 use Rattle.arj_protocol.specs.Order.{at_number}
 use Rattle.arj_protocol.specs.Server.{Server, is_told, told}
-use Rattle.arj_lock_law.specs.Actions.{In, Root, is_top, root, top}
-use Rattle.arj_lock_law.specs.Machine.{Guard, Run}
+use Rattle.arj_lock_law.specs.Actions.{In, Root, is_top, on, root, top}
+use Rattle.arj_lock_law.specs.Machine.{Run}
 use Rattle.arj_lock_law.specs.State.{Call, State}
-use Rattle.arj_lock_law.specs.Steps.{DropRows, Survives}
+use Rattle.arj_lock_law.specs.Steps.{Survives}
 use Rattle.arj_part_law.specs.Actions.{Action, Agree, AreBegun, act_of}
 use Rattle.arj_part_law.specs.Copies.{IsTree, Paths}
 use Rattle.arj_part_law.specs.Servers.{AreOrdered, IsGoodServer, KnowsActions}
 use Rattle.arj_lock_view_law.specs.Actions.{AreAlike, IsPlaced}
 use Rattle.arj_lock_view_law.specs.Acts.{Acts}
 use Rattle.arj_lock_view_law.specs.Calling.{IsReached}
-use Rattle.arj_lock_view_law.specs.Copies.{Codes, OnlyEnds}
+use Rattle.arj_lock_view_law.specs.Copies.{Codes, MayUndo, OnlyEnds}
 use Rattle.arj_lock_view_law.specs.Going.{Goes}
 use Rattle.arj_lock_view_law.specs.Servers.{SeesServer, Wants}
 
@@ -74,7 +74,7 @@ pub record IsCommittedSo (g : Family) (u : Uid) (S : State) : Type 0 where
 
 -- An end that comes to the server: of an abort the machine may drop the rows there, a commit stands.
 abbrev pub ShowsEnd : View → State → Uid → End → Type 0
-ShowsEnd v S u ending.Abort = Guard (DropRows v.node (v.family.act u)) S
+ShowsEnd v S u ending.Abort = MayUndo v.node (v.family.act u) S
 ShowsEnd v S u ending.Commit = IsCommittedSo v.family u S
 
 -- so it is with each end of the list that is new to the server
@@ -114,9 +114,15 @@ EndedAreShown = (v : View) (u : Uid) (e : End) (S : State) → HasEnded v S u e 
 abbrev pub UnvotedAreShown : Type 0
 UnvotedAreShown = (v : View) (u : Uid) (s : Server) (S : State) → Sees v s S → is_told u s ≡ false → is_on s.voted u ≡ false → is_top (v.family.act u) ≡ true → (let a = S.action (v.family.act u) in a.stage) ≡ 3 → ShowsEnd v S u ending.Abort
 
--- No top of the action's unit that has a surviving write has an overlay here, nor has an action below it.
+-- an overlay below the action, with no aborted action between
+abbrev pub IsOfLiving : View → Uid → State → Over → Type 0
+IsOfLiving v u S o = (is_on o.holder u ≡ true) × ((w : Uid) → is_on o.holder w ≡ true → on (v.family.act w) (v.family.act u) ≡ true → (let a = S.action (v.family.act w) in a.stage) ≢ 4)
+
+-- No committed top of the action's unit that has a surviving write has an overlay here below the action, nor has an action below it, but
+-- what is below an aborted one.
 abbrev pub HasNoneLeft : View → Uid → Server → State → Type 0
-HasNoneLeft v u s S = (t : Uid) (k : Call) (c : Copy) (o : Over) → root (v.family.act t) ≡ root (v.family.act u) → In k S.calls → k.write ≡ true → Survives S k.act → top k.act ≡ v.family.act t → at_number v.x s.objects ≡ Some c → Contains c.stack o → is_on o.holder t ≡ false
+HasNoneLeft v u s S = (t : Uid) (k : Call) (c : Copy) (o : Over) → root (v.family.act t) ≡ root (v.family.act u) → (let a = S.action (v.family.act t) in a.stage) ≡ 3 → In k S.calls → k.write ≡ true → Survives S k.act → top k.act ≡ v.family.act t
+    → at_number v.x s.objects ≡ Some c → Contains c.stack o → IsOfLiving v u S o → is_on o.holder t ≡ false
 
 -- and where the unit is over, and nothing of it is left here that counts.
 abbrev pub OverAreShown : Type 0

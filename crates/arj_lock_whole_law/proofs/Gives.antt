@@ -329,7 +329,7 @@ module _ (hd : Header) (x : ℕ) (has : HasObject hd x) (E : List Action → See
         parted = whole.parted;
         server = record {
           listed = listed;
-          left = λ u told new over. rest.left begun S s u knows seen told new over;
+          left = λ u told new over never. rest.left begun S s u knows seen told new over never;
           unvoted = λ u told new top open_unit. rest.unvoted begun S s u knows seen told new top open_unit;
         };
         naming = λ n is. record {
