@@ -1,3 +1,6 @@
 pub mod Tellers
 pub mod Handling
 pub mod Past
+pub mod Untold
+pub mod Replies
+pub mod Gives

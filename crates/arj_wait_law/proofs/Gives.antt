@@ -1,0 +1,229 @@
+-- What is known of whoever waits gives that requests are answered, with what is still to be given.
+use Rattle.std.proofs.Common.{◌≡◌, ◌≢◌, ◌∙◌, ◌==◌, ℕ, Bool, true, false, cond, List, [], ◌∷◌, map, refl, sym, ap, subst, Option, Some, None}
+use Rattle.std.specs.Prelude.{◌&&◌, is_some, option_map}
+use Rattle.arj_protocol.specs.Words as words
+use Rattle.arj_protocol.specs.Words.{Ask, Binding, End, Head, Header, Op, Path, Uid, asks}
+use Rattle.arj_protocol.specs.Words.ask
+use Rattle.arj_protocol.specs.Ask.{actor, asked_by}
+use Rattle.arj_protocol.specs.Call.{At, AtActivate, AtBind, AtInvoke, AtLoad, AtNote, Steps, ask_at, invoked_op, is_include, next_ask}
+use Rattle.arj_protocol.specs.Commit.{Confirming, Machine, Preparing, Used, Voting, ask_of, confirm_ask, included_of, left_of, plan_of, states_for, vote_ask}
+use Rattle.arj_protocol.specs.Coord.{Calling, Committing, Coord, Doing, Now, doing_of}
+use Rattle.arj_protocol.specs.Effect.{Disk, prepare_answer}
+use Rattle.arj_protocol.specs.Naming.{Naming, is_over}
+use Rattle.arj_protocol.specs.Node.{Parts, ask_is_meant, serve, taken}
+use Rattle.arj_protocol.specs.Order.{has}
+use Rattle.arj_protocol.specs.Server.{has_ended}
+use Rattle.arj_protocol.specs.Step.{Node}
+use Rattle.arj_protocol.specs.Tree.{at_place, is_own}
+use Rattle.arj_part_law.specs.Actions.{Action}
+use Rattle.arj_part_law.specs.Coords.{IsAsking, IsBusy}
+use Rattle.arj_part_law.specs.Requests.{IsNumbered}
+use Rattle.arj_call_law.specs.Coords.{IsOfStep, bare, head_of}
+use Rattle.arj_run_law.specs.Worlds.{IsGoodOf}
+use Rattle.arj_view_law.specs.Seen.{In, Post, Seen, up}
+use Rattle.arj_disk_view_law.proofs.Frames.{node_here}
+use Rattle.arj_address_law.proofs.Lists.{some_is}
+use Rattle.arj_address_law.specs.Addresses.{AreAddressed}
+use Rattle.arj_lock_fact_law.specs.Requests.{IsAskedBy, RequestsAreKnown}
+use Rattle.arj_round_law.specs.Rounds.{AnswersWaits, HasCome, IsVoid}
+use Rattle.arj_round_law.specs.Waits.{AsksFor, IsOvertaken, IsSaid, Want, coord_in, coord_of, want_of_call, want_of_commit}
+use Rattle.arj_wait_law.specs.Told.{ArePastIn, EndsArePast}
+use Rattle.arj_wait_law.specs.Waits.{AnswersRest, KnownGive, LeftOfCommit, LeftOfStep, WaitsAreKnown}
+use Rattle.arj_wait_law.proofs.Replies.{activate_answers, bind_answers, confirm_answers, invoke_answers, load_answers, prepare_answers, record_answers, taken_void, vote_answers}
+use Rattle.arj_wait_law.proofs.Untold.{its_coord, its_up, naming_untold, server_untold}
+
+-- ---- requests without their ends
+
+abbrev is_invoke_ask : Ask → Bool
+is_invoke_ask (ask.Invoke x b i ends o) = true
+is_invoke_ask _ = false
+
+-- a request other than an Invoke brings no ends
+same_bare : (a b : Ask) → is_invoke_ask b ≡ false → bare a ≡ b → a ≡ b
+same_bare (ask.Bind x include_it avoid) b not_it is = is
+same_bare (ask.Load x) b not_it is = is
+same_bare (ask.Activate c st) b not_it is = is
+same_bare (ask.Record x c i g) b not_it is = is
+same_bare (ask.Invoke x c i ends o) b not_it is = let no_way : true ≡ false = ap is_invoke_ask is ∙ not_it in absurd (cc no_way)
+same_bare (ask.Vote i ties ends) b not_it is = is
+same_bare (ask.Prepare states) b not_it is = is
+same_bare (ask.Confirm g x y) b not_it is = is
+
+abbrev with_ends : List (Uid × End) → Ask → Ask
+with_ends ends (ask.Invoke x b i es o) = ask.Invoke x b i ends o
+with_ends ends a = a
+
+same_invoke : (a : Ask) (x : ℕ) (b : Binding) (i : ℕ) (o : Op) → bare a ≡ ask.Invoke x b i [] o → (ends : List (Uid × End)) × (a ≡ ask.Invoke x b i ends o)
+same_invoke (ask.Bind y include_it avoid) x b i o is = absurd (cc is)
+same_invoke (ask.Load y) x b i o is = absurd (cc is)
+same_invoke (ask.Activate c st) x b i o is = absurd (cc is)
+same_invoke (ask.Record y c k g) x b i o is = absurd (cc is)
+same_invoke (ask.Invoke y c k ends p) x b i o is = (ends, ap (with_ends ends) is)
+same_invoke (ask.Vote k ties ends) x b i o is = absurd (cc is)
+same_invoke (ask.Prepare states) x b i o is = absurd (cc is)
+same_invoke (ask.Confirm g y z) x b i o is = absurd (cc is)
+
+-- ---- a request that has come
+
+-- whose coordinator this is
+record IsAt (M : Seen) (k : ℕ) (c : Coord) : Type 0 where
+  node : Node
+  parts : Parts
+  found : M.nodes k ≡ Some node
+  live : (let n = node in n.live) ≡ Some parts
+  same : (let t = parts in t.coord) ≡ c
+
+at_of : (M : Seen) (k : ℕ) (c : Coord) → coord_in (M.nodes k) ≡ Some c → IsAt M k c
+at_of M k c is = by (M.nodes k) refl is
+  where
+    up_at : (n : Node) → M.nodes k ≡ Some n → (o : Option Parts) → n.live ≡ o → option_map coord_of o ≡ Some c → IsAt M k c
+    up_at n found None live e = absurd (cc e)
+    up_at n found (Some t) live e = record { node = n; parts = t; found = found; live = live; same = some_is e }
+
+    by : (o : Option Node) → M.nodes k ≡ o → coord_in o ≡ Some c → IsAt M k c
+    by None found e = absurd (cc e)
+    by (Some n) found e = up_at n found n.live refl e
+
+own_of : (u : Uid) (c : Coord) (q : Doing) → doing_of u c ≡ Some q → is_own u c.tree ≡ true
+own_of u c q is = by (is_own u c.tree) is
+  where
+    by : (b : Bool) → cond b (at_place u.num c.doings) None ≡ Some q → b ≡ true
+    by true e = refl
+    by false e = absurd (cc e)
+
+module _ (hd : Header) (M : Seen) (known : WaitsAreKnown hd M) (j : ℕ) (u : Uid) (c : Coord) (q : Doing) (does : doing_of u c ≡ Some q) where
+  abbrev begun : List Action
+  begun = let e = known.0.0 in e.0
+
+  abbrev good : IsGoodOf begun M
+  good = let e = known.0.0 in e.1
+
+  abbrev past : ArePastIn begun M
+  past = let e = known.0.0 in e.2
+
+  module _ (k : ℕ) (at_k : IsAt M k c) where
+    does_there : doing_of u (let t = at_k.parts in t.coord) ≡ Some q
+    does_there = ap (doing_of u) at_k.same ∙ does
+
+    busy : IsBusy (let t = at_k.parts in t.coord.tree) u q.now
+    busy = (its_coord begun M good k at_k.node at_k.parts at_k.found at_k.live).busy u q does_there
+
+    number : IsNumbered q.req q.now
+    number = (its_up begun M good k at_k.node at_k.parts at_k.found at_k.live).numbered u q does_there
+
+    -- the last request of the action is of what waits
+    asked_last : (p : Post) (h : Head) (a : Ask) → In p M.sent → p.from ≡ k → asks p.message ≡ Some (h, a) → actor h.path ≡ u → IsAskedBy (let t = at_k.parts in t.coord) p.to h a
+    asked_last p h a sent from is by_u = known.0.1.1 k at_k.node at_k.parts at_k.found at_k.live p h a sent from is (ap (λ w. is_own w (let t = at_k.parts in t.coord.tree)) by_u ∙ own_of u (let t = at_k.parts in t.coord) q does_there)
+
+  -- its own entry is the one that is found
+  same_doing : (k : ℕ) (at_k : IsAt M k c) (p : Post) (h : Head) (a : Ask) → actor h.path ≡ u → (x : IsAskedBy (let t = at_k.parts in t.coord) p.to h a) → q ≡ x.doing
+  same_doing k at_k p h a by_u x = some_is (sym (does_there k at_k) ∙ ap (λ w. doing_of w (let t = at_k.parts in t.coord)) (sym by_u) ∙ x.found)
+
+-- ---- whoever waits
+
+module _ (hd : Header) (j : ℕ) (d : Disk) (t : Parts) (M : Seen) (known : WaitsAreKnown hd (up j d t M)) (c : Coord) (u : Uid) (q : Doing) (does : doing_of u c ≡ Some q) where
+  abbrev W : Seen
+  W = up j d t M
+
+  abbrev here : Node
+  here = record { number = j; disk = d; live = Some t }
+
+  -- no action on this path was told at the node
+  module _ (k : ℕ) (at_k : IsAt W k c) (p : Path) (asking : IsAsking (let x = at_k.parts in x.coord.tree) u p) where
+    untold_server_here : has_ended p t.server ≡ false
+    untold_server_here = server_untold (begun hd W known j u c q does) W (good hd W known j u c q does) k at_k.node at_k.parts at_k.found at_k.live (past hd W known j u c q does) j here t (node_here M j here) refl u p asking
+
+    untold_naming_here : (o : Naming) → t.naming ≡ Some o → is_over p o ≡ false
+    untold_naming_here o is = naming_untold (begun hd W known j u c q does) W (good hd W known j u c q does) k at_k.node at_k.parts at_k.found at_k.live (past hd W known j u c q does) j here t (node_here M j here) refl u p asking o is
+
+  -- a call
+  module _ (s : Steps) (now : q.now ≡ Calling s) (h : HasCome j W c (want_of_call u s)) where
+    abbrev from : ℕ
+    from = let p = h.post in p.from
+
+    at_it : IsAt W from c
+    at_it = at_of W from c h.coord
+
+    by_u : actor (let a = h.asks in a.head.path) ≡ u
+    by_u = ap (λ (z : words.Asked). z.act) (let a = h.asks in a.by)
+
+    last : IsAskedBy (let x = at_it.parts in x.coord) (let p = h.post in p.to) (let a = h.asks in a.head) (let a = h.asks in a.ask)
+    last = asked_last hd W known j u c q does from at_it h.post (let a = h.asks in a.head) (let a = h.asks in a.ask) h.sent refl (let a = h.asks in a.is) by_u
+
+    its : q ≡ (let x = last in x.doing)
+    its = same_doing hd W known j u c q does from at_it h.post (let a = h.asks in a.head) (let a = h.asks in a.ask) by_u last
+
+    of_step : IsOfStep s (let p = h.post in p.to) (let a = h.asks in a.head) (let a = h.asks in a.ask)
+    of_step = last.step s (ap (λ (z : Doing). z.now) (sym its) ∙ now) (ap (λ (z : words.Asked). z.req) (let a = h.asks in a.by) ∙ subst (IsNumbered q.req) now (number hd W known j u c q does from at_it) ∙ ap (λ (z : Doing). z.req) its)
+
+    asking_call : IsAsking (let x = at_it.parts in x.coord.tree) u s.path
+    asking_call = subst (IsBusy (let x = at_it.parts in x.coord.tree) u) now (busy hd W known j u c q does from at_it)
+
+    -- it is void only where its part doesn't answer
+    unserved : IsVoid (taken j d t from (let p = h.post in p.message)) → (a : Ask) → (let x = h.asks in x.ask) ≡ a → ask_is_meant t.server a ≡ true → IsVoid (serve j d t from (head_of s) a)
+    unserved void_it a is meant = subst (λ (z : Head). IsVoid (serve j d t from z a)) of_step.head (subst (λ (z : Ask). IsVoid (serve j d t from (let x = h.asks in x.head) z)) is
+        (taken_void j d t from (let p = h.post in p.message) (let x = h.asks in x.head) (let x = h.asks in x.ask) (let x = h.asks in x.is) (ap (ask_is_meant t.server) is ∙ meant) void_it))
+
+    call_given : LeftOfStep d t M s s.at → IsVoid (taken j d t from (let p = h.post in p.message)) → IsOvertaken (IsSaid M.lines) s
+    call_given left void_it = by s.at refl left
+      where
+        same_ask : (a : Ask) → is_invoke_ask a ≡ false → next_ask [] s ≡ a → (let x = h.asks in x.ask) ≡ a
+        same_ask a plain is = same_bare (let x = h.asks in x.ask) a plain (of_step.same ∙ is)
+
+        by : (at : At) → s.at ≡ at → LeftOfStep d t M s at → IsOvertaken (IsSaid M.lines) s
+        by (AtBind avoid) is l = absurd (bind_answers j d t from (head_of s) s.x (is_include s.goal) avoid l.0 l.1 (untold_naming_here from at_it s.path asking_call l.0 l.1) l.2
+            (unserved void_it (ask.Bind s.x (is_include s.goal) avoid) (same_ask (ask.Bind s.x (is_include s.goal) avoid) refl (ap (ask_at s.x s.goal []) is)) refl))
+        by (AtLoad k n rest) is l = absurd (load_answers j d t from (head_of s) s.x l (unserved void_it (ask.Load s.x) (same_ask (ask.Load s.x) refl (ap (ask_at s.x s.goal []) is)) refl))
+        by (AtActivate k st) is l = activate_answers j d t from (head_of s) k.binding st (untold_server_here from at_it s.path asking_call) l.1 (unserved void_it (ask.Activate k.binding st) (same_ask (ask.Activate k.binding st) refl (ap (ask_at s.x s.goal []) is)) l.0)
+        by (AtNote k i) is l = record_answers j d t from (head_of s) s.x k.binding i k.grant l.0.0 l.0.1 (untold_naming_here from at_it s.path asking_call l.0.0 l.0.1) l.0.2 (λ v at_v ours none. l.1 l.0.0 v l.0.1 at_v ours none)
+            (unserved void_it (ask.Record s.x k.binding i k.grant) (same_ask (ask.Record s.x k.binding i k.grant) refl (ap (ask_at s.x s.goal []) is)) refl)
+        by (AtInvoke k i) is l = let e = same_invoke (let x = h.asks in x.ask) s.x k.binding i (invoked_op s.goal) (of_step.same ∙ ap (ask_at s.x s.goal []) is) in
+            absurd (invoke_answers j d t from (head_of s) s.x k.binding i e.0 (invoked_op s.goal) (untold_server_here from at_it s.path asking_call) l.1 (unserved void_it (ask.Invoke s.x k.binding i e.0 (invoked_op s.goal)) e.1 l.0))
+
+  -- a commit
+  module _ (m : Machine) (n : ℕ) (now : q.now ≡ Committing m) (h : HasCome j W c (want_of_commit u m n)) where
+    abbrev from_it : ℕ
+    from_it = let p = h.post in p.from
+
+    at_its : IsAt W from_it c
+    at_its = at_of W from_it c h.coord
+
+    by_its : actor (let a = h.asks in a.head.path) ≡ u
+    by_its = ap (λ (z : words.Asked). z.act) (let a = h.asks in a.by)
+
+    last_its : IsAskedBy (let x = at_its.parts in x.coord) (let p = h.post in p.to) (let a = h.asks in a.head) (let a = h.asks in a.ask)
+    last_its = asked_last hd W known j u c q does from_it at_its h.post (let a = h.asks in a.head) (let a = h.asks in a.ask) h.sent refl (let a = h.asks in a.is) by_its
+
+    same_its : q ≡ (let x = last_its in x.doing)
+    same_its = same_doing hd W known j u c q does from_it at_its h.post (let a = h.asks in a.head) (let a = h.asks in a.ask) by_its last_its
+
+    of_commit : ((let a = h.asks in a.head.path) ≡ (let p = plan_of m in p.path)) × ((let a = h.asks in a.ask) ≡ ask_of m (let p = h.post in p.to))
+    of_commit = last_its.commit m (ap (λ (z : Doing). z.now) (sym same_its) ∙ now) (ap (λ (z : words.Asked). z.req) (let a = h.asks in a.by) ∙ (subst (IsNumbered q.req) now (number hd W known j u c q does from_it at_its)).0 ∙ ap (λ (z : Doing). z.req) same_its)
+
+    asking_commit : IsAsking (let x = at_its.parts in x.coord.tree) u (let a = h.asks in a.head.path)
+    asking_commit = let v = subst (IsBusy (let x = at_its.parts in x.coord.tree) u) now (busy hd W known j u c q does from_it at_its) in subst (IsAsking (let x = at_its.parts in x.coord.tree) u) (sym of_commit.0) v.asking
+
+    its_ask : (let a = h.asks in a.ask) ≡ ask_of m n
+    its_ask = of_commit.1 ∙ ap (ask_of m) (h.to ∙ sym h.node)
+
+    unserved_commit : IsVoid (taken j d t from_it (let p = h.post in p.message)) → (a : Ask) → ask_of m n ≡ a → ask_is_meant t.server a ≡ true → IsVoid (serve j d t from_it (let x = h.asks in x.head) a)
+    unserved_commit void_it a is meant = subst (λ (z : Ask). IsVoid (serve j d t from_it (let x = h.asks in x.head) z)) (its_ask ∙ is)
+        (taken_void j d t from_it (let p = h.post in p.message) (let x = h.asks in x.head) (let x = h.asks in x.ask) (let x = h.asks in x.is) (ap (ask_is_meant t.server) (its_ask ∙ is) ∙ meant) void_it)
+
+    commit_given : LeftOfCommit d t n m → IsVoid (taken j d t from_it (let p = h.post in p.message)) → ⊥
+    commit_given left void_it = by m refl left of_commit.0
+      where
+        by : (x : Machine) → m ≡ x → LeftOfCommit d t n x → (let a = h.asks in a.head.path) ≡ (let p = plan_of m in p.path) → ⊥
+        by (Voting p nodes) is l path = vote_answers j d t from_it (let x = h.asks in x.head) _ _ p.ends (untold_server_here from_it at_its (let a = h.asks in a.head.path) asking_commit) (unserved_commit void_it (vote_ask p n) (ap (λ x. ask_of x n) is) refl)
+        by (Preparing p nodes) is l path = prepare_answers j d t from_it (let x = h.asks in x.head) (states_for n p) (λ w already. l.1 w (ap (λ z. prepare_answer (actor z) (states_for n p) d.store) (sym (path ∙ ap (λ x. let y = plan_of x in y.path) is)) ∙ already))
+            (unserved_commit void_it (ask.Prepare (states_for n p)) (ap (λ x. ask_of x n) is) l.0)
+        by (Confirming p) is l path = confirm_answers j d t from_it (let x = h.asks in x.head) (map {A = Used} {B = ℕ × ℕ} (λ z. (z.x, z.grant)) p.used) p.excluded (included_of p) l.1.0 l.1.1 (untold_naming_here from_it at_its (let a = h.asks in a.head.path) asking_commit l.1.0 l.1.1) l.1.2
+            (unserved_commit void_it (confirm_ask p) (ap (λ x. ask_of x n) is) l.0)
+
+pub known_give : KnownGive
+known_give hd form test rest = record {
+  within = λ M p r sent. let k = r.0.1 in let so = k.1 in let z = so.1 p sent in z.1;
+  calls = λ j d t M c u q s r does now h void_it. call_given hd j d t M r.0 c u q does s now h (rest.calls j d t M c u q s r does now h) void_it;
+  meant = rest.meant;
+  commits = λ j d t M c u q m n r does now left h void_it. commit_given hd j d t M r.0 c u q does m n now h (rest.commits j d t M c u q m n r does now left h) void_it;
+}
