@@ -1,17 +1,16 @@
 -- What is known of whoever waits gives that requests are answered, with what is still to be given.
-use Rattle.std.proofs.Common.{◌≡◌, ◌≢◌, ◌∙◌, ◌==◌, ℕ, Bool, true, false, cond, List, [], ◌∷◌, map, refl, sym, ap, subst, Option, Some, None}
-use Rattle.std.specs.Prelude.{◌&&◌, is_some, option_map}
+use Rattle.std.proofs.Common.{◌≡◌, ◌∙◌, ℕ, Bool, true, false, cond, List, [], map, refl, sym, ap, subst, Option, Some, None}
+use Rattle.std.specs.Prelude.{option_map}
 use Rattle.arj_protocol.specs.Words as words
 use Rattle.arj_protocol.specs.Words.{Ask, Binding, End, Head, Header, Op, Path, Uid, asks}
 use Rattle.arj_protocol.specs.Words.ask
-use Rattle.arj_protocol.specs.Ask.{actor, asked_by}
+use Rattle.arj_protocol.specs.Ask.{actor}
 use Rattle.arj_protocol.specs.Call.{At, AtActivate, AtBind, AtInvoke, AtLoad, AtNote, Steps, ask_at, invoked_op, is_include, next_ask}
-use Rattle.arj_protocol.specs.Commit.{Confirming, Machine, Preparing, Used, Voting, ask_of, confirm_ask, included_of, left_of, plan_of, states_for, vote_ask}
-use Rattle.arj_protocol.specs.Coord.{Calling, Committing, Coord, Doing, Now, doing_of}
+use Rattle.arj_protocol.specs.Commit.{Confirming, Machine, Preparing, Used, Voting, ask_of, confirm_ask, included_of, plan_of, states_for, vote_ask}
+use Rattle.arj_protocol.specs.Coord.{Calling, Committing, Coord, Doing, doing_of}
 use Rattle.arj_protocol.specs.Effect.{Disk, prepare_answer}
 use Rattle.arj_protocol.specs.Naming.{Naming, is_over}
 use Rattle.arj_protocol.specs.Node.{Parts, ask_is_meant, serve, taken}
-use Rattle.arj_protocol.specs.Order.{has}
 use Rattle.arj_protocol.specs.Server.{has_ended}
 use Rattle.arj_protocol.specs.Step.{Node}
 use Rattle.arj_protocol.specs.Tree.{at_place, is_own}
@@ -23,12 +22,11 @@ use Rattle.arj_run_law.specs.Worlds.{IsGoodOf}
 use Rattle.arj_view_law.specs.Seen.{In, Post, Seen, up}
 use Rattle.arj_disk_view_law.proofs.Frames.{node_here}
 use Rattle.arj_address_law.proofs.Lists.{some_is}
-use Rattle.arj_address_law.specs.Addresses.{AreAddressed}
-use Rattle.arj_lock_fact_law.specs.Requests.{IsAskedBy, RequestsAreKnown}
-use Rattle.arj_round_law.specs.Rounds.{AnswersWaits, HasCome, IsVoid}
-use Rattle.arj_round_law.specs.Waits.{AsksFor, IsOvertaken, IsSaid, Want, coord_in, coord_of, want_of_call, want_of_commit}
-use Rattle.arj_wait_law.specs.Told.{ArePastIn, EndsArePast}
-use Rattle.arj_wait_law.specs.Waits.{AnswersRest, KnownGive, LeftOfCommit, LeftOfStep, WaitsAreKnown}
+use Rattle.arj_lock_fact_law.specs.Requests.{IsAskedBy}
+use Rattle.arj_round_law.specs.Rounds.{HasCome, IsVoid}
+use Rattle.arj_round_law.specs.Waits.{IsOvertaken, IsSaid, coord_in, coord_of, want_of_call, want_of_commit}
+use Rattle.arj_wait_law.specs.Told.{ArePastIn}
+use Rattle.arj_wait_law.specs.Waits.{KnownGive, LeftOfCommit, LeftOfStep, WaitsAreKnown}
 use Rattle.arj_wait_law.proofs.Replies.{activate_answers, bind_answers, confirm_answers, invoke_answers, load_answers, prepare_answers, record_answers, taken_void, vote_answers}
 use Rattle.arj_wait_law.proofs.Untold.{its_coord, its_up, naming_untold, server_untold}
 

@@ -6,7 +6,7 @@ use Rattle.std.proofs.lemmas.Bool.{and_parts, or_cases}
 use Rattle.arj_base.proofs.Uids.{uid_is}
 use Rattle.arj_address_law.proofs.Lists.{some_is}
 use Rattle.arj_lock.proofs.Members as list
-use Rattle.arj_lock.proofs.Members.{in_from, in_to}
+use Rattle.arj_lock.proofs.Members.{in_to}
 use Rattle.arj_protocol.specs.Words.{Ask, Asked, Binding, BoundReply, ConfirmedReply, End, Head, InvokedReply, Message, ObjectState, Op, Path, RecordedReply, Uid, VotedReply, What, asks, is_on, last_uid, object, tops_of, uid_eq, uids_of}
 use Rattle.arj_protocol.specs.Words.ask
 use Rattle.arj_protocol.specs.Words.confirmed
@@ -29,7 +29,7 @@ use Rattle.arj_protocol.specs.Node.{Handled, Parts, Took, Void, ack_told, by_rep
 use Rattle.arj_protocol.specs.Order.{at_number, at_uid, binding_eq, binding_less}
 use Rattle.arj_protocol.specs.Says.{AreAll, is_naming_effect, is_server_effect}
 use Rattle.arj_protocol.specs.Server as server
-use Rattle.arj_protocol.specs.Server.{Kept, Server, active_binding, apply_ends, changed_by, first_unbound, has_ended, invoke, invoke_kept, invoke_new, invoke_now, is_below, is_told, keeps, on_copy, other_inc, server_holders, took_copy, vote, vote_now, vote_yes}
+use Rattle.arj_protocol.specs.Server.{Kept, Server, active_binding, apply_ends, changed_by, first_unbound, has_ended, invoke, invoke_kept, invoke_new, invoke_now, is_below, is_told, keeps, on_copy, other_inc, server_holders, took_copy, vote, vote_now}
 use Rattle.arj_protocol.proofs.PartSays.{activate_own, bind_own, confirm_own, ends_own, invoke_own, note_own, told_own, vote_own}
 use Rattle.arj_part_law.specs.Actions.{Action, AreBegun}
 use Rattle.arj_part_law.specs.Ends.{ask_ends, brought, brought_by, told_by}
@@ -319,7 +319,7 @@ module _ (acts : List Action) (begun : AreBegun acts) (k : ℕ) (d : Disk) (t : 
         by : (a : Ask) → ((u : Uid) (e : End) → Contains {X = Uid × End} (ask_ends a) (u, e) → has u) → By has (serve k d t from h a)
         by (ask.Bind x include_it avoid) ends = with_it (λ o. served from h (with_naming t) Reply.Bound (naming.bind h.path x include_it avoid d.names o)) t.naming refl
             (λ m is. let r = naming.bind h.path x include_it avoid d.names m in answered h (with_naming t r.part) r.outs (option_map Reply.Bound r.reply) (no_vote (actor h.path) Reply.Bound (λ r. tt) r.reply) server_on
-                (named_on m r.part is (bind_told h.path x include_it avoid d.names m) (rows_bind acts begun h.path path x include_it avoid d.names m (its_rows m is))) (ok_naming r.outs (says_mean acts r.outs (bind_says h.path x include_it avoid d.names m)) (bind_own h.path x include_it avoid d.names m)))
+            (named_on m r.part is (bind_told h.path x include_it avoid d.names m) (rows_bind acts begun h.path path x include_it avoid d.names m (its_rows m is))) (ok_naming r.outs (says_mean acts r.outs (bind_says h.path x include_it avoid d.names m)) (bind_own h.path x include_it avoid d.names m)))
         by (ask.Load x) ends = load (holder_of (object x) d.store)
           where
             state : (s : Option ObjectState) → By has (load_held from h t s)
@@ -333,7 +333,7 @@ module _ (acts : List Action) (begun : AreBegun acts) (k : ℕ) (d : Disk) (t : 
             (served_on [] (λ u e i. none_in u e i) r.part (rows_activate acts begun k h.path b st t.server (held.calls, held.keys)) (λ u. told_activate u k h.path b st t.server)) naming_on (ok_server r.outs (activate_own k h.path b st t.server))
         by (ask.Record x b i g) ends = with_it (λ o. served from h (with_naming t) Reply.Noted (naming.note h.path x b i g o)) t.naming refl
             (λ m is. let r = naming.note h.path x b i g m in answered h (with_naming t r.part) r.outs (option_map Reply.Noted r.reply) (no_vote (actor h.path) Reply.Noted (λ r. tt) r.reply) server_on
-                (named_on m r.part is (note_told h.path x b i g m) (rows_note acts begun h.path x b i g m (its_rows m is))) (ok_naming r.outs (says_mean acts r.outs (note_says h.path x b i g m)) (note_own h.path x b i g m)))
+            (named_on m r.part is (note_told h.path x b i g m) (rows_note acts begun h.path x b i g m (its_rows m is))) (ok_naming r.outs (says_mean acts r.outs (note_says h.path x b i g m)) (note_own h.path x b i g m)))
         by (ask.Invoke x b i ends o) each = let r = server.invoke k h x b i ends o t.server in answered h (with_server t r.part) r.outs (option_map Reply.Invoked r.reply) (no_vote (actor h.path) Reply.Invoked (λ r. tt) r.reply)
             (served_on ends each r.part (rows_invoke acts begun k h x b i ends o t.server (who.0, who.1, ap uids_of (sym who.2), ap tops_of (sym who.2)) (held.calls, held.keys)) (λ u. told_invoke u k h x b i ends o t.server)) naming_on (ok_server r.outs (invoke_own k h x b i ends o t.server))
         by (ask.Vote i ties ends) each = let r = server.vote k h.path i ties ends t.server in answered h (with_server t r.part) r.outs (option_map Reply.Voted r.reply) (votes_own acts begun k h.path i ties ends t.server (held.calls, held.keys))
@@ -351,7 +351,7 @@ module _ (acts : List Action) (begun : AreBegun acts) (k : ℕ) (d : Disk) (t : 
             one false = new (prepare_answer (actor h.path) states d.store)
         by (ask.Confirm grants excluded included) ends = with_it (λ o. served from h (with_naming t) Reply.Confirmed (confirm h.path grants excluded included d.names o)) t.naming refl
             (λ m is. let r = confirm h.path grants excluded included d.names m in answered h (with_naming t r.part) r.outs (option_map Reply.Confirmed r.reply) (no_vote (actor h.path) Reply.Confirmed (λ r. tt) r.reply) server_on
-                (named_on m r.part is (confirm_told h.path grants excluded included d.names m) (rows_confirm acts begun h.path path grants excluded included d.names m (its_rows m is))) (ok_naming r.outs (confirm_means acts h.path grants excluded included d.names m top) (confirm_own h.path grants excluded included d.names m)))
+            (named_on m r.part is (confirm_told h.path grants excluded included d.names m) (rows_confirm acts begun h.path path grants excluded included d.names m (its_rows m is))) (ok_naming r.outs (confirm_means acts h.path grants excluded included d.names m top) (confirm_own h.path grants excluded included d.names m)))
 
     coord_left : (r : Served Coord (Unit {0})) → Ok r.outs → By has (coord_heard t r)
     coord_left r ok = by r.reply

@@ -4,3 +4,4 @@ pub mod Past
 pub mod Untold
 pub mod Replies
 pub mod Gives
+pub mod Keeping

@@ -1,5 +1,5 @@
 -- Who was told to have ended has ended where it began: at all nodes, and by every message that was sent.
-use Rattle.std.proofs.Common.{◌≡◌, ◌≢◌, ◌⊎◌, ◌<◌, ◌+◌, ◌==◌, arith, ℕ, zero, suc, List, [], ◌∷◌, ◌++◌, length, map, Bool, true, false, cond, ◌&&◌, Option, Some, None, Contains, refl, sym, ◌∙◌, ap, subst, inl, inr, ⊎_elim, eqb-true}
+use Rattle.std.proofs.Common.{◌≡◌, ◌≢◌, ◌+◌, ◌==◌, arith, ℕ, zero, suc, List, [], ◌∷◌, ◌++◌, length, map, Bool, true, false, cond, Option, Some, None, Contains, refl, sym, ◌∙◌, ap, subst, inl, inr, ⊎_elim, eqb-true}
 use Rattle.std.specs.Prelude.{⊤, is_some, slice_get}
 use Rattle.std.specs.List.{AllByRecursion, flat_map}
 use Rattle.std.proofs.lemmas.Bool.{and_parts}
@@ -10,7 +10,7 @@ use Rattle.arj_protocol.specs.Words.body
 use Rattle.arj_protocol.specs.Words.ending
 use Rattle.arj_protocol.specs.Words.message
 use Rattle.arj_protocol.specs.Words.role
-use Rattle.arj_protocol.specs.Ask.{Reply, actor}
+use Rattle.arj_protocol.specs.Ask.{Reply}
 use Rattle.arj_protocol.specs.Asking.{again_all, began_line, begin_action, heard}
 use Rattle.arj_protocol.specs.Confirm.{back_lines, recovered_naming}
 use Rattle.arj_protocol.specs.Coord.{Coord}
@@ -22,17 +22,16 @@ use Rattle.arj_protocol.specs.Named.{Named}
 use Rattle.arj_protocol.specs.Naming.{Naming}
 use Rattle.arj_protocol.specs.Node.{Parts, Took, handle, holders, prepared_actions, query_about, with_coord}
 use Rattle.arj_protocol.specs.Order.{uid_set, without_number}
-use Rattle.arj_protocol.specs.Server.{is_told}
 use Rattle.arj_protocol.specs.Step.{Input, Node, acts as acts_of, first_disk, first_node, hello_to, naming_at, naming_back, numbers_to, parent_of, parts_in, recovered_records, refusal_up, restart_outs, tolds_again}
 use Rattle.arj_protocol.specs.Step as input
-use Rattle.arj_protocol.specs.Tree.{Branch, Tree, at_place, branch_of, is_own, new_tree, next_uid, path_below}
+use Rattle.arj_protocol.specs.Tree.{Branch, at_place, branch_of, is_own, new_tree, next_uid, path_below}
 use Rattle.arj_protocol.specs.World.{Labelled, format, is_serial_kind}
 use Rattle.arj_protocol.proofs.CoordSays.{acked_own, acts_own, again_own, heard_own, query_own}
-use Rattle.arj_part_law.specs.Actions.{Action, AreBegun, Begins, IsNew, action_of, act_of, paths_of}
+use Rattle.arj_part_law.specs.Actions.{Action, AreBegun, IsNew, action_of, act_of, paths_of}
 use Rattle.arj_part_law.specs.Claims.{AreOfNode, GoesOn}
 use Rattle.arj_part_law.specs.Coords.{IsGoodCoord}
 use Rattle.arj_part_law.specs.Copies.{IsTree}
-use Rattle.arj_part_law.specs.Ends.{AllSayEnds, AreOfCommits, Decides, IsSure, IsSurelyHandled, IsToldSo, SaysEnds, SaysEndsIn, brought, told_by}
+use Rattle.arj_part_law.specs.Ends.{AllSayEnds, AreOfCommits, Decides, IsSure, IsSurelyHandled, IsToldSo, SaysEnds}
 use Rattle.arj_part_law.specs.Incs.{IsTrulyHandled}
 use Rattle.arj_part_law.specs.Messages.{AreOfTops, IsDecided}
 use Rattle.arj_part_law.proofs.Begun.{begun_tree, on_own, path_found}
@@ -48,23 +47,23 @@ use Rattle.arj_run_law.specs.Worlds.{IsGoodDisk, IsGoodOf, IsUp}
 use Rattle.arj_run_law.proofs.Begins.{begin_good, its_uid}
 use Rattle.arj_run_law.proofs.Handled.{act_good, good_coord, it, message_good, own_of_disk, records_of_disk, tick_good, tops_of_disk}
 use Rattle.arj_run_law.proofs.Starts.{restart_good}
-use Rattle.arj_view_law.specs.Keeps.{Keeps, is_act}
+use Rattle.arj_view_law.specs.Keeps.{is_act}
 use Rattle.arj_view_law.specs.Seen.{In, Post, Seen, at, down, given, posted, said, see, up}
 use Rattle.arj_view_law.specs.Walks.{Up, Walks, halted}
 use Rattle.arj_view_law.proofs.Happens.{runs_hold}
 use Rattle.arj_disk_view_law.proofs.FirstSeen.{first_at}
 use Rattle.arj_disk_view_law.proofs.Frames.{node_here}
-use Rattle.arj_disk_run_law.specs.Places.{AreBegunIn, AreCallRows, AreEntryRows, AreKeyed, AreNamesRows, AsksBegun, IsAboutBegun, IsBegun, IsCallRow, IsEntryRow, MeansBegun, asked_about}
+use Rattle.arj_disk_run_law.specs.Places.{AreBegunIn, AreNamesRows, AsksBegun, IsAboutBegun, IsBegun, IsCallRow, IsEntryRow, MeansBegun, asked_about}
 use Rattle.arj_disk_run_law.proofs.EntryRows.{rows_recovered}
 use Rattle.arj_disk_run_law.proofs.Holders.{begun_more, call_more, path_more}
 use Rattle.arj_disk_run_law.proofs.Lists.{all_append, all_each, all_keys, all_put, all_set, all_without}
-use Rattle.arj_disk_run_law.proofs.Means.{All, again_means, back_means, both, coord_means, hellos_mean, queries_mean, recovered_means}
+use Rattle.arj_disk_run_law.proofs.Means.{All, again_means, coord_means, queries_mean}
 use Rattle.arj_address_law.proofs.Lists.{some_is}
 use Rattle.arj_lock_fact_law.specs.Acts.{KeepsOf, begins_in}
 use Rattle.arj_lock_fact_law.proofs.Acts.{kept_of}
 use Rattle.arj_wait_law.specs.Told.{ArePast, ArePastIn, EndsArePast, HandlersKeepPast, IsClosedAt, IsNamedBy, IsPast, IsPastNode, RunsKeepPast, SaysPast, ToldPast, live_in}
-use Rattle.arj_wait_law.proofs.Handling.{By, HasEnd, HoldsBegun, IsOwnNamed, LeavesPast, holders_begun, message_left, no_sends, tell_queries}
-use Rattle.arj_wait_law.proofs.Tellers.{AllTell, Knows, TellsOf, tell_acked, tell_acts, tell_again, tell_both, tell_heard, tell_map, tell_query, tell_records}
+use Rattle.arj_wait_law.proofs.Handling.{By, HasEnd, HoldsBegun, IsOwnNamed, LeavesPast, holders_begun, message_left, tell_queries}
+use Rattle.arj_wait_law.proofs.Tellers.{AllTell, Knows, TellsOf, tell_acked, tell_acts, tell_again, tell_heard, tell_query, tell_records}
 
 -- ---- who is up
 
@@ -392,7 +391,7 @@ module _ (acts : List Action) (e k : ℕ) (d : Disk) (t : Parts) (M : Seen) (goo
       let now = fine_end acts e k (with_coord t did.part) did.outs d M (act_good e k d t M (acts, good) hd i is free) in
       let to = on (with_coord t did.part) w.0 (stand_acts acts (paths_of acts) tree d.intents t.coord was.good hd i free).ends in
       goes (with_coord t did.part) did.outs to (coord_told did.part to) (effects acts k (with_coord t did.part) M.nodes now did.outs s.1
-          (tell_acts (IsOwnNamed acts k) acts (paths_of acts) tree d.intents t.coord was.good hd i free (knows acts k t.coord was) (knows acts k did.part now)) (coord_means acts did.part did.outs w.1 (acts_own i d.intents t.coord)))
+      (tell_acts (IsOwnNamed acts k) acts (paths_of acts) tree d.intents t.coord was.good hd i free (knows acts k t.coord was) (knows acts k did.part now)) (coord_means acts did.part did.outs w.1 (acts_own i d.intents t.coord)))
     where
       other : (l : Label) (how : Kind) (parent : Option Label) → i ≢ input.Begin l how parent
       other l how parent same = let no_way : false ≡ true = sym (ap is_act same) ∙ is in cc
@@ -411,9 +410,9 @@ module _ (acts : List Action) (e k : ℕ) (d : Disk) (t : Parts) (M : Seen) (goo
       let its_own : AreOfCommits t.coord.telling r.part.tree = λ u i c own. stands u ending.Commit (x.sure.records u i c (sym (w.0.own u) ∙ own)) in
       goes v (tick_outs (record { number = k; disk = d; live = Some t }) t) to (coord_told r.part to)
       (all_append (EffectPast acts (live_put k (Some v) M.nodes) k) (r.outs ++ tolds) (map query_about us) (all_append (EffectPast acts (live_put k (Some v) M.nodes) k) r.outs tolds
-          (effects acts k v M.nodes now r.outs s.1 (tell_again (IsOwnNamed acts k) t.coord.doings t.coord) (coord_means acts r.part r.outs w.1 (again_own t.coord.doings t.coord)))
-          (effects acts k v M.nodes now tolds (sure_records r.part.tree t.coord.telling its_own) (tell_records (IsOwnNamed acts k) t.coord.telling (records_named acts k t.coord.telling (let n = x.good (paths_of acts) tree (path_found acts begun) in n.telling) (λ u j i. (x.faithful.told u j (in_to (u, j) t.coord.telling i)).0 ∙ was.node))) (again_means acts t.coord.telling)))
-          (effects acts k v M.nodes now (map query_about us) (says_queries r.part.tree us) (tell_queries (IsOwnNamed acts k) us) (queries_mean acts us (holders_begun acts begun d t disk.0 disk.1 held))))
+      (effects acts k v M.nodes now r.outs s.1 (tell_again (IsOwnNamed acts k) t.coord.doings t.coord) (coord_means acts r.part r.outs w.1 (again_own t.coord.doings t.coord)))
+      (effects acts k v M.nodes now tolds (sure_records r.part.tree t.coord.telling its_own) (tell_records (IsOwnNamed acts k) t.coord.telling (records_named acts k t.coord.telling (let n = x.good (paths_of acts) tree (path_found acts begun) in n.telling) (λ u j i. (x.faithful.told u j (in_to (u, j) t.coord.telling i)).0 ∙ was.node))) (again_means acts t.coord.telling)))
+      (effects acts k v M.nodes now (map query_about us) (says_queries r.part.tree us) (tell_queries (IsOwnNamed acts k) us) (queries_mean acts us (holders_begun acts begun d t disk.0 disk.1 held))))
 
 -- ---- an action begins
 
@@ -544,9 +543,9 @@ module _ (acts : List Action) (hd : Header) (e k : ℕ) (d : Disk) (M : Seen) (g
   restart_past : Walks (ArePastIn acts) e k (restart_outs hd k (d.inc + 1) d) (Up (ArePastIn acts) k anew) d M
   restart_past = walk acts e k anew (restart_outs hd k (d.inc + 1) d) d M (starts_told acts good.begun I k (d.inc + 1) d b) (λ j n off is. node_to acts (live_put k None M.nodes) I to n (h.0 j n off is)) (λ p i. says_to acts (live_put k None M.nodes) I to p (h.1 p i)) b
       (all_both P four hellos (all_both P three queries (all_both P two tolds (all_both P one records (tt, (tt, (tt, (tt, back_all P (λ b. tt) (naming_at k (d.inc + 1) d.names))))) (tt, all_map P (λ (e : Uid × Intent). Say (body.Recovered k e.0)) d.intents (λ e. tt)))
-          (effects acts k anew M.nodes now tolds (sure_records (new_tree k (d.inc + 1)) d.intents now.sure.records) (tell_records (IsOwnNamed acts k) d.intents (records_named acts k d.intents disk.tops owned)) (again_means acts d.intents)))
-          (effects acts k anew M.nodes now queries (says_queries (new_tree k (d.inc + 1)) us) (tell_queries (IsOwnNamed acts k) us) (queries_mean acts us prepared)))
-          (all_map P (hello_to k (d.inc + 1)) (without_number k (numbers_to hd.nodes)) (λ w. record { told = λ u e i. none_in u e i; brings = λ u e i. none_in u e i; asks = tt })))
+      (effects acts k anew M.nodes now tolds (sure_records (new_tree k (d.inc + 1)) d.intents now.sure.records) (tell_records (IsOwnNamed acts k) d.intents (records_named acts k d.intents disk.tops owned)) (again_means acts d.intents)))
+      (effects acts k anew M.nodes now queries (says_queries (new_tree k (d.inc + 1)) us) (tell_queries (IsOwnNamed acts k) us) (queries_mean acts us prepared)))
+      (all_map P (hello_to k (d.inc + 1)) (without_number k (numbers_to hd.nodes)) (λ w. record { told = λ u e i. none_in u e i; brings = λ u e i. none_in u e i; asks = tt })))
     where
       P : Effect → Type 0
       P = EffectPast acts I k

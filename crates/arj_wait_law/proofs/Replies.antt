@@ -1,21 +1,21 @@
 -- When a node answers a request: each part does, but to who was told to have ended, and in few cases more.
-use Rattle.std.proofs.Common.{◌≡◌, ◌≢◌, ◌==◌, ℕ, Bool, true, false, cond, List, [], ◌∷◌, refl, sym, ◌∙◌, ap, subst, Option, Some, None}
-use Rattle.std.specs.Prelude.{⊤, ◌&&◌, ◌||◌, not, is_some, option_map}
-use Rattle.arj_protocol.specs.Words.{Ask, Binding, BoundReply, ConfirmedReply, End, Head, InvokedReply, Message, ObjectState, Op, Path, RecordedReply, Row, Uid, VotedReply, What, asks, object, tops_of, uids_of, op_mode}
+use Rattle.std.proofs.Common.{◌≡◌, ◌≢◌, ◌==◌, ℕ, Bool, true, false, cond, List, [], ◌∷◌, refl, ◌∙◌, ap, subst, Option, Some, None}
+use Rattle.std.specs.Prelude.{◌&&◌, ◌||◌, not, is_some, option_map}
+use Rattle.arj_protocol.specs.Words.{Ask, Binding, BoundReply, ConfirmedReply, End, Head, InvokedReply, Message, ObjectState, Op, Path, RecordedReply, Row, Uid, VotedReply, What, asks, object, uids_of, op_mode}
 use Rattle.arj_protocol.specs.Words.ask
 use Rattle.arj_protocol.specs.Words.confirmed
 use Rattle.arj_protocol.specs.Words.mode
 use Rattle.arj_protocol.specs.Words.prepared
 use Rattle.arj_protocol.specs.Words.recorded
 use Rattle.arj_protocol.specs.Words.what
-use Rattle.arj_protocol.specs.Ask.{Reply, actor, answers, top_of}
+use Rattle.arj_protocol.specs.Ask.{Reply, actor, top_of}
 use Rattle.arj_protocol.specs.Confirm.{Grants, Marks, checked, confirm, confirm_entries, confirm_new, confirms, entries_after, has_all, lock_all, prepared_by, wanted}
 use Rattle.arj_protocol.specs.Copy.{Copy, ask_copy, invoke_copy}
-use Rattle.arj_protocol.specs.Effect.{Already, Did, Disk, Effect, InDoubt, Old, Pair, Prep, Ready, Served, either, held_at, holder_of, is_prepared, prepare_answer, reply, void}
+use Rattle.arj_protocol.specs.Effect.{Already, Did, Disk, InDoubt, Old, Pair, Prep, Ready, Served, either, held_at, holder_of, is_prepared, prepare_answer, reply, void}
 use Rattle.arj_protocol.specs.Named.{Counted, Live, Made, Named, bind_call, bind_made, bind_named, conflict_on, include_asked, live_above, live_asked, made_above, make_asked, note_named}
 use Rattle.arj_protocol.specs.Naming as naming
 use Rattle.arj_protocol.specs.Naming.{Naming, is_over, listed_entry, on_counted, on_named}
-use Rattle.arj_protocol.specs.Node.{Handled, Parts, Took, Void, answer_is_meant, ask_is_meant, asked_is_meant, handle, handle_ask, if_naming, is_meant, load_by, load_held, prepare_by, prepare_states, sends_answer, serve, served, taken, with_naming, with_server}
+use Rattle.arj_protocol.specs.Node.{Parts, Void, answer_is_meant, ask_is_meant, asked_is_meant, handle, handle_ask, if_naming, is_meant, load_by, load_held, prepare_by, sends_answer, serve, served, taken, with_naming, with_server}
 use Rattle.arj_protocol.specs.Order.{at_number, at_uid, binding_eq, binding_less}
 use Rattle.arj_protocol.specs.Server as server
 use Rattle.arj_protocol.specs.Server.{Kept, Server, active_binding, apply_ends, changed_by, first_unbound, has_ended, invoke_kept, invoke_new, invoke_now, is_below, on_copy, other_inc, took_copy, vote_now}

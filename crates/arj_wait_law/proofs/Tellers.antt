@@ -2,7 +2,7 @@
 use Rattle.std.proofs.Common.{◌≡◌, ◌≢◌, ◌+◌, ℕ, List, [], ◌∷◌, ◌++◌, Bool, true, false, cond, not, ◌&&◌, ◌||◌, map, Option, Some, None, Contains, refl, sym, ◌∙◌, ap, subst, inl, inr}
 use Rattle.std.specs.Prelude.{⊤, is_some}
 use Rattle.std.specs.List.{AllByRecursion, flat_map}
-use Rattle.arj_lock.proofs.Members.{In, in_from, in_to}
+use Rattle.arj_lock.proofs.Members.{In, in_from}
 use Rattle.arj_protocol.specs.Words.{Uid, End, Kind, Path, Body, Label, Ask, Asked, Head, Header, request, uid_eq}
 use Rattle.arj_protocol.specs.Words.ask
 use Rattle.arj_protocol.specs.Words.ending
@@ -13,7 +13,7 @@ use Rattle.arj_protocol.specs.Ask.{Reply, actor}
 use Rattle.arj_protocol.specs.Asking.{again_all, again_now, asks_all, asks_node, asks_step, call, call_steps, commit_action, commit_open, commit_top, commits_in, gaveup_lines, give_up, give_up_doing, gives_up, goes_on, heard, heard_by, heard_call, heard_doing, heard_none, heard_now, include, last_req, mark_lines, moved_commit, next_req, renewed, step_call, step_commit, waits_for_call, waits_for_commit}
 use Rattle.arj_protocol.specs.Call.{CallStep, Ended, On, Steps, given_up, next_ask, next_node, start}
 use Rattle.arj_protocol.specs.Call as calls
-use Rattle.arj_protocol.specs.Commit.{Aborts, Asks, CommitStep, Decides, Machine, Marked, Plan, Stays, has_record, nodes_given_up, participants, plan_of, servers_of, waiting}
+use Rattle.arj_protocol.specs.Commit.{Aborts, Asks, CommitStep, Decides, Marked, Plan, Stays, has_record, nodes_given_up, participants, plan_of, servers_of, waiting}
 use Rattle.arj_protocol.specs.Commit as commit
 use Rattle.arj_protocol.specs.Coord.{Calling, Committing, Coord, Doing, Idle, Now, doing_of, is_free, keeping_of, on_doing, on_root, plan_for, root_at, with_keeping}
 use Rattle.arj_protocol.specs.Effect.{Did, Do, Effect, Intent, PutIntent, Say, Send, Served}

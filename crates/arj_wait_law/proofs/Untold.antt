@@ -1,25 +1,23 @@
 -- No action on the path of one that waits was told to have ended.
-use Rattle.std.proofs.Common.{◌≡◌, ◌≤◌, ◌⊎◌, ◌==◌, arith, ℕ, zero, suc, Bool, true, false, cond, List, [], ◌∷◌, ◌++◌, length, take, refl, sym, ◌∙◌, ap, subst, inl, inr, ⊎_elim, eqb-true, Option, Some, None}
-use Rattle.std.specs.Prelude.{◌||◌, is_some, option_map}
+use Rattle.std.proofs.Common.{◌≡◌, ◌≤◌, ◌==◌, arith, ℕ, zero, suc, Bool, true, false, List, [], ◌∷◌, length, take, refl, sym, ◌∙◌, ap, subst, ⊎_elim, eqb-true, Option, Some}
+use Rattle.std.specs.Prelude.{◌||◌, is_some}
 use Rattle.std.specs.List.{list_any}
 use Rattle.std.proofs.lemmas.Bool.{and_parts, false_from_ne_true, or_cases}
 use Rattle.arj_base.proofs.Uids.{uid_is, uid_same}
 use Rattle.arj_protocol.specs.Words.{Path, Uid, is_on, tops_of, uid_eq, uids_of}
 use Rattle.arj_protocol.specs.Ask.{top_path}
-use Rattle.arj_protocol.specs.Coord.{Coord}
 use Rattle.arj_protocol.specs.Naming.{Naming, is_over}
 use Rattle.arj_protocol.specs.Node.{Parts}
 use Rattle.arj_protocol.specs.Server.{Server, has_ended, is_told}
 use Rattle.arj_protocol.specs.Step.{Node}
 use Rattle.arj_protocol.specs.Tree.{Branch, branch_of}
-use Rattle.arj_part_law.specs.Actions.{Action, AreBegun, paths_of}
+use Rattle.arj_part_law.specs.Actions.{Action, paths_of}
 use Rattle.arj_part_law.specs.Coords.{IsAsking, IsGoodCoord}
 use Rattle.arj_part_law.specs.Copies.{IsTree}
 use Rattle.arj_part_law.proofs.Begun.{begun_tree, path_found}
 use Rattle.arj_part_law.proofs.GoodTrees.{above_of, found_by, over_below, shorter}
 use Rattle.arj_run_law.specs.Worlds.{IsGoodOf, IsMemory, IsUp}
 use Rattle.arj_view_law.specs.Seen.{Seen}
-use Rattle.arj_address_law.proofs.Lists.{some_is}
 use Rattle.arj_wait_law.specs.Told.{ArePastIn, IsClosedAt, IsPast, ToldPast, live_in}
 
 -- who passes the test stands in the list

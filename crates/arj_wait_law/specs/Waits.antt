@@ -1,5 +1,5 @@
 -- So much is known of whoever waits, in every run; and what is still to be given of requests for which somebody waits.
-use Rattle.std.specs.Prelude.{⊤, ◌≡◌, ◌≢◌, ◌==◌, ◌||◌, ℕ, Bool, true, false, List, Some, is_some, map}
+use Rattle.std.specs.Prelude.{⊤, ◌≡◌, ◌≢◌, ◌==◌, ◌||◌, ℕ, Bool, true, false, Some, is_some, map}
 use Rattle.arj_journal.specs.ScriptForm.{HeaderInForm}
 use Rattle.arj_protocol.specs.Words as words
 use Rattle.arj_protocol.specs.Words.{Header, Uid, object}

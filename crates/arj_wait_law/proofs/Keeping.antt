@@ -1,0 +1,75 @@
+-- What is known of whoever waits is kept by each handler, where an include asks for a store of the header.
+use Rattle.std.proofs.Common.{◌≡◌, ◌≤◌, ◌+◌, arith, ℕ, true, List, [], ◌∷◌, length, Some}
+use Rattle.std.specs.Prelude.{◌&&◌, nat_le}
+use Rattle.std.specs.List.{AllByRecursion, list_all}
+use Rattle.std.proofs.lemmas.Bool.{and_parts, leb-true}
+use Rattle.std.proofs.lemmas.Bool.Decides.{nat_tests}
+use Rattle.arj_journal.specs.ScriptForm.{HeaderInForm, ObjectLineInForm}
+use Rattle.arj_journal.specs.declared.limits.TheConstants.{SERVERS, STORES}
+use Rattle.arj_text.specs.Fields.{NodesInForm, is_distinct}
+use Rattle.arj_protocol.specs.Words.{Header, ObjectLine}
+use Rattle.arj_protocol.specs.Asking.{again_all, begin_action}
+use Rattle.arj_protocol.specs.Effect.{Disk, Effect}
+use Rattle.arj_protocol.specs.Follow.{tick_outs}
+use Rattle.arj_protocol.specs.Node.{Parts, with_coord}
+use Rattle.arj_protocol.specs.Step.{acts, parent_of, parts_in, restart_outs}
+use Rattle.arj_protocol.specs.World.{is_serial_kind}
+use Rattle.arj_view_law.specs.Keeps.{KeepsAsked}
+use Rattle.arj_view_law.specs.Seen.{Seen, given}
+use Rattle.arj_view_law.specs.Walks.{Up, Walks}
+use Rattle.arj_view_law.proofs.Happens.{keeps_asked}
+use Rattle.arj_view_law.proofs.Together.{walks_both}
+use Rattle.arj_address_law.specs.Addresses.{AreAddressed, AreOf, IsNode, LineOf}
+use Rattle.arj_address_law.proofs.Runs.{so_kept}
+use Rattle.arj_lock_fact_law.specs.Requests.{RequestsAreKnown}
+use Rattle.arj_lock_fact_law.proofs.Requests.{requests_keep}
+use Rattle.arj_wait_law.specs.Told.{EndsArePast}
+use Rattle.arj_wait_law.specs.Waits.{HandlersKeepWaits}
+use Rattle.arj_wait_law.proofs.Past.{past_keep}
+
+-- ---- two relations
+
+pub asked_both : (hd : Header) (P Q : Seen → Type 0) → KeepsAsked hd P → KeepsAsked hd Q → KeepsAsked hd (λ M. P M × Q M)
+asked_both hd P Q one two = record {
+  quiet = λ e bs M quiet p. (one.quiet e bs M quiet p.0, two.quiet e bs M quiet p.1);
+  stop = λ e k d live M p. (one.stop e k d live M p.0, two.stop e k d live M p.1);
+  message = λ e k d t v from m outs M p there meant is. both e k outs v d M (one.message e k d t v from m outs M p.0 there meant is) (two.message e k d t v from m outs M p.1 there meant is);
+  act = λ e k d t i M is asks free p. let did = acts i d.intents t.coord in both e k did.outs (with_coord t did.part) d M (one.act e k d t i M is asks free p.0) (two.act e k d t i M is asks free p.1);
+  begin = λ e k d t l how parent M new may free p.
+      let did = begin_action l how parent (parent_of parent t.coord) t.coord in
+      both e k did.outs (with_coord t did.part) d (given l (record { node = k; serial = is_serial_kind how }) M) (one.begin e k d t l how parent M new may free p.0) (two.begin e k d t l how parent M new may free p.1);
+  tick = λ e k d t M p. both e k (tick_outs (record { number = k; disk = d; live = Some t }) t) (with_coord t (again_all t.coord.doings t.coord).part) d M (one.tick e k d t M p.0) (two.tick e k d t M p.1);
+  restart = λ e k d M p. both e k (restart_outs hd k (d.inc + 1) d) (parts_in k (d.inc + 1) d) d M (one.restart e k d M p.0) (two.restart e k d M p.1);
+  first = (one.first, two.first);
+}
+  where
+    both : (e k : ℕ) (outs : List Effect) (v : Parts) (d : Disk) (M : Seen) → Walks P e k outs (Up P k v) d M → Walks Q e k outs (Up Q k v) d M → Walks (λ N. P N × Q N) e k outs (Up (λ N. P N × Q N) k v) d M
+    both e k outs v d M a b = walks_both P Q e k outs (Up P k v) (Up Q k v) d M a b
+
+-- ---- addresses
+
+module _ (hd : Header) (form : HeaderInForm hd) where
+  abbrev Fits : ℕ → Type 0
+  Fits n = IsNode hd n
+
+  fits_one : Fits 1
+  fits_one = let n = form.nodes.0 in grind (arith, nat_tests, n)
+
+  listed : (ns : List ℕ) → list_all (λ m. nat_le 1 m && nat_le m hd.nodes) ns ≡ true → AreOf Fits ns
+  listed [] are = tt
+  listed (n ∷ ns) are = let p = and_parts (nat_le 1 n && nat_le n hd.nodes) (list_all (λ m. nat_le 1 m && nat_le m hd.nodes) ns) are in (p.0, listed ns p.1)
+
+  in_form : (most : ℕ) (ns : List ℕ) → NodesInForm hd.nodes most ns → AreOf Fits ns × (1 ≤ length ns)
+  in_form most ns are =
+      let p = and_parts (nat_le 1 (length ns) && nat_le (length ns) most) (list_all (λ m. nat_le 1 m && nat_le m hd.nodes) ns && is_distinct ns) are in
+      (listed ns (and_parts (list_all (λ m. nat_le 1 m && nat_le m hd.nodes) ns) (is_distinct ns) p.1).0, leb-true 1 (length ns) (and_parts (nat_le 1 (length ns)) (nat_le (length ns) most) p.0).0)
+
+  lines : (os : List ObjectLine) → AllByRecursion (ObjectLineInForm hd.nodes) os → AllByRecursion (LineOf Fits) os
+  lines [] all = tt
+  lines (o ∷ os) all = let f = all.0 in let s = in_form SERVERS o.servers f.servers in ((s.0, (in_form STORES o.stores f.stores).0, s.1), lines os all.1)
+
+  addressed : KeepsAsked hd (AreAddressed hd)
+  addressed = so_kept Fits fits_one hd (λ s is. is) (lines hd.objects form.objects.0)
+
+pub waits_keep : HandlersKeepWaits
+waits_keep hd form = asked_both hd (λ M. EndsArePast M × RequestsAreKnown M) (AreAddressed hd) (asked_both hd EndsArePast RequestsAreKnown (keeps_asked hd EndsArePast (past_keep hd)) (keeps_asked hd RequestsAreKnown (requests_keep hd))) (addressed hd form)
