@@ -10,7 +10,8 @@ use Rattle.arj_class.specs.Table.{writes}
 use Rattle.arj_journal.specs.declared.body.Body.{Body}
 use Rattle.arj_journal.specs.declared.body.Line.{Line}
 use Rattle.arj_disk_law.specs.Order.{counts_of}
-use Rattle.arj_disk_law.specs.State.{Done}
+use Rattle.arj_disk_law.specs.State.{Done, decided_in}
+use Rattle.arj_disk_law.proofs.History.{in_decided}
 use Rattle.arj_disk_law.specs.Words as disk
 use Rattle.arj_line_law.specs.Idle.{HasNothing}
 use Rattle.arj_lock.proofs.Members.{In, in_filter_map, in_from, in_to}
@@ -41,7 +42,7 @@ use Rattle.arj_serial_law.proofs.Locks.{number_uid, read_below, read_taken}
 use Rattle.arj_serial_law.proofs.Order.{IsShown, IsTopOf, before_top, called_first, conflict_of, in_order, its_top, listed, off_one, place_of_top, same_number, shown, stage_of_top, top_item, top_plain}
 use Rattle.arj_serial_law.proofs.Ties.{Tie, tie_of}
 use Rattle.arj_serial_law.proofs.Turning.{one_call}
-use Rattle.arj_joint_law.specs.Ordered.{AreTurnsOf}
+use Rattle.arj_joint_law.specs.Ordered.{AreOnce, AreTurnsOf}
 use Rattle.arj_joint_law.specs.Writers.{DecidedWritersStand, IsWriter, WritersAreCalledFirst, WritersAreNewestFirst}
 
 -- ---- the front of a journal
@@ -293,6 +294,23 @@ turns_left lines p (d ∷ ds) turns = by (p d) (turns_left lines p ds turns.1)
     by true ih = (λ e a b k. turns.0 e a b (there_before p e ds k), ih)
     by false ih = ih
 
+once_left : (p : Done → Bool) (ds : List Done) → AreOnce ds → AreOnce (filter p ds)
+once_left p [] once = tt
+once_left p (d ∷ ds) once = by (p d) (once_left p ds once.1)
+  where
+    none_left : (t : ℕ) (es : List Done) → decided_in es t ≡ false → decided_in (filter p es) t ≡ false
+    none_left t [] none = refl
+    none_left t (e ∷ es) none = one (p e) (e.top == t) refl none (none_left t es)
+      where
+        one : (b c : Bool) → (e.top == t) ≡ c → (c || decided_in es t) ≡ false → (decided_in es t ≡ false → decided_in (filter p es) t ≡ false) → decided_in (cond b (e ∷ filter p es) (filter p es)) t ≡ false
+        one b true is off ih = absurd (cc off)
+        one true false is off ih = ap (λ c. c || decided_in (filter p es) t) is ∙ ih off
+        one false false is off ih = ih off
+
+    by : (b : Bool) → AreOnce (filter p ds) → AreOnce (cond b (d ∷ filter p ds) (filter p ds))
+    by true ih = (none_left d.top ds once.0, ih)
+    by false ih = ih
+
 -- what is taken of a list where the function gives it
 mapped : {A B : Type 0} (f : A → Option B) (a : A) (b : B) (xs : List A) → In a xs → f a ≡ Some b → In b (filter_map f xs)
 mapped f a b [] k e = absurd k
@@ -304,7 +322,7 @@ mapped {A} {B} f a b (y ∷ ys) (inr k) e = by (f y) (mapped f a b ys k e)
     by (Some z) j = inr j
 
 -- of a top that wrote something survives
-wrote_something : (lines : List Line) (x : ℕ) (t : Top) (a : Act) → a.id ≡ t.id → Wrote lines x t → HasNothing lines a → ⊥
+pub wrote_something : (lines : List Line) (x : ℕ) (t : Top) (a : Act) → a.id ≡ t.id → Wrote lines x t → HasNothing lines a → ⊥
 wrote_something lines x t a same (c, there, w, top) none =
     let f = in_filter_map (kept (committed lines) (recovered lines)) c (said lines) (in_from c (committed_calls lines) there) in
     subst (In c) none.calls (by f.0 f.1 (top_in (let q = f.0 in q.it.path)) refl f.2)
@@ -326,10 +344,10 @@ wrote_something lines x t a same (c, there, w, top) none =
 
 module _ (values : Values) (lines : List Line) (x : ℕ) (S : State) (right : AreRight new_book lines) (t : IsTied values lines x S) where
   -- a decision and its top's action
-  record IsOf (d : Done) (u : Top) : Type 0 where
-    its : IsTopOf lines u
-    listed : In u (tops lines)
-    number : d.top ≡ uid_number (let k = its in let a = k.act in a.uid)
+  pub record IsOf (d : Done) (u : Top) : Type 0 where
+    pub its : IsTopOf lines u
+    pub listed : In u (tops lines)
+    pub number : d.top ≡ uid_number (let k = its in let a = k.act in a.uid)
 
   its_top_of : (d : Done) (u : Top) → IsDecision values lines x d u → IsOf d u
   its_top_of d u is =
@@ -341,17 +359,61 @@ module _ (values : Values) (lines : List Line) (x : ℕ) (S : State) (right : Ar
         number = is.number ∙ ap (λ n. uid_number (uid_of_id (acts lines) n)) (sym k.number) ∙ ap uid_number (number_uid k.act (acts lines) (λ y m e. same_number lines right y k.act m k.there e) k.there);
       }
 
-  decision_of : (ds : List Done) (us : List Top) → AreDecisions values lines x ds us → (u : Top) → In u us → (d : Done) × disk.In d ds × IsOf d u
+  pub decision_of : (ds : List Done) (us : List Top) → AreDecisions values lines x ds us → (u : Top) → In u us → (d : Done) × disk.In d ds × IsOf d u
   decision_of [] [] are u k = absurd k
   decision_of [] (w ∷ us) are u k = absurd are
   decision_of (d ∷ ds) [] are u k = absurd k
   decision_of (d ∷ ds) (w ∷ us) are u (inl same) = (d, inl refl, subst (IsOf d) same (its_top_of d w are.0))
   decision_of (d ∷ ds) (w ∷ us) are u (inr k) = let r = decision_of ds us are.1 u k in (r.0, inr r.1, r.2)
 
+  -- decided once, their tops are apart
+  pub apart_of : (ds : List Done) (us : List Top) → AreOnce ds → AreDecisions values lines x ds us → AreApart us
+  apart_of [] [] once are = tt
+  apart_of [] (w ∷ us) once are = absurd are
+  apart_of (d ∷ ds) [] once are = tt
+  apart_of (d ∷ ds) (w ∷ us) once are = (all_at us (λ u k. other u k), apart_of ds us once.1 are.1)
+    where
+      all_at : (vs : List Top) → ((u : Top) → In u vs → w.id ≢ u.id) → AllByRecursion (λ (u : Top). w.id ≢ u.id) vs
+      all_at [] f = tt
+      all_at (v ∷ vs) f = (f v (inl refl), all_at vs (λ u k. f u (inr k)))
+
+      other : (u : Top) → In u us → w.id ≢ u.id
+      other u k same =
+          let r = decision_of ds us are.1 u k in
+          let i = r.2 in
+          let j = its_top_of d w are.0 in
+          let m = i.its in
+          let n = j.its in
+          let one = same_number lines right n.act m.act n.there m.there (n.number ∙ same ∙ sym m.number) in
+          let tops_same : d.top ≡ (let e = r.0 in e.top) = j.number ∙ ap (λ (z : Act). uid_number z.uid) one ∙ sym i.number in
+          never (ap (decided_in ds) tops_same ∙ in_decided ds r.0 r.1) once.0
+
   other_of : (w : Top) (us : List Top) → AllByRecursion (λ (u : Top). w.id ≢ u.id) us → (u : Top) → In u us → w.id ≢ u.id
   other_of w [] all u k = absurd k
   other_of w (y ∷ us) all u (inl same) = subst (λ (z : Top). w.id ≢ z.id) same all.0
   other_of w (y ∷ us) all u (inr k) = other_of w us all.1 u k
+
+  -- and a decision's top is one of those
+  pub those_of : (ds : List Done) (us : List Top) → AreDecisions values lines x ds us → (d : Done) → disk.In d ds → (u : Top) × In u us × IsOf d u
+  those_of [] us are d k = absurd k
+  those_of (e ∷ ds) [] are d k = absurd are
+  those_of (e ∷ ds) (w ∷ us) are d (inl same) = (w, inl refl, subst (λ (z : Done). IsOf z w) same (its_top_of e w are.0))
+  those_of (e ∷ ds) (w ∷ us) are d (inr k) = let r = those_of ds us are.1 d k in (r.0, inr r.1, r.2)
+
+  -- tops of one number are one
+  pub one_number : (u w : Top) → In u (tops lines) → In w (tops lines) → u.id ≡ w.id → u ≡ w
+  one_number u w i j same = by (tops lines) (let l = listed lines right in l.apart) i j
+    where
+      by : (ts : List Top) → AreApart ts → In u ts → In w ts → u ≡ w
+      by [] apart a b = absurd a
+      by (z ∷ ts) apart (inl a) (inl b) = sym a ∙ b
+      by (z ∷ ts) apart (inl a) (inr b) = absurd (other_of z ts apart.0 w b (ap (λ (y : Top). y.id) a ∙ same))
+      by (z ∷ ts) apart (inr a) (inl b) = absurd (other_of z ts apart.0 u a (ap (λ (y : Top). y.id) b ∙ sym same))
+      by (z ∷ ts) apart (inr a) (inr b) = by ts apart.1 a b
+
+  -- a top of the journal has its action's number
+  pub number_is : (u : Top) (i : IsTopOf lines u) → uid_number (uid_of_id (acts lines) u.id) ≡ uid_number (let a = i.act in a.uid)
+  number_is u i = ap (λ n. uid_number (uid_of_id (acts lines) n)) (sym i.number) ∙ ap uid_number (number_uid i.act (acts lines) (λ y m e. same_number lines right y i.act m i.there e) i.there)
 
   writer : (d : Done) (u : Top) → (i : IsOf d u) → Wrote lines x u → IsWriter lines x u (let k = i.its in k.act)
   writer d u i wrote = let k = i.its in record { listed = in_to u (tops lines) i.listed; wrote = wrote; there = in_to k.act (acts lines) k.there; number = k.number }
@@ -378,4 +440,4 @@ module _ (values : Values) (lines : List Line) (x : ℕ) (S : State) (right : Ar
           (turns.0 e m.act n.act r.1 (in_to m.act (acts lines) m.there) (in_to n.act (acts lines) n.there) (sym i.number) (sym j.number) n.kind other)
 
 pub decided_writers_stand : DecidedWritersStand
-decided_writers_stand values lines x S right t ds those turns are apart = writers_stand values lines x S right t (filter counts_of ds) those (turns_left lines counts_of ds turns) are apart
+decided_writers_stand values lines x S right t ds those turns are once = let a = once_left counts_of ds once in writers_stand values lines x S right t (filter counts_of ds) those (turns_left lines counts_of ds turns) are (apart_of values lines x S right t (filter counts_of ds) those a are)

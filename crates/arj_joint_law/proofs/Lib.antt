@@ -1,5 +1,6 @@
 pub mod Beginning
 pub mod Called
+pub mod Clean
 pub mod Firsts
 pub mod FormCoords
 pub mod FormNodes
@@ -7,6 +8,7 @@ pub mod FormRuns
 pub mod FormServers
 pub mod OrderedRuns
 pub mod Ordering
+pub mod Showing
 pub mod Turns
 pub mod Behind
 pub mod Excluding

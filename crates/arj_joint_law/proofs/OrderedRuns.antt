@@ -36,7 +36,7 @@ use Rattle.arj_disk_line_law.specs.Said.{IsPlain, WithTie}
 use Rattle.arj_disk_line_law.proofs.IdleKnown.{KnowsIdle, knows_idle}
 use Rattle.arj_disk_line_law.proofs.Tying.{both_too, journalled_beside, one_act, tied_part}
 use Rattle.arj_serial_law.specs.Cleaned.{BeginsSo}
-use Rattle.arj_joint_law.specs.Ordered.{AreCalled, AreTurns, AreTurnsOf, IsCalledFirst, IsOrderedSo, RunsAreOrdered, RunsAreOrderedBeside}
+use Rattle.arj_joint_law.specs.Ordered.{AreCalled, AreOnce, AreTurns, AreTurnsOf, IsCalledFirst, IsOrderedSo, RunsAreOrdered, RunsAreOrderedBeside}
 use Rattle.arj_joint_law.proofs.Beginning.{WithFirst, first_begins, first_part}
 use Rattle.arj_joint_law.proofs.Firsts.{line_there}
 use Rattle.arj_joint_law.proofs.Ordering.{ordered_part}
@@ -73,6 +73,7 @@ ordered_beside hd x R P form there kept parts es short =
       stands = h.stands;
       holds = record {
         begun = record { journalled = b.0; begins = subst (λ (W : machine.World). BeginsSo hd x W.disk) b.2 (let z = b.3 in let t = z.0 in let p = t.0 in p.1) };
+        once = subst (λ (W : machine.World). AreOnce W.disk.tops) b.2 order.once;
         called = subst (λ (W : machine.World). AreCalled (run_all es (format hd)).lines W.disk.tops) b.2 order.called;
         turns = subst (λ (W : machine.World). AreTurnsOf (run_all es (format hd)).lines W.disk.tops) b.2 (turns_of (run_all es (format hd)).lines right (let A = b.1 in A.world.disk.tops) order.turns);
       };

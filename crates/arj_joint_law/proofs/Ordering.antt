@@ -41,7 +41,7 @@ use Rattle.arj_disk_line_law.proofs.IdleKnown.{KnowsIdle}
 use Rattle.arj_disk_line_law.proofs.Steps.{IsNear, IsStep, near_same, nothing_more, step_halted, step_walk}
 use Rattle.arj_disk_line_law.proofs.Tying.{goes_by, was_up}
 use Rattle.arj_disk_run_law.proofs.Decisions.{goes_along}
-use Rattle.arj_joint_law.specs.Ordered.{AreCalled, AreTurns, IsOrdered, NewTops}
+use Rattle.arj_joint_law.specs.Ordered.{AreCalled, AreOnce, AreTurns, IsOrdered, NewTops}
 use Rattle.arj_joint_law.proofs.Turns.{IdleThere, effects_grow, ordered_step}
 
 -- ---- who may be decided
@@ -140,10 +140,10 @@ found_there k d M kept z on u uz =
 along_new : (g : ℕ → Bool) (lines : List Line) (W V : machine.World) → ((z : ℕ) → g z ≡ true → (u : Uid) → uid_number u ≡ z → is_on (book lines).called u ≡ true) → Along (record { from = W; noted = only_decides g }) V → NewTops W V lines
 along_new g lines W V called a =
     let n = effects_grow (only_decides g) W a.effects a.only a.allowed in
-    record { new = n.new; are = ap (λ (U : machine.World). U.disk.tops) (sym a.here) ∙ n.are; undone = n.undone; called = λ d i u ud. called d.top (n.noted d i) u ud }
+    record { new = n.new; are = ap (λ (U : machine.World). U.disk.tops) (sym a.here) ∙ n.are; undone = n.undone; once = λ o. subst (λ (U : machine.World). AreOnce U.disk.tops) a.here (n.once o); called = λ d i u ud. called d.top (n.noted d i) u ud }
 
 none_new : (lines : List Line) (W V : machine.World) → V.disk.tops ≡ W.disk.tops → NewTops W V lines
-none_new lines W V is = record { new = []; are = is; undone = λ d i. absurd i; called = λ d i. absurd i }
+none_new lines W V is = record { new = []; are = is; undone = λ d i. absurd i; once = λ o. subst AreOnce (sym is) o; called = λ d i. absurd i }
 
 changes_new : (o : Change) (lines : List Line) (A B : Office) → ((z : ℕ) (keeps : Bool) → o ≡ Deciding z keeps → (u : Uid) → uid_number u ≡ z → is_on (book lines).called u ≡ true) → Changes o A B → NewTops A.world B.world lines
 changes_new Quietly lines A B called c = none_new lines A.world B.world c.tops
@@ -239,4 +239,4 @@ module _ (hd : Header) (x : ℕ) (R G : Seen → Type 0) (P : Kinds → Office �
       given_near l how k M = record { more = []; lines = nothing_more M.lines; nodes = λ j. refl }
 
       nothing_yet : (A : Office) → A.world.disk.tops ≡ [] → IsOrdered (IdleThere Idle) A.world (see [] (format hd))
-      nothing_yet A none = record { called = subst (AreCalled []) (sym none) (λ d i. absurd i); turns = subst (AreTurns (IdleThere Idle) []) (sym none) tt }
+      nothing_yet A none = record { once = subst AreOnce (sym none) tt; called = subst (AreCalled []) (sym none) (λ d i. absurd i); turns = subst (AreTurns (IdleThere Idle) []) (sym none) tt }

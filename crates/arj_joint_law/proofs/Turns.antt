@@ -18,7 +18,7 @@ use Rattle.arj_line_law.proofs.Books.{Later, decided_later}
 use Rattle.arj_disk_line_law.specs.Said.{AreDone, IsDoneBy, IsPlain}
 use Rattle.arj_disk_line_law.proofs.IdleKnown.{KnowsIdle}
 use Rattle.arj_disk_line_law.proofs.Steps.{later_lines, plain_more}
-use Rattle.arj_joint_law.specs.Ordered.{AreCalled, AreTurns, IsCalledFirst, IsOrdered, IsTurn, NewTops}
+use Rattle.arj_joint_law.specs.Ordered.{AreCalled, AreOnce, AreTurns, IsCalledFirst, IsOrdered, IsTurn, NewTops}
 
 and_more : (xs ys zs : List Line) → (xs ++ ys) ++ zs ≡ xs ++ (ys ++ zs)
 and_more [] ys zs = refl
@@ -90,6 +90,7 @@ module _ (R : Seen → Type 0) (Idle : List Line → Uid → Type 0) (idles : Kn
 
   pub ordered_step : NewTops W V M.lines → IsOrdered (IdleThere Idle) W M → IsOrdered (IdleThere Idle) V N
   ordered_step n o = record {
+    once = n.once o.once;
     called = subst (λ ls. AreCalled ls V.disk.tops) (sym lines) (subst (AreCalled (M.lines ++ more)) (sym n.are) called_so);
     turns = subst (λ ls. AreTurns (IdleThere Idle) ls V.disk.tops) (sym lines) (subst (AreTurns (IdleThere Idle) (M.lines ++ more)) (sym n.are) (turns_grow (IdleThere Idle) M.lines more stays n.new W.disk.tops o.turns o.called n.called (fresh n)));
   }
@@ -104,14 +105,15 @@ pub record Grew (f : Note → Bool) (W V : World) : Type 0 where
   pub new : List Done
   pub are : V.disk.tops ≡ new ++ W.disk.tops
   pub undone : (d : Done) → In d new → decided W.disk d.top ≡ false
+  pub once : AreOnce W.disk.tops → AreOnce V.disk.tops
   pub noted : (d : Done) → In d new → f (Decides d.top) ≡ true
 
 module _ (f : Note → Bool) where
   same_tops : (W V : World) → V.disk.tops ≡ W.disk.tops → Grew f W V
-  same_tops W V is = record { new = []; are = is; undone = λ d i. absurd i; noted = λ d i. absurd i }
+  same_tops W V is = record { new = []; are = is; undone = λ d i. absurd i; once = λ o. subst AreOnce (sym is) o; noted = λ d i. absurd i }
 
   effect_grows : (W : World) (e : Effect) → is_only_of f e ≡ true → machine.Allowed W e → Grew f W (after W e)
-  effect_grows W (machine.Decide t) only can = record { new = done_of W.disk t ∷ []; are = refl; undone = λ d i. by d i; noted = λ d i. on d i }
+  effect_grows W (machine.Decide t) only can = record { new = done_of W.disk t ∷ []; are = refl; undone = λ d i. by d i; once = λ o. (can.1, o); noted = λ d i. on d i }
     where
       by : (d : Done) → In d (done_of W.disk t ∷ []) → decided W.disk d.top ≡ false
       by d (inl same) = ap (λ (c : Done). decided W.disk c.top) (sym same) ∙ can.1
@@ -145,6 +147,7 @@ module _ (f : Note → Bool) where
     new = b.new ++ a.new;
     are = b.are ∙ ap (λ ds. b.new ++ ds) a.are ∙ sym (dones_more b.new a.new W.disk.tops);
     undone = λ d i. ⊎_elim (λ here. earlier d (b.undone d here)) (λ there. a.undone d there) (in_both d b.new a.new i);
+    once = λ o. b.once (a.once o);
     noted = λ d i. ⊎_elim (λ here. b.noted d here) (λ there. a.noted d there) (in_both d b.new a.new i);
   }
     where

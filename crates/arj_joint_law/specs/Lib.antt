@@ -1,6 +1,8 @@
 pub mod Begun
+pub mod Cleaned
 pub mod Forms
 pub mod Ordered
+pub mod Shown
 pub mod Writers
 pub mod Outcome
 pub mod Samples

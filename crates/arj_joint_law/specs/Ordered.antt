@@ -9,7 +9,7 @@ use Rattle.arj_protocol.specs.Order.{uid_number}
 use Rattle.arj_protocol.specs.World.{Asked, format, run_all}
 use Rattle.arj_disk_law.specs.Effects.{World}
 use Rattle.arj_disk_law.specs.Names.{Office}
-use Rattle.arj_disk_law.specs.State.{Done, decided}
+use Rattle.arj_disk_law.specs.State.{Done, decided, decided_in}
 use Rattle.arj_disk_law.specs.Words.{In}
 use Rattle.arj_view_law.specs.Keeps.{Holds}
 use Rattle.arj_view_law.specs.Seen.{Seen}
@@ -44,18 +44,25 @@ AreTurns Idle lines (d ∷ ds) = ((e : Done) → In e ds → IsTurn Idle lines e
 abbrev pub AreCalled : List Line → List Done → Type 0
 AreCalled lines ds = (d : Done) → In d ds → (u : Uid) → uid_number u ≡ d.top → is_on (let B = book lines in B.called) u ≡ true
 
--- The machine's decided tops had their commits called, each before any that was decided after it was decided itself.
+-- no top is decided twice
+abbrev pub AreOnce : List Done → Type 0
+AreOnce [] = ⊤
+AreOnce (d ∷ ds) = (decided_in ds d.top ≡ false) × AreOnce ds
+
+-- The machine's decided tops, each decided once, had their commits called, each before any that was decided after it was decided itself.
 pub record IsOrdered (Idle : List Line → Uid → Type 0) (W : World) (M : Seen) : Type 0 where
+  pub once : AreOnce (let S = W.disk in S.tops)
   pub called : AreCalled M.lines (let S = W.disk in S.tops)
   pub turns : AreTurns Idle M.lines (let S = W.disk in S.tops)
 
 -- ---- a step
 
--- What a step of the machine decided: tops that weren't, and whose commits had been called by these lines.
+-- What a step of the machine decided: tops that weren't, each once, and whose commits had been called by these lines.
 pub record NewTops (W V : World) (lines : List Line) : Type 0 where
   pub new : List Done
   pub are : (let S = V.disk in S.tops) ≡ new ++ (let S = W.disk in S.tops)
   pub undone : (d : Done) → In d new → decided W.disk d.top ≡ false
+  pub once : AreOnce (let S = W.disk in S.tops) → AreOnce (let S = V.disk in S.tops)
   pub called : AreCalled lines new
 
 -- ---- runs
@@ -68,6 +75,7 @@ AreTurnsOf lines (d ∷ ds) = ((e : Done) (a b : Act) → In e ds → Contains (
 -- The machine began as the header says and decided as the journal says, in this order.
 pub record IsOrderedSo (hd : Header) (x : ℕ) (M : Seen) : Type 0 where
   pub begun : IsBegunSo hd x M
+  pub once : AreOnce (let j = (let b = begun in b.journalled) in let W = j.machine in let S = W.disk in S.tops)
   pub called : AreCalled M.lines (let j = (let b = begun in b.journalled) in let W = j.machine in let S = W.disk in S.tops)
   pub turns : AreTurnsOf M.lines (let j = (let b = begun in b.journalled) in let W = j.machine in let S = W.disk in S.tops)
 

@@ -7,12 +7,11 @@ use Rattle.arj_model.specs.Serial.{Values}
 use Rattle.arj_disk_law.specs.Order.{counts_of}
 use Rattle.arj_disk_law.specs.State.{Done}
 use Rattle.arj_line_law.specs.Book.{new_book}
-use Rattle.arj_line_law.specs.Laws.{AreApart}
 use Rattle.arj_line_law.specs.Right.{AreRight}
 use Rattle.arj_lock_law.specs.State.{State}
 use Rattle.arj_serial_law.specs.Decided.{AreDecisions, Wrote}
 use Rattle.arj_serial_law.specs.Tied.{IsTied}
-use Rattle.arj_joint_law.specs.Ordered.{AreTurnsOf, IsCalledFirst}
+use Rattle.arj_joint_law.specs.Ordered.{AreOnce, AreTurnsOf, IsCalledFirst}
 
 -- a top of the journal that wrote the object, with its action
 pub record IsWriter (lines : List Line) (x : ℕ) (t : Top) (a : Act) : Type 0 where
@@ -32,8 +31,8 @@ abbrev pub WritersAreNewestFirst : List Line → ℕ → List Top → Type 0
 WritersAreNewestFirst lines x [] = ⊤
 WritersAreNewestFirst lines x (t ∷ ts) = ((u : Top) → Contains ts u → Wrote lines x u → Wrote lines x t → u.at < t.at) × WritersAreNewestFirst lines x ts
 
--- So it is of the tops which the disk machine's decisions that count are, each one of its own, where the machine decided in the order of
--- commit calls against decisions.
+-- So it is of the tops which the disk machine's decisions that count are, each of them decided once, where the machine decided in the
+-- order of commit calls against decisions.
 abbrev pub DecidedWritersStand : Type 0
 DecidedWritersStand = (values : Values) (lines : List Line) (x : ℕ) (S : State) → AreRight new_book lines → IsTied values lines x S
-    → (ds : List Done) (those : List Top) → AreTurnsOf lines ds → AreDecisions values lines x (filter counts_of ds) those → AreApart those → WritersAreNewestFirst lines x those
+    → (ds : List Done) (those : List Top) → AreTurnsOf lines ds → AreDecisions values lines x (filter counts_of ds) those → AreOnce ds → WritersAreNewestFirst lines x those

@@ -4,8 +4,9 @@
 //! says, and `arj_serial_law` what makes its last state and entry those of the journal. Here what that asks is given in runs: the machine
 //! began as the header says (`specs/Begun.antt`), it decides tops in the order of their commit calls against decisions
 //! (`specs/Ordered.antt`), so that by the lock machine its decided writers stand as their commits were called (`specs/Writers.antt`), and
-//! what stands of the object on disks is of its class (`specs/Forms.antt`). What it gives upward: `runs_begin_as_the_header_says`,
-//! `decisions_come_behind_calls`, `writers_are_called_as_they_are_decided`, `runs_have_form`.
+//! what stands of the object on disks is of its class (`specs/Forms.antt`); and files are clean with what is left
+//! (`specs/Cleaned.antt`). What it gives upward: `runs_begin_as_the_header_says`, `decisions_come_behind_calls`,
+//! `writers_are_called_as_they_are_decided`, `runs_have_form`, `runs_are_clean`.
 #![tactic(auto)]
 
 mod forms;
@@ -18,5 +19,5 @@ pub use outcomes::{
     commits_are_done_behind_decisions, exclusion_in_time_tells_disks_apart,
     one_outcome_tells_journals_apart, seen_runs_exclude_in_time,
 };
-pub use runs::{decisions_come_behind_calls, runs_begin_as_the_header_says};
+pub use runs::{decisions_come_behind_calls, runs_are_clean, runs_begin_as_the_header_says};
 pub use writers::writers_are_called_as_they_are_decided;

@@ -1,0 +1,217 @@
+-- Files are clean after each run, by both machines of each object, with what is named.
+use Rattle.std.proofs.Common.{Contains, ◌≡◌, ◌⊎◌, ◌<◌, ◌≤◌, ◌==◌, ◌||◌, ℕ, Bool, cond, false, eqb-true, eq-eqb, List, [], ◌∷◌, ◌++◌, length, true, is_some, refl, subst, inl, inr, ⊎_elim, filter, ap, sym, ◌∙◌}
+use Rattle.std.specs.List.{AllByRecursion}
+use Rattle.arj_journal.specs.ScriptForm.{HeaderInForm}
+use Rattle.arj_lock.proofs.Members.{In, in_from, in_to}
+use Rattle.arj_model.specs.Actions.{Act, acts}
+use Rattle.arj_model.specs.Calls.{Top, tops}
+use Rattle.arj_model.specs.Last.{first_values, object_line}
+use Rattle.arj_protocol.specs.Words.{Header, Line}
+use Rattle.arj_protocol.specs.World.{Asked, World, format, journal, run_all}
+use Rattle.arj_line_law.specs.Book.{new_book}
+use Rattle.arj_line_law.specs.Right.{AreRight}
+use Rattle.arj_line_law.specs.Knows.{IsKept}
+use Rattle.arj_line_law.proofs.Runs.{lines_keep, run_written}
+use Rattle.arj_disk_law.specs.Order.{counts_of}
+use Rattle.arj_disk_law.specs.State.{Done, decided as decided_so, decided_in}
+use Rattle.arj_disk_law.specs.Words as disk
+use Rattle.arj_disk_line_law.specs.Said.{IsJournalled}
+use Rattle.arj_line_law.specs.Idle.{HasNothing}
+use Rattle.arj_line_law.proofs.Books.{or_which}
+use Rattle.arj_line_law.proofs.Closed.{one_act}
+use Rattle.arj_line_law.proofs.Models.{its_sound}
+use Rattle.arj_protocol.proofs.Numbers.{number_tells}
+use Rattle.arj_protocol.specs.Order.{uid_number}
+use Rattle.arj_serial_law.proofs.Order.{IsTopOf, top_item}
+use Rattle.arj_view_law.specs.Keeps.{Holds}
+use Rattle.arj_view_law.specs.Seen.{see}
+use Rattle.arj_view_law.proofs.Happens.{runs_hold}
+use Rattle.arj_binding_law.specs.Scripts.{most_events}
+use Rattle.arj_call_law.specs.Runs.{KnowsFew}
+use Rattle.arj_disk_run_law.specs.Rest.{KeepsHeard}
+use Rattle.arj_run_law.specs.Worlds.{IsGood}
+use Rattle.arj_serial_law.specs.Cleaned.{AreDecidedOrLate, HaveForm, IsCleanIn}
+use Rattle.arj_serial_law.specs.Decided.{AreNewestFirst, DecideChanges, Joined, Wrote}
+use Rattle.arj_serial_law.proofs.Cleaning.{is_clean}
+use Rattle.arj_serial_law.proofs.Including.{are_decided}
+use Rattle.arj_serial_law.proofs.Shown.{files_clean}
+use Rattle.arj_serial_law.proofs.Ties.{Ties, ties_of}
+use Rattle.arj_joint_law.specs.Cleaned.{AreLockTied, DecideSo, DecideThose, DecideThoseOrLate, JoinersAreNewestFirst, RunsAreClean, disk_of, is_one_of, number_of}
+use Rattle.arj_joint_law.specs.Ordered.{AreOnce, AreTurnsOf, IsOrderedSo}
+use Rattle.arj_joint_law.specs.Writers.{WritersAreNewestFirst}
+use Rattle.arj_joint_law.proofs.Called.{decided_writers_stand, decision_of, number_is, one_number, those_of, wrote_something}
+use Rattle.arj_joint_law.proofs.FormRuns.{runs_have_form}
+use Rattle.arj_joint_law.proofs.OrderedRuns.{runs_are_ordered}
+use Rattle.arj_joint_law.proofs.Showing.{files_show_disks}
+
+-- those behind the newest ones had their turns too
+turns_behind : (lines : List Line) (late others : List Done) → AreTurnsOf lines (late ++ others) → AreTurnsOf lines others
+turns_behind lines [] others turns = turns
+turns_behind lines (d ∷ late) others turns = turns_behind lines late others turns.1
+
+once_behind : (late others : List Done) → AreOnce (late ++ others) → AreOnce others
+once_behind [] others once = once
+once_behind (d ∷ late) others once = once_behind late others once.1
+
+decided_out : (ds : List Done) (t : ℕ) → decided_in ds t ≡ true → (d : Done) × disk.In d ds × (d.top ≡ t)
+decided_out [] t on = absurd (cc on)
+decided_out (e ∷ ds) t on = ⊎_elim (λ here. (e, inl refl, eqb-true e.top t here)) (λ there. let r = decided_out ds t there in (r.0, inr r.1, r.2)) (or_which (e.top == t) (decided_in ds t) on)
+
+in_either : (d : Done) (xs ys : List Done) → disk.In d (xs ++ ys) → disk.In d xs ⊎ disk.In d ys
+in_either d [] ys i = inr i
+in_either d (x ∷ xs) ys (inl same) = inl (inl same)
+in_either d (x ∷ xs) ys (inr i) = ⊎_elim (λ a. inl (inr a)) (λ b. inr b) (in_either d xs ys i)
+
+counted_in : (d : Done) (ds : List Done) → disk.In d ds → d.counts ≡ true → disk.In d (filter counts_of ds)
+counted_in d [] i is = absurd i
+counted_in d (e ∷ ds) (inl same) is = subst (λ b. disk.In d (cond b (e ∷ filter counts_of ds) (filter counts_of ds))) (sym (ap counts_of same ∙ is)) (inl same)
+counted_in d (e ∷ ds) (inr i) is = by e.counts (counted_in d ds i is)
+  where
+    by : (b : Bool) → disk.In d (filter counts_of ds) → disk.In d (cond b (e ∷ filter counts_of ds) (filter counts_of ds))
+    by true j = inr j
+    by false j = j
+
+is_there : (t : Top) (ts : List Top) → In t ts → is_one_of ts t ≡ true
+is_there t [] i = absurd i
+is_there t (u ∷ ts) (inl same) = ap (λ b. b || is_one_of ts t) (eq-eqb u.id t.id (ap (λ (z : Top). z.id) same))
+is_there t (u ∷ ts) (inr i) = by (u.id == t.id) (is_there t ts i)
+  where
+    by : (b : Bool) → is_one_of ts t ≡ true → (b || is_one_of ts t) ≡ true
+    by true on = refl
+    by false on = on
+
+found_there : (t : Top) (ts : List Top) → is_one_of ts t ≡ true → (u : Top) × In u ts × (u.id ≡ t.id)
+found_there t [] on = absurd (cc on)
+found_there t (u ∷ ts) on = ⊎_elim (λ here. (u, inl refl, eqb-true u.id t.id here)) (λ there. let r = found_there t ts there in (r.0, inr r.1, r.2)) (or_which (u.id == t.id) (is_one_of ts t) on)
+
+all_those : (P : Top → Type 0) (ts : List Top) → ((u : Top) → Contains ts u → P u) → AllByRecursion P ts
+all_those P ts each = by ts (λ u i. each u (in_to u ts i))
+  where
+    by : (us : List Top) → ((u : Top) → In u us → P u) → AllByRecursion P us
+    by [] f = tt
+    by (u ∷ us) f = (f u (inl refl), by us (λ v i. f v (inr i)))
+
+later : (u : Top) (t : Top) (ts : List Top) → Contains ts u → Contains (t ∷ ts) u
+later u t ts i = in_to u (t ∷ ts) (inr (in_from u ts i))
+
+-- each of them changed the object, by a write or an include
+newest_first : (lines : List Line) (x : ℕ) (ts : List Top) → ((t : Top) → Contains ts t → Wrote lines x t ⊎ Joined lines x t) → WritersAreNewestFirst lines x ts → JoinersAreNewestFirst lines x ts → AreNewestFirst ts
+newest_first lines x [] changed writers joiners = tt
+newest_first lines x (t ∷ ts) changed writers joiners = (
+  all_those (λ (u : Top). u.at < t.at) ts (λ u i. by u i (changed u (later u t ts i)) (changed t (in_to t (t ∷ ts) (inl refl)))),
+  newest_first lines x ts (λ u i. changed u (later u t ts i)) writers.1 joiners.1,
+)
+  where
+    by : (u : Top) → Contains ts u → Wrote lines x u ⊎ Joined lines x u → Wrote lines x t ⊎ Joined lines x t → u.at < t.at
+    by u i (inl a) (inl b) = writers.0 u i a b
+    by u i (inl a) (inr b) = joiners.0 u i (inr b)
+    by u i (inr a) b = joiners.0 u i (inl a)
+
+module _ (hd : Header) (es : List Asked) (form : HeaderInForm hd) (short : length es ≤ most_events) (heard : (x : ℕ) → is_some (object_line hd x) ≡ true → KeepsHeard hd x (λ M. IsGood M × KnowsFew M)) (tied : AreLockTied hd (journal hd es))
+    (decide : (x : ℕ) → is_some (object_line hd x) ≡ true → DecideSo hd x es) where
+  abbrev w : World
+  w = run_all es (format hd)
+
+  right : AreRight new_book (journal hd es)
+  right = let r = run_written hd es in let z = r.1 in z.right
+
+  ties : Ties (first_values hd) (journal hd es)
+  ties = ties_of (first_values hd) (journal hd es) tied.called
+
+  module _ (x : ℕ) (there : is_some (object_line hd x) ≡ true) where
+    h : Holds hd (IsOrderedSo hd x) w
+    h = runs_are_ordered hd x form there (heard x there) es short
+
+    d : DecideThoseOrLate hd (journal hd es) x (disk_of h.holds)
+    d = decide x there h
+
+    turns : AreTurnsOf (journal hd es) d.others
+    turns = turns_behind (journal hd es) d.late d.others (subst (AreTurnsOf (journal hd es)) d.are (let o = h.holds in o.turns))
+
+    its : DecideThose hd (journal hd es) x (disk_of h.holds) d.others
+    its = d.decide
+
+    -- each that wrote the object is one of them
+    wrote_all : (t : Top) → In t (tops (journal hd es)) → Wrote (journal hd es) x t → In t its.those
+    wrote_all t i wrote = by (journalled.done k.act (in_to k.act (acts (journal hd es)) k.there) k.kind k.done)
+      where
+        k : IsTopOf (journal hd es) t
+        k = top_item (journal hd es) right t i
+
+        journalled : IsJournalled x (see h.sent w)
+        journalled = let b = (let o = h.holds in o.begun) in b.journalled
+
+        number : number_of (journal hd es) t ≡ uid_number (let a = k.act in a.uid)
+        number = let z = tied.listed x there in number_is (first_values hd) (journal hd es) x z.0 right z.1 t k
+
+        counts : (e : Done) → disk.In e d.others → e.top ≡ uid_number (let a = k.act in a.uid) → (b : Bool) → e.counts ≡ b → In t its.those
+        counts e j same true is =
+            let z = tied.listed x there in
+            let r = those_of (first_values hd) (journal hd es) x z.0 right z.1 (filter counts_of d.others) its.those its.each e (counted_in e d.others j is) in
+            let o = r.2 in
+            let m = o.its in
+            let uids = number_tells m.act.uid k.act.uid (sym o.number ∙ same) in
+            let act = one_act (acts (journal hd es)) (let q = its_sound (journal hd es) right in q.distinct) m.act k.act m.there k.there uids in
+            subst (λ u. In u its.those) (one_number (first_values hd) (journal hd es) x z.0 right z.1 r.0 t o.listed i (sym m.number ∙ ap (λ (y : Act). y.id) act ∙ k.number)) r.1
+        counts e j same false is = absurd (its.light t (in_to t (tops (journal hd es)) i) (inr (e, j, same ∙ sym number, is)) wrote)
+
+        by : (decided_so (disk_of h.holds) (uid_number (let a = k.act in a.uid)) ≡ true) ⊎ ((let S = disk_of h.holds in S.bare (uid_number (let a = k.act in a.uid))) ≡ true) ⊎ HasNothing (journal hd es) k.act → In t its.those
+        by (inl on) =
+            let r = decided_out (let S = disk_of h.holds in S.tops) (uid_number (let a = k.act in a.uid)) on in
+            ⊎_elim
+            (λ early. absurd (d.silent r.0 t early (in_to t (tops (journal hd es)) i) (r.2 ∙ sym number)))
+            (λ other. counts r.0 other r.2 (let e = r.0 in e.counts) refl)
+            (in_either r.0 d.late d.others (subst (disk.In r.0) d.are r.1))
+        by (inr (inl bare)) = absurd (its.light t (in_to t (tops (journal hd es)) i) (inl (ap (let S = disk_of h.holds in S.bare) number ∙ bare)) wrote)
+        by (inr (inr none)) = absurd (wrote_something (journal hd es) x t k.act k.number wrote none)
+
+    all : (t : Top) → Contains (tops (journal hd es)) t → (is_one_of its.those t ≡ true) ⊎ Wrote (journal hd es) x t → Contains its.those t
+    all t c (inl on) =
+        let z = tied.listed x there in
+        let r = found_there t its.those on in
+        let e = decision_of (first_values hd) (journal hd es) x z.0 right z.1 (filter counts_of d.others) its.those its.each r.0 r.1 in
+        in_to t its.those (subst (λ u. In u its.those) (one_number (first_values hd) (journal hd es) x z.0 right z.1 r.0 t (let o = e.2 in o.listed) (in_from t (tops (journal hd es)) c) r.2) r.1)
+    all t c (inr wrote) = in_to t its.those (wrote_all t (in_from t (tops (journal hd es)) c) wrote)
+
+    changes : DecideChanges hd (journal hd es) x d.others
+    changes = record {
+      those = its.those;
+      each = its.each;
+      called = newest_first (journal hd es) x its.those its.changed (let t = tied.listed x there in decided_writers_stand (first_values hd) (journal hd es) x t.0 right t.1 d.others its.those turns its.each (once_behind d.late d.others (subst AreOnce d.are (let o = h.holds in o.once)))) its.joiners;
+      counts = is_one_of its.those;
+      counted = λ t i. (is_there t its.those (in_from t its.those i), its.changed t i);
+      all = all;
+      idle = its.idle;
+    }
+
+    decided : AreDecidedOrLate hd (journal hd es) x (disk_of h.holds)
+    decided = record {
+      late = d.late;
+      others = d.others;
+      are = d.are;
+      decided = (let t = tied.listed x there in are_decided hd (journal hd es) right ties x t.0 t.1 d.others changes);
+      unmoved = d.unmoved;
+      unlisted = d.unlisted;
+    }
+
+    formed : HaveForm hd x (see h.sent w)
+    formed = let f = runs_have_form hd x form es in let g = f.holds in record { objects = g.objects; entries = g.entries }
+
+    clean_seen : IsCleanIn hd (journal hd es) x (see h.sent w)
+    clean_seen =
+        let o = h.holds in
+        let b = o.begun in
+        let j = b.journalled in
+        is_clean hd (journal hd es) right ties x j.tops j.machine (see h.sent w) j.sees decided b.begins formed
+
+    pub clean_of : IsCleanIn hd (journal hd es) x (see [] (run_all es (format hd)))
+    clean_of = record { names = clean_seen.names; stores = clean_seen.stores }
+
+pub runs_are_clean : RunsAreClean
+runs_are_clean hd es disks form short heard tied decide listed files =
+    files_clean hd (journal hd es) (see r.sent (run_all es (format hd))) disks
+    (λ x there. let c = clean_of hd es form short heard tied decide x there in record { names = c.names; stores = c.stores })
+    (files_show_disks hd r.sent (run_all es (format hd)) disks form r.stands listed (record { stores = files.stores; names = files.names }))
+  where
+    r : Holds hd IsKept (run_all es (format hd))
+    r = runs_hold hd IsKept (lines_keep hd) es

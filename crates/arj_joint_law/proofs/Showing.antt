@@ -1,0 +1,45 @@
+-- Files of pairs show what disks hold and what is in doubt there.
+use Rattle.std.proofs.Common.{◌≡◌, ◌≤◌, ◌&&◌, ℕ, true, List, Option, Some, None, refl, arith}
+use Rattle.std.specs.Prelude.{is_some, nat_le}
+use Rattle.arj_disk.specs.FileMap.{FileMap}
+use Rattle.arj_disk.specs.declared.slot.Role.{Role}
+use Rattle.arj_protocol.specs.Effect.{Pair}
+use Rattle.arj_protocol.specs.Step.{Node}
+use Rattle.arj_protocol.specs.Tree.{at_place}
+use Rattle.arj_protocol.specs.Words.{Header}
+use Rattle.arj_protocol.specs.World.{World}
+use Rattle.arj_store.specs.OfFiles.{pair_of}
+use Rattle.arj_store_law.specs.Files.{IsPairOf}
+use Rattle.arj_store_law.proofs.Refused.{all_there, no_holder}
+use Rattle.arj_view_law.specs.Keeps.{Stands}
+use Rattle.arj_view_law.specs.Seen.{Post}
+use Rattle.arj_serial_law.specs.Files.{ShowsPair}
+use Rattle.arj_joint_law.specs.Shown.{FilesShowDisks}
+
+shows_pair : (file : FileMap) (r : Role) (d : Pair) → IsPairOf (pair_of file r) d → ShowsPair file r d
+shows_pair file r d are = record {
+  held = are.held;
+  free = λ u free. no_holder (pair_of file r) u d.pend (all_there (pair_of file r) d are) free;
+}
+
+-- a node of the header is there
+node_there : (hd : Header) (sent : List Post) (w : World) → Stands hd sent w → (s : ℕ) → (nat_le 1 s && nat_le s hd.nodes) ≡ true → (n : Node) × (at_place s w.nodes ≡ Some n)
+node_there hd sent w stands s place = by (at_place s w.nodes) refl (stands.places s place)
+  where
+    by : (o : Option Node) → at_place s w.nodes ≡ o → is_some o ≡ true → (n : Node) × (at_place s w.nodes ≡ Some n)
+    by None is there = absurd (cc there)
+    by (Some n) is there = (n, is)
+
+first_place : (n : ℕ) → 1 ≤ n → (nat_le 1 1 && nat_le 1 n) ≡ true
+first_place n le = grind (arith, le)
+
+pub files_show_disks : FilesShowDisks
+files_show_disks hd sent w disks form stands listed files = record {
+  stores = λ s n is. shows_pair (disks s) _ (let d = n.disk in d.store) (files.stores s n is);
+  names = λ n is. shows_pair (disks 1) _ (let d = n.disk in d.names) (files.names n is);
+  naming = node_there hd sent w stands 1 (first_place hd.nodes some);
+  there = λ x s among. (let l = listed x s among in let n = node_there hd sent w stands s l.0 in (n.0, n.1, l.1));
+}
+  where
+    some : 1 ≤ hd.nodes
+    some = let w = form.nodes in w.0

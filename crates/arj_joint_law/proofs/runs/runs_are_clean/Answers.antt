@@ -1,0 +1,9 @@
+use Rattle.arj_joint_law.proofs.Clean.{runs_are_clean}
+use Rattle.arj_joint_law.proofs.Showing.{files_show_disks}
+use Rattle.arj_joint_law.proofs.runs.runs_are_clean.Goals as goal
+
+pub returns-clause-clean : goal.returns-clause-clean
+returns-clause-clean c = runs_are_clean
+
+pub returns-clause-shown : goal.returns-clause-shown
+returns-clause-shown c = files_show_disks

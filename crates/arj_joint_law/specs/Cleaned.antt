@@ -1,0 +1,84 @@
+-- Runs whose files are clean, by both machines of each object, with what these are still asked for.
+use Rattle.std.specs.Prelude.{⊤, ◌≡◌, ◌⊎◌, ◌<◌, ◌≤◌, ◌++◌, ◌==◌, ℕ, Bool, true, false, List, [], ◌∷◌, None, Some, filter, is_some, length, Contains}
+use Rattle.std.specs.List.{list_any}
+use Rattle.arj_journal.specs.ScriptForm.{HeaderInForm}
+use Rattle.arj_model.specs.Actions.{acts}
+use Rattle.arj_model.specs.Calls.{Top, tops}
+use Rattle.arj_model.specs.Clean.{Clean, Disks}
+use Rattle.arj_model.specs.Last.{first_values, object_line, serial_tops, uid_of_id}
+use Rattle.arj_protocol.specs.Order.{uid_number}
+use Rattle.arj_protocol.specs.Words.{Header, Line}
+use Rattle.arj_protocol.specs.World.{Asked, format, journal, run_all}
+use Rattle.arj_law.specs.Growth.{IdleInPlace, first_stores}
+use Rattle.arj_disk_law.specs.Order.{counts_of}
+use Rattle.arj_disk_law.specs.State.{Done, Packed, State, entry_in, last_entry}
+use Rattle.arj_disk_law.specs.Words.{In}
+use Rattle.arj_view_law.specs.Keeps.{Holds}
+use Rattle.arj_view_law.specs.Seen.{Seen, see}
+use Rattle.arj_binding_law.specs.Scripts.{most_events}
+use Rattle.arj_call_law.specs.Runs.{KnowsFew}
+use Rattle.arj_disk_run_law.specs.Rest.{KeepsHeard}
+use Rattle.arj_run_law.specs.Worlds.{IsGood}
+use Rattle.arj_lock_law.specs.State as lock
+use Rattle.arj_serial_law.specs.Decided.{AreDecisions, Joined, Wrote}
+use Rattle.arj_serial_law.specs.Tied.{AreTied, IsTied}
+use Rattle.arj_joint_law.specs.Ordered.{IsOrderedSo}
+use Rattle.arj_joint_law.specs.Shown.{FilesAre, ListedAreThere}
+
+-- of these tops, the newest first, each two of which one included a store of the object had their commits called in turn
+abbrev pub JoinersAreNewestFirst : List Line → ℕ → List Top → Type 0
+JoinersAreNewestFirst lines x [] = ⊤
+JoinersAreNewestFirst lines x (t ∷ ts) = ((u : Top) → Contains ts u → Joined lines x u ⊎ Joined lines x t → u.at < t.at) × JoinersAreNewestFirst lines x ts
+
+-- the top is one of these
+abbrev pub is_one_of : List Top → Top → Bool
+is_one_of ts t = list_any (λ (u : Top). u.id == t.id) ts
+
+-- its number in the disk machine
+abbrev pub number_of : List Line → Top → ℕ
+number_of lines t = uid_number (uid_of_id (acts lines) t.id)
+
+-- The decided tops of the disk machine that count are these tops of the journal, and each of them changed the object. One that doesn't
+-- count, or needed no record, didn't write it. As `DecideChanges` of `arj_serial_law`, but that of the order of commit calls only what
+-- includes have to do with is asked, and not that each top which wrote the object is one of these.
+pub record DecideThose (header : Header) (lines : List Line) (x : ℕ) (S : State) (ds : List Done) : Type 0 where
+  pub those : List Top
+  pub each : AreDecisions (first_values header) lines x (filter counts_of ds) those
+  pub joiners : JoinersAreNewestFirst lines x those
+  pub changed : (t : Top) → Contains those t → Wrote lines x t ⊎ Joined lines x t
+  pub light : (t : Top) → Contains (tops lines) t → (S.bare (number_of lines t) ≡ true) ⊎ ((d : Done) × In d ds × (d.top ≡ number_of lines t) × (d.counts ≡ false)) → Wrote lines x t → ⊥
+  pub idle : IdleInPlace lines x (is_one_of those) (first_stores header x) (serial_tops lines)
+
+-- So it is of all but the newest ones, which the journal doesn't have since their nodes are late to say so, as `AreDecidedOrLate` of
+-- `arj_serial_law` has it.
+pub record DecideThoseOrLate (header : Header) (lines : List Line) (x : ℕ) (S : State) : Type 0 where
+  pub late : List Done
+  pub others : List Done
+  pub are : S.tops ≡ late ++ others
+  pub silent : (d : Done) (t : Top) → In d late → Contains (tops lines) t → d.top ≡ number_of lines t → ⊥
+  pub decide : DecideThose header lines x S others
+  pub unmoved : (d : Done) (w : Packed) (s : ℕ) → In d late → (let p = d.plan in p.writes) ≡ Some w → S.held s ≡ Some w → ⊥
+  pub unlisted : S.entry_pend ≡ None → last_entry S ≡ entry_in S.first_entry others
+
+-- the state of the disk machine
+abbrev pub disk_of : {hd : Header} {x : ℕ} {M : Seen} → IsOrderedSo hd x M → State
+disk_of o = (let b = o.begun in let j = b.journalled in let W = j.machine in W.disk)
+
+-- so it is of each state in which the disk machine is seen after the run, with the journal's decisions in order
+abbrev pub DecideSo : Header → ℕ → List Asked → Type 0
+DecideSo hd x es = (h : Holds hd (IsOrderedSo hd x) (run_all es (format hd))) → DecideThoseOrLate hd (journal hd es) x (disk_of h.holds)
+
+-- The journal is tied to the lock machines: of objects of which a call was answered, and of those of the header.
+pub record AreLockTied (hd : Header) (lines : List Line) : Type 0 where
+  pub called : AreTied (first_values hd) lines
+  pub listed : (x : ℕ) → is_some (object_line hd x) ≡ true → (S : lock.State) × IsTied (first_values hd) lines x S
+
+-- After the run of each script files are clean that are those of its nodes' pairs: with what the disk machine's half still takes, where the
+-- journal is tied to the lock machines, and the tops that the disk machines decided are those of the journal.
+abbrev pub RunsAreClean : Type 0
+RunsAreClean = (hd : Header) (es : List Asked) (disks : Disks) → HeaderInForm hd → length es ≤ most_events
+    → ((x : ℕ) → is_some (object_line hd x) ≡ true → KeepsHeard hd x (λ M. IsGood M × KnowsFew M))
+    → AreLockTied hd (journal hd es)
+    → ((x : ℕ) → is_some (object_line hd x) ≡ true → DecideSo hd x es)
+    → ListedAreThere hd (journal hd es) → FilesAre (see [] (run_all es (format hd))) disks
+    → Clean hd (journal hd es) disks
