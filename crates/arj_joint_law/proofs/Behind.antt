@@ -30,7 +30,7 @@ any_in p (y ∷ ys) x (inr i) e = by (p y) (any_in p ys x i e)
     by true f = refl
     by false f = f
 
-said_so : (lines : List Line) (u : Uid) → IsCommittedIn lines u → is_said lines u ≡ true
+pub said_so : (lines : List Line) (u : Uid) → IsCommittedIn lines u → is_said lines u ≡ true
 said_so lines u (a, there, is, done) = any_in (λ (b : Act). uid_eq b.uid u && is_committed (committed lines) (recovered lines) b) (acts lines) a (in_from a (acts lines) there) (both (uid_eq a.uid u) _ (ap (uid_eq a.uid) (sym is) ∙ uid_same a.uid) done)
 
 module _ (test : List Line → Body → Bool) (all : List Line) (each : (before : List Line) (line : Line) (behind : List Line) → all ≡ before ++ line ∷ behind → test before line.body ≡ true) where

@@ -47,7 +47,7 @@ use Rattle.arj_joint_law.specs.Writers.{DecidedWritersStand, IsWriter, WritersAr
 
 -- ---- the front of a journal
 
-right_front : (B : Book) (xs ys : List Line) → AreRight B (xs ++ ys) → AreRight B xs
+pub right_front : (B : Book) (xs ys : List Line) → AreRight B (xs ++ ys) → AreRight B xs
 right_front B [] ys right = tt
 right_front B (l ∷ xs) ys right = (right.0, right_front (turned B l.body) xs ys right.1)
 

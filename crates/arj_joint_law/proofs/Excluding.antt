@@ -1,17 +1,19 @@
 -- Where the newest decided top is one that is new in an event, each store that the naming node has for what it wrote is in time.
-use Rattle.std.proofs.Common.{◌≡◌, ◌⊎◌, ◌≤◌, ◌<◌, ℕ, ◌==◌, List, [], ◌∷◌, ◌++◌, filter, Bool, true, false, cond, Option, Some, None, is_some, unwrap_or, refl, sym, ◌∙◌, ap, subst, inl, inr, ⊎_elim, arith, eq-eqb, Contains}
-use Rattle.std.specs.List.{AllByRecursion}
+use Rattle.std.proofs.Common.{◌≡◌, ◌⊎◌, ◌≤◌, ◌<◌, ℕ, ◌==◌, List, [], ◌∷◌, ◌++◌, filter, Bool, true, false, cond, Option, Some, None, is_some, unwrap_or, refl, sym, ◌∙◌, ap, subst, inl, inr, ⊎_elim, arith, eq-eqb, eqb-true, Contains}
+use Rattle.std.proofs.lemmas.Bool.{and_parts}
+use Rattle.std.specs.List.{AllByRecursion, list_any}
 use Rattle.std.specs.Option.{option_map}
 use Rattle.arj_base.specs.declared.state.ObjectState.{ObjectState}
 use Rattle.arj_base.specs.Uid.{entry, object}
-use Rattle.arj_class.specs.Table.{class_of}
+use Rattle.arj_class.specs.Table.{class_of, writes}
 use Rattle.arj_journal.specs.declared.body.Line.{Line}
 use Rattle.arj_journal.specs.declared.header.Header.{Header}
 use Rattle.arj_lock.proofs.Members as members
-use Rattle.arj_lock.proofs.Members.{in_from, in_to}
-use Rattle.arj_model.specs.Calls.{Top, tops}
+use Rattle.arj_lock.proofs.Members.{in_filter_map, in_from, in_to}
+use Rattle.arj_model.specs.Actions.{Placed, committed, recovered}
+use Rattle.arj_model.specs.Calls.{Call, Said, Top, committed_calls, kept, said, tops}
 use Rattle.arj_model.specs.Last.{first_values, is_among, last_state}
-use Rattle.arj_model.specs.Serial.{Values, root_of, serial_calls, top_place}
+use Rattle.arj_model.specs.Serial.{Values, root_of, serial_calls, top_place, writes_on}
 use Rattle.arj_line_law.specs.Book.{new_book}
 use Rattle.arj_line_law.specs.Laws.{AreApart}
 use Rattle.arj_line_law.specs.Right.{AreRight}
@@ -42,7 +44,10 @@ use Rattle.arj_serial_law.proofs.Order.{listed, place_of_top, root_of_top}
 use Rattle.arj_serial_law.proofs.Running.{seen_right, seen_tied}
 use Rattle.arj_serial_law.proofs.Ties.{Ties, ties_of}
 use Rattle.arj_serial_law.proofs.Tying.{all_at}
-use Rattle.arj_joint_law.specs.Excluded.{AreExcludedInTime, AreSeenInTime, IsInTime, IsNew, IsNewest, IsSeenInTime, IsTakenOut, SeenRunsExcludeInTime, uid_of}
+use Rattle.arj_serial_law.proofs.Values.{any_said, kept_shape}
+use Rattle.arj_serial_law.specs.Tied.{AreTied}
+use Rattle.arj_joint_law.specs.Excluded.{AreExcludedInTime, AreSeenByCalls, AreSeenInTime, CommitsBeginIt, IsBehindIncludes, RunsExcludeInTimeByCalls, IsInTime, IsNew, IsNewest, IsSeenSo, IsTakenOut, SeenRunsExcludeInTime, uid_of}
+use Rattle.arj_joint_law.proofs.NewWriters.{new_writers_last}
 use Rattle.arj_joint_law.specs.Forms.{OfClass, Own}
 
 all_among : (P : ObjectState → Type 0) (ss : List ObjectState) (st : ObjectState) → AllByRecursion P ss → Among st ss → P st
@@ -85,19 +90,20 @@ newest_first [] t order i most = absurd i
 newest_first (u ∷ ts) t order (inl is) most = (ts, ap (λ z. z ∷ ts) is)
 newest_first (u ∷ ts) t order (inr i) most = let less = all_at (λ (z : Top). z.at < u.at) ts order.0 t i in let le = most u (inl refl) in absurd (omega (arith, less, le))
 
-each_listed : (values : Values) (lines : List Line) (x : ℕ) (ds : List Done) (ts : List Top) → AreDecisions values lines x ds ts → (t : Top) → members.In t ts → Contains (tops lines) t
-each_listed values lines x [] [] are t i = absurd i
-each_listed values lines x [] (u ∷ ts) are t i = absurd are
-each_listed values lines x (d ∷ ds) [] are t i = absurd are
-each_listed values lines x (d ∷ ds) (u ∷ ts) are t (inl is) = subst (Contains (tops lines)) is (let q = are.0 in q.listed)
-each_listed values lines x (d ∷ ds) (u ∷ ts) are t (inr i) = each_listed values lines x ds ts are.1 t i
+-- each of them has its decision
+each_decision : (values : Values) (lines : List Line) (x : ℕ) (ds : List Done) (ts : List Top) → AreDecisions values lines x ds ts → (t : Top) → members.In t ts → (d : Done) × IsDecision values lines x d t
+each_decision values lines x [] [] are t i = absurd i
+each_decision values lines x [] (u ∷ ts) are t i = absurd are
+each_decision values lines x (d ∷ ds) [] are t i = absurd are
+each_decision values lines x (d ∷ ds) (u ∷ ts) are t (inl is) = (d, subst (IsDecision values lines x d) is are.0)
+each_decision values lines x (d ∷ ds) (u ∷ ts) are t (inr i) = each_decision values lines x ds ts are.1 t i
 
 -- its decision
 first_decision : (values : Values) (lines : List Line) (x : ℕ) (ds : List Done) (t : Top) (ts : List Top) → AreDecisions values lines x ds (t ∷ ts) → (d : Done) × (es : List Done) × (ds ≡ d ∷ es) × IsDecision values lines x d t
 first_decision values lines x [] t ts are = absurd are
 first_decision values lines x (d ∷ ds) t ts are = (d, ds, refl, are.0)
 
-module _ (header : Header) (e : ℕ) (M : Seen) (right : AreRight new_book M.lines) (tied : Ties (first_values header) M.lines) (x : ℕ) (is : IsSeenInTime header e x M) (t : Top) (new : IsNew e M.lines t) (wrote : Wrote M.lines x t) where
+module _ (header : Header) (e : ℕ) (M : Seen) (right : AreRight new_book M.lines) (tied : Ties (first_values header) M.lines) (x : ℕ) (is : IsSeenSo header x M) (t : Top) (new : IsNew e M.lines t) (wrote : Wrote M.lines x t) (newest : IsNewest header M.lines x (let v = is.seen in let V = v.world in V.disk) (let v = is.seen in v.decided) t) where
   abbrev seen : IsSeenDecided header x M
   seen = is.seen
 
@@ -110,9 +116,6 @@ module _ (header : Header) (e : ℕ) (M : Seen) (right : AreRight new_book M.lin
   core : Core W.disk
   core = let w = let v = seen.sees in v.whole in w.core
 
-  abbrev newest : IsNewest header e M.lines x W.disk seen.decided t
-  newest = is.newest t new wrote
-
   abbrev T : ℕ
   T = uid_number (uid_of M.lines t)
 
@@ -123,7 +126,7 @@ module _ (header : Header) (e : ℕ) (M : Seen) (right : AreRight new_book M.lin
       let w = decided.decided.all c.0 c.1 c.2 in
       let apart : AreApart (tops M.lines) = let l = listed M.lines right in l.apart in
       let i = in_from w.0 decided.decided.those w.1 in
-      let a = in_from w.0 (tops M.lines) (each_listed (first_values header) M.lines x (filter counts_of decided.others) decided.decided.those decided.decided.each w.0 i) in
+      let a = in_from w.0 (tops M.lines) (let q = (each_decision (first_values header) M.lines x (filter counts_of decided.others) decided.decided.those decided.decided.each w.0 i).1 in q.listed) in
       let b = in_from t (tops M.lines) new.0 in
       let id : w.0.id ≡ t.id = sym w.2 ∙ c.3 in
       let place : w.0.at ≡ t.at = sym (place_of_top (tops M.lines) w.0 apart a) ∙ ap (top_place (tops M.lines)) id ∙ place_of_top (tops M.lines) t apart b in
@@ -149,8 +152,8 @@ module _ (header : Header) (e : ℕ) (M : Seen) (right : AreRight new_book M.lin
       behind [] i = i
       behind (d ∷ ds) i = inr (behind ds i)
 
-  writes : is_some (W.disk.plan T).writes ≡ true
-  writes = ap (λ n. is_some (W.disk.plan n).writes) (sym number) ∙ ap (λ (p : Plan). is_some p.writes) (sym (core.journal.plan its.0 inside)) ∙ by its.0.plan.writes (let q = its.3 in q.wrote)
+  has_written : is_some (W.disk.plan T).writes ≡ true
+  has_written = ap (λ n. is_some (W.disk.plan n).writes) (sym number) ∙ ap (λ (p : Plan). is_some p.writes) (sym (core.journal.plan its.0 inside)) ∙ by its.0.plan.writes (let q = its.3 in q.wrote)
     where
       by : (o : Option Packed) → WroteSo (first_values header) M.lines x t o → is_some o ≡ true
       by None none = let c = wrote in never c.2 (none c.0 c.1 c.3)
@@ -183,7 +186,7 @@ module _ (header : Header) (e : ℕ) (M : Seen) (right : AreRight new_book M.lin
         ap (λ (q : Packed). has s q.content) (sym same) ∙ has_among s (state_entry st).stores ∙ has_it
 
     machine_in_time : IsExcludedInTime W.disk T s
-    machine_in_time = in_time W (let v = seen.sees in v.whole) T s latest writes in_entry
+    machine_in_time = in_time W (let v = seen.sees in v.whole) T s latest has_written in_entry
 
     holds : W.disk.held s ≡ Some (last W.disk) → IsInTime header M.lines x n m t s
     holds e =
@@ -231,7 +234,47 @@ module _ (header : Header) (e : ℕ) (M : Seen) (right : AreRight new_book M.lin
 
 seen_in_time : (header : Header) (e : ℕ) (M : Seen) → AreSeenInTime header e M → AreExcludedInTime header e M
 seen_in_time header e M (tied, each) t x s n m st has new wrote at_naming at_store held has_it =
-    is_in_time header e M (seen_right (first_values header) M tied) (ties_of (first_values header) M.lines (seen_tied (first_values header) M tied)) x (each x has) t new wrote s n m st at_naming at_store held has_it
+    is_in_time header e M (seen_right (first_values header) M tied) (ties_of (first_values header) M.lines (seen_tied (first_values header) M tied)) x (each x has).0 t new wrote ((each x has).1 t new wrote) s n m st at_naming at_store held has_it
 
 pub seen_runs_in_time : SeenRunsExcludeInTime
 seen_runs_in_time hd es h = record { sent = h.sent; stands = h.stands; holds = seen_in_time hd _ _ h.holds }
+
+-- ---- by the lock machine
+
+-- an object that was written was called
+was_called : (values : Values) (lines : List Line) (x : ℕ) (c : Call) → members.In c (committed_calls lines) → writes_on x c ≡ true → list_any (λ (z : Placed Said). z.it.x == x) (said lines) ≡ true
+was_called values lines x c i write =
+    let f = in_filter_map (kept (committed lines) (recovered lines)) c (said lines) i in
+    let k = kept_shape values lines x f.0 c f.2 in
+    any_said x f.0 (said lines) f.1 (sym k.1 ∙ eqb-true c.x x (and_parts (c.x == x) (writes c.op) write).0)
+
+-- a top that counts wrote, or it didn't
+wrote_or_not : (values : Values) (lines : List Line) (x : ℕ) (d : Done) (u : Top) → IsDecision values lines x d u → Wrote lines x u ⊎ (Wrote lines x u → ⊥)
+wrote_or_not values lines x d u q = by d.plan.writes q.wrote
+  where
+    by : (o : Option Packed) → WroteSo values lines x u o → Wrote lines x u ⊎ (Wrote lines x u → ⊥)
+    by None none = inr (λ c. never c.2 (none c.0 c.1 c.3))
+    by (Some w) some = let l = some.1 in inl (some.0, l.there, l.write, l.whose)
+
+newest_by_calls : (header : Header) (e : ℕ) (M : Seen) → AreRight new_book M.lines → AreTied (first_values header) M.lines → CommitsBeginIt e M.lines → (x : ℕ) (is : IsSeenSo header x M) (t : Top) → IsNew e M.lines t → Wrote M.lines x t
+    → IsBehindIncludes header M.lines x (let v = is.seen in let V = v.world in V.disk) (let v = is.seen in v.decided) t → IsNewest header M.lines x (let v = is.seen in let V = v.world in V.disk) (let v = is.seen in v.decided) t
+newest_by_calls header e M right tied begins x is t new wrote b = record {
+  late = b.late;
+  last = λ u c.
+      let d = is.seen.decided in
+      let q = each_decision (first_values header) M.lines x (filter counts_of d.others) d.decided.those d.decided.each u (in_from u d.decided.those c) in
+      let w = wrote in
+      let s = tied x (was_called (first_values header) M.lines x w.0 (in_from w.0 (committed_calls M.lines) w.1) w.2) in
+      ⊎_elim
+      (λ (yes : Wrote M.lines x u). new_writers_last (first_values header) M.lines x s.0 e right s.1 begins t u new wrote (let r = q.1 in r.listed) yes)
+      (λ none. b.last u c none) (wrote_or_not (first_values header) M.lines x q.0 u q.1);
+}
+
+seen_by_calls : (header : Header) (e : ℕ) (M : Seen) → AreSeenByCalls header e M → AreSeenInTime header e M
+seen_by_calls header e M (tied, begins, each) = (
+  tied,
+  λ x has. let s = each x has in (s.0, λ t new wrote. newest_by_calls header e M (seen_right (first_values header) M tied) (seen_tied (first_values header) M tied) begins x s.0 t new wrote (s.1 t new wrote)),
+)
+
+pub runs_in_time_by_calls : RunsExcludeInTimeByCalls
+runs_in_time_by_calls hd es h = record { sent = h.sent; stands = h.stands; holds = seen_in_time hd _ _ (seen_by_calls hd _ _ h.holds) }

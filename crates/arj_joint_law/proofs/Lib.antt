@@ -13,3 +13,4 @@ pub mod Turns
 pub mod Behind
 pub mod Excluding
 pub mod InTime
+pub mod NewWriters

@@ -1,14 +1,21 @@
 -- Excluded in time, by a journal and what is seen of the nodes: at the end of the event in which a top is decided, each store that the
 -- naming node has for an object that it wrote holds its last state, or has it prepared, or is about to be taken out.
-use Rattle.std.specs.Prelude.{◌≡◌, ◌⊎◌, ◌≤◌, ℕ, true, false, nat_lt, if◌then◌else◌, List, [], ◌∷◌, Some, Contains, is_some}
+use Rattle.std.specs.Prelude.{◌≡◌, ◌⊎◌, ◌≤◌, ◌<◌, ℕ, true, false, nat_lt, if◌then◌else◌, List, [], ◌∷◌, ◌++◌, Some, Contains, is_some}
+use Rattle.std.specs.List.{AllByRecursion}
 use Rattle.arj_base.specs.declared.state.ObjectState.{ObjectState}
 use Rattle.arj_base.specs.declared.uid.Uid.{Uid}
 use Rattle.arj_base.specs.Uid.{entry, object}
+use Rattle.arj_journal.specs.declared.body.Body.TheVariants as body
 use Rattle.arj_journal.specs.declared.body.Line.{Line}
 use Rattle.arj_journal.specs.declared.header.Header.{Header}
 use Rattle.arj_model.specs.Actions.{acts}
 use Rattle.arj_model.specs.Calls.{Top, tops}
 use Rattle.arj_model.specs.Last.{first_values, is_among, last_state, object_line, uid_of_id}
+use Rattle.arj_model.specs.Serial.{Values}
+use Rattle.arj_text.specs.declared.label.Label.{Label}
+use Rattle.arj_line_law.specs.Book.{new_book}
+use Rattle.arj_line_law.specs.Right.{AreRight}
+use Rattle.arj_lock_law.specs.State as machine
 use Rattle.arj_protocol.specs.Effect.{held_at}
 use Rattle.arj_protocol.specs.Order.{at_uid, uid_number}
 use Rattle.arj_protocol.specs.Step.{Node}
@@ -23,6 +30,7 @@ use Rattle.arj_view_law.specs.Seen.{Seen}
 use Rattle.arj_serial_law.specs.Cleaned.{AreDecidedOrLate}
 use Rattle.arj_serial_law.specs.Decided.{Wrote}
 use Rattle.arj_serial_law.specs.Runs.{AreSeenTied, IsSeenDecided}
+use Rattle.arj_serial_law.specs.Tied.{IsTied}
 use Rattle.arj_joint_law.specs.Forms.{AreSo, kind_of}
 use Rattle.arj_joint_law.specs.Outcome.{is_said}
 
@@ -79,22 +87,48 @@ TakersAreCommitted lines S = (t : Top) (h : Hold) → Contains (tops lines) t �
 
 -- A top that is new in the event and wrote the object is the newest that counts: none of the decided tops that have no line yet does, and of
 -- the others the commit of none was called behind its own.
-pub record IsNewest (header : Header) (e : ℕ) (lines : List Line) (x : ℕ) (S : State) (d : AreDecidedOrLate header lines x S) (t : Top) : Type 0 where
+pub record IsNewest (header : Header) (lines : List Line) (x : ℕ) (S : State) (d : AreDecidedOrLate header lines x S) (t : Top) : Type 0 where
   pub late : (z : Done) → In z d.late → z.counts ≡ false
   pub last : (u : Top) → Contains (let o = d.decided in o.those) u → u.at ≤ t.at
 
--- For an object: its disk machine is seen, with its decided tops tied to the journal; what stands of it is of its class; whose entry is
--- prepared is committed; and of tops that wrote it the one that is new is the newest.
-pub record IsSeenInTime (header : Header) (e x : ℕ) (M : Seen) : Type 0 where
+-- For an object: its disk machine is seen, with its decided tops tied to the journal; what stands of it is of its class; and whose entry is
+-- prepared is committed.
+pub record IsSeenSo (header : Header) (x : ℕ) (M : Seen) : Type 0 where
   pub seen : IsSeenDecided header x M
   pub forms : AreSo (kind_of header x) M
   pub takers : TakersAreCommitted M.lines (let s = seen in let W = s.world in W.disk)
-  pub newest : (t : Top) → IsNew e M.lines t → Wrote M.lines x t → IsNewest header e M.lines x (let s = seen in let W = s.world in W.disk) (let s = seen in s.decided) t
 
--- so it is of each object of the header, and of each of which a call was answered the lock machine is seen tied to the journal
+-- so it is of each object of the header, and of tops that wrote it the one that is new is the newest; and of each object of which a call was
+-- answered the lock machine is seen tied to the journal
 abbrev pub AreSeenInTime : Header → ℕ → Seen → Type 0
-AreSeenInTime header e M = AreSeenTied (first_values header) M × ((x : ℕ) → is_some (object_line header x) ≡ true → IsSeenInTime header e x M)
+AreSeenInTime header e M = AreSeenTied (first_values header) M
+    × ((x : ℕ) → is_some (object_line header x) ≡ true → (s : IsSeenSo header x M) × ((t : Top) → IsNew e M.lines t → Wrote M.lines x t → IsNewest header M.lines x (let v = s.seen in let W = v.world in W.disk) (let v = s.seen in v.decided) t))
 
 -- a run at whose end so much is seen excludes stores in time
 abbrev pub SeenRunsExcludeInTime : Type 0
 SeenRunsExcludeInTime = (hd : Header) (es : List Asked) → let w = run_all es (format hd) in Holds hd (AreSeenInTime hd w.event) w → Holds hd (AreExcludedInTime hd w.event) w
+
+-- ---- what the lock machine gives of it
+
+-- no line of this event, or of a later one, stands before a line that calls a commit
+abbrev pub CommitsBeginIt : ℕ → List Line → Type 0
+CommitsBeginIt e lines = (before : List Line) (line : Line) (behind : List Line) (l : Label) → lines ≡ before ++ line ∷ behind → line.body ≡ body.Committing l → AllByRecursion (λ (k : Line). k.event < e) before
+
+-- of two tops that wrote the object, one that is new in the event had its commit called last
+abbrev pub NewWritersAreLast : Type 0
+NewWritersAreLast = (values : Values) (lines : List Line) (x : ℕ) (S : machine.State) (e : ℕ) → AreRight new_book lines → IsTied values lines x S → CommitsBeginIt e lines
+    → (t u : Top) → IsNew e lines t → Wrote lines x t → Contains (tops lines) u → Wrote lines x u → u.at ≤ t.at
+
+-- The top is the newest of those that count and didn't write the object, but include a store of it.
+pub record IsBehindIncludes (header : Header) (lines : List Line) (x : ℕ) (S : State) (d : AreDecidedOrLate header lines x S) (t : Top) : Type 0 where
+  pub late : (z : Done) → In z d.late → z.counts ≡ false
+  pub last : (u : Top) → Contains (let o = d.decided in o.those) u → (Wrote lines x u → ⊥) → u.at ≤ t.at
+
+-- the same, where a commit call is the first line of the event and a top that is new is behind such ones
+abbrev pub AreSeenByCalls : Header → ℕ → Seen → Type 0
+AreSeenByCalls header e M = AreSeenTied (first_values header) M × CommitsBeginIt e M.lines
+    × ((x : ℕ) → is_some (object_line header x) ≡ true → (s : IsSeenSo header x M) × ((t : Top) → IsNew e M.lines t → Wrote M.lines x t → IsBehindIncludes header M.lines x (let v = s.seen in let W = v.world in W.disk) (let v = s.seen in v.decided) t))
+
+-- and a run at whose end so much is seen does too
+abbrev pub RunsExcludeInTimeByCalls : Type 0
+RunsExcludeInTimeByCalls = (hd : Header) (es : List Asked) → let w = run_all es (format hd) in Holds hd (AreSeenByCalls hd w.event) w → Holds hd (AreExcludedInTime hd w.event) w

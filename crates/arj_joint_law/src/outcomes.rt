@@ -1,6 +1,6 @@
 // One outcome of each top, and that stores are excluded in time, by a journal.
 ghost use Rattle.std.specs.Prelude.{◌≡◌, false};
-ghost use Rattle.arj_joint_law.specs.Excluded.{IsInTime, IsNew, SeenRunsExcludeInTime};
+ghost use Rattle.arj_joint_law.specs.Excluded.{IsInTime, IsNew, NewWritersAreLast, RunsExcludeInTimeByCalls, SeenRunsExcludeInTime};
 ghost use Rattle.arj_joint_law.specs.Outcome.{CommitsAreBehind, ShowsOneOutcome, aborts_have_cause, commits_are_behind};
 ghost use Rattle.arj_joint_law.specs.Samples.{decided_lines, found_commit, halted_abort, header, its_top, naming_late, naming_node, right_end, store_three, store_two, wrong_abort, wrong_commit};
 
@@ -36,7 +36,10 @@ pub fn exclusion_in_time_tells_disks_apart()
 /// time: of each top that the last event decided, by its `committed` line or the line that its record was found, each store that the naming
 /// node's entry has for an object that it wrote holds the object's last state by the journal, or has it prepared for that top, or the naming
 /// node has prepared an entry without it, for that top or for another committed constituent of its serializing action. It does nothing when
-/// it runs.
+/// it runs. So it is too where a commit call is the first line of the event and a new top is the newest of those alone that didn't write the
+/// object: by the lock machine writers are decided in the order of their commit calls.
 pub fn seen_runs_exclude_in_time()
     ensures runs { SeenRunsExcludeInTime }
+    ensures calls { RunsExcludeInTimeByCalls }
+    ensures writers { NewWritersAreLast }
 {}

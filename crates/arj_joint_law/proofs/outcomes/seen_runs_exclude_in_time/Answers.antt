@@ -1,5 +1,12 @@
-use Rattle.arj_joint_law.proofs.Excluding.{seen_runs_in_time}
+use Rattle.arj_joint_law.proofs.Excluding.{runs_in_time_by_calls, seen_runs_in_time}
+use Rattle.arj_joint_law.proofs.NewWriters.{new_writers_last}
 use Rattle.arj_joint_law.proofs.outcomes.seen_runs_exclude_in_time.Goals as goal
 
-pub returns : goal.returns
-returns c = record { runs = seen_runs_in_time }
+pub returns-clause-runs : goal.returns-clause-runs
+returns-clause-runs c = seen_runs_in_time
+
+pub returns-clause-calls : goal.returns-clause-calls
+returns-clause-calls c = runs_in_time_by_calls
+
+pub returns-clause-writers : goal.returns-clause-writers
+returns-clause-writers c = new_writers_last
