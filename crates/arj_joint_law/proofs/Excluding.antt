@@ -32,6 +32,7 @@ use Rattle.arj_disk_law.specs.Order.{counts_of}
 use Rattle.arj_disk_law.specs.State.{Done, Hold, IsExcused, Packed, Plan, is_latest, is_latest_in, last, last_in}
 use Rattle.arj_disk_law.specs.Words.{In, has}
 use Rattle.arj_disk_law.proofs.Results.{in_time}
+use Rattle.arj_view_law.proofs.Happens.{runs_hold}
 use Rattle.arj_view_law.specs.Seen.{Seen}
 use Rattle.arj_disk_view_law.specs.Entries.{SeesEntry}
 use Rattle.arj_disk_view_law.specs.Pairs.{Among, Holder, IsOf, packed, packed_entry}
@@ -46,9 +47,10 @@ use Rattle.arj_serial_law.proofs.Ties.{Ties, ties_of}
 use Rattle.arj_serial_law.proofs.Tying.{all_at}
 use Rattle.arj_serial_law.proofs.Values.{any_said, kept_shape}
 use Rattle.arj_serial_law.specs.Tied.{AreTied}
-use Rattle.arj_joint_law.specs.Excluded.{AreExcludedInTime, AreSeenByCalls, AreSeenInTime, CommitsBeginIt, IsBehindIncludes, RunsExcludeInTimeByCalls, IsInTime, IsNew, IsNewest, IsSeenSo, IsTakenOut, SeenRunsExcludeInTime, uid_of}
+use Rattle.arj_joint_law.specs.Excluded.{AreExcludedInTime, AreSeenByCalls, AreSeenInTime, CommitsBeginIt, IsBehindIncludes, RunsExcludeInTimeByCalls, IsInTime, IsNew, IsNewest, IsSeenSo, IsTakenOut, NodesHaveForm, SeenRunsExcludeInTime, uid_of}
 use Rattle.arj_joint_law.proofs.NewWriters.{new_writers_last}
-use Rattle.arj_joint_law.specs.Forms.{OfClass, Own}
+use Rattle.arj_joint_law.specs.Forms.{AreSo, OfClass, Own, kind_of}
+use Rattle.arj_joint_law.proofs.FormRuns.{kept_forms}
 
 all_among : (P : ObjectState → Type 0) (ss : List ObjectState) (st : ObjectState) → AllByRecursion P ss → Among st ss → P st
 all_among P [] st all i = absurd i
@@ -199,7 +201,7 @@ module _ (header : Header) (e : ℕ) (M : Seen) (right : AreRight new_book M.lin
         let p = sees_store.pair in
         let k : Holder packed (object x) m.disk.store h = p.holder h pend in
         let who : k.action ≡ uid_of M.lines t = number_tells k.action (uid_of M.lines t) (ap (λ (y : Hold). y.top) k.is ∙ top) in
-        let disk = (is.forms.0 s m at_store).0 in
+        let disk = (is.forms s m at_store).0 in
         let class : k.state.class ≡ class_of (first_values header x) = all_among (Own (OfClass x (class_of (first_values header x)))) k.states k.state (all_at_uid (AllByRecursion (Own (OfClass x (class_of (first_values header x))))) k.action k.states m.disk.store.pend disk.store.pend k.prepared) k.of.0 k.of.1 in
         let same : k.state ≡ last_state header M.lines x = one_state k.state (last_state header M.lines x) (ap (λ (y : Hold). y.new) k.is ∙ new_is ∙ last_is) k.of.1 (class ∙ sym (run_class (first_values header) (serial_calls M.lines) x)) in
         inr (inl (k.states, subst (λ u. at_uid u m.disk.store.pend ≡ Some k.states) who k.prepared, subst (IsOf (object x) k.states) same k.of))
@@ -278,3 +280,8 @@ seen_by_calls header e M (tied, begins, each) = (
 
 pub runs_in_time_by_calls : RunsExcludeInTimeByCalls
 runs_in_time_by_calls hd es h = record { sent = h.sent; stands = h.stands; holds = seen_in_time hd _ _ (seen_by_calls hd _ _ h.holds) }
+
+-- ---- what stands of objects on nodes
+
+pub nodes_have_form : NodesHaveForm
+nodes_have_form hd x form es sent k n is = let h = runs_hold hd (AreSo (kind_of hd x)) (kept_forms hd x form) es in h.holds.0 k n is

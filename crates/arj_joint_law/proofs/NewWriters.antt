@@ -1,6 +1,6 @@
 -- Of two tops that wrote an object, one that is new in the last event had its commit called last, where nothing stands before a commit
 -- call in that event.
-use Rattle.std.proofs.Common.{◌≡◌, ◌≢◌, ◌⊎◌, ◌≤◌, ◌<◌, ℕ, ◌+◌, List, [], ◌∷◌, ◌++◌, length, Bool, true, false, cond, nat_lt, Option, Some, None, refl, sym, ◌∙◌, ap, subst, inl, inr, ⊎_elim, arith, Contains}
+use Rattle.std.proofs.Common.{◌≡◌, ◌≢◌, ◌⊎◌, ◌≤◌, ◌<◌, ℕ, ◌+◌, List, [], ◌∷◌, ◌++◌, length, Bool, true, false, cond, nat_lt, Option, Some, None, refl, sym, ◌∙◌, ap, subst, inl, inr, ⊎_elim, arith}
 use Rattle.std.specs.List.{AllByRecursion}
 use Rattle.std.specs.Option.{option_map}
 use Rattle.std.proofs.lemmas.Bool.Decides.{nat_tests}
@@ -17,7 +17,7 @@ use Rattle.arj_lock.proofs.Members.{In, in_from, in_to}
 use Rattle.arj_model.specs.Actions.{Act, Placed, act_in, acts, acts_after, acts_from, id_in, put, read}
 use Rattle.arj_model.specs.Calls.{Top, tops}
 use Rattle.arj_model.specs.Serial.{Values, top_place}
-use Rattle.arj_line_law.specs.Book.{Book, book, book_from, is_decided, new_book, turned, with_named}
+use Rattle.arj_line_law.specs.Book.{Book, book, book_from, is_decided, new_book, turned}
 use Rattle.arj_line_law.specs.Laws.{called, called_of}
 use Rattle.arj_line_law.specs.Right.{AreRight}
 use Rattle.arj_line_law.proofs.Books.{book_more, decided_later, later_from, named_is, never, on_here}

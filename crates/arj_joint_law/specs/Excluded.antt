@@ -5,6 +5,7 @@ use Rattle.std.specs.List.{AllByRecursion}
 use Rattle.arj_base.specs.declared.state.ObjectState.{ObjectState}
 use Rattle.arj_base.specs.declared.uid.Uid.{Uid}
 use Rattle.arj_base.specs.Uid.{entry, object}
+use Rattle.arj_journal.specs.ScriptForm.{HeaderInForm}
 use Rattle.arj_journal.specs.declared.body.Body.TheVariants as body
 use Rattle.arj_journal.specs.declared.body.Line.{Line}
 use Rattle.arj_journal.specs.declared.header.Header.{Header}
@@ -26,12 +27,12 @@ use Rattle.arj_disk_law.specs.State.{Done, Hold, State}
 use Rattle.arj_disk_law.specs.Words.{In}
 use Rattle.arj_disk_view_law.specs.Pairs.{IsOf}
 use Rattle.arj_view_law.specs.Keeps.{Holds}
-use Rattle.arj_view_law.specs.Seen.{Seen}
+use Rattle.arj_view_law.specs.Seen.{Post, Seen, see}
 use Rattle.arj_serial_law.specs.Cleaned.{AreDecidedOrLate}
 use Rattle.arj_serial_law.specs.Decided.{Wrote}
 use Rattle.arj_serial_law.specs.Runs.{AreSeenTied, IsSeenDecided}
 use Rattle.arj_serial_law.specs.Tied.{IsTied}
-use Rattle.arj_joint_law.specs.Forms.{AreSo, kind_of}
+use Rattle.arj_joint_law.specs.Forms.{NodeIsSo, kind_of}
 use Rattle.arj_joint_law.specs.Outcome.{is_said}
 
 -- the lines of events before this one
@@ -91,11 +92,15 @@ pub record IsNewest (header : Header) (lines : List Line) (x : ℕ) (S : State) 
   pub late : (z : Done) → In z d.late → z.counts ≡ false
   pub last : (u : Top) → Contains (let o = d.decided in o.those) u → u.at ≤ t.at
 
+-- what stands of the object on nodes is of its class, on disks and in memory
+abbrev pub NodesAreSo : Header → ℕ → Seen → Type 0
+NodesAreSo header x M = (k : ℕ) (n : Node) → M.nodes k ≡ Some n → NodeIsSo (kind_of header x) n
+
 -- For an object: its disk machine is seen, with its decided tops tied to the journal; what stands of it is of its class; and whose entry is
 -- prepared is committed.
 pub record IsSeenSo (header : Header) (x : ℕ) (M : Seen) : Type 0 where
   pub seen : IsSeenDecided header x M
-  pub forms : AreSo (kind_of header x) M
+  pub forms : NodesAreSo header x M
   pub takers : TakersAreCommitted M.lines (let s = seen in let W = s.world in W.disk)
 
 -- so it is of each object of the header, and of tops that wrote it the one that is new is the newest; and of each object of which a call was
@@ -119,7 +124,8 @@ abbrev pub NewWritersAreLast : Type 0
 NewWritersAreLast = (values : Values) (lines : List Line) (x : ℕ) (S : machine.State) (e : ℕ) → AreRight new_book lines → IsTied values lines x S → CommitsBeginIt e lines
     → (t u : Top) → IsNew e lines t → Wrote lines x t → Contains (tops lines) u → Wrote lines x u → u.at ≤ t.at
 
--- The top is the newest of those that count and didn't write the object, but include a store of it.
+-- None of the decided tops that have no line yet counts, and of the others that count and didn't write the object, but include a store of it,
+-- the commit of none was called behind the top's.
 pub record IsBehindIncludes (header : Header) (lines : List Line) (x : ℕ) (S : State) (d : AreDecidedOrLate header lines x S) (t : Top) : Type 0 where
   pub late : (z : Done) → In z d.late → z.counts ≡ false
   pub last : (u : Top) → Contains (let o = d.decided in o.those) u → (Wrote lines x u → ⊥) → u.at ≤ t.at
@@ -132,3 +138,7 @@ AreSeenByCalls header e M = AreSeenTied (first_values header) M × CommitsBeginI
 -- and a run at whose end so much is seen does too
 abbrev pub RunsExcludeInTimeByCalls : Type 0
 RunsExcludeInTimeByCalls = (hd : Header) (es : List Asked) → let w = run_all es (format hd) in Holds hd (AreSeenByCalls hd w.event) w → Holds hd (AreExcludedInTime hd w.event) w
+
+-- in the run of every script whose header is in form, whatever was sent, what stands of objects on nodes is of their classes
+abbrev pub NodesHaveForm : Type 0
+NodesHaveForm = (hd : Header) (x : ℕ) → HeaderInForm hd → (es : List Asked) (sent : List Post) → NodesAreSo hd x (see sent (run_all es (format hd)))

@@ -1,6 +1,6 @@
 // One outcome of each top, and that stores are excluded in time, by a journal.
 ghost use Rattle.std.specs.Prelude.{◌≡◌, false};
-ghost use Rattle.arj_joint_law.specs.Excluded.{IsInTime, IsNew, NewWritersAreLast, RunsExcludeInTimeByCalls, SeenRunsExcludeInTime};
+ghost use Rattle.arj_joint_law.specs.Excluded.{IsInTime, IsNew, NewWritersAreLast, NodesHaveForm, RunsExcludeInTimeByCalls, SeenRunsExcludeInTime};
 ghost use Rattle.arj_joint_law.specs.Outcome.{CommitsAreBehind, ShowsOneOutcome, aborts_have_cause, commits_are_behind};
 ghost use Rattle.arj_joint_law.specs.Samples.{decided_lines, found_commit, halted_abort, header, its_top, naming_late, naming_node, right_end, store_three, store_two, wrong_abort, wrong_commit};
 
@@ -32,14 +32,15 @@ pub fn exclusion_in_time_tells_disks_apart()
 {}
 
 /// Take a run at whose end each object's disk machine is seen with its decided tops tied to the journal, what stands of objects is of their
-/// classes, and each top that is new in the last event is the newest of those that changed what it wrote. Then stores are excluded in
-/// time: of each top that the last event decided, by its `committed` line or the line that its record was found, each store that the naming
-/// node's entry has for an object that it wrote holds the object's last state by the journal, or has it prepared for that top, or the naming
-/// node has prepared an entry without it, for that top or for another committed constituent of its serializing action. It does nothing when
-/// it runs. So it is too where a commit call is the first line of the event and a new top is the newest of those alone that didn't write the
-/// object: by the lock machine writers are decided in the order of their commit calls.
+/// classes, as in every run whose header is in form, and each top that is new in the last event is the newest of those that changed what it
+/// wrote. Then stores are excluded in time: of each top that the last event decided, by its `committed` line or the line that its record was
+/// found, each store that the naming node's entry has for an object that it wrote holds the object's last state by the journal, or has it
+/// prepared for that top, or the naming node has prepared an entry without it, for that top or for another committed constituent of its
+/// serializing action. By the lock machine a new top that wrote is the newest of those that did, where in the last event nothing stands before
+/// a commit call; so of tops that only include a store that is asked alone. It does nothing when it runs.
 pub fn seen_runs_exclude_in_time()
     ensures runs { SeenRunsExcludeInTime }
     ensures calls { RunsExcludeInTimeByCalls }
     ensures writers { NewWritersAreLast }
+    ensures forms { NodesHaveForm }
 {}

@@ -1,4 +1,4 @@
-use Rattle.arj_joint_law.proofs.Excluding.{runs_in_time_by_calls, seen_runs_in_time}
+use Rattle.arj_joint_law.proofs.Excluding.{nodes_have_form, runs_in_time_by_calls, seen_runs_in_time}
 use Rattle.arj_joint_law.proofs.NewWriters.{new_writers_last}
 use Rattle.arj_joint_law.proofs.outcomes.seen_runs_exclude_in_time.Goals as goal
 
@@ -10,3 +10,6 @@ returns-clause-calls c = runs_in_time_by_calls
 
 pub returns-clause-writers : goal.returns-clause-writers
 returns-clause-writers c = new_writers_last
+
+pub returns-clause-forms : goal.returns-clause-forms
+returns-clause-forms c = nodes_have_form
