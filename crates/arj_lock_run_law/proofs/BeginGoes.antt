@@ -49,7 +49,7 @@ module _ (f : Fixed) (x : ℕ) (begun : List Action) (a : Action) (S : State) wh
 
   naming_more : (k : ℕ) (o : Option Naming) → SeesNamingIn (view_of f x begun k) S o → SeesNamingIn (view_of f x (a ∷ begun) k) S o
   naming_more k None z = tt
-  naming_more k (Some n) z = record { named = z.named; there = z.there; seen = z.seen; told = z.told; confirmed = z.confirmed }
+  naming_more k (Some n) z = record { named = z.named; there = z.there; seen = z.seen; told = z.told; confirmed = z.confirmed; firsts = z.firsts }
 
   -- where the new one is of the tree, if it is of the node
   past_more : (k : ℕ) (t v : Tree) → ((u : Uid) (b : Branch) → branch_of u t ≡ Some b → branch_of u v ≡ Some b) → ((act_of a).node ≡ k → (b : Branch) × (branch_of (act_of a) v ≡ Some b)) → ArePast (view_of f x begun k) t S → ArePast (view_of f x (a ∷ begun) k) v S

@@ -20,7 +20,7 @@ use Rattle.arj_lock_view_law.specs.Going.{OnlyNaming}
 use Rattle.arj_lock_view_law.specs.Handling.{OnlyServing}
 use Rattle.arj_lock_view_law.specs.Hearing.{SeesNamingIn}
 use Rattle.arj_lock_view_law.specs.Inputs.{OnlyEnded, SeesWhole}
-use Rattle.arj_lock_view_law.specs.Namings.{place_of}
+use Rattle.arj_lock_view_law.specs.Namings.{HaveFirsts, place_of}
 use Rattle.arj_lock_view_law.specs.Stops.{HasStopped, IsUnitOf, OnlyStopped}
 use Rattle.arj_lock_view_law.specs.Telling.{Sees, View}
 use Rattle.arj_lock_view_law.proofs.BesideSteps.{named_stays_seen, other_servers_stay_seen, servers_stay_seen, wholes_stay_seen}
@@ -77,6 +77,7 @@ module _ (v : View) (m : Message) (S T : State) (only : OnlyServing v m S T) whe
     seen = named_stays_seen v m w.family.act w.x (place_of n) s.named S T only s.seen;
     told = λ p topped free. subst (λ (k : state.Naming). k.told (w.family.act (top_of p)) ≡ false) (sym naming_is) (s.told p topped free);
     confirmed = λ u is. s.confirmed u (subst (λ (k : state.Naming). k.confirmed (w.family.act u) ≡ true) naming_is is);
+    firsts = subst (λ (k : state.Naming). HaveFirsts w.family.act n.confirmed k.confirmed (let q = s.named in q.rows)) (sym naming_is) s.firsts;
   }
 
   pub coord_serving : (w : View) (c : Coord) → SeesWhole w.family.act w.code w.x c S → SeesWhole w.family.act w.code w.x c T
@@ -138,6 +139,7 @@ module _ (S : State) (A : Act → state.Action) (line : ℕ) where
     };
     told = s.told;
     confirmed = s.confirmed;
+    firsts = s.firsts;
   })
 
 module _ (S T : State) (reached : IsReached S) (run : Run S T) (v : View) (t : Tree) (alike : AreAlike v.family.act v.family.paths) (home : AreHome v t) (only : OnlyStopped v.family.act t S T) where

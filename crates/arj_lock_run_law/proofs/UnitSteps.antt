@@ -20,6 +20,7 @@ use Rattle.arj_lock_view_law.specs.Including.{OnlyIncluded}
 use Rattle.arj_lock_view_law.specs.Inputs.{OnlyEnded}
 use Rattle.arj_lock_view_law.specs.Rows.{SeesRows}
 use Rattle.arj_lock_view_law.specs.Telling.{Sees, View}
+use Rattle.arj_lock_view_law.specs.Namings.{HaveFirsts}
 use Rattle.arj_lock_view_law.proofs.BesideSteps.{servers_stay_seen}
 use Rattle.arj_lock_view_law.proofs.EverSteps.{ever}
 use Rattle.arj_lock_view_law.proofs.OutsideSteps.{calls_elsewhere, ends_elsewhere, includes_elsewhere}
@@ -105,6 +106,7 @@ module _ (f : Fixed) (x unit : ℕ) (S T : State) (only : OnlyUnit f x unit S T)
     };
     told = λ p topped free. ap (λ (z : state.Naming). z.told (w.family.act (top_of p))) only.naming ∙ s.told p topped free;
     confirmed = λ u is. s.confirmed u (ap (λ (z : state.Naming). z.confirmed (w.family.act u)) (sym only.naming) ∙ is);
+    firsts = subst (λ (z : state.Naming). HaveFirsts w.family.act n.confirmed z.confirmed (let q = s.named in q.rows)) (sym only.naming) s.firsts;
   })
 
   pub server_unit : (w : View) (t : Parts) → Sees w t.server S → Sees w t.server T

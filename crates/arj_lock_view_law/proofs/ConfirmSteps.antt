@@ -1,18 +1,19 @@
 -- Whole naming goes at a Confirm.
 use Rattle.std.proofs.Common.{◌≡◌, ◌⊎◌, ◌∙◌, ◌*◌, ◌==◌, ◌||◌, if◌then◌else◌, not, ℕ, List, [], ◌∷◌, Bool, true, false, cond, Option, Some, None, refl, sym, ap, subst, inl, inr, ⊎_elim, arith, eqb-true}
 use Rattle.std.specs.Prelude.{option_map}
+use Rattle.std.proofs.lemmas.Bool.{or_parts}
 use Rattle.arj_lock.proofs.Members as list
 use Rattle.arj_lock.proofs.Members.{in_from, in_to}
 use Rattle.arj_protocol.specs.Words.{ConfirmedReply, ObjectState, Path, Row, Uid, is_listed, is_on, last_uid}
 use Rattle.arj_protocol.specs.Words.confirmed
 use Rattle.arj_protocol.specs.Words.mode
 use Rattle.arj_protocol.specs.Words.what
-use Rattle.arj_protocol.specs.Ask.{top_of}
+use Rattle.arj_protocol.specs.Ask.{top_of, top_path}
 use Rattle.arj_protocol.specs.Confirm.{Grants, Marks, checked, confirm, confirm_entries, confirm_new, confirms, conflict_in, entries_after, first_of_each, has_all, is_bare, is_there, lock_all, lock_in, other_grant, prepared_by, refused_exclude, same_nodes, wanted}
 use Rattle.arj_protocol.specs.Effect.{Already, InDoubt, Old, Pair, Prep, Ready, Served, either, is_prepared, prepare_answer, reply, void}
 use Rattle.arj_protocol.specs.Named.{Named, locked}
 use Rattle.arj_protocol.specs.Naming.{Naming, is_over, listed_entry}
-use Rattle.arj_protocol.specs.Order.{at_number, put_number}
+use Rattle.arj_protocol.specs.Order.{at_number, put_number, with_uid}
 use Rattle.arj_protocol.specs.Values.{state_entry}
 use Rattle.arj_protocol.proofs.Maps.{put_other, put_same}
 use Rattle.arj_protocol.proofs.RowSteps.{one_or_two}
@@ -26,8 +27,9 @@ use Rattle.arj_part_law.proofs.Keys.{with_on}
 use Rattle.arj_lock_view_law.specs.Acts.{Acts}
 use Rattle.arj_lock_view_law.specs.Going.{Goes, OnlyNaming}
 use Rattle.arj_lock_view_law.specs.Named.{SeesNamed}
-use Rattle.arj_lock_view_law.specs.Namings.{ConfirmsAreTaken, IsAsking, IsConfirming, SeesNaming, ShowsConfirmed, place_of}
+use Rattle.arj_lock_view_law.specs.Namings.{ConfirmsAreTaken, HaveFirsts, IsAsking, IsConfirming, SeesNaming, ShowsConfirmed, StandsFirst, place_of}
 use Rattle.arj_lock_view_law.specs.Telling.{View}
+use Rattle.arj_lock_view_law.proofs.FirstRows.{first_confirmed, first_more, first_of, have_locked}
 use Rattle.arj_lock_view_law.proofs.NamingSteps.{naming_itself, not_itself}
 use Rattle.arj_lock_view_law.proofs.RestartSteps.{excludes_are_seen}
 
@@ -139,6 +141,7 @@ module _ (v : View) (owner : Owners) (p : Path) (grants : Grants) (excluded incl
     seen = s.seen;
     told = s.told;
     confirmed = λ u h. ⊎_elim (λ (old : is_on m.confirmed u ≡ true). inl (with_on u top m.confirmed (inr old))) (λ (told : is_on m.told u ≡ true). inr told) (s.confirmed u h);
+    firsts = λ r i. first_more act m.confirmed (with_uid top m.confirmed) S.naming.confirmed r.holder (λ u old. with_on u top m.confirmed (inr old)) (s.firsts r i);
   }
 
   -- the exclude locks
@@ -146,7 +149,7 @@ module _ (v : View) (owner : Owners) (p : Path) (grants : Grants) (excluded incl
   lock_seen y m s None found = s
   lock_seen y m s (Some o) found = ⊎_elim
       (λ (is : y ≡ v.x). subst (λ (z : ℕ). SeesNaming v (record m { objects = put_number z (locked z p mode.Exclude o) m.objects }) S) (sym is) (own (ap (λ (z : ℕ). at_number z m.objects) (sym is) ∙ found)))
-      (λ apart. record { named = s.named; there = put_other y v.x (locked y p mode.Exclude o) m.objects apart.0 ∙ s.there; seen = s.seen; told = s.told; confirmed = s.confirmed })
+      (λ apart. record { named = s.named; there = put_other y v.x (locked y p mode.Exclude o) m.objects apart.0 ∙ s.there; seen = s.seen; told = s.told; confirmed = s.confirmed; firsts = s.firsts })
       (one_or_two y v.x)
     where
       own : at_number v.x m.objects ≡ Some o → SeesNaming v (record m { objects = put_number v.x (locked v.x p mode.Exclude o) m.objects }) S
@@ -156,6 +159,7 @@ module _ (v : View) (owner : Owners) (p : Path) (grants : Grants) (excluded incl
         seen = excludes_are_seen act v.x (place_of m) o p S (let one : s.named ≡ o = cc (sym s.there ∙ here) in subst (λ (z : Named). SeesNamed act v.x (place_of m) z S) one s.seen);
         told = s.told;
         confirmed = s.confirmed;
+        firsts = (let t = asking.topped in have_locked (StandsFirst act m.confirmed S.naming.confirmed) p (first_of act asking.one owner (top_path p) m.confirmed S.naming.confirmed (let f = asking.fits in f.holder) t.along t.top) v.x mode.Exclude o (let one : s.named ≡ o = cc (sym s.there ∙ here) in subst (λ (z : Named). HaveFirsts act m.confirmed S.naming.confirmed z.rows) one s.firsts));
       }
 
   locks_seen : (ys : List ℕ) (m : Naming) → SeesNaming v m S → SeesNaming v (let t = lock_all ys p m in t.part) S
@@ -164,7 +168,7 @@ module _ (v : View) (owner : Owners) (p : Path) (grants : Grants) (excluded incl
 
   -- ---- the machine confirms the top, with a grant of this incarnation
 
-  module _ (m : Naming) (s : SeesNaming v m S) (g : ℕ) (given : list.In (v.x, g) grants) (now : g ≡ n.inc) where
+  module _ (m : Naming) (s : SeesNaming v m S) (new : is_on m.confirmed top ≡ false) (g : ℕ) (given : list.In (v.x, g) grants) (now : g ≡ n.inc) where
     abbrev T : State
     T = next (ConfirmTop (act top) (g * 4294967296)) S
 
@@ -193,16 +197,16 @@ module _ (v : View) (owner : Owners) (p : Path) (grants : Grants) (excluded incl
       state = T;
       run = step (ConfirmTop (act top) (g * 4294967296)) (confirming.sent g (in_to (v.x, g) grants given), (let f = (sees.seen).first in omega (arith, f, now))) stay;
       holds = (
-        record { named = s.named; there = s.there; seen = named_after; told = s.told; confirmed = who_confirmed },
+        record { named = s.named; there = s.there; seen = named_after; told = s.told; confirmed = who_confirmed; firsts = λ r i. first_confirmed act asking.one top m.confirmed (with_uid top m.confirmed) S.naming.confirmed r.holder new (λ u old. with_on u top m.confirmed (inr old)) (s.firsts r i) },
         record { rest = refl; bindings = λ b l. refl; sent = λ z i. i },
         (λ h c. act_here S.confirmed (act top) true),
       );
     }
 
   -- all grants were looked at
-  yes_goes : (m : Naming) → SeesNaming v m S → first_of_each (other_grant n) grants ≡ None → Takes (record { part = confirms top m; outs = []; reply = Some confirmed.Yes })
-  yes_goes m s looked = ⊎_elim
-      (λ (h : (g : ℕ) × list.In (v.x, g) grants). step_goes m s h.0 h.1 (grant_now n v.x h.0 grants looked h.1))
+  yes_goes : (m : Naming) → SeesNaming v m S → is_on m.confirmed top ≡ false → first_of_each (other_grant n) grants ≡ None → Takes (record { part = confirms top m; outs = []; reply = Some confirmed.Yes })
+  yes_goes m s new looked = ⊎_elim
+      (λ (h : (g : ℕ) × list.In (v.x, g) grants). step_goes m s new h.0 h.1 (grant_now n v.x h.0 grants looked h.1))
       (λ (none : (g : ℕ) → list.In (v.x, g) grants → ⊥). record { state = S; run = stay; holds = (confirms_seen m s, naming_itself S, (λ g c. absurd (none g (in_from (v.x, g) grants c)))) })
       (has_grant v.x grants)
 
@@ -218,23 +222,35 @@ module _ (v : View) (owner : Owners) (p : Path) (grants : Grants) (excluded incl
       shown (confirmed.Listed y k) h = tt
       shown (confirmed.NoStores y) h = tt
 
-  new_goes : checked p grants excluded included d n ≡ None → Takes (confirm_new p grants excluded included d n None)
-  new_goes is = by (entries_after top grants excluded included d)
+  -- locks confirm nobody
+  locks_confirm : (ys : List ℕ) (m : Naming) → (let t = lock_all ys p m in let k = t.part in k.confirmed) ≡ m.confirmed
+  locks_confirm [] m = refl
+  locks_confirm (y ∷ ys) m = locks_confirm ys (let t = lock_in y p m (at_number y m.objects) in t.part) ∙ by (at_number y m.objects)
+    where
+      by : (o : Option Named) → (let t = lock_in y p m o in let k = t.part in k.confirmed) ≡ m.confirmed
+      by None = refl
+      by (Some o) = refl
+
+  new_goes : is_on n.confirmed top ≡ false → checked p grants excluded included d n ≡ None → Takes (confirm_new p grants excluded included d n None)
+  new_goes fresh is = by (entries_after top grants excluded included d)
     where
       locked_seen : SeesNaming v (let t = lock_all (wanted top grants excluded d) p n in t.part) S
       locked_seen = locks_seen (wanted top grants excluded d) n sees
+
+      new : is_on (let t = lock_all (wanted top grants excluded d) p n in let k = t.part in k.confirmed) top ≡ false
+      new = ap (λ (us : List Uid). is_on us top) (locks_confirm (wanted top grants excluded d) n) ∙ fresh
 
       looked : first_of_each (other_grant n) grants ≡ None
       looked = first_none (first_of_each (other_grant n) grants) (either (first_of_each (refused_exclude p n) (wanted top grants excluded d)) (either (first_of_each (is_there d) included) (first_of_each is_bare (entries_after top grants excluded included d)))) is
 
       prepared : (ss : List ObjectState) (a : Prep) → Takes (prepared_by top ss (lock_all (wanted top grants excluded d) p n) a)
-      prepared ss Ready = let g = yes_goes (let t = lock_all (wanted top grants excluded d) p n in t.part) locked_seen looked in record { state = g.state; run = g.run; holds = g.holds }
+      prepared ss Ready = let g = yes_goes (let t = lock_all (wanted top grants excluded d) p n in t.part) locked_seen new looked in record { state = g.state; run = g.run; holds = g.holds }
       prepared ss (InDoubt u holder) = record { state = S; run = stay; holds = (locked_seen, naming_itself S, tt) }
       prepared ss (Already u) = record { state = S; run = stay; holds = (locked_seen, naming_itself S, tt) }
       prepared ss (Old u w) = record { state = S; run = stay; holds = (locked_seen, naming_itself S, tt) }
 
       by : (ss : List ObjectState) → Takes (confirm_entries top ss d (lock_all (wanted top grants excluded d) p n))
-      by [] = let g = yes_goes (let t = lock_all (wanted top grants excluded d) p n in t.part) locked_seen looked in record { state = g.state; run = g.run; holds = g.holds }
+      by [] = let g = yes_goes (let t = lock_all (wanted top grants excluded d) p n in t.part) locked_seen new looked in record { state = g.state; run = g.run; holds = g.holds }
       by (s ∷ ss) = prepared (s ∷ ss) (prepare_answer top (s ∷ ss) d)
 
   pub confirm_goes : Takes (confirm p grants excluded included d n)
@@ -245,7 +261,7 @@ module _ (v : View) (owner : Owners) (p : Path) (grants : Grants) (excluded incl
       by true e again r is = record { state = S; run = stay; holds = (sees, naming_itself S, tt) }
       by false true again r is = record { state = S; run = stay; holds = (confirms_seen n sees, naming_itself S, (λ g c. confirming.again g c again)) }
       by false false again (Some r) is = refused_goes r is
-      by false false again None is = new_goes is
+      by false false again None is = new_goes (or_parts (is_on n.confirmed top) (is_prepared top d) again).0 is
 
 pub confirms_are_taken : ConfirmsAreTaken
 confirms_are_taken v owner p grants excluded included d n S asking confirming sees = confirm_goes v owner p grants excluded included d n S asking confirming sees

@@ -18,6 +18,7 @@ pub mod EndSteps
 pub mod EndingSteps
 pub mod EverSteps
 pub mod FamilySteps
+pub mod FirstRows
 pub mod FreeSteps
 pub mod GivenSteps
 pub mod GivingSteps

@@ -27,9 +27,10 @@ use Rattle.arj_lock_view_law.specs.Acts.{Acts}
 use Rattle.arj_lock_view_law.specs.Bindings.{IsUntold}
 use Rattle.arj_lock_view_law.specs.Going.{Goes, NobodyTold, OnlyNaming, ShowsBound, ShowsNoted}
 use Rattle.arj_lock_view_law.specs.Named.{IsNamedSo, SeesNamed}
-use Rattle.arj_lock_view_law.specs.Namings.{BindsAreTaken, HellosAreTaken, IsAsking, NotesAreTaken, SeesNaming, place_of}
+use Rattle.arj_lock_view_law.specs.Namings.{BindsAreTaken, HaveFirsts, HellosAreTaken, IsAsking, NotesAreTaken, SeesNaming, StandsFirst, place_of}
 use Rattle.arj_lock_view_law.specs.Telling.{View}
 use Rattle.arj_lock_view_law.proofs.BindSteps.{binds_are_seen}
+use Rattle.arj_lock_view_law.proofs.FirstRows.{first_of, have_bound, have_noted}
 use Rattle.arj_lock_view_law.proofs.NoteSteps.{hellos_are_seen, notes_are_seen}
 use Rattle.arj_lock_view_law.proofs.RunSteps.{goes_to}
 
@@ -99,13 +100,14 @@ module _ (v : View) (owner : Owners) (p : Path) (n : Naming) (S : State) (asking
   with_object y new count = record n { count = count; objects = put_number y new n.objects }
 
   -- it is the object
-  own_put : (new : Named) (count : ℕ) (T : State) → NobodyTold S T → SeesNamed act v.x (record (place_of n) { count = count }) new T → SeesNaming v (with_object v.x new count) T
-  own_put new count T none s = record {
+  own_put : (new : Named) (count : ℕ) (T : State) → NobodyTold S T → HaveFirsts act n.confirmed S.naming.confirmed new.rows → SeesNamed act v.x (record (place_of n) { count = count }) new T → SeesNaming v (with_object v.x new count) T
+  own_put new count T none firsts s = record {
     named = new;
     there = put_same v.x new n.objects;
     seen = s;
     told = λ q topped fresh. ap (λ (f : Act → Bool). f (act (top_of q))) none.0 ∙ sees.told q topped fresh;
     confirmed = λ u h. sees.confirmed u (sym (ap (λ (f : Act → Bool). f (act u)) none.1) ∙ h);
+    firsts = subst (λ (f : Act → Bool). HaveFirsts act n.confirmed f new.rows) (sym none.1) firsts;
   }
 
   -- or another one
@@ -116,7 +118,16 @@ module _ (v : View) (owner : Owners) (p : Path) (n : Naming) (S : State) (asking
     seen = counted_more v n sees.named count S more sees.seen;
     told = sees.told;
     confirmed = sees.confirmed;
+    firsts = sees.firsts;
   }
+
+  -- the locks of what is found
+  firsts_found : (o : Named) → at_number v.x n.objects ≡ Some o → HaveFirsts act n.confirmed S.naming.confirmed o.rows
+  firsts_found o found = (let one : sees.named ≡ o = cc (sym sees.there ∙ found) in subst (λ (z : Named). HaveFirsts act n.confirmed S.naming.confirmed z.rows) one sees.firsts)
+
+  -- the path of the request
+  own_first : StandsFirst act n.confirmed S.naming.confirmed (top_path p)
+  own_first = let t = asking.topped in first_of act asking.one owner (top_path p) n.confirmed S.naming.confirmed (let f = asking.fits in f.holder) t.along t.top
 
   -- what is found is what is seen
   sees_found : (o : Named) → at_number v.x n.objects ≡ Some o → SeesNamed act v.x (place_of n) o S
@@ -137,7 +148,7 @@ module _ (v : View) (owner : Owners) (p : Path) (n : Naming) (S : State) (asking
     bind_own : binding_number avoid < S.naming.bound → (o : Named) → at_number v.x n.objects ≡ Some o → BindTakes v.x (on_counted v.x (bind_named n.inc v.x p include avoid (listed_entry v.x d)) n (Some o))
     bind_own before o found = goes_to
         (binds_are_seen act owner v.x (place_of n) o p include avoid (listed_entry v.x d) S asking.one asking.topped before (asking.good o found) (sees_found o found))
-        (λ T g. (own_put (let c = (bound_by v.x o).part in c.named) (let c = (bound_by v.x o).part in c.count) T g.2 g.0, g.1, λ same. g.3))
+        (λ T g. (own_put (let c = (bound_by v.x o).part in c.named) (let c = (bound_by v.x o).part in c.count) T g.2 (have_bound (StandsFirst act n.confirmed S.naming.confirmed) p own_first n.inc v.x (listed_entry v.x d) (record { named = o; count = n.count }) (firsts_found o found) include avoid) g.0, g.1, λ same. g.3))
 
     bind_other : (y : ℕ) (o : Named) → (y == v.x) ≡ false → is_eq (nat_cmp v.x y) ≡ false → BindTakes y (on_counted y (bind_named n.inc y p include avoid (listed_entry y d)) n (Some o))
     bind_other y o off apart = record {
@@ -169,7 +180,7 @@ module _ (v : View) (owner : Owners) (p : Path) (n : Naming) (S : State) (asking
     note_own : is_over p n ≡ false → IsNamedSo S b i → (o : Named) → at_number v.x n.objects ≡ Some o → NoteTakes v.x (on_named v.x (note_named v.x (top_of p) b i) n (Some o))
     note_own fresh named o found = goes_to
         (notes_are_seen act owner v.x (place_of n) o (top_of p) b i S asking.one untold named (asking.good o found) (sees_found o found))
-        (λ T g. (own_put (let r = note_named v.x (top_of p) b i o in r.part) n.count T g.2 g.0, g.1, λ same. g.3))
+        (λ T g. (own_put (let r = note_named v.x (top_of p) b i o in r.part) n.count T g.2 (have_noted (StandsFirst act n.confirmed S.naming.confirmed) v.x (top_of p) b i o (firsts_found o found)) g.0, g.1, λ same. g.3))
       where
         untold : IsUntold act owner (place_of n) S (top_of p)
         untold = record { own = apart (top_of p) top_there; above = apart (owner (top_of p)) (let f = asking.fits in f.owned); seen = sees.told p asking.topped fresh }
@@ -223,4 +234,5 @@ hellos_are_taken v node inc n S sees = record {
   seen = hellos_are_seen v.family.act v.x (place_of n) sees.named node inc S sees.seen;
   told = sees.told;
   confirmed = sees.confirmed;
+  firsts = sees.firsts;
 }

@@ -11,7 +11,7 @@ use Rattle.arj_protocol.specs.Ask.{top_of, top_path}
 use Rattle.arj_protocol.specs.Effect.{did_nothing}
 use Rattle.arj_protocol.specs.Named.{end_named}
 use Rattle.arj_protocol.specs.Naming.{Naming, end_locks, taken_end, told_new}
-use Rattle.arj_protocol.specs.Order.{with_uid}
+use Rattle.arj_protocol.specs.Order.{drop_uid, with_uid}
 use Rattle.arj_lock_law.specs.Actions.{Act, is_top, on}
 use Rattle.arj_lock_law.specs.Machine.{stay}
 use Rattle.arj_lock_law.specs.State.{State}
@@ -24,10 +24,11 @@ use Rattle.arj_lock_view_law.specs.Acts.{Acts, IsTopped}
 use Rattle.arj_lock_view_law.specs.Ends.{MayGo, MayPass, OnlyTold}
 use Rattle.arj_lock_view_law.specs.Going.{Goes, OnlyNaming, SameConfirmed}
 use Rattle.arj_lock_view_law.specs.Named.{SeesNamed}
-use Rattle.arj_lock_view_law.specs.Namings.{EndsAreTold, HasNothingAt, IsTelling, SeesNaming, ShowsEndAt, place_of}
+use Rattle.arj_lock_view_law.specs.Namings.{EndsAreTold, HasNothingAt, HaveFirsts, IsTelling, SeesNaming, ShowsEndAt, place_of}
 use Rattle.arj_lock_view_law.specs.Rows.{SeesRows}
 use Rattle.arj_lock_view_law.specs.Telling.{View}
 use Rattle.arj_lock_view_law.proofs.EndSteps.{aborts_are_seen, ended_seen}
+use Rattle.arj_lock_view_law.proofs.FirstRows.{firsts_ended}
 use Rattle.arj_lock_view_law.proofs.NamingSteps.{naming_itself, untold_on}
 use Rattle.arj_lock_view_law.proofs.PassSteps.{commits_are_seen, passes_are_seen}
 use Rattle.arj_lock_view_law.proofs.RunSteps.{goes_to}
@@ -71,6 +72,7 @@ module _ (v : View) (owner : Owners) (u : Uid) (e : End) (n : Naming) (S : State
         (λ (there : is_on n.confirmed w ≡ true). ⊎_elim (λ (own : w ≡ u). inr (with_on w u n.told (inl own))) (λ (other : w ≢ u). inl (drop_on w u n.confirmed other there)) (uid_cases w u))
         (λ (old : is_on n.told w ≡ true). inr (with_on w u n.told (inr old)))
         (sees.confirmed w (sym (ap (λ (g : Act → Bool). g (act w)) same) ∙ h));
+    firsts = subst (λ (g : Act → Bool). HaveFirsts act (drop_uid u n.confirmed) g (let o = end_named u f sees.named in o.rows)) (sym same) (firsts_ended act n.confirmed S.naming.confirmed u f sees.named sees.firsts);
   }
     where
       untold : (p : Path) → IsTopped act p → list_any heard (top_path p) ≡ false → (b : Bool) → T.naming.told (act (top_of p)) ≡ b → b ≡ false

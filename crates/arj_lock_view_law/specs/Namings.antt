@@ -1,5 +1,5 @@
 -- Naming, whole, as the lock machine of one object has it, and what it does with the messages that are for it.
-use Rattle.std.specs.Prelude.{⊤, ◌≡◌, ◌<◌, ◌⊎◌, ◌*◌, ◌||◌, ℕ, Bool, true, false, Option, Some, Contains}
+use Rattle.std.specs.Prelude.{⊤, ◌≡◌, ◌<◌, ◌⊎◌, ◌*◌, ◌||◌, ℕ, Bool, true, false, List, [], ◌∷◌, Option, Some, Contains}
 use Rattle.arj_protocol.specs.Words.{Binding, ConfirmedReply, End, Path, Row, Uid, is_on}
 use Rattle.arj_protocol.specs.Words.confirmed
 use Rattle.arj_protocol.specs.Words.ending
@@ -9,12 +9,12 @@ use Rattle.arj_protocol.specs.Effect.{Pair, is_prepared}
 use Rattle.arj_protocol.specs.Named.{Named}
 use Rattle.arj_protocol.specs.Naming.{Naming, bind, hello, is_over, note, told}
 use Rattle.arj_protocol.specs.Order.{at_number, binding_number}
-use Rattle.arj_lock_law.specs.Actions.{In}
+use Rattle.arj_lock_law.specs.Actions.{Act, In}
 use Rattle.arj_lock_law.specs.Machine.{start}
 use Rattle.arj_lock_law.specs.State as machine
 use Rattle.arj_lock_law.specs.State.{State}
 use Rattle.arj_part_law.specs.Tops.{Fits, Owners}
-use Rattle.arj_lock_view_law.specs.Acts.{AreOne, IsTopped}
+use Rattle.arj_lock_view_law.specs.Acts.{Acts, AreOne, IsAlong, IsTopped}
 use Rattle.arj_lock_view_law.specs.Bindings.{IsGood}
 use Rattle.arj_lock_view_law.specs.Ends.{AreOwned, MayGo, MayPass, SeesNothing}
 use Rattle.arj_lock_view_law.specs.Going.{Goes, OnlyNaming, ShowsBound, ShowsNoted}
@@ -27,14 +27,25 @@ use Rattle.arj_lock_view_law.specs.Telling.{View}
 abbrev pub place_of : Naming → Place
 place_of n = record { told = is_on n.told; inc = n.inc; count = n.count }
 
+-- Who is first on the path of a lock has nobody above it in the machine; or a restart gave the lock back: it has its action alone as its path,
+-- naming has that as confirmed, and the machine's naming didn't confirm it since.
+abbrev pub StandsFirst : Acts → List Uid → (Act → Bool) → List Uid → Type 0
+StandsFirst act confirmed seen [] = ⊤
+StandsFirst act confirmed seen (u ∷ us) = IsAlong act (u ∷ []) ⊎ ((us ≡ []) × (is_on confirmed u ≡ true) × (seen (act u) ≡ false))
+
+-- so it is of each lock
+abbrev pub HaveFirsts : Acts → List Uid → (Act → Bool) → List Row → Type 0
+HaveFirsts act confirmed seen rows = (r : Row) → Contains rows r → StandsFirst act confirmed seen r.holder
+
 -- Naming has the object, which is seen. The machine's naming was told of no top on whose path nobody was told of, and confirmed nobody but
--- who is confirmed, or was told of since.
+-- who is confirmed, or was told of since; and of locks that a restart gave back it confirmed nobody.
 pub record SeesNaming (v : View) (n : Naming) (S : State) : Type 0 where
   pub named : Named
   pub there : at_number v.x n.objects ≡ Some named
   pub seen : SeesNamed v.family.act v.x (place_of n) named S
   pub told : (p : Path) → IsTopped v.family.act p → is_over p n ≡ false → S.naming.told (v.family.act (top_of p)) ≡ false
   pub confirmed : (u : Uid) → S.naming.confirmed (v.family.act u) ≡ true → (is_on n.confirmed u ≡ true) ⊎ (is_on n.told u ≡ true)
+  pub firsts : HaveFirsts v.family.act n.confirmed S.naming.confirmed named.rows
 
 -- what the parts keep of the object at naming
 abbrev pub IsGoodAt : View → Owners → Naming → Type 0
