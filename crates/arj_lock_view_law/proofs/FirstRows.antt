@@ -130,7 +130,7 @@ module _ (P Q : List Uid → Type 0) (u : Uid) where
 -- ---- who is first
 
 -- on a path of one
-on_one : (u w : Uid) → is_on (u ∷ []) w ≡ true → u ≡ w
+pub on_one : (u w : Uid) → is_on (u ∷ []) w ≡ true → u ≡ w
 on_one u w h = ⊎_elim (λ same. uid_is u w same) (λ none. absurd (let no_way : false ≡ true = none in cc no_way)) (or_cases (uid_eq u w) false h)
 
 one_on : (u w : Uid) → u ≡ w → is_on (u ∷ []) w ≡ true

@@ -1,10 +1,12 @@
 -- What is known of the protocol in every run gives what the handlers count on, with what is still to be given.
-use Rattle.std.proofs.Common.{◌≡◌, ◌≢◌, ◌⊎◌, ◌∙◌, ◌<◌, ◌≤◌, ◌+◌, ◌&&◌, ℕ, Bool, true, false, cond, List, [], ◌∷◌, Option, Some, None, refl, sym, ap, subst, inl, inr, Contains, arith}
+use Rattle.std.proofs.Common.{◌≡◌, ◌≢◌, ◌⊎◌, ◌∙◌, ◌<◌, ◌≤◌, ◌+◌, ◌&&◌, ℕ, Bool, true, false, cond, List, [], ◌∷◌, Option, Some, None, refl, sym, ap, subst, inl, inr, ⊎_elim, Contains, arith}
 use Rattle.std.specs.Prelude.{is_some}
 use Rattle.std.specs.Ordering.{is_eq}
+use Rattle.std.proofs.lemmas.Bool.{or_left}
 use Rattle.arj_base.specs.Order.{uid_order}
+use Rattle.arj_base.proofs.Uids.{uid_is, uid_same}
 use Rattle.arj_lock.proofs.Members.{In as In_list, in_from, in_to}
-use Rattle.arj_protocol.specs.Words.{Asked, Binding, Header, Kind, Label, Message, ObjectState, Uid, entry, first_uid}
+use Rattle.arj_protocol.specs.Words.{Asked, Binding, Header, Kind, Label, Message, ObjectState, Row, Uid, before_last, entry, first_uid, is_held_by, is_on, last_uid, uid_eq, uids_of}
 use Rattle.arj_protocol.specs.Words.ask
 use Rattle.arj_protocol.specs.Words.kind
 use Rattle.arj_protocol.specs.Words.message
@@ -14,13 +16,14 @@ use Rattle.arj_protocol.specs.Call.{AtActivate, Known, Steps}
 use Rattle.arj_protocol.specs.Coord.{Calling, Coord, Doing, Keeping, doing_of, is_free, keeping_of, kept_of, root_at}
 use Rattle.arj_protocol.specs.Copy.{Copy}
 use Rattle.arj_protocol.specs.Effect.{Disk, Effect, held_at}
+use Rattle.arj_protocol.specs.Named.{Named}
 use Rattle.arj_protocol.specs.Naming.{Naming}
 use Rattle.arj_protocol.specs.Node.{Parts, with_coord}
 use Rattle.arj_protocol.specs.Order.{at_number, at_uid, binding_number, unbound}
 use Rattle.arj_protocol.specs.Step.{Input, Node, acts, branch_named, first_disk, refusal_up}
 use Rattle.arj_protocol.specs.Step as input
 use Rattle.arj_protocol.specs.Tree.{Branch, branch_of, root_of}
-use Rattle.arj_lock_law.specs.Actions.{root}
+use Rattle.arj_lock_law.specs.Actions.{on, root}
 use Rattle.arj_lock_law.specs.State.{State}
 use Rattle.arj_lock_law.proofs.Paths.{on_root as same_unit}
 use Rattle.arj_part_law.specs.Actions.{Action, act_of, action_of, paths_of}
@@ -28,6 +31,7 @@ use Rattle.arj_part_law.specs.Lives.{IsAtSo, IsNowSo, Reach}
 use Rattle.arj_part_law.specs.Messages.{AreOfTops, IsTopAction}
 use Rattle.arj_part_law.proofs.Begun.{begun_tree, one_action, path_found}
 use Rattle.arj_part_law.proofs.CoordInputs.{named_found}
+use Rattle.arj_part_law.proofs.LivesNamed.{all_found}
 use Rattle.arj_part_law.proofs.Keys.{at_in, order_itself}
 use Rattle.arj_part_law.proofs.TrueSteps.{top_in}
 use Rattle.arj_run_law.specs.Worlds.{IsGood, IsGoodOf}
@@ -43,10 +47,15 @@ use Rattle.arj_call_law.specs.Runs.{KnowsFew, KnowsRun}
 use Rattle.arj_call_law.proofs.Given.{KeepsGiven}
 use Rattle.arj_call_law.proofs.LivedCounts.{GrowsBy, message_grows}
 use Rattle.arj_call_law.proofs.WholeRuns.{calls_go, home_in, is_home}
+use Rattle.arj_disk_run_law.specs.Places.{IsEntryRow}
 use Rattle.arj_disk_run_law.specs.Records.{IsRooted}
 use Rattle.arj_disk_run_law.proofs.Begun.{Stood, stood}
+use Rattle.arj_lock_view_law.specs.Acts.{IsAlong}
+use Rattle.arj_lock_view_law.specs.Hearing.{SeesNamingIn}
+use Rattle.arj_lock_view_law.specs.Namings.{HaveFirsts, SeesNaming, StandsFirst}
 use Rattle.arj_lock_view_law.specs.Roots.{SeesKeeping, SeesRoot}
 use Rattle.arj_lock_view_law.proofs.EverSteps.{reached_kept}
+use Rattle.arj_lock_view_law.proofs.FirstRows.{on_one}
 use Rattle.arj_lock_view_law.proofs.TreeSteps.{root_there}
 use Rattle.arj_lock_fact_law.specs.Entries.{HasObject, HoldsEntry}
 use Rattle.arj_lock_fact_law.specs.Uppers.{AreUppers, AreUppersOf, HoldsObjects}
@@ -61,7 +70,7 @@ use Rattle.arj_lock_fact_law.proofs.Uppers.{nested_nothing}
 use Rattle.arj_lock_fact_law.proofs.Works.{works_keep}
 use Rattle.arj_lock_run_law.specs.Answers.{KnowsAnswer}
 use Rattle.arj_lock_run_law.specs.Asking.{HasWholeRoots, IsAskedAbout, TellsRecords}
-use Rattle.arj_lock_run_law.specs.Beside.{Case, HoldsNamingIn, IsSeenIn, KnowsSpot, Spot, view_in, world_at}
+use Rattle.arj_lock_run_law.specs.Beside.{Case, HoldsNamingIn, IsConfirmedNow, IsSeenIn, KnowsSpot, Spot, view_in, world_at}
 use Rattle.arj_lock_run_law.specs.Coordinating.{KnowsAsks, coord_at}
 use Rattle.arj_lock_run_law.specs.Fixed.{Fixed}
 use Rattle.arj_lock_run_law.specs.Inputs.{KnowsAfter, KnowsInput}
@@ -321,6 +330,45 @@ module _ (hd : Header) (x : ℕ) (has : HasObject hd x) (E : List Action → See
     about : (from : ℕ) (u : Uid) → In (record { from = from; to = k; message = message.Query (record { act = u }) }) M.sent → IsAskedAbout c s u
     about from u there = let a = (let w = whole.tops in w.sent (record { from = from; to = k; message = message.Query (record { act = u }) }) there).0 in (a.1.0, a.1.1, a.1.2, a.1.3, a.0)
 
+    -- ---- locks of constituents
+
+    module _ (n : Naming) (is : t.naming ≡ Some n) (o : Named) (at : at_number x n.objects ≡ Some o) (a : Action) (there : Contains begun a) (how : a.kind ≡ kind.Constituent) where
+      below : Stood begun a kind.Constituent
+      below = subst (Stood begun a) how (stood begun good.begun a there)
+
+      -- it doesn't stand alone in the machine
+      not_alone : IsAlong f.act (act_of a ∷ []) → ⊥
+      not_alone along =
+          let whole_tree = (let g = seen.agrees in g.whole) in
+          let above : on (f.act (act_of a)) (f.act (act_of below.0)) ≡ true = whole_tree.alike.above (act_of a) (act_of below.0) ∙ ap (λ us. is_on us (act_of below.0)) (whole_tree.agree a there ∙ below.3) ∙ or_left (uid_eq (act_of below.0) (act_of below.0)) (is_on (act_of a ∷ []) (act_of below.0)) (uid_same (act_of below.0)) in
+          let one : a ≡ below.0 = one_action begun good.begun a below.0 (in_from a begun there) (in_from below.0 begun below.1) (on_one (act_of a) (act_of below.0) (along.alone (act_of below.0) above)) in
+          let kinds : kind.Constituent ≡ kind.Serial = sym how ∙ ap (λ (z : Action). z.kind) one ∙ below.2 in cc kinds
+
+      firsts : HaveFirsts f.act n.confirmed S.naming.confirmed o.rows
+      firsts =
+          let z : SeesNaming (view_in c k) n S = subst (SeesNamingIn (view_in c k) S) is (let m = (let r = seen.sees in r.nodes k its_node here) in m.naming) in
+          let same : z.named ≡ o = cc (sym z.there ∙ at) in subst (λ (w : Named). HaveFirsts f.act n.confirmed S.naming.confirmed w.rows) same z.firsts
+
+      -- Where naming confirmed it now, each of its locks is by its path: none of it was given back by a restart.
+      heir : IsConfirmedNow c (act_of a) → (r : Row) → Contains o.rows r → is_held_by (act_of a) r ≡ true → before_last r.holder ≡ before_last (uids_of a.path)
+      heir now r i held = by (all_found (λ (q : Named). (w : Row) → Contains q.rows w → IsEntryRow begun w) x n.objects o (let u = whole.names k its_node here in let h = u.live t n refl is in h.entries) at r i)
+        where
+          own : last_uid r.holder ≡ act_of a
+          own = uid_is (last_uid r.holder) (act_of a) held
+
+          lone : (u : Uid) → r.holder ≡ u ∷ [] → ⊥
+          lone u is_u = ⊎_elim not_alone (λ back. cc (sym now ∙ back.2)) (subst (StandsFirst f.act n.confirmed S.naming.confirmed) (is_u ∙ ap (λ (w : Uid). w ∷ []) (sym (ap last_uid is_u) ∙ own)) (firsts r i))
+
+          same_path : (b : Action) → Contains begun b → b.kind ≡ kind.Constituent → r.holder ≡ uids_of b.path → before_last r.holder ≡ before_last (uids_of a.path)
+          same_path b known its path =
+              let up = subst (Stood begun b) its (stood begun good.begun b known) in
+              let one : b ≡ a = one_action begun good.begun b a (in_from b begun known) (in_from a begun there) (sym (ap last_uid up.3) ∙ sym (ap last_uid path) ∙ own) in
+              ap before_last path ∙ ap (λ (z : Action). before_last (uids_of z.path)) one
+
+          by : IsEntryRow begun r → before_last r.holder ≡ before_last (uids_of a.path)
+          by (inl (u, started, is_u, alone)) = absurd (lone u is_u)
+          by (inr (b, known, its, path, two)) = same_path b known its path
+
     -- ---- naming and servers
 
     module _ (rest : GivesRest f x Known_all) where
@@ -335,7 +383,7 @@ module _ (hd : Header) (x : ℕ) (has : HasObject hd x) (E : List Action → See
         naming = λ n is. record {
           holds = holds n is;
           unconfirmed = λ u told new top open_unit now. rest.unconfirmed begun S s n u knows seen is told new top open_unit now;
-          heirs = λ o a at there how told new now r i held. rest.heirs begun S s n o a knows seen is at there how told new now r i held;
+          heirs = λ o a at there how told new now r i held. heir n is o at a there how now r i held;
           nothing = λ o a at there nested told new. nested_nothing begun k its_node t n (world_at s) good uppers here refl is x o a at there nested;
         };
       }
