@@ -112,14 +112,14 @@ module _ (hd : Header) (es : List Asked) (form : HeaderInForm hd) (short : lengt
   abbrev w : World
   w = run_all es (format hd)
 
-  right : AreRight new_book (journal hd es)
+  pub right : AreRight new_book (journal hd es)
   right = let r = run_written hd es in let z = r.1 in z.right
 
-  ties : Ties (first_values hd) (journal hd es)
+  pub ties : Ties (first_values hd) (journal hd es)
   ties = ties_of (first_values hd) (journal hd es) tied.called
 
   module _ (x : ℕ) (there : is_some (object_line hd x) ≡ true) where
-    h : Holds hd (IsOrderedSo hd x) w
+    pub h : Holds hd (IsOrderedSo hd x) w
     h = runs_are_ordered hd x form there (heard x there) es short
 
     d : DecideThoseOrLate hd (journal hd es) x (disk_of h.holds)
@@ -184,7 +184,7 @@ module _ (hd : Header) (es : List Asked) (form : HeaderInForm hd) (short : lengt
       idle = its.idle;
     }
 
-    decided : AreDecidedOrLate hd (journal hd es) x (disk_of h.holds)
+    pub decided : AreDecidedOrLate hd (journal hd es) x (disk_of h.holds)
     decided = record {
       late = d.late;
       others = d.others;
@@ -194,7 +194,7 @@ module _ (hd : Header) (es : List Asked) (form : HeaderInForm hd) (short : lengt
       unlisted = d.unlisted;
     }
 
-    formed : HaveForm hd x (see h.sent w)
+    pub formed : HaveForm hd x (see h.sent w)
     formed = let f = runs_have_form hd x form es in let g = f.holds in record { objects = g.objects; entries = g.entries }
 
     clean_seen : IsCleanIn hd (journal hd es) x (see h.sent w)

@@ -258,7 +258,7 @@ wrote_or_not values lines x d u q = by d.plan.writes q.wrote
     by None none = inr (λ c. never c.2 (none c.0 c.1 c.3))
     by (Some w) some = let l = some.1 in inl (some.0, l.there, l.write, l.whose)
 
-newest_by_calls : (header : Header) (e : ℕ) (M : Seen) → AreRight new_book M.lines → AreTied (first_values header) M.lines → CommitsBeginIt e M.lines → (x : ℕ) (is : IsSeenSo header x M) (t : Top) → IsNew e M.lines t → Wrote M.lines x t
+pub newest_by_calls : (header : Header) (e : ℕ) (M : Seen) → AreRight new_book M.lines → AreTied (first_values header) M.lines → CommitsBeginIt e M.lines → (x : ℕ) (is : IsSeenSo header x M) (t : Top) → IsNew e M.lines t → Wrote M.lines x t
     → IsBehindIncludes header M.lines x (let v = is.seen in let V = v.world in V.disk) (let v = is.seen in v.decided) t → IsNewest header M.lines x (let v = is.seen in let V = v.world in V.disk) (let v = is.seen in v.decided) t
 newest_by_calls header e M right tied begins x is t new wrote b = record {
   late = b.late;

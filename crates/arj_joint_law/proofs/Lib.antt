@@ -14,3 +14,4 @@ pub mod Behind
 pub mod Excluding
 pub mod InTime
 pub mod NewWriters
+pub mod RunsInTime

@@ -7,3 +7,4 @@ pub mod Writers
 pub mod Outcome
 pub mod Samples
 pub mod Excluded
+pub mod InTime

@@ -1,0 +1,34 @@
+-- Runs that exclude stores in time, by both machines of each object, with what these are still asked for.
+use Rattle.std.specs.Prelude.{◌≡◌, ◌≤◌, ℕ, true, List, [], is_some, length}
+use Rattle.arj_journal.specs.ScriptForm.{HeaderInForm}
+use Rattle.arj_model.specs.Calls.{Top}
+use Rattle.arj_model.specs.Last.{object_line}
+use Rattle.arj_protocol.specs.Words.{Header}
+use Rattle.arj_protocol.specs.World.{Asked, format, journal, run_all}
+use Rattle.arj_view_law.specs.Keeps.{Holds}
+use Rattle.arj_view_law.specs.Seen.{see}
+use Rattle.arj_binding_law.specs.Scripts.{most_events}
+use Rattle.arj_call_law.specs.Runs.{KnowsFew}
+use Rattle.arj_disk_run_law.specs.Rest.{KeepsHeard}
+use Rattle.arj_run_law.specs.Worlds.{IsGood}
+use Rattle.arj_serial_law.specs.Cleaned.{AreDecidedOrLate}
+use Rattle.arj_serial_law.specs.Decided.{Wrote}
+use Rattle.arj_joint_law.specs.Cleaned.{AreLockTied, DecideSo, disk_of}
+use Rattle.arj_joint_law.specs.Excluded.{AreExcludedInTime, CommitsBeginIt, IsBehindIncludes, IsNew, TakersAreCommitted}
+use Rattle.arj_joint_law.specs.Ordered.{IsOrderedSo}
+
+-- Of an object, in each state in which its disk machine is seen after the run with the journal's decisions in order: whose entry is prepared
+-- beside a committed top of its root is committed too; and however its decided tops are those of the journal, a top that wrote it and is new
+-- in this event has none behind it that counts without a line, or without a write.
+pub record AreInTime (hd : Header) (e x : ℕ) (es : List Asked) : Type 0 where
+  pub takers : (h : Holds hd (IsOrderedSo hd x) (run_all es (format hd))) → TakersAreCommitted (journal hd es) (disk_of h.holds)
+  pub behind : (h : Holds hd (IsOrderedSo hd x) (run_all es (format hd))) (d : AreDecidedOrLate hd (journal hd es) x (disk_of h.holds)) (t : Top) → IsNew e (journal hd es) t → Wrote (journal hd es) x t → IsBehindIncludes hd (journal hd es) x (disk_of h.holds) d t
+
+-- After the run of each script stores are excluded in time, on what makes its files clean, where in the last event no line stands before a
+-- commit call, and decided tops are so.
+abbrev pub RunsExcludeInTime : Type 0
+RunsExcludeInTime = (hd : Header) (es : List Asked) → HeaderInForm hd → length es ≤ most_events
+    → ((x : ℕ) → is_some (object_line hd x) ≡ true → KeepsHeard hd x (λ M. IsGood M × KnowsFew M))
+    → AreLockTied hd (journal hd es)
+    → ((x : ℕ) → is_some (object_line hd x) ≡ true → DecideSo hd x es)
+    → (let w = run_all es (format hd) in CommitsBeginIt w.event (journal hd es) × ((x : ℕ) → is_some (object_line hd x) ≡ true → AreInTime hd w.event x es) → AreExcludedInTime hd w.event (see [] w))
