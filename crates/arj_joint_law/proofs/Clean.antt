@@ -1,12 +1,12 @@
 -- Files are clean after each run, by both machines of each object, with what is named.
-use Rattle.std.proofs.Common.{Contains, ◌≡◌, ◌⊎◌, ◌<◌, ◌≤◌, ◌==◌, ◌||◌, ℕ, Bool, cond, false, eqb-true, eq-eqb, List, [], ◌∷◌, ◌++◌, length, true, is_some, refl, subst, inl, inr, ⊎_elim, filter, ap, sym, ◌∙◌}
+use Rattle.std.proofs.Common.{Contains, ◌≡◌, ◌⊎◌, ◌<◌, ◌≤◌, ◌==◌, ◌||◌, ℕ, Bool, cond, false, eqb-true, eq-eqb, List, [], ◌∷◌, ◌++◌, length, true, is_some, refl, subst, inl, inr, ⊎_elim, filter, ap, sym, ◌∙◌, Option, Some, None}
 use Rattle.std.specs.List.{AllByRecursion}
 use Rattle.arj_journal.specs.ScriptForm.{HeaderInForm}
-use Rattle.arj_lock.proofs.Members.{In, in_from, in_to}
+use Rattle.arj_lock.proofs.Members.{In, in_find, in_from, in_to}
 use Rattle.arj_model.specs.Actions.{Act, acts}
 use Rattle.arj_model.specs.Calls.{Top, tops}
 use Rattle.arj_model.specs.Last.{first_values, object_line}
-use Rattle.arj_protocol.specs.Words.{Header, Line}
+use Rattle.arj_protocol.specs.Words.{Header, Line, ObjectLine}
 use Rattle.arj_protocol.specs.World.{Asked, World, format, journal, run_all}
 use Rattle.arj_line_law.specs.Book.{new_book}
 use Rattle.arj_line_law.specs.Right.{AreRight}
@@ -24,7 +24,7 @@ use Rattle.arj_protocol.proofs.Numbers.{number_tells}
 use Rattle.arj_protocol.specs.Order.{uid_number}
 use Rattle.arj_serial_law.proofs.Order.{IsTopOf, top_item}
 use Rattle.arj_view_law.specs.Keeps.{Holds}
-use Rattle.arj_view_law.specs.Seen.{see}
+use Rattle.arj_view_law.specs.Seen.{Seen, see}
 use Rattle.arj_view_law.proofs.Happens.{runs_hold}
 use Rattle.arj_binding_law.specs.Scripts.{most_events}
 use Rattle.arj_call_law.specs.Runs.{KnowsFew}
@@ -32,11 +32,16 @@ use Rattle.arj_disk_run_law.specs.Rest.{KeepsHeard}
 use Rattle.arj_run_law.specs.Worlds.{IsGood}
 use Rattle.arj_serial_law.specs.Cleaned.{AreDecidedOrLate, HaveForm, IsCleanIn}
 use Rattle.arj_serial_law.specs.Decided.{AreNewestFirst, DecideChanges, Joined, Wrote}
+use Rattle.arj_lock_fact_law.specs.Entries.{HasObject}
+use Rattle.arj_lock_whole_law.proofs.WholeRuns.{runs_are_locked, runs_are_tied}
+use Rattle.arj_lock_whole_law.specs.Runs.{AreRest}
+use Rattle.arj_part_law.specs.Actions.{Action}
+use Rattle.arj_serial_law.proofs.Seeing.{locked_tied}
 use Rattle.arj_serial_law.proofs.Cleaning.{is_clean}
 use Rattle.arj_serial_law.proofs.Including.{are_decided}
 use Rattle.arj_serial_law.proofs.Shown.{files_clean}
 use Rattle.arj_serial_law.proofs.Ties.{Ties, ties_of}
-use Rattle.arj_joint_law.specs.Cleaned.{AreLockTied, DecideSo, DecideThose, DecideThoseOrLate, JoinersAreNewestFirst, RunsAreClean, disk_of, is_one_of, number_of}
+use Rattle.arj_joint_law.specs.Cleaned.{AreLockTied, DecideSo, DecideThose, DecideThoseOrLate, JoinersAreNewestFirst, RunsAreClean, WholeRunsAreClean, disk_of, is_one_of, number_of}
 use Rattle.arj_joint_law.specs.Ordered.{AreOnce, AreTurnsOf, IsOrderedSo}
 use Rattle.arj_joint_law.specs.Writers.{WritersAreNewestFirst}
 use Rattle.arj_joint_law.proofs.Called.{decided_writers_stand, decision_of, number_is, one_number, those_of, wrote_something}
@@ -215,3 +220,21 @@ runs_are_clean hd es disks form short heard tied decide listed files =
   where
     r : Holds hd IsKept (run_all es (format hd))
     r = runs_hold hd IsKept (lines_keep hd) es
+
+-- ---- with the lock half
+
+header_has : (hd : Header) (x : ℕ) → is_some (object_line hd x) ≡ true → HasObject hd x
+header_has hd x there = by (object_line hd x) refl there
+  where
+    by : (o : Option ObjectLine) → object_line hd x ≡ o → is_some o ≡ true → HasObject hd x
+    by None is some = absurd (cc some)
+    by (Some o) is some = let f = in_find (λ (p : ObjectLine). p.x == x) o hd.objects is in (o, in_to o hd.objects f.0, eqb-true o.x x f.1)
+
+lock_tied : (hd : Header) (es : List Asked) (test : ℕ → List Action → Seen → Bool) → length es ≤ most_events → AreRest hd test → AreLockTied hd (journal hd es)
+lock_tied hd es test short rest = record {
+  called = runs_are_tied hd test rest es short;
+  listed = λ x there. (let has = header_has hd x there in let h = runs_are_locked hd x has (test x) (rest x has) es short in let z = h.holds in locked_tied x (see h.sent (run_all es (format hd))) z.0 z.1 z.2 z.3 (first_values hd));
+}
+
+pub whole_runs_are_clean : WholeRunsAreClean
+whole_runs_are_clean hd es disks test form short heard rest decide includes files = runs_are_clean hd es disks form short heard (lock_tied hd es test short rest) decide includes files

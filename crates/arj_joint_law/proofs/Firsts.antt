@@ -61,7 +61,7 @@ one_line (q ∷ qs) ordered o p (inl a) (inr j) same = let less : q.x < p.x = al
 one_line (q ∷ qs) ordered o p (inr i) (inl b) same = let less : q.x < o.x = all_above q o qs ordered i in let is : q.x ≡ p.x = ap (λ (r : ObjectLine). r.x) b in absurd (omega (arith, less, is, same))
 one_line (q ∷ qs) ordered o p (inr i) (inr j) same = one_line qs (behind q qs ordered) o p i j same
 
-form_of : (n : ℕ) (o : ObjectLine) (os : List ObjectLine) → AllByRecursion (ObjectLineInForm n) os → IsLine o os → ObjectLineInForm n o
+pub form_of : (n : ℕ) (o : ObjectLine) (os : List ObjectLine) → AllByRecursion (ObjectLineInForm n) os → IsLine o os → ObjectLineInForm n o
 form_of n o [] all i = absurd i
 form_of n o (p ∷ ps) all (inl same) = subst (ObjectLineInForm n) same all.0
 form_of n o (p ∷ ps) all (inr more) = form_of n o ps all.1 more

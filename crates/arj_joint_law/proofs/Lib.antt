@@ -6,6 +6,7 @@ pub mod FormCoords
 pub mod FormNodes
 pub mod FormRuns
 pub mod FormServers
+pub mod Listing
 pub mod OrderedRuns
 pub mod Ordering
 pub mod Showing

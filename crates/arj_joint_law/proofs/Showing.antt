@@ -10,16 +10,17 @@ use Rattle.arj_protocol.specs.Words.{Header}
 use Rattle.arj_protocol.specs.World.{World}
 use Rattle.arj_store.specs.OfFiles.{pair_of}
 use Rattle.arj_store_law.specs.Files.{IsPairOf}
-use Rattle.arj_store_law.proofs.Refused.{all_there, no_holder}
+use Rattle.arj_store_law.proofs.Refused.{all_there as pairs_there, no_holder}
 use Rattle.arj_view_law.specs.Keeps.{Stands}
 use Rattle.arj_view_law.specs.Seen.{Post}
 use Rattle.arj_serial_law.specs.Files.{ShowsPair}
+use Rattle.arj_joint_law.proofs.Listing.{all_there}
 use Rattle.arj_joint_law.specs.Shown.{FilesShowDisks}
 
 shows_pair : (file : FileMap) (r : Role) (d : Pair) → IsPairOf (pair_of file r) d → ShowsPair file r d
 shows_pair file r d are = record {
   held = are.held;
-  free = λ u free. no_holder (pair_of file r) u d.pend (all_there (pair_of file r) d are) free;
+  free = λ u free. no_holder (pair_of file r) u d.pend (pairs_there (pair_of file r) d are) free;
 }
 
 -- a node of the header is there
@@ -34,11 +35,11 @@ first_place : (n : ℕ) → 1 ≤ n → (nat_le 1 1 && nat_le 1 n) ≡ true
 first_place n le = grind (arith, le)
 
 pub files_show_disks : FilesShowDisks
-files_show_disks hd sent w disks form stands listed files = record {
+files_show_disks hd sent w disks form stands includes files = record {
   stores = λ s n is. shows_pair (disks s) _ (let d = n.disk in d.store) (files.stores s n is);
   names = λ n is. shows_pair (disks 1) _ (let d = n.disk in d.names) (files.names n is);
   naming = node_there hd sent w stands 1 (first_place hd.nodes some);
-  there = λ x s among. (let l = listed x s among in let n = node_there hd sent w stands s l.0 in (n.0, n.1, l.1));
+  there = λ x s among. (let l = all_there hd w.lines form includes x s among in let n = node_there hd sent w stands s l.0 in (n.0, n.1, l.1));
 }
   where
     some : 1 ≤ hd.nodes

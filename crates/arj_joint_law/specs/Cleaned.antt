@@ -20,10 +20,12 @@ use Rattle.arj_call_law.specs.Runs.{KnowsFew}
 use Rattle.arj_disk_run_law.specs.Rest.{KeepsHeard}
 use Rattle.arj_run_law.specs.Worlds.{IsGood}
 use Rattle.arj_lock_law.specs.State as lock
+use Rattle.arj_lock_whole_law.specs.Runs.{AreRest}
+use Rattle.arj_part_law.specs.Actions.{Action}
 use Rattle.arj_serial_law.specs.Decided.{AreDecisions, Joined, Wrote}
 use Rattle.arj_serial_law.specs.Tied.{AreTied, IsTied}
 use Rattle.arj_joint_law.specs.Ordered.{IsOrderedSo}
-use Rattle.arj_joint_law.specs.Shown.{FilesAre, ListedAreThere}
+use Rattle.arj_joint_law.specs.Shown.{FilesAre, IncludesAreThere}
 
 -- of these tops, the newest first, each two of which one included a store of the object had their commits called in turn
 abbrev pub JoinersAreNewestFirst : List Line → ℕ → List Top → Type 0
@@ -80,5 +82,14 @@ RunsAreClean = (hd : Header) (es : List Asked) (disks : Disks) → HeaderInForm 
     → ((x : ℕ) → is_some (object_line hd x) ≡ true → KeepsHeard hd x (λ M. IsGood M × KnowsFew M))
     → AreLockTied hd (journal hd es)
     → ((x : ℕ) → is_some (object_line hd x) ≡ true → DecideSo hd x es)
-    → ListedAreThere hd (journal hd es) → FilesAre (see [] (run_all es (format hd))) disks
+    → IncludesAreThere hd (journal hd es) → FilesAre (see [] (run_all es (format hd))) disks
+    → Clean hd (journal hd es) disks
+
+-- So the journal is tied with what the lock half still takes.
+abbrev pub WholeRunsAreClean : Type 0
+WholeRunsAreClean = (hd : Header) (es : List Asked) (disks : Disks) (test : ℕ → List Action → Seen → Bool) → HeaderInForm hd → length es ≤ most_events
+    → ((x : ℕ) → is_some (object_line hd x) ≡ true → KeepsHeard hd x (λ M. IsGood M × KnowsFew M))
+    → AreRest hd test
+    → ((x : ℕ) → is_some (object_line hd x) ≡ true → DecideSo hd x es)
+    → IncludesAreThere hd (journal hd es) → FilesAre (see [] (run_all es (format hd))) disks
     → Clean hd (journal hd es) disks

@@ -1,8 +1,8 @@
 // What an object's machine begins with and how it decides, in whole runs, and that files are clean after them.
 ghost use Rattle.arj_joint_law.specs.Begun.{ObjectsAreThere, RunsBeginSo, RunsBeginSoBeside};
-ghost use Rattle.arj_joint_law.specs.Cleaned.{RunsAreClean};
+ghost use Rattle.arj_joint_law.specs.Cleaned.{RunsAreClean, WholeRunsAreClean};
 ghost use Rattle.arj_joint_law.specs.Ordered.{RunsAreOrdered, RunsAreOrderedBeside};
-ghost use Rattle.arj_joint_law.specs.Shown.{FilesShowDisks};
+ghost use Rattle.arj_joint_law.specs.Shown.{FilesShowDisks, IncludesAreListed};
 
 /// After the run of each script whose header is in form, of at most 1,000,000 events, with all frames that came in any order, again or
 /// never, all stops, crashes and restarts, there is for each object of the header a state of its disk machine in which it is seen, whose
@@ -23,10 +23,13 @@ pub fn decisions_come_behind_calls()
 {}
 
 /// After the run of each script whose header is in form, of at most 1,000,000 events, files that are those of its nodes' pairs are clean:
-/// with what the disk machine's half still takes, where the journal is tied to the lock machines, the tops that count are those of the
-/// journal with what they wrote (`DecideThose`), and each listed store is a node of the header. That machines began as the header says, that
-/// all states are of their class, and that decided writers stand as their commits were called, is given here. It does nothing when it runs.
+/// with what the disk machine's half still takes, where the journal is tied to the lock machines, as it is with what their half takes; where
+/// the decided tops that count are those of the journal, with what they wrote (`DecideThose`); and where each include was of a node and an
+/// object of the header. That machines began as the header says, that all states are of their class, and that decided writers stand as
+/// their commits were called, is given here. It does nothing when it runs.
 pub fn runs_are_clean()
     ensures clean { RunsAreClean }
+    ensures whole { WholeRunsAreClean }
     ensures shown { FilesShowDisks }
+    ensures listed { IncludesAreListed }
 {}
