@@ -2,12 +2,8 @@
 use Rattle.std.proofs.Common.{◌≡◌, ◌≢◌, ℕ, ◌==◌, ◌||◌, ◌++◌, ◌+◌, List, [], ◌∷◌, Bool, true, false, cond, find, map, not, Option, Some, None, refl, sym, ◌∙◌, ap, subst, ⊎_elim}
 use Rattle.std.specs.Prelude.{⊤, IfSome, is_some, option_map}
 use Rattle.std.specs.List.{AllByRecursion, flat_map}
-use Rattle.arj_base.specs.Rows.{strengthened}
-use Rattle.arj_lock.specs.Passing.{CameBy, passed_on, stayed}
-use Rattle.arj_lock.proofs.Leaves.{grant_each}
-use Rattle.arj_lock.proofs.Members.{In, in_filter, in_from, in_map, in_to}
-use Rattle.arj_lock.proofs.PassLeaves.{came_by}
-use Rattle.arj_protocol.specs.Words.{Uid, Binding, BoundReply, ConfirmedReply, End, Entry, Mode, ObjectState, Path, RecordedReply, Row, drop_rows, entry, front, grant_row, is_on, is_row_of, last_uid, lower_row, pass_rows, uid_eq, uids_of}
+use Rattle.arj_lock.proofs.Members.{In, in_from, in_to}
+use Rattle.arj_protocol.specs.Words.{Uid, Binding, BoundReply, ConfirmedReply, End, Entry, Mode, ObjectState, Path, RecordedReply, Row, entry, front, is_on, last_uid, lower_row, uid_eq, uids_of}
 use Rattle.arj_protocol.specs.Words.body
 use Rattle.arj_protocol.specs.Words.confirmed
 use Rattle.arj_protocol.specs.Words.ending
@@ -19,7 +15,7 @@ use Rattle.arj_protocol.specs.Words.role
 use Rattle.arj_protocol.specs.Words.what
 use Rattle.arj_protocol.specs.Ask.{top_of, top_path}
 use Rattle.arj_protocol.specs.Confirm.{Grants, Marks, checked, confirm, confirm_entries, confirm_new, confirms, entries_after, entry_after, entry_state, has_all, lock_all, lock_in, named_back, pending_of, prepared_by, recovered_naming, rows_back, same_nodes, stores_after, wanted}
-use Rattle.arj_protocol.specs.Copy.{grant_lines, is_granted, rows_asked}
+use Rattle.arj_protocol.specs.Copy.{grant_lines, is_granted}
 use Rattle.arj_protocol.specs.Effect.{Did, Do, Effect, Look, Pair, Prep, Prepare, Ready, Already, Old, InDoubt, Say, Served, did_nothing, either, held_at, is_prepared, prepare_answer, reply, void}
 use Rattle.arj_protocol.specs.Named.{Counted, Live, Made, Named, bind_call, bind_made, bind_named, conflict_on, end_named, entry_row, hello_named, in_use, include_asked, is_binding, is_lowered, live_above, live_asked, lock_lines, locked, lower_lines, lowered, made_above, make_asked, next_server, note_made, note_named, note_other}
 use Rattle.arj_protocol.specs.Naming.{Naming, bind, end_entries, end_lines, end_orphans, has_locks, hello, is_over, listed_entry, note, on_counted, on_named, orphans, own_entries, taken_end, told, told_new}
@@ -30,6 +26,7 @@ use Rattle.arj_part_law.specs.Messages.{IsAsker, IsTopAction}
 use Rattle.arj_part_law.proofs.LivesNamed.{all_each, all_found, all_put}
 use Rattle.arj_address_law.specs.Addresses.{IsEntry}
 use Rattle.arj_address_law.proofs.Lists.{all_append, all_filter, all_some, all_with}
+use Rattle.arj_lock_view_law.proofs.FirstRows.{have_ended, have_locked, have_lower}
 use Rattle.arj_lock_fact_law.specs.Uppers.{AreOfEntries, AreUpper, HavePrepared, HaveUpper, HoldsUppers, IsTopOf, PreparesUpper}
 use Rattle.arj_lock_fact_law.proofs.Given.{Alone, Form, Within, form_of, top_action}
 
@@ -52,41 +49,13 @@ module _ (acts : List Action) where
 
   -- ---- one table
 
-  same_holder : (r s : Row) → s.holder ≡ r.holder → AreUpper acts r.holder → AreUpper acts s.holder
-  same_holder r s holder its = subst (AreUpper acts) (sym holder) its
-
-  upper_asked : (new : Row) (rows : List Row) → AreUpper acts new.holder → HaveUpper acts rows → HaveUpper acts (rows_asked new rows)
-  upper_asked new rows its known r k = by (is_granted new.object (last_uid new.holder) new.mode rows) (in_from r (rows_asked new rows) k)
-    where
-      by : (b : Bool) → In r (cond b rows (grant_row new rows)) → AreUpper acts r.holder
-      by true i = known r (in_to r rows i)
-      by false i = ⊎_elim (λ old. known r (in_to r rows old)) (λ q. ⊎_elim (λ same. subst (λ (w : Row). AreUpper acts w.holder) (sym same) its) (λ f. same_holder f.0 r (ap (λ (w : Row). w.holder) f.3) (known f.0 (in_to f.0 rows f.1))) q) (grant_each new r rows i)
-
-  upper_lower : (top object : Uid) (rows : List Row) → HaveUpper acts rows → HaveUpper acts (lower_row top object rows)
-  upper_lower top object rows known r k =
-      let f = in_map (λ row. cond (is_row_of object top row) (record row { mode = mode.Read }) row) r rows (in_from r (lower_row top object rows) k) in
-      subst (λ (w : Row). AreUpper acts w.holder) f.2 (by f.0 (is_row_of object top f.0) (known f.0 (in_to f.0 rows f.1)))
-    where
-      by : (row : Row) (b : Bool) → AreUpper acts row.holder → AreUpper acts (cond b (record row { mode = mode.Read }) row).holder
-      by row true its = its
-      by row false its = its
-
   front_upper : (us : List Uid) → AreUpper acts us → AreUpper acts (front us)
   front_upper [] its = tt
   front_upper (u ∷ []) its = tt
   front_upper (u ∷ v ∷ vs) its = (its.0, front_upper (v ∷ vs) its.1)
 
   upper_end : (u : Uid) (e : End) (o : Named) → NamedUpper o → NamedUpper (end_named u e o)
-  upper_end u ending.Abort o known r k = known r (in_to r o.rows (in_filter (λ row. not (is_on row.holder u)) r o.rows (in_from r (drop_rows u o.rows) k)).0)
-  upper_end u ending.Commit o known r k = by (came_by u o.rows r (in_from r (pass_rows u o.rows) k))
-    where
-      strong : (row : Row) (p : Option Row) → (strengthened row p).holder ≡ row.holder
-      strong row None = refl
-      strong row (Some s) = refl
-
-      by : CameBy u o.rows r → AreUpper acts r.holder
-      by (stayed old there other is) = same_holder old r (ap (λ (w : Row). w.holder) is ∙ strong old _) (known old there)
-      by (passed_on old there own heir parent free is) = subst (λ (w : Row). AreUpper acts w.holder) (sym is) (front_upper old.holder (known old there))
+  upper_end u e o known = have_ended (AreUpper acts) (AreUpper acts) u (λ us its other. its) (λ us heir its parent. front_upper us its) (λ us off its. its) e o known
 
   -- ---- requests
 
@@ -99,7 +68,7 @@ module _ (acts : List Action) where
 
   module _ (p : Path) (its : AreUpper acts (top_path p)) where
     upper_locked : (x : ℕ) (m : Mode) (o : Named) → NamedUpper o → NamedUpper (locked x p m o)
-    upper_locked x m o known = upper_asked (entry_row x p m) o.rows its known
+    upper_locked x m o known = have_locked (AreUpper acts) p its x m o known
 
     abbrev Bound : Served Counted BoundReply → Type 0
     Bound r = NamedUpper (let c = r.part in c.named) × Fine r.outs
@@ -213,7 +182,7 @@ module _ (acts : List Action) where
           lower v s = one (is_lowered x (top_of p) v)
             where
               one : (c : Bool) → NamedUpper (cond c (record v { rows = lower_row (top_of p) (entry x) v.rows }) v)
-              one true = upper_lower (top_of p) (entry x) v.rows s
+              one true = have_lower (AreUpper acts) (top_of p) (entry x) v.rows s
               one false = s
 
           lines : (c : Bool) → Fine (cond c (Say (body.Lowered 1 (top_of p) (entry x)) ∷ []) [])

@@ -38,7 +38,7 @@ module _ (P : List Uid → Type 0) where
       by true i = have r (in_to r rows i)
       by false i = ⊎_elim (λ old. have r (in_to r rows old)) (λ q. ⊎_elim (λ same. subst (λ (w : Row). P w.holder) (sym same) its) (λ f. subst P (sym (ap (λ (w : Row). w.holder) f.3)) (have f.0 (in_to f.0 rows f.1))) q) (grant_each new r rows i)
 
-  have_lower : (top object : Uid) (rows : List Row) → Have rows → Have (lower_row top object rows)
+  pub have_lower : (top object : Uid) (rows : List Row) → Have rows → Have (lower_row top object rows)
   have_lower top object rows have r k =
       let f = in_map (λ row. cond (is_row_of object top row) (record row { mode = mode.Read }) row) r rows (in_from r (lower_row top object rows) k) in
       subst (λ (w : Row). P w.holder) f.2 (by f.0 (is_row_of object top f.0) (have f.0 (in_to f.0 rows f.1)))
