@@ -219,7 +219,7 @@ module _ (hd : Header) (form : HeaderInForm hd) where
   pub within_of : (w : World) → Holds hd (AreAddressed hd) w → GoWithin hd.nodes w
   within_of w h = let all = h.holds in let so = all.1 in frames_fit h.sent so.1 w.frames h.stands.frames h.stands.junk
 
-  kept : KeepsAsked hd (AreAddressed hd)
+  pub kept : KeepsAsked hd (AreAddressed hd)
   kept = so_kept Fits fits_one hd (λ s is. is) (lines hd.objects form.objects.0)
 
   pub first_within : Holds hd (AreAddressed hd) (format hd)

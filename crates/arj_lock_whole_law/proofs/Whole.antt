@@ -40,7 +40,7 @@ use Rattle.arj_lock_whole_law.proofs.TopWalks.{tops_of}
 
 -- ---- records
 
-records_of : (hd : Header) → KeepsOf hd (λ begun M. ⊤) AreRecorded
+pub records_of : (hd : Header) → KeepsOf hd (λ begun M. ⊤) AreRecorded
 records_of hd = record {
   quiet = λ begun e bs M quiet more good p. p;
   stop = λ begun e k d live M more good p. stop_recorded begun e k d live M p;

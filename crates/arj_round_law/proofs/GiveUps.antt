@@ -1,5 +1,5 @@
 -- Giveups of calls that are overtaken send nothing, and leave fewer who wait.
-use Rattle.std.proofs.Common.{◌≡◌, ◌≢◌, ◌⊎◌, ◌∙◌, ◌+◌, ◌-◌, ℕ, zero, suc, Bool, true, false, List, [], ◌∷◌, ◌++◌, refl, sym, ap, subst, inl, inr, ⊎_elim, Option, Some, None, append-nil, length, eqb-true, arith}
+use Rattle.std.proofs.Common.{◌≡◌, ◌≢◌, ◌⊎◌, ◌∙◌, ◌-◌, ℕ, zero, suc, Bool, true, false, List, [], ◌∷◌, ◌++◌, refl, sym, ap, subst, inl, inr, ⊎_elim, Option, Some, None, append-nil, length, eqb-true, arith}
 use Rattle.std.specs.Prelude.{⊤, ◌&&◌, ◌==◌, nat_le, nat_lt, not, option_map, take, if◌then◌else◌}
 use Rattle.std.specs.List.{AllByRecursion}
 use Rattle.std.proofs.lemmas.Bool.Decides.{nat_tests}
@@ -31,16 +31,16 @@ use Rattle.arj_protocol.specs.World as world
 use Rattle.arj_protocol.specs.World.{Arm, Asked, World, armed, count_works, counted, cut, disarmed, done_step, format, frames_with, halted_at, halted_outs, is_given, limited, lowest_from, most_frames, node_of, run_all, run_event, run_unless, says as world_says, sends, step_node, step_with, steps}
 use Rattle.arj_run_law.proofs.AllRuns.{all_keep}
 use Rattle.arj_run_law.specs.Worlds.{IsGood}
-use Rattle.arj_view_law.specs.Keeps.{Holds}
+use Rattle.arj_view_law.specs.Keeps.{Holds, KeepsAsked}
 use Rattle.arj_view_law.specs.Seen.{Seen}
 use Rattle.arj_view_law.proofs.Happens.{place_same, runs_asked, runs_hold}
 use Rattle.arj_event_law.proofs.Spoken.{given_node}
-use Rattle.arj_round_law.specs.Quiet.{IsGiveUp, RoundsSettle}
-use Rattle.arj_round_law.specs.Rounds.{WaitOvertaken}
+use Rattle.arj_round_law.specs.Quiet.{AreQuiet, IsGiveUp, NobodyWaits, RoundsSettle, SettlesAll}
+use Rattle.arj_round_law.specs.Rounds.{AnswersWaits, AreUp, WaitOvertaken}
 use Rattle.arj_round_law.specs.Waits.{IsToSettle, coord_in, coord_of}
 use Rattle.arj_round_law.proofs.Fits.{Few, runs_few}
-use Rattle.arj_round_law.proofs.Quiesces.{keeps_good, runs_answer}
-use Rattle.arj_round_law.proofs.Quiets.{quiesces_settle}
+use Rattle.arj_round_law.proofs.Quiesces.{keeps_good, run_answers}
+use Rattle.arj_round_law.proofs.Quiets.{quiesce_settles}
 use Rattle.arj_round_law.proofs.Worlds.{Of}
 
 -- ---- a coordinator
@@ -300,40 +300,46 @@ answered_calm hd w header named none waits = record { none = none; only = λ k c
         by None none is = absurd (cc is)
         by (Some n) there is = up n there n.live refl is
 
+-- for any relation that is kept
+module _ (hd : Header) (R : Seen → Type 0) (keeps : KeepsAsked hd R) (answers : AnswersWaits hd (λ M. R M × IsGood M)) (settles : SettlesAll hd (λ M. R M × IsGood M)) where
+  abbrev P : Seen → Type 0
+  P M = R M × IsGood M
+
+  pub round_settles : (es gs : List Asked) (e f : Asked) → let u = run_all es (format hd) in let v = run_event e u in let w = run_all gs v in e.event ≡ event.Quiesce → AllByRecursion IsGiveUp gs → f.event ≡ event.Quiesce
+      → u.over ≡ false → v.over ≡ false → AreUp v → w.over ≡ false → NobodyWaits w → (run_event f w).over ≡ false → AreUp (run_event f w) → AreQuiet (run_event f w)
+  round_settles es gs e f is all last over went ups over_w nobody over_f ups_f =
+      quiesce_settles hd R keeps settles f w (subst (Holds hd P) w_is held) (subst Few w_is few) calm.none nobody last over_w over_f ups_f
+    where
+      u : World
+      u = run_all es (format hd)
+
+      v : World
+      v = run_event e (run_all es (format hd))
+
+      w : World
+      w = run_all gs (run_event e (run_all es (format hd)))
+
+      v_is : run_all (es ++ e ∷ []) (format hd) ≡ run_event e (run_all es (format hd))
+      v_is = one_more hd es e
+
+      w_is : run_all ((es ++ e ∷ []) ++ gs) (format hd) ≡ run_all gs (run_event e (run_all es (format hd)))
+      w_is = runs_on (es ++ e ∷ []) gs (format hd) ∙ ap (run_all gs) v_is
+
+      held : Holds hd P (run_all ((es ++ e ∷ []) ++ gs) (format hd))
+      held = runs_asked hd P (keeps_good hd R keeps) ((es ++ e ∷ []) ++ gs)
+
+      few : Few (run_all ((es ++ e ∷ []) ++ gs) (format hd))
+      few = runs_few hd ((es ++ e ∷ []) ++ gs)
+
+      header : (run_event e (run_all es (format hd))).header ≡ hd
+      header = subst (λ (x : World). x.header ≡ hd) v_is (let h = runs_hold hd IsGood (all_keep hd) (es ++ e ∷ []) in h.stands.header)
+
+      first : IsCalm hd (run_event e (run_all es (format hd)))
+      first = answered_calm hd (run_event e (run_all es (format hd))) header (subst AreNamed v_is (labels_named hd (es ++ e ∷ []))) (events_settle e (run_all es (format hd)) (inr is) (runs_few hd es) over went)
+          (run_answers hd R keeps answers es e is over went ups)
+
+      calm : IsCalm hd (run_all gs (run_event e (run_all es (format hd))))
+      calm = subst (λ x. IsCalm hd (run_all gs x)) v_is (giveups_calm hd gs (es ++ e ∷ []) all (subst (IsCalm hd) (sym v_is) first))
+
 pub rounds_settle : RoundsSettle
-rounds_settle hd test keeps answers settles es gs e f is all last over went ups over_w nobody over_f ups_f =
-    quiesces_settle hd test keeps settles f w (subst (Holds hd P) w_is held) (subst Few w_is few) calm.none nobody last over_w over_f ups_f
-  where
-    P : Seen → Type 0
-    P M = (test M ≡ true) × IsGood M
-
-    u : World
-    u = run_all es (format hd)
-
-    v : World
-    v = run_event e (run_all es (format hd))
-
-    w : World
-    w = run_all gs (run_event e (run_all es (format hd)))
-
-    v_is : run_all (es ++ e ∷ []) (format hd) ≡ run_event e (run_all es (format hd))
-    v_is = one_more hd es e
-
-    w_is : run_all ((es ++ e ∷ []) ++ gs) (format hd) ≡ run_all gs (run_event e (run_all es (format hd)))
-    w_is = runs_on (es ++ e ∷ []) gs (format hd) ∙ ap (run_all gs) v_is
-
-    held : Holds hd P (run_all ((es ++ e ∷ []) ++ gs) (format hd))
-    held = runs_asked hd P (keeps_good hd (λ M. test M ≡ true) keeps) ((es ++ e ∷ []) ++ gs)
-
-    few : Few (run_all ((es ++ e ∷ []) ++ gs) (format hd))
-    few = runs_few hd ((es ++ e ∷ []) ++ gs)
-
-    header : (run_event e (run_all es (format hd))).header ≡ hd
-    header = subst (λ (x : World). x.header ≡ hd) v_is (let h = runs_hold hd IsGood (all_keep hd) (es ++ e ∷ []) in h.stands.header)
-
-    first : IsCalm hd (run_event e (run_all es (format hd)))
-    first = answered_calm hd (run_event e (run_all es (format hd))) header (subst AreNamed v_is (labels_named hd (es ++ e ∷ []))) (events_settle e (run_all es (format hd)) (inr is) (runs_few hd es) over went)
-        (runs_answer hd test keeps answers es e is over went ups)
-
-    calm : IsCalm hd (run_all gs (run_event e (run_all es (format hd))))
-    calm = subst (λ x. IsCalm hd (run_all gs x)) v_is (giveups_calm hd gs (es ++ e ∷ []) all (subst (IsCalm hd) (sym v_is) first))
+rounds_settle hd test keeps answers settles es gs e f is all last over went ups over_w nobody over_f ups_f = round_settles hd (λ M. test M ≡ true) keeps answers settles es gs e f is all last over went ups over_w nobody over_f ups_f

@@ -9,7 +9,7 @@ use Rattle.arj_protocol.specs.Words.message
 use Rattle.arj_protocol.specs.Ask.{Reply, answers, last_end}
 use Rattle.arj_protocol.specs.Asking.{heard}
 use Rattle.arj_protocol.specs.Coord.{Calling, Committing, Coord, Idle, Now, doing_of}
-use Rattle.arj_protocol.specs.Effect.{Disk, Effect, Intent, Prepare, Served}
+use Rattle.arj_protocol.specs.Effect.{Disk, Effect, Intent, Served}
 use Rattle.arj_protocol.specs.Ending.{acked, acked_by, acked_left, answer_query}
 use Rattle.arj_protocol.specs.Node.{Handled, Parts, Took, Void, answer_is_meant, asked_is_meant, by_reply, coord_heard, handle, handle_answer, handle_ask, handle_ends, is_loaded_for, is_loaded_in, naming_hello, naming_told, reply_is_meant, serve, taken, with_coord}
 use Rattle.arj_protocol.specs.Order.{at_uid, has, without_number}

@@ -1,5 +1,5 @@
 -- A quiesce answers whoever waits: what answers it is under way from the tick of its node on.
-use Rattle.std.proofs.Common.{◌≡◌, ◌⊎◌, ◌∙◌, ◌+◌, ℕ, zero, suc, Bool, true, false, List, [], ◌∷◌, ◌++◌, refl, sym, ap, subst, inl, inr, ⊎_elim, Option, Some, None, eqb-true, arith, map}
+use Rattle.std.proofs.Common.{◌≤◌, Bool, List, None, Option, Some, [], ap, arith, eqb-true, false, inl, inr, length, map, refl, subst, suc, sym, true, zero, ℕ, ⊎_elim, ◌++◌, ◌+◌, ◌∙◌, ◌∷◌, ◌≡◌, ◌⊎◌}
 use Rattle.std.specs.Prelude.{◌&&◌, ◌||◌, ◌==◌, nat_le, slice_get, if◌then◌else◌}
 use Rattle.std.proofs.lemmas.Bool.Decides.{nat_tests}
 use Rattle.arj_lock.proofs.Members as members
@@ -8,6 +8,7 @@ use Rattle.arj_coord_law.proofs.CoordUses.{some_is}
 use Rattle.arj_part_law.proofs.Begun.{begun_tree, path_found}
 use Rattle.arj_part_law.specs.Actions.{AreBegun, paths_of}
 use Rattle.arj_part_law.specs.Coords.{IsAsking, IsBusy, IsGoodCoord}
+use Rattle.arj_protocol.specs.Words.event
 use Rattle.arj_protocol.specs.Words.{Body, Header, Message, Path, Uid}
 use Rattle.arj_protocol.specs.Words.body
 use Rattle.arj_protocol.specs.Ask.{actor}
@@ -21,15 +22,15 @@ use Rattle.arj_protocol.specs.Node.{Handled, Parts, Took, Void, holders, query_a
 use Rattle.arj_protocol.specs.Order.{has}
 use Rattle.arj_protocol.specs.Step.{Node, acts, is_waiting_now, parent_of, parts_in, restart_outs, tolds_again}
 use Rattle.arj_protocol.specs.Tree.{at_place, ends_of, is_own, root_of}
-use Rattle.arj_protocol.specs.World.{World, format, is_serial_kind, lowest_from, numbered, run_all, says}
+use Rattle.arj_protocol.specs.World.{Asked, World, format, is_serial_kind, lowest_from, most_frames, numbered, run_all, run_event, says}
 use Rattle.arj_run_law.proofs.AllRuns.{all_keep}
 use Rattle.arj_run_law.specs.Worlds.{IsGood, IsGoodPlace}
-use Rattle.arj_view_law.specs.Keeps.{Keeps, KeepsAsked}
+use Rattle.arj_view_law.specs.Keeps.{Holds, KeepsAsked}
 use Rattle.arj_view_law.specs.Seen.{In, Post, Seen, given, up}
 use Rattle.arj_view_law.specs.Walks.{Up}
-use Rattle.arj_view_law.proofs.Happens.{runs_asked}
+use Rattle.arj_view_law.proofs.Happens.{keeps_asked, runs_asked}
 use Rattle.arj_view_law.proofs.Together.{walks_both}
-use Rattle.arj_round_law.specs.Rounds.{AnswersWaits, QuiescesAnswer, RunsAnswer, WaitOvertaken}
+use Rattle.arj_round_law.specs.Rounds.{AnswersWaits, AreUp, QuiescesAnswer, RunsAnswer, WaitOvertaken}
 use Rattle.arj_round_law.specs.Waits.{AreBrought, Asking, HasWay, IsOvertaken, IsSaid, Want, coord_in, want_of_call, want_of_commit}
 use Rattle.arj_round_law.proofs.Effects.{works}
 use Rattle.arj_round_law.proofs.Fits.{runs_few}
@@ -187,22 +188,23 @@ waits_said c b answers k e u q node found does waits = ⊎_elim
     (λ s. inl (s.0, s.1, record { known = s.2.known; step = s.2.step; binding = s.2.binding; server = s.2.server; line = said_more c.lines (numbered c.event (b ∷ [])) (body.Bound (let x = s.0 in x.x) s.2.binding s.2.server) s.2.line; greater = s.2.greater }))
     (λ m. inr m) (answers k e u q node found does waits)
 
--- a relation together with what holds in every run
-pub keeps_good : (hd : Header) (R : Seen → Type 0) → KeepsAsked hd R → KeepsAsked hd (λ M. R M × IsGood M)
-keeps_good hd R k = record {
+-- two relations together
+pub asked_both : (hd : Header) (P Q : Seen → Type 0) → KeepsAsked hd P → KeepsAsked hd Q → KeepsAsked hd (λ M. P M × Q M)
+asked_both hd P Q k g = record {
   quiet = λ e bs M quiet h. (k.quiet e bs M quiet h.0, g.quiet e bs M quiet h.1);
   stop = λ e n d live M h. (k.stop e n d live M h.0, g.stop e n d live M h.1);
-  message = λ e n d t v from m outs M h sent meant is. walks_both R IsGood e n outs (Up R n v) (Up IsGood n v) d M (k.message e n d t v from m outs M h.0 sent meant is) (g.message e n d t v from m outs M h.1 sent meant is);
-  act = λ e n d t i M about asks free h. let did = acts i d.intents t.coord in walks_both R IsGood e n did.outs (Up R n (with_coord t did.part)) (Up IsGood n (with_coord t did.part)) d M (k.act e n d t i M about asks free h.0) (g.act e n d t i M about free h.1);
-  begin = λ e n d t l how parent M new may free h. let did = begin_action l how parent (parent_of parent t.coord) t.coord in walks_both R IsGood e n did.outs (Up R n (with_coord t did.part)) (Up IsGood n (with_coord t did.part)) d (given l (record { node = n; serial = is_serial_kind how }) M)
+  message = λ e n d t v from m outs M h sent meant is. walks_both P Q e n outs (Up P n v) (Up Q n v) d M (k.message e n d t v from m outs M h.0 sent meant is) (g.message e n d t v from m outs M h.1 sent meant is);
+  act = λ e n d t i M about asks free h. let did = acts i d.intents t.coord in walks_both P Q e n did.outs (Up P n (with_coord t did.part)) (Up Q n (with_coord t did.part)) d M (k.act e n d t i M about asks free h.0) (g.act e n d t i M about asks free h.1);
+  begin = λ e n d t l how parent M new may free h. let did = begin_action l how parent (parent_of parent t.coord) t.coord in walks_both P Q e n did.outs (Up P n (with_coord t did.part)) (Up Q n (with_coord t did.part)) d (given l (record { node = n; serial = is_serial_kind how }) M)
       (k.begin e n d t l how parent M new may free h.0) (g.begin e n d t l how parent M new may free h.1);
-  tick = λ e n d t M h. let v = with_coord t (again_all t.coord.doings t.coord).part in walks_both R IsGood e n (tick_outs (record { number = n; disk = d; live = Some t }) t) (Up R n v) (Up IsGood n v) d M (k.tick e n d t M h.0) (g.tick e n d t M h.1);
-  restart = λ e n d M h. walks_both R IsGood e n (restart_outs hd n (d.inc + 1) d) (Up R n (parts_in n (d.inc + 1) d)) (Up IsGood n (parts_in n (d.inc + 1) d)) d M (k.restart e n d M h.0) (g.restart e n d M h.1);
+  tick = λ e n d t M h. let v = with_coord t (again_all t.coord.doings t.coord).part in walks_both P Q e n (tick_outs (record { number = n; disk = d; live = Some t }) t) (Up P n v) (Up Q n v) d M (k.tick e n d t M h.0) (g.tick e n d t M h.1);
+  restart = λ e n d M h. walks_both P Q e n (restart_outs hd n (d.inc + 1) d) (Up P n (parts_in n (d.inc + 1) d)) (Up Q n (parts_in n (d.inc + 1) d)) d M (k.restart e n d M h.0) (g.restart e n d M h.1);
   first = (k.first, g.first);
 }
-  where
-    g : Keeps hd IsGood
-    g = all_keep hd
+
+-- a relation together with what holds in every run
+pub keeps_good : (hd : Header) (R : Seen → Type 0) → KeepsAsked hd R → KeepsAsked hd (λ M. R M × IsGood M)
+keeps_good hd R keeps = asked_both hd R IsGood keeps (keeps_asked hd IsGood (all_keep hd))
 
 -- who waits at a good node waits under its own path
 good_home : (k : ℕ) (d : Disk) (t : Parts) (M : Seen) → IsGood (up k d t M) → IsHome t.coord
@@ -226,18 +228,25 @@ good_home k d t M g = record {
     own : (u : Uid) (p : Path) → IsAsking t.coord.tree u p → actor p ≡ u
     own u p a = ap actor (sym a.path) ∙ (let tree = coord.tree in let lists = tree.lists in lists.places u a.branch a.found)
 
-pub quiesces_answer : QuiescesAnswer
-quiesces_answer hd test keeps gives e w h few is over last ups =
-    quiesce_leaves hd P (keeps_good hd (λ M. test M ≡ true) keeps) gives.within Ways (λ nodes. ways_more hd P gives homes nodes) (λ nodes. ways_message hd P gives homes nodes) (ways_fewer hd P gives homes) (λ nodes n of. ways_ticked hd P gives homes nodes n)
-    WaitOvertaken waits_said (λ c held header none up flown. nobody_waits hd c header none flown) e w h few
-    (record { calls = λ k c u q s there. absurd there; commits = λ k c u q m n there. absurd there }) is over last ups
-  where
-    P : Seen → Type 0
-    P M = (test M ≡ true) × IsGood M
+-- for any relation that is kept
+module _ (hd : Header) (R : Seen → Type 0) (keeps : KeepsAsked hd R) (gives : AnswersWaits hd (λ M. R M × IsGood M)) where
+  abbrev P : Seen → Type 0
+  P M = R M × IsGood M
 
-    homes : (k : ℕ) (d : Disk) (t : Parts) (M : Seen) → (test (up k d t M) ≡ true) × IsGood (up k d t M) → IsHome t.coord
-    homes k d t M p = good_home k d t M p.1
+  pub quiesce_answers : (e : Asked) (w : World) → Holds hd P w → length w.frames ≤ most_frames → e.event ≡ event.Quiesce → w.over ≡ false → (run_event e w).over ≡ false → AreUp (run_event e w) → WaitOvertaken (run_event e w)
+  quiesce_answers e w h few is over last ups =
+      quiesce_leaves hd P (keeps_good hd R keeps) gives.within Ways (λ nodes. ways_more hd P gives homes nodes) (λ nodes. ways_message hd P gives homes nodes) (ways_fewer hd P gives homes) (λ nodes n of. ways_ticked hd P gives homes nodes n)
+      WaitOvertaken waits_said (λ c held header none up flown. nobody_waits hd c header none flown) e w h few
+      (record { calls = λ k c u q s there. absurd there; commits = λ k c u q m n there. absurd there }) is over last ups
+    where
+      homes : (k : ℕ) (d : Disk) (t : Parts) (M : Seen) → R (up k d t M) × IsGood (up k d t M) → IsHome t.coord
+      homes k d t M p = good_home k d t M p.1
+
+  pub run_answers : (es : List Asked) (e : Asked) → let w = run_all es (format hd) in e.event ≡ event.Quiesce → w.over ≡ false → (run_event e w).over ≡ false → AreUp (run_event e w) → WaitOvertaken (run_event e w)
+  run_answers es e is over last ups = quiesce_answers e (run_all es (format hd)) (runs_asked hd P (keeps_good hd R keeps) es) (runs_few hd es) is over last ups
+
+pub quiesces_answer : QuiescesAnswer
+quiesces_answer hd test keeps gives e w h few is over last ups = quiesce_answers hd (λ M. test M ≡ true) keeps gives e w h few is over last ups
 
 pub runs_answer : RunsAnswer
-runs_answer hd test keeps gives es e is over last ups =
-    quiesces_answer hd test keeps gives e (run_all es (format hd)) (runs_asked hd (λ M. (test M ≡ true) × IsGood M) (keeps_good hd (λ M. test M ≡ true) keeps) es) (runs_few hd es) is over last ups
+runs_answer hd test keeps gives es e is over last ups = run_answers hd (λ M. test M ≡ true) keeps gives es e is over last ups

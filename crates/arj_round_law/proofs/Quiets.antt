@@ -1,5 +1,5 @@
 -- A quiesce that begins where nobody waits leaves nothing to be done.
-use Rattle.std.proofs.Common.{◌≡◌, ◌≢◌, ◌⊎◌, ◌∙◌, ℕ, Bool, true, false, List, [], ◌∷◌, ◌++◌, refl, sym, ap, subst, inl, inr, ⊎_elim, Option, Some, None, eqb-true, arith, append_assoc, map}
+use Rattle.std.proofs.Common.{◌≤◌, Bool, List, None, Option, Some, [], ap, append_assoc, arith, eqb-true, false, inl, inr, length, map, refl, subst, sym, true, ℕ, ⊎_elim, ◌++◌, ◌∙◌, ◌∷◌, ◌≡◌, ◌≢◌, ◌⊎◌}
 use Rattle.std.specs.Prelude.{◌&&◌, ◌||◌, ◌==◌, not, is_some, filter, if◌then◌else◌, nat_le}
 use Rattle.std.specs.List.{AllByRecursion, list_any}
 use Rattle.std.proofs.lemmas.Bool.{or_right}
@@ -10,6 +10,7 @@ use Rattle.arj_lock.proofs.Passes.{in_left, in_right}
 use Rattle.arj_coord_law.proofs.CoordUses.{some_is}
 use Rattle.arj_part_law.specs.Coords.{IsCommitting}
 use Rattle.arj_part_law.proofs.Keys.{at_here, at_in, at_there, put_cases, with_on, without_cases}
+use Rattle.arj_protocol.specs.Words.event
 use Rattle.arj_protocol.specs.Words.{Body, End, Header, Message, ObjectState, Uid, asks, is_on, uid_eq}
 use Rattle.arj_protocol.specs.Words.ending
 use Rattle.arj_protocol.specs.Words.message
@@ -25,11 +26,13 @@ use Rattle.arj_protocol.specs.Server as server
 use Rattle.arj_protocol.specs.Server.{server_holders}
 use Rattle.arj_protocol.specs.Step.{Node, has_none, is_idle, is_waiting_now, tolds_again}
 use Rattle.arj_protocol.specs.Tree.{at_place, branch_of, is_open}
-use Rattle.arj_protocol.specs.World.{World, lowest_from}
+use Rattle.arj_protocol.specs.World as world
+use Rattle.arj_protocol.specs.World.{World, lowest_from, most_frames, run_event}
 use Rattle.arj_run_law.specs.Worlds.{IsGood}
-use Rattle.arj_view_law.specs.Keeps.{Holds}
+use Rattle.arj_view_law.specs.Keeps.{Holds, KeepsAsked}
 use Rattle.arj_view_law.specs.Seen.{In, Post, Seen, see, up}
-use Rattle.arj_round_law.specs.Quiet.{Acking, AreIdle, AreKept, AreQuiet, AreSettling, BringsAck, BringsEnd, Ending, IsPrepared, Querying, QuiescesSettle, SettlesAll, Telling, TellsCommit, TellsLast}
+use Rattle.arj_round_law.specs.Quiet.{Acking, AreIdle, AreKept, AreQuiet, AreSettling, BringsAck, BringsEnd, Ending, IsPrepared, NobodyWaits, Querying, QuiescesSettle, SettlesAll, Telling, TellsCommit, TellsLast}
+use Rattle.arj_round_law.specs.Rounds.{AreUp}
 use Rattle.arj_round_law.specs.Waits.{IsSaid, coord_in}
 use Rattle.arj_round_law.proofs.Effects.{works}
 use Rattle.arj_round_law.proofs.Hearing.{has_left}
@@ -622,18 +625,23 @@ module _ (hd : Header) (P : Seen → Type 0) (gives : SettlesAll hd P) where
 
 -- ---- a quiesce
 
-pub quiesces_settle : QuiescesSettle
-quiesces_settle hd test keeps gives e w h few none nobody is over last ups =
-    quiesce_leaves hd P (keeps_good hd (λ M. test M ≡ true) keeps) gives.within (Settling (Of hd)) (settling_more (Of hd)) (settling_message hd P gives) (settling_fewer (Of hd)) (settling_ticked hd P gives)
-    AreQuiet (λ c b quiet k a node at. quiet k a node at) (world_quiet hd P gives) e w h few first is over last ups
-  where
-    P : Seen → Type 0
-    P M = (test M ≡ true) × IsGood M
+-- for any relation that is kept
+module _ (hd : Header) (R : Seen → Type 0) (keeps : KeepsAsked hd R) (gives : SettlesAll hd (λ M. R M × IsGood M)) where
+  abbrev P : Seen → Type 0
+  P M = R M × IsGood M
 
-    first : AreSettling (Of hd) Nobody (λ k. at_place k w.nodes) (Under w.frames)
-    first = record {
-      idle = λ k a t of found live. nobody k t.coord (subst (λ (x : Header). (nat_le 1 k && nat_le k x.nodes) ≡ true) (sym h.stands.header) of) (ap coord_in found ∙ (λ i. coord_in (Some (record a { live = live i }))));
-      plain = λ p u. absurd (none_under 1 w.frames none u.frame u.there u.opened);
-      acks = λ k a t u i j there. absurd there;
-      ends = λ k a u there. absurd there;
-    }
+  pub quiesce_settles : (e : world.Asked) (w : World) → Holds hd P w → length w.frames ≤ most_frames → lowest_from 1 w.frames ≡ None → NobodyWaits w → e.event ≡ event.Quiesce → w.over ≡ false → (run_event e w).over ≡ false → AreUp (run_event e w) → AreQuiet (run_event e w)
+  quiesce_settles e w h few none nobody is over last ups =
+      quiesce_leaves hd P (keeps_good hd R keeps) gives.within (Settling (Of hd)) (settling_more (Of hd)) (settling_message hd P gives) (settling_fewer (Of hd)) (settling_ticked hd P gives)
+      AreQuiet (λ c b quiet k a node at. quiet k a node at) (world_quiet hd P gives) e w h few first is over last ups
+    where
+      first : AreSettling (Of hd) Nobody (λ k. at_place k w.nodes) (Under w.frames)
+      first = record {
+        idle = λ k a t of found live. nobody k t.coord (subst (λ (x : Header). (nat_le 1 k && nat_le k x.nodes) ≡ true) (sym h.stands.header) of) (ap coord_in found ∙ (λ i. coord_in (Some (record a { live = live i }))));
+        plain = λ p u. absurd (none_under 1 w.frames none u.frame u.there u.opened);
+        acks = λ k a t u i j there. absurd there;
+        ends = λ k a u there. absurd there;
+      }
+
+pub quiesces_settle : QuiescesSettle
+quiesces_settle hd test keeps gives e w h few none nobody is over last ups = quiesce_settles hd (λ M. test M ≡ true) keeps gives e w h few none nobody is over last ups

@@ -1,0 +1,5 @@
+pub mod Asked
+pub mod AskedWalks
+pub mod Askers
+pub mod Settled
+pub mod Idle

@@ -1,0 +1,50 @@
+-- What holds in every run, of which nothing that is prepared is left for ever; and what a quiesce and the stated round leave.
+use Rattle.std.specs.Prelude.{◌≡◌, ℕ, Bool, true, false, List, Some, None}
+use Rattle.std.specs.List.{AllByRecursion}
+use Rattle.arj_journal.specs.ScriptForm.{HeaderInForm}
+use Rattle.arj_protocol.specs.Words.{Header}
+use Rattle.arj_protocol.specs.Words.event
+use Rattle.arj_protocol.specs.Node.{Parts}
+use Rattle.arj_protocol.specs.Step.{Node}
+use Rattle.arj_protocol.specs.World.{Asked, format, lowest_from, run_all, run_event}
+use Rattle.arj_part_law.specs.Actions.{Action}
+use Rattle.arj_run_law.specs.Worlds.{IsGood, IsGoodOf}
+use Rattle.arj_view_law.specs.Keeps.{KeepsAsked}
+use Rattle.arj_view_law.specs.Seen.{Seen}
+use Rattle.arj_address_law.specs.Addresses.{AreAddressed}
+use Rattle.arj_address_law.specs.Binds.{BindsAreKnown}
+use Rattle.arj_disk_run_law.specs.Records.{AreRecorded}
+use Rattle.arj_round_law.specs.Quiet.{AreQuiet, IsGiveUp, NobodyWaits, SettlesAll}
+use Rattle.arj_round_law.specs.Rounds.{AreUp}
+use Rattle.arj_wait_law.specs.Waits.{AnswersRest, WaitsAreKnown}
+use Rattle.arj_settle_law.specs.Prepared.{AskersAreSettled, PreparedWereAsked}
+
+-- records are as records are, and whoever has something prepared was asked for it, for the actions that were begun
+abbrev pub DisksAreKnown : Seen → Type 0
+DisksAreKnown M = (begun : List Action) × IsGoodOf begun M × (AreRecorded begun M × PreparedWereAsked begun M)
+
+-- at each node that is up whoever asked for it has ended, or is at its commit
+abbrev pub AskersSettle : Seen → Type 0
+AskersSettle M = (j : ℕ) (n : Node) (t : Parts) → M.nodes j ≡ Some n → n.live ≡ Some t → AskersAreSettled M.sent j t.coord
+
+-- With it every number that stands for a node is that of one.
+abbrev pub KnowsPrepared : Header → Seen → Type 0
+KnowsPrepared hd M = (DisksAreKnown M × ((IsGood M × BindsAreKnown M) × AskersSettle M)) × AreAddressed hd M
+
+-- each handler keeps it, and it gives all that a quiesce takes of records and of what is prepared
+abbrev pub HandlersSettle : Type 0
+HandlersSettle = (hd : Header) → HeaderInForm hd → KeepsAsked hd (KnowsPrepared hd) × SettlesAll hd (KnowsPrepared hd)
+
+-- In every run a quiesce that begins where nobody waits and no frame is open, in which every node stays up and no limit is met, leaves
+-- every node idle.
+abbrev pub QuiescesIdle : Type 0
+QuiescesIdle = (hd : Header) → HeaderInForm hd → (es : List Asked) (e : Asked) → let w = run_all es (format hd) in lowest_from 1 w.frames ≡ None → NobodyWaits w
+    → e.event ≡ event.Quiesce → w.over ≡ false → (run_event e w).over ≡ false → AreUp (run_event e w) → AreQuiet (run_event e w)
+
+-- In every run the stated round leaves every node idle: a quiesce, giveups of what waits then, and a second quiesce, where every node stays
+-- up in both, no limit is met, and nobody waits when all was given up. What is still to be given of requests for which somebody waits is
+-- taken of a relation that is kept.
+abbrev pub RoundsIdle : Type 0
+RoundsIdle = (hd : Header) → HeaderInForm hd → (test : Seen → Bool) → KeepsAsked hd (λ M. test M ≡ true) → AnswersRest (λ M. WaitsAreKnown hd M × (test M ≡ true))
+    → (es gs : List Asked) (e f : Asked) → let u = run_all es (format hd) in let v = run_event e u in let w = run_all gs v in e.event ≡ event.Quiesce → AllByRecursion IsGiveUp gs → f.event ≡ event.Quiesce
+    → u.over ≡ false → v.over ≡ false → AreUp v → w.over ≡ false → NobodyWaits w → (run_event f w).over ≡ false → AreUp (run_event f w) → AreQuiet (run_event f w)

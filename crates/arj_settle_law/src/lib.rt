@@ -1,0 +1,15 @@
+//! Nothing that is prepared, and no record, is left for ever: what a quiesce and the stated round leave, in every run.
+//!
+//! Whoever has something prepared at a store or at naming was asked for it by a request of its own (`specs/Prepared.antt`), and its
+//! coordinator, while that is up in the same incarnation, has ended it or is at its commit. So a question about it is answered. It stands on
+//! what is known of records (`arj_disk_run_law`), of coordinators and what they sent (`arj_lock_fact_law`), of addresses
+//! (`arj_address_law`) and of whoever waits (`arj_wait_law`), and on what a round leaves where all this is taken as known
+//! (`arj_round_law`). It gives upward `whoever_is_prepared_settles`, `quiesces_leave_nodes_idle` and `rounds_leave_nodes_idle`
+//! (`specs/Settled.antt`).
+#![tactic(auto)]
+
+mod settles;
+
+pub use settles::{
+    quiesces_leave_nodes_idle, rounds_leave_nodes_idle, whoever_is_prepared_settles,
+};

@@ -1,0 +1,23 @@
+// What a quiesce and the stated round leave, in every run.
+ghost use Rattle.arj_settle_law.specs.Settled.{HandlersSettle, QuiescesIdle, RoundsIdle};
+
+/// Each handler keeps, wherever a stop falls, that each record is told again and waits for somebody's acknowledgement, and that whoever has
+/// something prepared asked for it itself, is neither nested nor serializing, and has ended at its coordinator or is at its commit there;
+/// so no record is kept of which it is the root. That gives all that a quiesce takes of records and of what is prepared. It does nothing
+/// when it runs.
+pub fn whoever_is_prepared_settles()
+    ensures { HandlersSettle }
+{}
+
+/// In every run a quiesce that begins where nobody waits and no frame is open, in which every node stays up and no limit is met, leaves
+/// every node idle: with no action that waits, no prepared action and no record. It does nothing when it runs.
+pub fn quiesces_leave_nodes_idle()
+    ensures { QuiescesIdle }
+{}
+
+/// In every run the stated round leaves every node idle: a quiesce, giveups of what waits then, and a second quiesce, where every node stays
+/// up, no limit is met, and nobody waits when all was given up. What is still to be given of requests for which somebody waits
+/// (`AnswersRest` of `arj_wait_law`) is taken of a relation that is kept. It does nothing when it runs.
+pub fn rounds_leave_nodes_idle()
+    ensures { RoundsIdle }
+{}
