@@ -34,7 +34,7 @@ pub said_so : (lines : List Line) (u : Uid) → IsCommittedIn lines u → is_sai
 said_so lines u (a, there, is, done) = any_in (λ (b : Act). uid_eq b.uid u && is_committed (committed lines) (recovered lines) b) (acts lines) a (in_from a (acts lines) there) (both (uid_eq a.uid u) _ (ap (uid_eq a.uid) (sym is) ∙ uid_same a.uid) done)
 
 module _ (test : List Line → Body → Bool) (all : List Line) (each : (before : List Line) (line : Line) (behind : List Line) → all ≡ before ++ line ∷ behind → test before line.body ≡ true) where
-  each_from : (before lines : List Line) → all ≡ before ++ lines → each_behind test before lines ≡ true
+  pub each_from : (before lines : List Line) → all ≡ before ++ lines → each_behind test before lines ≡ true
   each_from before [] e = refl
   each_from before (line ∷ lines) e = both (test before line.body) (each_behind test (before ++ line ∷ []) lines) (each before line lines e) (each_from (before ++ line ∷ []) lines (e ∙ sym (append_assoc before (line ∷ []) lines)))
 

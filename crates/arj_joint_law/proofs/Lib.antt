@@ -16,3 +16,4 @@ pub mod Excluding
 pub mod InTime
 pub mod NewWriters
 pub mod RunsInTime
+pub mod Dropping

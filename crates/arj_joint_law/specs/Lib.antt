@@ -8,3 +8,4 @@ pub mod Outcome
 pub mod Samples
 pub mod Excluded
 pub mod InTime
+pub mod Dropped

@@ -6,7 +6,7 @@
 //! (`specs/Ordered.antt`), so that by the lock machine its decided writers stand as their commits were called (`specs/Writers.antt`), and
 //! what stands of the object on disks is of its class (`specs/Forms.antt`); and files are clean with what is left
 //! (`specs/Cleaned.antt`), and stores excluded in time (`specs/Excluded.antt`, `specs/InTime.antt`). What one outcome is by a journal is
-//! in `specs/Outcome.antt`. What it gives upward: `runs_begin_as_the_header_says`, `decisions_come_behind_calls`,
+//! in `specs/Outcome.antt`, `specs/Dropped.antt`. What it gives upward: `runs_begin_as_the_header_says`, `decisions_come_behind_calls`,
 //! `writers_are_called_as_they_are_decided`, `runs_have_form`, `runs_are_clean`, `runs_exclude_in_time` (of what is seen of a run:
 //! `seen_runs_exclude_in_time`), `commits_are_done_behind_decisions`.
 #![tactic(auto)]
@@ -20,6 +20,7 @@ pub use forms::runs_have_form;
 pub use outcomes::{
     commits_are_done_behind_decisions, exclusion_in_time_tells_disks_apart,
     one_outcome_tells_journals_apart, runs_exclude_in_time, seen_runs_exclude_in_time,
+    seen_runs_show_one_outcome,
 };
 pub use runs::{decisions_come_behind_calls, runs_are_clean, runs_begin_as_the_header_says};
 pub use writers::writers_are_called_as_they_are_decided;
