@@ -230,7 +230,7 @@ header_has hd x there = by (object_line hd x) refl there
     by None is some = absurd (cc some)
     by (Some o) is some = let f = in_find (λ (p : ObjectLine). p.x == x) o hd.objects is in (o, in_to o hd.objects f.0, eqb-true o.x x f.1)
 
-lock_tied : (hd : Header) (es : List Asked) (test : ℕ → List Action → Seen → Bool) → length es ≤ most_events → AreRest hd test → AreLockTied hd (journal hd es)
+pub lock_tied : (hd : Header) (es : List Asked) (test : ℕ → List Action → Seen → Bool) → length es ≤ most_events → AreRest hd test → AreLockTied hd (journal hd es)
 lock_tied hd es test short rest = record {
   called = runs_are_tied hd test rest es short;
   listed = λ x there. (let has = header_has hd x there in let h = runs_are_locked hd x has (test x) (rest x has) es short in let z = h.holds in locked_tied x (see h.sent (run_all es (format hd))) z.0 z.1 z.2 z.3 (first_values hd));

@@ -12,9 +12,9 @@ use Rattle.arj_view_law.specs.Keeps.{Holds}
 use Rattle.arj_view_law.specs.Seen.{see}
 use Rattle.arj_joint_law.specs.Cleaned.{AreLockTied, DecideSo}
 use Rattle.arj_joint_law.specs.Excluded.{IsSeenSo}
-use Rattle.arj_joint_law.specs.InTime.{AreInTime, RunsExcludeInTime}
+use Rattle.arj_joint_law.specs.InTime.{AreInTime, RunsExcludeInTime, WholeRunsExcludeInTime}
 use Rattle.arj_joint_law.specs.Ordered.{IsOrderedSo}
-use Rattle.arj_joint_law.proofs.Clean.{decided, formed, h, right, ties}
+use Rattle.arj_joint_law.proofs.Clean.{decided, formed, h, lock_tied, right, ties}
 use Rattle.arj_joint_law.proofs.Excluding.{is_in_time, newest_by_calls, nodes_have_form}
 
 module _ (hd : Header) (es : List Asked) (form : HeaderInForm hd) (short : length es ≤ most_events) (heard : (x : ℕ) → is_some (object_line hd x) ≡ true → KeepsHeard hd x (λ M. IsGood M × KnowsFew M)) (tied : AreLockTied hd (journal hd es))
@@ -43,3 +43,6 @@ runs_exclude hd es form short heard tied decide (begins, all) t x s n m st there
     let i : IsSeenSo hd x (see o.sent (run_all es (format hd))) = seen_so hd es form short heard tied decide x there a in
     let newest = newest_by_calls hd (let v = run_all es (format hd) in v.event) (see o.sent (run_all es (format hd))) r tied.called begins x i t new wrote (a.behind o (decided hd es form short heard tied decide x there) t new wrote) in
     is_in_time hd (let v = run_all es (format hd) in v.event) (see o.sent (run_all es (format hd))) r (ties hd es form short heard tied decide) x i t new wrote newest s n m st at_naming at_store held_there has_it
+
+pub whole_runs_exclude : WholeRunsExcludeInTime
+whole_runs_exclude hd es test form short heard rest decide = runs_exclude hd es form short heard (lock_tied hd es test short rest) decide

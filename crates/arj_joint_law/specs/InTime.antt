@@ -1,15 +1,17 @@
 -- Runs that exclude stores in time, by both machines of each object, with what these are still asked for.
-use Rattle.std.specs.Prelude.{◌≡◌, ◌≤◌, ℕ, true, List, [], is_some, length}
+use Rattle.std.specs.Prelude.{◌≡◌, ◌≤◌, ℕ, Bool, true, List, [], is_some, length}
 use Rattle.arj_journal.specs.ScriptForm.{HeaderInForm}
 use Rattle.arj_model.specs.Calls.{Top}
 use Rattle.arj_model.specs.Last.{object_line}
 use Rattle.arj_protocol.specs.Words.{Header}
 use Rattle.arj_protocol.specs.World.{Asked, format, journal, run_all}
 use Rattle.arj_view_law.specs.Keeps.{Holds}
-use Rattle.arj_view_law.specs.Seen.{see}
+use Rattle.arj_view_law.specs.Seen.{Seen, see}
 use Rattle.arj_binding_law.specs.Scripts.{most_events}
 use Rattle.arj_call_law.specs.Runs.{KnowsFew}
 use Rattle.arj_disk_run_law.specs.Rest.{KeepsHeard}
+use Rattle.arj_lock_whole_law.specs.Runs.{AreRest}
+use Rattle.arj_part_law.specs.Actions.{Action}
 use Rattle.arj_run_law.specs.Worlds.{IsGood}
 use Rattle.arj_serial_law.specs.Cleaned.{AreDecidedOrLate}
 use Rattle.arj_serial_law.specs.Decided.{Wrote}
@@ -30,5 +32,13 @@ abbrev pub RunsExcludeInTime : Type 0
 RunsExcludeInTime = (hd : Header) (es : List Asked) → HeaderInForm hd → length es ≤ most_events
     → ((x : ℕ) → is_some (object_line hd x) ≡ true → KeepsHeard hd x (λ M. IsGood M × KnowsFew M))
     → AreLockTied hd (journal hd es)
+    → ((x : ℕ) → is_some (object_line hd x) ≡ true → DecideSo hd x es)
+    → (let w = run_all es (format hd) in CommitsBeginIt w.event (journal hd es) × ((x : ℕ) → is_some (object_line hd x) ≡ true → AreInTime hd w.event x es) → AreExcludedInTime hd w.event (see [] w))
+
+-- So the journal is tied with what the lock half still takes.
+abbrev pub WholeRunsExcludeInTime : Type 0
+WholeRunsExcludeInTime = (hd : Header) (es : List Asked) (test : ℕ → List Action → Seen → Bool) → HeaderInForm hd → length es ≤ most_events
+    → ((x : ℕ) → is_some (object_line hd x) ≡ true → KeepsHeard hd x (λ M. IsGood M × KnowsFew M))
+    → AreRest hd test
     → ((x : ℕ) → is_some (object_line hd x) ≡ true → DecideSo hd x es)
     → (let w = run_all es (format hd) in CommitsBeginIt w.event (journal hd es) × ((x : ℕ) → is_some (object_line hd x) ≡ true → AreInTime hd w.event x es) → AreExcludedInTime hd w.event (see [] w))

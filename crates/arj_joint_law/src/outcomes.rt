@@ -2,7 +2,7 @@
 ghost use Rattle.std.specs.Prelude.{◌≡◌, false};
 ghost use Rattle.arj_joint_law.specs.Dropped.{SeenRunsShowOneOutcome};
 ghost use Rattle.arj_joint_law.specs.Excluded.{IsInTime, IsNew, NewWritersAreLast, NodesHaveForm, RunsExcludeInTimeByCalls, SeenRunsExcludeInTime};
-ghost use Rattle.arj_joint_law.specs.InTime.{RunsExcludeInTime};
+ghost use Rattle.arj_joint_law.specs.InTime.{RunsExcludeInTime, WholeRunsExcludeInTime};
 ghost use Rattle.arj_joint_law.specs.Outcome.{CommitsAreBehind, ShowsOneOutcome, aborts_have_cause, commits_are_behind};
 ghost use Rattle.arj_joint_law.specs.Samples.{decided_lines, found_commit, halted_abort, header, its_top, naming_late, naming_node, right_end, store_three, store_two, wrong_abort, wrong_commit};
 
@@ -57,7 +57,9 @@ pub fn seen_runs_exclude_in_time()
 /// After the run of each script whose header is in form, of at most 1,000,000 events, stores are excluded in time, on what makes its files
 /// clean (`runs_are_clean`) and these premises more: in the last event no line stands before a commit call; of a top that is new in it and
 /// wrote an object, no decided top that counts for the object without a line, or without a write, is behind it; and who has an entry prepared
-/// beside it is committed (`AreInTime`). So it is after each event, since the front of a script is one. It does nothing when it runs.
+/// beside it is committed (`AreInTime`). So it is with what the lock half takes, in place of a tied journal; and after each event, since the
+/// front of a script is one. It does nothing when it runs.
 pub fn runs_exclude_in_time()
     ensures runs { RunsExcludeInTime }
+    ensures whole { WholeRunsExcludeInTime }
 {}
