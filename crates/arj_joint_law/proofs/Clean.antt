@@ -2,7 +2,7 @@
 use Rattle.std.proofs.Common.{Contains, ◌≡◌, ◌⊎◌, ◌<◌, ◌≤◌, ◌==◌, ◌||◌, ℕ, Bool, cond, false, eqb-true, eq-eqb, List, [], ◌∷◌, ◌++◌, length, true, is_some, refl, subst, inl, inr, ⊎_elim, filter, ap, sym, ◌∙◌, Option, Some, None}
 use Rattle.std.specs.List.{AllByRecursion}
 use Rattle.arj_journal.specs.ScriptForm.{HeaderInForm}
-use Rattle.arj_lock.proofs.Members.{In, in_find, in_from, in_to}
+use Rattle.arj_lock.proofs.Members.{In, in_find, in_find_none, in_from, in_to}
 use Rattle.arj_model.specs.Actions.{Act, acts}
 use Rattle.arj_model.specs.Calls.{Top, tops}
 use Rattle.arj_model.specs.Last.{first_values, object_line}
@@ -17,7 +17,7 @@ use Rattle.arj_disk_law.specs.State.{Done, decided as decided_so, decided_in}
 use Rattle.arj_disk_law.specs.Words as disk
 use Rattle.arj_disk_line_law.specs.Said.{IsJournalled}
 use Rattle.arj_line_law.specs.Idle.{HasNothing}
-use Rattle.arj_line_law.proofs.Books.{or_which}
+use Rattle.arj_line_law.proofs.Books.{never, or_which}
 use Rattle.arj_line_law.proofs.Closed.{one_act}
 use Rattle.arj_line_law.proofs.Models.{its_sound}
 use Rattle.arj_protocol.proofs.Numbers.{number_tells}
@@ -33,7 +33,7 @@ use Rattle.arj_run_law.specs.Worlds.{IsGood}
 use Rattle.arj_serial_law.specs.Cleaned.{AreDecidedOrLate, HaveForm, IsCleanIn}
 use Rattle.arj_serial_law.specs.Decided.{AreNewestFirst, DecideChanges, Joined, Wrote}
 use Rattle.arj_lock_fact_law.specs.Entries.{HasObject}
-use Rattle.arj_lock_whole_law.proofs.WholeRuns.{runs_are_locked, runs_are_tied}
+use Rattle.arj_lock_whole_law.proofs.WholeRuns.{runs_are_locked, runs_are_tied, runs_include_objects}
 use Rattle.arj_lock_whole_law.specs.Runs.{AreRest}
 use Rattle.arj_part_law.specs.Actions.{Action}
 use Rattle.arj_serial_law.proofs.Seeing.{locked_tied}
@@ -43,6 +43,7 @@ use Rattle.arj_serial_law.proofs.Shown.{files_clean}
 use Rattle.arj_serial_law.proofs.Ties.{Ties, ties_of}
 use Rattle.arj_joint_law.specs.Cleaned.{AreLockTied, DecideSo, DecideThose, DecideThoseOrLate, JoinersAreNewestFirst, RunsAreClean, WholeRunsAreClean, disk_of, is_one_of, number_of}
 use Rattle.arj_joint_law.specs.Ordered.{AreOnce, AreTurnsOf, IsOrderedSo}
+use Rattle.arj_joint_law.specs.Shown.{IncludesAreThere, IncludesNameNodes}
 use Rattle.arj_joint_law.specs.Writers.{WritersAreNewestFirst}
 use Rattle.arj_joint_law.proofs.Called.{decided_writers_stand, decision_of, number_is, one_number, those_of, wrote_something}
 use Rattle.arj_joint_law.proofs.FormRuns.{runs_have_form}
@@ -212,11 +213,26 @@ module _ (hd : Header) (es : List Asked) (form : HeaderInForm hd) (short : lengt
     pub clean_of : IsCleanIn hd (journal hd es) x (see [] (run_all es (format hd)))
     clean_of = record { names = clean_seen.names; stores = clean_seen.stores }
 
+-- ---- includes
+
+object_some : (hd : Header) (x : ℕ) → HasObject hd x → is_some (object_line hd x) ≡ true
+object_some hd x (o, there, same) = by (object_line hd x) refl
+  where
+    by : (q : Option ObjectLine) → object_line hd x ≡ q → is_some q ≡ true
+    by (Some p) is = refl
+    by None none = absurd (never (eq-eqb o.x x same) (in_find_none (λ (p : ObjectLine). p.x == x) o hd.objects none (in_from o hd.objects there)))
+
+-- they are of objects of the header in each run
+includes_there : (hd : Header) (es : List Asked) → IncludesNameNodes hd (journal hd es) → IncludesAreThere hd (journal hd es)
+includes_there hd es names i there = (names i there, object_some hd (let k = i.it in k.x) (runs_include_objects hd es i there))
+
+-- ---- the law
+
 pub runs_are_clean : RunsAreClean
-runs_are_clean hd es disks form short heard tied decide listed files =
+runs_are_clean hd es disks form short heard tied decide names files =
     files_clean hd (journal hd es) (see r.sent (run_all es (format hd))) disks
     (λ x there. let c = clean_of hd es form short heard tied decide x there in record { names = c.names; stores = c.stores })
-    (files_show_disks hd r.sent (run_all es (format hd)) disks form r.stands listed (record { stores = files.stores; names = files.names }))
+    (files_show_disks hd r.sent (run_all es (format hd)) disks form r.stands (includes_there hd es names) (record { stores = files.stores; names = files.names }))
   where
     r : Holds hd IsKept (run_all es (format hd))
     r = runs_hold hd IsKept (lines_keep hd) es

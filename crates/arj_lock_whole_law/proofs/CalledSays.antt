@@ -95,8 +95,8 @@ module _ (P : ℕ → Type 0) where
   -- a call that ends has its line
   end_fine : (x : ℕ) (g : Goal) (e : CallEnd) (l : Label) → P x → SaysOf P (end_line x g e l)
   end_fine x (Run o) (calls.Answered a) l its = its
-  end_fine x (Include s) (calls.Answered a) l its = tt
-  end_fine x g (calls.Included st) l its = tt
+  end_fine x (Include s) (calls.Answered a) l its = its
+  end_fine x g (calls.Included st) l its = its
   end_fine x g (calls.Conflict h m n) l its = tt
   end_fine x g (calls.Changed n w) l its = tt
   end_fine x g (calls.Lost n b) l its = tt

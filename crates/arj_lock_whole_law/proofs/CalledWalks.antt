@@ -1,10 +1,12 @@
 -- Each handler keeps that calls are on objects of the header.
-use Rattle.std.proofs.Common.{◌≡◌, ◌≢◌, ◌+◌, ◌==◌, ◌∙◌, ◌++◌, eqb-true, ⊎_elim, ℕ, zero, suc, Bool, true, false, cond, List, [], ◌∷◌, Option, Some, None, refl, sym, ap, subst, map}
+use Rattle.std.proofs.Common.{◌≡◌, ◌≢◌, ◌+◌, ◌==◌, ◌∙◌, ◌++◌, eqb-true, ⊎_elim, ℕ, zero, suc, Bool, true, false, cond, List, [], ◌∷◌, Option, Some, None, refl, sym, ap, subst, map, inl, inr}
 use Rattle.std.specs.Prelude.{is_some, slice_get}
 use Rattle.std.specs.List.{AllByRecursion, list_all, list_any}
 use Rattle.std.proofs.lemmas.Bool.{and_parts, or_cases}
 use Rattle.arj_model.specs.Actions.{Act, Placed, acts_after, put, read}
 use Rattle.arj_model.specs.Calls.{Said, said_of}
+use Rattle.arj_model.specs.Last.{Inclusion, included, included_of}
+use Rattle.arj_lock.proofs.Members.{In as Listed}
 use Rattle.arj_protocol.specs.Words.{Body, Header, Kind, Label, Line, Message, Uid}
 use Rattle.arj_protocol.specs.Words.body
 use Rattle.arj_protocol.specs.Asking.{again_all, begin_action}
@@ -56,10 +58,12 @@ module _ (P : ℕ → Type 0) where
 
   quiet_of : (b : Body) → is_quiet_line b ≡ true → SaysOf P b
   quiet_of (body.Ok l x o a) is = absurd (cc is)
+  quiet_of (body.Includes l x n) is = absurd (cc is)
   quiet_of b is = tt
 
   plain_of : (b : Body) → is_plain b ≡ true → SaysOf P b
   plain_of (body.Ok l x o a) is = absurd (cc is)
+  plain_of (body.Includes l x n) is = absurd (cc is)
   plain_of b is = tt
 
   lines_of : (e : ℕ) (bs : List Body) → ((b : Body) → is_quiet_line b ≡ true → SaysOf P b) → AreQuiet bs → LinesOf P (numbered e bs)
@@ -215,3 +219,16 @@ called_there hd x lines all called = by [] 0 lines all called
     by : (acts : List Act) (n : ℕ) (ls : List Line) → LinesOf (HasObject hd) ls → list_any (λ (s : Placed Said). s.it.x == x) (read said_of acts n ls) ≡ true → HasObject hd x
     by acts n [] all on = absurd (cc on)
     by acts n (l ∷ ls) all on = one acts n l.body (read said_of (acts_after acts l.body) (n + 1) ls) all.0 (by (acts_after acts l.body) (n + 1) ls all.1) on
+
+-- and so is one of which a store was included
+pub included_there : (hd : Header) (lines : List Line) → LinesOf (HasObject hd) lines → (i : Placed Inclusion) → Listed i (included lines) → HasObject hd (let k = i.it in k.x)
+included_there hd lines all i there = by [] 0 lines all there
+  where
+    one : (acts : List Act) (n : ℕ) (b : Body) (rest : List (Placed Inclusion)) → SaysOf (HasObject hd) b → (Listed i rest → HasObject hd (let k = i.it in k.x)) → Listed i (put n (included_of acts b) rest) → HasObject hd (let k = i.it in k.x)
+    one acts n (body.Includes l y m) rest its later (inl same) = subst (λ (j : Placed Inclusion). HasObject hd (let k = j.it in k.x)) same its
+    one acts n (body.Includes l y m) rest its later (inr old) = later old
+    one acts n b rest its later on = later on
+
+    by : (acts : List Act) (n : ℕ) (ls : List Line) → LinesOf (HasObject hd) ls → Listed i (read included_of acts n ls) → HasObject hd (let k = i.it in k.x)
+    by acts n [] all on = absurd on
+    by acts n (l ∷ ls) all on = one acts n l.body (read included_of (acts_after acts l.body) (n + 1) ls) all.0 (by (acts_after acts l.body) (n + 1) ls all.1) on

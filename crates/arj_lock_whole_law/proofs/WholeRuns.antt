@@ -1,7 +1,8 @@
 -- Whole runs: each object of the header is seen at the end, in places and codes that are found, and so runs are serial.
 use Rattle.std.proofs.Common.{◌≡◌, ◌≤◌, ℕ, true, List, length, refl}
 use Rattle.std.specs.Prelude.{⊤}
-use Rattle.arj_model.specs.Last.{first_values}
+use Rattle.arj_lock.proofs.Members.{in_from}
+use Rattle.arj_model.specs.Last.{first_values, included}
 use Rattle.arj_protocol.specs.Words.{Header}
 use Rattle.arj_protocol.specs.World.{Asked, format, journal, run_all}
 use Rattle.arj_part_law.specs.Actions.{Action, paths_of}
@@ -26,9 +27,9 @@ use Rattle.arj_lock_run_law.proofs.KeptSteps.{locks_given}
 use Rattle.arj_serial_law.specs.Seen.{IsLocked}
 use Rattle.arj_serial_law.proofs.Seeing.{agrees_at, fixed_at, locked_runs_are_serial, locked_tied}
 use Rattle.arj_lock_whole_law.specs.Called.{CallsAreOfHeader}
-use Rattle.arj_lock_whole_law.specs.Runs.{AreAllSeen, HandlersKeepWhole, IsRest, RunsAreLocked, RunsAreSerial, RunsAreTied, RunsCallObjects, RunsSeeLocks}
+use Rattle.arj_lock_whole_law.specs.Runs.{AreAllSeen, HandlersKeepWhole, IsRest, RunsAreLocked, RunsAreSerial, RunsAreTied, RunsCallObjects, RunsIncludeObjects, RunsSeeLocks}
 use Rattle.arj_lock_whole_law.specs.Whole.{KnowsWhole}
-use Rattle.arj_lock_whole_law.proofs.CalledWalks.{called_of, called_there}
+use Rattle.arj_lock_whole_law.proofs.CalledWalks.{called_of, called_there, included_there}
 use Rattle.arj_lock_whole_law.proofs.Gives.{gives_locks}
 use Rattle.arj_lock_whole_law.proofs.Of.{of_both, of_kept, of_more}
 use Rattle.arj_lock_whole_law.proofs.Whole.{whole_of}
@@ -97,6 +98,12 @@ runs_call_objects hd es x called =
     let h = runs_hold hd _ (called_kept hd) es in
     let z = h.holds.2.1 in
     called_there hd x (journal hd es) z.lines called
+
+pub runs_include_objects : RunsIncludeObjects
+runs_include_objects hd es i there =
+    let h = runs_hold hd _ (called_kept hd) es in
+    let z = h.holds.2.1 in
+    included_there hd (journal hd es) z.lines i (in_from i (included (journal hd es)) there)
 
 -- ---- serial runs
 

@@ -1,4 +1,4 @@
--- Calls are on objects of the header: those that wait, and those that were answered.
+-- Calls and includes are of objects of the header: those that wait, and those that were answered.
 use Rattle.std.specs.Prelude.{⊤, ◌≡◌, ℕ, List, Some}
 use Rattle.std.specs.List.{AllByRecursion}
 use Rattle.arj_protocol.specs.Words.{Body, Header, Line, Uid}
@@ -15,9 +15,10 @@ use Rattle.arj_lock_fact_law.specs.Entries.{HasObject}
 abbrev pub WaitFor : (ℕ → Type 0) → Coord → Type 0
 WaitFor P c = (u : Uid) (d : Doing) (s : Steps) → doing_of u c ≡ Some d → d.now ≡ Calling s → P s.x
 
--- an answered call is on such an object
+-- an answered call is on such an object, and an include
 abbrev pub SaysOf : (ℕ → Type 0) → Body → Type 0
 SaysOf P (body.Ok l x o a) = P x
+SaysOf P (body.Includes l x n) = P x
 SaysOf P _ = ⊤
 
 abbrev pub SayOf : (ℕ → Type 0) → Effect → Type 0

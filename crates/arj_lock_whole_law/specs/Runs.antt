@@ -1,10 +1,11 @@
 -- The run of every script, of which each object is seen by its lock machine.
-use Rattle.std.specs.Prelude.{◌≡◌, ◌≤◌, Bool, ℕ, true, List, length}
+use Rattle.std.specs.Prelude.{◌≡◌, ◌≤◌, Bool, ℕ, true, List, Contains, length}
 use Rattle.arj_base.specs.Uid.{nobody}
 use Rattle.arj_class.specs.declared.value.Value.{Value}
 use Rattle.arj_protocol.specs.Words.{Header}
 use Rattle.arj_protocol.specs.World.{Asked, format, journal, run_all}
-use Rattle.arj_model.specs.Last.{first_values}
+use Rattle.arj_model.specs.Actions.{Placed}
+use Rattle.arj_model.specs.Last.{Inclusion, first_values, included}
 use Rattle.arj_part_law.specs.Actions.{Action}
 use Rattle.arj_view_law.specs.Keeps.{Holds}
 use Rattle.arj_view_law.specs.Seen.{Seen}
@@ -74,6 +75,10 @@ RunsHaveVotes = (hd : Header) (x : ℕ) → HasObject hd x → (test : List Acti
 -- In the run of every script answered calls are on objects of the header.
 abbrev pub RunsCallObjects : Type 0
 RunsCallObjects = (hd : Header) (es : List Asked) (x : ℕ) → IsCalled x (journal hd es) → HasObject hd x
+
+-- and so are those of which a store was included
+abbrev pub RunsIncludeObjects : Type 0
+RunsIncludeObjects = (hd : Header) (es : List Asked) (i : Placed Inclusion) → Contains (included (journal hd es)) i → HasObject hd (let k = i.it in k.x)
 
 -- where for each object of the header a relation gives what is still to be given
 abbrev pub AreRest : Header → (ℕ → List Action → Seen → Bool) → Type 0

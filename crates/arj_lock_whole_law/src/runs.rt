@@ -1,5 +1,5 @@
 // Whole runs, in which each object is seen by its lock machine.
-ghost use Rattle.arj_lock_whole_law.specs.Runs.{HandlersKeepWhole, RunsAreLocked, RunsAreSerial, RunsAreTied, RunsCallObjects, RunsHaveVotes, RunsSeeLocks};
+ghost use Rattle.arj_lock_whole_law.specs.Runs.{HandlersKeepWhole, RunsAreLocked, RunsAreSerial, RunsAreTied, RunsCallObjects, RunsHaveVotes, RunsIncludeObjects, RunsSeeLocks};
 
 /// Each handler before which few bindings were made keeps all that is known of the protocol alone, for the actions that were begun, wherever
 /// a stop falls: of naming and its locks, of questions and what is prepared, of records, of coordinators and what they ask and avoid. It
@@ -23,10 +23,11 @@ pub fn runs_have_the_votes()
     ensures { RunsHaveVotes }
 {}
 
-/// In every run of every script, with all stops, crashes and restarts, each call that was answered is on an object of the header: no other
-/// is asked about. It does nothing when it runs.
+/// In every run of every script, with all stops, crashes and restarts, each call that was answered is on an object of the header, and each
+/// include: no other is asked about. It does nothing when it runs.
 pub fn runs_call_their_objects()
-    ensures { RunsCallObjects }
+    ensures calls { RunsCallObjects }
+    ensures includes { RunsIncludeObjects }
 {}
 
 /// So the journal of each script's run is tied to the lock machine of each object of which a call was answered, from the header's first
