@@ -44,7 +44,8 @@ lines_before e (line ∷ lines) = if nat_lt line.event e then line ∷ lines_bef
 abbrev pub uid_of : List Line → Top → Uid
 uid_of lines t = uid_of_id (acts lines) t.id
 
--- The top is committed, and isn't by the lines before this event: its first `committed` or `recovered` line is in it.
+-- The top is committed, and isn't by the lines before this event: where that is the last event, its first `committed` or `recovered` line is
+-- in it.
 abbrev pub IsNew : ℕ → List Line → Top → Type 0
 IsNew e lines t = Contains (tops lines) t × (is_said (lines_before e lines) (uid_of lines t) ≡ false)
 
