@@ -269,11 +269,11 @@ giveup_calm hd e w (l, is) whole header calm = by w.over
 
 -- ---- the stated round
 
-runs_on : (es gs : List Asked) (w : World) → run_all (es ++ gs) w ≡ run_all gs (run_all es w)
+pub runs_on : (es gs : List Asked) (w : World) → run_all (es ++ gs) w ≡ run_all gs (run_all es w)
 runs_on [] gs w = refl
 runs_on (e ∷ es) gs w = runs_on es gs (run_event e w)
 
-one_more : (hd : Header) (es : List Asked) (e : Asked) → run_all (es ++ e ∷ []) (format hd) ≡ run_event e (run_all es (format hd))
+pub one_more : (hd : Header) (es : List Asked) (e : Asked) → run_all (es ++ e ∷ []) (format hd) ≡ run_event e (run_all es (format hd))
 one_more hd es e = runs_on es (e ∷ []) (format hd)
 
 giveups_calm : (hd : Header) (gs es : List Asked) → AllByRecursion IsGiveUp gs → IsCalm hd (run_all es (format hd)) → IsCalm hd (run_all gs (run_all es (format hd)))

@@ -1,22 +1,30 @@
 -- A quiesce, and the stated round, leave every node idle: in every run.
-use Rattle.std.proofs.Common.{◌≡◌, true}
-use Rattle.arj_protocol.specs.Words.{Header}
-use Rattle.arj_protocol.specs.World.{format, run_all}
+use Rattle.std.proofs.Common.{◌≡◌, true, ◌∙◌, ◌++◌, ℕ, suc, Bool, false, cond, List, [], ◌∷◌, Some, refl, sym, ap, subst}
+use Rattle.arj_protocol.specs.Words.{Header, Line}
+use Rattle.arj_protocol.specs.Words.body
+use Rattle.arj_protocol.specs.Words.event
+use Rattle.arj_protocol.specs.Words.which
+use Rattle.arj_protocol.specs.Step.{Node, first_reason, is_idle}
+use Rattle.arj_protocol.specs.World.{format, run_all, Asked, World, counted, is_quiet, limited, node_numbers, numbered, quiesce, quiet_line, reasons, run_event, run_unless, says, settle, tick_all}
 use Rattle.arj_run_law.specs.Worlds.{IsGood}
-use Rattle.arj_view_law.specs.Keeps.{KeepsAsked}
+use Rattle.arj_view_law.specs.Keeps.{Holds, KeepsAsked}
 use Rattle.arj_view_law.specs.Seen.{Seen}
 use Rattle.arj_view_law.proofs.Happens.{runs_asked}
-use Rattle.arj_round_law.specs.Quiet.{SettlesAll}
+use Rattle.arj_address_law.specs.Addresses.{AreAddressed, IsNode}
+use Rattle.arj_address_law.proofs.Runs.{kept}
+use Rattle.arj_round_law.specs.Quiet.{AreQuiet, SettlesAll}
 use Rattle.arj_round_law.specs.Rounds.{AnswersWaits}
 use Rattle.arj_round_law.proofs.Fits.{runs_few}
-use Rattle.arj_round_law.proofs.GiveUps.{round_settles}
+use Rattle.arj_round_law.proofs.GiveUps.{one_more, round_settles, runs_on}
 use Rattle.arj_round_law.proofs.Quiesces.{asked_both, keeps_good}
 use Rattle.arj_round_law.proofs.Quiets.{quiesce_settles}
 use Rattle.arj_wait_law.specs.Waits.{WaitsAreKnown}
 use Rattle.arj_wait_law.proofs.Gives.{known_give}
 use Rattle.arj_wait_law.proofs.Keeping.{waits_keep}
-use Rattle.arj_settle_law.specs.Settled.{KnowsPrepared, QuiescesIdle, RoundsIdle}
+use Rattle.arj_settle_law.specs.Settled.{EndsQuiet, KnowsPrepared, QuiescesIdle, RoundsIdle}
 use Rattle.arj_settle_law.proofs.Settled.{handlers_settle}
+use Rattle.std.specs.Prelude.{◌&&◌, nat_le, slice_get}
+use Rattle.std.specs.List.{list_all}
 
 -- what holds where more is known
 settles_less : (hd : Header) (P Q : Seen → Type 0) → ((M : Seen) → Q M → P M) → SettlesAll hd P → SettlesAll hd Q
@@ -37,19 +45,70 @@ answers_less hd P Q less s = record {
   commits = λ j d t M c u x m n q found now left h void. s.commits j d t M c u x m n (less _ q) found now left h void;
 }
 
+-- ---- the line
+
+-- what a quiesce that went on says at its end
+abbrev Said : World → Type 0
+Said v = (before : List Line) × (v.lines ≡ before ++ numbered v.event (body.Quiet (is_quiet v) ∷ []))
+
+line_said : (s : World) → (limited (quiet_line s)).over ≡ false → Said (limited (quiet_line s))
+line_said s = by s.full refl
+  where
+    by : (b : Bool) → s.full ≡ b → (limited (cond b s (says (body.Quiet (is_quiet s) ∷ []) s))).over ≡ false → Said (limited (cond b s (says (body.Quiet (is_quiet s) ∷ []) s)))
+    by true full over = let no_way : true ≡ false = (λ i. (cond (sym full i) (says (body.Limit which.Frames ∷ []) (record s { over = true })) s).over) ∙ over in absurd (cc no_way)
+    by false full over = subst Said (λ i. cond (sym full i) (says (body.Limit which.Frames ∷ []) (record (says (body.Quiet (is_quiet s) ∷ []) s) { over = true })) (says (body.Quiet (is_quiet s) ∷ []) s)) (s.lines, refl)
+
+quiesce_said : (e : Asked) (w : World) → e.event ≡ event.Quiesce → w.over ≡ false → (run_event e w).over ≡ false → Said (run_event e w)
+quiesce_said e w is over last = subst Said (sym run_is) (line_said (settle (tick_all (node_numbers (counted w)) (settle (counted w)))) (ap (λ (v : World). v.over) (sym run_is) ∙ last))
+  where
+    run_is : run_event e w ≡ limited (quiesce (counted w))
+    run_is = (λ i. cond (over i) w (run_unless e.event e.arm w (first_reason (reasons e.event w)))) ∙ (λ i. run_unless (is i) e.arm w (first_reason (reasons (is i) w)))
+
+-- each node of the world is one of the header
+all_idle : (ns : List Node) → ((k : ℕ) (a : Node) → slice_get ns k ≡ Some a → is_idle a ≡ true) → list_all is_idle ns ≡ true
+all_idle [] each = refl
+all_idle (n ∷ ns) each = (λ i. each 0 n refl i && list_all is_idle ns) ∙ all_idle ns (λ k a is. each (suc k) a is)
+
+world_idle : (hd : Header) (w : World) → Holds hd (AreAddressed hd) w → AreQuiet w → is_quiet w ≡ true
+world_idle hd w h idle = all_idle w.nodes each
+  where
+    each : (k : ℕ) (a : Node) → slice_get w.nodes k ≡ Some a → is_idle a ≡ true
+    each k a is =
+        let all = h.holds in
+        let so = all.1 in
+        let node : IsNode hd a.number = (so.0 (suc k) a is).0 in
+        let at_k : a.number ≡ suc k = h.stands.numbers (suc k) a is in
+        idle (suc k) a ((λ i. nat_le 1 (sym at_k i) && nat_le (sym at_k i) (let x = h.stands.header i in x.nodes)) ∙ node) is
+
+ends_quiet : (hd : Header) (e : Asked) (w : World) → Holds hd (AreAddressed hd) (run_event e w) → e.event ≡ event.Quiesce → w.over ≡ false → (run_event e w).over ≡ false → AreQuiet (run_event e w) → EndsQuiet (run_event e w)
+ends_quiet hd e w h is over last idle = record {
+  idle = idle;
+  quiet = quiet;
+  line = let s = quiesce_said e w is over last in (s.0, s.1 ∙ (λ i. s.0 ++ numbered (let v = run_event e w in v.event) (body.Quiet (quiet i) ∷ [])));
+}
+  where
+    quiet : is_quiet (run_event e w) ≡ true
+    quiet = world_idle hd (run_event e w) h idle
+
+-- ---- in every run
+
 pub quiesces_idle : QuiescesIdle
-quiesces_idle hd form es e none nobody is over last ups =
-    quiesce_settles hd (KnowsPrepared hd) s.0 (settles_less hd (KnowsPrepared hd) (λ M. KnowsPrepared hd M × IsGood M) (λ M q. q.0) s.1)
-    e (run_all es (format hd)) (runs_asked hd (λ M. KnowsPrepared hd M × IsGood M) (keeps_good hd (KnowsPrepared hd) s.0) es) (runs_few hd es) none nobody is over last ups
+quiesces_idle hd form es e none nobody is over last ups = ends_quiet hd e (run_all es (format hd)) (subst (Holds hd (AreAddressed hd)) (one_more hd es e) (runs_asked hd (AreAddressed hd) (kept hd form) (es ++ e ∷ []))) is over last
+    (quiesce_settles hd (KnowsPrepared hd) s.0 (settles_less hd (KnowsPrepared hd) (λ M. KnowsPrepared hd M × IsGood M) (λ M q. q.0) s.1)
+    e (run_all es (format hd)) (runs_asked hd (λ M. KnowsPrepared hd M × IsGood M) (keeps_good hd (KnowsPrepared hd) s.0) es) (runs_few hd es) none nobody is over last ups)
   where
     s : KeepsAsked hd (KnowsPrepared hd) × SettlesAll hd (KnowsPrepared hd)
     s = handlers_settle hd form
 
 pub rounds_idle : RoundsIdle
-rounds_idle hd form test keeps rest = round_settles hd (λ M. KnowsPrepared hd M × (WaitsAreKnown hd M × (test M ≡ true)))
+rounds_idle hd form test keeps rest es gs e f is all last over went ups over_w nobody over_f ups_f = ends_quiet hd f (run_all gs (run_event e (run_all es (format hd)))) (subst (Holds hd (AreAddressed hd)) whole (runs_asked hd (AreAddressed hd) (kept hd form) (((es ++ e ∷ []) ++ gs) ++ f ∷ []))) last over_w over_f
+    (round_settles hd (λ M. KnowsPrepared hd M × (WaitsAreKnown hd M × (test M ≡ true)))
     (asked_both hd (KnowsPrepared hd) (λ M. WaitsAreKnown hd M × (test M ≡ true)) s.0 (asked_both hd (WaitsAreKnown hd) (λ M. test M ≡ true) (waits_keep hd form) keeps))
     (answers_less hd (λ M. WaitsAreKnown hd M × (test M ≡ true)) (λ M. (KnowsPrepared hd M × (WaitsAreKnown hd M × (test M ≡ true))) × IsGood M) (λ M q. q.0.1) (known_give hd form test rest))
-    (settles_less hd (KnowsPrepared hd) (λ M. (KnowsPrepared hd M × (WaitsAreKnown hd M × (test M ≡ true))) × IsGood M) (λ M q. q.0.0) s.1)
+    (settles_less hd (KnowsPrepared hd) (λ M. (KnowsPrepared hd M × (WaitsAreKnown hd M × (test M ≡ true))) × IsGood M) (λ M q. q.0.0) s.1) es gs e f is all last over went ups over_w nobody over_f ups_f)
   where
+    whole : run_all (((es ++ e ∷ []) ++ gs) ++ f ∷ []) (format hd) ≡ run_event f (run_all gs (run_event e (run_all es (format hd))))
+    whole = one_more hd ((es ++ e ∷ []) ++ gs) f ∙ ap (run_event f) (runs_on (es ++ e ∷ []) gs (format hd) ∙ ap (run_all gs) (one_more hd es e))
+
     s : KeepsAsked hd (KnowsPrepared hd) × SettlesAll hd (KnowsPrepared hd)
     s = handlers_settle hd form

@@ -1,12 +1,13 @@
 -- What holds in every run, of which nothing that is prepared is left for ever; and what a quiesce and the stated round leave.
-use Rattle.std.specs.Prelude.{◌≡◌, ℕ, Bool, true, false, List, Some, None}
+use Rattle.std.specs.Prelude.{◌≡◌, ◌++◌, ℕ, Bool, true, false, List, [], ◌∷◌, Some, None}
 use Rattle.std.specs.List.{AllByRecursion}
 use Rattle.arj_journal.specs.ScriptForm.{HeaderInForm}
-use Rattle.arj_protocol.specs.Words.{Header}
+use Rattle.arj_protocol.specs.Words.{Header, Line}
+use Rattle.arj_protocol.specs.Words.body
 use Rattle.arj_protocol.specs.Words.event
 use Rattle.arj_protocol.specs.Node.{Parts}
 use Rattle.arj_protocol.specs.Step.{Node}
-use Rattle.arj_protocol.specs.World.{Asked, format, lowest_from, run_all, run_event}
+use Rattle.arj_protocol.specs.World.{Asked, World, format, is_quiet, lowest_from, run_all, run_event}
 use Rattle.arj_part_law.specs.Actions.{Action}
 use Rattle.arj_run_law.specs.Worlds.{IsGood, IsGoodOf}
 use Rattle.arj_view_law.specs.Keeps.{KeepsAsked}
@@ -35,16 +36,22 @@ KnowsPrepared hd M = (DisksAreKnown M × ((IsGood M × BindsAreKnown M) × Asker
 abbrev pub HandlersSettle : Type 0
 HandlersSettle = (hd : Header) → HeaderInForm hd → KeepsAsked hd (KnowsPrepared hd) × SettlesAll hd (KnowsPrepared hd)
 
+-- Every node of the world is idle, up and with no action that waits, no prepared action and no record; and the journal's last line says so.
+pub record EndsQuiet (w : World) : Type 0 where
+  pub idle : AreQuiet w
+  pub quiet : is_quiet w ≡ true
+  pub line : (before : List Line) × (w.lines ≡ before ++ record { event = w.event; body = body.Quiet true } ∷ [])
+
 -- In every run a quiesce that begins where nobody waits and no frame is open, in which every node stays up and no limit is met, leaves
--- every node idle.
+-- every node idle, and its line says so.
 abbrev pub QuiescesIdle : Type 0
 QuiescesIdle = (hd : Header) → HeaderInForm hd → (es : List Asked) (e : Asked) → let w = run_all es (format hd) in lowest_from 1 w.frames ≡ None → NobodyWaits w
-    → e.event ≡ event.Quiesce → w.over ≡ false → (run_event e w).over ≡ false → AreUp (run_event e w) → AreQuiet (run_event e w)
+    → e.event ≡ event.Quiesce → w.over ≡ false → (run_event e w).over ≡ false → AreUp (run_event e w) → EndsQuiet (run_event e w)
 
--- In every run the stated round leaves every node idle: a quiesce, giveups of what waits then, and a second quiesce, where every node stays
+-- So does the stated round, in every run: a quiesce, giveups of what waits then, and a second quiesce, where every node stays
 -- up in both, no limit is met, and nobody waits when all was given up. What is still to be given of requests for which somebody waits is
 -- taken of a relation that is kept.
 abbrev pub RoundsIdle : Type 0
 RoundsIdle = (hd : Header) → HeaderInForm hd → (test : Seen → Bool) → KeepsAsked hd (λ M. test M ≡ true) → AnswersRest (λ M. WaitsAreKnown hd M × (test M ≡ true))
     → (es gs : List Asked) (e f : Asked) → let u = run_all es (format hd) in let v = run_event e u in let w = run_all gs v in e.event ≡ event.Quiesce → AllByRecursion IsGiveUp gs → f.event ≡ event.Quiesce
-    → u.over ≡ false → v.over ≡ false → AreUp v → w.over ≡ false → NobodyWaits w → (run_event f w).over ≡ false → AreUp (run_event f w) → AreQuiet (run_event f w)
+    → u.over ≡ false → v.over ≡ false → AreUp v → w.over ≡ false → NobodyWaits w → (run_event f w).over ≡ false → AreUp (run_event f w) → EndsQuiet (run_event f w)

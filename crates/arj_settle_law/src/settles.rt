@@ -10,12 +10,13 @@ pub fn whoever_is_prepared_settles()
 {}
 
 /// In every run a quiesce that begins where nobody waits and no frame is open, in which every node stays up and no limit is met, leaves
-/// every node idle: with no action that waits, no prepared action and no record. It does nothing when it runs.
+/// every node idle: with no action that waits, no prepared action and no record; and the journal's last line says `quiet`. It does
+/// nothing when it runs.
 pub fn quiesces_leave_nodes_idle()
     ensures { QuiescesIdle }
 {}
 
-/// In every run the stated round leaves every node idle: a quiesce, giveups of what waits then, and a second quiesce, where every node stays
+/// In every run the stated round leaves every node idle, and its last line says so: a quiesce, giveups of what waits then, and a second quiesce, where every node stays
 /// up, no limit is met, and nobody waits when all was given up. What is still to be given of requests for which somebody waits
 /// (`AnswersRest` of `arj_wait_law`) is taken of a relation that is kept. It does nothing when it runs.
 pub fn rounds_leave_nodes_idle()
