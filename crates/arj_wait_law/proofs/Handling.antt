@@ -241,6 +241,7 @@ pub record LeavesPast (acts : List Action) (k : ℕ) (t : Parts) (has : Uid → 
   pub holds : HoldsBegun acts v
   pub server : (u : Uid) → is_told u v.server ≡ true → (is_told u t.server ≡ true) ⊎ has u
   pub naming : (o : Naming) (u : Uid) → v.naming ≡ Some o → is_on o.told u ≡ true → ((q : Naming) × (t.naming ≡ Some q) × (is_on q.told u ≡ true)) ⊎ has u
+  pub place : is_some v.naming ≡ is_some t.naming
   pub means : All acts outs
   pub tells : AllTell (IsOwnNamed acts k) outs
 
@@ -270,16 +271,16 @@ module _ (acts : List Action) (begun : AreBegun acts) (k : ℕ) (d : Disk) (t : 
     ServerOn s = (AreCallRows acts s.objects × AreKeyed s.objects) × ((u : Uid) → is_told u s ≡ true → (is_told u t.server ≡ true) ⊎ has u)
 
     abbrev NamingOn : Option Naming → Type 0
-    NamingOn n = AreNamesRows acts n × ((o : Naming) (u : Uid) → n ≡ Some o → is_on o.told u ≡ true → ((q : Naming) × (t.naming ≡ Some q) × (is_on q.told u ≡ true)) ⊎ has u)
+    NamingOn n = AreNamesRows acts n × ((o : Naming) (u : Uid) → n ≡ Some o → is_on o.told u ≡ true → ((q : Naming) × (t.naming ≡ Some q) × (is_on q.told u ≡ true)) ⊎ has u) × (is_some n ≡ is_some t.naming)
 
     server_on : ServerOn t.server
     server_on = ((held.calls, held.keys), λ u is. inl is)
 
     naming_on : NamingOn t.naming
-    naming_on = (held.entries, λ o u is on. inl (o, is, on))
+    naming_on = (held.entries, (λ o u is on. inl (o, is, on)), refl)
 
     leaves : (v : Parts) (outs : List Effect) → ServerOn v.server → NamingOn v.naming → Ok outs → LeavesPast acts k t has v outs
-    leaves v outs s n ok = record { holds = record { calls = s.0.0; keys = s.0.1; entries = n.0 }; server = s.1; naming = n.1; means = ok.0; tells = ok.1 }
+    leaves v outs s n ok = record { holds = record { calls = s.0.0; keys = s.0.1; entries = n.0 }; server = s.1; naming = n.1; place = n.2; means = ok.0; tells = ok.1 }
 
     answered : (h : Head) (v : Parts) (outs : List Effect) (o : Option Reply) → IsOwnReply (actor h.path) o → ServerOn v.server → NamingOn v.naming → Ok outs → By has (sends_answer from h v outs o)
     answered h v outs None own s n ok = tt
@@ -299,7 +300,7 @@ module _ (acts : List Action) (begun : AreBegun acts) (k : ℕ) (d : Disk) (t : 
 
     -- naming that tells nobody
     named_on : (m n : Naming) → t.naming ≡ Some m → n.told ≡ m.told → AreEntryRows acts n.objects → NamingOn (Some n)
-    named_on m n is same rows = (rows, λ o u at_o on. inl (m, is, ap (λ us. is_on us u) (sym same) ∙ ap (λ (q : Naming). is_on q.told u) (some_is at_o) ∙ on))
+    named_on m n is same rows = (rows, (λ o u at_o on. inl (m, is, ap (λ us. is_on us u) (sym same) ∙ ap (λ (q : Naming). is_on q.told u) (some_is at_o) ∙ on)), sym (ap is_some is))
 
     served_on : (ends : List (Uid × End)) → ((u : Uid) (e : End) → Contains {X = Uid × End} ends (u, e) → has u) → (s : Server) → AreCallRows acts s.objects × AreKeyed s.objects → ((u : Uid) → IsToldBy u ends t.server s) → ServerOn s
     served_on ends each s rows told = (rows, λ u is. ⊎_elim (λ old. inl old) (λ new. let e = end_in u ends new in inr (each u e.0 e.1)) (told u is))
@@ -386,15 +387,15 @@ module _ (acts : List Action) (begun : AreBegun acts) (k : ℕ) (d : Disk) (t : 
         acked_told false = (tt, tt)
 
         named : (o : Option Naming) → t.naming ≡ o → NamingOn (naming_told e.0 e.1 d.names o).part
-        named None at_none = (tt, λ o u no on. absurd (cc no))
-        named (Some m) at_m = (rows_told acts begun e.0 e.1 d.names m (its_rows m at_m), λ o u at_o on. new u (is_on m.told e.0) refl (ap (λ (q : Naming). is_on q.told u) (some_is at_o) ∙ on))
+        named None at_none = (tt, (λ o u no on. absurd (cc no)), sym (ap is_some at_none))
+        named (Some m) at_m = (rows_told acts begun e.0 e.1 d.names m (its_rows m at_m), (λ o u at_o on. new u (is_on m.told e.0) refl (ap (λ (q : Naming). is_on q.told u) (some_is at_o) ∙ on)), sym (ap is_some at_m))
           where
             new : (u : Uid) (b : Bool) → is_on m.told e.0 ≡ b → is_on (cond b (did_nothing m) (told_new e.0 (taken_end e.0 e.1 m) d.names m)).part.told u ≡ true → ((q : Naming) × (t.naming ≡ Some q) × (is_on q.told u ≡ true)) ⊎ has u
             new u true is on = inl (m, at_m, on)
             new u false is on = ⊎_elim (λ same. inr (subst has (sym same) mine)) (λ old. inl (m, at_m, old)) (on_with u e.0 m.told on)
 
     hello_on : (node inc : ℕ) (o : Option Naming) → t.naming ≡ o → NamingOn (naming_hello node inc o)
-    hello_on node inc None is = (tt, λ o u no on. absurd (cc no))
+    hello_on node inc None is = (tt, (λ o u no on. absurd (cc no)), sym (ap is_some is))
     hello_on node inc (Some m) is = named_on m (naming.hello node inc m) is refl (rows_hello acts begun node inc m (its_rows m is))
 
     module _ (hears : (a : Asked) (r : Reply) → Ok (heard from a r d.intents t.coord).outs) (acks : (u : Uid) → Ok (acked from u d.intents t.coord).outs) where

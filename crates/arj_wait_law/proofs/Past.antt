@@ -96,11 +96,11 @@ module _ (acts : List Action) (L N : ℕ → Option Parts) (to : (u : Uid) → I
   says_to : (p : Post) → SaysPast acts L p → SaysPast acts N p
   says_to p s = record { told = λ u e i. to u (s.told u e i); brings = λ u e i. to u (s.brings u e i); asks = s.asks }
 
-  told_to : (t : Parts) → ToldPast acts L t → ToldPast acts N t
-  told_to t h = record { calls = h.calls; keys = h.keys; entries = h.entries; server = λ u is. to u (h.server u is); naming = λ o u is on. to u (h.naming o u is on) }
+  told_to : (k : ℕ) (t : Parts) → ToldPast acts L k t → ToldPast acts N k t
+  told_to k t h = record { place = h.place; calls = h.calls; keys = h.keys; entries = h.entries; server = λ u is. to u (h.server u is); naming = λ o u is on. to u (h.naming o u is on) }
 
-  node_to : (n : Node) → IsPastNode acts L n → IsPastNode acts N n
-  node_to n h = record { store = h.store; names = h.names; live = λ t is. told_to t (h.live t is) }
+  node_to : (k : ℕ) (n : Node) → IsPastNode acts L k n → IsPastNode acts N k n
+  node_to k n h = record { store = h.store; names = h.names; live = λ t is. told_to k t (h.live t is) }
 
 -- ---- one work
 
@@ -138,11 +138,11 @@ module _ (acts : List Action) where
   -- ---- one node apart from the others
 
   abbrev Others : (ℕ → Option Parts) → ℕ → Seen → Type 0
-  Others L k M = (j : ℕ) (n : Node) → (j == k) ≡ false → M.nodes j ≡ Some n → IsPastNode acts L n
+  Others L k M = (j : ℕ) (n : Node) → (j == k) ≡ false → M.nodes j ≡ Some n → IsPastNode acts L j n
 
   -- what is known of the world, with this node so
   abbrev AtNode : ℕ → Disk → Option Parts → Seen → Type 0
-  AtNode k d live M = Others (live_put k live M.nodes) k M × ((p : Post) → In p M.sent → SaysPast acts (live_put k live M.nodes) p) × IsPastNode acts (live_put k live M.nodes) (record { number = k; disk = d; live = live })
+  AtNode k d live M = Others (live_put k live M.nodes) k M × ((p : Post) → In p M.sent → SaysPast acts (live_put k live M.nodes) p) × IsPastNode acts (live_put k live M.nodes) k (record { number = k; disk = d; live = live })
 
   at_node : (k : ℕ) (d : Disk) (live : Option Parts) (M : Seen) → ArePastIn acts (at k d live M) → AtNode k d live M
   at_node k d live M all = (
@@ -157,11 +157,11 @@ module _ (acts : List Action) where
   of_node : (k : ℕ) (d : Disk) (live : Option Parts) (M : Seen) → AtNode k d live M → ArePastIn acts (at k d live M)
   of_node k d live M w = subst (λ L. ArePast acts L M.sent (at k d live M).nodes) (sym (same_lives k d live M)) (record { posts = w.1; nodes = nodes })
     where
-      nodes : (j : ℕ) (n : Node) → (at k d live M).nodes j ≡ Some n → IsPastNode acts (live_put k live M.nodes) n
+      nodes : (j : ℕ) (n : Node) → (at k d live M).nodes j ≡ Some n → IsPastNode acts (live_put k live M.nodes) j n
       nodes j n is = by (j == k) refl is
         where
-          by : (b : Bool) → (j == k) ≡ b → cond b (Some (record { number = k; disk = d; live = live })) (M.nodes j) ≡ Some n → IsPastNode acts (live_put k live M.nodes) n
-          by true same e = subst (IsPastNode acts (live_put k live M.nodes)) (some_is e) w.2
+          by : (b : Bool) → (j == k) ≡ b → cond b (Some (record { number = k; disk = d; live = live })) (M.nodes j) ≡ Some n → IsPastNode acts (live_put k live M.nodes) j n
+          by true same e = subst (λ i. IsPastNode acts (live_put k live M.nodes) i n) (sym (eqb-true j k same)) (subst (IsPastNode acts (live_put k live M.nodes) k) (some_is e) w.2)
           by false off e = w.0 j n off e
 
   -- with another memory there
@@ -170,7 +170,7 @@ module _ (acts : List Action) where
 
   down_past : (e k : ℕ) (d : Disk) (live : Option Parts) (M : Seen) → Others (live_put k live M.nodes) k M → ((p : Post) → In p M.sent → SaysPast acts (live_put k live M.nodes) p) → Both acts d → ArePastIn acts (halted e k d M)
   down_past e k d live M o posts b = of_node k d None M (
-    (λ j n off is. node_to acts (live_put k live M.nodes) (live_put k None M.nodes) to n (o j n off is)),
+    (λ j n off is. node_to acts (live_put k live M.nodes) (live_put k None M.nodes) to j n (o j n off is)),
     (λ p i. says_to acts (live_put k live M.nodes) (live_put k None M.nodes) to p (posts p i)),
     record { store = b.0; names = b.1; live = λ t is. absurd (cc is) },
   )
@@ -186,9 +186,9 @@ module _ (acts : List Action) where
   EffectPast L k (Send to m) = SaysPast acts L (record { from = k; to = to; message = m })
   EffectPast L k (Do w) = MeansBegun acts (Do w)
 
-  walk : (e k : ℕ) (v : Parts) (outs : List Effect) (d : Disk) (M : Seen) → ToldPast acts (live_put k (Some v) M.nodes) v → Others (live_put k (Some v) M.nodes) k M → ((p : Post) → In p M.sent → SaysPast acts (live_put k (Some v) M.nodes) p) → Both acts d
+  walk : (e k : ℕ) (v : Parts) (outs : List Effect) (d : Disk) (M : Seen) → ToldPast acts (live_put k (Some v) M.nodes) k v → Others (live_put k (Some v) M.nodes) k M → ((p : Post) → In p M.sent → SaysPast acts (live_put k (Some v) M.nodes) p) → Both acts d
       → AllByRecursion (EffectPast (live_put k (Some v) M.nodes) k) outs → Walks (ArePastIn acts) e k outs (Up (ArePastIn acts) k v) d M
-  walk e k v [] d M its o posts b fine = of_node k d (Some v) M (o, posts, record { store = b.0; names = b.1; live = λ t is. subst (ToldPast acts (live_put k (Some v) M.nodes)) (some_is is) its })
+  walk e k v [] d M its o posts b fine = of_node k d (Some v) M (o, posts, record { store = b.0; names = b.1; live = λ t is. subst (ToldPast acts (live_put k (Some v) M.nodes) k) (some_is is) its })
   walk e k v (Do w ∷ es) d M its o posts b fine = (
     (λ how. down_past e k (stopped how w d) (Some v) M o posts (both_stopped how w d fine.0 b)),
     walk e k v es (worked w d) M its o posts (both_worked w d fine.0 b) fine.1,
@@ -295,7 +295,7 @@ module _ (acts : List Action) (e k : ℕ) (d : Disk) (t : Parts) (M : Seen) (goo
   abbrev here : AtNode acts k d (Some t) M
   here = at_node acts k d (Some t) M all
 
-  mine : ToldPast acts (live_put k (Some t) M.nodes) t
+  mine : ToldPast acts (live_put k (Some t) M.nodes) k t
   mine = let n = here.2 in n.live t refl
 
   disk : Both acts d
@@ -314,12 +314,12 @@ module _ (acts : List Action) (e k : ℕ) (d : Disk) (t : Parts) (M : Seen) (goo
   on : (v : Parts) → GoesOn t.coord v.coord → Decides t.coord.tree v.coord.tree → (u : Uid) → IsPast acts (live_put k (Some t) M.nodes) u → IsPast acts (live_put k (Some v) M.nodes) u
   on v g stands = put_on acts k (Some t) (Some v) M.nodes (λ u n c. closed_on t.coord v.coord g stands u c)
 
-  goes : (v : Parts) (outs : List Effect) → (to : (u : Uid) → IsPast acts (live_put k (Some t) M.nodes) u → IsPast acts (live_put k (Some v) M.nodes) u) → ToldPast acts (live_put k (Some v) M.nodes) v → AllByRecursion (EffectPast acts (live_put k (Some v) M.nodes) k) outs → Walks (ArePastIn acts) e k outs (Up (ArePastIn acts) k v) d M
-  goes v outs to its fine = walk acts e k v outs d M its (λ j n off is. node_to acts (live_put k (Some t) M.nodes) (live_put k (Some v) M.nodes) to n (here.0 j n off is)) (λ p i. says_to acts (live_put k (Some t) M.nodes) (live_put k (Some v) M.nodes) to p (here.1 p i)) disk fine
+  goes : (v : Parts) (outs : List Effect) → (to : (u : Uid) → IsPast acts (live_put k (Some t) M.nodes) u → IsPast acts (live_put k (Some v) M.nodes) u) → ToldPast acts (live_put k (Some v) M.nodes) k v → AllByRecursion (EffectPast acts (live_put k (Some v) M.nodes) k) outs → Walks (ArePastIn acts) e k outs (Up (ArePastIn acts) k v) d M
+  goes v outs to its fine = walk acts e k v outs d M its (λ j n off is. node_to acts (live_put k (Some t) M.nodes) (live_put k (Some v) M.nodes) to j n (here.0 j n off is)) (λ p i. says_to acts (live_put k (Some t) M.nodes) (live_put k (Some v) M.nodes) to p (here.1 p i)) disk fine
 
   -- with another coordinator
-  coord_told : (c : Coord) → ((u : Uid) → IsPast acts (live_put k (Some t) M.nodes) u → IsPast acts (live_put k (Some (with_coord t c)) M.nodes) u) → ToldPast acts (live_put k (Some (with_coord t c)) M.nodes) (with_coord t c)
-  coord_told c to = let w = told_to acts (live_put k (Some t) M.nodes) (live_put k (Some (with_coord t c)) M.nodes) to t mine in record { calls = w.calls; keys = w.keys; entries = w.entries; server = w.server; naming = w.naming }
+  coord_told : (c : Coord) → ((u : Uid) → IsPast acts (live_put k (Some t) M.nodes) u → IsPast acts (live_put k (Some (with_coord t c)) M.nodes) u) → ToldPast acts (live_put k (Some (with_coord t c)) M.nodes) k (with_coord t c)
+  coord_told c to = let w = told_to acts (live_put k (Some t) M.nodes) (live_put k (Some (with_coord t c)) M.nodes) to k t mine in record { place = w.place; calls = w.calls; keys = w.keys; entries = w.entries; server = w.server; naming = w.naming }
 
   abbrev Ok : List Effect → Type 0
   Ok outs = All acts outs × AllTell (IsOwnNamed acts k) outs
@@ -374,8 +374,9 @@ module _ (acts : List Action) (e k : ℕ) (d : Disk) (t : Parts) (M : Seen) (goo
       ends : (u : Uid) → HasEnd m u → IsPast acts (live_put k (Some v) M.nodes) u
       ends u h = on v g surely.1 u (⊎_elim (λ i. says.told u h.0 i) (λ i. says.brings u h.0 i) h.1)
 
-      its : ToldPast acts (live_put k (Some v) M.nodes) v
+      its : ToldPast acts (live_put k (Some v) M.nodes) k v
       its = record {
+        place = left.place ∙ mine.place;
         calls = left.holds.calls;
         keys = left.holds.keys;
         entries = left.holds.entries;
@@ -431,8 +432,9 @@ module _ (a : Action) (acts : List Action) (L N : ℕ → Option Parts) (to : (u
   says_more : (p : Post) → SaysPast acts L p → SaysPast (a ∷ acts) N p
   says_more p s = record { told = λ u e i. to u (s.told u e i); brings = λ u e i. to u (s.brings u e i); asks = about_more a acts p.to (asked_about p.message) s.asks }
 
-  told_more : (t : Parts) → ToldPast acts L t → ToldPast (a ∷ acts) N t
-  told_more t h = record {
+  told_more : (k : ℕ) (t : Parts) → ToldPast acts L k t → ToldPast (a ∷ acts) N k t
+  told_more k t h = record {
+    place = h.place;
     calls = all_each (λ (e : ℕ × Copy). (r : Row) → Contains (let c = e.1 in c.rows) r → IsCallRow acts r) (λ (e : ℕ × Copy). (r : Row) → Contains (let c = e.1 in c.rows) r → IsCallRow (a ∷ acts) r) (let s = t.server in s.objects) (λ e each r c. call_more a acts r (each r c)) h.calls;
     keys = h.keys;
     entries = rows_more a acts t.naming h.entries;
@@ -446,8 +448,8 @@ module _ (a : Action) (acts : List Action) (L N : ℕ → Option Parts) (to : (u
       each : (ps : List (Uid × List ObjectState)) → AllByRecursion (λ (e : Uid × List ObjectState). IsBegun acts e.0) ps → AllByRecursion (λ (e : Uid × List ObjectState). IsBegun (a ∷ acts) e.0) ps
       each ps all = all_each (λ (e : Uid × List ObjectState). IsBegun acts e.0) (λ (e : Uid × List ObjectState). IsBegun (a ∷ acts) e.0) ps (λ e b. begun_more a acts e.0 b) all
 
-  node_more : (n : Node) → IsPastNode acts L n → IsPastNode (a ∷ acts) N n
-  node_more n h = let b = both_more n.disk (h.store, h.names) in record { store = b.0; names = b.1; live = λ t is. told_more t (h.live t is) }
+  node_more : (k : ℕ) (n : Node) → IsPastNode acts L k n → IsPastNode (a ∷ acts) N k n
+  node_more k n h = let b = both_more n.disk (h.store, h.names) in record { store = b.0; names = b.1; live = λ t is. told_more k t (h.live t is) }
 
 -- the branch that begins is of a new action
 closed_begins : (how : Kind) (parent : Option Label) (l : Label) (c : Coord) (acts : List Action) (u : Uid) → IsNew (next_uid c.tree) acts → IsNamedBy acts u → ((b : Branch) → branch_of u c.tree ≡ Some b → is_some b.ended ≡ true)
@@ -490,9 +492,9 @@ module _ (acts : List Action) (e k : ℕ) (d : Disk) (t : Parts) (l : Label) (ho
 
   begin_past : (g : Labelled) → (let did = begin_action l how parent (parent_of parent t.coord) t.coord in Walks (ArePastIn (A ∷ acts)) e k did.outs (Up (ArePastIn (A ∷ acts)) k (with_coord t did.part)) d (given l g M))
   begin_past g = of_node (A ∷ acts) k d (Some behind) (said e (began_line l how (next_uid t.coord.tree) parent ∷ []) (given l g M)) (
-    (λ j n off is. node_more A acts from onto to_more n (h.0 j n off is)),
+    (λ j n off is. node_more A acts from onto to_more j n (h.0 j n off is)),
     (λ p i. says_more A acts from onto to_more p (h.1 p i)),
-    record { store = b.0; names = b.1; live = λ v is. subst (ToldPast (A ∷ acts) onto) (some_is is) (record { calls = w.calls; keys = w.keys; entries = w.entries; server = w.server; naming = w.naming }) },
+    record { store = b.0; names = b.1; live = λ v is. subst (ToldPast (A ∷ acts) onto k) (some_is is) (record { place = w.place; calls = w.calls; keys = w.keys; entries = w.entries; server = w.server; naming = w.naming }) },
   )
     where
       h : AtNode acts k d (Some t) M
@@ -501,8 +503,8 @@ module _ (acts : List Action) (e k : ℕ) (d : Disk) (t : Parts) (l : Label) (ho
       b : Both (A ∷ acts) d
       b = let n = h.2 in both_more A acts from onto to_more d (n.store, n.names)
 
-      w : ToldPast (A ∷ acts) onto t
-      w = told_more A acts from onto to_more t (let n = h.2 in n.live t refl)
+      w : ToldPast (A ∷ acts) onto k t
+      w = told_more A acts from onto to_more k t (let n = h.2 in n.live t refl)
 
 -- ---- restarts, and at first
 
@@ -516,8 +518,9 @@ back_all P each (Some o) = by o.objects
     by (e ∷ es) = all_both P (back_lines e.1) (flat_map (λ (z : ℕ × Named). back_lines z.1) es) (all_map P _ (let o = e.1 in o.rows) (λ r. each _)) (by es)
 
 -- a server and naming that start were told nothing
-starts_told : (acts : List Action) → AreBegun acts → (L : ℕ → Option Parts) (k inc : ℕ) (d : Disk) → Both acts d → ToldPast acts L (parts_in k inc d)
+starts_told : (acts : List Action) → AreBegun acts → (L : ℕ → Option Parts) (k inc : ℕ) (d : Disk) → Both acts d → ToldPast acts L k (parts_in k inc d)
 starts_told acts begun L k inc d b = record {
+  place = there (k == 1);
   calls = tt;
   keys = tt;
   entries = rows (k == 1);
@@ -525,6 +528,10 @@ starts_told acts begun L k inc d b = record {
   naming = λ o u is on. absurd (none (k == 1) o u is on);
 }
   where
+    there : (c : Bool) → is_some (cond c (Some (recovered_naming inc d.names)) None) ≡ c
+    there true = refl
+    there false = refl
+
     rows : (c : Bool) → AreNamesRows acts (cond c (Some (recovered_naming inc d.names)) None)
     rows true = rows_recovered acts begun inc d.names b.1
     rows false = tt
@@ -541,7 +548,7 @@ module _ (acts : List Action) (hd : Header) (e k : ℕ) (d : Disk) (M : Seen) (g
   I = live_put k (Some anew) M.nodes
 
   restart_past : Walks (ArePastIn acts) e k (restart_outs hd k (d.inc + 1) d) (Up (ArePastIn acts) k anew) d M
-  restart_past = walk acts e k anew (restart_outs hd k (d.inc + 1) d) d M (starts_told acts good.begun I k (d.inc + 1) d b) (λ j n off is. node_to acts (live_put k None M.nodes) I to n (h.0 j n off is)) (λ p i. says_to acts (live_put k None M.nodes) I to p (h.1 p i)) b
+  restart_past = walk acts e k anew (restart_outs hd k (d.inc + 1) d) d M (starts_told acts good.begun I k (d.inc + 1) d b) (λ j n off is. node_to acts (live_put k None M.nodes) I to j n (h.0 j n off is)) (λ p i. says_to acts (live_put k None M.nodes) I to p (h.1 p i)) b
       (all_both P four hellos (all_both P three queries (all_both P two tolds (all_both P one records (tt, (tt, (tt, (tt, back_all P (λ b. tt) (naming_at k (d.inc + 1) d.names))))) (tt, all_map P (λ (e : Uid × Intent). Say (body.Recovered k e.0)) d.intents (λ e. tt)))
       (effects acts k anew M.nodes now tolds (sure_records (new_tree k (d.inc + 1)) d.intents now.sure.records) (tell_records (IsOwnNamed acts k) d.intents (records_named acts k d.intents disk.tops owned)) (again_means acts d.intents)))
       (effects acts k anew M.nodes now queries (says_queries (new_tree k (d.inc + 1)) us) (tell_queries (IsOwnNamed acts k) us) (queries_mean acts us prepared)))
@@ -611,7 +618,7 @@ module _ (acts : List Action) (hd : Header) (e k : ℕ) (d : Disk) (M : Seen) (g
 first_past : (hd : Header) → ArePastIn [] (see [] (format hd))
 first_past hd = record {
   posts = λ p i. absurd i;
-  nodes = λ k n is. subst (IsPastNode [] L) (first_at hd k n is) (record { store = tt; names = tt; live = λ t up_it. subst (ToldPast [] L) (some_is up_it) (starts_told [] tt L k 1 (first_disk hd k) (tt, tt)) });
+  nodes = λ k n is. subst (IsPastNode [] L k) (first_at hd k n is) (record { store = tt; names = tt; live = λ t up_it. subst (ToldPast [] L k) (some_is up_it) (starts_told [] tt L k 1 (first_disk hd k) (tt, tt)) });
 }
   where
     L : ℕ → Option Parts

@@ -103,7 +103,7 @@ module _ (acts : List Action) (M : Seen) (good : IsGoodOf acts M) (k : ℕ) (n :
       never yes_it no_it = let no_way : true ≡ false = sym yes_it ∙ no_it in cc no_way
 
   module _ (past : ArePastIn acts M) (j : ℕ) (m : Node) (v : Parts) (at_j : M.nodes j ≡ Some m) (up_j : m.live ≡ Some v) (u : Uid) (p : Path) (asks : IsAsking t.coord.tree u p) where
-    told_there : ToldPast acts (λ j. live_in (M.nodes j)) v
+    pub told_there : ToldPast acts (λ j. live_in (M.nodes j)) j v
     told_there = let x = past.nodes j m at_j in x.live v up_j
 
     -- so no server was told of it, nor naming

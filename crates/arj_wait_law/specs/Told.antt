@@ -10,7 +10,7 @@ use Rattle.arj_protocol.specs.World as world
 use Rattle.arj_protocol.specs.World.{format, run_all}
 use Rattle.arj_part_law.specs.Actions.{Action}
 use Rattle.arj_part_law.specs.Ends.{brought, told_by}
-use Rattle.arj_disk_run_law.specs.Places.{AreBegunIn, AreCallRows, AreKeyed, AreNamesRows, AsksBegun}
+use Rattle.arj_disk_run_law.specs.Places.{AreBegunIn, AreCallRows, AreKeyed, AreNamesRows, AsksBegun, HasNaming}
 use Rattle.arj_run_law.specs.Worlds.{IsGoodOf}
 use Rattle.arj_view_law.specs.Keeps.{Holds, Keeps}
 use Rattle.arj_view_law.specs.Seen.{In, Post, Seen}
@@ -38,8 +38,9 @@ pub record SaysPast (acts : List Action) (lives : ℕ → Option Parts) (p : Pos
   pub brings : (u : Uid) (e : End) → Contains (brought p.message) (u, e) → IsPast acts lives u
   pub asks : AsksBegun acts p.to p.message
 
--- A node that is up: locks there are of actions that were begun, and whoever was told to have ended is past.
-pub record ToldPast (acts : List Action) (lives : ℕ → Option Parts) (t : Parts) : Type 0 where
+-- A node that is up: naming is at node 1, locks are of actions that were begun, and whoever was told to have ended is past.
+pub record ToldPast (acts : List Action) (lives : ℕ → Option Parts) (k : ℕ) (t : Parts) : Type 0 where
+  pub place : HasNaming k t
   pub calls : AreCallRows acts (let s = t.server in s.objects)
   pub keys : AreKeyed (let s = t.server in s.objects)
   pub entries : AreNamesRows acts t.naming
@@ -47,15 +48,15 @@ pub record ToldPast (acts : List Action) (lives : ℕ → Option Parts) (t : Par
   pub naming : (o : Naming) (u : Uid) → t.naming ≡ Some o → is_on o.told u ≡ true → IsPast acts lives u
 
 -- and who has something prepared on its disk was begun
-pub record IsPastNode (acts : List Action) (lives : ℕ → Option Parts) (n : Node) : Type 0 where
+pub record IsPastNode (acts : List Action) (lives : ℕ → Option Parts) (k : ℕ) (n : Node) : Type 0 where
   pub store : AreBegunIn acts (let d = n.disk in d.store)
   pub names : AreBegunIn acts (let d = n.disk in d.names)
-  pub live : (t : Parts) → n.live ≡ Some t → ToldPast acts lives t
+  pub live : (t : Parts) → n.live ≡ Some t → ToldPast acts lives k t
 
 -- So it is at each node, and of each message that was sent.
 pub record ArePast (acts : List Action) (lives : ℕ → Option Parts) (sent : List Post) (found : ℕ → Option Node) : Type 0 where
   pub posts : (p : Post) → In p sent → SaysPast acts lives p
-  pub nodes : (k : ℕ) (n : Node) → found k ≡ Some n → IsPastNode acts lives n
+  pub nodes : (k : ℕ) (n : Node) → found k ≡ Some n → IsPastNode acts lives k n
 
 abbrev pub ArePastIn : List Action → Seen → Type 0
 ArePastIn acts M = ArePast acts (λ j. live_in (M.nodes j)) M.sent M.nodes
