@@ -1,22 +1,24 @@
 -- What is known of whoever waits gives that requests are answered, with what is still to be given.
-use Rattle.std.proofs.Common.{◌≡◌, ◌∙◌, ℕ, Bool, true, false, cond, List, [], map, refl, sym, ap, subst, Option, Some, None}
-use Rattle.std.specs.Prelude.{option_map}
+use Rattle.std.proofs.Common.{◌≡◌, ◌∙◌, ℕ, Bool, true, false, cond, List, [], map, refl, sym, ap, subst, Option, Some, None, ⊎_elim, eqb-true, ◌==◌, ◌∷◌, ◌<◌, arith}
+use Rattle.std.specs.Prelude.{◌&&◌, ◌||◌, is_some, not, option_map}
+use Rattle.std.specs.List.{AllByRecursion}
+use Rattle.std.proofs.lemmas.Bool.{false_from_ne_true, or_cases}
 use Rattle.arj_protocol.specs.Words as words
 use Rattle.arj_protocol.specs.Words.{Ask, Binding, End, Head, Header, Op, Path, Uid, asks}
 use Rattle.arj_protocol.specs.Words.ask
 use Rattle.arj_protocol.specs.Ask.{actor}
-use Rattle.arj_protocol.specs.Call.{At, AtActivate, AtBind, AtInvoke, AtLoad, AtNote, Steps, ask_at, invoked_op, is_include, next_ask}
-use Rattle.arj_protocol.specs.Commit.{Confirming, Machine, Preparing, Used, Voting, ask_of, confirm_ask, included_of, plan_of, states_for, vote_ask}
+use Rattle.arj_protocol.specs.Call.{At, AtActivate, AtBind, AtInvoke, AtLoad, AtNote, Steps, ask_at, invoked_op, is_include, next_ask, node_at}
+use Rattle.arj_protocol.specs.Commit.{Confirming, Machine, Preparing, Used, Voting, ask_of, confirm_ask, included_of, left_of, plan_of, states_for, vote_ask}
 use Rattle.arj_protocol.specs.Coord.{Calling, Committing, Coord, Doing, doing_of}
 use Rattle.arj_protocol.specs.Effect.{Disk, prepare_answer}
 use Rattle.arj_protocol.specs.Naming.{Naming, is_over}
-use Rattle.arj_protocol.specs.Node.{Parts, ask_is_meant, serve, taken}
+use Rattle.arj_protocol.specs.Node.{Parts, ask_is_meant, stand_once, serve, taken}
 use Rattle.arj_protocol.specs.Server.{has_ended}
 use Rattle.arj_protocol.specs.Step.{Node}
 use Rattle.arj_protocol.specs.Tree.{at_place, is_own}
 use Rattle.arj_part_law.specs.Actions.{Action}
 use Rattle.arj_part_law.specs.Coords.{IsAsking, IsBusy}
-use Rattle.arj_part_law.specs.Requests.{IsNumbered}
+use Rattle.arj_part_law.specs.Requests.{AreOnce, IsNumbered}
 use Rattle.arj_call_law.specs.Coords.{IsOfStep, bare, head_of}
 use Rattle.arj_run_law.specs.Worlds.{IsGoodOf}
 use Rattle.arj_view_law.specs.Seen.{In, Post, Seen, up}
@@ -25,6 +27,9 @@ use Rattle.arj_address_law.proofs.Lists.{some_is}
 use Rattle.arj_lock_fact_law.specs.Requests.{IsAskedBy}
 use Rattle.arj_round_law.specs.Rounds.{HasCome, IsVoid}
 use Rattle.arj_round_law.specs.Waits.{IsOvertaken, IsSaid, coord_in, coord_of, want_of_call, want_of_commit}
+use Rattle.arj_disk_run_law.specs.Entries.{IsEntryNode, KnowsEntries}
+use Rattle.arj_lock_fact_law.specs.Entries.{HasObject}
+use Rattle.arj_protocol.specs.Order.{at_number, has}
 use Rattle.arj_wait_law.specs.Told.{ArePastIn}
 use Rattle.arj_wait_law.specs.Waits.{KnownGive, LeftOfCommit, LeftOfStep, WaitsAreKnown}
 use Rattle.arj_wait_law.proofs.Replies.{activate_answers, bind_answers, confirm_answers, invoke_answers, load_answers, prepare_answers, record_answers, taken_void, vote_answers}
@@ -61,6 +66,23 @@ same_invoke (ask.Vote k ties ends) x b i o is = absurd (cc is)
 same_invoke (ask.Prepare states) x b i o is = absurd (cc is)
 same_invoke (ask.Confirm g y z) x b i o is = absurd (cc is)
 
+-- ---- a Confirm
+
+-- objects that stand in order stand once
+abbrev grants_of : List Used → List (ℕ × ℕ)
+grants_of us = map {A = Used} {B = ℕ × ℕ} (λ u. (u.x, u.grant)) us
+
+stand_above : (n : ℕ) (us : List Used) → AllByRecursion (λ (v : Used). n < v.x) us → has (map (λ (g : ℕ × ℕ). g.0) (grants_of us)) n ≡ false
+stand_above n [] all = refl
+stand_above n (v ∷ us) all = λ i. false_from_ne_true (v.x == n) (λ e. apart n v.x all.0 (eqb-true v.x n e)) i || stand_above n us all.1 i
+  where
+    apart : (n m : ℕ) → n < m → m ≡ n → ⊥
+    apart n m less same = omega (arith, less, same)
+
+stand_in_order : (us : List Used) → AreOnce us → stand_once (map (λ (g : ℕ × ℕ). g.0) (grants_of us)) ≡ true
+stand_in_order [] all = refl
+stand_in_order (u ∷ us) all = λ i. not (stand_above u.x us all.0 i) && stand_in_order us all.1 i
+
 -- ---- a request that has come
 
 -- whose coordinator this is
@@ -91,13 +113,13 @@ own_of u c q is = by (is_own u c.tree) is
 
 module _ (hd : Header) (M : Seen) (known : WaitsAreKnown hd M) (j : ℕ) (u : Uid) (c : Coord) (q : Doing) (does : doing_of u c ≡ Some q) where
   abbrev begun : List Action
-  begun = let e = known.0.0 in e.0
+  begun = let e = known.0.0.0 in e.0
 
   abbrev good : IsGoodOf begun M
-  good = let e = known.0.0 in e.1
+  good = let e = known.0.0.0 in e.1
 
   abbrev past : ArePastIn begun M
-  past = let e = known.0.0 in e.2
+  past = let e = known.0.0.0 in e.2
 
   module _ (k : ℕ) (at_k : IsAt M k c) where
     does_there : doing_of u (let t = at_k.parts in t.coord) ≡ Some q
@@ -111,7 +133,7 @@ module _ (hd : Header) (M : Seen) (known : WaitsAreKnown hd M) (j : ℕ) (u : Ui
 
     -- the last request of the action is of what waits
     asked_last : (p : Post) (h : Head) (a : Ask) → In p M.sent → p.from ≡ k → asks p.message ≡ Some (h, a) → actor h.path ≡ u → IsAskedBy (let t = at_k.parts in t.coord) p.to h a
-    asked_last p h a sent from is by_u = known.0.1.1 k at_k.node at_k.parts at_k.found at_k.live p h a sent from is (ap (λ w. is_own w (let t = at_k.parts in t.coord.tree)) by_u ∙ own_of u (let t = at_k.parts in t.coord) q does_there)
+    asked_last p h a sent from is by_u = known.0.0.1.1 k at_k.node at_k.parts at_k.found at_k.live p h a sent from is (ap (λ w. is_own w (let t = at_k.parts in t.coord.tree)) by_u ∙ own_of u (let t = at_k.parts in t.coord) q does_there)
 
   -- its own entry is the one that is found
   same_doing : (k : ℕ) (at_k : IsAt M k c) (p : Post) (h : Head) (a : Ask) → actor h.path ≡ u → (x : IsAskedBy (let t = at_k.parts in t.coord) p.to h a) → q ≡ x.doing
@@ -133,6 +155,24 @@ module _ (hd : Header) (j : ℕ) (d : Disk) (t : Parts) (M : Seen) (known : Wait
 
     untold_naming_here : (o : Naming) → t.naming ≡ Some o → is_over p o ≡ false
     untold_naming_here o is = naming_untold (begun hd W known j u c q does) W (good hd W known j u c q does) k at_k.node at_k.parts at_k.found at_k.live (past hd W known j u c q does) j here t (node_here M j here) refl u p asking o is
+
+  -- naming is there where a request to it comes
+  naming_here : j ≡ 1 → (o : Naming) × (t.naming ≡ Some o)
+  naming_here one = by t.naming refl (place ∙ ap (λ i. i == 1) one)
+    where
+      place : is_some t.naming ≡ (j == 1)
+      place = let n = (past hd W known j u c q does).nodes j here (node_here M j here) in let l = n.live t refl in l.place
+
+      by : (o : Option Naming) → t.naming ≡ o → is_some o ≡ true → (m : Naming) × (t.naming ≡ Some m)
+      by None is there = absurd (cc there)
+      by (Some m) is there = (m, is)
+
+  -- and it has each object of the header
+  object_here : j ≡ 1 → (o : Naming) → t.naming ≡ Some o → (x : ℕ) → HasObject hd x → is_some (at_number x o.objects) ≡ true
+  object_here one o is x has = (subst (λ n. KnowsEntries x n d.names) is (entries.live t refl)).there
+    where
+      entries : IsEntryNode x here
+      entries = known.1.1 x has here (ap W.nodes (sym one) ∙ node_here M j here)
 
   -- a call
   module _ (s : Steps) (now : q.now ≡ Calling s) (h : HasCome j W c (want_of_call u s)) where
@@ -157,6 +197,9 @@ module _ (hd : Header) (j : ℕ) (d : Disk) (t : Parts) (M : Seen) (known : Wait
     asking_call : IsAsking (let x = at_it.parts in x.coord.tree) u s.path
     asking_call = subst (IsBusy (let x = at_it.parts in x.coord.tree) u) now (busy hd W known j u c q does from at_it)
 
+    object_there : HasObject hd s.x
+    object_there = let w = known.1.0.1 in w.works from at_it.node at_it.parts at_it.found at_it.live u q s (ap (doing_of u) at_it.same ∙ does) now
+
     -- it is void only where its part doesn't answer
     unserved : IsVoid (taken j d t from (let p = h.post in p.message)) → (a : Ask) → (let x = h.asks in x.ask) ≡ a → ask_is_meant t.server a ≡ true → IsVoid (serve j d t from (head_of s) a)
     unserved void_it a is meant = subst (λ (z : Head). IsVoid (serve j d t from z a)) of_step.head (subst (λ (z : Ask). IsVoid (serve j d t from (let x = h.asks in x.head) z)) is
@@ -169,17 +212,19 @@ module _ (hd : Header) (j : ℕ) (d : Disk) (t : Parts) (M : Seen) (known : Wait
         same_ask a plain is = same_bare (let x = h.asks in x.ask) a plain (of_step.same ∙ is)
 
         by : (at : At) → s.at ≡ at → LeftOfStep d t M s at → IsOvertaken (IsSaid M.lines) s
-        by (AtBind avoid) is l = absurd (bind_answers j d t from (head_of s) s.x (is_include s.goal) avoid l.0 l.1 (untold_naming_here from at_it s.path asking_call l.0 l.1) l.2
+        by (AtBind avoid) is l = let one = sym h.node ∙ ap node_at is in let o = naming_here one in
+            absurd (bind_answers j d t from (head_of s) s.x (is_include s.goal) avoid o.0 o.1 (untold_naming_here from at_it s.path asking_call o.0 o.1) (object_here one o.0 o.1 s.x object_there)
             (unserved void_it (ask.Bind s.x (is_include s.goal) avoid) (same_ask (ask.Bind s.x (is_include s.goal) avoid) refl (ap (ask_at s.x s.goal []) is)) refl))
         by (AtLoad k n rest) is l = absurd (load_answers j d t from (head_of s) s.x l (unserved void_it (ask.Load s.x) (same_ask (ask.Load s.x) refl (ap (ask_at s.x s.goal []) is)) refl))
         by (AtActivate k st) is l = activate_answers j d t from (head_of s) k.binding st (untold_server_here from at_it s.path asking_call) l.1 (unserved void_it (ask.Activate k.binding st) (same_ask (ask.Activate k.binding st) refl (ap (ask_at s.x s.goal []) is)) l.0)
-        by (AtNote k i) is l = record_answers j d t from (head_of s) s.x k.binding i k.grant l.0.0 l.0.1 (untold_naming_here from at_it s.path asking_call l.0.0 l.0.1) l.0.2 (λ v at_v ours none. l.1 l.0.0 v l.0.1 at_v ours none)
+        by (AtNote k i) is l = let one = sym h.node ∙ ap node_at is in let o = naming_here one in
+            record_answers j d t from (head_of s) s.x k.binding i k.grant o.0 o.1 (untold_naming_here from at_it s.path asking_call o.0 o.1) (object_here one o.0 o.1 s.x object_there) (λ v at_v ours none. l o.0 v o.1 at_v ours none)
             (unserved void_it (ask.Record s.x k.binding i k.grant) (same_ask (ask.Record s.x k.binding i k.grant) refl (ap (ask_at s.x s.goal []) is)) refl)
         by (AtInvoke k i) is l = let e = same_invoke (let x = h.asks in x.ask) s.x k.binding i (invoked_op s.goal) (of_step.same ∙ ap (ask_at s.x s.goal []) is) in
             absurd (invoke_answers j d t from (head_of s) s.x k.binding i e.0 (invoked_op s.goal) (untold_server_here from at_it s.path asking_call) l.1 (unserved void_it (ask.Invoke s.x k.binding i e.0 (invoked_op s.goal)) e.1 l.0))
 
   -- a commit
-  module _ (m : Machine) (n : ℕ) (now : q.now ≡ Committing m) (h : HasCome j W c (want_of_commit u m n)) where
+  module _ (m : Machine) (n : ℕ) (now : q.now ≡ Committing m) (waits : has (left_of m) n ≡ true) (h : HasCome j W c (want_of_commit u m n)) where
     abbrev from_it : ℕ
     from_it = let p = h.post in p.from
 
@@ -215,13 +260,17 @@ module _ (hd : Header) (j : ℕ) (d : Disk) (t : Parts) (M : Seen) (known : Wait
         by (Voting p nodes) is l path = vote_answers j d t from_it (let x = h.asks in x.head) _ _ p.ends (untold_server_here from_it at_its (let a = h.asks in a.head.path) asking_commit) (unserved_commit void_it (vote_ask p n) (ap (λ x. ask_of x n) is) refl)
         by (Preparing p nodes) is l path = prepare_answers j d t from_it (let x = h.asks in x.head) (states_for n p) (λ w already. l.1 w (ap (λ z. prepare_answer (actor z) (states_for n p) d.store) (sym (path ∙ ap (λ x. let y = plan_of x in y.path) is)) ∙ already))
             (unserved_commit void_it (ask.Prepare (states_for n p)) (ap (λ x. ask_of x n) is) l.0)
-        by (Confirming p) is l path = confirm_answers j d t from_it (let x = h.asks in x.head) (map {A = Used} {B = ℕ × ℕ} (λ z. (z.x, z.grant)) p.used) p.excluded (included_of p) l.1.0 l.1.1 (untold_naming_here from_it at_its (let a = h.asks in a.head.path) asking_commit l.1.0 l.1.1) l.1.2
-            (unserved_commit void_it (confirm_ask p) (ap (λ x. ask_of x n) is) l.0)
+        by (Confirming p) is l path = let one = sym h.node ∙ only n (ap (λ x. has (left_of x) n) (sym is) ∙ waits) in let o = naming_here one in
+            confirm_answers j d t from_it (let x = h.asks in x.head) (map {A = Used} {B = ℕ × ℕ} (λ z. (z.x, z.grant)) p.used) p.excluded (included_of p) o.0 o.1 (untold_naming_here from_it at_its (let a = h.asks in a.head.path) asking_commit o.0 o.1) (l o.0 o.1)
+            (unserved_commit void_it (confirm_ask p) (ap (λ x. ask_of x n) is) (stand_in_order p.used (subst (λ (x : Machine). AreOnce (let y = plan_of x in y.used)) is (subst (IsNumbered q.req) now (number hd W known j u c q does from_it at_its)).1.0)))
+          where
+            only : (n : ℕ) → has (1 ∷ []) n ≡ true → n ≡ 1
+            only n is = ⊎_elim (λ one. sym (eqb-true 1 n one)) (λ no. absurd (cc no)) (or_cases (1 == n) false is)
 
 pub known_give : KnownGive
 known_give hd form test rest = record {
-  within = λ M p r sent. let k = r.0.1 in let so = k.1 in let z = so.1 p sent in z.1;
+  within = λ M p r sent. let k = r.0.0.1 in let so = k.1 in let z = so.1 p sent in z.1;
   calls = λ j d t M c u q s r does now h void_it. call_given hd j d t M r.0 c u q does s now h (rest.calls j d t M c u q s r does now h) void_it;
   meant = rest.meant;
-  commits = λ j d t M c u q m n r does now left h void_it. commit_given hd j d t M r.0 c u q does m n now h (rest.commits j d t M c u q m n r does now left h) void_it;
+  commits = λ j d t M c u q m n r does now left h void_it. commit_given hd j d t M r.0 c u q does m n now left h (rest.commits j d t M c u q m n r does now left h) void_it;
 }

@@ -18,13 +18,24 @@ use Rattle.arj_view_law.specs.Keeps.{KeepsAsked}
 use Rattle.arj_view_law.specs.Seen.{Seen, given}
 use Rattle.arj_view_law.specs.Walks.{Up, Walks}
 use Rattle.arj_view_law.proofs.Happens.{keeps_asked}
-use Rattle.arj_view_law.proofs.Together.{walks_both}
+use Rattle.arj_view_law.proofs.Together.{walks_both, walks_each}
+use Rattle.arj_run_law.specs.Worlds.{IsGood}
+use Rattle.arj_call_law.proofs.Given.{KeepsGiven, kept_both}
+use Rattle.arj_address_law.specs.Binds.{BindsAreKnown}
+use Rattle.arj_address_law.proofs.BindRuns.{binds_keep}
+use Rattle.arj_disk_run_law.specs.Entries.{HaveEntries}
+use Rattle.arj_disk_run_law.proofs.EntryKeeps.{keeps_entries}
+use Rattle.arj_lock_fact_law.specs.Acts.{KeepsOf}
+use Rattle.arj_lock_fact_law.specs.Entries.{HasObject}
+use Rattle.arj_lock_fact_law.proofs.Entries.{entries_keep}
+use Rattle.arj_lock_whole_law.specs.Called.{CallsAreOfHeader}
+use Rattle.arj_lock_whole_law.proofs.CalledWalks.{called_of}
 use Rattle.arj_address_law.specs.Addresses.{AreAddressed, AreOf, IsNode, LineOf}
 use Rattle.arj_address_law.proofs.Runs.{so_kept}
 use Rattle.arj_lock_fact_law.specs.Requests.{RequestsAreKnown}
 use Rattle.arj_lock_fact_law.proofs.Requests.{requests_keep}
 use Rattle.arj_wait_law.specs.Told.{EndsArePast}
-use Rattle.arj_wait_law.specs.Waits.{HandlersKeepWaits}
+use Rattle.arj_wait_law.specs.Waits.{HandlersKeepWaits, ObjectsAreKnown}
 use Rattle.arj_wait_law.proofs.Past.{past_keep}
 
 -- ---- two relations
@@ -71,5 +82,48 @@ module _ (hd : Header) (form : HeaderInForm hd) where
   addressed : KeepsAsked hd (AreAddressed hd)
   addressed = so_kept Fits fits_one hd (λ s is. is) (lines hd.objects form.objects.0)
 
+-- ---- objects
+
+-- one for each of many
+asked_each : {A : Type 0} (hd : Header) (P : A → Seen → Type 0) → ((x : A) → KeepsAsked hd (P x)) → KeepsAsked hd (λ M. (x : A) → P x M)
+asked_each {A} hd P each = record {
+  quiet = λ e bs M quiet p x. (each x).quiet e bs M quiet (p x);
+  stop = λ e k d live M p x. (each x).stop e k d live M (p x);
+  message = λ e k d t v from m outs M p there meant is. many e k outs v d M (λ x. (each x).message e k d t v from m outs M (p x) there meant is);
+  act = λ e k d t i M is asks free p. let did = acts i d.intents t.coord in many e k did.outs (with_coord t did.part) d M (λ x. (each x).act e k d t i M is asks free (p x));
+  begin = λ e k d t l how parent M new may free p.
+      let did = begin_action l how parent (parent_of parent t.coord) t.coord in
+      many e k did.outs (with_coord t did.part) d (given l (record { node = k; serial = is_serial_kind how }) M) (λ x. (each x).begin e k d t l how parent M new may free (p x));
+  tick = λ e k d t M p. many e k (tick_outs (record { number = k; disk = d; live = Some t }) t) (with_coord t (again_all t.coord.doings t.coord).part) d M (λ x. (each x).tick e k d t M (p x));
+  restart = λ e k d M p. many e k (restart_outs hd k (d.inc + 1) d) (parts_in k (d.inc + 1) d) d M (λ x. (each x).restart e k d M (p x));
+  first = λ x. (each x).first;
+}
+  where
+    many : (e k : ℕ) (outs : List Effect) (v : Parts) (d : Disk) (M : Seen) → ((x : A) → Walks (P x) e k outs (Up (P x) k v) d M) → Walks (λ N. (x : A) → P x N) e k outs (Up (λ N. (x : A) → P x N) k v) d M
+    many e k outs v d M walks = walks_each P e k outs (λ x. Up (P x) k v) d M walks
+
+-- calls are on objects of the header, beside good nodes and known Binds
+called_given : (hd : Header) → KeepsGiven hd (λ M. IsGood M × BindsAreKnown M) (CallsAreOfHeader hd)
+called_given hd = record {
+  quiet = λ e bs M quiet g p. one.quiet g.0.0 e bs M quiet g.1 g.0.1 p;
+  stop = λ e k d live M g p. one.stop g.0.0 e k d live M g.1 g.0.1 p;
+  message = λ e k d t v from m outs M g p there meant is. one.message g.0.0 e k d t v from m outs M g.1 g.0.1 p there meant is;
+  act = λ e k d t i M is free g p. one.act g.0.0 e k d t i M is free g.1 g.0.1 p;
+  begin = λ e k d t l how parent M new may free g p. one.begin g.0.0 e k d t l how parent M new may free g.1 g.0.1 p;
+  tick = λ e k d t M g p. one.tick g.0.0 e k d t M g.1 g.0.1 p;
+  restart = λ e k d M g p. one.restart g.0.0 e k d M g.1 g.0.1 p;
+  first = one.first;
+}
+  where
+    one : KeepsOf hd (λ acts M. BindsAreKnown M) (λ acts M. CallsAreOfHeader hd M)
+    one = called_of hd
+
+objects_keep : (hd : Header) → KeepsAsked hd (ObjectsAreKnown hd)
+objects_keep hd = asked_both hd (λ M. (IsGood M × BindsAreKnown M) × CallsAreOfHeader hd M) (λ M. (x : ℕ) → HasObject hd x → HaveEntries x M)
+    (keeps_asked hd (λ M. (IsGood M × BindsAreKnown M) × CallsAreOfHeader hd M) (kept_both hd (λ M. IsGood M × BindsAreKnown M) (CallsAreOfHeader hd) (binds_keep hd) (called_given hd)))
+    (asked_each {A = ℕ} hd (λ x M. HasObject hd x → HaveEntries x M) (λ x. asked_each {A = HasObject hd x} hd (λ has M. HaveEntries x M) (λ has. keeps_asked hd (HaveEntries x) (keeps_entries x hd (let k = entries_keep hd x has in k.first)))))
+
 pub waits_keep : HandlersKeepWaits
-waits_keep hd form = asked_both hd (λ M. EndsArePast M × RequestsAreKnown M) (AreAddressed hd) (asked_both hd EndsArePast RequestsAreKnown (keeps_asked hd EndsArePast (past_keep hd)) (keeps_asked hd RequestsAreKnown (requests_keep hd))) (addressed hd form)
+waits_keep hd form = asked_both hd (λ M. (EndsArePast M × RequestsAreKnown M) × AreAddressed hd M) (ObjectsAreKnown hd)
+    (asked_both hd (λ M. EndsArePast M × RequestsAreKnown M) (AreAddressed hd) (asked_both hd EndsArePast RequestsAreKnown (keeps_asked hd EndsArePast (past_keep hd)) (keeps_asked hd RequestsAreKnown (requests_keep hd))) (addressed hd form))
+    (objects_keep hd)

@@ -6,16 +6,21 @@ use Rattle.arj_protocol.specs.Words.{Header, Uid, object}
 use Rattle.arj_protocol.specs.Ask.{Reply, actor, answers, top_of}
 use Rattle.arj_protocol.specs.Asking.{waits_for_call}
 use Rattle.arj_protocol.specs.Call.{At, AtActivate, AtBind, AtInvoke, AtLoad, AtNote, Known, Steps, invoked_op}
-use Rattle.arj_protocol.specs.Commit.{Confirming, Machine, Preparing, Used, Voting, confirm_ask, left_of, states_for}
+use Rattle.arj_protocol.specs.Commit.{Confirming, Machine, Preparing, Used, Voting, left_of, states_for}
 use Rattle.arj_protocol.specs.Confirm.{has_all}
 use Rattle.arj_protocol.specs.Coord.{Calling, Committing, Coord, Doing, doing_of}
 use Rattle.arj_protocol.specs.Effect.{Already, Disk, held_at, holder_of, prepare_answer}
 use Rattle.arj_protocol.specs.Named.{Named, note_named}
 use Rattle.arj_protocol.specs.Naming.{Naming}
-use Rattle.arj_protocol.specs.Node.{Parts, are_of_objects, ask_is_meant, copy_has_op, is_object, reply_is_meant}
+use Rattle.arj_protocol.specs.Node.{Parts, are_of_objects, copy_has_op, is_object, reply_is_meant}
 use Rattle.arj_protocol.specs.Order.{at_number, at_uid, binding_less, has}
 use Rattle.arj_protocol.specs.Server.{active_binding, is_below}
 use Rattle.arj_address_law.specs.Addresses.{AreAddressed}
+use Rattle.arj_address_law.specs.Binds.{BindsAreKnown}
+use Rattle.arj_disk_run_law.specs.Entries.{HaveEntries}
+use Rattle.arj_lock_fact_law.specs.Entries.{HasObject}
+use Rattle.arj_lock_whole_law.specs.Called.{CallsAreOfHeader}
+use Rattle.arj_run_law.specs.Worlds.{IsGood}
 use Rattle.arj_lock_fact_law.specs.Requests.{RequestsAreKnown}
 use Rattle.arj_view_law.specs.Keeps.{KeepsAsked}
 use Rattle.arj_view_law.specs.Seen.{In, Post, Seen, up}
@@ -23,19 +28,20 @@ use Rattle.arj_round_law.specs.Rounds.{AnswersWaits, HasCome}
 use Rattle.arj_round_law.specs.Waits.{IsOvertaken, IsSaid, want_of_call, want_of_commit}
 use Rattle.arj_wait_law.specs.Told.{EndsArePast}
 
--- What is known in every run: whoever was told to have ended has ended; requests are of what waits; and messages go to nodes of the header.
+-- What calls wait for are objects of the header, and naming has each of these.
+abbrev pub ObjectsAreKnown : Header → Seen → Type 0
+ObjectsAreKnown hd M = ((IsGood M × BindsAreKnown M) × CallsAreOfHeader hd M) × ((x : ℕ) → HasObject hd x → HaveEntries x M)
+
+-- What is known in every run: whoever was told to have ended has ended; requests are of what waits; messages go to nodes of the header; and
+-- calls are on its objects.
 abbrev pub WaitsAreKnown : Header → Seen → Type 0
-WaitsAreKnown hd M = (EndsArePast M × RequestsAreKnown M) × AreAddressed hd M
+WaitsAreKnown hd M = ((EndsArePast M × RequestsAreKnown M) × AreAddressed hd M) × ObjectsAreKnown hd M
 
 -- each handler keeps it
 abbrev pub HandlersKeepWaits : Type 0
 HandlersKeepWaits = (hd : Header) → HeaderInForm hd → KeepsAsked hd (WaitsAreKnown hd)
 
 -- ---- what is still to be given
-
--- naming is there and has the object
-abbrev pub HasNamed : Parts → ℕ → Type 0
-HasNamed t x = (o : Naming) × (t.naming ≡ Some o) × (is_some (at_number x o.objects) ≡ true)
 
 -- the store is asked for a state that it has, or another action has prepared it
 abbrev pub HasStored : Disk → ℕ → Type 0
@@ -45,22 +51,22 @@ HasStored d x = (is_some (holder_of (object x) d.store) || is_some (held_at (obj
 abbrev pub IsNotedBut : Type 0 → Uid → ℕ → Known → ℕ → Parts → Type 0
 IsNotedBut over top x k i t = (o : Naming) (v : Named) → t.naming ≡ Some o → at_number x o.objects ≡ Some v → (k.grant == o.inc) ≡ true → is_some (note_named x top k.binding i v).reply ≡ false → over
 
--- What is still to be given where the request of a waiting step has come: that naming has the object; that a store has a state; that a state
--- that is taken is of an object; that a server or naming refuses only a binding that is overtaken; that the copy's class has the
--- operation, and that the server has run no later request of the action.
+-- What is still to be given where the request of a waiting step has come: that a store has a state; that a state that is taken is of an
+-- object; that a server or naming refuses only a binding that is overtaken; that the copy's class has the operation, and that the
+-- server has run no later request of the action. A bind needs nothing.
 abbrev pub LeftOfStep : Disk → Parts → Seen → Steps → At → Type 0
-LeftOfStep d t M s (AtBind avoid) = HasNamed t s.x
+LeftOfStep d t M s (AtBind avoid) = ⊤
 LeftOfStep d t M s (AtLoad k n rest) = HasStored d s.x
 LeftOfStep d t M s (AtActivate k st) = (is_object st.uid ≡ true) × (binding_less k.binding (active_binding (let u = st.uid in u.num) t.server) ≡ true → IsOvertaken (IsSaid M.lines) s)
-LeftOfStep d t M s (AtNote k i) = HasNamed t s.x × IsNotedBut (IsOvertaken (IsSaid M.lines) s) (top_of s.path) s.x k i t
+LeftOfStep d t M s (AtNote k i) = IsNotedBut (IsOvertaken (IsSaid M.lines) s) (top_of s.path) s.x k i t
 LeftOfStep d t M s (AtInvoke k i) = (copy_has_op (invoked_op s.goal) (at_number s.x (let v = t.server in v.objects)) ≡ true) × (is_below s.req (at_uid (actor s.path) (let v = t.server in v.kept)) ≡ false)
 
--- Of a commit: that the states that a store is asked to prepare are of objects, and that it has committed none of this top; that a Confirm
--- names no object twice, and that naming has each. A vote needs nothing.
+-- Of a commit: that the states that a store is asked to prepare are of objects, and that it has committed none of this top; that naming has
+-- each object that it is asked to confirm. A vote needs nothing.
 abbrev pub LeftOfCommit : Disk → Parts → ℕ → Machine → Type 0
 LeftOfCommit d t n (Voting p left) = ⊤
 LeftOfCommit d t n (Preparing p left) = (are_of_objects (states_for n p) ≡ true) × ((u : Uid) → prepare_answer (actor p.path) (states_for n p) d.store ≢ Already u)
-LeftOfCommit d t n (Confirming p) = (ask_is_meant t.server (confirm_ask p) ≡ true) × ((o : Naming) × (t.naming ≡ Some o) × (has_all (map {A = Used} {B = ℕ × ℕ} (λ u. (u.x, u.grant)) p.used) o ≡ true))
+LeftOfCommit d t n (Confirming p) = (o : Naming) → t.naming ≡ Some o → has_all (map {A = Used} {B = ℕ × ℕ} (λ u. (u.x, u.grant)) p.used) o ≡ true
 
 -- So it is of a relation, and the answer for which a call waits can be meant.
 pub record AnswersRest (R : Seen → Type 0) : Type 0 where
