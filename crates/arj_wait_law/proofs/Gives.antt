@@ -25,13 +25,13 @@ use Rattle.arj_view_law.specs.Seen.{In, Post, Seen, up}
 use Rattle.arj_disk_view_law.proofs.Frames.{node_here}
 use Rattle.arj_address_law.proofs.Lists.{some_is}
 use Rattle.arj_lock_fact_law.specs.Requests.{IsAskedBy}
-use Rattle.arj_round_law.specs.Rounds.{HasCome, IsVoid}
+use Rattle.arj_round_law.specs.Rounds.{AnswersWaits, HasCome, IsVoid}
 use Rattle.arj_round_law.specs.Waits.{IsOvertaken, IsSaid, coord_in, coord_of, want_of_call, want_of_commit}
 use Rattle.arj_disk_run_law.specs.Entries.{IsEntryNode, KnowsEntries}
 use Rattle.arj_lock_fact_law.specs.Entries.{HasObject}
 use Rattle.arj_protocol.specs.Order.{at_number, has}
 use Rattle.arj_wait_law.specs.Told.{ArePastIn}
-use Rattle.arj_wait_law.specs.Waits.{KnownGive, LeftOfCommit, LeftOfStep, WaitsAreKnown}
+use Rattle.arj_wait_law.specs.Waits.{AnswersRest, KnownGive, LeftOfCommit, LeftOfStep, WaitsAreKnown}
 use Rattle.arj_wait_law.proofs.Replies.{activate_answers, bind_answers, confirm_answers, invoke_answers, load_answers, prepare_answers, record_answers, taken_void, vote_answers}
 use Rattle.arj_wait_law.proofs.Untold.{its_coord, its_up, naming_untold, server_untold}
 
@@ -86,14 +86,14 @@ stand_in_order (u ∷ us) all = λ i. not (stand_above u.x us all.0 i) && stand_
 -- ---- a request that has come
 
 -- whose coordinator this is
-record IsAt (M : Seen) (k : ℕ) (c : Coord) : Type 0 where
-  node : Node
-  parts : Parts
-  found : M.nodes k ≡ Some node
-  live : (let n = node in n.live) ≡ Some parts
-  same : (let t = parts in t.coord) ≡ c
+pub record IsAt (M : Seen) (k : ℕ) (c : Coord) : Type 0 where
+  pub node : Node
+  pub parts : Parts
+  pub found : M.nodes k ≡ Some node
+  pub live : (let n = node in n.live) ≡ Some parts
+  pub same : (let t = parts in t.coord) ≡ c
 
-at_of : (M : Seen) (k : ℕ) (c : Coord) → coord_in (M.nodes k) ≡ Some c → IsAt M k c
+pub at_of : (M : Seen) (k : ℕ) (c : Coord) → coord_in (M.nodes k) ≡ Some c → IsAt M k c
 at_of M k c is = by (M.nodes k) refl is
   where
     up_at : (n : Node) → M.nodes k ≡ Some n → (o : Option Parts) → n.live ≡ o → option_map coord_of o ≡ Some c → IsAt M k c
@@ -267,10 +267,14 @@ module _ (hd : Header) (j : ℕ) (d : Disk) (t : Parts) (M : Seen) (known : Wait
             only : (n : ℕ) → has (1 ∷ []) n ≡ true → n ≡ 1
             only n is = ⊎_elim (λ one. sym (eqb-true 1 n one)) (λ no. absurd (cc no)) (or_cases (1 == n) false is)
 
-pub known_give : KnownGive
-known_give hd form test rest = record {
-  within = λ M p r sent. let k = r.0.0.1 in let so = k.1 in let z = so.1 p sent in z.1;
-  calls = λ j d t M c u q s r does now h void_it. call_given hd j d t M r.0 c u q does s now h (rest.calls j d t M c u q s r does now h) void_it;
+-- so it is with any relation by which so much is known
+pub known_give_by : (hd : Header) (P : Seen → Type 0) → ((M : Seen) → P M → WaitsAreKnown hd M) → AnswersRest P → AnswersWaits hd P
+known_give_by hd P to rest = record {
+  within = λ M p r sent. let k = (to M r).0.1 in let so = k.1 in let z = so.1 p sent in z.1;
+  calls = λ j d t M c u q s r does now h void_it. call_given hd j d t M (to (up j d t M) r) c u q does s now h (rest.calls j d t M c u q s r does now h) void_it;
   meant = rest.meant;
-  commits = λ j d t M c u q m n r does now left h void_it. commit_given hd j d t M r.0 c u q does m n now left h (rest.commits j d t M c u q m n r does now left h) void_it;
+  commits = λ j d t M c u q m n r does now left h void_it. commit_given hd j d t M (to (up j d t M) r) c u q does m n now left h (rest.commits j d t M c u q m n r does now left h) void_it;
 }
+
+pub known_give : KnownGive
+known_give hd form test rest = known_give_by hd (λ M. WaitsAreKnown hd M × (test M ≡ true)) (λ M r. r.0) rest

@@ -18,7 +18,7 @@ use Rattle.arj_view_law.specs.Keeps.{KeepsAsked}
 use Rattle.arj_view_law.specs.Seen.{Seen, given}
 use Rattle.arj_view_law.specs.Walks.{Up, Walks}
 use Rattle.arj_view_law.proofs.Happens.{keeps_asked}
-use Rattle.arj_view_law.proofs.Together.{walks_both, walks_each}
+use Rattle.arj_view_law.proofs.Together.{walks_each}
 use Rattle.arj_run_law.specs.Worlds.{IsGood}
 use Rattle.arj_call_law.proofs.Given.{KeepsGiven, kept_both}
 use Rattle.arj_address_law.specs.Binds.{BindsAreKnown}
@@ -34,28 +34,10 @@ use Rattle.arj_address_law.specs.Addresses.{AreAddressed, AreOf, IsNode, LineOf}
 use Rattle.arj_address_law.proofs.Runs.{so_kept}
 use Rattle.arj_lock_fact_law.specs.Requests.{RequestsAreKnown}
 use Rattle.arj_lock_fact_law.proofs.Requests.{requests_keep}
+use Rattle.arj_round_law.proofs.Quiesces.{asked_both}
 use Rattle.arj_wait_law.specs.Told.{EndsArePast}
 use Rattle.arj_wait_law.specs.Waits.{HandlersKeepWaits, ObjectsAreKnown}
 use Rattle.arj_wait_law.proofs.Past.{past_keep}
-
--- ---- two relations
-
-pub asked_both : (hd : Header) (P Q : Seen → Type 0) → KeepsAsked hd P → KeepsAsked hd Q → KeepsAsked hd (λ M. P M × Q M)
-asked_both hd P Q one two = record {
-  quiet = λ e bs M quiet p. (one.quiet e bs M quiet p.0, two.quiet e bs M quiet p.1);
-  stop = λ e k d live M p. (one.stop e k d live M p.0, two.stop e k d live M p.1);
-  message = λ e k d t v from m outs M p there meant is. both e k outs v d M (one.message e k d t v from m outs M p.0 there meant is) (two.message e k d t v from m outs M p.1 there meant is);
-  act = λ e k d t i M is asks free p. let did = acts i d.intents t.coord in both e k did.outs (with_coord t did.part) d M (one.act e k d t i M is asks free p.0) (two.act e k d t i M is asks free p.1);
-  begin = λ e k d t l how parent M new may free p.
-      let did = begin_action l how parent (parent_of parent t.coord) t.coord in
-      both e k did.outs (with_coord t did.part) d (given l (record { node = k; serial = is_serial_kind how }) M) (one.begin e k d t l how parent M new may free p.0) (two.begin e k d t l how parent M new may free p.1);
-  tick = λ e k d t M p. both e k (tick_outs (record { number = k; disk = d; live = Some t }) t) (with_coord t (again_all t.coord.doings t.coord).part) d M (one.tick e k d t M p.0) (two.tick e k d t M p.1);
-  restart = λ e k d M p. both e k (restart_outs hd k (d.inc + 1) d) (parts_in k (d.inc + 1) d) d M (one.restart e k d M p.0) (two.restart e k d M p.1);
-  first = (one.first, two.first);
-}
-  where
-    both : (e k : ℕ) (outs : List Effect) (v : Parts) (d : Disk) (M : Seen) → Walks P e k outs (Up P k v) d M → Walks Q e k outs (Up Q k v) d M → Walks (λ N. P N × Q N) e k outs (Up (λ N. P N × Q N) k v) d M
-    both e k outs v d M a b = walks_both P Q e k outs (Up P k v) (Up Q k v) d M a b
 
 -- ---- addresses
 

@@ -5,3 +5,4 @@ pub mod Untold
 pub mod Replies
 pub mod Gives
 pub mod Keeping
+pub mod Waiting

@@ -1,2 +1,3 @@
 pub mod Told
 pub mod Waits
+pub mod Runs

@@ -1,0 +1,54 @@
+-- After a quiesce only calls that are overtaken wait, in every run.
+use Rattle.std.proofs.Common.{◌≡◌, ℕ, true, false, [], Some, sym, ◌∙◌, ap, subst, ⊎_elim}
+use Rattle.arj_protocol.specs.Words.{Uid}
+use Rattle.arj_protocol.specs.Commit.{Machine, is_empty, left_of}
+use Rattle.arj_protocol.specs.Coord.{Committing, Coord, Doing, doing_of}
+use Rattle.arj_protocol.specs.World.{format, run_all, run_event}
+use Rattle.arj_part_law.specs.Requests.{IsNumbered}
+use Rattle.arj_run_law.specs.Worlds.{IsGood}
+use Rattle.arj_view_law.specs.Keeps.{Holds, KeepsAsked}
+use Rattle.arj_view_law.specs.Seen.{Seen, see, up}
+use Rattle.arj_view_law.proofs.Happens.{event_asked, runs_asked}
+use Rattle.arj_round_law.specs.Rounds.{WaitOvertaken}
+use Rattle.arj_round_law.specs.Waits.{coord_in}
+use Rattle.arj_round_law.proofs.Quiesces.{asked_both, keeps_good, run_answers}
+use Rattle.arj_wait_law.specs.Runs.{RunsLeaveOvertaken}
+use Rattle.arj_wait_law.specs.Waits.{AnswersRest, WaitsAreKnown}
+use Rattle.arj_wait_law.proofs.Gives.{at_of, known_give_by}
+use Rattle.arj_wait_law.proofs.Keeping.{waits_keep}
+use Rattle.arj_wait_law.proofs.Untold.{its_up}
+
+-- a commit that waits waits for some node
+none_left : (M : Seen) → IsGood M → (k : ℕ) (c : Coord) (u : Uid) (q : Doing) (m : Machine) → coord_in (M.nodes k) ≡ Some c → doing_of u c ≡ Some q → q.now ≡ Committing m → left_of m ≡ [] → ⊥
+none_left M good k c u q m found does now none =
+    let a = at_of M k c found in
+    let n = (its_up good.0 M good.1 k a.node a.parts a.found a.live).numbered u q (ap (doing_of u) a.same ∙ does) in
+    let w = subst (IsNumbered q.req) now n in
+    let no_way : true ≡ false = ap is_empty (sym none) ∙ w.1.1 in cc no_way
+
+-- what is still to be given where more is known
+rest_less : (P Q : Seen → Type 0) → ((M : Seen) → Q M → P M) → AnswersRest P → AnswersRest Q
+rest_less P Q less rest = record {
+  calls = λ j d t M c u q s r does now h. rest.calls j d t M c u q s (less (up j d t M) r) does now h;
+  meant = λ j d t M p a x q s r sent to is does now waits. rest.meant j d t M p a x q s (less (up j d t M) r) sent to is does now waits;
+  commits = λ j d t M c u q m n r does now left h. rest.commits j d t M c u q m n (less (up j d t M) r) does now left h;
+}
+
+pub runs_leave_overtaken : RunsLeaveOvertaken
+runs_leave_overtaken hd form test keeps rest es e is over last ups k c u q node found does waits =
+    ⊎_elim (λ s. s) (λ m. absurd (none_left (see after.sent (run_event e (run_all es (format hd)))) (let p = after.holds in p.1) k c u q m.0 found does m.1 m.2)) (answer k c u q node found does waits)
+  where
+    R : Seen → Type 0
+    R M = WaitsAreKnown hd M × (test M ≡ true)
+
+    kept : KeepsAsked hd R
+    kept = asked_both hd (WaitsAreKnown hd) (λ M. test M ≡ true) (waits_keep hd form) keeps
+
+    P : Seen → Type 0
+    P M = R M × IsGood M
+
+    after : Holds hd P (run_event e (run_all es (format hd)))
+    after = event_asked hd P (keeps_good hd R kept) e (run_all es (format hd)) (runs_asked hd P (keeps_good hd R kept) es)
+
+    answer : WaitOvertaken (run_event e (run_all es (format hd)))
+    answer = run_answers hd R kept (known_give_by hd P (λ M p. p.0.0) (rest_less R P (λ M p. p.0) rest)) es e is over last ups
