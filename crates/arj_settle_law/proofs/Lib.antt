@@ -3,3 +3,4 @@ pub mod AskedWalks
 pub mod Askers
 pub mod Settled
 pub mod Idle
+pub mod Last

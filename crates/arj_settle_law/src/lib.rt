@@ -5,7 +5,7 @@
 //! what is known of records (`arj_disk_run_law`), of coordinators and what they sent (`arj_lock_fact_law`), of addresses
 //! (`arj_address_law`) and of whoever waits (`arj_wait_law`), and on what a round leaves where all this is taken as known
 //! (`arj_round_law`). It gives upward `whoever_is_prepared_settles`, `quiesces_leave_nodes_idle` and `rounds_leave_nodes_idle`
-//! (`specs/Settled.antt`).
+//! (`specs/Settled.antt`), and `files_of_idle_nodes_hold_the_last` (`specs/Last.antt`).
 #![tactic(auto)]
 
 mod settles;

@@ -1,4 +1,5 @@
 // What a quiesce and the stated round leave, in every run.
+ghost use Rattle.arj_settle_law.specs.Last.{IdleFilesHoldTheLast};
 ghost use Rattle.arj_settle_law.specs.Settled.{HandlersSettle, QuiescesIdle, RoundsIdle};
 
 /// Each handler keeps, wherever a stop falls, that each record is told again and waits for somebody's acknowledgement, and that whoever has
@@ -16,9 +17,15 @@ pub fn quiesces_leave_nodes_idle()
     ensures { QuiescesIdle }
 {}
 
-/// In every run the stated round leaves every node idle, and its last line says so: a quiesce, giveups of what waits then, and a second quiesce, where every node stays
-/// up, no limit is met, and nobody waits when all was given up. What is still to be given of requests for which somebody waits
-/// (`AnswersRest` of `arj_wait_law`) is taken of a relation that is kept. It does nothing when it runs.
+/// In every run the stated round leaves every node idle, and its last line says so: a quiesce, giveups of what waits then, and a second
+/// quiesce, where every node stays up, no limit is met, and nobody waits when all was given up. What is still to be given of requests for
+/// which somebody waits (`AnswersRest` of `arj_wait_law`) is taken of a relation that is kept. It does nothing when it runs.
 pub fn rounds_leave_nodes_idle()
     ensures { RoundsIdle }
+{}
+
+/// Where every node is idle and files are clean, each entry and each listed store holds its last committed state, with no exception:
+/// nothing is in doubt. It does nothing when it runs.
+pub fn files_of_idle_nodes_hold_the_last()
+    ensures { IdleFilesHoldTheLast }
 {}
