@@ -231,7 +231,7 @@ decides_path acts paths tree p (Asks m) same q is = absurd (cc is)
 decides_path acts paths tree p (Aborts why z) same q is = absurd (cc is)
 
 -- an action on whose path nobody waits doesn't wait itself
-at_rest : (b : Branch) (c : Coord) (d : Doing) → waits_above b c ≡ false → doing_of (actor b.path) c ≡ Some d → (s : Steps) → d.now ≡ Calling s → ⊥
+pub at_rest : (b : Branch) (c : Coord) (d : Doing) → waits_above b c ≡ false → doing_of (actor b.path) c ≡ Some d → (s : Steps) → d.now ≡ Calling s → ⊥
 at_rest b c d quiet found s now = let no_way : true ≡ false = sym (ap is_waiting_now now) ∙ ap is_waiting (sym found) ∙ alone (uids_of b.path) quiet (on_own b.path) in absurd (cc no_way)
   where
     alone : (us : List Uid) → list_any (waits c) us ≡ false → is_on us (actor b.path) ≡ true → waits c (actor b.path) ≡ false

@@ -13,6 +13,8 @@ use Rattle.arj_coord_law.proofs.RunCoords.{all_keep_so}
 use Rattle.arj_coord_law.proofs.RunUses.{tops_are_kept}
 use Rattle.arj_view_law.specs.Keeps.{Keeps}
 use Rattle.arj_view_law.specs.Seen.{Seen}
+use Rattle.arj_record_law.specs.Runs.{RecordsAreFree, RecordsRun}
+use Rattle.arj_record_law.proofs.Free.{records_free, records_run_on}
 use Rattle.arj_disk_run_law.specs.Bindings.{AllKnowTops, AllNameOwn, AreGoodCounted}
 
 -- where few bindings were made, those at naming are its own
@@ -38,4 +40,10 @@ names_own M good few k n t o there live named =
     next b c j less = omega (arith, j, less)
 
 pub good_counted : (hd : Header) → Keeps hd AreGoodCounted
-good_counted hd = kept_both hd (λ M. IsGood M × AllKnowTops M) (λ M. ObjectsAreHeld M × AreSaid M) (all_keep_so KnowsTops tops_are_kept hd) (keeps_given hd (λ M. IsGood M × AllKnowTops M) (λ M. ObjectsAreHeld M × AreSaid M) (kept_both hd ObjectsAreHeld AreSaid (objects_keep hd) (keeps_given hd ObjectsAreHeld AreSaid (counts_are_said hd))))
+good_counted hd = kept_both hd (λ M. (IsGood M × AllKnowTops M) × RecordsRun M) (λ M. ObjectsAreHeld M × AreSaid M)
+    (kept_both hd (λ M. IsGood M × AllKnowTops M) RecordsRun (all_keep_so KnowsTops tops_are_kept hd) (keeps_given hd (λ M. IsGood M × AllKnowTops M) RecordsRun (records_run_on hd)))
+    (keeps_given hd (λ M. (IsGood M × AllKnowTops M) × RecordsRun M) (λ M. ObjectsAreHeld M × AreSaid M) (kept_both hd ObjectsAreHeld AreSaid (objects_keep hd) (keeps_given hd ObjectsAreHeld AreSaid (counts_are_said hd))))
+
+-- new Records are of tops that have no entry of the object prepared
+pub records_free_in : (M : Seen) → AreGoodCounted M → KnowsFew M → RecordsAreFree M
+records_free_in M good few = let w = good.0.1.1 few.0 in records_free M few w.1

@@ -1,8 +1,8 @@
 -- Both halves of the object's machine are carried by each handler, and so through each run; and copies agree in it.
-use Rattle.std.proofs.Common.{◌≡◌, ◌==◌, ℕ, List, [], ◌+◌, Bool, true, false, Option, Some, None, refl, ◌∙◌, ap, subst, inl, inr, ⊎_elim, is_some}
+use Rattle.std.proofs.Common.{◌≡◌, ◌==◌, ℕ, List, [], ◌+◌, Bool, true, false, Option, Some, None, refl, ap, subst, is_some}
 use Rattle.std.specs.Prelude.{◌≤◌, length, option_map}
 use Rattle.arj_lock.proofs.Members.{in_from}
-use Rattle.arj_protocol.specs.Words.{Header, Message, ObjectState, Path, Uid, entry}
+use Rattle.arj_protocol.specs.Words.{Header, Message, ObjectState, Uid, entry}
 use Rattle.arj_protocol.specs.Ask.{top_of}
 use Rattle.arj_protocol.specs.Asking.{again_all, begin_action}
 use Rattle.arj_protocol.specs.Effect.{Disk, Effect, Intent, held_at}
@@ -14,7 +14,7 @@ use Rattle.arj_protocol.specs.Step.{Node, acts, parent_of, parts_in, restart_out
 use Rattle.arj_protocol.specs.World.{Asked, format, is_serial_kind, run_all}
 use Rattle.arj_disk_law.specs.Guards.{only_decides}
 use Rattle.arj_disk_law.specs.Names.{Office}
-use Rattle.arj_disk_law.specs.State.{Packed, State}
+use Rattle.arj_disk_law.specs.State.{Packed}
 use Rattle.arj_disk_law.proofs.Base.{test_same}
 use Rattle.arj_view_law.specs.Keeps.{Holds, Keeps}
 use Rattle.arj_view_law.specs.Seen.{Seen, at, given, see, up}
@@ -22,13 +22,11 @@ use Rattle.arj_view_law.specs.Walks.{Walks, Up}
 use Rattle.arj_view_law.proofs.Happens.{runs_hold}
 use Rattle.arj_view_law.proofs.Together.{walks_both, walks_to}
 use Rattle.arj_disk_view_law.specs.Coordinating.{KnowsNode}
-use Rattle.arj_disk_view_law.specs.Knows.{KnowsKinds}
 use Rattle.arj_disk_view_law.specs.Pairs.{packed_entry}
-use Rattle.arj_disk_view_law.specs.Sees.{IsFixed, Kinds, followed}
+use Rattle.arj_disk_view_law.specs.Sees.{Kinds, followed}
 use Rattle.arj_disk_view_law.proofs.Halts.{lines_seen, stops_seen}
 use Rattle.arj_names_view_law.specs.Both.{IsSeenAgain, SeesBoth}
 use Rattle.arj_names_view_law.specs.Handlers.{Change, CountsOn, IsForGrants, IsSeenAfter, MayRecord, Quietly, change_by}
-use Rattle.arj_names_view_law.specs.Memory.{IsOfTop}
 use Rattle.arj_names_view_law.proofs.InputBoth.{inputs_keep_both}
 use Rattle.arj_names_view_law.proofs.MessageBoth.{messages_keep_both}
 use Rattle.arj_names_view_law.proofs.NewConfirms.{any_prepared}
@@ -45,19 +43,20 @@ use Rattle.arj_binding_law.specs.Scripts.{most_events}
 use Rattle.arj_binding_law.proofs.Events.{scripts_few}
 use Rattle.arj_disk_run_law.specs.Entries.{HaveEntries, IsInStep, KnowsEntries}
 use Rattle.arj_disk_run_law.specs.Heard.{SeesHeard}
-use Rattle.arj_disk_run_law.specs.Kinds.{Agrees, AreOfTops, IsOfTops, kinds_of}
+use Rattle.arj_disk_run_law.specs.Kinds.{Agrees, AreOfTops, kinds_of}
 use Rattle.arj_disk_run_law.specs.Part.{HoldsAgain, HoldsFrom, IsCarried, KeepsPart, are_recorded}
 use Rattle.arj_disk_run_law.specs.Runs.{CopiesAgree, HeardRunsAgree, RunsAgree}
 use Rattle.arj_disk_view_law.specs.Formats.{HasObject}
 use Rattle.arj_disk_run_law.specs.Bindings.{AreGoodCounted}
 use Rattle.arj_disk_run_law.specs.Rest.{KeepsHeard}
 use Rattle.arj_disk_run_law.proofs.Begun.{kinds_agree}
-use Rattle.arj_disk_run_law.proofs.Bindings.{good_counted, names_own}
+use Rattle.arj_disk_run_law.proofs.Bindings.{good_counted, names_own, records_free_in}
 use Rattle.arj_disk_run_law.proofs.Copies.{copies_agree}
 use Rattle.arj_disk_run_law.proofs.EntryKeeps.{keeps_entries}
 use Rattle.arj_disk_run_law.proofs.EntryWalks.{mine_of}
 use Rattle.arj_disk_run_law.proofs.Given.{gives_votes}
 use Rattle.arj_disk_run_law.proofs.HeardKept.{heard_kept}
+use Rattle.arj_disk_run_law.proofs.HeardMessage.{of_top}
 use Rattle.arj_disk_run_law.proofs.Kept.{IsKeptInRun, KeepsEach, all_keep}
 
 module _ (P : Kinds → Office → Seen → Type 0) (x : ℕ) (tops : Kinds) where
@@ -76,14 +75,6 @@ module _ (P : Kinds → Office → Seen → Type 0) (x : ℕ) (tops : Kinds) whe
       (walks_both (IsSeenAgain g x tops A) (HoldsAgain P x tops g A) e k outs (Up (IsSeenAgain g x tops A) k v) (Up (HoldsAgain P x tops g A) k v) d M seen holds)
 
 -- ---- what naming's half counts on
-
--- a request that is of a top by the kinds is so in the machine
-of_top : (tops : Kinds) (S : State) (p : Path) → KnowsKinds tops → IsFixed tops S → IsOfTops tops p → IsOfTop tops S p
-of_top tops S p kinds fixed o = record {
-  top = o.top;
-  plain = ap (λ f. f (uid_number (top_of p))) fixed.serial ∙ kinds.apart (uid_number (top_of p)) o.top;
-  path = ⊎_elim (λ alone. inl (alone.0, ap (λ f. f (uid_number (top_of p))) fixed.root ∙ alone.1)) (λ behind. inr (behind.0, behind.1, ap (λ f. f (uid_number (top_of p))) fixed.root ∙ behind.2, behind.3, behind.4)) o.path;
-}
 
 counted : (x : ℕ) (tops : Kinds) (k : ℕ) (d : Disk) (t : Parts) (M : Seen) (m : Message) (A : Office) (n : Naming) → KnowsNode tops k d t M → HaveEntries x (up k d t M) → SeesBoth x tops A (up k d t M) → AreOfTops tops m → t.naming ≡ Some n
     → MayRecord x d n m A × IsForGrants x d n m A → CountsOn x tops d n m A
@@ -162,7 +153,7 @@ runs_agree hd x part parts es short = agree_beside hd x IsGood (λ tops A M. par
 
 -- what is kept beside, where naming's bindings are its own
 pub heard_part : (hd : Header) (x : ℕ) → HasObject hd x → KeepsHeard hd x (λ M. IsGood M × KnowsFew M) → KeepsPart hd x (λ M. AreGoodCounted M × KnowsFew M) (SeesHeard x)
-heard_part hd x has rest = heard_kept hd x (λ M. AreGoodCounted M × KnowsFew M) (λ M. IsGood M × KnowsFew M) (λ M r. r) (λ M r. ((r.0.0.0, r.1), names_own M r.0 r.1, r.0.0.1)) has rest
+heard_part hd x has rest = heard_kept hd x (λ M. AreGoodCounted M × KnowsFew M) (λ M. IsGood M × KnowsFew M) (λ M r. r) (λ M r. ((r.0.0.0.0, r.1), names_own M r.0 r.1, r.0.0.0.1, records_free_in M r.0 r.1)) has rest
 
 pub heard_runs_agree : HeardRunsAgree
 heard_runs_agree hd x has rest es short = agree_beside hd x AreGoodCounted (SeesHeard x) (good_counted hd) (heard_part hd x has rest) es short

@@ -1,20 +1,31 @@
 -- What coordinators have of naming's answers is kept where a message is taken, with what is still taken of answers.
-use Rattle.std.proofs.Common.{◌≡◌, ℕ, true, List, Option, Some, None, refl, sym, ◌∙◌, ap, subst, Bool, false}
+use Rattle.std.proofs.Common.{◌≡◌, ℕ, true, List, [], ◌∷◌, inl, inr, ⊎_elim, Option, Some, None, refl, sym, ◌∙◌, ap, subst, Bool, false}
 use Rattle.std.specs.Prelude.{is_some}
-use Rattle.arj_protocol.specs.Words.{Ask, Asked, Head, Header, Message, asks}
+use Rattle.arj_lock.proofs.Members as list
+use Rattle.arj_protocol.specs.Words.{Ask, Asked, Head, Header, Message, ObjectState, Path, asks}
 use Rattle.arj_protocol.specs.Words.ask
 use Rattle.arj_protocol.specs.Ask.{Reply, answers, top_of}
 use Rattle.arj_protocol.specs.Effect.{Disk, Effect}
 use Rattle.arj_protocol.specs.Naming.{Naming}
 use Rattle.arj_protocol.specs.Node.{Parts, Took, handle, is_meant}
-use Rattle.arj_protocol.specs.Order.{uid_number}
+use Rattle.arj_protocol.specs.Order.{at_uid, uid_number}
+use Rattle.arj_protocol.specs.Step.{Node}
+use Rattle.arj_protocol.proofs.Numbers.{number_tells}
 use Rattle.arj_run_law.specs.Worlds.{IsGood}
 use Rattle.arj_call_law.specs.Runs.{KnowsFew}
 use Rattle.arj_coord_law.specs.Uses.{KnowsUses}
 use Rattle.arj_disk_law.specs.Names.{Office}
+use Rattle.arj_disk_law.specs.State.{Hold, State}
 use Rattle.arj_disk_law.proofs.Base.{never}
-use Rattle.arj_view_law.specs.Seen.{In, Seen}
-use Rattle.arj_disk_view_law.specs.Sees.{Kinds}
+use Rattle.arj_view_law.specs.Seen.{In, Seen, up}
+use Rattle.arj_disk_view_law.specs.Knows.{KnowsKinds}
+use Rattle.arj_disk_view_law.specs.Pairs.{Among}
+use Rattle.arj_disk_view_law.specs.Sees.{IsFixed, Kinds}
+use Rattle.arj_disk_view_law.proofs.Frames.{node_here}
+use Rattle.arj_names_view_law.specs.Memory.{IsOfTop, SeesNaming}
+use Rattle.arj_names_view_law.proofs.Binding.{path_untold}
+use Rattle.arj_record_law.specs.Runs.{IsNewRecord, RecordsAreFree}
+use Rattle.arj_disk_run_law.specs.Kinds.{AreOfTops, IsOfTops}
 use Rattle.arj_names_view_law.specs.Handlers.{IsForGrants, MayGoOn, MayRecord, asked_change, change_by, reply_change}
 use Rattle.arj_disk_run_law.specs.Bindings.{NamesOwn}
 use Rattle.arj_disk_run_law.specs.Heard.{ClaimsAsked, ClaimsGrants, SeesHeard}
@@ -30,22 +41,63 @@ use Rattle.arj_names_view_law.proofs.Heard.{none_heard}
 
 -- ---- what naming counts on
 
+-- a request that is of a top by the kinds is so in the machine
+pub of_top : (tops : Kinds) (S : State) (p : Path) → KnowsKinds tops → IsFixed tops S → IsOfTops tops p → IsOfTop tops S p
+of_top tops S p kinds fixed o = record {
+  top = o.top;
+  plain = ap (λ f. f (uid_number (top_of p))) fixed.serial ∙ kinds.apart (uid_number (top_of p)) o.top;
+  path = ⊎_elim (λ alone. inl (alone.0, ap (λ f. f (uid_number (top_of p))) fixed.root ∙ alone.1)) (λ behind. inr (behind.0, behind.1, ap (λ f. f (uid_number (top_of p))) fixed.root ∙ behind.2, behind.3, behind.4)) o.path;
+}
+
 abbrev record_in : Option (Head × Ask) → Option (Head × (ℕ × ℕ))
 record_in (Some (h, ask.Record y b i g)) = Some (h, (y, g))
 record_in _ = None
 
-module _ (x : ℕ) (R : Seen → Type 0) (gives : GivesNaming x R) (tops : Kinds) (k : ℕ) (d : Disk) (t : Parts) (n : Naming) (from : ℕ) (m : Message) (M : Seen) (A : Office) (at : IsHeardAt x R tops A (k, d, t) M) (sent : In (record { from = from; to = k; message = m }) M.sent) (named : t.naming ≡ Some n) where
+module _ (x : ℕ) (R : Seen → Type 0) (gives : GivesNaming x R) (tops : Kinds) (k : ℕ) (d : Disk) (t : Parts) (n : Naming) (from : ℕ) (m : Message) (M : Seen) (A : Office) (at : IsHeardAt x R tops A (k, d, t) M) (sent : In (record { from = from; to = k; message = m }) M.sent) (named : t.naming ≡ Some n) (of : AreOfTops tops m) (free : RecordsAreFree (up k d t M)) where
   claims : ClaimsAsked x A (asks m)
   claims = at.heard.posts (record { from = from; to = k; message = m }) sent
 
   pub may_record : MayRecord x d n m A
   may_record h y b i g asking B names entry about now unrecorded = (
     ap (λ z. z.had (uid_number (top_of h.path)) z.inc) names ∙ subst (λ j. A.names.had (uid_number (top_of h.path)) j ≡ true) inc_is (had about),
-    λ unasked. gives.recorded tops k d t n from m h b i M A at sent named (asking ∙ ap (λ z. Some (h, ask.Record z b i g)) about ∙ ap (λ j. Some (h, ask.Record x b i j)) inc_is) unrecorded (ap (λ z. z.asked (uid_number (top_of h.path))) (sym names) ∙ unasked) B entry,
+    λ unasked hold pending same.
+        let holder = (let e = entry.pair in e.holder hold pending) in
+        let top = number_tells holder.action (top_of h.path) (ap (λ (z : Hold). z.top) holder.is ∙ same) in
+        free here t n (record { from = from; to = k; message = m }) h x b i g there refl named sent (asking ∙ ap (λ z. Some (h, ask.Record z b i g)) about) (new (ap (λ z. z.asked (uid_number (top_of h.path))) (sym names) ∙ unasked)) holder.states holder.state (subst (λ u. at_uid u (let e = d.names in e.pend) ≡ Some holder.states) top holder.prepared) (among holder.states holder.state (let o = holder.of in o.0)) (let o = holder.of in o.1),
   )
     where
       inc_is : g ≡ A.names.inc
       inc_is = now ∙ ap (λ z. z.inc) names
+
+      here : Node
+      here = record { number = k; disk = d; live = Some t }
+
+      there : (let S = up k d t M in S.nodes 1) ≡ Some (record { number = k; disk = d; live = Some t })
+      there = subst (λ j. (let S = up k d t M in S.nodes j) ≡ Some (record { number = k; disk = d; live = Some t })) (let w = at.knows in w.naming_here n named).0 (node_here M k (record { number = k; disk = d; live = Some t }))
+
+      seen : SeesNaming x tops n A.world.disk A.names
+      seen = let w = at.both.names in w.memory (record { number = k; disk = d; live = Some t }) t n there refl named
+
+      its_top : IsOfTop tops A.world.disk h.path
+      its_top = of_top tops A.world.disk h.path (let w = at.knows in w.kinds) (let s = at.both.disks in s.fixed) (of h (ask.Record y b i g) asking)
+
+      new : A.names.asked (uid_number (top_of h.path)) ≡ false → IsNewRecord x h b g n
+      new off = record {
+        named = unrecorded.named;
+        made = unrecorded.made;
+        there = unrecorded.there;
+        of = unrecorded.of;
+        unrecorded = unrecorded.unrecorded;
+        same = unrecorded.same;
+        untold = unrecorded.untold;
+        inc = inc_is ∙ seen.inc_is;
+        unasked = (let o = seen.object unrecorded.named unrecorded.there in o.asked (top_of h.path) (λ nested. never its_top.top nested.0) (path_untold x tops n A.world.disk A.names h.path seen its_top unrecorded.untold)) ∙ off;
+      }
+
+      among : (states : List ObjectState) (s : ObjectState) → Among s states → list.In s states
+      among [] s i = absurd i
+      among (z ∷ zs) s (inl same) = inl same
+      among (z ∷ zs) s (inr i) = inr (among zs s i)
 
       had : y ≡ x → A.names.had (uid_number (top_of h.path)) g ≡ true
       had same = (subst (ClaimsAsked x A) asking claims) same
@@ -57,9 +109,9 @@ module _ (x : ℕ) (R : Seen → Type 0) (gives : GivesNaming x R) (tops : Kinds
 
 -- ---- a message
 
-pub heard_message : (hd : Header) (x : ℕ) (R : Seen → Type 0) → ((M : Seen) → R M → IsGood M × KnowsFew M) → KeepsHeard hd x R → (tops : Kinds) (e k : ℕ) (d : Disk) (t v : Parts) (from : ℕ) (m : Message) (outs : List Effect) (M : Seen) (A : Office) → IsHeardAt x R tops A (k, d, t) M → ((n : Naming) → t.naming ≡ Some n → NamesOwn n) → KnowsUses t.coord → In (record { from = from; to = k; message = m }) M.sent → IsOwnVote m → is_meant t m ≡ true → handle k d t from m ≡ Took v outs
+pub heard_message : (hd : Header) (x : ℕ) (R : Seen → Type 0) → ((M : Seen) → R M → IsGood M × KnowsFew M) → KeepsHeard hd x R → (tops : Kinds) (e k : ℕ) (d : Disk) (t v : Parts) (from : ℕ) (m : Message) (outs : List Effect) (M : Seen) (A : Office) → AreOfTops tops m → IsHeardAt x R tops A (k, d, t) M → ((n : Naming) → t.naming ≡ Some n → NamesOwn n) → RecordsAreFree (up k d t M) → KnowsUses t.coord → In (record { from = from; to = k; message = m }) M.sent → IsOwnVote m → is_meant t m ≡ true → handle k d t from m ≡ Took v outs
     → (h : HasHeard (SeesHeard x) x tops (change_by x d t m) A (record { event = e; node = k; disk = d; before = t; outs = outs; after = v }, M)) × MayGoOn x h.office v.coord × ((n : Naming) → t.naming ≡ Some n → MayRecord x d n m h.office × IsForGrants x d n m h.office)
-heard_message hd x R runs rest tops e k d t v from m outs M A at own uses sent owned meant is = by (asks m) refl
+heard_message hd x R runs rest tops e k d t v from m outs M A of at own free uses sent owned meant is = by (asks m) refl
   where
     by : (o : Option (Head × Ask)) → asks m ≡ o → (h : HasHeard (SeesHeard x) x tops (change_by x d t m) A (record { event = e; node = k; disk = d; before = t; outs = outs; after = v }, M)) × MayGoOn x h.office v.coord × ((n : Naming) → t.naming ≡ Some n → MayRecord x d n m h.office × IsForGrants x d n m h.office)
     by (Some b) asking =
@@ -68,7 +120,7 @@ heard_message hd x R runs rest tops e k d t v from m outs M A at own uses sent o
         let now : IsHeardAt x R tops s.office (k, d, t) M = record { unwalked = at.unwalked; knows = at.knows; run = at.run; both = s.sees; heard = s.heard } in (
           record { office = s.office; only = s.only; both = s.sees; along = s.along },
           like_goes_on x tops k d t M s.office at.knows s.sees v.coord s.like,
-          λ n named. (may_record x R rest.naming tops k d t n from m M s.office now sent named, for_grants x R rest.naming tops k d t n from m M s.office now sent named),
+          λ n named. (may_record x R rest.naming tops k d t n from m M s.office now sent named of free, for_grants x R rest.naming tops k d t n from m M s.office now sent named of free),
         )
     by None none = with_answers (answers m) refl
       where

@@ -10,6 +10,7 @@ use Rattle.arj_call_law.specs.Bindings.{AreSaid}
 use Rattle.arj_coord_law.specs.Uses.{KnowsTops}
 use Rattle.arj_lock_fact_law.specs.Uppers.{ObjectsAreHeld}
 use Rattle.arj_run_law.specs.Worlds.{IsGood}
+use Rattle.arj_record_law.specs.Runs.{RecordsRun}
 use Rattle.arj_view_law.specs.Seen.{Seen}
 use Rattle.arj_names_view_law.specs.Lists.{IsShort}
 
@@ -36,6 +37,7 @@ AllNameOwn M = (k : ℕ) (n : Node) (t : Parts) (o : Naming) → M.nodes k ≡ S
 abbrev pub AllKnowTops : Seen → Type 0
 AllKnowTops M = (k : ℕ) (n : Node) (t : Parts) → M.nodes k ≡ Some n → n.live ≡ Some t → KnowsTops t.coord
 
--- nodes are good and know their tops, with the objects at naming, and naming counted no more bindings than the journal says
+-- nodes are good and know their tops, with the objects at naming, and naming counted no more bindings than the journal says; and as long as these
+-- are few, Records and Confirms are known
 abbrev pub AreGoodCounted : Seen → Type 0
-AreGoodCounted M = (IsGood M × AllKnowTops M) × (ObjectsAreHeld M × AreSaid M)
+AreGoodCounted M = ((IsGood M × AllKnowTops M) × RecordsRun M) × (ObjectsAreHeld M × AreSaid M)

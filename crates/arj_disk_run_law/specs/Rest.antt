@@ -1,6 +1,6 @@
 -- What is still taken of what coordinators have of naming's answers: what naming and commits count on beside what messages claim.
-use Rattle.std.specs.Prelude.{◌≡◌, ℕ, Bool, true, false, List, [], Some, None}
-use Rattle.arj_protocol.specs.Words.{Asked, Binding, Head, Header, Message, ObjectState, Uid, asks}
+use Rattle.std.specs.Prelude.{◌≡◌, ℕ, Bool, true, List, [], Some, None}
+use Rattle.arj_protocol.specs.Words.{Asked, Head, Header, Message, ObjectState, Uid, asks}
 use Rattle.arj_protocol.specs.Words.ask
 use Rattle.arj_protocol.specs.Words.voted
 use Rattle.arj_protocol.specs.Asking.{waits_for_commit}
@@ -13,18 +13,15 @@ use Rattle.arj_protocol.specs.Naming.{Naming}
 use Rattle.arj_protocol.specs.Node.{Parts}
 use Rattle.arj_protocol.specs.Order.{uid_number, without_number}
 use Rattle.arj_protocol.specs.Step.{is_committing}
-use Rattle.arj_disk_law.specs.Effects.{IsNot}
 use Rattle.arj_disk_law.specs.Laws.{IsBased}
 use Rattle.arj_disk_law.specs.Names.{Office}
 use Rattle.arj_view_law.specs.Seen.{In, Post, Seen, up}
 use Rattle.arj_disk_view_law.specs.Confirming.{IsNewConfirm}
 use Rattle.arj_disk_view_law.specs.Coordinating.{KnowsNode}
-use Rattle.arj_disk_view_law.specs.Entries.{SeesEntry}
 use Rattle.arj_disk_view_law.specs.Pairs.{packed}
 use Rattle.arj_disk_view_law.specs.Sees.{Kinds}
 use Rattle.arj_names_view_law.specs.Booked.{IsNext}
 use Rattle.arj_names_view_law.specs.Both.{SeesBoth}
-use Rattle.arj_names_view_law.specs.Calls.{IsUnrecorded}
 use Rattle.arj_disk_run_law.specs.Heard.{SeesHeard}
 
 -- a node of which is known what the disk half counts on, where the relation holds of the machine's state
@@ -53,12 +50,9 @@ pub record EndsVotes (k : ℕ) (t : Parts) (sent : List Post) (u : Uid) (p : com
   pub last : without_number from left ≡ []
   pub plan : p ≡ record before { changed = commit.with_states states before.changed }
 
--- What naming counts on, and commits. A Record whose binding naming made for its top and didn't record yet is of a top that has no entry of the object
--- prepared, unless it asked for the lock by an include too; of a new Confirm the locks of servers give the next version; and by the last
--- vote a commit changes the object to a state that is one version above one that was known.
+-- What naming counts on, and commits. Of a new Confirm the locks of servers give the next version; and by the last vote a commit changes the
+-- object to a state that is one version above one that was known.
 pub record GivesNaming (x : ℕ) (R : Seen → Type 0) : Type 0 where
-  pub recorded : (tops : Kinds) (k : ℕ) (d : Disk) (t : Parts) (n : Naming) (from : ℕ) (m : Message) (h : Head) (b : Binding) (i : ℕ) (M : Seen) (A : Office) → IsHeardAt x R tops A (k, d, t) M → In (record { from = from; to = k; message = m }) M.sent → t.naming ≡ Some n → asks m ≡ Some (h, ask.Record x b i A.names.inc)
-      → IsUnrecorded x h.path b n → A.names.asked (uid_number (top_of h.path)) ≡ false → (B : Office) → SeesEntry x d.names B.world.disk → IsNot B.world.disk.entry_pend (uid_number (top_of h.path))
   pub next : (tops : Kinds) (k : ℕ) (d : Disk) (t : Parts) (n : Naming) (from : ℕ) (m : Message) (h : Head) (grants : Grants) (excluded included : Marks) (M : Seen) (A : Office) → IsHeardAt x R tops A (k, d, t) M → In (record { from = from; to = k; message = m }) M.sent → t.naming ≡ Some n → asks m ≡ Some (h, ask.Confirm grants excluded included)
       → IsNewConfirm h.path grants excluded included d.names n → IsNext A.world.disk (uid_number (top_of h.path))
   pub voted : (tops : Kinds) (k : ℕ) (d : Disk) (t : Parts) (u : Uid) (p : commit.Plan) (st : ObjectState) (M : Seen) (A : Office) → IsHeardAt x R tops A (k, d, t) M → EndsVotes k t M.sent u p → commit.changed_of x p ≡ Some st → IsBased A.world.disk (packed st)

@@ -1,5 +1,5 @@
--- What each coordinator keeps, of itself and of what its node sent, holds in every run.
-use Rattle.std.proofs.Common.{◌≡◌, ◌≢◌, ◌⊎◌, ◌≤◌, ◌<◌, ◌+◌, ◌==◌, ◌∙◌, arith, ℕ, zero, suc, List, [], ◌∷◌, ◌++◌, Bool, true, false, cond, filter, map, length, Option, Some, None, refl, sym, ap, subst, inl, inr, eqb-true, slice_get}
+-- What each coordinator keeps, of itself and of what its node sent, holds in every run, and what is kept of all that was sent.
+use Rattle.std.proofs.Common.{◌≡◌, ◌≢◌, ◌⊎◌, ◌≤◌, ◌<◌, ◌+◌, ◌==◌, ◌∙◌, arith, ℕ, zero, suc, List, [], ◌∷◌, ◌++◌, Bool, true, false, cond, filter, map, length, Option, Some, None, refl, sym, ap, subst, inl, inr, eqb-true}
 use Rattle.std.specs.Prelude.{⊤, option_map}
 use Rattle.std.proofs.lemmas.Bool.{and_parts}
 use Rattle.arj_protocol.specs.Words.{Ask, Asked, End, Head, Header, Kind, Label, Message, ObjectState, Uid, asks, is_on, object, uids_of}
@@ -29,18 +29,22 @@ use Rattle.arj_protocol.specs.Step as input
 use Rattle.arj_protocol.specs.Tree.{at_place, is_own, new_tree}
 use Rattle.arj_protocol.specs.World.{Labelled, format, is_serial_kind}
 use Rattle.arj_protocol.proofs.PartSays.{activate_own, bind_own, confirm_own, ends_own, invoke_own, note_own, told_own, vote_own}
-use Rattle.arj_part_law.specs.Actions.{Action, paths_of}
+use Rattle.arj_part_law.specs.Actions.{Action, AreBegun, paths_of}
 use Rattle.arj_part_law.specs.Coords.{IsGoodCoord}
 use Rattle.arj_part_law.specs.Copies.{IsTree, Paths}
 use Rattle.arj_part_law.specs.Messages.{FitsAsk, IsAsker}
-use Rattle.arj_part_law.proofs.Begun.{begun_tree, on_own, path_found}
+use Rattle.arj_part_law.proofs.Begun.{begun_tree, path_found}
+use Rattle.arj_part_law.proofs.CoordInputs.{good_acts}
+use Rattle.arj_part_law.proofs.GoodCoords.{good_acked, good_again, good_fresh, good_heard}
 use Rattle.arj_part_law.proofs.SaidIncs.{all_flat, all_map, all_quiet}
 use Rattle.arj_run_law.specs.Worlds.{IsGood, IsGoodOf, IsUp}
 use Rattle.arj_run_law.proofs.Handled.{counted_of}
+use Rattle.arj_run_law.proofs.Starts.{first_at}
 use Rattle.arj_run_law.proofs.Walked.{other_number, same_number}
 use Rattle.arj_view_law.specs.Keeps.{Keeps, is_act}
 use Rattle.arj_view_law.specs.Seen.{In, Post, Seen, at, down, given, posted, said, see, up}
 use Rattle.arj_view_law.specs.Walks.{Up, Walks}
+use Rattle.arj_view_law.proofs.Together.{walks_to}
 use Rattle.arj_call_law.proofs.CoordOuts.{acked_so, acts_so, again_so, heard_so, query_so, tolds_so}
 use Rattle.arj_call_law.proofs.CoordSends.{AllSo, SendsSo, so_both}
 use Rattle.arj_call_law.proofs.Given.{KeepsGiven, kept_both}
@@ -67,13 +71,22 @@ and_sent p s = record s { sent = p ∷ s.sent }
 abbrev pub PlaceAt : Sender → Coord → Type 0
 PlaceAt s c = Place s.sent s.node c
 
+-- it is good, for actions that were begun
+abbrev pub IsStanding : Coord → Type 0
+IsStanding c = (acts : List Action) × AreBegun acts × IsGoodCoord acts (paths_of acts) c
+
+-- the answer was sent to this node
+abbrev pub IsSentTo : Sender → ℕ → Asked → Reply → Type 0
+IsSentTo s from a r = (m : Message) × In (record { from = from; to = s.node; message = m }) s.sent × (answers m ≡ Some (a, r))
+
 -- What holds of a coordinator as it begins, of which nothing was sent, and is kept by what it hears that can be meant, does and begins, and by
--- what is sent: by others, and by itself, of what its actions wait for.
-pub record IsKeptBy (Q : Sender → Coord → Type 0) : Type 0 where
-  pub new : (s : Sender) (node inc : ℕ) (telling : List (Uid × Intent)) → ((p : Post) (h : Head) (a : Ask) → In p s.sent → asks p.message ≡ Some (h, a) → is_own (actor h.path) (new_tree node inc) ≡ true → ⊥) → Q s (record (new_coord node inc) { telling = telling })
+-- what is sent: by others, and by itself, of what its actions wait for. With it goes what holds of all that was sent.
+pub record IsKeptBy (P : List Post → Type 0) (Q : Sender → Coord → Type 0) : Type 0 where
+  pub none : P []
+  pub new : (s : Sender) (inc : ℕ) (telling : List (Uid × Intent)) → ((p : Post) (h : Head) (a : Ask) → In p s.sent → asks p.message ≡ Some (h, a) → (u : Uid) → is_on (uids_of h.path) u ≡ true → is_own u (new_tree s.node inc) ≡ true → ⊥) → Q s (record (new_coord s.node inc) { telling = telling })
   pub apart : (s : Sender) (c : Coord) (p : Post) → (p.from ≡ s.node → ⊥) → Q s c → Q (and_sent p s) c
-  pub sends : (s : Sender) (c : Coord) (to : ℕ) (m : Message) → SendsSo c (Send to m) → Q s c → Q (and_sent (record { from = s.node; to = to; message = m }) s) c
-  pub hears : (s : Sender) (c : Coord) → PlaceAt s c → (from : ℕ) (a : Asked) (r : Reply) (intents : List (Uid × Intent)) → AnswersWaiting from a r c → reply_is_meant c a r ≡ true → Q s c → Q s (heard from a r intents c).part
+  pub sends : (s : Sender) (c : Coord) (to : ℕ) (m : Message) → IsStanding c → SendsSo c (Send to m) → P s.sent → Q s c → (let t = and_sent (record { from = s.node; to = to; message = m }) s in P t.sent × Q t c)
+  pub hears : (s : Sender) (c : Coord) → PlaceAt s c → (from : ℕ) (a : Asked) (r : Reply) (intents : List (Uid × Intent)) → IsSentTo s from a r → AnswersWaiting from a r c → reply_is_meant c a r ≡ true → Q s c → Q s (heard from a r intents c).part
   pub acks : (s : Sender) (c : Coord) → PlaceAt s c → (from : ℕ) (u : Uid) (intents : List (Uid × Intent)) → Q s c → Q s (acked from u intents c).part
   pub does : (s : Sender) (c : Coord) → PlaceAt s c → (intents : List (Uid × Intent)) (hd : Header) (i : Input) → refusal_up hd i c ≡ None → ((l : Label) (how : Kind) (parent : Option Label) → i ≢ input.Begin l how parent) → Q s c → Q s (acts i intents c).part
   pub begins : (s : Sender) (c : Coord) → PlaceAt s c → (l : Label) (how : Kind) (parent : Option Label) → Q s c → Q s (begin_action l how parent (parent_of parent c) c).part
@@ -210,13 +223,17 @@ module _ (Q : Coord → Type 0) (k : ℕ) (d : Disk) (t : Parts) (from : ℕ) (i
 
 -- ---- all nodes
 
-module _ (Q : Sender → Coord → Type 0) (kept : IsKeptBy Q) where
+-- at each node that is up
+abbrev pub AtCoords : (Sender → Coord → Type 0) → Seen → Type 0
+AtCoords Q M = (j : ℕ) (n : Node) (t : Parts) → M.nodes j ≡ Some n → n.live ≡ Some t → Q (record { node = j; sent = M.sent }) t.coord
+
+module _ (P : List Post → Type 0) (Q : Sender → Coord → Type 0) (kept : IsKeptBy P Q) where
   abbrev QAt : ℕ → List Post → Coord → Type 0
   QAt j sent c = Q (record { node = j; sent = sent }) c
 
-  -- so it is at each node that is up
+  -- so it is of all that was sent, and at each node that is up
   abbrev pub AreSo : Seen → Type 0
-  AreSo M = (j : ℕ) (n : Node) (t : Parts) → M.nodes j ≡ Some n → n.live ≡ Some t → QAt j M.sent t.coord
+  AreSo M = P M.sent × AtCoords Q M
 
   -- at the others
   abbrev Others : ℕ → Seen → Type 0
@@ -226,13 +243,13 @@ module _ (Q : Sender → Coord → Type 0) (kept : IsKeptBy Q) where
   stands_at k d live M = λ i. cond (same_number k i) (Some (record { number = k; disk = d; live = live })) (M.nodes k)
 
   others_at : (k : ℕ) (d : Disk) (live : Option Parts) (M : Seen) → AreSo (at k d live M) → Others k M
-  others_at k d live M all j n t apart is up_it = all j n t ((λ i. cond (other_number j k apart i) (Some (record { number = k; disk = d; live = live })) (M.nodes j)) ∙ is) up_it
+  others_at k d live M all j n t apart is up_it = all.1 j n t ((λ i. cond (other_number j k apart i) (Some (record { number = k; disk = d; live = live })) (M.nodes j)) ∙ is) up_it
 
   own_at : (k : ℕ) (d : Disk) (t : Parts) (M : Seen) → AreSo (up k d t M) → QAt k M.sent t.coord
-  own_at k d t M all = all k (record { number = k; disk = d; live = Some t }) t (stands_at k d (Some t) M) refl
+  own_at k d t M all = all.1 k (record { number = k; disk = d; live = Some t }) t (stands_at k d (Some t) M) refl
 
-  back : (k : ℕ) (d : Disk) (live : Option Parts) (M : Seen) → ((t : Parts) → live ≡ Some t → QAt k M.sent t.coord) → Others k M → AreSo (at k d live M)
-  back k d live M own o j n t is up_it = by (j == k) refl is
+  backs : (k : ℕ) (d : Disk) (live : Option Parts) (M : Seen) → ((t : Parts) → live ≡ Some t → QAt k M.sent t.coord) → Others k M → (j : ℕ) (n : Node) (t : Parts) → (let S = at k d live M in S.nodes j) ≡ Some n → n.live ≡ Some t → QAt j M.sent t.coord
+  backs k d live M own o j n t is up_it = by (j == k) refl is
     where
       x : Node
       x = record { number = k; disk = d; live = live }
@@ -241,14 +258,19 @@ module _ (Q : Sender → Coord → Type 0) (kept : IsKeptBy Q) where
       by true same is = let here : x ≡ n = some_is is in subst (λ z. QAt z M.sent t.coord) (sym (eqb-true j k same)) (own t (ap (λ (z : Node). z.live) here ∙ up_it))
       by false apart is = o j n t (λ same. never (ap (λ z. z == k) same ∙ same_number k) apart) is up_it
 
+  back : (k : ℕ) (d : Disk) (live : Option Parts) (M : Seen) → P M.sent → ((t : Parts) → live ≡ Some t → QAt k M.sent t.coord) → Others k M → AreSo (at k d live M)
+  back k d live M all own o = (all, λ j n t is up_it. backs k d live M own o j n t is up_it)
+
   -- whatever a node does
-  walk : (e k : ℕ) (v : Parts) (outs : List Effect) (d : Disk) (M : Seen) → AllSo v.coord outs → Others k M → QAt k M.sent v.coord → Walks AreSo e k outs (Up AreSo k v) d M
-  walk e k v [] d M so o own = back k d (Some v) M (λ t is. subst (λ (z : Parts). QAt k M.sent z.coord) (some_is is) own) o
-  walk e k v (Do w ∷ es) d M so o own = ((λ how. back k (stopped how w d) None M (λ t is. absurd (cc is)) o), walk e k v es (worked w d) M so.1 o own)
-  walk e k v (Say b ∷ es) d M so o own = walk e k v es d (said e (b ∷ []) M) so.1 o own
-  walk e k v (Send to m ∷ es) d M so o own = λ more quiet. walk e k v es d (said e more (posted (record { from = k; to = to; message = m }) M)) so.1
+  walk : (e k : ℕ) (v : Parts) (outs : List Effect) (d : Disk) (M : Seen) → IsStanding v.coord → AllSo v.coord outs → P M.sent → Others k M → QAt k M.sent v.coord → Walks AreSo e k outs (Up AreSo k v) d M
+  walk e k v [] d M stands so all o own = back k d (Some v) M all (λ t is. subst (λ (z : Parts). QAt k M.sent z.coord) (some_is is) own) o
+  walk e k v (Do w ∷ es) d M stands so all o own = ((λ how. back k (stopped how w d) None M all (λ t is. absurd (cc is)) o), walk e k v es (worked w d) M stands so.1 all o own)
+  walk e k v (Say b ∷ es) d M stands so all o own = walk e k v es d (said e (b ∷ []) M) stands so.1 all o own
+  walk e k v (Send to m ∷ es) d M stands so all o own = λ more quiet.
+      let next = kept.sends (record { node = k; sent = M.sent }) v.coord to m stands so.0 all own in
+      walk e k v es d (said e more (posted (record { from = k; to = to; message = m }) M)) stands so.1 next.0
       (λ j n t apart is up_it. kept.apart (record { node = j; sent = M.sent }) t.coord (record { from = k; to = to; message = m }) (λ same. apart (sym same)) (o j n t apart is up_it))
-      (kept.sends (record { node = k; sent = M.sent }) v.coord to m so.0 own)
+      next.1
 
   -- ---- a node of a good world
 
@@ -280,8 +302,17 @@ module _ (Q : Sender → Coord → Type 0) (kept : IsKeptBy Q) where
     others : Others k M
     others = others_at k d (Some t) M all
 
+    abbrev Stands : Coord → Type 0
+    Stands c = IsGoodCoord begun paths c
+
+    abbrev IsSo : Coord → Type 0
+    IsSo c = QAt k M.sent c × Stands c
+
+    standing : (c : Coord) → Stands c → IsStanding c
+    standing c so = (begun, good.begun, so)
+
     message_walk : (from : ℕ) (m : Message) (v : Parts) (outs : List Effect) → In (record { from = from; to = k; message = m }) M.sent → is_meant t m ≡ true → handle k d t from m ≡ Took v outs → Walks AreSo e k outs (Up AreSo k v) d M
-    message_walk from m v outs there meant is = walk e k v outs d M h.1 others h.0
+    message_walk from m v outs there meant is = walk e k v outs d M (standing v.coord h.0.1) h.1 all.0 others h.0.0
       where
         u : IsUp begun M.sent M.labels k d.inc t
         u = its_up
@@ -289,16 +320,16 @@ module _ (Q : Sender → Coord → Type 0) (kept : IsKeptBy Q) where
         reply_meant : (a : Asked) (r : Reply) → answers m ≡ Some (a, r) → reply_is_meant t.coord a r ≡ true
         reply_meant a r of = ap (answer_is_meant t.coord) (sym of) ∙ (and_parts (asked_is_meant t.server (asks m)) (answer_is_meant t.coord (answers m)) meant).1
 
-        h : QAt k M.sent v.coord × AllSo v.coord outs
-        h = subst (By (QAt k M.sent) k d t from its) is (handled_so (QAt k M.sent) k d t from its m
-            (λ a r of. (kept.hears s t.coord place from a r d.intents (answers_fit begun e k d t M good binds from m there a r of) (reply_meant a r of) its, heard_so begun paths tree t.coord its_coord u.numbered works from a r d.intents))
-            (λ w. (kept.acks s t.coord place from w d.intents its, acked_so from w d.intents t.coord)))
+        h : IsSo v.coord × AllSo v.coord outs
+        h = subst (By IsSo k d t from (its, its_coord)) is (handled_so IsSo k d t from (its, its_coord) m
+            (λ a r of. ((kept.hears s t.coord place from a r d.intents (m, there, of) (answers_fit begun e k d t M good binds from m there a r of) (reply_meant a r of) its, good_heard begun paths tree from a r d.intents t.coord its_coord), heard_so begun paths tree t.coord its_coord u.numbered works from a r d.intents))
+            (λ w. ((kept.acks s t.coord place from w d.intents its, good_acked begun paths tree from w d.intents t.coord its_coord), acked_so from w d.intents t.coord)))
 
     act_walk : (hd : Header) (i : Input) → is_act i ≡ true → refusal_up hd i t.coord ≡ None → Walks AreSo e k (let r = acts i d.intents t.coord in r.outs) (Up AreSo k (with_coord t (acts i d.intents t.coord).part)) d M
     act_walk hd i is free =
         let r = acts i d.intents t.coord in
         let u = its_up in
-        walk e k (with_coord t r.part) r.outs d M (acts_so begun paths tree t.coord its_coord u.numbered works i d.intents other) others (kept.does s t.coord place d.intents hd i free other its)
+        walk e k (with_coord t r.part) r.outs d M (standing r.part (good_acts begun paths tree d.intents t.coord its_coord hd i free other)) (acts_so begun paths tree t.coord its_coord u.numbered works i d.intents other) all.0 others (kept.does s t.coord place d.intents hd i free other its)
       where
         other : (l : Label) (how : Kind) (parent : Option Label) → i ≢ input.Begin l how parent
         other l how parent same = let no_way : false ≡ true = sym (ap is_act same) ∙ is in cc no_way
@@ -308,14 +339,14 @@ module _ (Q : Sender → Coord → Type 0) (kept : IsKeptBy Q) where
         let r = again_all t.coord.doings t.coord in
         let u = its_up in
         let tolds = tolds_again t.coord.telling in
-        walk e k (with_coord t r.part) (tick_outs (record { number = k; disk = d; live = Some t }) t) d M
+        walk e k (with_coord t r.part) (tick_outs (record { number = k; disk = d; live = Some t }) t) d M (standing r.part (good_again begun paths tree t.coord.doings t.coord its_coord))
         (so_both r.part (r.outs ++ tolds) (map query_about (holders d t)) (so_both r.part r.outs tolds (again_so begun paths tree t.coord its_coord u.numbered works) (tolds_so r.part t.coord.telling)) (all_map (SendsSo r.part) query_about (holders d t) (λ w h a is. absurd (cc is))))
-        others (kept.asks s t.coord place its)
+        all.0 others (kept.asks s t.coord place its)
 
     begin_walk : (l : Label) (how : Kind) (parent : Option Label) (g : Labelled) → Walks AreSo e k (let r = begin_action l how parent (parent_of parent t.coord) t.coord in r.outs) (Up AreSo k (with_coord t (begin_action l how parent (parent_of parent t.coord) t.coord).part)) d (given l g M)
     begin_walk l how parent g =
         let r = begin_action l how parent (parent_of parent t.coord) t.coord in
-        walk e k (with_coord t r.part) r.outs d (given l g M) (tt, tt) others (kept.begins s t.coord place l how parent its)
+        back k d (Some (with_coord t r.part)) (given l g M) all.0 (λ v is. subst (λ (z : Parts). QAt k M.sent z.coord) (some_is is) (kept.begins s t.coord place l how parent its)) others
 
   -- ---- restarts, and at first
 
@@ -323,16 +354,13 @@ module _ (Q : Sender → Coord → Type 0) (kept : IsKeptBy Q) where
     abbrev v : Parts
     v = parts_in k (d.inc + 1) d
 
-    fresh : (p : Post) (h : Head) (a : Ask) → In p M.sent → asks p.message ≡ Some (h, a) → is_own (actor h.path) (new_tree k (d.inc + 1)) ≡ true → ⊥
-    fresh p h a there is own =
+    fresh : (p : Post) (h : Head) (a : Ask) → In p M.sent → asks p.message ≡ Some (h, a) → (u : Uid) → is_on (uids_of h.path) u ≡ true → is_own u (new_tree k (d.inc + 1)) ≡ true → ⊥
+    fresh p h a there is u on own =
         let asker = asker_of a (fits_asked begun p.message h a is (good.fits p there)) in
         let f = counted_of k d None M (begun, good) in
         let o = and_parts (u.node == k) (u.inc == d.inc + 1) own in
-        late (f.1 asker.0 u asker.1 (ap (λ q. is_on (uids_of q) u) asker.2 ∙ on_own h.path) (eqb-true u.node k o.0)) (eqb-true u.inc (d.inc + 1) o.1)
+        late (f.1 asker.0 u asker.1 (ap (λ q. is_on (uids_of q) u) asker.2 ∙ on) (eqb-true u.node k o.0)) (eqb-true u.inc (d.inc + 1) o.1)
       where
-        u : Uid
-        u = actor h.path
-
         late : {n : ℕ} → (u.inc < d.inc) ⊎ ((u.inc ≡ d.inc) × (u.num ≤ n)) → u.inc ≡ d.inc + 1 → ⊥
         late (inl less) same = omega (arith, less, same)
         late (inr q) same = omega (arith, q.0, same)
@@ -385,29 +413,25 @@ module _ (Q : Sender → Coord → Type 0) (kept : IsKeptBy Q) where
         hellos : List Effect
         hellos = map (hello_to k (d.inc + 1)) (without_number k (numbers_to hd.nodes))
 
+    started : IsGoodCoord begun (paths_of begun) v.coord
+    started = let g = good_fresh begun (paths_of begun) k d.inc (d.inc + 1) (counted_of k d None M (begun, good)).0 (counted_of k d None M (begun, good)).1 (omega arith) in record { tree = g.tree; home = g.home; known = g.known; busy = g.busy }
+
     restart_walk : Walks AreSo e k (restart_outs hd k (d.inc + 1) d) (Up AreSo k (parts_in k (d.inc + 1) d)) d M
-    restart_walk = walk e k v (restart_outs hd k (d.inc + 1) d) d M new_so (others_at k d None M all) (kept.new (record { node = k; sent = M.sent }) k (d.inc + 1) d.intents fresh)
+    restart_walk = walk e k v (restart_outs hd k (d.inc + 1) d) d M (begun, good.begun, started) new_so all.0 (others_at k d None M all) (kept.new (record { node = k; sent = M.sent }) (d.inc + 1) d.intents fresh)
 
   first_so : (hd : Header) → AreSo (see [] (format hd))
-  first_so hd = nodes
+  first_so hd = (kept.none, nodes)
     where
-      got : (ms : List ℕ) (i : ℕ) (n : Node) → slice_get (map (first_node hd) ms) i ≡ Some n → (a : ℕ) × (first_node hd a ≡ n)
-      got [] i n is = absurd (cc is)
-      got (m ∷ ms) zero n is = (m, some_is is)
-      got (m ∷ ms) (suc i) n is = got ms i n is
-
       nodes : (j : ℕ) (n : Node) (t : Parts) → at_place j (map (first_node hd) (numbers_to hd.nodes)) ≡ Some n → n.live ≡ Some t → QAt j [] t.coord
       nodes zero n t is live = absurd (cc is)
-      nodes (suc j) n t is live =
-          let a = got (numbers_to hd.nodes) j n is in
-          subst (λ (z : Parts). QAt (suc j) [] z.coord) (some_is (ap (λ (z : Node). z.live) a.1 ∙ live)) (kept.new (record { node = suc j; sent = [] }) a.0 1 (let d = first_disk hd a.0 in d.intents) (λ p h q there. absurd there))
+      nodes (suc j) n t is live = subst (λ (z : Parts). QAt (suc j) [] z.coord) (some_is (ap (λ (z : Node). z.live) (first_at hd (suc j) n is) ∙ live)) (kept.new (record { node = suc j; sent = [] }) 1 (let d = first_disk hd (suc j) in d.intents) (λ p h q there. absurd there))
 
   -- ---- all runs
 
   pub coords_given : (hd : Header) → KeepsGiven hd (λ M. IsGood M × BindsAreKnown M) AreSo
   coords_given hd = record {
     quiet = λ e bs M quiet_lines g p. p;
-    stop = λ e k d live M g p. back k d None M (λ t is. absurd (cc is)) (others_at k d live M p);
+    stop = λ e k d live M g p. back k d None M p.0 (λ t is. absurd (cc is)) (others_at k d live M p);
     message = λ e k d t v from m outs M g p there meant is. (let h = g.0 in message_walk h.0 e k d t M h.1 g.1 p from m v outs there meant is);
     act = λ e k d t i M is free g p. (let h = g.0 in act_walk h.0 e k d t M h.1 g.1 p hd i is free);
     begin = λ e k d t l how parent M new may free g p. (let h = g.0 in begin_walk h.0 e k d t M h.1 g.1 p l how parent (record { node = k; serial = is_serial_kind how }));
@@ -418,3 +442,29 @@ module _ (Q : Sender → Coord → Type 0) (kept : IsKeptBy Q) where
 
   pub coords_keep : (hd : Header) → Keeps hd (λ M. (IsGood M × BindsAreKnown M) × AreSo M)
   coords_keep hd = kept_both hd (λ M. IsGood M × BindsAreKnown M) AreSo (binds_keep hd) (coords_given hd)
+
+-- where nothing is kept of all that was sent
+module _ (Q : Sender → Coord → Type 0) (kept : IsKeptBy (λ sent. ⊤) Q) where
+  abbrev Base : Seen → Type 0
+  Base M = IsGood M × BindsAreKnown M
+
+  abbrev Both : Seen → Type 0
+  Both M = AreSo (λ sent. ⊤) Q kept M
+
+  plain : (e k : ℕ) (outs : List Effect) (v : Parts) (d : Disk) (M : Seen) → Walks Both e k outs (Up Both k v) d M → Walks (AtCoords Q) e k outs (Up (AtCoords Q) k v) d M
+  plain e k outs v d M w = walks_to Both (AtCoords Q) e k outs (Up Both k v) (Up (AtCoords Q) k v) d M (λ N p. p.1) (λ c N p. p.1) w
+
+  plain_given : (hd : Header) → KeepsGiven hd Base Both → KeepsGiven hd Base (AtCoords Q)
+  plain_given hd g = record {
+    quiet = λ e bs M quiet_lines b p. (g.quiet e bs M quiet_lines b (tt, p)).1;
+    stop = λ e k d live M b p. (g.stop e k d live M b (tt, p)).1;
+    message = λ e k d t v from m outs M b p there meant is. plain e k outs v d M (g.message e k d t v from m outs M b (tt, p) there meant is);
+    act = λ e k d t i M is free b p. let did = acts i d.intents t.coord in plain e k did.outs (with_coord t did.part) d M (g.act e k d t i M is free b (tt, p));
+    begin = λ e k d t l how parent M new may free b p. let did = begin_action l how parent (parent_of parent t.coord) t.coord in plain e k did.outs (with_coord t did.part) d (given l (record { node = k; serial = is_serial_kind how }) M) (g.begin e k d t l how parent M new may free b (tt, p));
+    tick = λ e k d t M b p. plain e k (tick_outs (record { number = k; disk = d; live = Some t }) t) (with_coord t (again_all t.coord.doings t.coord).part) d M (g.tick e k d t M b (tt, p));
+    restart = λ e k d M b p. plain e k (restart_outs hd k (d.inc + 1) d) (parts_in k (d.inc + 1) d) d M (g.restart e k d M b (tt, p));
+    first = g.first.1;
+  }
+
+  pub coords_plain : (hd : Header) → Keeps hd (λ M. (IsGood M × BindsAreKnown M) × AtCoords Q M)
+  coords_plain hd = kept_both hd Base (AtCoords Q) (binds_keep hd) (plain_given hd (coords_given (λ sent. ⊤) Q kept hd))

@@ -55,7 +55,7 @@ not_on is = cc is
 end_is : {e f : CallEnd} → Ended e ≡ Ended f → e ≡ f
 end_is is = cc
 
-found_any : {A : Type 0} (p : A → Bool) (xs : List A) → list_any p xs ≡ true → (x : A) × list.In x xs × (p x ≡ true)
+pub found_any : {A : Type 0} (p : A → Bool) (xs : List A) → list_any p xs ≡ true → (x : A) × list.In x xs × (p x ≡ true)
 found_any p [] is = absurd (cc is)
 found_any {A} p (x ∷ xs) is = by (p x) refl is (found_any p xs)
   where

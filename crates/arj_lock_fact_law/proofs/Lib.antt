@@ -1,6 +1,7 @@
 pub mod Turns
 pub mod Waits
 pub mod Kept
+pub mod Further
 pub mod Pieces
 pub mod Fresh
 pub mod Inner

@@ -60,7 +60,7 @@ kept_in {A} p x (y ∷ ys) i is = by (p y) refl (kept_in p x ys) i
     by false e ih (inl same) = let no_way : true ≡ false = sym (ap p same ∙ is) ∙ e in absurd (cc no_way)
     by false e ih (inr j) = ih j is
 
-map_in : {A B : Type 0} (f : A → B) (x : A) (xs : List A) → list.In x xs → list.In (f x) (map f xs)
+pub map_in : {A B : Type 0} (f : A → B) (x : A) (xs : List A) → list.In x xs → list.In (f x) (map f xs)
 map_in f x [] i = absurd i
 map_in f x (y ∷ ys) (inl same) = inl (ap f same)
 map_in f x (y ∷ ys) (inr i) = inr (map_in f x ys i)

@@ -1,5 +1,6 @@
 -- All that a coordinator does, piece by piece: what each piece keeps is kept.
 use Rattle.std.proofs.Common.{◌≡◌, ◌≢◌, ◌⊎◌, ◌∙◌, ◌==◌, ◌&&◌, arith, ℕ, Bool, true, false, cond, List, [], ◌∷◌, ◌++◌, Option, Some, None, refl, sym, ap, subst, inl, inr}
+use Rattle.std.specs.Prelude.{is_some}
 use Rattle.arj_protocol.specs.Words.{Ask, Asked, End, Header, Kind, Label, Op, Path, Uid}
 use Rattle.arj_protocol.specs.Words.cause
 use Rattle.arj_protocol.specs.Words.ending
@@ -20,11 +21,12 @@ use Rattle.arj_lock.proofs.Members as list
 use Rattle.arj_part_law.specs.Actions.{paths_of}
 use Rattle.arj_part_law.specs.Coords.{IsAsking, IsBusy, IsVoting}
 use Rattle.arj_part_law.proofs.Begun.{begun_tree}
-use Rattle.arj_part_law.proofs.CoordInputs.{named_found}
+use Rattle.arj_part_law.proofs.CoordInputs.{named_found, off}
 use Rattle.arj_part_law.proofs.GoodCoords.{IsStepOf, actor_is, answer_step, giveup_step, vote_step}
 use Rattle.arj_part_law.proofs.GoodTrees.{placed}
 use Rattle.arj_address_law.specs.Binds.{AnswersWaiting}
 use Rattle.arj_view_law.specs.Seen.{Post}
+use Rattle.arj_lock_fact_law.proofs.Further.{GoesFurther, IsFurther, answer_further, giveup_further, itself_further, vote_further}
 use Rattle.arj_lock_fact_law.proofs.Kept.{Place}
 
 -- the path is that of an action of the coordinator
@@ -39,6 +41,7 @@ pub record IsOnWay (c : Coord) (u : Uid) (p : Plan) : Type 0 where
   pub now : doing.now ≡ Committing machine
   pub path : p.path ≡ (let q = plan_of machine in q.path)
   pub ends : p.ends ≡ (let q = plan_of machine in q.ends)
+  pub further : IsFurther (plan_of machine) p
 
 -- the plan of a commit that is called now
 pub record IsCalled (c : Coord) (u : Uid) (p : Plan) : Type 0 where
@@ -46,6 +49,10 @@ pub record IsCalled (c : Coord) (u : Uid) (p : Plan) : Type 0 where
   pub found : branch_of u c.tree ≡ Some branch
   pub path : p.path ≡ branch.path
   pub ends : p.ends ≡ ends_of (root_of branch.path) c.tree
+  pub opened : is_some branch.ended ≡ false
+  pub top : (branch.kind ≢ kind.Nested) × (branch.kind ≢ kind.Serial)
+  pub req : ℕ
+  pub further : IsFurther (plan_for branch.path req (root_at (root_of branch.path) c) c) p
 
 abbrev pub IsPlanned : Coord → Uid → Plan → Type 0
 IsPlanned c u p = IsOnWay c u p ⊎ IsCalled c u p
@@ -116,17 +123,17 @@ module _ (sent : List Post) (k : ℕ) (c : Coord) (place : Place sent k c) (Q : 
   step_so u (Decides p) intents e planned q = decide_so p e (planned_path u p planned) q
   step_so u (Aborts why p) intents e planned q = ended_so u ending.Abort e q
 
-  on_way : (u : Uid) (d : Doing) (m : Machine) → doing_of u c ≡ Some d → d.now ≡ Committing m → (s : CommitStep) → IsStepOf place.actions (paths_of place.actions) (begun_tree place.actions place.begun) (plan_of m) s → ArePlanned u s
-  on_way u d m found now (Stays z) same = inl (record { doing = d; machine = m; found = found; now = now; path = same.0; ends = same.1 })
-  on_way u d m found now (Asks z) same = inl (record { doing = d; machine = m; found = found; now = now; path = same.0; ends = same.1 })
-  on_way u d m found now (Decides z) same = inl (record { doing = d; machine = m; found = found; now = now; path = same.0; ends = same.1 })
-  on_way u d m found now (Aborts why z) same = tt
+  on_way : (u : Uid) (d : Doing) (m : Machine) → doing_of u c ≡ Some d → d.now ≡ Committing m → (s : CommitStep) → IsStepOf place.actions (paths_of place.actions) (begun_tree place.actions place.begun) (plan_of m) s → GoesFurther (plan_of m) s → ArePlanned u s
+  on_way u d m found now (Stays z) same further = inl (record { doing = d; machine = m; found = found; now = now; path = same.0; ends = same.1; further = further })
+  on_way u d m found now (Asks z) same further = inl (record { doing = d; machine = m; found = found; now = now; path = same.0; ends = same.1; further = further })
+  on_way u d m found now (Decides z) same further = inl (record { doing = d; machine = m; found = found; now = now; path = same.0; ends = same.1; further = further })
+  on_way u d m found now (Aborts why z) same further = tt
 
-  called_now : (u : Uid) (b : Branch) (p : Plan) → branch_of u c.tree ≡ Some b → p.path ≡ b.path → p.ends ≡ ends_of (root_of b.path) c.tree → (s : CommitStep) → IsStepOf place.actions (paths_of place.actions) (begun_tree place.actions place.begun) p s → ArePlanned u s
-  called_now u b p found path ends (Stays z) same = inr (record { branch = b; found = found; path = same.0 ∙ path; ends = same.1 ∙ ends })
-  called_now u b p found path ends (Asks z) same = inr (record { branch = b; found = found; path = same.0 ∙ path; ends = same.1 ∙ ends })
-  called_now u b p found path ends (Decides z) same = inr (record { branch = b; found = found; path = same.0 ∙ path; ends = same.1 ∙ ends })
-  called_now u b p found path ends (Aborts why z) same = tt
+  called_now : (u : Uid) (b : Branch) (req : ℕ) → branch_of u c.tree ≡ Some b → is_some b.ended ≡ false → (b.kind ≢ kind.Nested) × (b.kind ≢ kind.Serial) → (s : CommitStep) → IsStepOf place.actions (paths_of place.actions) (begun_tree place.actions place.begun) (plan_for b.path req (root_at (root_of b.path) c) c) s → GoesFurther (plan_for b.path req (root_at (root_of b.path) c) c) s → ArePlanned u s
+  called_now u b req found opened top (Stays z) same further = inr (record { branch = b; found = found; path = same.0; ends = same.1; opened = opened; top = top; req = req; further = further })
+  called_now u b req found opened top (Asks z) same further = inr (record { branch = b; found = found; path = same.0; ends = same.1; opened = opened; top = top; req = req; further = further })
+  called_now u b req found opened top (Decides z) same further = inr (record { branch = b; found = found; path = same.0; ends = same.1; opened = opened; top = top; req = req; further = further })
+  called_now u b req found opened top (Aborts why z) same further = tt
 
   is_step : (u : Uid) (d : Doing) (s : Steps) → doing_of u c ≡ Some d → d.now ≡ Calling s → IsStep c s
   is_step u d s found now =
@@ -150,7 +157,7 @@ module _ (sent : List Post) (k : ℕ) (c : Coord) (place : Place sent k c) (Q : 
       now d found (Committing m) is = one (waits_for_commit from a r m)
         where
           one : (w : Bool) → Q (cond {A = Served Coord (Unit {0})} w (heard_by (moved_commit a.act (commit.answered from m r) intents c)) (heard_none c)).part
-          one true = step_so a.act (commit.answered from m r).step intents c (on_way a.act d m found is (commit.answered from m r).step (answer_step place.actions (paths_of place.actions) (begun_tree place.actions place.begun) from m r)) keeps.start
+          one true = step_so a.act (commit.answered from m r).step intents c (on_way a.act d m found is (commit.answered from m r).step (answer_step place.actions (paths_of place.actions) (begun_tree place.actions place.begun) from m r) (answer_further from m r)) keeps.start
           one false = keeps.start
 
       by : (o : Option Doing) → doing_of a.act c ≡ o → Q (heard_doing from a r intents c o).part
@@ -163,14 +170,14 @@ module _ (sent : List Post) (k : ℕ) (c : Coord) (place : Place sent k c) (Q : 
       now : (d : Doing) → doing_of u c ≡ Some d → (n : Now) → d.now ≡ n → Q (gives_up u intents c n).part
       now d found Idle is = keeps.start
       now d found (Calling s) is = lost s (is_step u d s found is)
-      now d found (Committing m) is = step_so u (commit.given_up m).step intents c (on_way u d m found is (commit.given_up m).step (giveup_step place.actions (paths_of place.actions) (begun_tree place.actions place.begun) m)) keeps.start
+      now d found (Committing m) is = step_so u (commit.given_up m).step intents c (on_way u d m found is (commit.given_up m).step (giveup_step place.actions (paths_of place.actions) (begun_tree place.actions place.begun) m) (giveup_further m)) keeps.start
 
       by : (o : Option Doing) → doing_of u c ≡ o → Q (give_up_doing u intents c o).part
       by None none = keeps.start
       by (Some d) found = now d found d.now refl
 
-  pub commit_so : (b : Branch) (intents : List (Uid × Intent)) → branch_of (actor b.path) c.tree ≡ Some b → Q (commit_action b intents c).part
-  commit_so b intents found = doomed b.doomed
+  pub commit_so : (b : Branch) (intents : List (Uid × Intent)) → branch_of (actor b.path) c.tree ≡ Some b → is_some b.ended ≡ false → Q (commit_action b intents c).part
+  commit_so b intents found opened = doomed b.doomed
     where
       u : Uid
       u = actor b.path
@@ -178,19 +185,19 @@ module _ (sent : List Post) (k : ℕ) (c : Coord) (place : Place sent k c) (Q : 
       plan : Plan
       plan = plan_for b.path (last_req (doing_of u c)) (root_at (root_of b.path) c) c
 
-      top : Q (commit_top b.path intents c).part
-      top = step_so u (commit.start plan).step intents c (called_now u b plan found refl refl (commit.start plan).step (vote_step place.actions (paths_of place.actions) (begun_tree place.actions place.begun) (servers_of plan) plan plan (refl, refl))) keeps.start
+      top : (b.kind ≢ kind.Nested) × (b.kind ≢ kind.Serial) → Q (commit_top b.path intents c).part
+      top upper = step_so u (commit.start plan).step intents c (called_now u b (last_req (doing_of u c)) found opened upper (commit.start plan).step (vote_step place.actions (paths_of place.actions) (begun_tree place.actions place.begun) (servers_of plan) plan plan (refl, refl)) (vote_further (servers_of plan) plan plan (itself_further plan))) keeps.start
 
-      kinds : (q : Kind) → Q (commit_open b intents c q).part
-      kinds kind.Nested = ended_so u ending.Commit c keeps.start
-      kinds kind.Serial = ended_so u ending.Commit c keeps.start
-      kinds kind.Top = top
-      kinds kind.Independent = top
-      kinds kind.Constituent = top
+      kinds : (q : Kind) → b.kind ≡ q → Q (commit_open b intents c q).part
+      kinds kind.Nested is = ended_so u ending.Commit c keeps.start
+      kinds kind.Serial is = ended_so u ending.Commit c keeps.start
+      kinds kind.Top is = top ((λ e. cc (sym is ∙ e)), λ e. cc (sym is ∙ e))
+      kinds kind.Independent is = top ((λ e. cc (sym is ∙ e)), λ e. cc (sym is ∙ e))
+      kinds kind.Constituent is = top ((λ e. cc (sym is ∙ e)), λ e. cc (sym is ∙ e))
 
       doomed : (d : Bool) → Q (cond {A = Did Coord} d (aborts_with u cause.Doomed intents c) (commit_open b intents c b.kind)).part
       doomed true = ended_so u ending.Abort c keeps.start
-      doomed false = kinds b.kind
+      doomed false = kinds b.kind refl
 
   pub abort_so : (u : Uid) (intents : List (Uid × Intent)) → Q (abort_action u intents c).part
   abort_so u intents = all_so (open_below u c.tree ++ u ∷ []) c keeps.start
@@ -210,11 +217,11 @@ module _ (sent : List Post) (k : ℕ) (c : Coord) (place : Place sent k c) (Q : 
       by : (f : Option Branch) → branch_named l c ≡ f → refused_by (include_reasons hd x) c f ≡ None → Q (on_branch (λ b. include b.path x s c) c f).part
       by None is e = keeps.start
       by (Some b) is e = includes b x s (named_found place.actions (paths_of place.actions) (begun_tree place.actions place.begun) intents c place.good l b is) e
-  acts_so hd (input.Commit l) intents free other calls includes lost = by (branch_named l c) refl
+  acts_so hd (input.Commit l) intents free other calls includes lost = by (branch_named l c) refl free
     where
-      by : (f : Option Branch) → branch_named l c ≡ f → Q (on_branch (λ b. commit_action b intents c) c f).part
-      by None is = keeps.start
-      by (Some b) is = commit_so b intents (named_found place.actions (paths_of place.actions) (begun_tree place.actions place.begun) intents c place.good l b is)
+      by : (f : Option Branch) → branch_named l c ≡ f → refused_by commit_reasons c f ≡ None → Q (on_branch (λ b. commit_action b intents c) c f).part
+      by None is e = keeps.start
+      by (Some b) is e = commit_so b intents (named_found place.actions (paths_of place.actions) (begun_tree place.actions place.begun) intents c place.good l b is) (off (commit_reasons b c) e).0
   acts_so hd (input.Abort l) intents free other calls includes lost = by (branch_named l c)
     where
       by : (f : Option Branch) → Q (on_branch (λ b. abort_action (actor b.path) intents c) c f).part

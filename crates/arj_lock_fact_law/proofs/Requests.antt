@@ -1,5 +1,6 @@
 -- In every run the last request of each action at work is of what it waits for.
 use Rattle.std.proofs.Common.{◌≡◌, ◌≤◌, ◌∙◌, arith, ℕ, List, Some, refl, sym, ap, subst, ⊎_elim}
+use Rattle.std.specs.Prelude.{⊤}
 use Rattle.arj_protocol.specs.Words.{Ask, Head, Message, Uid, asks}
 use Rattle.arj_protocol.specs.Ask.{actor}
 use Rattle.arj_protocol.specs.Asking.{again_all, begin_action, heard}
@@ -11,14 +12,14 @@ use Rattle.arj_protocol.specs.Ending.{acked}
 use Rattle.arj_protocol.specs.Step.{acts, parent_of}
 use Rattle.arj_protocol.specs.Tree.{is_own}
 use Rattle.arj_part_law.specs.Actions.{paths_of}
-use Rattle.arj_part_law.proofs.Begun.{begun_tree}
+use Rattle.arj_part_law.proofs.Begun.{begun_tree, on_own}
 use Rattle.arj_part_law.proofs.TrueSteps.{well_acked, well_acts, well_again, well_heard}
 use Rattle.arj_view_law.specs.Seen.{Post}
 use Rattle.arj_view_law.proofs.Happens.{runs_hold}
 use Rattle.arj_call_law.specs.Coords.{IsOfStep}
 use Rattle.arj_call_law.proofs.CoordSends.{IsSentBy, SendsSo}
 use Rattle.arj_lock_fact_law.specs.Requests.{HandlersKeepRequests, IsAskedBy, KnowsRequests, RequestsAreKnown, RunsKeepRequests}
-use Rattle.arj_lock_fact_law.proofs.CoordRuns.{IsKeptBy, Sender, coords_keep}
+use Rattle.arj_lock_fact_law.proofs.CoordRuns.{IsKeptBy, Sender, coords_plain}
 use Rattle.arj_lock_fact_law.proofs.Onward.{AsksSame, IsFurther, IsLater, further_acked, further_acts, further_again, further_begins, further_heard}
 
 -- ---- requests that were sent
@@ -58,12 +59,13 @@ requests_on sent k c e own further knows p h a there from is its =
 
 -- ---- in every run
 
-pub requests_kept : IsKeptBy (λ s c. KnowsRequests s.sent s.node c)
+pub requests_kept : IsKeptBy (λ sent. ⊤) (λ s c. KnowsRequests s.sent s.node c)
 requests_kept = record {
-  new = λ s node inc telling fresh p h a there from is own. absurd (fresh p h a there is own);
+  none = tt;
+  new = λ s inc telling fresh p h a there from is own. absurd (fresh p h a there is (actor h.path) (on_own h.path) own);
   apart = λ s c p other knows q h a there from is own. ⊎_elim (λ same. absurd (other (ap (λ (z : Post). z.from) same ∙ from))) (λ old. knows q h a old from is own) there;
-  sends = λ s c to m so knows q h a there from is own. ⊎_elim (λ same. mine s c to m so q h a same is) (λ old. knows q h a old from is own) there;
-  hears = λ s c place from a r intents fits meant knows. requests_on s.sent s.node c (heard from a r intents c).part (well_heard place.actions (paths_of place.actions) (begun_tree place.actions place.begun) from a r intents c place.good).0.own (further_heard c place.actions (paths_of place.actions) (begun_tree place.actions place.begun) place.good place.numbered from a r intents) knows;
+  sends = λ s c to m stands so all knows. (tt, λ q h a there from is own. ⊎_elim (λ same. mine s c to m so q h a same is) (λ old. knows q h a old from is own) there);
+  hears = λ s c place from a r intents posted fits meant knows. requests_on s.sent s.node c (heard from a r intents c).part (well_heard place.actions (paths_of place.actions) (begun_tree place.actions place.begun) from a r intents c place.good).0.own (further_heard c place.actions (paths_of place.actions) (begun_tree place.actions place.begun) place.good place.numbered from a r intents) knows;
   acks = λ s c place from u intents knows. requests_on s.sent s.node c (acked from u intents c).part (well_acked place.actions (paths_of place.actions) (begun_tree place.actions place.begun) from u intents c).0.own (further_acked c from u intents) knows;
   does = λ s c place intents hd i free other knows. requests_on s.sent s.node c (acts i intents c).part (well_acts place.actions (paths_of place.actions) (begun_tree place.actions place.begun) intents c place.good (let f = place.faithful in f.works) hd i free other).0.own (further_acts c place.actions (paths_of place.actions) (begun_tree place.actions place.begun) place.good place.numbered i intents other) knows;
   begins = λ s c place l how parent knows. requests_on s.sent s.node c (begin_action l how parent (parent_of parent c) c).part (λ u. refl) (further_begins c l how parent) knows;
@@ -74,7 +76,7 @@ requests_kept = record {
     mine s c to m so q h a same asking = subst (λ n. IsAskedBy c n h a) (ap (λ (z : Post). z.to) same) (sent_is c to h a (so h a (ap (λ (z : Post). asks z.message) same ∙ asking)))
 
 pub requests_keep : HandlersKeepRequests
-requests_keep hd = coords_keep (λ s c. KnowsRequests s.sent s.node c) requests_kept hd
+requests_keep hd = coords_plain (λ s c. KnowsRequests s.sent s.node c) requests_kept hd
 
 pub requests_run : RunsKeepRequests
 requests_run hd es = runs_hold hd RequestsAreKnown (requests_keep hd) es

@@ -1,5 +1,6 @@
 -- In every run a state that a call takes to its server is of the call's object.
 use Rattle.std.proofs.Common.{◌≡◌, ◌⊎◌, ◌∙◌, ℕ, [], ◌∷◌, true, List, Option, Some, None, sym, ap, subst, inl, inr}
+use Rattle.std.specs.Prelude.{⊤}
 use Rattle.arj_base.proofs.Uids.{uid_is}
 use Rattle.arj_protocol.specs.Words.{Asked, Binding, ObjectState, Path, Uid, object}
 use Rattle.arj_protocol.specs.Words.loaded
@@ -15,7 +16,7 @@ use Rattle.arj_address_law.specs.Binds.{AnswersWaiting}
 use Rattle.arj_view_law.proofs.Happens.{runs_hold}
 use Rattle.arj_lock_fact_law.specs.States.{HandlersKeepStates, KnowsStates, RunsKeepStates, StatesAreKnown}
 use Rattle.arj_lock_fact_law.proofs.Asked.{AreWaiting, IsNewAt, waiting_acked, waiting_acts, waiting_again, waiting_begins, waiting_heard, waiting_new}
-use Rattle.arj_lock_fact_law.proofs.CoordRuns.{IsKeptBy, PlaceAt, Sender, coords_keep}
+use Rattle.arj_lock_fact_law.proofs.CoordRuns.{IsKeptBy, PlaceAt, Sender, coords_plain}
 
 -- the step's state is of its object
 abbrev IsStated : Steps → Type 0
@@ -55,12 +56,13 @@ lost_so w req at known is k o at_it = absurd (by w.at (is ∙ ap On at_it))
     by (AtNote q i) e = cc e
     by (AtInvoke q i) e = cc e
 
-pub states_kept : IsKeptBy (λ s c. KnowsStates c)
+pub states_kept : IsKeptBy (λ sent. ⊤) (λ s c. KnowsStates c)
 states_kept = record {
-  new = λ s node inc telling fresh. of_waiting (record (new_coord node inc) { telling = telling }) (waiting_new IsStated node inc telling);
+  none = tt;
+  new = λ s inc telling fresh. of_waiting (record (new_coord s.node inc) { telling = telling }) (waiting_new IsStated s.node inc telling);
   apart = λ s c p other knows. knows;
-  sends = λ s c to m so knows. knows;
-  hears = states_heard;
+  sends = λ s c to m stands so all knows. (tt, knows);
+  hears = λ s c place from a r intents posted. states_heard s c place from a r intents;
   acks = λ s c place from u intents knows. of_waiting (acked from u intents c).part (waiting_acked IsStated s.sent s.node c place from u intents (to_waiting c knows));
   does = λ s c place intents hd i free other knows. of_waiting (acts i intents c).part (waiting_acts IsStated s.sent s.node c place hd i intents free other starts_so lost_so (to_waiting c knows));
   begins = λ s c place l how parent knows. of_waiting (begin_action l how parent (parent_of parent c) c).part (waiting_begins IsStated l how parent c (to_waiting c knows));
@@ -68,7 +70,7 @@ states_kept = record {
 }
 
 pub states_keep : HandlersKeepStates
-states_keep hd = coords_keep (λ s c. KnowsStates c) states_kept hd
+states_keep hd = coords_plain (λ s c. KnowsStates c) states_kept hd
 
 pub states_run : RunsKeepStates
 states_run hd es = runs_hold hd StatesAreKnown (states_keep hd) es

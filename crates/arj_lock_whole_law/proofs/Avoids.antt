@@ -18,7 +18,7 @@ use Rattle.arj_protocol.specs.Coord.{Calling, Committing, Coord, Doing, Grant, I
 use Rattle.arj_protocol.specs.Effect.{Effect, Intent, Send}
 use Rattle.arj_protocol.specs.Ending.{abort_action, acked, root_after, keeping_after}
 use Rattle.arj_protocol.specs.Order.{at_number, binding_eq, binding_less, unbound}
-use Rattle.arj_protocol.specs.Step.{Input, acts, branch_named, on_branch, parent_of, refusal_up}
+use Rattle.arj_protocol.specs.Step.{Input, acts, branch_named, commit_reasons, on_branch, parent_of, refusal_up, refused_by}
 use Rattle.arj_protocol.specs.Step as input
 use Rattle.arj_protocol.specs.Tree.{Branch, at_place, doomed_at, ended_at, ends_of, is_own, root_of, uses_object}
 use Rattle.arj_protocol.proofs.Maps.{put_other, put_same}
@@ -26,7 +26,7 @@ use Rattle.arj_protocol.proofs.RowSteps.{one_or_two}
 use Rattle.arj_coord_law.proofs.CoordUses.{on_cases, on_roots, root_cases}
 use Rattle.arj_part_law.specs.Actions.{paths_of}
 use Rattle.arj_part_law.proofs.Begun.{begun_tree}
-use Rattle.arj_part_law.proofs.CoordInputs.{named_found}
+use Rattle.arj_part_law.proofs.CoordInputs.{named_found, off}
 use Rattle.arj_part_law.proofs.GoodCoords.{doomed_same, uses_same}
 use Rattle.arj_part_law.proofs.GoodTrees.{get_more}
 use Rattle.arj_part_law.proofs.Pairs.{at_each}
@@ -286,11 +286,11 @@ module _ (W : ℕ → Binding → Type 0) (none : (x : ℕ) → W x unbound) whe
         by : (f : Option Branch) → (let d = on_branch (λ b. include b.path x s c) c f in Avoids W d.part)
         by None = a
         by (Some b) = include_step c b.path x s a
-    avoids_by hd (input.Commit l) intents free other calls_it = by (branch_named l c) refl
+    avoids_by hd (input.Commit l) intents free other calls_it = by (branch_named l c) refl free
       where
-        by : (f : Option Branch) → branch_named l c ≡ f → (let d = on_branch (λ b. commit_action b intents c) c f in Avoids W d.part)
-        by None is = a
-        by (Some b) is = commit_so sent k c place (Avoids W) (pieces_so c a) b intents (named_found place.actions (paths_of place.actions) (begun_tree place.actions place.begun) intents c place.good l b is)
+        by : (f : Option Branch) → branch_named l c ≡ f → refused_by commit_reasons c f ≡ None → (let d = on_branch (λ b. commit_action b intents c) c f in Avoids W d.part)
+        by None is e = a
+        by (Some b) is e = commit_so sent k c place (Avoids W) (pieces_so c a) b intents (named_found place.actions (paths_of place.actions) (begun_tree place.actions place.begun) intents c place.good l b is) (off (commit_reasons b c) e).0
     avoids_by hd (input.Abort l) intents free other calls_it = by (branch_named l c)
       where
         by : (f : Option Branch) → (let d = on_branch (λ b. abort_action (actor b.path) intents c) c f in Avoids W d.part)

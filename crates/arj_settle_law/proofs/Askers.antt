@@ -1,6 +1,6 @@
 -- Whoever had something prepared by a request has ended at its coordinator, or is at its commit: in every run.
 use Rattle.std.proofs.Common.{◌≡◌, ◌≤◌, ◌==◌, ◌∙◌, arith, ℕ, true, false, List, Option, Some, None, refl, sym, ap, inr, ⊎_elim, eqb-true}
-use Rattle.std.specs.Prelude.{is_some}
+use Rattle.std.specs.Prelude.{⊤, is_some}
 use Rattle.std.proofs.lemmas.Bool.{and_parts}
 use Rattle.arj_protocol.specs.Words.{Ask, Head, Kind, Label, Message, Uid, asks}
 use Rattle.arj_protocol.specs.Ask.{actor}
@@ -13,7 +13,7 @@ use Rattle.arj_protocol.specs.Step.{acts, parent_of}
 use Rattle.arj_protocol.specs.Tree.{is_own}
 use Rattle.arj_part_law.specs.Actions.{paths_of}
 use Rattle.arj_part_law.specs.Claims.{GoesOn, IsSettled}
-use Rattle.arj_part_law.proofs.Begun.{begun_tree}
+use Rattle.arj_part_law.proofs.Begun.{begun_tree, on_own}
 use Rattle.arj_part_law.proofs.TrueSteps.{claim_begins, well_acked, well_acts, well_again, well_heard}
 use Rattle.arj_view_law.specs.Seen.{Post}
 use Rattle.arj_call_law.proofs.CoordSends.{IsSentBy, SendsSo}
@@ -40,12 +40,13 @@ sent_settled c to h a s is = by s.doing.now refl
 settled_on : (sent : List Post) (k : ℕ) (c e : Coord) → GoesOn c e → AskersAreSettled sent k c → AskersAreSettled sent k e
 settled_on sent k c e on so p h a there from is for own = on.settled (actor h.path) (so p h a there from is for (sym (on.own (actor h.path)) ∙ own))
 
-pub askers_kept : IsKeptBy (λ s c. AskersAreSettled s.sent s.node c)
+pub askers_kept : IsKeptBy (λ sent. ⊤) (λ s c. AskersAreSettled s.sent s.node c)
 askers_kept = record {
-  new = λ s node inc telling fresh p h a there from is for own. absurd (fresh p h a there is own);
+  none = tt;
+  new = λ s inc telling fresh p h a there from is for own. absurd (fresh p h a there is (actor h.path) (on_own h.path) own);
   apart = λ s c p other so q h a there from is for own. ⊎_elim (λ same. absurd (other (ap (λ (z : Post). z.from) same ∙ from))) (λ old. so q h a old from is for own) there;
-  sends = λ s c to m sends so q h a there from is for own. ⊎_elim (λ same. mine s c to m sends q h a same is for) (λ old. so q h a old from is for own) there;
-  hears = λ s c place from a r intents fits meant so. settled_on s.sent s.node c (heard from a r intents c).part (well_heard place.actions (paths_of place.actions) (begun_tree place.actions place.begun) from a r intents c place.good).0 so;
+  sends = λ s c to m stands sends all so. (tt, λ q h a there from is for own. ⊎_elim (λ same. mine s c to m sends q h a same is for) (λ old. so q h a old from is for own) there);
+  hears = λ s c place from a r intents posted fits meant so. settled_on s.sent s.node c (heard from a r intents c).part (well_heard place.actions (paths_of place.actions) (begun_tree place.actions place.begun) from a r intents c place.good).0 so;
   acks = λ s c place from u intents so. settled_on s.sent s.node c (acked from u intents c).part (well_acked place.actions (paths_of place.actions) (begun_tree place.actions place.begun) from u intents c).0 so;
   does = λ s c place intents hd i free other so. settled_on s.sent s.node c (acts i intents c).part (well_acts place.actions (paths_of place.actions) (begun_tree place.actions place.begun) intents c place.good (let f = place.faithful in f.works) hd i free other).0 so;
   begins = λ s c place l how parent so p h a there from is for own. begun_settled s c place l how parent (actor h.path) (so p h a there from is for) own;

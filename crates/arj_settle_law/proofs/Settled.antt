@@ -35,7 +35,7 @@ use Rattle.arj_disk_run_law.specs.Records.{AreRecorded, IsRecorded, IsRooted}
 use Rattle.arj_lock_fact_law.specs.Acts.{KeepsOf}
 use Rattle.arj_lock_fact_law.specs.Uppers.{IsTopOf}
 use Rattle.arj_lock_fact_law.proofs.Acts.{kept_of}
-use Rattle.arj_lock_fact_law.proofs.CoordRuns.{coords_keep}
+use Rattle.arj_lock_fact_law.proofs.CoordRuns.{coords_plain}
 use Rattle.arj_lock_whole_law.proofs.Of.{of_both, of_more}
 use Rattle.arj_lock_whole_law.proofs.Whole.{records_of}
 use Rattle.arj_round_law.specs.Quiet.{AreKept, IsPrepared, SettlesAll}
@@ -224,7 +224,7 @@ handlers_settle hd form = (
   asked_both hd (λ M. DisksAreKnown M × ((IsGood M × BindsAreKnown M) × AskersSettle M)) (AreAddressed hd)
       (asked_both hd DisksAreKnown (λ M. (IsGood M × BindsAreKnown M) × AskersSettle M)
       (keeps_asked hd DisksAreKnown (kept_of hd (λ begun M. AreRecorded begun M × PreparedWereAsked begun M) (disks_keep hd)))
-      (keeps_asked hd (λ M. (IsGood M × BindsAreKnown M) × AskersSettle M) (coords_keep (λ s c. AskersAreSettled s.sent s.node c) askers_kept hd)))
+      (keeps_asked hd (λ M. (IsGood M × BindsAreKnown M) × AskersSettle M) (coords_plain (λ s c. AskersAreSettled s.sent s.node c) askers_kept hd)))
       (addresses_keep hd form),
   settles hd,
 )

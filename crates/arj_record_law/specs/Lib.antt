@@ -1,0 +1,4 @@
+pub mod Tests
+pub mod Claims
+pub mod Coords
+pub mod Runs
