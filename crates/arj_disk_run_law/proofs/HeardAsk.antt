@@ -290,9 +290,6 @@ module _ (x : ℕ) (tops : Kinds) (e k : ℕ) (d : Disk) (t v : Parts) (from : �
 
     -- ---- each kind
 
-    abbrev Kind_is : Ask → Reply → Type 0
-    Kind_is b q = ask_kind b ≡ reply_kind q
-
     load_looks : AllByRecursion (SaysHeard x d.inc A) (Do Look ∷ [])
     load_looks = (leaves_rises d.inc Look refl, tt)
 

@@ -51,9 +51,6 @@ module _ (x : ℕ) (tops : Kinds) (e k : ℕ) (d : Disk) (t : Parts) (M : Seen) 
     abbrev m : Moved
     m = answered (is_free (root_of s.path) (actor s.path) s.x t.coord) (kept_of s.x (root_at (root_of s.path) t.coord)) s.goal s.at r
 
-    abbrev did_part : Coord
-    did_part = (heard_call s r t.coord).part
-
     place : StandsIn tops t.coord s.path
     place = step_stands tops k d t M good few knows u w s does now
 

@@ -14,7 +14,7 @@ use Rattle.arj_protocol.specs.Tree.{at_place, is_own, root_of}
 use Rattle.arj_disk_law.specs.Names.{Answer, Bound, Loaded, Names, Office, newer, written_in}
 use Rattle.arj_disk_law.specs.Words.{In}
 use Rattle.arj_view_law.specs.Seen as seen
-use Rattle.arj_view_law.specs.Seen.{Post, Seen}
+use Rattle.arj_view_law.specs.Seen.{Post}
 use Rattle.arj_call_law.specs.Coords.{head_of}
 use Rattle.arj_disk_view_law.specs.Pairs.{packed}
 use Rattle.arj_disk_view_law.specs.Sees.{IsFixed, IsLater, Kinds}
@@ -195,7 +195,3 @@ memory_goes A B only = record { later = only.later; had = λ z i has. ap (λ g. 
 
 pub memory_stays : (tops : Kinds) (A B : Office) → OnlyMemory A B → (r : ℕ) → StaysOf tops r A B
 memory_stays tops A B only r = record { had = λ z of. ap (λ g. g z) only.had; kept = λ z of. ap (λ g. g z) only.kept; states = ap (written_in A.world.disk.root r) only.tops }
-
-pub memory_had : (A B : Office) → OnlyMemory A B → (t i : ℕ) → IsHadBy B t i → IsHadBy A t i
-memory_had A B only t i had = ⊎_elim (λ own. inl (sym (ap (λ g. g t i) only.had) ∙ own))
-    (λ its. inr (sym (ap (λ g. g (A.world.disk.root t) i) only.had) ∙ ap (λ g. B.names.had (g t) i) (sym (let l = only.later in l.root)) ∙ its)) had

@@ -5,14 +5,14 @@ use Rattle.std.proofs.lemmas.Bool.{or_parts, and_parts}
 use Rattle.arj_base.proofs.Uids.{uid_cases}
 use Rattle.arj_protocol.specs.Words.{Uid, entry}
 use Rattle.arj_protocol.specs.Commit as commit
-use Rattle.arj_protocol.specs.Commit.{participants, has_record, included_of, is_empty, is_marked, servers_of, naming_node}
+use Rattle.arj_protocol.specs.Commit.{participants, included_of, is_empty, servers_of, naming_node}
 use Rattle.arj_protocol.specs.Effect.{Intent}
 use Rattle.arj_protocol.specs.Order as order
 use Rattle.arj_protocol.specs.Order.{at_uid, put_uid, without_uid, uid_number}
 use Rattle.arj_protocol.proofs.Numbers.{number_tells}
 use Rattle.arj_disk_law.specs.Effects.{World, Intend, Decide, Remove, EndBare, Halt, after}
 use Rattle.arj_disk_law.specs.State.{State, Stage, Gone, Confirming, naming, decided, undecided, listed_by, open_by, is_open, is_gone, target}
-use Rattle.arj_disk_law.specs.Words.{In, put}
+use Rattle.arj_disk_law.specs.Words.{put}
 use Rattle.arj_disk_law.specs.Words as words
 use Rattle.arj_disk_law.proofs.Base.{test_not, never, falls_to, put_same, put_other, put_cases}
 use Rattle.arj_disk_view_law.specs.Pairs.{SeesPair, packed_entry}
@@ -23,14 +23,6 @@ use Rattle.arj_disk_view_law.proofs.Keys as keys
 use Rattle.arj_disk_view_law.proofs.Planned.{has_same, has_set, has_both}
 
 -- ---- outcomes
-
--- who isn't open later wasn't opened
-closed_open : (b : Bool) (o : Option (List ℕ)) (g : Stage) → is_open g ≡ true → open_by b Gone o ≡ true → open_by b g o ≡ true
-closed_open b o g open_now u = by b u
-  where
-    by : (b : Bool) → open_by b Gone o ≡ true → open_by b g o ≡ true
-    by true u = absurd (cc u)
-    by false u = ap (λ c. c || is_some o) open_now
 
 gone_less : (b : Bool) (o : Option (List ℕ)) (g : Stage) → open_by b Gone o ≡ true → open_by b g o ≡ true
 gone_less true o g u = absurd (cc u)

@@ -124,12 +124,6 @@ module _ (hd : Header) (x : ℕ) (tops : Kinds) (has_it : HasObject hd x) where
   abbrev line : ObjectLine
   line = has_it.line
 
-  abbrev state0 : Packed
-  state0 = packed (first_state has_it.line)
-
-  abbrev entry0 : Packed
-  entry0 = record { version = 0; writer = uid_number nobody; content = line.stores }
-
   abbrev no_plan : Plan
   no_plan = record { writes = None; list = []; joins = []; loaded = packed (first_state has_it.line) }
 

@@ -1,7 +1,7 @@
 -- A store's answer to a Prepare, walked through at the coordinator.
 use Rattle.std.proofs.Common.{◌≡◌, ◌⊎◌, ℕ, List, [], ◌∷◌, ◌++◌, Bool, true, false, Option, Some, None, refl, sym, ◌∙◌, ap, subst, inl, inr, map}
 use Rattle.std.specs.List.{AllByRecursion}
-use Rattle.arj_protocol.specs.Words.{Uid, Path, Head, Ask, Kind, Message, request, uids_of}
+use Rattle.arj_protocol.specs.Words.{Uid, Path, Ask, Kind, Message, request, uids_of}
 use Rattle.arj_protocol.specs.Words.body
 use Rattle.arj_protocol.specs.Words.ask
 use Rattle.arj_protocol.specs.Words.kind
@@ -9,7 +9,7 @@ use Rattle.arj_protocol.specs.Words.prepared
 use Rattle.arj_protocol.specs.Ask.{actor, top_of}
 use Rattle.arj_protocol.specs.Asking.{is_invoke_ask, moved_commit, step_commit, asks_all, asks_node, mark_lines, gaveup_lines}
 use Rattle.arj_protocol.specs.Commit as commit
-use Rattle.arj_protocol.specs.Commit.{Used, Preparing, Confirming, Stays, Asks, Marked, plainly, begin_confirm, stores_left, marks_store, marks_stores, further, confirm_ask, included_of, begin_prepare, states_for, targets_of}
+use Rattle.arj_protocol.specs.Commit.{Used, Preparing, Confirming, Asks, begin_confirm, stores_left, marks_store, marks_stores, further, confirm_ask, included_of, begin_prepare, states_for}
 use Rattle.arj_protocol.specs.Coord.{Coord, Doing, Root, Now, Committing, doing_of, on_doing, on_root, root_at, with_went}
 use Rattle.arj_protocol.specs.Effect.{Disk, Effect, Say, Send, Do, Intent}
 use Rattle.arj_protocol.specs.Ending.{says, say_for}
@@ -23,7 +23,7 @@ use Rattle.arj_protocol.proofs.PartSays.{all_both}
 use Rattle.arj_protocol.specs.Tree.{Branch, branch_of, root_of}
 use Rattle.arj_protocol.specs.World.{numbered}
 use Rattle.arj_disk_law.specs.Effects as machine
-use Rattle.arj_disk_law.specs.Effects.{World, Follows, run, after}
+use Rattle.arj_disk_law.specs.Effects.{World, run, after}
 use Rattle.arj_disk_law.specs.Messages as mail
 use Rattle.arj_disk_law.specs.State.{State, target}
 use Rattle.arj_disk_law.specs.Words.{In}
@@ -281,9 +281,6 @@ asks_roots path req [] c = refl
 asks_roots path req (a ∷ rest) c = asks_roots path req rest (asks_node path req a c).part
 
 module _ (x : ℕ) (tops : Kinds) (e k : ℕ) (d : Disk) (t : Parts) (act : Uid) (q : commit.Plan) (mine : actor q.path ≡ act) where
-  abbrev Head_of : Head
-  Head_of = record { path = q.path; req = q.req }
-
   -- what the machine has when the step has begun
   record Begun (V : World) : Type 0 where
     begun : V.disk.begun (uid_number act) ≡ true
@@ -325,9 +322,6 @@ prepares_are_asked x tops e k d t act p s ss intents M W targets may note sees =
   where
     q : commit.Plan
     q = further (s ∷ ss) p
-
-    t_number : ℕ
-    t_number = uid_number act
 
     goes : TopGoes (uid_number act) (λ S. SeesPreparing x S (uid_number act) (further (s ∷ ss) p) (s ∷ ss)) W
     goes = subst (λ ts. TopGoes (uid_number act) (λ S. SeesPreparing x S (uid_number act) (further (s ∷ ss) p) ts) W) targets (prepares_begin x W (uid_number act) p (s ∷ ss) sees.whole.core.fresh may.can may.tidy may.unanswered)

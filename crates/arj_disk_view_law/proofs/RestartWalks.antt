@@ -53,9 +53,6 @@ module _ (x k : ℕ) (tops : Kinds) (W : World) (M : Seen) (d : Disk) (u : Uid) 
   abbrev V : World
   V = after W (machine.Decide (uid_number u))
 
-  abbrev n0 : Node
-  n0 = record { number = k; disk = d; live = None }
-
   records : SeesRecords k d.intents W.disk
   records = s.records k (record { number = k; disk = d; live = None }) (node_here M k (record { number = k; disk = d; live = None }))
 

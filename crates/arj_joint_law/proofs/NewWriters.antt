@@ -18,7 +18,7 @@ use Rattle.arj_model.specs.Actions.{Act, Placed, act_in, acts, acts_after, acts_
 use Rattle.arj_model.specs.Calls.{Top, tops}
 use Rattle.arj_model.specs.Serial.{Values, top_place}
 use Rattle.arj_line_law.specs.Book.{Book, book, book_from, is_decided, new_book, turned}
-use Rattle.arj_line_law.specs.Laws.{called, called_of}
+use Rattle.arj_line_law.specs.Laws.{called_of}
 use Rattle.arj_line_law.specs.Right.{AreRight}
 use Rattle.arj_line_law.proofs.Books.{book_more, decided_later, later_from, named_is, never, on_here}
 use Rattle.arj_line_law.proofs.Likes.{some_is}

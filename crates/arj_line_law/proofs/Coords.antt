@@ -20,7 +20,7 @@ use Rattle.arj_protocol.specs.Coord.{Calling, Committing, Coord, Doing, Idle, No
 use Rattle.arj_protocol.specs.Effect.{Did, Effect, Intent, PutIntent, Do, Say, Served}
 use Rattle.arj_protocol.specs.Ending.{abort_action, aborts_with, all_aborted, decide, decided_told, ended, ends_with, record_work, root_after, say_for, says, tell, tolds_by, tolds_of, tolds_of_branch, up_to}
 use Rattle.arj_protocol.specs.Order.{has, put_uid, unbound}
-use Rattle.arj_protocol.specs.Step.{Input, acts, branch_named, call_reasons, commit_reasons, abort_reasons, include_reasons, is_waiting, is_waiting_now, on_branch, refusal_up, refused_by, tolds_again, waits, waits_above, waits_below, is_committing_now}
+use Rattle.arj_protocol.specs.Step.{Input, acts, branch_named, call_reasons, commit_reasons, abort_reasons, include_reasons, is_waiting, is_waiting_now, on_branch, refusal_up, refused_by, waits, waits_above, waits_below, is_committing_now}
 use Rattle.arj_protocol.specs.Step as input
 use Rattle.arj_protocol.specs.Tree.{Branch, branch_of, doomed_at, ends_of, has_open_child, is_own, open_below, root_of, uses_object, ended_at, ended_branch}
 use Rattle.arj_part_law.specs.Actions.{Action, AreBegun, action_of}
@@ -108,10 +108,6 @@ module _ (k : ℕ) (B : Book) where
       by : (b : Option Branch) → ArePartly k B (tolds_of_branch u intents c b)
       by None = tt
       by (Some b) = kinds b.kind b.path
-
-  -- lines that say nothing of ends
-  plain_line : (b : Body) → IsLined k B (Say b) → turned B b ≡ B → IsPartly k B (Say b)
-  plain_line b lined same = record { lined = lined; same = same; puts = tt }
 
   -- a line by the label of its action
   says_one : (u : Uid) (f : Label → Body) (c : Coord) (q : Doing) → doing_of u c ≡ Some q → IsPartly k B (Say (f q.label)) → ArePartly k B (says u f c)

@@ -35,9 +35,6 @@ pub record SaysSame (B V : Book) (w : Uid) : Type 0 where
   pub ended : is_on V.ended w ≡ is_on B.ended w
   pub found : is_on V.found w ≡ is_on B.found w
 
-pub says_same : (B : Book) (w : Uid) → SaysSame B B w
-says_same B w = record { called = refl; committed = refl; aborted = refl; ended = refl; found = refl }
-
 -- an action's end as another book has it that says the same of it
 pub end_same : (B V : Book) (w : Uid) (k : Kind) (o : Option End) → SaysSame B V w → IsEnd B w k o → IsEnd V w k o
 end_same B V w k None s is = ((λ i. s.committed i || (s.aborted i || s.ended i)) ∙ is.0, s.found ∙ is.1)

@@ -1,11 +1,11 @@
 -- What each action at a coordinator waits for after a step, by what it waited for before.
-use Rattle.std.proofs.Common.{◌≡◌, ◌≢◌, ◌≤◌, ◌+◌, ◌∙◌, arith, ℕ, zero, suc, List, [], ◌∷◌, ◌++◌, Bool, true, false, cond, Option, Some, None, refl, sym, ap, subst, ⊎_elim}
+use Rattle.std.proofs.Common.{◌≡◌, ◌≢◌, ◌≤◌, ◌+◌, ◌∙◌, arith, ℕ, List, [], ◌∷◌, ◌++◌, Bool, true, false, cond, Option, Some, None, refl, sym, ap, subst, ⊎_elim}
 use Rattle.arj_protocol.specs.Words.{Uid, End, Kind, Path, Op, Label, Ask, Asked}
 use Rattle.arj_protocol.specs.Words.cause
 use Rattle.arj_protocol.specs.Words.ending
 use Rattle.arj_protocol.specs.Words.kind
 use Rattle.arj_protocol.specs.Ask.{Reply, actor}
-use Rattle.arj_protocol.specs.Asking.{begin_action, asks_node, asks_all, goes_on, call, call_steps, renewed, include, next_req, doomed_by, root_heard, root_moved, kept_at, step_call, heard_call, commits_in, step_commit, moved_commit, commit_top, commit_open, commit_action, last_req, heard_now, heard_doing, heard, heard_by, heard_none, waits_for_call, waits_for_commit, root_lost, gives_up, give_up_doing, give_up, again_now, again_all}
+use Rattle.arj_protocol.specs.Asking.{asks_node, asks_all, goes_on, call, call_steps, renewed, include, next_req, doomed_by, root_heard, root_moved, kept_at, step_call, heard_call, commits_in, step_commit, moved_commit, commit_top, commit_open, commit_action, last_req, heard_now, heard_doing, heard, heard_by, heard_none, waits_for_call, waits_for_commit, root_lost, gives_up, give_up_doing, give_up, again_now, again_all}
 use Rattle.arj_protocol.specs.Call.{At, Steps, CallStep, On, Ended, CallEnd, Answered, Included, Conflict, Changed, Lost, Moved, answered, given_up, start}
 use Rattle.arj_protocol.specs.Call as calls
 use Rattle.arj_protocol.specs.Commit.{Plan, Machine, CommitStep, Stays, Asks, Decides, Aborts, plan_of, participants, has_record}
@@ -14,7 +14,7 @@ use Rattle.arj_protocol.specs.Coord.{Coord, Doing, Now, Idle, Calling, Committin
 use Rattle.arj_protocol.specs.Effect.{Did, Intent, Served}
 use Rattle.arj_protocol.specs.Ending.{ended, aborts_with, all_aborted, abort_action, decide, root_after, acked, acked_by, acked_left}
 use Rattle.arj_protocol.specs.Order.{at_uid, has, put_uid, unbound, without_number}
-use Rattle.arj_protocol.specs.Step.{Input, acts, branch_named, on_branch, parent_of}
+use Rattle.arj_protocol.specs.Step.{Input, acts, branch_named, on_branch}
 use Rattle.arj_protocol.specs.Step as input
 use Rattle.arj_protocol.specs.Tree.{Branch, is_own, at_place, root_of, open_below, uses_object, doomed_at, ended_at}
 use Rattle.arj_coord_law.proofs.CoordUses.{on_cases}
@@ -22,7 +22,6 @@ use Rattle.arj_part_law.specs.Actions.{Action}
 use Rattle.arj_part_law.specs.Coords.{IsAsking, IsBusy, IsGoodCoord}
 use Rattle.arj_part_law.specs.Copies.{IsTree, Paths}
 use Rattle.arj_part_law.proofs.GoodCoords.{actor_is, doomed_same, uses_same}
-use Rattle.arj_part_law.proofs.GoodTrees.{get_more}
 use Rattle.arj_part_law.proofs.Settled.{end_tree_on}
 
 -- What an action waits for now: what it waited for, nothing, the next step of its call, or a further step of its commit; or it is one
@@ -251,14 +250,3 @@ module _ (P : Uid → Type 0) (c : Coord) where
 
   pub turned_again : (ds : List Doing) → Turned (again_all ds c).part
   turned_again ds = turned_again_from ds c turned_same
-
-  pub turned_begins : (l : Label) (q : Kind) (parent : Option Label) → Turned (begin_action l q parent (parent_of parent c) c).part
-  turned_begins l q parent w x is = was (is_own w c.tree) w.num is (λ f. turned_same w x f)
-    where
-      fresh : Doing
-      fresh = record { label = l; req = 0; now = Idle; took = [] }
-
-      was : (b : Bool) (j : ℕ) → cond b (at_place j (c.doings ++ fresh ∷ [])) None ≡ Some x → (cond b (at_place j c.doings) None ≡ Some x → Turn P c w x.now) → Turn P c w x.now
-      was true zero at f = let no_way : ◌≡◌ {A = Option Doing} None (Some x) = at in absurd (cc no_way)
-      was true (suc j) at f = ⊎_elim (λ old. f old) (λ new. subst (λ (y : Doing). Turn P c w y.now) new.1 Rests) (get_more j fresh x c.doings at)
-      was false j at f = let no_way : ◌≡◌ {A = Option Doing} None (Some x) = at in absurd (cc no_way)

@@ -41,9 +41,6 @@ heir a n b (inr p) = inr (on_trans b (Sub a n) a p (on_above a n a (on_self a)))
 pub pass_here : (rows : Rows) (a : Act) (n : ℕ) → pass rows a n a ≡ max (rows a) (rows (Sub a n))
 pass_here rows a n = act_other (at_act rows a (max (rows a) (rows (Sub a n)))) (Sub a n) 0 a (not_same a n) ∙ act_here rows a (max (rows a) (rows (Sub a n)))
 
-pub pass_gone : (rows : Rows) (a : Act) (n : ℕ) → pass rows a n (Sub a n) ≡ 0
-pass_gone rows a n = act_here (at_act rows a (max (rows a) (rows (Sub a n)))) (Sub a n) 0
-
 pub pass_other : (rows : Rows) (a : Act) (n : ℕ) (b : Act) → same b (Sub a n) ≡ false → same b a ≡ false → pass rows a n b ≡ rows b
 pass_other rows a n b p q = act_other (at_act rows a (max (rows a) (rows (Sub a n)))) (Sub a n) 0 b p ∙ act_other rows a (max (rows a) (rows (Sub a n))) b q
 

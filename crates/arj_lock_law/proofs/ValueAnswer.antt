@@ -129,9 +129,6 @@ module _ (s : State) (r : Answer) (p : ℕ) (guard : Guard (Answered r p) s) (h 
   clean_on : (b : Act) → Clean s b → Clean (next (Answered r p) s) b
   clean_on b c u o = let e = stages u in ((let l = (c u o).0 in omega (arith, l, e)), dooms u ∙ (c u o).1)
 
-  fine_on : (b : Act) → Fine s b → Fine (next (Answered r p) s) b
-  fine_on b f = (clean_on b f.0, elim f.1 [ inl g ↦ inl (let e = stages (Root (root b)) in omega (arith, g, e)) | inr three ↦ inr (stages (top b) ∙ three) ])
-
   doomed' : (b : Act) → ((next (Answered r p) s).action b).doomed ≡ true → (is_action b ≡ true) × ((((next (Answered r p) s).action b).stage ≡ 0) ⊎ (((next (Answered r p) s).action b).stage ≡ 4))
   doomed' = act_cases (λ (b : Act) (y : Action). y.doomed ≡ true → (is_action b ≡ true) × ((y.stage ≡ 0) ⊎ (y.stage ≡ 4))) s.action r.request.act (stopped (s.action r.request.act)) (λ d. v.doomed r.request.act d) (λ b f d. v.doomed b d)
 

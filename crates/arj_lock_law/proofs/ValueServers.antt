@@ -3,12 +3,11 @@ use Rattle.std.proofs.Common.{◌≡◌, ◌≤◌, ◌<◌, ◌⊎◌, ℕ, Lis
 use Rattle.arj_lock_law.specs.Actions.{Act, Root, Sub, same, on, root, top, is_action, In}
 use Rattle.arj_lock_law.specs.State.{Entry, Server, Call, Message, Activate, Activated, State, Alive, Merged}
 use Rattle.arj_lock_law.specs.Steps.{IsLast, Survives, IsCurrent}
-use Rattle.arj_lock_law.proofs.Paths.{by_cases, differ, same_is, on_top, on_trans, top_is, top_of, top_action}
+use Rattle.arj_lock_law.proofs.Paths.{by_cases, differ, same_is, on_trans, top_is, top_of, top_action}
 use Rattle.arj_lock_law.proofs.Claims.{server_of, IsUp, Reached, IsPast, Pending, Mean, Holds}
 use Rattle.arj_lock_law.proofs.Later.{Later, up_back}
-use Rattle.arj_lock_law.proofs.CallSteps.{top_acts}
 use Rattle.arj_lock_law.proofs.ValueClaims.{Fine, Ok, Logged, EntryHolds, CopyHolds, Says, Values}
-use Rattle.arj_lock_law.proofs.ValueLasts.{ValueLater, clean_alive, survives_clean, survives_ok, logged_on}
+use Rattle.arj_lock_law.proofs.ValueLasts.{ValueLater, clean_alive, logged_on}
 use Rattle.arj_lock_law.proofs.Paths.{on_root}
 use Rattle.std.proofs.Common.{map, filter, not, cond, ◌==◌}
 use Rattle.arj_lock_law.specs.Actions.{at}
@@ -24,9 +23,6 @@ use Rattle.arj_lock_law.proofs.ServerSteps.{there}
 use Rattle.arj_lock_law.proofs.Lasts.{is_voted}
 
 -- Values where one copy or its log changes.
-
-survives_both : (s : State) → Values s → (a : Act) → is_action a ≡ true → Survives s a → Fine s a × ((s.action (top a)).stage ≡ 3)
-survives_both s v a act f = let o = survives_ok s (survives_clean s v.doomed v.roots) a act f in (o.0, f (top a) (on_top a) (top_acts a act))
 
 -- a clean call of a committed top survives
 pub survives_of : (s : State) → Holds s → Values s → (c : Call) → In c s.calls → Alive s c.act → (s.action (top c.act)).stage ≡ 3 → Survives s c.act

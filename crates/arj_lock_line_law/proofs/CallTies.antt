@@ -10,7 +10,7 @@ use Rattle.arj_protocol.specs.Words.recorded
 use Rattle.arj_protocol.specs.Ask.{Reply, actor}
 use Rattle.arj_protocol.specs.Asking.{end_line, kept_at, root_lost, root_moved, step_call, store_of}
 use Rattle.arj_protocol.specs.Call as protocol
-use Rattle.arj_protocol.specs.Call.{At, AtActivate, AtBind, AtInvoke, AtLoad, AtNote, CallEnd, CallStep, Ended, Goal, Include as IncludeStore, Known, Moved, On, Run, Steps, answered, bound_answer, bound_by, given_up, load_from, load_given_up, made_by, or_lost, other_binding, recorded_kept, same_binding, with_inc}
+use Rattle.arj_protocol.specs.Call.{At, AtActivate, AtBind, AtInvoke, AtLoad, AtNote, CallEnd, CallStep, Ended, Goal, Include as IncludeStore, Known, Moved, On, Run, Steps, answered, bound_answer, bound_by, given_up, load_from, load_given_up, made_by, or_lost, other_binding, same_binding, with_inc}
 use Rattle.arj_protocol.specs.Coord.{Coord, Doing, doing_of, is_call, is_free, on_root}
 use Rattle.arj_protocol.specs.Order.{binding_eq, binding_less}
 use Rattle.arj_protocol.specs.Tree.{Branch, root_of}
@@ -46,10 +46,6 @@ is_bare_end e = true
 abbrev is_bare : CallStep → Bool
 is_bare (On at) = true
 is_bare (Ended e) = is_bare_end e
-
-bare_if : (t : Bool) (m n : Moved) → is_bare m.step ≡ true → is_bare n.step ≡ true → is_bare (let k = cond t m n in k.step) ≡ true
-bare_if true m n a b = a
-bare_if false m n a b = b
 
 bare_inc : (i : ℕ) (k : Known) (at : At) (o : Option ℕ) → is_bare (let m = with_inc i k at o in m.step) ≡ true
 bare_inc i k at None = refl

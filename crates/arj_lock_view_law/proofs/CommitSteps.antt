@@ -8,7 +8,7 @@ use Rattle.arj_base.specs.Path.{before_last}
 use Rattle.arj_base.specs.Rows.{front}
 use Rattle.arj_base.proofs.Uids.{uid_is, uid_same}
 use Rattle.arj_lock.proofs.Members as over
-use Rattle.arj_lock.proofs.Members.{in_find, in_find_none, in_from, in_to}
+use Rattle.arj_lock.proofs.Members.{in_find, in_find_none, in_to}
 use Rattle.arj_lock.proofs.Paths.{heir_is}
 use Rattle.arj_protocol.specs.Words.{Uid, is_on, last_uid, object, pass_rows, uid_eq}
 use Rattle.arj_protocol.specs.Words.ending
@@ -132,10 +132,6 @@ module _ (act : Acts) (code : Codes) (paths : Paths) (n x : ℕ) (u : Uid) (c : 
 
     abbrev w : Server
     w = settled_server alone.unit alone.number alone.below alone.committed
-
-    -- nothing of the unit is left
-    off_unit : (o : Over) → is_on o.holder u ≡ false → on (act (last_uid o.holder)) (act u) ≡ false → on (act (last_uid o.holder)) a ≡ false
-    off_unit o above off = alone.alone (last_uid o.holder) ∙ off
 
     none_left : (e : Entry) → In e w.log → on e.holder a ≡ false
     none_left e i =

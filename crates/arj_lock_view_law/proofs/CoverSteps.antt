@@ -99,9 +99,6 @@ equal n = grind arith
 -- ---- what a plan has
 
 module _ (p : Path) (req : ℕ) (r : Root) (c : Coord) where
-  abbrev tp : Uid
-  tp = actor p
-
   abbrev says : List ℕ
   says = map (λ (z : Said). z.x) (said_in (actor p) r c)
 

@@ -115,10 +115,6 @@ module _ (a : Action) (acts : List Action) (new : IsNew (act_of a) acts) (stands
   names_now : (u : Uid) → named (now u) ≡ uid_number u
   names_now u = ⊎_elim (λ (is : u ≡ u0). ap (λ (w : Uid). named (now w)) is ∙ ap named at_new ∙ named_new stand ∙ ap uid_number (sym is)) (λ (other : u ≢ u0). ap named (at_old u other) ∙ old.names u) (uid_cases u u0)
 
-  -- two with one place are one
-  one_place : (u w : Uid) → now u ≡ now w → u ≡ w
-  one_place u w is = number_tells u w (sym (names_now u) ∙ ap named is ∙ names_now w)
-
   not_old : (w : Uid) (x : Act) → w ≢ u0 → named x ≡ uid_number u0 → same x (act w) ≡ false
   not_old w x other is = elim (by_cases (same x (act w))) [ inl t ↦ absurd (other (number_tells w u0 (sym (old.names w) ∙ ap named (sym (same_is x (act w) t)) ∙ is))) | inr f ↦ f ]
 

@@ -95,11 +95,6 @@ module _ (act : Acts) (paths : Paths) (x : ℕ) (c : Coord) (f : Act → Action)
   not_waiting (Calling s) isnt = absurd (cc isnt)
   not_waiting (Committing m) isnt = absurd (cc isnt)
 
-  invoking_waits : (n : Now) → invokes x n ≡ true → is_waiting_now n ≡ true
-  invoking_waits Idle is = absurd (cc is)
-  invoking_waits (Calling s) is = refl
-  invoking_waits (Committing m) is = absurd (cc is)
-
   -- the path of an action that isn't at its commit is open, where nothing waits above it
   pub opens : (u : Uid) (b : Branch) (d : Doing) → branch_of u t ≡ Some b → is_some b.ended ≡ false → doing_of u c ≡ Some d → is_committing_now d.now ≡ false → IsLone paths u c → (a : Act) → on (act u) a ≡ true → (f a).stage ≡ 0
   opens u b d found unended works quiet lone a above = ⊎_elim action unit (by_cases (is_action a))

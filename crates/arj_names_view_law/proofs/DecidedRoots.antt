@@ -7,7 +7,7 @@ use Rattle.arj_base.proofs.Uids.{uid_is}
 use Rattle.arj_protocol.specs.Commit as commit
 use Rattle.arj_protocol.specs.Commit.{Used, changed_of, included_of}
 use Rattle.arj_protocol.specs.Coord as coord
-use Rattle.arj_protocol.specs.Coord.{Coord, Joined, Root, Said, root_at, top_uses}
+use Rattle.arj_protocol.specs.Coord.{Coord, Root, Said, root_at, top_uses}
 use Rattle.arj_protocol.specs.Call.{Known}
 use Rattle.arj_protocol.specs.Ending.{decided, kept_after, list_after, root_after}
 use Rattle.arj_protocol.specs.Order.{at_number, uid_number}
@@ -121,9 +121,6 @@ module _ (x : ℕ) (tops : Kinds) (root t : Uid) (p : commit.Plan) (c : Coord) (
 
   later : IsLater A.world B.world
   later = let a = only.along in subst (IsLater A.world) a.here (effects_are_later A.world a.effects a.allowed named.whole)
-
-  plan_then : S.plan n ≡ plan_at x p
-  plan_then = later.plan n sees.begun ∙ sees.plan
 
   sealed : disk.is_sealed (A.world.disk.stage n) ≡ true
   sealed = ap disk.is_sealed sees.stage

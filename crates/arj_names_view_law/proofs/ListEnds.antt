@@ -5,7 +5,7 @@ use Rattle.arj_protocol.specs.Words.{Uid, is_listed, is_on, with_store}
 use Rattle.arj_protocol.specs.Asking.{is_named}
 use Rattle.arj_protocol.specs.Call.{Known}
 use Rattle.arj_protocol.specs.Commit as commit
-use Rattle.arj_protocol.specs.Commit.{Used, included_of}
+use Rattle.arj_protocol.specs.Commit.{included_of}
 use Rattle.arj_protocol.specs.Confirm.{marked, with_stores, without_stores}
 use Rattle.arj_protocol.specs.Coord as coord
 use Rattle.arj_protocol.specs.Coord.{Coord, Grant, Root, Said, kept_of}
@@ -121,9 +121,6 @@ after_within x S t p l m says within s on = right ∙ ⊎_elim
 
 module _ (x : ℕ) (tops : Kinds) (root t : Uid) (c d : Coord) (r q : Root) (p : commit.Plan) (S : State) (N : Names) (fixed : IsFixed tops S) (s : SeesLists x tops root c r N) (top : IsTopOf tops root t) (own_root : tops.root (uid_number root) ≡ uid_number root)
     (says : IsSaid x S t p) (after : AfterDecision x t p c d r q) where
-  abbrev N1 : Names
-  N1 = record N { kept = lists_after S (uid_number t) N.kept }
-
   -- the list that the root had, of what it has
   before : (k : Known) → kept_of x q ≡ Some k → (j : Known) × (kept_of x r ≡ Some j) × (root_list p x j ≡ k)
   before k is = by (kept_of x r) refl (sym after.kept ∙ is)

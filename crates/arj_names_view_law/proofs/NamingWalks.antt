@@ -126,10 +126,6 @@ pub queries_leave : (us : List Uid) → AreAll leaves_the_inc (map query_about u
 queries_leave [] = refl
 queries_leave (u ∷ us) = queries_leave us
 
-left_queries : (us : List Uid) (d : Disk) → left_disk (map query_about us) d ≡ d
-left_queries [] d = refl
-left_queries (u ∷ us) d = left_queries us d
-
 pub hellos_keep_both : HellosKeepBoth
 hellos_keep_both x tops e d t v node inc outs A M unwalked is both walk = took_is x 1 tops e (λ p es. DisksWalk (λ n. false) x tops A e 1 es p d M → BothWalk x tops A e 1 es p d M) new asked v outs is
     (λ walk. walked_both x tops unwalked e 1 d t new A M both (Up (IsSeenFrom x tops A) 1 new) asked (queries_leave (filter (is_earlier node inc) (holders d t))) ends walk) walk

@@ -15,12 +15,11 @@ use Rattle.arj_part_law.proofs.CoordInputs.{good_acts}
 use Rattle.arj_part_law.proofs.GoodCoords.{good_acked, good_again, good_heard}
 use Rattle.arj_part_law.proofs.TrueSteps.{well_acked, well_acts, well_again, well_heard}
 use Rattle.arj_view_law.specs.Seen.{In, Post}
-use Rattle.arj_view_law.proofs.Happens.{runs_hold}
 use Rattle.arj_lock_fact_law.proofs.CoordRuns.{IsKeptBy, Sender, coords_keep}
 use Rattle.arj_lock_fact_law.proofs.Requests.{requests_kept}
 use Rattle.arj_record_law.specs.Claims.{AreFitting, SentAreKnown}
 use Rattle.arj_record_law.specs.Coords.{AreRecorded, KnowsRecords, KnowsSent}
-use Rattle.arj_record_law.specs.Runs.{HandlersSettleRecords, KnowsOfRecords, RecordsSettle, RunsSettleRecords}
+use Rattle.arj_record_law.specs.Runs.{HandlersSettleRecords, KnowsOfRecords}
 use Rattle.arj_record_law.specs.Tests.{Tests}
 use Rattle.arj_record_law.proofs.Sends.{all_more, records_more, sent_more}
 use Rattle.arj_record_law.proofs.Tops.{top_on_path}
@@ -137,6 +136,3 @@ coords_kept = record {
 
 pub records_settle : HandlersSettleRecords
 records_settle hd = coords_keep SentAreKnown Q coords_kept hd
-
-pub records_run : RunsSettleRecords
-records_run hd es = runs_hold hd RecordsSettle (records_settle hd) es

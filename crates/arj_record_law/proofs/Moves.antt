@@ -9,7 +9,7 @@ use Rattle.arj_protocol.specs.Words.loaded
 use Rattle.arj_protocol.specs.Words.recorded
 use Rattle.arj_protocol.specs.Ask.{Reply}
 use Rattle.arj_protocol.specs.Call as calls
-use Rattle.arj_protocol.specs.Call.{At, AtActivate, AtBind, AtInvoke, AtLoad, AtNote, CallEnd, CallStep, Changed, Ended, Goal, Include, Known, Moved, On, Run, activated_by, answered, ask_at, bound_answer, bound_by, finds, given_up, live_known, load_from, made_by, made_known, moves, named_again, or_lost, other_binding, recorded_kept, same_binding, two_bindings, two_incs, with_inc, write_known}
+use Rattle.arj_protocol.specs.Call.{At, AtActivate, AtBind, AtInvoke, AtLoad, AtNote, CallEnd, CallStep, Changed, Ended, Known, Moved, On, Run, activated_by, answered, ask_at, bound_answer, bound_by, finds, given_up, live_known, load_from, made_by, made_known, moves, named_again, other_binding, recorded_kept, same_binding, two_bindings, two_incs, with_inc}
 use Rattle.arj_protocol.specs.Order.{binding_eq, binding_less, binding_number}
 use Rattle.arj_address_law.specs.Binds.{AnswersAt}
 use Rattle.arj_address_law.proofs.Lists.{some_is}
@@ -71,11 +71,6 @@ module _ (T : Tests) (x : ℕ) (top : Uid) (o : Op) (kept : Option Known) (avoid
 
   at_most : (a b : ℕ) → a ≡ b → a ≤ b
   at_most a b same = omega (arith, same)
-
-  -- what is kept is what was kept, or a binding of its number
-  one_kept : (old new : Option Known) → kept ≡ old → StaysKept old new → (old ≡ None → new ≡ None) → top_number kept avoid ≤ top_number new avoid
-  one_kept None new is stays none = at_most _ _ (ap (λ q. top_number q avoid) is ∙ ap (λ q. top_number q avoid) (sym (none refl)))
-  one_kept (Some z) new is stays none = let f = stays z refl in at_most _ _ (ap (λ q. top_number q avoid) is ∙ sym f.2 ∙ ap (λ q. top_number q avoid) (sym f.1))
 
   module _ (free : Bool) (at : At) where
     -- a step that leaves what is kept

@@ -12,7 +12,7 @@ use Rattle.arj_protocol.specs.Words.loaded
 use Rattle.arj_protocol.specs.Ask.{Reply, actor, top_of}
 use Rattle.arj_protocol.specs.Asking.{call, doomed_by, give_up_call, goes_on, granted_by, heard_call, is_ended, keeps_after, kept_at, notes_grant, root_heard, step_call, store_of}
 use Rattle.arj_protocol.specs.Call as calls
-use Rattle.arj_protocol.specs.Call.{At, AtActivate, AtBind, AtInvoke, AtLoad, AtNote, CallEnd, CallStep, Ended, Goal, Include, Known, Moved, On, Run, Steps, answered, ask_at, given_up, has_changed, load_from, next_ask, next_node, or_lost, spoils, start_at, write_known}
+use Rattle.arj_protocol.specs.Call.{At, AtActivate, AtBind, AtInvoke, AtLoad, AtNote, CallEnd, CallStep, Ended, Goal, Include, Known, On, Run, Steps, answered, ask_at, given_up, has_changed, load_from, next_ask, next_node, or_lost, spoils, write_known}
 use Rattle.arj_protocol.specs.Coord.{Calling, Coord, Doing, Grant, Idle, Joined, Keeping, Root, Said, doing_of, is_call, is_free, joined_with, keeping_of, kept_of, later_state, no_keeping, no_root, on_doing, on_root, root_at, same_join, same_said, with_keeping}
 use Rattle.arj_protocol.specs.Order.{at_number, binding_number}
 use Rattle.arj_protocol.specs.Tree.{doomed_at, ends_of, root_of}
@@ -304,9 +304,6 @@ module _ (T : Tests) (zero_made : T.made 0 ≡ true) (sent : List Post) (k : ℕ
       pub put_goes : (n : CallStep) → ((at : At) → n ≡ On at → StepStands T s.goal s.x (top_of s.path) Q at) → ((a : Answer) → n ≡ Ended (calls.Answered a) → IsRecorded q.kept) → ((st : ObjectState) → n ≡ Ended (calls.Included st) → ((i : ℕ) × IsIncluded T s.x (top_of s.path) i Q) × (st.uid.num ≡ s.x)) → Good (step_call s n (on_root (root_of s.path) (λ r. with_keeping s.x q (notes_grant g (root_at (root_of s.path) c))) c)).part
       put_goes n on said joined = step_goes s n t asking (λ at is. subst (λ (r : Root). StepStands T s.goal s.x (top_of s.path) r at) (sym its) (on at is)) (λ a is. subst (λ (r : Root). IsRecorded (kept_of s.x r)) (sym its) (subst (λ (l : Keeping). IsRecorded l.kept) (sym at_x) (said a is))) (λ st is. subst (λ (r : Root). ((i : ℕ) × IsIncluded T s.x (top_of s.path) i r) × (st.uid.num ≡ s.x)) (sym its) (joined st is))
           (root_goes c T sent (root_of s.path) (λ r. Q) c root_so start)
-
-      stands_call : (at : At) → CallStands T q.kept q.avoid at → (let l = keeping_of s.x Q in CallStands T l.kept l.avoid at)
-      stands_call at stands = subst (λ (l : Keeping). CallStands T l.kept l.avoid at) (sym at_x) stands
 
     -- ---- an answer
 

@@ -39,12 +39,9 @@ CoordsKnow M = (j : ℕ) (n : Node) (t : Parts) → M.nodes j ≡ Some n → n.l
 abbrev pub RecordsSettle : Seen → Type 0
 RecordsSettle M = (IsGood M × BindsAreKnown M) × (SentAreKnown M.sent × CoordsKnow M)
 
--- each handler keeps it, and so it holds in every run
+-- each handler keeps it
 abbrev pub HandlersSettleRecords : Type 0
 HandlersSettleRecords = (hd : Header) → Keeps hd RecordsSettle
-
-abbrev pub RunsSettleRecords : Type 0
-RunsSettleRecords = (hd : Header) (es : List world.Asked) → Holds hd RecordsSettle (run_all es (format hd))
 
 -- what is known of naming: for each tests that pass there the answers claim what passes; and entries that are prepared were confirmed
 abbrev pub AnswersClaim : Seen → Type 0

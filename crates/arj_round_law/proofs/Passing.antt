@@ -49,13 +49,6 @@ put_over n c e cs k = by (k == n)
     by true = refl
     by false = refl
 
-pub put_like : (n : ℕ) (e : Coord) (cs ds : ℕ → Option Coord) → ((k : ℕ) → cs k ≡ ds k) → (k : ℕ) → put n e cs k ≡ put n e ds k
-put_like n e cs ds same k = by (k == n)
-  where
-    by : (b : Bool) → (if b then Some e else cs k) ≡ (if b then Some e else ds k)
-    by true = refl
-    by false = same k
-
 -- only a state is meant for its object alone
 meant_there : (a : Asked) (c : Coord) (r : Reply) → ((st : ObjectState) → is_loaded_for st (doing_of a.act c) ≡ true) → reply_is_meant c a r ≡ true
 meant_there a c (Reply.Loaded (loaded.State st)) each = each st

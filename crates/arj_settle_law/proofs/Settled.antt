@@ -112,9 +112,6 @@ module _ (hd : Header) where
   within M p k there = let a = k.1 in let so = a.1 in (so.1 p there).1
 
   module _ (n : ℕ) (d : Disk) (t : Parts) (M : Seen) (k : KnowsPrepared hd (up n d t M)) where
-    its_begun : List Action
-    its_begun = k.0.0.0
-
     good : IsGoodOf k.0.0.0 (up n d t M)
     good = k.0.0.1
 
