@@ -3,7 +3,7 @@ use Rattle.std.proofs.Common.{sym, ◌≡◌, ◌||◌, ℕ, ◌++◌, List, [],
 use Rattle.arj_lock.proofs.Members.{in_to}
 use Rattle.arj_protocol.specs.Words.{End, Line, Uid}
 use Rattle.arj_protocol.specs.Words.ending
-use Rattle.arj_protocol.specs.Coord.{Doing, doing_of, new_coord}
+use Rattle.arj_protocol.specs.Coord.{doing_of, new_coord}
 use Rattle.arj_protocol.specs.Effect.{Disk, Intent}
 use Rattle.arj_protocol.specs.Node.{Parts}
 use Rattle.arj_protocol.specs.Order as order
@@ -42,9 +42,6 @@ module _ (x : ℕ) (tops : Kinds) (R : Seen → Type 0) (Idle : List Line → Ui
     where
       works : length t.coord.doings ≡ length t.coord.tree.branches
       works = let i = it 0 k d t N kept.0 in i.faithful.works
-
-      q : Doing
-      q = (work_there t.coord works u b found).0
 
       does : doing_of u t.coord ≡ Some (work_there t.coord works u b found).0
       does = (work_there t.coord works u b found).1

@@ -174,9 +174,6 @@ module _ (hd : Header) (x : ℕ) (R G : Seen → Type 0) (P : Kinds → Office �
   turns : (Q : Uid → Type 0) (e k : ℕ) (outs : List Effect) (d : Disk) (M N : Seen) → N.lines ≡ M.lines → AreLate Q (book M.lines) outs → Walks (λ Z. IsOld (book M.lines) (book Z.lines)) e k outs (λ c Z. IsOldOr Q (book M.lines) (book Z.lines)) d N
   turns Q e k outs d M N same late = late_walk Q (book M.lines) e k outs d N (book M.lines) (ap book same) late (inl (λ u on. on)) (λ u on. inl on)
 
-  abbrev Tie : Kinds → Office → Seen → Type 0
-  Tie tops A M = WithTie P Idle tops A M
-
   abbrev Tied_from : Kinds → (Office → Type 0) → Seen → Type 0
   Tied_from tops C Z = (B : Office) → C B → SeesBoth x tops B Z → IsTied Idle B.world Z
 

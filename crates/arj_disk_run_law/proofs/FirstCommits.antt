@@ -5,14 +5,14 @@ use Rattle.std.proofs.lemmas.Bool.{or_parts}
 use Rattle.arj_base.proofs.Uids.{uid_is, uid_same}
 use Rattle.arj_lock.proofs.Members.{In, in_from}
 use Rattle.arj_lock.proofs.OneEach.{none_in}
-use Rattle.arj_protocol.specs.Words.{Header, Kind, Uid, first_uid, is_on, uid_eq, uids_of}
+use Rattle.arj_protocol.specs.Words.{Header, Kind, Uid, first_uid, uid_eq, uids_of}
 use Rattle.arj_protocol.specs.Words.kind
 use Rattle.arj_protocol.specs.Ask.{actor}
 use Rattle.arj_protocol.specs.Commit.{plan_of}
 use Rattle.arj_protocol.specs.Coord.{Coord, doing_of, of_root}
 use Rattle.arj_protocol.specs.Effect.{Disk}
 use Rattle.arj_protocol.specs.Node.{Parts}
-use Rattle.arj_protocol.specs.Step.{Input, branch_named, commit_reasons, first_reason, is_committing, is_committing_now, is_sibling, is_waiting, is_waiting_now, refusal_up, refused_by, sibling_waits, waits, waits_above, waits_below}
+use Rattle.arj_protocol.specs.Step.{Input, branch_named, commit_reasons, first_reason, is_committing, is_committing_now, is_sibling, is_waiting, is_waiting_now, refusal_up, refused_by, sibling_waits, waits_above, waits_below}
 use Rattle.arj_protocol.specs.Step as input
 use Rattle.arj_protocol.specs.Tree.{Branch, branch_of, has_open_child, is_constituent, root_of}
 use Rattle.arj_part_law.specs.Actions.{Action, AreBegun, Stands, act_of, action_of, paths_of}
@@ -42,15 +42,6 @@ form_of acts begun a i unnested = by a.kind refl (where_stands acts begun a i)
     by kind.Serial is s = Alone s.0
     by kind.Nested is s = absurd (unnested is)
     by kind.Constituent is s = let up = serial_alone acts begun s.0 (in_from s.0 acts s.1) s.2 in Within s.0 (in_from s.0 acts s.1) s.2 is (s.3 ∙ ap (λ us. us ++ act_of a ∷ []) up.0)
-
--- nobody on the list waits
-quiet : (c : Coord) (us : List Uid) (u : Uid) → list_any (waits c) us ≡ false → is_on us u ≡ true → waits c u ≡ false
-quiet c [] u none on = absurd (cc on)
-quiet c (v ∷ us) u none on = let p = or_parts (waits c v) (list_any (waits c) us) none in by (uid_eq v u) refl on p.0 (quiet c us u p.1)
-  where
-    by : (b : Bool) → uid_eq v u ≡ b → (b || is_on us u) ≡ true → waits c v ≡ false → (is_on us u ≡ true → waits c u ≡ false) → waits c u ≡ false
-    by true same h first ih = ap (waits c) (sym (uid_is v u same)) ∙ first
-    by false other h first ih = ih h
 
 kept_in : {A : Type 0} (p : A → Bool) (a : A) (items : List A) → In a items → p a ≡ true → In a (filter p items)
 kept_in p a [] i is = absurd i

@@ -115,12 +115,6 @@ module _ (x : ℕ) (tops : Kinds) (e k : ℕ) (d : Disk) (t v : Parts) (from : �
     answered o memory q kind says w es like all is = took_to (λ w es. IsLike t.coord w.coord × Along o D w es) w (es ++ Send from (response (asked_by h) q) ∷ []) v outs is
         (like, serve_step x tops k d t M D both p from m h a q posted asking kind o memory says w like e es all)
 
-    -- or none
-    maybe : (o : Change) (memory : (B : Office) → Changes o D B → OnlyMemory D B) (r : Option Reply) → ((q : Reply) → r ≡ Some q → (ask_kind a ≡ reply_kind q) × Says o D q) → (w : Parts) (es : List Effect) → IsLike t.coord w.coord → AllByRecursion (SaysHeard x d.inc D) es
-        → sends_answer from h w es r ≡ Took v outs → IsLike t.coord v.coord × Along o D v outs
-    maybe o memory None says w es like all is = absurd (cc is)
-    maybe o memory (Some q) says w es like all is = let z = says q refl in answered o memory q z.0 z.1 w es like all is
-
     quietly : (B : Office) → Changes Quietly D B → OnlyMemory D B
     quietly B c = c
 

@@ -57,9 +57,6 @@ module _ (x : ℕ) (tops : Kinds) (e k : ℕ) (d : Disk) (t : Parts) (M : Seen) 
     heard : IsHeardBy x tops k d t M A good few knows both p u w s does now r (answered (is_free (root_of s.path) (actor s.path) s.x t.coord) (kept_of s.x (root_at (root_of s.path) t.coord)) s.goal s.at r)
     heard = heard_each x tops k d t M A good few knows both p u w s does now r to kind
 
-    D : Office
-    D = heard.office
-
     fixed : IsFixed tops A.world.disk
     fixed = fixed_in x tops A (up k d t M) both
 

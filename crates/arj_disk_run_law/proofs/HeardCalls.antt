@@ -11,7 +11,6 @@ use Rattle.arj_protocol.specs.Coord.{Calling, Committing, Coord, change_doing, n
 use Rattle.arj_protocol.specs.Effect.{Disk}
 use Rattle.arj_protocol.specs.Node.{Parts}
 use Rattle.arj_protocol.specs.Order.{at_number, put_number}
-use Rattle.arj_protocol.specs.Step.{Node}
 use Rattle.arj_protocol.specs.Tree.{Tree, at_place, branch_of, ends_of, is_own, is_spent, root_of}
 use Rattle.arj_protocol.proofs.Maps.{put_same as put_number_same, put_other as put_number_other}
 use Rattle.arj_protocol.proofs.RowSteps.{one_or_two}
@@ -104,9 +103,6 @@ at_called x k tops sent s c e B called others step list p = record {
 -- ---- nothing answers a request that wasn't sent
 
 module _ (x : ℕ) (tops : Kinds) (k : ℕ) (d : Disk) (t : Parts) (M : Seen) (A : Office) (good : IsGood (up k d t M)) (few : KnowsFew (up k d t M)) (p : SeesHeard x tops A (up k d t M)) where
-  Here : Node
-  Here = record { number = k; disk = d; live = Some t }
-
   pub fresh : (u : Uid) (q : Doing) (s : Steps) → doing_of u t.coord ≡ Some q → actor s.path ≡ u → q.req < s.req → (r : Reply) → IsToStep k M.sent s r → ⊥
   fresh u q s does actor_is less r to =
       let z = p.asked to.post (asked_by (head_of s)) r to.posted to.answer in

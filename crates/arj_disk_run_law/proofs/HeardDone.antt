@@ -33,9 +33,6 @@ use Rattle.arj_disk_run_law.specs.Heard.{IsPathIn, IsWorkingRoot, SeesCall, Sees
 use Rattle.arj_disk_run_law.proofs.HeardLike.{StaysOnPath, call_same, path_on, same_path}
 
 module _ (x : ℕ) (u : Uid) (p : commit.Plan) (c : Coord) (b : Branch) (q : Doing) (found : branch_of u c.tree ≡ Some b) (unended : b.ended ≡ None) (at_work : doing_of u c ≡ Some q) where
-  abbrev D : Coord
-  D = decided u p c
-
   has : HasEnded u b ending.Commit c.tree (decided u p c).tree
   has = decided_tree c u b q p found at_work
 

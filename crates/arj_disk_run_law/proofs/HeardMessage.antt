@@ -49,10 +49,6 @@ of_top tops S p kinds fixed o = record {
   path = ⊎_elim (λ alone. inl (alone.0, ap (λ f. f (uid_number (top_of p))) fixed.root ∙ alone.1)) (λ behind. inr (behind.0, behind.1, ap (λ f. f (uid_number (top_of p))) fixed.root ∙ behind.2, behind.3, behind.4)) o.path;
 }
 
-abbrev record_in : Option (Head × Ask) → Option (Head × (ℕ × ℕ))
-record_in (Some (h, ask.Record y b i g)) = Some (h, (y, g))
-record_in _ = None
-
 module _ (x : ℕ) (R : Seen → Type 0) (gives : GivesNaming x R) (tops : Kinds) (k : ℕ) (d : Disk) (t : Parts) (n : Naming) (from : ℕ) (m : Message) (M : Seen) (A : Office) (at : IsHeardAt x R tops A (k, d, t) M) (sent : In (record { from = from; to = k; message = m }) M.sent) (named : t.naming ≡ Some n) (of : AreOfTops tops m) (free : RecordsAreFree (up k d t M)) where
   claims : ClaimsAsked x A (asks m)
   claims = at.heard.posts (record { from = from; to = k; message = m }) sent

@@ -150,9 +150,6 @@ module _ (acts : List Action) (begun : AreBegun acts) (tops : Kinds) (kinds : Kn
   t : HasTop acts (action_of b)
   t = top_in acts begun (action_of b) mine unserial
 
-  abbrev its : Action
-  its = t.0
-
   leads : (w : Uid) → is_on (uids_of (let a = t.0 in a.path)) w ≡ true → is_on (uids_of p) w ≡ true
   leads w on = taken_on (tops_of p) (uids_of p) w (ap (λ us. is_on us w) t.3 ∙ on)
 

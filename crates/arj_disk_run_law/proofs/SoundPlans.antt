@@ -194,9 +194,6 @@ changed_on p q left path used changed c = record {
 none_changed : (p : Plan) (left : List ℕ) → p.changed ≡ [] → AreChanged p left
 none_changed p left none = record { used = λ s i. absurd (subst (Among s) none i); once = λ s t i. absurd (subst (Among s) none i) }
 
-IsUsing : Plan → Type 0
-IsUsing p = (u : Used) × (us : List Used) × (p.used ≡ u ∷ us)
-
 -- ---- the steps
 
 abbrev pub IsNextSound : CommitStep → Type 0

@@ -126,9 +126,6 @@ module _ (actions : List Action) where
         i : Intent
         i = record { root = root_of p.path; nodes = participants p }
 
-        rest : List Effect
-        rest = says (actor p.path) body.Committed c ++ map (decided_told (root_of p.path) (actor p.path) p) p.sent
-
         plain : Plain (says (actor p.path) body.Committed c ++ map (decided_told (root_of p.path) (actor p.path) p) p.sent)
         plain = plain_both (says (actor p.path) body.Committed c) (map (decided_told (root_of p.path) (actor p.path) p) p.sent) (plain_says (actor p.path) body.Committed c) (plain_decided (root_of p.path) (actor p.path) p p.sent)
 

@@ -416,9 +416,6 @@ module _ (x : ℕ) (tops : Kinds) (e : ℕ) (d : Disk) (t v : Parts) (n : Naming
   abbrev top : Uid
   top = top_of h.path
 
-  abbrev New : Type 0
-  New = IsNewConfirm h.path grants excluded included d.names n
-
   -- the walk is followed from the beginning, and again from the confirmation
   abbrev Early : Kinds
   Early = followed tops W (λ n. false)

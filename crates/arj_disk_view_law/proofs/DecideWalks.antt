@@ -109,9 +109,6 @@ module _ (x : ℕ) (tops : Kinds) (e k : ℕ) (d : Disk) (v : Parts) (u root : U
   abbrev P : Seen → Type 0
   P = IsSeenByDisks x tops
 
-  post : Bool → End → ℕ → Post
-  post ack how n = record { from = k; to = n; message = message.Told (record { root = root; ack = ack; ends = (u, how) ∷ [] }) }
-
   -- with a record
   record Recorded (S : State) : Type 0 where
     done : disk.decided S (uid_number u) ≡ true

@@ -62,9 +62,6 @@ halt_rest x tops W M t s = record {
 
 -- ---- some actions are let go
 
-halts : List ℕ → List Effect
-halts ts = map {A = ℕ} {B = Effect} Effects.Halt ts
-
 abbrev pub Halted : List ℕ → World → World
 Halted ts W = run W (map {A = ℕ} {B = Effect} Effects.Halt ts)
 
@@ -191,9 +188,6 @@ module _ (x k : ℕ) (tops : Kinds) (W : World) (M : Seen) (d : Disk) (t : Parts
       by : (u : Uid) → u.node ≡ k → V.disk.begun (uid_number u) ≡ true → (is_open u t.coord.tree ≡ true) ⊎ (is_open u t.coord.tree ≡ false) → is_gone (V.disk.stage (uid_number u)) ≡ true
       by u here began (inl is) = halted_gone W (owns t.coord) (uid_number u) (open_owned t.coord u is)
       by u here began (inr ended) = gone_stays W (owns t.coord) (uid_number u) (mine.closed u here ended (ap (λ f. f (uid_number u)) (sym begun_same) ∙ began))
-
-  abbrev Old : Node
-  Old = record { number = k; disk = d; live = Some t }
 
   nodes_stop : (Q R : ℕ → Node → Type 0) → ((m : ℕ) (n : Node) → (up k d t M).nodes m ≡ Some n → Q m n) → (Q k (record { number = k; disk = d; live = Some t }) → R k (record { number = k; disk = d; live = None })) → ((m : ℕ) (n : Node) → (m == k) ≡ false → Q m n → R m n)
       → (m : ℕ) (n : Node) → (down k d M).nodes m ≡ Some n → R m n

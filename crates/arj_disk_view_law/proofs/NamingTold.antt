@@ -194,9 +194,6 @@ module _ (x : ℕ) (tops : Kinds) (e : ℕ) (t v : Parts) where
       (all_to (λ (b : Uid). (tops.root (uid_number b) ≡ uid_number u) × In (mail.ToldSerial (uid_number u) 1) W.sent) (λ (b : Uid). (tops.root (uid_number b) ≡ uid_number u) × In (mail.ToldSerial (uid_number u) 1) V.sent) (λ b f. (f.0, later.sent (mail.ToldSerial (uid_number u) 1) f.1)) more facts.1)
       (λ c L U on seen2 gone. go c L U (later_on W V U later on) seen2 gone))
     where
-      now : SeesEntry x d.names W.disk
-      now = entry_at d M W s
-
       goes : (b : Bool) → is_prepared a d.names ≡ b → EntryGoes x (pair_aborted a d.names) W
       goes true is = entries_forget x d.names W a (uid_number u) (entry_at d M W s) facts.0.1 (ap (λ f. f (uid_number a)) s.fixed.root ∙ facts.0.0)
       goes false is = record { effects = []; allowed = tt; plain = tt; there = subst (λ m. SeesEntry x (record d.names { pend = m }) W.disk) (sym (without_none a d.names.pend (unprepared a d.names is))) (entry_at d M W s); only = record { rest = refl; sent = refl } }
@@ -238,9 +235,6 @@ module _ (x : ℕ) (tops : Kinds) (e : ℕ) (d : Disk) (t : Parts) (n : Naming) 
     (W : World) (sees : SeesDisks x tops W (up 1 d t M)) (claims : ClaimsLast tops W 1 ack (Some (u, how))) where
   abbrev Q : Seen → Type 0
   Q = IsSeenByDisks x tops
-
-  abbrev after_told : Naming
-  after_told = (naming.told u how d.names n).part
 
   abbrev left : Parts
   left = record { server = (server.told 1 ends t.server).part; naming = Some (naming.told u how d.names n).part; coord = t.coord }

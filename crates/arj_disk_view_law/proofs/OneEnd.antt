@@ -42,9 +42,6 @@ place_any f (y ∷ ys) (suc j) a is on = or_right (f y) (list_any f ys) (place_a
 
 module _ (x : ℕ) (tops : Kinds) (e k : ℕ) (d : Disk) (t : Parts) (act : Uid) (b : Branch) (how : End) (line : Label → Body) (M : Seen) (kinds : KnowsKinds tops) (knows : KnowsCoord tops d.intents t.coord) (found : branch_of act t.coord.tree ≡ Some b) (unended : b.ended ≡ None)
     (childless : is_serial b.kind ≡ true → has_open_child act t.coord.tree ≡ false) (W : World) (sees : SeesDisks x tops W (up k d t M)) where
-  q : Doing
-  q = (knows.at_work act b found).0
-
   at_work : doing_of act t.coord ≡ Some (knows.at_work act b found).0
   at_work = (knows.at_work act b found).1
 

@@ -91,9 +91,6 @@ module _ (x k : ℕ) (tops : Kinds) (e : ℕ) where
       → prepare_states k d.store states from h t ≡ Took v outs → Walks P e k outs (Up P k v) d M
   prepare_walks d t v from h states outs M W s claims is = twice (is_prepared (actor h.path) d.store) refl is
     where
-      act : Uid
-      act = actor h.path
-
       own : SeesStore x k d.store W.disk
       own = s.stores k (record { number = k; disk = d; live = Some t }) (node_here M k (record { number = k; disk = d; live = Some t }))
 

@@ -67,9 +67,6 @@ module _ (x k : ℕ) (tops : Kinds) (W : World) (M : Seen) (d : Disk) (t : Parts
   later : IsLater W V
   later = effects_are_later W goes.effects goes.allowed sees.whole
 
-  abbrev C : Coord
-  C = on_doing u f t.coord
-
   mine : SeesCoord x k d.inc tops t.coord W.disk
   mine = sees.coords k (record { number = k; disk = d; live = Some t }) t (node_here M k (record { number = k; disk = d; live = Some t })) refl
 

@@ -43,9 +43,6 @@ use Rattle.arj_disk_view_law.proofs.TopFrames.{branch_at, apart_number}
 
 module _ (x : ℕ) (tops : Kinds) (e k : ℕ) (d : Disk) (t : Parts) (act : Uid) (b : Branch) (p : commit.Plan) (M : Seen) (knows : KnowsCoord tops d.intents t.coord) (found : branch_of act t.coord.tree ≡ Some b) (unended : b.ended ≡ None)
     (top : tops.is_top (uid_number act) ≡ true) (nothing : UsesNothing p) (W : World) (sees : SeesDisks x tops W (up k d t M)) where
-  q : Doing
-  q = (knows.at_work act b found).0
-
   at_work : doing_of act t.coord ≡ Some (knows.at_work act b found).0
   at_work = (knows.at_work act b found).1
 

@@ -107,8 +107,8 @@ objects_there hd x form some = (line_there hd x form some).0
 -- ---- the machine
 
 module _ (hd : Header) (x : ℕ) (tops : Kinds) (unwalked : tops.walk ≡ None) (has_it : HasObject hd x) (line : object_line hd x ≡ Some has_it.line) (W : World) (sees : SeesDisks x tops W (see [] (format hd))) (none : W.disk.tops ≡ []) where
-  abbrev S0 : State
-  S0 = first.S hd x tops has_it
+  abbrev started : State
+  started = first.S hd x tops has_it
 
   seen0 : SeesDisks x tops (first.W hd x tops has_it) (see [] (format hd))
   seen0 = format_seen hd x tops has_it unwalked
@@ -134,7 +134,7 @@ module _ (hd : Header) (x : ℕ) (tops : Kinds) (unwalked : tops.walk ≡ None) 
     entry_same : W.disk.entry ≡ record { version = 0; writer = uid_number nobody; content = has_it.line.stores }
     entry_same =
         let e = seen_entry in
-        let f : SeesEntry x (let n = first_node hd 1 in let d = n.disk in d.names) S0 = seen0.entry (first_node hd 1) one_is in
+        let f : SeesEntry x (let n = first_node hd 1 in let d = n.disk in d.names) started = seen0.entry (first_node hd 1) one_is in
         some_is refl (sym e.pair.held_is ∙ f.pair.held_is)
 
     last_is : last_entry W.disk ≡ record { version = 0; writer = uid_number nobody; content = has_it.line.stores }
@@ -153,7 +153,7 @@ module _ (hd : Header) (x : ℕ) (tops : Kinds) (unwalked : tops.walk ≡ None) 
       store_same : W.disk.held s ≡ Some (packed (first_state has_it.line))
       store_same =
           let e = seen_store in
-          let f : SeesStore x s (let n = first_node hd s in let d = n.disk in d.store) S0 = seen0.stores s (first_node hd s) (node_at s there) in
+          let f : SeesStore x s (let n = first_node hd s in let d = n.disk in d.store) started = seen0.stores s (first_node hd s) (node_at s there) in
           sym e.pair.held_is ∙ f.pair.held_is ∙ ap (λ b. if b then Some (packed (first_state has_it.line)) else None) stored
 
       first_is : W.disk.first ≡ packed (first_state has_it.line)

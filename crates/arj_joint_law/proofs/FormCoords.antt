@@ -38,9 +38,6 @@ use Rattle.arj_address_law.proofs.Lists.{all_append, all_filter, all_some}
 use Rattle.arj_joint_law.specs.Forms.{AllAreSo, AskIsSo, AtIsSo, CoordIsSo, EndIsSo, Kind, MessageIsSo, NowIsSo, Own, PlanIsSo, ReplyIsSo, RootIsSo, StepIsSo, stored}
 
 module _ (k : Kind) where
-  abbrev P : Uid → ObjectState → Type 0
-  P u st = stored k u st
-
   abbrev Q : ObjectState → Type 0
   Q st = Own (stored k) st
 

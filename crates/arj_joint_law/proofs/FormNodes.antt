@@ -161,9 +161,6 @@ module _ (k : Kind) where
   entries_so top [] excluded included d so = tt
   entries_so top (g ∷ gs) excluded included d so = by (held_at (entry g.0) d) refl (entries_so top gs excluded included d so)
     where
-      rest : List ObjectState
-      rest = entries_after top gs excluded included d
-
       made : (s : ObjectState) (b : Bool) → held_at (entry g.0) d ≡ Some s → AllByRecursion (Own (listed k)) (entries_after top gs excluded included d) → AllByRecursion (Own (listed k)) (cons_option (cond b None (Some (entry_state g.0 top s (stores_after g.0 excluded included (state_entry s))))) (entries_after top gs excluded included d))
       made s true is ih = ih
       made s false is ih = (entry_so top g.0 s (stores_after g.0 excluded included (state_entry s)) (so.held (entry g.0) s is).0, ih)

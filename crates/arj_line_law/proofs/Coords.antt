@@ -129,9 +129,6 @@ module _ (k : ℕ) (B : Book) where
 
 -- ---- calls
 
-idle : Doing → Doing
-idle d = record d { now = Idle }
-
 pub alike_asks : (p : Path) (req : ℕ) (asked : List (ℕ × Ask)) (c : Coord) → Alike c (asks_all p req asked c).part
 alike_asks p req [] c = alike_same c
 alike_asks p req (a ∷ rest) c =

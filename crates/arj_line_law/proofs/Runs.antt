@@ -352,17 +352,8 @@ behind_first [] = []
 behind_first (e ∷ es) = es
 
 module _ (hd : Header) (e k : ℕ) (d : Disk) (M : Seen) (good : IsGood (down k d M)) (w : IsWritten (down k d M)) where
-  abbrev C : Book
-  C = book M.lines
-
-  abbrev started : Parts
-  started = parts_in k (d.inc + 1) d
-
   own : KnowsNode (book M.lines) k (record { number = k; disk = d; live = None })
   own = its_own k d None M w
-
-  two : List Effect
-  two = Do Look ∷ recovered_records k d.intents
 
   -- the locks that naming gives back
   back_partly : (X : Book) (o : Option Naming) → ArePartly k X (naming_back o)

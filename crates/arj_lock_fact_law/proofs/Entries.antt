@@ -27,9 +27,6 @@ use Rattle.arj_lock_fact_law.specs.Entries.{EntriesAreFound, HandlersKeepEntries
 some_is : {A : Type 0} {a b : A} → Some a ≡ Some b → a ≡ b
 some_is {A} {a} {b} is = let k : ◌≡◌ {A = Option A} (Some a) (Some b) = is in cc
 
-none_not : {A P : Type 0} {x : A} → None ≡ Some x → P
-none_not {A} {P} {x} is = let no_way : ◌≡◌ {A = Option A} None (Some x) = is in absurd (cc no_way)
-
 module _ (x : ℕ) where
   abbrev IsHeld : Pair → Type 0
   IsHeld d = is_some (held_at (entry x) d) ≡ true

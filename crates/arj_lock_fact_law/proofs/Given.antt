@@ -1,5 +1,5 @@
 -- What coordinators in order give to the machine's view.
-use Rattle.std.proofs.Common.{◌≡◌, ◌≢◌, ◌⊎◌, ◌∙◌, ◌≤◌, ◌<◌, ◌+◌, ◌&&◌, ◌||◌, ◌++◌, ℕ, zero, suc, Bool, true, false, cond, not, filter, List, [], ◌∷◌, length, take, Option, Some, refl, sym, ap, subst, inl, inr, ⊎_elim, arith, Contains}
+use Rattle.std.proofs.Common.{◌≡◌, ◌≢◌, ◌⊎◌, ◌∙◌, ◌≤◌, ◌<◌, ◌+◌, ◌&&◌, ◌||◌, ◌++◌, ℕ, zero, suc, Bool, true, false, cond, not, filter, List, [], ◌∷◌, length, take, Some, refl, sym, ap, subst, inl, inr, ⊎_elim, arith, Contains}
 use Rattle.std.specs.Prelude.{unwrap_or}
 use Rattle.std.specs.List.{list_any}
 use Rattle.std.proofs.lemmas.Bool.{false_from_ne_true, or_cases, or_parts}
@@ -31,9 +31,6 @@ use Rattle.arj_lock_fact_law.proofs.Waits.{IsFree, one_free, there}
 
 never : {A : Type 0} {b : Bool} → b ≡ true → b ≡ false → A
 never holds fails = let no_way : true ≡ false = sym holds ∙ fails in absurd (cc no_way)
-
-some_is : {A : Type 0} {a b : A} → Some a ≡ Some b → a ≡ b
-some_is {A} {a} {b} is = let k : ◌≡◌ {A = Option A} (Some a) (Some b) = is in cc
 
 -- ---- the actions that were begun
 

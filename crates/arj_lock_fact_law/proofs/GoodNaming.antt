@@ -26,7 +26,7 @@ use Rattle.arj_part_law.specs.Actions.{Action, AreBegun, owners_of}
 use Rattle.arj_part_law.specs.Messages.{IsAsker}
 use Rattle.arj_part_law.specs.Objects.{IsGoodObject, IsToldOf, Untold}
 use Rattle.arj_part_law.specs.Rows.{AreGoodRows}
-use Rattle.arj_part_law.specs.Tops.{Fits, IsTop, Owners}
+use Rattle.arj_part_law.specs.Tops.{Fits, IsTop}
 use Rattle.arj_part_law.proofs.Begun.{begun_fits}
 use Rattle.arj_part_law.proofs.GoodCalls.{good_more, grown_bind, untold_path}
 use Rattle.arj_part_law.proofs.GoodObjects.{good_bind, good_ended, good_fresh, good_hello, good_locked, good_note, on_own}
@@ -119,9 +119,6 @@ module _ (acts : List Action) where
 -- ---- naming
 
 module _ (acts : List Action) (begun : AreBegun acts) where
-  abbrev own : Owners
-  own = owners_of acts
-
   abbrev Objects : Naming → Type 0
   Objects n = (x : ℕ) (o : Named) → at_number x n.objects ≡ Some o → IsGoodObject (owners_of acts) (is_on n.told) n.inc n.count x o
 

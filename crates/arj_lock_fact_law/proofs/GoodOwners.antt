@@ -24,9 +24,6 @@ use Rattle.arj_part_law.proofs.Keys.{order_exact}
 use Rattle.arj_lock_fact_law.specs.Uppers.{AreUpper, AsTops, HaveUpper, IsTopOf}
 use Rattle.arj_lock_fact_law.proofs.UpperWalks.{top_more}
 
-some_is : {A : Type 0} {a b : A} → Some a ≡ Some b → a ≡ b
-some_is {A} {a} {b} is = let k : ◌≡◌ {A = Option A} (Some a) (Some b) = is in cc
-
 -- ---- who owns whom
 
 -- who owns another one is a serializing action

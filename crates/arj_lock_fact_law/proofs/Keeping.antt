@@ -37,9 +37,6 @@ use Rattle.arj_lock_view_law.specs.Roots as roots
 use Rattle.arj_lock_view_law.proofs.TreeSteps.{above_there, root_there, seen_at}
 use Rattle.arj_lock_fact_law.specs.Keeping.{PlansHaveKept}
 
-some_is : {A : Type 0} {a b : A} → Some a ≡ Some b → a ≡ b
-some_is {A} {a} {b} is = let k : ◌≡◌ {A = Option A} (Some a) (Some b) = is in cc
-
 low_stage : (o : Option End) (n : Now) (i : ℕ) → i ≡ stage_of o n → (o ≡ Some ending.Abort → ⊥) → i ≤ 3
 low_stage (Some ending.Commit) n i is alive = omega (arith, is)
 low_stage (Some ending.Abort) n i is alive = absurd (alive refl)
@@ -53,9 +50,6 @@ module _ (act : Acts) (code : Codes) (paths : Paths) (x : ℕ) (sent : List Post
 
   abbrev coord : SeesCoord act code x c S
   coord = whole.coord
-
-  abbrev rt : Uid
-  rt = root_of b.path
 
   pub its : actor b.path ≡ u
   its = let good = steady.good in let t = good.tree in t.lists.places u b free.there

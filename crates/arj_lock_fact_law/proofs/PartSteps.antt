@@ -34,9 +34,6 @@ use Rattle.arj_lock_fact_law.specs.Parted.{IsPart, IsSought}
 some_is : {A : Type 0} {a b : A} → Some a ≡ Some b → a ≡ b
 some_is {A} {a} {b} is = let k : ◌≡◌ {A = Option A} (Some a) (Some b) = is in cc
 
-none_at : {A P : Type 0} {o : Option A} {x : A} → o ≡ None → o ≡ Some x → P
-none_at {A} {P} {o} {x} none is = let no_way : ◌≡◌ {A = Option A} None (Some x) = sym none ∙ is in absurd (cc no_way)
-
 -- ---- nodes in lists
 
 in_has : (ns : List ℕ) (n : ℕ) → has ns n ≡ true → list.In n ns

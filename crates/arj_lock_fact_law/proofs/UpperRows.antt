@@ -34,9 +34,6 @@ module _ (acts : List Action) where
   abbrev NamedUpper : Named → Type 0
   NamedUpper o = HaveUpper acts o.rows
 
-  abbrev Rows : Naming → Type 0
-  Rows n = AllByRecursion (λ (e : ℕ × Named). HaveUpper acts (let o = e.1 in o.rows)) n.objects
-
   abbrev Fine : List Effect → Type 0
   Fine outs = AllByRecursion (PreparesUpper acts) outs
 

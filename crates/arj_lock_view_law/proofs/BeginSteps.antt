@@ -163,9 +163,6 @@ module _ (act : Acts) (code : Codes) (paths : Paths) (x : ℕ) (c : Coord) (b : 
   idle_waits : (S.action (act u)).waits ≡ false
   idle_waits = was.waits (ap (has_end ending.Abort) (unended_none b.ended work.unended)) ∙ ap (λ (n : Now). invokes x n) idle
 
-  open_stage : (S.action (act u)).stage ≡ 0
-  open_stage = was.stage ∙ (λ i. stage_of (unended_none b.ended work.unended i) (idle i))
-
   moved : IsMoved act code paths x c C S S work.steady sees u rt b work.there refl r0 root_found own_root b d0 q
   moved = record {
     same = uses_same b.path x c.tree;

@@ -671,9 +671,6 @@ module _ (act : Acts) (code : Codes) (paths : Paths) (c : Coord) (b : Branch) (d
   -- ---- the call ends in the machine
 
   module _ (g : Root → Root) (end : CallEnd) (undoomed : (j : Coord) → doomed_by u end j ≡ j) (k : Option Known) (spoilt : Bool) (grants : List Grant) (T : State) (rebound : IsRebound k T) (looks : Looks x (root_heard s end (g (root_at rt c))) (record kp { kept = k; spoiled = spoilt }) said_now grants) (none : k ≡ None → kp.kept ≡ None) where
-    abbrev ke : Keeping
-    ke = record kp { kept = k; spoiled = spoilt }
-
     abbrev de : Doing
     de = record d { now = Idle }
 

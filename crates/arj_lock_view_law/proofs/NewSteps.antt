@@ -161,10 +161,6 @@ module _ (act : Acts) (code : Codes) (paths : Paths) (x : ℕ) (l : Label) (k : 
             unit_is = same_unit (act u) (act h) (begins.steady.alike.above u h ∙ before_on (paths u) h up);
           }
 
-  -- where it stands below another its root isn't itself
-  not_root : IsBelow → root_of p ≢ u
-  not_root below is = let r = root_there act paths x c S.action begins.steady sees.actions below.w below.b below.there in unborn (root_of below.b.path) r.0 (sym below.root_is ∙ is) r.1
-
   -- ---- the actions
 
   actions : SeesActions act x e S.action

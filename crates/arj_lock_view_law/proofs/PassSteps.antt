@@ -47,9 +47,6 @@ pub held_by : (act : Acts) (object : Uid) (a : Act) (rows : List Row) → (held_
 held_by act object a [] = inl refl
 held_by act object a (r ∷ rs) = by (counts act object a r) refl (held_by act object a rs)
   where
-    Found : List Row → ℕ → Type 0
-    Found rows k = (q : Row) × In q rows × (counts act object a q ≡ true) × (k ≤ strength q.mode)
-
     larger : (m k : ℕ) → (max m k ≤ m) ⊎ (max m k ≤ k)
     larger m k = grind arith
 

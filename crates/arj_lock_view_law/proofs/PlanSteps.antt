@@ -173,9 +173,6 @@ module _ (x : ℕ) (m : Act) (S : State) (reached : IsReached S) (one : (S.actio
     confirms [] there net = record { state = with_net net; run = stay; holds = (sent_none (with_net net), λ q i. absurd i) }
     confirms (q ∷ qs) there net = ⊎_elim (here (confirms qs (λ u i. there u (inr i)) (machine.Confirm m (q.grant * 4294967296) ∷ net))) (away (confirms qs (λ u i. there u (inr i)) net)) (by_cases (q.x == x))
       where
-        Goal : List Used → List Message → State → Type 0
-        Goal us n T = OnlySent (with_net n) T × ((u : Used) → list.In u us → u.x ≡ x → In (machine.Confirm m (u.grant * 4294967296)) T.net)
-
         away : Goes (with_net net) (λ T. OnlySent (with_net net) T × ((u : Used) → list.In u qs → u.x ≡ x → In (machine.Confirm m (u.grant * 4294967296)) T.net)) → (q.x == x) ≡ false → Goes (with_net net) (λ T. OnlySent (with_net net) T × ((u : Used) → list.In u (q ∷ qs) → u.x ≡ x → In (machine.Confirm m (u.grant * 4294967296)) T.net))
         away rest isnt = goes_to rest (λ T h. (h.0, λ u i about. ⊎_elim (λ is. absurd (let e : (q.x == x) ≡ true = ap (λ (y : Used). y.x == x) is ∙ ap (λ (n : ℕ). n == x) about ∙ number_self x in cc (sym e ∙ isnt))) (λ j. h.1 u j about) i))
 
@@ -191,10 +188,6 @@ module _ (x : ℕ) (m : Act) (S : State) (reached : IsReached S) (one : (S.actio
             λ u i about. ⊎_elim (λ same. (let r = rest.holds.0 in r.sent (machine.Confirm m (u.grant * 4294967296)) (inl (ap (λ (y : Used). machine.Confirm m (y.grant * 4294967296)) (sym same))))) (λ j. rest.holds.1 u j about) i,
           );
         }
-
-  -- what is seen stays, with what was sent
-  sent_on : (j : Machine) (T : State) → Run S T → SeesMachine x m j S → SeesMachine x m j T
-  sent_on j T run v = commits_stay_seen x m j S T reached run v
 
   plan_still : (p : Plan) (T : State) → Run S T → SeesPlan x m p S → SeesPlan x m p T
   plan_still p T run v = (on_run (SeesPlan x m p) (λ s t k later ever w. plan_on x m p s t k later w) run kept v).2

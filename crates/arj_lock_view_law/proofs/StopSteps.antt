@@ -36,10 +36,6 @@ decided_one : (act : Acts) (c : Coord) (S : State) (last : Option Uid) → IfDec
 decided_one act c S None one u is = absurd (cc is)
 decided_one act c S (Some v) one u is = let same : v ≡ u = cc is in subst (λ (w : Uid). IsDecided act c w S) same one
 
-is_last : (last : Option Uid) (w : Uid) → (last ≡ Some w) ⊎ (last ≢ Some w)
-is_last None w = inr (λ is. cc is)
-is_last (Some v) w = ⊎_elim (λ same. inl (ap Some same)) (λ other. inr (λ is. other (cc is))) (uid_cases v w)
-
 unit_is_not : (m n : ℕ) → (m ≡ n) ⊎ (m ≢ n)
 unit_is_not m n = grind arith
 

@@ -27,9 +27,6 @@ use Rattle.arj_lock_fact_law.proofs.Kept.{Place}
 use Rattle.arj_lock_fact_law.proofs.Pieces.{Pieces, acked_so, acts_so, again_so, heard_so}
 use Rattle.arj_lock_whole_law.specs.Called.{WaitFor}
 
-some_is : {A : Type 0} {a b : A} → Some a ≡ Some b → a ≡ b
-some_is {A} {a} {b} is = let k : ◌≡◌ {A = Option A} (Some a) (Some b) = is in cc
-
 -- ---- objects of the header
 
 pub found_object : (hd : Header) (x : ℕ) → is_some (class_at x hd) ≡ true → HasObject hd x

@@ -85,9 +85,6 @@ use Rattle.arj_lock_whole_law.proofs.AvoidWalks.{avoids_to}
 use Rattle.arj_lock_whole_law.proofs.Of.{walk_end}
 use Rattle.arj_lock_whole_law.proofs.Whole.{whole_of}
 
-some_is : {A : Type 0} {a b : A} → Some a ≡ Some b → a ≡ b
-some_is {A} {a} {b} is = let k : ◌≡◌ {A = Option A} (Some a) (Some b) = is in cc
-
 -- ---- lists of records
 
 -- what stands in it is found

@@ -49,12 +49,6 @@ use Rattle.arj_lock_fact_law.specs.Uppers.{AreOfEntries, AreUpper, HaveUpper, Ho
 use Rattle.arj_lock_fact_law.proofs.UpperRows.{top_asks}
 use Rattle.arj_lock_whole_law.specs.Tops.{HaveTops, HoldsNames, IsAboutTop, MeansTop, PreparesTop}
 
-some_is : {A : Type 0} {a b : A} → Some a ≡ Some b → a ≡ b
-some_is {A} {a} {b} is = let k : ◌≡◌ {A = Option A} (Some a) (Some b) = is in cc
-
-none_at : {A P : Type 0} {o : Option A} {x : A} → o ≡ None → o ≡ Some x → P
-none_at {A} {P} {o} {x} none is = let no_way : ◌≡◌ {A = Option A} None (Some x) = sym none ∙ is in absurd (cc no_way)
-
 -- ---- what a message asks
 
 -- a coordinator's message asks about nobody

@@ -66,9 +66,6 @@ module _ (x : ℕ) (tops : Kinds) (unwalked : tops.walk ≡ None) (e : ℕ) (d :
     (prepared : is_prepared (top_of h.path) d.names ≡ true → is_on n.confirmed (top_of h.path) ≡ true) (of : IsOfTop tops A.world.disk h.path) (claims : ClaimsAsk x A.world 1 h (ask.Confirm grants excluded included))
     (counts : IsNewConfirm h.path grants excluded included d.names n → CountsOnGrants x A.world.disk A.names (uid_number (top_of h.path)) grants × IsNext A.world.disk (uid_number (top_of h.path)))
     (both : SeesBoth x tops A (up 1 d t M)) where
-  abbrev Top : ℕ
-  Top = uid_number (top_of h.path)
-
   now : SeesNaming x tops n A.world.disk A.names
   now = memory x tops unwalked e d t n from h A M named both
 

@@ -114,9 +114,6 @@ each_at {X} f k (e ∷ es) = by (nat_cmp k e.0) refl (each_at f k es)
 -- ---- a decision
 
 module _ (x : ℕ) (t : Uid) (p : commit.Plan) (c : Coord) (b : Branch) (q : Doing) (found : branch_of t c.tree ≡ Some b) (unended : b.ended ≡ None) (at_work : coord.doing_of t c ≡ Some q) where
-  abbrev D : Coord
-  D = decided t p c
-
   -- its root
   mid_roots : (let z = on_doing t (λ (r : Doing). record r { took = participants p }) (on_doing t (λ (r : Doing). record r { now = Idle }) (record c { tree = ended_at t ending.Commit c.tree })) in z.roots) ≡ c.roots
   mid_roots = doing_roots t (λ (r : Doing). record r { took = participants p }) (on_doing t (λ (r : Doing). record r { now = Idle }) (record c { tree = ended_at t ending.Commit c.tree })) ∙ doing_roots t (λ (r : Doing). record r { now = Idle }) (record c { tree = ended_at t ending.Commit c.tree })

@@ -72,9 +72,6 @@ drop_stays u w (v ∷ vs) other = by (uid_eq v w) refl (drop_stays u w vs other)
 -- The rows go whose holders this test of the machine finds.
 module _ (x : ℕ) (tops : Kinds) (rows : List Row) (root : ℕ → ℕ) (row : ℕ → Option ℕ) (given : ℕ → Bool) (s : SeesRows x tops rows root row given) (u : Uid) (test : ℕ → Bool)
     (tests : (r : Row) → Stands r rows → is_on r.holder u ≡ test (uid_number (last_uid r.holder))) (after : ℕ → Bool) (stays : (h : ℕ) → test h ≡ false → after h ≡ given h) where
-  gone : Row → Bool
-  gone r = is_on r.holder u
-
   kept : (r : Row) → Contains (drop_rows u rows) r → Stands r rows × (test (uid_number (last_uid r.holder)) ≡ false)
   kept r c = let f = in_filter (λ (q : Row). not (is_on q.holder u)) r rows (in_from r (drop_rows u rows) c) in (f.0, sym (tests r f.0) ∙ falls_to (is_on r.holder u) (λ on. never f.1 (ap not on)))
 
@@ -280,9 +277,6 @@ module _ (x : ℕ) (tops : Kinds) (A : Office) (c : names.Named A) (u : Uid) (fi
 
   abbrev Nk : Names
   Nk = A.names
-
-  abbrev later : ℕ → Option ℕ
-  later = rows_after A.world.disk A.names (uid_number u) (not (A.names.given (uid_number u)))
 
   -- the lock of a holder behind its root, which is a serializing action
   root_serial : (us : List Uid) → (b : IsBehind R Nk.given us) → tops.is_serial (uid_number b.0) ≡ true

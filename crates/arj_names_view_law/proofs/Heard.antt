@@ -101,9 +101,6 @@ calls_are_taken x g tops root top c r q known place free A M idle answered has l
 
 -- the lists are the root's once an include's grant is noted
 module _ (x g : ℕ) (tops : Kinds) (root top : Uid) (c : Coord) (r q : Root) (N : Names) (s : SeesLists x tops root c r N) (of : IsTopOf tops root top) (after : AfterInclude x g top r q) where
-  abbrev New : Names
-  New = record N { had = put2 (uid_number top) g true N.had }
-
   abbrev new : Grant
   new = record { top = top; x = x; least = g; named = None }
 

@@ -215,9 +215,6 @@ module _ (x : ℕ) (tops : Kinds) (root t : Uid) (c d : Coord) (r q : Root) (p :
 
   module _ (serial : tops.is_serial (uid_number root) ≡ true) (had_since : (h : ℕ) (l : Kept) → N.kept h ≡ Some l → N.had h l.since ≡ true)
       (more : (z : Said) → Contains r.said z → z.x ≡ x → coord.is_retained z.path d ≡ true → (coord.is_retained z.path c ≡ true) ⊎ ((is_on z.path t ≡ true) × (is_spent z.path c.tree ≡ false))) where
-    abbrev N2 : Names
-    N2 = retained S (uid_number t) (record N { kept = lists_after S (uid_number t) N.kept })
-
     abbrev root_kept : Option Kept
     root_kept = or_else (lists_after S (uid_number t) N.kept (S.root (uid_number t))) (lists_after S (uid_number t) N.kept (uid_number t))
 

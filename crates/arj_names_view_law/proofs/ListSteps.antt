@@ -243,9 +243,6 @@ module _ (x g : ℕ) (tops : Kinds) (root t : Uid) (c : Coord) (r q : Root) (kno
   abbrev chosen : List ℕ
   chosen = filter (λ z. put2 (uid_number t) g true A.names.had z g) candidates
 
-  abbrev End : Office
-  End = end_of B (keeps (uid_number t) g known.stores chosen)
-
   abbrev M : Names
   M = let E = end_of (acted A (machine.Hear (uid_number t) g false known.stores)) (keeps (uid_number t) g known.stores (filter (λ z. put2 (uid_number t) g true A.names.had z g) (uid_number root ∷ map {A = Grant} {B = ℕ} (λ h. uid_number h.top) q.grants))) in E.names
 

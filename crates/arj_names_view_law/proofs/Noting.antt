@@ -129,9 +129,6 @@ module _ (x : ℕ) (tops : Kinds) (p : Path) (n : Naming) (A : Office) (o : Name
     write : N.row u ≡ Some 2
     write = so.made (top_of p) m there un untold
 
-    abbrev used : Named
-    used = in_use (top_of p) m i o
-
     lowered_is : is_lowered x (top_of p) (in_use (top_of p) m i o) ≡ not (N.asked u)
     lowered_is = λ k. any k && not (so.asked (top_of p) (λ nested. never of.top nested.0) untold k)
       where

@@ -1,7 +1,7 @@
 -- A node's restart, walked with both halves.
 use Rattle.std.proofs.Common.{◌≡◌, ◌⊎◌, ◌==◌, ◌&&◌, ◌+◌, ◌≤◌, arith, ℕ, List, [], ◌∷◌, ◌++◌, map, Bool, true, false, Option, Some, None, refl, sym, ◌∙◌, ap, subst, inl, inr, ⊎_elim}
 use Rattle.std.specs.Prelude.{if◌then◌else◌}
-use Rattle.arj_protocol.specs.Words.{Uid, Body, Header}
+use Rattle.arj_protocol.specs.Words.{Uid, Header}
 use Rattle.arj_protocol.specs.Words.body
 use Rattle.arj_protocol.specs.Confirm.{recovered_naming}
 use Rattle.arj_protocol.specs.Effect.{Disk, Effect, Say, Do, Look, PutInc, Stop, Before, After, InPart, Intent, stopped}
@@ -128,9 +128,6 @@ module _ (x : ℕ) (tops : Kinds) (unwalked : tops.walk ≡ None) (e k : ℕ) (h
       by false is = elsewhere is
 
   -- ---- the walk
-
-  Line : List Body
-  Line = body.Up k (d.inc + 1) ∷ []
 
   abbrev Rest : List Effect
   Rest = Do Look ∷ naming_back (naming_at k (d.inc + 1) d.names) ++ (Do Look ∷ recovered_records k d.intents) ++ tolds_again d.intents ++ map query_about (uid_set (prepared_actions d.store ++ prepared_actions d.names)) ++ map (hello_to k (d.inc + 1)) (without_number k (numbers_to hd.nodes))

@@ -115,9 +115,6 @@ module _ (x : ℕ) (tops : Kinds) (u : Uid) (how : End) (d : Pair) (n : Naming) 
       let later = effects_are_later C.world (a ∷ []) (allowed, tt) c.whole in
       record { fixed_then = fixed_later tops C.world (after C.world a) later i.fixed_then; sent = λ m s. later.sent m (i.sent m s); tops_then = same ∙ i.tops_then; either = e }
 
-  root_of : (C D : Office) → Inv C → IsFixed tops D.world.disk → D.world.disk.root ≡ C.world.disk.root
-  root_of C D i f = f.root ∙ sym (let g = i.fixed_then in g.root)
-
   -- the same names in another world
   late_on : (C : Office) (W : World) → W.disk.root ≡ C.world.disk.root → Late C → Late (record { world = W; names = C.names })
   late_on C W root l = record { inc = l.inc; had = l.had; kept = l.kept; answers = l.answers; confd = l.confd; seen = naming_on x tops After C.world.disk W.disk C.names root l.seen; told = l.told }
@@ -211,9 +208,6 @@ module _ (x : ℕ) (tops : Kinds) (unwalked : tops.walk ≡ None) (e : ℕ) (d :
   -- ---- a top
 
   module _ (top : tops.is_top (uid_number u) ≡ true) (plain : A.world.disk.serial (uid_number u) ≡ false) (claims : ClaimsTop A (uid_number u) how) where
-    abbrev I : Office → Type 0
-    I = Inv x tops u how d.names n A both.named now both.disks.fixed
-
     may_end : MayEnd x tops u how d.names n A both.named now both.disks.fixed
     may_end C c fixed same sent seen clear = tops_end_by_acts x tops u how d.names n C c seen fixed top (ap (λ f. f (uid_number u)) (fixed.serial ∙ sym (let z = both.disks.fixed in z.serial)) ∙ plain) clear (claims_on how claims)
       where

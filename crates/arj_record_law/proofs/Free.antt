@@ -14,7 +14,7 @@ use Rattle.arj_protocol.specs.Node.{Parts}
 use Rattle.arj_protocol.specs.Order.{at_uid, binding_number}
 use Rattle.arj_protocol.specs.Step.{Node}
 use Rattle.arj_protocol.specs.World.{format, run_all}
-use Rattle.arj_part_law.specs.Actions.{Action, AreBegun, owners_of}
+use Rattle.arj_part_law.specs.Actions.{AreBegun, owners_of}
 use Rattle.arj_part_law.specs.Messages.{FitsAsked, IsAsker}
 use Rattle.arj_part_law.specs.Objects.{IsGoodObject, IsUnrecorded, Untold}
 use Rattle.arj_part_law.specs.Tops.{Fits}
@@ -97,9 +97,6 @@ module _ (M : Seen) (few : KnowsFew M) (known : RecordsKnown M) (q : Node) (t : 
   begun = let b = known.0.0.1 in let g = b.1 in g.begun
 
   module _ (p : Post) (h : Head) (x : ℕ) (b : Binding) (i g : ℕ) (there : In p M.sent) (asking : asks p.message ≡ Some (h, ask.Record x b i g)) (new : IsNewRecord x h b g n) (states : List ObjectState) (s : ObjectState) (prepared : at_uid (top_of h.path) (let d = q.disk in let e = d.names in e.pend) ≡ Some states) (inside : list.In s states) (of : s.uid ≡ entry x) where
-    abbrev acts : List Action
-    acts = known.0.0.1.0
-
     who : IsAsker (let w = known.0.0.1 in w.0) h.path
     who = subst (FitsAsked (let w = known.0.0.1 in w.0) p.message) asking (let w = known.0.0.1 in let f = w.1 in f.fits p there)
 

@@ -23,7 +23,7 @@ use Rattle.arj_part_law.proofs.Begun.{begun_tree, path_found}
 use Rattle.arj_part_law.proofs.SaidIncs.{all_flat, all_map}
 use Rattle.arj_part_law.proofs.TrueSteps.{true_query, true_records, well_acked, well_acts, well_again, well_heard}
 use Rattle.arj_part_law.specs.Coords.{IsGoodCoord}
-use Rattle.arj_part_law.specs.Copies.{IsTree, Paths}
+use Rattle.arj_part_law.specs.Copies.{IsTree}
 use Rattle.arj_run_law.specs.Worlds.{IsUp}
 use Rattle.arj_run_law.proofs.Handled.{own_of_disk, tops_of_disk}
 use Rattle.arj_run_law.proofs.Starts.{first_at}
@@ -176,9 +176,6 @@ module _ (e k : ℕ) (d : Disk) (t : Parts) (M : Seen) (settle : RecordsSettle (
       )
 
   -- ---- inputs
-
-  abbrev paths : Paths
-  paths = paths_of below.0
 
   tree : IsTree (paths_of below.0)
   tree = begun_tree below.0 begun

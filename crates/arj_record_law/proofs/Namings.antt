@@ -30,9 +30,6 @@ use Rattle.arj_record_law.specs.Tests.{AreBelowLast, PassesNaming, Tests}
 pub none_not : {A P : Type 0} {x : A} → None ≡ Some x → P
 none_not {A} {P} {x} is = let no_way : ◌≡◌ {A = Option A} None (Some x) = is in absurd (cc no_way)
 
-less_is : (a b : ℕ) → nat_lt a b ≡ true → a < b
-less_is a b is = grind (arith, is)
-
 -- ---- naming goes on
 
 -- one object: the recorded binding doesn't fall, and who asked is known, or told of

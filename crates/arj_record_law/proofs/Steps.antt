@@ -135,9 +135,6 @@ module _ (T : Tests) (zero_made : T.made 0 ≡ true) (sent : List Post) (k : ℕ
   join_in r j [] new all i (inr none) = absurd none
   join_in r j (h ∷ hs) new all i there = by (same_join j h) refl there (join_in r j hs new (λ z q. all z (inr q)))
     where
-      later : ObjectState
-      later = later_state h.loaded j.loaded
-
       num : (w : Bool) → h.x ≡ j.x → (cond w j.loaded h.loaded).uid.num ≡ h.x
       num true same = let n = new.loaded in n ∙ sym same
       num false same = let n = all h (inl refl) in n.loaded

@@ -124,9 +124,6 @@ module _ (v : ℕ) (t : State) (run : Run (start v) t) where
     | inr o ↦ apart (sym (unit_root a x of_a) ∙ sym (on_root y x o) ∙ unit_root b y of_b)
   ])
 
-  order_cases : (m n : ℕ) → m ≢ n → (m < n) ⊎ (n < m)
-  order_cases m n e = grind arith
-
   -- An include came before a call of another unit: the last commit of its unit was called before the call's line.
   pub include_then_call : (k : Include) (d : Call) (m n : Act) → In k t.includes → In d t.calls → k.line ≤ d.line → Survives t k.act → Survives t d.act → root k.act ≢ root d.act → Closes t m k.act → Closes t n d.act → d.line < (t.action n).place → (t.action m).place ≤ d.line
   include_then_call k d m n i j less sk sd apart cm cn late = by (call_came d run (start_holds v) j)

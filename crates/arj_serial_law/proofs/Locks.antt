@@ -171,10 +171,6 @@ unit_last (t ∷ ts) r = by (t.root == r) refl (unit_last ts r)
 
 -- ---- runs
 
-run_calls : {S T : State} → Run S T → Holds S → (c : state.Call) → machine.In c S.calls → machine.In c T.calls
-run_calls stay h c i = i
-run_calls (step e guard rest) h c i = let k = step_keeps e _ guard h in run_calls rest k.1 c (let l = k.0 in l.calls c i)
-
 run_place : {S T : State} → Run S T → Holds S → (a : machine.Act) → 1 ≤ (S.action a).stage → (T.action a).place ≡ (S.action a).place
 run_place stay h a one = refl
 run_place (step e guard rest) h a one =
@@ -274,9 +270,6 @@ module _ (values : Values) (lines : List Line) (right : AreRight new_book lines)
 
     abbrev d : state.Call
     d = found_call.0
-
-    in_last : machine.In d T.calls
-    in_last = run_calls seen.behind here d found_call.1
 
     same_act : d.act ≡ (let e = s.call in e.act)
     same_act = let i = found_call.2 in let j = s.is in i.caller ∙ sym j.caller

@@ -121,9 +121,6 @@ one_list (t ∷ ts) (u ∷ us) w v f g = (λ i. first i ∷ one_list ts us w.1 v
 -- ---- the serial order
 
 module _ (header : Header) (lines : List Line) (right : AreRight new_book lines) (x : ℕ) (counts : Top → Bool) (those : List Top) (h : HaveTurns header lines x counts those) where
-  abbrev key : Top → List ℕ
-  key t = serial_key (tops lines) t.id
-
   abbrev less : Top → Top → Bool
   less t u = lex (serial_key (tops lines) t.id) (serial_key (tops lines) u.id)
 

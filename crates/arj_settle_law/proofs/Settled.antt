@@ -45,9 +45,6 @@ use Rattle.arj_settle_law.specs.Settled.{AskersSettle, DisksAreKnown, HandlersSe
 use Rattle.arj_settle_law.proofs.AskedWalks.{asked_of}
 use Rattle.arj_settle_law.proofs.Askers.{askers_kept}
 
-some_is : {A : Type 0} {a b : A} → Some a ≡ Some b → a ≡ b
-some_is {A} {a} {b} is = let k : ◌≡◌ {A = Option A} (Some a) (Some b) = is in cc
-
 never : {P : Type 0} {b : Bool} → b ≡ true → b ≡ false → P
 never holds fails = let no_way : true ≡ false = sym holds ∙ fails in absurd (cc no_way)
 
