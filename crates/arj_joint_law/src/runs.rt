@@ -6,8 +6,9 @@ ghost use Rattle.arj_joint_law.specs.Shown.{FilesShowDisks, IncludesAreListed};
 
 /// After the run of each script whose header is in form, of at most 1,000,000 events, with all frames that came in any order, again or
 /// never, all stops, crashes and restarts, there is for each object of the header a state of its disk machine in which it is seen, whose
-/// decisions are those of the journal, and whose first state and entry are the header's: no step changes them. It does nothing when it
-/// runs.
+/// decisions are those of the journal, and whose first state and entry are the header's: no step changes them. What `KeepsHeard` of
+/// `arj_disk_run_law` names is still taken (`heard`), or a relation that is kept with the machine's state (`beside`). It does nothing
+/// when it runs.
 pub fn runs_begin_as_the_header_says()
     ensures heard { RunsBeginSo }
     ensures beside { RunsBeginSoBeside }
@@ -16,7 +17,7 @@ pub fn runs_begin_as_the_header_says()
 
 /// And its decided tops stand in the order of their commit calls against decisions: each had its commit called, and that of one which
 /// was decided earlier had been called at a place of the journal where the later one wasn't decided yet, by its line or by a record that
-/// was found; or nothing of the later one survives. It does nothing when it runs.
+/// was found; or nothing of the later one survives. It takes the same as `runs_begin_as_the_header_says`. It does nothing when it runs.
 pub fn decisions_come_behind_calls()
     ensures heard { RunsAreOrdered }
     ensures beside { RunsAreOrderedBeside }

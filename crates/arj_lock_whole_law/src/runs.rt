@@ -18,7 +18,7 @@ pub fn runs_see_the_locks()
 {}
 
 /// There, in that state of the machine, each commit under way has the votes that came for the object: the changed state of its plan is what
-/// the server voted that was called, and there is none before. It does nothing when it runs.
+/// the server voted that was called, and there is none before. What `specs/Rest.antt` names is taken here too. It does nothing when it runs.
 pub fn runs_have_the_votes()
     ensures { RunsHaveVotes }
 {}

@@ -11,8 +11,8 @@ pub fn whoever_is_prepared_settles()
 {}
 
 /// In every run a quiesce that begins where nobody waits and no frame is open, in which every node stays up and no limit is met, leaves
-/// every node idle: with no action that waits, no prepared action and no record; and the journal's last line says `quiet`. It does
-/// nothing when it runs.
+/// every node idle: with no action that waits, no prepared action and no record; and the journal's last line says `quiet yes`. It
+/// does nothing when it runs.
 pub fn quiesces_leave_nodes_idle()
     ensures { QuiescesIdle }
 {}
