@@ -27,36 +27,36 @@ module _ (before : List Line) (n : ℕ) (u : Uid) (s : IsSeenDropped before n u)
   second false true c e = refl
   second false false c e = absurd (cc e)
 
-  cause : is_said before u ≡ true → may_abort before n u ≡ true
+  cause : is_said before u ≡ true → may_abort before role.Store n u ≡ true
   cause said = by (s.machine.disk.got (uid_number u) n) refl
     where
-      by : (b : Bool) → s.machine.disk.got (uid_number u) n ≡ b → may_abort before n u ≡ true
-      by false none = second (was_committed_at before n u) (was_excluded before n u) (has_halted_since before n u) (s.marked said none)
+      by : (b : Bool) → s.machine.disk.got (uid_number u) n ≡ b → may_abort before role.Store n u ≡ true
+      by false none = second (was_committed_at before role.Store n u) (was_excluded before n u) (has_halted_since before n u) (s.marked said none)
       by true answered =
           let one = one_outcome s.machine s.whole in
           let done = subst (λ t. disk.decided s.machine.disk t ≡ true) (sym s.whose) (s.decided said) in
           let went = one.dropped n s.hold s.drops done (ap (λ t. s.machine.disk.got t n) s.whose ∙ answered) in
-          one_of (was_committed_at before n u) (was_excluded before n u) (has_halted_since before n u) (s.finished (ap (λ t. s.machine.disk.went t n) (sym s.whose) ∙ went))
+          one_of (was_committed_at before role.Store n u) (was_excluded before n u) (has_halted_since before n u) (s.finished (ap (λ t. s.machine.disk.went t n) (sym s.whose) ∙ went))
 
-  has_cause : (not (is_said before u) || may_abort before n u) ≡ true
-  has_cause = by (is_said before u) refl
-    where
-      by : (b : Bool) → is_said before u ≡ b → (not b || may_abort before n u) ≡ true
-      by false none = refl
-      by true said = cause said
+-- as the rest says, where it is said
+where_said : (a b : Bool) → (a ≡ true → b ≡ true) → (not a || b) ≡ true
+where_said false b its = refl
+where_said true b its = its refl
 
-dropped : (before : List Line) (b : Body) → ((n : ℕ) (u : Uid) → b ≡ body.Done n u role.Store ending.Abort → IsSeenDropped before n u) → has_cause_to_abort before b ≡ true
-dropped before (body.Done n u r e) seen = by r e seen
+dropped : (before : List Line) (b : Body) → ((n : ℕ) (u : Uid) → b ≡ body.Done n u role.Store ending.Abort → IsSeenDropped before n u) → ((n : ℕ) (u : Uid) → b ≡ body.Done n u role.Names ending.Abort → is_said before u ≡ true → may_abort before role.Names n u ≡ true)
+    → has_cause_to_abort before b ≡ true
+dropped before (body.Done n u r e) seen named = by r e seen named
   where
-    by : (q : Role) (f : End) → ((m : ℕ) (v : Uid) → body.Done n u q f ≡ body.Done m v role.Store ending.Abort → IsSeenDropped before m v) → has_cause_to_abort before (body.Done n u q f) ≡ true
-    by role.Store ending.Abort s = has_cause before n u (s n u refl)
-    by role.Store ending.Commit s = refl
-    by role.Names ending.Abort s = refl
-    by role.Names ending.Commit s = refl
-dropped before b seen = refl
+    by : (q : Role) (f : End) → ((m : ℕ) (v : Uid) → body.Done n u q f ≡ body.Done m v role.Store ending.Abort → IsSeenDropped before m v) → ((m : ℕ) (v : Uid) → body.Done n u q f ≡ body.Done m v role.Names ending.Abort → is_said before v ≡ true → may_abort before role.Names m v ≡ true)
+        → has_cause_to_abort before (body.Done n u q f) ≡ true
+    by role.Store ending.Abort s named = where_said (is_said before u) (may_abort before role.Store n u) (cause before n u (s n u refl))
+    by role.Names ending.Abort s named = where_said (is_said before u) (may_abort before role.Names n u) (named n u refl)
+    by role.Store ending.Commit s named = refl
+    by role.Names ending.Commit s named = refl
+dropped before b seen named = refl
 
 pub seen_show_one_outcome : SeenRunsShowOneOutcome
-seen_show_one_outcome hd es seen = record {
+seen_show_one_outcome hd es seen named = record {
   commits = commits_behind hd es;
-  aborts = each_from has_cause_to_abort (journal hd es) (λ before line behind e. dropped before line.body (λ n u is. seen before line behind n u e is)) [] (journal hd es) refl;
+  aborts = each_from has_cause_to_abort (journal hd es) (λ before line behind e. dropped before line.body (λ n u is. seen before line behind n u e is) (λ n u is. named before line behind n u e is)) [] (journal hd es) refl;
 }

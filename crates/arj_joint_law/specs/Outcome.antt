@@ -1,4 +1,4 @@
--- One outcome, by a journal: what is committed anywhere was decided before, and why a store may abort what was decided.
+-- One outcome, by a journal: what is committed anywhere was decided before, and why a store, or naming, may abort what was decided.
 use Rattle.std.specs.Prelude.{◌≡◌, ℕ, Bool, true, false, ◌==◌, ◌&&◌, ◌||◌, not, nat_lt, List, [], ◌∷◌, ◌++◌, Option, None, Some}
 use Rattle.std.specs.List.{list_any}
 use Rattle.arj_base.specs.Uid.{uid_eq}
@@ -7,6 +7,7 @@ use Rattle.arj_base.specs.declared.uid.Uid.{Uid}
 use Rattle.arj_journal.specs.declared.body.Body.{Body}
 use Rattle.arj_journal.specs.declared.body.Body.TheVariants as body
 use Rattle.arj_journal.specs.declared.body.Line.{Line}
+use Rattle.arj_journal.specs.declared.body.Role.{Role}
 use Rattle.arj_journal.specs.declared.body.Role.TheVariants as role
 use Rattle.arj_journal.specs.declared.header.Header.{Header}
 use Rattle.arj_model.specs.Actions.{Act, acts, committed, halts, is_committed, recovered, top_in}
@@ -35,13 +36,14 @@ commits_are_behind lines = each_behind is_behind_decision [] lines
 
 -- ---- aborts
 
--- the store has committed what it prepared for the action
-abbrev pub is_store_commit : ℕ → Uid → Body → Bool
-is_store_commit n u (body.Done m v role.Store ending.Commit) = (m == n) && uid_eq v u
-is_store_commit n u _ = false
+-- the store of the node, or naming there, has committed what it prepared for the action
+abbrev pub is_commit_by : Role → ℕ → Uid → Body → Bool
+is_commit_by role.Store n u (body.Done m v role.Store ending.Commit) = (m == n) && uid_eq v u
+is_commit_by role.Names n u (body.Done m v role.Names ending.Commit) = (m == n) && uid_eq v u
+is_commit_by r n u _ = false
 
-abbrev pub was_committed_at : List Line → ℕ → Uid → Bool
-was_committed_at lines n u = list_any (λ (line : Line). is_store_commit n u line.body) lines
+abbrev pub was_committed_at : List Line → Role → ℕ → Uid → Bool
+was_committed_at lines r n u = list_any (λ (line : Line). is_commit_by r n u line.body) lines
 
 -- the action with this number has this Uid
 abbrev pub has_uid : List Line → Uid → ℕ → Bool
@@ -60,13 +62,13 @@ is_top_of u (Some a) = uid_eq a.uid u
 abbrev pub has_halted_since : List Line → ℕ → Uid → Bool
 has_halted_since lines n u = list_any (λ m. is_top_of u (top_in m.it) && list_any (λ h. (h.it.node == n) && nat_lt m.at h.at) (halts lines)) (committings lines)
 
--- A store may abort what it prepared for a decided top only where it has committed it before, the top's commit excluded it, or its node
--- has halted since that commit was called.
-abbrev pub may_abort : List Line → ℕ → Uid → Bool
-may_abort lines n u = was_committed_at lines n u || was_excluded lines n u || has_halted_since lines n u
+-- A store, or naming, may abort what it prepared for a decided top only where it has committed it before, the top's commit excluded the node,
+-- or the node has halted since that commit was called.
+abbrev pub may_abort : List Line → Role → ℕ → Uid → Bool
+may_abort lines r n u = was_committed_at lines r n u || was_excluded lines n u || has_halted_since lines n u
 
 abbrev pub has_cause_to_abort : List Line → Body → Bool
-has_cause_to_abort before (body.Done n u role.Store ending.Abort) = not (is_said before u) || may_abort before n u
+has_cause_to_abort before (body.Done n u r ending.Abort) = not (is_said before u) || may_abort before r n u
 has_cause_to_abort before _ = true
 
 abbrev pub aborts_have_cause : List Line → Bool

@@ -49,6 +49,10 @@ right_end =
 abbrev pub wrong_abort : List Line
 wrong_abort = before_commit ++ numbered 5 (body.Excluded label 1 3 ∷ body.Committed label ∷ done_at 2 ending.Abort ∷ [])
 
+-- nor may naming, without such a cause
+abbrev pub wrong_names_abort : List Line
+wrong_names_abort = before_commit ++ numbered 5 (body.Committed label ∷ body.Done 1 its_uid role.Names ending.Abort ∷ [])
+
 abbrev pub halted_abort : List Line
 halted_abort = before_commit ++ numbered 5 (body.Halted 2 ∷ body.Committed label ∷ done_at 2 ending.Abort ∷ [])
 

@@ -4,7 +4,7 @@ ghost use Rattle.arj_joint_law.specs.Dropped.{SeenRunsShowOneOutcome};
 ghost use Rattle.arj_joint_law.specs.Excluded.{IsInTime, IsNew, NewWritersAreLast, NodesHaveForm, RunsExcludeInTimeByCalls, SeenRunsExcludeInTime};
 ghost use Rattle.arj_joint_law.specs.InTime.{RunsExcludeInTime, WholeRunsExcludeInTime};
 ghost use Rattle.arj_joint_law.specs.Outcome.{CommitsAreBehind, ShowsOneOutcome, aborts_have_cause, commits_are_behind};
-ghost use Rattle.arj_joint_law.specs.Samples.{decided_lines, found_commit, halted_abort, header, its_top, naming_late, naming_node, right_end, store_three, store_two, wrong_abort, wrong_commit};
+ghost use Rattle.arj_joint_law.specs.Samples.{decided_lines, found_commit, halted_abort, header, its_top, naming_late, naming_node, right_end, store_three, store_two, wrong_abort, wrong_commit, wrong_names_abort};
 
 /// In each run, with all frames in any order, again or never, all stops, crashes and restarts, each line that a commit was done, by a
 /// store or by naming, stands behind the `committed` line of its action, or behind the line that a restart found its record. It does
@@ -15,7 +15,8 @@ pub fn commits_are_done_behind_decisions()
 
 /// And a run shows one outcome of each top where at each line that a store's abort is done the disk machine of an object is seen in a state in
 /// which it may drop what was prepared: a decided top that the store gave its Yes was committed there before, and that has its line, or the
-/// store halted since; and a store that gave it none was excluded. It does nothing when it runs.
+/// store halted since; and a store that gave it none was excluded. That naming has such a cause where it aborts is taken. It does nothing
+/// when it runs.
 pub fn seen_runs_show_one_outcome()
     ensures runs { SeenRunsShowOneOutcome }
 {}
@@ -26,6 +27,7 @@ pub fn one_outcome_tells_journals_apart()
     ensures halted { ShowsOneOutcome halted_abort }
     ensures found { ShowsOneOutcome found_commit }
     ensures no_cause { aborts_have_cause wrong_abort ≡ false }
+    ensures naming { aborts_have_cause wrong_names_abort ≡ false }
     ensures early { commits_are_behind wrong_commit ≡ false }
 {}
 

@@ -13,5 +13,8 @@ returns-clause-found c = record { commits = refl; aborts = refl }
 pub returns-clause-no_cause : goal.returns-clause-no_cause
 returns-clause-no_cause c = refl
 
+pub returns-clause-naming : goal.returns-clause-naming
+returns-clause-naming c = refl
+
 pub returns-clause-early : goal.returns-clause-early
 returns-clause-early c = refl
