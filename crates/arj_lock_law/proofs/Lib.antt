@@ -33,3 +33,4 @@ pub mod VoteSteps
 pub mod VoteRun
 pub mod Kept
 pub mod Given
+pub mod Stands

@@ -4,4 +4,5 @@ pub mod State
 pub mod Steps
 pub mod Machine
 pub mod Laws
+pub mod Loads
 pub mod Runs

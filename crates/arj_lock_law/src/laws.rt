@@ -5,6 +5,7 @@ ghost use Rattle.arj_lock_law.specs.State.{State, Call, Include};
 ghost use Rattle.arj_lock_law.specs.Steps.{Survives};
 ghost use Rattle.arj_lock_law.specs.Machine.{start, Run};
 ghost use Rattle.arj_lock_law.specs.Laws.{IsInOrder, IsNested, IsAtOneNode, IsHeld, IsEntryWritten, KeptAreNamed, Closes, SawTheLast, GivenStands, ConfirmedStands, VotesAgree, VotesAreRight};
+ghost use Rattle.arj_lock_law.specs.Loads.{LoadsStand};
 
 /// Order: the ok lines of two conflicting surviving calls stand in the serial order of their tops, whatever restarts, lost
 /// locks, replaced bindings and old messages come between. It does nothing when it runs.
@@ -61,4 +62,10 @@ pub fn given_votes_stand()
 /// Kept bindings: a unit with a call that wasn't undone keeps a binding of which it heard an incarnation. It does nothing when it runs.
 pub fn kept_bindings_are_named()
     ensures named { (v : ℕ) (s : State) → Run (start v) s → KeptAreNamed s }
+{}
+
+/// Loads: what a store may give for a binding it may give for ever, whatever is called, confirmed, decided and forgotten since: as long as the
+/// binding is current, the value stays that of the last committed write, and nothing gets in doubt. It does nothing when it runs.
+pub fn loads_stand()
+    ensures loads { (v : ℕ) (s : State) → Run (start v) s → LoadsStand s }
 {}
