@@ -1,16 +1,16 @@
 -- Giveups of calls that are overtaken send nothing, and leave fewer who wait.
 use Rattle.std.proofs.Common.{◌≡◌, ◌≢◌, ◌⊎◌, ◌∙◌, ◌-◌, ℕ, zero, suc, Bool, true, false, List, [], ◌∷◌, ◌++◌, refl, sym, ap, subst, inl, inr, ⊎_elim, Option, Some, None, append-nil, length, eqb-true, arith}
-use Rattle.std.specs.Prelude.{⊤, ◌&&◌, ◌==◌, nat_le, nat_lt, not, option_map, take, if◌then◌else◌}
+use Rattle.std.specs.Prelude.{⊤, ◌&&◌, ◌==◌, nat_le, nat_lt, not, option_map, take, if◌then◌else◌, is_some, Contains, slice_get, ◌⊎◌}
 use Rattle.std.specs.List.{AllByRecursion}
 use Rattle.std.proofs.lemmas.Bool.Decides.{nat_tests}
 use Rattle.arj_coord_law.proofs.CoordUses.{on_cases, some_is}
 use Rattle.arj_coord_law.proofs.RunCoords.{labels_named}
-use Rattle.arj_event_law.specs.Named.{AreNamed}
+use Rattle.arj_event_law.specs.Named.{AreNamed, KnowsNames}
 use Rattle.arj_event_law.specs.Writes.{IsWhole}
 use Rattle.arj_event_law.proofs.Settled.{events_settle}
 use Rattle.arj_event_law.proofs.Whole.{runs_whole}
 use Rattle.arj_protocol.proofs.Maps.{place_other}
-use Rattle.arj_protocol.specs.Words.{Body, Header, Label, Uid}
+use Rattle.arj_protocol.specs.Words.{Body, Header, Label, Uid, Path, label_cmp}
 use Rattle.arj_protocol.specs.Words.body
 use Rattle.arj_protocol.specs.Words.event
 use Rattle.arj_protocol.specs.Words.which
@@ -18,36 +18,66 @@ use Rattle.arj_protocol.specs.Ask.{actor}
 use Rattle.arj_protocol.specs.Asking.{end_line, ends_call, gaveup_lines, give_up, give_up_call, give_up_doing, gives_up, root_lost, step_call}
 use Rattle.arj_protocol.specs.Call as calls
 use Rattle.arj_protocol.specs.Call.{At, AtActivate, AtNote, Known, Lost, Steps, next_node}
-use Rattle.arj_protocol.specs.Commit.{Machine, is_empty, left_of}
-use Rattle.arj_protocol.specs.Coord.{Calling, Committing, Coord, Doing, Idle, Now, doing_of, on_root}
+use Rattle.arj_protocol.specs.Commit.{Machine, is_empty, left_of, plan_of}
+use Rattle.arj_protocol.specs.Coord.{Calling, Committing, Coord, Doing, Idle, Now, doing_of, on_root, number_of, uid_at}
 use Rattle.arj_protocol.specs.Effect.{Did, Disk, Do, Effect, Intent, Say, Send, Stop}
 use Rattle.arj_protocol.specs.Ending.{say_for, says}
 use Rattle.arj_protocol.specs.Node.{Parts, Ran, most_rounds, next_round, ran, rounds, whole, with_coord}
 use Rattle.arj_protocol.specs.Order.{at_number}
 use Rattle.arj_protocol.specs.Step as input
 use Rattle.arj_protocol.specs.Step.{Node, Step, acts, branch_named, first_reason, is_waiting_now, step, step_unless, refusal_at}
-use Rattle.arj_protocol.specs.Tree.{Branch, at_place, root_of, set_place}
+use Rattle.arj_protocol.specs.Tree.{Branch, at_place, root_of, set_place, branch_of, is_own}
 use Rattle.arj_protocol.specs.World as world
-use Rattle.arj_protocol.specs.World.{Arm, Asked, World, armed, count_works, counted, cut, disarmed, done_step, format, frames_with, halted_at, halted_outs, is_given, limited, lowest_from, most_frames, node_of, run_all, run_event, run_unless, says as world_says, sends, step_node, step_with, steps}
+use Rattle.arj_protocol.specs.World.{Arm, Asked, World, armed, count_works, counted, cut, disarmed, done_step, format, frames_with, halted_at, halted_outs, is_given, limited, lowest_from, most_frames, node_of, run_all, run_event, run_unless, says as world_says, sends, step_node, step_with, steps, labelled}
 use Rattle.arj_run_law.proofs.AllRuns.{all_keep}
-use Rattle.arj_run_law.specs.Worlds.{IsGood}
+use Rattle.arj_run_law.specs.Worlds.{IsGood, IsMemory}
 use Rattle.arj_view_law.specs.Keeps.{Holds, KeepsAsked}
 use Rattle.arj_view_law.specs.Seen.{Seen}
 use Rattle.arj_view_law.proofs.Happens.{place_same, runs_asked, runs_hold}
 use Rattle.arj_event_law.proofs.Spoken.{given_node}
-use Rattle.arj_round_law.specs.Quiet.{AreQuiet, IsGiveUp, NobodyWaits, RoundsSettle, SettlesAll}
+use Rattle.arj_round_law.specs.Quiet.{AreQuiet, IsGiveUp, NobodyWaits, RoundsSettle, SettlesAll, AreGivenUp, AreIdle, GivesUp}
 use Rattle.arj_round_law.specs.Rounds.{AnswersWaits, AreUp, WaitOvertaken}
 use Rattle.arj_round_law.specs.Waits.{IsToSettle, coord_in, coord_of}
 use Rattle.arj_round_law.proofs.Fits.{Few, runs_few}
 use Rattle.arj_round_law.proofs.Quiesces.{keeps_good, run_answers}
 use Rattle.arj_round_law.proofs.Quiets.{quiesce_settles}
 use Rattle.arj_round_law.proofs.Worlds.{Of}
+use Rattle.std.specs.Map.{lookup}
+use Rattle.std.specs.BTreeMap.{is_at}
+use Rattle.arj_lock.proofs.Members.{In, in_from, in_to}
+use Rattle.arj_event_law.proofs.CoordNames.{same_acts}
+use Rattle.arj_part_law.specs.Coords.{AreBusy, IsAsking, IsBusy}
+use Rattle.arj_part_law.specs.Actions.{paths_of}
+use Rattle.arj_part_law.proofs.Begun.{begun_tree, path_found}
+use Rattle.arj_run_law.proofs.Walked.{same_number}
+use Rattle.std.proofs.lemmas.Bool.{and_parts}
 
 -- ---- a coordinator
 
 -- whoever waits is a call that asks a server to take a binding, or naming to record it
 abbrev pub OnlySettle : Coord → Type 0
 OnlySettle c = (u : Uid) (q : Doing) → doing_of u c ≡ Some q → is_waiting_now q.now ≡ true → (s : Steps) × (q.now ≡ Calling s) × (k : Known) × IsToSettle s.at k
+
+-- The coordinator knows its labels, and each action stands at the place of its number; and what waits fits its tree.
+abbrev pub IsSoundAt : Coord → Type 0
+IsSoundAt c = KnowsNames c × AreBusy c
+
+own_is : (u : Uid) (c : Coord) → is_own u c.tree ≡ true → uid_at u.num c ≡ u
+own_is u c is = let parts = and_parts (u.node == c.tree.node) (u.inc == c.tree.inc) is in λ i. record { node = sym (eqb-true u.node c.tree.node parts.0) i; inc = sym (eqb-true u.inc c.tree.inc parts.1) i; num = u.num }
+
+own_found : (u : Uid) (b : Branch) (c : Coord) → branch_of u c.tree ≡ Some b → is_own u c.tree ≡ true
+own_found u b c is = by (is_own u c.tree) refl is
+  where
+    by : (t : Bool) → is_own u c.tree ≡ t → (if t then at_place u.num c.tree.branches else None) ≡ Some b → is_own u c.tree ≡ true
+    by true own found = own
+    by false own found = absurd (cc found)
+
+placed : (u : Uid) (b : Branch) (c : Coord) → branch_of u c.tree ≡ Some b → at_place u.num c.tree.branches ≡ Some b
+placed u b c is = (λ i. if sym (own_found u b c is) i then at_place u.num c.tree.branches else None) ∙ is
+
+-- a branch that is found for an action is its own
+own_branch : (u : Uid) (b : Branch) (c : Coord) → KnowsNames c → branch_of u c.tree ≡ Some b → actor b.path ≡ u
+own_branch u b c knows is = knows.places u.num b (placed u b c is) ∙ own_is u c (own_found u b c is)
 
 -- the effects are lines alone
 abbrev AreLines : List Effect → Type 0
@@ -73,49 +103,57 @@ gaveup_are_lines : (u : Uid) (ns : List ℕ) (c : Coord) → AreLines (gaveup_li
 gaveup_are_lines u [] c = tt
 gaveup_are_lines u (n ∷ ns) c = lines_on (says u (λ l. body.GaveUp l n) c) (gaveup_lines u ns c) (says_lines u (λ l. body.GaveUp l n) c) (gaveup_are_lines u ns c)
 
--- what a giveup leaves
-record IsLight (c e : Coord) (outs : List Effect) : Type 0 where
+-- what a giveup of this action leaves
+record IsLight (u : Uid) (c e : Coord) (outs : List Effect) : Type 0 where
   lines : AreLines outs
-  fewer : (w : Uid) (q : Doing) → doing_of w e ≡ Some q → (q.now ≡ Idle) ⊎ (doing_of w c ≡ Some q)
+  fewer : (w : Uid) (q : Doing) → doing_of w e ≡ Some q → (q.now ≡ Idle) ⊎ ((doing_of w c ≡ Some q) × (w ≡ u → q.now ≡ Idle))
 
-lost_light : (s : Steps) (n : ℕ) (c : Coord) → let d = ends_call s (Lost n false) c in IsLight c d.part d.outs
+lost_light : (s : Steps) (n : ℕ) (c : Coord) → let d = ends_call s (Lost n false) c in IsLight (actor s.path) c d.part d.outs
 lost_light s n c = record {
   lines = says_lines (actor s.path) (end_line s.x s.goal (Lost n false)) c;
-  fewer = λ w q is. ⊎_elim (λ same. inl (ap (λ (x : Doing). x.now) (sym same.3))) (λ other. inr other.1) (on_cases (actor s.path) (λ (d : Doing). record d { now = Idle }) c w q is);
+  fewer = λ w q is. ⊎_elim (λ same. inl (ap (λ (x : Doing). x.now) (sym same.3))) (λ other. inr (other.1, λ same. absurd (other.0 same))) (on_cases (actor s.path) (λ (d : Doing). record d { now = Idle }) c w q is);
 }
 
-behind_lines : (c e : Coord) (es fs : List Effect) → AreLines es → IsLight c e fs → IsLight c e (es ++ fs)
-behind_lines c e es fs a l = record { lines = lines_on es fs a l.lines; fewer = l.fewer }
+behind_lines : (u : Uid) (c e : Coord) (es fs : List Effect) → AreLines es → IsLight u c e fs → IsLight u c e (es ++ fs)
+behind_lines u c e es fs a l = record { lines = lines_on es fs a l.lines; fewer = l.fewer }
 
 calling_is : (s x : Steps) → Calling s ≡ Calling x → s ≡ x
 calling_is s x is = cc is
 
-give_up_light : (u : Uid) (intents : List (Uid × Intent)) (c : Coord) → OnlySettle c → let d = give_up u intents c in IsLight c d.part d.outs
-give_up_light u intents c only = by (doing_of u c) refl
-  where
-    same : IsLight c c []
-    same = record { lines = tt; fewer = λ w q is. inr is }
+-- an action that waits in a call asks by its own path
+asks_itself : (u : Uid) (q : Doing) (s : Steps) (c : Coord) → IsSoundAt c → doing_of u c ≡ Some q → q.now ≡ Calling s → actor s.path ≡ u
+asks_itself u q s c sound found is =
+    let a = subst (IsBusy c.tree u) is (sound.1 u q found) in
+    let b = a.branch in
+    ap actor (sym a.path) ∙ own_branch u b c sound.0 a.found
 
-    call : (s : Steps) (at : At) (k : Known) → s.at ≡ at → IsToSettle at k → let d = give_up_call s c in IsLight c d.part d.outs
-    call s (AtActivate q st) k is to = subst (λ at. let d = step_call s (calls.given_up at) (on_root (root_of s.path) (root_lost s (calls.given_up at)) c) in IsLight c d.part d.outs) (sym is)
+give_up_light : (u : Uid) (intents : List (Uid × Intent)) (c : Coord) → IsSoundAt c → OnlySettle c → let d = give_up u intents c in IsLight u c d.part d.outs
+give_up_light u intents c sound only = by (doing_of u c) refl
+  where
+    same : ((q : Doing) → doing_of u c ≡ Some q → q.now ≡ Idle) → IsLight u c c []
+    same idle = record { lines = tt; fewer = λ w q is. inr (is, λ at. idle q (ap (λ v. doing_of v c) (sym at) ∙ is)) }
+
+    call : (s : Steps) (at : At) (k : Known) → s.at ≡ at → IsToSettle at k → let d = give_up_call s c in IsLight (actor s.path) c d.part d.outs
+    call s (AtActivate q st) k is to = subst (λ at. let d = step_call s (calls.given_up at) (on_root (root_of s.path) (root_lost s (calls.given_up at)) c) in IsLight (actor s.path) c d.part d.outs) (sym is)
         (let l = lost_light s q.server (on_root (root_of s.path) (root_lost s (calls.given_up (AtActivate q st))) c) in record { lines = l.lines; fewer = l.fewer })
-    call s (AtNote q i) k is to = subst (λ at. let d = step_call s (calls.given_up at) (on_root (root_of s.path) (root_lost s (calls.given_up at)) c) in IsLight c d.part d.outs) (sym is)
+    call s (AtNote q i) k is to = subst (λ at. let d = step_call s (calls.given_up at) (on_root (root_of s.path) (root_lost s (calls.given_up at)) c) in IsLight (actor s.path) c d.part d.outs) (sym is)
         (let l = lost_light s 1 (on_root (root_of s.path) (root_lost s (calls.given_up (AtNote q i))) c) in record { lines = l.lines; fewer = l.fewer })
     call s (calls.AtBind b) k is to = absurd to
     call s (calls.AtLoad q n rest) k is to = absurd to
     call s (calls.AtInvoke q i) k is to = absurd to
 
-    now : (q : Doing) → doing_of u c ≡ Some q → (n : Now) → q.now ≡ n → let d = gives_up u intents c n in IsLight c d.part d.outs
-    now q found Idle is = same
+    now : (q : Doing) → doing_of u c ≡ Some q → (n : Now) → q.now ≡ n → let d = gives_up u intents c n in IsLight u c d.part d.outs
+    now q found Idle is = same (λ p at. ap (λ (x : Doing). x.now) (some_is p q (sym at ∙ found)) ∙ is)
     now q found (Calling s) is =
         let w = only u q found (ap is_waiting_now is) in
         let one : w.0 ≡ s = calling_is w.0 s (sym w.1 ∙ is) in
         let d = give_up_call s c in
-        behind_lines c d.part (gaveup_lines u (next_node s ∷ []) c) d.outs (gaveup_are_lines u (next_node s ∷ []) c) (call s s.at w.2 refl (subst (λ (x : Steps). IsToSettle x.at w.2) one w.3))
+        behind_lines u c d.part (gaveup_lines u (next_node s ∷ []) c) d.outs (gaveup_are_lines u (next_node s ∷ []) c)
+        (subst (λ v. IsLight v c d.part d.outs) (asks_itself u q s c sound found is) (call s s.at w.2 refl (subst (λ (x : Steps). IsToSettle x.at w.2) one w.3)))
     now q found (Committing m) is = let w = only u q found (ap is_waiting_now is) in let no_way : Committing m ≡ Calling w.0 = sym is ∙ w.1 in absurd (cc no_way)
 
-    by : (o : Option Doing) → doing_of u c ≡ o → let d = give_up_doing u intents c o in IsLight c d.part d.outs
-    by None none = same
+    by : (o : Option Doing) → doing_of u c ≡ o → let d = give_up_doing u intents c o in IsLight u c d.part d.outs
+    by None none = same (λ p at. let no_way : None ≡ Some p = sym none ∙ at in absurd (cc no_way))
     by (Some q) found = now q found q.now refl
 
 -- ---- a step
@@ -145,49 +183,106 @@ cut_lines k how (Say b ∷ es) d a = cut_lines k how es d a
 cut_lines k how (Send to m ∷ es) d a = absurd a
 cut_lines k how (Do w ∷ es) d a = absurd a
 
+-- At the coordinator labels stand for the same actions, and who waits waited before, and isn't the one that this label stands for.
+record IsFewer (l : Label) (c e : Coord) : Type 0 where
+  labels : e.labels ≡ c.labels
+  fewer : (w : Uid) (q : Doing) → doing_of w e ≡ Some q → is_waiting_now q.now ≡ true → (doing_of w c ≡ Some q) × (number_of l c ≡ Some w.num → ⊥)
+
 -- a node's step that says lines alone and leaves only who waits so
-record IsLightStep (s : Step) : Type 0 where
+record IsLightStep (l : Label) (n : Node) (s : Step) : Type 0 where
   outs : AreLines s.outs
   halting : AreLines s.halting
-  only : (c : Coord) → coord_in (Some s.after) ≡ Some c → OnlySettle c
+  goes : (e : Coord) → coord_in (Some s.after) ≡ Some e → (c : Coord) × (coord_in (Some n) ≡ Some c) × IsFewer l c e
 
-fewer_settle : (c e : Coord) (outs : List Effect) → IsLight c e outs → OnlySettle c → OnlySettle e
-fewer_settle c e outs l only u q is waits = ⊎_elim (λ idle. absurd (cc (sym (ap is_waiting_now idle) ∙ waits))) (λ old. only u q old waits) (l.fewer u q is)
+idle_waits : {X : Type 0} (q : Doing) → q.now ≡ Idle → is_waiting_now q.now ≡ true → X
+idle_waits q idle waits = absurd (cc (sym (ap is_waiting_now idle) ∙ waits))
 
-giveup_light : (hd : Header) (n : Node) (l : Label) → ((c : Coord) → coord_in (Some n) ≡ Some c → OnlySettle c) → IsLightStep (step hd n (input.GiveUp l))
-giveup_light hd n l only = by (refusal_at hd (input.GiveUp l) n.live) refl
+-- an action that waits has a branch of its own, which is open
+waits_at : (w : Uid) (q : Doing) (c : Coord) → IsSoundAt c → doing_of w c ≡ Some q → is_waiting_now q.now ≡ true → (b : Branch) × (at_place w.num c.tree.branches ≡ Some b) × (actor b.path ≡ w) × (is_some b.ended ≡ false)
+waits_at w q c sound found waits = by q.now refl
   where
-    did : (t : Parts) → n.live ≡ Some t → (o : Option Branch) → branch_named l t.coord ≡ o → refusal_at hd (input.GiveUp l) n.live ≡ None → IsLightStep (input.step_of hd (input.GiveUp l) n (Some t))
-    did t live None none free = absurd (cc (sym (λ i. refusal_at hd (input.GiveUp l) (live i)) ∙ free))
-    did t live (Some b) named free = light
-      where
-        c : Coord
-        c = t.coord
+    here : (p : Path) → IsAsking c.tree w p → (b : Branch) × (at_place w.num c.tree.branches ≡ Some b) × (actor b.path ≡ w) × (is_some b.ended ≡ false)
+    here p a = (a.branch, placed w a.branch c a.found, own_branch w a.branch c sound.0 a.found, a.opened)
 
-        here : OnlySettle t.coord
-        here = only t.coord (λ i. coord_in (Some (record n { live = live i })))
+    by : (n : Now) → q.now ≡ n → (b : Branch) × (at_place w.num c.tree.branches ≡ Some b) × (actor b.path ≡ w) × (is_some b.ended ≡ false)
+    by Idle is = idle_waits q is waits
+    by (Calling s) is = here s.path (subst (IsBusy c.tree w) is (sound.1 w q found))
+    by (Committing m) is = let v = subst (IsBusy c.tree w) is (sound.1 w q found) in here (let p = plan_of m in p.path) v.asking
 
-        d : Did Coord
-        d = acts (input.GiveUp l) n.disk.intents t.coord
+module _ (hd : Header) (n : Node) (l : Label) (t : Parts) (live : n.live ≡ Some t) (here : IsSoundAt t.coord × OnlySettle t.coord) where
+  refusal_here : refusal_at hd (input.GiveUp l) n.live ≡ input.refused_by input.giveup_reasons t.coord (branch_named l t.coord)
+  refusal_here = λ i. refusal_at hd (input.GiveUp l) (live i)
 
-        d_is : d ≡ give_up (actor b.path) n.disk.intents t.coord
-        d_is = ap (λ o. input.on_branch (λ (x : Branch). give_up (actor x.path) n.disk.intents t.coord) t.coord o) named
+  -- the label stands for an action that waits
+  named_at : (w : Uid) (b : Branch) → number_of l t.coord ≡ Some w.num → at_place w.num t.coord.tree.branches ≡ Some b → branch_named l t.coord ≡ Some b
+  named_at w b number there = ap (input.branch_numbered t.coord) number ∙ there
 
-        its : IsLight t.coord d.part d.outs
-        its = subst (λ (x : Did Coord). IsLight t.coord x.part x.outs) (sym d_is) (give_up_light (actor b.path) n.disk.intents t.coord here)
+  unrefused : (w : Uid) (q : Doing) → doing_of w t.coord ≡ Some q → is_waiting_now q.now ≡ true → number_of l t.coord ≡ Some w.num → refusal_at hd (input.GiveUp l) n.live ≡ None
+  unrefused w q found waits number =
+      let a = waits_at w q t.coord here.0 found waits in
+      refusal_here ∙ ap (input.refused_by input.giveup_reasons t.coord) (named_at w a.0 number a.1)
+      ∙ (λ i. first_reason ((6, a.3 i) ∷ (8, not (input.is_waiting (doing_of (a.2 i) t.coord))) ∷ []))
+      ∙ (λ i. first_reason ((8, not (input.is_waiting (found i))) ∷ []))
+      ∙ (λ i. first_reason ((8, not (waits i)) ∷ []))
 
-        ran_is : whole n.number (with_coord t d.part) d.outs n.disk ≡ record { here = record { disk = n.disk; parts = with_coord t d.part }; outs = d.outs; queue = [] }
-        ran_is = whole_lines n.number (with_coord t d.part) d.outs n.disk its.lines
+  giveup_did : (o : Option Branch) → branch_named l t.coord ≡ o → refusal_at hd (input.GiveUp l) n.live ≡ None → IsLightStep l n (input.step_of hd (input.GiveUp l) n (Some t))
+  giveup_did None none free = absurd (cc (sym (refusal_here ∙ ap (input.refused_by input.giveup_reasons t.coord) none) ∙ free))
+  giveup_did (Some b) named free = light
+    where
+      d : Did Coord
+      d = acts (input.GiveUp l) n.disk.intents t.coord
 
-        light : IsLightStep (input.coord_did n t d)
-        light = subst (λ r. IsLightStep (input.steps_to n [] r)) (sym ran_is) (record { outs = its.lines; halting = its.lines; only = λ e is. subst OnlySettle (some_is d.part e is) (fewer_settle t.coord d.part d.outs its here) })
+      d_is : d ≡ give_up (actor b.path) n.disk.intents t.coord
+      d_is = ap (λ o. input.on_branch (λ (x : Branch). give_up (actor x.path) n.disk.intents t.coord) t.coord o) named
 
-    up : (o : Option Parts) → n.live ≡ o → refusal_at hd (input.GiveUp l) n.live ≡ None → IsLightStep (input.step_of hd (input.GiveUp l) n o)
+      its : IsLight (actor b.path) t.coord d.part d.outs
+      its = subst (λ (x : Did Coord). IsLight (actor b.path) t.coord x.part x.outs) (sym d_is) (give_up_light (actor b.path) n.disk.intents t.coord here.0 here.1)
+
+      ran_is : whole n.number (with_coord t d.part) d.outs n.disk ≡ record { here = record { disk = n.disk; parts = with_coord t d.part }; outs = d.outs; queue = [] }
+      ran_is = whole_lines n.number (with_coord t d.part) d.outs n.disk its.lines
+
+      goes : IsFewer l t.coord d.part
+      goes = record {
+        labels = let s = same_acts (input.GiveUp l) n.disk.intents t.coord (λ m k p is. absurd (cc is)) in s.labels;
+        fewer = λ w q is waits. ⊎_elim
+            (λ idle. idle_waits q idle waits)
+            (λ old. (
+              old.0,
+              λ number.
+                  let a = waits_at w q t.coord here.0 old.0 waits in
+                  let one : a.0 ≡ b = some_is a.0 b (sym (named_at w a.0 number a.1) ∙ named) in
+                  idle_waits q (old.1 (sym a.2 ∙ ap (λ (x : Branch). actor x.path) one)) waits,
+            ))
+            (its.fewer w q is);
+      }
+
+      light : IsLightStep l n (input.coord_did n t d)
+      light = subst (λ r. IsLightStep l n (input.steps_to n [] r)) (sym ran_is)
+          (record { outs = its.lines; halting = its.lines; goes = λ e is. (t.coord, (λ i. coord_in (Some (record n { live = live i }))), subst (IsFewer l t.coord) (some_is d.part e is) goes) })
+
+giveup_light : (hd : Header) (n : Node) (l : Label) → ((c : Coord) → coord_in (Some n) ≡ Some c → IsSoundAt c × OnlySettle c) → IsLightStep l n (step hd n (input.GiveUp l))
+giveup_light hd n l holds = by (refusal_at hd (input.GiveUp l) n.live) refl
+  where
+    here : (t : Parts) → n.live ≡ Some t → IsSoundAt t.coord × OnlySettle t.coord
+    here t live = holds t.coord (λ i. coord_in (Some (record n { live = live i })))
+
+    up : (o : Option Parts) → n.live ≡ o → refusal_at hd (input.GiveUp l) n.live ≡ None → IsLightStep l n (input.step_of hd (input.GiveUp l) n o)
     up None none free = absurd (cc (sym (λ i. refusal_at hd (input.GiveUp l) (none i)) ∙ free))
-    up (Some t) live free = did t live (branch_named l t.coord) refl free
+    up (Some t) live free = giveup_did hd n l t live (here t live) (branch_named l t.coord) refl free
 
-    by : (r : Option ℕ) → refusal_at hd (input.GiveUp l) n.live ≡ r → IsLightStep (step_unless hd (input.GiveUp l) n r)
-    by (Some x) is = record { outs = tt; halting = tt; only = only }
+    -- who is refused doesn't wait
+    refused : (x : ℕ) → refusal_at hd (input.GiveUp l) n.live ≡ Some x → (e : Coord) → coord_in (Some n) ≡ Some e → IsFewer l e e
+    refused x is e at = record { labels = refl; fewer = λ w q found waits. (found, λ number. one n.live refl at w q found waits number) }
+      where
+        one : (o : Option Parts) → n.live ≡ o → option_map coord_of o ≡ Some e → (w : Uid) (q : Doing) → doing_of w e ≡ Some q → is_waiting_now q.now ≡ true → number_of l e ≡ Some w.num → ⊥
+        one None live at w q found waits number = absurd (cc at)
+        one (Some t) live at w q found waits number =
+            let same : t.coord ≡ e = some_is t.coord e at in
+            let no_way : Some x ≡ None = sym is ∙ unrefused hd n l t live (here t live) w q (ap (doing_of w) same ∙ found) waits (ap (number_of l) same ∙ number) in
+            absurd (cc no_way)
+
+    by : (r : Option ℕ) → refusal_at hd (input.GiveUp l) n.live ≡ r → IsLightStep l n (step_unless hd (input.GiveUp l) n r)
+    by (Some x) is = record { outs = tt; halting = tt; goes = λ e at. (e, at, refused x is e at) }
     by None free = up n.live refl free
 
 -- ---- a world
@@ -197,6 +292,18 @@ pub record IsCalm (hd : Header) (w : World) : Type 0 where
   pub none : lowest_from 1 w.frames ≡ None
   pub only : (k : ℕ) (c : Coord) → Of hd k → coord_in (at_place k w.nodes) ≡ Some c → OnlySettle c
 
+-- coordinators of nodes of the header know their labels, and what waits there fits their trees
+abbrev pub AreSound : Header → World → Type 0
+AreSound hd w = (k : ℕ) (c : Coord) → Of hd k → coord_in (at_place k w.nodes) ≡ Some c → IsSoundAt c
+
+-- Nothing is under way behind the giveup, labels stand for the same actions, and who waits waited before, and isn't the one for which this
+-- label stands.
+pub record HasGivenUp (hd : Header) (l : Label) (w v : World) : Type 0 where
+  pub none : lowest_from 1 v.frames ≡ None
+  pub labels : v.labels ≡ w.labels
+  pub coords : (k : ℕ) (e : Coord) → Of hd k → coord_in (at_place k v.nodes) ≡ Some e → (c : Coord) × (coord_in (at_place k w.nodes) ≡ Some c) × (e.labels ≡ c.labels)
+      × ((u : Uid) (q : Doing) → doing_of u e ≡ Some q → is_waiting_now q.now ≡ true → (doing_of u c ≡ Some q) × (node_of l w ≡ k → number_of l c ≡ Some u.num → ⊥))
+
 take_none : {A : Type 0} (k : ℕ) → ◌≡◌ {A = List A} (take k []) []
 take_none zero = refl
 take_none (suc k) = refl
@@ -205,67 +312,118 @@ take_none (suc k) = refl
 frames_stay : (n : ℕ) (es : List Effect) (w : World) → AreLines es → frames_with w.frames (sends n es) ≡ w.frames
 frames_stay n es w a = (λ i. frames_with w.frames (lines_send n es a i)) ∙ ap (λ xs. w.frames ++ xs) (take_none (most_frames - length w.frames)) ∙ append-nil w.frames
 
+-- the node for which no event is has who waited
+stays : (k n : ℕ) (l : Label) (c e : Coord) → (n ≡ k → ⊥) → e ≡ c → (u : Uid) (q : Doing) → doing_of u e ≡ Some q → is_waiting_now q.now ≡ true → (doing_of u c ≡ Some q) × (n ≡ k → number_of l c ≡ Some u.num → ⊥)
+stays k n l c e apart same u q is waits = (ap (doing_of u) (sym same) ∙ is, λ at number. apart at)
+
 -- a node is put in its place that leaves no more who wait
-put_calm : (hd : Header) (n : ℕ) (a b : Node) (w : World) → at_place n w.nodes ≡ Some a → ((c : Coord) → coord_in (Some b) ≡ Some c → OnlySettle c) → ((k : ℕ) (c : Coord) → Of hd k → coord_in (at_place k w.nodes) ≡ Some c → OnlySettle c)
-    → (k : ℕ) (c : Coord) → Of hd k → coord_in (at_place k (set_place n b w.nodes)) ≡ Some c → OnlySettle c
-put_calm hd n a b w there new old k c of = by (k == n) refl
+put_down : (hd : Header) (l : Label) (a b : Node) (w v : World) → at_place (node_of l w) w.nodes ≡ Some a → ((e : Coord) → coord_in (Some b) ≡ Some e → (c : Coord) × (coord_in (Some a) ≡ Some c) × IsFewer l c e)
+    → lowest_from 1 v.frames ≡ None → v.labels ≡ w.labels → v.nodes ≡ set_place (node_of l w) b w.nodes → HasGivenUp hd l w v
+put_down hd l a b w v there goes none labels nodes = record {
+  none = none;
+  labels = labels;
+  coords = λ k e of is. by k e (k == node_of l w) refl (ap (λ ns. coord_in (at_place k ns)) (sym nodes) ∙ is);
+}
   where
-    apart : (k == n) ≡ false → k ≢ n
-    apart e = grind (arith, nat_tests)
+    apart : (k n : ℕ) → (k == n) ≡ false → k ≢ n
+    apart k n e = grind (arith, nat_tests)
 
-    by : (t : Bool) → (k == n) ≡ t → coord_in (at_place k (set_place n b w.nodes)) ≡ Some c → OnlySettle c
-    by true e is = new c (sym (ap coord_in (ap (λ j. at_place j (set_place n b w.nodes)) (eqb-true k n e) ∙ place_same n b a w.nodes there)) ∙ is)
-    by false e is = old k c of (sym (ap coord_in (place_other n k b w.nodes (apart e))) ∙ is)
+    by : (k : ℕ) (e : Coord) (t : Bool) → (k == node_of l w) ≡ t → coord_in (at_place k (set_place (node_of l w) b w.nodes)) ≡ Some e → (c : Coord) × (coord_in (at_place k w.nodes) ≡ Some c) × (e.labels ≡ c.labels)
+        × ((u : Uid) (q : Doing) → doing_of u e ≡ Some q → is_waiting_now q.now ≡ true → (doing_of u c ≡ Some q) × (node_of l w ≡ k → number_of l c ≡ Some u.num → ⊥))
+    by k e true at is =
+        let here : k ≡ node_of l w = eqb-true k (node_of l w) at in
+        let g = goes e (sym (ap coord_in (ap (λ j. at_place j (set_place (node_of l w) b w.nodes)) here ∙ place_same (node_of l w) b a w.nodes there)) ∙ is) in
+        let f = g.2 in
+        (g.0, ap (λ j. coord_in (at_place j w.nodes)) here ∙ ap coord_in there ∙ g.1, f.labels, λ u q found waits. let one = f.fewer u q found waits in (one.0, λ same number. one.1 number))
+    by k e false at is = (e, sym (ap coord_in (place_other (node_of l w) k b w.nodes (apart k (node_of l w) at))) ∙ is, refl, stays k (node_of l w) l e e (λ same. apart k (node_of l w) at (sym same)) refl)
 
-step_calm : (hd : Header) (n : ℕ) (a : Node) (s : Step) (w : World) (arm : Option Arm) → at_place n w.nodes ≡ Some a → IsLightStep s → IsCalm hd w → IsCalm hd (step_with n a s w arm)
-step_calm hd n a s w arm there light calm = by arm
+step_down : (hd : Header) (l : Label) (a : Node) (s : Step) (w : World) (arm : Option Arm) → at_place (node_of l w) w.nodes ≡ Some a → IsLightStep l a s → lowest_from 1 w.frames ≡ None → HasGivenUp hd l w (step_with (node_of l w) a s w arm)
+step_down hd l a s w arm there light calm = by arm
   where
-    done : (arms : List (ℕ × Arm)) → IsCalm hd (done_step n s (record w { arms = arms }))
-    done arms = record { none = subst (λ fs. lowest_from 1 fs ≡ None) (sym (frames_stay n s.outs w light.outs)) calm.none; only = put_calm hd n a s.after w there light.only calm.only }
+    n : ℕ
+    n = node_of l w
 
-    halts : (k : ℕ) (how : Stop) (arms : List (ℕ × Arm)) → IsCalm hd (halted_at n a (cut k how s.halting a.disk) (record w { arms = arms }))
-    halts k how arms = record {
-      none = subst (λ fs. lowest_from 1 fs ≡ None) (sym (frames_stay n (halted_outs n (cut k how s.halting a.disk)) w (lines_on (cut k how s.halting a.disk).outs (Say (body.Halted n) ∷ []) (cut_lines k how s.halting a.disk light.halting) tt))) calm.none;
-      only = put_calm hd n a (record a { disk = (cut k how s.halting a.disk).disk; live = None }) w there (λ c is. absurd (cc is)) calm.only;
-    }
+    done : (arms : List (ℕ × Arm)) → HasGivenUp hd l w (done_step n s (record w { arms = arms }))
+    done arms = put_down hd l a s.after w (done_step n s (record w { arms = arms })) there light.goes (subst (λ fs. lowest_from 1 fs ≡ None) (sym (frames_stay n s.outs w light.outs)) calm) refl refl
 
-    by : (o : Option Arm) → IsCalm hd (step_with n a s w o)
+    halts : (k : ℕ) (how : Stop) (arms : List (ℕ × Arm)) → HasGivenUp hd l w (halted_at n a (cut k how s.halting a.disk) (record w { arms = arms }))
+    halts k how arms = put_down hd l a (record a { disk = (cut k how s.halting a.disk).disk; live = None }) w (halted_at n a (cut k how s.halting a.disk) (record w { arms = arms })) there (λ e is. absurd (cc is))
+        (subst (λ fs. lowest_from 1 fs ≡ None) (sym (frames_stay n (halted_outs n (cut k how s.halting a.disk)) w (lines_on (cut k how s.halting a.disk).outs (Say (body.Halted n) ∷ []) (cut_lines k how s.halting a.disk light.halting) tt))) calm) refl refl
+
+    by : (o : Option Arm) → HasGivenUp hd l w (step_with n a s w o)
     by None = done w.arms
     by (Some r) = two (nat_lt (count_works s.halting) r.works)
       where
-        two : (t : Bool) → IsCalm hd (if t then done_step n s (armed n (record r { works = r.works - count_works s.halting }) w) else halted_at n a (cut (r.works - 1) r.how s.halting a.disk) (disarmed n w))
+        two : (t : Bool) → HasGivenUp hd l w (if t then done_step n s (armed n (record r { works = r.works - count_works s.halting }) w) else halted_at n a (cut (r.works - 1) r.how s.halting a.disk) (disarmed n w))
         two true = done (armed n (record r { works = r.works - count_works s.halting }) w).arms
         two false = halts (r.works - 1) r.how (disarmed n w).arms
 
-giveup_steps : (hd : Header) (n : ℕ) (l : Label) (w : World) → Of hd n → IsCalm hd w → IsCalm hd (steps n (input.GiveUp l) w)
-giveup_steps hd n l w of calm = by (at_place n w.nodes) refl
+giveup_steps : (hd : Header) (l : Label) (w : World) → Of hd (node_of l w) → IsCalm hd w → AreSound hd w → HasGivenUp hd l w (steps (node_of l w) (input.GiveUp l) w)
+giveup_steps hd l w of calm sound = by (at_place (node_of l w) w.nodes) refl
   where
-    by : (o : Option Node) → at_place n w.nodes ≡ o → IsCalm hd (step_node n (input.GiveUp l) w o)
-    by None none = calm
-    by (Some a) there = step_calm hd n a (step w.header a (input.GiveUp l)) w (at_number n w.arms) there (giveup_light w.header a l (λ c is. calm.only n c of (ap coord_in there ∙ is))) calm
+    by : (o : Option Node) → at_place (node_of l w) w.nodes ≡ o → HasGivenUp hd l w (step_node (node_of l w) (input.GiveUp l) w o)
+    by None none = record { none = calm.none; labels = refl; coords = λ k e at is. (e, is, refl, stays k (node_of l w) l e e (λ same. let no_way : None ≡ Some e = sym (ap coord_in (ap (λ j. at_place j w.nodes) (sym same) ∙ none)) ∙ is in absurd (cc no_way)) refl) }
+    by (Some a) there = step_down hd l a (step w.header a (input.GiveUp l)) w (at_number (node_of l w) w.arms) there
+        (giveup_light w.header a l (λ c is. (sound (node_of l w) c of (ap coord_in there ∙ is), calm.only (node_of l w) c of (ap coord_in there ∙ is)))) calm.none
 
--- a giveup leaves a world calm
-pub giveup_calm : (hd : Header) (e : Asked) (w : World) → IsGiveUp e → IsWhole w → w.header ≡ hd → IsCalm hd w → IsCalm hd (run_event e w)
-giveup_calm hd e w (l, is) whole header calm = by w.over
+-- so it is of the event that gives it up
+giveup_goes : (hd : Header) (e : Asked) (l : Label) (w : World) → e.event ≡ event.GiveUp l → IsWhole w → w.header ≡ hd → w.over ≡ false → IsCalm hd w → AreSound hd w → HasGivenUp hd l w (run_event e w)
+giveup_goes hd e l w is whole header over calm sound = subst (λ b. HasGivenUp hd l w (if b then w else run_unless e.event e.arm w (first_reason (world.reasons e.event w)))) (sym over)
+    (subst (λ x. HasGivenUp hd l w (run_unless x e.arm w (first_reason (world.reasons x w)))) (sym is) (at_node (is_given l w) refl))
   where
-    marked : IsCalm hd (counted w)
-    marked = record { none = calm.none; only = calm.only }
+    counts : (v : World) → HasGivenUp hd l (counted w) v → HasGivenUp hd l w v
+    counts v g = record { none = g.none; labels = g.labels; coords = g.coords }
 
-    limits : (v : World) → IsCalm hd v → IsCalm hd (limited v)
-    limits v c = one v.full
+    limits : (v : World) → HasGivenUp hd l w v → HasGivenUp hd l w (limited v)
+    limits v g = one v.full
       where
-        one : (b : Bool) → IsCalm hd (if b then world_says (body.Limit which.Frames ∷ []) (record v { over = true }) else v)
-        one true = record { none = c.none; only = c.only }
-        one false = c
+        one : (b : Bool) → HasGivenUp hd l w (if b then world_says (body.Limit which.Frames ∷ []) (record v { over = true }) else v)
+        one true = record { none = g.none; labels = g.labels; coords = g.coords }
+        one false = g
 
-    at_node : (b : Bool) → is_given l w ≡ b → IsCalm hd (run_unless (event.GiveUp l) e.arm w (first_reason ((5, not b) ∷ [])))
+    -- a label that wasn't given stands for no node
+    nowhere : is_given l w ≡ false → (k : ℕ) → Of hd k → node_of l w ≡ k → ⊥
+    nowhere none k of at = by (labelled l w) refl none
+      where
+        by : (o : Option world.Labelled) → labelled l w ≡ o → is_some o ≡ false → ⊥
+        by None lacks none = let zero_is : k ≡ 0 = sym at ∙ ap world.node_in lacks in let no_way : false ≡ true = sym (ap (λ j. nat_le 1 j && nat_le j hd.nodes) zero_is) ∙ of in absurd (cc no_way)
+        by (Some g) has none = absurd (cc none)
+
+    at_node : (b : Bool) → is_given l w ≡ b → HasGivenUp hd l w (run_unless (event.GiveUp l) e.arm w (first_reason ((5, not b) ∷ [])))
     at_node true given = limits (steps (node_of l (counted w)) (input.GiveUp l) (counted w))
-        (giveup_steps hd (node_of l w) l (counted w) (subst (λ (x : Header). (nat_le 1 (node_of l w) && nat_le (node_of l w) x.nodes) ≡ true) header (given_node w l whole given)) marked)
-    at_node false given = record { none = calm.none; only = calm.only }
+        (counts (steps (node_of l (counted w)) (input.GiveUp l) (counted w)) (giveup_steps hd l (counted w) (subst (λ (x : Header). (nat_le 1 (node_of l w) && nat_le (node_of l w) x.nodes) ≡ true) header (given_node w l whole given))
+        (record { none = calm.none; only = calm.only }) sound))
+    at_node false none = record { none = calm.none; labels = refl; coords = λ k c of at. (c, at, refl, stays k (node_of l w) l c c (nowhere none k of) refl) }
 
-    by : (b : Bool) → IsCalm hd (if b then w else run_unless e.event e.arm w (first_reason (world.reasons e.event w)))
-    by true = calm
-    by false = subst (λ x. IsCalm hd (run_unless x e.arm w (first_reason (world.reasons x w)))) (sym is) (at_node (is_given l w) refl)
+calm_goes : (hd : Header) (l : Label) (w v : World) → HasGivenUp hd l w v → IsCalm hd w → IsCalm hd v
+calm_goes hd l w v g calm = record { none = g.none; only = λ k e of is u q found waits. let c = g.coords k e of is in calm.only k c.0 of c.1 u q (c.3 u q found waits).0 waits }
+
+-- who waits is given up by an event that is still to come
+given_goes : (hd : Header) (e : Asked) (gs : List Asked) (l : Label) (w v : World) → e.event ≡ event.GiveUp l → w.header ≡ hd → v.header ≡ hd → HasGivenUp hd l w v → AreGivenUp (e ∷ gs) w → AreGivenUp gs v
+given_goes hd e gs l w v is old_header new_header g all k c u q of at found waits =
+    let of_hd = subst (λ (x : Header). (nat_le 1 k && nat_le k x.nodes) ≡ true) new_header of in
+    let b = g.coords k c of_hd at in
+    let o = b.3 u q found waits in
+    let i = all k b.0 u q (subst (λ (x : Header). (nat_le 1 k && nat_le k x.nodes) ≡ true) (sym old_header) of_hd) b.1 o.0 waits in
+    by b.0 b.2 i.0 i.2 o.1 (in_from i.0 (e ∷ gs) i.1)
+  where
+    this : (l m : Label) → event.GiveUp l ≡ event.GiveUp m → l ≡ m
+    this l m same = cc same
+
+    by : (b : Coord) → c.labels ≡ b.labels → (f : Asked) → GivesUp w k b u f → (node_of l w ≡ k → number_of l b ≡ Some u.num → ⊥) → In f (e ∷ gs) → (f : Asked) × Contains gs f × GivesUp v k c u f
+    by b labels f up ended (inl same) =
+        let one : up.label ≡ l = this up.label l (sym up.is ∙ ap (λ (x : Asked). x.event) (sym same) ∙ is) in
+        absurd (ended (ap (λ m. node_of m w) (sym one) ∙ up.node) (ap (λ m. number_of m b) (sym one) ∙ up.number))
+    by b labels f up ended (inr there) = (
+      f,
+      in_to f gs there,
+      record {
+        label = up.label;
+        is = up.is;
+        node = ap (λ ls. world.node_in (lookup (is_at (label_cmp up.label)) ls)) g.labels ∙ up.node;
+        number = ap (λ ls. lookup (is_at (label_cmp up.label)) ls) labels ∙ up.number;
+      },
+    )
 
 -- ---- the stated round
 
@@ -276,10 +434,89 @@ runs_on (e ∷ es) gs w = runs_on es gs (run_event e w)
 pub one_more : (hd : Header) (es : List Asked) (e : Asked) → run_all (es ++ e ∷ []) (format hd) ≡ run_event e (run_all es (format hd))
 one_more hd es e = runs_on es (e ∷ []) (format hd)
 
-giveups_calm : (hd : Header) (gs es : List Asked) → AllByRecursion IsGiveUp gs → IsCalm hd (run_all es (format hd)) → IsCalm hd (run_all gs (run_all es (format hd)))
-giveups_calm hd [] es all calm = calm
-giveups_calm hd (g ∷ gs) es all calm = subst (λ w. IsCalm hd (run_all gs w)) (one_more hd es g)
-    (giveups_calm hd gs (es ++ g ∷ []) all.1 (subst (IsCalm hd) (sym (one_more hd es g)) (giveup_calm hd g (run_all es (format hd)) all.0 (runs_whole hd es) (let h = runs_hold hd IsGood (all_keep hd) es in h.stands.header) calm)))
+-- once over, nothing changes
+stays_over : (gs : List Asked) (w : World) → (run_all gs w).over ≡ false → w.over ≡ false
+stays_over gs w last = by w.over refl
+  where
+    halts : (gs : List Asked) (w : World) → w.over ≡ true → run_all gs w ≡ w
+    halts [] w over = refl
+    halts (g ∷ gs) w over =
+        let same : run_event g w ≡ w = λ i. if over i then w else run_unless g.event g.arm w (first_reason (world.reasons g.event w)) in
+        ap (run_all gs) same ∙ halts gs w over
+
+    by : (b : Bool) → w.over ≡ b → w.over ≡ false
+    by true over = let no_way : true ≡ false = sym over ∙ ap (λ (x : World). x.over) (sym (halts gs w over)) ∙ last in absurd (cc no_way)
+    by false over = over
+
+-- nodes of a run are good, and its coordinators know their labels
+runs_sound : (hd : Header) (es : List Asked) → AreSound hd (run_all es (format hd))
+runs_sound hd es k c of is = by (at_place k (run_all es (format hd)).nodes) refl is
+  where
+    w : World
+    w = run_all es (format hd)
+
+    held : Holds hd IsGood (run_all es (format hd))
+    held = runs_hold hd IsGood (all_keep hd) es
+
+    up : (n : Node) → at_place k w.nodes ≡ Some n → (o : Option Parts) → n.live ≡ o → option_map coord_of o ≡ Some c → IsSoundAt c
+    up n there None live at = absurd (cc at)
+    up n there (Some t) live at =
+        let good = held.holds in
+        let place = (let g = good.1 in g.places k n there) in
+        let begun = (let g = good.1 in g.begun) in
+        let memory = subst (IsMemory good.0 held.sent w.labels k n.disk.inc) live place.memory in
+        let good_node = memory.good (paths_of good.0) (begun_tree good.0 begun) (path_found good.0 begun) in
+        subst IsSoundAt (some_is t.coord c at) (labels_named hd es k n t there live, let g = good_node.coord in g.busy)
+
+    by : (o : Option Node) → at_place k w.nodes ≡ o → coord_in o ≡ Some c → IsSoundAt c
+    by None none at = absurd (cc at)
+    by (Some n) there at = up n there n.live refl at
+
+run_header : (hd : Header) (es : List Asked) → (run_all es (format hd)).header ≡ hd
+run_header hd es = let h = runs_hold hd IsGood (all_keep hd) es in h.stands.header
+
+-- giveups leave a world calm, in which who waits is given up by none of them
+abbrev AllEnd : Header → List Asked → World → Type 0
+AllEnd hd gs w = IsCalm hd w → (run_all gs w).over ≡ false → IsCalm hd (run_all gs w) × (AreGivenUp gs w → AreGivenUp [] (run_all gs w))
+
+one_ends : (hd : Header) (g : Asked) (gs es : List Asked) → IsGiveUp g → AllEnd hd gs (run_all (es ++ g ∷ []) (format hd)) → AllEnd hd (g ∷ gs) (run_all es (format hd))
+one_ends hd g gs es (l, is) rest calm last = (later.0, λ given. later.1 (given_goes hd g gs l (run_all es (format hd)) (run_event g (run_all es (format hd))) is (run_header hd es) (subst (λ (x : World). x.header ≡ hd) next (run_header hd (es ++ g ∷ []))) goes given))
+  where
+    next : run_all (es ++ g ∷ []) (format hd) ≡ run_event g (run_all es (format hd))
+    next = one_more hd es g
+
+    goes : HasGivenUp hd l (run_all es (format hd)) (run_event g (run_all es (format hd)))
+    goes = giveup_goes hd g l (run_all es (format hd)) is (runs_whole hd es) (run_header hd es) (stays_over (g ∷ gs) (run_all es (format hd)) last) calm (runs_sound hd es)
+
+    later : IsCalm hd (run_all gs (run_event g (run_all es (format hd)))) × (AreGivenUp gs (run_event g (run_all es (format hd))) → AreGivenUp [] (run_all gs (run_event g (run_all es (format hd)))))
+    later = subst (AllEnd hd gs) next rest (calm_goes hd l (run_all es (format hd)) (run_event g (run_all es (format hd))) goes calm) last
+
+giveups_end : (hd : Header) (gs es : List Asked) → AllByRecursion IsGiveUp gs → AllEnd hd gs (run_all es (format hd))
+giveups_end hd [] es all = λ calm last. (calm, λ given. given)
+giveups_end hd (g ∷ gs) es all = one_ends hd g gs es all.0 (giveups_end hd gs (es ++ g ∷ []) all.1)
+
+-- where nobody waits all actions at work are idle
+nobody_idle : (c : Coord) → ((u : Uid) (q : Doing) → doing_of u c ≡ Some q → is_waiting_now q.now ≡ true → ⊥) → AreIdle c
+nobody_idle c none = each c.doings (λ i q at. by q.now refl (none (uid_at (suc i) c) q ((λ j. if own_itself j then at_place (suc i) c.doings else None) ∙ at)))
+  where
+    own_itself : ((c.tree.node == c.tree.node) && (c.tree.inc == c.tree.inc)) ≡ true
+    own_itself = λ n. same_number c.tree.node n && same_number c.tree.inc n
+
+    by : (n : Now) {m : Now} → m ≡ n → (is_waiting_now m ≡ true → ⊥) → m ≡ Idle
+    by Idle is waits = is
+    by (Calling s) is waits = absurd (waits (ap is_waiting_now is))
+    by (Committing m) is waits = absurd (waits (ap is_waiting_now is))
+
+    each : (ds : List Doing) → ((i : ℕ) (q : Doing) → slice_get ds i ≡ Some q → q.now ≡ Idle) → AllByRecursion (λ (d : Doing). d.now ≡ Idle) ds
+    each [] all = tt
+    each (d ∷ ds) all = (all 0 d refl, each ds (λ i q at. all (suc i) q at))
+
+-- the giveups that a round has leave nobody waiting
+pub nobody_waits : (w : World) → AreGivenUp [] w → NobodyWaits w
+nobody_waits w none k c of at = nobody_idle c (λ u q found waits. let g = none k c u q of at found waits in nothing g.0 g.1)
+  where
+    nothing : (f : Asked) → Contains {X = Asked} [] f → ⊥
+    nothing f there = in_from f [] there
 
 -- who waits behind a quiesce is such a call, since a commit waits for somebody
 answered_calm : (hd : Header) (w : World) → w.header ≡ hd → AreNamed w → lowest_from 1 w.frames ≡ None → WaitOvertaken w → IsCalm hd w
@@ -305,41 +542,38 @@ module _ (hd : Header) (R : Seen → Type 0) (keeps : KeepsAsked hd R) (answers 
   abbrev P : Seen → Type 0
   P M = R M × IsGood M
 
-  pub round_settles : (es gs : List Asked) (e f : Asked) → let u = run_all es (format hd) in let v = run_event e u in let w = run_all gs v in e.event ≡ event.Quiesce → AllByRecursion IsGiveUp gs → f.event ≡ event.Quiesce
-      → u.over ≡ false → v.over ≡ false → AreUp v → w.over ≡ false → NobodyWaits w → (run_event f w).over ≡ false → AreUp (run_event f w) → AreQuiet (run_event f w)
-  round_settles es gs e f is all last over went ups over_w nobody over_f ups_f =
-      quiesce_settles hd R keeps settles f w (subst (Holds hd P) w_is held) (subst Few w_is few) calm.none nobody last over_w over_f ups_f
-    where
-      u : World
-      u = run_all es (format hd)
+  module _ (es gs : List Asked) (e f : Asked) where
+    abbrev u : World
+    u = run_all es (format hd)
 
-      v : World
-      v = run_event e (run_all es (format hd))
+    abbrev v : World
+    v = run_event e (run_all es (format hd))
 
-      w : World
-      w = run_all gs (run_event e (run_all es (format hd)))
+    abbrev w : World
+    w = run_all gs (run_event e (run_all es (format hd)))
 
-      v_is : run_all (es ++ e ∷ []) (format hd) ≡ run_event e (run_all es (format hd))
-      v_is = one_more hd es e
+    v_is : run_all (es ++ e ∷ []) (format hd) ≡ run_event e (run_all es (format hd))
+    v_is = one_more hd es e
 
-      w_is : run_all ((es ++ e ∷ []) ++ gs) (format hd) ≡ run_all gs (run_event e (run_all es (format hd)))
-      w_is = runs_on (es ++ e ∷ []) gs (format hd) ∙ ap (run_all gs) v_is
+    w_is : run_all ((es ++ e ∷ []) ++ gs) (format hd) ≡ run_all gs (run_event e (run_all es (format hd)))
+    w_is = runs_on (es ++ e ∷ []) gs (format hd) ∙ ap (run_all gs) v_is
 
-      held : Holds hd P (run_all ((es ++ e ∷ []) ++ gs) (format hd))
-      held = runs_asked hd P (keeps_good hd R keeps) ((es ++ e ∷ []) ++ gs)
-
-      few : Few (run_all ((es ++ e ∷ []) ++ gs) (format hd))
-      few = runs_few hd ((es ++ e ∷ []) ++ gs)
-
-      header : (run_event e (run_all es (format hd))).header ≡ hd
-      header = subst (λ (x : World). x.header ≡ hd) v_is (let h = runs_hold hd IsGood (all_keep hd) (es ++ e ∷ []) in h.stands.header)
-
+    module _ (is : e.event ≡ event.Quiesce) (all : AllByRecursion IsGiveUp gs) (over : u.over ≡ false) (went : v.over ≡ false) (ups : AreUp v) (over_w : w.over ≡ false) where
       first : IsCalm hd (run_event e (run_all es (format hd)))
-      first = answered_calm hd (run_event e (run_all es (format hd))) header (subst AreNamed v_is (labels_named hd (es ++ e ∷ []))) (events_settle e (run_all es (format hd)) (inr is) (runs_few hd es) over went)
+      first = answered_calm hd (run_event e (run_all es (format hd))) (subst (λ (x : World). x.header ≡ hd) v_is (run_header hd (es ++ e ∷ []))) (subst AreNamed v_is (labels_named hd (es ++ e ∷ []))) (events_settle e (run_all es (format hd)) (inr is) (runs_few hd es) over went)
           (run_answers hd R keeps answers es e is over went ups)
 
-      calm : IsCalm hd (run_all gs (run_event e (run_all es (format hd))))
-      calm = subst (λ x. IsCalm hd (run_all gs x)) v_is (giveups_calm hd gs (es ++ e ∷ []) all (subst (IsCalm hd) (sym v_is) first))
+      ends : IsCalm hd (run_all gs (run_event e (run_all es (format hd)))) × (AreGivenUp gs (run_event e (run_all es (format hd))) → AreGivenUp [] (run_all gs (run_event e (run_all es (format hd)))))
+      ends = subst (λ x. IsCalm hd (run_all gs x) × (AreGivenUp gs x → AreGivenUp [] (run_all gs x))) v_is (giveups_end hd gs (es ++ e ∷ []) all (subst (IsCalm hd) (sym v_is) first) (subst (λ (x : World). (run_all gs x).over ≡ false) (sym v_is) over_w))
+
+      settles_on : f.event ≡ event.Quiesce → NobodyWaits w → (run_event f w).over ≡ false → AreUp (run_event f w) → AreQuiet (run_event f w)
+      settles_on last nobody over_f ups_f =
+          quiesce_settles hd R keeps settles f w (subst (Holds hd P) w_is (runs_asked hd P (keeps_good hd R keeps) ((es ++ e ∷ []) ++ gs))) (subst Few w_is (runs_few hd ((es ++ e ∷ []) ++ gs))) ends.0.none nobody last over_w over_f ups_f
+
+  pub round_settles : (es gs : List Asked) (e f : Asked) → let u = run_all es (format hd) in let v = run_event e u in let w = run_all gs v in e.event ≡ event.Quiesce → AllByRecursion IsGiveUp gs → f.event ≡ event.Quiesce
+      → u.over ≡ false → v.over ≡ false → AreUp v → w.over ≡ false → AreGivenUp gs v ⊎ NobodyWaits w → (run_event f w).over ≡ false → AreUp (run_event f w) → AreQuiet (run_event f w)
+  round_settles es gs e f is all last over went ups over_w nobody over_f ups_f =
+      settles_on es gs e f is all over went ups over_w last (⊎_elim (λ given. nobody_waits (w es gs e f) ((ends es gs e f is all over went ups over_w).1 given)) (λ none. none) nobody) over_f ups_f
 
 pub rounds_settle : RoundsSettle
 rounds_settle hd test keeps answers settles es gs e f is all last over went ups over_w nobody over_f ups_f = round_settles hd (λ M. test M ≡ true) keeps answers settles es gs e f is all last over went ups over_w nobody over_f ups_f

@@ -1,19 +1,19 @@
 -- When a quiesce leaves nothing to be done: nobody who waits, no record, and nothing prepared.
-use Rattle.std.specs.Prelude.{◌≡◌, ◌≢◌, ◌≤◌, ◌⊎◌, ℕ, Bool, true, false, ◌&&◌, nat_le, List, [], Option, Some, None, is_some, length}
+use Rattle.std.specs.Prelude.{◌≡◌, ◌≢◌, ◌≤◌, ◌⊎◌, ℕ, Bool, true, false, ◌&&◌, nat_le, List, [], Option, Some, None, is_some, length, Contains}
 use Rattle.std.specs.List.{AllByRecursion}
 use Rattle.arj_protocol.specs.Words.{End, Header, Label, Message, Uid, asks}
 use Rattle.arj_protocol.specs.Words.ending
 use Rattle.arj_protocol.specs.Words.event
 use Rattle.arj_protocol.specs.Words.message
 use Rattle.arj_protocol.specs.Ask.{answers, last_end}
-use Rattle.arj_protocol.specs.Coord.{Coord, Doing, Idle}
+use Rattle.arj_protocol.specs.Coord.{Coord, Doing, Idle, doing_of, number_of}
 use Rattle.arj_protocol.specs.Effect.{Disk, Intent, is_prepared}
 use Rattle.arj_protocol.specs.Ending.{is_deferred}
 use Rattle.arj_protocol.specs.Node.{Parts}
 use Rattle.arj_protocol.specs.Order.{at_uid, has}
-use Rattle.arj_protocol.specs.Step.{Node, is_idle}
+use Rattle.arj_protocol.specs.Step.{Node, is_idle, is_waiting_now}
 use Rattle.arj_protocol.specs.Tree.{at_place, is_open}
-use Rattle.arj_protocol.specs.World.{Asked, World, format, is_node, lowest_from, most_frames, run_all, run_event}
+use Rattle.arj_protocol.specs.World.{Asked, World, format, is_node, lowest_from, most_frames, run_all, run_event, node_of}
 use Rattle.arj_part_law.specs.Coords.{IsCommitting}
 use Rattle.arj_part_law.specs.Objects.{AreSorted}
 use Rattle.arj_run_law.specs.Worlds.{IsGood}
@@ -102,9 +102,20 @@ QuiescesSettle = (hd : Header) (test : Seen → Bool) → KeepsAsked hd (λ M. t
 abbrev pub IsGiveUp : Asked → Type 0
 IsGiveUp e = (l : Label) × (e.event ≡ event.GiveUp l)
 
--- After a quiesce, giveups of what waits then, and a second quiesce, each node is idle: where every node stays up in both, no limit is met, and
--- nobody waits when all was given up.
+-- the event gives up what this action of the node's coordinator waits for: its label stands for the action there
+pub record GivesUp (w : World) (k : ℕ) (c : Coord) (u : Uid) (e : Asked) : Type 0 where
+  pub label : Label
+  pub is : e.event ≡ event.GiveUp label
+  pub node : node_of label w ≡ k
+  pub number : number_of label c ≡ Some u.num
+
+-- each action that waits at a node of the header is given up by one of these events
+abbrev pub AreGivenUp : List Asked → World → Type 0
+AreGivenUp gs w = (k : ℕ) (c : Coord) (u : Uid) (q : Doing) → is_node k w ≡ true → coord_in (at_place k w.nodes) ≡ Some c → doing_of u c ≡ Some q → is_waiting_now q.now ≡ true → (e : Asked) × Contains gs e × GivesUp w k c u e
+
+-- After a quiesce, giveups of each action that waits then, and a second quiesce, each node is idle: where every node stays up in both, and no
+-- limit is met. So it is behind any giveups where nobody waits then.
 abbrev pub RoundsSettle : Type 0
 RoundsSettle = (hd : Header) (test : Seen → Bool) → KeepsAsked hd (λ M. test M ≡ true) → AnswersWaits hd (λ M. (test M ≡ true) × IsGood M) → SettlesAll hd (λ M. (test M ≡ true) × IsGood M)
     → (es gs : List Asked) (e f : Asked) → let u = run_all es (format hd) in let v = run_event e u in let w = run_all gs v in e.event ≡ event.Quiesce → AllByRecursion IsGiveUp gs → f.event ≡ event.Quiesce
-    → u.over ≡ false → v.over ≡ false → AreUp v → w.over ≡ false → NobodyWaits w → (run_event f w).over ≡ false → AreUp (run_event f w) → AreQuiet (run_event f w)
+    → u.over ≡ false → v.over ≡ false → AreUp v → w.over ≡ false → AreGivenUp gs v ⊎ NobodyWaits w → (run_event f w).over ≡ false → AreUp (run_event f w) → AreQuiet (run_event f w)

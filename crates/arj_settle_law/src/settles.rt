@@ -17,9 +17,10 @@ pub fn quiesces_leave_nodes_idle()
     ensures { QuiescesIdle }
 {}
 
-/// In every run the stated round leaves every node idle, and its last line says so: a quiesce, giveups of what waits then, and a second
-/// quiesce, where every node stays up, no limit is met, and nobody waits when all was given up. What is still to be given of requests for
-/// which somebody waits (`AnswersRest` of `arj_wait_law`) is taken of a relation that is kept. It does nothing when it runs.
+/// In every run the stated round leaves every node idle, and its last line says so: a quiesce, a giveup of each action that waits then,
+/// by any label that stands for it at its node, and a second quiesce, where every node stays up and no limit is met (or any giveups
+/// behind which nobody waits). What is still to be given of requests for which somebody waits (`AnswersRest` of `arj_wait_law`) is taken
+/// of a relation that is kept. It does nothing when it runs.
 pub fn rounds_leave_nodes_idle()
     ensures { RoundsIdle }
 {}
