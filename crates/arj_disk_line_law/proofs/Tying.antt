@@ -28,7 +28,6 @@ use Rattle.arj_names_view_law.specs.Handlers.{Answering, Change, Changes, Decidi
 use Rattle.arj_binding_law.specs.Scripts.{most_events}
 use Rattle.arj_disk_run_law.specs.Heard.{SeesHeard}
 use Rattle.arj_disk_run_law.specs.Bindings.{AreGoodCounted}
-use Rattle.arj_disk_run_law.proofs.Bindings.{good_counted}
 use Rattle.arj_disk_run_law.specs.Part.{Going, HasHeard, IsCarried, KeepsPart, are_recorded, going_of}
 use Rattle.arj_disk_run_law.specs.Kinds.{kinds_of}
 use Rattle.arj_disk_run_law.proofs.Begun.{kinds_agree}
@@ -38,7 +37,7 @@ use Rattle.arj_call_law.proofs.WholeRuns.{WhileFew, few_go}
 use Rattle.arj_binding_law.proofs.Events.{scripts_few}
 use Rattle.arj_disk_run_law.proofs.Given.{gives_votes}
 use Rattle.arj_disk_run_law.specs.Entries.{HaveEntries}
-use Rattle.arj_disk_run_law.proofs.BothEach.{both_each, heard_part, with_entries}
+use Rattle.arj_disk_run_law.proofs.BothEach.{both_each, counted_with, heard_part, with_entries}
 use Rattle.arj_disk_run_law.proofs.Kept.{IsKeptInRun, all_keep}
 use Rattle.arj_disk_run_law.proofs.RecordWalks.{restart_plain}
 use Rattle.arj_line_law.specs.Book.{book, is_decided, is_top, new_book}
@@ -316,4 +315,4 @@ pub runs_are_journalled : RunsAreJournalled
 runs_are_journalled hd x part parts es short = journalled hd x IsGood (λ tops A M. part tops A M ≡ true) (parts_good hd) parts es short
 
 pub heard_runs_are_journalled : HeardRunsAreJournalled
-heard_runs_are_journalled hd x has rest es short = journalled hd x AreGoodCounted (SeesHeard x) (good_counted hd) (heard_part hd x has rest) es short
+heard_runs_are_journalled hd x test has rest es short = journalled hd x (λ M. AreGoodCounted M × (test M ≡ true)) (SeesHeard x) (counted_with hd x test rest) (heard_part hd x test has rest) es short

@@ -76,4 +76,4 @@ RunsAreJournalled = (hd : Header) (x : ℕ) (part : Kinds → Office → Seen �
 
 -- So it is with what is still taken of the relation that is built of it, for an object of the header.
 abbrev pub HeardRunsAreJournalled : Type 0
-HeardRunsAreJournalled = (hd : Header) (x : ℕ) → HasObject hd x → KeepsHeard hd x (λ M. IsGood M × KnowsFew M) → (es : List Asked) → length es ≤ most_events → Holds hd (IsJournalled x) (run_all es (format hd))
+HeardRunsAreJournalled = (hd : Header) (x : ℕ) (test : Seen → Bool) → HasObject hd x → KeepsHeard hd x test → (es : List Asked) → length es ≤ most_events → Holds hd (IsJournalled x) (run_all es (format hd))

@@ -2,7 +2,7 @@
 use Rattle.std.proofs.Common.{◌≡◌, ℕ, true, List, [], ◌∷◌, inl, inr, ⊎_elim, Option, Some, None, refl, sym, ◌∙◌, ap, subst, Bool, false}
 use Rattle.std.specs.Prelude.{is_some}
 use Rattle.arj_lock.proofs.Members as list
-use Rattle.arj_protocol.specs.Words.{Ask, Asked, Head, Header, Message, ObjectState, Path, asks}
+use Rattle.arj_protocol.specs.Words.{Ask, Asked, Head, Message, ObjectState, Path, asks}
 use Rattle.arj_protocol.specs.Words.ask
 use Rattle.arj_protocol.specs.Ask.{Reply, answers, top_of}
 use Rattle.arj_protocol.specs.Effect.{Disk, Effect}
@@ -31,7 +31,7 @@ use Rattle.arj_disk_run_law.specs.Bindings.{NamesOwn}
 use Rattle.arj_disk_run_law.specs.Heard.{ClaimsAsked, ClaimsGrants, SeesHeard}
 use Rattle.arj_disk_run_law.specs.Part.{HasHeard, HoldsAlong, HoldsFrom}
 use Rattle.arj_disk_run_law.specs.Sound.{IsOwnVote}
-use Rattle.arj_disk_run_law.specs.Rest.{GivesNaming, IsHeardAt, KeepsHeard, answers_commit}
+use Rattle.arj_disk_run_law.specs.Rest.{GivesNaming, IsHeardAt, answers_commit}
 use Rattle.arj_disk_run_law.proofs.HeardAsk.{Served_by, ask_heard}
 use Rattle.arj_disk_run_law.proofs.HeardCalled.{heard_called}
 use Rattle.arj_disk_run_law.proofs.HeardGoing.{like_goes_on}
@@ -105,9 +105,9 @@ module _ (x : ℕ) (R : Seen → Type 0) (gives : GivesNaming x R) (tops : Kinds
 
 -- ---- a message
 
-pub heard_message : (hd : Header) (x : ℕ) (R : Seen → Type 0) → ((M : Seen) → R M → IsGood M × KnowsFew M) → KeepsHeard hd x R → (tops : Kinds) (e k : ℕ) (d : Disk) (t v : Parts) (from : ℕ) (m : Message) (outs : List Effect) (M : Seen) (A : Office) → AreOfTops tops m → IsHeardAt x R tops A (k, d, t) M → ((n : Naming) → t.naming ≡ Some n → NamesOwn n) → RecordsAreFree (up k d t M) → KnowsUses t.coord → In (record { from = from; to = k; message = m }) M.sent → IsOwnVote m → is_meant t m ≡ true → handle k d t from m ≡ Took v outs
+pub heard_message : (x : ℕ) (R : Seen → Type 0) → ((M : Seen) → R M → IsGood M × KnowsFew M) → GivesNaming x R → (tops : Kinds) (e k : ℕ) (d : Disk) (t v : Parts) (from : ℕ) (m : Message) (outs : List Effect) (M : Seen) (A : Office) → AreOfTops tops m → IsHeardAt x R tops A (k, d, t) M → ((n : Naming) → t.naming ≡ Some n → NamesOwn n) → RecordsAreFree (up k d t M) → KnowsUses t.coord → In (record { from = from; to = k; message = m }) M.sent → IsOwnVote m → is_meant t m ≡ true → handle k d t from m ≡ Took v outs
     → (h : HasHeard (SeesHeard x) x tops (change_by x d t m) A (record { event = e; node = k; disk = d; before = t; outs = outs; after = v }, M)) × MayGoOn x h.office v.coord × ((n : Naming) → t.naming ≡ Some n → MayRecord x d n m h.office × IsForGrants x d n m h.office)
-heard_message hd x R runs rest tops e k d t v from m outs M A of at own free uses sent owned meant is = by (asks m) refl
+heard_message x R runs gives tops e k d t v from m outs M A of at own free uses sent owned meant is = by (asks m) refl
   where
     by : (o : Option (Head × Ask)) → asks m ≡ o → (h : HasHeard (SeesHeard x) x tops (change_by x d t m) A (record { event = e; node = k; disk = d; before = t; outs = outs; after = v }, M)) × MayGoOn x h.office v.coord × ((n : Naming) → t.naming ≡ Some n → MayRecord x d n m h.office × IsForGrants x d n m h.office)
     by (Some b) asking =
@@ -116,7 +116,7 @@ heard_message hd x R runs rest tops e k d t v from m outs M A of at own free use
         let now : IsHeardAt x R tops s.office (k, d, t) M = record { unwalked = at.unwalked; knows = at.knows; run = at.run; both = s.sees; heard = s.heard } in (
           record { office = s.office; only = s.only; both = s.sees; along = s.along },
           like_goes_on x tops k d t M s.office at.knows s.sees v.coord s.like,
-          λ n named. (may_record x R rest.naming tops k d t n from m M s.office now sent named of free, for_grants x R rest.naming tops k d t n from m M s.office now sent named of free),
+          λ n named. (may_record x R gives tops k d t n from m M s.office now sent named of free, for_grants x R gives tops k d t n from m M s.office now sent named of free),
         )
     by None none = with_answers (answers m) refl
       where
@@ -127,7 +127,7 @@ heard_message hd x R runs rest tops e k d t v from m outs M A of at own free use
         with_answers (Some a) answering = by_doing (answers_commit a.0 t.coord) refl
           where
             by_doing : (b : Bool) → answers_commit a.0 t.coord ≡ b → (h : HasHeard (SeesHeard x) x tops (change_by x d t m) A (record { event = e; node = k; disk = d; before = t; outs = outs; after = v }, M)) × MayGoOn x h.office v.coord × ((n : Naming) → t.naming ≡ Some n → MayRecord x d n m h.office × IsForGrants x d n m h.office)
-            by_doing true commits = let r = heard_answer x R runs rest.naming tops e k d t v from m a.0 a.1 outs M A at uses sent owned none answering commits is in (r.0, r.1, λ n named. nothing n r.0.office)
+            by_doing true commits = let r = heard_answer x R runs gives tops e k d t v from m a.0 a.1 outs M A at uses sent owned none answering commits is in (r.0, r.1, λ n named. nothing n r.0.office)
             by_doing false calls = let r = heard_called x tops e k d t M A (runs _ at.run).0 (runs _ at.run).1 at.knows at.both at.heard v from m a.0 a.1 outs sent none answering calls is in (r.0, r.1, λ n named. nothing n r.0.office)
         with_answers None also =
             let g = other_heard x tops e k d t v from m outs M A at.both at.heard none also is in (

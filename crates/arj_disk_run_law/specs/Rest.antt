@@ -15,13 +15,16 @@ use Rattle.arj_protocol.specs.Order.{uid_number, without_number}
 use Rattle.arj_protocol.specs.Step.{is_committing}
 use Rattle.arj_disk_law.specs.Laws.{IsBased}
 use Rattle.arj_disk_law.specs.Names.{Office}
+use Rattle.arj_view_law.specs.Keeps.{Keeps}
 use Rattle.arj_view_law.specs.Seen.{In, Post, Seen, up}
+use Rattle.arj_call_law.specs.Runs.{KnowsFew}
 use Rattle.arj_disk_view_law.specs.Confirming.{IsNewConfirm}
 use Rattle.arj_disk_view_law.specs.Coordinating.{KnowsNode}
 use Rattle.arj_disk_view_law.specs.Pairs.{packed}
 use Rattle.arj_disk_view_law.specs.Sees.{Kinds}
 use Rattle.arj_names_view_law.specs.Booked.{IsNext}
 use Rattle.arj_names_view_law.specs.Both.{SeesBoth}
+use Rattle.arj_disk_run_law.specs.Bindings.{AreGoodCounted}
 use Rattle.arj_disk_run_law.specs.Heard.{SeesHeard}
 
 -- a node of which is known what the disk half counts on, where the relation holds of the machine's state
@@ -61,6 +64,11 @@ pub record GivesNaming (x : ℕ) (R : Seen → Type 0) : Type 0 where
 abbrev pub answers_commit : Asked → Coord → Bool
 answers_commit a c = is_committing (doing_of a.act c)
 
--- It is kept by all a node does, where what naming and commits count on is given.
-pub record KeepsHeard (hd : Header) (x : ℕ) (R : Seen → Type 0) : Type 0 where
-  pub naming : GivesNaming x R
+-- what is known in every run of a script while few bindings were made, with such a test
+abbrev pub IsKnownWith : (Seen → Bool) → Seen → Type 0
+IsKnownWith test M = (AreGoodCounted M × (test M ≡ true)) × KnowsFew M
+
+-- A test that each handler keeps; and where it holds beside what is known in every run, what naming and commits count on is given.
+pub record KeepsHeard (hd : Header) (x : ℕ) (test : Seen → Bool) : Type 0 where
+  pub kept : Keeps hd (λ M. test M ≡ true)
+  pub naming : GivesNaming x (IsKnownWith test)

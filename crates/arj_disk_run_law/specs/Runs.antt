@@ -56,4 +56,4 @@ RunsAgree = (hd : Header) (x : ℕ) (part : Kinds → Office → Seen → Bool) 
 
 -- So it is with what is still taken of the relation that is built of it, for an object of the header.
 abbrev pub HeardRunsAgree : Type 0
-HeardRunsAgree = (hd : Header) (x : ℕ) → HasObject hd x → KeepsHeard hd x (λ M. IsGood M × KnowsFew M) → (es : List Asked) → length es ≤ most_events → Holds hd (CopiesAgree x) (run_all es (format hd))
+HeardRunsAgree = (hd : Header) (x : ℕ) (test : Seen → Bool) → HasObject hd x → KeepsHeard hd x test → (es : List Asked) → length es ≤ most_events → Holds hd (CopiesAgree x) (run_all es (format hd))

@@ -27,9 +27,7 @@ use Rattle.arj_view_law.specs.Keeps.{Holds}
 use Rattle.arj_view_law.specs.Seen.{Seen, see}
 use Rattle.arj_view_law.proofs.Happens.{runs_hold}
 use Rattle.arj_binding_law.specs.Scripts.{most_events}
-use Rattle.arj_call_law.specs.Runs.{KnowsFew}
 use Rattle.arj_disk_run_law.specs.Rest.{KeepsHeard}
-use Rattle.arj_run_law.specs.Worlds.{IsGood}
 use Rattle.arj_serial_law.specs.Cleaned.{AreDecidedOrLate, HaveForm, IsCleanIn}
 use Rattle.arj_serial_law.specs.Decided.{AreNewestFirst, DecideChanges, Joined, Wrote}
 use Rattle.arj_lock_fact_law.specs.Entries.{HasObject}
@@ -113,7 +111,7 @@ newest_first lines x (t ∷ ts) changed writers joiners = (
     by u i (inl a) (inr b) = joiners.0 u i (inr b)
     by u i (inr a) b = joiners.0 u i (inl a)
 
-module _ (hd : Header) (es : List Asked) (form : HeaderInForm hd) (short : length es ≤ most_events) (heard : (x : ℕ) → is_some (object_line hd x) ≡ true → KeepsHeard hd x (λ M. IsGood M × KnowsFew M)) (tied : AreLockTied hd (journal hd es))
+module _ (hd : Header) (es : List Asked) (form : HeaderInForm hd) (short : length es ≤ most_events) (test : ℕ → Seen → Bool) (heard : (x : ℕ) → is_some (object_line hd x) ≡ true → KeepsHeard hd x (test x)) (tied : AreLockTied hd (journal hd es))
     (decide : (x : ℕ) → is_some (object_line hd x) ≡ true → DecideSo hd x es) where
   abbrev w : World
   w = run_all es (format hd)
@@ -126,7 +124,7 @@ module _ (hd : Header) (es : List Asked) (form : HeaderInForm hd) (short : lengt
 
   module _ (x : ℕ) (there : is_some (object_line hd x) ≡ true) where
     pub h : Holds hd (IsOrderedSo hd x) w
-    h = runs_are_ordered hd x form there (heard x there) es short
+    h = runs_are_ordered hd x (test x) form there (heard x there) es short
 
     d : DecideThoseOrLate hd (journal hd es) x (disk_of h.holds)
     d = decide x there h
@@ -229,9 +227,9 @@ includes_there hd es names i there = (names i there, object_some hd (let k = i.i
 -- ---- the law
 
 pub runs_are_clean : RunsAreClean
-runs_are_clean hd es disks form short heard tied decide names files =
+runs_are_clean hd es disks test form short heard tied decide names files =
     files_clean hd (journal hd es) (see r.sent (run_all es (format hd))) disks
-    (λ x there. let c = clean_of hd es form short heard tied decide x there in record { names = c.names; stores = c.stores })
+    (λ x there. let c = clean_of hd es form short test heard tied decide x there in record { names = c.names; stores = c.stores })
     (files_show_disks hd r.sent (run_all es (format hd)) disks form r.stands (includes_there hd es names) (record { stores = files.stores; names = files.names }))
   where
     r : Holds hd IsKept (run_all es (format hd))
@@ -253,4 +251,4 @@ lock_tied hd es test short rest = record {
 }
 
 pub whole_runs_are_clean : WholeRunsAreClean
-whole_runs_are_clean hd es disks test form short heard rest decide includes files = runs_are_clean hd es disks form short heard (lock_tied hd es test short rest) decide includes files
+whole_runs_are_clean hd es disks heard_so test form short heard rest decide includes files = runs_are_clean hd es disks heard_so form short heard (lock_tied hd es test short rest) decide includes files

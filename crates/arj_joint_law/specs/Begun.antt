@@ -29,7 +29,7 @@ pub record IsBegunSo (hd : Header) (x : ℕ) (M : Seen) : Type 0 where
 -- So it is in the run of every script, of each object of the header, with what is still taken of what coordinators have of naming's
 -- answers; and beside any relation that is kept with the machine's state.
 abbrev pub RunsBeginSo : Type 0
-RunsBeginSo = (hd : Header) (x : ℕ) → HeaderInForm hd → is_some (object_line hd x) ≡ true → KeepsHeard hd x (λ M. IsGood M × KnowsFew M) → (es : List Asked) → length es ≤ most_events → Holds hd (IsBegunSo hd x) (run_all es (format hd))
+RunsBeginSo = (hd : Header) (x : ℕ) (test : Seen → Bool) → HeaderInForm hd → is_some (object_line hd x) ≡ true → KeepsHeard hd x test → (es : List Asked) → length es ≤ most_events → Holds hd (IsBegunSo hd x) (run_all es (format hd))
 
 abbrev pub RunsBeginSoBeside : Type 0
 RunsBeginSoBeside = (hd : Header) (x : ℕ) (part : Kinds → Office → Seen → Bool) → HeaderInForm hd → is_some (object_line hd x) ≡ true → KeepsPart hd x (λ M. IsGood M × KnowsFew M) (λ tops A M. part tops A M ≡ true)

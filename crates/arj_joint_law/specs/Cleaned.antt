@@ -16,9 +16,7 @@ use Rattle.arj_disk_law.specs.Words.{In}
 use Rattle.arj_view_law.specs.Keeps.{Holds}
 use Rattle.arj_view_law.specs.Seen.{Seen, see}
 use Rattle.arj_binding_law.specs.Scripts.{most_events}
-use Rattle.arj_call_law.specs.Runs.{KnowsFew}
 use Rattle.arj_disk_run_law.specs.Rest.{KeepsHeard}
-use Rattle.arj_run_law.specs.Worlds.{IsGood}
 use Rattle.arj_lock_law.specs.State as lock
 use Rattle.arj_lock_whole_law.specs.Runs.{AreRest}
 use Rattle.arj_part_law.specs.Actions.{Action}
@@ -78,8 +76,8 @@ pub record AreLockTied (hd : Header) (lines : List Line) : Type 0 where
 -- After the run of each script files are clean that are those of its nodes' pairs: with what the disk machine's half still takes, where the
 -- journal is tied to the lock machines, and the tops that the disk machines decided are those of the journal.
 abbrev pub RunsAreClean : Type 0
-RunsAreClean = (hd : Header) (es : List Asked) (disks : Disks) → HeaderInForm hd → length es ≤ most_events
-    → ((x : ℕ) → is_some (object_line hd x) ≡ true → KeepsHeard hd x (λ M. IsGood M × KnowsFew M))
+RunsAreClean = (hd : Header) (es : List Asked) (disks : Disks) (heard : ℕ → Seen → Bool) → HeaderInForm hd → length es ≤ most_events
+    → ((x : ℕ) → is_some (object_line hd x) ≡ true → KeepsHeard hd x (heard x))
     → AreLockTied hd (journal hd es)
     → ((x : ℕ) → is_some (object_line hd x) ≡ true → DecideSo hd x es)
     → IncludesNameNodes hd (journal hd es) → FilesAre (see [] (run_all es (format hd))) disks
@@ -87,8 +85,8 @@ RunsAreClean = (hd : Header) (es : List Asked) (disks : Disks) → HeaderInForm 
 
 -- So the journal is tied with what the lock half still takes.
 abbrev pub WholeRunsAreClean : Type 0
-WholeRunsAreClean = (hd : Header) (es : List Asked) (disks : Disks) (test : ℕ → List Action → Seen → Bool) → HeaderInForm hd → length es ≤ most_events
-    → ((x : ℕ) → is_some (object_line hd x) ≡ true → KeepsHeard hd x (λ M. IsGood M × KnowsFew M))
+WholeRunsAreClean = (hd : Header) (es : List Asked) (disks : Disks) (heard : ℕ → Seen → Bool) (test : ℕ → List Action → Seen → Bool) → HeaderInForm hd → length es ≤ most_events
+    → ((x : ℕ) → is_some (object_line hd x) ≡ true → KeepsHeard hd x (heard x))
     → AreRest hd test
     → ((x : ℕ) → is_some (object_line hd x) ≡ true → DecideSo hd x es)
     → IncludesNameNodes hd (journal hd es) → FilesAre (see [] (run_all es (format hd))) disks

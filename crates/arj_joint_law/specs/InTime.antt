@@ -8,11 +8,9 @@ use Rattle.arj_protocol.specs.World.{Asked, format, journal, run_all}
 use Rattle.arj_view_law.specs.Keeps.{Holds}
 use Rattle.arj_view_law.specs.Seen.{Seen, see}
 use Rattle.arj_binding_law.specs.Scripts.{most_events}
-use Rattle.arj_call_law.specs.Runs.{KnowsFew}
 use Rattle.arj_disk_run_law.specs.Rest.{KeepsHeard}
 use Rattle.arj_lock_whole_law.specs.Runs.{AreRest}
 use Rattle.arj_part_law.specs.Actions.{Action}
-use Rattle.arj_run_law.specs.Worlds.{IsGood}
 use Rattle.arj_serial_law.specs.Cleaned.{AreDecidedOrLate}
 use Rattle.arj_serial_law.specs.Decided.{Wrote}
 use Rattle.arj_joint_law.specs.Cleaned.{AreLockTied, DecideSo, disk_of}
@@ -29,16 +27,16 @@ pub record AreInTime (hd : Header) (e x : ℕ) (es : List Asked) : Type 0 where
 -- After the run of each script stores are excluded in time, on what makes its files clean, where in the last event no line stands before a
 -- commit call, and decided tops are so.
 abbrev pub RunsExcludeInTime : Type 0
-RunsExcludeInTime = (hd : Header) (es : List Asked) → HeaderInForm hd → length es ≤ most_events
-    → ((x : ℕ) → is_some (object_line hd x) ≡ true → KeepsHeard hd x (λ M. IsGood M × KnowsFew M))
+RunsExcludeInTime = (hd : Header) (es : List Asked) (heard : ℕ → Seen → Bool) → HeaderInForm hd → length es ≤ most_events
+    → ((x : ℕ) → is_some (object_line hd x) ≡ true → KeepsHeard hd x (heard x))
     → AreLockTied hd (journal hd es)
     → ((x : ℕ) → is_some (object_line hd x) ≡ true → DecideSo hd x es)
     → (let w = run_all es (format hd) in CommitsBeginIt w.event (journal hd es) × ((x : ℕ) → is_some (object_line hd x) ≡ true → AreInTime hd w.event x es) → AreExcludedInTime hd w.event (see [] w))
 
 -- So the journal is tied with what the lock half still takes.
 abbrev pub WholeRunsExcludeInTime : Type 0
-WholeRunsExcludeInTime = (hd : Header) (es : List Asked) (test : ℕ → List Action → Seen → Bool) → HeaderInForm hd → length es ≤ most_events
-    → ((x : ℕ) → is_some (object_line hd x) ≡ true → KeepsHeard hd x (λ M. IsGood M × KnowsFew M))
+WholeRunsExcludeInTime = (hd : Header) (es : List Asked) (heard : ℕ → Seen → Bool) (test : ℕ → List Action → Seen → Bool) → HeaderInForm hd → length es ≤ most_events
+    → ((x : ℕ) → is_some (object_line hd x) ≡ true → KeepsHeard hd x (heard x))
     → AreRest hd test
     → ((x : ℕ) → is_some (object_line hd x) ≡ true → DecideSo hd x es)
     → (let w = run_all es (format hd) in CommitsBeginIt w.event (journal hd es) × ((x : ℕ) → is_some (object_line hd x) ≡ true → AreInTime hd w.event x es) → AreExcludedInTime hd w.event (see [] w))
