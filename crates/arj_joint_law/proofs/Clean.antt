@@ -41,7 +41,7 @@ use Rattle.arj_serial_law.proofs.Shown.{files_clean}
 use Rattle.arj_serial_law.proofs.Ties.{Ties, ties_of}
 use Rattle.arj_joint_law.specs.Cleaned.{AreLockTied, DecideSo, DecideThose, DecideThoseOrLate, JoinersAreNewestFirst, RunsAreClean, WholeRunsAreClean, disk_of, is_one_of, number_of}
 use Rattle.arj_joint_law.specs.Ordered.{AreOnce, AreTurnsOf, IsOrderedSo}
-use Rattle.arj_joint_law.specs.Shown.{IncludesAreThere, IncludesNameNodes}
+use Rattle.arj_joint_law.specs.Shown.{IncludesAreThere}
 use Rattle.arj_joint_law.specs.Writers.{WritersAreNewestFirst}
 use Rattle.arj_joint_law.proofs.Called.{decided_writers_stand, decision_of, number_is, one_number, those_of, wrote_something}
 use Rattle.arj_joint_law.proofs.FormRuns.{runs_have_form}
@@ -220,17 +220,17 @@ object_some hd x (o, there, same) = by (object_line hd x) refl
     by (Some p) is = refl
     by None none = absurd (never (eq-eqb o.x x same) (in_find_none (λ (p : ObjectLine). p.x == x) o hd.objects none (in_from o hd.objects there)))
 
--- they are of objects of the header in each run
-includes_there : (hd : Header) (es : List Asked) → IncludesNameNodes hd (journal hd es) → IncludesAreThere hd (journal hd es)
-includes_there hd es names i there = (names i there, object_some hd (let k = i.it in k.x) (runs_include_objects hd es i there))
+-- they are of objects and nodes of the header in each run
+includes_there : (hd : Header) (es : List Asked) → IncludesAreThere hd (journal hd es)
+includes_there hd es i there = let of = runs_include_objects hd es i there in (of.1, object_some hd (let k = i.it in k.x) of.0)
 
 -- ---- the law
 
 pub runs_are_clean : RunsAreClean
-runs_are_clean hd es disks test form short heard tied decide names files =
+runs_are_clean hd es disks test form short heard tied decide files =
     files_clean hd (journal hd es) (see r.sent (run_all es (format hd))) disks
     (λ x there. let c = clean_of hd es form short test heard tied decide x there in record { names = c.names; stores = c.stores })
-    (files_show_disks hd r.sent (run_all es (format hd)) disks form r.stands (includes_there hd es names) (record { stores = files.stores; names = files.names }))
+    (files_show_disks hd r.sent (run_all es (format hd)) disks form r.stands (includes_there hd es) (record { stores = files.stores; names = files.names }))
   where
     r : Holds hd IsKept (run_all es (format hd))
     r = runs_hold hd IsKept (lines_keep hd) es
@@ -251,4 +251,4 @@ lock_tied hd es test short rest = record {
 }
 
 pub whole_runs_are_clean : WholeRunsAreClean
-whole_runs_are_clean hd es disks heard_so test form short heard rest decide includes files = runs_are_clean hd es disks heard_so form short heard (lock_tied hd es test short rest) decide includes files
+whole_runs_are_clean hd es disks heard_so test form short heard rest decide files = runs_are_clean hd es disks heard_so form short heard (lock_tied hd es test short rest) decide files

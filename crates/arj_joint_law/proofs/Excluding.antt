@@ -48,6 +48,7 @@ use Rattle.arj_serial_law.proofs.Tying.{all_at}
 use Rattle.arj_serial_law.proofs.Values.{any_said, kept_shape}
 use Rattle.arj_serial_law.specs.Tied.{AreTied}
 use Rattle.arj_joint_law.specs.Excluded.{AreExcludedInTime, AreSeenByCalls, AreSeenInTime, CommitsBeginIt, IsBehindIncludes, RunsExcludeInTimeByCalls, IsInTime, IsNew, IsNewest, IsSeenSo, IsTakenOut, NodesHaveForm, SeenRunsExcludeInTime, uid_of}
+use Rattle.arj_joint_law.proofs.CommitCalls.{commits_begin}
 use Rattle.arj_joint_law.proofs.NewWriters.{new_writers_last}
 use Rattle.arj_joint_law.specs.Forms.{AreSo, OfClass, Own, kind_of}
 use Rattle.arj_joint_law.proofs.FormRuns.{kept_forms}
@@ -105,7 +106,7 @@ first_decision : (values : Values) (lines : List Line) (x : ℕ) (ds : List Done
 first_decision values lines x [] t ts are = absurd are
 first_decision values lines x (d ∷ ds) t ts are = (d, ds, refl, are.0)
 
-module _ (header : Header) (e : ℕ) (M : Seen) (right : AreRight new_book M.lines) (tied : Ties (first_values header) M.lines) (x : ℕ) (is : IsSeenSo header x M) (t : Top) (new : IsNew e M.lines t) (wrote : Wrote M.lines x t) (newest : IsNewest header M.lines x (let v = is.seen in let V = v.world in V.disk) (let v = is.seen in v.decided) t) where
+module _ (header : Header) (e : ℕ) (M : Seen) (right : AreRight new_book M.lines) (tied : Ties (first_values header) M.lines) (x : ℕ) (is : IsSeenSo header e x M) (t : Top) (new : IsNew e M.lines t) (wrote : Wrote M.lines x t) (newest : IsNewest header M.lines x (let v = is.seen in let V = v.world in V.disk) (let v = is.seen in v.decided) t) where
   abbrev seen : IsSeenDecided header x M
   seen = is.seen
 
@@ -209,7 +210,7 @@ module _ (header : Header) (e : ℕ) (M : Seen) (right : AreRight new_book M.lin
     taken_out : IsExcused W.disk T s → IsTakenOut M.lines x n t s
     taken_out y = ⊎_elim
         (λ (own : y.by_entry.top ≡ T). made t new.0 refl (sym own))
-        (λ other. let b = is.takers t y.by_entry new.0 y.there other.0 other.1 in made b.0 b.1 b.3 b.2) y.whose
+        (λ other. let b = is.takers t y.by_entry new y.there other.0 other.1 in made b.0 b.1 b.3 b.2) y.whose
       where
         k : Holder packed_entry (entry x) n.disk.names y.by_entry
         k = let p = sees_entry.pair in p.holder y.by_entry y.there
@@ -258,7 +259,7 @@ wrote_or_not values lines x d u q = by d.plan.writes q.wrote
     by None none = inr (λ c. never c.2 (none c.0 c.1 c.3))
     by (Some w) some = let l = some.1 in inl (some.0, l.there, l.write, l.whose)
 
-pub newest_by_calls : (header : Header) (e : ℕ) (M : Seen) → AreRight new_book M.lines → AreTied (first_values header) M.lines → CommitsBeginIt e M.lines → (x : ℕ) (is : IsSeenSo header x M) (t : Top) → IsNew e M.lines t → Wrote M.lines x t
+pub newest_by_calls : (header : Header) (e : ℕ) (M : Seen) → AreRight new_book M.lines → AreTied (first_values header) M.lines → CommitsBeginIt e M.lines → (x : ℕ) (is : IsSeenSo header e x M) (t : Top) → IsNew e M.lines t → Wrote M.lines x t
     → IsBehindIncludes header M.lines x (let v = is.seen in let V = v.world in V.disk) (let v = is.seen in v.decided) t → IsNewest header M.lines x (let v = is.seen in let V = v.world in V.disk) (let v = is.seen in v.decided) t
 newest_by_calls header e M right tied begins x is t new wrote b = record {
   late = b.late;
@@ -272,14 +273,14 @@ newest_by_calls header e M right tied begins x is t new wrote b = record {
       (λ none. b.last u c none) (wrote_or_not (first_values header) M.lines x q.0 u q.1);
 }
 
-seen_by_calls : (header : Header) (e : ℕ) (M : Seen) → AreSeenByCalls header e M → AreSeenInTime header e M
-seen_by_calls header e M (tied, begins, each) = (
+seen_by_calls : (header : Header) (e : ℕ) (M : Seen) → CommitsBeginIt e M.lines → AreSeenByCalls header e M → AreSeenInTime header e M
+seen_by_calls header e M begins (tied, each) = (
   tied,
   λ x has. let s = each x has in (s.0, λ t new wrote. newest_by_calls header e M (seen_right (first_values header) M tied) (seen_tied (first_values header) M tied) begins x s.0 t new wrote (s.1 t new wrote)),
 )
 
 pub runs_in_time_by_calls : RunsExcludeInTimeByCalls
-runs_in_time_by_calls hd es h = record { sent = h.sent; stands = h.stands; holds = seen_in_time hd _ _ (seen_by_calls hd _ _ h.holds) }
+runs_in_time_by_calls hd es h = record { sent = h.sent; stands = h.stands; holds = seen_in_time hd _ _ (seen_by_calls hd _ _ (commits_begin hd es) h.holds) }
 
 -- ---- what stands of objects on nodes
 

@@ -12,6 +12,7 @@ pub mod Ordering
 pub mod Showing
 pub mod Turns
 pub mod Behind
+pub mod CommitCalls
 pub mod Excluding
 pub mod InTime
 pub mod NewWriters

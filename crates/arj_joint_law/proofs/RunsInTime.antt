@@ -13,6 +13,7 @@ use Rattle.arj_joint_law.specs.Excluded.{IsSeenSo}
 use Rattle.arj_joint_law.specs.InTime.{AreInTime, RunsExcludeInTime, WholeRunsExcludeInTime}
 use Rattle.arj_joint_law.specs.Ordered.{IsOrderedSo}
 use Rattle.arj_joint_law.proofs.Clean.{decided, formed, h, lock_tied, right, ties}
+use Rattle.arj_joint_law.proofs.CommitCalls.{commits_begin}
 use Rattle.arj_joint_law.proofs.Excluding.{is_in_time, newest_by_calls, nodes_have_form}
 
 module _ (hd : Header) (es : List Asked) (form : HeaderInForm hd) (short : length es ≤ most_events) (test : ℕ → Seen → Bool) (heard : (x : ℕ) → is_some (object_line hd x) ≡ true → KeepsHeard hd x (test x)) (tied : AreLockTied hd (journal hd es))
@@ -23,7 +24,7 @@ module _ (hd : Header) (es : List Asked) (form : HeaderInForm hd) (short : lengt
   abbrev held : Holds hd (IsOrderedSo hd x) w
   held = h hd es form short test heard tied decide x there
 
-  abbrev seen_so : AreInTime hd w.event x es → IsSeenSo hd x (see held.sent w)
+  abbrev seen_so : AreInTime hd w.event x es → IsSeenSo hd w.event x (see held.sent w)
   seen_so all =
       let b = held.holds.begun in
       let j = b.journalled in
@@ -34,12 +35,12 @@ module _ (hd : Header) (es : List Asked) (form : HeaderInForm hd) (short : lengt
       }
 
 pub runs_exclude : RunsExcludeInTime
-runs_exclude hd es test form short heard tied decide (begins, all) t x s n m st there new wrote at_naming at_store held_there has_it =
+runs_exclude hd es test form short heard tied decide all t x s n m st there new wrote at_naming at_store held_there has_it =
     let r = right hd es form short test heard tied decide in
     let o = held hd es form short test heard tied decide x there in
     let a = all x there in
-    let i : IsSeenSo hd x (see o.sent (run_all es (format hd))) = seen_so hd es form short test heard tied decide x there a in
-    let newest = newest_by_calls hd (let v = run_all es (format hd) in v.event) (see o.sent (run_all es (format hd))) r tied.called begins x i t new wrote (a.behind o (decided hd es form short test heard tied decide x there) t new wrote) in
+    let i : IsSeenSo hd (let v = run_all es (format hd) in v.event) x (see o.sent (run_all es (format hd))) = seen_so hd es form short test heard tied decide x there a in
+    let newest = newest_by_calls hd (let v = run_all es (format hd) in v.event) (see o.sent (run_all es (format hd))) r tied.called (commits_begin hd es) x i t new wrote (a.behind o (decided hd es form short test heard tied decide x there) t new wrote) in
     is_in_time hd (let v = run_all es (format hd) in v.event) (see o.sent (run_all es (format hd))) r (ties hd es form short test heard tied decide) x i t new wrote newest s n m st at_naming at_store held_there has_it
 
 pub whole_runs_exclude : WholeRunsExcludeInTime

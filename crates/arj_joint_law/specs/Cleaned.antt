@@ -23,7 +23,7 @@ use Rattle.arj_part_law.specs.Actions.{Action}
 use Rattle.arj_serial_law.specs.Decided.{AreDecisions, Joined, Wrote}
 use Rattle.arj_serial_law.specs.Tied.{AreTied, IsTied}
 use Rattle.arj_joint_law.specs.Ordered.{IsOrderedSo}
-use Rattle.arj_joint_law.specs.Shown.{FilesAre, IncludesNameNodes}
+use Rattle.arj_joint_law.specs.Shown.{FilesAre}
 
 -- of these tops, the newest first, each two of which one included a store of the object had their commits called in turn
 abbrev pub JoinersAreNewestFirst : List Line → ℕ → List Top → Type 0
@@ -80,7 +80,7 @@ RunsAreClean = (hd : Header) (es : List Asked) (disks : Disks) (heard : ℕ → 
     → ((x : ℕ) → is_some (object_line hd x) ≡ true → KeepsHeard hd x (heard x))
     → AreLockTied hd (journal hd es)
     → ((x : ℕ) → is_some (object_line hd x) ≡ true → DecideSo hd x es)
-    → IncludesNameNodes hd (journal hd es) → FilesAre (see [] (run_all es (format hd))) disks
+    → FilesAre (see [] (run_all es (format hd))) disks
     → Clean hd (journal hd es) disks
 
 -- So the journal is tied with what the lock half still takes.
@@ -89,5 +89,5 @@ WholeRunsAreClean = (hd : Header) (es : List Asked) (disks : Disks) (heard : ℕ
     → ((x : ℕ) → is_some (object_line hd x) ≡ true → KeepsHeard hd x (heard x))
     → AreRest hd test
     → ((x : ℕ) → is_some (object_line hd x) ≡ true → DecideSo hd x es)
-    → IncludesNameNodes hd (journal hd es) → FilesAre (see [] (run_all es (format hd))) disks
+    → FilesAre (see [] (run_all es (format hd))) disks
     → Clean hd (journal hd es) disks

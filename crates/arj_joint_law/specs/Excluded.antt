@@ -21,7 +21,7 @@ use Rattle.arj_protocol.specs.Effect.{held_at}
 use Rattle.arj_protocol.specs.Order.{at_uid, uid_number}
 use Rattle.arj_protocol.specs.Step.{Node}
 use Rattle.arj_protocol.specs.Values.{state_entry}
-use Rattle.arj_protocol.specs.World.{Asked, format, run_all}
+use Rattle.arj_protocol.specs.World.{Asked, format, journal, run_all}
 use Rattle.arj_disk_law.specs.State as disk
 use Rattle.arj_disk_law.specs.State.{Done, Hold, State}
 use Rattle.arj_disk_law.specs.Words.{In}
@@ -82,9 +82,10 @@ AreExcludedInTime header e M = (t : Top) (x s : ℕ) (naming store : Node) (st :
 
 -- ---- what gives it
 
--- Of a decided action of a root, an entry of which is prepared: where the journal has a committed top of that root, it is one too.
-abbrev pub TakersAreCommitted : List Line → State → Type 0
-TakersAreCommitted lines S = (t : Top) (h : Hold) → Contains (tops lines) t → S.entry_pend ≡ Some h → disk.decided S h.top ≡ true → S.root h.top ≡ S.root (uid_number (uid_of lines t))
+-- Of a decided action of a root, an entry of which is prepared: where the journal has a committed top of that root that is new in the event, it
+-- is one too. Of older tops that isn't so: a restart may have found the record of the next constituent, and stopped before it said so.
+abbrev pub TakersAreCommitted : ℕ → List Line → State → Type 0
+TakersAreCommitted e lines S = (t : Top) (h : Hold) → IsNew e lines t → S.entry_pend ≡ Some h → disk.decided S h.top ≡ true → S.root h.top ≡ S.root (uid_number (uid_of lines t))
     → (b : Top) × Contains (tops lines) b × (uid_number (uid_of lines b) ≡ h.top) × (b.root ≡ t.root)
 
 -- A top that is new in the event and wrote the object is the newest that counts: none of the decided tops that have no line yet does, and of
@@ -97,18 +98,18 @@ pub record IsNewest (header : Header) (lines : List Line) (x : ℕ) (S : State) 
 abbrev pub NodesAreSo : Header → ℕ → Seen → Type 0
 NodesAreSo header x M = (k : ℕ) (n : Node) → M.nodes k ≡ Some n → NodeIsSo (kind_of header x) n
 
--- For an object: its disk machine is seen, with its decided tops tied to the journal; what stands of it is of its class; and whose entry is
--- prepared is committed.
-pub record IsSeenSo (header : Header) (x : ℕ) (M : Seen) : Type 0 where
+-- For an object, in an event: its disk machine is seen, with its decided tops tied to the journal; what stands of it is of its class; and whose
+-- entry is prepared beside a new top is committed.
+pub record IsSeenSo (header : Header) (e x : ℕ) (M : Seen) : Type 0 where
   pub seen : IsSeenDecided header x M
   pub forms : NodesAreSo header x M
-  pub takers : TakersAreCommitted M.lines (let s = seen in let W = s.world in W.disk)
+  pub takers : TakersAreCommitted e M.lines (let s = seen in let W = s.world in W.disk)
 
 -- so it is of each object of the header, and of tops that wrote it the one that is new is the newest; and of each object of which a call was
 -- answered the lock machine is seen tied to the journal
 abbrev pub AreSeenInTime : Header → ℕ → Seen → Type 0
 AreSeenInTime header e M = AreSeenTied (first_values header) M
-    × ((x : ℕ) → is_some (object_line header x) ≡ true → (s : IsSeenSo header x M) × ((t : Top) → IsNew e M.lines t → Wrote M.lines x t → IsNewest header M.lines x (let v = s.seen in let W = v.world in W.disk) (let v = s.seen in v.decided) t))
+    × ((x : ℕ) → is_some (object_line header x) ≡ true → (s : IsSeenSo header e x M) × ((t : Top) → IsNew e M.lines t → Wrote M.lines x t → IsNewest header M.lines x (let v = s.seen in let W = v.world in W.disk) (let v = s.seen in v.decided) t))
 
 -- a run at whose end so much is seen excludes stores in time
 abbrev pub SeenRunsExcludeInTime : Type 0
@@ -131,12 +132,16 @@ pub record IsBehindIncludes (header : Header) (lines : List Line) (x : ℕ) (S :
   pub late : (z : Done) → In z d.late → z.counts ≡ false
   pub last : (u : Top) → Contains (let o = d.decided in o.those) u → (Wrote lines x u → ⊥) → u.at ≤ t.at
 
--- the same, where a commit call is the first line of the event and a top that is new is behind such ones
+-- the same, where a top that is new is behind such ones
 abbrev pub AreSeenByCalls : Header → ℕ → Seen → Type 0
-AreSeenByCalls header e M = AreSeenTied (first_values header) M × CommitsBeginIt e M.lines
-    × ((x : ℕ) → is_some (object_line header x) ≡ true → (s : IsSeenSo header x M) × ((t : Top) → IsNew e M.lines t → Wrote M.lines x t → IsBehindIncludes header M.lines x (let v = s.seen in let W = v.world in W.disk) (let v = s.seen in v.decided) t))
+AreSeenByCalls header e M = AreSeenTied (first_values header) M
+    × ((x : ℕ) → is_some (object_line header x) ≡ true → (s : IsSeenSo header e x M) × ((t : Top) → IsNew e M.lines t → Wrote M.lines x t → IsBehindIncludes header M.lines x (let v = s.seen in let W = v.world in W.disk) (let v = s.seen in v.decided) t))
 
--- and a run at whose end so much is seen does too
+-- in the last event of a run nothing stands before a commit call
+abbrev pub RunsBeginWithCalls : Type 0
+RunsBeginWithCalls = (hd : Header) (es : List Asked) → let w = run_all es (format hd) in CommitsBeginIt w.event (journal hd es)
+
+-- and a run at whose end so much is seen excludes stores in time too
 abbrev pub RunsExcludeInTimeByCalls : Type 0
 RunsExcludeInTimeByCalls = (hd : Header) (es : List Asked) → let w = run_all es (format hd) in Holds hd (AreSeenByCalls hd w.event) w → Holds hd (AreExcludedInTime hd w.event) w
 

@@ -27,10 +27,6 @@ AreThere hd x s = ((nat_le 1 s && nat_le s hd.nodes) ≡ true) × (is_some (obje
 abbrev pub IncludesAreThere : Header → List Line → Type 0
 IncludesAreThere hd lines = (i : Placed Inclusion) → Contains (included lines) i → AreThere hd (let k = i.it in k.x) (let k = i.it in k.node)
 
--- as it is in runs where each names a node
-abbrev pub IncludesNameNodes : Header → List Line → Type 0
-IncludesNameNodes hd lines = (i : Placed Inclusion) → Contains (included lines) i → (nat_le 1 (let k = i.it in k.node) && nat_le (let k = i.it in k.node) hd.nodes) ≡ true
-
 -- and so it is of each store that an object lists
 abbrev pub ListedAreThere : Header → List Line → Type 0
 ListedAreThere hd lines = (x s : ℕ) → is_among (listed hd lines x) s ≡ true → AreThere hd x s

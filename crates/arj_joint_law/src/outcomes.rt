@@ -1,7 +1,7 @@
 // One outcome of each top, and that stores are excluded in time, by a journal.
 ghost use Rattle.std.specs.Prelude.{◌≡◌, false};
 ghost use Rattle.arj_joint_law.specs.Dropped.{SeenRunsShowOneOutcome};
-ghost use Rattle.arj_joint_law.specs.Excluded.{IsInTime, IsNew, NewWritersAreLast, NodesHaveForm, RunsExcludeInTimeByCalls, SeenRunsExcludeInTime};
+ghost use Rattle.arj_joint_law.specs.Excluded.{IsInTime, IsNew, NewWritersAreLast, NodesHaveForm, RunsBeginWithCalls, RunsExcludeInTimeByCalls, SeenRunsExcludeInTime};
 ghost use Rattle.arj_joint_law.specs.InTime.{RunsExcludeInTime, WholeRunsExcludeInTime};
 ghost use Rattle.arj_joint_law.specs.Outcome.{CommitsAreBehind, ShowsOneOutcome, aborts_have_cause, commits_are_behind};
 ghost use Rattle.arj_joint_law.specs.Samples.{decided_lines, found_commit, halted_abort, header, its_top, naming_late, naming_node, right_end, store_three, store_two, wrong_abort, wrong_commit, wrong_names_abort};
@@ -47,19 +47,19 @@ pub fn exclusion_in_time_tells_disks_apart()
 /// wrote. Then stores are excluded in time: of each top that the last event decided, by its `committed` line or the line that its record was
 /// found, each store that the naming node's entry has for an object that it wrote holds the object's last state by the journal, or has it
 /// prepared for that top, or the naming node has prepared an entry without it, for that top or for another committed constituent of its
-/// serializing action. By the lock machine a new top that wrote is the newest of those that did, where in the last event nothing stands before
+/// serializing action. By the lock machine a new top that wrote is the newest of those that did, since in the last event nothing stands before
 /// a commit call; so of tops that only include a store that is asked alone. It does nothing when it runs.
 pub fn seen_runs_exclude_in_time()
     ensures runs { SeenRunsExcludeInTime }
+    ensures begins { RunsBeginWithCalls }
     ensures calls { RunsExcludeInTimeByCalls }
     ensures writers { NewWritersAreLast }
     ensures forms { NodesHaveForm }
 {}
 
 /// After the run of each script whose header is in form, of at most 1,000,000 events, stores are excluded in time, on what makes its files
-/// clean (`runs_are_clean`) and these premises more: in the last event no line stands before a commit call; of a top that is new in it and
-/// wrote an object, no decided top that counts for the object without a line, or without a write, is behind it; and who has an entry prepared
-/// beside it is committed (`AreInTime`). So it is with what the lock half takes, in place of a tied journal; and after each event, since the
+/// clean (`runs_are_clean`) and these premises more: of a top that is new in the last event and wrote an object, no decided top that counts
+/// for the object without a line, or without a write, is behind it; and who has an entry prepared beside it is committed (`AreInTime`). So it is with what the lock half takes, in place of a tied journal; and after each event, since the
 /// front of a script is one. It does nothing when it runs.
 pub fn runs_exclude_in_time()
     ensures runs { RunsExcludeInTime }

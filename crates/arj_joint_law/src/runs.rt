@@ -24,10 +24,10 @@ pub fn decisions_come_behind_calls()
 {}
 
 /// After the run of each script whose header is in form, of at most 1,000,000 events, files that are those of its nodes' pairs are clean:
-/// with what the disk machine's half still takes, where the journal is tied to the lock machines, as it is with what their half takes; where
-/// the decided tops that count are those of the journal, with what they wrote (`DecideThose`); and where each include names a node of the
-/// header. That machines began as the header says, that all states are of their class, and that decided writers stand as
-/// their commits were called, is given here. It does nothing when it runs.
+/// with what the disk machine's half still takes, where the journal is tied to the lock machines, as it is with what their half takes, and where
+/// the decided tops that count are those of the journal, with what they wrote (`DecideThose`). That machines began as the header says, that
+/// all states are of their class, that decided writers stand as their commits were called, and that each include names a node of the header,
+/// is given here. It does nothing when it runs.
 pub fn runs_are_clean()
     ensures clean { RunsAreClean }
     ensures whole { WholeRunsAreClean }

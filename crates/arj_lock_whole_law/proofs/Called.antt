@@ -2,21 +2,21 @@
 use Rattle.std.proofs.Common.{◌≡◌, ◌≢◌, ◌⊎◌, eqb-true, ◌∙◌, ◌+◌, ◌++◌, ◌==◌, ℕ, zero, suc, Bool, true, false, cond, not, List, [], ◌∷◌, Option, Some, None, refl, sym, ap, subst, inl, inr, ⊎_elim}
 use Rattle.std.specs.Prelude.{find, is_some}
 use Rattle.arj_lock.proofs.Members.{In as In_list, in_to}
-use Rattle.arj_protocol.specs.Words.{Asked, Header, Kind, Label, ObjectLine, Path, Uid}
+use Rattle.arj_protocol.specs.Words.{Asked, Header, Kind, Label, ObjectLine, Path, Uid, Op}
 use Rattle.arj_protocol.specs.Ask.{Reply, actor}
-use Rattle.arj_protocol.specs.Asking.{again_all, begin_action, call_steps, doomed_by, goes_on, heard, kept_at, next_req, renewed, root_heard, root_lost, root_moved, step_call}
+use Rattle.arj_protocol.specs.Asking.{again_all, begin_action, call_steps, doomed_by, goes_on, heard, kept_at, next_req, renewed, root_heard, root_lost, root_moved, step_call, call, commit_action, give_up, include}
 use Rattle.arj_protocol.specs.Call as calls
 use Rattle.arj_protocol.specs.Call.{CallEnd, CallStep, Ended, Goal, On, Run, Steps, answered, given_up, next_node, start}
 use Rattle.arj_protocol.specs.Commit.{plan_of}
 use Rattle.arj_protocol.specs.Coord.{Calling, Committing, Coord, Doing, Idle, Now, doing_of, is_free, keeping_of, new_coord, on_doing, on_root, root_at}
 use Rattle.arj_protocol.specs.Effect.{Intent}
-use Rattle.arj_protocol.specs.Ending.{acked}
+use Rattle.arj_protocol.specs.Ending.{acked, abort_action}
 use Rattle.arj_protocol.specs.Order.{unbound}
-use Rattle.arj_protocol.specs.Step.{Input, acts, branch_named, call_reasons, class_at, class_in, first_reason, include_reasons, on_branch, parent_of, refusal_up, refused_by, tolds_again}
+use Rattle.arj_protocol.specs.Step.{Input, acts, branch_named, call_reasons, class_at, class_in, first_reason, include_reasons, on_branch, parent_of, refusal_up, refused_by, tolds_again, commit_reasons}
 use Rattle.arj_protocol.specs.Step as input
-use Rattle.arj_protocol.specs.Tree.{at_place, doomed_at, ended_at, is_own, root_of, uses_object}
+use Rattle.arj_protocol.specs.Tree.{at_place, doomed_at, ended_at, is_own, root_of, uses_object, Branch, branch_of}
 use Rattle.arj_coord_law.proofs.CoordUses.{on_cases}
-use Rattle.arj_part_law.proofs.CoordInputs.{IsOff, behind, off}
+use Rattle.arj_part_law.proofs.CoordInputs.{IsOff, behind, off, named_found}
 use Rattle.arj_part_law.proofs.GoodCoords.{doomed_same, uses_same}
 use Rattle.arj_part_law.proofs.GoodTrees.{get_more}
 use Rattle.arj_part_law.proofs.Settled.{end_tree_on}
@@ -24,8 +24,10 @@ use Rattle.arj_address_law.specs.Binds.{AnswersWaiting}
 use Rattle.arj_view_law.specs.Seen.{Post}
 use Rattle.arj_lock_fact_law.specs.Entries.{HasObject}
 use Rattle.arj_lock_fact_law.proofs.Kept.{Place}
-use Rattle.arj_lock_fact_law.proofs.Pieces.{Pieces, acked_so, acts_so, again_so, heard_so}
+use Rattle.arj_lock_fact_law.proofs.Pieces.{Pieces, acked_so, again_so, heard_so, abort_so, commit_so, give_up_so}
 use Rattle.arj_lock_whole_law.specs.Called.{WaitFor}
+use Rattle.arj_part_law.proofs.Begun.{begun_tree}
+use Rattle.arj_part_law.specs.Actions.{paths_of}
 
 -- ---- objects of the header
 
@@ -55,8 +57,8 @@ is_there false is = absurd (cc is)
 
 -- ---- what waits
 
-module _ (P : ℕ → Type 0) where
-  wait_work : (u : Uid) (f : Doing → Doing) (e : Coord) → ((d : Doing) (s : Steps) → doing_of u e ≡ Some d → (let z = f d in z.now) ≡ Calling s → P s.x) → WaitFor P e → WaitFor P (on_doing u f e)
+module _ (P : ℕ → Goal → Type 0) where
+  wait_work : (u : Uid) (f : Doing → Doing) (e : Coord) → ((d : Doing) (s : Steps) → doing_of u e ≡ Some d → (let z = f d in z.now) ≡ Calling s → P s.x s.goal) → WaitFor P e → WaitFor P (on_doing u f e)
   wait_work u f e its a w d s found is = ⊎_elim
       (λ same. its same.1 s (ap (λ v. doing_of v e) (sym same.0) ∙ same.2) (ap (λ (z : Doing). z.now) same.3 ∙ is))
       (λ other. a w d s other.1 is) (on_cases u f e w d found)
@@ -67,8 +69,8 @@ module _ (P : ℕ → Type 0) where
   wait_idle : (u : Uid) (e : Coord) → WaitFor P e → WaitFor P (on_doing u (λ (d : Doing). record d { now = Idle }) e)
   wait_idle u e a = wait_work u (λ (d : Doing). record d { now = Idle }) e (λ d s found is. absurd (cc is)) a
 
-  wait_goes : (s : Steps) (e : Coord) → P s.x → WaitFor P e → WaitFor P (goes_on s e).part
-  wait_goes s e its a u d z found is = wait_work (actor s.path) (λ (d : Doing). record d { req = s.req; now = Calling s }) e (λ q y at now. let same : s ≡ y = cc now in subst (λ (v : Steps). P v.x) same its) a u d z found is
+  wait_goes : (s : Steps) (e : Coord) → P s.x s.goal → WaitFor P e → WaitFor P (goes_on s e).part
+  wait_goes s e its a u d z found is = wait_work (actor s.path) (λ (d : Doing). record d { req = s.req; now = Calling s }) e (λ q y at now. let same : s ≡ y = cc now in subst (λ (v : Steps). P v.x v.goal) same its) a u d z found is
 
   pieces_wait : (c : Coord) → WaitFor P c → Pieces c (WaitFor P)
   pieces_wait c a = record {
@@ -82,7 +84,7 @@ module _ (P : ℕ → Type 0) where
     telling = λ i e q u d s found is. q u d s found is;
   }
 
-  wait_step : (s : Steps) (n : CallStep) (e : Coord) → P s.x → WaitFor P e → WaitFor P (step_call s n e).part
+  wait_step : (s : Steps) (n : CallStep) (e : Coord) → P s.x s.goal → WaitFor P e → WaitFor P (step_call s n e).part
   wait_step s (On next) e its a = wait_goes (record s { req = s.req + 1; at = next }) e its a
   wait_step s (Ended g) e its a = by g
     where
@@ -110,14 +112,43 @@ module _ (P : ℕ → Type 0) where
   pub wait_again : (sent : List Post) (k : ℕ) (c : Coord) → Place sent k c → WaitFor P c → WaitFor P (again_all c.doings c).part
   wait_again sent k c place a = again_so sent k c place (WaitFor P) (pieces_wait c a)
 
-  pub wait_acts : (sent : List Post) (k : ℕ) (c : Coord) → Place sent k c → WaitFor P c → (hd : Header) (i : Input) (intents : List (Uid × Intent)) → ((x : ℕ) → is_some (class_at x hd) ≡ true → P x) → refusal_up hd i c ≡ None → ((l : Label) (q : Kind) (parent : Option Label) → i ≢ input.Begin l q parent) → WaitFor P (let d = acts i intents c in d.part)
-  wait_acts sent k c place a hd i intents of free other = acts_so sent k c place (WaitFor P) (pieces_wait c a) hd i intents free other
-      (λ b x o found ok. wait_goes (call_steps b.path x o (next_req (actor b.path) c) (root_at (root_of b.path) c) c (renewed (is_free (root_of b.path) (actor b.path) x c) (keeping_of x (root_at (root_of b.path) c)) (let h = keeping_of x (root_at (root_of b.path) c) in h.kept))) _ (of x (is_there (is_some (class_at x hd)) (behind_four (call_reasons hd x o b c) ok))) (used b.path x))
-      (λ b x s found ok. wait_goes (start b.path x (calls.Include s) None unbound (next_req (actor b.path) c)) _ (of x (is_there (is_some (class_at x hd)) (behind_four (include_reasons hd x b c) ok))) (used b.path x))
-      (λ s i. wait_step s (given_up s.at) (on_root (root_of s.path) (root_lost s (given_up s.at)) c) (a (actor s.path) i.doing s i.found i.now) (λ u d z found is. a u d z found is))
+  pub wait_acts : (sent : List Post) (k : ℕ) (c : Coord) → Place sent k c → WaitFor P c → (hd : Header) (i : Input) (intents : List (Uid × Intent)) → ((x : ℕ) (o : Op) → is_some (class_at x hd) ≡ true → P x (calls.Run o)) → ((l : Label) (x s : ℕ) → i ≡ input.Include l x s → is_some (class_at x hd) ≡ true → P x (calls.Include s)) → refusal_up hd i c ≡ None → ((l : Label) (q : Kind) (parent : Option Label) → i ≢ input.Begin l q parent) → WaitFor P (let d = acts i intents c in d.part)
+  wait_acts sent k c place a hd i intents runs includes free other = by i refl free
     where
       used : (p : Path) (x : ℕ) → WaitFor P (record c { tree = uses_object p x c.tree })
       used p x = let q = uses_same p x c.tree in wait_own c (record c { tree = uses_object p x c.tree }) q.own refl a
+
+      found : (l : Label) (b : Branch) → branch_named l c ≡ Some b → branch_of (actor b.path) c.tree ≡ Some b
+      found l b is = named_found place.actions (paths_of place.actions) (begun_tree place.actions place.begun) intents c place.good l b is
+
+      by : (j : Input) → i ≡ j → refusal_up hd j c ≡ None → WaitFor P (let d = acts j intents c in d.part)
+      by (input.Begin l q parent) same ok = absurd (other l q parent same)
+      by (input.Call l x o) same ok = one (branch_named l c) ok
+        where
+          one : (f : Option Branch) → refused_by (call_reasons hd x o) c f ≡ None → WaitFor P (on_branch (λ b. call b.path x o c) c f).part
+          one None ok = a
+          one (Some b) ok = wait_goes (call_steps b.path x o (next_req (actor b.path) c) (root_at (root_of b.path) c) c (renewed (is_free (root_of b.path) (actor b.path) x c) (keeping_of x (root_at (root_of b.path) c)) (let h = keeping_of x (root_at (root_of b.path) c) in h.kept))) _ (runs x o (is_there (is_some (class_at x hd)) (behind_four (call_reasons hd x o b c) ok))) (used b.path x)
+      by (input.Include l x s) same ok = one (branch_named l c) ok
+        where
+          one : (f : Option Branch) → refused_by (include_reasons hd x) c f ≡ None → WaitFor P (on_branch (λ b. include b.path x s c) c f).part
+          one None ok = a
+          one (Some b) ok = wait_goes (start b.path x (calls.Include s) None unbound (next_req (actor b.path) c)) _ (includes l x s same (is_there (is_some (class_at x hd)) (behind_four (include_reasons hd x b c) ok))) (used b.path x)
+      by (input.Commit l) same ok = one (branch_named l c) refl ok
+        where
+          one : (f : Option Branch) → branch_named l c ≡ f → refused_by commit_reasons c f ≡ None → WaitFor P (on_branch (λ b. commit_action b intents c) c f).part
+          one None is ok = a
+          one (Some b) is ok = commit_so sent k c place (WaitFor P) (pieces_wait c a) b intents (found l b is) (off (commit_reasons b c) ok).0
+      by (input.Abort l) same ok = one (branch_named l c)
+        where
+          one : (f : Option Branch) → WaitFor P (on_branch (λ b. abort_action (actor b.path) intents c) c f).part
+          one None = a
+          one (Some b) = abort_so sent k c place (WaitFor P) (pieces_wait c a) (actor b.path) intents
+      by (input.GiveUp l) same ok = one (branch_named l c)
+        where
+          one : (f : Option Branch) → WaitFor P (on_branch (λ b. give_up (actor b.path) intents c) c f).part
+          one None = a
+          one (Some b) = give_up_so sent k c place (WaitFor P) (pieces_wait c a) (actor b.path) intents (λ s i. wait_step s (given_up s.at) (on_root (root_of s.path) (root_lost s (given_up s.at)) c) (a (actor s.path) i.doing s i.found i.now) (λ u d z found is. a u d z found is))
+      by _ same ok = a
 
   pub wait_begin : (l : Label) (how : Kind) (parent : Option Label) (c : Coord) → WaitFor P c → WaitFor P (begin_action l how parent (parent_of parent c) c).part
   wait_begin l how parent c a u d s found is = ⊎_elim (λ old. a u d s old is) (λ idle. let no_way : ◌≡◌ {A = Now} Idle (Calling s) = sym idle ∙ is in absurd (cc no_way)) (was (is_own u c.tree) u.num found)

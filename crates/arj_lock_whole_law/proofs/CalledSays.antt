@@ -1,36 +1,116 @@
--- Which calls a coordinator's lines answer: those that waited.
-use Rattle.std.proofs.Common.{◌≡◌, ◌≢◌, ◌&&◌, ◌||◌, ◌++◌, ℕ, Bool, true, false, cond, not, List, [], ◌∷◌, Option, Some, None, refl, map}
-use Rattle.std.specs.List.{AllByRecursion, flat_map}
-use Rattle.arj_protocol.specs.Words.{Ask, Asked, Body, End, Kind, Label, Path, Uid, uid_eq}
+-- Which lines a coordinator says: those that answer calls are of those that waited, and a commit is called first of all.
+use Rattle.std.proofs.Common.{◌≡◌, ◌≢◌, ◌&&◌, ◌||◌, ◌++◌, ℕ, Bool, true, false, cond, not, List, [], ◌∷◌, Option, Some, None, refl, map, subst}
+use Rattle.std.specs.Prelude.{⊤}
+use Rattle.std.specs.List.{AllByRecursion, flat_map, list_all}
+use Rattle.arj_protocol.specs.Words.{Ask, Asked, Body, End, Kind, Label, Path, Uid, uid_eq, Header, Message}
 use Rattle.arj_protocol.specs.Words.body
+use Rattle.arj_protocol.specs.Words.bound
 use Rattle.arj_protocol.specs.Words.cause
 use Rattle.arj_protocol.specs.Words.ending
 use Rattle.arj_protocol.specs.Words.kind
-use Rattle.arj_protocol.specs.Ask.{Reply, actor}
-use Rattle.arj_protocol.specs.Asking.{again_all, again_now, asks_all, asks_node, call, commit_action, commit_open, commit_top, commits_in, end_line, gaveup_lines, give_up, give_up_call, give_up_doing, gives_up, heard, heard_by, heard_call, heard_doing, heard_none, heard_now, include, last_req, mark_lines, moved_commit, step_call, step_commit, waits_for_call, waits_for_commit}
+use Rattle.arj_protocol.specs.Ask.{Reply, actor, answers}
+use Rattle.arj_protocol.specs.Asking.{again_all, again_now, asks_all, asks_node, call, commit_action, commit_open, commit_top, commits_in, end_line, gaveup_lines, give_up, give_up_call, give_up_doing, gives_up, heard, heard_by, heard_call, heard_doing, heard_none, heard_now, include, last_req, mark_lines, moved_commit, step_call, step_commit, waits_for_call, waits_for_commit, kept_at}
 use Rattle.arj_protocol.specs.Call as calls
-use Rattle.arj_protocol.specs.Call.{CallEnd, CallStep, Ended, Goal, Include, On, Run, Steps, given_up, next_node}
+use Rattle.arj_protocol.specs.Call.{CallEnd, CallStep, Ended, Goal, Include, On, Run, Steps, given_up, next_node, At, Known, answered, AtActivate, AtBind, AtInvoke, AtLoad, AtNote}
 use Rattle.arj_protocol.specs.Commit as commit
 use Rattle.arj_protocol.specs.Commit.{Aborts, Asks, CommitStep, Decides, Machine, Marked, Plan, Stays, has_record, nodes_given_up, participants, plan_of}
-use Rattle.arj_protocol.specs.Coord.{Calling, Committing, Coord, Doing, Idle, Now, doing_of, plan_for, root_at}
-use Rattle.arj_protocol.specs.Effect.{Did, Do, Effect, Intent, PutIntent, Served}
+use Rattle.arj_protocol.specs.Coord.{Calling, Committing, Coord, Doing, Idle, Now, doing_of, plan_for, root_at, is_free}
+use Rattle.arj_protocol.specs.Effect.{Did, Do, Effect, Intent, PutIntent, Served, Disk, Look, PutInc, Say, Send}
 use Rattle.arj_protocol.specs.Ending.{abort_action, acked, acked_by, acked_left, all_aborted, answer_decided, answer_query, answer_recorded, decide, decided_told, ended, ends_with, is_deferred, is_kept_commit, is_over, let_go, record_work, root_or_self, say_for, says, tell, tell_all, tolds_by, tolds_let_go, tolds_of, tolds_of_branch}
-use Rattle.arj_protocol.specs.Order.{at_uid, has, without_number, without_uid}
-use Rattle.arj_protocol.specs.Step.{Input, acts, branch_named, on_branch, tolds_again}
+use Rattle.arj_protocol.specs.Order.{at_uid, has, without_number, without_uid, uid_set}
+use Rattle.arj_protocol.specs.Step.{Input, acts, branch_named, on_branch, tolds_again, Node, hello_to, naming_at, naming_back, numbers_to, recovered_records, restart_outs}
 use Rattle.arj_protocol.specs.Step as input
 use Rattle.arj_protocol.specs.Tree.{Branch, branch_of, is_open, open_below, root_of}
 use Rattle.arj_part_law.proofs.SaidIncs.{all_flat, all_map}
+use Rattle.arj_address_law.specs.Addresses.{AreOf, AtOf, EndOf, GoalOf, KeptOf, KnownFor, ReplyOf, StepOf}
+use Rattle.arj_address_law.specs.Binds.{AnswersAt, AnswersWaiting}
+use Rattle.arj_address_law.proofs.Calls.{answered_of, given_up_of}
 use Rattle.arj_address_law.proofs.Lists.{all_append}
 use Rattle.arj_lock_whole_law.specs.Called.{SayOf, SaysOf, WaitFor}
+use Rattle.arj_protocol.specs.Node.{Parts, Took, handle, holders, prepared_actions, query_about}
+use Rattle.arj_protocol.specs.Follow.{tick_outs}
+use Rattle.arj_lock_whole_law.proofs.CoordCases as coords
+use Rattle.arj_lock_whole_law.proofs.CoordCases.{CoordCase, coord_case}
+use Rattle.arj_lock_run_law.proofs.WalkSteps.{leaves}
+use Rattle.arj_protocol.specs.Named.{Named}
+use Rattle.arj_protocol.specs.Confirm.{back_lines}
+use Rattle.arj_protocol.specs.Naming.{Naming}
+use Rattle.std.proofs.lemmas.Bool.{and_parts}
+use Rattle.arj_lock_line_law.specs.Steps.{is_plain}
+use Rattle.arj_protocol.specs.Says.{AreAll}
 
-module _ (P : ℕ → Type 0) where
+-- ---- which calls end as includes
+
+-- any node
+abbrev Any : ℕ → Type 0
+Any n = ⊤
+
+any_of : (ns : List ℕ) → AreOf Any ns
+any_of [] = tt
+any_of (n ∷ ns) = (tt, any_of ns)
+
+step_any : (g : Goal) (at : At) → AtOf Any g at
+step_any g (AtBind avoid) = tt
+step_any g (AtLoad k s rest) = (knows g, tt, any_of rest)
+  where
+    knows : (g : Goal) → KnownFor Any g k
+    knows (Run o) = (tt, any_of k.stores)
+    knows (Include n) = any_of k.stores
+step_any g (AtActivate k st) = (tt, any_of k.stores)
+step_any g (AtNote k i) = (tt, any_of k.stores)
+step_any g (AtInvoke k i) = (tt, any_of k.stores)
+
+-- an answer to a step leads on, or ends the call as one of its goal
+answer_any : (free : Bool) (kept : Option Known) (g : Goal) (at : At) (r : Reply) → AnswersAt g at r → StepOf Any g (answered free kept g at r).step
+answer_any free kept g at r fits = (answered_of Any tt free kept g at r (goal g) fits (keeps kept) (step_any g at) (reply r)).0
+  where
+    goal : (g : Goal) → GoalOf Any g
+    goal (Run o) = tt
+    goal (Include s) = tt
+
+    keeps : (o : Option Known) → KeptOf Any o
+    keeps None = tt
+    keeps (Some k) = (tt, any_of k.stores)
+
+    reply : (r : Reply) → ReplyOf Any r
+    reply (Reply.Bound (bound.Live b server i g stores)) = (tt, any_of stores)
+    reply (Reply.Bound (bound.Make b server g stores)) = (tt, any_of stores)
+    reply (Reply.Bound (bound.Write g stores)) = any_of stores
+    reply (Reply.Bound (bound.Conflict holder m)) = tt
+    reply _ = tt
+
+-- ---- lines
+
+-- the line answers a call or an include
+abbrev pub answers_call : Body → Bool
+answers_call (body.Ok l x o a) = true
+answers_call (body.Includes l x n) = true
+answers_call _ = false
+
+-- the line calls a commit
+abbrev pub calls_commit : Body → Bool
+calls_commit (body.Committing l) = true
+calls_commit _ = false
+
+-- lines of frames, servers and naming are neither
+plain_apart : (b : Body) → is_plain b ≡ true → (answers_call b ≡ false) × (calls_commit b ≡ false)
+plain_apart (body.Ok l x o a) is = absurd (cc is)
+plain_apart (body.Includes l x n) is = absurd (cc is)
+plain_apart (body.Committing l) is = absurd (cc is)
+plain_apart b is = (refl, refl)
+
+module _ (S : Body → Type 0) (fine : (b : Body) → answers_call b ≡ false → calls_commit b ≡ false → S b) where
   abbrev Fine : List Effect → Type 0
-  Fine outs = AllByRecursion (SayOf P) outs
+  Fine outs = AllByRecursion (SayOf S) outs
+
+  -- so it is of each line with which the call's step ends it
+  abbrev EndsSo : Steps → CallStep → Type 0
+  EndsSo s n = (e : CallEnd) → n ≡ Ended e → (l : Label) → S (end_line s.x s.goal e l)
 
   pub both : (es fs : List Effect) → Fine es → Fine fs → Fine (es ++ fs)
-  both es fs a b = all_append (SayOf P) es fs a b
+  both es fs a b = all_append (SayOf S) es fs a b
 
-  says_fine : (u : Uid) (f : Label → Body) (c : Coord) → ((l : Label) → SaysOf P (f l)) → Fine (says u f c)
+  says_fine : (u : Uid) (f : Label → Body) (c : Coord) → ((l : Label) → S (f l)) → Fine (says u f c)
   says_fine u f c its = by (doing_of u c)
     where
       by : (o : Option Doing) → Fine (say_for f o)
@@ -38,7 +118,7 @@ module _ (P : ℕ → Type 0) where
       by (Some d) = (its d.label, tt)
 
   tells_fine : (root : Uid) (ack : Bool) (ends : List (Uid × End)) (ns : List ℕ) → Fine (tell_all root ack ends ns)
-  tells_fine root ack ends ns = all_map (SayOf P) (tell root ack ends) ns (λ n. tt)
+  tells_fine root ack ends ns = all_map (SayOf S) (tell root ack ends) ns (λ n. tt)
 
   tolds_fine : (intents : List (Uid × Intent)) (c : Coord) (u : Uid) → Fine (tolds_of intents c u)
   tolds_fine intents c u = by (branch_of u c.tree)
@@ -54,32 +134,32 @@ module _ (P : ℕ → Type 0) where
       by None = tt
       by (Some b) = kinds b.kind b.path
 
-  ends_fine : (u : Uid) (e : End) (f : Label → Body) (intents : List (Uid × Intent)) (c : Coord) → ((l : Label) → SaysOf P (f l)) → Fine (ends_with u e f intents c).outs
+  ends_fine : (u : Uid) (e : End) (f : Label → Body) (intents : List (Uid × Intent)) (c : Coord) → ((l : Label) → S (f l)) → Fine (ends_with u e f intents c).outs
   ends_fine u e f intents c its = both (says u f c) (tolds_of intents (ended u e c) u) (says_fine u f c its) (tolds_fine intents (ended u e c) u)
 
   all_fine : (us : List Uid) (c : Coord) → Fine (all_aborted us c).outs
   all_fine [] c = tt
-  all_fine (u ∷ us) c = both (says u (λ l. body.Aborted l cause.Asked) c) (all_aborted us (ended u ending.Abort c)).outs (says_fine u (λ l. body.Aborted l cause.Asked) c (λ l. tt)) (all_fine us (ended u ending.Abort c))
+  all_fine (u ∷ us) c = both (says u (λ l. body.Aborted l cause.Asked) c) (all_aborted us (ended u ending.Abort c)).outs (says_fine u (λ l. body.Aborted l cause.Asked) c (λ l. fine (body.Aborted l cause.Asked) refl refl)) (all_fine us (ended u ending.Abort c))
 
   abort_fine : (u : Uid) (intents : List (Uid × Intent)) (c : Coord) → Fine (abort_action u intents c).outs
   abort_fine u intents c =
       let us = open_below u c.tree ++ u ∷ [] in
       let t = all_aborted us c in
-      both t.outs (flat_map (tolds_of intents t.part) us) (all_fine us c) (all_flat (SayOf P) (tolds_of intents t.part) us (λ w. tolds_fine intents t.part w))
+      both t.outs (flat_map (tolds_of intents t.part) us) (all_fine us c) (all_flat (SayOf S) (tolds_of intents t.part) us (λ w. tolds_fine intents t.part w))
 
   asks_fine : (p : Path) (req : ℕ) (asked : List (ℕ × Ask)) (c : Coord) → Fine (asks_all p req asked c).outs
   asks_fine p req [] c = tt
   asks_fine p req (a ∷ rest) c = (tt, asks_fine p req rest (asks_node p req a c).part)
 
   decide_fine : (p : Plan) (c : Coord) → Fine (decide p c).outs
-  decide_fine p c = both (record_work (actor p.path) p ++ says (actor p.path) body.Committed c) (map (decided_told (root_of p.path) (actor p.path) p) p.sent) (both (record_work (actor p.path) p) (says (actor p.path) body.Committed c) (work (has_record p)) (says_fine (actor p.path) body.Committed c (λ l. tt)))
-      (all_map (SayOf P) (decided_told (root_of p.path) (actor p.path) p) p.sent (λ n. told n (has (participants p) n)))
+  decide_fine p c = both (record_work (actor p.path) p ++ says (actor p.path) body.Committed c) (map (decided_told (root_of p.path) (actor p.path) p) p.sent) (both (record_work (actor p.path) p) (says (actor p.path) body.Committed c) (work (has_record p)) (says_fine (actor p.path) body.Committed c (λ l. fine (body.Committed l) refl refl)))
+      (all_map (SayOf S) (decided_told (root_of p.path) (actor p.path) p) p.sent (λ n. told n (has (participants p) n)))
     where
       work : (b : Bool) → Fine (cond b (Do (PutIntent (actor p.path) (record { root = root_of p.path; nodes = participants p })) ∷ []) [])
       work true = (tt, tt)
       work false = tt
 
-      told : (n : ℕ) (b : Bool) → SayOf P (cond b (tell (root_of p.path) (has_record p) ((actor p.path, ending.Commit) ∷ []) n) (tell (root_of p.path) false ((actor p.path, ending.Abort) ∷ []) n))
+      told : (n : ℕ) (b : Bool) → SayOf S (cond b (tell (root_of p.path) (has_record p) ((actor p.path, ending.Commit) ∷ []) n) (tell (root_of p.path) false ((actor p.path, ending.Abort) ∷ []) n))
       told n true = tt
       told n false = tt
 
@@ -87,34 +167,25 @@ module _ (P : ℕ → Type 0) where
   step_fine u (Stays m) intents c = tt
   step_fine u (Asks m) intents c = asks_fine (plan_of m).path (plan_of m).req (commit.waiting m) (commits_in u m c)
   step_fine u (Decides p) intents c = decide_fine p c
-  step_fine u (Aborts why p) intents c = ends_fine u ending.Abort (λ l. body.Aborted l why) intents c (λ l. tt)
+  step_fine u (Aborts why p) intents c = ends_fine u ending.Abort (λ l. body.Aborted l why) intents c (λ l. fine (body.Aborted l why) refl refl)
 
   moved_fine : (u : Uid) (m : Marked) (intents : List (Uid × Intent)) (c : Coord) → Fine (moved_commit u m intents c).outs
-  moved_fine u m intents c = both (mark_lines u m.marks c) (step_commit u m.step intents c).outs (all_flat (SayOf P) (λ (z : ℕ × ℕ). says u (λ l. body.Excluded l z.0 z.1) c) m.marks (λ z. says_fine u (λ l. body.Excluded l z.0 z.1) c (λ l. tt))) (step_fine u m.step intents c)
+  moved_fine u m intents c = both (mark_lines u m.marks c) (step_commit u m.step intents c).outs (all_flat (SayOf S) (λ (z : ℕ × ℕ). says u (λ l. body.Excluded l z.0 z.1) c) m.marks (λ z. says_fine u (λ l. body.Excluded l z.0 z.1) c (λ l. fine (body.Excluded l z.0 z.1) refl refl))) (step_fine u m.step intents c)
 
-  -- a call that ends has its line
-  end_fine : (x : ℕ) (g : Goal) (e : CallEnd) (l : Label) → P x → SaysOf P (end_line x g e l)
-  end_fine x (Run o) (calls.Answered a) l its = its
-  end_fine x (Include s) (calls.Answered a) l its = its
-  end_fine x g (calls.Included st) l its = its
-  end_fine x g (calls.Conflict h m n) l its = tt
-  end_fine x g (calls.Changed n w) l its = tt
-  end_fine x g (calls.Lost n b) l its = tt
-
-  call_fine : (s : Steps) (n : CallStep) (c : Coord) → P s.x → Fine (step_call s n c).outs
+  call_fine : (s : Steps) (n : CallStep) (c : Coord) → EndsSo s n → Fine (step_call s n c).outs
   call_fine s (On at) c its = (tt, tt)
-  call_fine s (Ended e) c its = says_fine (actor s.path) (end_line s.x s.goal e) c (λ l. end_fine s.x s.goal e l its)
+  call_fine s (Ended e) c its = says_fine (actor s.path) (end_line s.x s.goal e) c (its e refl)
 
-  pub heard_fine : (c : Coord) → WaitFor P c → (from : ℕ) (a : Asked) (r : Reply) (intents : List (Uid × Intent)) → Fine (heard from a r intents c).outs
-  heard_fine c waits from a r intents = by (doing_of a.act c) refl
+  heard_fine : (c : Coord) (from : ℕ) (a : Asked) (r : Reply) (intents : List (Uid × Intent)) → ((d : Doing) (s : Steps) → doing_of a.act c ≡ Some d → d.now ≡ Calling s → waits_for_call from a r s ≡ true → EndsSo s (answered (is_free (root_of s.path) (actor s.path) s.x c) (kept_at s c) s.goal s.at r).step) → Fine (heard from a r intents c).outs
+  heard_fine c from a r intents ends = by (doing_of a.act c) refl
     where
       now : (d : Doing) → doing_of a.act c ≡ Some d → (n : Now) → d.now ≡ n → Fine (heard_now from a r intents c n).outs
       now d found Idle is = tt
-      now d found (Calling s) is = one (waits_for_call from a r s)
+      now d found (Calling s) is = one (waits_for_call from a r s) refl
         where
-          one : (w : Bool) → Fine (cond {A = Served Coord (Unit {0})} w (heard_by (heard_call s r c)) (heard_none c)).outs
-          one true = call_fine s _ _ (waits a.act d s found is)
-          one false = tt
+          one : (w : Bool) → waits_for_call from a r s ≡ w → Fine (cond {A = Served Coord (Unit {0})} w (heard_by (heard_call s r c)) (heard_none c)).outs
+          one true its = call_fine s _ _ (ends d s found is its)
+          one false its = tt
       now d found (Committing m) is = one (waits_for_commit from a r m)
         where
           one : (w : Bool) → Fine (cond {A = Served Coord (Unit {0})} w (heard_by (moved_commit a.act (commit.answered from m r) intents c)) (heard_none c)).outs
@@ -125,72 +196,73 @@ module _ (P : ℕ → Type 0) where
       by None is = tt
       by (Some d) is = now d is d.now refl
 
-  gives_fine : (c : Coord) → WaitFor P c → (u : Uid) (intents : List (Uid × Intent)) → Fine (give_up u intents c).outs
-  gives_fine c waits u intents = by (doing_of u c) refl
+  gives_fine : (c : Coord) (u : Uid) (intents : List (Uid × Intent)) → ((d : Doing) (s : Steps) → doing_of u c ≡ Some d → d.now ≡ Calling s → EndsSo s (given_up s.at)) → Fine (give_up u intents c).outs
+  gives_fine c u intents ends = by (doing_of u c) refl
     where
       lines : (ns : List ℕ) → Fine (gaveup_lines u ns c)
-      lines ns = all_flat (SayOf P) (λ n. says u (λ l. body.GaveUp l n) c) ns (λ n. says_fine u (λ l. body.GaveUp l n) c (λ l. tt))
+      lines ns = all_flat (SayOf S) (λ n. says u (λ l. body.GaveUp l n) c) ns (λ n. says_fine u (λ l. body.GaveUp l n) c (λ l. fine (body.GaveUp l n) refl refl))
 
       now : (d : Doing) → doing_of u c ≡ Some d → (n : Now) → d.now ≡ n → Fine (gives_up u intents c n).outs
       now d found Idle is = tt
-      now d found (Calling s) is = both (gaveup_lines u (next_node s ∷ []) c) (give_up_call s c).outs (lines (next_node s ∷ [])) (call_fine s (given_up s.at) _ (waits u d s found is))
+      now d found (Calling s) is = both (gaveup_lines u (next_node s ∷ []) c) (give_up_call s c).outs (lines (next_node s ∷ [])) (call_fine s (given_up s.at) _ (ends d s found is))
       now d found (Committing m) is = both (gaveup_lines u (nodes_given_up m) c) (moved_commit u (commit.given_up m) intents c).outs (lines (nodes_given_up m)) (moved_fine u (commit.given_up m) intents c)
 
       by : (o : Option Doing) → doing_of u c ≡ o → Fine (give_up_doing u intents c o).outs
       by None is = tt
       by (Some d) is = now d is d.now refl
 
-  commit_fine : (b : Branch) (intents : List (Uid × Intent)) (c : Coord) → Fine (commit_action b intents c).outs
-  commit_fine b intents c = doomed b.doomed
+  -- a commit says first that it is called, where it is a top's
+  commit_fine : (T : List Effect → Type 0) → ((es : List Effect) → Fine es → T es) → (b : Branch) (intents : List (Uid × Intent)) (c : Coord) → ((es : List Effect) → Fine es → T (says (actor b.path) body.Committing c ++ es)) → T (commit_action b intents c).outs
+  commit_fine T other b intents c called = doomed b.doomed
     where
-      top : Fine (commit_top b.path intents c).outs
-      top = both (says (actor b.path) body.Committing c) (moved_commit (actor b.path) (commit.start (plan_for b.path (last_req (doing_of (actor b.path) c)) (root_at (root_of b.path) c) c)) intents c).outs (says_fine (actor b.path) body.Committing c (λ l. tt)) (moved_fine (actor b.path) (commit.start (plan_for b.path (last_req (doing_of (actor b.path) c)) (root_at (root_of b.path) c) c)) intents c)
+      top : T (commit_top b.path intents c).outs
+      top = let m = commit.start (plan_for b.path (last_req (doing_of (actor b.path) c)) (root_at (root_of b.path) c) c) in called (moved_commit (actor b.path) m intents c).outs (moved_fine (actor b.path) m intents c)
 
-      kinds : (k : Kind) → Fine (commit_open b intents c k).outs
-      kinds kind.Nested = ends_fine (actor b.path) ending.Commit body.Committed intents c (λ l. tt)
-      kinds kind.Serial = ends_fine (actor b.path) ending.Commit body.Ended intents c (λ l. tt)
+      kinds : (k : Kind) → T (commit_open b intents c k).outs
+      kinds kind.Nested = other _ (ends_fine (actor b.path) ending.Commit body.Committed intents c (λ l. fine (body.Committed l) refl refl))
+      kinds kind.Serial = other _ (ends_fine (actor b.path) ending.Commit body.Ended intents c (λ l. fine (body.Ended l) refl refl))
       kinds kind.Top = top
       kinds kind.Independent = top
       kinds kind.Constituent = top
 
-      doomed : (d : Bool) → Fine (cond {A = Did Coord} d (ends_with (actor b.path) ending.Abort (λ l. body.Aborted l cause.Doomed) intents c) (commit_open b intents c b.kind)).outs
-      doomed true = ends_fine (actor b.path) ending.Abort (λ l. body.Aborted l cause.Doomed) intents c (λ l. tt)
+      doomed : (d : Bool) → T (cond {A = Did Coord} d (ends_with (actor b.path) ending.Abort (λ l. body.Aborted l cause.Doomed) intents c) (commit_open b intents c b.kind)).outs
+      doomed true = other _ (ends_fine (actor b.path) ending.Abort (λ l. body.Aborted l cause.Doomed) intents c (λ l. fine (body.Aborted l cause.Doomed) refl refl))
       doomed false = kinds b.kind
 
-  pub acts_fine : (c : Coord) → WaitFor P c → (i : Input) (intents : List (Uid × Intent)) → ((l : Label) (q : Kind) (parent : Option Label) → i ≢ input.Begin l q parent) → Fine (acts i intents c).outs
-  acts_fine c waits (input.Begin l q parent) intents other = absurd (other l q parent refl)
-  acts_fine c waits (input.Call l x o) intents other = by (branch_named l c)
+  pub acts_fine : (T : List Effect → Type 0) → ((es : List Effect) → Fine es → T es) → (c : Coord) (i : Input) (intents : List (Uid × Intent)) → ((l : Label) (q : Kind) (parent : Option Label) → i ≢ input.Begin l q parent)
+      → ((u : Uid) (d : Doing) (s : Steps) → doing_of u c ≡ Some d → d.now ≡ Calling s → EndsSo s (given_up s.at)) → ((l : Label) → i ≡ input.Commit l → (u : Uid) (es : List Effect) → Fine es → T (says u body.Committing c ++ es)) → T (acts i intents c).outs
+  acts_fine T so c i intents other ends called = by i refl
     where
-      by : (f : Option Branch) → Fine (on_branch (λ b. call b.path x o c) c f).outs
-      by None = tt
-      by (Some b) = (tt, tt)
-  acts_fine c waits (input.Include l x s) intents other = by (branch_named l c)
-    where
-      by : (f : Option Branch) → Fine (on_branch (λ b. include b.path x s c) c f).outs
-      by None = tt
-      by (Some b) = (tt, tt)
-  acts_fine c waits (input.Commit l) intents other = by (branch_named l c)
-    where
-      by : (f : Option Branch) → Fine (on_branch (λ b. commit_action b intents c) c f).outs
-      by None = tt
-      by (Some b) = commit_fine b intents c
-  acts_fine c waits (input.Abort l) intents other = by (branch_named l c)
-    where
-      by : (f : Option Branch) → Fine (on_branch (λ b. abort_action (actor b.path) intents c) c f).outs
-      by None = tt
-      by (Some b) = abort_fine (actor b.path) intents c
-  acts_fine c waits (input.GiveUp l) intents other = by (branch_named l c)
-    where
-      by : (f : Option Branch) → Fine (on_branch (λ b. give_up (actor b.path) intents c) c f).outs
-      by None = tt
-      by (Some b) = gives_fine c waits (actor b.path) intents
-  acts_fine c waits (input.Frame j from m) intents other = tt
-  acts_fine c waits input.Tick intents other = tt
-  acts_fine c waits input.Restart intents other = tt
-  acts_fine c waits input.Crash intents other = tt
-  acts_fine c waits (input.Show x) intents other = tt
+      by : (j : Input) → i ≡ j → T (acts j intents c).outs
+      by (input.Begin l q parent) same = absurd (other l q parent same)
+      by (input.Call l x o) same = one (branch_named l c)
+        where
+          one : (f : Option Branch) → T (on_branch (λ b. call b.path x o c) c f).outs
+          one None = so [] tt
+          one (Some b) = so _ (tt, tt)
+      by (input.Include l x s) same = one (branch_named l c)
+        where
+          one : (f : Option Branch) → T (on_branch (λ b. include b.path x s c) c f).outs
+          one None = so [] tt
+          one (Some b) = so _ (tt, tt)
+      by (input.Commit l) same = one (branch_named l c)
+        where
+          one : (f : Option Branch) → T (on_branch (λ b. commit_action b intents c) c f).outs
+          one None = so [] tt
+          one (Some b) = commit_fine T so b intents c (called l same (actor b.path))
+      by (input.Abort l) same = one (branch_named l c)
+        where
+          one : (f : Option Branch) → T (on_branch (λ b. abort_action (actor b.path) intents c) c f).outs
+          one None = so [] tt
+          one (Some b) = so _ (abort_fine (actor b.path) intents c)
+      by (input.GiveUp l) same = one (branch_named l c)
+        where
+          one : (f : Option Branch) → T (on_branch (λ b. give_up (actor b.path) intents c) c f).outs
+          one None = so [] tt
+          one (Some b) = so _ (gives_fine c (actor b.path) intents (ends (actor b.path)))
+      by _ same = so [] tt
 
-  pub again_fine : (ds : List Doing) (c : Coord) → Fine (again_all ds c).outs
+  again_fine : (ds : List Doing) (c : Coord) → Fine (again_all ds c).outs
   again_fine [] c = tt
   again_fine (d ∷ ds) c = both (again_now c d.now).outs (again_all ds (again_now c d.now).part).outs (now d.now) (again_fine ds (again_now c d.now).part)
     where
@@ -199,10 +271,10 @@ module _ (P : ℕ → Type 0) where
       now (Calling s) = (tt, tt)
       now (Committing m) = asks_fine (plan_of m).path (plan_of m).req (commit.waiting m) c
 
-  pub records_fine : (telling : List (Uid × Intent)) → Fine (tolds_again telling)
-  records_fine telling = all_flat (SayOf P) (λ (e : Uid × Intent). tell_all e.1.root true ((e.0, ending.Commit) ∷ []) e.1.nodes) telling (λ e. tells_fine e.1.root true ((e.0, ending.Commit) ∷ []) e.1.nodes)
+  records_fine : (telling : List (Uid × Intent)) → Fine (tolds_again telling)
+  records_fine telling = all_flat (SayOf S) (λ (e : Uid × Intent). tell_all e.1.root true ((e.0, ending.Commit) ∷ []) e.1.nodes) telling (λ e. tells_fine e.1.root true ((e.0, ending.Commit) ∷ []) e.1.nodes)
 
-  pub query_fine : (from : ℕ) (u : Uid) (intents : List (Uid × Intent)) (c : Coord) → Fine (answer_query from u intents c)
+  query_fine : (from : ℕ) (u : Uid) (intents : List (Uid × Intent)) (c : Coord) → Fine (answer_query from u intents c)
   query_fine from u intents c = by (is_open u c.tree || is_deferred u intents from)
     where
       decided : (b : Bool) → Fine (cond b (tell (root_or_self u (branch_of u c.tree)) false ((u, ending.Commit) ∷ []) from ∷ []) (tell (root_or_self u (branch_of u c.tree)) false ((u, ending.Abort) ∷ []) from ∷ []))
@@ -221,7 +293,7 @@ module _ (P : ℕ → Type 0) where
       by true = tt
       by false = recorded (at_uid u intents)
 
-  pub acked_fine : (from : ℕ) (u : Uid) (intents : List (Uid × Intent)) (c : Coord) → Fine (acked from u intents c).outs
+  acked_fine : (from : ℕ) (u : Uid) (intents : List (Uid × Intent)) (c : Coord) → Fine (acked from u intents c).outs
   acked_fine from u intents c = by (at_uid u c.telling)
     where
       gone : (o : Option Intent) → Fine (tolds_let_go u (without_uid u intents) c o)
@@ -243,3 +315,87 @@ module _ (P : ℕ → Type 0) where
           one : (b : Bool) → Fine (cond b (acked_left u i intents c (without_number from i.nodes)) (record { part = c; outs = []; reply = None })).outs
           one true = left i (without_number from i.nodes)
           one false = tt
+
+  -- ---- whole handlers
+
+  -- lines of frames, servers and naming
+  leaves_fine : (outs : List Effect) → AreAll leaves outs → Fine outs
+  leaves_fine [] all = tt
+  leaves_fine (Say b ∷ es) all = let p = and_parts (leaves (Say b)) (list_all leaves es) all in (let q = plain_apart b p.0 in fine b q.0 q.1, leaves_fine es p.1)
+  leaves_fine (Send to m ∷ es) all = (tt, leaves_fine es (and_parts (leaves (Send to m)) (list_all leaves es) all).1)
+  leaves_fine (Do w ∷ es) all = (tt, leaves_fine es (and_parts (leaves (Do w)) (list_all leaves es) all).1)
+
+  pub message_fine : (k : ℕ) (d : Disk) (t v : Parts) (from : ℕ) (m : Message) (outs : List Effect) → handle k d t from m ≡ Took v outs
+      → ((a : Asked) (r : Reply) (q : Doing) (s : Steps) → answers m ≡ Some (a, r) → doing_of a.act t.coord ≡ Some q → q.now ≡ Calling s → waits_for_call from a r s ≡ true → EndsSo s (answered (is_free (root_of s.path) (actor s.path) s.x t.coord) (kept_at s t.coord) s.goal s.at r).step) → Fine outs
+  message_fine k d t v from m outs is ends = by (coord_case k d t v from m outs is)
+    where
+      by : CoordCase d t from m v outs → Fine outs
+      by (coords.OfParts same plain) = leaves_fine outs plain
+      by (coords.Asks u same outs_are) = subst Fine outs_are (query_fine from u d.intents t.coord)
+      by (coords.Heard a r of same outs_are) = subst Fine outs_are (heard_fine t.coord from a r d.intents (λ q s. ends a r q s of))
+      by (coords.Acks u same outs_are) = subst Fine outs_are (acked_fine from u d.intents t.coord)
+
+  pub tick_fine : (n : Node) (t : Parts) → Fine (tick_outs n t)
+  tick_fine n t =
+      let r = again_all t.coord.doings t.coord in
+      both (r.outs ++ tolds_again t.coord.telling) (map query_about (holders n.disk t)) (both r.outs (tolds_again t.coord.telling) (again_fine t.coord.doings t.coord) (records_fine t.coord.telling)) (all_map (SayOf S) query_about (holders n.disk t) (λ u. tt))
+
+  pub restart_fine : (hd : Header) (k inc : ℕ) (d : Disk) → Fine (restart_outs hd k inc d)
+  restart_fine hd k inc d = both four hellos (both three asking (both two (tolds_again d.intents) (both one records (tt, (tt, (fine (body.Up k inc) refl refl, (tt, back_so (naming_at k inc d.names))))) (tt, all_map (SayOf S) (λ (e : Uid × Intent). Say (body.Recovered k e.0)) d.intents (λ e. fine (body.Recovered k e.0) refl refl))) (records_fine d.intents))
+      (all_map (SayOf S) query_about (uid_set (prepared_actions d.store ++ prepared_actions d.names)) (λ u. tt)))
+      (all_map (SayOf S) (hello_to k inc) (without_number k (numbers_to hd.nodes)) (λ w. tt))
+    where
+      back_so : (o : Option Naming) → Fine (naming_back o)
+      back_so None = tt
+      back_so (Some o) = all_flat (SayOf S) (λ (e : ℕ × Named). back_lines e.1) o.objects (λ e. all_map (SayOf S) _ e.1.rows (λ r. fine _ refl refl))
+
+      one : List Effect
+      one = Do Look ∷ Do (PutInc inc) ∷ Say (body.Up k inc) ∷ Do Look ∷ naming_back (naming_at k inc d.names)
+
+      records : List Effect
+      records = Do Look ∷ recovered_records k d.intents
+
+      two : List Effect
+      two = one ++ records
+
+      three : List Effect
+      three = two ++ tolds_again d.intents
+
+      asking : List Effect
+      asking = map query_about (uid_set (prepared_actions d.store ++ prepared_actions d.names))
+
+      four : List Effect
+      four = three ++ asking
+
+      hellos : List Effect
+      hellos = map (hello_to k inc) (without_number k (numbers_to hd.nodes))
+
+-- ---- lines of calls
+
+module _ (P : ℕ → Goal → Type 0) where
+  pub plain_says : (b : Body) → answers_call b ≡ false → calls_commit b ≡ false → SaysOf P b
+  plain_says (body.Ok l x o a) none other = absurd (cc none)
+  plain_says (body.Includes l x n) none other = absurd (cc none)
+  plain_says b none other = tt
+
+  -- a call that ends has its line, and only an include ends as one
+  end_says : (x : ℕ) (g : Goal) (e : CallEnd) (l : Label) → P x g → EndOf Any g e → SaysOf P (end_line x g e l)
+  end_says x (Run o) (calls.Answered a) l its fits = its
+  end_says x (Include s) (calls.Answered a) l its fits = its
+  end_says x (Run o) (calls.Included st) l its fits = absurd fits
+  end_says x (Include s) (calls.Included st) l its fits = its
+  end_says x g (calls.Conflict h m n) l its fits = tt
+  end_says x g (calls.Changed n w) l its fits = tt
+  end_says x g (calls.Lost n b) l its fits = tt
+
+  ends_say : (s : Steps) (n : CallStep) → P s.x s.goal → StepOf Any s.goal n → (e : CallEnd) → n ≡ Ended e → (l : Label) → SaysOf P (end_line s.x s.goal e l)
+  ends_say s n its fits e is l = end_says s.x s.goal e l its (subst (StepOf Any s.goal) is fits)
+
+  pub message_says : (c : Coord) → WaitFor P c → (from : ℕ) (a : Asked) (r : Reply) (q : Doing) (s : Steps) → AnswersWaiting from a r c → doing_of a.act c ≡ Some q → q.now ≡ Calling s → waits_for_call from a r s ≡ true
+      → (e : CallEnd) → (answered (is_free (root_of s.path) (actor s.path) s.x c) (kept_at s c) s.goal s.at r).step ≡ Ended e → (l : Label) → SaysOf P (end_line s.x s.goal e l)
+  message_says c waits from a r q s fits found is its = ends_say s _ (waits a.act q s found is) (answer_any (is_free (root_of s.path) (actor s.path) s.x c) (kept_at s c) s.goal s.at r (fits q s found is its))
+
+  pub acts_say : (c : Coord) → WaitFor P c → (i : Input) (intents : List (Uid × Intent)) → ((l : Label) (q : Kind) (parent : Option Label) → i ≢ input.Begin l q parent) → AllByRecursion (SayOf (SaysOf P)) (acts i intents c).outs
+  acts_say c waits i intents other = acts_fine (SaysOf P) plain_says (AllByRecursion (SayOf (SaysOf P))) (λ es all. all) c i intents other
+      (λ u d s found is. ends_say s (given_up s.at) (waits u d s found is) (given_up_of Any tt s.goal s.at (step_any s.goal s.at)))
+      (λ l same u es all. both (SaysOf P) plain_says (says u body.Committing c) es (says_fine (SaysOf P) plain_says u body.Committing c (λ m. tt)) all)

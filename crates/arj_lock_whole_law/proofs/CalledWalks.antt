@@ -1,4 +1,4 @@
--- Each handler keeps that calls are on objects of the header.
+-- Each handler keeps that calls and includes are of objects of the header, and includes of its nodes.
 use Rattle.std.proofs.Common.{◌≡◌, ◌≢◌, ◌+◌, ◌==◌, ◌∙◌, ◌++◌, eqb-true, ⊎_elim, ℕ, zero, suc, Bool, true, false, cond, List, [], ◌∷◌, Option, Some, None, refl, sym, ap, subst, map, inl, inr}
 use Rattle.std.specs.Prelude.{is_some, slice_get}
 use Rattle.std.specs.List.{AllByRecursion, list_all, list_any}
@@ -7,41 +7,35 @@ use Rattle.arj_model.specs.Actions.{Act, Placed, acts_after, put, read}
 use Rattle.arj_model.specs.Calls.{Said, said_of}
 use Rattle.arj_model.specs.Last.{Inclusion, included, included_of}
 use Rattle.arj_lock.proofs.Members.{In as Listed}
-use Rattle.arj_protocol.specs.Words.{Body, Header, Kind, Label, Line, Message, Uid}
+use Rattle.arj_protocol.specs.Words.{Body, Header, Kind, Label, Line, Message, Op}
 use Rattle.arj_protocol.specs.Words.body
 use Rattle.arj_protocol.specs.Asking.{again_all, begin_action}
-use Rattle.arj_protocol.specs.Confirm.{back_lines}
-use Rattle.arj_protocol.specs.Effect.{Disk, Do, Effect, Intent, Look, PutInc, Say, Send, stopped, worked}
+use Rattle.arj_protocol.specs.Call.{Goal, Include, Run}
+use Rattle.arj_protocol.specs.Effect.{Disk, Do, Effect, Say, Send, stopped, worked}
 use Rattle.arj_protocol.specs.Follow.{tick_outs}
-use Rattle.arj_protocol.specs.Named.{Named}
-use Rattle.arj_protocol.specs.Naming.{Naming}
-use Rattle.arj_protocol.specs.Node.{Parts, Took, handle, holders, prepared_actions, query_about, with_coord}
-use Rattle.arj_protocol.specs.Order.{uid_set, without_number}
-use Rattle.arj_protocol.specs.Says.{AreAll}
+use Rattle.arj_protocol.specs.Node.{Parts, Took, handle, with_coord}
 use Rattle.arj_protocol.specs.Step.{Input, Node, acts as acts_of, class_at, first_disk, first_node, hello_to, naming_at, naming_back, numbers_to, parent_of, parts_in, recovered_records, refusal_up, restart_outs, tolds_again}
 use Rattle.arj_protocol.specs.Step as input
 use Rattle.arj_protocol.specs.Tree.{at_place}
 use Rattle.arj_protocol.specs.World.{format, is_serial_kind, numbered}
 use Rattle.arj_part_law.specs.Actions.{Action}
-use Rattle.arj_part_law.proofs.SaidIncs.{all_flat, all_map}
 use Rattle.arj_address_law.specs.Binds.{BindsAreKnown}
-use Rattle.arj_address_law.proofs.BindRuns.{answers_fit}
+use Rattle.arj_address_law.proofs.BindRuns.{answers_fit, binds_keep}
 use Rattle.arj_address_law.proofs.Lists.{all_append}
-use Rattle.arj_run_law.specs.Worlds.{IsGoodOf}
+use Rattle.arj_run_law.specs.Worlds.{IsGood, IsGoodOf}
 use Rattle.arj_run_law.proofs.Handled.{good_coord, it}
 use Rattle.arj_run_law.proofs.Walked.{other_number, same_number}
-use Rattle.arj_view_law.specs.Keeps.{is_act}
+use Rattle.arj_view_law.specs.Keeps.{AsksNode, KeepsAsked, is_act}
 use Rattle.arj_view_law.specs.Seen.{AreQuiet, In, Seen, at, given, is_quiet_line, posted, said as said_lines, see, up}
 use Rattle.arj_view_law.specs.Walks.{Up, Walks, halted}
-use Rattle.arj_lock_line_law.specs.Steps.{is_plain}
-use Rattle.arj_lock_fact_law.specs.Acts.{KeepsOf}
+use Rattle.arj_view_law.proofs.Happens.{keeps_asked}
+use Rattle.arj_view_law.proofs.Together.{walks_both}
 use Rattle.arj_lock_fact_law.specs.Entries.{HasObject}
 use Rattle.arj_lock_fact_law.proofs.Kept.{Place}
-use Rattle.arj_lock_run_law.proofs.WalkSteps.{leaves}
 use Rattle.arj_serial_law.specs.Seen.{IsCalled}
-use Rattle.arj_lock_whole_law.specs.Called.{CallsAreOfHeader, CallsOf, LinesOf, SayOf, SaysOf, WaitFor}
+use Rattle.arj_lock_whole_law.specs.Called.{CallsAreOfHeader, CallsOf, IsIncluded, IsOfHeader, LinesOf, SayOf, SaysOf, WaitFor}
 use Rattle.arj_lock_whole_law.proofs.Called.{found_object, wait_acked, wait_acts, wait_again, wait_begin, wait_heard, wait_new}
-use Rattle.arj_lock_whole_law.proofs.CalledSays.{acked_fine, acts_fine, again_fine, both, heard_fine, query_fine, records_fine}
+use Rattle.arj_lock_whole_law.proofs.CalledSays.{acts_say, message_fine, message_says, plain_says, restart_fine, tick_fine}
 use Rattle.arj_lock_whole_law.proofs.CoordCases.{Acks, Asks, CoordCase, Heard, OfParts, coord_case}
 
 some_is : {A : Type 0} {a b : A} → Some a ≡ Some b → a ≡ b
@@ -50,9 +44,9 @@ some_is {A} {a} {b} is = let k : ◌≡◌ {A = Option A} (Some a) (Some b) = is
 none_at : {A P : Type 0} {o : Option A} {x : A} → o ≡ None → o ≡ Some x → P
 none_at {A} {P} {o} {x} none is = let no_way : ◌≡◌ {A = Option A} None (Some x) = sym none ∙ is in absurd (cc no_way)
 
-module _ (P : ℕ → Type 0) where
+module _ (P : ℕ → Goal → Type 0) where
   abbrev Fine : List Effect → Type 0
-  Fine outs = AllByRecursion (SayOf P) outs
+  Fine outs = AllByRecursion (SayOf (SaysOf P)) outs
 
   -- ---- lines of others
 
@@ -61,23 +55,12 @@ module _ (P : ℕ → Type 0) where
   quiet_of (body.Includes l x n) is = absurd (cc is)
   quiet_of b is = tt
 
-  plain_of : (b : Body) → is_plain b ≡ true → SaysOf P b
-  plain_of (body.Ok l x o a) is = absurd (cc is)
-  plain_of (body.Includes l x n) is = absurd (cc is)
-  plain_of b is = tt
-
   lines_of : (e : ℕ) (bs : List Body) → ((b : Body) → is_quiet_line b ≡ true → SaysOf P b) → AreQuiet bs → LinesOf P (numbered e bs)
   lines_of e [] each quiet = tt
   lines_of e (b ∷ bs) each quiet = let p = and_parts (is_quiet_line b) (list_all is_quiet_line bs) quiet in (each b p.0, lines_of e bs each p.1)
 
   more_lines : (e : ℕ) (bs : List Body) (lines : List Line) → LinesOf P (numbered e bs) → LinesOf P lines → LinesOf P (lines ++ numbered e bs)
   more_lines e bs lines new old = all_append (λ (l : Line). SaysOf P l.body) lines (numbered e bs) old new
-
-  leaves_fine : (outs : List Effect) → AreAll leaves outs → Fine outs
-  leaves_fine [] all = tt
-  leaves_fine (Say b ∷ es) all = let p = and_parts (leaves (Say b)) (list_all leaves es) all in (plain_of b p.0, leaves_fine es p.1)
-  leaves_fine (Send to m ∷ es) all = (tt, leaves_fine es (and_parts (leaves (Send to m)) (list_all leaves es) all).1)
-  leaves_fine (Do w ∷ es) all = (tt, leaves_fine es (and_parts (leaves (Do w)) (list_all leaves es) all).1)
 
   -- ---- one node apart from the others
 
@@ -108,7 +91,7 @@ module _ (P : ℕ → Type 0) where
 
   -- ---- a node of a good world
 
-  module _ (hd : Header) (of : (x : ℕ) → is_some (class_at x hd) ≡ true → P x) (begun : List Action) (e k : ℕ) (d : Disk) (t : Parts) (M : Seen) (bound_all : BindsAreKnown (up k d t M)) (good : IsGoodOf begun (up k d t M)) (all : CallsOf P (up k d t M)) where
+  module _ (begun : List Action) (e k : ℕ) (d : Disk) (t : Parts) (M : Seen) (bound_all : BindsAreKnown (up k d t M)) (good : IsGoodOf begun (up k d t M)) (all : CallsOf P (up k d t M)) where
     place : Place M.sent k t.coord
     place = let u = it e k d t M (begun, good) in record {
       actions = begun;
@@ -126,56 +109,24 @@ module _ (P : ℕ → Type 0) where
     walk_on v outs fine its = walk e k v outs d M fine its (others_of k d (Some t) M all) all.lines
 
     pub message_walk : (from : ℕ) (m : Message) (v : Parts) (outs : List Effect) → In (record { from = from; to = k; message = m }) M.sent → handle k d t from m ≡ Took v outs → Walks (CallsOf P) e k outs (Up (CallsOf P) k v) d M
-    message_walk from m v outs there is = let z = by (coord_case k d t v from m outs is) in walk_on v outs z.0 z.1
+    message_walk from m v outs there is = walk_on v outs
+        (message_fine (SaysOf P) (plain_says P) k d t v from m outs is (λ a r q s of. message_says P t.coord own from a r q s (answers_fit begun e k d t M good bound_all from m there a r of)))
+        (by (coord_case k d t v from m outs is))
       where
-        by : CoordCase d t from m v outs → Fine outs × WaitFor P v.coord
-        by (OfParts same plain) = (leaves_fine outs plain, subst (WaitFor P) (sym same) own)
-        by (Asks u same outs_are) = (subst Fine outs_are (query_fine P from u d.intents t.coord), subst (WaitFor P) (sym same) own)
-        by (Heard a r of same outs_are) = (subst Fine outs_are (heard_fine P t.coord own from a r d.intents), subst (WaitFor P) same (wait_heard P M.sent k t.coord place own from a r d.intents (answers_fit begun e k d t M good bound_all from m there a r of)))
-        by (Acks u same outs_are) = (subst Fine outs_are (acked_fine P from u d.intents t.coord), subst (WaitFor P) same (wait_acked P M.sent k t.coord place own from u d.intents))
+        by : CoordCase d t from m v outs → WaitFor P v.coord
+        by (OfParts same plain) = subst (WaitFor P) (sym same) own
+        by (Asks u same outs_are) = subst (WaitFor P) (sym same) own
+        by (Heard a r of same outs_are) = subst (WaitFor P) same (wait_heard P M.sent k t.coord place own from a r d.intents (answers_fit begun e k d t M good bound_all from m there a r of))
+        by (Acks u same outs_are) = subst (WaitFor P) same (wait_acked P M.sent k t.coord place own from u d.intents)
 
-    pub act_walk : (i : Input) → is_act i ≡ true → refusal_up hd i t.coord ≡ None → Walks (CallsOf P) e k (let r = acts_of i d.intents t.coord in r.outs) (Up (CallsOf P) k (with_coord t (acts_of i d.intents t.coord).part)) d M
-    act_walk i is free = let r = acts_of i d.intents t.coord in walk_on (with_coord t r.part) r.outs (acts_fine P t.coord own i d.intents other) (wait_acts P M.sent k t.coord place own hd i d.intents of free other)
+    pub act_walk : (hd : Header) (i : Input) → ((x : ℕ) (o : Op) → is_some (class_at x hd) ≡ true → P x (Run o)) → ((l : Label) (x s : ℕ) → i ≡ input.Include l x s → is_some (class_at x hd) ≡ true → P x (Include s)) → is_act i ≡ true → refusal_up hd i t.coord ≡ None → Walks (CallsOf P) e k (let r = acts_of i d.intents t.coord in r.outs) (Up (CallsOf P) k (with_coord t (acts_of i d.intents t.coord).part)) d M
+    act_walk hd i runs includes is free = let r = acts_of i d.intents t.coord in walk_on (with_coord t r.part) r.outs (acts_say P t.coord own i d.intents other) (wait_acts P M.sent k t.coord place own hd i d.intents runs includes free other)
       where
         other : (l : Label) (how : Kind) (parent : Option Label) → i ≢ input.Begin l how parent
         other l how parent same = let no_way : false ≡ true = sym (ap is_act same) ∙ is in cc no_way
 
     pub tick_walk : Walks (CallsOf P) e k (tick_outs (record { number = k; disk = d; live = Some t }) t) (Up (CallsOf P) k (with_coord t (again_all t.coord.doings t.coord).part)) d M
-    tick_walk =
-        let r = again_all t.coord.doings t.coord in
-        walk_on (with_coord t r.part) (tick_outs (record { number = k; disk = d; live = Some t }) t)
-        (both P (r.outs ++ tolds_again t.coord.telling) (map query_about (holders d t)) (both P r.outs (tolds_again t.coord.telling) (again_fine P t.coord.doings t.coord) (records_fine P t.coord.telling)) (all_map (SayOf P) query_about (holders d t) (λ u. tt)))
-        (wait_again P M.sent k t.coord place own)
-
-  restart_fine : (hd : Header) (k inc : ℕ) (d : Disk) → Fine (restart_outs hd k inc d)
-  restart_fine hd k inc d = both P four hellos (both P three asking (both P two (tolds_again d.intents) (both P one records (tt, (tt, (tt, (tt, back_so (naming_at k inc d.names))))) (tt, all_map (SayOf P) (λ (e : Uid × Intent). Say (body.Recovered k e.0)) d.intents (λ e. tt))) (records_fine P d.intents))
-      (all_map (SayOf P) query_about (uid_set (prepared_actions d.store ++ prepared_actions d.names)) (λ u. tt)))
-      (all_map (SayOf P) (hello_to k inc) (without_number k (numbers_to hd.nodes)) (λ w. tt))
-    where
-      back_so : (o : Option Naming) → Fine (naming_back o)
-      back_so None = tt
-      back_so (Some o) = all_flat (SayOf P) (λ (e : ℕ × Named). back_lines e.1) o.objects (λ e. all_map (SayOf P) _ e.1.rows (λ r. tt))
-
-      one : List Effect
-      one = Do Look ∷ Do (PutInc inc) ∷ Say (body.Up k inc) ∷ Do Look ∷ naming_back (naming_at k inc d.names)
-
-      records : List Effect
-      records = Do Look ∷ recovered_records k d.intents
-
-      two : List Effect
-      two = one ++ records
-
-      three : List Effect
-      three = two ++ tolds_again d.intents
-
-      asking : List Effect
-      asking = map query_about (uid_set (prepared_actions d.store ++ prepared_actions d.names))
-
-      four : List Effect
-      four = three ++ asking
-
-      hellos : List Effect
-      hellos = map (hello_to k inc) (without_number k (numbers_to hd.nodes))
+    tick_walk = walk_on (with_coord t (again_all t.coord.doings t.coord).part) (tick_outs (record { number = k; disk = d; live = Some t }) t) (tick_fine (SaysOf P) (plain_says P) (record { number = k; disk = d; live = Some t }) t) (wait_again P M.sent k t.coord place own)
 
   first_so : (hd : Header) → CallsOf P (see [] (format hd))
   first_so hd = record { works = λ k n t is live. by n t live k is; lines = tt }
@@ -192,43 +143,60 @@ module _ (P : ℕ → Type 0) where
           let same : parts_in a.0 1 (first_disk hd a.0) ≡ t = some_is (ap (λ (z : Node). z.live) a.1 ∙ live) in
           subst (λ (z : Parts). WaitFor P z.coord) same (wait_new P a.0 1 (let c = first_disk hd a.0 in c.intents))
 
-pub called_of : (hd : Header) → KeepsOf hd (λ acts M. BindsAreKnown M) (λ acts M. CallsAreOfHeader hd M)
-called_of hd = record {
-  quiet = λ acts e bs M quiet more g p. record { works = p.works; lines = more_lines (HasObject hd) e bs M.lines (lines_of (HasObject hd) e bs (quiet_of (HasObject hd)) quiet) p.lines };
-  stop = λ acts e k d live M more g p. down_so (HasObject hd) e k d M (others_of (HasObject hd) k d live M p) p.lines;
-  message = λ acts e k d t v from m outs M more g p there meant is. message_walk (HasObject hd) hd (found_object hd) acts e k d t M more g p from m v outs there is;
-  act = λ acts e k d t i M is free more g p. act_walk (HasObject hd) hd (found_object hd) acts e k d t M more g p i is free;
-  begin = λ acts e k d t l how parent M new may free more g p.
+-- each handler keeps it, beside good nodes and known Binds
+pub calls_keep : (hd : Header) → KeepsAsked hd (λ M. (IsGood M × BindsAreKnown M) × CallsAreOfHeader hd M)
+calls_keep hd = record {
+  quiet = λ e bs M quiet g. (base.quiet e bs M quiet g.0, record { works = (let p = g.1 in p.works); lines = more_lines P e bs M.lines (lines_of P e bs (quiet_of P) quiet) (let p = g.1 in p.lines) });
+  stop = λ e k d live M g. (base.stop e k d live M g.0, down_so P e k d M (others_of P k d live M g.1) (let p = g.1 in p.lines));
+  message = λ e k d t v from m outs M g there meant is. beside e k outs v d M (base.message e k d t v from m outs M g.0 there meant is) (message_walk P g.0.0.0 e k d t M g.0.1 g.0.0.1 g.1 from m v outs there is);
+  act = λ e k d t i M is asks free g. let did = acts_of i d.intents t.coord in beside e k did.outs (with_coord t did.part) d M (base.act e k d t i M is asks free g.0)
+      (act_walk P g.0.0.0 e k d t M g.0.1 g.0.0.1 g.1 hd i (λ x o there. (found_object hd x there, tt)) (λ l x s same there. (found_object hd x there, subst (AsksNode hd) same asks)) is free);
+  begin = λ e k d t l how parent M new may free g.
       let did = begin_action l how parent (parent_of parent t.coord) t.coord in
-      walk (HasObject hd) e k (with_coord t did.part) did.outs d (given l (record { node = k; serial = is_serial_kind how }) M) (tt, tt) (wait_begin (HasObject hd) l how parent t.coord (own_of (HasObject hd) k d t M p)) (others_of (HasObject hd) k d (Some t) M p) p.lines;
-  tick = λ acts e k d t M more g p. tick_walk (HasObject hd) hd (found_object hd) acts e k d t M more g p;
-  restart = λ acts e k d M more g p. walk (HasObject hd) e k (parts_in k (d.inc + 1) d) (restart_outs hd k (d.inc + 1) d) d M (restart_fine (HasObject hd) hd k (d.inc + 1) d) (wait_new (HasObject hd) k (d.inc + 1) d.intents) (others_of (HasObject hd) k d None M p) p.lines;
-  first = first_so (HasObject hd) hd;
+      let N = given l (record { node = k; serial = is_serial_kind how }) M in
+      beside e k did.outs (with_coord t did.part) d N (base.begin e k d t l how parent M new may free g.0)
+      (walk P e k (with_coord t did.part) did.outs d N (tt, tt) (wait_begin P l how parent t.coord (own_of P k d t M g.1)) (others_of P k d (Some t) M g.1) (let p = g.1 in p.lines));
+  tick = λ e k d t M g. beside e k (tick_outs (record { number = k; disk = d; live = Some t }) t) (with_coord t (again_all t.coord.doings t.coord).part) d M (base.tick e k d t M g.0) (tick_walk P g.0.0.0 e k d t M g.0.1 g.0.0.1 g.1);
+  restart = λ e k d M g. beside e k (restart_outs hd k (d.inc + 1) d) (parts_in k (d.inc + 1) d) d M (base.restart e k d M g.0)
+      (walk P e k (parts_in k (d.inc + 1) d) (restart_outs hd k (d.inc + 1) d) d M (restart_fine (SaysOf P) (plain_says P) hd k (d.inc + 1) d) (wait_new P k (d.inc + 1) d.intents) (others_of P k d None M g.1) (let p = g.1 in p.lines));
+  first = (base.first, first_so P hd);
 }
+  where
+    P : ℕ → Goal → Type 0
+    P = IsOfHeader hd
+
+    G : Seen → Type 0
+    G M = IsGood M × BindsAreKnown M
+
+    base : KeepsAsked hd G
+    base = keeps_asked hd G (binds_keep hd)
+
+    beside : (e k : ℕ) (outs : List Effect) (v : Parts) (d : Disk) (M : Seen) → Walks G e k outs (Up G k v) d M → Walks (CallsOf P) e k outs (Up (CallsOf P) k v) d M → Walks (λ N. G N × CallsAreOfHeader hd N) e k outs (Up (λ N. G N × CallsAreOfHeader hd N) k v) d M
+    beside e k outs v d M a b = walks_both G (CallsOf P) e k outs (Up G k v) (Up (CallsOf P) k v) d M a b
 
 -- ---- what follows
 
 -- an object of which a call was answered is one of the header
-pub called_there : (hd : Header) (x : ℕ) (lines : List Line) → LinesOf (HasObject hd) lines → IsCalled x lines → HasObject hd x
+pub called_there : (hd : Header) (x : ℕ) (lines : List Line) → LinesOf (IsOfHeader hd) lines → IsCalled x lines → HasObject hd x
 called_there hd x lines all called = by [] 0 lines all called
   where
-    one : (acts : List Act) (n : ℕ) (b : Body) (rest : List (Placed Said)) → SaysOf (HasObject hd) b → (list_any (λ (s : Placed Said). s.it.x == x) rest ≡ true → HasObject hd x) → list_any (λ (s : Placed Said). s.it.x == x) (put n (said_of acts b) rest) ≡ true → HasObject hd x
-    one acts n (body.Ok l y o a) rest its later on = ⊎_elim (λ same. subst (HasObject hd) (eqb-true y x same) its) later (or_cases (y == x) (list_any (λ (s : Placed Said). s.it.x == x) rest) on)
+    one : (acts : List Act) (n : ℕ) (b : Body) (rest : List (Placed Said)) → SaysOf (IsOfHeader hd) b → (list_any (λ (s : Placed Said). s.it.x == x) rest ≡ true → HasObject hd x) → list_any (λ (s : Placed Said). s.it.x == x) (put n (said_of acts b) rest) ≡ true → HasObject hd x
+    one acts n (body.Ok l y o a) rest its later on = ⊎_elim (λ same. subst (HasObject hd) (eqb-true y x same) its.0) later (or_cases (y == x) (list_any (λ (s : Placed Said). s.it.x == x) rest) on)
     one acts n b rest its later on = later on
 
-    by : (acts : List Act) (n : ℕ) (ls : List Line) → LinesOf (HasObject hd) ls → list_any (λ (s : Placed Said). s.it.x == x) (read said_of acts n ls) ≡ true → HasObject hd x
+    by : (acts : List Act) (n : ℕ) (ls : List Line) → LinesOf (IsOfHeader hd) ls → list_any (λ (s : Placed Said). s.it.x == x) (read said_of acts n ls) ≡ true → HasObject hd x
     by acts n [] all on = absurd (cc on)
     by acts n (l ∷ ls) all on = one acts n l.body (read said_of (acts_after acts l.body) (n + 1) ls) all.0 (by (acts_after acts l.body) (n + 1) ls all.1) on
 
--- and so is one of which a store was included
-pub included_there : (hd : Header) (lines : List Line) → LinesOf (HasObject hd) lines → (i : Placed Inclusion) → Listed i (included lines) → HasObject hd (let k = i.it in k.x)
+-- and so is one of which a store was included, which is a node of the header
+pub included_there : (hd : Header) (lines : List Line) → LinesOf (IsOfHeader hd) lines → (i : Placed Inclusion) → Listed i (included lines) → IsIncluded hd i.it
 included_there hd lines all i there = by [] 0 lines all there
   where
-    one : (acts : List Act) (n : ℕ) (b : Body) (rest : List (Placed Inclusion)) → SaysOf (HasObject hd) b → (Listed i rest → HasObject hd (let k = i.it in k.x)) → Listed i (put n (included_of acts b) rest) → HasObject hd (let k = i.it in k.x)
-    one acts n (body.Includes l y m) rest its later (inl same) = subst (λ (j : Placed Inclusion). HasObject hd (let k = j.it in k.x)) same its
+    one : (acts : List Act) (n : ℕ) (b : Body) (rest : List (Placed Inclusion)) → SaysOf (IsOfHeader hd) b → (Listed i rest → IsIncluded hd i.it) → Listed i (put n (included_of acts b) rest) → IsIncluded hd i.it
+    one acts n (body.Includes l y m) rest its later (inl same) = subst (λ (j : Placed Inclusion). IsIncluded hd j.it) same its
     one acts n (body.Includes l y m) rest its later (inr old) = later old
     one acts n b rest its later on = later on
 
-    by : (acts : List Act) (n : ℕ) (ls : List Line) → LinesOf (HasObject hd) ls → Listed i (read included_of acts n ls) → HasObject hd (let k = i.it in k.x)
+    by : (acts : List Act) (n : ℕ) (ls : List Line) → LinesOf (IsOfHeader hd) ls → Listed i (read included_of acts n ls) → IsIncluded hd i.it
     by acts n [] all on = absurd on
     by acts n (l ∷ ls) all on = one acts n l.body (read included_of (acts_after acts l.body) (n + 1) ls) all.0 (by (acts_after acts l.body) (n + 1) ls all.1) on

@@ -1,18 +1,14 @@
 -- Whole runs: each object of the header is seen at the end, in places and codes that are found, and so runs are serial.
 use Rattle.std.proofs.Common.{◌≡◌, ◌≤◌, ℕ, true, List, length, refl}
-use Rattle.std.specs.Prelude.{⊤}
 use Rattle.arj_lock.proofs.Members.{in_from}
 use Rattle.arj_model.specs.Last.{first_values, included}
 use Rattle.arj_protocol.specs.Words.{Header}
 use Rattle.arj_protocol.specs.World.{Asked, format, journal, run_all}
 use Rattle.arj_part_law.specs.Actions.{Action, paths_of}
 use Rattle.arj_part_law.proofs.Begun.{begun_tree, path_found}
-use Rattle.arj_run_law.specs.Worlds.{IsGood, IsGoodOf}
-use Rattle.arj_view_law.specs.Keeps.{Holds, Keeps}
+use Rattle.arj_view_law.specs.Keeps.{Holds}
 use Rattle.arj_view_law.specs.Seen.{Seen, see}
-use Rattle.arj_view_law.proofs.Happens.{runs_hold}
-use Rattle.arj_address_law.specs.Binds.{BindsAreKnown}
-use Rattle.arj_address_law.proofs.BindRuns.{binds_keep}
+use Rattle.arj_view_law.proofs.Happens.{runs_asked, runs_hold}
 use Rattle.arj_call_law.specs.Runs.{KnowsFew}
 use Rattle.arj_call_law.specs.Servers.{AreOneCall}
 use Rattle.arj_call_law.proofs.Given.{KeepsGiven}
@@ -21,17 +17,15 @@ use Rattle.arj_binding_law.specs.Scripts.{most_events}
 use Rattle.arj_binding_law.proofs.Events.{scripts_few}
 use Rattle.arj_lock_fact_law.specs.Acts.{KeepsOf}
 use Rattle.arj_lock_fact_law.specs.Entries.{HasObject}
-use Rattle.arj_lock_fact_law.proofs.Acts.{kept_of}
 use Rattle.arj_lock_run_law.specs.Kept.{AreLocksSeen}
 use Rattle.arj_lock_run_law.proofs.KeptSteps.{locks_given}
 use Rattle.arj_serial_law.specs.Seen.{IsLocked}
 use Rattle.arj_serial_law.proofs.Seeing.{agrees_at, fixed_at, locked_runs_are_serial, locked_tied}
-use Rattle.arj_lock_whole_law.specs.Called.{CallsAreOfHeader}
 use Rattle.arj_lock_whole_law.specs.Runs.{AreAllSeen, HandlersKeepWhole, IsRest, RunsAreLocked, RunsAreSerial, RunsAreTied, RunsCallObjects, RunsIncludeObjects, RunsSeeLocks}
 use Rattle.arj_lock_whole_law.specs.Whole.{KnowsWhole}
-use Rattle.arj_lock_whole_law.proofs.CalledWalks.{called_of, called_there, included_there}
+use Rattle.arj_lock_whole_law.proofs.CalledWalks.{called_there, calls_keep, included_there}
 use Rattle.arj_lock_whole_law.proofs.Gives.{gives_locks}
-use Rattle.arj_lock_whole_law.proofs.Of.{of_both, of_kept, of_more}
+use Rattle.arj_lock_whole_law.proofs.Of.{of_both, of_more}
 use Rattle.arj_lock_whole_law.proofs.Whole.{whole_of}
 
 pub handlers_keep_whole : HandlersKeepWhole
@@ -88,21 +82,16 @@ runs_see_locks hd x has test rest es most =
 
 -- ---- objects that are called
 
-called_kept : (hd : Header) → Keeps hd (λ M. (begun : List Action) × IsGoodOf begun M × ((IsGood M × BindsAreKnown M) × CallsAreOfHeader hd M))
-called_kept hd = kept_of hd (λ begun M. (IsGood M × BindsAreKnown M) × CallsAreOfHeader hd M)
-    (of_both hd (λ begun M. ⊤) (λ begun M. IsGood M × BindsAreKnown M) (λ begun M. CallsAreOfHeader hd M) (of_kept hd (λ begun M. ⊤ × CallsAreOfHeader hd M) (λ M. IsGood M × BindsAreKnown M) (binds_keep hd))
-    (of_more hd (λ begun M. BindsAreKnown M) (λ begun M. ⊤ × (IsGood M × BindsAreKnown M)) (λ begun M. CallsAreOfHeader hd M) (λ begun M h. h.1.1) (called_of hd)))
-
 pub runs_call_objects : RunsCallObjects
 runs_call_objects hd es x called =
-    let h = runs_hold hd _ (called_kept hd) es in
-    let z = h.holds.2.1 in
+    let h = runs_asked hd _ (calls_keep hd) es in
+    let z = h.holds.1 in
     called_there hd x (journal hd es) z.lines called
 
 pub runs_include_objects : RunsIncludeObjects
 runs_include_objects hd es i there =
-    let h = runs_hold hd _ (called_kept hd) es in
-    let z = h.holds.2.1 in
+    let h = runs_asked hd _ (calls_keep hd) es in
+    let z = h.holds.1 in
     included_there hd (journal hd es) z.lines i (in_from i (included (journal hd es)) there)
 
 -- ---- serial runs

@@ -1,38 +1,49 @@
--- Calls and includes are of objects of the header: those that wait, and those that were answered.
+-- Calls and includes are of objects of the header, and includes of its nodes: those that wait, and those that were answered.
 use Rattle.std.specs.Prelude.{⊤, ◌≡◌, ℕ, List, Some}
 use Rattle.std.specs.List.{AllByRecursion}
+use Rattle.arj_model.specs.Last.{Inclusion}
 use Rattle.arj_protocol.specs.Words.{Body, Header, Line, Uid}
 use Rattle.arj_protocol.specs.Words.body
-use Rattle.arj_protocol.specs.Call.{Steps}
+use Rattle.arj_protocol.specs.Call.{Goal, Include, Run, Steps}
 use Rattle.arj_protocol.specs.Coord.{Calling, Coord, Doing, doing_of}
 use Rattle.arj_protocol.specs.Effect.{Effect, Say}
 use Rattle.arj_protocol.specs.Node.{Parts}
 use Rattle.arj_protocol.specs.Step.{Node}
+use Rattle.arj_address_law.specs.Addresses.{GoalOf, IsNode}
 use Rattle.arj_view_law.specs.Seen.{Seen}
 use Rattle.arj_lock_fact_law.specs.Entries.{HasObject}
 
--- what waits is about such an object
-abbrev pub WaitFor : (ℕ → Type 0) → Coord → Type 0
-WaitFor P c = (u : Uid) (d : Doing) (s : Steps) → doing_of u c ≡ Some d → d.now ≡ Calling s → P s.x
+-- what waits is about an object and for a goal of which this holds
+abbrev pub WaitFor : (ℕ → Goal → Type 0) → Coord → Type 0
+WaitFor P c = (u : Uid) (d : Doing) (s : Steps) → doing_of u c ≡ Some d → d.now ≡ Calling s → P s.x s.goal
 
--- an answered call is on such an object, and an include
-abbrev pub SaysOf : (ℕ → Type 0) → Body → Type 0
-SaysOf P (body.Ok l x o a) = P x
-SaysOf P (body.Includes l x n) = P x
+-- an answered call was, and an include
+abbrev pub SaysOf : (ℕ → Goal → Type 0) → Body → Type 0
+SaysOf P (body.Ok l x o a) = P x (Run o)
+SaysOf P (body.Includes l x n) = P x (Include n)
 SaysOf P _ = ⊤
 
-abbrev pub SayOf : (ℕ → Type 0) → Effect → Type 0
-SayOf P (Say b) = SaysOf P b
-SayOf P _ = ⊤
+-- what an effect says is so
+abbrev pub SayOf : (Body → Type 0) → Effect → Type 0
+SayOf S (Say b) = S b
+SayOf S _ = ⊤
 
-abbrev pub LinesOf : (ℕ → Type 0) → List Line → Type 0
+abbrev pub LinesOf : (ℕ → Goal → Type 0) → List Line → Type 0
 LinesOf P lines = AllByRecursion (λ (l : Line). SaysOf P l.body) lines
 
 -- so it is at each node that is up, and in the journal
-pub record CallsOf (P : ℕ → Type 0) (M : Seen) : Type 0 where
+pub record CallsOf (P : ℕ → Goal → Type 0) (M : Seen) : Type 0 where
   pub works : (j : ℕ) (n : Node) (t : Parts) → M.nodes j ≡ Some n → n.live ≡ Some t → WaitFor P t.coord
   pub lines : LinesOf P M.lines
 
--- of objects of the header
+-- the object is one of the header, and a store to include is one of its nodes
+abbrev pub IsOfHeader : Header → ℕ → Goal → Type 0
+IsOfHeader hd x g = HasObject hd x × GoalOf (IsNode hd) g
+
+-- so it is of an answered include
+abbrev pub IsIncluded : Header → Inclusion → Type 0
+IsIncluded hd i = IsOfHeader hd i.x (Include i.node)
+
+-- and of all calls and includes
 abbrev pub CallsAreOfHeader : Header → Seen → Type 0
-CallsAreOfHeader hd M = CallsOf (HasObject hd) M
+CallsAreOfHeader hd M = CallsOf (IsOfHeader hd) M

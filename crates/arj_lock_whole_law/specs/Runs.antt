@@ -22,6 +22,7 @@ use Rattle.arj_lock_run_law.specs.Tied.{AreTied as AreTiedNow}
 use Rattle.arj_lock_run_law.specs.Votes.{AreVotedAt}
 use Rattle.arj_serial_law.specs.Seen.{IsCalled, IsLocked, IsSerialRun}
 use Rattle.arj_serial_law.specs.Tied.{AreTied}
+use Rattle.arj_lock_whole_law.specs.Called.{IsIncluded}
 use Rattle.arj_lock_whole_law.specs.Rest.{GivesRest}
 use Rattle.arj_lock_whole_law.specs.Whole.{KnowsWhole}
 
@@ -76,9 +77,9 @@ RunsHaveVotes = (hd : Header) (x : ℕ) → HasObject hd x → (test : List Acti
 abbrev pub RunsCallObjects : Type 0
 RunsCallObjects = (hd : Header) (es : List Asked) (x : ℕ) → IsCalled x (journal hd es) → HasObject hd x
 
--- and so are those of which a store was included
+-- and so are those of which a store was included, which is a node of the header
 abbrev pub RunsIncludeObjects : Type 0
-RunsIncludeObjects = (hd : Header) (es : List Asked) (i : Placed Inclusion) → Contains (included (journal hd es)) i → HasObject hd (let k = i.it in k.x)
+RunsIncludeObjects = (hd : Header) (es : List Asked) (i : Placed Inclusion) → Contains (included (journal hd es)) i → IsIncluded hd i.it
 
 -- where for each object of the header a relation gives what is still to be given
 abbrev pub AreRest : Header → (ℕ → List Action → Seen → Bool) → Type 0

@@ -24,7 +24,7 @@ pub fn runs_have_the_votes()
 {}
 
 /// In every run of every script, with all stops, crashes and restarts, each call that was answered is on an object of the header, and each
-/// include: no other is asked about. It does nothing when it runs.
+/// include, of a store that is one of its nodes: no other is asked about. It does nothing when it runs.
 pub fn runs_call_their_objects()
     ensures calls { RunsCallObjects }
     ensures includes { RunsIncludeObjects }

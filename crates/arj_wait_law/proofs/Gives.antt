@@ -198,7 +198,7 @@ module _ (hd : Header) (j : ℕ) (d : Disk) (t : Parts) (M : Seen) (known : Wait
     asking_call = subst (IsBusy (let x = at_it.parts in x.coord.tree) u) now (busy hd W known j u c q does from at_it)
 
     object_there : HasObject hd s.x
-    object_there = let w = known.1.0.1 in w.works from at_it.node at_it.parts at_it.found at_it.live u q s (ap (doing_of u) at_it.same ∙ does) now
+    object_there = (let w = known.1.0.1 in w.works from at_it.node at_it.parts at_it.found at_it.live u q s (ap (doing_of u) at_it.same ∙ does) now).0
 
     -- it is void only where its part doesn't answer
     unserved : IsVoid (taken j d t from (let p = h.post in p.message)) → (a : Ask) → (let x = h.asks in x.ask) ≡ a → ask_is_meant t.server a ≡ true → IsVoid (serve j d t from (head_of s) a)

@@ -20,16 +20,13 @@ use Rattle.arj_view_law.specs.Walks.{Up, Walks}
 use Rattle.arj_view_law.proofs.Happens.{keeps_asked}
 use Rattle.arj_view_law.proofs.Together.{walks_each}
 use Rattle.arj_run_law.specs.Worlds.{IsGood}
-use Rattle.arj_call_law.proofs.Given.{KeepsGiven, kept_both}
 use Rattle.arj_address_law.specs.Binds.{BindsAreKnown}
-use Rattle.arj_address_law.proofs.BindRuns.{binds_keep}
 use Rattle.arj_disk_run_law.specs.Entries.{HaveEntries}
 use Rattle.arj_disk_run_law.proofs.EntryKeeps.{keeps_entries}
-use Rattle.arj_lock_fact_law.specs.Acts.{KeepsOf}
 use Rattle.arj_lock_fact_law.specs.Entries.{HasObject}
 use Rattle.arj_lock_fact_law.proofs.Entries.{entries_keep}
 use Rattle.arj_lock_whole_law.specs.Called.{CallsAreOfHeader}
-use Rattle.arj_lock_whole_law.proofs.CalledWalks.{called_of}
+use Rattle.arj_lock_whole_law.proofs.CalledWalks.{calls_keep}
 use Rattle.arj_address_law.specs.Addresses.{AreAddressed, AreOf, IsNode, LineOf}
 use Rattle.arj_address_law.proofs.Runs.{so_kept}
 use Rattle.arj_lock_fact_law.specs.Requests.{RequestsAreKnown}
@@ -84,25 +81,9 @@ asked_each {A} hd P each = record {
     many : (e k : ℕ) (outs : List Effect) (v : Parts) (d : Disk) (M : Seen) → ((x : A) → Walks (P x) e k outs (Up (P x) k v) d M) → Walks (λ N. (x : A) → P x N) e k outs (Up (λ N. (x : A) → P x N) k v) d M
     many e k outs v d M walks = walks_each P e k outs (λ x. Up (P x) k v) d M walks
 
--- calls are on objects of the header, beside good nodes and known Binds
-called_given : (hd : Header) → KeepsGiven hd (λ M. IsGood M × BindsAreKnown M) (CallsAreOfHeader hd)
-called_given hd = record {
-  quiet = λ e bs M quiet g p. one.quiet g.0.0 e bs M quiet g.1 g.0.1 p;
-  stop = λ e k d live M g p. one.stop g.0.0 e k d live M g.1 g.0.1 p;
-  message = λ e k d t v from m outs M g p there meant is. one.message g.0.0 e k d t v from m outs M g.1 g.0.1 p there meant is;
-  act = λ e k d t i M is free g p. one.act g.0.0 e k d t i M is free g.1 g.0.1 p;
-  begin = λ e k d t l how parent M new may free g p. one.begin g.0.0 e k d t l how parent M new may free g.1 g.0.1 p;
-  tick = λ e k d t M g p. one.tick g.0.0 e k d t M g.1 g.0.1 p;
-  restart = λ e k d M g p. one.restart g.0.0 e k d M g.1 g.0.1 p;
-  first = one.first;
-}
-  where
-    one : KeepsOf hd (λ acts M. BindsAreKnown M) (λ acts M. CallsAreOfHeader hd M)
-    one = called_of hd
-
 objects_keep : (hd : Header) → KeepsAsked hd (ObjectsAreKnown hd)
 objects_keep hd = asked_both hd (λ M. (IsGood M × BindsAreKnown M) × CallsAreOfHeader hd M) (λ M. (x : ℕ) → HasObject hd x → HaveEntries x M)
-    (keeps_asked hd (λ M. (IsGood M × BindsAreKnown M) × CallsAreOfHeader hd M) (kept_both hd (λ M. IsGood M × BindsAreKnown M) (CallsAreOfHeader hd) (binds_keep hd) (called_given hd)))
+    (calls_keep hd)
     (asked_each {A = ℕ} hd (λ x M. HasObject hd x → HaveEntries x M) (λ x. asked_each {A = HasObject hd x} hd (λ has M. HaveEntries x M) (λ has. keeps_asked hd (HaveEntries x) (keeps_entries x hd (let k = entries_keep hd x has in k.first)))))
 
 pub waits_keep : HandlersKeepWaits

@@ -1,9 +1,13 @@
+use Rattle.arj_joint_law.proofs.CommitCalls.{commits_begin}
 use Rattle.arj_joint_law.proofs.Excluding.{nodes_have_form, runs_in_time_by_calls, seen_runs_in_time}
 use Rattle.arj_joint_law.proofs.NewWriters.{new_writers_last}
 use Rattle.arj_joint_law.proofs.outcomes.seen_runs_exclude_in_time.Goals as goal
 
 pub returns-clause-runs : goal.returns-clause-runs
 returns-clause-runs c = seen_runs_in_time
+
+pub returns-clause-begins : goal.returns-clause-begins
+returns-clause-begins c = commits_begin
 
 pub returns-clause-calls : goal.returns-clause-calls
 returns-clause-calls c = runs_in_time_by_calls
