@@ -26,7 +26,7 @@ use Rattle.arj_disk_view_law.specs.Sees.{IsLater, Kinds, SeesDisks}
 use Rattle.arj_names_view_law.specs.Both.{OnlyFound, SeesBoth}
 use Rattle.arj_names_view_law.specs.Handlers.{Answering, Change, Changes, Deciding, Quietly, change_by}
 use Rattle.arj_binding_law.specs.Scripts.{most_events}
-use Rattle.arj_disk_run_law.specs.Heard.{SeesHeard}
+use Rattle.arj_disk_run_law.specs.Rest.{SeesCarried}
 use Rattle.arj_disk_run_law.specs.Bindings.{AreGoodCounted}
 use Rattle.arj_disk_run_law.specs.Part.{Going, HasHeard, IsCarried, KeepsPart, are_recorded, going_of}
 use Rattle.arj_disk_run_law.specs.Kinds.{kinds_of}
@@ -315,4 +315,4 @@ pub runs_are_journalled : RunsAreJournalled
 runs_are_journalled hd x part parts es short = journalled hd x IsGood (λ tops A M. part tops A M ≡ true) (parts_good hd) parts es short
 
 pub heard_runs_are_journalled : HeardRunsAreJournalled
-heard_runs_are_journalled hd x test has rest es short = journalled hd x (λ M. AreGoodCounted M × (test M ≡ true)) (SeesHeard x) (counted_with hd x test rest) (heard_part hd x test has rest) es short
+heard_runs_are_journalled hd x test has rest es short = journalled hd x (λ M. AreGoodCounted M × (test M ≡ true)) (SeesCarried x) (counted_with hd x test rest) (heard_part hd x test has rest) es short

@@ -42,13 +42,12 @@ use Rattle.arj_call_law.proofs.WholeRuns.{WhileFew, few_go}
 use Rattle.arj_binding_law.specs.Scripts.{most_events}
 use Rattle.arj_binding_law.proofs.Events.{scripts_few}
 use Rattle.arj_disk_run_law.specs.Entries.{HaveEntries, IsInStep, KnowsEntries}
-use Rattle.arj_disk_run_law.specs.Heard.{SeesHeard}
 use Rattle.arj_disk_run_law.specs.Kinds.{Agrees, AreOfTops, kinds_of}
 use Rattle.arj_disk_run_law.specs.Part.{HoldsAgain, HoldsFrom, IsCarried, KeepsPart, are_recorded}
 use Rattle.arj_disk_run_law.specs.Runs.{CopiesAgree, HeardRunsAgree, RunsAgree}
 use Rattle.arj_disk_view_law.specs.Formats.{HasObject}
 use Rattle.arj_disk_run_law.specs.Bindings.{AreGoodCounted}
-use Rattle.arj_disk_run_law.specs.Rest.{IsKnownWith, KeepsHeard}
+use Rattle.arj_disk_run_law.specs.Rest.{IsKnownWith, KeepsHeard, SeesCarried}
 use Rattle.arj_disk_run_law.proofs.Begun.{kinds_agree}
 use Rattle.arj_disk_run_law.proofs.Bindings.{good_counted, names_own, records_free_in}
 use Rattle.arj_disk_run_law.proofs.Copies.{copies_agree}
@@ -152,7 +151,7 @@ pub runs_agree : RunsAgree
 runs_agree hd x part parts es short = agree_beside hd x IsGood (λ tops A M. part tops A M ≡ true) (parts_good hd) parts es short
 
 -- what is kept beside, where naming's bindings are its own
-pub heard_part : (hd : Header) (x : ℕ) (test : Seen → Bool) → HasObject hd x → KeepsHeard hd x test → KeepsPart hd x (IsKnownWith test) (SeesHeard x)
+pub heard_part : (hd : Header) (x : ℕ) (test : Seen → Bool) → HasObject hd x → KeepsHeard hd x test → KeepsPart hd x (IsKnownWith test) (SeesCarried x)
 heard_part hd x test has rest = heard_kept hd x (IsKnownWith test) (λ M r. ((let g = r.0.0 in g.0.0.0), r.1)) (λ M r. let g = r.0.0 in (names_own M g r.1, g.0.0.1, records_free_in M g r.1)) has rest.naming
 
 -- with a test that is kept nodes are good and bindings counted
@@ -160,4 +159,4 @@ pub counted_with : (hd : Header) (x : ℕ) (test : Seen → Bool) → KeepsHeard
 counted_with hd x test rest = kept_both hd AreGoodCounted (λ M. test M ≡ true) (good_counted hd) (keeps_given hd AreGoodCounted (λ M. test M ≡ true) rest.kept)
 
 pub heard_runs_agree : HeardRunsAgree
-heard_runs_agree hd x test has rest es short = agree_beside hd x (λ M. AreGoodCounted M × (test M ≡ true)) (SeesHeard x) (counted_with hd x test rest) (heard_part hd x test has rest) es short
+heard_runs_agree hd x test has rest es short = agree_beside hd x (λ M. AreGoodCounted M × (test M ≡ true)) (SeesCarried x) (counted_with hd x test rest) (heard_part hd x test has rest) es short

@@ -14,6 +14,7 @@ use Rattle.arj_protocol.proofs.Numbers.{number_tells}
 use Rattle.arj_run_law.specs.Worlds.{IsGood}
 use Rattle.arj_call_law.specs.Runs.{KnowsFew}
 use Rattle.arj_coord_law.specs.Uses.{KnowsUses}
+use Rattle.arj_disk_law.specs.Effects.{World}
 use Rattle.arj_disk_law.specs.Names.{Office}
 use Rattle.arj_disk_law.specs.State.{Hold, State}
 use Rattle.arj_disk_law.proofs.Base.{never}
@@ -31,6 +32,7 @@ use Rattle.arj_disk_run_law.specs.Bindings.{NamesOwn}
 use Rattle.arj_disk_run_law.specs.Heard.{ClaimsAsked, ClaimsGrants, SeesHeard}
 use Rattle.arj_disk_run_law.specs.Part.{HasHeard, HoldsAlong, HoldsFrom}
 use Rattle.arj_disk_run_law.specs.Sound.{IsOwnVote}
+use Rattle.arj_disk_run_law.specs.Versions.{HaveVersions, IsKnownVersion}
 use Rattle.arj_disk_run_law.specs.Rest.{GivesNaming, IsHeardAt, answers_commit}
 use Rattle.arj_disk_run_law.proofs.HeardAsk.{Served_by, ask_heard}
 use Rattle.arj_disk_run_law.proofs.HeardCalled.{heard_called}
@@ -113,7 +115,7 @@ heard_message x R runs gives tops e k d t v from m outs M A of at own free uses 
     by (Some b) asking =
         let mine : (n : Naming) → t.naming ≡ Some n → (k ≡ 1) × NamesOwn n = λ n named. ((let w = at.knows in w.naming_here n named).0, own n named) in
         let s : Served_by x tops e k d t v from m outs M (runs _ at.run).0 (runs _ at.run).1 mine b.0 b.1 sent asking A at.both at.heard (change_by x d t m) = ask_heard x tops e k d t v from m outs M (runs _ at.run).0 (runs _ at.run).1 mine b.0 b.1 sent asking A at.both at.heard is in
-        let now : IsHeardAt x R tops s.office (k, d, t) M = record { unwalked = at.unwalked; knows = at.knows; run = at.run; both = s.sees; heard = s.heard } in (
+        let now : IsHeardAt x R tops s.office (k, d, t) M = record { unwalked = at.unwalked; knows = at.knows; run = at.run; both = s.sees; heard = s.heard; versions = subst (λ (W : World). HaveVersions x (IsKnownVersion W.disk) (up k d t M)) (sym (let z = s.only in z.world)) at.versions } in (
           record { office = s.office; only = s.only; both = s.sees; along = s.along },
           like_goes_on x tops k d t M s.office at.knows s.sees v.coord s.like,
           λ n named. (may_record x R gives tops k d t n from m M s.office now sent named of free, for_grants x R gives tops k d t n from m M s.office now sent named of free),
@@ -127,7 +129,7 @@ heard_message x R runs gives tops e k d t v from m outs M A of at own free uses 
         with_answers (Some a) answering = by_doing (answers_commit a.0 t.coord) refl
           where
             by_doing : (b : Bool) → answers_commit a.0 t.coord ≡ b → (h : HasHeard (SeesHeard x) x tops (change_by x d t m) A (record { event = e; node = k; disk = d; before = t; outs = outs; after = v }, M)) × MayGoOn x h.office v.coord × ((n : Naming) → t.naming ≡ Some n → MayRecord x d n m h.office × IsForGrants x d n m h.office)
-            by_doing true commits = let r = heard_answer x R runs gives tops e k d t v from m a.0 a.1 outs M A at uses sent owned none answering commits is in (r.0, r.1, λ n named. nothing n r.0.office)
+            by_doing true commits = let r = heard_answer x R runs tops e k d t v from m a.0 a.1 outs M A at uses sent owned none answering commits is in (r.0, r.1, λ n named. nothing n r.0.office)
             by_doing false calls = let r = heard_called x tops e k d t M A (runs _ at.run).0 (runs _ at.run).1 at.knows at.both at.heard v from m a.0 a.1 outs sent none answering calls is in (r.0, r.1, λ n named. nothing n r.0.office)
         with_answers None also =
             let g = other_heard x tops e k d t v from m outs M A at.both at.heard none also is in (

@@ -7,7 +7,7 @@ use Rattle.arj_protocol.specs.Words.cause
 use Rattle.arj_protocol.specs.Words.prepared
 use Rattle.arj_protocol.specs.Words.voted
 use Rattle.arj_protocol.specs.Ask.{Reply, answers, top_of}
-use Rattle.arj_protocol.specs.Asking.{moved_commit, waits_for_commit}
+use Rattle.arj_protocol.specs.Asking.{moved_commit}
 use Rattle.arj_protocol.specs.Commit as commit
 use Rattle.arj_protocol.specs.Commit.{Aborts, Preparing, Used, Voting, changed_of, marks_store, plainly, plan_of, stores_left, targets_of, votes_left, with_states}
 use Rattle.arj_protocol.specs.Coord.{Committing, Coord, Doing, doing_of}
@@ -37,7 +37,6 @@ use Rattle.arj_names_view_law.specs.Handlers.{MayGoOn, Quietly}
 use Rattle.arj_names_view_law.proofs.DecidedRoots.{found_among}
 use Rattle.arj_disk_run_law.specs.Heard.{SeesHeard, SeesPlan}
 use Rattle.arj_disk_run_law.specs.Part.{HasHeard, going_of}
-use Rattle.arj_disk_run_law.specs.Rest.{EndsVotes}
 use Rattle.arj_disk_run_law.specs.Sound.{AreOwnStates}
 use Rattle.arj_disk_run_law.proofs.Given.{listed}
 use Rattle.arj_disk_run_law.proofs.HeardCommits.{goes_step}
@@ -60,8 +59,7 @@ module _ (x : ℕ) (tops : Kinds) (e k : ℕ) (d : Disk) (t : Parts) (M : Seen) 
   -- ---- a vote
 
   module _ (p : commit.Plan) (left : List ℕ) (now : q.now ≡ Committing (Voting p left)) (from : ℕ) (m : Message) (a : Asked) (states : List ObjectState) (posted : In (record { from = from; to = k; message = m }) M.sent) (answering : answers m ≡ Some (a, Reply.Voted (voted.Yes states))) (act : a.act ≡ u) (own : AreOwnStates a.act states)
-      (waits : waits_for_commit from a (Reply.Voted (voted.Yes states)) (Voting p left) ≡ true)
-      (gives : (z : commit.Plan) (st : ObjectState) → EndsVotes k t M.sent u z → changed_of x z ≡ Some st → IsBased A.world.disk (packed st)) where
+      (gives : (st : ObjectState) → changed_of x (record p { changed = with_states states p.changed }) ≡ Some st → IsBased A.world.disk (packed st)) where
     abbrev Next : commit.Plan
     Next = record p { changed = with_states states p.changed }
 
@@ -114,7 +112,7 @@ module _ (x : ℕ) (tops : Kinds) (e k : ℕ) (d : Disk) (t : Parts) (M : Seen) 
         let it : changed_of x Next ≡ Some st = ap (λ ss. find (λ (s : ObjectState). uid_eq s.uid (object x)) ss) (sym g.changed) ∙ found in
         let there = found_among (λ s. uid_eq s.uid (object x)) (with_states states p.changed) st it in
         let c = plan_voted.changed w st (ap (used_at x) (sym g.used) ∙ used) there.0 (uid_is st.uid (object x) there.1) in
-        let b = gives Next st (record { from = from; message = m; asked = a; states = states; doing = q; before = p; left = left; posted = posted; answer = answering; act = act; at_work = at_work; now = now; waits = waits; last = last; plan = refl }) it in
+        let b = gives st it in
         (c.0, b, c.1, λ same. nobody_acts (number_tells nobody u (sym h.first ∙ same)))))
         [] [] (votes_left [] Next) (λ v. tt) g.kind
 

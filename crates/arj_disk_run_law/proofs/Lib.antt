@@ -69,3 +69,9 @@ pub mod FirstCommits
 pub mod SoundPlans
 pub mod Telling
 pub mod TopPaths
+pub mod StateCoords
+pub mod StateTicks
+pub mod StateWider
+pub mod VersionNodes
+pub mod VersionServers
+pub mod VersionWalks

@@ -9,3 +9,5 @@ pub mod Records
 pub mod Rest
 pub mod Runs
 pub mod Sound
+pub mod States
+pub mod Versions

@@ -50,7 +50,8 @@ use Rattle.arj_serial_law.specs.Tied.{AreTied}
 use Rattle.arj_joint_law.specs.Excluded.{AreExcludedInTime, AreSeenByCalls, AreSeenInTime, CommitsBeginIt, IsBehindIncludes, RunsExcludeInTimeByCalls, IsInTime, IsNew, IsNewest, IsSeenSo, IsTakenOut, NodesHaveForm, SeenRunsExcludeInTime, uid_of}
 use Rattle.arj_joint_law.proofs.CommitCalls.{commits_begin}
 use Rattle.arj_joint_law.proofs.NewWriters.{new_writers_last}
-use Rattle.arj_joint_law.specs.Forms.{AreSo, OfClass, Own, kind_of}
+use Rattle.arj_disk_run_law.specs.States.{Own}
+use Rattle.arj_joint_law.specs.Forms.{AreSo, OfClass, kind_of}
 use Rattle.arj_joint_law.proofs.FormRuns.{kept_forms}
 
 all_among : (P : ObjectState → Type 0) (ss : List ObjectState) (st : ObjectState) → AllByRecursion P ss → Among st ss → P st

@@ -6,7 +6,7 @@ use Rattle.std.proofs.lemmas.Bool.{and_parts}
 use Rattle.arj_base.specs.Uid.{entry, object}
 use Rattle.arj_protocol.proofs.PartSays.{activate_own, ends_own, invoke_own, vote_own}
 use Rattle.arj_protocol.proofs.Payloads.{entry_back}
-use Rattle.arj_protocol.specs.Words.{Ask, Asked, ConfirmedReply, End, Entry, Head, Header, Message, ObjectState, Path, Row, Uid, VotedReply, asks, class_of, entry_payload, is_on, last_uid}
+use Rattle.arj_protocol.specs.Words.{Ask, Asked, ConfirmedReply, End, Entry, Head, Header, Message, ObjectState, Path, Uid, VotedReply, asks, class_of, entry_payload, is_on}
 use Rattle.arj_protocol.specs.Words.ask
 use Rattle.arj_protocol.specs.Words.body
 use Rattle.arj_protocol.specs.Words.confirmed
@@ -18,27 +18,29 @@ use Rattle.arj_protocol.specs.Words.prepared
 use Rattle.arj_protocol.specs.Words.role
 use Rattle.arj_protocol.specs.Ask.{Reply, actor, answers, asked_by, last_end, response, top_of}
 use Rattle.arj_protocol.specs.Asking.{again_all, heard}
-use Rattle.arj_protocol.specs.Confirm.{Grants, Marks, back_lines, checked, confirm, confirm_entries, confirm_new, confirms, entries_after, entry_after, entry_state, has_all, lock_all, lock_in, prepared_by, same_nodes, stores_after, wanted}
+use Rattle.arj_protocol.specs.Confirm.{Grants, Marks, checked, confirm, confirm_entries, confirm_new, confirms, entries_after, entry_after, entry_state, has_all, lock_all, lock_in, prepared_by, same_nodes, stores_after, wanted}
 use Rattle.arj_protocol.specs.Coord.{Coord}
-use Rattle.arj_protocol.specs.Effect.{Abort, After, Already, Before, Commit, Did, Disk, Do, Effect, InDoubt, InPart, Intent, Look, Old, Pair, Prep, Prepare, PutInc, PutIntent, Ready, RemoveIntent, Say, Send, Served, Stop, Work, did_nothing, held_at, holder_of, is_prepared, moved, moved_some, new_states, pair_aborted, pair_committed, pair_in_part, pair_prepared, prepare_answer, reply, stopped, void, worked}
-use Rattle.arj_protocol.specs.Ending.{acked}
+use Rattle.arj_protocol.specs.Effect.{Abort, After, Already, Before, Commit, Did, Disk, Do, Effect, InDoubt, InPart, Look, Old, Pair, Prep, Prepare, PutInc, PutIntent, Ready, RemoveIntent, Say, Send, Served, Stop, Work, did_nothing, held_at, holder_of, is_prepared, moved, moved_some, new_states, pair_aborted, pair_committed, pair_in_part, pair_prepared, prepare_answer, reply, stopped, void, worked}
+use Rattle.arj_protocol.specs.Ending.{acked, answer_query}
 use Rattle.arj_protocol.specs.Follow.{tick_outs}
 use Rattle.arj_protocol.specs.Named.{Named, lock_lines}
 use Rattle.arj_protocol.specs.Naming as naming
 use Rattle.arj_protocol.specs.Naming.{Naming, end_entries, end_lines, end_orphans, is_over, orphans, own_entries, taken_end, told_new}
-use Rattle.arj_protocol.specs.Node.{Handled, Parts, Took, Void, ack_told, by_reply, coord_heard, end_states, handle, handle_answer, handle_ask, handle_ends, handle_other, holders, if_naming, answer_is_meant, ask_is_meant, asked_is_meant, is_earlier, is_meant, load_by, load_held, naming_told, prepare_by, prepared_actions, query_about, sends_answer, serve, served, store_told, with_coord, with_naming, with_server}
-use Rattle.arj_protocol.specs.Order.{at_number, at_uid, put_uid, uid_set, without_number}
+use Rattle.arj_protocol.specs.Node.{Handled, Parts, Took, Void, ack_told, by_reply, coord_heard, end_states, handle, handle_answer, handle_ask, handle_ends, handle_other, holders, if_naming, answer_is_meant, ask_is_meant, asked_is_meant, is_earlier, is_meant, load_by, load_held, naming_told, prepare_by, query_about, sends_answer, serve, served, store_told, with_coord, with_naming, with_server}
+use Rattle.arj_protocol.specs.Order.{at_number, at_uid, put_uid}
 use Rattle.arj_protocol.specs.Says.{AreAll, is_server_effect}
 use Rattle.arj_protocol.specs.Server as server
 use Rattle.arj_protocol.specs.Server.{Server}
-use Rattle.arj_protocol.specs.Step.{Node, hello_to, naming_at, naming_back, numbers_to, parts_in, recovered_records, restart_outs, tolds_again}
+use Rattle.arj_protocol.specs.Step.{Node, parts_in, restart_outs}
 use Rattle.arj_protocol.specs.Values.{state_entry, value_in}
 use Rattle.arj_part_law.proofs.Keys.{put_cases}
 use Rattle.arj_disk_view_law.proofs.HeardWalks.{is_say}
 use Rattle.arj_disk_view_law.proofs.ServedWalks.{bind_says, lock_says, note_says}
 use Rattle.arj_address_law.proofs.Lists.{all_append, all_at_uid, all_put, all_without}
-use Rattle.arj_joint_law.specs.Forms.{AllAreSo, AnsweredIsSo, AskIsSo, AskedIsSo, CoordIsSo, CopyIsSo, DiskIsSo, EffectIsSo, Kind, MessageIsSo, Own, PairIsSo, PartsAreSo, ReplyIsSo, WorkIsSo, listed, stored}
-use Rattle.arj_joint_law.proofs.FormCoords.{acks_so, hears_so, new_so, query_so, ticks_so, told_again_so}
+use Rattle.arj_disk_run_law.specs.States.{AllSay, AnsweredIsSo, AskIsSo, AskedIsSo, CoordIsSo, MayKeep, MessageIsSo, Own, PreparesNone, ReplyIsSo}
+use Rattle.arj_disk_run_law.proofs.StateCoords.{acks_so, hears_so, new_so, query_so}
+use Rattle.arj_disk_run_law.proofs.StateTicks as ticks
+use Rattle.arj_joint_law.specs.Forms.{AllAreSo, CopyIsSo, DiskIsSo, EffectIsSo, Kind, PairIsSo, PartsAreSo, WorkIsSo, listed, so_of, stored}
 use Rattle.arj_joint_law.proofs.FormServers as servers
 
 -- ---- pairs
@@ -113,11 +115,27 @@ module _ (k : Kind) where
 
   -- ---- effects
 
+  -- what a coordinator does
+  works_so : (w : Work) → PreparesNone w → WorkIsSo k w
+  works_so Look none = tt
+  works_so (PutInc i) none = tt
+  works_so (Prepare r u states) none = absurd none
+  works_so (Commit r u) none = tt
+  works_so (Abort r u) none = tt
+  works_so (PutIntent u i) none = tt
+  works_so (RemoveIntent u) none = tt
+
+  pub says_so : (es : List Effect) → AllSay (so_of k) es → AllAreSo k es
+  says_so [] all = tt
+  says_so (Send to m ∷ es) all = (all.0, says_so es all.1)
+  says_so (Say b ∷ es) all = (tt, says_so es all.1)
+  says_so (Do w ∷ es) all = (works_so w all.0, says_so es all.1)
+
+  pub keep : MayKeep (so_of k)
+  keep = record { loaded = λ u st its. its; voted = λ u st its. its }
+
   server_lines : (n : ℕ) (es : List Effect) → AreAll (is_server_effect n) es → AllAreSo k es
-  server_lines n [] own = tt
-  server_lines n (Say b ∷ es) own = (tt, server_lines n es (and_parts (is_server_effect n (Say b)) (list_all (is_server_effect n) es) own).1)
-  server_lines n (Send to m ∷ es) own = absurd (cc own)
-  server_lines n (Do w ∷ es) own = absurd (cc own)
+  server_lines n es own = says_so es (ticks.server_lines (so_of k) keep n es own)
 
   said_lines : (es : List Effect) → AreAll is_say es → AllAreSo k es
   said_lines [] own = tt
@@ -125,11 +143,7 @@ module _ (k : Kind) where
   said_lines (Send to m ∷ es) own = absurd (cc own)
   said_lines (Do w ∷ es) own = absurd (cc own)
 
-  queries : (us : List Uid) → AllAreSo k (map query_about us)
-  queries [] = tt
-  queries (u ∷ us) = ((tt, tt), queries us)
-
-  response_so : (from : ℕ) (a : Asked) (r : Reply) → ReplyIsSo (stored k) r → EffectIsSo k (Send from (response a r))
+  response_so : (from : ℕ) (a : Asked) (r : Reply) → ReplyIsSo (so_of k) r → EffectIsSo k (Send from (response a r))
   response_so from a (Reply.Bound r) its = (tt, its)
   response_so from a (Reply.Loaded r) its = (tt, its)
   response_so from a (Reply.Activated i) its = (tt, its)
@@ -228,12 +242,12 @@ module _ (k : Kind) where
     By (Void outs) = ⊤
     By (Took v outs) = PartsAreSo k v × AllAreSo k outs
 
-    answered : (h : Head) (v : Parts) (outs : List Effect) (o : Option Reply) → PartsAreSo k v → AllAreSo k outs → IfSome o (ReplyIsSo (stored k)) → By (sends_answer from h v outs o)
+    answered : (h : Head) (v : Parts) (outs : List Effect) (o : Option Reply) → PartsAreSo k v → AllAreSo k outs → IfSome o (ReplyIsSo (so_of k)) → By (sends_answer from h v outs o)
     answered h v outs None part all so = tt
     answered h v outs (Some r) part all so = (part, both outs (Send from (response (asked_by h) r) ∷ []) all (response_so from (asked_by h) r so, tt))
 
     -- an answer of another kind has no state
-    plain : {R : Type 0} (say : R → Reply) → ((r : R) → ReplyIsSo (stored k) (say r)) → (o : Option R) → IfSome (option_map say o) (ReplyIsSo (stored k))
+    plain : {R : Type 0} (say : R → Reply) → ((r : R) → ReplyIsSo (so_of k) (say r)) → (o : Option R) → IfSome (option_map say o) (ReplyIsSo (so_of k))
     plain say each None = tt
     plain say each (Some r) = each r
 
@@ -247,7 +261,7 @@ module _ (k : Kind) where
     named_so : (n : Naming) → PartsAreSo k (with_naming t n)
     named_so n = record { server = its.server; coord = its.coord }
 
-    asked : (h : Head) (a : Ask) → ask_is_meant t.server a ≡ true → AskIsSo (stored k) a → By (serve node d t from h a)
+    asked : (h : Head) (a : Ask) → ask_is_meant t.server a ≡ true → AskIsSo (so_of k) a → By (serve node d t from h a)
     asked h (ask.Bind x include avoid) meant so = with_it (λ o. served from h (with_naming t) Reply.Bound (naming.bind h.path x include avoid d.names o)) t.naming
         (λ m. let r = naming.bind h.path x include avoid d.names m in answered h (with_naming t r.part) r.outs (option_map Reply.Bound r.reply) (named_so r.part) (said_lines r.outs (bind_says h.path x include avoid d.names m)) (plain Reply.Bound (λ r. tt) r.reply))
     asked h (ask.Load x) meant so = load (holder_of (object x) d.store)
@@ -268,7 +282,7 @@ module _ (k : Kind) where
     asked h (ask.Invoke x b i ends o) meant so = let r = server.invoke node h x b i ends o t.server in answered h (with_server t r.part) r.outs (option_map Reply.Invoked r.reply) (served_so r.part (servers.invoke_so k real node h x b i ends o t.server its.server)) (server_lines node r.outs (invoke_own node h x b i ends o t.server)) (plain Reply.Invoked (λ r. tt) r.reply)
     asked h (ask.Vote i ties ends) meant so = let r = server.vote node h.path i ties ends t.server in let v = servers.vote_so k real node h.path i ties ends t.server its.server in answered h (with_server t r.part) r.outs (option_map Reply.Voted r.reply) (served_so r.part v.0) (server_lines node r.outs (vote_own node h.path i ties ends t.server)) (voted_so r.reply v.1)
       where
-        voted_so : (o : Option VotedReply) → IfSome o (λ v. ReplyIsSo (stored k) (Reply.Voted v)) → IfSome (option_map Reply.Voted o) (ReplyIsSo (stored k))
+        voted_so : (o : Option VotedReply) → IfSome o (λ v. ReplyIsSo (so_of k) (Reply.Voted v)) → IfSome (option_map Reply.Voted o) (ReplyIsSo (so_of k))
         voted_so None v = tt
         voted_so (Some r) v = v
     asked h (ask.Prepare states) meant so = each (is_prepared (actor h.path) d.store)
@@ -285,12 +299,12 @@ module _ (k : Kind) where
     asked h (ask.Confirm grants excluded included) meant so = with_it (λ o. served from h (with_naming t) Reply.Confirmed (confirm h.path grants excluded included d.names o)) t.naming
         (λ m. let r = confirm h.path grants excluded included d.names m in answered h (with_naming t r.part) r.outs (option_map Reply.Confirmed r.reply) (named_so r.part) (confirm_so h.path grants excluded included d.names m disk.names) (plain Reply.Confirmed (λ r. tt) r.reply))
 
-    coord_left : (r : Served Coord (Unit {0})) → CoordIsSo (stored k) r.part × AllAreSo k r.outs → By (coord_heard t r)
+    coord_left : (r : Served Coord (Unit {0})) → CoordIsSo (so_of k) r.part × AllSay (so_of k) r.outs → By (coord_heard t r)
     coord_left r so = by r.reply
       where
         by : (o : Option (Unit {0})) → By (by_reply (with_coord t r.part) r.outs o)
         by None = tt
-        by (Some u) = (record { server = its.server; coord = so.0 }, so.1)
+        by (Some u) = (record { server = its.server; coord = so.0 }, says_so r.outs so.1)
 
     ends_left : (ack : Bool) (ends : List (Uid × End)) (o : Option (Uid × End)) → By (handle_ends node d t from ack ends o)
     ends_left ack ends None = (its, tt)
@@ -316,9 +330,9 @@ module _ (k : Kind) where
 
     other : (m : Message) → By (handle_other node d t from m)
     other (message.Told m) = ends_left m.ack m.ends (last_end m.ends)
-    other (message.Acked m) = coord_left (acked from m.act d.intents t.coord) (acks_so k from m.act d.intents t.coord its.coord)
-    other (message.Query m) = (its, query_so k from m.act d.intents t.coord)
-    other (message.Hello m) = (record { server = its.server; coord = its.coord }, queries (filter (is_earlier m.node m.inc) (holders d t)))
+    other (message.Acked m) = coord_left (acked from m.act d.intents t.coord) (acks_so (so_of k) keep from m.act d.intents t.coord its.coord)
+    other (message.Query m) = (its, says_so (answer_query from m.act d.intents t.coord) (query_so (so_of k) keep from m.act d.intents t.coord))
+    other (message.Hello m) = (record { server = its.server; coord = its.coord }, says_so (map query_about (filter (is_earlier m.node m.inc) (holders d t))) (ticks.queries (so_of k) keep (filter (is_earlier m.node m.inc) (holders d t))))
     other (message.Bind m) = tt
     other (message.Bound m) = tt
     other (message.Load m) = tt
@@ -336,65 +350,27 @@ module _ (k : Kind) where
     other (message.Confirm m) = tt
     other (message.Confirmed m) = tt
 
-    handled : (m : Message) → is_meant t m ≡ true → MessageIsSo (stored k) m → By (handle node d t from m)
+    handled : (m : Message) → is_meant t m ≡ true → MessageIsSo (so_of k) m → By (handle node d t from m)
     handled m meant so = by (asks m) (and_parts (asked_is_meant t.server (asks m)) (answer_is_meant t.coord (answers m)) meant).0 so.0
       where
-        answer : (o : Option (Asked × Reply)) → AnsweredIsSo (stored k) o → By (handle_answer node d t from m o)
+        answer : (o : Option (Asked × Reply)) → AnsweredIsSo (so_of k) o → By (handle_answer node d t from m o)
         answer None its_reply = other m
-        answer (Some a) its_reply = coord_left (heard from a.0 a.1 d.intents t.coord) (hears_so k from a.0 a.1 d.intents t.coord its.coord its_reply)
+        answer (Some a) its_reply = coord_left (heard from a.0 a.1 d.intents t.coord) (hears_so (so_of k) keep from a.0 a.1 d.intents t.coord its.coord its_reply)
 
-        by : (o : Option (Head × Ask)) → asked_is_meant t.server o ≡ true → AskedIsSo (stored k) o → By (handle_ask node d t from m o)
+        by : (o : Option (Head × Ask)) → asked_is_meant t.server o ≡ true → AskedIsSo (so_of k) o → By (handle_ask node d t from m o)
         by None asked_meant its_ask = answer (answers m) so.1
         by (Some a) asked_meant its_ask = asked a.0 a.1 asked_meant its_ask
 
-    pub handled_so : (m : Message) (v : Parts) (outs : List Effect) → is_meant t m ≡ true → MessageIsSo (stored k) m → handle node d t from m ≡ Took v outs → PartsAreSo k v × AllAreSo k outs
+    pub handled_so : (m : Message) (v : Parts) (outs : List Effect) → is_meant t m ≡ true → MessageIsSo (so_of k) m → handle node d t from m ≡ Took v outs → PartsAreSo k v × AllAreSo k outs
     handled_so m v outs meant so is = subst By is (handled m meant so)
 
   -- ---- ticks and restarts
 
   pub tick_so : (n : Node) (t : Parts) → PartsAreSo k t → PartsAreSo k (with_coord t (again_all t.coord.doings t.coord).part) × AllAreSo k (tick_outs n t)
-  tick_so n t its =
-      let a = ticks_so k t.coord its.coord in
-      let q = again_all t.coord.doings t.coord in (
-        record { server = its.server; coord = a.0 },
-        both (q.outs ++ tolds_again t.coord.telling) (map query_about (holders n.disk t)) (both q.outs (tolds_again t.coord.telling) a.1 (told_again_so k t.coord.telling)) (queries (holders n.disk t)),
-      )
+  tick_so n t its = let a = ticks.tick_so (so_of k) keep n t its.coord in (record { server = its.server; coord = a.0 }, says_so (tick_outs n t) a.1)
 
   pub starts_so : (node inc : ℕ) (d : Disk) → PartsAreSo k (parts_in node inc d)
-  starts_so node inc d = record { server = tt; coord = new_so k node inc d.intents }
+  starts_so node inc d = record { server = tt; coord = new_so (so_of k) keep node inc d.intents }
 
   pub restart_so : (hd : Header) (node : ℕ) (d : Disk) → AllAreSo k (restart_outs hd node (d.inc + 1) d)
-  restart_so hd node d = both (first ++ second ++ tolds_again d.intents ++ asking) hellos (both (first ++ second ++ tolds_again d.intents) asking (both (first ++ second) (tolds_again d.intents) (both first second (tt, (tt, (tt, (tt, back (naming_at node (d.inc + 1) d.names))))) (tt, records d.intents)) (told_again_so k d.intents))
-      (queries (uid_set (prepared_actions d.store ++ prepared_actions d.names)))) (greets (without_number node (numbers_to hd.nodes)))
-    where
-      first : List Effect
-      first = Do Look ∷ Do (PutInc (d.inc + 1)) ∷ Say (body.Up node (d.inc + 1)) ∷ Do Look ∷ naming_back (naming_at node (d.inc + 1) d.names)
-
-      second : List Effect
-      second = Do Look ∷ recovered_records node d.intents
-
-      asking : List Effect
-      asking = map query_about (uid_set (prepared_actions d.store ++ prepared_actions d.names))
-
-      hellos : List Effect
-      hellos = map (hello_to node (d.inc + 1)) (without_number node (numbers_to hd.nodes))
-
-      row_lines : (rows : List Row) → AllAreSo k (map (λ (r : Row). Say (body.Granted 1 (last_uid r.holder) r.object r.mode)) rows)
-      row_lines [] = tt
-      row_lines (r ∷ rs) = (tt, row_lines rs)
-
-      object_lines : (objects : List (ℕ × Named)) → AllAreSo k (flat_map (λ (e : ℕ × Named). back_lines e.1) objects)
-      object_lines [] = tt
-      object_lines (e ∷ es) = both (back_lines e.1) (flat_map (λ (f : ℕ × Named). back_lines f.1) es) (row_lines (let o = e.1 in o.rows)) (object_lines es)
-
-      back : (o : Option Naming) → AllAreSo k (naming_back o)
-      back None = tt
-      back (Some n) = object_lines n.objects
-
-      records : (intents : List (Uid × Intent)) → AllAreSo k (recovered_records node intents)
-      records [] = tt
-      records (e ∷ es) = (tt, records es)
-
-      greets : (ns : List ℕ) → AllAreSo k (map (hello_to node (d.inc + 1)) ns)
-      greets [] = tt
-      greets (n ∷ ns) = ((tt, tt), greets ns)
+  restart_so hd node d = says_so (restart_outs hd node (d.inc + 1) d) (ticks.restart_so (so_of k) keep hd node d)

@@ -29,10 +29,11 @@ use Rattle.arj_view_law.proofs.Happens.{runs_hold}
 use Rattle.arj_disk_view_law.specs.Formats.{IsLine}
 use Rattle.arj_disk_view_law.proofs.FirstSeen.{first_at}
 use Rattle.arj_serial_law.specs.Cleaned.{HaveForm}
-use Rattle.arj_joint_law.specs.Forms.{AllAreSo, AreSo, CoordIsSo, DiskIsSo, FormsAreKept, Kind, MessageIsSo, NodeIsSo, Own, PartsAreSo, RunsHaveForm, kind_of, listed, stored}
+use Rattle.arj_disk_run_law.specs.States.{CoordIsSo, MessageIsSo, Own}
+use Rattle.arj_disk_run_law.proofs.StateCoords.{acts_so, begins_so}
+use Rattle.arj_joint_law.specs.Forms.{AllAreSo, AreSo, DiskIsSo, FormsAreKept, Kind, NodeIsSo, PartsAreSo, RunsHaveForm, kind_of, listed, so_of, stored}
 use Rattle.arj_joint_law.proofs.Firsts.{line_in, one_line}
-use Rattle.arj_joint_law.proofs.FormCoords.{acts_so, begins_so}
-use Rattle.arj_joint_law.proofs.FormNodes.{Held, handled_so, put_so, restart_so, starts_so, stopped_so, tick_so, worked_so}
+use Rattle.arj_joint_law.proofs.FormNodes.{Held, handled_so, keep, put_so, restart_so, says_so, starts_so, stopped_so, tick_so, worked_so}
 
 module _ (k : Kind) where
   abbrev Is : Node → Type 0
@@ -40,7 +41,7 @@ module _ (k : Kind) where
 
   -- of each node but this, and of all that was sent
   abbrev RestIsSo : ℕ → Seen → Type 0
-  RestIsSo n M = ((j : ℕ) (m : Node) → (j == n) ≡ false → M.nodes j ≡ Some m → Is m) × ((p : Post) → In p M.sent → MessageIsSo (stored k) p.message)
+  RestIsSo n M = ((j : ℕ) (m : Node) → (j == n) ≡ false → M.nodes j ≡ Some m → Is m) × ((p : Post) → In p M.sent → MessageIsSo (so_of k) p.message)
 
   rest : (n : ℕ) (d : Disk) (live : Option Parts) (M : Seen) → AreSo k (at n d live M) → RestIsSo n M
   rest n d live M all = (λ j m apart is. all.0 j m ((λ i. cond (apart i) (Some (record { number = n; disk = d; live = live })) (M.nodes j)) ∙ is), all.1)
@@ -71,9 +72,9 @@ module _ (k : Kind) where
   walk e n (Say b ∷ es) v d M disk its outs all = walk e n es v d (said e (b ∷ []) M) disk its outs.1 all
   walk e n (Send to m ∷ es) v d M disk its outs all = λ more quiet.
       walk e n es v d (said e more (posted (record { from = n; to = to; message = m }) M)) disk its outs.1
-      (all.0, λ p. ⊎_elim (λ same. subst (λ (q : Post). MessageIsSo (stored k) q.message) same outs.0) (λ old. all.1 p old))
+      (all.0, λ p. ⊎_elim (λ same. subst (λ (q : Post). MessageIsSo (so_of k) q.message) same outs.0) (λ old. all.1 p old))
 
-  with_it : (t : Parts) (c : Coord) → PartsAreSo k t → CoordIsSo (stored k) c → PartsAreSo k (with_coord t c)
+  with_it : (t : Parts) (c : Coord) → PartsAreSo k t → CoordIsSo (so_of k) c → PartsAreSo k (with_coord t c)
   with_it t c its so = record { server = its.server; coord = so }
 
 -- ---- classes
@@ -167,13 +168,13 @@ module _ (hd : Header) (x : ℕ) (form : HeaderInForm hd) where
     act = λ e n d t i M is free all.
         let o = own k n d (Some t) M all in
         let did = acts i d.intents t.coord in
-        let a = acts_so k i d.intents t.coord (let p = o.1 in p.coord) in
-        walk k e n did.outs (with_coord t did.part) d M o.0 (with_it k t did.part o.1 a.0) a.1 (rest k n d (Some t) M all);
+        let a = acts_so (so_of k) (keep k) i d.intents t.coord (let p = o.1 in p.coord) in
+        walk k e n did.outs (with_coord t did.part) d M o.0 (with_it k t did.part o.1 a.0) (says_so k did.outs a.1) (rest k n d (Some t) M all);
     begin = λ e n d t l how parent M new may free all.
         let o = own k n d (Some t) M all in
         let did = begin_action l how parent (parent_of parent t.coord) t.coord in
-        let a = begins_so k l how parent (parent_of parent t.coord) t.coord (let p = o.1 in p.coord) in
-        walk k e n did.outs (with_coord t did.part) d (given l (record { node = n; serial = is_serial_kind how }) M) o.0 (with_it k t did.part o.1 a.0) a.1 (rest k n d (Some t) M all);
+        let a = begins_so (so_of k) (keep k) l how parent (parent_of parent t.coord) t.coord (let p = o.1 in p.coord) in
+        walk k e n did.outs (with_coord t did.part) d (given l (record { node = n; serial = is_serial_kind how }) M) o.0 (with_it k t did.part o.1 a.0) (says_so k did.outs a.1) (rest k n d (Some t) M all);
     tick = λ e n d t M all.
         let o = own k n d (Some t) M all in
         let y : Node = record { number = n; disk = d; live = Some t } in

@@ -17,7 +17,8 @@ use Rattle.arj_protocol.specs.Values.{value_in}
 use Rattle.arj_part_law.proofs.LivesNamed.{keyed_each, keyed_found, keyed_put}
 use Rattle.arj_address_law.proofs.Lists.{all_filter}
 use Rattle.arj_serial_law.proofs.Cleaning.{class_after}
-use Rattle.arj_joint_law.specs.Forms.{CopyIsSo, IsCopyOf, Kind, Own, ReplyIsSo, stored}
+use Rattle.arj_disk_run_law.specs.States.{Own, ReplyIsSo}
+use Rattle.arj_joint_law.specs.Forms.{CopyIsSo, IsCopyOf, Kind, so_of, stored}
 
 module _ (k : Kind) (real : (bytes : List ℕ) → class_of (value_in k.class bytes) ≡ k.class) where
   abbrev Q : ObjectState → Type 0
@@ -163,7 +164,7 @@ module _ (k : Kind) (real : (bytes : List ℕ) → class_of (value_in k.class by
       by (Some o) ih = ((λ same. (all.0 (ap (λ (u : Uid). u.num) same)).base), ih)
 
   abbrev Votes : Served Server VotedReply → Type 0
-  Votes r = All r.part × IfSome r.reply (λ v. ReplyIsSo (stored k) (Reply.Voted v))
+  Votes r = All r.part × IfSome r.reply (λ v. ReplyIsSo (so_of k) (Reply.Voted v))
 
   pub vote_so : (n : ℕ) (p : Path) (i : ℕ) (ties : List (ℕ × Binding)) (ends : List (Uid × End)) (s : Server) → All s → Votes (vote n p i ties ends s)
   vote_so n p i ties ends s all = by (has_ended p s)

@@ -2,7 +2,6 @@ pub mod Beginning
 pub mod Called
 pub mod Clean
 pub mod Firsts
-pub mod FormCoords
 pub mod FormNodes
 pub mod FormRuns
 pub mod FormServers

@@ -20,7 +20,7 @@ use Rattle.arj_run_law.specs.Worlds.{IsGood}
 use Rattle.arj_run_law.proofs.AllRuns.{all_keep as parts_good}
 use Rattle.arj_disk_view_law.specs.Sees.{Kinds}
 use Rattle.arj_disk_run_law.specs.Bindings.{AreGoodCounted}
-use Rattle.arj_disk_run_law.specs.Heard.{SeesHeard}
+use Rattle.arj_disk_run_law.specs.Rest.{SeesCarried}
 use Rattle.arj_disk_run_law.specs.Part.{KeepsPart}
 use Rattle.arj_disk_run_law.proofs.BothEach.{counted_with, heard_part}
 use Rattle.arj_line_law.specs.Book.{book, is_top, new_book}
@@ -79,7 +79,7 @@ ordered_beside hd x R P form there kept parts es short =
     }
 
 pub runs_are_ordered : RunsAreOrdered
-runs_are_ordered hd x test form there rest es short = ordered_beside hd x (λ M. AreGoodCounted M × (test M ≡ true)) (SeesHeard x) form there (counted_with hd x test rest) (heard_part hd x test (line_there hd x form there).0 rest) es short
+runs_are_ordered hd x test form there rest es short = ordered_beside hd x (λ M. AreGoodCounted M × (test M ≡ true)) (SeesCarried x) form there (counted_with hd x test rest) (heard_part hd x test (line_there hd x form there).0 rest) es short
 
 pub runs_are_ordered_beside : RunsAreOrderedBeside
 runs_are_ordered_beside hd x part form there parts es short = ordered_beside hd x IsGood (λ tops A M. part tops A M ≡ true) form there (parts_good hd) parts es short

@@ -35,51 +35,54 @@ use Rattle.arj_part_law.proofs.GoodTrees.{get_more, placed}
 use Rattle.arj_part_law.proofs.LivesNamed.{all_at, all_found, all_put as all_put_number}
 use Rattle.arj_part_law.proofs.Settled.{doing_other, doing_put, end_tree_on}
 use Rattle.arj_address_law.proofs.Lists.{all_append, all_filter, all_some}
-use Rattle.arj_joint_law.specs.Forms.{AllAreSo, AskIsSo, AtIsSo, CoordIsSo, EndIsSo, Kind, MessageIsSo, NowIsSo, Own, PlanIsSo, ReplyIsSo, RootIsSo, StepIsSo, stored}
+use Rattle.arj_disk_run_law.specs.States.{AllSay, AskIsSo, AtIsSo, CoordIsSo, EndIsSo, Fits, MayKeep, MessageIsSo, NowIsSo, Own, PlanIsSo, ReplyIsSo, RootIsSo, StepIsSo}
 
-module _ (k : Kind) where
+module _ (F : Fits) (keep : MayKeep F) where
+  abbrev V : ObjectState → Type 0
+  V st = Own F.voted st
+
   abbrev Q : ObjectState → Type 0
-  Q st = Own (stored k) st
+  Q st = Own F.kept st
 
   -- ---- effects
 
-  both : (es fs : List Effect) → AllAreSo k es → AllAreSo k fs → AllAreSo k (es ++ fs)
+  both : (es fs : List Effect) → AllSay F es → AllSay F fs → AllSay F (es ++ fs)
   both es fs a b = all_append _ es fs a b
 
-  flat : {A : Type 0} (f : A → List Effect) (items : List A) → ((x : A) → AllAreSo k (f x)) → AllAreSo k (flat_map f items)
+  flat : {A : Type 0} (f : A → List Effect) (items : List A) → ((x : A) → AllSay F (f x)) → AllSay F (flat_map f items)
   flat f [] each = tt
   flat f (x ∷ xs) each = both (f x) (flat_map f xs) (each x) (flat f xs each)
 
-  lines : (u : Uid) (f : Label → Body) (d : Coord) → AllAreSo k (says u f d)
+  lines : (u : Uid) (f : Label → Body) (d : Coord) → AllSay F (says u f d)
   lines u f d = by (doing_of u d)
     where
-      by : (o : Option Doing) → AllAreSo k (say_for f o)
+      by : (o : Option Doing) → AllSay F (say_for f o)
       by None = tt
       by (Some x) = (tt, tt)
 
-  tells : (root : Uid) (ack : Bool) (ends : List (Uid × End)) (nodes : List ℕ) → AllAreSo k (tell_all root ack ends nodes)
+  tells : (root : Uid) (ack : Bool) (ends : List (Uid × End)) (nodes : List ℕ) → AllSay F (tell_all root ack ends nodes)
   tells root ack ends [] = tt
   tells root ack ends (n ∷ ns) = ((tt, tt), tells root ack ends ns)
 
   -- ---- a root
 
-  none_root : RootIsSo (stored k) no_root
+  none_root : RootIsSo F no_root
   none_root = record { joined = tt; states = tt }
 
-  root_so : (root : Uid) (c : Coord) → CoordIsSo (stored k) c → RootIsSo (stored k) (root_at root c)
-  root_so root c so = all_at (RootIsSo (stored k)) no_root none_root root.num c.roots so.roots
+  root_so : (root : Uid) (c : Coord) → CoordIsSo F c → RootIsSo F (root_at root c)
+  root_so root c so = all_at (RootIsSo F) no_root none_root root.num c.roots so.roots
 
-  went_so : (w : Went) (r : Root) → RootIsSo (stored k) r → RootIsSo (stored k) (with_went w r)
+  went_so : (w : Went) (r : Root) → RootIsSo F r → RootIsSo F (with_went w r)
   went_so w r so = by (list_any (same_went w) r.went)
     where
-      by : (b : Bool) → RootIsSo (stored k) (cond b r (record r { went = r.went ++ w ∷ [] }))
+      by : (b : Bool) → RootIsSo F (cond b r (record r { went = r.went ++ w ∷ [] }))
       by true = so
       by false = record { joined = so.joined; states = so.states }
 
-  said_so : (s : Said) (r : Root) → RootIsSo (stored k) r → RootIsSo (stored k) (with_said s r)
+  said_so : (s : Said) (r : Root) → RootIsSo F r → RootIsSo F (with_said s r)
   said_so s r so = by (list_any (same_said s) r.said)
     where
-      by : (b : Bool) → RootIsSo (stored k) (cond b r (record r { said = r.said ++ s ∷ [] }))
+      by : (b : Bool) → RootIsSo F (cond b r (record r { said = r.said ++ s ∷ [] }))
       by true = so
       by false = record { joined = so.joined; states = so.states }
 
@@ -98,70 +101,70 @@ module _ (k : Kind) where
       by true ih = (later_so i.loaded j.loaded all.0 its, all.1)
       by false ih = (all.0, ih)
 
-  keep_so : (x : ℕ) (q : Keeping) (r : Root) → RootIsSo (stored k) r → RootIsSo (stored k) (with_keeping x q r)
+  keep_so : (x : ℕ) (q : Keeping) (r : Root) → RootIsSo F r → RootIsSo F (with_keeping x q r)
   keep_so x q r so = record { joined = so.joined; states = so.states }
 
-  heard_so : (s : Steps) (e : CallEnd) (r : Root) → EndIsSo (stored k) e → RootIsSo (stored k) r → RootIsSo (stored k) (root_heard s e r)
+  heard_so : (s : Steps) (e : CallEnd) (r : Root) → EndIsSo F e → RootIsSo F r → RootIsSo F (root_heard s e r)
   heard_so s (Answered a) r its so = said_so (record { path = uids_of s.path; x = s.x }) r so
-  heard_so s (Included st) r its so = record { joined = joined_so (record { path = uids_of s.path; x = s.x; store = store_of s.goal; loaded = st }) r.joined its so.joined; states = so.states }
+  heard_so s (Included st) r its so = record { joined = joined_so (record { path = uids_of s.path; x = s.x; store = store_of s.goal; loaded = st }) r.joined (keep.loaded st.uid st its) so.joined; states = so.states }
   heard_so s (Conflict h m n) r its so = so
   heard_so s (Changed n w) r its so = so
   heard_so s (Lost n b) r its so = so
 
-  granted_so : (o : Option Grant) (r : Root) → RootIsSo (stored k) r → RootIsSo (stored k) (notes_grant o r)
+  granted_so : (o : Option Grant) (r : Root) → RootIsSo F r → RootIsSo F (notes_grant o r)
   granted_so None r so = so
   granted_so (Some g) r so = record { joined = so.joined; states = so.states }
 
-  moved_so : (s : Steps) (r : Reply) (m : Moved) (q : Root) → RootIsSo (stored k) q → RootIsSo (stored k) (root_moved s r m q)
+  moved_so : (s : Steps) (r : Reply) (m : Moved) (q : Root) → RootIsSo F q → RootIsSo F (root_moved s r m q)
   moved_so s r m q so =
       let kept = keeping_of s.x q in
       keep_so s.x (keeps_after s.goal (has_changed m.step) m.kept kept) (notes_grant (granted_by (top_of s.path) s.x r) q) (granted_so (granted_by (top_of s.path) s.x r) q so)
 
-  lost_so : (s : Steps) (t : CallStep) (q : Root) → RootIsSo (stored k) q → RootIsSo (stored k) (root_lost s t q)
+  lost_so : (s : Steps) (t : CallStep) (q : Root) → RootIsSo F q → RootIsSo F (root_lost s t q)
   lost_so s t q so = let kept = keeping_of s.x q in keep_so s.x (keeps_after s.goal (is_ended t && spoils s.at) kept.kept kept) q so
 
   -- ---- from one coordinator to the next
 
-  on_root_so : (root : Uid) (f : Root → Root) (c : Coord) → ((r : Root) → RootIsSo (stored k) r → RootIsSo (stored k) (f r)) → CoordIsSo (stored k) c → CoordIsSo (stored k) (on_root root f c)
-  on_root_so root f c step so = record { works = so.works; roots = all_put_number (RootIsSo (stored k)) root.num (f (root_at root c)) c.roots (step (root_at root c) (root_so root c so)) so.roots }
+  on_root_so : (root : Uid) (f : Root → Root) (c : Coord) → ((r : Root) → RootIsSo F r → RootIsSo F (f r)) → CoordIsSo F c → CoordIsSo F (on_root root f c)
+  on_root_so root f c step so = record { works = so.works; roots = all_put_number (RootIsSo F) root.num (f (root_at root c)) c.roots (step (root_at root c) (root_so root c so)) so.roots }
 
-  on_do_so : (u : Uid) (f : Doing → Doing) (c : Coord) → ((d : Doing) → doing_of u c ≡ Some d → NowIsSo (stored k) (f d).now) → CoordIsSo (stored k) c → CoordIsSo (stored k) (on_doing u f c)
+  on_do_so : (u : Uid) (f : Doing → Doing) (c : Coord) → ((d : Doing) → doing_of u c ≡ Some d → NowIsSo F (f d).now) → CoordIsSo F c → CoordIsSo F (on_doing u f c)
   on_do_so u f c its so = by (doing_of u c) refl
     where
       some_is : (a b : Doing) → Some a ≡ Some b → a ≡ b
       some_is a b is = let e : ◌≡◌ {A = Option Doing} (Some a) (Some b) = is in cc
 
-      by : (o : Option Doing) → doing_of u c ≡ o → CoordIsSo (stored k) (change_doing f u c o)
+      by : (o : Option Doing) → doing_of u c ≡ o → CoordIsSo F (change_doing f u c o)
       by None missing = so
       by (Some old) found = record {
-        works = λ w d at. ⊎_elim (λ same. subst (λ (q : Doing). NowIsSo (stored k) q.now) (some_is (f old) d (sym (doing_put u (f old) old c found) ∙ ap (λ v. doing_of v (set_doing u (f old) c)) (sym same) ∙ at)) (its old found)) (λ other. so.works w d (sym (doing_other u w (f old) old c found other) ∙ at)) (uid_cases w u);
+        works = λ w d at. ⊎_elim (λ same. subst (λ (q : Doing). NowIsSo F q.now) (some_is (f old) d (sym (doing_put u (f old) old c found) ∙ ap (λ v. doing_of v (set_doing u (f old) c)) (sym same) ∙ at)) (its old found)) (λ other. so.works w d (sym (doing_other u w (f old) old c found other) ∙ at)) (uid_cases w u);
         roots = so.roots;
       }
 
-  on_tree_so : (c : Coord) (v : Tree) → ((u : Uid) → is_own u v ≡ is_own u c.tree) → CoordIsSo (stored k) c → CoordIsSo (stored k) (record c { tree = v })
+  on_tree_so : (c : Coord) (v : Tree) → ((u : Uid) → is_own u v ≡ is_own u c.tree) → CoordIsSo F c → CoordIsSo F (record c { tree = v })
   on_tree_so c v own so = record { works = λ u d at. so.works u d (sym (same u) ∙ at); roots = so.roots }
     where
       same : (u : Uid) → doing_of u (record c { tree = v }) ≡ doing_of u c
       same u = λ i. cond (own u i) (at_place u.num c.doings) None
 
-  idle_so : (u : Uid) (c : Coord) → CoordIsSo (stored k) c → CoordIsSo (stored k) (on_doing u (λ (d : Doing). record d { now = Idle }) c)
+  idle_so : (u : Uid) (c : Coord) → CoordIsSo F c → CoordIsSo F (on_doing u (λ (d : Doing). record d { now = Idle }) c)
   idle_so u c so = on_do_so u (λ (d : Doing). record d { now = Idle }) c (λ d found. tt) so
 
-  uses_so : (p : Path) (x : ℕ) (c : Coord) → CoordIsSo (stored k) c → CoordIsSo (stored k) (record c { tree = uses_object p x c.tree })
+  uses_so : (p : Path) (x : ℕ) (c : Coord) → CoordIsSo F c → CoordIsSo F (record c { tree = uses_object p x c.tree })
   uses_so p x c so = let same = uses_same p x c.tree in on_tree_so c (uses_object p x c.tree) same.own so
 
-  doomed_so : (u : Uid) (c : Coord) → CoordIsSo (stored k) c → CoordIsSo (stored k) (record c { tree = doomed_at u c.tree })
+  doomed_so : (u : Uid) (c : Coord) → CoordIsSo F c → CoordIsSo F (record c { tree = doomed_at u c.tree })
   doomed_so u c so = let same = doomed_same u c.tree in on_tree_so c (doomed_at u c.tree) same.own so
 
-  ended_so : (u : Uid) (e : End) (c : Coord) → CoordIsSo (stored k) c → CoordIsSo (stored k) (ended u e c)
+  ended_so : (u : Uid) (e : End) (c : Coord) → CoordIsSo F c → CoordIsSo F (ended u e c)
   ended_so u e c so = let g = end_tree_on u e c in idle_so u (record c { tree = ended_at u e c.tree }) (on_tree_so c (ended_at u e c.tree) g.own so)
 
   -- ---- requests
 
   abbrev IsDone : Did Coord → Type 0
-  IsDone d = CoordIsSo (stored k) d.part × AllAreSo k d.outs
+  IsDone d = CoordIsSo F d.part × AllSay F d.outs
 
-  request_so : (h : Head) (a : Ask) → AskIsSo (stored k) a → MessageIsSo (stored k) (request h a)
+  request_so : (h : Head) (a : Ask) → AskIsSo F a → MessageIsSo F (request h a)
   request_so h (ask.Bind x i avoid) its = (its, tt)
   request_so h (ask.Load x) its = (its, tt)
   request_so h (ask.Activate b st) its = (its, tt)
@@ -171,7 +174,7 @@ module _ (k : Kind) where
   request_so h (ask.Prepare states) its = (its, tt)
   request_so h (ask.Confirm g e i) its = (its, tt)
 
-  asks_so : (p : Path) (req : ℕ) (a : ℕ × Ask) (c : Coord) → CoordIsSo (stored k) c → AskIsSo (stored k) a.1 → IsDone (asks_node p req a c)
+  asks_so : (p : Path) (req : ℕ) (a : ℕ × Ask) (c : Coord) → CoordIsSo F c → AskIsSo F a.1 → IsDone (asks_node p req a c)
   asks_so p req a c so its = (
     on_root_so (root_of p) (with_went (record { path = uids_of p; node = a.0; invoke = is_invoke_ask a.1 })) c (λ r s. went_so (record { path = uids_of p; node = a.0; invoke = is_invoke_ask a.1 }) r s) so,
     (request_so (record { path = p; req = req }) a.1 its, tt),
@@ -179,24 +182,24 @@ module _ (k : Kind) where
 
   -- ---- calls
 
-  asked_at : (x : ℕ) (g : Goal) (ends : List (Uid × End)) (at : At) → AtIsSo (stored k) at → AskIsSo (stored k) (ask_at x g ends at)
+  asked_at : (x : ℕ) (g : Goal) (ends : List (Uid × End)) (at : At) → AtIsSo F at → AskIsSo F (ask_at x g ends at)
   asked_at x g ends (AtBind avoid) its = tt
   asked_at x g ends (AtLoad q n rest) its = tt
   asked_at x g ends (AtActivate q st) its = its
   asked_at x g ends (AtNote q i) its = tt
   asked_at x g ends (AtInvoke q i) its = tt
 
-  step_so : (s : Steps) (c : Coord) → CoordIsSo (stored k) c → AtIsSo (stored k) s.at → IsDone (asks_step s c)
+  step_so : (s : Steps) (c : Coord) → CoordIsSo F c → AtIsSo F s.at → IsDone (asks_step s c)
   step_so s c so its = asks_so s.path s.req (next_node s, next_ask (ends_of (root_of s.path) c.tree) s) c so (asked_at s.x s.goal (ends_of (root_of s.path) c.tree) s.at its)
 
-  goes_so : (s : Steps) (c : Coord) → CoordIsSo (stored k) c → AtIsSo (stored k) s.at → IsDone (goes_on s c)
+  goes_so : (s : Steps) (c : Coord) → CoordIsSo F c → AtIsSo F s.at → IsDone (goes_on s c)
   goes_so s c so its = step_so s (on_doing (actor s.path) (λ (d : Doing). record d { req = s.req; now = Calling s }) c) (on_do_so (actor s.path) (λ (d : Doing). record d { req = s.req; now = Calling s }) c (λ d found. its) so) its
 
-  start_so : (o : Option Known) (avoid : Binding) → AtIsSo (stored k) (start_at o avoid)
+  start_so : (o : Option Known) (avoid : Binding) → AtIsSo F (start_at o avoid)
   start_so None avoid = tt
   start_so (Some q) avoid = tt
 
-  call_so : (p : Path) (x : ℕ) (o : Op) (c : Coord) → CoordIsSo (stored k) c → IsDone (call p x o c)
+  call_so : (p : Path) (x : ℕ) (o : Op) (c : Coord) → CoordIsSo F c → IsDone (call p x o c)
   call_so p x o c so =
       let r = root_at (root_of p) c in
       let old = keeping_of x r in
@@ -205,20 +208,20 @@ module _ (k : Kind) where
       goes_so (call_steps p x o (next_req (actor p) c) r c kept) (on_root (root_of p) (with_keeping x kept) u) (on_root_so (root_of p) (with_keeping x kept) u (λ q its. keep_so x kept q its) (uses_so p x c so))
       (start_so (known_at_start (top_of p) x r c kept.kept) kept.avoid)
 
-  include_so : (p : Path) (x s : ℕ) (c : Coord) → CoordIsSo (stored k) c → IsDone (include p x s c)
+  include_so : (p : Path) (x s : ℕ) (c : Coord) → CoordIsSo F c → IsDone (include p x s c)
   include_so p x s c so = goes_so (start p x (calls.Include s) None unbound (next_req (actor p) c)) (record c { tree = uses_object p x c.tree }) (uses_so p x c so) tt
 
-  step_call_so : (s : Steps) (t : CallStep) (c : Coord) → CoordIsSo (stored k) c → StepIsSo (stored k) t → IsDone (step_call s t c)
+  step_call_so : (s : Steps) (t : CallStep) (c : Coord) → CoordIsSo F c → StepIsSo F t → IsDone (step_call s t c)
   step_call_so s (On at) c so its = goes_so (record s { req = s.req + 1; at = at }) c so its
   step_call_so s (Ended e) c so its = (by e, lines (actor s.path) (end_line s.x s.goal e) c)
     where
       i : Coord
       i = on_root (root_of s.path) (root_heard s e) (on_doing (actor s.path) (λ (d : Doing). record d { now = Idle }) c)
 
-      so_far : CoordIsSo (stored k) (on_root (root_of s.path) (root_heard s e) (on_doing (actor s.path) (λ (d : Doing). record d { now = Idle }) c))
+      so_far : CoordIsSo F (on_root (root_of s.path) (root_heard s e) (on_doing (actor s.path) (λ (d : Doing). record d { now = Idle }) c))
       so_far = on_root_so (root_of s.path) (root_heard s e) (on_doing (actor s.path) (λ (d : Doing). record d { now = Idle }) c) (λ r q. heard_so s e r its q) (idle_so (actor s.path) c so)
 
-      by : (g : CallEnd) → CoordIsSo (stored k) (doomed_by (actor s.path) g (on_root (root_of s.path) (root_heard s e) (on_doing (actor s.path) (λ (d : Doing). record d { now = Idle }) c)))
+      by : (g : CallEnd) → CoordIsSo F (doomed_by (actor s.path) g (on_root (root_of s.path) (root_heard s e) (on_doing (actor s.path) (λ (d : Doing). record d { now = Idle }) c)))
       by (Answered a) = so_far
       by (Included st) = so_far
       by (Conflict h x n) = so_far
@@ -229,9 +232,9 @@ module _ (k : Kind) where
   -- ---- answers to calls
 
   abbrev MovedIsSo : Moved → Type 0
-  MovedIsSo m = StepIsSo (stored k) m.step
+  MovedIsSo m = StepIsSo F m.step
 
-  with_so : (i : ℕ) (kept : Known) (at : At) (o : Option ℕ) → AtIsSo (stored k) at → MovedIsSo (with_inc i kept at o)
+  with_so : (i : ℕ) (kept : Known) (at : At) (o : Option ℕ) → AtIsSo F at → MovedIsSo (with_inc i kept at o)
   with_so i kept at None its = its
   with_so i kept at (Some first) its = by (first == i)
     where
@@ -239,7 +242,7 @@ module _ (k : Kind) where
       by true = its
       by false = tt
 
-  bound_by_so : (free : Bool) (q : Known) (at : At) (kept : Option Known) → AtIsSo (stored k) at → MovedIsSo (bound_by free q at kept)
+  bound_by_so : (free : Bool) (q : Known) (at : At) (kept : Option Known) → AtIsSo F at → MovedIsSo (bound_by free q at kept)
   bound_by_so free q at None its = its
   bound_by_so free q at (Some old) its = by (binding_eq old.binding q.binding)
     where
@@ -255,7 +258,7 @@ module _ (k : Kind) where
       by true = same q.inc
       by false = other (free && binding_less old.binding q.binding)
 
-  loads_so : (q : Known) (stores : List ℕ) → IfSome (load_from q stores) (AtIsSo (stored k))
+  loads_so : (q : Known) (stores : List ℕ) → IfSome (load_from q stores) (AtIsSo F)
   loads_so q [] = tt
   loads_so q (s ∷ ss) = tt
 
@@ -263,12 +266,12 @@ module _ (k : Kind) where
   bound_so free kept (bound.Live b server i n stores) = bound_by_so free (live_known b server i n stores) (AtInvoke (live_known b server i n stores) i) kept tt
   bound_so free kept (bound.Make b server n stores) = by (load_from (made_known b server n stores) stores) (loads_so (made_known b server n stores) stores)
     where
-      by : (o : Option At) → IfSome o (AtIsSo (stored k)) → MovedIsSo (made_by free (made_known b server n stores) kept o)
+      by : (o : Option At) → IfSome o (AtIsSo F) → MovedIsSo (made_by free (made_known b server n stores) kept o)
       by None its = tt
       by (Some at) its = bound_by_so free (made_known b server n stores) at kept its
   bound_so free kept (bound.Write n stores) = by (load_from (write_known n stores) stores) (loads_so (write_known n stores) stores)
     where
-      by : (o : Option At) → IfSome o (AtIsSo (stored k)) → MovedIsSo (or_lost kept o)
+      by : (o : Option At) → IfSome o (AtIsSo F) → MovedIsSo (or_lost kept o)
       by None its = tt
       by (Some at) its = its
   bound_so free kept (bound.Conflict holder m) = tt
@@ -290,12 +293,12 @@ module _ (k : Kind) where
   invoked_so q kept (invoked.Conflict holder m) = tt
   invoked_so q kept (invoked.Changed w) = tt
 
-  loaded_so : (kept : Option Known) (q : Known) (s : ℕ) (g : Goal) (r : LoadedReply) → ReplyIsSo (stored k) (Reply.Loaded r) → MovedIsSo (loaded_answer kept q s g r)
+  loaded_so : (kept : Option Known) (q : Known) (s : ℕ) (g : Goal) (r : LoadedReply) → ReplyIsSo F (Reply.Loaded r) → MovedIsSo (loaded_answer kept q s g r)
   loaded_so kept q s (calls.Run o) (loaded.State st) rs = rs
   loaded_so kept q s (calls.Include n) (loaded.State st) rs = rs
   loaded_so kept q s g (loaded.InDoubt holder) rs = tt
 
-  answered_so : (free : Bool) (kept : Option Known) (g : Goal) (at : At) (r : Reply) → AtIsSo (stored k) at → ReplyIsSo (stored k) r → MovedIsSo (answered free kept g at r)
+  answered_so : (free : Bool) (kept : Option Known) (g : Goal) (at : At) (r : Reply) → AtIsSo F at → ReplyIsSo F r → MovedIsSo (answered free kept g at r)
   answered_so free kept g (AtBind avoid) (Reply.Bound r) so rs = bound_so free kept r
   answered_so free kept g (AtLoad q s rest) (Reply.Loaded r) so rs = loaded_so kept q s g r rs
   answered_so free kept g (AtActivate q st) (Reply.Activated j) so rs = activated_so q j kept
@@ -337,7 +340,7 @@ module _ (k : Kind) where
   answered_so free kept g (AtInvoke q i) (Reply.Prepared r) so rs = so
   answered_so free kept g (AtInvoke q i) (Reply.Confirmed r) so rs = so
 
-  given_up_so : (at : At) → StepIsSo (stored k) (given_up at)
+  given_up_so : (at : At) → StepIsSo F (given_up at)
   given_up_so (AtBind avoid) = tt
   given_up_so (AtLoad q n []) = tt
   given_up_so (AtLoad q n (m ∷ ms)) = tt
@@ -345,35 +348,35 @@ module _ (k : Kind) where
   given_up_so (AtNote q i) = tt
   given_up_so (AtInvoke q i) = tt
 
-  heard_call_so : (s : Steps) (r : Reply) (c : Coord) → CoordIsSo (stored k) c → AtIsSo (stored k) s.at → ReplyIsSo (stored k) r → IsDone (heard_call s r c)
+  heard_call_so : (s : Steps) (r : Reply) (c : Coord) → CoordIsSo F c → AtIsSo F s.at → ReplyIsSo F r → IsDone (heard_call s r c)
   heard_call_so s r c so its rs =
       let m = answered (is_free (root_of s.path) (actor s.path) s.x c) (kept_at s c) s.goal s.at r in
       step_call_so s m.step (on_root (root_of s.path) (root_moved s r m) c) (on_root_so (root_of s.path) (root_moved s r m) c (moved_so s r m) so) (answered_so (is_free (root_of s.path) (actor s.path) s.x c) (kept_at s c) s.goal s.at r its rs)
 
   -- ---- ends
 
-  tolds_so : (intents : List (Uid × Intent)) (c : Coord) (u : Uid) → AllAreSo k (tolds_of intents c u)
+  tolds_so : (intents : List (Uid × Intent)) (c : Coord) (u : Uid) → AllSay F (tolds_of intents c u)
   tolds_so intents c u = by (branch_of u c.tree)
     where
-      kinds : (q : ActionKind) (p : Path) → AllAreSo k (tolds_by u q p intents c)
+      kinds : (q : ActionKind) (p : Path) → AllSay F (tolds_by u q p intents c)
       kinds kind.Nested p = tells (root_of p) false (up_to u (ends_of (root_of p) c.tree)) (servers_told u (root_at (root_of p) c) c)
       kinds kind.Serial p = tells u false ((u, ending.Abort) ∷ []) (filter (λ n. not (is_deferred u intents n)) (nodes_sent u (root_at u c)))
       kinds kind.Top p = tells (root_of p) false ((u, ending.Abort) ∷ []) (nodes_sent u (root_at (root_of p) c))
       kinds kind.Independent p = tells (root_of p) false ((u, ending.Abort) ∷ []) (nodes_sent u (root_at (root_of p) c))
       kinds kind.Constituent p = tells (root_of p) false ((u, ending.Abort) ∷ []) (nodes_sent u (root_at (root_of p) c))
 
-      by : (b : Option Branch) → AllAreSo k (tolds_of_branch u intents c b)
+      by : (b : Option Branch) → AllSay F (tolds_of_branch u intents c b)
       by None = tt
       by (Some b) = kinds b.kind b.path
 
-  ends_so : (u : Uid) (e : End) (f : Label → Body) (intents : List (Uid × Intent)) (c : Coord) → CoordIsSo (stored k) c → IsDone (ends_with u e f intents c)
+  ends_so : (u : Uid) (e : End) (f : Label → Body) (intents : List (Uid × Intent)) (c : Coord) → CoordIsSo F c → IsDone (ends_with u e f intents c)
   ends_so u e f intents c so = (ended_so u e c so, both (says u f c) (tolds_of intents (ended u e c) u) (lines u f c) (tolds_so intents (ended u e c) u))
 
-  all_so : (us : List Uid) (c : Coord) → CoordIsSo (stored k) c → IsDone (all_aborted us c)
+  all_so : (us : List Uid) (c : Coord) → CoordIsSo F c → IsDone (all_aborted us c)
   all_so [] c so = (so, tt)
   all_so (u ∷ us) c so = let r = all_so us (ended u ending.Abort c) (ended_so u ending.Abort c so) in (r.0, both (says u (λ l. body.Aborted l cause.Asked) c) _ (lines u (λ l. body.Aborted l cause.Asked) c) r.1)
 
-  abort_so : (u : Uid) (intents : List (Uid × Intent)) (c : Coord) → CoordIsSo (stored k) c → IsDone (abort_action u intents c)
+  abort_so : (u : Uid) (intents : List (Uid × Intent)) (c : Coord) → CoordIsSo F c → IsDone (abort_action u intents c)
   abort_so u intents c so =
       let us : List Uid = open_below u c.tree ++ u ∷ [] in
       let r = all_so us c so in
@@ -383,48 +386,48 @@ module _ (k : Kind) where
   -- ---- commits
 
   abbrev IsNext : CommitStep → Type 0
-  IsNext (Stays m) = PlanIsSo (stored k) (plan_of m)
-  IsNext (Asks m) = PlanIsSo (stored k) (plan_of m)
-  IsNext (Decides q) = PlanIsSo (stored k) q
+  IsNext (Stays m) = PlanIsSo F (plan_of m)
+  IsNext (Asks m) = PlanIsSo F (plan_of m)
+  IsNext (Decides q) = PlanIsSo F q
   IsNext (Aborts why q) = ⊤
 
-  confirm_step : (us : List Used) (q : Plan) → PlanIsSo (stored k) q → IsNext (begin_confirm us q)
+  confirm_step : (us : List Used) (q : Plan) → PlanIsSo F q → IsNext (begin_confirm us q)
   confirm_step [] q so = so
   confirm_step (u ∷ us) q so = record { used = so.used; changed = so.changed }
 
-  prepare_step : (ns : List ℕ) (q : Plan) → PlanIsSo (stored k) q → IsNext (begin_prepare ns q)
+  prepare_step : (ns : List ℕ) (q : Plan) → PlanIsSo F q → IsNext (begin_prepare ns q)
   prepare_step [] q so = confirm_step q.used q so
   prepare_step (n ∷ ns) q so = record { used = so.used; changed = so.changed }
 
-  vote_step : (ns : List ℕ) (q : Plan) → PlanIsSo (stored k) q → IsNext (begin_vote ns q)
+  vote_step : (ns : List ℕ) (q : Plan) → PlanIsSo F q → IsNext (begin_vote ns q)
   vote_step [] q so = prepare_step (targets_of q) q so
   vote_step (n ∷ ns) q so = record { used = so.used; changed = so.changed }
 
-  stores_step : (ns : List ℕ) (q : Plan) → PlanIsSo (stored k) q → IsNext (let m = stores_left ns q in m.step)
+  stores_step : (ns : List ℕ) (q : Plan) → PlanIsSo F q → IsNext (let m = stores_left ns q in m.step)
   stores_step [] q so = confirm_step q.used q so
   stores_step (n ∷ ns) q so = so
 
-  votes_step : (ns : List ℕ) (q : Plan) → PlanIsSo (stored k) q → IsNext (votes_left ns q)
+  votes_step : (ns : List ℕ) (q : Plan) → PlanIsSo F q → IsNext (votes_left ns q)
   votes_step [] q so = prepare_step (targets_of q) q so
   votes_step (n ∷ ns) q so = so
 
-  with_state_so : (s : ObjectState) (every : List ObjectState) → Q s → AllByRecursion Q every → AllByRecursion Q (with_state s every)
+  with_state_so : (s : ObjectState) (every : List ObjectState) → V s → AllByRecursion V every → AllByRecursion V (with_state s every)
   with_state_so s [] its all = (its, tt)
   with_state_so s (t ∷ ts) its all = by (nat_lt t.uid.num s.uid.num) (with_state_so s ts its all.1)
     where
-      by : (b : Bool) → AllByRecursion Q (with_state s ts) → AllByRecursion Q (cond b (t ∷ with_state s ts) (s ∷ t ∷ ts))
+      by : (b : Bool) → AllByRecursion V (with_state s ts) → AllByRecursion V (cond b (t ∷ with_state s ts) (s ∷ t ∷ ts))
       by true ih = (all.0, ih)
       by false ih = (its, all)
 
-  with_states_so : (states every : List ObjectState) → AllByRecursion Q states → AllByRecursion Q every → AllByRecursion Q (with_states states every)
+  pub with_states_so : (states every : List ObjectState) → AllByRecursion V states → AllByRecursion V every → AllByRecursion V (with_states states every)
   with_states_so [] every its all = all
   with_states_so (s ∷ ss) every its all = with_states_so ss (with_state s every) its.1 (with_state_so s every its.0 all)
 
-  marks_so : (ns : List ℕ) (q : Plan) → PlanIsSo (stored k) q → PlanIsSo (stored k) (marks_stores ns q)
+  marks_so : (ns : List ℕ) (q : Plan) → PlanIsSo F q → PlanIsSo F (marks_stores ns q)
   marks_so [] q so = so
   marks_so (n ∷ ns) q so = marks_so ns (marks_store n q) (record { used = so.used; changed = so.changed })
 
-  answer_step : (from : ℕ) (m : Machine) (r : Reply) → PlanIsSo (stored k) (plan_of m) → ReplyIsSo (stored k) r → IsNext (commit.answered from m r).step
+  answer_step : (from : ℕ) (m : Machine) (r : Reply) → PlanIsSo F (plan_of m) → ReplyIsSo F r → IsNext (commit.answered from m r).step
   answer_step from (Voting p left) (Reply.Voted (voted.Yes states)) so rs = votes_step (without_number from left) (record p { changed = with_states states p.changed }) (record { used = so.used; changed = with_states_so states p.changed rs so.changed })
   answer_step from (Voting p left) (Reply.Voted (voted.Changed w)) so rs = tt
   answer_step from (Preparing p left) (Reply.Prepared prepared.Yes) so rs = stores_step (without_number from left) (record p { prepared = with_number from p.prepared }) (record { used = so.used; changed = so.changed })
@@ -457,23 +460,23 @@ module _ (k : Kind) where
   answer_step from (Confirming p) (Reply.Voted r) so rs = so
   answer_step from (Confirming p) (Reply.Prepared r) so rs = so
 
-  giveup_step : (m : Machine) → PlanIsSo (stored k) (plan_of m) → IsNext (commit.given_up m).step
+  giveup_step : (m : Machine) → PlanIsSo F (plan_of m) → IsNext (commit.given_up m).step
   giveup_step (Voting p left) so = tt
   giveup_step (Preparing p left) so = stores_step [] (marks_stores left p) (marks_so left p so)
   giveup_step (Confirming p) so = tt
 
-  found_so : (test : ObjectState → Bool) (states : List ObjectState) → AllByRecursion Q states → IfSome (find test states) Q
+  pub found_so : (test : ObjectState → Bool) (states : List ObjectState) → AllByRecursion V states → IfSome (find test states) V
   found_so test [] all = tt
   found_so test (s ∷ ss) all = by (test s) (found_so test ss all.1)
     where
-      by : (b : Bool) → IfSome (find test ss) Q → IfSome (cond b (Some s) (find test ss)) Q
+      by : (b : Bool) → IfSome (find test ss) V → IfSome (cond b (Some s) (find test ss)) V
       by true ih = all.0
       by false ih = ih
 
-  sent_so : (n : ℕ) (p : Plan) → PlanIsSo (stored k) p → AllByRecursion Q (states_for n p)
+  sent_so : (n : ℕ) (p : Plan) → PlanIsSo F p → AllByRecursion Q (states_for n p)
   sent_so n p so = all_some (λ (u : Used). IfSome u.loaded Q) Q (state_for n p) p.used (λ u its. by u its (changed_of u.x p) (found_so _ p.changed so.changed)) so.used
     where
-      by : (u : Used) → IfSome u.loaded Q → (o : Option ObjectState) → IfSome o Q → IfSome (state_by n u o) Q
+      by : (u : Used) → IfSome u.loaded Q → (o : Option ObjectState) → IfSome o V → IfSome (state_by n u o) Q
       by u its None none = one (has u.joins n)
         where
           one : (b : Bool) → IfSome (cond b u.loaded None) Q
@@ -482,39 +485,39 @@ module _ (k : Kind) where
       by u its (Some st) of = one (has u.stores n || has u.joins n)
         where
           one : (b : Bool) → IfSome (cond b (Some st) None) Q
-          one true = of
+          one true = keep.voted st.uid st of
           one false = tt
 
-  ask_so : (m : Machine) (n : ℕ) → PlanIsSo (stored k) (plan_of m) → AskIsSo (stored k) (ask_of m n)
+  ask_so : (m : Machine) (n : ℕ) → PlanIsSo F (plan_of m) → AskIsSo F (ask_of m n)
   ask_so (Voting p left) n so = tt
   ask_so (Preparing p left) n so = sent_so n p so
   ask_so (Confirming p) n so = tt
 
-  asked_so : (p : Path) (req : ℕ) (asked : List (ℕ × Ask)) (c : Coord) → CoordIsSo (stored k) c → AllByRecursion (λ (a : ℕ × Ask). AskIsSo (stored k) a.1) asked → IsDone (asks_all p req asked c)
+  asked_so : (p : Path) (req : ℕ) (asked : List (ℕ × Ask)) (c : Coord) → CoordIsSo F c → AllByRecursion (λ (a : ℕ × Ask). AskIsSo F a.1) asked → IsDone (asks_all p req asked c)
   asked_so p req [] c so all = (so, tt)
   asked_so p req (a ∷ rest) c so all =
       let first = asks_so p req a c so all.0 in
       let r = asked_so p req rest (asks_node p req a c).part first.0 all.1 in
       (r.0, both (asks_node p req a c).outs (asks_all p req rest (asks_node p req a c).part).outs first.1 r.1)
 
-  machine_so : (m : Machine) (c : Coord) → CoordIsSo (stored k) c → PlanIsSo (stored k) (plan_of m) → IsDone (asks_machine m c)
+  machine_so : (m : Machine) (c : Coord) → CoordIsSo F c → PlanIsSo F (plan_of m) → IsDone (asks_machine m c)
   machine_so m c so its = asked_so (plan_of m).path (plan_of m).req (commit.waiting m) c so (waits (left_of m))
     where
-      waits : (ns : List ℕ) → AllByRecursion (λ (a : ℕ × Ask). AskIsSo (stored k) a.1) (map {A = ℕ} {B = ℕ × Ask} (λ n. (n, ask_of m n)) ns)
+      waits : (ns : List ℕ) → AllByRecursion (λ (a : ℕ × Ask). AskIsSo F a.1) (map {A = ℕ} {B = ℕ × Ask} (λ n. (n, ask_of m n)) ns)
       waits [] = tt
       waits (n ∷ ns) = (ask_so m n its, waits ns)
 
-  commits_so : (u : Uid) (m : Machine) (c : Coord) → CoordIsSo (stored k) c → PlanIsSo (stored k) (plan_of m) → CoordIsSo (stored k) (commits_in u m c)
+  commits_so : (u : Uid) (m : Machine) (c : Coord) → CoordIsSo F c → PlanIsSo F (plan_of m) → CoordIsSo F (commits_in u m c)
   commits_so u m c so its = on_do_so u (λ (d : Doing). record d { req = (plan_of m).req; now = Committing m }) c (λ d found. its) so
 
-  states_so : (ss : List ObjectState) (states : List (ℕ × ObjectState)) → AllByRecursion Q ss → AllByRecursion (λ (e : ℕ × ObjectState). Q e.1) states → AllByRecursion (λ (e : ℕ × ObjectState). Q e.1) (states_after ss states)
+  states_so : (ss : List ObjectState) (states : List (ℕ × ObjectState)) → AllByRecursion V ss → AllByRecursion (λ (e : ℕ × ObjectState). Q e.1) states → AllByRecursion (λ (e : ℕ × ObjectState). Q e.1) (states_after ss states)
   states_so [] states its all = all
-  states_so (s ∷ ss) states its all = states_so ss (put_number s.uid.num s states) its.1 (all_put_number Q s.uid.num s states its.0 all)
+  states_so (s ∷ ss) states its all = states_so ss (put_number s.uid.num s states) its.1 (all_put_number Q s.uid.num s states (keep.voted s.uid s its.0) all)
 
-  after_so : (p : Plan) (r : Root) → PlanIsSo (stored k) p → RootIsSo (stored k) r → RootIsSo (stored k) (root_after p r)
+  after_so : (p : Plan) (r : Root) → PlanIsSo F p → RootIsSo F r → RootIsSo F (root_after p r)
   after_so p r its so = record { joined = so.joined; states = states_so p.changed r.states its.changed so.states }
 
-  decide_so : (p : Plan) (c : Coord) → PlanIsSo (stored k) p → CoordIsSo (stored k) c → IsDone (decide p c)
+  decide_so : (p : Plan) (c : Coord) → PlanIsSo F p → CoordIsSo F c → IsDone (decide p c)
   decide_so p c its so = by (has_record p)
     where
       i : Intent
@@ -529,38 +532,38 @@ module _ (k : Kind) where
       r : Coord
       r = on_root (root_of p.path) (root_after p) took
 
-      ke : CoordIsSo (stored k) e
+      ke : CoordIsSo F e
       ke = ended_so (actor p.path) ending.Commit c so
 
-      kr : CoordIsSo (stored k) r
+      kr : CoordIsSo F r
       kr = on_root_so (root_of p.path) (root_after p) took (λ q s. after_so p q its s) (on_do_so (actor p.path) (λ (d : Doing). record d { took = participants p }) e (λ d found. ke.works (actor p.path) d found) ke)
 
-      told : (ns : List ℕ) → AllAreSo k (map (decided_told (root_of p.path) (actor p.path) p) ns)
+      told : (ns : List ℕ) → AllSay F (map (decided_told (root_of p.path) (actor p.path) p) ns)
       told [] = tt
       told (n ∷ ns) = ((each_told (has (participants p) n)).0, told ns)
         where
-          each_told : (x : Bool) → AllAreSo k (cond x (tell (root_of p.path) (has_record p) ((actor p.path, ending.Commit) ∷ []) n) (tell (root_of p.path) false ((actor p.path, ending.Abort) ∷ []) n) ∷ [])
+          each_told : (x : Bool) → AllSay F (cond x (tell (root_of p.path) (has_record p) ((actor p.path, ending.Commit) ∷ []) n) (tell (root_of p.path) false ((actor p.path, ending.Abort) ∷ []) n) ∷ [])
           each_told true = ((tt, tt), tt)
           each_told false = ((tt, tt), tt)
 
-      work : (x : Bool) → AllAreSo k (cond x (Do (PutIntent (actor p.path) i) ∷ []) [])
+      work : (x : Bool) → AllSay F (cond x (Do (PutIntent (actor p.path) i) ∷ []) [])
       work true = (tt, tt)
       work false = tt
 
-      outs : (w : Bool) → AllAreSo k (cond w (Do (PutIntent (actor p.path) i) ∷ []) [] ++ says (actor p.path) body.Committed c ++ map (decided_told (root_of p.path) (actor p.path) p) p.sent)
+      outs : (w : Bool) → AllSay F (cond w (Do (PutIntent (actor p.path) i) ∷ []) [] ++ says (actor p.path) body.Committed c ++ map (decided_told (root_of p.path) (actor p.path) p) p.sent)
       outs w = both (cond w (Do (PutIntent (actor p.path) i) ∷ []) [] ++ says (actor p.path) body.Committed c) (map (decided_told (root_of p.path) (actor p.path) p) p.sent) (both (cond w (Do (PutIntent (actor p.path) i) ∷ []) []) (says (actor p.path) body.Committed c) (work w) (lines (actor p.path) body.Committed c)) (told p.sent)
 
       by : (w : Bool) → IsDone (record { part = cond w (record r { telling = put_uid (actor p.path) i r.telling }) r; outs = cond w (Do (PutIntent (actor p.path) i) ∷ []) [] ++ says (actor p.path) body.Committed c ++ map (decided_told (root_of p.path) (actor p.path) p) p.sent })
       by true = (record { works = kr.works; roots = kr.roots }, outs true)
       by false = (kr, outs false)
 
-  step_commit_so : (u : Uid) (s : CommitStep) (intents : List (Uid × Intent)) (c : Coord) → CoordIsSo (stored k) c → IsNext s → IsDone (step_commit u s intents c)
+  step_commit_so : (u : Uid) (s : CommitStep) (intents : List (Uid × Intent)) (c : Coord) → CoordIsSo F c → IsNext s → IsDone (step_commit u s intents c)
   step_commit_so u (Stays m) intents c so its = (commits_so u m c so its, tt)
   step_commit_so u (Asks m) intents c so its = machine_so m (commits_in u m c) (commits_so u m c so its) its
   step_commit_so u (Decides p) intents c so its = decide_so p c its so
   step_commit_so u (Aborts why p) intents c so its = ends_so u ending.Abort (λ l. body.Aborted l why) intents c so
 
-  moved_commit_so : (u : Uid) (m : commit.Marked) (intents : List (Uid × Intent)) (c : Coord) → CoordIsSo (stored k) c → IsNext m.step → IsDone (moved_commit u m intents c)
+  moved_commit_so : (u : Uid) (m : commit.Marked) (intents : List (Uid × Intent)) (c : Coord) → CoordIsSo F c → IsNext m.step → IsDone (moved_commit u m intents c)
   moved_commit_so u m intents c so its =
       let t = step_commit u m.step intents c in
       let w = step_commit_so u m.step intents c so its in
@@ -573,7 +576,7 @@ module _ (k : Kind) where
   latest_so None (j ∷ js) its all = latest_so (Some j.loaded) js all.0 all.1
   latest_so (Some s) (j ∷ js) its all = latest_so (Some (later_state s j.loaded)) js (later_so s j.loaded its all.0) all.1
 
-  loads_from : (x : ℕ) (top : Uid) (r : Root) (c : Coord) → RootIsSo (stored k) r → IfSome (loaded_for x top r c) Q
+  loads_from : (x : ℕ) (top : Uid) (r : Root) (c : Coord) → RootIsSo F r → IfSome (loaded_for x top r c) Q
   loads_from x top r c so = by (latest_of None (joins_on x top r c)) (at_number x r.states) refl (latest_so None (joins_on x top r c) tt (all_filter (λ (j : Joined). Q j.loaded) _ r.joined so.joined))
     where
       by : (o s : Option ObjectState) → at_number x r.states ≡ s → IfSome o Q → IfSome (or_kept_state o s) Q
@@ -581,7 +584,7 @@ module _ (k : Kind) where
       by (Some st) None is its = its
       by (Some st) (Some t) is its = later_so st t its (all_found Q x r.states t so.states is)
 
-  plan_so : (p : Path) (req : ℕ) (r : Root) (c : Coord) → RootIsSo (stored k) r → PlanIsSo (stored k) (plan_for p req r c)
+  plan_so : (p : Path) (req : ℕ) (r : Root) (c : Coord) → RootIsSo F r → PlanIsSo F (plan_for p req r c)
   plan_so p req r c so = record { used = by (objects_in (actor p) r c); changed = tt }
     where
       by : (xs : List ℕ) → AllByRecursion (λ (u : Used). IfSome u.loaded Q) (map (used_of (actor p) r c) xs)
@@ -591,12 +594,12 @@ module _ (k : Kind) where
   -- ---- what a coordinator hears, and inputs
 
   abbrev IsServed : Served Coord (Unit {0}) → Type 0
-  IsServed d = CoordIsSo (stored k) d.part × AllAreSo k d.outs
+  IsServed d = CoordIsSo F d.part × AllSay F d.outs
 
-  pub hears_so : (from : ℕ) (a : Asked) (r : Reply) (intents : List (Uid × Intent)) (c : Coord) → CoordIsSo (stored k) c → ReplyIsSo (stored k) r → IsServed (heard from a r intents c)
+  pub hears_so : (from : ℕ) (a : Asked) (r : Reply) (intents : List (Uid × Intent)) (c : Coord) → CoordIsSo F c → ReplyIsSo F r → IsServed (heard from a r intents c)
   hears_so from a r intents c so rs = by (doing_of a.act c) refl
     where
-      now : (n : Now) → NowIsSo (stored k) n → IsServed (heard_now from a r intents c n)
+      now : (n : Now) → NowIsSo F n → IsServed (heard_now from a r intents c n)
       now Idle its = (so, tt)
       now (Calling s) its = each (waits_for_call from a r s)
         where
@@ -613,13 +616,13 @@ module _ (k : Kind) where
       by None is = (so, tt)
       by (Some d) is = now d.now (so.works a.act d is)
 
-  give_up_so : (u : Uid) (intents : List (Uid × Intent)) (c : Coord) → CoordIsSo (stored k) c → IsDone (give_up u intents c)
+  give_up_so : (u : Uid) (intents : List (Uid × Intent)) (c : Coord) → CoordIsSo F c → IsDone (give_up u intents c)
   give_up_so u intents c so = by (doing_of u c) refl
     where
       with_lines : (nodes : List ℕ) (d : Did Coord) → IsDone d → IsDone (record { part = d.part; outs = gaveup_lines u nodes c ++ d.outs })
       with_lines nodes d w = (w.0, both (gaveup_lines u nodes c) d.outs (flat (λ n. says u (λ l. body.GaveUp l n) c) nodes (λ n. lines u (λ l. body.GaveUp l n) c)) w.1)
 
-      now : (n : Now) → NowIsSo (stored k) n → IsDone (gives_up u intents c n)
+      now : (n : Now) → NowIsSo F n → IsDone (gives_up u intents c n)
       now Idle its = (so, tt)
       now (Calling s) its =
           let t : Coord = on_root (root_of s.path) (root_lost s (given_up s.at)) c in
@@ -631,7 +634,7 @@ module _ (k : Kind) where
       by None is = (so, tt)
       by (Some d) is = now d.now (so.works u d is)
 
-  again_so : (ds : List Doing) (c : Coord) → CoordIsSo (stored k) c → AllByRecursion (λ (d : Doing). NowIsSo (stored k) d.now) ds → IsDone (again_all ds c)
+  again_so : (ds : List Doing) (c : Coord) → CoordIsSo F c → AllByRecursion (λ (d : Doing). NowIsSo F d.now) ds → IsDone (again_all ds c)
   again_so [] c so all = (so, tt)
   again_so (d ∷ ds) c so all =
       let a = again_now c d.now in
@@ -639,12 +642,12 @@ module _ (k : Kind) where
       let q = again_so ds a.part w.0 all.1 in
       (q.0, both a.outs (again_all ds a.part).outs w.1 q.1)
     where
-      now : (n : Now) → NowIsSo (stored k) n → IsDone (again_now c n)
+      now : (n : Now) → NowIsSo F n → IsDone (again_now c n)
       now Idle its = (so, tt)
       now (Calling s) its = step_so s c so its
       now (Committing m) its = machine_so m c so its
 
-  pub ticks_so : (c : Coord) → CoordIsSo (stored k) c → IsDone (again_all c.doings c)
+  pub ticks_so : (c : Coord) → CoordIsSo F c → IsDone (again_all c.doings c)
   ticks_so c so = again_so c.doings c so (all c.doings (λ d i. i))
     where
       same : (n : ℕ) → (n == n) ≡ true
@@ -653,11 +656,11 @@ module _ (k : Kind) where
       found : (d : Doing) → In d c.doings → (u : Uid) × (doing_of u c ≡ Some d)
       found d i = let p = placed d c.doings i in (record { node = c.tree.node; inc = c.tree.inc; num = p.0 }, (λ j. cond (same c.tree.node j && same c.tree.inc j) (at_place p.0 c.doings) None) ∙ p.1)
 
-      all : (ds : List Doing) → ((d : Doing) → In d ds → In d c.doings) → AllByRecursion (λ (d : Doing). NowIsSo (stored k) d.now) ds
+      all : (ds : List Doing) → ((d : Doing) → In d ds → In d c.doings) → AllByRecursion (λ (d : Doing). NowIsSo F d.now) ds
       all [] there = tt
       all (d ∷ ds) there = (let f = found d (there d (inl refl)) in so.works f.0 d f.1, all ds (λ e i. there e (inr i)))
 
-  commit_so : (b : Branch) (intents : List (Uid × Intent)) (c : Coord) → CoordIsSo (stored k) c → IsDone (commit_action b intents c)
+  commit_so : (b : Branch) (intents : List (Uid × Intent)) (c : Coord) → CoordIsSo F c → IsDone (commit_action b intents c)
   commit_so b intents c so = by b.doomed
     where
       u : Uid
@@ -683,7 +686,7 @@ module _ (k : Kind) where
       by true = ends_so u ending.Abort (λ l. body.Aborted l cause.Doomed) intents c so
       by false = kinds b.kind
 
-  on_named : (l : Label) (f : Branch → Did Coord) (c : Coord) → CoordIsSo (stored k) c → ((b : Branch) → IsDone (f b)) → IsDone (on_branch f c (branch_named l c))
+  on_named : (l : Label) (f : Branch → Did Coord) (c : Coord) → CoordIsSo F c → ((b : Branch) → IsDone (f b)) → IsDone (on_branch f c (branch_named l c))
   on_named l f c so each = by (branch_named l c)
     where
       by : (o : Option Branch) → IsDone (on_branch f c o)
@@ -692,18 +695,18 @@ module _ (k : Kind) where
 
   -- ---- actions that begin
 
-  pub begins_so : (l : Label) (q : ActionKind) (parent : Option Label) (above : Option Branch) (c : Coord) → CoordIsSo (stored k) c → IsDone (begin_action l q parent above c)
+  pub begins_so : (l : Label) (q : ActionKind) (parent : Option Label) (above : Option Branch) (c : Coord) → CoordIsSo F c → IsDone (begin_action l q parent above c)
   begins_so l q parent above c so = (record { works = λ u d at. was (is_own u c.tree) u.num d at (λ f. so.works u d f); roots = so.roots }, (tt, tt))
     where
       fresh : Doing
       fresh = record { label = l; req = 0; now = Idle; took = [] }
 
-      was : (b : Bool) (j : ℕ) (d : Doing) → cond b (at_place j (c.doings ++ fresh ∷ [])) None ≡ Some d → (cond b (at_place j c.doings) None ≡ Some d → NowIsSo (stored k) d.now) → NowIsSo (stored k) d.now
+      was : (b : Bool) (j : ℕ) (d : Doing) → cond b (at_place j (c.doings ++ fresh ∷ [])) None ≡ Some d → (cond b (at_place j c.doings) None ≡ Some d → NowIsSo F d.now) → NowIsSo F d.now
       was true zero d at f = let no_way : ◌≡◌ {A = Option Doing} None (Some d) = at in cc
-      was true (suc j) d at f = ⊎_elim (λ old. f old) (λ new. subst (λ (x : Doing). NowIsSo (stored k) x.now) new.1 tt) (get_more j fresh d c.doings at)
+      was true (suc j) d at f = ⊎_elim (λ old. f old) (λ new. subst (λ (x : Doing). NowIsSo F x.now) new.1 tt) (get_more j fresh d c.doings at)
       was false j d at f = let no_way : ◌≡◌ {A = Option Doing} None (Some d) = at in cc
 
-  pub acts_so : (i : Input) (intents : List (Uid × Intent)) (c : Coord) → CoordIsSo (stored k) c → IsDone (acts i intents c)
+  pub acts_so : (i : Input) (intents : List (Uid × Intent)) (c : Coord) → CoordIsSo F c → IsDone (acts i intents c)
   acts_so (input.Begin l q parent) intents c so = begins_so l q parent (parent_of parent c) c so
   acts_so (input.Call l x o) intents c so = on_named l (λ b. call b.path x o c) c so (λ b. call_so b.path x o c so)
   acts_so (input.Include l x s) intents c so = on_named l (λ b. include b.path x s c) c so (λ b. include_so b.path x s c so)
@@ -718,17 +721,17 @@ module _ (k : Kind) where
 
   -- ---- acknowledgements and queries
 
-  pub acks_so : (from : ℕ) (u : Uid) (intents : List (Uid × Intent)) (c : Coord) → CoordIsSo (stored k) c → IsServed (acked from u intents c)
+  pub acks_so : (from : ℕ) (u : Uid) (intents : List (Uid × Intent)) (c : Coord) → CoordIsSo F c → IsServed (acked from u intents c)
   acks_so from u intents c so = by (at_uid u c.telling)
     where
-      told : (m : List (Uid × Intent)) → CoordIsSo (stored k) (record c { telling = m })
+      told : (m : List (Uid × Intent)) → CoordIsSo F (record c { telling = m })
       told m = record { works = so.works; roots = so.roots }
 
-      gone : (o : Option Intent) → AllAreSo k (tolds_let_go u (without_uid u intents) c o)
+      gone : (o : Option Intent) → AllSay F (tolds_let_go u (without_uid u intents) c o)
       gone None = tt
       gone (Some i) = each (not (uid_eq i.root u) && is_over (branch_of i.root c.tree))
         where
-          each : (b : Bool) → AllAreSo k (cond b (tell_all i.root false ((i.root, ending.Abort) ∷ []) (let_go i.root (without_uid u intents) c i.nodes)) [])
+          each : (b : Bool) → AllSay F (cond b (tell_all i.root false ((i.root, ending.Abort) ∷ []) (let_go i.root (without_uid u intents) c i.nodes)) [])
           each true = tells i.root false ((i.root, ending.Abort) ∷ []) (let_go i.root (without_uid u intents) c i.nodes)
           each false = tt
 
@@ -744,39 +747,39 @@ module _ (k : Kind) where
           each true = left i (without_number from i.nodes)
           each false = (so, tt)
 
-  pub query_so : (from : ℕ) (u : Uid) (intents : List (Uid × Intent)) (c : Coord) → AllAreSo k (answer_query from u intents c)
+  pub query_so : (from : ℕ) (u : Uid) (intents : List (Uid × Intent)) (c : Coord) → AllSay F (answer_query from u intents c)
   query_so from u intents c = by (is_open u c.tree || is_deferred u intents from)
     where
-      told : (root : Uid) (ack : Bool) (e : End) → AllAreSo k (tell root ack ((u, e) ∷ []) from ∷ [])
+      told : (root : Uid) (ack : Bool) (e : End) → AllSay F (tell root ack ((u, e) ∷ []) from ∷ [])
       told root ack e = ((tt, tt), tt)
 
-      decided : AllAreSo k (answer_decided from u c)
+      decided : AllSay F (answer_decided from u c)
       decided = each (is_kept_commit from u c)
         where
-          each : (b : Bool) → AllAreSo k (cond b (tell (root_or_self u (branch_of u c.tree)) false ((u, ending.Commit) ∷ []) from ∷ []) (tell (root_or_self u (branch_of u c.tree)) false ((u, ending.Abort) ∷ []) from ∷ []))
+          each : (b : Bool) → AllSay F (cond b (tell (root_or_self u (branch_of u c.tree)) false ((u, ending.Commit) ∷ []) from ∷ []) (tell (root_or_self u (branch_of u c.tree)) false ((u, ending.Abort) ∷ []) from ∷ []))
           each true = told (root_or_self u (branch_of u c.tree)) false ending.Commit
           each false = told (root_or_self u (branch_of u c.tree)) false ending.Abort
 
-      recorded_so : (o : Option Intent) → AllAreSo k (answer_recorded from u c o)
+      recorded_so : (o : Option Intent) → AllSay F (answer_recorded from u c o)
       recorded_so None = decided
       recorded_so (Some i) = each (has i.nodes from)
         where
-          each : (b : Bool) → AllAreSo k (cond b (tell i.root true ((u, ending.Commit) ∷ []) from ∷ []) (answer_decided from u c))
+          each : (b : Bool) → AllSay F (cond b (tell i.root true ((u, ending.Commit) ∷ []) from ∷ []) (answer_decided from u c))
           each true = told i.root true ending.Commit
           each false = decided
 
-      by : (b : Bool) → AllAreSo k (cond b [] (answer_recorded from u c (at_uid u intents)))
+      by : (b : Bool) → AllSay F (cond b [] (answer_recorded from u c (at_uid u intents)))
       by true = tt
       by false = recorded_so (at_uid u intents)
 
-  pub told_again_so : (telling : List (Uid × Intent)) → AllAreSo k (tolds_again telling)
+  pub told_again_so : (telling : List (Uid × Intent)) → AllSay F (tolds_again telling)
   told_again_so [] = tt
   told_again_so (e ∷ es) = let i = e.1 in both (tell_all i.root true ((e.0, ending.Commit) ∷ []) i.nodes) (tolds_again es) (tells i.root true ((e.0, ending.Commit) ∷ []) i.nodes) (told_again_so es)
 
-  pub new_so : (node inc : ℕ) (records : List (Uid × Intent)) → CoordIsSo (stored k) (record (new_coord node inc) { telling = records })
+  pub new_so : (node inc : ℕ) (records : List (Uid × Intent)) → CoordIsSo F (record (new_coord node inc) { telling = records })
   new_so node inc records = record { works = λ u d at. nothing (is_own u (let c = new_coord node inc in c.tree)) u.num d at; roots = tt }
     where
-      nothing : (b : Bool) (j : ℕ) (d : Doing) → cond b (at_place j []) None ≡ Some d → NowIsSo (stored k) d.now
+      nothing : (b : Bool) (j : ℕ) (d : Doing) → cond b (at_place j []) None ≡ Some d → NowIsSo F d.now
       nothing true zero d is = let no_way : ◌≡◌ {A = Option Doing} None (Some d) = is in cc
       nothing true (suc j) d is = let no_way : ◌≡◌ {A = Option Doing} None (Some d) = is in cc
       nothing false j d is = let no_way : ◌≡◌ {A = Option Doing} None (Some d) = is in cc
