@@ -15,7 +15,7 @@ use Rattle.arj_protocol.specs.Node.{Parts, Took, answer_is_meant, asked_is_meant
 use Rattle.arj_protocol.specs.Step.{Input, acts, begin_reasons, begin_refusal, refused_by, parent_of, parts_in, refusal_up, restart_outs}
 use Rattle.arj_protocol.specs.Tree.{Branch, branch_of, is_open, is_open_branch, next_uid, path_below}
 use Rattle.arj_protocol.specs.World.{format, is_serial_kind}
-use Rattle.arj_lock_law.specs.Machine.{Run}
+use Rattle.arj_lock_law.specs.Machine.{Run, stay}
 use Rattle.arj_lock_law.specs.State.{State}
 use Rattle.arj_part_law.specs.Actions.{Action, MayBegin}
 use Rattle.arj_part_law.specs.Coords.{IsGoodCoord}
@@ -76,7 +76,7 @@ module _ (f : Fixed) (x : ℕ) where
   agree_less : (begun : List Action) (sent more : List Post) → Within sent more → Agrees f x begun more → Agrees f x begun sent
   agree_less begun sent more within a = record { whole = a.whole; wanted = λ p h q there is. a.wanted p h q (within p there) is }
 
-  agree_older : (a : Action) (begun : List Action) (sent : List Post) → Agrees f x (a ∷ begun) sent → Agrees f x begun sent
+  pub agree_older : (a : Action) (begun : List Action) (sent : List Post) → Agrees f x (a ∷ begun) sent → Agrees f x begun sent
   agree_older a begun sent g = record {
     whole = (let w = g.whole in record {
       tree = w.tree;
@@ -89,19 +89,23 @@ module _ (f : Fixed) (x : ℕ) where
   }
 
 -- the object is seen, and on a condition commits have their votes
-abbrev LocksSo : Type 0 → ℕ → (List Action → Seen → Type 0) → Seen → Type 0
+abbrev pub LocksSo : Type 0 → ℕ → (List Action → Seen → Type 0) → Seen → Type 0
 LocksSo U x R M = (begun : List Action) × IsAlikeOf begun M × R begun M × ((f : Fixed) → Agrees f x begun M.sent → (S : State) × SeesLocks f x begun S M × AreTied f x M.lines S × (U → AreVotedAt f x S M)) × AreCoordsNamed M
 
+-- And the machine has gone there from these states, for all that was fixed and agreed with what was sent then.
+abbrev pub LocksFrom : Type 0 → (x : ℕ) → (List Action → Seen → Type 0) → (begun : List Action) → (sent : List Post) → ((f : Fixed) → Agrees f x begun sent → State) → Seen → Type 0
+LocksFrom U x R begun sent from M = IsAlikeOf begun M × R begun M × ((f : Fixed) → Agrees f x begun M.sent → (S : State) × SeesLocks f x begun S M × AreTied f x M.lines S × (U → AreVotedAt f x S M) × ((a : Agrees f x begun sent) × Run (from f a) S)) × AreCoordsNamed M
+
 -- a walk in which the object is seen, for all that may be fixed and agrees with what was done before
-kept_walk : (V : Type 0) (x : ℕ) (R : List Action → Seen → Type 0) (begun : List Action) (e k : ℕ) (outs : List Effect) (v : Parts) (d : Disk) (M : Seen) → Walks (R begun) e k outs (Up (R begun) k v) d M → Walks (IsPathedOf begun) e k outs (Up (IsPathedOf begun) k v) d M
-    → ((f : Fixed) → Agrees f x begun M.sent → (S : State) × Walks (IsSeenSo (case_of f x begun S)) e k outs (Up (IsSeenSo (case_of f x begun S)) k v) d M × ((T : State) → Run S T → V → HaveVotes f x M k v.coord T))
-    → Walks (LocksSo V x R) e k outs (Up (LocksSo V x R) k v) d M
-kept_walk V x R begun e k outs v d M holds good sees =
+kept_walk : (V : Type 0) (x : ℕ) (R : List Action → Seen → Type 0) (begun : List Action) (e k : ℕ) (outs : List Effect) (v : Parts) (d : Disk) (M : Seen) (from : (f : Fixed) → Agrees f x begun M.sent → State) → Walks (R begun) e k outs (Up (R begun) k v) d M → Walks (IsPathedOf begun) e k outs (Up (IsPathedOf begun) k v) d M
+    → ((f : Fixed) (a : Agrees f x begun M.sent) → Walks (IsSeenSo (case_of f x begun (from f a))) e k outs (Up (IsSeenSo (case_of f x begun (from f a))) k v) d M × ((T : State) → Run (from f a) T → V → HaveVotes f x M k v.coord T))
+    → Walks (LocksFrom V x R begun M.sent from) e k outs (Up (LocksFrom V x R begun M.sent from) k v) d M
+kept_walk V x R begun e k outs v d M from holds good sees =
     let A : Type 0 = (f : Fixed) × Agrees f x begun M.sent in
-    let Q : A → Seen → Type 0 = λ a N. Agrees a.0 x begun N.sent → (S : State) × SeesLocks a.0 x begun S N × AreTied a.0 x N.lines S × Run (sees a.0 a.1).0 S in
+    let Q : A → Seen → Type 0 = λ a N. Agrees a.0 x begun N.sent → (S : State) × SeesLocks a.0 x begun S N × AreTied a.0 x N.lines S × Run (from a.0 a.1) S in
     let H : Seen → Type 0 = λ N. Within M.sent N.sent in
     let E : Seen → Type 0 = λ N. (a : A) → Q a N in
-    let one = walks_each {A = A} Q e k outs (λ a. Up (Q a) k v) d M (λ a. (sees a.0 a.1).1) in
+    let one = walks_each {A = A} Q e k outs (λ a. Up (Q a) k v) d M (λ a. (sees a.0 a.1).0) in
     let two = walks_both H E e k outs (Up H k v) (λ c N. (a : A) → Up (Q a) k v c N) d M (sent_grows M.sent e k v outs d M (λ p there. there)) one in
     let G : Seen → Type 0 = IsPathedOf begun in
     let T : Seen → Type 0 = λ N. H N × E N in
@@ -111,19 +115,18 @@ kept_walk V x R begun e k outs v d M holds good sees =
     let O : Seen → Type 0 = IsOldOrNew M k v in
     let W : Seen → Type 0 = λ N. R begun N × U N in
     let five = walks_both O W e k outs (Up O k v) (λ c N. Up (R begun) k v c N × (Up G k v c N × (Up H k v c N × ((a : A) → Up (Q a) k v c N)))) d M (nodes_walk M k v e outs d M (λ j. refl)) four in
-    walks_to (λ N. O N × W N) (LocksSo V x R) e k outs (λ c N. Up O k v c N × (Up (R begun) k v c N × (Up G k v c N × (Up H k v c N × ((a : A) → Up (Q a) k v c N))))) (Up (LocksSo V x R) k v) d M
+    walks_to (λ N. O N × W N) (LocksFrom V x R begun M.sent from) e k outs (λ c N. Up O k v c N × (Up (R begun) k v c N × (Up G k v c N × (Up H k v c N × ((a : A) → Up (Q a) k v c N))))) (Up (LocksFrom V x R begun M.sent from) k v) d M
     (λ N w. locked N w.0 w.1)
     (λ c N w. locked (up k c v N) w.0 w.1) five
   where
-    locked : (N : Seen) → IsOldOrNew M k v N → R begun N × (IsPathedOf begun N × (Within M.sent N.sent × ((a : (f : Fixed) × Agrees f x begun M.sent) → Agrees a.0 x begun N.sent → (S : State) × SeesLocks a.0 x begun S N × AreTied a.0 x N.lines S × Run (sees a.0 a.1).0 S))) → LocksSo V x R N
+    locked : (N : Seen) → IsOldOrNew M k v N → R begun N × (IsPathedOf begun N × (Within M.sent N.sent × ((a : (f : Fixed) × Agrees f x begun M.sent) → Agrees a.0 x begun N.sent → (S : State) × SeesLocks a.0 x begun S N × AreTied a.0 x N.lines S × Run (from a.0 a.1) S))) → LocksFrom V x R begun M.sent from N
     locked N nodes z = (
-      begun,
       z.1.0.1,
       z.0,
       (λ f agrees.
           let before = agree_less f x begun M.sent N.sent z.1.1.0 agrees in
           let g = z.1.1.1 (f, before) agrees in
-          (g.0, g.1, g.2, (λ u. voted_at f x M k v N g.0 nodes ((sees f before).2 g.0 g.3 u)))),
+          (g.0, g.1, g.2, (λ u. voted_at f x M k v N g.0 nodes ((sees f before).1 g.0 g.3 u)), (before, g.3))),
       z.1.0.0.1,
     )
 
@@ -220,6 +223,10 @@ module _ (hd : Header) (x : ℕ) (G : Seen → Type 0) (R : List Action → Seen
   abbrev Kept : Seen → Type 0
   Kept N = LocksSo V x R N
 
+  -- what is seen from this state of each machine on
+  abbrev pub From : (M : Seen) → Kept M → Seen → Type 0
+  From M z N = LocksFrom V x R z.0 M.sent (λ f a. let g = z.3 f a in g.0) N
+
   -- what is seen, where what is fixed agrees
   seen_in : (f : Fixed) (M : Seen) (z : Kept M) (agrees : Agrees f x z.0 M.sent) → IsSeenIn (case_of f x z.0 (let g = z.3 f agrees in g.0)) M
   seen_in f M z agrees = record { good = z.1.0; alike = z.1.1; written = z.1.2; agrees = agrees; sees = (let g = z.3 f agrees in g.1); tied = (let g = z.3 f agrees in g.2) }
@@ -228,22 +235,22 @@ module _ (hd : Header) (x : ℕ) (G : Seen → Type 0) (R : List Action → Seen
   pathed_in : (M : Seen) (z : Kept M) → IsPathedOf z.0 M
   pathed_in M z = (((z.0, z.1.0), z.4), z.1)
 
-  quiet_kept : (e : ℕ) (bs : List _) (M : Seen) → AreQuiet bs → G M → Kept M → Kept (said e bs M)
+  pub quiet_kept : (e : ℕ) (bs : List _) (M : Seen) → AreQuiet bs → G M → (z : Kept M) → From M z (said e bs M)
   quiet_kept e bs M quiet more z =
       let r = quiet_pathed hd z.0 e bs M quiet (pathed_in M z) in
-      (z.0, r.1, keeps.quiet z.0 e bs M quiet more z.1.0 z.2, (λ f agrees. (let g = z.3 f agrees in (g.0, lines_stay (case_of f x z.0 g.0) e bs M g.1, quiets_stay (case_of f x z.0 g.0) e bs M quiet (seen_in f M z agrees), g.3))), r.0.1)
+      (r.1, keeps.quiet z.0 e bs M quiet more z.1.0 z.2, (λ f agrees. (let g = z.3 f agrees in (g.0, lines_stay (case_of f x z.0 g.0) e bs M g.1, quiets_stay (case_of f x z.0 g.0) e bs M quiet (seen_in f M z agrees), g.3, (agrees, stay)))), r.0.1)
 
-  stop_kept : (e k : ℕ) (d : Disk) (live : Option Parts) (M : Seen) → G (at k d live M) → Kept (at k d live M) → Kept (halted e k d M)
-  stop_kept e k d live M more z = let r = stop_pathed hd z.0 e k d live M (pathed_in (at k d live M) z) in (z.0, r.1, keeps.stop z.0 e k d live M more z.1.0 z.2, (λ f. by f live more z), r.0.1)
+  pub stop_kept : (e k : ℕ) (d : Disk) (live : Option Parts) (M : Seen) → G (at k d live M) → (z : Kept (at k d live M)) → From (at k d live M) z (halted e k d M)
+  stop_kept e k d live M more z = let r = stop_pathed hd z.0 e k d live M (pathed_in (at k d live M) z) in (r.1, keeps.stop z.0 e k d live M more z.1.0 z.2, (λ f. by f live more z), r.0.1)
     where
-      by : (f : Fixed) (live : Option Parts) → G (at k d live M) → (z : Kept (at k d live M)) → Agrees f x z.0 M.sent → (S : State) × SeesLocks f x z.0 S (halted e k d M) × AreTied f x (let N = halted e k d M in N.lines) S × (V → AreVotedAt f x S (halted e k d M))
-      by f None more z agrees = (let g = z.3 f agrees in let h = down_stays (case_of f x z.0 g.0) e k d M (seen_in f (down k d M) z agrees) agrees in (h.0, h.1, h.2, (λ u. halted_votes f x e k d None M g.0 h.0 h.3 (g.3 u))))
+      by : (f : Fixed) (live : Option Parts) → G (at k d live M) → (z : Kept (at k d live M)) → Agrees f x z.0 M.sent → (S : State) × SeesLocks f x z.0 S (halted e k d M) × AreTied f x (let N = halted e k d M in N.lines) S × (V → AreVotedAt f x S (halted e k d M)) × ((a : Agrees f x z.0 M.sent) × Run (let g = z.3 f a in g.0) S)
+      by f None more z agrees = (let g = z.3 f agrees in let h = down_stays (case_of f x z.0 g.0) e k d M (seen_in f (down k d M) z agrees) agrees in (h.0, h.1, h.2, (λ u. halted_votes f x e k d None M g.0 h.0 h.3 (g.3 u)), (agrees, h.3)))
       by f (Some t) more z agrees =
           let g = z.3 f agrees in
           let s : Spot = record { node = k; disk = d; parts = t; seen = M } in
           let seen = seen_in f (world_at s) z agrees in
           let h = stops_go (case_of f x z.0 g.0) s e seen ((gives f).holds z.0 g.0 s (more, z.2) seen) agrees in
-          (h.0, h.1, h.2, (λ u. halted_votes f x e k d (Some t) M g.0 h.0 h.3 (g.3 u)))
+          (h.0, h.1, h.2, (λ u. halted_votes f x e k d (Some t) M g.0 h.0 h.3 (g.3 u)), (agrees, h.3))
 
   -- ---- a message
 
@@ -330,11 +337,11 @@ module _ (hd : Header) (x : ℕ) (G : Seen → Type 0) (R : List Action → Seen
         by true mine = let l = (subst (Leaves s.parts from (asks m)) come.takes (message_left s.node s.disk s.parts from m mine)).0 in subst (λ (q : Coord). AreVoted f.act f.code x q T) (sym l.coord) had.1
         by false mine = coordinator (coordinated m) refl mine
 
-  kept_message : (e k : ℕ) (d : Disk) (t v : Parts) (from : ℕ) (m : Message) (outs : List Effect) (M : Seen) → G (up k d t M) → Kept (up k d t M) → In (record { from = from; to = k; message = m }) M.sent → is_meant t m ≡ true → handle k d t from m ≡ Took v outs → Walks Kept e k outs (Up Kept k v) d M
+  pub kept_message : (e k : ℕ) (d : Disk) (t v : Parts) (from : ℕ) (m : Message) (outs : List Effect) (M : Seen) → G (up k d t M) → (z : Kept (up k d t M)) → In (record { from = from; to = k; message = m }) M.sent → is_meant t m ≡ true → handle k d t from m ≡ Took v outs → Walks (From (up k d t M) z) e k outs (Up (From (up k d t M) z) k v) d M
   kept_message e k d t v from m outs M more z there meant is =
       let s : Spot = record { node = k; disk = d; parts = t; seen = M } in
-      kept_walk V x R z.0 e k outs v d M (keeps.message z.0 e k d t v from m outs M more z.1.0 z.2 there meant is) (message_pathed hd z.0 e k d t v from m outs M (pathed_in (up k d t M) z) there meant is)
-      (λ f agrees. ((let g = z.3 f agrees in g.0), message_goes f e s from more z agrees m v outs (record { sent = there; meant = meant; takes = is }), message_votes f e s from more z agrees m v outs (record { sent = there; meant = meant; takes = is })))
+      kept_walk V x R z.0 e k outs v d M (λ f a. let g = z.3 f a in g.0) (keeps.message z.0 e k d t v from m outs M more z.1.0 z.2 there meant is) (message_pathed hd z.0 e k d t v from m outs M (pathed_in (up k d t M) z) there meant is)
+      (λ f agrees. (message_goes f e s from more z agrees m v outs (record { sent = there; meant = meant; takes = is }), message_votes f e s from more z agrees m v outs (record { sent = there; meant = meant; takes = is })))
 
   -- ---- the others
 
@@ -354,12 +361,12 @@ module _ (hd : Header) (x : ℕ) (G : Seen → Type 0) (R : List Action → Seen
         let q = (gives f).act z.0 (let g = z.3 f agrees in g.0) s i (more, z.2) seen_so is none in
         inputs_go hd b s e i seen_so ((gives f).holds z.0 (let g = z.3 f agrees in g.0) s (more, z.2) seen_so) q.0 is none q.1
 
-  kept_act : (e k : ℕ) (d : Disk) (t : Parts) (i : Input) (M : Seen) → is_act i ≡ true → refusal_up hd i t.coord ≡ None → G (up k d t M) → Kept (up k d t M) → let D = acts i d.intents t.coord in Walks Kept e k D.outs (Up Kept k (with_coord t D.part)) d M
+  pub kept_act : (e k : ℕ) (d : Disk) (t : Parts) (i : Input) (M : Seen) → is_act i ≡ true → refusal_up hd i t.coord ≡ None → G (up k d t M) → (z : Kept (up k d t M)) → let D = acts i d.intents t.coord in Walks (From (up k d t M) z) e k D.outs (Up (From (up k d t M) z) k (with_coord t D.part)) d M
   kept_act e k d t i M is none more z =
       let D = acts i d.intents t.coord in
       let s : Spot = record { node = k; disk = d; parts = t; seen = M } in
-      kept_walk V x R z.0 e k D.outs (with_coord t D.part) d M (keeps.act z.0 e k d t i M is none more z.1.0 z.2) (act_pathed hd z.0 e k d t i M is none (pathed_in (up k d t M) z))
-      (λ f agrees. ((let g = z.3 f agrees in g.0), input_goes f e s more z agrees i is none, (λ T run u. let h = had_votes f x k d t M (let g = z.3 f agrees in g.0) T run ((let g = z.3 f agrees in g.3) u) in (h.0, acts_are_voted f.act f.code x i d.intents t.coord T (not_begin i is) h.1))))
+      kept_walk V x R z.0 e k D.outs (with_coord t D.part) d M (λ f a. let g = z.3 f a in g.0) (keeps.act z.0 e k d t i M is none more z.1.0 z.2) (act_pathed hd z.0 e k d t i M is none (pathed_in (up k d t M) z))
+      (λ f agrees. (input_goes f e s more z agrees i is none, (λ T run u. let h = had_votes f x k d t M (let g = z.3 f agrees in g.0) T run ((let g = z.3 f agrees in g.3) u) in (h.0, acts_are_voted f.act f.code x i d.intents t.coord T (not_begin i is) h.1))))
 
   -- an action that isn't refused may stand where it begins
   module _ (f : Fixed) (e : ℕ) (s : Spot) (l : Label) (how : Kind) (parent : Option Label) (z : Kept (world_at s)) (older : Agrees f x z.0 (let M = s.seen in M.sent))
@@ -409,33 +416,56 @@ module _ (hd : Header) (x : ℕ) (G : Seen → Type 0) (R : List Action → Seen
             by None e = absurd (cc e)
             by (Some y) e = named_found z.0 f.paths (let w = older.whole in w.tree) [] q good y b e
 
-  kept_begin : (e k : ℕ) (d : Disk) (t : Parts) (l : Label) (how : Kind) (parent : Option Label) (M : Seen) → label_at l M.labels ≡ None → MayGive M.labels k how parent → begin_refusal how t.coord parent ≡ None → G (up k d t M) → Kept (up k d t M)
-      → let D = begin_action l how parent (parent_of parent t.coord) t.coord in Walks Kept e k D.outs (Up Kept k (with_coord t D.part)) d (given l (record { node = k; serial = is_serial_kind how }) M)
+  -- with one action more
+  abbrev pub FromBegun : Action → (M : Seen) → Kept M → Seen → Type 0
+  FromBegun a M z N = LocksFrom V x R (a ∷ z.0) M.sent (λ f w. let g = z.3 f (agree_older f x a z.0 M.sent w) in g.0) N
+
+  pub kept_begin : (e k : ℕ) (d : Disk) (t : Parts) (l : Label) (how : Kind) (parent : Option Label) (M : Seen) → label_at l M.labels ≡ None → MayGive M.labels k how parent → begin_refusal how t.coord parent ≡ None → G (up k d t M) → (z : Kept (up k d t M))
+      → let D = begin_action l how parent (parent_of parent t.coord) t.coord in Walks (FromBegun (begins_in how parent t) (up k d t M) z) e k D.outs (Up (FromBegun (begins_in how parent t) (up k d t M) z) k (with_coord t D.part)) d (given l (record { node = k; serial = is_serial_kind how }) M)
   kept_begin e k d t l how parent M new may none more z =
       let D = begin_action l how parent (parent_of parent t.coord) t.coord in
       let s : Spot = record { node = k; disk = d; parts = t; seen = M } in
       let N = given l (record { node = k; serial = is_serial_kind how }) M in
       let a : Action = begins_in how parent t in
-      kept_walk V x R (a ∷ z.0) e k D.outs (with_coord t D.part) d N (keeps.begin z.0 e k d t l how parent M new may none more z.1.0 z.2) (begin_pathed hd z.0 e k d t l how parent M new may none (pathed_in (up k d t M) z))
-      (λ f agrees. let older = agree_older f x a z.0 M.sent agrees in ((let g = z.3 f older in g.0), begins_go (case_of f x z.0 (let g = z.3 f older in g.0)) s e l (record { node = k; serial = is_serial_kind how }) how parent (parent_of parent t.coord) (seen_in f (world_at s) z older) (let w = agrees.whole in w.begun.0) (may_stand f e s l how parent z older new may none agrees) ((gives f).begin z.0 (let g = z.3 f older in g.0) s (more, z.2) (seen_in f (world_at s) z older)), (λ T run u. let h = had_votes f x k d t M (let g = z.3 f older in g.0) T run ((let g = z.3 f older in g.3) u) in (h.0, (others_are_voted f.act f.code x t.coord T h.1).0 l how parent))))
+      kept_walk V x R (a ∷ z.0) e k D.outs (with_coord t D.part) d N (λ f w. let g = z.3 f (agree_older f x a z.0 M.sent w) in g.0) (keeps.begin z.0 e k d t l how parent M new may none more z.1.0 z.2) (begin_pathed hd z.0 e k d t l how parent M new may none (pathed_in (up k d t M) z))
+      (λ f agrees. let older = agree_older f x a z.0 M.sent agrees in (begins_go (case_of f x z.0 (let g = z.3 f older in g.0)) s e l (record { node = k; serial = is_serial_kind how }) how parent (parent_of parent t.coord) (seen_in f (world_at s) z older) (let w = agrees.whole in w.begun.0) (may_stand f e s l how parent z older new may none agrees) ((gives f).begin z.0 (let g = z.3 f older in g.0) s (more, z.2) (seen_in f (world_at s) z older)), (λ T run u. let h = had_votes f x k d t M (let g = z.3 f older in g.0) T run ((let g = z.3 f older in g.3) u) in (h.0, (others_are_voted f.act f.code x t.coord T h.1).0 l how parent))))
 
-  kept_tick : (e k : ℕ) (d : Disk) (t : Parts) (M : Seen) → G (up k d t M) → Kept (up k d t M)
-      → Walks Kept e k (tick_outs (record { number = k; disk = d; live = Some t }) t) (Up Kept k (with_coord t (let q = again_all t.coord.doings t.coord in q.part))) d M
+  pub kept_tick : (e k : ℕ) (d : Disk) (t : Parts) (M : Seen) → G (up k d t M) → (z : Kept (up k d t M))
+      → Walks (From (up k d t M) z) e k (tick_outs (record { number = k; disk = d; live = Some t }) t) (Up (From (up k d t M) z) k (with_coord t (let q = again_all t.coord.doings t.coord in q.part))) d M
   kept_tick e k d t M more z =
       let s : Spot = record { node = k; disk = d; parts = t; seen = M } in
-      kept_walk V x R z.0 e k (tick_outs (record { number = k; disk = d; live = Some t }) t) (with_coord t (let q = again_all t.coord.doings t.coord in q.part)) d M (keeps.tick z.0 e k d t M more z.1.0 z.2) (tick_pathed hd z.0 e k d t M (pathed_in (up k d t M) z))
-      (λ f agrees. let g = z.3 f agrees in let seen = seen_in f (world_at s) z agrees in let q = (gives f).tick z.0 g.0 s (more, z.2) seen in (g.0, ticks_go (case_of f x z.0 g.0) s e seen q.0 q.1 q.2, (λ T run u. let h = had_votes f x k d t M g.0 T run (g.3 u) in (h.0, (others_are_voted f.act f.code x t.coord T h.1).2 t.coord.doings))))
+      kept_walk V x R z.0 e k (tick_outs (record { number = k; disk = d; live = Some t }) t) (with_coord t (let q = again_all t.coord.doings t.coord in q.part)) d M (λ f a. let g = z.3 f a in g.0) (keeps.tick z.0 e k d t M more z.1.0 z.2) (tick_pathed hd z.0 e k d t M (pathed_in (up k d t M) z))
+      (λ f agrees. let g = z.3 f agrees in let seen = seen_in f (world_at s) z agrees in let q = (gives f).tick z.0 g.0 s (more, z.2) seen in (ticks_go (case_of f x z.0 g.0) s e seen q.0 q.1 q.2, (λ T run u. let h = had_votes f x k d t M g.0 T run (g.3 u) in (h.0, (others_are_voted f.act f.code x t.coord T h.1).2 t.coord.doings))))
 
-  kept_restart : (e k : ℕ) (d : Disk) (M : Seen) → G (down k d M) → Kept (down k d M) → Walks Kept e k (restart_outs hd k (d.inc + 1) d) (Up Kept k (parts_in k (d.inc + 1) d)) d M
+  pub kept_restart : (e k : ℕ) (d : Disk) (M : Seen) → G (down k d M) → (z : Kept (down k d M)) → Walks (From (down k d M) z) e k (restart_outs hd k (d.inc + 1) d) (Up (From (down k d M) z) k (parts_in k (d.inc + 1) d)) d M
   kept_restart e k d M more z =
-      kept_walk V x R z.0 e k (restart_outs hd k (d.inc + 1) d) (parts_in k (d.inc + 1) d) d M (keeps.restart z.0 e k d M more z.1.0 z.2) (restart_pathed hd z.0 e k d M (pathed_in (down k d M) z))
-      (λ f agrees. let g = z.3 f agrees in let seen = seen_in f (down k d M) z agrees in (g.0, restarts_go hd (case_of f x z.0 g.0) e k d M seen ((gives f).restart z.0 g.0 k d M (more, z.2) seen), (λ T run u. new_votes f x k d M (d.inc + 1) d.intents g.0 T run (g.3 u))))
+      kept_walk V x R z.0 e k (restart_outs hd k (d.inc + 1) d) (parts_in k (d.inc + 1) d) d M (λ f a. let g = z.3 f a in g.0) (keeps.restart z.0 e k d M more z.1.0 z.2) (restart_pathed hd z.0 e k d M (pathed_in (down k d M) z))
+      (λ f agrees. let g = z.3 f agrees in let seen = seen_in f (down k d M) z agrees in (restarts_go hd (case_of f x z.0 g.0) e k d M seen ((gives f).restart z.0 g.0 k d M (more, z.2) seen), (λ T run u. new_votes f x k d M (d.inc + 1) d.intents g.0 T run (g.3 u))))
 
-  first_kept : Kept (see [] (format hd))
+  pub first_kept : Kept (see [] (format hd))
   first_kept = let r = first_pathed hd in ([], r.1, keeps.first, (λ f agrees. let g = first_goes hd f x (gives f).first in (g.0, g.1, g.2, (λ u. first_votes hd f x g.0))), r.0.1)
 
+  -- where the machines came from may be left out
+  kept_from : (begun : List Action) (sent : List Post) (from : (f : Fixed) → Agrees f x begun sent → State) (N : Seen) → LocksFrom V x R begun sent from N → Kept N
+  kept_from begun sent from N z = (begun, z.0, z.1, (λ f agrees. let g = z.2 f agrees in (g.0, g.1, g.2, g.3)), z.3)
+
+  walk_from : (begun : List Action) (sent : List Post) (from : (f : Fixed) → Agrees f x begun sent → State) (e k : ℕ) (outs : List Effect) (v : Parts) (d : Disk) (N : Seen) → Walks (LocksFrom V x R begun sent from) e k outs (Up (LocksFrom V x R begun sent from) k v) d N → Walks Kept e k outs (Up Kept k v) d N
+  walk_from begun sent from e k outs v d N w = walks_to (LocksFrom V x R begun sent from) Kept e k outs (Up (LocksFrom V x R begun sent from) k v) (Up Kept k v) d N (kept_from begun sent from) (λ c Z h. kept_from begun sent from (up k c v Z) h) w
+
   pub so_given : KeepsGiven hd G (LocksSo V x R)
-  so_given = record { quiet = quiet_kept; stop = stop_kept; message = kept_message; act = kept_act; begin = kept_begin; tick = kept_tick; restart = kept_restart; first = first_kept }
+  so_given = record {
+    quiet = λ e bs M quiet more z. kept_from z.0 M.sent (λ f a. let g = z.3 f a in g.0) (said e bs M) (quiet_kept e bs M quiet more z);
+    stop = λ e k d live M more z. kept_from z.0 M.sent (λ f a. let g = z.3 f a in g.0) (halted e k d M) (stop_kept e k d live M more z);
+    message = λ e k d t v from m outs M more z there meant is. walk_from z.0 M.sent (λ f a. let g = z.3 f a in g.0) e k outs v d M (kept_message e k d t v from m outs M more z there meant is);
+    act = λ e k d t i M is none more z. let D = acts i d.intents t.coord in walk_from z.0 M.sent (λ f a. let g = z.3 f a in g.0) e k D.outs (with_coord t D.part) d M (kept_act e k d t i M is none more z);
+    begin = λ e k d t l how parent M new may none more z.
+        let D = begin_action l how parent (parent_of parent t.coord) t.coord in
+        let a = begins_in how parent t in
+        walk_from (a ∷ z.0) M.sent (λ f w. let g = z.3 f (agree_older f x a z.0 M.sent w) in g.0) e k D.outs (with_coord t D.part) d (given l (record { node = k; serial = is_serial_kind how }) M) (kept_begin e k d t l how parent M new may none more z);
+    tick = λ e k d t M more z. walk_from z.0 M.sent (λ f a. let g = z.3 f a in g.0) e k (tick_outs (record { number = k; disk = d; live = Some t }) t) (with_coord t (let q = again_all t.coord.doings t.coord in q.part)) d M (kept_tick e k d t M more z);
+    restart = λ e k d M more z. walk_from z.0 M.sent (λ f a. let g = z.3 f a in g.0) e k (restart_outs hd k (d.inc + 1) d) (parts_in k (d.inc + 1) d) d M (kept_restart e k d M more z);
+    first = first_kept;
+  }
 
 -- ---- with votes or without
 

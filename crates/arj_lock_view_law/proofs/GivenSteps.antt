@@ -213,7 +213,7 @@ module _ (v : View) (h : Head) (i : ℕ) (ties : List (ℕ × Binding)) (ends : 
             voted_too T V k (subst (λ (z : Option Copy). SeesObject act v.code v.x t.inc z (V.server n) V) (sym there) (g.0, sent_later T V g.1 (machine.Activated (binding_number c.binding) t.inc) has_copy.1)) g.1 keeps.incarnation keeps.request
                 (λ w other. ap (λ (z : Act → Bool). z (act w)) keeps.voted ∙ act_other (let m = T.server n in m.voted) (act u) true (act w) (other_act act (let l = shown.whole in let e = l.alike in e.one) w u other)),
             g.1,
-            (λ d l. (let is = number_of d (in_from {X = ℕ × Binding} (v.x, d) ties l) in (record { copy = c; there = there; bound = is; voted = subst (λ (z : ℕ). HasVoted n (act u) z (ballot_for act v.code u c) S V) (sym is) (voted_after n (act u) (binding_number c.binding) (ballot_for act v.code u c) S T V only g.3) }, record { copy = c; vote = subst (λ (z : ℕ). IsVoteOf (act u) z (ballot_for act v.code u c) V) (sym is) g.4; state = voted_state u t v.x c (ends_list n ends s lists) there }, voted_once u t v.x c (ends_list n ends s lists) there))),
+            (λ d l. (let is = number_of d (in_from {X = ℕ × Binding} (v.x, d) ties l) in (record { copy = c; there = there; bound = is; voted = subst (λ (z : ℕ). HasVoted n (act u) z (ballot_for act v.code u c) S V) (sym is) (voted_after n (act u) (binding_number c.binding) (ballot_for act v.code u c) S T V only g.3) }, (let o = subst (λ (z : ℕ). (o : IsVoteOf (act u) z (ballot_for act v.code u c) V) × SeesCopy act v.code v.x c ((let k = o.before in k.server) o.node)) (sym is) g.4 in record { copy = c; vote = o.0; state = voted_state u t v.x c (ends_list n ends s lists) there; sees = o.1 }), voted_once u t v.x c (ends_list n ends s lists) there))),
           )))
 
     votes_yes : Votes yes_part

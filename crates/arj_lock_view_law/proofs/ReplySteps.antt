@@ -25,7 +25,7 @@ use Rattle.arj_lock_view_law.specs.Serving.{IsVotedBy}
 
 -- what a vote gave
 voted_later : (v : View) (u : Uid) (b : Binding) (states : List ObjectState) (S T : State) → Run S T → IsVotedBy v u b states S → IsVotedBy v u b states T
-voted_later v u b states S T run h = let o = h.vote in record { copy = h.copy; vote = record { before = o.before; node = o.node; inc = o.inc; reached = o.reached; may = o.may; run = go_on o.run run; gives = o.gives }; state = h.state }
+voted_later v u b states S T run h = let o = h.vote in record { copy = h.copy; vote = record { before = o.before; node = o.node; inc = o.inc; reached = o.reached; may = o.may; run = go_on o.run run; gives = o.gives }; state = h.state; sees = h.sees }
 
 replies_later : (v : View) (h : Head) (a : Ask) (r : Reply) (S T : State) → Run S T → Ever S T → ShowsReply v h a S r → ShowsReply v h a T r
 replies_later v h (ask.Activate b st) (Reply.Activated i) S T run later shows = λ about. later.sent (machine.Activated (binding_number b) i) (shows about)

@@ -63,7 +63,7 @@ module _ (act : Acts) (code : Codes) (paths : Paths) (n x i : ℕ) (u : Uid) (c 
   may : In (machine.Vote m b i) S.net → (let k = S.binding b in k.server) ≡ n → v.incarnation ≡ i → Guard (VoteTop n m b i) S
   may sent server incarnation = (sent, server, incarnation, sees.active, folded_here act paths x u c ends code S v.log sees.overs)
 
-  votes_go : In (machine.Vote m b i) S.net → (let k = S.binding b in k.server) ≡ n → v.incarnation ≡ i → Goes S (λ V. SeesCopy act code x c (V.server n) × OnlyVote n m S V × KeepsVoter m v (V.server n) × HasVoted n m b (ballot_for act code u c) S V × IsVoteOf m b (ballot_for act code u c) V)
+  votes_go : In (machine.Vote m b i) S.net → (let k = S.binding b in k.server) ≡ n → v.incarnation ≡ i → Goes S (λ V. SeesCopy act code x c (V.server n) × OnlyVote n m S V × KeepsVoter m v (V.server n) × HasVoted n m b (ballot_for act code u c) S V × ((o : IsVoteOf m b (ballot_for act code u c) V) × SeesCopy act code x c ((let k = o.before in k.server) o.node)))
   votes_go sent server incarnation = record {
     state = T;
     run = step (VoteTop n m b i) (may sent server incarnation) stay;
@@ -77,7 +77,7 @@ module _ (act : Acts) (code : Codes) (paths : Paths) (n x i : ℕ) (u : Uid) (c 
         first = first;
         again = again;
       },
-      record { before = S; node = n; inc = i; reached = reached; may = may sent server incarnation; run = stay; gives = ballot_is },
+      (record { before = S; node = n; inc = i; reached = reached; may = may sent server incarnation; run = stay; gives = ballot_is }, sees),
     );
   }
 

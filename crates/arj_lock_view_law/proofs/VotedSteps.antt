@@ -187,15 +187,15 @@ module _ (w : Side) (S : State) where
       given u i (inl at) =
           let g = votes.given u i at in
           let b = g.0 in
-          record { copy = b.copy; vote = b.vote; state = puts_one w.x states p.changed g.1 (h.awaited u i (ap (has left) at ∙ waits)) ∙ b.state }
+          record { copy = b.copy; vote = b.vote; state = puts_one w.x states p.changed g.1 (h.awaited u i (ap (has left) at ∙ waits)) ∙ b.state; sees = b.sees }
       given u i (inr off) =
           let b = h.given u i off in
-          record { copy = b.copy; vote = b.vote; state = puts_other w.x states p.changed (foreign u i (λ at. absurd (cc (sym waits ∙ ap (has left) (sym at) ∙ off)))) ∙ b.state }
+          record { copy = b.copy; vote = b.vote; state = puts_other w.x states p.changed (foreign u i (λ at. absurd (cc (sym waits ∙ ap (has left) (sym at) ∙ off)))) ∙ b.state; sees = b.sees }
 
 pub votes_stay : VotesStay
 votes_stay w p left S T run h = record {
   once = h.once;
-  given = λ u i off. (let b = h.given u i off in let o = b.vote in record { copy = b.copy; vote = record { before = o.before; node = o.node; inc = o.inc; reached = o.reached; may = o.may; run = go_on o.run run; gives = o.gives }; state = b.state });
+  given = λ u i off. (let b = h.given u i off in let o = b.vote in record { copy = b.copy; vote = record { before = o.before; node = o.node; inc = o.inc; reached = o.reached; may = o.may; run = go_on o.run run; gives = o.gives }; state = b.state; sees = b.sees });
   awaited = h.awaited;
   uncalled = h.uncalled;
 }

@@ -111,8 +111,8 @@ pub record IsVoteOf (m : Act) (b : ℕ) (given : Ballot) (T : State) : Type 0 wh
   pub gives : given_by before node m ≡ given
 
 -- A vote that came to the binding's server in this incarnation, where the binding is active and the ends of all nested actions
--- were applied.
+-- were applied: the copy was seen there as it was given.
 abbrev pub VotesAreSeen : Type 0
 VotesAreSeen = (act : Acts) (code : Codes) (paths : Paths) (n x i : ℕ) (u : Uid) (c : Copy) (S : State)
     → IsReached S → IsCommitting act paths x u c → In (machine.Vote (act u) (binding_number c.binding) i) S.net → (let b = S.binding (binding_number c.binding) in b.server) ≡ n → (let v = S.server n in v.incarnation) ≡ i
-    → SeesCopy act code x c (S.server n) → Goes S (λ T. SeesCopy act code x c (T.server n) × OnlyVote n (act u) S T × KeepsVoter (act u) (S.server n) (T.server n) × HasVoted n (act u) (binding_number c.binding) (ballot_for act code u c) S T × IsVoteOf (act u) (binding_number c.binding) (ballot_for act code u c) T)
+    → SeesCopy act code x c (S.server n) → Goes S (λ T. SeesCopy act code x c (T.server n) × OnlyVote n (act u) S T × KeepsVoter (act u) (S.server n) (T.server n) × HasVoted n (act u) (binding_number c.binding) (ballot_for act code u c) S T × ((o : IsVoteOf (act u) (binding_number c.binding) (ballot_for act code u c) T) × SeesCopy act code x c ((let k = o.before in k.server) o.node)))

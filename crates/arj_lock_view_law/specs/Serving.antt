@@ -16,7 +16,7 @@ use Rattle.arj_part_law.specs.Messages.{FitsAsk}
 use Rattle.arj_lock_view_law.specs.Asks.{Post, ShowsAsk}
 use Rattle.arj_lock_view_law.specs.Calling.{IsReached}
 use Rattle.arj_lock_view_law.specs.Commits.{HasVoted, OnlyVote, ballot_for, IsVoteOf}
-use Rattle.arj_lock_view_law.specs.Copies.{OnlyServer, Codes}
+use Rattle.arj_lock_view_law.specs.Copies.{Codes, OnlyServer, SeesCopy}
 use Rattle.arj_lock_view_law.specs.Going.{Goes}
 use Rattle.arj_lock_view_law.specs.Servers.{ShowsIfInvoked}
 use Rattle.arj_lock_view_law.specs.Telling.{AreOneTree, IsOfFamily, Sees, ShowEnds, View}
@@ -108,11 +108,13 @@ pub record Yes : Type 0 where
   pub binding : Binding
   pub states : List ObjectState
 
--- It was given for the top: among its states the object's is what the top left in a copy, and the machine has what it left there.
+-- It was given for the top: among its states the object's is what the top left in a copy, and the machine has what it left there; there it saw that
+-- copy.
 pub record IsVotedSo (act : Acts) (code : Codes) (x : ℕ) (u : Uid) (y : Yes) (T : State) : Type 0 where
   pub copy : Copy
   pub vote : IsVoteOf (act u) (binding_number y.binding) (ballot_for act code u copy) T
   pub state : state_in x y.states ≡ changed_state u x copy
+  pub sees : SeesCopy act code x copy ((let o = vote in let k = o.before in k.server) (let o = vote in o.node))
 
 -- as a node looks at it
 abbrev pub IsVotedBy : View → Uid → Binding → List ObjectState → State → Type 0
