@@ -163,7 +163,7 @@ module _ (hd : Header) (es : List Asked) (form : HeaderInForm hd) (short : lengt
         by (inl on) =
             let r = decided_out (let S = disk_of h.holds in S.tops) (uid_number (let a = k.act in a.uid)) on in
             ⊎_elim
-            (λ early. absurd (d.silent r.0 t early (in_to t (tops (journal hd es)) i) (r.2 ∙ sym number)))
+            (λ early. absurd (d.silent r.0 t early (in_to t (tops (journal hd es)) i) (r.2 ∙ sym number) wrote))
             (λ other. counts r.0 other r.2 (let e = r.0 in e.counts) refl)
             (in_either r.0 d.late d.others (subst (disk.In r.0) d.are r.1))
         by (inr (inl bare)) = absurd (its.light t (in_to t (tops (journal hd es)) i) (inl (ap (let S = disk_of h.holds in S.bare) number ∙ bare)) wrote)

@@ -49,13 +49,13 @@ pub record DecideThose (header : Header) (lines : List Line) (x : ℕ) (S : Stat
   pub light : (t : Top) → Contains (tops lines) t → (S.bare (number_of lines t) ≡ true) ⊎ ((d : Done) × In d ds × (d.top ≡ number_of lines t) × (d.counts ≡ false)) → Wrote lines x t → ⊥
   pub idle : IdleInPlace lines x (is_one_of those) (first_stores header x) (serial_tops lines)
 
--- So it is of all but the newest ones, which the journal doesn't have since their nodes are late to say so, as `AreDecidedOrLate` of
--- `arj_serial_law` has it.
+-- So it is of all but the newest ones: those that the journal doesn't have since their nodes are late to say so, and whoever was decided
+-- between them and didn't write the object, as `AreDecidedOrLate` of `arj_serial_law` has it.
 pub record DecideThoseOrLate (header : Header) (lines : List Line) (x : ℕ) (S : State) : Type 0 where
   pub late : List Done
   pub others : List Done
   pub are : S.tops ≡ late ++ others
-  pub silent : (d : Done) (t : Top) → In d late → Contains (tops lines) t → d.top ≡ number_of lines t → ⊥
+  pub silent : (d : Done) (t : Top) → In d late → Contains (tops lines) t → d.top ≡ number_of lines t → Wrote lines x t → ⊥
   pub decide : DecideThose header lines x S others
   pub unmoved : (d : Done) (w : Packed) (s : ℕ) → In d late → (let p = d.plan in p.writes) ≡ Some w → S.held s ≡ Some w → ⊥
   pub unlisted : S.entry_pend ≡ None → last_entry S ≡ entry_in S.first_entry others
